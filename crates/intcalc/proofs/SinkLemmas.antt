@@ -1,0 +1,15 @@
+-- One addition after another.
+use Rattle.std.proofs.Common.{◌≡◌, ℕ, List, ◌++◌, Option, Some, None, take, drop, length, arith, ◌≤◌, ◌-◌}
+use Rattle.std.specs.Io.KnownBytes.{Appends}
+use Rattle.std.proofs.lemmas.Grind.{common_steps}
+
+-- x is added, and then y
+pub Appends-trans : (a b c : Option (List ℕ)) (x y : List ℕ) → Appends a b x → Appends b c y → Appends a c (x ++ y)
+Appends-trans None b c x y p q = tt
+Appends-trans (Some s) None c x y p q = absurd p
+Appends-trans (Some s) (Some t) None x y p q = absurd q
+Appends-trans (Some s) (Some t) (Some u) x y p q = grind (arith, common_steps)
+
+-- the first part of what is left goes out
+pub part : (done rest all : List ℕ) (n : ℕ) → n ≤ length rest → done ++ rest ≡ all → (done ++ take n rest) ++ take (length rest - n) (drop n rest) ≡ all
+part done rest all n l e = grind (arith, common_steps)

@@ -1,0 +1,6 @@
+pub mod Number
+pub mod Refusal
+pub mod Words
+pub mod Outcome
+pub mod Line
+pub mod Console

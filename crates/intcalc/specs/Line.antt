@@ -1,0 +1,54 @@
+-- The line and the status for a list of words.
+use Rattle.std.specs.Prelude.{◌≡◌, ℕ, ℤ, List, ◌++◌, codes, Option, Some, None, Result, Ok, Err}
+use Rattle.std.specs.Fmt.{decimal, signed_decimal}
+use Rattle.intcalc.specs.declared.call.Kind.{Kind}
+use Rattle.intcalc.specs.declared.call.Call.{Call}
+use Rattle.intcalc.specs.declared.call.Answer.{Answer}
+use Rattle.intcalc.specs.declared.call.Answer.TheVariants.{One, Two}
+use Rattle.intcalc.specs.declared.call.Refusal.{Refusal}
+use Rattle.intcalc.specs.Refusal.{number_of, name_of}
+use Rattle.intcalc.specs.Outcome.{Outcome}
+use Rattle.intcalc.specs.Words.{IsRequest}
+
+-- a space and a number
+abbrev pub next_number : ℤ → List ℕ
+next_number n = codes " " ++ signed_decimal n
+
+-- the numbers of an answer in decimal, with one space between them
+abbrev pub text_of_answer : Answer → List ℕ
+text_of_answer (One a) = signed_decimal a
+text_of_answer (Two a b) = signed_decimal a ++ next_number b
+
+-- `refused`, the number and the name
+abbrev pub text_of_refusal : Refusal → List ℕ
+text_of_refusal refusal =
+    codes "refused " ++ decimal (number_of refusal) ++ codes " " ++ name_of refusal
+
+-- what is printed for a result
+abbrev pub text_of : Result Answer Refusal → List ℕ
+text_of (Ok answer) = text_of_answer answer
+text_of (Err refusal) = text_of_refusal refusal
+
+-- 0 for an answer, and 1 for a refusal
+abbrev pub status_of : Result Answer Refusal → ℕ
+status_of (Ok answer) = 0
+status_of (Err refusal) = 1
+
+-- the text and the status for a request: those of its outcome, or `usage` and 2 where there is none
+abbrev pub IsReply : Option (Kind × Call) → List ℕ → ℕ → Type 0
+IsReply None text status = (text ≡ codes "usage") × (status ≡ 2)
+IsReply (Some asked) text status =
+    (r : Result Answer Refusal) × Outcome asked.0 asked.1 r × (text ≡ text_of r) × (status ≡ status_of r)
+
+-- the line and the status for a list of words
+pub record IsLine (words : List (List ℕ)) (line : List ℕ) (status : ℕ) : Type 0 where
+  pub request : Option (Kind × Call)
+  pub asked : IsRequest words request
+  pub text : List ℕ
+  pub reply : IsReply request text status
+  pub ended : line ≡ text ++ codes "\n"
+
+-- the one line and the one status that stand for a list of words
+pub record IsOnlyLine (words : List (List ℕ)) (line : List ℕ) (status : ℕ) : Type 0 where
+  pub is : IsLine words line status
+  pub only : (other : List ℕ) (n : ℕ) → IsLine words other n → (other ≡ line) × (n ≡ status)

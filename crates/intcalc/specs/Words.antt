@@ -1,0 +1,51 @@
+-- The words that ask for a call.
+use Rattle.std.specs.Prelude.{◌≡◌, ℕ, ℤ, List, [], ◌∷◌, codes, map, Option, Some, MatchOption}
+use Rattle.intcalc.specs.Number.{spelled_number}
+use Rattle.intcalc.specs.declared.call.Kind.{Kind}
+use Rattle.intcalc.specs.declared.call.Kind.TheVariants.{I64, U64}
+use Rattle.intcalc.specs.declared.call.Call.{Call}
+use Rattle.intcalc.specs.declared.call.Call.TheVariants.{DivRem, DivFloor, ModFloor, DivModFloor, DivCeil}
+
+-- the word of a kind
+abbrev pub word_of_kind : Kind → List ℕ
+word_of_kind I64 = codes "i64"
+word_of_kind U64 = codes "u64"
+
+-- the word of a call
+abbrev pub word_of_call : Call → List ℕ
+word_of_call (DivRem n d) = codes "div_rem"
+word_of_call (DivFloor n d) = codes "div_floor"
+word_of_call (ModFloor n d) = codes "mod_floor"
+word_of_call (DivModFloor n d) = codes "div_mod_floor"
+word_of_call (DivCeil n d) = codes "div_ceil"
+
+-- the operands of a call
+abbrev pub operands_of : Call → List ℤ
+operands_of (DivRem n d) = n ∷ d ∷ []
+operands_of (DivFloor n d) = n ∷ d ∷ []
+operands_of (ModFloor n d) = n ∷ d ∷ []
+operands_of (DivModFloor n d) = n ∷ d ∷ []
+operands_of (DivCeil n d) = n ∷ d ∷ []
+
+-- the word and the operands are those of the call
+pub record Names (word : List ℕ) (operands : List ℤ) (call : Call) : Type 0 where
+  pub name : word ≡ word_of_call call
+  pub numbers : operands ≡ operands_of call
+
+-- the word is that of the call, and there is a number word for each operand
+pub record Spell (word : List ℕ) (numbers : List (List ℕ)) (call : Call) : Type 0 where
+  pub name : word ≡ word_of_call call
+  pub operands : map spelled_number numbers ≡ map Some (operands_of call)
+
+-- the words are that of the kind, and then those that spell the call
+pub record AskFor (words : List (List ℕ)) (kind : Kind) (call : Call) : Type 0 where
+  pub word : List ℕ
+  pub numbers : List (List ℕ)
+  pub parts : words ≡ word_of_kind kind ∷ word ∷ numbers
+  pub spelled : Spell word numbers call
+
+-- the kind and the call that the words ask for, or none where they ask for none
+abbrev pub IsRequest : List (List ℕ) → Option (Kind × Call) → Type 0
+IsRequest words request = MatchOption request
+    ((kind : Kind) (call : Call) → ¬ (AskFor words kind call))
+    (λ asked. AskFor words asked.0 asked.1)

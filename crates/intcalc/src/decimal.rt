@@ -1,0 +1,31 @@
+//! Decimal text without memory.
+
+ghost use Rattle.std.specs.Prelude.{◌≡◌, ◌+◌, ◌<◌, ◌≤◌, drop};
+ghost use Rattle.std.specs.Fmt.{decimal};
+
+/// As many as the digits of the greatest `u128`.
+pub const WIDTH: usize = 39;
+
+fn digit(n: u128) -> u8
+    requires { n < 10 }
+    ensures { result ≡ 48 + n }
+{
+    b'0' + n as u8
+}
+
+/// Writes the digits of `n` at the end of `text`, and answers where they start.
+pub fn write_digits(n: u128, text: &mut [u8; WIDTH]) -> usize
+    ensures start { result ≤ WIDTH }
+    ensures digits { drop result text.new ≡ decimal n }
+{
+    let mut start = WIDTH;
+    let mut rest = n;
+    while rest >= 10 {
+        start -= 1;
+        text[start] = digit(rest % 10);
+        rest /= 10;
+    }
+    start -= 1;
+    text[start] = digit(rest);
+    start
+}

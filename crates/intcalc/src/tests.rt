@@ -1,0 +1,260 @@
+//! What is printed, and what a sink that fails does.
+
+ghost use Rattle.std.specs.Prelude.{◌≤◌, map};
+ghost use Rattle.intcalc.specs.Line.{IsOnlyLine};
+ghost use Rattle.intcalc.specs.Outcome.{IsOnlyOutcome};
+
+use crate::call::{Answer, Call, Kind, Refusal};
+use crate::line::Line;
+use crate::number::read_number;
+use crate::outcome::evaluate;
+use crate::run::{line_for, run};
+use crate::sink::{Console, Sink};
+use std::io;
+use std::io::{ErrorKind, Write};
+
+/// Exactly one result stands in the outcome of a kind and a call.
+fn only_outcome(kind: Kind, call: Call) -> Result<Answer, Refusal>
+    ensures { IsOnlyOutcome kind call result }
+{
+    evaluate(kind, call)
+}
+
+/// Exactly one line and one status stand for a list of words.
+fn only_line(words: &[&str]) -> (Line, u8)
+    ensures { IsOnlyLine (map (λ w. w.now) words.now) result.0 result.1 }
+{
+    line_for(words)
+}
+
+const ROOM: usize = 128;
+
+// A writer in memory, which takes at most `most` bytes at a time. It fails after `writes` writes,
+// and at a flush where `flush_fails`.
+#[derive(Drop)]
+struct Tape {
+    text: [u8; ROOM],
+    len: usize,
+    most: usize,
+    writes: usize,
+    flush_fails: bool,
+    ghost in_range: { len ≤ 128 },
+}
+
+impl Tape {
+    fn new(most: usize, writes: usize, flush_fails: bool) -> Tape {
+        Tape {
+            text: [0; ROOM],
+            len: 0,
+            most,
+            writes,
+            flush_fails,
+        }
+    }
+
+    fn as_bytes(&self) -> &[u8] {
+        &self.text[..self.len]
+    }
+}
+
+impl Write for Tape {
+    fn write(&mut self, buf: &[u8]) -> io::Result<usize> {
+        if self.writes == 0 {
+            return Err(io::Error::from(ErrorKind::Other));
+        }
+        self.writes -= 1;
+        let n = buf.len().min(self.most).min(ROOM - self.len);
+        let end = self.len + n;
+        self.text[self.len..end].copy_from_slice(&buf[..n]);
+        self.len = end;
+        Ok(n)
+    }
+
+    fn flush(&mut self) -> io::Result<()> {
+        if self.flush_fails {
+            Err(io::Error::from(ErrorKind::Other))
+        } else {
+            Ok(())
+        }
+    }
+}
+
+// Whether the words give this line and this status, written at once and byte by byte.
+fn prints(words: &[&str], line: &str, status: u8) -> bool {
+    [ROOM, 1].into_iter().all(|most| {
+        let mut out = Console::new(Tape::new(most, ROOM, false));
+        let answered = run(words, &mut out);
+        answered == status && is_line(out.into_inner().as_bytes(), line)
+    })
+}
+
+fn is_line(bytes: &[u8], line: &str) -> bool {
+    match bytes {
+        [text @ .., b'\n'] => text == line.as_bytes(),
+        _ => false,
+    }
+}
+
+const MIN: &str = "-9223372036854775808";
+
+#[test]
+fn lines(rt: HostRuntime) {
+    let rows: [(&[&str], &str, u8); 28] = [
+        (&["i64", "div_mod_floor", "-8", "3"], "-3 1", 0),
+        (&["i64", "div_rem", "-8", "3"], "-2 -2", 0),
+        (&["i64", "div_ceil", "8", "-3"], "-2", 0),
+        (&["i64", "div_floor", "8", "-3"], "-3", 0),
+        (&["i64", "mod_floor", MIN, "-1"], "0", 0),
+        (&["i64", "div_floor", MIN, "-1"], "refused 6 NotFitting", 1),
+        (
+            &["u64", "div_ceil", "18446744073709551615", "2"],
+            "9223372036854775808",
+            0,
+        ),
+        (&["u64", "div_rem", "-1", "0"], "refused 1 OutOfType", 1),
+        (&["i64", "div_rem", "7", "-0"], "refused 2 ZeroDivisor", 1),
+        (&["i64", "div_rem", "007", "2"], "3 1", 0),
+        (&["i64", "div_floor", "1", "0"], "refused 2 ZeroDivisor", 1),
+        (&["i64", "div_rem", "1"], "usage", 2),
+        (&["i64", "div_rem", "+1", "2"], "usage", 2),
+        (&[], "usage", 2),
+        (&["i64"], "usage", 2),
+        (&["i64", "div_rem"], "usage", 2),
+        (&["i64", "div_rem", "1", "2", "3"], "usage", 2),
+        (&["i16", "div_rem", "1", "2"], "usage", 2),
+        (&["I64", "div_rem", "1", "2"], "usage", 2),
+        (&["", "div_rem", "1", "2"], "usage", 2),
+        (&["i64", "gcd", "1", "2"], "usage", 2),
+        (&["i64", "div-rem", "1", "2"], "usage", 2),
+        (&["i64", "", "1", "2"], "usage", 2),
+        (&["div_rem", "i64", "1", "2"], "usage", 2),
+        (&["i64", "div_rem", "-", "2"], "usage", 2),
+        (&["i64", "div_rem", "1", ""], "usage", 2),
+        (&["i64", "div_rem", "1", "2 "], "usage", 2),
+        (&["i64", "div_rem", "1", "٣"], "usage", 2),
+    ];
+    for (words, line, status) in rows {
+        assert!(rt; prints(words, line, status), "at {words:?}");
+    }
+}
+
+// Each row is a dividend, a divisor, and what each of the calls answers for them.
+#[test]
+fn divisions(rt: HostRuntime) {
+    let calls = [
+        "div_rem",
+        "div_mod_floor",
+        "div_floor",
+        "mod_floor",
+        "div_ceil",
+    ];
+    let rows = [
+        ("8", "3", ["2 2", "2 2", "2", "2", "3"]),
+        ("8", "-3", ["-2 2", "-3 -1", "-3", "-1", "-2"]),
+        ("-8", "3", ["-2 -2", "-3 1", "-3", "1", "-2"]),
+        ("-8", "-3", ["2 -2", "2 -2", "2", "-2", "3"]),
+        ("1", "2", ["0 1", "0 1", "0", "1", "1"]),
+        ("1", "-2", ["0 1", "-1 -1", "-1", "-1", "0"]),
+        ("-1", "2", ["0 -1", "-1 1", "-1", "1", "0"]),
+        ("-1", "-2", ["0 -1", "0 -1", "0", "-1", "1"]),
+    ];
+    for (n, d, answers) in rows {
+        for (call, answer) in calls.into_iter().zip(answers) {
+            assert!(rt;
+                prints(&["i64", call, n, d], answer, 0),
+                "at i64 {call} {n} {d}"
+            );
+            if !n.starts_with('-') && !d.starts_with('-') {
+                assert!(rt;
+                    prints(&["u64", call, n, d], answer, 0),
+                    "at u64 {call} {n} {d}"
+                );
+            }
+        }
+    }
+}
+
+#[test]
+fn number_words(rt: HostRuntime) {
+    let rows = [
+        ("0", Some(0)),
+        ("-0", Some(0)),
+        ("007", Some(7)),
+        ("-007", Some(-7)),
+        ("170141183460469231731687303715884105727", Some(i128::MAX)),
+        ("170141183460469231731687303715884105728", Some(i128::MAX)),
+        ("-170141183460469231731687303715884105728", Some(i128::MIN)),
+        ("-170141183460469231731687303715884105729", Some(i128::MIN)),
+        ("", None),
+        ("-", None),
+        ("--1", None),
+        ("+1", None),
+        ("1-", None),
+        (" 1", None),
+        ("1 ", None),
+        ("1_000", None),
+        ("1.0", None),
+        ("0x10", None),
+        ("-٣", None),
+        ("３", None),
+    ];
+    for (word, number) in rows {
+        assert_eq!(rt; read_number(word), number, "at {word}");
+    }
+}
+
+#[test]
+fn a_hundred_digits(rt: HostRuntime) {
+    let nines = "99999999999999999999999999999999999999999999999999\
+        99999999999999999999999999999999999999999999999999";
+    assert_eq!(rt; nines.len(), 100);
+    assert_eq!(rt; read_number(nines), Some(i128::MAX));
+    for kind in ["i64", "u64"] {
+        assert!(rt; prints(&[kind, "div_rem", "1", nines], "refused 1 OutOfType", 1));
+        assert!(rt; prints(&[kind, "div_rem", nines, "1"], "refused 1 OutOfType", 1));
+    }
+}
+
+// Each row is how many bytes the writer takes at a time, how many writes it bears, whether its
+// flush fails, and the status then. The line has five bytes.
+#[test]
+fn faults(rt: HostRuntime) {
+    let rows = [
+        (1, 0, false, 4),
+        (1, 1, false, 4),
+        (1, 4, false, 4),
+        (1, 5, false, 0),
+        (5, 0, false, 4),
+        (5, 1, false, 0),
+        (5, 1, true, 4),
+        (0, 9, false, 4),
+    ];
+    for (most, writes, flush_fails, status) in rows {
+        let mut out = Console::new(Tape::new(most, writes, flush_fails));
+        assert_eq!(rt; run(&["i64", "div_mod_floor", "-8", "3"], &mut out), status);
+        assert_eq!(rt; out.finish(), status == 0);
+        assert!(rt; status == 0 || out.put(b"").is_none());
+    }
+}
+
+#[test]
+fn refusals(rt: HostRuntime) {
+    let rows = [
+        (Refusal::OutOfType, 1, "OutOfType"),
+        (Refusal::ZeroDivisor, 2, "ZeroDivisor"),
+        (Refusal::NotFitting, 6, "NotFitting"),
+    ];
+    for (refusal, number, name) in rows {
+        assert_eq!(rt; refusal.number(), number);
+        assert_eq!(rt; refusal.name(), name);
+    }
+}
+
+#[test]
+fn outcomes(rt: HostRuntime) {
+    let call = Call::ModFloor(i128::from(i64::MIN), -1);
+    assert_eq!(rt; only_outcome(Kind::I64, call), Ok(Answer::One(0)));
+    assert_eq!(rt; only_outcome(Kind::U64, call), Err(Refusal::OutOfType));
+    let (line, status) = only_line(&["i64", "div_mod_floor", "-8", "3"]);
+    assert_eq!(rt; (line.as_bytes(), status), (b"-3 1\n".as_slice(), 0));
+}

@@ -1,0 +1,15 @@
+pub mod Whole
+pub mod Signs
+pub mod Quotients
+pub mod Multiples
+pub mod Divisors
+pub mod CommonDivisors
+pub mod Runs
+pub mod EuclidTurns
+pub mod Lame
+pub mod BezoutCoefficients
+pub mod Rows
+pub mod RowRanges
+pub mod SmallPairs
+pub mod BezoutAnswers
+pub mod OnlyBezoutAnswer

@@ -1,0 +1,7 @@
+pub mod Range
+pub mod Division
+pub mod Divisors
+pub mod NativeRanges
+pub mod Runs
+pub mod Fibonacci
+pub mod Bezout

@@ -1,0 +1,345 @@
+//! Integer division for every lawful integer type, after the Rust crate `num-integer`.
+#![tactic(auto)]
+
+ghost use Rattle.std.specs.Prelude.{◌≡◌, ◌≢◌, ◌↔◌, ◌+ℤ◌, ◌-ℤ◌, ℤ, pos, IsTrue};
+ghost use Rattle.integer_core.specs.Bezout.{HasPair, IsBezoutAnswer};
+ghost use Rattle.integer_core.specs.Division.{IsTruncated, IsFloored, IsTruncatedQuotient, IsFlooredQuotient, IsCeiledQuotient, IsFlooredRemainder, IsNextMultiple, IsPreviousMultiple};
+ghost use Rattle.integer_core.specs.Divisors.{Divides, IsEven, IsGreatestCommonDivisor, IsLeastCommonMultiple};
+ghost use Rattle.integer_core.specs.Range.{IsRange, EachFits};
+
+mod bezout;
+pub mod counted;
+mod kernel;
+mod native;
+
+pub use crate::bezout::ExtendedGcd;
+use crate::counted::extended_gcd_counted;
+use num_traits::{Num, Signed};
+
+/// A type of whole numbers. A contract sees a value `x` as the number `value x`, and a number that
+/// the type has as one that `fits`.
+pub trait Integer: Copy + Num + PartialOrd + Ord + Eq {
+    // The least and the greatest number of the type.
+    ghost low: { ℤ };
+
+    ghost high: { ℤ };
+
+    /// The quotient rounded toward zero, and its remainder. `(-8).div_rem(&3)` is `(-2, -2)`.
+    fn div_rem(&self, other: &Self) -> (Self, Self)
+        requires self_in_range { Self.fits (Self.value self.now) }
+        requires other_in_range { Self.fits (Self.value other.now) }
+        requires divisor { Self.value other.now ≢ pos 0 }
+        requires quotient { EachFits Self.fits
+            (IsTruncatedQuotient (Self.value self.now) (Self.value other.now)) }
+        ensures in_range { Self.fits (Self.value result.0) × Self.fits (Self.value result.1) }
+        ensures truncated { IsTruncated (Self.value self.now) (Self.value other.now)
+            (Self.value result.0) (Self.value result.1) };
+
+    /// The quotient rounded down. `(-8).div_floor(&3)` is `-3`.
+    fn div_floor(&self, other: &Self) -> Self
+        requires self_in_range { Self.fits (Self.value self.now) }
+        requires other_in_range { Self.fits (Self.value other.now) }
+        requires divisor { Self.value other.now ≢ pos 0 }
+        requires quotient { EachFits Self.fits
+            (IsFlooredQuotient (Self.value self.now) (Self.value other.now)) }
+        ensures in_range { Self.fits (Self.value result) }
+        ensures floored { IsFlooredQuotient (Self.value self.now) (Self.value other.now)
+            (Self.value result) };
+
+    /// The remainder of the quotient rounded down, which has the sign of `other`.
+    /// `(-8).mod_floor(&3)` is `1`.
+    fn mod_floor(&self, other: &Self) -> Self
+        requires self_in_range { Self.fits (Self.value self.now) }
+        requires other_in_range { Self.fits (Self.value other.now) }
+        requires divisor { Self.value other.now ≢ pos 0 }
+        ensures in_range { Self.fits (Self.value result) }
+        ensures floored { IsFlooredRemainder (Self.value self.now) (Self.value other.now)
+            (Self.value result) };
+
+    /// The quotient rounded down, and its remainder. `(-8).div_mod_floor(&3)` is `(-3, 1)`.
+    fn div_mod_floor(&self, other: &Self) -> (Self, Self)
+        requires self_in_range { Self.fits (Self.value self.now) }
+        requires other_in_range { Self.fits (Self.value other.now) }
+        requires divisor { Self.value other.now ≢ pos 0 }
+        requires quotient { EachFits Self.fits
+            (IsFlooredQuotient (Self.value self.now) (Self.value other.now)) }
+        ensures in_range { Self.fits (Self.value result.0) × Self.fits (Self.value result.1) }
+        ensures floored { IsFloored (Self.value self.now) (Self.value other.now)
+            (Self.value result.0) (Self.value result.1) }
+    {
+        (self.div_floor(other), self.mod_floor(other))
+    }
+
+    /// The quotient rounded up. `8.div_ceil(&3)` is `3`.
+    fn div_ceil(&self, other: &Self) -> Self
+        requires self_in_range { Self.fits (Self.value self.now) }
+        requires other_in_range { Self.fits (Self.value other.now) }
+        requires divisor { Self.value other.now ≢ pos 0 }
+        requires quotient { EachFits Self.fits
+            (IsCeiledQuotient (Self.value self.now) (Self.value other.now)) }
+        ensures in_range { Self.fits (Self.value result) }
+        ensures ceiled { IsCeiledQuotient (Self.value self.now) (Self.value other.now)
+            (Self.value result) }
+    {
+        let (q, r) = self.div_mod_floor(other);
+        if r.is_zero() { q } else { q + Self::one() }
+    }
+
+    /// The quotient rounded up, times `other`. `23.next_multiple_of(&8)` is `24`, and
+    /// `23.next_multiple_of(&-8)` is `16`.
+    fn next_multiple_of(&self, other: &Self) -> Self
+        requires self_in_range { Self.fits (Self.value self.now) }
+        requires other_in_range { Self.fits (Self.value other.now) }
+        requires divisor { Self.value other.now ≢ pos 0 }
+        requires multiple { EachFits Self.fits
+            (IsNextMultiple (Self.value self.now) (Self.value other.now)) }
+        ensures in_range { Self.fits (Self.value result) }
+        ensures multiple { IsNextMultiple (Self.value self.now) (Self.value other.now)
+            (Self.value result) }
+    {
+        let m = self.mod_floor(other);
+        if m.is_zero() {
+            *self
+        } else {
+            *self + (*other - m)
+        }
+    }
+
+    /// The quotient rounded down, times `other`. `23.prev_multiple_of(&8)` is `16`, and
+    /// `23.prev_multiple_of(&-8)` is `24`.
+    fn prev_multiple_of(&self, other: &Self) -> Self
+        requires self_in_range { Self.fits (Self.value self.now) }
+        requires other_in_range { Self.fits (Self.value other.now) }
+        requires divisor { Self.value other.now ≢ pos 0 }
+        requires multiple { EachFits Self.fits
+            (IsPreviousMultiple (Self.value self.now) (Self.value other.now)) }
+        ensures in_range { Self.fits (Self.value result) }
+        ensures multiple { IsPreviousMultiple (Self.value self.now) (Self.value other.now)
+            (Self.value result) }
+    {
+        *self - self.mod_floor(other)
+    }
+
+    /// Whether `other` divides `self`. `9.is_multiple_of(&3)` is `true`; of 0 only 0 is a multiple.
+    fn is_multiple_of(&self, other: &Self) -> bool
+        requires self_in_range { Self.fits (Self.value self.now) }
+        requires other_in_range { Self.fits (Self.value other.now) }
+        ensures { IsTrue result ↔ Divides (Self.value other.now) (Self.value self.now) };
+
+    /// Deprecated: the same as [`Integer::is_multiple_of`], which says what it means.
+    fn divides(&self, other: &Self) -> bool
+        requires self_in_range { Self.fits (Self.value self.now) }
+        requires other_in_range { Self.fits (Self.value other.now) }
+        ensures { IsTrue result ↔ Divides (Self.value other.now) (Self.value self.now) }
+    {
+        self.is_multiple_of(other)
+    }
+
+    /// Whether the number is even. `4.is_even()` is `true`.
+    fn is_even(&self) -> bool
+        requires { Self.fits (Self.value self.now) }
+        ensures { IsTrue result ↔ IsEven (Self.value self.now) };
+
+    /// Whether the number is odd. `3.is_odd()` is `true`.
+    fn is_odd(&self) -> bool
+        requires { Self.fits (Self.value self.now) }
+        ensures { IsTrue result ↔ ¬ (IsEven (Self.value self.now)) };
+
+    /// Adds one.
+    fn inc(&mut self)
+        requires in_range { Self.fits (Self.value self.old) }
+        requires sum { Self.fits (Self.value self.old +ℤ pos 1) }
+        ensures in_range { Self.fits (Self.value self.new) }
+        ensures one_more { Self.value self.new ≡ Self.value self.old +ℤ pos 1 }
+    {
+        *self = *self + Self::one();
+    }
+
+    /// Takes one away.
+    fn dec(&mut self)
+        requires in_range { Self.fits (Self.value self.old) }
+        requires difference { Self.fits (Self.value self.old -ℤ pos 1) }
+        ensures in_range { Self.fits (Self.value self.new) }
+        ensures one_less { Self.value self.new ≡ Self.value self.old -ℤ pos 1 }
+    {
+        *self = *self - Self::one();
+    }
+
+    /// The greatest common divisor, which is never negative. `56.gcd(&42)` is `14`, and `0.gcd(&0)`
+    /// is `0`.
+    fn gcd(&self, other: &Self) -> Self
+        requires self_in_range { Self.fits (Self.value self.now) }
+        requires other_in_range { Self.fits (Self.value other.now) }
+        requires divisor { EachFits Self.fits
+            (IsGreatestCommonDivisor (Self.value self.now) (Self.value other.now)) }
+        ensures in_range { Self.fits (Self.value result) }
+        ensures greatest { IsGreatestCommonDivisor (Self.value self.now) (Self.value other.now)
+            (Self.value result) };
+
+    /// The least common multiple, which is never negative. `7.lcm(&3)` is `21`, and it is `0` where
+    /// an operand is `0`.
+    fn lcm(&self, other: &Self) -> Self
+        requires self_in_range { Self.fits (Self.value self.now) }
+        requires other_in_range { Self.fits (Self.value other.now) }
+        requires multiple { EachFits Self.fits
+            (IsLeastCommonMultiple (Self.value self.now) (Self.value other.now)) }
+        ensures in_range { Self.fits (Self.value result) }
+        ensures least { IsLeastCommonMultiple (Self.value self.now) (Self.value other.now)
+            (Self.value result) };
+
+    /// The greatest common divisor and the least common multiple. `10.gcd_lcm(&4)` is `(2, 20)`.
+    fn gcd_lcm(&self, other: &Self) -> (Self, Self)
+        requires self_in_range { Self.fits (Self.value self.now) }
+        requires other_in_range { Self.fits (Self.value other.now) }
+        requires divisor { EachFits Self.fits
+            (IsGreatestCommonDivisor (Self.value self.now) (Self.value other.now)) }
+        requires multiple { EachFits Self.fits
+            (IsLeastCommonMultiple (Self.value self.now) (Self.value other.now)) }
+        ensures in_range { Self.fits (Self.value result.0) × Self.fits (Self.value result.1) }
+        ensures greatest { IsGreatestCommonDivisor (Self.value self.now) (Self.value other.now)
+            (Self.value result.0) }
+        ensures least { IsLeastCommonMultiple (Self.value self.now) (Self.value other.now)
+            (Self.value result.1) }
+    {
+        (self.gcd(other), self.lcm(other))
+    }
+
+    /// The greatest common divisor `gcd`, and Bezout's coefficients `x` and `y`: over the whole
+    /// numbers, `self` times `x` and `other` times `y` add up to `gcd`. `240.extended_gcd(&46)` is
+    /// gcd 2, x -9, y 47, and `5.extended_gcd(&0)` is gcd 5, x 1, y 0.
+    final fn extended_gcd(&self, other: &Self) -> ExtendedGcd<Self>
+        requires self_in_range { Self.fits (Self.value self.now) }
+        requires other_in_range { Self.fits (Self.value other.now) }
+        requires divisor { EachFits Self.fits
+            (IsGreatestCommonDivisor (Self.value self.now) (Self.value other.now)) }
+        requires pair { HasPair low (Self.value self.now) (Self.value other.now) }
+        ensures in_range { Self.fits (Self.value result.gcd) × Self.fits (Self.value result.x)
+            × Self.fits (Self.value result.y) }
+        ensures answer { IsBezoutAnswer (Self.value self.now) (Self.value other.now)
+            (Self.value result.gcd) (Self.value result.x) (Self.value result.y) }
+    {
+        extended_gcd_counted(*self, *other).0
+    }
+
+    /// [`Integer::extended_gcd`] and [`Integer::lcm`]. `10.extended_gcd_lcm(&4)` is gcd 2, x 1,
+    /// y -2, and 20.
+    final fn extended_gcd_lcm(&self, other: &Self) -> (ExtendedGcd<Self>, Self)
+    where
+        Self: Signed,
+        requires self_in_range { Self.fits (Self.value self.now) }
+        requires other_in_range { Self.fits (Self.value other.now) }
+        requires divisor { EachFits Self.fits
+            (IsGreatestCommonDivisor (Self.value self.now) (Self.value other.now)) }
+        requires pair { HasPair low (Self.value self.now) (Self.value other.now) }
+        requires multiple { EachFits Self.fits
+            (IsLeastCommonMultiple (Self.value self.now) (Self.value other.now)) }
+        ensures in_range { Self.fits (Self.value result.0.gcd) × Self.fits (Self.value result.0.x)
+            × Self.fits (Self.value result.0.y) × Self.fits (Self.value result.1) }
+        ensures answer { IsBezoutAnswer (Self.value self.now) (Self.value other.now)
+            (Self.value result.0.gcd) (Self.value result.0.x) (Self.value result.0.y) }
+        ensures least { IsLeastCommonMultiple (Self.value self.now) (Self.value other.now)
+            (Self.value result.1) }
+    {
+        (self.extended_gcd(other), self.lcm(other))
+    }
+
+    // Each operator is exact wherever its result fits.
+    ghost exact_law: { Self.exact };
+
+    // A number fits exactly where it lies from `low` to `high`.
+    ghost range_law: { IsRange Self.fits low high };
+}
+
+/// [`Integer::div_rem`].
+pub fn div_rem<T: Integer>(x: T, y: T) -> (T, T)
+    requires x_in_range { T.fits (T.value x) }
+    requires y_in_range { T.fits (T.value y) }
+    requires divisor { T.value y ≢ pos 0 }
+    requires quotient { EachFits T.fits (IsTruncatedQuotient (T.value x) (T.value y)) }
+    ensures in_range { T.fits (T.value result.0) × T.fits (T.value result.1) }
+    ensures truncated { IsTruncated (T.value x) (T.value y) (T.value result.0) (T.value result.1) }
+{
+    x.div_rem(&y)
+}
+
+/// [`Integer::div_floor`].
+pub fn div_floor<T: Integer>(x: T, y: T) -> T
+    requires x_in_range { T.fits (T.value x) }
+    requires y_in_range { T.fits (T.value y) }
+    requires divisor { T.value y ≢ pos 0 }
+    requires quotient { EachFits T.fits (IsFlooredQuotient (T.value x) (T.value y)) }
+    ensures in_range { T.fits (T.value result) }
+    ensures floored { IsFlooredQuotient (T.value x) (T.value y) (T.value result) }
+{
+    x.div_floor(&y)
+}
+
+/// [`Integer::mod_floor`].
+pub fn mod_floor<T: Integer>(x: T, y: T) -> T
+    requires x_in_range { T.fits (T.value x) }
+    requires y_in_range { T.fits (T.value y) }
+    requires divisor { T.value y ≢ pos 0 }
+    ensures in_range { T.fits (T.value result) }
+    ensures floored { IsFlooredRemainder (T.value x) (T.value y) (T.value result) }
+{
+    x.mod_floor(&y)
+}
+
+/// [`Integer::div_mod_floor`].
+pub fn div_mod_floor<T: Integer>(x: T, y: T) -> (T, T)
+    requires x_in_range { T.fits (T.value x) }
+    requires y_in_range { T.fits (T.value y) }
+    requires divisor { T.value y ≢ pos 0 }
+    requires quotient { EachFits T.fits (IsFlooredQuotient (T.value x) (T.value y)) }
+    ensures in_range { T.fits (T.value result.0) × T.fits (T.value result.1) }
+    ensures floored { IsFloored (T.value x) (T.value y) (T.value result.0) (T.value result.1) }
+{
+    x.div_mod_floor(&y)
+}
+
+/// [`Integer::div_ceil`].
+pub fn div_ceil<T: Integer>(x: T, y: T) -> T
+    requires x_in_range { T.fits (T.value x) }
+    requires y_in_range { T.fits (T.value y) }
+    requires divisor { T.value y ≢ pos 0 }
+    requires quotient { EachFits T.fits (IsCeiledQuotient (T.value x) (T.value y)) }
+    ensures in_range { T.fits (T.value result) }
+    ensures ceiled { IsCeiledQuotient (T.value x) (T.value y) (T.value result) }
+{
+    x.div_ceil(&y)
+}
+
+/// [`Integer::gcd`].
+pub fn gcd<T: Integer>(x: T, y: T) -> T
+    requires x_in_range { T.fits (T.value x) }
+    requires y_in_range { T.fits (T.value y) }
+    requires divisor { EachFits T.fits (IsGreatestCommonDivisor (T.value x) (T.value y)) }
+    ensures in_range { T.fits (T.value result) }
+    ensures greatest { IsGreatestCommonDivisor (T.value x) (T.value y) (T.value result) }
+{
+    x.gcd(&y)
+}
+
+/// [`Integer::lcm`].
+pub fn lcm<T: Integer>(x: T, y: T) -> T
+    requires x_in_range { T.fits (T.value x) }
+    requires y_in_range { T.fits (T.value y) }
+    requires multiple { EachFits T.fits (IsLeastCommonMultiple (T.value x) (T.value y)) }
+    ensures in_range { T.fits (T.value result) }
+    ensures least { IsLeastCommonMultiple (T.value x) (T.value y) (T.value result) }
+{
+    x.lcm(&y)
+}
+
+/// [`Integer::gcd_lcm`].
+pub fn gcd_lcm<T: Integer>(x: T, y: T) -> (T, T)
+    requires x_in_range { T.fits (T.value x) }
+    requires y_in_range { T.fits (T.value y) }
+    requires divisor { EachFits T.fits (IsGreatestCommonDivisor (T.value x) (T.value y)) }
+    requires multiple { EachFits T.fits (IsLeastCommonMultiple (T.value x) (T.value y)) }
+    ensures in_range { T.fits (T.value result.0) × T.fits (T.value result.1) }
+    ensures greatest { IsGreatestCommonDivisor (T.value x) (T.value y) (T.value result.0) }
+    ensures least { IsLeastCommonMultiple (T.value x) (T.value y) (T.value result.1) }
+{
+    x.gcd_lcm(&y)
+}

@@ -1,0 +1,4 @@
+pub mod Averages
+pub mod RootOf
+pub mod SquareRuns
+pub mod OnlyOne

@@ -1,0 +1,20 @@
+//! Roots beside the number of turns that their loops make.
+
+ghost use Rattle.std.specs.Prelude.{◌≤◌, ◌≤ℤ◌, pos};
+ghost use Rattle.integer_roots.specs.RootOf.{IsRoot};
+ghost use Rattle.integer_roots.specs.SquareRuns.{IsSquareTurns};
+
+use crate::root::Roots;
+
+/// A square root by Newton's method, and how often its loops turn.
+pub trait SqrtCounted: Roots {
+    /// The square root, and the turns: at most five. `99.sqrt_counted()` is `(9, 2)`, since the
+    /// guesses are 8, 10 and 9.
+    fn sqrt_counted(&self) -> (Self, u32)
+        requires in_range { Self.fits (Self.value self.now) }
+        requires sign { pos 0 ≤ℤ Self.value self.now }
+        ensures in_range { Self.fits (Self.value result.0) }
+        ensures root { IsRoot (Self.value self.now) 2 (Self.value result.0) }
+        ensures turned { IsSquareTurns (Self.value self.now) result.1 }
+        ensures few { result.1 ≤ 5 };
+}

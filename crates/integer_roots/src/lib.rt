@@ -1,0 +1,15 @@
+//! Averages and roots of every lawful integer type, after the Rust crate `num-integer`.
+#![tactic(auto)]
+
+mod averages;
+mod bits;
+pub mod counted;
+mod cubes;
+mod halves;
+mod native;
+mod root;
+mod signs;
+mod squares;
+
+pub use averages::{Average, average_ceil, average_floor};
+pub use root::{Roots, cbrt, nth_root, sqrt};

@@ -1,0 +1,11 @@
+pub mod Pascal
+pub mod Cancelling
+pub mod Ranges
+pub mod Steps
+pub mod RunningSums
+pub mod RowLemmas
+pub mod Reordering
+pub mod CoefficientDomain
+pub mod QuotientDomain
+pub mod MultipleDomain
+pub mod CommonDomain

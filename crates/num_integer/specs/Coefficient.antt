@@ -1,0 +1,25 @@
+-- Binomial coefficients and factorials.
+use Rattle.std.specs.Prelude.{◌≡◌, ◌+◌, ◌-◌, ◌*◌, ℕ, ℤ, zero, suc, pos, unsigned_abs}
+
+-- the binomial coefficient of n and k, by Pascal's rule
+unfoldable pub coefficient : ℕ → ℕ → ℕ
+coefficient n zero = 1
+coefficient zero (suc k) = 0
+coefficient (suc n) (suc k) = coefficient n k + coefficient n (suc k)
+
+-- that of two whole numbers from 0 up
+abbrev pub coefficient_of : ℤ → ℤ → ℤ
+coefficient_of n k = pos (coefficient (unsigned_abs n) (unsigned_abs k))
+
+-- the product of the numbers from 1 to n
+unfoldable pub factorial : ℕ → ℕ
+factorial zero = 1
+factorial (suc n) = suc n * factorial n
+
+-- to choose k of n things is to choose the n - k others
+abbrev pub EqualsItsMirror : ℕ → ℕ → Type 0
+EqualsItsMirror n k = coefficient n k ≡ coefficient n (n - k)
+
+-- k! times (n - k)! times the coefficient is n!
+abbrev pub DividesFactorials : ℕ → ℕ → Type 0
+DividesFactorials n k = factorial k * factorial (n - k) * coefficient n k ≡ factorial n

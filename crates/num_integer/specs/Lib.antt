@@ -1,0 +1,4 @@
+pub mod Laws
+pub mod Coefficient
+pub mod Multinomial
+pub mod Row

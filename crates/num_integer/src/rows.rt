@@ -1,0 +1,83 @@
+//! Rows of Pascal's triangle.
+
+ghost use Rattle.std.specs.Prelude.{◌≡◌, ◌≤ℤ◌, ◌<ℤ◌, ◌+ℤ◌, List, ℤ, pos, unsigned_abs, drop};
+ghost use Rattle.std.specs.List.{All};
+ghost use Rattle.std.specs.Iterator.{YieldsFirstBy, item_count};
+ghost use Rattle.num_integer.specs.Coefficient.{coefficient_of};
+ghost use Rattle.num_integer.specs.Row.{IsPlace, RowFits, row_of};
+
+use crate::coefficients::next_coefficient;
+use crate::operators::{is_above, one, successor, zero};
+use integer_core::Integer;
+use std::marker::Model;
+
+/// An iterator over the coefficients of `n` and each number from `0` to `n`, in order. For a
+/// negative `n` it has no item.
+#[derive(Drop)]
+pub struct IterBinomial<T: Integer> {
+    n: T,
+    k: T,
+    item: T,
+}
+
+impl<T: Integer> Model for IterBinomial<T> {
+    ghost Value = { List ℤ };
+
+    ghost view = { λ s. drop (unsigned_abs (T.value s.k)) (row_of (T.value s.n)) };
+
+    ghost invariant = { λ s. IsPlace T.fits T.high (T.value s.n) (T.value s.k) (T.value s.item) };
+}
+
+impl<T: Integer> IterBinomial<T> {
+    /// The row of `n`. `IterBinomial::new(3u8)` gives `1`, `3`, `3`, `1`, and then `None`.
+    pub fn new(n: T) -> IterBinomial<T>
+        requires in_range { T.fits (T.value n) }
+        requires row { RowFits T.fits T.high (T.value n) }
+        ensures row { result ≡ row_of (T.value n) }
+        ensures items_in_range { All T.fits result }
+    {
+        IterBinomial {
+            n,
+            k: zero(),
+            item: one(),
+        }
+    }
+}
+
+/// The item after the `k`-th, or that one again where it is the last.
+fn item_after<T: Integer>(item: T, n: T, k: T) -> T
+    requires item_in_range { T.fits (T.value item) }
+    requires n_in_range { T.fits (T.value n) }
+    requires k_in_range { T.fits (T.value k) }
+    requires k_from_zero { pos 0 ≤ℤ T.value k }
+    requires item { T.value item ≡ coefficient_of (T.value n) (T.value k) }
+    requires next_fits { T.value k <ℤ T.value n
+        → T.fits (coefficient_of (T.value n) (T.value k +ℤ pos 1)) }
+    ensures in_range { T.fits (T.value result) }
+    ensures next { T.value k <ℤ T.value n
+        → T.value result ≡ coefficient_of (T.value n) (T.value k +ℤ pos 1) }
+{
+    if is_above(n, k) {
+        next_coefficient(item, n, k)
+    } else {
+        item
+    }
+}
+
+impl<T: Integer> Iterator for IterBinomial<T> {
+    type Item = T;
+
+    ghost next_gives = { YieldsFirstBy T.value (λ s. s) };
+
+    ghost remaining = { item_count (λ s. s) };
+
+    fn next(&mut self) -> Option<T> {
+        if is_above(self.k, self.n) {
+            return None;
+        }
+        let item = self.item;
+        self.item = item_after(item, self.n, self.k);
+        self.k = successor(self.k);
+        Some(item)
+    }
+}
