@@ -13,6 +13,8 @@ mod operators;
 #[cfg(test)]
 mod root_laws;
 mod rows;
+#[cfg(test)]
+mod tests;
 
 pub use coefficients::{binomial, multinomial};
 pub use domains::Fits;
