@@ -2,9 +2,9 @@
 use Rattle.std.specs.Prelude.{◌≡◌, ◌∷◌, ℕ, List, Option, Some, None, map}
 use Rattle.std.proofs.Common.{◌+◌, ◌*◌, [], ap, subst, arith, refl}
 use Rattle.intcalc.specs.declared.call.Kind.{Kind}
-use Rattle.intcalc.specs.declared.call.Kind.TheVariants.{I64, U64}
+use Rattle.intcalc.specs.declared.call.Kind.TheVariants.{I8, U8, I64, U64}
 use Rattle.intcalc.specs.declared.call.Call.{Call}
-use Rattle.intcalc.specs.declared.call.Call.TheVariants.{DivRem, DivFloor, ModFloor, DivModFloor, DivCeil}
+use Rattle.intcalc.specs.declared.call.Call.TheVariants.{DivRem, DivModFloor, DivFloor, DivCeil, ModFloor, NextMultipleOf, PrevMultipleOf, IsMultipleOf, Gcd, Lcm, GcdLcm, ExtendedGcd, AverageFloor, AverageCeil, Sqrt, Cbrt, NthRoot, Binomial}
 use Rattle.intcalc.specs.Words.{word_of_kind, word_of_call, operands_of, AskFor, IsRequest}
 use Rattle.intcalc.specs.Outcome.{FitsKind}
 use Rattle.intcalc.specs.Line.{IsReply, IsLine, text_of, status_of}
@@ -19,6 +19,8 @@ code_of (c ∷ cs) = c + 256 * code_of cs
 
 -- no two kinds have one word
 same_kind : (k l : Kind) → word_of_kind k ≡ word_of_kind l → k ≡ l
+same_kind I8 I8 e = refl
+same_kind U8 U8 e = refl
 same_kind I64 I64 e = refl
 same_kind U64 U64 e = refl
 same_kind _ _ e = absurd (omega (arith, ap code_of e))
@@ -26,10 +28,23 @@ same_kind _ _ e = absurd (omega (arith, ap code_of e))
 -- no two calls have one word and the same operands
 same_call : (c d : Call) → word_of_call c ≡ word_of_call d → operands_of c ≡ operands_of d → c ≡ d
 same_call (DivRem m n) (DivRem p q) e f = cc
-same_call (DivFloor m n) (DivFloor p q) e f = cc
-same_call (ModFloor m n) (ModFloor p q) e f = cc
 same_call (DivModFloor m n) (DivModFloor p q) e f = cc
+same_call (DivFloor m n) (DivFloor p q) e f = cc
 same_call (DivCeil m n) (DivCeil p q) e f = cc
+same_call (ModFloor m n) (ModFloor p q) e f = cc
+same_call (NextMultipleOf m n) (NextMultipleOf p q) e f = cc
+same_call (PrevMultipleOf m n) (PrevMultipleOf p q) e f = cc
+same_call (IsMultipleOf m n) (IsMultipleOf p q) e f = cc
+same_call (Gcd m n) (Gcd p q) e f = cc
+same_call (Lcm m n) (Lcm p q) e f = cc
+same_call (GcdLcm m n) (GcdLcm p q) e f = cc
+same_call (ExtendedGcd m n) (ExtendedGcd p q) e f = cc
+same_call (AverageFloor m n) (AverageFloor p q) e f = cc
+same_call (AverageCeil m n) (AverageCeil p q) e f = cc
+same_call (Sqrt m) (Sqrt n) e f = cc
+same_call (Cbrt m) (Cbrt n) e f = cc
+same_call (NthRoot m n) (NthRoot p q) e f = cc
+same_call (Binomial m n) (Binomial p q) e f = cc
 same_call _ _ e f = absurd (omega (arith, ap code_of e))
 
 -- words ask for at most one kind and call

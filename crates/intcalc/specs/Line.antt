@@ -1,10 +1,10 @@
 -- The line and the status for a list of words.
-use Rattle.std.specs.Prelude.{◌≡◌, ℕ, ℤ, List, ◌++◌, codes, Option, Some, None, Result, Ok, Err}
+use Rattle.std.specs.Prelude.{◌≡◌, ℕ, ℤ, List, ◌++◌, codes, Option, Some, None, Result, Ok, Err, true, false}
 use Rattle.std.specs.Fmt.{decimal, signed_decimal}
 use Rattle.intcalc.specs.declared.call.Kind.{Kind}
 use Rattle.intcalc.specs.declared.call.Call.{Call}
 use Rattle.intcalc.specs.declared.call.Answer.{Answer}
-use Rattle.intcalc.specs.declared.call.Answer.TheVariants.{One, Two}
+use Rattle.intcalc.specs.declared.call.Answer.TheVariants.{One, Two, Three, Truth}
 use Rattle.intcalc.specs.declared.call.Refusal.{Refusal}
 use Rattle.intcalc.specs.Refusal.{number_of, name_of}
 use Rattle.intcalc.specs.Outcome.{Outcome}
@@ -14,10 +14,13 @@ use Rattle.intcalc.specs.Words.{IsRequest}
 abbrev pub next_number : ℤ → List ℕ
 next_number n = codes " " ++ signed_decimal n
 
--- the numbers of an answer in decimal, with one space between them
+-- the numbers of an answer in decimal, with one space between them, or `true` or `false`
 abbrev pub text_of_answer : Answer → List ℕ
 text_of_answer (One a) = signed_decimal a
 text_of_answer (Two a b) = signed_decimal a ++ next_number b
+text_of_answer (Three a b c) = signed_decimal a ++ next_number b ++ next_number c
+text_of_answer (Truth true) = codes "true"
+text_of_answer (Truth false) = codes "false"
 
 -- `refused`, the number and the name
 abbrev pub text_of_refusal : Refusal → List ℕ

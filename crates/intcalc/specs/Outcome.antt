@@ -1,20 +1,27 @@
 -- What each call answers at each kind, and which refusal comes first.
-use Rattle.std.specs.Prelude.{◌≡◌, ◌≢◌, ◌⊎◌, ℤ, pos, List, [], ◌∷◌, ⊤, Result, Ok, Err, FitsSigned}
-use Rattle.std.specs.Int.{w64, FitsUnsignedBits}
+use Rattle.std.specs.Prelude.{◌≡◌, ◌≢◌, ◌⊎◌, ◌↔◌, ◌%◌, ◌≤ℤ◌, ℤ, pos, negsuc, unsigned_abs, Bool, IsTrue, List, [], ◌∷◌, ⊤, Result, Ok, Err, FitsSigned}
+use Rattle.std.specs.Int.{w8, w64, FitsUnsignedBits}
+use Rattle.integer_core.specs.Bezout.{IsBezoutAnswer}
+use Rattle.integer_core.specs.Division.{IsTruncated, IsFloored, IsTruncatedQuotient, IsFlooredQuotient, IsCeiledQuotient, IsFlooredRemainder, IsNextMultiple, IsPreviousMultiple}
+use Rattle.integer_core.specs.Divisors.{Divides, IsGreatestCommonDivisor, IsLeastCommonMultiple}
 use Rattle.integer_core.specs.Range.{EachFits}
-use Rattle.integer_core.specs.Division.{IsTruncated, IsFloored, IsTruncatedQuotient, IsFlooredQuotient, IsCeiledQuotient, IsFlooredRemainder}
+use Rattle.integer_roots.specs.Averages.{IsAverageFloor, IsAverageCeil}
+use Rattle.integer_roots.specs.RootOf.{IsRoot}
+use Rattle.num_integer.specs.Coefficient.{coefficient_of}
 use Rattle.intcalc.specs.Words.{operands_of}
 use Rattle.intcalc.specs.declared.call.Kind.{Kind}
-use Rattle.intcalc.specs.declared.call.Kind.TheVariants.{I64, U64}
+use Rattle.intcalc.specs.declared.call.Kind.TheVariants.{I8, U8, I64, U64}
 use Rattle.intcalc.specs.declared.call.Call.{Call}
-use Rattle.intcalc.specs.declared.call.Call.TheVariants.{DivRem, DivFloor, ModFloor, DivModFloor, DivCeil}
+use Rattle.intcalc.specs.declared.call.Call.TheVariants.{DivRem, DivModFloor, DivFloor, DivCeil, ModFloor, NextMultipleOf, PrevMultipleOf, IsMultipleOf, Gcd, Lcm, GcdLcm, ExtendedGcd, AverageFloor, AverageCeil, Sqrt, Cbrt, NthRoot, Binomial}
 use Rattle.intcalc.specs.declared.call.Answer.{Answer}
-use Rattle.intcalc.specs.declared.call.Answer.TheVariants.{One, Two}
+use Rattle.intcalc.specs.declared.call.Answer.TheVariants.{One, Two, Three, Truth}
 use Rattle.intcalc.specs.declared.call.Refusal.{Refusal}
-use Rattle.intcalc.specs.declared.call.Refusal.TheVariants.{OutOfType, ZeroDivisor, NotFitting}
+use Rattle.intcalc.specs.declared.call.Refusal.TheVariants.{OutOfType, ZeroDivisor, ZeroDegree, NegativeRoot, NegativeCount, NotFitting, NoPair}
 
 -- the numbers of a kind
 abbrev pub FitsKind : Kind → ℤ → Type 0
+FitsKind I8 = λ n. FitsSigned w8 n
+FitsKind U8 = FitsUnsignedBits 8
 FitsKind I64 = λ n. FitsSigned w64 n
 FitsKind U64 = FitsUnsignedBits 64
 
@@ -35,6 +42,20 @@ pub record AnswersTwo (P : ℤ → ℤ → Type 0) (r : Result Answer Refusal) :
   pub is : r ≡ Ok (Two first second)
   pub meets : P first second
 
+-- answered by three numbers, which meet the condition together
+pub record AnswersThree (P : ℤ → ℤ → ℤ → Type 0) (r : Result Answer Refusal) : Type 0 where
+  pub first : ℤ
+  pub second : ℤ
+  pub third : ℤ
+  pub is : r ≡ Ok (Three first second third)
+  pub meets : P first second third
+
+-- answered by whether it is so
+pub record AnswersWhether (P : Type 0) (r : Result Answer Refusal) : Type 0 where
+  pub truth : Bool
+  pub is : r ≡ Ok (Truth truth)
+  pub tells : IsTrue truth ↔ P
+
 -- refused unless the divisor is not 0
 abbrev pub NeedsDivisor : ℤ → (Result Answer Refusal → Type 0) → Result Answer Refusal → Type 0
 NeedsDivisor d = Needs (d ≢ pos 0) ZeroDivisor
@@ -43,27 +64,79 @@ NeedsDivisor d = Needs (d ≢ pos 0) ZeroDivisor
 abbrev pub NeedsFitting : (ℤ → Type 0) → (ℤ → Type 0) → (Result Answer Refusal → Type 0) → Result Answer Refusal → Type 0
 NeedsFitting fits P = Needs (EachFits fits P) NotFitting
 
+-- a type without negatives, which has no -1, has a pair where one operand divides the other
+abbrev pub HasPairIn : (ℤ → Type 0) → ℤ → ℤ → Type 0
+HasPairIn fits a b = ¬ (fits (negsuc 0)) → Divides a b ⊎ Divides b a
+
+-- the greatest common divisor and the least common multiple
+pub record AreGcdAndLcm (a b g l : ℤ) : Type 0 where
+  pub greatest : IsGreatestCommonDivisor a b g
+  pub least : IsLeastCommonMultiple a b l
+
+-- the number has a root of the degree: it is not negative where the degree is even
+abbrev pub HasRoot : ℤ → ℤ → Type 0
+HasRoot x n = unsigned_abs n % 2 ≡ 0 → pos 0 ≤ℤ x
+
+-- both counts are from 0 up
+abbrev pub AreCounts : ℤ → ℤ → Type 0
+AreCounts n k = (pos 0 ≤ℤ n) × (pos 0 ≤ℤ k)
+
 -- the table of calls: what each answers to operands of the type, its refusals in their order
 unfoldable pub Inside : (ℤ → Type 0) → Call → Result Answer Refusal → Type 0
 Inside fits (DivRem n d) =
     NeedsDivisor d (NeedsFitting fits (IsTruncatedQuotient n d) (AnswersTwo (IsTruncated n d)))
-Inside fits (DivFloor n d) =
-    NeedsDivisor d (NeedsFitting fits (IsFlooredQuotient n d) (AnswersOne (IsFlooredQuotient n d)))
-Inside fits (ModFloor n d) =
-    NeedsDivisor d (AnswersOne (IsFlooredRemainder n d))
 Inside fits (DivModFloor n d) =
     NeedsDivisor d (NeedsFitting fits (IsFlooredQuotient n d) (AnswersTwo (IsFloored n d)))
+Inside fits (DivFloor n d) =
+    NeedsDivisor d (NeedsFitting fits (IsFlooredQuotient n d) (AnswersOne (IsFlooredQuotient n d)))
 Inside fits (DivCeil n d) =
     NeedsDivisor d (NeedsFitting fits (IsCeiledQuotient n d) (AnswersOne (IsCeiledQuotient n d)))
+Inside fits (ModFloor n d) =
+    NeedsDivisor d (AnswersOne (IsFlooredRemainder n d))
+Inside fits (NextMultipleOf n d) =
+    NeedsDivisor d (NeedsFitting fits (IsNextMultiple n d) (AnswersOne (IsNextMultiple n d)))
+Inside fits (PrevMultipleOf n d) =
+    NeedsDivisor d (NeedsFitting fits (IsPreviousMultiple n d) (AnswersOne (IsPreviousMultiple n d)))
+Inside fits (IsMultipleOf n d) =
+    AnswersWhether (Divides d n)
+Inside fits (Gcd a b) =
+    NeedsFitting fits (IsGreatestCommonDivisor a b) (AnswersOne (IsGreatestCommonDivisor a b))
+Inside fits (Lcm a b) =
+    NeedsFitting fits (IsLeastCommonMultiple a b) (AnswersOne (IsLeastCommonMultiple a b))
+Inside fits (GcdLcm a b) =
+    NeedsFitting fits (IsGreatestCommonDivisor a b)
+    (NeedsFitting fits (IsLeastCommonMultiple a b) (AnswersTwo (AreGcdAndLcm a b)))
+Inside fits (ExtendedGcd a b) =
+    NeedsFitting fits (IsGreatestCommonDivisor a b)
+    (Needs (HasPairIn fits a b) NoPair (AnswersThree (IsBezoutAnswer a b)))
+Inside fits (AverageFloor a b) =
+    AnswersOne (IsAverageFloor a b)
+Inside fits (AverageCeil a b) =
+    AnswersOne (IsAverageCeil a b)
+Inside fits (Sqrt x) =
+    Needs (HasRoot x (pos 2)) NegativeRoot (AnswersOne (IsRoot x 2))
+Inside fits (Cbrt x) =
+    AnswersOne (IsRoot x 3)
+Inside fits (NthRoot x n) =
+    Needs (n ≢ pos 0) ZeroDegree
+    (Needs (HasRoot x n) NegativeRoot (AnswersOne (IsRoot x (unsigned_abs n))))
+Inside fits (Binomial n k) =
+    Needs (AreCounts n k) NegativeCount
+    (Needs (fits (coefficient_of n k)) NotFitting (AnswersOne (λ c. c ≡ coefficient_of n k)))
 
 -- each of the numbers fits
 abbrev pub AllFit : (ℤ → Type 0) → List ℤ → Type 0
 AllFit fits [] = ⊤
 AllFit fits (n ∷ ns) = fits n × AllFit fits ns
 
--- what each call answers in a type: first of all its operands have to lie in it
+-- the operands lie in the type, save a degree, which lies in `u32`
+abbrev pub OperandsFit : (ℤ → Type 0) → Call → Type 0
+OperandsFit fits (NthRoot x n) = fits x × FitsUnsignedBits 32 n
+OperandsFit fits call = AllFit fits (operands_of call)
+
+-- what each call answers in a type: first of all its operands have to lie where they belong
 abbrev pub OutcomeIn : (ℤ → Type 0) → Call → Result Answer Refusal → Type 0
-OutcomeIn fits call = Needs (AllFit fits (operands_of call)) OutOfType (Inside fits call)
+OutcomeIn fits call = Needs (OperandsFit fits call) OutOfType (Inside fits call)
 
 -- the outcome of a kind and a call
 abbrev pub Outcome : Kind → Call → Result Answer Refusal → Type 0

@@ -2,30 +2,58 @@
 use Rattle.std.specs.Prelude.{◌≡◌, ℕ, ℤ, List, [], ◌∷◌, codes, map, Option, Some, MatchOption}
 use Rattle.intcalc.specs.Number.{spelled_number}
 use Rattle.intcalc.specs.declared.call.Kind.{Kind}
-use Rattle.intcalc.specs.declared.call.Kind.TheVariants.{I64, U64}
+use Rattle.intcalc.specs.declared.call.Kind.TheVariants.{I8, U8, I64, U64}
 use Rattle.intcalc.specs.declared.call.Call.{Call}
-use Rattle.intcalc.specs.declared.call.Call.TheVariants.{DivRem, DivFloor, ModFloor, DivModFloor, DivCeil}
+use Rattle.intcalc.specs.declared.call.Call.TheVariants.{DivRem, DivModFloor, DivFloor, DivCeil, ModFloor, NextMultipleOf, PrevMultipleOf, IsMultipleOf, Gcd, Lcm, GcdLcm, ExtendedGcd, AverageFloor, AverageCeil, Sqrt, Cbrt, NthRoot, Binomial}
 
 -- the word of a kind
 abbrev pub word_of_kind : Kind → List ℕ
+word_of_kind I8 = codes "i8"
+word_of_kind U8 = codes "u8"
 word_of_kind I64 = codes "i64"
 word_of_kind U64 = codes "u64"
 
 -- the word of a call
 abbrev pub word_of_call : Call → List ℕ
 word_of_call (DivRem n d) = codes "div_rem"
-word_of_call (DivFloor n d) = codes "div_floor"
-word_of_call (ModFloor n d) = codes "mod_floor"
 word_of_call (DivModFloor n d) = codes "div_mod_floor"
+word_of_call (DivFloor n d) = codes "div_floor"
 word_of_call (DivCeil n d) = codes "div_ceil"
+word_of_call (ModFloor n d) = codes "mod_floor"
+word_of_call (NextMultipleOf n d) = codes "next_multiple_of"
+word_of_call (PrevMultipleOf n d) = codes "prev_multiple_of"
+word_of_call (IsMultipleOf n d) = codes "is_multiple_of"
+word_of_call (Gcd a b) = codes "gcd"
+word_of_call (Lcm a b) = codes "lcm"
+word_of_call (GcdLcm a b) = codes "gcd_lcm"
+word_of_call (ExtendedGcd a b) = codes "extended_gcd"
+word_of_call (AverageFloor a b) = codes "average_floor"
+word_of_call (AverageCeil a b) = codes "average_ceil"
+word_of_call (Sqrt x) = codes "sqrt"
+word_of_call (Cbrt x) = codes "cbrt"
+word_of_call (NthRoot x n) = codes "nth_root"
+word_of_call (Binomial n k) = codes "binomial"
 
 -- the operands of a call
 abbrev pub operands_of : Call → List ℤ
 operands_of (DivRem n d) = n ∷ d ∷ []
-operands_of (DivFloor n d) = n ∷ d ∷ []
-operands_of (ModFloor n d) = n ∷ d ∷ []
 operands_of (DivModFloor n d) = n ∷ d ∷ []
+operands_of (DivFloor n d) = n ∷ d ∷ []
 operands_of (DivCeil n d) = n ∷ d ∷ []
+operands_of (ModFloor n d) = n ∷ d ∷ []
+operands_of (NextMultipleOf n d) = n ∷ d ∷ []
+operands_of (PrevMultipleOf n d) = n ∷ d ∷ []
+operands_of (IsMultipleOf n d) = n ∷ d ∷ []
+operands_of (Gcd a b) = a ∷ b ∷ []
+operands_of (Lcm a b) = a ∷ b ∷ []
+operands_of (GcdLcm a b) = a ∷ b ∷ []
+operands_of (ExtendedGcd a b) = a ∷ b ∷ []
+operands_of (AverageFloor a b) = a ∷ b ∷ []
+operands_of (AverageCeil a b) = a ∷ b ∷ []
+operands_of (Sqrt x) = x ∷ []
+operands_of (Cbrt x) = x ∷ []
+operands_of (NthRoot x n) = x ∷ n ∷ []
+operands_of (Binomial n k) = n ∷ k ∷ []
 
 -- the word and the operands are those of the call
 pub record Names (word : List ℕ) (operands : List ℤ) (call : Call) : Type 0 where

@@ -6,6 +6,8 @@ ghost use Rattle.intcalc.specs.Refusal.{number_of, name_of};
 /// The integer type that a call is made at.
 #[derive(Debug, Clone, Copy, PartialEq, Eq)]
 pub enum Kind {
+    I8,
+    U8,
     I64,
     U64,
 }
@@ -14,28 +16,52 @@ pub enum Kind {
 #[derive(Debug, Clone, Copy, PartialEq, Eq)]
 pub enum Call {
     DivRem(i128, i128),
-    DivFloor(i128, i128),
-    ModFloor(i128, i128),
     DivModFloor(i128, i128),
+    DivFloor(i128, i128),
     DivCeil(i128, i128),
+    ModFloor(i128, i128),
+    NextMultipleOf(i128, i128),
+    PrevMultipleOf(i128, i128),
+    IsMultipleOf(i128, i128),
+    Gcd(i128, i128),
+    Lcm(i128, i128),
+    GcdLcm(i128, i128),
+    ExtendedGcd(i128, i128),
+    AverageFloor(i128, i128),
+    AverageCeil(i128, i128),
+    Sqrt(i128),
+    Cbrt(i128),
+    /// The number, and the degree.
+    NthRoot(i128, i128),
+    Binomial(i128, i128),
 }
 
-/// The numbers that a call answers.
+/// The numbers that a call answers, or whether something is so.
 #[derive(Debug, Clone, Copy, PartialEq, Eq)]
 pub enum Answer {
     One(i128),
     Two(i128, i128),
+    Three(i128, i128, i128),
+    Truth(bool),
 }
 
 /// Why a call has no answer.
 #[derive(Debug, Clone, Copy, PartialEq, Eq)]
 pub enum Refusal {
-    /// An operand lies outside the kind.
+    /// An operand lies outside the kind, or a degree outside `u32`.
     OutOfType,
     /// The divisor is 0.
     ZeroDivisor,
-    /// The quotient lies outside the kind.
+    /// The degree is 0.
+    ZeroDegree,
+    /// The number is negative, and the degree even.
+    NegativeRoot,
+    /// A count is negative.
+    NegativeCount,
+    /// The quotient, multiple, divisor or coefficient lies outside the kind.
     NotFitting,
+    /// The kind is unsigned, and neither operand divides the other.
+    NoPair,
 }
 
 impl Refusal {
@@ -46,7 +72,11 @@ impl Refusal {
         match self {
             Refusal::OutOfType => 1,
             Refusal::ZeroDivisor => 2,
+            Refusal::ZeroDegree => 3,
+            Refusal::NegativeRoot => 4,
+            Refusal::NegativeCount => 5,
             Refusal::NotFitting => 6,
+            Refusal::NoPair => 7,
         }
     }
 
@@ -57,7 +87,11 @@ impl Refusal {
         match self {
             Refusal::OutOfType => "OutOfType",
             Refusal::ZeroDivisor => "ZeroDivisor",
+            Refusal::ZeroDegree => "ZeroDegree",
+            Refusal::NegativeRoot => "NegativeRoot",
+            Refusal::NegativeCount => "NegativeCount",
             Refusal::NotFitting => "NotFitting",
+            Refusal::NoPair => "NoPair",
         }
     }
 }

@@ -92,6 +92,13 @@ impl Line {
                 self.push_number(a);
                 self.push_next(b);
             }
+            Answer::Three(a, b, c) => {
+                self.push_number(a);
+                self.push_next(b);
+                self.push_next(c);
+            }
+            Answer::Truth(true) => self.push(b"true"),
+            Answer::Truth(false) => self.push(b"false"),
         }
     }
 

@@ -15,6 +15,8 @@ mod run;
 mod sink;
 #[cfg(test)]
 mod tests;
+#[cfg(test)]
+mod vectors;
 mod words;
 
 use run::{put_line, run};

@@ -80,7 +80,7 @@ impl Write for Tape {
 }
 
 // Whether the words give this line and this status, written at once and byte by byte.
-fn prints(words: &[&str], line: &str, status: u8) -> bool {
+pub fn prints(words: &[&str], line: &str, status: u8) -> bool {
     [ROOM, 1].into_iter().all(|most| {
         let mut out = Console::new(Tape::new(most, ROOM, false));
         let answered = run(words, &mut out);
@@ -124,7 +124,7 @@ fn lines(rt: HostRuntime) {
         (&["i16", "div_rem", "1", "2"], "usage", 2),
         (&["I64", "div_rem", "1", "2"], "usage", 2),
         (&["", "div_rem", "1", "2"], "usage", 2),
-        (&["i64", "gcd", "1", "2"], "usage", 2),
+        (&["i64", "divides", "1", "2"], "usage", 2),
         (&["i64", "div-rem", "1", "2"], "usage", 2),
         (&["i64", "", "1", "2"], "usage", 2),
         (&["div_rem", "i64", "1", "2"], "usage", 2),
@@ -160,15 +160,19 @@ fn divisions(rt: HostRuntime) {
     ];
     for (n, d, answers) in rows {
         for (call, answer) in calls.into_iter().zip(answers) {
-            assert!(rt;
-                prints(&["i64", call, n, d], answer, 0),
-                "at i64 {call} {n} {d}"
-            );
-            if !n.starts_with('-') && !d.starts_with('-') {
+            for kind in ["i8", "i64"] {
                 assert!(rt;
-                    prints(&["u64", call, n, d], answer, 0),
-                    "at u64 {call} {n} {d}"
+                    prints(&[kind, call, n, d], answer, 0),
+                    "at {kind} {call} {n} {d}"
                 );
+            }
+            if !n.starts_with('-') && !d.starts_with('-') {
+                for kind in ["u8", "u64"] {
+                    assert!(rt;
+                        prints(&[kind, call, n, d], answer, 0),
+                        "at {kind} {call} {n} {d}"
+                    );
+                }
             }
         }
     }
@@ -209,8 +213,8 @@ fn a_hundred_digits(rt: HostRuntime) {
         99999999999999999999999999999999999999999999999999";
     assert_eq!(rt; nines.len(), 100);
     assert_eq!(rt; read_number(nines), Some(i128::MAX));
-    for kind in ["i64", "u64"] {
-        assert!(rt; prints(&[kind, "div_rem", "1", nines], "refused 1 OutOfType", 1));
+    for kind in ["i8", "u8", "i64", "u64"] {
+        assert!(rt; prints(&[kind, "gcd", "1", nines], "refused 1 OutOfType", 1));
         assert!(rt; prints(&[kind, "div_rem", nines, "1"], "refused 1 OutOfType", 1));
     }
 }
@@ -242,7 +246,11 @@ fn refusals(rt: HostRuntime) {
     let rows = [
         (Refusal::OutOfType, 1, "OutOfType"),
         (Refusal::ZeroDivisor, 2, "ZeroDivisor"),
+        (Refusal::ZeroDegree, 3, "ZeroDegree"),
+        (Refusal::NegativeRoot, 4, "NegativeRoot"),
+        (Refusal::NegativeCount, 5, "NegativeCount"),
         (Refusal::NotFitting, 6, "NotFitting"),
+        (Refusal::NoPair, 7, "NoPair"),
     ];
     for (refusal, number, name) in rows {
         assert_eq!(rt; refusal.number(), number);
@@ -255,6 +263,14 @@ fn outcomes(rt: HostRuntime) {
     let call = Call::ModFloor(i128::from(i64::MIN), -1);
     assert_eq!(rt; only_outcome(Kind::I64, call), Ok(Answer::One(0)));
     assert_eq!(rt; only_outcome(Kind::U64, call), Err(Refusal::OutOfType));
+    let call = Call::DivRem(i128::MIN, 0);
+    assert_eq!(rt; only_outcome(Kind::I64, call), Err(Refusal::OutOfType));
+    let call = Call::Gcd(i128::MAX, i128::MIN);
+    assert_eq!(rt; only_outcome(Kind::I8, call), Err(Refusal::OutOfType));
+    for degree in [-1, i128::MAX] {
+        let call = Call::NthRoot(5, degree);
+        assert_eq!(rt; only_outcome(Kind::U64, call), Err(Refusal::OutOfType));
+    }
     let (line, status) = only_line(&["i64", "div_mod_floor", "-8", "3"]);
     assert_eq!(rt; (line.as_bytes(), status), (b"-3 1\n".as_slice(), 0));
 }

@@ -11,8 +11,21 @@ fn read_kind(word: &str) -> Option<Kind>
         (λ kind. word.now ≡ word_of_kind kind) }
 {
     match word {
+        "i8" => Some(Kind::I8),
+        "u8" => Some(Kind::U8),
         "i64" => Some(Kind::I64),
         "u64" => Some(Kind::U64),
+        _ => None,
+    }
+}
+
+fn read_call_of_one(word: &str, x: i128) -> Option<Call>
+    ensures { MatchOption result ((call : _) → ¬ (Names word.now (x ∷ []) call))
+        (Names word.now (x ∷ [])) }
+{
+    match word {
+        "sqrt" => Some(Call::Sqrt(x)),
+        "cbrt" => Some(Call::Cbrt(x)),
         _ => None,
     }
 }
@@ -23,10 +36,21 @@ fn read_call_of_two(word: &str, a: i128, b: i128) -> Option<Call>
 {
     match word {
         "div_rem" => Some(Call::DivRem(a, b)),
-        "div_floor" => Some(Call::DivFloor(a, b)),
-        "mod_floor" => Some(Call::ModFloor(a, b)),
         "div_mod_floor" => Some(Call::DivModFloor(a, b)),
+        "div_floor" => Some(Call::DivFloor(a, b)),
         "div_ceil" => Some(Call::DivCeil(a, b)),
+        "mod_floor" => Some(Call::ModFloor(a, b)),
+        "next_multiple_of" => Some(Call::NextMultipleOf(a, b)),
+        "prev_multiple_of" => Some(Call::PrevMultipleOf(a, b)),
+        "is_multiple_of" => Some(Call::IsMultipleOf(a, b)),
+        "gcd" => Some(Call::Gcd(a, b)),
+        "lcm" => Some(Call::Lcm(a, b)),
+        "gcd_lcm" => Some(Call::GcdLcm(a, b)),
+        "extended_gcd" => Some(Call::ExtendedGcd(a, b)),
+        "average_floor" => Some(Call::AverageFloor(a, b)),
+        "average_ceil" => Some(Call::AverageCeil(a, b)),
+        "nth_root" => Some(Call::NthRoot(a, b)),
+        "binomial" => Some(Call::Binomial(a, b)),
         _ => None,
     }
 }
@@ -37,6 +61,10 @@ fn read_call(word: &str, operands: &[&str]) -> Option<Call>
         (Spell word.now (map (λ w. w.now) operands.now)) }
 {
     match operands {
+        [x] => {
+            let x = read_number(x)?;
+            read_call_of_one(word, x)
+        }
         [a, b] => {
             let a = read_number(a)?;
             let b = read_number(b)?;

@@ -1,4 +1,5 @@
 pub mod Range
+pub mod Between
 pub mod Division
 pub mod Divisors
 pub mod NativeRanges

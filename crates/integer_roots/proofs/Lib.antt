@@ -6,3 +6,4 @@ pub mod BitRoot
 pub mod Averaging
 pub mod SignedRoots
 pub mod OnlyOnes
+pub mod RootRange

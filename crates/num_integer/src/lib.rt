@@ -11,6 +11,8 @@ mod domains;
 mod magnitudes;
 mod operators;
 #[cfg(test)]
+mod own_types;
+#[cfg(test)]
 mod root_laws;
 mod rows;
 #[cfg(test)]

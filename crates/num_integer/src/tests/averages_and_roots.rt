@@ -1,118 +1,183 @@
 //! Averages and roots: the rows of their documents, and the tests of `num-integer`.
 
-ghost use Rattle.std.specs.Prelude.{◌≡◌, ◌≢◌, ◌%◌, ◌≤ℤ◌, pos};
+ghost use Rattle.std.specs.Prelude.{◌≤◌, IfSome};
 
+use super::{agree, greatest, number};
 use crate::counted::SqrtCounted;
-use crate::{Average, Roots, average_ceil, average_floor, cbrt, nth_root, sqrt};
-use num_traits::{PrimInt, checked_pow};
+use crate::{Average, Fits, Roots, average_ceil, average_floor, cbrt, nth_root, sqrt};
+use num_traits::FromPrimitive;
+use std::fmt::Debug;
+use std::ops::Range;
 use std::process::Abort;
+
+fn has_averages<T: Average + Fits + FromPrimitive + Debug>(
+    rt: &impl Abort,
+    (a, b): (i128, i128),
+    (floor, ceil): (i128, i128),
+) {
+    let (x, y) = (number::<T>(rt, a), number::<T>(rt, b));
+    let averages = (average_floor(x, y), average_ceil(x, y));
+    let expected = (number(rt, floor), number(rt, ceil));
+    agree(rt, "averages", (a, b), averages, expected);
+}
 
 #[test]
 fn averages_of_the_documents(rt: HostRuntime) {
-    for (a, b, floor, ceil) in [(3, 10, 6, 7), (-2, -5, -4, -3), (4, 4, 4, 4)] {
-        assert_eq!(rt;
-            (average_floor(a, b), average_ceil(a, b)),
-            (floor, ceil),
-            "of {a} and {b}"
-        );
+    for (operands, averages) in [
+        ((3, 10), (6, 7)),
+        ((-2, -5), (-4, -3)),
+        ((4, 4), (4, 4)),
+        ((-128, -1), (-65, -64)),
+        ((-128, 127), (-1, 0)),
+    ] {
+        at_signed_types!(has_averages(&rt, operands, averages));
     }
-    for (a, b, floor, ceil) in [(-128i8, -1, -65, -64), (-128, 127, -1, 0)] {
-        assert_eq!(rt;
-            (average_floor(a, b), average_ceil(a, b)),
-            (floor, ceil),
-            "of {a} and {b}"
-        );
-    }
-    assert_eq!(rt;
-        (average_floor(255u8, 2), average_ceil(255u8, 2)),
-        (128, 129)
-    );
-    assert_eq!(rt; i128::MIN.average_floor(&i128::MAX), -1);
+    has_averages::<u8>(&rt, (255, 2), (128, 129));
+}
+
+/// The number that lies so far below the greatest of the type.
+fn below_the_greatest<T: Fits + FromPrimitive>(rt: &impl Abort, distance: u128) -> T
+    ensures { T.fits (T.value result) }
+{
+    let number = T::ends().1.saturating_sub(distance);
+    T::from_u128(number).expect(rt, "the type has the number")
+}
+
+fn has_averages_at_the_top<T: Average + Fits + FromPrimitive + Debug>(rt: &impl Abort) {
+    let first = below_the_greatest::<T>(rt, 1);
+    let second = below_the_greatest::<T>(rt, 2);
+    let third = below_the_greatest::<T>(rt, 3);
+    let averages = (average_floor(third, first), average_ceil(third, first));
+    agree(rt, "averages", (3, 1), averages, (second, second));
+    let averages = (average_floor(third, second), average_ceil(third, second));
+    agree(rt, "averages", (3, 2), averages, (third, second));
 }
 
 #[test]
 fn averages_at_each_type(rt: HostRuntime) {
-    macro_rules! check_averages {
-        ($($T:ident),*) => {$(
-            let m = $T::MAX;
-            for (a, b, floor, ceil) in [
-                (14, 16, 15, 15),
-                (14, 17, 15, 16),
-                (m - 3, m - 1, m - 2, m - 2),
-                (m - 3, m - 2, m - 3, m - 2),
-            ] {
-                assert_eq!(rt; a.average_floor(&b), floor);
-                assert_eq!(rt; a.average_ceil(&b), ceil);
-            }
-        )*};
+    for (operands, averages) in [((14, 16), (15, 15)), ((14, 17), (15, 16))] {
+        at_signed_types!(has_averages(&rt, operands, averages));
+        at_unsigned_types!(has_averages(&rt, operands, averages));
     }
-    check_averages!(
-        i8, i16, i32, i64, i128, isize, u8, u16, u32, u64, u128, usize
-    );
+    at_signed_types!(has_averages_at_the_top(&rt));
+    at_unsigned_types!(has_averages_at_the_top(&rt));
+}
+
+fn has_averages_of_the_ends<T: Average + Fits + FromPrimitive + Debug>(rt: &impl Abort) {
+    let greatest = greatest::<T>(rt);
+    has_averages::<T>(rt, (-greatest - 1, greatest), (-1, 0));
 }
 
 #[test]
 fn averages_of_different_signs(rt: HostRuntime) {
-    macro_rules! check_averages {
-        ($($T:ident),*) => {$(
-            for (a, b, floor, ceil) in [(14, -4, 5, 5), (14, -5, 4, 5), ($T::MIN, $T::MAX, -1, 0)] {
-                assert_eq!(rt; a.average_floor(&b), floor);
-                assert_eq!(rt; a.average_ceil(&b), ceil);
-            }
-        )*};
+    for (operands, averages) in [((14, -4), (5, 5)), ((14, -5), (4, 5))] {
+        at_signed_types!(has_averages(&rt, operands, averages));
     }
-    check_averages!(i8, i16, i32, i64, i128, isize);
+    at_signed_types!(has_averages_of_the_ends(&rt));
+}
+
+/// The square root and the turns, from 0 up.
+fn square_root_counted<T: SqrtCounted + Fits>(x: T) -> Option<(T, u32)>
+    requires { T.fits (T.value x) }
+{
+    if x.parts().0 {
+        None
+    } else {
+        Some(x.sqrt_counted())
+    }
+}
+
+/// The square root, from 0 up.
+fn square_root<T: Roots + Fits>(x: T) -> Option<T>
+    requires { T.fits (T.value x) }
+{
+    if x.parts().0 { None } else { Some(sqrt(x)) }
+}
+
+/// The root of any degree but 0, from 0 up where the degree is even.
+fn root_of_degree<T: Roots + Fits>(x: T, n: u32) -> Option<T>
+    requires { T.fits (T.value x) }
+    ensures { IfSome result (λ root. T.fits (T.value root)) }
+{
+    if n == 0 || n.is_multiple_of(2) && x.parts().0 {
+        None
+    } else {
+        Some(nth_root(x, n))
+    }
+}
+
+/// The number is given beside its degree.
+fn has_root<T: Roots + Fits + FromPrimitive + Debug>(
+    rt: &impl Abort,
+    (x, n): (i128, u32),
+    root: i128,
+) {
+    let (of, number, root) = ((x, n as i128), number::<T>(rt, x), number::<T>(rt, root));
+    agree(rt, "nth_root", of, root_of_degree(number, n), Some(root));
+    match n {
+        2 => agree(rt, "sqrt", of, square_root(number), Some(root)),
+        3 => agree(rt, "cbrt", of, cbrt(number), root),
+        _ => {}
+    }
+}
+
+fn has_square_root<T: SqrtCounted + Fits + FromPrimitive + Debug>(
+    rt: &impl Abort,
+    x: i128,
+    root: i128,
+    turns: u32,
+) {
+    let counted = square_root_counted(number::<T>(rt, x));
+    let expected = Some((number(rt, root), turns));
+    agree(rt, "sqrt_counted", (x, 2), counted, expected);
+    has_root::<T>(rt, (x, 2), root);
 }
 
 #[test]
 fn square_roots_and_their_turns(rt: HostRuntime) {
     for (x, root, turns) in [
-        (18446744073709551615u64, 4294967295, 1),
+        (18446744073709551615, 4294967295, 1),
         (99, 9, 2),
         (16, 4, 0),
         (8, 2, 2),
         (3, 1, 0),
     ] {
-        assert_eq!(rt; x.sqrt_counted(), (root, turns), "of {x}");
-        assert_eq!(rt; sqrt(x), root, "of {x}");
+        has_square_root::<u64>(&rt, x, root, turns);
     }
-    assert_eq!(rt; i64::MAX.sqrt_counted(), (3037000499, 4));
-    assert_eq!(rt; 4i64.sqrt_counted(), (2, 0));
-    assert_eq!(rt; 255u8.sqrt_counted(), (15, 1));
+    has_square_root::<i64>(&rt, 9223372036854775807, 3037000499, 4);
+    has_square_root::<i64>(&rt, 4, 2, 0);
+    has_square_root::<u8>(&rt, 255, 15, 1);
 }
 
 #[test]
 fn square_and_cube_roots(rt: HostRuntime) {
-    assert_eq!(rt; (sqrt(255u8), cbrt(255u8)), (15, 6));
-    assert_eq!(rt; sqrt(65535u16), 255);
-    assert_eq!(rt; cbrt(4294967295u32), 1625);
-    assert_eq!(rt; cbrt(18446744073709551615u64), 2642245);
-    assert_eq!(rt; cbrt(-128i8), -5);
-    assert_eq!(rt; cbrt(i32::MIN), -1290);
-    assert_eq!(rt; cbrt(i64::MIN), -2097152);
-    for (x, root) in [
-        (152399025i32, 12345),
-        (152399026, 12345),
-        (152399024, 12344),
+    for (number, root) in [
+        ((-2147483648, 3), -1290),
+        ((152399025, 2), 12345),
+        ((152399026, 2), 12345),
+        ((152399024, 2), 12344),
+        ((1879080904, 3), 1234),
+        ((1879080905, 3), 1234),
+        ((1879080903, 3), 1233),
+        ((-1879080904, 3), -1234),
+        ((-1879080905, 3), -1234),
+        ((-1879080903, 3), -1233),
     ] {
-        assert_eq!(rt; x.sqrt(), root, "of {x}");
+        has_root::<i32>(&rt, number, root);
     }
-    for (x, root) in [
-        (1879080904i32, 1234),
-        (1879080905, 1234),
-        (1879080903, 1233),
-        (-1879080904, -1234),
-        (-1879080905, -1234),
-        (-1879080903, -1233),
-    ] {
-        assert_eq!(rt; x.cbrt(), root, "of {x}");
-    }
+    has_root::<u8>(&rt, (255, 2), 15);
+    has_root::<u8>(&rt, (255, 3), 6);
+    has_root::<u16>(&rt, (65535, 2), 255);
+    has_root::<u32>(&rt, (4294967295, 3), 1625);
+    has_root::<u64>(&rt, (18446744073709551615, 3), 2642245);
+    has_root::<i8>(&rt, (-128, 3), -5);
+    has_root::<i64>(&rt, (-9223372036854775808, 3), -2097152);
 }
 
 #[test]
 fn roots_of_any_degree(rt: HostRuntime) {
     for (n, root) in [(4, 65535), (5, 7131), (63, 2), (64, 1), (4294967295, 1)] {
-        assert_eq!(rt; nth_root(u64::MAX, n), root, "of degree {n}");
+        has_root::<u64>(&rt, (18446744073709551615, n), root);
     }
     for (n, root) in [
         (1, 12345),
@@ -123,118 +188,154 @@ fn roots_of_any_degree(rt: HostRuntime) {
         (14, 1),
         (4294967295, 1),
     ] {
-        assert_eq!(rt; 12345i32.nth_root(n), root, "of degree {n}");
-        assert_eq!(rt; 12345i64.nth_root(n), i64::from(root), "of degree {n}");
+        has_root::<i32>(&rt, (12345, n), root);
+        has_root::<i64>(&rt, (12345, n), root);
     }
-    for (n, root) in [(1, i32::MIN), (3, -1290), (31, -2)] {
-        assert_eq!(rt; i32::MIN.nth_root(n), root, "of degree {n}");
+    for (n, root) in [(1, -2147483648), (3, -1290), (31, -2)] {
+        has_root::<i32>(&rt, (-2147483648, n), root);
     }
-    assert_eq!(rt; (nth_root(u32::MAX, 31), nth_root(u32::MAX, 32)), (2, 1));
-    assert_eq!(rt;
-        (
-            nth_root(-128i8, 7),
-            nth_root(-127i8, 7),
-            nth_root(127i8, 200)
-        ),
-        (-2, -1, 1)
-    );
-    assert_eq!(rt; nth_root(-2147483647i32, 31), -1);
-    assert_eq!(rt; (nth_root(i32::MAX, 30), nth_root(i32::MAX, 31)), (2, 1));
-    assert_eq!(rt; nth_root(0u64, 5), 0);
-    assert_eq!(rt; nth_root(i64::MIN, 1), i64::MIN);
+    has_root::<i8>(&rt, (-128, 7), -2);
+    has_root::<i8>(&rt, (-127, 7), -1);
+    has_root::<i8>(&rt, (127, 200), 1);
+    has_root::<u64>(&rt, (0, 5), 0);
+    has_root::<i64>(&rt, (-9223372036854775808, 1), -9223372036854775808);
 }
 
-/// That the root of `x` is the nearest toward zero, by powers that may not fit.
-fn check_root<T: Roots + PrimInt>(rt: &impl Abort, x: T, n: u32)
-    requires in_range { T.fits (T.value x) }
-    requires degree { n ≢ 0 }
-    requires sign { n % 2 ≡ 0 → pos 0 ≤ℤ T.value x }
+/// The root has the sign of the number, and of those whose power is no farther from 0 than the
+/// number it is the farthest from 0.
+fn check_root<T: Roots + Fits + FromPrimitive + Debug>(rt: &impl Abort, x: i128, n: u32) {
+    let number = number::<T>(rt, x);
+    let root = root_of_degree(number, n).expect(rt, "the number has a root");
+    match n {
+        2 => assert!(rt; square_root(number) == Some(root)),
+        3 => assert!(rt; cbrt(number) == root),
+        _ => {}
+    }
+    let (negative, magnitude) = root.parts();
+    assert!(rt; negative == (x < 0));
+    let power = magnitude.checked_pow(n);
+    let next = magnitude.saturating_add(1).checked_pow(n);
+    assert!(rt; power.expect(rt, "the power is no farther from 0") <= x.unsigned_abs());
+    assert!(rt; next.unwrap_or(u128::MAX) > x.unsigned_abs());
+}
+
+/// The roots of small numbers, of numbers near the top, and of the top shifted either way.
+fn check_roots_from_zero<T: Roots + Fits + FromPrimitive + Debug>(
+    rt: &impl Abort,
+    bits: u32,
+    n: u32,
+)
+    requires { bits ≤ 64 }
 {
-    let root = x.nth_root(n);
-    if n == 2 {
-        assert!(rt; root == x.sqrt());
-    } else if n == 3 {
-        assert!(rt; root == x.cbrt());
+    let greatest = greatest::<T>(rt);
+    for step in 0..=127 {
+        check_root::<T>(rt, step, n);
+        check_root::<T>(rt, greatest - step, n);
     }
-    let power = checked_pow(root, n as usize).expect(rt, "the power is nearer to zero than x");
-    if x >= T::zero() {
-        assert!(rt; root >= T::zero() && power <= x);
-        let next = root
-            .checked_add(&T::one())
-            .and_then(|next| checked_pow(next, n as usize));
-        assert!(rt; next.is_none_or(|above| x < above));
-    } else {
-        assert!(rt; root < T::zero() && x <= power);
-        let next = root
-            .checked_sub(&T::one())
-            .and_then(|next| checked_pow(next, n as usize));
-        assert!(rt; next.is_none_or(|below| below < x));
+    for shift in 0..bits {
+        check_root::<T>(rt, (greatest << shift) & greatest, n);
+        check_root::<T>(rt, greatest >> shift, n);
     }
 }
 
-/// The roots of each degree of small numbers, of numbers near the top, and of the top shifted
-/// either way, at each type of at most 64 bits.
+/// The same of negative numbers, where the degree is odd.
+fn check_roots_below_zero<T: Roots + Fits + FromPrimitive + Debug>(
+    rt: &impl Abort,
+    bits: u32,
+    n: u32,
+)
+    requires { bits ≤ 64 }
+{
+    let least = -greatest::<T>(rt) - 1;
+    for step in 0..=127 {
+        check_root::<T>(rt, -step, n);
+        check_root::<T>(rt, least + step, n);
+    }
+    check_root::<T>(rt, least + 128, n);
+    for shift in 0..bits {
+        check_root::<T>(rt, -1 << shift, n);
+        check_root::<T>(rt, least >> shift, n);
+    }
+}
+
+fn check_roots_of_degrees<T: Roots + Fits + FromPrimitive + Debug>(
+    rt: &impl Abort,
+    bits: u32,
+    degrees: Range<u32>,
+)
+    requires { bits ≤ 64 }
+{
+    for n in degrees {
+        check_roots_from_zero::<T>(rt, bits, n);
+    }
+}
+
 #[test]
 fn roots_of_non_negative_numbers(rt: HostRuntime) {
-    macro_rules! check_roots {
-        ($($T:ident, $degrees:expr);*) => {$(
-            for n in $degrees {
-                for step in 0..=127 {
-                    for x in [step, $T::MAX.wrapping_sub(step)] {
-                        assert!(rt; x >= 0);
-                        check_root(&rt, x, n);
-                    }
-                }
-                for shift in 0..$T::BITS {
-                    for x in [($T::MAX << shift) & $T::MAX, $T::MAX >> shift] {
-                        assert!(rt; x >= 0);
-                        check_root(&rt, x, n);
-                    }
-                }
-            }
-        )*};
-    }
-    check_roots!(i8, 2..7; i16, 2..15; i32, 2..31; i64, 2..63; isize, 2..63);
-    check_roots!(u8, 2..4; u16, 2..4; u32, 2..4; u64, 2..4; usize, 2..4);
+    check_roots_of_degrees::<i8>(&rt, i8::BITS, 2..7);
+    check_roots_of_degrees::<i16>(&rt, i16::BITS, 2..15);
+    check_roots_of_degrees::<i32>(&rt, i32::BITS, 2..31);
+    check_roots_of_degrees::<i64>(&rt, i64::BITS, 2..63);
+    check_roots_of_degrees::<isize>(&rt, isize::BITS, 2..63);
+    check_roots_of_degrees::<u8>(&rt, u8::BITS, 2..4);
+    check_roots_of_degrees::<u16>(&rt, u16::BITS, 2..4);
+    check_roots_of_degrees::<u32>(&rt, u32::BITS, 2..4);
+    check_roots_of_degrees::<u64>(&rt, u64::BITS, 2..4);
+    check_roots_of_degrees::<usize>(&rt, usize::BITS, 2..4);
 }
 
-/// The same of negative numbers, at odd degrees.
+fn check_roots_of_odd_degrees<T: Roots + Fits + FromPrimitive + Debug>(
+    rt: &impl Abort,
+    bits: u32,
+    degrees: Range<u32>,
+)
+    requires { bits ≤ 64 }
+{
+    for n in degrees {
+        if !n.is_multiple_of(2) {
+            check_roots_below_zero::<T>(rt, bits, n);
+        }
+    }
+}
+
 #[test]
 fn roots_of_negative_numbers(rt: HostRuntime) {
-    macro_rules! check_roots {
-        ($($T:ident, $halves:expr);*) => {$(
-            for half in $halves {
-                let n = 2 * half + 1;
-                for step in 0..=127 {
-                    check_root(&rt, (0 as $T).wrapping_sub(step), n);
-                    check_root(&rt, $T::MIN.wrapping_add(step), n);
-                }
-                check_root(&rt, $T::MIN.wrapping_add(127).wrapping_add(1), n);
-                for shift in 0..$T::BITS {
-                    check_root(&rt, (-1 as $T) << shift, n);
-                    check_root(&rt, $T::MIN >> shift, n);
-                }
-            }
-        )*};
-    }
-    check_roots!(i8, 1..3; i16, 1..7; i32, 1..15; i64, 1..31; isize, 1..31);
+    check_roots_of_odd_degrees::<i8>(&rt, i8::BITS, 3..7);
+    check_roots_of_odd_degrees::<i16>(&rt, i16::BITS, 3..15);
+    check_roots_of_odd_degrees::<i32>(&rt, i32::BITS, 3..31);
+    check_roots_of_odd_degrees::<i64>(&rt, i64::BITS, 3..63);
+    check_roots_of_odd_degrees::<isize>(&rt, isize::BITS, 3..63);
+}
+
+/// The root of degree `n` of the greatest number of `n` bits is 1, and of degree `n - 1` it is 2.
+fn has_bits<T: Roots + Fits + FromPrimitive + Debug>(rt: &impl Abort, n: u32)
+    requires { 1 ≤ n }
+{
+    let greatest = greatest::<T>(rt);
+    has_root::<T>(rt, (greatest, n - 1), 2);
+    has_root::<T>(rt, (greatest, n), 1);
+}
+
+/// The same of a type whose numbers have a sign beside `n` bits.
+fn has_bits_and_sign<T: Roots + Fits + FromPrimitive + Debug>(rt: &impl Abort, n: u32)
+    requires { 1 ≤ n }
+{
+    let greatest = greatest::<T>(rt);
+    has_bits::<T>(rt, n);
+    has_root::<T>(rt, (-greatest - 1, n), -2);
+    has_root::<T>(rt, (-greatest, n), -1);
 }
 
 #[test]
 fn roots_at_the_bit_length(rt: HostRuntime) {
-    macro_rules! check_signed {
-        ($($T:ident),*) => {$(
-            let bits = $T::BITS - 1;
-            assert_eq!(rt; ($T::MAX.nth_root(bits - 1), $T::MAX.nth_root(bits)), (2, 1));
-            assert_eq!(rt; ($T::MIN.nth_root(bits), ($T::MIN + 1).nth_root(bits)), (-2, -1));
-        )*};
-    }
-    macro_rules! check_unsigned {
-        ($($T:ident),*) => {$(
-            let bits = $T::BITS;
-            assert_eq!(rt; ($T::MAX.nth_root(bits - 1), $T::MAX.nth_root(bits)), (2, 1));
-        )*};
-    }
-    check_signed!(i8, i16, i32, i64, isize);
-    check_unsigned!(u8, u16, u32, u64, usize);
+    has_bits_and_sign::<i8>(&rt, 7);
+    has_bits_and_sign::<i16>(&rt, 15);
+    has_bits_and_sign::<i32>(&rt, 31);
+    has_bits_and_sign::<i64>(&rt, 63);
+    has_bits_and_sign::<isize>(&rt, 63);
+    has_bits::<u8>(&rt, 8);
+    has_bits::<u16>(&rt, 16);
+    has_bits::<u32>(&rt, 32);
+    has_bits::<u64>(&rt, 64);
+    has_bits::<usize>(&rt, 64);
 }

@@ -1,5 +1,5 @@
-//! The calls of `Integer` wherever the tests of `Fits` let them be made, and `None` elsewhere. A call
-//! with a free function is made by it.
+//! The calls of `Integer` wherever the tests of `Fits` let them be made, and `None` elsewhere. Those
+//! with a free function are made by it.
 
 use crate::Fits;
 

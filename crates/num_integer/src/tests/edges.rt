@@ -33,6 +33,7 @@ fn edges_of_multiples(rt: HostRuntime) {
     assert!(rt; !127i8.prev_multiple_fits(&-8) && !0i8.prev_multiple_fits(&0));
 }
 
+/// That `gcd` fits for each pair of `u8` is shown where each pair is tried.
 #[test]
 fn edges_of_divisors(rt: HostRuntime) {
     assert!(rt; i8::MIN.gcd_fits(&64) && i8::MIN.gcd_fits(&127));

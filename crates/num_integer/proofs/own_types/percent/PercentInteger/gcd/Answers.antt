@@ -1,0 +1,6 @@
+use Rattle.std.proofs.Common.{arith}
+use Rattle.std.proofs.lemmas.Int.{ints}
+use Rattle.num_integer.proofs.own_types.percent.PercentInteger.gcd.Goals as goal
+
+pub new-requires : goal.new-requires
+new-requires c = omega (arith, ints, c.requires.divisor _ c.gcd.ensures.greatest)
