@@ -228,9 +228,9 @@ fn check_roots_from_zero<T: Roots + Fits + FromPrimitive + Debug>(
     requires { bits ≤ 64 }
 {
     let greatest = greatest::<T>(rt);
-    for step in 0..=127 {
-        check_root::<T>(rt, step, n);
-        check_root::<T>(rt, greatest - step, n);
+    for step in 0..128u8 {
+        check_root::<T>(rt, i128::from(step), n);
+        check_root::<T>(rt, greatest - i128::from(step), n);
     }
     for shift in 0..bits {
         check_root::<T>(rt, (greatest << shift) & greatest, n);
@@ -247,9 +247,9 @@ fn check_roots_below_zero<T: Roots + Fits + FromPrimitive + Debug>(
     requires { bits ≤ 64 }
 {
     let least = -greatest::<T>(rt) - 1;
-    for step in 0..=127 {
-        check_root::<T>(rt, -step, n);
-        check_root::<T>(rt, least + step, n);
+    for step in 0..128u8 {
+        check_root::<T>(rt, -i128::from(step), n);
+        check_root::<T>(rt, least + i128::from(step), n);
     }
     check_root::<T>(rt, least + 128, n);
     for shift in 0..bits {
