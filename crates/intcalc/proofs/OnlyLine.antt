@@ -1,6 +1,7 @@
 -- At most one line and one status stand for a list of words.
 use Rattle.std.specs.Prelude.{◌≡◌, ◌∷◌, ℕ, List, Option, Some, None, map}
 use Rattle.std.proofs.Common.{◌+◌, ◌*◌, [], ap, subst, arith, refl}
+use Rattle.num_integer.specs.Only.{IsOnly}
 use Rattle.intcalc.specs.declared.call.Kind.{Kind}
 use Rattle.intcalc.specs.declared.call.Kind.TheVariants.{I8, U8, I64, U64}
 use Rattle.intcalc.specs.declared.call.Call.{Call}
@@ -67,13 +68,13 @@ only_request words (Some (k, c)) (Some (l, d)) a b = let e = only_asked a b in c
 only_reply : (request : Option (Kind × Call)) (s t : List ℕ) (m n : ℕ) → IsReply request s m → IsReply request t n → (s ≡ t) × (m ≡ n)
 only_reply None s t m n a b = (cc, cc)
 only_reply (Some asked) s t m n a b =
-    let e : a.0 ≡ b.0 = only_outcome (FitsKind asked.0) asked.1 b.0 a.0 b.1 a.1 in
+    let e : a.0 ≡ b.0 = only_outcome (FitsKind asked.0) asked.1 b.0 b.1 a.0 a.1 in
     let text = ap text_of e in
     let status = ap status_of e in
     (cc, cc)
 
-pub only_line : {words : List (List ℕ)} {line other : List ℕ} {m n : ℕ} → IsLine words line m → IsLine words other n → (other ≡ line) × (n ≡ m)
-only_line {words} {line} {other} {m} {n} a b =
+pub only_line : {words : List (List ℕ)} {line : List ℕ} {status : ℕ} → IsLine words line status → IsOnly (λ (other, n). IsLine words other n) (line, status)
+only_line {words} {line} {status} a (other, n) b =
     let same = only_request words a.request b.request a.asked b.asked in
-    let reply = only_reply b.request a.text b.text m n (subst (λ (r : Option (Kind × Call)). IsReply r a.text m) same a.reply) b.reply in
-    (cc, cc)
+    let reply = only_reply b.request a.text b.text status n (subst (λ (r : Option (Kind × Call)). IsReply r a.text status) same a.reply) b.reply in
+    cc

@@ -50,8 +50,3 @@ pub record IsLine (words : List (List ℕ)) (line : List ℕ) (status : ℕ) : T
   pub text : List ℕ
   pub reply : IsReply request text status
   pub ended : line ≡ text ++ codes "\n"
-
--- the one line and the one status that stand for a list of words
-pub record IsOnlyLine (words : List (List ℕ)) (line : List ℕ) (status : ℕ) : Type 0 where
-  pub is : IsLine words line status
-  pub only : (other : List ℕ) (n : ℕ) → IsLine words other n → (other ≡ line) × (n ≡ status)

@@ -1,13 +1,13 @@
 -- What each call answers at each kind, and which refusal comes first.
-use Rattle.std.specs.Prelude.{◌≡◌, ◌≢◌, ◌⊎◌, ◌↔◌, ◌%◌, ◌≤ℤ◌, ℤ, pos, negsuc, unsigned_abs, Bool, IsTrue, List, [], ◌∷◌, ⊤, Result, Ok, Err, FitsSigned}
+use Rattle.std.specs.Prelude.{◌≡◌, ◌≢◌, ◌⊎◌, ◌↔◌, ◌%◌, ◌≤ℤ◌, ℤ, pos, unsigned_abs, Bool, IsTrue, List, [], ◌∷◌, ⊤, Result, Ok, Err, MatchResult, FitsSigned}
 use Rattle.std.specs.Int.{w8, w64, FitsUnsignedBits}
-use Rattle.integer_core.specs.Bezout.{IsBezoutAnswer}
-use Rattle.integer_core.specs.Division.{IsTruncated, IsFloored, IsTruncatedQuotient, IsFlooredQuotient, IsCeiledQuotient, IsFlooredRemainder, IsNextMultiple, IsPreviousMultiple}
-use Rattle.integer_core.specs.Divisors.{Divides, IsGreatestCommonDivisor, IsLeastCommonMultiple}
-use Rattle.integer_core.specs.Range.{EachFits}
-use Rattle.integer_roots.specs.Averages.{IsAverageFloor, IsAverageCeil}
-use Rattle.integer_roots.specs.RootOf.{IsRoot}
+use Rattle.num_integer.specs.Averages.{IsAverageFloor, IsAverageCeil}
+use Rattle.num_integer.specs.Bezout.{HasPair, IsBezoutAnswer}
 use Rattle.num_integer.specs.Coefficient.{coefficient_of}
+use Rattle.num_integer.specs.Division.{IsCeiled, IsFloored, IsMultiple, IsQuotient, IsRemainder, IsTruncated}
+use Rattle.num_integer.specs.Divisors.{Divides, IsGreatestCommonDivisor, IsLeastCommonMultiple}
+use Rattle.num_integer.specs.Range.{EachFits}
+use Rattle.num_integer.specs.RootOf.{IsRoot}
 use Rattle.intcalc.specs.Words.{operands_of}
 use Rattle.intcalc.specs.declared.call.Kind.{Kind}
 use Rattle.intcalc.specs.declared.call.Kind.TheVariants.{I8, U8, I64, U64}
@@ -24,6 +24,11 @@ FitsKind I8 = λ n. FitsSigned w8 n
 FitsKind U8 = FitsUnsignedBits 8
 FitsKind I64 = λ n. FitsSigned w64 n
 FitsKind U64 = FitsUnsignedBits 64
+
+-- a conversion that gives the value of a number where the type has it, and else fails
+abbrev pub Narrows : {T E : Type 0} → (T → ℤ) → (ℤ → Type 0) → (ℤ → Result T E → Type 0) → Type 0
+Narrows {T} {E} value fits gives = (n : ℤ) (r : Result T E) → gives n r
+    → MatchResult r (λ x. (value x ≡ n) × fits n) (λ _. ¬ (fits n))
 
 -- refused so unless the condition holds, and else as the rest says
 abbrev pub Needs : Type 0 → Refusal → (Result Answer Refusal → Type 0) → Result Answer Refusal → Type 0
@@ -64,10 +69,6 @@ NeedsDivisor d = Needs (d ≢ pos 0) ZeroDivisor
 abbrev pub NeedsFitting : (ℤ → Type 0) → (ℤ → Type 0) → (Result Answer Refusal → Type 0) → Result Answer Refusal → Type 0
 NeedsFitting fits P = Needs (EachFits fits P) NotFitting
 
--- a type without negatives, which has no -1, has a pair where one operand divides the other
-abbrev pub HasPairIn : (ℤ → Type 0) → ℤ → ℤ → Type 0
-HasPairIn fits a b = ¬ (fits (negsuc 0)) → Divides a b ⊎ Divides b a
-
 -- the greatest common divisor and the least common multiple
 pub record AreGcdAndLcm (a b g l : ℤ) : Type 0 where
   pub greatest : IsGreatestCommonDivisor a b g
@@ -84,19 +85,19 @@ AreCounts n k = (pos 0 ≤ℤ n) × (pos 0 ≤ℤ k)
 -- the table of calls: what each answers to operands of the type, its refusals in their order
 unfoldable pub Inside : (ℤ → Type 0) → Call → Result Answer Refusal → Type 0
 Inside fits (DivRem n d) =
-    NeedsDivisor d (NeedsFitting fits (IsTruncatedQuotient n d) (AnswersTwo (IsTruncated n d)))
+    NeedsDivisor d (NeedsFitting fits (IsQuotient IsTruncated n d) (AnswersTwo (IsTruncated n d)))
 Inside fits (DivModFloor n d) =
-    NeedsDivisor d (NeedsFitting fits (IsFlooredQuotient n d) (AnswersTwo (IsFloored n d)))
+    NeedsDivisor d (NeedsFitting fits (IsQuotient IsFloored n d) (AnswersTwo (IsFloored n d)))
 Inside fits (DivFloor n d) =
-    NeedsDivisor d (NeedsFitting fits (IsFlooredQuotient n d) (AnswersOne (IsFlooredQuotient n d)))
+    NeedsDivisor d (NeedsFitting fits (IsQuotient IsFloored n d) (AnswersOne (IsQuotient IsFloored n d)))
 Inside fits (DivCeil n d) =
-    NeedsDivisor d (NeedsFitting fits (IsCeiledQuotient n d) (AnswersOne (IsCeiledQuotient n d)))
+    NeedsDivisor d (NeedsFitting fits (IsQuotient IsCeiled n d) (AnswersOne (IsQuotient IsCeiled n d)))
 Inside fits (ModFloor n d) =
-    NeedsDivisor d (AnswersOne (IsFlooredRemainder n d))
+    NeedsDivisor d (AnswersOne (IsRemainder IsFloored n d))
 Inside fits (NextMultipleOf n d) =
-    NeedsDivisor d (NeedsFitting fits (IsNextMultiple n d) (AnswersOne (IsNextMultiple n d)))
+    NeedsDivisor d (NeedsFitting fits (IsMultiple IsCeiled n d) (AnswersOne (IsMultiple IsCeiled n d)))
 Inside fits (PrevMultipleOf n d) =
-    NeedsDivisor d (NeedsFitting fits (IsPreviousMultiple n d) (AnswersOne (IsPreviousMultiple n d)))
+    NeedsDivisor d (NeedsFitting fits (IsMultiple IsFloored n d) (AnswersOne (IsMultiple IsFloored n d)))
 Inside fits (IsMultipleOf n d) =
     AnswersWhether (Divides d n)
 Inside fits (Gcd a b) =
@@ -108,7 +109,7 @@ Inside fits (GcdLcm a b) =
     (NeedsFitting fits (IsLeastCommonMultiple a b) (AnswersTwo (AreGcdAndLcm a b)))
 Inside fits (ExtendedGcd a b) =
     NeedsFitting fits (IsGreatestCommonDivisor a b)
-    (Needs (HasPairIn fits a b) NoPair (AnswersThree (IsBezoutAnswer a b)))
+    (Needs (HasPair fits a b) NoPair (AnswersThree (IsBezoutAnswer a b)))
 Inside fits (AverageFloor a b) =
     AnswersOne (IsAverageFloor a b)
 Inside fits (AverageCeil a b) =
@@ -141,8 +142,3 @@ OutcomeIn fits call = Needs (OperandsFit fits call) OutOfType (Inside fits call)
 -- the outcome of a kind and a call
 abbrev pub Outcome : Kind → Call → Result Answer Refusal → Type 0
 Outcome kind = OutcomeIn (FitsKind kind)
-
--- the one result that stands in the outcome
-pub record IsOnlyOutcome (kind : Kind) (call : Call) (r : Result Answer Refusal) : Type 0 where
-  pub outcome : Outcome kind call r
-  pub only : (other : Result Answer Refusal) → Outcome kind call other → other ≡ r

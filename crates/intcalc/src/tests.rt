@@ -1,8 +1,9 @@
 //! What is printed, and what a sink that fails does.
 
 ghost use Rattle.std.specs.Prelude.{◌≤◌, map};
-ghost use Rattle.intcalc.specs.Line.{IsOnlyLine};
-ghost use Rattle.intcalc.specs.Outcome.{IsOnlyOutcome};
+ghost use Rattle.num_integer.specs.Only.{IsOnly};
+ghost use Rattle.intcalc.specs.Line.{IsLine};
+ghost use Rattle.intcalc.specs.Outcome.{Outcome};
 
 use crate::call::{Answer, Call, Kind, Refusal};
 use crate::line::Line;
@@ -15,14 +16,17 @@ use std::io::{ErrorKind, Write};
 
 /// Exactly one result stands in the outcome of a kind and a call.
 fn only_outcome(kind: Kind, call: Call) -> Result<Answer, Refusal>
-    ensures { IsOnlyOutcome kind call result }
+    ensures outcome { Outcome kind call result }
+    ensures only { IsOnly (Outcome kind call) result }
 {
     evaluate(kind, call)
 }
 
 /// Exactly one line and one status stand for a list of words.
 fn only_line(words: &[&str]) -> (Line, u8)
-    ensures { IsOnlyLine (map (λ w. w.now) words.now) result.0 result.1 }
+    ensures line { IsLine (map (λ w. w.now) words.now) result.0 result.1 }
+    ensures only { IsOnly (λ (line, status). IsLine (map (λ w. w.now) words.now) line status)
+        (result.0, result.1) }
 {
     line_for(words)
 }

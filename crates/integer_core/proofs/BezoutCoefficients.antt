@@ -8,11 +8,11 @@ use Rattle.integer_core.proofs.Whole.{linear, products, expand}
 use Rattle.integer_core.specs.Division.{IsTruncated}
 use Rattle.integer_core.specs.Divisors.{Divides}
 
--- x0 and x1 are one operand's coefficients in the rows of remainder r0 and r1, and m is the other operand: times the other row's
+-- x and previous_x are one operand's coefficients in the rows of these remainders, and m is the other operand: times the other row's
 -- remainder they add up to m in magnitude, and have opposite signs
-pub record IsWeighed (m r0 r1 x0 x1 : ℤ) : Type 0 where
-  pub total : unsigned_abs (x0 *ℤ r1) + unsigned_abs (x1 *ℤ r0) ≡ unsigned_abs m
-  pub opposite : unsigned_abs (x0 *ℤ r1 -ℤ x1 *ℤ r0) ≡ unsigned_abs m
+pub record IsWeighed (m current previous x previous_x : ℤ) : Type 0 where
+  pub total : unsigned_abs (x *ℤ previous) + unsigned_abs (previous_x *ℤ current) ≡ unsigned_abs m
+  pub opposite : unsigned_abs (x *ℤ previous -ℤ previous_x *ℤ current) ≡ unsigned_abs m
 
 pub weighed_first : (a b : ℤ) → IsWeighed b b a (pos 0) (pos 1)
 weighed_first a b = record { total = omega (arith, products, abs_is); opposite = omega (arith, products, abs_is) }
@@ -20,51 +20,34 @@ weighed_first a b = record { total = omega (arith, products, abs_is); opposite =
 pub weighed_second : (a b : ℤ) → IsWeighed a b a (pos 1) (pos 0)
 weighed_second a b = record { total = omega (arith, products, abs_is); opposite = omega (arith, products, abs_is) }
 
--- where v has parts w and z of one sign, and u the other sign, w may pass over to u
-record Passes (u v w z : ℤ) (m : ℕ) : Type 0 where
-  total : unsigned_abs (u -ℤ w) + unsigned_abs z ≡ m
-  opposite : unsigned_abs ((u -ℤ w) -ℤ z) ≡ m
-  more : unsigned_abs w ≤ unsigned_abs (u -ℤ w)
+module _ {m current previous x previous_x q r : ℤ} (weighed : IsWeighed m current previous x previous_x)
+    (row : IsTruncated previous current q r) where
+  -- the coefficient times the previous remainder has two parts
+  parts : x *ℤ previous ≡ (q *ℤ x) *ℤ current +ℤ x *ℤ r
+  parts = rw row.division.equation (simp expand (omega (arith, linear)))
 
-passes : (u v w z : ℤ) (m : ℕ) → v ≡ w +ℤ z → unsigned_abs v ≡ unsigned_abs w + unsigned_abs z
-    → unsigned_abs v + unsigned_abs u ≡ m → unsigned_abs (v -ℤ u) ≡ m → Passes u v w z m
-passes u v w z m e split total opposite = record {
-  total = omega (arith, linear, abs_is);
-  opposite = omega (arith, linear, abs_is);
-  more = omega (arith, linear, abs_is);
-}
+  -- of one sign
+  sizes : unsigned_abs (x *ℤ previous) ≡ unsigned_abs ((q *ℤ x) *ℤ current) + unsigned_abs (x *ℤ r)
+  sizes = simp unsigned_abs-mul (omega (arith, ap (λ (n : ℕ). unsigned_abs x * n) (truncated_size row)))
 
-module _ {m r0 r1 x0 x1 q r : ℤ} (weighed : IsWeighed m r0 r1 x0 x1) (row : IsTruncated r1 r0 q r) where
-  passed : Passes (x1 *ℤ r0) (x0 *ℤ r1) ((q *ℤ x0) *ℤ r0) (x0 *ℤ r) (unsigned_abs m)
-  passed = passes _ _ _ _ _ sum sizes weighed.total weighed.opposite
-    where
-      sum : x0 *ℤ r1 ≡ (q *ℤ x0) *ℤ r0 +ℤ x0 *ℤ r
-      sum = rw row.division.equation (simp expand (omega (arith, linear)))
-
-      sizes : unsigned_abs (x0 *ℤ r1) ≡ unsigned_abs ((q *ℤ x0) *ℤ r0) + unsigned_abs (x0 *ℤ r)
-      sizes =
-          rw (unsigned_abs-mul x0 r1, unsigned_abs-mul (q *ℤ x0) r0, unsigned_abs-mul q x0, unsigned_abs-mul x0 r)
-          (omega (arith, ap (λ (n : ℕ). unsigned_abs x0 * n) (truncated_size row)))
-
-  next_is : (x1 -ℤ q *ℤ x0) *ℤ r0 ≡ x1 *ℤ r0 -ℤ (q *ℤ x0) *ℤ r0
-  next_is = simp expand (omega (arith, linear))
-
-  pub weighed_turn : IsWeighed m r r0 (x1 -ℤ q *ℤ x0) x0
-  weighed_turn = record { total = rw next_is passed.total; opposite = rw next_is passed.opposite }
+  pub weighed_turn : IsWeighed m r current (previous_x -ℤ q *ℤ x) x
+  weighed_turn =
+      let is : (previous_x -ℤ q *ℤ x) *ℤ current ≡ previous_x *ℤ current -ℤ (q *ℤ x) *ℤ current = simp expand (omega (arith, linear)) in
+      record {
+        total = rw is (omega (arith, linear, abs_is, parts, sizes, weighed.total, weighed.opposite));
+        opposite = rw is (omega (arith, linear, abs_is, parts, weighed.opposite));
+      }
 
   -- a turn's coefficient, and the product in it, are at most half of m
-  pub next_half : 2 ≤ unsigned_abs r0 → 2 * unsigned_abs (x1 -ℤ q *ℤ x0) ≤ unsigned_abs m
-  next_half two =
-      let x : ℤ = x1 -ℤ q *ℤ x0 in
-      omega (arith, weighed_turn.total, unsigned_abs-mul x r0, mul-le-mul_left (unsigned_abs x) two)
+  pub halves : 2 ≤ unsigned_abs current
+      → (2 * unsigned_abs (q *ℤ x) ≤ unsigned_abs m) × (2 * unsigned_abs (previous_x -ℤ q *ℤ x) ≤ unsigned_abs m)
+  halves two = (half (q *ℤ x) (omega (arith, sizes, weighed.total)), half (previous_x -ℤ q *ℤ x) (omega (arith, weighed_turn.total)))
+    where
+      half : (z : ℤ) → unsigned_abs (z *ℤ current) ≤ unsigned_abs m → 2 * unsigned_abs z ≤ unsigned_abs m
+      half z small = omega (arith, unsigned_abs-mul z current, mul-le-mul_left (unsigned_abs z) two)
 
-  pub product_half : 2 ≤ unsigned_abs r0 → 2 * unsigned_abs (q *ℤ x0) ≤ unsigned_abs m
-  product_half two =
-      let p : ℤ = q *ℤ x0 in
-      omega (arith, passed.total, passed.more, unsigned_abs-mul p r0, mul-le-mul_left (unsigned_abs p) two)
-
--- at the end, where r0 divides r1, so is the coefficient times r0
-pub last_half : {m r0 r1 x0 x1 : ℤ} → IsWeighed m r0 r1 x0 x1 → Divides r0 r1 → unsigned_abs r0 < unsigned_abs r1
-    → 2 * unsigned_abs x0 * unsigned_abs r0 ≤ unsigned_abs m
-last_half {r1 = r1} {x0 = x0} h ends less =
-    omega (arith, h.total, unsigned_abs-mul x0 r1, mul-le-mul_left (unsigned_abs x0) (twice ends less))
+-- at the end, where the current remainder divides the previous one, so is the coefficient times it
+pub last_half : {m current previous x previous_x : ℤ} → IsWeighed m current previous x previous_x → Divides current previous
+    → unsigned_abs current < unsigned_abs previous → 2 * unsigned_abs x * unsigned_abs current ≤ unsigned_abs m
+last_half {previous = previous} {x = x} h ends less =
+    omega (arith, h.total, unsigned_abs-mul x previous, mul-le-mul_left (unsigned_abs x) (twice ends less))

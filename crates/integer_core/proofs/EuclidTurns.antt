@@ -1,51 +1,54 @@
--- A truncated division in magnitudes, and what it says where the divisor does not divide the number.
-use Rattle.std.specs.Prelude.{◌≡◌, ◌≢◌, ◌⊎◌, ◌<◌, ◌≤◌, ◌+◌, ◌*◌, ◌+ℤ◌, ◌-ℤ◌, ◌*ℤ◌, ℤ, ℕ, pos, negsuc, zero, suc, unsigned_abs, int_rem}
-use Rattle.std.proofs.Common.{arith, refl, inl, inr, ◌∙◌, ap}
+-- Turns of Euclid's loop: what a division says of magnitudes, and that each state has one turn at most.
+use Rattle.std.specs.Prelude.{◌≡◌, ◌≢◌, ◌⊎◌, ◌<◌, ◌≤◌, ◌+◌, ◌*◌, ◌-ℤ◌, ◌*ℤ◌, ℤ, ℕ, pos, zero, suc, unsigned_abs, int_rem}
+use Rattle.std.proofs.Common.{arith, inl, inr, sym, ◌∙◌, ap}
+use Rattle.std.proofs.lemmas.Bool.{cases_lt}
 use Rattle.std.proofs.lemmas.Int.{ints, unsigned_abs-mul}
+use Rattle.std.proofs.lemmas.Nat.Gcd.{le_of_dvd}
 use borrow.Author.Differences.{abs_is}
-use Rattle.integer_core.proofs.Divisors.{Divides-trans, magnitude_divides, divides_magnitude, exact_from_divides, divides_from_exact}
-use Rattle.integer_core.proofs.Quotients.{zero_or_not, truncated_is}
+use Rattle.integer_core.proofs.Divisibility.{Divides-trans, magnitude_divides, divides_magnitude, divides_from_exact, exact_from_divides, to_natural}
+use Rattle.integer_core.proofs.Quotients.{zero_or_not, only_truncated, truncated_is}
+use Rattle.integer_core.proofs.Runs.{only_turns}
 use Rattle.integer_core.proofs.Whole.{linear, products}
-use Rattle.integer_core.specs.Division.{IsTruncated, HaveSameSign}
+use Rattle.integer_core.specs.Bezout.{AreEuclidTurns, IsEuclidTurn, Remainders}
+use Rattle.integer_core.specs.Division.{IsTruncated}
 use Rattle.integer_core.specs.Divisors.{Divides, IsGreatestCommonDivisor}
+use Rattle.integer_core.specs.Only.{IsOnly}
 
--- a multiple is 0, or at least as large
-at_least : (k d p : ℕ) → p ≡ k * d → (p ≡ 0) ⊎ (d ≤ p)
-at_least zero d p e = inl (omega arith)
-at_least (suc k) d p e = inr (omega arith)
+-- a multiple is 0, or the number itself, or at least twice as large
+pub multiple_size : (k d : ℕ) → (k * d ≡ 0) ⊎ ((k * d ≡ d) ⊎ (2 * d ≤ k * d))
+multiple_size zero d = inl (omega arith)
+multiple_size (suc zero) d = inr (inl (omega arith))
+multiple_size (suc (suc k)) d = inr (inr (omega arith))
 
 -- the multiple and the remainder have one sign, so magnitudes divide alike
 pub truncated_size : {n d q r : ℤ} → IsTruncated n d q r → unsigned_abs n ≡ unsigned_abs q * unsigned_abs d + unsigned_abs r
 truncated_size {n} {d} {q} {r} h =
-    let size = unsigned_abs-mul q d in
-    let most = at_least (unsigned_abs q) (unsigned_abs d) (unsigned_abs (q *ℤ d)) size in
-    parts (q *ℤ d) h.division.equation h.division.small h.sign most ∙ ap (λ (k : ℕ). k + unsigned_abs r) size
-  where
-    parts : (p : ℤ) → n ≡ p +ℤ r → unsigned_abs r < unsigned_abs d → (r ≡ pos 0) ⊎ HaveSameSign r n
-        → (unsigned_abs p ≡ 0) ⊎ (unsigned_abs d ≤ unsigned_abs p) → unsigned_abs n ≡ unsigned_abs p + unsigned_abs r
-    parts p e small sign most = omega (arith, linear, abs_is)
+    let e = h.division.equation in
+    let small = h.division.small in
+    omega (arith, linear, abs_is, h.sign, unsigned_abs-mul q d, multiple_size (unsigned_abs q) (unsigned_abs d))
 
 pub truncated_rest : {n d q r : ℤ} → IsTruncated n d q r → r ≡ n -ℤ q *ℤ d
 truncated_rest h = let e = h.division.equation in omega (arith, linear)
 
--- where d does not divide n, something is left, and d is not 1 or -1
+-- where d does not divide n, something is left
 pub inexact : {n d q r : ℤ} → IsTruncated n d q r → ¬ (Divides d n) → r ≢ pos 0
-inexact h none exact = none (divides_from_exact h.division exact)
+inexact h goes_on exact = goes_on (divides_from_exact h.division exact)
 
+pub one_divides : (n : ℤ) → Divides (pos 1) n
+one_divides n = record { factor = n; product = omega (arith, products) }
+
+-- where d does not divide n, it is not 1 or -1
 pub not_one : {n d : ℤ} → ¬ (Divides d n) → d ≢ pos 0 → 2 ≤ unsigned_abs d
-not_one {n} {d} none some = cases d none some
-  where
-    cases : (d : ℤ) → ¬ (Divides d n) → d ≢ pos 0 → 2 ≤ unsigned_abs d
-    cases (pos zero) none some = absurd (some refl)
-    cases (pos (suc zero)) none some = absurd (none (record { factor = n; product = omega (arith, products) }))
-    cases (pos (suc (suc d))) none some = omega arith
-    cases (negsuc zero) none some = absurd (none (record { factor = n *ℤ negsuc 0; product = omega (arith, products) }))
-    cases (negsuc (suc d)) none some = omega arith
+not_one {n} {d} goes_on nonzero = elim (cases_lt (unsigned_abs d) 2) [
+  | inl less ↦
+      let one : unsigned_abs d ≡ 1 = omega (arith, linear, abs_is) in
+      absurd (goes_on (Divides-trans (rw one at (divides_magnitude d)) (one_divides n)))
+  | inr more ↦ more
+]
 
--- a number but 0 divides another, or not
 pub divides_or_not : (d n : ℤ) → d ≢ pos 0 → Divides d n ⊎ (¬ (Divides d n))
-divides_or_not d n some =
-    let division = (truncated_is n d some).division in
+divides_or_not d n nonzero =
+    let division = (truncated_is n d nonzero).division in
     elim (zero_or_not (int_rem n d)) [
       | inl exact ↦ inl (divides_from_exact division exact)
       | inr rest ↦ inr (λ divides. rest (exact_from_divides division divides))
@@ -53,21 +56,13 @@ divides_or_not d n some =
 
 -- a divisor is at most as large
 pub divisor_size : {d n : ℤ} → Divides d n → n ≢ pos 0 → unsigned_abs d ≤ unsigned_abs n
-divisor_size {d} {n} h some =
-    let size = ap unsigned_abs h.product ∙ unsigned_abs-mul d h.factor in
-    elim (at_least (unsigned_abs h.factor) (unsigned_abs d) (unsigned_abs n) (omega arith)) [
-      | inl none ↦ absurd (some (omega (arith, linear, abs_is)))
-      | inr most ↦ most
-    ]
+divisor_size h nonzero = le_of_dvd (omega (arith, linear, abs_is)) (to_natural h)
 
 -- a larger multiple is at least twice as large
 pub twice : {d n : ℤ} → Divides d n → unsigned_abs d < unsigned_abs n → 2 * unsigned_abs d ≤ unsigned_abs n
-twice {d} {n} h less = multiple (unsigned_abs h.factor) (unsigned_abs d) (unsigned_abs n) (ap unsigned_abs h.product ∙ unsigned_abs-mul d h.factor) less
-  where
-    multiple : (k d n : ℕ) → n ≡ d * k → d < n → 2 * d ≤ n
-    multiple zero d n e less = absurd (omega arith)
-    multiple (suc zero) d n e less = absurd (omega arith)
-    multiple (suc (suc k)) d n e less = omega arith
+twice {d} h less =
+    let k = h.factor in
+    omega (arith, ap unsigned_abs h.product, unsigned_abs-mul d k, multiple_size (unsigned_abs k) (unsigned_abs d))
 
 -- a number and its divisor have the magnitude of the divisor
 pub gcd-divisor : {d n : ℤ} → Divides d n → IsGreatestCommonDivisor n d (pos (unsigned_abs d))
@@ -77,3 +72,19 @@ gcd-divisor {d} h = record {
   divides_right = magnitude_divides d;
   greatest = λ c left right. Divides-trans right (divides_magnitude d);
 }
+
+-- ---- the turns are the only ones
+
+-- a state goes on by its one truncated quotient
+only_euclid_turn : (s t : Remainders) → IsEuclidTurn s t → IsOnly (IsEuclidTurn s) t
+only_euclid_turn s t h u i =
+    let same = (only_truncated i.truncated.division h.truncated.division).0 in
+    let current : u.current ≡ t.current = i.current ∙ ap (λ (q : ℤ). s.previous -ℤ q *ℤ s.current) same ∙ sym h.current in
+    let previous : u.previous ≡ t.previous = i.previous ∙ sym h.previous in
+    λ k. record { current = current k; previous = previous k }
+
+pub only_euclid_turns : {a b : ℤ} {n : ℕ} → AreEuclidTurns a b n → IsOnly (AreEuclidTurns a b) n
+only_euclid_turns {b = b} h m i = elim (zero_or_not b) [
+  | inl none ↦ i.of_zero none ∙ sym (h.of_zero none)
+  | inr nonzero ↦ only_turns only_euclid_turn (λ s t ends turn. turn.goes_on ends) (h.of_nonzero nonzero) m (i.of_nonzero nonzero)
+]

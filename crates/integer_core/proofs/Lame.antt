@@ -1,47 +1,63 @@
 -- Lamé's theorem: Euclid's loop makes few turns. By recursion on the run, from its last state.
-use Rattle.std.specs.Prelude.{◌≡◌, ◌≢◌, ◌<◌, ◌≤◌, ◌+◌, ◌*◌, ℤ, ℕ, pos, suc, zero, List, [], ◌∷◌, length, unsigned_abs}
-use Rattle.std.proofs.Common.{arith, subst}
+use Rattle.std.specs.Prelude.{◌≡◌, ◌≢◌, ◌<◌, ◌≤◌, ◌+◌, ◌*◌, ◌^◌, ℤ, ℕ, pos, suc, zero, List, [], ◌∷◌, length, unsigned_abs}
+use Rattle.std.proofs.Common.{arith, inl, inr, subst}
+use Rattle.std.proofs.Math.Nat.{pow-succ'}
+use Rattle.std.proofs.lemmas.Bool.{cases_lt}
 use Rattle.integer_core.specs.Bezout.{Remainders, IsEuclidTurn, EuclidEnds}
 use Rattle.integer_core.specs.Divisors.{Divides}
 use Rattle.integer_core.specs.Fibonacci.{fibonacci}
 use Rattle.integer_core.specs.Runs.{IsRun, Makes}
-use Rattle.integer_core.proofs.EuclidTurns.{truncated_size, divisor_size, twice, inexact}
-use Rattle.integer_core.proofs.Divisors.{divides_remainder}
+use Rattle.integer_core.proofs.EuclidTurns.{truncated_size, divisor_size, twice, inexact, multiple_size, one_divides}
+use Rattle.integer_core.proofs.Divisibility.{divides_remainder}
 use Rattle.integer_core.proofs.Whole.{linear}
 
 -- what n turns and a common divisor g say of the remainders that they begin with
 record IsLarge (s : Remainders) (n g : ℕ) : Type 0 where
-  lower : fibonacci (suc (suc n)) * g ≤ unsigned_abs s.r0
-  upper : unsigned_abs s.r0 < unsigned_abs s.r1 → fibonacci (suc (suc (suc n))) * g ≤ unsigned_abs s.r1
+  lower : fibonacci (suc (suc n)) * g ≤ unsigned_abs s.current
+  upper : unsigned_abs s.current < unsigned_abs s.previous → fibonacci (suc (suc (suc n))) * g ≤ unsigned_abs s.previous
 
--- one turn before: r1 is at least r0 and what a division by it leaves
-turn_before : (r0 r1 q rest f k g : ℕ) → r1 ≡ q * r0 + rest → rest < r0 → r0 < r1 → f * g ≤ rest → k * g ≤ r0 → (k + f) * g ≤ r1
-turn_before r0 r1 zero rest f k g e small less h l = absurd (omega arith)
-turn_before r0 r1 (suc q) rest f k g e small less h l = omega arith
-
-large : (rest : List Remainders) (s : Remainders) (g : ℕ) → s.r0 ≢ pos 0 → IsRun IsEuclidTurn EuclidEnds (s ∷ rest) → Divides (pos g) s.r0 → Divides (pos g) s.r1 → IsLarge s (length rest) g
+large : (rest : List Remainders) (s : Remainders) (g : ℕ) → s.current ≢ pos 0 → IsRun IsEuclidTurn EuclidEnds (s ∷ rest)
+    → Divides (pos g) s.current → Divides (pos g) s.previous → IsLarge s (length rest) g
 large [] s g nonzero ends left right =
-    let below : g ≤ unsigned_abs s.r0 = divisor_size left nonzero in
+    let below : g ≤ unsigned_abs s.current = divisor_size left nonzero in
     record { lower = omega arith; upper = λ less. omega (arith, twice ends less) }
 large (t ∷ rest) s g nonzero run left right =
     let turn = run.0 in
-    let row = turn.truncated.truncated in
-    let e = row.division.equation in
-    let is : t.r0 ≡ turn.truncated.remainder = (let f = turn.r0 in omega (arith, linear)) in
-    let some : t.r0 ≢ pos 0 = rw is (inexact row turn.goes_on) in
-    let small : unsigned_abs t.r0 < unsigned_abs s.r0 = rw is row.division.small in
-    let size : unsigned_abs s.r1 ≡ unsigned_abs turn.quotient * unsigned_abs s.r0 + unsigned_abs t.r0 = rw is (truncated_size row) in
-    let after = large rest t g some run.1 (rw is (divides_remainder row.division right left)) (rw turn.r1 left) in
-    let lower = after.upper (rw turn.r1 small) in
-    let k : fibonacci (suc (suc (suc (length rest)))) * g ≤ unsigned_abs s.r0 = rw turn.r1 at lower in
+    let row = turn.truncated.division in
+    let is : t.current ≡ turn.truncated.remainder = let e = row.division.equation in let f = turn.current in omega (arith, linear) in
+    let small : unsigned_abs t.current < unsigned_abs s.current = rw is row.division.small in
+    let after = large rest t g (rw is (inexact row turn.goes_on)) run.1 (rw is (divides_remainder row.division right left)) (rw turn.previous left) in
+    let lower = rw turn.previous at (after.upper (rw turn.previous small)) in
     record {
-      lower = k;
-      upper = λ less. turn_before (unsigned_abs s.r0) (unsigned_abs s.r1) (unsigned_abs turn.quotient) (unsigned_abs t.r0) (fibonacci (suc (suc (length rest)))) (fibonacci (suc (suc (suc (length rest))))) g size small less after.lower k;
+      lower = lower;
+      upper = λ less.
+          let sum : (fibonacci (suc (suc (suc (length rest)))) + fibonacci (suc (suc (length rest)))) * g ≤ unsigned_abs s.previous =
+          omega (arith, lower, after.lower, rw (← is) at (truncated_size row), multiple_size (unsigned_abs turn.quotient) (unsigned_abs s.current)) in
+          sum;
     }
 
 -- n turns from (b, a) take a b of at least F(n + 2) times the gcd
-pub lame : {a b : ℤ} {n : ℕ} (g : ℕ) → b ≢ pos 0 → Makes IsEuclidTurn EuclidEnds (record { r0 = b; r1 = a }) n → Divides (pos g) a → Divides (pos g) b → fibonacci (n + 2) * g ≤ unsigned_abs b
-lame {a} {b} {n} g nonzero makes left right =
-    let all = (large makes.rest (record { r0 = b; r1 = a }) g nonzero makes.run right left).lower in
-    let count : suc (suc (length makes.rest)) ≡ n + 2 = (let e = makes.turns in omega arith) in
-    subst (λ (k : ℕ). fibonacci k * g ≤ unsigned_abs b) count all
+pub lame : {a b : ℤ} {n : ℕ} (g : ℕ) → b ≢ pos 0 → Makes IsEuclidTurn EuclidEnds (record { current = b; previous = a }) n
+    → Divides (pos g) a → Divides (pos g) b → fibonacci (suc (suc n)) * g ≤ unsigned_abs b
+lame {b = b} g nonzero makes left right =
+    subst (λ (n : ℕ). fibonacci (suc (suc n)) * g ≤ unsigned_abs b) makes.turns (large makes.rest _ g nonzero makes.run right left).lower
+
+-- ---- so the turns are fewer than twice the bits of b
+
+fibonacci_positive : (n : ℕ) → 1 ≤ fibonacci (suc n)
+fibonacci_positive zero = omega arith
+fibonacci_positive (suc n) = omega (arith, fibonacci_positive n)
+
+-- a Fibonacci number is at least twice the one two before it
+fibonacci_doubled : (k n : ℕ) → k + k ≤ n → 2 ^ k ≤ fibonacci (suc (suc n))
+fibonacci_doubled zero n h = fibonacci_positive (suc n)
+fibonacci_doubled (suc k) zero h = absurd (omega arith)
+fibonacci_doubled (suc k) (suc zero) h = absurd (omega arith)
+fibonacci_doubled (suc k) (suc (suc n)) h = rw pow-succ' (omega (arith, fibonacci_doubled k n (omega arith)))
+
+pub few_turns : {a b : ℤ} {n : ℕ} (k : ℕ) → b ≢ pos 0 → Makes IsEuclidTurn EuclidEnds (record { current = b; previous = a }) n
+    → unsigned_abs b < 2 ^ k → n < k + k
+few_turns {n = n} k nonzero makes small = elim (cases_lt n (k + k)) [
+  | inl less ↦ less
+  | inr more ↦ absurd (omega (arith, fibonacci_doubled k n more, lame 1 nonzero makes (one_divides _) (one_divides _)))
+]

@@ -1,14 +1,16 @@
 pub mod Whole
 pub mod Signs
+pub mod Ranges
 pub mod Quotients
 pub mod Multiples
-pub mod Divisors
+pub mod Divisibility
 pub mod CommonDivisors
 pub mod Runs
 pub mod EuclidTurns
 pub mod Lame
 pub mod BezoutCoefficients
 pub mod Rows
+pub mod GcdDomain
 pub mod RowRanges
 pub mod SmallPairs
 pub mod BezoutAnswers

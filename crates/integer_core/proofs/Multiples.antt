@@ -1,39 +1,38 @@
 -- Multiples next to a number.
-use Rattle.std.specs.Prelude.{◌≡◌, ◌≢◌, ◌+ℤ◌, ◌-ℤ◌, ℤ, pos}
+use Rattle.std.specs.Prelude.{◌≡◌, ◌≢◌, ◌↔◌, ◌+ℤ◌, ◌-ℤ◌, ℤ, pos, neg_ℤ}
 use Rattle.std.proofs.Common.{arith}
-use borrow.Author.Differences.{abs_is}
-use Rattle.integer_core.proofs.Whole.{linear, products, expand}
-use Rattle.integer_core.proofs.Quotients.{ceiled_above, ceiled_exact}
-use Rattle.integer_core.specs.Division.{IsFloored, IsNextMultiple, IsPreviousMultiple}
+use Rattle.integer_core.proofs.Quotients.{ceiled_above, ceiled_exact, ceiled_by_negation, floored_by_negation}
+use Rattle.integer_core.proofs.Ranges.{within_fits}
+use Rattle.integer_core.proofs.Whole.{linear, sizes, products, expand}
+use Rattle.integer_core.specs.Division.{IsFloored, IsMultiple, IsCeiled}
+use Rattle.integer_core.specs.Only.{IsOnly}
 use Rattle.integer_core.specs.Range.{IsRange}
 
 -- what is between a floored remainder and its divisor fits
-pub gap_fits : {fits : ℤ → Type 0} {low high : ℤ} {n d q r : ℤ} → IsRange fits low high → fits d → IsFloored n d q r → fits (d -ℤ r)
-gap_fits {fits} {low} {high} {n} {d} {q} {r} range d_fits h =
-    let d_in = (range.between d).0 d_fits in
-    let some = range.some in
-    let small = h.division.small in
-    let sign = h.sign in
-    let ends = range.low_end in
-    (range.between (d -ℤ r)).1 (omega (arith, linear, abs_is), omega (arith, linear, abs_is))
+pub gap_fits : {fits : ℤ → Type 0} {low high n d q r : ℤ} → IsRange fits low high → fits d → IsFloored n d q r → fits (d -ℤ r)
+gap_fits range d_fits h = within_fits range d_fits (grind (arith, sizes))
 
-pub next_above : {n d q r : ℤ} → IsFloored n d q r → r ≢ pos 0 → IsNextMultiple n d (n +ℤ (d -ℤ r))
-next_above {n} {d} {q} {r} h inexact = record {
+pub next_above : {n d q r : ℤ} → IsFloored n d q r → r ≢ pos 0 → IsMultiple IsCeiled n d (n +ℤ (d -ℤ r))
+next_above {q = q} h inexact = record {
   quotient = q +ℤ pos 1;
-  ceiled = record { remainder = r -ℤ d; ceiled = ceiled_above h inexact };
+  is = record { remainder = _; division = ceiled_above h inexact };
   product = rw h.division.equation (simp expand (omega (arith, products)));
 }
 
-pub next_exact : {n d q r : ℤ} → IsFloored n d q r → r ≡ pos 0 → IsNextMultiple n d n
-next_exact {n} {d} {q} {r} h exact = record {
-  quotient = q;
-  ceiled = record { remainder = r; ceiled = ceiled_exact h exact };
-  product = let e = h.division.equation in omega (arith, linear);
-}
+pub next_exact : {n d q r : ℤ} → IsFloored n d q r → r ≡ pos 0 → IsMultiple IsCeiled n d n
+next_exact h exact = record { quotient = _; is = record { remainder = _; division = ceiled_exact h exact }; product = omega (arith, linear) }
 
-pub previous : {n d q r : ℤ} → IsFloored n d q r → IsPreviousMultiple n d (n -ℤ r)
-previous {n} {d} {q} {r} h = record {
-  quotient = q;
-  floored = record { remainder = r; floored = h };
-  product = let e = h.division.equation in omega (arith, linear);
-}
+pub previous : {n d q r : ℤ} → IsFloored n d q r → IsMultiple IsFloored n d (n -ℤ r)
+previous h = record { quotient = _; is = record { remainder = _; division = h }; product = omega (arith, linear) }
+
+-- a number has one multiple of a kind whose quotients are the only ones
+pub only_multiple : {Kind : ℤ → ℤ → ℤ → ℤ → Type 0} {n d m : ℤ} → ((q r p s : ℤ) → Kind n d q r → Kind n d p s → (q ≡ p) × (r ≡ s))
+    → IsMultiple Kind n d m → IsOnly (IsMultiple Kind n d) m
+only_multiple only h k g = let same = only _ _ _ _ g.is.division h.is.division in cc
+
+-- the next multiple of a negated divisor is the previous one of the divisor
+pub negation_turns_multiples : (n d m : ℤ) → IsMultiple IsCeiled n (neg_ℤ d) m ↔ IsMultiple IsFloored n d m
+negation_turns_multiples n d m = (
+  λ h. record { quotient = neg_ℤ h.quotient; is = record { remainder = _; division = floored_by_negation h.is.division }; product = grind (arith, products) },
+  λ h. record { quotient = neg_ℤ h.quotient; is = record { remainder = _; division = ceiled_by_negation h.is.division }; product = grind (arith, products) },
+)

@@ -1,43 +1,45 @@
--- The answer of `extended_gcd` is the only one.
-use Rattle.std.specs.Prelude.{◌≡◌, ◌≢◌, ℤ, pos}
-use Rattle.std.proofs.Common.{inl, inr, sym, ◌∙◌, subst}
-use Rattle.integer_core.proofs.CommonDivisors.{only_gcd, gcd-some}
-use Rattle.integer_core.proofs.Divisors.{Divides-zero}
+-- A pair of numbers has exactly one Bezout answer.
+use Rattle.std.specs.Prelude.{◌≡◌, ◌⊎◌, ℤ}
+use Rattle.std.proofs.Common.{inl, inr}
+use Rattle.integer_core.proofs.BezoutAnswers.{answer_for_zero, answer_of_loop, only_answer}
+use Rattle.integer_core.proofs.CommonDivisors.{only_gcd}
+use Rattle.integer_core.proofs.Divisibility.{Divides-zero}
 use Rattle.integer_core.proofs.EuclidTurns.{divides_or_not}
 use Rattle.integer_core.proofs.Quotients.{zero_or_not}
-use Rattle.integer_core.proofs.SmallPairs.{only_small}
-use Rattle.integer_core.specs.Bezout.{IsBezoutAnswer, IsSmallPair, IsSecondAlone, IsFirstAlone, NeedsBoth}
-use Rattle.integer_core.specs.Divisors.{Divides}
+use Rattle.integer_core.proofs.Rows.{rows_first, last_rows, last_gcd, last_at_once, last_after_turns}
+use Rattle.integer_core.specs.Bezout.{IsBezoutAnswer, IsSecondAlone, IsFirstAlone, NeedsBoth}
+use Rattle.integer_core.specs.Only.{IsOnly}
 
-pub only_bezout_answer : {a b g x y h z w : ℤ} → IsBezoutAnswer a b g x y → IsBezoutAnswer a b h z w → (g ≡ h) × (x ≡ z) × (y ≡ w)
-only_bezout_answer {a} {b} {g} {x} {y} {h} {z} {w} p q = (same, pair.0, pair.1)
-  where
-    same : g ≡ h
-    same = only_gcd p.greatest q.greatest
+pub bezout_answer_exists : (a b : ℤ) → (g x y : ℤ) × IsBezoutAnswer a b g x y
+bezout_answer_exists a b = elim (zero_or_not b) [
+  | inl none ↦ (_, _, _, answer_for_zero none)
+  | inr nonzero ↦
+      let last = (last_rows (rows_first a b nonzero)).0 in
+      let rows = last.rows in
+      (_, _, _, answer_of_loop nonzero (last_gcd rows last.ends) (last_at_once rows) (last_after_turns rows last.ends))
+]
 
-    by_first : ¬ (IsSecondAlone a b) → IsFirstAlone a b → (x ≡ z) × (y ≡ w)
-    by_first not first =
-        let left = p.first_alone not first in
-        let right = q.first_alone not first in
-        (left.0 ∙ sym right.0, left.1 ∙ sym right.1)
+-- a pair is in one of the three cases of an answer
+three_cases : (a b : ℤ) → IsSecondAlone a b ⊎ (((¬ (IsSecondAlone a b)) × IsFirstAlone a b) ⊎ NeedsBoth a b)
+three_cases a b = elim (zero_or_not b) [
+  | inl none ↦ inr (inl (λ second. second.nonzero none, inl none))
+  | inr nonzero ↦ elim (divides_or_not b a nonzero) [
+    | inl divides ↦ inl (record { nonzero = nonzero; divides = divides })
+    | inr not_second ↦ elim (divides_or_not a b (λ none. not_second (rw none (Divides-zero b)))) [
+      | inl divides ↦ inr (inl (λ second. not_second second.divides, inr divides))
+      | inr not_first ↦ inr (inr (record {
+        not_second = λ second. not_second second.divides;
+        not_first = elim [ inl none ↦ nonzero none | inr divides ↦ not_first divides ];
+      }))
+    ]
+  ]
+]
 
-    by_both : b ≢ pos 0 → NeedsBoth a b → (x ≡ z) × (y ≡ w)
-    by_both some needs =
-        let small : IsSmallPair a b h x y = subst (λ (t : ℤ). IsSmallPair a b t x y) same (p.both needs) in
-        only_small some (gcd-some q.greatest some) (q.both needs) x y small
-
-    pair : (x ≡ z) × (y ≡ w)
-    pair = elim (zero_or_not b) [
-      | inl none ↦ by_first (λ second. second.nonzero none) (inl none)
-      | inr some ↦ elim (divides_or_not b a some) [
-        | inl divides ↦
-            let left = p.second_alone (record { nonzero = some; divides = divides }) in
-            let right = q.second_alone (record { nonzero = some; divides = divides }) in
-            (left.0 ∙ sym right.0, left.1 ∙ sym right.1)
-        | inr not ↦ elim (divides_or_not a b (λ none. not (rw none (Divides-zero b)))) [
-          | inl divides ↦ by_first (λ second. not second.divides) (inr divides)
-          | inr neither ↦
-              by_both some (record { not_second = λ second. not second.divides; not_first = elim [ inl none ↦ some none | inr divides ↦ neither divides ] })
-        ]
-      ]
+pub only_bezout_answer : {a b g x y : ℤ} → IsBezoutAnswer a b g x y → IsOnly (λ (h, z, w). IsBezoutAnswer a b h z w) (g, x, y)
+only_bezout_answer {a} {b} {g} {x} {y} p (h, z, w) q =
+    let same : h ≡ g = only_gcd q.greatest p.greatest in
+    elim (three_cases a b) [
+      | inl second ↦ let left = p.second_alone second in let right = q.second_alone second in cc
+      | inr (inl first) ↦ let left = p.first_alone first.0 first.1 in let right = q.first_alone first.0 first.1 in cc
+      | inr (inr needs) ↦ let equal = only_answer p needs (z, w) (rw same at (q.both needs)) in λ i. (same i, (equal i).0, (equal i).1)
     ]

@@ -1,50 +1,56 @@
 -- The rows of the extended Euclidean algorithm stay in the range of their type, and are few.
-use Rattle.std.specs.Prelude.{◌≡◌, ◌≢◌, ◌<◌, ◌≤◌, ◌+◌, ◌*◌, ◌^◌, ◌-ℤ◌, ◌*ℤ◌, ℤ, ℕ, pos, negsuc, zero, suc, unsigned_abs}
-use Rattle.std.proofs.Common.{arith, refl, inl, inr, ◌∙◌, ap, mul-le-mul, mul-le-mul_left, mul-pos}
-use Rattle.std.proofs.Math.IntN.{zero-*ℤ}
-use Rattle.std.proofs.Math.Nat.{pow-succ', pow-le-pow_right}
-use Rattle.std.proofs.lemmas.Bool.{cases_lt}
-use Rattle.std.proofs.lemmas.Nat.{pow-add}
+use Rattle.std.specs.Prelude.{◌≡◌, ◌≢◌, ◌⊎◌, ◌<◌, ◌≤◌, ◌+◌, ◌*◌, ◌^◌, ◌≤ℤ◌, ◌-ℤ◌, ◌*ℤ◌, ℤ, ℕ, pos, negsuc, unsigned_abs}
+use Rattle.std.proofs.Common.{arith, inl, inr, ◌∙◌}
+use Rattle.std.proofs.Math.IntN.{zero-*ℤ, +ℤ_idr}
+use Rattle.std.proofs.lemmas.Int.{unsigned_abs-mul}
 use borrow.Author.Differences.{abs_is}
-use Rattle.integer_core.proofs.BezoutCoefficients.{IsWeighed, next_half, product_half}
-use Rattle.integer_core.proofs.Divisors.{Divides-zero}
-use Rattle.integer_core.proofs.EuclidTurns.{truncated_size, inexact, not_one, divisor_size}
-use Rattle.integer_core.proofs.Quotients.{zero_or_not}
-use Rattle.integer_core.proofs.Rows.{Rows}
+use Rattle.integer_core.proofs.BezoutCoefficients.{IsWeighed, halves}
+use Rattle.integer_core.proofs.EuclidTurns.{truncated_size, truncated_rest, inexact, not_one, divisor_size}
+use Rattle.integer_core.proofs.GcdDomain.{no_minus_one}
+use Rattle.integer_core.proofs.Lame.{few_turns}
+use Rattle.integer_core.proofs.Quotients.{zero_or_not, small_multiple}
+use Rattle.integer_core.proofs.Rows.{Row, Rows, of_first, of_second, next_row, rows_first, rows_turn, last_rows}
+use Rattle.integer_core.proofs.Runs.{reaches_last}
 use Rattle.integer_core.proofs.Whole.{linear, products}
 use Rattle.integer_core.specs.Bezout.{HasPair, sign}
 use Rattle.integer_core.specs.Division.{IsTruncated}
 use Rattle.integer_core.specs.Divisors.{Divides}
 use Rattle.integer_core.specs.Range.{IsRange}
 
--- ---- numbers in range
-
 -- a coefficient fits, and its negative too where the type has negatives
 pub record IsCoefficient (fits : ℤ → Type 0) (high z : ℤ) : Type 0 where
   pub in_range : fits z
   pub small : unsigned_abs z ≤ unsigned_abs high
 
+pub record CoefficientsFit (fits : ℤ → Type 0) (high : ℤ) (row : Row) : Type 0 where
+  pub remainder : fits row.remainder
+  pub x : IsCoefficient fits high row.x
+  pub y : IsCoefficient fits high row.y
+
 module _ {fits : ℤ → Type 0} {low high : ℤ} (range : IsRange fits low high) where
-  pub zero_fits : IsCoefficient fits high (pos 0)
-  zero_fits =
-      let some = range.some in
+  coefficient : {z : ℤ} → (low ≢ pos 0) ⊎ (pos 0 ≤ℤ z) → unsigned_abs z ≤ unsigned_abs high → IsCoefficient fits high z
+  coefficient {z} signs small =
       let ends = range.low_end in
-      record { in_range = (range.between (pos 0)).1 (omega (arith, linear, abs_is), omega (arith, linear)); small = omega (arith, linear, abs_is) }
-
-  pub one_fits : IsCoefficient fits high (pos 1)
-  one_fits =
-      let some = range.some in
-      let ends = range.low_end in
-      record { in_range = (range.between (pos 1)).1 (omega (arith, linear, abs_is), omega (arith, linear)); small = omega (arith, linear, abs_is) }
-
-  -- half of a number, where the type has negatives
-  half_fits : {b z : ℤ} → low ≢ pos 0 → fits b → 2 * unsigned_abs z ≤ unsigned_abs b → IsCoefficient fits high z
-  half_fits {b} {z} signed b_fits half =
-      let b_in = (range.between b).0 b_fits in
-      let some = range.some in
-      let ends = range.low_end in
-      let small : unsigned_abs z ≤ unsigned_abs high = omega (arith, linear, abs_is) in
+      let positive = range.positive in
       record { in_range = (range.between z).1 (omega (arith, linear, abs_is), omega (arith, linear, abs_is)); small = small }
+
+  zero_fits : IsCoefficient fits high (pos 0)
+  zero_fits = coefficient (inr (omega (arith, linear))) (omega (arith, linear, abs_is, range.positive))
+
+  one_fits : IsCoefficient fits high (pos 1)
+  one_fits = coefficient (inr (omega (arith, linear))) (omega (arith, linear, abs_is, range.positive))
+
+  pub first_fits : {a : ℤ} → fits a → CoefficientsFit fits high (of_first a)
+  first_fits a_fits = record { remainder = a_fits; x = one_fits; y = zero_fits }
+
+  second_fits : {b : ℤ} → fits b → CoefficientsFit fits high (of_second b)
+  second_fits b_fits = record { remainder = b_fits; x = zero_fits; y = one_fits }
+
+  -- at most half of a number, where the type has negatives
+  half_fits : {n z : ℤ} → low ≢ pos 0 → fits n → 2 * unsigned_abs z ≤ unsigned_abs n → IsCoefficient fits high z
+  half_fits {n} signed n_fits half =
+      let n_in = (range.between n).0 n_fits in
+      coefficient (inl signed) (omega (arith, linear, abs_is, range.low_end, range.positive))
 
   -- a coefficient under the sign of a number of the type
   pub sign_fits : {r z : ℤ} → fits r → IsCoefficient fits high z → fits (sign r *ℤ z)
@@ -54,124 +60,91 @@ module _ {fits : ℤ → Type 0} {low high : ℤ} (range : IsRange fits low high
       cases (pos n) r_fits = let same : pos 1 *ℤ z ≡ z = omega (arith, products) in rw same h.in_range
       cases (negsuc n) r_fits =
           let r_in = (range.between (negsuc n)).0 r_fits in
-          let some = range.some in
-          let ends = range.low_end in
           let small = h.small in
-          (range.between (negsuc 0 *ℤ z)).1 (omega (arith, products, abs_is), omega (arith, products, abs_is))
+          (coefficient (inl (omega (arith, linear))) (omega (arith, products, abs_is))).in_range
 
   magnitude_below : {z : ℤ} → fits z → unsigned_abs z < 2 ^ 129
   magnitude_below {z} z_fits =
       let z_in = (range.between z).0 z_fits in
-      let some = range.some in
-      let ends = range.low_end in
-      let bounded = range.bounded in
-      omega (arith, linear, abs_is)
+      omega (arith, linear, abs_is, range.low_end, range.positive, range.bounded)
 
--- ---- rows in range
+-- what the loop keeps of the rows and their range
+pub record RowsFit (fits : ℤ → Type 0) (low high a b : ℤ) (current previous : Row) (t : ℕ) : Type 0 where
+  pub range : IsRange fits low high
+  pub a_fits : fits a
+  pub b_fits : fits b
+  pub rows : Rows a b current previous t
+  pub current_fits : CoefficientsFit fits high current
+  pub previous_fits : CoefficientsFit fits high previous
+  pub pair : HasPair fits previous.remainder current.remainder
 
-pub record RowsFit (fits : ℤ → Type 0) (low high r0 r1 x0 x1 y0 y1 : ℤ) : Type 0 where
-  pub r0_in_range : fits r0
-  pub r1_in_range : fits r1
-  pub x0_fits : IsCoefficient fits high x0
-  pub x1_fits : IsCoefficient fits high x1
-  pub y0_fits : IsCoefficient fits high y0
-  pub y1_fits : IsCoefficient fits high y1
-  pub pair : HasPair low r1 r0
-
-pub rows_fit_first : {fits : ℤ → Type 0} {low high a b : ℤ} → IsRange fits low high → fits a → fits b → HasPair low a b
-    → RowsFit fits low high b a (pos 0) (pos 1) (pos 1) (pos 0)
-rows_fit_first range a_fits b_fits pair = record {
-  r0_in_range = b_fits;
-  r1_in_range = a_fits;
-  x0_fits = zero_fits range;
-  x1_fits = one_fits range;
-  y0_fits = one_fits range;
-  y1_fits = zero_fits range;
+pub rows_fit_first : {fits : ℤ → Type 0} {low high a b : ℤ} → IsRange fits low high → fits a → fits b → b ≢ pos 0 → HasPair fits a b
+    → RowsFit fits low high a b (of_second b) (of_first a) 0
+rows_fit_first {a = a} {b = b} range a_fits b_fits nonzero pair = record {
+  range = range;
+  a_fits = a_fits;
+  b_fits = b_fits;
+  rows = rows_first a b nonzero;
+  current_fits = second_fits range b_fits;
+  previous_fits = first_fits range a_fits;
   pair = pair;
 }
 
--- where r1 divides r0, and not the other way, the quotient is 0
-no_quotient : {q r r0 r1 : ℤ} → r0 ≢ pos 0 → ¬ (Divides r0 r1) → Divides r1 r0 → IsTruncated r1 r0 q r → q ≡ pos 0
-no_quotient {q} {r} {r0} {r1} some goes_on divides row =
-    let most = divisor_size divides some in
-    let left = inexact row goes_on in
-    let none = small_factor (unsigned_abs q) (unsigned_abs r0) (omega (arith, linear, abs_is, truncated_size row)) in
-    omega (arith, linear, abs_is)
-  where
-    small_factor : (n d : ℕ) → n * d + 1 ≤ d → n ≡ 0
-    small_factor zero d h = refl
-    small_factor (suc n) d h = absurd (omega arith)
+-- what a turn computes for the coefficient after x
+pub record StepFits (fits : ℤ → Type 0) (high q x previous_x : ℤ) : Type 0 where
+  pub product : fits (q *ℤ x)
+  pub next : IsCoefficient fits high (previous_x -ℤ q *ℤ x)
 
--- what a turn computes for the coefficient x1
-pub record StepFits (fits : ℤ → Type 0) (high q x0 x1 : ℤ) : Type 0 where
-  pub product : fits (q *ℤ x0)
-  pub next : IsCoefficient fits high (x1 -ℤ q *ℤ x0)
+pub record TurnFits (fits : ℤ → Type 0) (high q : ℤ) (current previous : Row) : Type 0 where
+  pub x : StepFits fits high q current.x previous.x
+  pub y : StepFits fits high q current.y previous.y
 
-step_fits : {fits : ℤ → Type 0} {low high m r0 r1 x0 x1 q r : ℤ} → IsRange fits low high → fits m → IsWeighed m r0 r1 x0 x1 → r0 ≢ pos 0
-    → IsCoefficient fits high x1 → HasPair low r1 r0 → ¬ (Divides r0 r1) → IsTruncated r1 r0 q r → StepFits fits high q x0 x1
-step_fits {low = low} {r0 = r0} {r1 = r1} {x0 = x0} {x1 = x1} {q = q} range m_fits weighed some x1_fits pair goes_on row = elim (zero_or_not low) [
-  | inl unsigned ↦
-      let none : q ≡ pos 0 = elim (pair unsigned) [ inl divides ↦ no_quotient some goes_on divides row | inr divides ↦ absurd (goes_on divides) ] in
-      let product : q *ℤ x0 ≡ pos 0 = ap (λ (t : ℤ). t *ℤ x0) none ∙ zero-*ℤ x0 in
-      let same : x1 -ℤ q *ℤ x0 ≡ x1 = omega (arith, linear) in
-      record { product = rw product (zero_fits range).in_range; next = rw same x1_fits }
-  | inr signed ↦
-      let two = not_one goes_on some in
-      record {
-        product = (half_fits range signed m_fits (product_half weighed row two)).in_range;
-        next = half_fits range signed m_fits (next_half weighed row two);
-      }
-]
+module _ {fits : ℤ → Type 0} {low high a b q r : ℤ} {current previous : Row} {t : ℕ} (h : RowsFit fits low high a b current previous t)
+    (goes_on : ¬ (Divides current.remainder previous.remainder)) (row : IsTruncated previous.remainder current.remainder q r) where
+  -- in a type without negatives one remainder divides the other, so a turn only exchanges them
+  no_quotient : ¬ (fits (negsuc 0)) → q ≡ pos 0
+  no_quotient unsigned = elim (h.pair unsigned) [
+    | inl divides ↦
+        let left = inexact row goes_on in
+        let most = divisor_size divides h.rows.nonzero in
+        small_multiple q current.remainder (omega (arith, linear, abs_is, unsigned_abs-mul q current.remainder, truncated_size row))
+    | inr divides ↦ absurd (goes_on divides)
+  ]
 
-pub record TurnFits (fits : ℤ → Type 0) (high q x0 x1 y0 y1 : ℤ) : Type 0 where
-  pub x : StepFits fits high q x0 x1
-  pub y : StepFits fits high q y0 y1
+  step_fits : {m x previous_x : ℤ} → fits m → IsWeighed m current.remainder previous.remainder x previous_x
+      → IsCoefficient fits high previous_x → StepFits fits high q x previous_x
+  step_fits m_fits weighed previous_fits = elim (zero_or_not low) [
+    | inl unsigned ↦
+        let none = no_quotient (no_minus_one h.range unsigned) in
+        record { product = rw (none, zero-*ℤ) (zero_fits h.range).in_range; next = rw (none, zero-*ℤ, +ℤ_idr) previous_fits }
+    | inr signed ↦
+        let half = halves weighed row (not_one goes_on h.rows.nonzero) in
+        record { product = (half_fits h.range signed m_fits half.0).in_range; next = half_fits h.range signed m_fits half.1 }
+  ]
 
-pub turn_fits : {fits : ℤ → Type 0} {low high a b r0 r1 x0 x1 y0 y1 q r : ℤ} {t : ℕ} → IsRange fits low high → fits a → fits b
-    → Rows a b r0 r1 x0 x1 y0 y1 t → RowsFit fits low high r0 r1 x0 x1 y0 y1 → ¬ (Divides r0 r1) → IsTruncated r1 r0 q r
-    → TurnFits fits high q x0 x1 y0 y1
-turn_fits range a_fits b_fits rows fit goes_on row = record {
-  x = step_fits range b_fits rows.x_weighed rows.nonzero fit.x1_fits fit.pair goes_on row;
-  y = step_fits range a_fits rows.y_weighed rows.nonzero fit.y1_fits fit.pair goes_on row;
-}
+  pub turn_fits : TurnFits fits high q current previous
+  turn_fits = record {
+    x = step_fits h.b_fits h.rows.x_weighed h.previous_fits.x;
+    y = step_fits h.a_fits h.rows.y_weighed h.previous_fits.y;
+  }
 
-pub rows_fit_turn : {fits : ℤ → Type 0} {low high r0 r1 x0 x1 y0 y1 q r : ℤ} → RowsFit fits low high r0 r1 x0 x1 y0 y1
-    → r0 ≢ pos 0 → ¬ (Divides r0 r1) → IsTruncated r1 r0 q r → fits r → TurnFits fits high q x0 x1 y0 y1
-    → RowsFit fits low high r r0 (x1 -ℤ q *ℤ x0) x0 (y1 -ℤ q *ℤ y0) y0
-rows_fit_turn {low = low} {r0 = r0} {r1 = r1} {q = q} {r = r} h some goes_on row r_fits turn = record {
-  r0_in_range = r_fits;
-  r1_in_range = h.r0_in_range;
-  x0_fits = turn.x.next;
-  x1_fits = h.x0_fits;
-  y0_fits = turn.y.next;
-  y1_fits = h.y0_fits;
-  pair = λ unsigned. elim (h.pair unsigned) [ inl divides ↦ inr (rw (same divides) divides) | inr divides ↦ absurd (goes_on divides) ];
-}
-  where
-    same : Divides r1 r0 → r ≡ r1
-    same divides =
-        let none = ap (λ (t : ℤ). t *ℤ r0) (no_quotient some goes_on divides row) ∙ zero-*ℤ r0 in
-        let e = row.division.equation in
-        omega (arith, linear)
+  pub rows_fit_turn : fits r → RowsFit fits low high a b (next_row current previous q r) current (t + 1)
+  rows_fit_turn r_fits = record {
+    range = h.range;
+    a_fits = h.a_fits;
+    b_fits = h.b_fits;
+    rows = rows_turn h.rows goes_on row;
+    current_fits = record { remainder = r_fits; x = turn_fits.x.next; y = turn_fits.y.next };
+    previous_fits = h.current_fits;
+    pair = λ unsigned. rw (same unsigned) (elim (h.pair unsigned) [ inl divides ↦ inr divides | inr divides ↦ inl divides ]);
+  }
+    where
+      same : ¬ (fits (negsuc 0)) → r ≡ previous.remainder
+      same unsigned = truncated_rest row ∙ simp (no_quotient unsigned, zero-*ℤ, +ℤ_idr)
 
--- ---- the turns fit their counter
-
-below_square : (a b p : ℕ) → a < p → b < p → a * b < p * p
-below_square a b p h k = omega (arith, mul-le-mul h k)
-
-few : (t k m n a b : ℕ) → 2 ^ t * (m * n) ≤ 2 * (a * b) → 0 < m → 0 < n → a < 2 ^ k → b < 2 ^ k → t < suc (k + k)
-few t k m n a b h some_m some_n a_small b_small = elim (cases_lt t (suc (k + k))) [
-  | inl less ↦ less
-  | inr more ↦
-      let power : 2 * (2 ^ k * 2 ^ k) ≤ 2 ^ t = rw (← pow-add 2 k k, ← pow-succ' 2 (k + k)) (pow-le-pow_right (omega arith) more) in
-      let some : 1 ≤ m * n = mul-pos some_m some_n in
-      absurd (omega (arith, mul-le-mul_left (2 ^ t) some, below_square a b (2 ^ k) a_small b_small))
-]
-
-pub turns_few : {fits : ℤ → Type 0} {low high a b r0 r1 x0 x1 y0 y1 : ℤ} {t : ℕ} → IsRange fits low high → fits a → fits b
-    → Rows a b r0 r1 x0 x1 y0 y1 t → ¬ (Divides r0 r1) → t < 259
-turns_few {r0 = r0} {r1 = r1} {t = t} range a_fits b_fits h goes_on =
-    let r0_some = h.nonzero in
-    let r1_some : r1 ≢ pos 0 = λ none. goes_on (rw none (Divides-zero r0)) in
-    few t 129 (unsigned_abs r0) (unsigned_abs r1) _ _ h.halved (omega (arith, linear, abs_is)) (omega (arith, linear, abs_is))
-    (magnitude_below range a_fits) (magnitude_below range b_fits)
+-- the turns are few, and fit their counter
+pub turns_fit : {fits : ℤ → Type 0} {low high a b : ℤ} {current previous : Row} {t : ℕ} → b ≢ pos 0
+    → RowsFit fits low high a b current previous t → t < 258
+turns_fit nonzero h =
+    let last = last_rows h.rows in
+    omega (arith, last.1, few_turns 129 nonzero (reaches_last last.0.rows.run last.0.ends) (magnitude_below h.range h.b_fits))

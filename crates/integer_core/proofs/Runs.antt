@@ -1,31 +1,37 @@
--- A loop's invariant on its run: each run that goes on from this state makes one, n turns longer, from the first.
-use Rattle.std.proofs.Common.{◌≡◌, ℕ, suc, ◌+◌, List, [], ◌∷◌, length, refl, arith}
+-- The runs of a loop: its invariant on them, and that each is the only one from its first state.
+use Rattle.std.proofs.Common.{◌≡◌, ℕ, ◌+◌, List, [], ◌∷◌, length, refl, subst, arith}
+use Rattle.integer_core.specs.Only.{IsOnly}
 use Rattle.integer_core.specs.Runs.{IsRun, Makes}
 
+-- n turns lead from the first state to s: whatever makes m turns from s makes n more from the first
 pub record Reaches {S : Type 0} (turn : S → S → Type 0) (ends : S → Type 0) (first s : S) (n : ℕ) : Type 0 where
-  pub onward : (rest : List S) → IsRun turn ends (s ∷ rest) → (whole : List S) × IsRun turn ends (first ∷ whole) × (length whole ≡ n + length rest)
+  pub onward : (m k : ℕ) → k ≡ n + m → Makes turn ends s m → Makes turn ends first k
 
-pub reaches_first : {S : Type 0} {turn : S → S → Type 0} {ends : S → Type 0} {first : S} → Reaches turn ends first first 0
-reaches_first = record { onward = λ rest run. (rest, run, omega arith) }
+module _ {S : Type 0} {turn : S → S → Type 0} {ends : S → Type 0} where
+  pub reaches_first : {first : S} → Reaches turn ends first first 0
+  reaches_first = record { onward = λ m k e h. record { rest = h.rest; run = h.run; turns = omega (arith, h.turns) } }
 
-pub reaches_turn : {S : Type 0} {turn : S → S → Type 0} {ends : S → Type 0} {first s t : S} {n : ℕ} → Reaches turn ends first s n → turn s t → Reaches turn ends first t (n + 1)
-reaches_turn {t = t} {n = n} h e = record {
-  onward = λ rest run.
-      let all = h.onward (t ∷ rest) (e, run) in
-      (all.0, all.1, let f : length all.0 ≡ n + suc (length rest) = all.2 in omega arith);
-}
+  pub reaches_turn : {first s t : S} {n : ℕ} → Reaches turn ends first s n → turn s t → Reaches turn ends first t (n + 1)
+  reaches_turn {t = t} h turns_to = record {
+    onward = λ m k e i. h.onward (m + 1) k (omega arith) (record { rest = t ∷ i.rest; run = (turns_to, i.run); turns = omega (arith, i.turns) });
+  }
 
--- a second state reached that each run from s can begin with instead
-pub reaches_instead : {S : Type 0} {turn : S → S → Type 0} {ends : S → Type 0} {first s t : S} {n : ℕ} → Reaches turn ends first s n → ((m : ℕ) → Makes turn ends t m → Makes turn ends s m) → Reaches turn ends first t n
-reaches_instead {n = n} h instead = record {
-  onward = λ rest run.
-      let other = instead (length rest) (record { rest = rest; run = run; turns = refl }) in
-      let all = h.onward other.rest other.run in
-      let same = other.turns in
-      (all.0, all.1, let f : length all.0 ≡ n + length other.rest = all.2 in omega arith);
-}
+  -- a second state reached that each run from s can begin with instead
+  pub reaches_instead : {first s t : S} {n : ℕ} → Reaches turn ends first s n → ((m : ℕ) → Makes turn ends t m → Makes turn ends s m)
+      → Reaches turn ends first t n
+  reaches_instead h instead = record { onward = λ m k e i. h.onward m k e (instead m i) }
 
-pub reaches_last : {S : Type 0} {turn : S → S → Type 0} {ends : S → Type 0} {first s : S} {n : ℕ} → Reaches turn ends first s n → ends s → Makes turn ends first n
-reaches_last {n = n} h e =
-    let all = h.onward [] e in
-    record { rest = all.0; run = all.1; turns = let f : length all.0 ≡ n + 0 = all.2 in omega arith }
+  pub reaches_last : {first s : S} {n : ℕ} → Reaches turn ends first s n → ends s → Makes turn ends first n
+  reaches_last {n = n} h is_end = h.onward 0 n (omega arith) (record { rest = []; run = is_end; turns = refl })
+
+  -- where a state has at most one turn, and an end none, a state makes one number of turns alone
+  module _ (one_turn : (s t : S) → turn s t → IsOnly (turn s) t) (no_turn : (s t : S) → ends s → ¬ (turn s t)) where
+    one_length : (s : S) (xs ys : List S) → IsRun turn ends (s ∷ xs) → IsRun turn ends (s ∷ ys) → length xs ≡ length ys
+    one_length s [] [] h i = refl
+    one_length s [] (u ∷ ys) h i = absurd (no_turn s u h i.0)
+    one_length s (t ∷ xs) [] h i = absurd (no_turn s t i h.0)
+    one_length s (t ∷ xs) (u ∷ ys) h i =
+        omega (arith, one_length t xs ys h.1 (subst (λ (v : S). IsRun turn ends (v ∷ ys)) (one_turn s t h.0 u i.0) i.1))
+
+    pub only_turns : {first : S} {n : ℕ} → Makes turn ends first n → IsOnly (Makes turn ends first) n
+    only_turns {first} h m i = omega (arith, one_length first h.rest i.rest h.run i.run, h.turns, i.turns)

@@ -1,107 +1,67 @@
 -- Of the pairs that meet Bezout's equation one alone is small.
-use Rattle.std.specs.Prelude.{◌≡◌, ◌≢◌, ◌<◌, ◌≤◌, ◌+◌, ◌*◌, ◌+ℤ◌, ◌-ℤ◌, ◌*ℤ◌, ℤ, ℕ, pos, zero, suc, unsigned_abs}
-use Rattle.std.proofs.Common.{arith, inl, inr, sym, ◌∙◌, ap, mul-le-mul_left, mul-le-mul_right}
-use Rattle.std.proofs.Math.Nat.{eq_of_mul-eq-mul_right}
+use Rattle.std.specs.Prelude.{◌≡◌, ◌≢◌, ◌<◌, ◌≤◌, ◌+◌, ◌*◌, ◌-ℤ◌, ◌*ℤ◌, ℤ, ℕ, pos, unsigned_abs}
+use Rattle.std.proofs.Common.{arith, inl, inr, refl, sym, ◌∙◌, ap, mul-le-mul_left}
+use Rattle.std.proofs.Math.Nat.{eq_of_mul-eq-mul_left, lt_of_mul-lt-mul_right}
 use Rattle.std.proofs.lemmas.Bool.{cases_lt}
 use Rattle.std.proofs.lemmas.Int.{unsigned_abs-mul}
 use borrow.Author.Differences.{abs_is}
 use Rattle.integer_core.proofs.Whole.{linear, expand}
-use Rattle.integer_core.specs.Bezout.{IsSmallPair, IsOnlySmallPair}
+use Rattle.integer_core.specs.Bezout.{IsSmallPair}
+use Rattle.integer_core.specs.Only.{IsOnly}
 
--- in magnitudes: the pairs (x, y) and (z, w) for g differ by p and d, and g times p is k times b
-record Apart (a b g x y z w p d k : ℕ) : Type 0 where
-  b_some : 0 < b
-  g_some : 0 < g
-  across : p * a ≡ d * b
-  times : g * p ≡ k * b
-  p_most : p ≤ x + z
-  d_most : d ≤ y + w
-  x_small : 2 * x * g ≤ b
-  y_small : 2 * y * g ≤ a
-  z_small : 2 * z * g ≤ b
+swapped : {a b g x y : ℤ} → IsSmallPair a b g x y → IsSmallPair b a g y x
+swapped h = record { equation = let e = h.equation in omega (arith, linear); x_small = h.y_small; y_small = h.x_small }
 
-at_most_one : {a b g x y z w p d k : ℕ} → Apart a b g x y z w p d k → k ≤ 1
-at_most_one {b = b} {g = g} {k = k} h = elim (cases_lt 1 k) [
-  | inl more ↦
-      let double : 2 * b ≤ k * b = mul-le-mul_right b more in
-      absurd (omega (arith, h.times, h.x_small, h.z_small, mul-le-mul_left g h.p_most, h.b_some))
-  | inr less ↦ less
-]
+-- by Cramer's rule the pairs' determinant times b is g times what the first coefficients differ by
+cramer : {a b g x y z w : ℤ} → IsSmallPair a b g x y → IsSmallPair a b g z w → (x *ℤ w -ℤ y *ℤ z) *ℤ b ≡ g *ℤ (x -ℤ z)
+cramer {x = x} {z = z} h i =
+    let onto_x = simp expand at (ap (λ (t : ℤ). x *ℤ t) i.equation) in
+    let onto_z = simp expand at (ap (λ (t : ℤ). z *ℤ t) h.equation) in
+    simp expand (omega (arith, linear))
 
--- where k is 0 the pairs are one
-no_differences : {a b g x y z w p d k : ℕ} → Apart a b g x y z w p d k → k ≡ 0 → (p ≡ 0) × (d ≡ 0)
-no_differences {a = a} {b = b} {g = g} {p = p} {d = d} h none =
-    let no_p : p ≡ 0 = eq_of_mul-eq-mul_right g h.g_some p 0 (omega (arith, h.times, ap (λ (n : ℕ). n * b) none)) in
-    (no_p, eq_of_mul-eq-mul_right b h.b_some d 0 (omega (arith, h.across, ap (λ (n : ℕ). n * a) no_p)))
+-- the determinant k of two small pairs is 0, 1 or -1, and says how their first coefficients x and z differ
+record IsDeterminant (b x z k : ℤ) : Type 0 where
+  at_most_one : b ≢ pos 0 → unsigned_abs k ≤ 1
+  of_zero : unsigned_abs k ≡ 0 → x ≡ z
+  of_one : unsigned_abs k ≡ 1 → unsigned_abs x ≡ unsigned_abs z
 
--- where k is 1 they are as large as they may be, and x·a and y·b of one magnitude
-halves : {a b g x y z w p d k : ℕ} → Apart a b g x y z w p d k → 2 * w * g ≤ a → k ≡ 1 → (x * a ≡ 2 * x * y * g) × (y * b ≡ 2 * x * y * g)
-halves {a} {b} {g} {x} {y} {z} {w} {p} {d} h w_small one =
-    let whole : g * p ≡ b = omega (arith, h.times, ap (λ (n : ℕ). n * b) one) in
-    let products : g * d * b ≡ a * b = omega (arith, ap (λ (n : ℕ). g * n) h.across, ap (λ (n : ℕ). n * a) whole) in
-    let other : g * d ≡ a = eq_of_mul-eq-mul_right b h.b_some (g * d) a products in
-    let x_half : 2 * x * g ≡ b = omega (arith, h.x_small, h.z_small, mul-le-mul_left g h.p_most) in
-    let y_half : 2 * y * g ≡ a = omega (arith, h.y_small, mul-le-mul_left g h.d_most) in
-    (omega (arith, ap (λ (n : ℕ). x * n) y_half), omega (arith, ap (λ (n : ℕ). y * n) x_half))
+determinant : {a b g x y z w : ℤ} → g ≢ pos 0 → IsSmallPair a b g x y → IsSmallPair a b g z w → IsDeterminant b x z (x *ℤ w -ℤ y *ℤ z)
+determinant {a} {b} {g} {x} {y} {z} {w} nonzero h i =
+    let k = x *ℤ w -ℤ y *ℤ z in
+    let product = sym (unsigned_abs-mul k b) ∙ ap unsigned_abs (cramer h i) ∙ unsigned_abs-mul g (x -ℤ z) in
+    let positive : 0 < unsigned_abs g = omega (arith, linear, abs_is) in
+    let gap : unsigned_abs (x -ℤ z) ≤ unsigned_abs x + unsigned_abs z = omega (arith, linear, abs_is) in
+    let most = mul-le-mul_left (unsigned_abs g) gap in
+    record {
+      at_most_one = λ b_nonzero.
+          let less : unsigned_abs k * unsigned_abs b < 2 * unsigned_abs b = omega (arith, linear, abs_is, h.x_small, i.x_small) in
+          let few = lt_of_mul-lt-mul_right (unsigned_abs b) less in
+          omega arith;
+      of_zero = λ none.
+          let no_product = ap (λ (n : ℕ). n * unsigned_abs b) none in
+          let no_gap = eq_of_mul-eq-mul_left (unsigned_abs g) positive (unsigned_abs (x -ℤ z)) 0 (omega arith) in
+          omega (arith, linear, abs_is);
+      of_one = λ one.
+          let whole = ap (λ (n : ℕ). n * unsigned_abs b) one in
+          eq_of_mul-eq-mul_left (unsigned_abs g) positive (unsigned_abs x) (unsigned_abs z) (omega (arith, h.x_small, i.x_small));
+    }
 
--- but two numbers of one magnitude add up to 0 or to twice that, and here to four times x·y·g
-balance : (m n g : ℤ) (k : ℕ) → m +ℤ n ≡ g → unsigned_abs m ≡ k → unsigned_abs n ≡ k → g ≢ pos 0 → unsigned_abs g ≡ 2 * k
-balance m n g k e left right some = omega (arith, linear, abs_is)
+-- two numbers of one magnitude differ by an even number, and not by 1
+differ_by_even : (m n : ℤ) → unsigned_abs m ≡ unsigned_abs n → unsigned_abs (m -ℤ n) ≢ 1
+differ_by_even m n e one = omega (arith, linear, abs_is)
 
-no_quarter : (g n : ℕ) → 0 < g → g ≡ 2 * (2 * n * g) → ⊥
-no_quarter g zero some e = omega arith
-no_quarter g (suc n) some e = omega arith
-
--- ---- from whole numbers to magnitudes
-
-crossed : (a b g x y z w : ℤ) → x *ℤ a +ℤ y *ℤ b ≡ g → z *ℤ a +ℤ w *ℤ b ≡ g → (x -ℤ z) *ℤ a ≡ (w -ℤ y) *ℤ b
-crossed a b g x y z w e f = simp expand (omega (arith, linear, simp expand at e, simp expand at f))
-
-multiplied : (a b g x y p d : ℤ) → x *ℤ a +ℤ y *ℤ b ≡ g → p *ℤ a ≡ d *ℤ b → g *ℤ p ≡ (x *ℤ d +ℤ y *ℤ p) *ℤ b
-multiplied a b g x y p d e across = rw (← e) (simp expand (omega (arith, linear, simp expand at (ap (λ (t : ℤ). x *ℤ t) across))))
-
-magnitudes : (m n k l : ℤ) → m *ℤ n ≡ k *ℤ l → unsigned_abs m * unsigned_abs n ≡ unsigned_abs k * unsigned_abs l
-magnitudes m n k l e = sym (unsigned_abs-mul m n) ∙ ap unsigned_abs e ∙ unsigned_abs-mul k l
-
-gap : (x z : ℤ) → unsigned_abs (x -ℤ z) ≤ unsigned_abs x + unsigned_abs z
-gap x z = omega (arith, linear, abs_is)
-
-no_gap : (x z : ℤ) → unsigned_abs (x -ℤ z) ≡ 0 → x ≡ z
-no_gap x z e = omega (arith, linear, abs_is)
-
-pub only_small : {a b g x y : ℤ} → b ≢ pos 0 → g ≢ pos 0 → IsSmallPair a b g x y → IsOnlySmallPair a b g x y
-only_small {a} {b} {g} {x} {y} b_some g_some h z w i =
-    elim (cases_lt 0 (unsigned_abs k)) [
-      | inl some ↦
-          let both = halves apart i.y_small (omega (arith, at_most_one apart)) in
-          let size : ℕ = 2 * unsigned_abs x * unsigned_abs y * unsigned_abs g in
-          let double = balance (x *ℤ a) (y *ℤ b) g size h.equation (unsigned_abs-mul x a ∙ both.0) (unsigned_abs-mul y b ∙ both.1) g_some in
-          absurd (no_quarter (unsigned_abs g) (unsigned_abs x * unsigned_abs y) apart.g_some (omega arith))
+pub only_small : {a b g x y : ℤ} → b ≢ pos 0 → g ≢ pos 0 → IsSmallPair a b g x y → IsOnly (λ (z, w). IsSmallPair a b g z w) (x, y)
+only_small {a} {b} {g} {x} {y} b_nonzero g_nonzero h (z, w) i =
+    let first = determinant g_nonzero h i in
+    let second = determinant g_nonzero (swapped h) (swapped i) in
+    let turned : unsigned_abs (y *ℤ z -ℤ x *ℤ w) ≡ unsigned_abs (x *ℤ w -ℤ y *ℤ z) = omega (arith, linear, abs_is) in
+    elim (cases_lt 0 (unsigned_abs (x *ℤ w -ℤ y *ℤ z))) [
+      | inl more ↦
+          let one : unsigned_abs (x *ℤ w -ℤ y *ℤ z) ≡ 1 = omega (arith, first.at_most_one b_nonzero) in
+          let same : unsigned_abs (x *ℤ w) ≡ unsigned_abs (y *ℤ z) =
+          simp (unsigned_abs-mul, first.of_one one, second.of_one (turned ∙ one)) (omega arith) in
+          absurd (differ_by_even (x *ℤ w) (y *ℤ z) same one)
       | inr none ↦
-          let both = no_differences apart (omega arith) in
-          (sym (no_gap x z both.0), no_gap w y both.1)
+          let zero : unsigned_abs (x *ℤ w -ℤ y *ℤ z) ≡ 0 = omega arith in
+          rw (first.of_zero zero, second.of_zero (turned ∙ zero)) refl
     ]
-  where
-    p : ℤ
-    p = x -ℤ z
-
-    d : ℤ
-    d = w -ℤ y
-
-    k : ℤ
-    k = x *ℤ d +ℤ y *ℤ p
-
-    apart : Apart (unsigned_abs a) (unsigned_abs b) (unsigned_abs g) (unsigned_abs x) (unsigned_abs y) (unsigned_abs z) (unsigned_abs w) (unsigned_abs p) (unsigned_abs d) (unsigned_abs k)
-    apart =
-        let across : p *ℤ a ≡ d *ℤ b = crossed a b g x y z w h.equation i.equation in
-        record {
-          b_some = omega (arith, linear, abs_is);
-          g_some = omega (arith, linear, abs_is);
-          across = magnitudes p a d b across;
-          times = magnitudes g p k b (multiplied a b g x y p d h.equation across);
-          p_most = gap x z;
-          d_most = omega (arith, gap w y);
-          x_small = h.x_small;
-          y_small = h.y_small;
-          z_small = i.x_small;
-        }

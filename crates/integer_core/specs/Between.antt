@@ -1,5 +1,5 @@
 -- The whole numbers from low to high, as the range of a lawful type, and the laws of such a range.
-use Rattle.std.specs.Prelude.{◌≡◌, ◌≢◌, ◌⊎◌, ◌^◌, ◌≤ℤ◌, ◌<ℤ◌, ◌-ℤ◌, ℤ, pos, negsuc, neg_ℤ, suc, int_div}
+use Rattle.std.specs.Prelude.{◌≡◌, ◌≢◌, ◌⊎◌, ◌^◌, ◌≤ℤ◌, ◌<ℤ◌, ◌-ℤ◌, ℤ, pos, neg_ℤ, unsigned_abs}
 use Rattle.std.proofs.Common.{arith}
 use Rattle.std.proofs.Math.Nat.{div-le_self}
 use Rattle.std.proofs.lemmas.Int.{ints}
@@ -12,30 +12,24 @@ Between low high z = (low ≤ℤ z) × (z ≤ℤ high)
 
 -- a number between two numbers of the range is one of it
 pub between_law : (low high x y z : ℤ) → Between low high x → Between low high z → x ≤ℤ y → y ≤ℤ z → Between low high y
-between_law low high x y z f g h k = (omega (arith, ints), omega (arith, ints))
+between_law low high x y z f g h k = omega (arith, ints)
 
 -- a number of the range less one from 0 up to it is in the range
 pub sub_fits_law : (low high x y : ℤ) → low ≤ℤ pos 0 → Between low high x → pos 0 ≤ℤ y → y ≤ℤ x → Between low high (x -ℤ y)
-sub_fits_law low high x y none f h k = (omega (arith, ints), omega (arith, ints))
-
--- a quotient by a number above 0 lies between 0 and the dividend
-quotient_between : (low high x y : ℤ) → low ≤ℤ pos 0 → pos 0 ≤ℤ high → Between low high x → pos 0 <ℤ y → Between low high (int_div x y)
-quotient_between low high (pos a) (pos b) none some f h = let below = div-le_self a b in (omega (arith, ints), omega (arith, ints))
-quotient_between low high (negsuc a) (pos b) none some f h = let below = div-le_self (suc a) b in (omega (arith, ints), omega (arith, ints))
-quotient_between low high x (negsuc b) none some f h = absurd (omega (arith, ints))
+sub_fits_law low high x y from f h k = omega (arith, ints)
 
 -- a number of the range may be divided by one of it above 0
 pub positive_divisor_law : (low high x y : ℤ) → low ≤ℤ pos 0 → pos 0 ≤ℤ high → Between low high x → Between low high y → pos 0 <ℤ y
     → CanDivideIn (Between low high) (λ z. z ≢ pos 0) x y
-positive_divisor_law low high x y none some f g h = ((λ e. absurd (omega (arith, ints))), quotient_between low high x y none some f h)
+positive_divisor_law low high x y from to f g h = grind (arith, ints, div-le_self (unsigned_abs x) (unsigned_abs y))
 
 -- the range of a type, from the four facts on its ends
-pub between_range : (low high : ℤ) → (low ≡ pos 0) ⊎ ((low ≡ neg_ℤ high) ⊎ (low ≡ (neg_ℤ high -ℤ pos 1))) → pos 1 ≤ℤ high → high <ℤ pos (2 ^ 128)
-    → (pos 0 ≤ℤ low) ⊎ (high <ℤ pos (2 ^ 127)) → IsRange (Between low high) low high
-between_range low high ends some bounded bounded_below = record {
+pub between_range : (low high : ℤ) → (low ≡ pos 0) ⊎ ((low ≡ neg_ℤ high) ⊎ (low ≡ (neg_ℤ high -ℤ pos 1))) → pos 1 ≤ℤ high
+    → high <ℤ pos (2 ^ 128) → (pos 0 ≤ℤ low) ⊎ (high <ℤ pos (2 ^ 127)) → IsRange (Between low high) low high
+between_range low high ends positive bounded bounded_below = record {
   between = λ z. ((λ h. h), (λ h. h));
   low_end = ends;
-  some = some;
+  positive = positive;
   bounded = bounded;
   bounded_below = bounded_below;
 }

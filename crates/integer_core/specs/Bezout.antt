@@ -1,6 +1,6 @@
 -- The gcd of a and b with Bezout's pair x, y, for which x·a + y·b is the gcd, and the loop that finds them.
 use Rattle.std.specs.Prelude.{◌≡◌, ◌≢◌, ◌⊎◌, ◌≤◌, ◌*◌, ◌+ℤ◌, ◌-ℤ◌, ◌*ℤ◌, ℤ, ℕ, pos, negsuc, unsigned_abs}
-use Rattle.integer_core.specs.Division.{IsTruncatedQuotient}
+use Rattle.integer_core.specs.Division.{IsQuotient, IsTruncated}
 use Rattle.integer_core.specs.Divisors.{Divides, IsGreatestCommonDivisor}
 use Rattle.integer_core.specs.Runs.{Makes}
 
@@ -37,32 +37,28 @@ pub record IsBezoutAnswer (a b g x y : ℤ) : Type 0 where
   pub first_alone : ¬ (IsSecondAlone a b) → IsFirstAlone a b → (x ≡ sign a) × (y ≡ pos 0)
   pub both : NeedsBoth a b → IsSmallPair a b g x y
 
--- each pair that small is this one
-abbrev pub IsOnlySmallPair : ℤ → ℤ → ℤ → ℤ → ℤ → Type 0
-IsOnlySmallPair a b g x y = (z w : ℤ) → IsSmallPair a b g z w → (z ≡ x) × (w ≡ y)
+-- a type without negatives, which has no -1, has a pair where one operand divides the other
+abbrev pub HasPair : (ℤ → Type 0) → ℤ → ℤ → Type 0
+HasPair fits a b = ¬ (fits (negsuc 0)) → Divides a b ⊎ Divides b a
 
--- a type without negatives has a pair where one operand divides the other
-abbrev pub HasPair : ℤ → ℤ → ℤ → Type 0
-HasPair low a b = low ≡ pos 0 → Divides a b ⊎ Divides b a
-
--- the numbers that Euclid's loop holds
+-- the remainders that Euclid's loop holds
 pub record Remainders : Type 0 where
-  pub r0 : ℤ
-  pub r1 : ℤ
+  pub current : ℤ
+  pub previous : ℤ
 
--- no turn follows where r0 divides r1
+-- no turn follows where the current one divides the previous
 abbrev pub EuclidEnds : Remainders → Type 0
-EuclidEnds s = Divides s.r0 s.r1
+EuclidEnds s = Divides s.current s.previous
 
--- a turn replaces (r0, r1) by (r1 - q·r0, r0), with q the quotient of r1 by r0 rounded toward zero
+-- a turn with the truncated quotient q of previous by current goes on to previous - q·current
 pub record IsEuclidTurn (s t : Remainders) : Type 0 where
   pub goes_on : ¬ (EuclidEnds s)
   pub quotient : ℤ
-  pub truncated : IsTruncatedQuotient s.r1 s.r0 quotient
-  pub r0 : t.r0 ≡ s.r1 -ℤ quotient *ℤ s.r0
-  pub r1 : t.r1 ≡ s.r0
+  pub truncated : IsQuotient IsTruncated s.previous s.current quotient
+  pub current : t.current ≡ s.previous -ℤ quotient *ℤ s.current
+  pub previous : t.previous ≡ s.current
 
--- how many turns the loop makes from (b, a): none where b is 0
+-- how many turns the loop makes from b and a: none where b is 0
 pub record AreEuclidTurns (a b : ℤ) (n : ℕ) : Type 0 where
-  pub none : b ≡ pos 0 → n ≡ 0
-  pub some : b ≢ pos 0 → Makes IsEuclidTurn EuclidEnds (record { r0 = b; r1 = a }) n
+  pub of_zero : b ≡ pos 0 → n ≡ 0
+  pub of_nonzero : b ≢ pos 0 → Makes IsEuclidTurn EuclidEnds (record { current = b; previous = a }) n

@@ -29,30 +29,22 @@ pub record IsCeiled (n d q r : ℤ) : Type 0 where
   pub division : IsDivision n d q r
   pub sign : (r ≡ pos 0) ⊎ HaveOppositeSigns r d
 
--- the quotient of each kind, and the floored remainder, on their own
-pub record IsTruncatedQuotient (n d q : ℤ) : Type 0 where
+-- the quotient of a kind on its own, with some remainder
+pub record IsQuotient (Kind : ℤ → ℤ → ℤ → ℤ → Type 0) (n d q : ℤ) : Type 0 where
   pub remainder : ℤ
-  pub truncated : IsTruncated n d q remainder
+  pub division : Kind n d q remainder
 
-pub record IsFlooredQuotient (n d q : ℤ) : Type 0 where
-  pub remainder : ℤ
-  pub floored : IsFloored n d q remainder
-
-pub record IsCeiledQuotient (n d q : ℤ) : Type 0 where
-  pub remainder : ℤ
-  pub ceiled : IsCeiled n d q remainder
-
-pub record IsFlooredRemainder (n d r : ℤ) : Type 0 where
+-- the remainder of a kind on its own, with some quotient
+pub record IsRemainder (Kind : ℤ → ℤ → ℤ → ℤ → Type 0) (n d r : ℤ) : Type 0 where
   pub quotient : ℤ
-  pub floored : IsFloored n d quotient r
+  pub division : Kind n d quotient r
 
--- the ceiled and the floored quotient, times d
-pub record IsNextMultiple (n d m : ℤ) : Type 0 where
+-- the quotient of a kind, times d
+pub record IsMultiple (Kind : ℤ → ℤ → ℤ → ℤ → Type 0) (n d m : ℤ) : Type 0 where
   pub quotient : ℤ
-  pub ceiled : IsCeiledQuotient n d quotient
+  pub is : IsQuotient Kind n d quotient
   pub product : m ≡ quotient *ℤ d
 
-pub record IsPreviousMultiple (n d m : ℤ) : Type 0 where
-  pub quotient : ℤ
-  pub floored : IsFlooredQuotient n d quotient
-  pub product : m ≡ quotient *ℤ d
+-- the property holds of each of the three kinds
+abbrev pub EachKind : ((ℤ → ℤ → ℤ → ℤ → Type 0) → Type 0) → Type 0
+EachKind P = P IsTruncated × P IsFloored × P IsCeiled

@@ -1,5 +1,6 @@
 -- Divisors, common divisors and common multiples of whole numbers, by divisibility alone.
-use Rattle.std.specs.Prelude.{◌≡◌, ◌≤ℤ◌, ◌*ℤ◌, ℤ, pos}
+use Rattle.std.specs.Prelude.{◌≡◌, ◌≤ℤ◌, ◌*ℤ◌, ℤ, pos, negsuc}
+use Rattle.integer_core.specs.Range.{EachFits}
 
 -- v is a multiple of u, so 0 divides 0 alone
 pub record Divides (u v : ℤ) : Type 0 where
@@ -22,3 +23,7 @@ pub record IsLeastCommonMultiple (a b l : ℤ) : Type 0 where
   pub left_divides : Divides a l
   pub right_divides : Divides b l
   pub least : (m : ℤ) → Divides a m → Divides b m → Divides l m
+
+-- the gcd fits: a type without negatives, which has no -1, has that of any two of its numbers
+abbrev pub GcdFits : (ℤ → Type 0) → ℤ → ℤ → Type 0
+GcdFits fits a b = fits (negsuc 0) → EachFits fits (IsGreatestCommonDivisor a b)

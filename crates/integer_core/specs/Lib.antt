@@ -3,6 +3,7 @@ pub mod Between
 pub mod Division
 pub mod Divisors
 pub mod NativeRanges
+pub mod Only
 pub mod Runs
 pub mod Fibonacci
 pub mod Bezout

@@ -1,11 +1,18 @@
 -- The ranges of the native types, by their number of bits.
-use Rattle.std.specs.Prelude.{◌^◌, ◌≤◌, ◌-◌, ◌≤ℤ◌, ℤ, ℕ, pos, negsuc, FitsSigned}
+use Rattle.std.specs.Prelude.{◌⊎◌, ◌^◌, ◌*◌, ◌≤◌, ◌-◌, ◌≤ℤ◌, ℤ, ℕ, pos, negsuc, unsigned_abs, FitsSigned}
 use Rattle.std.specs.Int.{Width, w8, w16, w32, w64, w128, FitsUnsignedBits}
 use Rattle.std.proofs.Common.{refl, arith, inl, inr, lit≤}
 use Rattle.std.proofs.lemmas.Int.{ints}
 use Rattle.num_traits.specs.Ints.{signed-bounds, unsigned-bounds}
 use Rattle.integer_core.specs.Range.{IsRange}
 use mir.Val.{hbits}
+
+-- a native type, and the type of its magnitudes
+pub record IsNative (fits : ℤ → Type 0) (low high : ℤ) (wide : ℤ → Type 0) : Type 0 where
+  pub range : IsRange fits low high
+  pub magnitude : (z : ℤ) → fits z → wide (pos (unsigned_abs z))
+  -- with negative numbers, the type of magnitudes has twice as many numbers from 0 up
+  pub twice : (pos 0 ≤ℤ low) ⊎ wide (pos (2 * unsigned_abs high))
 
 half_fits : (w : Width) → (2 ^ hbits w ≤ 2 ^ 127) × (2 ≤ 2 ^ hbits w)
 half_fits w8 = (lit≤ tt, lit≤ tt)
@@ -14,31 +21,33 @@ half_fits w32 = (lit≤ tt, lit≤ tt)
 half_fits w64 = (lit≤ tt, lit≤ tt)
 half_fits w128 = (lit≤ tt, lit≤ tt)
 
-pub signed_range : (w : Width) → IsRange (λ z. FitsSigned w z) (negsuc (2 ^ hbits w - 1)) (pos (2 ^ hbits w - 1))
-signed_range w =
-    let h = half_fits w in
+-- a signed type, and an unsigned one of at least as many bits
+pub signed_native : (w : Width) (k : ℕ) → 2 * 2 ^ hbits w ≤ 2 ^ k
+    → IsNative (λ z. FitsSigned w z) (negsuc (2 ^ hbits w - 1)) (pos (2 ^ hbits w - 1)) (FitsUnsignedBits k)
+signed_native w k wide =
+    let half = half_fits w in
     record {
-      between = signed-bounds w;
-      low_end = inr (inr (omega (arith, ints)));
-      some = omega (arith, ints);
-      bounded = omega (arith, ints);
-      bounded_below = inr (omega (arith, ints));
+      range = record {
+        between = signed-bounds w;
+        low_end = inr (inr (omega (arith, ints)));
+        positive = omega (arith, ints);
+        bounded = omega (arith, ints);
+        bounded_below = inr (omega (arith, ints));
+      };
+      magnitude = λ z fits. omega (arith, ints);
+      twice = inr (omega (arith, ints));
     }
 
-pub unsigned_range : (k : ℕ) → 2 ≤ 2 ^ k → 2 ^ k ≤ 2 ^ 128 → IsRange (FitsUnsignedBits k) (pos 0) (pos (2 ^ k - 1))
-unsigned_range k two most = record {
-  between = unsigned-bounds k;
-  low_end = inl refl;
-  some = omega (arith, ints);
-  bounded = omega (arith, ints);
-  bounded_below = inl (omega (arith, ints));
+-- an unsigned type, and one of at least as many bits
+pub unsigned_native : (j k : ℕ) → 2 ≤ 2 ^ j → 2 ^ j ≤ 2 ^ 128 → 2 ^ j ≤ 2 ^ k → IsNative (FitsUnsignedBits j) (pos 0) (pos (2 ^ j - 1)) (FitsUnsignedBits k)
+unsigned_native j k two most wide = record {
+  range = record {
+    between = unsigned-bounds j;
+    low_end = inl refl;
+    positive = omega (arith, ints);
+    bounded = omega (arith, ints);
+    bounded_below = inl (omega (arith, ints));
+  };
+  magnitude = λ z fits. grind (arith, ints);
+  twice = inl (omega (arith, ints));
 }
-
--- a number from 0 up fits an unsigned type that is wide enough
-pub signed_widened : (w : Width) (k : ℕ) → 2 ^ hbits w ≤ 2 ^ k → (z : ℤ) → pos 0 ≤ℤ z → FitsSigned w z → FitsUnsignedBits k z
-signed_widened w k wide (pos n) up h = let low = h.sfits in omega (arith, ints)
-signed_widened w k wide (negsuc n) up h = absurd (omega (arith, ints))
-
-pub unsigned_widened : (j k : ℕ) → 2 ^ j ≤ 2 ^ k → (z : ℤ) → pos 0 ≤ℤ z → FitsUnsignedBits j z → FitsUnsignedBits k z
-unsigned_widened j k wide (pos n) up h = omega (arith, ints)
-unsigned_widened j k wide (negsuc n) up h = absurd (omega (arith, ints))

@@ -5,7 +5,7 @@ use Rattle.std.specs.Prelude.{◌≡◌, ◌⊎◌, ◌↔◌, ◌^◌, ◌≤�
 pub record IsRange (fits : ℤ → Type 0) (low high : ℤ) : Type 0 where
   pub between : (z : ℤ) → fits z ↔ ((low ≤ℤ z) × (z ≤ℤ high))
   pub low_end : (low ≡ pos 0) ⊎ ((low ≡ neg_ℤ high) ⊎ (low ≡ (neg_ℤ high -ℤ pos 1)))
-  pub some : pos 1 ≤ℤ high
+  pub positive : pos 1 ≤ℤ high
   pub bounded : high <ℤ pos (2 ^ 128)
   pub bounded_below : (pos 0 ≤ℤ low) ⊎ (high <ℤ pos (2 ^ 127))
 

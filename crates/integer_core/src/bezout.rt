@@ -1,12 +1,15 @@
 //! The extended Euclidean algorithm (Knuth, The Art of Computer Programming, volume 2, section
 //! 4.5.2, algorithm X), which stops one row earlier.
 
-ghost use Rattle.std.specs.Prelude.{◌≡◌, ◌≢◌, ◌↔◌, ◌<ℤ◌, ◌-ℤ◌, ◌*ℤ◌, pos, neg_ℤ, IsTrue, unsigned_abs};
-ghost use Rattle.integer_core.specs.Bezout.{EuclidEnds, HasPair, IsEuclidTurn, IsSmallPair, sign};
-ghost use Rattle.integer_core.specs.Divisors.{Divides, IsGreatestCommonDivisor};
+ghost use Rattle.std.specs.Prelude.{◌≡◌, ◌≢◌, ◌≤◌, ◌+◌, ◌*◌, ◌*ℤ◌, pos, unsigned_abs};
+ghost use Rattle.integer_core.specs.Bezout.{AreEuclidTurns, EuclidEnds, HasPair, IsBezoutAnswer, IsEuclidTurn, IsSmallPair, NeedsBoth, sign};
+ghost use Rattle.integer_core.specs.Divisors.{Divides, GcdFits, IsGreatestCommonDivisor};
+ghost use Rattle.integer_core.specs.Fibonacci.{fibonacci};
+ghost use Rattle.integer_core.specs.Only.{IsOnly};
 ghost use Rattle.integer_core.specs.Runs.{Makes};
 
 use crate::Integer;
+use crate::operators::{difference, is_negative, is_zero, negated, one, product, zero};
 
 /// A greatest common divisor with Bezout's coefficients: the first operand times `x` and the
 /// second times `y` add up to `gcd`.
@@ -20,7 +23,7 @@ pub struct ExtendedGcd<A> {
 /// A row of the algorithm: the first operand times `x` and the second times `y` add up to
 /// `remainder`.
 #[derive(Clone, Copy)]
-pub(crate) struct Row<A> {
+struct Row<A> {
     remainder: A,
     x: A,
     y: A,
@@ -28,7 +31,7 @@ pub(crate) struct Row<A> {
 
 impl<T: Integer> Row<T> {
     /// The first operand as a row.
-    pub(crate) fn of_first(a: T) -> Row<T>
+    fn of_first(a: T) -> Row<T>
         ensures remainder { T.value result.remainder ≡ T.value a }
         ensures x { T.value result.x ≡ pos 1 }
         ensures y { T.value result.y ≡ pos 0 }
@@ -54,10 +57,10 @@ impl<T: Integer> Row<T> {
     }
 
     /// The row as an answer: where the remainder is negative, all three numbers are negated.
-    pub(crate) fn normalized(self) -> ExtendedGcd<T>
-        requires gcd { T.fits (sign (T.value self.remainder) *ℤ T.value self.remainder) }
-        requires x { T.fits (sign (T.value self.remainder) *ℤ T.value self.x) }
-        requires y { T.fits (sign (T.value self.remainder) *ℤ T.value self.y) }
+    fn normalized(self) -> ExtendedGcd<T>
+        requires gcd_fits { T.fits (sign (T.value self.remainder) *ℤ T.value self.remainder) }
+        requires x_fits { T.fits (sign (T.value self.remainder) *ℤ T.value self.x) }
+        requires y_fits { T.fits (sign (T.value self.remainder) *ℤ T.value self.y) }
         ensures in_range { T.fits (T.value result.gcd) × T.fits (T.value result.x)
             × T.fits (T.value result.y) }
         ensures gcd { T.value result.gcd
@@ -83,11 +86,11 @@ impl<T: Integer> Row<T> {
 
 /// The row whose remainder is the greatest common divisor up to its sign, and how many turns led
 /// to it. The row of remainder 0 is never made: its coefficients need not fit.
-pub(crate) fn last_row<T: Integer>(a: T, b: T) -> (Row<T>, u32)
+fn last_row<T: Integer>(a: T, b: T) -> (Row<T>, u32)
     requires a_in_range { T.fits (T.value a) }
     requires b_in_range { T.fits (T.value b) }
-    requires some { T.value b ≢ pos 0 }
-    requires pair { HasPair T.low (T.value a) (T.value b) }
+    requires nonzero { T.value b ≢ pos 0 }
+    requires has_pair { HasPair T.fits (T.value a) (T.value b) }
     ensures x_fits { T.fits (sign (T.value result.0.remainder) *ℤ T.value result.0.x) }
     ensures y_fits { T.fits (sign (T.value result.0.remainder) *ℤ T.value result.0.y) }
     ensures greatest { IsGreatestCommonDivisor (T.value a) (T.value b)
@@ -99,15 +102,15 @@ pub(crate) fn last_row<T: Integer>(a: T, b: T) -> (Row<T>, u32)
         → IsSmallPair (T.value a) (T.value b)
         (T.value result.0.remainder) (T.value result.0.x) (T.value result.0.y) }
     ensures turns { Makes IsEuclidTurn EuclidEnds
-        (record { r0 = T.value b; r1 = T.value a }) result.1 }
+        (record { current = T.value b; previous = T.value a }) result.1 }
 {
     let mut previous = Row::of_first(a);
     let mut current = Row::of_second(b);
     let mut turns = 0;
     'rows: while !previous.remainder.is_multiple_of(&current.remainder) {
         let (quotient, remainder) = previous.remainder.div_rem(&current.remainder);
-        let x = less_product(previous.x, quotient, current.x);
-        let y = less_product(previous.y, quotient, current.y);
+        let x = difference(previous.x, product(quotient, current.x));
+        let y = difference(previous.y, product(quotient, current.y));
         previous = current;
         current = Row { remainder, x, y };
         turns += 1;
@@ -115,35 +118,29 @@ pub(crate) fn last_row<T: Integer>(a: T, b: T) -> (Row<T>, u32)
     (current, turns)
 }
 
-fn zero<T: Integer>() -> T
-    ensures { T.value result ≡ pos 0 }
+/// [`Integer::extended_gcd`], and how many turns its loop made. `extended_gcd_counted(8, 13)` is
+/// gcd 1, x 5, y -3, in 5 turns. The bound on the turns is Lamé's (1844); 8 and 13 reach it.
+pub fn extended_gcd_counted<T: Integer>(a: T, b: T) -> (ExtendedGcd<T>, u32)
+    requires a_in_range { T.fits (T.value a) }
+    requires b_in_range { T.fits (T.value b) }
+    requires gcd_fits { GcdFits T.fits (T.value a) (T.value b) }
+    requires has_pair { HasPair T.fits (T.value a) (T.value b) }
+    ensures in_range { T.fits (T.value result.0.gcd) × T.fits (T.value result.0.x)
+        × T.fits (T.value result.0.y) }
+    ensures answer { IsBezoutAnswer (T.value a) (T.value b)
+        (T.value result.0.gcd) (T.value result.0.x) (T.value result.0.y) }
+    ensures only { NeedsBoth (T.value a) (T.value b)
+        → IsOnly (λ (x, y). IsSmallPair (T.value a) (T.value b) (T.value result.0.gcd) x y)
+        (T.value result.0.x, T.value result.0.y) }
+    ensures turns { AreEuclidTurns (T.value a) (T.value b) result.1 }
+    ensures bound { T.value b ≢ pos 0
+        → fibonacci (result.1 + 2) * unsigned_abs (T.value result.0.gcd)
+        ≤ unsigned_abs (T.value b) }
 {
-    T::zero()
-}
-
-fn one<T: Integer>() -> T
-    ensures { T.value result ≡ pos 1 }
-{
-    T::one()
-}
-
-fn less_product<T: Integer>(c: T, a: T, b: T) -> T
-    requires product { T.fits (T.value a *ℤ T.value b) }
-    requires difference { T.fits (T.value c -ℤ T.value a *ℤ T.value b) }
-    ensures { T.value result ≡ T.value c -ℤ T.value a *ℤ T.value b }
-{
-    c - a * b
-}
-
-fn negated<T: Integer>(x: T) -> T
-    requires { T.fits (neg_ℤ (T.value x)) }
-    ensures { T.value result ≡ neg_ℤ (T.value x) }
-{
-    T::zero() - x
-}
-
-fn is_negative<T: Integer>(x: T) -> bool
-    ensures { IsTrue result ↔ (T.value x <ℤ pos 0) }
-{
-    x < T::zero()
+    if is_zero(b) {
+        (Row::of_first(a).normalized(), 0)
+    } else {
+        let (row, turns) = last_row(a, b);
+        (row.normalized(), turns)
+    }
 }

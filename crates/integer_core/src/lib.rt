@@ -3,18 +3,23 @@
 
 ghost use Rattle.std.specs.Prelude.{◌≡◌, ◌≢◌, ◌↔◌, ◌+ℤ◌, ◌-ℤ◌, ℤ, pos, IsTrue};
 ghost use Rattle.integer_core.specs.Bezout.{HasPair, IsBezoutAnswer};
-ghost use Rattle.integer_core.specs.Division.{IsTruncated, IsFloored, IsTruncatedQuotient, IsFlooredQuotient, IsCeiledQuotient, IsFlooredRemainder, IsNextMultiple, IsPreviousMultiple};
-ghost use Rattle.integer_core.specs.Divisors.{Divides, IsEven, IsGreatestCommonDivisor, IsLeastCommonMultiple};
+ghost use Rattle.integer_core.specs.Division.{IsCeiled, IsFloored, IsMultiple, IsQuotient, IsRemainder, IsTruncated};
+ghost use Rattle.integer_core.specs.Divisors.{Divides, GcdFits, IsEven, IsGreatestCommonDivisor, IsLeastCommonMultiple};
 ghost use Rattle.integer_core.specs.Range.{IsRange, EachFits};
 
 mod bezout;
 pub mod counted;
-mod kernel;
+mod division;
+mod divisors;
 mod native;
+mod native_integer;
+pub mod operators;
 
-pub use crate::bezout::ExtendedGcd;
-use crate::counted::extended_gcd_counted;
+pub use bezout::ExtendedGcd;
+use bezout::extended_gcd_counted;
+pub use native_integer::NativeInteger;
 use num_traits::{Num, Signed};
+use operators::{difference, predecessor, successor, sum};
 
 /// A type of whole numbers. A contract sees a value `x` as the number `value x`, and a number that
 /// the type has as one that `fits`.
@@ -28,9 +33,9 @@ pub trait Integer: Copy + Num + PartialOrd + Ord + Eq {
     fn div_rem(&self, other: &Self) -> (Self, Self)
         requires self_in_range { Self.fits (Self.value self.now) }
         requires other_in_range { Self.fits (Self.value other.now) }
-        requires divisor { Self.value other.now ≢ pos 0 }
-        requires quotient { EachFits Self.fits
-            (IsTruncatedQuotient (Self.value self.now) (Self.value other.now)) }
+        requires nonzero { Self.value other.now ≢ pos 0 }
+        requires quotient_fits { EachFits Self.fits
+            (IsQuotient IsTruncated (Self.value self.now) (Self.value other.now)) }
         ensures in_range { Self.fits (Self.value result.0) × Self.fits (Self.value result.1) }
         ensures truncated { IsTruncated (Self.value self.now) (Self.value other.now)
             (Self.value result.0) (Self.value result.1) };
@@ -39,11 +44,11 @@ pub trait Integer: Copy + Num + PartialOrd + Ord + Eq {
     fn div_floor(&self, other: &Self) -> Self
         requires self_in_range { Self.fits (Self.value self.now) }
         requires other_in_range { Self.fits (Self.value other.now) }
-        requires divisor { Self.value other.now ≢ pos 0 }
-        requires quotient { EachFits Self.fits
-            (IsFlooredQuotient (Self.value self.now) (Self.value other.now)) }
+        requires nonzero { Self.value other.now ≢ pos 0 }
+        requires quotient_fits { EachFits Self.fits
+            (IsQuotient IsFloored (Self.value self.now) (Self.value other.now)) }
         ensures in_range { Self.fits (Self.value result) }
-        ensures floored { IsFlooredQuotient (Self.value self.now) (Self.value other.now)
+        ensures floored { IsQuotient IsFloored (Self.value self.now) (Self.value other.now)
             (Self.value result) };
 
     /// The remainder of the quotient rounded down, which has the sign of `other`.
@@ -51,18 +56,18 @@ pub trait Integer: Copy + Num + PartialOrd + Ord + Eq {
     fn mod_floor(&self, other: &Self) -> Self
         requires self_in_range { Self.fits (Self.value self.now) }
         requires other_in_range { Self.fits (Self.value other.now) }
-        requires divisor { Self.value other.now ≢ pos 0 }
+        requires nonzero { Self.value other.now ≢ pos 0 }
         ensures in_range { Self.fits (Self.value result) }
-        ensures floored { IsFlooredRemainder (Self.value self.now) (Self.value other.now)
+        ensures floored { IsRemainder IsFloored (Self.value self.now) (Self.value other.now)
             (Self.value result) };
 
     /// The quotient rounded down, and its remainder. `(-8).div_mod_floor(&3)` is `(-3, 1)`.
     fn div_mod_floor(&self, other: &Self) -> (Self, Self)
         requires self_in_range { Self.fits (Self.value self.now) }
         requires other_in_range { Self.fits (Self.value other.now) }
-        requires divisor { Self.value other.now ≢ pos 0 }
-        requires quotient { EachFits Self.fits
-            (IsFlooredQuotient (Self.value self.now) (Self.value other.now)) }
+        requires nonzero { Self.value other.now ≢ pos 0 }
+        requires quotient_fits { EachFits Self.fits
+            (IsQuotient IsFloored (Self.value self.now) (Self.value other.now)) }
         ensures in_range { Self.fits (Self.value result.0) × Self.fits (Self.value result.1) }
         ensures floored { IsFloored (Self.value self.now) (Self.value other.now)
             (Self.value result.0) (Self.value result.1) }
@@ -74,15 +79,15 @@ pub trait Integer: Copy + Num + PartialOrd + Ord + Eq {
     fn div_ceil(&self, other: &Self) -> Self
         requires self_in_range { Self.fits (Self.value self.now) }
         requires other_in_range { Self.fits (Self.value other.now) }
-        requires divisor { Self.value other.now ≢ pos 0 }
-        requires quotient { EachFits Self.fits
-            (IsCeiledQuotient (Self.value self.now) (Self.value other.now)) }
+        requires nonzero { Self.value other.now ≢ pos 0 }
+        requires quotient_fits { EachFits Self.fits
+            (IsQuotient IsCeiled (Self.value self.now) (Self.value other.now)) }
         ensures in_range { Self.fits (Self.value result) }
-        ensures ceiled { IsCeiledQuotient (Self.value self.now) (Self.value other.now)
+        ensures ceiled { IsQuotient IsCeiled (Self.value self.now) (Self.value other.now)
             (Self.value result) }
     {
         let (q, r) = self.div_mod_floor(other);
-        if r.is_zero() { q } else { q + Self::one() }
+        if r.is_zero() { q } else { successor(q) }
     }
 
     /// The quotient rounded up, times `other`. `23.next_multiple_of(&8)` is `24`, and
@@ -90,18 +95,18 @@ pub trait Integer: Copy + Num + PartialOrd + Ord + Eq {
     fn next_multiple_of(&self, other: &Self) -> Self
         requires self_in_range { Self.fits (Self.value self.now) }
         requires other_in_range { Self.fits (Self.value other.now) }
-        requires divisor { Self.value other.now ≢ pos 0 }
-        requires multiple { EachFits Self.fits
-            (IsNextMultiple (Self.value self.now) (Self.value other.now)) }
+        requires nonzero { Self.value other.now ≢ pos 0 }
+        requires multiple_fits { EachFits Self.fits
+            (IsMultiple IsCeiled (Self.value self.now) (Self.value other.now)) }
         ensures in_range { Self.fits (Self.value result) }
-        ensures multiple { IsNextMultiple (Self.value self.now) (Self.value other.now)
+        ensures multiple { IsMultiple IsCeiled (Self.value self.now) (Self.value other.now)
             (Self.value result) }
     {
         let m = self.mod_floor(other);
         if m.is_zero() {
             *self
         } else {
-            *self + (*other - m)
+            sum(*self, difference(*other, m))
         }
     }
 
@@ -110,14 +115,14 @@ pub trait Integer: Copy + Num + PartialOrd + Ord + Eq {
     fn prev_multiple_of(&self, other: &Self) -> Self
         requires self_in_range { Self.fits (Self.value self.now) }
         requires other_in_range { Self.fits (Self.value other.now) }
-        requires divisor { Self.value other.now ≢ pos 0 }
-        requires multiple { EachFits Self.fits
-            (IsPreviousMultiple (Self.value self.now) (Self.value other.now)) }
+        requires nonzero { Self.value other.now ≢ pos 0 }
+        requires multiple_fits { EachFits Self.fits
+            (IsMultiple IsFloored (Self.value self.now) (Self.value other.now)) }
         ensures in_range { Self.fits (Self.value result) }
-        ensures multiple { IsPreviousMultiple (Self.value self.now) (Self.value other.now)
+        ensures multiple { IsMultiple IsFloored (Self.value self.now) (Self.value other.now)
             (Self.value result) }
     {
-        *self - self.mod_floor(other)
+        difference(*self, self.mod_floor(other))
     }
 
     /// Whether `other` divides `self`. `9.is_multiple_of(&3)` is `true`; of 0 only 0 is a multiple.
@@ -148,21 +153,21 @@ pub trait Integer: Copy + Num + PartialOrd + Ord + Eq {
     /// Adds one.
     fn inc(&mut self)
         requires in_range { Self.fits (Self.value self.old) }
-        requires sum { Self.fits (Self.value self.old +ℤ pos 1) }
+        requires sum_fits { Self.fits (Self.value self.old +ℤ pos 1) }
         ensures in_range { Self.fits (Self.value self.new) }
         ensures one_more { Self.value self.new ≡ Self.value self.old +ℤ pos 1 }
     {
-        *self = *self + Self::one();
+        *self = successor(*self);
     }
 
-    /// Takes one away.
+    /// Subtracts one.
     fn dec(&mut self)
         requires in_range { Self.fits (Self.value self.old) }
-        requires difference { Self.fits (Self.value self.old -ℤ pos 1) }
+        requires difference_fits { Self.fits (Self.value self.old -ℤ pos 1) }
         ensures in_range { Self.fits (Self.value self.new) }
         ensures one_less { Self.value self.new ≡ Self.value self.old -ℤ pos 1 }
     {
-        *self = *self - Self::one();
+        *self = predecessor(*self);
     }
 
     /// The greatest common divisor, which is never negative. `56.gcd(&42)` is `14`, and `0.gcd(&0)`
@@ -170,8 +175,7 @@ pub trait Integer: Copy + Num + PartialOrd + Ord + Eq {
     fn gcd(&self, other: &Self) -> Self
         requires self_in_range { Self.fits (Self.value self.now) }
         requires other_in_range { Self.fits (Self.value other.now) }
-        requires divisor { EachFits Self.fits
-            (IsGreatestCommonDivisor (Self.value self.now) (Self.value other.now)) }
+        requires gcd_fits { GcdFits Self.fits (Self.value self.now) (Self.value other.now) }
         ensures in_range { Self.fits (Self.value result) }
         ensures greatest { IsGreatestCommonDivisor (Self.value self.now) (Self.value other.now)
             (Self.value result) };
@@ -181,7 +185,7 @@ pub trait Integer: Copy + Num + PartialOrd + Ord + Eq {
     fn lcm(&self, other: &Self) -> Self
         requires self_in_range { Self.fits (Self.value self.now) }
         requires other_in_range { Self.fits (Self.value other.now) }
-        requires multiple { EachFits Self.fits
+        requires lcm_fits { EachFits Self.fits
             (IsLeastCommonMultiple (Self.value self.now) (Self.value other.now)) }
         ensures in_range { Self.fits (Self.value result) }
         ensures least { IsLeastCommonMultiple (Self.value self.now) (Self.value other.now)
@@ -191,9 +195,8 @@ pub trait Integer: Copy + Num + PartialOrd + Ord + Eq {
     fn gcd_lcm(&self, other: &Self) -> (Self, Self)
         requires self_in_range { Self.fits (Self.value self.now) }
         requires other_in_range { Self.fits (Self.value other.now) }
-        requires divisor { EachFits Self.fits
-            (IsGreatestCommonDivisor (Self.value self.now) (Self.value other.now)) }
-        requires multiple { EachFits Self.fits
+        requires gcd_fits { GcdFits Self.fits (Self.value self.now) (Self.value other.now) }
+        requires lcm_fits { EachFits Self.fits
             (IsLeastCommonMultiple (Self.value self.now) (Self.value other.now)) }
         ensures in_range { Self.fits (Self.value result.0) × Self.fits (Self.value result.1) }
         ensures greatest { IsGreatestCommonDivisor (Self.value self.now) (Self.value other.now)
@@ -210,9 +213,8 @@ pub trait Integer: Copy + Num + PartialOrd + Ord + Eq {
     final fn extended_gcd(&self, other: &Self) -> ExtendedGcd<Self>
         requires self_in_range { Self.fits (Self.value self.now) }
         requires other_in_range { Self.fits (Self.value other.now) }
-        requires divisor { EachFits Self.fits
-            (IsGreatestCommonDivisor (Self.value self.now) (Self.value other.now)) }
-        requires pair { HasPair low (Self.value self.now) (Self.value other.now) }
+        requires gcd_fits { GcdFits Self.fits (Self.value self.now) (Self.value other.now) }
+        requires has_pair { HasPair Self.fits (Self.value self.now) (Self.value other.now) }
         ensures in_range { Self.fits (Self.value result.gcd) × Self.fits (Self.value result.x)
             × Self.fits (Self.value result.y) }
         ensures answer { IsBezoutAnswer (Self.value self.now) (Self.value other.now)
@@ -228,10 +230,9 @@ pub trait Integer: Copy + Num + PartialOrd + Ord + Eq {
         Self: Signed,
         requires self_in_range { Self.fits (Self.value self.now) }
         requires other_in_range { Self.fits (Self.value other.now) }
-        requires divisor { EachFits Self.fits
-            (IsGreatestCommonDivisor (Self.value self.now) (Self.value other.now)) }
-        requires pair { HasPair low (Self.value self.now) (Self.value other.now) }
-        requires multiple { EachFits Self.fits
+        requires gcd_fits { GcdFits Self.fits (Self.value self.now) (Self.value other.now) }
+        requires has_pair { HasPair Self.fits (Self.value self.now) (Self.value other.now) }
+        requires lcm_fits { EachFits Self.fits
             (IsLeastCommonMultiple (Self.value self.now) (Self.value other.now)) }
         ensures in_range { Self.fits (Self.value result.0.gcd) × Self.fits (Self.value result.0.x)
             × Self.fits (Self.value result.0.y) × Self.fits (Self.value result.1) }
@@ -254,8 +255,8 @@ pub trait Integer: Copy + Num + PartialOrd + Ord + Eq {
 pub fn div_rem<T: Integer>(x: T, y: T) -> (T, T)
     requires x_in_range { T.fits (T.value x) }
     requires y_in_range { T.fits (T.value y) }
-    requires divisor { T.value y ≢ pos 0 }
-    requires quotient { EachFits T.fits (IsTruncatedQuotient (T.value x) (T.value y)) }
+    requires nonzero { T.value y ≢ pos 0 }
+    requires quotient_fits { EachFits T.fits (IsQuotient IsTruncated (T.value x) (T.value y)) }
     ensures in_range { T.fits (T.value result.0) × T.fits (T.value result.1) }
     ensures truncated { IsTruncated (T.value x) (T.value y) (T.value result.0) (T.value result.1) }
 {
@@ -266,10 +267,10 @@ pub fn div_rem<T: Integer>(x: T, y: T) -> (T, T)
 pub fn div_floor<T: Integer>(x: T, y: T) -> T
     requires x_in_range { T.fits (T.value x) }
     requires y_in_range { T.fits (T.value y) }
-    requires divisor { T.value y ≢ pos 0 }
-    requires quotient { EachFits T.fits (IsFlooredQuotient (T.value x) (T.value y)) }
+    requires nonzero { T.value y ≢ pos 0 }
+    requires quotient_fits { EachFits T.fits (IsQuotient IsFloored (T.value x) (T.value y)) }
     ensures in_range { T.fits (T.value result) }
-    ensures floored { IsFlooredQuotient (T.value x) (T.value y) (T.value result) }
+    ensures floored { IsQuotient IsFloored (T.value x) (T.value y) (T.value result) }
 {
     x.div_floor(&y)
 }
@@ -278,9 +279,9 @@ pub fn div_floor<T: Integer>(x: T, y: T) -> T
 pub fn mod_floor<T: Integer>(x: T, y: T) -> T
     requires x_in_range { T.fits (T.value x) }
     requires y_in_range { T.fits (T.value y) }
-    requires divisor { T.value y ≢ pos 0 }
+    requires nonzero { T.value y ≢ pos 0 }
     ensures in_range { T.fits (T.value result) }
-    ensures floored { IsFlooredRemainder (T.value x) (T.value y) (T.value result) }
+    ensures floored { IsRemainder IsFloored (T.value x) (T.value y) (T.value result) }
 {
     x.mod_floor(&y)
 }
@@ -289,8 +290,8 @@ pub fn mod_floor<T: Integer>(x: T, y: T) -> T
 pub fn div_mod_floor<T: Integer>(x: T, y: T) -> (T, T)
     requires x_in_range { T.fits (T.value x) }
     requires y_in_range { T.fits (T.value y) }
-    requires divisor { T.value y ≢ pos 0 }
-    requires quotient { EachFits T.fits (IsFlooredQuotient (T.value x) (T.value y)) }
+    requires nonzero { T.value y ≢ pos 0 }
+    requires quotient_fits { EachFits T.fits (IsQuotient IsFloored (T.value x) (T.value y)) }
     ensures in_range { T.fits (T.value result.0) × T.fits (T.value result.1) }
     ensures floored { IsFloored (T.value x) (T.value y) (T.value result.0) (T.value result.1) }
 {
@@ -301,10 +302,10 @@ pub fn div_mod_floor<T: Integer>(x: T, y: T) -> (T, T)
 pub fn div_ceil<T: Integer>(x: T, y: T) -> T
     requires x_in_range { T.fits (T.value x) }
     requires y_in_range { T.fits (T.value y) }
-    requires divisor { T.value y ≢ pos 0 }
-    requires quotient { EachFits T.fits (IsCeiledQuotient (T.value x) (T.value y)) }
+    requires nonzero { T.value y ≢ pos 0 }
+    requires quotient_fits { EachFits T.fits (IsQuotient IsCeiled (T.value x) (T.value y)) }
     ensures in_range { T.fits (T.value result) }
-    ensures ceiled { IsCeiledQuotient (T.value x) (T.value y) (T.value result) }
+    ensures ceiled { IsQuotient IsCeiled (T.value x) (T.value y) (T.value result) }
 {
     x.div_ceil(&y)
 }
@@ -313,7 +314,7 @@ pub fn div_ceil<T: Integer>(x: T, y: T) -> T
 pub fn gcd<T: Integer>(x: T, y: T) -> T
     requires x_in_range { T.fits (T.value x) }
     requires y_in_range { T.fits (T.value y) }
-    requires divisor { EachFits T.fits (IsGreatestCommonDivisor (T.value x) (T.value y)) }
+    requires gcd_fits { GcdFits T.fits (T.value x) (T.value y) }
     ensures in_range { T.fits (T.value result) }
     ensures greatest { IsGreatestCommonDivisor (T.value x) (T.value y) (T.value result) }
 {
@@ -324,7 +325,7 @@ pub fn gcd<T: Integer>(x: T, y: T) -> T
 pub fn lcm<T: Integer>(x: T, y: T) -> T
     requires x_in_range { T.fits (T.value x) }
     requires y_in_range { T.fits (T.value y) }
-    requires multiple { EachFits T.fits (IsLeastCommonMultiple (T.value x) (T.value y)) }
+    requires lcm_fits { EachFits T.fits (IsLeastCommonMultiple (T.value x) (T.value y)) }
     ensures in_range { T.fits (T.value result) }
     ensures least { IsLeastCommonMultiple (T.value x) (T.value y) (T.value result) }
 {
@@ -335,8 +336,8 @@ pub fn lcm<T: Integer>(x: T, y: T) -> T
 pub fn gcd_lcm<T: Integer>(x: T, y: T) -> (T, T)
     requires x_in_range { T.fits (T.value x) }
     requires y_in_range { T.fits (T.value y) }
-    requires divisor { EachFits T.fits (IsGreatestCommonDivisor (T.value x) (T.value y)) }
-    requires multiple { EachFits T.fits (IsLeastCommonMultiple (T.value x) (T.value y)) }
+    requires gcd_fits { GcdFits T.fits (T.value x) (T.value y) }
+    requires lcm_fits { EachFits T.fits (IsLeastCommonMultiple (T.value x) (T.value y)) }
     ensures in_range { T.fits (T.value result.0) × T.fits (T.value result.1) }
     ensures greatest { IsGreatestCommonDivisor (T.value x) (T.value y) (T.value result.0) }
     ensures least { IsLeastCommonMultiple (T.value x) (T.value y) (T.value result.1) }

@@ -4,7 +4,7 @@ use Rattle.std.proofs.Common.{inl, inr, arith, subst, sym, ap, ◌∙◌, refl}
 use Rattle.integer_core.specs.Division.{IsFloored}
 use Rattle.integer_core.specs.Range.{IsRange}
 use Rattle.integer_core.proofs.Whole.{linear, products}
-use Rattle.integer_core.proofs.Signs.{not_from_false, is_from_true}
+use Rattle.std.proofs.lemmas.Bool.{iff_false}
 use borrow.Author.Differences.{abs_is}
 use Rattle.integer_roots.specs.Averages.{IsAverageFloor, IsAverageCeil, bit}
 
@@ -16,11 +16,11 @@ even_half : {x d q r : ℤ} → IsFloored x d q r → d ≡ pos 2 → r ≡ pos 
 even_half floored two none = let e = halved floored two in omega (arith, products)
 
 odd_half : {x d q r : ℤ} → IsFloored x d q r → d ≡ pos 2 → r ≢ pos 0 → x ≡ pos 2 *ℤ q +ℤ pos 1
-odd_half floored two some =
+odd_half floored two rest =
     let e = halved floored two in
     let small = floored.division.small in
     elim floored.sign [
-      | inl none ↦ absurd (some none)
+      | inl none ↦ absurd (rest none)
       | inr signs ↦ elim signs [
         | inl above ↦ omega (arith, products, abs_is)
         | inr below ↦ absurd (omega (arith, linear))
@@ -30,8 +30,8 @@ odd_half floored two some =
 -- a number is twice its half, and 1 more where the rest is not 0
 pub half_and_bit : {x d q r : ℤ} (is_zero : Bool) → IsFloored x d q r → d ≡ pos 2 → IsTrue is_zero ↔ (r ≡ pos 0)
     → x ≡ pos 2 *ℤ q +ℤ bit (not is_zero)
-half_and_bit true floored two h = even_half floored two (is_from_true refl h)
-half_and_bit false floored two h = odd_half floored two (not_from_false refl h)
+half_and_bit true floored two h = even_half floored two (h.0 refl)
+half_and_bit false floored two h = odd_half floored two (iff_false h refl)
 
 -- an average lies between the two numbers, so it fits
 pub floor_fits : {fits : ℤ → Type 0} {low high : ℤ} {a b f : ℤ} → IsRange fits low high → fits a → fits b
@@ -57,10 +57,10 @@ pub next_half_fits : {fits : ℤ → Type 0} {low high : ℤ} {x : ℤ} (h : ℤ
     → x ≡ pos 2 *ℤ h +ℤ bit odd → fits (h +ℤ pos 1)
 next_half_fits h true range x_fits e =
     let x_in = (range.between _).0 x_fits in
-    (range.between _).1 (omega (arith, products, range.low_end, range.some), omega (arith, products, range.some))
+    (range.between _).1 (omega (arith, products, range.low_end, range.positive), omega (arith, products, range.positive))
 next_half_fits h false range x_fits e =
     let x_in = (range.between _).0 x_fits in
-    (range.between _).1 (omega (arith, products, range.low_end, range.some), omega (arith, products, range.some))
+    (range.between _).1 (omega (arith, products, range.low_end, range.positive), omega (arith, products, range.positive))
 
 -- both halves, and 1 more where both numbers are odd
 floor_by_bits : {a b : ℤ} (p q : ℤ) (s t : Bool) → a ≡ pos 2 *ℤ p +ℤ bit s → b ≡ pos 2 *ℤ q +ℤ bit t

@@ -1,6 +1,9 @@
--- Powers, multiplied out and shifted.
-use Rattle.std.proofs.Common.{◌≡◌, ℕ, suc, zero, ◌*◌, ◌%◌, ◌^◌, ◌<◌, ◌≤◌, ap, refl, ◌∙◌, arith, mul-one, pow_mono, mod-eq_of_lt}
+-- Powers, multiplied out and compared.
+use Rattle.std.proofs.Common.{◌≡◌, ℕ, suc, zero, ◌*◌, ◌^◌, ◌+◌, ◌<◌, ◌≤◌, inl, inr, ap, refl, ◌∙◌, arith, pos, mul-one, pow_mono}
+use Rattle.std.proofs.lemmas.Bool.{cases_lt}
+use Rattle.std.proofs.lemmas.Int.{ints}
 use Rattle.std.proofs.Math.Nat.{pow-zero, pow-succ'}
+use Rattle.integer_roots.specs.RootOf.{IsFloorRoot}
 
 -- the first three powers
 pub power_one : (x : ℕ) → x ^ 1 ≡ x
@@ -17,9 +20,13 @@ pub power_of_one : (n : ℕ) → 1 ^ n ≡ 1
 power_of_one zero = pow-zero 1
 power_of_one (suc n) = rw (pow-succ' 1 n, power_of_one n) refl
 
--- 1 shifted within 64 bits is a power of two
-pub shifted_one : (k : ℕ) → k < 64 → (1 * 2 ^ k) % 18446744073709551616 ≡ 2 ^ k
-shifted_one k h =
-    let small : 2 ^ k ≤ 2 ^ 63 = pow_mono {i = k} {j = 63} (omega arith) in
-    let fits : 1 * 2 ^ k < 18446744073709551616 = omega arith in
-    mod-eq_of_lt fits ∙ (let e : 1 * 2 ^ k ≡ 2 ^ k = omega arith in e)
+-- the place of the highest bit of a is at least that of each power of two up to a
+pub highest_bit : (a k top : ℕ) → 2 ^ k ≤ a → a < 2 ^ (top + 1) → k ≤ top
+highest_bit a k top le lt = elim (cases_lt top k) [
+  | inl above ↦ absurd (let f : 2 ^ (top + 1) ≤ 2 ^ k = pow_mono {i = top + 1} {j = k} (omega arith) in omega arith)
+  | inr fine ↦ fine
+]
+
+-- the floor root of a number from 0 up, by powers in ℕ
+pub floor_root : {a r n : ℕ} → r ^ n ≤ a → a < (r + 1) ^ n → IsFloorRoot (pos a) n (pos r)
+floor_root le lt = record { non_negative = omega (arith, ints); power_le = omega (arith, ints); next_power_gt = omega (arith, ints) }

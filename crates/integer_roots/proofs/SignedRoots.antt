@@ -1,55 +1,43 @@
 -- Roots of whole numbers by the roots of their magnitudes.
-use Rattle.std.specs.Prelude.{◌⊎◌, ◌-ℤ◌, ◌<ℤ◌, ℤ, pos, negsuc, unsigned_abs}
-use Rattle.std.proofs.Common.{ℕ, suc, ◌+◌, ◌*◌, ◌^◌, ◌≤◌, inl, inr, arith, refl, mul-le-mul_right}
+use Rattle.std.specs.Prelude.{◌≡◌, ◌<ℤ◌, ◌≤ℤ◌, ℤ, pos, negsuc, neg_ℤ, unsigned_abs}
+use Rattle.std.proofs.Common.{ℕ, suc, ◌+◌, ◌^◌, ◌<◌, ◌≤◌, arith, refl, mul-le-mul_right}
 use Rattle.std.proofs.lemmas.Int.{ints}
-use Rattle.std.proofs.lemmas.Bool.{cases_lt}
 use Rattle.std.proofs.Math.Nat.{pow-le-pow_right}
 use Rattle.integer_core.specs.Range.{IsRange}
-use Rattle.integer_core.proofs.Whole.{linear}
-use borrow.Author.Differences.{abs_is}
+use Rattle.integer_core.proofs.Whole.{linear, sizes}
 use Rattle.integer_roots.specs.RootOf.{IsFloorRoot, IsRoot}
-use Rattle.integer_roots.proofs.Powers.{power_one, power_two}
+use Rattle.integer_roots.proofs.Powers.{power_one, power_two, floor_root}
+
+first_floor_root : (a : ℕ) → IsFloorRoot (pos a) 1 (pos a)
+first_floor_root a = floor_root (omega (arith, power_one a)) (omega (arith, power_one (a + 1)))
 
 -- each number is its own first root
 pub first_root : (x : ℤ) → IsRoot x 1 x
-first_root (pos a) =
-    let one = power_one a in
-    let next = power_one (a + 1) in
-    record {
-      of_non_negative = λ h. record { non_negative = h; power_le = omega (arith, ints); next_power_gt = omega (arith, ints) };
-      of_negative = λ h. absurd (omega (arith, ints));
-    }
-first_root (negsuc a) =
-    let one = power_one (suc a) in
-    let next = power_one (suc a + 1) in
-    record {
-      of_non_negative = λ h. absurd (omega (arith, ints));
-      of_negative = λ h. (refl, record { non_negative = omega (arith, ints); power_le = omega (arith, ints); next_power_gt = omega (arith, ints) });
-    }
+first_root (pos a) = record { of_non_negative = λ h. first_floor_root a; of_negative = λ h. absurd (omega (arith, ints)) }
+first_root (negsuc a) = record { of_non_negative = λ h. absurd (omega (arith, ints)); of_negative = λ h. (refl, first_floor_root (suc a)) }
 
-root_small : (n m r : ℕ) → 2 ≤ n → r ^ n ≤ m → (r ≤ 1) ⊎ (2 * r ≤ m)
-root_small n m r degree le = elim (cases_lt 1 r) [
-  | inl some ↦
-      let square : r ^ 2 ≤ r ^ n = pow-le-pow_right (omega arith) {i = 2} {j = n} degree in
-      inr (omega (arith, power_two r, mul-le-mul_right r some))
-  | inr few ↦ inl few
-]
+-- a number fits that is at most one that fits, or below the magnitude of one that fits
+pub below_fits : {fits : ℤ → Type 0} {low high x : ℤ} {k m : ℕ} → IsRange fits low high → fits x → fits (pos k)
+    → (k < m → m < unsigned_abs x) → fits (pos m)
+below_fits {x = x} range x_fits k_fits small =
+    let x_in = (range.between x).0 x_fits in
+    let k_in = (range.between _).0 k_fits in
+    (range.between _).1 (grind (arith, sizes, range.low_end))
 
 -- the root of a magnitude fits, from degree 2 on
-pub root_fits : {fits : ℤ → Type 0} {low high x : ℤ} {n m : ℕ} → IsRange fits low high → fits x → 2 ≤ n
-    → IsFloorRoot (pos (unsigned_abs x)) n (pos m) → fits (pos m)
-root_fits {x = x} {n = n} {m = m} range x_fits degree floor =
-    let x_in = (range.between x).0 x_fits in
+pub root_fits : {fits : ℤ → Type 0} {low high x z r : ℤ} {n : ℕ} → IsRange fits low high → fits x → 2 ≤ n
+    → z ≡ pos (unsigned_abs x) → IsFloorRoot z n r → fits r
+root_fits {r = negsuc m} range x_fits degree is floor = absurd (omega (arith, ints, floor.non_negative))
+root_fits {x = x} {r = pos m} {n = n} range x_fits degree is floor =
     let le : m ^ n ≤ unsigned_abs x = omega (arith, ints, floor.power_le) in
-    elim (root_small n (unsigned_abs x) m degree le) [
-      | inl one ↦ (range.between _).1 (omega (arith, linear, range.low_end, range.some), omega (arith, linear, range.some))
-      | inr half ↦ (range.between _).1 (omega (arith, linear, range.low_end, range.some), omega (arith, linear, abs_is, range.low_end, range.some))
-    ]
+    let one = (range.between (pos 1)).1 (omega (arith, linear, range.low_end, range.positive)) in
+    below_fits range x_fits one
+    (λ h. omega (arith, power_two m, mul-le-mul_right m h, pow-le-pow_right {n = m} (omega arith) {i = 2} {j = n} degree))
 
 -- and so does its negation, where the type has a number below 0
-pub negation_fits : {fits : ℤ → Type 0} {low high x : ℤ} {m : ℕ} → IsRange fits low high → fits x → x <ℤ pos 0 → fits (pos m)
-    → fits (pos 0 -ℤ pos m)
-negation_fits {x = x} range x_fits below m_fits =
+pub negation_fits : {fits : ℤ → Type 0} {low high x m r : ℤ} → IsRange fits low high → fits x → x <ℤ pos 0 → pos 0 ≤ℤ m → fits m
+    → r ≡ neg_ℤ m → fits r
+negation_fits {x = x} range x_fits below up m_fits is =
     let x_in = (range.between x).0 x_fits in
     let m_in = (range.between _).0 m_fits in
-    (range.between _).1 (omega (arith, linear, range.low_end), omega (arith, linear, range.some))
+    (range.between _).1 (omega (arith, linear, range.low_end, range.positive))

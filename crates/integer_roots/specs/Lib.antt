@@ -1,4 +1,4 @@
 pub mod Averages
 pub mod RootOf
 pub mod SquareRuns
-pub mod OnlyOne
+pub mod NativeWidth

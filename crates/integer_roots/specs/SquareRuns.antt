@@ -12,16 +12,16 @@ pub data Guess : Type 0 where
   Falling : ℕ → Guess
 
 -- the first loop takes a step that rises; the second, and then never the first, one that falls
-abbrev pub SquareTurn : ℕ → Guess → Guess → Type 0
-SquareTurn a (Rising x) (Rising y) = (x < y) × (y ≡ square_step a x)
-SquareTurn a (Rising x) (Falling y) = (y < x) × (y ≡ square_step a x)
-SquareTurn a (Falling x) (Falling y) = (y < x) × (y ≡ square_step a x)
-SquareTurn a (Falling x) (Rising y) = ⊥
+abbrev pub IsNewtonTurn : ℕ → Guess → Guess → Type 0
+IsNewtonTurn a (Rising x) (Rising y) = (x < y) × (y ≡ square_step a x)
+IsNewtonTurn a (Rising x) (Falling y) = (y < x) × (y ≡ square_step a x)
+IsNewtonTurn a (Falling x) (Falling y) = (y < x) × (y ≡ square_step a x)
+IsNewtonTurn a (Falling x) (Rising y) = ⊥
 
 -- neither loop that is still to come takes a step
-abbrev pub SquareEnds : ℕ → Guess → Type 0
-SquareEnds a (Rising x) = square_step a x ≡ x
-SquareEnds a (Falling x) = x ≤ square_step a x
+abbrev pub NewtonEnds : ℕ → Guess → Type 0
+NewtonEnds a (Rising x) = square_step a x ≡ x
+NewtonEnds a (Falling x) = x ≤ square_step a x
 
 -- top is the place of the highest bit of a, counted from 0
 pub record IsHighestBit (a top : ℕ) : Type 0 where
@@ -33,12 +33,12 @@ abbrev pub first_guess : ℕ → ℕ
 first_guess top = 2 ^ ((top + 1) / 2)
 
 -- n turns for the square root of a
-pub record SquareTurns (a n : ℕ) : Type 0 where
+pub record MakesNewtonRun (a n : ℕ) : Type 0 where
   pub top : ℕ
   pub highest : IsHighestBit a top
-  pub run : Makes (SquareTurn a) (SquareEnds a) (Rising (first_guess top)) n
+  pub run : Makes (IsNewtonTurn a) (NewtonEnds a) (Rising (first_guess top)) n
 
 -- the turns for the square root of x: none below 4, and else those of the loops' run
-pub record IsSquareTurns (x : ℤ) (turns : ℕ) : Type 0 where
+pub record AreSquareRootTurns (x : ℤ) (turns : ℕ) : Type 0 where
   pub below_four : x <ℤ pos 4 → turns ≡ 0
-  pub from_four : pos 4 ≤ℤ x → SquareTurns (unsigned_abs x) turns
+  pub from_four : pos 4 ≤ℤ x → MakesNewtonRun (unsigned_abs x) turns

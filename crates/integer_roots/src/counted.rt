@@ -2,7 +2,7 @@
 
 ghost use Rattle.std.specs.Prelude.{◌≤◌, ◌≤ℤ◌, pos};
 ghost use Rattle.integer_roots.specs.RootOf.{IsRoot};
-ghost use Rattle.integer_roots.specs.SquareRuns.{IsSquareTurns};
+ghost use Rattle.integer_roots.specs.SquareRuns.{AreSquareRootTurns};
 
 use crate::root::Roots;
 
@@ -12,9 +12,9 @@ pub trait SqrtCounted: Roots {
     /// guesses are 8, 10 and 9.
     fn sqrt_counted(&self) -> (Self, u32)
         requires in_range { Self.fits (Self.value self.now) }
-        requires sign { pos 0 ≤ℤ Self.value self.now }
+        requires from_zero { pos 0 ≤ℤ Self.value self.now }
         ensures in_range { Self.fits (Self.value result.0) }
         ensures root { IsRoot (Self.value self.now) 2 (Self.value result.0) }
-        ensures turned { IsSquareTurns (Self.value self.now) result.1 }
-        ensures few { result.1 ≤ 5 };
+        ensures turns { AreSquareRootTurns (Self.value self.now) result.1 }
+        ensures bound { result.1 ≤ 5 };
 }

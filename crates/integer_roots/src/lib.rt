@@ -4,12 +4,12 @@
 mod averages;
 mod bits;
 pub mod counted;
-mod cubes;
+mod cube_root;
 mod halves;
 mod native;
 mod root;
-mod signs;
-mod squares;
+mod signed;
+mod square_root;
 
 pub use averages::{Average, average_ceil, average_floor};
 pub use root::{Roots, cbrt, nth_root, sqrt};

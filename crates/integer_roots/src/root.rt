@@ -11,14 +11,14 @@ pub trait Roots: Integer {
     fn nth_root(&self, n: u32) -> Self
         requires in_range { Self.fits (Self.value self.now) }
         requires degree { n ≢ 0 }
-        requires sign { n % 2 ≡ 0 → pos 0 ≤ℤ Self.value self.now }
+        requires from_zero_where_even { n % 2 ≡ 0 → pos 0 ≤ℤ Self.value self.now }
         ensures in_range { Self.fits (Self.value result) }
         ensures root { IsRoot (Self.value self.now) n (Self.value result) };
 
     /// The square root, rounded down. `99.sqrt()` is `9`.
     fn sqrt(&self) -> Self
         requires in_range { Self.fits (Self.value self.now) }
-        requires sign { pos 0 ≤ℤ Self.value self.now }
+        requires from_zero { pos 0 ≤ℤ Self.value self.now }
         ensures in_range { Self.fits (Self.value result) }
         ensures root { IsRoot (Self.value self.now) 2 (Self.value result) }
     {
@@ -42,7 +42,7 @@ pub trait Roots: Integer {
 pub fn nth_root<T: Roots>(x: T, n: u32) -> T
     requires x_in_range { T.fits (T.value x) }
     requires degree { n ≢ 0 }
-    requires sign { n % 2 ≡ 0 → pos 0 ≤ℤ T.value x }
+    requires from_zero_where_even { n % 2 ≡ 0 → pos 0 ≤ℤ T.value x }
     ensures in_range { T.fits (T.value result) }
     ensures root { IsRoot (T.value x) n (T.value result) }
 {
@@ -52,7 +52,7 @@ pub fn nth_root<T: Roots>(x: T, n: u32) -> T
 /// [`Roots::sqrt`].
 pub fn sqrt<T: Roots>(x: T) -> T
     requires x_in_range { T.fits (T.value x) }
-    requires sign { pos 0 ≤ℤ T.value x }
+    requires from_zero { pos 0 ≤ℤ T.value x }
     ensures in_range { T.fits (T.value result) }
     ensures root { IsRoot (T.value x) 2 (T.value result) }
 {

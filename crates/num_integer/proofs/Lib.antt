@@ -3,9 +3,12 @@ pub mod Cancelling
 pub mod Ranges
 pub mod Steps
 pub mod RunningSums
+pub mod MultinomialTurns
 pub mod RowLemmas
 pub mod Reordering
 pub mod CoefficientDomain
+pub mod DivisionKinds
 pub mod QuotientDomain
 pub mod MultipleDomain
 pub mod CommonDomain
+pub mod Laws

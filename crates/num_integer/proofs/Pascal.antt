@@ -2,7 +2,7 @@
 use Rattle.std.proofs.Common.{◌≡◌, ℕ, zero, suc, ◌+◌, ◌-◌, ◌*◌, ◌^◌, ◌<◌, ◌≤◌, min, inl, inr, ap, sym, subst, refl, arith, mul-le-mul_right, le_refl, le_trans}
 use Rattle.std.proofs.lemmas.Bool.{cases_lt}
 use Rattle.std.proofs.Math.Nat.{le_of_mul-le-mul_left, pow-succ'}
-use Rattle.num_integer.specs.Coefficient.{coefficient, factorial, EqualsItsMirror, DividesFactorials}
+use Rattle.num_integer.specs.Coefficient.{coefficient, factorial}
 
 -- one way to choose nothing
 pub coefficient-zero : (n : ℕ) → coefficient n 0 ≡ 1
@@ -22,12 +22,12 @@ unfolding coefficient
 coefficient-all zero = refl
 coefficient-all (suc n) = omega (arith, coefficient-all n, none_above n (suc n) (omega arith))
 
--- some way to choose no more than there are
-pub some_within : (n k : ℕ) → k ≤ n → 0 < coefficient n k
+-- a way to choose no more than there are
+pub coefficient-pos : (n k : ℕ) → k ≤ n → 0 < coefficient n k
 unfolding coefficient
-some_within n zero h = omega arith
-some_within zero (suc k) h = absurd (omega arith)
-some_within (suc n) (suc k) h = omega (arith, some_within n k (omega arith))
+coefficient-pos n zero h = omega arith
+coefficient-pos zero (suc k) h = absurd (omega arith)
+coefficient-pos (suc n) (suc k) h = omega (arith, coefficient-pos n k (omega arith))
 
 mirror_by_sum : (n a b : ℕ) → a + b ≡ n → coefficient n a ≡ coefficient n b
 unfolding coefficient
@@ -42,7 +42,7 @@ mirror_by_sum (suc n) (suc a) (suc b) e =
     omega (arith, mirror_by_sum n a (suc b) (omega arith), mirror_by_sum n (suc a) b (omega arith))
 
 -- to choose k is to choose the n - k others
-pub mirror : (n k : ℕ) → k ≤ n → EqualsItsMirror n k
+pub mirror : (n k : ℕ) → k ≤ n → coefficient n k ≡ coefficient n (n - k)
 mirror n k h = mirror_by_sum n k (n - k) (omega arith)
 
 -- the absorption rule
@@ -110,7 +110,7 @@ not_below_top zero b h k = absurd (omega arith)
 not_below_top (suc zero) b h k = omega (arith, first_place (1 + b))
 not_below_top (suc (suc a)) b h k =
     let e : suc (suc a) + b ≡ suc (suc a + b) = omega arith in
-    rw e (omega (arith, not_below_top (suc a) b (omega arith) k, some_within (suc a + b) (suc (suc a)) (omega arith)))
+    rw e (omega (arith, not_below_top (suc a) b (omega arith) k, coefficient-pos (suc a + b) (suc (suc a)) (omega arith)))
 
 factorials_by_sum : (a b : ℕ) → factorial a * factorial b * coefficient (a + b) a ≡ factorial (a + b)
 unfolding factorial
@@ -122,28 +122,31 @@ factorials_by_sum (suc a) b =
     rw e (omega arith)
 
 -- a coefficient divides factorials, multiplied across
-pub divides_factorials : (n k : ℕ) → k ≤ n → DividesFactorials n k
+pub divides_factorials : (n k : ℕ) → k ≤ n → factorial k * factorial (n - k) * coefficient n k ≡ factorial n
 divides_factorials n k h =
     let e : k + (n - k) ≡ n = omega arith in
     subst (λ (m : ℕ). factorial k * factorial (n - k) * coefficient m k ≡ factorial m) e (factorials_by_sum k (n - k))
 
 -- a factorial is above 0
-pub some_factorial : (n : ℕ) → 0 < factorial n
+pub factorial-pos : (n : ℕ) → 0 < factorial n
 unfolding factorial
-some_factorial zero = omega arith
-some_factorial (suc n) = omega (arith, mul-le-mul_right (suc n) (some_factorial n))
+factorial-pos zero = omega arith
+factorial-pos (suc n) = omega (arith, mul-le-mul_right (suc n) (factorial-pos n))
 
 -- the lesser of k and n - k has the coefficient of k
-pub nearer_same : (n k : ℕ) → k ≤ n → coefficient n (min k (n - k)) ≡ coefficient n k
-nearer_same n k h = elim (cases_lt (n - k) k) [
-  | inl far ↦ let e : min k (n - k) ≡ n - k = omega arith in rw e (sym (mirror n k h))
-  | inr near ↦ let e : min k (n - k) ≡ k = omega arith in rw e refl
+pub nearer_same : (n k m : ℕ) → k ≤ n → m ≡ min k (n - k) → coefficient n m ≡ coefficient n k
+nearer_same n k m h is = elim (cases_lt (n - k) k) [
+  | inl far ↦ let e : m ≡ n - k = omega arith in rw e (sym (mirror n k h))
+  | inr near ↦ let e : m ≡ k = omega arith in rw e refl
 ]
 
 -- on the way to it no coefficient is greater
 pub below_answer : (n k m : ℕ) → k ≤ n → m ≤ min k (n - k) → coefficient n m ≤ coefficient n k
-below_answer n k m h l = rw (← nearer_same n k h) (rises n m (min k (n - k)) l (omega arith))
+below_answer n k m h l = rw (← nearer_same n k _ h refl) (rises n m (min k (n - k)) l (omega arith))
 
 -- and the answer is at least that power of two
 pub power_below_answer : (n k m : ℕ) → k ≤ n → m ≤ min k (n - k) → 2 ^ m ≤ coefficient n k
 power_below_answer n k m h l = le_trans (power_below n m (omega arith)) (below_answer n k m h l)
+
+-- what a loop along a row needs
+pub ruleset row_steps = (coefficient-zero, none_above, nearer_same, below_answer, power_below_answer)

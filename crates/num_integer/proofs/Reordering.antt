@@ -10,8 +10,9 @@ use Rattle.std.proofs.lemmas.List.Elements.{All-get_or, All-map, All-set}
 use Rattle.std.proofs.lemmas.List.Sorted.{IsPermutation-keeps, IsPermutation-map, sum_by-IsPermutation}
 use Rattle.std.proofs.Math.Nat.{eq_of_mul-eq-mul_left}
 use Rattle.num_integer.specs.Coefficient.{factorial}
-use Rattle.num_integer.specs.Multinomial.{HasOneMultinomial, product}
-use Rattle.num_integer.proofs.Pascal.{some_factorial}
+use Rattle.num_integer.specs.Multinomial.{IsMultinomial, product}
+use Rattle.num_integer.specs.Laws.{MultinomialIgnoresOrder}
+use Rattle.num_integer.proofs.Pascal.{factorial-pos}
 
 -- a product with one factor replaced, multiplied across
 product-set : (xs : List ℕ) (i y d : ℕ) → i < length xs → product (set xs i y) * get_or xs i d ≡ product xs * y
@@ -21,7 +22,7 @@ product-set (x ∷ xs) (suc i) y d h = let e = ap (λ (t : ℕ). x * t) (product
 
 -- two factors in each other's place
 swapped : (l : List ℕ) (i j : ℕ) → i < length l → j < length l → All (λ (x : ℕ). 0 < x) l → All (λ (x : ℕ). 0 < x) (swap l i j) × (product (swap l i j) ≡ product l)
-swapped l i j p q some =
+swapped l i j p q positive =
     let a : ℕ = get_or l i 1 in
     let b : ℕ = get_or l j 1 in
     let w : List ℕ = set l i b in
@@ -32,24 +33,24 @@ swapped l i j p q some =
     ] in
     let first = product-set l i b 1 p in
     let second = rw there at (product-set w j a 1 (omega arith)) in
-    let some_a : 0 < a = All-get_or (λ (x : ℕ). 0 < x) l i 1 p some in
-    let some_b : 0 < b = All-get_or (λ (x : ℕ). 0 < x) l j 1 q some in
-    let same : product (set w j a) ≡ product l = eq_of_mul-eq-mul_left b some_b (product (set w j a)) (product l) (omega arith) in
-    let all = All-set (λ (x : ℕ). 0 < x) w j a some_a (All-set (λ (x : ℕ). 0 < x) l i b some_b some) in
+    let a_positive : 0 < a = All-get_or (λ (x : ℕ). 0 < x) l i 1 p positive in
+    let b_positive : 0 < b = All-get_or (λ (x : ℕ). 0 < x) l j 1 q positive in
+    let same : product (set w j a) ≡ product l = eq_of_mul-eq-mul_left b b_positive (product (set w j a)) (product l) (omega arith) in
+    let all = All-set (λ (x : ℕ). 0 < x) w j a a_positive (All-set (λ (x : ℕ). 0 < x) l i b b_positive positive) in
     subst (λ (t : List ℕ). All (λ (x : ℕ). 0 < x) t × (product t ≡ product l)) (swap_is l i j 1 p q) (all, same)
 
 -- a product of numbers above 0 does not depend on their order
 product_in_any_order : (xs ys : List ℕ) → All (λ (x : ℕ). 0 < x) xs → IsPermutation xs ys → product ys ≡ product xs
-product_in_any_order xs ys some h =
-    (IsPermutation-keeps xs (λ (l : List ℕ). All (λ (x : ℕ). 0 < x) l × (product l ≡ product xs)) (some, refl)
+product_in_any_order xs ys positive h =
+    (IsPermutation-keeps xs (λ (l : List ℕ). All (λ (x : ℕ). 0 < x) l × (product l ≡ product xs)) (positive, refl)
     (λ l i j p q h. let next = swapped l i j p q h.0 in (next.0, next.1 ∙ h.1)) ys h).1
 
 -- nor does a multinomial
-pub in_any_order : (counts others : List ℤ) → HasOneMultinomial counts others
+pub in_any_order : MultinomialIgnoresOrder
 in_any_order counts others h m is =
     let magnitudes = IsPermutation-map unsigned_abs counts others h in
-    let some : All (λ (x : ℕ). 0 < x) (map factorial (map unsigned_abs counts)) =
-    All-map (λ (x : ℕ). 0 < x) factorial (map unsigned_abs counts) (λ k d l. some_factorial _) in
-    let products = product_in_any_order _ _ some (IsPermutation-map factorial _ _ magnitudes) in
+    let positive : All (λ (x : ℕ). 0 < x) (map factorial (map unsigned_abs counts)) =
+    All-map (λ (x : ℕ). 0 < x) factorial (map unsigned_abs counts) (λ k d l. factorial-pos _) in
+    let products = product_in_any_order _ _ positive (IsPermutation-map factorial _ _ magnitudes) in
     let sums = sum_by-IsPermutation (λ (x : ℕ). x) _ _ magnitudes in
     record { factorials = rw (products, sums) is.factorials }

@@ -10,7 +10,9 @@ use Rattle.integer_core.specs.Range.{IsRange}
 use Rattle.num_integer.specs.Coefficient.{coefficient, coefficient_of}
 use Rattle.num_integer.proofs.Pascal.{coefficient-zero, mirror, nearer_same, rises}
 use Rattle.num_integer.proofs.Ranges.{fits_below}
-use Rattle.num_integer.specs.Row.{HasGreatestInMiddle, HasOneItemMore, IsPlace, ReadsTheSameBackwards, RowFits, row_of}
+use Rattle.num_integer.proofs.Steps.{from_naturals}
+use Rattle.num_integer.specs.Row.{IsPlace, RowFits, row_of}
+use Rattle.num_integer.specs.Laws.{RowIsGreatestInMiddle, RowIsPalindrome, RowLength}
 
 -- the number of items
 length-row : (n : ℕ) → length (row_of (pos n)) ≡ n + 1
@@ -25,12 +27,8 @@ row_at n k d h = get_or-map-range_with_len (λ k. pos (coefficient n k)) 0 (n + 
 -- what is left begins with the k-th item
 pub rest_next : (n k : ℤ) → pos 0 ≤ℤ k → k ≤ℤ n
     → drop (unsigned_abs k) (row_of n) ≡ coefficient_of n k ∷ drop (unsigned_abs (k +ℤ pos 1)) (row_of n)
-rest_next (pos n) (pos k) up within =
-    let inside : k < length (row_of (pos n)) = omega (arith, ints, length-row n) in
-    at_drop_more (λ (xs : List ℤ). xs) (row_of (pos n)) k (pos 0) inside ∙ rw (row_at n k (pos 0) (omega (arith, ints))) refl
-rest_next (pos n) (negsuc k) up within = absurd (omega (arith, ints))
-rest_next (negsuc n) (pos k) up within = absurd (omega (arith, ints))
-rest_next (negsuc n) (negsuc k) up within = absurd (omega (arith, ints))
+rest_next = from_naturals (λ n k. drop (unsigned_abs k) (row_of n) ≡ coefficient_of n k ∷ drop (unsigned_abs (k +ℤ pos 1)) (row_of n)) (λ n k within.
+    at_drop_more (λ (xs : List ℤ). xs) (row_of (pos n)) k (pos 0) (omega (arith, length-row n)) ∙ rw (row_at n k (pos 0) within) refl)
 
 -- past n nothing is left
 pub rest_none : (n k : ℤ) → pos 0 ≤ℤ k → n <ℤ k → drop (unsigned_abs k) (row_of n) ≡ []
@@ -50,10 +48,10 @@ below_middle : (n m : ℕ) → m ≤ n → coefficient n m ≤ coefficient n (n 
 below_middle n m h =
     let half : n / 2 + n / 2 ≤ n = omega arith in
     let least : min m (n - m) ≤ n / 2 = omega arith in
-    rw (← nearer_same n m h) (rises n (min m (n - m)) (n / 2) least half)
+    rw (← nearer_same n m _ h refl) (rises n (min m (n - m)) (n / 2) least half)
 
 -- no item is above the one in the middle
-pub greatest_in_middle : (n : ℤ) → HasGreatestInMiddle n
+pub greatest_in_middle : RowIsGreatestInMiddle
 unfolding row_of
 greatest_in_middle (pos n) = All-from_get_or (λ (item : ℤ). item ≤ℤ pos (coefficient n (n / 2))) (row_of (pos n)) (pos 0) (λ k h.
     let within : k ≤ n = omega (arith, length-row n) in
@@ -62,7 +60,7 @@ greatest_in_middle (pos n) = All-from_get_or (λ (item : ℤ). item ≤ℤ pos (
 greatest_in_middle (negsuc n) = All-nil (λ (item : ℤ). item ≤ℤ pos (coefficient (suc n) (suc n / 2)))
 
 -- a row is symmetric
-pub backwards : (n : ℤ) → ReadsTheSameBackwards n
+pub backwards : RowIsPalindrome
 unfolding row_of
 backwards (pos n) =
     let long : length (reverse (row_of (pos n))) ≡ n + 1 = length-reverse (row_of (pos n)) ∙ length-row n in
@@ -73,7 +71,7 @@ backwards (pos n) =
 backwards (negsuc n) = refl
 
 -- each item of a row that fits is in range
-pub row_in_range : {fits : ℤ → Type 0} {low high : ℤ} (n : ℤ) → IsRange fits low high → RowFits fits high n → All fits (row_of n)
+pub row_in_range : {fits : ℤ → Type 0} {low high : ℤ} (n : ℤ) → IsRange fits low high → RowFits fits n → All fits (row_of n)
 unfolding row_of
 row_in_range {fits} (pos n) range row = All-from_get_or fits (row_of (pos n)) (pos 0) (λ k h.
     let within : k ≤ n = omega (arith, length-row n) in
@@ -85,7 +83,7 @@ row_in_range {fits} (negsuc n) range row = All-nil fits
 -- ---- the steps of an iterator over the row of n
 
 -- a new iterator stands at the first item
-pub place_first : {fits : ℤ → Type 0} {high n k item : ℤ} → fits n → RowFits fits high n → fits k → k ≡ pos 0 → fits item → item ≡ pos 1 → IsPlace fits high n k item
+pub place_first : {fits : ℤ → Type 0} {n k item : ℤ} → fits n → RowFits fits n → fits k → k ≡ pos 0 → fits item → item ≡ pos 1 → IsPlace fits n k item
 place_first n_fits row k_fits none item_fits one = record {
   n_in_range = n_fits;
   k_in_range = k_fits;
@@ -95,15 +93,20 @@ place_first n_fits row k_fits none item_fits one = record {
   item_is = λ within. one ∙ ap pos (sym (rw none (coefficient-zero _)));
 }
 
-module _ {fits : ℤ → Type 0} {low high n k item : ℤ} (range : IsRange fits low high) (place : IsPlace fits high n k item) where
-  -- no item of the row leaves the type
+-- neither the next item nor the next place leaves the type
+module _ {fits : ℤ → Type 0} {low high n k item : ℤ} (range : IsRange fits low high) (place : IsPlace fits n k item) where
   pub item_fits : k <ℤ n → fits (coefficient_of n (k +ℤ pos 1))
   item_fits below =
       let up = place.k_from_zero in
       let most = below_middle (unsigned_abs n) (unsigned_abs (k +ℤ pos 1)) (omega (arith, ints)) in
       fits_below range (place.row_fits (omega (arith, ints))).1 (omega (arith, ints)) (omega (arith, ints))
 
+  pub place_fits : k ≤ℤ n → fits (k +ℤ pos 1)
+  place_fits within =
+      let up = place.k_from_zero in
+      fits_below range (place.row_fits (omega (arith, ints))).0 (omega (arith, ints)) (omega (arith, ints))
+
 -- a row has one item more than n
-pub one_item_more : (n : ℤ) → HasOneItemMore n
+pub one_item_more : RowLength
 one_item_more (pos n) up = ap pos (length-row n)
 one_item_more (negsuc n) up = absurd (omega (arith, ints))

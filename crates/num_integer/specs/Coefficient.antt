@@ -1,5 +1,5 @@
 -- Binomial coefficients and factorials.
-use Rattle.std.specs.Prelude.{◌≡◌, ◌+◌, ◌-◌, ◌*◌, ℕ, ℤ, zero, suc, pos, unsigned_abs}
+use Rattle.std.specs.Prelude.{◌+◌, ◌*◌, ℕ, ℤ, zero, suc, pos, unsigned_abs}
 
 -- the binomial coefficient of n and k, by Pascal's rule
 unfoldable pub coefficient : ℕ → ℕ → ℕ
@@ -15,11 +15,3 @@ coefficient_of n k = pos (coefficient (unsigned_abs n) (unsigned_abs k))
 unfoldable pub factorial : ℕ → ℕ
 factorial zero = 1
 factorial (suc n) = suc n * factorial n
-
--- to choose k of n things is to choose the n - k others
-abbrev pub EqualsItsMirror : ℕ → ℕ → Type 0
-EqualsItsMirror n k = coefficient n k ≡ coefficient n (n - k)
-
--- k! times (n - k)! times the coefficient is n!
-abbrev pub DividesFactorials : ℕ → ℕ → Type 0
-DividesFactorials n k = factorial k * factorial (n - k) * coefficient n k ≡ factorial n

@@ -1,35 +1,135 @@
--- Laws of the definitions of division, divisors and multiples.
-use Rattle.std.specs.Prelude.{◌≡◌, ◌≢◌, ◌↔◌, ◌*ℤ◌, ℤ, pos, neg_ℤ, unsigned_abs}
-use Rattle.integer_core.specs.Division.{IsNextMultiple, IsPreviousMultiple}
-use Rattle.integer_core.specs.Divisors.{IsGreatestCommonDivisor, IsLeastCommonMultiple}
+-- The laws of the definitions. Each is proved in proofs/Laws.antt, by a lemma of its name in small letters.
+use Rattle.std.specs.Prelude.{◌≡◌, ◌≢◌, ◌↔◌, ◌+◌, ◌-◌, ◌*◌, ◌≤◌, ◌+ℤ◌, ◌*ℤ◌, ◌≤ℤ◌, ℕ, ℤ, pos, neg_ℤ, unsigned_abs, List, map, length, reverse}
+use Rattle.std.specs.List.{All}
+use Rattle.std.specs.List.Sorted.{IsPermutation}
+use Rattle.integer_core.specs.Bezout.{AreEuclidTurns, IsBezoutAnswer}
+use Rattle.integer_core.specs.Division.{EachKind, IsCeiled, IsFloored, IsMultiple}
+use Rattle.integer_core.specs.Divisors.{GcdFits, IsGreatestCommonDivisor, IsLeastCommonMultiple}
+use Rattle.integer_core.specs.Only.{IsOnly}
+use Rattle.integer_core.specs.Range.{EachFits, IsRange}
+use Rattle.integer_roots.specs.Averages.{IsAverageCeil, IsAverageFloor}
+use Rattle.integer_roots.specs.RootOf.{IsRoot}
+use Rattle.integer_roots.specs.SquareRuns.{AreSquareRootTurns}
+use Rattle.num_integer.specs.Coefficient.{coefficient, factorial}
+use Rattle.num_integer.specs.Multinomial.{IsMultinomial, coefficients_from, product}
+use Rattle.num_integer.specs.Row.{middle_of, row_of}
 
--- by each divisor but 0 there is a quotient and a remainder of the kind
-abbrev pub Exists : (ℤ → ℤ → ℤ → ℤ → Type 0) → Type 0
-Exists Kind = (n d : ℤ) → d ≢ pos 0 → (q r : ℤ) × Kind n d q r
+-- ---- division and multiples
 
--- the quotient and the remainder of the kind are the only ones
-abbrev pub IsUnique : (ℤ → ℤ → ℤ → ℤ → Type 0) → Type 0
-IsUnique Kind = (n d q r p s : ℤ) → Kind n d q r → Kind n d p s → (q ≡ p) × (r ≡ s)
+-- by each divisor but 0 there is a quotient and a remainder of each kind
+abbrev pub DivisionExists : Type 0
+DivisionExists = EachKind (λ Kind. (n d : ℤ) → d ≢ pos 0 → (q r : ℤ) × Kind n d q r)
+
+-- and they are the only ones
+abbrev pub DivisionIsOnly : Type 0
+DivisionIsOnly = EachKind (λ Kind. (n d q r : ℤ) → Kind n d q r → IsOnly (λ (p, s). Kind n d p s) (q, r))
 
 -- the next multiple of a divisor is the previous multiple of its negation
 abbrev pub NegationTurnsMultiples : Type 0
-NegationTurnsMultiples = (n d m : ℤ) → IsNextMultiple n (neg_ℤ d) m ↔ IsPreviousMultiple n d m
+NegationTurnsMultiples = (n d m : ℤ) → IsMultiple IsCeiled n (neg_ℤ d) m ↔ IsMultiple IsFloored n d m
 
--- each pair has a number of the relation
-abbrev pub EachPairHas : (ℤ → ℤ → ℤ → Type 0) → Type 0
-EachPairHas P = (a b : ℤ) → (z : ℤ) × P a b z
+-- ---- common divisors and multiples
 
--- and only one
-abbrev pub EachPairHasOne : (ℤ → ℤ → ℤ → Type 0) → Type 0
-EachPairHasOne P = (a b y z : ℤ) → P a b y → P a b z → y ≡ z
+abbrev pub GcdExists : Type 0
+GcdExists = (a b : ℤ) → (g : ℤ) × IsGreatestCommonDivisor a b g
 
-abbrev pub IsSymmetric : (ℤ → ℤ → ℤ → Type 0) → Type 0
-IsSymmetric P = (a b z : ℤ) → P a b z → P b a z
+abbrev pub GcdIsOnly : Type 0
+GcdIsOnly = (a b g : ℤ) → IsGreatestCommonDivisor a b g → IsOnly (IsGreatestCommonDivisor a b) g
 
--- the gcd of 0 and 0 is 0
-abbrev pub ZerosHaveZero : Type 0
-ZerosHaveZero = IsGreatestCommonDivisor (pos 0) (pos 0) (pos 0)
+abbrev pub GcdIsSymmetric : Type 0
+GcdIsSymmetric = (a b g : ℤ) → IsGreatestCommonDivisor a b g → IsGreatestCommonDivisor b a g
+
+-- that of 0 and 0 is 0
+abbrev pub GcdOfZeros : Type 0
+GcdOfZeros = IsGreatestCommonDivisor (pos 0) (pos 0) (pos 0)
+
+-- of two numbers of a type, the condition `GcdFits` says just that their gcd fits
+abbrev pub GcdFitsExactly : Type 1
+GcdFitsExactly = (fits : ℤ → Type 0) (low high a b : ℤ) → IsRange fits low high → fits a → fits b
+    → GcdFits fits a b ↔ EachFits fits (IsGreatestCommonDivisor a b)
+
+abbrev pub LcmExists : Type 0
+LcmExists = (a b : ℤ) → (l : ℤ) × IsLeastCommonMultiple a b l
+
+abbrev pub LcmIsOnly : Type 0
+LcmIsOnly = (a b l : ℤ) → IsLeastCommonMultiple a b l → IsOnly (IsLeastCommonMultiple a b) l
+
+abbrev pub LcmIsSymmetric : Type 0
+LcmIsSymmetric = (a b l : ℤ) → IsLeastCommonMultiple a b l → IsLeastCommonMultiple b a l
 
 -- the gcd times the lcm is the magnitude of the product
-abbrev pub ProductOfBoth : Type 0
-ProductOfBoth = (a b g l : ℤ) → IsGreatestCommonDivisor a b g → IsLeastCommonMultiple a b l → g *ℤ l ≡ pos (unsigned_abs (a *ℤ b))
+abbrev pub GcdTimesLcm : Type 0
+GcdTimesLcm = (a b g l : ℤ) → IsGreatestCommonDivisor a b g → IsLeastCommonMultiple a b l → g *ℤ l ≡ pos (unsigned_abs (a *ℤ b))
+
+-- ---- Bezout pairs
+
+-- each pair of numbers has a Bezout answer
+abbrev pub BezoutAnswerExists : Type 0
+BezoutAnswerExists = (a b : ℤ) → (g x y : ℤ) × IsBezoutAnswer a b g x y
+
+-- and only one
+abbrev pub BezoutAnswerIsOnly : Type 0
+BezoutAnswerIsOnly = (a b g x y : ℤ) → IsBezoutAnswer a b g x y → IsOnly (λ (h, z, w). IsBezoutAnswer a b h z w) (g, x, y)
+
+-- the turns of Euclid's loop are the only ones
+abbrev pub EuclidTurnsAreOnly : Type 0
+EuclidTurnsAreOnly = (a b : ℤ) (n : ℕ) → AreEuclidTurns a b n → IsOnly (AreEuclidTurns a b) n
+
+-- ---- averages and roots
+
+abbrev pub AverageFloorIsOnly : Type 0
+AverageFloorIsOnly = (a b f : ℤ) → IsAverageFloor a b f → IsOnly (IsAverageFloor a b) f
+
+abbrev pub AverageCeilIsOnly : Type 0
+AverageCeilIsOnly = (a b c : ℤ) → IsAverageCeil a b c → IsOnly (IsAverageCeil a b) c
+
+-- the average rounded up is the one rounded down, or 1 more
+abbrev pub AveragesAreNeighbors : Type 0
+AveragesAreNeighbors = (a b f c : ℤ) → IsAverageFloor a b f → IsAverageCeil a b c → (f ≤ℤ c) × (c ≤ℤ (f +ℤ pos 1))
+
+abbrev pub RootIsOnly : Type 0
+RootIsOnly = (x : ℤ) (n : ℕ) (r : ℤ) → IsRoot x n r → IsOnly (IsRoot x n) r
+
+-- the first root is the number itself
+abbrev pub FirstRoot : Type 0
+FirstRoot = (x : ℤ) → IsRoot x 1 x
+
+-- the turns for a square root are the only ones
+abbrev pub SquareRootTurnsAreOnly : Type 0
+SquareRootTurnsAreOnly = (x : ℤ) (n : ℕ) → AreSquareRootTurns x n → IsOnly (AreSquareRootTurns x) n
+
+-- ---- coefficients
+
+-- to choose k of n things is to choose the n - k others
+abbrev pub CoefficientMirror : Type 0
+CoefficientMirror = (n k : ℕ) → k ≤ n → coefficient n k ≡ coefficient n (n - k)
+
+-- k! times (n - k)! times the coefficient is n!
+abbrev pub FactorialFormula : Type 0
+FactorialFormula = (n k : ℕ) → k ≤ n → factorial k * factorial (n - k) * coefficient n k ≡ factorial n
+
+-- the multinomial is the product of the coefficients of the running sums
+abbrev pub MultinomialFormula : Type 0
+MultinomialFormula = (counts : List ℤ) → IsMultinomial counts (pos (product (coefficients_from 0 (map unsigned_abs counts))))
+
+abbrev pub MultinomialIsOnly : Type 0
+MultinomialIsOnly = (counts : List ℤ) (m : ℤ) → IsMultinomial counts m → IsOnly (IsMultinomial counts) m
+
+-- counts in another order have the same multinomial
+abbrev pub MultinomialIgnoresOrder : Type 0
+MultinomialIgnoresOrder = (counts others : List ℤ) → IsPermutation counts others → (m : ℤ) → IsMultinomial counts m → IsMultinomial others m
+
+-- the row of n has n + 1 items, where n is not negative
+abbrev pub RowLength : Type 0
+RowLength = (n : ℤ) → pos 0 ≤ℤ n → pos (length (row_of n)) ≡ n +ℤ pos 1
+
+-- read from its end the list is the same
+abbrev pub IsPalindrome : List ℤ → Type 0
+IsPalindrome items = reverse items ≡ items
+
+abbrev pub RowIsPalindrome : Type 0
+RowIsPalindrome = (n : ℤ) → IsPalindrome (row_of n)
+
+-- no item of a row is above the one in its middle
+abbrev pub RowIsGreatestInMiddle : Type 0
+RowIsGreatestInMiddle = (n : ℤ) → All (λ item. item ≤ℤ middle_of n) (row_of n)

@@ -1,15 +1,14 @@
 //! Binomials and multinomials.
 
-ghost use Rattle.std.specs.Prelude.{◌≡◌, ◌≤ℤ◌, ◌<ℤ◌, ◌+ℤ◌, ◌*ℤ◌, pos, map};
+ghost use Rattle.std.specs.Prelude.{◌≡◌, ◌-◌, ◌^◌, ◌≤◌, ◌≤ℤ◌, ◌<ℤ◌, ◌+ℤ◌, ◌*ℤ◌, pos, unsigned_abs, min, map};
 ghost use Rattle.std.specs.List.{All};
 ghost use Rattle.integer_core.specs.Divisors.{Divides};
 ghost use Rattle.integer_core.specs.Range.{EachFits};
-ghost use Rattle.num_integer.specs.Coefficient.{coefficient_of};
+ghost use Rattle.num_integer.specs.Coefficient.{coefficient, coefficient_of};
 ghost use Rattle.num_integer.specs.Multinomial.{IsMultinomial};
 
-use crate::counted::binomial_counted;
-use crate::operators::{difference, one, product, successor, sum, zero};
 use integer_core::Integer;
+use integer_core::operators::{difference, is_below, one, product, quotient, successor, sum, zero};
 
 /// The factors `r / g` and `a / (b / g)` of `r * a / b`, where `g` is the gcd of `r` and `b`.
 /// After <https://blog.plover.com/math/choose-2.html>.
@@ -18,14 +17,14 @@ pub(crate) fn factors<T: Integer>(r: T, a: T, b: T) -> (T, T)
     requires a_in_range { T.fits (T.value a) }
     requires b_in_range { T.fits (T.value b) }
     requires a_from_zero { pos 0 ≤ℤ T.value a }
-    requires b_above_zero { pos 0 <ℤ T.value b }
+    requires b_positive { pos 0 <ℤ T.value b }
     requires whole { Divides (T.value b) (T.value r *ℤ T.value a) }
     ensures in_range { T.fits (T.value result.0) × T.fits (T.value result.1) }
     ensures product { T.value result.0 *ℤ T.value result.1 *ℤ T.value b
         ≡ T.value r *ℤ T.value a }
 {
     let g = r.gcd(&b);
-    (r / g, a / (b / g))
+    (quotient(r, g), quotient(a, quotient(b, g)))
 }
 
 /// The coefficient of `n` and `k + 1`, where `c` is that of `n` and `k`: it is
@@ -36,7 +35,7 @@ pub(crate) fn next_coefficient<T: Integer>(c: T, n: T, k: T) -> T
     requires k_in_range { T.fits (T.value k) }
     requires k_from_zero { pos 0 ≤ℤ T.value k }
     requires k_below { T.value k <ℤ T.value n }
-    requires coefficient { T.value c ≡ coefficient_of (T.value n) (T.value k) }
+    requires current { T.value c ≡ coefficient_of (T.value n) (T.value k) }
     requires next_fits { T.fits (coefficient_of (T.value n) (T.value k +ℤ pos 1)) }
     ensures in_range { T.fits (T.value result) }
     ensures next { T.value result ≡ coefficient_of (T.value n) (T.value k +ℤ pos 1) }
@@ -45,14 +44,65 @@ pub(crate) fn next_coefficient<T: Integer>(c: T, n: T, k: T) -> T
     product(x, y)
 }
 
+/// The lesser of `k` and `n - k`.
+fn nearer_end<T: Integer>(n: T, k: T) -> T
+    requires n_in_range { T.fits (T.value n) }
+    requires k_in_range { T.fits (T.value k) }
+    requires k_from_zero { pos 0 ≤ℤ T.value k }
+    requires k_within { T.value k ≤ℤ T.value n }
+    ensures in_range { T.fits (T.value result) }
+    ensures lesser { T.value result
+        ≡ pos (min (unsigned_abs (T.value k)) (unsigned_abs (T.value n) - unsigned_abs (T.value k))) }
+{
+    let rest = difference(n, k);
+    if is_below(rest, k) { rest } else { k }
+}
+
+/// [`binomial`], and the number of turns of its loop. `binomial_counted(9, 4)` is `(126, 4)`, and
+/// `binomial_counted(200, 199)` is `(200, 1)`.
+#[tactic(auto, using(crate::proofs::Pascal::row_steps))]
+pub fn binomial_counted<T: Integer>(n: T, k: T) -> (T, u32)
+    requires n_in_range { T.fits (T.value n) }
+    requires k_in_range { T.fits (T.value k) }
+    requires n_from_zero { pos 0 ≤ℤ T.value n }
+    requires k_from_zero { pos 0 ≤ℤ T.value k }
+    requires coefficient_fits { T.fits (coefficient_of (T.value n) (T.value k)) }
+    ensures in_range { T.fits (T.value result.0) }
+    ensures coefficient { T.value result.0 ≡ coefficient_of (T.value n) (T.value k) }
+    ensures turns { result.1
+        ≡ min (unsigned_abs (T.value k)) (unsigned_abs (T.value n) - unsigned_abs (T.value k)) }
+    ensures bound { T.value k ≤ℤ T.value n
+        → 2 ^ result.1 ≤ coefficient (unsigned_abs (T.value n)) (unsigned_abs (T.value k)) }
+{
+    if is_below(n, k) {
+        return (zero(), 0);
+    }
+    let last = nearer_end(n, k);
+    let mut coefficient = one();
+    let mut place = zero();
+    let mut turns = 0;
+    while is_below(place, last) {
+        coefficient = next_coefficient(coefficient, n, place);
+        place = successor(place);
+        turns += 1;
+    }
+    (coefficient, turns)
+}
+
 /// The binomial coefficient of `n` and `k`, the number of ways to choose `k` of `n` things.
 /// `binomial(9, 4)` is `126`, and `binomial(2, 3)` is `0`.
+///
+/// Each coefficient of `n` fits up to this `n`, and above it those near the middle do not:
+///
+/// | `u8` | `i8` | `u16` | `i16` | `u32` | `i32` | `u64` | `i64` |
+/// |---|---|---|---|---|---|---|---|
+/// | 10 | 9 | 18 | 17 | 34 | 33 | 67 | 66 |
 pub fn binomial<T: Integer>(n: T, k: T) -> T
     requires n_in_range { T.fits (T.value n) }
     requires k_in_range { T.fits (T.value k) }
     requires n_from_zero { pos 0 ≤ℤ T.value n }
     requires k_from_zero { pos 0 ≤ℤ T.value k }
-    requires coefficient { T.fits (coefficient_of (T.value n) (T.value k)) }
+    requires coefficient_fits { T.fits (coefficient_of (T.value n) (T.value k)) }
     ensures in_range { T.fits (T.value result) }
     ensures coefficient { T.value result ≡ coefficient_of (T.value n) (T.value k) }
 {
@@ -64,7 +114,7 @@ pub fn binomial<T: Integer>(n: T, k: T) -> T
 pub fn multinomial<T: Integer>(k: &[T]) -> T
     requires counts_in_range { All (λ x. T.fits (T.value x)) k.now }
     requires counts_from_zero { All (λ x. pos 0 ≤ℤ T.value x) k.now }
-    requires multinomial { EachFits T.fits (IsMultinomial (map T.value k.now)) }
+    requires multinomial_fits { EachFits T.fits (IsMultinomial (map T.value k.now)) }
     ensures in_range { T.fits (T.value result) }
     ensures multinomial { IsMultinomial (map T.value k.now) (T.value result) }
 {

@@ -1,15 +1,18 @@
 //! Tests of the domains.
 
-ghost use Rattle.std.specs.Prelude.{◌≡◌, ◌≢◌, ◌↔◌, ◌<◌, ◌≤◌, ◌*◌, ◌≤ℤ◌, ◌<ℤ◌, ℕ, pos, unsigned_abs, map, IsTrue};
+ghost use Rattle.std.specs.Prelude.{◌≡◌, ◌≢◌, ◌↔◌, ◌+◌, ◌<◌, ◌^◌, ◌≤ℤ◌, ◌<ℤ◌, ◌+ℤ◌, pos, unsigned_abs, map, IsTrue};
 ghost use Rattle.std.specs.List.{All};
-ghost use Rattle.integer_core.specs.Division.{IsTruncatedQuotient, IsFlooredQuotient, IsCeiledQuotient, IsNextMultiple, IsPreviousMultiple};
+ghost use Rattle.integer_core.specs.Division.{EachKind, IsCeiled, IsFloored, IsMultiple, IsQuotient};
 ghost use Rattle.integer_core.specs.Divisors.{IsGreatestCommonDivisor, IsLeastCommonMultiple};
 ghost use Rattle.integer_core.specs.Range.{EachFits};
 ghost use Rattle.num_integer.specs.Coefficient.{coefficient_of};
 ghost use Rattle.num_integer.specs.Multinomial.{IsMultinomial};
+ghost use Rattle.num_integer.specs.Parts.{IsWithin, signed};
 
 use crate::magnitudes::{Shared, coefficient_within};
-use integer_core::Integer;
+use integer_core::operators::{difference, is_negative, is_zero};
+use integer_core::{Integer, NativeInteger};
+use num_traits::ToPrimitive;
 
 /// Whether the arguments of a call lie in its domain. A type of one's own gives `parts` and `ends`.
 pub trait Fits: Integer {
@@ -31,12 +34,9 @@ pub trait Fits: Integer {
     fn quotient_fits(&self, other: &Self) -> bool
         requires self_in_range { Self.fits (Self.value self.now) }
         requires other_in_range { Self.fits (Self.value other.now) }
-        ensures truncated { IsTrue result ↔ ((Self.value other.now ≢ pos 0)
-            × EachFits Self.fits (IsTruncatedQuotient (Self.value self.now) (Self.value other.now))) }
-        ensures floored { IsTrue result ↔ ((Self.value other.now ≢ pos 0)
-            × EachFits Self.fits (IsFlooredQuotient (Self.value self.now) (Self.value other.now))) }
-        ensures ceiled { IsTrue result ↔ ((Self.value other.now ≢ pos 0)
-            × EachFits Self.fits (IsCeiledQuotient (Self.value self.now) (Self.value other.now))) }
+        ensures { EachKind (λ Kind. IsTrue result ↔ ((Self.value other.now ≢ pos 0)
+            × EachFits Self.fits
+            (IsQuotient Kind (Self.value self.now) (Self.value other.now)))) }
     {
         let (negative, magnitude) = other.parts();
         if magnitude == 0 {
@@ -54,18 +54,20 @@ pub trait Fits: Integer {
         requires self_in_range { Self.fits (Self.value self.now) }
         requires other_in_range { Self.fits (Self.value other.now) }
         ensures { IsTrue result ↔ ((Self.value other.now ≢ pos 0)
-            × EachFits Self.fits (IsNextMultiple (Self.value self.now) (Self.value other.now))) }
+            × EachFits Self.fits (IsMultiple IsCeiled (Self.value self.now) (Self.value other.now))) }
     {
-        let (low, high) = Self::ends();
-        let (n_negative, n) = self.parts();
-        let (d_negative, d) = other.parts();
-        if d == 0 {
-            false
-        } else if n_negative != d_negative {
-            true
-        } else {
-            has_multiple(n, d, if n_negative { low } else { high })
+        if is_zero(*other) {
+            return false;
         }
+        let remainder = self.mod_floor(other);
+        if is_zero(remainder) {
+            return true;
+        }
+        sum_is_within(
+            self.parts(),
+            difference(*other, remainder).parts(),
+            Self::ends(),
+        )
     }
 
     /// Whether `prev_multiple_of` may be called: false for a divisor 0, and where the multiple is
@@ -74,18 +76,13 @@ pub trait Fits: Integer {
         requires self_in_range { Self.fits (Self.value self.now) }
         requires other_in_range { Self.fits (Self.value other.now) }
         ensures { IsTrue result ↔ ((Self.value other.now ≢ pos 0)
-            × EachFits Self.fits (IsPreviousMultiple (Self.value self.now) (Self.value other.now))) }
+            × EachFits Self.fits (IsMultiple IsFloored (Self.value self.now) (Self.value other.now))) }
     {
-        let (low, high) = Self::ends();
-        let (n_negative, n) = self.parts();
-        let (d_negative, d) = other.parts();
-        if d == 0 {
-            false
-        } else if n_negative == d_negative {
-            true
-        } else {
-            has_multiple(n, d, if n_negative { low } else { high })
+        if is_zero(*other) {
+            return false;
         }
+        let (negative, remainder) = self.mod_floor(other).parts();
+        sum_is_within(self.parts(), (!negative, remainder), Self::ends())
     }
 
     /// Whether `gcd` may be called: false where the least number, whose negation does not fit,
@@ -120,7 +117,8 @@ pub trait Fits: Integer {
         if a == 0 || b == 0 {
             return true;
         }
-        match a.checked_mul(b / a.gcd(&b)) {
+        let g = a.gcd(&b);
+        match a.checked_mul(b / g) {
             Some(multiple) => multiple <= high,
             None => false,
         }
@@ -170,132 +168,31 @@ pub trait Fits: Integer {
     }
 }
 
-/// Whether a multiple of `divisor` lies from `from` to `to`.
-fn has_multiple(from: u128, divisor: u128, to: u128) -> bool
-    requires divisor { 0 < divisor }
-    requires ends { from ≤ to }
-    ensures { IsTrue result ↔ ((k : ℕ) × (from ≤ k * divisor) × (k * divisor ≤ to)) }
+/// Whether `a + b` lies in a range that has `a`. A number is given by its sign and its magnitude, and
+/// the range by the magnitudes of its ends, of which the lower is not above 0.
+fn sum_is_within(a: (bool, u128), b: (bool, u128), ends: (u128, u128)) -> bool
+    requires width { ends.0 + ends.1 < 2 ^ 128 }
+    requires within { IsWithin ends.0 ends.1 (signed a.0 a.1) }
+    ensures { IsTrue result ↔ IsWithin ends.0 ends.1 (signed a.0 a.1 +ℤ signed b.0 b.1) }
 {
-    let rest = from % divisor;
-    rest == 0 || divisor - rest <= to - from
+    let end = if b.0 { ends.0 } else { ends.1 };
+    b.1 <= if a.0 == b.0 { end - a.1 } else { end + a.1 }
 }
 
-impl Fits for i8 {
+impl<T: NativeInteger> Fits for T {
     fn parts(&self) -> (bool, u128) {
-        (*self < 0, self.unsigned_abs() as u128)
+        (is_negative(*self), wide(*self))
     }
 
     fn ends() -> (u128, u128) {
-        (i8::MIN.unsigned_abs() as u128, i8::MAX as u128)
+        (wide(T::min_value()), wide(T::max_value()))
     }
 }
 
-impl Fits for i16 {
-    fn parts(&self) -> (bool, u128) {
-        (*self < 0, self.unsigned_abs() as u128)
-    }
-
-    fn ends() -> (u128, u128) {
-        (i16::MIN.unsigned_abs() as u128, i16::MAX as u128)
-    }
-}
-
-impl Fits for i32 {
-    fn parts(&self) -> (bool, u128) {
-        (*self < 0, self.unsigned_abs() as u128)
-    }
-
-    fn ends() -> (u128, u128) {
-        (i32::MIN.unsigned_abs() as u128, i32::MAX as u128)
-    }
-}
-
-impl Fits for i64 {
-    fn parts(&self) -> (bool, u128) {
-        (*self < 0, self.unsigned_abs() as u128)
-    }
-
-    fn ends() -> (u128, u128) {
-        (i64::MIN.unsigned_abs() as u128, i64::MAX as u128)
-    }
-}
-
-impl Fits for i128 {
-    fn parts(&self) -> (bool, u128) {
-        (*self < 0, self.unsigned_abs())
-    }
-
-    fn ends() -> (u128, u128) {
-        (i128::MIN.unsigned_abs(), i128::MAX as u128)
-    }
-}
-
-impl Fits for isize {
-    fn parts(&self) -> (bool, u128) {
-        (*self < 0, self.unsigned_abs() as u128)
-    }
-
-    fn ends() -> (u128, u128) {
-        (isize::MIN.unsigned_abs() as u128, isize::MAX as u128)
-    }
-}
-
-impl Fits for u8 {
-    fn parts(&self) -> (bool, u128) {
-        (false, *self as u128)
-    }
-
-    fn ends() -> (u128, u128) {
-        (0, u8::MAX as u128)
-    }
-}
-
-impl Fits for u16 {
-    fn parts(&self) -> (bool, u128) {
-        (false, *self as u128)
-    }
-
-    fn ends() -> (u128, u128) {
-        (0, u16::MAX as u128)
-    }
-}
-
-impl Fits for u32 {
-    fn parts(&self) -> (bool, u128) {
-        (false, *self as u128)
-    }
-
-    fn ends() -> (u128, u128) {
-        (0, u32::MAX as u128)
-    }
-}
-
-impl Fits for u64 {
-    fn parts(&self) -> (bool, u128) {
-        (false, *self as u128)
-    }
-
-    fn ends() -> (u128, u128) {
-        (0, u64::MAX as u128)
-    }
-}
-
-impl Fits for u128 {
-    fn parts(&self) -> (bool, u128) {
-        (false, *self)
-    }
-
-    fn ends() -> (u128, u128) {
-        (0, u128::MAX)
-    }
-}
-
-impl Fits for usize {
-    fn parts(&self) -> (bool, u128) {
-        (false, *self as u128)
-    }
-
-    fn ends() -> (u128, u128) {
-        (0, usize::MAX as u128)
-    }
+/// The magnitude, as a number of 128 bits.
+fn wide<T: NativeInteger>(x: T) -> u128
+    requires { T.fits (T.value x) }
+    ensures { result ≡ unsigned_abs (T.value x) }
+{
+    x.magnitude().to_u128().unwrap()
 }

@@ -8,9 +8,10 @@ use crate::coefficients::factors;
 
 /// The coefficient of `n` and `k + 1`, where `c` is that of `n` and `k`, or `None` where it is
 /// above `most`.
+#[tactic(auto, using(crate::proofs::Steps::next_natural, crate::proofs::Steps::next_natural_divides))]
 fn next_within(c: u128, n: u128, k: u128, most: u128) -> Option<u128>
     requires k_below { k < n }
-    requires coefficient { c ≡ coefficient n k }
+    requires current { c ≡ coefficient n k }
     ensures { MatchOption result (most < coefficient n (k + 1))
         (λ next. (next ≡ coefficient n (k + 1)) × (next ≤ most)) }
 {
@@ -21,6 +22,7 @@ fn next_within(c: u128, n: u128, k: u128, most: u128) -> Option<u128>
 
 /// The coefficient of `n` and `k`, or `None` where it is above `most`. The loop makes at most 128
 /// turns: a coefficient that `t` turns have reached is at least 2 to the power `t`.
+#[tactic(auto, using(crate::proofs::Pascal::row_steps))]
 pub(crate) fn coefficient_within(n: u128, k: u128, most: u128) -> Option<u128>
     requires { 0 < most }
     ensures { MatchOption result (most < coefficient n k)
@@ -39,7 +41,7 @@ pub(crate) fn coefficient_within(n: u128, k: u128, most: u128) -> Option<u128>
     Some(coefficient)
 }
 
-/// The sum of some counts, and their multinomial.
+/// The sum of counts, and their multinomial.
 #[derive(Clone, Copy)]
 pub(crate) struct Shared {
     pub(crate) total: u128,
@@ -49,7 +51,7 @@ pub(crate) struct Shared {
 impl Shared {
     /// The same with one more count, or `None` where the multinomial is then above `most`.
     pub(crate) fn with_count(self, count: u128, most: u128) -> Option<Shared>
-        requires some { 0 < self.multinomial }
+        requires positive { 0 < self.multinomial }
         requires within { self.multinomial ≤ most }
         ensures { MatchOption result
             (most < self.multinomial * coefficient (self.total + count) count)

@@ -7,12 +7,13 @@ ghost use Rattle.num_integer.specs.Coefficient.{coefficient_of};
 ghost use Rattle.num_integer.specs.Row.{IsPlace, RowFits, row_of};
 
 use crate::coefficients::next_coefficient;
-use crate::operators::{is_above, one, successor, zero};
 use integer_core::Integer;
+use integer_core::operators::{is_below, one, successor, zero};
 use std::marker::Model;
 
 /// An iterator over the coefficients of `n` and each number from `0` to `n`, in order. For a
-/// negative `n` it has no item.
+/// negative `n` it has no item. The greatest `n` whose row fits is 10 for `u8`, 9 for `i8`, 18 for
+/// `u16`, 17 for `i16`, 34 for `u32`, 33 for `i32`, 67 for `u64` and 66 for `i64`.
 #[derive(Drop)]
 pub struct IterBinomial<T: Integer> {
     n: T,
@@ -25,14 +26,14 @@ impl<T: Integer> Model for IterBinomial<T> {
 
     ghost view = { λ s. drop (unsigned_abs (T.value s.k)) (row_of (T.value s.n)) };
 
-    ghost invariant = { λ s. IsPlace T.fits T.high (T.value s.n) (T.value s.k) (T.value s.item) };
+    ghost invariant = { λ s. IsPlace T.fits (T.value s.n) (T.value s.k) (T.value s.item) };
 }
 
 impl<T: Integer> IterBinomial<T> {
     /// The row of `n`. `IterBinomial::new(3u8)` gives `1`, `3`, `3`, `1`, and then `None`.
     pub fn new(n: T) -> IterBinomial<T>
         requires in_range { T.fits (T.value n) }
-        requires row { RowFits T.fits T.high (T.value n) }
+        requires row_fits { RowFits T.fits (T.value n) }
         ensures row { result ≡ row_of (T.value n) }
         ensures items_in_range { All T.fits result }
     {
@@ -50,14 +51,14 @@ fn item_after<T: Integer>(item: T, n: T, k: T) -> T
     requires n_in_range { T.fits (T.value n) }
     requires k_in_range { T.fits (T.value k) }
     requires k_from_zero { pos 0 ≤ℤ T.value k }
-    requires item { T.value item ≡ coefficient_of (T.value n) (T.value k) }
+    requires current { T.value item ≡ coefficient_of (T.value n) (T.value k) }
     requires next_fits { T.value k <ℤ T.value n
         → T.fits (coefficient_of (T.value n) (T.value k +ℤ pos 1)) }
     ensures in_range { T.fits (T.value result) }
     ensures next { T.value k <ℤ T.value n
         → T.value result ≡ coefficient_of (T.value n) (T.value k +ℤ pos 1) }
 {
-    if is_above(n, k) {
+    if is_below(k, n) {
         next_coefficient(item, n, k)
     } else {
         item
@@ -72,7 +73,7 @@ impl<T: Integer> Iterator for IterBinomial<T> {
     ghost remaining = { item_count (λ s. s) };
 
     fn next(&mut self) -> Option<T> {
-        if is_above(self.k, self.n) {
+        if is_below(self.n, self.k) {
             return None;
         }
         let item = self.item;

@@ -4,7 +4,7 @@ ghost use Rattle.std.specs.Prelude.{◌≡◌, ◌≢◌, ◌≤ℤ◌, ◌+ℤ�
 ghost use Rattle.std.proofs.Common.{rules, inl, inr};
 ghost use Rattle.integer_core.specs.Between.{Between, between_law, between_range, positive_divisor_law, sub_fits_law};
 
-use crate::{Fits, Integer};
+use crate::{Average, Fits, Integer};
 use num_traits::{Num, Number, One, Signed, Zero};
 use std::ops::{Add, Div, Mul, Neg, Rem, Sub};
 
@@ -253,6 +253,16 @@ impl Integer for Small {
 
     fn lcm(&self, other: &Small) -> Small {
         Small::new(self.number.lcm(&other.number))
+    }
+}
+
+impl Average for Small {
+    fn average_floor(&self, other: &Small) -> Small {
+        Small::new(self.number.average_floor(&other.number))
+    }
+
+    fn average_ceil(&self, other: &Small) -> Small {
+        Small::new(self.number.average_ceil(&other.number))
     }
 }
 

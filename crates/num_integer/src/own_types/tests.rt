@@ -1,27 +1,19 @@
-//! Worked values on the two types. Where a call has a domain, the test of `Fits` comes first.
-
-ghost use Rattle.num_integer.specs.Row.{RowFits};
+//! Worked values on the two types, most of them by the checks of the library's types.
 
 use super::{Percent, Small};
-use crate::counted::extended_gcd_counted;
-use crate::{
-    ExtendedGcd, Fits, Integer, IterBinomial, average_ceil, average_floor, binomial, cbrt,
-    div_ceil, div_floor, div_mod_floor, lcm, multinomial, nth_root, sqrt,
+use crate::tests::averages_and_roots::check_roots;
+use crate::tests::bezout::HasPair;
+use crate::tests::calls::Call::{Binomial, DivCeil, DivFloor, Lcm, NextMultipleOf};
+use crate::tests::calls::PairCall::{Averages, DivModFloor};
+use crate::tests::calls::Question::{
+    BinomialFits, GcdFits, IsMultipleOf, LcmFits, NextMultipleFits, PrevMultipleFits, QuotientFits,
 };
+use crate::tests::calls::{Answers, AnswersPair, Holds};
+use crate::tests::checked;
+use crate::tests::coefficients::{HasItems, Shares};
+use crate::tests::types::{Type, check_at, check_rows};
+use crate::{ExtendedGcd, Fits, Integer, div_ceil};
 use num_traits::{Num, Signed};
-use std::process::Abort;
-
-/// Compares the row of `n` with what is expected of it.
-fn row_is<T: Integer>(rt: &impl Abort, n: T, expected: &[T])
-    requires in_range { T.fits (T.value n) }
-    requires row { RowFits T.fits T.high (T.value n) }
-{
-    let mut row = IterBinomial::new(n);
-    for item in expected {
-        assert!(rt; row.next() == Some(*item));
-    }
-    assert!(rt; row.next().is_none());
-}
 
 #[test]
 fn division_of_percents(rt: HostRuntime) {
@@ -35,50 +27,54 @@ fn division_of_percents(rt: HostRuntime) {
 
 #[test]
 fn divisors_of_percents(rt: HostRuntime) {
-    let (fifty, hundred) = (Percent::new(50), Percent::new(100));
-    assert!(rt; fifty.lcm_fits(&hundred));
-    assert!(rt; lcm(fifty, hundred) == hundred);
-    assert!(rt; !Percent::new(51).lcm_fits(&Percent::new(2)));
-    let twenty = Percent::new(20);
-    assert!(rt; twenty.gcd_fits(&hundred) && hundred.is_multiple_of(&twenty));
-    let expected = ExtendedGcd {
-        gcd: twenty,
-        x: Percent::new(1),
-        y: Percent::new(0),
-    };
-    assert!(rt; twenty.extended_gcd(&hundred) == expected);
-    assert!(rt; extended_gcd_counted(twenty, hundred) == (expected, 1));
+    let rows = [
+        (Type::Percent, Holds(LcmFits, (50, 100), true)),
+        (Type::Percent, Holds(LcmFits, (51, 2), false)),
+        (Type::Percent, Holds(GcdFits, (20, 100), true)),
+        (Type::Percent, Holds(IsMultipleOf, (100, 20), true)),
+    ];
+    check_rows(&rt, &rows);
+    check_at(&rt, Type::Percent, &Answers(Lcm, (50, 100), Some(100)));
+    check_at(&rt, Type::Percent, &HasPair((20, 100), (20, 1, 0), 1));
 }
 
 #[test]
 fn coefficients_of_percents(rt: HostRuntime) {
-    let (four, eight) = (Percent::new(4), Percent::new(8));
-    assert!(rt; eight.binomial_fits(&four));
-    assert!(rt; binomial(eight, four).number() == 70);
-    let (near, hundred) = (Percent::new(99), Percent::new(100));
-    assert!(rt; hundred.binomial_fits(&near));
-    assert!(rt; binomial(hundred, near) == hundred);
-    let counts = [Percent::new(2), Percent::new(2), Percent::new(2)];
-    assert!(rt; Percent::multinomial_fits(&counts));
-    assert!(rt; multinomial(&counts).number() == 90);
+    let rows = [
+        (Type::Percent, Holds(BinomialFits, (8, 4), true)),
+        (Type::Percent, Holds(BinomialFits, (100, 99), true)),
+    ];
+    check_rows(&rt, &rows);
+    let rows = [
+        (Type::Percent, Answers(Binomial, (8, 4), Some(70))),
+        (Type::Percent, Answers(Binomial, (100, 99), Some(100))),
+    ];
+    check_rows(&rt, &rows);
+    check_at(
+        &rt,
+        Type::Percent,
+        &Shares(rt.alloc(), &[2, 2, 2], Some(90)),
+    );
 }
 
 #[test]
 fn row_of_a_percent(rt: HostRuntime) {
-    let (one, four, eight) = (Percent::new(1), Percent::new(4), Percent::new(8));
-    let (second, third, middle) = (Percent::new(28), Percent::new(56), Percent::new(70));
-    assert!(rt; eight.binomial_fits(&four) && !Percent::new(9).binomial_fits(&four));
-    let expected = [one, eight, second, third, middle, third, second, eight, one];
-    row_is(&rt, eight, &expected);
+    check_at(&rt, Type::Percent, &Holds(BinomialFits, (8, 4), true));
+    check_at(&rt, Type::Percent, &Holds(BinomialFits, (9, 4), false));
+    let items = [1, 8, 28, 56, 70, 56, 28, 8, 1];
+    check_at(&rt, Type::Percent, &HasItems(8, 4, &items));
 }
 
 #[test]
 fn roots_and_averages_of_percents(rt: HostRuntime) {
-    let (near, hundred) = (Percent::new(99), Percent::new(100));
-    assert!(rt; sqrt(near).number() == 9 && cbrt(hundred).number() == 4);
-    assert!(rt; nth_root(hundred, 6).number() == 2);
-    assert!(rt; average_ceil(hundred, near) == hundred);
-    assert!(rt; average_floor(hundred, near) == near);
+    let rows = [
+        (Type::Percent, 99, 2, 9),
+        (Type::Percent, 100, 3, 4),
+        (Type::Percent, 100, 6, 2),
+    ];
+    check_roots(&rt, &rows);
+    let averages = AnswersPair(Averages, (100, 99), Some((99, 100)));
+    check_at(&rt, Type::Percent, &averages);
 }
 
 #[test]
@@ -95,70 +91,78 @@ fn signs_of_small_numbers(rt: HostRuntime) {
     assert!(rt; least.abs() == seven && least.abs() == -least);
     assert!(rt; least.signum().number() == -1 && least.is_negative() && seven.is_positive());
     assert!(rt; seven.abs_sub(&Small::new(3)).number() == 4);
+    let averages = AnswersPair(Averages, (-7, 2), Some((-3, -2)));
+    check_at(&rt, Type::Small, &averages);
 }
 
 #[test]
 fn division_of_small_numbers(rt: HostRuntime) {
-    let (least, two, seven) = (Small::new(-7), Small::new(2), Small::new(7));
-    assert!(rt; least.quotient_fits(&two));
-    assert!(rt; div_mod_floor(least, two) == (Small::new(-4), Small::new(1)));
-    assert!(rt; div_ceil(least, two).number() == -3);
-    let (minus_one, minus_two) = (Small::new(-1), Small::new(-2));
-    assert!(rt; least.quotient_fits(&minus_one));
-    assert!(rt; div_floor(least, minus_one) == seven);
-    assert!(rt; seven.next_multiple_fits(&minus_two) && !seven.prev_multiple_fits(&minus_two));
-    assert!(rt; seven.next_multiple_of(&minus_two).number() == 6);
+    let rows = [
+        (Type::Small, Holds(QuotientFits, (-7, 2), true)),
+        (Type::Small, Holds(QuotientFits, (-7, -1), true)),
+        (Type::Small, Holds(NextMultipleFits, (7, -2), true)),
+        (Type::Small, Holds(PrevMultipleFits, (7, -2), false)),
+    ];
+    check_rows(&rt, &rows);
+    let rows = [
+        (Type::Small, Answers(DivCeil, (-7, 2), Some(-3))),
+        (Type::Small, Answers(DivFloor, (-7, -1), Some(7))),
+        (Type::Small, Answers(NextMultipleOf, (7, -2), Some(6))),
+    ];
+    check_rows(&rt, &rows);
+    let floored = AnswersPair(DivModFloor, (-7, 2), Some((-4, 1)));
+    check_at(&rt, Type::Small, &floored);
 }
 
 #[test]
 fn bezout_of_small_numbers(rt: HostRuntime) {
-    let (a, b) = (Small::new(7), Small::new(5));
-    assert!(rt; a.gcd_fits(&b));
-    let expected = ExtendedGcd {
-        gcd: Small::new(1),
-        x: Small::new(-2),
-        y: Small::new(3),
-    };
-    assert!(rt; extended_gcd_counted(a, b) == (expected, 2));
-    let (c, d) = (Small::new(-6), Small::new(4));
-    assert!(rt; c.gcd_fits(&d) && !c.lcm_fits(&d));
-    let expected = ExtendedGcd {
-        gcd: Small::new(2),
-        x: Small::new(-1),
-        y: Small::new(-1),
-    };
-    assert!(rt; extended_gcd_counted(c, d) == (expected, 1));
+    let rows = [
+        (Type::Small, Holds(GcdFits, (7, 5), true)),
+        (Type::Small, Holds(GcdFits, (-6, 4), true)),
+        (Type::Small, Holds(LcmFits, (-6, 4), false)),
+    ];
+    check_rows(&rt, &rows);
+    let rows = [
+        (Type::Small, HasPair((7, 5), (1, -2, 3), 2)),
+        (Type::Small, HasPair((-6, 4), (2, -1, -1), 1)),
+    ];
+    check_rows(&rt, &rows);
 }
 
 #[test]
 fn bezout_and_lcm_of_small_numbers(rt: HostRuntime) {
     let (a, b) = (Small::new(-6), Small::new(3));
-    assert!(rt; a.gcd_fits(&b));
-    assert!(rt; a.lcm_fits(&b));
+    assert!(rt; a.gcd_fits(&b) && a.lcm_fits(&b));
     let expected = ExtendedGcd {
         gcd: b,
         x: Small::new(0),
         y: Small::new(1),
     };
-    assert!(rt; a.extended_gcd_lcm(&b) == (expected, Small::new(6)));
+    assert!(rt; checked::extended_gcd_lcm(a, b) == Some((expected, Small::new(6))));
 }
 
 #[test]
 fn coefficients_of_small_numbers(rt: HostRuntime) {
-    let (four, two) = (Small::new(4), Small::new(2));
-    assert!(rt; four.binomial_fits(&two));
-    assert!(rt; binomial(four, two).number() == 6);
-    let (seven, one) = (Small::new(7), Small::new(1));
-    assert!(rt; seven.binomial_fits(&one));
-    assert!(rt; binomial(seven, one) == seven);
-    let counts = [one, one, one];
-    assert!(rt; Small::multinomial_fits(&counts) && !Small::multinomial_fits(&[two, two, two]));
-    assert!(rt; multinomial(&counts).number() == 6);
+    let rows = [
+        (Type::Small, Holds(BinomialFits, (4, 2), true)),
+        (Type::Small, Holds(BinomialFits, (7, 1), true)),
+    ];
+    check_rows(&rt, &rows);
+    let rows = [
+        (Type::Small, Answers(Binomial, (4, 2), Some(6))),
+        (Type::Small, Answers(Binomial, (7, 1), Some(7))),
+    ];
+    check_rows(&rt, &rows);
+    let rows = [
+        (Type::Small, Shares(rt.alloc(), &[1, 1, 1], Some(6))),
+        (Type::Small, Shares(rt.alloc(), &[2, 2, 2], None)),
+    ];
+    check_rows(&rt, &rows);
 }
 
 #[test]
 fn row_of_a_small_number(rt: HostRuntime) {
-    let (one, two, four) = (Small::new(1), Small::new(2), Small::new(4));
-    assert!(rt; four.binomial_fits(&two) && !Small::new(5).binomial_fits(&two));
-    row_is(&rt, four, &[one, four, Small::new(6), four, one]);
+    check_at(&rt, Type::Small, &Holds(BinomialFits, (4, 2), true));
+    check_at(&rt, Type::Small, &Holds(BinomialFits, (5, 2), false));
+    check_at(&rt, Type::Small, &HasItems(4, 2, &[1, 4, 6, 4, 1]));
 }

@@ -2,23 +2,21 @@
 
 ghost use Rattle.std.specs.Prelude.{◌≤◌, IfSome};
 
-use super::{agree, greatest, number};
+use super::calls::AnswersPair;
+use super::calls::PairCall::Averages;
+use super::greatest;
+use super::types::Type::{I8, I16, I32, I64, Isize, U8, U16, U32, U64, Usize};
+use super::types::{
+    Check, RootCheck, SIGNED, Tested, Type, UNSIGNED, check_at_each, check_roots_at, number,
+};
 use crate::counted::SqrtCounted;
-use crate::{Average, Fits, Roots, average_ceil, average_floor, cbrt, nth_root, sqrt};
-use num_traits::FromPrimitive;
-use std::fmt::Debug;
-use std::ops::Range;
+use crate::{Fits, Roots, average_ceil, average_floor, cbrt, nth_root, sqrt};
 use std::process::Abort;
 
-fn has_averages<T: Average + Fits + FromPrimitive + Debug>(
-    rt: &impl Abort,
-    (a, b): (i128, i128),
-    (floor, ceil): (i128, i128),
-) {
-    let (x, y) = (number::<T>(rt, a), number::<T>(rt, b));
-    let averages = (average_floor(x, y), average_ceil(x, y));
-    let expected = (number(rt, floor), number(rt, ceil));
-    agree(rt, "averages", (a, b), averages, expected);
+/// Checks both averages at each of the types.
+fn check_averages(rt: &impl Abort, types: &[Type], operands: (i128, i128), averages: (i128, i128)) {
+    let check = AnswersPair(Averages, operands, Some(averages));
+    check_at_each(rt, types, &check);
 }
 
 #[test]
@@ -30,61 +28,67 @@ fn averages_of_the_documents(rt: HostRuntime) {
         ((-128, -1), (-65, -64)),
         ((-128, 127), (-1, 0)),
     ] {
-        at_signed_types!(has_averages(&rt, operands, averages));
+        check_averages(&rt, &SIGNED, operands, averages);
     }
-    has_averages::<u8>(&rt, (255, 2), (128, 129));
+    check_averages(&rt, &[U8], (255, 2), (128, 129));
 }
 
-/// The number that lies so far below the greatest of the type.
-fn below_the_greatest<T: Fits + FromPrimitive>(rt: &impl Abort, distance: u128) -> T
-    ensures { T.fits (T.value result) }
-{
-    let number = T::ends().1.saturating_sub(distance);
-    T::from_u128(number).expect(rt, "the type has the number")
-}
+/// The averages of numbers right below the greatest of the type.
+#[derive(Drop)]
+struct AveragesAtTheTop;
 
-fn has_averages_at_the_top<T: Average + Fits + FromPrimitive + Debug>(rt: &impl Abort) {
-    let first = below_the_greatest::<T>(rt, 1);
-    let second = below_the_greatest::<T>(rt, 2);
-    let third = below_the_greatest::<T>(rt, 3);
-    let averages = (average_floor(third, first), average_ceil(third, first));
-    agree(rt, "averages", (3, 1), averages, (second, second));
-    let averages = (average_floor(third, second), average_ceil(third, second));
-    agree(rt, "averages", (3, 2), averages, (third, second));
+impl Check for AveragesAtTheTop {
+    fn at<T: Tested>(&self, rt: &impl Abort) {
+        let greatest = greatest::<T>(rt);
+        let (first, second, third) = (greatest - 1, greatest - 2, greatest - 3);
+        for (operand, floor) in [(first, second), (second, third)] {
+            let check = AnswersPair(Averages, (third, operand), Some((floor, second)));
+            check.at::<T>(rt);
+        }
+    }
 }
 
 #[test]
 fn averages_at_each_type(rt: HostRuntime) {
     for (operands, averages) in [((14, 16), (15, 15)), ((14, 17), (15, 16))] {
-        at_signed_types!(has_averages(&rt, operands, averages));
-        at_unsigned_types!(has_averages(&rt, operands, averages));
+        check_averages(&rt, &SIGNED, operands, averages);
+        check_averages(&rt, &UNSIGNED, operands, averages);
     }
-    at_signed_types!(has_averages_at_the_top(&rt));
-    at_unsigned_types!(has_averages_at_the_top(&rt));
+    check_at_each(&rt, &SIGNED, &AveragesAtTheTop);
+    check_at_each(&rt, &[U8, U16, U32, U64, Usize], &AveragesAtTheTop);
+    let (first, second, third) = (u128::MAX - 1, u128::MAX - 2, u128::MAX - 3);
+    for (operand, floor) in [(first, second), (second, third)] {
+        assert!(rt; average_floor(third, operand) == floor);
+        assert!(rt; average_ceil(third, operand) == second);
+    }
 }
 
-fn has_averages_of_the_ends<T: Average + Fits + FromPrimitive + Debug>(rt: &impl Abort) {
-    let greatest = greatest::<T>(rt);
-    has_averages::<T>(rt, (-greatest - 1, greatest), (-1, 0));
+/// The averages of the least and the greatest number of a signed type.
+#[derive(Drop)]
+struct AveragesOfTheEnds;
+
+impl Check for AveragesOfTheEnds {
+    fn at<T: Tested>(&self, rt: &impl Abort) {
+        let greatest = greatest::<T>(rt);
+        let check = AnswersPair(Averages, (-greatest - 1, greatest), Some((-1, 0)));
+        check.at::<T>(rt);
+    }
 }
 
 #[test]
 fn averages_of_different_signs(rt: HostRuntime) {
     for (operands, averages) in [((14, -4), (5, 5)), ((14, -5), (4, 5))] {
-        at_signed_types!(has_averages(&rt, operands, averages));
+        check_averages(&rt, &SIGNED, operands, averages);
     }
-    at_signed_types!(has_averages_of_the_ends(&rt));
+    check_at_each(&rt, &SIGNED, &AveragesOfTheEnds);
 }
 
-/// The square root and the turns, from 0 up.
-fn square_root_counted<T: SqrtCounted + Fits>(x: T) -> Option<(T, u32)>
+/// Asserts that the square root of a number from 0 up is found in so many turns.
+fn has_turns<T: SqrtCounted + Fits>(rt: &impl Abort, x: T, root: T, turns: u32)
     requires { T.fits (T.value x) }
 {
-    if x.parts().0 {
-        None
-    } else {
-        Some(x.sqrt_counted())
-    }
+    assert!(rt; !x.parts().0);
+    assert!(rt; x.sqrt_counted() == (root, turns));
 }
 
 /// The square root, from 0 up.
@@ -106,31 +110,31 @@ fn root_of_degree<T: Roots + Fits>(x: T, n: u32) -> Option<T>
     }
 }
 
-/// The number is given beside its degree.
-fn has_root<T: Roots + Fits + FromPrimitive + Debug>(
-    rt: &impl Abort,
-    (x, n): (i128, u32),
-    root: i128,
-) {
-    let (of, number, root) = ((x, n as i128), number::<T>(rt, x), number::<T>(rt, root));
-    agree(rt, "nth_root", of, root_of_degree(number, n), Some(root));
-    match n {
-        2 => agree(rt, "sqrt", of, square_root(number), Some(root)),
-        3 => agree(rt, "cbrt", of, cbrt(number), root),
-        _ => {}
+/// A number, a degree, and the root, by `nth_root` and the call of the degree.
+#[derive(Drop)]
+struct HasRoot(i128, u32, i128);
+
+impl RootCheck for HasRoot {
+    fn at<T: Roots + Tested>(&self, rt: &impl Abort) {
+        let (x, degree) = (number::<T>(rt, self.0), self.1);
+        let expected = Some(number::<T>(rt, self.2));
+        let root = root_of_degree(x, degree);
+        assert_eq!(rt; root, expected, "degree {degree} of {}", self.0);
+        let root = match degree {
+            2 => square_root(x),
+            3 => Some(cbrt(x)),
+            _ => root,
+        };
+        assert_eq!(rt; root, expected, "degree {degree} of {}", self.0);
     }
 }
 
-fn has_square_root<T: SqrtCounted + Fits + FromPrimitive + Debug>(
-    rt: &impl Abort,
-    x: i128,
-    root: i128,
-    turns: u32,
-) {
-    let counted = square_root_counted(number::<T>(rt, x));
-    let expected = Some((number(rt, root), turns));
-    agree(rt, "sqrt_counted", (x, 2), counted, expected);
-    has_root::<T>(rt, (x, 2), root);
+/// Checks the root of each row, a number, a degree and a root, at the row's type.
+pub(crate) fn check_roots(rt: &impl Abort, rows: &[(Type, i128, u32, i128)]) {
+    for row in rows {
+        let (it, x, degree, root) = *row;
+        check_roots_at(rt, it, &HasRoot(x, degree, root));
+    }
 }
 
 #[test]
@@ -142,42 +146,53 @@ fn square_roots_and_their_turns(rt: HostRuntime) {
         (8, 2, 2),
         (3, 1, 0),
     ] {
-        has_square_root::<u64>(&rt, x, root, turns);
+        has_turns::<u64>(&rt, x, root, turns);
     }
-    has_square_root::<i64>(&rt, 9223372036854775807, 3037000499, 4);
-    has_square_root::<i64>(&rt, 4, 2, 0);
-    has_square_root::<u8>(&rt, 255, 15, 1);
+    for (x, root, turns) in [(9223372036854775807, 3037000499, 4), (4, 2, 0)] {
+        has_turns::<i64>(&rt, x, root, turns);
+    }
+    has_turns::<u8>(&rt, 255, 15, 1);
+    let rows = [
+        (U64, 18446744073709551615, 2, 4294967295),
+        (U64, 99, 2, 9),
+        (U64, 16, 2, 4),
+        (U64, 8, 2, 2),
+        (U64, 3, 2, 1),
+        (I64, 9223372036854775807, 2, 3037000499),
+        (I64, 4, 2, 2),
+        (U8, 255, 2, 15),
+    ];
+    check_roots(&rt, &rows);
 }
 
 #[test]
 fn square_and_cube_roots(rt: HostRuntime) {
-    for (number, root) in [
-        ((-2147483648, 3), -1290),
-        ((152399025, 2), 12345),
-        ((152399026, 2), 12345),
-        ((152399024, 2), 12344),
-        ((1879080904, 3), 1234),
-        ((1879080905, 3), 1234),
-        ((1879080903, 3), 1233),
-        ((-1879080904, 3), -1234),
-        ((-1879080905, 3), -1234),
-        ((-1879080903, 3), -1233),
-    ] {
-        has_root::<i32>(&rt, number, root);
-    }
-    has_root::<u8>(&rt, (255, 2), 15);
-    has_root::<u8>(&rt, (255, 3), 6);
-    has_root::<u16>(&rt, (65535, 2), 255);
-    has_root::<u32>(&rt, (4294967295, 3), 1625);
-    has_root::<u64>(&rt, (18446744073709551615, 3), 2642245);
-    has_root::<i8>(&rt, (-128, 3), -5);
-    has_root::<i64>(&rt, (-9223372036854775808, 3), -2097152);
+    let rows = [
+        (I32, -2147483648, 3, -1290),
+        (I32, 152399025, 2, 12345),
+        (I32, 152399026, 2, 12345),
+        (I32, 152399024, 2, 12344),
+        (I32, 1879080904, 3, 1234),
+        (I32, 1879080905, 3, 1234),
+        (I32, 1879080903, 3, 1233),
+        (I32, -1879080904, 3, -1234),
+        (I32, -1879080905, 3, -1234),
+        (I32, -1879080903, 3, -1233),
+        (U8, 255, 2, 15),
+        (U8, 255, 3, 6),
+        (U16, 65535, 2, 255),
+        (U32, 4294967295, 3, 1625),
+        (U64, 18446744073709551615, 3, 2642245),
+        (I8, -128, 3, -5),
+        (I64, -9223372036854775808, 3, -2097152),
+    ];
+    check_roots(&rt, &rows);
 }
 
 #[test]
 fn roots_of_any_degree(rt: HostRuntime) {
     for (n, root) in [(4, 65535), (5, 7131), (63, 2), (64, 1), (4294967295, 1)] {
-        has_root::<u64>(&rt, (18446744073709551615, n), root);
+        check_roots(&rt, &[(U64, 18446744073709551615, n, root)]);
     }
     for (n, root) in [
         (1, 12345),
@@ -188,22 +203,25 @@ fn roots_of_any_degree(rt: HostRuntime) {
         (14, 1),
         (4294967295, 1),
     ] {
-        has_root::<i32>(&rt, (12345, n), root);
-        has_root::<i64>(&rt, (12345, n), root);
+        let rows = [(I32, 12345, n, root), (I64, 12345, n, root)];
+        check_roots(&rt, &rows);
     }
-    for (n, root) in [(1, -2147483648), (3, -1290), (31, -2)] {
-        has_root::<i32>(&rt, (-2147483648, n), root);
-    }
-    has_root::<i8>(&rt, (-128, 7), -2);
-    has_root::<i8>(&rt, (-127, 7), -1);
-    has_root::<i8>(&rt, (127, 200), 1);
-    has_root::<u64>(&rt, (0, 5), 0);
-    has_root::<i64>(&rt, (-9223372036854775808, 1), -9223372036854775808);
+    let rows = [
+        (I32, -2147483648, 1, -2147483648),
+        (I32, -2147483648, 3, -1290),
+        (I32, -2147483648, 31, -2),
+        (I8, -128, 7, -2),
+        (I8, -127, 7, -1),
+        (I8, 127, 200, 1),
+        (U64, 0, 5, 0),
+        (I64, -9223372036854775808, 1, -9223372036854775808),
+    ];
+    check_roots(&rt, &rows);
 }
 
 /// The root has the sign of the number, and of those whose power is no farther from 0 than the
 /// number it is the farthest from 0.
-fn check_root<T: Roots + Fits + FromPrimitive + Debug>(rt: &impl Abort, x: i128, n: u32) {
+fn check_root<T: Roots + Tested>(rt: &impl Abort, x: i128, n: u32) {
     let number = number::<T>(rt, x);
     let root = root_of_degree(number, n).expect(rt, "the number has a root");
     match n {
@@ -220,11 +238,7 @@ fn check_root<T: Roots + Fits + FromPrimitive + Debug>(rt: &impl Abort, x: i128,
 }
 
 /// The roots of small numbers, of numbers near the top, and of the top shifted either way.
-fn check_roots_from_zero<T: Roots + Fits + FromPrimitive + Debug>(
-    rt: &impl Abort,
-    bits: u32,
-    n: u32,
-)
+fn check_roots_from_zero<T: Roots + Tested>(rt: &impl Abort, bits: u32, n: u32)
     requires { bits ≤ 64 }
 {
     let greatest = greatest::<T>(rt);
@@ -239,11 +253,7 @@ fn check_roots_from_zero<T: Roots + Fits + FromPrimitive + Debug>(
 }
 
 /// The same of negative numbers, where the degree is odd.
-fn check_roots_below_zero<T: Roots + Fits + FromPrimitive + Debug>(
-    rt: &impl Abort,
-    bits: u32,
-    n: u32,
-)
+fn check_roots_below_zero<T: Roots + Tested>(rt: &impl Abort, bits: u32, n: u32)
     requires { bits ≤ 64 }
 {
     let least = -greatest::<T>(rt) - 1;
@@ -258,84 +268,98 @@ fn check_roots_below_zero<T: Roots + Fits + FromPrimitive + Debug>(
     }
 }
 
-fn check_roots_of_degrees<T: Roots + Fits + FromPrimitive + Debug>(
-    rt: &impl Abort,
-    bits: u32,
-    degrees: Range<u32>,
-)
-    requires { bits ≤ 64 }
-{
-    for n in degrees {
-        check_roots_from_zero::<T>(rt, bits, n);
+/// The bits of a type, and the end of the degrees, which start at 2.
+#[derive(Drop)]
+struct RootsFromZero(u32, u32);
+
+impl RootCheck for RootsFromZero {
+    fn at<T: Roots + Tested>(&self, rt: &impl Abort) {
+        assert!(rt; self.0 <= 64);
+        for n in 2..self.1 {
+            check_roots_from_zero::<T>(rt, self.0, n);
+        }
     }
 }
 
-#[test]
-fn roots_of_non_negative_numbers(rt: HostRuntime) {
-    check_roots_of_degrees::<i8>(&rt, i8::BITS, 2..7);
-    check_roots_of_degrees::<i16>(&rt, i16::BITS, 2..15);
-    check_roots_of_degrees::<i32>(&rt, i32::BITS, 2..31);
-    check_roots_of_degrees::<i64>(&rt, i64::BITS, 2..63);
-    check_roots_of_degrees::<isize>(&rt, isize::BITS, 2..63);
-    check_roots_of_degrees::<u8>(&rt, u8::BITS, 2..4);
-    check_roots_of_degrees::<u16>(&rt, u16::BITS, 2..4);
-    check_roots_of_degrees::<u32>(&rt, u32::BITS, 2..4);
-    check_roots_of_degrees::<u64>(&rt, u64::BITS, 2..4);
-    check_roots_of_degrees::<usize>(&rt, usize::BITS, 2..4);
-}
+/// The bits of a type, and the end of the odd degrees, which start at 3.
+#[derive(Drop)]
+struct RootsBelowZero(u32, u32);
 
-fn check_roots_of_odd_degrees<T: Roots + Fits + FromPrimitive + Debug>(
-    rt: &impl Abort,
-    bits: u32,
-    degrees: Range<u32>,
-)
-    requires { bits ≤ 64 }
-{
-    for n in degrees {
-        if !n.is_multiple_of(2) {
-            check_roots_below_zero::<T>(rt, bits, n);
+impl RootCheck for RootsBelowZero {
+    fn at<T: Roots + Tested>(&self, rt: &impl Abort) {
+        assert!(rt; self.0 <= 64);
+        for n in 3..self.1 {
+            if !n.is_multiple_of(2) {
+                check_roots_below_zero::<T>(rt, self.0, n);
+            }
         }
     }
 }
 
 #[test]
+fn roots_of_non_negative_numbers(rt: HostRuntime) {
+    for (it, bits, end) in [
+        (I8, i8::BITS, 7),
+        (I16, i16::BITS, 15),
+        (I32, i32::BITS, 31),
+        (I64, i64::BITS, 63),
+        (Isize, isize::BITS, 63),
+        (U8, u8::BITS, 4),
+        (U16, u16::BITS, 4),
+        (U32, u32::BITS, 4),
+        (U64, u64::BITS, 4),
+        (Usize, usize::BITS, 4),
+    ] {
+        check_roots_at(&rt, it, &RootsFromZero(bits, end));
+    }
+}
+
+#[test]
 fn roots_of_negative_numbers(rt: HostRuntime) {
-    check_roots_of_odd_degrees::<i8>(&rt, i8::BITS, 3..7);
-    check_roots_of_odd_degrees::<i16>(&rt, i16::BITS, 3..15);
-    check_roots_of_odd_degrees::<i32>(&rt, i32::BITS, 3..31);
-    check_roots_of_odd_degrees::<i64>(&rt, i64::BITS, 3..63);
-    check_roots_of_odd_degrees::<isize>(&rt, isize::BITS, 3..63);
+    for (it, bits, end) in [
+        (I8, i8::BITS, 7),
+        (I16, i16::BITS, 15),
+        (I32, i32::BITS, 31),
+        (I64, i64::BITS, 63),
+        (Isize, isize::BITS, 63),
+    ] {
+        check_roots_at(&rt, it, &RootsBelowZero(bits, end));
+    }
 }
 
 /// The root of degree `n` of the greatest number of `n` bits is 1, and of degree `n - 1` it is 2.
-fn has_bits<T: Roots + Fits + FromPrimitive + Debug>(rt: &impl Abort, n: u32)
-    requires { 1 ≤ n }
-{
-    let greatest = greatest::<T>(rt);
-    has_root::<T>(rt, (greatest, n - 1), 2);
-    has_root::<T>(rt, (greatest, n), 1);
+#[derive(Drop)]
+struct HasBits(u32);
+
+impl RootCheck for HasBits {
+    fn at<T: Roots + Tested>(&self, rt: &impl Abort) {
+        let (n, number) = (self.0, greatest::<T>(rt));
+        for (degree, root) in [(n.saturating_sub(1), 2), (n, 1)] {
+            HasRoot(number, degree, root).at::<T>(rt);
+        }
+    }
 }
 
-/// The same of a type whose numbers have a sign beside `n` bits.
-fn has_bits_and_sign<T: Roots + Fits + FromPrimitive + Debug>(rt: &impl Abort, n: u32)
-    requires { 1 ≤ n }
-{
-    let greatest = greatest::<T>(rt);
-    has_bits::<T>(rt, n);
-    has_root::<T>(rt, (-greatest - 1, n), -2);
-    has_root::<T>(rt, (-greatest, n), -1);
+/// The roots of degree `n` of the least number, and of the next, where a sign stands beside `n` bits.
+#[derive(Drop)]
+struct HasSign(u32);
+
+impl RootCheck for HasSign {
+    fn at<T: Roots + Tested>(&self, rt: &impl Abort) {
+        let greatest = greatest::<T>(rt);
+        for (number, root) in [(-greatest - 1, -2), (-greatest, -1)] {
+            HasRoot(number, self.0, root).at::<T>(rt);
+        }
+    }
 }
 
 #[test]
 fn roots_at_the_bit_length(rt: HostRuntime) {
-    has_bits_and_sign::<i8>(&rt, 7);
-    has_bits_and_sign::<i16>(&rt, 15);
-    has_bits_and_sign::<i32>(&rt, 31);
-    has_bits_and_sign::<i64>(&rt, 63);
-    has_bits_and_sign::<isize>(&rt, 63);
-    has_bits::<u8>(&rt, 8);
-    has_bits::<u16>(&rt, 16);
-    has_bits::<u32>(&rt, 32);
-    has_bits::<u64>(&rt, 64);
-    has_bits::<usize>(&rt, 64);
+    for (it, bits) in [(I8, 7), (I16, 15), (I32, 31), (I64, 63), (Isize, 63)] {
+        check_roots_at(&rt, it, &HasBits(bits));
+        check_roots_at(&rt, it, &HasSign(bits));
+    }
+    for (it, bits) in [(U8, 8), (U16, 16), (U32, 32), (U64, 64), (Usize, 64)] {
+        check_roots_at(&rt, it, &HasBits(bits));
+    }
 }

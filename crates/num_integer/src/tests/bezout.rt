@@ -1,60 +1,93 @@
 //! Bezout pairs.
 
-use crate::counted::extended_gcd_counted;
-use crate::{ExtendedGcd, Fits, Integer};
-use std::fmt::Debug;
+use super::calls::Holds;
+use super::calls::Question::{GcdFits, IsMultipleOf};
+use super::checked;
+use super::types::Type::{I8, I64, I128, Isize, U8, U64};
+use super::types::{Check, Tested, check_at, check_rows, number};
+use crate::{ExtendedGcd, Fits};
+use num_traits::Signed;
 use std::process::Abort;
 
-/// Asserts that the plain and the counted call answer this.
-fn assert_answer<T: Fits + Debug>(rt: &impl Abort, a: T, b: T, answer: (T, T, T), turns: u32)
-    requires a_in_range { T.fits (T.value a) }
-    requires b_in_range { T.fits (T.value b) }
-{
-    let (gcd, x, y) = answer;
-    assert!(rt; a.gcd_fits(&b));
-    assert!(rt; T::ends().0 != 0 || a.is_multiple_of(&b) || b.is_multiple_of(&a));
-    assert_eq!(rt;
-        a.extended_gcd(&b),
-        ExtendedGcd { gcd, x, y },
-        "of {a:?} and {b:?}"
-    );
-    assert_eq!(rt;
-        extended_gcd_counted(a, b),
-        (ExtendedGcd { gcd, x, y }, turns)
-    );
+/// Two operands, their greatest common divisor with its pair, and the turns.
+#[derive(Drop)]
+pub(crate) struct HasPair(
+    pub(crate) (i128, i128),
+    pub(crate) (i128, i128, i128),
+    pub(crate) u32,
+);
+
+impl Check for HasPair {
+    fn at<T: Tested>(&self, rt: &impl Abort) {
+        let ((a, b), (gcd, x, y)) = (self.0, self.1);
+        let answer = ExtendedGcd {
+            gcd: number::<T>(rt, gcd),
+            x: number::<T>(rt, x),
+            y: number::<T>(rt, y),
+        };
+        let (first, second) = (number::<T>(rt, a), number::<T>(rt, b));
+        let plain = checked::extended_gcd(first, second);
+        assert_eq!(rt; plain, Some(answer), "of {a} and {b}");
+        let counted = checked::extended_gcd_counted(first, second);
+        assert_eq!(rt; counted, Some((answer, self.2)), "of {a} and {b}");
+    }
 }
 
 #[test]
 fn pairs_of_signed_types(rt: HostRuntime) {
-    assert_answer(&rt, 240i64, 46, (2, -9, 47), 4);
-    assert_answer(&rt, 46i64, 240, (2, 47, -9), 5);
-    assert_answer(&rt, 10i64, 4, (2, 1, -2), 1);
-    assert_answer(&rt, -6i64, 4, (2, -1, -1), 1);
-    assert_answer(&rt, 8i64, 13, (1, 5, -3), 5);
-    assert_answer(&rt, 5i64, 0, (5, 1, 0), 0);
-    assert_answer(&rt, -5i64, 0, (5, -1, 0), 0);
-    assert_answer(&rt, 0i64, -5, (5, 0, -1), 0);
-    assert_answer(&rt, 0i64, 0, (0, 1, 0), 0);
-    assert_answer(&rt, 8isize, 9, (1, -1, 1), 2);
+    let rows = [
+        (I64, HasPair((240, 46), (2, -9, 47), 4)),
+        (I64, HasPair((46, 240), (2, 47, -9), 5)),
+        (I64, HasPair((10, 4), (2, 1, -2), 1)),
+        (I64, HasPair((-6, 4), (2, -1, -1), 1)),
+        (I64, HasPair((8, 13), (1, 5, -3), 5)),
+        (I64, HasPair((5, 0), (5, 1, 0), 0)),
+        (I64, HasPair((-5, 0), (5, -1, 0), 0)),
+        (I64, HasPair((0, -5), (5, 0, -1), 0)),
+        (I64, HasPair((0, 0), (0, 1, 0), 0)),
+        (Isize, HasPair((8, 9), (1, -1, 1), 2)),
+    ];
+    check_rows(&rt, &rows);
 }
 
 #[test]
 fn pairs_at_the_ends_of_signed_types(rt: HostRuntime) {
-    assert_answer(&rt, -128i8, 127, (1, -1, -1), 1);
-    assert_answer(&rt, -128i8, 1, (1, 0, 1), 0);
-    assert_answer(&rt, i128::MIN, i128::MAX, (1, -1, -1), 1);
-    assert!(rt; !i64::MIN.gcd_fits(&0));
+    let rows = [
+        (I8, HasPair((-128, 127), (1, -1, -1), 1)),
+        (I8, HasPair((-128, 1), (1, 0, 1), 0)),
+        (I128, HasPair((i128::MIN, i128::MAX), (1, -1, -1), 1)),
+    ];
+    check_rows(&rt, &rows);
+    check_at(&rt, I64, &Holds(GcdFits, (-9223372036854775808, 0), false));
 }
 
 #[test]
 fn pairs_of_unsigned_types(rt: HostRuntime) {
-    assert_answer(&rt, 4u8, 12, (4, 1, 0), 1);
-    assert_answer(&rt, 0u64, 7, (7, 0, 1), 0);
-    assert_answer(&rt, 4u64, 12, (4, 1, 0), 1);
-    assert_answer(&rt, 12u64, 4, (4, 0, 1), 0);
-    assert_answer(&rt, 7u64, 0, (7, 1, 0), 0);
-    assert_answer(&rt, 0u64, 0, (0, 1, 0), 0);
-    assert!(rt; !Integer::is_multiple_of(&10u8, &4) && !Integer::is_multiple_of(&4u8, &10));
+    let rows = [
+        (U8, HasPair((4, 12), (4, 1, 0), 1)),
+        (U64, HasPair((0, 7), (7, 0, 1), 0)),
+        (U64, HasPair((4, 12), (4, 1, 0), 1)),
+        (U64, HasPair((12, 4), (4, 0, 1), 0)),
+        (U64, HasPair((7, 0), (7, 1, 0), 0)),
+        (U64, HasPair((0, 0), (0, 1, 0), 0)),
+    ];
+    check_rows(&rt, &rows);
+    let rows = [
+        (U8, Holds(IsMultipleOf, (10, 4), false)),
+        (U8, Holds(IsMultipleOf, (4, 10), false)),
+    ];
+    check_rows(&rt, &rows);
+}
+
+/// The pair of `extended_gcd_lcm`, which answers what `gcd` and `lcm` do.
+fn pair_with_lcm<T: Fits + Signed>(rt: &impl Abort, a: T, b: T) -> ExtendedGcd<T>
+    requires a_in_range { T.fits (T.value a) }
+    requires b_in_range { T.fits (T.value b) }
+{
+    let (pair, lcm) = checked::extended_gcd_lcm(a, b).expect(rt, "both fit");
+    assert!(rt; checked::gcd(a, b) == Some(pair.gcd));
+    assert!(rt; checked::lcm(a, b) == Some(lcm));
+    pair
 }
 
 /// The first operand times `x` and the second times `y`, added up.
@@ -66,26 +99,18 @@ fn combined(pair: &ExtendedGcd<i32>, a: i32, b: i32) -> Option<i32> {
 fn test_extended_gcd_lcm(rt: HostRuntime) {
     for a in -128i32..=127 {
         for b in -128i32..=127 {
-            assert!(rt; a.gcd_fits(&b) && a.lcm_fits(&b));
-            let (pair, lcm) = a.extended_gcd_lcm(&b);
+            let pair = pair_with_lcm(&rt, a, b);
             assert_eq!(rt; combined(&pair, a, b), Some(pair.gcd), "of {a} and {b}");
-            assert_eq!(rt; pair.gcd, a.gcd(&b));
-            assert_eq!(rt; lcm, a.lcm(&b));
         }
     }
 }
 
 #[test]
 fn extended_gcd_lcm_of_ten_and_four(rt: HostRuntime) {
-    assert!(rt; 10i32.gcd_fits(&4) && 10i32.lcm_fits(&4));
-    let (pair, lcm) = 10i32.extended_gcd_lcm(&4);
-    assert_eq!(rt;
-        pair,
-        ExtendedGcd {
-            gcd: 2,
-            x: 1,
-            y: -2
-        }
-    );
-    assert_eq!(rt; lcm, 20);
+    let pair = ExtendedGcd {
+        gcd: 2,
+        x: 1,
+        y: -2,
+    };
+    assert_eq!(rt; checked::extended_gcd_lcm(10i32, 4), Some((pair, 20)));
 }

@@ -1,7 +1,9 @@
 //! The calls of `Integer` wherever the tests of `Fits` let them be made, and `None` elsewhere. Those
 //! with a free function are made by it.
 
-use crate::Fits;
+use crate::counted::extended_gcd_counted as counted;
+use crate::{ExtendedGcd, Fits};
+use num_traits::Signed;
 
 pub(super) fn div_rem<T: Fits>(n: T, d: T) -> Option<(T, T)>
     requires n_in_range { T.fits (T.value n) }
@@ -120,6 +122,51 @@ pub(super) fn gcd_lcm<T: Fits>(a: T, b: T) -> Option<(T, T)>
 {
     if a.gcd_fits(&b) && a.lcm_fits(&b) {
         Some(crate::gcd_lcm(a, b))
+    } else {
+        None
+    }
+}
+
+pub(super) fn binomial<T: Fits>(n: T, k: T) -> Option<T>
+    requires n_in_range { T.fits (T.value n) }
+    requires k_in_range { T.fits (T.value k) }
+{
+    if n.binomial_fits(&k) {
+        Some(crate::binomial(n, k))
+    } else {
+        None
+    }
+}
+
+/// Whether a pair is in the type: in one without negatives, one operand has to divide the other.
+pub(super) fn extended_gcd<T: Fits>(a: T, b: T) -> Option<ExtendedGcd<T>>
+    requires a_in_range { T.fits (T.value a) }
+    requires b_in_range { T.fits (T.value b) }
+{
+    if a.gcd_fits(&b) && (T::ends().0 != 0 || a.is_multiple_of(&b) || b.is_multiple_of(&a)) {
+        Some(a.extended_gcd(&b))
+    } else {
+        None
+    }
+}
+
+pub(super) fn extended_gcd_counted<T: Fits>(a: T, b: T) -> Option<(ExtendedGcd<T>, u32)>
+    requires a_in_range { T.fits (T.value a) }
+    requires b_in_range { T.fits (T.value b) }
+{
+    if a.gcd_fits(&b) && (T::ends().0 != 0 || a.is_multiple_of(&b) || b.is_multiple_of(&a)) {
+        Some(counted(a, b))
+    } else {
+        None
+    }
+}
+
+pub(crate) fn extended_gcd_lcm<T: Fits + Signed>(a: T, b: T) -> Option<(ExtendedGcd<T>, T)>
+    requires a_in_range { T.fits (T.value a) }
+    requires b_in_range { T.fits (T.value b) }
+{
+    if a.gcd_fits(&b) && a.lcm_fits(&b) && T::ends().0 != 0 {
+        Some(a.extended_gcd_lcm(&b))
     } else {
         None
     }

@@ -1,25 +1,26 @@
 //! Tests of the coefficients: values that the contracts cannot supply.
 
+ghost use Rattle.std.specs.Prelude.{IfOk};
 ghost use Rattle.std.specs.List.{All};
 
-use super::{agree, number};
+use super::calls::Call::Binomial;
+use super::calls::Question::BinomialFits;
+use super::calls::{Answers, Holds};
+use super::checked;
+use super::types::Type::{I8, I16, I32, I64, U8, U16, U32, U64};
+use super::types::{
+    Check, SIGNED, Tested, Type, UNSIGNED, check_at, check_at_each, check_rows, number, optional,
+};
 use crate::counted::binomial_counted;
-use crate::{Fits, IterBinomial, binomial, multinomial};
-use num_traits::FromPrimitive;
-use std::fmt::Debug;
+use crate::{Fits, IterBinomial, multinomial};
+use std::alloc::{AllocError, Global};
 use std::process::Abort;
 
-/// The coefficient, where it fits.
-fn coefficient<T: Fits>(n: T, k: T) -> Option<T>
-    requires n_in_range { T.fits (T.value n) }
-    requires k_in_range { T.fits (T.value k) }
-{
-    if n.binomial_fits(&k) {
-        Some(binomial(n, k))
-    } else {
-        None
-    }
-}
+/// The types whose numbers have 16 bits or more, and at most 64.
+const FROM_16_BITS: [Type; 6] = [U16, I16, U32, I32, U64, I64];
+
+/// The types whose numbers have 32 or 64 bits.
+const FROM_32_BITS: [Type; 4] = [U32, I32, U64, I64];
 
 /// The coefficient and the turns, where the coefficient fits.
 fn counted<T: Fits>(n: T, k: T) -> Option<(T, u32)>
@@ -60,71 +61,58 @@ fn row<T: Fits>(n: T, half: T) -> Option<IterBinomial<T>>
     }
 }
 
-fn has_coefficient<T: Fits + FromPrimitive + Debug>(
-    rt: &impl Abort,
-    n: i128,
-    k: i128,
-    expected: i128,
-) {
-    let answer = coefficient(number::<T>(rt, n), number::<T>(rt, k));
-    agree(rt, "binomial", (n, k), answer, Some(number(rt, expected)));
-}
-
 #[test]
 fn binomials_from_8_bits(rt: HostRuntime) {
-    for (n, k, expected) in [(0, 0, 1), (2, 3, 0), (9, 4, 126), (9, 5, 126)] {
-        at_signed_types!(has_coefficient(&rt, n, k, expected));
-        at_unsigned_types!(has_coefficient(&rt, n, k, expected));
+    for (operands, expected) in [((0, 0), 1), ((2, 3), 0), ((9, 4), 126), ((9, 5), 126)] {
+        let check = Answers(Binomial, operands, Some(expected));
+        check_at_each(&rt, &SIGNED, &check);
+        check_at_each(&rt, &UNSIGNED, &check);
     }
 }
 
 #[test]
 fn binomials_from_16_bits(rt: HostRuntime) {
-    for (n, k, expected) in [
-        (100, 2, 4950),
-        (100, 98, 4950),
-        (14, 4, 1001),
-        (14, 10, 1001),
+    for (operands, expected) in [
+        ((100, 2), 4950),
+        ((100, 98), 4950),
+        ((14, 4), 1001),
+        ((14, 10), 1001),
     ] {
-        has_coefficient::<u16>(&rt, n, k, expected);
-        has_coefficient::<i16>(&rt, n, k, expected);
-        has_coefficient::<u32>(&rt, n, k, expected);
-        has_coefficient::<i32>(&rt, n, k, expected);
-        has_coefficient::<u64>(&rt, n, k, expected);
-        has_coefficient::<i64>(&rt, n, k, expected);
+        check_at_each(
+            &rt,
+            &FROM_16_BITS,
+            &Answers(Binomial, operands, Some(expected)),
+        );
     }
 }
 
 #[test]
 fn binomials_from_32_bits(rt: HostRuntime) {
-    for (n, k, expected) in [(35, 11, 417225900), (35, 24, 417225900)] {
-        has_coefficient::<u32>(&rt, n, k, expected);
-        has_coefficient::<i32>(&rt, n, k, expected);
-        has_coefficient::<u64>(&rt, n, k, expected);
-        has_coefficient::<i64>(&rt, n, k, expected);
+    for operands in [(35, 11), (35, 24)] {
+        check_at_each(
+            &rt,
+            &FROM_32_BITS,
+            &Answers(Binomial, operands, Some(417225900)),
+        );
     }
 }
 
 #[test]
 fn binomials_at_the_ends(rt: HostRuntime) {
-    for (n, k, expected) in [
-        (67, 33, 14226520737620288370),
-        (18446744073709551615, 1, 18446744073709551615),
-        (
-            18446744073709551615,
-            18446744073709551614,
-            18446744073709551615,
-        ),
-        (18446744073709551615, 18446744073709551615, 1),
-    ] {
-        has_coefficient::<u64>(&rt, n, k, expected);
-    }
-    has_coefficient::<u8>(&rt, 200, 199, 200);
-    has_coefficient::<i64>(&rt, 66, 33, 7219428434016265740);
-    assert!(rt; coefficient(11u8, 5).is_none());
-    assert!(rt; coefficient(-1i8, 0).is_none());
-    assert!(rt; coefficient(67i64, 33).is_none());
-    assert!(rt; coefficient(u64::MAX, 2).is_none());
+    let top = 18446744073709551615;
+    let rows = [
+        (U64, Answers(Binomial, (67, 33), Some(14226520737620288370))),
+        (U64, Answers(Binomial, (top, 1), Some(top))),
+        (U64, Answers(Binomial, (top, top - 1), Some(top))),
+        (U64, Answers(Binomial, (top, top), Some(1))),
+        (U8, Answers(Binomial, (200, 199), Some(200))),
+        (I64, Answers(Binomial, (66, 33), Some(7219428434016265740))),
+        (U8, Answers(Binomial, (11, 5), None)),
+        (I8, Answers(Binomial, (-1, 0), None)),
+        (I64, Answers(Binomial, (67, 33), None)),
+        (U64, Answers(Binomial, (top, 2), None)),
+    ];
+    check_rows(&rt, &rows);
 }
 
 #[test]
@@ -134,119 +122,153 @@ fn binomial_turns(rt: HostRuntime) {
     assert!(rt; counted(3u8, 4) == Some((0, 0)));
 }
 
-fn has_multinomial<T: Fits + PartialEq>(rt: &impl Abort, counts: &[T], expected: T)
-    requires { All (λ x. T.fits (T.value x)) counts.now }
+/// The numbers as values of the type.
+fn values<T: Tested>(rt: &impl Abort, alloc: Global, numbers: &[i128]) -> Result<Vec<T>, AllocError>
+    ensures { IfOk result (λ v. All (λ x. T.fits (T.value x)) v.items) }
 {
-    assert!(rt; shared(counts) == Some(expected));
+    let mut values = Vec::new(alloc);
+    for it in numbers {
+        values.push(number::<T>(rt, *it))?;
+    }
+    Ok(values)
+}
+
+/// Counts, and their multinomial, or `None` where it does not fit.
+#[derive(Drop)]
+pub(crate) struct Shares<'a>(
+    pub(crate) Global,
+    pub(crate) &'a [i128],
+    pub(crate) Option<i128>,
+);
+
+impl Check for Shares<'_> {
+    fn at<T: Tested>(&self, rt: &impl Abort) {
+        let counts = values::<T>(rt, self.0, self.1).expect(rt, "memory is left");
+        let expected = optional::<T>(rt, self.2);
+        assert!(rt;
+            shared(&counts) == expected,
+            "the multinomial of {:?}",
+            self.1
+        );
+    }
 }
 
 #[test]
 fn multinomials_from_8_bits(rt: HostRuntime) {
-    at_signed_types!(has_multinomial(&rt, &[4, 5], 126));
-    at_signed_types!(has_multinomial(&rt, &[2, 1, 2], 30));
-    at_signed_types!(has_multinomial(&rt, &[2, 3, 0], 10));
-    at_unsigned_types!(has_multinomial(&rt, &[4, 5], 126));
-    at_unsigned_types!(has_multinomial(&rt, &[2, 1, 2], 30));
-    at_unsigned_types!(has_multinomial(&rt, &[2, 3, 0], 10));
+    for types in [SIGNED, UNSIGNED] {
+        check_at_each(&rt, &types, &Shares(rt.alloc(), &[4, 5], Some(126)));
+        check_at_each(&rt, &types, &Shares(rt.alloc(), &[2, 1, 2], Some(30)));
+        check_at_each(&rt, &types, &Shares(rt.alloc(), &[2, 3, 0], Some(10)));
+    }
 }
 
 #[test]
 fn multinomials_from_16_bits(rt: HostRuntime) {
-    has_multinomial::<u16>(&rt, &[2, 98], 4950);
-    has_multinomial::<i16>(&rt, &[2, 98], 4950);
-    has_multinomial::<u32>(&rt, &[2, 98], 4950);
-    has_multinomial::<i32>(&rt, &[2, 98], 4950);
-    has_multinomial::<u64>(&rt, &[2, 98], 4950);
-    has_multinomial::<i64>(&rt, &[2, 98], 4950);
-    has_multinomial::<u16>(&rt, &[4, 10], 1001);
-    has_multinomial::<i16>(&rt, &[4, 10], 1001);
-    has_multinomial::<u32>(&rt, &[4, 10], 1001);
-    has_multinomial::<i32>(&rt, &[4, 10], 1001);
-    has_multinomial::<u64>(&rt, &[4, 10], 1001);
-    has_multinomial::<i64>(&rt, &[4, 10], 1001);
+    check_at_each(
+        &rt,
+        &FROM_16_BITS,
+        &Shares(rt.alloc(), &[2, 98], Some(4950)),
+    );
+    check_at_each(
+        &rt,
+        &FROM_16_BITS,
+        &Shares(rt.alloc(), &[4, 10], Some(1001)),
+    );
 }
 
 #[test]
 fn multinomials_from_32_bits(rt: HostRuntime) {
-    has_multinomial::<u32>(&rt, &[11, 24], 417225900);
-    has_multinomial::<i32>(&rt, &[11, 24], 417225900);
-    has_multinomial::<u64>(&rt, &[11, 24], 417225900);
-    has_multinomial::<i64>(&rt, &[11, 24], 417225900);
+    let check = Shares(rt.alloc(), &[11, 24], Some(417225900));
+    check_at_each(&rt, &FROM_32_BITS, &check);
 }
 
 #[test]
 fn multinomials_at_the_ends(rt: HostRuntime) {
-    assert!(rt; shared(&[2u8, 2, 2]) == Some(90));
-    assert!(rt; shared(&[3u8, 2, 2]) == Some(210));
-    assert!(rt; shared::<u8>(&[]) == Some(1));
-    assert!(rt; shared::<u64>(&[]) == Some(1));
-    assert!(rt; shared(&[0u64]) == Some(1));
-    assert!(rt; shared(&[12345u64]) == Some(1));
-    assert!(rt; shared(&[254u8, 1]) == Some(255));
-    assert!(rt; shared(&[1u8, 1, 1, 1, 1]) == Some(120));
-    assert!(rt; shared(&[1u8, 1, 1, 1, 1, 1]).is_none());
+    let alloc = rt.alloc();
+    let rows = [
+        (U8, Shares(alloc, &[2, 2, 2], Some(90))),
+        (U8, Shares(alloc, &[3, 2, 2], Some(210))),
+        (U8, Shares(alloc, &[], Some(1))),
+        (U64, Shares(alloc, &[], Some(1))),
+        (U64, Shares(alloc, &[0], Some(1))),
+        (U64, Shares(alloc, &[12345], Some(1))),
+        (U8, Shares(alloc, &[254, 1], Some(255))),
+        (U8, Shares(alloc, &[1, 1, 1, 1, 1], Some(120))),
+        (U8, Shares(alloc, &[1, 1, 1, 1, 1, 1], None)),
+    ];
+    check_rows(&rt, &rows);
 }
 
-fn has_items<T: Fits + FromPrimitive + Debug>(
-    rt: &impl Abort,
-    n: i128,
-    half: i128,
-    items: &[i128],
-) {
-    let mut row = row(number::<T>(rt, n), number::<T>(rt, half)).expect(rt, "the row fits");
-    for item in items {
-        agree(rt, "next", (n, *item), row.next(), Some(number(rt, *item)));
+/// A number, its half, and the row of the number.
+#[derive(Drop)]
+pub(crate) struct HasItems<'a>(pub(crate) i128, pub(crate) i128, pub(crate) &'a [i128]);
+
+impl Check for HasItems<'_> {
+    fn at<T: Tested>(&self, rt: &impl Abort) {
+        let (n, half) = (number::<T>(rt, self.0), number::<T>(rt, self.1));
+        let mut row = row(n, half).expect(rt, "the row fits");
+        for item in self.2 {
+            let expected = Some(number::<T>(rt, *item));
+            assert_eq!(rt; row.next(), expected, "in the row of {}", self.0);
+        }
+        assert!(rt; row.next().is_none() && row.next().is_none());
     }
-    agree(rt, "next", (n, 0), row.next(), None);
-    agree(rt, "next", (n, 0), row.next(), None);
 }
 
-/// The row of `n` is the greatest: the next has a coefficient that does not fit.
-fn has_greatest_row<T: Fits + FromPrimitive + Debug>(rt: &impl Abort, n: i128, half: i128) {
-    let top = number::<T>(rt, n);
-    let mut k = 0;
-    for item in row(top, number::<T>(rt, half)).expect(rt, "the greatest row fits") {
-        let expected = coefficient(top, number::<T>(rt, k));
-        agree(rt, "next", (n, k), Some(item), expected);
-        k = k.wrapping_add(1);
+/// A number and its half, where the row of the number is the greatest: the next row has a
+/// coefficient that does not fit.
+#[derive(Drop)]
+struct HasGreatestRow(i128, i128);
+
+impl Check for HasGreatestRow {
+    fn at<T: Tested>(&self, rt: &impl Abort) {
+        let (n, half) = (number::<T>(rt, self.0), number::<T>(rt, self.1));
+        let mut row = row(n, half).expect(rt, "the greatest row fits");
+        for k in 0..=self.0 {
+            let expected = checked::binomial(n, number::<T>(rt, k));
+            assert_eq!(rt; row.next(), expected, "item {k} of the row of {}", self.0);
+        }
+        assert!(rt; row.next().is_none());
+        let above = self.0.wrapping_add(1);
+        let next = checked::binomial(number::<T>(rt, above), number::<T>(rt, above / 2));
+        assert!(rt; next.is_none());
     }
-    assert!(rt; k == n.wrapping_add(1));
-    let next = coefficient(number::<T>(rt, k), number::<T>(rt, k / 2));
-    assert!(rt; next.is_none());
 }
 
-fn has_rows<T: Fits + FromPrimitive + Debug>(rt: &impl Abort, n: i128, half: i128) {
-    has_items::<T>(rt, 3, 1, &[1, 3, 3, 1]);
-    has_greatest_row::<T>(rt, n, half);
+/// Checks the row of 3 and the greatest row of the type, that of `n`.
+fn check_rows_of(rt: &impl Abort, it: Type, n: i128, half: i128) {
+    check_at(rt, it, &HasItems(3, 1, &[1, 3, 3, 1]));
+    check_at(rt, it, &HasGreatestRow(n, half));
 }
 
 #[test]
 fn rows_of_8_bits(rt: HostRuntime) {
-    has_rows::<u8>(&rt, 10, 5);
-    has_rows::<i8>(&rt, 9, 4);
+    check_rows_of(&rt, U8, 10, 5);
+    check_rows_of(&rt, I8, 9, 4);
 }
 
 #[test]
 fn rows_of_16_bits(rt: HostRuntime) {
-    has_rows::<u16>(&rt, 18, 9);
-    has_rows::<i16>(&rt, 17, 8);
+    check_rows_of(&rt, U16, 18, 9);
+    check_rows_of(&rt, I16, 17, 8);
 }
 
 #[test]
 fn rows_of_32_bits(rt: HostRuntime) {
-    has_rows::<u32>(&rt, 34, 17);
-    has_rows::<i32>(&rt, 33, 16);
+    check_rows_of(&rt, U32, 34, 17);
+    check_rows_of(&rt, I32, 33, 16);
 }
 
 #[test]
 fn rows_of_64_bits(rt: HostRuntime) {
-    has_rows::<u64>(&rt, 67, 33);
-    has_rows::<i64>(&rt, 66, 33);
+    check_rows_of(&rt, U64, 67, 33);
+    check_rows_of(&rt, I64, 66, 33);
 }
 
 #[test]
 fn rows_at_the_ends(rt: HostRuntime) {
-    has_items::<u8>(&rt, 10, 5, &[1, 10, 45, 120, 210, 252, 210, 120, 45, 10, 1]);
+    let items = [1, 10, 45, 120, 210, 252, 210, 120, 45, 10, 1];
+    check_at(&rt, U8, &HasItems(10, 5, &items));
     let mut none = IterBinomial::new(-1i8);
     assert!(rt; none.next().is_none());
     assert!(rt; none.next().is_none());
@@ -254,30 +276,62 @@ fn rows_at_the_ends(rt: HostRuntime) {
 
 #[test]
 fn domains_of_binomial(rt: HostRuntime) {
-    assert!(rt; 10u8.binomial_fits(&5) && 11u8.binomial_fits(&3) && 255u8.binomial_fits(&1));
-    assert!(rt; 255u8.binomial_fits(&254) && 0u8.binomial_fits(&255));
-    assert!(rt; 9i8.binomial_fits(&4) && 10i8.binomial_fits(&3));
-    assert!(rt; !11u8.binomial_fits(&4) && !11u8.binomial_fits(&5) && !255u8.binomial_fits(&2));
-    assert!(rt; !10i8.binomial_fits(&5) && !(-1i8).binomial_fits(&0) && !3i8.binomial_fits(&-1));
+    let rows = [
+        (U8, Holds(BinomialFits, (10, 5), true)),
+        (U8, Holds(BinomialFits, (11, 3), true)),
+        (U8, Holds(BinomialFits, (255, 1), true)),
+        (U8, Holds(BinomialFits, (255, 254), true)),
+        (U8, Holds(BinomialFits, (0, 255), true)),
+        (I8, Holds(BinomialFits, (9, 4), true)),
+        (I8, Holds(BinomialFits, (10, 3), true)),
+        (U8, Holds(BinomialFits, (11, 4), false)),
+        (U8, Holds(BinomialFits, (11, 5), false)),
+        (U8, Holds(BinomialFits, (255, 2), false)),
+        (I8, Holds(BinomialFits, (10, 5), false)),
+        (I8, Holds(BinomialFits, (-1, 0), false)),
+        (I8, Holds(BinomialFits, (3, -1), false)),
+    ];
+    check_rows(&rt, &rows);
 }
 
 #[test]
 fn domains_of_multinomial(rt: HostRuntime) {
-    assert!(rt; u8::multinomial_fits(&[]) && u8::multinomial_fits(&[255]));
-    assert!(rt; u8::multinomial_fits(&[255, 0]) && u8::multinomial_fits(&[254, 1]));
-    assert!(rt; u8::multinomial_fits(&[3, 2, 2]));
-    assert!(rt; !u8::multinomial_fits(&[255, 1]) && !u8::multinomial_fits(&[2, 2, 2, 1]));
-    assert!(rt; !i8::multinomial_fits(&[3, 2, 2]) && !i8::multinomial_fits(&[-1]));
+    let rows: [(&[u8], bool); 7] = [
+        (&[], true),
+        (&[255], true),
+        (&[255, 0], true),
+        (&[254, 1], true),
+        (&[3, 2, 2], true),
+        (&[255, 1], false),
+        (&[2, 2, 2, 1], false),
+    ];
+    for (counts, fits) in rows {
+        assert!(rt; u8::multinomial_fits(counts) == fits, "of {counts:?}");
+    }
+    let rows: [&[i8]; 2] = [&[3, 2, 2], &[-1]];
+    for counts in rows {
+        assert!(rt; !i8::multinomial_fits(counts), "of {counts:?}");
+    }
 }
 
 /// Half of the greatest number would take about 2^127 turns, if the tests did not stop.
 #[test]
 fn work_of_the_tests(rt: HostRuntime) {
-    assert!(rt; u128::MAX.binomial_fits(&1) && !u128::MAX.binomial_fits(&2));
-    assert!(rt; u128::MAX.binomial_fits(&(u128::MAX - 1)));
-    assert!(rt; !u128::MAX.binomial_fits(&(u128::MAX / 2)));
-    assert!(rt; !u128::multinomial_fits(&[u128::MAX / 2, u128::MAX / 2]));
-    assert!(rt; !u128::multinomial_fits(&[u128::MAX, u128::MAX]));
-    assert!(rt; !u128::multinomial_fits(&[u128::MAX, 1]));
-    assert!(rt; u128::multinomial_fits(&[u128::MAX - 1, 0, 1]));
+    for (k, fits) in [
+        (1, true),
+        (2, false),
+        (u128::MAX - 1, true),
+        (u128::MAX / 2, false),
+    ] {
+        assert!(rt; u128::MAX.binomial_fits(&k) == fits, "of {k}");
+    }
+    let rows: [(&[u128], bool); 4] = [
+        (&[u128::MAX / 2, u128::MAX / 2], false),
+        (&[u128::MAX, u128::MAX], false),
+        (&[u128::MAX, 1], false),
+        (&[u128::MAX - 1, 0, 1], true),
+    ];
+    for (counts, fits) in rows {
+        assert!(rt; u128::multinomial_fits(counts) == fits, "of {counts:?}");
+    }
 }

@@ -1,9 +1,10 @@
 //! Quotients and remainders.
 
-use super::{agree, checked, number};
-use crate::Fits;
-use num_traits::FromPrimitive;
-use std::fmt::Debug;
+use super::calls::Call::{DivCeil, DivFloor, ModFloor};
+use super::calls::PairCall::{DivModFloor, DivRem, Operators};
+use super::calls::{Answers, AnswersPair};
+use super::types::Type::{I8, I64, I128, U64};
+use super::types::{SIGNED, Type, UNSIGNED, check_at, check_at_each, check_rows};
 use std::process::Abort;
 
 /// A dividend, a divisor, and what the three ways of rounding answer.
@@ -74,87 +75,63 @@ const DIVISIONS: [Division; 8] = [
     },
 ];
 
-fn truncates<T: Fits + FromPrimitive + Debug>(rt: &impl Abort, row: &Division) {
-    let (n, d) = (number::<T>(rt, row.n), number::<T>(rt, row.d));
-    let expected = Some((number(rt, row.truncated.0), number(rt, row.truncated.1)));
-    agree(
-        rt,
-        "div_rem",
-        (row.n, row.d),
-        checked::div_rem(n, d),
-        expected,
-    );
-    agree(
-        rt,
-        "/ and %",
-        (row.n, row.d),
-        checked::operators(n, d),
-        expected,
-    );
-}
-
-fn floors<T: Fits + FromPrimitive + Debug>(
-    rt: &impl Abort,
-    operands: (i128, i128),
-    floored: (i128, i128),
-) {
-    let (n, d) = (number::<T>(rt, operands.0), number::<T>(rt, operands.1));
-    let (q, r) = (number::<T>(rt, floored.0), number::<T>(rt, floored.1));
-    agree(
-        rt,
-        "div_mod_floor",
-        operands,
-        checked::div_mod_floor(n, d),
-        Some((q, r)),
-    );
-    agree(rt, "div_floor", operands, checked::div_floor(n, d), Some(q));
-    agree(rt, "mod_floor", operands, checked::mod_floor(n, d), Some(r));
-}
-
-fn ceils<T: Fits + FromPrimitive + Debug>(rt: &impl Abort, row: &Division) {
-    let (n, d) = (number::<T>(rt, row.n), number::<T>(rt, row.d));
-    agree(
-        rt,
-        "div_ceil",
-        (row.n, row.d),
-        checked::div_ceil(n, d),
-        Some(number(rt, row.ceiled)),
-    );
+/// The quotient rounded down and its remainder, together and each alone.
+fn check_floored(rt: &impl Abort, types: &[Type], operands: (i128, i128), (q, r): (i128, i128)) {
+    check_at_each(rt, types, &AnswersPair(DivModFloor, operands, Some((q, r))));
+    check_at_each(rt, types, &Answers(DivFloor, operands, Some(q)));
+    check_at_each(rt, types, &Answers(ModFloor, operands, Some(r)));
 }
 
 #[test]
 fn test_div_rem(rt: HostRuntime) {
     for row in &DIVISIONS {
-        at_signed_types!(truncates(&rt, row));
+        for call in [DivRem, Operators] {
+            let check = AnswersPair(call, (row.n, row.d), Some(row.truncated));
+            check_at_each(&rt, &SIGNED, &check);
+        }
     }
 }
 
 #[test]
 fn test_div_mod_floor(rt: HostRuntime) {
     for row in &DIVISIONS {
-        at_signed_types!(floors(&rt, (row.n, row.d), row.floored));
+        check_floored(&rt, &SIGNED, (row.n, row.d), row.floored);
     }
     for (operands, floored) in [((10, 3), (3, 1)), ((5, 5), (1, 0)), ((3, 7), (0, 3))] {
-        at_unsigned_types!(floors(&rt, operands, floored));
+        check_floored(&rt, &UNSIGNED, operands, floored);
     }
 }
 
 #[test]
 fn test_div_ceil(rt: HostRuntime) {
     for row in &DIVISIONS {
-        at_signed_types!(ceils(&rt, row));
+        let check = Answers(DivCeil, (row.n, row.d), Some(row.ceiled));
+        check_at_each(&rt, &SIGNED, &check);
     }
-    assert!(rt; checked::div_ceil(u64::MAX, 2) == Some(9223372036854775808));
+    let half = Answers(
+        DivCeil,
+        (18446744073709551615, 2),
+        Some(9223372036854775808),
+    );
+    check_at(&rt, U64, &half);
 }
 
 /// Only the least number by -1 has a quotient outside the type, and its remainder is in the type.
 #[test]
 fn divisions_at_the_ends(rt: HostRuntime) {
-    assert!(rt; checked::div_floor(i8::MIN, -1).is_none());
-    assert!(rt; checked::mod_floor(i8::MIN, -1) == Some(0));
-    assert!(rt; checked::div_floor(i64::MIN, -1).is_none());
-    assert!(rt; checked::mod_floor(i64::MIN, -1) == Some(0));
-    assert!(rt; checked::mod_floor(i128::MIN, -1) == Some(0));
-    assert!(rt; checked::div_floor(1i64, 0).is_none() && checked::div_rem(7i64, 0).is_none());
-    assert!(rt; checked::div_rem(7i64, 2) == Some((3, 1)));
+    let least = -9223372036854775808;
+    let rows = [
+        (I8, Answers(DivFloor, (-128, -1), None)),
+        (I8, Answers(ModFloor, (-128, -1), Some(0))),
+        (I64, Answers(DivFloor, (least, -1), None)),
+        (I64, Answers(ModFloor, (least, -1), Some(0))),
+        (I128, Answers(ModFloor, (i128::MIN, -1), Some(0))),
+        (I64, Answers(DivFloor, (1, 0), None)),
+    ];
+    check_rows(&rt, &rows);
+    let rows = [
+        (I64, AnswersPair(DivRem, (7, 0), None)),
+        (I64, AnswersPair(DivRem, (7, 2), Some((3, 1)))),
+    ];
+    check_rows(&rt, &rows);
 }

@@ -1,9 +1,11 @@
 //! Greatest common divisors and least common multiples.
 
-use super::{agree, checked, greatest, number};
-use crate::Fits;
-use num_traits::FromPrimitive;
-use std::fmt::Debug;
+use super::calls::Call::{Gcd, Lcm};
+use super::calls::PairCall::GcdLcm;
+use super::calls::{Answers, AnswersPair, Call};
+use super::types::Type::{I8, I16, I32, I64, U8, U16, U32, U64};
+use super::types::{Check, SIGNED, Tested, UNSIGNED, check_at, check_at_each, check_rows, number};
+use super::{checked, greatest};
 use std::mem;
 use std::process::Abort;
 
@@ -35,26 +37,34 @@ const LCMS: [(i128, i128, i128); 9] = [
     (-1, -1, 1),
 ];
 
-fn has_gcd<T: Fits + FromPrimitive + Debug>(rt: &impl Abort, a: i128, b: i128, gcd: i128) {
-    let (x, y, gcd) = (number::<T>(rt, a), number::<T>(rt, b), number::<T>(rt, gcd));
-    agree(rt, "gcd", (a, b), checked::gcd(x, y), Some(gcd));
-    agree(rt, "gcd", (b, a), checked::gcd(y, x), Some(gcd));
+/// A call, its operands in either order, and its answer.
+#[derive(Drop)]
+struct InBothOrders(Call, (i128, i128), i128);
+
+impl Check for InBothOrders {
+    fn at<T: Tested>(&self, rt: &impl Abort) {
+        let (a, b) = self.1;
+        for operands in [(a, b), (b, a)] {
+            Answers(self.0, operands, Some(self.2)).at::<T>(rt);
+        }
+    }
 }
 
-fn has_lcm<T: Fits + FromPrimitive + Debug>(rt: &impl Abort, a: i128, b: i128, lcm: i128) {
-    let (x, y, lcm) = (number::<T>(rt, a), number::<T>(rt, b), number::<T>(rt, lcm));
-    agree(rt, "lcm", (a, b), checked::lcm(x, y), Some(lcm));
-    agree(rt, "lcm", (b, a), checked::lcm(y, x), Some(lcm));
+/// Checks the rows at each signed type, and at each unsigned type where no operand is negative.
+fn check_in_both_orders(rt: &impl Abort, call: Call, rows: &[(i128, i128, i128)]) {
+    for row in rows {
+        let (a, b, answer) = *row;
+        let check = InBothOrders(call, (a, b), answer);
+        check_at_each(rt, &SIGNED, &check);
+        if a >= 0 && b >= 0 {
+            check_at_each(rt, &UNSIGNED, &check);
+        }
+    }
 }
 
 #[test]
 fn test_gcd(rt: HostRuntime) {
-    for (a, b, gcd) in GCDS {
-        at_signed_types!(has_gcd(&rt, a, b, gcd));
-        if a >= 0 && b >= 0 {
-            at_unsigned_types!(has_gcd(&rt, a, b, gcd));
-        }
-    }
+    check_in_both_orders(&rt, Gcd, &GCDS);
 }
 
 /// The greatest common divisor by remainders.
@@ -66,93 +76,115 @@ fn euclidean_gcd(mut m: u32, mut n: u32) -> u32 {
     n
 }
 
-fn agrees_with_euclid<T: Fits + FromPrimitive + Debug>(rt: &impl Abort, low: i32, high: i32) {
-    for a in low..=high {
-        for b in low..=high {
-            let gcd = euclidean_gcd(a.unsigned_abs(), b.unsigned_abs());
-            has_gcd::<T>(rt, a as i128, b as i128, gcd as i128);
+/// Each pair of the numbers from the lower to the higher has the divisor of `euclidean_gcd`.
+#[derive(Drop)]
+struct AgreesWithEuclid(i32, i32);
+
+impl Check for AgreesWithEuclid {
+    fn at<T: Tested>(&self, rt: &impl Abort) {
+        for a in self.0..=self.1 {
+            for b in self.0..=self.1 {
+                let gcd = euclidean_gcd(a.unsigned_abs(), b.unsigned_abs());
+                InBothOrders(Gcd, (a as i128, b as i128), gcd as i128).at::<T>(rt);
+            }
         }
     }
 }
 
 #[test]
 fn test_gcd_cmp_with_euclidean(rt: HostRuntime) {
-    at_signed_types!(agrees_with_euclid(&rt, -127, 127));
-    at_unsigned_types!(agrees_with_euclid(&rt, 0, 255));
+    check_at_each(&rt, &SIGNED, &AgreesWithEuclid(-127, 127));
+    check_at_each(&rt, &UNSIGNED, &AgreesWithEuclid(0, 255));
 }
 
-fn meets_the_least<T: Fits + FromPrimitive + Debug>(rt: &impl Abort) {
-    let greatest = greatest::<T>(rt);
-    let (least, power) = (-greatest - 1, greatest / 2 + 1);
-    has_gcd::<T>(rt, least, greatest, 1);
-    has_gcd::<T>(rt, least, power, power);
-    has_gcd::<T>(rt, least, 42, 2);
+/// What the least number has in common with the greatest, with a power of 2, and with 42.
+#[derive(Drop)]
+struct MeetsTheLeast;
+
+impl Check for MeetsTheLeast {
+    fn at<T: Tested>(&self, rt: &impl Abort) {
+        let greatest = greatest::<T>(rt);
+        let (least, power) = (-greatest - 1, greatest / 2 + 1);
+        for (number, gcd) in [(greatest, 1), (power, power), (42, 2)] {
+            InBothOrders(Gcd, (least, number), gcd).at::<T>(rt);
+        }
+    }
 }
 
 #[test]
 fn test_gcd_min_val(rt: HostRuntime) {
-    at_signed_types!(meets_the_least(&rt));
+    check_at_each(&rt, &SIGNED, &MeetsTheLeast);
 }
 
 /// The greatest common divisor of the least number with itself or with 0 is outside the type.
 #[test]
 fn divisors_at_the_ends(rt: HostRuntime) {
-    has_gcd::<i64>(
-        &rt,
-        -9223372036854775808,
-        -4611686018427387904,
-        4611686018427387904,
-    );
-    has_gcd::<u64>(&rt, 18446744073709551615, 0, 18446744073709551615);
-    assert!(rt; checked::gcd(i8::MIN, 0).is_none());
-    assert!(rt; checked::gcd(i64::MIN, 0).is_none());
-    assert!(rt; checked::gcd(i64::MIN, i64::MIN).is_none());
-    assert!(rt; checked::lcm(i8::MIN, 0) == Some(0));
-    assert!(rt; checked::gcd_lcm(i8::MIN, 0).is_none());
-    assert!(rt; checked::lcm(i64::MIN, 1).is_none());
+    let (least, greatest) = (-9223372036854775808, 18446744073709551615);
+    let (half, power) = (-4611686018427387904, 4611686018427387904);
+    let rows = [
+        (I64, Answers(Gcd, (least, half), Some(power))),
+        (I64, Answers(Gcd, (half, least), Some(power))),
+        (U64, Answers(Gcd, (greatest, 0), Some(greatest))),
+        (U64, Answers(Gcd, (0, greatest), Some(greatest))),
+        (I8, Answers(Gcd, (-128, 0), None)),
+        (I64, Answers(Gcd, (least, 0), None)),
+        (I64, Answers(Gcd, (least, least), None)),
+        (I8, Answers(Lcm, (-128, 0), Some(0))),
+        (I64, Answers(Lcm, (least, 1), None)),
+    ];
+    check_rows(&rt, &rows);
+    check_at(&rt, I8, &AnswersPair(GcdLcm, (-128, 0), None));
     assert!(rt; checked::lcm(u128::MAX, u128::MAX) == Some(u128::MAX));
     assert!(rt; checked::lcm(u128::MAX, 2).is_none());
 }
 
 #[test]
 fn test_lcm(rt: HostRuntime) {
-    for (a, b, lcm) in LCMS {
-        at_signed_types!(has_lcm(&rt, a, b, lcm));
-        if a >= 0 && b >= 0 {
-            at_unsigned_types!(has_lcm(&rt, a, b, lcm));
-        }
-    }
-    at_unsigned_types!(has_lcm(&rt, 15, 17, 255));
+    check_in_both_orders(&rt, Lcm, &LCMS);
+    check_at_each(&rt, &UNSIGNED, &InBothOrders(Lcm, (15, 17), 255));
 }
 
 /// The product of the operands is outside the type, and their least common multiple is in it.
 #[test]
 fn test_lcm_overflow(rt: HostRuntime) {
-    has_lcm::<i64>(&rt, 46656000000000000, 600, 46656000000000000);
-    has_lcm::<i8>(&rt, 0x40, 4, 0x40);
-    has_lcm::<i16>(&rt, 0x4000, 4, 0x4000);
-    has_lcm::<i32>(&rt, 0x4000_0000, 4, 0x4000_0000);
-    has_lcm::<i64>(&rt, 0x4000_0000_0000_0000, 4, 0x4000_0000_0000_0000);
-    has_lcm::<u8>(&rt, 0x80, 2, 0x80);
-    has_lcm::<u16>(&rt, 0x8000, 2, 0x8000);
-    has_lcm::<u32>(&rt, 0x8000_0000, 2, 0x8000_0000);
-    has_lcm::<u64>(&rt, 0x8000_0000_0000_0000, 2, 0x8000_0000_0000_0000);
+    let rows = [
+        (I64, (46656000000000000, 600), 46656000000000000),
+        (I8, (0x40, 4), 0x40),
+        (I16, (0x4000, 4), 0x4000),
+        (I32, (0x4000_0000, 4), 0x4000_0000),
+        (I64, (0x4000_0000_0000_0000, 4), 0x4000_0000_0000_0000),
+        (U8, (0x80, 2), 0x80),
+        (U16, (0x8000, 2), 0x8000),
+        (U32, (0x8000_0000, 2), 0x8000_0000),
+        (U64, (0x8000_0000_0000_0000, 2), 0x8000_0000_0000_0000),
+    ];
+    for (it, operands, lcm) in rows {
+        check_at(&rt, it, &InBothOrders(Lcm, operands, lcm));
+    }
 }
 
-fn both_are_each(rt: &impl Abort, low: i32, high: i32) {
-    for a in low..=high {
-        for b in low..=high {
-            let (gcd, lcm) = (checked::gcd(a, b), checked::lcm(a, b));
-            assert!(rt; gcd.is_some() && lcm.is_some(), "{a} and {b}");
-            assert!(rt; checked::gcd_lcm(a, b) == gcd.zip(lcm), "{a} and {b}");
+/// Of each pair of the numbers from the lower to the higher, `gcd_lcm` answers what `gcd` and `lcm`
+/// do.
+#[derive(Drop)]
+struct BothAreEach(i32, i32);
+
+impl Check for BothAreEach {
+    fn at<T: Tested>(&self, rt: &impl Abort) {
+        for a in self.0..=self.1 {
+            for b in self.0..=self.1 {
+                let (x, y) = (number::<T>(rt, a as i128), number::<T>(rt, b as i128));
+                let (gcd, lcm) = (checked::gcd(x, y), checked::lcm(x, y));
+                assert!(rt; gcd.is_some() && lcm.is_some(), "{a} and {b}");
+                assert!(rt; checked::gcd_lcm(x, y) == gcd.zip(lcm), "{a} and {b}");
+            }
         }
     }
 }
 
 #[test]
 fn test_gcd_lcm(rt: HostRuntime) {
-    both_are_each(&rt, -128, 127);
-    both_are_each(&rt, 0, 255);
-    assert!(rt; checked::gcd_lcm(10i64, 4) == Some((2, 20)));
-    assert!(rt; checked::gcd_lcm(8, 9) == Some((1, 72)));
+    check_at(&rt, I32, &BothAreEach(-128, 127));
+    check_at(&rt, I32, &BothAreEach(0, 255));
+    check_at(&rt, I64, &AnswersPair(GcdLcm, (10, 4), Some((2, 20))));
+    check_at(&rt, I32, &AnswersPair(GcdLcm, (8, 9), Some((1, 72))));
 }

@@ -1,5 +1,9 @@
 //! Where the domains end.
 
+use super::calls::Holds;
+use super::calls::Question::{GcdFits, LcmFits, NextMultipleFits, PrevMultipleFits, QuotientFits};
+use super::types::Type::{I8, I64, U8};
+use super::types::check_rows;
 use crate::Fits;
 
 #[test]
@@ -14,33 +18,60 @@ fn ends_and_parts(rt: HostRuntime) {
 
 #[test]
 fn edges_of_division(rt: HostRuntime) {
-    assert!(rt; (-127i8).quotient_fits(&-1) && 255u8.quotient_fits(&255));
-    assert!(rt; (i64::MIN + 1).quotient_fits(&-1));
-    assert!(rt; !i8::MIN.quotient_fits(&-1) && !i8::MIN.quotient_fits(&0));
-    assert!(rt; !i64::MIN.quotient_fits(&-1) && !i64::MIN.quotient_fits(&0));
-    assert!(rt; !0u8.quotient_fits(&0));
+    let least = -9223372036854775808;
+    let rows = [
+        (I8, Holds(QuotientFits, (-127, -1), true)),
+        (U8, Holds(QuotientFits, (255, 255), true)),
+        (I64, Holds(QuotientFits, (least + 1, -1), true)),
+        (I8, Holds(QuotientFits, (-128, -1), false)),
+        (I8, Holds(QuotientFits, (-128, 0), false)),
+        (I64, Holds(QuotientFits, (least, -1), false)),
+        (I64, Holds(QuotientFits, (least, 0), false)),
+        (U8, Holds(QuotientFits, (0, 0), false)),
+    ];
+    check_rows(&rt, &rows);
 }
 
 #[test]
 fn edges_of_multiples(rt: HostRuntime) {
-    assert!(rt; 120i8.next_multiple_fits(&8) && i8::MIN.next_multiple_fits(&-1));
-    assert!(rt; (-126i8).next_multiple_fits(&-3) && 255u8.next_multiple_fits(&5));
-    assert!(rt; !127i8.next_multiple_fits(&8) && !i8::MIN.next_multiple_fits(&-3));
-    assert!(rt; !(-127i8).next_multiple_fits(&-3));
-    assert!(rt; !255u8.next_multiple_fits(&2) && !0u8.next_multiple_fits(&0));
-    assert!(rt; 127i8.prev_multiple_fits(&8) && i8::MIN.prev_multiple_fits(&-1));
-    assert!(rt; 255u8.prev_multiple_fits(&2) && !i8::MIN.prev_multiple_fits(&3));
-    assert!(rt; !127i8.prev_multiple_fits(&-8) && !0i8.prev_multiple_fits(&0));
+    let rows = [
+        (I8, Holds(NextMultipleFits, (120, 8), true)),
+        (I8, Holds(NextMultipleFits, (-128, -1), true)),
+        (I8, Holds(NextMultipleFits, (-126, -3), true)),
+        (U8, Holds(NextMultipleFits, (255, 5), true)),
+        (I8, Holds(NextMultipleFits, (127, 8), false)),
+        (I8, Holds(NextMultipleFits, (-128, -3), false)),
+        (I8, Holds(NextMultipleFits, (-127, -3), false)),
+        (U8, Holds(NextMultipleFits, (255, 2), false)),
+        (U8, Holds(NextMultipleFits, (0, 0), false)),
+        (I8, Holds(PrevMultipleFits, (127, 8), true)),
+        (I8, Holds(PrevMultipleFits, (-128, -1), true)),
+        (U8, Holds(PrevMultipleFits, (255, 2), true)),
+        (I8, Holds(PrevMultipleFits, (-128, 3), false)),
+        (I8, Holds(PrevMultipleFits, (127, -8), false)),
+        (I8, Holds(PrevMultipleFits, (0, 0), false)),
+    ];
+    check_rows(&rt, &rows);
 }
 
 /// That `gcd` fits for each pair of `u8` is shown where each pair is tried.
 #[test]
 fn edges_of_divisors(rt: HostRuntime) {
-    assert!(rt; i8::MIN.gcd_fits(&64) && i8::MIN.gcd_fits(&127));
-    assert!(rt; !i8::MIN.gcd_fits(&i8::MIN));
-    assert!(rt; !i8::MIN.gcd_fits(&0) && !0i8.gcd_fits(&i8::MIN));
-    assert!(rt; i8::MIN.lcm_fits(&0) && 64i8.lcm_fits(&4) && 8i8.lcm_fits(&9));
-    assert!(rt; 15u8.lcm_fits(&17) && 0u8.lcm_fits(&0));
-    assert!(rt; !i8::MIN.lcm_fits(&1) && !127i8.lcm_fits(&2) && !16u8.lcm_fits(&17));
+    let rows = [
+        (I8, Holds(GcdFits, (-128, 64), true)),
+        (I8, Holds(GcdFits, (-128, 127), true)),
+        (I8, Holds(GcdFits, (-128, -128), false)),
+        (I8, Holds(GcdFits, (-128, 0), false)),
+        (I8, Holds(GcdFits, (0, -128), false)),
+        (I8, Holds(LcmFits, (-128, 0), true)),
+        (I8, Holds(LcmFits, (64, 4), true)),
+        (I8, Holds(LcmFits, (8, 9), true)),
+        (U8, Holds(LcmFits, (15, 17), true)),
+        (U8, Holds(LcmFits, (0, 0), true)),
+        (I8, Holds(LcmFits, (-128, 1), false)),
+        (I8, Holds(LcmFits, (127, 2), false)),
+        (U8, Holds(LcmFits, (16, 17), false)),
+    ];
+    check_rows(&rt, &rows);
     assert!(rt; !u128::MAX.lcm_fits(&2));
 }

@@ -1,9 +1,12 @@
 //! Multiples, parity, and one more or less.
 
-use super::{agree, checked, greatest, number};
-use crate::{Fits, Integer};
-use num_traits::FromPrimitive;
-use std::fmt::Debug;
+use super::calls::Call::{NextMultipleOf, PrevMultipleOf};
+use super::calls::Question::{Divides, IsMultipleOf};
+use super::calls::{Answers, Holds};
+use super::greatest;
+use super::types::Type::{I8, I128};
+use super::types::{Check, SIGNED, Tested, UNSIGNED, check_at, check_at_each, check_rows, number};
+use crate::Integer;
 use std::process::Abort;
 
 /// Two operands, and the next and the previous multiple.
@@ -31,76 +34,77 @@ const PARITIES: [(i128, bool); 9] = [
     (4, true),
 ];
 
-fn lies_between<T: Fits + FromPrimitive + Debug>(
-    rt: &impl Abort,
-    operands: (i128, i128),
-    (next, previous): (i128, i128),
-) {
-    let (n, d) = (number::<T>(rt, operands.0), number::<T>(rt, operands.1));
-    let (next, previous) = (Some(number(rt, next)), Some(number(rt, previous)));
-    agree(
-        rt,
-        "next_multiple_of",
-        operands,
-        checked::next_multiple_of(n, d),
-        next,
-    );
-    agree(
-        rt,
-        "prev_multiple_of",
-        operands,
-        checked::prev_multiple_of(n, d),
-        previous,
-    );
-}
+/// Two operands, and the next and the previous multiple.
+#[derive(Drop)]
+struct LiesBetween((i128, i128), i128, i128);
 
-fn is_multiple<T: Fits + FromPrimitive>(rt: &impl Abort, operands: (i128, i128), expected: bool) {
-    let (n, d) = (number::<T>(rt, operands.0), number::<T>(rt, operands.1));
-    agree(
-        rt,
-        "is_multiple_of",
-        operands,
-        n.is_multiple_of(&d),
-        expected,
-    );
-    agree(rt, "divides", operands, n.divides(&d), expected);
-}
-
-fn ends_are_multiples<T: Fits + FromPrimitive + Debug>(rt: &impl Abort) {
-    let greatest = greatest::<T>(rt);
-    for n in [-greatest - 1, greatest] {
-        lies_between::<T>(rt, (n, 1), (n, n));
-        lies_between::<T>(rt, (n, -1), (n, n));
+impl Check for LiesBetween {
+    fn at<T: Tested>(&self, rt: &impl Abort) {
+        Answers(NextMultipleOf, self.0, Some(self.1)).at::<T>(rt);
+        Answers(PrevMultipleOf, self.0, Some(self.2)).at::<T>(rt);
     }
 }
 
-fn is_even<T: Fits + FromPrimitive>(rt: &impl Abort, n: i128, expected: bool) {
-    assert!(rt; number::<T>(rt, n).is_even() == expected, "{n}");
+/// The ends of a type are multiples of 1 and of -1.
+#[derive(Drop)]
+struct EndsAreMultiples;
+
+impl Check for EndsAreMultiples {
+    fn at<T: Tested>(&self, rt: &impl Abort) {
+        let greatest = greatest::<T>(rt);
+        for n in [-greatest - 1, greatest] {
+            for d in [1, -1] {
+                LiesBetween((n, d), n, n).at::<T>(rt);
+            }
+        }
+    }
 }
 
-fn is_odd<T: Fits + FromPrimitive>(rt: &impl Abort, n: i128, expected: bool) {
-    assert!(rt; number::<T>(rt, n).is_odd() == expected, "{n}");
+/// Whether the number is even, by `is_even`.
+#[derive(Drop)]
+struct IsEven(i128, bool);
+
+impl Check for IsEven {
+    fn at<T: Tested>(&self, rt: &impl Abort) {
+        let (n, even) = (self.0, self.1);
+        assert!(rt; number::<T>(rt, n).is_even() == even, "{n}");
+    }
+}
+
+/// Whether the number is odd, by `is_odd`.
+#[derive(Drop)]
+struct IsOdd(i128, bool);
+
+impl Check for IsOdd {
+    fn at<T: Tested>(&self, rt: &impl Abort) {
+        let (n, odd) = (self.0, self.1);
+        assert!(rt; number::<T>(rt, n).is_odd() == odd, "{n}");
+    }
 }
 
 #[test]
 fn multiples_on_both_sides(rt: HostRuntime) {
     for (n, d, next, previous) in MULTIPLES {
-        at_signed_types!(lies_between(&rt, (n, d), (next, previous)));
+        check_at_each(&rt, &SIGNED, &LiesBetween((n, d), next, previous));
     }
-    assert!(rt; checked::next_multiple_of(127i8, 8).is_none());
-    assert!(rt; checked::prev_multiple_of(127i8, 8) == Some(120));
-    assert!(rt; checked::next_multiple_of(i8::MIN, -1) == Some(i8::MIN));
-    assert!(rt; checked::prev_multiple_of(i128::MIN, -1) == Some(i128::MIN));
+    let least = i128::MIN;
+    let rows = [
+        (I8, Answers(NextMultipleOf, (127, 8), None)),
+        (I8, Answers(PrevMultipleOf, (127, 8), Some(120))),
+        (I8, Answers(NextMultipleOf, (-128, -1), Some(-128))),
+        (I128, Answers(PrevMultipleOf, (least, -1), Some(least))),
+    ];
+    check_rows(&rt, &rows);
 }
 
 #[test]
 fn test_multiple_of_one_limits(rt: HostRuntime) {
-    at_signed_types!(ends_are_multiples(&rt));
+    check_at_each(&rt, &SIGNED, &EndsAreMultiples);
 }
 
 #[test]
 fn test_is_multiple_of(rt: HostRuntime) {
-    for (operands, expected) in [
+    for (operands, holds) in [
         ((0, 0), true),
         ((6, 6), true),
         ((6, 3), true),
@@ -111,28 +115,33 @@ fn test_is_multiple_of(rt: HostRuntime) {
         ((5, 3), false),
         ((42, 0), false),
     ] {
-        at_unsigned_types!(is_multiple(&rt, operands, expected));
+        check_at_each(&rt, &UNSIGNED, &Holds(IsMultipleOf, operands, holds));
+        check_at_each(&rt, &UNSIGNED, &Holds(Divides, operands, holds));
     }
-    is_multiple::<i8>(&rt, (-128, -1), true);
+    let rows = [
+        (I8, Holds(IsMultipleOf, (-128, -1), true)),
+        (I8, Holds(Divides, (-128, -1), true)),
+    ];
+    check_rows(&rt, &rows);
 }
 
 #[test]
 fn test_even(rt: HostRuntime) {
     for (n, even) in PARITIES {
-        at_signed_types!(is_even(&rt, n, even));
+        check_at_each(&rt, &SIGNED, &IsEven(n, even));
         if n >= 0 {
-            at_unsigned_types!(is_even(&rt, n, even));
+            check_at_each(&rt, &UNSIGNED, &IsEven(n, even));
         }
     }
-    is_even::<i8>(&rt, -128, true);
+    check_at(&rt, I8, &IsEven(-128, true));
 }
 
 #[test]
 fn test_odd(rt: HostRuntime) {
     for (n, even) in PARITIES {
-        at_signed_types!(is_odd(&rt, n, !even));
+        check_at_each(&rt, &SIGNED, &IsOdd(n, !even));
         if n >= 0 {
-            at_unsigned_types!(is_odd(&rt, n, !even));
+            check_at_each(&rt, &UNSIGNED, &IsOdd(n, !even));
         }
     }
 }

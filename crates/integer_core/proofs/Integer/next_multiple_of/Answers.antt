@@ -1,28 +1,20 @@
+use Rattle.std.proofs.lemmas.Bool.{iff_false}
 use Rattle.integer_core.proofs.Multiples.{gap_fits, next_above, next_exact}
-use Rattle.integer_core.proofs.Signs.{not_from_false, is_from_true}
 use Rattle.integer_core.proofs.Integer.next_multiple_of.Goals as goal
 
-pub sub-requires : goal.sub-requires
-sub-requires g c =
-    g.met.Self.Num.can_sub_law _ _ (λ e. gap_fits g.met.Self.Integer.range_law c.requires.other_in_range c.mod_floor-m.ensures.floored.floored)
+pub difference-requires-clause-difference_fits : goal.difference-requires-clause-difference_fits
+difference-requires-clause-difference_fits g c = gap_fits g.met.Self.Integer.range_law c.requires.other_in_range c.mod_floor-m.ensures.floored.division
 
-pub add-requires : goal.add-requires
-add-requires g c =
-    let exact = g.met.Self.Integer.exact_law in
-    let floored = c.mod_floor-m.ensures.floored.floored in
-    let gap = g.met.Self.Num.sub_law _ _ _ c.sub.ensures exact (gap_fits g.met.Self.Integer.range_law c.requires.other_in_range floored) in
-    let multiple = next_above floored (not_from_false c.if-is_zero.false (c.is_zero.ensures.value exact)) in
-    g.met.Self.Zero.can_add_law _ _ (λ e. rw gap (c.requires.multiple _ multiple))
+pub sum-requires-clause-sum_fits : goal.sum-requires-clause-sum_fits
+sum-requires-clause-sum_fits g c =
+    let inexact = iff_false (c.is_zero.ensures.value g.met.Self.Integer.exact_law) c.if-is_zero.false in
+    rw c.difference.ensures.value (c.requires.multiple_fits _ (next_above c.mod_floor-m.ensures.floored.division inexact))
 
-pub returns-else-is_zero : goal.returns-else-is_zero
-returns-else-is_zero g c =
-    let exact = g.met.Self.Integer.exact_law in
-    let floored = c.mod_floor-m.ensures.floored.floored in
-    let gap = g.met.Self.Num.sub_law _ _ _ c.sub.ensures exact (gap_fits g.met.Self.Integer.range_law c.requires.other_in_range floored) in
-    let multiple = next_above floored (not_from_false c.if-is_zero.false (c.is_zero.ensures.value exact)) in
-    let fits = c.requires.multiple _ multiple in
-    rw (g.met.Self.Zero.add_law _ _ _ c.add.ensures exact (rw gap fits), gap) (record { in_range = fits; multiple = multiple })
+pub returns-else-is_zero-clause-multiple : goal.returns-else-is_zero-clause-multiple
+returns-else-is_zero-clause-multiple g c =
+    let inexact = iff_false (c.is_zero.ensures.value g.met.Self.Integer.exact_law) c.if-is_zero.false in
+    rw (c.sum.ensures.value, c.difference.ensures.value) (next_above c.mod_floor-m.ensures.floored.division inexact)
 
 pub returns-then-is_zero-clause-multiple : goal.returns-then-is_zero-clause-multiple
 returns-then-is_zero-clause-multiple g c =
-    next_exact c.mod_floor-m.ensures.floored.floored (is_from_true c.if-is_zero.true (c.is_zero.ensures.value g.met.Self.Integer.exact_law))
+    next_exact c.mod_floor-m.ensures.floored.division ((c.is_zero.ensures.value g.met.Self.Integer.exact_law).0 c.if-is_zero.true)

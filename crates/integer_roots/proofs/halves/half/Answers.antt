@@ -8,10 +8,10 @@ use Rattle.integer_roots.proofs.halves.half.Goals as goal
 not_minus_one : {z : ℤ} → z ≡ pos 2 → z ≢ negsuc 0
 not_minus_one e h = absurd (omega (arith, ints))
 
-pub div_mod_floor-half-requires-clause-quotient : goal.div_mod_floor-half-requires-clause-quotient
-div_mod_floor-half-requires-clause-quotient g c = λ q h.
+pub div_mod_floor-half-requires-clause-quotient_fits : goal.div_mod_floor-half-requires-clause-quotient_fits
+div_mod_floor-half-requires-clause-quotient_fits g c = λ q h.
     other_quotient_fits g.met.T.Integer.range_law c.requires.in_range c.two.ensures.in_range
-    (not_minus_one c.two.ensures.two) h.floored.division
+    (not_minus_one c.two.ensures.two) h.division.division
 
 pub returns-clause-half : goal.returns-clause-half
 returns-clause-half g c =

@@ -1,44 +1,32 @@
+use Rattle.std.specs.Prelude.{◌<ℤ◌, pos}
 use Rattle.std.proofs.Common.{arith}
-use Rattle.std.proofs.lemmas.Int.{ints}
-use Rattle.num_integer.proofs.Cancelling.{cancelled}
+use Rattle.integer_core.proofs.Whole.{linear}
+use Rattle.num_integer.proofs.Cancelling.{cancelled, g_above, g_below, rest_above}
 use Rattle.num_integer.proofs.Ranges.{fits_below}
 use Rattle.num_integer.proofs.coefficients.factors.Goals as goal
 
-pub gcd-g-requires-clause-divisor : goal.gcd-g-requires-clause-divisor
-gcd-g-requires-clause-divisor g c = λ z h.
-    let facts = cancelled c.requires.a_from_zero c.requires.b_above_zero h c.requires.whole in
-    fits_below g.met.T.Integer.range_law c.requires.b_in_range (omega (arith, ints)) facts.g_below
+pub gcd-g-requires-clause-gcd_fits : goal.gcd-g-requires-clause-gcd_fits
+gcd-g-requires-clause-gcd_fits g c = λ _ z h. fits_below g.met.T.Integer.range_law c.requires.b_in_range h.non_negative (g_below c.requires.b_positive h)
 
-pub div-requires : goal.div-requires
-div-requires g c =
-    let facts = cancelled c.requires.a_from_zero c.requires.b_above_zero c.gcd-g.ensures.greatest c.requires.whole in
-    g.met.T.Num.can_div_law _ _ (λ e. g.met.T.Num.positive_divisor_law _ _ e c.requires.r_in_range c.gcd-g.ensures.in_range facts.g_above)
+pub quotient-requires-clause-quotient_fits : goal.quotient-requires-clause-quotient_fits
+quotient-requires-clause-quotient_fits g c =
+    (g.met.T.Num.positive_divisor_law _ _ g.met.T.Integer.exact_law c.requires.r_in_range c.gcd-g.ensures.in_range (g_above c.requires.b_positive c.gcd-g.ensures.greatest)).1
 
-pub div-requires-2 : goal.div-requires-2
-div-requires-2 g c =
-    let facts = cancelled c.requires.a_from_zero c.requires.b_above_zero c.gcd-g.ensures.greatest c.requires.whole in
-    g.met.T.Num.can_div_law _ _ (λ e. g.met.T.Num.positive_divisor_law _ _ e c.requires.b_in_range c.gcd-g.ensures.in_range facts.g_above)
+pub quotient-requires-2-clause-quotient_fits : goal.quotient-requires-2-clause-quotient_fits
+quotient-requires-2-clause-quotient_fits g c =
+    (g.met.T.Num.positive_divisor_law _ _ g.met.T.Integer.exact_law c.requires.b_in_range c.gcd-g.ensures.in_range (g_above c.requires.b_positive c.gcd-g.ensures.greatest)).1
 
-pub div-requires-3 : goal.div-requires-3
-div-requires-3 g c =
-    let exact = g.met.T.Integer.exact_law in
-    let facts = cancelled c.requires.a_from_zero c.requires.b_above_zero c.gcd-g.ensures.greatest c.requires.whole in
-    let rest = g.met.T.Num.div_law _ _ _ c.div-2.ensures exact in
-    let rest_fits = (g.met.T.Num.positive_divisor_law _ _ exact c.requires.b_in_range c.gcd-g.ensures.in_range facts.g_above).1 in
-    g.met.T.Num.can_div_law _ _ (λ e. g.met.T.Num.positive_divisor_law _ _ e c.requires.a_in_range (rw rest rest_fits) (rw rest facts.rest_above))
+pub quotient-requires-3-clause-nonzero : goal.quotient-requires-3-clause-nonzero
+quotient-requires-3-clause-nonzero g c =
+    let above = rest_above c.requires.b_positive c.gcd-g.ensures.greatest in
+    let value = c.quotient-2.ensures.value in
+    λ e. absurd (omega (arith, linear))
 
-pub returns-clause-in_range : goal.returns-clause-in_range
-returns-clause-in_range g c =
-    let exact = g.met.T.Integer.exact_law in
-    let facts = cancelled c.requires.a_from_zero c.requires.b_above_zero c.gcd-g.ensures.greatest c.requires.whole in
-    let rest_fits = (g.met.T.Num.positive_divisor_law _ _ exact c.requires.b_in_range c.gcd-g.ensures.in_range facts.g_above).1 in
-    rw (g.met.T.Num.div_law _ _ _ c.div.ensures exact, g.met.T.Num.div_law _ _ _ c.div-3.ensures exact, g.met.T.Num.div_law _ _ _ c.div-2.ensures exact) (
-      (g.met.T.Num.positive_divisor_law _ _ exact c.requires.r_in_range c.gcd-g.ensures.in_range facts.g_above).1,
-      (g.met.T.Num.positive_divisor_law _ _ exact c.requires.a_in_range rest_fits facts.rest_above).1,
-    )
+pub quotient-requires-3-clause-quotient_fits : goal.quotient-requires-3-clause-quotient_fits
+quotient-requires-3-clause-quotient_fits g c =
+    let above : pos 0 <ℤ g.T.Number.value c.quotient-2.result = rw c.quotient-2.ensures.value (rest_above c.requires.b_positive c.gcd-g.ensures.greatest) in
+    (g.met.T.Num.positive_divisor_law _ _ g.met.T.Integer.exact_law c.requires.a_in_range c.quotient-2.ensures.in_range above).1
 
 pub returns-clause-product : goal.returns-clause-product
 returns-clause-product g c =
-    let exact = g.met.T.Integer.exact_law in
-    let facts = cancelled c.requires.a_from_zero c.requires.b_above_zero c.gcd-g.ensures.greatest c.requires.whole in
-    rw (g.met.T.Num.div_law _ _ _ c.div.ensures exact, g.met.T.Num.div_law _ _ _ c.div-3.ensures exact, g.met.T.Num.div_law _ _ _ c.div-2.ensures exact) facts.product
+    rw (c.quotient.ensures.value, c.quotient-3.ensures.value, c.quotient-2.ensures.value) (cancelled c.requires.b_positive c.gcd-g.ensures.greatest c.requires.a_from_zero c.requires.whole)

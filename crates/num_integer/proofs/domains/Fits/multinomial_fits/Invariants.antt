@@ -1,5 +1,5 @@
-use Rattle.num_integer.proofs.CoefficientDomain.{IsSharedSoFar}
+use Rattle.num_integer.proofs.CoefficientDomain.{IsWithinSoFar}
 use Rattle.num_integer.proofs.domains.Fits.multinomial_fits.Given as goal
 
 abbrev pub invariant-loop-count : goal.invariant-loop-count
-invariant-loop-count g l = IsSharedSoFar g.Self.Number.value l.counts l.count-index l.shared.total l.shared.multinomial l.most
+invariant-loop-count g l = IsWithinSoFar g.Self.Number.value l.counts l.count-index l.shared.total l.shared.multinomial l.most

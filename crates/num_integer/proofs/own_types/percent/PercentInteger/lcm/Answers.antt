@@ -3,4 +3,4 @@ use Rattle.std.proofs.lemmas.Int.{ints}
 use Rattle.num_integer.proofs.own_types.percent.PercentInteger.lcm.Goals as goal
 
 pub new-requires : goal.new-requires
-new-requires c = omega (arith, ints, c.requires.multiple _ c.lcm.ensures.least)
+new-requires c = omega (arith, ints, c.requires.lcm_fits _ c.lcm.ensures.least)

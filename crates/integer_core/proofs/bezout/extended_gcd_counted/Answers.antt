@@ -1,0 +1,44 @@
+use Rattle.std.proofs.Common.{rules}
+use Rattle.std.proofs.Math.Numerals.{add-two}
+use Rattle.std.proofs.lemmas.Bool.{iff_false}
+use Rattle.integer_core.proofs.BezoutAnswers.{answer_for_zero, answer_of_loop, only_answer, sign_keeps, sign_size}
+use Rattle.integer_core.proofs.GcdDomain.{gcd_fits_is}
+use Rattle.integer_core.proofs.Lame.{lame}
+use Rattle.integer_core.proofs.RowRanges.{first_fits, sign_fits}
+use Rattle.integer_core.proofs.bezout.extended_gcd_counted.Goals as goal
+
+pub normalized-requires : goal.normalized-requires
+normalized-requires g c =
+    let range = g.met.T.Integer.range_law in
+    let none = c.is_zero.ensures.0 c.if-is_zero.true in
+    let row = first_fits range c.requires.a_in_range in
+    rw (c.of_first.ensures.remainder, c.of_first.ensures.x, c.of_first.ensures.y) (record {
+      gcd_fits = (gcd_fits_is range c.requires.a_in_range c.requires.b_in_range).0 c.requires.gcd_fits _ (answer_for_zero none).greatest;
+      x_fits = sign_fits range row.remainder row.x;
+      y_fits = sign_fits range row.remainder row.y;
+    })
+
+pub normalized-requires-else-is_zero-clause-gcd_fits : goal.normalized-requires-else-is_zero-clause-gcd_fits
+normalized-requires-else-is_zero-clause-gcd_fits g c =
+    let fits = gcd_fits_is g.met.T.Integer.range_law c.requires.a_in_range c.requires.b_in_range in
+    rw sign_size (fits.0 c.requires.gcd_fits _ c.last_row-row.ensures.greatest)
+
+pub returns-then-is_zero-clause-answer : goal.returns-then-is_zero-clause-answer
+returns-then-is_zero-clause-answer g c =
+    let e = c.normalized.ensures in
+    let first = c.of_first.ensures in
+    rw (e.gcd, e.x, e.y, first.remainder, first.x, first.y) (answer_for_zero (c.is_zero.ensures.0 c.if-is_zero.true))
+
+pub returns-else-is_zero : goal.returns-else-is_zero
+returns-else-is_zero g c =
+    let nonzero = iff_false c.is_zero.ensures c.if-is_zero.false in
+    let row = c.last_row-row.ensures in
+    let answer = answer_of_loop nonzero row.greatest row.at_once row.after_turns in
+    let e = c.normalized-else-is_zero.ensures in
+    rw (e.gcd, e.x, e.y) (record {
+      in_range = search rules;
+      answer = answer;
+      only = only_answer answer;
+      turns = search rules;
+      bound = λ _. rw (sign_keeps, add-two) (lame _ nonzero row.turns row.greatest.divides_left row.greatest.divides_right);
+    })

@@ -1,0 +1,14 @@
+use Rattle.std.proofs.Common.{arith}
+use Rattle.integer_core.proofs.Ranges.{beyond_fits, within_fits}
+use Rattle.integer_core.proofs.Whole.{linear}
+use Rattle.integer_core.proofs.native.beyond.Goals as goal
+
+pub successor-requires-clause-sum_fits : goal.successor-requires-clause-sum_fits
+successor-requires-clause-sum_fits g c = within_fits g.met.T.Native.native_law.range c.requires.in_range (grind (arith, linear))
+
+pub difference-requires-clause-difference_fits : goal.difference-requires-clause-difference_fits
+difference-requires-clause-difference_fits g c =
+    rw (c.zero.ensures.value, c.successor.ensures.value) (beyond_fits g.met.T.Native.native_law.range c.requires.in_range c.requires.negative)
+
+pub returns-clause-from_zero : goal.returns-clause-from_zero
+returns-clause-from_zero g c = grind (arith, linear)

@@ -1,0 +1,52 @@
+//! Division of the native types.
+
+ghost use Rattle.std.specs.Prelude.{◌≢◌, pos};
+ghost use Rattle.integer_core.specs.Division.{IsFloored, IsQuotient, IsRemainder, IsTruncated};
+ghost use Rattle.integer_core.specs.Range.{EachFits};
+
+use crate::native::Native;
+use crate::operators::{is_negative, is_zero, predecessor, quotient, remainder, sum, zero};
+
+/// The quotient rounded toward zero, and its remainder.
+pub(crate) fn div_rem<T: Native>(n: T, d: T) -> (T, T)
+    requires n_in_range { T.fits (T.value n) }
+    requires d_in_range { T.fits (T.value d) }
+    requires nonzero { T.value d ≢ pos 0 }
+    requires quotient_fits { EachFits T.fits (IsQuotient IsTruncated (T.value n) (T.value d)) }
+    ensures in_range { T.fits (T.value result.0) × T.fits (T.value result.1) }
+    ensures truncated { IsTruncated (T.value n) (T.value d) (T.value result.0) (T.value result.1) }
+{
+    (quotient(n, d), remainder(n, d))
+}
+
+/// The quotient rounded down, and its remainder.
+pub(crate) fn div_mod_floor<T: Native>(n: T, d: T) -> (T, T)
+    requires n_in_range { T.fits (T.value n) }
+    requires d_in_range { T.fits (T.value d) }
+    requires nonzero { T.value d ≢ pos 0 }
+    requires quotient_fits { EachFits T.fits (IsQuotient IsFloored (T.value n) (T.value d)) }
+    ensures in_range { T.fits (T.value result.0) × T.fits (T.value result.1) }
+    ensures floored { IsFloored (T.value n) (T.value d) (T.value result.0) (T.value result.1) }
+{
+    let (q, r) = div_rem(n, d);
+    if !is_zero(r) && is_negative(r) != is_negative(d) {
+        (predecessor(q), sum(r, d))
+    } else {
+        (q, r)
+    }
+}
+
+/// The remainder of the quotient rounded down, also where that quotient does not fit.
+pub(crate) fn mod_floor<T: Native>(n: T, d: T) -> T
+    requires n_in_range { T.fits (T.value n) }
+    requires d_in_range { T.fits (T.value d) }
+    requires nonzero { T.value d ≢ pos 0 }
+    ensures in_range { T.fits (T.value result) }
+    ensures floored { IsRemainder IsFloored (T.value n) (T.value d) (T.value result) }
+{
+    if d.is_minus_one() {
+        zero()
+    } else {
+        div_mod_floor(n, d).1
+    }
+}

@@ -1,0 +1,76 @@
+//! Divisors and multiples of the native types.
+
+ghost use Rattle.std.specs.Prelude.{◌↔◌, IsTrue};
+ghost use Rattle.integer_core.specs.Divisors.{Divides, GcdFits, IsEven, IsGreatestCommonDivisor, IsLeastCommonMultiple};
+ghost use Rattle.integer_core.specs.Range.{EachFits};
+
+use crate::native::Native;
+use crate::operators::{is_zero, one, product, quotient, remainder, sum, zero};
+use num_traits::{PrimInt, Unsigned};
+
+/// Whether `d` divides `n`.
+pub(crate) fn is_multiple_of<T: Native>(n: T, d: T) -> bool
+    requires n_in_range { T.fits (T.value n) }
+    requires d_in_range { T.fits (T.value d) }
+    ensures { IsTrue result ↔ Divides (T.value d) (T.value n) }
+{
+    if is_zero(d) {
+        is_zero(n)
+    } else if d.is_minus_one() {
+        true
+    } else {
+        is_zero(remainder(n, d))
+    }
+}
+
+/// Whether 2 divides `n`.
+pub(crate) fn is_even<T: Native>(n: T) -> bool
+    requires { T.fits (T.value n) }
+    ensures { IsTrue result ↔ IsEven (T.value n) }
+{
+    is_multiple_of(n, sum(one(), one()))
+}
+
+/// The greatest common divisor of two numbers from 0 up, by Euclid's algorithm.
+fn euclid<M: PrimInt + Unsigned>(a: M, b: M) -> M
+    requires a_in_range { M.fits (M.value a) }
+    requires b_in_range { M.fits (M.value b) }
+    ensures in_range { M.fits (M.value result) }
+    ensures greatest { IsGreatestCommonDivisor (M.value a) (M.value b) (M.value result) }
+{
+    let mut x = a;
+    let mut y = b;
+    'turns: while !y.is_zero() {
+        let rest = x % y;
+        x = y;
+        y = rest;
+    }
+    x
+}
+
+/// The greatest common divisor.
+pub(crate) fn gcd<T: Native>(a: T, b: T) -> T
+    requires a_in_range { T.fits (T.value a) }
+    requires b_in_range { T.fits (T.value b) }
+    requires gcd_fits { GcdFits T.fits (T.value a) (T.value b) }
+    ensures in_range { T.fits (T.value result) }
+    ensures greatest { IsGreatestCommonDivisor (T.value a) (T.value b) (T.value result) }
+{
+    T::from_magnitude(euclid(a.magnitude(), b.magnitude()))
+}
+
+/// The least common multiple.
+pub(crate) fn lcm<T: Native>(a: T, b: T) -> T
+    requires a_in_range { T.fits (T.value a) }
+    requires b_in_range { T.fits (T.value b) }
+    requires lcm_fits { EachFits T.fits (IsLeastCommonMultiple (T.value a) (T.value b)) }
+    ensures in_range { T.fits (T.value result) }
+    ensures least { IsLeastCommonMultiple (T.value a) (T.value b) (T.value result) }
+{
+    if is_zero(a) || is_zero(b) {
+        return zero();
+    }
+    let m = a.magnitude();
+    let n = b.magnitude();
+    T::from_magnitude(product(m, quotient(n, euclid(m, n))))
+}

@@ -1,0 +1,55 @@
+//! `Integer` for the native types.
+
+use crate::native::Native;
+use crate::{Integer, division, divisors};
+
+/// A native integer type. The trait is sealed: no other crate can implement it.
+pub trait NativeInteger: Integer + Native {}
+
+impl<T: Native> NativeInteger for T {}
+
+impl<T: Native> Integer for T {
+    ghost low = { T.Bounded.low };
+
+    ghost high = { T.Bounded.high };
+
+    ghost exact_law = { T.Integral.exact_law };
+
+    ghost range_law = { T.Native.native_law.range };
+
+    fn div_rem(&self, other: &T) -> (T, T) {
+        division::div_rem(*self, *other)
+    }
+
+    fn div_floor(&self, other: &T) -> T {
+        division::div_mod_floor(*self, *other).0
+    }
+
+    fn mod_floor(&self, other: &T) -> T {
+        division::mod_floor(*self, *other)
+    }
+
+    fn div_mod_floor(&self, other: &T) -> (T, T) {
+        division::div_mod_floor(*self, *other)
+    }
+
+    fn is_multiple_of(&self, other: &T) -> bool {
+        divisors::is_multiple_of(*self, *other)
+    }
+
+    fn is_even(&self) -> bool {
+        divisors::is_even(*self)
+    }
+
+    fn is_odd(&self) -> bool {
+        !divisors::is_even(*self)
+    }
+
+    fn gcd(&self, other: &T) -> T {
+        divisors::gcd(*self, *other)
+    }
+
+    fn lcm(&self, other: &T) -> T {
+        divisors::lcm(*self, *other)
+    }
+}

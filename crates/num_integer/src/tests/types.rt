@@ -1,0 +1,164 @@
+//! Checks that are made at one type after another.
+//!
+//! A call of a generic function at a type of the library spells all that the type implements, which
+//! is long, and so the only such calls are those of `check_at` and `check_roots_at`.
+
+ghost use Rattle.std.specs.Prelude.{IfSome};
+
+use crate::own_types::{Percent, Small};
+use crate::{Average, Fits, Roots};
+use integer_core::NativeInteger;
+use num_traits::FromPrimitive;
+use std::fmt::Debug;
+use std::process::Abort;
+
+/// A type of whole numbers.
+#[derive(Clone, Copy)]
+pub(crate) enum Type {
+    I8,
+    I16,
+    I32,
+    I64,
+    I128,
+    Isize,
+    U8,
+    U16,
+    U32,
+    U64,
+    U128,
+    Usize,
+    Percent,
+    Small,
+}
+
+use Type::{I8, I16, I32, I64, I128, Isize, U8, U16, U32, U64, U128, Usize};
+
+/// The types of the library with a sign.
+pub(crate) const SIGNED: [Type; 6] = [I8, I16, I32, I64, I128, Isize];
+
+/// The types of the library with no sign.
+pub(crate) const UNSIGNED: [Type; 6] = [U8, U16, U32, U64, U128, Usize];
+
+/// A type whose values the tests make of numbers.
+pub(crate) trait Tested: Average + Fits + Debug {
+    /// The number as a value of the type, where the type has it.
+    fn from_number(n: i128) -> Option<Self>
+        ensures { IfSome result (λ x. Self.fits (Self.value x)) };
+}
+
+impl<T: NativeInteger + FromPrimitive + Debug> Tested for T {
+    fn from_number(n: i128) -> Option<T> {
+        T::from_i128(n)
+    }
+}
+
+impl Tested for Percent {
+    fn from_number(n: i128) -> Option<Percent> {
+        let number = u8::try_from(n).ok()?;
+        if number <= 100 {
+            Some(Percent::new(number))
+        } else {
+            None
+        }
+    }
+}
+
+impl Tested for Small {
+    fn from_number(n: i128) -> Option<Small> {
+        let number = i8::try_from(n).ok()?;
+        if -7 <= number && number <= 7 {
+            Some(Small::new(number))
+        } else {
+            None
+        }
+    }
+}
+
+/// The number as a value of the type.
+pub(crate) fn number<T: Tested>(rt: &impl Abort, n: i128) -> T
+    ensures { T.fits (T.value result) }
+{
+    T::from_number(n).expect(rt, "the type has the number")
+}
+
+/// The number as a value of the type, where one is given.
+pub(crate) fn optional<T: Tested>(rt: &impl Abort, n: Option<i128>) -> Option<T> {
+    Some(number(rt, n?))
+}
+
+/// What is expected of calls at a type.
+pub(crate) trait Check {
+    fn at<T: Tested>(&self, rt: &impl Abort);
+}
+
+/// Makes the check at the type.
+pub(crate) fn check_at(rt: &impl Abort, it: Type, check: &impl Check) {
+    match it {
+        Type::I8 => check.at::<i8>(rt),
+        Type::I16 => check.at::<i16>(rt),
+        Type::I32 => check.at::<i32>(rt),
+        Type::I64 => check.at::<i64>(rt),
+        Type::I128 => check.at::<i128>(rt),
+        Type::Isize => check.at::<isize>(rt),
+        Type::Small => check.at::<Small>(rt),
+        _ => check_at_unsigned(rt, it, check),
+    }
+}
+
+/// Makes the check at a type with no sign.
+fn check_at_unsigned(rt: &impl Abort, it: Type, check: &impl Check) {
+    match it {
+        Type::U8 => check.at::<u8>(rt),
+        Type::U16 => check.at::<u16>(rt),
+        Type::U32 => check.at::<u32>(rt),
+        Type::U64 => check.at::<u64>(rt),
+        Type::U128 => check.at::<u128>(rt),
+        Type::Usize => check.at::<usize>(rt),
+        Type::Percent => check.at::<Percent>(rt),
+        _ => panic!(rt; "the type has a sign"),
+    }
+}
+
+/// Makes the check of each row at the row's type.
+pub(crate) fn check_rows(rt: &impl Abort, rows: &[(Type, impl Check)]) {
+    for (it, check) in rows {
+        check_at(rt, *it, check);
+    }
+}
+
+/// Makes the check at each of the types.
+pub(crate) fn check_at_each(rt: &impl Abort, types: &[Type], check: &impl Check) {
+    for it in types {
+        check_at(rt, *it, check);
+    }
+}
+
+/// What is expected of roots at a type.
+pub(crate) trait RootCheck {
+    fn at<T: Roots + Tested>(&self, rt: &impl Abort);
+}
+
+/// Makes the check at a type of at most 64 bits.
+pub(crate) fn check_roots_at(rt: &impl Abort, it: Type, check: &impl RootCheck) {
+    match it {
+        Type::I8 => check.at::<i8>(rt),
+        Type::I16 => check.at::<i16>(rt),
+        Type::I32 => check.at::<i32>(rt),
+        Type::I64 => check.at::<i64>(rt),
+        Type::Isize => check.at::<isize>(rt),
+        _ => check_unsigned_roots_at(rt, it, check),
+    }
+}
+
+/// Makes the check at a type of at most 64 bits with no sign.
+fn check_unsigned_roots_at(rt: &impl Abort, it: Type, check: &impl RootCheck) {
+    match it {
+        Type::U8 => check.at::<u8>(rt),
+        Type::U16 => check.at::<u16>(rt),
+        Type::U32 => check.at::<u32>(rt),
+        Type::U64 => check.at::<u64>(rt),
+        Type::Usize => check.at::<usize>(rt),
+        Type::Percent => check.at::<Percent>(rt),
+        _ => panic!(rt; "the type has no roots"),
+    }
+}
