@@ -6,7 +6,11 @@ pub mod Multiples
 pub mod Divisibility
 pub mod CommonDivisors
 pub mod Runs
+pub mod NaturalGcd
+pub mod OddParts
+pub mod SteinSteps
 pub mod EuclidTurns
+pub mod GcdTurns
 pub mod Lame
 pub mod BezoutCoefficients
 pub mod Rows

@@ -1,5 +1,6 @@
 -- What fits, by the range of a type.
-use Rattle.std.specs.Prelude.{◌≡◌, ◌⊎◌, ◌<ℤ◌, ◌+ℤ◌, ◌-ℤ◌, ℤ, pos, unsigned_abs}
+use Rattle.std.specs.Prelude.{◌≡◌, ◌⊎◌, ◌<ℤ◌, ◌+ℤ◌, ◌-ℤ◌, ℕ, ℤ, pos, unsigned_abs}
+use Rattle.std.specs.Int.{Width}
 use Rattle.std.proofs.Common.{arith, subst}
 use Rattle.integer_core.proofs.Whole.{linear, sizes}
 use Rattle.integer_core.specs.Between.{Between}
@@ -20,7 +21,7 @@ pub beyond_fits : {fits : ℤ → Type 0} {low high x : ℤ} → IsRange fits lo
 beyond_fits {x = x} range x_fits below = (range.between _).1 (omega (arith, linear, (range.between x).0 x_fits))
 
 -- an lcm that fits is a magnitude
-pub lcm_is_magnitude : {fits wide : ℤ → Type 0} {low high a b l : ℤ} → IsNative fits low high wide → EachFits fits (IsLeastCommonMultiple a b)
+pub lcm_is_magnitude : {w : Width} {number : ℕ → ℤ} {fits wide : ℤ → Type 0} {low high a b l : ℤ} → IsNative w number fits low high wide → EachFits fits (IsLeastCommonMultiple a b)
     → IsLeastCommonMultiple a b l → wide l
 lcm_is_magnitude {wide = wide} {l = l} native each h =
     let same : pos (unsigned_abs l) ≡ l = omega (arith, sizes) in

@@ -2,8 +2,10 @@ pub mod Range
 pub mod Between
 pub mod Division
 pub mod Divisors
+pub mod TwosComplement
 pub mod NativeRanges
 pub mod Only
 pub mod Runs
 pub mod Fibonacci
 pub mod Bezout
+pub mod GcdRuns

@@ -1,18 +1,23 @@
 -- The ranges of the native types, by their number of bits.
-use Rattle.std.specs.Prelude.{◌⊎◌, ◌^◌, ◌*◌, ◌≤◌, ◌-◌, ◌≤ℤ◌, ℤ, ℕ, pos, negsuc, unsigned_abs, FitsSigned}
-use Rattle.std.specs.Int.{Width, w8, w16, w32, w64, w128, FitsUnsignedBits}
+use Rattle.std.specs.Prelude.{◌≡◌, ◌⊎◌, ◌^◌, ◌*◌, ◌≤◌, ◌-◌, ◌≤ℤ◌, ℤ, ℕ, pos, negsuc, unsigned_abs, FitsSigned}
+use Rattle.std.specs.Int.{Width, w8, w16, w32, w64, w128, FitsUnsignedBits, IsPowerOfTwo, cast_signed}
 use Rattle.std.proofs.Common.{refl, arith, inl, inr, lit≤}
 use Rattle.std.proofs.lemmas.Int.{ints}
 use Rattle.num_traits.specs.Ints.{signed-bounds, unsigned-bounds}
+use Rattle.num_traits.specs.Laws.{bit_len}
 use Rattle.integer_core.specs.Range.{IsRange}
+use Rattle.integer_core.specs.TwosComplement.{IsTwosComplement, doubled, signed_complement, unsigned_complement}
 use mir.Val.{hbits}
 
--- a native type, and the type of its magnitudes
-pub record IsNative (fits : ℤ → Type 0) (low high : ℤ) (wide : ℤ → Type 0) : Type 0 where
+-- a native type of this width, the numbers of its bits, and the type of its magnitudes
+pub record IsNative (w : Width) (number : ℕ → ℤ) (fits : ℤ → Type 0) (low high : ℤ) (wide : ℤ → Type 0) : Type 0 where
   pub range : IsRange fits low high
   pub magnitude : (z : ℤ) → fits z → wide (pos (unsigned_abs z))
   -- with negative numbers, the type of magnitudes has twice as many numbers from 0 up
   pub twice : (pos 0 ≤ℤ low) ⊎ wide (pos (2 * unsigned_abs high))
+  pub complement : IsTwosComplement w number
+  -- and its least number is minus a power of two
+  pub least : (low ≡ pos 0) ⊎ IsPowerOfTwo (unsigned_abs low)
 
 half_fits : (w : Width) → (2 ^ hbits w ≤ 2 ^ 127) × (2 ≤ 2 ^ hbits w)
 half_fits w8 = (lit≤ tt, lit≤ tt)
@@ -23,7 +28,7 @@ half_fits w128 = (lit≤ tt, lit≤ tt)
 
 -- a signed type, and an unsigned one of at least as many bits
 pub signed_native : (w : Width) (k : ℕ) → 2 * 2 ^ hbits w ≤ 2 ^ k
-    → IsNative (λ z. FitsSigned w z) (negsuc (2 ^ hbits w - 1)) (pos (2 ^ hbits w - 1)) (FitsUnsignedBits k)
+    → IsNative w (cast_signed w) (λ z. FitsSigned w z) (negsuc (2 ^ hbits w - 1)) (pos (2 ^ hbits w - 1)) (FitsUnsignedBits k)
 signed_native w k wide =
     let half = half_fits w in
     record {
@@ -36,18 +41,26 @@ signed_native w k wide =
       };
       magnitude = λ z fits. omega (arith, ints);
       twice = inr (omega (arith, ints));
+      complement = signed_complement w;
+      least = inr (hbits w, omega arith);
     }
 
 -- an unsigned type, and one of at least as many bits
-pub unsigned_native : (j k : ℕ) → 2 ≤ 2 ^ j → 2 ^ j ≤ 2 ^ 128 → 2 ^ j ≤ 2 ^ k → IsNative (FitsUnsignedBits j) (pos 0) (pos (2 ^ j - 1)) (FitsUnsignedBits k)
-unsigned_native j k two most wide = record {
-  range = record {
-    between = unsigned-bounds j;
-    low_end = inl refl;
-    positive = omega (arith, ints);
-    bounded = omega (arith, ints);
-    bounded_below = inl (omega (arith, ints));
-  };
-  magnitude = λ z fits. grind (arith, ints);
-  twice = inl (omega (arith, ints));
-}
+pub unsigned_native : (w : Width) (k : ℕ) → 2 ^ bit_len w ≤ 2 ^ k
+    → IsNative w (λ n. pos n) (FitsUnsignedBits (bit_len w)) (pos 0) (pos (2 ^ bit_len w - 1)) (FitsUnsignedBits k)
+unsigned_native w k wide =
+    let half = half_fits w in
+    let all = doubled w in
+    record {
+      range = record {
+        between = unsigned-bounds (bit_len w);
+        low_end = inl refl;
+        positive = omega (arith, ints);
+        bounded = omega (arith, ints);
+        bounded_below = inl (omega (arith, ints));
+      };
+      magnitude = λ z fits. grind (arith, ints);
+      twice = inl (omega (arith, ints));
+      complement = unsigned_complement w;
+      least = inl refl;
+    }

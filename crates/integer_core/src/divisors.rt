@@ -1,12 +1,14 @@
 //! Divisors and multiples of the native types.
 
-ghost use Rattle.std.specs.Prelude.{◌↔◌, IsTrue};
+ghost use Rattle.std.specs.Prelude.{◌↔◌, ◌+◌, ◌≤◌, ℕ, IsTrue};
 ghost use Rattle.integer_core.specs.Divisors.{Divides, GcdFits, IsEven, IsGreatestCommonDivisor, IsLeastCommonMultiple};
+ghost use Rattle.integer_core.specs.GcdRuns.{AreGcdTurns, IsBitLength};
 ghost use Rattle.integer_core.specs.Range.{EachFits};
 
+use crate::Integer;
 use crate::native::Native;
 use crate::operators::{is_zero, one, product, quotient, remainder, sum, zero};
-use num_traits::{PrimInt, Unsigned};
+use crate::stein::{binary_gcd, positive_gcd};
 
 /// Whether `d` divides `n`.
 pub(crate) fn is_multiple_of<T: Native>(n: T, d: T) -> bool
@@ -31,23 +33,6 @@ pub(crate) fn is_even<T: Native>(n: T) -> bool
     is_multiple_of(n, sum(one(), one()))
 }
 
-/// The greatest common divisor of two numbers from 0 up, by Euclid's algorithm.
-fn euclid<M: PrimInt + Unsigned>(a: M, b: M) -> M
-    requires a_in_range { M.fits (M.value a) }
-    requires b_in_range { M.fits (M.value b) }
-    ensures in_range { M.fits (M.value result) }
-    ensures greatest { IsGreatestCommonDivisor (M.value a) (M.value b) (M.value result) }
-{
-    let mut x = a;
-    let mut y = b;
-    'turns: while !y.is_zero() {
-        let rest = x % y;
-        x = y;
-        y = rest;
-    }
-    x
-}
-
 /// The greatest common divisor.
 pub(crate) fn gcd<T: Native>(a: T, b: T) -> T
     requires a_in_range { T.fits (T.value a) }
@@ -56,7 +41,7 @@ pub(crate) fn gcd<T: Native>(a: T, b: T) -> T
     ensures in_range { T.fits (T.value result) }
     ensures greatest { IsGreatestCommonDivisor (T.value a) (T.value b) (T.value result) }
 {
-    T::from_magnitude(euclid(a.magnitude(), b.magnitude()))
+    binary_gcd(a, b).0
 }
 
 /// The least common multiple.
@@ -72,5 +57,28 @@ pub(crate) fn lcm<T: Native>(a: T, b: T) -> T
     }
     let m = a.magnitude();
     let n = b.magnitude();
-    T::from_magnitude(product(m, quotient(n, euclid(m, n))))
+    T::from_magnitude(product(m, quotient(n, positive_gcd(m, n).0)))
+}
+
+/// A greatest common divisor by Stein's binary method, and how often its loop turns.
+pub trait GcdCounted: Integer {
+    /// [`Integer::gcd`], and the turns: at most the bit lengths of both added. An operand that is 0
+    /// or the least number of its type makes none. `56i64.gcd_counted(&42)` is `(14, 1)`.
+    fn gcd_counted(&self, other: &Self) -> (Self, u32)
+        requires self_in_range { Self.fits (Self.value self.now) }
+        requires other_in_range { Self.fits (Self.value other.now) }
+        requires gcd_fits { GcdFits Self.fits (Self.value self.now) (Self.value other.now) }
+        ensures in_range { Self.fits (Self.value result.0) }
+        ensures greatest { IsGreatestCommonDivisor (Self.value self.now) (Self.value other.now)
+            (Self.value result.0) }
+        ensures turns { AreGcdTurns Self.low (Self.value self.now) (Self.value other.now)
+            result.1 }
+        ensures bound { (k l : ℕ) → IsBitLength (Self.value self.now) k
+            → IsBitLength (Self.value other.now) l → result.1 ≤ k + l };
+}
+
+impl<T: Native> GcdCounted for T {
+    fn gcd_counted(&self, other: &T) -> (T, u32) {
+        binary_gcd(*self, *other)
+    }
 }

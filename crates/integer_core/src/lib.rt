@@ -14,6 +14,7 @@ mod divisors;
 mod native;
 mod native_integer;
 pub mod operators;
+mod stein;
 
 pub use bezout::ExtendedGcd;
 use bezout::extended_gcd_counted;

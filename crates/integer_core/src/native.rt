@@ -13,7 +13,8 @@ pub trait Native: PrimInt + AsPrimitive<Self::Magnitude> {
     /// The type in which magnitudes are computed.
     type Magnitude: PrimInt + Unsigned + AsPrimitive<Self>;
 
-    ghost native_law: { IsNative Self.fits Self.low Self.high Self.Magnitude.fits };
+    ghost native_law: { IsNative Self.width (λ n. Self.value (Self.of_bits n)) Self.fits Self.low
+        Self.high Self.Magnitude.fits };
 
     /// Whether this is -1, the one divisor by which a quotient may not fit.
     final fn is_minus_one(&self) -> bool
@@ -106,35 +107,35 @@ impl Native for isize {
 impl Native for u8 {
     type Magnitude = u64;
 
-    ghost native_law = { unsigned_native 8 64 (lit≤ tt) (lit≤ tt) (lit≤ tt) };
+    ghost native_law = { unsigned_native w8 64 (lit≤ tt) };
 }
 
 impl Native for u16 {
     type Magnitude = u64;
 
-    ghost native_law = { unsigned_native 16 64 (lit≤ tt) (lit≤ tt) (lit≤ tt) };
+    ghost native_law = { unsigned_native w16 64 (lit≤ tt) };
 }
 
 impl Native for u32 {
     type Magnitude = u64;
 
-    ghost native_law = { unsigned_native 32 64 (lit≤ tt) (lit≤ tt) (lit≤ tt) };
+    ghost native_law = { unsigned_native w32 64 (lit≤ tt) };
 }
 
 impl Native for u64 {
     type Magnitude = u64;
 
-    ghost native_law = { unsigned_native 64 64 (lit≤ tt) (lit≤ tt) (lit≤ tt) };
+    ghost native_law = { unsigned_native w64 64 (lit≤ tt) };
 }
 
 impl Native for u128 {
     type Magnitude = u128;
 
-    ghost native_law = { unsigned_native 128 128 (lit≤ tt) (lit≤ tt) (lit≤ tt) };
+    ghost native_law = { unsigned_native w128 128 (lit≤ tt) };
 }
 
 impl Native for usize {
     type Magnitude = u64;
 
-    ghost native_law = { unsigned_native 64 64 (lit≤ tt) (lit≤ tt) (lit≤ tt) };
+    ghost native_law = { unsigned_native w64 64 (lit≤ tt) };
 }

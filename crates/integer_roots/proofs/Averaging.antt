@@ -1,87 +1,73 @@
--- Averages by halves.
-use Rattle.std.specs.Prelude.{◌≡◌, ◌≢◌, ◌+ℤ◌, ◌*ℤ◌, ℤ, pos, ◌↔◌, ◌&&◌, ◌||◌, Bool, true, false, not, IsTrue}
-use Rattle.std.proofs.Common.{inl, inr, arith, subst, sym, ap, ◌∙◌, refl}
-use Rattle.integer_core.specs.Division.{IsFloored}
+-- Averages by bits: two numbers are twice the bits that both have, and those that one alone has.
+use Rattle.std.specs.Prelude.{◌≡◌, ◌^◌, ◌*◌, ◌+◌, ◌<◌, ◌+ℤ◌, ◌-ℤ◌, ◌*ℤ◌, ◌≤ℤ◌, ◌<ℤ◌, ℕ, ℤ, pos, negsuc, bit_and, bit_or, bit_xor}
+use Rattle.std.specs.Int.{Width, bit_at, int_shr, FitsUnsignedBits}
+use Rattle.std.specs.Int.Bits.{xor_add_and, or_add_and}
+use Rattle.std.proofs.Common.{arith, subst, sym, ap, ◌∙◌, lt_of_le_of_lt}
+use Rattle.std.proofs.lemmas.Int.{ints}
+use Rattle.std.proofs.lemmas.Nat.Bits.{bit_at_and, bit_at_or, bit_at_xor, bit_at-lt}
+use Rattle.std.proofs.lemmas.Nat.{and_le_l, or_lt, xor_lt}
+use Rattle.num_traits.specs.Laws.{bit_len, wrap_unsigned}
+use Rattle.num_traits.specs.Ints.{unsigned-wrap_fits}
 use Rattle.integer_core.specs.Range.{IsRange}
-use Rattle.integer_core.proofs.Whole.{linear, products}
-use Rattle.std.proofs.lemmas.Bool.{iff_false}
-use borrow.Author.Differences.{abs_is}
-use Rattle.integer_roots.specs.Averages.{IsAverageFloor, IsAverageCeil, bit}
-
--- what a division by 2 says
-halved : {x d q r : ℤ} → IsFloored x d q r → d ≡ pos 2 → x ≡ q *ℤ pos 2 +ℤ r
-halved {q = q} {r = r} floored two = floored.division.equation ∙ ap (λ (t : ℤ). q *ℤ t +ℤ r) two
-
-even_half : {x d q r : ℤ} → IsFloored x d q r → d ≡ pos 2 → r ≡ pos 0 → x ≡ pos 2 *ℤ q +ℤ pos 0
-even_half floored two none = let e = halved floored two in omega (arith, products)
-
-odd_half : {x d q r : ℤ} → IsFloored x d q r → d ≡ pos 2 → r ≢ pos 0 → x ≡ pos 2 *ℤ q +ℤ pos 1
-odd_half floored two rest =
-    let e = halved floored two in
-    let small = floored.division.small in
-    elim floored.sign [
-      | inl none ↦ absurd (rest none)
-      | inr signs ↦ elim signs [
-        | inl above ↦ omega (arith, products, abs_is)
-        | inr below ↦ absurd (omega (arith, linear))
-      ]
-    ]
-
--- a number is twice its half, and 1 more where the rest is not 0
-pub half_and_bit : {x d q r : ℤ} (is_zero : Bool) → IsFloored x d q r → d ≡ pos 2 → IsTrue is_zero ↔ (r ≡ pos 0)
-    → x ≡ pos 2 *ℤ q +ℤ bit (not is_zero)
-half_and_bit true floored two h = even_half floored two (h.0 refl)
-half_and_bit false floored two h = odd_half floored two (iff_false h refl)
+use Rattle.integer_core.specs.TwosComplement.{IsTwosComplement}
+use Rattle.integer_core.proofs.Whole.{products}
+use Rattle.integer_roots.specs.Averages.{IsAverageFloor, IsAverageCeil}
+use mir.Val.{hbits}
 
 -- an average lies between the two numbers, so it fits
-pub floor_fits : {fits : ℤ → Type 0} {low high : ℤ} {a b f : ℤ} → IsRange fits low high → fits a → fits b
-    → IsAverageFloor a b f → fits f
-floor_fits {fits} {low} {high} {a} {b} {f} range a_fits b_fits average =
-    let a_in = (range.between a).0 a_fits in
-    let b_in = (range.between b).0 b_fits in
-    let le = average.double_le in
-    let gt = average.next_double_gt in
-    (range.between f).1 (omega (arith, products), omega (arith, products))
+pub floor_fits : {fits : ℤ → Type 0} {low high a b f : ℤ} → IsRange fits low high → fits a → fits b → IsAverageFloor a b f → fits f
+floor_fits {a = a} {b = b} {f = f} range a_fits b_fits average =
+    (range.between f).1 (omega (arith, products, (range.between a).0 a_fits, (range.between b).0 b_fits, average.double_le, average.next_double_gt))
 
-pub ceil_fits : {fits : ℤ → Type 0} {low high : ℤ} {a b c : ℤ} → IsRange fits low high → fits a → fits b
-    → IsAverageCeil a b c → fits c
-ceil_fits {fits} {low} {high} {a} {b} {c} range a_fits b_fits average =
-    let a_in = (range.between a).0 a_fits in
-    let b_in = (range.between b).0 b_fits in
-    let lt = average.previous_double_lt in
-    let ge = average.double_ge in
-    (range.between c).1 (omega (arith, products), omega (arith, products))
+pub ceil_fits : {fits : ℤ → Type 0} {low high a b c : ℤ} → IsRange fits low high → fits a → fits b → IsAverageCeil a b c → fits c
+ceil_fits {a = a} {b = b} {c = c} range a_fits b_fits average =
+    (range.between c).1 (omega (arith, products, (range.between a).0 a_fits, (range.between b).0 b_fits, average.previous_double_lt, average.double_ge))
 
--- 1 more than a half fits
-pub next_half_fits : {fits : ℤ → Type 0} {low high : ℤ} {x : ℤ} (h : ℤ) (odd : Bool) → IsRange fits low high → fits x
-    → x ≡ pos 2 *ℤ h +ℤ bit odd → fits (h +ℤ pos 1)
-next_half_fits h true range x_fits e =
-    let x_in = (range.between _).0 x_fits in
-    (range.between _).1 (omega (arith, products, range.low_end, range.positive), omega (arith, products, range.positive))
-next_half_fits h false range x_fits e =
-    let x_in = (range.between _).0 x_fits in
-    (range.between _).1 (omega (arith, products, range.low_end, range.positive), omega (arith, products, range.positive))
+-- the numbers of the bits that both have, that either has, and that one alone has
+pub record AreShared (a b both either one : ℤ) : Type 0 where
+  pub by_both : a +ℤ b ≡ both +ℤ both +ℤ one
+  pub by_either : either ≡ both +ℤ one
 
--- both halves, and 1 more where both numbers are odd
-floor_by_bits : {a b : ℤ} (p q : ℤ) (s t : Bool) → a ≡ pos 2 *ℤ p +ℤ bit s → b ≡ pos 2 *ℤ q +ℤ bit t
-    → IsAverageFloor a b (p +ℤ q +ℤ bit (s && t))
-floor_by_bits p q true true e f = record { double_le = omega (arith, products); next_double_gt = omega (arith, products) }
-floor_by_bits p q true false e f = record { double_le = omega (arith, products); next_double_gt = omega (arith, products) }
-floor_by_bits p q false true e f = record { double_le = omega (arith, products); next_double_gt = omega (arith, products) }
-floor_by_bits p q false false e f = record { double_le = omega (arith, products); next_double_gt = omega (arith, products) }
+-- the number of the bits n, less this weight where the highest is set
+abbrev pub weighted : ℕ → ℕ → ℕ → ℤ
+weighted h weight n = pos n -ℤ pos (weight * bit_at n h)
 
-pub floor_by_halves : {a b : ℤ} (p q : ℤ) (s t : Bool) {carry : Bool} → carry ≡ (s && t)
-    → a ≡ pos 2 *ℤ p +ℤ bit s → b ≡ pos 2 *ℤ q +ℤ bit t → IsAverageFloor a b (p +ℤ q +ℤ bit carry)
-floor_by_halves {a} {b} p q s t k e f = subst (λ (c : Bool). IsAverageFloor a b (p +ℤ q +ℤ bit c)) (sym k) (floor_by_bits p q s t e f)
+pub shared : (h weight m n : ℕ) → AreShared (weighted h weight m) (weighted h weight n)
+    (weighted h weight (bit_and m n)) (weighted h weight (bit_or m n)) (weighted h weight (bit_xor m n))
+shared h weight m n =
+    let top_sum : bit_at (bit_xor m n) h + bit_at (bit_and m n) h * 2 ≡ bit_at m h + bit_at n h =
+    omega (arith, bit_at_and m n h, bit_at_xor m n h, bit_at-lt m h, bit_at-lt n h) in
+    let top_either : bit_at (bit_or m n) h + bit_at (bit_and m n) h ≡ bit_at m h + bit_at n h =
+    omega (arith, bit_at_and m n h, bit_at_or m n h) in
+    omega (arith, ints, xor_add_and m n, or_add_and m n, ap (λ t. weight * t) top_sum, ap (λ t. weight * t) top_either)
 
--- both halves, and 1 more where at least one number is odd
-ceil_by_bits : {a b : ℤ} (p q : ℤ) (s t : Bool) → a ≡ pos 2 *ℤ p +ℤ bit s → b ≡ pos 2 *ℤ q +ℤ bit t
-    → IsAverageCeil a b (p +ℤ q +ℤ bit (s || t))
-ceil_by_bits p q true true e f = record { previous_double_lt = omega (arith, products); double_ge = omega (arith, products) }
-ceil_by_bits p q true false e f = record { previous_double_lt = omega (arith, products); double_ge = omega (arith, products) }
-ceil_by_bits p q false true e f = record { previous_double_lt = omega (arith, products); double_ge = omega (arith, products) }
-ceil_by_bits p q false false e f = record { previous_double_lt = omega (arith, products); double_ge = omega (arith, products) }
+-- so it is of the numbers of a type in two's complement
+pub shared_numbers : {T : Type 0} (value : T → ℤ) (fits : ℤ → Type 0) (of_bits : ℕ → T) (bits_of : T → ℕ) (w : Width)
+    → IsTwosComplement w (λ n. value (of_bits n)) → ((x : T) → fits (value x) → of_bits (bits_of x) ≡ x)
+    → ((x : T) → fits (value x) → pos (bits_of x) ≡ wrap_unsigned (bit_len w) (value x)) → (a b : T) → fits (value a) → fits (value b)
+    → AreShared (value a) (value b) (value (of_bits (bit_and (bits_of a) (bits_of b)))) (value (of_bits (bit_or (bits_of a) (bits_of b))))
+    (value (of_bits (bit_xor (bits_of a) (bits_of b))))
+shared_numbers {T} value fits of_bits bits_of w complement round_trip wrapped a b a_fits b_fits =
+    let small : (x : T) → fits (value x) → bits_of x < 2 ^ bit_len w =
+    λ x x_fits. subst (FitsUnsignedBits (bit_len w)) (sym (wrapped x x_fits)) (unsigned-wrap_fits (bit_len w) (value x)) in
+    let number : (x : T) → fits (value x) → value x ≡ weighted (hbits w) complement.weight (bits_of x) =
+    λ x x_fits. ap value (sym (round_trip x x_fits)) ∙ complement.is (bits_of x) (small x x_fits) in
+    rw (
+      number a a_fits,
+      number b b_fits,
+      complement.is _ (lt_of_le_of_lt (and_le_l (bits_of a) (bits_of b)) (small a a_fits)),
+      complement.is _ (or_lt (bit_len w) (bits_of a) (bits_of b) (small a a_fits) (small b b_fits)),
+      complement.is _ (xor_lt (bit_len w) (bits_of a) (bits_of b) (small a a_fits) (small b b_fits)),
+    )
+    (shared (hbits w) complement.weight (bits_of a) (bits_of b))
 
-pub ceil_by_halves : {a b : ℤ} (p q : ℤ) (s t : Bool) {carry : Bool} → carry ≡ (s || t)
-    → a ≡ pos 2 *ℤ p +ℤ bit s → b ≡ pos 2 *ℤ q +ℤ bit t → IsAverageCeil a b (p +ℤ q +ℤ bit carry)
-ceil_by_halves {a} {b} p q s t k e f = subst (λ (c : Bool). IsAverageCeil a b (p +ℤ q +ℤ bit c)) (sym k) (ceil_by_bits p q s t e f)
+-- a shift by one place halves a number, rounding down
+pub shifted_half : (x : ℤ) → ((pos 2 *ℤ int_shr x 1) ≤ℤ x) × (x <ℤ (pos 2 *ℤ int_shr x 1 +ℤ pos 2))
+shifted_half (pos n) = omega (arith, ints)
+shifted_half (negsuc n) = omega (arith, ints)
+
+pub floor_of_shared : {a b both either one : ℤ} → AreShared a b both either one → IsAverageFloor a b (both +ℤ int_shr one 1)
+floor_of_shared {one = one} shared = omega (arith, products, shifted_half one, shared.by_both)
+
+pub ceil_of_shared : {a b both either one : ℤ} → AreShared a b both either one → IsAverageCeil a b (either -ℤ int_shr one 1)
+ceil_of_shared {one = one} shared = omega (arith, products, shifted_half one, shared.by_both, shared.by_either)

@@ -1,6 +1,6 @@
 -- The width of a native type whose magnitudes are computed at 64 bits.
-use Rattle.std.specs.Prelude.{◌^◌, ◌*◌, ◌<◌, ℤ, unsigned_abs}
-use Rattle.std.specs.Int.{FitsUnsignedBits}
+use Rattle.std.specs.Prelude.{◌^◌, ◌*◌, ◌<◌, ℕ, ℤ, unsigned_abs}
+use Rattle.std.specs.Int.{Width, FitsUnsignedBits}
 use Rattle.std.proofs.Common.{arith, inl, inr}
 use Rattle.integer_core.specs.NativeRanges.{IsNative}
 use Rattle.integer_core.specs.Range.{IsRange}
@@ -8,7 +8,7 @@ use Rattle.integer_core.proofs.Whole.{linear, sizes}
 use Rattle.integer_roots.specs.RootOf.{IsWithin64Bits}
 
 -- low and high are the ends of the type, and so are least and most
-pub within_64_bits : {fits : ℤ → Type 0} {low high least most : ℤ} → IsRange fits low high → IsNative fits least most (FitsUnsignedBits 64) → IsWithin64Bits low high
+pub within_64_bits : {w : Width} {number : ℕ → ℤ} {fits : ℤ → Type 0} {low high least most : ℤ} → IsRange fits low high → IsNative w number fits least most (FitsUnsignedBits 64) → IsWithin64Bits low high
 within_64_bits {low = low} {high = high} {least = least} {most = most} range native =
     let top = (range.between high).1 (omega (arith, linear, range.low_end, range.positive)) in
     let bottom = (range.between low).1 (omega (arith, linear, range.low_end, range.positive)) in

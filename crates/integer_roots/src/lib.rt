@@ -1,11 +1,11 @@
 //! Averages and roots of every lawful integer type, after the Rust crate `num-integer`.
 #![tactic(auto)]
 
+mod average_bits;
 mod averages;
 mod bits;
 pub mod counted;
 mod cube_root;
-mod halves;
 mod native;
 mod root;
 mod signed;

@@ -2,9 +2,9 @@
 
 ghost use Rattle.integer_roots.specs.NativeWidth.{within_64_bits};
 
+use crate::average_bits::{ceil_of_average, floor_of_average};
 use crate::averages::Average;
 use crate::counted::SqrtCounted;
-use crate::halves::{ceil_of_average, floor_of_average};
 use crate::root::Roots;
 use crate::signed::{signed_cube_root, signed_root, signed_square_root_counted};
 use integer_core::{Integer, NativeInteger};

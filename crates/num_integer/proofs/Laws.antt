@@ -5,6 +5,7 @@ use Rattle.integer_core.proofs.CommonDivisors as common
 use Rattle.integer_core.proofs.CommonDivisors.{only_gcd, only_lcm, gcd-mul-lcm, gcd-swap, gcd-zero, lcm-swap}
 use Rattle.integer_core.proofs.EuclidTurns.{only_euclid_turns}
 use Rattle.integer_core.proofs.GcdDomain as domain
+use Rattle.integer_core.proofs.GcdTurns as gcd_turns
 use Rattle.integer_core.proofs.OnlyBezoutAnswer as bezout
 use Rattle.integer_core.proofs.Multiples as multiples
 use Rattle.integer_core.proofs.Quotients as quotients
@@ -17,11 +18,11 @@ use Rattle.num_integer.proofs.Pascal.{divides_factorials, mirror}
 use Rattle.num_integer.proofs.Reordering.{in_any_order}
 use Rattle.num_integer.proofs.RowLemmas.{backwards, greatest_in_middle, one_item_more}
 use Rattle.num_integer.proofs.RunningSums.{is_multinomial, only_multinomial}
-use Rattle.num_integer.specs.Laws.{AverageCeilIsOnly, AverageFloorIsOnly, AveragesAreNeighbors, BezoutAnswerExists, BezoutAnswerIsOnly, CoefficientMirror}
-use Rattle.num_integer.specs.Laws.{DivisionExists, DivisionIsOnly, EuclidTurnsAreOnly, FactorialFormula, FirstRoot, GcdExists, GcdFitsExactly}
-use Rattle.num_integer.specs.Laws.{GcdIsOnly, GcdIsSymmetric, GcdOfZeros, GcdTimesLcm, LcmExists, LcmIsOnly, LcmIsSymmetric, MultinomialFormula}
-use Rattle.num_integer.specs.Laws.{MultinomialIgnoresOrder, MultinomialIsOnly, NegationTurnsMultiples, RootIsOnly, RowIsGreatestInMiddle}
-use Rattle.num_integer.specs.Laws.{RowIsPalindrome, RowLength, SquareRootTurnsAreOnly}
+use Rattle.num_integer.specs.Laws.{AverageCeilIsOnly, AverageFloorIsOnly, AveragesAreNeighbors, BezoutAnswerExists, BezoutAnswerIsOnly}
+use Rattle.num_integer.specs.Laws.{BitLengthExists, CoefficientMirror, DivisionExists, DivisionIsOnly, EuclidTurnsAreOnly, FactorialFormula}
+use Rattle.num_integer.specs.Laws.{FirstRoot, GcdExists, GcdFitsExactly, GcdIsOnly, GcdIsSymmetric, GcdOfZeros, GcdTimesLcm, GcdTurnsAreOnly}
+use Rattle.num_integer.specs.Laws.{LcmExists, LcmIsOnly, LcmIsSymmetric, MultinomialFormula, MultinomialIgnoresOrder, MultinomialIsOnly}
+use Rattle.num_integer.specs.Laws.{NegationTurnsMultiples, RootIsOnly, RowIsGreatestInMiddle, RowIsPalindrome, RowLength, SquareRootTurnsAreOnly}
 
 -- ---- division and multiples
 
@@ -64,6 +65,12 @@ lcm_is_symmetric = λ a b l. lcm-swap
 
 pub gcd_times_lcm : GcdTimesLcm
 gcd_times_lcm = λ a b g l. gcd-mul-lcm
+
+pub gcd_turns_are_only : GcdTurnsAreOnly
+gcd_turns_are_only = λ low a b n. gcd_turns.only_gcd_turns
+
+pub bit_length_exists : BitLengthExists
+bit_length_exists = gcd_turns.bit_length_exists
 
 -- ---- Bezout pairs
 

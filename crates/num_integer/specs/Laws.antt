@@ -5,6 +5,7 @@ use Rattle.std.specs.List.Sorted.{IsPermutation}
 use Rattle.integer_core.specs.Bezout.{AreEuclidTurns, IsBezoutAnswer}
 use Rattle.integer_core.specs.Division.{EachKind, IsCeiled, IsFloored, IsMultiple}
 use Rattle.integer_core.specs.Divisors.{GcdFits, IsGreatestCommonDivisor, IsLeastCommonMultiple}
+use Rattle.integer_core.specs.GcdRuns.{AreGcdTurns, IsBitLength}
 use Rattle.integer_core.specs.Only.{IsOnly}
 use Rattle.integer_core.specs.Range.{EachFits, IsRange}
 use Rattle.integer_roots.specs.Averages.{IsAverageCeil, IsAverageFloor}
@@ -60,6 +61,14 @@ LcmIsSymmetric = (a b l : ℤ) → IsLeastCommonMultiple a b l → IsLeastCommon
 -- the gcd times the lcm is the magnitude of the product
 abbrev pub GcdTimesLcm : Type 0
 GcdTimesLcm = (a b g l : ℤ) → IsGreatestCommonDivisor a b g → IsLeastCommonMultiple a b l → g *ℤ l ≡ pos (unsigned_abs (a *ℤ b))
+
+-- the turns of Stein's loop are the only ones
+abbrev pub GcdTurnsAreOnly : Type 0
+GcdTurnsAreOnly = (low a b : ℤ) (n : ℕ) → AreGcdTurns low a b n → IsOnly (AreGcdTurns low a b) n
+
+-- each number has a bit length
+abbrev pub BitLengthExists : Type 0
+BitLengthExists = (v : ℤ) → (l : ℕ) × IsBitLength v l
 
 -- ---- Bezout pairs
 

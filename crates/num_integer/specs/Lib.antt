@@ -8,6 +8,7 @@ pub use Rattle.integer_core.specs.Bezout
 pub use Rattle.integer_core.specs.Division
 pub use Rattle.integer_core.specs.Divisors
 pub use Rattle.integer_core.specs.Fibonacci
+pub use Rattle.integer_core.specs.GcdRuns
 pub use Rattle.integer_core.specs.Only
 pub use Rattle.integer_core.specs.Range
 pub use Rattle.integer_core.specs.Runs

@@ -2,6 +2,7 @@
 
 ghost use Rattle.std.specs.Prelude.{◌≤ℤ◌, pos};
 
+mod average_bits;
 pub(crate) mod averages_and_roots;
 pub(crate) mod bezout;
 mod callers;
@@ -12,6 +13,7 @@ mod division;
 mod divisors;
 mod edges;
 mod exhaustive;
+mod gcd_turns;
 mod multiples;
 pub(crate) mod types;
 

@@ -94,6 +94,10 @@ impl Check for AgreesWithEuclid {
 #[test]
 fn test_gcd_cmp_with_euclidean(rt: HostRuntime) {
     check_at_each(&rt, &SIGNED, &AgreesWithEuclid(-127, 127));
+}
+
+#[test]
+fn test_gcd_cmp_with_euclidean_unsigned(rt: HostRuntime) {
     check_at_each(&rt, &UNSIGNED, &AgreesWithEuclid(0, 255));
 }
 

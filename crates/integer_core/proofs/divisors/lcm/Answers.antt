@@ -9,13 +9,13 @@ pub returns-then-is_zero-clause-least : goal.returns-then-is_zero-clause-least
 returns-then-is_zero-clause-least g c = rw c.zero.ensures.value (lcm-zero (grind (arith, linear)))
 
 pub quotient-requires-clause-nonzero : goal.quotient-requires-clause-nonzero
-quotient-requires-clause-nonzero g c = gcd-nonzero c.euclid.ensures.greatest (grind (arith, sizes))
+quotient-requires-clause-nonzero g c = gcd-nonzero c.positive_gcd.ensures.greatest (grind (arith, sizes))
 
 pub quotient-requires-clause-quotient_fits : goal.quotient-requires-clause-quotient_fits
 quotient-requires-clause-quotient_fits g c =
-    let positive = gcd-positive c.euclid.ensures.greatest (grind (arith, sizes)) in
+    let positive = gcd-positive c.positive_gcd.ensures.greatest (grind (arith, sizes)) in
     let law = g.met.T.Magnitude.Num.positive_divisor_law _ _ g.met.T.Magnitude.Integral.exact_law in
-    (law c.magnitude-n.ensures.in_range c.euclid.ensures.in_range positive).1
+    (law c.magnitude-n.ensures.in_range c.positive_gcd.ensures.in_range positive).1
 
 pub product-requires-clause-product_fits : goal.product-requires-clause-product_fits
 product-requires-clause-product_fits g c =

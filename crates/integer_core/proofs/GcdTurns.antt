@@ -1,0 +1,90 @@
+-- That the turns of Stein's loop are the only ones, and that each number has a bit length.
+use Rattle.std.specs.Prelude.{◌≡◌, ◌⊎◌, ◌^◌, ◌<◌, ◌≤◌, ◌-ℤ◌, ℤ, ℕ, zero, suc, unsigned_abs}
+use Rattle.std.proofs.Common.{arith, inl, inr, sym, ◌∙◌, subst, pow_mono}
+use Rattle.std.proofs.Math.Nat.{dvd-mul_right, pow-succ'}
+use Rattle.std.proofs.lemmas.Bool.{cases_lt}
+use Rattle.std.proofs.lemmas.Nat.Gcd.{dvd_antisymm}
+use Rattle.std.specs.Int.{◌∣◌}
+use Rattle.integer_core.proofs.NaturalGcd.{odd_divides}
+use Rattle.integer_core.proofs.Quotients.{zero_or_not}
+use Rattle.integer_core.proofs.Runs.{only_turns}
+use Rattle.integer_core.proofs.Whole.{linear}
+use Rattle.integer_core.specs.GcdRuns.{AreGcdTurns, GcdEnds, IsBitLength, IsGcdTurn, IsOddPart, IsZeroOrLeast, MakesGcdRun, OddPair}
+use Rattle.integer_core.specs.Only.{IsOnly}
+use Rattle.integer_core.specs.Runs.{Makes}
+
+-- ---- the turns are the only ones
+
+odd_part_divides : {n k m : ℕ} → IsOddPart n k → IsOddPart n m → k ∣ m
+odd_part_divides {n} {k} {m} h i =
+    odd_divides k m i.twos h.odd (subst (λ (x : ℕ). k ∣ x) (sym h.product ∙ i.product) (dvd-mul_right k (2 ^ h.twos)))
+
+only_odd_part : {n m : ℕ} → IsOddPart n m → IsOnly (IsOddPart n) m
+only_odd_part h k i = dvd_antisymm (odd_part_divides i h) (odd_part_divides h i)
+
+-- a state goes on by the one difference that is above 0
+only_gcd_turn : (s t : OddPair) → IsGcdTurn s t → IsOnly (IsGcdTurn s) t
+only_gcd_turn s t h u i =
+    let same : (u.m ≡ t.m) × (u.n ≡ t.n) = elim h [
+      | inl left ↦ elim i [
+        | inl other ↦ (only_odd_part left.m u.m other.m, other.n ∙ sym left.n)
+        | inr other ↦ absurd (let a = left.above in let b = other.above in omega arith)
+      ]
+      | inr right ↦ elim i [
+        | inl other ↦ absurd (let a = right.above in let b = other.above in omega arith)
+        | inr other ↦ (other.m ∙ sym right.m, only_odd_part right.n u.n other.n)
+      ]
+    ] in
+    λ k. record { m = same.0 k; n = same.1 k }
+
+no_gcd_turn : (s t : OddPair) → GcdEnds s → ¬ (IsGcdTurn s t)
+no_gcd_turn s t ends h = elim h [
+  | inl left ↦ absurd (let a = left.above in omega arith)
+  | inr right ↦ absurd (let a = right.above in omega arith)
+]
+
+only_gcd_run : {a b n : ℕ} → MakesGcdRun a b n → IsOnly (MakesGcdRun a b) n
+only_gcd_run h m i =
+    let first : i.first ≡ h.first = λ k. record { m = only_odd_part h.left i.first.m i.left k; n = only_odd_part h.right i.first.n i.right k } in
+    only_turns only_gcd_turn no_gcd_turn h.run m (subst (λ (s : OddPair). Makes IsGcdTurn GcdEnds s m) first i.run)
+
+zero_or_least : (low x : ℤ) → IsZeroOrLeast low x ⊎ (¬ (IsZeroOrLeast low x))
+zero_or_least low x = elim (zero_or_not x) [
+  | inl none ↦ inl (inl none)
+  | inr nonzero ↦ elim (zero_or_not (x -ℤ low)) [
+    | inl least ↦ inl (inr (omega (arith, linear)))
+    | inr above ↦ inr (λ h. elim h [ inl none ↦ nonzero none | inr least ↦ above (omega (arith, linear)) ])
+  ]
+]
+
+pub only_gcd_turns : {low a b : ℤ} {n : ℕ} → AreGcdTurns low a b n → IsOnly (AreGcdTurns low a b) n
+only_gcd_turns {low} {a} {b} h m i = elim (zero_or_least low a) [
+  | inl left ↦ i.at_once (inl left) ∙ sym (h.at_once (inl left))
+  | inr left ↦ elim (zero_or_least low b) [
+    | inl right ↦ i.at_once (inr right) ∙ sym (h.at_once (inr right))
+    | inr right ↦ only_gcd_run (h.by_turns left right) m (i.by_turns left right)
+  ]
+]
+
+-- ---- bit lengths
+
+bit_length : (n : ℕ) → (l : ℕ) × (n < 2 ^ l) × ((k : ℕ) → n < 2 ^ k → l ≤ k)
+bit_length zero = (0, omega arith, λ k h. omega arith)
+bit_length (suc n) =
+    let rest = bit_length n in
+    elim (cases_lt (suc n) (2 ^ rest.0)) [
+      | inl below ↦ (rest.0, below, λ k h. rest.2 k (omega arith))
+      | inr above ↦ (suc rest.0, pow_above rest.0 rest.1, λ k h. longer rest.0 k (omega arith))
+    ]
+  where
+    pow_above : (l : ℕ) → n < 2 ^ l → suc n < 2 ^ suc l
+    pow_above l h = omega (arith, pow-succ' 2 l)
+
+    longer : (l k : ℕ) → 2 ^ l < 2 ^ k → suc l ≤ k
+    longer l k h = elim (cases_lt l k) [
+      | inl less ↦ less
+      | inr more ↦ let wide = pow_mono {i = k} {j = l} more in absurd (omega arith)
+    ]
+
+pub bit_length_exists : (v : ℤ) → (l : ℕ) × IsBitLength v l
+bit_length_exists v = let h = bit_length (unsigned_abs v) in (h.0, record { below = h.1; least = h.2 })

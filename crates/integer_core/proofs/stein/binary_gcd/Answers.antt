@@ -1,0 +1,6 @@
+use Rattle.integer_core.proofs.GcdDomain.{gcd_fits_is}
+use Rattle.integer_core.proofs.stein.binary_gcd.Goals as goal
+
+pub from_magnitude-requires : goal.from_magnitude-requires
+from_magnitude-requires g c =
+    (gcd_fits_is g.met.T.Native.native_law.range c.requires.a_in_range c.requires.b_in_range).0 c.requires.gcd_fits _ c.gcd_of_magnitudes-gcd.ensures.greatest

@@ -1,0 +1,156 @@
+//! The greatest common divisor by Stein's binary method (Knuth, The Art of Computer Programming,
+//! volume 2, section 4.5.2, algorithm B).
+
+ghost use Rattle.std.specs.Prelude.{◌≡◌, ◌↔◌, ◌⊎◌, ◌+◌, ◌-◌, ◌*◌, ◌%◌, ◌^◌, ◌<◌, ◌≤◌, ℕ, pos, unsigned_abs, IsTrue};
+ghost use Rattle.std.specs.Int.{IsGcd, IsPowerOfTwo};
+ghost use Rattle.integer_core.specs.Divisors.{GcdFits, IsGreatestCommonDivisor};
+ghost use Rattle.integer_core.specs.GcdRuns.{AreGcdTurns, GcdEnds, IsGcdTurn, IsOddPart, MakesGcdRun};
+ghost use Rattle.integer_core.specs.Runs.{Makes};
+
+use crate::native::Native;
+use crate::operators::{difference, is_below, is_zero, one};
+use num_traits::{PrimInt, Unsigned};
+
+fn is_same<M: PrimInt + Unsigned>(m: M, n: M) -> bool
+    ensures { IsTrue result ↔ (unsigned_abs (M.value m) ≡ unsigned_abs (M.value n)) }
+{
+    m == n
+}
+
+/// `x` with all factors 2 taken out, and how many they are.
+fn without_twos<M: PrimInt + Unsigned>(x: M) -> (M, u32)
+    requires x_in_range { M.fits (M.value x) }
+    requires positive { 0 < unsigned_abs (M.value x) }
+    ensures in_range { M.fits (M.value result.0) }
+    ensures odd { unsigned_abs (M.value result.0) % 2 ≡ 1 }
+    ensures product { unsigned_abs (M.value x) ≡ unsigned_abs (M.value result.0) * 2 ^ result.1 }
+{
+    let twos = x.trailing_zeros();
+    (x >> twos, twos)
+}
+
+/// `x` with so many factors 2 more.
+fn with_twos<M: PrimInt + Unsigned>(x: M, twos: u32) -> M
+    requires positive { 0 < unsigned_abs (M.value x) }
+    requires product_fits { M.fits (pos (unsigned_abs (M.value x) * 2 ^ twos)) }
+    ensures { M.value result ≡ pos (unsigned_abs (M.value x) * 2 ^ twos) }
+{
+    x << twos
+}
+
+/// The difference of `x` and `y`, which lies below, with all factors 2 taken out.
+fn odd_difference<M: PrimInt + Unsigned>(x: M, y: M) -> M
+    requires x_in_range { M.fits (M.value x) }
+    requires below { unsigned_abs (M.value y) < unsigned_abs (M.value x) }
+    ensures in_range { M.fits (M.value result) }
+    ensures odd_part { IsOddPart (unsigned_abs (M.value x) - unsigned_abs (M.value y))
+        (unsigned_abs (M.value result)) }
+{
+    without_twos(difference(x, y)).0
+}
+
+/// The greatest common divisor of two odd numbers, and the turns of the loop.
+fn odd_gcd<M: PrimInt + Unsigned>(a: M, b: M) -> (M, u32)
+    requires a_in_range { M.fits (M.value a) }
+    requires b_in_range { M.fits (M.value b) }
+    requires a_odd { unsigned_abs (M.value a) % 2 ≡ 1 }
+    requires b_odd { unsigned_abs (M.value b) % 2 ≡ 1 }
+    ensures in_range { M.fits (M.value result.0) }
+    ensures greatest { IsGcd (unsigned_abs (M.value a)) (unsigned_abs (M.value b))
+        (unsigned_abs (M.value result.0)) }
+    ensures turns { Makes IsGcdTurn GcdEnds
+        (record { m = unsigned_abs (M.value a); n = unsigned_abs (M.value b) }) result.1 }
+    ensures bound { (k l : ℕ) → unsigned_abs (M.value a) < 2 ^ k
+        → unsigned_abs (M.value b) < 2 ^ l → result.1 ≤ k + l }
+{
+    let mut m = a;
+    let mut n = b;
+    let mut turns = 0;
+    'turns: while !is_same(m, n) {
+        if is_below(n, m) {
+            m = odd_difference(m, n);
+        } else {
+            n = odd_difference(n, m);
+        }
+        turns += 1;
+    }
+    (m, turns)
+}
+
+/// The greatest common divisor of two numbers above 0, and the turns of the loop.
+pub(crate) fn positive_gcd<M: PrimInt + Unsigned>(a: M, b: M) -> (M, u32)
+    requires a_in_range { M.fits (M.value a) }
+    requires b_in_range { M.fits (M.value b) }
+    requires a_positive { 0 < unsigned_abs (M.value a) }
+    requires b_positive { 0 < unsigned_abs (M.value b) }
+    ensures in_range { M.fits (M.value result.0) }
+    ensures greatest { IsGreatestCommonDivisor (M.value a) (M.value b) (M.value result.0) }
+    ensures turns { MakesGcdRun (unsigned_abs (M.value a)) (unsigned_abs (M.value b)) result.1 }
+    ensures bound { (k l : ℕ) → unsigned_abs (M.value a) < 2 ^ k
+        → unsigned_abs (M.value b) < 2 ^ l → result.1 ≤ k + l }
+{
+    let (m, twos_of_a) = without_twos(a);
+    let (n, twos_of_b) = without_twos(b);
+    let (odd, turns) = odd_gcd(m, n);
+    (with_twos(odd, twos_of_a.min(twos_of_b)), turns)
+}
+
+/// The greatest common divisor of two numbers above 0 of which one is a power of two: the power of
+/// two that both share.
+fn shared_power_of_two<M: PrimInt + Unsigned>(a: M, b: M) -> M
+    requires a_in_range { M.fits (M.value a) }
+    requires b_in_range { M.fits (M.value b) }
+    requires a_positive { 0 < unsigned_abs (M.value a) }
+    requires b_positive { 0 < unsigned_abs (M.value b) }
+    requires power { IsPowerOfTwo (unsigned_abs (M.value a))
+        ⊎ IsPowerOfTwo (unsigned_abs (M.value b)) }
+    ensures in_range { M.fits (M.value result) }
+    ensures greatest { IsGreatestCommonDivisor (M.value a) (M.value b) (M.value result) }
+{
+    with_twos(one(), without_twos(a).1.min(without_twos(b).1))
+}
+
+/// Whether this is the least number of its type.
+fn is_least<T: Native>(x: T) -> bool
+    ensures { IsTrue result ↔ (T.value x ≡ T.Bounded.low) }
+{
+    x == T::min_value()
+}
+
+/// The greatest common divisor of the magnitudes, and the turns of the loop. None is made for 0,
+/// nor for the least number of a type with negatives, whose magnitude is a power of two.
+fn gcd_of_magnitudes<T: Native>(a: T, b: T) -> (T::Magnitude, u32)
+    requires a_in_range { T.fits (T.value a) }
+    requires b_in_range { T.fits (T.value b) }
+    ensures greatest { IsGreatestCommonDivisor (T.value a) (T.value b)
+        (T.Magnitude.value result.0) }
+    ensures turns { AreGcdTurns T.Bounded.low (T.value a) (T.value b) result.1 }
+    ensures bound { (k l : ℕ) → unsigned_abs (T.value a) < 2 ^ k
+        → unsigned_abs (T.value b) < 2 ^ l → result.1 ≤ k + l }
+{
+    let (m, n) = (a.magnitude(), b.magnitude());
+    if is_zero(a) {
+        (n, 0)
+    } else if is_zero(b) {
+        (m, 0)
+    } else if is_least(a) || is_least(b) {
+        (shared_power_of_two(m, n), 0)
+    } else {
+        positive_gcd(m, n)
+    }
+}
+
+/// The greatest common divisor, and the turns of its loop.
+pub(crate) fn binary_gcd<T: Native>(a: T, b: T) -> (T, u32)
+    requires a_in_range { T.fits (T.value a) }
+    requires b_in_range { T.fits (T.value b) }
+    requires gcd_fits { GcdFits T.fits (T.value a) (T.value b) }
+    ensures in_range { T.fits (T.value result.0) }
+    ensures greatest { IsGreatestCommonDivisor (T.value a) (T.value b) (T.value result.0) }
+    ensures turns { AreGcdTurns T.Bounded.low (T.value a) (T.value b) result.1 }
+    ensures bound { (k l : ℕ) → unsigned_abs (T.value a) < 2 ^ k
+        → unsigned_abs (T.value b) < 2 ^ l → result.1 ≤ k + l }
+{
+    let (gcd, turns) = gcd_of_magnitudes(a, b);
+    (T::from_magnitude(gcd), turns)
+}

@@ -1,0 +1,56 @@
+//! The averages of each pair of `i8` and of `u8`, against half of a wider sum.
+
+use super::types::{Tested, number};
+use crate::{average_ceil, average_floor};
+use std::process::Abort;
+
+/// Half of the sum, rounded down and rounded up.
+fn halves_of_sum(a: i128, b: i128) -> Option<(i128, i128)> {
+    let sum = a.checked_add(b)?;
+    let floor = sum.checked_div_euclid(2)?;
+    Some((floor, sum.checked_sub(floor)?))
+}
+
+fn has_averages<T: Tested>(rt: &impl Abort, a: i128, b: i128) {
+    let (x, y) = (number::<T>(rt, a), number::<T>(rt, b));
+    let (floor, ceil) = halves_of_sum(a, b).expect(rt, "the sum fits");
+    let expected = (number(rt, floor), number(rt, ceil));
+    assert_eq!(rt;
+        (average_floor(x, y), average_ceil(x, y)),
+        expected,
+        "of {a} and {b}"
+    );
+}
+
+fn at_each_pair<T: Tested>(rt: &impl Abort, low: i128, high: i128) {
+    for a in low..=high {
+        for b in low..=high {
+            has_averages::<T>(rt, a, b);
+        }
+    }
+}
+
+#[test]
+fn averages_of_each_pair_of_one_byte(rt: HostRuntime) {
+    at_each_pair::<i8>(&rt, -128, 127);
+    at_each_pair::<u8>(&rt, 0, 255);
+}
+
+#[test]
+fn averages_whose_sum_has_more_bits(rt: HostRuntime) {
+    let greatest = u128::MAX;
+    let averages = (
+        average_floor(greatest, greatest),
+        average_ceil(greatest, greatest),
+    );
+    assert_eq!(rt; averages, (greatest, greatest));
+    let averages = (
+        average_floor(i128::MIN, i128::MAX),
+        average_ceil(i128::MIN, i128::MAX),
+    );
+    assert_eq!(rt; averages, (-1, 0));
+    assert_eq!(rt;
+        (average_floor(-2i64, -5), average_ceil(-2i64, -5)),
+        (-4, -3)
+    );
+}
