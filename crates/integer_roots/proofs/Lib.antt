@@ -1,8 +1,8 @@
 pub mod Powers
 pub mod NewtonStep
 pub mod SquareGuesses
-pub mod CubeGuesses
-pub mod BitRoot
+pub mod RootGuesses
+pub mod CubeDigits
 pub mod Averaging
 pub mod SignedRoots
 pub mod OnlyOnes

@@ -7,11 +7,8 @@ use Rattle.std.proofs.lemmas.Bool.{cases_lt}
 use Rattle.std.specs.Prelude.{pos}
 use Rattle.integer_roots.specs.RootOf.{IsFloorRoot}
 use Rattle.integer_roots.specs.SquareRuns.{square_step}
+use Rattle.integer_roots.specs.NewtonRuns.{newton_step}
 use Rattle.integer_roots.proofs.Powers.{power_one, power_two, floor_root}
-
--- the step for the root of a of degree n, from the guess x
-abbrev pub newton_step : ℕ → ℕ → ℕ → ℕ
-newton_step a n x = (a / x ^ (n - 1) + (n - 1) * x) / n
 
 -- two differences that are not negative, q - p and t - r, have a product that is not
 pub cross : (p q r t : ℕ) → p ≤ q → r ≤ t → p * t + q * r ≤ p * r + q * t

@@ -1,5 +1,5 @@
 -- Powers, multiplied out and compared.
-use Rattle.std.proofs.Common.{◌≡◌, ℕ, suc, zero, ◌*◌, ◌^◌, ◌+◌, ◌<◌, ◌≤◌, inl, inr, ap, refl, ◌∙◌, arith, pos, mul-one, pow_mono}
+use Rattle.std.proofs.Common.{◌≡◌, ℕ, suc, zero, ◌*◌, ◌^◌, ◌+◌, ◌-◌, ◌<◌, ◌≤◌, inl, inr, ap, sym, refl, ◌∙◌, arith, pos, mul-one, zero-mul, pow-add, pow_mono}
 use Rattle.std.proofs.lemmas.Bool.{cases_lt}
 use Rattle.std.proofs.lemmas.Int.{ints}
 use Rattle.std.proofs.Math.Nat.{pow-zero, pow-succ'}
@@ -19,6 +19,18 @@ power_three x = pow-succ' x 2 ∙ ap (λ (k : ℕ). x * k) (power_two x)
 pub power_of_one : (n : ℕ) → 1 ^ n ≡ 1
 power_of_one zero = pow-zero 1
 power_of_one (suc n) = rw (pow-succ' 1 n, power_of_one n) refl
+
+-- the powers of 0, and of a power
+pub power_of_zero : (n : ℕ) → 0 < n → 0 ^ n ≡ 0
+power_of_zero n h =
+    let e : n ≡ suc (n - 1) = omega arith in
+    ap (λ (k : ℕ). 0 ^ k) e ∙ pow-succ' 0 (n - 1) ∙ zero-mul (0 ^ (n - 1))
+
+pub power_of_power : (b i j : ℕ) → (b ^ i) ^ j ≡ b ^ (i * j)
+power_of_power b i zero = pow-zero (b ^ i) ∙ sym (ap (λ (k : ℕ). b ^ k) (let e : i * 0 ≡ 0 = omega arith in e) ∙ pow-zero b)
+power_of_power b i (suc j) =
+    let e : i * suc j ≡ i + i * j = omega arith in
+    pow-succ' (b ^ i) j ∙ ap (λ (k : ℕ). b ^ i * k) (power_of_power b i j) ∙ sym (ap (λ (k : ℕ). b ^ k) e ∙ pow-add b i (i * j))
 
 -- the place of the highest bit of a is at least that of each power of two up to a
 pub highest_bit : (a k top : ℕ) → 2 ^ k ≤ a → a < 2 ^ (top + 1) → k ≤ top

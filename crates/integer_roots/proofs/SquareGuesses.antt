@@ -1,10 +1,14 @@
 -- The guesses of a square root's two loops: how near the root each turn brings them, and that five turns are enough.
+use Rattle.std.specs.Prelude.{pos}
 use Rattle.std.proofs.Common.{◌≡◌, ℕ, zero, suc, ◌+◌, ◌-◌, ◌*◌, ◌/◌, ◌^◌, ◌<◌, ◌≤◌, List, [], ◌∷◌, inl, inr, ◌∙◌, arith, refl, add-one, mul-le-mul, mul-le-mul_left, mul-le-mul_right, le_of_mul-le-mul_right, mul-pos, div-mul-le_self, div-lt_iff_lt-mul, le_trans, pow-add, pow_mono}
 use Rattle.std.proofs.lemmas.Bool.{cases_lt}
+use Rattle.std.proofs.lemmas.Int.{ints}
 use Rattle.integer_core.specs.Runs.{IsRun, Makes}
-use Rattle.integer_core.proofs.Runs.{Reaches, reaches_first, reaches_turn, reaches_instead}
-use Rattle.integer_roots.specs.SquareRuns.{square_step, Guess, Rising, Falling, IsNewtonTurn, NewtonEnds, IsHighestBit, first_guess}
-use Rattle.integer_roots.proofs.NewtonStep.{cross, newton_least, newton_above, newton_settled, square_step_is}
+use Rattle.integer_core.proofs.Runs.{Reaches, reaches_first, reaches_turn, reaches_instead, reaches_last}
+use Rattle.integer_roots.specs.RootOf.{IsFloorRoot}
+use Rattle.integer_roots.specs.SquareRuns.{square_step, Guess, Rising, Falling, IsNewtonTurn, NewtonEnds, IsHighestBit, first_guess, AreSquareRootTurns}
+use Rattle.integer_roots.specs.NewtonRuns.{guess_of, IsReached, begins, rises, goes_over, falls}
+use Rattle.integer_roots.proofs.NewtonStep.{cross, newton_least, newton_above, newton_settled, newton_root, square_step_is}
 use Rattle.integer_roots.proofs.Powers.{highest_bit}
 
 -- after so many turns, this many times what the guess's square is above a is at most a
@@ -67,9 +71,9 @@ not_above a s k small near = elim (cases_lt a s) [
 -- each turn after the first one falls
 near_after_turn : (a x y turns : ℕ) → IsNear a x turns → y ≡ square_step a x → 4 ≤ a → a < 2 ^ 64 → (0 < turns → y < x)
     → IsNear a y (turns + 1)
-near_after_turn a x y turns near is four fits falls =
+near_after_turn a x y turns near is four fits down =
     let positive : 0 < x = omega (arith, near.above_one) in
-    let above : (0 < turns → a < x * x) = λ h. (div-lt_iff_lt-mul positive).0 (let f = falls h in omega arith) in
+    let above : (0 < turns → a < x * x) = λ h. (div-lt_iff_lt-mul positive).0 (let f = down h in omega arith) in
     let next = near_next a x y turns near (omega arith) above in
     record {
       above_one = omega (arith, newton_least a 2 x 2 (omega arith) positive four, square_step_is a x);
@@ -115,54 +119,49 @@ rise_once a x y positive is up = elim (cases_lt y (square_step a y)) [
   | inr le ↦ le
 ]
 
--- what the loops know of the number a whose root they find
-pub record Start (a : ℕ) : Type 0 where
+-- the number a whose root the loops find, and their first guess
+pub record IsStart (a first : ℕ) : Type 0 where
   pub least : 4 ≤ a
   pub fits : a < 2 ^ 64
   pub top : ℕ
+  pub small : top < 64
   pub highest : IsHighestBit a top
+  pub is : first ≡ first_guess top
 
--- the guess x of one of the two loops, after so many turns from the first guess
-pub record IsReached (a : ℕ) (loop : ℕ → Guess) (x turns : ℕ) : Type 0 where
-  pub start : Start a
+pub start : {a top first : ℕ} → first ≡ first_guess top → 4 ≤ a → a < 2 ^ 64 → top < 64 → 2 ^ top ≤ a → a < 2 * 2 ^ top → IsStart a first
+start {a} {top} is least fits small low high =
+    let highest : IsHighestBit a top = record { power_le = low; next_power_gt = omega (arith, pow-add 2 top 1) } in
+    record { least = least; fits = fits; top = top; small = small; highest = highest; is = is }
+
+-- what is known of a guess that the loops reach after so many turns; the first loop turns once at most
+record IsRisingGuess (a first x turns : ℕ) : Type 0 where
   pub near : IsNear a x turns
-  pub run : Reaches (IsNewtonTurn a) (NewtonEnds a) (Rising (first_guess start.top)) (loop x) turns
+  pub once : 0 < turns → square_step a x ≤ x
+  pub run : Reaches (IsNewtonTurn a) (NewtonEnds a) (Rising first) (Rising x) turns
 
-reached_turn : {a x y turns : ℕ} {loop next : ℕ → Guess} → IsReached a loop x turns → y ≡ square_step a x → (0 < turns → y < x)
-    → IsNewtonTurn a (loop x) (next y) → IsReached a next y (turns + 1)
-reached_turn v is falls turn = record {
-  start = v.start;
-  near = near_after_turn _ _ _ _ v.near is v.start.least v.start.fits falls;
-  run = reaches_turn v.run turn;
+-- and no guess of the second is below the root
+record IsFallingGuess (a first x turns : ℕ) : Type 0 where
+  pub near : IsNear a x turns
+  pub above : a < (x + 1) ^ 2
+  pub run : Reaches (IsNewtonTurn a) (NewtonEnds a) (Rising first) (Falling x) turns
+
+abbrev IsKept : ℕ → ℕ → Guess → ℕ → Type 0
+IsKept a first (Rising x) turns = IsRisingGuess a first x turns
+IsKept a first (Falling x) turns = IsFallingGuess a first x turns
+
+rising_at_first : {a first : ℕ} → IsStart a first → IsRisingGuess a first first 0
+rising_at_first {a} start = record {
+  near = rw start.is (near_at_first a start.top start.least start.small start.highest);
+  once = λ h. absurd (omega arith);
+  run = reaches_first;
 }
 
--- what the first loop keeps of its guess
-pub record IsRisingGuess (a x turns : ℕ) : Type 0 where
-  pub reached : IsReached a Rising x turns
-  pub once : 0 < turns → square_step a x ≤ x
-
--- what the second loop keeps of its guess
-pub record IsFallingGuess (a x turns : ℕ) : Type 0 where
-  pub reached : IsReached a Falling x turns
-  pub above : a < (x + 1) ^ 2
-
-pub rising_at_first : {a top x : ℕ} → x ≡ first_guess top → 4 ≤ a → a < 2 ^ 64 → top < 64 → 2 ^ top ≤ a → a < 2 * 2 ^ top
-    → IsRisingGuess a x 0
-rising_at_first {a} {top} is least fits small low high =
-    let highest : IsHighestBit a top = record { power_le = low; next_power_gt = omega (arith, pow-add 2 top 1) } in
-    rw is (record {
-      reached = record {
-        start = record { least = least; fits = fits; top = top; highest = highest };
-        near = near_at_first a top least small highest;
-        run = reaches_first;
-      };
-      once = λ h. absurd (omega arith);
-    })
-
-pub rising_turn : {a x y turns : ℕ} → IsRisingGuess a x turns → y ≡ square_step a x → x < y → IsRisingGuess a y (turns + 1)
-rising_turn {a} {x} {y} v is up = record {
-  reached = reached_turn {next = Rising} v.reached is (λ h. absurd (omega (arith, v.once h))) (up, is);
-  once = λ h. rise_once a x y (omega (arith, v.reached.near.above_one)) is up;
+rising_turn : {a first x y turns : ℕ} → IsStart a first → IsRisingGuess a first x turns → y ≡ square_step a x → x < y
+    → IsRisingGuess a first y (turns + 1)
+rising_turn {a} {first} {x} {y} start v is up = record {
+  near = near_after_turn _ _ _ _ v.near is start.least start.fits (λ h. absurd (omega (arith, v.once h)));
+  once = λ h. rise_once a x y (omega (arith, v.near.above_one)) is up;
+  run = reaches_turn v.run (up, is);
 }
 
 -- where the step does not rise, a run from a falling guess is one from the same guess, rising
@@ -172,17 +171,53 @@ settled_run a x [] le run = omega arith
 settled_run a x (Rising y ∷ rest) le run = absurd run.0
 settled_run a x (Falling y ∷ rest) le run = run
 
-pub falling_at_first : {a x y turns : ℕ} → IsRisingGuess a x turns → y ≡ square_step a x → y ≤ x → IsFallingGuess a x turns
-falling_at_first {a} {x} {y} v is down =
+falling_at_first : {a first x y turns : ℕ} → IsRisingGuess a first x turns → y ≡ square_step a x → y ≤ x → IsFallingGuess a first x turns
+falling_at_first {a} {first} {x} {y} v is down =
     let onward : ((m : ℕ) → Makes (IsNewtonTurn a) (NewtonEnds a) (Falling x) m → Makes (IsNewtonTurn a) (NewtonEnds a) (Rising x) m) =
     λ m run. record { rest = run.rest; run = settled_run a x run.rest (omega arith) run.run; turns = run.turns } in
     record {
-      reached = record { start = v.reached.start; near = v.reached.near; run = reaches_instead v.reached.run onward };
-      above = newton_settled a 2 x y (is ∙ square_step_is a x) (omega arith) (omega (arith, v.reached.near.above_one)) down;
+      near = v.near;
+      above = newton_settled a 2 x y (is ∙ square_step_is a x) (omega arith) (omega (arith, v.near.above_one)) down;
+      run = reaches_instead v.run onward;
     }
 
-pub falling_turn : {a x y turns : ℕ} → IsFallingGuess a x turns → y ≡ square_step a x → y < x → IsFallingGuess a y (turns + 1)
-falling_turn {a} {x} {y} v is down = record {
-  reached = reached_turn {next = Falling} v.reached is (λ h. down) (down, is);
-  above = newton_above a 2 x y (is ∙ square_step_is a x) (omega arith) (omega (arith, v.reached.near.above_one));
+falling_turn : {a first x y turns : ℕ} → IsStart a first → IsFallingGuess a first x turns → y ≡ square_step a x → y < x
+    → IsFallingGuess a first y (turns + 1)
+falling_turn {a} {first} {x} {y} start v is down = record {
+  near = near_after_turn _ _ _ _ v.near is start.least start.fits (λ h. down);
+  above = newton_above a 2 x y (is ∙ square_step_is a x) (omega arith) (omega (arith, v.near.above_one));
+  run = reaches_turn v.run (down, is);
 }
+
+-- the steps of the loops
+abbrev pub IsSquareStep : ℕ → ℕ → ℕ → Type 0
+IsSquareStep a x y = y ≡ square_step a x
+
+kept : {a first turns : ℕ} {guess : Guess} → IsStart a first → IsReached (IsSquareStep a) first guess turns → IsKept a first guess turns
+kept start begins = rising_at_first start
+kept start (rises reached is up) = rising_turn start (kept start reached) is up
+kept start (goes_over reached is down) = falling_at_first (kept start reached) is down
+kept start (falls reached is down) = falling_turn start (kept start reached) is down
+
+-- each guess that the loops reach is near the root, so that it is small and the turns are few
+pub near_root : {a first turns : ℕ} {guess : Guess} → IsStart a first → IsReached (IsSquareStep a) first guess turns
+    → IsNear a (guess_of guess) turns
+near_root {guess = Rising x} start reached = let v = kept start reached in v.near
+near_root {guess = Falling x} start reached = let v = kept start reached in v.near
+
+-- the guess where they end is the root, and their turns are those of the run
+pub ended_at_root : {a first x next turns : ℕ} → IsStart a first → IsReached (IsSquareStep a) first (Falling x) turns → IsSquareStep a x next
+    → x ≤ next → IsFloorRoot (pos a) 2 (pos x)
+ended_at_root {a} {x = x} {next = next} start reached is up =
+    let v = kept start reached in
+    newton_root a 2 x next (is ∙ square_step_is a x) (omega arith) (omega (arith, v.near.above_one)) up v.above
+
+pub turns_of_run : {a first x next turns : ℕ} → IsStart a first → IsReached (IsSquareStep a) first (Falling x) turns → IsSquareStep a x next
+    → x ≤ next → AreSquareRootTurns (pos a) turns
+turns_of_run start reached is up =
+    let v = kept start reached in
+    let least = start.least in
+    record {
+      below_four = λ h. absurd (omega (arith, ints));
+      from_four = λ h. record { top = start.top; highest = start.highest; run = rw start.is at (reaches_last v.run (omega arith)) };
+    }

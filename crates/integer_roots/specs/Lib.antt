@@ -1,4 +1,5 @@
 pub mod Averages
 pub mod RootOf
 pub mod SquareRuns
+pub mod NewtonRuns
 pub mod NativeWidth

@@ -1,34 +1,46 @@
-//! Cube roots by Newton's method, at 64 bits.
+//! Cube roots: by digits up to 32 bits, and above by Newton's method.
 
-ghost use Rattle.std.specs.Prelude.{◌≡◌, ◌+◌, ◌*◌, ◌/◌, ◌≤◌, ◌^◌, pos};
+ghost use Rattle.std.specs.Prelude.{◌≡◌, ◌≤◌, ◌<◌, ◌^◌, pos};
 ghost use Rattle.integer_roots.specs.RootOf.{IsFloorRoot};
+ghost use Rattle.integer_roots.specs.NewtonRuns.{newton_step};
 
-/// The cube root of `a`. The first guess is a power of two near the root; the first loop steps up
-/// while the guess lies below the root, and the second steps down.
-pub(crate) fn cube_root(a: u64) -> u64
+use crate::cube_root_digits::cube_root_by_digits;
+use crate::newton::newton;
+
+/// The cube root of `a`, a number of a type of so many bits.
+pub(crate) fn cube_root(a: u64, bits: u32) -> u64
+    requires fits { a < 2 ^ bits }
+    ensures root { IsFloorRoot (pos a) 3 (pos result) }
+{
+    if bits > 32 {
+        wide_cube_root(a)
+    } else {
+        u64::from(cube_root_by_digits(a as u32, bits))
+    }
+}
+
+/// The cube root of a number of 64 bits.
+fn wide_cube_root(a: u64) -> u64
     ensures root { IsFloorRoot (pos a) 3 (pos result) }
 {
     if a < 8 {
         return u64::from(a > 0);
     }
-    let mut x = 1 << ((a.ilog2() + 2) / 3);
-    let mut next = cube_root_step(a, x);
-    'rise: while x < next {
-        x = next;
-        next = cube_root_step(a, x);
+    match u32::try_from(a) {
+        Ok(a) => u64::from(cube_root_by_digits(a, u32::BITS)),
+        Err(_) => cube_root_by_newton(a),
     }
-    'fall: while x > next {
-        x = next;
-        next = cube_root_step(a, x);
-    }
-    x
 }
 
-/// Newton's step for the cube root of `a` from the guess `x`.
-fn cube_root_step(a: u64, x: u64) -> u64
-    requires above_one { 2 ≤ x }
-    requires small { x ≤ 2 ^ 22 }
-    ensures { result ≡ (a / (x * x) + 2 * x) / 3 }
+/// The cube root of `a` by Newton's method. The first guess is a power of two near the root.
+fn cube_root_by_newton(a: u64) -> u64
+    requires from_eight { 8 ≤ a }
+    ensures root { IsFloorRoot (pos a) 3 (pos result) }
 {
-    (a / (x * x) + 2 * x) / 3
+    let step = move |x: u64| -> u64
+        requires above_one { 2 ≤ x }
+        requires small { x ≤ 2 ^ 23 }
+        ensures { result ≡ newton_step a 3 x }
+    { (a / (x * x) + 2 * x) / 3 };
+    newton(1 << a.ilog2().div_ceil(3), step).0
 }

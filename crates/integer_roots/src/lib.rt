@@ -3,11 +3,13 @@
 
 mod average_bits;
 mod averages;
-mod bits;
 pub mod counted;
 mod cube_root;
+mod cube_root_digits;
 mod native;
+mod newton;
 mod root;
+mod root_of_degree;
 mod signed;
 mod square_root;
 

@@ -1,14 +1,15 @@
 //! The roots of the native types, by the roots of their magnitudes.
 
 ghost use Rattle.std.specs.Prelude.{◌≡◌, ◌≢◌, ◌%◌, ◌≤◌, ◌≤ℤ◌, ◌<ℤ◌, neg_ℤ, pos};
+ghost use Rattle.num_traits.specs.Laws.{bit_len};
 ghost use Rattle.integer_roots.specs.RootOf.{IsRoot};
 ghost use Rattle.integer_roots.specs.SquareRuns.{AreSquareRootTurns};
 
-use crate::bits::root_by_bits;
 use crate::cube_root::cube_root;
+use crate::root_of_degree::root_of_degree;
 use crate::square_root::square_root_counted;
 use integer_core::NativeInteger;
-use integer_core::operators::{is_negative, negated};
+use integer_core::operators::{is_negative, negated, zero};
 
 /// The square root, and the turns of its loops.
 pub(crate) fn signed_square_root_counted<T: NativeInteger<Magnitude = u64>>(x: T) -> (T, u32)
@@ -29,7 +30,14 @@ pub(crate) fn signed_cube_root<T: NativeInteger<Magnitude = u64>>(x: T) -> T
     ensures in_range { T.fits (T.value result) }
     ensures root { IsRoot (T.value x) 3 (T.value result) }
 {
-    with_sign_of(x, cube_root(x.magnitude()))
+    with_sign_of(x, cube_root(x.magnitude(), bits::<T>()))
+}
+
+/// The bits of the type.
+fn bits<T: NativeInteger>() -> u32
+    ensures { result ≡ bit_len T.width }
+{
+    zero::<T>().leading_zeros()
 }
 
 /// The root of degree `n`.
@@ -44,7 +52,7 @@ pub(crate) fn signed_root<T: NativeInteger<Magnitude = u64>>(x: T, n: u32) -> T
         1 => x,
         2 => signed_square_root_counted(x).0,
         3 => signed_cube_root(x),
-        _ => with_sign_of(x, root_by_bits(x.magnitude(), n)),
+        _ => with_sign_of(x, root_of_degree(x.magnitude(), n)),
     }
 }
 

@@ -4,6 +4,8 @@ ghost use Rattle.std.specs.Prelude.{◌≡◌, ◌≤◌, ◌^◌, pos};
 ghost use Rattle.integer_roots.specs.SquareRuns.{AreSquareRootTurns, square_step};
 ghost use Rattle.integer_roots.specs.RootOf.{IsFloorRoot};
 
+use crate::newton::newton;
+
 /// The square root of `a`, and the turns of the two loops. The first guess is a power of two near
 /// the root. Where it lies below, the first loop takes one step up; the second steps down.
 pub(crate) fn square_root_counted(a: u64) -> (u64, u32)
@@ -14,27 +16,10 @@ pub(crate) fn square_root_counted(a: u64) -> (u64, u32)
     if a < 4 {
         return (u64::from(a > 0), 0);
     }
-    let mut x = 1 << ((a.ilog2() + 1) / 2);
-    let mut next = square_root_step(a, x);
-    let mut turns = 0;
-    'rise: while x < next {
-        x = next;
-        next = square_root_step(a, x);
-        turns += 1;
-    }
-    'fall: while x > next {
-        x = next;
-        next = square_root_step(a, x);
-        turns += 1;
-    }
-    (x, turns)
-}
-
-/// Newton's step for the square root of `a` from the guess `x`.
-fn square_root_step(a: u64, x: u64) -> u64
-    requires above_one { 2 ≤ x }
-    requires small { x ≤ 2 ^ 33 }
-    ensures { result ≡ square_step a x }
-{
-    (a / x + x) / 2
+    let step = move |x: u64| -> u64
+        requires above_one { 2 ≤ x }
+        requires small { x ≤ 2 ^ 33 }
+        ensures { result ≡ square_step a x }
+    { (a / x + x) / 2 };
+    newton(1 << ((a.ilog2() + 1) / 2), step)
 }

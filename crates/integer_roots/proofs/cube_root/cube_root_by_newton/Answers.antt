@@ -1,0 +1,24 @@
+use Rattle.std.proofs.Common.{arith, pow-add, ◌%◌, ◌*◌, ◌^◌}
+use Rattle.std.proofs.lemmas.Nat.{one_shl}
+use Rattle.integer_roots.proofs.Powers.{highest_bit}
+use Rattle.integer_roots.proofs.RootGuesses.{IsStart, start, place_small, in_range, ended_at_root}
+use Rattle.integer_roots.proofs.cube_root.cube_root_by_newton.Goals as goal
+use Rattle.integer_roots.proofs.cube_root.cube_root_by_newton.Goals.{After-div_ceil}
+
+first : (c : After-div_ceil) → IsStart c.args.a 3 (1 * 2 ^ c.div_ceil.result % 2 ^ 64)
+first c =
+    let b = c.ilog2.ensures in
+    let place = place_small c.div_ceil.ensures (omega arith) b.bound in
+    let three = highest_bit c.args.a 3 c.ilog2.result (omega arith) (omega (arith, pow-add 2 c.ilog2.result 1)) in
+    start (one_shl _ 64 (omega arith)) c.div_ceil.ensures (omega arith) three b.bound (omega arith) b.power_le b.next_power_gt
+
+pub newton-requires : goal.newton-requires
+newton-requires c = record {
+  may_step = λ guess n reached. let range = in_range (first c) reached in (range.above_one, range.small);
+  turns_fit = λ guess n reached. let range = in_range (first c) reached in range.few;
+}
+
+pub returns : goal.returns
+returns c =
+    let ended = c.newton.ensures.ended in
+    record { root = ended_at_root (first (goal.at.returns c).After-div_ceil) c.newton.ensures.reached ended.1 ended.2 }

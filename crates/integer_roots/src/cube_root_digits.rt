@@ -1,0 +1,28 @@
+//! Cube roots by binary digits, at 32 bits.
+
+ghost use Rattle.std.specs.Prelude.{◌^◌, ◌<◌, ◌≤◌, pos};
+ghost use Rattle.integer_roots.specs.RootOf.{IsFloorRoot};
+
+/// The cube root of `a`, a number of so many bits: a digit for each three of them, from the highest
+/// down.
+pub(crate) fn cube_root_by_digits(a: u32, bits: u32) -> u32
+    requires narrow { bits ≤ 32 }
+    requires fits { a < 2 ^ bits }
+    ensures root { IsFloorRoot (pos a) 3 (pos result) }
+{
+    let mut rest = a;
+    let mut square = 0;
+    let mut root = 0;
+    for digit in (0..bits / 3 + 1).rev() {
+        let place = 3 * digit;
+        square *= 4;
+        root *= 2;
+        let step = 3 * (square + root) + 1;
+        if rest >> place >= step {
+            rest -= step << place;
+            square += 2 * root + 1;
+            root += 1;
+        }
+    }
+    root
+}

@@ -1,0 +1,40 @@
+//! Roots of any degree from 3 up by Newton's method, at 64 bits.
+
+ghost use Rattle.std.specs.Prelude.{◌≡◌, ◌/◌, ◌^◌, ◌≤◌, ◌<◌, pos};
+ghost use Rattle.integer_roots.specs.RootOf.{IsFloorRoot};
+ghost use Rattle.integer_roots.specs.NewtonRuns.{newton_step};
+
+use crate::newton::newton;
+
+/// The root of `a` of degree `n`. The first guess is a power of two near the root.
+pub(crate) fn root_of_degree(a: u64, n: u32) -> u64
+    requires degree { 3 ≤ n }
+    ensures root { IsFloorRoot (pos a) n (pos result) }
+{
+    if a == 0 {
+        return 0;
+    }
+    let top = a.ilog2();
+    if top < n {
+        return 1;
+    }
+    let step = move |x: u64| -> u64
+        requires degree { 3 ≤ n }
+        requires degree_small { n < 64 }
+        requires above_one { 2 ≤ x }
+        requires small { x ≤ 2 ^ 23 }
+        ensures { result ≡ newton_step a n x }
+    { (quotient_by_power(a, x, n - 1) + u64::from(n - 1) * x) / u64::from(n) };
+    newton(1 << top.div_ceil(n), step).0
+}
+
+/// The quotient of `a` by the power of `x` of degree `k`: 0 where the power does not fit.
+fn quotient_by_power(a: u64, x: u64, k: u32) -> u64
+    requires { 0 < x }
+    ensures { result ≡ a / x ^ k }
+{
+    match x.checked_pow(k) {
+        Some(power) => a / power,
+        None => 0,
+    }
+}
