@@ -183,6 +183,10 @@ fn square_and_cube_roots(rt: HostRuntime) {
         (U16, 65535, 2, 255),
         (U32, 4294967295, 3, 1625),
         (U64, 18446744073709551615, 3, 2642245),
+        (U64, 4294967295, 3, 1625),
+        (U64, 4294967296, 3, 1625),
+        (U64, 4298942375, 3, 1625),
+        (U64, 4298942376, 3, 1626),
         (I8, -128, 3, -5),
         (I64, -9223372036854775808, 3, -2097152),
     ];
@@ -214,6 +218,8 @@ fn roots_of_any_degree(rt: HostRuntime) {
         (I8, -127, 7, -1),
         (I8, 127, 200, 1),
         (U64, 0, 5, 0),
+        (U64, 130321, 4, 19),
+        (U64, 130320, 4, 18),
         (I64, -9223372036854775808, 1, -9223372036854775808),
     ];
     check_roots(&rt, &rows);
@@ -361,5 +367,71 @@ fn roots_at_the_bit_length(rt: HostRuntime) {
     }
     for (it, bits) in [(U8, 8), (U16, 16), (U32, 32), (U64, 64), (Usize, 64)] {
         check_roots_at(&rt, it, &HasBits(bits));
+    }
+}
+
+/// The root of degree `n` of each number of a type from 0 up: the last number whose power is not
+/// above it.
+fn check_each_root<T: Roots + Tested>(rt: &impl Abort, n: u32) {
+    let mut root = 0i128;
+    for x in 0..=greatest::<T>(rt) {
+        let next = root.saturating_add(1);
+        if next.checked_pow(n).is_some_and(|power| power <= x) {
+            root = next;
+        }
+        HasRoot(x, n, root).at::<T>(rt);
+    }
+}
+
+/// The roots of each number from 0 up, of the degrees from 1 to 16.
+#[derive(Drop)]
+struct EachRoot;
+
+impl RootCheck for EachRoot {
+    fn at<T: Roots + Tested>(&self, rt: &impl Abort) {
+        for n in 1..=16 {
+            check_each_root::<T>(rt, n);
+        }
+    }
+}
+
+#[test]
+fn roots_of_each_number(rt: HostRuntime) {
+    for it in [U8, U16] {
+        check_roots_at(&rt, it, &EachRoot);
+    }
+}
+
+/// The roots of degree `n` of the power of `base` and of the numbers beside it, of those that `u64`
+/// has.
+fn check_roots_beside_power(rt: &impl Abort, base: i128, n: u32) {
+    let Some(power) = base.checked_pow(n) else {
+        return;
+    };
+    let (below, above) = (power.saturating_sub(1), power.saturating_add(1));
+    for (x, root) in [
+        (below, base.saturating_sub(1)),
+        (power, base),
+        (above, base),
+    ] {
+        if x <= i128::from(u64::MAX) {
+            check_roots(rt, &[(U64, x, n, root)]);
+        }
+    }
+}
+
+/// The roots beside the powers of a number and of its two neighbors, of the degrees from 3 to 10.
+fn check_roots_beside_powers(rt: &impl Abort, middle: i128) {
+    for base in [middle.saturating_sub(1), middle, middle.saturating_add(1)] {
+        for n in 3..=10 {
+            check_roots_beside_power(rt, base, n);
+        }
+    }
+}
+
+#[test]
+fn roots_beside_powers(rt: HostRuntime) {
+    for place in 1..32u32 {
+        check_roots_beside_powers(&rt, 1 << place);
     }
 }
