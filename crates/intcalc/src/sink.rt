@@ -58,11 +58,23 @@ impl<W: Write> Console<W> {
 }
 
 impl<W: Write> Sink for Console<W> {
+    ghost use Rattle.intcalc.specs.Console.{writer_of, has_failed};
+
     ghost contents = { λ console. W.contents console.out };
 
     ghost has_failed = { λ console. console.failed };
 
-    fn put(&mut self, bytes: &[u8]) -> Option<usize> {
+    // At `None` the writer took no byte.
+    fn put(&mut self, bytes: &[u8]) -> Option<usize>
+        ensures bound { IfSome result (λ n. n ≤ length bytes.now) }
+        ensures progress { 0 < length bytes.now → IfSome result (λ n. 0 < n) }
+        ensures added { IfSome result (λ n. Appends (W.contents (writer_of self.old))
+            (W.contents (writer_of self.new)) (take n bytes.now)) }
+        ensures failed { IsNone result ↔ IsTrue (has_failed self.new) }
+        ensures for_good { IsTrue (has_failed self.old) → IsTrue (has_failed self.new) }
+        ensures kept { IsNone result
+            → Keeps (W.contents (writer_of self.old)) (W.contents (writer_of self.new)) }
+    {
         if self.failed {
             return None;
         }

@@ -5,14 +5,16 @@ ghost use Rattle.num_integer.specs.Only.{IsOnly};
 ghost use Rattle.intcalc.specs.Line.{IsLine};
 ghost use Rattle.intcalc.specs.Outcome.{Outcome};
 
+mod failing_writers;
+mod tape;
+
 use crate::call::{Answer, Call, Kind, Refusal};
 use crate::line::Line;
 use crate::number::read_number;
 use crate::outcome::evaluate;
 use crate::run::{line_for, run};
-use crate::sink::{Console, Sink};
-use std::io;
-use std::io::{ErrorKind, Write};
+use crate::sink::Console;
+use tape::{ROOM, Tape};
 
 /// Exactly one result stands in the outcome of a kind and a call.
 fn only_outcome(kind: Kind, call: Call) -> Result<Answer, Refusal>
@@ -31,62 +33,10 @@ fn only_line(words: &[&str]) -> (Line, u8)
     line_for(words)
 }
 
-const ROOM: usize = 128;
-
-// A writer in memory, which takes at most `most` bytes at a time. It fails after `writes` writes,
-// and at a flush where `flush_fails`.
-#[derive(Drop)]
-struct Tape {
-    text: [u8; ROOM],
-    len: usize,
-    most: usize,
-    writes: usize,
-    flush_fails: bool,
-    ghost in_range: { len ≤ 128 },
-}
-
-impl Tape {
-    fn new(most: usize, writes: usize, flush_fails: bool) -> Tape {
-        Tape {
-            text: [0; ROOM],
-            len: 0,
-            most,
-            writes,
-            flush_fails,
-        }
-    }
-
-    fn as_bytes(&self) -> &[u8] {
-        &self.text[..self.len]
-    }
-}
-
-impl Write for Tape {
-    fn write(&mut self, buf: &[u8]) -> io::Result<usize> {
-        if self.writes == 0 {
-            return Err(io::Error::from(ErrorKind::Other));
-        }
-        self.writes -= 1;
-        let n = buf.len().min(self.most).min(ROOM - self.len);
-        let end = self.len + n;
-        self.text[self.len..end].copy_from_slice(&buf[..n]);
-        self.len = end;
-        Ok(n)
-    }
-
-    fn flush(&mut self) -> io::Result<()> {
-        if self.flush_fails {
-            Err(io::Error::from(ErrorKind::Other))
-        } else {
-            Ok(())
-        }
-    }
-}
-
 // Whether the words give this line and this status, written at once and byte by byte.
 pub fn prints(words: &[&str], line: &str, status: u8) -> bool {
     [ROOM, 1].into_iter().all(|most| {
-        let mut out = Console::new(Tape::new(most, ROOM, false));
+        let mut out = Console::new(Tape::new(most, None));
         let answered = run(words, &mut out);
         answered == status && is_line(out.into_inner().as_bytes(), line)
     })
@@ -220,28 +170,6 @@ fn a_hundred_digits(rt: HostRuntime) {
     for kind in ["i8", "u8", "i64", "u64"] {
         assert!(rt; prints(&[kind, "gcd", "1", nines], "refused 1 OutOfType", 1));
         assert!(rt; prints(&[kind, "div_rem", nines, "1"], "refused 1 OutOfType", 1));
-    }
-}
-
-// Each row is how many bytes the writer takes at a time, how many writes it bears, whether its
-// flush fails, and the status then. The line has five bytes.
-#[test]
-fn faults(rt: HostRuntime) {
-    let rows = [
-        (1, 0, false, 4),
-        (1, 1, false, 4),
-        (1, 4, false, 4),
-        (1, 5, false, 0),
-        (5, 0, false, 4),
-        (5, 1, false, 0),
-        (5, 1, true, 4),
-        (0, 9, false, 4),
-    ];
-    for (most, writes, flush_fails, status) in rows {
-        let mut out = Console::new(Tape::new(most, writes, flush_fails));
-        assert_eq!(rt; run(&["i64", "div_mod_floor", "-8", "3"], &mut out), status);
-        assert_eq!(rt; out.finish(), status == 0);
-        assert!(rt; status == 0 || out.put(b"").is_none());
     }
 }
 

@@ -12,10 +12,12 @@ pub(crate) mod coefficients;
 mod division;
 mod divisors;
 mod edges;
+mod ends;
 mod exhaustive;
 mod gcd_turns;
 mod multiples;
 pub(crate) mod types;
+mod whole;
 
 use crate::Fits;
 use std::process::Abort;

@@ -1,31 +1,34 @@
-//! The averages of each pair of `i8` and of `u8`, against half of a wider sum.
+//! The averages of each pair of `i8` and of `u8`, against the halves of both added up.
 
-use super::types::{Tested, number};
+use super::types::{Tested, value};
+use super::whole::{Whole, floored, left, sum, whole_of};
 use crate::{average_ceil, average_floor};
 use std::process::Abort;
 
-/// Half of the sum, rounded down and rounded up.
-fn halves_of_sum(a: i128, b: i128) -> Option<(i128, i128)> {
-    let sum = a.checked_add(b)?;
-    let floor = sum.checked_div_euclid(2)?;
-    Some((floor, sum.checked_sub(floor)?))
+/// Half of the sum, rounded down and rounded up: the halves rounded down, and what they leave.
+fn halves_of_sum(a: Whole, b: Whole) -> Option<(Whole, Whole)> {
+    let two = (false, 2);
+    let (half, other) = (floored(a, two), floored(b, two));
+    let (_, over) = sum(left(a, half, two)?, left(b, other, two)?)?;
+    let floor = sum(sum(half?, other?)?, (false, over / 2))?;
+    Some((floor, sum(floor, (false, over % 2))?))
 }
 
-fn has_averages<T: Tested>(rt: &impl Abort, a: i128, b: i128) {
-    let (x, y) = (number::<T>(rt, a), number::<T>(rt, b));
-    let (floor, ceil) = halves_of_sum(a, b).expect(rt, "the sum fits");
-    let expected = (number(rt, floor), number(rt, ceil));
+pub(super) fn has_averages<T: Tested>(rt: &impl Abort, a: Whole, b: Whole) {
+    let (x, y) = (value::<T>(rt, a), value::<T>(rt, b));
+    let (floor, ceil) = halves_of_sum(a, b).expect(rt, "the averages lie between the numbers");
+    let expected = (value(rt, floor), value(rt, ceil));
     assert_eq!(rt;
         (average_floor(x, y), average_ceil(x, y)),
         expected,
-        "of {a} and {b}"
+        "of {a:?} and {b:?}"
     );
 }
 
 fn at_each_pair<T: Tested>(rt: &impl Abort, low: i128, high: i128) {
     for a in low..=high {
         for b in low..=high {
-            has_averages::<T>(rt, a, b);
+            has_averages::<T>(rt, whole_of(a), whole_of(b));
         }
     }
 }

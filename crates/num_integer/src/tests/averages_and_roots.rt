@@ -7,7 +7,8 @@ use super::calls::PairCall::Averages;
 use super::greatest;
 use super::types::Type::{I8, I16, I32, I64, Isize, U8, U16, U32, U64, Usize};
 use super::types::{
-    Check, RootCheck, SIGNED, Tested, Type, UNSIGNED, check_at_each, check_roots_at, number,
+    Check, RootCheck, RootTurnsCheck, SIGNED, Tested, Type, UNSIGNED, check_at_each,
+    check_root_turns_at, check_roots_at, number,
 };
 use crate::counted::SqrtCounted;
 use crate::{Fits, Roots, average_ceil, average_floor, cbrt, nth_root, sqrt};
@@ -83,12 +84,15 @@ fn averages_of_different_signs(rt: HostRuntime) {
     check_at_each(&rt, &SIGNED, &AveragesOfTheEnds);
 }
 
-/// Asserts that the square root of a number from 0 up is found in so many turns.
-fn has_turns<T: SqrtCounted + Fits>(rt: &impl Abort, x: T, root: T, turns: u32)
+/// The square root and the turns, from 0 up.
+pub(super) fn square_root_counted<T: SqrtCounted + Fits>(x: T) -> Option<(T, u32)>
     requires { T.fits (T.value x) }
 {
-    assert!(rt; !x.parts().0);
-    assert!(rt; x.sqrt_counted() == (root, turns));
+    if x.parts().0 {
+        None
+    } else {
+        Some(x.sqrt_counted())
+    }
 }
 
 /// The square root, from 0 up.
@@ -137,32 +141,35 @@ pub(crate) fn check_roots(rt: &impl Abort, rows: &[(Type, i128, u32, i128)]) {
     }
 }
 
+/// A number, its square root, and the turns.
+#[derive(Drop)]
+struct HasTurns(i128, i128, u32);
+
+impl RootTurnsCheck for HasTurns {
+    fn at<T: SqrtCounted + Tested>(&self, rt: &impl Abort) {
+        let expected = Some((number::<T>(rt, self.1), self.2));
+        let counted = square_root_counted(number::<T>(rt, self.0));
+        assert_eq!(rt; counted, expected, "of {}", self.0);
+    }
+}
+
 #[test]
 fn square_roots_and_their_turns(rt: HostRuntime) {
-    for (x, root, turns) in [
-        (18446744073709551615, 4294967295, 1),
-        (99, 9, 2),
-        (16, 4, 0),
-        (8, 2, 2),
-        (3, 1, 0),
-    ] {
-        has_turns::<u64>(&rt, x, root, turns);
-    }
-    for (x, root, turns) in [(9223372036854775807, 3037000499, 4), (4, 2, 0)] {
-        has_turns::<i64>(&rt, x, root, turns);
-    }
-    has_turns::<u8>(&rt, 255, 15, 1);
-    let rows = [
-        (U64, 18446744073709551615, 2, 4294967295),
-        (U64, 99, 2, 9),
-        (U64, 16, 2, 4),
+    for (it, x, root, turns) in [
+        (U64, 18446744073709551615, 4294967295, 1),
+        (U64, 18446744065119617025, 4294967295, 1),
+        (U64, 18446744065119617024, 4294967294, 2),
+        (U64, 99, 9, 2),
+        (U64, 16, 4, 0),
         (U64, 8, 2, 2),
-        (U64, 3, 2, 1),
-        (I64, 9223372036854775807, 2, 3037000499),
-        (I64, 4, 2, 2),
-        (U8, 255, 2, 15),
-    ];
-    check_roots(&rt, &rows);
+        (U64, 3, 1, 0),
+        (I64, 9223372036854775807, 3037000499, 4),
+        (I64, 4, 2, 0),
+        (U8, 255, 15, 1),
+    ] {
+        check_root_turns_at(&rt, it, &HasTurns(x, root, turns));
+        check_roots_at(&rt, it, &HasRoot(x, 2, root));
+    }
 }
 
 #[test]
@@ -187,6 +194,8 @@ fn square_and_cube_roots(rt: HostRuntime) {
         (U64, 4294967296, 3, 1625),
         (U64, 4298942375, 3, 1625),
         (U64, 4298942376, 3, 1626),
+        (U64, 18446724184312856125, 3, 2642245),
+        (U64, 18446724184312856124, 3, 2642244),
         (I8, -128, 3, -5),
         (I64, -9223372036854775808, 3, -2097152),
     ];
@@ -221,13 +230,15 @@ fn roots_of_any_degree(rt: HostRuntime) {
         (U64, 130321, 4, 19),
         (U64, 130320, 4, 18),
         (I64, -9223372036854775808, 1, -9223372036854775808),
+        (I64, -9223372036854775808, 63, -2),
+        (I64, -9223372036854775808, 4294967295, -1),
     ];
     check_roots(&rt, &rows);
 }
 
 /// The root has the sign of the number, and of those whose power is no farther from 0 than the
 /// number it is the farthest from 0.
-fn check_root<T: Roots + Tested>(rt: &impl Abort, x: i128, n: u32) {
+pub(super) fn check_root<T: Roots + Tested>(rt: &impl Abort, x: i128, n: u32) {
     let number = number::<T>(rt, x);
     let root = root_of_degree(number, n).expect(rt, "the number has a root");
     match n {

@@ -1,6 +1,8 @@
 //! The calls of `Integer` wherever the tests of `Fits` let them be made, and `None` elsewhere. Those
 //! with a free function are made by it.
 
+ghost use Rattle.std.specs.Prelude.{IfSome};
+
 use crate::counted::extended_gcd_counted as counted;
 use crate::{ExtendedGcd, Fits};
 use num_traits::Signed;
@@ -94,6 +96,36 @@ pub(super) fn prev_multiple_of<T: Fits>(n: T, d: T) -> Option<T>
     }
 }
 
+/// `inc`, below the greatest number.
+pub(super) fn one_more<T: Fits>(x: T) -> Option<T>
+    requires { T.fits (T.value x) }
+{
+    let (negative, magnitude) = x.parts();
+    let (_, high) = T::ends();
+    let mut next = x;
+    if negative || magnitude < high {
+        next.inc();
+        Some(next)
+    } else {
+        None
+    }
+}
+
+/// `dec`, above the least number.
+pub(super) fn one_less<T: Fits>(x: T) -> Option<T>
+    requires { T.fits (T.value x) }
+{
+    let (negative, magnitude) = x.parts();
+    let (low, _) = T::ends();
+    let mut previous = x;
+    if !negative && magnitude > 0 || magnitude < low {
+        previous.dec();
+        Some(previous)
+    } else {
+        None
+    }
+}
+
 pub(super) fn gcd<T: Fits>(a: T, b: T) -> Option<T>
     requires a_in_range { T.fits (T.value a) }
     requires b_in_range { T.fits (T.value b) }
@@ -153,6 +185,8 @@ pub(super) fn extended_gcd<T: Fits>(a: T, b: T) -> Option<ExtendedGcd<T>>
 pub(super) fn extended_gcd_counted<T: Fits>(a: T, b: T) -> Option<(ExtendedGcd<T>, u32)>
     requires a_in_range { T.fits (T.value a) }
     requires b_in_range { T.fits (T.value b) }
+    ensures { IfSome result (λ answer. T.fits (T.value answer.0.gcd)
+        × T.fits (T.value answer.0.x) × T.fits (T.value answer.0.y)) }
 {
     if a.gcd_fits(&b) && (T::ends().0 != 0 || a.is_multiple_of(&b) || b.is_multiple_of(&a)) {
         Some(counted(a, b))

@@ -23,7 +23,7 @@ const FROM_16_BITS: [Type; 6] = [U16, I16, U32, I32, U64, I64];
 const FROM_32_BITS: [Type; 4] = [U32, I32, U64, I64];
 
 /// The coefficient and the turns, where the coefficient fits.
-fn counted<T: Fits>(n: T, k: T) -> Option<(T, u32)>
+pub(super) fn counted<T: Fits>(n: T, k: T) -> Option<(T, u32)>
     requires n_in_range { T.fits (T.value n) }
     requires k_in_range { T.fits (T.value k) }
 {
@@ -35,7 +35,7 @@ fn counted<T: Fits>(n: T, k: T) -> Option<(T, u32)>
 }
 
 /// The multinomial, where it fits.
-fn shared<T: Fits>(counts: &[T]) -> Option<T>
+pub(super) fn shared<T: Fits>(counts: &[T]) -> Option<T>
     requires { All (λ x. T.fits (T.value x)) counts.now }
 {
     if T::multinomial_fits(counts) {
@@ -45,14 +45,16 @@ fn shared<T: Fits>(counts: &[T]) -> Option<T>
     }
 }
 
-/// The row, where `half` is the half of `n`, a number above `n` fits, and so does the coefficient of
-/// `n` and `half`.
-fn row<T: Fits>(n: T, half: T) -> Option<IterBinomial<T>>
+/// The row, where `n` is negative, or `half` is the half of `n`, a number above `n` fits, and so does
+/// the coefficient of `n` and `half`.
+pub(super) fn row<T: Fits>(n: T, half: T) -> Option<IterBinomial<T>>
     requires n_in_range { T.fits (T.value n) }
     requires half_in_range { T.fits (T.value half) }
 {
-    let magnitude = n.parts().1;
-    if half.parts().1 != magnitude / 2 || magnitude >= T::ends().1 {
+    let (negative, magnitude) = n.parts();
+    if negative {
+        Some(IterBinomial::new(n))
+    } else if half.parts().1 != magnitude / 2 || magnitude >= T::ends().1 {
         None
     } else if n.binomial_fits(&half) {
         Some(IterBinomial::new(n))
@@ -193,6 +195,8 @@ fn multinomials_at_the_ends(rt: HostRuntime) {
         (U64, Shares(alloc, &[0], Some(1))),
         (U64, Shares(alloc, &[12345], Some(1))),
         (U8, Shares(alloc, &[254, 1], Some(255))),
+        (U8, Shares(alloc, &[127, 1], Some(128))),
+        (I8, Shares(alloc, &[127, 1], None)),
         (U8, Shares(alloc, &[1, 1, 1, 1, 1], Some(120))),
         (U8, Shares(alloc, &[1, 1, 1, 1, 1, 1], None)),
     ];
@@ -308,7 +312,7 @@ fn domains_of_multinomial(rt: HostRuntime) {
     for (counts, fits) in rows {
         assert!(rt; u8::multinomial_fits(counts) == fits, "of {counts:?}");
     }
-    let rows: [&[i8]; 2] = [&[3, 2, 2], &[-1]];
+    let rows: [&[i8]; 3] = [&[3, 2, 2], &[127, 1], &[-1]];
     for counts in rows {
         assert!(rt; !i8::multinomial_fits(counts), "of {counts:?}");
     }

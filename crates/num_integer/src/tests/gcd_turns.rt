@@ -6,7 +6,13 @@ use std::fmt::Debug;
 use std::process::Abort;
 
 /// Asserts that the plain and the counted call answer this.
-fn assert_turns<T: Fits + GcdCounted + Debug>(rt: &impl Abort, a: T, b: T, gcd: T, turns: u32)
+pub(super) fn assert_turns<T: Fits + GcdCounted + Debug>(
+    rt: &impl Abort,
+    a: T,
+    b: T,
+    gcd: T,
+    turns: u32,
+)
     requires a_in_range { T.fits (T.value a) }
     requires b_in_range { T.fits (T.value b) }
 {
@@ -44,10 +50,10 @@ fn turns_of_the_least_number(rt: HostRuntime) {
     assert!(rt; !i8::MIN.gcd_fits(&0) && !i8::MIN.gcd_fits(&i8::MIN));
 }
 
-/// A number below 256, halved as long as it is even.
-fn halved(n: u8) -> u8 {
+/// A number, halved as long as it is even.
+fn halved(n: u128) -> u128 {
     let mut odd = n;
-    for _ in 0..8 {
+    for _ in 0..u128::BITS {
         if odd % 2 == 0 {
             odd /= 2;
         }
@@ -55,13 +61,14 @@ fn halved(n: u8) -> u8 {
     odd
 }
 
-/// The turns, counted without the order of the two numbers. No pair of bytes makes more than 16.
-fn counted_turns(a: u8, b: u8) -> Option<u32> {
+/// The turns, counted without the order of the two numbers. No pair makes more turns than the two
+/// have bits.
+pub(super) fn counted_turns(a: u128, b: u128) -> Option<u32> {
     if a == 0 || b == 0 {
         return Some(0);
     }
     let (mut m, mut n) = (halved(a), halved(b));
-    for turns in 0..=16 {
+    for turns in 0..=2 * u128::BITS {
         if m == n {
             return Some(turns);
         }
@@ -75,7 +82,8 @@ fn turns_of_each_pair_of_bytes(rt: HostRuntime) {
     for a in 0..=255u8 {
         for b in 0..=255u8 {
             let (_, turns) = a.gcd_counted(&b);
-            assert_eq!(rt; Some(turns), counted_turns(a, b), "of {a} and {b}");
+            let expected = counted_turns(u128::from(a), u128::from(b));
+            assert_eq!(rt; Some(turns), expected, "of {a} and {b}");
         }
     }
 }

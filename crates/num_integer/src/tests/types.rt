@@ -1,14 +1,17 @@
 //! Checks that are made at one type after another.
 //!
 //! A call of a generic function at a type of the library spells all that the type implements, which
-//! is long, and so the only such calls are those of `check_at` and `check_roots_at`.
+//! is long, and so the only such calls are those of the functions `check_..at` here.
 
 ghost use Rattle.std.specs.Prelude.{IfSome};
 
+use super::whole;
+use super::whole::Whole;
+use crate::counted::{GcdCounted, SqrtCounted};
 use crate::own_types::{Percent, Small};
 use crate::{Average, Fits, Roots};
 use integer_core::NativeInteger;
-use num_traits::FromPrimitive;
+use num_traits::{FromPrimitive, Signed};
 use std::fmt::Debug;
 use std::process::Abort;
 
@@ -44,11 +47,26 @@ pub(crate) trait Tested: Average + Fits + Debug {
     /// The number as a value of the type, where the type has it.
     fn from_number(n: i128) -> Option<Self>
         ensures { IfSome result (λ x. Self.fits (Self.value x)) };
+
+    /// The number of this sign and magnitude as a value of the type, where the type has it.
+    fn from_whole(n: Whole) -> Option<Self>
+        ensures { IfSome result (λ x. Self.fits (Self.value x)) }
+    {
+        Self::from_number(whole::signed(n)?)
+    }
 }
 
 impl<T: NativeInteger + FromPrimitive + Debug> Tested for T {
     fn from_number(n: i128) -> Option<T> {
         T::from_i128(n)
+    }
+
+    fn from_whole(n: Whole) -> Option<T> {
+        if n.0 {
+            T::from_i128(whole::signed(n)?)
+        } else {
+            T::from_u128(n.1)
+        }
     }
 }
 
@@ -79,6 +97,19 @@ pub(crate) fn number<T: Tested>(rt: &impl Abort, n: i128) -> T
     ensures { T.fits (T.value result) }
 {
     T::from_number(n).expect(rt, "the type has the number")
+}
+
+/// The number of this sign and magnitude as a value of the type.
+pub(crate) fn value<T: Tested>(rt: &impl Abort, n: Whole) -> T
+    ensures { T.fits (T.value result) }
+{
+    T::from_whole(n).expect(rt, "the type has the number")
+}
+
+/// The number of this sign and magnitude as a value of the type, where one is given and the type has
+/// it.
+pub(crate) fn optional_value<T: Tested>(n: Option<Whole>) -> Option<T> {
+    T::from_whole(n?)
 }
 
 /// The number as a value of the type, where one is given.
@@ -160,5 +191,83 @@ fn check_unsigned_roots_at(rt: &impl Abort, it: Type, check: &impl RootCheck) {
         Type::Usize => check.at::<usize>(rt),
         Type::Percent => check.at::<Percent>(rt),
         _ => panic!(rt; "the type has no roots"),
+    }
+}
+
+/// What is expected at a type with a sign.
+pub(crate) trait SignedCheck {
+    fn at<T: Signed + Tested>(&self, rt: &impl Abort);
+}
+
+/// Makes the check at a type of the library with a sign.
+pub(crate) fn check_signed_at(rt: &impl Abort, it: Type, check: &impl SignedCheck) {
+    match it {
+        Type::I8 => check.at::<i8>(rt),
+        Type::I16 => check.at::<i16>(rt),
+        Type::I32 => check.at::<i32>(rt),
+        Type::I64 => check.at::<i64>(rt),
+        Type::I128 => check.at::<i128>(rt),
+        Type::Isize => check.at::<isize>(rt),
+        _ => panic!(rt; "the library has no such type with a sign"),
+    }
+}
+
+/// What is expected of the turns at a type of the library.
+pub(crate) trait TurnsCheck {
+    fn at<T: GcdCounted + Tested>(&self, rt: &impl Abort);
+}
+
+/// Makes the check at a type of the library.
+pub(crate) fn check_turns_at(rt: &impl Abort, it: Type, check: &impl TurnsCheck) {
+    match it {
+        Type::I8 => check.at::<i8>(rt),
+        Type::I16 => check.at::<i16>(rt),
+        Type::I32 => check.at::<i32>(rt),
+        Type::I64 => check.at::<i64>(rt),
+        Type::I128 => check.at::<i128>(rt),
+        Type::Isize => check.at::<isize>(rt),
+        _ => check_unsigned_turns_at(rt, it, check),
+    }
+}
+
+/// Makes the check at a type of the library with no sign.
+fn check_unsigned_turns_at(rt: &impl Abort, it: Type, check: &impl TurnsCheck) {
+    match it {
+        Type::U8 => check.at::<u8>(rt),
+        Type::U16 => check.at::<u16>(rt),
+        Type::U32 => check.at::<u32>(rt),
+        Type::U64 => check.at::<u64>(rt),
+        Type::U128 => check.at::<u128>(rt),
+        Type::Usize => check.at::<usize>(rt),
+        _ => panic!(rt; "the library has no such type"),
+    }
+}
+
+/// What is expected of the turns for a square root at a type of the library.
+pub(crate) trait RootTurnsCheck {
+    fn at<T: SqrtCounted + Tested>(&self, rt: &impl Abort);
+}
+
+/// Makes the check at a type of the library of at most 64 bits.
+pub(crate) fn check_root_turns_at(rt: &impl Abort, it: Type, check: &impl RootTurnsCheck) {
+    match it {
+        Type::I8 => check.at::<i8>(rt),
+        Type::I16 => check.at::<i16>(rt),
+        Type::I32 => check.at::<i32>(rt),
+        Type::I64 => check.at::<i64>(rt),
+        Type::Isize => check.at::<isize>(rt),
+        _ => check_unsigned_root_turns_at(rt, it, check),
+    }
+}
+
+/// Makes the check at a type of the library of at most 64 bits with no sign.
+fn check_unsigned_root_turns_at(rt: &impl Abort, it: Type, check: &impl RootTurnsCheck) {
+    match it {
+        Type::U8 => check.at::<u8>(rt),
+        Type::U16 => check.at::<u16>(rt),
+        Type::U32 => check.at::<u32>(rt),
+        Type::U64 => check.at::<u64>(rt),
+        Type::Usize => check.at::<usize>(rt),
+        _ => panic!(rt; "the library has no such type with roots"),
     }
 }
