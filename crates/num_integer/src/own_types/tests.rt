@@ -1,16 +1,16 @@
-//! Worked values on the two types, most of them by the checks of the library's types.
+//! Worked values on the types, most of them by the checks of the library's types.
 
-use super::{Percent, Small};
+use super::{Marked, Negated, OneBit, Percent, Small, TwoBits};
 use crate::tests::averages_and_roots::check_roots;
 use crate::tests::bezout::HasPair;
-use crate::tests::calls::Call::{Binomial, DivCeil, DivFloor, Lcm, NextMultipleOf};
+use crate::tests::calls::Call::{Binomial, DivCeil, DivFloor, Gcd, Lcm, NextMultipleOf};
 use crate::tests::calls::PairCall::{Averages, DivModFloor};
 use crate::tests::calls::Question::{
     BinomialFits, GcdFits, IsMultipleOf, LcmFits, NextMultipleFits, PrevMultipleFits, QuotientFits,
 };
 use crate::tests::calls::{Answers, AnswersPair, Holds};
 use crate::tests::checked;
-use crate::tests::coefficients::{HasItems, Shares};
+use crate::tests::coefficients::{HasItems, Shares, counted as counted_coefficient};
 use crate::tests::types::{Type, check_at, check_rows};
 use crate::{ExtendedGcd, Fits, Integer, div_ceil};
 use num_traits::{Num, Signed};
@@ -165,4 +165,94 @@ fn row_of_a_small_number(rt: HostRuntime) {
     check_at(&rt, Type::Small, &Holds(BinomialFits, (4, 2), true));
     check_at(&rt, Type::Small, &Holds(BinomialFits, (5, 2), false));
     check_at(&rt, Type::Small, &HasItems(4, 2, &[1, 4, 6, 4, 1]));
+}
+
+/// What `Negated` stores is ordered the other way round.
+#[test]
+fn numbers_stored_negated(rt: HostRuntime) {
+    let (least, greatest) = (Negated::new(-7), Negated::new(7));
+    assert!(rt; least < greatest && least.abs() == greatest);
+    assert!(rt; Negated::ends() == (7, 7) && least.parts() == (true, 7));
+    check_at(&rt, Type::Negated, &HasPair((7, 5), (1, -2, 3), 2));
+    check_at(&rt, Type::Negated, &HasItems(4, 2, &[1, 4, 6, 4, 1]));
+}
+
+/// Two values of one number are equal, whatever stands beside it.
+#[test]
+fn numbers_beside_a_byte(rt: HostRuntime) {
+    let (plain, marked) = (Marked::new(5), Marked::new(5).with_mark(9));
+    assert!(rt; plain.mark() == 0 && marked.mark() == 9);
+    assert!(rt; plain == marked && !(plain < marked) && !(marked < plain));
+    assert!(rt; plain.is_multiple_of(&marked) && marked.is_multiple_of(&plain));
+    assert!(rt; (plain + marked).mark() == 10);
+    let common = checked::gcd(marked, plain).expect(&rt, "the divisor fits");
+    assert!(rt; common == plain && common.mark() == 10);
+}
+
+#[test]
+fn numbers_of_one_bit(rt: HostRuntime) {
+    let pairs = [
+        (Type::OneBit, HasPair((1, 1), (1, 0, 1), 0)),
+        (Type::OneBit, HasPair((0, 1), (1, 0, 1), 0)),
+        (Type::OneBit, HasPair((1, 0), (1, 1, 0), 0)),
+        (Type::OneBit, HasPair((0, 0), (0, 1, 0), 0)),
+    ];
+    check_rows(&rt, &pairs);
+    let answers = [
+        (Type::OneBit, Answers(Binomial, (1, 1), Some(1))),
+        (Type::OneBit, Answers(Gcd, (1, 1), Some(1))),
+    ];
+    check_rows(&rt, &answers);
+    check_at(&rt, Type::OneBit, &HasItems(0, 0, &[1]));
+    assert!(rt; OneBit::ends() == (0, 1));
+}
+
+#[test]
+fn numbers_of_two_bits(rt: HostRuntime) {
+    let answers = [
+        (Type::TwoBits, Answers(Binomial, (3, 2), Some(3))),
+        (Type::TwoBits, Answers(Binomial, (2, 1), Some(2))),
+    ];
+    check_rows(&rt, &answers);
+    let rows = [
+        (Type::TwoBits, HasItems(0, 0, &[1])),
+        (Type::TwoBits, HasItems(1, 0, &[1, 1])),
+        (Type::TwoBits, HasItems(2, 1, &[1, 2, 1])),
+    ];
+    check_rows(&rt, &rows);
+    assert!(rt; TwoBits::ends() == (0, 3));
+}
+
+#[test]
+fn shares_of_odd_types(rt: HostRuntime) {
+    let rows = [
+        (Type::Negated, Shares(rt.alloc(), &[1, 1, 1], Some(6))),
+        (Type::Marked, Shares(rt.alloc(), &[2, 2, 2], Some(90))),
+        (Type::OneBit, Shares(rt.alloc(), &[1, 0], Some(1))),
+        (Type::OneBit, Shares(rt.alloc(), &[1, 1], None)),
+        (Type::TwoBits, Shares(rt.alloc(), &[2, 1], Some(3))),
+        (Type::TwoBits, Shares(rt.alloc(), &[1, 1, 1], None)),
+    ];
+    check_rows(&rt, &rows);
+}
+
+/// The greatest byte of the three answers.
+fn greatest_mark(pair: &ExtendedGcd<Marked>) -> u8 {
+    pair.gcd.mark().max(pair.x.mark()).max(pair.y.mark())
+}
+
+/// A body that made more turns than it counts, or that subtracted where it should divide, would
+/// leave a greater byte.
+#[test]
+fn bytes_tell_the_work(rt: HostRuntime) {
+    let (a, b) = (Marked::new(99), Marked::new(2));
+    let plain = checked::extended_gcd(a, b).expect(&rt, "the pair fits");
+    assert!(rt; (plain.x.number(), plain.y.number()) == (1, -49) && greatest_mark(&plain) <= 16);
+    let (counted, turns) = checked::extended_gcd_counted(a, b).expect(&rt, "the pair fits");
+    assert!(rt; counted == plain && turns == 1 && greatest_mark(&counted) <= 16);
+    let (n, k) = (Marked::new(100), Marked::new(99));
+    let plain = checked::binomial(n, k).expect(&rt, "the coefficient fits");
+    assert!(rt; plain.number() == 100 && plain.mark() <= 16);
+    let (counted, turns) = counted_coefficient(n, k).expect(&rt, "the coefficient fits");
+    assert!(rt; counted == plain && turns == 1 && counted.mark() <= 16);
 }

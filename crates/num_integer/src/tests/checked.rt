@@ -7,7 +7,7 @@ use crate::counted::extended_gcd_counted as counted;
 use crate::{ExtendedGcd, Fits};
 use num_traits::Signed;
 
-pub(super) fn div_rem<T: Fits>(n: T, d: T) -> Option<(T, T)>
+pub(crate) fn div_rem<T: Fits>(n: T, d: T) -> Option<(T, T)>
     requires n_in_range { T.fits (T.value n) }
     requires d_in_range { T.fits (T.value d) }
 {
@@ -19,7 +19,7 @@ pub(super) fn div_rem<T: Fits>(n: T, d: T) -> Option<(T, T)>
 }
 
 /// What `/` and `%` answer.
-pub(super) fn operators<T: Fits>(n: T, d: T) -> Option<(T, T)>
+pub(crate) fn operators<T: Fits>(n: T, d: T) -> Option<(T, T)>
     requires n_in_range { T.fits (T.value n) }
     requires d_in_range { T.fits (T.value d) }
 {
@@ -30,7 +30,7 @@ pub(super) fn operators<T: Fits>(n: T, d: T) -> Option<(T, T)>
     }
 }
 
-pub(super) fn div_floor<T: Fits>(n: T, d: T) -> Option<T>
+pub(crate) fn div_floor<T: Fits>(n: T, d: T) -> Option<T>
     requires n_in_range { T.fits (T.value n) }
     requires d_in_range { T.fits (T.value d) }
 {
@@ -41,7 +41,7 @@ pub(super) fn div_floor<T: Fits>(n: T, d: T) -> Option<T>
     }
 }
 
-pub(super) fn mod_floor<T: Fits>(n: T, d: T) -> Option<T>
+pub(crate) fn mod_floor<T: Fits>(n: T, d: T) -> Option<T>
     requires n_in_range { T.fits (T.value n) }
     requires d_in_range { T.fits (T.value d) }
 {
@@ -52,7 +52,7 @@ pub(super) fn mod_floor<T: Fits>(n: T, d: T) -> Option<T>
     }
 }
 
-pub(super) fn div_mod_floor<T: Fits>(n: T, d: T) -> Option<(T, T)>
+pub(crate) fn div_mod_floor<T: Fits>(n: T, d: T) -> Option<(T, T)>
     requires n_in_range { T.fits (T.value n) }
     requires d_in_range { T.fits (T.value d) }
 {
@@ -63,7 +63,7 @@ pub(super) fn div_mod_floor<T: Fits>(n: T, d: T) -> Option<(T, T)>
     }
 }
 
-pub(super) fn div_ceil<T: Fits>(n: T, d: T) -> Option<T>
+pub(crate) fn div_ceil<T: Fits>(n: T, d: T) -> Option<T>
     requires n_in_range { T.fits (T.value n) }
     requires d_in_range { T.fits (T.value d) }
 {
@@ -74,7 +74,7 @@ pub(super) fn div_ceil<T: Fits>(n: T, d: T) -> Option<T>
     }
 }
 
-pub(super) fn next_multiple_of<T: Fits>(n: T, d: T) -> Option<T>
+pub(crate) fn next_multiple_of<T: Fits>(n: T, d: T) -> Option<T>
     requires n_in_range { T.fits (T.value n) }
     requires d_in_range { T.fits (T.value d) }
 {
@@ -85,7 +85,7 @@ pub(super) fn next_multiple_of<T: Fits>(n: T, d: T) -> Option<T>
     }
 }
 
-pub(super) fn prev_multiple_of<T: Fits>(n: T, d: T) -> Option<T>
+pub(crate) fn prev_multiple_of<T: Fits>(n: T, d: T) -> Option<T>
     requires n_in_range { T.fits (T.value n) }
     requires d_in_range { T.fits (T.value d) }
 {
@@ -97,7 +97,7 @@ pub(super) fn prev_multiple_of<T: Fits>(n: T, d: T) -> Option<T>
 }
 
 /// `inc`, below the greatest number.
-pub(super) fn one_more<T: Fits>(x: T) -> Option<T>
+pub(crate) fn one_more<T: Fits>(x: T) -> Option<T>
     requires { T.fits (T.value x) }
 {
     let (negative, magnitude) = x.parts();
@@ -112,7 +112,7 @@ pub(super) fn one_more<T: Fits>(x: T) -> Option<T>
 }
 
 /// `dec`, above the least number.
-pub(super) fn one_less<T: Fits>(x: T) -> Option<T>
+pub(crate) fn one_less<T: Fits>(x: T) -> Option<T>
     requires { T.fits (T.value x) }
 {
     let (negative, magnitude) = x.parts();
@@ -126,7 +126,7 @@ pub(super) fn one_less<T: Fits>(x: T) -> Option<T>
     }
 }
 
-pub(super) fn gcd<T: Fits>(a: T, b: T) -> Option<T>
+pub(crate) fn gcd<T: Fits>(a: T, b: T) -> Option<T>
     requires a_in_range { T.fits (T.value a) }
     requires b_in_range { T.fits (T.value b) }
 {
@@ -137,7 +137,7 @@ pub(super) fn gcd<T: Fits>(a: T, b: T) -> Option<T>
     }
 }
 
-pub(super) fn lcm<T: Fits>(a: T, b: T) -> Option<T>
+pub(crate) fn lcm<T: Fits>(a: T, b: T) -> Option<T>
     requires a_in_range { T.fits (T.value a) }
     requires b_in_range { T.fits (T.value b) }
 {
@@ -148,7 +148,7 @@ pub(super) fn lcm<T: Fits>(a: T, b: T) -> Option<T>
     }
 }
 
-pub(super) fn gcd_lcm<T: Fits>(a: T, b: T) -> Option<(T, T)>
+pub(crate) fn gcd_lcm<T: Fits>(a: T, b: T) -> Option<(T, T)>
     requires a_in_range { T.fits (T.value a) }
     requires b_in_range { T.fits (T.value b) }
 {
@@ -159,7 +159,7 @@ pub(super) fn gcd_lcm<T: Fits>(a: T, b: T) -> Option<(T, T)>
     }
 }
 
-pub(super) fn binomial<T: Fits>(n: T, k: T) -> Option<T>
+pub(crate) fn binomial<T: Fits>(n: T, k: T) -> Option<T>
     requires n_in_range { T.fits (T.value n) }
     requires k_in_range { T.fits (T.value k) }
 {
@@ -171,7 +171,7 @@ pub(super) fn binomial<T: Fits>(n: T, k: T) -> Option<T>
 }
 
 /// Whether a pair is in the type: in one without negatives, one operand has to divide the other.
-pub(super) fn extended_gcd<T: Fits>(a: T, b: T) -> Option<ExtendedGcd<T>>
+pub(crate) fn extended_gcd<T: Fits>(a: T, b: T) -> Option<ExtendedGcd<T>>
     requires a_in_range { T.fits (T.value a) }
     requires b_in_range { T.fits (T.value b) }
 {
@@ -182,7 +182,7 @@ pub(super) fn extended_gcd<T: Fits>(a: T, b: T) -> Option<ExtendedGcd<T>>
     }
 }
 
-pub(super) fn extended_gcd_counted<T: Fits>(a: T, b: T) -> Option<(ExtendedGcd<T>, u32)>
+pub(crate) fn extended_gcd_counted<T: Fits>(a: T, b: T) -> Option<(ExtendedGcd<T>, u32)>
     requires a_in_range { T.fits (T.value a) }
     requires b_in_range { T.fits (T.value b) }
     ensures { IfSome result (λ answer. T.fits (T.value answer.0.gcd)

@@ -23,7 +23,7 @@ const FROM_16_BITS: [Type; 6] = [U16, I16, U32, I32, U64, I64];
 const FROM_32_BITS: [Type; 4] = [U32, I32, U64, I64];
 
 /// The coefficient and the turns, where the coefficient fits.
-pub(super) fn counted<T: Fits>(n: T, k: T) -> Option<(T, u32)>
+pub(crate) fn counted<T: Fits>(n: T, k: T) -> Option<(T, u32)>
     requires n_in_range { T.fits (T.value n) }
     requires k_in_range { T.fits (T.value k) }
 {

@@ -8,7 +8,7 @@ ghost use Rattle.std.specs.Prelude.{IfSome};
 use super::whole;
 use super::whole::Whole;
 use crate::counted::{GcdCounted, SqrtCounted};
-use crate::own_types::{Percent, Small};
+use crate::own_types::{Form, Marked, Negated, OneBit, Own, Percent, Small, TwoBits};
 use crate::{Average, Fits, Roots};
 use integer_core::NativeInteger;
 use num_traits::{FromPrimitive, Signed};
@@ -32,6 +32,10 @@ pub(crate) enum Type {
     Usize,
     Percent,
     Small,
+    Negated,
+    Marked,
+    OneBit,
+    TwoBits,
 }
 
 use Type::{I8, I16, I32, I64, I128, Isize, U8, U16, U32, U64, U128, Usize};
@@ -81,11 +85,13 @@ impl Tested for Percent {
     }
 }
 
-impl Tested for Small {
-    fn from_number(n: i128) -> Option<Small> {
-        let number = i8::try_from(n).ok()?;
-        if -7 <= number && number <= 7 {
-            Some(Small::new(number))
+impl<F: Form> Tested for Own<F> {
+    fn from_number(n: i128) -> Option<Own<F>> {
+        let number = i64::try_from(n).ok()?;
+        let (low, high) = F::ends();
+        let bound = if number < 0 { low } else { high };
+        if u128::from(number.unsigned_abs()) <= bound {
+            Some(Own::new(number))
         } else {
             None
         }
@@ -131,7 +137,6 @@ pub(crate) fn check_at(rt: &impl Abort, it: Type, check: &impl Check) {
         Type::I64 => check.at::<i64>(rt),
         Type::I128 => check.at::<i128>(rt),
         Type::Isize => check.at::<isize>(rt),
-        Type::Small => check.at::<Small>(rt),
         _ => check_at_unsigned(rt, it, check),
     }
 }
@@ -145,7 +150,19 @@ fn check_at_unsigned(rt: &impl Abort, it: Type, check: &impl Check) {
         Type::U64 => check.at::<u64>(rt),
         Type::U128 => check.at::<u128>(rt),
         Type::Usize => check.at::<usize>(rt),
+        _ => check_at_own(rt, it, check),
+    }
+}
+
+/// Makes the check at a type that the library does not know.
+fn check_at_own(rt: &impl Abort, it: Type, check: &impl Check) {
+    match it {
         Type::Percent => check.at::<Percent>(rt),
+        Type::Small => check.at::<Small>(rt),
+        Type::Negated => check.at::<Negated>(rt),
+        Type::Marked => check.at::<Marked>(rt),
+        Type::OneBit => check.at::<OneBit>(rt),
+        Type::TwoBits => check.at::<TwoBits>(rt),
         _ => panic!(rt; "the type has a sign"),
     }
 }
