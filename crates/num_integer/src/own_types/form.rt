@@ -1,6 +1,6 @@
 //! Lawful types that differ only in how they store their numbers.
 
-ghost use Rattle.std.specs.Prelude.{◌≡◌, ◌≢◌, ◌≤ℤ◌, ◌+ℤ◌, ◌-ℤ◌, ◌*ℤ◌, ℤ, ⊤, pos, negsuc, neg_ℤ, int_div, int_rem, unsigned_abs, refl};
+ghost use Rattle.std.specs.Prelude.{◌≡◌, ◌≢◌, ◌+ℤ◌, ◌-ℤ◌, ◌*ℤ◌, ℤ, ⊤, pos, negsuc, neg_ℤ, int_div, int_rem, unsigned_abs, refl};
 ghost use Rattle.std.specs.Cmp.{partial_order_from_own_ties};
 ghost use Rattle.std.specs.Cmp.Rules.{comparing};
 ghost use Rattle.std.specs.Ordering.{int_cmp, int_eq, on, as_partial_cmp};
@@ -96,7 +96,8 @@ impl<F: Form> Own<F> {
     /// The answer of a call on the two.
     fn answer(&self, other: &Own<F>, number: i64) -> Own<F>
         requires { Between F.low F.high number }
-        ensures { F.meaning result.form ≡ number }
+        ensures value { F.meaning result.form ≡ number }
+        ensures in_range { Between F.low F.high (F.meaning result.form) }
     {
         Own {
             form: self.form.answer(&other.form, number),

@@ -38,7 +38,9 @@ impl Form for SmallForm {
     }
 
     fn store(number: i64) -> SmallForm {
-        SmallForm { number: number as i8 }
+        SmallForm {
+            number: number as i8,
+        }
     }
 
     fn ends() -> (u128, u128) {
@@ -92,7 +94,9 @@ impl Form for NegatedForm {
     }
 
     fn store(number: i64) -> NegatedForm {
-        NegatedForm { negation: -number as i8 }
+        NegatedForm {
+            negation: -number as i8,
+        }
     }
 
     fn ends() -> (u128, u128) {
@@ -167,7 +171,10 @@ impl Form for MarkedForm {
     }
 
     fn store(number: i64) -> MarkedForm {
-        MarkedForm { number: number as i8, mark: 0 }
+        MarkedForm {
+            number: number as i8,
+            mark: 0,
+        }
     }
 
     fn answer(&self, other: &MarkedForm, number: i64) -> MarkedForm {
@@ -228,7 +235,9 @@ impl Form for OneBitForm {
     }
 
     fn store(number: i64) -> OneBitForm {
-        OneBitForm { number: number as u8 }
+        OneBitForm {
+            number: number as u8,
+        }
     }
 
     fn ends() -> (u128, u128) {
@@ -278,7 +287,9 @@ impl Form for TwoBitsForm {
     }
 
     fn store(number: i64) -> TwoBitsForm {
-        TwoBitsForm { number: number as u8 }
+        TwoBitsForm {
+            number: number as u8,
+        }
     }
 
     fn ends() -> (u128, u128) {

@@ -1,5 +1,5 @@
 use Rattle.std.proofs.Common.{arith}
-use Rattle.std.specs.Prelude.{FitsSigned, ◌*ℤ◌, int_rem}
+use Rattle.std.specs.Prelude.{FitsSigned}
 use Rattle.std.specs.Int.{w64}
 use Rattle.std.proofs.lemmas.Int.{ints, to_z-of_z}
 use Rattle.num_integer.proofs.own_types.form.OwnInteger.div_floor.Goals as goal
@@ -19,6 +19,3 @@ answer-requires g c =
     let small = g.met.F.Form.small_law in
     let q : FitsSigned w64 c.div_floor.result = omega (arith, ints) in
     simp to_z-of_z (c.requires.quotient_fits _ (rw (c.number.ensures.value, c.number-2.ensures.value) at (simp to_z-of_z at c.div_floor.ensures.floored)))
-
-pub returns-clause-in_range : goal.returns-clause-in_range
-returns-clause-in_range g c = g.met.F.Form.number_law _

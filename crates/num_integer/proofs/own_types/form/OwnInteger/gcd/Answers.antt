@@ -1,5 +1,5 @@
 use Rattle.std.proofs.Common.{arith}
-use Rattle.std.specs.Prelude.{FitsSigned, ◌*ℤ◌, int_rem}
+use Rattle.std.specs.Prelude.{FitsSigned}
 use Rattle.std.specs.Int.{w64}
 use Rattle.std.proofs.lemmas.Int.{ints, to_z-of_z}
 use Rattle.integer_core.proofs.GcdDomain.{gcd_fits_is}
@@ -20,6 +20,3 @@ answer-requires g c =
     let small = g.met.F.Form.small_law in
     let q : FitsSigned w64 c.gcd.result = omega (arith, ints) in
     simp to_z-of_z ((gcd_fits_is g.met.F.Form.form_law c.requires.self_in_range c.requires.other_in_range).0 c.requires.gcd_fits _ (rw (c.number.ensures.value, c.number-2.ensures.value) at (simp to_z-of_z at c.gcd.ensures.greatest)))
-
-pub returns-clause-in_range : goal.returns-clause-in_range
-returns-clause-in_range g c = g.met.F.Form.number_law _

@@ -1,5 +1,5 @@
 use Rattle.std.proofs.Common.{arith}
-use Rattle.std.specs.Prelude.{FitsSigned, ◌*ℤ◌, int_rem}
+use Rattle.std.specs.Prelude.{FitsSigned}
 use Rattle.std.specs.Int.{w64}
 use Rattle.std.proofs.lemmas.Int.{ints, rem_is}
 use Rattle.integer_core.proofs.Quotients.{remainder_within}
