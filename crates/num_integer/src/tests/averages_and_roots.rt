@@ -381,16 +381,20 @@ fn roots_at_the_bit_length(rt: HostRuntime) {
     }
 }
 
-/// The root of degree `n` of each number of a type from 0 up: the last number whose power is not
-/// above it.
+/// The root of degree `n` of each number of a type from 0 up: it is the same from one power to before
+/// the next.
 fn check_each_root<T: Roots + Tested>(rt: &impl Abort, n: u32) {
-    let mut root = 0i128;
-    for x in 0..=greatest::<T>(rt) {
-        let next = root.saturating_add(1);
-        if next.checked_pow(n).is_some_and(|power| power <= x) {
-            root = next;
+    let end = greatest::<T>(rt).saturating_add(1);
+    let mut power = 0i128;
+    for root in 0..end {
+        let next = root.saturating_add(1).checked_pow(n).unwrap_or(end);
+        for x in power..next.min(end) {
+            HasRoot(x, n, root).at::<T>(rt);
         }
-        HasRoot(x, n, root).at::<T>(rt);
+        if next >= end {
+            return;
+        }
+        power = next;
     }
 }
 
