@@ -12,3 +12,4 @@ pub mod QuotientDomain
 pub mod MultipleDomain
 pub mod CommonDomain
 pub mod Laws
+pub mod ForCallers

@@ -1,0 +1,109 @@
+-- The exact result of a fraction: its parts by the gcd with the sign of the denominator.
+use Rattle.std.specs.Prelude.{◌≡◌, ◌≢◌, ◌⊎◌, ◌≤◌, ◌<◌, ◌^◌, ◌<ℤ◌, ◌≤ℤ◌, ◌-ℤ◌, ◌*ℤ◌, ℤ, pos, negsuc, neg_ℤ, suc, unsigned_abs, int_div, FitsSigned}
+use Rattle.std.specs.Int.{w128}
+use Rattle.std.proofs.Common.{arith, refl, sym, inl, inr, ◌∙◌, lt_of_le_of_lt}
+use Rattle.std.proofs.Math.Nat.{div-le_self}
+use Rattle.std.proofs.lemmas.Int.{ints, fits_signed_from_abs}
+use Rattle.num_integer.proofs.ForCallers.{Divides-cancel, Divides-times, Divides-trans, cancel, exact_quotient, expand, gcd-nonzero, linear, mul-one, products}
+use Rattle.num_integer.proofs.Laws.{gcd_exists}
+use Rattle.num_integer.specs.Divisors.{Divides, IsGreatestCommonDivisor}
+use Rattle.ratio64.specs.Fraction.{AreEqual, IsExact, IsFraction}
+use Rattle.ratio64.specs.ReducedPairs.{same_pair}
+
+-- ---- it exists
+
+-- g with the sign of b
+pub record IsSigned (b g s : ℤ) : Type 0 where
+  pub sign : ((b <ℤ pos 0) × (s ≡ neg_ℤ g)) ⊎ ((pos 0 ≤ℤ b) × (s ≡ g))
+
+signed_divides : {b g s : ℤ} → IsSigned b g s → Divides g s × Divides s g
+signed_divides {b} {g} {s} h = elim h.sign [
+  | inl below ↦
+      (record { factor = negsuc 0; product = omega (arith, products) }, record { factor = negsuc 0; product = omega (arith, products) })
+  | inr up ↦
+      (record { factor = pos 1; product = omega (arith, products) }, record { factor = pos 1; product = omega (arith, products) })
+]
+
+-- what is left of two numbers by their gcd has 1 in common
+coprime_parts : {a b g s p q : ℤ} → s ≢ pos 0 → IsGreatestCommonDivisor a b g → Divides g s → a ≡ s *ℤ p → b ≡ s *ℤ q → IsGreatestCommonDivisor p q (pos 1)
+coprime_parts {a} {b} {g} {s} {p} {q} nonzero x h e f = record {
+  non_negative = omega (arith, ints);
+  divides_left = record { factor = p; product = omega (arith, products) };
+  divides_right = record { factor = q; product = omega (arith, products) };
+  greatest = λ d left right.
+      let onto_left : Divides (s *ℤ d) a = rw e (Divides-times s left) in
+      let onto_right : Divides (s *ℤ d) b = rw f (Divides-times s right) in
+      let whole : Divides (s *ℤ d) (s *ℤ pos 1) = rw (mul-one s) (Divides-trans (x.greatest (s *ℤ d) onto_left onto_right) h) in
+      Divides-cancel s nonzero whole;
+}
+
+-- and it is an equal fraction
+equal_parts : {a b p q : ℤ} (s : ℤ) → a ≡ s *ℤ p → b ≡ s *ℤ q → AreEqual a b p q
+equal_parts s e f = record { cross = rw (e, f) (simp expand) }
+
+-- b by a number of its sign is above 0
+positive_quotient : (b g s q : ℤ) → b ≢ pos 0 → pos 0 ≤ℤ g → IsSigned b g s → b ≡ s *ℤ q → pos 0 <ℤ q
+positive_quotient b g s q nonzero up h e = elim h.sign [
+  | inl below ↦ grind (arith, products)
+  | inr above ↦ grind (arith, products)
+]
+
+pub exact_quotients : {a b g s : ℤ} → IsFraction a b → IsGreatestCommonDivisor a b g → IsSigned b g s → (s ≢ pos 0) × IsExact a b (int_div a s) (int_div b s)
+exact_quotients {a} {b} {g} {s} fraction x h =
+    let g_nonzero = gcd-nonzero x fraction in
+    let nonzero : s ≢ pos 0 = let sign = h.sign in omega (arith, linear) in
+    let divides = signed_divides h in
+    let left = exact_quotient nonzero (Divides-trans divides.1 x.divides_left) in
+    let right = exact_quotient nonzero (Divides-trans divides.1 x.divides_right) in (
+      nonzero,
+      record {
+        fraction = fraction;
+        reduced = record {
+          positive = positive_quotient b g s _ fraction x.non_negative h right;
+          lowest = coprime_parts nonzero x divides.0 left right;
+        };
+        equal = equal_parts s left right;
+      },
+    )
+
+pub exact_result_exists : (a b : ℤ) → IsFraction a b → (num den : ℤ) × IsExact a b num den
+exact_result_exists a b fraction =
+    let g = gcd_exists a b in
+    let s = signed b g.0 in
+    (int_div a s.0, int_div b s.0, (exact_quotients fraction g.1 s.1).1)
+  where
+    signed : (b g : ℤ) → (s : ℤ) × IsSigned b g s
+    signed (pos b) g = (g, record { sign = inr (omega (arith, ints), refl) })
+    signed (negsuc b) g = (neg_ℤ g, record { sign = inl (omega (arith, ints), refl) })
+
+-- ---- and there is only one
+
+-- fractions that are equal to one are equal
+equal_through : {a b c d e f : ℤ} → IsFraction a b → AreEqual a b c d → AreEqual a b e f → AreEqual c d e f
+equal_through {a} {b} {c} {d} {e} {f} fraction h k =
+    let left : b *ℤ (c *ℤ f) ≡ (a *ℤ d) *ℤ f = rw h.cross (simp expand) in
+    let right : (a *ℤ f) *ℤ d ≡ b *ℤ (e *ℤ d) = rw k.cross (simp expand) in
+    let swap : (a *ℤ d) *ℤ f ≡ (a *ℤ f) *ℤ d = simp expand in
+    record { cross = cancel b (c *ℤ f) (e *ℤ d) fraction (left ∙ swap ∙ right) }
+
+pub only_exact_result : {a b p q r s : ℤ} → IsExact a b p q → IsExact a b r s → (p ≡ r) × (q ≡ s)
+only_exact_result x y = same_pair x.reduced y.reduced (equal_through x.fraction x.equal y.equal)
+
+pub same_result : {a b c d p q : ℤ} → IsFraction c d → AreEqual a b c d → IsExact a b p q → IsExact c d p q
+same_result fraction e x = record { fraction = fraction; reduced = x.reduced; equal = equal_through x.fraction e x.equal }
+
+-- ---- where its parts fit
+
+-- a quotient is no wider than its dividend
+quotient_small : (n d : ℤ) → unsigned_abs (int_div n d) ≤ unsigned_abs n
+quotient_small (pos n) (pos d) = let h = div-le_self n d in omega (arith, ints)
+quotient_small (pos n) (negsuc d) = let h = div-le_self n (suc d) in omega (arith, ints)
+quotient_small (negsuc n) (pos d) = let h = div-le_self (suc n) d in omega (arith, ints)
+quotient_small (negsuc n) (negsuc d) = let h = div-le_self (suc n) (suc d) in omega (arith, ints)
+
+pub quotient_fits : (n d : ℤ) → unsigned_abs n < 2 ^ 127 → FitsSigned w128 (int_div n d)
+quotient_fits n d h = fits_signed_from_abs w128 (int_div n d) (lt_of_le_of_lt (quotient_small n d) h)
+
+pub negated_fits : (g : ℤ) → FitsSigned w128 g → pos 0 ≤ℤ g → FitsSigned w128 (pos 0 -ℤ g)
+negated_fits (pos g) h up = let low = h.sfits in fits_signed_from_abs w128 (pos 0 -ℤ pos g) (omega (arith, ints))
+negated_fits (negsuc g) h up = absurd (omega (arith, ints))

@@ -1,0 +1,29 @@
+-- The laws of specs/Laws.antt, a lemma each.
+use Rattle.std.specs.Prelude.{ℤ}
+use Rattle.std.proofs.Common.{refl}
+use Rattle.ratio64.proofs.ExactResults as results
+use Rattle.ratio64.specs.FractionOrder as order
+use Rattle.ratio64.specs.Laws.{EqualFractionsHaveOneResult, ExactResultExists, ExactResultIsOnly, OrderAgreesWithEquality, OrderIsTotal, ReducedPairsAreEqualWhereSame}
+use Rattle.ratio64.specs.ReducedPairs.{equal_where_same}
+
+-- ---- reduced pairs
+
+pub exact_result_exists : ExactResultExists
+exact_result_exists = results.exact_result_exists
+
+pub exact_result_is_only : ExactResultIsOnly
+exact_result_is_only = λ a b num den x. λ (n, d) other. let same = results.only_exact_result other x in rw (same.0, same.1) refl
+
+pub equal_fractions_have_one_result : EqualFractionsHaveOneResult
+equal_fractions_have_one_result = λ a b c d num den. results.same_result
+
+pub reduced_pairs_are_equal_where_same : ReducedPairsAreEqualWhereSame
+reduced_pairs_are_equal_where_same = λ a b c d. equal_where_same
+
+-- ---- the order
+
+pub order_is_total : OrderIsTotal
+order_is_total = order.order_is_total
+
+pub order_agrees_with_equality : OrderAgreesWithEquality
+order_agrees_with_equality = order.order_agrees_with_equality

@@ -1,0 +1,3 @@
+pub mod ExactResults
+pub mod FractionAnswers
+pub mod Laws

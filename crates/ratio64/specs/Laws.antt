@@ -1,0 +1,34 @@
+-- The laws of fractions. Each is proved in proofs/Laws.antt, by a lemma of its name in small letters.
+use Rattle.std.specs.Prelude.{◌≡◌, ◌↔◌, ◌<ℤ◌, ℤ, pos}
+use Rattle.std.specs.Cmp.{IsTotalOrder}
+use Rattle.std.specs.declared.cmp.Ordering.TheVariants.{Equal}
+use Rattle.num_integer.specs.Only.{IsOnly}
+use Rattle.ratio64.specs.Fraction.{AreEqual, IsExact, IsFraction, IsReduced, fraction_cmp}
+
+-- ---- reduced pairs
+
+-- each fraction has an exact result
+abbrev pub ExactResultExists : Type 0
+ExactResultExists = (a b : ℤ) → IsFraction a b → (num den : ℤ) × IsExact a b num den
+
+-- and only one
+abbrev pub ExactResultIsOnly : Type 0
+ExactResultIsOnly = (a b num den : ℤ) → IsExact a b num den → IsOnly (λ (n, d). IsExact a b n d) (num, den)
+
+-- equal fractions have the same one
+abbrev pub EqualFractionsHaveOneResult : Type 0
+EqualFractionsHaveOneResult = (a b c d num den : ℤ) → IsFraction c d → AreEqual a b c d → IsExact a b num den → IsExact c d num den
+
+-- reduced pairs are equal fractions just where they are the same pair
+abbrev pub ReducedPairsAreEqualWhereSame : Type 0
+ReducedPairsAreEqualWhereSame = (a b c d : ℤ) → IsReduced a b → IsReduced c d → AreEqual a b c d ↔ ((a ≡ c) × (b ≡ d))
+
+-- ---- the order
+
+-- fractions whose denominators are above 0 are in a total order
+abbrev pub OrderIsTotal : Type 1
+OrderIsTotal = (K : Type 0) (num den : K → ℤ) → ((x : K) → pos 0 <ℤ den x) → IsTotalOrder (λ x y. fraction_cmp (num x) (den x) (num y) (den y))
+
+-- in which two are level just where they are equal
+abbrev pub OrderAgreesWithEquality : Type 0
+OrderAgreesWithEquality = (a b c d : ℤ) → (fraction_cmp a b c d ≡ Equal) ↔ AreEqual a b c d

@@ -1,0 +1,25 @@
+-- What is seen of a ratio, and what the calls that make one answer.
+use Rattle.std.specs.Prelude.{◌≡◌, ◌↔◌, ◌++◌, ℤ, ℕ, List, codes, pos, Result, Err, IfOk, if◌then◌else◌}
+use Rattle.std.specs.Fmt.{signed_decimal}
+use Rattle.std.specs.Ordering.{int_eq}
+use Rattle.ratio64.specs.Fraction.{IsExact, IsTooWide}
+use Rattle.ratio64.specs.declared.fraction.Ratio.{Ratio}
+use Rattle.ratio64.specs.declared.error.RatioError.{RatioError}
+use Rattle.ratio64.specs.declared.error.RatioError.TheVariants.{ZeroDenominator, NotFitting}
+
+-- its parts
+abbrev pub num_of : Ratio → ℤ
+num_of x = x.num
+
+abbrev pub den_of : Ratio → ℤ
+den_of x = x.den
+
+-- the answer of a call whose result is a/b: its exact result, or the refusal whose condition holds
+pub record AnswersFraction (a b : ℤ) (result : Result Ratio RatioError) : Type 0 where
+  pub exact : IfOk result (λ x. IsExact a b (num_of x) (den_of x))
+  pub zero_denominator : (result ≡ Err ZeroDenominator) ↔ (b ≡ pos 0)
+  pub not_fitting : (result ≡ Err NotFitting) ↔ IsTooWide a b
+
+-- its text: the numerator, and the denominator after a slash where it is not 1
+abbrev pub text_of : Ratio → List ℕ
+text_of x = if int_eq (den_of x) (pos 1) then signed_decimal (num_of x) else signed_decimal (num_of x) ++ codes "/" ++ signed_decimal (den_of x)

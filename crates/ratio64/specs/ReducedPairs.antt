@@ -1,0 +1,61 @@
+-- Reduced pairs: being one has one proof, and equal ones are the same. The invariant and the order of
+-- `Ratio` cite these lemmas.
+use Rattle.std.specs.Prelude.{◌≡◌, ◌≢◌, ◌↔◌, ◌<ℤ◌, ◌≤ℤ◌, ◌*ℤ◌, ℤ, pos}
+use Rattle.std.proofs.Common.{arith, refl, sym, ap, ◌∙◌}
+use Rattle.std.proofs.Props.{props}
+use mathlib.Core.HLevel.{is_prop→PathP}
+use lib.IntN.{ℤ_set}
+use Rattle.num_integer.proofs.ForCallers.{Divides-antisym, cancel, comm, gcd-times, linear, mul-one, products}
+use Rattle.num_integer.specs.Divisors.{Divides, IsGreatestCommonDivisor}
+use Rattle.ratio64.specs.Fraction.{AreEqual, IsReduced}
+
+-- ---- one proof
+
+one_factor : {u v : ℤ} → u ≢ pos 0 → IsProp (Divides u v)
+one_factor {u} {v} nonzero x y =
+    let same : x.factor ≡ y.factor = cancel u x.factor y.factor nonzero (sym x.product ∙ y.product) in
+    λ i. record { factor = same i; product = is_prop→PathP (λ i. v ≡ u *ℤ same i) (λ i. ℤ_set v (u *ℤ same i)) x.product y.product i }
+
+divides_one : {d : ℤ} → Divides d (pos 1) → d ≢ pos 0
+divides_one h none = let product = rw none at h.product in absurd (omega (arith, products))
+
+one_is_not_zero : pos 1 ≢ pos 0
+one_is_not_zero e = absurd (omega (arith, linear))
+
+gcd_one-prop : (a b : ℤ) → IsProp (IsGreatestCommonDivisor a b (pos 1))
+gcd_one-prop a b x y =
+    let up : IsProp (pos 0 ≤ℤ pos 1) = hlevel props in
+    λ i. record {
+      non_negative = up x.non_negative y.non_negative i;
+      divides_left = one_factor one_is_not_zero x.divides_left y.divides_left i;
+      divides_right = one_factor one_is_not_zero x.divides_right y.divides_right i;
+      greatest = λ d h k. one_factor (divides_one (x.greatest d h k)) (x.greatest d h k) (y.greatest d h k) i;
+    }
+
+pub IsReduced-prop : (num den : ℤ) → IsProp (IsReduced num den)
+IsReduced-prop num den x y =
+    let up : IsProp (pos 0 <ℤ den) = hlevel props in
+    λ i. record { positive = up x.positive y.positive i; lowest = gcd_one-prop num den x.lowest y.lowest i }
+
+-- ---- the same pair
+
+positive_is_nonzero : {z : ℤ} → pos 0 <ℤ z → z ≢ pos 0
+positive_is_nonzero up none = absurd (omega (arith, linear))
+
+-- the denominator of a reduced pair divides that of each equal fraction
+denominator_divides : {a b c d : ℤ} → IsReduced a b → pos 0 ≤ℤ d → AreEqual a b c d → Divides b d
+denominator_divides {a} {b} {c} {d} x up e =
+    let times : Divides b (d *ℤ pos 1) = (gcd-times d up x.lowest).greatest b
+    (record { factor = c; product = comm d a ∙ e.cross ∙ comm c b })
+    (record { factor = d; product = comm d b }) in
+    rw (mul-one d) at times
+
+pub same_pair : {a b c d : ℤ} → IsReduced a b → IsReduced c d → AreEqual a b c d → (a ≡ c) × (b ≡ d)
+same_pair {a} {b} {c} {d} x y e =
+    let left : pos 0 ≤ℤ b = omega (arith, linear) in
+    let right : pos 0 ≤ℤ d = omega (arith, linear) in
+    let dens : b ≡ d = Divides-antisym left right (denominator_divides x right e) (denominator_divides y left (record { cross = sym e.cross })) in
+    (cancel d a c (positive_is_nonzero y.positive) (comm d a ∙ e.cross ∙ ap (λ (t : ℤ). c *ℤ t) dens ∙ comm c d), dens)
+
+pub equal_where_same : {a b c d : ℤ} → IsReduced a b → IsReduced c d → AreEqual a b c d ↔ ((a ≡ c) × (b ≡ d))
+equal_where_same x y = (same_pair x y, λ same. record { cross = rw (same.0, same.1) refl })

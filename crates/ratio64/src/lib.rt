@@ -1,0 +1,14 @@
+//! Exact fractions whose parts are 64-bit numbers, always reduced.
+#![tactic(auto)]
+
+mod error;
+mod fraction;
+mod order;
+mod products;
+mod reduction;
+#[cfg(test)]
+mod tests;
+mod text;
+
+pub use error::RatioError;
+pub use fraction::Ratio;

@@ -1,0 +1,29 @@
+//! The lowest terms of a fraction of wide parts.
+
+ghost use Rattle.std.specs.Prelude.{◌≡◌, ◌<◌, ◌^◌, unsigned_abs, FitsSigned, MatchResult};
+ghost use Rattle.std.specs.Int.{w64, w128};
+ghost use Rattle.ratio64.specs.Fraction.{IsFraction, IsExact};
+
+use crate::RatioError;
+use num_integer::gcd;
+
+/// The fraction with both parts divided by their greatest common divisor, and with `den` above 0.
+pub(crate) fn lowest_terms(num: i128, den: i128) -> (i128, i128)
+    requires num_below { unsigned_abs num < 2 ^ 127 }
+    requires den_below { unsigned_abs den < 2 ^ 127 }
+    requires fraction { IsFraction num den }
+    ensures in_range { FitsSigned w128 result.0 × FitsSigned w128 result.1 }
+    ensures exact { IsExact num den result.0 result.1 }
+{
+    let common = gcd(num, den);
+    let divisor = if den < 0 { -common } else { common };
+    (num / divisor, den / divisor)
+}
+
+/// The number as a part of a fraction.
+pub(crate) fn part(number: i128) -> Result<i64, RatioError>
+    ensures { MatchResult result (λ n. (n ≡ number) × FitsSigned w64 number)
+        (λ e. (e ≡ RatioError.NotFitting) × (¬ (FitsSigned w64 number))) }
+{
+    i64::try_from(number).map_err(|_| RatioError::NotFitting)
+}
