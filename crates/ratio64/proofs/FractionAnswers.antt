@@ -9,13 +9,6 @@ use Rattle.ratio64.specs.declared.fraction.Ratio.{Ratio}
 use Rattle.ratio64.specs.declared.error.RatioError.{RatioError}
 use Rattle.ratio64.specs.declared.error.RatioError.TheVariants.{ZeroDenominator, NotFitting}
 
-pub zero_answer : {a b : ℤ} → b ≡ pos 0 → AnswersFraction a b (Err ZeroDenominator)
-zero_answer none = record {
-  exact = tt;
-  zero_denominator = (λ _. none, λ _. refl);
-  not_fitting = (λ e. absurd cc, λ wide. absurd (wide.exact.fraction none));
-}
-
 pub wide_answer : {a b p q : ℤ} → IsExact a b p q → (¬ (FitsSigned w64 p)) ⊎ (¬ (FitsSigned w64 q)) → AnswersFraction a b (Err NotFitting)
 wide_answer x outside = record {
   exact = tt;

@@ -1,0 +1,61 @@
+//! What callers learn of the calls from their contracts alone, each said by a contract of its own.
+
+ghost use Rattle.std.specs.Prelude.{◌≡◌, ◌↔◌, ◌<ℤ◌, ◌*ℤ◌, IsTrue, MatchOption};
+ghost use Rattle.ratio64.specs.Fraction.{AreEqual, IsExact, IsFraction, IsReduced, IsTooWide, fraction_cmp};
+ghost use Rattle.ratio64.specs.Ratio.{num_of, den_of};
+
+use crate::Ratio;
+use std::cmp::Ordering;
+use std::hash::{Hash, Hasher};
+
+/// The parts of the exact result, or `None` where one of them is too wide.
+fn exact_parts(num: i64, den: i64) -> Option<(i64, i64)>
+    requires { IsFraction num den }
+    ensures { MatchOption result (IsTooWide num den) (λ p. IsExact num den p.0 p.1) }
+{
+    match Ratio::new(num, den) {
+        Ok(x) => Some((x.num(), x.den())),
+        Err(_) => None,
+    }
+}
+
+/// Each value is reduced.
+fn reduced_parts(x: &Ratio) -> (i64, i64)
+    ensures { IsReduced result.0 result.1 }
+{
+    (x.num(), x.den())
+}
+
+/// Two values are equal where their fractions are.
+fn are_equal(x: &Ratio, y: &Ratio) -> bool
+    ensures { IsTrue result
+        ↔ AreEqual (num_of x.now) (den_of x.now) (num_of y.now) (den_of y.now) }
+{
+    x == y
+}
+
+/// Two values compare as their fractions do.
+fn compared(x: &Ratio, y: &Ratio) -> Ordering
+    ensures { result
+        ≡ fraction_cmp (num_of x.now) (den_of x.now) (num_of y.now) (den_of y.now) }
+{
+    x.cmp(y)
+}
+
+/// Whether the first is the smaller.
+fn is_less(x: &Ratio, y: &Ratio) -> bool
+    ensures { IsTrue result
+        ↔ ((num_of x.now *ℤ den_of y.now) <ℤ (num_of y.now *ℤ den_of x.now)) }
+{
+    x < y
+}
+
+/// Equal values change a hasher alike.
+fn hash_both<H: Hasher>(x: &Ratio, y: &Ratio, first: &mut H, second: &mut H)
+    requires equal { AreEqual (num_of x.now) (den_of x.now) (num_of y.now) (den_of y.now) }
+    requires same { first.old ≡ second.old }
+    ensures { first.new ≡ second.new }
+{
+    x.hash(first);
+    y.hash(second);
+}
