@@ -5,3 +5,7 @@ pub mod Ratio
 -- lemmas that the invariant and the order of `Ratio` cite
 pub mod ReducedPairs
 pub mod FractionOrder
+-- what the clauses cite of the crate below
+pub use Rattle.num_integer.specs.Division
+pub use Rattle.num_integer.specs.Divisors
+pub use Rattle.num_integer.specs.Only
