@@ -1,7 +1,7 @@
 -- The exact result of a fraction: its parts by the gcd with the sign of the denominator.
 use Rattle.std.specs.Prelude.{◌≡◌, ◌≢◌, ◌⊎◌, ◌≤◌, ◌<◌, ◌^◌, ◌<ℤ◌, ◌≤ℤ◌, ◌-ℤ◌, ◌*ℤ◌, ℤ, pos, negsuc, neg_ℤ, suc, unsigned_abs, int_div, FitsSigned}
 use Rattle.std.specs.Int.{w128}
-use Rattle.std.proofs.Common.{arith, refl, sym, inl, inr, ◌∙◌, lt_of_le_of_lt}
+use Rattle.std.proofs.Common.{arith, refl, inl, inr, ◌∙◌, lt_of_le_of_lt}
 use Rattle.std.proofs.Math.Nat.{div-le_self}
 use Rattle.std.proofs.lemmas.Int.{ints, fits_signed_from_abs}
 use Rattle.num_integer.proofs.ForCallers.{Divides-cancel, Divides-times, Divides-trans, cancel, exact_quotient, expand, gcd-nonzero, linear, mul-one, products}
@@ -16,6 +16,7 @@ use Rattle.ratio64.specs.ReducedPairs.{same_pair}
 pub record IsSigned (b g s : ℤ) : Type 0 where
   pub sign : ((b <ℤ pos 0) × (s ≡ neg_ℤ g)) ⊎ ((pos 0 ≤ℤ b) × (s ≡ g))
 
+-- it has the divisors and the multiples of g
 signed_divides : {b g s : ℤ} → IsSigned b g s → Divides g s × Divides s g
 signed_divides {b} {g} {s} h = elim h.sign [
   | inl below ↦
@@ -48,29 +49,28 @@ positive_quotient b g s q nonzero up h e = elim h.sign [
   | inr above ↦ grind (arith, products)
 ]
 
-pub exact_quotients : {a b g s : ℤ} → IsFraction a b → IsGreatestCommonDivisor a b g → IsSigned b g s → (s ≢ pos 0) × IsExact a b (int_div a s) (int_div b s)
+-- the quotients of both parts by it are the exact result
+pub exact_quotients : {a b g s : ℤ} → IsFraction a b → IsGreatestCommonDivisor a b g → IsSigned b g s → IsExact a b (int_div a s) (int_div b s)
 exact_quotients {a} {b} {g} {s} fraction x h =
     let g_nonzero = gcd-nonzero x fraction in
     let nonzero : s ≢ pos 0 = let sign = h.sign in omega (arith, linear) in
     let divides = signed_divides h in
     let left = exact_quotient nonzero (Divides-trans divides.1 x.divides_left) in
-    let right = exact_quotient nonzero (Divides-trans divides.1 x.divides_right) in (
-      nonzero,
-      record {
-        fraction = fraction;
-        reduced = record {
-          positive = positive_quotient b g s _ fraction x.non_negative h right;
-          lowest = coprime_parts nonzero x divides.0 left right;
-        };
-        equal = equal_parts s left right;
-      },
-    )
+    let right = exact_quotient nonzero (Divides-trans divides.1 x.divides_right) in
+    record {
+      fraction = fraction;
+      reduced = record {
+        positive = positive_quotient b g s _ fraction x.non_negative h right;
+        lowest = coprime_parts nonzero x divides.0 left right;
+      };
+      equal = equal_parts s left right;
+    }
 
 pub exact_result_exists : (a b : ℤ) → IsFraction a b → (num den : ℤ) × IsExact a b num den
 exact_result_exists a b fraction =
     let g = gcd_exists a b in
     let s = signed b g.0 in
-    (int_div a s.0, int_div b s.0, (exact_quotients fraction g.1 s.1).1)
+    (int_div a s.0, int_div b s.0, exact_quotients fraction g.1 s.1)
   where
     signed : (b g : ℤ) → (s : ℤ) × IsSigned b g s
     signed (pos b) g = (g, record { sign = inr (omega (arith, ints), refl) })
@@ -89,6 +89,7 @@ equal_through {a} {b} {c} {d} {e} {f} fraction h k =
 pub only_exact_result : {a b p q r s : ℤ} → IsExact a b p q → IsExact a b r s → (p ≡ r) × (q ≡ s)
 only_exact_result x y = same_pair x.reduced y.reduced (equal_through x.fraction x.equal y.equal)
 
+-- equal fractions have the same
 pub same_result : {a b c d p q : ℤ} → IsFraction c d → AreEqual a b c d → IsExact a b p q → IsExact c d p q
 same_result fraction e x = record { fraction = fraction; reduced = x.reduced; equal = equal_through x.fraction e x.equal }
 

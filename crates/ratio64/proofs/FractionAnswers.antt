@@ -1,13 +1,12 @@
 -- The answers to a fraction: its exact result, or a refusal.
-use Rattle.std.specs.Prelude.{◌≡◌, ◌⊎◌, ℤ, pos, Result, Ok, Err, FitsSigned}
+use Rattle.std.specs.Prelude.{◌≡◌, ◌⊎◌, ℤ, Ok, Err, FitsSigned}
 use Rattle.std.specs.Int.{w64}
-use Rattle.std.proofs.Common.{rules, inl, inr, refl, subst}
+use Rattle.std.proofs.Common.{inl, inr, refl, subst}
 use Rattle.ratio64.proofs.ExactResults.{only_exact_result}
 use Rattle.ratio64.specs.Fraction.{IsExact}
 use Rattle.ratio64.specs.Ratio.{AnswersFraction, num_of, den_of}
 use Rattle.ratio64.specs.declared.fraction.Ratio.{Ratio}
-use Rattle.ratio64.specs.declared.error.RatioError.{RatioError}
-use Rattle.ratio64.specs.declared.error.RatioError.TheVariants.{ZeroDenominator, NotFitting}
+use Rattle.ratio64.specs.declared.error.RatioError.TheVariants.{NotFitting}
 
 pub wide_answer : {a b p q : ℤ} → IsExact a b p q → (¬ (FitsSigned w64 p)) ⊎ (¬ (FitsSigned w64 q)) → AnswersFraction a b (Err NotFitting)
 wide_answer x outside = record {

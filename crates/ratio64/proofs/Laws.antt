@@ -1,5 +1,4 @@
 -- The laws of specs/Laws.antt, a lemma each.
-use Rattle.std.specs.Prelude.{ℤ}
 use Rattle.std.proofs.Common.{refl}
 use Rattle.ratio64.proofs.ExactResults as results
 use Rattle.ratio64.specs.FractionOrder as order

@@ -1,7 +1,7 @@
 -- The order of fractions, whose laws the order of `Ratio` cites.
 use Rattle.std.specs.Prelude.{◌≡◌, ◌<ℤ◌, ◌-ℤ◌, ◌*ℤ◌, ◌&&◌, ℤ, pos, negsuc, zero, suc}
 use Rattle.std.specs.Bool.{Decides, one_answer}
-use Rattle.std.specs.Cmp.{Equal-is, IsTotalOrder, int_cmp_is, int_cmp_total, int_ranked}
+use Rattle.std.specs.Cmp.{Equal-is, int_cmp_is, int_cmp_total, int_ranked}
 use Rattle.std.specs.Ordering.{MatchOrdering, int_cmp, int_eq, is_eq}
 use Rattle.std.specs.declared.cmp.Ordering.{Ordering}
 use Rattle.std.specs.declared.cmp.Ordering.TheVariants.{Equal, Greater, Less}
@@ -9,7 +9,7 @@ use Rattle.std.proofs.Common.{arith, refl, sym, ap, ◌∙◌}
 use Rattle.std.proofs.lemmas.Bool.Decides.{Decides-and, Decides-int_eq}
 use Rattle.std.proofs.lemmas.Int.{ints}
 use Rattle.num_integer.proofs.ForCallers.{dist-left, expand, linear, mul-neg}
-use Rattle.ratio64.specs.Fraction.{AreEqual, IsReduced, fraction_cmp}
+use Rattle.ratio64.specs.Fraction.{IsReduced, fraction_cmp}
 use Rattle.ratio64.specs.Laws.{OrderAgreesWithEquality, OrderIsTotal}
 use Rattle.ratio64.specs.ReducedPairs.{same_pair}
 

@@ -11,11 +11,13 @@ use Rattle.ratio64.specs.Fraction.{AreEqual, IsReduced}
 
 -- ---- one proof
 
+-- by a number but 0 there is one factor
 one_factor : {u v : ℤ} → u ≢ pos 0 → IsProp (Divides u v)
 one_factor {u} {v} nonzero x y =
     let same : x.factor ≡ y.factor = cancel u x.factor y.factor nonzero (sym x.product ∙ y.product) in
     λ i. record { factor = same i; product = is_prop→PathP (λ i. v ≡ u *ℤ same i) (λ i. ℤ_set v (u *ℤ same i)) x.product y.product i }
 
+-- a divisor of 1 is not 0
 divides_one : {d : ℤ} → Divides d (pos 1) → d ≢ pos 0
 divides_one h none = let product = rw none at h.product in absurd (omega (arith, products))
 
@@ -50,6 +52,7 @@ denominator_divides {a} {b} {c} {d} x up e =
     (record { factor = d; product = comm d b }) in
     rw (mul-one d) at times
 
+-- reduced pairs that are equal fractions are the same pair
 pub same_pair : {a b c d : ℤ} → IsReduced a b → IsReduced c d → AreEqual a b c d → (a ≡ c) × (b ≡ d)
 same_pair {a} {b} {c} {d} x y e =
     let left : pos 0 ≤ℤ b = omega (arith, linear) in
@@ -57,5 +60,6 @@ same_pair {a} {b} {c} {d} x y e =
     let dens : b ≡ d = Divides-antisym left right (denominator_divides x right e) (denominator_divides y left (record { cross = sym e.cross })) in
     (cancel d a c (positive_is_nonzero y.positive) (comm d a ∙ e.cross ∙ ap (λ (t : ℤ). c *ℤ t) dens ∙ comm c d), dens)
 
+-- and the other way round
 pub equal_where_same : {a b c d : ℤ} → IsReduced a b → IsReduced c d → AreEqual a b c d ↔ ((a ≡ c) × (b ≡ d))
 equal_where_same x y = (same_pair x y, λ same. record { cross = rw (same.0, same.1) refl })

@@ -149,9 +149,16 @@ fn ascending(rt: HostRuntime) {
     for (i, (a, b)) in ASCENDING.iter().enumerate() {
         for (j, (c, d)) in ASCENDING.iter().enumerate() {
             let (x, y) = (ratio(&rt, *a, *b), ratio(&rt, *c, *d));
-            assert_eq!(rt; x.cmp(&y), i.cmp(&j), "{a} over {b}, {c} over {d}");
+            let found = (x.cmp(&y), x < y);
+            assert!(rt; found == (i.cmp(&j), i < j), "{a} over {b}, {c} over {d}");
         }
     }
+}
+
+#[test]
+fn equal_fractions(rt: HostRuntime) {
+    let (x, y) = (ratio(&rt, 2, 4), ratio(&rt, -1, -2));
+    assert!(rt; x == y && hash_of(&x) == hash_of(&y));
 }
 
 #[test]

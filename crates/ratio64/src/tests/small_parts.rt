@@ -1,4 +1,4 @@
-//! Each fraction whose parts lie from -12 to 12, and each pair of them, against cross multiplication.
+//! Fractions of small parts, and each pair of them, against cross multiplication.
 
 use super::{hash_of, parts, ratio};
 use crate::Ratio;

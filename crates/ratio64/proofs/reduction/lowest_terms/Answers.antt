@@ -29,5 +29,5 @@ returns c =
     let den = to_z-of_z w128 _ den_fits in
     record {
       in_range = rw (a, b, num, den) (num_fits, den_fits);
-      exact = rw (a, b, num, den) (exact_quotients c.requires.fraction greatest signed).1;
+      exact = rw (a, b, num, den) (exact_quotients c.requires.fraction greatest signed);
     }

@@ -1,5 +1,5 @@
 use Rattle.std.specs.Int.{w64, w128}
-use Rattle.std.proofs.Common.{inl, inr, refl}
+use Rattle.std.proofs.Common.{inl, inr}
 use Rattle.std.proofs.lemmas.Int.{to_z-of_z}
 use Rattle.std.proofs.lemmas.Result.{err_from_is_err_and}
 use Rattle.ratio64.proofs.FractionAnswers.{wide_answer, exact_answer}
