@@ -1,8 +1,9 @@
 -- The laws of specs/Laws.antt, a lemma each.
 use Rattle.std.proofs.Common.{refl}
+use Rattle.ratio64.proofs.EqualFractions as equal
 use Rattle.ratio64.proofs.ExactResults as results
 use Rattle.ratio64.specs.FractionOrder as order
-use Rattle.ratio64.specs.Laws.{EqualFractionsHaveOneResult, ExactResultExists, ExactResultIsOnly, OrderAgreesWithEquality, OrderIsTotal, ReducedPairsAreEqualWhereSame}
+use Rattle.ratio64.specs.Laws.{EqualFractionsHaveOneResult, ExactResultExists, ExactResultIsOnly, OrderAgreesWithEquality, OrderIsTotal, ProductsOfEqualFractions, ReducedPairsAreEqualWhereSame, SumsOfEqualFractions}
 use Rattle.ratio64.specs.ReducedPairs.{equal_where_same}
 
 -- ---- reduced pairs
@@ -26,3 +27,11 @@ order_is_total = order.order_is_total
 
 pub order_agrees_with_equality : OrderAgreesWithEquality
 order_agrees_with_equality = order.order_agrees_with_equality
+
+-- ---- sums and products
+
+pub sums_of_equal_fractions : SumsOfEqualFractions
+sums_of_equal_fractions = equal.equal_sums
+
+pub products_of_equal_fractions : ProductsOfEqualFractions
+products_of_equal_fractions = equal.equal_products

@@ -1,3 +1,5 @@
 pub mod ExactResults
 pub mod FractionAnswers
 pub mod Laws
+pub mod WideSums
+pub mod EqualFractions

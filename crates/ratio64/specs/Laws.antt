@@ -1,5 +1,5 @@
 -- The laws of fractions. Each is proved in proofs/Laws.antt, by a lemma of its name in small letters.
-use Rattle.std.specs.Prelude.{◌≡◌, ◌↔◌, ◌<ℤ◌, ℤ, pos}
+use Rattle.std.specs.Prelude.{◌≡◌, ◌↔◌, ◌<ℤ◌, ◌+ℤ◌, ◌*ℤ◌, ℤ, pos}
 use Rattle.std.specs.Cmp.{IsTotalOrder}
 use Rattle.std.specs.declared.cmp.Ordering.TheVariants.{Equal}
 use Rattle.num_integer.specs.Only.{IsOnly}
@@ -32,3 +32,15 @@ OrderIsTotal = (K : Type 0) (num den : K → ℤ) → ((x : K) → pos 0 <ℤ de
 -- in which two are level just where they are equal
 abbrev pub OrderAgreesWithEquality : Type 0
 OrderAgreesWithEquality = (a b c d : ℤ) → (fraction_cmp a b c d ≡ Equal) ↔ AreEqual a b c d
+
+-- ---- sums and products
+
+-- equal fractions have equal sums
+abbrev pub SumsOfEqualFractions : Type 0
+SumsOfEqualFractions = (a b c d e f g h : ℤ) → AreEqual a b e f → AreEqual c d g h
+    → AreEqual (a *ℤ d +ℤ c *ℤ b) (b *ℤ d) (e *ℤ h +ℤ g *ℤ f) (f *ℤ h)
+
+-- and equal products
+abbrev pub ProductsOfEqualFractions : Type 0
+ProductsOfEqualFractions = (a b c d e f g h : ℤ) → AreEqual a b e f → AreEqual c d g h
+    → AreEqual (a *ℤ c) (b *ℤ d) (e *ℤ g) (f *ℤ h)

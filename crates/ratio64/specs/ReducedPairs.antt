@@ -41,7 +41,7 @@ IsReduced-prop num den x y =
 
 -- ---- the same pair
 
-positive_is_nonzero : {z : ℤ} → pos 0 <ℤ z → z ≢ pos 0
+pub positive_is_nonzero : {z : ℤ} → pos 0 <ℤ z → z ≢ pos 0
 positive_is_nonzero up none = absurd (omega (arith, linear))
 
 -- the denominator of a reduced pair divides that of each equal fraction

@@ -1,6 +1,7 @@
 //! Exact fractions whose parts are 64-bit numbers, always reduced.
 #![tactic(auto)]
 
+mod arithmetic;
 mod error;
 mod fraction;
 mod order;

@@ -1,6 +1,7 @@
 //! Worked values, the ends of `i64`, and each pair of fractions of small parts.
 
 mod callers;
+mod operations;
 mod small_parts;
 
 use crate::RatioError::{NotFitting, ZeroDenominator};

@@ -1,6 +1,6 @@
 //! What callers learn of the calls from their contracts alone, each said by a contract of its own.
 
-ghost use Rattle.std.specs.Prelude.{◌≡◌, ◌↔◌, ◌<ℤ◌, ◌*ℤ◌, IsTrue, MatchOption};
+ghost use Rattle.std.specs.Prelude.{◌≡◌, ◌↔◌, ◌<ℤ◌, ◌+ℤ◌, ◌*ℤ◌, IsTrue, MatchOption};
 ghost use Rattle.ratio64.specs.Fraction.{AreEqual, IsExact, IsFraction, IsReduced, IsTooWide, fraction_cmp};
 ghost use Rattle.ratio64.specs.Ratio.{num_of, den_of};
 
@@ -15,6 +15,20 @@ fn exact_parts(num: i64, den: i64) -> Option<(i64, i64)>
 {
     match Ratio::new(num, den) {
         Ok(x) => Some((x.num(), x.den())),
+        Err(_) => None,
+    }
+}
+
+/// The parts of a sum, or `None` where one of them is too wide.
+fn parts_of_sum(x: &Ratio, y: &Ratio) -> Option<(i64, i64)>
+    ensures { MatchOption result
+        (IsTooWide (num_of x.now *ℤ den_of y.now +ℤ num_of y.now *ℤ den_of x.now)
+        (den_of x.now *ℤ den_of y.now))
+        (λ p. IsExact (num_of x.now *ℤ den_of y.now +ℤ num_of y.now *ℤ den_of x.now)
+        (den_of x.now *ℤ den_of y.now) p.0 p.1) }
+{
+    match x.checked_add(y) {
+        Ok(sum) => Some((sum.num(), sum.den())),
         Err(_) => None,
     }
 }

@@ -1,8 +1,10 @@
-//! Fractions of small parts, and each pair of them, against cross multiplication.
+//! Fractions of small parts, each pair of them, and what the operations answer, against cross
+//! multiplication.
 
+use super::operations::Operation::{Add, Div, Mul, Sub};
 use super::{hash_of, parts, ratio};
-use crate::Ratio;
 use crate::RatioError::ZeroDenominator;
+use crate::{Ratio, RatioError};
 use std::cmp::Ordering;
 use std::process::Abort;
 
@@ -75,6 +77,34 @@ fn check_pair(rt: &impl Abort, (a, b): (i64, i64), (c, d): (i64, i64)) {
     );
 }
 
+/// Whether the answer is equal to the fraction of two numbers, or says that it is none.
+fn is_answer(answer: Result<Ratio, RatioError>, num: i128, den: i128) -> bool {
+    match answer {
+        Ok(x) => den != 0 && num.checked_mul(x.den().into()) == den.checked_mul(x.num().into()),
+        Err(refusal) => den == 0 && refusal == ZeroDenominator,
+    }
+}
+
+/// The answers are equal to the fractions that the definitions name.
+fn check_operations(rt: &impl Abort, (a, b): (i64, i64), (c, d): (i64, i64)) {
+    let (x, y) = (ratio(rt, a, b), ratio(rt, c, d));
+    let (left, right, below) = (product(a, d), product(c, b), product(b, d));
+    let sum = left.checked_add(right).expect(rt, "small numbers");
+    let difference = left.checked_sub(right).expect(rt, "small numbers");
+    for (operation, num, den) in [
+        (Add, sum, below),
+        (Sub, difference, below),
+        (Mul, product(a, c), below),
+        (Div, left, right),
+    ] {
+        let answer = operation.answer(&x, &y);
+        assert!(rt;
+            is_answer(answer, num, den),
+            "{operation:?} of {a}/{b} and {c}/{d}"
+        );
+    }
+}
+
 #[test]
 fn each_pair_of_fractions(rt: HostRuntime) {
     for a in -12..=12 {
@@ -84,6 +114,19 @@ fn each_pair_of_fractions(rt: HostRuntime) {
                     if b != 0 && d != 0 {
                         check_pair(&rt, (a, b), (c, d));
                     }
+                }
+            }
+        }
+    }
+}
+
+#[test]
+fn each_operation_of_fractions(rt: HostRuntime) {
+    for a in -5..=5 {
+        for b in 1..=5 {
+            for c in -5..=5 {
+                for d in 1..=5 {
+                    check_operations(&rt, (a, b), (c, d));
                 }
             }
         }
