@@ -64,7 +64,7 @@ impl<W: Write> Sink for Console<W> {
 
     ghost has_failed = { λ console. console.failed };
 
-    // At `None` the writer took no byte.
+    // At `None` a writer that tells its bytes took none.
     fn put(&mut self, bytes: &[u8]) -> Option<usize>
         ensures bound { IfSome result (λ n. n ≤ length bytes.now) }
         ensures progress { 0 < length bytes.now → IfSome result (λ n. 0 < n) }

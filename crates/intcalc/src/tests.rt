@@ -1,4 +1,4 @@
-//! What is printed, and what a sink that fails does.
+//! What is printed.
 
 ghost use Rattle.std.specs.Prelude.{◌≤◌, map};
 ghost use Rattle.num_integer.specs.Only.{IsOnly};
