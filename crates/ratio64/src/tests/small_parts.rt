@@ -120,15 +120,14 @@ fn each_pair_of_fractions(rt: HostRuntime) {
     }
 }
 
+/// Each fraction of parts from -6 to 6 has a denominator from 1 to 6.
 #[test]
 fn each_operation_of_fractions(rt: HostRuntime) {
     for a in -6..=6 {
-        for b in -6..=6 {
+        for b in 1..=6 {
             for c in -6..=6 {
-                for d in -6..=6 {
-                    if b != 0 && d != 0 {
-                        check_operations(&rt, (a, b), (c, d));
-                    }
+                for d in 1..=6 {
+                    check_operations(&rt, (a, b), (c, d));
                 }
             }
         }
