@@ -1,6 +1,7 @@
 //! Lawful types that the library does not know. `Percent` is written out in full, as an example of
 //! what a lawful type costs. The five others share all but the way in which they store a number.
 
+mod each_pair;
 mod form;
 mod forms;
 mod percent;

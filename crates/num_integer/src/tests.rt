@@ -12,12 +12,12 @@ pub(crate) mod coefficients;
 mod division;
 mod divisors;
 mod edges;
-mod ends;
+pub(crate) mod ends;
 mod exhaustive;
 mod gcd_turns;
 mod multiples;
 pub(crate) mod types;
-mod whole;
+pub(crate) mod whole;
 
 use crate::Fits;
 use std::process::Abort;

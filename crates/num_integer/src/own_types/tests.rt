@@ -175,6 +175,8 @@ fn numbers_stored_negated(rt: HostRuntime) {
     assert!(rt; Negated::ends() == (7, 7) && least.parts() == (true, 7));
     check_at(&rt, Type::Negated, &HasPair((7, 5), (1, -2, 3), 2));
     check_at(&rt, Type::Negated, &HasItems(4, 2, &[1, 4, 6, 4, 1]));
+    let items = [1, 8, 28, 56, 70, 56, 28, 8, 1];
+    check_at(&rt, Type::Marked, &HasItems(8, 4, &items));
 }
 
 /// Two values of one number are equal, whatever stands beside it.

@@ -238,7 +238,7 @@ fn roots_of_any_degree(rt: HostRuntime) {
 
 /// The root has the sign of the number, and of those whose power is no farther from 0 than the
 /// number it is the farthest from 0.
-pub(super) fn check_root<T: Roots + Tested>(rt: &impl Abort, x: i128, n: u32) {
+pub(crate) fn check_root<T: Roots + Tested>(rt: &impl Abort, x: i128, n: u32) {
     let number = number::<T>(rt, x);
     let root = root_of_degree(number, n).expect(rt, "the number has a root");
     match n {

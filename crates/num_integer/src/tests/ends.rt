@@ -68,7 +68,7 @@ impl Ends {
 }
 
 /// What the calls of one operand answer, and what the tests of the domains see of it.
-fn has_neighbours<T: Tested>(rt: &impl Abort, n: Whole) {
+pub(crate) fn has_neighbours<T: Tested>(rt: &impl Abort, n: Whole) {
     let x = value::<T>(rt, n);
     assert_eq!(rt; x.parts(), n);
     let even = n.1 % 2 == 0;
@@ -96,21 +96,21 @@ fn has_row<T: Tested>(rt: &impl Abort, n: Whole) {
     HasItems(number, number.max(0) / 2, items).at::<T>(rt);
 }
 
-/// The coefficient of `n` and `k` with its turns, where there are no more than two of them: of those
-/// at the ends of a type, no other fits.
+/// The coefficient of `n` and `k` by the product formula, and its turns: the distance to the nearer
+/// end of the row.
 fn coefficient(n: Whole, k: Whole) -> Option<(u128, u32)> {
     if n.0 || k.0 {
         return None;
     }
-    match n.1.checked_sub(k.1) {
-        None => Some((0, 0)),
-        Some(rest) => match rest.min(k.1) {
-            0 => Some((1, 0)),
-            1 => Some((n.1, 1)),
-            2 => Some((n.1.checked_mul(n.1 - 1)? / 2, 2)),
-            _ => None,
-        },
+    let Some(rest) = n.1.checked_sub(k.1) else {
+        return Some((0, 0));
+    };
+    let turns = rest.min(k.1);
+    let mut coefficient: u128 = 1;
+    for i in 0..turns {
+        coefficient = coefficient.checked_mul(n.1.checked_sub(i)?)? / (i + 1);
     }
+    Some((coefficient, u32::try_from(turns).ok()?))
 }
 
 /// The coefficient of two numbers.
@@ -176,7 +176,7 @@ fn combined(a: Whole, b: Whole, x: Whole, y: Whole) -> Option<Whole> {
 }
 
 /// What the calls of two operands answer.
-fn has_answers<T: Tested>(rt: &impl Abort, a: Whole, b: Whole) {
+pub(crate) fn has_answers<T: Tested>(rt: &impl Abort, a: Whole, b: Whole) {
     let (gcd, _) = euclidean_gcd(a.1, b.1);
     has_quotients::<T>(rt, a, b);
     has_divisors::<T>(rt, a, b, gcd);

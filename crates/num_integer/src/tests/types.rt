@@ -216,7 +216,7 @@ pub(crate) trait SignedCheck {
     fn at<T: Signed + Tested>(&self, rt: &impl Abort);
 }
 
-/// Makes the check at a type of the library with a sign.
+/// Makes the check at a type with a sign.
 pub(crate) fn check_signed_at(rt: &impl Abort, it: Type, check: &impl SignedCheck) {
     match it {
         Type::I8 => check.at::<i8>(rt),
@@ -225,7 +225,10 @@ pub(crate) fn check_signed_at(rt: &impl Abort, it: Type, check: &impl SignedChec
         Type::I64 => check.at::<i64>(rt),
         Type::I128 => check.at::<i128>(rt),
         Type::Isize => check.at::<isize>(rt),
-        _ => panic!(rt; "the library has no such type with a sign"),
+        Type::Small => check.at::<Small>(rt),
+        Type::Negated => check.at::<Negated>(rt),
+        Type::Marked => check.at::<Marked>(rt),
+        _ => panic!(rt; "the type has no sign"),
     }
 }
 

@@ -10,7 +10,7 @@ pub(super) fn whole(negative: bool, magnitude: u128) -> Whole {
     (negative && magnitude != 0, magnitude)
 }
 
-pub(super) fn whole_of(n: i128) -> Whole {
+pub(crate) fn whole_of(n: i128) -> Whole {
     (n < 0, n.unsigned_abs())
 }
 
