@@ -3,7 +3,7 @@ use Rattle.std.specs.Prelude.{◌↔◌, Bool, false, IsTrue}
 use Rattle.std.proofs.lemmas.Bool.{iff_false}
 use Rattle.num_integer.specs.Range.{EachFits}
 use Rattle.intcalc.specs.Outcome.{Inside}
-use Rattle.intcalc.proofs.outcome.quotients.Goals as goal
+use Rattle.intcalc.proofs.outcome.division.quotients.Goals as goal
 
 -- the test fails at a divisor that is not 0, so the quotient does not fit
 not_fitting : {b : Bool} {fits P : ℤ → Type 0} {d : ℤ} → b ≡ false → d ≢ pos 0 → IsTrue b ↔ ((d ≢ pos 0) × EachFits fits P) → ¬ (EachFits fits P)
