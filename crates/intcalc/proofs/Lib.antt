@@ -4,3 +4,4 @@ pub mod SinkLemmas
 pub mod WordsLemmas
 pub mod OnlyOutcome
 pub mod OnlyLine
+pub mod FractionLemmas

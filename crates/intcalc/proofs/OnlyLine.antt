@@ -5,9 +5,8 @@ use Rattle.num_integer.specs.Only.{IsOnly}
 use Rattle.intcalc.specs.declared.call.Kind.{Kind}
 use Rattle.intcalc.specs.declared.call.Kind.TheVariants.{I8, U8, I64, U64}
 use Rattle.intcalc.specs.declared.call.Call.{Call}
-use Rattle.intcalc.specs.declared.call.Call.TheVariants.{DivRem, DivModFloor, DivFloor, DivCeil, ModFloor, NextMultipleOf, PrevMultipleOf, IsMultipleOf, Gcd, Lcm, GcdLcm, ExtendedGcd, AverageFloor, AverageCeil, Sqrt, Cbrt, NthRoot, Binomial}
+use Rattle.intcalc.specs.declared.call.Call.TheVariants.{DivRem, DivModFloor, DivFloor, DivCeil, ModFloor, NextMultipleOf, PrevMultipleOf, IsMultipleOf, Gcd, Lcm, GcdLcm, ExtendedGcd, AverageFloor, AverageCeil, Sqrt, Cbrt, NthRoot, Binomial, RatioAdd, RatioMul}
 use Rattle.intcalc.specs.Words.{word_of_kind, word_of_call, operands_of, AskFor, IsRequest}
-use Rattle.intcalc.specs.Outcome.{FitsKind}
 use Rattle.intcalc.specs.Line.{IsReply, IsLine, text_of, status_of}
 use Rattle.intcalc.specs.Number.{spelled_number}
 use Rattle.intcalc.proofs.WordsLemmas.{map_Some_same}
@@ -46,6 +45,8 @@ same_call (Sqrt m) (Sqrt n) e f = cc
 same_call (Cbrt m) (Cbrt n) e f = cc
 same_call (NthRoot m n) (NthRoot p q) e f = cc
 same_call (Binomial m n) (Binomial p q) e f = cc
+same_call (RatioAdd i j m n) (RatioAdd k l p q) e f = cc
+same_call (RatioMul i j m n) (RatioMul k l p q) e f = cc
 same_call _ _ e f = absurd (omega (arith, ap code_of e))
 
 -- words ask for at most one kind and call
@@ -68,7 +69,7 @@ only_request words (Some (k, c)) (Some (l, d)) a b = let e = only_asked a b in c
 only_reply : (request : Option (Kind × Call)) (s t : List ℕ) (m n : ℕ) → IsReply request s m → IsReply request t n → (s ≡ t) × (m ≡ n)
 only_reply None s t m n a b = (cc, cc)
 only_reply (Some asked) s t m n a b =
-    let e : a.0 ≡ b.0 = only_outcome (FitsKind asked.0) asked.1 b.0 b.1 a.0 a.1 in
+    let e : a.0 ≡ b.0 = only_outcome asked.0 asked.1 b.0 b.1 a.0 a.1 in
     let text = ap text_of e in
     let status = ap status_of e in
     (cc, cc)

@@ -1,5 +1,5 @@
 -- At most one result stands in an outcome.
-use Rattle.std.specs.Prelude.{◌≡◌, ◌⊎◌, ◌↔◌, ◌*ℤ◌, ℤ, unsigned_abs, Bool, true, false, IsTrue, Result, Ok, Err}
+use Rattle.std.specs.Prelude.{◌≡◌, ◌⊎◌, ◌↔◌, ◌+ℤ◌, ◌*ℤ◌, ℤ, unsigned_abs, Bool, true, false, IsTrue, Result, Ok, Err}
 use Rattle.std.proofs.Common.{inl, inr, refl, sym, ap, ◌∙◌}
 use Rattle.std.proofs.lemmas.Bool.{true≢false}
 use Rattle.num_integer.specs.Averages.{IsAverageFloor, IsAverageCeil}
@@ -13,9 +13,12 @@ use Rattle.num_integer.proofs.Laws.{average_ceil_is_only, average_floor_is_only,
 use Rattle.intcalc.specs.declared.call.Answer.{Answer}
 use Rattle.intcalc.specs.declared.call.Answer.TheVariants.{Two, Three}
 use Rattle.intcalc.specs.declared.call.Call.{Call}
-use Rattle.intcalc.specs.declared.call.Call.TheVariants.{DivRem, DivModFloor, DivFloor, DivCeil, ModFloor, NextMultipleOf, PrevMultipleOf, IsMultipleOf, Gcd, Lcm, GcdLcm, ExtendedGcd, AverageFloor, AverageCeil, Sqrt, Cbrt, NthRoot, Binomial}
+use Rattle.intcalc.specs.declared.call.Call.TheVariants.{DivRem, DivModFloor, DivFloor, DivCeil, ModFloor, NextMultipleOf, PrevMultipleOf, IsMultipleOf, Gcd, Lcm, GcdLcm, ExtendedGcd, AverageFloor, AverageCeil, Sqrt, Cbrt, NthRoot, Binomial, RatioAdd, RatioMul}
+use Rattle.intcalc.specs.declared.call.Kind.{Kind}
 use Rattle.intcalc.specs.declared.call.Refusal.{Refusal}
-use Rattle.intcalc.specs.Outcome.{AnswersOne, AnswersTwo, AnswersThree, AnswersWhether, AreGcdAndLcm, Inside, OutcomeIn}
+use Rattle.intcalc.specs.Outcome.{AnswersOne, AnswersTwo, AnswersThree, AnswersWhether, AreGcdAndLcm, FitsKind, Inside, NeedsFractions, AnswersExact, Outcome}
+use Rattle.ratio64.specs.Fraction.{IsExact}
+use Rattle.ratio64.proofs.Laws.{exact_result_is_only}
 
 -- where the rest of a row leaves one result, so does the row
 only_needs : {P R S : Type 0} {refusal : Refusal} {r s : Result Answer Refusal} → (R → S → s ≡ r) → (¬ P × (r ≡ Err refusal)) ⊎ (P × R) → (¬ P × (s ≡ Err refusal)) ⊎ (P × S) → s ≡ r
@@ -60,6 +63,10 @@ module _ {Kind : ℤ → ℤ → ℤ → ℤ → Type 0} (only : (n d q r : ℤ)
 only_gcd_and_lcm : (a b g l : ℤ) → AreGcdAndLcm a b g l → IsOnly (λ (h, m). AreGcdAndLcm a b h m) (g, l)
 only_gcd_and_lcm a b g l h (i, m) k = rw (gcd_is_only a b g h.greatest i k.greatest, lcm_is_only a b l h.least m k.least) refl
 
+-- fractions have one result m/n
+only_fractions : {a b c d : ℤ} (m n : ℤ) {r s : Result Answer Refusal} → NeedsFractions a b c d (AnswersExact m n) r → NeedsFractions a b c d (AnswersExact m n) s → s ≡ r
+only_fractions m n = only_needs (only_needs (only_needs (only_needs (only_needs (only_two (IsExact m n) (exact_result_is_only m n))))))
+
 only_inside : (fits : ℤ → Type 0) (call : Call) (r s : Result Answer Refusal) → Inside fits call r → Inside fits call s → s ≡ r
 unfolding Inside
 only_inside fits (DivRem n d) r s = only_needs (only_needs (only_two (IsTruncated n d) (division_is_only.0 n d)))
@@ -80,6 +87,8 @@ only_inside fits (Sqrt x) r s = only_needs (only_one (IsRoot x 2) (root_is_only 
 only_inside fits (Cbrt x) r s = only_one (IsRoot x 3) (root_is_only x 3)
 only_inside fits (NthRoot x n) r s = only_needs (only_needs (only_one (IsRoot x (unsigned_abs n)) (root_is_only x (unsigned_abs n))))
 only_inside fits (Binomial n k) r s = only_needs (only_needs (only_one (λ c. c ≡ coefficient_of n k) (λ _ h _ k. k ∙ sym h)))
+only_inside fits (RatioAdd a b c d) r s = only_fractions (a *ℤ d +ℤ c *ℤ b) (b *ℤ d)
+only_inside fits (RatioMul a b c d) r s = only_fractions (a *ℤ c) (b *ℤ d)
 
-pub only_outcome : (fits : ℤ → Type 0) (call : Call) (r : Result Answer Refusal) → OutcomeIn fits call r → IsOnly (OutcomeIn fits call) r
-only_outcome fits call r outcome s = only_needs (only_inside fits call r s) outcome
+pub only_outcome : (kind : Kind) (call : Call) (r : Result Answer Refusal) → Outcome kind call r → IsOnly (Outcome kind call) r
+only_outcome kind call r outcome s = only_needs (only_needs (only_inside (FitsKind kind) call r s)) outcome

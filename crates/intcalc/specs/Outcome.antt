@@ -1,5 +1,5 @@
 -- What each call answers at each kind, and which refusal comes first.
-use Rattle.std.specs.Prelude.{◌≡◌, ◌≢◌, ◌⊎◌, ◌↔◌, ◌%◌, ◌≤ℤ◌, ℤ, pos, unsigned_abs, Bool, IsTrue, List, [], ◌∷◌, ⊤, Result, Ok, Err, MatchResult, FitsSigned}
+use Rattle.std.specs.Prelude.{◌≡◌, ◌≢◌, ◌⊎◌, ◌↔◌, ◌%◌, ◌≤ℤ◌, ◌+ℤ◌, ◌*ℤ◌, ℤ, pos, unsigned_abs, Bool, IsTrue, List, [], ◌∷◌, ⊤, Result, Ok, Err, MatchResult, FitsSigned}
 use Rattle.std.specs.Int.{w8, w64, FitsUnsignedBits}
 use Rattle.num_integer.specs.Averages.{IsAverageFloor, IsAverageCeil}
 use Rattle.num_integer.specs.Bezout.{HasPair, IsBezoutAnswer}
@@ -8,11 +8,12 @@ use Rattle.num_integer.specs.Division.{IsCeiled, IsFloored, IsMultiple, IsQuotie
 use Rattle.num_integer.specs.Divisors.{Divides, IsGreatestCommonDivisor, IsLeastCommonMultiple}
 use Rattle.num_integer.specs.Range.{EachFits}
 use Rattle.num_integer.specs.RootOf.{IsRoot}
+use Rattle.ratio64.specs.Fraction.{IsExact, IsTooWide}
 use Rattle.intcalc.specs.Words.{operands_of}
 use Rattle.intcalc.specs.declared.call.Kind.{Kind}
 use Rattle.intcalc.specs.declared.call.Kind.TheVariants.{I8, U8, I64, U64}
 use Rattle.intcalc.specs.declared.call.Call.{Call}
-use Rattle.intcalc.specs.declared.call.Call.TheVariants.{DivRem, DivModFloor, DivFloor, DivCeil, ModFloor, NextMultipleOf, PrevMultipleOf, IsMultipleOf, Gcd, Lcm, GcdLcm, ExtendedGcd, AverageFloor, AverageCeil, Sqrt, Cbrt, NthRoot, Binomial}
+use Rattle.intcalc.specs.declared.call.Call.TheVariants.{DivRem, DivModFloor, DivFloor, DivCeil, ModFloor, NextMultipleOf, PrevMultipleOf, IsMultipleOf, Gcd, Lcm, GcdLcm, ExtendedGcd, AverageFloor, AverageCeil, Sqrt, Cbrt, NthRoot, Binomial, RatioAdd, RatioMul}
 use Rattle.intcalc.specs.declared.call.Answer.{Answer}
 use Rattle.intcalc.specs.declared.call.Answer.TheVariants.{One, Two, Three, Truth}
 use Rattle.intcalc.specs.declared.call.Refusal.{Refusal}
@@ -82,6 +83,18 @@ HasRoot x n = unsigned_abs n % 2 ≡ 0 → pos 0 ≤ℤ x
 abbrev pub AreCounts : ℤ → ℤ → Type 0
 AreCounts n k = (pos 0 ≤ℤ n) × (pos 0 ≤ℤ k)
 
+-- refused where a part of the exact result of the fraction a/b lies outside `i64`
+abbrev pub NeedsNarrow : ℤ → ℤ → (Result Answer Refusal → Type 0) → Result Answer Refusal → Type 0
+NeedsNarrow a b = Needs (¬ (IsTooWide a b)) NotFitting
+
+-- refused so, and else answered by the parts of the exact result
+abbrev pub AnswersExact : ℤ → ℤ → Result Answer Refusal → Type 0
+AnswersExact a b = NeedsNarrow a b (AnswersTwo (IsExact a b))
+
+-- refused unless a/b and c/d are fractions whose exact results fit
+abbrev pub NeedsFractions : (a b c d : ℤ) → (Result Answer Refusal → Type 0) → Result Answer Refusal → Type 0
+NeedsFractions a b c d rest = NeedsDivisor b (NeedsDivisor d (NeedsNarrow a b (NeedsNarrow c d rest)))
+
 -- the table of calls: what each answers to operands of the type, its refusals in their order
 unfoldable pub Inside : (ℤ → Type 0) → Call → Result Answer Refusal → Type 0
 Inside fits (DivRem n d) =
@@ -124,21 +137,33 @@ Inside fits (NthRoot x n) =
 Inside fits (Binomial n k) =
     Needs (AreCounts n k) NegativeCount
     (Needs (fits (coefficient_of n k)) NotFitting (AnswersOne (λ c. c ≡ coefficient_of n k)))
+Inside fits (RatioAdd a b c d) =
+    NeedsFractions a b c d (AnswersExact (a *ℤ d +ℤ c *ℤ b) (b *ℤ d))
+Inside fits (RatioMul a b c d) =
+    NeedsFractions a b c d (AnswersExact (a *ℤ c) (b *ℤ d))
 
 -- each of the numbers fits
 abbrev pub AllFit : (ℤ → Type 0) → List ℤ → Type 0
 AllFit fits [] = ⊤
 AllFit fits (n ∷ ns) = fits n × AllFit fits ns
 
--- the operands lie in the type, save a degree, which lies in `u32`
+-- the operands lie in the type, save a degree, which lies in `u32`, and parts of fractions, which lie in `i64`
 abbrev pub OperandsFit : (ℤ → Type 0) → Call → Type 0
 OperandsFit fits (NthRoot x n) = fits x × FitsUnsignedBits 32 n
+OperandsFit fits (RatioAdd a b c d) = AllFit (FitsKind I64) (a ∷ b ∷ c ∷ d ∷ [])
+OperandsFit fits (RatioMul a b c d) = AllFit (FitsKind I64) (a ∷ b ∷ c ∷ d ∷ [])
 OperandsFit fits call = AllFit fits (operands_of call)
 
 -- what each call answers in a type: first of all its operands have to lie where they belong
 abbrev pub OutcomeIn : (ℤ → Type 0) → Call → Result Answer Refusal → Type 0
 OutcomeIn fits call = Needs (OperandsFit fits call) OutOfType (Inside fits call)
 
+-- the call is made at the kind: sums and products of fractions at `i64` alone
+abbrev pub IsMadeAt : Kind → Call → Type 0
+IsMadeAt kind (RatioAdd a b c d) = kind ≡ I64
+IsMadeAt kind (RatioMul a b c d) = kind ≡ I64
+IsMadeAt kind call = ⊤
+
 -- the outcome of a kind and a call
 abbrev pub Outcome : Kind → Call → Result Answer Refusal → Type 0
-Outcome kind = OutcomeIn (FitsKind kind)
+Outcome kind call = Needs (IsMadeAt kind call) OutOfType (OutcomeIn (FitsKind kind) call)

@@ -4,7 +4,7 @@ use Rattle.intcalc.specs.Number.{spelled_number}
 use Rattle.intcalc.specs.declared.call.Kind.{Kind}
 use Rattle.intcalc.specs.declared.call.Kind.TheVariants.{I8, U8, I64, U64}
 use Rattle.intcalc.specs.declared.call.Call.{Call}
-use Rattle.intcalc.specs.declared.call.Call.TheVariants.{DivRem, DivModFloor, DivFloor, DivCeil, ModFloor, NextMultipleOf, PrevMultipleOf, IsMultipleOf, Gcd, Lcm, GcdLcm, ExtendedGcd, AverageFloor, AverageCeil, Sqrt, Cbrt, NthRoot, Binomial}
+use Rattle.intcalc.specs.declared.call.Call.TheVariants.{DivRem, DivModFloor, DivFloor, DivCeil, ModFloor, NextMultipleOf, PrevMultipleOf, IsMultipleOf, Gcd, Lcm, GcdLcm, ExtendedGcd, AverageFloor, AverageCeil, Sqrt, Cbrt, NthRoot, Binomial, RatioAdd, RatioMul}
 
 -- the word of a kind
 abbrev pub word_of_kind : Kind → List ℕ
@@ -33,6 +33,8 @@ word_of_call (Sqrt x) = codes "sqrt"
 word_of_call (Cbrt x) = codes "cbrt"
 word_of_call (NthRoot x n) = codes "nth_root"
 word_of_call (Binomial n k) = codes "binomial"
+word_of_call (RatioAdd a b c d) = codes "ratio_add"
+word_of_call (RatioMul a b c d) = codes "ratio_mul"
 
 -- the operands of a call
 abbrev pub operands_of : Call → List ℤ
@@ -54,6 +56,8 @@ operands_of (Sqrt x) = x ∷ []
 operands_of (Cbrt x) = x ∷ []
 operands_of (NthRoot x n) = x ∷ n ∷ []
 operands_of (Binomial n k) = n ∷ k ∷ []
+operands_of (RatioAdd a b c d) = a ∷ b ∷ c ∷ d ∷ []
+operands_of (RatioMul a b c d) = a ∷ b ∷ c ∷ d ∷ []
 
 -- the word and the operands are those of the call
 pub record Names (word : List ℕ) (operands : List ℤ) (call : Call) : Type 0 where

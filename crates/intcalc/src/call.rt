@@ -34,6 +34,9 @@ pub enum Call {
     /// The number, and the degree.
     NthRoot(i128, i128),
     Binomial(i128, i128),
+    /// The numerator and the denominator of each of two fractions.
+    RatioAdd(i128, i128, i128, i128),
+    RatioMul(i128, i128, i128, i128),
 }
 
 /// The numbers that a call answers, or whether something is so.
@@ -48,9 +51,10 @@ pub enum Answer {
 /// Why a call has no answer.
 #[derive(Debug, Clone, Copy, PartialEq, Eq)]
 pub enum Refusal {
-    /// An operand lies outside the kind, or a degree outside `u32`.
+    /// An operand lies outside the kind, or a degree outside `u32`; or fractions are asked for at a kind
+    /// other than `i64`.
     OutOfType,
-    /// The divisor is 0.
+    /// The divisor, or a denominator, is 0.
     ZeroDivisor,
     /// The degree is 0.
     ZeroDegree,
@@ -58,7 +62,8 @@ pub enum Refusal {
     NegativeRoot,
     /// A count is negative.
     NegativeCount,
-    /// The quotient, multiple, divisor or coefficient lies outside the kind.
+    /// The quotient, multiple, divisor or coefficient lies outside the kind, or a part of a reduced
+    /// fraction outside `i64`.
     NotFitting,
     /// The kind is unsigned, and neither operand divides the other.
     NoPair,

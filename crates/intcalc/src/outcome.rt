@@ -1,6 +1,7 @@
 //! What a call answers at a kind.
 
-ghost use Rattle.intcalc.specs.Outcome.{Outcome, OutcomeIn, Narrows};
+ghost use Rattle.std.specs.Prelude.{◌↔◌, IsTrue};
+ghost use Rattle.intcalc.specs.Outcome.{IsMadeAt, Narrows, Outcome, OutcomeIn};
 
 // Each function of these modules is a row of the table `Inside` of specs/Outcome, or four of them: what
 // the call needs, in the table's order, and then the call of the library.
@@ -8,6 +9,7 @@ mod averages;
 mod coefficients;
 mod division;
 mod divisors;
+mod fractions;
 mod operand;
 mod roots;
 
@@ -16,7 +18,8 @@ use averages::{lower_average, upper_average};
 use coefficients::coefficient;
 use division::{divisibility, next_multiple, previous_multiple, quotients, remainder};
 use divisors::{common_divisor, common_multiple, divisor_and_multiple, divisor_and_pair};
-use operand::{Operand, narrow};
+use fractions::{product, sum};
+use operand::{Operand, narrow, needs};
 use roots::{cube_root, root, square_root};
 use std::num::TryFromIntError;
 
@@ -25,11 +28,22 @@ use std::num::TryFromIntError;
 pub fn evaluate(kind: Kind, call: Call) -> Result<Answer, Refusal>
     ensures { Outcome kind call result }
 {
+    needs(is_made_at(kind, &call), Refusal::OutOfType)?;
     match kind {
         Kind::I8 => evaluate_at::<i8>(&call),
         Kind::U8 => evaluate_at::<u8>(&call),
         Kind::I64 => evaluate_at::<i64>(&call),
         Kind::U64 => evaluate_at::<u64>(&call),
+    }
+}
+
+/// Whether the call is made at the kind.
+fn is_made_at(kind: Kind, call: &Call) -> bool
+    ensures { IsTrue result ↔ IsMadeAt kind call.now }
+{
+    match call {
+        Call::RatioAdd(..) | Call::RatioMul(..) => matches!(kind, Kind::I64),
+        _ => true,
     }
 }
 
@@ -56,5 +70,7 @@ fn evaluate_at<T: Operand + TryFrom<i128, Error = TryFromIntError>>(
         Call::Cbrt(x) => cube_root::<T>(narrow(*x)?),
         Call::NthRoot(x, n) => root::<T>(narrow(*x)?, narrow(*n)?),
         Call::Binomial(n, k) => coefficient::<T>(narrow(*n)?, narrow(*k)?),
+        Call::RatioAdd(a, b, c, d) => sum(narrow(*a)?, narrow(*b)?, narrow(*c)?, narrow(*d)?),
+        Call::RatioMul(a, b, c, d) => product(narrow(*a)?, narrow(*b)?, narrow(*c)?, narrow(*d)?),
     }
 }

@@ -408,6 +408,127 @@ fn binomials(rt: HostRuntime) {
 }
 
 #[test]
+fn sums_of_fractions(rt: HostRuntime) {
+    for row in [
+        ("i64 ratio_add 1 2 1 3", "5 6", 0),
+        ("i64 ratio_add 1 6 1 3", "1 2", 0),
+        ("i64 ratio_add 2 4 -1 -2", "1 1", 0),
+        ("i64 ratio_add 1 -2 1 3", "-1 6", 0),
+        ("i64 ratio_add 0 -9 0 5", "0 1", 0),
+        (
+            "i64 ratio_add 9223372036854775807 1 1 1",
+            "refused 6 NotFitting",
+            1,
+        ),
+        (
+            "i64 ratio_add 1 4611686018427387904 1 4611686018427387904",
+            "1 2305843009213693952",
+            0,
+        ),
+        (
+            "i64 ratio_add 1 9223372036854775807 -1 9223372036854775807",
+            "0 1",
+            0,
+        ),
+        (
+            "i64 ratio_add -9223372036854775808 -9223372036854775808 0 5",
+            "1 1",
+            0,
+        ),
+        (
+            "i64 ratio_add 1 -9223372036854775808 0 1",
+            "refused 6 NotFitting",
+            1,
+        ),
+        (
+            "i64 ratio_add 0 1 -9223372036854775808 -1",
+            "refused 6 NotFitting",
+            1,
+        ),
+        ("i64 ratio_add 0 -9223372036854775808 1 2", "1 2", 0),
+        ("i64 ratio_add 1 0 1 3", "refused 2 ZeroDivisor", 1),
+        ("i64 ratio_add 1 2 0 0", "refused 2 ZeroDivisor", 1),
+        (
+            "i64 ratio_add 1 -9223372036854775808 1 0",
+            "refused 2 ZeroDivisor",
+            1,
+        ),
+        (
+            "i64 ratio_add 1 0 9223372036854775808 1",
+            "refused 1 OutOfType",
+            1,
+        ),
+        (
+            "i64 ratio_add 1 0 1 -9223372036854775809",
+            "refused 1 OutOfType",
+            1,
+        ),
+        ("u8 ratio_add 1 2 1 3", "refused 1 OutOfType", 1),
+        ("i8 ratio_add 1 0 1 3", "refused 1 OutOfType", 1),
+        ("u64 ratio_add 1 2 1 3", "refused 1 OutOfType", 1),
+        ("i64 ratio_add 1 2 1", "usage", 2),
+        ("i64 ratio_add 1 2 1 3 4", "usage", 2),
+        ("i64 ratio_add 1 2 +1 3", "usage", 2),
+        ("i64 ratio_sub 1 2 1 3", "usage", 2),
+        ("i64 gcd 1 2 1 3", "usage", 2),
+    ] {
+        assert!(rt; holds(rt.alloc(), row), "at {row:?}");
+    }
+}
+
+#[test]
+fn products_of_fractions(rt: HostRuntime) {
+    for row in [
+        ("i64 ratio_mul 2 3 3 2", "1 1", 0),
+        ("i64 ratio_mul 2 3 3 4", "1 2", 0),
+        ("i64 ratio_mul -1 2 -3 4", "3 8", 0),
+        ("i64 ratio_mul 0 -9 5 7", "0 1", 0),
+        (
+            "i64 ratio_mul 9223372036854775807 2 2 9223372036854775807",
+            "1 1",
+            0,
+        ),
+        (
+            "i64 ratio_mul -9223372036854775808 1 1 2",
+            "-4611686018427387904 1",
+            0,
+        ),
+        (
+            "i64 ratio_mul 9223372036854775807 1 2 1",
+            "refused 6 NotFitting",
+            1,
+        ),
+        (
+            "i64 ratio_mul -9223372036854775808 1 -1 1",
+            "refused 6 NotFitting",
+            1,
+        ),
+        (
+            "i64 ratio_mul 1 -9223372036854775808 0 1",
+            "refused 6 NotFitting",
+            1,
+        ),
+        ("i64 ratio_mul 1 2 1 0", "refused 2 ZeroDivisor", 1),
+        (
+            "i64 ratio_mul 1 -9223372036854775808 1 0",
+            "refused 2 ZeroDivisor",
+            1,
+        ),
+        ("u8 ratio_mul 1 0 1 1", "refused 1 OutOfType", 1),
+        ("u64 ratio_mul 1 2 1 3", "refused 1 OutOfType", 1),
+        (
+            "i64 ratio_mul 9223372036854775808 1 1 0",
+            "refused 1 OutOfType",
+            1,
+        ),
+        ("i64 ratio_mul 1 2 1", "usage", 2),
+        ("i64 ratio_div 1 2 1 3", "usage", 2),
+    ] {
+        assert!(rt; holds(rt.alloc(), row), "at {row:?}");
+    }
+}
+
+#[test]
 fn other_words(rt: HostRuntime) {
     for row in [
         ("i16 gcd 1 2", "usage", 2),

@@ -55,6 +55,17 @@ fn read_call_of_two(word: &str, a: i128, b: i128) -> Option<Call>
     }
 }
 
+fn read_call_of_four(word: &str, a: i128, b: i128, c: i128, d: i128) -> Option<Call>
+    ensures { MatchOption result ((call : _) → ¬ (Names word.now (a ∷ b ∷ c ∷ d ∷ []) call))
+        (Names word.now (a ∷ b ∷ c ∷ d ∷ [])) }
+{
+    match word {
+        "ratio_add" => Some(Call::RatioAdd(a, b, c, d)),
+        "ratio_mul" => Some(Call::RatioMul(a, b, c, d)),
+        _ => None,
+    }
+}
+
 fn read_call(word: &str, operands: &[&str]) -> Option<Call>
     ensures { MatchOption result
         ((call : _) → ¬ (Spell word.now (map (λ w. w.now) operands.now) call))
@@ -69,6 +80,13 @@ fn read_call(word: &str, operands: &[&str]) -> Option<Call>
             let a = read_number(a)?;
             let b = read_number(b)?;
             read_call_of_two(word, a, b)
+        }
+        [a, b, c, d] => {
+            let a = read_number(a)?;
+            let b = read_number(b)?;
+            let c = read_number(c)?;
+            let d = read_number(d)?;
+            read_call_of_four(word, a, b, c, d)
         }
         _ => None,
     }

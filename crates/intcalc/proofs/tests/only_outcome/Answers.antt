@@ -1,6 +1,5 @@
 use Rattle.intcalc.proofs.OnlyOutcome.{only_outcome}
-use Rattle.intcalc.specs.Outcome.{FitsKind}
 use Rattle.intcalc.proofs.tests.only_outcome.Goals as goal
 
 pub returns-clause-only : goal.returns-clause-only
-returns-clause-only c = only_outcome (FitsKind c.args.kind) c.args.call c.evaluate.result c.evaluate.ensures
+returns-clause-only c = only_outcome c.args.kind c.args.call c.evaluate.result c.evaluate.ensures
