@@ -16,8 +16,6 @@ mod sink;
 #[cfg(test)]
 mod tests;
 #[cfg(test)]
-mod tests_of_fractions;
-#[cfg(test)]
 mod vectors;
 mod words;
 

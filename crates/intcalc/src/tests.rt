@@ -6,6 +6,7 @@ ghost use Rattle.intcalc.specs.Line.{IsLine};
 ghost use Rattle.intcalc.specs.Outcome.{Outcome};
 
 mod failing_writers;
+mod fractions;
 mod tape;
 
 use crate::call::{Answer, Call, Kind, Refusal};
