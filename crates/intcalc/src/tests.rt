@@ -168,6 +168,9 @@ fn a_hundred_digits(rt: HostRuntime) {
         99999999999999999999999999999999999999999999999999";
     assert_eq!(rt; nines.len(), 100);
     assert_eq!(rt; read_number(nines), Some(i128::MAX));
+    let negative = "-99999999999999999999999999999999999999999999999999\
+        99999999999999999999999999999999999999999999999999";
+    assert_eq!(rt; read_number(negative), Some(i128::MIN));
     for kind in ["i8", "u8", "i64", "u64"] {
         assert!(rt; prints(&[kind, "gcd", "1", nines], "refused 1 OutOfType", 1));
         assert!(rt; prints(&[kind, "div_rem", nines, "1"], "refused 1 OutOfType", 1));
