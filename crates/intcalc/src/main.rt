@@ -1,4 +1,5 @@
-//! One call of `num_integer`: `intcalc <type> <call> <operand> ..` prints its answer on a line.
+//! One call of `num_integer` or `ratio64`: `intcalc <type> <call> <operand> ..` prints its answer on a
+//! line.
 //!
 //! The status is 0 for an answer, 1 for a refusal, 2 for words that ask for no call, 3 where memory
 //! was refused, and 4 where the line did not go out.
