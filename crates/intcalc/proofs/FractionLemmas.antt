@@ -1,6 +1,6 @@
 -- What a call of two fractions answers, by their exact results.
 use Rattle.std.specs.Prelude.{◌≡◌, ◌≢◌, ◌+ℤ◌, ◌*ℤ◌, ℤ, pos, Result, Ok, Err, MatchResult, FitsSigned}
-use Rattle.std.specs.Int.{w64}
+use Rattle.std.specs.Int.{w64, w128}
 use Rattle.std.proofs.Common.{ap, arith, inl, inr, refl, subst, sym, to_z, of_z, ◌∙◌}
 use Rattle.std.proofs.lemmas.Int.{to_z-of_z}
 use Rattle.num_integer.proofs.ForCallers.{cancel, products}
@@ -78,8 +78,10 @@ module _ {a b c d : ℤ} {x y : Ratio} (left : IsRatioOf a b x) (right : IsRatio
 -- ---- their rows, of operands that were narrowed to x, y, z and w
 
 -- a narrowed operand is read back from its bits
-pub narrowed : {a x : ℤ} → (x ≡ a) × FitsSigned w64 a → (to_z w64 (of_z w64 x) ≡ a) × FitsSigned w64 a
-narrowed {a} h = (ap (λ (t : ℤ). to_z w64 (of_z w64 t)) h.0 ∙ to_z-of_z w64 a h.1, h.1)
+pub narrowed : (a : ℤ) {x : ℤ} → FitsSigned w128 a → (x ≡ to_z w128 (of_z w128 a)) × FitsSigned w64 (to_z w128 (of_z w128 a)) → (to_z w64 (of_z w64 x) ≡ a) × FitsSigned w64 a
+narrowed a fits h =
+    let read = rw (to_z-of_z w128 a fits) at h in
+    (ap (λ (t : ℤ). to_z w64 (of_z w64 t)) read.0 ∙ to_z-of_z w64 a read.1, read.1)
 
 module _ (fits : ℤ → Type 0) {call : Call} {a b c d x y z w : ℤ} {r : Result Answer Refusal} (x_is : (x ≡ a) × FitsSigned w64 a) (y_is : (y ≡ b) × FitsSigned w64 b) (z_is : (z ≡ c) × FitsSigned w64 c) (w_is : (w ≡ d) × FitsSigned w64 d) where
   pub sum_row : call ≡ RatioAdd a b c d → NeedsFractions x y z w (AnswersExact (x *ℤ w +ℤ z *ℤ y) (y *ℤ w)) r → OutcomeIn fits call r
