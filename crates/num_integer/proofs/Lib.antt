@@ -13,3 +13,4 @@ pub mod MultipleDomain
 pub mod CommonDomain
 pub mod Laws
 pub mod ForCallers
+pub mod Congruences

@@ -3,6 +3,7 @@ pub mod Coefficient
 pub mod Multinomial
 pub mod Row
 pub mod Parts
+pub mod Congruences
 -- what the clauses of the re-exported items cite
 pub use Rattle.integer_core.specs.Bezout
 pub use Rattle.integer_core.specs.Division
