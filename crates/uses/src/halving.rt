@@ -1,0 +1,46 @@
+//! The middle of a range, and the search by halves.
+
+ghost use Rattle.std.specs.Prelude.{◌≤◌, ◌≤ℤ◌, ◌<ℤ◌, ◌+ℤ◌, ◌-ℤ◌, pos, length, IsSortedByKey};
+ghost use Rattle.std.specs.List.{AllWithin};
+ghost use Rattle.std.specs.Ordering.{int_cmp};
+
+use num_integer::operators::is_below;
+use num_integer::{Average, Integer, average_floor};
+
+/// The middle of a range, rounded down, which never overflows. `midpoint(2, 5)` is 3.
+pub fn midpoint<T: Average>(low: T, high: T) -> T
+    requires low_in_range { T.fits (T.value low) }
+    requires high_in_range { T.fits (T.value high) }
+    requires ordered { T.value low ≤ℤ T.value high }
+    ensures in_range { T.fits (T.value result) }
+    ensures from_low { T.value low ≤ℤ T.value result }
+    ensures to_high { T.value result ≤ℤ T.value high }
+    ensures below_high { T.value low <ℤ T.value high → T.value result <ℤ T.value high }
+    ensures no_nearer_high { (T.value result -ℤ T.value low) ≤ℤ (T.value high -ℤ T.value result) }
+    ensures one_nearer_low_at_most { (T.value high -ℤ T.value result)
+        ≤ℤ (T.value result -ℤ T.value low +ℤ pos 1) }
+{
+    average_floor(low, high)
+}
+
+/// The place of the first item of a sorted slice that is at least `least`, or the length where none
+/// is. `lower_bound(&[1, 3, 3, 5], 3)` is 1.
+pub fn lower_bound<T: Integer>(items: &[T], least: T) -> usize
+    requires sorted { IsSortedByKey T.value int_cmp items.now }
+    ensures to_length { result ≤ length items.now }
+    ensures below_before { AllWithin (λ x. T.value x <ℤ T.value least) items.now 0 result }
+    ensures least_from { AllWithin (λ x. T.value least ≤ℤ T.value x) items.now result
+        (length items.now) }
+{
+    let mut low = 0;
+    let mut high = items.len();
+    while low < high {
+        let middle = midpoint(low, high);
+        if is_below(items[middle], least) {
+            low = middle + 1;
+        } else {
+            high = middle;
+        }
+    }
+    low
+}

@@ -1,0 +1,46 @@
+//! Offsets and addresses on an alignment.
+
+ghost use Rattle.std.specs.Prelude.{◌≤ℤ◌, ◌<ℤ◌, ◌+ℤ◌, ℤ, pos, MatchOption};
+ghost use Rattle.num_integer.specs.Divisors.{Divides};
+ghost use Rattle.uses.specs.Layout.{IsAlignedUp};
+
+use num_integer::operators::{difference, is_zero};
+use num_integer::{Fits, Integer, mod_floor};
+
+/// The offset rounded up to the alignment, or `None` where that is beyond the type. `align_up(13, 8)`
+/// is 16, and `align_up(-13, 8)` is -8.
+pub fn align_up<T: Fits>(offset: T, alignment: T) -> Option<T>
+    requires offset_in_range { T.fits (T.value offset) }
+    requires alignment_in_range { T.fits (T.value alignment) }
+    requires positive { pos 0 <ℤ T.value alignment }
+    ensures { MatchOption result
+        ((aligned : ℤ) → IsAlignedUp (T.value offset) (T.value alignment) aligned
+        → ¬ (T.fits aligned))
+        (λ aligned. T.fits (T.value aligned)
+        × IsAlignedUp (T.value offset) (T.value alignment) (T.value aligned)) }
+{
+    if offset.next_multiple_fits(&alignment) {
+        Some(offset.next_multiple_of(&alignment))
+    } else {
+        None
+    }
+}
+
+/// How many bytes after the offset the next aligned one comes. `padding(13, 8)` is 3, and
+/// `padding(-13, 8)` is 5.
+pub fn padding<T: Integer>(offset: T, alignment: T) -> T
+    requires offset_in_range { T.fits (T.value offset) }
+    requires alignment_in_range { T.fits (T.value alignment) }
+    requires positive { pos 0 <ℤ T.value alignment }
+    ensures in_range { T.fits (T.value result) }
+    ensures from_zero { pos 0 ≤ℤ T.value result }
+    ensures below { T.value result <ℤ T.value alignment }
+    ensures aligned { Divides (T.value alignment) (T.value offset +ℤ T.value result) }
+{
+    let over = mod_floor(offset, alignment);
+    if is_zero(over) {
+        over
+    } else {
+        difference(alignment, over)
+    }
+}

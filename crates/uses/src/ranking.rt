@@ -1,0 +1,95 @@
+//! The combinatorial number system: choices of some of the numbers below `n`, and their ranks.
+
+ghost use Rattle.std.specs.Prelude.{◌≡◌, ◌↔◌, ◌+◌, ◌<◌, ◌≤◌, ◌^◌, ℕ, List, length, IsTrue};
+ghost use Rattle.num_integer.specs.Coefficient.{coefficient};
+ghost use Rattle.num_integer.specs.Only.{IsOnly};
+ghost use Rattle.uses.specs.Ranking.{IsBefore, IsChoice, IsChoiceOfRank, rank_of};
+
+use crate::halving::midpoint;
+use num_integer::{Fits, binomial};
+
+/// The rank of a choice of numbers below `n`, in increasing order, among all choices of as many:
+/// how many come before it. `rank(&[0, 2, 3], 5)` is 2.
+#[tactic(auto, using(crate::proofs::Choices::rank_steps))]
+pub fn rank(choice: &[u64], n: u64) -> u64
+    requires choice { IsChoice n choice.now }
+    requires ranks_fit { coefficient n (length choice.now) < 2 ^ 64 }
+    ensures rank { result ≡ rank_of choice.now }
+    ensures below { result < coefficient n (length choice.now) }
+    ensures order { (other : List ℕ) → IsChoice n other → length other ≡ length choice.now
+        → IsBefore (length choice.now) other choice.now ↔ (rank_of other < result) }
+{
+    let mut rank = 0;
+    for (i, number) in choice.iter().enumerate() {
+        rank += binomial(*number, i as u64 + 1);
+    }
+    rank
+}
+
+/// Fills the slice with the choice of numbers below `n` that has the rank, in increasing order. For
+/// rank 2, `n` 5 and three places it is `[0, 2, 3]`.
+pub fn choice_of_rank(rank: u64, n: u64, choice: &mut [u64])
+    requires rank { rank < coefficient n (length choice.old) }
+    ensures choice { IsChoiceOfRank n (length choice.old) rank choice.new }
+    ensures only { IsOnly (IsChoiceOfRank n (length choice.old) rank) choice.new }
+{
+    let mut rest = rank;
+    let mut bound = n;
+    for i in (0..choice.len()).rev() {
+        let place = i as u64 + 1;
+        bound = greatest_within(rest, place, bound);
+        rest -= binomial(bound, place);
+        choice[i] = bound;
+    }
+}
+
+/// The choice of the rank of a choice is the same choice.
+pub fn by_own_rank(choice: &[u64], n: u64, found: &mut [u64])
+    requires choice { IsChoice n choice.now }
+    requires ranks_fit { coefficient n (length choice.now) < 2 ^ 64 }
+    requires same_size { length found.old ≡ length choice.now }
+    ensures { found.new ≡ choice.now }
+{
+    choice_of_rank(rank(choice, n), n, found);
+}
+
+/// The rank of the choice of a rank is the same rank.
+pub fn of_own_choice(wanted: u64, n: u64, choice: &mut [u64]) -> u64
+    requires rank { wanted < coefficient n (length choice.old) }
+    requires ranks_fit { coefficient n (length choice.old) < 2 ^ 64 }
+    ensures rank { result ≡ wanted }
+    ensures choice { IsChoiceOfRank n (length choice.old) wanted choice.new }
+{
+    choice_of_rank(wanted, n, choice);
+    rank(choice, n)
+}
+
+/// The greatest number whose coefficient over the place is at most the limit, found by halves below
+/// the bound.
+#[tactic(auto, using(num_integer::proofs::ForCallers::none_above))]
+fn greatest_within(limit: u64, place: u64, bound: u64) -> u64
+    requires place { 0 < place }
+    requires bound { limit < coefficient bound place }
+    ensures below { result < bound }
+    ensures within { coefficient result place ≤ limit }
+    ensures greatest { limit < coefficient (result + 1) place }
+{
+    let mut low = 0;
+    let mut high = bound;
+    while low + 1 < high {
+        let middle = midpoint(low + 1, high);
+        if is_within(middle, place, limit) {
+            low = middle;
+        } else {
+            high = middle;
+        }
+    }
+    low
+}
+
+/// Whether the coefficient of `n` and `k`, which may not fit, is at most the limit.
+fn is_within(n: u64, k: u64, limit: u64) -> bool
+    ensures { IsTrue result ↔ (coefficient n k ≤ limit) }
+{
+    n.binomial_fits(&k) && binomial(n, k) <= limit
+}

@@ -1,0 +1,67 @@
+//! Times that come again each period, at types that have negative numbers.
+
+ghost use Rattle.std.specs.Prelude.{◌<ℤ◌, ℤ, pos, negsuc};
+ghost use Rattle.num_integer.specs.Divisors.{IsLeastCommonMultiple};
+ghost use Rattle.num_integer.specs.Range.{EachFits};
+ghost use Rattle.uses.specs.Schedules.{IsLater, IsMeeting, IsNextMeeting, MatchMeeting};
+
+use crate::modular::{chinese_remainder, next_congruent};
+use num_integer::operators::is_below;
+use num_integer::{Fits, Integer};
+
+/// A first time, and the period after which it comes again.
+#[derive(Clone, Copy)]
+pub struct Schedule<T> {
+    pub first: T,
+    pub period: T,
+}
+
+/// When two schedules meet next.
+#[derive(Debug, Clone, Copy, PartialEq, Eq)]
+pub enum Meeting<T> {
+    /// At no time.
+    Never,
+    /// At a time beyond the type.
+    TooLate,
+    /// At this time.
+    At(T),
+}
+
+/// The least time from `now` on at which both come. A first time 1 with period 4 and a first time 3
+/// with period 6 meet next after 10 at 21.
+pub fn next_meeting<T: Fits>(now: T, a: Schedule<T>, b: Schedule<T>) -> Meeting<T>
+    requires now_in_range { T.fits (T.value now) }
+    requires a_in_range { T.fits (T.value a.first) × T.fits (T.value a.period) }
+    requires b_in_range { T.fits (T.value b.first) × T.fits (T.value b.period) }
+    requires negatives { T.fits (negsuc 0) }
+    requires a_positive { pos 0 <ℤ T.value a.period }
+    requires b_positive { pos 0 <ℤ T.value b.period }
+    requires lcm_fits { EachFits T.fits
+        (IsLeastCommonMultiple (T.value a.period) (T.value b.period)) }
+    ensures { MatchMeeting result
+        ((t : ℤ) → ¬ (IsMeeting (T.value a.first) (T.value a.period) (T.value b.first)
+        (T.value b.period) t))
+        ((t : ℤ) → IsNextMeeting (T.value now) (T.value a.first) (T.value a.period)
+        (T.value b.first) (T.value b.period) t → ¬ (T.fits t))
+        (λ t. T.fits (T.value t) × IsNextMeeting (T.value now) (T.value a.first)
+        (T.value a.period) (T.value b.first) (T.value b.period) (T.value t)) }
+{
+    let from = later(now, later(a.first, b.first));
+    match chinese_remainder(a.first, a.period, b.first, b.period) {
+        Some((first, step)) => match next_congruent(from, first, step) {
+            Some(time) => Meeting::At(time),
+            None => Meeting::TooLate,
+        },
+        None => Meeting::Never,
+    }
+}
+
+/// The greater of two times.
+fn later<T: Integer>(x: T, y: T) -> T
+    requires x_in_range { T.fits (T.value x) }
+    requires y_in_range { T.fits (T.value y) }
+    ensures in_range { T.fits (T.value result) }
+    ensures later { IsLater (T.value x) (T.value y) (T.value result) }
+{
+    if is_below(x, y) { y } else { x }
+}

@@ -1,0 +1,199 @@
+//! Calls of `num_integer` behind their tests, as a program writes them at a native type where it knows
+//! nothing of its numbers.
+
+ghost use Rattle.std.specs.Prelude.{◌≡◌, ◌≢◌, ◌⊎◌, ◌<◌, ◌%◌, ◌^◌, ◌<ℤ◌, pos, map, MatchOption, FitsSigned};
+ghost use Rattle.std.specs.Int.{FitsUnsignedBits, w64};
+ghost use Rattle.num_integer.specs.Bezout.{IsBezoutAnswer};
+ghost use Rattle.num_integer.specs.Coefficient.{coefficient};
+ghost use Rattle.num_integer.specs.Division.{IsCeiled, IsFloored, IsMultiple, IsQuotient, IsRemainder};
+ghost use Rattle.num_integer.specs.Divisors.{Divides, IsGreatestCommonDivisor, IsLeastCommonMultiple};
+ghost use Rattle.num_integer.specs.Multinomial.{IsMultinomial};
+ghost use Rattle.num_integer.specs.Range.{EachFits};
+ghost use Rattle.num_integer.specs.RootOf.{IsRoot};
+ghost use Rattle.num_integer.specs.Row.{RowFits, row_of};
+
+use num_integer::{ExtendedGcd, Fits, Integer, IterBinomial, Roots, binomial, multinomial};
+
+/// The quotient rounded down, or `None` for a divisor 0 and for the least number by -1.
+fn floored_quotient(n: i64, d: i64) -> Option<i64>
+    ensures { MatchOption result
+        (¬ ((d ≢ pos 0) × EachFits (FitsSigned w64) (IsQuotient IsFloored n d)))
+        (λ q. IsQuotient IsFloored n d q) }
+{
+    if n.quotient_fits(&d) {
+        Some(n.div_floor(&d))
+    } else {
+        None
+    }
+}
+
+/// The remainder that has the divisor's sign, or `None` for a divisor 0.
+fn floored_remainder(n: i64, d: i64) -> Option<i64>
+    ensures { MatchOption result (d ≡ pos 0) (λ r. IsRemainder IsFloored n d r) }
+{
+    if d == 0 { None } else { Some(n.mod_floor(&d)) }
+}
+
+/// The next multiple, or `None` for a divisor 0 and where the multiple is beyond the type.
+fn next_multiple(n: u64, d: u64) -> Option<u64>
+    ensures { MatchOption result
+        (¬ ((d ≢ 0) × EachFits (FitsUnsignedBits 64) (IsMultiple IsCeiled (pos n) (pos d))))
+        (λ m. IsMultiple IsCeiled (pos n) (pos d) (pos m)) }
+{
+    if n.next_multiple_fits(&d) {
+        Some(Integer::next_multiple_of(&n, &d))
+    } else {
+        None
+    }
+}
+
+/// The greatest common divisor: at an unsigned type it always fits.
+fn common_divisor(a: u64, b: u64) -> u64
+    ensures { IsGreatestCommonDivisor (pos a) (pos b) (pos result) }
+{
+    a.gcd(&b)
+}
+
+/// The least common multiple, or `None` where it is beyond the type.
+fn common_multiple(a: i64, b: i64) -> Option<i64>
+    ensures { MatchOption result (¬ (EachFits (FitsSigned w64) (IsLeastCommonMultiple a b)))
+        (λ l. IsLeastCommonMultiple a b l) }
+{
+    if a.lcm_fits(&b) {
+        Some(a.lcm(&b))
+    } else {
+        None
+    }
+}
+
+/// The greatest common divisor with its Bezout pair, or `None` where the divisor is beyond the type.
+fn bezout_pair(m: i64, n: i64) -> Option<ExtendedGcd<i64>>
+    ensures { MatchOption result (¬ (EachFits (FitsSigned w64) (IsGreatestCommonDivisor m n)))
+        (λ e. IsBezoutAnswer m n e.gcd e.x e.y) }
+{
+    if m.gcd_fits(&n) {
+        Some(m.extended_gcd(&n))
+    } else {
+        None
+    }
+}
+
+/// The same at a type without negative numbers, which has a pair where one operand divides the other.
+fn natural_bezout_pair(a: u64, b: u64) -> Option<ExtendedGcd<u64>>
+    ensures { MatchOption result
+        (¬ (Divides (pos b) (pos a)) × ¬ (Divides (pos a) (pos b)))
+        (λ e. IsBezoutAnswer (pos a) (pos b) (pos e.gcd) (pos e.x) (pos e.y)) }
+{
+    if Integer::is_multiple_of(&a, &b) || Integer::is_multiple_of(&b, &a) {
+        Some(a.extended_gcd(&b))
+    } else {
+        None
+    }
+}
+
+/// The root of a degree, or `None` for degree 0 and for an even root of a negative number.
+fn root(x: i64, degree: u32) -> Option<i64>
+    ensures { MatchOption result ((degree ≡ 0) ⊎ (degree % 2 ≡ 0) × (x <ℤ pos 0))
+        (λ r. IsRoot x degree r) }
+{
+    if degree == 0 || degree % 2 == 0 && x < 0 {
+        None
+    } else {
+        Some(x.nth_root(degree))
+    }
+}
+
+/// How many choices of `k` out of `n` there are, or `None` where they are more than the type counts.
+fn choices(n: u64, k: u64) -> Option<u64>
+    ensures { MatchOption result (¬ (coefficient n k < 2 ^ 64)) (λ c. c ≡ coefficient n k) }
+{
+    if n.binomial_fits(&k) {
+        Some(binomial(n, k))
+    } else {
+        None
+    }
+}
+
+/// How many choices of 4 out of 9 there are: a coefficient of literals, which no test guards.
+#[tactic(auto, unfolding(num_integer::specs::Coefficient::coefficient))]
+fn choices_of_4_out_of_9() -> u8
+    ensures { result ≡ 126 }
+{
+    binomial(9, 4)
+}
+
+/// In how many orders things of these counts can stand, or `None` where the type does not count them.
+fn orders(counts: &[u64]) -> Option<u64>
+    ensures { MatchOption result
+        (¬ (EachFits (FitsUnsignedBits 64) (IsMultinomial (map (λ x. pos x) counts.now))))
+        (λ m. IsMultinomial (map (λ x. pos x) counts.now) (pos m)) }
+{
+    if u64::multinomial_fits(counts) {
+        Some(multinomial(counts))
+    } else {
+        None
+    }
+}
+
+/// The row of Pascal's triangle, or `None` where the type does not hold it: a row fits where the
+/// number of its items and the coefficient in its middle do.
+fn row(n: u64) -> Option<IterBinomial<u64>>
+    ensures { MatchOption result (¬ (RowFits (FitsUnsignedBits 64) (pos n)))
+        (λ r. r ≡ row_of (pos n)) }
+{
+    if n < u64::MAX && n.binomial_fits(&(n / 2)) {
+        Some(IterBinomial::new(n))
+    } else {
+        None
+    }
+}
+
+const MIN: i64 = i64::MIN;
+
+const MAX: i64 = i64::MAX;
+
+#[test]
+fn quotients_and_multiples(rt: HostRuntime) {
+    assert!(rt; floored_quotient(-8, 3) == Some(-3) && floored_quotient(8, 0) == None);
+    assert!(rt; floored_quotient(MIN, -1) == None && floored_quotient(MAX, -1) == Some(-MAX));
+    assert!(rt; floored_remainder(-8, 3) == Some(1) && floored_remainder(8, 0) == None);
+    assert!(rt; floored_remainder(MIN, -1) == Some(0) && next_multiple(23, 8) == Some(24));
+    assert!(rt; next_multiple(u64::MAX, 2) == None && next_multiple(5, 0) == None);
+}
+
+#[test]
+fn divisors(rt: HostRuntime) {
+    assert!(rt; common_divisor(56, 42) == 14 && common_divisor(0, 0) == 0);
+    assert!(rt; common_multiple(7, 3) == Some(21) && common_multiple(MAX, 2) == None);
+    let pair = ExtendedGcd {
+        gcd: 2,
+        x: -9,
+        y: 47,
+    };
+    assert!(rt; bezout_pair(240, 46) == Some(pair) && bezout_pair(MIN, MIN) == None);
+    let pair = ExtendedGcd { gcd: 4, x: 1, y: 0 };
+    assert!(rt; natural_bezout_pair(4, 12) == Some(pair) && natural_bezout_pair(10, 4) == None);
+}
+
+#[test]
+fn roots_and_coefficients(rt: HostRuntime) {
+    assert!(rt; root(-9, 3) == Some(-2) && root(99, 2) == Some(9) && root(-9, 2) == None);
+    assert!(rt; root(9, 0) == None && choices(9, 4) == Some(126) && choices(68, 34) == None);
+    assert!(rt; choices(67, 33) == Some(14226520737620288370) && choices_of_4_out_of_9() == 126);
+    assert!(rt; orders(&[2, 1, 2]) == Some(30) && orders(&[u64::MAX, 1]) == None);
+}
+
+/// The rows that fit have 63 items or fewer of 64 bits in their middle: the last is that of 67.
+#[test]
+fn rows(rt: HostRuntime) {
+    assert!(rt; row(68).is_none() && row(u64::MAX).is_none());
+    let mut items = 0u32;
+    let mut sum = 0u64;
+    if let Some(row) = row(3) {
+        for item in row {
+            items = items.wrapping_add(1);
+            sum = sum.wrapping_add(item);
+        }
+    }
+    assert!(rt; items == 4 && sum == 8 && row(67).is_some());
+}

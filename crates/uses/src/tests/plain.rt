@@ -1,0 +1,167 @@
+//! Calls whose conditions a plain fact on the arguments meets, without a test of `Fits`, and calls of
+//! `ratio64`, which have no conditions.
+
+ghost use Rattle.std.specs.Prelude.{◌≡◌, ◌≢◌, ◌↔◌, ◌<◌, ◌%◌, ◌≤ℤ◌, ◌<ℤ◌, pos, Err, IsTrue};
+ghost use Rattle.num_integer.specs.Bezout.{IsBezoutAnswer};
+ghost use Rattle.num_integer.specs.Division.{IsCeiled, IsFloored, IsMultiple, IsQuotient};
+ghost use Rattle.num_integer.specs.Divisors.{IsGreatestCommonDivisor, IsLeastCommonMultiple};
+ghost use Rattle.num_integer.specs.RootOf.{IsRoot};
+ghost use Rattle.num_integer.specs.Row.{row_of};
+ghost use Rattle.ratio64.specs.Ratio.{AnswersFraction, den_of, num_of};
+
+use num_integer::{ExtendedGcd, Integer, IterBinomial, Roots};
+use ratio64::{Ratio, RatioError};
+
+/// By a number above 0 each quotient fits.
+fn quotient_by_positive(n: i64, d: i64) -> i64
+    requires { pos 0 <ℤ d }
+    ensures { IsQuotient IsFloored n d result }
+{
+    n.div_floor(&d)
+}
+
+/// So does one by a literal but 0 and -1.
+fn weeks(days: i64) -> i64
+    ensures { IsQuotient IsFloored days (pos 7) result }
+{
+    days.div_floor(&7)
+}
+
+/// At an unsigned type, by any number but 0.
+fn natural_quotient(n: u64, d: u64) -> u64
+    requires { d ≢ 0 }
+    ensures { IsQuotient IsFloored (pos n) (pos d) (pos result) }
+{
+    n.div_floor(&d)
+}
+
+/// There the previous multiple fits too.
+fn previous_multiple(n: u64, d: u64) -> u64
+    requires { d ≢ 0 }
+    ensures { IsMultiple IsFloored (pos n) (pos d) (pos result) }
+{
+    n.prev_multiple_of(&d)
+}
+
+/// The divisor that a number has in common with a number above 0 fits.
+fn common_divisor_with_positive(m: i64, n: i64) -> i64
+    requires { pos 0 <ℤ n }
+    ensures { IsGreatestCommonDivisor m n result }
+{
+    m.gcd(&n)
+}
+
+/// And so its pair is there.
+fn pair_with_positive(m: i64, n: i64) -> ExtendedGcd<i64>
+    requires { pos 0 <ℤ n }
+    ensures { IsBezoutAnswer m n result.gcd result.x result.y }
+{
+    m.extended_gcd(&n)
+}
+
+/// A number from 0 up has a square root.
+fn side(area: i64) -> i64
+    requires { pos 0 ≤ℤ area }
+    ensures { IsRoot area 2 result }
+{
+    area.sqrt()
+}
+
+/// A natural number has a root of each degree but 0.
+fn natural_root(x: u64, degree: u32) -> u64
+    requires { degree ≢ 0 }
+    ensures { IsRoot (pos x) degree (pos result) }
+{
+    x.nth_root(degree)
+}
+
+/// A multiple of two numbers of half the bits fits.
+fn common_multiple_in_twice_the_bits(m: u32, n: u32) -> u64
+    ensures { IsLeastCommonMultiple (pos m) (pos n) (pos result) }
+{
+    u64::from(m).lcm(&u64::from(n))
+}
+
+/// Whether a number is even, as `%` says it.
+#[tactic(auto, using(num_integer::proofs::ForCallers::divides_is_natural))]
+fn is_even(n: u64) -> bool
+    ensures { IsTrue result ↔ (n % 2 ≡ 0) }
+{
+    n.is_even()
+}
+
+/// A remainder, as `%` says it.
+fn remainder(n: u64, d: u64) -> u64
+    requires { 0 < d }
+    ensures { result ≡ n % d }
+{
+    n.mod_floor(&d)
+}
+
+/// A row of a literal.
+#[tactic(auto, unfolding(num_integer::specs::Coefficient::coefficient))]
+fn row_of_three() -> IterBinomial<u8>
+    ensures { result ≡ row_of (pos 3) }
+{
+    IterBinomial::new(3)
+}
+
+/// A fraction, its parts, and its neighbours among the whole numbers.
+fn three_halves_below() -> Result<(i64, i64, i64, i64), RatioError> {
+    let x = Ratio::new(6, -4)?; // -3/2
+    Ok((x.num(), x.den(), x.floor(), x.ceil())) // (-3, 2, -2, -1)
+}
+
+/// The fraction turned over, or why there is none.
+fn reciprocal(x: &Ratio) -> Result<Ratio, RatioError>
+    ensures { AnswersFraction (den_of x.now) (num_of x.now) result }
+{
+    Ratio::new(x.den(), x.num())
+}
+
+/// The whole numbers that the fraction lies between.
+fn neighbors(x: &Ratio) -> (i64, i64)
+    ensures floor { IsQuotient IsFloored (num_of x.now) (den_of x.now) result.0 }
+    ensures ceil { IsQuotient IsCeiled (num_of x.now) (den_of x.now) result.1 }
+{
+    (x.floor(), x.ceil())
+}
+
+/// The sum of three fractions: each refusal is handed on.
+fn sum_of_three(x: &Ratio, y: &Ratio, z: &Ratio) -> Result<Ratio, RatioError>
+    ensures { result ≢ Err RatioError.ZeroDenominator }
+{
+    x.checked_add(y)?.checked_add(z)
+}
+
+#[test]
+fn plain_fractions(rt: HostRuntime) {
+    let half = Ratio::new(1, 2);
+    let third = Ratio::new(1, 3);
+    let sixth = Ratio::new(1, 6);
+    if let (Ok(half), Ok(third), Ok(sixth)) = (half, third, sixth) {
+        assert!(rt; reciprocal(&third) == Ratio::new(3, 1) && neighbors(&half) == (0, 1));
+        assert!(rt; sum_of_three(&half, &third, &sixth) == Ratio::new(1, 1));
+    }
+    assert!(rt; Ratio::new(0, 5).and_then(|x| reciprocal(&x)) == Err(RatioError::ZeroDenominator));
+}
+
+#[test]
+fn plain_calls(rt: HostRuntime) {
+    assert!(rt; quotient_by_positive(-8, 3) == -3 && natural_quotient(8, 3) == 2);
+    assert!(rt; previous_multiple(23, 8) == 16 && common_divisor_with_positive(-56, 42) == 14);
+    assert!(rt; common_multiple_in_twice_the_bits(4294967295, 4294967294) == 18446744060824649730);
+    assert!(rt; is_even(4) && !is_even(7) && remainder(17, 5) == 2);
+    assert!(rt; weeks(-1) == -1 && side(99) == 9 && natural_root(99, 3) == 4);
+    assert!(rt;
+        pair_with_positive(240, 46)
+            == ExtendedGcd {
+                gcd: 2,
+                x: -9,
+                y: 47
+            }
+    );
+    assert!(rt; three_halves_below() == Ok((-3, 2, -2, -1)));
+    let mut row = row_of_three();
+    assert!(rt; row.next() == Some(1) && row.next() == Some(3));
+}
