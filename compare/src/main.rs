@@ -1,0 +1,219 @@
+//! Prints what the crate `num-integer` answers over fixed inputs, as the list that `crates/replay` holds.
+
+mod calls;
+mod checksum;
+mod inputs;
+
+use calls::{Call, Number, OF_PAIRS};
+use checksum::Checksum;
+use inputs::{counts, degree, Shape, Whole, DEGREES, LISTS, ROOTED, ROWS};
+use std::panic::set_hook;
+
+/// What is printed on standard error beside the list.
+enum Shown {
+    Nothing,
+    /// Each input at which the crate answers at `i128` alone.
+    Differences,
+    /// Each input of the line of this type and call, after its place and the checksum with it.
+    Inputs(String, String),
+}
+
+impl Shown {
+    fn of_words(words: &[String]) -> Shown {
+        match words {
+            [] => Shown::Nothing,
+            [word] if word == "differences" => Shown::Differences,
+            [word, it, call] if word == "inputs" => Shown::Inputs(it.clone(), call.clone()),
+            _ => panic!("no words, `differences`, or `inputs` with a type and a call"),
+        }
+    }
+
+    /// Whether an input of the line of this type and call is printed.
+    fn has(&self, it: &str, call: Call, wide: bool) -> bool {
+        match self {
+            Shown::Nothing => false,
+            Shown::Differences => wide,
+            Shown::Inputs(shown, of) => shown == it && *of == call.name(),
+        }
+    }
+}
+
+/// A type by its name, and what is shown of it.
+#[derive(Clone, Copy)]
+struct At<'a> {
+    name: &'a str,
+    shape: Shape,
+    shown: &'a Shown,
+}
+
+/// How many inputs were answered in the type, how many only at `i128`, and the checksum over each
+/// answered input and its answer.
+struct Line<'a> {
+    at: At<'a>,
+    in_type: u32,
+    at_128_bits: u32,
+    checksum: Checksum,
+}
+
+impl<'a> Line<'a> {
+    fn new(at: At<'a>) -> Line<'a> {
+        Line {
+            at,
+            in_type: 0,
+            at_128_bits: 0,
+            checksum: Checksum(0),
+        }
+    }
+
+    /// Adds the input, where it has an answer.
+    fn ask<T: Number>(&mut self, call: Call, operands: &[Whole]) {
+        let Some((answer, wide)) = call.narrowed::<T>(operands) else {
+            return;
+        };
+        if wide {
+            self.at_128_bits += 1;
+        } else {
+            self.in_type += 1;
+        }
+        self.checksum = self.checksum.with_each(operands);
+        if let Call::NthRoot(degree) = call {
+            self.checksum = self.checksum.with((false, u128::from(degree)));
+        }
+        self.checksum = self.checksum.with_each(&answer);
+        let (count, Checksum(sum)) = (self.in_type + self.at_128_bits, self.checksum);
+        let name = self.at.name;
+        if self.at.shown.has(name, call, wide) {
+            eprintln!("{count} {sum} {name} {call:?} {operands:?} {answer:?}");
+        }
+    }
+
+    fn text(&self, call: Call) -> String {
+        let (name, call) = (self.at.name, call.name());
+        let (count, wide, Checksum(sum)) = (self.in_type, self.at_128_bits, self.checksum);
+        format!("Line({name}, {call}, {count}, {wide}, {sum})")
+    }
+}
+
+fn numbers(shape: Shape, count: u32) -> Vec<Whole> {
+    (0..count)
+        .filter_map(|index| shape.number(index))
+        .map(positive_zero)
+        .collect()
+}
+
+fn positive_zero((negative, magnitude): Whole) -> Whole {
+    (negative && magnitude != 0, magnitude)
+}
+
+fn pairs<T: Number>(at: At, call: Call) -> Line {
+    let numbers = numbers(at.shape, at.shape.paired());
+    let mut line = Line::new(at);
+    for a in &numbers {
+        for b in &numbers {
+            line.ask::<T>(call, &[*a, *b]);
+        }
+    }
+    line
+}
+
+fn roots<'a, T: Number>(at: At<'a>, calls: &[Call]) -> Line<'a> {
+    let mut line = Line::new(at);
+    for n in numbers(at.shape, ROOTED) {
+        for call in calls {
+            line.ask::<T>(*call, &[n]);
+        }
+    }
+    line
+}
+
+fn lists<T: Number>(at: At) -> Line {
+    let mut line = Line::new(at);
+    for n in numbers(at.shape, at.shape.paired()) {
+        for index in 0..LISTS {
+            line.ask::<T>(Call::Multinomial, &counts(n, index));
+        }
+    }
+    line
+}
+
+fn rows<T: Number>(at: At) -> Line {
+    let mut line = Line::new(at);
+    for n in 0..ROWS {
+        line.ask::<T>(Call::IterBinomial, &[(false, u128::from(n))]);
+    }
+    line
+}
+
+/// The lines of a type, under its name.
+fn lines_of<T: Number>(name: &str, shown: &Shown) -> Vec<String> {
+    let high = T::max_value().to_u128().expect("it is positive");
+    let low = T::min_value().to_i128().unwrap_or(0).unsigned_abs();
+    let shape = Shape::between(low, high);
+    let at = At { name, shape, shown };
+    let of_pair = |call: Call| pairs::<T>(at, call).text(call);
+    let mut lines: Vec<String> = OF_PAIRS.into_iter().map(of_pair).collect();
+    if low > 0 {
+        lines.push(of_pair(Call::ExtendedGcdLcm));
+    }
+    if shape.width <= 64 {
+        let nth_roots: Vec<Call> = (0..DEGREES).map(degree).map(Call::NthRoot).collect();
+        for calls in [&[Call::Sqrt], &[Call::Cbrt], &nth_roots[..]] {
+            lines.push(roots::<T>(at, calls).text(calls[0]));
+        }
+    }
+    lines.push(lists::<T>(at).text(Call::Multinomial));
+    lines.push(rows::<T>(at).text(Call::IterBinomial));
+    lines
+}
+
+/// Prints the lines as a constant of this name.
+fn print(name: &str, lines: &[String]) {
+    println!("\npub(crate) const {name}: [Line; {}] = [", lines.len());
+    for line in lines {
+        println!("    {line},");
+    }
+    println!("];");
+}
+
+/// What stands above the lines.
+const HEAD: &str = "\
+//! What the Rust crate `num-integer` answered, as the program in `compare/` printed it.
+
+use crate::calls::Call::{
+    AverageCeil, AverageFloor, Binomial, Cbrt, DivCeil, DivFloor, DivModFloor, DivRem, Divides,
+    ExtendedGcd, ExtendedGcdLcm, Gcd, GcdLcm, IsEvenIsOdd, IsMultipleOf, IterBinomial, Lcm,
+    ModFloor, Multinomial, NextMultipleOf, NthRoot, PrevMultipleOf, Sqrt,
+};
+use crate::lines::Line;
+use crate::types::Type::{I8, I16, I32, I64, I128, Isize, U8, U16, U32, U64, U128, Usize};";
+
+fn main() {
+    set_hook(Box::new(|_| ()));
+    let words: Vec<String> = std::env::args().skip(1).collect();
+    let shown = Shown::of_words(&words);
+    println!("{HEAD}");
+    let narrow_signed = [
+        lines_of::<i8>("I8", &shown),
+        lines_of::<i16>("I16", &shown),
+        lines_of::<i32>("I32", &shown),
+    ];
+    print("NARROW_SIGNED", &narrow_signed.concat());
+    let wide_signed = [
+        lines_of::<i64>("I64", &shown),
+        lines_of::<i128>("I128", &shown),
+        lines_of::<isize>("Isize", &shown),
+    ];
+    print("WIDE_SIGNED", &wide_signed.concat());
+    let narrow_unsigned = [
+        lines_of::<u8>("U8", &shown),
+        lines_of::<u16>("U16", &shown),
+        lines_of::<u32>("U32", &shown),
+    ];
+    print("NARROW_UNSIGNED", &narrow_unsigned.concat());
+    let wide_unsigned = [
+        lines_of::<u64>("U64", &shown),
+        lines_of::<u128>("U128", &shown),
+        lines_of::<usize>("Usize", &shown),
+    ];
+    print("WIDE_UNSIGNED", &wide_unsigned.concat());
+}

@@ -1,0 +1,52 @@
+//! A line of the list, and how it is computed again.
+
+use crate::calls::Call;
+use crate::checksum::Checksum;
+use crate::types::Type;
+use crate::walks::{Answered, answers, rooted_answers, signed_answers, signed_rooted_answers};
+use std::alloc::Global;
+use std::process::Abort;
+
+/// A type; a call; how many inputs the Rust crate answers at the type; how many more it answers at
+/// `i128` alone, by numbers of the type; and the checksum over all of these inputs and answers.
+pub(crate) struct Line(
+    pub(crate) Type,
+    pub(crate) Call,
+    pub(crate) u32,
+    pub(crate) u32,
+    pub(crate) u64,
+);
+
+/// Computes the lines again.
+pub(crate) fn replay(rt: &impl Abort, alloc: Global, lines: &[Line]) {
+    for Line(it, call, in_type, at_128_bits, checksum) in lines {
+        let expected = Answered(in_type.wrapping_add(*at_128_bits), Checksum(*checksum));
+        let answered = answers_at(rt, alloc, *it, *call);
+        assert_eq!(rt; answered, expected, "{it:?} {call:?}");
+    }
+}
+
+/// What the call answers at the type.
+fn answers_at(rt: &impl Abort, alloc: Global, it: Type, call: Call) -> Answered {
+    match it {
+        Type::I8 => signed_rooted_answers::<i8>(rt, alloc, call),
+        Type::I16 => signed_rooted_answers::<i16>(rt, alloc, call),
+        Type::I32 => signed_rooted_answers::<i32>(rt, alloc, call),
+        Type::I64 => signed_rooted_answers::<i64>(rt, alloc, call),
+        Type::Isize => signed_rooted_answers::<isize>(rt, alloc, call),
+        Type::I128 => signed_answers::<i128>(rt, alloc, call),
+        _ => answers_at_unsigned(rt, alloc, it, call),
+    }
+}
+
+/// What the call answers at a type with no sign.
+fn answers_at_unsigned(rt: &impl Abort, alloc: Global, it: Type, call: Call) -> Answered {
+    match it {
+        Type::U8 => rooted_answers::<u8>(rt, alloc, call),
+        Type::U16 => rooted_answers::<u16>(rt, alloc, call),
+        Type::U32 => rooted_answers::<u32>(rt, alloc, call),
+        Type::U64 => rooted_answers::<u64>(rt, alloc, call),
+        Type::Usize => rooted_answers::<usize>(rt, alloc, call),
+        _ => answers::<u128>(rt, alloc, call),
+    }
+}

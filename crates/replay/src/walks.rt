@@ -1,0 +1,178 @@
+//! The walks over the inputs of a call at a type.
+
+ghost use Rattle.std.specs.Prelude.{IfSome};
+ghost use Rattle.std.specs.List.{All};
+
+use crate::calls::{
+    BezoutAndMultiple, Call, OfPair, row, with_multinomial, with_root, with_row, with_value,
+    with_values,
+};
+use crate::checksum::Checksum;
+use crate::inputs::{DEGREES, LISTS, ROOTED, ROWS, Shape, Whole, counts, degree};
+use crate::types::{Replayed, shape_of};
+use num_integer::{IterBinomial, Roots};
+use num_traits::Signed;
+use std::alloc::Global;
+use std::process::Abort;
+
+/// How many answered inputs of a line are taken: all. To find the input at which a line is red, leave
+/// that line alone in the list and lower this: as long as that input is not taken, the test says on its
+/// left what `cargo run -- inputs I64 Gcd`, in `compare/`, prints at that count.
+const TAKEN: u32 = u32::MAX;
+
+/// How many inputs were answered, and the checksum over them and their answers.
+#[derive(Clone, Copy, Debug, PartialEq, Eq)]
+pub(crate) struct Answered(pub(crate) u32, pub(crate) Checksum);
+
+impl Answered {
+    fn none() -> Answered {
+        Answered(0, Checksum(0))
+    }
+
+    /// One more, where the checksum with it is given.
+    fn and(self, sum: Option<Checksum>) -> Answered {
+        match sum {
+            Some(sum) if self.0 < TAKEN => Answered(self.0 + 1, sum),
+            _ => self,
+        }
+    }
+}
+
+/// The numbers at the first indices.
+fn numbers(rt: &impl Abort, alloc: Global, shape: Shape, count: u32) -> Vec<Whole> {
+    let mut numbers = Vec::new(alloc);
+    for index in 0..count {
+        if let Some(n) = shape.number(index) {
+            numbers.push(n).expect(rt, "memory is left");
+        }
+    }
+    numbers
+}
+
+/// Those of the numbers that the type has.
+fn values<T: Replayed>(rt: &impl Abort, alloc: Global, numbers: &[Whole]) -> Vec<T>
+    ensures { All (λ x. T.fits (T.value x)) result.items }
+{
+    let mut values = Vec::new(alloc);
+    for n in numbers {
+        if let Some(x) = T::from_whole(*n) {
+            values.push(x).expect(rt, "memory is left");
+        }
+    }
+    values
+}
+
+/// The numbers of the type at the first indices.
+fn values_at<T: Replayed>(rt: &impl Abort, alloc: Global, count: u32) -> Vec<T>
+    ensures { All (λ x. T.fits (T.value x)) result.items }
+{
+    let numbers = numbers(rt, alloc, shape_of::<T>(), count);
+    values(rt, alloc, &numbers)
+}
+
+/// What the call answers of each two of the numbers.
+fn pairs<T: Replayed, C: OfPair<T>>(rt: &impl Abort, alloc: Global, call: &C) -> Answered {
+    let numbers = values_at::<T>(rt, alloc, shape_of::<T>().paired());
+    let mut answered = Answered::none();
+    for x in &numbers {
+        for y in &numbers {
+            let sum = with_values(answered.1, (*x, *y));
+            answered = answered.and(call.with_answer(sum, *x, *y));
+        }
+    }
+    answered
+}
+
+/// The roots of each number. A call that takes no degree is made once.
+fn roots<T: Roots + Replayed>(rt: &impl Abort, alloc: Global, call: Call) -> Answered {
+    let degrees = match call {
+        Call::NthRoot => DEGREES,
+        _ => 1,
+    };
+    let mut answered = Answered::none();
+    for x in &values_at::<T>(rt, alloc, ROOTED) {
+        for index in 0..degrees {
+            let sum = with_value(answered.1, *x);
+            answered = answered.and(with_root(call, sum, *x, degree(index)));
+        }
+    }
+    answered
+}
+
+/// The multinomials of lists of three counts.
+fn multinomials<T: Replayed>(rt: &impl Abort, alloc: Global) -> Answered {
+    let shape = shape_of::<T>();
+    let mut answered = Answered::none();
+    for first in &numbers(rt, alloc, shape, shape.paired()) {
+        for index in 0..LISTS {
+            let counts = values::<T>(rt, alloc, &counts(*first, index));
+            answered = answered.and(with_multinomial(answered.1, &counts));
+        }
+    }
+    answered
+}
+
+/// The rows of Pascal's triangle.
+fn rows<T: Replayed>() -> Answered {
+    let mut answered = Answered::none();
+    for n in 0..ROWS {
+        let (number, half) = ((false, u128::from(n)), (false, u128::from(n / 2)));
+        if let Some(row) = row_of::<T>(number, half) {
+            let sum = answered.1.with(number);
+            answered = answered.and(Some(with_row(sum, row)));
+        }
+    }
+    answered
+}
+
+/// The row of a number whose half is given, where the type has it.
+fn row_of<T: Replayed>(n: Whole, half: Whole) -> Option<IterBinomial<T>>
+    ensures { IfSome result (λ items. All T.fits items) }
+{
+    row(T::from_whole(n)?, T::from_whole(half)?)
+}
+
+/// What a call that each type has answers.
+pub(crate) fn answers<T: Replayed>(rt: &impl Abort, alloc: Global, call: Call) -> Answered {
+    match call {
+        Call::Multinomial => multinomials::<T>(rt, alloc),
+        Call::IterBinomial => rows::<T>(),
+        _ => pairs::<T, Call>(rt, alloc, &call),
+    }
+}
+
+/// What a call answers at a type with roots.
+pub(crate) fn rooted_answers<T: Roots + Replayed>(
+    rt: &impl Abort,
+    alloc: Global,
+    call: Call,
+) -> Answered {
+    match call {
+        Call::Sqrt | Call::Cbrt | Call::NthRoot => roots::<T>(rt, alloc, call),
+        _ => answers::<T>(rt, alloc, call),
+    }
+}
+
+/// What a call answers at a type with a sign.
+pub(crate) fn signed_answers<T: Signed + Replayed>(
+    rt: &impl Abort,
+    alloc: Global,
+    call: Call,
+) -> Answered {
+    match call {
+        Call::ExtendedGcdLcm => pairs::<T, BezoutAndMultiple>(rt, alloc, &BezoutAndMultiple),
+        _ => answers::<T>(rt, alloc, call),
+    }
+}
+
+/// What a call answers at a type with a sign and roots.
+pub(crate) fn signed_rooted_answers<T: Signed + Roots + Replayed>(
+    rt: &impl Abort,
+    alloc: Global,
+    call: Call,
+) -> Answered {
+    match call {
+        Call::ExtendedGcdLcm => signed_answers::<T>(rt, alloc, call),
+        _ => rooted_answers::<T>(rt, alloc, call),
+    }
+}
