@@ -2,6 +2,4 @@ pub mod NumberLemmas
 pub mod DecimalLemmas
 pub mod SinkLemmas
 pub mod WordsLemmas
-pub mod OnlyOutcome
 pub mod OnlyLine
-pub mod FractionLemmas

@@ -1,16 +1,17 @@
 -- At most one line and one status stand for a list of words.
 use Rattle.std.specs.Prelude.{◌≡◌, ◌∷◌, ℕ, List, Option, Some, None, map}
 use Rattle.std.proofs.Common.{◌+◌, ◌*◌, [], ap, subst, arith, refl}
-use Rattle.num_integer.specs.Only.{IsOnly}
-use Rattle.intcalc.specs.declared.call.Kind.{Kind}
-use Rattle.intcalc.specs.declared.call.Kind.TheVariants.{I8, U8, I64, U64}
-use Rattle.intcalc.specs.declared.call.Call.{Call}
-use Rattle.intcalc.specs.declared.call.Call.TheVariants.{DivRem, DivModFloor, DivFloor, DivCeil, ModFloor, NextMultipleOf, PrevMultipleOf, IsMultipleOf, Gcd, Lcm, GcdLcm, ExtendedGcd, AverageFloor, AverageCeil, Sqrt, Cbrt, NthRoot, Binomial, RatioAdd, RatioMul}
-use Rattle.intcalc.specs.Words.{word_of_kind, word_of_call, operands_of, AskFor, IsRequest}
+use Rattle.intcalc_core.specs.Only.{IsOnly}
+use Rattle.intcalc_core.specs.declared.calls.Kind.{Kind}
+use Rattle.intcalc_core.specs.declared.calls.Kind.TheVariants.{I8, U8, I64, U64}
+use Rattle.intcalc_core.specs.declared.calls.Call.{Call}
+use Rattle.intcalc_core.specs.declared.calls.Call.TheVariants.{DivRem, DivModFloor, DivFloor, DivCeil, ModFloor, NextMultipleOf, PrevMultipleOf, IsMultipleOf, Gcd, Lcm, GcdLcm, ExtendedGcd, AverageFloor, AverageCeil, Sqrt, Cbrt, NthRoot, Binomial, RatioAdd, RatioMul}
+use Rattle.intcalc_core.specs.Operands.{operands_of}
+use Rattle.intcalc.specs.Words.{word_of_kind, word_of_call, AskFor, IsRequest}
 use Rattle.intcalc.specs.Line.{IsReply, IsLine, text_of, status_of}
 use Rattle.intcalc.specs.Number.{spelled_number}
 use Rattle.intcalc.proofs.WordsLemmas.{map_Some_same}
-use Rattle.intcalc.proofs.OnlyOutcome.{only_outcome}
+use Rattle.intcalc_core.proofs.OnlyOutcome.{only_outcome}
 
 -- a number for each word
 abbrev code_of : List ℕ → ℕ

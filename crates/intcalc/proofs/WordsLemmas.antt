@@ -1,8 +1,9 @@
 -- What number words spell.
 use Rattle.std.proofs.Common.{◌≡◌, ℕ, ◌≤◌, ◌<◌, List, [], ◌∷◌, length, get_or, map, Option, Some, None, MatchOption, Bor, ℤ, ap, arith}
 use Rattle.intcalc.specs.Number.{spelled_number}
-use Rattle.intcalc.specs.Words.{operands_of, Names, Spell}
-use Rattle.intcalc.specs.declared.call.Call.{Call}
+use Rattle.intcalc.specs.Words.{Names, Spell}
+use Rattle.intcalc_core.specs.Operands.{operands_of}
+use Rattle.intcalc_core.specs.declared.calls.Call.{Call}
 
 -- equal in `Some`, and so equal
 pub map_Some_same : (xs ys : List ℤ) → map Some xs ≡ map Some ys → xs ≡ ys

@@ -1,13 +1,13 @@
 -- The line and the status for a list of words.
 use Rattle.std.specs.Prelude.{◌≡◌, ℕ, ℤ, List, ◌++◌, codes, Option, Some, None, Result, Ok, Err, true, false}
 use Rattle.std.specs.Fmt.{decimal, signed_decimal}
-use Rattle.intcalc.specs.declared.call.Kind.{Kind}
-use Rattle.intcalc.specs.declared.call.Call.{Call}
-use Rattle.intcalc.specs.declared.call.Answer.{Answer}
-use Rattle.intcalc.specs.declared.call.Answer.TheVariants.{One, Two, Three, Truth}
-use Rattle.intcalc.specs.declared.call.Refusal.{Refusal}
-use Rattle.intcalc.specs.Refusal.{number_of, name_of}
-use Rattle.intcalc.specs.Outcome.{Outcome}
+use Rattle.intcalc_core.specs.declared.calls.Kind.{Kind}
+use Rattle.intcalc_core.specs.declared.calls.Call.{Call}
+use Rattle.intcalc_core.specs.declared.calls.Answer.{Answer}
+use Rattle.intcalc_core.specs.declared.calls.Answer.TheVariants.{One, Two, Three, Truth}
+use Rattle.intcalc_core.specs.declared.calls.Refusal.{Refusal}
+use Rattle.intcalc_core.specs.Refusal.{number_of, name_of}
+use Rattle.intcalc_core.specs.Outcome.{Outcome}
 use Rattle.intcalc.specs.Words.{IsRequest}
 
 -- a space and a number

@@ -1,10 +1,11 @@
 -- The words that ask for a call.
-use Rattle.std.specs.Prelude.{◌≡◌, ℕ, ℤ, List, [], ◌∷◌, codes, map, Option, Some, MatchOption}
+use Rattle.std.specs.Prelude.{◌≡◌, ℕ, ℤ, List, ◌∷◌, codes, map, Option, Some, MatchOption}
 use Rattle.intcalc.specs.Number.{spelled_number}
-use Rattle.intcalc.specs.declared.call.Kind.{Kind}
-use Rattle.intcalc.specs.declared.call.Kind.TheVariants.{I8, U8, I64, U64}
-use Rattle.intcalc.specs.declared.call.Call.{Call}
-use Rattle.intcalc.specs.declared.call.Call.TheVariants.{DivRem, DivModFloor, DivFloor, DivCeil, ModFloor, NextMultipleOf, PrevMultipleOf, IsMultipleOf, Gcd, Lcm, GcdLcm, ExtendedGcd, AverageFloor, AverageCeil, Sqrt, Cbrt, NthRoot, Binomial, RatioAdd, RatioMul}
+use Rattle.intcalc_core.specs.Operands.{operands_of}
+use Rattle.intcalc_core.specs.declared.calls.Kind.{Kind}
+use Rattle.intcalc_core.specs.declared.calls.Kind.TheVariants.{I8, U8, I64, U64}
+use Rattle.intcalc_core.specs.declared.calls.Call.{Call}
+use Rattle.intcalc_core.specs.declared.calls.Call.TheVariants.{DivRem, DivModFloor, DivFloor, DivCeil, ModFloor, NextMultipleOf, PrevMultipleOf, IsMultipleOf, Gcd, Lcm, GcdLcm, ExtendedGcd, AverageFloor, AverageCeil, Sqrt, Cbrt, NthRoot, Binomial, RatioAdd, RatioMul}
 
 -- the word of a kind
 abbrev pub word_of_kind : Kind → List ℕ
@@ -35,29 +36,6 @@ word_of_call (NthRoot x n) = codes "nth_root"
 word_of_call (Binomial n k) = codes "binomial"
 word_of_call (RatioAdd a b c d) = codes "ratio_add"
 word_of_call (RatioMul a b c d) = codes "ratio_mul"
-
--- the operands of a call
-abbrev pub operands_of : Call → List ℤ
-operands_of (DivRem n d) = n ∷ d ∷ []
-operands_of (DivModFloor n d) = n ∷ d ∷ []
-operands_of (DivFloor n d) = n ∷ d ∷ []
-operands_of (DivCeil n d) = n ∷ d ∷ []
-operands_of (ModFloor n d) = n ∷ d ∷ []
-operands_of (NextMultipleOf n d) = n ∷ d ∷ []
-operands_of (PrevMultipleOf n d) = n ∷ d ∷ []
-operands_of (IsMultipleOf n d) = n ∷ d ∷ []
-operands_of (Gcd a b) = a ∷ b ∷ []
-operands_of (Lcm a b) = a ∷ b ∷ []
-operands_of (GcdLcm a b) = a ∷ b ∷ []
-operands_of (ExtendedGcd a b) = a ∷ b ∷ []
-operands_of (AverageFloor a b) = a ∷ b ∷ []
-operands_of (AverageCeil a b) = a ∷ b ∷ []
-operands_of (Sqrt x) = x ∷ []
-operands_of (Cbrt x) = x ∷ []
-operands_of (NthRoot x n) = x ∷ n ∷ []
-operands_of (Binomial n k) = n ∷ k ∷ []
-operands_of (RatioAdd a b c d) = a ∷ b ∷ c ∷ d ∷ []
-operands_of (RatioMul a b c d) = a ∷ b ∷ c ∷ d ∷ []
 
 -- the word and the operands are those of the call
 pub record Names (word : List ℕ) (operands : List ℤ) (call : Call) : Type 0 where

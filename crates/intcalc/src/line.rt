@@ -5,8 +5,8 @@ ghost use Rattle.std.specs.Fmt.{decimal, signed_decimal};
 ghost use Rattle.intcalc.specs.declared.line.TheConstants.{CAPACITY};
 ghost use Rattle.intcalc.specs.Line.{next_number, text_of_answer, text_of_refusal};
 
-use crate::call::{Answer, Refusal};
 use crate::decimal::{WIDTH, write_digits};
+use intcalc_core::{Answer, Refusal};
 use std::marker::Model;
 
 const CAPACITY: usize = 128;

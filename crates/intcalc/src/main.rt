@@ -7,11 +7,9 @@
 
 ghost use Rattle.std.specs.Prelude.{◌≡◌, ◌↔◌, IsTrue, IfOk, OnErr};
 
-mod call;
 mod decimal;
 mod line;
 mod number;
-mod outcome;
 mod run;
 mod sink;
 #[cfg(test)]

@@ -6,11 +6,10 @@ ghost use Rattle.std.specs.Io.KnownBytes.{Appends};
 ghost use Rattle.intcalc.specs.declared.line.TheConstants.{CAPACITY};
 ghost use Rattle.intcalc.specs.Line.{IsReply, IsLine};
 
-use crate::call::{Call, Kind};
 use crate::line::Line;
-use crate::outcome::evaluate;
 use crate::sink::{Sink, put_all};
 use crate::words::read_words;
+use intcalc_core::{Call, Kind, evaluate};
 
 // What is printed for a request, without the line feed, and the status.
 fn reply(request: Option<(Kind, Call)>) -> (Line, u8)

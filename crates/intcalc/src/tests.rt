@@ -1,29 +1,17 @@
 //! What is printed.
 
 ghost use Rattle.std.specs.Prelude.{◌≤◌, map};
-ghost use Rattle.num_integer.specs.Only.{IsOnly};
+ghost use Rattle.intcalc_core.specs.Only.{IsOnly};
 ghost use Rattle.intcalc.specs.Line.{IsLine};
-ghost use Rattle.intcalc.specs.Outcome.{Outcome};
 
 mod failing_writers;
-mod fractions;
 mod tape;
 
-use crate::call::{Answer, Call, Kind, Refusal};
 use crate::line::Line;
 use crate::number::read_number;
-use crate::outcome::evaluate;
 use crate::run::{line_for, run};
 use crate::sink::Console;
 use tape::{ROOM, Tape};
-
-/// Exactly one result stands in the outcome of a kind and a call.
-fn only_outcome(kind: Kind, call: Call) -> Result<Answer, Refusal>
-    ensures outcome { Outcome kind call result }
-    ensures only { IsOnly (Outcome kind call) result }
-{
-    evaluate(kind, call)
-}
 
 /// Exactly one line and one status stand for a list of words.
 fn only_line(words: &[&str]) -> (Line, u8)
@@ -178,35 +166,7 @@ fn a_hundred_digits(rt: HostRuntime) {
 }
 
 #[test]
-fn refusals(rt: HostRuntime) {
-    let rows = [
-        (Refusal::OutOfType, 1, "OutOfType"),
-        (Refusal::ZeroDivisor, 2, "ZeroDivisor"),
-        (Refusal::ZeroDegree, 3, "ZeroDegree"),
-        (Refusal::NegativeRoot, 4, "NegativeRoot"),
-        (Refusal::NegativeCount, 5, "NegativeCount"),
-        (Refusal::NotFitting, 6, "NotFitting"),
-        (Refusal::NoPair, 7, "NoPair"),
-    ];
-    for (refusal, number, name) in rows {
-        assert_eq!(rt; refusal.number(), number);
-        assert_eq!(rt; refusal.name(), name);
-    }
-}
-
-#[test]
-fn outcomes(rt: HostRuntime) {
-    let call = Call::ModFloor(i128::from(i64::MIN), -1);
-    assert_eq!(rt; only_outcome(Kind::I64, call), Ok(Answer::One(0)));
-    assert_eq!(rt; only_outcome(Kind::U64, call), Err(Refusal::OutOfType));
-    let call = Call::DivRem(i128::MIN, 0);
-    assert_eq!(rt; only_outcome(Kind::I64, call), Err(Refusal::OutOfType));
-    let call = Call::Gcd(i128::MAX, i128::MIN);
-    assert_eq!(rt; only_outcome(Kind::I8, call), Err(Refusal::OutOfType));
-    for degree in [-1, i128::MAX] {
-        let call = Call::NthRoot(5, degree);
-        assert_eq!(rt; only_outcome(Kind::U64, call), Err(Refusal::OutOfType));
-    }
+fn the_only_line(rt: HostRuntime) {
     let (line, status) = only_line(&["i64", "div_mod_floor", "-8", "3"]);
     assert_eq!(rt; (line.as_bytes(), status), (b"-3 1\n".as_slice(), 0));
 }

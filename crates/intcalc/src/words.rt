@@ -3,8 +3,8 @@
 ghost use Rattle.std.specs.Prelude.{◌≡◌, ◌≢◌, ◌∷◌, [], map, MatchOption};
 ghost use Rattle.intcalc.specs.Words.{word_of_kind, Names, Spell, IsRequest};
 
-use crate::call::{Call, Kind};
 use crate::number::read_number;
+use intcalc_core::{Call, Kind};
 
 fn read_kind(word: &str) -> Option<Kind>
     ensures { MatchOption result ((kind : _) → word.now ≢ word_of_kind kind)

@@ -1,0 +1,2 @@
+pub mod OnlyOutcome
+pub mod FractionLemmas

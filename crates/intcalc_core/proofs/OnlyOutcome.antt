@@ -1,0 +1,94 @@
+-- At most one result stands in an outcome.
+use Rattle.std.specs.Prelude.{◌≡◌, ◌⊎◌, ◌↔◌, ◌+ℤ◌, ◌*ℤ◌, ℤ, unsigned_abs, Bool, true, false, IsTrue, Result, Ok, Err}
+use Rattle.std.proofs.Common.{inl, inr, refl, sym, ap, ◌∙◌}
+use Rattle.std.proofs.lemmas.Bool.{true≢false}
+use Rattle.num_integer.specs.Averages.{IsAverageFloor, IsAverageCeil}
+use Rattle.num_integer.specs.Bezout.{IsBezoutAnswer}
+use Rattle.num_integer.specs.Coefficient.{coefficient_of}
+use Rattle.num_integer.specs.Division.{IsCeiled, IsFloored, IsMultiple, IsQuotient, IsRemainder, IsTruncated}
+use Rattle.num_integer.specs.Divisors.{IsGreatestCommonDivisor, IsLeastCommonMultiple}
+use Rattle.num_integer.specs.Only.{IsOnly}
+use Rattle.num_integer.specs.RootOf.{IsRoot}
+use Rattle.num_integer.proofs.Laws.{average_ceil_is_only, average_floor_is_only, bezout_answer_is_only, division_is_only, gcd_is_only, lcm_is_only, root_is_only}
+use Rattle.intcalc_core.specs.declared.calls.Answer.{Answer}
+use Rattle.intcalc_core.specs.declared.calls.Answer.TheVariants.{Two, Three}
+use Rattle.intcalc_core.specs.declared.calls.Call.{Call}
+use Rattle.intcalc_core.specs.declared.calls.Call.TheVariants.{DivRem, DivModFloor, DivFloor, DivCeil, ModFloor, NextMultipleOf, PrevMultipleOf, IsMultipleOf, Gcd, Lcm, GcdLcm, ExtendedGcd, AverageFloor, AverageCeil, Sqrt, Cbrt, NthRoot, Binomial, RatioAdd, RatioMul}
+use Rattle.intcalc_core.specs.declared.calls.Kind.{Kind}
+use Rattle.intcalc_core.specs.declared.calls.Refusal.{Refusal}
+use Rattle.intcalc_core.specs.Outcome.{AnswersOne, AnswersTwo, AnswersThree, AnswersWhether, AreGcdAndLcm, FitsKind, Inside, NeedsFractions, AnswersExact, Outcome}
+use Rattle.ratio64.specs.Fraction.{IsExact}
+use Rattle.ratio64.proofs.Laws.{exact_result_is_only}
+
+-- where the rest of a row leaves one result, so does the row
+only_needs : {P R S : Type 0} {refusal : Refusal} {r s : Result Answer Refusal} → (R → S → s ≡ r) → (¬ P × (r ≡ Err refusal)) ⊎ (P × R) → (¬ P × (s ≡ Err refusal)) ⊎ (P × S) → s ≡ r
+only_needs only (inl h) (inl k) = cc
+only_needs only (inl h) (inr k) = absurd (h.0 k.0)
+only_needs only (inr h) (inl k) = absurd (k.0 h.0)
+only_needs only (inr h) (inr k) = only h.1 k.1
+
+only_one : (P : ℤ → Type 0) {r s : Result Answer Refusal} → ((n : ℤ) → P n → IsOnly P n) → AnswersOne P r → AnswersOne P s → s ≡ r
+only_one P only h k = let e = only h.number h.meets k.number k.meets in cc
+
+only_two : (P : ℤ → ℤ → Type 0) {r s : Result Answer Refusal} → ((m n : ℤ) → P m n → IsOnly (λ (p, q). P p q) (m, n)) → AnswersTwo P r → AnswersTwo P s → s ≡ r
+only_two P only h k =
+    let e = only h.first h.second h.meets (k.first, k.second) k.meets in
+    k.is ∙ ap (λ (t : ℤ × ℤ). Ok (Two t.0 t.1)) e ∙ sym h.is
+
+only_bezout : {a b : ℤ} {r s : Result Answer Refusal} → AnswersThree (IsBezoutAnswer a b) r → AnswersThree (IsBezoutAnswer a b) s → s ≡ r
+only_bezout {a} {b} h k =
+    let e = bezout_answer_is_only a b _ _ _ h.meets (k.first, k.second, k.third) k.meets in
+    k.is ∙ ap (λ (t : ℤ × ℤ × ℤ). Ok (Three t.0 t.1 t.2)) e ∙ sym h.is
+
+only_truth : {P : Type 0} (b c : Bool) → IsTrue b ↔ P → IsTrue c ↔ P → b ≡ c
+only_truth true true h k = refl
+only_truth false false h k = refl
+only_truth true false h k = absurd (true≢false (sym (k.1 (h.0 refl))))
+only_truth false true h k = absurd (true≢false (sym (h.1 (k.0 refl))))
+
+only_whether : {P : Type 0} {r s : Result Answer Refusal} → AnswersWhether P r → AnswersWhether P s → s ≡ r
+only_whether h k = let e = only_truth h.truth k.truth h.tells k.tells in cc
+
+-- a kind of division with one quotient and remainder has one multiple
+module _ {Kind : ℤ → ℤ → ℤ → ℤ → Type 0} (only : (n d q r : ℤ) → Kind n d q r → IsOnly (λ (p, s). Kind n d p s) (q, r)) (n d : ℤ) where
+  only_quotient : (q : ℤ) → IsQuotient Kind n d q → IsOnly (IsQuotient Kind n d) q
+  only_quotient q h p k = ap (λ (t : ℤ × ℤ). t.0) (only n d q h.remainder h.division (p, k.remainder) k.division)
+
+  only_remainder : (r : ℤ) → IsRemainder Kind n d r → IsOnly (IsRemainder Kind n d) r
+  only_remainder r h s k = ap (λ (t : ℤ × ℤ). t.1) (only n d h.quotient r h.division (k.quotient, s) k.division)
+
+  only_multiple : (m : ℤ) → IsMultiple Kind n d m → IsOnly (IsMultiple Kind n d) m
+  only_multiple m h l k = k.product ∙ ap (λ (q : ℤ). q *ℤ d) (only_quotient h.quotient h.is k.quotient k.is) ∙ sym h.product
+
+only_gcd_and_lcm : (a b g l : ℤ) → AreGcdAndLcm a b g l → IsOnly (λ (h, m). AreGcdAndLcm a b h m) (g, l)
+only_gcd_and_lcm a b g l h (i, m) k = rw (gcd_is_only a b g h.greatest i k.greatest, lcm_is_only a b l h.least m k.least) refl
+
+-- fractions have one result m/n
+only_fractions : {a b c d : ℤ} (m n : ℤ) {r s : Result Answer Refusal} → NeedsFractions a b c d (AnswersExact m n) r → NeedsFractions a b c d (AnswersExact m n) s → s ≡ r
+only_fractions m n = only_needs (only_needs (only_needs (only_needs (only_needs (only_two (IsExact m n) (exact_result_is_only m n))))))
+
+only_inside : (fits : ℤ → Type 0) (call : Call) (r s : Result Answer Refusal) → Inside fits call r → Inside fits call s → s ≡ r
+unfolding Inside
+only_inside fits (DivRem n d) r s = only_needs (only_needs (only_two (IsTruncated n d) (division_is_only.0 n d)))
+only_inside fits (DivModFloor n d) r s = only_needs (only_needs (only_two (IsFloored n d) (division_is_only.1 n d)))
+only_inside fits (DivFloor n d) r s = only_needs (only_needs (only_one (IsQuotient IsFloored n d) (only_quotient division_is_only.1 n d)))
+only_inside fits (DivCeil n d) r s = only_needs (only_needs (only_one (IsQuotient IsCeiled n d) (only_quotient division_is_only.2 n d)))
+only_inside fits (ModFloor n d) r s = only_needs (only_one (IsRemainder IsFloored n d) (only_remainder division_is_only.1 n d))
+only_inside fits (NextMultipleOf n d) r s = only_needs (only_needs (only_one (IsMultiple IsCeiled n d) (only_multiple division_is_only.2 n d)))
+only_inside fits (PrevMultipleOf n d) r s = only_needs (only_needs (only_one (IsMultiple IsFloored n d) (only_multiple division_is_only.1 n d)))
+only_inside fits (IsMultipleOf n d) r s = only_whether
+only_inside fits (Gcd a b) r s = only_needs (only_one (IsGreatestCommonDivisor a b) (gcd_is_only a b))
+only_inside fits (Lcm a b) r s = only_needs (only_one (IsLeastCommonMultiple a b) (lcm_is_only a b))
+only_inside fits (GcdLcm a b) r s = only_needs (only_needs (only_two (AreGcdAndLcm a b) (only_gcd_and_lcm a b)))
+only_inside fits (ExtendedGcd a b) r s = only_needs (only_needs only_bezout)
+only_inside fits (AverageFloor a b) r s = only_one (IsAverageFloor a b) (average_floor_is_only a b)
+only_inside fits (AverageCeil a b) r s = only_one (IsAverageCeil a b) (average_ceil_is_only a b)
+only_inside fits (Sqrt x) r s = only_needs (only_one (IsRoot x 2) (root_is_only x 2))
+only_inside fits (Cbrt x) r s = only_one (IsRoot x 3) (root_is_only x 3)
+only_inside fits (NthRoot x n) r s = only_needs (only_needs (only_one (IsRoot x (unsigned_abs n)) (root_is_only x (unsigned_abs n))))
+only_inside fits (Binomial n k) r s = only_needs (only_needs (only_one (λ c. c ≡ coefficient_of n k) (λ _ h _ k. k ∙ sym h)))
+only_inside fits (RatioAdd a b c d) r s = only_fractions (a *ℤ d +ℤ c *ℤ b) (b *ℤ d)
+only_inside fits (RatioMul a b c d) r s = only_fractions (a *ℤ c) (b *ℤ d)
+
+pub only_outcome : (kind : Kind) (call : Call) (r : Result Answer Refusal) → Outcome kind call r → IsOnly (Outcome kind call) r
+only_outcome kind call r outcome s = only_needs (only_needs (only_inside (FitsKind kind) call r s)) outcome

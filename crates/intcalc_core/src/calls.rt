@@ -1,0 +1,102 @@
+//! What can be asked, and what is answered.
+
+ghost use Rattle.std.specs.Prelude.{◌≡◌};
+ghost use Rattle.intcalc_core.specs.Refusal.{number_of, name_of};
+
+/// The integer type that a call is made at.
+#[derive(Debug, Clone, Copy, PartialEq, Eq)]
+pub enum Kind {
+    I8,
+    U8,
+    I64,
+    U64,
+}
+
+/// A call with its operands. An operand may lie outside the kind, and is then refused.
+#[derive(Debug, Clone, Copy, PartialEq, Eq)]
+pub enum Call {
+    DivRem(i128, i128),
+    DivModFloor(i128, i128),
+    DivFloor(i128, i128),
+    DivCeil(i128, i128),
+    ModFloor(i128, i128),
+    NextMultipleOf(i128, i128),
+    PrevMultipleOf(i128, i128),
+    IsMultipleOf(i128, i128),
+    Gcd(i128, i128),
+    Lcm(i128, i128),
+    GcdLcm(i128, i128),
+    ExtendedGcd(i128, i128),
+    AverageFloor(i128, i128),
+    AverageCeil(i128, i128),
+    Sqrt(i128),
+    Cbrt(i128),
+    /// The number, and the degree.
+    NthRoot(i128, i128),
+    Binomial(i128, i128),
+    /// The numerator and the denominator of each of two fractions.
+    RatioAdd(i128, i128, i128, i128),
+    RatioMul(i128, i128, i128, i128),
+}
+
+/// The numbers that a call answers, or whether something is so.
+#[derive(Debug, Clone, Copy, PartialEq, Eq)]
+pub enum Answer {
+    One(i128),
+    Two(i128, i128),
+    Three(i128, i128, i128),
+    Truth(bool),
+}
+
+/// Why a call has no answer.
+#[derive(Debug, Clone, Copy, PartialEq, Eq)]
+pub enum Refusal {
+    /// An operand lies outside the kind, or a degree outside `u32`; or fractions are asked for at a kind
+    /// other than `i64`.
+    OutOfType,
+    /// The divisor, or a denominator, is 0.
+    ZeroDivisor,
+    /// The degree is 0.
+    ZeroDegree,
+    /// The number is negative, and the degree even.
+    NegativeRoot,
+    /// A count is negative.
+    NegativeCount,
+    /// The quotient, multiple, divisor or coefficient lies outside the kind, or a part of a reduced
+    /// fraction outside `i64`.
+    NotFitting,
+    /// The kind is unsigned, and neither operand divides the other.
+    NoPair,
+}
+
+impl Refusal {
+    /// The number that is printed. It is the same in every version.
+    pub fn number(&self) -> u32
+        ensures { result ≡ number_of self.now }
+    {
+        match self {
+            Refusal::OutOfType => 1,
+            Refusal::ZeroDivisor => 2,
+            Refusal::ZeroDegree => 3,
+            Refusal::NegativeRoot => 4,
+            Refusal::NegativeCount => 5,
+            Refusal::NotFitting => 6,
+            Refusal::NoPair => 7,
+        }
+    }
+
+    /// The name that is printed.
+    pub fn name(&self) -> &'static str
+        ensures { result.now ≡ name_of self.now }
+    {
+        match self {
+            Refusal::OutOfType => "OutOfType",
+            Refusal::ZeroDivisor => "ZeroDivisor",
+            Refusal::ZeroDegree => "ZeroDegree",
+            Refusal::NegativeRoot => "NegativeRoot",
+            Refusal::NegativeCount => "NegativeCount",
+            Refusal::NotFitting => "NotFitting",
+            Refusal::NoPair => "NoPair",
+        }
+    }
+}

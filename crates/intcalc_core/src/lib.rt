@@ -1,0 +1,10 @@
+//! One call of `num_integer` or `ratio64` at the type of a kind: what it answers, or why it is refused.
+#![tactic(auto)]
+
+mod calls;
+mod outcome;
+#[cfg(test)]
+mod tests;
+
+pub use calls::{Answer, Call, Kind, Refusal};
+pub use outcome::evaluate;

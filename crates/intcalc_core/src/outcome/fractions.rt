@@ -1,0 +1,56 @@
+//! Sums and products of fractions.
+
+ghost use Rattle.std.specs.Prelude.{◌≡◌, ◌+ℤ◌, ◌*ℤ◌, Ok, Err, MatchResult};
+ghost use Rattle.ratio64.specs.Fraction.{IsFraction, IsTooWide};
+ghost use Rattle.ratio64.specs.Ratio.{num_of, den_of};
+ghost use Rattle.intcalc_core.specs.declared.calls.Answer.TheVariants as answers;
+ghost use Rattle.intcalc_core.specs.declared.calls.Refusal.TheVariants as refusals;
+ghost use Rattle.intcalc_core.specs.Fractions.{IsRatioOf};
+ghost use Rattle.intcalc_core.specs.Outcome.{AnswersExact, NeedsFractions};
+
+use crate::calls::{Answer, Refusal};
+use crate::outcome::operand::needs;
+use ratio64::{Ratio, RatioError};
+
+pub(crate) fn sum(a: i64, b: i64, c: i64, d: i64) -> Result<Answer, Refusal>
+    ensures { NeedsFractions a b c d (AnswersExact (a *ℤ d +ℤ c *ℤ b) (b *ℤ d)) result }
+{
+    let (x, y) = fractions(a, b, c, d)?;
+    parts(x.checked_add(&y))
+}
+
+pub(crate) fn product(a: i64, b: i64, c: i64, d: i64) -> Result<Answer, Refusal>
+    ensures { NeedsFractions a b c d (AnswersExact (a *ℤ c) (b *ℤ d)) result }
+{
+    let (x, y) = fractions(a, b, c, d)?;
+    parts(x.checked_mul(&y))
+}
+
+/// The fractions `a / b` and `c / d`.
+fn fractions(a: i64, b: i64, c: i64, d: i64) -> Result<(Ratio, Ratio), Refusal>
+    ensures { MatchResult result (λ (x, y). IsRatioOf a b x × IsRatioOf c d y)
+        (λ refusal. NeedsFractions a b c d (λ _. ⊥) (Err refusal)) }
+{
+    needs(b != 0, Refusal::ZeroDivisor)?;
+    needs(d != 0, Refusal::ZeroDivisor)?;
+    Ok((fraction(a, b)?, fraction(c, d)?))
+}
+
+fn fraction(num: i64, den: i64) -> Result<Ratio, Refusal>
+    requires { IsFraction num den }
+    ensures { MatchResult result (IsRatioOf num den)
+        (λ refusal. (refusal ≡ refusals.NotFitting) × IsTooWide num den) }
+{
+    Ratio::new(num, den).map_err(|_| Refusal::NotFitting)
+}
+
+/// The parts of an answer, refused where it has none.
+fn parts(answer: Result<Ratio, RatioError>) -> Result<Answer, Refusal>
+    ensures { MatchResult answer (λ x. result ≡ Ok (answers.Two (num_of x) (den_of x)))
+        (λ _. result ≡ Err refusals.NotFitting) }
+{
+    match answer {
+        Ok(x) => Ok(Answer::Two(i128::from(x.num()), i128::from(x.den()))),
+        Err(_) => Err(Refusal::NotFitting),
+    }
+}

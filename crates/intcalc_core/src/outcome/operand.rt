@@ -1,0 +1,65 @@
+//! Operands at the type of a kind, and refusals.
+
+ghost use Rattle.std.specs.Prelude.{◌≡◌, ◌↔◌, ◌≤ℤ◌, pos, false, IsTrue, MatchResult};
+ghost use Rattle.intcalc_core.specs.declared.calls.Answer.TheVariants as answers;
+ghost use Rattle.intcalc_core.specs.declared.calls.Refusal.TheVariants as refusals;
+ghost use Rattle.intcalc_core.specs.Outcome.{Narrows};
+
+use crate::calls::{Answer, Refusal};
+use num_integer::{Average, Fits, Integer, Roots};
+use std::num::TryFromIntError;
+
+/// The type of a kind, at which the library's calls are made.
+pub(crate) trait Operand: Average + Fits + Roots {}
+
+impl<T: Average + Fits + Roots> Operand for T {}
+
+/// The value that means `n`, refused where `n` lies outside the type.
+pub(crate) fn narrow<T: Integer + TryFrom<i128, Error = TryFromIntError>>(
+    n: i128,
+) -> Result<T, Refusal>
+    requires { Narrows T.value T.fits T.try_from_gives }
+    ensures { MatchResult result (λ x. (T.value x ≡ n) × T.fits n)
+        (λ refusal. (refusal ≡ refusals.OutOfType) × ¬ (T.fits n)) }
+{
+    T::try_from(n).map_err(|_| Refusal::OutOfType)
+}
+
+/// The number that `x` means.
+pub(crate) fn widen<T: Operand>(x: T) -> i128
+    requires { T.fits (T.value x) }
+    ensures { result ≡ T.value x }
+{
+    let (negative, magnitude) = x.parts();
+    let magnitude = magnitude as i128;
+    if negative { -magnitude } else { magnitude }
+}
+
+pub(crate) fn two<T: Operand>(pair: (T, T)) -> Answer
+    requires first_in_range { T.fits (T.value pair.0) }
+    requires second_in_range { T.fits (T.value pair.1) }
+    ensures { result ≡ answers.Two (T.value pair.0) (T.value pair.1) }
+{
+    Answer::Two(widen(pair.0), widen(pair.1))
+}
+
+pub(crate) fn three<T: Operand>(x: T, y: T, z: T) -> Answer
+    requires in_range { T.fits (T.value x) × T.fits (T.value y) × T.fits (T.value z) }
+    ensures { result ≡ answers.Three (T.value x) (T.value y) (T.value z) }
+{
+    Answer::Three(widen(x), widen(y), widen(z))
+}
+
+/// Refuses a call for which the condition does not hold.
+pub(crate) fn needs(holds: bool, refusal: Refusal) -> Result<(), Refusal>
+    ensures { MatchResult result (λ _. IsTrue holds) (λ r. (r ≡ refusal) × (holds ≡ false)) }
+{
+    if holds { Ok(()) } else { Err(refusal) }
+}
+
+pub(crate) fn is_from_zero<T: Operand>(x: T) -> bool
+    requires in_range { T.fits (T.value x) }
+    ensures { IsTrue result ↔ (pos 0 ≤ℤ T.value x) }
+{
+    !x.parts().0
+}
