@@ -1,6 +1,6 @@
 -- A whole quotient r * a / b, cancelled by the greatest common divisor g of r and b.
 use Rattle.std.specs.Prelude.{◌≢◌, ◌≤ℤ◌, ◌<ℤ◌, ◌*ℤ◌, ℤ, pos, negsuc, int_div}
-use Rattle.std.proofs.Common.{◌≡◌, ◌≤◌, ◌/◌, ◌<◌, arith}
+use Rattle.std.proofs.Common.{◌≡◌, ◌/◌, ◌<◌, arith}
 use Rattle.std.proofs.lemmas.Int.{ints}
 use Rattle.std.proofs.lemmas.Nat.{le-div}
 use borrow.Author.Differences.{abs_is}

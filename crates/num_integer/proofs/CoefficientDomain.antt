@@ -9,7 +9,7 @@ use Rattle.integer_core.specs.Range.{IsRange, EachFits}
 use Rattle.num_integer.specs.Coefficient.{coefficient}
 use Rattle.num_integer.specs.Multinomial.{IsMultinomial}
 use Rattle.num_integer.proofs.Ranges.{fits_up}
-use Rattle.num_integer.proofs.RunningSums.{IsSharedSoFar, is_multinomial, only_multinomial, product_of, shared_below, shared_first, shared_last, shared_next}
+use Rattle.num_integer.proofs.RunningSums.{IsSharedSoFar, is_multinomial, only_multinomial, shared_below, shared_first, shared_last, shared_next}
 
 -- whether a coefficient within the greatest number was found
 pub test_of : {fits : ℤ → Type 0} {low high : ℤ} {r : Bool} (found : Option ℕ) (c most : ℕ) → IsRange fits low high → pos most ≡ high → r ≡ is_some found

@@ -1,5 +1,5 @@
 -- The loop of `multinomial`: no number on the way leaves the type.
-use Rattle.std.specs.Prelude.{◌≡◌, ◌+◌, ◌*◌, ◌<◌, ◌≤◌, ◌≤ℤ◌, ◌+ℤ◌, ◌*ℤ◌, ℕ, ℤ, zero, suc, pos, negsuc, unsigned_abs, List, map, length, get_or}
+use Rattle.std.specs.Prelude.{◌≡◌, ◌+◌, ◌<◌, ◌≤◌, ◌≤ℤ◌, ◌+ℤ◌, ◌*ℤ◌, ℕ, ℤ, zero, suc, pos, negsuc, unsigned_abs, List, map, length, get_or}
 use Rattle.std.specs.List.{All}
 use Rattle.std.proofs.Common.{arith, ap, refl, subst, sym}
 use Rattle.std.proofs.Math.Nat.{le-mul_of_pos_right}

@@ -1,6 +1,6 @@
 -- Where the next and the previous multiple fit.
-use Rattle.std.specs.Prelude.{◌≡◌, ◌≢◌, ◌↔◌, ◌<ℤ◌, ◌+ℤ◌, ℤ, ℕ, pos, neg_ℤ, unsigned_abs, Bool, true, false, not, IsTrue}
-use Rattle.std.proofs.Common.{arith, refl, subst, sym}
+use Rattle.std.specs.Prelude.{◌≡◌, ◌≢◌, ◌↔◌, ◌<ℤ◌, ℤ, ℕ, pos, neg_ℤ, unsigned_abs, Bool, true, false, not, IsTrue}
+use Rattle.std.proofs.Common.{arith, refl, sym}
 use Rattle.std.proofs.lemmas.Bool.{iff_false}
 use borrow.Author.Differences.{abs_is}
 use Rattle.integer_core.proofs.Multiples.{only_multiple}

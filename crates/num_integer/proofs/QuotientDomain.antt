@@ -1,12 +1,12 @@
 -- Where the quotient of a division fits, of any kind.
-use Rattle.std.specs.Prelude.{◌≡◌, ◌≢◌, ◌↔◌, ◌⊎◌, ◌<ℤ◌, ◌*ℤ◌, ℤ, ℕ, pos, negsuc, neg_ℤ, unsigned_abs, Bool, true, false, IsTrue, nat_le}
+use Rattle.std.specs.Prelude.{◌≡◌, ◌≢◌, ◌↔◌, ◌⊎◌, ◌<ℤ◌, ℤ, ℕ, pos, negsuc, neg_ℤ, unsigned_abs, Bool, true, false, IsTrue, nat_le}
 use Rattle.std.proofs.Common.{arith, inl, inr, refl}
 use Rattle.std.proofs.lemmas.Int.{ints}
 use Rattle.std.proofs.lemmas.Bool.{iff_false, leb-true, le-leb}
 use borrow.Author.Differences.{abs_is}
-use Rattle.integer_core.proofs.Whole.{linear, products}
+use Rattle.integer_core.proofs.Whole.{linear}
 use Rattle.integer_core.proofs.Quotients.{floored_by_minus_one, other_quotient_fits}
-use Rattle.integer_core.specs.Division.{IsDivision, IsQuotient}
+use Rattle.integer_core.specs.Division.{IsQuotient}
 use Rattle.integer_core.specs.Range.{IsRange, EachFits}
 use Rattle.num_integer.proofs.DivisionKinds.{IsKind}
 use Rattle.num_integer.proofs.Ranges.{each_fits_by}

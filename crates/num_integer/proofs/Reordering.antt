@@ -1,5 +1,5 @@
 -- Counts in another order have the same multinomial.
-use Rattle.std.specs.Prelude.{◌≡◌, ◌*◌, ◌<◌, ℕ, ℤ, unsigned_abs, List, [], ◌∷◌, map, length, get_or, set}
+use Rattle.std.specs.Prelude.{◌≡◌, ◌*◌, ◌<◌, ℕ, unsigned_abs, List, [], ◌∷◌, map, length, get_or, set}
 use Rattle.std.specs.List.{All, swap}
 use Rattle.std.specs.List.Sorted.{IsPermutation}
 use Rattle.std.proofs.Common.{zero, suc, arith, inl, inr, refl, ap, ◌∙◌, subst}
@@ -10,7 +10,7 @@ use Rattle.std.proofs.lemmas.List.Elements.{All-get_or, All-map, All-set}
 use Rattle.std.proofs.lemmas.List.Sorted.{IsPermutation-keeps, IsPermutation-map, sum_by-IsPermutation}
 use Rattle.std.proofs.Math.Nat.{eq_of_mul-eq-mul_left}
 use Rattle.num_integer.specs.Coefficient.{factorial}
-use Rattle.num_integer.specs.Multinomial.{IsMultinomial, product}
+use Rattle.num_integer.specs.Multinomial.{product}
 use Rattle.num_integer.specs.Laws.{MultinomialIgnoresOrder}
 use Rattle.num_integer.proofs.Pascal.{factorial-pos}
 

@@ -1,5 +1,5 @@
 -- The multinomial of a list is the product of the coefficients of its running sums.
-use Rattle.std.specs.Prelude.{◌*ℤ◌, ℤ, pos, unsigned_abs, List, [], ◌∷◌, map, sum, length, get_or, drop}
+use Rattle.std.specs.Prelude.{ℤ, pos, unsigned_abs, List, [], ◌∷◌, map, sum, length, get_or, drop}
 use Rattle.std.proofs.Common.{◌≡◌, ℕ, ◌+◌, ◌-◌, ◌*◌, ◌<◌, ◌≤◌, ap, sym, ◌∙◌, arith}
 use Rattle.std.proofs.Math.Nat.{le-mul_of_pos_right, mul-pos}
 use Rattle.std.proofs.lemmas.Int.{ints}

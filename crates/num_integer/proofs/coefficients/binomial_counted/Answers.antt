@@ -1,4 +1,4 @@
-use Rattle.std.specs.Prelude.{◌≤◌, ◌+◌, ◌-◌, ◌+ℤ◌, min, pos, unsigned_abs}
+use Rattle.std.specs.Prelude.{◌+◌, ◌+ℤ◌, pos, unsigned_abs}
 use Rattle.std.proofs.Common.{arith, ap, ◌∙◌}
 use Rattle.std.proofs.lemmas.Bool.{iff_false}
 use Rattle.std.proofs.lemmas.Int.{ints}

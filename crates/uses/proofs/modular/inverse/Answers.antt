@@ -1,4 +1,4 @@
-use Rattle.std.proofs.Common.{◌≡◌, ◌∙◌, sym}
+use Rattle.std.proofs.Common.{◌∙◌, sym}
 use Rattle.num_integer.proofs.Congruences.{inverse_found, no_inverse}
 use Rattle.num_integer.proofs.ForCallers.{gcd_with_positive_fits}
 use Rattle.uses.proofs.modular.inverse.Goals as goal

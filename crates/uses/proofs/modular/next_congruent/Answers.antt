@@ -1,5 +1,4 @@
-use Rattle.std.specs.Prelude.{◌≤ℤ◌, pos}
-use Rattle.std.proofs.Common.{◌≡◌, arith}
+use Rattle.std.proofs.Common.{arith}
 use Rattle.std.proofs.lemmas.Bool.{iff_false}
 use Rattle.num_integer.proofs.Congruences.{next_congruent_is, none_congruent_fits}
 use Rattle.num_integer.proofs.ForCallers.{signed_is, sizes, sum_fits_exactly}

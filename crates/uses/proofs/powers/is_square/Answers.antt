@@ -1,4 +1,4 @@
-use Rattle.std.proofs.Common.{◌≡◌, ◌∙◌, sym}
+use Rattle.std.proofs.Common.{◌∙◌, sym}
 use Rattle.num_integer.proofs.ForCallers.{square_root_of_square}
 use Rattle.uses.proofs.powers.is_square.Goals as goal
 
