@@ -1,7 +1,9 @@
 //! The inputs, as signs and magnitudes. `compare/src/inputs.rs` makes the same ones.
 
+ghost use Rattle.std.specs.Prelude.{◌≤◌, ⊤, MatchOption, if◌then◌else◌};
+
 /// Whether a number is negative, and its magnitude.
-pub(crate) type Whole = (bool, u128);
+pub type Whole = (bool, u128);
 
 /// How many numbers are asked for their roots.
 pub(crate) const ROOTED: u32 = 2048;
@@ -40,10 +42,10 @@ pub(crate) const ROWS: u32 = 140;
 
 /// A type's number of bits, the magnitude of its least number, and its greatest number.
 #[derive(Clone, Copy)]
-pub(crate) struct Shape {
-    pub(crate) width: u32,
-    pub(crate) low: u128,
-    pub(crate) high: u128,
+pub struct Shape {
+    pub width: u32,
+    pub low: u128,
+    pub high: u128,
 }
 
 impl Shape {
@@ -66,7 +68,9 @@ impl Shape {
 
     /// The number at an index, where it lies in the type. At other widths than 8 bits the first indices
     /// give edges, the next Fibonacci numbers, and all further ones random numbers.
-    pub(crate) fn number(self, index: u32) -> Option<Whole> {
+    pub fn number(self, index: u32) -> Option<Whole>
+        ensures { MatchOption result ⊤ (λ n. n.1 ≤ (if n.0 then self.low else self.high)) }
+    {
         let odd = index % 2 == 1;
         let half = index / 2;
         let (negative, magnitude) = if self.width == 8 {

@@ -5,8 +5,7 @@
 mod calls;
 #[cfg(test)]
 mod checksum;
-#[cfg(test)]
-mod inputs;
+pub mod inputs;
 #[cfg(test)]
 mod lines;
 #[cfg(test)]
