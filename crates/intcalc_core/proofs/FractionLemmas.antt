@@ -5,7 +5,7 @@ use Rattle.std.proofs.Common.{ap, arith, inl, inr, refl, subst, sym, to_z, of_z,
 use Rattle.std.proofs.lemmas.Int.{to_z-of_z}
 use Rattle.num_integer.proofs.ForCallers.{cancel, products}
 use Rattle.ratio64.proofs.Laws.{equal_fractions_have_one_result, products_of_equal_fractions, sums_of_equal_fractions}
-use Rattle.ratio64.specs.Fraction.{AreEqual, IsFraction, IsTooWide}
+use Rattle.ratio64.specs.Fraction.{AreEqual, IsFraction, IsOutsideI64}
 use Rattle.ratio64.specs.Ratio.{AnswersFraction, num_of, den_of}
 use Rattle.ratio64.specs.declared.fraction.Ratio.{Ratio}
 use Rattle.ratio64.specs.declared.error.RatioError.{RatioError}
@@ -30,7 +30,7 @@ refused_given rest (inr (b, inr (d, inr (x, inl h)))) = inr (b, inr (d, inr (x, 
 refused_given rest (inr (b, inr (d, inr (x, inr (y, none))))) = absurd none
 
 -- the second is too wide
-pub second_too_wide : {a b c d : ℤ} {x : Ratio} → IsRatioOf a b x → IsFraction c d → IsTooWide c d → NeedsFractions a b c d (λ _. ⊥) (Err NotFitting)
+pub second_too_wide : {a b c d : ℤ} {x : Ratio} → IsRatioOf a b x → IsFraction c d → IsOutsideI64 c d → NeedsFractions a b c d (λ _. ⊥) (Err NotFitting)
 second_too_wide x fraction wide = inr (x.exact.fraction, inr (fraction, inr (x.narrow, inl (λ narrow. narrow wide, refl))))
 
 taken : {a b c d : ℤ} {x y : Ratio} {r : Result Answer Refusal} (rest : Result Answer Refusal → Type 0) → IsRatioOf a b x → IsRatioOf c d y → rest r → NeedsFractions a b c d rest r
@@ -42,7 +42,7 @@ turned : {a b c d : ℤ} → AreEqual a b c d → AreEqual c d a b
 turned h = record { cross = sym h.cross }
 
 -- a fraction that is equal to one whose exact result does not fit
-equal_too_wide : {a b c d : ℤ} → IsFraction c d → AreEqual a b c d → IsTooWide a b → IsTooWide c d
+equal_too_wide : {a b c d : ℤ} → IsFraction c d → AreEqual a b c d → IsOutsideI64 a b → IsOutsideI64 c d
 equal_too_wide {a} {b} {c} {d} fraction equal h = record {
   num = h.num;
   den = h.den;
@@ -59,7 +59,7 @@ module _ {a b c d : ℤ} {r : Result Answer Refusal} (fraction : IsFraction c d)
   answered (Ok x) h nonzero is =
       let reduced : IsFraction a b = λ none. nonzero (h.zero_denominator.1 none) in
       let exact = equal_fractions_have_one_result a b c d (num_of x) (den_of x) fraction equal h.exact in
-      let narrow : ¬ (IsTooWide c d) = λ wide. let e = h.not_fitting.1 (equal_too_wide reduced (turned equal) wide) in absurd cc in
+      let narrow : ¬ (IsOutsideI64 c d) = λ wide. let e = h.not_fitting.1 (equal_too_wide reduced (turned equal) wide) in absurd cc in
       inr (narrow, record { first = num_of x; second = den_of x; is = is; meets = exact })
   answered (Err errors.ZeroDenominator) h nonzero is = absurd (nonzero refl)
   answered (Err errors.NotFitting) h nonzero is = inl (λ narrow. narrow (equal_too_wide fraction equal (h.not_fitting.0 refl)), is)

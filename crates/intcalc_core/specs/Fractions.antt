@@ -1,10 +1,10 @@
 -- The fractions that a call is given.
 use Rattle.std.specs.Prelude.{ℤ}
-use Rattle.ratio64.specs.Fraction.{IsExact, IsTooWide}
+use Rattle.ratio64.specs.Fraction.{IsExact, IsOutsideI64}
 use Rattle.ratio64.specs.Ratio.{num_of, den_of}
 use Rattle.ratio64.specs.declared.fraction.Ratio.{Ratio}
 
 -- the ratio is the exact result of the fraction a/b, which fits
 pub record IsRatioOf (a b : ℤ) (x : Ratio) : Type 0 where
   pub exact : IsExact a b (num_of x) (den_of x)
-  pub narrow : ¬ (IsTooWide a b)
+  pub narrow : ¬ (IsOutsideI64 a b)

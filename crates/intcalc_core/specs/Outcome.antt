@@ -8,7 +8,7 @@ use Rattle.num_integer.specs.Division.{IsCeiled, IsFloored, IsMultiple, IsQuotie
 use Rattle.num_integer.specs.Divisors.{Divides, IsGreatestCommonDivisor, IsLeastCommonMultiple}
 use Rattle.num_integer.specs.Range.{EachFits}
 use Rattle.num_integer.specs.RootOf.{IsRoot}
-use Rattle.ratio64.specs.Fraction.{IsExact, IsTooWide}
+use Rattle.ratio64.specs.Fraction.{IsExact, IsOutsideI64}
 use Rattle.intcalc_core.specs.Operands.{operands_of}
 use Rattle.intcalc_core.specs.declared.calls.Kind.{Kind}
 use Rattle.intcalc_core.specs.declared.calls.Kind.TheVariants.{I8, U8, I64, U64}
@@ -85,7 +85,7 @@ AreCounts n k = (pos 0 ≤ℤ n) × (pos 0 ≤ℤ k)
 
 -- refused where a part of the exact result of the fraction a/b lies outside `i64`
 abbrev pub NeedsNarrow : ℤ → ℤ → (Result Answer Refusal → Type 0) → Result Answer Refusal → Type 0
-NeedsNarrow a b = Needs (¬ (IsTooWide a b)) NotFitting
+NeedsNarrow a b = Needs (¬ (IsOutsideI64 a b)) NotFitting
 
 -- refused so, and else answered by the parts of the exact result
 abbrev pub AnswersExact : ℤ → ℤ → Result Answer Refusal → Type 0

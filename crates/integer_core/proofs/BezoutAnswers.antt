@@ -49,8 +49,8 @@ pub answer_for_zero : {a b : ℤ} → b ≡ pos 0 → IsBezoutAnswer a b (sign a
 answer_for_zero {a} {b} none = record {
   greatest = rw (sign_size a, none) (gcd-zero a);
   equation = simp (mul-one, *ℤ-zero, zero-*ℤ, +ℤ_idr);
-  second_alone = λ second. absurd (second.nonzero none);
-  first_alone = λ _. λ _. (mul-one (sign a), *ℤ-zero (sign a));
+  second_divides = λ second. absurd (second.nonzero none);
+  first_divides = λ _. λ _. (mul-one (sign a), *ℤ-zero (sign a));
   both = λ needs. absurd (needs.not_first (inl none));
 }
 
@@ -59,8 +59,8 @@ answer_at_once : {a b : ℤ} → b ≢ pos 0 → Divides b a → IsBezoutAnswer 
 answer_at_once {a} {b} nonzero divides = record {
   greatest = rw (sign_size b) (gcd-divisor divides);
   equation = simp (mul-one, *ℤ-zero, zero-*ℤ, +ℤ_idl);
-  second_alone = λ _. (*ℤ-zero (sign b), mul-one (sign b));
-  first_alone = λ not_second. absurd (not_second (record { nonzero = nonzero; divides = divides }));
+  second_divides = λ _. (*ℤ-zero (sign b), mul-one (sign b));
+  first_divides = λ not_second. absurd (not_second (record { nonzero = nonzero; divides = divides }));
   both = λ needs. absurd (needs.not_second (record { nonzero = nonzero; divides = divides }));
 }
 
@@ -73,8 +73,8 @@ answer_after_turns {a} {b} {r} nonzero not_second greatest h =
     record {
       greatest = is;
       equation = small.equation;
-      second_alone = λ second. absurd (not_second second.divides);
-      first_alone = λ _. elim [
+      second_divides = λ second. absurd (not_second second.divides);
+      first_divides = λ _. elim [
         | inl none ↦ absurd (nonzero none)
         | inr divides ↦ small_alone is divides (λ none. not_second (rw none (Divides-zero b))) small
       ];

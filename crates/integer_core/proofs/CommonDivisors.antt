@@ -12,10 +12,10 @@ use Rattle.integer_core.specs.Divisors.{Divides, IsGreatestCommonDivisor, IsLeas
 
 -- the only one
 pub only_gcd : {a b g h : ℤ} → IsGreatestCommonDivisor a b g → IsGreatestCommonDivisor a b h → g ≡ h
-only_gcd x y = Divides-antisym x.non_negative y.non_negative (y.greatest _ x.divides_left x.divides_right) (x.greatest _ y.divides_left y.divides_right)
+only_gcd x y = Divides-antisym x.from_zero y.from_zero (y.greatest _ x.divides_left x.divides_right) (x.greatest _ y.divides_left y.divides_right)
 
 pub gcd-swap : {a b g : ℤ} → IsGreatestCommonDivisor a b g → IsGreatestCommonDivisor b a g
-gcd-swap x = record { non_negative = x.non_negative; divides_left = x.divides_right; divides_right = x.divides_left; greatest = λ d h k. x.greatest d k h }
+gcd-swap x = record { from_zero = x.from_zero; divides_left = x.divides_right; divides_right = x.divides_left; greatest = λ d h k. x.greatest d k h }
 
 -- it is 0 for 0 and 0 alone
 pub gcd-nonzero : {a b g : ℤ} → IsGreatestCommonDivisor a b g → b ≢ pos 0 → g ≢ pos 0
@@ -27,7 +27,7 @@ gcd-positive x nonzero = let g_nonzero = gcd-nonzero x nonzero in omega (arith, 
 -- with 0 it is the magnitude
 pub gcd-zero : (a : ℤ) → IsGreatestCommonDivisor a (pos 0) (pos (unsigned_abs a))
 gcd-zero a = record {
-  non_negative = omega (arith, ints);
+  from_zero = omega (arith, ints);
   divides_left = magnitude_divides a;
   divides_right = Divides-zero _;
   greatest = λ d h k. Divides-trans h (divides_magnitude a);
@@ -36,7 +36,7 @@ gcd-zero a = record {
 -- a number and a divisor have that of the divisor and the remainder
 pub gcd-remainder : {g n d q r : ℤ} → IsDivision n d q r → IsGreatestCommonDivisor d r g → IsGreatestCommonDivisor n d g
 gcd-remainder x y = record {
-  non_negative = y.non_negative;
+  from_zero = y.from_zero;
   divides_left = divides_number x y.divides_left y.divides_right;
   divides_right = y.divides_left;
   greatest = λ u h k. y.greatest u k (divides_remainder x h k);
@@ -45,7 +45,7 @@ gcd-remainder x y = record {
 -- two numbers have that of their magnitudes
 pub gcd-magnitudes : {a b m n g : ℤ} → m ≡ pos (unsigned_abs a) → n ≡ pos (unsigned_abs b) → IsGreatestCommonDivisor m n g → IsGreatestCommonDivisor a b g
 gcd-magnitudes {a} {b} e f x = record {
-  non_negative = x.non_negative;
+  from_zero = x.from_zero;
   divides_left = Divides-trans (rw e at x.divides_left) (magnitude_divides a);
   divides_right = Divides-trans (rw f at x.divides_right) (magnitude_divides b);
   greatest = λ d h k. x.greatest d (rw e (Divides-trans h (divides_magnitude a))) (rw f (Divides-trans k (divides_magnitude b)));
@@ -82,7 +82,7 @@ divides_multiple {a = a} {b = b} k x h m =
 -- a common factor comes out
 pub gcd-times : {a b g : ℤ} (k : ℤ) → pos 0 ≤ℤ k → IsGreatestCommonDivisor a b g → IsGreatestCommonDivisor (k *ℤ a) (k *ℤ b) (k *ℤ g)
 gcd-times k up x = record {
-  non_negative = grind (arith, products);
+  from_zero = grind (arith, products);
   divides_left = Divides-times k x.divides_left;
   divides_right = Divides-times k x.divides_right;
   greatest = λ d. divides_multiple k x;
@@ -92,15 +92,15 @@ gcd-times k up x = record {
 
 -- the only one
 pub only_lcm : {a b l m : ℤ} → IsLeastCommonMultiple a b l → IsLeastCommonMultiple a b m → l ≡ m
-only_lcm x y = Divides-antisym x.non_negative y.non_negative (x.least _ y.left_divides y.right_divides) (y.least _ x.left_divides x.right_divides)
+only_lcm x y = Divides-antisym x.from_zero y.from_zero (x.least _ y.left_divides y.right_divides) (y.least _ x.left_divides x.right_divides)
 
 pub lcm-swap : {a b l : ℤ} → IsLeastCommonMultiple a b l → IsLeastCommonMultiple b a l
-lcm-swap x = record { non_negative = x.non_negative; left_divides = x.right_divides; right_divides = x.left_divides; least = λ m h k. x.least m k h }
+lcm-swap x = record { from_zero = x.from_zero; left_divides = x.right_divides; right_divides = x.left_divides; least = λ m h k. x.least m k h }
 
 -- with 0 it is 0
 pub lcm-zero : {a b : ℤ} → (a ≡ pos 0) ⊎ (b ≡ pos 0) → IsLeastCommonMultiple a b (pos 0)
 lcm-zero with_zero = record {
-  non_negative = omega (arith, ints);
+  from_zero = omega (arith, ints);
   left_divides = Divides-zero _;
   right_divides = Divides-zero _;
   least = λ m h k. elim with_zero [ inl none ↦ rw none at h | inr none ↦ rw none at k ];
@@ -111,7 +111,7 @@ lcm-product : {a b g l : ℤ} → IsGreatestCommonDivisor a b g → b ≢ pos 0 
 lcm-product {a} {b} {g} {l} x b_nonzero e =
     let nonzero = gcd-nonzero x b_nonzero in
     record {
-      non_negative = grind (arith, products);
+      from_zero = grind (arith, products);
       left_divides = Divides-cancel g nonzero (rw (← e, comm g a) (Divides-trans (Divides-times a x.divides_right) (divides_magnitude _)));
       right_divides = Divides-cancel g nonzero (rw (← e, comm g b, comm a b) (Divides-trans (Divides-times b x.divides_left) (divides_magnitude _)));
       least = λ u h k.

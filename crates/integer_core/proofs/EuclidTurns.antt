@@ -67,7 +67,7 @@ twice {d} h less =
 -- a number and its divisor have the magnitude of the divisor
 pub gcd-divisor : {d n : ℤ} → Divides d n → IsGreatestCommonDivisor n d (pos (unsigned_abs d))
 gcd-divisor {d} h = record {
-  non_negative = omega (arith, ints);
+  from_zero = omega (arith, ints);
   divides_left = Divides-trans (magnitude_divides d) h;
   divides_right = magnitude_divides d;
   greatest = λ c left right. Divides-trans right (divides_magnitude d);

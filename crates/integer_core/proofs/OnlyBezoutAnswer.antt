@@ -7,7 +7,7 @@ use Rattle.integer_core.proofs.Divisibility.{Divides-zero}
 use Rattle.integer_core.proofs.EuclidTurns.{divides_or_not}
 use Rattle.integer_core.proofs.Quotients.{zero_or_not}
 use Rattle.integer_core.proofs.Rows.{rows_first, last_rows, last_gcd, last_at_once, last_after_turns}
-use Rattle.integer_core.specs.Bezout.{IsBezoutAnswer, IsSecondAlone, IsFirstAlone, NeedsBoth}
+use Rattle.integer_core.specs.Bezout.{IsBezoutAnswer, SecondDividesFirst, FirstDividesSecond, NeedsBoth}
 use Rattle.integer_core.specs.Only.{IsOnly}
 
 pub bezout_answer_exists : (a b : ℤ) → (g x y : ℤ) × IsBezoutAnswer a b g x y
@@ -20,7 +20,7 @@ bezout_answer_exists a b = elim (zero_or_not b) [
 ]
 
 -- a pair is in one of the three cases of an answer
-three_cases : (a b : ℤ) → IsSecondAlone a b ⊎ (((¬ (IsSecondAlone a b)) × IsFirstAlone a b) ⊎ NeedsBoth a b)
+three_cases : (a b : ℤ) → SecondDividesFirst a b ⊎ (((¬ (SecondDividesFirst a b)) × FirstDividesSecond a b) ⊎ NeedsBoth a b)
 three_cases a b = elim (zero_or_not b) [
   | inl none ↦ inr (inl (λ second. second.nonzero none, inl none))
   | inr nonzero ↦ elim (divides_or_not b a nonzero) [
@@ -39,7 +39,7 @@ pub only_bezout_answer : {a b g x y : ℤ} → IsBezoutAnswer a b g x y → IsOn
 only_bezout_answer {a} {b} {g} {x} {y} p (h, z, w) q =
     let same : h ≡ g = only_gcd q.greatest p.greatest in
     elim (three_cases a b) [
-      | inl second ↦ let left = p.second_alone second in let right = q.second_alone second in cc
-      | inr (inl first) ↦ let left = p.first_alone first.0 first.1 in let right = q.first_alone first.0 first.1 in cc
+      | inl second ↦ let left = p.second_divides second in let right = q.second_divides second in cc
+      | inr (inl first) ↦ let left = p.first_divides first.0 first.1 in let right = q.first_divides first.0 first.1 in cc
       | inr (inr needs) ↦ let equal = only_answer p needs (z, w) (rw same at (q.both needs)) in λ i. (same i, (equal i).0, (equal i).1)
     ]

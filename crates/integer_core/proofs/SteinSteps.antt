@@ -80,7 +80,7 @@ odd_part_le {n} {m} part =
 -- the gcd of whole numbers is that of their sizes
 pub gcd_of_sizes : (a b : ℤ) {g : ℕ} → IsGcd (unsigned_abs a) (unsigned_abs b) g → IsGreatestCommonDivisor a b (pos g)
 gcd_of_sizes a b h = record {
-  non_negative = omega (arith, ints);
+  from_zero = omega (arith, ints);
   divides_left = from_natural h.0;
   divides_right = from_natural h.1;
   greatest = λ d p q. from_natural (h.2 (unsigned_abs d) (to_natural p) (to_natural q));

@@ -10,18 +10,18 @@ sign (pos n) = pos 1
 sign (negsuc n) = negsuc 0
 
 -- b is not 0 and divides a: up to its sign it is the gcd
-pub record IsSecondAlone (a b : ℤ) : Type 0 where
+pub record SecondDividesFirst (a b : ℤ) : Type 0 where
   pub nonzero : b ≢ pos 0
   pub divides : Divides b a
 
 -- b is 0 or a divides b: up to its sign a is the gcd
-abbrev pub IsFirstAlone : ℤ → ℤ → Type 0
-IsFirstAlone a b = (b ≡ pos 0) ⊎ Divides a b
+abbrev pub FirstDividesSecond : ℤ → ℤ → Type 0
+FirstDividesSecond a b = (b ≡ pos 0) ⊎ Divides a b
 
 -- neither case holds
 pub record NeedsBoth (a b : ℤ) : Type 0 where
-  pub not_second : ¬ (IsSecondAlone a b)
-  pub not_first : ¬ (IsFirstAlone a b)
+  pub not_second : ¬ (SecondDividesFirst a b)
+  pub not_first : ¬ (FirstDividesSecond a b)
 
 -- a pair for g that is small beside the operands
 pub record IsSmallPair (a b g x y : ℤ) : Type 0 where
@@ -33,8 +33,8 @@ pub record IsSmallPair (a b g x y : ℤ) : Type 0 where
 pub record IsBezoutAnswer (a b g x y : ℤ) : Type 0 where
   pub greatest : IsGreatestCommonDivisor a b g
   pub equation : x *ℤ a +ℤ y *ℤ b ≡ g
-  pub second_alone : IsSecondAlone a b → (x ≡ pos 0) × (y ≡ sign b)
-  pub first_alone : ¬ (IsSecondAlone a b) → IsFirstAlone a b → (x ≡ sign a) × (y ≡ pos 0)
+  pub second_divides : SecondDividesFirst a b → (x ≡ pos 0) × (y ≡ sign b)
+  pub first_divides : ¬ (SecondDividesFirst a b) → FirstDividesSecond a b → (x ≡ sign a) × (y ≡ pos 0)
   pub both : NeedsBoth a b → IsSmallPair a b g x y
 
 -- a type without negatives, which has no -1, has a pair where one operand divides the other

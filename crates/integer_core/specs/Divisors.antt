@@ -12,14 +12,14 @@ IsEven v = Divides (pos 2) v
 
 -- the common divisor from 0 up that each common divisor divides
 pub record IsGreatestCommonDivisor (a b g : ℤ) : Type 0 where
-  pub non_negative : pos 0 ≤ℤ g
+  pub from_zero : pos 0 ≤ℤ g
   pub divides_left : Divides g a
   pub divides_right : Divides g b
   pub greatest : (d : ℤ) → Divides d a → Divides d b → Divides d g
 
 -- the common multiple from 0 up that divides each common multiple
 pub record IsLeastCommonMultiple (a b l : ℤ) : Type 0 where
-  pub non_negative : pos 0 ≤ℤ l
+  pub from_zero : pos 0 ≤ℤ l
   pub left_divides : Divides a l
   pub right_divides : Divides b l
   pub least : (m : ℤ) → Divides a m → Divides b m → Divides l m

@@ -25,8 +25,8 @@ floor_root_at_most x n (pos i) (pos j) h k = elim (cases_lt j i) [
       absurd (omega (arith, linear, h.power_le, k.next_power_gt))
   | inr fine ↦ omega (arith, ints)
 ]
-floor_root_at_most x n (negsuc i) s h k = absurd (omega (arith, ints, h.non_negative))
-floor_root_at_most x n (pos i) (negsuc j) h k = absurd (omega (arith, ints, k.non_negative))
+floor_root_at_most x n (negsuc i) s h k = absurd (omega (arith, ints, h.from_zero))
+floor_root_at_most x n (pos i) (negsuc j) h k = absurd (omega (arith, ints, k.from_zero))
 
 floor_root_is_only_one : {x r : ℤ} {n : ℕ} → IsFloorRoot x n r → IsOnly (IsFloorRoot x n) r
 floor_root_is_only_one {x} {r} {n} h s k =
@@ -35,9 +35,9 @@ floor_root_is_only_one {x} {r} {n} h s k =
 pub root_is_only_one : {x r : ℤ} {n : ℕ} → IsRoot x n r → IsOnly (IsRoot x n) r
 root_is_only_one {x} h s k = by_lt_z x (pos 0)
     (λ below.
-    let same = floor_root_is_only_one (h.of_negative below).1 _ (k.of_negative below).1 in
+    let same = floor_root_is_only_one (h.below_zero below).1 _ (k.below_zero below).1 in
     omega (arith, linear))
-    (λ up. floor_root_is_only_one (h.of_non_negative up) _ (k.of_non_negative up))
+    (λ up. floor_root_is_only_one (h.from_zero up) _ (k.from_zero up))
 
 -- a state has one turn at most, and none where the run ends
 one_turn : (a : ℕ) (s t : Guess) → IsNewtonTurn a s t → IsOnly (IsNewtonTurn a s) t

@@ -41,4 +41,4 @@ highest_bit a k top le lt = elim (cases_lt top k) [
 
 -- the floor root of a number from 0 up, by powers in ℕ
 pub floor_root : {a r n : ℕ} → r ^ n ≤ a → a < (r + 1) ^ n → IsFloorRoot (pos a) n (pos r)
-floor_root le lt = record { non_negative = omega (arith, ints); power_le = omega (arith, ints); next_power_gt = omega (arith, ints) }
+floor_root le lt = record { from_zero = omega (arith, ints); power_le = omega (arith, ints); next_power_gt = omega (arith, ints) }

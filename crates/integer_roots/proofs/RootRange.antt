@@ -15,7 +15,7 @@ root_in_range {n = zero} range x_fits degree root = absurd (degree refl)
 root_in_range {x = x} {n = suc zero} {r = r} range x_fits degree root = rw (root_is_only_one (first_root x) r root) x_fits
 root_in_range {x = x} {n = suc (suc k)} {r = r} range x_fits degree root = by_lt_z x (pos 0)
     (λ below.
-    let floor = (root.of_negative below).1 in
+    let floor = (root.below_zero below).1 in
     let fits = root_fits range x_fits (omega arith) (omega (arith, sizes)) floor in
-    negation_fits range x_fits below floor.non_negative fits (omega (arith, linear)))
-    (λ up. root_fits range x_fits (omega arith) (omega (arith, sizes)) (root.of_non_negative up))
+    negation_fits range x_fits below floor.from_zero fits (omega (arith, linear)))
+    (λ up. root_fits range x_fits (omega arith) (omega (arith, sizes)) (root.from_zero up))

@@ -13,8 +13,8 @@ first_floor_root a = floor_root (omega (arith, power_one a)) (omega (arith, powe
 
 -- each number is its own first root
 pub first_root : (x : ℤ) → IsRoot x 1 x
-first_root (pos a) = record { of_non_negative = λ h. first_floor_root a; of_negative = λ h. absurd (omega (arith, ints)) }
-first_root (negsuc a) = record { of_non_negative = λ h. absurd (omega (arith, ints)); of_negative = λ h. (refl, first_floor_root (suc a)) }
+first_root (pos a) = record { from_zero = λ h. first_floor_root a; below_zero = λ h. absurd (omega (arith, ints)) }
+first_root (negsuc a) = record { from_zero = λ h. absurd (omega (arith, ints)); below_zero = λ h. (refl, first_floor_root (suc a)) }
 
 -- a number fits that is at most one that fits, or below the magnitude of one that fits
 pub below_fits : {fits : ℤ → Type 0} {low high x : ℤ} {k m : ℕ} → IsRange fits low high → fits x → fits (pos k)
@@ -27,7 +27,7 @@ below_fits {x = x} range x_fits k_fits small =
 -- the root of a magnitude fits, from degree 2 on
 pub root_fits : {fits : ℤ → Type 0} {low high x z r : ℤ} {n : ℕ} → IsRange fits low high → fits x → 2 ≤ n
     → z ≡ pos (unsigned_abs x) → IsFloorRoot z n r → fits r
-root_fits {r = negsuc m} range x_fits degree is floor = absurd (omega (arith, ints, floor.non_negative))
+root_fits {r = negsuc m} range x_fits degree is floor = absurd (omega (arith, ints, floor.from_zero))
 root_fits {x = x} {r = pos m} {n = n} range x_fits degree is floor =
     let le : m ^ n ≤ unsigned_abs x = omega (arith, ints, floor.power_le) in
     let one = (range.between (pos 1)).1 (omega (arith, linear, range.low_end, range.positive)) in

@@ -61,8 +61,8 @@ fn with_sign_of<T: NativeInteger<Magnitude = u64>>(x: T, magnitude: u64) -> T
     requires x_in_range { T.fits (T.value x) }
     requires magnitude_fits { T.fits (pos magnitude) }
     ensures in_range { T.fits (T.value result) }
-    ensures of_non_negative { pos 0 ≤ℤ T.value x → T.value result ≡ pos magnitude }
-    ensures of_negative { T.value x <ℤ pos 0 → T.value result ≡ neg_ℤ (pos magnitude) }
+    ensures from_zero { pos 0 ≤ℤ T.value x → T.value result ≡ pos magnitude }
+    ensures below_zero { T.value x <ℤ pos 0 → T.value result ≡ neg_ℤ (pos magnitude) }
 {
     let root = T::from_magnitude(magnitude);
     if is_negative(x) { negated(root) } else { root }

@@ -23,10 +23,10 @@ module _ {r b g : ℤ} (b_above : pos 0 <ℤ b) (greatest : IsGreatestCommonDivi
   nonzero = gcd-nonzero greatest (λ e. absurd (omega (arith, linear)))
 
   pub g_above : pos 0 <ℤ g
-  g_above = let apart : g ≢ pos 0 = nonzero in let up = greatest.non_negative in omega (arith, ints)
+  g_above = let apart : g ≢ pos 0 = nonzero in let up = greatest.from_zero in omega (arith, ints)
 
   pub g_below : g ≤ℤ b
-  g_below = omega (arith, linear, abs_is, greatest.non_negative, divisor_size greatest.divides_right (λ e. absurd (omega (arith, linear))))
+  g_below = omega (arith, linear, abs_is, greatest.from_zero, divisor_size greatest.divides_right (λ e. absurd (omega (arith, linear))))
 
   -- what b has beside g
   pub rest_above : pos 0 <ℤ int_div b g

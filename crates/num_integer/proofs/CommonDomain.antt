@@ -34,7 +34,7 @@ module _ {fits : ℤ → Type 0} {low high a b : ℤ} {most m n : ℕ} (range : 
         let small = leb-true least most t in
         let a_size = divisor_size greatest.divides_left (λ e. m_nonzero (left ∙ ap unsigned_abs e)) in
         let b_size = divisor_size greatest.divides_right (λ e. n_nonzero (right ∙ ap unsigned_abs e)) in
-        let up = greatest.non_negative in
+        let up = greatest.from_zero in
         let own : pos (unsigned_abs g) ≡ g = omega (arith, linear, abs_is) in
         subst fits own ((fits_up range top).0 (omega arith)),
     λ each. le-leb least most (elim (cases_lt most least) [

@@ -10,7 +10,7 @@ use Rattle.integer_core.specs.Only.{IsOnly}
 use Rattle.integer_core.specs.Range.{EachFits, IsRange}
 use Rattle.num_integer.proofs.ForCallers.{Divides-cancel, Divides-difference, Divides-refl, Divides-sum, Divides-times, Divides-trans, cancel, comm, divisor_at_most, exact_quotient, expand, factor_positive, floored_remainder_range, gcd-nonzero, gcd-positive, linear, mul-one, multiples_apart, operator_quotient_fits, product_at_most, product_from_zero, products, sizes, small_multiple_is_zero, within_fits}
 use Rattle.num_integer.proofs.Laws.{gcd_times_lcm, lcm_exists}
-use Rattle.num_integer.specs.Congruences.{AreCongruent, AreSolutions, IsInverse, IsNextCongruent, IsResidue, IsStep, MeetsBoth, Solves}
+use Rattle.num_integer.specs.Congruences.{AreCongruent, IsResidueClass, IsInverse, IsNextCongruent, IsResidue, IsReducedModulus, SolvesBothCongruences, Solves}
 
 -- ---- congruent numbers
 
@@ -151,7 +151,7 @@ reduced_unit a m g x y A M nonzero e a_is m_is =
 scaled : (a b g A B z : ℤ) → a ≡ g *ℤ A → b ≡ g *ℤ B → a *ℤ z -ℤ b ≡ g *ℤ (A *ℤ z -ℤ B)
 scaled a b g A B z a_is b_is = simp (a_is, b_is, expand) (omega (arith, linear))
 
-solutions_by : {a b m g x y M first : ℤ} (B : ℤ) → pos 0 <ℤ m → IsBezoutAnswer a m g x y → b ≡ g *ℤ B → m ≡ g *ℤ M → IsResidue M (B *ℤ x) first → AreSolutions (Solves a b m) first M
+solutions_by : {a b m g x y M first : ℤ} (B : ℤ) → pos 0 <ℤ m → IsBezoutAnswer a m g x y → b ≡ g *ℤ B → m ≡ g *ℤ M → IsResidue M (B *ℤ x) first → IsResidueClass (Solves a b m) first M
 solutions_by {a} {b} {m} {g} {x} {y} {M} {first} B up answer b_is m_is rest =
     let nonzero : g ≢ pos 0 = gcd-nonzero answer.greatest (λ e. omega (arith, linear)) in
     let left = answer.greatest.divides_left in
@@ -184,19 +184,19 @@ common_positive up h = gcd-positive h (λ e. omega (arith, linear))
 pub gcd_not_zero : {a m g : ℤ} → pos 0 <ℤ m → IsGreatestCommonDivisor a m g → g ≢ pos 0
 gcd_not_zero up h e = omega (arith, linear, common_positive up h)
 
-pub step_found : {a m g s : ℤ} → pos 0 <ℤ m → IsGreatestCommonDivisor a m g → s ≡ int_div m g → IsStep a m s
+pub step_found : {a m g s : ℤ} → pos 0 <ℤ m → IsGreatestCommonDivisor a m g → s ≡ int_div m g → IsReducedModulus a m s
 step_found up h e = record { common = _; greatest = h; product = rw e (exact_quotient (gcd-nonzero h (λ none. omega (arith, linear))) h.divides_right) }
 
-pub step_positive : {a m s : ℤ} → pos 0 <ℤ m → IsStep a m s → pos 0 <ℤ s
+pub step_positive : {a m s : ℤ} → pos 0 <ℤ m → IsReducedModulus a m s → pos 0 <ℤ s
 step_positive up step = factor_positive up (common_positive up step.greatest) step.product
 
 -- it is at most the modulus
-pub step_at_most : {a m s : ℤ} → pos 0 <ℤ m → IsStep a m s → s ≤ℤ m
+pub step_at_most : {a m s : ℤ} → pos 0 <ℤ m → IsReducedModulus a m s → s ≤ℤ m
 step_at_most up step = divisor_at_most up (record { factor = step.common; product = step.product ∙ comm step.common _ })
 
 -- where the gcd divides b, they are those of the residue of b over the gcd times the coefficient of a
 pub solutions_found : {a b m g x y s q first : ℤ} → pos 0 <ℤ m → IsBezoutAnswer a m g x y → Divides g b → s ≡ int_div m g → q ≡ int_div b g → IsResidue s (q *ℤ x) first
-    → AreSolutions (Solves a b m) first s × IsStep a m s
+    → IsResidueClass (Solves a b m) first s × IsReducedModulus a m s
 solutions_found {b = b} {m = m} {g = g} {s = s} {q = q} up answer divides s_is q_is rest =
     let nonzero = gcd-nonzero answer.greatest (λ e. omega (arith, linear)) in
     let b_is : b ≡ g *ℤ q = rw q_is (exact_quotient nonzero divides) in
@@ -208,7 +208,7 @@ pub quotient_by_gcd_fits : {fits : ℤ → Type 0} {low high a m g : ℤ} (n : �
 quotient_by_gcd_fits {g = g} n range n_fits g_fits up h = operator_quotient_fits n g range n_fits g_fits (common_positive up h)
 
 -- the square of a step fits where that of the modulus does
-pub step_square_fits : {fits : ℤ → Type 0} {low high a m s : ℤ} → IsRange fits low high → fits (m *ℤ m) → pos 0 <ℤ m → IsStep a m s → fits (s *ℤ s)
+pub step_square_fits : {fits : ℤ → Type 0} {low high a m s : ℤ} → IsRange fits low high → fits (m *ℤ m) → pos 0 <ℤ m → IsReducedModulus a m s → fits (s *ℤ s)
 step_square_fits {s = s} range square_fits up step =
     let most = step_at_most up step in
     let from_zero : pos 0 ≤ℤ s = omega (arith, linear, step_positive up step) in
@@ -217,7 +217,7 @@ step_square_fits {s = s} range square_fits up step =
 -- ---- two congruences at once
 
 -- a modulus times the step is the least common multiple
-pub lcm_by_step : {m n s : ℤ} → pos 0 <ℤ m → pos 0 <ℤ n → IsStep m n s → IsLeastCommonMultiple m n (m *ℤ s)
+pub lcm_by_step : {m n s : ℤ} → pos 0 <ℤ m → pos 0 <ℤ n → IsReducedModulus m n s → IsLeastCommonMultiple m n (m *ℤ s)
 lcm_by_step {m} {n} {s} m_up n_up step =
     let own = lcm_exists m n in
     let times = gcd_times_lcm m n step.common own.0 step.greatest own.1 in
@@ -229,7 +229,7 @@ lcm_by_step {m} {n} {s} m_up n_up step =
     rw same at own.1
 
 -- and where the modulus is the greater one, it fits the square of the step
-pub step_square_fits_lcm : {fits : ℤ → Type 0} {low high m n s : ℤ} → IsRange fits low high → EachFits fits (IsLeastCommonMultiple m n) → pos 0 <ℤ n → n ≤ℤ m → IsStep m n s → fits (s *ℤ s)
+pub step_square_fits_lcm : {fits : ℤ → Type 0} {low high m n s : ℤ} → IsRange fits low high → EachFits fits (IsLeastCommonMultiple m n) → pos 0 <ℤ n → n ≤ℤ m → IsReducedModulus m n s → fits (s *ℤ s)
 step_square_fits_lcm {m = m} {n = n} {s = s} range lcm_fits up greater step =
     let own = lcm_fits _ (lcm_by_step (omega (arith, linear)) up step) in
     let most = step_at_most up step in
@@ -238,7 +238,7 @@ step_square_fits_lcm {m = m} {n = n} {s = s} range lcm_fits up greater step =
     within_fits range own (inl (product_from_zero s s from_zero from_zero, square))
 
 -- m·k solves the gap exactly where start + m·k meets both
-meets_by_gap : {a m b n start gap x : ℤ} (turns : ℤ) → AreCongruent m a start → AreCongruent n (b -ℤ start) gap → x ≡ start +ℤ m *ℤ turns → Solves m gap n turns → MeetsBoth a m b n x
+meets_by_gap : {a m b n start gap x : ℤ} (turns : ℤ) → AreCongruent m a start → AreCongruent n (b -ℤ start) gap → x ≡ start +ℤ m *ℤ turns → Solves m gap n turns → SolvesBothCongruences a m b n x
 meets_by_gap {a} {m} {b} {n} {start} {gap} {x} turns at_start at_gap is h =
     let sum = congruent-sum (congruent-trans h (congruent-sym at_gap)) (congruent-refl start) in
     record {
@@ -247,7 +247,7 @@ meets_by_gap {a} {m} {b} {n} {start} {gap} {x} turns at_start at_gap is h =
     }
 
 -- so that where the gap has no solution, no number meets both
-pub no_meeting : {a m b n start gap : ℤ} → IsResidue m a start → IsResidue n (b -ℤ start) gap → ((k : ℤ) → ¬ (Solves m gap n k)) → (x : ℤ) → ¬ (MeetsBoth a m b n x)
+pub no_meeting : {a m b n start gap : ℤ} → IsResidue m a start → IsResidue n (b -ℤ start) gap → ((k : ℤ) → ¬ (Solves m gap n k)) → (x : ℤ) → ¬ (SolvesBothCongruences a m b n x)
 no_meeting {a} {m} {b} {n} {start} {gap} at_start at_gap none x h =
     let turns = (congruent-trans h.first at_start.congruent).divides in
     let equation : m *ℤ turns.factor ≡ x -ℤ start = sym turns.product in
@@ -261,7 +261,7 @@ record AreFirst (start m turns step : ℤ) : Type 0 where
   below : (start +ℤ m *ℤ turns) <ℤ (m *ℤ step)
   product_at_most : (m *ℤ turns) ≤ℤ (m *ℤ step)
 
-are_first : {a gap n start m turns step : ℤ} → pos 0 <ℤ m → IsResidue m a start → AreSolutions (Solves m gap n) turns step → AreFirst start m turns step
+are_first : {a gap n start m turns step : ℤ} → pos 0 <ℤ m → IsResidue m a start → IsResidueClass (Solves m gap n) turns step → AreFirst start m turns step
 are_first {start = start} {m = m} {turns = turns} {step = step} up rest solutions =
     let from_zero = product_from_zero m turns (omega (arith, linear)) solutions.from_zero in
     let apart = multiples_apart turns step m up solutions.below in
@@ -273,7 +273,7 @@ are_first {start = start} {m = m} {turns = turns} {step = step} up rest solution
 
 -- it fits, and so do both products, where the least common multiple does
 pub both_fit : {fits : ℤ → Type 0} {low high a m gap n start turns s : ℤ} → IsRange fits low high → EachFits fits (IsLeastCommonMultiple m n) → pos 0 <ℤ m → pos 0 <ℤ n → IsResidue m a start
-    → AreSolutions (Solves m gap n) turns s → IsStep m n s → fits (m *ℤ turns) × fits (start +ℤ m *ℤ turns) × fits (m *ℤ s)
+    → IsResidueClass (Solves m gap n) turns s → IsReducedModulus m n s → fits (m *ℤ turns) × fits (start +ℤ m *ℤ turns) × fits (m *ℤ s)
 both_fit range lcm_fits m_up n_up rest solutions step =
     let own = lcm_fits _ (lcm_by_step m_up n_up step) in
     let first = are_first m_up rest solutions in
@@ -284,8 +284,8 @@ both_fit range lcm_fits m_up n_up rest solutions step =
     )
 
 -- numbers that meet both congruences are those congruent modulo the least common multiple
-pub both_found : {a m b n start gap turns s p x l : ℤ} → pos 0 <ℤ m → pos 0 <ℤ n → IsResidue m a start → IsResidue n (b -ℤ start) gap → AreSolutions (Solves m gap n) turns s → IsStep m n s
-    → p ≡ m *ℤ turns → x ≡ start +ℤ p → l ≡ m *ℤ s → AreSolutions (MeetsBoth a m b n) x l
+pub both_found : {a m b n start gap turns s p x l : ℤ} → pos 0 <ℤ m → pos 0 <ℤ n → IsResidue m a start → IsResidue n (b -ℤ start) gap → IsResidueClass (Solves m gap n) turns s → IsReducedModulus m n s
+    → p ≡ m *ℤ turns → x ≡ start +ℤ p → l ≡ m *ℤ s → IsResidueClass (SolvesBothCongruences a m b n) x l
 both_found {a} {m} {b} {n} {start} {gap} {turns} {s} {p} {x} {l} m_up n_up at_start at_gap solutions step p_is x_is l_is =
     let first = are_first m_up at_start solutions in
     let from_zero = first.sum_from_zero in
@@ -303,18 +303,18 @@ both_found {a} {m} {b} {n} {start} {gap} {turns} {s} {p} {x} {l} m_up n_up at_st
       };
     }
 
-both-swap : {a m b n x : ℤ} → MeetsBoth a m b n x → MeetsBoth b n a m x
+both-swap : {a m b n x : ℤ} → SolvesBothCongruences a m b n x → SolvesBothCongruences b n a m x
 both-swap h = record { first = h.second; second = h.first }
 
-pub no_meeting-swap : {a m b n : ℤ} → ((x : ℤ) → ¬ (MeetsBoth a m b n x)) → (x : ℤ) → ¬ (MeetsBoth b n a m x)
+pub no_meeting-swap : {a m b n : ℤ} → ((x : ℤ) → ¬ (SolvesBothCongruences a m b n x)) → (x : ℤ) → ¬ (SolvesBothCongruences b n a m x)
 no_meeting-swap none x h = none x (both-swap h)
 
-pub solutions-swap : {a m b n first step : ℤ} → AreSolutions (MeetsBoth a m b n) first step → AreSolutions (MeetsBoth b n a m) first step
+pub solutions-swap : {a m b n first step : ℤ} → IsResidueClass (SolvesBothCongruences a m b n) first step → IsResidueClass (SolvesBothCongruences b n a m) first step
 solutions-swap h = record { from_zero = h.from_zero; below = h.below; every = λ x k. h.every x (both-swap k); no_other = λ x k. both-swap (h.no_other x k) }
 
 -- ---- the next congruent number
 
-pub positive_step : {Is : ℤ → Type 0} {first step : ℤ} → AreSolutions Is first step → pos 0 <ℤ step
+pub positive_step : {Is : ℤ → Type 0} {first step : ℤ} → IsResidueClass Is first step → pos 0 <ℤ step
 positive_step h = omega (arith, linear, h.from_zero, h.below)
 
 -- of two congruent numbers, one that is less than a step further is not the greater

@@ -144,7 +144,7 @@ divisor_at_most up h = let size = divisor_size h (λ none. omega (arith, linear)
 
 -- a gcd with a number above 0 fits
 pub gcd_with_positive_fits : {fits : ℤ → Type 0} {low high a b g : ℤ} → IsRange fits low high → fits b → pos 0 <ℤ b → IsGreatestCommonDivisor a b g → fits g
-gcd_with_positive_fits range b_fits up h = within_fits range b_fits (inl (h.non_negative, divisor_at_most up h.divides_right))
+gcd_with_positive_fits range b_fits up h = within_fits range b_fits (inl (h.from_zero, divisor_at_most up h.divides_right))
 
 -- a multiple of a number that is smaller than the number is 0
 pub small_multiple_is_zero : {u v : ℤ} → Divides u v → unsigned_abs v < unsigned_abs u → v ≡ pos 0
@@ -167,7 +167,7 @@ coprime_exactly {a} {b} {g} h = (
         | inl zero_gcd ↦
             let all : (v : ℤ) → Divides g v → Divides (pos 2) v = λ v x. rw (zero_divides (rw zero_gcd at x)) (Divides-zero (pos 2)) in
             absurd (omega (arith, ints, none (pos 2) (all a h.divides_left) (all b h.divides_right)))
-        | inr nonzero ↦ omega (arith, linear, h.non_negative)
+        | inr nonzero ↦ omega (arith, linear, h.from_zero)
       ],
 )
 
@@ -175,7 +175,7 @@ coprime_exactly {a} {b} {g} h = (
 pub divided_by_gcd : {g x y : ℤ} → g ≢ pos 0 → IsGreatestCommonDivisor (g *ℤ x) (g *ℤ y) g → IsGreatestCommonDivisor x y (pos 1)
 divided_by_gcd {g} {x} {y} nonzero h =
     let k = gcd_exists x y in
-    let same : g *ℤ k.0 ≡ g = only_gcd (gcd-times g h.non_negative k.1) h in
+    let same : g *ℤ k.0 ≡ g = only_gcd (gcd-times g h.from_zero k.1) h in
     subst (λ (t : ℤ). IsGreatestCommonDivisor x y t) (cancel g k.0 (pos 1) nonzero (same ∙ sym (mul-one g))) k.1
 
 bezout_times : (x y a d b : ℤ) → x *ℤ a +ℤ y *ℤ d ≡ pos 1 → x *ℤ (a *ℤ b) +ℤ b *ℤ y *ℤ d ≡ b
@@ -203,7 +203,7 @@ lcm_at_most_product {a} {b} {l} h = elim (zero_or_not a) [
     | inr b_nonzero ↦
         let x = h.least (a *ℤ b) (record { factor = b; product = refl }) (record { factor = a; product = comm a b }) in
         let size = divisor_size x (λ none. b_nonzero (cancel a b (pos 0) a_nonzero (none ∙ omega (arith, products)))) in
-        omega (arith, sizes, h.non_negative)
+        omega (arith, sizes, h.from_zero)
   ]
 ]
 
@@ -212,7 +212,7 @@ pub lcm-positive : {a b l : ℤ} → IsLeastCommonMultiple a b l → a ≢ pos 0
 lcm-positive {a} {b} {l} h a_nonzero b_nonzero =
     let x = h.least (a *ℤ b) (record { factor = b; product = refl }) (record { factor = a; product = comm a b }) in
     let nonzero : l ≢ pos 0 = λ none. b_nonzero (cancel a b (pos 0) a_nonzero (zero_divides (rw none at x) ∙ omega (arith, products))) in
-    omega (arith, linear, h.non_negative)
+    omega (arith, linear, h.from_zero)
 
 -- ---- roots
 
@@ -221,8 +221,8 @@ pub exact_power_root : {k : ℕ} {n : ℕ} {r : ℤ} → n ≢ 0 → IsRoot (int
 exact_power_root {k} {n} nonzero h =
     let next = pow-lt-pow_left {a = k} {b = k + 1} (omega arith) nonzero in
     let is : IsRoot (int_pow (pos k) n) n (pos k) = record {
-      of_non_negative = λ up. record { non_negative = omega (arith, ints); power_le = omega (arith, ints); next_power_gt = omega (arith, ints) };
-      of_negative = λ below. absurd (omega (arith, ints));
+      from_zero = λ up. record { from_zero = omega (arith, ints); power_le = omega (arith, ints); next_power_gt = omega (arith, ints) };
+      below_zero = λ below. absurd (omega (arith, ints));
     } in
     root_is_only_one is _ h
 
@@ -258,16 +258,16 @@ odd_power (negsuc a) n odd = rw odd (omega (arith, ints))
 -- the power of a root lies between 0 and the number
 power_of_floor_root : {x r : ℤ} {n : ℕ} → IsFloorRoot x n r → (pos 0 ≤ℤ int_pow r n) × (int_pow r n ≤ℤ x)
 power_of_floor_root {r = pos a} h = (omega (arith, ints), h.power_le)
-power_of_floor_root {r = negsuc a} h = absurd (omega (arith, ints, h.non_negative))
+power_of_floor_root {r = negsuc a} h = absurd (omega (arith, ints, h.from_zero))
 
 pub power_of_root_within : {x r : ℤ} {n : ℕ} → IsRoot x n r → ((pos 0 ≤ℤ int_pow r n) × (int_pow r n ≤ℤ x)) ⊎ ((x ≤ℤ int_pow r n) × (int_pow r n ≤ℤ pos 0))
 power_of_root_within {x} {r} {n} h = by_lt_z x (pos 0)
     (λ below.
-    let odd = h.of_negative below in
+    let odd = h.below_zero below in
     let size = power_of_floor_root odd.1 in
     let same = odd_power r n odd.0 in
     inr (omega (arith, linear), omega (arith, linear)))
-    (λ up. inl (power_of_floor_root (h.of_non_negative up)))
+    (λ up. inl (power_of_floor_root (h.from_zero up)))
 
 -- the power of the root of a power is the power
 pub power_of_root_of_power : {x r : ℤ} {n : ℕ} (k : ℤ) → n ≢ 0 → int_pow k n ≡ x → IsRoot x n r → int_pow r n ≡ x
@@ -283,10 +283,10 @@ power_of_root_of_power {x} {r} {n} (negsuc k) nonzero e h = elim (even_or_odd n)
       let power : x ≡ neg_ℤ (pos (suc k ^ n)) = sym e ∙ odd_power (pos (suc k)) n odd in
       let some : 1 ^ n ≤ suc k ^ n = pow-le-pow_left (omega arith) n in
       let one = power_of_one n in
-      let size = (h.of_negative (omega (arith, ints))).1 in
+      let size = (h.below_zero (omega (arith, ints))).1 in
       let root : IsRoot (pos (suc k ^ n)) n (neg_ℤ r) = record {
-        of_non_negative = λ _. subst (λ (t : ℤ). IsFloorRoot t n (neg_ℤ r)) (omega (arith, ints)) size;
-        of_negative = λ below. absurd (omega (arith, ints));
+        from_zero = λ _. subst (λ (t : ℤ). IsFloorRoot t n (neg_ℤ r)) (omega (arith, ints)) size;
+        below_zero = λ below. absurd (omega (arith, ints));
       } in
       let same = exact_power_root {k = suc k} {n = n} nonzero root in
       let base : r ≡ negsuc k = omega (arith, ints) in

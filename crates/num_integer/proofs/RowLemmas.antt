@@ -11,7 +11,7 @@ use Rattle.num_integer.specs.Coefficient.{coefficient, coefficient_of}
 use Rattle.num_integer.proofs.Pascal.{coefficient-zero, mirror, nearer_same, rises}
 use Rattle.num_integer.proofs.Ranges.{fits_below}
 use Rattle.num_integer.proofs.Steps.{from_naturals}
-use Rattle.num_integer.specs.Row.{IsPlace, RowFits, row_of}
+use Rattle.num_integer.specs.Row.{IsPlaceInRow, RowFits, row_of}
 use Rattle.num_integer.specs.Laws.{RowIsGreatestInMiddle, RowIsPalindrome, RowLength}
 
 -- the number of items
@@ -83,7 +83,7 @@ row_in_range {fits} (negsuc n) range row = All-nil fits
 -- ---- the steps of an iterator over the row of n
 
 -- a new iterator stands at the first item
-pub place_first : {fits : ℤ → Type 0} {n k item : ℤ} → fits n → RowFits fits n → fits k → k ≡ pos 0 → fits item → item ≡ pos 1 → IsPlace fits n k item
+pub place_first : {fits : ℤ → Type 0} {n k item : ℤ} → fits n → RowFits fits n → fits k → k ≡ pos 0 → fits item → item ≡ pos 1 → IsPlaceInRow fits n k item
 place_first n_fits row k_fits none item_fits one = record {
   n_in_range = n_fits;
   k_in_range = k_fits;
@@ -94,7 +94,7 @@ place_first n_fits row k_fits none item_fits one = record {
 }
 
 -- neither the next item nor the next place leaves the type
-module _ {fits : ℤ → Type 0} {low high n k item : ℤ} (range : IsRange fits low high) (place : IsPlace fits n k item) where
+module _ {fits : ℤ → Type 0} {low high n k item : ℤ} (range : IsRange fits low high) (place : IsPlaceInRow fits n k item) where
   pub item_fits : k <ℤ n → fits (coefficient_of n (k +ℤ pos 1))
   item_fits below =
       let up = place.k_from_zero in

@@ -23,20 +23,20 @@ abbrev pub Solves : ℤ → ℤ → ℤ → ℤ → Type 0
 Solves a b m x = AreCongruent m (a *ℤ x) b
 
 -- the solutions are first, which lies in 0..step, and every step from it, up and down
-pub record AreSolutions (Is : ℤ → Type 0) (first step : ℤ) : Type 0 where
+pub record IsResidueClass (Is : ℤ → Type 0) (first step : ℤ) : Type 0 where
   pub from_zero : pos 0 ≤ℤ first
   pub below : first <ℤ step
   pub every : (x : ℤ) → Is x → AreCongruent step x first
   pub no_other : (x : ℤ) → AreCongruent step x first → Is x
 
 -- from one solution of a·x = b modulo m to the next: m divided by its gcd with a
-pub record IsStep (a m step : ℤ) : Type 0 where
+pub record IsReducedModulus (a m step : ℤ) : Type 0 where
   pub common : ℤ
   pub greatest : IsGreatestCommonDivisor a m common
   pub product : m ≡ common *ℤ step
 
 -- x is a modulo m and b modulo n
-pub record MeetsBoth (a m b n x : ℤ) : Type 0 where
+pub record SolvesBothCongruences (a m b n x : ℤ) : Type 0 where
   pub first : AreCongruent m x a
   pub second : AreCongruent n x b
 

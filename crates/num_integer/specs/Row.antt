@@ -17,7 +17,7 @@ abbrev pub RowFits : (ℤ → Type 0) → ℤ → Type 0
 RowFits fits n = (pos 0 ≤ℤ n) → fits (n +ℤ pos 1) × fits (middle_of n)
 
 -- an iterator over the row of n that gives item next, as the k-th
-pub record IsPlace (fits : ℤ → Type 0) (n k item : ℤ) : Type 0 where
+pub record IsPlaceInRow (fits : ℤ → Type 0) (n k item : ℤ) : Type 0 where
   pub n_in_range : fits n
   pub k_in_range : fits k
   pub k_from_zero : pos 0 ≤ℤ k

@@ -4,7 +4,7 @@ ghost use Rattle.std.specs.Prelude.{◌≡◌, ◌≤ℤ◌, ◌<ℤ◌, ◌+ℤ
 ghost use Rattle.std.specs.List.{All};
 ghost use Rattle.std.specs.Iterator.{YieldsFirstBy, item_count};
 ghost use Rattle.num_integer.specs.Coefficient.{coefficient_of};
-ghost use Rattle.num_integer.specs.Row.{IsPlace, RowFits, row_of};
+ghost use Rattle.num_integer.specs.Row.{IsPlaceInRow, RowFits, row_of};
 
 use crate::coefficients::next_coefficient;
 use integer_core::Integer;
@@ -26,7 +26,7 @@ impl<T: Integer> Model for IterBinomial<T> {
 
     ghost view = { λ s. drop (unsigned_abs (T.value s.k)) (row_of (T.value s.n)) };
 
-    ghost invariant = { λ s. IsPlace T.fits (T.value s.n) (T.value s.k) (T.value s.item) };
+    ghost invariant = { λ s. IsPlaceInRow T.fits (T.value s.n) (T.value s.k) (T.value s.item) };
 }
 
 impl<T: Integer> IterBinomial<T> {

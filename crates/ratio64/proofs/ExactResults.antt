@@ -28,7 +28,7 @@ signed_divides {b} {g} {s} h = elim h.sign [
 -- what is left of two numbers by their gcd has 1 in common
 coprime_parts : {a b g s p q : ℤ} → s ≢ pos 0 → IsGreatestCommonDivisor a b g → Divides g s → a ≡ s *ℤ p → b ≡ s *ℤ q → IsGreatestCommonDivisor p q (pos 1)
 coprime_parts {a} {b} {g} {s} {p} {q} nonzero x h e f = record {
-  non_negative = omega (arith, ints);
+  from_zero = omega (arith, ints);
   divides_left = record { factor = p; product = omega (arith, products) };
   divides_right = record { factor = q; product = omega (arith, products) };
   greatest = λ d left right.
@@ -60,7 +60,7 @@ exact_quotients {a} {b} {g} {s} fraction x h =
     record {
       fraction = fraction;
       reduced = record {
-        positive = positive_quotient b g s _ fraction x.non_negative h right;
+        positive = positive_quotient b g s _ fraction x.from_zero h right;
         lowest = coprime_parts nonzero x divides.0 left right;
       };
       equal = equal_parts s left right;

@@ -25,7 +25,7 @@ pub record IsExact (a b num den : ℤ) : Type 0 where
   pub equal : AreEqual a b num den
 
 -- a part of the exact result of a/b lies outside i64
-pub record IsTooWide (a b : ℤ) : Type 0 where
+pub record IsOutsideI64 (a b : ℤ) : Type 0 where
   pub num : ℤ
   pub den : ℤ
   pub exact : IsExact a b num den

@@ -2,7 +2,7 @@
 use Rattle.std.specs.Prelude.{◌≡◌, ◌↔◌, ◌++◌, ℤ, ℕ, List, codes, pos, Result, Err, IfOk, if◌then◌else◌}
 use Rattle.std.specs.Fmt.{signed_decimal}
 use Rattle.std.specs.Ordering.{int_eq}
-use Rattle.ratio64.specs.Fraction.{IsExact, IsTooWide}
+use Rattle.ratio64.specs.Fraction.{IsExact, IsOutsideI64}
 use Rattle.ratio64.specs.declared.fraction.Ratio.{Ratio}
 use Rattle.ratio64.specs.declared.error.RatioError.{RatioError}
 use Rattle.ratio64.specs.declared.error.RatioError.TheVariants.{ZeroDenominator, NotFitting}
@@ -18,7 +18,7 @@ den_of x = x.den
 pub record AnswersFraction (a b : ℤ) (result : Result Ratio RatioError) : Type 0 where
   pub exact : IfOk result (λ x. IsExact a b (num_of x) (den_of x))
   pub zero_denominator : (result ≡ Err ZeroDenominator) ↔ (b ≡ pos 0)
-  pub not_fitting : (result ≡ Err NotFitting) ↔ IsTooWide a b
+  pub not_fitting : (result ≡ Err NotFitting) ↔ IsOutsideI64 a b
 
 -- its text: the numerator, and the denominator after a slash where it is not 1
 abbrev pub text_of : Ratio → List ℕ

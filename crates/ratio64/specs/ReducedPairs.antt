@@ -28,7 +28,7 @@ gcd_one-prop : (a b : ℤ) → IsProp (IsGreatestCommonDivisor a b (pos 1))
 gcd_one-prop a b x y =
     let up : IsProp (pos 0 ≤ℤ pos 1) = hlevel props in
     λ i. record {
-      non_negative = up x.non_negative y.non_negative i;
+      from_zero = up x.from_zero y.from_zero i;
       divides_left = one_factor one_is_not_zero x.divides_left y.divides_left i;
       divides_right = one_factor one_is_not_zero x.divides_right y.divides_right i;
       greatest = λ d h k. one_factor (divides_one (x.greatest d h k)) (x.greatest d h k) (y.greatest d h k) i;

@@ -7,7 +7,7 @@ use Rattle.std.proofs.lemmas.List.{take_more}
 use Rattle.std.proofs.lemmas.Result.{IfOk-weaker}
 use Rattle.num_integer.proofs.ForCallers.{Divides-refl, cancel, expand, products}
 use Rattle.ratio64.proofs.Laws.{equal_fractions_have_one_result, exact_result_is_only, sums_of_equal_fractions}
-use Rattle.ratio64.specs.Fraction.{AreEqual, IsExact, IsFraction, IsTooWide}
+use Rattle.ratio64.specs.Fraction.{AreEqual, IsExact, IsFraction, IsOutsideI64}
 use Rattle.ratio64.specs.Ratio.{AnswersFraction, num_of, den_of}
 use Rattle.ratio64.specs.ReducedPairs.{positive_is_nonzero}
 use Rattle.ratio64.specs.declared.fraction.Ratio.{Ratio}
@@ -24,7 +24,7 @@ equal_turned h = record { cross = sym h.cross }
 pub nonzero_denominators : {b d : ℤ} → b ≢ pos 0 → d ≢ pos 0 → b *ℤ d ≢ pos 0
 nonzero_denominators {b} {d} b_nonzero d_nonzero e = d_nonzero (cancel b d (pos 0) b_nonzero (e ∙ omega (arith, products)))
 
-equal_too_wide : {a b c d : ℤ} → IsFraction c d → AreEqual a b c d → IsTooWide a b → IsTooWide c d
+equal_too_wide : {a b c d : ℤ} → IsFraction c d → AreEqual a b c d → IsOutsideI64 a b → IsOutsideI64 c d
 equal_too_wide fraction equal h = record {
   num = h.num;
   den = h.den;
@@ -37,7 +37,7 @@ module _ {a b c d : ℤ} {r : Result Ratio RatioError} (equal : AreEqual a b c d
   pub equal_exact : IfOk r (λ x. IsExact c d (num_of x) (den_of x))
   equal_exact = IfOk-weaker r _ _ (λ x k. equal_fractions_have_one_result a b c d (num_of x) (den_of x) (there k.fraction) equal k) h.exact
 
-  pub equal_not_fitting : (r ≡ Err NotFitting) ↔ IsTooWide c d
+  pub equal_not_fitting : (r ≡ Err NotFitting) ↔ IsOutsideI64 c d
   equal_not_fitting = (
     λ e. let wide = h.not_fitting.0 e in equal_too_wide (there wide.exact.fraction) equal wide,
     λ wide. h.not_fitting.1 (equal_too_wide (back wide.exact.fraction) (equal_turned equal) wide),
@@ -90,7 +90,7 @@ whole_is_exact n = record {
   reduced = record {
     positive = omega (arith, ints);
     lowest = record {
-      non_negative = omega (arith, ints);
+      from_zero = omega (arith, ints);
       divides_left = record { factor = n; product = omega (arith, products) };
       divides_right = Divides-refl (pos 1);
       greatest = λ d _ right. right;

@@ -2,20 +2,20 @@
 use Rattle.std.specs.Prelude.{◌≤ℤ◌, ℤ}
 use Rattle.std.proofs.Common.{arith}
 use Rattle.num_integer.proofs.ForCallers.{linear}
-use Rattle.num_integer.specs.Congruences.{AreCongruent, AreSolutions, IsNextCongruent, MeetsBoth}
-use Rattle.uses.specs.Schedules.{IsLater, IsMeeting, IsNextMeeting}
+use Rattle.num_integer.specs.Congruences.{AreCongruent, IsResidueClass, IsNextCongruent, SolvesBothCongruences}
+use Rattle.uses.specs.Schedules.{IsMaximum, IsMeeting, IsNextMeeting}
 
-pub meets : {a p b q t : ℤ} → IsMeeting a p b q t → MeetsBoth a p b q t
-meets h = record { first = h.of_first.turn; second = h.of_second.turn }
+pub meets : {a p b q t : ℤ} → IsMeeting a p b q t → SolvesBothCongruences a p b q t
+meets h = record { first = h.of_first.congruent; second = h.of_second.congruent }
 
 -- a time that meets both, and at which both have begun
-module _ {now a p b q first step later from : ℤ} (begun : IsLater a b later) (start : IsLater now later from) (solutions : AreSolutions (MeetsBoth a p b q) first step) where
+module _ {now a p b q first step later from : ℤ} (begun : IsMaximum a b later) (start : IsMaximum now later from) (solutions : IsResidueClass (SolvesBothCongruences a p b q) first step) where
   meeting_at : (t : ℤ) → later ≤ℤ t → AreCongruent step t first → IsMeeting a p b q t
   meeting_at t above h =
       let both = solutions.no_other t h in
       record {
-        of_first = record { from_first = omega (arith, linear, begun.from_x); turn = both.first };
-        of_second = record { from_first = omega (arith, linear, begun.from_y); turn = both.second };
+        of_first = record { from_first = omega (arith, linear, begun.from_x); congruent = both.first };
+        of_second = record { from_first = omega (arith, linear, begun.from_y); congruent = both.second };
       }
 
   from_there_on : (t : ℤ) → now ≤ℤ t → IsMeeting a p b q t → from ≤ℤ t

@@ -83,7 +83,7 @@ mixed_by_floor {a} {b} {n} {d} {z} {r} exact h =
 
 coprime_shift : {n d : ℤ} (q : ℤ) → IsGreatestCommonDivisor n d (pos 1) → IsGreatestCommonDivisor (q *ℤ d +ℤ n) d (pos 1)
 coprime_shift {n} {d} q h = record {
-  non_negative = h.non_negative;
+  from_zero = h.from_zero;
   divides_left = record { factor = q *ℤ d +ℤ n; product = omega (arith, products) };
   divides_right = h.divides_right;
   greatest = λ e left right.

@@ -1,7 +1,7 @@
 -- Sums and means of fractions.
 use Rattle.std.specs.Prelude.{◌≡◌, ◌⊎◌, ◌↔◌, ◌≤◌, ◌≤ℤ◌, ◌<ℤ◌, ◌+ℤ◌, ◌*ℤ◌, ℕ, ℤ, pos, List, [], ◌∷◌, length, take, Result, Err, IfOk, FitsSigned}
 use Rattle.std.specs.Int.{w64}
-use Rattle.ratio64.specs.Fraction.{IsExact, IsTooWide}
+use Rattle.ratio64.specs.Fraction.{IsExact, IsOutsideI64}
 use Rattle.ratio64.specs.Ratio.{num_of, den_of}
 use Rattle.ratio64.specs.declared.fraction.Ratio.{Ratio}
 use Rattle.ratio64.specs.declared.error.RatioError.{RatioError}
@@ -38,7 +38,7 @@ pub record HasWideSum (xs : List Ratio) : Type 0 where
 pub record AnswersMean (xs : List Ratio) (result : Result Ratio RatioError) : Type 0 where
   pub exact : IfOk result (λ m. IsExact (num_of_sum xs) (den_of_mean xs) (num_of m) (den_of m))
   pub zero_denominator : (result ≡ Err ZeroDenominator) ↔ (length xs ≡ 0)
-  pub not_fitting : (result ≡ Err NotFitting) ↔ (HasWideSum xs ⊎ IsTooWide (num_of_sum xs) (den_of_mean xs))
+  pub not_fitting : (result ≡ Err NotFitting) ↔ (HasWideSum xs ⊎ IsOutsideI64 (num_of_sum xs) (den_of_mean xs))
 
 -- a/b is whole + num/den, exactly, and num/den lies from 0 to below 1
 pub record IsMixed (a b whole num den : ℤ) : Type 0 where

@@ -7,7 +7,7 @@ use Rattle.uses.specs.declared.schedules.Meeting.TheVariants.{Never, TooLate, At
 -- t is the first time, or some periods after it
 pub record IsTime (first period t : ℤ) : Type 0 where
   pub from_first : first ≤ℤ t
-  pub turn : AreCongruent period t first
+  pub congruent : AreCongruent period t first
 
 -- t is a time of both
 pub record IsMeeting (a p b q t : ℤ) : Type 0 where
@@ -21,7 +21,7 @@ pub record IsNextMeeting (now a p b q t : ℤ) : Type 0 where
   pub least : (u : ℤ) → now ≤ℤ u → IsMeeting a p b q u → t ≤ℤ u
 
 -- z is the later of two times
-pub record IsLater (x y z : ℤ) : Type 0 where
+pub record IsMaximum (x y z : ℤ) : Type 0 where
   pub from_x : x ≤ℤ z
   pub from_y : y ≤ℤ z
   pub least : (u : ℤ) → x ≤ℤ u → y ≤ℤ u → z ≤ℤ u

@@ -1,7 +1,7 @@
 //! Arithmetic modulo a number above 0.
 
 ghost use Rattle.std.specs.Prelude.{◌↔◌, ◌≤◌, ◌≤ℤ◌, ◌<ℤ◌, ◌+ℤ◌, ◌-ℤ◌, ◌*ℤ◌, ℤ, pos, negsuc, IsTrue, MatchOption};
-ghost use Rattle.num_integer.specs.Congruences.{AreSolutions, IsInverse, IsNextCongruent, IsResidue, IsStep, MeetsBoth, Solves};
+ghost use Rattle.num_integer.specs.Congruences.{IsResidueClass, IsInverse, IsNextCongruent, IsResidue, IsReducedModulus, SolvesBothCongruences, Solves};
 ghost use Rattle.num_integer.specs.Divisors.{IsLeastCommonMultiple};
 ghost use Rattle.num_integer.specs.Only.{IsOnly};
 ghost use Rattle.num_integer.specs.Parts.{signed};
@@ -82,7 +82,7 @@ pub fn solutions<T: Integer>(a: T, b: T, m: T) -> Option<(T, T)>
     requires square_fits { T.fits (T.value m *ℤ T.value m) }
     ensures { MatchOption result ((x : ℤ) → ¬ (Solves (T.value a) (T.value b) (T.value m) x))
         (λ s. T.fits (T.value s.0) × T.fits (T.value s.1)
-        × AreSolutions (Solves (T.value a) (T.value b) (T.value m)) (T.value s.0) (T.value s.1)) }
+        × IsResidueClass (Solves (T.value a) (T.value b) (T.value m)) (T.value s.0) (T.value s.1)) }
 {
     solutions_by_step(a, b, m)
 }
@@ -94,12 +94,12 @@ fn solutions_by_step<T: Integer>(a: T, b: T, m: T) -> Option<(T, T)>
     requires m_in_range { T.fits (T.value m) }
     requires negatives { T.fits (negsuc 0) }
     requires positive { pos 0 <ℤ T.value m }
-    requires square_fits { (step : ℤ) → IsStep (T.value a) (T.value m) step
+    requires square_fits { (step : ℤ) → IsReducedModulus (T.value a) (T.value m) step
         → T.fits (step *ℤ step) }
     ensures { MatchOption result ((x : ℤ) → ¬ (Solves (T.value a) (T.value b) (T.value m) x))
         (λ s. T.fits (T.value s.0) × T.fits (T.value s.1)
-        × AreSolutions (Solves (T.value a) (T.value b) (T.value m)) (T.value s.0) (T.value s.1)
-        × IsStep (T.value a) (T.value m) (T.value s.1)) }
+        × IsResidueClass (Solves (T.value a) (T.value b) (T.value m)) (T.value s.0) (T.value s.1)
+        × IsReducedModulus (T.value a) (T.value m) (T.value s.1)) }
 {
     let answer = a.extended_gcd(&m);
     if !b.is_multiple_of(&answer.gcd) {
@@ -123,9 +123,9 @@ pub fn chinese_remainder<T: Integer>(a: T, m: T, b: T, n: T) -> Option<(T, T)>
     requires n_positive { pos 0 <ℤ T.value n }
     requires lcm_fits { EachFits T.fits (IsLeastCommonMultiple (T.value m) (T.value n)) }
     ensures { MatchOption result
-        ((x : ℤ) → ¬ (MeetsBoth (T.value a) (T.value m) (T.value b) (T.value n) x))
+        ((x : ℤ) → ¬ (SolvesBothCongruences (T.value a) (T.value m) (T.value b) (T.value n) x))
         (λ s. T.fits (T.value s.0) × T.fits (T.value s.1)
-        × AreSolutions (MeetsBoth (T.value a) (T.value m) (T.value b) (T.value n)) (T.value s.0)
+        × IsResidueClass (SolvesBothCongruences (T.value a) (T.value m) (T.value b) (T.value n)) (T.value s.0)
         (T.value s.1)) }
 {
     if is_below(m, n) {
@@ -147,9 +147,9 @@ fn from_greater_modulus<T: Integer>(a: T, m: T, b: T, n: T) -> Option<(T, T)>
     requires greater { T.value n ≤ℤ T.value m }
     requires lcm_fits { EachFits T.fits (IsLeastCommonMultiple (T.value m) (T.value n)) }
     ensures { MatchOption result
-        ((x : ℤ) → ¬ (MeetsBoth (T.value a) (T.value m) (T.value b) (T.value n) x))
+        ((x : ℤ) → ¬ (SolvesBothCongruences (T.value a) (T.value m) (T.value b) (T.value n) x))
         (λ s. T.fits (T.value s.0) × T.fits (T.value s.1)
-        × AreSolutions (MeetsBoth (T.value a) (T.value m) (T.value b) (T.value n)) (T.value s.0)
+        × IsResidueClass (SolvesBothCongruences (T.value a) (T.value m) (T.value b) (T.value n)) (T.value s.0)
         (T.value s.1)) }
 {
     let start = residue(a, m);

@@ -3,7 +3,7 @@
 ghost use Rattle.std.specs.Prelude.{◌<ℤ◌, ℤ, pos, negsuc};
 ghost use Rattle.num_integer.specs.Divisors.{IsLeastCommonMultiple};
 ghost use Rattle.num_integer.specs.Range.{EachFits};
-ghost use Rattle.uses.specs.Schedules.{IsLater, IsMeeting, IsNextMeeting, MatchMeeting};
+ghost use Rattle.uses.specs.Schedules.{IsMaximum, IsMeeting, IsNextMeeting, MatchMeeting};
 
 use crate::modular::{chinese_remainder, next_congruent};
 use num_integer::operators::is_below;
@@ -61,7 +61,7 @@ fn later<T: Integer>(x: T, y: T) -> T
     requires x_in_range { T.fits (T.value x) }
     requires y_in_range { T.fits (T.value y) }
     ensures in_range { T.fits (T.value result) }
-    ensures later { IsLater (T.value x) (T.value y) (T.value result) }
+    ensures later { IsMaximum (T.value x) (T.value y) (T.value result) }
 {
     if is_below(x, y) { y } else { x }
 }

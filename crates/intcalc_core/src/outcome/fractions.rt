@@ -1,7 +1,7 @@
 //! Sums and products of fractions.
 
 ghost use Rattle.std.specs.Prelude.{◌≡◌, ◌+ℤ◌, ◌*ℤ◌, Ok, Err, MatchResult};
-ghost use Rattle.ratio64.specs.Fraction.{IsFraction, IsTooWide};
+ghost use Rattle.ratio64.specs.Fraction.{IsFraction, IsOutsideI64};
 ghost use Rattle.ratio64.specs.Ratio.{num_of, den_of};
 ghost use Rattle.intcalc_core.specs.declared.calls.Answer.TheVariants as answers;
 ghost use Rattle.intcalc_core.specs.declared.calls.Refusal.TheVariants as refusals;
@@ -39,7 +39,7 @@ fn fractions(a: i64, b: i64, c: i64, d: i64) -> Result<(Ratio, Ratio), Refusal>
 fn fraction(num: i64, den: i64) -> Result<Ratio, Refusal>
     requires { IsFraction num den }
     ensures { MatchResult result (IsRatioOf num den)
-        (λ refusal. (refusal ≡ refusals.NotFitting) × IsTooWide num den) }
+        (λ refusal. (refusal ≡ refusals.NotFitting) × IsOutsideI64 num den) }
 {
     Ratio::new(num, den).map_err(|_| Refusal::NotFitting)
 }

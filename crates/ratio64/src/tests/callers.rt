@@ -1,7 +1,7 @@
 //! What callers learn of the calls from their contracts alone, each said by a contract of its own.
 
 ghost use Rattle.std.specs.Prelude.{◌≡◌, ◌↔◌, ◌<ℤ◌, ◌+ℤ◌, ◌*ℤ◌, IsTrue, MatchOption};
-ghost use Rattle.ratio64.specs.Fraction.{AreEqual, IsExact, IsFraction, IsReduced, IsTooWide, fraction_cmp};
+ghost use Rattle.ratio64.specs.Fraction.{AreEqual, IsExact, IsFraction, IsReduced, IsOutsideI64, fraction_cmp};
 ghost use Rattle.ratio64.specs.Ratio.{num_of, den_of};
 
 use crate::Ratio;
@@ -11,7 +11,7 @@ use std::hash::{Hash, Hasher};
 /// The parts of the exact result, or `None` where one of them is too wide.
 fn exact_parts(num: i64, den: i64) -> Option<(i64, i64)>
     requires { IsFraction num den }
-    ensures { MatchOption result (IsTooWide num den) (λ p. IsExact num den p.0 p.1) }
+    ensures { MatchOption result (IsOutsideI64 num den) (λ p. IsExact num den p.0 p.1) }
 {
     match Ratio::new(num, den) {
         Ok(x) => Some((x.num(), x.den())),
@@ -22,7 +22,7 @@ fn exact_parts(num: i64, den: i64) -> Option<(i64, i64)>
 /// The parts of a sum, or `None` where one of them is too wide.
 fn parts_of_sum(x: &Ratio, y: &Ratio) -> Option<(i64, i64)>
     ensures { MatchOption result
-        (IsTooWide (num_of x.now *ℤ den_of y.now +ℤ num_of y.now *ℤ den_of x.now)
+        (IsOutsideI64 (num_of x.now *ℤ den_of y.now +ℤ num_of y.now *ℤ den_of x.now)
         (den_of x.now *ℤ den_of y.now))
         (λ p. IsExact (num_of x.now *ℤ den_of y.now +ℤ num_of y.now *ℤ den_of x.now)
         (den_of x.now *ℤ den_of y.now) p.0 p.1) }

@@ -6,7 +6,7 @@ use Rattle.num_integer.proofs.Ranges.{fits_below}
 use Rattle.num_integer.proofs.coefficients.factors.Goals as goal
 
 pub gcd-g-requires-clause-gcd_fits : goal.gcd-g-requires-clause-gcd_fits
-gcd-g-requires-clause-gcd_fits g c = λ _ z h. fits_below g.met.T.Integer.range_law c.requires.b_in_range h.non_negative (g_below c.requires.b_positive h)
+gcd-g-requires-clause-gcd_fits g c = λ _ z h. fits_below g.met.T.Integer.range_law c.requires.b_in_range h.from_zero (g_below c.requires.b_positive h)
 
 pub quotient-requires-clause-quotient_fits : goal.quotient-requires-clause-quotient_fits
 quotient-requires-clause-quotient_fits g c =

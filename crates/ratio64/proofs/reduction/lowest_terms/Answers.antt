@@ -16,7 +16,7 @@ returns c =
       sign = elim c.if-den-lt0.branch [
         | then-den-lt0 w ↦
             let test = rw b at w.if-den-lt0.true in
-            let fits = negated_fits _ c.gcd-common.ensures.in_range greatest.non_negative in
+            let fits = negated_fits _ c.gcd-common.ensures.in_range greatest.from_zero in
             inl (omega (arith, ints, test), rw common at w.divisor-is ∙ to_z-of_z w128 _ fits ∙ omega (arith, linear))
         | else-den-lt0 w ↦
             let test = rw b at w.if-den-lt0.false in

@@ -13,5 +13,5 @@ lcm-requires-clause-lcm_fits c = λ l h.
     let n_fits = c.ranges.n in
     let size = product_at_most {u = pos c.from.result} {v = pos c.from-2.result} {x = pos 4294967295} {y = pos 4294967295} (omega (arith, sizes)) (omega (arith, sizes)) (omega (arith, sizes)) (omega (arith, sizes)) in
     let below = lcm_at_most_product h in
-    let same : pos (unsigned_abs l) ≡ l = omega (arith, sizes, h.non_negative) in
+    let same : pos (unsigned_abs l) ≡ l = omega (arith, sizes, h.from_zero) in
     subst (FitsUnsignedBits 64) same (omega (arith, ints, sizes, size, below, same))
