@@ -7,8 +7,9 @@ cd "$(dirname "$0")/../crates/intcalc"
 program=out/intcalc
 words=(i64 div_mod_floor -8 3)
 answer='-3 1'
+requests=8
 printed=$(mktemp)
-trap 'rm -f "$printed"' EXIT
+trap 'rm -f "$printed" "$printed".*' EXIT
 passed=0
 failed=0
 
@@ -48,18 +49,23 @@ on_an_unread_pipe() {
     "$@" >&"$unread"
 }
 
-# With each request for memory refused in turn, up to the first that the program does not make.
+# With each request for memory refused, side by side; the program makes no other.
 refuse_memory() {
-    local request ended
-    for request in {1..64}; do
-        rt try --fail-alloc "$request" -- "${words[@]}" >"$printed" 2>/dev/null
-        ended=$?
-        if [ "$ended" -eq 0 ]; then
-            break
-        fi
-        judge "request $request for memory refused" 3 "$ended" 'no memory'
+    local request ended started=()
+    for ((request = 1; request <= requests + 1; request++)); do
+        rt try --fail-alloc "$request" -- "${words[@]}" >"$printed.$request" 2>/dev/null &
+        started[request]=$!
     done
-    judge "no request $request for memory" 0 "$ended" "$answer"
+    for ((request = 1; request <= requests + 1; request++)); do
+        wait "${started[request]}"
+        ended=$?
+        mv "$printed.$request" "$printed"
+        if [ "$request" -le "$requests" ]; then
+            judge "request $request for memory refused" 3 "$ended" 'no memory'
+        else
+            judge "no request $request for memory" 0 "$ended" "$answer"
+        fi
+    done
 }
 
 if [ ! -x "$program" ]; then

@@ -1,5 +1,5 @@
 -- The words that ask for a call.
-use Rattle.std.specs.Prelude.{◌≡◌, ℕ, ℤ, List, ◌∷◌, codes, map, Option, Some, MatchOption}
+use Rattle.std.specs.Prelude.{◌≡◌, ℕ, List, ◌∷◌, codes, map, Option, Some, MatchOption}
 use Rattle.intcalc.specs.Number.{spelled_number}
 use Rattle.intcalc_core.specs.Operands.{operands_of}
 use Rattle.intcalc_core.specs.declared.calls.Kind.{Kind}
@@ -36,11 +36,6 @@ word_of_call (NthRoot x n) = codes "nth_root"
 word_of_call (Binomial n k) = codes "binomial"
 word_of_call (RatioAdd a b c d) = codes "ratio_add"
 word_of_call (RatioMul a b c d) = codes "ratio_mul"
-
--- the word and the operands are those of the call
-pub record Names (word : List ℕ) (operands : List ℤ) (call : Call) : Type 0 where
-  pub name : word ≡ word_of_call call
-  pub numbers : operands ≡ operands_of call
 
 -- the word is that of the call, and there is a number word for each operand
 pub record Spell (word : List ℕ) (numbers : List (List ℕ)) (call : Call) : Type 0 where

@@ -14,8 +14,6 @@ mod run;
 mod sink;
 #[cfg(test)]
 mod tests;
-#[cfg(test)]
-mod vectors;
 mod words;
 
 use run::{put_line, run};

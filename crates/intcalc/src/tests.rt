@@ -6,6 +6,7 @@ ghost use Rattle.intcalc.specs.Line.{IsLine};
 
 mod failing_writers;
 mod tape;
+mod vectors;
 
 use crate::line::Line;
 use crate::number::read_number;
@@ -23,7 +24,7 @@ fn only_line(words: &[&str]) -> (Line, u8)
 }
 
 // Whether the words give this line and this status, written at once and byte by byte.
-pub fn prints(words: &[&str], line: &str, status: u8) -> bool {
+fn prints(words: &[&str], line: &str, status: u8) -> bool {
     [ROOM, 1].into_iter().all(|most| {
         let mut out = Console::new(Tape::new(most, None));
         let answered = run(words, &mut out);

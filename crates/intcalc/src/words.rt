@@ -1,7 +1,7 @@
 //! The words that ask for a call.
 
 ghost use Rattle.std.specs.Prelude.{◌≡◌, ◌≢◌, ◌∷◌, [], map, MatchOption};
-ghost use Rattle.intcalc.specs.Words.{word_of_kind, Names, Spell, IsRequest};
+ghost use Rattle.intcalc.specs.Words.{word_of_kind, Spell, IsRequest};
 
 use crate::number::read_number;
 use intcalc_core::{Call, Kind};
@@ -19,10 +19,11 @@ fn read_kind(word: &str) -> Option<Kind>
     }
 }
 
-fn read_call_of_one(word: &str, x: i128) -> Option<Call>
-    ensures { MatchOption result ((call : _) → ¬ (Names word.now (x ∷ []) call))
-        (Names word.now (x ∷ [])) }
+fn read_call_of_one(word: &str, x: &str) -> Option<Call>
+    ensures { MatchOption result ((call : _) → ¬ (Spell word.now (x.now ∷ []) call))
+        (Spell word.now (x.now ∷ [])) }
 {
+    let x = read_number(x)?;
     match word {
         "sqrt" => Some(Call::Sqrt(x)),
         "cbrt" => Some(Call::Cbrt(x)),
@@ -30,10 +31,12 @@ fn read_call_of_one(word: &str, x: i128) -> Option<Call>
     }
 }
 
-fn read_call_of_two(word: &str, a: i128, b: i128) -> Option<Call>
-    ensures { MatchOption result ((call : _) → ¬ (Names word.now (a ∷ b ∷ []) call))
-        (Names word.now (a ∷ b ∷ [])) }
+fn read_call_of_two(word: &str, a: &str, b: &str) -> Option<Call>
+    ensures { MatchOption result ((call : _) → ¬ (Spell word.now (a.now ∷ b.now ∷ []) call))
+        (Spell word.now (a.now ∷ b.now ∷ [])) }
 {
+    let a = read_number(a)?;
+    let b = read_number(b)?;
     match word {
         "div_rem" => Some(Call::DivRem(a, b)),
         "div_mod_floor" => Some(Call::DivModFloor(a, b)),
@@ -55,10 +58,15 @@ fn read_call_of_two(word: &str, a: i128, b: i128) -> Option<Call>
     }
 }
 
-fn read_call_of_four(word: &str, a: i128, b: i128, c: i128, d: i128) -> Option<Call>
-    ensures { MatchOption result ((call : _) → ¬ (Names word.now (a ∷ b ∷ c ∷ d ∷ []) call))
-        (Names word.now (a ∷ b ∷ c ∷ d ∷ [])) }
+fn read_call_of_four(word: &str, a: &str, b: &str, c: &str, d: &str) -> Option<Call>
+    ensures { MatchOption result
+        ((call : _) → ¬ (Spell word.now (a.now ∷ b.now ∷ c.now ∷ d.now ∷ []) call))
+        (Spell word.now (a.now ∷ b.now ∷ c.now ∷ d.now ∷ [])) }
 {
+    let a = read_number(a)?;
+    let b = read_number(b)?;
+    let c = read_number(c)?;
+    let d = read_number(d)?;
     match word {
         "ratio_add" => Some(Call::RatioAdd(a, b, c, d)),
         "ratio_mul" => Some(Call::RatioMul(a, b, c, d)),
@@ -72,22 +80,9 @@ fn read_call(word: &str, operands: &[&str]) -> Option<Call>
         (Spell word.now (map (λ w. w.now) operands.now)) }
 {
     match operands {
-        [x] => {
-            let x = read_number(x)?;
-            read_call_of_one(word, x)
-        }
-        [a, b] => {
-            let a = read_number(a)?;
-            let b = read_number(b)?;
-            read_call_of_two(word, a, b)
-        }
-        [a, b, c, d] => {
-            let a = read_number(a)?;
-            let b = read_number(b)?;
-            let c = read_number(c)?;
-            let d = read_number(d)?;
-            read_call_of_four(word, a, b, c, d)
-        }
+        [x] => read_call_of_one(word, x),
+        [a, b] => read_call_of_two(word, a, b),
+        [a, b, c, d] => read_call_of_four(word, a, b, c, d),
         _ => None,
     }
 }

@@ -1,15 +1,13 @@
 -- What a call of two fractions answers, by their exact results.
 use Rattle.std.specs.Prelude.{◌≡◌, ◌≢◌, ◌+ℤ◌, ◌*ℤ◌, ℤ, pos, Result, Ok, Err, MatchResult, FitsSigned}
 use Rattle.std.specs.Int.{w64, w128}
-use Rattle.std.proofs.Common.{ap, arith, inl, inr, refl, subst, sym, to_z, of_z, ◌∙◌}
+use Rattle.std.proofs.Common.{ap, inl, inr, refl, subst, sym, to_z, of_z, ◌∙◌}
 use Rattle.std.proofs.lemmas.Int.{to_z-of_z}
-use Rattle.num_integer.proofs.ForCallers.{cancel, products}
-use Rattle.ratio64.proofs.Laws.{equal_fractions_have_one_result, products_of_equal_fractions, sums_of_equal_fractions}
-use Rattle.ratio64.specs.Fraction.{AreEqual, IsFraction, IsOutsideI64}
+use Rattle.ratio64.proofs.ForCallers.{err_is_outside, nonzero_product, ok_is_inside, product_of_exact_results, sum_of_exact_results}
+use Rattle.ratio64.specs.Fraction.{IsFraction, IsOutsideI64}
 use Rattle.ratio64.specs.Ratio.{AnswersFraction, num_of, den_of}
 use Rattle.ratio64.specs.declared.fraction.Ratio.{Ratio}
 use Rattle.ratio64.specs.declared.error.RatioError.{RatioError}
-use Rattle.ratio64.specs.declared.error.RatioError.TheVariants as errors
 use Rattle.intcalc_core.specs.Fractions.{IsRatioOf}
 use Rattle.intcalc_core.specs.Outcome.{AnswersExact, Inside, NeedsFractions, OutcomeIn}
 use Rattle.intcalc_core.specs.declared.calls.Answer.{Answer}
@@ -22,58 +20,35 @@ use Rattle.intcalc_core.specs.declared.calls.Refusal.TheVariants.{NotFitting}
 -- ---- the fractions that are given
 
 -- what is refused for them is refused whatever is asked
-pub refused_given : {a b c d : ℤ} {r : Result Answer Refusal} (rest : Result Answer Refusal → Type 0) → NeedsFractions a b c d (λ _. ⊥) r → NeedsFractions a b c d rest r
-refused_given rest (inl h) = inl h
-refused_given rest (inr (b, inl h)) = inr (b, inl h)
-refused_given rest (inr (b, inr (d, inl h))) = inr (b, inr (d, inl h))
-refused_given rest (inr (b, inr (d, inr (x, inl h)))) = inr (b, inr (d, inr (x, inl h)))
-refused_given rest (inr (b, inr (d, inr (x, inr (y, none))))) = absurd none
+pub refused_given : {a b c d m n : ℤ} {r : Result Answer Refusal} → NeedsFractions a b c d (λ _. ⊥) r → NeedsFractions a b c d (AnswersExact m n) r
+refused_given (inl h) = inl h
+refused_given (inr (b, inl h)) = inr (b, inl h)
+refused_given (inr (b, inr (d, inl h))) = inr (b, inr (d, inl h))
+refused_given (inr (b, inr (d, inr (x, inl h)))) = inr (b, inr (d, inr (x, inl h)))
+refused_given (inr (b, inr (d, inr (x, inr (y, none))))) = absurd none
 
--- the second is too wide
-pub second_too_wide : {a b c d : ℤ} {x : Ratio} → IsRatioOf a b x → IsFraction c d → IsOutsideI64 c d → NeedsFractions a b c d (λ _. ⊥) (Err NotFitting)
-second_too_wide x fraction wide = inr (x.exact.fraction, inr (fraction, inr (x.narrow, inl (λ narrow. narrow wide, refl))))
-
-taken : {a b c d : ℤ} {x y : Ratio} {r : Result Answer Refusal} (rest : Result Answer Refusal → Type 0) → IsRatioOf a b x → IsRatioOf c d y → rest r → NeedsFractions a b c d rest r
-taken rest x y h = inr (x.exact.fraction, inr (y.exact.fraction, inr (x.narrow, inr (y.narrow, h))))
+-- the second lies outside
+pub second_outside : {a b c d : ℤ} {x : Ratio} → IsRatioOf a b x → IsFraction c d → IsOutsideI64 c d → NeedsFractions a b c d (λ _. ⊥) (Err NotFitting)
+second_outside x fraction far = inr (x.exact.fraction, inr (fraction, inr (x.inside, inl (λ inside. inside far, refl))))
 
 -- ---- their sum and product
 
-turned : {a b c d : ℤ} → AreEqual a b c d → AreEqual c d a b
-turned h = record { cross = sym h.cross }
+-- the answer of a call for m/n
+answered : {m n : ℤ} {r : Result Answer Refusal} (answer : Result Ratio RatioError) → n ≢ pos 0 → AnswersFraction m n answer → MatchResult answer (λ z. r ≡ Ok (Two (num_of z) (den_of z))) (λ _. r ≡ Err NotFitting) → AnswersExact m n r
+answered (Ok z) fraction h is = inr (ok_is_inside h, record { first = num_of z; second = den_of z; is = is; meets = h.exact })
+answered (Err e) fraction h is = inl (λ inside. inside (err_is_outside e fraction h), is)
 
--- a fraction that is equal to one whose exact result does not fit
-equal_too_wide : {a b c d : ℤ} → IsFraction c d → AreEqual a b c d → IsOutsideI64 a b → IsOutsideI64 c d
-equal_too_wide {a} {b} {c} {d} fraction equal h = record {
-  num = h.num;
-  den = h.den;
-  exact = equal_fractions_have_one_result a b c d h.num h.den fraction equal h.exact;
-  outside = h.outside;
-}
+-- m/n is asked of the fractions a/b and c/d
+asked : {a b c d m n : ℤ} {x y : Ratio} {r : Result Answer Refusal} (answer : Result Ratio RatioError) → IsRatioOf a b x → IsRatioOf c d y → n ≢ pos 0 → AnswersFraction m n answer
+    → MatchResult answer (λ z. r ≡ Ok (Two (num_of z) (den_of z))) (λ _. r ≡ Err NotFitting) → NeedsFractions a b c d (AnswersExact m n) r
+asked answer x y nonzero h is = inr (x.exact.fraction, inr (y.exact.fraction, inr (x.inside, inr (y.inside, answered answer nonzero h is))))
 
-denominators : {b d : ℤ} → b ≢ pos 0 → d ≢ pos 0 → b *ℤ d ≢ pos 0
-denominators {b} {d} b_nonzero d_nonzero e = d_nonzero (cancel b d (pos 0) b_nonzero (e ∙ omega (arith, products)))
-
--- the result is a/b in lowest terms, and c/d as it is asked for
-module _ {a b c d : ℤ} {r : Result Answer Refusal} (fraction : IsFraction c d) (equal : AreEqual a b c d) where
-  answered : (answer : Result Ratio RatioError) → AnswersFraction a b answer → answer ≢ Err errors.ZeroDenominator → MatchResult answer (λ x. r ≡ Ok (Two (num_of x) (den_of x))) (λ _. r ≡ Err NotFitting) → AnswersExact c d r
-  answered (Ok x) h nonzero is =
-      let reduced : IsFraction a b = λ none. nonzero (h.zero_denominator.1 none) in
-      let exact = equal_fractions_have_one_result a b c d (num_of x) (den_of x) fraction equal h.exact in
-      let narrow : ¬ (IsOutsideI64 c d) = λ wide. let e = h.not_fitting.1 (equal_too_wide reduced (turned equal) wide) in absurd cc in
-      inr (narrow, record { first = num_of x; second = den_of x; is = is; meets = exact })
-  answered (Err errors.ZeroDenominator) h nonzero is = absurd (nonzero refl)
-  answered (Err errors.NotFitting) h nonzero is = inl (λ narrow. narrow (equal_too_wide fraction equal (h.not_fitting.0 refl)), is)
-
-module _ {a b c d : ℤ} {x y : Ratio} (left : IsRatioOf a b x) (right : IsRatioOf c d y) {r : Result Answer Refusal} (answer : Result Ratio RatioError) (nonzero : answer ≢ Err errors.ZeroDenominator) (is : MatchResult answer (λ z. r ≡ Ok (Two (num_of z) (den_of z))) (λ _. r ≡ Err NotFitting)) where
+module _ {a b c d : ℤ} {x y : Ratio} {r : Result Answer Refusal} (answer : Result Ratio RatioError) (given : IsRatioOf a b x × IsRatioOf c d y) (is : MatchResult answer (λ z. r ≡ Ok (Two (num_of z) (den_of z))) (λ _. r ≡ Err NotFitting)) where
   pub sum_outcome : AnswersFraction (num_of x *ℤ den_of y +ℤ num_of y *ℤ den_of x) (den_of x *ℤ den_of y) answer → NeedsFractions a b c d (AnswersExact (a *ℤ d +ℤ c *ℤ b) (b *ℤ d)) r
-  sum_outcome h =
-      let equal = sums_of_equal_fractions (num_of x) (den_of x) (num_of y) (den_of y) a b c d (turned left.exact.equal) (turned right.exact.equal) in
-      taken (AnswersExact (a *ℤ d +ℤ c *ℤ b) (b *ℤ d)) left right (answered (denominators left.exact.fraction right.exact.fraction) equal answer h nonzero is)
+  sum_outcome h = asked answer given.0 given.1 (nonzero_product given.0.exact.fraction given.1.exact.fraction) (sum_of_exact_results given.0.exact given.1.exact h) is
 
   pub product_outcome : AnswersFraction (num_of x *ℤ num_of y) (den_of x *ℤ den_of y) answer → NeedsFractions a b c d (AnswersExact (a *ℤ c) (b *ℤ d)) r
-  product_outcome h =
-      let equal = products_of_equal_fractions (num_of x) (den_of x) (num_of y) (den_of y) a b c d (turned left.exact.equal) (turned right.exact.equal) in
-      taken (AnswersExact (a *ℤ c) (b *ℤ d)) left right (answered (denominators left.exact.fraction right.exact.fraction) equal answer h nonzero is)
+  product_outcome h = asked answer given.0 given.1 (nonzero_product given.0.exact.fraction given.1.exact.fraction) (product_of_exact_results given.0.exact given.1.exact h) is
 
 -- ---- their rows, of operands that were narrowed to x, y, z and w
 

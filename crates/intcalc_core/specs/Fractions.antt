@@ -4,7 +4,7 @@ use Rattle.ratio64.specs.Fraction.{IsExact, IsOutsideI64}
 use Rattle.ratio64.specs.Ratio.{num_of, den_of}
 use Rattle.ratio64.specs.declared.fraction.Ratio.{Ratio}
 
--- the ratio is the exact result of the fraction a/b, which fits
+-- the ratio is the exact result of the fraction a/b, which lies inside i64
 pub record IsRatioOf (a b : ℤ) (x : Ratio) : Type 0 where
   pub exact : IsExact a b (num_of x) (den_of x)
-  pub narrow : ¬ (IsOutsideI64 a b)
+  pub inside : ¬ (IsOutsideI64 a b)

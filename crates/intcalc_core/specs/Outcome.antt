@@ -84,16 +84,16 @@ abbrev pub AreCounts : ℤ → ℤ → Type 0
 AreCounts n k = (pos 0 ≤ℤ n) × (pos 0 ≤ℤ k)
 
 -- refused where a part of the exact result of the fraction a/b lies outside `i64`
-abbrev pub NeedsNarrow : ℤ → ℤ → (Result Answer Refusal → Type 0) → Result Answer Refusal → Type 0
-NeedsNarrow a b = Needs (¬ (IsOutsideI64 a b)) NotFitting
+abbrev pub NeedsInsideI64 : ℤ → ℤ → (Result Answer Refusal → Type 0) → Result Answer Refusal → Type 0
+NeedsInsideI64 a b = Needs (¬ (IsOutsideI64 a b)) NotFitting
 
 -- refused so, and else answered by the parts of the exact result
 abbrev pub AnswersExact : ℤ → ℤ → Result Answer Refusal → Type 0
-AnswersExact a b = NeedsNarrow a b (AnswersTwo (IsExact a b))
+AnswersExact a b = NeedsInsideI64 a b (AnswersTwo (IsExact a b))
 
 -- refused unless a/b and c/d are fractions whose exact results fit
 abbrev pub NeedsFractions : (a b c d : ℤ) → (Result Answer Refusal → Type 0) → Result Answer Refusal → Type 0
-NeedsFractions a b c d rest = NeedsDivisor b (NeedsDivisor d (NeedsNarrow a b (NeedsNarrow c d rest)))
+NeedsFractions a b c d rest = NeedsDivisor b (NeedsDivisor d (NeedsInsideI64 a b (NeedsInsideI64 c d rest)))
 
 -- the table of calls: what each answers to operands of the type, its refusals in their order
 unfoldable pub Inside : (ℤ → Type 0) → Call → Result Answer Refusal → Type 0

@@ -3,24 +3,12 @@
 ghost use Rattle.std.specs.Prelude.{◌↔◌, IsTrue};
 ghost use Rattle.intcalc_core.specs.Outcome.{IsMadeAt, Narrows, Outcome, OutcomeIn};
 
-// Each function of these modules is a row of the table `Inside` of specs/Outcome, or four of them: what
-// the call needs, in the table's order, and then the call of the library.
-mod averages;
-mod coefficients;
-mod division;
-mod divisors;
 mod fractions;
 mod operand;
-mod roots;
+mod rows;
 
 use crate::calls::{Answer, Call, Kind, Refusal};
-use averages::{lower_average, upper_average};
-use coefficients::coefficient;
-use division::{divisibility, next_multiple, previous_multiple, quotients, remainder};
-use divisors::{common_divisor, common_multiple, divisor_and_multiple, divisor_and_pair};
-use fractions::{product, sum};
 use operand::{Operand, narrow, needs};
-use roots::{cube_root, root, square_root};
 use std::num::TryFromIntError;
 
 /// What the call answers at the kind, or why it is refused. At `Kind::I64` the call
@@ -54,23 +42,35 @@ fn evaluate_at<T: Operand + TryFrom<i128, Error = TryFromIntError>>(
     ensures { OutcomeIn T.fits call.now result }
 {
     match call {
-        Call::DivRem(n, d) | Call::DivModFloor(n, d) | Call::DivFloor(n, d) | Call::DivCeil(n, d) =>
-            quotients::<T>(call, narrow(*n)?, narrow(*d)?),
-        Call::ModFloor(n, d) => remainder::<T>(narrow(*n)?, narrow(*d)?),
-        Call::NextMultipleOf(n, d) => next_multiple::<T>(narrow(*n)?, narrow(*d)?),
-        Call::PrevMultipleOf(n, d) => previous_multiple::<T>(narrow(*n)?, narrow(*d)?),
-        Call::IsMultipleOf(n, d) => divisibility::<T>(narrow(*n)?, narrow(*d)?),
-        Call::Gcd(a, b) => common_divisor::<T>(narrow(*a)?, narrow(*b)?),
-        Call::Lcm(a, b) => common_multiple::<T>(narrow(*a)?, narrow(*b)?),
-        Call::GcdLcm(a, b) => divisor_and_multiple::<T>(narrow(*a)?, narrow(*b)?),
-        Call::ExtendedGcd(a, b) => divisor_and_pair::<T>(narrow(*a)?, narrow(*b)?),
-        Call::AverageFloor(a, b) => lower_average::<T>(narrow(*a)?, narrow(*b)?),
-        Call::AverageCeil(a, b) => upper_average::<T>(narrow(*a)?, narrow(*b)?),
-        Call::Sqrt(x) => square_root::<T>(narrow(*x)?),
-        Call::Cbrt(x) => cube_root::<T>(narrow(*x)?),
-        Call::NthRoot(x, n) => root::<T>(narrow(*x)?, narrow(*n)?),
-        Call::Binomial(n, k) => coefficient::<T>(narrow(*n)?, narrow(*k)?),
-        Call::RatioAdd(a, b, c, d) => sum(narrow(*a)?, narrow(*b)?, narrow(*c)?, narrow(*d)?),
-        Call::RatioMul(a, b, c, d) => product(narrow(*a)?, narrow(*b)?, narrow(*c)?, narrow(*d)?),
+        Call::DivRem(n, d) => rows::div_rem::<T>(narrow(*n)?, narrow(*d)?),
+        Call::DivModFloor(n, d) => rows::div_mod_floor::<T>(narrow(*n)?, narrow(*d)?),
+        Call::DivFloor(n, d) => rows::div_floor::<T>(narrow(*n)?, narrow(*d)?),
+        Call::DivCeil(n, d) => rows::div_ceil::<T>(narrow(*n)?, narrow(*d)?),
+        Call::ModFloor(n, d) => rows::mod_floor::<T>(narrow(*n)?, narrow(*d)?),
+        Call::NextMultipleOf(n, d) => rows::next_multiple_of::<T>(narrow(*n)?, narrow(*d)?),
+        Call::PrevMultipleOf(n, d) => rows::prev_multiple_of::<T>(narrow(*n)?, narrow(*d)?),
+        Call::IsMultipleOf(n, d) => rows::is_multiple_of::<T>(narrow(*n)?, narrow(*d)?),
+        Call::Gcd(a, b) => rows::gcd::<T>(narrow(*a)?, narrow(*b)?),
+        Call::Lcm(a, b) => rows::lcm::<T>(narrow(*a)?, narrow(*b)?),
+        Call::GcdLcm(a, b) => rows::gcd_lcm::<T>(narrow(*a)?, narrow(*b)?),
+        Call::ExtendedGcd(a, b) => rows::extended_gcd::<T>(narrow(*a)?, narrow(*b)?),
+        Call::AverageFloor(a, b) => rows::average_floor::<T>(narrow(*a)?, narrow(*b)?),
+        Call::AverageCeil(a, b) => rows::average_ceil::<T>(narrow(*a)?, narrow(*b)?),
+        Call::Sqrt(x) => rows::sqrt::<T>(narrow(*x)?),
+        Call::Cbrt(x) => rows::cbrt::<T>(narrow(*x)?),
+        Call::NthRoot(x, n) => rows::nth_root::<T>(narrow(*x)?, narrow(*n)?),
+        Call::Binomial(n, k) => rows::binomial::<T>(narrow(*n)?, narrow(*k)?),
+        Call::RatioAdd(a, b, c, d) => fractions::ratio_add(
+            narrow(*a)?,
+            narrow(*b)?,
+            narrow(*c)?,
+            narrow(*d)?,
+        ),
+        Call::RatioMul(a, b, c, d) => fractions::ratio_mul(
+            narrow(*a)?,
+            narrow(*b)?,
+            narrow(*c)?,
+            narrow(*d)?,
+        ),
     }
 }

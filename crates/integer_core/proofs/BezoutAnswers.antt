@@ -4,9 +4,9 @@ use Rattle.std.proofs.Common.{arith, inl, inr, sym, ◌∙◌, ap}
 use Rattle.std.proofs.Math.IntN.{zero-*ℤ, *ℤ-zero, +ℤ_idl, +ℤ_idr}
 use Rattle.std.proofs.lemmas.Int.{ints, unsigned_abs-mul}
 use borrow.Author.Differences.{abs_is}
-use Rattle.integer_core.proofs.CommonDivisors.{only_gcd, gcd-swap, gcd-nonzero, gcd-zero}
+use Rattle.integer_core.proofs.CommonDivisors.{only_gcd, gcd-divisor, gcd-swap, gcd-nonzero, gcd-zero}
 use Rattle.integer_core.proofs.Divisibility.{Divides-zero, cancel}
-use Rattle.integer_core.proofs.EuclidTurns.{divides_or_not, gcd-divisor}
+use Rattle.integer_core.proofs.EuclidTurns.{divides_or_not}
 use Rattle.integer_core.proofs.Quotients.{small_multiple}
 use Rattle.integer_core.proofs.SmallPairs.{only_small}
 use Rattle.integer_core.proofs.Whole.{linear, products, expand, comm, mul-one}

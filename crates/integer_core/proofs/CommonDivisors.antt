@@ -24,14 +24,18 @@ gcd-nonzero x nonzero none = nonzero (zero_divides (rw none at x.divides_right))
 pub gcd-positive : {a b g : ℤ} → IsGreatestCommonDivisor a b g → b ≢ pos 0 → pos 0 <ℤ g
 gcd-positive x nonzero = let g_nonzero = gcd-nonzero x nonzero in omega (arith, linear)
 
+-- of a number and a divisor it is the magnitude of the divisor
+pub gcd-divisor : {d n : ℤ} → Divides d n → IsGreatestCommonDivisor n d (pos (unsigned_abs d))
+gcd-divisor {d} h = record {
+  from_zero = omega (arith, ints);
+  divides_left = Divides-trans (magnitude_divides d) h;
+  divides_right = magnitude_divides d;
+  greatest = λ c left right. Divides-trans right (divides_magnitude d);
+}
+
 -- with 0 it is the magnitude
 pub gcd-zero : (a : ℤ) → IsGreatestCommonDivisor a (pos 0) (pos (unsigned_abs a))
-gcd-zero a = record {
-  from_zero = omega (arith, ints);
-  divides_left = magnitude_divides a;
-  divides_right = Divides-zero _;
-  greatest = λ d h k. Divides-trans h (divides_magnitude a);
-}
+gcd-zero a = gcd-swap (gcd-divisor (Divides-zero a))
 
 -- a number and a divisor have that of the divisor and the remainder
 pub gcd-remainder : {g n d q r : ℤ} → IsDivision n d q r → IsGreatestCommonDivisor d r g → IsGreatestCommonDivisor n d g

@@ -1,29 +1,17 @@
 -- Divisors of whole numbers.
-use Rattle.std.specs.Prelude.{◌≡◌, ◌≢◌, ◌*◌, ◌/◌, ◌≤ℤ◌, ◌+ℤ◌, ◌-ℤ◌, ◌*ℤ◌, ℤ, ℕ, pos, negsuc, neg_ℤ, unsigned_abs, int_div}
+use Rattle.std.specs.Prelude.{◌≡◌, ◌≢◌, ◌/◌, ◌≤ℤ◌, ◌+ℤ◌, ◌-ℤ◌, ◌*ℤ◌, ℤ, pos, negsuc, neg_ℤ, unsigned_abs, int_div}
 use Rattle.std.proofs.Common.{arith, sym, ◌∙◌, ap}
 use Rattle.std.proofs.lemmas.Int.{ints, unsigned_abs-mul}
 use Rattle.std.proofs.lemmas.Nat.{div-add-mod'}
 use Rattle.std.proofs.lemmas.Nat.Gcd.{dvd_antisymm, mod-eq-zero_of_dvd}
 use Prim.Native.Nat.{◌∣◌}
-use Rattle.integer_core.proofs.Whole.{linear, sizes, products, expand, comm, assoc, mul-neg, mul-one}
+use Rattle.integer_core.proofs.Whole.{linear, sizes, products, expand, comm, assoc, mul-one}
 use Rattle.integer_core.proofs.Quotients.{small_multiple, truncated_is}
 use Rattle.integer_core.specs.Division.{IsDivision}
 use Rattle.integer_core.specs.Divisors.{Divides}
 
 pub to_natural : {u v : ℤ} → Divides u v → unsigned_abs u ∣ unsigned_abs v
 to_natural {u} h = ∣ (unsigned_abs h.factor, ap unsigned_abs h.product ∙ unsigned_abs-mul u h.factor) ∣₁
-
-signed : (u v : ℤ) (k : ℕ) → unsigned_abs v ≡ unsigned_abs u * k → Divides u v
-signed (pos u) (pos v) k e = record { factor = pos k; product = omega (arith, ints) }
-signed (pos u) (negsuc v) k e = record { factor = neg_ℤ (pos k); product = simp mul-neg (omega (arith, ints)) }
-signed (negsuc u) (pos v) k e = record { factor = neg_ℤ (pos k); product = simp mul-neg (omega (arith, ints)) }
-signed (negsuc u) (negsuc v) k e = record { factor = pos k; product = omega (arith, ints) }
-
-pub from_natural : {u v : ℤ} → unsigned_abs u ∣ unsigned_abs v → Divides u v
-from_natural {u} {v} h =
-    let e = mod-eq-zero_of_dvd (unsigned_abs u) h in
-    let split = div-add-mod' (unsigned_abs v) (unsigned_abs u) in
-    signed u v (unsigned_abs v / unsigned_abs u) (omega arith)
 
 pub Divides-refl : (u : ℤ) → Divides u u
 Divides-refl u = record { factor = pos 1; product = sym (mul-one u) }
@@ -53,6 +41,13 @@ magnitude_divides (negsuc d) = record { factor = negsuc 0; product = omega (arit
 pub divides_magnitude : (d : ℤ) → Divides d (pos (unsigned_abs d))
 divides_magnitude (pos d) = Divides-refl (pos d)
 divides_magnitude (negsuc d) = record { factor = negsuc 0; product = omega (arith, ints) }
+
+pub from_natural : {u v : ℤ} → unsigned_abs u ∣ unsigned_abs v → Divides u v
+from_natural {u} {v} h =
+    let exact = mod-eq-zero_of_dvd (unsigned_abs u) h in
+    let split = div-add-mod' (unsigned_abs v) (unsigned_abs u) in
+    let sizes : Divides (pos (unsigned_abs u)) (pos (unsigned_abs v)) = record { factor = pos (unsigned_abs v / unsigned_abs u); product = omega (arith, ints) } in
+    Divides-trans (divides_magnitude u) (Divides-trans sizes (magnitude_divides v))
 
 pub Divides-sum : {d u v : ℤ} (x y : ℤ) → Divides d u → Divides d v → Divides d (x *ℤ u +ℤ y *ℤ v)
 Divides-sum x y h k = record { factor = x *ℤ h.factor +ℤ y *ℤ k.factor; product = simp (h.product, k.product, expand) }

@@ -2,16 +2,16 @@
 use Rattle.std.specs.Prelude.{◌≡◌, ◌≢◌, ◌⊎◌, ◌<◌, ◌≤◌, ◌+◌, ◌*◌, ◌-ℤ◌, ◌*ℤ◌, ℤ, ℕ, pos, zero, suc, unsigned_abs, int_rem}
 use Rattle.std.proofs.Common.{arith, inl, inr, sym, ◌∙◌, ap}
 use Rattle.std.proofs.lemmas.Bool.{cases_lt}
-use Rattle.std.proofs.lemmas.Int.{ints, unsigned_abs-mul}
+use Rattle.std.proofs.lemmas.Int.{unsigned_abs-mul}
 use Rattle.std.proofs.lemmas.Nat.Gcd.{le_of_dvd}
 use borrow.Author.Differences.{abs_is}
-use Rattle.integer_core.proofs.Divisibility.{Divides-trans, magnitude_divides, divides_magnitude, divides_from_exact, exact_from_divides, to_natural}
+use Rattle.integer_core.proofs.Divisibility.{Divides-trans, divides_magnitude, divides_from_exact, exact_from_divides, to_natural}
 use Rattle.integer_core.proofs.Quotients.{zero_or_not, only_truncated, truncated_is}
 use Rattle.integer_core.proofs.Runs.{only_turns}
 use Rattle.integer_core.proofs.Whole.{linear, products}
 use Rattle.integer_core.specs.Bezout.{AreEuclidTurns, IsEuclidTurn, Remainders}
 use Rattle.integer_core.specs.Division.{IsTruncated}
-use Rattle.integer_core.specs.Divisors.{Divides, IsGreatestCommonDivisor}
+use Rattle.integer_core.specs.Divisors.{Divides}
 use Rattle.integer_core.specs.Only.{IsOnly}
 
 -- a multiple is 0, or the number itself, or at least twice as large
@@ -63,15 +63,6 @@ pub twice : {d n : ℤ} → Divides d n → unsigned_abs d < unsigned_abs n → 
 twice {d} h less =
     let k = h.factor in
     omega (arith, ap unsigned_abs h.product, unsigned_abs-mul d k, multiple_size (unsigned_abs k) (unsigned_abs d))
-
--- a number and its divisor have the magnitude of the divisor
-pub gcd-divisor : {d n : ℤ} → Divides d n → IsGreatestCommonDivisor n d (pos (unsigned_abs d))
-gcd-divisor {d} h = record {
-  from_zero = omega (arith, ints);
-  divides_left = Divides-trans (magnitude_divides d) h;
-  divides_right = magnitude_divides d;
-  greatest = λ c left right. Divides-trans right (divides_magnitude d);
-}
 
 -- ---- the turns are the only ones
 

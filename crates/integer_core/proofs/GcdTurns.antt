@@ -28,10 +28,10 @@ only_gcd_turn s t h u i =
     let same : (u.m ≡ t.m) × (u.n ≡ t.n) = elim h [
       | inl left ↦ elim i [
         | inl other ↦ (only_odd_part left.m u.m other.m, other.n ∙ sym left.n)
-        | inr other ↦ absurd (let a = left.above in let b = other.above in omega arith)
+        | inr other ↦ absurd (omega (arith, left.above, other.above))
       ]
       | inr right ↦ elim i [
-        | inl other ↦ absurd (let a = right.above in let b = other.above in omega arith)
+        | inl other ↦ absurd (omega (arith, right.above, other.above))
         | inr other ↦ (other.m ∙ sym right.m, only_odd_part right.n u.n other.n)
       ]
     ] in
@@ -39,8 +39,8 @@ only_gcd_turn s t h u i =
 
 no_gcd_turn : (s t : OddPair) → GcdEnds s → ¬ (IsGcdTurn s t)
 no_gcd_turn s t ends h = elim h [
-  | inl left ↦ absurd (let a = left.above in omega arith)
-  | inr right ↦ absurd (let a = right.above in omega arith)
+  | inl left ↦ absurd (omega (arith, left.above))
+  | inr right ↦ absurd (omega (arith, right.above))
 ]
 
 only_gcd_run : {a b n : ℕ} → MakesGcdRun a b n → IsOnly (MakesGcdRun a b) n
@@ -74,16 +74,14 @@ bit_length (suc n) =
     let rest = bit_length n in
     elim (cases_lt (suc n) (2 ^ rest.0)) [
       | inl below ↦ (rest.0, below, λ k h. rest.2 k (omega arith))
-      | inr above ↦ (suc rest.0, pow_above rest.0 rest.1, λ k h. longer rest.0 k (omega arith))
-    ]
-  where
-    pow_above : (l : ℕ) → n < 2 ^ l → suc n < 2 ^ suc l
-    pow_above l h = omega (arith, pow-succ' 2 l)
-
-    longer : (l k : ℕ) → 2 ^ l < 2 ^ k → suc l ≤ k
-    longer l k h = elim (cases_lt l k) [
-      | inl less ↦ less
-      | inr more ↦ let wide = pow_mono {i = k} {j = l} more in absurd (omega arith)
+      | inr above ↦ (
+        suc rest.0,
+        omega (arith, rest.1, pow-succ' 2 rest.0),
+        λ k h. elim (cases_lt rest.0 k) [
+          | inl less ↦ less
+          | inr more ↦ let wide = pow_mono {i = k} {j = rest.0} more in absurd (omega arith)
+        ],
+      )
     ]
 
 pub bit_length_exists : (v : ℤ) → (l : ℕ) × IsBitLength v l

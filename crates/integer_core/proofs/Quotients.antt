@@ -133,17 +133,15 @@ module _ {fits : ℤ → Type 0} {low high n d : ℤ} (range : IsRange fits low 
     | inr far ↦ far_quotient_fits (omega (arith, sizes)) division
   ]
 
+  -- so a quotient fits that does so where it is exact
+  exact_or_fits : {q r : ℤ} → IsDivision n d q r → (r ≡ pos 0 → fits q) → fits q
+  exact_or_fits {r = r} division where_exact = elim (zero_or_not r) [ inl exact ↦ where_exact exact | inr inexact ↦ inexact_quotient_fits division inexact ]
+
   pub truncated_fits : EachFits fits (IsQuotient IsFloored n d) → EachFits fits (IsQuotient IsTruncated n d)
-  truncated_fits floored q h = elim (zero_or_not h.remainder) [
-    | inl exact ↦ floored q (record { remainder = _; division = floored_same h.division (inl exact) })
-    | inr inexact ↦ inexact_quotient_fits h.division.division inexact
-  ]
+  truncated_fits floored q h = exact_or_fits h.division.division (λ exact. floored q (record { remainder = _; division = floored_same h.division (inl exact) }))
 
   pub floored_fits : EachFits fits (IsQuotient IsCeiled n d) → EachFits fits (IsQuotient IsFloored n d)
-  floored_fits ceiled q h = elim (zero_or_not h.remainder) [
-    | inl exact ↦ ceiled q (record { remainder = _; division = ceiled_exact h.division exact })
-    | inr inexact ↦ inexact_quotient_fits h.division.division inexact
-  ]
+  floored_fits ceiled q h = exact_or_fits h.division.division (λ exact. ceiled q (record { remainder = _; division = ceiled_exact h.division exact }))
 
 pub floored_remainder_fits : {fits : ℤ → Type 0} {low high : ℤ} {n d q r : ℤ} → IsRange fits low high → fits d → IsFloored n d q r → fits r
 floored_remainder_fits range d_fits h = within_fits range d_fits (grind (arith, sizes))

@@ -54,14 +54,10 @@ module _ {fits : ℤ → Type 0} {low high : ℤ} (range : IsRange fits low high
 
   -- a coefficient under the sign of a number of the type
   pub sign_fits : {r z : ℤ} → fits r → IsCoefficient fits high z → fits (sign r *ℤ z)
-  sign_fits {r} {z} r_fits h = cases r r_fits
-    where
-      cases : (r : ℤ) → fits r → fits (sign r *ℤ z)
-      cases (pos n) r_fits = let same : pos 1 *ℤ z ≡ z = omega (arith, products) in rw same h.in_range
-      cases (negsuc n) r_fits =
-          let r_in = (range.between (negsuc n)).0 r_fits in
-          let small = h.small in
-          (coefficient (inl (omega (arith, linear))) (omega (arith, products, abs_is))).in_range
+  sign_fits {r = pos n} {z = z} r_fits h = let same : pos 1 *ℤ z ≡ z = omega (arith, products) in rw same h.in_range
+  sign_fits {r = negsuc n} r_fits h =
+      let r_in = (range.between (negsuc n)).0 r_fits in
+      (coefficient (inl (omega (arith, linear))) (omega (arith, products, abs_is, h.small))).in_range
 
   magnitude_below : {z : ℤ} → fits z → unsigned_abs z < 2 ^ 129
   magnitude_below {z} z_fits =

@@ -4,8 +4,8 @@ use Rattle.std.proofs.Common.{arith, refl, inl, inr}
 use Rattle.std.proofs.lemmas.Int.{ints}
 use borrow.Author.Differences.{abs_is}
 use Rattle.integer_core.proofs.BezoutCoefficients.{IsWeighed, weighed_first, weighed_second, weighed_turn, last_half}
-use Rattle.integer_core.proofs.CommonDivisors.{gcd-remainder}
-use Rattle.integer_core.proofs.EuclidTurns.{divides_or_not, gcd-divisor, inexact, truncated_rest}
+use Rattle.integer_core.proofs.CommonDivisors.{gcd-divisor, gcd-remainder}
+use Rattle.integer_core.proofs.EuclidTurns.{divides_or_not, inexact, truncated_rest}
 use Rattle.integer_core.proofs.Quotients.{truncated_is}
 use Rattle.integer_core.proofs.Runs.{Reaches, reaches_first, reaches_turn}
 use Rattle.integer_core.proofs.Whole.{linear, expand}

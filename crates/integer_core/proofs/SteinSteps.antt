@@ -1,21 +1,18 @@
 -- Stein's method on the values of an unsigned type.
-use Rattle.std.specs.Prelude.{◌≡◌, ◌≢◌, ◌⊎◌, ◌≤ℤ◌, ◌<ℤ◌, ◌-ℤ◌, ℤ, pos, negsuc, unsigned_abs}
+use Rattle.std.specs.Prelude.{◌≡◌, ◌⊎◌, ◌≤ℤ◌, ◌-ℤ◌, ℤ, pos, unsigned_abs}
 use Rattle.std.specs.Int.{Width, w8, w16, w32, w64, w128, trailing_zeros, int_shr}
-use Rattle.std.proofs.Common.{ℕ, min, ◌-◌, ◌*◌, ◌/◌, ◌%◌, ◌^◌, ◌<◌, ◌≤◌, refl, sym, subst, arith, inl, inr, pow_mono, pow_pos, mul-le-mul_left, mul-le-mul_right}
+use Rattle.std.proofs.Common.{ℕ, min, ◌-◌, ◌*◌, ◌/◌, ◌%◌, ◌^◌, ◌<◌, ◌≤◌, refl, sym, subst, arith, inl, inr, pow_mono, mul-le-mul_right}
 use Rattle.std.proofs.lemmas.Bool.{cases_lt}
 use Rattle.std.proofs.lemmas.Int.{ints}
 use Rattle.std.proofs.lemmas.Nat.Bits.{bit_at-trailing_zeros}
 use Rattle.num_traits.specs.Laws.{bit_len}
 use borrow.Author.Differences.{abs_is}
 use Rattle.integer_core.proofs.Whole.{linear}
-use Rattle.integer_core.proofs.Signs.{from_not_less}
-use Rattle.std.specs.Int.{IsGcd, IsPowerOfTwo, ◌∣◌}
-use Rattle.std.proofs.lemmas.Nat.Gcd.{IsGcd-swap, dvd_refl, le_of_dvd}
-use Rattle.integer_core.specs.Divisors.{IsGreatestCommonDivisor}
-use Rattle.integer_core.proofs.Divisibility.{from_natural, to_natural}
+use Rattle.std.specs.Int.{IsGcd, IsPowerOfTwo}
+use Rattle.std.proofs.Math.Nat.{eq-one_of_dvd-one, one-dvd}
+use Rattle.std.proofs.lemmas.Nat.Gcd.{dvd_refl, le_of_dvd}
 use Rattle.integer_core.proofs.NaturalGcd.{gcd_shift, odd_divisor, odd_divides}
-use Rattle.integer_core.specs.GcdRuns.{IsOddPart}
-use Rattle.integer_core.proofs.OddParts.{odd_part, shift_back}
+use Rattle.integer_core.proofs.OddParts.{shift_back}
 use mir.Val.{bits}
 
 width : (w : Width) → bits w ≡ bit_len w
@@ -38,15 +35,13 @@ pub stripped : (w : Width) (n k : ℕ) {x r : ℤ} → 0 < n → n < 2 ^ bit_len
 stripped w n k positive fits e twos is =
     let shifted : int_shr (pos n) (trailing_zeros w n) ≡ pos (n / 2 ^ trailing_zeros w n) = refl in
     rw (is, e, twos) (record {
-      odd = (odd_part w n positive (rw (width w) fits)).odd;
+      odd = (bit_at-trailing_zeros w n positive (rw (width w) fits)).1;
       product = sym (shift_back (bits w) n);
     })
 
 -- numbers from 0 up by their sizes
 pub size_of_difference : {x y : ℤ} → pos 0 ≤ℤ x → pos 0 ≤ℤ y → unsigned_abs y < unsigned_abs x → unsigned_abs (x -ℤ y) ≡ unsigned_abs x - unsigned_abs y
-size_of_difference {x = pos x} {y = pos y} h k less = let both : (pos x -ℤ pos y) ≡ pos (x - y) = omega (arith, ints) in rw both refl
-size_of_difference {x = negsuc x} h k less = absurd (omega (arith, ints))
-size_of_difference {x = pos x} {y = negsuc y} h k less = absurd (omega (arith, ints))
+size_of_difference x_up y_up less = omega (arith, linear, abs_is)
 
 -- a shift that keeps its number in the range
 pub shift_few : (m k bits : ℕ) → 0 < m → m * 2 ^ k < 2 ^ bits → k < bits
@@ -57,62 +52,36 @@ shift_few m k bits positive fits = elim (cases_lt k bits) [
       absurd (omega (arith, mul-le-mul_right {m = 1} {n = m} (2 ^ k) positive))
 ]
 
-pub size_below : {x y : ℤ} → pos 0 ≤ℤ x → x <ℤ y → unsigned_abs x < unsigned_abs y
-size_below h k = omega (arith, linear, abs_is)
-
-pub size_other : {x y : ℤ} → pos 0 ≤ℤ x → pos 0 ≤ℤ y → ¬ (y <ℤ x) → unsigned_abs x ≢ unsigned_abs y → unsigned_abs x < unsigned_abs y
-size_other {x} {y} h k not_below other =
-    let le = from_not_less not_below in
-    elim (cases_lt (unsigned_abs x) (unsigned_abs y)) [
-      | inl less ↦ less
-      | inr more ↦ absurd (other (omega (arith, linear, abs_is)))
-    ]
+pub natural : {z : ℤ} → pos 0 ≤ℤ z → z ≡ pos (unsigned_abs z)
+natural up = omega (arith, linear, abs_is)
 
 pub gcd_of_same : (m n : ℕ) → m ≡ n → IsGcd m n m
 gcd_of_same m n e = subst (λ (x : ℕ). IsGcd m x m) e (dvd_refl m, dvd_refl m, λ d h k. h)
 
--- an odd part is at most its number
-pub odd_part_le : {n m : ℕ} → IsOddPart n m → m ≤ n
-odd_part_le {n} {m} part =
-    let positive = pow_pos part.twos in
-    omega (arith, part.product, mul-le-mul_left m positive)
-
--- the gcd of whole numbers is that of their sizes
-pub gcd_of_sizes : (a b : ℤ) {g : ℕ} → IsGcd (unsigned_abs a) (unsigned_abs b) g → IsGreatestCommonDivisor a b (pos g)
-gcd_of_sizes a b h = record {
-  from_zero = omega (arith, ints);
-  divides_left = from_natural h.0;
-  divides_right = from_natural h.1;
-  greatest = λ d p q. from_natural (h.2 (unsigned_abs d) (to_natural p) (to_natural q));
-}
-
--- that of two numbers by that of their odd parts
-pub gcd_of_odd_parts : (a b m n i j k g : ℕ) → a ≡ m * 2 ^ i → b ≡ n * 2 ^ j → k ≡ min i j → m % 2 ≡ 1 → n % 2 ≡ 1 → IsGcd m n g → IsGcd a b (g * 2 ^ k)
-gcd_of_odd_parts a b m n i j k g e f s o p h = rw (e, f, s) (gcd_shift m n i j g o p h)
+-- the gcd of two numbers by that of their odd parts
+pub gcd_of_odd_parts : {a b m n k g : ℕ} (i j : ℕ) → a ≡ m * 2 ^ i → b ≡ n * 2 ^ j → k ≡ min i j → m % 2 ≡ 1 → n % 2 ≡ 1 → IsGcd m n g → IsGcd a b (g * 2 ^ k)
+gcd_of_odd_parts i j a_is b_is k_is m_odd n_odd h = rw (a_is, b_is, k_is) (gcd_shift i j m_odd n_odd h)
 
 -- it is above 0, and at most each number above 0
 pub gcd_positive : {m n g : ℕ} → m % 2 ≡ 1 → IsGcd m n g → 0 < g
 gcd_positive {m} {n} {g} odd h = let o = odd_divisor g m h.0 odd in omega arith
 
-pub gcd_small : {a b g : ℕ} → 0 < a → IsGcd a b g → g ≤ a
-gcd_small positive h = le_of_dvd positive h.0
+-- so it fits where one of the two does
+pub gcd_fits : {fits : ℤ → Type 0} {a : ℤ} {b g : ℕ} → ((x y z : ℤ) → fits x → fits z → x ≤ℤ y → y ≤ℤ z → fits y) → fits (pos 0) → fits a → pos 0 ≤ℤ a
+    → 0 < unsigned_abs a → IsGcd (unsigned_abs a) b g → fits (pos g)
+gcd_fits between zero_fits a_fits up positive h =
+    let small = le_of_dvd positive h.0 in
+    between _ _ _ zero_fits a_fits (omega (arith, ints)) (omega (arith, linear, abs_is))
 
 -- the odd part of a power of two is 1
-odd_of_power : (n m i : ℕ) → IsPowerOfTwo n → m % 2 ≡ 1 → n ≡ m * 2 ^ i → m ≡ 1
-odd_of_power n m i h odd product =
+odd_of_power : {n m : ℕ} (i : ℕ) → IsPowerOfTwo n → n ≡ m * 2 ^ i → m % 2 ≡ 1 → m ≡ 1
+odd_of_power {m = m} i h product odd =
     let whole : 1 * 2 ^ h.0 ≡ m * 2 ^ i = omega (arith, h.1, product) in
-    let divides : m ∣ 1 = odd_divides m 1 h.0 odd (∣ (2 ^ i, whole) ∣₁) in
-    let small : m ≤ 1 = le_of_dvd (omega arith) divides in
-    omega arith
+    eq-one_of_dvd-one (odd_divides m 1 h.0 odd (∣ (2 ^ i, whole) ∣₁))
 
-gcd_of_left_power : (a b m n i j k one : ℕ) → IsPowerOfTwo a → one ≡ 1 → a ≡ m * 2 ^ i → b ≡ n * 2 ^ j → k ≡ min i j → m % 2 ≡ 1 → n % 2 ≡ 1 → IsGcd a b (one * 2 ^ k)
-gcd_of_left_power a b m n i j k one h is e f s o p =
-    let m_is : m ≡ 1 = odd_of_power a m i h o e in
-    let unit : IsGcd 1 n 1 = (dvd_refl 1, (∣ (n, let own : n ≡ 1 * n = omega arith in own) ∣₁), λ d u v. u) in
-    rw is (gcd_of_odd_parts a b m n i j k 1 e f s o p (rw m_is unit))
-
-pub gcd_of_power : (a b m n i j k one : ℕ) → IsPowerOfTwo a ⊎ IsPowerOfTwo b → one ≡ 1 → a ≡ m * 2 ^ i → b ≡ n * 2 ^ j → k ≡ min i j → m % 2 ≡ 1 → n % 2 ≡ 1 → IsGcd a b (one * 2 ^ k)
-gcd_of_power a b m n i j k one h is e f s o p = elim h [
-  | inl left ↦ gcd_of_left_power a b m n i j k one left is e f s o p
-  | inr right ↦ IsGcd-swap _ _ _ (gcd_of_left_power b a n m j i k one right is f e (omega arith) p o)
-]
+-- so where one of two numbers is a power of two, their odd parts have the gcd 1
+pub gcd_of_power : {a b m n one : ℕ} (i j : ℕ) → IsPowerOfTwo a ⊎ IsPowerOfTwo b → one ≡ 1 → a ≡ m * 2 ^ i → b ≡ n * 2 ^ j → m % 2 ≡ 1 → n % 2 ≡ 1 → IsGcd m n one
+gcd_of_power {m = m} {n = n} i j h is a_is b_is m_odd n_odd = rw is (elim h [
+  | inl left ↦ rw (odd_of_power i left a_is m_odd) (dvd_refl 1, one-dvd n, λ d u v. u)
+  | inr right ↦ rw (odd_of_power j right b_is n_odd) (one-dvd m, dvd_refl 1, λ d u v. v)
+])

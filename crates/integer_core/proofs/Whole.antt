@@ -1,6 +1,7 @@
 -- The ring of the whole numbers, for `omega` and `simp`.
-use Rattle.std.specs.Prelude.{◌≡◌, ◌+◌, ◌*◌, ◌+ℤ◌, ◌*ℤ◌, ℤ, pos, neg_ℤ}
-use Rattle.std.proofs.Common.{arith, ap}
+use Rattle.std.specs.Prelude.{◌≡◌, ◌+◌, ◌*◌, ◌<ℤ◌, ◌+ℤ◌, ◌*ℤ◌, ℤ, pos, neg_ℤ}
+use Rattle.std.proofs.Common.{arith, ap, mul-pos}
+use Rattle.std.proofs.lemmas.Int.{ints}
 use borrow.Author.Differences.{up, down, same_in, same_out, sum_is_lem, neg_is, product_is, abs_is, lt_out, le_out, below_in, at_most_in, Apart-out}
 pub use Rattle.std.proofs.Math.IntN.{*ℤ_comm as comm}
 
@@ -43,6 +44,10 @@ mul-neg a b = grind (arith, products)
 
 -- multiplied out, for `simp`
 pub ruleset expand = (dist, dist-left, neg-mul, mul-neg, assoc, comm, left_comm)
+
+-- a product of two numbers above 0
+pub product_positive : (a b : ℤ) → pos 0 <ℤ a → pos 0 <ℤ b → pos 0 <ℤ (a *ℤ b)
+product_positive a b a_up b_up = grind (arith, ints, mul-pos)
 
 pub mul-one : (a : ℤ) → a *ℤ pos 1 ≡ a
 mul-one a = omega (arith, products)

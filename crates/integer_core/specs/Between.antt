@@ -1,4 +1,4 @@
--- The whole numbers from low to high, as the range of a lawful type, and the laws of such a range.
+-- The whole numbers from low to high, as the range of a lawful type: the definition, and lemmas that prove its laws.
 use Rattle.std.specs.Prelude.{◌≡◌, ◌≢◌, ◌⊎◌, ◌^◌, ◌≤ℤ◌, ◌<ℤ◌, ◌-ℤ◌, ℤ, pos, neg_ℤ, unsigned_abs}
 use Rattle.std.proofs.Common.{arith}
 use Rattle.std.proofs.Math.Nat.{div-le_self}

@@ -9,16 +9,16 @@ abbrev pub sign : ℤ → ℤ
 sign (pos n) = pos 1
 sign (negsuc n) = negsuc 0
 
--- b is not 0 and divides a: up to its sign it is the gcd
+-- b is not 0 and divides a: up to its sign b is the gcd
 pub record SecondDividesFirst (a b : ℤ) : Type 0 where
   pub nonzero : b ≢ pos 0
   pub divides : Divides b a
 
--- b is 0 or a divides b: up to its sign a is the gcd
+-- b is 0, or a divides b: up to its sign a is the gcd
 abbrev pub FirstDividesSecond : ℤ → ℤ → Type 0
 FirstDividesSecond a b = (b ≡ pos 0) ⊎ Divides a b
 
--- neither case holds
+-- neither of the two holds
 pub record NeedsBoth (a b : ℤ) : Type 0 where
   pub not_second : ¬ (SecondDividesFirst a b)
   pub not_first : ¬ (FirstDividesSecond a b)

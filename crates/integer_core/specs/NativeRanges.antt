@@ -1,5 +1,5 @@
--- The ranges of the native types, by their number of bits.
-use Rattle.std.specs.Prelude.{◌≡◌, ◌⊎◌, ◌^◌, ◌*◌, ◌≤◌, ◌-◌, ◌≤ℤ◌, ℤ, ℕ, pos, negsuc, unsigned_abs, FitsSigned}
+-- A native type of a number of bits: the definition, and lemmas by which the signed and the unsigned types meet it.
+use Rattle.std.specs.Prelude.{◌≡◌, ◌⊎◌, ◌↔◌, ◌^◌, ◌*◌, ◌≤◌, ◌-◌, ◌≤ℤ◌, ℤ, ℕ, pos, negsuc, unsigned_abs, FitsSigned}
 use Rattle.std.specs.Int.{Width, w8, w16, w32, w64, w128, FitsUnsignedBits, IsPowerOfTwo, cast_signed}
 use Rattle.std.proofs.Common.{refl, arith, inl, inr, lit≤}
 use Rattle.std.proofs.lemmas.Int.{ints}
@@ -26,19 +26,24 @@ half_fits w32 = (lit≤ tt, lit≤ tt)
 half_fits w64 = (lit≤ tt, lit≤ tt)
 half_fits w128 = (lit≤ tt, lit≤ tt)
 
+-- a range of which the greatest number is one below n
+range_below : {fits : ℤ → Type 0} {low : ℤ} (n : ℕ) → ((z : ℤ) → fits z ↔ ((low ≤ℤ z) × (z ≤ℤ pos (n - 1)))) → 2 ≤ n → n ≤ 2 ^ 128
+    → (low ≡ pos 0) ⊎ ((low ≡ negsuc (n - 1)) × (n ≤ 2 ^ 127)) → IsRange fits low (pos (n - 1))
+range_below n between some most low_is = record {
+  between = between;
+  low_end = elim low_is [ inl none ↦ inl none | inr signed ↦ inr (inr (omega (arith, ints))) ];
+  positive = omega (arith, ints);
+  bounded = omega (arith, ints);
+  bounded_below = elim low_is [ inl none ↦ inl (omega (arith, ints)) | inr signed ↦ inr (omega (arith, ints)) ];
+}
+
 -- a signed type, and an unsigned one of at least as many bits
 pub signed_native : (w : Width) (k : ℕ) → 2 * 2 ^ hbits w ≤ 2 ^ k
     → IsNative w (cast_signed w) (λ z. FitsSigned w z) (negsuc (2 ^ hbits w - 1)) (pos (2 ^ hbits w - 1)) (FitsUnsignedBits k)
 signed_native w k wide =
     let half = half_fits w in
     record {
-      range = record {
-        between = signed-bounds w;
-        low_end = inr (inr (omega (arith, ints)));
-        positive = omega (arith, ints);
-        bounded = omega (arith, ints);
-        bounded_below = inr (omega (arith, ints));
-      };
+      range = range_below (2 ^ hbits w) (signed-bounds w) half.1 (omega arith) (inr (refl, half.0));
       magnitude = λ z fits. omega (arith, ints);
       twice = inr (omega (arith, ints));
       complement = signed_complement w;
@@ -52,13 +57,7 @@ unsigned_native w k wide =
     let half = half_fits w in
     let all = doubled w in
     record {
-      range = record {
-        between = unsigned-bounds (bit_len w);
-        low_end = inl refl;
-        positive = omega (arith, ints);
-        bounded = omega (arith, ints);
-        bounded_below = inl (omega (arith, ints));
-      };
+      range = range_below (2 ^ bit_len w) (unsigned-bounds (bit_len w)) (omega arith) (omega arith) (inl refl);
       magnitude = λ z fits. grind (arith, ints);
       twice = inl (omega (arith, ints));
       complement = unsigned_complement w;

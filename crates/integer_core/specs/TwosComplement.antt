@@ -1,4 +1,4 @@
--- The native types in two's complement.
+-- A type in two's complement: the definition, and lemmas by which the signed and the unsigned types meet it.
 use Rattle.std.specs.Prelude.{◌≡◌, ◌^◌, ◌*◌, ◌/◌, ◌<◌, ◌≤◌, ◌-◌, ◌-ℤ◌, ℤ, ℕ, pos, negsuc, suc}
 use Rattle.std.specs.Int.{Width, w8, w16, w32, w64, w128, bit_at, cast_signed}
 use Rattle.std.proofs.Common.{refl, arith, inl, inr, subst, pow_pos, div-lt_iff_lt-mul, le-div_iff_mul-le}

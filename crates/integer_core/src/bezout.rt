@@ -43,19 +43,6 @@ impl<T: Integer> Row<T> {
         }
     }
 
-    /// The second operand as a row.
-    fn of_second(b: T) -> Row<T>
-        ensures remainder { T.value result.remainder ≡ T.value b }
-        ensures x { T.value result.x ≡ pos 0 }
-        ensures y { T.value result.y ≡ pos 1 }
-    {
-        Row {
-            remainder: b,
-            x: zero(),
-            y: one(),
-        }
-    }
-
     /// The row as an answer: where the remainder is negative, all three numbers are negated.
     fn normalized(self) -> ExtendedGcd<T>
         requires gcd_fits { T.fits (sign (T.value self.remainder) *ℤ T.value self.remainder) }
@@ -105,7 +92,11 @@ fn last_row<T: Integer>(a: T, b: T) -> (Row<T>, u32)
         (record { current = T.value b; previous = T.value a }) result.1 }
 {
     let mut previous = Row::of_first(a);
-    let mut current = Row::of_second(b);
+    let mut current = Row {
+        remainder: b,
+        x: zero(),
+        y: one(),
+    };
     let mut turns = 0;
     'rows: while !previous.remainder.is_multiple_of(&current.remainder) {
         let (quotient, remainder) = previous.remainder.div_rem(&current.remainder);

@@ -1,11 +1,9 @@
 //! Divisors and multiples of the native types.
 
-ghost use Rattle.std.specs.Prelude.{◌↔◌, ◌+◌, ◌≤◌, ℕ, IsTrue};
+ghost use Rattle.std.specs.Prelude.{◌↔◌, IsTrue};
 ghost use Rattle.integer_core.specs.Divisors.{Divides, GcdFits, IsEven, IsGreatestCommonDivisor, IsLeastCommonMultiple};
-ghost use Rattle.integer_core.specs.GcdRuns.{AreGcdTurns, IsBitLength};
 ghost use Rattle.integer_core.specs.Range.{EachFits};
 
-use crate::Integer;
 use crate::native::Native;
 use crate::operators::{is_zero, one, product, quotient, remainder, sum, zero};
 use crate::stein::{binary_gcd, positive_gcd};
@@ -58,27 +56,4 @@ pub(crate) fn lcm<T: Native>(a: T, b: T) -> T
     let m = a.magnitude();
     let n = b.magnitude();
     T::from_magnitude(product(m, quotient(n, positive_gcd(m, n).0)))
-}
-
-/// A greatest common divisor by Stein's binary method, and how often its loop turns.
-pub trait GcdCounted: Integer {
-    /// [`Integer::gcd`], and the turns: at most the bit lengths of both added. An operand that is 0
-    /// or the least number of its type makes none. `56i64.gcd_counted(&42)` is `(14, 1)`.
-    fn gcd_counted(&self, other: &Self) -> (Self, u32)
-        requires self_in_range { Self.fits (Self.value self.now) }
-        requires other_in_range { Self.fits (Self.value other.now) }
-        requires gcd_fits { GcdFits Self.fits (Self.value self.now) (Self.value other.now) }
-        ensures in_range { Self.fits (Self.value result.0) }
-        ensures greatest { IsGreatestCommonDivisor (Self.value self.now) (Self.value other.now)
-            (Self.value result.0) }
-        ensures turns { AreGcdTurns Self.low (Self.value self.now) (Self.value other.now)
-            result.1 }
-        ensures bound { (k l : ℕ) → IsBitLength (Self.value self.now) k
-            → IsBitLength (Self.value other.now) l → result.1 ≤ k + l };
-}
-
-impl<T: Native> GcdCounted for T {
-    fn gcd_counted(&self, other: &T) -> (T, u32) {
-        binary_gcd(*self, *other)
-    }
 }

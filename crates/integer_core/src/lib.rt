@@ -20,7 +20,7 @@ pub use bezout::ExtendedGcd;
 use bezout::extended_gcd_counted;
 pub use native_integer::NativeInteger;
 use num_traits::{Num, Signed};
-use operators::{difference, predecessor, successor, sum};
+use operators::{difference, is_zero, predecessor, successor, sum};
 
 /// A type of whole numbers. A contract sees a value `x` as the number `value x`, and a number that
 /// the type has as one that `fits`.
@@ -88,7 +88,7 @@ pub trait Integer: Copy + Num + PartialOrd + Ord + Eq {
             (Self.value result) }
     {
         let (q, r) = self.div_mod_floor(other);
-        if r.is_zero() { q } else { successor(q) }
+        if is_zero(r) { q } else { successor(q) }
     }
 
     /// The quotient rounded up, times `other`. `23.next_multiple_of(&8)` is `24`, and
@@ -104,7 +104,7 @@ pub trait Integer: Copy + Num + PartialOrd + Ord + Eq {
             (Self.value result) }
     {
         let m = self.mod_floor(other);
-        if m.is_zero() {
+        if is_zero(m) {
             *self
         } else {
             sum(*self, difference(*other, m))

@@ -1,6 +1,8 @@
-//! `Integer` for the native types.
+//! `Integer` and `GcdCounted` for the native types.
 
+use crate::counted::GcdCounted;
 use crate::native::Native;
+use crate::stein::binary_gcd;
 use crate::{Integer, division, divisors};
 
 /// A native integer type. The trait is sealed: no other crate can implement it.
@@ -51,5 +53,11 @@ impl<T: Native> Integer for T {
 
     fn lcm(&self, other: &T) -> T {
         divisors::lcm(*self, *other)
+    }
+}
+
+impl<T: Native> GcdCounted for T {
+    fn gcd_counted(&self, other: &T) -> (T, u32) {
+        binary_gcd(*self, *other)
     }
 }

@@ -1,7 +1,7 @@
 //! The greatest common divisor by Stein's binary method (Knuth, The Art of Computer Programming,
 //! volume 2, section 4.5.2, algorithm B).
 
-ghost use Rattle.std.specs.Prelude.{◌≡◌, ◌↔◌, ◌⊎◌, ◌+◌, ◌-◌, ◌*◌, ◌%◌, ◌^◌, ◌<◌, ◌≤◌, ℕ, pos, unsigned_abs, IsTrue};
+ghost use Rattle.std.specs.Prelude.{◌≡◌, ◌≢◌, ◌↔◌, ◌⊎◌, ◌+◌, ◌-◌, ◌*◌, ◌%◌, ◌^◌, ◌<◌, ◌≤◌, ℕ, pos, unsigned_abs, IsTrue};
 ghost use Rattle.std.specs.Int.{IsGcd, IsPowerOfTwo};
 ghost use Rattle.integer_core.specs.Divisors.{GcdFits, IsGreatestCommonDivisor};
 ghost use Rattle.integer_core.specs.GcdRuns.{AreGcdTurns, GcdEnds, IsGcdTurn, IsOddPart, MakesGcdRun};
@@ -15,6 +15,12 @@ fn is_same<M: PrimInt + Unsigned>(m: M, n: M) -> bool
     ensures { IsTrue result ↔ (unsigned_abs (M.value m) ≡ unsigned_abs (M.value n)) }
 {
     m == n
+}
+
+fn is_smaller<M: PrimInt + Unsigned>(m: M, n: M) -> bool
+    ensures { IsTrue result ↔ (unsigned_abs (M.value m) < unsigned_abs (M.value n)) }
+{
+    is_below(m, n)
 }
 
 /// `x` with all factors 2 taken out, and how many they are.
@@ -33,7 +39,8 @@ fn without_twos<M: PrimInt + Unsigned>(x: M) -> (M, u32)
 fn with_twos<M: PrimInt + Unsigned>(x: M, twos: u32) -> M
     requires positive { 0 < unsigned_abs (M.value x) }
     requires product_fits { M.fits (pos (unsigned_abs (M.value x) * 2 ^ twos)) }
-    ensures { M.value result ≡ pos (unsigned_abs (M.value x) * 2 ^ twos) }
+    ensures in_range { M.fits (M.value result) }
+    ensures value { M.value result ≡ pos (unsigned_abs (M.value x) * 2 ^ twos) }
 {
     x << twos
 }
@@ -47,6 +54,23 @@ fn odd_difference<M: PrimInt + Unsigned>(x: M, y: M) -> M
         (unsigned_abs (M.value result)) }
 {
     without_twos(difference(x, y)).0
+}
+
+/// The pair after a turn of the loop.
+fn next_pair<M: PrimInt + Unsigned>(m: M, n: M) -> (M, M)
+    requires m_in_range { M.fits (M.value m) }
+    requires n_in_range { M.fits (M.value n) }
+    requires goes_on { unsigned_abs (M.value m) ≢ unsigned_abs (M.value n) }
+    ensures in_range { M.fits (M.value result.0) × M.fits (M.value result.1) }
+    ensures turn { IsGcdTurn
+        (record { m = unsigned_abs (M.value m); n = unsigned_abs (M.value n) })
+        (record { m = unsigned_abs (M.value result.0); n = unsigned_abs (M.value result.1) }) }
+{
+    if is_smaller(n, m) {
+        (odd_difference(m, n), n)
+    } else {
+        (m, odd_difference(n, m))
+    }
 }
 
 /// The greatest common divisor of two odd numbers, and the turns of the loop.
@@ -63,15 +87,10 @@ fn odd_gcd<M: PrimInt + Unsigned>(a: M, b: M) -> (M, u32)
     ensures bound { (k l : ℕ) → unsigned_abs (M.value a) < 2 ^ k
         → unsigned_abs (M.value b) < 2 ^ l → result.1 ≤ k + l }
 {
-    let mut m = a;
-    let mut n = b;
+    let (mut m, mut n) = (a, b);
     let mut turns = 0;
     'turns: while !is_same(m, n) {
-        if is_below(n, m) {
-            m = odd_difference(m, n);
-        } else {
-            n = odd_difference(n, m);
-        }
+        (m, n) = next_pair(m, n);
         turns += 1;
     }
     (m, turns)

@@ -1,9 +1,8 @@
 -- A cube root found digit by digit: what is known with some digits still to come.
 use Rattle.std.specs.Prelude.{pos}
-use Rattle.std.proofs.Common.{◌≡◌, ℕ, ◌+◌, ◌-◌, ◌*◌, ◌/◌, ◌%◌, ◌^◌, ◌<◌, ◌≤◌, inl, inr, ap, ◌∙◌, refl, arith, mul-le-mul, mul-le-mul_left, le-div_iff_mul-le, div-lt_iff_lt-mul, pow_pos, pow_mono, pow-add, mod-eq_of_lt}
-use Rattle.std.proofs.lemmas.Bool.{cases_lt}
+use Rattle.std.proofs.Common.{◌≡◌, ℕ, ◌+◌, ◌-◌, ◌*◌, ◌/◌, ◌%◌, ◌^◌, ◌<◌, ◌≤◌, ap, ◌∙◌, refl, arith, mul-le-mul, mul-le-mul_left, le-div_iff_mul-le, div-lt_iff_lt-mul, pow_pos, pow_mono, pow-add, mod-eq_of_lt}
 use Rattle.integer_roots.specs.RootOf.{IsFloorRoot}
-use Rattle.integer_roots.proofs.Powers.{power_three, floor_root}
+use Rattle.integer_roots.proofs.Powers.{power_three, base_below, floor_root}
 
 -- the cube root of a has the digits of front, and below them as many as are left; rest is what the cube of front leaves of a
 pub record IsCubeFront (a rest square front digits : ℕ) : Type 0 where
@@ -25,24 +24,17 @@ front_at_first a bits small below =
 next_place : (digits : ℕ) → 2 ^ (3 * (digits + 1)) ≡ 8 * 2 ^ (3 * digits)
 next_place digits = ap (λ (n : ℕ). 2 ^ n) (let e : 3 * (digits + 1) ≡ 3 + 3 * digits = omega arith in e) ∙ pow-add 2 3 (3 * digits)
 
-front_small : {a rest square front digits : ℕ} → IsCubeFront a rest square front digits → front < 2 ^ 11
-front_small {front = front} {digits = digits} v = elim (cases_lt front (2 ^ 11)) [
-  | inl below ↦ below
-  | inr above ↦
-      let cube : 2 ^ 11 * 2 ^ 11 * 2 ^ 11 ≤ front * front * front = mul-le-mul (mul-le-mul above above) above in
-      let whole : front * front * front * 1 ≤ front * front * front * 2 ^ (3 * digits) = mul-le-mul_left (front * front * front) (pow_pos (3 * digits)) in
-      absurd (omega (arith, v.whole, v.fits))
-]
-
 -- the numbers of a turn are small
 pub record AreSmall (square front : ℕ) : Type 0 where
   pub square_below : square < 2 ^ 22
   pub front_below : front < 2 ^ 11
 
 pub are_small : {a rest square front digits : ℕ} → IsCubeFront a rest square front digits → AreSmall square front
-are_small {front = front} v =
-    let below : front ≤ 2047 = (let f = front_small v in omega arith) in
-    record { square_below = omega (arith, v.square_is, mul-le-mul below below); front_below = omega arith }
+are_small {front = front} {digits = digits} v =
+    let whole : front * front * front * 1 ≤ front * front * front * 2 ^ (3 * digits) = mul-le-mul_left (front * front * front) (pow_pos (3 * digits)) in
+    let small = base_below front (2 ^ 11) 3 (omega (arith, v.whole, v.fits, power_three front)) in
+    let below : front ≤ 2047 = omega arith in
+    record { square_below = omega (arith, v.square_is, mul-le-mul below below); front_below = small }
 
 -- with a digit to come there is one more than those after it
 pub next_digit : {a rest square front digits : ℕ} → 0 < digits → IsCubeFront a rest square front digits → IsCubeFront a rest square front (digits - 1 + 1)

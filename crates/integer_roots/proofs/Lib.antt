@@ -4,6 +4,6 @@ pub mod SquareGuesses
 pub mod RootGuesses
 pub mod CubeDigits
 pub mod Averaging
-pub mod SignedRoots
-pub mod OnlyOnes
+pub mod MagnitudeRoots
+pub mod OnlyAnswers
 pub mod RootRange

@@ -1,14 +1,12 @@
 -- Newton's step for the root of any degree, over whole numbers from 0 up: it is never below the
 -- root, and it is below each guess that is above the root.
-use Rattle.std.proofs.Common.{◌≡◌, ℕ, zero, suc, ◌+◌, ◌-◌, ◌*◌, ◌/◌, ◌^◌, ◌<◌, ◌≤◌, inl, inr, subst, arith, refl, mul-le-mul_left, mul-le-mul_right, div-lt_iff_lt-mul}
-use Rattle.std.proofs.Math.Nat.{pow-zero, pow-succ', pow-le-pow_left, one-le-pow, add-mul-div_right, one-mul}
+use Rattle.std.proofs.Common.{◌≡◌, ℕ, zero, suc, ◌+◌, ◌-◌, ◌*◌, ◌/◌, ◌^◌, ◌<◌, ◌≤◌, inl, inr, arith, refl, mul-le-mul_left, mul-le-mul_right, div-lt_iff_lt-mul}
+use Rattle.std.proofs.Math.Nat.{pow-zero, pow-succ', pow-le-pow_left, one-le-pow, add-mul-div_right, one-mul, lt_of_not-le}
 use Rattle.std.proofs.lemmas.Nat.{le-div}
 use Rattle.std.proofs.lemmas.Bool.{cases_lt}
-use Rattle.std.specs.Prelude.{pos}
-use Rattle.integer_roots.specs.RootOf.{IsFloorRoot}
 use Rattle.integer_roots.specs.SquareRuns.{square_step}
 use Rattle.integer_roots.specs.NewtonRuns.{newton_step}
-use Rattle.integer_roots.proofs.Powers.{power_one, power_two, floor_root}
+use Rattle.integer_roots.proofs.Powers.{power_one, power_two}
 
 -- two differences that are not negative, q - p and t - r, have a product that is not
 pub cross : (p q r t : ℕ) → p ≤ q → r ≤ t → p * t + q * r ≤ p * r + q * t
@@ -36,60 +34,43 @@ means x y (suc m) =
     rw (pow-succ' x m, pow-succ' y m) at (cross_powers x y (suc m)) in
     rw (pow-succ' x m, pow-succ' y m) (means_next x y (x ^ m) (y ^ m) m (means x y m) k)
 
-step_at_least : (a x y m : ℕ) → 0 < x → y ^ suc m ≤ a → y ≤ (a / x ^ m + m * x) / suc m
-step_at_least a x y m positive h =
-    let p : ℕ = x ^ m in
-    let one : 0 < p = one-le-pow m x positive in
-    let low : y * y ^ m ≤ a = rw pow-succ' at h in
-    let wide : (m + 1) * y * p ≤ a + m * x * p = omega (arith, means x y m, low) in
-    let quotient : (m + 1) * y ≤ (a + m * x * p) / p = le-div ((m + 1) * y) (a + m * x * p) p one wide in
-    let both : (a + m * x * p) / p ≡ a / p + m * x = add-mul-div_right a (m * x) one in
-    le-div y (a / p + m * x) (suc m) (omega arith) (omega (arith, quotient, both))
+-- a step y from the guess x, where m is one less than the degree
+pub record IsNewtonStep (a n x y : ℕ) : Type 0 where
+  pub m : ℕ
+  pub degree : n ≡ suc m
+  pub positive : 0 < x
+  pub is : y ≡ (a / x ^ m + m * x) / n
 
-step_below : (a x m : ℕ) → 0 < x → a < x ^ suc m → (a / x ^ m + m * x) / suc m < x
-step_below a x m positive h =
-    let p : ℕ = x ^ m in
-    let one : 0 < p = one-le-pow m x positive in
-    let up : a < x * p = rw pow-succ' at h in
-    let quotient : a / p < x = (div-lt_iff_lt-mul one).1 up in
-    (div-lt_iff_lt-mul {k = suc m} (omega arith)).1 (omega (arith, quotient))
+-- a step is at least each z whose power is at most a
+pub newton_least : {a n x y : ℕ} (z : ℕ) → IsNewtonStep a n x y → z ^ n ≤ a → z ≤ y
+newton_least {a} {n} {x} z s h =
+    let p : ℕ = x ^ s.m in
+    let one : 0 < p = one-le-pow s.m x s.positive in
+    let low : z * z ^ s.m ≤ a = rw (s.degree, pow-succ') at h in
+    let quotient : (s.m + 1) * z ≤ (a + s.m * x * p) / p = le-div ((s.m + 1) * z) (a + s.m * x * p) p one (omega (arith, means x z s.m)) in
+    rw (s.is, s.degree) (le-div z (a / p + s.m * x) (suc s.m) (omega arith) (omega (arith, quotient, add-mul-div_right a (s.m * x) one)))
 
--- a step is at least each y whose power is at most a
-pub newton_least : (a n x y : ℕ) → 0 < n → 0 < x → y ^ n ≤ a → y ≤ newton_step a n x
-newton_least a n x y d positive h =
-    let e : suc (n - 1) ≡ n = omega arith in
-    subst (λ (k : ℕ). y ≤ (a / x ^ (n - 1) + (n - 1) * x) / k) e
-    (step_at_least a x y (n - 1) positive (rw e h))
+-- it is below k times a guess whose power, k times, is above a
+pub newton_below : {a n x y : ℕ} (k : ℕ) → IsNewtonStep a n x y → 0 < k → a < k * x ^ n → y < k * x
+newton_below {a} {x = x} k s positive h =
+    let up : a < k * (x * x ^ s.m) = rw (s.degree, pow-succ') at h in
+    let quotient : a / x ^ s.m < k * x = (div-lt_iff_lt-mul (one-le-pow s.m x s.positive)).1 (omega arith) in
+    rw (s.is, s.degree) ((div-lt_iff_lt-mul {k = suc s.m} (omega arith)).1 (omega (arith, quotient, mul-le-mul_right (s.m * x) positive)))
 
--- a step falls from each guess whose power is above a
-newton_falls : (a n x : ℕ) → 0 < n → 0 < x → a < x ^ n → newton_step a n x < x
-newton_falls a n x d positive h =
-    let e : suc (n - 1) ≡ n = omega arith in
-    subst (λ (k : ℕ). (a / x ^ (n - 1) + (n - 1) * x) / k < x) e
-    (step_below a x (n - 1) positive (rw e h))
+-- so the number after a step has a power above a
+pub newton_above : {a n x y : ℕ} → IsNewtonStep a n x y → a < (y + 1) ^ n
+newton_above {y = y} s = lt_of_not-le (λ h. omega (arith, newton_least (y + 1) s h))
 
--- so the number after the step y has a power above a
-pub newton_above : (a n x y : ℕ) → y ≡ newton_step a n x → 0 < n → 0 < x → a < (y + 1) ^ n
-newton_above a n x y is d positive = elim (cases_lt a ((y + 1) ^ n)) [
-  | inl k ↦ k
-  | inr k ↦ absurd (let f = newton_least a n x (y + 1) d positive k in omega arith)
-]
+-- as has that after a guess that is at least its step
+pub newton_settled : {a n x y : ℕ} → IsNewtonStep a n x y → y ≤ x → a < (x + 1) ^ n
+newton_settled {n = n} {x = x} {y = y} s h = omega (arith, newton_above s, pow-le-pow_left {n = y + 1} {m = x + 1} (omega arith) n)
 
--- and a guess that is at most its step y has a power of at most a
-pub newton_stays : (a n x y : ℕ) → y ≡ newton_step a n x → 0 < n → 0 < x → x ≤ y → x ^ n ≤ a
-newton_stays a n x y is d positive h = elim (cases_lt a (x ^ n)) [
-  | inl k ↦ absurd (let f = newton_falls a n x d positive k in omega arith)
+-- a guess that is at most its step has a power of at most a
+pub newton_stays : {a n x y : ℕ} → IsNewtonStep a n x y → x ≤ y → x ^ n ≤ a
+newton_stays {a} {n} {x} s h = elim (cases_lt a (x ^ n)) [
+  | inl k ↦ absurd (omega (arith, newton_below 1 s (omega arith) (omega arith)))
   | inr k ↦ k
 ]
-
--- so does the number after a guess that is at least its step
-pub newton_settled : (a n x y : ℕ) → y ≡ newton_step a n x → 0 < n → 0 < x → y ≤ x → a < (x + 1) ^ n
-newton_settled a n x y is d positive h =
-    omega (arith, newton_above a n x y is d positive, pow-le-pow_left {n = y + 1} {m = x + 1} (omega arith) n)
-
--- a guess at most its step, with a power above a at the number after it, is the root
-pub newton_root : (a n x y : ℕ) → y ≡ newton_step a n x → 0 < n → 0 < x → x ≤ y → a < (x + 1) ^ n → IsFloorRoot (pos a) n (pos x)
-newton_root a n x y is d positive h above = floor_root (newton_stays a n x y is d positive h) above
 
 -- the step for a square root, and that for a cube root
 pub square_step_is : (a x : ℕ) → square_step a x ≡ newton_step a 2 x

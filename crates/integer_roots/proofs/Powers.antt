@@ -1,8 +1,7 @@
 -- Powers, multiplied out and compared.
-use Rattle.std.proofs.Common.{◌≡◌, ℕ, suc, zero, ◌*◌, ◌^◌, ◌+◌, ◌-◌, ◌<◌, ◌≤◌, inl, inr, ap, sym, refl, ◌∙◌, arith, pos, mul-one, zero-mul, pow-add, pow_mono}
-use Rattle.std.proofs.lemmas.Bool.{cases_lt}
+use Rattle.std.proofs.Common.{◌≡◌, ℕ, suc, zero, ◌*◌, ◌^◌, ◌+◌, ◌-◌, ◌<◌, ◌≤◌, ap, sym, refl, ◌∙◌, arith, pos, mul-one, zero-mul, pow-add, pow_mono}
 use Rattle.std.proofs.lemmas.Int.{ints}
-use Rattle.std.proofs.Math.Nat.{pow-zero, pow-succ'}
+use Rattle.std.proofs.Math.Nat.{pow-zero, pow-succ', pow-le-pow_left, lt_of_not-le}
 use Rattle.integer_roots.specs.RootOf.{IsFloorRoot}
 
 -- the first three powers
@@ -32,12 +31,12 @@ power_of_power b i (suc j) =
     let e : i * suc j ≡ i + i * j = omega arith in
     pow-succ' (b ^ i) j ∙ ap (λ (k : ℕ). b ^ i * k) (power_of_power b i j) ∙ sym (ap (λ (k : ℕ). b ^ k) e ∙ pow-add b i (i * j))
 
--- the place of the highest bit of a is at least that of each power of two up to a
+-- a base is below another where its power is, and the place of a number's highest bit is at least that of each power of two up to it
+pub base_below : (x y n : ℕ) → x ^ n < y ^ n → x < y
+base_below x y n less = lt_of_not-le (λ h. omega (arith, pow-le-pow_left h n))
+
 pub highest_bit : (a k top : ℕ) → 2 ^ k ≤ a → a < 2 ^ (top + 1) → k ≤ top
-highest_bit a k top le lt = elim (cases_lt top k) [
-  | inl above ↦ absurd (let f : 2 ^ (top + 1) ≤ 2 ^ k = pow_mono {i = top + 1} {j = k} (omega arith) in omega arith)
-  | inr fine ↦ fine
-]
+highest_bit a k top le lt = omega (arith, lt_of_not-le {n = top + 1} {m = k} (λ h. omega (arith, pow_mono h)))
 
 -- the floor root of a number from 0 up, by powers in ℕ
 pub floor_root : {a r n : ℕ} → r ^ n ≤ a → a < (r + 1) ^ n → IsFloorRoot (pos a) n (pos r)

@@ -5,8 +5,8 @@ use Rattle.std.proofs.lemmas.Int.{by_lt_z}
 use Rattle.integer_core.specs.Range.{IsRange}
 use Rattle.integer_core.proofs.Whole.{linear, sizes}
 use Rattle.integer_roots.specs.RootOf.{IsRoot}
-use Rattle.integer_roots.proofs.OnlyOnes.{root_is_only_one}
-use Rattle.integer_roots.proofs.SignedRoots.{first_root, root_fits, negation_fits}
+use Rattle.integer_roots.proofs.OnlyAnswers.{root_is_only_one}
+use Rattle.integer_roots.proofs.MagnitudeRoots.{first_root, root_fits, negation_fits}
 
 -- each root of a number of the type is a number of the type
 pub root_in_range : {fits : ℤ → Type 0} {low high x : ℤ} {n : ℕ} {r : ℤ} → IsRange fits low high → fits x → n ≢ 0

@@ -1,15 +1,17 @@
 -- The guesses of a square root's two loops: how near the root each turn brings them, and that five turns are enough.
 use Rattle.std.specs.Prelude.{pos}
-use Rattle.std.proofs.Common.{◌≡◌, ℕ, zero, suc, ◌+◌, ◌-◌, ◌*◌, ◌/◌, ◌^◌, ◌<◌, ◌≤◌, List, [], ◌∷◌, inl, inr, ◌∙◌, arith, refl, add-one, mul-le-mul, mul-le-mul_left, mul-le-mul_right, le_of_mul-le-mul_right, mul-pos, div-mul-le_self, div-lt_iff_lt-mul, le_trans, pow-add, pow_mono}
+use Rattle.std.proofs.Common.{◌≡◌, ℕ, zero, suc, ◌+◌, ◌-◌, ◌*◌, ◌/◌, ◌^◌, ◌<◌, ◌≤◌, List, [], ◌∷◌, inl, inr, ◌∙◌, arith, refl, add-one, mul-le-mul, mul-le-mul_left, mul-le-mul_right, le_of_mul-le-mul_right, mul-pos, div-mul-le_self, div-lt_iff_lt-mul, le_trans, pow-add, pow_mono, ap, ◌%◌}
 use Rattle.std.proofs.lemmas.Bool.{cases_lt}
+use Rattle.std.proofs.Math.Nat.{lt_of_not-le}
 use Rattle.std.proofs.lemmas.Int.{ints}
-use Rattle.integer_core.specs.Runs.{IsRun, Makes}
+use Rattle.std.proofs.lemmas.Nat.{one_shl}
+use Rattle.integer_core.specs.Runs.{IsRun}
 use Rattle.integer_core.proofs.Runs.{Reaches, reaches_first, reaches_turn, reaches_instead, reaches_last}
-use Rattle.integer_roots.specs.RootOf.{IsFloorRoot}
 use Rattle.integer_roots.specs.SquareRuns.{square_step, Guess, Rising, Falling, IsNewtonTurn, NewtonEnds, IsHighestBit, first_guess, AreSquareRootTurns}
 use Rattle.integer_roots.specs.NewtonRuns.{guess_of, IsReached, begins, rises, goes_over, falls}
-use Rattle.integer_roots.proofs.NewtonStep.{cross, newton_least, newton_above, newton_settled, newton_root, square_step_is}
-use Rattle.integer_roots.proofs.Powers.{highest_bit}
+use Rattle.integer_roots.proofs.NewtonStep.{cross, square_step_is}
+use Rattle.integer_roots.proofs.Powers.{highest_bit, power_two}
+use Rattle.integer_roots.proofs.RootGuesses.{IsStart, start, in_range}
 
 -- after so many turns, this many times what the guess's square is above a is at most a
 abbrev pub closeness : ℕ → ℕ
@@ -17,15 +19,8 @@ closeness zero = 1
 closeness (suc zero) = 8
 closeness (suc (suc turns)) = 4 * closeness (suc turns) * closeness (suc turns)
 
-closeness_positive : (turns : ℕ) → 0 < closeness turns
-closeness_positive zero = omega arith
-closeness_positive (suc zero) = omega arith
-closeness_positive (suc (suc turns)) = let h = closeness_positive (suc turns) in omega (arith, mul-le-mul h h)
-
 -- what is known of the guess x for the root of a after so many turns
 pub record IsNear (a x turns : ℕ) : Type 0 where
-  pub above_one : 2 ≤ x
-  pub small : x ≤ 2 ^ 33
   pub near : closeness turns * (x * x) ≤ (closeness turns + 1) * a
   pub high_at_first : turns ≡ 0 → a ≤ 2 * (x * x)
   pub bound : turns ≤ 5
@@ -44,65 +39,31 @@ near_squares a d s k is near =
     let h : k * d ≤ a = (let f = rw is at near in omega arith) in
     rw is (omega (arith, mul-le-mul h h))
 
-near_next : (a x y turns : ℕ) → IsNear a x turns → 2 * y ≤ a / x + x → (0 < turns → a < x * x)
+near_next : (a x y turns : ℕ) → 0 < x → IsNear a x turns → 2 * y ≤ a / x + x → (0 < turns → a < x * x)
     → closeness (turns + 1) * (y * y) ≤ (closeness (turns + 1) + 1) * a
-near_next a x y zero near h above =
+near_next a x y zero positive near h above =
     let low : x * x ≤ 2 * a = omega (arith, near.near) in
-    squared_step a x y 2 9 (omega (arith, near.above_one)) h
+    squared_step a x y 2 9 positive h
     (omega (arith, cross (x * x) (2 * a) a (2 * (x * x)) low (near.high_at_first refl)))
-near_next a x y (suc turns) near h above =
+near_next a x y (suc turns) positive near h above =
     let k : ℕ = closeness (suc turns) in
     let apart : x * x ≡ a + (x * x - a) = omega (arith, above (omega arith)) in
     let bound = near_squares a (x * x - a) (x * x) k apart near.near in
-    rw add-one (omega (arith, squared_step a x y (k * k) (4 * k * k + 1) (omega (arith, near.above_one)) h bound))
-
-small_guess : (a x k : ℕ) → a < 2 ^ 64 → 0 < k → k * (x * x) ≤ (k + 1) * a → x ≤ 2 ^ 33
-small_guess a x k fits positive near = elim (cases_lt (2 ^ 33) x) [
-  | inl lt ↦ absurd (omega (arith, mul-le-mul_left k (mul-le-mul lt lt), mul-le-mul_left k fits, mul-le-mul_right a positive))
-  | inr le ↦ le
-]
-
-not_above : (a s k : ℕ) → a < k → k * s ≤ (k + 1) * a → s ≤ a
-not_above a s k small near = elim (cases_lt a s) [
-  | inl lt ↦ absurd (omega (arith, mul-le-mul_left k lt))
-  | inr le ↦ le
-]
+    rw add-one (omega (arith, squared_step a x y (k * k) (4 * k * k + 1) positive h bound))
 
 -- each turn after the first one falls
-near_after_turn : (a x y turns : ℕ) → IsNear a x turns → y ≡ square_step a x → 4 ≤ a → a < 2 ^ 64 → (0 < turns → y < x)
-    → IsNear a y (turns + 1)
-near_after_turn a x y turns near is four fits down =
-    let positive : 0 < x = omega (arith, near.above_one) in
+near_after_turn : (a x y turns : ℕ) → 0 < x → IsNear a x turns → y ≡ square_step a x → a < 2 ^ 64 → (0 < turns → y < x) → IsNear a y (turns + 1)
+near_after_turn a x y turns positive near is fits down =
     let above : (0 < turns → a < x * x) = λ h. (div-lt_iff_lt-mul positive).0 (let f = down h in omega arith) in
-    let next = near_next a x y turns near (omega arith) above in
     record {
-      above_one = omega (arith, newton_least a 2 x 2 (omega arith) positive four, square_step_is a x);
-      small = small_guess a y (closeness (turns + 1)) fits (closeness_positive (turns + 1)) next;
-      near = next;
+      near = near_next a x y turns positive near (omega arith) above;
       high_at_first = λ e. absurd (omega arith);
-      bound = elim (cases_lt turns 5) [
-        | inl lt ↦ omega arith
-        | inr le ↦
+      bound = omega (
+        arith,
+        lt_of_not-le {n = 5} {m = turns} (λ h.
             let five : turns ≡ 5 = omega (arith, near.bound) in
-            absurd (omega (arith, above (omega arith), not_above a (x * x) (2 ^ 78) (omega arith) (rw five at near.near)))
-      ];
-    }
-
--- the first guess is a power of two, whose square is from half of a up to twice a
-near_at_first : (a top : ℕ) → 4 ≤ a → top < 64 → IsHighestBit a top → IsNear a (first_guess top) 0
-near_at_first a top four small highest =
-    let k : ℕ = (top + 1) / 2 in
-    let least : 2 ≤ top = highest_bit a 2 top four highest.next_power_gt in
-    let square : 2 ^ (k + k) ≡ 2 ^ k * 2 ^ k = pow-add 2 k k in
-    let below : 2 ^ top ≤ 2 ^ (k + k) = pow_mono {i = top} {j = k + k} (omega arith) in
-    let beyond : 2 ^ (k + k) ≤ 2 ^ (top + 1) = pow_mono {i = k + k} {j = top + 1} (omega arith) in
-    let double : 2 ^ (top + 1) ≡ 2 ^ top * 2 = pow-add 2 top 1 in
-    record {
-      above_one = pow_mono {i = 1} {j = k} (omega arith);
-      small = pow_mono {i = k} {j = 33} (omega arith);
-      near = omega (arith, highest.power_le);
-      high_at_first = λ e. omega (arith, highest.next_power_gt);
-      bound = omega arith;
+            omega (arith, above (omega arith), rw five at near.near)),
+      );
     }
 
 rise_cases : (x e y q a : ℕ) → y ≡ x + e + 1 → a < q * x + x → q + x ≤ 2 * y + 1 → (y + 2) * y ≤ a → ⊥
@@ -119,50 +80,40 @@ rise_once a x y positive is up = elim (cases_lt y (square_step a y)) [
   | inr le ↦ le
 ]
 
+-- the steps of the loops
+abbrev pub IsSquareStep : ℕ → ℕ → ℕ → Type 0
+IsSquareStep a x y = y ≡ square_step a x
+
 -- the number a whose root the loops find, and their first guess
-pub record IsStart (a first : ℕ) : Type 0 where
-  pub least : 4 ≤ a
-  pub fits : a < 2 ^ 64
+pub record IsSquareStart (a first : ℕ) : Type 0 where
+  pub start : IsStart (IsSquareStep a) a 2 (2 ^ 32) first
   pub top : ℕ
-  pub small : top < 64
   pub highest : IsHighestBit a top
   pub is : first ≡ first_guess top
 
-pub start : {a top first : ℕ} → first ≡ first_guess top → 4 ≤ a → a < 2 ^ 64 → top < 64 → 2 ^ top ≤ a → a < 2 * 2 ^ top → IsStart a first
-start {a} {top} is least fits small low high =
+pub square_start : (a top : ℕ) → 4 ≤ a → a < 2 ^ 64 → top < 64 → 2 ^ top ≤ a → a < 2 * 2 ^ top → IsSquareStart a (1 * first_guess top % 2 ^ 64)
+square_start a top least fits small low high =
     let highest : IsHighestBit a top = record { power_le = low; next_power_gt = omega (arith, pow-add 2 top 1) } in
-    record { least = least; fits = fits; top = top; small = small; highest = highest; is = is }
+    let two : 2 ≤ top = highest_bit a 2 top least highest.next_power_gt in
+    record {
+      start = start top ((top + 1) / 2) (λ x y is. is ∙ square_step_is a x) (omega arith) two small (omega arith, omega arith) low high fits;
+      top = top;
+      highest = highest;
+      is = one_shl _ 64 (omega arith);
+    }
 
--- what is known of a guess that the loops reach after so many turns; the first loop turns once at most
-record IsRisingGuess (a first x turns : ℕ) : Type 0 where
-  pub near : IsNear a x turns
-  pub once : 0 < turns → square_step a x ≤ x
-  pub run : Reaches (IsNewtonTurn a) (NewtonEnds a) (Rising first) (Rising x) turns
-
--- and no guess of the second is below the root
-record IsFallingGuess (a first x turns : ℕ) : Type 0 where
-  pub near : IsNear a x turns
-  pub above : a < (x + 1) ^ 2
-  pub run : Reaches (IsNewtonTurn a) (NewtonEnds a) (Rising first) (Falling x) turns
-
-abbrev IsKept : ℕ → ℕ → Guess → ℕ → Type 0
-IsKept a first (Rising x) turns = IsRisingGuess a first x turns
-IsKept a first (Falling x) turns = IsFallingGuess a first x turns
-
-rising_at_first : {a first : ℕ} → IsStart a first → IsRisingGuess a first first 0
-rising_at_first {a} start = record {
-  near = rw start.is (near_at_first a start.top start.least start.small start.highest);
-  once = λ h. absurd (omega arith);
-  run = reaches_first;
-}
-
-rising_turn : {a first x y turns : ℕ} → IsStart a first → IsRisingGuess a first x turns → y ≡ square_step a x → x < y
-    → IsRisingGuess a first y (turns + 1)
-rising_turn {a} {first} {x} {y} start v is up = record {
-  near = near_after_turn _ _ _ _ v.near is start.least start.fits (λ h. absurd (omega (arith, v.once h)));
-  once = λ h. rise_once a x y (omega (arith, v.near.above_one)) is up;
-  run = reaches_turn v.run (up, is);
-}
+-- the square of the first guess is from half of a up to twice a
+near_at_first : {a first : ℕ} → IsSquareStart a first → IsNear a first 0
+near_at_first {first = first} s =
+    let k : ℕ = (s.top + 1) / 2 in
+    let square : 2 ^ (k + k) ≡ 2 ^ k * 2 ^ k = pow-add 2 k k in
+    let beyond : 2 ^ (k + k) ≤ 2 ^ (s.top + 1) = pow_mono {i = k + k} {j = s.top + 1} (omega arith) in
+    let same : first * first ≡ 2 ^ k * 2 ^ k = ap (λ (t : ℕ). t * t) s.is in
+    record {
+      near = omega (arith, pow-add 2 s.top 1, s.highest.power_le);
+      high_at_first = λ e. omega (arith, s.start.near, power_two first);
+      bound = omega arith;
+    }
 
 -- where the step does not rise, a run from a falling guess is one from the same guess, rising
 settled_run : (a x : ℕ) (rest : List Guess) → square_step a x ≤ x
@@ -171,53 +122,38 @@ settled_run a x [] le run = omega arith
 settled_run a x (Rising y ∷ rest) le run = absurd run.0
 settled_run a x (Falling y ∷ rest) le run = run
 
-falling_at_first : {a first x y turns : ℕ} → IsRisingGuess a first x turns → y ≡ square_step a x → y ≤ x → IsFallingGuess a first x turns
-falling_at_first {a} {first} {x} {y} v is down =
-    let onward : ((m : ℕ) → Makes (IsNewtonTurn a) (NewtonEnds a) (Falling x) m → Makes (IsNewtonTurn a) (NewtonEnds a) (Rising x) m) =
-    λ m run. record { rest = run.rest; run = settled_run a x run.rest (omega arith) run.run; turns = run.turns } in
-    record {
-      near = v.near;
-      above = newton_settled a 2 x y (is ∙ square_step_is a x) (omega arith) (omega (arith, v.near.above_one)) down;
-      run = reaches_instead v.run onward;
-    }
+-- each guess that the loops reach is reached by the turns of a run
+run_to : (a : ℕ) {first turns : ℕ} {guess : Guess} → IsReached (IsSquareStep a) first guess turns
+    → Reaches (IsNewtonTurn a) (NewtonEnds a) (Rising first) guess turns
+run_to a begins = reaches_first
+run_to a (rises reached is up) = reaches_turn (run_to a reached) (up, is)
+run_to a (goes_over {x} reached is down) =
+    reaches_instead (run_to a reached) (λ m h. record { rest = h.rest; run = settled_run a x h.rest (omega arith) h.run; turns = h.turns })
+run_to a (falls reached is down) = reaches_turn (run_to a reached) (down, is)
 
-falling_turn : {a first x y turns : ℕ} → IsStart a first → IsFallingGuess a first x turns → y ≡ square_step a x → y < x
-    → IsFallingGuess a first y (turns + 1)
-falling_turn {a} {first} {x} {y} start v is down = record {
-  near = near_after_turn _ _ _ _ v.near is start.least start.fits (λ h. down);
-  above = newton_above a 2 x y (is ∙ square_step_is a x) (omega arith) (omega (arith, v.near.above_one));
-  run = reaches_turn v.run (down, is);
-}
+module _ {a first : ℕ} (known : IsSquareStart a first) where
+  positive : {guess : Guess} {turns : ℕ} → IsReached (IsSquareStep a) first guess turns → 0 < guess_of guess
+  positive reached = omega (arith, (in_range known.start reached).above_one)
 
--- the steps of the loops
-abbrev pub IsSquareStep : ℕ → ℕ → ℕ → Type 0
-IsSquareStep a x y = y ≡ square_step a x
+  -- the first loop makes one turn at most
+  rises_once : {x turns : ℕ} → IsReached (IsSquareStep a) first (Rising x) turns → 0 < turns → square_step a x ≤ x
+  rises_once begins h = absurd (omega arith)
+  rises_once (rises {x} {y} reached is up) h = rise_once a x y (positive reached) is up
 
-kept : {a first turns : ℕ} {guess : Guess} → IsStart a first → IsReached (IsSquareStep a) first guess turns → IsKept a first guess turns
-kept start begins = rising_at_first start
-kept start (rises reached is up) = rising_turn start (kept start reached) is up
-kept start (goes_over reached is down) = falling_at_first (kept start reached) is down
-kept start (falls reached is down) = falling_turn start (kept start reached) is down
+  -- each guess that the loops reach is near the root
+  pub near_root : {guess : Guess} {turns : ℕ} → IsReached (IsSquareStep a) first guess turns → IsNear a (guess_of guess) turns
+  near_root begins = near_at_first known
+  near_root (rises {x} {y} reached is up) =
+      near_after_turn a x y _ (positive reached) (near_root reached) is known.start.limited (λ h. absurd (omega (arith, rises_once reached h)))
+  near_root (goes_over reached is down) = near_root reached
+  near_root (falls {x} {y} reached is down) = near_after_turn a x y _ (positive reached) (near_root reached) is known.start.limited (λ h. down)
 
--- each guess that the loops reach is near the root, so that it is small and the turns are few
-pub near_root : {a first turns : ℕ} {guess : Guess} → IsStart a first → IsReached (IsSquareStep a) first guess turns
-    → IsNear a (guess_of guess) turns
-near_root {guess = Rising x} start reached = let v = kept start reached in v.near
-near_root {guess = Falling x} start reached = let v = kept start reached in v.near
-
--- the guess where they end is the root, and their turns are those of the run
-pub ended_at_root : {a first x next turns : ℕ} → IsStart a first → IsReached (IsSquareStep a) first (Falling x) turns → IsSquareStep a x next
-    → x ≤ next → IsFloorRoot (pos a) 2 (pos x)
-ended_at_root {a} {x = x} {next = next} start reached is up =
-    let v = kept start reached in
-    newton_root a 2 x next (is ∙ square_step_is a x) (omega arith) (omega (arith, v.near.above_one)) up v.above
-
-pub turns_of_run : {a first x next turns : ℕ} → IsStart a first → IsReached (IsSquareStep a) first (Falling x) turns → IsSquareStep a x next
-    → x ≤ next → AreSquareRootTurns (pos a) turns
-turns_of_run start reached is up =
-    let v = kept start reached in
-    let least = start.least in
-    record {
-      below_four = λ h. absurd (omega (arith, ints));
-      from_four = λ h. record { top = start.top; highest = start.highest; run = rw start.is at (reaches_last v.run (omega arith)) };
-    }
+  -- where they end, their turns are those of the run
+  pub turns_of_run : {x next turns : ℕ} → IsReached (IsSquareStep a) first (Falling x) turns → IsSquareStep a x next → x ≤ next
+      → AreSquareRootTurns (pos a) turns
+  turns_of_run reached is up =
+      let least = known.start.power_le in
+      record {
+        below_four = λ h. absurd (omega (arith, ints));
+        from_four = λ h. record { top = known.top; highest = known.highest; run = rw known.is at (reaches_last (run_to a reached) (omega arith)) };
+      }

@@ -1,4 +1,4 @@
--- The width of a native type whose magnitudes are computed at 64 bits.
+-- A lemma, which `Roots` for the native types cites: the range of one whose magnitudes are computed at 64 bits.
 use Rattle.std.specs.Prelude.{◌^◌, ◌*◌, ◌<◌, ℕ, ℤ, unsigned_abs}
 use Rattle.std.specs.Int.{Width, FitsUnsignedBits}
 use Rattle.std.proofs.Common.{arith, inl, inr}

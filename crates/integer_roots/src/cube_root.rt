@@ -39,7 +39,7 @@ fn cube_root_by_newton(a: u64) -> u64
 {
     let step = move |x: u64| -> u64
         requires above_one { 2 ≤ x }
-        requires small { x ≤ 2 ^ 23 }
+        requires small { x ≤ 2 ^ 24 }
         ensures { result ≡ newton_step a 3 x }
     { (a / (x * x) + 2 * x) / 3 };
     newton(1 << a.ilog2().div_ceil(3), step).0

@@ -1,16 +1,16 @@
 //! Averages and roots of every lawful integer type, after the Rust crate `num-integer`.
 #![tactic(auto)]
 
-mod average_bits;
 mod averages;
 pub mod counted;
 mod cube_root;
 mod cube_root_digits;
-mod native;
+mod magnitude_roots;
+mod native_averages;
+mod native_roots;
 mod newton;
 mod root;
 mod root_of_degree;
-mod signed;
 mod square_root;
 
 pub use averages::{Average, average_ceil, average_floor};

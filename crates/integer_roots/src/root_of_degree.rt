@@ -22,7 +22,7 @@ pub(crate) fn root_of_degree(a: u64, n: u32) -> u64
         requires degree { 3 ≤ n }
         requires degree_small { n < 64 }
         requires above_one { 2 ≤ x }
-        requires small { x ≤ 2 ^ 23 }
+        requires small { x ≤ 2 ^ 24 }
         ensures { result ≡ newton_step a n x }
     { (quotient_by_power(a, x, n - 1) + u64::from(n - 1) * x) / u64::from(n) };
     newton(1 << top.div_ceil(n), step).0

@@ -18,7 +18,7 @@ pub(crate) fn square_root_counted(a: u64) -> (u64, u32)
     }
     let step = move |x: u64| -> u64
         requires above_one { 2 ≤ x }
-        requires small { x ≤ 2 ^ 33 }
+        requires small { x ≤ 2 ^ 34 }
         ensures { result ≡ square_step a x }
     { (a / x + x) / 2 };
     newton(1 << ((a.ilog2() + 1) / 2), step)

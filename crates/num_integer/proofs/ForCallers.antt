@@ -1,19 +1,17 @@
 -- Lemmas that the proofs of callers may cite, beside the laws.
-use Rattle.std.specs.Prelude.{◌≡◌, ◌≢◌, ◌⊎◌, ◌↔◌, ◌<◌, ◌≤◌, ◌+◌, ◌-◌, ◌/◌, ◌%◌, ◌^◌, ◌≤ℤ◌, ◌<ℤ◌, ◌+ℤ◌, ◌-ℤ◌, ◌*ℤ◌, ℤ, ℕ, pos, negsuc, neg_ℤ, zero, suc, unsigned_abs, int_div, Bool, IsTrue}
-use Rattle.std.specs.Int.{int_pow}
+use Rattle.std.specs.Prelude.{◌≡◌, ◌≢◌, ◌↔◌, ◌<◌, ◌≤◌, ◌+◌, ◌-◌, ◌*◌, ◌/◌, ◌%◌, ◌^◌, ◌≤ℤ◌, ◌<ℤ◌, ◌+ℤ◌, ◌-ℤ◌, ◌*ℤ◌, ℤ, ℕ, pos, negsuc, zero, suc, unsigned_abs, int_div, Bool, IsTrue}
+use Rattle.std.specs.Int.{FitsUnsignedBits, int_pow}
 use Rattle.std.proofs.Common.{arith, ◌∙◌, ap, inl, inr, le_refl, le_trans, refl, subst, suc-add, sym, zero-add}
-use Rattle.std.proofs.lemmas.Bool.{cases_lt}
 use Rattle.std.proofs.lemmas.Int.{by_lt_z, ints}
-use Rattle.std.proofs.Math.Nat.{pow-le-pow_left, pow-lt-pow_left}
+use Rattle.std.proofs.lemmas.Nat.{div_below, le-div, mul-lt}
+use Rattle.std.proofs.Math.Nat.{div-le_self, pow-lt-pow_left}
 use Rattle.integer_core.specs.Division.{IsCeiled, IsDivision, IsFloored, IsMultiple, IsQuotient, IsRemainder}
 use Rattle.integer_core.specs.Range.{EachFits, IsRange}
 use Rattle.integer_core.specs.Divisors.{Divides, IsGreatestCommonDivisor, IsLeastCommonMultiple}
-use Rattle.integer_core.proofs.CommonDivisors.{gcd_exists}
+use Rattle.integer_core.proofs.CommonDivisors.{gcd_exists, gcd-swap, gcd-zero}
 use Rattle.integer_core.proofs.EuclidTurns.{divisor_size}
 use Rattle.integer_core.proofs.OnlyBezoutAnswer.{bezout_answer_exists}
-use Rattle.integer_core.proofs.Quotients.{truncated_is}
-use Rattle.integer_roots.specs.RootOf.{IsFloorRoot, IsRoot}
-use Rattle.integer_roots.proofs.OnlyOnes.{root_is_only_one}
+use Rattle.integer_roots.specs.RootOf.{IsRoot}
 use Rattle.integer_roots.proofs.Powers.{power_two}
 use Rattle.num_integer.specs.Coefficient.{coefficient}
 use Rattle.num_integer.specs.Parts.{signed}
@@ -21,11 +19,16 @@ use Rattle.num_integer.specs.Parts.{signed}
 
 pub use Rattle.integer_core.proofs.CommonDivisors.{gcd-nonzero, gcd-positive, gcd-times, only_gcd, only_lcm}
 pub use Rattle.integer_core.proofs.Divisibility.{Divides-antisym, Divides-cancel, Divides-refl, Divides-sum, Divides-times, Divides-trans, Divides-zero, cancel, exact_quotient, zero_divides}
-pub use Rattle.integer_core.proofs.Quotients.{only_floored, other_quotient_fits, zero_or_not}
+pub use Rattle.integer_core.proofs.GcdDomain.{gcd_fits_is}
+pub use Rattle.integer_core.proofs.Quotients.{only_floored, other_quotient_fits, remainder_within, truncated_is, zero_or_not}
 pub use Rattle.integer_core.proofs.Ranges.{within_fits}
+pub use Rattle.integer_core.proofs.Signs.{from_not_less}
+pub use Rattle.integer_roots.proofs.OnlyAnswers.{root_is_only_one}
 pub use Rattle.integer_roots.proofs.Powers.{power_of_one, power_of_zero}
-pub use Rattle.integer_core.proofs.Whole.{comm, dist, dist-left, expand, linear, mul-neg, mul-one, products, sizes}
-pub use Rattle.num_integer.proofs.MultipleDomain.{signed_is}
+pub use Rattle.integer_roots.proofs.RootRange.{root_in_range}
+pub use Rattle.integer_roots.proofs.MagnitudeRoots.{first_root}
+pub use Rattle.integer_core.proofs.Whole.{comm, dist, dist-left, expand, linear, mul-neg, mul-one, product_positive, products, sizes}
+pub use Rattle.num_integer.proofs.FittingAnswers.{signed_is}
 pub use Rattle.num_integer.proofs.Pascal.{coefficient-pos, coefficient-zero, none_above}
 
 -- ---- quotients, remainders and multiples by a number above 0
@@ -67,6 +70,10 @@ floored_by_range equation from_zero below = record {
   division = record { equation = equation; small = omega (arith, sizes) };
   sign = grind (arith, linear);
 }
+
+-- so the pair of a floored quotient and remainder is the only one whose remainder lies there
+pub only_pair_by_range : {n d q r p s : ℤ} → IsFloored n d q r → n ≡ p *ℤ d +ℤ s → pos 0 ≤ℤ s → s <ℤ d → (p ≡ q) × (s ≡ r)
+only_pair_by_range h equation from_zero below = only_floored (floored_by_range equation from_zero below) h
 
 -- what the remainder leaves of the divisor leads to a multiple
 pub rest_leads_to_multiple : {n d r : ℤ} → IsRemainder IsFloored n d r → Divides d (n +ℤ (d -ℤ r))
@@ -146,6 +153,13 @@ divisor_at_most up h = let size = divisor_size h (λ none. omega (arith, linear)
 pub gcd_with_positive_fits : {fits : ℤ → Type 0} {low high a b g : ℤ} → IsRange fits low high → fits b → pos 0 <ℤ b → IsGreatestCommonDivisor a b g → fits g
 gcd_with_positive_fits range b_fits up h = within_fits range b_fits (inl (h.from_zero, divisor_at_most up h.divides_right))
 
+-- a gcd is no greater than a number that both are not above, by magnitudes
+pub gcd_at_most : {a b g : ℤ} (most : ℕ) → unsigned_abs a ≤ most → unsigned_abs b ≤ most → IsGreatestCommonDivisor a b g → unsigned_abs g ≤ most
+gcd_at_most {a} {b} most left right h = elim (zero_or_not a) [
+  | inl none ↦ let same = only_gcd (rw none at h) (gcd-swap (gcd-zero b)) in omega (arith, ints)
+  | inr nonzero ↦ omega (arith, divisor_size h.divides_left nonzero)
+]
+
 -- a multiple of a number that is smaller than the number is 0
 pub small_multiple_is_zero : {u v : ℤ} → Divides u v → unsigned_abs v < unsigned_abs u → v ≡ pos 0
 small_multiple_is_zero {u} {v} h small = elim (zero_or_not v) [
@@ -216,6 +230,14 @@ lcm-positive {a} {b} {l} h a_nonzero b_nonzero =
 
 -- ---- roots
 
+-- a square root of a natural number, by squares
+pub root_by_squares : {x r : ℕ} → IsRoot (pos x) 2 (pos r) → (r * r ≤ x) × (x < (r + 1) * (r + 1))
+root_by_squares {x} {r} h =
+    let root = h.from_zero (omega (arith, ints)) in
+    let low = root.power_le in
+    let high = root.next_power_gt in
+    (omega (arith, ints, power_two r), omega (arith, ints, power_two (r + 1)))
+
 -- the root of an exact power is its base
 pub exact_power_root : {k : ℕ} {n : ℕ} {r : ℤ} → n ≢ 0 → IsRoot (int_pow (pos k) n) n r → r ≡ pos k
 exact_power_root {k} {n} nonzero h =
@@ -242,56 +264,6 @@ square_root_of_square {x} {r} k e h =
     let power : int_pow (pos (unsigned_abs k)) 2 ≡ x = square_of_magnitude k ∙ e in
     let same = exact_power_root {k = unsigned_abs k} {n = 2} (omega arith) (subst (λ (t : ℤ). IsRoot t 2 r) (sym power) h) in
     rw same (sym (square_of_size k) ∙ e)
-
-pub even_or_odd : (n : ℕ) → (n % 2 ≡ 0) ⊎ (n % 2 ≡ 1)
-even_or_odd n = elim (cases_lt (n % 2) 1) [ inl even ↦ inl (omega arith) | inr odd ↦ inr (omega arith) ]
-
--- an even power of a negative number, and an odd one, by its magnitude
-pub even_power : (a n : ℕ) → n % 2 ≡ 0 → int_pow (negsuc a) n ≡ pos (suc a ^ n)
-even_power a n even = rw even refl
-
-pub odd_power : (x : ℤ) (n : ℕ) → n % 2 ≡ 1 → int_pow (neg_ℤ x) n ≡ neg_ℤ (int_pow x n)
-odd_power (pos zero) n odd = let none = power_of_zero n (omega arith) in rw none refl
-odd_power (pos (suc a)) n odd = rw odd refl
-odd_power (negsuc a) n odd = rw odd (omega (arith, ints))
-
--- the power of a root lies between 0 and the number
-power_of_floor_root : {x r : ℤ} {n : ℕ} → IsFloorRoot x n r → (pos 0 ≤ℤ int_pow r n) × (int_pow r n ≤ℤ x)
-power_of_floor_root {r = pos a} h = (omega (arith, ints), h.power_le)
-power_of_floor_root {r = negsuc a} h = absurd (omega (arith, ints, h.from_zero))
-
-pub power_of_root_within : {x r : ℤ} {n : ℕ} → IsRoot x n r → ((pos 0 ≤ℤ int_pow r n) × (int_pow r n ≤ℤ x)) ⊎ ((x ≤ℤ int_pow r n) × (int_pow r n ≤ℤ pos 0))
-power_of_root_within {x} {r} {n} h = by_lt_z x (pos 0)
-    (λ below.
-    let odd = h.below_zero below in
-    let size = power_of_floor_root odd.1 in
-    let same = odd_power r n odd.0 in
-    inr (omega (arith, linear), omega (arith, linear)))
-    (λ up. inl (power_of_floor_root (h.from_zero up)))
-
--- the power of the root of a power is the power
-pub power_of_root_of_power : {x r : ℤ} {n : ℕ} (k : ℤ) → n ≢ 0 → int_pow k n ≡ x → IsRoot x n r → int_pow r n ≡ x
-power_of_root_of_power {x} {r} {n} (pos k) nonzero e h =
-    let same = exact_power_root {k = k} {n = n} nonzero (subst (λ (t : ℤ). IsRoot t n r) (sym e) h) in
-    rw same e
-power_of_root_of_power {x} {r} {n} (negsuc k) nonzero e h = elim (even_or_odd n) [
-  | inl even ↦
-      let power = sym e ∙ even_power k n even in
-      let same = exact_power_root {k = suc k} {n = n} nonzero (subst (λ (t : ℤ). IsRoot t n r) power h) in
-      rw same (sym power)
-  | inr odd ↦
-      let power : x ≡ neg_ℤ (pos (suc k ^ n)) = sym e ∙ odd_power (pos (suc k)) n odd in
-      let some : 1 ^ n ≤ suc k ^ n = pow-le-pow_left (omega arith) n in
-      let one = power_of_one n in
-      let size = (h.below_zero (omega (arith, ints))).1 in
-      let root : IsRoot (pos (suc k ^ n)) n (neg_ℤ r) = record {
-        from_zero = λ _. subst (λ (t : ℤ). IsFloorRoot t n (neg_ℤ r)) (omega (arith, ints)) size;
-        below_zero = λ below. absurd (omega (arith, ints));
-      } in
-      let same = exact_power_root {k = suc k} {n = n} nonzero root in
-      let base : r ≡ negsuc k = omega (arith, ints) in
-      rw base e
-]
 
 -- ---- coefficients
 
@@ -323,11 +295,18 @@ natural_division : (n d : ℕ) → 0 < d → IsFloored (pos n) (pos d) (pos (n /
 natural_division n d up = floored_by_range (omega (arith, ints)) (omega (arith, ints)) (omega (arith, ints))
 
 -- a floored quotient and remainder are those of `/` and `%`
-pub quotient_is_natural : {n d : ℕ} {q : ℤ} → 0 < d → IsQuotient IsFloored (pos n) (pos d) q → q ≡ pos (n / d)
-quotient_is_natural {n} {d} up h = (only_floored h.division (natural_division n d up)).0
+pub quotient_is_natural : {n d q : ℕ} → 0 < d → IsQuotient IsFloored (pos n) (pos d) (pos q) → q ≡ n / d
+quotient_is_natural {n} {d} up h = ap unsigned_abs (only_floored h.division (natural_division n d up)).0
 
-pub remainder_is_natural : {n d : ℕ} {r : ℤ} → 0 < d → IsRemainder IsFloored (pos n) (pos d) r → r ≡ pos (n % d)
-remainder_is_natural {n} {d} up h = (only_floored h.division (natural_division n d up)).1
+pub remainder_is_natural : {n d r : ℕ} → 0 < d → IsRemainder IsFloored (pos n) (pos d) (pos r) → r ≡ n % d
+remainder_is_natural {n} {d} up h = ap unsigned_abs (only_floored h.division (natural_division n d up)).1
+
+pub division_is_natural : {n d q r : ℕ} → 0 < d → IsFloored (pos n) (pos d) (pos q) (pos r) → (q ≡ n / d) × (r ≡ n % d)
+division_is_natural {n} {d} up h = let same = only_floored h (natural_division n d up) in (ap unsigned_abs same.0, ap unsigned_abs same.1)
+
+-- such a quotient fits
+pub natural_quotient_fits : (bits : ℕ) {n d : ℕ} → n < 2 ^ bits → 0 < d → EachFits (FitsUnsignedBits bits) (IsQuotient IsFloored (pos n) (pos d))
+natural_quotient_fits bits {n} {d} small up q h = rw (only_floored h.division (natural_division n d up)).0 (omega (arith, div-le_self n d))
 
 -- a divisor leaves no remainder
 pub divides_is_natural : {d n : ℕ} → 0 < d → Divides (pos d) (pos n) ↔ (n % d ≡ 0)
@@ -337,3 +316,18 @@ divides_is_natural {d} {n} up = (
       omega (arith, ints, remainder_is_natural up own),
   λ e. record { factor = pos (n / d); product = omega (arith, ints) },
 )
+
+-- l / a and l / b, where l is the lcm, are the least turns of wheels of a and b teeth that end where they began
+pub least_turns : {a b l : ℕ} → 0 < a → 0 < b → IsLeastCommonMultiple (pos a) (pos b) (pos l)
+    → (0 < l / a) × (l / a * a ≡ l / b * b) × ((x y : ℕ) → 0 < x → x * a ≡ y * b → (l / a ≤ x) × (l / b ≤ y))
+least_turns {a} {b} {l} a_up b_up h =
+    let up : pos 0 <ℤ pos l = lcm-positive h (λ e. omega (arith, ints)) (λ e. omega (arith, ints)) in
+    let most : pos a ≤ℤ pos l = divisor_at_most up h.left_divides in (
+      le-div 1 l a a_up (omega (arith, ints)),
+      omega (arith, (divides_is_natural a_up).0 h.left_divides, (divides_is_natural b_up).0 h.right_divides),
+      λ x y x_up e.
+          let left : Divides (pos a) (pos (x * a)) = record { factor = pos x; product = omega (arith, ints) } in
+          let right : Divides (pos b) (pos (x * a)) = rw e (record { factor = pos y; product = omega (arith, ints) }) in
+          let down : pos l ≤ℤ pos (x * a) = divisor_at_most (omega (arith, ints, mul-lt 0 0 x a x_up a_up)) (h.least _ left right) in
+          (omega (arith, ints, div_below l a (x + 1) a_up (omega (arith, ints))), omega (arith, ints, div_below l b (y + 1) b_up (omega (arith, ints)))),
+    )

@@ -1,12 +1,26 @@
--- From one coefficient of a row to the next, over whole numbers.
-use Rattle.std.specs.Prelude.{◌≤ℤ◌, ◌<ℤ◌, ◌+ℤ◌, ◌-ℤ◌, ◌*ℤ◌, ℤ, pos, negsuc, unsigned_abs}
-use Rattle.std.proofs.Common.{◌≡◌, ℕ, refl, suc, sym, ◌+◌, ◌-◌, ◌*◌, ◌<◌, ◌≤◌, ap, ◌∙◌, arith}
+-- Rows: from one coefficient to the next, and what is left of a row.
+use Rattle.std.specs.List.{All}
+use Rattle.std.specs.Prelude.{◌≤ℤ◌, ◌<ℤ◌, ◌+ℤ◌, ◌-ℤ◌, ◌*ℤ◌, ℤ, pos, negsuc, unsigned_abs, ◌≢◌, int_div, ◌≡◌, ◌+◌, ◌-◌, ◌/◌, ◌<◌, ◌≤◌, ℕ, suc, List, [], ◌∷◌, length, drop, get_or, reverse}
+use Rattle.std.proofs.Common.{refl, sym, ◌*◌, ap, ◌∙◌, arith, min}
 use Rattle.std.proofs.lemmas.Int.{ints}
-use Rattle.integer_core.specs.Divisors.{Divides}
-use Rattle.integer_core.proofs.Divisibility.{cancel}
-use Rattle.integer_core.proofs.Whole.{comm}
+use Rattle.std.proofs.lemmas.List.{at_drop_more, drop_all, get_or-reverse, length-reverse}
+use Rattle.std.proofs.lemmas.List.Elements.{All-from_get_or, All-nil}
+use Rattle.std.proofs.lemmas.List.FromFn.{fill_by_all, get_or-map-range_with_len, length-map-range_with_len}
+use borrow.Author.Differences.{abs_is}
+use Rattle.integer_core.proofs.CommonDivisors.{gcd-nonzero, gcd-positive, gcd-times}
+use Rattle.integer_core.proofs.Divisibility.{cancel, Divides-cancel, exact_quotient}
+use Rattle.integer_core.proofs.EuclidTurns.{divisor_size}
+use Rattle.integer_core.proofs.Whole.{comm, expand, linear}
+use Rattle.integer_core.specs.Divisors.{Divides, IsGreatestCommonDivisor}
+use Rattle.integer_core.specs.Range.{IsRange}
+use Rattle.num_integer.proofs.FittingAnswers.{fits_below}
+use Rattle.num_integer.proofs.ForCallers.{factor_positive}
+use Rattle.num_integer.proofs.Pascal.{mirror, next_in_row, coefficient-zero, nearer_same, rises}
 use Rattle.num_integer.specs.Coefficient.{coefficient, coefficient_of}
-use Rattle.num_integer.proofs.Pascal.{mirror, next_in_row}
+use Rattle.num_integer.specs.Laws.{RowIsGreatestInMiddle, RowIsPalindrome, RowLength}
+use Rattle.num_integer.specs.Row.{IsPlaceInRow, RowFits, row_of}
+
+-- ---- from one coefficient of a row to the next, over whole numbers
 
 -- what holds of natural numbers with k up to n holds of whole ones
 pub from_naturals : (P : ℤ → ℤ → Type 0) → ((n k : ℕ) → k ≤ n → P (pos n) (pos k)) → (n k : ℤ) → pos 0 ≤ℤ k → k ≤ℤ n → P n k
@@ -46,3 +60,117 @@ module _ {n k c : ℕ} (below : k < n) (is : c ≡ coefficient n k) where
 -- the two ends of a row, over whole numbers
 pub mirror_of : (n k : ℤ) → pos 0 ≤ℤ k → k ≤ℤ n → coefficient_of n k ≡ coefficient_of n (n -ℤ k)
 mirror_of = from_naturals (λ n k. coefficient_of n k ≡ coefficient_of n (n -ℤ k)) (λ n k within. rw (difference_is n k within) (ap pos (mirror n k within)))
+
+-- ---- a whole quotient r * a / b, cancelled by the greatest common divisor g of r and b
+
+regrouped : (r a b g q s t : ℤ) → r ≡ g *ℤ q → b ≡ g *ℤ s → a ≡ s *ℤ t → q *ℤ t *ℤ b ≡ r *ℤ a
+regrouped r a b g q s t e f h = rw (e, f, h) (simp expand)
+
+module _ {r b g : ℤ} (b_above : pos 0 <ℤ b) (greatest : IsGreatestCommonDivisor r b g) where
+  nonzero : g ≢ pos 0
+  nonzero = gcd-nonzero greatest (λ e. absurd (omega (arith, linear)))
+
+  pub g_above : pos 0 <ℤ g
+  g_above = gcd-positive greatest (λ e. absurd (omega (arith, linear)))
+
+  pub g_below : g ≤ℤ b
+  g_below = omega (arith, linear, abs_is, greatest.from_zero, divisor_size greatest.divides_right (λ e. absurd (omega (arith, linear))))
+
+  -- what b has beside g
+  pub rest_above : {s : ℤ} → s ≡ int_div b g → pos 0 <ℤ s
+  rest_above is = rw is (factor_positive b_above g_above (exact_quotient nonzero greatest.divides_right))
+
+  module _ {a : ℤ} (a_up : pos 0 ≤ℤ a) (whole : Divides b (r *ℤ a)) where
+    rest_divides : Divides (int_div b g) a
+    rest_divides =
+        let multiple : Divides b (a *ℤ b) = record { factor = a; product = comm a b } in
+        let times : Divides b (g *ℤ a) = rw (comm g a) ((gcd-times a a_up greatest).greatest b (rw (comm a r) whole) multiple) in
+        Divides-cancel g nonzero (rw (← exact_quotient nonzero greatest.divides_right) times)
+
+    pub cancelled : int_div r g *ℤ int_div a (int_div b g) *ℤ b ≡ r *ℤ a
+    cancelled =
+        let rest_nonzero : int_div b g ≢ pos 0 = λ e. absurd (omega (arith, linear, rest_above refl)) in
+        regrouped r a b g _ _ _ (exact_quotient nonzero greatest.divides_left) (exact_quotient nonzero greatest.divides_right) (exact_quotient rest_nonzero rest_divides)
+
+-- ---- how the rest of a row shrinks
+
+-- the number of items
+length-row : (n : ℕ) → length (row_of (pos n)) ≡ n + 1
+unfolding row_of
+length-row n = length-map-range_with_len (λ k. pos (coefficient n k)) 0 (n + 1)
+
+-- the k-th item
+row_at : (n k : ℕ) (d : ℤ) → k ≤ n → get_or (row_of (pos n)) k d ≡ pos (coefficient n k)
+unfolding row_of
+row_at n k d h = get_or-map-range_with_len (λ k. pos (coefficient n k)) 0 (n + 1) k k d (omega arith) (omega arith)
+
+-- what is left begins with the k-th item
+pub rest_next : (n k : ℤ) → pos 0 ≤ℤ k → k ≤ℤ n → drop (unsigned_abs k) (row_of n) ≡ coefficient_of n k ∷ drop (unsigned_abs (k +ℤ pos 1)) (row_of n)
+rest_next = from_naturals (λ n k. drop (unsigned_abs k) (row_of n) ≡ coefficient_of n k ∷ drop (unsigned_abs (k +ℤ pos 1)) (row_of n)) (λ n k within.
+    at_drop_more (λ (xs : List ℤ). xs) (row_of (pos n)) k (pos 0) (omega (arith, length-row n)) ∙ rw (row_at n k (pos 0) within) refl)
+
+-- past n nothing is left
+pub rest_none : (n k : ℤ) → pos 0 ≤ℤ k → n <ℤ k → drop (unsigned_abs k) (row_of n) ≡ []
+unfolding row_of
+rest_none (pos n) (pos k) up above = drop_all k (row_of (pos n)) (omega (arith, ints, length-row n))
+rest_none (pos n) (negsuc k) up above = absurd (omega (arith, ints))
+rest_none (negsuc n) k up above = drop_all (unsigned_abs k) (row_of (negsuc n)) (omega (arith, ints))
+
+-- ---- the shape of a row
+
+-- no item of the row is above the one in its middle
+below_middle : (n m : ℕ) → m ≤ n → coefficient n m ≤ coefficient n (n / 2)
+below_middle n m h =
+    let half : n / 2 + n / 2 ≤ n = omega arith in
+    let least : min m (n - m) ≤ n / 2 = omega arith in
+    rw (← nearer_same n m _ h refl) (rises n (min m (n - m)) (n / 2) least half)
+
+-- what holds of each coefficient holds of the items
+each_item : (P : ℤ → Type 0) (n : ℕ) → ((k : ℕ) → k ≤ n → P (pos (coefficient n k))) → All P (row_of (pos n))
+each_item P n each = All-from_get_or P (row_of (pos n)) (pos 0) (λ k h.
+    let within : k ≤ n = omega (arith, length-row n) in
+    rw (row_at n k (pos 0) within) (each k within))
+
+pub greatest_in_middle : RowIsGreatestInMiddle
+unfolding row_of
+greatest_in_middle (pos n) = each_item (λ (item : ℤ). item ≤ℤ pos (coefficient n (n / 2))) n (λ k h. omega (arith, ints, below_middle n k h))
+greatest_in_middle (negsuc n) = All-nil (λ (item : ℤ). item ≤ℤ pos (coefficient (suc n) (suc n / 2)))
+
+-- a row is symmetric
+pub backwards : RowIsPalindrome
+unfolding row_of
+backwards (pos n) =
+    let long : length (reverse (row_of (pos n))) ≡ n + 1 = length-reverse (row_of (pos n)) ∙ length-row n in
+    fill_by_all (λ k. pos (coefficient n k)) (reverse (row_of (pos n))) (n + 1) (pos 0) long (λ k h.
+    let within : k ≤ n = omega arith in
+    let at : length (row_of (pos n)) - 1 - k ≡ n - k = omega (arith, length-row n) in
+    get_or-reverse (row_of (pos n)) k (pos 0) (omega (arith, length-row n)) ∙ rw (at, row_at n (n - k) (pos 0) (omega arith)) (ap pos (sym (mirror n k within))))
+backwards (negsuc n) = refl
+
+-- each item of a row that fits is in range
+pub row_in_range : {fits : ℤ → Type 0} {low high : ℤ} (n : ℤ) → IsRange fits low high → RowFits fits n → All fits (row_of n)
+unfolding row_of
+row_in_range {fits} (pos n) range row = each_item fits n (λ k h. fits_below range (row (omega (arith, ints))).1 (omega (arith, ints)) (omega (arith, ints, below_middle n k h)))
+row_in_range {fits} (negsuc n) range row = All-nil fits
+
+-- ---- the steps of an iterator over the row of n
+
+-- a new iterator stands at the first item
+pub place_first : {fits : ℤ → Type 0} {n k item : ℤ} → fits n → RowFits fits n → fits k → k ≡ pos 0 → fits item → item ≡ pos 1 → IsPlaceInRow fits n k item
+place_first n_fits row k_fits none item_fits one =
+    record { n_in_range = n_fits; k_in_range = k_fits; k_from_zero = omega (arith, ints); row_fits = row; item_in_range = item_fits; item_is = λ within. one ∙ ap pos (sym (rw none (coefficient-zero _))) }
+
+-- neither the next item nor the next place leaves the type
+module _ {fits : ℤ → Type 0} {low high n k item : ℤ} (range : IsRange fits low high) (place : IsPlaceInRow fits n k item) where
+  pub item_fits : k <ℤ n → fits (coefficient_of n (k +ℤ pos 1))
+  item_fits below =
+      let up = place.k_from_zero in
+      fits_below range (place.row_fits (omega (arith, ints))).1 (omega (arith, ints)) (omega (arith, ints, below_middle (unsigned_abs n) (unsigned_abs (k +ℤ pos 1)) (omega (arith, ints))))
+
+  pub place_fits : k ≤ℤ n → fits (k +ℤ pos 1)
+  place_fits within = let up = place.k_from_zero in fits_below range (place.row_fits (omega (arith, ints))).0 (omega (arith, ints)) (omega (arith, ints))
+
+-- a row has one item more than n
+pub one_item_more : RowLength
+one_item_more (pos n) up = ap pos (length-row n)
+one_item_more (negsuc n) up = absurd (omega (arith, ints))

@@ -1,10 +1,5 @@
-pub mod Laws
-pub mod Coefficient
-pub mod Multinomial
-pub mod Row
-pub mod Parts
-pub mod Congruences
--- what the clauses of the re-exported items cite
+-- what the clauses of the calls of integer_core cite, and the range of a lawful type of another crate
+pub use Rattle.integer_core.specs.Between
 pub use Rattle.integer_core.specs.Bezout
 pub use Rattle.integer_core.specs.Division
 pub use Rattle.integer_core.specs.Divisors
@@ -13,6 +8,13 @@ pub use Rattle.integer_core.specs.GcdRuns
 pub use Rattle.integer_core.specs.Only
 pub use Rattle.integer_core.specs.Range
 pub use Rattle.integer_core.specs.Runs
+-- what those of this crate cite, and the laws
+pub mod Laws
+pub mod Coefficient
+pub mod Multinomial
+pub mod Row
+pub mod Parts
+-- what those of integer_roots cite
 pub use Rattle.integer_roots.specs.Averages
 pub use Rattle.integer_roots.specs.RootOf
 pub use Rattle.integer_roots.specs.SquareRuns

@@ -29,6 +29,7 @@ pub(crate) fn factors<T: Integer>(r: T, a: T, b: T) -> (T, T)
 
 /// The coefficient of `n` and `k + 1`, where `c` is that of `n` and `k`: it is
 /// `c * (n - k) / (k + 1)`, and no greater number comes up on the way.
+#[tactic(auto, using(crate::proofs::FittingAnswers::fits_below))]
 pub(crate) fn next_coefficient<T: Integer>(c: T, n: T, k: T) -> T
     requires c_in_range { T.fits (T.value c) }
     requires n_in_range { T.fits (T.value n) }
@@ -111,6 +112,7 @@ pub fn binomial<T: Integer>(n: T, k: T) -> T
 
 /// The number of ways to share out the sum of the counts `k` into parts of these sizes.
 /// `multinomial(&[2, 1, 2])` is `30`, and `multinomial(&[])` is `1`.
+#[tactic(auto, using(crate::proofs::Multinomials::multinomial_first))]
 pub fn multinomial<T: Integer>(k: &[T]) -> T
     requires counts_in_range { All (λ x. T.fits (T.value x)) k.now }
     requires counts_from_zero { All (λ x. pos 0 ≤ℤ T.value x) k.now }

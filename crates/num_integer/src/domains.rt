@@ -9,7 +9,7 @@ ghost use Rattle.num_integer.specs.Coefficient.{coefficient_of};
 ghost use Rattle.num_integer.specs.Multinomial.{IsMultinomial};
 ghost use Rattle.num_integer.specs.Parts.{IsWithin, signed};
 
-use crate::magnitudes::{Shared, coefficient_within};
+use crate::bounded_coefficients::{Shared, coefficient_within};
 use integer_core::operators::{difference, is_negative, is_zero};
 use integer_core::{Integer, NativeInteger};
 use num_traits::ToPrimitive;
@@ -72,6 +72,7 @@ pub trait Fits: Integer {
 
     /// Whether `prev_multiple_of` may be called: false for a divisor 0, and where the multiple is
     /// outside the type.
+    #[tactic(auto, using(crate::proofs::FittingAnswers::parts_inside))]
     fn prev_multiple_fits(&self, other: &Self) -> bool
         requires self_in_range { Self.fits (Self.value self.now) }
         requires other_in_range { Self.fits (Self.value other.now) }

@@ -1,15 +1,11 @@
 //! Integer division and its kin, after the Rust crate `num-integer`, for every lawful type.
 #![tactic(auto)]
 
+mod bounded_coefficients;
 mod coefficients;
 pub mod counted;
 mod domains;
-mod magnitudes;
-#[cfg(test)]
-mod own_types;
 mod rows;
-#[cfg(test)]
-mod tests;
 
 pub use coefficients::{binomial, multinomial};
 pub use domains::Fits;

@@ -1,40 +1,35 @@
 -- The answers to a fraction: its exact result, or a refusal.
-use Rattle.std.specs.Prelude.{◌≡◌, ◌≢◌, ◌⊎◌, ◌<ℤ◌, ◌*ℤ◌, ℤ, pos, Result, Ok, Err, FitsSigned}
+use Rattle.std.specs.Prelude.{◌≡◌, ◌≢◌, ◌↔◌, ◌*ℤ◌, ℤ, pos, Result, Ok, Err, FitsSigned}
 use Rattle.std.specs.Int.{w64}
-use Rattle.std.proofs.Common.{inl, inr, refl, subst}
+use Rattle.std.proofs.Common.{arith, inl, inr, subst, ◌∙◌}
+use Rattle.num_integer.proofs.ForCallers.{cancel, comm, products}
 use Rattle.ratio64.proofs.ExactResults.{only_exact_result}
-use Rattle.ratio64.proofs.WideSums.{nonzero_product}
-use Rattle.ratio64.specs.Fraction.{IsExact}
+use Rattle.ratio64.specs.Fraction.{IsExact, IsOutsideI64}
 use Rattle.ratio64.specs.Ratio.{AnswersFraction, num_of, den_of}
 use Rattle.ratio64.specs.declared.fraction.Ratio.{Ratio}
 use Rattle.ratio64.specs.declared.error.RatioError.{RatioError}
-use Rattle.ratio64.specs.declared.error.RatioError.TheVariants.{ZeroDenominator, NotFitting}
+use Rattle.ratio64.specs.declared.error.RatioError.TheVariants.{ZeroDenominator}
 
-pub wide_answer : {a b p q : ℤ} → IsExact a b p q → (¬ (FitsSigned w64 p)) ⊎ (¬ (FitsSigned w64 q)) → AnswersFraction a b (Err NotFitting)
-wide_answer x outside = record {
-  exact = tt;
-  zero_denominator = (λ e. absurd cc, λ none. absurd (x.fraction none));
-  not_fitting = (λ _. record { num = _; den = _; exact = x; outside = outside }, λ _. refl);
-}
+-- where the parts of the exact result fit, none lies outside
+pub exact_is_inside : {a b n d : ℤ} → IsExact a b n d → FitsSigned w64 n → FitsSigned w64 d → ¬ (IsOutsideI64 a b)
+exact_is_inside exact num_fits den_fits far =
+    let same = only_exact_result exact far.exact in
+    elim far.outside [
+      | inl outside ↦ outside (subst (FitsSigned w64) same.0 num_fits)
+      | inr outside ↦ outside (subst (FitsSigned w64) same.1 den_fits)
+    ]
 
-of_same_parts : {a b p q r s : ℤ} → p ≡ r → q ≡ s → IsExact a b r s → IsExact a b p q
-of_same_parts e f x = rw (e, f) x
-
-pub exact_answer : {a b p q : ℤ} (x : Ratio) → IsExact a b p q → num_of x ≡ p → den_of x ≡ q → FitsSigned w64 p → FitsSigned w64 q → AnswersFraction a b (Ok x)
-exact_answer {a} {b} {p} {q} x exact num den num_fits den_fits = record {
-  exact = of_same_parts num den exact;
+pub exact_answer : {a b : ℤ} (x : Ratio) → IsExact a b (num_of x) (den_of x) → FitsSigned w64 (num_of x) → FitsSigned w64 (den_of x) → AnswersFraction a b (Ok x)
+exact_answer x exact num_fits den_fits = record {
+  exact = exact;
   zero_denominator = (λ e. absurd cc, λ none. absurd (exact.fraction none));
-  not_fitting = (
-    λ e. absurd cc,
-    λ wide.
-        let same = only_exact_result exact wide.exact in
-        elim wide.outside [
-          | inl outside ↦ absurd (outside (subst (FitsSigned w64) same.0 num_fits))
-          | inr outside ↦ absurd (outside (subst (FitsSigned w64) same.1 den_fits))
-        ],
-  );
+  not_fitting = (λ e. absurd cc, λ far. absurd (exact_is_inside exact num_fits den_fits far));
 }
 
--- a product of denominators is not 0
-pub never_zero : {a b d : ℤ} {result : Result Ratio RatioError} → pos 0 <ℤ b → pos 0 <ℤ d → AnswersFraction a (b *ℤ d) result → result ≢ Err ZeroDenominator
-never_zero {b = b} {d = d} b_up d_up h e = nonzero_product b d b_up d_up (h.zero_denominator.0 e)
+-- a product is 0 exactly where its first factor is, if its second is not
+pub zero_factor : {c b : ℤ} → b ≢ pos 0 → (c *ℤ b ≡ pos 0) ↔ (c ≡ pos 0)
+zero_factor {c} {b} nonzero = (λ e. cancel b c (pos 0) nonzero (comm b c ∙ e ∙ omega (arith, products)), λ none. rw none (omega (arith, products)))
+
+-- so what is over a product is refused for its first factor alone
+pub zero_exactly : {a b c : ℤ} {r : Result Ratio RatioError} → b ≢ pos 0 → AnswersFraction a (c *ℤ b) r → (r ≡ Err ZeroDenominator) ↔ (c ≡ pos 0)
+zero_exactly nonzero h = (λ e. (zero_factor nonzero).0 (h.zero_denominator.0 e), λ none. h.zero_denominator.1 ((zero_factor nonzero).1 none))

@@ -1,4 +1,5 @@
 pub mod ExactResults
+pub mod ForCallers
 pub mod FractionAnswers
 pub mod Laws
 pub mod WideSums

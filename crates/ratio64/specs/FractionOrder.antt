@@ -1,5 +1,5 @@
--- The order of fractions, whose laws the order of `Ratio` cites.
-use Rattle.std.specs.Prelude.{◌≡◌, ◌<ℤ◌, ◌-ℤ◌, ◌*ℤ◌, ◌&&◌, ℤ, pos, negsuc, zero, suc}
+-- Lemmas on the order of fractions, which the order of `Ratio` cites.
+use Rattle.std.specs.Prelude.{◌≡◌, ◌<ℤ◌, ◌*ℤ◌, ◌&&◌, ℤ, pos}
 use Rattle.std.specs.Bool.{Decides, one_answer}
 use Rattle.std.specs.Cmp.{Equal-is, int_cmp_is, int_cmp_total, int_ranked}
 use Rattle.std.specs.Ordering.{MatchOrdering, int_cmp, int_eq, is_eq}
@@ -7,26 +7,15 @@ use Rattle.std.specs.declared.cmp.Ordering.{Ordering}
 use Rattle.std.specs.declared.cmp.Ordering.TheVariants.{Equal, Greater, Less}
 use Rattle.std.proofs.Common.{arith, refl, sym, ap, ◌∙◌}
 use Rattle.std.proofs.lemmas.Bool.Decides.{Decides-and, Decides-int_eq}
-use Rattle.std.proofs.lemmas.Int.{ints}
-use Rattle.num_integer.proofs.ForCallers.{dist-left, expand, linear, mul-neg}
+use Rattle.num_integer.proofs.ForCallers.{comm, expand, linear, multiples_apart}
 use Rattle.ratio64.specs.Fraction.{IsReduced, fraction_cmp}
 use Rattle.ratio64.specs.Laws.{OrderAgreesWithEquality, OrderIsTotal}
 use Rattle.ratio64.specs.ReducedPairs.{same_pair}
 
 -- ---- numbers compare as they do times a number above 0
 
-mul_positive : (a b : ℤ) → pos 0 <ℤ a → pos 0 <ℤ b → pos 0 <ℤ (a *ℤ b)
-mul_positive (pos zero) b h k = absurd (omega (arith, ints))
-mul_positive (pos (suc a)) (pos zero) h k = absurd (omega (arith, ints))
-mul_positive (pos (suc a)) (pos (suc b)) h k = omega (arith, ints)
-mul_positive (pos (suc a)) (negsuc b) h k = absurd (omega (arith, ints))
-mul_positive (negsuc a) b h k = absurd (omega (arith, ints))
-
 times_lt : (k x y : ℤ) → pos 0 <ℤ k → x <ℤ y → (k *ℤ x) <ℤ (k *ℤ y)
-times_lt k x y up h =
-    let gap = mul_positive k (y -ℤ x) up (omega (arith, linear)) in
-    let split : k *ℤ (y -ℤ x) ≡ k *ℤ y -ℤ k *ℤ x = simp (dist-left, mul-neg) in
-    omega (arith, linear)
+times_lt k x y up h = omega (arith, linear, comm k x, comm k y, multiples_apart x y k up h)
 
 ranked_times : (r : Ordering) (k x y : ℤ) → pos 0 <ℤ k → MatchOrdering r (x <ℤ y) (x ≡ y) (y <ℤ x)
     → MatchOrdering r ((k *ℤ x) <ℤ (k *ℤ y)) (k *ℤ x ≡ k *ℤ y) ((k *ℤ y) <ℤ (k *ℤ x))

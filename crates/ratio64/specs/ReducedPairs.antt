@@ -1,11 +1,11 @@
--- Reduced pairs: being one has one proof, and equal ones are the same. The invariant and the order of
--- `Ratio` cite these lemmas.
+-- Lemmas on reduced pairs, which the invariant and the order of `Ratio` cite: being one has one proof, and
+-- equal ones are the same.
 use Rattle.std.specs.Prelude.{◌≡◌, ◌≢◌, ◌↔◌, ◌<ℤ◌, ◌≤ℤ◌, ◌*ℤ◌, ℤ, pos}
 use Rattle.std.proofs.Common.{arith, refl, sym, ap, ◌∙◌}
 use Rattle.std.proofs.Props.{props}
 use mathlib.Core.HLevel.{is_prop→PathP}
 use lib.IntN.{ℤ_set}
-use Rattle.num_integer.proofs.ForCallers.{Divides-antisym, cancel, comm, gcd-times, linear, mul-one, products}
+use Rattle.num_integer.proofs.ForCallers.{Divides-antisym, cancel, comm, coprime_divides, linear, products}
 use Rattle.num_integer.specs.Divisors.{Divides, IsGreatestCommonDivisor}
 use Rattle.ratio64.specs.Fraction.{AreEqual, IsReduced}
 
@@ -44,20 +44,19 @@ IsReduced-prop num den x y =
 pub positive_is_nonzero : {z : ℤ} → pos 0 <ℤ z → z ≢ pos 0
 positive_is_nonzero up none = absurd (omega (arith, linear))
 
+pub AreEqual-sym : {a b c d : ℤ} → AreEqual a b c d → AreEqual c d a b
+AreEqual-sym e = record { cross = sym e.cross }
+
 -- the denominator of a reduced pair divides that of each equal fraction
-denominator_divides : {a b c d : ℤ} → IsReduced a b → pos 0 ≤ℤ d → AreEqual a b c d → Divides b d
-denominator_divides {a} {b} {c} {d} x up e =
-    let times : Divides b (d *ℤ pos 1) = (gcd-times d up x.lowest).greatest b
-    (record { factor = c; product = comm d a ∙ e.cross ∙ comm c b })
-    (record { factor = d; product = comm d b }) in
-    rw (mul-one d) at times
+pub denominator_divides : {a b c d : ℤ} → IsReduced a b → AreEqual a b c d → Divides b d
+denominator_divides {b = b} {c = c} x e = coprime_divides x.lowest (record { factor = c; product = e.cross ∙ comm c b })
 
 -- reduced pairs that are equal fractions are the same pair
 pub same_pair : {a b c d : ℤ} → IsReduced a b → IsReduced c d → AreEqual a b c d → (a ≡ c) × (b ≡ d)
 same_pair {a} {b} {c} {d} x y e =
     let left : pos 0 ≤ℤ b = omega (arith, linear) in
     let right : pos 0 ≤ℤ d = omega (arith, linear) in
-    let dens : b ≡ d = Divides-antisym left right (denominator_divides x right e) (denominator_divides y left (record { cross = sym e.cross })) in
+    let dens : b ≡ d = Divides-antisym left right (denominator_divides x e) (denominator_divides y (AreEqual-sym e)) in
     (cancel d a c (positive_is_nonzero y.positive) (comm d a ∙ e.cross ∙ ap (λ (t : ℤ). c *ℤ t) dens ∙ comm c d), dens)
 
 -- and the other way round

@@ -1,12 +1,13 @@
-//! A fraction, kept reduced.
+//! A fraction, kept reduced, and the calls that make one.
 
-ghost use Rattle.std.specs.Prelude.{◌≡◌, ◌<◌, ◌^◌, unsigned_abs};
+ghost use Rattle.std.specs.Prelude.{◌≡◌, ◌≢◌, ◌↔◌, ◌<◌, ◌^◌, ◌+ℤ◌, ◌-ℤ◌, ◌*ℤ◌, pos, unsigned_abs, Err};
 ghost use Rattle.num_integer.specs.Division.{IsCeiled, IsFloored, IsQuotient};
 ghost use Rattle.ratio64.specs.Fraction.{IsReduced};
 ghost use Rattle.ratio64.specs.ReducedPairs.{IsReduced-prop};
 
 use crate::RatioError;
-use crate::reduction::{lowest_terms, part};
+use crate::products::{difference, product, sum};
+use crate::reduction::lowest_terms;
 use num_integer::{div_ceil, div_floor};
 
 /// A fraction. Its denominator is above 0, and the greatest common divisor of its parts is 1.
@@ -55,8 +56,56 @@ impl Ratio {
         div_ceil(self.num, self.den)
     }
 
+    /// The sum. 1/2 and 1/3 give 5/6.
+    pub fn checked_add(&self, other: &Ratio) -> Result<Ratio, RatioError>
+        ensures sum { AnswersFraction
+            (num_of self.now *ℤ den_of other.now +ℤ num_of other.now *ℤ den_of self.now)
+            (den_of self.now *ℤ den_of other.now) result }
+        ensures never_zero { result ≢ Err RatioError.ZeroDenominator }
+    {
+        self.over_both(other, sum(self.num, self.den, other.num, other.den))
+    }
+
+    /// The difference. 1/2 and 1/3 give 1/6.
+    pub fn checked_sub(&self, other: &Ratio) -> Result<Ratio, RatioError>
+        ensures difference { AnswersFraction
+            (num_of self.now *ℤ den_of other.now -ℤ num_of other.now *ℤ den_of self.now)
+            (den_of self.now *ℤ den_of other.now) result }
+        ensures never_zero { result ≢ Err RatioError.ZeroDenominator }
+    {
+        self.over_both(other, difference(self.num, self.den, other.num, other.den))
+    }
+
+    /// The product. 2/3 and 3/4 give 1/2.
+    pub fn checked_mul(&self, other: &Ratio) -> Result<Ratio, RatioError>
+        ensures product { AnswersFraction (num_of self.now *ℤ num_of other.now)
+            (den_of self.now *ℤ den_of other.now) result }
+        ensures never_zero { result ≢ Err RatioError.ZeroDenominator }
+    {
+        self.over_both(other, product(self.num, other.num))
+    }
+
+    /// The quotient. -1/2 and -3/4 give 2/3.
+    pub fn checked_div(&self, other: &Ratio) -> Result<Ratio, RatioError>
+        ensures quotient { AnswersFraction (num_of self.now *ℤ den_of other.now)
+            (num_of other.now *ℤ den_of self.now) result }
+        ensures zero_divisor { (result ≡ Err RatioError.ZeroDenominator)
+            ↔ (num_of other.now ≡ pos 0) }
+    {
+        Ratio::reduced(product(self.num, other.den), product(other.num, self.den))
+    }
+
+    /// The fraction of `num` over the product of the two denominators.
+    fn over_both(&self, other: &Ratio, num: i128) -> Result<Ratio, RatioError>
+        requires { unsigned_abs num < 2 ^ 127 }
+        ensures fraction { AnswersFraction num (den_of self.now *ℤ den_of other.now) result }
+        ensures never_zero { result ≢ Err RatioError.ZeroDenominator }
+    {
+        Ratio::reduced(num, product(self.den, other.den))
+    }
+
     /// The fraction `num / den`, divided by what its parts have in common.
-    pub(crate) fn reduced(num: i128, den: i128) -> Result<Ratio, RatioError>
+    fn reduced(num: i128, den: i128) -> Result<Ratio, RatioError>
         requires num_below { unsigned_abs num < 2 ^ 127 }
         requires den_below { unsigned_abs den < 2 ^ 127 }
         ensures { AnswersFraction num den result }
@@ -64,10 +113,7 @@ impl Ratio {
         if den == 0 {
             return Err(RatioError::ZeroDenominator);
         }
-        let (num, den) = lowest_terms(num, den);
-        Ok(Ratio {
-            num: part(num)?,
-            den: part(den)?,
-        })
+        let (num, den) = lowest_terms(num, den)?;
+        Ok(Ratio { num, den })
     }
 }

@@ -1,7 +1,6 @@
 //! Exact fractions whose parts are 64-bit numbers, always reduced.
 #![tactic(auto)]
 
-mod arithmetic;
 mod error;
 mod fraction;
 mod order;

@@ -1,7 +1,7 @@
 //! The order of fractions.
 
 use crate::Ratio;
-use crate::products::cross;
+use crate::products::product;
 use std::cmp::Ordering;
 
 impl Ord for Ratio {
@@ -19,7 +19,7 @@ impl Ord for Ratio {
     ghost matches_eq = { λ x y. ties_of_reduced x.reduced y.reduced };
 
     fn cmp(&self, other: &Ratio) -> Ordering {
-        cross(self, other).cmp(&cross(other, self))
+        product(self.num(), other.den()).cmp(&product(other.num(), self.den()))
     }
 }
 

@@ -1,46 +1,32 @@
-//! Products of the parts of two fractions.
+//! Products of parts, and their sums and differences, in `i128`.
 
-ghost use Rattle.std.specs.Prelude.{◌≡◌, ◌<◌, ◌^◌, ◌+ℤ◌, ◌-ℤ◌, ◌*ℤ◌, unsigned_abs};
-ghost use Rattle.ratio64.specs.Ratio.{num_of, den_of};
+ghost use Rattle.std.specs.Prelude.{◌≡◌, ◌<◌, ◌^◌, ◌<ℤ◌, ◌+ℤ◌, ◌-ℤ◌, ◌*ℤ◌, pos, unsigned_abs};
 
-use crate::Ratio;
-
-/// The numerator of `x` times the denominator of `y`.
-pub(crate) fn cross(x: &Ratio, y: &Ratio) -> i128
-    ensures product { result ≡ num_of x.now *ℤ den_of y.now }
-    ensures below { unsigned_abs result < 2 ^ 126 }
+/// The product of two parts.
+pub(crate) fn product(a: i64, b: i64) -> i128
+    ensures value { result ≡ a *ℤ b }
+    ensures below { unsigned_abs result < 2 ^ 127 }
+    ensures below_of_positive { pos 0 <ℤ b → unsigned_abs result < 2 ^ 126 }
 {
-    i128::from(x.num()) * i128::from(y.den())
+    i128::from(a) * i128::from(b)
 }
 
-/// The numerator of the sum, over the product of the denominators.
-pub(crate) fn sum(x: &Ratio, y: &Ratio) -> i128
-    ensures value { result ≡ num_of x.now *ℤ den_of y.now +ℤ num_of y.now *ℤ den_of x.now }
+/// The numerator of the sum of `a / b` and `c / d`, over the product of their denominators.
+pub(crate) fn sum(a: i64, b: i64, c: i64, d: i64) -> i128
+    requires b_positive { pos 0 <ℤ b }
+    requires d_positive { pos 0 <ℤ d }
+    ensures value { result ≡ a *ℤ d +ℤ c *ℤ b }
     ensures below { unsigned_abs result < 2 ^ 127 }
 {
-    cross(x, y) + cross(y, x)
+    product(a, d) + product(c, b)
 }
 
-/// The numerator of the difference, over the product of the denominators.
-pub(crate) fn difference(x: &Ratio, y: &Ratio) -> i128
-    ensures value { result ≡ num_of x.now *ℤ den_of y.now -ℤ num_of y.now *ℤ den_of x.now }
+/// The numerator of the difference of `a / b` and `c / d`, over the product of their denominators.
+pub(crate) fn difference(a: i64, b: i64, c: i64, d: i64) -> i128
+    requires b_positive { pos 0 <ℤ b }
+    requires d_positive { pos 0 <ℤ d }
+    ensures value { result ≡ a *ℤ d -ℤ c *ℤ b }
     ensures below { unsigned_abs result < 2 ^ 127 }
 {
-    cross(x, y) - cross(y, x)
-}
-
-/// The product of the numerators.
-pub(crate) fn numerators(x: &Ratio, y: &Ratio) -> i128
-    ensures product { result ≡ num_of x.now *ℤ num_of y.now }
-    ensures below { unsigned_abs result < 2 ^ 127 }
-{
-    i128::from(x.num()) * i128::from(y.num())
-}
-
-/// The product of the denominators.
-pub(crate) fn denominators(x: &Ratio, y: &Ratio) -> i128
-    ensures product { result ≡ den_of x.now *ℤ den_of y.now }
-    ensures below { unsigned_abs result < 2 ^ 126 }
-{
-    i128::from(x.den()) * i128::from(y.den())
+    product(a, d) - product(c, b)
 }

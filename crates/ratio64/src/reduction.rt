@@ -2,13 +2,25 @@
 
 ghost use Rattle.std.specs.Prelude.{◌≡◌, ◌<◌, ◌^◌, unsigned_abs, FitsSigned, MatchResult};
 ghost use Rattle.std.specs.Int.{w64, w128};
-ghost use Rattle.ratio64.specs.Fraction.{IsFraction, IsExact};
+ghost use Rattle.ratio64.specs.Fraction.{IsFraction, IsExact, IsOutsideI64};
 
 use crate::RatioError;
 use num_integer::gcd;
 
+/// The parts of the reduced fraction that is equal to `num / den`, where they fit.
+pub(crate) fn lowest_terms(num: i128, den: i128) -> Result<(i64, i64), RatioError>
+    requires num_below { unsigned_abs num < 2 ^ 127 }
+    requires den_below { unsigned_abs den < 2 ^ 127 }
+    requires fraction { IsFraction num den }
+    ensures { MatchResult result (λ (n, d). IsExact num den n d)
+        (λ e. (e ≡ RatioError.NotFitting) × IsOutsideI64 num den) }
+{
+    let (num, den) = wide_terms(num, den);
+    Ok((part(num)?, part(den)?))
+}
+
 /// The fraction with both parts divided by their greatest common divisor, and with `den` above 0.
-pub(crate) fn lowest_terms(num: i128, den: i128) -> (i128, i128)
+fn wide_terms(num: i128, den: i128) -> (i128, i128)
     requires num_below { unsigned_abs num < 2 ^ 127 }
     requires den_below { unsigned_abs den < 2 ^ 127 }
     requires fraction { IsFraction num den }
@@ -21,7 +33,7 @@ pub(crate) fn lowest_terms(num: i128, den: i128) -> (i128, i128)
 }
 
 /// The number as a part of a fraction.
-pub(crate) fn part(number: i128) -> Result<i64, RatioError>
+fn part(number: i128) -> Result<i64, RatioError>
     ensures { MatchResult result (λ n. (n ≡ number) × FitsSigned w64 number)
         (λ e. (e ≡ RatioError.NotFitting) × (¬ (FitsSigned w64 number))) }
 {

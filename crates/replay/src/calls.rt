@@ -5,6 +5,7 @@ ghost use Rattle.std.specs.List.{All};
 
 use crate::checksum::Checksum;
 use crate::types::Replayed;
+use num_integer::operators::is_zero;
 use num_integer::{
     ExtendedGcd, Fits, IterBinomial, Roots, average_ceil, average_floor, binomial, cbrt, div_ceil,
     div_floor, div_mod_floor, div_rem, gcd, gcd_lcm, lcm, mod_floor, multinomial, nth_root, sqrt,
@@ -106,7 +107,7 @@ fn with_remainder<T: Fits>(sum: Checksum, n: T, d: T) -> Option<Checksum>
     requires n_in_range { T.fits (T.value n) }
     requires d_in_range { T.fits (T.value d) }
 {
-    if d.is_zero() {
+    if is_zero(d) {
         None
     } else {
         Some(with_value(sum, mod_floor(n, d)))
@@ -134,7 +135,7 @@ fn with_divides<T: Fits>(call: Call, sum: Checksum, n: T, d: T) -> Option<Checks
     requires d_in_range { T.fits (T.value d) }
 {
     match call {
-        _ if d.is_zero() => None,
+        _ if is_zero(d) => None,
         Call::Divides => Some(with_truth(sum, n.divides(&d))),
         _ => Some(with_truth(sum, n.is_multiple_of(&d))),
     }

@@ -1,7 +1,5 @@
-pub mod Ascending
 pub mod Choices
-pub mod FractionSums
-pub mod HighPowers
-pub mod MeanAnswers
+pub mod Congruences
+pub mod ExactPowers
 pub mod Meetings
-pub mod MixedNumbers
+pub mod Places

@@ -1,6 +1,6 @@
+pub mod Congruences
 pub mod Paging
 pub mod Layout
 pub mod Schedules
 pub mod Weekday
 pub mod Ranking
-pub mod Means

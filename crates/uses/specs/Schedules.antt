@@ -1,6 +1,6 @@
 -- Times that come again each period.
 use Rattle.std.specs.Prelude.{◌≤ℤ◌, ℤ}
-use Rattle.num_integer.specs.Congruences.{AreCongruent}
+use Rattle.uses.specs.Congruences.{AreCongruent}
 use Rattle.uses.specs.declared.schedules.Meeting.{Meeting}
 use Rattle.uses.specs.declared.schedules.Meeting.TheVariants.{Never, TooLate, At}
 
@@ -20,7 +20,7 @@ pub record IsNextMeeting (now a p b q t : ℤ) : Type 0 where
   pub meeting : IsMeeting a p b q t
   pub least : (u : ℤ) → now ≤ℤ u → IsMeeting a p b q u → t ≤ℤ u
 
--- z is the later of two times
+-- z is the greater of two numbers
 pub record IsMaximum (x y z : ℤ) : Type 0 where
   pub from_x : x ≤ℤ z
   pub from_y : y ≤ℤ z

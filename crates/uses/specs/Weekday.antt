@@ -4,11 +4,11 @@ use Rattle.uses.specs.declared.calendar.Weekday.{Weekday}
 use Rattle.uses.specs.declared.calendar.Weekday.TheVariants.{Sunday, Monday, Tuesday, Wednesday, Thursday, Friday, Saturday}
 
 -- Sunday is 0, and Saturday 6
-abbrev pub number_of : Weekday → ℕ
-number_of Sunday = 0
-number_of Monday = 1
-number_of Tuesday = 2
-number_of Wednesday = 3
-number_of Thursday = 4
-number_of Friday = 5
-number_of Saturday = 6
+abbrev pub weekday_number : Weekday → ℕ
+weekday_number Sunday = 0
+weekday_number Monday = 1
+weekday_number Tuesday = 2
+weekday_number Wednesday = 3
+weekday_number Thursday = 4
+weekday_number Friday = 5
+weekday_number Saturday = 6

@@ -1,8 +1,8 @@
 //! Days of the week.
 
 ghost use Rattle.std.specs.Prelude.{◌+ℤ◌, pos};
-ghost use Rattle.num_integer.specs.Congruences.{IsResidue};
-ghost use Rattle.uses.specs.Weekday.{number_of};
+ghost use Rattle.uses.specs.Congruences.{IsResidue};
+ghost use Rattle.uses.specs.Weekday.{weekday_number};
 
 use crate::modular::residue;
 
@@ -20,7 +20,7 @@ pub enum Weekday {
 
 /// The day of the week of a day, counted from 1970-01-01, a Thursday. `weekday_of(-1)` is a Wednesday.
 pub fn weekday_of(day: i64) -> Weekday
-    ensures { IsResidue (pos 7) (day +ℤ pos 4) (pos (number_of result)) }
+    ensures { IsResidue (pos 7) (day +ℤ pos 4) (pos (weekday_number result)) }
 {
     match days_since_sunday(day) {
         0 => Weekday::Sunday,

@@ -1,4 +1,4 @@
-//! The middle of a range, and the search by halves.
+//! The middle of two numbers, and the search by halves.
 
 ghost use Rattle.std.specs.Prelude.{◌≤◌, ◌≤ℤ◌, ◌<ℤ◌, ◌+ℤ◌, ◌-ℤ◌, pos, length, IsSortedByKey};
 ghost use Rattle.std.specs.List.{AllWithin};
@@ -7,20 +7,16 @@ ghost use Rattle.std.specs.Ordering.{int_cmp};
 use num_integer::operators::is_below;
 use num_integer::{Average, Integer, average_floor};
 
-/// The middle of a range, rounded down, which never overflows. `midpoint(2, 5)` is 3.
-pub fn midpoint<T: Average>(low: T, high: T) -> T
-    requires low_in_range { T.fits (T.value low) }
-    requires high_in_range { T.fits (T.value high) }
-    requires ordered { T.value low ≤ℤ T.value high }
+/// The middle of two numbers, in either order, rounded down. It never overflows. `midpoint(2, 5)` is
+/// 3, and `midpoint(-2, -5)` is -4.
+pub fn midpoint<T: Average>(a: T, b: T) -> T
+    requires in_range { T.fits (T.value a) × T.fits (T.value b) }
     ensures in_range { T.fits (T.value result) }
-    ensures from_low { T.value low ≤ℤ T.value result }
-    ensures to_high { T.value result ≤ℤ T.value high }
-    ensures below_high { T.value low <ℤ T.value high → T.value result <ℤ T.value high }
-    ensures no_nearer_high { (T.value result -ℤ T.value low) ≤ℤ (T.value high -ℤ T.value result) }
-    ensures one_nearer_low_at_most { (T.value high -ℤ T.value result)
-        ≤ℤ (T.value result -ℤ T.value low +ℤ pos 1) }
+    ensures no_farther { (T.value result -ℤ T.value a) ≤ℤ (T.value b -ℤ T.value result) }
+    ensures one_nearer_at_most { (T.value b -ℤ T.value result)
+        ≤ℤ (T.value result -ℤ T.value a +ℤ pos 1) }
 {
-    average_floor(low, high)
+    average_floor(a, b)
 }
 
 /// The place of the first item of a sorted slice that is at least `least`, or the length where none

@@ -10,8 +10,7 @@ use num_integer::{Fits, Integer, mod_floor};
 /// The offset rounded up to the alignment, or `None` where that is beyond the type. `align_up(13, 8)`
 /// is 16, and `align_up(-13, 8)` is -8.
 pub fn align_up<T: Fits>(offset: T, alignment: T) -> Option<T>
-    requires offset_in_range { T.fits (T.value offset) }
-    requires alignment_in_range { T.fits (T.value alignment) }
+    requires in_range { T.fits (T.value offset) × T.fits (T.value alignment) }
     requires positive { pos 0 <ℤ T.value alignment }
     ensures { MatchOption result
         ((aligned : ℤ) → IsAlignedUp (T.value offset) (T.value alignment) aligned
@@ -29,8 +28,7 @@ pub fn align_up<T: Fits>(offset: T, alignment: T) -> Option<T>
 /// How many bytes after the offset the next aligned one comes. `padding(13, 8)` is 3, and
 /// `padding(-13, 8)` is 5.
 pub fn padding<T: Integer>(offset: T, alignment: T) -> T
-    requires offset_in_range { T.fits (T.value offset) }
-    requires alignment_in_range { T.fits (T.value alignment) }
+    requires in_range { T.fits (T.value offset) × T.fits (T.value alignment) }
     requires positive { pos 0 <ℤ T.value alignment }
     ensures in_range { T.fits (T.value result) }
     ensures from_zero { pos 0 ≤ℤ T.value result }

@@ -1,19 +1,18 @@
 //! Arithmetic modulo a number above 0.
 
 ghost use Rattle.std.specs.Prelude.{◌↔◌, ◌≤◌, ◌≤ℤ◌, ◌<ℤ◌, ◌+ℤ◌, ◌-ℤ◌, ◌*ℤ◌, ℤ, pos, negsuc, IsTrue, MatchOption};
-ghost use Rattle.num_integer.specs.Congruences.{IsResidueClass, IsInverse, IsNextCongruent, IsResidue, IsReducedModulus, SolvesBothCongruences, Solves};
 ghost use Rattle.num_integer.specs.Divisors.{IsLeastCommonMultiple};
 ghost use Rattle.num_integer.specs.Only.{IsOnly};
 ghost use Rattle.num_integer.specs.Parts.{signed};
 ghost use Rattle.num_integer.specs.Range.{EachFits};
+ghost use Rattle.uses.specs.Congruences.{IsInverse, IsNextCongruent, IsReducedModulus, IsResidue, IsResidueClass, Solves, SolvesBothCongruences};
 
 use num_integer::operators::{difference, is_below, one, product, quotient, sum};
 use num_integer::{Fits, Integer, mod_floor};
 
 /// `a` modulo `m`, from 0 up. `residue(-3, 7)` is 4.
 pub fn residue<T: Integer>(a: T, m: T) -> T
-    requires a_in_range { T.fits (T.value a) }
-    requires m_in_range { T.fits (T.value m) }
+    requires in_range { T.fits (T.value a) × T.fits (T.value m) }
     requires positive { pos 0 <ℤ T.value m }
     ensures in_range { T.fits (T.value result) }
     ensures residue { IsResidue (T.value m) (T.value a) (T.value result) }
@@ -23,9 +22,7 @@ pub fn residue<T: Integer>(a: T, m: T) -> T
 
 /// `a - b` modulo `m`, from 0 up. `difference_modulo(2, 5, 7)` is 4.
 pub fn difference_modulo<T: Integer>(a: T, b: T, m: T) -> T
-    requires a_in_range { T.fits (T.value a) }
-    requires b_in_range { T.fits (T.value b) }
-    requires m_in_range { T.fits (T.value m) }
+    requires in_range { T.fits (T.value a) × T.fits (T.value b) × T.fits (T.value m) }
     requires positive { pos 0 <ℤ T.value m }
     ensures in_range { T.fits (T.value result) }
     ensures residue { IsResidue (T.value m) (T.value a -ℤ T.value b) (T.value result) }
@@ -40,9 +37,7 @@ pub fn difference_modulo<T: Integer>(a: T, b: T, m: T) -> T
 
 /// `a * b` modulo `m`, from 0 up. `product_modulo(4, 5, 7)` is 6.
 pub fn product_modulo<T: Integer>(a: T, b: T, m: T) -> T
-    requires a_in_range { T.fits (T.value a) }
-    requires b_in_range { T.fits (T.value b) }
-    requires m_in_range { T.fits (T.value m) }
+    requires in_range { T.fits (T.value a) × T.fits (T.value b) × T.fits (T.value m) }
     requires positive { pos 0 <ℤ T.value m }
     requires square_fits { T.fits (T.value m *ℤ T.value m) }
     ensures in_range { T.fits (T.value result) }
@@ -54,8 +49,7 @@ pub fn product_modulo<T: Integer>(a: T, b: T, m: T) -> T
 /// The inverse of `a` modulo `m`, or `None` where there is none. `inverse(3, 7)` is 5, and
 /// `inverse(4, 6)` is `None`.
 pub fn inverse<T: Integer>(a: T, m: T) -> Option<T>
-    requires a_in_range { T.fits (T.value a) }
-    requires m_in_range { T.fits (T.value m) }
+    requires in_range { T.fits (T.value a) × T.fits (T.value m) }
     requires negatives { T.fits (negsuc 0) }
     requires positive { pos 0 <ℤ T.value m }
     ensures { MatchOption result ((x : ℤ) → ¬ (IsInverse (T.value a) (T.value m) x))
@@ -74,9 +68,7 @@ pub fn inverse<T: Integer>(a: T, m: T) -> Option<T>
 /// to the next, or `None` where there is no such number. `solutions(6, 4, 10)` is `(4, 5)`, and
 /// `solutions(6, 3, 10)` is `None`.
 pub fn solutions<T: Integer>(a: T, b: T, m: T) -> Option<(T, T)>
-    requires a_in_range { T.fits (T.value a) }
-    requires b_in_range { T.fits (T.value b) }
-    requires m_in_range { T.fits (T.value m) }
+    requires in_range { T.fits (T.value a) × T.fits (T.value b) × T.fits (T.value m) }
     requires negatives { T.fits (negsuc 0) }
     requires positive { pos 0 <ℤ T.value m }
     requires square_fits { T.fits (T.value m *ℤ T.value m) }
@@ -89,9 +81,7 @@ pub fn solutions<T: Integer>(a: T, b: T, m: T) -> Option<(T, T)>
 
 /// [`solutions`], where the square of the step fits.
 fn solutions_by_step<T: Integer>(a: T, b: T, m: T) -> Option<(T, T)>
-    requires a_in_range { T.fits (T.value a) }
-    requires b_in_range { T.fits (T.value b) }
-    requires m_in_range { T.fits (T.value m) }
+    requires in_range { T.fits (T.value a) × T.fits (T.value b) × T.fits (T.value m) }
     requires negatives { T.fits (negsuc 0) }
     requires positive { pos 0 <ℤ T.value m }
     requires square_fits { (step : ℤ) → IsReducedModulus (T.value a) (T.value m) step
@@ -114,10 +104,8 @@ fn solutions_by_step<T: Integer>(a: T, b: T, m: T) -> Option<(T, T)>
 /// to the next, or `None` where there is no such number. `chinese_remainder(1, 4, 3, 6)` is
 /// `(9, 12)`, and `chinese_remainder(1, 4, 2, 6)` is `None`.
 pub fn chinese_remainder<T: Integer>(a: T, m: T, b: T, n: T) -> Option<(T, T)>
-    requires a_in_range { T.fits (T.value a) }
-    requires m_in_range { T.fits (T.value m) }
-    requires b_in_range { T.fits (T.value b) }
-    requires n_in_range { T.fits (T.value n) }
+    requires in_range { T.fits (T.value a) × T.fits (T.value m) × T.fits (T.value b)
+        × T.fits (T.value n) }
     requires negatives { T.fits (negsuc 0) }
     requires m_positive { pos 0 <ℤ T.value m }
     requires n_positive { pos 0 <ℤ T.value n }
@@ -137,10 +125,8 @@ pub fn chinese_remainder<T: Integer>(a: T, m: T, b: T, n: T) -> Option<(T, T)>
 
 /// [`chinese_remainder`], where `n` is at most `m`.
 fn from_greater_modulus<T: Integer>(a: T, m: T, b: T, n: T) -> Option<(T, T)>
-    requires a_in_range { T.fits (T.value a) }
-    requires m_in_range { T.fits (T.value m) }
-    requires b_in_range { T.fits (T.value b) }
-    requires n_in_range { T.fits (T.value n) }
+    requires in_range { T.fits (T.value a) × T.fits (T.value m) × T.fits (T.value b)
+        × T.fits (T.value n) }
     requires negatives { T.fits (negsuc 0) }
     requires m_positive { pos 0 <ℤ T.value m }
     requires n_positive { pos 0 <ℤ T.value n }
@@ -161,12 +147,10 @@ fn from_greater_modulus<T: Integer>(a: T, m: T, b: T, n: T) -> Option<(T, T)>
 /// The least number from `from` on that is `first` modulo `step`, or `None` where it is beyond the
 /// type. `next_congruent(10, 1, 4)` is 13.
 pub fn next_congruent<T: Fits>(from: T, first: T, step: T) -> Option<T>
-    requires from_in_range { T.fits (T.value from) }
-    requires first_in_range { T.fits (T.value first) }
-    requires step_in_range { T.fits (T.value step) }
+    requires in_range { T.fits (T.value from) × T.fits (T.value first) × T.fits (T.value step) }
     requires positive { pos 0 <ℤ T.value step }
     ensures { MatchOption result
-        ((t : ℤ) → IsNextCongruent (T.value from) (T.value first) (T.value step) t → ¬ (T.fits t))
+        ((t : ℤ) × IsNextCongruent (T.value from) (T.value first) (T.value step) t × ¬ (T.fits t))
         (λ t. T.fits (T.value t)
         × IsNextCongruent (T.value from) (T.value first) (T.value step) (T.value t)) }
 {

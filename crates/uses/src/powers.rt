@@ -1,18 +1,21 @@
 //! Squares and powers.
 
-ghost use Rattle.std.specs.Prelude.{◌≡◌, ◌≢◌, ◌↔◌, ◌%◌, ◌^◌, ◌≤◌, ◌≤ℤ◌, ◌*ℤ◌, ℕ, ℤ, pos, IsTrue};
+ghost use Rattle.std.specs.Prelude.{◌≡◌, ◌≢◌, ◌↔◌, ◌≤◌, ◌*ℤ◌, ℕ, ℤ, pos, IsTrue};
 ghost use Rattle.std.specs.Int.{int_pow};
 
-use num_integer::operators::product;
+use num_integer::operators::{is_negative, product};
 use num_integer::{Roots, nth_root, sqrt};
 use num_traits::Pow;
 
-/// Whether the number is the square of a whole number. 144 is, and 145 is not.
+/// Whether the number is the square of a whole number. 144 is, and neither 145 nor -144 is.
+#[tactic(auto, using(crate::proofs::ExactPowers::square_from_zero))]
 pub fn is_square<T: Roots>(n: T) -> bool
     requires in_range { T.fits (T.value n) }
-    requires from_zero { pos 0 ≤ℤ T.value n }
     ensures { IsTrue result ↔ ((k : ℤ) × (k *ℤ k ≡ T.value n)) }
 {
+    if is_negative(n) {
+        return false;
+    }
     let root = sqrt(n);
     product(root, root) == n
 }
@@ -22,15 +25,18 @@ pub fn is_square<T: Roots>(n: T) -> bool
 pub fn is_power<T: Roots + Pow<u32, Output = T>>(n: T, degree: u32) -> bool
     requires in_range { T.fits (T.value n) }
     requires degree { degree ≢ 0 }
-    requires from_zero_where_even { degree % 2 ≡ 0 → pos 0 ≤ℤ T.value n }
     ensures { IsTrue result ↔ ((k : ℤ) × (int_pow k degree ≡ T.value n)) }
 {
+    if degree % 2 == 0 && is_negative(n) {
+        return false;
+    }
     nth_root(n, degree).pow(degree) == n
 }
 
 /// Whether the number is a square, a cube or a higher power of a whole number. 128 is, and 72 is not.
 pub fn is_perfect_power(n: u64) -> bool
-    ensures { IsTrue result ↔ ((k : ℕ) × ((degree : ℕ) × (2 ≤ degree) × (k ^ degree ≡ n))) }
+    ensures { IsTrue result
+        ↔ ((k : ℤ) × ((degree : ℕ) × (2 ≤ degree) × (int_pow k degree ≡ pos n))) }
 {
     for degree in 2..64 {
         if is_power(n, degree) {

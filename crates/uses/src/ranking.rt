@@ -43,27 +43,6 @@ pub fn choice_of_rank(rank: u64, n: u64, choice: &mut [u64])
     }
 }
 
-/// The choice of the rank of a choice is the same choice.
-pub fn by_own_rank(choice: &[u64], n: u64, found: &mut [u64])
-    requires choice { IsChoice n choice.now }
-    requires ranks_fit { coefficient n (length choice.now) < 2 ^ 64 }
-    requires same_size { length found.old ≡ length choice.now }
-    ensures { found.new ≡ choice.now }
-{
-    choice_of_rank(rank(choice, n), n, found);
-}
-
-/// The rank of the choice of a rank is the same rank.
-pub fn of_own_choice(wanted: u64, n: u64, choice: &mut [u64]) -> u64
-    requires rank { wanted < coefficient n (length choice.old) }
-    requires ranks_fit { coefficient n (length choice.old) < 2 ^ 64 }
-    ensures rank { result ≡ wanted }
-    ensures choice { IsChoiceOfRank n (length choice.old) wanted choice.new }
-{
-    choice_of_rank(wanted, n, choice);
-    rank(choice, n)
-}
-
 /// The greatest number whose coefficient over the place is at most the limit, found by halves below
 /// the bound.
 #[tactic(auto, using(num_integer::proofs::ForCallers::none_above))]

@@ -41,12 +41,12 @@ pub fn next_meeting<T: Fits>(now: T, a: Schedule<T>, b: Schedule<T>) -> Meeting<
     ensures { MatchMeeting result
         ((t : ℤ) → ¬ (IsMeeting (T.value a.first) (T.value a.period) (T.value b.first)
         (T.value b.period) t))
-        ((t : ℤ) → IsNextMeeting (T.value now) (T.value a.first) (T.value a.period)
-        (T.value b.first) (T.value b.period) t → ¬ (T.fits t))
+        ((t : ℤ) × IsNextMeeting (T.value now) (T.value a.first) (T.value a.period)
+        (T.value b.first) (T.value b.period) t × ¬ (T.fits t))
         (λ t. T.fits (T.value t) × IsNextMeeting (T.value now) (T.value a.first)
         (T.value a.period) (T.value b.first) (T.value b.period) (T.value t)) }
 {
-    let from = later(now, later(a.first, b.first));
+    let from = maximum(now, maximum(a.first, b.first));
     match chinese_remainder(a.first, a.period, b.first, b.period) {
         Some((first, step)) => match next_congruent(from, first, step) {
             Some(time) => Meeting::At(time),
@@ -56,12 +56,11 @@ pub fn next_meeting<T: Fits>(now: T, a: Schedule<T>, b: Schedule<T>) -> Meeting<
     }
 }
 
-/// The greater of two times.
-fn later<T: Integer>(x: T, y: T) -> T
-    requires x_in_range { T.fits (T.value x) }
-    requires y_in_range { T.fits (T.value y) }
+/// The greater of two numbers.
+fn maximum<T: Integer>(x: T, y: T) -> T
+    requires in_range { T.fits (T.value x) × T.fits (T.value y) }
     ensures in_range { T.fits (T.value result) }
-    ensures later { IsMaximum (T.value x) (T.value y) (T.value result) }
+    ensures maximum { IsMaximum (T.value x) (T.value y) (T.value result) }
 {
     if is_below(x, y) { y } else { x }
 }

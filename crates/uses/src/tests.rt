@@ -1,8 +1,8 @@
 //! Worked values.
 
 mod congruences;
-mod fractions;
 mod guarded;
+mod lemmas;
 mod plain;
 mod powers;
 mod ranking;
@@ -12,7 +12,7 @@ use crate::calendar::Weekday::{Friday, Monday, Sunday, Thursday, Wednesday};
 use crate::calendar::{Weekday, weekday_of};
 use crate::halving::midpoint;
 use crate::layout::{align_up, padding};
-use crate::paging::{by_own_place, item_at, of_own_item, pages, place_of};
+use crate::paging::{item_at, pages, place_of};
 use crate::powers::is_square;
 
 const MIN: i64 = i64::MIN;
@@ -20,29 +20,25 @@ const MIN: i64 = i64::MIN;
 const MAX: i64 = i64::MAX;
 
 /// Items, the size of a page, the pages, and page and place of the item of that number.
-const ITEMS: [(i64, i64, i64, (i64, i64)); 6] = [
+const ITEMS: [(i64, i64, i64, (i64, i64)); 7] = [
     (10, 4, 3, (2, 2)),
     (8, 4, 2, (2, 0)),
     (0, 4, 0, (0, 0)),
     (MAX, 2, 4611686018427387904, (4611686018427387903, 1)),
     (-3, 2, -1, (-2, 1)),
     (-1, 4, 0, (-1, 3)),
+    (-9, 4, -2, (-3, 3)),
 ];
 
 #[test]
 fn paging(rt: HostRuntime) {
     for (items, page_size, count, place) in ITEMS {
-        assert!(rt;
-            page_size > 0 && pages(items, page_size) == count,
-            "{items} {page_size}"
-        );
-        assert!(rt;
-            page_size > 0 && place_of(items, page_size) == place,
-            "{items} {page_size}"
-        );
+        assert!(rt; page_size > 0, "{page_size}");
+        assert!(rt; pages(items, page_size) == count, "{items} {page_size}");
+        assert!(rt; place_of(items, page_size) == place, "{items} {page_size}");
     }
-    assert!(rt; pages(10u8, 4) == 3 && item_at(2u8, 2, 4) == 10);
-    assert!(rt; by_own_place(255u8, 16) == 255 && of_own_item(15u8, 15, 16) == (15, 15));
+    assert!(rt; pages(10u8, 4) == 3 && item_at(2u8, 2, 4) == 10 && item_at(15u8, 15, 16) == 255);
+    assert!(rt; item_at(-1i64, 3, 4) == -1 && item_at(-2i8, 99, 100) == -101);
 }
 
 /// An offset, an alignment, the aligned offset and the padding.
@@ -89,8 +85,8 @@ fn calendar(rt: HostRuntime) {
     }
 }
 
-/// A range and its middle.
-const RANGES: [(i64, i64, i64); 5] = [
+/// Two numbers and their middle.
+const MIDDLES: [(i64, i64, i64); 5] = [
     (2, 5, 3),
     (-5, -2, -4),
     (MAX - 1, MAX, MAX - 1),
@@ -110,10 +106,10 @@ const SQUARES: [(u64, bool); 6] = [
 
 #[test]
 fn middles_and_squares(rt: HostRuntime) {
-    for (low, high, middle) in RANGES {
+    for (a, b, middle) in MIDDLES {
         assert!(rt;
-            low <= high && midpoint(low, high) == middle,
-            "{low} {high}"
+            midpoint(a, b) == middle && midpoint(b, a) == middle,
+            "{a} {b}"
         );
     }
     for (n, square) in SQUARES {

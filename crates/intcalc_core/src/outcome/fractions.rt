@@ -12,14 +12,14 @@ use crate::calls::{Answer, Refusal};
 use crate::outcome::operand::needs;
 use ratio64::{Ratio, RatioError};
 
-pub(crate) fn sum(a: i64, b: i64, c: i64, d: i64) -> Result<Answer, Refusal>
+pub(crate) fn ratio_add(a: i64, b: i64, c: i64, d: i64) -> Result<Answer, Refusal>
     ensures { NeedsFractions a b c d (AnswersExact (a *ℤ d +ℤ c *ℤ b) (b *ℤ d)) result }
 {
     let (x, y) = fractions(a, b, c, d)?;
     parts(x.checked_add(&y))
 }
 
-pub(crate) fn product(a: i64, b: i64, c: i64, d: i64) -> Result<Answer, Refusal>
+pub(crate) fn ratio_mul(a: i64, b: i64, c: i64, d: i64) -> Result<Answer, Refusal>
     ensures { NeedsFractions a b c d (AnswersExact (a *ℤ c) (b *ℤ d)) result }
 {
     let (x, y) = fractions(a, b, c, d)?;

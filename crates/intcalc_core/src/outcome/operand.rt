@@ -44,7 +44,9 @@ pub(crate) fn two<T: Operand>(pair: (T, T)) -> Answer
 }
 
 pub(crate) fn three<T: Operand>(x: T, y: T, z: T) -> Answer
-    requires in_range { T.fits (T.value x) × T.fits (T.value y) × T.fits (T.value z) }
+    requires x_in_range { T.fits (T.value x) }
+    requires y_in_range { T.fits (T.value y) }
+    requires z_in_range { T.fits (T.value z) }
     ensures { result ≡ answers.Three (T.value x) (T.value y) (T.value z) }
 {
     Answer::Three(widen(x), widen(y), widen(z))

@@ -1,10 +1,10 @@
 //! What callers learn of the calls from their contracts alone, each said by a contract of its own.
 
-ghost use Rattle.std.specs.Prelude.{◌≡◌, ◌↔◌, ◌<ℤ◌, ◌+ℤ◌, ◌*ℤ◌, IsTrue, MatchOption};
+ghost use Rattle.std.specs.Prelude.{◌≡◌, ◌≢◌, ◌↔◌, ◌<ℤ◌, ◌+ℤ◌, ◌*ℤ◌, pos, IfOk, IsTrue, MatchOption};
 ghost use Rattle.ratio64.specs.Fraction.{AreEqual, IsExact, IsFraction, IsReduced, IsOutsideI64, fraction_cmp};
 ghost use Rattle.ratio64.specs.Ratio.{num_of, den_of};
 
-use crate::Ratio;
+use crate::{Ratio, RatioError};
 use std::cmp::Ordering;
 use std::hash::{Hash, Hasher};
 
@@ -31,6 +31,31 @@ fn parts_of_sum(x: &Ratio, y: &Ratio) -> Option<(i64, i64)>
         Ok(sum) => Some((sum.num(), sum.den())),
         Err(_) => None,
     }
+}
+
+/// One of `parts` equal parts of 1, which is never refused.
+fn one_of(parts: u32) -> Ratio
+    requires { parts ≢ 0 }
+    ensures { IsExact (pos 1) (pos parts) (num_of result) (den_of result) }
+{
+    Ratio::new(1, i64::from(parts)).unwrap()
+}
+
+/// The number as a fraction, which is never refused.
+fn whole(number: i64) -> Ratio
+    ensures num { num_of result ≡ number }
+    ensures den { den_of result ≡ pos 1 }
+{
+    Ratio::new(number, 1).unwrap()
+}
+
+/// The sum of the fractions `a / b` and `c / d`, where both fit.
+fn sum_of_given(a: i64, b: i64, c: i64, d: i64) -> Result<Ratio, RatioError>
+    requires first { IsFraction a b }
+    requires second { IsFraction c d }
+    ensures { IfOk result (λ x. IsExact (a *ℤ d +ℤ c *ℤ b) (b *ℤ d) (num_of x) (den_of x)) }
+{
+    Ratio::new(a, b)?.checked_add(&Ratio::new(c, d)?)
 }
 
 /// Each value is reduced.

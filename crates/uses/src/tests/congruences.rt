@@ -56,7 +56,7 @@ fn single_congruences(rt: HostRuntime) {
     assert!(rt; solutions(0i8, 1, 5) == None && solutions(5i8, 0, 1) == Some((0, 1)));
 }
 
-/// Numbers, each with a modulus, and the numbers that meet both.
+/// Numbers, each with a modulus, and the numbers that solve both congruences.
 type Row = ((i64, i64), (i64, i64), Option<(i64, i64)>);
 
 const BOTH: [Row; 7] = [

@@ -5,11 +5,13 @@ use crate::powers::{is_perfect_power, is_power, is_square};
 #[test]
 fn squares(rt: HostRuntime) {
     assert!(rt; is_square(121i8) && !is_square(127i8) && !is_square(2u8) && is_square(225u8));
+    assert!(rt; !is_square(-121i8) && !is_square(i64::MIN));
 }
 
 #[test]
 fn powers_of_a_degree(rt: HostRuntime) {
     assert!(rt; is_power(243u8, 5) && !is_power(243u8, 4) && !is_power(244u8, 5));
+    assert!(rt; !is_power(-16i8, 4) && !is_power(i64::MIN, 2) && !is_power(-1i64, u32::MAX - 1));
     assert!(rt; is_power(-243i16, 5) && !is_power(-244i16, 5) && is_power(-128i8, 7));
     assert!(rt; is_power(i64::MIN, 63) && !is_power(i64::MAX, 63) && is_power(-7i32, 1));
     assert!(rt; is_power(1u64, u32::MAX) && is_power(0u32, 64) && is_power(-1i64, u32::MAX));

@@ -1,6 +1,6 @@
 //! Worked ranks and choices.
 
-use crate::ranking::{by_own_rank, choice_of_rank, of_own_choice, rank};
+use crate::ranking::{choice_of_rank, rank};
 use num_integer::{Fits, binomial};
 use std::process::Abort;
 
@@ -32,9 +32,6 @@ fn each_rank(rt: HostRuntime) {
         let mut choice = [0; 3];
         choice_of_rank(i as u64, 5, &mut choice);
         assert!(rt; choice == *numbers && rank(&choice, 5) == i as u64, "{i}");
-        let mut found = [0; 3];
-        by_own_rank(&choice, 5, &mut found);
-        assert!(rt; found == *numbers, "{i}");
     }
 }
 
@@ -42,7 +39,8 @@ fn each_rank(rt: HostRuntime) {
 fn fill(rt: &impl Abort, wanted: u64, n: u64, choice: &mut [u64]) {
     let k = choice.len() as u64;
     assert!(rt; n.binomial_fits(&k) && wanted < binomial(n, k));
-    assert!(rt; of_own_choice(wanted, n, choice) == wanted);
+    choice_of_rank(wanted, n, choice);
+    assert!(rt; rank(choice, n) == wanted);
 }
 
 #[test]

@@ -7,7 +7,6 @@ abbrev pub invariant-loop-rest : goal.invariant-loop-rest
 invariant-loop-rest l = record {
   size : length l.text ≡ 39;
   within : l.start ≤ 39;
-  room : length (decimal l.rest) ≤ l.start;
   digits : decimal l.rest ++ drop l.start l.text ≡ decimal l.n;
 }
 

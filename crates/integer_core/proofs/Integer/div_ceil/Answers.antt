@@ -8,10 +8,10 @@ div_mod_floor-q-requires-clause-quotient_fits g c =
 
 pub successor-requires-clause-sum_fits : goal.successor-requires-clause-sum_fits
 successor-requires-clause-sum_fits g c =
-    let inexact = iff_false (c.is_zero.ensures.value g.met.Self.Integer.exact_law) c.if-is_zero.false in
+    let inexact = iff_false c.is_zero.ensures c.if-is_zero.false in
     c.requires.quotient_fits _ (record { remainder = _; division = ceiled_above c.div_mod_floor-q.ensures.floored inexact })
 
 pub returns-else-is_zero-clause-ceiled : goal.returns-else-is_zero-clause-ceiled
 returns-else-is_zero-clause-ceiled g c =
-    let inexact = iff_false (c.is_zero.ensures.value g.met.Self.Integer.exact_law) c.if-is_zero.false in
+    let inexact = iff_false c.is_zero.ensures c.if-is_zero.false in
     rw c.successor.ensures.value (record { remainder = _; division = ceiled_above c.div_mod_floor-q.ensures.floored inexact })

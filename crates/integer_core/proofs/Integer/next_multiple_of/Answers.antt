@@ -7,14 +7,14 @@ difference-requires-clause-difference_fits g c = gap_fits g.met.Self.Integer.ran
 
 pub sum-requires-clause-sum_fits : goal.sum-requires-clause-sum_fits
 sum-requires-clause-sum_fits g c =
-    let inexact = iff_false (c.is_zero.ensures.value g.met.Self.Integer.exact_law) c.if-is_zero.false in
+    let inexact = iff_false c.is_zero.ensures c.if-is_zero.false in
     rw c.difference.ensures.value (c.requires.multiple_fits _ (next_above c.mod_floor-m.ensures.floored.division inexact))
 
 pub returns-else-is_zero-clause-multiple : goal.returns-else-is_zero-clause-multiple
 returns-else-is_zero-clause-multiple g c =
-    let inexact = iff_false (c.is_zero.ensures.value g.met.Self.Integer.exact_law) c.if-is_zero.false in
+    let inexact = iff_false c.is_zero.ensures c.if-is_zero.false in
     rw (c.sum.ensures.value, c.difference.ensures.value) (next_above c.mod_floor-m.ensures.floored.division inexact)
 
 pub returns-then-is_zero-clause-multiple : goal.returns-then-is_zero-clause-multiple
 returns-then-is_zero-clause-multiple g c =
-    next_exact c.mod_floor-m.ensures.floored.division ((c.is_zero.ensures.value g.met.Self.Integer.exact_law).0 c.if-is_zero.true)
+    next_exact c.mod_floor-m.ensures.floored.division (c.is_zero.ensures.0 c.if-is_zero.true)

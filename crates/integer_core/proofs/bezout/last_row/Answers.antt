@@ -10,8 +10,7 @@ use Rattle.integer_core.proofs.bezout.last_row.Goals as goal
 pub rows-init : goal.rows-init
 rows-init g c =
     let first = c.of_first-previous.ensures in
-    let second = c.of_second-current.ensures in
-    rw (first.remainder, first.x, first.y, second.remainder, second.x, second.y)
+    rw (first.remainder, first.x, first.y, c.zero.ensures.value, c.one.ensures.value)
     (rows_fit_first g.met.T.Integer.range_law c.requires.a_in_range c.requires.b_in_range c.requires.nonzero c.requires.has_pair)
 
 pub div_rem-requires-clause-quotient_fits : goal.div_rem-requires-clause-quotient_fits

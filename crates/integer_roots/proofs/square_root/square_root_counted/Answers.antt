@@ -1,28 +1,30 @@
-use Rattle.std.proofs.Common.{arith, ◌%◌, ◌*◌, ◌+◌, ◌/◌, ◌^◌}
-use Rattle.std.proofs.lemmas.Nat.{one_shl}
-use Rattle.integer_roots.proofs.SquareGuesses.{IsStart, start, near_root, ended_at_root, turns_of_run}
+use Rattle.std.proofs.Common.{arith, ◌%◌, ◌*◌, ◌^◌}
+use Rattle.integer_roots.specs.SquareRuns.{first_guess}
+use Rattle.integer_roots.proofs.RootGuesses.{in_range, ended_at_root}
+use Rattle.integer_roots.proofs.SquareGuesses.{IsSquareStart, square_start, near_root, turns_of_run}
 use Rattle.integer_roots.proofs.square_root.square_root_counted.Goals as goal
 use Rattle.integer_roots.proofs.square_root.square_root_counted.Goals.{After-ilog2}
 
-first : (c : After-ilog2) → IsStart c.args.a (1 * 2 ^ ((c.ilog2.result + 1) / 2) % 2 ^ 64)
+first : (c : After-ilog2) → IsSquareStart c.args.a (1 * first_guess c.ilog2.result % 2 ^ 64)
 first c =
     let b = c.ilog2.ensures in
-    start (one_shl _ 64 (omega arith)) (omega arith) (omega arith) b.bound b.power_le b.next_power_gt
+    square_start c.args.a c.ilog2.result (omega arith) (omega arith) b.bound b.power_le b.next_power_gt
 
 pub newton-requires : goal.newton-requires
-newton-requires c = record {
-  may_step = λ guess n reached. let near = near_root (first c) reached in (near.above_one, near.small);
-  turns_fit = λ guess n reached. let near = near_root (first c) reached in omega (arith, near.bound);
-}
+newton-requires c =
+    let s = first c in
+    record {
+      may_step = λ guess n reached. let range = in_range s.start reached in (range.above_one, omega (arith, range.small));
+      turns_fit = λ guess n reached. let near = near_root s reached in omega (arith, near.bound);
+    }
 
 pub returns : goal.returns
 returns c =
-    let start = first (goal.at.returns c).After-ilog2 in
+    let s = first (goal.at.returns c).After-ilog2 in
     let reached = c.newton.ensures.reached in
     let ended = c.newton.ensures.ended in
-    let near = near_root start reached in
     record {
-      root = ended_at_root start reached ended.1 ended.2;
-      turns = turns_of_run start reached ended.1 ended.2;
-      bound = near.bound;
+      root = ended_at_root s.start reached ended.1 ended.2;
+      turns = turns_of_run s reached ended.1 ended.2;
+      bound = (near_root s reached).bound;
     }

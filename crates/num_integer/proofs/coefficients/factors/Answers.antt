@@ -1,8 +1,7 @@
-use Rattle.std.specs.Prelude.{◌<ℤ◌, pos}
 use Rattle.std.proofs.Common.{arith}
 use Rattle.integer_core.proofs.Whole.{linear}
-use Rattle.num_integer.proofs.Cancelling.{cancelled, g_above, g_below, rest_above}
-use Rattle.num_integer.proofs.Ranges.{fits_below}
+use Rattle.num_integer.proofs.Steps.{cancelled, g_above, g_below, rest_above}
+use Rattle.num_integer.proofs.FittingAnswers.{fits_below}
 use Rattle.num_integer.proofs.coefficients.factors.Goals as goal
 
 pub gcd-g-requires-clause-gcd_fits : goal.gcd-g-requires-clause-gcd_fits
@@ -17,15 +16,11 @@ quotient-requires-2-clause-quotient_fits g c =
     (g.met.T.Num.positive_divisor_law _ _ g.met.T.Integer.exact_law c.requires.b_in_range c.gcd-g.ensures.in_range (g_above c.requires.b_positive c.gcd-g.ensures.greatest)).1
 
 pub quotient-requires-3-clause-nonzero : goal.quotient-requires-3-clause-nonzero
-quotient-requires-3-clause-nonzero g c =
-    let above = rest_above c.requires.b_positive c.gcd-g.ensures.greatest in
-    let value = c.quotient-2.ensures.value in
-    λ e. absurd (omega (arith, linear))
+quotient-requires-3-clause-nonzero g c = λ e. absurd (omega (arith, linear, rest_above c.requires.b_positive c.gcd-g.ensures.greatest c.quotient-2.ensures.value))
 
 pub quotient-requires-3-clause-quotient_fits : goal.quotient-requires-3-clause-quotient_fits
 quotient-requires-3-clause-quotient_fits g c =
-    let above : pos 0 <ℤ g.T.Number.value c.quotient-2.result = rw c.quotient-2.ensures.value (rest_above c.requires.b_positive c.gcd-g.ensures.greatest) in
-    (g.met.T.Num.positive_divisor_law _ _ g.met.T.Integer.exact_law c.requires.a_in_range c.quotient-2.ensures.in_range above).1
+    (g.met.T.Num.positive_divisor_law _ _ g.met.T.Integer.exact_law c.requires.a_in_range c.quotient-2.ensures.in_range (rest_above c.requires.b_positive c.gcd-g.ensures.greatest c.quotient-2.ensures.value)).1
 
 pub returns-clause-product : goal.returns-clause-product
 returns-clause-product g c =

@@ -1,19 +1,13 @@
-use Rattle.num_integer.proofs.MultinomialTurns.{multinomial_first, multinomial_last, multinomial_next}
+use Rattle.num_integer.proofs.Multinomials.{multinomial_last, multinomial_next}
 use Rattle.num_integer.proofs.coefficients.multinomial.Goals as goal
-
-pub loop-count-init : goal.loop-count-init
-loop-count-init g c =
-    multinomial_first g.met.T.Integer.range_law c.requires.multinomial_fits c.one-multinomial.ensures.in_range c.one-multinomial.ensures.value c.zero-total.ensures.in_range c.zero-total.ensures.value
 
 pub sum-total-requires-clause-sum_fits : goal.sum-total-requires-clause-sum_fits
 sum-total-requires-clause-sum_fits g c =
-    let next = multinomial_next g.met.T.Integer.range_law c.requires.multinomial_fits c.loop-count-test.true c.count-item.is c.requires.counts_in_range c.requires.counts_from_zero c.loop-count.invariant in
-    next.1.total_in_range
+    (multinomial_next g.met.T.Integer.range_law c.requires.multinomial_fits c.loop-count-test.true c.count-item.is c.requires.counts_in_range c.requires.counts_from_zero c.loop-count.invariant).1.total_in_range
 
 pub binomial-requires-clause-coefficient_fits : goal.binomial-requires-clause-coefficient_fits
 binomial-requires-clause-coefficient_fits g c =
-    let next = multinomial_next g.met.T.Integer.range_law c.requires.multinomial_fits c.loop-count-test.true c.count-item.is c.requires.counts_in_range c.requires.counts_from_zero c.loop-count.invariant in
-    rw c.sum-total.ensures.value next.0
+    rw c.sum-total.ensures.value (multinomial_next g.met.T.Integer.range_law c.requires.multinomial_fits c.loop-count-test.true c.count-item.is c.requires.counts_in_range c.requires.counts_from_zero c.loop-count.invariant).0
 
 pub product-multinomial-requires-clause-product_fits : goal.product-multinomial-requires-clause-product_fits
 product-multinomial-requires-clause-product_fits g c =

@@ -1,4 +1,4 @@
-use Rattle.num_integer.proofs.MultinomialTurns.{IsMultinomialSoFar}
+use Rattle.num_integer.proofs.Multinomials.{IsMultinomialSoFar}
 use Rattle.num_integer.proofs.coefficients.multinomial.Given as goal
 
 abbrev pub invariant-loop-count : goal.invariant-loop-count

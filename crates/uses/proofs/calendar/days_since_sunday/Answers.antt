@@ -2,8 +2,8 @@ use Rattle.std.specs.Prelude.{◌+ℤ◌, pos, FitsSigned}
 use Rattle.std.specs.Int.{w64}
 use Rattle.std.proofs.Common.{arith}
 use Rattle.std.proofs.lemmas.Int.{ints, to_z-of_z}
-use Rattle.num_integer.proofs.Congruences.{congruent-refl, congruent-sum, residue_of_congruent}
-use Rattle.num_integer.specs.Congruences.{IsResidue}
+use Rattle.uses.proofs.Congruences.{congruent-refl, congruent-sum, residue_of_congruent}
+use Rattle.uses.specs.Congruences.{IsResidue}
 use Rattle.uses.proofs.calendar.days_since_sunday.Goals as goal
 
 pub returns : goal.returns

@@ -1,11 +1,11 @@
-use Rattle.num_integer.proofs.Congruences.{both_fit, both_found, no_meeting, step_square_fits_lcm}
+use Rattle.uses.proofs.Congruences.{both_fit, both_found, none_solves_both, reduced_square_fits_lcm}
 use Rattle.uses.proofs.modular.from_greater_modulus.Goals as goal
 
 pub solutions_by_step-requires-clause-square_fits : goal.solutions_by_step-requires-clause-square_fits
-solutions_by_step-requires-clause-square_fits g c = λ step h. step_square_fits_lcm g.met.T.Integer.range_law c.requires.lcm_fits c.requires.n_positive c.requires.greater h
+solutions_by_step-requires-clause-square_fits g c = λ step h. reduced_square_fits_lcm g.met.T.Integer.range_law c.requires.lcm_fits c.requires.n_positive c.requires.greater h
 
 pub returns-in_err-turns : goal.returns-in_err-turns
-returns-in_err-turns g c = rw c.from_residual.ensures (no_meeting c.residue-start.ensures.residue c.difference_modulo-gap.ensures.residue c.in_err-turns.ensures)
+returns-in_err-turns g c = rw c.from_residual.ensures (none_solves_both c.residue-start.ensures.residue c.difference_modulo-gap.ensures.residue c.in_err-turns.ensures)
 
 pub product-requires-clause-product_fits : goal.product-requires-clause-product_fits
 product-requires-clause-product_fits g c =

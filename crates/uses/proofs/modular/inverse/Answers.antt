@@ -1,10 +1,10 @@
 use Rattle.std.proofs.Common.{◌∙◌, sym}
-use Rattle.num_integer.proofs.Congruences.{inverse_found, no_inverse}
+use Rattle.uses.proofs.Congruences.{inverse_found, no_inverse}
 use Rattle.num_integer.proofs.ForCallers.{gcd_with_positive_fits}
 use Rattle.uses.proofs.modular.inverse.Goals as goal
 
 pub extended_gcd-answer-requires-clause-gcd_fits : goal.extended_gcd-answer-requires-clause-gcd_fits
-extended_gcd-answer-requires-clause-gcd_fits g c = λ _ z. gcd_with_positive_fits g.met.T.Integer.range_law c.requires.m_in_range c.requires.positive
+extended_gcd-answer-requires-clause-gcd_fits g c = λ _ z. gcd_with_positive_fits g.met.T.Integer.range_law c.requires.in_range.1 c.requires.positive
 
 pub returns-then-eq : goal.returns-then-eq
 returns-then-eq g c =

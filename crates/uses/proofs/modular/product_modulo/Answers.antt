@@ -1,4 +1,4 @@
-use Rattle.num_integer.proofs.Congruences.{residue_of_product, residue_product_fits}
+use Rattle.uses.proofs.Congruences.{residue_of_product, residue_product_fits}
 use Rattle.uses.proofs.modular.product_modulo.Goals as goal
 
 pub product-requires-clause-product_fits : goal.product-requires-clause-product_fits

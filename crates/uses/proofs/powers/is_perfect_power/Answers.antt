@@ -1,7 +1,7 @@
-use Rattle.std.specs.Prelude.{◌≡◌, pos, unsigned_abs}
-use Rattle.std.proofs.Common.{arith, ap, inl, inr, refl}
+use Rattle.std.specs.Prelude.{◌≡◌}
+use Rattle.std.proofs.Common.{arith, inl, inr, refl}
 use Rattle.std.proofs.lemmas.Bool.{cases_lt}
-use Rattle.uses.proofs.HighPowers.{high_power_is_square, size_of_base}
+use Rattle.uses.proofs.ExactPowers.{high_power_is_square}
 use Rattle.uses.proofs.powers.is_perfect_power.Goals as goal
 
 pub loop-degree-preserved : goal.loop-degree-preserved
@@ -9,14 +9,14 @@ loop-degree-preserved c = λ d k two below e. elim (cases_lt d c.loop-degree.deg
   | inl lower ↦ c.loop-degree.invariant d k two lower e
   | inr same ↦
       let this : d ≡ c.loop-degree.degree = omega arith in
-      let impossible = c.if-is_power.ensures.1 (pos k, ap pos (rw this at e)) in
+      let impossible = c.if-is_power.ensures.1 (k, rw this at e) in
       absurd cc
 ]
 
 pub returns-then-is_power : goal.returns-then-is_power
 returns-then-is_power c =
     let power = c.if-is_power.ensures.0 refl in
-    (λ _. (unsigned_abs power.0, (c.loop-degree.degree, c.loop-degree.auto.degree, size_of_base power.0 _ _ power.1)), λ _. refl)
+    (λ _. (power.0, (c.loop-degree.degree, c.loop-degree.auto.degree, power.1)), λ _. refl)
 
 pub returns : goal.returns
 returns c = (

@@ -1,5 +1,6 @@
 use Rattle.std.proofs.Common.{◌∙◌, sym}
-use Rattle.num_integer.proofs.ForCallers.{power_of_root_of_power, power_of_root_within, within_fits}
+use Rattle.num_integer.proofs.ForCallers.{within_fits}
+use Rattle.uses.proofs.ExactPowers.{power_of_root_of_power, power_of_root_within}
 use Rattle.uses.proofs.powers.is_power.Goals as goal
 
 pub pow-requires : goal.pow-requires

@@ -1,4 +1,4 @@
-use Rattle.num_integer.proofs.CommonDomain.{gcd_of_zero, gcd_of_nonzero}
+use Rattle.num_integer.proofs.FittingAnswers.{gcd_of_zero, gcd_of_nonzero}
 use Rattle.num_integer.proofs.domains.Fits.gcd_fits.Goals as goal
 
 pub returns-then-b-eq0 : goal.returns-then-b-eq0

@@ -1,7 +1,6 @@
 use Rattle.std.proofs.Common.{arith}
 use Rattle.std.proofs.lemmas.Int.{ints}
-use Rattle.num_integer.proofs.CommonDomain.{lcm_domain}
-use Rattle.num_integer.proofs.Ranges.{fits_up, test_up}
+use Rattle.num_integer.proofs.FittingAnswers.{lcm_domain, fits_up, test_up}
 use Rattle.num_integer.proofs.domains.Fits.lcm_fits.Goals as goal
 
 pub returns-in-Some : goal.returns-in-Some

@@ -1,4 +1,4 @@
-use Rattle.num_integer.proofs.CoefficientDomain.{IsWithinSoFar}
+use Rattle.num_integer.proofs.Multinomials.{IsWithinSoFar}
 use Rattle.num_integer.proofs.domains.Fits.multinomial_fits.Given as goal
 
 abbrev pub invariant-loop-count : goal.invariant-loop-count

@@ -1,8 +1,7 @@
 use Rattle.std.proofs.Common.{refl}
 use Rattle.std.proofs.lemmas.Bool.{iff_false}
 use Rattle.integer_core.proofs.Multiples.{gap_fits, next_above, next_exact}
-use Rattle.num_integer.proofs.DivisionKinds.{ceiled}
-use Rattle.num_integer.proofs.MultipleDomain.{multiple_domain, parts_inside, signed_is, test_inside}
+use Rattle.num_integer.proofs.FittingAnswers.{ceiled, multiple_domain, parts_inside, signed_is, test_inside}
 use Rattle.num_integer.proofs.domains.Fits.next_multiple_fits.Goals as goal
 
 pub returns-then-is_zero-2 : goal.returns-then-is_zero-2

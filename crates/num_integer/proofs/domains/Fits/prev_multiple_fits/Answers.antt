@@ -1,12 +1,7 @@
 use Rattle.std.proofs.lemmas.Bool.{iff_false}
 use Rattle.integer_core.proofs.Multiples.{previous}
-use Rattle.num_integer.proofs.DivisionKinds.{floored}
-use Rattle.num_integer.proofs.MultipleDomain.{multiple_domain, parts_inside, signed_is, signed-not, test_inside}
+use Rattle.num_integer.proofs.FittingAnswers.{floored, multiple_domain, signed_is, signed-not, test_inside}
 use Rattle.num_integer.proofs.domains.Fits.prev_multiple_fits.Goals as goal
-
-pub sum_is_within-requires-clause-within : goal.sum_is_within-requires-clause-within
-sum_is_within-requires-clause-within g c =
-    parts_inside g.met.Self.Integer.range_law c.ends.ensures.low c.ends.ensures.high c.parts.ensures.negative c.parts.ensures.magnitude c.requires.self_in_range
 
 pub returns : goal.returns
 returns g c =

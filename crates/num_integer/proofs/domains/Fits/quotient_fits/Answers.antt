@@ -1,7 +1,6 @@
 use Rattle.std.specs.Prelude.{◌≡◌, ◌≢◌, ◌⊎◌, false}
-use Rattle.std.proofs.Common.{inl, inr}
-use Rattle.num_integer.proofs.DivisionKinds.{each_kind}
-use Rattle.num_integer.proofs.QuotientDomain.{by_minus_one, by_other, minus_one, not_minus_one, nonzero}
+use Rattle.std.proofs.Common.{inl, inr, refl}
+use Rattle.num_integer.proofs.FittingAnswers.{each_kind, by_minus_one, by_other, minus_one, not_minus_one}
 use Rattle.num_integer.proofs.domains.Fits.quotient_fits.Goals as goal
 use Rattle.num_integer.proofs.domains.Fits.quotient_fits.Goals.{else-negative-via-then-negative+else-magnitude-eq1, else-negative-via-else-negative}
 
@@ -18,4 +17,4 @@ returns-else-negative g c =
       | else-negative-via-then-negative+else-magnitude-eq1 w ↦ inl w.if-magnitude-eq1.false
       | else-negative-via-else-negative w ↦ inr w.if-negative.false
     ] in
-    each_kind (λ Kind kind. by_other kind g.met.Self.Integer.range_law c.requires.self_in_range c.requires.other_in_range (nonzero c.if-magnitude-eq0.false d.magnitude) (not_minus_one other d.negative d.magnitude))
+    each_kind (λ Kind kind. by_other kind g.met.Self.Integer.range_law c.requires.self_in_range c.requires.other_in_range (λ e. c.if-magnitude-eq0.false (rw (d.magnitude, e) refl)) (not_minus_one other d.negative d.magnitude))

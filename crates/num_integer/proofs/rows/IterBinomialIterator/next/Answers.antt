@@ -1,29 +1,18 @@
-use Rattle.std.proofs.Common.{sym, ◌∙◌}
-use Rattle.std.proofs.lemmas.Bool.{iff_false}
-use Rattle.integer_core.proofs.Signs.{from_not_less}
-use Rattle.num_integer.proofs.RowLemmas.{fewer_from_first, item_fits, place_fits, rest_next, rest_none}
+use Rattle.std.proofs.Common.{arith, ap, length, sym, ◌∙◌}
+use Rattle.num_integer.proofs.FittingAnswers.{from_test}
+use Rattle.num_integer.proofs.Steps.{item_fits, place_fits, rest_next}
 use Rattle.num_integer.proofs.rows.IterBinomialIterator.next.Goals as goal
-
-pub returns-then-is_below-clause-steps : goal.returns-then-is_below-clause-steps
-returns-then-is_below-clause-steps g c =
-    let none = sym c.self.view_is ∙ rest_none _ _ c.self.invariant.k_from_zero (c.is_below.ensures.0 c.if-is_below.true) in
-    (none, none)
 
 pub item_after-self-inside-requires-clause-next_fits : goal.item_after-self-inside-requires-clause-next_fits
 item_after-self-inside-requires-clause-next_fits g c = item_fits g.met.T.Integer.range_law c.self.invariant
 
 pub successor-self-inside-requires-clause-sum_fits : goal.successor-self-inside-requires-clause-sum_fits
-successor-self-inside-requires-clause-sum_fits g c =
-    place_fits g.met.T.Integer.range_law c.self.invariant (from_not_less (iff_false c.is_below.ensures c.if-is_below.false))
+successor-self-inside-requires-clause-sum_fits g c = place_fits g.met.T.Integer.range_law c.self.invariant (from_test c.is_below.ensures c.if-is_below.false)
 
 pub returns-clause-steps : goal.returns-clause-steps
 returns-clause-steps g c =
-    let within = from_not_less (iff_false c.is_below.ensures c.if-is_below.false) in
+    let within = from_test c.is_below.ensures c.if-is_below.false in
     sym c.self.view_is ∙ rw (c.successor-self-inside.ensures.value, c.self.invariant.item_is within) (rest_next _ _ c.self.invariant.k_from_zero within)
 
 pub returns-clause-goes : goal.returns-clause-goes
-returns-clause-goes g c = record {
-  on = λ _. (tt, tt, fewer_from_first _ _ _ (returns-clause-steps g c));
-  keeps = tt;
-  rests = λ _. tt;
-}
+returns-clause-goes g c = record { on = λ _. let fewer = ap length (returns-clause-steps g c) in (tt, tt, omega arith); keeps = tt; rests = λ _. tt }

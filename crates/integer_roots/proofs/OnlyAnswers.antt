@@ -1,0 +1,61 @@
+-- Each answer is the only number that meets its definition.
+use Rattle.std.specs.Prelude.{◌≡◌, ◌≤ℤ◌, ℤ, pos, negsuc}
+use Rattle.std.proofs.Common.{ℕ, ◌+◌, arith, sym, ◌∙◌}
+use Rattle.std.proofs.lemmas.Int.{ints, by_lt_z}
+use Rattle.integer_core.specs.Only.{IsOnly}
+use Rattle.integer_core.proofs.Runs.{only_turns}
+use Rattle.integer_core.proofs.Whole.{linear, products}
+use Rattle.integer_roots.specs.Averages.{IsAverageFloor, IsAverageCeil}
+use Rattle.integer_roots.specs.RootOf.{IsFloorRoot, IsRoot}
+use Rattle.integer_roots.specs.SquareRuns.{Guess, Rising, Falling, IsNewtonTurn, NewtonEnds, MakesNewtonRun, AreSquareRootTurns}
+use Rattle.integer_roots.proofs.Powers.{base_below, highest_bit}
+
+pub average_floor_is_only_one : {a b f : ℤ} → IsAverageFloor a b f → IsOnly (IsAverageFloor a b) f
+average_floor_is_only_one h g k = omega (arith, products, h.double_le, h.next_double_gt, k.double_le, k.next_double_gt)
+
+pub average_ceil_is_only_one : {a b c : ℤ} → IsAverageCeil a b c → IsOnly (IsAverageCeil a b) c
+average_ceil_is_only_one h d k = omega (arith, products, h.previous_double_lt, h.double_ge, k.previous_double_lt, k.double_ge)
+
+floor_root_at_most : (x : ℤ) (n : ℕ) (r s : ℤ) → IsFloorRoot x n r → IsFloorRoot x n s → r ≤ℤ s
+floor_root_at_most x n (pos i) (pos j) h k =
+    omega (arith, ints, base_below i (j + 1) n (omega (arith, linear, h.power_le, k.next_power_gt)))
+floor_root_at_most x n (negsuc i) s h k = absurd (omega (arith, ints, h.from_zero))
+floor_root_at_most x n (pos i) (negsuc j) h k = absurd (omega (arith, ints, k.from_zero))
+
+floor_root_is_only_one : {x r : ℤ} {n : ℕ} → IsFloorRoot x n r → IsOnly (IsFloorRoot x n) r
+floor_root_is_only_one {x} {r} {n} h s k =
+    omega (arith, linear, floor_root_at_most x n r s h k, floor_root_at_most x n s r k h)
+
+pub root_is_only_one : {x r : ℤ} {n : ℕ} → IsRoot x n r → IsOnly (IsRoot x n) r
+root_is_only_one {x} h s k = by_lt_z x (pos 0)
+    (λ below.
+    let same = floor_root_is_only_one (h.below_zero below).1 _ (k.below_zero below).1 in
+    omega (arith, linear))
+    (λ up. floor_root_is_only_one (h.from_zero up) _ (k.from_zero up))
+
+-- a state has one turn at most, and none where the run ends
+one_turn : (a : ℕ) (s t : Guess) → IsNewtonTurn a s t → IsOnly (IsNewtonTurn a s) t
+one_turn a (Rising x) (Rising y) h (Rising z) k = cc (h.1, k.1)
+one_turn a (Rising x) (Rising y) h (Falling z) k = absurd (omega arith)
+one_turn a (Rising x) (Falling y) h (Rising z) k = absurd (omega arith)
+one_turn a (Rising x) (Falling y) h (Falling z) k = cc (h.1, k.1)
+one_turn a (Falling x) (Rising y) h u k = absurd h
+one_turn a (Falling x) (Falling y) h (Rising z) k = absurd k
+one_turn a (Falling x) (Falling y) h (Falling z) k = cc (h.1, k.1)
+
+no_turn : (a : ℕ) (s t : Guess) → NewtonEnds a s → ¬ (IsNewtonTurn a s t)
+no_turn a (Rising x) (Rising y) h k = omega arith
+no_turn a (Rising x) (Falling y) h k = omega arith
+no_turn a (Falling x) (Rising y) h k = k
+no_turn a (Falling x) (Falling y) h k = omega arith
+
+one_count : {a m n : ℕ} → MakesNewtonRun a m → MakesNewtonRun a n → m ≡ n
+one_count {a} {m} h k =
+    let same : h.top ≡ k.top =
+    omega (arith, highest_bit a _ _ h.highest.power_le k.highest.next_power_gt, highest_bit a _ _ k.highest.power_le h.highest.next_power_gt) in
+    only_turns (one_turn a) (no_turn a) k.run m (rw same at h.run)
+
+pub square_turns_are_only_one : {x : ℤ} {n : ℕ} → AreSquareRootTurns x n → IsOnly (AreSquareRootTurns x) n
+square_turns_are_only_one {x} h m k = by_lt_z x (pos 4)
+    (λ below. k.below_four below ∙ sym (h.below_four below))
+    (λ up. one_count (k.from_four up) (h.from_four up))

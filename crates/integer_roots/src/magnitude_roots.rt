@@ -1,0 +1,69 @@
+//! The roots of the native types, by the roots of their magnitudes.
+
+ghost use Rattle.std.specs.Prelude.{◌≡◌, ◌≢◌, ◌%◌, ◌≤◌, ◌≤ℤ◌, ◌<ℤ◌, neg_ℤ, pos};
+ghost use Rattle.num_traits.specs.Laws.{bit_len};
+ghost use Rattle.integer_roots.specs.RootOf.{IsRoot};
+ghost use Rattle.integer_roots.specs.SquareRuns.{AreSquareRootTurns};
+
+use crate::cube_root::cube_root;
+use crate::root_of_degree::root_of_degree;
+use crate::square_root::square_root_counted;
+use integer_core::NativeInteger;
+use integer_core::operators::{is_negative, negated, zero};
+
+/// The square root, and the turns of its loops.
+pub(crate) fn square_root_by_magnitude<T: NativeInteger<Magnitude = u64>>(x: T) -> (T, u32)
+    requires in_range { T.fits (T.value x) }
+    requires from_zero { pos 0 ≤ℤ T.value x }
+    ensures in_range { T.fits (T.value result.0) }
+    ensures root { IsRoot (T.value x) 2 (T.value result.0) }
+    ensures turns { AreSquareRootTurns (T.value x) result.1 }
+    ensures bound { result.1 ≤ 5 }
+{
+    let (root, turns) = square_root_counted(x.magnitude());
+    (T::from_magnitude(root), turns)
+}
+
+/// The cube root.
+pub(crate) fn cube_root_by_magnitude<T: NativeInteger<Magnitude = u64>>(x: T) -> T
+    requires in_range { T.fits (T.value x) }
+    ensures in_range { T.fits (T.value result) }
+    ensures root { IsRoot (T.value x) 3 (T.value result) }
+{
+    with_sign_of(x, cube_root(x.magnitude(), bits::<T>()))
+}
+
+/// The bits of the type.
+fn bits<T: NativeInteger>() -> u32
+    ensures { result ≡ bit_len T.width }
+{
+    zero::<T>().leading_zeros()
+}
+
+/// The root of degree `n`.
+pub(crate) fn root_by_magnitude<T: NativeInteger<Magnitude = u64>>(x: T, n: u32) -> T
+    requires in_range { T.fits (T.value x) }
+    requires degree { n ≢ 0 }
+    requires from_zero_where_even { n % 2 ≡ 0 → pos 0 ≤ℤ T.value x }
+    ensures in_range { T.fits (T.value result) }
+    ensures root { IsRoot (T.value x) n (T.value result) }
+{
+    match n {
+        1 => x,
+        2 => square_root_by_magnitude(x).0,
+        3 => cube_root_by_magnitude(x),
+        _ => with_sign_of(x, root_of_degree(x.magnitude(), n)),
+    }
+}
+
+/// The number of this magnitude that has the sign of `x`.
+fn with_sign_of<T: NativeInteger<Magnitude = u64>>(x: T, magnitude: u64) -> T
+    requires x_in_range { T.fits (T.value x) }
+    requires magnitude_fits { T.fits (pos magnitude) }
+    ensures in_range { T.fits (T.value result) }
+    ensures from_zero { pos 0 ≤ℤ T.value x → T.value result ≡ pos magnitude }
+    ensures below_zero { T.value x <ℤ pos 0 → T.value result ≡ neg_ℤ (pos magnitude) }
+{
+    let root = T::from_magnitude(magnitude);
+    if is_negative(x) { negated(root) } else { root }
+}

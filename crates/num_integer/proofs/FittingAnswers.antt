@@ -1,0 +1,162 @@
+-- Where the answers of calls fit, as the tests of `Fits` say.
+use Rattle.std.specs.Prelude.{◌≡◌, ◌≢◌, ◌↔◌, ◌≤◌, ◌<◌, ◌^◌, ◌≤ℤ◌, ℕ, ℤ, pos, IsTrue, nat_le, ◌⊎◌, ◌<ℤ◌, negsuc, neg_ℤ, unsigned_abs, Bool, true, false, not, ◌*◌, ◌/◌, min, max}
+use Rattle.std.proofs.Common.{arith, inl, inr, subst, refl, sym, ap, ◌∙◌}
+use Rattle.std.proofs.Math.Nat.{pow-le-pow_right}
+use Rattle.std.proofs.lemmas.Bool.{cases_lt, le-leb, leb-true, iff_false}
+use Rattle.std.proofs.lemmas.Int.{ints}
+use borrow.Author.Differences.{abs_is}
+use Rattle.integer_core.proofs.CommonDivisors.{gcd-divisor, only_gcd, gcd-zero, gcd-swap, lcm-computed, only_lcm}
+use Rattle.integer_core.proofs.Divisibility.{Divides-refl, abs_zero}
+use Rattle.integer_core.proofs.EuclidTurns.{divisor_size}
+use Rattle.integer_core.proofs.Multiples.{only_multiple}
+use Rattle.integer_core.proofs.Quotients.{only_ceiled, only_floored, only_truncated, floored_by_minus_one, other_quotient_fits}
+use Rattle.integer_core.proofs.Ranges.{within_fits}
+use Rattle.integer_core.proofs.Signs.{from_not_less}
+use Rattle.integer_core.proofs.Whole.{linear}
+use Rattle.integer_core.specs.Division.{EachKind, IsCeiled, IsDivision, IsFloored, IsTruncated, IsQuotient, IsMultiple}
+use Rattle.integer_core.specs.Divisors.{IsGreatestCommonDivisor, IsLeastCommonMultiple}
+use Rattle.integer_core.specs.Range.{IsRange, EachFits}
+use Rattle.num_integer.specs.Parts.{IsWithin, signed}
+
+-- ---- what fits a lawful type
+
+-- a number from 0 up fits exactly where it is at most the greatest
+pub fits_up : {fits : ℤ → Type 0} {low high : ℤ} {most z : ℕ} → IsRange fits low high → pos most ≡ high → z ≤ most ↔ fits (pos z)
+fits_up {z = z} range top = (λ h. (range.between (pos z)).1 (omega (arith, linear), omega (arith, ints)), λ h. omega (arith, ints, (range.between (pos z)).0 h))
+
+pub test_up : {fits : ℤ → Type 0} {low high : ℤ} {most z : ℕ} → IsRange fits low high → pos most ≡ high → IsTrue (nat_le z most) ↔ fits (pos z)
+test_up range top = (λ t. (fits_up range top).0 (leb-true _ _ t), λ f. le-leb _ _ ((fits_up range top).1 f))
+
+-- what a test of order says where it is false
+pub from_test : {answer : Bool} {a b : ℤ} → IsTrue answer ↔ (a <ℤ b) → answer ≡ false → b ≤ℤ a
+from_test test e = from_not_less (iff_false test e)
+
+-- a number from 0 up to one that fits
+pub fits_below : {fits : ℤ → Type 0} {low high x y : ℤ} → IsRange fits low high → fits y → pos 0 ≤ℤ x → x ≤ℤ y → fits x
+fits_below range h up below = within_fits range h (inl (up, below))
+
+-- where a relation has one number alone, each number of it fits exactly where that one does
+pub each_fits : {fits P : ℤ → Type 0} {x : ℤ} {A : Type 0} → P x → ((y : ℤ) → P y → x ≡ y) → A ↔ fits x → A ↔ EachFits fits P
+each_fits {fits} own only test = (λ t y h. subst fits (only y h) (test.0 t), λ each. test.1 (each _ own))
+
+-- the same by a divisor that is not 0
+pub each_fits_by : {fits P : ℤ → Type 0} {x d : ℤ} {A : Type 0} → d ≢ pos 0 → P x → ((y : ℤ) → P y → x ≡ y) → A ↔ fits x → A ↔ ((d ≢ pos 0) × EachFits fits P)
+each_fits_by {fits} {P} nonzero own only test = let each = each_fits {fits = fits} {P = P} own only test in (λ t. (nonzero, each.0 t), λ domain. each.1 domain.1)
+
+-- a power of two that fits has fewer than 128 twos
+pub few_bits : {fits : ℤ → Type 0} {low high : ℤ} (t c : ℕ) → IsRange fits low high → fits (pos c) → 2 ^ t ≤ c → t < 128
+few_bits t c range h power = elim (cases_lt t 128) [
+  | inl few ↦ few
+  | inr many ↦ absurd (omega (arith, ints, (range.between (pos c)).0 h, pow-le-pow_right {n = 2} (omega arith) many))
+]
+
+-- ---- what the three kinds of division share
+
+-- a kind has one quotient and remainder at most, and each division without a remainder
+pub record IsKind (Kind : ℤ → ℤ → ℤ → ℤ → Type 0) : Type 0 where
+  pub division : {n d q r : ℤ} → Kind n d q r → IsDivision n d q r
+  pub only : {n d q r p s : ℤ} → Kind n d q r → Kind n d p s → (q ≡ p) × (r ≡ s)
+  pub exact : {n d q : ℤ} → IsDivision n d q (pos 0) → Kind n d q (pos 0)
+
+pub truncated : IsKind IsTruncated
+truncated = record { division = λ h. h.division; only = only_truncated; exact = λ h. record { division = h; sign = inl refl } }
+
+pub floored : IsKind IsFloored
+floored = record { division = λ h. h.division; only = only_floored; exact = λ h. record { division = h; sign = inl refl } }
+
+pub ceiled : IsKind IsCeiled
+ceiled = record { division = λ h. h.division; only = only_ceiled; exact = λ h. record { division = h; sign = inl refl } }
+
+pub each_kind : {P : (ℤ → ℤ → ℤ → ℤ → Type 0) → Type 0} → ((Kind : ℤ → ℤ → ℤ → ℤ → Type 0) → IsKind Kind → P Kind) → EachKind P
+each_kind each = (each IsTruncated truncated, each IsFloored floored, each IsCeiled ceiled)
+
+-- ---- where the quotient of a division fits, of any kind
+
+-- a number whose parts are those of -1
+pub minus_one : {negative : Bool} {magnitude : ℕ} {d : ℤ} → negative ≡ true → magnitude ≡ 1 → IsTrue negative ↔ (d <ℤ pos 0) → magnitude ≡ unsigned_abs d → d ≡ negsuc 0
+minus_one e one sign size = let below = sign.0 e in omega (arith, linear, abs_is)
+
+pub not_minus_one : {negative : Bool} {magnitude : ℕ} {d : ℤ} → (magnitude ≢ 1) ⊎ (negative ≡ false) → IsTrue negative ↔ (d <ℤ pos 0) → magnitude ≡ unsigned_abs d → d ≢ negsuc 0
+not_minus_one (inl other) sign size e = other (rw (size, e) refl)
+not_minus_one (inr e) sign size minus = iff_false sign e (rw minus (record { lt = tt }))
+
+module _ {fits : ℤ → Type 0} {low high n d : ℤ} {Kind : ℤ → ℤ → ℤ → ℤ → Type 0} (kind : IsKind Kind) (range : IsRange fits low high) (n_fits : fits n) (d_fits : fits d) where
+  pub by_minus_one : (magnitude top : ℕ) → d ≡ negsuc 0 → magnitude ≡ unsigned_abs n → pos top ≡ high → IsTrue (nat_le magnitude top) ↔ ((d ≢ pos 0) × EachFits fits (IsQuotient Kind n d))
+  by_minus_one magnitude top minus size ends =
+      let ends_at = range.low_end in
+      let positive = range.positive in
+      let n_in = (range.between n).0 n_fits in
+      let d_in = (range.between d).0 d_fits in
+      let own = kind.exact (floored_by_minus_one n d minus).division in
+      each_fits_by (λ zero. absurd (omega (arith, ints))) (record { remainder = pos 0; division = own }) (λ q h. (kind.only own h.division).0) (
+        λ h. let small = leb-true magnitude top h in (range.between (neg_ℤ n)).1 (omega (arith, linear, abs_is), omega (arith, linear, abs_is)),
+        λ f. let inside = (range.between (neg_ℤ n)).0 f in le-leb magnitude top (omega (arith, linear, abs_is)),
+      )
+
+  pub by_other : d ≢ pos 0 → d ≢ negsuc 0 → IsTrue true ↔ ((d ≢ pos 0) × EachFits fits (IsQuotient Kind n d))
+  by_other nonzero other = (λ _. (nonzero, λ q h. other_quotient_fits range n_fits d_fits other (kind.division h.division)), λ _. refl)
+
+-- ---- where the next and the previous multiple fit
+
+-- a number is that of its parts
+pub signed_is : {negative : Bool} {magnitude : ℕ} {z : ℤ} → IsTrue negative ↔ (z <ℤ pos 0) → magnitude ≡ unsigned_abs z → signed negative magnitude ≡ z
+signed_is {negative = true} sign size = let below = sign.0 refl in omega (arith, linear, abs_is)
+signed_is {negative = false} sign size = let up = from_test sign refl in omega (arith, linear, abs_is)
+
+pub signed-not : (negative : Bool) (magnitude : ℕ) {z : ℤ} → signed negative magnitude ≡ z → signed (not negative) magnitude ≡ neg_ℤ z
+signed-not true magnitude e = omega (arith, linear)
+signed-not false magnitude e = omega (arith, linear)
+
+module _ {fits : ℤ → Type 0} {low high : ℤ} {least most : ℕ} (range : IsRange fits low high) (bottom : least ≡ unsigned_abs low) (top : pos most ≡ high) where
+  -- a number fits where it lies between the ends
+  inside : (z : ℤ) → IsWithin least most z ↔ fits z
+  inside z = (
+    λ h. (range.between z).1 (omega (arith, linear, abs_is), omega (arith, linear)),
+    λ h. let z_in = (range.between z).0 h in (omega (arith, linear, abs_is), omega (arith, linear)),
+  )
+
+  pub parts_inside : {negative : Bool} {magnitude : ℕ} {z : ℤ} → IsTrue negative ↔ (z <ℤ pos 0) → magnitude ≡ unsigned_abs z → fits z → IsWithin least most (signed negative magnitude)
+  parts_inside sign size z_fits = rw (signed_is sign size) ((inside _).1 z_fits)
+
+  pub test_inside : {answer : Bool} {z : ℤ} → IsTrue answer ↔ IsWithin least most z → IsTrue answer ↔ fits z
+  test_inside test = (λ t. (inside _).0 (test.0 t), λ f. test.1 ((inside _).1 f))
+
+-- where the multiple is a known number
+pub multiple_domain : {fits : ℤ → Type 0} {Kind : ℤ → ℤ → ℤ → ℤ → Type 0} {n d m : ℤ} {answer : Bool} → IsKind Kind → d ≢ pos 0 → IsMultiple Kind n d m → IsTrue answer ↔ fits m
+    → IsTrue answer ↔ ((d ≢ pos 0) × EachFits fits (IsMultiple Kind n d))
+multiple_domain kind nonzero own test = each_fits_by nonzero own (λ k h. sym (only_multiple (λ q r p s. kind.only) own k h)) test
+
+-- ---- where the greatest common divisor and the least common multiple fit
+
+-- where m and n are the magnitudes of a and b
+module _ {fits : ℤ → Type 0} {low high a b : ℤ} {most m n : ℕ} (range : IsRange fits low high) (top : pos most ≡ high) (left : m ≡ unsigned_abs a) (right : n ≡ unsigned_abs b) where
+  -- with 0 the gcd is the other magnitude
+  pub gcd_of_zero : {g : ℕ} → (m ≡ 0) ⊎ ((m ≢ 0) × (n ≡ 0)) → g ≡ max m n → IsTrue (nat_le g most) ↔ EachFits fits (IsGreatestCommonDivisor a b)
+  gcd_of_zero {g} zero is =
+      let own : IsGreatestCommonDivisor a b (pos g) = elim zero [
+        | inl none ↦ let same : g ≡ unsigned_abs b = omega arith in rw (same, abs_zero a (omega arith)) (gcd-swap (gcd-zero b))
+        | inr none ↦ let same : g ≡ unsigned_abs a = omega (arith, none.1) in rw (same, abs_zero b (omega (arith, none.1))) (gcd-zero a)
+      ] in
+      each_fits own (λ h. only_gcd own) (test_up range top)
+
+  -- and else it is no greater than either
+  pub gcd_of_nonzero : {least : ℕ} → fits a → fits b → m ≢ 0 → n ≢ 0 → least ≡ min m n → IsTrue (nat_le least most) ↔ EachFits fits (IsGreatestCommonDivisor a b)
+  gcd_of_nonzero {least} a_fits b_fits m_nonzero n_nonzero is = (
+    λ t g greatest.
+        let a_size = divisor_size greatest.divides_left (λ e. m_nonzero (left ∙ ap unsigned_abs e)) in
+        let b_size = divisor_size greatest.divides_right (λ e. n_nonzero (right ∙ ap unsigned_abs e)) in
+        (range.between g).1 (omega (arith, linear, abs_is, leb-true least most t)),
+    λ each. le-leb least most (elim (cases_lt most least) [
+      | inr fine ↦ fine
+      | inl above ↦
+          let same : b ≡ a = omega (arith, linear, abs_is, (range.between a).0 a_fits, (range.between b).0 b_fits) in
+          let own : IsGreatestCommonDivisor a b (pos (unsigned_abs a)) = rw same (gcd-divisor (Divides-refl a)) in
+          absurd (omega (arith, (fits_up range top).1 (each _ own)))
+    ]),
+  )
+
+  -- the least common multiple, computed on the magnitudes
+  pub lcm_domain : {g : ℕ} {A : Type 0} → n ≢ 0 → IsGreatestCommonDivisor (pos m) (pos n) (pos g) → A ↔ fits (pos (m * (n / g))) → A ↔ EachFits fits (IsLeastCommonMultiple a b)
+  lcm_domain {g} n_nonzero greatest test =
+      let own : IsLeastCommonMultiple a b (pos (m * (n / g))) = lcm-computed {a = a} {b = b} {q = pos (n / g)} (ap pos left) (ap pos right) (λ e. n_nonzero (right ∙ ap unsigned_abs e)) greatest refl refl in
+      each_fits own (λ l. only_lcm own) test

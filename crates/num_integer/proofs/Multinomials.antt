@@ -1,0 +1,242 @@
+-- Multinomials: the product of the coefficients of the running sums, in any order, and the loops over counts.
+use Rattle.std.specs.List.{All, AllWithin, swap}
+use Rattle.std.specs.Option.{MatchOption}
+use Rattle.std.specs.Prelude.{ℤ, pos, unsigned_abs, List, [], ◌∷◌, map, sum, length, get_or, drop, ◌≡◌, ◌+◌, ◌<◌, ◌≤◌, ◌≤ℤ◌, ◌+ℤ◌, ◌*ℤ◌, ℕ, zero, suc, ◌↔◌, ◌*◌, ◌<ℤ◌, Bool, true, false, Option, Some, None, IsTrue, is_some, set}
+use Rattle.std.proofs.Common.{◌-◌, ap, sym, ◌∙◌, arith, refl, subst, inl, inr, zero-add}
+use Rattle.std.proofs.Math.Nat.{le-mul_of_pos_right, mul-pos, eq_of_mul-eq-mul_left}
+use Rattle.std.proofs.lemmas.Bool.{cases_eq}
+use Rattle.std.proofs.lemmas.Int.{ints, unsigned_abs-mul}
+use Rattle.std.proofs.lemmas.List.{at_drop_all, at_drop_more, get_or-set_other, get_or-set_same, length-set}
+use Rattle.std.proofs.lemmas.List.Edits.{swap_is}
+use Rattle.std.proofs.lemmas.List.Elements.{All-from_all_within, AllWithin-more, AllWithin-upto, at_read}
+use Rattle.std.proofs.lemmas.List.Sorted.{IsPermutation-keeps, IsPermutation-map, sum_by-IsPermutation}
+use Rattle.std.proofs.lemmas.List.Sums.{sum_by-cons}
+use Rattle.integer_core.proofs.Divisibility.{cancel}
+use Rattle.integer_core.proofs.Whole.{comm}
+use Rattle.integer_core.specs.Range.{IsRange, EachFits}
+use Rattle.num_integer.proofs.FittingAnswers.{fits_below, fits_up}
+use Rattle.num_integer.proofs.ForCallers.{product_from_zero}
+use Rattle.num_integer.proofs.Pascal.{coefficient-pos, divides_factorials, factorial-pos, not_below_top}
+use Rattle.num_integer.specs.Coefficient.{coefficient, factorial, coefficient_of}
+use Rattle.num_integer.specs.Laws.{MultinomialIgnoresOrder}
+use Rattle.num_integer.specs.Multinomial.{IsMultinomial, coefficients_from, product}
+
+-- ---- the multinomial of a list is the product of the coefficients of its running sums
+
+-- the product of the coefficients of the running sums
+abbrev pub product_of : List ℤ → ℕ
+product_of counts = product (coefficients_from 0 (map unsigned_abs counts))
+
+-- products of coefficients and of factorials are above 0
+coefficients-pos : (before : ℕ) (counts : List ℕ) → 0 < product (coefficients_from before counts)
+unfolding coefficients_from
+coefficients-pos before [] = omega arith
+coefficients-pos before (count ∷ counts) = mul-pos (coefficient-pos (before + count) count (omega arith)) (coefficients-pos (before + count) counts)
+
+factorials-pos : (counts : List ℕ) → 0 < product (map factorial counts)
+factorials-pos [] = omega arith
+factorials-pos (count ∷ counts) = mul-pos (factorial-pos count) (factorials-pos counts)
+
+-- the law with counts before
+shared_out : (before : ℕ) (counts : List ℕ) → product (coefficients_from before counts) * product (map factorial counts) * factorial before ≡ factorial (before + sum counts)
+unfolding coefficients_from
+shared_out before [] = let e : before + 0 ≡ before = omega arith in rw e (omega arith)
+shared_out before (count ∷ counts) =
+    let e : before + count - count ≡ before = omega arith in
+    let f : before + count + sum counts ≡ before + sum (count ∷ counts) = omega (arith, sum_by-cons (λ x. x) count counts) in
+    let ways = rw e at (divides_factorials (before + count) count (omega arith)) in
+    let times = ap (λ (t : ℕ). product (coefficients_from (before + count) counts) * product (map factorial counts) * t) ways in
+    let all : product (coefficients_from before (count ∷ counts)) * product (map factorial (count ∷ counts)) * factorial before ≡ factorial (before + count + sum counts) = omega (arith, shared_out (before + count) counts) in
+    all ∙ ap factorial f
+
+-- that product is the multinomial
+pub is_multinomial : (counts : List ℤ) → IsMultinomial counts (pos (product_of counts))
+unfolding factorial
+is_multinomial counts =
+    let same : product_of counts * product (map factorial (map unsigned_abs counts)) ≡ factorial (sum (map unsigned_abs counts)) = omega (arith, rw zero-add at (shared_out 0 (map unsigned_abs counts))) in
+    record { factorials = ap pos same }
+
+-- and nothing else is
+pub only_multinomial : {counts : List ℤ} {m : ℤ} → IsMultinomial counts m → m ≡ pos (product_of counts)
+only_multinomial {counts} {m} h =
+    let n : ℤ = pos (product_of counts) in
+    let factorials : ℕ = product (map factorial (map unsigned_abs counts)) in
+    cancel (pos factorials) m n (λ z. absurd (omega (arith, ints, factorials-pos (map unsigned_abs counts))))
+    (comm (pos factorials) m ∙ h.factorials ∙ sym (is_multinomial counts).factorials ∙ comm n (pos factorials))
+
+-- a sum of two counts that passes a bound has a coefficient that does
+pub past_top : (t x m top : ℕ) → t < top → x < top → top ≤ t + x → 0 < m → top ≤ m * coefficient (t + x) x
+past_top t x m top t_below x_below past positive =
+    omega (arith, not_below_top (t + x) x (omega arith) (omega arith), le-mul_of_pos_right (coefficient (t + x) x) positive)
+
+-- ---- a loop over the counts
+
+-- the counts before the i-th make up the total, and m is the product of their coefficients
+pub record IsSharedSoFar {X : Type 0} (value : X → ℤ) (counts : List X) (i total m : ℕ) : Type 0 where
+  pub positive : 0 < m
+  pub rest : m * product (coefficients_from total (map unsigned_abs (map value (drop i counts)))) ≡ product_of (map value counts)
+
+module _ {X : Type 0} {value : X → ℤ} {counts : List X} where
+  pub shared_first : IsSharedSoFar value counts 0 0 1
+  shared_first = record { positive = omega arith; rest = omega arith }
+
+  -- a turn
+  pub shared_next : {i t m k : ℕ} {x : X} → IsSharedSoFar value counts i t m → i < length counts → x ≡ get_or counts i x → k ≡ unsigned_abs (value x)
+      → IsSharedSoFar value counts (i + 1) (t + k) (m * coefficient (t + k) k)
+  unfolding coefficients_from
+  shared_next {i} {t} {m} {k} {x} h inside at size =
+      let first = at_drop_more (λ (xs : List X). m * product (coefficients_from t (map unsigned_abs (map value xs)))) counts i x inside in
+      let next = rw (← at, ← size) at first in
+      record { positive = mul-pos h.positive (coefficient-pos (t + k) k (omega arith)); rest = omega (arith, h.rest) }
+
+  -- on the way m does not pass the multinomial
+  pub shared_below : {i t m : ℕ} → IsSharedSoFar value counts i t m → m ≤ product_of (map value counts)
+  shared_below {i} {t} {m} h = omega (arith, h.rest, le-mul_of_pos_right m (coefficients-pos t (map unsigned_abs (map value (drop i counts)))))
+
+  -- and at the end it is that
+  pub shared_last : {i t m : ℕ} → IsSharedSoFar value counts i t m → length counts ≤ i → m ≡ product_of (map value counts)
+  unfolding coefficients_from
+  shared_last {i} {t} {m} h done =
+      let none = at_drop_all (λ (xs : List X). m * product (coefficients_from t (map unsigned_abs (map value xs)))) counts i done in
+      omega (arith, h.rest)
+
+-- ---- the loop of `multinomial`: no number on the way leaves the type
+
+-- m is the multinomial and t the sum of the counts before the i-th
+pub record IsMultinomialSoFar {X : Type 0} (fits : ℤ → Type 0) (value : X → ℤ) (counts : List X) (i : ℕ) (m t : ℤ) : Type 0 where
+  pub total_in_range : fits t
+  pub total_from_zero : pos 0 ≤ℤ t
+  pub in_range : fits m
+  pub from_zero : pos 0 ≤ℤ m
+  pub shared : IsSharedSoFar value counts i (unsigned_abs t) (unsigned_abs m)
+
+-- a sum is at most what bounds its numbers and its coefficient
+sum_at_most : (s t k most : ℕ) → s ≡ t + k → t ≤ most → k ≤ most → coefficient s k ≤ most → s ≤ most
+sum_at_most s t k most is t_below k_below below = let above = not_below_top s k in grind arith
+
+module _ {X : Type 0} {fits : ℤ → Type 0} {low high : ℤ} {value : X → ℤ} {counts : List X} (range : IsRange fits low high) (all_fits : EachFits fits (IsMultinomial (map value counts))) where
+  -- before the first turn
+  pub multinomial_first : {m t : ℤ} → fits m → m ≡ pos 1 → fits t → t ≡ pos 0 → IsMultinomialSoFar fits value counts 0 m t
+  multinomial_first m_fits one t_fits none =
+      record { total_in_range = t_fits; total_from_zero = omega (arith, ints); in_range = m_fits; from_zero = omega (arith, ints); shared = rw (one, none) shared_first }
+
+  -- a turn
+  pub multinomial_next : {i : ℕ} {x : X} {m t : ℤ} → i < length counts → x ≡ get_or counts i x → All (λ (y : X). fits (value y)) counts → All (λ (y : X). pos 0 ≤ℤ value y) counts
+      → IsMultinomialSoFar fits value counts i m t
+      → fits (coefficient_of (t +ℤ value x) (value x)) × IsMultinomialSoFar fits value counts (i + 1) (m *ℤ coefficient_of (t +ℤ value x) (value x)) (t +ℤ value x)
+  multinomial_next {i} {x} {m} {t} inside at in_range from_zero h =
+      let x_fits = rw (← at) at (in_range i x inside) in
+      let x_up = rw (← at) at (from_zero i x inside) in
+      let c : ℤ = coefficient_of (t +ℤ value x) (value x) in
+      let sum : unsigned_abs (t +ℤ value x) ≡ unsigned_abs t + unsigned_abs (value x) = omega (arith, ints, h.total_from_zero) in
+      let next : IsSharedSoFar value counts (i + 1) (unsigned_abs (t +ℤ value x)) (unsigned_abs (m *ℤ c)) = rw (unsigned_abs-mul m c, sum) (shared_next h.shared inside at refl) in
+      let whole = all_fits _ (is_multinomial (map value counts)) in
+      let most = shared_below next in
+      let below : unsigned_abs c ≤ product_of (map value counts) = omega (arith, most, unsigned_abs-mul m c, le-mul_of_pos_right (unsigned_abs c) h.shared.positive) in
+      let product_up = product_from_zero m c h.from_zero (omega (arith, ints)) in
+      let t_in = (range.between t).0 h.total_in_range in
+      let x_in = (range.between (value x)).0 x_fits in
+      let whole_in = (range.between _).0 whole in
+      let few = sum_at_most (unsigned_abs (t +ℤ value x)) (unsigned_abs t) (unsigned_abs (value x)) (unsigned_abs high) sum (omega (arith, ints)) (omega (arith, ints)) (omega (arith, ints)) in (
+        fits_below range whole (omega (arith, ints)) (omega (arith, ints)),
+        record {
+          total_in_range = (range.between _).1 (omega (arith, ints));
+          total_from_zero = omega (arith, ints);
+          in_range = fits_below range whole product_up (omega (arith, ints));
+          from_zero = product_up;
+          shared = next;
+        },
+      )
+
+  -- after the last turn
+  pub multinomial_last : {i : ℕ} {m t : ℤ} → IsMultinomialSoFar fits value counts i m t → length counts ≤ i → IsMultinomial (map value counts) m
+  multinomial_last h done =
+      subst (IsMultinomial (map value counts)) (omega (arith, ints, h.from_zero, shared_last h.shared done)) (is_multinomial (map value counts))
+
+-- ---- where a coefficient fits, and where a multinomial
+
+-- whether a coefficient within the greatest number was found
+pub test_of : {fits : ℤ → Type 0} {low high : ℤ} {r : Bool} (found : Option ℕ) (c most : ℕ) → IsRange fits low high → pos most ≡ high → r ≡ is_some found
+    → MatchOption found (most < c) (λ n. (n ≡ c) × (n ≤ most)) → IsTrue r ↔ fits (pos c)
+test_of (Some n) c most range top is h = ((λ _. (fits_up range top).0 (omega arith)), λ _. is)
+test_of None c most range top is h = ((λ t. absurd (cc)), λ f. let below = (fits_up range top).1 f in absurd (omega arith))
+
+-- ---- the loop of `multinomial_fits`
+
+-- the domain of `multinomial`
+abbrev pub HasFittingMultinomial : {X : Type 0} → (ℤ → Type 0) → (X → ℤ) → List X → Type 0
+HasFittingMultinomial {X} fits value counts = All (λ (x : X). pos 0 ≤ℤ value x) counts × EachFits fits (IsMultinomial (map value counts))
+
+-- the counts before the i-th are not negative, and what they come to is at most the greatest number
+pub record IsWithinSoFar {X : Type 0} (value : X → ℤ) (counts : List X) (i total m most : ℕ) : Type 0 where
+  pub shared : IsSharedSoFar value counts i total m
+  pub within : m ≤ most
+  pub from_zero : AllWithin (λ (x : X). pos 0 ≤ℤ value x) counts 0 i
+
+module _ {X : Type 0} {fits : ℤ → Type 0} {low high : ℤ} {value : X → ℤ} {counts : List X} {most : ℕ} (range : IsRange fits low high) (top : pos most ≡ high) where
+  -- before the first turn
+  pub within_first : IsWithinSoFar value counts 0 0 1 most
+  within_first = record { shared = shared_first; within = let positive = range.positive in omega (arith, ints); from_zero = λ k d l h. absurd (omega arith) }
+
+  module _ {i t m k : ℕ} {x : X} (before : IsWithinSoFar value counts i t m most) (inside : i < length counts) (at : x ≡ get_or counts i x) (size : k ≡ unsigned_abs (value x)) where
+    -- a turn at a count that is not negative
+    pub within_next : {t' m' : ℕ} → pos 0 ≤ℤ value x → (t' ≡ t + k) × (m' ≡ m * coefficient (t + k) k) × (m' ≤ most) → IsWithinSoFar value counts (i + 1) t' m' most
+    within_next up more = record {
+      shared = rw (more.0, more.1) (shared_next before.shared inside at size);
+      within = more.2;
+      from_zero = AllWithin-more (λ (y : X). pos 0 ≤ℤ value y) counts 0 i before.from_zero (at_read counts (λ (y : X). pos 0 ≤ℤ value y) i x inside at up);
+    }
+
+    -- a multinomial that passes the greatest number does not fit
+    pub none_past : most < m * coefficient (t + k) k → IsTrue false ↔ HasFittingMultinomial fits value counts
+    none_past past = (
+      λ t. absurd (cc),
+      λ h.
+          let below = (fits_up range top).1 (h.1 _ (is_multinomial (map value counts))) in
+          absurd (omega (arith, shared_below (shared_next before.shared inside at size))),
+    )
+
+    -- a negative count is outside the domain
+    pub none_negative : value x <ℤ pos 0 → IsTrue false ↔ HasFittingMultinomial fits value counts
+    none_negative below = (λ t. absurd (cc), λ h. let up = rw (← at) at (h.0 i x inside) in absurd (omega (arith, ints)))
+
+  -- after the last turn
+  pub within_last : {i t m : ℕ} → IsWithinSoFar value counts i t m most → length counts ≤ i → IsTrue true ↔ HasFittingMultinomial fits value counts
+  within_last {i} {t} {m} h done = (
+    λ _. (
+      All-from_all_within (λ (y : X). pos 0 ≤ℤ value y) counts (AllWithin-upto (λ (y : X). pos 0 ≤ℤ value y) counts 0 i (length counts) done h.from_zero),
+      λ z is. rw (only_multinomial is) ((fits_up range top).0 (omega (arith, shared_last h.shared done, h.within))),
+    ),
+    λ _. refl,
+  )
+
+-- ---- counts in another order have the same multinomial
+
+-- a product of factorials with one number replaced, multiplied across
+factorials-set : (xs : List ℕ) (i y d : ℕ) → i < length xs → product (map factorial (set xs i y)) * factorial (get_or xs i d) ≡ product (map factorial xs) * factorial y
+factorials-set [] i y d h = absurd (omega arith)
+factorials-set (x ∷ xs) zero y d h = omega arith
+factorials-set (x ∷ xs) (suc i) y d h = let e = ap (λ (t : ℕ). factorial x * t) (factorials-set xs i y d (omega arith)) in omega arith
+
+-- two numbers in each other's place
+swapped : (l : List ℕ) (i j : ℕ) → i < length l → j < length l → product (map factorial (swap l i j)) ≡ product (map factorial l)
+swapped l i j p q =
+    let a : ℕ = get_or l i 0 in
+    let b : ℕ = get_or l j 0 in
+    let w : List ℕ = set l i b in
+    let there : get_or w j 0 ≡ b = elim (cases_eq j i) [
+      | inl e ↦ ap (λ (n : ℕ). get_or w n 0) e ∙ get_or-set_same l i b 0 p
+      | inr e ↦ get_or-set_other l i j b 0 e
+    ] in
+    let first = factorials-set l i b 0 p in
+    let second = rw there at (factorials-set w j a 0 (omega (arith, length-set l i b))) in
+    let same : product (map factorial (set w j a)) ≡ product (map factorial l) = eq_of_mul-eq-mul_left (factorial b) (factorial-pos b) _ _ (omega arith) in
+    subst (λ (t : List ℕ). product (map factorial t) ≡ product (map factorial l)) (swap_is l i j 0 p q) same
+
+-- counts in another order have the same multinomial
+pub in_any_order : MultinomialIgnoresOrder
+in_any_order counts others h m is =
+    let magnitudes = IsPermutation-map unsigned_abs counts others h in
+    let own : ℕ = product (map factorial (map unsigned_abs counts)) in
+    let products = IsPermutation-keeps _ (λ (l : List ℕ). product (map factorial l) ≡ own) refl (λ l i j p q h. swapped l i j p q ∙ h) _ magnitudes in
+    record { factorials = rw (products, sum_by-IsPermutation (λ (x : ℕ). x) _ _ magnitudes) is.factorials }

@@ -1,0 +1,69 @@
+//! Coefficients of natural numbers up to a bound: each call stops as soon as it passes the bound.
+
+ghost use Rattle.std.specs.Prelude.{◌≡◌, ◌+◌, ◌*◌, ◌<◌, ◌≤◌};
+ghost use Rattle.std.specs.Option.{MatchOption};
+ghost use Rattle.num_integer.specs.Coefficient.{coefficient};
+
+use crate::coefficients::factors;
+
+/// The coefficient of `n` and `k + 1`, where `c` is that of `n` and `k`, or `None` where it is
+/// above `most`.
+#[tactic(auto, using(crate::proofs::Steps::next_natural, crate::proofs::Steps::next_natural_divides))]
+fn next_within(c: u128, n: u128, k: u128, most: u128) -> Option<u128>
+    requires k_below { k < n }
+    requires current { c ≡ coefficient n k }
+    ensures { MatchOption result (most < coefficient n (k + 1))
+        (λ next. (next ≡ coefficient n (k + 1)) × (next ≤ most)) }
+{
+    let (x, y) = factors(c, n - k, k + 1);
+    let next = x.checked_mul(y)?;
+    if next <= most { Some(next) } else { None }
+}
+
+/// The coefficient of `n` and `k`, or `None` where it is above `most`. The loop makes at most 128
+/// turns: a coefficient that `t` turns have reached is at least 2 to the power `t`.
+#[tactic(auto, using(crate::proofs::Pascal::row_steps))]
+pub(crate) fn coefficient_within(n: u128, k: u128, most: u128) -> Option<u128>
+    requires { 0 < most }
+    ensures { MatchOption result (most < coefficient n k)
+        (λ c. (c ≡ coefficient n k) × (c ≤ most)) }
+{
+    if k > n {
+        return Some(0);
+    }
+    let last = k.min(n - k);
+    let mut coefficient = 1;
+    let mut place = 0;
+    while place < last {
+        coefficient = next_within(coefficient, n, place, most)?;
+        place += 1;
+    }
+    Some(coefficient)
+}
+
+/// The sum of counts, and their multinomial.
+#[derive(Clone, Copy)]
+pub(crate) struct Shared {
+    pub(crate) total: u128,
+    pub(crate) multinomial: u128,
+}
+
+impl Shared {
+    /// The same with one more count, or `None` where the multinomial is then above `most`.
+    pub(crate) fn with_count(self, count: u128, most: u128) -> Option<Shared>
+        requires positive { 0 < self.multinomial }
+        requires within { self.multinomial ≤ most }
+        ensures { MatchOption result
+            (most < self.multinomial * coefficient (self.total + count) count)
+            (λ more. (more.total ≡ self.total + count)
+            × (more.multinomial ≡ self.multinomial * coefficient (self.total + count) count)
+            × (more.multinomial ≤ most)) }
+    {
+        let total = self.total.checked_add(count)?;
+        let ways = coefficient_within(total, count, most / self.multinomial)?;
+        Some(Shared {
+            total,
+            multinomial: self.multinomial * ways,
+        })
+    }
+}

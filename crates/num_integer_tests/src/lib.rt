@@ -1,0 +1,8 @@
+//! The tests of `num_integer`: worked values, each pair of one byte, the ends of each type, and lawful
+//! types that the library does not know.
+#![tactic(auto)]
+
+#[cfg(test)]
+mod own_types;
+#[cfg(test)]
+mod tests;

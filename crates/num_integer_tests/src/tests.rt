@@ -1,0 +1,20 @@
+//! Worked values, the tests of the Rust crate `num-integer`, and each pair of `i8` and of `u8`.
+
+mod averages;
+mod bezout;
+mod call_rows;
+mod checked;
+mod coefficients;
+mod division;
+mod divisors;
+mod domain_ends;
+mod exhaustive;
+mod from_contracts;
+mod gcd_turns;
+mod multiples;
+mod own_pairs;
+mod own_values;
+mod roots;
+mod signed_magnitude;
+mod type_ends;
+mod types;

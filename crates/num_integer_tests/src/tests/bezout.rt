@@ -1,0 +1,116 @@
+//! Bezout pairs.
+
+use super::call_rows::Holds;
+use super::call_rows::Question::{GcdFits, IsMultipleOf};
+use super::checked;
+use super::types::Type::{I8, I64, I128, Isize, U8, U64};
+use super::types::{Check, Tested, check_at, check_rows, number};
+use num_integer::{ExtendedGcd, Fits};
+use num_traits::Signed;
+use std::process::Abort;
+
+/// Two operands, their greatest common divisor with its pair, and the turns.
+#[derive(Drop)]
+pub(crate) struct HasPair(
+    pub(crate) (i128, i128),
+    pub(crate) (i128, i128, i128),
+    pub(crate) u32,
+);
+
+impl Check for HasPair {
+    fn at<T: Tested>(&self, rt: &impl Abort) {
+        let ((a, b), (gcd, x, y)) = (self.0, self.1);
+        let answer = ExtendedGcd {
+            gcd: number::<T>(rt, gcd),
+            x: number::<T>(rt, x),
+            y: number::<T>(rt, y),
+        };
+        let (first, second) = (number::<T>(rt, a), number::<T>(rt, b));
+        let plain = checked::extended_gcd(first, second);
+        assert_eq!(rt; plain, Some(answer), "of {a} and {b}");
+        let counted = checked::extended_gcd_counted(first, second);
+        assert_eq!(rt; counted, Some((answer, self.2)), "of {a} and {b}");
+    }
+}
+
+#[test]
+fn pairs_of_signed_types(rt: HostRuntime) {
+    let rows = [
+        (I64, HasPair((240, 46), (2, -9, 47), 4)),
+        (I64, HasPair((46, 240), (2, 47, -9), 5)),
+        (I64, HasPair((10, 4), (2, 1, -2), 1)),
+        (I64, HasPair((-6, 4), (2, -1, -1), 1)),
+        (I64, HasPair((8, 13), (1, 5, -3), 5)),
+        (I64, HasPair((5, 0), (5, 1, 0), 0)),
+        (I64, HasPair((-5, 0), (5, -1, 0), 0)),
+        (I64, HasPair((0, -5), (5, 0, -1), 0)),
+        (I64, HasPair((0, 0), (0, 1, 0), 0)),
+        (Isize, HasPair((8, 9), (1, -1, 1), 2)),
+    ];
+    check_rows(&rt, &rows);
+}
+
+#[test]
+fn pairs_at_the_ends_of_signed_types(rt: HostRuntime) {
+    let rows = [
+        (I8, HasPair((-128, 127), (1, -1, -1), 1)),
+        (I8, HasPair((-128, 1), (1, 0, 1), 0)),
+        (I128, HasPair((i128::MIN, i128::MAX), (1, -1, -1), 1)),
+    ];
+    check_rows(&rt, &rows);
+    check_at(&rt, I64, &Holds(GcdFits, (-9223372036854775808, 0), false));
+}
+
+#[test]
+fn pairs_of_unsigned_types(rt: HostRuntime) {
+    let rows = [
+        (U8, HasPair((4, 12), (4, 1, 0), 1)),
+        (U64, HasPair((0, 7), (7, 0, 1), 0)),
+        (U64, HasPair((4, 12), (4, 1, 0), 1)),
+        (U64, HasPair((12, 4), (4, 0, 1), 0)),
+        (U64, HasPair((7, 0), (7, 1, 0), 0)),
+        (U64, HasPair((0, 0), (0, 1, 0), 0)),
+    ];
+    check_rows(&rt, &rows);
+    let rows = [
+        (U8, Holds(IsMultipleOf, (10, 4), false)),
+        (U8, Holds(IsMultipleOf, (4, 10), false)),
+    ];
+    check_rows(&rt, &rows);
+}
+
+/// The pair of `extended_gcd_lcm`, which answers what `gcd` and `lcm` do.
+fn pair_with_lcm<T: Fits + Signed>(rt: &impl Abort, a: T, b: T) -> ExtendedGcd<T>
+    requires a_in_range { T.fits (T.value a) }
+    requires b_in_range { T.fits (T.value b) }
+{
+    let (pair, lcm) = checked::extended_gcd_lcm(a, b).expect(rt, "both fit");
+    assert!(rt; checked::gcd(a, b) == Some(pair.gcd));
+    assert!(rt; checked::lcm(a, b) == Some(lcm));
+    pair
+}
+
+/// The first operand times `x` and the second times `y`, added up.
+fn combined(pair: &ExtendedGcd<i32>, a: i32, b: i32) -> Option<i32> {
+    pair.x.checked_mul(a)?.checked_add(pair.y.checked_mul(b)?)
+}
+
+#[test]
+fn test_extended_gcd_lcm(rt: HostRuntime) {
+    for a in -128i32..=127 {
+        for b in -128i32..=127 {
+            let pair = pair_with_lcm(&rt, a, b);
+            assert_eq!(rt; combined(&pair, a, b), Some(pair.gcd), "of {a} and {b}");
+        }
+    }
+}
+
+#[test]
+fn extended_gcd_lcm_of_ten_and_four(rt: HostRuntime) {
+    let pair = ExtendedGcd {
+        gcd: 2,
+        x: 1,
+        y: -2,
+    };
+    assert_eq!(rt; checked::extended_gcd_lcm(10i32, 4), Some((pair, 20)));
+}

@@ -1,0 +1,149 @@
+//! Names of the calls of two operands, and the rows of tables: a call, its operands and its answer.
+
+use super::checked;
+use super::types::{Check, Tested, number, optional};
+use num_integer::{Fits, average_ceil, average_floor};
+use std::process::Abort;
+
+/// A call that answers a number.
+#[derive(Clone, Copy, Debug)]
+pub(crate) enum NumberCall {
+    DivFloor,
+    ModFloor,
+    DivCeil,
+    NextMultipleOf,
+    PrevMultipleOf,
+    Gcd,
+    Lcm,
+    Binomial,
+}
+
+/// A call that answers two numbers.
+#[derive(Clone, Copy, Debug)]
+pub(crate) enum PairCall {
+    DivRem,
+    Operators,
+    DivModFloor,
+    GcdLcm,
+    Averages,
+}
+
+/// A call that answers whether something holds.
+#[derive(Clone, Copy, Debug)]
+pub(crate) enum Question {
+    IsMultipleOf,
+    Divides,
+    QuotientFits,
+    NextMultipleFits,
+    PrevMultipleFits,
+    GcdFits,
+    LcmFits,
+    BinomialFits,
+}
+
+impl NumberCall {
+    /// The answer, or `None` outside the domain of the call.
+    pub(crate) fn answer<T: Tested>(self, a: T, b: T) -> Option<T>
+        requires a_in_range { T.fits (T.value a) }
+        requires b_in_range { T.fits (T.value b) }
+    {
+        match self {
+            NumberCall::DivFloor => checked::div_floor(a, b),
+            NumberCall::ModFloor => checked::mod_floor(a, b),
+            NumberCall::DivCeil => checked::div_ceil(a, b),
+            NumberCall::NextMultipleOf => checked::next_multiple_of(a, b),
+            NumberCall::PrevMultipleOf => checked::prev_multiple_of(a, b),
+            NumberCall::Gcd => checked::gcd(a, b),
+            NumberCall::Lcm => checked::lcm(a, b),
+            NumberCall::Binomial => checked::binomial(a, b),
+        }
+    }
+}
+
+impl PairCall {
+    /// The answers, or `None` outside the domain of the call.
+    pub(crate) fn answers<T: Tested>(self, a: T, b: T) -> Option<(T, T)>
+        requires a_in_range { T.fits (T.value a) }
+        requires b_in_range { T.fits (T.value b) }
+    {
+        match self {
+            PairCall::Averages => Some((average_floor(a, b), average_ceil(a, b))),
+            PairCall::DivRem => checked::div_rem(a, b),
+            PairCall::Operators => checked::operators(a, b),
+            PairCall::DivModFloor => checked::div_mod_floor(a, b),
+            PairCall::GcdLcm => checked::gcd_lcm(a, b),
+        }
+    }
+}
+
+impl Question {
+    /// Whether it holds.
+    fn holds<T: Tested>(self, a: T, b: T) -> bool
+        requires a_in_range { T.fits (T.value a) }
+        requires b_in_range { T.fits (T.value b) }
+    {
+        match self {
+            Question::IsMultipleOf => a.is_multiple_of(&b),
+            Question::Divides => a.divides(&b),
+            Question::QuotientFits => a.quotient_fits(&b),
+            Question::NextMultipleFits => a.next_multiple_fits(&b),
+            Question::PrevMultipleFits => a.prev_multiple_fits(&b),
+            Question::GcdFits => a.gcd_fits(&b),
+            Question::LcmFits => a.lcm_fits(&b),
+            Question::BinomialFits => a.binomial_fits(&b),
+        }
+    }
+}
+
+/// A call, its operands and its answer, which is `None` outside its domain.
+#[derive(Drop)]
+pub(crate) struct Answers(
+    pub(crate) NumberCall,
+    pub(crate) (i128, i128),
+    pub(crate) Option<i128>,
+);
+
+/// A call of two answers, its operands and its answers.
+#[derive(Drop)]
+pub(crate) struct AnswersPair(
+    pub(crate) PairCall,
+    pub(crate) (i128, i128),
+    pub(crate) Option<(i128, i128)>,
+);
+
+/// A question, its operands, and whether it holds.
+#[derive(Drop)]
+pub(crate) struct Holds(
+    pub(crate) Question,
+    pub(crate) (i128, i128),
+    pub(crate) bool,
+);
+
+impl Check for Answers {
+    fn at<T: Tested>(&self, rt: &impl Abort) {
+        let (call, (a, b)) = (self.0, self.1);
+        let expected = optional::<T>(rt, self.2);
+        let answer = call.answer(number::<T>(rt, a), number::<T>(rt, b));
+        assert_eq!(rt; answer, expected, "{call:?} of {a} and {b}");
+    }
+}
+
+impl Check for AnswersPair {
+    fn at<T: Tested>(&self, rt: &impl Abort) {
+        let (call, (a, b)) = (self.0, self.1);
+        let expected = match self.2 {
+            Some((first, second)) => Some((number::<T>(rt, first), number::<T>(rt, second))),
+            None => None,
+        };
+        let answers = call.answers(number::<T>(rt, a), number::<T>(rt, b));
+        assert_eq!(rt; answers, expected, "{call:?} of {a} and {b}");
+    }
+}
+
+impl Check for Holds {
+    fn at<T: Tested>(&self, rt: &impl Abort) {
+        let (question, (a, b)) = (self.0, self.1);
+        let holds = question.holds(number::<T>(rt, a), number::<T>(rt, b));
+        assert_eq!(rt; holds, self.2, "{question:?} of {a} and {b}");
+    }
+}

@@ -1,0 +1,260 @@
+//! Worked values on the own types, most of them by the checks of the library's types.
+
+use super::bezout::HasPair;
+use super::call_rows::NumberCall::{Binomial, DivCeil, DivFloor, Gcd, Lcm, NextMultipleOf};
+use super::call_rows::PairCall::{Averages, DivModFloor};
+use super::call_rows::Question::{
+    BinomialFits, GcdFits, IsMultipleOf, LcmFits, NextMultipleFits, PrevMultipleFits, QuotientFits,
+};
+use super::call_rows::{Answers, AnswersPair, Holds};
+use super::checked;
+use super::coefficients::{HasItems, Shares, counted as counted_coefficient};
+use super::roots::check_roots;
+use super::types::{Type, check_at, check_rows};
+use crate::own_types::{Marked, Negated, OneBit, Percent, Small, TwoBits};
+use num_integer::{ExtendedGcd, Fits, Integer, div_ceil};
+use num_traits::{Num, Signed};
+
+#[test]
+fn division_of_percents(rt: HostRuntime) {
+    let (hundred, three) = (Percent::new(100), Percent::new(3));
+    assert!(rt; hundred.quotient_fits(&three));
+    assert!(rt; div_ceil(hundred, three).number() == 34);
+    let (n, ten) = (Percent::new(97), Percent::new(10));
+    assert!(rt; n.next_multiple_fits(&ten) && !hundred.next_multiple_fits(&three));
+    assert!(rt; n.next_multiple_of(&ten) == hundred);
+}
+
+#[test]
+fn divisors_of_percents(rt: HostRuntime) {
+    let rows = [
+        (Type::Percent, Holds(LcmFits, (50, 100), true)),
+        (Type::Percent, Holds(LcmFits, (51, 2), false)),
+        (Type::Percent, Holds(GcdFits, (20, 100), true)),
+        (Type::Percent, Holds(IsMultipleOf, (100, 20), true)),
+    ];
+    check_rows(&rt, &rows);
+    check_at(&rt, Type::Percent, &Answers(Lcm, (50, 100), Some(100)));
+    check_at(&rt, Type::Percent, &HasPair((20, 100), (20, 1, 0), 1));
+}
+
+#[test]
+fn coefficients_of_percents(rt: HostRuntime) {
+    let rows = [
+        (Type::Percent, Holds(BinomialFits, (8, 4), true)),
+        (Type::Percent, Holds(BinomialFits, (100, 99), true)),
+    ];
+    check_rows(&rt, &rows);
+    let rows = [
+        (Type::Percent, Answers(Binomial, (8, 4), Some(70))),
+        (Type::Percent, Answers(Binomial, (100, 99), Some(100))),
+    ];
+    check_rows(&rt, &rows);
+    check_at(
+        &rt,
+        Type::Percent,
+        &Shares(rt.alloc(), &[2, 2, 2], Some(90)),
+    );
+}
+
+#[test]
+fn row_of_a_percent(rt: HostRuntime) {
+    check_at(&rt, Type::Percent, &Holds(BinomialFits, (8, 4), true));
+    check_at(&rt, Type::Percent, &Holds(BinomialFits, (9, 4), false));
+    let items = [1, 8, 28, 56, 70, 56, 28, 8, 1];
+    check_at(&rt, Type::Percent, &HasItems(8, 4, &items));
+}
+
+#[test]
+fn roots_and_averages_of_percents(rt: HostRuntime) {
+    let rows = [
+        (Type::Percent, 99, 2, 9),
+        (Type::Percent, 100, 3, 4),
+        (Type::Percent, 100, 6, 2),
+    ];
+    check_roots(&rt, &rows);
+    let averages = AnswersPair(Averages, (100, 99), Some((99, 100)));
+    check_at(&rt, Type::Percent, &averages);
+}
+
+#[test]
+fn ends_and_texts(rt: HostRuntime) {
+    assert!(rt; Percent::ends() == (0, 100) && Small::ends() == (7, 7));
+    assert!(rt; Small::new(-7).parts() == (true, 7));
+    assert!(rt; Percent::from_str_radix("7", 10).is_err());
+    assert!(rt; Small::from_str_radix("7", 10).is_err());
+}
+
+#[test]
+fn signs_of_small_numbers(rt: HostRuntime) {
+    let (least, seven) = (Small::new(-7), Small::new(7));
+    assert!(rt; least.abs() == seven && least.abs() == -least);
+    assert!(rt; least.signum().number() == -1 && least.is_negative() && seven.is_positive());
+    assert!(rt; seven.abs_sub(&Small::new(3)).number() == 4);
+    let averages = AnswersPair(Averages, (-7, 2), Some((-3, -2)));
+    check_at(&rt, Type::Small, &averages);
+}
+
+#[test]
+fn division_of_small_numbers(rt: HostRuntime) {
+    let rows = [
+        (Type::Small, Holds(QuotientFits, (-7, 2), true)),
+        (Type::Small, Holds(QuotientFits, (-7, -1), true)),
+        (Type::Small, Holds(NextMultipleFits, (7, -2), true)),
+        (Type::Small, Holds(PrevMultipleFits, (7, -2), false)),
+    ];
+    check_rows(&rt, &rows);
+    let rows = [
+        (Type::Small, Answers(DivCeil, (-7, 2), Some(-3))),
+        (Type::Small, Answers(DivFloor, (-7, -1), Some(7))),
+        (Type::Small, Answers(NextMultipleOf, (7, -2), Some(6))),
+    ];
+    check_rows(&rt, &rows);
+    let floored = AnswersPair(DivModFloor, (-7, 2), Some((-4, 1)));
+    check_at(&rt, Type::Small, &floored);
+}
+
+#[test]
+fn bezout_of_small_numbers(rt: HostRuntime) {
+    let rows = [
+        (Type::Small, Holds(GcdFits, (7, 5), true)),
+        (Type::Small, Holds(GcdFits, (-6, 4), true)),
+        (Type::Small, Holds(LcmFits, (-6, 4), false)),
+    ];
+    check_rows(&rt, &rows);
+    let rows = [
+        (Type::Small, HasPair((7, 5), (1, -2, 3), 2)),
+        (Type::Small, HasPair((-6, 4), (2, -1, -1), 1)),
+    ];
+    check_rows(&rt, &rows);
+}
+
+#[test]
+fn bezout_and_lcm_of_small_numbers(rt: HostRuntime) {
+    let (a, b) = (Small::new(-6), Small::new(3));
+    assert!(rt; a.gcd_fits(&b) && a.lcm_fits(&b));
+    let expected = ExtendedGcd {
+        gcd: b,
+        x: Small::new(0),
+        y: Small::new(1),
+    };
+    assert!(rt; checked::extended_gcd_lcm(a, b) == Some((expected, Small::new(6))));
+}
+
+#[test]
+fn coefficients_of_small_numbers(rt: HostRuntime) {
+    let rows = [
+        (Type::Small, Holds(BinomialFits, (4, 2), true)),
+        (Type::Small, Holds(BinomialFits, (7, 1), true)),
+    ];
+    check_rows(&rt, &rows);
+    let rows = [
+        (Type::Small, Answers(Binomial, (4, 2), Some(6))),
+        (Type::Small, Answers(Binomial, (7, 1), Some(7))),
+    ];
+    check_rows(&rt, &rows);
+    let rows = [
+        (Type::Small, Shares(rt.alloc(), &[1, 1, 1], Some(6))),
+        (Type::Small, Shares(rt.alloc(), &[2, 2, 2], None)),
+    ];
+    check_rows(&rt, &rows);
+}
+
+#[test]
+fn row_of_a_small_number(rt: HostRuntime) {
+    check_at(&rt, Type::Small, &Holds(BinomialFits, (4, 2), true));
+    check_at(&rt, Type::Small, &Holds(BinomialFits, (5, 2), false));
+    check_at(&rt, Type::Small, &HasItems(4, 2, &[1, 4, 6, 4, 1]));
+}
+
+/// What `Negated` stores is ordered the other way round.
+#[test]
+fn numbers_stored_negated(rt: HostRuntime) {
+    let (least, greatest) = (Negated::new(-7), Negated::new(7));
+    assert!(rt; least < greatest && least.abs() == greatest);
+    assert!(rt; Negated::ends() == (7, 7) && least.parts() == (true, 7));
+    check_at(&rt, Type::Negated, &HasPair((7, 5), (1, -2, 3), 2));
+    check_at(&rt, Type::Negated, &HasItems(4, 2, &[1, 4, 6, 4, 1]));
+    let items = [1, 8, 28, 56, 70, 56, 28, 8, 1];
+    check_at(&rt, Type::Marked, &HasItems(8, 4, &items));
+}
+
+/// Two values of one number are equal, whatever stands beside it.
+#[test]
+fn numbers_beside_a_byte(rt: HostRuntime) {
+    let (plain, marked) = (Marked::new(5), Marked::new(5).with_mark(9));
+    assert!(rt; plain.mark() == 0 && marked.mark() == 9);
+    assert!(rt; plain == marked && !(plain < marked) && !(marked < plain));
+    assert!(rt; plain.is_multiple_of(&marked) && marked.is_multiple_of(&plain));
+    assert!(rt; (plain + marked).mark() == 10);
+    let common = checked::gcd(marked, plain).expect(&rt, "the divisor fits");
+    assert!(rt; common == plain && common.mark() == 10);
+}
+
+#[test]
+fn numbers_of_one_bit(rt: HostRuntime) {
+    let pairs = [
+        (Type::OneBit, HasPair((1, 1), (1, 0, 1), 0)),
+        (Type::OneBit, HasPair((0, 1), (1, 0, 1), 0)),
+        (Type::OneBit, HasPair((1, 0), (1, 1, 0), 0)),
+        (Type::OneBit, HasPair((0, 0), (0, 1, 0), 0)),
+    ];
+    check_rows(&rt, &pairs);
+    let answers = [
+        (Type::OneBit, Answers(Binomial, (1, 1), Some(1))),
+        (Type::OneBit, Answers(Gcd, (1, 1), Some(1))),
+    ];
+    check_rows(&rt, &answers);
+    check_at(&rt, Type::OneBit, &HasItems(0, 0, &[1]));
+    assert!(rt; OneBit::ends() == (0, 1));
+}
+
+#[test]
+fn numbers_of_two_bits(rt: HostRuntime) {
+    let answers = [
+        (Type::TwoBits, Answers(Binomial, (3, 2), Some(3))),
+        (Type::TwoBits, Answers(Binomial, (2, 1), Some(2))),
+    ];
+    check_rows(&rt, &answers);
+    let rows = [
+        (Type::TwoBits, HasItems(0, 0, &[1])),
+        (Type::TwoBits, HasItems(1, 0, &[1, 1])),
+        (Type::TwoBits, HasItems(2, 1, &[1, 2, 1])),
+    ];
+    check_rows(&rt, &rows);
+    assert!(rt; TwoBits::ends() == (0, 3));
+}
+
+#[test]
+fn shares_of_odd_types(rt: HostRuntime) {
+    let rows = [
+        (Type::Negated, Shares(rt.alloc(), &[1, 1, 1], Some(6))),
+        (Type::Marked, Shares(rt.alloc(), &[2, 2, 2], Some(90))),
+        (Type::OneBit, Shares(rt.alloc(), &[1, 0], Some(1))),
+        (Type::OneBit, Shares(rt.alloc(), &[1, 1], None)),
+        (Type::TwoBits, Shares(rt.alloc(), &[2, 1], Some(3))),
+        (Type::TwoBits, Shares(rt.alloc(), &[1, 1, 1], None)),
+    ];
+    check_rows(&rt, &rows);
+}
+
+/// The greatest byte of the three answers.
+fn greatest_mark(pair: &ExtendedGcd<Marked>) -> u8 {
+    pair.gcd.mark().max(pair.x.mark()).max(pair.y.mark())
+}
+
+/// A body that made more turns than it counts, or that subtracted where it should divide, would
+/// leave a greater byte.
+#[test]
+fn bytes_tell_the_work(rt: HostRuntime) {
+    let (a, b) = (Marked::new(99), Marked::new(2));
+    let plain = checked::extended_gcd(a, b).expect(&rt, "the pair fits");
+    assert!(rt; (plain.x.number(), plain.y.number()) == (1, -49) && greatest_mark(&plain) <= 16);
+    let (counted, turns) = checked::extended_gcd_counted(a, b).expect(&rt, "the pair fits");
+    assert!(rt; counted == plain && turns == 1 && greatest_mark(&counted) <= 16);
+    let (n, k) = (Marked::new(100), Marked::new(99));
+    let plain = checked::binomial(n, k).expect(&rt, "the coefficient fits");
+    assert!(rt; plain.number() == 100 && plain.mark() <= 16);
+    let (counted, turns) = counted_coefficient(n, k).expect(&rt, "the coefficient fits");
+    assert!(rt; counted == plain && turns == 1 && counted.mark() <= 16);
+}

@@ -1,0 +1,399 @@
+//! Roots: worked values, the tests of the Rust crate, each number of `u8` and of `u16`, and the numbers
+//! beside powers.
+
+ghost use Rattle.std.specs.Prelude.{◌≤◌, IfSome};
+
+use super::types::Type::{I8, I16, I32, I64, Isize, U8, U16, U32, U64, Usize};
+use super::types::{
+    RootCheck, RootTurnsCheck, Tested, Type, check_root_turns_at, check_roots_at, greatest, number,
+};
+use num_integer::counted::SqrtCounted;
+use num_integer::{Fits, Roots};
+use std::process::Abort;
+
+/// The signed types of at most 64 bits, and the bits beside the sign.
+const SIGNED_BITS: [(Type, u32); 5] = [(I8, 7), (I16, 15), (I32, 31), (I64, 63), (Isize, 63)];
+
+/// The unsigned types of at most 64 bits, and their bits.
+const UNSIGNED_BITS: [(Type, u32); 5] = [(U8, 8), (U16, 16), (U32, 32), (U64, 64), (Usize, 64)];
+
+/// The square root and the turns, from 0 up.
+pub(super) fn square_root_counted<T: SqrtCounted + Fits>(x: T) -> Option<(T, u32)>
+    requires { T.fits (T.value x) }
+{
+    if x.parts().0 {
+        None
+    } else {
+        Some(x.sqrt_counted())
+    }
+}
+
+/// The square root, from 0 up.
+fn square_root<T: Roots + Fits>(x: T) -> Option<T>
+    requires { T.fits (T.value x) }
+{
+    if x.parts().0 {
+        None
+    } else {
+        Some(num_integer::sqrt(x))
+    }
+}
+
+/// The root of any degree but 0, from 0 up where the degree is even.
+fn root_of_degree<T: Roots + Fits>(x: T, n: u32) -> Option<T>
+    requires { T.fits (T.value x) }
+    ensures { IfSome result (λ root. T.fits (T.value root)) }
+{
+    if n == 0 || n.is_multiple_of(2) && x.parts().0 {
+        None
+    } else {
+        Some(num_integer::nth_root(x, n))
+    }
+}
+
+/// A number, a degree, and the root, by `nth_root` and the call of the degree.
+#[derive(Drop)]
+struct HasRoot(i128, u32, i128);
+
+impl RootCheck for HasRoot {
+    fn at<T: Roots + Tested>(&self, rt: &impl Abort) {
+        let (x, degree) = (number::<T>(rt, self.0), self.1);
+        let expected = Some(number::<T>(rt, self.2));
+        let root = root_of_degree(x, degree);
+        assert_eq!(rt; root, expected, "degree {degree} of {}", self.0);
+        let root = match degree {
+            2 => square_root(x),
+            3 => Some(num_integer::cbrt(x)),
+            _ => root,
+        };
+        assert_eq!(rt; root, expected, "degree {degree} of {}", self.0);
+    }
+}
+
+/// Checks the root of each row, a number, a degree and a root, at the row's type.
+pub(crate) fn check_roots(rt: &impl Abort, rows: &[(Type, i128, u32, i128)]) {
+    for row in rows {
+        let (it, x, degree, root) = *row;
+        check_roots_at(rt, it, &HasRoot(x, degree, root));
+    }
+}
+
+/// A number, its square root, and the turns.
+#[derive(Drop)]
+struct HasTurns(i128, i128, u32);
+
+impl RootTurnsCheck for HasTurns {
+    fn at<T: SqrtCounted + Tested>(&self, rt: &impl Abort) {
+        let expected = Some((number::<T>(rt, self.1), self.2));
+        let counted = square_root_counted(number::<T>(rt, self.0));
+        assert_eq!(rt; counted, expected, "of {}", self.0);
+    }
+}
+
+#[test]
+fn square_roots_and_their_turns(rt: HostRuntime) {
+    for (it, x, root, turns) in [
+        (U64, 18446744073709551615, 4294967295, 1),
+        (U64, 18446744065119617025, 4294967295, 1),
+        (U64, 18446744065119617024, 4294967294, 2),
+        (U64, 99, 9, 2),
+        (U64, 16, 4, 0),
+        (U64, 8, 2, 2),
+        (U64, 3, 1, 0),
+        (I64, 9223372036854775807, 3037000499, 4),
+        (I64, 4, 2, 0),
+        (U8, 255, 15, 1),
+    ] {
+        check_root_turns_at(&rt, it, &HasTurns(x, root, turns));
+        check_roots_at(&rt, it, &HasRoot(x, 2, root));
+    }
+}
+
+#[test]
+fn square_and_cube_roots(rt: HostRuntime) {
+    let rows = [
+        (I32, -2147483648, 3, -1290),
+        (I32, 152399025, 2, 12345),
+        (I32, 152399026, 2, 12345),
+        (I32, 152399024, 2, 12344),
+        (I32, 1879080904, 3, 1234),
+        (I32, 1879080905, 3, 1234),
+        (I32, 1879080903, 3, 1233),
+        (I32, -1879080904, 3, -1234),
+        (I32, -1879080905, 3, -1234),
+        (I32, -1879080903, 3, -1233),
+        (U8, 255, 2, 15),
+        (U8, 255, 3, 6),
+        (U16, 65535, 2, 255),
+        (U32, 4294967295, 3, 1625),
+        (U64, 18446744073709551615, 3, 2642245),
+        (U64, 4294967295, 3, 1625),
+        (U64, 4294967296, 3, 1625),
+        (U64, 4298942375, 3, 1625),
+        (U64, 4298942376, 3, 1626),
+        (U64, 18446724184312856125, 3, 2642245),
+        (U64, 18446724184312856124, 3, 2642244),
+        (I8, -128, 3, -5),
+        (I64, -9223372036854775808, 3, -2097152),
+    ];
+    check_roots(&rt, &rows);
+}
+
+#[test]
+fn roots_of_any_degree(rt: HostRuntime) {
+    for (n, root) in [(4, 65535), (5, 7131), (63, 2), (64, 1), (4294967295, 1)] {
+        check_roots(&rt, &[(U64, 18446744073709551615, n, root)]);
+    }
+    for (n, root) in [
+        (1, 12345),
+        (2, 111),
+        (3, 23),
+        (4, 10),
+        (13, 2),
+        (14, 1),
+        (4294967295, 1),
+    ] {
+        let rows = [(I32, 12345, n, root), (I64, 12345, n, root)];
+        check_roots(&rt, &rows);
+    }
+    let rows = [
+        (I32, -2147483648, 1, -2147483648),
+        (I32, -2147483648, 3, -1290),
+        (I32, -2147483648, 31, -2),
+        (I8, -128, 7, -2),
+        (I8, -127, 7, -1),
+        (I8, 127, 200, 1),
+        (U64, 0, 5, 0),
+        (U64, 130321, 4, 19),
+        (U64, 130320, 4, 18),
+        (I64, -9223372036854775808, 1, -9223372036854775808),
+        (I64, -9223372036854775808, 63, -2),
+        (I64, -9223372036854775808, 4294967295, -1),
+    ];
+    check_roots(&rt, &rows);
+}
+
+/// The root has the sign of the number, and of those whose power is no farther from 0 than the
+/// number it is the farthest from 0.
+pub(crate) fn check_root<T: Roots + Tested>(rt: &impl Abort, x: i128, n: u32) {
+    let number = number::<T>(rt, x);
+    let root = root_of_degree(number, n).expect(rt, "the number has a root");
+    match n {
+        2 => assert!(rt; square_root(number) == Some(root)),
+        3 => assert!(rt; num_integer::cbrt(number) == root),
+        _ => {}
+    }
+    let (negative, magnitude) = root.parts();
+    assert!(rt; negative == (x < 0));
+    let power = magnitude.checked_pow(n);
+    let next = magnitude.saturating_add(1).checked_pow(n);
+    assert!(rt; power.expect(rt, "the power is no farther from 0") <= x.unsigned_abs());
+    assert!(rt; next.unwrap_or(u128::MAX) > x.unsigned_abs());
+}
+
+/// The roots of small numbers, of numbers near the top, and of the top shifted either way.
+fn check_roots_from_zero<T: Roots + Tested>(rt: &impl Abort, bits: u32, n: u32)
+    requires { bits ≤ 64 }
+{
+    let greatest = greatest::<T>(rt);
+    for step in 0..128u8 {
+        check_root::<T>(rt, i128::from(step), n);
+        check_root::<T>(rt, greatest - i128::from(step), n);
+    }
+    for shift in 0..=bits {
+        check_root::<T>(rt, (greatest << shift) & greatest, n);
+        check_root::<T>(rt, greatest >> shift, n);
+    }
+}
+
+/// The same of negative numbers, where the degree is odd.
+fn check_roots_below_zero<T: Roots + Tested>(rt: &impl Abort, bits: u32, n: u32)
+    requires { bits ≤ 64 }
+{
+    let least = -greatest::<T>(rt) - 1;
+    for step in 0..128u8 {
+        check_root::<T>(rt, -i128::from(step), n);
+        check_root::<T>(rt, least + i128::from(step), n);
+    }
+    check_root::<T>(rt, least + 128, n);
+    for shift in 0..=bits {
+        check_root::<T>(rt, -1 << shift, n);
+        check_root::<T>(rt, least >> shift, n);
+    }
+}
+
+/// The bits of the greatest number of a type, the first of the degrees, and their end.
+#[derive(Drop)]
+struct RootsFromZero(u32, u32, u32);
+
+impl RootCheck for RootsFromZero {
+    fn at<T: Roots + Tested>(&self, rt: &impl Abort) {
+        assert!(rt; self.0 <= 64);
+        for n in self.1..self.2 {
+            check_roots_from_zero::<T>(rt, self.0, n);
+        }
+    }
+}
+
+/// The bits of the greatest number of a type, the first of the degrees, of which the odd ones count,
+/// and their end.
+#[derive(Drop)]
+struct RootsBelowZero(u32, u32, u32);
+
+impl RootCheck for RootsBelowZero {
+    fn at<T: Roots + Tested>(&self, rt: &impl Abort) {
+        assert!(rt; self.0 <= 64);
+        for n in self.1..self.2 {
+            if !n.is_multiple_of(2) {
+                check_roots_below_zero::<T>(rt, self.0, n);
+            }
+        }
+    }
+}
+
+/// Checks the roots from 0 up, of the degrees from the first to before the end, at each of the types.
+fn check_from_zero(rt: &impl Abort, types: &[(Type, u32)], first: u32, end: u32) {
+    for (it, bits) in types {
+        check_roots_at(rt, *it, &RootsFromZero(*bits, first, end));
+    }
+}
+
+#[test]
+fn sqrt(rt: HostRuntime) {
+    check_from_zero(&rt, &SIGNED_BITS, 2, 3);
+    check_from_zero(&rt, &UNSIGNED_BITS, 2, 3);
+}
+
+#[test]
+fn cbrt(rt: HostRuntime) {
+    check_from_zero(&rt, &SIGNED_BITS, 3, 4);
+    check_from_zero(&rt, &UNSIGNED_BITS, 3, 4);
+}
+
+#[test]
+fn cbrt_neg(rt: HostRuntime) {
+    for (it, bits) in SIGNED_BITS {
+        check_roots_at(&rt, it, &RootsBelowZero(bits, 3, 4));
+    }
+}
+
+#[test]
+fn nth_root(rt: HostRuntime) {
+    for (it, bits) in SIGNED_BITS {
+        check_roots_at(&rt, it, &RootsFromZero(bits, 4, bits));
+    }
+}
+
+#[test]
+fn nth_root_neg(rt: HostRuntime) {
+    for (it, bits) in SIGNED_BITS {
+        check_roots_at(&rt, it, &RootsBelowZero(bits, 5, bits));
+    }
+}
+
+/// The root of degree `n` of the greatest number of `n` bits is 1, and of degree `n - 1` it is 2.
+#[derive(Drop)]
+struct HasBits(u32);
+
+impl RootCheck for HasBits {
+    fn at<T: Roots + Tested>(&self, rt: &impl Abort) {
+        let (n, number) = (self.0, greatest::<T>(rt));
+        for (degree, root) in [(n.saturating_sub(1), 2), (n, 1)] {
+            HasRoot(number, degree, root).at::<T>(rt);
+        }
+    }
+}
+
+/// The roots of degree `n` of the least number, and of the next, where a sign stands beside `n` bits.
+#[derive(Drop)]
+struct HasSign(u32);
+
+impl RootCheck for HasSign {
+    fn at<T: Roots + Tested>(&self, rt: &impl Abort) {
+        let greatest = greatest::<T>(rt);
+        for (number, root) in [(-greatest - 1, -2), (-greatest, -1)] {
+            HasRoot(number, self.0, root).at::<T>(rt);
+        }
+    }
+}
+
+#[test]
+fn bit_size(rt: HostRuntime) {
+    for (it, bits) in SIGNED_BITS {
+        check_roots_at(&rt, it, &HasBits(bits));
+        check_roots_at(&rt, it, &HasSign(bits));
+    }
+    for (it, bits) in UNSIGNED_BITS {
+        check_roots_at(&rt, it, &HasBits(bits));
+    }
+}
+
+/// The root of degree `n` of each number of a type from 0 up: it is the same from one power to before
+/// the next.
+fn check_each_root<T: Roots + Tested>(rt: &impl Abort, n: u32) {
+    let end = greatest::<T>(rt).saturating_add(1);
+    let mut power = 0i128;
+    for root in 0..end {
+        let next = root.saturating_add(1).checked_pow(n).unwrap_or(end);
+        for x in power..next.min(end) {
+            HasRoot(x, n, root).at::<T>(rt);
+        }
+        if next >= end {
+            return;
+        }
+        power = next;
+    }
+}
+
+/// The roots of each number from 0 up, of the degrees from 1 to 16.
+#[derive(Drop)]
+struct EachRoot;
+
+impl RootCheck for EachRoot {
+    fn at<T: Roots + Tested>(&self, rt: &impl Abort) {
+        for n in 1..=16 {
+            check_each_root::<T>(rt, n);
+        }
+    }
+}
+
+#[test]
+fn roots_of_each_number(rt: HostRuntime) {
+    for it in [U8, U16] {
+        check_roots_at(&rt, it, &EachRoot);
+    }
+}
+
+/// The roots of degree `n` of the power of `base` and of the numbers beside it, of those that `u64`
+/// has.
+fn check_roots_beside_power(rt: &impl Abort, base: i128, n: u32) {
+    let Some(power) = base.checked_pow(n) else {
+        return;
+    };
+    let (below, above) = (power.saturating_sub(1), power.saturating_add(1));
+    for (x, root) in [
+        (below, base.saturating_sub(1)),
+        (power, base),
+        (above, base),
+    ] {
+        if x <= i128::from(u64::MAX) {
+            check_roots(rt, &[(U64, x, n, root)]);
+        }
+    }
+}
+
+/// The roots beside the powers of a number and of its two neighbors, of the degrees from 3 to 10.
+fn check_roots_beside_powers(rt: &impl Abort, middle: i128) {
+    for base in [middle.saturating_sub(1), middle, middle.saturating_add(1)] {
+        for n in 3..=10 {
+            check_roots_beside_power(rt, base, n);
+        }
+    }
+}
+
+#[test]
+fn roots_beside_powers(rt: HostRuntime) {
+    for place in 1..32u32 {
+        check_roots_beside_powers(&rt, 1 << place);
+    }
+}

@@ -1,0 +1,120 @@
+-- Lemmas that the proofs of callers may cite, beside the laws.
+use Rattle.std.specs.Prelude.{◌≡◌, ◌≢◌, ◌<◌, ◌≤◌, ◌^◌, ◌*◌, ◌+ℤ◌, ◌*ℤ◌, ℤ, pos, unsigned_abs, Result, Ok, Err, IfOk, IsOk}
+use Rattle.std.specs.Int.{w64}
+use Rattle.std.proofs.Common.{arith, ap, inl, inr, refl, sym, ◌∙◌}
+use Rattle.std.proofs.Math.Nat.{mul-le-mul_left}
+use Rattle.std.proofs.lemmas.Int.{ints, fits_signed_from_abs, unsigned_abs-mul}
+use Rattle.num_integer.proofs.ForCallers.{cancel, comm, expand, mul-one, products, sizes}
+use Rattle.ratio64.specs.Fraction.{AreEqual, IsExact, IsFraction, IsOutsideI64, IsReduced}
+use Rattle.ratio64.specs.Ratio.{AnswersFraction, num_of, den_of}
+use Rattle.ratio64.specs.declared.fraction.Ratio.{Ratio}
+use Rattle.ratio64.specs.declared.error.RatioError.{RatioError}
+use Rattle.ratio64.specs.declared.error.RatioError.TheVariants.{ZeroDenominator, NotFitting}
+use Rattle.ratio64.proofs.ExactResults.{same_result}
+use Rattle.ratio64.proofs.EqualFractions.{equal_products, equal_sums}
+-- ---- lemmas from elsewhere
+
+pub use Rattle.ratio64.proofs.ExactResults.{only_exact_result}
+pub use Rattle.ratio64.proofs.FractionAnswers.{exact_answer, exact_is_inside, zero_exactly, zero_factor}
+pub use Rattle.ratio64.proofs.WideSums.{difference_below, read, read_product, sum_below}
+pub use Rattle.ratio64.specs.ReducedPairs.{AreEqual-sym, denominator_divides, positive_is_nonzero, same_pair}
+
+-- ---- what an answer says
+
+-- `Ok`: both parts fit
+pub ok_is_inside : {a b : ℤ} {x : Ratio} → AnswersFraction a b (Ok x) → ¬ (IsOutsideI64 a b)
+ok_is_inside h far = let e = h.not_fitting.1 far in absurd cc
+
+-- `Err`, of a fraction: one of them does not
+pub err_is_outside : {a b : ℤ} (e : RatioError) → b ≢ pos 0 → AnswersFraction a b (Err e) → IsOutsideI64 a b
+err_is_outside ZeroDenominator fraction h = absurd (fraction (h.zero_denominator.0 refl))
+err_is_outside NotFitting fraction h = h.not_fitting.0 refl
+
+-- a fraction whose parts fit is not refused
+pub answer_is_ok : {a b : ℤ} {r : Result Ratio RatioError} → b ≢ pos 0 → ¬ (IsOutsideI64 a b) → AnswersFraction a b r → IsOk r
+answer_is_ok {r = Ok x} fraction inside h = refl
+answer_is_ok {r = Err e} fraction inside h = absurd (inside (err_is_outside e fraction h))
+
+-- ---- the size of an exact result
+
+-- both parts of a fraction are those of its exact result times one number
+pub common_factor : {a b n d : ℤ} → IsExact a b n d → (s : ℤ) × (a ≡ n *ℤ s) × (b ≡ d *ℤ s)
+common_factor {a} {b} {n} {d} h =
+    let x = denominator_divides h.reduced (AreEqual-sym h.equal) in
+    let cross = h.equal.cross in
+    let e : b ≡ d *ℤ x.factor = x.product in
+    let left : d *ℤ a ≡ d *ℤ (n *ℤ x.factor) = comm d a ∙ cross ∙ ap (λ (t : ℤ). n *ℤ t) e ∙ simp expand in
+    (x.factor, cancel d a (n *ℤ x.factor) (positive_is_nonzero h.reduced.positive) left, e)
+
+factor_at_most : (x y s : ℤ) → s ≢ pos 0 → x ≡ y *ℤ s → unsigned_abs y ≤ unsigned_abs x
+factor_at_most x y s nonzero e =
+    let size : unsigned_abs x ≡ unsigned_abs y * unsigned_abs s = ap unsigned_abs e ∙ unsigned_abs-mul y s in
+    let some : 1 ≤ unsigned_abs s = omega (arith, sizes) in
+    omega (arith, mul-le-mul_left (unsigned_abs y) some)
+
+-- they are no wider than those of the fraction
+pub exact_parts_at_most : {a b n d : ℤ} → IsExact a b n d → (unsigned_abs n ≤ unsigned_abs a) × (unsigned_abs d ≤ unsigned_abs b)
+exact_parts_at_most {a} {b} {n} {d} h =
+    let s = common_factor h in
+    let nonzero : s.0 ≢ pos 0 = λ none. h.fraction (rw none at s.2 ∙ omega (arith, products)) in
+    (factor_at_most a n s.0 nonzero s.1, factor_at_most b d s.0 nonzero s.2)
+
+pub small_parts_inside : {a b : ℤ} → unsigned_abs a < 2 ^ 63 → unsigned_abs b < 2 ^ 63 → ¬ (IsOutsideI64 a b)
+small_parts_inside a_small b_small far =
+    let size = exact_parts_at_most far.exact in
+    elim far.outside [
+      | inl outside ↦ outside (fits_signed_from_abs w64 far.num (omega arith))
+      | inr outside ↦ outside (fits_signed_from_abs w64 far.den (omega arith))
+    ]
+
+-- ---- fractions that are reduced already
+
+pub reduced_is_exact : {n d : ℤ} → IsReduced n d → IsExact n d n d
+reduced_is_exact x = record { fraction = positive_is_nonzero x.positive; reduced = x; equal = record { cross = refl } }
+
+-- a number over 1
+pub whole_is_exact : (n : ℤ) → IsExact n (pos 1) n (pos 1)
+whole_is_exact n = reduced_is_exact (record {
+  positive = omega (arith, ints);
+  lowest = record {
+    from_zero = omega (arith, ints);
+    divides_left = record { factor = n; product = sym (comm (pos 1) n ∙ mul-one n) };
+    divides_right = record { factor = pos 1; product = omega (arith, ints) };
+    greatest = λ d left right. right;
+  };
+})
+
+-- ---- equal fractions
+
+pub equal_outside : {a b c d : ℤ} → IsFraction c d → AreEqual a b c d → IsOutsideI64 a b → IsOutsideI64 c d
+equal_outside fraction equal far = record { num = far.num; den = far.den; exact = same_result fraction equal far.exact; outside = far.outside }
+
+equal_exact : {a b c d : ℤ} (r : Result Ratio RatioError) → IsFraction c d → AreEqual a b c d → IfOk r (λ x. IsExact a b (num_of x) (den_of x)) → IfOk r (λ x. IsExact c d (num_of x) (den_of x))
+equal_exact (Ok x) fraction equal exact = same_result fraction equal exact
+equal_exact (Err e) fraction equal exact = tt
+
+pub equal_fractions_answered_alike : {a b c d : ℤ} {r : Result Ratio RatioError} → b ≢ pos 0 → d ≢ pos 0 → AreEqual a b c d → AnswersFraction a b r → AnswersFraction c d r
+equal_fractions_answered_alike {r = r} b_nonzero d_nonzero equal h = record {
+  exact = equal_exact r d_nonzero equal h.exact;
+  zero_denominator = (λ e. absurd (b_nonzero (h.zero_denominator.0 e)), λ none. absurd (d_nonzero none));
+  not_fitting = (λ e. equal_outside d_nonzero equal (h.not_fitting.0 e), λ far. h.not_fitting.1 (equal_outside b_nonzero (AreEqual-sym equal) far));
+}
+
+-- ---- sums and products of exact results
+
+-- a product of denominators is not 0
+pub nonzero_product : {b d : ℤ} → b ≢ pos 0 → d ≢ pos 0 → b *ℤ d ≢ pos 0
+nonzero_product b_nonzero d_nonzero e = b_nonzero ((zero_factor d_nonzero).0 e)
+
+-- with the exact results m/n of a/b and p/q of c/d
+module _ {a b c d m n p q : ℤ} (x : IsExact a b m n) (y : IsExact c d p q) where
+  denominators : n *ℤ q ≢ pos 0
+  denominators = nonzero_product (positive_is_nonzero x.reduced.positive) (positive_is_nonzero y.reduced.positive)
+
+  -- their sum answers that of the fractions
+  pub sum_of_exact_results : {r : Result Ratio RatioError} → AnswersFraction (m *ℤ q +ℤ p *ℤ n) (n *ℤ q) r → AnswersFraction (a *ℤ d +ℤ c *ℤ b) (b *ℤ d) r
+  sum_of_exact_results = equal_fractions_answered_alike denominators (nonzero_product x.fraction y.fraction) (equal_sums m n p q a b c d (AreEqual-sym x.equal) (AreEqual-sym y.equal))
+
+  -- and so does their product
+  pub product_of_exact_results : {r : Result Ratio RatioError} → AnswersFraction (m *ℤ p) (n *ℤ q) r → AnswersFraction (a *ℤ c) (b *ℤ d) r
+  product_of_exact_results = equal_fractions_answered_alike denominators (nonzero_product x.fraction y.fraction) (equal_products m n p q a b c d (AreEqual-sym x.equal) (AreEqual-sym y.equal))
