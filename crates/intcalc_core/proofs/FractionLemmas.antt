@@ -9,11 +9,12 @@ use Rattle.ratio64.specs.Ratio.{AnswersFraction, num_of, den_of}
 use Rattle.ratio64.specs.declared.fraction.Ratio.{Ratio}
 use Rattle.ratio64.specs.declared.error.RatioError.{RatioError}
 use Rattle.intcalc_core.specs.Fractions.{IsRatioOf}
-use Rattle.intcalc_core.specs.Outcome.{AnswersExact, Inside, NeedsFractions, OutcomeIn}
+use Rattle.intcalc_core.specs.Outcome.{AnswersExact, FitsKind, Inside, NeedsFractions, OutcomeIn}
 use Rattle.intcalc_core.specs.declared.calls.Answer.{Answer}
 use Rattle.intcalc_core.specs.declared.calls.Answer.TheVariants.{Two}
 use Rattle.intcalc_core.specs.declared.calls.Call.{Call}
 use Rattle.intcalc_core.specs.declared.calls.Call.TheVariants.{RatioAdd, RatioMul}
+use Rattle.intcalc_core.specs.declared.calls.Kind.TheVariants.{I64}
 use Rattle.intcalc_core.specs.declared.calls.Refusal.{Refusal}
 use Rattle.intcalc_core.specs.declared.calls.Refusal.TheVariants.{NotFitting}
 
@@ -58,15 +59,29 @@ narrowed a fits h =
     let read = rw (to_z-of_z w128 a fits) at h in
     (ap (λ (t : ℤ). to_z w64 (of_z w64 t)) read.0 ∙ to_z-of_z w64 a read.1, read.1)
 
-module _ (fits : ℤ → Type 0) {call : Call} {a b c d x y z w : ℤ} {r : Result Answer Refusal} (x_is : (x ≡ a) × FitsSigned w64 a) (y_is : (y ≡ b) × FitsSigned w64 b) (z_is : (z ≡ c) × FitsSigned w64 c) (w_is : (w ≡ d) × FitsSigned w64 d) where
-  pub sum_row : call ≡ RatioAdd a b c d → NeedsFractions x y z w (AnswersExact (x *ℤ w +ℤ z *ℤ y) (y *ℤ w)) r → OutcomeIn fits call r
+module _ {a b c d x y z w : ℤ} {r : Result Answer Refusal} (x_is : (x ≡ a) × FitsSigned w64 a) (y_is : (y ≡ b) × FitsSigned w64 b) (z_is : (z ≡ c) × FitsSigned w64 c) (w_is : (w ≡ d) × FitsSigned w64 d) where
+  pub sum_row : NeedsFractions x y z w (AnswersExact (x *ℤ w +ℤ z *ℤ y) (y *ℤ w)) r → OutcomeIn (FitsKind I64) (RatioAdd a b c d) r
   unfolding Inside
-  sum_row is h =
+  sum_row h =
       let row = rw (x_is.0, y_is.0, z_is.0, w_is.0) at h in
-      subst (λ (t : Call). OutcomeIn fits t r) (sym is) (inr ((x_is.1, (y_is.1, (z_is.1, (w_is.1, tt)))), row))
+      inr ((x_is.1, (y_is.1, (z_is.1, (w_is.1, tt)))), row)
 
-  pub product_row : call ≡ RatioMul a b c d → NeedsFractions x y z w (AnswersExact (x *ℤ z) (y *ℤ w)) r → OutcomeIn fits call r
+  pub product_row : NeedsFractions x y z w (AnswersExact (x *ℤ z) (y *ℤ w)) r → OutcomeIn (FitsKind I64) (RatioMul a b c d) r
   unfolding Inside
-  product_row is h =
+  product_row h =
       let row = rw (x_is.0, y_is.0, z_is.0, w_is.0) at h in
-      subst (λ (t : Call). OutcomeIn fits t r) (sym is) (inr ((x_is.1, (y_is.1, (z_is.1, (w_is.1, tt)))), row))
+      inr ((x_is.1, (y_is.1, (z_is.1, (w_is.1, tt)))), row)
+
+-- they are the same at each type
+module _ (fits : ℤ → Type 0) {call : Call} (a b c d : ℤ) {r : Result Answer Refusal} (a_fits : FitsSigned w128 a) (b_fits : FitsSigned w128 b) (c_fits : FitsSigned w128 c) (d_fits : FitsSigned w128 d) where
+  pub sum_at : call ≡ RatioAdd a b c d → OutcomeIn (FitsKind I64) (RatioAdd (to_z w128 (of_z w128 a)) (to_z w128 (of_z w128 b)) (to_z w128 (of_z w128 c)) (to_z w128 (of_z w128 d))) r → OutcomeIn fits call r
+  unfolding Inside
+  sum_at is h =
+      let row = rw (to_z-of_z w128 a a_fits, to_z-of_z w128 b b_fits, to_z-of_z w128 c c_fits, to_z-of_z w128 d d_fits) at h in
+      subst (λ (t : Call). OutcomeIn fits t r) (sym is) row
+
+  pub product_at : call ≡ RatioMul a b c d → OutcomeIn (FitsKind I64) (RatioMul (to_z w128 (of_z w128 a)) (to_z w128 (of_z w128 b)) (to_z w128 (of_z w128 c)) (to_z w128 (of_z w128 d))) r → OutcomeIn fits call r
+  unfolding Inside
+  product_at is h =
+      let row = rw (to_z-of_z w128 a a_fits, to_z-of_z w128 b b_fits, to_z-of_z w128 c c_fits, to_z-of_z w128 d d_fits) at h in
+      subst (λ (t : Call). OutcomeIn fits t r) (sym is) row

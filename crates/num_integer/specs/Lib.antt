@@ -10,6 +10,7 @@ pub use Rattle.integer_core.specs.Range
 pub use Rattle.integer_core.specs.Runs
 -- what those of this crate cite, and the laws
 pub mod Laws
+pub mod Checked
 pub mod Coefficient
 pub mod Multinomial
 pub mod Row

@@ -1,15 +1,15 @@
 //! Tests of the domains.
 
-ghost use Rattle.std.specs.Prelude.{◌≡◌, ◌≢◌, ◌↔◌, ◌+◌, ◌<◌, ◌^◌, ◌≤ℤ◌, ◌<ℤ◌, ◌+ℤ◌, pos, unsigned_abs, map, IsTrue};
+ghost use Rattle.std.specs.Prelude.{◌≡◌, ◌≢◌, ◌↔◌, ◌≤ℤ◌, ◌<ℤ◌, pos, unsigned_abs, map, IsTrue};
 ghost use Rattle.std.specs.List.{All};
 ghost use Rattle.integer_core.specs.Division.{EachKind, IsCeiled, IsFloored, IsMultiple, IsQuotient};
 ghost use Rattle.integer_core.specs.Divisors.{IsGreatestCommonDivisor, IsLeastCommonMultiple};
 ghost use Rattle.integer_core.specs.Range.{EachFits};
 ghost use Rattle.num_integer.specs.Coefficient.{coefficient_of};
 ghost use Rattle.num_integer.specs.Multinomial.{IsMultinomial};
-ghost use Rattle.num_integer.specs.Parts.{IsWithin, signed};
 
 use crate::bounded_coefficients::{Shared, coefficient_within};
+use crate::parts::sum_is_within;
 use integer_core::operators::{difference, is_negative, is_zero};
 use integer_core::{Integer, NativeInteger};
 use num_traits::ToPrimitive;
@@ -167,17 +167,6 @@ pub trait Fits: Integer {
         }
         true
     }
-}
-
-/// Whether `a + b` lies in a range that has `a`. A number is given by its sign and its magnitude, and
-/// the range by the magnitudes of its ends, of which the lower is not above 0.
-fn sum_is_within(a: (bool, u128), b: (bool, u128), ends: (u128, u128)) -> bool
-    requires width { ends.0 + ends.1 < 2 ^ 128 }
-    requires within { IsWithin ends.0 ends.1 (signed a.0 a.1) }
-    ensures { IsTrue result ↔ IsWithin ends.0 ends.1 (signed a.0 a.1 +ℤ signed b.0 b.1) }
-{
-    let end = if b.0 { ends.0 } else { ends.1 };
-    b.1 <= if a.0 == b.0 { end - a.1 } else { end + a.1 }
 }
 
 impl<T: NativeInteger> Fits for T {

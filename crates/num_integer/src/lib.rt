@@ -2,9 +2,11 @@
 #![tactic(auto)]
 
 mod bounded_coefficients;
+pub mod checked;
 mod coefficients;
 pub mod counted;
 mod domains;
+mod parts;
 mod rows;
 
 pub use coefficients::{binomial, multinomial};

@@ -3,7 +3,6 @@
 mod averages;
 mod bezout;
 mod call_rows;
-mod checked;
 mod coefficients;
 mod division;
 mod divisors;

@@ -4,13 +4,12 @@ ghost use Rattle.std.specs.Prelude.{IfSome};
 ghost use Rattle.std.specs.List.{All};
 
 use crate::calls::{
-    BezoutAndMultiple, Call, OfPair, row, with_multinomial, with_root, with_row, with_value,
-    with_values,
+    BezoutAndMultiple, Call, OfPair, with_multinomial, with_root, with_row, with_value, with_values,
 };
 use crate::checksum::Checksum;
 use crate::inputs::{DEGREES, LISTS, ROOTED, ROWS, Shape, Whole, counts, degree};
 use crate::types::{Replayed, shape_of};
-use num_integer::{IterBinomial, Roots};
+use num_integer::{IterBinomial, Roots, checked};
 use num_traits::Signed;
 use std::alloc::Global;
 use std::process::Abort;
@@ -116,8 +115,8 @@ fn multinomials<T: Replayed>(rt: &impl Abort, alloc: Global) -> Answered {
 fn rows<T: Replayed>() -> Answered {
     let mut answered = Answered::none();
     for n in 0..ROWS {
-        let (number, half) = ((false, u128::from(n)), (false, u128::from(n / 2)));
-        if let Some(row) = row_of::<T>(number, half) {
+        let number = (false, u128::from(n));
+        if let Some(row) = row_of::<T>(number) {
             let sum = answered.1.with(number);
             answered = answered.and(Some(with_row(sum, row)));
         }
@@ -125,11 +124,11 @@ fn rows<T: Replayed>() -> Answered {
     answered
 }
 
-/// The row of a number whose half is given, where the type has it.
-fn row_of<T: Replayed>(n: Whole, half: Whole) -> Option<IterBinomial<T>>
+/// The row of a number, where the type has both.
+fn row_of<T: Replayed>(n: Whole) -> Option<IterBinomial<T>>
     ensures { IfSome result (λ items. All T.fits items) }
 {
-    row(T::from_whole(n)?, T::from_whole(half)?)
+    checked::row(T::from_whole(n)?)
 }
 
 /// What a call that each type has answers.

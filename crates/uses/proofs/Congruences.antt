@@ -1,9 +1,10 @@
 -- Numbers that are equal modulo another: inverses, the solutions of a congruence, two congruences at once, and the
 -- next congruent number.
-use Rattle.std.specs.Prelude.{◌≡◌, ◌≢◌, ◌≤ℤ◌, ◌<ℤ◌, ◌+ℤ◌, ◌-ℤ◌, ◌*ℤ◌, ℤ, pos, negsuc, neg_ℤ, unsigned_abs, int_div}
+use Rattle.std.specs.Prelude.{◌≡◌, ◌≢◌, ◌≤ℤ◌, ◌<ℤ◌, ◌+ℤ◌, ◌-ℤ◌, ◌*ℤ◌, ℤ, pos, negsuc, neg_ℤ, unsigned_abs, int_div, Option, Some, None, MatchOption}
 use Rattle.std.proofs.Common.{arith, ◌∙◌, ap, inl, refl, subst, sym}
 use Rattle.std.proofs.lemmas.Int.{by_lt_z, ints}
 use Rattle.num_integer.specs.Bezout.{IsBezoutAnswer}
+use Rattle.num_integer.specs.Checked.{AnswersWhere}
 use Rattle.num_integer.specs.Division.{IsFloored, IsRemainder}
 use Rattle.num_integer.specs.Divisors.{Divides, IsGreatestCommonDivisor, IsLeastCommonMultiple}
 use Rattle.num_integer.specs.Only.{IsOnly}
@@ -333,3 +334,10 @@ next_congruent_is {from} {first} {step} {w} {t} wait is =
       congruent = near;
       least = λ u u_from h. not_greater (congruent-trans near (congruent-sym h)) u_from t_from (omega (arith, linear));
     }
+
+-- or lies beyond the type where that sum does
+pub next_congruent_found : {X : Type 0} (fits : ℤ → Type 0) (value : X → ℤ) (from first step w : ℤ) (found : Option X) → IsResidue step (first -ℤ from) w
+    → AnswersWhere (fits (from +ℤ w)) (λ t. fits (value t) × (value t ≡ from +ℤ w)) found
+    → MatchOption found ((t : ℤ) × IsNextCongruent from first step t × ¬ (fits t)) (λ t. fits (value t) × IsNextCongruent from first step (value t))
+next_congruent_found fits value from first step w (Some t) wait h = (h.1.0, next_congruent_is wait h.1.1)
+next_congruent_found fits value from first step w None wait h = (_, next_congruent_is wait refl, h)

@@ -1,14 +1,13 @@
 //! Arithmetic modulo a number above 0.
 
-ghost use Rattle.std.specs.Prelude.{◌↔◌, ◌≤◌, ◌≤ℤ◌, ◌<ℤ◌, ◌+ℤ◌, ◌-ℤ◌, ◌*ℤ◌, ℤ, pos, negsuc, IsTrue, MatchOption};
+ghost use Rattle.std.specs.Prelude.{◌≤ℤ◌, ◌<ℤ◌, ◌+ℤ◌, ◌-ℤ◌, ◌*ℤ◌, ℤ, pos, negsuc, MatchOption};
 ghost use Rattle.num_integer.specs.Divisors.{IsLeastCommonMultiple};
 ghost use Rattle.num_integer.specs.Only.{IsOnly};
-ghost use Rattle.num_integer.specs.Parts.{signed};
 ghost use Rattle.num_integer.specs.Range.{EachFits};
 ghost use Rattle.uses.specs.Congruences.{IsInverse, IsNextCongruent, IsReducedModulus, IsResidue, IsResidueClass, Solves, SolvesBothCongruences};
 
 use num_integer::operators::{difference, is_below, one, product, quotient, sum};
-use num_integer::{Fits, Integer, mod_floor};
+use num_integer::{Fits, Integer, checked, mod_floor};
 
 /// `a` modulo `m`, from 0 up. `residue(-3, 7)` is 4.
 pub fn residue<T: Integer>(a: T, m: T) -> T
@@ -154,20 +153,5 @@ pub fn next_congruent<T: Fits>(from: T, first: T, step: T) -> Option<T>
         (λ t. T.fits (T.value t)
         × IsNextCongruent (T.value from) (T.value first) (T.value step) (T.value t)) }
 {
-    let wait = difference_modulo(first, from, step);
-    if has_room(from.parts(), wait.parts().1, T::ends().1) {
-        Some(sum(from, wait))
-    } else {
-        None
-    }
-}
-
-/// Whether `b` more than `a`, a sign and a magnitude, is at most `high`.
-fn has_room(a: (bool, u128), b: u128, high: u128) -> bool
-    requires a_below { signed a.0 a.1 ≤ℤ pos high }
-    requires b_below { b ≤ high }
-    ensures { IsTrue result ↔ ((signed a.0 a.1 +ℤ pos b) ≤ℤ pos high) }
-{
-    let (negative, magnitude) = a;
-    negative || b <= high - magnitude
+    checked::sum(from, difference_modulo(first, from, step))
 }

@@ -1,7 +1,7 @@
 //! Worked values.
 
+mod checked;
 mod congruences;
-mod guarded;
 mod lemmas;
 mod plain;
 mod powers;

@@ -4,22 +4,36 @@ ghost use Rattle.std.specs.Prelude.{◌≡◌, ◌+ℤ◌, ◌*ℤ◌, Ok, Err, 
 ghost use Rattle.ratio64.specs.Fraction.{IsFraction, IsOutsideI64};
 ghost use Rattle.ratio64.specs.Ratio.{num_of, den_of};
 ghost use Rattle.intcalc_core.specs.declared.calls.Answer.TheVariants as answers;
+ghost use Rattle.intcalc_core.specs.declared.calls.Call.TheVariants as calls;
+ghost use Rattle.intcalc_core.specs.declared.calls.Kind.TheVariants as kinds;
 ghost use Rattle.intcalc_core.specs.declared.calls.Refusal.TheVariants as refusals;
 ghost use Rattle.intcalc_core.specs.Fractions.{IsRatioOf};
-ghost use Rattle.intcalc_core.specs.Outcome.{AnswersExact, NeedsFractions};
+ghost use Rattle.intcalc_core.specs.Outcome.{AnswersExact, FitsKind, NeedsFractions, OutcomeIn};
 
 use crate::calls::{Answer, Refusal};
-use crate::outcome::operand::needs;
+use crate::outcome::operand::{narrow, needs};
 use ratio64::{Ratio, RatioError};
 
-pub(crate) fn ratio_add(a: i64, b: i64, c: i64, d: i64) -> Result<Answer, Refusal>
+pub(crate) fn ratio_add(a: i128, b: i128, c: i128, d: i128) -> Result<Answer, Refusal>
+    ensures { OutcomeIn (FitsKind kinds.I64) (calls.RatioAdd a b c d) result }
+{
+    sum(narrow(a)?, narrow(b)?, narrow(c)?, narrow(d)?)
+}
+
+pub(crate) fn ratio_mul(a: i128, b: i128, c: i128, d: i128) -> Result<Answer, Refusal>
+    ensures { OutcomeIn (FitsKind kinds.I64) (calls.RatioMul a b c d) result }
+{
+    product(narrow(a)?, narrow(b)?, narrow(c)?, narrow(d)?)
+}
+
+fn sum(a: i64, b: i64, c: i64, d: i64) -> Result<Answer, Refusal>
     ensures { NeedsFractions a b c d (AnswersExact (a *ℤ d +ℤ c *ℤ b) (b *ℤ d)) result }
 {
     let (x, y) = fractions(a, b, c, d)?;
     parts(x.checked_add(&y))
 }
 
-pub(crate) fn ratio_mul(a: i64, b: i64, c: i64, d: i64) -> Result<Answer, Refusal>
+fn product(a: i64, b: i64, c: i64, d: i64) -> Result<Answer, Refusal>
     ensures { NeedsFractions a b c d (AnswersExact (a *ℤ c) (b *ℤ d)) result }
 {
     let (x, y) = fractions(a, b, c, d)?;

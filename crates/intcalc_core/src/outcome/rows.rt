@@ -2,16 +2,13 @@
 //! the table's order, and then the call of the library.
 #![tactic(auto, unfolding(crate::specs::Outcome::Inside))]
 
-ghost use Rattle.std.specs.Prelude.{◌↔◌, ◌≢◌, ◌⊎◌, pos, negsuc, IsTrue};
-ghost use Rattle.num_integer.specs.Bezout.{HasPair};
-ghost use Rattle.num_integer.specs.Division.{EachKind, IsQuotient};
-ghost use Rattle.num_integer.specs.Divisors.{Divides};
-ghost use Rattle.num_integer.specs.Range.{EachFits};
+ghost use Rattle.std.specs.Prelude.{pos};
 ghost use Rattle.intcalc_core.specs.declared.calls.Call.TheVariants as calls;
 ghost use Rattle.intcalc_core.specs.Outcome.{Inside};
 
 use crate::calls::{Answer, Refusal};
 use crate::outcome::operand::{Operand, is_from_zero, needs, three, two, widen};
+use num_integer::checked;
 use num_integer::operators::is_zero;
 
 pub(crate) fn div_rem<T: Operand>(n: T, d: T) -> Result<Answer, Refusal>
@@ -20,8 +17,8 @@ pub(crate) fn div_rem<T: Operand>(n: T, d: T) -> Result<Answer, Refusal>
     ensures { Inside T.fits (calls.DivRem (T.value n) (T.value d)) result }
 {
     needs(!is_zero(d), Refusal::ZeroDivisor)?;
-    needs(has_quotient(n, d), Refusal::NotFitting)?;
-    Ok(two(n.div_rem(&d)))
+    let pair = checked::div_rem(n, d).ok_or(Refusal::NotFitting)?;
+    Ok(two(pair))
 }
 
 pub(crate) fn div_mod_floor<T: Operand>(n: T, d: T) -> Result<Answer, Refusal>
@@ -30,8 +27,8 @@ pub(crate) fn div_mod_floor<T: Operand>(n: T, d: T) -> Result<Answer, Refusal>
     ensures { Inside T.fits (calls.DivModFloor (T.value n) (T.value d)) result }
 {
     needs(!is_zero(d), Refusal::ZeroDivisor)?;
-    needs(has_quotient(n, d), Refusal::NotFitting)?;
-    Ok(two(n.div_mod_floor(&d)))
+    let pair = checked::div_mod_floor(n, d).ok_or(Refusal::NotFitting)?;
+    Ok(two(pair))
 }
 
 pub(crate) fn div_floor<T: Operand>(n: T, d: T) -> Result<Answer, Refusal>
@@ -40,8 +37,8 @@ pub(crate) fn div_floor<T: Operand>(n: T, d: T) -> Result<Answer, Refusal>
     ensures { Inside T.fits (calls.DivFloor (T.value n) (T.value d)) result }
 {
     needs(!is_zero(d), Refusal::ZeroDivisor)?;
-    needs(has_quotient(n, d), Refusal::NotFitting)?;
-    Ok(Answer::One(widen(n.div_floor(&d))))
+    let quotient = checked::div_floor(n, d).ok_or(Refusal::NotFitting)?;
+    Ok(Answer::One(widen(quotient)))
 }
 
 pub(crate) fn div_ceil<T: Operand>(n: T, d: T) -> Result<Answer, Refusal>
@@ -50,8 +47,8 @@ pub(crate) fn div_ceil<T: Operand>(n: T, d: T) -> Result<Answer, Refusal>
     ensures { Inside T.fits (calls.DivCeil (T.value n) (T.value d)) result }
 {
     needs(!is_zero(d), Refusal::ZeroDivisor)?;
-    needs(has_quotient(n, d), Refusal::NotFitting)?;
-    Ok(Answer::One(widen(n.div_ceil(&d))))
+    let quotient = checked::div_ceil(n, d).ok_or(Refusal::NotFitting)?;
+    Ok(Answer::One(widen(quotient)))
 }
 
 pub(crate) fn mod_floor<T: Operand>(n: T, d: T) -> Result<Answer, Refusal>
@@ -125,8 +122,7 @@ pub(crate) fn extended_gcd<T: Operand>(a: T, b: T) -> Result<Answer, Refusal>
     ensures { Inside T.fits (calls.ExtendedGcd (T.value a) (T.value b)) result }
 {
     needs(a.gcd_fits(&b), Refusal::NotFitting)?;
-    needs(has_pair(a, b), Refusal::NoPair)?;
-    let bezout = a.extended_gcd(&b);
+    let bezout = checked::extended_gcd(a, b).ok_or(Refusal::NoPair)?;
     Ok(three(bezout.gcd, bezout.x, bezout.y))
 }
 
@@ -178,38 +174,4 @@ pub(crate) fn binomial<T: Operand>(n: T, k: T) -> Result<Answer, Refusal>
     needs(is_from_zero(n) && is_from_zero(k), Refusal::NegativeCount)?;
     needs(n.binomial_fits(&k), Refusal::NotFitting)?;
     Ok(Answer::One(widen(num_integer::binomial(n, k))))
-}
-
-/// Whether the type has the quotient, by each kind of division.
-fn has_quotient<T: Operand>(n: T, d: T) -> bool
-    requires n_in_range { T.fits (T.value n) }
-    requires d_in_range { T.fits (T.value d) }
-    requires nonzero { T.value d ≢ pos 0 }
-    ensures { EachKind (λ Kind. IsTrue result
-        ↔ EachFits T.fits (IsQuotient Kind (T.value n) (T.value d))) }
-{
-    n.quotient_fits(&d)
-}
-
-/// Whether the type has a pair for the operands.
-fn has_pair<T: Operand>(a: T, b: T) -> bool
-    requires a_in_range { T.fits (T.value a) }
-    requires b_in_range { T.fits (T.value b) }
-    ensures { IsTrue result ↔ HasPair T.fits (T.value a) (T.value b) }
-{
-    has_negatives::<T>() || one_divides_other(a, b)
-}
-
-fn has_negatives<T: Operand>() -> bool
-    ensures { IsTrue result ↔ T.fits (negsuc 0) }
-{
-    T::ends().0 > 0
-}
-
-fn one_divides_other<T: Operand>(a: T, b: T) -> bool
-    requires a_in_range { T.fits (T.value a) }
-    requires b_in_range { T.fits (T.value b) }
-    ensures { IsTrue result ↔ (Divides (T.value a) (T.value b) ⊎ Divides (T.value b) (T.value a)) }
-{
-    b.is_multiple_of(&a) || a.is_multiple_of(&b)
 }

@@ -4,8 +4,10 @@
 use super::call_rows::AnswersPair;
 use super::call_rows::PairCall::Averages;
 use super::signed_magnitude::{SignedMagnitude, floored, left, signed_magnitude_of, sum};
-use super::types::Type::{U8, U16, U32, U64, Usize};
-use super::types::{Check, SIGNED, Tested, Type, UNSIGNED, check_at_each, greatest, value};
+use super::types::Type::{I8, I64, I128, U8};
+use super::types::{
+    Check, SIGNED, Tested, Type, UNSIGNED, check_at, check_at_each, check_rows, greatest, value,
+};
 use num_integer::{average_ceil, average_floor};
 use std::process::Abort;
 
@@ -35,12 +37,14 @@ struct AveragesAtTheTop;
 
 impl Check for AveragesAtTheTop {
     fn at<T: Tested>(&self, rt: &impl Abort) {
-        let greatest = greatest::<T>(rt);
-        let (first, second, third) = (greatest - 1, greatest - 2, greatest - 3);
-        for (operand, floor) in [(first, second), (second, third)] {
-            let check = AnswersPair(Averages, (third, operand), Some((floor, second)));
-            check.at::<T>(rt);
-        }
+        let (_, high) = T::ends();
+        let first = value::<T>(rt, (false, high.saturating_sub(1)));
+        let second = value::<T>(rt, (false, high.saturating_sub(2)));
+        let third = value::<T>(rt, (false, high.saturating_sub(3)));
+        let averages = (average_floor(third, first), average_ceil(third, first));
+        assert_eq!(rt; averages, (second, second));
+        let averages = (average_floor(third, second), average_ceil(third, second));
+        assert_eq!(rt; averages, (third, second));
     }
 }
 
@@ -64,12 +68,7 @@ fn bounded(rt: HostRuntime) {
 
 #[test]
 fn overflow(rt: HostRuntime) {
-    check_at_each(&rt, &[U8, U16, U32, U64, Usize], &AveragesAtTheTop);
-    let (first, second, third) = (u128::MAX - 1, u128::MAX - 2, u128::MAX - 3);
-    for (operand, floor) in [(first, second), (second, third)] {
-        assert!(rt; average_floor(third, operand) == floor);
-        assert!(rt; average_ceil(third, operand) == second);
-    }
+    check_at_each(&rt, &UNSIGNED, &AveragesAtTheTop);
 }
 
 /// The averages of the least and the greatest number of a signed type.
@@ -115,35 +114,48 @@ pub(super) fn has_averages<T: Tested>(rt: &impl Abort, a: SignedMagnitude, b: Si
     );
 }
 
-fn at_each_pair<T: Tested>(rt: &impl Abort, low: i128, high: i128) {
-    for a in low..=high {
-        for b in low..=high {
-            has_averages::<T>(rt, signed_magnitude_of(a), signed_magnitude_of(b));
+/// The averages of each pair of the numbers from the lower to the higher.
+#[derive(Drop)]
+struct AveragesOfEachPair(i128, i128);
+
+impl Check for AveragesOfEachPair {
+    fn at<T: Tested>(&self, rt: &impl Abort) {
+        for a in self.0..=self.1 {
+            for b in self.0..=self.1 {
+                has_averages::<T>(rt, signed_magnitude_of(a), signed_magnitude_of(b));
+            }
         }
     }
 }
 
 #[test]
 fn averages_of_each_pair_of_one_byte(rt: HostRuntime) {
-    at_each_pair::<i8>(&rt, -128, 127);
-    at_each_pair::<u8>(&rt, 0, 255);
+    check_at(&rt, I8, &AveragesOfEachPair(-128, 127));
+    check_at(&rt, U8, &AveragesOfEachPair(0, 255));
+}
+
+/// The averages of the greatest number and itself.
+#[derive(Drop)]
+struct GreatestIsItsAverage;
+
+impl Check for GreatestIsItsAverage {
+    fn at<T: Tested>(&self, rt: &impl Abort) {
+        let greatest = value::<T>(rt, (false, T::ends().1));
+        let averages = (
+            average_floor(greatest, greatest),
+            average_ceil(greatest, greatest),
+        );
+        assert_eq!(rt; averages, (greatest, greatest));
+    }
 }
 
 #[test]
 fn averages_whose_sum_has_more_bits(rt: HostRuntime) {
-    let greatest = u128::MAX;
-    let averages = (
-        average_floor(greatest, greatest),
-        average_ceil(greatest, greatest),
-    );
-    assert_eq!(rt; averages, (greatest, greatest));
-    let averages = (
-        average_floor(i128::MIN, i128::MAX),
-        average_ceil(i128::MIN, i128::MAX),
-    );
-    assert_eq!(rt; averages, (-1, 0));
-    assert_eq!(rt;
-        (average_floor(-2i64, -5), average_ceil(-2i64, -5)),
-        (-4, -3)
-    );
+    check_at_each(&rt, &UNSIGNED, &GreatestIsItsAverage);
+    let ends = (i128::MIN, i128::MAX);
+    let rows = [
+        (I128, AnswersPair(Averages, ends, Some((-1, 0)))),
+        (I64, AnswersPair(Averages, (-2, -5), Some((-4, -3)))),
+    ];
+    check_rows(&rt, &rows);
 }

@@ -1,13 +1,25 @@
 //! Bezout pairs.
 
+ghost use Rattle.std.specs.Prelude.{IfSome};
+
 use super::call_rows::Holds;
 use super::call_rows::Question::{GcdFits, IsMultipleOf};
-use super::checked;
 use super::types::Type::{I8, I64, I128, Isize, U8, U64};
 use super::types::{Check, Tested, check_at, check_rows, number};
-use num_integer::{ExtendedGcd, Fits};
+use num_integer::{ExtendedGcd, Fits, checked, counted};
 use num_traits::Signed;
 use std::process::Abort;
+
+/// The answer of `extended_gcd` and the turns, where that call answers.
+pub(crate) fn extended_gcd_counted<T: Fits>(a: T, b: T) -> Option<(ExtendedGcd<T>, u32)>
+    requires a_in_range { T.fits (T.value a) }
+    requires b_in_range { T.fits (T.value b) }
+    ensures { IfSome result (λ answer. T.fits (T.value answer.0.gcd)
+        × T.fits (T.value answer.0.x) × T.fits (T.value answer.0.y)) }
+{
+    checked::extended_gcd(a, b)?;
+    Some(counted::extended_gcd_counted(a, b))
+}
 
 /// Two operands, their greatest common divisor with its pair, and the turns.
 #[derive(Drop)]
@@ -28,8 +40,20 @@ impl Check for HasPair {
         let (first, second) = (number::<T>(rt, a), number::<T>(rt, b));
         let plain = checked::extended_gcd(first, second);
         assert_eq!(rt; plain, Some(answer), "of {a} and {b}");
-        let counted = checked::extended_gcd_counted(first, second);
+        let counted = extended_gcd_counted(first, second);
         assert_eq!(rt; counted, Some((answer, self.2)), "of {a} and {b}");
+    }
+}
+
+/// Two operands with no pair in the type.
+#[derive(Drop)]
+struct HasNoPair(i128, i128);
+
+impl Check for HasNoPair {
+    fn at<T: Tested>(&self, rt: &impl Abort) {
+        let (a, b) = (number::<T>(rt, self.0), number::<T>(rt, self.1));
+        let none = checked::extended_gcd(a, b).is_none() && extended_gcd_counted(a, b).is_none();
+        assert!(rt; none, "of {} and {}", self.0, self.1);
     }
 }
 
@@ -38,6 +62,7 @@ fn pairs_of_signed_types(rt: HostRuntime) {
     let rows = [
         (I64, HasPair((240, 46), (2, -9, 47), 4)),
         (I64, HasPair((46, 240), (2, 47, -9), 5)),
+        (I8, HasPair((10, 4), (2, 1, -2), 1)),
         (I64, HasPair((10, 4), (2, 1, -2), 1)),
         (I64, HasPair((-6, 4), (2, -1, -1), 1)),
         (I64, HasPair((8, 13), (1, 5, -3), 5)),
@@ -75,6 +100,18 @@ fn pairs_of_unsigned_types(rt: HostRuntime) {
     let rows = [
         (U8, Holds(IsMultipleOf, (10, 4), false)),
         (U8, Holds(IsMultipleOf, (4, 10), false)),
+    ];
+    check_rows(&rt, &rows);
+}
+
+#[test]
+fn operands_with_no_pair(rt: HostRuntime) {
+    let rows = [
+        (I8, HasNoPair(-128, 0)),
+        (I8, HasNoPair(-128, -128)),
+        (I64, HasNoPair(0, -9223372036854775808)),
+        (U8, HasNoPair(10, 4)),
+        (U8, HasNoPair(4, 10)),
     ];
     check_rows(&rt, &rows);
 }

@@ -1,11 +1,18 @@
-//! Names of the calls of two operands, and the rows of tables: a call, its operands and its answer.
+//! Names of the calls, and the rows of tables: a call, its operands and its answer.
 
-use super::checked;
 use super::types::{Check, Tested, number, optional};
-use num_integer::{Fits, average_ceil, average_floor};
+use num_integer::{Fits, average_ceil, average_floor, checked};
 use std::process::Abort;
 
-/// A call that answers a number.
+/// A call of one operand that answers a number.
+#[derive(Clone, Copy, Debug)]
+pub(crate) enum UnaryCall {
+    Inc,
+    Dec,
+    Negated,
+}
+
+/// A call of two operands that answers a number.
 #[derive(Clone, Copy, Debug)]
 pub(crate) enum NumberCall {
     DivFloor,
@@ -16,6 +23,9 @@ pub(crate) enum NumberCall {
     Gcd,
     Lcm,
     Binomial,
+    Sum,
+    Difference,
+    Product,
 }
 
 /// A call that answers two numbers.
@@ -41,6 +51,19 @@ pub(crate) enum Question {
     BinomialFits,
 }
 
+impl UnaryCall {
+    /// The answer, or `None` outside the domain of the call.
+    pub(crate) fn answer<T: Tested>(self, x: T) -> Option<T>
+        requires { T.fits (T.value x) }
+    {
+        match self {
+            UnaryCall::Inc => checked::inc(x),
+            UnaryCall::Dec => checked::dec(x),
+            UnaryCall::Negated => checked::negated(x),
+        }
+    }
+}
+
 impl NumberCall {
     /// The answer, or `None` outside the domain of the call.
     pub(crate) fn answer<T: Tested>(self, a: T, b: T) -> Option<T>
@@ -56,7 +79,22 @@ impl NumberCall {
             NumberCall::Gcd => checked::gcd(a, b),
             NumberCall::Lcm => checked::lcm(a, b),
             NumberCall::Binomial => checked::binomial(a, b),
+            NumberCall::Sum => checked::sum(a, b),
+            NumberCall::Difference => checked::difference(a, b),
+            NumberCall::Product => checked::product(a, b),
         }
+    }
+}
+
+/// What `/` and `%` answer, or `None` where the quotient is outside the type.
+fn operators<T: Fits>(n: T, d: T) -> Option<(T, T)>
+    requires n_in_range { T.fits (T.value n) }
+    requires d_in_range { T.fits (T.value d) }
+{
+    if n.quotient_fits(&d) {
+        Some((n / d, n % d))
+    } else {
+        None
     }
 }
 
@@ -69,7 +107,7 @@ impl PairCall {
         match self {
             PairCall::Averages => Some((average_floor(a, b), average_ceil(a, b))),
             PairCall::DivRem => checked::div_rem(a, b),
-            PairCall::Operators => checked::operators(a, b),
+            PairCall::Operators => operators(a, b),
             PairCall::DivModFloor => checked::div_mod_floor(a, b),
             PairCall::GcdLcm => checked::gcd_lcm(a, b),
         }
@@ -95,6 +133,14 @@ impl Question {
     }
 }
 
+/// A call of one operand, the operand and the answer, which is `None` outside the domain of the call.
+#[derive(Drop)]
+pub(crate) struct AnswersOne(
+    pub(crate) UnaryCall,
+    pub(crate) i128,
+    pub(crate) Option<i128>,
+);
+
 /// A call, its operands and its answer, which is `None` outside its domain.
 #[derive(Drop)]
 pub(crate) struct Answers(
@@ -118,6 +164,15 @@ pub(crate) struct Holds(
     pub(crate) (i128, i128),
     pub(crate) bool,
 );
+
+impl Check for AnswersOne {
+    fn at<T: Tested>(&self, rt: &impl Abort) {
+        let (call, x) = (self.0, self.1);
+        let expected = optional::<T>(rt, self.2);
+        let answer = call.answer(number::<T>(rt, x));
+        assert_eq!(rt; answer, expected, "{call:?} of {x}");
+    }
+}
 
 impl Check for Answers {
     fn at<T: Tested>(&self, rt: &impl Abort) {

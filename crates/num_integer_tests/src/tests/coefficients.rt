@@ -6,13 +6,12 @@ ghost use Rattle.std.specs.List.{All};
 use super::call_rows::NumberCall::Binomial;
 use super::call_rows::Question::BinomialFits;
 use super::call_rows::{Answers, Holds};
-use super::checked;
 use super::types::Type::{I8, I16, I32, I64, U8, U16, U32, U64};
 use super::types::{
     Check, NATIVE, Tested, Type, check_at, check_at_each, check_rows, number, optional,
 };
 use num_integer::counted::binomial_counted;
-use num_integer::{Fits, IterBinomial, multinomial};
+use num_integer::{Fits, checked};
 use std::alloc::{AllocError, Global};
 use std::process::Abort;
 
@@ -29,35 +28,6 @@ pub(crate) fn counted<T: Fits>(n: T, k: T) -> Option<(T, u32)>
 {
     if n.binomial_fits(&k) {
         Some(binomial_counted(n, k))
-    } else {
-        None
-    }
-}
-
-/// The multinomial, where it fits.
-pub(super) fn shared<T: Fits>(counts: &[T]) -> Option<T>
-    requires { All (λ x. T.fits (T.value x)) counts.now }
-{
-    if T::multinomial_fits(counts) {
-        Some(multinomial(counts))
-    } else {
-        None
-    }
-}
-
-/// The row, where `n` is negative, or `half` is the half of `n`, a number above `n` fits, and so does
-/// the coefficient of `n` and `half`.
-pub(super) fn row<T: Fits>(n: T, half: T) -> Option<IterBinomial<T>>
-    requires n_in_range { T.fits (T.value n) }
-    requires half_in_range { T.fits (T.value half) }
-{
-    let (negative, magnitude) = n.parts();
-    if negative {
-        Some(IterBinomial::new(n))
-    } else if half.parts().1 != magnitude / 2 || magnitude >= T::ends().1 {
-        None
-    } else if n.binomial_fits(&half) {
-        Some(IterBinomial::new(n))
     } else {
         None
     }
@@ -92,6 +62,8 @@ fn binomials_at_the_ends(rt: HostRuntime) {
         (U64, Answers(Binomial, (top, top), Some(1))),
         (U8, Answers(Binomial, (200, 199), Some(200))),
         (I64, Answers(Binomial, (66, 33), Some(7219428434016265740))),
+        (U8, Answers(Binomial, (11, 3), Some(165))),
+        (U8, Answers(Binomial, (11, 4), None)),
         (U8, Answers(Binomial, (11, 5), None)),
         (I8, Answers(Binomial, (-1, 0), None)),
         (I64, Answers(Binomial, (67, 33), None)),
@@ -100,11 +72,27 @@ fn binomials_at_the_ends(rt: HostRuntime) {
     check_rows(&rt, &rows);
 }
 
+/// Two operands, their coefficient, and the turns.
+#[derive(Drop)]
+struct HasTurns((i128, i128), i128, u32);
+
+impl Check for HasTurns {
+    fn at<T: Tested>(&self, rt: &impl Abort) {
+        let (n, k) = self.0;
+        let expected = Some((number::<T>(rt, self.1), self.2));
+        let answer = counted(number::<T>(rt, n), number::<T>(rt, k));
+        assert_eq!(rt; answer, expected, "of {n} and {k}");
+    }
+}
+
 #[test]
 fn binomial_turns(rt: HostRuntime) {
-    assert!(rt; counted(9u8, 4) == Some((126, 4)));
-    assert!(rt; counted(200u8, 199) == Some((200, 1)));
-    assert!(rt; counted(3u8, 4) == Some((0, 0)));
+    let rows = [
+        (U8, HasTurns((9, 4), 126, 4)),
+        (U8, HasTurns((200, 199), 200, 1)),
+        (U8, HasTurns((3, 4), 0, 0)),
+    ];
+    check_rows(&rt, &rows);
 }
 
 /// The numbers as values of the type.
@@ -131,7 +119,7 @@ impl Check for Shares<'_> {
         let counts = values::<T>(rt, self.0, self.1).expect(rt, "memory is left");
         let expected = optional::<T>(rt, self.2);
         assert!(rt;
-            shared(&counts) == expected,
+            checked::multinomial(&counts) == expected,
             "the multinomial of {:?}",
             self.1
         );
@@ -164,6 +152,7 @@ fn multinomials_at_the_ends(rt: HostRuntime) {
         (U8, Shares(alloc, &[3, 2, 2], Some(210))),
         (U8, Shares(alloc, &[], Some(1))),
         (U8, Shares(alloc, &[254, 1], Some(255))),
+        (U8, Shares(alloc, &[255, 1], None)),
         (U8, Shares(alloc, &[127, 1], Some(128))),
         (I8, Shares(alloc, &[127, 1], None)),
         (U8, Shares(alloc, &[1, 1, 1, 1, 1], Some(120))),
@@ -172,15 +161,15 @@ fn multinomials_at_the_ends(rt: HostRuntime) {
     check_rows(&rt, &rows);
 }
 
-/// A number, its half, and the row of the number.
+/// A number, and its row.
 #[derive(Drop)]
-pub(crate) struct HasItems<'a>(pub(crate) i128, pub(crate) i128, pub(crate) &'a [i128]);
+pub(crate) struct HasItems<'a>(pub(crate) i128, pub(crate) &'a [i128]);
 
 impl Check for HasItems<'_> {
     fn at<T: Tested>(&self, rt: &impl Abort) {
-        let (n, half) = (number::<T>(rt, self.0), number::<T>(rt, self.1));
-        let mut row = row(n, half).expect(rt, "the row fits");
-        for item in self.2 {
+        let row = checked::row(number::<T>(rt, self.0));
+        let mut row = row.expect(rt, "the row fits");
+        for item in self.1 {
             let expected = Some(number::<T>(rt, *item));
             assert_eq!(rt; row.next(), expected, "in the row of {}", self.0);
         }
@@ -188,50 +177,48 @@ impl Check for HasItems<'_> {
     }
 }
 
-/// A number and its half, where the row of the number is the greatest: the next row has a
-/// coefficient that does not fit.
+/// A number whose row is the greatest: the next row has a coefficient that does not fit.
 #[derive(Drop)]
-struct HasGreatestRow(i128, i128);
+struct HasGreatestRow(i128);
 
 impl Check for HasGreatestRow {
     fn at<T: Tested>(&self, rt: &impl Abort) {
-        let (n, half) = (number::<T>(rt, self.0), number::<T>(rt, self.1));
-        let mut row = row(n, half).expect(rt, "the greatest row fits");
+        let n = number::<T>(rt, self.0);
+        let mut row = checked::row(n).expect(rt, "the greatest row fits");
         for k in 0..=self.0 {
             let expected = checked::binomial(n, number::<T>(rt, k));
             assert_eq!(rt; row.next(), expected, "item {k} of the row of {}", self.0);
         }
         assert!(rt; row.next().is_none());
         let above = self.0.wrapping_add(1);
-        let next = checked::binomial(number::<T>(rt, above), number::<T>(rt, above / 2));
-        assert!(rt; next.is_none());
+        let next = number::<T>(rt, above);
+        let middle = checked::binomial(next, number::<T>(rt, above / 2));
+        assert!(rt; middle.is_none() && checked::row(next).is_none());
     }
 }
 
 #[test]
 fn test_iter_binomial(rt: HostRuntime) {
-    for (it, n, half) in [
-        (U8, 10, 5),
-        (I8, 9, 4),
-        (U16, 18, 9),
-        (I16, 17, 8),
-        (U32, 34, 17),
-        (I32, 33, 16),
-        (U64, 67, 33),
-        (I64, 66, 33),
+    for (it, n) in [
+        (U8, 10),
+        (I8, 9),
+        (U16, 18),
+        (I16, 17),
+        (U32, 34),
+        (I32, 33),
+        (U64, 67),
+        (I64, 66),
     ] {
-        check_at(&rt, it, &HasItems(3, 1, &[1, 3, 3, 1]));
-        check_at(&rt, it, &HasGreatestRow(n, half));
+        check_at(&rt, it, &HasItems(3, &[1, 3, 3, 1]));
+        check_at(&rt, it, &HasGreatestRow(n));
     }
 }
 
 #[test]
 fn rows_at_the_ends(rt: HostRuntime) {
     let items = [1, 10, 45, 120, 210, 252, 210, 120, 45, 10, 1];
-    check_at(&rt, U8, &HasItems(10, 5, &items));
-    let mut none = IterBinomial::new(-1i8);
-    assert!(rt; none.next().is_none());
-    assert!(rt; none.next().is_none());
+    check_at(&rt, U8, &HasItems(10, &items));
+    check_at(&rt, I8, &HasItems(-1, &[]));
 }
 
 #[test]

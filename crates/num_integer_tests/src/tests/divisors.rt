@@ -3,12 +3,12 @@
 use super::call_rows::NumberCall::{Gcd, Lcm};
 use super::call_rows::PairCall::GcdLcm;
 use super::call_rows::{Answers, AnswersPair, NumberCall};
-use super::checked;
 use super::signed_magnitude::euclidean_gcd;
 use super::types::Type::{I8, I16, I32, I64, U8, U16, U32, U64};
 use super::types::{
     Check, SIGNED, Tested, UNSIGNED, check_at, check_at_each, check_rows, greatest, number,
 };
+use num_integer::checked;
 use std::process::Abort;
 
 /// Two operands and their greatest common divisor.
@@ -128,6 +128,10 @@ fn divisors_at_the_ends(rt: HostRuntime) {
         (I64, Answers(Gcd, (least, 0), None)),
         (I64, Answers(Gcd, (least, least), None)),
         (I8, Answers(Lcm, (-128, 0), Some(0))),
+        (I8, Answers(Lcm, (64, 4), Some(64))),
+        (I8, Answers(Lcm, (127, 2), None)),
+        (U8, Answers(Lcm, (15, 17), Some(255))),
+        (U8, Answers(Lcm, (16, 17), None)),
         (I64, Answers(Lcm, (least, 1), None)),
     ];
     check_rows(&rt, &rows);
@@ -171,9 +175,9 @@ impl Check for BothAreEach {
         for a in self.0..=self.1 {
             for b in self.0..=self.1 {
                 let (x, y) = (number::<T>(rt, a as i128), number::<T>(rt, b as i128));
-                let (gcd, lcm) = (checked::gcd(x, y), checked::lcm(x, y));
-                assert!(rt; gcd.is_some() && lcm.is_some(), "{a} and {b}");
-                assert!(rt; checked::gcd_lcm(x, y) == gcd.zip(lcm), "{a} and {b}");
+                let each = checked::gcd(x, y).zip(checked::lcm(x, y));
+                let both = checked::gcd_lcm(x, y);
+                assert!(rt; both.is_some() && both == each, "{a} and {b}");
             }
         }
     }

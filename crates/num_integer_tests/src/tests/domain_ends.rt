@@ -1,21 +1,81 @@
-//! Where the domains of the calls end, by the tests of `Fits` on both sides.
+//! Where the domains of the calls end, on both sides.
 
-use super::call_rows::Holds;
+use super::call_rows::NumberCall::{Difference, Product, Sum};
 use super::call_rows::Question::{
     GcdFits, LcmFits, NextMultipleFits, PrevMultipleFits, QuotientFits,
 };
-use super::types::Type::{I8, I64, U8};
-use super::types::check_rows;
+use super::call_rows::UnaryCall::{Dec, Inc, Negated};
+use super::call_rows::{Answers, AnswersOne, Holds};
+use super::signed_magnitude::SignedMagnitude;
+use super::types::Type::{I8, I64, U8, U64};
+use super::types::{Check, Tested, check_rows, number};
 use num_integer::Fits;
+use std::process::Abort;
+
+/// The magnitude of the least number of a type, and its greatest number.
+#[derive(Drop)]
+struct HasEnds(u128, u128);
+
+impl Check for HasEnds {
+    fn at<T: Tested>(&self, rt: &impl Abort) {
+        assert_eq!(rt; T::ends(), (self.0, self.1));
+    }
+}
+
+/// A number, its sign and its magnitude.
+#[derive(Drop)]
+struct HasParts(i128, SignedMagnitude);
+
+impl Check for HasParts {
+    fn at<T: Tested>(&self, rt: &impl Abort) {
+        assert_eq!(rt; number::<T>(rt, self.0).parts(), self.1);
+    }
+}
 
 #[test]
 fn ends_and_parts(rt: HostRuntime) {
-    assert!(rt; i8::ends() == (128, 127));
-    assert!(rt; u8::ends() == (0, 255));
-    assert!(rt; i64::ends() == (9223372036854775808, 9223372036854775807));
-    assert!(rt; u64::ends() == (0, 18446744073709551615));
-    assert!(rt; i8::MIN.parts() == (true, 128));
-    assert!(rt; 0i8.parts() == (false, 0));
+    let rows = [
+        (I8, HasEnds(128, 127)),
+        (U8, HasEnds(0, 255)),
+        (I64, HasEnds(9223372036854775808, 9223372036854775807)),
+        (U64, HasEnds(0, 18446744073709551615)),
+    ];
+    check_rows(&rt, &rows);
+    let rows = [
+        (I8, HasParts(-128, (true, 128))),
+        (I8, HasParts(0, (false, 0))),
+    ];
+    check_rows(&rt, &rows);
+}
+
+#[test]
+fn ends_of_sums_and_products(rt: HostRuntime) {
+    let rows = [
+        (I8, Answers(Sum, (-128, -1), None)),
+        (I8, Answers(Sum, (-128, 127), Some(-1))),
+        (U8, Answers(Sum, (255, 1), None)),
+        (U8, Answers(Sum, (254, 1), Some(255))),
+        (I8, Answers(Difference, (0, -128), None)),
+        (I8, Answers(Difference, (-1, -128), Some(127))),
+        (U8, Answers(Difference, (3, 4), None)),
+        (I8, Answers(Product, (-16, 8), Some(-128))),
+        (I8, Answers(Product, (16, 8), None)),
+        (I8, Answers(Product, (-128, -1), None)),
+        (U8, Answers(Product, (15, 17), Some(255))),
+        (U8, Answers(Product, (16, 16), None)),
+    ];
+    check_rows(&rt, &rows);
+    let rows = [
+        (I8, AnswersOne(Negated, -128, None)),
+        (I8, AnswersOne(Negated, -127, Some(127))),
+        (U8, AnswersOne(Negated, 1, None)),
+        (U8, AnswersOne(Negated, 0, Some(0))),
+        (I8, AnswersOne(Inc, 126, Some(127))),
+        (I8, AnswersOne(Inc, 127, None)),
+        (I8, AnswersOne(Dec, -128, None)),
+        (U8, AnswersOne(Dec, 0, None)),
+    ];
+    check_rows(&rt, &rows);
 }
 
 #[test]

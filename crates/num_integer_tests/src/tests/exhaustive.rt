@@ -9,6 +9,7 @@ use super::signed_magnitude::{
 };
 use super::types::Type::{I8, U8};
 use super::types::{Check, Tested, check_at, optional_value, value};
+use num_integer::{div_ceil, div_floor, div_mod_floor, div_rem, gcd, gcd_lcm, lcm, mod_floor};
 use std::process::Abort;
 
 /// The greatest number that divides both, found by trial, or 0 where every number does.
@@ -31,9 +32,26 @@ fn least_multiple(a: u128, b: u128, gcd: u128) -> Option<u128> {
     }
 }
 
+/// Each free function of division answers what the call of that name does.
+fn has_free_quotients<T: Tested>(rt: &impl Abort, n: T, d: T)
+    requires n_in_range { T.fits (T.value n) }
+    requires d_in_range { T.fits (T.value d) }
+{
+    if n.quotient_fits(&d) {
+        assert!(rt; div_rem(n, d) == n.div_rem(&d));
+        assert!(rt; div_floor(n, d) == n.div_floor(&d));
+        assert!(rt; div_mod_floor(n, d) == n.div_mod_floor(&d));
+        assert!(rt; div_ceil(n, d) == n.div_ceil(&d));
+    }
+    if !d.is_zero() {
+        assert!(rt; mod_floor(n, d) == n.mod_floor(&d));
+    }
+}
+
 /// The quotients, the remainders and the multiples of two numbers.
 pub(super) fn has_quotients<T: Tested>(rt: &impl Abort, n: SignedMagnitude, d: SignedMagnitude) {
     let (x, y) = (value::<T>(rt, n), value::<T>(rt, d));
+    has_free_quotients(rt, x, y);
     let (floored, ceiled) = (floored(n, d), ceiled(n, d));
     let rest = left(n, floored, d);
     for (call, expected) in [
@@ -57,8 +75,24 @@ pub(super) fn has_quotients<T: Tested>(rt: &impl Abort, n: SignedMagnitude, d: S
         assert_eq!(rt; call.answers(x, y), expected, "{call:?} of {n:?} and {d:?}");
     }
     let divides = is_multiple(n, d);
-    assert!(rt; x.is_multiple_of(&y) == divides, "{n:?} and {d:?}");
-    assert!(rt; x.divides(&y) == divides, "{n:?} and {d:?}");
+    let both = x.is_multiple_of(&y) == divides && x.divides(&y) == divides;
+    assert!(rt; both, "{n:?} and {d:?}");
+}
+
+/// Each free function of divisors answers what the call of that name does.
+fn has_free_divisors<T: Tested>(rt: &impl Abort, a: T, b: T)
+    requires a_in_range { T.fits (T.value a) }
+    requires b_in_range { T.fits (T.value b) }
+{
+    if a.gcd_fits(&b) {
+        assert!(rt; gcd(a, b) == a.gcd(&b));
+    }
+    if a.lcm_fits(&b) {
+        assert!(rt; lcm(a, b) == a.lcm(&b));
+    }
+    if a.gcd_fits(&b) && a.lcm_fits(&b) {
+        assert!(rt; gcd_lcm(a, b) == a.gcd_lcm(&b));
+    }
 }
 
 /// The greatest common divisor, which is given, and the least common multiple of two numbers.
@@ -69,11 +103,11 @@ pub(super) fn has_divisors<T: Tested>(
     divisor: u128,
 ) {
     let (x, y) = (value::<T>(rt, a), value::<T>(rt, b));
+    has_free_divisors(rt, x, y);
     let gcd = T::from_signed_magnitude((false, divisor));
     let lcm = optional_value::<T>(least_multiple(a.1, b.1, divisor).map(|it| (false, it)));
-    assert_eq!(rt; Gcd.answer(x, y), gcd, "gcd of {a:?} and {b:?}");
-    assert_eq!(rt; Lcm.answer(x, y), lcm, "lcm of {a:?} and {b:?}");
-    assert_eq!(rt; GcdLcm.answers(x, y), gcd.zip(lcm), "{a:?} and {b:?}");
+    let answers = (Gcd.answer(x, y), Lcm.answer(x, y), GcdLcm.answers(x, y));
+    assert_eq!(rt; answers, (gcd, lcm, gcd.zip(lcm)), "{a:?} and {b:?}");
 }
 
 /// Each pair of the numbers from the lower to the higher.

@@ -1,53 +1,86 @@
 //! The turns of Stein's loop for a greatest common divisor.
 
+use super::call_rows::Holds;
+use super::call_rows::Question::GcdFits;
+use super::signed_magnitude::{SignedMagnitude, signed_magnitude_of};
+use super::types::Type::{I8, I64, I128, U8, U64, U128};
+use super::types::{Check, Tested, Type, check_at, value};
+use num_integer::checked;
 use num_integer::counted::GcdCounted;
-use num_integer::{Fits, Integer};
-use std::fmt::Debug;
 use std::process::Abort;
 
-/// Asserts that the plain and the counted call answer this.
-pub(super) fn assert_turns<T: Fits + GcdCounted + Debug>(
+/// The plain and the counted call answer this.
+pub(super) fn has_turns<T: Tested>(
     rt: &impl Abort,
-    a: T,
-    b: T,
-    gcd: T,
+    a: SignedMagnitude,
+    b: SignedMagnitude,
+    gcd: u128,
     turns: u32,
-)
-    requires a_in_range { T.fits (T.value a) }
-    requires b_in_range { T.fits (T.value b) }
-{
-    assert!(rt; a.gcd_fits(&b));
-    assert_eq!(rt; a.gcd(&b), gcd, "of {a:?} and {b:?}");
-    assert_eq!(rt; a.gcd_counted(&b), (gcd, turns), "of {a:?} and {b:?}");
+) {
+    let (x, y) = (value::<T>(rt, a), value::<T>(rt, b));
+    let gcd = value::<T>(rt, (false, gcd));
+    assert_eq!(rt; checked::gcd(x, y), Some(gcd), "of {a:?} and {b:?}");
+    assert_eq!(rt;
+        x.gcd_and_turns(&y),
+        Some((gcd, turns)),
+        "of {a:?} and {b:?}"
+    );
+}
+
+/// Two numbers, their greatest common divisor, and the turns.
+#[derive(Drop)]
+struct HasTurns(SignedMagnitude, SignedMagnitude, u128, u32);
+
+impl Check for HasTurns {
+    fn at<T: Tested>(&self, rt: &impl Abort) {
+        has_turns::<T>(rt, self.0, self.1, self.2, self.3);
+    }
 }
 
 #[test]
 fn turns_of_unsigned_types(rt: HostRuntime) {
-    assert_turns(&rt, 0u64, 0, 0, 0);
-    assert_turns(&rt, 5u64, 3, 1, 2);
-    assert_turns(&rt, 3u64, 5, 1, 2);
-    assert_turns(&rt, u64::MAX, 1, 1, 63);
-    assert_turns(&rt, u128::MAX, 1, 1, 127);
-    assert_turns(&rt, u128::MAX, 0, u128::MAX, 0);
-    assert_turns(&rt, 128u8, 42, 2, 2);
+    for (it, a, b, gcd, turns) in [
+        (U64, 0, 0, 0, 0),
+        (U64, 5, 3, 1, 2),
+        (U64, 3, 5, 1, 2),
+        (U64, 18446744073709551615, 1, 1, 63),
+        (U128, u128::MAX, 1, 1, 127),
+        (U128, u128::MAX, 0, u128::MAX, 0),
+        (U8, 128, 42, 2, 2),
+    ] {
+        check_at(&rt, it, &HasTurns((false, a), (false, b), gcd, turns));
+    }
+}
+
+/// Checks the turns of two numbers of a signed type.
+fn check_signed(rt: &impl Abort, it: Type, (a, b): (i128, i128), gcd: u128, turns: u32) {
+    let (a, b) = (signed_magnitude_of(a), signed_magnitude_of(b));
+    check_at(rt, it, &HasTurns(a, b, gcd, turns));
 }
 
 #[test]
 fn turns_of_signed_types(rt: HostRuntime) {
-    assert_turns(&rt, 56i64, 42, 14, 1);
-    assert_turns(&rt, -56i64, 42, 14, 1);
-    assert_turns(&rt, 48i64, -48, 48, 0);
+    for (operands, gcd, turns) in [((56, 42), 14, 1), ((-56, 42), 14, 1), ((48, -48), 48, 0)] {
+        check_signed(&rt, I64, operands, gcd, turns);
+    }
 }
 
 /// The least number of a type has no gcd with itself or with 0, and makes no turn with another.
 #[test]
 fn turns_of_the_least_number(rt: HostRuntime) {
-    assert_turns(&rt, i64::MIN, 3, 1, 0);
-    assert_turns(&rt, 3, i64::MIN, 1, 0);
-    assert_turns(&rt, -128i8, 42, 2, 0);
-    assert_turns(&rt, -128i8, -64, 64, 0);
-    assert_turns(&rt, i128::MIN, i128::MAX, 1, 0);
-    assert!(rt; !i8::MIN.gcd_fits(&0) && !i8::MIN.gcd_fits(&i8::MIN));
+    let least = -9223372036854775808;
+    for (it, operands, gcd) in [
+        (I64, (least, 3), 1),
+        (I64, (3, least), 1),
+        (I8, (-128, 42), 2),
+        (I8, (-128, -64), 64),
+        (I128, (i128::MIN, i128::MAX), 1),
+    ] {
+        check_signed(&rt, it, operands, gcd, 0);
+    }
+    for other in [0, -128] {
+        check_at(&rt, I8, &Holds(GcdFits, (-128, other), false));
+    }
 }
 
 /// A number, halved as long as it is even.

@@ -1,12 +1,11 @@
 //! Each call on each pair of numbers of each own type, against computations on signs and magnitudes.
 
-use super::roots::check_root;
+use super::roots::{check_root, has_no_root};
 use super::signed_magnitude::signed_magnitude_of;
 use super::type_ends::{has_answers, has_neighbours, has_pair_and_multiple};
 use super::types::Type::{Marked, Negated, OneBit, Percent, Small, TwoBits};
-use super::types::{
-    Check, RootCheck, SignedCheck, Tested, check_at, check_at_each, check_roots_at, check_signed_at,
-};
+use super::types::{Check, SignedCheck, Tested, check_at, check_at_each, check_signed_at};
+use crate::own_types;
 use num_integer::{Fits, Roots};
 use num_traits::Signed;
 use std::process::Abort;
@@ -68,21 +67,17 @@ fn pairs_with_a_multiple(rt: HostRuntime) {
     check_signed_at(&rt, Marked, &PairsFrom(-100, 100));
 }
 
-/// The roots of the numbers from 0 to this one.
-#[derive(Drop)]
-struct RootsUpTo(i128);
-
-impl RootCheck for RootsUpTo {
-    fn at<T: Roots + Tested>(&self, rt: &impl Abort) {
-        for x in 0..=self.0 {
-            for degree in 1..=8 {
-                check_root::<T>(rt, x, degree);
-            }
+/// Checks the roots of the numbers from 0 to the greatest.
+fn check_roots_to<T: Roots + Tested>(rt: &impl Abort, greatest: i128) {
+    for x in 0..=greatest {
+        has_no_root::<T>(rt, x, 0);
+        for degree in 1..=8 {
+            check_root::<T>(rt, x, degree);
         }
     }
 }
 
 #[test]
 fn roots_of_each_percent(rt: HostRuntime) {
-    check_roots_at(&rt, Percent, &RootsUpTo(100));
+    check_roots_to::<own_types::Percent>(&rt, 100);
 }

@@ -1,18 +1,17 @@
 //! Worked values on the own types, most of them by the checks of the library's types.
 
-use super::bezout::HasPair;
+use super::bezout::{HasPair, extended_gcd_counted};
 use super::call_rows::NumberCall::{Binomial, DivCeil, DivFloor, Gcd, Lcm, NextMultipleOf};
 use super::call_rows::PairCall::{Averages, DivModFloor};
 use super::call_rows::Question::{
     BinomialFits, GcdFits, IsMultipleOf, LcmFits, NextMultipleFits, PrevMultipleFits, QuotientFits,
 };
 use super::call_rows::{Answers, AnswersPair, Holds};
-use super::checked;
 use super::coefficients::{HasItems, Shares, counted as counted_coefficient};
-use super::roots::check_roots;
+use super::roots::has_root;
 use super::types::{Type, check_at, check_rows};
 use crate::own_types::{Marked, Negated, OneBit, Percent, Small, TwoBits};
-use num_integer::{ExtendedGcd, Fits, Integer, div_ceil};
+use num_integer::{ExtendedGcd, Fits, Integer, checked, div_ceil};
 use num_traits::{Num, Signed};
 
 #[test]
@@ -62,17 +61,14 @@ fn row_of_a_percent(rt: HostRuntime) {
     check_at(&rt, Type::Percent, &Holds(BinomialFits, (8, 4), true));
     check_at(&rt, Type::Percent, &Holds(BinomialFits, (9, 4), false));
     let items = [1, 8, 28, 56, 70, 56, 28, 8, 1];
-    check_at(&rt, Type::Percent, &HasItems(8, 4, &items));
+    check_at(&rt, Type::Percent, &HasItems(8, &items));
 }
 
 #[test]
 fn roots_and_averages_of_percents(rt: HostRuntime) {
-    let rows = [
-        (Type::Percent, 99, 2, 9),
-        (Type::Percent, 100, 3, 4),
-        (Type::Percent, 100, 6, 2),
-    ];
-    check_roots(&rt, &rows);
+    for (x, degree, root) in [(99, 2, 9), (100, 3, 4), (100, 6, 2)] {
+        has_root::<Percent>(&rt, x, degree, root);
+    }
     let averages = AnswersPair(Averages, (100, 99), Some((99, 100)));
     check_at(&rt, Type::Percent, &averages);
 }
@@ -164,7 +160,7 @@ fn coefficients_of_small_numbers(rt: HostRuntime) {
 fn row_of_a_small_number(rt: HostRuntime) {
     check_at(&rt, Type::Small, &Holds(BinomialFits, (4, 2), true));
     check_at(&rt, Type::Small, &Holds(BinomialFits, (5, 2), false));
-    check_at(&rt, Type::Small, &HasItems(4, 2, &[1, 4, 6, 4, 1]));
+    check_at(&rt, Type::Small, &HasItems(4, &[1, 4, 6, 4, 1]));
 }
 
 /// What `Negated` stores is ordered the other way round.
@@ -174,9 +170,9 @@ fn numbers_stored_negated(rt: HostRuntime) {
     assert!(rt; least < greatest && least.abs() == greatest);
     assert!(rt; Negated::ends() == (7, 7) && least.parts() == (true, 7));
     check_at(&rt, Type::Negated, &HasPair((7, 5), (1, -2, 3), 2));
-    check_at(&rt, Type::Negated, &HasItems(4, 2, &[1, 4, 6, 4, 1]));
+    check_at(&rt, Type::Negated, &HasItems(4, &[1, 4, 6, 4, 1]));
     let items = [1, 8, 28, 56, 70, 56, 28, 8, 1];
-    check_at(&rt, Type::Marked, &HasItems(8, 4, &items));
+    check_at(&rt, Type::Marked, &HasItems(8, &items));
 }
 
 /// Two values of one number are equal, whatever stands beside it.
@@ -205,7 +201,7 @@ fn numbers_of_one_bit(rt: HostRuntime) {
         (Type::OneBit, Answers(Gcd, (1, 1), Some(1))),
     ];
     check_rows(&rt, &answers);
-    check_at(&rt, Type::OneBit, &HasItems(0, 0, &[1]));
+    check_at(&rt, Type::OneBit, &HasItems(0, &[1]));
     assert!(rt; OneBit::ends() == (0, 1));
 }
 
@@ -217,9 +213,9 @@ fn numbers_of_two_bits(rt: HostRuntime) {
     ];
     check_rows(&rt, &answers);
     let rows = [
-        (Type::TwoBits, HasItems(0, 0, &[1])),
-        (Type::TwoBits, HasItems(1, 0, &[1, 1])),
-        (Type::TwoBits, HasItems(2, 1, &[1, 2, 1])),
+        (Type::TwoBits, HasItems(0, &[1])),
+        (Type::TwoBits, HasItems(1, &[1, 1])),
+        (Type::TwoBits, HasItems(2, &[1, 2, 1])),
     ];
     check_rows(&rt, &rows);
     assert!(rt; TwoBits::ends() == (0, 3));
@@ -250,7 +246,7 @@ fn bytes_tell_the_work(rt: HostRuntime) {
     let (a, b) = (Marked::new(99), Marked::new(2));
     let plain = checked::extended_gcd(a, b).expect(&rt, "the pair fits");
     assert!(rt; (plain.x.number(), plain.y.number()) == (1, -49) && greatest_mark(&plain) <= 16);
-    let (counted, turns) = checked::extended_gcd_counted(a, b).expect(&rt, "the pair fits");
+    let (counted, turns) = extended_gcd_counted(a, b).expect(&rt, "the pair fits");
     assert!(rt; counted == plain && turns == 1 && greatest_mark(&counted) <= 16);
     let (n, k) = (Marked::new(100), Marked::new(99));
     let plain = checked::binomial(n, k).expect(&rt, "the coefficient fits");

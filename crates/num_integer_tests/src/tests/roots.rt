@@ -1,14 +1,12 @@
 //! Roots: worked values, the tests of the Rust crate, each number of `u8` and of `u16`, and the numbers
 //! beside powers.
 
-ghost use Rattle.std.specs.Prelude.{◌≤◌, IfSome};
+ghost use Rattle.std.specs.Prelude.{◌≤◌};
 
 use super::types::Type::{I8, I16, I32, I64, Isize, U8, U16, U32, U64, Usize};
-use super::types::{
-    RootCheck, RootTurnsCheck, Tested, Type, check_root_turns_at, check_roots_at, greatest, number,
-};
+use super::types::{RootCheck, Tested, Type, check_roots_at, greatest, number};
 use num_integer::counted::SqrtCounted;
-use num_integer::{Fits, Roots};
+use num_integer::{Fits, Roots, checked};
 use std::process::Abort;
 
 /// The signed types of at most 64 bits, and the bits beside the sign.
@@ -28,45 +26,47 @@ pub(super) fn square_root_counted<T: SqrtCounted + Fits>(x: T) -> Option<(T, u32
     }
 }
 
-/// The square root, from 0 up.
-fn square_root<T: Roots + Fits>(x: T) -> Option<T>
-    requires { T.fits (T.value x) }
-{
-    if x.parts().0 {
-        None
-    } else {
-        Some(num_integer::sqrt(x))
+/// The number has this root, by `nth_root` and the call of the degree.
+pub(super) fn has_root<T: Roots + Tested>(rt: &impl Abort, x: i128, degree: u32, root: i128) {
+    let number = number::<T>(rt, x);
+    let expected = Some(self::number::<T>(rt, root));
+    let root = checked::nth_root(number, degree);
+    assert_eq!(rt; root, expected, "degree {degree} of {x}");
+    let root = match degree {
+        2 => checked::sqrt(number),
+        3 => Some(num_integer::cbrt(number)),
+        _ => root,
+    };
+    assert_eq!(rt; root, expected, "degree {degree} of {x}");
+}
+
+/// The number has no root of this degree.
+pub(super) fn has_no_root<T: Roots + Tested>(rt: &impl Abort, x: i128, degree: u32) {
+    let number = number::<T>(rt, x);
+    let none = checked::nth_root(number, degree).is_none();
+    assert!(rt; none, "degree {degree} of {x}");
+    if degree == 2 {
+        assert!(rt; checked::sqrt(number).is_none(), "of {x}");
     }
 }
 
-/// The root of any degree but 0, from 0 up where the degree is even.
-fn root_of_degree<T: Roots + Fits>(x: T, n: u32) -> Option<T>
-    requires { T.fits (T.value x) }
-    ensures { IfSome result (λ root. T.fits (T.value root)) }
-{
-    if n == 0 || n.is_multiple_of(2) && x.parts().0 {
-        None
-    } else {
-        Some(num_integer::nth_root(x, n))
-    }
-}
-
-/// A number, a degree, and the root, by `nth_root` and the call of the degree.
+/// A number, a degree, and the root.
 #[derive(Drop)]
 struct HasRoot(i128, u32, i128);
 
 impl RootCheck for HasRoot {
-    fn at<T: Roots + Tested>(&self, rt: &impl Abort) {
-        let (x, degree) = (number::<T>(rt, self.0), self.1);
-        let expected = Some(number::<T>(rt, self.2));
-        let root = root_of_degree(x, degree);
-        assert_eq!(rt; root, expected, "degree {degree} of {}", self.0);
-        let root = match degree {
-            2 => square_root(x),
-            3 => Some(num_integer::cbrt(x)),
-            _ => root,
-        };
-        assert_eq!(rt; root, expected, "degree {degree} of {}", self.0);
+    fn at<T: SqrtCounted + Tested>(&self, rt: &impl Abort) {
+        has_root::<T>(rt, self.0, self.1, self.2);
+    }
+}
+
+/// A number, and a degree of which it has no root.
+#[derive(Drop)]
+struct HasNoRoot(i128, u32);
+
+impl RootCheck for HasNoRoot {
+    fn at<T: SqrtCounted + Tested>(&self, rt: &impl Abort) {
+        has_no_root::<T>(rt, self.0, self.1);
     }
 }
 
@@ -82,7 +82,7 @@ pub(crate) fn check_roots(rt: &impl Abort, rows: &[(Type, i128, u32, i128)]) {
 #[derive(Drop)]
 struct HasTurns(i128, i128, u32);
 
-impl RootTurnsCheck for HasTurns {
+impl RootCheck for HasTurns {
     fn at<T: SqrtCounted + Tested>(&self, rt: &impl Abort) {
         let expected = Some((number::<T>(rt, self.1), self.2));
         let counted = square_root_counted(number::<T>(rt, self.0));
@@ -104,7 +104,7 @@ fn square_roots_and_their_turns(rt: HostRuntime) {
         (I64, 4, 2, 0),
         (U8, 255, 15, 1),
     ] {
-        check_root_turns_at(&rt, it, &HasTurns(x, root, turns));
+        check_roots_at(&rt, it, &HasTurns(x, root, turns));
         check_roots_at(&rt, it, &HasRoot(x, 2, root));
     }
 }
@@ -169,17 +169,35 @@ fn roots_of_any_degree(rt: HostRuntime) {
         (I64, -9223372036854775808, 1, -9223372036854775808),
         (I64, -9223372036854775808, 63, -2),
         (I64, -9223372036854775808, 4294967295, -1),
+        (I8, -9, 3, -2),
     ];
     check_roots(&rt, &rows);
+}
+
+#[test]
+fn numbers_with_no_root(rt: HostRuntime) {
+    for (it, x, degree) in [
+        (I8, -9, 2),
+        (I8, -9, 4294967294),
+        (I8, 9, 0),
+        (I8, -9, 0),
+        (U8, 0, 0),
+    ] {
+        check_roots_at(&rt, it, &HasNoRoot(x, degree));
+    }
 }
 
 /// The root has the sign of the number, and of those whose power is no farther from 0 than the
 /// number it is the farthest from 0.
 pub(crate) fn check_root<T: Roots + Tested>(rt: &impl Abort, x: i128, n: u32) {
     let number = number::<T>(rt, x);
-    let root = root_of_degree(number, n).expect(rt, "the number has a root");
+    let root = checked::nth_root(number, n).expect(rt, "the number has a root");
+    assert!(rt; num_integer::nth_root(number, n) == root);
     match n {
-        2 => assert!(rt; square_root(number) == Some(root)),
+        2 => {
+            let square = checked::sqrt(number).expect(rt, "the number has a square root");
+            assert!(rt; square == root && num_integer::sqrt(number) == root);
+        }
         3 => assert!(rt; num_integer::cbrt(number) == root),
         _ => {}
     }
@@ -227,7 +245,7 @@ fn check_roots_below_zero<T: Roots + Tested>(rt: &impl Abort, bits: u32, n: u32)
 struct RootsFromZero(u32, u32, u32);
 
 impl RootCheck for RootsFromZero {
-    fn at<T: Roots + Tested>(&self, rt: &impl Abort) {
+    fn at<T: SqrtCounted + Tested>(&self, rt: &impl Abort) {
         assert!(rt; self.0 <= 64);
         for n in self.1..self.2 {
             check_roots_from_zero::<T>(rt, self.0, n);
@@ -241,7 +259,7 @@ impl RootCheck for RootsFromZero {
 struct RootsBelowZero(u32, u32, u32);
 
 impl RootCheck for RootsBelowZero {
-    fn at<T: Roots + Tested>(&self, rt: &impl Abort) {
+    fn at<T: SqrtCounted + Tested>(&self, rt: &impl Abort) {
         assert!(rt; self.0 <= 64);
         for n in self.1..self.2 {
             if !n.is_multiple_of(2) {
@@ -296,7 +314,7 @@ fn nth_root_neg(rt: HostRuntime) {
 struct HasBits(u32);
 
 impl RootCheck for HasBits {
-    fn at<T: Roots + Tested>(&self, rt: &impl Abort) {
+    fn at<T: SqrtCounted + Tested>(&self, rt: &impl Abort) {
         let (n, number) = (self.0, greatest::<T>(rt));
         for (degree, root) in [(n.saturating_sub(1), 2), (n, 1)] {
             HasRoot(number, degree, root).at::<T>(rt);
@@ -309,7 +327,7 @@ impl RootCheck for HasBits {
 struct HasSign(u32);
 
 impl RootCheck for HasSign {
-    fn at<T: Roots + Tested>(&self, rt: &impl Abort) {
+    fn at<T: SqrtCounted + Tested>(&self, rt: &impl Abort) {
         let greatest = greatest::<T>(rt);
         for (number, root) in [(-greatest - 1, -2), (-greatest, -1)] {
             HasRoot(number, self.0, root).at::<T>(rt);
@@ -336,7 +354,7 @@ fn check_each_root<T: Roots + Tested>(rt: &impl Abort, n: u32) {
     for root in 0..end {
         let next = root.saturating_add(1).checked_pow(n).unwrap_or(end);
         for x in power..next.min(end) {
-            HasRoot(x, n, root).at::<T>(rt);
+            has_root::<T>(rt, x, n, root);
         }
         if next >= end {
             return;
@@ -350,7 +368,7 @@ fn check_each_root<T: Roots + Tested>(rt: &impl Abort, n: u32) {
 struct EachRoot;
 
 impl RootCheck for EachRoot {
-    fn at<T: Roots + Tested>(&self, rt: &impl Abort) {
+    fn at<T: SqrtCounted + Tested>(&self, rt: &impl Abort) {
         for n in 1..=16 {
             check_each_root::<T>(rt, n);
         }

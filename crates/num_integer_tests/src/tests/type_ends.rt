@@ -5,23 +5,23 @@ ghost use Rattle.std.specs.Prelude.{IfOk};
 ghost use Rattle.std.specs.List.{All};
 
 use super::averages::has_averages;
-use super::call_rows::NumberCall::Binomial;
-use super::checked;
-use super::coefficients::{HasItems, counted, row, shared};
+use super::bezout::extended_gcd_counted;
+use super::call_rows::NumberCall::{Binomial, Difference, Product, Sum};
+use super::call_rows::UnaryCall::{Dec, Inc, Negated};
+use super::coefficients::{HasItems, counted};
 use super::exhaustive::{has_divisors, has_quotients};
-use super::gcd_turns::{assert_turns, counted_turns};
-use super::roots::{check_root, square_root_counted};
+use super::gcd_turns::{counted_turns, has_turns};
+use super::roots::{check_root, has_no_root, square_root_counted};
 use super::signed_magnitude::{
-    SignedMagnitude, euclidean_gcd, is_multiple, product, signed_magnitude, sum, to_i128,
+    SignedMagnitude, euclidean_gcd, is_multiple, opposite, product, signed_magnitude, sum, to_i128,
 };
 use super::types::Type::{I8, I16, I32, I64, I128, Isize, U8, U16, U32, U64, U128, Usize};
 use super::types::{
-    Check, RootCheck, RootTurnsCheck, SignedCheck, Tested, TurnsCheck, Type, check_at,
-    check_root_turns_at, check_roots_at, check_rows, check_signed_at, check_turns_at,
-    optional_value, value,
+    Check, RootCheck, SignedCheck, Tested, Type, check_at, check_roots_at, check_rows,
+    check_signed_at, optional_value, value,
 };
-use num_integer::Roots;
-use num_integer::counted::{GcdCounted, SqrtCounted};
+use num_integer::checked;
+use num_integer::counted::SqrtCounted;
 use num_traits::Signed;
 use std::alloc::{AllocError, Global};
 use std::process::Abort;
@@ -72,13 +72,45 @@ impl Ends {
 /// What the calls of one operand answer, and what the tests of the domains see of it.
 pub(crate) fn has_neighbours<T: Tested>(rt: &impl Abort, n: SignedMagnitude) {
     let x = value::<T>(rt, n);
-    assert_eq!(rt; x.parts(), n);
     let even = n.1 % 2 == 0;
-    assert!(rt; x.is_even() == even && x.is_odd() != even, "{n:?}");
-    let more = optional_value(sum(n, (false, 1)));
-    assert_eq!(rt; checked::one_more(x), more, "{n:?}");
-    let less = optional_value(sum(n, (true, 1)));
-    assert_eq!(rt; checked::one_less(x), less, "{n:?}");
+    assert_eq!(rt; (x.parts(), x.is_even(), x.is_odd()), (n, even, !even));
+    for (call, expected) in [
+        (Inc, sum(n, (false, 1))),
+        (Dec, sum(n, (true, 1))),
+        (Negated, Some(opposite(n))),
+    ] {
+        let expected = optional_value::<T>(expected);
+        assert_eq!(rt; call.answer(x), expected, "{call:?} of {n:?}");
+    }
+    assert_stored(rt, x);
+}
+
+/// `inc` and `dec` store what `checked::inc` and `checked::dec` answer.
+fn assert_stored<T: Tested>(rt: &impl Abort, x: T)
+    requires { T.fits (T.value x) }
+{
+    let (mut up, mut down) = (x, x);
+    if let Some(next) = checked::inc(x) {
+        up.inc();
+        assert_eq!(rt; up, next);
+    }
+    if let Some(previous) = checked::dec(x) {
+        down.dec();
+        assert_eq!(rt; down, previous);
+    }
+}
+
+/// The sum, the difference and the product of two numbers.
+fn has_sums<T: Tested>(rt: &impl Abort, a: SignedMagnitude, b: SignedMagnitude) {
+    let (x, y) = (value::<T>(rt, a), value::<T>(rt, b));
+    for (call, expected) in [
+        (Sum, sum(a, b)),
+        (Difference, sum(a, opposite(b))),
+        (Product, product(a, b)),
+    ] {
+        let expected = optional_value::<T>(expected);
+        assert_eq!(rt; call.answer(x, y), expected, "{call:?} of {a:?} and {b:?}");
+    }
 }
 
 /// The row of a number below 3. That of a number at the upper end does not fit.
@@ -88,14 +120,13 @@ fn has_row<T: Tested>(rt: &impl Abort, n: SignedMagnitude) {
         (false, 0) => &[1],
         (false, 1) => &[1, 1],
         (false, 2) => &[1, 2, 1],
-        (false, magnitude) => {
-            let (x, half) = (value::<T>(rt, n), value::<T>(rt, (false, magnitude / 2)));
-            assert!(rt; row(x, half).is_none(), "{n:?}");
+        _ => {
+            assert!(rt; checked::row(value::<T>(rt, n)).is_none(), "{n:?}");
             return;
         }
     };
     let number = to_i128(n).expect(rt, "it is below 3");
-    HasItems(number, number.max(0) / 2, items).at::<T>(rt);
+    HasItems(number, items).at::<T>(rt);
 }
 
 /// The coefficient of `n` and `k` by the product formula, and its turns: the distance to the nearer
@@ -120,9 +151,12 @@ fn has_coefficient<T: Tested>(rt: &impl Abort, a: SignedMagnitude, b: SignedMagn
     let (x, y) = (value::<T>(rt, a), value::<T>(rt, b));
     let expected = coefficient(a, b);
     let answer = expected_number::<T>(expected);
-    assert_eq!(rt; Binomial.answer(x, y), answer, "{a:?} and {b:?}");
-    let turns = expected.map(|(_, turns)| turns);
-    assert_eq!(rt; counted(x, y), answer.zip(turns), "{a:?} and {b:?}");
+    let counted_answer = answer.zip(expected.map(|(_, turns)| turns));
+    assert_eq!(rt;
+        (Binomial.answer(x, y), counted(x, y)),
+        (answer, counted_answer),
+        "{a:?} and {b:?}"
+    );
 }
 
 /// The coefficient as a value of the type, where the type has it.
@@ -164,16 +198,27 @@ fn has_pair<T: Tested>(rt: &impl Abort, a: SignedMagnitude, b: SignedMagnitude) 
     let has_negatives = T::from_signed_magnitude((true, 1)).is_some();
     let has_pair = has_negatives || is_multiple(a, b) || is_multiple(b, a);
     let domain = has_pair && T::from_signed_magnitude((false, gcd)).is_some();
-    let counted = checked::extended_gcd_counted(x, y);
-    assert_eq!(rt; counted.is_some(), domain, "{a:?} and {b:?}");
-    assert_eq!(rt; checked::extended_gcd(x, y), counted.map(|(pair, _)| pair));
-    let Some((pair, turns)) = counted else {
+    let Some((pair, turns)) = extended_gcd_counted(x, y) else {
+        assert!(rt;
+            !domain && checked::extended_gcd(x, y).is_none(),
+            "{a:?} and {b:?}"
+        );
         return;
     };
-    assert_eq!(rt; turns, remainders.saturating_sub(1), "{a:?} and {b:?}");
-    assert_eq!(rt; pair.gcd.parts(), (false, gcd), "{a:?} and {b:?}");
+    assert!(rt;
+        domain && checked::extended_gcd(x, y) == Some(pair),
+        "{a:?} and {b:?}"
+    );
     let (x, y) = (pair.x.parts(), pair.y.parts());
-    assert_eq!(rt; combined(a, b, x, y), Some((false, gcd)), "{a:?} and {b:?}");
+    assert_eq!(rt;
+        (turns, pair.gcd.parts(), combined(a, b, x, y)),
+        (
+            remainders.saturating_sub(1),
+            (false, gcd),
+            Some((false, gcd))
+        ),
+        "{a:?} and {b:?}"
+    );
     assert!(rt; is_bezout_pair(a, b, gcd, (x, y)), "{a:?} and {b:?}");
 }
 
@@ -190,6 +235,7 @@ fn combined(
 /// What the calls of two operands answer.
 pub(crate) fn has_answers<T: Tested>(rt: &impl Abort, a: SignedMagnitude, b: SignedMagnitude) {
     let (gcd, _) = euclidean_gcd(a.1, b.1);
+    has_sums::<T>(rt, a, b);
     has_quotients::<T>(rt, a, b);
     has_divisors::<T>(rt, a, b, gcd);
     has_averages::<T>(rt, a, b);
@@ -250,7 +296,8 @@ impl Check for SharesAtEnds {
                         Some(total) if !a.0 && !b.0 => expected_number::<T>(coefficient(total, b)),
                         _ => None,
                     };
-                    assert_eq!(rt; shared(&counts), expected, "{a:?} and {b:?}");
+                    let multinomial = checked::multinomial(&counts);
+                    assert_eq!(rt; multinomial, expected, "{a:?} and {b:?}");
                 }
             }
         }
@@ -265,17 +312,21 @@ fn multinomials_at_the_ends(rt: HostRuntime) {
 }
 
 /// Degrees up to the bits of a type, and far above.
-const DEGREES: [u32; 15] = [
-    1, 2, 3, 4, 5, 7, 8, 31, 32, 62, 63, 64, 65, 4294967294, 4294967295,
+const DEGREES: [u32; 16] = [
+    0, 1, 2, 3, 4, 5, 7, 8, 31, 32, 62, 63, 64, 65, 4294967294, 4294967295,
 ];
 
 impl RootCheck for Ends {
-    fn at<T: Roots + Tested>(&self, rt: &impl Abort) {
+    fn at<T: SqrtCounted + Tested>(&self, rt: &impl Abort) {
         for n in self.numbers() {
             for degree in DEGREES {
-                if self.has(n) && (!n.0 || degree % 2 == 1) {
+                if self.has(n) {
                     let number = to_i128(n).expect(rt, "it has at most 64 bits");
-                    check_root::<T>(rt, number, degree);
+                    if degree == 0 || n.0 && degree % 2 == 0 {
+                        has_no_root::<T>(rt, number, degree);
+                    } else {
+                        check_root::<T>(rt, number, degree);
+                    }
                 }
             }
         }
@@ -310,10 +361,15 @@ fn square_root_turns(a: u128) -> Option<(u128, u32)> {
     Some((guess, turns))
 }
 
-impl RootTurnsCheck for Ends {
+/// The turns of the square roots.
+#[derive(Drop)]
+struct RootTurnsAtEnds(Ends);
+
+impl RootCheck for RootTurnsAtEnds {
     fn at<T: SqrtCounted + Tested>(&self, rt: &impl Abort) {
-        for n in self.numbers() {
-            if self.has(n) && !n.0 {
+        let ends = self.0;
+        for n in ends.numbers() {
+            if ends.has(n) && !n.0 {
                 let (root, turns) = square_root_turns(n.1).expect(rt, "it has at most 64 bits");
                 let expected = (value::<T>(rt, (false, root)), turns);
                 let counted = square_root_counted(value::<T>(rt, n));
@@ -327,45 +383,44 @@ impl RootTurnsCheck for Ends {
 fn turns_of_square_roots_at_the_ends(rt: HostRuntime) {
     for (it, ends) in ENDS {
         if ends.1 <= u128::from(u64::MAX) {
-            check_root_turns_at(&rt, it, &ends);
+            check_roots_at(&rt, it, &RootTurnsAtEnds(ends));
         }
     }
 }
 
-impl TurnsCheck for Ends {
-    fn at<T: GcdCounted + Tested>(&self, rt: &impl Abort) {
-        for a in self.numbers() {
-            for b in self.numbers() {
-                if self.has(a) && self.has(b) {
-                    has_turns::<T>(rt, a, b, (true, self.0));
+/// The turns of the greatest common divisors.
+#[derive(Drop)]
+struct TurnsAtEnds(Ends);
+
+impl Check for TurnsAtEnds {
+    fn at<T: Tested>(&self, rt: &impl Abort) {
+        let ends = self.0;
+        for a in ends.numbers() {
+            for b in ends.numbers() {
+                let (gcd, _) = euclidean_gcd(a.1, b.1);
+                if ends.has(a) && ends.has(b) && gcd <= ends.1 {
+                    let turns = turns_between(a, b, (true, ends.0));
+                    let turns = turns.expect(rt, "no pair makes more turns than it has bits");
+                    has_turns::<T>(rt, a, b, gcd, turns);
                 }
             }
         }
     }
 }
 
-/// The turns for a greatest common divisor, where it fits. The least number of a type makes none.
-fn has_turns<T: GcdCounted + Tested>(
-    rt: &impl Abort,
-    a: SignedMagnitude,
-    b: SignedMagnitude,
-    least: SignedMagnitude,
-) {
-    let (gcd, _) = euclidean_gcd(a.1, b.1);
-    let turns = if a == least || b == least {
-        0
+/// The turns for a greatest common divisor. The least number of a type makes none.
+fn turns_between(a: SignedMagnitude, b: SignedMagnitude, least: SignedMagnitude) -> Option<u32> {
+    if a == least || b == least {
+        Some(0)
     } else {
-        counted_turns(a.1, b.1).expect(rt, "no pair makes more turns than it has bits")
-    };
-    if let Some(gcd) = T::from_signed_magnitude((false, gcd)) {
-        assert_turns(rt, value::<T>(rt, a), value::<T>(rt, b), gcd, turns);
+        counted_turns(a.1, b.1)
     }
 }
 
 #[test]
 fn turns_at_the_ends(rt: HostRuntime) {
     for (it, ends) in ENDS {
-        check_turns_at(&rt, it, &ends);
+        check_at(&rt, it, &TurnsAtEnds(ends));
     }
 }
 

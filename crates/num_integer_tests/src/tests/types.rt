@@ -8,7 +8,7 @@ ghost use Rattle.std.specs.Prelude.{◌≤ℤ◌, IfSome, pos};
 use super::signed_magnitude::{SignedMagnitude, to_i128};
 use crate::own_types::{Form, Marked, Negated, OneBit, Own, Percent, Small, TwoBits};
 use num_integer::counted::{GcdCounted, SqrtCounted};
-use num_integer::{Average, Fits, Roots};
+use num_integer::{Average, Fits};
 use num_traits::{FromPrimitive, Signed};
 use std::fmt::Debug;
 use std::process::Abort;
@@ -61,9 +61,18 @@ pub(crate) trait Tested: Average + Fits + Debug {
     {
         Self::from_number(to_i128(n)?)
     }
+
+    /// The greatest common divisor and the turns of its loop, where the divisor fits and the type has
+    /// the call that counts them.
+    fn gcd_and_turns(&self, _other: &Self) -> Option<(Self, u32)>
+        requires self_in_range { Self.fits (Self.value self.now) }
+        requires other_in_range { Self.fits (Self.value _other.now) }
+    {
+        None
+    }
 }
 
-impl<T: Average + Fits + FromPrimitive + Debug> Tested for T {
+impl<T: Average + Fits + FromPrimitive + GcdCounted + Debug> Tested for T {
     fn from_number(n: i128) -> Option<T> {
         T::from_i128(n)
     }
@@ -73,6 +82,14 @@ impl<T: Average + Fits + FromPrimitive + Debug> Tested for T {
             T::from_i128(to_i128(n)?)
         } else {
             T::from_u128(n.1)
+        }
+    }
+
+    fn gcd_and_turns(&self, other: &T) -> Option<(T, u32)> {
+        if self.gcd_fits(other) {
+            Some(self.gcd_counted(other))
+        } else {
+            None
         }
     }
 }
@@ -191,10 +208,10 @@ pub(crate) fn check_at_each(rt: &impl Abort, types: &[Type], check: &impl Check)
 
 /// What is expected of roots at a type.
 pub(crate) trait RootCheck {
-    fn at<T: Roots + Tested>(&self, rt: &impl Abort);
+    fn at<T: SqrtCounted + Tested>(&self, rt: &impl Abort);
 }
 
-/// Makes the check at a type of at most 64 bits.
+/// Makes the check at a type of the library of at most 64 bits.
 pub(crate) fn check_roots_at(rt: &impl Abort, it: Type, check: &impl RootCheck) {
     at_type!(
         it, check, rt,
@@ -203,12 +220,12 @@ pub(crate) fn check_roots_at(rt: &impl Abort, it: Type, check: &impl RootCheck) 
     )
 }
 
-/// Makes the check at a type of at most 64 bits with no sign.
+/// Makes the check at a type of the library of at most 64 bits with no sign.
 fn check_unsigned_roots_at(rt: &impl Abort, it: Type, check: &impl RootCheck) {
     at_type!(
         it, check, rt,
-        [U8 u8, U16 u16, U32 u32, U64 u64, Usize usize, Percent Percent],
-        panic!(rt; "the type has no roots")
+        [U8 u8, U16 u16, U32 u32, U64 u64, Usize usize],
+        panic!(rt; "the library has no such type with roots")
     )
 }
 
@@ -223,51 +240,5 @@ pub(crate) fn check_signed_at(rt: &impl Abort, it: Type, check: &impl SignedChec
         it, check, rt,
         [I8 i8, I16 i16, I32 i32, I64 i64, I128 i128, Isize isize, Small Small, Negated Negated, Marked Marked],
         panic!(rt; "the type has no sign")
-    )
-}
-
-/// What is expected of the turns at a type of the library.
-pub(crate) trait TurnsCheck {
-    fn at<T: GcdCounted + Tested>(&self, rt: &impl Abort);
-}
-
-/// Makes the check at a type of the library.
-pub(crate) fn check_turns_at(rt: &impl Abort, it: Type, check: &impl TurnsCheck) {
-    at_type!(
-        it, check, rt,
-        [I8 i8, I16 i16, I32 i32, I64 i64, I128 i128, Isize isize],
-        check_unsigned_turns_at(rt, it, check)
-    )
-}
-
-/// Makes the check at a type of the library with no sign.
-fn check_unsigned_turns_at(rt: &impl Abort, it: Type, check: &impl TurnsCheck) {
-    at_type!(
-        it, check, rt,
-        [U8 u8, U16 u16, U32 u32, U64 u64, U128 u128, Usize usize],
-        panic!(rt; "the library has no such type")
-    )
-}
-
-/// What is expected of the turns for a square root at a type of the library.
-pub(crate) trait RootTurnsCheck {
-    fn at<T: SqrtCounted + Tested>(&self, rt: &impl Abort);
-}
-
-/// Makes the check at a type of the library of at most 64 bits.
-pub(crate) fn check_root_turns_at(rt: &impl Abort, it: Type, check: &impl RootTurnsCheck) {
-    at_type!(
-        it, check, rt,
-        [I8 i8, I16 i16, I32 i32, I64 i64, Isize isize],
-        check_unsigned_root_turns_at(rt, it, check)
-    )
-}
-
-/// Makes the check at a type of the library of at most 64 bits with no sign.
-fn check_unsigned_root_turns_at(rt: &impl Abort, it: Type, check: &impl RootTurnsCheck) {
-    at_type!(
-        it, check, rt,
-        [U8 u8, U16 u16, U32 u32, U64 u64, Usize usize],
-        panic!(rt; "the library has no such type with roots")
     )
 }

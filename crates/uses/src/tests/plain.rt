@@ -1,15 +1,16 @@
-//! Calls whose conditions a plain fact on the arguments meets, without a test of `Fits`, and calls of
-//! `ratio64`, which have no conditions.
+//! Calls with no file of proofs: those whose conditions a plain fact on the arguments meets, and those
+//! of `checked` and of `ratio64`, which have no conditions.
 
-ghost use Rattle.std.specs.Prelude.{◌≡◌, ◌≢◌, ◌↔◌, ◌<◌, ◌%◌, ◌≤ℤ◌, ◌<ℤ◌, pos, Err, IsTrue};
+ghost use Rattle.std.specs.Prelude.{◌≡◌, ◌≢◌, ◌↔◌, ◌<◌, ◌%◌, ◌≤ℤ◌, ◌<ℤ◌, pos, Err, IfSome, IsTrue};
 ghost use Rattle.num_integer.specs.Bezout.{IsBezoutAnswer};
+ghost use Rattle.num_integer.specs.Coefficient.{coefficient};
 ghost use Rattle.num_integer.specs.Division.{IsCeiled, IsFloored, IsMultiple, IsQuotient};
 ghost use Rattle.num_integer.specs.Divisors.{IsGreatestCommonDivisor, IsLeastCommonMultiple};
 ghost use Rattle.num_integer.specs.RootOf.{IsRoot};
 ghost use Rattle.num_integer.specs.Row.{row_of};
 ghost use Rattle.ratio64.specs.Ratio.{AnswersFraction, den_of, num_of};
 
-use num_integer::{ExtendedGcd, Integer, IterBinomial, Roots};
+use num_integer::{ExtendedGcd, Integer, IterBinomial, Roots, binomial, checked};
 use ratio64::{Ratio, RatioError};
 
 /// By a number above 0 each quotient fits.
@@ -51,7 +52,14 @@ fn common_divisor_with_positive(m: i64, n: i64) -> i64
     m.gcd(&n)
 }
 
-/// And so its pair is there.
+/// At an unsigned type any two numbers have one that fits.
+fn natural_common_divisor(a: u64, b: u64) -> u64
+    ensures { IsGreatestCommonDivisor (pos a) (pos b) (pos result) }
+{
+    a.gcd(&b)
+}
+
+/// Beside a number above 0 the pair of coefficients is there too.
 fn pair_with_positive(m: i64, n: i64) -> ExtendedGcd<i64>
     requires { pos 0 <ℤ n }
     ensures { IsBezoutAnswer m n result.gcd result.x result.y }
@@ -98,12 +106,61 @@ fn remainder(n: u64, d: u64) -> u64
     n.mod_floor(&d)
 }
 
+/// The choices of 4 out of 9: a coefficient of literals.
+#[tactic(auto, unfolding(num_integer::specs::Coefficient::coefficient))]
+fn choices_of_4_out_of_9() -> u8
+    ensures { result ≡ 126 }
+{
+    binomial(9, 4)
+}
+
 /// A row of a literal.
 #[tactic(auto, unfolding(num_integer::specs::Coefficient::coefficient))]
 fn row_of_three() -> IterBinomial<u8>
     ensures { result ≡ row_of (pos 3) }
 {
     IterBinomial::new(3)
+}
+
+/// The greatest common divisor of two numbers of which twelve calls have an answer.
+fn divisor_after_twelve_calls(a: i64, b: i64) -> Option<i64>
+    ensures { IfSome result (λ g. IsGreatestCommonDivisor a b g) }
+{
+    let quotient = checked::div_floor(a, b)?;
+    let rest = checked::mod_floor(a, b)?;
+    let multiple = checked::next_multiple_of(a, b)?;
+    let divisor = checked::gcd(a, b)?;
+    let common = checked::lcm(a, b)?;
+    let product = checked::product(divisor, common)?;
+    let sum = checked::sum(product, quotient)?;
+    let more = checked::inc(sum)?;
+    let root = checked::nth_root(more, 3)?;
+    let ways = checked::binomial(multiple, rest)?;
+    let pair = checked::extended_gcd(root, ways)?;
+    let orders = checked::multinomial(&[quotient, rest, more])?;
+    if orders == pair.x {
+        None
+    } else {
+        Some(divisor)
+    }
+}
+
+/// The choices of `k` out of `n`, two numbers of which eleven calls have an answer.
+fn choices_after_eleven_calls(n: u8, k: u8) -> Option<u8>
+    ensures { IfSome result (λ c. c ≡ coefficient n k) }
+{
+    let choices = checked::binomial(n, k)?;
+    let (quotient, rest) = checked::div_rem(n, k)?;
+    let above = checked::div_ceil(n, k)?;
+    let multiple = checked::prev_multiple_of(n, k)?;
+    let (divisor, common) = checked::gcd_lcm(n, k)?;
+    let root = checked::sqrt(common)?;
+    let sum = checked::sum(quotient, rest)?;
+    let product = checked::product(divisor, root)?;
+    let more = checked::inc(product)?;
+    let shared = checked::gcd(sum, more)?;
+    let next = checked::next_multiple_of(above, multiple)?;
+    if shared == next { None } else { Some(choices) }
 }
 
 /// A fraction, its parts, and its neighbours among the whole numbers.
@@ -147,9 +204,20 @@ fn plain_fractions(rt: HostRuntime) {
 }
 
 #[test]
+fn many_calls(rt: HostRuntime) {
+    assert!(rt; divisor_after_twelve_calls(8, 6) == Some(2));
+    assert!(rt; divisor_after_twelve_calls(8, 0) == None);
+    assert!(rt; divisor_after_twelve_calls(i64::MIN, -1) == None);
+    assert!(rt; choices_after_eleven_calls(6, 2) == Some(15));
+    assert!(rt; choices_after_eleven_calls(11, 4) == None);
+}
+
+#[test]
 fn plain_calls(rt: HostRuntime) {
     assert!(rt; quotient_by_positive(-8, 3) == -3 && natural_quotient(8, 3) == 2);
     assert!(rt; previous_multiple(23, 8) == 16 && common_divisor_with_positive(-56, 42) == 14);
+    assert!(rt; natural_common_divisor(56, 42) == 14 && natural_common_divisor(0, 0) == 0);
+    assert!(rt; choices_of_4_out_of_9() == 126);
     assert!(rt; common_multiple_in_twice_the_bits(4294967295, 4294967294) == 18446744060824649730);
     assert!(rt; is_even(4) && !is_even(7) && remainder(17, 5) == 2);
     assert!(rt; weeks(-1) == -1 && side(99) == 9 && natural_root(99, 3) == 4);

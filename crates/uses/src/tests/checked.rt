@@ -1,7 +1,7 @@
-//! Calls of `num_integer` behind their tests, as a program writes them at a native type where it knows
-//! nothing of its numbers.
+//! Calls of `num_integer::checked` at native types, as a program writes them where it knows nothing of
+//! its numbers, and contracts in words of its own.
 
-ghost use Rattle.std.specs.Prelude.{◌≡◌, ◌≢◌, ◌⊎◌, ◌<◌, ◌%◌, ◌^◌, ◌<ℤ◌, pos, map, MatchOption, FitsSigned};
+ghost use Rattle.std.specs.Prelude.{◌≡◌, ◌≢◌, ◌⊎◌, ◌<◌, ◌%◌, ◌^◌, ◌<ℤ◌, ◌+ℤ◌, pos, map, MatchOption, FitsSigned};
 ghost use Rattle.std.specs.Int.{FitsUnsignedBits, w64};
 ghost use Rattle.num_integer.specs.Bezout.{IsBezoutAnswer};
 ghost use Rattle.num_integer.specs.Coefficient.{coefficient};
@@ -12,7 +12,7 @@ ghost use Rattle.num_integer.specs.Range.{EachFits};
 ghost use Rattle.num_integer.specs.RootOf.{IsRoot};
 ghost use Rattle.num_integer.specs.Row.{RowFits, row_of};
 
-use num_integer::{ExtendedGcd, Fits, Integer, IterBinomial, Roots, binomial, multinomial};
+use num_integer::{ExtendedGcd, IterBinomial, checked};
 
 /// The quotient rounded down, or `None` for a divisor 0 and for the least number by -1.
 fn floored_quotient(n: i64, d: i64) -> Option<i64>
@@ -20,10 +20,9 @@ fn floored_quotient(n: i64, d: i64) -> Option<i64>
         (¬ ((d ≢ pos 0) × EachFits (FitsSigned w64) (IsQuotient IsFloored n d)))
         (λ q. IsQuotient IsFloored n d q) }
 {
-    if n.quotient_fits(&d) {
-        Some(n.div_floor(&d))
-    } else {
-        None
+    match checked::div_floor(n, d) {
+        Some(q) => Some(q),
+        None => None,
     }
 }
 
@@ -31,7 +30,7 @@ fn floored_quotient(n: i64, d: i64) -> Option<i64>
 fn floored_remainder(n: i64, d: i64) -> Option<i64>
     ensures { MatchOption result (d ≡ pos 0) (λ r. IsRemainder IsFloored n d r) }
 {
-    if d == 0 { None } else { Some(n.mod_floor(&d)) }
+    checked::mod_floor(n, d)
 }
 
 /// The next multiple, or `None` for a divisor 0 and where the multiple is beyond the type.
@@ -40,18 +39,7 @@ fn next_multiple(n: u64, d: u64) -> Option<u64>
         (¬ ((d ≢ 0) × EachFits (FitsUnsignedBits 64) (IsMultiple IsCeiled (pos n) (pos d))))
         (λ m. IsMultiple IsCeiled (pos n) (pos d) (pos m)) }
 {
-    if n.next_multiple_fits(&d) {
-        Some(Integer::next_multiple_of(&n, &d))
-    } else {
-        None
-    }
-}
-
-/// The greatest common divisor: at an unsigned type it always fits.
-fn common_divisor(a: u64, b: u64) -> u64
-    ensures { IsGreatestCommonDivisor (pos a) (pos b) (pos result) }
-{
-    a.gcd(&b)
+    checked::next_multiple_of(n, d)
 }
 
 /// The least common multiple, or `None` where it is beyond the type.
@@ -59,11 +47,7 @@ fn common_multiple(a: i64, b: i64) -> Option<i64>
     ensures { MatchOption result (¬ (EachFits (FitsSigned w64) (IsLeastCommonMultiple a b)))
         (λ l. IsLeastCommonMultiple a b l) }
 {
-    if a.lcm_fits(&b) {
-        Some(a.lcm(&b))
-    } else {
-        None
-    }
+    checked::lcm(a, b)
 }
 
 /// The greatest common divisor with its Bezout pair, or `None` where the divisor is beyond the type.
@@ -71,24 +55,16 @@ fn bezout_pair(m: i64, n: i64) -> Option<ExtendedGcd<i64>>
     ensures { MatchOption result (¬ (EachFits (FitsSigned w64) (IsGreatestCommonDivisor m n)))
         (λ e. IsBezoutAnswer m n e.gcd e.x e.y) }
 {
-    if m.gcd_fits(&n) {
-        Some(m.extended_gcd(&n))
-    } else {
-        None
-    }
+    checked::extended_gcd(m, n)
 }
 
-/// The same at a type without negative numbers, which has a pair where one operand divides the other.
+/// The same at a type without negative numbers, which has a pair where one number divides the other.
 fn natural_bezout_pair(a: u64, b: u64) -> Option<ExtendedGcd<u64>>
     ensures { MatchOption result
         (¬ (Divides (pos b) (pos a)) × ¬ (Divides (pos a) (pos b)))
         (λ e. IsBezoutAnswer (pos a) (pos b) (pos e.gcd) (pos e.x) (pos e.y)) }
 {
-    if Integer::is_multiple_of(&a, &b) || Integer::is_multiple_of(&b, &a) {
-        Some(a.extended_gcd(&b))
-    } else {
-        None
-    }
+    checked::extended_gcd(a, b)
 }
 
 /// The root of a degree, or `None` for degree 0 and for an even root of a negative number.
@@ -96,56 +72,38 @@ fn root(x: i64, degree: u32) -> Option<i64>
     ensures { MatchOption result ((degree ≡ 0) ⊎ (degree % 2 ≡ 0) × (x <ℤ pos 0))
         (λ r. IsRoot x degree r) }
 {
-    if degree == 0 || degree % 2 == 0 && x < 0 {
-        None
-    } else {
-        Some(x.nth_root(degree))
-    }
+    checked::nth_root(x, degree)
 }
 
-/// How many choices of `k` out of `n` there are, or `None` where they are more than the type counts.
+/// The choices of `k` out of `n`, or `None` where they are more than the type counts.
 fn choices(n: u64, k: u64) -> Option<u64>
     ensures { MatchOption result (¬ (coefficient n k < 2 ^ 64)) (λ c. c ≡ coefficient n k) }
 {
-    if n.binomial_fits(&k) {
-        Some(binomial(n, k))
-    } else {
-        None
-    }
+    checked::binomial(n, k)
 }
 
-/// How many choices of 4 out of 9 there are: a coefficient of literals, which no test guards.
-#[tactic(auto, unfolding(num_integer::specs::Coefficient::coefficient))]
-fn choices_of_4_out_of_9() -> u8
-    ensures { result ≡ 126 }
-{
-    binomial(9, 4)
-}
-
-/// In how many orders things of these counts can stand, or `None` where the type does not count them.
+/// The orders of things of these counts, or `None` where the type does not count them.
 fn orders(counts: &[u64]) -> Option<u64>
     ensures { MatchOption result
         (¬ (EachFits (FitsUnsignedBits 64) (IsMultinomial (map (λ x. pos x) counts.now))))
         (λ m. IsMultinomial (map (λ x. pos x) counts.now) (pos m)) }
 {
-    if u64::multinomial_fits(counts) {
-        Some(multinomial(counts))
-    } else {
-        None
-    }
+    checked::multinomial(counts)
 }
 
-/// The row of Pascal's triangle, or `None` where the type does not hold it: a row fits where the
-/// number of its items and the coefficient in its middle do.
+/// The row of Pascal's triangle, or `None` where the type does not hold it.
 fn row(n: u64) -> Option<IterBinomial<u64>>
     ensures { MatchOption result (¬ (RowFits (FitsUnsignedBits 64) (pos n)))
         (λ r. r ≡ row_of (pos n)) }
 {
-    if n < u64::MAX && n.binomial_fits(&(n / 2)) {
-        Some(IterBinomial::new(n))
-    } else {
-        None
-    }
+    checked::row(n)
+}
+
+/// The sum, or `None` where it is beyond the type.
+fn sum(a: i64, b: i64) -> Option<i64>
+    ensures { MatchOption result (¬ (FitsSigned w64 (a +ℤ b))) (λ s. s ≡ a +ℤ b) }
+{
+    checked::sum(a, b)
 }
 
 const MIN: i64 = i64::MIN;
@@ -163,7 +121,6 @@ fn quotients_and_multiples(rt: HostRuntime) {
 
 #[test]
 fn divisors(rt: HostRuntime) {
-    assert!(rt; common_divisor(56, 42) == 14 && common_divisor(0, 0) == 0);
     assert!(rt; common_multiple(7, 3) == Some(21) && common_multiple(MAX, 2) == None);
     let pair = ExtendedGcd {
         gcd: 2,
@@ -179,7 +136,7 @@ fn divisors(rt: HostRuntime) {
 fn roots_and_coefficients(rt: HostRuntime) {
     assert!(rt; root(-9, 3) == Some(-2) && root(99, 2) == Some(9) && root(-9, 2) == None);
     assert!(rt; root(9, 0) == None && choices(9, 4) == Some(126) && choices(68, 34) == None);
-    assert!(rt; choices(67, 33) == Some(14226520737620288370) && choices_of_4_out_of_9() == 126);
+    assert!(rt; choices(67, 33) == Some(14226520737620288370));
     assert!(rt; orders(&[2, 1, 2]) == Some(30) && orders(&[u64::MAX, 1]) == None);
 }
 
@@ -196,4 +153,9 @@ fn rows(rt: HostRuntime) {
         }
     }
     assert!(rt; items == 4 && sum == 8 && row(67).is_some());
+}
+
+#[test]
+fn sums(rt: HostRuntime) {
+    assert!(rt; sum(MAX, 1) == None && sum(MIN, MAX) == Some(-1));
 }

@@ -1,0 +1,16 @@
+use Rattle.std.specs.Int.{w64}
+use Rattle.std.proofs.lemmas.Int.{to_z-of_z}
+use Rattle.std.proofs.lemmas.Result.{err_from_is_err_and}
+use Rattle.intcalc_core.proofs.FractionLemmas.{refused_given, sum_outcome}
+use Rattle.intcalc_core.proofs.outcome.fractions.sum.Goals as goal
+
+pub returns-in_err-x : goal.returns-in_err-x
+returns-in_err-x c =
+    let given = rw (to_z-of_z w64 _ c.ranges.a, to_z-of_z w64 _ c.ranges.b, to_z-of_z w64 _ c.ranges.c, to_z-of_z w64 _ c.ranges.d) at c.in_err-x.ensures in
+    let refused = err_from_is_err_and c.from_residual.result c.from_residual.ensures.1 in
+    rw (refused.1, refused.2) (refused_given given)
+
+pub returns : goal.returns
+returns c =
+    let given = rw (to_z-of_z w64 _ c.ranges.a, to_z-of_z w64 _ c.ranges.b, to_z-of_z w64 _ c.ranges.c, to_z-of_z w64 _ c.ranges.d) at c.in_ok-x.ensures in
+    sum_outcome c.checked_add.result given c.parts.ensures c.checked_add.ensures.sum

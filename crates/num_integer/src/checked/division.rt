@@ -1,0 +1,131 @@
+//! Division, where the quotient or the multiple fits.
+
+ghost use Rattle.std.specs.Prelude.{◌≢◌, pos};
+ghost use Rattle.integer_core.specs.Division.{IsCeiled, IsFloored, IsMultiple, IsQuotient, IsRemainder, IsTruncated};
+ghost use Rattle.integer_core.specs.Range.{EachFits};
+ghost use Rattle.num_integer.specs.Checked.{AnswersWhere};
+
+use crate::domains::Fits;
+use integer_core::operators::is_zero;
+
+/// The quotient rounded toward zero, and its remainder: [`Integer::div_rem`]. `None` for a divisor
+/// 0, and for the least number by -1 where its negation does not fit. `div_rem(-8, 3)` is
+/// `Some((-2, -2))`.
+pub fn div_rem<T: Fits>(x: T, y: T) -> Option<(T, T)>
+    requires x_in_range { T.fits (T.value x) }
+    requires y_in_range { T.fits (T.value y) }
+    ensures { AnswersWhere
+        ((T.value y ≢ pos 0) × EachFits T.fits (IsQuotient IsTruncated (T.value x) (T.value y)))
+        (λ r. T.fits (T.value r.0) × T.fits (T.value r.1)
+        × IsTruncated (T.value x) (T.value y) (T.value r.0) (T.value r.1))
+        result }
+{
+    if x.quotient_fits(&y) {
+        Some(x.div_rem(&y))
+    } else {
+        None
+    }
+}
+
+/// The quotient rounded down: [`Integer::div_floor`]. `None` where [`div_rem`] is. `div_floor(-8,
+/// 3)` is `Some(-3)`, and `div_floor(i8::MIN, -1)` is `None`.
+pub fn div_floor<T: Fits>(x: T, y: T) -> Option<T>
+    requires x_in_range { T.fits (T.value x) }
+    requires y_in_range { T.fits (T.value y) }
+    ensures { AnswersWhere
+        ((T.value y ≢ pos 0) × EachFits T.fits (IsQuotient IsFloored (T.value x) (T.value y)))
+        (λ q. T.fits (T.value q) × IsQuotient IsFloored (T.value x) (T.value y) (T.value q))
+        result }
+{
+    if x.quotient_fits(&y) {
+        Some(x.div_floor(&y))
+    } else {
+        None
+    }
+}
+
+/// The remainder of the quotient rounded down: [`Integer::mod_floor`]. `None` for a divisor 0.
+/// `mod_floor(-8, 3)` is `Some(1)`.
+pub fn mod_floor<T: Fits>(x: T, y: T) -> Option<T>
+    requires x_in_range { T.fits (T.value x) }
+    requires y_in_range { T.fits (T.value y) }
+    ensures { AnswersWhere
+        (T.value y ≢ pos 0)
+        (λ r. T.fits (T.value r) × IsRemainder IsFloored (T.value x) (T.value y) (T.value r))
+        result }
+{
+    if !is_zero(y) {
+        Some(x.mod_floor(&y))
+    } else {
+        None
+    }
+}
+
+/// The quotient rounded down, and its remainder: [`Integer::div_mod_floor`]. `None` where
+/// [`div_rem`] is. `div_mod_floor(-8, 3)` is `Some((-3, 1))`.
+pub fn div_mod_floor<T: Fits>(x: T, y: T) -> Option<(T, T)>
+    requires x_in_range { T.fits (T.value x) }
+    requires y_in_range { T.fits (T.value y) }
+    ensures { AnswersWhere
+        ((T.value y ≢ pos 0) × EachFits T.fits (IsQuotient IsFloored (T.value x) (T.value y)))
+        (λ r. T.fits (T.value r.0) × T.fits (T.value r.1)
+        × IsFloored (T.value x) (T.value y) (T.value r.0) (T.value r.1))
+        result }
+{
+    if x.quotient_fits(&y) {
+        Some(x.div_mod_floor(&y))
+    } else {
+        None
+    }
+}
+
+/// The quotient rounded up: [`Integer::div_ceil`]. `None` where [`div_rem`] is. `div_ceil(8, 3)` is
+/// `Some(3)`.
+pub fn div_ceil<T: Fits>(x: T, y: T) -> Option<T>
+    requires x_in_range { T.fits (T.value x) }
+    requires y_in_range { T.fits (T.value y) }
+    ensures { AnswersWhere
+        ((T.value y ≢ pos 0) × EachFits T.fits (IsQuotient IsCeiled (T.value x) (T.value y)))
+        (λ q. T.fits (T.value q) × IsQuotient IsCeiled (T.value x) (T.value y) (T.value q))
+        result }
+{
+    if x.quotient_fits(&y) {
+        Some(x.div_ceil(&y))
+    } else {
+        None
+    }
+}
+
+/// The quotient rounded up, times `y`: [`Integer::next_multiple_of`]. `None` for a divisor 0, and
+/// where the multiple does not fit. `next_multiple_of(23, 8)` is `Some(24)`.
+pub fn next_multiple_of<T: Fits>(x: T, y: T) -> Option<T>
+    requires x_in_range { T.fits (T.value x) }
+    requires y_in_range { T.fits (T.value y) }
+    ensures { AnswersWhere
+        ((T.value y ≢ pos 0) × EachFits T.fits (IsMultiple IsCeiled (T.value x) (T.value y)))
+        (λ m. T.fits (T.value m) × IsMultiple IsCeiled (T.value x) (T.value y) (T.value m))
+        result }
+{
+    if x.next_multiple_fits(&y) {
+        Some(x.next_multiple_of(&y))
+    } else {
+        None
+    }
+}
+
+/// The quotient rounded down, times `y`: [`Integer::prev_multiple_of`]. `None` for a divisor 0, and
+/// where the multiple does not fit. `prev_multiple_of(23, 8)` is `Some(16)`.
+pub fn prev_multiple_of<T: Fits>(x: T, y: T) -> Option<T>
+    requires x_in_range { T.fits (T.value x) }
+    requires y_in_range { T.fits (T.value y) }
+    ensures { AnswersWhere
+        ((T.value y ≢ pos 0) × EachFits T.fits (IsMultiple IsFloored (T.value x) (T.value y)))
+        (λ m. T.fits (T.value m) × IsMultiple IsFloored (T.value x) (T.value y) (T.value m))
+        result }
+{
+    if x.prev_multiple_fits(&y) {
+        Some(x.prev_multiple_of(&y))
+    } else {
+        None
+    }
+}

@@ -1,0 +1,41 @@
+//! Roots, where there are any.
+
+ghost use Rattle.std.specs.Prelude.{◌≢◌, ◌≡◌, ◌%◌, ◌≤ℤ◌, pos};
+ghost use Rattle.integer_roots.specs.RootOf.{IsRoot};
+ghost use Rattle.num_integer.specs.Checked.{AnswersWhere};
+
+use integer_core::operators::is_negative;
+use integer_roots::Roots;
+
+/// The root of degree `n`, rounded toward zero: [`Roots::nth_root`]. `None` for degree 0, and for
+/// an even degree and a negative number. `nth_root(-9, 3)` is `Some(-2)`, and `nth_root(-9, 2)` is
+/// `None`.
+pub fn nth_root<T: Roots>(x: T, n: u32) -> Option<T>
+    requires { T.fits (T.value x) }
+    ensures { AnswersWhere
+        ((n ≢ 0) × (n % 2 ≡ 0 → pos 0 ≤ℤ T.value x))
+        (λ r. T.fits (T.value r) × IsRoot (T.value x) n (T.value r))
+        result }
+{
+    if n != 0 && (n % 2 != 0 || !is_negative(x)) {
+        Some(x.nth_root(n))
+    } else {
+        None
+    }
+}
+
+/// The square root, rounded down: [`Roots::sqrt`]. `None` for a negative number. `sqrt(99)` is
+/// `Some(9)`.
+pub fn sqrt<T: Roots>(x: T) -> Option<T>
+    requires { T.fits (T.value x) }
+    ensures { AnswersWhere
+        (pos 0 ≤ℤ T.value x)
+        (λ r. T.fits (T.value r) × IsRoot (T.value x) 2 (T.value r))
+        result }
+{
+    if !is_negative(x) {
+        Some(x.sqrt())
+    } else {
+        None
+    }
+}
