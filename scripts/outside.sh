@@ -49,7 +49,13 @@ on_an_unread_pipe() {
     "$@" >&"$unread"
 }
 
-# With each request for memory refused, side by side; the program makes no other.
+# The number of requests is the one that README.md tells.
+requests_are_told() {
+    local spelled=(no one two three four five six seven eight nine ten eleven twelve)
+    grep -q "with each of its ${spelled[requests]} requests refused" ../../README.md
+}
+
+# With each request for memory refused, side by side, the first among them; the program makes no other.
 refuse_memory() {
     local request ended started=()
     for ((request = 1; request <= requests + 1; request++)); do
@@ -92,6 +98,7 @@ ends 'a closed output' 4 on_a_closed_output "$program" "${words[@]}"
 ends 'a full device' 4 on_a_full_device "$program" "${words[@]}"
 ends 'a pipe that nobody reads' 4 on_an_unread_pipe "$program" "${words[@]}"
 refuse_memory
+ends 'as many requests as README.md tells' 0 requests_are_told
 
 echo "$passed passed, $failed failed"
 [ "$failed" -eq 0 ]

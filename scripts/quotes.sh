@@ -4,7 +4,7 @@
 set -euo pipefail
 cd "$(dirname "$0")/.."
 
-pages=(README.md crates/num_integer/CALLING.md crates/ratio64/CALLING.md)
+pages=(README.md crates/num_integer/CALLING.md crates/ratio64/CALLING.md crates/modular/CALLING.md)
 passed=0
 failed=0
 

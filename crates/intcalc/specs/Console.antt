@@ -9,3 +9,7 @@ writer_of console = console.out
 -- whether it has failed
 abbrev pub has_failed : {W : Type 0} → Console W → Bool
 has_failed console = console.failed
+
+-- whether it has finished, with nothing put since
+abbrev pub is_finished : {W : Type 0} → Console W → Bool
+is_finished console = console.finished

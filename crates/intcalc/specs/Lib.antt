@@ -2,3 +2,4 @@ pub mod Number
 pub mod Words
 pub mod Line
 pub mod Console
+pub mod Arguments

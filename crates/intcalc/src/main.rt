@@ -5,7 +5,11 @@
 //! was refused, and 4 where the line did not go out.
 #![tactic(auto)]
 
-ghost use Rattle.std.specs.Prelude.{◌≡◌, ◌↔◌, IsTrue, IfOk, OnErr};
+ghost use Rattle.std.specs.Prelude.{◌≡◌, ◌≢◌, ◌<◌, ◌≤◌, ◌↔◌, ℕ, List, codes, false, IsTrue, IfOk, OnErr};
+ghost use Rattle.std.specs.Io.KnownBytes.{Appends};
+ghost use Rattle.std.specs.Process.{exit_status};
+ghost use Rattle.intcalc.specs.Arguments.{words_of, words_read};
+ghost use Rattle.intcalc.specs.Line.{IsLine};
 
 mod decimal;
 mod line;
@@ -19,15 +23,19 @@ mod words;
 use run::{put_line, run};
 use sink::{Console, Sink};
 use std::alloc::{AllocError, Global};
-use std::env;
 use std::env::Args;
 use std::io::ErrorKind;
 use std::process::ExitCode;
+use std::{env, io};
 
 // Hands the words to `run`, without the program's own name.
 fn run_args<S: Sink>(alloc: Global, args: Args, out: &mut S) -> Result<u8, AllocError>
     ensures failed { IfOk result (λ status. (status ≡ 4) ↔ IsTrue (S.has_failed out.new)) }
     ensures untouched { OnErr result (out.new ≡ out.old) }
+    ensures line { IfOk result (λ status. status ≢ 4 → (line : List ℕ)
+        × IsLine (words_of args) line status
+        × Appends (S.contents out.old) (S.contents out.new) line) }
+    ensures finished { IfOk result (λ status. status ≢ 4 → IsTrue (S.is_finished out.new)) }
 {
     let texts: Vec<String> = args.skip(1).collect(alloc)?;
     let words: Vec<&str> = texts.iter().map(|text| text.as_str()).collect(alloc)?;
@@ -36,21 +44,39 @@ fn run_args<S: Sink>(alloc: Global, args: Args, out: &mut S) -> Result<u8, Alloc
 
 // Says that memory was refused, and answers the status for it.
 fn put_no_memory<S: Sink>(out: &mut S) -> u8
-    ensures { result ≡ 3 }
+    ensures status { result ≡ 3 }
+    ensures line { S.has_failed out.new ≡ false
+        → Appends (S.contents out.old) (S.contents out.new) (codes "no memory\n") }
+    ensures finished { S.has_failed out.new ≡ false → IsTrue (S.is_finished out.new) }
 {
     put_line(out, b"no memory\n");
     3
 }
 
-fn main(rt: HostRuntime) -> ExitCode {
-    let mut out = Console::new(rt.stdout());
-    let status = match env::args(&rt) {
-        Ok(args) => match run_args(rt.alloc(), args, &mut out) {
+// Puts the line for the arguments, and answers the code that the program ends with: the status of
+// the line, 3 where memory was refused, and 4 where the sink has failed.
+fn run_program<S: Sink>(alloc: Global, args: io::Result<Args>, out: &mut S) -> ExitCode
+    ensures line { exit_status result < 3 → (line : List ℕ)
+        × IsLine (words_read args) line (exit_status result)
+        × Appends (S.contents out.old) (S.contents out.new) line }
+    ensures no_memory { exit_status result ≡ 3 → S.has_failed out.new ≡ false
+        → Appends (S.contents out.old) (S.contents out.new) (codes "no memory\n") }
+    ensures finished { S.has_failed out.new ≡ false → IsTrue (S.is_finished out.new) }
+    ensures failed { IsTrue (S.has_failed out.new) → 3 ≤ exit_status result }
+    ensures four { exit_status result ≡ 4 → IsTrue (S.has_failed out.new) }
+    ensures bound { exit_status result ≤ 4 }
+{
+    let status = match args {
+        Ok(args) => match run_args(alloc, args, out) {
             Ok(status) => status,
-            Err(AllocError) => put_no_memory(&mut out),
+            Err(AllocError) => put_no_memory(out),
         },
-        Err(e) if e.kind() == ErrorKind::OutOfMemory => put_no_memory(&mut out),
-        Err(_) => run(&[], &mut out),
+        Err(e) if e.kind() == ErrorKind::OutOfMemory => put_no_memory(out),
+        Err(_) => run(&[], out),
     };
     ExitCode::from(status)
+}
+
+fn main(rt: HostRuntime) -> ExitCode {
+    run_program(rt.alloc(), env::args(&rt), &mut Console::new(rt.stdout()))
 }

@@ -48,6 +48,7 @@ pub fn line_for(words: &[&str]) -> (Line, u8)
 pub fn put_line<S: Sink>(out: &mut S, line: &[u8]) -> bool
     ensures failed { (result ≡ false) ↔ IsTrue (S.has_failed out.new) }
     ensures added { OnTrue result (Appends (S.contents out.old) (S.contents out.new) line.now) }
+    ensures finished { OnTrue result (IsTrue (S.is_finished out.new)) }
 {
     put_all(out, line).is_some() && out.finish()
 }
@@ -59,6 +60,7 @@ pub fn run<S: Sink>(words: &[&str], out: &mut S) -> u8
     ensures line { result ≢ 4 → (line : List ℕ)
         × IsLine (map (λ w. w.now) words.now) line result
         × Appends (S.contents out.old) (S.contents out.new) line }
+    ensures finished { result ≢ 4 → IsTrue (S.is_finished out.new) }
 {
     let (line, status) = line_for(words);
     if put_line(out, line.as_bytes()) {

@@ -15,20 +15,26 @@ pub trait Sink {
     // Whether it has failed.
     ghost has_failed: { Self → Bool };
 
-    /// Adds the first `n` of the bytes at `Some(n)`, and has failed at `None`.
+    // Whether it has finished, with nothing put since.
+    ghost is_finished: { Self → Bool };
+
+    /// Adds the first `n` of the bytes at `Some(n)`, and has failed at `None`. It may follow `finish`, and
+    /// the sink has then to be finished again.
     fn put(&mut self, bytes: &[u8]) -> Option<usize>
         ensures bound { IfSome result (λ n. n ≤ length bytes.now) }
         ensures progress { 0 < length bytes.now → IfSome result (λ n. 0 < n) }
         ensures added { IfSome result
             (λ n. Appends (contents self.old) (contents self.new) (take n bytes.now)) }
         ensures failed { IsNone result ↔ IsTrue (has_failed self.new) }
-        ensures for_good { IsTrue (has_failed self.old) → IsTrue (has_failed self.new) };
+        ensures for_good { IsTrue (has_failed self.old) → IsTrue (has_failed self.new) }
+        ensures unfinished { is_finished self.new ≡ false };
 
     /// Flushes, and has failed at `false`.
     fn finish(&mut self) -> bool
         ensures kept { OnTrue result (Keeps (contents self.old) (contents self.new)) }
         ensures failed { (result ≡ false) ↔ IsTrue (has_failed self.new) }
-        ensures for_good { IsTrue (has_failed self.old) → IsTrue (has_failed self.new) };
+        ensures for_good { IsTrue (has_failed self.old) → IsTrue (has_failed self.new) }
+        ensures finished { is_finished self.new ≡ result };
 }
 
 /// A sink over a writer. It fails at the writer's first fault, and at the first write that takes no
@@ -37,32 +43,40 @@ pub trait Sink {
 pub struct Console<W> {
     out: W,
     failed: bool,
+    finished: bool,
 }
 
 impl<W: Write> Console<W> {
-    ghost use Rattle.intcalc.specs.Console.{writer_of, has_failed};
+    ghost use Rattle.intcalc.specs.Console.{writer_of, has_failed, is_finished};
 
     pub fn new(out: W) -> Console<W>
         ensures writer { writer_of result ≡ out }
         ensures fresh { has_failed result ≡ false }
+        ensures unfinished { is_finished result ≡ false }
     {
-        Console { out, failed: false }
+        Console {
+            out,
+            failed: false,
+            finished: false,
+        }
     }
 
     pub fn into_inner(self) -> W
         ensures { result ≡ writer_of self }
     {
-        let Console { out, failed: _ } = self;
+        let Console { out, .. } = self;
         out
     }
 }
 
 impl<W: Write> Sink for Console<W> {
-    ghost use Rattle.intcalc.specs.Console.{writer_of, has_failed};
+    ghost use Rattle.intcalc.specs.Console.{writer_of, has_failed, is_finished};
 
     ghost contents = { λ console. W.contents console.out };
 
     ghost has_failed = { λ console. console.failed };
+
+    ghost is_finished = { λ console. console.finished };
 
     // At `None` a writer that tells its bytes took none.
     fn put(&mut self, bytes: &[u8]) -> Option<usize>
@@ -74,7 +88,9 @@ impl<W: Write> Sink for Console<W> {
         ensures for_good { IsTrue (has_failed self.old) → IsTrue (has_failed self.new) }
         ensures kept { IsNone result
             → Keeps (W.contents (writer_of self.old)) (W.contents (writer_of self.new)) }
+        ensures unfinished { is_finished self.new ≡ false }
     {
+        self.finished = false;
         if self.failed {
             return None;
         }
@@ -88,18 +104,18 @@ impl<W: Write> Sink for Console<W> {
     }
 
     fn finish(&mut self) -> bool {
-        if self.failed {
-            return false;
-        }
-        self.failed = self.out.flush().is_err();
-        !self.failed
+        self.finished = !self.failed && self.out.flush().is_ok();
+        self.failed = !self.finished;
+        self.finished
     }
 }
 
-/// Puts all of the bytes, or answers `None` where the sink has failed.
+/// Puts all of the bytes, or answers `None` where the sink has failed. It makes no `put` where there
+/// are no bytes.
 pub fn put_all<S: Sink>(out: &mut S, bytes: &[u8]) -> Option<()>
-    ensures { MatchOption result (IsTrue (S.has_failed out.new))
+    ensures added { MatchOption result (IsTrue (S.has_failed out.new))
         (λ _. Appends (S.contents out.old) (S.contents out.new) bytes.now) }
+    ensures unfinished { 0 < length bytes.now → S.is_finished out.new ≡ false }
 {
     let mut rest = bytes;
     while !rest.is_empty() {

@@ -5,6 +5,8 @@ ghost use Rattle.intcalc_core.specs.Only.{IsOnly};
 ghost use Rattle.intcalc.specs.Line.{IsLine};
 
 mod failing_writers;
+mod fractions;
+mod outcomes;
 mod tape;
 mod vectors;
 

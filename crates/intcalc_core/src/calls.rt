@@ -12,7 +12,8 @@ pub enum Kind {
     U64,
 }
 
-/// A call with its operands. An operand may lie outside the kind, and is then refused.
+/// A call with its operands. An operand outside the kind is refused; a degree, outside `u32`; parts of
+/// fractions, outside `i64`.
 #[derive(Debug, Clone, Copy, PartialEq, Eq)]
 pub enum Call {
     DivRem(i128, i128),
@@ -51,8 +52,8 @@ pub enum Answer {
 /// Why a call has no answer.
 #[derive(Debug, Clone, Copy, PartialEq, Eq)]
 pub enum Refusal {
-    /// An operand lies outside the kind, or a degree outside `u32`; or fractions are asked for at a kind
-    /// other than `i64`.
+    /// An operand other than a degree lies outside the kind, or a degree outside `u32`; or fractions are
+    /// asked for at a kind other than `i64`.
     OutOfType,
     /// The divisor, or a denominator, is 0.
     ZeroDivisor,

@@ -3,8 +3,6 @@
 
 mod calls;
 mod outcome;
-#[cfg(test)]
-mod tests;
 
 pub use calls::{Answer, Call, Kind, Refusal};
 pub use outcome::evaluate;

@@ -8,7 +8,9 @@ pub mod CommonDivisors
 pub mod Runs
 pub mod NaturalGcd
 pub mod OddParts
+pub mod ExchangedPairs
 pub mod SteinSteps
+pub mod SharedBits
 pub mod EuclidTurns
 pub mod GcdTurns
 pub mod Lame

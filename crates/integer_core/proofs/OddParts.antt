@@ -2,12 +2,14 @@
 use Rattle.std.proofs.Common.{◌≡◌, ℕ, zero, suc, ◌+◌, ◌-◌, ◌*◌, ◌/◌, ◌%◌, ◌^◌, ◌<◌, ◌≤◌, inl, inr, refl, sym, ◌∙◌, ap, arith, mul-one, div-one, add-one, mul-le-mul_right, mul-pos, pow_mono, pow_pos, pow-add, le-mul_of_pos_right}
 use Rattle.std.proofs.Math.Nat.{pow-succ', div-div-eq-div-mul}
 use lib.Count.{count_trailing_zeros, under}
-use Rattle.std.specs.Int.{IsGcd}
+use Rattle.std.specs.Int.{IsGcd, Width}
+use Rattle.num_traits.specs.Ints.{pow-bit_len}
+use Rattle.num_traits.specs.Laws.{bit_len}
 use Rattle.std.proofs.lemmas.Bool.{cases_lt}
 use Rattle.std.proofs.lemmas.Nat.{mul-lt}
 use Rattle.std.proofs.lemmas.Nat.Gcd.{IsGcd-from_sub, IsGcd-swap}
 use Rattle.integer_core.proofs.NaturalGcd.{gcd_strip}
-use Rattle.integer_core.specs.GcdRuns.{IsGcdTurn, IsOddPart}
+use Rattle.integer_core.specs.GcdRuns.{IsOddPart, IsOrderedTurn}
 
 back_under : (n d t : ℕ) → n % 2 ≡ d → n / 2 / 2 ^ t * 2 ^ t ≡ n / 2 → n / 2 ^ under d t * 2 ^ under d t ≡ n
 back_under n zero t e h =
@@ -53,31 +55,41 @@ turning_left {m = m} {n = n} {d = d} {t = t} v less part =
       shrunk = omega (arith, mul-le-mul_right (n * 2 ^ t) most, ap (λ (x : ℕ). d * n * x) twice, v.shrunk);
     }
 
-turning_swap : {a b m n t : ℕ} → Turning a b m n t → Turning b a n m t
-turning_swap v = record {
+turning_exchanged : {a b m n t : ℕ} → Turning a b m n t → Turning a b n m t
+turning_exchanged v = record {
   m_odd = v.n_odd;
   n_odd = v.m_odd;
-  same = λ g h. IsGcd-swap _ _ g (v.same g (IsGcd-swap _ _ g h));
+  same = λ g h. v.same g (IsGcd-swap _ _ g h);
   shrunk = omega (arith, v.shrunk);
 }
 
-pub turning_turn : {a b m n d e t : ℕ} → Turning a b m n t → IsGcdTurn (record { m = m; n = n }) (record { m = d; n = e }) → Turning a b d e (t + 1)
+pub turning_turn : {a b m n d e t : ℕ} → Turning a b m n t → IsOrderedTurn (record { m = m; n = n }) (record { m = d; n = e }) → Turning a b d e (t + 1)
 turning_turn v h = elim h [
   | inl left ↦ rw left.n (turning_left v left.above left.m)
-  | inr right ↦ rw right.m (turning_swap (turning_left (turning_swap v) right.above right.n))
+  | inr right ↦ rw right.n (turning_left (turning_exchanged v) right.above right.m)
 ]
 
-pub turning_falls : {a b m n d e t : ℕ} → Turning a b m n t → IsGcdTurn (record { m = m; n = n }) (record { m = d; n = e }) → d + e < m + n
+pub turning_falls : {a b m n d e t : ℕ} → Turning a b m n t → IsOrderedTurn (record { m = m; n = n }) (record { m = d; n = e }) → d + e < m + n
 turning_falls v h = elim h [
   | inl left ↦ omega (arith, odd_part_le left.m.twos left.m.product, left.above, left.n, v.n_odd)
-  | inr right ↦ omega (arith, odd_part_le right.n.twos right.n.product, right.above, right.m, v.m_odd)
+  | inr right ↦ omega (arith, odd_part_le right.m.twos right.m.product, right.above, right.n, v.m_odd)
 ]
 
-pub turning_few : {a b m n t : ℕ} (k l : ℕ) → Turning a b m n t → a < 2 ^ k → b < 2 ^ l → t ≤ k + l
-turning_few {a} {b} {m} {n} {t} k l v a_fits b_fits = elim (cases_lt (k + l) t) [
+-- so the turns are few
+pub turning_small : {a b m n t : ℕ} (k : ℕ) → Turning a b m n t → 2 ^ k ≤ m * n → 2 ^ (t + k) ≤ a * b
+turning_small {t = t} k v more = omega (arith, v.shrunk, pow-add 2 t k, mul-le-mul_right (2 ^ t) more)
+
+pub turning_ends : {a b m n t : ℕ} → Turning a b m n t → 2 ^ t ≤ a * b
+turning_ends {m = m} {n = n} {t = t} v = omega (arith, v.shrunk, mul-le-mul_right (2 ^ t) (mul-pos {m = m} {n = n} (omega (arith, v.m_odd)) (omega (arith, v.n_odd))))
+
+pub few_turns : {a b t : ℕ} (k l : ℕ) → 2 ^ t ≤ a * b → a < 2 ^ k → b < 2 ^ l → t ≤ k + l
+few_turns {a} {b} {t} k l least a_fits b_fits = elim (cases_lt (k + l) t) [
   | inl more ↦
       let wide : 2 ^ (k + l) ≤ 2 ^ t = pow_mono {i = k + l} {j = t} (omega arith) in
-      let positive = mul-le-mul_right (2 ^ t) (mul-pos {m = m} {n = n} (omega (arith, v.m_odd)) (omega (arith, v.n_odd))) in
-      absurd (omega (arith, positive, v.shrunk, mul-lt a b (2 ^ k) (2 ^ l) a_fits b_fits, pow-add 2 k l))
+      absurd (omega (arith, least, mul-lt a b (2 ^ k) (2 ^ l) a_fits b_fits, pow-add 2 k l))
   | inr few ↦ few
 ]
+
+-- at each width, and so a turn more can be counted
+pub turns_fit : (w : Width) (t : ℕ) {a b : ℕ} → 2 ^ t ≤ a * b → a < 2 ^ bit_len w → b < 2 ^ bit_len w → t + 1 < 2 ^ 32
+turns_fit w t least a_fits b_fits = let wide = pow-bit_len w in omega (arith, few_turns 128 128 least (omega arith) (omega arith))

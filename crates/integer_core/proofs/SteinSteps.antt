@@ -15,7 +15,7 @@ use Rattle.integer_core.proofs.NaturalGcd.{gcd_shift, odd_divisor, odd_divides}
 use Rattle.integer_core.proofs.OddParts.{shift_back}
 use mir.Val.{bits}
 
-width : (w : Width) → bits w ≡ bit_len w
+pub width : (w : Width) → bits w ≡ bit_len w
 width w8 = refl
 width w16 = refl
 width w32 = refl

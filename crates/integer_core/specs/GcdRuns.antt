@@ -33,6 +33,14 @@ pub record IsRightTurn (s t : OddPair) : Type 0 where
 abbrev pub IsGcdTurn : OddPair → OddPair → Type 0
 IsGcdTurn s t = IsLeftTurn s t ⊎ IsRightTurn s t
 
+-- the pair with its places exchanged
+abbrev pub exchanged : OddPair → OddPair
+exchanged s = record { m = s.n; n = s.m }
+
+-- a turn after which the number that it kept is n, at whichever place it was
+abbrev pub IsOrderedTurn : OddPair → OddPair → Type 0
+IsOrderedTurn s t = IsLeftTurn s t ⊎ IsLeftTurn (exchanged s) t
+
 -- n turns for the gcd of a and b, from the two with all factors 2 taken out
 pub record MakesGcdRun (a b n : ℕ) : Type 0 where
   pub first : OddPair

@@ -31,6 +31,8 @@ pub trait Integer: Copy + Num + PartialOrd + Ord + Eq {
     ghost high: { ℤ };
 
     /// The quotient rounded toward zero, and its remainder. `(-8).div_rem(&3)` is `(-2, -2)`.
+    ///
+    /// `Fits::quotient_fits` tells whether it may be called.
     fn div_rem(&self, other: &Self) -> (Self, Self)
         requires self_in_range { Self.fits (Self.value self.now) }
         requires other_in_range { Self.fits (Self.value other.now) }
@@ -42,6 +44,8 @@ pub trait Integer: Copy + Num + PartialOrd + Ord + Eq {
             (Self.value result.0) (Self.value result.1) };
 
     /// The quotient rounded down. `(-8).div_floor(&3)` is `-3`.
+    ///
+    /// `Fits::quotient_fits` tells whether it may be called.
     fn div_floor(&self, other: &Self) -> Self
         requires self_in_range { Self.fits (Self.value self.now) }
         requires other_in_range { Self.fits (Self.value other.now) }
@@ -53,7 +57,7 @@ pub trait Integer: Copy + Num + PartialOrd + Ord + Eq {
             (Self.value result) };
 
     /// The remainder of the quotient rounded down, which has the sign of `other`.
-    /// `(-8).mod_floor(&3)` is `1`.
+    /// `(-8).mod_floor(&3)` is `1`. It may be called where `other` is not 0.
     fn mod_floor(&self, other: &Self) -> Self
         requires self_in_range { Self.fits (Self.value self.now) }
         requires other_in_range { Self.fits (Self.value other.now) }
@@ -63,6 +67,8 @@ pub trait Integer: Copy + Num + PartialOrd + Ord + Eq {
             (Self.value result) };
 
     /// The quotient rounded down, and its remainder. `(-8).div_mod_floor(&3)` is `(-3, 1)`.
+    ///
+    /// `Fits::quotient_fits` tells whether it may be called.
     fn div_mod_floor(&self, other: &Self) -> (Self, Self)
         requires self_in_range { Self.fits (Self.value self.now) }
         requires other_in_range { Self.fits (Self.value other.now) }
@@ -77,6 +83,8 @@ pub trait Integer: Copy + Num + PartialOrd + Ord + Eq {
     }
 
     /// The quotient rounded up. `8.div_ceil(&3)` is `3`.
+    ///
+    /// `Fits::quotient_fits` tells whether it may be called.
     fn div_ceil(&self, other: &Self) -> Self
         requires self_in_range { Self.fits (Self.value self.now) }
         requires other_in_range { Self.fits (Self.value other.now) }
@@ -93,6 +101,8 @@ pub trait Integer: Copy + Num + PartialOrd + Ord + Eq {
 
     /// The quotient rounded up, times `other`. `23.next_multiple_of(&8)` is `24`, and
     /// `23.next_multiple_of(&-8)` is `16`.
+    ///
+    /// `Fits::next_multiple_fits` tells whether it may be called.
     fn next_multiple_of(&self, other: &Self) -> Self
         requires self_in_range { Self.fits (Self.value self.now) }
         requires other_in_range { Self.fits (Self.value other.now) }
@@ -113,6 +123,8 @@ pub trait Integer: Copy + Num + PartialOrd + Ord + Eq {
 
     /// The quotient rounded down, times `other`. `23.prev_multiple_of(&8)` is `16`, and
     /// `23.prev_multiple_of(&-8)` is `24`.
+    ///
+    /// `Fits::prev_multiple_fits` tells whether it may be called.
     fn prev_multiple_of(&self, other: &Self) -> Self
         requires self_in_range { Self.fits (Self.value self.now) }
         requires other_in_range { Self.fits (Self.value other.now) }
@@ -132,7 +144,8 @@ pub trait Integer: Copy + Num + PartialOrd + Ord + Eq {
         requires other_in_range { Self.fits (Self.value other.now) }
         ensures { IsTrue result ↔ Divides (Self.value other.now) (Self.value self.now) };
 
-    /// Deprecated: the same as [`Integer::is_multiple_of`], which says what it means.
+    /// Deprecated: whether `other` divides `self`, as [`Integer::is_multiple_of`] says.
+    /// `9.divides(&3)` is `true`.
     fn divides(&self, other: &Self) -> bool
         requires self_in_range { Self.fits (Self.value self.now) }
         requires other_in_range { Self.fits (Self.value other.now) }
@@ -151,7 +164,8 @@ pub trait Integer: Copy + Num + PartialOrd + Ord + Eq {
         requires { Self.fits (Self.value self.now) }
         ensures { IsTrue result ↔ ¬ (IsEven (Self.value self.now)) };
 
-    /// Adds one.
+    /// Adds one. It may be called below the greatest number of the type; `checked::inc` of
+    /// `num_integer` has no condition.
     fn inc(&mut self)
         requires in_range { Self.fits (Self.value self.old) }
         requires sum_fits { Self.fits (Self.value self.old +ℤ pos 1) }
@@ -161,7 +175,8 @@ pub trait Integer: Copy + Num + PartialOrd + Ord + Eq {
         *self = successor(*self);
     }
 
-    /// Subtracts one.
+    /// Subtracts one. It may be called above the least number of the type; `checked::dec` of
+    /// `num_integer` has no condition.
     fn dec(&mut self)
         requires in_range { Self.fits (Self.value self.old) }
         requires difference_fits { Self.fits (Self.value self.old -ℤ pos 1) }
@@ -173,6 +188,8 @@ pub trait Integer: Copy + Num + PartialOrd + Ord + Eq {
 
     /// The greatest common divisor, which is never negative. `56.gcd(&42)` is `14`, and `0.gcd(&0)`
     /// is `0`.
+    ///
+    /// `Fits::gcd_fits` tells whether it may be called.
     fn gcd(&self, other: &Self) -> Self
         requires self_in_range { Self.fits (Self.value self.now) }
         requires other_in_range { Self.fits (Self.value other.now) }
@@ -183,6 +200,8 @@ pub trait Integer: Copy + Num + PartialOrd + Ord + Eq {
 
     /// The least common multiple, which is never negative. `7.lcm(&3)` is `21`, and it is `0` where
     /// an operand is `0`.
+    ///
+    /// `Fits::lcm_fits` tells whether it may be called.
     fn lcm(&self, other: &Self) -> Self
         requires self_in_range { Self.fits (Self.value self.now) }
         requires other_in_range { Self.fits (Self.value other.now) }
@@ -193,6 +212,8 @@ pub trait Integer: Copy + Num + PartialOrd + Ord + Eq {
             (Self.value result) };
 
     /// The greatest common divisor and the least common multiple. `10.gcd_lcm(&4)` is `(2, 20)`.
+    ///
+    /// `Fits::gcd_fits` and `Fits::lcm_fits` tell whether it may be called.
     fn gcd_lcm(&self, other: &Self) -> (Self, Self)
         requires self_in_range { Self.fits (Self.value self.now) }
         requires other_in_range { Self.fits (Self.value other.now) }
@@ -211,6 +232,9 @@ pub trait Integer: Copy + Num + PartialOrd + Ord + Eq {
     /// The greatest common divisor `gcd`, and Bezout's coefficients `x` and `y`: over the whole
     /// numbers, `self` times `x` and `other` times `y` add up to `gcd`. `240.extended_gcd(&46)` is
     /// gcd 2, x -9, y 47, and `5.extended_gcd(&0)` is gcd 5, x 1, y 0.
+    ///
+    /// At a signed type `Fits::gcd_fits` tells whether it may be called; at an unsigned one an operand
+    /// also has to divide the other.
     final fn extended_gcd(&self, other: &Self) -> ExtendedGcd<Self>
         requires self_in_range { Self.fits (Self.value self.now) }
         requires other_in_range { Self.fits (Self.value other.now) }
@@ -225,7 +249,7 @@ pub trait Integer: Copy + Num + PartialOrd + Ord + Eq {
     }
 
     /// [`Integer::extended_gcd`] and [`Integer::lcm`]. `10.extended_gcd_lcm(&4)` is gcd 2, x 1,
-    /// y -2, and 20.
+    /// y -2, and 20. It may be called where both may.
     final fn extended_gcd_lcm(&self, other: &Self) -> (ExtendedGcd<Self>, Self)
     where
         Self: Signed,

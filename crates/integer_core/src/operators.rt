@@ -1,4 +1,4 @@
-//! The numbers 0 and 1, the operators and two tests, with contracts over the numbers that the values
+//! The numbers 0 and 1, the operators and three tests, with contracts over the numbers that the values
 //! mean. At each integer type operators are exact, so that `exact` asks nothing of a caller.
 
 ghost use Rattle.std.specs.Prelude.{◌≡◌, ◌≢◌, ◌↔◌, ◌<ℤ◌, ◌+ℤ◌, ◌-ℤ◌, ◌*ℤ◌, pos, neg_ℤ, int_rem, int_div, IsTrue};
@@ -95,6 +95,7 @@ pub fn remainder<T: Num>(a: T, b: T) -> T
     requires nonzero { T.value b ≢ pos 0 }
     requires b_in_range { T.fits (T.value b) }
     requires quotient_fits { T.fits (int_div (T.value a) (T.value b)) }
+    ensures in_range { T.fits (T.value a) → T.fits (T.value result) }
     ensures value { T.value result ≡ int_rem (T.value a) (T.value b) }
 {
     a % b

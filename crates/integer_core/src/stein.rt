@@ -1,15 +1,17 @@
 //! The greatest common divisor by Stein's binary method (Knuth, The Art of Computer Programming,
 //! volume 2, section 4.5.2, algorithm B).
 
-ghost use Rattle.std.specs.Prelude.{◌≡◌, ◌≢◌, ◌↔◌, ◌⊎◌, ◌+◌, ◌-◌, ◌*◌, ◌%◌, ◌^◌, ◌<◌, ◌≤◌, ℕ, pos, unsigned_abs, IsTrue};
+ghost use Rattle.std.specs.Prelude.{◌≡◌, ◌≢◌, ◌↔◌, ◌⊎◌, ◌+◌, ◌-◌, ◌*◌, ◌/◌, ◌%◌, ◌^◌, ◌<◌, ◌≤◌, ℕ, pos, unsigned_abs, IsTrue};
 ghost use Rattle.std.specs.Int.{IsGcd, IsPowerOfTwo};
+ghost use Rattle.std.specs.Option.{MatchOption};
+ghost use Rattle.num_traits.specs.Laws.{bit_len};
 ghost use Rattle.integer_core.specs.Divisors.{GcdFits, IsGreatestCommonDivisor};
-ghost use Rattle.integer_core.specs.GcdRuns.{AreGcdTurns, GcdEnds, IsGcdTurn, IsOddPart, MakesGcdRun};
+ghost use Rattle.integer_core.specs.GcdRuns.{AreGcdTurns, GcdEnds, IsGcdTurn, IsOddPart, IsOrderedTurn, MakesGcdRun};
 ghost use Rattle.integer_core.specs.Runs.{Makes};
 
 use crate::native::Native;
 use crate::operators::{difference, is_below, is_zero, one};
-use num_traits::{PrimInt, Unsigned};
+use num_traits::{PrimInt, Unsigned, cast};
 
 fn is_same<M: PrimInt + Unsigned>(m: M, n: M) -> bool
     ensures { IsTrue result ↔ (unsigned_abs (M.value m) ≡ unsigned_abs (M.value n)) }
@@ -35,7 +37,7 @@ fn without_twos<M: PrimInt + Unsigned>(x: M) -> (M, u32)
     (x >> twos, twos)
 }
 
-/// `x` with so many factors 2 more.
+/// `x` times 2 to the power `twos`.
 fn with_twos<M: PrimInt + Unsigned>(x: M, twos: u32) -> M
     requires positive { 0 < unsigned_abs (M.value x) }
     requires product_fits { M.fits (pos (unsigned_abs (M.value x) * 2 ^ twos)) }
@@ -45,31 +47,46 @@ fn with_twos<M: PrimInt + Unsigned>(x: M, twos: u32) -> M
     x << twos
 }
 
+/// How many last bits `x` and `y`, which lies below, share. Their difference has as many factors 2,
+/// and they are counted before it is known.
+fn shared_bits<M: PrimInt + Unsigned>(x: M, y: M) -> u32
+    requires x_in_range { M.fits (M.value x) }
+    requires y_in_range { M.fits (M.value y) }
+    requires below { unsigned_abs (M.value y) < unsigned_abs (M.value x) }
+    ensures few { result < bit_len M.width }
+    ensures odd_part { IsOddPart (unsigned_abs (M.value x) - unsigned_abs (M.value y))
+        ((unsigned_abs (M.value x) - unsigned_abs (M.value y)) / 2 ^ result) }
+{
+    (x ^ y).trailing_zeros()
+}
+
 /// The difference of `x` and `y`, which lies below, with all factors 2 taken out.
 fn odd_difference<M: PrimInt + Unsigned>(x: M, y: M) -> M
     requires x_in_range { M.fits (M.value x) }
+    requires y_in_range { M.fits (M.value y) }
     requires below { unsigned_abs (M.value y) < unsigned_abs (M.value x) }
     ensures in_range { M.fits (M.value result) }
     ensures odd_part { IsOddPart (unsigned_abs (M.value x) - unsigned_abs (M.value y))
         (unsigned_abs (M.value result)) }
 {
-    without_twos(difference(x, y)).0
+    difference(x, y) >> shared_bits(x, y)
 }
 
-/// The pair after a turn of the loop.
+/// The pair after a turn of the loop. The lesser number comes second, at whichever place it was, so
+/// that both arms are the same computation.
 fn next_pair<M: PrimInt + Unsigned>(m: M, n: M) -> (M, M)
     requires m_in_range { M.fits (M.value m) }
     requires n_in_range { M.fits (M.value n) }
     requires goes_on { unsigned_abs (M.value m) ≢ unsigned_abs (M.value n) }
     ensures in_range { M.fits (M.value result.0) × M.fits (M.value result.1) }
-    ensures turn { IsGcdTurn
+    ensures turn { IsOrderedTurn
         (record { m = unsigned_abs (M.value m); n = unsigned_abs (M.value n) })
         (record { m = unsigned_abs (M.value result.0); n = unsigned_abs (M.value result.1) }) }
 {
     if is_smaller(n, m) {
         (odd_difference(m, n), n)
     } else {
-        (m, odd_difference(n, m))
+        (odd_difference(n, m), m)
     }
 }
 
@@ -84,12 +101,55 @@ fn odd_gcd<M: PrimInt + Unsigned>(a: M, b: M) -> (M, u32)
         (unsigned_abs (M.value result.0)) }
     ensures turns { Makes IsGcdTurn GcdEnds
         (record { m = unsigned_abs (M.value a); n = unsigned_abs (M.value b) }) result.1 }
-    ensures bound { (k l : ℕ) → unsigned_abs (M.value a) < 2 ^ k
-        → unsigned_abs (M.value b) < 2 ^ l → result.1 ≤ k + l }
+    ensures few { 2 ^ result.1 ≤ unsigned_abs (M.value a) * unsigned_abs (M.value b) }
 {
     let (mut m, mut n) = (a, b);
     let mut turns = 0;
     'turns: while !is_same(m, n) {
+        (m, n) = next_pair(m, n);
+        turns += 1;
+    }
+    (m, turns)
+}
+
+/// Both numbers at 64 bits, or `None` where one does not fit.
+fn narrowed<M: PrimInt + Unsigned>(m: M, n: M) -> Option<(u64, u64)>
+    ensures { MatchOption result
+        (2 ^ 64 ≤ unsigned_abs (M.value m) ⊎ 2 ^ 64 ≤ unsigned_abs (M.value n))
+        (λ pair. (pair.0 ≡ unsigned_abs (M.value m)) × (pair.1 ≡ unsigned_abs (M.value n))) }
+{
+    Some((m.to_u64()?, n.to_u64()?))
+}
+
+/// A number of 64 bits that fits.
+fn widened<M: PrimInt + Unsigned>(x: u64) -> M
+    requires { M.fits (pos x) }
+    ensures in_range { M.fits (M.value result) }
+    ensures value { M.value result ≡ pos x }
+{
+    cast::<u64, M>(x).unwrap()
+}
+
+/// [`odd_gcd`], at 64 bits as soon as both numbers fit, with the same turns.
+fn narrowing_gcd<M: PrimInt + Unsigned>(a: M, b: M) -> (M, u32)
+    requires a_in_range { M.fits (M.value a) }
+    requires b_in_range { M.fits (M.value b) }
+    requires a_odd { unsigned_abs (M.value a) % 2 ≡ 1 }
+    requires b_odd { unsigned_abs (M.value b) % 2 ≡ 1 }
+    ensures in_range { M.fits (M.value result.0) }
+    ensures greatest { IsGcd (unsigned_abs (M.value a)) (unsigned_abs (M.value b))
+        (unsigned_abs (M.value result.0)) }
+    ensures turns { Makes IsGcdTurn GcdEnds
+        (record { m = unsigned_abs (M.value a); n = unsigned_abs (M.value b) }) result.1 }
+    ensures few { 2 ^ result.1 ≤ unsigned_abs (M.value a) * unsigned_abs (M.value b) }
+{
+    let (mut m, mut n) = (a, b);
+    let mut turns = 0;
+    'turns: while !is_same(m, n) {
+        if let Some((x, y)) = narrowed(m, n) {
+            let (gcd, rest) = odd_gcd(x, y);
+            return (widened(gcd), turns + rest);
+        }
         (m, n) = next_pair(m, n);
         turns += 1;
     }
@@ -110,7 +170,7 @@ pub(crate) fn positive_gcd<M: PrimInt + Unsigned>(a: M, b: M) -> (M, u32)
 {
     let (m, twos_of_a) = without_twos(a);
     let (n, twos_of_b) = without_twos(b);
-    let (odd, turns) = odd_gcd(m, n);
+    let (odd, turns) = narrowing_gcd(m, n);
     (with_twos(odd, twos_of_a.min(twos_of_b)), turns)
 }
 

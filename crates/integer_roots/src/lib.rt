@@ -12,6 +12,7 @@ mod newton;
 mod root;
 mod root_of_degree;
 mod square_root;
+mod squaring;
 
 pub use averages::{Average, average_ceil, average_floor};
 pub use root::{Roots, cbrt, nth_root, sqrt};

@@ -7,7 +7,8 @@ use integer_core::Integer;
 
 /// Roots of an integer of at most 64 bits, rounded toward zero.
 pub trait Roots: Integer {
-    /// The root of degree `n`, rounded toward zero. `12345.nth_root(4)` is `10`.
+    /// The root of degree `n`, rounded toward zero. `12345.nth_root(4)` is `10`. It may be called where
+    /// `n` is not 0, and `n` is odd or `self` is not negative.
     fn nth_root(&self, n: u32) -> Self
         requires in_range { Self.fits (Self.value self.now) }
         requires degree { n ≢ 0 }
@@ -15,7 +16,7 @@ pub trait Roots: Integer {
         ensures in_range { Self.fits (Self.value result) }
         ensures root { IsRoot (Self.value self.now) n (Self.value result) };
 
-    /// The square root, rounded down. `99.sqrt()` is `9`.
+    /// The square root, rounded down. `99.sqrt()` is `9`. It may be called where `self` is not negative.
     fn sqrt(&self) -> Self
         requires in_range { Self.fits (Self.value self.now) }
         requires from_zero { pos 0 ≤ℤ Self.value self.now }

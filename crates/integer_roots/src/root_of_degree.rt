@@ -5,6 +5,7 @@ ghost use Rattle.integer_roots.specs.RootOf.{IsFloorRoot};
 ghost use Rattle.integer_roots.specs.NewtonRuns.{newton_step};
 
 use crate::newton::newton;
+use crate::squaring::checked_power;
 
 /// The root of `a` of degree `n`. The first guess is a power of two near the root.
 pub(crate) fn root_of_degree(a: u64, n: u32) -> u64
@@ -28,13 +29,23 @@ pub(crate) fn root_of_degree(a: u64, n: u32) -> u64
     newton(1 << top.div_ceil(n), step).0
 }
 
-/// The quotient of `a` by the power of `x` of degree `k`: 0 where the power does not fit.
+/// The quotient of `a` by the power of `x` of degree `k`: 0 where the power does not fit. A power of two
+/// divides by a shift.
 fn quotient_by_power(a: u64, x: u64, k: u32) -> u64
-    requires { 0 < x }
+    requires positive { 0 < x }
+    requires degree { 0 < k }
+    requires degree_small { k < 64 }
     ensures { result ≡ a / x ^ k }
 {
-    match x.checked_pow(k) {
-        Some(power) => a / power,
-        None => 0,
+    let top = x.ilog2();
+    if top * k >= u64::BITS {
+        0
+    } else if x == 1 << top {
+        a >> (top * k)
+    } else {
+        match checked_power(x, k) {
+            Some(power) => a / power,
+            None => 0,
+        }
     }
 }

@@ -1,14 +1,16 @@
 -- Lemmas that the proofs of callers may cite, beside the laws.
-use Rattle.std.specs.Prelude.{◌≡◌, ◌≢◌, ◌↔◌, ◌<◌, ◌≤◌, ◌+◌, ◌-◌, ◌*◌, ◌/◌, ◌%◌, ◌^◌, ◌≤ℤ◌, ◌<ℤ◌, ◌+ℤ◌, ◌-ℤ◌, ◌*ℤ◌, ℤ, ℕ, pos, negsuc, zero, suc, unsigned_abs, int_div, Bool, IsTrue}
-use Rattle.std.specs.Int.{FitsUnsignedBits, int_pow}
+use Rattle.std.specs.Prelude.{◌≡◌, ◌≢◌, ◌↔◌, ◌<◌, ◌≤◌, ◌+◌, ◌-◌, ◌*◌, ◌/◌, ◌%◌, ◌^◌, ◌≤ℤ◌, ◌<ℤ◌, ◌+ℤ◌, ◌-ℤ◌, ◌*ℤ◌, ℤ, ℕ, pos, negsuc, zero, suc, unsigned_abs, int_div, Bool, IsTrue, nat_lt, FitsSigned}
+use Rattle.std.specs.Int.{FitsUnsignedBits, Width, int_pow}
+use mir.Val.{hbits}
 use Rattle.std.proofs.Common.{arith, ◌∙◌, ap, inl, inr, le_refl, le_trans, refl, subst, suc-add, sym, zero-add}
-use Rattle.std.proofs.lemmas.Int.{by_lt_z, ints}
+use Rattle.std.proofs.lemmas.Bool.{ltb-true}
+use Rattle.std.proofs.lemmas.Int.{by_lt_z, fits_signed_from_abs, ints}
 use Rattle.std.proofs.lemmas.Nat.{div_below, le-div, mul-lt}
 use Rattle.std.proofs.Math.Nat.{div-le_self, pow-lt-pow_left}
 use Rattle.integer_core.specs.Division.{IsCeiled, IsDivision, IsFloored, IsMultiple, IsQuotient, IsRemainder}
 use Rattle.integer_core.specs.Range.{EachFits, IsRange}
 use Rattle.integer_core.specs.Divisors.{Divides, IsGreatestCommonDivisor, IsLeastCommonMultiple}
-use Rattle.integer_core.proofs.CommonDivisors.{gcd_exists, gcd-swap, gcd-zero}
+use Rattle.integer_core.proofs.CommonDivisors.{gcd_exists, gcd-remainder, gcd-swap, gcd-zero, lcm-computed}
 use Rattle.integer_core.proofs.EuclidTurns.{divisor_size}
 use Rattle.integer_core.proofs.OnlyBezoutAnswer.{bezout_answer_exists}
 use Rattle.integer_roots.specs.RootOf.{IsRoot}
@@ -331,3 +333,38 @@ least_turns {a} {b} {l} a_up b_up h =
           let down : pos l ≤ℤ pos (x * a) = divisor_at_most (omega (arith, ints, mul-lt 0 0 x a x_up a_up)) (h.least _ left right) in
           (omega (arith, ints, div_below l a (x + 1) a_up (omega (arith, ints))), omega (arith, ints, div_below l b (y + 1) b_up (omega (arith, ints)))),
     )
+
+-- ---- literals
+
+-- Euclid's algorithm, which the prover computes
+abbrev pub euclid : ℕ → ℕ → ℕ → ℕ
+euclid zero a b = a
+euclid (suc turns) a zero = a
+euclid (suc turns) a (suc b) = euclid turns (suc b) (a % suc b)
+
+euclid_is : (turns a b : ℕ) → b < turns → IsGreatestCommonDivisor (pos a) (pos b) (pos (euclid turns a b))
+euclid_is zero a b h = absurd (omega arith)
+euclid_is (suc turns) a zero h = gcd-zero (pos a)
+euclid_is (suc turns) a (suc b) h =
+    let rest : a % suc b < turns = omega arith in
+    gcd-remainder (natural_division a (suc b) (omega arith)).division (euclid_is turns (suc b) (a % suc b) rest)
+
+-- the lcm of two numbers by their magnitudes
+abbrev pub lcm_number : ℕ → ℕ → ℕ
+lcm_number m n = m * (n / euclid (suc n) m n)
+
+none_over : (m x : ℕ) → m * (0 / x) ≡ 0
+none_over m x = let e : 0 / x ≡ 0 = omega (arith, div-le_self 0 x) in rw e (omega arith)
+
+lcm_is : {a b l : ℤ} → IsLeastCommonMultiple a b l → l ≡ pos (lcm_number (unsigned_abs a) (unsigned_abs b))
+lcm_is {a} {b} h = elim (zero_or_not b) [
+  | inl none ↦ rw none (zero_divides (rw none at h.right_divides) ∙ ap pos (sym (none_over _ _)))
+  | inr nonzero ↦ only_lcm h (lcm-computed {q = pos (unsigned_abs b / euclid (suc (unsigned_abs b)) (unsigned_abs a) (unsigned_abs b))} refl refl nonzero (euclid_is (suc (unsigned_abs b)) (unsigned_abs a) (unsigned_abs b) (omega arith)) refl refl)
+]
+
+-- the lcm of two literals fits where the computed one does
+pub literal_lcm_fits : (bits : ℕ) {a b l : ℤ} → IsLeastCommonMultiple a b l → IsTrue (nat_lt (lcm_number (unsigned_abs a) (unsigned_abs b)) (2 ^ bits)) → FitsUnsignedBits bits l
+literal_lcm_fits bits h test = subst (FitsUnsignedBits bits) (sym (lcm_is h)) (ltb-true _ _ test)
+
+pub literal_lcm_fits_signed : (w : Width) {a b l : ℤ} → IsLeastCommonMultiple a b l → IsTrue (nat_lt (lcm_number (unsigned_abs a) (unsigned_abs b)) (2 ^ hbits w)) → FitsSigned w l
+literal_lcm_fits_signed w h test = subst (FitsSigned w) (sym (lcm_is h)) (fits_signed_from_abs w _ (ltb-true _ _ test))

@@ -13,7 +13,7 @@ use Rattle.integer_core.specs.Only.{IsOnly}
 use Rattle.integer_roots.proofs.OnlyAnswers as roots
 use Rattle.integer_roots.proofs.MagnitudeRoots as magnitude_roots
 use Rattle.num_integer.proofs.FittingAnswers.{each_kind}
-use Rattle.num_integer.proofs.Pascal.{divides_factorials, mirror}
+use Rattle.num_integer.proofs.Pascal.{divides_factorials, mirror, none_above}
 use Rattle.num_integer.proofs.Multinomials.{in_any_order, is_multinomial, only_multinomial}
 use Rattle.num_integer.proofs.Steps.{backwards, greatest_in_middle, one_item_more}
 use Rattle.num_integer.specs.Laws as law
@@ -102,6 +102,9 @@ square_root_turns_are_only = λ x n. roots.square_turns_are_only_one
 
 pub coefficient_mirror : law.CoefficientMirror
 coefficient_mirror = mirror
+
+pub coefficient_above_row : law.CoefficientAboveRow
+coefficient_above_row = none_above
 
 pub factorial_formula : law.FactorialFormula
 factorial_formula = divides_factorials

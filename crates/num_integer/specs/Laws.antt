@@ -1,5 +1,5 @@
 -- The laws of the definitions. Each is proved in proofs/Laws.antt, by a lemma of its name in small letters.
-use Rattle.std.specs.Prelude.{◌≡◌, ◌≢◌, ◌↔◌, ◌-◌, ◌*◌, ◌≤◌, ◌+ℤ◌, ◌*ℤ◌, ◌≤ℤ◌, ℕ, ℤ, pos, neg_ℤ, unsigned_abs, List, map, length, reverse}
+use Rattle.std.specs.Prelude.{◌≡◌, ◌≢◌, ◌↔◌, ◌-◌, ◌*◌, ◌<◌, ◌≤◌, ◌+ℤ◌, ◌*ℤ◌, ◌≤ℤ◌, ℕ, ℤ, pos, neg_ℤ, unsigned_abs, List, map, length, reverse}
 use Rattle.std.specs.List.{All}
 use Rattle.std.specs.List.Sorted.{IsPermutation}
 use Rattle.integer_core.specs.Bezout.{AreEuclidTurns, IsBezoutAnswer}
@@ -112,6 +112,10 @@ SquareRootTurnsAreOnly = (x : ℤ) (n : ℕ) → AreSquareRootTurns x n → IsOn
 -- to choose k of n things is to choose the n - k others
 abbrev pub CoefficientMirror : Type 0
 CoefficientMirror = (n k : ℕ) → k ≤ n → coefficient n k ≡ coefficient n (n - k)
+
+-- of n things nobody can choose more than n
+abbrev pub CoefficientAboveRow : Type 0
+CoefficientAboveRow = (n k : ℕ) → n < k → coefficient n k ≡ 0
 
 -- k! times (n - k)! times the coefficient is n!
 abbrev pub FactorialFormula : Type 0

@@ -10,8 +10,8 @@ ghost use Rattle.num_integer.specs.Multinomial.{IsMultinomial};
 use integer_core::Integer;
 use integer_core::operators::{difference, is_below, one, product, quotient, successor, sum, zero};
 
-/// The factors `r / g` and `a / (b / g)` of `r * a / b`, where `g` is the gcd of `r` and `b`.
-/// After <https://blog.plover.com/math/choose-2.html>.
+/// The factors `r / g` and `a / (b / g)` of `r * a / b`, where `g` is the gcd of `r` and `b`, which is
+/// that of `b` and the remainder of `r`. After <https://blog.plover.com/math/choose-2.html>.
 pub(crate) fn factors<T: Integer>(r: T, a: T, b: T) -> (T, T)
     requires r_in_range { T.fits (T.value r) }
     requires a_in_range { T.fits (T.value a) }
@@ -23,12 +23,12 @@ pub(crate) fn factors<T: Integer>(r: T, a: T, b: T) -> (T, T)
     ensures product { T.value result.0 *ℤ T.value result.1 *ℤ T.value b
         ≡ T.value r *ℤ T.value a }
 {
-    let g = r.gcd(&b);
+    let g = r.mod_floor(&b).gcd(&b);
     (quotient(r, g), quotient(a, quotient(b, g)))
 }
 
 /// The coefficient of `n` and `k + 1`, where `c` is that of `n` and `k`: it is
-/// `c * (n - k) / (k + 1)`, and no greater number comes up on the way.
+/// `c * (n - k) / (k + 1)`, and no intermediate value exceeds the result.
 #[tactic(auto, using(crate::proofs::FittingAnswers::fits_below))]
 pub(crate) fn next_coefficient<T: Integer>(c: T, n: T, k: T) -> T
     requires c_in_range { T.fits (T.value c) }
@@ -91,7 +91,8 @@ pub fn binomial_counted<T: Integer>(n: T, k: T) -> (T, u32)
 }
 
 /// The binomial coefficient of `n` and `k`, the number of ways to choose `k` of `n` things.
-/// `binomial(9, 4)` is `126`, and `binomial(2, 3)` is `0`.
+/// `binomial(9, 4)` is `126`, and `binomial(2, 3)` is `0`. [`crate::Fits::binomial_fits`] tells whether it
+/// may be called.
 ///
 /// Each coefficient of `n` fits up to this `n`, and above it those near the middle do not:
 ///
@@ -111,7 +112,8 @@ pub fn binomial<T: Integer>(n: T, k: T) -> T
 }
 
 /// The number of ways to share out the sum of the counts `k` into parts of these sizes.
-/// `multinomial(&[2, 1, 2])` is `30`, and `multinomial(&[])` is `1`.
+/// `multinomial(&[2, 1, 2])` is `30`, and `multinomial(&[])` is `1`. [`crate::Fits::multinomial_fits`] tells
+/// whether it may be called.
 #[tactic(auto, using(crate::proofs::Multinomials::multinomial_first))]
 pub fn multinomial<T: Integer>(k: &[T]) -> T
     requires counts_in_range { All (λ x. T.fits (T.value x)) k.now }

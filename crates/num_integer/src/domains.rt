@@ -14,7 +14,7 @@ use integer_core::operators::{difference, is_negative, is_zero};
 use integer_core::{Integer, NativeInteger};
 use num_traits::ToPrimitive;
 
-/// Whether the arguments of a call lie in its domain. A type of one's own gives `parts` and `ends`.
+/// Whether the arguments of a call lie in its domain. Your own type implements `parts` and `ends`.
 pub trait Fits: Integer {
     /// Whether the number is negative, and its magnitude.
     fn parts(&self) -> (bool, u128)
@@ -113,13 +113,13 @@ pub trait Fits: Integer {
             (IsLeastCommonMultiple (Self.value self.now) (Self.value other.now)) }
     {
         let (_, high) = Self::ends();
-        let (_, a) = self.parts();
-        let (_, b) = other.parts();
-        if a == 0 || b == 0 {
+        let (_, m) = self.parts();
+        let (_, n) = other.parts();
+        if m == 0 || n == 0 {
             return true;
         }
-        let g = a.gcd(&b);
-        match a.checked_mul(b / g) {
+        let g = m.gcd(&n);
+        match m.checked_mul(n / g) {
             Some(multiple) => multiple <= high,
             None => false,
         }

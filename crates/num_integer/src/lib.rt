@@ -1,4 +1,4 @@
-//! Integer division and its kin, after the Rust crate `num-integer`, for every lawful type.
+//! Integer division and what belongs to it, after the Rust crate `num-integer`, for every lawful type.
 #![tactic(auto)]
 
 mod bounded_coefficients;
@@ -12,8 +12,8 @@ mod rows;
 pub use coefficients::{binomial, multinomial};
 pub use domains::Fits;
 pub use integer_core::{
-    ExtendedGcd, Integer, div_ceil, div_floor, div_mod_floor, div_rem, gcd, gcd_lcm, lcm,
-    mod_floor, operators,
+    ExtendedGcd, Integer, NativeInteger, div_ceil, div_floor, div_mod_floor, div_rem, gcd, gcd_lcm,
+    lcm, mod_floor, operators,
 };
 pub use integer_roots::{Average, Roots, average_ceil, average_floor, cbrt, nth_root, sqrt};
 pub use rows::IterBinomial;

@@ -1,8 +1,8 @@
 //! Rows of Pascal's triangle.
 
-ghost use Rattle.std.specs.Prelude.{◌≡◌, ◌≤ℤ◌, ◌<ℤ◌, ◌+ℤ◌, List, ℤ, pos, unsigned_abs, drop};
+ghost use Rattle.std.specs.Prelude.{◌≡◌, ◌≤ℤ◌, ◌<ℤ◌, ◌+ℤ◌, List, ℤ, pos, unsigned_abs, drop, IfSome, ⊤};
 ghost use Rattle.std.specs.List.{All};
-ghost use Rattle.std.specs.Iterator.{YieldsFirstBy, item_count};
+ghost use Rattle.std.specs.Iterator.{MakesProgress, YieldsFirstBy, item_count};
 ghost use Rattle.num_integer.specs.Coefficient.{coefficient_of};
 ghost use Rattle.num_integer.specs.Row.{IsPlaceInRow, RowFits, row_of};
 
@@ -31,6 +31,7 @@ impl<T: Integer> Model for IterBinomial<T> {
 
 impl<T: Integer> IterBinomial<T> {
     /// The row of `n`. `IterBinomial::new(3u8)` gives `1`, `3`, `3`, `1`, and then `None`.
+    /// [`crate::checked::row`] has no condition.
     pub fn new(n: T) -> IterBinomial<T>
         requires in_range { T.fits (T.value n) }
         requires row_fits { RowFits T.fits (T.value n) }
@@ -73,7 +74,11 @@ impl<T: Integer> Iterator for IterBinomial<T> {
     ghost remaining = { item_count (λ s. s) };
 
     #[tactic(auto, using(crate::proofs::Steps::rest_none))]
-    fn next(&mut self) -> Option<T> {
+    fn next(&mut self) -> Option<T>
+        ensures steps { YieldsFirstBy T.value (λ s. s) self.old result self.new }
+        ensures goes { MakesProgress (λ _. ⊤) (item_count (λ s. s)) self.old result self.new }
+        ensures in_range { IfSome result (λ item. T.fits (T.value item)) }
+    {
         if is_below(self.n, self.k) {
             return None;
         }

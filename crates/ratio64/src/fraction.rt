@@ -117,3 +117,14 @@ impl Ratio {
         Ok(Ratio { num, den })
     }
 }
+
+/// A whole number as a fraction, which is never refused: `Ratio::from(5)` is 5/1.
+impl From<i64> for Ratio {
+    ghost use Rattle.ratio64.specs.Ratio.{num_of, den_of};
+
+    ghost from_gives = { λ number x. (num_of x ≡ number) × (den_of x ≡ pos 1) };
+
+    fn from(num: i64) -> Ratio {
+        Ratio { num, den: 1 }
+    }
+}

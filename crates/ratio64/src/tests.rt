@@ -133,6 +133,14 @@ fn reduced_parts(rt: HostRuntime) {
 }
 
 #[test]
+fn whole_numbers(rt: HostRuntime) {
+    for number in [MIN, -MAX, -12, -1, 0, 1, 7, MAX] {
+        let x = Ratio::from(number);
+        assert!(rt; (x.num(), x.den()) == (number, 1), "{number}");
+    }
+}
+
+#[test]
 fn numbers_of_errors(rt: HostRuntime) {
     assert!(rt; (ZeroDenominator.number(), NotFitting.number()) == (1, 2));
 }

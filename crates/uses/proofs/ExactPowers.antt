@@ -1,10 +1,10 @@
 -- Powers of whole numbers and their roots.
-use Rattle.std.specs.Prelude.{◌≡◌, ◌≢◌, ◌⊎◌, ◌%◌, ◌^◌, ◌≤◌, ◌<◌, ◌≤ℤ◌, ◌*ℤ◌, ℕ, ℤ, pos, negsuc, neg_ℤ, suc, zero, unsigned_abs}
+use Rattle.std.specs.Prelude.{◌≡◌, ◌≢◌, ◌⊎◌, ◌^◌, ◌≤◌, ◌<◌, ◌≤ℤ◌, ◌*ℤ◌, ℕ, ℤ, pos, negsuc, neg_ℤ, suc, zero, unsigned_abs}
 use Rattle.std.specs.Int.{int_pow}
 use Rattle.std.proofs.Common.{arith, ap, inl, inr, refl, subst, sym, pow_mono, ◌∙◌}
 use Rattle.std.proofs.Math.Nat.{pow-le-pow_left}
-use Rattle.std.proofs.lemmas.Bool.{cases_lt}
 use Rattle.std.proofs.lemmas.Int.{by_lt_z, ints}
+use Rattle.modular.proofs.PowerTurns.{even_or_odd, even_power, odd_power}
 use Rattle.num_integer.specs.RootOf.{IsFloorRoot, IsRoot}
 use Rattle.num_integer.proofs.ForCallers.{exact_power_root, linear, power_of_one, power_of_zero}
 
@@ -13,18 +13,6 @@ square_from_zero (pos k) = omega (arith, ints)
 square_from_zero (negsuc k) = omega (arith, ints)
 
 -- ---- signs and magnitudes
-
-even_power : (k : ℤ) (n : ℕ) → n % 2 ≡ 0 → int_pow k n ≡ pos (unsigned_abs k ^ n)
-even_power (pos a) n even = refl
-even_power (negsuc a) n even = rw even refl
-
-odd_power : (k : ℤ) (n : ℕ) → n % 2 ≡ 1 → int_pow (neg_ℤ k) n ≡ neg_ℤ (int_pow k n)
-odd_power (pos zero) n odd = let none = power_of_zero n (omega arith) in rw none refl
-odd_power (pos (suc a)) n odd = rw odd refl
-odd_power (negsuc a) n odd = rw odd (omega (arith, ints))
-
-even_or_odd : (n : ℕ) → (n % 2 ≡ 0) ⊎ (n % 2 ≡ 1)
-even_or_odd n = elim (cases_lt (n % 2) 1) [ inl even ↦ inl (omega arith) | inr odd ↦ inr (omega arith) ]
 
 power_size : (k : ℤ) (n : ℕ) → unsigned_abs (int_pow k n) ≡ unsigned_abs k ^ n
 power_size (pos a) n = refl

@@ -2,7 +2,7 @@
 use Rattle.std.specs.Prelude.{ℤ}
 use Rattle.std.proofs.Common.{arith}
 use Rattle.num_integer.proofs.ForCallers.{linear}
-use Rattle.uses.specs.Congruences.{IsNextCongruent, IsResidueClass, SolvesBothCongruences}
+use Rattle.modular.specs.Congruences.{IsNextCongruent, IsResidueClass, SolvesBothCongruences}
 use Rattle.uses.specs.Schedules.{IsMaximum, IsNextMeeting}
 
 -- it is the next time that solves both from where both have begun

@@ -1,4 +1,3 @@
-pub mod Congruences
 pub mod Paging
 pub mod Layout
 pub mod Schedules

@@ -1,6 +1,6 @@
 -- Times that come again each period.
 use Rattle.std.specs.Prelude.{◌≤ℤ◌, ℤ}
-use Rattle.uses.specs.Congruences.{AreCongruent}
+use Rattle.modular.specs.Congruences.{AreCongruent}
 use Rattle.uses.specs.declared.schedules.Meeting.{Meeting}
 use Rattle.uses.specs.declared.schedules.Meeting.TheVariants.{Never, TooLate, At}
 

@@ -1,10 +1,10 @@
 //! Days of the week.
 
 ghost use Rattle.std.specs.Prelude.{◌+ℤ◌, pos};
-ghost use Rattle.uses.specs.Congruences.{IsResidue};
+ghost use Rattle.modular.specs.Congruences.{IsResidue};
 ghost use Rattle.uses.specs.Weekday.{weekday_number};
 
-use crate::modular::residue;
+use modular::sum_modulo;
 
 /// A day of the week.
 #[derive(Debug, Clone, Copy, PartialEq, Eq)]
@@ -37,5 +37,5 @@ pub fn weekday_of(day: i64) -> Weekday
 fn days_since_sunday(day: i64) -> i64
     ensures { IsResidue (pos 7) (day +ℤ pos 4) result }
 {
-    residue(residue(day, 7) + 4, 7)
+    sum_modulo(day, 4, 7)
 }

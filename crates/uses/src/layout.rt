@@ -25,7 +25,7 @@ pub fn align_up<T: Fits>(offset: T, alignment: T) -> Option<T>
     }
 }
 
-/// How many bytes after the offset the next aligned one comes. `padding(13, 8)` is 3, and
+/// How many bytes to add to reach the next aligned offset. `padding(13, 8)` is 3, and
 /// `padding(-13, 8)` is 5.
 pub fn padding<T: Integer>(offset: T, alignment: T) -> T
     requires in_range { T.fits (T.value offset) × T.fits (T.value alignment) }

@@ -5,7 +5,6 @@
 pub mod calendar;
 pub mod halving;
 pub mod layout;
-pub mod modular;
 pub mod paging;
 pub mod powers;
 pub mod ranking;

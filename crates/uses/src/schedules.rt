@@ -1,11 +1,11 @@
-//! Times that come again each period, at types that have negative numbers.
+//! Times that come again each period.
 
-ghost use Rattle.std.specs.Prelude.{◌<ℤ◌, ℤ, pos, negsuc};
+ghost use Rattle.std.specs.Prelude.{◌<ℤ◌, ℤ, pos};
 ghost use Rattle.num_integer.specs.Divisors.{IsLeastCommonMultiple};
 ghost use Rattle.num_integer.specs.Range.{EachFits};
 ghost use Rattle.uses.specs.Schedules.{IsMaximum, IsMeeting, IsNextMeeting, MatchMeeting};
 
-use crate::modular::{chinese_remainder, next_congruent};
+use modular::{Modular, chinese_remainder, next_congruent};
 use num_integer::operators::is_below;
 use num_integer::{Fits, Integer};
 
@@ -29,11 +29,10 @@ pub enum Meeting<T> {
 
 /// The least time from `now` on at which both come. A first time 1 with period 4 and a first time 3
 /// with period 6 meet next after 10 at 21.
-pub fn next_meeting<T: Fits>(now: T, a: Schedule<T>, b: Schedule<T>) -> Meeting<T>
+pub fn next_meeting<T: Modular + Fits>(now: T, a: Schedule<T>, b: Schedule<T>) -> Meeting<T>
     requires now_in_range { T.fits (T.value now) }
     requires a_in_range { T.fits (T.value a.first) × T.fits (T.value a.period) }
     requires b_in_range { T.fits (T.value b.first) × T.fits (T.value b.period) }
-    requires negatives { T.fits (negsuc 0) }
     requires a_positive { pos 0 <ℤ T.value a.period }
     requires b_positive { pos 0 <ℤ T.value b.period }
     requires lcm_fits { EachFits T.fits

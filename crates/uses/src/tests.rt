@@ -1,11 +1,11 @@
 //! Worked values.
 
 mod checked;
-mod congruences;
 mod lemmas;
 mod plain;
 mod powers;
 mod ranking;
+mod schedules;
 mod search;
 
 use crate::calendar::Weekday::{Friday, Monday, Sunday, Thursday, Wednesday};

@@ -177,6 +177,17 @@ impl Check for HasItems<'_> {
     }
 }
 
+/// A number whose row leaves the type.
+#[derive(Drop)]
+pub(crate) struct HasNoRow(pub(crate) i128);
+
+impl Check for HasNoRow {
+    fn at<T: Tested>(&self, rt: &impl Abort) {
+        let row = checked::row(number::<T>(rt, self.0));
+        assert!(rt; row.is_none(), "the row of {}", self.0);
+    }
+}
+
 /// A number whose row is the greatest: the next row has a coefficient that does not fit.
 #[derive(Drop)]
 struct HasGreatestRow(i128);

@@ -48,7 +48,7 @@ fn test_div_mod_floor(rt: HostRuntime) {
 }
 
 #[test]
-fn test_div_ceil(rt: HostRuntime) {
+fn quotients_rounded_up(rt: HostRuntime) {
     for (operands, _, _, ceiled) in DIVISIONS {
         let check = Answers(DivCeil, operands, Some(ceiled));
         check_at_each(&rt, &SIGNED, &check);

@@ -1,42 +1,84 @@
 //! What callers learn of the calls from their contracts alone, each said by a contract of its own.
 
-ghost use Rattle.std.specs.Prelude.{◌≡◌, ◌<◌, ◌^◌, ◌≤ℤ◌, ◌+ℤ◌, pos, [], None, IfOk, FitsSigned, map, length};
+ghost use Rattle.std.specs.Prelude.{◌≡◌, ◌<◌, ◌≤◌, ◌-◌, ◌^◌, ◌≤ℤ◌, pos, [], None, IfOk, FitsSigned, map, length};
 ghost use Rattle.std.specs.Int.{FitsUnsignedBits, w8};
 ghost use Rattle.std.specs.List.{All};
 ghost use Rattle.std.specs.List.Sorted.{IsPermutation};
+ghost use Rattle.num_integer.specs.Divisors.{GcdFits, IsGreatestCommonDivisor};
 ghost use Rattle.num_integer.specs.Range.{EachFits};
-ghost use Rattle.num_integer.specs.Coefficient.{coefficient_of};
+ghost use Rattle.num_integer.specs.Coefficient.{coefficient};
+ghost use Rattle.num_integer.specs.Laws.{DivisionExists, DivisionIsOnly, NegationTurnsMultiples, GcdExists, GcdIsOnly, GcdIsSymmetric, GcdOfZeros, LcmExists, LcmIsOnly, LcmIsSymmetric, GcdTimesLcm, GcdTurnsAreOnly, BitLengthExists, BezoutAnswerExists, BezoutAnswerIsOnly, EuclidTurnsAreOnly, AverageFloorIsOnly, AverageCeilIsOnly, AveragesAreNeighbors, RootIsOnly, FirstRoot, SquareRootTurnsAreOnly, CoefficientMirror, CoefficientAboveRow, FactorialFormula, MultinomialFormula, MultinomialIsOnly, MultinomialIgnoresOrder, RowLength, RowIsPalindrome, RowIsGreatestInMiddle};
 ghost use Rattle.num_integer.specs.Multinomial.{IsMultinomial};
+ghost use Rattle.num_integer.specs.RootOf.{IsRoot};
 ghost use Rattle.num_integer.specs.Row.{RowFits, row_of};
 
-use num_integer::operators::difference;
-use num_integer::{
-    Average, ExtendedGcd, Integer, IterBinomial, Roots, average_ceil, average_floor, binomial, gcd,
-    multinomial, nth_root,
-};
+use num_integer::{ExtendedGcd, Integer, IterBinomial, Roots, binomial, gcd, multinomial};
 use std::alloc::{AllocError, Global};
 
-/// Two calls of `binomial` that answer the same number.
-fn both_ends<T: Integer>(n: T, k: T) -> (T, T)
-    requires n_in_range { T.fits (T.value n) }
-    requires k_in_range { T.fits (T.value k) }
-    requires k_from_zero { pos 0 ≤ℤ T.value k }
-    requires k_within { T.value k ≤ℤ T.value n }
-    requires coefficient_fits { T.fits (coefficient_of (T.value n) (T.value k)) }
-    ensures { T.value result.0 ≡ T.value result.1 }
+/// The laws of the definitions, each proved by its lemma; `gcd_that_fits` uses that of `GcdFits`.
+fn laws()
+    ensures division_exists { DivisionExists }
+    ensures division_is_only { DivisionIsOnly }
+    ensures negation_turns_multiples { NegationTurnsMultiples }
+    ensures gcd_exists { GcdExists }
+    ensures gcd_is_only { GcdIsOnly }
+    ensures gcd_is_symmetric { GcdIsSymmetric }
+    ensures gcd_of_zeros { GcdOfZeros }
+    ensures lcm_exists { LcmExists }
+    ensures lcm_is_only { LcmIsOnly }
+    ensures lcm_is_symmetric { LcmIsSymmetric }
+    ensures gcd_times_lcm { GcdTimesLcm }
+    ensures gcd_turns_are_only { GcdTurnsAreOnly }
+    ensures bit_length_exists { BitLengthExists }
+    ensures bezout_answer_exists { BezoutAnswerExists }
+    ensures bezout_answer_is_only { BezoutAnswerIsOnly }
+    ensures euclid_turns_are_only { EuclidTurnsAreOnly }
+    ensures average_floor_is_only { AverageFloorIsOnly }
+    ensures average_ceil_is_only { AverageCeilIsOnly }
+    ensures averages_are_neighbors { AveragesAreNeighbors }
+    ensures root_is_only { RootIsOnly }
+    ensures first_root { FirstRoot }
+    ensures square_root_turns_are_only { SquareRootTurnsAreOnly }
+    ensures coefficient_mirror { CoefficientMirror }
+    ensures coefficient_above_row { CoefficientAboveRow }
+    ensures factorial_formula { FactorialFormula }
+    ensures multinomial_formula { MultinomialFormula }
+    ensures multinomial_is_only { MultinomialIsOnly }
+    ensures multinomial_ignores_order { MultinomialIgnoresOrder }
+    ensures row_length { RowLength }
+    ensures row_is_palindrome { RowIsPalindrome }
+    ensures row_is_greatest_in_middle { RowIsGreatestInMiddle }
+{}
+
+/// The condition of `gcd` says that the divisor fits, at a type without -1 too.
+fn gcd_that_fits<T: Integer>(a: T, b: T) -> T
+    requires a_in_range { T.fits (T.value a) }
+    requires b_in_range { T.fits (T.value b) }
+    requires gcd_fits { GcdFits T.fits (T.value a) (T.value b) }
+    ensures fits { EachFits T.fits (IsGreatestCommonDivisor (T.value a) (T.value b)) }
+    ensures greatest { IsGreatestCommonDivisor (T.value a) (T.value b) (T.value result) }
 {
-    (binomial(n, k), binomial(n, difference(n, k)))
+    gcd(a, b)
 }
 
-/// Two calls of `multinomial` that answer the same number.
-fn both_orders<T: Integer>(counts: &[T], others: &[T]) -> (T, T)
+/// The choices of the things that are left, by those of the things that are taken.
+fn choices_of_the_others(n: u64, k: u64) -> u64
+    requires within { k ≤ n }
+    requires coefficient_fits { coefficient n k < 2 ^ 64 }
+    ensures { result ≡ coefficient n (n - k) }
+{
+    binomial(n, k)
+}
+
+/// The multinomial of counts in another order.
+fn multinomial_of_other_order<T: Integer>(counts: &[T], others: &[T]) -> T
     requires counts_in_range { All (λ x. T.fits (T.value x)) counts.now }
     requires counts_from_zero { All (λ x. pos 0 ≤ℤ T.value x) counts.now }
     requires multinomial_fits { EachFits T.fits (IsMultinomial (map T.value counts.now)) }
     requires order { IsPermutation counts.now others.now }
-    ensures { T.value result.0 ≡ T.value result.1 }
+    ensures { IsMultinomial (map T.value others.now) (T.value result) }
 {
-    (multinomial(counts), multinomial(others))
+    multinomial(counts)
 }
 
 /// A whole row, collected.
@@ -97,22 +139,28 @@ fn none_for_good<T: Integer>(rest: &mut IterBinomial<T>) -> (Option<T>, Option<T
     (rest.next(), rest.next())
 }
 
-/// The average rounded up is the one rounded down, or 1 more.
-fn averages_are_next_to_each_other<T: Average>(x: T, y: T) -> (T, T)
-    requires x_in_range { T.fits (T.value x) }
-    requires y_in_range { T.fits (T.value y) }
-    ensures at_most { T.value result.0 ≤ℤ T.value result.1 }
-    ensures one_more { T.value result.1 ≤ℤ (T.value result.0 +ℤ pos 1) }
-{
-    (average_floor(x, y), average_ceil(x, y))
+/// Whether the next item is even: it is a number of the type, whoever made the row.
+fn next_is_even<T: Integer>(rest: &mut IterBinomial<T>) -> Option<bool> {
+    let item = rest.next()?;
+    Some(item.is_even())
 }
 
-/// The root of degree 1 is the number itself.
-fn first_root_is_the_number<T: Roots>(x: T) -> T
-    requires x_in_range { T.fits (T.value x) }
-    ensures { T.value result ≡ T.value x }
+/// Whether what is left of a row is odd throughout.
+fn are_odd<T: Integer>(rest: IterBinomial<T>) -> bool {
+    for item in rest {
+        if item.is_even() {
+            return false;
+        }
+    }
+    true
+}
+
+/// The root of degree 1, which needs no call.
+fn first_root<T: Roots>(x: T) -> T
+    requires { T.fits (T.value x) }
+    ensures { IsRoot (T.value x) 1 (T.value result) }
 {
-    nth_root(x, 1)
+    x
 }
 
 /// At an unsigned type the gcd needs no word.

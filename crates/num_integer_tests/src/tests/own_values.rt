@@ -7,7 +7,7 @@ use super::call_rows::Question::{
     BinomialFits, GcdFits, IsMultipleOf, LcmFits, NextMultipleFits, PrevMultipleFits, QuotientFits,
 };
 use super::call_rows::{Answers, AnswersPair, Holds};
-use super::coefficients::{HasItems, Shares, counted as counted_coefficient};
+use super::coefficients::{HasItems, HasNoRow, Shares, counted as counted_coefficient};
 use super::roots::has_root;
 use super::types::{Type, check_at, check_rows};
 use crate::own_types::{Marked, Negated, OneBit, Percent, Small, TwoBits};
@@ -221,6 +221,23 @@ fn numbers_of_two_bits(rt: HostRuntime) {
     assert!(rt; TwoBits::ends() == (0, 3));
 }
 
+/// Each coefficient of 3 is one of 0 to 3, as each of 1 is one bit, but their numbers of items are not.
+#[test]
+fn rows_outside_the_domain(rt: HostRuntime) {
+    let rows = [
+        (Type::TwoBits, Holds(BinomialFits, (3, 1), true)),
+        (Type::OneBit, Holds(BinomialFits, (1, 0), true)),
+    ];
+    check_rows(&rt, &rows);
+    let rows = [
+        (Type::TwoBits, HasNoRow(3)),
+        (Type::OneBit, HasNoRow(1)),
+        (Type::Percent, HasNoRow(9)),
+        (Type::Small, HasNoRow(5)),
+    ];
+    check_rows(&rt, &rows);
+}
+
 #[test]
 fn shares_of_odd_types(rt: HostRuntime) {
     let rows = [
@@ -234,6 +251,11 @@ fn shares_of_odd_types(rt: HostRuntime) {
     check_rows(&rt, &rows);
 }
 
+/// The three numbers of an answer.
+fn numbers(pair: &ExtendedGcd<Marked>) -> (i64, i64, i64) {
+    (pair.gcd.number(), pair.x.number(), pair.y.number())
+}
+
 /// The greatest byte of the three answers.
 fn greatest_mark(pair: &ExtendedGcd<Marked>) -> u8 {
     pair.gcd.mark().max(pair.x.mark()).max(pair.y.mark())
@@ -245,9 +267,9 @@ fn greatest_mark(pair: &ExtendedGcd<Marked>) -> u8 {
 fn bytes_tell_the_work(rt: HostRuntime) {
     let (a, b) = (Marked::new(99), Marked::new(2));
     let plain = checked::extended_gcd(a, b).expect(&rt, "the pair fits");
-    assert!(rt; (plain.x.number(), plain.y.number()) == (1, -49) && greatest_mark(&plain) <= 16);
+    assert!(rt; numbers(&plain) == (1, 1, -49) && greatest_mark(&plain) <= 16);
     let (counted, turns) = extended_gcd_counted(a, b).expect(&rt, "the pair fits");
-    assert!(rt; counted == plain && turns == 1 && greatest_mark(&counted) <= 16);
+    assert!(rt; numbers(&counted) == (1, 1, -49) && turns == 1 && greatest_mark(&counted) <= 16);
     let (n, k) = (Marked::new(100), Marked::new(99));
     let plain = checked::binomial(n, k).expect(&rt, "the coefficient fits");
     assert!(rt; plain.number() == 100 && plain.mark() <= 16);

@@ -1,17 +1,20 @@
 //! What callers learn of the calls from their contracts alone, each said by a contract of its own.
 
-ghost use Rattle.std.specs.Prelude.{◌≡◌, ◌≢◌, ◌↔◌, ◌<ℤ◌, ◌+ℤ◌, ◌*ℤ◌, pos, IfOk, IsTrue, MatchOption};
+ghost use Rattle.std.specs.Prelude.{◌≡◌, ◌≢◌, ◌↔◌, ◌<ℤ◌, ◌+ℤ◌, ◌*ℤ◌, ℤ, pos, IfOk, IfSome, IsTrue, MatchOption};
+ghost use Rattle.num_integer.specs.Only.{IsOnly};
 ghost use Rattle.ratio64.specs.Fraction.{AreEqual, IsExact, IsFraction, IsReduced, IsOutsideI64, fraction_cmp};
 ghost use Rattle.ratio64.specs.Ratio.{num_of, den_of};
 
 use crate::{Ratio, RatioError};
+use num_integer::Integer;
 use std::cmp::Ordering;
 use std::hash::{Hash, Hasher};
 
-/// The parts of the exact result, or `None` where one of them is too wide.
+/// The parts of the exact result, and no others, or `None` where one of them is too wide.
 fn exact_parts(num: i64, den: i64) -> Option<(i64, i64)>
     requires { IsFraction num den }
-    ensures { MatchOption result (IsOutsideI64 num den) (λ p. IsExact num den p.0 p.1) }
+    ensures parts { MatchOption result (IsOutsideI64 num den) (λ p. IsExact num den p.0 p.1) }
+    ensures only { IfSome result (λ p. IsOnly (λ (n, d). IsExact num den n d) (p.0, p.1)) }
 {
     match Ratio::new(num, den) {
         Ok(x) => Some((x.num(), x.den())),
@@ -33,6 +36,14 @@ fn parts_of_sum(x: &Ratio, y: &Ratio) -> Option<(i64, i64)>
     }
 }
 
+/// Whether the fraction is a whole number, also where `Ratio::new` refuses it: MIN / -1 is one.
+fn is_whole(num: i64, den: i64) -> bool
+    requires { IsFraction num den }
+    ensures { IsTrue result ↔ ((n d : ℤ) → IsExact num den n d → d ≡ pos 1) }
+{
+    num.is_multiple_of(&den)
+}
+
 /// One of `parts` equal parts of 1, which is never refused.
 fn one_of(parts: u32) -> Ratio
     requires { parts ≢ 0 }
@@ -49,6 +60,30 @@ fn whole(number: i64) -> Ratio
     Ratio::new(number, 1).unwrap()
 }
 
+/// The number as a fraction, by the conversion.
+fn converted(number: i64) -> Ratio
+    ensures num { num_of result ≡ number }
+    ensures den { den_of result ≡ pos 1 }
+{
+    Ratio::from(number)
+}
+
+/// Whether the fraction is 0, which is 0 over 1.
+fn is_zero(x: &Ratio) -> bool
+    ensures { IsTrue result ↔ ((num_of x.now ≡ pos 0) × (den_of x.now ≡ pos 1)) }
+{
+    x.num() == 0
+}
+
+/// The fraction `c / d`, made of an equal one.
+fn of_equal(a: i64, b: i64, c: i64, d: i64) -> Result<Ratio, RatioError>
+    requires fraction { IsFraction c d }
+    requires equal { AreEqual a b c d }
+    ensures { IfOk result (λ x. IsExact c d (num_of x) (den_of x)) }
+{
+    Ratio::new(a, b)
+}
+
 /// The sum of the fractions `a / b` and `c / d`, where both fit.
 fn sum_of_given(a: i64, b: i64, c: i64, d: i64) -> Result<Ratio, RatioError>
     requires first { IsFraction a b }
@@ -56,6 +91,15 @@ fn sum_of_given(a: i64, b: i64, c: i64, d: i64) -> Result<Ratio, RatioError>
     ensures { IfOk result (λ x. IsExact (a *ℤ d +ℤ c *ℤ b) (b *ℤ d) (num_of x) (den_of x)) }
 {
     Ratio::new(a, b)?.checked_add(&Ratio::new(c, d)?)
+}
+
+/// The product of the fractions `a / b` and `c / d`, where both fit.
+fn product_of_given(a: i64, b: i64, c: i64, d: i64) -> Result<Ratio, RatioError>
+    requires first { IsFraction a b }
+    requires second { IsFraction c d }
+    ensures { IfOk result (λ x. IsExact (a *ℤ c) (b *ℤ d) (num_of x) (den_of x)) }
+{
+    Ratio::new(a, b)?.checked_mul(&Ratio::new(c, d)?)
 }
 
 /// Each value is reduced.
@@ -79,6 +123,22 @@ fn compared(x: &Ratio, y: &Ratio) -> Ordering
         ≡ fraction_cmp (num_of x.now) (den_of x.now) (num_of y.now) (den_of y.now) }
 {
     x.cmp(y)
+}
+
+/// Whether two are level in the order, which then are equal.
+fn are_level(x: &Ratio, y: &Ratio) -> bool
+    ensures { IsTrue result
+        ↔ AreEqual (num_of x.now) (den_of x.now) (num_of y.now) (den_of y.now) }
+{
+    matches!(x.cmp(y), Ordering::Equal)
+}
+
+/// Whether three ascend, where the first is below the last.
+fn ascend(x: &Ratio, y: &Ratio, z: &Ratio) -> bool
+    ensures { IsTrue result → fraction_cmp (num_of x.now) (den_of x.now) (num_of z.now)
+        (den_of z.now) ≡ Ordering.Less }
+{
+    matches!((x.cmp(y), y.cmp(z)), (Ordering::Less, Ordering::Less))
 }
 
 /// Whether the first is the smaller.

@@ -44,7 +44,7 @@ fn moon_sum(year: i64) -> i64
     19 * golden + century + leap + 15
 }
 
-/// The side of the greatest square of so many tiles.
+/// The side of the greatest square of at most `tiles` tiles.
 #[tactic(auto, using(num_integer::proofs::ForCallers::root_by_squares))]
 fn side(tiles: u64) -> u64
     ensures enough { result * result ≤ tiles }
@@ -62,7 +62,7 @@ fn tile(width: u64, length: u64) -> u64
     width.gcd(&length)
 }
 
-/// After how many turns of each two gears are where they began, or `None` where so many teeth are beyond the
+/// After how many turns of each two gears are where they began, or `None` where their number is beyond the
 /// type.
 fn turns(a: u32, b: u32) -> Option<(u32, u32)>
     requires a { 0 < a }

@@ -10,7 +10,7 @@ ghost use Rattle.num_integer.specs.RootOf.{IsRoot};
 ghost use Rattle.num_integer.specs.Row.{row_of};
 ghost use Rattle.ratio64.specs.Ratio.{AnswersFraction, den_of, num_of};
 
-use num_integer::{ExtendedGcd, Integer, IterBinomial, Roots, binomial, checked};
+use num_integer::{ExtendedGcd, Integer, IterBinomial, Roots, binomial, checked, lcm};
 use ratio64::{Ratio, RatioError};
 
 /// By a number above 0 each quotient fits.
@@ -88,6 +88,20 @@ fn common_multiple_in_twice_the_bits(m: u32, n: u32) -> u64
     ensures { IsLeastCommonMultiple (pos m) (pos n) (pos result) }
 {
     u64::from(m).lcm(&u64::from(n))
+}
+
+/// A multiple of two literals fits where the one that the prover computes does.
+fn common_multiple_of_literals() -> u8
+    ensures { IsLeastCommonMultiple (pos 200) (pos 50) (pos result) }
+{
+    lcm(200, 50)
+}
+
+/// The next multiple of literals.
+fn next_multiple_of_literals() -> i64
+    ensures { IsMultiple IsCeiled (pos 23) (pos 8) result }
+{
+    23.next_multiple_of(&8)
 }
 
 /// Whether a number is even, as `%` says it.
@@ -218,6 +232,7 @@ fn plain_calls(rt: HostRuntime) {
     assert!(rt; previous_multiple(23, 8) == 16 && common_divisor_with_positive(-56, 42) == 14);
     assert!(rt; natural_common_divisor(56, 42) == 14 && natural_common_divisor(0, 0) == 0);
     assert!(rt; choices_of_4_out_of_9() == 126);
+    assert!(rt; common_multiple_of_literals() == 200 && next_multiple_of_literals() == 24);
     assert!(rt; common_multiple_in_twice_the_bits(4294967295, 4294967294) == 18446744060824649730);
     assert!(rt; is_even(4) && !is_even(7) && remainder(17, 5) == 2);
     assert!(rt; weeks(-1) == -1 && side(99) == 9 && natural_root(99, 3) == 4);

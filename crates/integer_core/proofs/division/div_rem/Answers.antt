@@ -1,5 +1,4 @@
-use Rattle.integer_core.proofs.Quotients.{remainder_within, truncated_is}
-use Rattle.integer_core.proofs.Ranges.{within_fits}
+use Rattle.integer_core.proofs.Quotients.{truncated_is}
 use Rattle.integer_core.proofs.division.div_rem.Goals as goal
 
 pub quotient-requires-clause-quotient_fits : goal.quotient-requires-clause-quotient_fits
@@ -7,10 +6,6 @@ quotient-requires-clause-quotient_fits g c = c.requires.quotient_fits _ (record 
 
 pub remainder-requires-clause-quotient_fits : goal.remainder-requires-clause-quotient_fits
 remainder-requires-clause-quotient_fits g c = c.requires.quotient_fits _ (record { remainder = _; division = truncated_is _ _ c.requires.nonzero })
-
-pub returns-clause-in_range : goal.returns-clause-in_range
-returns-clause-in_range g c =
-    (c.quotient.ensures.in_range, rw c.remainder.ensures.value (within_fits g.met.T.Native.native_law.range c.requires.n_in_range (remainder_within _ _)))
 
 pub returns-clause-truncated : goal.returns-clause-truncated
 returns-clause-truncated g c = rw (c.quotient.ensures.value, c.remainder.ensures.value) (truncated_is _ _ c.requires.nonzero)

@@ -1,7 +1,7 @@
-use Rattle.std.proofs.Common.{arith, ◌+◌, ◌≤◌}
-use Rattle.num_traits.specs.Ints.{pow-bit_len}
-use Rattle.integer_core.proofs.Runs.{reaches_first, reaches_turn, reaches_last}
-use Rattle.integer_core.proofs.OddParts.{turning_falls, turning_few, turning_turn}
+use Rattle.std.proofs.Common.{arith}
+use Rattle.integer_core.proofs.Runs.{reaches_first, reaches_last}
+use Rattle.integer_core.proofs.ExchangedPairs.{reaches_ordered}
+use Rattle.integer_core.proofs.OddParts.{turning_ends, turning_falls, turning_turn, turns_fit}
 use Rattle.integer_core.proofs.SteinSteps.{gcd_of_same}
 use Rattle.integer_core.proofs.stein.odd_gcd.Goals as goal
 
@@ -14,11 +14,7 @@ turns-init g c = record {
 }
 
 pub overflow_add-turns : goal.overflow_add-turns
-overflow_add-turns g c =
-    let wide = pow-bit_len g.M.FixedWidth.width in
-    let few : c.turns.turns ≤ 128 + 128 = turning_few 128 128 c.turns.invariant.kept
-    (omega (arith, g.met.M.FixedWidth.size_law _ c.requires.a_in_range)) (omega (arith, g.met.M.FixedWidth.size_law _ c.requires.b_in_range)) in
-    omega arith
+overflow_add-turns g c = omega (arith, turns_fit g.M.FixedWidth.width _ (turning_ends c.turns.invariant.kept) (g.met.M.FixedWidth.size_law _ c.requires.a_in_range) (g.met.M.FixedWidth.size_law _ c.requires.b_in_range))
 
 pub turns-smaller : goal.turns-smaller
 turns-smaller g c = turning_falls c.turns.invariant.kept c.next_pair.ensures.turn
@@ -30,7 +26,7 @@ turns-preserved g c =
       m_in_range = c.next_pair.ensures.in_range.0;
       n_in_range = c.next_pair.ensures.in_range.1;
       kept = turning_turn c.turns.invariant.kept turn;
-      reached = reaches_turn c.turns.invariant.reached turn;
+      reached = reaches_ordered c.turns.invariant.reached turn;
     }
 
 pub returns : goal.returns
@@ -41,5 +37,5 @@ returns g c =
       in_range = v.m_in_range;
       greatest = v.kept.same _ (gcd_of_same _ _ same);
       turns = reaches_last v.reached same;
-      bound = λ k l. turning_few k l v.kept;
+      few = turning_ends v.kept;
     }

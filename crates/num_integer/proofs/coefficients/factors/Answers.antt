@@ -1,4 +1,5 @@
 use Rattle.std.proofs.Common.{arith}
+use Rattle.integer_core.proofs.CommonDivisors.{gcd-remainder, gcd-swap}
 use Rattle.integer_core.proofs.Whole.{linear}
 use Rattle.num_integer.proofs.Steps.{cancelled, g_above, g_below, rest_above}
 use Rattle.num_integer.proofs.FittingAnswers.{fits_below}
@@ -24,4 +25,5 @@ quotient-requires-3-clause-quotient_fits g c =
 
 pub returns-clause-product : goal.returns-clause-product
 returns-clause-product g c =
-    rw (c.quotient.ensures.value, c.quotient-3.ensures.value, c.quotient-2.ensures.value) (cancelled c.requires.b_positive c.gcd-g.ensures.greatest c.requires.a_from_zero c.requires.whole)
+    let greatest = gcd-remainder c.mod_floor.ensures.floored.division.division (gcd-swap c.gcd-g.ensures.greatest) in
+    rw (c.quotient.ensures.value, c.quotient-3.ensures.value, c.quotient-2.ensures.value) (cancelled c.requires.b_positive greatest c.requires.a_from_zero c.requires.whole)

@@ -1,0 +1,122 @@
+-- Powers by squaring, modulo a number.
+use Rattle.std.specs.Prelude.{◌≡◌, ◌≢◌, ◌⊎◌, ◌+◌, ◌/◌, ◌%◌, ◌≤◌, ◌^◌, ◌*ℤ◌, ℤ, ℕ, pos, negsuc, neg_ℤ, zero, suc, unsigned_abs}
+use Rattle.std.specs.Int.{int_pow}
+use Rattle.std.proofs.Common.{arith, ap, ◌∙◌, inl, inr, refl, subst, sym}
+use Rattle.std.proofs.Math.Nat.{pow-zero, pow-succ'}
+use Rattle.std.proofs.lemmas.Bool.{cases_lt}
+use Rattle.std.proofs.lemmas.Int.{ints}
+use Rattle.integer_core.proofs.Whole.{assoc, neg-mul}
+use Rattle.modular.proofs.Congruences.{congruent-product, congruent-refl, congruent-trans, residue_of_congruent}
+use Rattle.num_integer.proofs.ForCallers.{mul-one, power_of_zero, products}
+use Rattle.modular.specs.Congruences.{AreCongruent, IsResidue}
+use Rattle.modular.proofs.BelowModulus.{below_of_residue}
+use Rattle.modular.specs.Below.{LiesBelow}
+
+-- ---- powers of whole numbers
+
+pub even_power : (k : ℤ) (n : ℕ) → n % 2 ≡ 0 → int_pow k n ≡ pos (unsigned_abs k ^ n)
+even_power (pos a) n even = refl
+even_power (negsuc a) n even = rw even refl
+
+pub odd_power : (k : ℤ) (n : ℕ) → n % 2 ≡ 1 → int_pow (neg_ℤ k) n ≡ neg_ℤ (int_pow k n)
+odd_power (pos zero) n odd = let none = power_of_zero n (omega arith) in rw none refl
+odd_power (pos (suc a)) n odd = rw odd refl
+odd_power (negsuc a) n odd = rw odd (omega (arith, ints))
+
+pub even_or_odd : (n : ℕ) → (n % 2 ≡ 0) ⊎ (n % 2 ≡ 1)
+even_or_odd n = elim (cases_lt (n % 2) 1) [ inl even ↦ inl (omega arith) | inr odd ↦ inr (omega arith) ]
+
+pub int_pow-zero : (x : ℤ) → int_pow x 0 ≡ pos 1
+int_pow-zero (pos a) = ap pos (pow-zero a)
+int_pow-zero (negsuc a) = ap pos (pow-zero (suc a))
+
+two_signs : (x y : ℤ) → neg_ℤ x *ℤ neg_ℤ y ≡ x *ℤ y
+two_signs x y = grind (arith, products)
+
+pub int_pow-suc : (x : ℤ) (n : ℕ) → int_pow x (suc n) ≡ x *ℤ int_pow x n
+int_pow-suc (pos a) n = ap pos (pow-succ' a n)
+int_pow-suc (negsuc a) n = elim (even_or_odd n) [
+  | inl even ↦
+      let now : int_pow (negsuc a) n ≡ pos (suc a ^ n) = even_power (negsuc a) n even in
+      let next : int_pow (negsuc a) (suc n) ≡ neg_ℤ (pos (suc a ^ suc n)) = odd_power (pos (suc a)) (suc n) (omega arith) in
+      next ∙ ap (λ (k : ℕ). neg_ℤ (pos k)) (pow-succ' (suc a) n) ∙ sym (ap (λ (t : ℤ). negsuc a *ℤ t) now ∙ neg-mul (pos (suc a)) (pos (suc a ^ n)))
+  | inr odd ↦
+      let now : int_pow (negsuc a) n ≡ neg_ℤ (pos (suc a ^ n)) = odd_power (pos (suc a)) n odd in
+      let next : int_pow (negsuc a) (suc n) ≡ pos (suc a ^ suc n) = even_power (negsuc a) (suc n) (omega arith) in
+      next ∙ ap pos (pow-succ' (suc a) n) ∙ sym (ap (λ (t : ℤ). negsuc a *ℤ t) now ∙ two_signs (pos (suc a)) (pos (suc a ^ n)))
+]
+
+-- the power of degree 2h is that of the square
+pub power_of_square : (x : ℤ) (h : ℕ) → int_pow x (h + h) ≡ int_pow (x *ℤ x) h
+power_of_square x zero = int_pow-zero x ∙ sym (int_pow-zero (x *ℤ x))
+power_of_square x (suc h) =
+    let e : suc h + suc h ≡ suc (suc (h + h)) = omega arith in
+    let twice : int_pow x (suc (suc (h + h))) ≡ x *ℤ (x *ℤ int_pow x (h + h)) = int_pow-suc x (suc (h + h)) ∙ ap (λ (t : ℤ). x *ℤ t) (int_pow-suc x (h + h)) in
+    let less : x *ℤ (x *ℤ int_pow x (h + h)) ≡ x *ℤ (x *ℤ int_pow (x *ℤ x) h) = ap (λ (t : ℤ). x *ℤ (x *ℤ t)) (power_of_square x h) in
+    ap (λ (k : ℕ). int_pow x k) e ∙ twice ∙ less ∙ sym (int_pow-suc (x *ℤ x) h ∙ assoc x x (int_pow (x *ℤ x) h))
+
+-- ---- modulo a number
+
+one-mul : (x : ℤ) → pos 1 *ℤ x ≡ x
+one-mul x = omega (arith, products)
+
+pub congruent-power : {m u v : ℤ} (n : ℕ) → AreCongruent m u v → AreCongruent m (int_pow u n) (int_pow v n)
+congruent-power {m} {u} {v} zero h = subst (λ (t : ℤ). AreCongruent m (int_pow u 0) t) (int_pow-zero u ∙ sym (int_pow-zero v)) (congruent-refl (int_pow u 0))
+congruent-power {m} {u} {v} (suc n) h =
+    subst (λ (t : ℤ). AreCongruent m (int_pow u (suc n)) t) (sym (int_pow-suc v n))
+    (subst (λ (t : ℤ). AreCongruent m t (v *ℤ int_pow v n)) (sym (int_pow-suc u n)) (congruent-product h (congruent-power n h)))
+
+-- what is left to do: the power of the base of degree rest, times the power so far
+pub record Powering (m a : ℤ) (e : ℕ) (power base : ℤ) (rest : ℕ) : Type 0 where
+  pub power_below : LiesBelow m power
+  pub base_below : LiesBelow m base
+  pub congruent : AreCongruent m (int_pow a e) (power *ℤ int_pow base rest)
+
+pub powering_first : {m a one power base : ℤ} (e : ℕ) → one ≡ pos 1 → IsResidue m one power → IsResidue m a base → Powering m a e power base e
+powering_first {m} {a} {one} {power} {base} e is at_one at_a =
+    let first : AreCongruent m (pos 1) power = rw is at at_one.congruent in
+    record {
+      power_below = below_of_residue at_one;
+      base_below = below_of_residue at_a;
+      congruent = subst (λ (t : ℤ). AreCongruent m t (power *ℤ int_pow base e)) (one-mul (int_pow a e)) (congruent-product first (congruent-power e at_a.congruent));
+    }
+
+pub turn_at_even : {m a power base b : ℤ} {e rest : ℕ} → Powering m a e power base rest → rest % 2 ≢ 1 → IsResidue m (base *ℤ base) b → Powering m a e power b (rest / 2)
+turn_at_even {m} {a} {power} {base} {b} {e} {rest} h even square =
+    let is : rest ≡ rest / 2 + rest / 2 = omega arith in
+    let split : power *ℤ int_pow base rest ≡ power *ℤ int_pow (base *ℤ base) (rest / 2) = ap (λ (t : ℤ). power *ℤ t) (ap (λ (k : ℕ). int_pow base k) is ∙ power_of_square base (rest / 2)) in
+    record {
+      power_below = h.power_below;
+      base_below = below_of_residue square;
+      congruent = congruent-trans (subst (λ (t : ℤ). AreCongruent m (int_pow a e) t) split h.congruent) (congruent-product (congruent-refl power) (congruent-power (rest / 2) square.congruent));
+    }
+
+odd_split : (power base : ℤ) (rest h : ℕ) → rest ≡ suc (h + h) → power *ℤ int_pow base rest ≡ (power *ℤ base) *ℤ int_pow (base *ℤ base) h
+odd_split power base rest h is =
+    let one : int_pow base rest ≡ base *ℤ int_pow base (h + h) = ap (λ (k : ℕ). int_pow base k) is ∙ int_pow-suc base (h + h) in
+    let half : int_pow base rest ≡ base *ℤ int_pow (base *ℤ base) h = one ∙ ap (λ (t : ℤ). base *ℤ t) (power_of_square base h) in
+    ap (λ (t : ℤ). power *ℤ t) half ∙ sym (assoc power base (int_pow (base *ℤ base) h))
+
+pub turn_at_odd : {m a power base p b : ℤ} {e rest : ℕ} → Powering m a e power base rest → rest % 2 ≡ 1 → IsResidue m (power *ℤ base) p → IsResidue m (base *ℤ base) b
+    → Powering m a e p b (rest / 2)
+turn_at_odd {m} {a} {power} {base} {p} {b} {e} {rest} h odd product square =
+    let is : rest ≡ suc (rest / 2 + rest / 2) = omega arith in
+    record {
+      power_below = below_of_residue product;
+      base_below = below_of_residue square;
+      congruent = congruent-trans (subst (λ (t : ℤ). AreCongruent m (int_pow a e) t) (odd_split power base rest (rest / 2) is) h.congruent)
+          (congruent-product product.congruent (congruent-power (rest / 2) square.congruent));
+    }
+
+-- at the end the rest is 0 or 1
+pub powering_last_even : {m a power base : ℤ} {e rest : ℕ} → Powering m a e power base rest → rest ≡ 0 → IsResidue m (int_pow a e) power
+powering_last_even {m} {a} {power} {base} {e} {rest} h none =
+    let is : power *ℤ int_pow base rest ≡ power = ap (λ (t : ℤ). power *ℤ t) (ap (λ (k : ℕ). int_pow base k) none ∙ int_pow-zero base) ∙ mul-one power in
+    record { from_zero = h.power_below.from_zero; below = h.power_below.below; congruent = subst (λ (t : ℤ). AreCongruent m (int_pow a e) t) is h.congruent }
+
+pub powering_last_odd : {m a power base r : ℤ} {e rest : ℕ} → Powering m a e power base rest → rest ≤ 1 → rest ≢ 0 → IsResidue m (power *ℤ base) r → IsResidue m (int_pow a e) r
+powering_last_odd {m} {a} {power} {base} {r} {e} {rest} h low other product =
+    let one : rest ≡ suc 0 = omega arith in
+    let first : int_pow base rest ≡ base = ap (λ (k : ℕ). int_pow base k) one ∙ int_pow-suc base 0 ∙ ap (λ (t : ℤ). base *ℤ t) (int_pow-zero base) ∙ mul-one base in
+    let is : power *ℤ int_pow base rest ≡ power *ℤ base = ap (λ (t : ℤ). power *ℤ t) first in
+    residue_of_congruent (subst (λ (t : ℤ). AreCongruent m (int_pow a e) t) is h.congruent) product

@@ -1,0 +1,18 @@
+//! Arithmetic modulo a number above 0, at every modulus of every lawful integer type.
+#![tactic(auto)]
+
+mod inverses;
+mod long_products;
+mod native;
+mod powers;
+mod products;
+mod residue_classes;
+mod residues;
+#[cfg(test)]
+mod tests;
+
+pub use inverses::{inverse_modulo, quotient_modulo};
+pub use powers::power_modulo;
+pub use products::{Modular, product_modulo};
+pub use residue_classes::{chinese_remainder, next_congruent, solutions};
+pub use residues::{difference_modulo, negation_modulo, residue, sum_modulo};

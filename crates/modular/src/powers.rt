@@ -1,0 +1,35 @@
+//! Powers modulo a number above 0.
+
+ghost use Rattle.std.specs.Prelude.{◌<ℤ◌, pos};
+ghost use Rattle.std.specs.Int.{int_pow};
+ghost use Rattle.modular.specs.Congruences.{IsResidue};
+
+use crate::products::Modular;
+use crate::residues::residue;
+use num_integer::operators::one;
+
+/// `a` to the power `exponent` modulo `m`, from 0 up: at most two products for each binary digit of
+/// the exponent. `power_modulo(3, 4, 7)` is 4.
+pub fn power_modulo<T: Modular>(a: T, exponent: u128, m: T) -> T
+    requires a_in_range { T.fits (T.value a) }
+    requires m_in_range { T.fits (T.value m) }
+    requires positive { pos 0 <ℤ T.value m }
+    ensures in_range { T.fits (T.value result) }
+    ensures residue { IsResidue (T.value m) (int_pow (T.value a) exponent) (T.value result) }
+{
+    let mut power = residue(one(), m);
+    let mut base = residue(a, m);
+    let mut rest = exponent;
+    'turns: while rest > 1 {
+        if rest % 2 == 1 {
+            power = power.product_modulo(&base, &m);
+        }
+        base = base.product_modulo(&base, &m);
+        rest /= 2;
+    }
+    if rest == 0 {
+        power
+    } else {
+        power.product_modulo(&base, &m)
+    }
+}

@@ -1,0 +1,69 @@
+//! Products of residues, where no product has to fit.
+
+ghost use Rattle.std.specs.Prelude.{◌<ℤ◌, ◌*ℤ◌, pos};
+ghost use Rattle.modular.specs.Congruences.{IsResidue};
+ghost use Rattle.modular.specs.Below.{LiesBelow};
+
+use crate::residues::{residue, sum_of_residues};
+use num_integer::Integer;
+use num_integer::operators::{is_below, is_zero, one, successor, zero};
+
+/// Products modulo a number above 0. Your own type has them by an empty implementation, which
+/// doubles and adds.
+pub trait Modular: Integer {
+    /// `self * other` modulo `modulus`, from 0 up. `4.product_modulo(&5, &7)` is 6.
+    fn product_modulo(&self, other: &Self, modulus: &Self) -> Self
+        requires self_in_range { Self.fits (Self.value self.now) }
+        requires other_in_range { Self.fits (Self.value other.now) }
+        requires modulus_in_range { Self.fits (Self.value modulus.now) }
+        requires positive { pos 0 <ℤ Self.value modulus.now }
+        ensures in_range { Self.fits (Self.value result) }
+        ensures residue { IsResidue (Self.value modulus.now)
+            (Self.value self.now *ℤ Self.value other.now) (Self.value result) }
+    {
+        product_of_residues(
+            residue(*self, *modulus),
+            residue(*other, *modulus),
+            *modulus,
+        )
+    }
+}
+
+/// [`Modular::product_modulo`].
+pub fn product_modulo<T: Modular>(a: T, b: T, m: T) -> T
+    requires a_in_range { T.fits (T.value a) }
+    requires b_in_range { T.fits (T.value b) }
+    requires m_in_range { T.fits (T.value m) }
+    requires positive { pos 0 <ℤ T.value m }
+    ensures in_range { T.fits (T.value result) }
+    ensures residue { IsResidue (T.value m) (T.value a *ℤ T.value b) (T.value result) }
+{
+    a.product_modulo(&b, &m)
+}
+
+/// The product of two residues, by one turn for each binary digit of `y` but the first.
+pub(crate) fn product_of_residues<T: Integer>(x: T, y: T, m: T) -> T
+    requires y_in_range { T.fits (T.value y) }
+    requires m_in_range { T.fits (T.value m) }
+    requires x_below { LiesBelow (T.value m) (T.value x) }
+    requires y_below { LiesBelow (T.value m) (T.value y) }
+    ensures in_range { T.fits (T.value result) }
+    ensures residue { IsResidue (T.value m) (T.value x *ℤ T.value y) (T.value result) }
+{
+    let mut total = zero();
+    let mut addend = x;
+    let mut rest = y;
+    'turns: while is_below(one(), rest) {
+        let (half, digit) = rest.div_rem(&successor(one()));
+        if !is_zero(digit) {
+            total = sum_of_residues(total, addend, m);
+        }
+        addend = sum_of_residues(addend, addend, m);
+        rest = half;
+    }
+    if is_zero(rest) {
+        total
+    } else {
+        sum_of_residues(total, addend, m)
+    }
+}

@@ -1,0 +1,5 @@
+use Rattle.ratio64.proofs.ForCallers.{whole_is_exact}
+use Rattle.ratio64.proofs.fraction.RatioFromI64.from.Goals as goal
+
+pub invariant_of-result : goal.invariant_of-result
+invariant_of-result c = record { reduced = (whole_is_exact _).reduced }
