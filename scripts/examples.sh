@@ -1,6 +1,6 @@
 #!/usr/bin/env bash
-# Runs the examples of the program: each command in a block of `console` must print the lines that the page shows below
-# it, and nothing else. A line for each command, and a count of them at the end.
+# Runs the examples of the program: each command in a block of `console` prints the lines that the page shows below it,
+# and nothing else. Prints a line for each command, and a count at the end.
 set -uo pipefail
 cd "$(dirname "$0")/.."
 
@@ -13,10 +13,11 @@ failed=0
 
 intcalc() { "$program" "$@"; }
 
-# ends STATUS: the status, for a command that asks for it.
+# ends STATUS: ends with the status, which the next command may print.
 ends() { return "$1"; }
 
-# runs COMMAND: what the command prints, and its status. A page shows calls of the program and their statuses alone.
+# runs COMMAND: runs the command, and keeps what it prints and its status. A page has only calls of the program and
+# `echo $?`.
 runs() {
     case $1 in
         intcalc | 'intcalc '* | 'echo $?') ;;

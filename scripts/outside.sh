@@ -1,6 +1,6 @@
 #!/usr/bin/env bash
-# Runs the program as a shell meets it: with memory refused, with nowhere to print, and with odd
-# arguments. A line for each check, and a count of them at the end.
+# Runs the built program as a shell does: with memory refused, with nowhere to print, and with odd arguments. Prints a
+# line for each check, and a count at the end.
 set -uo pipefail
 cd "$(dirname "$0")/../crates/intcalc"
 
@@ -13,8 +13,8 @@ trap 'rm -f "$printed" "$printed".*' EXIT
 passed=0
 failed=0
 
-# judge NAME STATUS ENDED [LINE]: the status is as wanted and, where a line is given, that line alone was
-# printed.
+# judge NAME STATUS ENDED [LINE]: the program ended with the wanted status and, where a line is given, printed that line
+# alone.
 judge() {
     if [ "$2" -eq "$3" ] && { [ $# -lt 4 ] || printf '%s\n' "$4" | cmp -s - "$printed"; }; then
         passed=$((passed + 1))
@@ -41,7 +41,7 @@ on_a_closed_output() { "$@" >&-; }
 
 on_a_full_device() { "$@" >/dev/full; }
 
-# The reader has gone before the program starts.
+# The reader ends before the program starts.
 on_an_unread_pipe() {
     local unread
     exec {unread}> >(:)
@@ -49,13 +49,13 @@ on_an_unread_pipe() {
     "$@" >&"$unread"
 }
 
-# The number of requests is the one that README.md tells.
-requests_are_told() {
+# docs/CONTRACTS.md gives this number of requests.
+requests_are_documented() {
     local spelled=(no one two three four five six seven eight nine ten eleven twelve)
-    grep -q "with each of its ${spelled[requests]} requests refused" ../../README.md
+    grep -q "with each of its ${spelled[requests]} requests refused" ../../docs/CONTRACTS.md
 }
 
-# With each request for memory refused, side by side, the first among them; the program makes no other.
+# Refuses each request for memory in turn, side by side. One more is not made.
 refuse_memory() {
     local request ended started=()
     for ((request = 1; request <= requests + 1; request++)); do
@@ -79,8 +79,8 @@ if [ ! -x "$program" ]; then
     rt run -- "${words[@]}" >/dev/null 2>&1
 fi
 
-# The greatest argument that the kernel hands on is 128 KiB with its end. It refuses one of a megabyte
-# before the program starts; a megabyte in eight arguments gets through.
+# The greatest argument that the kernel passes on is 128 KiB with its end. It refuses one of a megabyte before the program
+# starts; it passes on a megabyte in eight arguments.
 digits=$(printf '%0131071d' 7)
 nines=${digits//?/9}
 
@@ -98,7 +98,7 @@ ends 'a closed output' 4 on_a_closed_output "$program" "${words[@]}"
 ends 'a full device' 4 on_a_full_device "$program" "${words[@]}"
 ends 'a pipe that nobody reads' 4 on_an_unread_pipe "$program" "${words[@]}"
 refuse_memory
-ends 'as many requests as README.md tells' 0 requests_are_told
+ends 'as many requests as docs/CONTRACTS.md says' 0 requests_are_documented
 
 echo "$passed passed, $failed failed"
 [ "$failed" -eq 0 ]

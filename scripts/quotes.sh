@@ -1,56 +1,100 @@
 #!/usr/bin/env bash
-# Compares the code that the pages for callers quote with the code of crates/uses: each block of Rust or of a
-# proof must stand there as it is. A line for each block, and a count of them at the end.
+# Compares the code on the pages with the files that the gate compiles or runs. Each block of Rust is in a .rt file, each
+# block of a proof in an .antt file, and each line of a block of crates in crates.txt. Indentation does not count, and a
+# comment `// and ..` in a block stands for lines that it leaves out. The command of README.md is the stored run. Prints
+# a line for each block, and a count at the end.
 set -euo pipefail
 cd "$(dirname "$0")/.."
 
-pages=(README.md crates/num_integer/CALLING.md crates/ratio64/CALLING.md crates/modular/CALLING.md)
+pages=(README.md docs/*.md crates/*/CALLING.md crates/*/README.md)
+declare -A rust proofs
 passed=0
 failed=0
 
-# stands TEXT FILE..: the text stands in one of the files.
-stands() {
-    local text=$1 file
+# report PLACE STATUS: counts the check at that place, and prints a line for it.
+report() {
+    if [ "$2" -eq 0 ]; then
+        passed=$((passed + 1))
+        echo "$1: quoted"
+    else
+        failed=$((failed + 1))
+        echo "$1: in no file"
+    fi
+}
+
+# contains TEXT PIECE..: the text has the pieces, in this order, each from the beginning of a line.
+contains() {
+    local rest=$'\n'$1 piece
     shift
-    for file in "$@"; do
-        case "$(<"$file")" in
-            *"$text"*) return 0 ;;
+    for piece in "$@"; do
+        case "$rest" in
+            *$'\n'"$piece"*) rest=$'\n'${rest#*$'\n'"$piece"} ;;
+            *) return 1 ;;
         esac
     done
+}
+
+# is_quoted KIND TEXT: a file of that kind has the text.
+is_quoted() {
+    local pieces=() piece= line file
+    if [ "$1" = crates ]; then
+        ! grep -vxFf crates.txt <<<"$2" >/dev/null
+        return
+    fi
+    while IFS= read -r line; do
+        case "$line" in
+            '// and '*) pieces+=("$piece") piece= ;;
+            *) piece+=$line$'\n' ;;
+        esac
+    done <<<"$2"
+    pieces+=("$piece")
+    if [ "$1" = rust ]; then
+        for file in "${!rust[@]}"; do
+            contains "${rust[$file]}" "${pieces[@]}" && return
+        done
+    else
+        for file in "${!proofs[@]}"; do
+            contains "${proofs[$file]}" "${pieces[@]}" && return
+        done
+    fi
     return 1
 }
 
-# judge PAGE LINE KIND TEXT: the block that begins after that line of the page is a quotation.
-judge() {
-    local place="$1:$2" files=()
-    case $3 in
-        rust) mapfile -t files < <(find crates/uses/src -name '*.rt') ;;
-        antt) mapfile -t files < <(find crates/uses/proofs -name '*.antt' -not -path '*/out/*') ;;
-    esac
-    if stands "$4" "${files[@]}"; then
-        passed=$((passed + 1))
-        echo "$place: quoted"
-    else
-        failed=$((failed + 1))
-        echo "$place: stands nowhere in crates/uses"
-    fi
+# is_stored_run: README.md has the command of the stored run, and what it prints.
+is_stored_run() {
+    grep -qF -- "rt run -- $(paste -sd ' ' crates/intcalc/args))" README.md &&
+        grep -qF -- "prints \`$(<crates/intcalc/stdout)\`" README.md
 }
+
+while IFS= read -r file; do
+    case "$file" in
+        *.rt) rust[$file]=$(sed 's/^ *//' "$file")$'\n' ;;
+        *) proofs[$file]=$(sed 's/^ *//' "$file")$'\n' ;;
+    esac
+done < <(find crates/*/src crates/*/specs crates/*/proofs -name '*.rt' -o -name '*.antt')
 
 for page in "${pages[@]}"; do
     kind= text= number=0 begins=0
     while IFS= read -r line; do
         number=$((number + 1))
+        line=${line#"${line%%[! ]*}"}
         case "$kind:$line" in
-            ':```rust' | ':```antt') kind=${line#'```'} text= begins=$number ;;
+            ':```rust' | ':```antt' | ':```crates') kind=${line#'```'} text= begins=$number ;;
             ':'*) ;;
             *':```')
-                judge "$page" "$begins" "$kind" "${text%$'\n'}"
+                status=0
+                is_quoted "$kind" "${text%$'\n'}" || status=1
+                report "$page:$begins" "$status"
                 kind=
                 ;;
             *) text+=$line$'\n' ;;
         esac
     done <"$page"
 done
+
+status=0
+is_stored_run || status=1
+report 'README.md: the stored run' "$status"
 
 echo "$passed passed, $failed failed"
 [ "$failed" -eq 0 ]

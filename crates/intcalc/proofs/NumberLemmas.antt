@@ -1,4 +1,4 @@
--- What `parse` answers, against the words of specs/Number.
+-- What `parse` returns, in the words of specs/Number.
 use Rattle.std.proofs.Common.{◌≡◌, ◌≢◌, ℕ, suc, zero, ◌-◌, ◌^◌, ◌<◌, ◌≤◌, true, false, List, length, drop, get_or, Some, Ok, Err, Result, ℤ, pos, negsuc, neg_ℤ, sym, ap, ◌∙◌, arith, rules, tests, inl, inr}
 use Rattle.std.specs.Int.{saturate_signed, w128}
 use Rattle.std.specs.Prelude.{FitsSigned}
@@ -14,7 +14,7 @@ use Rattle.intcalc.specs.Number.{spelled_number, begins_with_minus, unsigned_par
 own : IsNumeralModel (λ ds. list_all is_ascii_digit ds ≡ true) digits_sum
 own = numerals_by_weight _ (search rules) digits_sum (search rules)
 
--- a number of `i128` stays where it is
+-- a number of `i128` is not moved
 sat_inside : (z : ℤ) → FitsSigned w128 z → saturate_signed w128 z ≡ z
 sat_inside (pos n) f = grind arith
 sat_inside (negsuc n) f = grind arith
@@ -40,7 +40,7 @@ at_plain bs m d =
     let e : is_digits bs ≡ true = rw m at d in
     (search (rules, tests), grind (arith, nat_tests), grind (arith, nat_tests), rw (m, e))
 
--- what `parse` gives for digits with an optional sign
+-- what `parse` returns for digits with an optional sign
 pub parsed : {E : Type 0} → (bs : List ℕ) (r : Result ℤ E) (n : ℤ) → ParsesSigned w128 10 bs r → r ≡ Ok n → FitsSigned w128 n → is_digits (unsigned_part bs) ≡ true → Some n ≡ spelled_number bs
 parsed {E} bs (Ok m) n h is f d =
     let same : m ≡ n = cc in
@@ -56,7 +56,7 @@ parsed {E} bs (Ok m) n h is f d =
     ]
 parsed bs (Err e) n h is f d = cc
 
--- `parse` gives an error after a `-` only below `i128`
+-- `parse` returns an error after a `-` only below `i128`
 pub too_low : {E : Type 0} → (bs : List ℕ) (r : Result ℤ E) (e : E) → ParsesSigned w128 10 bs r → r ≡ Err e → is_digits (unsigned_part bs) ≡ true → begins_with_minus bs ≡ true → Some (negsuc (2 ^ 127 - 1)) ≡ spelled_number bs
 too_low bs (Ok n) e h is d m = cc
 too_low bs (Err x) e h is d m =
@@ -67,7 +67,7 @@ too_low bs (Err x) e h is d m =
       | inr small ↦ absurd (p (a.1, a.2, small))
     ]
 
--- `parse` gives an error without a `-` only above `i128`
+-- `parse` returns an error without a `-` only above `i128`
 pub too_high : {E : Type 0} → (bs : List ℕ) (r : Result ℤ E) (e : E) → ParsesSigned w128 10 bs r → r ≡ Err e → is_digits (unsigned_part bs) ≡ true → begins_with_minus bs ≡ false → Some (pos (2 ^ 127 - 1)) ≡ spelled_number bs
 too_high bs (Ok n) e h is d m = cc
 too_high bs (Err x) e h is d m =

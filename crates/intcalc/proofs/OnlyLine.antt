@@ -1,4 +1,4 @@
--- At most one line and one status stand for a list of words.
+-- A list of words has at most one line and one status.
 use Rattle.std.specs.Prelude.{◌≡◌, ◌∷◌, ℕ, List, Option, Some, None, map}
 use Rattle.std.proofs.Common.{◌+◌, ◌*◌, [], ap, subst, arith, refl}
 use Rattle.intcalc_core.specs.Only.{IsOnly}

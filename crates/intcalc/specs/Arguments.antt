@@ -9,7 +9,7 @@ use Rattle.std.specs.declared.vec.IntoIter.{IntoIter}
 abbrev pub words_of : {A : Type 0} → IntoIter (String A) A → List (List ℕ)
 words_of args = map string_bytes (drop 1 (into_iter_items args))
 
--- those of arguments that were read; arguments that were not are no words
+-- the words of arguments that std read; none where std could not read them
 abbrev pub words_read : {A E : Type 0} → Result (IntoIter (String A) A) E → List (List ℕ)
 words_read (Ok args) = words_of args
 words_read (Err e) = []

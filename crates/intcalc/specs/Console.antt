@@ -1,4 +1,4 @@
--- What a console holds.
+-- The parts of a console.
 use Rattle.std.specs.Prelude.{Bool}
 use Rattle.intcalc.specs.declared.sink.Console.{Console}
 

@@ -27,12 +27,12 @@ abbrev pub text_of_refusal : Refusal → List ℕ
 text_of_refusal refusal =
     codes "refused " ++ decimal (number_of refusal) ++ codes " " ++ name_of refusal
 
--- what is printed for a result
+-- the text of a result
 abbrev pub text_of : Result Answer Refusal → List ℕ
 text_of (Ok answer) = text_of_answer answer
 text_of (Err refusal) = text_of_refusal refusal
 
--- 0 for an answer, and 1 for a refusal
+-- 0 for an answer, 1 for a refusal
 abbrev pub status_of : Result Answer Refusal → ℕ
 status_of (Ok answer) = 0
 status_of (Err refusal) = 1

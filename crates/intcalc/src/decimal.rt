@@ -1,9 +1,9 @@
-//! Decimal text without memory.
+//! Decimal text, without allocation.
 
 ghost use Rattle.std.specs.Prelude.{◌≡◌, ◌+◌, ◌<◌, ◌≤◌, drop};
 ghost use Rattle.std.specs.Fmt.{decimal};
 
-/// As many as the digits of the greatest `u128`.
+/// The number of digits of the greatest `u128`.
 pub const WIDTH: usize = 39;
 
 fn digit(n: u128) -> u8
@@ -13,7 +13,8 @@ fn digit(n: u128) -> u8
     b'0' + n as u8
 }
 
-/// Writes the digits of `n` at the end of `text`, and answers where they start.
+/// Writes the digits of `n` at the end of `text`, and returns where they start. For 7 it writes `7` and
+/// returns 38.
 pub fn write_digits(n: u128, text: &mut [u8; WIDTH]) -> usize
     ensures start { result ≤ WIDTH }
     ensures digits { drop result text.new ≡ decimal n }

@@ -11,7 +11,7 @@ use std::marker::Model;
 
 const CAPACITY: usize = 128;
 
-/// Bytes that are put together before they go out.
+/// The bytes of a line, up to a fixed number.
 #[derive(Drop)]
 pub struct Line {
     text: [u8; CAPACITY],
@@ -27,6 +27,7 @@ impl Model for Line {
 }
 
 impl Line {
+    /// Returns an empty line.
     pub fn new() -> Line
         ensures { result ≡ [] }
     {
@@ -36,12 +37,14 @@ impl Line {
         }
     }
 
+    /// Returns the bytes of the line.
     pub fn as_bytes(&self) -> &[u8]
         ensures { result.now ≡ self.now }
     {
         &self.text[..self.len]
     }
 
+    /// Adds the bytes.
     pub fn push(&mut self, bytes: &[u8])
         requires { length self.old + length bytes.now ≤ CAPACITY }
         ensures { self.new ≡ self.old ++ bytes.now }
@@ -81,6 +84,7 @@ impl Line {
         self.push_number(n);
     }
 
+    /// Adds the numbers of the answer, or `true` or `false`.
     pub fn push_answer(&mut self, answer: Answer)
         requires { self.old ≡ [] }
         ensures text { self.new ≡ text_of_answer answer }
@@ -102,6 +106,7 @@ impl Line {
         }
     }
 
+    /// Adds `refused`, the number and the name.
     pub fn push_refusal(&mut self, refusal: Refusal)
         requires { self.old ≡ [] }
         ensures text { self.new ≡ text_of_refusal refusal }

@@ -11,7 +11,7 @@ fn is_negative(word: &[u8]) -> bool
     matches!(word, [b'-', ..])
 }
 
-// The word without its sign.
+// Returns the word without its sign.
 fn without_sign(word: &[u8]) -> &[u8]
     ensures { result.now ≡ unsigned_part word.now }
 {
@@ -33,9 +33,9 @@ fn is_unsigned_number(text: &[u8]) -> bool
     !text.is_empty() && has_only_digits(text)
 }
 
-/// The number that a word spells: an optional `-`, then one or more ASCII digits. `-007` is -7, and
-/// `+7` is no number. A number outside `i128` is read as the nearer end of `i128`, which lies
-/// outside every kind.
+/// Returns the number that a word spells: an optional `-`, then one or more ASCII digits. `-007` is -7,
+/// and `+7` is no number. A number outside `i128` gives the nearer end of `i128`, which lies outside
+/// every kind.
 pub fn read_number(word: &str) -> Option<i128>
     ensures { result ≡ spelled_number word.now }
 {

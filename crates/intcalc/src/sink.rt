@@ -1,4 +1,4 @@
-//! Where the line goes.
+//! The sink of the line.
 
 ghost use Rattle.std.specs.Prelude.{◌≡◌, ◌<◌, ◌≤◌, ◌↔◌, ℕ, List, Option, Bool, length, take, false};
 ghost use Rattle.std.specs.Prelude.{IsTrue, IsNone, IfSome, MatchOption};
@@ -7,19 +7,19 @@ ghost use Rattle.std.specs.Io.KnownBytes.{Appends, Keeps};
 
 use std::io::Write;
 
-/// A place for bytes, which may fail. Once it has failed it stays so.
+/// A place for bytes, which may fail. A failed sink stays failed.
 pub trait Sink {
-    // The bytes so far, where it tells them.
+    // The bytes so far, where the sink shows them.
     ghost contents: { Self → Option (List ℕ) };
 
-    // Whether it has failed.
+    // Whether the sink has failed.
     ghost has_failed: { Self → Bool };
 
-    // Whether it has finished, with nothing put since.
+    // Whether the sink has finished, with nothing put since.
     ghost is_finished: { Self → Bool };
 
-    /// Adds the first `n` of the bytes at `Some(n)`, and has failed at `None`. It may follow `finish`, and
-    /// the sink has then to be finished again.
+    /// Adds the first `n` of the bytes and returns `Some(n)`, or returns `None` where the sink has
+    /// failed. After `finish` it may be called again; the sink is then unfinished.
     fn put(&mut self, bytes: &[u8]) -> Option<usize>
         ensures bound { IfSome result (λ n. n ≤ length bytes.now) }
         ensures progress { 0 < length bytes.now → IfSome result (λ n. 0 < n) }
@@ -29,7 +29,7 @@ pub trait Sink {
         ensures for_good { IsTrue (has_failed self.old) → IsTrue (has_failed self.new) }
         ensures unfinished { is_finished self.new ≡ false };
 
-    /// Flushes, and has failed at `false`.
+    /// Flushes the sink, and returns `false` where the sink has failed.
     fn finish(&mut self) -> bool
         ensures kept { OnTrue result (Keeps (contents self.old) (contents self.new)) }
         ensures failed { (result ≡ false) ↔ IsTrue (has_failed self.new) }
@@ -37,8 +37,8 @@ pub trait Sink {
         ensures finished { is_finished self.new ≡ result };
 }
 
-/// A sink over a writer. It fails at the writer's first fault, and at the first write that takes no
-/// byte where it was given one or more.
+/// A sink over a writer. It fails at the first fault of the writer, and at the first write of one or
+/// more bytes that takes none.
 #[derive(Drop)]
 pub struct Console<W> {
     out: W,
@@ -49,6 +49,8 @@ pub struct Console<W> {
 impl<W: Write> Console<W> {
     ghost use Rattle.intcalc.specs.Console.{writer_of, has_failed, is_finished};
 
+    /// Returns a console over the writer, which has not failed. `Console::new(rt.stdout())` is the
+    /// console of the program.
     pub fn new(out: W) -> Console<W>
         ensures writer { writer_of result ≡ out }
         ensures fresh { has_failed result ≡ false }
@@ -61,6 +63,7 @@ impl<W: Write> Console<W> {
         }
     }
 
+    /// Returns the writer. `Console::new(out).into_inner()` is `out`.
     pub fn into_inner(self) -> W
         ensures { result ≡ writer_of self }
     {
@@ -78,7 +81,7 @@ impl<W: Write> Sink for Console<W> {
 
     ghost is_finished = { λ console. console.finished };
 
-    // At `None` a writer that tells its bytes took none.
+    // Where it returns `None`, a writer that shows its bytes took none.
     fn put(&mut self, bytes: &[u8]) -> Option<usize>
         ensures bound { IfSome result (λ n. n ≤ length bytes.now) }
         ensures progress { 0 < length bytes.now → IfSome result (λ n. 0 < n) }
@@ -110,8 +113,7 @@ impl<W: Write> Sink for Console<W> {
     }
 }
 
-/// Puts all of the bytes, or answers `None` where the sink has failed. It makes no `put` where there
-/// are no bytes.
+/// Puts all of the bytes, or returns `None` where the sink has failed. Without bytes it makes no `put`.
 pub fn put_all<S: Sink>(out: &mut S, bytes: &[u8]) -> Option<()>
     ensures added { MatchOption result (IsTrue (S.has_failed out.new))
         (λ _. Appends (S.contents out.old) (S.contents out.new) bytes.now) }

@@ -16,7 +16,7 @@ use crate::run::{line_for, run};
 use crate::sink::Console;
 use tape::{ROOM, Tape};
 
-/// Exactly one line and one status stand for a list of words.
+/// A list of words has exactly one line and one status.
 fn only_line(words: &[&str]) -> (Line, u8)
     ensures line { IsLine (map (λ w. w.now) words.now) result.0 result.1 }
     ensures only { IsOnly (λ (line, status). IsLine (map (λ w. w.now) words.now) line status)
@@ -84,7 +84,7 @@ fn lines(rt: HostRuntime) {
     }
 }
 
-// Each row is a dividend, a divisor, and what each of the calls answers for them.
+// Each row is a dividend, a divisor, and the result of each of the calls.
 #[test]
 fn divisions(rt: HostRuntime) {
     let calls = [

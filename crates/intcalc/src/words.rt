@@ -87,7 +87,7 @@ fn read_call(word: &str, operands: &[&str]) -> Option<Call>
     }
 }
 
-/// The kind and the call that the words ask for: the word of a kind, the word of a call, and a
+/// Returns the kind and the call that the words ask for: the word of a kind, the word of a call, and a
 /// number word for each operand. `i64 div_floor 8 -3` asks for `Call::DivFloor(8, -3)` at `i64`.
 pub fn read_words(words: &[&str]) -> Option<(Kind, Call)>
     ensures { IsRequest (map (λ w. w.now) words.now) result }

@@ -1,4 +1,4 @@
--- What a call of two fractions answers, by their exact results.
+-- The answer of a call on two fractions, by their exact results.
 use Rattle.std.specs.Prelude.{◌≡◌, ◌≢◌, ◌+ℤ◌, ◌*ℤ◌, ℤ, pos, Result, Ok, Err, MatchResult, FitsSigned}
 use Rattle.std.specs.Int.{w64, w128}
 use Rattle.std.proofs.Common.{ap, inl, inr, refl, subst, sym, to_z, of_z, ◌∙◌}

@@ -1,4 +1,4 @@
--- The fractions that a call is given.
+-- The fractions of a call.
 use Rattle.std.specs.Prelude.{ℤ}
 use Rattle.ratio64.specs.Fraction.{IsExact, IsOutsideI64}
 use Rattle.ratio64.specs.Ratio.{num_of, den_of}

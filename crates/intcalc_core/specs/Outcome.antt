@@ -1,4 +1,4 @@
--- What each call answers at each kind, and which refusal comes first.
+-- The outcome of each call at each kind, and the order of the refusals.
 use Rattle.std.specs.Prelude.{◌≡◌, ◌≢◌, ◌⊎◌, ◌↔◌, ◌%◌, ◌≤ℤ◌, ◌+ℤ◌, ◌*ℤ◌, ℤ, pos, unsigned_abs, Bool, IsTrue, List, [], ◌∷◌, ⊤, Result, Ok, Err, MatchResult, FitsSigned}
 use Rattle.std.specs.Int.{w8, w64, FitsUnsignedBits}
 use Rattle.num_integer.specs.Averages.{IsAverageFloor, IsAverageCeil}
@@ -26,29 +26,29 @@ FitsKind U8 = FitsUnsignedBits 8
 FitsKind I64 = λ n. FitsSigned w64 n
 FitsKind U64 = FitsUnsignedBits 64
 
--- a conversion that gives the value of a number where the type has it, and else fails
+-- a conversion that returns the value of a number where the type has it, and fails where it does not
 abbrev pub Narrows : {T E : Type 0} → (T → ℤ) → (ℤ → Type 0) → (ℤ → Result T E → Type 0) → Type 0
 Narrows {T} {E} value fits gives = (n : ℤ) (r : Result T E) → gives n r
     → MatchResult r (λ x. (value x ≡ n) × fits n) (λ _. ¬ (fits n))
 
--- refused so unless the condition holds, and else as the rest says
+-- refused unless the condition holds, else what the rest says
 abbrev pub Needs : Type 0 → Refusal → (Result Answer Refusal → Type 0) → Result Answer Refusal → Type 0
 Needs P refusal rest r = (¬ P × (r ≡ Err refusal)) ⊎ (P × rest r)
 
--- answered by one number, which meets the condition
+-- the answer is one number, which meets the condition
 pub record AnswersOne (P : ℤ → Type 0) (r : Result Answer Refusal) : Type 0 where
   pub number : ℤ
   pub is : r ≡ Ok (One number)
   pub meets : P number
 
--- answered by two numbers, which meet the condition together
+-- the answer is two numbers, which together meet the condition
 pub record AnswersTwo (P : ℤ → ℤ → Type 0) (r : Result Answer Refusal) : Type 0 where
   pub first : ℤ
   pub second : ℤ
   pub is : r ≡ Ok (Two first second)
   pub meets : P first second
 
--- answered by three numbers, which meet the condition together
+-- the answer is three numbers, which together meet the condition
 pub record AnswersThree (P : ℤ → ℤ → ℤ → Type 0) (r : Result Answer Refusal) : Type 0 where
   pub first : ℤ
   pub second : ℤ
@@ -56,7 +56,7 @@ pub record AnswersThree (P : ℤ → ℤ → ℤ → Type 0) (r : Result Answer 
   pub is : r ≡ Ok (Three first second third)
   pub meets : P first second third
 
--- answered by whether it is so
+-- the answer is whether the condition holds
 pub record AnswersWhether (P : Type 0) (r : Result Answer Refusal) : Type 0 where
   pub truth : Bool
   pub is : r ≡ Ok (Truth truth)
@@ -66,7 +66,7 @@ pub record AnswersWhether (P : Type 0) (r : Result Answer Refusal) : Type 0 wher
 abbrev pub NeedsDivisor : ℤ → (Result Answer Refusal → Type 0) → Result Answer Refusal → Type 0
 NeedsDivisor d = Needs (d ≢ pos 0) ZeroDivisor
 
--- refused unless the number that stands in the relation fits
+-- refused unless each number with the property fits
 abbrev pub NeedsFitting : (ℤ → Type 0) → (ℤ → Type 0) → (Result Answer Refusal → Type 0) → Result Answer Refusal → Type 0
 NeedsFitting fits P = Needs (EachFits fits P) NotFitting
 
@@ -79,7 +79,7 @@ pub record AreGcdAndLcm (a b g l : ℤ) : Type 0 where
 abbrev pub HasRoot : ℤ → ℤ → Type 0
 HasRoot x n = unsigned_abs n % 2 ≡ 0 → pos 0 ≤ℤ x
 
--- both counts are from 0 up
+-- no count is negative
 abbrev pub AreCounts : ℤ → ℤ → Type 0
 AreCounts n k = (pos 0 ≤ℤ n) × (pos 0 ≤ℤ k)
 
@@ -87,7 +87,7 @@ AreCounts n k = (pos 0 ≤ℤ n) × (pos 0 ≤ℤ k)
 abbrev pub NeedsInsideI64 : ℤ → ℤ → (Result Answer Refusal → Type 0) → Result Answer Refusal → Type 0
 NeedsInsideI64 a b = Needs (¬ (IsOutsideI64 a b)) NotFitting
 
--- refused so, and else answered by the parts of the exact result
+-- refused where a part lies outside `i64`, else the answer is the parts of the exact result
 abbrev pub AnswersExact : ℤ → ℤ → Result Answer Refusal → Type 0
 AnswersExact a b = NeedsInsideI64 a b (AnswersTwo (IsExact a b))
 
@@ -95,7 +95,7 @@ AnswersExact a b = NeedsInsideI64 a b (AnswersTwo (IsExact a b))
 abbrev pub NeedsFractions : (a b c d : ℤ) → (Result Answer Refusal → Type 0) → Result Answer Refusal → Type 0
 NeedsFractions a b c d rest = NeedsDivisor b (NeedsDivisor d (NeedsInsideI64 a b (NeedsInsideI64 c d rest)))
 
--- the table of calls: what each answers to operands of the type, its refusals in their order
+-- the rows of the calls, at operands of the type: the refusals in their order, then the answer
 unfoldable pub Inside : (ℤ → Type 0) → Call → Result Answer Refusal → Type 0
 Inside fits (DivRem n d) =
     NeedsDivisor d (NeedsFitting fits (IsQuotient IsTruncated n d) (AnswersTwo (IsTruncated n d)))
@@ -147,18 +147,18 @@ abbrev pub AllFit : (ℤ → Type 0) → List ℤ → Type 0
 AllFit fits [] = ⊤
 AllFit fits (n ∷ ns) = fits n × AllFit fits ns
 
--- the operands lie in the type, save a degree, which lies in `u32`, and parts of fractions, which lie in `i64`
+-- the operands lie in the type, a degree lies in `u32`, and parts of fractions lie in `i64`
 abbrev pub OperandsFit : (ℤ → Type 0) → Call → Type 0
 OperandsFit fits (NthRoot x n) = fits x × FitsUnsignedBits 32 n
 OperandsFit fits (RatioAdd a b c d) = AllFit (FitsKind I64) (a ∷ b ∷ c ∷ d ∷ [])
 OperandsFit fits (RatioMul a b c d) = AllFit (FitsKind I64) (a ∷ b ∷ c ∷ d ∷ [])
 OperandsFit fits call = AllFit fits (operands_of call)
 
--- what each call answers in a type: first of all its operands have to lie where they belong
+-- the outcome in a type: the call is refused where an operand lies outside, else by its row
 abbrev pub OutcomeIn : (ℤ → Type 0) → Call → Result Answer Refusal → Type 0
 OutcomeIn fits call = Needs (OperandsFit fits call) OutOfType (Inside fits call)
 
--- the call is made at the kind: sums and products of fractions at `i64` alone
+-- the call is made at the kind: sums and products of fractions only at `i64`
 abbrev pub IsMadeAt : Kind → Call → Type 0
 IsMadeAt kind (RatioAdd a b c d) = kind ≡ I64
 IsMadeAt kind (RatioMul a b c d) = kind ≡ I64

@@ -1,9 +1,9 @@
-//! What can be asked, and what is answered.
+//! The kinds, the calls, the answers and the refusals.
 
 ghost use Rattle.std.specs.Prelude.{◌≡◌};
 ghost use Rattle.intcalc_core.specs.Refusal.{number_of, name_of};
 
-/// The integer type that a call is made at.
+/// The integer type of a call.
 #[derive(Debug, Clone, Copy, PartialEq, Eq)]
 pub enum Kind {
     I8,
@@ -12,8 +12,8 @@ pub enum Kind {
     U64,
 }
 
-/// A call with its operands. An operand outside the kind is refused; a degree, outside `u32`; parts of
-/// fractions, outside `i64`.
+/// A call with its operands. `evaluate` refuses an operand outside the kind, a degree outside `u32`, and
+/// parts of fractions outside `i64`.
 #[derive(Debug, Clone, Copy, PartialEq, Eq)]
 pub enum Call {
     DivRem(i128, i128),
@@ -32,7 +32,7 @@ pub enum Call {
     AverageCeil(i128, i128),
     Sqrt(i128),
     Cbrt(i128),
-    /// The number, and the degree.
+    /// The number and the degree.
     NthRoot(i128, i128),
     Binomial(i128, i128),
     /// The numerator and the denominator of each of two fractions.
@@ -40,7 +40,7 @@ pub enum Call {
     RatioMul(i128, i128, i128, i128),
 }
 
-/// The numbers that a call answers, or whether something is so.
+/// The numbers of an answer, or a truth value.
 #[derive(Debug, Clone, Copy, PartialEq, Eq)]
 pub enum Answer {
     One(i128),
@@ -52,26 +52,26 @@ pub enum Answer {
 /// Why a call has no answer.
 #[derive(Debug, Clone, Copy, PartialEq, Eq)]
 pub enum Refusal {
-    /// An operand other than a degree lies outside the kind, or a degree outside `u32`; or fractions are
-    /// asked for at a kind other than `i64`.
+    /// An operand other than a degree lies outside the kind, a degree lies outside `u32`, or a call on
+    /// fractions is made at a kind other than `i64`.
     OutOfType,
     /// The divisor, or a denominator, is 0.
     ZeroDivisor,
     /// The degree is 0.
     ZeroDegree,
-    /// The number is negative, and the degree even.
+    /// The number is negative, and the degree is even.
     NegativeRoot,
     /// A count is negative.
     NegativeCount,
     /// The quotient, multiple, divisor or coefficient lies outside the kind, or a part of a reduced
-    /// fraction outside `i64`.
+    /// fraction lies outside `i64`.
     NotFitting,
     /// The kind is unsigned, and neither operand divides the other.
     NoPair,
 }
 
 impl Refusal {
-    /// The number that is printed. It is the same in every version.
+    /// Returns the number that is printed, which is the same in every version. `OutOfType` has 1.
     pub fn number(&self) -> u32
         ensures { result ≡ number_of self.now }
     {
@@ -86,7 +86,7 @@ impl Refusal {
         }
     }
 
-    /// The name that is printed.
+    /// Returns the name that is printed. `OutOfType` has `"OutOfType"`.
     pub fn name(&self) -> &'static str
         ensures { result.now ≡ name_of self.now }
     {

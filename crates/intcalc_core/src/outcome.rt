@@ -1,4 +1,4 @@
-//! What a call answers at a kind.
+//! The outcome of a call at a kind.
 
 ghost use Rattle.std.specs.Prelude.{◌↔◌, IsTrue};
 ghost use Rattle.intcalc_core.specs.Outcome.{IsMadeAt, Narrows, Outcome, OutcomeIn};
@@ -11,8 +11,8 @@ use crate::calls::{Answer, Call, Kind, Refusal};
 use operand::{Operand, narrow, needs};
 use std::num::TryFromIntError;
 
-/// What the call answers at the kind, or why it is refused. At `Kind::I64` the call
-/// `Call::DivModFloor(-8, 3)` is answered `Answer::Two(-3, 1)`.
+/// Returns the answer of the call at the kind, or why it is refused.
+/// `evaluate(Kind::I64, Call::DivModFloor(-8, 3))` is `Ok(Answer::Two(-3, 1))`.
 pub fn evaluate(kind: Kind, call: Call) -> Result<Answer, Refusal>
     ensures { Outcome kind call result }
 {
@@ -25,7 +25,7 @@ pub fn evaluate(kind: Kind, call: Call) -> Result<Answer, Refusal>
     }
 }
 
-/// Whether the call is made at the kind.
+/// Returns `true` if the call is made at the kind.
 fn is_made_at(kind: Kind, call: &Call) -> bool
     ensures { IsTrue result ↔ IsMadeAt kind call.now }
 {

@@ -29,7 +29,7 @@ zero_divides h = omega (arith, products)
 pub Divides-minus_one : (v : ℤ) → Divides (negsuc 0) v
 Divides-minus_one v = record { factor = neg_ℤ v; product = omega (arith, products) }
 
--- two numbers from 0 up that divide each other
+-- two numbers at least 0 that divide each other
 pub Divides-antisym : {u v : ℤ} → pos 0 ≤ℤ u → pos 0 ≤ℤ v → Divides u v → Divides v u → u ≡ v
 Divides-antisym up up' h k = let same = dvd_antisymm (to_natural h) (to_natural k) in omega (arith, sizes)
 

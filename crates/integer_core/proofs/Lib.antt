@@ -10,6 +10,7 @@ pub mod NaturalGcd
 pub mod OddParts
 pub mod ExchangedPairs
 pub mod SteinSteps
+pub mod OddLoops
 pub mod SharedBits
 pub mod EuclidTurns
 pub mod GcdTurns

@@ -48,7 +48,7 @@ odd_divisor d n h odd = elim (cases_lt 0 (d % 2)) [
   | inr none ↦ let even : d % 2 ≡ 0 = omega arith in absurd (omega (arith, mod-eq-zero_of_dvd 2 (dvd_trans 2 (dvd_of_mod-eq-zero 2 even) h)))
 ]
 
--- factors of two on one side do not matter beside an odd number
+-- factors of two on one side do not matter where the other is odd
 pub gcd_strip : {m n g : ℕ} (k : ℕ) → n % 2 ≡ 1 → IsGcd m n g → IsGcd (m * 2 ^ k) n g
 gcd_strip {m} {n} {g} k odd h = (dvd-mul_right_of_dvd g h.0 (2 ^ k), h.1, λ d p q. h.2 d (odd_divides d m k (odd_divisor d n q odd) p) q)
 

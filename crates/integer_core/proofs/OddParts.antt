@@ -25,7 +25,7 @@ unfolding count_trailing_zeros
 shift_back zero n = mul-one (n / 1) ∙ div-one n
 shift_back (suc k) n = back_under n (n % 2) (count_trailing_zeros k (n / 2)) refl (shift_back k (n / 2))
 
--- at an even number at least one factor comes out
+-- an even number has at least one factor 2
 times_half : (n m k : ℕ) → m % 2 ≡ 1 → n ≡ m * 2 ^ k → n % 2 ≡ 0 → 2 * m ≤ n
 times_half n m zero odd product even = absurd (omega arith)
 times_half n m (suc k) odd product even =

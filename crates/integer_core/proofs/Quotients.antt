@@ -80,7 +80,7 @@ pub remainder_within : (n d : ℤ) → LiesWithin n (int_rem n d)
 remainder_within (pos a) d = grind (arith, ints, mod-le a (unsigned_abs d))
 remainder_within (negsuc a) d = grind (arith, ints, mod-le (suc a) (unsigned_abs d))
 
--- what `/` and `%` give
+-- what `/` and `%` return
 pub truncated_is : (n d : ℤ) → d ≢ pos 0 → IsTruncated n d (int_div n d) (int_rem n d)
 truncated_is n d nonzero =
     let within = remainder_within n d in
@@ -133,7 +133,7 @@ module _ {fits : ℤ → Type 0} {low high n d : ℤ} (range : IsRange fits low 
     | inr far ↦ far_quotient_fits (omega (arith, sizes)) division
   ]
 
-  -- so a quotient fits that does so where it is exact
+  -- so a quotient fits where the exact quotient does
   exact_or_fits : {q r : ℤ} → IsDivision n d q r → (r ≡ pos 0 → fits q) → fits q
   exact_or_fits {r = r} division where_exact = elim (zero_or_not r) [ inl exact ↦ where_exact exact | inr inexact ↦ inexact_quotient_fits division inexact ]
 

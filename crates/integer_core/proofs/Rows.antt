@@ -1,4 +1,4 @@
--- The rows of the extended Euclidean algorithm, as far as its loop has come.
+-- The rows of the extended Euclidean algorithm, after some turns of its loop.
 use Rattle.std.specs.Prelude.{◌≡◌, ◌≢◌, ◌⊎◌, ◌<◌, ◌≤◌, ◌+◌, ◌+ℤ◌, ◌-ℤ◌, ◌*ℤ◌, ℤ, ℕ, pos, zero, suc, unsigned_abs}
 use Rattle.std.proofs.Common.{arith, refl, inl, inr}
 use Rattle.std.proofs.lemmas.Int.{ints}
@@ -99,7 +99,7 @@ pub record LastRows (a b : ℤ) : Type 0 where
   pub rows : Rows a b current previous turns
   pub ends : Divides current.remainder previous.remainder
 
--- it comes to an end, after t turns or more
+-- it ends, after t turns or more
 pub last_rows : {a b : ℤ} {current previous : Row} {t : ℕ} → Rows a b current previous t → (last : LastRows a b) × (t ≤ last.turns)
 last_rows {a} {b} {current} h = below (unsigned_abs current.remainder) h (omega arith)
   where

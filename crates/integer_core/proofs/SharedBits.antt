@@ -1,4 +1,4 @@
--- The last bits that two numbers share: so many factors 2 has their difference.
+-- The last bits that two numbers share: their difference has as many factors 2.
 use Rattle.std.specs.Prelude.{bit_xor}
 use Rattle.std.proofs.Common.{◌≡◌, ℕ, ◌+◌, ◌-◌, ◌*◌, ◌/◌, ◌%◌, ◌^◌, ◌<◌, ◌≤◌, inl, inr, sym, ◌∙◌, ap, arith, pow_pos, mul-le-mul_right}
 use Rattle.std.specs.Int.{Width, trailing_zeros}

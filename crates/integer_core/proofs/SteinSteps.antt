@@ -39,7 +39,7 @@ stripped w n k positive fits e twos is =
       product = sym (shift_back (bits w) n);
     })
 
--- numbers from 0 up by their sizes
+-- numbers at least 0, by their sizes
 pub size_of_difference : {x y : ℤ} → pos 0 ≤ℤ x → pos 0 ≤ℤ y → unsigned_abs y < unsigned_abs x → unsigned_abs (x -ℤ y) ≡ unsigned_abs x - unsigned_abs y
 size_of_difference x_up y_up less = omega (arith, linear, abs_is)
 

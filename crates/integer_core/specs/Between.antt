@@ -14,7 +14,7 @@ Between low high z = (low ≤ℤ z) × (z ≤ℤ high)
 pub between_law : (low high x y z : ℤ) → Between low high x → Between low high z → x ≤ℤ y → y ≤ℤ z → Between low high y
 between_law low high x y z f g h k = omega (arith, ints)
 
--- a number of the range less one from 0 up to it is in the range
+-- a number of the range, less a number at least 0 and at most itself, is in the range
 pub sub_fits_law : (low high x y : ℤ) → low ≤ℤ pos 0 → Between low high x → pos 0 ≤ℤ y → y ≤ℤ x → Between low high (x -ℤ y)
 sub_fits_law low high x y from f h k = omega (arith, ints)
 

@@ -23,7 +23,7 @@ pub record NeedsBoth (a b : ℤ) : Type 0 where
   pub not_second : ¬ (SecondDividesFirst a b)
   pub not_first : ¬ (FirstDividesSecond a b)
 
--- a pair for g that is small beside the operands
+-- a pair for g that is small relative to the operands
 pub record IsSmallPair (a b g x y : ℤ) : Type 0 where
   pub equation : x *ℤ a +ℤ y *ℤ b ≡ g
   pub x_small : 2 * unsigned_abs x * unsigned_abs g ≤ unsigned_abs b
@@ -50,7 +50,7 @@ pub record Remainders : Type 0 where
 abbrev pub EuclidEnds : Remainders → Type 0
 EuclidEnds s = Divides s.current s.previous
 
--- a turn with the truncated quotient q of previous by current goes on to previous - q·current
+-- a turn goes on to previous - q·current, with the truncated quotient q of previous by current
 pub record IsEuclidTurn (s t : Remainders) : Type 0 where
   pub goes_on : ¬ (EuclidEnds s)
   pub quotient : ℤ
@@ -58,7 +58,7 @@ pub record IsEuclidTurn (s t : Remainders) : Type 0 where
   pub current : t.current ≡ s.previous -ℤ quotient *ℤ s.current
   pub previous : t.previous ≡ s.current
 
--- how many turns the loop makes from b and a: none where b is 0
+-- the number of turns that the loop makes from b and a: none where b is 0
 pub record AreEuclidTurns (a b : ℤ) (n : ℕ) : Type 0 where
   pub of_zero : b ≡ pos 0 → n ≡ 0
   pub of_nonzero : b ≢ pos 0 → Makes IsEuclidTurn EuclidEnds (record { current = b; previous = a }) n

@@ -10,20 +10,20 @@ pub record Divides (u v : ℤ) : Type 0 where
 abbrev pub IsEven : ℤ → Type 0
 IsEven v = Divides (pos 2) v
 
--- the common divisor from 0 up that each common divisor divides
+-- the common divisor, at least 0, that each common divisor divides
 pub record IsGreatestCommonDivisor (a b g : ℤ) : Type 0 where
   pub from_zero : pos 0 ≤ℤ g
   pub divides_left : Divides g a
   pub divides_right : Divides g b
   pub greatest : (d : ℤ) → Divides d a → Divides d b → Divides d g
 
--- the common multiple from 0 up that divides each common multiple
+-- the common multiple, at least 0, that divides each common multiple
 pub record IsLeastCommonMultiple (a b l : ℤ) : Type 0 where
   pub from_zero : pos 0 ≤ℤ l
   pub left_divides : Divides a l
   pub right_divides : Divides b l
   pub least : (m : ℤ) → Divides a m → Divides b m → Divides l m
 
--- the gcd fits: a type without negatives, which has no -1, has that of any two of its numbers
+-- the gcd fits; a type without negatives, which has no -1, has the gcd of any two of its numbers
 abbrev pub GcdFits : (ℤ → Type 0) → ℤ → ℤ → Type 0
 GcdFits fits a b = fits (negsuc 0) → EachFits fits (IsGreatestCommonDivisor a b)

@@ -17,13 +17,13 @@ pub record OddPair : Type 0 where
 abbrev pub GcdEnds : OddPair → Type 0
 GcdEnds s = s.m ≡ s.n
 
--- m above n is replaced by their difference with all factors 2 taken out
+-- m is above n, and becomes their difference with all factors 2 taken out
 pub record IsLeftTurn (s t : OddPair) : Type 0 where
   pub above : s.n < s.m
   pub m : IsOddPart (s.m - s.n) t.m
   pub n : t.n ≡ s.n
 
--- and n above m likewise
+-- n is above m, and becomes their difference with all factors 2 taken out
 pub record IsRightTurn (s t : OddPair) : Type 0 where
   pub above : s.m < s.n
   pub m : t.m ≡ s.m
@@ -37,7 +37,7 @@ IsGcdTurn s t = IsLeftTurn s t ⊎ IsRightTurn s t
 abbrev pub exchanged : OddPair → OddPair
 exchanged s = record { m = s.n; n = s.m }
 
--- a turn after which the number that it kept is n, at whichever place it was
+-- a turn after which n is the number that it kept
 abbrev pub IsOrderedTurn : OddPair → OddPair → Type 0
 IsOrderedTurn s t = IsLeftTurn s t ⊎ IsLeftTurn (exchanged s) t
 

@@ -13,10 +13,10 @@ use mir.Val.{hbits}
 pub record IsNative (w : Width) (number : ℕ → ℤ) (fits : ℤ → Type 0) (low high : ℤ) (wide : ℤ → Type 0) : Type 0 where
   pub range : IsRange fits low high
   pub magnitude : (z : ℤ) → fits z → wide (pos (unsigned_abs z))
-  -- with negative numbers, the type of magnitudes has twice as many numbers from 0 up
+  -- where the type has negative numbers, the type of magnitudes has twice as many numbers at least 0
   pub twice : (pos 0 ≤ℤ low) ⊎ wide (pos (2 * unsigned_abs high))
   pub complement : IsTwosComplement w number
-  -- and its least number is minus a power of two
+  -- its least number is 0 or minus a power of two
   pub least : (low ≡ pos 0) ⊎ IsPowerOfTwo (unsigned_abs low)
 
 half_fits : (w : Width) → (2 ^ hbits w ≤ 2 ^ 127) × (2 ≤ 2 ^ hbits w)
@@ -26,7 +26,7 @@ half_fits w32 = (lit≤ tt, lit≤ tt)
 half_fits w64 = (lit≤ tt, lit≤ tt)
 half_fits w128 = (lit≤ tt, lit≤ tt)
 
--- a range of which the greatest number is one below n
+-- a range whose greatest number is one below n
 range_below : {fits : ℤ → Type 0} {low : ℤ} (n : ℕ) → ((z : ℤ) → fits z ↔ ((low ≤ℤ z) × (z ≤ℤ pos (n - 1)))) → 2 ≤ n → n ≤ 2 ^ 128
     → (low ≡ pos 0) ⊎ ((low ≡ negsuc (n - 1)) × (n ≤ 2 ^ 127)) → IsRange fits low (pos (n - 1))
 range_below n between some most low_is = record {

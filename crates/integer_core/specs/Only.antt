@@ -1,6 +1,6 @@
--- What there is one of.
+-- Uniqueness.
 use Rattle.std.specs.Prelude.{◌≡◌}
 
--- x alone has the property: whatever has it is x
+-- x is the only one with the property
 abbrev pub IsOnly : {A : Type 0} → (A → Type 0) → A → Type 0
 IsOnly {A} P x = (y : A) → P y → y ≡ x

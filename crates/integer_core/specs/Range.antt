@@ -9,6 +9,6 @@ pub record IsRange (fits : ℤ → Type 0) (low high : ℤ) : Type 0 where
   pub bounded : high <ℤ pos (2 ^ 128)
   pub bounded_below : (pos 0 ≤ℤ low) ⊎ (high <ℤ pos (2 ^ 127))
 
--- each number that stands in the relation fits
+-- each number with the property fits
 abbrev pub EachFits : (ℤ → Type 0) → (ℤ → Type 0) → Type 0
 EachFits fits P = (z : ℤ) → P z → fits z

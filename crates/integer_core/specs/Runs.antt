@@ -1,4 +1,4 @@
--- The runs of a loop: lists of states, each the turn of the one before, to a state that no turn follows.
+-- The runs of a loop: lists of states. Each state is a turn of the one before, and no turn follows the last.
 use Rattle.std.specs.Prelude.{◌≡◌, ℕ, List, [], ◌∷◌, length}
 
 abbrev pub IsRun : {S : Type 0} → (S → S → Type 0) → (S → Type 0) → List S → Type 0

@@ -14,7 +14,7 @@ pub record IsTwosComplement (w : Width) (number : ℕ → ℤ) : Type 0 where
   pub weight : ℕ
   pub is : (n : ℕ) → n < 2 ^ bit_len w → number n ≡ (pos n -ℤ pos (weight * bit_at n (hbits w)))
 
--- one bit more is twice as many numbers
+-- one more bit doubles the numbers
 pub doubled : (w : Width) → (2 ^ bit_len w ≡ 2 * 2 ^ hbits w) × (2 ^ bits w ≡ 2 * 2 ^ hbits w)
 doubled w8 = (refl, refl)
 doubled w16 = (refl, refl)
@@ -36,10 +36,10 @@ signed_number w n small = elim (cases_lt n (2 ^ hbits w)) [
       rw (below, top) (omega (arith, ints, doubled w))
 ]
 
--- the highest bit of a signed type weighs as much as all its bits together and 1 more
+-- the highest bit of a signed type weighs 1 more than all its bits together
 pub signed_complement : (w : Width) → IsTwosComplement w (cast_signed w)
 signed_complement w = record { weight = 2 ^ bit_len w; is = signed_number w }
 
--- and that of an unsigned type nothing
+-- the highest bit of an unsigned type weighs nothing more
 pub unsigned_complement : (w : Width) → IsTwosComplement w (λ n. pos n)
 unsigned_complement w = record { weight = 0; is = λ n small. omega (arith, ints) }

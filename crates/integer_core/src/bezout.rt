@@ -1,5 +1,5 @@
 //! The extended Euclidean algorithm (Knuth, The Art of Computer Programming, volume 2, section
-//! 4.5.2, algorithm X), which stops one row earlier.
+//! 4.5.2, algorithm X). The loop here stops one row earlier.
 
 ghost use Rattle.std.specs.Prelude.{◌≡◌, ◌≢◌, ◌≤◌, ◌+◌, ◌*◌, ◌*ℤ◌, pos, unsigned_abs};
 ghost use Rattle.integer_core.specs.Bezout.{AreEuclidTurns, EuclidEnds, HasPair, IsBezoutAnswer, IsEuclidTurn, IsSmallPair, NeedsBoth, sign};
@@ -12,11 +12,14 @@ use crate::Integer;
 use crate::operators::{difference, is_negative, is_zero, negated, one, product, zero};
 
 /// A greatest common divisor with Bezout's coefficients: the first operand times `x` and the
-/// second times `y` add up to `gcd`.
+/// second times `y` add up to `gcd`. For 240 and 46, `gcd` is 2, `x` is -9 and `y` is 47.
 #[derive(Debug, Clone, Copy, PartialEq, Eq)]
 pub struct ExtendedGcd<A> {
+    /// The greatest common divisor. For 240 and 46 it is 2.
     pub gcd: A,
+    /// The coefficient of the first operand. For 240 and 46 it is -9.
     pub x: A,
+    /// The coefficient of the second operand. For 240 and 46 it is 47.
     pub y: A,
 }
 
@@ -43,7 +46,7 @@ impl<T: Integer> Row<T> {
         }
     }
 
-    /// The row as an answer: where the remainder is negative, all three numbers are negated.
+    /// Returns the row as a result. Where the remainder is negative, it negates all three numbers.
     fn normalized(self) -> ExtendedGcd<T>
         requires gcd_fits { T.fits (sign (T.value self.remainder) *ℤ T.value self.remainder) }
         requires x_fits { T.fits (sign (T.value self.remainder) *ℤ T.value self.x) }
@@ -71,8 +74,8 @@ impl<T: Integer> Row<T> {
     }
 }
 
-/// The row whose remainder is the greatest common divisor up to its sign, and how many turns led
-/// to it. The row of remainder 0 is never made: its coefficients need not fit.
+/// Returns the row whose remainder is the greatest common divisor up to its sign, and the turns that
+/// lead to it. The loop never makes the row of remainder 0, whose coefficients need not fit.
 fn last_row<T: Integer>(a: T, b: T) -> (Row<T>, u32)
     requires a_in_range { T.fits (T.value a) }
     requires b_in_range { T.fits (T.value b) }
@@ -109,8 +112,10 @@ fn last_row<T: Integer>(a: T, b: T) -> (Row<T>, u32)
     (current, turns)
 }
 
-/// [`Integer::extended_gcd`], and how many turns its loop made. `extended_gcd_counted(8, 13)` is
+/// Returns [`Integer::extended_gcd`] and the turns of its loop. `extended_gcd_counted(8, 13)` is
 /// gcd 1, x 5, y -3, in 5 turns. The bound on the turns is Lamé's (1844); 8 and 13 reach it.
+///
+/// May be called where [`Integer::extended_gcd`] may.
 pub fn extended_gcd_counted<T: Integer>(a: T, b: T) -> (ExtendedGcd<T>, u32)
     requires a_in_range { T.fits (T.value a) }
     requires b_in_range { T.fits (T.value b) }

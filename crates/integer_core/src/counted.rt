@@ -1,4 +1,4 @@
-//! Calls that say how many turns their loop made, beside the answer of the plain call.
+//! Calls that return the result of the plain call and the number of turns of its loop.
 
 ghost use Rattle.std.specs.Prelude.{◌+◌, ◌≤◌, ℕ};
 ghost use Rattle.integer_core.specs.Divisors.{GcdFits, IsGreatestCommonDivisor};
@@ -7,10 +7,13 @@ ghost use Rattle.integer_core.specs.GcdRuns.{AreGcdTurns, IsBitLength};
 use crate::Integer;
 pub use crate::bezout::extended_gcd_counted;
 
-/// A greatest common divisor by Stein's binary method, and how often its loop turns.
+/// A greatest common divisor by Stein's binary method, with the turns of its loop.
 pub trait GcdCounted: Integer {
-    /// [`Integer::gcd`], and the turns: at most the bit lengths of both added. An operand that is 0
-    /// or the least number of its type makes none. `56i64.gcd_counted(&42)` is `(14, 1)`.
+    /// Returns [`Integer::gcd`] and the turns, which are at most the bit lengths of both added. The
+    /// loop makes no turn where an operand is 0 or the least number of its type.
+    /// `56i64.gcd_counted(&42)` is `(14, 1)`.
+    ///
+    /// May be called where `Fits::gcd_fits` is true.
     fn gcd_counted(&self, other: &Self) -> (Self, u32)
         requires self_in_range { Self.fits (Self.value self.now) }
         requires other_in_range { Self.fits (Self.value other.now) }

@@ -7,7 +7,7 @@ ghost use Rattle.integer_core.specs.Range.{EachFits};
 use crate::native::Native;
 use crate::operators::{is_negative, is_zero, predecessor, quotient, remainder, sum, zero};
 
-/// The quotient rounded toward zero, and its remainder.
+/// Returns the quotient rounded toward zero, and its remainder.
 pub(crate) fn div_rem<T: Native>(n: T, d: T) -> (T, T)
     requires n_in_range { T.fits (T.value n) }
     requires d_in_range { T.fits (T.value d) }
@@ -19,7 +19,7 @@ pub(crate) fn div_rem<T: Native>(n: T, d: T) -> (T, T)
     (quotient(n, d), remainder(n, d))
 }
 
-/// The quotient rounded down, and its remainder.
+/// Returns the quotient rounded down, and its remainder.
 pub(crate) fn div_mod_floor<T: Native>(n: T, d: T) -> (T, T)
     requires n_in_range { T.fits (T.value n) }
     requires d_in_range { T.fits (T.value d) }
@@ -36,7 +36,7 @@ pub(crate) fn div_mod_floor<T: Native>(n: T, d: T) -> (T, T)
     }
 }
 
-/// The remainder of the quotient rounded down, also where that quotient does not fit.
+/// Returns the remainder of the quotient rounded down. The quotient need not fit.
 pub(crate) fn mod_floor<T: Native>(n: T, d: T) -> T
     requires n_in_range { T.fits (T.value n) }
     requires d_in_range { T.fits (T.value d) }

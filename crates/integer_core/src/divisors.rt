@@ -8,7 +8,7 @@ use crate::native::Native;
 use crate::operators::{is_zero, one, product, quotient, remainder, sum, zero};
 use crate::stein::{binary_gcd, positive_gcd};
 
-/// Whether `d` divides `n`.
+/// Returns `true` if `d` divides `n`.
 pub(crate) fn is_multiple_of<T: Native>(n: T, d: T) -> bool
     requires n_in_range { T.fits (T.value n) }
     requires d_in_range { T.fits (T.value d) }
@@ -23,7 +23,7 @@ pub(crate) fn is_multiple_of<T: Native>(n: T, d: T) -> bool
     }
 }
 
-/// Whether 2 divides `n`.
+/// Returns `true` if 2 divides `n`.
 pub(crate) fn is_even<T: Native>(n: T) -> bool
     requires { T.fits (T.value n) }
     ensures { IsTrue result ↔ IsEven (T.value n) }
@@ -31,7 +31,7 @@ pub(crate) fn is_even<T: Native>(n: T) -> bool
     is_multiple_of(n, sum(one(), one()))
 }
 
-/// The greatest common divisor.
+/// Returns the greatest common divisor.
 pub(crate) fn gcd<T: Native>(a: T, b: T) -> T
     requires a_in_range { T.fits (T.value a) }
     requires b_in_range { T.fits (T.value b) }
@@ -42,7 +42,7 @@ pub(crate) fn gcd<T: Native>(a: T, b: T) -> T
     binary_gcd(a, b).0
 }
 
-/// The least common multiple.
+/// Returns the least common multiple.
 pub(crate) fn lcm<T: Native>(a: T, b: T) -> T
     requires a_in_range { T.fits (T.value a) }
     requires b_in_range { T.fits (T.value b) }

@@ -22,17 +22,18 @@ pub use native_integer::NativeInteger;
 use num_traits::{Num, Signed};
 use operators::{difference, is_zero, predecessor, successor, sum};
 
-/// A type of whole numbers. A contract sees a value `x` as the number `value x`, and a number that
-/// the type has as one that `fits`.
+/// A type of whole numbers. A contract writes `value x` for the number that the value `x` means, and
+/// `fits z` where the type has the number `z`.
 pub trait Integer: Copy + Num + PartialOrd + Ord + Eq {
     // The least and the greatest number of the type.
     ghost low: { ℤ };
 
     ghost high: { ℤ };
 
-    /// The quotient rounded toward zero, and its remainder. `(-8).div_rem(&3)` is `(-2, -2)`.
+    /// Returns the quotient rounded toward zero, and its remainder. `(-8).div_rem(&3)` is
+    /// `(-2, -2)`.
     ///
-    /// `Fits::quotient_fits` tells whether it may be called.
+    /// May be called where `Fits::quotient_fits` is true.
     fn div_rem(&self, other: &Self) -> (Self, Self)
         requires self_in_range { Self.fits (Self.value self.now) }
         requires other_in_range { Self.fits (Self.value other.now) }
@@ -43,9 +44,9 @@ pub trait Integer: Copy + Num + PartialOrd + Ord + Eq {
         ensures truncated { IsTruncated (Self.value self.now) (Self.value other.now)
             (Self.value result.0) (Self.value result.1) };
 
-    /// The quotient rounded down. `(-8).div_floor(&3)` is `-3`.
+    /// Returns the quotient rounded down. `(-8).div_floor(&3)` is `-3`.
     ///
-    /// `Fits::quotient_fits` tells whether it may be called.
+    /// May be called where `Fits::quotient_fits` is true.
     fn div_floor(&self, other: &Self) -> Self
         requires self_in_range { Self.fits (Self.value self.now) }
         requires other_in_range { Self.fits (Self.value other.now) }
@@ -56,8 +57,10 @@ pub trait Integer: Copy + Num + PartialOrd + Ord + Eq {
         ensures floored { IsQuotient IsFloored (Self.value self.now) (Self.value other.now)
             (Self.value result) };
 
-    /// The remainder of the quotient rounded down, which has the sign of `other`.
-    /// `(-8).mod_floor(&3)` is `1`. It may be called where `other` is not 0.
+    /// Returns the remainder of the quotient rounded down, which is 0 or has the sign of `other`.
+    /// `(-8).mod_floor(&3)` is `1`.
+    ///
+    /// May be called where `other` is not 0.
     fn mod_floor(&self, other: &Self) -> Self
         requires self_in_range { Self.fits (Self.value self.now) }
         requires other_in_range { Self.fits (Self.value other.now) }
@@ -66,9 +69,9 @@ pub trait Integer: Copy + Num + PartialOrd + Ord + Eq {
         ensures floored { IsRemainder IsFloored (Self.value self.now) (Self.value other.now)
             (Self.value result) };
 
-    /// The quotient rounded down, and its remainder. `(-8).div_mod_floor(&3)` is `(-3, 1)`.
+    /// Returns the quotient rounded down, and its remainder. `(-8).div_mod_floor(&3)` is `(-3, 1)`.
     ///
-    /// `Fits::quotient_fits` tells whether it may be called.
+    /// May be called where `Fits::quotient_fits` is true.
     fn div_mod_floor(&self, other: &Self) -> (Self, Self)
         requires self_in_range { Self.fits (Self.value self.now) }
         requires other_in_range { Self.fits (Self.value other.now) }
@@ -82,9 +85,9 @@ pub trait Integer: Copy + Num + PartialOrd + Ord + Eq {
         (self.div_floor(other), self.mod_floor(other))
     }
 
-    /// The quotient rounded up. `8.div_ceil(&3)` is `3`.
+    /// Returns the quotient rounded up. `8.div_ceil(&3)` is `3`.
     ///
-    /// `Fits::quotient_fits` tells whether it may be called.
+    /// May be called where `Fits::quotient_fits` is true.
     fn div_ceil(&self, other: &Self) -> Self
         requires self_in_range { Self.fits (Self.value self.now) }
         requires other_in_range { Self.fits (Self.value other.now) }
@@ -99,10 +102,10 @@ pub trait Integer: Copy + Num + PartialOrd + Ord + Eq {
         if is_zero(r) { q } else { successor(q) }
     }
 
-    /// The quotient rounded up, times `other`. `23.next_multiple_of(&8)` is `24`, and
+    /// Returns the quotient rounded up, times `other`. `23.next_multiple_of(&8)` is `24`, and
     /// `23.next_multiple_of(&-8)` is `16`.
     ///
-    /// `Fits::next_multiple_fits` tells whether it may be called.
+    /// May be called where `Fits::next_multiple_fits` is true.
     fn next_multiple_of(&self, other: &Self) -> Self
         requires self_in_range { Self.fits (Self.value self.now) }
         requires other_in_range { Self.fits (Self.value other.now) }
@@ -121,10 +124,10 @@ pub trait Integer: Copy + Num + PartialOrd + Ord + Eq {
         }
     }
 
-    /// The quotient rounded down, times `other`. `23.prev_multiple_of(&8)` is `16`, and
+    /// Returns the quotient rounded down, times `other`. `23.prev_multiple_of(&8)` is `16`, and
     /// `23.prev_multiple_of(&-8)` is `24`.
     ///
-    /// `Fits::prev_multiple_fits` tells whether it may be called.
+    /// May be called where `Fits::prev_multiple_fits` is true.
     fn prev_multiple_of(&self, other: &Self) -> Self
         requires self_in_range { Self.fits (Self.value self.now) }
         requires other_in_range { Self.fits (Self.value other.now) }
@@ -138,14 +141,15 @@ pub trait Integer: Copy + Num + PartialOrd + Ord + Eq {
         difference(*self, self.mod_floor(other))
     }
 
-    /// Whether `other` divides `self`. `9.is_multiple_of(&3)` is `true`; of 0 only 0 is a multiple.
+    /// Returns `true` if `other` divides `self`. `9.is_multiple_of(&3)` is `true`. Zero divides only
+    /// zero.
     fn is_multiple_of(&self, other: &Self) -> bool
         requires self_in_range { Self.fits (Self.value self.now) }
         requires other_in_range { Self.fits (Self.value other.now) }
         ensures { IsTrue result ↔ Divides (Self.value other.now) (Self.value self.now) };
 
-    /// Deprecated: whether `other` divides `self`, as [`Integer::is_multiple_of`] says.
-    /// `9.divides(&3)` is `true`.
+    /// Deprecated: use [`Integer::is_multiple_of`], which returns the same. `9.divides(&3)` is
+    /// `true`.
     fn divides(&self, other: &Self) -> bool
         requires self_in_range { Self.fits (Self.value self.now) }
         requires other_in_range { Self.fits (Self.value other.now) }
@@ -154,18 +158,20 @@ pub trait Integer: Copy + Num + PartialOrd + Ord + Eq {
         self.is_multiple_of(other)
     }
 
-    /// Whether the number is even. `4.is_even()` is `true`.
+    /// Returns `true` if the number is even. `4.is_even()` is `true`.
     fn is_even(&self) -> bool
         requires { Self.fits (Self.value self.now) }
         ensures { IsTrue result ↔ IsEven (Self.value self.now) };
 
-    /// Whether the number is odd. `3.is_odd()` is `true`.
+    /// Returns `true` if the number is odd. `3.is_odd()` is `true`.
     fn is_odd(&self) -> bool
         requires { Self.fits (Self.value self.now) }
         ensures { IsTrue result ↔ ¬ (IsEven (Self.value self.now)) };
 
-    /// Adds one. It may be called below the greatest number of the type; `checked::inc` of
-    /// `num_integer` has no condition.
+    /// Adds one. `x.inc()` turns an `x` of `41` into `42`.
+    ///
+    /// May be called below the greatest number of the type. `checked::inc` of `num_integer` has no
+    /// condition.
     fn inc(&mut self)
         requires in_range { Self.fits (Self.value self.old) }
         requires sum_fits { Self.fits (Self.value self.old +ℤ pos 1) }
@@ -175,8 +181,10 @@ pub trait Integer: Copy + Num + PartialOrd + Ord + Eq {
         *self = successor(*self);
     }
 
-    /// Subtracts one. It may be called above the least number of the type; `checked::dec` of
-    /// `num_integer` has no condition.
+    /// Subtracts one. `x.dec()` turns an `x` of `43` into `42`.
+    ///
+    /// May be called above the least number of the type. `checked::dec` of `num_integer` has no
+    /// condition.
     fn dec(&mut self)
         requires in_range { Self.fits (Self.value self.old) }
         requires difference_fits { Self.fits (Self.value self.old -ℤ pos 1) }
@@ -186,10 +194,10 @@ pub trait Integer: Copy + Num + PartialOrd + Ord + Eq {
         *self = predecessor(*self);
     }
 
-    /// The greatest common divisor, which is never negative. `56.gcd(&42)` is `14`, and `0.gcd(&0)`
-    /// is `0`.
+    /// Returns the greatest common divisor, which is never negative. `56.gcd(&42)` is `14`, and
+    /// `0.gcd(&0)` is `0`.
     ///
-    /// `Fits::gcd_fits` tells whether it may be called.
+    /// May be called where `Fits::gcd_fits` is true.
     fn gcd(&self, other: &Self) -> Self
         requires self_in_range { Self.fits (Self.value self.now) }
         requires other_in_range { Self.fits (Self.value other.now) }
@@ -198,10 +206,10 @@ pub trait Integer: Copy + Num + PartialOrd + Ord + Eq {
         ensures greatest { IsGreatestCommonDivisor (Self.value self.now) (Self.value other.now)
             (Self.value result) };
 
-    /// The least common multiple, which is never negative. `7.lcm(&3)` is `21`, and it is `0` where
-    /// an operand is `0`.
+    /// Returns the least common multiple, which is never negative. `7.lcm(&3)` is `21`, and
+    /// `7.lcm(&0)` is `0`.
     ///
-    /// `Fits::lcm_fits` tells whether it may be called.
+    /// May be called where `Fits::lcm_fits` is true.
     fn lcm(&self, other: &Self) -> Self
         requires self_in_range { Self.fits (Self.value self.now) }
         requires other_in_range { Self.fits (Self.value other.now) }
@@ -211,9 +219,10 @@ pub trait Integer: Copy + Num + PartialOrd + Ord + Eq {
         ensures least { IsLeastCommonMultiple (Self.value self.now) (Self.value other.now)
             (Self.value result) };
 
-    /// The greatest common divisor and the least common multiple. `10.gcd_lcm(&4)` is `(2, 20)`.
+    /// Returns the greatest common divisor and the least common multiple. `10.gcd_lcm(&4)` is
+    /// `(2, 20)`.
     ///
-    /// `Fits::gcd_fits` and `Fits::lcm_fits` tell whether it may be called.
+    /// May be called where `Fits::gcd_fits` and `Fits::lcm_fits` are true.
     fn gcd_lcm(&self, other: &Self) -> (Self, Self)
         requires self_in_range { Self.fits (Self.value self.now) }
         requires other_in_range { Self.fits (Self.value other.now) }
@@ -229,12 +238,12 @@ pub trait Integer: Copy + Num + PartialOrd + Ord + Eq {
         (self.gcd(other), self.lcm(other))
     }
 
-    /// The greatest common divisor `gcd`, and Bezout's coefficients `x` and `y`: over the whole
-    /// numbers, `self` times `x` and `other` times `y` add up to `gcd`. `240.extended_gcd(&46)` is
-    /// gcd 2, x -9, y 47, and `5.extended_gcd(&0)` is gcd 5, x 1, y 0.
+    /// Returns the greatest common divisor `gcd` and Bezout's coefficients `x` and `y`: over the
+    /// whole numbers, `self` times `x` and `other` times `y` add up to `gcd`. `240.extended_gcd(&46)`
+    /// is gcd 2, x -9, y 47, and `5.extended_gcd(&0)` is gcd 5, x 1, y 0.
     ///
-    /// At a signed type `Fits::gcd_fits` tells whether it may be called; at an unsigned one an operand
-    /// also has to divide the other.
+    /// May be called where `Fits::gcd_fits` is true; at an unsigned type one operand must also divide
+    /// the other.
     final fn extended_gcd(&self, other: &Self) -> ExtendedGcd<Self>
         requires self_in_range { Self.fits (Self.value self.now) }
         requires other_in_range { Self.fits (Self.value other.now) }
@@ -248,8 +257,10 @@ pub trait Integer: Copy + Num + PartialOrd + Ord + Eq {
         extended_gcd_counted(*self, *other).0
     }
 
-    /// [`Integer::extended_gcd`] and [`Integer::lcm`]. `10.extended_gcd_lcm(&4)` is gcd 2, x 1,
-    /// y -2, and 20. It may be called where both may.
+    /// Returns [`Integer::extended_gcd`] and [`Integer::lcm`]. `10.extended_gcd_lcm(&4)` is gcd 2,
+    /// x 1, y -2, and 20.
+    ///
+    /// May be called where both may.
     final fn extended_gcd_lcm(&self, other: &Self) -> (ExtendedGcd<Self>, Self)
     where
         Self: Signed,
@@ -276,7 +287,7 @@ pub trait Integer: Copy + Num + PartialOrd + Ord + Eq {
     ghost range_law: { IsRange Self.fits low high };
 }
 
-/// [`Integer::div_rem`].
+/// See [`Integer::div_rem`]. `div_rem(-8, 3)` is `(-2, -2)`.
 pub fn div_rem<T: Integer>(x: T, y: T) -> (T, T)
     requires x_in_range { T.fits (T.value x) }
     requires y_in_range { T.fits (T.value y) }
@@ -288,7 +299,7 @@ pub fn div_rem<T: Integer>(x: T, y: T) -> (T, T)
     x.div_rem(&y)
 }
 
-/// [`Integer::div_floor`].
+/// See [`Integer::div_floor`]. `div_floor(-8, 3)` is `-3`.
 pub fn div_floor<T: Integer>(x: T, y: T) -> T
     requires x_in_range { T.fits (T.value x) }
     requires y_in_range { T.fits (T.value y) }
@@ -300,7 +311,7 @@ pub fn div_floor<T: Integer>(x: T, y: T) -> T
     x.div_floor(&y)
 }
 
-/// [`Integer::mod_floor`].
+/// See [`Integer::mod_floor`]. `mod_floor(-8, 3)` is `1`.
 pub fn mod_floor<T: Integer>(x: T, y: T) -> T
     requires x_in_range { T.fits (T.value x) }
     requires y_in_range { T.fits (T.value y) }
@@ -311,7 +322,7 @@ pub fn mod_floor<T: Integer>(x: T, y: T) -> T
     x.mod_floor(&y)
 }
 
-/// [`Integer::div_mod_floor`].
+/// See [`Integer::div_mod_floor`]. `div_mod_floor(-8, 3)` is `(-3, 1)`.
 pub fn div_mod_floor<T: Integer>(x: T, y: T) -> (T, T)
     requires x_in_range { T.fits (T.value x) }
     requires y_in_range { T.fits (T.value y) }
@@ -323,7 +334,7 @@ pub fn div_mod_floor<T: Integer>(x: T, y: T) -> (T, T)
     x.div_mod_floor(&y)
 }
 
-/// [`Integer::div_ceil`].
+/// See [`Integer::div_ceil`]. `div_ceil(8, 3)` is `3`.
 pub fn div_ceil<T: Integer>(x: T, y: T) -> T
     requires x_in_range { T.fits (T.value x) }
     requires y_in_range { T.fits (T.value y) }
@@ -335,7 +346,7 @@ pub fn div_ceil<T: Integer>(x: T, y: T) -> T
     x.div_ceil(&y)
 }
 
-/// [`Integer::gcd`].
+/// See [`Integer::gcd`]. `gcd(56, 42)` is `14`.
 pub fn gcd<T: Integer>(x: T, y: T) -> T
     requires x_in_range { T.fits (T.value x) }
     requires y_in_range { T.fits (T.value y) }
@@ -346,7 +357,7 @@ pub fn gcd<T: Integer>(x: T, y: T) -> T
     x.gcd(&y)
 }
 
-/// [`Integer::lcm`].
+/// See [`Integer::lcm`]. `lcm(7, 3)` is `21`.
 pub fn lcm<T: Integer>(x: T, y: T) -> T
     requires x_in_range { T.fits (T.value x) }
     requires y_in_range { T.fits (T.value y) }
@@ -357,7 +368,7 @@ pub fn lcm<T: Integer>(x: T, y: T) -> T
     x.lcm(&y)
 }
 
-/// [`Integer::gcd_lcm`].
+/// See [`Integer::gcd_lcm`]. `gcd_lcm(10, 4)` is `(2, 20)`.
 pub fn gcd_lcm<T: Integer>(x: T, y: T) -> (T, T)
     requires x_in_range { T.fits (T.value x) }
     requires y_in_range { T.fits (T.value y) }

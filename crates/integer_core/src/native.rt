@@ -10,13 +10,13 @@ use num_traits::{AsPrimitive, PrimInt, Unsigned};
 
 /// A native integer type. No other crate can name this trait.
 pub trait Native: PrimInt + AsPrimitive<Self::Magnitude> {
-    /// The type in which magnitudes are computed.
+    /// The type of the magnitudes.
     type Magnitude: PrimInt + Unsigned + AsPrimitive<Self>;
 
     ghost native_law: { IsNative Self.width (λ n. Self.value (Self.of_bits n)) Self.fits Self.low
         Self.high Self.Magnitude.fits };
 
-    /// Whether this is -1, the one divisor by which a quotient may not fit.
+    /// Returns `true` if this is -1, the only divisor whose quotient may not fit.
     final fn is_minus_one(&self) -> bool
         requires { Self.fits (Self.value self.now) }
         ensures { IsTrue result ↔ (Self.value self.now ≡ negsuc 0) }
@@ -24,7 +24,7 @@ pub trait Native: PrimInt + AsPrimitive<Self::Magnitude> {
         is_negative(*self) && is_zero(beyond(*self))
     }
 
-    /// How far the number is from 0.
+    /// Returns the distance of the number from 0.
     final fn magnitude(self) -> Self::Magnitude
         requires { Self.fits (Self.value self) }
         ensures in_range { Self.Magnitude.fits (Self.Magnitude.value result) }
@@ -37,7 +37,7 @@ pub trait Native: PrimInt + AsPrimitive<Self::Magnitude> {
         }
     }
 
-    /// The number from 0 up that has this magnitude.
+    /// Returns the number at least 0 that has this magnitude.
     final fn from_magnitude(magnitude: Self::Magnitude) -> Self
         requires { Self.fits (Self.Magnitude.value magnitude) }
         ensures in_range { Self.fits (Self.value result) }
@@ -47,7 +47,7 @@ pub trait Native: PrimInt + AsPrimitive<Self::Magnitude> {
     }
 }
 
-/// How far a number below 0 is from -1.
+/// Returns the distance of a negative number from -1.
 fn beyond<T: Native>(x: T) -> T
     requires in_range { T.fits (T.value x) }
     requires negative { T.value x <ℤ pos 0 }
@@ -58,7 +58,7 @@ fn beyond<T: Native>(x: T) -> T
     difference(zero(), successor(x))
 }
 
-/// A number from 0 up as a magnitude.
+/// Returns a number at least 0 as a magnitude.
 fn converted<T: Native>(x: T) -> T::Magnitude
     requires in_range { T.fits (T.value x) }
     requires from_zero { pos 0 ≤ℤ T.value x }

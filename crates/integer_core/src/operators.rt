@@ -1,11 +1,11 @@
 //! The numbers 0 and 1, the operators and three tests, with contracts over the numbers that the values
-//! mean. At each integer type operators are exact, so that `exact` asks nothing of a caller.
+//! mean. Each integer type has exact operators, so `exact` asks nothing of a caller.
 
 ghost use Rattle.std.specs.Prelude.{◌≡◌, ◌≢◌, ◌↔◌, ◌<ℤ◌, ◌+ℤ◌, ◌-ℤ◌, ◌*ℤ◌, pos, neg_ℤ, int_rem, int_div, IsTrue};
 
 use num_traits::Num;
 
-/// The number 0.
+/// Returns the number 0. `zero::<i64>()` is `0`.
 pub fn zero<T: Num>() -> T
     requires { T.exact }
     ensures in_range { T.fits (T.value result) }
@@ -14,7 +14,7 @@ pub fn zero<T: Num>() -> T
     T::zero()
 }
 
-/// The number 1.
+/// Returns the number 1. `one::<i64>()` is `1`.
 pub fn one<T: Num>() -> T
     requires { T.exact }
     ensures in_range { T.fits (T.value result) }
@@ -23,7 +23,7 @@ pub fn one<T: Num>() -> T
     T::one()
 }
 
-/// Whether `a` is 0.
+/// Returns `true` if `a` is 0. `is_zero(7)` is `false`.
 pub fn is_zero<T: Num>(a: T) -> bool
     requires { T.exact }
     ensures { IsTrue result ↔ (T.value a ≡ pos 0) }
@@ -31,7 +31,7 @@ pub fn is_zero<T: Num>(a: T) -> bool
     a.is_zero()
 }
 
-/// Whether `a` is below `b`.
+/// Returns `true` if `a` is below `b`. `is_below(2, 3)` is `true`, and `is_below(3, 3)` is `false`.
 pub fn is_below<T: Num>(a: T, b: T) -> bool
     requires { T.exact }
     ensures { IsTrue result ↔ (T.value a <ℤ T.value b) }
@@ -39,7 +39,7 @@ pub fn is_below<T: Num>(a: T, b: T) -> bool
     a < b
 }
 
-/// Whether `a` is negative.
+/// Returns `true` if `a` is negative. `is_negative(-1)` is `true`, and `is_negative(0)` is `false`.
 pub fn is_negative<T: Num>(a: T) -> bool
     requires { T.exact }
     ensures { IsTrue result ↔ (T.value a <ℤ pos 0) }
@@ -47,7 +47,7 @@ pub fn is_negative<T: Num>(a: T) -> bool
     is_below(a, zero())
 }
 
-/// `a + b`.
+/// Returns `a + b`. `sum(2, 3)` is `5`.
 pub fn sum<T: Num>(a: T, b: T) -> T
     requires exact { T.exact }
     requires sum_fits { T.fits (T.value a +ℤ T.value b) }
@@ -57,7 +57,7 @@ pub fn sum<T: Num>(a: T, b: T) -> T
     a + b
 }
 
-/// `a - b`.
+/// Returns `a - b`. `difference(2, 3)` is `-1`.
 pub fn difference<T: Num>(a: T, b: T) -> T
     requires exact { T.exact }
     requires difference_fits { T.fits (T.value a -ℤ T.value b) }
@@ -67,7 +67,7 @@ pub fn difference<T: Num>(a: T, b: T) -> T
     a - b
 }
 
-/// `a * b`.
+/// Returns `a * b`. `product(2, 3)` is `6`.
 pub fn product<T: Num>(a: T, b: T) -> T
     requires exact { T.exact }
     requires product_fits { T.fits (T.value a *ℤ T.value b) }
@@ -77,7 +77,7 @@ pub fn product<T: Num>(a: T, b: T) -> T
     a * b
 }
 
-/// `a / b`, rounded toward zero.
+/// Returns `a / b`, rounded toward zero. `quotient(-8, 3)` is `-2`.
 pub fn quotient<T: Num>(a: T, b: T) -> T
     requires exact { T.exact }
     requires nonzero { T.value b ≢ pos 0 }
@@ -89,7 +89,7 @@ pub fn quotient<T: Num>(a: T, b: T) -> T
     a / b
 }
 
-/// `a % b`, the remainder of that quotient.
+/// Returns `a % b`, the remainder of [`quotient`]. `remainder(-8, 3)` is `-2`.
 pub fn remainder<T: Num>(a: T, b: T) -> T
     requires exact { T.exact }
     requires nonzero { T.value b ≢ pos 0 }
@@ -101,7 +101,7 @@ pub fn remainder<T: Num>(a: T, b: T) -> T
     a % b
 }
 
-/// `a + 1`.
+/// Returns `a + 1`. `successor(41)` is `42`.
 pub fn successor<T: Num>(a: T) -> T
     requires exact { T.exact }
     requires sum_fits { T.fits (T.value a +ℤ pos 1) }
@@ -111,7 +111,7 @@ pub fn successor<T: Num>(a: T) -> T
     sum(a, one())
 }
 
-/// `a - 1`.
+/// Returns `a - 1`. `predecessor(43)` is `42`.
 pub fn predecessor<T: Num>(a: T) -> T
     requires exact { T.exact }
     requires difference_fits { T.fits (T.value a -ℤ pos 1) }
@@ -121,7 +121,7 @@ pub fn predecessor<T: Num>(a: T) -> T
     difference(a, one())
 }
 
-/// `-a`.
+/// Returns `-a`. `negated(7)` is `-7`.
 pub fn negated<T: Num>(a: T) -> T
     requires exact { T.exact }
     requires negation_fits { T.fits (neg_ℤ (T.value a)) }

@@ -25,7 +25,7 @@ fn is_smaller<M: PrimInt + Unsigned>(m: M, n: M) -> bool
     is_below(m, n)
 }
 
-/// `x` with all factors 2 taken out, and how many they are.
+/// Returns `x` with all factors 2 taken out, and their number.
 fn without_twos<M: PrimInt + Unsigned>(x: M) -> (M, u32)
     requires x_in_range { M.fits (M.value x) }
     requires positive { 0 < unsigned_abs (M.value x) }
@@ -37,7 +37,7 @@ fn without_twos<M: PrimInt + Unsigned>(x: M) -> (M, u32)
     (x >> twos, twos)
 }
 
-/// `x` times 2 to the power `twos`.
+/// Returns `x` times 2 to the power `twos`.
 fn with_twos<M: PrimInt + Unsigned>(x: M, twos: u32) -> M
     requires positive { 0 < unsigned_abs (M.value x) }
     requires product_fits { M.fits (pos (unsigned_abs (M.value x) * 2 ^ twos)) }
@@ -47,8 +47,8 @@ fn with_twos<M: PrimInt + Unsigned>(x: M, twos: u32) -> M
     x << twos
 }
 
-/// How many last bits `x` and `y`, which lies below, share. Their difference has as many factors 2,
-/// and they are counted before it is known.
+/// Returns the number of last bits that `x` and the lesser `y` share. Their difference has as many
+/// factors 2, which are counted before the difference is computed.
 fn shared_bits<M: PrimInt + Unsigned>(x: M, y: M) -> u32
     requires x_in_range { M.fits (M.value x) }
     requires y_in_range { M.fits (M.value y) }
@@ -60,7 +60,7 @@ fn shared_bits<M: PrimInt + Unsigned>(x: M, y: M) -> u32
     (x ^ y).trailing_zeros()
 }
 
-/// The difference of `x` and `y`, which lies below, with all factors 2 taken out.
+/// Returns the difference of `x` and the lesser `y`, with all factors 2 taken out.
 fn odd_difference<M: PrimInt + Unsigned>(x: M, y: M) -> M
     requires x_in_range { M.fits (M.value x) }
     requires y_in_range { M.fits (M.value y) }
@@ -72,8 +72,8 @@ fn odd_difference<M: PrimInt + Unsigned>(x: M, y: M) -> M
     difference(x, y) >> shared_bits(x, y)
 }
 
-/// The pair after a turn of the loop. The lesser number comes second, at whichever place it was, so
-/// that both arms are the same computation.
+/// Returns the pair after a turn of the loop. The lesser number comes second, whichever place it had,
+/// so both arms are the same computation.
 fn next_pair<M: PrimInt + Unsigned>(m: M, n: M) -> (M, M)
     requires m_in_range { M.fits (M.value m) }
     requires n_in_range { M.fits (M.value n) }
@@ -90,7 +90,7 @@ fn next_pair<M: PrimInt + Unsigned>(m: M, n: M) -> (M, M)
     }
 }
 
-/// The greatest common divisor of two odd numbers, and the turns of the loop.
+/// Returns the greatest common divisor of two odd numbers, and the turns of the loop.
 fn odd_gcd<M: PrimInt + Unsigned>(a: M, b: M) -> (M, u32)
     requires a_in_range { M.fits (M.value a) }
     requires b_in_range { M.fits (M.value b) }
@@ -112,7 +112,7 @@ fn odd_gcd<M: PrimInt + Unsigned>(a: M, b: M) -> (M, u32)
     (m, turns)
 }
 
-/// Both numbers at 64 bits, or `None` where one does not fit.
+/// Returns both numbers at 64 bits, or `None` where one does not fit.
 fn narrowed<M: PrimInt + Unsigned>(m: M, n: M) -> Option<(u64, u64)>
     ensures { MatchOption result
         (2 ^ 64 ≤ unsigned_abs (M.value m) ⊎ 2 ^ 64 ≤ unsigned_abs (M.value n))
@@ -121,7 +121,7 @@ fn narrowed<M: PrimInt + Unsigned>(m: M, n: M) -> Option<(u64, u64)>
     Some((m.to_u64()?, n.to_u64()?))
 }
 
-/// A number of 64 bits that fits.
+/// Returns a number of 64 bits, which fits.
 fn widened<M: PrimInt + Unsigned>(x: u64) -> M
     requires { M.fits (pos x) }
     ensures in_range { M.fits (M.value result) }
@@ -130,7 +130,7 @@ fn widened<M: PrimInt + Unsigned>(x: u64) -> M
     cast::<u64, M>(x).unwrap()
 }
 
-/// [`odd_gcd`], at 64 bits as soon as both numbers fit, with the same turns.
+/// Returns [`odd_gcd`]. It goes on at 64 bits as soon as both numbers fit, with the same turns.
 fn narrowing_gcd<M: PrimInt + Unsigned>(a: M, b: M) -> (M, u32)
     requires a_in_range { M.fits (M.value a) }
     requires b_in_range { M.fits (M.value b) }
@@ -156,7 +156,7 @@ fn narrowing_gcd<M: PrimInt + Unsigned>(a: M, b: M) -> (M, u32)
     (m, turns)
 }
 
-/// The greatest common divisor of two numbers above 0, and the turns of the loop.
+/// Returns the greatest common divisor of two numbers above 0, and the turns of the loop.
 pub(crate) fn positive_gcd<M: PrimInt + Unsigned>(a: M, b: M) -> (M, u32)
     requires a_in_range { M.fits (M.value a) }
     requires b_in_range { M.fits (M.value b) }
@@ -174,8 +174,8 @@ pub(crate) fn positive_gcd<M: PrimInt + Unsigned>(a: M, b: M) -> (M, u32)
     (with_twos(odd, twos_of_a.min(twos_of_b)), turns)
 }
 
-/// The greatest common divisor of two numbers above 0 of which one is a power of two: the power of
-/// two that both share.
+/// Returns the greatest common divisor of two numbers above 0, one of which is a power of two: the
+/// power of two that both share.
 fn shared_power_of_two<M: PrimInt + Unsigned>(a: M, b: M) -> M
     requires a_in_range { M.fits (M.value a) }
     requires b_in_range { M.fits (M.value b) }
@@ -189,15 +189,16 @@ fn shared_power_of_two<M: PrimInt + Unsigned>(a: M, b: M) -> M
     with_twos(one(), without_twos(a).1.min(without_twos(b).1))
 }
 
-/// Whether this is the least number of its type.
+/// Returns `true` if this is the least number of its type.
 fn is_least<T: Native>(x: T) -> bool
     ensures { IsTrue result ↔ (T.value x ≡ T.Bounded.low) }
 {
     x == T::min_value()
 }
 
-/// The greatest common divisor of the magnitudes, and the turns of the loop. None is made for 0,
-/// nor for the least number of a type with negatives, whose magnitude is a power of two.
+/// Returns the greatest common divisor of the magnitudes, and the turns of the loop. The loop makes
+/// no turn for 0, nor for the least number of a type with negatives, whose magnitude is a power of
+/// two.
 fn gcd_of_magnitudes<T: Native>(a: T, b: T) -> (T::Magnitude, u32)
     requires a_in_range { T.fits (T.value a) }
     requires b_in_range { T.fits (T.value b) }
@@ -219,7 +220,7 @@ fn gcd_of_magnitudes<T: Native>(a: T, b: T) -> (T::Magnitude, u32)
     }
 }
 
-/// The greatest common divisor, and the turns of its loop.
+/// Returns the greatest common divisor, and the turns of its loop.
 pub(crate) fn binary_gcd<T: Native>(a: T, b: T) -> (T, u32)
     requires a_in_range { T.fits (T.value a) }
     requires b_in_range { T.fits (T.value b) }

@@ -1,4 +1,4 @@
--- A cube root found digit by digit: what is known with some digits still to come.
+-- A cube root found digit by digit: what is known after some digits.
 use Rattle.std.specs.Prelude.{pos}
 use Rattle.std.proofs.Common.{◌≡◌, ℕ, ◌+◌, ◌-◌, ◌*◌, ◌/◌, ◌%◌, ◌^◌, ◌<◌, ◌≤◌, ap, ◌∙◌, refl, arith, mul-le-mul, mul-le-mul_left, le-div_iff_mul-le, div-lt_iff_lt-mul, pow_pos, pow_mono, pow-add, mod-eq_of_lt}
 use Rattle.integer_roots.specs.RootOf.{IsFloorRoot}
@@ -36,7 +36,7 @@ are_small {front = front} {digits = digits} v =
     let below : front ≤ 2047 = omega arith in
     record { square_below = omega (arith, v.square_is, mul-le-mul below below); front_below = small }
 
--- with a digit to come there is one more than those after it
+-- a digit that follows is one more than those after it
 pub next_digit : {a rest square front digits : ℕ} → 0 < digits → IsCubeFront a rest square front digits → IsCubeFront a rest square front (digits - 1 + 1)
 next_digit {digits = digits} positive v = let e : digits - 1 + 1 ≡ digits = omega arith in rw e v
 

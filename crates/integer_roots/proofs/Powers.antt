@@ -68,6 +68,6 @@ base_below x y n less = lt_of_not-le (λ h. omega (arith, pow-le-pow_left h n))
 pub highest_bit : (a k top : ℕ) → 2 ^ k ≤ a → a < 2 ^ (top + 1) → k ≤ top
 highest_bit a k top le lt = omega (arith, lt_of_not-le {n = top + 1} {m = k} (λ h. omega (arith, pow_mono h)))
 
--- the floor root of a number from 0 up, by powers in ℕ
+-- the floor root of a number at least 0, by powers in ℕ
 pub floor_root : {a r n : ℕ} → r ^ n ≤ a → a < (r + 1) ^ n → IsFloorRoot (pos a) n (pos r)
 floor_root le lt = record { from_zero = omega (arith, ints); power_le = omega (arith, ints); next_power_gt = omega (arith, ints) }

@@ -13,13 +13,13 @@ use Rattle.integer_roots.proofs.NewtonStep.{cross, square_step_is}
 use Rattle.integer_roots.proofs.Powers.{highest_bit, power_two}
 use Rattle.integer_roots.proofs.RootGuesses.{IsStart, start, in_range}
 
--- after so many turns, this many times what the guess's square is above a is at most a
+-- the factor after a number of turns: that factor, times the excess of the guess's square over a, is at most a
 abbrev pub closeness : ℕ → ℕ
 closeness zero = 1
 closeness (suc zero) = 8
 closeness (suc (suc turns)) = 4 * closeness (suc turns) * closeness (suc turns)
 
--- what is known of the guess x for the root of a after so many turns
+-- what is known of the guess x for the root of a after a number of turns
 pub record IsNear (a x turns : ℕ) : Type 0 where
   pub near : closeness turns * (x * x) ≤ (closeness turns + 1) * a
   pub high_at_first : turns ≡ 0 → a ≤ 2 * (x * x)

@@ -7,7 +7,7 @@ abbrev pub guess_of : Guess → ℕ
 guess_of (Rising x) = x
 guess_of (Falling x) = x
 
--- the guesses that the loops reach from the first, each after so many turns, where y is an answer of the step at x
+-- the guesses that the loops reach from the first, each with its number of turns; y is a result of the step at x
 pub data IsReached (step : ℕ → ℕ → Type 0) (first : ℕ) : Guess → ℕ → Type 0 where
   begins : IsReached step first (Rising first) 0
   rises : {x y n : ℕ} → IsReached step first (Rising x) n → step x y → x < y → IsReached step first (Rising y) (n + 1)

@@ -6,19 +6,19 @@ use Rattle.integer_core.specs.Runs.{Makes}
 abbrev pub square_step : ℕ → ℕ → ℕ
 square_step a x = (a / x + x) / 2
 
--- a guess, and the loop that it stands in: the first rises, and the second falls
+-- a guess, and its loop: the first rises, and the second falls
 pub data Guess : Type 0 where
   Rising : ℕ → Guess
   Falling : ℕ → Guess
 
--- the first loop takes a step that rises; the second, and then never the first, one that falls
+-- the first loop takes a step that rises; the second takes one that falls, and the first does not follow it
 abbrev pub IsNewtonTurn : ℕ → Guess → Guess → Type 0
 IsNewtonTurn a (Rising x) (Rising y) = (x < y) × (y ≡ square_step a x)
 IsNewtonTurn a (Rising x) (Falling y) = (y < x) × (y ≡ square_step a x)
 IsNewtonTurn a (Falling x) (Falling y) = (y < x) × (y ≡ square_step a x)
 IsNewtonTurn a (Falling x) (Rising y) = ⊥
 
--- neither loop that is still to come takes a step
+-- no loop that follows takes a step
 abbrev pub NewtonEnds : ℕ → Guess → Type 0
 NewtonEnds a (Rising x) = square_step a x ≡ x
 NewtonEnds a (Falling x) = x ≤ square_step a x
@@ -28,7 +28,7 @@ pub record IsHighestBit (a top : ℕ) : Type 0 where
   pub power_le : 2 ^ top ≤ a
   pub next_power_gt : a < 2 ^ (top + 1)
 
--- the guess that the loops begin with
+-- the first guess of the loops
 abbrev pub first_guess : ℕ → ℕ
 first_guess top = 2 ^ ((top + 1) / 2)
 
@@ -38,7 +38,7 @@ pub record MakesNewtonRun (a n : ℕ) : Type 0 where
   pub highest : IsHighestBit a top
   pub run : Makes (IsNewtonTurn a) (NewtonEnds a) (Rising (first_guess top)) n
 
--- the turns for the square root of x: none below 4, and else those of the loops' run
+-- the turns for the square root of x: none below 4, else those of the run of the loops
 pub record AreSquareRootTurns (x : ℤ) (turns : ℕ) : Type 0 where
   pub below_four : x <ℤ pos 4 → turns ≡ 0
   pub from_four : pos 4 ≤ℤ x → MakesNewtonRun (unsigned_abs x) turns

@@ -4,9 +4,9 @@ ghost use Rattle.integer_roots.specs.Averages.{IsAverageCeil, IsAverageFloor};
 
 use integer_core::Integer;
 
-/// Averages of two integers, which never overflow.
+/// Averages of two integers. They never overflow.
 pub trait Average: Integer {
-    /// The average rounded down. `(-2).average_floor(&-5)` is `-4`.
+    /// Returns the average rounded down. `(-2).average_floor(&-5)` is `-4`.
     fn average_floor(&self, other: &Self) -> Self
         requires self_in_range { Self.fits (Self.value self.now) }
         requires other_in_range { Self.fits (Self.value other.now) }
@@ -14,7 +14,7 @@ pub trait Average: Integer {
         ensures floor { IsAverageFloor (Self.value self.now) (Self.value other.now)
             (Self.value result) };
 
-    /// The average rounded up. `(-2).average_ceil(&-5)` is `-3`.
+    /// Returns the average rounded up. `(-2).average_ceil(&-5)` is `-3`.
     fn average_ceil(&self, other: &Self) -> Self
         requires self_in_range { Self.fits (Self.value self.now) }
         requires other_in_range { Self.fits (Self.value other.now) }
@@ -23,7 +23,7 @@ pub trait Average: Integer {
             (Self.value result) };
 }
 
-/// [`Average::average_floor`].
+/// See [`Average::average_floor`]. `average_floor(3, 10)` is `6`.
 pub fn average_floor<T: Average>(x: T, y: T) -> T
     requires x_in_range { T.fits (T.value x) }
     requires y_in_range { T.fits (T.value y) }
@@ -33,7 +33,7 @@ pub fn average_floor<T: Average>(x: T, y: T) -> T
     x.average_floor(&y)
 }
 
-/// [`Average::average_ceil`].
+/// See [`Average::average_ceil`]. `average_ceil(3, 10)` is `7`.
 pub fn average_ceil<T: Average>(x: T, y: T) -> T
     requires x_in_range { T.fits (T.value x) }
     requires y_in_range { T.fits (T.value y) }

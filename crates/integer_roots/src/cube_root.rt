@@ -1,4 +1,4 @@
-//! Cube roots: by digits up to 32 bits, and above by Newton's method.
+//! Cube roots: by digits up to 32 bits, by Newton's method above.
 
 ghost use Rattle.std.specs.Prelude.{◌≡◌, ◌≤◌, ◌<◌, ◌^◌, pos};
 ghost use Rattle.integer_roots.specs.RootOf.{IsFloorRoot};
@@ -7,7 +7,7 @@ ghost use Rattle.integer_roots.specs.NewtonRuns.{newton_step};
 use crate::cube_root_digits::cube_root_by_digits;
 use crate::newton::newton;
 
-/// The cube root of `a`, a number of a type of so many bits.
+/// Returns the cube root of `a`, a number of a type of `bits` bits.
 pub(crate) fn cube_root(a: u64, bits: u32) -> u64
     requires fits { a < 2 ^ bits }
     ensures root { IsFloorRoot (pos a) 3 (pos result) }
@@ -19,7 +19,7 @@ pub(crate) fn cube_root(a: u64, bits: u32) -> u64
     }
 }
 
-/// The cube root of a number of 64 bits.
+/// Returns the cube root of a number of 64 bits.
 fn wide_cube_root(a: u64) -> u64
     ensures root { IsFloorRoot (pos a) 3 (pos result) }
 {
@@ -32,7 +32,7 @@ fn wide_cube_root(a: u64) -> u64
     }
 }
 
-/// The cube root of `a` by Newton's method. The first guess is a power of two near the root.
+/// Returns the cube root of `a`, by Newton's method. The first guess is a power of two near the root.
 fn cube_root_by_newton(a: u64) -> u64
     requires from_eight { 8 ≤ a }
     ensures root { IsFloorRoot (pos a) 3 (pos result) }

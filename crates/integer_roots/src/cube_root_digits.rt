@@ -3,8 +3,8 @@
 ghost use Rattle.std.specs.Prelude.{◌^◌, ◌<◌, ◌≤◌, pos};
 ghost use Rattle.integer_roots.specs.RootOf.{IsFloorRoot};
 
-/// The cube root of `a`, a number of so many bits: a digit for each three of them, from the highest
-/// down.
+/// Returns the cube root of `a`, a number of `bits` bits. It computes a digit for each three bits,
+/// the highest first.
 pub(crate) fn cube_root_by_digits(a: u32, bits: u32) -> u32
     requires narrow { bits ≤ 32 }
     requires fits { a < 2 ^ bits }

@@ -11,7 +11,7 @@ use crate::square_root::square_root_counted;
 use integer_core::NativeInteger;
 use integer_core::operators::{is_negative, negated, zero};
 
-/// The square root, and the turns of its loops.
+/// Returns the square root, and the turns of its loops.
 pub(crate) fn square_root_by_magnitude<T: NativeInteger<Magnitude = u64>>(x: T) -> (T, u32)
     requires in_range { T.fits (T.value x) }
     requires from_zero { pos 0 ≤ℤ T.value x }
@@ -24,7 +24,7 @@ pub(crate) fn square_root_by_magnitude<T: NativeInteger<Magnitude = u64>>(x: T) 
     (T::from_magnitude(root), turns)
 }
 
-/// The cube root.
+/// Returns the cube root.
 pub(crate) fn cube_root_by_magnitude<T: NativeInteger<Magnitude = u64>>(x: T) -> T
     requires in_range { T.fits (T.value x) }
     ensures in_range { T.fits (T.value result) }
@@ -33,14 +33,14 @@ pub(crate) fn cube_root_by_magnitude<T: NativeInteger<Magnitude = u64>>(x: T) ->
     with_sign_of(x, cube_root(x.magnitude(), bits::<T>()))
 }
 
-/// The bits of the type.
+/// Returns the number of bits of the type.
 fn bits<T: NativeInteger>() -> u32
     ensures { result ≡ bit_len T.width }
 {
     zero::<T>().leading_zeros()
 }
 
-/// The root of degree `n`.
+/// Returns the root of degree `n`.
 pub(crate) fn root_by_magnitude<T: NativeInteger<Magnitude = u64>>(x: T, n: u32) -> T
     requires in_range { T.fits (T.value x) }
     requires degree { n ≢ 0 }
@@ -56,7 +56,7 @@ pub(crate) fn root_by_magnitude<T: NativeInteger<Magnitude = u64>>(x: T, n: u32)
     }
 }
 
-/// The number of this magnitude that has the sign of `x`.
+/// Returns the number of this magnitude that has the sign of `x`.
 fn with_sign_of<T: NativeInteger<Magnitude = u64>>(x: T, magnitude: u64) -> T
     requires x_in_range { T.fits (T.value x) }
     requires magnitude_fits { T.fits (pos magnitude) }

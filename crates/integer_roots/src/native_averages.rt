@@ -15,8 +15,8 @@ impl<T: NativeInteger> Average for T {
     }
 }
 
-/// The averages rounded down and up: the bits that both have and half of those that one alone has,
-/// and the bits that either has less that half.
+/// Returns the averages rounded down and up. The first is the bits that both have and half of those
+/// that one alone has; the second is the bits that either has, less that half.
 fn both_averages<T: NativeInteger>(a: T, b: T) -> (T, T)
     requires a_in_range { T.fits (T.value a) }
     requires b_in_range { T.fits (T.value b) }

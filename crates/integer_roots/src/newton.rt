@@ -4,9 +4,9 @@ ghost use Rattle.std.specs.Prelude.{ℕ, ◌<◌, ◌≤◌, ◌^◌};
 ghost use Rattle.integer_roots.specs.SquareRuns.{Guess, Falling};
 ghost use Rattle.integer_roots.specs.NewtonRuns.{guess_of, IsReached};
 
-/// The guess where both loops have ended, and their turns. The first loop steps up while the step
-/// rises, and the second down while it falls. Both end, since each guess of the first is above the
-/// one before it, within 64 bits, and each of the second is below.
+/// Returns the guess where both loops end, and their turns. The first loop steps while the step
+/// rises, the second while it falls. Both end: each guess of the first is above the one before,
+/// within 64 bits, and each guess of the second is below the one before.
 pub(crate) fn newton<F: Fn(u64) -> u64>(first: u64, step: F) -> (u64, u32)
     requires may_step { (guess : Guess) (n : ℕ) → IsReached (F.post step) first guess n
         → F.pre step (guess_of guess) }

@@ -7,8 +7,9 @@ use integer_core::Integer;
 
 /// Roots of an integer of at most 64 bits, rounded toward zero.
 pub trait Roots: Integer {
-    /// The root of degree `n`, rounded toward zero. `12345.nth_root(4)` is `10`. It may be called where
-    /// `n` is not 0, and `n` is odd or `self` is not negative.
+    /// Returns the root of degree `n`, rounded toward zero. `12345.nth_root(4)` is `10`.
+    ///
+    /// May be called where `n` is not 0, and `n` is odd or `self` is not negative.
     fn nth_root(&self, n: u32) -> Self
         requires in_range { Self.fits (Self.value self.now) }
         requires degree { n ≢ 0 }
@@ -16,7 +17,9 @@ pub trait Roots: Integer {
         ensures in_range { Self.fits (Self.value result) }
         ensures root { IsRoot (Self.value self.now) n (Self.value result) };
 
-    /// The square root, rounded down. `99.sqrt()` is `9`. It may be called where `self` is not negative.
+    /// Returns the square root, rounded down. `99.sqrt()` is `9`.
+    ///
+    /// May be called where `self` is not negative.
     fn sqrt(&self) -> Self
         requires in_range { Self.fits (Self.value self.now) }
         requires from_zero { pos 0 ≤ℤ Self.value self.now }
@@ -26,7 +29,7 @@ pub trait Roots: Integer {
         self.nth_root(2)
     }
 
-    /// The cube root, rounded toward zero. `(-9).cbrt()` is `-2`.
+    /// Returns the cube root, rounded toward zero. `(-9).cbrt()` is `-2`.
     fn cbrt(&self) -> Self
         requires in_range { Self.fits (Self.value self.now) }
         ensures in_range { Self.fits (Self.value result) }
@@ -39,7 +42,7 @@ pub trait Roots: Integer {
     ghost width_law: { IsWithin64Bits Self.low Self.high };
 }
 
-/// [`Roots::nth_root`].
+/// See [`Roots::nth_root`]. `nth_root(12345, 4)` is `10`.
 pub fn nth_root<T: Roots>(x: T, n: u32) -> T
     requires x_in_range { T.fits (T.value x) }
     requires degree { n ≢ 0 }
@@ -50,7 +53,7 @@ pub fn nth_root<T: Roots>(x: T, n: u32) -> T
     x.nth_root(n)
 }
 
-/// [`Roots::sqrt`].
+/// See [`Roots::sqrt`]. `sqrt(99)` is `9`.
 pub fn sqrt<T: Roots>(x: T) -> T
     requires x_in_range { T.fits (T.value x) }
     requires from_zero { pos 0 ≤ℤ T.value x }
@@ -60,7 +63,7 @@ pub fn sqrt<T: Roots>(x: T) -> T
     x.sqrt()
 }
 
-/// [`Roots::cbrt`].
+/// See [`Roots::cbrt`]. `cbrt(-9)` is `-2`.
 pub fn cbrt<T: Roots>(x: T) -> T
     requires x_in_range { T.fits (T.value x) }
     ensures in_range { T.fits (T.value result) }

@@ -7,7 +7,7 @@ ghost use Rattle.integer_roots.specs.NewtonRuns.{newton_step};
 use crate::newton::newton;
 use crate::squaring::checked_power;
 
-/// The root of `a` of degree `n`. The first guess is a power of two near the root.
+/// Returns the root of `a` of degree `n`. The first guess is a power of two near the root.
 pub(crate) fn root_of_degree(a: u64, n: u32) -> u64
     requires degree { 3 ≤ n }
     ensures root { IsFloorRoot (pos a) n (pos result) }
@@ -29,8 +29,8 @@ pub(crate) fn root_of_degree(a: u64, n: u32) -> u64
     newton(1 << top.div_ceil(n), step).0
 }
 
-/// The quotient of `a` by the power of `x` of degree `k`: 0 where the power does not fit. A power of two
-/// divides by a shift.
+/// Returns the quotient of `a` by the power of `x` of degree `k`, or 0 where the power does not fit. It
+/// divides by a power of two with a shift.
 fn quotient_by_power(a: u64, x: u64, k: u32) -> u64
     requires positive { 0 < x }
     requires degree { 0 < k }

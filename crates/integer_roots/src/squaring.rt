@@ -3,7 +3,7 @@
 ghost use Rattle.std.specs.Prelude.{◌*◌, ◌^◌, ◌<◌};
 ghost use Rattle.std.specs.Option.{SomeIff};
 
-/// The power of `x` of degree `k`, or `None` where it does not fit.
+/// Returns the power of `x` of degree `k`, or `None` where it does not fit.
 pub(crate) fn checked_power(x: u64, k: u32) -> Option<u64>
     requires positive { 0 < x }
     requires degree { 0 < k }
@@ -20,7 +20,7 @@ pub(crate) fn checked_power(x: u64, k: u32) -> Option<u64>
     checked_product(power, square)
 }
 
-/// The product, or `None` where it does not fit.
+/// Returns the product, or `None` where it does not fit.
 fn checked_product(a: u64, b: u64) -> Option<u64>
     ensures { SomeIff result (a * b < 2 ^ 64) (a * b) }
 {

@@ -144,7 +144,7 @@ lcm_by_reduced_modulus {m} {n} {s} m_up n_up step =
     rw same at own.1
 
 -- where m·k solves the gap, start + m·k solves both
-both_by_gap : {a m b n start gap x : ℤ} (turns : ℤ) → AreCongruent m a start → AreCongruent n (b -ℤ start) gap → x ≡ start +ℤ m *ℤ turns → Solves m gap n turns → SolvesBothCongruences a m b n x
+pub both_by_gap : {a m b n start gap x : ℤ} (turns : ℤ) → AreCongruent m a start → AreCongruent n (b -ℤ start) gap → x ≡ start +ℤ m *ℤ turns → Solves m gap n turns → SolvesBothCongruences a m b n x
 both_by_gap {a} {m} {b} {n} {start} {gap} {x} turns at_start at_gap is h =
     let sum = congruent-sum (congruent-trans h (congruent-sym at_gap)) (congruent-refl start) in
     record {

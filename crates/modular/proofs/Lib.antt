@@ -6,3 +6,4 @@ pub mod PowerTurns
 pub mod EuclidRows
 pub mod LinearCongruences
 pub mod LongDivision
+pub mod CommonSolutions

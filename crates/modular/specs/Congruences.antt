@@ -51,3 +51,9 @@ pub record IsNextCongruent (from first step t : ℤ) : Type 0 where
   pub from_there : from ≤ℤ t
   pub congruent : AreCongruent step t first
   pub least : (u : ℤ) → from ≤ℤ u → AreCongruent step u first → t ≤ℤ u
+
+-- t is the least number from there on that is a modulo m and b modulo n
+pub record IsNextCommonSolution (from a m b n t : ℤ) : Type 0 where
+  pub from_there : from ≤ℤ t
+  pub solves : SolvesBothCongruences a m b n t
+  pub least : (u : ℤ) → from ≤ℤ u → SolvesBothCongruences a m b n u → t ≤ℤ u

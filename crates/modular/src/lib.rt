@@ -1,6 +1,7 @@
 //! Arithmetic modulo a number above 0, at every modulus of every lawful integer type.
 #![tactic(auto)]
 
+mod common_solutions;
 mod inverses;
 mod long_products;
 mod native;
@@ -11,6 +12,7 @@ mod residues;
 #[cfg(test)]
 mod tests;
 
+pub use common_solutions::{CommonSolution, next_common_solution};
 pub use inverses::{inverse_modulo, quotient_modulo};
 pub use powers::power_modulo;
 pub use products::{Modular, product_modulo};

@@ -18,7 +18,7 @@ impl<T: NativeInteger> Modular for T {
     }
 }
 
-/// The product of two residues: where the modulus has at most 64 bits their product fits.
+/// Returns the product of two residues. Where the modulus has at most 64 bits, their product fits.
 fn product_of_wide(x: u128, y: u128, m: u128) -> u128
     requires x_below { LiesBelow (pos m) (pos x) }
     requires y_below { LiesBelow (pos m) (pos y) }
@@ -31,7 +31,7 @@ fn product_of_wide(x: u128, y: u128, m: u128) -> u128
     }
 }
 
-/// The magnitude, as a number of 128 bits.
+/// Returns the magnitude, as a number of 128 bits.
 fn wide<T: NativeInteger>(x: T) -> u128
     requires { T.fits (T.value x) }
     ensures { result ≡ unsigned_abs (T.value x) }
@@ -39,7 +39,7 @@ fn wide<T: NativeInteger>(x: T) -> u128
     x.magnitude().to_u128().unwrap()
 }
 
-/// The number, as one of the type.
+/// Returns the number, as one of the type.
 fn narrow<T: NativeInteger>(x: u128) -> T
     requires { T.fits (pos x) }
     ensures in_range { T.fits (T.value result) }

@@ -8,8 +8,10 @@ use crate::products::Modular;
 use crate::residues::residue;
 use num_integer::operators::one;
 
-/// `a` to the power `exponent` modulo `m`, from 0 up: at most two products for each binary digit of
-/// the exponent. `power_modulo(3, 4, 7)` is 4.
+/// Returns `a` to the power `exponent` modulo `m`, by at most two products for each binary digit of the
+/// exponent. `power_modulo(3, 4, 7)` is `4`.
+///
+/// May be called where `m` is above 0.
 pub fn power_modulo<T: Modular>(a: T, exponent: u128, m: T) -> T
     requires a_in_range { T.fits (T.value a) }
     requires m_in_range { T.fits (T.value m) }

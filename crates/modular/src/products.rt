@@ -8,10 +8,13 @@ use crate::residues::{residue, sum_of_residues};
 use num_integer::Integer;
 use num_integer::operators::{is_below, is_zero, one, successor, zero};
 
-/// Products modulo a number above 0. Your own type has them by an empty implementation, which
-/// doubles and adds.
+/// Products modulo a number above 0. An empty implementation gives them to your own type: its default
+/// body doubles and adds.
 pub trait Modular: Integer {
-    /// `self * other` modulo `modulus`, from 0 up. `4.product_modulo(&5, &7)` is 6.
+    /// Returns `self * other` modulo `modulus`. The product need not fit the type.
+    /// `4.product_modulo(&5, &7)` is `6`.
+    ///
+    /// May be called where `modulus` is above 0.
     fn product_modulo(&self, other: &Self, modulus: &Self) -> Self
         requires self_in_range { Self.fits (Self.value self.now) }
         requires other_in_range { Self.fits (Self.value other.now) }
@@ -29,7 +32,9 @@ pub trait Modular: Integer {
     }
 }
 
-/// [`Modular::product_modulo`].
+/// Returns [`Modular::product_modulo`], `a * b` modulo `m`. `product_modulo(4, 5, 7)` is `6`.
+///
+/// May be called where `m` is above 0.
 pub fn product_modulo<T: Modular>(a: T, b: T, m: T) -> T
     requires a_in_range { T.fits (T.value a) }
     requires b_in_range { T.fits (T.value b) }
@@ -41,7 +46,7 @@ pub fn product_modulo<T: Modular>(a: T, b: T, m: T) -> T
     a.product_modulo(&b, &m)
 }
 
-/// The product of two residues, by one turn for each binary digit of `y` but the first.
+/// Returns the product of two residues, by one turn for each binary digit of `y` after the first.
 pub(crate) fn product_of_residues<T: Integer>(x: T, y: T, m: T) -> T
     requires y_in_range { T.fits (T.value y) }
     requires m_in_range { T.fits (T.value m) }

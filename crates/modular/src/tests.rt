@@ -1,15 +1,13 @@
-//! Worked values, at native types and at one of their own.
+//! Worked values at native types.
 
 mod all_bytes;
 mod congruences;
 mod long_products;
-mod percent;
 
 use crate::{
     difference_modulo, inverse_modulo, negation_modulo, power_modulo, product_modulo,
     quotient_modulo, residue, sum_modulo,
 };
-use percent::Percent;
 
 /// The greatest primes of 64 and of 128 bits.
 const P64: u64 = 18446744073709551557;
@@ -130,25 +128,4 @@ fn quotients(rt: HostRuntime) {
         assert!(rt; m > 0 && quotient_modulo(a, b, m) == x, "{a} {b} {m}");
     }
     assert!(rt; quotient_modulo(P128 - 2, P128 - 1, P128) == Some(2));
-}
-
-/// At a type of its own, in which few products and sums of residues fit.
-#[test]
-fn percents(rt: HostRuntime) {
-    for a in 0..=100u8 {
-        for m in 1..=100u8 {
-            let b = 100 - a / 2;
-            let product = u32::from(a) * u32::from(b) % u32::from(m);
-            let modulus = Percent::new(m);
-            let own = product_modulo(Percent::new(a), Percent::new(b), modulus);
-            assert!(rt; u32::from(own.number()) == product, "{a} {b} {m}");
-        }
-    }
-    let hundred = Percent::new(100);
-    assert!(rt; power_modulo(Percent::new(99), 101, hundred).number() == 99);
-    assert!(rt; power_modulo(Percent::new(7), 50, Percent::new(97)).number() == 48);
-    assert!(rt; inverse_modulo(Percent::new(7), hundred) == Some(Percent::new(43)));
-    assert!(rt;
-        quotient_modulo(Percent::new(1), Percent::new(7), hundred) == Some(Percent::new(43))
-    );
 }

@@ -1,4 +1,4 @@
--- Where the answers of calls fit, as the tests of `Fits` say.
+-- Where the results of calls fit, in the words of the tests of `Fits`.
 use Rattle.std.specs.Prelude.{◌≡◌, ◌≢◌, ◌↔◌, ◌≤◌, ◌<◌, ◌^◌, ◌≤ℤ◌, ℕ, ℤ, pos, IsTrue, nat_le, ◌⊎◌, ◌<ℤ◌, negsuc, neg_ℤ, unsigned_abs, Bool, true, false, not, ◌*◌, ◌/◌, min, max}
 use Rattle.std.proofs.Common.{arith, inl, inr, subst, refl, sym, ap, ◌∙◌}
 use Rattle.std.proofs.Math.Nat.{pow-le-pow_right}
@@ -20,18 +20,18 @@ use Rattle.num_integer.specs.Parts.{IsWithin, signed}
 
 -- ---- what fits a lawful type
 
--- a number from 0 up fits exactly where it is at most the greatest
+-- a number at least 0 fits exactly where it is at most the greatest
 pub fits_up : {fits : ℤ → Type 0} {low high : ℤ} {most z : ℕ} → IsRange fits low high → pos most ≡ high → z ≤ most ↔ fits (pos z)
 fits_up {z = z} range top = (λ h. (range.between (pos z)).1 (omega (arith, linear), omega (arith, ints)), λ h. omega (arith, ints, (range.between (pos z)).0 h))
 
 pub test_up : {fits : ℤ → Type 0} {low high : ℤ} {most z : ℕ} → IsRange fits low high → pos most ≡ high → IsTrue (nat_le z most) ↔ fits (pos z)
 test_up range top = (λ t. (fits_up range top).0 (leb-true _ _ t), λ f. le-leb _ _ ((fits_up range top).1 f))
 
--- what a test of order says where it is false
+-- what a test of order means where it is false
 pub from_test : {answer : Bool} {a b : ℤ} → IsTrue answer ↔ (a <ℤ b) → answer ≡ false → b ≤ℤ a
 from_test test e = from_not_less (iff_false test e)
 
--- a number from 0 up to one that fits
+-- a number at least 0 and at most one that fits
 pub fits_below : {fits : ℤ → Type 0} {low high x y : ℤ} → IsRange fits low high → fits y → pos 0 ≤ℤ x → x ≤ℤ y → fits x
 fits_below range h up below = within_fits range h (inl (up, below))
 
@@ -139,7 +139,7 @@ module _ {fits : ℤ → Type 0} {low high a b : ℤ} {most m n : ℕ} (range : 
       ] in
       each_fits own (λ h. only_gcd own) (test_up range top)
 
-  -- and else it is no greater than either
+  -- otherwise it is no greater than either
   pub gcd_of_nonzero : {least : ℕ} → fits a → fits b → m ≢ 0 → n ≢ 0 → least ≡ min m n → IsTrue (nat_le least most) ↔ EachFits fits (IsGreatestCommonDivisor a b)
   gcd_of_nonzero {least} a_fits b_fits m_nonzero n_nonzero is = (
     λ t g greatest.

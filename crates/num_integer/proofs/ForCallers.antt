@@ -1,4 +1,4 @@
--- Lemmas that the proofs of callers may cite, beside the laws.
+-- Lemmas for the proofs of callers, in addition to the laws.
 use Rattle.std.specs.Prelude.{◌≡◌, ◌≢◌, ◌↔◌, ◌<◌, ◌≤◌, ◌+◌, ◌-◌, ◌*◌, ◌/◌, ◌%◌, ◌^◌, ◌≤ℤ◌, ◌<ℤ◌, ◌+ℤ◌, ◌-ℤ◌, ◌*ℤ◌, ℤ, ℕ, pos, negsuc, zero, suc, unsigned_abs, int_div, Bool, IsTrue, nat_lt, FitsSigned}
 use Rattle.std.specs.Int.{FitsUnsignedBits, Width, int_pow}
 use mir.Val.{hbits}
@@ -26,7 +26,7 @@ pub use Rattle.integer_core.proofs.Quotients.{only_floored, other_quotient_fits,
 pub use Rattle.integer_core.proofs.Ranges.{within_fits}
 pub use Rattle.integer_core.proofs.Signs.{from_not_less}
 pub use Rattle.integer_roots.proofs.OnlyAnswers.{root_is_only_one}
-pub use Rattle.integer_roots.proofs.Powers.{power_of_one, power_of_zero}
+pub use Rattle.integer_roots.proofs.Powers.{power_of_one, power_of_power, power_of_zero}
 pub use Rattle.integer_roots.proofs.RootRange.{root_in_range}
 pub use Rattle.integer_roots.proofs.MagnitudeRoots.{first_root}
 pub use Rattle.integer_core.proofs.Whole.{comm, dist, dist-left, expand, linear, mul-neg, mul-one, product_positive, products, sizes}
@@ -35,7 +35,7 @@ pub use Rattle.num_integer.proofs.Pascal.{coefficient-pos, coefficient-zero, non
 
 -- ---- quotients, remainders and multiples by a number above 0
 
--- products of numbers from 0 up
+-- products of numbers at least 0
 pub product_from_zero : (k d : ℤ) → pos 0 ≤ℤ k → pos 0 ≤ℤ d → pos 0 ≤ℤ (k *ℤ d)
 product_from_zero k d up from_zero = grind (arith, products)
 
@@ -54,7 +54,7 @@ product_at_most {u} {v} {x} {y} u_up u_at_most v_up v_at_most =
     let j = simp expand at second in
     omega (arith, products)
 
--- a factor of a number above 0, beside one above 0
+-- a factor of a number above 0, where the other factor is above 0
 pub factor_positive : {g s m : ℤ} → pos 0 <ℤ m → pos 0 <ℤ g → m ≡ g *ℤ s → pos 0 <ℤ s
 factor_positive {g} {s} {m} up g_up e = by_lt_z (pos 0) s (λ fine. fine)
     (λ under.
@@ -137,7 +137,7 @@ positive_quotient_fits range n_fits d_fits up division = other_quotient_fits ran
 pub operator_quotient_fits : {fits : ℤ → Type 0} {low high : ℤ} (n d : ℤ) → IsRange fits low high → fits n → fits d → pos 0 <ℤ d → fits (int_div n d)
 operator_quotient_fits n d range n_fits d_fits up = positive_quotient_fits range n_fits d_fits up (truncated_is n d (λ e. omega (arith, linear))).division
 
--- a sum with a number from 0 up fits exactly where it is at most the greatest number, by signs and magnitudes
+-- a sum with a number at least 0 fits exactly where it is at most the greatest number, by signs and magnitudes
 pub sum_fits_exactly : {fits : ℤ → Type 0} {low high a b : ℤ} {negative answer : Bool} {m n h : ℕ} → IsRange fits low high → fits a → pos 0 ≤ℤ b → IsTrue negative ↔ (a <ℤ pos 0) → m ≡ unsigned_abs a
     → n ≡ unsigned_abs b → pos h ≡ high → IsTrue answer ↔ ((signed negative m +ℤ pos n) ≤ℤ pos h) → IsTrue answer ↔ fits (a +ℤ b)
 sum_fits_exactly {high = high} {a = a} {b = b} {answer = answer} {n = n} range a_fits up negative a_size b_size top test =
@@ -368,3 +368,28 @@ literal_lcm_fits bits h test = subst (FitsUnsignedBits bits) (sym (lcm_is h)) (l
 
 pub literal_lcm_fits_signed : (w : Width) {a b l : ℤ} → IsLeastCommonMultiple a b l → IsTrue (nat_lt (lcm_number (unsigned_abs a) (unsigned_abs b)) (2 ^ hbits w)) → FitsSigned w l
 literal_lcm_fits_signed w h test = subst (FitsSigned w) (sym (lcm_is h)) (fits_signed_from_abs w _ (ltb-true _ _ test))
+
+-- ---- division by literals
+
+-- a floored quotient by inequalities
+pub floored_quotient_range : {n q : ℤ} {d : ℕ} → IsQuotient IsFloored n (pos (suc d)) q → ((q *ℤ pos (suc d)) ≤ℤ n) × (n <ℤ (q *ℤ pos (suc d) +ℤ pos (suc d)))
+floored_quotient_range {q = q} h =
+    let range = floored_remainder_range (omega (arith, ints)) (record { quotient = q; division = h.division }) in
+    let equation = h.division.division.equation in
+    (omega (arith, linear), omega (arith, linear))
+
+-- a ceiled quotient by inequalities
+pub ceiled_quotient_range : {n q : ℤ} {d : ℕ} → IsQuotient IsCeiled n (pos (suc d)) q → (n ≤ℤ (q *ℤ pos (suc d))) × ((q *ℤ pos (suc d)) <ℤ (n +ℤ pos (suc d)))
+ceiled_quotient_range h =
+    let range = ceiled_remainder_range (omega (arith, ints)) h.division in
+    let equation = h.division.division.equation in
+    (omega (arith, linear), omega (arith, linear))
+
+-- a divisor of a whole number leaves no remainder of its magnitude
+pub divides_by_magnitude : (z : ℤ) (d : ℕ) → 0 < d → Divides (pos d) z ↔ (unsigned_abs z % d ≡ 0)
+divides_by_magnitude (pos n) d up = divides_is_natural up
+divides_by_magnitude (negsuc n) d up =
+    let natural = divides_is_natural {d = d} {n = suc n} up in (
+      λ h. natural.0 (Divides-trans h (record { factor = negsuc 0; product = omega (arith, ints) })),
+      λ e. Divides-trans (natural.1 e) (record { factor = negsuc 0; product = omega (arith, ints) }),
+    )

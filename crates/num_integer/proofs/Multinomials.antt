@@ -167,7 +167,7 @@ test_of None c most range top is h = ((λ t. absurd (cc)), λ f. let below = (fi
 abbrev pub HasFittingMultinomial : {X : Type 0} → (ℤ → Type 0) → (X → ℤ) → List X → Type 0
 HasFittingMultinomial {X} fits value counts = All (λ (x : X). pos 0 ≤ℤ value x) counts × EachFits fits (IsMultinomial (map value counts))
 
--- the counts before the i-th are not negative, and what they come to is at most the greatest number
+-- the counts before the i-th are not negative, and their sum is at most the greatest number
 pub record IsWithinSoFar {X : Type 0} (value : X → ℤ) (counts : List X) (i total m most : ℕ) : Type 0 where
   pub shared : IsSharedSoFar value counts i total m
   pub within : m ≤ most

@@ -10,7 +10,7 @@ use borrow.Author.Differences.{abs_is}
 use Rattle.integer_core.proofs.CommonDivisors.{gcd-nonzero, gcd-positive, gcd-times}
 use Rattle.integer_core.proofs.Divisibility.{cancel, Divides-cancel, exact_quotient}
 use Rattle.integer_core.proofs.EuclidTurns.{divisor_size}
-use Rattle.integer_core.proofs.Whole.{comm, expand, linear}
+use Rattle.integer_core.proofs.Whole.{comm, expand, linear, products}
 use Rattle.integer_core.specs.Divisors.{Divides, IsGreatestCommonDivisor}
 use Rattle.integer_core.specs.Range.{IsRange}
 use Rattle.num_integer.proofs.FittingAnswers.{fits_below}
@@ -76,21 +76,37 @@ module _ {r b g : ℤ} (b_above : pos 0 <ℤ b) (greatest : IsGreatestCommonDivi
   pub g_below : g ≤ℤ b
   g_below = omega (arith, linear, abs_is, greatest.from_zero, divisor_size greatest.divides_right (λ e. absurd (omega (arith, linear))))
 
-  -- what b has beside g
+  -- the cofactor of g in b
   pub rest_above : {s : ℤ} → s ≡ int_div b g → pos 0 <ℤ s
   rest_above is = rw is (factor_positive b_above g_above (exact_quotient nonzero greatest.divides_right))
 
+  -- where g is b
+  pub cancelled_whole : (a : ℤ) → b ≤ℤ g → int_div r b *ℤ a *ℤ b ≡ r *ℤ a
+  cancelled_whole a large =
+      let same : g ≡ b = omega (arith, linear, g_below) in
+      let divides : Divides b r = rw same at greatest.divides_left in
+      regrouped r a b b (int_div r b) (pos 1) a (exact_quotient (rw same at nonzero) divides) (omega (arith, products)) (omega (arith, products))
+
   module _ {a : ℤ} (a_up : pos 0 ≤ℤ a) (whole : Divides b (r *ℤ a)) where
-    rest_divides : Divides (int_div b g) a
-    rest_divides =
+    rest_divides : {s : ℤ} → b ≡ g *ℤ s → Divides s a
+    rest_divides is =
         let multiple : Divides b (a *ℤ b) = record { factor = a; product = comm a b } in
         let times : Divides b (g *ℤ a) = rw (comm g a) ((gcd-times a a_up greatest).greatest b (rw (comm a r) whole) multiple) in
-        Divides-cancel g nonzero (rw (← exact_quotient nonzero greatest.divides_right) times)
+        Divides-cancel g nonzero (rw (← is) times)
+
+    cancelled_by : (q s : ℤ) → r ≡ g *ℤ q → b ≡ g *ℤ s → q *ℤ int_div a s *ℤ b ≡ r *ℤ a
+    cancelled_by q s of_r of_b =
+        let s_nonzero : s ≢ pos 0 = λ e. absurd (omega (arith, linear, factor_positive b_above g_above of_b)) in
+        regrouped r a b g q s _ of_r of_b (exact_quotient s_nonzero (rest_divides of_b))
 
     pub cancelled : int_div r g *ℤ int_div a (int_div b g) *ℤ b ≡ r *ℤ a
-    cancelled =
-        let rest_nonzero : int_div b g ≢ pos 0 = λ e. absurd (omega (arith, linear, rest_above refl)) in
-        regrouped r a b g _ _ _ (exact_quotient nonzero greatest.divides_left) (exact_quotient nonzero greatest.divides_right) (exact_quotient rest_nonzero rest_divides)
+    cancelled = cancelled_by _ _ (exact_quotient nonzero greatest.divides_left) (exact_quotient nonzero greatest.divides_right)
+
+    -- where g is 1
+    pub cancelled_one : g ≤ℤ pos 1 → r *ℤ int_div a b *ℤ b ≡ r *ℤ a
+    cancelled_one small =
+        let one : g ≡ pos 1 = omega (arith, linear, g_above) in
+        cancelled_by r b (rw one (omega (arith, products))) (rw one (omega (arith, products)))
 
 -- ---- how the rest of a row shrinks
 
@@ -155,7 +171,7 @@ row_in_range {fits} (negsuc n) range row = All-nil fits
 
 -- ---- the steps of an iterator over the row of n
 
--- a new iterator stands at the first item
+-- a new iterator begins at the first item
 pub place_first : {fits : ℤ → Type 0} {n k item : ℤ} → fits n → RowFits fits n → fits k → k ≡ pos 0 → fits item → item ≡ pos 1 → IsPlaceInRow fits n k item
 place_first n_fits row k_fits none item_fits one =
     record { n_in_range = n_fits; k_in_range = k_fits; k_from_zero = omega (arith, ints); row_fits = row; item_in_range = item_fits; item_is = λ within. one ∙ ap pos (sym (rw none (coefficient-zero _))) }

@@ -7,7 +7,7 @@ coefficient n zero = 1
 coefficient zero (suc k) = 0
 coefficient (suc n) (suc k) = coefficient n k + coefficient n (suc k)
 
--- that of two whole numbers from 0 up
+-- the coefficient of two whole numbers at least 0
 abbrev pub coefficient_of : ℤ → ℤ → ℤ
 coefficient_of n k = pos (coefficient (unsigned_abs n) (unsigned_abs k))
 

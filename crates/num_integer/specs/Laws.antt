@@ -21,7 +21,7 @@ use Rattle.num_integer.specs.Row.{middle_of, row_of}
 abbrev pub DivisionExists : Type 0
 DivisionExists = EachKind (λ Kind. (n d : ℤ) → d ≢ pos 0 → (q r : ℤ) × Kind n d q r)
 
--- and they are the only ones
+-- the quotient and the remainder of a kind are the only ones
 abbrev pub DivisionIsOnly : Type 0
 DivisionIsOnly = EachKind (λ Kind. (n d q r : ℤ) → Kind n d q r → IsOnly (λ (p, s). Kind n d p s) (q, r))
 
@@ -40,11 +40,11 @@ GcdIsOnly = (a b g : ℤ) → IsGreatestCommonDivisor a b g → IsOnly (IsGreate
 abbrev pub GcdIsSymmetric : Type 0
 GcdIsSymmetric = (a b g : ℤ) → IsGreatestCommonDivisor a b g → IsGreatestCommonDivisor b a g
 
--- that of 0 and 0 is 0
+-- the gcd of 0 and 0 is 0
 abbrev pub GcdOfZeros : Type 0
 GcdOfZeros = IsGreatestCommonDivisor (pos 0) (pos 0) (pos 0)
 
--- of two numbers of a type, the condition `GcdFits` says just that their gcd fits
+-- for two numbers of a type, the condition `GcdFits` says exactly that their gcd fits
 abbrev pub GcdFitsExactly : Type 1
 GcdFitsExactly = (fits : ℤ → Type 0) (low high a b : ℤ) → IsRange fits low high → fits a → fits b
     → GcdFits fits a b ↔ EachFits fits (IsGreatestCommonDivisor a b)
@@ -76,7 +76,7 @@ BitLengthExists = (v : ℤ) → (l : ℕ) × IsBitLength v l
 abbrev pub BezoutAnswerExists : Type 0
 BezoutAnswerExists = (a b : ℤ) → (g x y : ℤ) × IsBezoutAnswer a b g x y
 
--- and only one
+-- each pair of numbers has only one Bezout answer
 abbrev pub BezoutAnswerIsOnly : Type 0
 BezoutAnswerIsOnly = (a b g x y : ℤ) → IsBezoutAnswer a b g x y → IsOnly (λ (h, z, w). IsBezoutAnswer a b h z w) (g, x, y)
 
@@ -109,11 +109,11 @@ SquareRootTurnsAreOnly = (x : ℤ) (n : ℕ) → AreSquareRootTurns x n → IsOn
 
 -- ---- coefficients
 
--- to choose k of n things is to choose the n - k others
+-- each choice of k of n things is a choice of the n - k others
 abbrev pub CoefficientMirror : Type 0
 CoefficientMirror = (n k : ℕ) → k ≤ n → coefficient n k ≡ coefficient n (n - k)
 
--- of n things nobody can choose more than n
+-- there is no choice of more than n of n things
 abbrev pub CoefficientAboveRow : Type 0
 CoefficientAboveRow = (n k : ℕ) → n < k → coefficient n k ≡ 0
 
@@ -136,7 +136,7 @@ MultinomialIgnoresOrder = (counts others : List ℤ) → IsPermutation counts ot
 abbrev pub RowLength : Type 0
 RowLength = (n : ℤ) → pos 0 ≤ℤ n → pos (length (row_of n)) ≡ n +ℤ pos 1
 
--- read from its end the list is the same
+-- the list is the same read from its end
 abbrev pub IsPalindrome : List ℤ → Type 0
 IsPalindrome items = reverse items ≡ items
 

@@ -12,7 +12,7 @@ pub record IsMultinomial (counts : List ℤ) (m : ℤ) : Type 0 where
   pub factorials : m *ℤ pos (product (map factorial (map unsigned_abs counts)))
       ≡ pos (factorial (sum (map unsigned_abs counts)))
 
--- the coefficient of each sum of counts and the last of them, where the counts before make up a sum
+-- for each count the coefficient of the sum so far, which begins with `before`, and the count
 unfoldable pub coefficients_from : ℕ → List ℕ → List ℕ
 coefficients_from before [] = []
 coefficients_from before (count ∷ counts) =

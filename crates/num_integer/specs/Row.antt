@@ -16,7 +16,7 @@ middle_of n = pos (coefficient (unsigned_abs n) (unsigned_abs n / 2))
 abbrev pub RowFits : (ℤ → Type 0) → ℤ → Type 0
 RowFits fits n = (pos 0 ≤ℤ n) → fits (n +ℤ pos 1) × fits (middle_of n)
 
--- an iterator over the row of n that gives item next, as the k-th
+-- an iterator over the row of n, whose next item is the k-th
 pub record IsPlaceInRow (fits : ℤ → Type 0) (n k item : ℤ) : Type 0 where
   pub n_in_range : fits n
   pub k_in_range : fits k

@@ -1,4 +1,4 @@
-//! Coefficients of natural numbers up to a bound: each call stops as soon as it passes the bound.
+//! Coefficients of natural numbers up to a bound. Each call stops as soon as it passes the bound.
 
 ghost use Rattle.std.specs.Prelude.{◌≡◌, ◌+◌, ◌*◌, ◌<◌, ◌≤◌};
 ghost use Rattle.std.specs.Option.{MatchOption};
@@ -6,7 +6,7 @@ ghost use Rattle.num_integer.specs.Coefficient.{coefficient};
 
 use crate::coefficients::factors;
 
-/// The coefficient of `n` and `k + 1`, where `c` is that of `n` and `k`, or `None` where it is
+/// Returns the coefficient of `n` and `k + 1`, where `c` is that of `n` and `k`, or `None` where it is
 /// above `most`.
 #[tactic(auto, using(crate::proofs::Steps::next_natural, crate::proofs::Steps::next_natural_divides))]
 fn next_within(c: u128, n: u128, k: u128, most: u128) -> Option<u128>
@@ -20,8 +20,8 @@ fn next_within(c: u128, n: u128, k: u128, most: u128) -> Option<u128>
     if next <= most { Some(next) } else { None }
 }
 
-/// The coefficient of `n` and `k`, or `None` where it is above `most`. The loop makes at most 128
-/// turns: a coefficient that `t` turns have reached is at least 2 to the power `t`.
+/// Returns the coefficient of `n` and `k`, or `None` where it is above `most`. The loop makes at most
+/// 128 turns: after `t` turns the coefficient is at least 2 to the power `t`.
 #[tactic(auto, using(crate::proofs::Pascal::row_steps))]
 pub(crate) fn coefficient_within(n: u128, k: u128, most: u128) -> Option<u128>
     requires { 0 < most }
@@ -49,7 +49,7 @@ pub(crate) struct Shared {
 }
 
 impl Shared {
-    /// The same with one more count, or `None` where the multinomial is then above `most`.
+    /// Returns the same with one more count, or `None` where the multinomial is then above `most`.
     pub(crate) fn with_count(self, count: u128, most: u128) -> Option<Shared>
         requires positive { 0 < self.multinomial }
         requires within { self.multinomial ≤ most }

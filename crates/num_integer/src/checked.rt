@@ -1,5 +1,5 @@
-//! The calls that have a condition, for numbers of which nothing is known: each is `Some` of the answer
-//! in the domain of the call that it is named after, and `None` everywhere else.
+//! The calls that have a condition, without the condition: each returns `Some` of the answer in the
+//! domain of the plain call of its name, and `None` everywhere else.
 
 mod coefficients;
 mod division;

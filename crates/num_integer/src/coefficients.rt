@@ -10,8 +10,9 @@ ghost use Rattle.num_integer.specs.Multinomial.{IsMultinomial};
 use integer_core::Integer;
 use integer_core::operators::{difference, is_below, one, product, quotient, successor, sum, zero};
 
-/// The factors `r / g` and `a / (b / g)` of `r * a / b`, where `g` is the gcd of `r` and `b`, which is
-/// that of `b` and the remainder of `r`. After <https://blog.plover.com/math/choose-2.html>.
+/// Returns the factors `r / g` and `a / (b / g)` of `r * a / b`, where `g` is the gcd of `r` and `b`,
+/// computed as that of `b` and the remainder of `r`. Where `g` is `b` or 1, one division gives both.
+/// After <https://blog.plover.com/math/choose-2.html>.
 pub(crate) fn factors<T: Integer>(r: T, a: T, b: T) -> (T, T)
     requires r_in_range { T.fits (T.value r) }
     requires a_in_range { T.fits (T.value a) }
@@ -24,10 +25,16 @@ pub(crate) fn factors<T: Integer>(r: T, a: T, b: T) -> (T, T)
         ≡ T.value r *ℤ T.value a }
 {
     let g = r.mod_floor(&b).gcd(&b);
-    (quotient(r, g), quotient(a, quotient(b, g)))
+    if !is_below(g, b) {
+        (quotient(r, b), a)
+    } else if is_below(one(), g) {
+        (quotient(r, g), quotient(a, quotient(b, g)))
+    } else {
+        (r, quotient(a, b))
+    }
 }
 
-/// The coefficient of `n` and `k + 1`, where `c` is that of `n` and `k`: it is
+/// Returns the coefficient of `n` and `k + 1`, where `c` is that of `n` and `k`: it is
 /// `c * (n - k) / (k + 1)`, and no intermediate value exceeds the result.
 #[tactic(auto, using(crate::proofs::FittingAnswers::fits_below))]
 pub(crate) fn next_coefficient<T: Integer>(c: T, n: T, k: T) -> T
@@ -45,7 +52,7 @@ pub(crate) fn next_coefficient<T: Integer>(c: T, n: T, k: T) -> T
     product(x, y)
 }
 
-/// The lesser of `k` and `n - k`.
+/// Returns the lesser of `k` and `n - k`.
 fn nearer_end<T: Integer>(n: T, k: T) -> T
     requires n_in_range { T.fits (T.value n) }
     requires k_in_range { T.fits (T.value k) }
@@ -59,8 +66,10 @@ fn nearer_end<T: Integer>(n: T, k: T) -> T
     if is_below(rest, k) { rest } else { k }
 }
 
-/// [`binomial`], and the number of turns of its loop. `binomial_counted(9, 4)` is `(126, 4)`, and
-/// `binomial_counted(200, 199)` is `(200, 1)`.
+/// Returns [`binomial`] and the number of turns of its loop. `binomial_counted(9, 4)` is `(126, 4)`,
+/// and `binomial_counted(200, 199)` is `(200, 1)`.
+///
+/// May be called where [`binomial`] may.
 #[tactic(auto, using(crate::proofs::Pascal::row_steps))]
 pub fn binomial_counted<T: Integer>(n: T, k: T) -> (T, u32)
     requires n_in_range { T.fits (T.value n) }
@@ -90,9 +99,10 @@ pub fn binomial_counted<T: Integer>(n: T, k: T) -> (T, u32)
     (coefficient, turns)
 }
 
-/// The binomial coefficient of `n` and `k`, the number of ways to choose `k` of `n` things.
-/// `binomial(9, 4)` is `126`, and `binomial(2, 3)` is `0`. [`crate::Fits::binomial_fits`] tells whether it
-/// may be called.
+/// Returns the binomial coefficient of `n` and `k`, the number of ways to choose `k` of `n` things.
+/// `binomial(9, 4)` is `126`, and `binomial(2, 3)` is `0`.
+///
+/// May be called where [`crate::Fits::binomial_fits`] is true.
 ///
 /// Each coefficient of `n` fits up to this `n`, and above it those near the middle do not:
 ///
@@ -111,9 +121,10 @@ pub fn binomial<T: Integer>(n: T, k: T) -> T
     binomial_counted(n, k).0
 }
 
-/// The number of ways to share out the sum of the counts `k` into parts of these sizes.
-/// `multinomial(&[2, 1, 2])` is `30`, and `multinomial(&[])` is `1`. [`crate::Fits::multinomial_fits`] tells
-/// whether it may be called.
+/// Returns the number of ways to share out the sum of the counts `k` into parts of these sizes.
+/// `multinomial(&[2, 1, 2])` is `30`, and `multinomial(&[])` is `1`.
+///
+/// May be called where [`crate::Fits::multinomial_fits`] is true.
 #[tactic(auto, using(crate::proofs::Multinomials::multinomial_first))]
 pub fn multinomial<T: Integer>(k: &[T]) -> T
     requires counts_in_range { All (λ x. T.fits (T.value x)) k.now }

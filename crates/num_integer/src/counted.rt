@@ -1,4 +1,4 @@
-//! The calls that tell how many turns their loop made.
+//! Calls that return the result of the plain call and the number of turns of its loop.
 
 pub use crate::coefficients::binomial_counted;
 pub use integer_core::counted::{GcdCounted, extended_gcd_counted};

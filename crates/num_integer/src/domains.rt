@@ -1,4 +1,4 @@
-//! Tests of the domains.
+//! Tests of the domains of the calls.
 
 ghost use Rattle.std.specs.Prelude.{◌≡◌, ◌≢◌, ◌↔◌, ◌≤ℤ◌, ◌<ℤ◌, pos, unsigned_abs, map, IsTrue};
 ghost use Rattle.std.specs.List.{All};
@@ -14,23 +14,24 @@ use integer_core::operators::{difference, is_negative, is_zero};
 use integer_core::{Integer, NativeInteger};
 use num_traits::ToPrimitive;
 
-/// Whether the arguments of a call lie in its domain. Your own type implements `parts` and `ends`.
+/// Tests whether the arguments of a call lie in its domain. Your own type implements `parts` and
+/// `ends`.
 pub trait Fits: Integer {
-    /// Whether the number is negative, and its magnitude.
+    /// Returns whether the number is negative, and its magnitude. `(-5).parts()` is `(true, 5)`.
     fn parts(&self) -> (bool, u128)
         requires { Self.fits (Self.value self.now) }
         ensures negative { IsTrue result.0 ↔ (Self.value self.now <ℤ pos 0) }
         ensures magnitude { result.1 ≡ unsigned_abs (Self.value self.now) };
 
-    /// The magnitude of the least number of the type, and its greatest number. For `i64` this is
-    /// `(9223372036854775808, 9223372036854775807)`.
+    /// Returns the magnitude of the least number of the type, and its greatest number. `i8::ends()` is
+    /// `(128, 127)`.
     fn ends() -> (u128, u128)
         ensures low { result.0 ≡ unsigned_abs Self.low }
         ensures high { pos result.1 ≡ Self.high };
 
-    /// Whether `self` may be divided by `other`, as in `div_rem`, `div_floor`, `div_mod_floor` and
-    /// `div_ceil`: false for a divisor 0, and for the least number by -1 where its negation does
-    /// not fit.
+    /// Returns `true` if `div_rem`, `div_floor`, `div_mod_floor` and `div_ceil` may be called: not for
+    /// a divisor 0, and not for the least number by -1 where its negation does not fit.
+    /// `i8::MIN.quotient_fits(&2)` is `true`, and `i8::MIN.quotient_fits(&-1)` is `false`.
     fn quotient_fits(&self, other: &Self) -> bool
         requires self_in_range { Self.fits (Self.value self.now) }
         requires other_in_range { Self.fits (Self.value other.now) }
@@ -48,8 +49,9 @@ pub trait Fits: Integer {
         }
     }
 
-    /// Whether `next_multiple_of` may be called: false for a divisor 0, and where the multiple is
-    /// outside the type.
+    /// Returns `true` if `next_multiple_of` may be called: not for a divisor 0, and not where the
+    /// multiple is outside the type. `250u8.next_multiple_fits(&5)` is `true`, and
+    /// `251u8.next_multiple_fits(&8)` is `false`.
     fn next_multiple_fits(&self, other: &Self) -> bool
         requires self_in_range { Self.fits (Self.value self.now) }
         requires other_in_range { Self.fits (Self.value other.now) }
@@ -70,8 +72,9 @@ pub trait Fits: Integer {
         )
     }
 
-    /// Whether `prev_multiple_of` may be called: false for a divisor 0, and where the multiple is
-    /// outside the type.
+    /// Returns `true` if `prev_multiple_of` may be called: not for a divisor 0, and not where the
+    /// multiple is outside the type. `(-120i8).prev_multiple_fits(&8)` is `true`, and
+    /// `(-125i8).prev_multiple_fits(&10)` is `false`.
     #[tactic(auto, using(crate::proofs::FittingAnswers::parts_inside))]
     fn prev_multiple_fits(&self, other: &Self) -> bool
         requires self_in_range { Self.fits (Self.value self.now) }
@@ -86,8 +89,8 @@ pub trait Fits: Integer {
         sum_is_within(self.parts(), (!negative, remainder), Self::ends())
     }
 
-    /// Whether `gcd` may be called: false where the least number, whose negation does not fit,
-    /// meets itself or 0.
+    /// Returns `true` if `gcd` may be called: not for the least number, whose negation does not fit,
+    /// with itself or with 0. `i8::MIN.gcd_fits(&64)` is `true`, and `i8::MIN.gcd_fits(&0)` is `false`.
     fn gcd_fits(&self, other: &Self) -> bool
         requires self_in_range { Self.fits (Self.value self.now) }
         requires other_in_range { Self.fits (Self.value other.now) }
@@ -104,8 +107,8 @@ pub trait Fits: Integer {
         }
     }
 
-    /// Whether `lcm` may be called: true where an operand is 0, and else where the multiple is in
-    /// the type.
+    /// Returns `true` if `lcm` may be called: where an operand is 0, or where the multiple is in the
+    /// type. `15u8.lcm_fits(&17)` is `true`, and `16u8.lcm_fits(&17)` is `false`.
     fn lcm_fits(&self, other: &Self) -> bool
         requires self_in_range { Self.fits (Self.value self.now) }
         requires other_in_range { Self.fits (Self.value other.now) }
@@ -125,9 +128,9 @@ pub trait Fits: Integer {
         }
     }
 
-    /// Whether `binomial(self, k)` may be called: neither number is negative, and the coefficient
-    /// fits. For `u8` it is true at `(11, 3)` and false at `(11, 4)`. The loop makes at most 128
-    /// turns.
+    /// Returns `true` if `binomial(self, k)` may be called: neither number is negative, and the
+    /// coefficient fits. `11u8.binomial_fits(&3)` is `true`, and `11u8.binomial_fits(&4)` is `false`.
+    /// The loop makes at most 128 turns.
     fn binomial_fits(&self, k: &Self) -> bool
         requires self_in_range { Self.fits (Self.value self.now) }
         requires k_in_range { Self.fits (Self.value k.now) }
@@ -142,9 +145,9 @@ pub trait Fits: Integer {
         coefficient_within(n, k, Self::ends().1).is_some()
     }
 
-    /// Whether `multinomial(counts)` may be called: no count is negative, and the multinomial fits.
-    /// For `u8` it is true at `[254, 1]` and false at `[255, 1]`. Beside one turn for each count, the
-    /// loops make at most 128 turns together.
+    /// Returns `true` if `multinomial(counts)` may be called: no count is negative, and the multinomial
+    /// fits. `u8::multinomial_fits(&[254, 1])` is `true`, and `u8::multinomial_fits(&[255, 1])` is
+    /// `false`. The loops make one turn for each count, and at most 128 more in all.
     fn multinomial_fits(counts: &[Self]) -> bool
         requires in_range { All (λ x. Self.fits (Self.value x)) counts.now }
         ensures { IsTrue result ↔ (All (λ x. pos 0 ≤ℤ Self.value x) counts.now
@@ -179,7 +182,7 @@ impl<T: NativeInteger> Fits for T {
     }
 }
 
-/// The magnitude, as a number of 128 bits.
+/// Returns the magnitude, as a number of 128 bits.
 fn wide<T: NativeInteger>(x: T) -> u128
     requires { T.fits (T.value x) }
     ensures { result ≡ unsigned_abs (T.value x) }

@@ -1,4 +1,5 @@
-//! Integer division and what belongs to it, after the Rust crate `num-integer`, for every lawful type.
+//! Integer division, divisors, roots and coefficients for every lawful type, after the Rust crate
+//! `num-integer`.
 #![tactic(auto)]
 
 mod bounded_coefficients;

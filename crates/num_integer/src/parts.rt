@@ -1,10 +1,10 @@
 //! Sums and products of numbers, each given by its sign and its magnitude, in a range given by the
-//! magnitudes of its ends, of which the lower is not above 0.
+//! magnitudes of its ends. The lower end is not above 0.
 
 ghost use Rattle.std.specs.Prelude.{◌↔◌, ◌+◌, ◌<◌, ◌^◌, ◌+ℤ◌, ◌*ℤ◌, IsTrue};
 ghost use Rattle.num_integer.specs.Parts.{IsWithin, signed};
 
-/// Whether `a + b` lies in a range that has `a`.
+/// Returns `true` if `a + b` lies in a range that has `a`.
 pub(crate) fn sum_is_within(a: (bool, u128), b: (bool, u128), ends: (u128, u128)) -> bool
     requires width { ends.0 + ends.1 < 2 ^ 128 }
     requires within { IsWithin ends.0 ends.1 (signed a.0 a.1) }
@@ -14,7 +14,7 @@ pub(crate) fn sum_is_within(a: (bool, u128), b: (bool, u128), ends: (u128, u128)
     b.1 <= if a.0 == b.0 { end - a.1 } else { end + a.1 }
 }
 
-/// Whether `a * b` lies in a range.
+/// Returns `true` if `a * b` lies in a range.
 pub(crate) fn product_is_within(a: (bool, u128), b: (bool, u128), ends: (u128, u128)) -> bool
     ensures { IsTrue result ↔ IsWithin ends.0 ends.1 (signed a.0 a.1 *ℤ signed b.0 b.1) }
 {

@@ -12,8 +12,12 @@ use integer_core::operators::{is_below, one, successor, zero};
 use std::marker::Model;
 
 /// An iterator over the coefficients of `n` and each number from `0` to `n`, in order. For a
-/// negative `n` it has no item. The greatest `n` whose row fits is 10 for `u8`, 9 for `i8`, 18 for
-/// `u16`, 17 for `i16`, 34 for `u32`, 33 for `i32`, 67 for `u64` and 66 for `i64`.
+/// negative `n` it has no item.
+///
+/// `IterBinomial::new(3u8).collect(alloc)` is a vector of `1`, `3`, `3` and `1`.
+///
+/// The greatest `n` whose row fits is 10 for `u8`, 9 for `i8`, 18 for `u16`, 17 for `i16`, 34 for
+/// `u32`, 33 for `i32`, 67 for `u64` and 66 for `i64`.
 #[derive(Drop)]
 pub struct IterBinomial<T: Integer> {
     n: T,
@@ -30,8 +34,9 @@ impl<T: Integer> Model for IterBinomial<T> {
 }
 
 impl<T: Integer> IterBinomial<T> {
-    /// The row of `n`. `IterBinomial::new(3u8)` gives `1`, `3`, `3`, `1`, and then `None`.
-    /// [`crate::checked::row`] has no condition.
+    /// Returns the row of `n`. `IterBinomial::new(3u8)` gives `1`, `3`, `3`, `1`, and then `None`.
+    ///
+    /// May be called where [`crate::checked::row`] returns `Some`.
     pub fn new(n: T) -> IterBinomial<T>
         requires in_range { T.fits (T.value n) }
         requires row_fits { RowFits T.fits (T.value n) }
@@ -46,7 +51,7 @@ impl<T: Integer> IterBinomial<T> {
     }
 }
 
-/// The item after the `k`-th, or that one again where it is the last.
+/// Returns the item after the `k`-th, or the `k`-th again where it is the last.
 fn item_after<T: Integer>(item: T, n: T, k: T) -> T
     requires item_in_range { T.fits (T.value item) }
     requires n_in_range { T.fits (T.value n) }

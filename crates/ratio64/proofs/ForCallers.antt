@@ -1,20 +1,25 @@
 -- Lemmas that the proofs of callers may cite, beside the laws.
-use Rattle.std.specs.Prelude.{◌≡◌, ◌≢◌, ◌<◌, ◌≤◌, ◌^◌, ◌*◌, ◌+ℤ◌, ◌*ℤ◌, ℤ, pos, unsigned_abs, Result, Ok, Err, IfOk, IsOk}
+use Rattle.std.specs.Prelude.{◌≡◌, ◌≢◌, ◌↔◌, ◌<◌, ◌≤◌, ◌^◌, ◌*◌, ◌+ℤ◌, ◌*ℤ◌, ℤ, pos, unsigned_abs, Result, Ok, Err, IfOk, IsOk}
 use Rattle.std.specs.Int.{w64}
 use Rattle.std.proofs.Common.{arith, ap, inl, inr, refl, sym, ◌∙◌}
 use Rattle.std.proofs.Math.Nat.{mul-le-mul_left}
 use Rattle.std.proofs.lemmas.Int.{ints, fits_signed_from_abs, unsigned_abs-mul}
-use Rattle.num_integer.proofs.ForCallers.{cancel, comm, expand, mul-one, products, sizes}
+use Rattle.num_integer.proofs.ForCallers.{Divides-refl, cancel, comm, divisor_at_most, expand, linear, mul-one, products, sizes}
+use Rattle.num_integer.specs.Divisors.{Divides}
 use Rattle.ratio64.specs.Fraction.{AreEqual, IsExact, IsFraction, IsOutsideI64, IsReduced}
 use Rattle.ratio64.specs.Ratio.{AnswersFraction, num_of, den_of}
 use Rattle.ratio64.specs.declared.fraction.Ratio.{Ratio}
 use Rattle.ratio64.specs.declared.error.RatioError.{RatioError}
 use Rattle.ratio64.specs.declared.error.RatioError.TheVariants.{ZeroDenominator, NotFitting}
+use Rattle.ratio64.proofs.ReducedParts.{one_divides}
 use Rattle.ratio64.proofs.Laws.{equal_fractions_have_one_result, products_of_equal_fractions, sums_of_equal_fractions}
 -- ---- lemmas from elsewhere
 
 pub use Rattle.ratio64.proofs.ExactResults.{only_exact_result}
 pub use Rattle.ratio64.proofs.FractionAnswers.{exact_answer, exact_is_inside, zero_exactly, zero_factor}
+pub use Rattle.ratio64.proofs.FractionPowers.{base_fits, equal_powers, power_nonzero, power_of_product, power_reduced}
+pub use Rattle.ratio64.proofs.NearestNumbers.{rounded_is_only}
+pub use Rattle.ratio64.proofs.ReducedParts.{magnitude_reduced, negated_reduced, remainder_reduced}
 pub use Rattle.ratio64.proofs.WideSums.{difference_below, read, read_product, sum_below}
 pub use Rattle.ratio64.specs.ReducedPairs.{AreEqual-sym, denominator_divides, positive_is_nonzero, same_pair}
 
@@ -86,6 +91,13 @@ whole_is_exact n = reduced_is_exact (record {
 -- a fraction whose numerator is 0 is 0/1
 pub zero_is_over_one : {n d : ℤ} → IsReduced n d → n ≡ pos 0 → d ≡ pos 1
 zero_is_over_one {n} {d} x none = (same_pair x (whole_is_exact (pos 0)).reduced (record { cross = rw none (omega (arith, products)) })).1
+
+-- the denominator divides the numerator exactly where it is 1
+pub whole_exactly : {n d : ℤ} → IsReduced n d → Divides d n ↔ (d ≡ pos 1)
+whole_exactly {n} {d} x = (
+  λ h. omega (arith, linear, x.positive, divisor_at_most (omega (arith, linear)) (x.lowest.greatest d h (Divides-refl d))),
+  λ one. rw one (one_divides n),
+)
 
 -- ---- equal fractions
 

@@ -2,5 +2,10 @@ pub mod ExactResults
 pub mod ForCallers
 pub mod FractionAnswers
 pub mod Laws
+pub mod ReadTexts
 pub mod WideSums
 pub mod EqualFractions
+pub mod FractionPowers
+pub mod ReducedAnswers
+pub mod ReducedParts
+pub mod NearestNumbers

@@ -2,6 +2,8 @@ pub mod Fraction
 pub mod Laws
 pub mod RatioError
 pub mod Ratio
+pub mod RatioText
+pub mod Rounding
 -- lemmas that the invariant and the order of `Ratio` cite
 pub mod ReducedPairs
 pub mod FractionOrder

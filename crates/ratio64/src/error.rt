@@ -1,9 +1,9 @@
-//! Why a call has no fraction to answer.
+//! Why a call returns no fraction.
 
 ghost use Rattle.std.specs.Prelude.{◌≡◌};
 ghost use Rattle.ratio64.specs.RatioError.{number_of};
 
-/// Why a call has no fraction to answer.
+/// Why a call returns no fraction.
 #[derive(Debug, Clone, Copy, PartialEq, Eq)]
 pub enum RatioError {
     /// The denominator is 0.
@@ -13,8 +13,8 @@ pub enum RatioError {
 }
 
 impl RatioError {
-    /// The number of the error: 1 for `ZeroDenominator`, 2 for `NotFitting`. It is the same in every
-    /// version.
+    /// Returns the number of the error: `1` for `ZeroDenominator`, `2` for `NotFitting`. It is the
+    /// same in every version.
     pub fn number(&self) -> u32
         ensures { result ≡ number_of self.now }
     {

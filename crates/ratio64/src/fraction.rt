@@ -1,9 +1,14 @@
-//! A fraction, kept reduced, and the calls that make one.
+//! A fraction, which is always reduced, and the calls that make one.
 
 ghost use Rattle.std.specs.Prelude.{◌≡◌, ◌≢◌, ◌↔◌, ◌<◌, ◌^◌, ◌+ℤ◌, ◌-ℤ◌, ◌*ℤ◌, pos, unsigned_abs, Err};
 ghost use Rattle.num_integer.specs.Division.{IsCeiled, IsFloored, IsQuotient};
 ghost use Rattle.ratio64.specs.Fraction.{IsReduced};
 ghost use Rattle.ratio64.specs.ReducedPairs.{IsReduced-prop};
+
+mod powers;
+mod rounding;
+mod sign;
+mod whole;
 
 use crate::RatioError;
 use crate::products::{difference, product, sum};
@@ -21,42 +26,43 @@ pub struct Ratio {
 impl Ratio {
     ghost use Rattle.ratio64.specs.Ratio.{AnswersFraction, num_of, den_of};
 
-    /// The fraction `num / den`, reduced. `Ratio::new(6, -4)` is -3/2.
+    /// Returns the fraction `num / den`, reduced. `Ratio::new(6, -4)` is -3/2, and
+    /// `Ratio::new(1, 0)` is `ZeroDenominator`.
     pub fn new(num: i64, den: i64) -> Result<Ratio, RatioError>
         ensures { AnswersFraction num den result }
     {
         Ratio::reduced(i128::from(num), i128::from(den))
     }
 
-    /// The numerator of the reduced fraction. Of 6/-4 it is -3.
+    /// Returns the numerator of the reduced fraction. That of 6/-4 is `-3`.
     pub fn num(&self) -> i64
         ensures { result ≡ num_of self.now }
     {
         self.num
     }
 
-    /// The denominator of the reduced fraction, which is above 0. Of 6/-4 it is 2.
+    /// Returns the denominator of the reduced fraction, which is above 0. That of 6/-4 is `2`.
     pub fn den(&self) -> i64
         ensures { result ≡ den_of self.now }
     {
         self.den
     }
 
-    /// The fraction rounded down. Of -3/2 it is -2.
+    /// Returns the fraction rounded down. For -3/2 it returns `-2`.
     pub fn floor(&self) -> i64
         ensures { IsQuotient IsFloored (num_of self.now) (den_of self.now) result }
     {
         div_floor(self.num, self.den)
     }
 
-    /// The fraction rounded up. Of -3/2 it is -1.
+    /// Returns the fraction rounded up. For -3/2 it returns `-1`.
     pub fn ceil(&self) -> i64
         ensures { IsQuotient IsCeiled (num_of self.now) (den_of self.now) result }
     {
         div_ceil(self.num, self.den)
     }
 
-    /// The sum. 1/2 and 1/3 give 5/6.
+    /// Returns the sum, or `NotFitting` where a part of it does not fit. 1/2 and 1/3 give 5/6.
     pub fn checked_add(&self, other: &Ratio) -> Result<Ratio, RatioError>
         ensures sum { AnswersFraction
             (num_of self.now *ℤ den_of other.now +ℤ num_of other.now *ℤ den_of self.now)
@@ -66,7 +72,7 @@ impl Ratio {
         self.over_both(other, sum(self.num, self.den, other.num, other.den))
     }
 
-    /// The difference. 1/2 and 1/3 give 1/6.
+    /// Returns the difference, or `NotFitting` where a part of it does not fit. 1/2 and 1/3 give 1/6.
     pub fn checked_sub(&self, other: &Ratio) -> Result<Ratio, RatioError>
         ensures difference { AnswersFraction
             (num_of self.now *ℤ den_of other.now -ℤ num_of other.now *ℤ den_of self.now)
@@ -76,7 +82,7 @@ impl Ratio {
         self.over_both(other, difference(self.num, self.den, other.num, other.den))
     }
 
-    /// The product. 2/3 and 3/4 give 1/2.
+    /// Returns the product, or `NotFitting` where a part of it does not fit. 2/3 and 3/4 give 1/2.
     pub fn checked_mul(&self, other: &Ratio) -> Result<Ratio, RatioError>
         ensures product { AnswersFraction (num_of self.now *ℤ num_of other.now)
             (den_of self.now *ℤ den_of other.now) result }
@@ -85,7 +91,8 @@ impl Ratio {
         self.over_both(other, product(self.num, other.num))
     }
 
-    /// The quotient. -1/2 and -3/4 give 2/3.
+    /// Returns the quotient, or `ZeroDenominator` where `other` is 0, or `NotFitting` where a part of
+    /// the quotient does not fit. -1/2 and -3/4 give 2/3.
     pub fn checked_div(&self, other: &Ratio) -> Result<Ratio, RatioError>
         ensures quotient { AnswersFraction (num_of self.now *ℤ den_of other.now)
             (num_of other.now *ℤ den_of self.now) result }
@@ -95,7 +102,15 @@ impl Ratio {
         Ratio::reduced(product(self.num, other.den), product(other.num, self.den))
     }
 
-    /// The fraction of `num` over the product of the two denominators.
+    /// Returns the reciprocal `den / num`, or `ZeroDenominator` where the fraction is 0, or
+    /// `NotFitting` where the numerator is `i64::MIN`. That of -2/3 is -3/2.
+    pub fn checked_recip(&self) -> Result<Ratio, RatioError>
+        ensures { AnswersFraction (den_of self.now) (num_of self.now) result }
+    {
+        Ratio::new(self.den, self.num)
+    }
+
+    /// Returns the fraction of `num` over the product of the two denominators.
     fn over_both(&self, other: &Ratio, num: i128) -> Result<Ratio, RatioError>
         requires { unsigned_abs num < 2 ^ 127 }
         ensures fraction { AnswersFraction num (den_of self.now *ℤ den_of other.now) result }
@@ -104,8 +119,8 @@ impl Ratio {
         Ratio::reduced(num, product(self.den, other.den))
     }
 
-    /// The fraction `num / den`, divided by what its parts have in common.
-    fn reduced(num: i128, den: i128) -> Result<Ratio, RatioError>
+    /// Returns the fraction `num / den`, with both parts divided by their greatest common divisor.
+    pub(crate) fn reduced(num: i128, den: i128) -> Result<Ratio, RatioError>
         requires num_below { unsigned_abs num < 2 ^ 127 }
         requires den_below { unsigned_abs den < 2 ^ 127 }
         ensures { AnswersFraction num den result }
@@ -118,7 +133,7 @@ impl Ratio {
     }
 }
 
-/// A whole number as a fraction, which is never refused: `Ratio::from(5)` is 5/1.
+/// A whole number is never refused: `Ratio::from(5)` is 5/1.
 impl From<i64> for Ratio {
     ghost use Rattle.ratio64.specs.Ratio.{num_of, den_of};
 

@@ -4,6 +4,7 @@
 mod error;
 mod fraction;
 mod order;
+mod parse;
 mod products;
 mod reduction;
 #[cfg(test)]
@@ -12,3 +13,4 @@ mod text;
 
 pub use error::RatioError;
 pub use fraction::Ratio;
+pub use parse::ParseRatioError;

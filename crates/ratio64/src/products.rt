@@ -2,7 +2,7 @@
 
 ghost use Rattle.std.specs.Prelude.{◌≡◌, ◌<◌, ◌^◌, ◌<ℤ◌, ◌+ℤ◌, ◌-ℤ◌, ◌*ℤ◌, pos, unsigned_abs};
 
-/// The product of two parts.
+/// Returns the product of two parts.
 pub(crate) fn product(a: i64, b: i64) -> i128
     ensures value { result ≡ a *ℤ b }
     ensures below { unsigned_abs result < 2 ^ 127 }
@@ -11,7 +11,7 @@ pub(crate) fn product(a: i64, b: i64) -> i128
     i128::from(a) * i128::from(b)
 }
 
-/// The numerator of the sum of `a / b` and `c / d`, over the product of their denominators.
+/// Returns the numerator of the sum of `a / b` and `c / d` over the product of their denominators.
 pub(crate) fn sum(a: i64, b: i64, c: i64, d: i64) -> i128
     requires b_positive { pos 0 <ℤ b }
     requires d_positive { pos 0 <ℤ d }
@@ -21,7 +21,8 @@ pub(crate) fn sum(a: i64, b: i64, c: i64, d: i64) -> i128
     product(a, d) + product(c, b)
 }
 
-/// The numerator of the difference of `a / b` and `c / d`, over the product of their denominators.
+/// Returns the numerator of the difference of `a / b` and `c / d` over the product of their
+/// denominators.
 pub(crate) fn difference(a: i64, b: i64, c: i64, d: i64) -> i128
     requires b_positive { pos 0 <ℤ b }
     requires d_positive { pos 0 <ℤ d }

@@ -7,7 +7,8 @@ ghost use Rattle.ratio64.specs.Fraction.{IsFraction, IsExact, IsOutsideI64};
 use crate::RatioError;
 use num_integer::gcd;
 
-/// The parts of the reduced fraction that is equal to `num / den`, where they fit.
+/// Returns the parts of the reduced fraction that is equal to `num / den`, or `NotFitting` where they
+/// do not fit.
 pub(crate) fn lowest_terms(num: i128, den: i128) -> Result<(i64, i64), RatioError>
     requires num_below { unsigned_abs num < 2 ^ 127 }
     requires den_below { unsigned_abs den < 2 ^ 127 }
@@ -19,7 +20,7 @@ pub(crate) fn lowest_terms(num: i128, den: i128) -> Result<(i64, i64), RatioErro
     Ok((part(num)?, part(den)?))
 }
 
-/// The fraction with both parts divided by their greatest common divisor, and with `den` above 0.
+/// Returns both parts divided by their greatest common divisor, with a denominator above 0.
 fn wide_terms(num: i128, den: i128) -> (i128, i128)
     requires num_below { unsigned_abs num < 2 ^ 127 }
     requires den_below { unsigned_abs den < 2 ^ 127 }
@@ -32,7 +33,7 @@ fn wide_terms(num: i128, den: i128) -> (i128, i128)
     (num / divisor, den / divisor)
 }
 
-/// The number as a part of a fraction.
+/// Returns the number as a part of a fraction, or `NotFitting` where it does not fit.
 fn part(number: i128) -> Result<i64, RatioError>
     ensures { MatchResult result (λ n. (n ≡ number) × FitsSigned w64 number)
         (λ e. (e ≡ RatioError.NotFitting) × (¬ (FitsSigned w64 number))) }

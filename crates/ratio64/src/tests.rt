@@ -1,7 +1,10 @@
 //! Worked values, the ends of `i64`, and each pair of fractions of small parts.
 
 mod callers;
+mod one_fraction;
 mod operations;
+mod parsing;
+mod rounded;
 mod small_parts;
 
 use crate::RatioError::{NotFitting, ZeroDenominator};

@@ -1,4 +1,4 @@
-//! How a fraction is printed.
+//! Prints a fraction.
 
 use crate::Ratio;
 use std::fmt;

@@ -1,4 +1,5 @@
 pub mod Choices
 pub mod ExactPowers
 pub mod Meetings
+pub mod RollingHashes
 pub mod Places

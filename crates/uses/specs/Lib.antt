@@ -1,5 +1,5 @@
 pub mod Paging
 pub mod Layout
 pub mod Schedules
-pub mod Weekday
 pub mod Ranking
+pub mod Hashes

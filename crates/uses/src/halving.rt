@@ -7,8 +7,8 @@ ghost use Rattle.std.specs.Ordering.{int_cmp};
 use num_integer::operators::is_below;
 use num_integer::{Average, Integer, average_floor};
 
-/// The middle of two numbers, in either order, rounded down. It never overflows. `midpoint(2, 5)` is
-/// 3, and `midpoint(-2, -5)` is -4.
+/// Returns the middle of two numbers, in either order, rounded down. It never overflows.
+/// `midpoint(2, 5)` is `3`, and `midpoint(-2, -5)` is `-4`.
 pub fn midpoint<T: Average>(a: T, b: T) -> T
     requires in_range { T.fits (T.value a) × T.fits (T.value b) }
     ensures in_range { T.fits (T.value result) }
@@ -19,8 +19,10 @@ pub fn midpoint<T: Average>(a: T, b: T) -> T
     average_floor(a, b)
 }
 
-/// The place of the first item of a sorted slice that is at least `least`, or the length where none
-/// is. `lower_bound(&[1, 3, 3, 5], 3)` is 1.
+/// Returns the place of the first item of a sorted slice that is at least `least`, or the length where
+/// there is none. `lower_bound(&[1, 3, 3, 5], 3)` is `1`.
+///
+/// May be called where `items` is sorted.
 pub fn lower_bound<T: Integer>(items: &[T], least: T) -> usize
     requires sorted { IsSortedByKey T.value int_cmp items.now }
     ensures to_length { result ≤ length items.now }

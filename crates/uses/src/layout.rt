@@ -7,8 +7,10 @@ ghost use Rattle.uses.specs.Layout.{IsAlignedUp};
 use num_integer::operators::{difference, is_zero};
 use num_integer::{Fits, Integer, mod_floor};
 
-/// The offset rounded up to the alignment, or `None` where that is beyond the type. `align_up(13, 8)`
-/// is 16, and `align_up(-13, 8)` is -8.
+/// Returns the offset rounded up to a multiple of the alignment, or `None` where that is beyond the
+/// type. `align_up(13, 8)` is `Some(16)`, and `align_up(-13, 8)` is `Some(-8)`.
+///
+/// May be called where `alignment` is above 0.
 pub fn align_up<T: Fits>(offset: T, alignment: T) -> Option<T>
     requires in_range { T.fits (T.value offset) × T.fits (T.value alignment) }
     requires positive { pos 0 <ℤ T.value alignment }
@@ -25,8 +27,10 @@ pub fn align_up<T: Fits>(offset: T, alignment: T) -> Option<T>
     }
 }
 
-/// How many bytes to add to reach the next aligned offset. `padding(13, 8)` is 3, and
-/// `padding(-13, 8)` is 5.
+/// Returns how many bytes to add to reach the next aligned offset. `padding(13, 8)` is `3`, and
+/// `padding(-13, 8)` is `5`.
+///
+/// May be called where `alignment` is above 0.
 pub fn padding<T: Integer>(offset: T, alignment: T) -> T
     requires in_range { T.fits (T.value offset) × T.fits (T.value alignment) }
     requires positive { pos 0 <ℤ T.value alignment }

@@ -2,12 +2,12 @@
 //! words of its subject.
 #![tactic(auto)]
 
-pub mod calendar;
 pub mod halving;
 pub mod layout;
 pub mod paging;
 pub mod powers;
 pub mod ranking;
+pub mod rolling_hash;
 pub mod schedules;
 #[cfg(test)]
 mod tests;

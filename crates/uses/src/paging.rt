@@ -6,7 +6,9 @@ ghost use Rattle.uses.specs.Paging.{IsPlace};
 use num_integer::operators::{difference, is_negative, product, successor, sum};
 use num_integer::{Integer, div_ceil, div_mod_floor};
 
-/// The fewest pages that hold all items. `pages(10, 4)` is 3, and `pages(-9, 4)` is -2.
+/// Returns the fewest pages that hold all items. `pages(10, 4)` is `3`, and `pages(-9, 4)` is `-2`.
+///
+/// May be called where `page_size` is above 0.
 pub fn pages<T: Integer>(items: T, page_size: T) -> T
     requires in_range { T.fits (T.value items) × T.fits (T.value page_size) }
     requires positive { pos 0 <ℤ T.value page_size }
@@ -18,8 +20,10 @@ pub fn pages<T: Integer>(items: T, page_size: T) -> T
     div_ceil(items, page_size)
 }
 
-/// The page of an item and its place on that page, all counted from 0. `place_of(10, 4)` is `(2, 2)`,
-/// and `place_of(-1, 4)` is `(-1, 3)`.
+/// Returns the page of an item and its place on that page, all counted from 0. `place_of(10, 4)` is
+/// `(2, 2)`, and `place_of(-1, 4)` is `(-1, 3)`.
+///
+/// May be called where `page_size` is above 0.
 pub fn place_of<T: Integer>(item: T, page_size: T) -> (T, T)
     requires in_range { T.fits (T.value item) × T.fits (T.value page_size) }
     requires positive { pos 0 <ℤ T.value page_size }
@@ -32,8 +36,10 @@ pub fn place_of<T: Integer>(item: T, page_size: T) -> (T, T)
     div_mod_floor(item, page_size)
 }
 
-/// The item at a place of a page, all counted from 0. `item_at(2, 2, 4)` is 10, and
-/// `item_at(-1, 3, 4)` is -1.
+/// Returns the item at a place of a page, all counted from 0. `item_at(2, 2, 4)` is `10`, and
+/// `item_at(-1, 3, 4)` is `-1`.
+///
+/// May be called where `place` is at least 0 and below `page_size`, and the item fits.
 pub fn item_at<T: Integer>(page: T, place: T, page_size: T) -> T
     requires in_range { T.fits (T.value page) × T.fits (T.value place) × T.fits (T.value page_size) }
     requires place_from_zero { pos 0 ≤ℤ T.value place }

@@ -8,8 +8,11 @@ ghost use Rattle.uses.specs.Ranking.{IsBefore, IsChoice, IsChoiceOfRank, rank_of
 use crate::halving::midpoint;
 use num_integer::{Fits, binomial};
 
-/// The rank of a choice of numbers below `n`, in increasing order, among all choices of as many:
-/// how many come before it. `rank(&[0, 2, 3], 5)` is 2.
+/// Returns the rank of a choice of numbers below `n`, in increasing order, among all choices of as
+/// many: how many come before it. `rank(&[0, 2, 3], 5)` is `2`.
+///
+/// May be called where the numbers increase and are below `n`, and the number of these choices fits a
+/// `u64`.
 #[tactic(auto, using(crate::proofs::Choices::rank_steps))]
 pub fn rank(choice: &[u64], n: u64) -> u64
     requires choice { IsChoice n choice.now }
@@ -28,6 +31,8 @@ pub fn rank(choice: &[u64], n: u64) -> u64
 
 /// Fills the slice with the choice of numbers below `n` that has the rank, in increasing order. For
 /// rank 2, `n` 5 and three places it is `[0, 2, 3]`.
+///
+/// May be called where `rank` is below the number of these choices.
 pub fn choice_of_rank(rank: u64, n: u64, choice: &mut [u64])
     requires rank { rank < coefficient n (length choice.old) }
     ensures choice { IsChoiceOfRank n (length choice.old) rank choice.new }
@@ -43,8 +48,8 @@ pub fn choice_of_rank(rank: u64, n: u64, choice: &mut [u64])
     }
 }
 
-/// The greatest number whose coefficient over the place is at most the limit, found by halves below
-/// the bound.
+/// Returns the greatest number whose coefficient over the place is at most the limit. It searches by
+/// halves below the bound.
 #[tactic(auto, using(num_integer::proofs::ForCallers::none_above))]
 fn greatest_within(limit: u64, place: u64, bound: u64) -> u64
     requires place { 0 < place }
@@ -66,7 +71,7 @@ fn greatest_within(limit: u64, place: u64, bound: u64) -> u64
     low
 }
 
-/// Whether the coefficient of `n` and `k`, which may not fit, is at most the limit.
+/// Returns `true` if the coefficient of `n` and `k`, which may not fit, is at most the limit.
 fn is_within(n: u64, k: u64, limit: u64) -> bool
     ensures { IsTrue result ↔ (coefficient n k ≤ limit) }
 {

@@ -1,11 +1,9 @@
 //! Times that come again each period.
 
 ghost use Rattle.std.specs.Prelude.{◌<ℤ◌, ℤ, pos};
-ghost use Rattle.num_integer.specs.Divisors.{IsLeastCommonMultiple};
-ghost use Rattle.num_integer.specs.Range.{EachFits};
 ghost use Rattle.uses.specs.Schedules.{IsMaximum, IsMeeting, IsNextMeeting, MatchMeeting};
 
-use modular::{Modular, chinese_remainder, next_congruent};
+use modular::{CommonSolution, Modular, next_common_solution};
 use num_integer::operators::is_below;
 use num_integer::{Fits, Integer};
 
@@ -27,16 +25,16 @@ pub enum Meeting<T> {
     At(T),
 }
 
-/// The least time from `now` on at which both come. A first time 1 with period 4 and a first time 3
-/// with period 6 meet next after 10 at 21.
+/// Returns the least time from `now` on at which both come. From 10 on, a first time 1 with period 4
+/// and a first time 3 with period 6 meet at 21.
+///
+/// May be called where both periods are above 0.
 pub fn next_meeting<T: Modular + Fits>(now: T, a: Schedule<T>, b: Schedule<T>) -> Meeting<T>
     requires now_in_range { T.fits (T.value now) }
     requires a_in_range { T.fits (T.value a.first) × T.fits (T.value a.period) }
     requires b_in_range { T.fits (T.value b.first) × T.fits (T.value b.period) }
     requires a_positive { pos 0 <ℤ T.value a.period }
     requires b_positive { pos 0 <ℤ T.value b.period }
-    requires lcm_fits { EachFits T.fits
-        (IsLeastCommonMultiple (T.value a.period) (T.value b.period)) }
     ensures { MatchMeeting result
         ((t : ℤ) → ¬ (IsMeeting (T.value a.first) (T.value a.period) (T.value b.first)
         (T.value b.period) t))
@@ -46,16 +44,14 @@ pub fn next_meeting<T: Modular + Fits>(now: T, a: Schedule<T>, b: Schedule<T>) -
         (T.value a.period) (T.value b.first) (T.value b.period) (T.value t)) }
 {
     let from = maximum(now, maximum(a.first, b.first));
-    match chinese_remainder(a.first, a.period, b.first, b.period) {
-        Some((first, step)) => match next_congruent(from, first, step) {
-            Some(time) => Meeting::At(time),
-            None => Meeting::TooLate,
-        },
-        None => Meeting::Never,
+    match next_common_solution(from, a.first, a.period, b.first, b.period) {
+        CommonSolution::Never => Meeting::Never,
+        CommonSolution::Beyond => Meeting::TooLate,
+        CommonSolution::At(time) => Meeting::At(time),
     }
 }
 
-/// The greater of two numbers.
+/// Returns the greater of two numbers.
 fn maximum<T: Integer>(x: T, y: T) -> T
     requires in_range { T.fits (T.value x) × T.fits (T.value y) }
     ensures in_range { T.fits (T.value result) }

@@ -5,11 +5,10 @@ mod lemmas;
 mod plain;
 mod powers;
 mod ranking;
+mod rolling_hash;
 mod schedules;
 mod search;
 
-use crate::calendar::Weekday::{Friday, Monday, Sunday, Thursday, Wednesday};
-use crate::calendar::{Weekday, weekday_of};
 use crate::halving::midpoint;
 use crate::layout::{align_up, padding};
 use crate::paging::{item_at, pages, place_of};
@@ -64,25 +63,6 @@ fn layout(rt: HostRuntime) {
         );
     }
     assert!(rt; align_up(250u8, 8) == None && padding(u64::MAX, 8) == 1);
-}
-
-/// Day numbers and their weekdays.
-const DAYS: [(i64, Weekday); 8] = [
-    (0, Thursday),
-    (-1, Wednesday),
-    (3, Sunday),
-    (-4, Sunday),
-    (20000, Friday),
-    (-25567, Monday),
-    (MAX, Thursday),
-    (MIN, Wednesday),
-];
-
-#[test]
-fn calendar(rt: HostRuntime) {
-    for (day, weekday) in DAYS {
-        assert!(rt; weekday_of(day) == weekday, "{day}");
-    }
 }
 
 /// Two numbers and their middle.

@@ -1,11 +1,11 @@
-//! What is answered.
+//! Tests of the outcomes.
 
 ghost use Rattle.intcalc_core.specs.Only.{IsOnly};
 ghost use Rattle.intcalc_core.specs.Outcome.{Outcome};
 
 use intcalc_core::{Answer, Call, Kind, Refusal, evaluate};
 
-/// Exactly one result stands in the outcome of a kind and a call.
+/// A kind and a call have exactly one outcome.
 fn only_outcome(kind: Kind, call: Call) -> Result<Answer, Refusal>
     ensures outcome { Outcome kind call result }
     ensures only { IsOnly (Outcome kind call) result }

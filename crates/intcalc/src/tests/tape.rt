@@ -11,13 +11,13 @@ pub const ROOM: usize = 128;
 /// What a writer does wrong, once: after it, the writer is as good as new.
 #[derive(Clone, Copy, Debug)]
 pub enum Fault {
-    /// The write after so many answers an error of this kind.
+    /// The write after this number of writes returns an error of this kind.
     Write(usize, ErrorKind),
 
-    /// The write after so many takes no byte, and answers no error.
+    /// The write after this number of writes takes no byte, and returns no error.
     NoByte(usize),
 
-    /// The first flush answers an error of this kind.
+    /// The first flush returns an error of this kind.
     Flush(ErrorKind),
 }
 
@@ -47,7 +47,7 @@ impl Tape {
         &self.text[..self.len]
     }
 
-    /// Takes as many bytes as it can at a time, and answers how many.
+    /// Takes as many bytes as it can at a time, and returns their number.
     fn take(&mut self, bytes: &[u8]) -> usize
         ensures { result ≤ length bytes.now }
     {

@@ -40,7 +40,7 @@ fn product(a: i64, b: i64, c: i64, d: i64) -> Result<Answer, Refusal>
     parts(x.checked_mul(&y))
 }
 
-/// The fractions `a / b` and `c / d`.
+/// Returns the fractions `a / b` and `c / d`.
 fn fractions(a: i64, b: i64, c: i64, d: i64) -> Result<(Ratio, Ratio), Refusal>
     ensures { MatchResult result (λ (x, y). IsRatioOf a b x × IsRatioOf c d y)
         (λ refusal. NeedsFractions a b c d (λ _. ⊥) (Err refusal)) }
@@ -58,7 +58,7 @@ fn fraction(num: i64, den: i64) -> Result<Ratio, Refusal>
     Ratio::new(num, den).map_err(|_| Refusal::NotFitting)
 }
 
-/// The parts of an answer, refused where it has none.
+/// Returns the parts of a result, or the refusal of a result without parts.
 fn parts(answer: Result<Ratio, RatioError>) -> Result<Answer, Refusal>
     ensures { MatchResult answer (λ x. result ≡ Ok (answers.Two (num_of x) (den_of x)))
         (λ _. result ≡ Err refusals.NotFitting) }

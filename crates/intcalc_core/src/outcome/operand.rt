@@ -9,12 +9,12 @@ use crate::calls::{Answer, Refusal};
 use num_integer::{Average, Fits, Integer, Roots};
 use std::num::TryFromIntError;
 
-/// The type of a kind, at which the library's calls are made.
+/// The type of a kind. It has the library's calls.
 pub(crate) trait Operand: Average + Fits + Roots {}
 
 impl<T: Average + Fits + Roots> Operand for T {}
 
-/// The value that means `n`, refused where `n` lies outside the type.
+/// Returns the value that means `n`, or `OutOfType` where `n` lies outside the type.
 pub(crate) fn narrow<T: Integer + TryFrom<i128, Error = TryFromIntError>>(
     n: i128,
 ) -> Result<T, Refusal>
@@ -25,7 +25,7 @@ pub(crate) fn narrow<T: Integer + TryFrom<i128, Error = TryFromIntError>>(
     T::try_from(n).map_err(|_| Refusal::OutOfType)
 }
 
-/// The number that `x` means.
+/// Returns the number that `x` means.
 pub(crate) fn widen<T: Operand>(x: T) -> i128
     requires { T.fits (T.value x) }
     ensures { result ≡ T.value x }
@@ -52,7 +52,7 @@ pub(crate) fn three<T: Operand>(x: T, y: T, z: T) -> Answer
     Answer::Three(widen(x), widen(y), widen(z))
 }
 
-/// Refuses a call for which the condition does not hold.
+/// Returns the refusal where the condition does not hold.
 pub(crate) fn needs(holds: bool, refusal: Refusal) -> Result<(), Refusal>
     ensures { MatchResult result (λ _. IsTrue holds) (λ r. (r ≡ refusal) × (holds ≡ false)) }
 {

@@ -1,5 +1,5 @@
-//! The rows of the table `Inside` but those of fractions, a function for each call: what the call needs, in
-//! the table's order, and then the call of the library.
+//! The rows of the table `Inside`, except those of fractions: one function for each call. It tests what
+//! the call needs, in the order of the table, and then makes the call of the library.
 #![tactic(auto, unfolding(crate::specs::Outcome::Inside))]
 
 ghost use Rattle.std.specs.Prelude.{pos};

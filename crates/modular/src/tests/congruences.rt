@@ -1,7 +1,8 @@
 //! Linear congruences.
 
 use super::{MAX, MIN};
-use crate::{chinese_remainder, next_congruent, solutions};
+use crate::CommonSolution::{At, Beyond, Never};
+use crate::{CommonSolution, chinese_remainder, next_common_solution, next_congruent, solutions};
 use num_integer::Fits;
 
 #[test]
@@ -74,4 +75,35 @@ fn next_congruent_numbers(rt: HostRuntime) {
         );
     }
     assert!(rt; next_congruent(120i8, 1, 9) == Some(127) && next_congruent(120i8, 2, 9) == None);
+}
+
+/// Where to begin, two congruences, each a number with a modulus, and the next number that solves both.
+type Next = (i8, (i8, i8), (i8, i8), CommonSolution<i8>);
+
+const NEXT_COMMON_SOLUTION: [Next; 12] = [
+    (10, (1, 4), (3, 6), At(21)),
+    (21, (1, 4), (3, 6), At(21)),
+    (-20, (1, 4), (3, 6), At(-15)),
+    (10, (1, 4), (2, 6), Never),
+    (118, (1, 4), (3, 6), Beyond),
+    (-128, (5, 10), (0, 13), At(-65)),
+    (-64, (5, 10), (0, 13), At(65)),
+    (66, (5, 10), (0, 13), Beyond),
+    (-128, (2, 10), (2, 13), At(-128)),
+    (-127, (2, 10), (2, 13), At(2)),
+    (-128, (7, 127), (7, 126), At(7)),
+    (127, (0, 1), (-1, 1), At(127)),
+];
+
+#[test]
+fn next_common_solutions(rt: HostRuntime) {
+    for (from, (a, m), (b, n), next) in NEXT_COMMON_SOLUTION {
+        assert!(rt;
+            m > 0 && n > 0 && next_common_solution(from, a, m, b, n) == next,
+            "{from} {a} {m} {b} {n}"
+        );
+    }
+    let (m, n) = (u128::MAX, u128::MAX - 1);
+    assert!(rt; next_common_solution(0, 5, m, 5, n) == At(5));
+    assert!(rt; next_common_solution(6, 5, m, 5, n) == Beyond);
 }

@@ -1,4 +1,4 @@
-//! Coefficients, where they fit.
+//! Coefficients, without a condition.
 
 ghost use Rattle.std.specs.Prelude.{◌≡◌, ◌↔◌, ◌≤ℤ◌, pos, map, IsTrue};
 ghost use Rattle.std.specs.List.{All};
@@ -13,9 +13,9 @@ use crate::coefficients;
 use crate::domains::Fits;
 use crate::rows::IterBinomial;
 
-/// The binomial coefficient of `n` and `k`: [`binomial`](crate::binomial). `None` where a number is
-/// negative, and where the coefficient does not fit. At `u8` `binomial(11, 3)` is `Some(165)`, and
-/// `binomial(11, 4)` is `None`. The loop makes at most 128 turns where the answer is `None`.
+/// Returns [`binomial`](crate::binomial), the binomial coefficient of `n` and `k`, or `None` where a
+/// number is negative or the coefficient does not fit. `binomial(11u8, 3)` is `Some(165)`, and
+/// `binomial(11u8, 4)` is `None`. The loop makes at most 128 turns where the result is `None`.
 pub fn binomial<T: Fits>(n: T, k: T) -> Option<T>
     requires n_in_range { T.fits (T.value n) }
     requires k_in_range { T.fits (T.value k) }
@@ -32,8 +32,8 @@ pub fn binomial<T: Fits>(n: T, k: T) -> Option<T>
     }
 }
 
-/// The multinomial of the counts: [`multinomial`](crate::multinomial). `None` where a count is
-/// negative, and where the multinomial does not fit. `multinomial(&[2, 1, 2])` is `Some(30)`.
+/// Returns [`multinomial`](crate::multinomial), the multinomial of the counts, or `None` where a count
+/// is negative or the multinomial does not fit. `multinomial(&[2, 1, 2])` is `Some(30)`.
 pub fn multinomial<T: Fits>(k: &[T]) -> Option<T>
     requires counts_in_range { All (λ x. T.fits (T.value x)) k.now }
     ensures { AnswersWhere
@@ -49,9 +49,9 @@ pub fn multinomial<T: Fits>(k: &[T]) -> Option<T>
     }
 }
 
-/// The row of `n` in Pascal's triangle: [`IterBinomial::new`]. `None` where an item or the number
-/// of the items does not fit; for a negative `n` it has no item. At `u8` `row(10)` is `Some`, and
-/// `row(11)` is `None`.
+/// Returns [`IterBinomial::new`], the row of `n` in Pascal's triangle, or `None` where an item or the
+/// number of the items does not fit. For a negative `n` the row has no item. `row(10u8)` is `Some`,
+/// and `row(11u8)` is `None`.
 pub fn row<T: Fits>(n: T) -> Option<IterBinomial<T>>
     requires { T.fits (T.value n) }
     ensures { AnswersWhere
@@ -66,7 +66,7 @@ pub fn row<T: Fits>(n: T) -> Option<IterBinomial<T>>
     }
 }
 
-/// Whether the row of `n` fits: the number of its items and the coefficient in its middle do.
+/// Returns `true` if the row of `n` fits: the number of its items and the coefficient in its middle do.
 fn row_fits<T: Fits>(n: T) -> bool
     requires { T.fits (T.value n) }
     ensures { IsTrue result ↔ RowFits T.fits (T.value n) }

@@ -1,4 +1,4 @@
-//! Division, where the quotient or the multiple fits.
+//! Division, without a condition.
 
 ghost use Rattle.std.specs.Prelude.{◌≢◌, pos};
 ghost use Rattle.integer_core.specs.Division.{IsCeiled, IsFloored, IsMultiple, IsQuotient, IsRemainder, IsTruncated};
@@ -8,8 +8,8 @@ ghost use Rattle.num_integer.specs.Checked.{AnswersWhere};
 use crate::domains::Fits;
 use integer_core::operators::is_zero;
 
-/// The quotient rounded toward zero, and its remainder: [`Integer::div_rem`]. `None` for a divisor
-/// 0, and for the least number by -1 where its negation does not fit. `div_rem(-8, 3)` is
+/// Returns [`Integer::div_rem`], the quotient rounded toward zero and its remainder, or `None` for a
+/// divisor 0 and for the least number by -1 where its negation does not fit. `div_rem(-8, 3)` is
 /// `Some((-2, -2))`.
 pub fn div_rem<T: Fits>(x: T, y: T) -> Option<(T, T)>
     requires x_in_range { T.fits (T.value x) }
@@ -27,8 +27,8 @@ pub fn div_rem<T: Fits>(x: T, y: T) -> Option<(T, T)>
     }
 }
 
-/// The quotient rounded down: [`Integer::div_floor`]. `None` where [`div_rem`] is. `div_floor(-8,
-/// 3)` is `Some(-3)`, and `div_floor(i8::MIN, -1)` is `None`.
+/// Returns [`Integer::div_floor`], the quotient rounded down, or `None` where [`div_rem`] does.
+/// `div_floor(-8, 3)` is `Some(-3)`, and `div_floor(i8::MIN, -1)` is `None`.
 pub fn div_floor<T: Fits>(x: T, y: T) -> Option<T>
     requires x_in_range { T.fits (T.value x) }
     requires y_in_range { T.fits (T.value y) }
@@ -44,8 +44,8 @@ pub fn div_floor<T: Fits>(x: T, y: T) -> Option<T>
     }
 }
 
-/// The remainder of the quotient rounded down: [`Integer::mod_floor`]. `None` for a divisor 0.
-/// `mod_floor(-8, 3)` is `Some(1)`.
+/// Returns [`Integer::mod_floor`], the remainder of the quotient rounded down, or `None` for a divisor
+/// 0. `mod_floor(-8, 3)` is `Some(1)`.
 pub fn mod_floor<T: Fits>(x: T, y: T) -> Option<T>
     requires x_in_range { T.fits (T.value x) }
     requires y_in_range { T.fits (T.value y) }
@@ -61,8 +61,8 @@ pub fn mod_floor<T: Fits>(x: T, y: T) -> Option<T>
     }
 }
 
-/// The quotient rounded down, and its remainder: [`Integer::div_mod_floor`]. `None` where
-/// [`div_rem`] is. `div_mod_floor(-8, 3)` is `Some((-3, 1))`.
+/// Returns [`Integer::div_mod_floor`], the quotient rounded down and its remainder, or `None` where
+/// [`div_rem`] does. `div_mod_floor(-8, 3)` is `Some((-3, 1))`.
 pub fn div_mod_floor<T: Fits>(x: T, y: T) -> Option<(T, T)>
     requires x_in_range { T.fits (T.value x) }
     requires y_in_range { T.fits (T.value y) }
@@ -79,8 +79,8 @@ pub fn div_mod_floor<T: Fits>(x: T, y: T) -> Option<(T, T)>
     }
 }
 
-/// The quotient rounded up: [`Integer::div_ceil`]. `None` where [`div_rem`] is. `div_ceil(8, 3)` is
-/// `Some(3)`.
+/// Returns [`Integer::div_ceil`], the quotient rounded up, or `None` where [`div_rem`] does.
+/// `div_ceil(8, 3)` is `Some(3)`.
 pub fn div_ceil<T: Fits>(x: T, y: T) -> Option<T>
     requires x_in_range { T.fits (T.value x) }
     requires y_in_range { T.fits (T.value y) }
@@ -96,8 +96,8 @@ pub fn div_ceil<T: Fits>(x: T, y: T) -> Option<T>
     }
 }
 
-/// The quotient rounded up, times `y`: [`Integer::next_multiple_of`]. `None` for a divisor 0, and
-/// where the multiple does not fit. `next_multiple_of(23, 8)` is `Some(24)`.
+/// Returns [`Integer::next_multiple_of`], the quotient rounded up, times `y`, or `None` for a divisor 0
+/// and where the multiple does not fit. `next_multiple_of(23, 8)` is `Some(24)`.
 pub fn next_multiple_of<T: Fits>(x: T, y: T) -> Option<T>
     requires x_in_range { T.fits (T.value x) }
     requires y_in_range { T.fits (T.value y) }
@@ -113,8 +113,8 @@ pub fn next_multiple_of<T: Fits>(x: T, y: T) -> Option<T>
     }
 }
 
-/// The quotient rounded down, times `y`: [`Integer::prev_multiple_of`]. `None` for a divisor 0, and
-/// where the multiple does not fit. `prev_multiple_of(23, 8)` is `Some(16)`.
+/// Returns [`Integer::prev_multiple_of`], the quotient rounded down, times `y`, or `None` for a divisor
+/// 0 and where the multiple does not fit. `prev_multiple_of(23, 8)` is `Some(16)`.
 pub fn prev_multiple_of<T: Fits>(x: T, y: T) -> Option<T>
     requires x_in_range { T.fits (T.value x) }
     requires y_in_range { T.fits (T.value y) }

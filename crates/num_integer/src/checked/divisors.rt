@@ -1,4 +1,4 @@
-//! Common divisors and multiples, where they fit.
+//! Common divisors and multiples, without a condition.
 
 ghost use Rattle.std.specs.Prelude.{◌↔◌, IsTrue};
 ghost use Rattle.integer_core.specs.Bezout.{HasPair, IsBezoutAnswer};
@@ -10,8 +10,9 @@ use crate::domains::Fits;
 use integer_core::ExtendedGcd;
 use num_traits::Signed;
 
-/// The greatest common divisor: [`Integer::gcd`]. `None` where the least number, whose negation
-/// does not fit, meets itself or 0. `gcd(56, 42)` is `Some(14)`, and `gcd(i8::MIN, 0)` is `None`.
+/// Returns [`Integer::gcd`], the greatest common divisor, or `None` for the least number, whose
+/// negation does not fit, with itself or with 0. `gcd(56, 42)` is `Some(14)`, and `gcd(i8::MIN, 0)` is
+/// `None`.
 pub fn gcd<T: Fits>(x: T, y: T) -> Option<T>
     requires x_in_range { T.fits (T.value x) }
     requires y_in_range { T.fits (T.value y) }
@@ -23,8 +24,8 @@ pub fn gcd<T: Fits>(x: T, y: T) -> Option<T>
     if has_gcd(x, y) { Some(x.gcd(&y)) } else { None }
 }
 
-/// The least common multiple: [`Integer::lcm`]. `None` where it does not fit. `lcm(7, 3)` is
-/// `Some(21)`.
+/// Returns [`Integer::lcm`], the least common multiple, or `None` where it does not fit. `lcm(7, 3)` is
+/// `Some(21)`, and `lcm(16u8, 17)` is `None`.
 pub fn lcm<T: Fits>(x: T, y: T) -> Option<T>
     requires x_in_range { T.fits (T.value x) }
     requires y_in_range { T.fits (T.value y) }
@@ -40,8 +41,8 @@ pub fn lcm<T: Fits>(x: T, y: T) -> Option<T>
     }
 }
 
-/// The greatest common divisor and the least common multiple: [`Integer::gcd_lcm`]. `None` where
-/// one of them does not fit. `gcd_lcm(10, 4)` is `Some((2, 20))`.
+/// Returns [`Integer::gcd_lcm`], the greatest common divisor and the least common multiple, or `None`
+/// where one of them does not fit. `gcd_lcm(10, 4)` is `Some((2, 20))`.
 pub fn gcd_lcm<T: Fits>(x: T, y: T) -> Option<(T, T)>
     requires x_in_range { T.fits (T.value x) }
     requires y_in_range { T.fits (T.value y) }
@@ -60,9 +61,9 @@ pub fn gcd_lcm<T: Fits>(x: T, y: T) -> Option<(T, T)>
     }
 }
 
-/// The greatest common divisor and Bezout's coefficients: [`Integer::extended_gcd`]. `None` where
-/// the divisor does not fit, and at a type without negatives where neither number divides the
-/// other.
+/// Returns [`Integer::extended_gcd`], the greatest common divisor and Bezout's coefficients, or `None`
+/// where the divisor does not fit and, at a type without negatives, where neither number divides the
+/// other. `extended_gcd(240, 46)` is `Some` of gcd 2, x -9, y 47, and `extended_gcd(10u8, 4)` is `None`.
 pub fn extended_gcd<T: Fits>(x: T, y: T) -> Option<ExtendedGcd<T>>
     requires x_in_range { T.fits (T.value x) }
     requires y_in_range { T.fits (T.value y) }
@@ -79,7 +80,8 @@ pub fn extended_gcd<T: Fits>(x: T, y: T) -> Option<ExtendedGcd<T>>
     }
 }
 
-/// [`extended_gcd`] and [`lcm`]: [`Integer::extended_gcd_lcm`]. `None` where one of the two is.
+/// Returns [`Integer::extended_gcd_lcm`], which is [`extended_gcd`] and [`lcm`], or `None` where one of
+/// the two is `None`. `extended_gcd_lcm(10, 4)` is `Some` of gcd 2, x 1, y -2, and of 20.
 pub fn extended_gcd_lcm<T: Fits + Signed>(x: T, y: T) -> Option<(ExtendedGcd<T>, T)>
     requires x_in_range { T.fits (T.value x) }
     requires y_in_range { T.fits (T.value y) }
@@ -99,7 +101,7 @@ pub fn extended_gcd_lcm<T: Fits + Signed>(x: T, y: T) -> Option<(ExtendedGcd<T>,
     }
 }
 
-/// Whether the gcd fits, in the words of [`gcd`].
+/// Returns `true` if the gcd fits, in the words of [`gcd`].
 fn has_gcd<T: Fits>(x: T, y: T) -> bool
     requires x_in_range { T.fits (T.value x) }
     requires y_in_range { T.fits (T.value y) }
@@ -108,8 +110,8 @@ fn has_gcd<T: Fits>(x: T, y: T) -> bool
     x.gcd_fits(&y)
 }
 
-/// Whether the type has a pair of coefficients: without negatives, where one number divides the
-/// other.
+/// Returns `true` if the type has a pair of coefficients: a type without negatives has one where one
+/// number divides the other.
 fn has_pair<T: Fits>(x: T, y: T) -> bool
     requires x_in_range { T.fits (T.value x) }
     requires y_in_range { T.fits (T.value y) }

@@ -1,4 +1,4 @@
-//! Sums, differences and products, where they fit.
+//! Sums, differences and products, without a condition.
 
 ghost use Rattle.std.specs.Prelude.{◌≡◌, ◌↔◌, ◌+ℤ◌, ◌-ℤ◌, ◌*ℤ◌, pos, neg_ℤ, IsTrue};
 ghost use Rattle.num_integer.specs.Checked.{AnswersWhere};
@@ -7,7 +7,8 @@ use crate::domains::Fits;
 use crate::parts::{product_is_within, sum_is_within};
 use integer_core::operators::{self, one, zero};
 
-/// `a + b`. `None` where it does not fit.
+/// Returns `a + b`, or `None` where it does not fit. `sum(200u8, 55)` is `Some(255)`, and
+/// `sum(200u8, 56)` is `None`.
 pub fn sum<T: Fits>(a: T, b: T) -> Option<T>
     requires a_in_range { T.fits (T.value a) }
     requires b_in_range { T.fits (T.value b) }
@@ -23,7 +24,8 @@ pub fn sum<T: Fits>(a: T, b: T) -> Option<T>
     }
 }
 
-/// `a - b`. `None` where it does not fit.
+/// Returns `a - b`, or `None` where it does not fit. `difference(2, 3)` is `Some(-1)`, and
+/// `difference(2u8, 3)` is `None`.
 pub fn difference<T: Fits>(a: T, b: T) -> Option<T>
     requires a_in_range { T.fits (T.value a) }
     requires b_in_range { T.fits (T.value b) }
@@ -39,7 +41,8 @@ pub fn difference<T: Fits>(a: T, b: T) -> Option<T>
     }
 }
 
-/// `a * b`. `None` where it does not fit.
+/// Returns `a * b`, or `None` where it does not fit. `product(15u8, 17)` is `Some(255)`, and
+/// `product(16u8, 16)` is `None`.
 pub fn product<T: Fits>(a: T, b: T) -> Option<T>
     requires a_in_range { T.fits (T.value a) }
     requires b_in_range { T.fits (T.value b) }
@@ -55,7 +58,8 @@ pub fn product<T: Fits>(a: T, b: T) -> Option<T>
     }
 }
 
-/// `-a`. `None` where it does not fit.
+/// Returns `-a`, or `None` where it does not fit. `negated(7)` is `Some(-7)`, and `negated(7u8)` is
+/// `None`.
 pub fn negated<T: Fits>(a: T) -> Option<T>
     requires { T.fits (T.value a) }
     ensures { AnswersWhere
@@ -70,7 +74,8 @@ pub fn negated<T: Fits>(a: T) -> Option<T>
     }
 }
 
-/// `x + 1`, which [`Integer::inc`] stores. `None` for the greatest number of the type.
+/// Returns `x + 1`, which [`Integer::inc`] stores, or `None` for the greatest number of the type.
+/// `inc(41)` is `Some(42)`, and `inc(u8::MAX)` is `None`.
 pub fn inc<T: Fits>(x: T) -> Option<T>
     requires { T.fits (T.value x) }
     ensures { AnswersWhere
@@ -81,7 +86,8 @@ pub fn inc<T: Fits>(x: T) -> Option<T>
     sum(x, one())
 }
 
-/// `x - 1`, which [`Integer::dec`] stores. `None` for the least number of the type.
+/// Returns `x - 1`, which [`Integer::dec`] stores, or `None` for the least number of the type.
+/// `dec(43)` is `Some(42)`, and `dec(0u8)` is `None`.
 pub fn dec<T: Fits>(x: T) -> Option<T>
     requires { T.fits (T.value x) }
     ensures { AnswersWhere
@@ -92,7 +98,7 @@ pub fn dec<T: Fits>(x: T) -> Option<T>
     difference(x, one())
 }
 
-/// Whether `a + b` fits.
+/// Returns `true` if `a + b` fits.
 fn sum_fits<T: Fits>(a: T, b: T) -> bool
     requires a_in_range { T.fits (T.value a) }
     requires b_in_range { T.fits (T.value b) }
@@ -101,7 +107,7 @@ fn sum_fits<T: Fits>(a: T, b: T) -> bool
     sum_is_within(a.parts(), b.parts(), T::ends())
 }
 
-/// Whether `a - b` fits.
+/// Returns `true` if `a - b` fits.
 fn difference_fits<T: Fits>(a: T, b: T) -> bool
     requires a_in_range { T.fits (T.value a) }
     requires b_in_range { T.fits (T.value b) }
@@ -111,7 +117,7 @@ fn difference_fits<T: Fits>(a: T, b: T) -> bool
     sum_is_within(a.parts(), (!negative, magnitude), T::ends())
 }
 
-/// Whether `-a` fits.
+/// Returns `true` if `-a` fits.
 fn negation_fits<T: Fits>(a: T) -> bool
     requires { T.fits (T.value a) }
     ensures { IsTrue result ↔ T.fits (neg_ℤ (T.value a)) }
@@ -119,7 +125,7 @@ fn negation_fits<T: Fits>(a: T) -> bool
     difference_fits(zero(), a)
 }
 
-/// Whether `a * b` fits.
+/// Returns `true` if `a * b` fits.
 fn product_fits<T: Fits>(a: T, b: T) -> bool
     requires a_in_range { T.fits (T.value a) }
     requires b_in_range { T.fits (T.value b) }

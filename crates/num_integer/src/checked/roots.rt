@@ -1,4 +1,4 @@
-//! Roots, where there are any.
+//! Roots, without a condition.
 
 ghost use Rattle.std.specs.Prelude.{◌≢◌, ◌≡◌, ◌%◌, ◌≤ℤ◌, pos};
 ghost use Rattle.integer_roots.specs.RootOf.{IsRoot};
@@ -7,8 +7,8 @@ ghost use Rattle.num_integer.specs.Checked.{AnswersWhere};
 use integer_core::operators::is_negative;
 use integer_roots::Roots;
 
-/// The root of degree `n`, rounded toward zero: [`Roots::nth_root`]. `None` for degree 0, and for
-/// an even degree and a negative number. `nth_root(-9, 3)` is `Some(-2)`, and `nth_root(-9, 2)` is
+/// Returns [`Roots::nth_root`], the root of degree `n` rounded toward zero, or `None` for degree 0 and
+/// for an even degree and a negative number. `nth_root(-9, 3)` is `Some(-2)`, and `nth_root(-9, 2)` is
 /// `None`.
 pub fn nth_root<T: Roots>(x: T, n: u32) -> Option<T>
     requires { T.fits (T.value x) }
@@ -24,8 +24,8 @@ pub fn nth_root<T: Roots>(x: T, n: u32) -> Option<T>
     }
 }
 
-/// The square root, rounded down: [`Roots::sqrt`]. `None` for a negative number. `sqrt(99)` is
-/// `Some(9)`.
+/// Returns [`Roots::sqrt`], the square root rounded down, or `None` for a negative number. `sqrt(99)` is
+/// `Some(9)`, and `sqrt(-1)` is `None`.
 pub fn sqrt<T: Roots>(x: T) -> Option<T>
     requires { T.fits (T.value x) }
     ensures { AnswersWhere

@@ -8,6 +8,7 @@ ghost use Rattle.std.proofs.Common.{rules};
 ghost use Rattle.num_integer.specs.Between.{Between, between_law, positive_divisor_law, sub_fits_law};
 ghost use Rattle.num_integer.specs.Range.{IsRange};
 
+use modular::Modular;
 use num_integer::{Average, Fits, Integer};
 use num_traits::{Num, Number, One, Signed, Zero};
 use std::cmp::Ordering;
@@ -349,6 +350,8 @@ impl<F: Form> Fits for Own<F> {
         F::ends()
     }
 }
+
+impl<F: Form> Modular for Own<F> {}
 
 /// A form of numbers that go as far below 0 as above.
 pub(crate) trait SignedForm: Form {

@@ -5,6 +5,7 @@ ghost use Rattle.std.proofs.Common.{rules, inl, lit≤};
 ghost use Rattle.num_integer.specs.Between.{Between, between_law, between_range, positive_divisor_law, sub_fits_law};
 ghost use Rattle.num_traits.specs.Ints.{unsigned-eq, unsigned-order};
 
+use modular::Modular;
 use num_integer::{Average, Fits, Integer, Roots};
 use num_traits::{Num, Number, One, Zero};
 use std::ops::{Add, Div, Mul, Rem, Sub};
@@ -246,3 +247,5 @@ impl Fits for Percent {
         (0, 100)
     }
 }
+
+impl Modular for Percent {}

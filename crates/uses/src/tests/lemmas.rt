@@ -1,11 +1,13 @@
 //! Calls whose clauses have words of their own, each proved by a lemma for callers, and a signed sum of
 //! remainders.
 
-ghost use Rattle.std.specs.Prelude.{◌≡◌, ◌+◌, ◌*◌, ◌/◌, ◌%◌, ◌<◌, ◌≤◌, ◌≤ℤ◌, ◌<ℤ◌, ℕ, pos, MatchOption};
+ghost use Rattle.std.specs.Prelude.{◌≡◌, ◌+◌, ◌*◌, ◌/◌, ◌%◌, ◌<◌, ◌≤◌, ◌≤ℤ◌, ◌<ℤ◌, ◌+ℤ◌, ℕ, pos, MatchOption};
 ghost use Rattle.std.specs.Int.{FitsUnsignedBits};
+ghost use Rattle.modular.specs.Congruences.{IsResidue};
 ghost use Rattle.num_integer.specs.Divisors.{IsLeastCommonMultiple};
 ghost use Rattle.num_integer.specs.Range.{EachFits};
 
+use modular::sum_modulo;
 use num_integer::{Fits, Integer, Roots};
 
 /// What each pays of a bill, and what is left, as `/` and `%` say it.
@@ -24,6 +26,13 @@ fn share(total: u64, people: u64) -> u64
     ensures { result ≡ total / people }
 {
     total.div_floor(&people)
+}
+
+/// The hour that a clock shows some hours later.
+fn hour_after(hour: i64, hours: i64) -> i64
+    ensures { IsResidue (pos 24) (hour +ℤ hours) result }
+{
+    sum_modulo(hour, hours, 24)
 }
 
 /// A remainder of which the range alone is said.
@@ -83,6 +92,7 @@ fn turns(a: u32, b: u32) -> Option<(u32, u32)>
 #[test]
 fn calls_by_lemmas(rt: HostRuntime) {
     assert!(rt; split_bill(1000, 3) == (333, 1) && share(u64::MAX, 2) == 9223372036854775807);
+    assert!(rt; hour_after(22, 5) == 3 && hour_after(1, -2) == 23);
     assert!(rt; moon_sum(2024) == 229 && moon_sum(-1) == 459);
     assert!(rt; side(99) == 9 && side(u64::MAX) == 4294967295 && tile(56, 42) == 14);
     assert!(rt; turns(40, 60) == Some((3, 2)) && turns(u32::MAX, 2) == None);

@@ -104,6 +104,13 @@ fn next_multiple_of_literals() -> i64
     23.next_multiple_of(&8)
 }
 
+/// At an unsigned type too, by the name of the trait.
+fn natural_next_multiple_of_literals() -> u64
+    ensures { IsMultiple IsCeiled (pos 23) (pos 8) (pos result) }
+{
+    Integer::next_multiple_of(&23, &8)
+}
+
 /// Whether a number is even, as `%` says it.
 #[tactic(auto, using(num_integer::proofs::ForCallers::divides_is_natural))]
 fn is_even(n: u64) -> bool
@@ -232,7 +239,8 @@ fn plain_calls(rt: HostRuntime) {
     assert!(rt; previous_multiple(23, 8) == 16 && common_divisor_with_positive(-56, 42) == 14);
     assert!(rt; natural_common_divisor(56, 42) == 14 && natural_common_divisor(0, 0) == 0);
     assert!(rt; choices_of_4_out_of_9() == 126);
-    assert!(rt; common_multiple_of_literals() == 200 && next_multiple_of_literals() == 24);
+    assert!(rt; common_multiple_of_literals() == 200);
+    assert!(rt; next_multiple_of_literals() == 24 && natural_next_multiple_of_literals() == 24);
     assert!(rt; common_multiple_in_twice_the_bits(4294967295, 4294967294) == 18446744060824649730);
     assert!(rt; is_even(4) && !is_even(7) && remainder(17, 5) == 2);
     assert!(rt; weeks(-1) == -1 && side(99) == 9 && natural_root(99, 3) == 4);

@@ -1,33 +1,20 @@
-use Rattle.std.proofs.Common.{arith, refl}
-use Rattle.integer_core.proofs.Runs.{reaches_first, reaches_last}
-use Rattle.integer_core.proofs.ExchangedPairs.{reaches_ordered}
-use Rattle.integer_core.proofs.OddParts.{turning_ends, turning_falls, turning_small, turning_turn, turns_fit}
-use Rattle.integer_core.proofs.SteinSteps.{gcd_fits, gcd_of_same}
+use Rattle.std.proofs.Common.{arith}
+use Rattle.integer_core.proofs.OddParts.{turning_falls, turning_small, turns_fit}
+use Rattle.integer_core.proofs.OddLoops.{loop_begins, loop_counts, loop_ends, loop_goes_on, loop_handed_on}
+use Rattle.integer_core.proofs.SteinSteps.{gcd_fits}
 use Rattle.integer_core.proofs.stein.narrowing_gcd.Goals as goal
 
 pub turns-init : goal.turns-init
-turns-init g c = record {
-  m_in_range = c.requires.a_in_range;
-  n_in_range = c.requires.b_in_range;
-  kept = record { m_odd = c.requires.a_odd; n_odd = c.requires.b_odd; same = λ d h. h; shrunk = omega arith };
-  reached = reaches_first;
-}
+turns-init g c = loop_begins c.requires.a_in_range c.requires.b_in_range c.requires.a_odd c.requires.b_odd
 
 pub overflow_add-turns : goal.overflow_add-turns
-overflow_add-turns g c = omega (arith, turns_fit g.M.FixedWidth.width _ (turning_ends c.turns.invariant.kept) (g.met.M.FixedWidth.size_law _ c.requires.a_in_range) (g.met.M.FixedWidth.size_law _ c.requires.b_in_range))
+overflow_add-turns g c = omega (arith, loop_counts c.turns.invariant g.M.FixedWidth.width (g.met.M.FixedWidth.size_law _ c.requires.a_in_range) (g.met.M.FixedWidth.size_law _ c.requires.b_in_range))
 
 pub turns-smaller : goal.turns-smaller
 turns-smaller g c = turning_falls c.turns.invariant.kept c.next_pair.ensures.turn
 
 pub turns-preserved : goal.turns-preserved
-turns-preserved g c =
-    let turn = c.next_pair.ensures.turn in
-    record {
-      m_in_range = c.next_pair.ensures.in_range.0;
-      n_in_range = c.next_pair.ensures.in_range.1;
-      kept = turning_turn c.turns.invariant.kept turn;
-      reached = reaches_ordered c.turns.invariant.reached turn;
-    }
+turns-preserved g c = loop_goes_on c.turns.invariant c.next_pair.ensures.in_range c.next_pair.ensures.turn
 
 pub widened-requires : goal.widened-requires
 widened-requires g c =
@@ -45,23 +32,13 @@ overflow_add-result g c =
 
 pub returns-in-Some : goal.returns-in-Some
 returns-in-Some g c =
-    let v = c.turns.invariant in
     let pair = c.in-Some.ensures in
     let rest = c.odd_gcd-gcd.ensures in
-    record {
-      in_range = c.widened.ensures.in_range;
-      greatest = rw c.widened.ensures.value (v.kept.same _ (rw (pair.0, pair.1) at rest.greatest));
-      turns = v.reached.onward _ _ refl (rw (pair.0, pair.1) at rest.turns);
-      few = turning_small _ v.kept (rw (pair.0, pair.1) at rest.few);
-    }
+    let end = loop_handed_on c.turns.invariant (record { greatest = rw (pair.0, pair.1) at rest.greatest; turns = rw (pair.0, pair.1) at rest.turns; few = rw (pair.0, pair.1) at rest.few }) in
+    record { in_range = c.widened.ensures.in_range; greatest = rw c.widened.ensures.value end.greatest; turns = end.turns; few = end.few }
 
 pub returns : goal.returns
 returns g c =
     let v = c.turns.invariant in
-    let same = c.is_same.ensures.0 c.turns-test.false in
-    record {
-      in_range = v.m_in_range;
-      greatest = v.kept.same _ (gcd_of_same _ _ same);
-      turns = reaches_last v.reached same;
-      few = turning_ends v.kept;
-    }
+    let end = loop_ends v (c.is_same.ensures.0 c.turns-test.false) in
+    record { in_range = v.m_in_range; greatest = end.greatest; turns = end.turns; few = end.few }

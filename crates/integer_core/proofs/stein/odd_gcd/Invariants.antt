@@ -1,20 +1,10 @@
 use Rattle.std.specs.Prelude.{unsigned_abs}
 use Rattle.std.proofs.Common.{◌+◌}
-use Rattle.integer_core.specs.GcdRuns.{IsGcdTurn, GcdEnds}
-use Rattle.integer_core.proofs.OddParts.{Turning}
-use Rattle.integer_core.proofs.Runs.{Reaches}
+use Rattle.integer_core.proofs.OddLoops.{OddLoop}
 use Rattle.integer_core.proofs.stein.odd_gcd.Given as goal
 
 abbrev pub invariant-turns : goal.invariant-turns
-invariant-turns g l =
-    let value = g.M.Number.value in
-    record {
-      m_in_range : g.M.Number.fits (value l.m);
-      n_in_range : g.M.Number.fits (value l.n);
-      kept : Turning (unsigned_abs (value l.fn.a)) (unsigned_abs (value l.fn.b)) (unsigned_abs (value l.m)) (unsigned_abs (value l.n)) l.turns;
-      reached : Reaches IsGcdTurn GcdEnds (record { m = unsigned_abs (value l.fn.a); n = unsigned_abs (value l.fn.b) })
-          (record { m = unsigned_abs (value l.m); n = unsigned_abs (value l.n) }) l.turns;
-    }
+invariant-turns g l = let value = g.M.Number.value in OddLoop g.M.Number.fits (value l.fn.a) (value l.fn.b) (value l.m) (value l.n) l.turns
 
 abbrev pub decreases-turns : goal.decreases-turns
 decreases-turns g l = unsigned_abs (g.M.Number.value l.m) + unsigned_abs (g.M.Number.value l.n)

@@ -1,0 +1,119 @@
+-- Dates in their order, and their days.
+use Rattle.std.specs.Prelude.{◌≡◌, ◌⊎◌, ◌↔◌, ◌+◌, ◌-◌, ◌<◌, ◌≤◌, ◌<ℤ◌, ◌+ℤ◌, ℕ, ℤ, pos, List, length, take, sum, slice_index}
+use Rattle.std.proofs.Common.{arith, inl, inr, le_refl, refl, sym}
+use Rattle.std.proofs.Props.{props}
+use Rattle.std.proofs.lemmas.Int.{ints}
+use Rattle.std.proofs.lemmas.List.{take-take}
+use Rattle.std.proofs.lemmas.List.Sums.{sum_by-take-le, sum_by_more}
+use mathlib.Core.HLevel.{is_prop→PathP}
+use Rattle.num_integer.proofs.ForCallers.{linear}
+use Rattle.calendar.specs.declared.date.Date.{Date}
+use Rattle.calendar.specs.Dates.{IsEarlier, number_of}
+use Rattle.calendar.specs.Years.{IsDate, day_number, days_before_month, days_in_month, days_in_year, months_of}
+use Rattle.calendar.proofs.YearLengths.{later_year, next_first_day}
+
+-- ---- months
+
+-- each month ends before the later ones begin
+month_end : (ms : List ℕ) (i j : ℕ) → i < j → j ≤ length ms → sum (take i ms) + slice_index ms i ≤ sum (take j ms)
+month_end ms i j before within =
+    let more = sum_by_more {X = ℕ} (λ x. x) ms i 0 (omega arith) in
+    let all = sum_by-take-le {X = ℕ} (λ x. x) (take j ms) (i + 1) in
+    let part = rw (take-take (i + 1) j ms (omega arith)) at all in
+    omega (arith, more, part)
+
+-- the day of a date in its year
+pub year_day_range : {year : ℤ} {month day : ℕ} → IsDate year month day → (1 ≤ days_before_month year month + day) × (days_before_month year month + day ≤ days_in_year year)
+unfolding days_in_year
+year_day_range {year} {month} {day} h =
+    let end = month_end (months_of year) (month - 1) 12 (omega (arith, h.month_from_one, h.month_to_twelve)) (le_refl 12) in
+    (omega (arith, h.day_from_one), omega (arith, h.day_to_last))
+
+-- the first day of the next month, and that of the next year, come after the last day of a month
+pub next_month : (year : ℤ) (month : ℕ) → 1 ≤ month → month < 12 → day_number year (month + 1) 1 ≡ day_number year month (days_in_month year month) +ℤ pos 1
+next_month year month from below =
+    let more = sum_by_more {X = ℕ} (λ x. x) (months_of year) (month - 1) 0 (omega arith) in
+    let next : month - 1 + 1 ≡ month + 1 - 1 = omega arith in
+    let part = rw next at more in
+    omega (arith, ints)
+
+pub next_year : (year : ℤ) → day_number (year +ℤ pos 1) 1 1 ≡ day_number year 12 31 +ℤ pos 1
+unfolding days_in_year
+next_year year =
+    let more = sum_by_more {X = ℕ} (λ x. x) (months_of year) 11 0 (omega arith) in
+    omega (arith, ints, next_first_day year)
+
+-- the last day of a year is 31 December
+pub last_of_year : {year : ℤ} {month day : ℕ} → IsDate year month day → 12 ≤ month → days_in_month year month ≤ day → (month ≡ 12) × (day ≡ 31)
+last_of_year {year} {month} h from last =
+    let december : month ≡ 12 = omega (arith, h.month_to_twelve) in
+    let own = h.day_to_last in
+    let part = rw december at own in
+    let rest = rw december at last in
+    (december, omega arith)
+
+-- ---- the order
+
+-- an earlier date has a lesser number
+earlier_is_less : (a b : Date) → IsEarlier a b → number_of a <ℤ number_of b
+earlier_is_less a b (inl years) =
+    let first = year_day_range a.valid in
+    let second = year_day_range b.valid in
+    omega (arith, ints, next_first_day a.year, later_year a.year b.year years)
+earlier_is_less a b (inr (same, inl months)) =
+    let end = month_end (months_of a.year) (a.month - 1) (b.month - 1) (omega (arith, a.valid.month_from_one)) (omega (arith, b.valid.month_to_twelve)) in
+    rw (sym same) (omega (arith, ints, a.valid.day_to_last, b.valid.day_from_one))
+earlier_is_less a b (inr (same, inr (month, days))) = rw (same, month) (omega (arith, ints))
+
+-- of two dates one is earlier, where they are not the same
+compared : (x y : ℤ) (m n d e : ℕ) → ((x <ℤ y) ⊎ ((x ≡ y) × ((m < n) ⊎ ((m ≡ n) × (d < e))))) ⊎ (((y <ℤ x) ⊎ ((y ≡ x) × ((n < m) ⊎ ((n ≡ m) × (e < d))))) ⊎ ((x ≡ y) × (m ≡ n) × (d ≡ e)))
+compared x y m n d e = grind (arith, linear)
+
+-- dates of one number have the same parts
+same_parts : (a b : Date) → number_of a ≡ number_of b → (a.year ≡ b.year) × (a.month ≡ b.month) × (a.day_of_month ≡ b.day_of_month)
+same_parts a b equal = elim (compared a.year b.year a.month b.month a.day_of_month b.day_of_month) [
+  | inl earlier ↦ absurd (omega (arith, linear, earlier_is_less a b earlier))
+  | inr rest ↦ elim rest [
+    | inl later ↦ absurd (omega (arith, linear, earlier_is_less b a later))
+    | inr same ↦ same
+  ]
+]
+
+-- and are the same
+IsDate-prop : (year : ℤ) (month day : ℕ) → IsProp (IsDate year month day)
+IsDate-prop year month day x y =
+    let from_one : IsProp (1 ≤ month) = hlevel props in
+    let to_twelve : IsProp (month ≤ 12) = hlevel props in
+    let day_from_one : IsProp (1 ≤ day) = hlevel props in
+    let to_last : IsProp (day ≤ days_in_month year month) = hlevel props in
+    λ i. record {
+      month_from_one = from_one x.month_from_one y.month_from_one i;
+      month_to_twelve = to_twelve x.month_to_twelve y.month_to_twelve i;
+      day_from_one = day_from_one x.day_from_one y.day_from_one i;
+      day_to_last = to_last x.day_to_last y.day_to_last i;
+    }
+
+pub only_date : (a b : Date) → number_of a ≡ number_of b → a ≡ b
+only_date a b equal =
+    let (year, month, day) = same_parts a b equal in
+    λ i. record {
+      year = year i;
+      month = month i;
+      day_of_month = day i;
+      valid = is_prop→PathP (λ i. IsDate (year i) (month i) (day i)) (λ i. IsDate-prop (year i) (month i) (day i)) a.valid b.valid i;
+    }
+
+-- the order of dates is that of their numbers
+pub order : (a b : Date) → IsEarlier a b ↔ (number_of a <ℤ number_of b)
+order a b = (
+  earlier_is_less a b,
+  λ less. elim (compared a.year b.year a.month b.month a.day_of_month b.day_of_month) [
+    | inl earlier ↦ earlier
+    | inr rest ↦ elim rest [
+      | inl later ↦ absurd (omega (arith, linear, earlier_is_less b a later))
+      | inr same ↦
+          let equal : number_of a ≡ number_of b = rw (same.0, same.1, same.2) refl in
+          absurd (omega (arith, linear))
+    ]
+  ],
+)

@@ -1,0 +1,108 @@
+-- Dates as they are written, and as they are read.
+use Rattle.std.specs.Prelude.{cond, ◌≡◌, ◌⊎◌, ◌+◌, ◌-◌, ◌*◌, ◌/◌, ◌%◌, ◌<◌, ◌≤◌, ◌++◌, ◌≤ℤ◌, ◌<ℤ◌, ℕ, suc, ℤ, pos, negsuc, List, [], ◌∷◌, drop, take, length, get_or, Bool, true, false, Option, Some, None, MatchOption}
+use Rattle.std.specs.Fmt.{char_count, decimal, format_spec, padded_integral, styled_signed_decimal}
+use Rattle.std.specs.List.{All}
+use Rattle.std.specs.Str.{IsCharBoundary}
+use Rattle.std.proofs.Common.{arith, ap, append_assoc, inl, inr, refl, rules, sym, ◌∙◌}
+use Rattle.std.proofs.Math.Seq.{drop-append_seam, take-append_seam}
+use Rattle.std.proofs.lemmas.Int.{ints}
+use Rattle.std.proofs.lemmas.List.{append-nil, get_or-drop, length-append, take-append-drop}
+use lib.Signed.{lt_z}
+use Rattle.std.proofs.lemmas.List.Elements.{All-get_or}
+use Rattle.calendar.specs.Dates.{HasParts}
+use Rattle.calendar.specs.declared.date.Date.{Date}
+use Rattle.calendar.specs.Text.{padded, text_of, with_number, year_text}
+use Rattle.calendar.specs.Years.{IsDate, is_leap_year, month_lengths, months_of}
+use Rattle.calendar.proofs.DateOrder.{only_date}
+use Rattle.calendar.proofs.PaddedNumbers.{two_places}
+use Rattle.calendar.proofs.YearTexts.{above, before, below}
+
+-- ---- a number at the end
+
+-- the three bytes of the hyphen and the number, and what is before them
+pub record EndsInNumber (text front : List ℕ) (n : ℕ) : Type 0 where
+  pub long : length text ≡ length front + 3
+  pub front_is : take (length text - 3) text ≡ front
+  pub last_is : drop (length text - 3) text ≡ 45 ∷ (48 + n / 10) ∷ (48 + n % 10) ∷ []
+
+pub number_told : (text front : List ℕ) (n : ℕ) → n < 100 → text ≡ with_number front n → EndsInNumber text front n
+number_told text front n small e =
+    let whole : text ≡ front ++ (45 ∷ (48 + n / 10) ∷ (48 + n % 10) ∷ []) = e ∙ rw (two_places n small, append_assoc) refl in
+    let long : length text ≡ length front + 3 = ap (λ (x : List ℕ). length x) whole ∙ length-append front (45 ∷ (48 + n / 10) ∷ (48 + n % 10) ∷ []) in
+    let place : length text - 3 ≡ length front = omega arith in
+    record {
+      long = long;
+      front_is = rw (place, whole) (take-append_seam front (45 ∷ (48 + n / 10) ∷ (48 + n % 10) ∷ []));
+      last_is = rw (place, whole) (drop-append_seam front (45 ∷ (48 + n / 10) ∷ (48 + n % 10) ∷ []));
+    }
+
+-- the hyphen begins a character
+pub number_boundary : (text front : List ℕ) (n : ℕ) → EndsInNumber text front n → IsCharBoundary text (length text - 3)
+number_boundary text front n h =
+    let spot : length text - 3 + 0 ≡ length text - 3 = omega arith in
+    let hyphen = rw spot at (sym (get_or-drop (length text - 3) text 0 0) ∙ ap (λ (x : List ℕ). get_or x 0 0) h.last_is) in
+    (omega arith, λ within high. absurd (omega arith))
+
+-- a text ends in one number only
+pub only_number : (text a b : List ℕ) (m n : ℕ) → m < 100 → n < 100 → text ≡ with_number a m → text ≡ with_number b n → (a ≡ b) × (m ≡ n)
+only_number text a b m n m_small n_small e f =
+    let g = number_told text a m m_small e in
+    let h = number_told text b n n_small f in
+    let same = sym g.last_is ∙ h.last_is in
+    let tens = ap (λ (x : List ℕ). get_or x 1 0) same in
+    let ones = ap (λ (x : List ℕ). get_or x 2 0) same in
+    (sym g.front_is ∙ h.front_is, omega arith)
+
+pub number_text : (text : List ℕ) (k tens ones : ℕ) → (48 ≤ tens) × (tens ≤ 57) → (48 ≤ ones) × (ones ≤ 57) → drop k text ≡ 45 ∷ tens ∷ ones ∷ [] → text ≡ with_number (take k text) (10 * (tens - 48) + (ones - 48))
+number_text text k tens ones t o e =
+    let first : 48 + (10 * (tens - 48) + (ones - 48)) / 10 ≡ tens = omega arith in
+    let second : 48 + (10 * (tens - 48) + (ones - 48)) % 10 ≡ ones = omega arith in
+    sym (take-append-drop k text) ∙ rw (two_places (10 * (tens - 48) + (ones - 48)) (omega arith), first, second, append_assoc) (rw e refl)
+
+-- ---- months and days are of two digits
+
+short_months : (leap : Bool) → All (λ days. days ≤ 31) (month_lengths leap)
+short_months true = search rules
+short_months false = search rules
+
+pub small_parts : (date : Date) → (date.month < 100) × (date.day_of_month < 100)
+small_parts date = (
+  omega (arith, date.valid.month_to_twelve),
+  omega (arith, date.valid.day_to_last, All-get_or (λ days. days ≤ 31) (months_of date.year) (date.month - 1) 0 (omega (arith, date.valid.month_to_twelve)) (short_months (is_leap_year date.year))),
+)
+
+-- ---- what `Date::new` answers
+
+pub made_date : (o : Option Date) (date : Date) {year : ℤ} {month day : ℕ} → MatchOption o (¬ (IsDate year month day)) (λ made. HasParts made year month day) → year ≡ date.year → month ≡ date.month → day ≡ date.day_of_month → o ≡ Some date
+made_date None date h year month day = absurd (h (rw (year, month, day) date.valid))
+made_date (Some x) date h year month day = ap (λ (d : Date). Some d) (only_date x date (rw (h.year_is ∙ year, h.month_is ∙ month, h.day_is ∙ day) refl))
+
+-- ---- printing
+
+pub zero_padded : (places n : ℕ) → padded_integral (format_spec 32 0 4 places 18446744073709551615) false [] (decimal n) ≡ padded places n
+unfolding padded_integral char_count
+zero_padded places n =
+    let same : places - length (decimal n) - 0 - 0 ≡ places - length (decimal n) = omega arith in
+    rw (append-nil, same) refl
+
+sign_padded : (negative : Bool) (n : ℕ) → padded_integral (format_spec 32 0 5 5 18446744073709551615) negative [] (decimal n) ≡ cond negative 45 43 ∷ padded 4 n
+unfolding padded_integral char_count
+sign_padded true n = let same : 5 - length (decimal n) - 1 - 0 ≡ 4 - length (decimal n) = omega arith in rw (append-nil, same) refl
+sign_padded false n = let same : 5 - length (decimal n) - 1 - 0 ≡ 4 - length (decimal n) = omega arith in rw (append-nil, same) refl
+
+pub plain_year : (year : ℤ) → pos 0 ≤ℤ year → year ≤ℤ pos 9999 → styled_signed_decimal (format_spec 32 0 4 4 18446744073709551615) year ≡ year_text year
+plain_year (pos n) low high =
+    let sign : lt_z (pos n) (pos 0) ≡ false = grind (arith, ints) in
+    rw sign (zero_padded 4 n ∙ sym (below n (omega (arith, ints))))
+plain_year (negsuc n) low high = absurd (omega (arith, ints))
+
+pub signed_year : (year : ℤ) → (year <ℤ pos 0) ⊎ (pos 9999 <ℤ year) → styled_signed_decimal (format_spec 32 0 5 5 18446744073709551615) year ≡ year_text year
+signed_year (pos n) (inl under) = absurd (omega (arith, ints))
+signed_year (pos n) (inr over) =
+    let sign : lt_z (pos n) (pos 0) ≡ false = grind (arith, ints) in
+    rw sign (sign_padded false n ∙ sym (above n (omega (arith, ints))))
+signed_year (negsuc n) h = sign_padded true (suc n) ∙ sym (before n)
+
+pub joined : (date : Date) (year month day : List ℕ) → year ≡ year_text date.year → month ≡ padded 2 date.month → day ≡ padded 2 date.day_of_month
+    → year ++ (45 ∷ (month ++ (45 ∷ day))) ≡ text_of date
+joined date year month day y m d = rw (y, m, d) (simp append_assoc)

@@ -1,0 +1,139 @@
+-- The weeks of ISO 8601.
+use Rattle.std.specs.Prelude.{◌≡◌, ◌+◌, ◌-◌, ◌/◌, ◌%◌, ◌<◌, ◌≤◌, ◌≤ℤ◌, ◌<ℤ◌, ◌+ℤ◌, ◌-ℤ◌, ◌*ℤ◌, ℕ, ℤ, pos, FitsSigned, MatchOption, Option, Some, None}
+use Rattle.std.specs.Int.{w64}
+use Rattle.std.proofs.Common.{arith, subst, sym}
+use Rattle.std.proofs.lemmas.Int.{by_lt_z, ints}
+use Rattle.num_integer.proofs.ForCallers.{floored_by_range, floored_remainder_range, linear}
+use Rattle.num_integer.specs.Division.{IsFloored, IsRemainder}
+use Rattle.calendar.specs.declared.date.Date.{Date}
+use Rattle.calendar.specs.Dates.{number_of, year_day_of}
+use Rattle.calendar.specs.IsoWeeks.{HasDay, IsDayOfIsoWeek, IsInIsoWeek, IsThursdayOfWeek}
+use Rattle.calendar.specs.Weekday.{weekday_number}
+use Rattle.calendar.specs.Weeks.{HasWeekday}
+use Rattle.calendar.specs.Years.{days_in_year, first_day}
+use Rattle.calendar.specs.declared.weekday.Weekday.{Weekday}
+use Rattle.calendar.specs.declared.weekday.Weekday.TheVariants.{Sunday, Monday, Tuesday, Wednesday, Thursday, Friday, Saturday}
+use Rattle.calendar.proofs.DateOrder.{year_day_range}
+use Rattle.calendar.proofs.YearLengths.{later_year, length_of, next_first_day}
+
+-- ---- Thursdays
+
+-- whole weeks from day 0 on
+pub is_thursday : {day : ℤ} (q : ℤ) → day ≡ q *ℤ pos 7 → HasWeekday day Thursday
+is_thursday q e = record { remainder = record { quotient = q; division = floored_by_range (omega (arith, ints)) (omega (arith, ints)) (omega (arith, ints)) } }
+
+pub of_week : {day r : ℤ} → IsRemainder IsFloored (day +ℤ pos 3) (pos 7) r → IsThursdayOfWeek day (day +ℤ pos 3 -ℤ r)
+of_week h =
+    let range = floored_remainder_range (omega (arith, ints)) h in
+    let equation = h.division.division.equation in
+    record { has_weekday = is_thursday h.quotient (omega (arith, ints)); from = omega (arith, ints); to = omega (arith, ints) }
+
+-- the days of one day of the week are whole weeks apart
+apart : (a b p q : ℤ) (w : ℕ) → a +ℤ pos 4 ≡ p *ℤ pos 7 +ℤ pos w → b +ℤ pos 4 ≡ q *ℤ pos 7 +ℤ pos w → a <ℤ (b +ℤ pos 7) → b <ℤ (a +ℤ pos 7) → a ≡ b
+apart a b p q w first second after before = omega (arith, ints)
+
+pub same_day : {a b : ℤ} (weekday : Weekday) → HasWeekday a weekday → HasWeekday b weekday → a <ℤ (b +ℤ pos 7) → b <ℤ (a +ℤ pos 7) → a ≡ b
+same_day {a} {b} weekday h k after before = apart a b h.remainder.quotient k.remainder.quotient (weekday_number weekday) h.remainder.division.division.equation k.remainder.division.division.equation after before
+
+pub same_thursday : {day a b : ℤ} → IsThursdayOfWeek day a → IsThursdayOfWeek day b → a ≡ b
+same_thursday h k =
+    let first = h.from in
+    let last = h.to in
+    let from = k.from in
+    let to = k.to in
+    same_day Thursday h.has_weekday k.has_weekday (omega (arith, linear)) (omega (arith, linear))
+
+-- ---- years
+
+pub length_range : (year : ℤ) → (365 ≤ days_in_year year) × (days_in_year year ≤ 366)
+unfolding days_in_year
+length_range year = rw length_of (grind arith)
+
+ordered : (x y : ℤ) → x ≤ℤ y → first_day x ≤ℤ first_day y
+ordered x y up = by_lt_z x y
+    (λ less. omega (arith, linear, later_year x y less, next_first_day x))
+    (λ back. let same : x ≡ y = omega (arith, linear) in rw same (omega (arith, linear)))
+
+-- a day before the first of a year is in an earlier year
+pub earlier : {x year day : ℤ} → HasDay x day → day <ℤ first_day year → x <ℤ year
+earlier {x} {year} h before =
+    let from = h.from in
+    by_lt_z x year (λ less. less) (λ rest. absurd (omega (arith, linear, ordered year x rest)))
+
+-- and a day after the last in a later one
+pub later : {x year day : ℤ} → HasDay x day → first_day (year +ℤ pos 1) ≤ℤ day → year <ℤ x
+later {x} {year} h from =
+    let before = h.before in
+    by_lt_z year x (λ less. less) (λ rest. absurd (omega (arith, linear, ordered (x +ℤ pos 1) (year +ℤ pos 1) (omega (arith, linear)))))
+
+pub in_own_year : (date : Date) → HasDay date.year (number_of date)
+in_own_year date =
+    let range = year_day_range date.valid in
+    record { from = omega (arith, ints); before = omega (arith, ints, next_first_day date.year) }
+
+-- ---- weeks
+
+-- the number of the week that has this Thursday
+pub week_of : {day : ℤ} (thursday : Date) {week : ℕ} → IsThursdayOfWeek day (number_of thursday) → week ≡ (year_day_of thursday - 1) / 7 + 1 → IsInIsoWeek day thursday.year week
+week_of thursday h number =
+    let range = year_day_range thursday.valid in
+    record { thursday = number_of thursday; of_week = h; of_year = in_own_year thursday; from = omega (arith, ints); before = omega (arith, ints) }
+
+-- a day of the week after a Thursday's Monday
+pub weekday_after : (weekday : Weekday) {day : ℤ} → HasWeekday day Thursday → HasWeekday (day -ℤ pos 3 +ℤ pos ((weekday_number weekday + 6) % 7)) weekday
+weekday_after weekday {day} h =
+    let equation = h.remainder.division.division.equation in
+    let small : weekday_number weekday < 7 = below_seven weekday in
+    let after = (weekday_number weekday + 6) / 7 in
+    record { remainder = record { quotient = h.remainder.quotient +ℤ pos 1 -ℤ pos after; division = floored_by_range (placed day h.remainder.quotient (weekday_number weekday) small equation) (omega (arith, ints)) (omega (arith, ints)) } }
+  where
+    below_seven : (w : Weekday) → weekday_number w < 7
+    below_seven Sunday = omega arith
+    below_seven Monday = omega arith
+    below_seven Tuesday = omega arith
+    below_seven Wednesday = omega arith
+    below_seven Thursday = omega arith
+    below_seven Friday = omega arith
+    below_seven Saturday = omega arith
+
+    placed : (day q : ℤ) (w : ℕ) → w < 7 → day +ℤ pos 4 ≡ q *ℤ pos 7 +ℤ pos 4 → day -ℤ pos 3 +ℤ pos ((w + 6) % 7) +ℤ pos 4 ≡ (q +ℤ pos 1 -ℤ pos ((w + 6) / 7)) *ℤ pos 7 +ℤ pos w
+    placed day q w small equation = omega (arith, ints)
+
+-- the day of the week whose Thursday is so many days after 1 January
+pub day_of_week : {year place : ℤ} {week : ℕ} (weekday : Weekday) → HasWeekday (first_day year +ℤ place) Thursday → (pos 7 *ℤ (pos week -ℤ pos 1)) ≤ℤ place → place <ℤ (pos 7 *ℤ pos week) → pos 0 ≤ℤ place → place <ℤ pos (days_in_year year)
+    → IsDayOfIsoWeek (first_day year +ℤ place -ℤ pos 3 +ℤ pos ((weekday_number weekday + 6) % 7)) year week weekday
+day_of_week {year} {place} weekday h from before inside below = record {
+  in_week = record {
+    thursday = first_day year +ℤ place;
+    of_week = record { has_weekday = h; from = omega (arith, ints); to = omega (arith, ints) };
+    of_year = record { from = omega (arith, ints); before = omega (arith, ints, next_first_day year) };
+    from = omega (arith, ints);
+    before = omega (arith, ints);
+  };
+  has_weekday = weekday_after weekday h;
+}
+
+-- which is only one
+pub one_day : {a b year : ℤ} {week : ℕ} (weekday : Weekday) → IsDayOfIsoWeek a year week weekday → IsDayOfIsoWeek b year week weekday → a ≡ b
+one_day weekday h k =
+    let thursday = one_thursday h.in_week k.in_week in
+    let first = h.in_week.of_week in
+    let last = k.in_week.of_week in
+    same_day weekday h.has_weekday k.has_weekday (omega (arith, ints, thursday, first.from, first.to, last.from, last.to)) (omega (arith, ints, thursday, first.from, first.to, last.from, last.to))
+  where
+    one_thursday : {a b year : ℤ} {week : ℕ} → (h : IsInIsoWeek a year week) → (k : IsInIsoWeek b year week) → h.thursday ≡ k.thursday
+    one_thursday h k = same_day Thursday h.of_week.has_weekday k.of_week.has_weekday (omega (arith, ints, h.from, h.before, k.from, k.before)) (omega (arith, ints, h.from, h.before, k.from, k.before))
+
+pub day_or_none : (o : Option Date) {day year : ℤ} {week : ℕ} (weekday : Weekday) → IsDayOfIsoWeek day year week weekday → MatchOption o ((y : ℤ) → HasDay y day → ¬ (FitsSigned w64 y)) (λ date. number_of date ≡ day)
+    → MatchOption o ((d y : ℤ) → IsDayOfIsoWeek d year week weekday → HasDay y d → ¬ (FitsSigned w64 y)) (λ date. IsDayOfIsoWeek (number_of date) year week weekday)
+day_or_none None weekday own beyond = λ d y k h fits. beyond y (subst (λ (t : ℤ). HasDay y t) (one_day weekday k own) h) fits
+day_or_none (Some date) {year = year} {week = week} weekday own near = subst (λ (t : ℤ). IsDayOfIsoWeek t year week weekday) (sym near) own
+
+-- a Thursday outside the year has no week of the year
+pub no_day : {day year place : ℤ} {week : ℕ} {weekday : Weekday} → HasWeekday (first_day year +ℤ place) Thursday → (pos 7 *ℤ (pos week -ℤ pos 1)) ≤ℤ place → place <ℤ (pos 7 *ℤ pos week) → IsDayOfIsoWeek day year week weekday → (pos 0 ≤ℤ place) × (place <ℤ pos (days_in_year year))
+no_day {year = year} own from before h =
+    let week = h.in_week in
+    let year_from = week.of_year.from in
+    let year_before = week.of_year.before in
+    let same = same_day Thursday week.of_week.has_weekday own (omega (arith, ints, week.from, week.before)) (omega (arith, ints, week.from, week.before)) in
+    (omega (arith, ints), omega (arith, ints, next_first_day year))

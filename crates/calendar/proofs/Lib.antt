@@ -1,0 +1,9 @@
+pub mod YearLengths
+pub mod DateOrder
+pub mod Laws
+pub mod PaddedNumbers
+pub mod YearTexts
+pub mod DateTexts
+pub mod WeekdayPlaces
+pub mod MonthWeekdays
+pub mod IsoWeeks

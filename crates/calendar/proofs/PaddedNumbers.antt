@@ -1,0 +1,96 @@
+-- Numbers with zeros in front.
+use Rattle.std.specs.Prelude.{◌≡◌, ◌+◌, ◌-◌, ◌*◌, ◌/◌, ◌%◌, ◌^◌, ◌<◌, ◌++◌, ℕ, zero, suc, List, [], ◌∷◌, length, replicate, get_or, Result, Ok}
+use Rattle.std.specs.Fmt.{decimal}
+use Rattle.std.specs.Char.{digit_value}
+use Rattle.std.specs.Str.Parse.{AllDigits, ParsesUnsigned, digits_value, digits_value_after}
+use Rattle.std.proofs.Common.{arith, ap, inl, inr, refl, sym, ◌∙◌}
+use Rattle.std.proofs.lemmas.Bool.{cases_lt}
+use Rattle.std.proofs.lemmas.Fmt.{decimal-digits_value, decimal_digit, decimal_is_IsNumeral, decimal_step, first_decimal, length-decimal-le, length-decimal-le_succ}
+use Rattle.std.proofs.lemmas.List.{length-append, length-replicate}
+use Rattle.std.proofs.lemmas.Str.{digit_value_digit}
+use Rattle.std.proofs.lemmas.Str.Parse.{IsNumeralModel, digit_at, digit_from_value, digits_value_short, numerals_by_value, parse_gives, parse_plain, tells_digits}
+use Rattle.calendar.specs.Text.{IsShortest, padded}
+
+pub own : IsNumeralModel (AllDigits 10) (digits_value 10)
+own = numerals_by_value (AllDigits 10) tells_digits
+
+-- zeros in front are digits, and leave the value as it is
+zeros_digits : (k : ℕ) (ds : List ℕ) → AllDigits 10 ds → AllDigits 10 (replicate k 48 ++ ds)
+zeros_digits zero ds h = h
+zeros_digits (suc k) ds h = (omega arith, zeros_digits k ds h)
+
+zeros_value : (k : ℕ) (ds : List ℕ) → digits_value 10 (replicate k 48 ++ ds) ≡ digits_value 10 ds
+zeros_value zero ds = refl
+zeros_value (suc k) ds = zeros_value k ds
+
+pub length_padded : (places n : ℕ) → length (padded places n) ≡ (places - length (decimal n)) + length (decimal n)
+length_padded places n = simp (length-append, length-replicate)
+
+pub padded_digits : (places n : ℕ) → n < 2 ^ 64 → AllDigits 10 (padded places n)
+padded_digits places n small = zeros_digits (places - length (decimal n)) (decimal n) (decimal_is_IsNumeral n small).0.1
+
+pub padded_value : (places n : ℕ) → n < 2 ^ 64 → digits_value 10 (padded places n) ≡ n
+padded_value places n small = zeros_value (places - length (decimal n)) (decimal n) ∙ (decimal_is_IsNumeral n small).1
+
+-- numbers of two digits
+pub two_places : (n : ℕ) → n < 100 → padded 2 n ≡ (48 + n / 10) ∷ (48 + n % 10) ∷ []
+two_places n small = elim (cases_lt n 10) [
+  | inl one ↦
+      let digit = decimal_digit n one in
+      let tens : 48 ≡ 48 + n / 10 = omega arith in
+      let ones : 48 + n ≡ 48 + n % 10 = omega arith in
+      rw digit (ap (λ (a : ℕ). a ∷ (48 + n) ∷ []) tens ∙ ap (λ (b : ℕ). (48 + n / 10) ∷ b ∷ []) ones)
+  | inr two ↦
+      let step = decimal_step n two (omega arith) in
+      let digit = decimal_digit (n / 10) (omega arith) in
+      rw (step, digit) refl
+]
+
+-- ---- four places or more
+
+pub padded_shortest : (n : ℕ) → n < 2 ^ 64 → IsShortest (padded 4 n)
+padded_shortest n small =
+    let lengths = length_padded 4 n in (
+      omega arith,
+      digit_at (padded 4 n) 0 (padded_digits 4 n small) (omega arith),
+      λ first_zero. elim (cases_lt 4 (length (decimal n))) [
+        | inl long ↦
+            let none : 4 - length (decimal n) ≡ 0 = omega arith in
+            let first = first_decimal n (omega (arith, length-decimal-le_succ n small)) small in
+            absurd (omega (arith, rw none at first_zero, first))
+        | inr short ↦ omega arith
+      ],
+    )
+
+-- digits of one length and one value are the same
+same_digits : (a b : ℕ) (ds es : List ℕ) → AllDigits 10 ds → AllDigits 10 es → length ds ≡ length es → digits_value_after 10 a ds ≡ digits_value_after 10 b es → (a ≡ b) × (ds ≡ es)
+same_digits a b [] [] d f l e = (e, refl)
+same_digits a b [] (y ∷ ys) d f l e = absurd (omega arith)
+same_digits a b (x ∷ xs) [] d f l e = absurd (omega arith)
+same_digits a b (x ∷ xs) (y ∷ ys) d f l e =
+    let rest = same_digits (a * 10 + digit_value x) (b * 10 + digit_value y) xs ys d.1 f.1 (omega arith) e in
+    let first : x ≡ y = omega (arith, digit_value_digit x (digit_from_value x d.0), digit_value_digit y (digit_from_value y f.0)) in
+    (omega arith, rw (first, rest.1) refl)
+
+padded_is : (ds : List ℕ) → AllDigits 10 ds → IsShortest ds → digits_value 10 ds < 2 ^ 64 → ds ≡ padded 4 (digits_value 10 ds)
+padded_is ds h so small =
+    let lengths = length_padded 4 (digits_value 10 ds) in
+    let same : length ds ≡ length (padded 4 (digits_value 10 ds)) = elim (cases_lt (get_or ds 0 0) 49) [
+      | inl low ↦
+          let four = so.2 (omega arith) in
+          omega (arith, length-decimal-le 4 (digits_value 10 ds) (omega arith) (digits_value_short own ds 4 h (omega arith)) small)
+      | inr high ↦ omega (arith, ap (λ (x : List ℕ). length x) (decimal-digits_value own ds h (omega arith) (λ e. absurd (omega arith)) small))
+    ] in
+    (same_digits 0 0 ds (padded 4 (digits_value 10 ds)) h (padded_digits 4 (digits_value 10 ds) small) same (sym (padded_value 4 (digits_value 10 ds) small))).1
+
+-- what is written so is parsed as the number, and what is parsed as a number is written so
+pub number_read : {E : Type 0} (n : ℕ) (ds : List ℕ) (r : Result ℕ E) → n < 2 ^ 64 → ds ≡ padded 4 n → ParsesUnsigned 64 10 ds r → r ≡ Ok n
+number_read n ds r small e h =
+    let so = padded_shortest n small in
+    let value = padded_value 4 n small in
+    rw value at (parse_gives own 64 (padded 4 n) r (rw e at h) (padded_digits 4 n small) (omega (arith, so.0)) (rw value small))
+
+pub number_text : {E : Type 0} (n : ℕ) (ds : List ℕ) (r : Result ℕ E) → IsShortest ds → r ≡ Ok n → ParsesUnsigned 64 10 ds r → ds ≡ padded 4 n
+number_text n ds r so e h =
+    let all = rw e at (parse_plain own 64 ds r h (λ plus. absurd (omega (arith, so.1.0)))) in
+    padded_is ds all.0.0 so (omega (arith, all.0.2)) ∙ ap (padded 4) (sym all.1)

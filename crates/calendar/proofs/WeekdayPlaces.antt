@@ -1,0 +1,47 @@
+-- The first day from another on that has a given day of the week.
+use Rattle.std.specs.Prelude.{◌≡◌, ◌+◌, ◌-◌, ◌*◌, ◌/◌, ◌%◌, ◌<◌, ◌≤ℤ◌, ◌+ℤ◌, ◌-ℤ◌, ◌*ℤ◌, ℕ, ℤ, pos, FitsSigned, MatchOption, Option, Some, None}
+use Rattle.std.specs.Int.{w64}
+use Rattle.std.specs.Option.{SomeIff}
+use Rattle.std.proofs.Common.{arith, subst, sym}
+use Rattle.std.proofs.lemmas.Int.{ints}
+use Rattle.num_integer.proofs.ForCallers.{floored_by_range, floored_remainder_range, linear}
+use Rattle.num_integer.specs.Division.{IsFloored, IsRemainder}
+use Rattle.calendar.specs.declared.weekday.Weekday.{Weekday}
+use Rattle.calendar.specs.Weekday.{weekday_number}
+use Rattle.calendar.specs.Weeks.{IsFirstWeekday}
+
+-- the remainder of a sum is that of the sum with the remainder
+pub remainder_of_sum : {n r s : ℤ} (k : ℤ) → IsRemainder IsFloored n (pos 7) r → IsRemainder IsFloored (r +ℤ k) (pos 7) s → IsRemainder IsFloored (n +ℤ k) (pos 7) s
+remainder_of_sum k first second =
+    let range = floored_remainder_range (omega (arith, ints)) second in
+    let a = first.division.division.equation in
+    let b = second.division.division.equation in
+    record { quotient = first.quotient +ℤ second.quotient; division = floored_by_range (omega (arith, ints)) range.0 range.1 }
+
+-- days of one day of the week are whole weeks apart
+not_between : (day other first : ℤ) (q p : ℤ) (t w : ℕ) → w < 7 → first ≡ day +ℤ pos w → first +ℤ pos 4 ≡ q *ℤ pos 7 +ℤ pos t → other +ℤ pos 4 ≡ p *ℤ pos 7 +ℤ pos t → day ≤ℤ other → first ≤ℤ other
+not_between day other first q p t w small place a b after = omega (arith, ints)
+
+place : (r t : ℕ) → r < 7 → t + 7 - r ≡ 7 * ((t + 7 - r) / 7) + (t + 7 - r) % 7
+place r t small = omega arith
+
+pub first_weekday : (day : ℤ) (weekday : Weekday) {r t w : ℕ} → IsRemainder IsFloored (day +ℤ pos 4) (pos 7) (pos r) → r < 7 → t ≡ weekday_number weekday → t < 7 → w ≡ (t + 7 - r) % 7 → IsFirstWeekday day weekday (day +ℤ pos w)
+first_weekday day weekday {r} {t} {w} h r_small is t_small rest =
+    let equation = h.division.division.equation in
+    let w_small : w < 7 = omega arith in
+    let own : day +ℤ pos w +ℤ pos 4 ≡ (h.quotient +ℤ pos 1 -ℤ pos ((t + 7 - r) / 7)) *ℤ pos 7 +ℤ pos t = omega (arith, ints) in
+    record {
+      from_there = omega (arith, ints);
+      has_weekday = record { remainder = rw (sym is) (record { quotient = h.quotient +ℤ pos 1 -ℤ pos ((t + 7 - r) / 7); division = floored_by_range own (omega (arith, ints)) (omega (arith, ints)) }) };
+      first = λ other after k.
+          let same = rw (sym is) at k.remainder.division.division.equation in
+          not_between day other (day +ℤ pos w) (h.quotient +ℤ pos 1 -ℤ pos ((t + 7 - r) / 7)) k.remainder.quotient t w w_small (omega (arith, ints)) own same after;
+    }
+
+-- which is only one, so that where it does not fit none does
+pub first_or_beyond : (o : Option ℤ) (day : ℤ) (weekday : Weekday) (found : ℤ) → SomeIff o (FitsSigned w64 found) found → IsFirstWeekday day weekday found
+    → MatchOption o ((first : ℤ) → IsFirstWeekday day weekday first → ¬ (FitsSigned w64 first)) (λ first. IsFirstWeekday day weekday first)
+first_or_beyond None day weekday found beyond h = λ first k fits.
+    let same : first ≡ found = omega (arith, linear, h.first first k.from_there k.has_weekday, k.first found h.from_there h.has_weekday) in
+    beyond (subst (λ (x : ℤ). FitsSigned w64 x) same fits)
+first_or_beyond (Some x) day weekday found fits h = subst (λ (z : ℤ). IsFirstWeekday day weekday z) (sym fits.1) h

@@ -1,0 +1,116 @@
+-- The days of years, and the days on which they begin.
+use Rattle.std.specs.Prelude.{◌≡◌, ◌≢◌, ◌⊎◌, ◌↔◌, ◌+◌, ◌*◌, ◌/◌, ◌%◌, ◌<◌, ◌≤◌, ◌≤ℤ◌, ◌<ℤ◌, ◌+ℤ◌, ◌-ℤ◌, ◌*ℤ◌, ℕ, zero, suc, ℤ, pos, negsuc, Bool, true, false, cond, sum, IsTrue}
+use Rattle.std.proofs.Common.{arith, add-one, inl, inr, refl}
+use Rattle.std.proofs.lemmas.Bool.{cases_lt}
+use Rattle.std.proofs.lemmas.Bool.Decides.{nat_tests}
+use Rattle.std.proofs.lemmas.Int.{by_lt_z, ints, to_z-of_z}
+use Rattle.num_integer.proofs.ForCallers.{ceiled_quotient_range, divides_by_magnitude}
+use Rattle.num_integer.specs.Division.{IsCeiled, IsQuotient}
+use Rattle.num_integer.specs.Divisors.{Divides}
+use Rattle.calendar.specs.Years.{days_after, days_before, days_in_year, first_day, is_leap_year, is_multiple, month_lengths}
+
+-- ---- the multiples of a number below another
+
+-- whether n + 1 is one more of them
+abbrev AddsOne : ℕ → ℕ → Type 0
+AddsOne d n = ((suc n % d ≡ 0) × (suc n / d ≡ n / d + 1)) ⊎ ((suc n % d ≢ 0) × (suc n / d ≡ n / d))
+
+fourth : (n : ℕ) → AddsOne 4 n
+fourth n = elim (cases_lt 0 (suc n % 4)) [ inl rest ↦ inr (omega arith, omega arith) | inr none ↦ inl (omega arith, omega arith) ]
+
+hundredth : (n : ℕ) → AddsOne 100 n
+hundredth n = elim (cases_lt 0 (suc n % 100)) [ inl rest ↦ inr (omega arith, omega arith) | inr none ↦ inl (omega arith, omega arith) ]
+
+four_hundredth : (n : ℕ) → AddsOne 400 n
+four_hundredth n = elim (cases_lt 0 (suc n % 400)) [ inl rest ↦ inr (omega arith, omega arith) | inr none ↦ inl (omega arith, omega arith) ]
+
+-- ---- the days of years
+
+pub multiple_test : (z : ℤ) (d : ℕ) {answer : Bool} → 0 < d → IsTrue answer ↔ Divides (pos d) z → is_multiple z d ≡ answer
+unfolding is_multiple
+multiple_test z d {answer} up test =
+    let told = divides_by_magnitude z d up in
+    grind (arith, nat_tests)
+
+pub length_of : (leap : Bool) → sum (month_lengths leap) ≡ cond leap 366 365
+length_of true = refl
+length_of false = refl
+
+at_most : (year : ℤ) → days_in_year year ≤ 366
+unfolding days_in_year
+at_most year = rw length_of (grind arith)
+
+one_year : (n : ℕ) → days_in_year (negsuc n) + (suc n / 100 + (n / 4 + n / 400)) ≡ 365 + (n / 100 + (suc n / 4 + suc n / 400))
+unfolding days_in_year is_leap_year is_multiple
+one_year n =
+    let a = fourth n in
+    let b = hundredth n in
+    let c = four_hundredth n in
+    rw length_of (grind (arith, nat_tests))
+
+years_before : (n : ℕ) → days_before n + n / 100 ≡ 365 * n + (n / 4 + n / 400)
+unfolding days_before
+years_before zero = refl
+years_before (suc n) = omega (arith, years_before n, one_year n)
+
+-- years on both sides of year 0 are as long
+mirrored : (n : ℕ) → days_in_year (pos (suc n)) ≡ days_in_year (negsuc n)
+unfolding days_in_year is_leap_year is_multiple
+mirrored n = refl
+
+years_after : (n : ℕ) → days_after (suc n) ≡ 366 + days_before n
+unfolding days_after days_before days_in_year is_leap_year is_multiple
+years_after zero = refl
+years_after (suc n) = omega (arith, years_after n, mirrored n)
+
+none_after : days_after 0 ≡ 0
+unfolding days_after
+none_after = refl
+
+epoch : days_after 1970 ≡ 719528
+epoch = omega (arith, years_after 1969, years_before 1969)
+
+-- ---- the first day of a year
+
+-- the next year begins after the days of the year
+pub next_first_day : (year : ℤ) → first_day (year +ℤ pos 1) ≡ first_day year +ℤ pos (days_in_year year)
+unfolding days_after days_before
+next_first_day (pos n) = rw (add-one n) (omega (arith, ints))
+next_first_day (negsuc zero) = omega (arith, ints)
+next_first_day (negsuc (suc n)) =
+    let next : negsuc (suc n) +ℤ pos 1 ≡ negsuc n = omega (arith, ints) in
+    rw next (omega (arith, ints))
+
+-- which are 366 at most
+pub day_in_year : (year : ℤ) {day : ℤ} → day <ℤ first_day (year +ℤ pos 1) → (day <ℤ (first_day year +ℤ pos (days_in_year year))) × (days_in_year year ≤ 366)
+day_in_year year before = (omega (arith, ints, next_first_day year), at_most year)
+
+-- by the leap years before it
+pub first_day_is : (year : ℤ) {a b c : ℤ} → IsQuotient IsCeiled year (pos 4) a → IsQuotient IsCeiled year (pos 100) b → IsQuotient IsCeiled year (pos 400) c
+    → first_day year ≡ pos 365 *ℤ year +ℤ (a -ℤ b +ℤ c) -ℤ pos 719528
+first_day_is (pos zero) h k l = omega (arith, ints, epoch, none_after, ceiled_quotient_range h, ceiled_quotient_range k, ceiled_quotient_range l)
+first_day_is (pos (suc n)) h k l = omega (arith, ints, epoch, years_after n, years_before n, ceiled_quotient_range h, ceiled_quotient_range k, ceiled_quotient_range l)
+first_day_is (negsuc n) h k l = omega (arith, ints, epoch, years_before (suc n), ceiled_quotient_range h, ceiled_quotient_range k, ceiled_quotient_range l)
+
+-- years are 146097/400 days long, but for a day or two
+pub mean_length : (year : ℤ) → ((pos 146097 *ℤ (year -ℤ pos 1970)) ≤ℤ (pos 400 *ℤ first_day year +ℤ pos 506)) × ((pos 400 *ℤ first_day year) ≤ℤ (pos 146097 *ℤ (year -ℤ pos 1970) +ℤ pos 589))
+mean_length (pos zero) = omega (arith, ints, epoch, none_after)
+mean_length (pos (suc n)) = omega (arith, ints, epoch, years_after n, years_before n)
+mean_length (negsuc n) = omega (arith, ints, epoch, years_before (suc n))
+
+-- a later year begins after the end of the year
+pub later_year : (x y : ℤ) → x <ℤ y → first_day (x +ℤ pos 1) ≤ℤ first_day y
+later_year x y less = by_lt_z (x +ℤ pos 1) y
+    (λ apart. let long = mean_length (x +ℤ pos 1) in let short = mean_length y in omega (arith, ints))
+    (λ next. let same : y ≡ x +ℤ pos 1 = omega (arith, ints) in rw same (omega (arith, ints)))
+
+-- the year of the mean length, and the next one
+pub mean_year_is : (year : ℤ) {day : ℤ} → (pos 146097 *ℤ (year -ℤ pos 1970)) ≤ℤ (pos 400 *ℤ (day -ℤ pos 2)) → (pos 400 *ℤ (day -ℤ pos 2)) <ℤ (pos 146097 *ℤ (year -ℤ pos 1969))
+    → (first_day year ≤ℤ day) × (day <ℤ first_day (year +ℤ pos 1 +ℤ pos 1))
+mean_year_is year from before =
+    let short = mean_length year in
+    let long = mean_length (year +ℤ pos 1 +ℤ pos 1) in
+    (omega (arith, ints), omega (arith, ints))
+
+-- numbers as the code reads them
+pub ruleset reads = (ints, to_z-of_z)

@@ -1,0 +1,84 @@
+-- Years as they are written.
+use Rattle.std.specs.Prelude.{◌≡◌, ◌≢◌, ◌↔◌, ◌-◌, ◌^◌, ◌<◌, ◌≤◌, ℕ, zero, suc, ℤ, pos, negsuc, neg_ℤ, unsigned_abs, List, ◌∷◌, get_or, FitsSigned, Option, Some, None}
+use Rattle.std.specs.Int.{w64}
+use Rattle.std.specs.Option.{option_map}
+use Rattle.std.proofs.Common.{arith, ap, inl, inr, refl, sym, ◌∙◌}
+use Rattle.std.proofs.lemmas.Bool.{cases_lt}
+use Rattle.std.proofs.lemmas.Bool.Decides.{nat_tests}
+use Rattle.std.proofs.lemmas.Int.{ints}
+use Rattle.calendar.specs.Text.{padded, year_text}
+use Rattle.calendar.proofs.PaddedNumbers.{padded_shortest}
+
+pub below : (n : ℕ) → n < 10000 → year_text (pos n) ≡ padded 4 n
+unfolding year_text
+below n small = grind (arith, nat_tests)
+
+pub above : (n : ℕ) → 9999 < n → year_text (pos n) ≡ 43 ∷ padded 4 n
+unfolding year_text
+above n large = grind (arith, nat_tests)
+
+pub before : (n : ℕ) → year_text (negsuc n) ≡ 45 ∷ padded 4 (suc n)
+unfolding year_text
+before n = refl
+
+-- ---- the forms of a year's text
+
+-- the text is a year's just where these digits are of a number in the range, and the year is the number's value
+pub record HasForm (value : ℕ → ℤ) (least most : ℕ) (ds text : List ℕ) : Type 0 where
+  pub tells : (year : ℤ) → FitsSigned w64 year → text ≡ year_text year → (value (unsigned_abs year) ≡ year) × (least ≤ unsigned_abs year) × (unsigned_abs year ≤ most) × (ds ≡ padded 4 (unsigned_abs year))
+  pub writes : (n : ℕ) → least ≤ n → n ≤ most → ds ≡ padded 4 n → text ≡ year_text (value n)
+
+first_byte : {a b : ℕ} {s t : List ℕ} → a ∷ s ≡ b ∷ t → a ≡ b
+first_byte e = cc
+
+no_sign : (n c : ℕ) (ds : List ℕ) → n < 10000 → c < 48 → c ∷ ds ≡ padded 4 n → ⊥
+no_sign n c ds small low e = omega (arith, ap (λ (x : List ℕ). get_or x 0 0) e, (padded_shortest n (omega arith)).1.0)
+
+pub minus_form : (ds text : List ℕ) → text ≡ 45 ∷ ds → HasForm (λ n. neg_ℤ (pos n)) 1 (2 ^ 63) ds text
+minus_form ds text starts = record { tells = λ year fits e. told year fits (sym starts ∙ e); writes = λ n some small e. starts ∙ ap (λ (x : List ℕ). 45 ∷ x) e ∙ written n some }
+  where
+    told : (year : ℤ) → FitsSigned w64 year → 45 ∷ ds ≡ year_text year → (neg_ℤ (pos (unsigned_abs year)) ≡ year) × (1 ≤ unsigned_abs year) × (unsigned_abs year ≤ 2 ^ 63) × (ds ≡ padded 4 (unsigned_abs year))
+    told (pos n) fits e = elim (cases_lt n 10000) [
+      | inl small ↦ absurd (no_sign n 45 ds small (omega arith) (e ∙ below n small))
+      | inr large ↦ absurd (omega (arith, first_byte (e ∙ above n large)))
+    ]
+    told (negsuc n) fits e = let same = e ∙ before n in (refl, omega arith, omega (arith, ints), cc)
+
+    written : (n : ℕ) → 1 ≤ n → 45 ∷ padded 4 n ≡ year_text (neg_ℤ (pos n))
+    written zero some = absurd (omega arith)
+    written (suc n) some = sym (before n)
+
+pub plus_form : (ds text : List ℕ) → text ≡ 43 ∷ ds → HasForm pos 10000 (2 ^ 63 - 1) ds text
+plus_form ds text starts = record { tells = λ year fits e. told year fits (sym starts ∙ e); writes = λ n large small e. starts ∙ ap (λ (x : List ℕ). 43 ∷ x) e ∙ sym (above n large) }
+  where
+    told : (year : ℤ) → FitsSigned w64 year → 43 ∷ ds ≡ year_text year → (pos (unsigned_abs year) ≡ year) × (10000 ≤ unsigned_abs year) × (unsigned_abs year ≤ 2 ^ 63 - 1) × (ds ≡ padded 4 (unsigned_abs year))
+    told (pos n) fits e = elim (cases_lt n 10000) [
+      | inl small ↦ absurd (no_sign n 43 ds small (omega arith) (e ∙ below n small))
+      | inr large ↦ let same = e ∙ above n large in (refl, omega arith, omega (arith, ints), cc)
+    ]
+    told (negsuc n) fits e = absurd (omega (arith, first_byte (e ∙ before n)))
+
+pub plain_form : (text : List ℕ) → ((rest : List ℕ) → text ≢ 45 ∷ rest) → ((rest : List ℕ) → text ≢ 43 ∷ rest) → HasForm pos 0 9999 text text
+plain_form text no_minus no_plus = record { tells = told; writes = λ n low small e. e ∙ sym (below n (omega arith)) }
+  where
+    told : (year : ℤ) → FitsSigned w64 year → text ≡ year_text year → (pos (unsigned_abs year) ≡ year) × (0 ≤ unsigned_abs year) × (unsigned_abs year ≤ 9999) × (text ≡ padded 4 (unsigned_abs year))
+    told (pos n) fits e = elim (cases_lt n 10000) [
+      | inl small ↦ (refl, omega arith, omega arith, e ∙ below n small)
+      | inr large ↦ absurd (no_plus (padded 4 n) (e ∙ above n large))
+    ]
+    told (negsuc n) fits e = absurd (no_minus (padded 4 (suc n)) (e ∙ before n))
+
+-- the year that is read of a text of the form
+pub year_read : (value : ℕ → ℤ) (least most : ℕ) (ds text : List ℕ) (o : Option ℕ) → HasForm value least most ds text → ((n : ℕ) → (o ≡ Some n) ↔ ((least ≤ n) × (n ≤ most) × (ds ≡ padded 4 n)))
+    → (year : ℤ) → FitsSigned w64 year → (option_map value o ≡ Some year) ↔ (text ≡ year_text year)
+year_read value least most ds text None form reads year fits = (
+  λ e. absurd (cc),
+  λ e. let told = form.tells year fits e in absurd (cc ((reads (unsigned_abs year)).1 (told.1, told.2, told.3))),
+)
+year_read value least most ds text (Some n) form reads year fits = (
+  λ e. let same : value n ≡ year = cc in let is = (reads n).0 refl in form.writes n is.0 is.1 is.2 ∙ ap year_text same,
+  λ e.
+      let told = form.tells year fits e in
+      let same : n ≡ unsigned_abs year = cc ((reads (unsigned_abs year)).1 (told.1, told.2, told.3)) in
+      ap (λ (k : ℕ). Some (value k)) same ∙ ap (λ (y : ℤ). Some y) told.0,
+)

@@ -1,0 +1,14 @@
+use Rattle.std.specs.Prelude.{◌≤◌}
+use Rattle.std.proofs.Common.{refl, rules}
+use Rattle.std.proofs.lemmas.Int.{to_z-of_z}
+use Rattle.calendar.proofs.MonthWeekdays.{nth_weekday}
+use Rattle.calendar.proofs.month_weekdays.nth_weekday_of_month.Goals as goal
+
+pub returns : goal.returns
+returns c =
+    let year = c.ranges.year in
+    let parts = simp to_z-of_z at c.in_ok-first.ensures in
+    let found = simp to_z-of_z at c.new-3.ensures in
+    let from : 1 ≤ c.args.n = search rules in
+    let until = c.days_until_weekday.ensures in
+    nth_weekday c.new-3.result c.in_ok-first.first parts until.weekday until.small from refl found

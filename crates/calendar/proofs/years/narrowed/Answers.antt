@@ -1,0 +1,14 @@
+use Rattle.std.specs.Prelude.{◌≡◌, ℤ, FitsSigned, Option, Result, Ok, Err}
+use Rattle.std.specs.Int.{w64}
+use Rattle.std.specs.Option.{SomeIff}
+use Rattle.std.specs.Result.{OkIff, result_ok}
+use Rattle.std.proofs.lemmas.Int.{to_z-of_z}
+use Rattle.calendar.proofs.years.narrowed.Goals as goal
+
+-- a number as an `i64`, where it fits
+some_from_ok : {E : Type 0} (x : ℤ) (r : Result ℤ E) {o : Option ℤ} → OkIff r (FitsSigned w64 x) x → o ≡ result_ok r → SomeIff o (FitsSigned w64 x) x
+some_from_ok x (Ok n) h e = rw e h
+some_from_ok x (Err d) h e = rw e h
+
+pub returns : goal.returns
+returns c = let fits = c.ranges.number in some_from_ok _ c.try_from.result (simp to_z-of_z at c.try_from.ensures) c.ok.ensures.value

@@ -1,0 +1,179 @@
+//! Dates and their days.
+
+ghost use Rattle.calendar.specs.Years.{IsDate};
+
+use crate::months::{days_before_month, days_in_month, days_in_year, months_of};
+use crate::years::{days_before_day, first_day_of, narrowed, year_of_day};
+
+/// A date of the proleptic Gregorian calendar, in any year of `i64`. The year before year 1 is
+/// year 0. Dates are in the order of their days.
+#[derive(Debug, Clone, Copy, PartialEq, Eq, PartialOrd, Ord, Hash)]
+pub struct Date {
+    pub year: i64,
+    pub month: u8,
+    pub day_of_month: u8,
+    pub ghost valid: { IsDate year month day_of_month },
+}
+
+impl Date {
+    ghost use Rattle.std.specs.Prelude.{◌≡◌, ◌↔◌, ◌+◌, ◌<◌, ◌≤◌, ◌^◌, ◌+ℤ◌, ◌-ℤ◌, pos, unsigned_abs, FitsSigned, IfSome, IsSome, MatchOption};
+    ghost use Rattle.std.specs.Int.{w64};
+    ghost use Rattle.std.specs.Option.{SomeIff};
+    ghost use Rattle.num_integer.specs.Only.{IsOnly};
+    ghost use Rattle.calendar.specs.Years.{days_in_year};
+    ghost use Rattle.calendar.specs.Dates.{HasParts, number_of, year_day_of};
+
+    /// Returns the date of a year, a month and a day of the month, or `None` where there is none.
+    /// `Date::new(1900, 2, 29)` is `None`.
+    pub fn new(year: i64, month: u8, day_of_month: u8) -> Option<Date>
+        ensures { MatchOption result (¬ (IsDate year month day_of_month))
+            (λ date. HasParts date year month day_of_month) }
+    {
+        if (1..=12).contains(&month) && (1..=days_in_month(year, month)).contains(&day_of_month) {
+            Some(Date {
+                year,
+                month,
+                day_of_month,
+            })
+        } else {
+            None
+        }
+    }
+
+    /// Returns the date of a day, counted from 1970-01-01, which is day 0. `Date::from_day(-1)` is
+    /// 1969-12-31.
+    pub fn from_day(day: i64) -> Date
+        ensures number { number_of result ≡ day }
+        ensures only { IsOnly (λ date. number_of date ≡ day) result }
+    {
+        let year = year_of_day(day);
+        Date::in_year(year, days_before_day(year, day))
+    }
+
+    /// Returns the day of the date, counted from 1970-01-01, or `None` where it does not fit. That of
+    /// 1969-12-31 is `Some(-1)`.
+    pub fn day(&self) -> Option<i64>
+        ensures { SomeIff result (FitsSigned w64 (number_of self.now)) (number_of self.now) }
+    {
+        narrowed(self.number())
+    }
+
+    /// Returns the date of the next day, or `None` where that is in the year after `i64::MAX`.
+    /// That of 2000-02-28 is 2000-02-29.
+    pub fn next(&self) -> Option<Date>
+        ensures { MatchOption result
+            ((self.now.year ≡ i64.MAX) × (self.now.month ≡ 12) × (self.now.day_of_month ≡ 31))
+            (λ date. number_of date ≡ number_of self.now +ℤ pos 1) }
+    {
+        let (year, month) = (self.year, self.month);
+        if self.day_of_month < days_in_month(year, month) {
+            Some(Date {
+                year,
+                month,
+                day_of_month: self.day_of_month + 1,
+            })
+        } else if month < 12 {
+            Some(Date {
+                year,
+                month: month + 1,
+                day_of_month: 1,
+            })
+        } else {
+            Some(Date {
+                year: year.checked_add(1)?,
+                month: 1,
+                day_of_month: 1,
+            })
+        }
+    }
+
+    /// Returns the date of the previous day, or `None` where that is in the year before `i64::MIN`.
+    /// That of 1900-03-01 is 1900-02-28.
+    pub fn previous(&self) -> Option<Date>
+        ensures { MatchOption result
+            ((self.now.year ≡ i64.MIN) × (self.now.month ≡ 1) × (self.now.day_of_month ≡ 1))
+            (λ date. number_of date ≡ number_of self.now -ℤ pos 1) }
+    {
+        let (year, month) = (self.year, self.month);
+        if self.day_of_month > 1 {
+            Some(Date {
+                year,
+                month,
+                day_of_month: self.day_of_month - 1,
+            })
+        } else if month > 1 {
+            Some(Date {
+                year,
+                month: month - 1,
+                day_of_month: days_in_month(year, month - 1),
+            })
+        } else {
+            Some(Date {
+                year: year.checked_sub(1)?,
+                month: 12,
+                day_of_month: 31,
+            })
+        }
+    }
+
+    /// Returns the day of the year of the date, which is 1 on 1 January. That of 2000-12-31 is `366`.
+    pub fn day_of_year(&self) -> u16
+        ensures day { result ≡ year_day_of self.now }
+        ensures from_one { 1 ≤ result }
+        ensures to_last { result ≤ days_in_year self.now.year }
+    {
+        days_before_month(self.year, self.month) + u16::from(self.day_of_month)
+    }
+
+    /// Returns the date of a day of a year, of which 1 January is 1, or `None` where the year has no
+    /// such day. `Date::from_year_day(2000, 60)` is 2000-02-29, and `Date::from_year_day(1900, 366)`
+    /// is `None`.
+    pub fn from_year_day(year: i64, day_of_year: u16) -> Option<Date>
+        ensures { MatchOption result (¬ ((1 ≤ day_of_year) × (day_of_year ≤ days_in_year year)))
+            (λ date. (date.year ≡ year) × (year_day_of date ≡ day_of_year)) }
+    {
+        if (1..=days_in_year(year)).contains(&day_of_year) {
+            Some(Date::in_year(year, day_of_year - 1))
+        } else {
+            None
+        }
+    }
+
+    /// Returns the date `days` days after this one, or before it where `days` is negative, or `None`
+    /// where its day does not fit an `i64`. -1 day after 2000-03-01 is 2000-02-29.
+    pub fn plus_days(&self, days: i64) -> Option<Date>
+        ensures fits { IsSome result ↔ FitsSigned w64 (number_of self.now +ℤ days) }
+        ensures date { IfSome result (λ date. number_of date ≡ number_of self.now +ℤ days) }
+    {
+        let day = narrowed(self.number() + i128::from(days))?;
+        Some(Date::from_day(day))
+    }
+
+    /// Returns the day of the date, which need not fit an `i64`.
+    pub(crate) fn number(&self) -> i128
+        ensures value { result ≡ number_of self.now }
+        ensures small { unsigned_abs result < 2 ^ 73 }
+    {
+        first_day_of(self.year) + i128::from(self.day_of_year()) - 1
+    }
+
+    /// Returns the date in a year that has `days` days of the year before it.
+    pub(crate) fn in_year(year: i64, days: u16) -> Date
+        requires { days < days_in_year year }
+        ensures year { result.year ≡ year }
+        ensures day { year_day_of result ≡ days + 1 }
+    {
+        let mut rest = days;
+        for (i, length) in months_of(year).iter().enumerate() {
+            if rest < u16::from(*length) {
+                return Date {
+                    year,
+                    month: i as u8 + 1,
+                    day_of_month: rest as u8 + 1,
+                };
+            }
+            rest -= u16::from(*length);
+        }
+        unreachable!()
+    }
+}

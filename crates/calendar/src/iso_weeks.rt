@@ -1,0 +1,157 @@
+//! The weeks of ISO 8601, from Monday to Sunday.
+
+ghost use Rattle.std.specs.Prelude.{◌≡◌, ◌+◌, ◌%◌, ◌<◌, ◌^◌, ◌+ℤ◌, ◌-ℤ◌, ◌*ℤ◌, ◌<ℤ◌, ◌≤ℤ◌, ℕ, ℤ, pos, unsigned_abs, FitsSigned, MatchOption};
+ghost use Rattle.std.specs.Int.{w64};
+ghost use Rattle.num_integer.specs.Division.{IsFloored, IsRemainder};
+ghost use Rattle.calendar.specs.Dates.{number_of};
+ghost use Rattle.calendar.specs.IsoWeeks.{HasDay, IsDayOfIsoWeek, IsInIsoWeek, IsThursdayOfWeek};
+ghost use Rattle.calendar.specs.Weekday.{weekday_number};
+ghost use Rattle.calendar.specs.Weeks.{HasWeekday};
+ghost use Rattle.calendar.specs.Years.{days_in_year, first_day};
+ghost use Rattle.calendar.specs.declared.weekday.Weekday.TheVariants.{Thursday};
+
+use crate::months::days_in_year;
+use crate::weeks::days_after_sunday;
+use crate::years::first_day_of;
+use crate::{Date, Weekday, weekday_of};
+use num_integer::mod_floor;
+
+/// A week of ISO 8601, from Monday to Sunday. Its year is the one that has its Thursday, and week 1
+/// has the first Thursday of the year.
+#[derive(Debug, Clone, Copy, PartialEq, Eq, PartialOrd, Ord, Hash)]
+pub struct IsoWeek {
+    pub year: i64,
+    pub week: u8,
+}
+
+impl Date {
+    /// Returns the day of the week of the date. That of 2000-02-29 is `Tuesday`.
+    pub fn weekday(&self) -> Weekday
+        ensures { HasWeekday (number_of self.now) result }
+    {
+        weekday_of(mod_floor(self.number(), 7) as i64)
+    }
+
+    /// Returns the week of ISO 8601 that has the date, or `None` where its year is beyond `i64`. That
+    /// of 2005-01-01 is week 53 of 2004.
+    pub fn iso_week(&self) -> Option<IsoWeek>
+        ensures { MatchOption result
+            ((year : ℤ) (week : ℕ) → IsInIsoWeek (number_of self.now) year week → ¬ (FitsSigned w64 year))
+            (λ found. IsInIsoWeek (number_of self.now) found.year found.week) }
+    {
+        let thursday = date_near(self.year, thursday_of_week(self))?;
+        let week = (thursday.day_of_year() - 1) / 7 + 1;
+        Some(IsoWeek {
+            year: thursday.year,
+            week: week as u8,
+        })
+    }
+
+    /// Returns the date of a day of a week of ISO 8601, or `None` where there is none.
+    /// `Date::from_iso_week(2009, 53, Weekday::Sunday)` is 2010-01-03.
+    pub fn from_iso_week(year: i64, week: u8, weekday: Weekday) -> Option<Date>
+        ensures { MatchOption result
+            ((day y : ℤ) → IsDayOfIsoWeek day year week weekday → HasDay y day → ¬ (FitsSigned w64 y))
+            (λ date. IsDayOfIsoWeek (number_of date) year week weekday) }
+    {
+        let thursday = thursday_of_iso_week(year, week);
+        if 0 <= thursday && thursday < length_of(year) {
+            date_near(year, day_of_week(thursday, weekday))
+        } else {
+            None
+        }
+    }
+}
+
+/// Returns how many days after 1 January of the year of the date the Thursday of its week is, below 0
+/// where it is before.
+fn thursday_of_week(date: &Date) -> i64
+    ensures of_week { IsThursdayOfWeek (number_of date.now) (first_day date.now.year +ℤ result) }
+    ensures from { pos 0 ≤ℤ (result +ℤ pos 6) }
+    ensures below { result <ℤ pos 372 }
+{
+    i64::from(date.day_of_year()) + 2 - days_since_monday(date.number())
+}
+
+/// Returns how many days ago the last Monday was.
+fn days_since_monday(day: i128) -> i64
+    requires { unsigned_abs day < 2 ^ 73 }
+    ensures { IsRemainder IsFloored (day +ℤ pos 3) (pos 7) result }
+{
+    mod_floor(day + 3, 7) as i64
+}
+
+/// Returns how many days after 1 January of the year the Thursday of a week of it would be, were the
+/// year long enough.
+fn thursday_of_iso_week(year: i64, week: u8) -> i64
+    ensures weekday { HasWeekday (first_day year +ℤ result) Thursday }
+    ensures from { (pos 7 *ℤ (pos week -ℤ pos 1)) ≤ℤ result }
+    ensures before { result <ℤ (pos 7 *ℤ pos week) }
+{
+    first_thursday(year) + 7 * (i64::from(week) - 1)
+}
+
+/// Returns how many days after 1 January the first Thursday of the year is. Day 0 is a Thursday.
+fn first_thursday(year: i64) -> i64
+    ensures { IsRemainder IsFloored (pos 0 -ℤ first_day year) (pos 7) result }
+{
+    mod_floor(-first_day_of(year), 7) as i64
+}
+
+/// Returns how many days after a Monday the day of the week is.
+fn days_after_monday(weekday: Weekday) -> i64
+    ensures { result ≡ pos ((weekday_number weekday + 6) % 7) }
+{
+    i64::from((days_after_sunday(weekday) + 6) % 7)
+}
+
+/// Returns the day of the week that has the Thursday.
+fn day_of_week(thursday: i64, weekday: Weekday) -> i64
+    requires from { pos 0 ≤ℤ thursday }
+    requires below { thursday <ℤ pos 366 }
+    ensures value { result ≡ thursday -ℤ pos 3 +ℤ pos ((weekday_number weekday + 6) % 7) }
+    ensures from { pos 0 ≤ℤ (result +ℤ pos 6) }
+    ensures below { result <ℤ pos 372 }
+{
+    thursday - 3 + days_after_monday(weekday)
+}
+
+/// Returns how many days the year has.
+#[tactic(auto, using(crate::proofs::IsoWeeks::length_range))]
+fn length_of(year: i64) -> i64
+    ensures value { result ≡ pos (days_in_year year) }
+    ensures from { pos 365 ≤ℤ result }
+    ensures to { result ≤ℤ pos 366 }
+{
+    i64::from(days_in_year(year))
+}
+
+/// Returns the date `days` days after 1 January of a year, or `None` where its year is beyond `i64`.
+/// It is in the year or in the one before or after it.
+fn date_near(year: i64, days: i64) -> Option<Date>
+    requires from { pos 0 ≤ℤ (days +ℤ pos 6) }
+    requires below { days <ℤ pos 372 }
+    ensures { MatchOption result
+        ((y : ℤ) → HasDay y (first_day year +ℤ days) → ¬ (FitsSigned w64 y))
+        (λ date. number_of date ≡ first_day year +ℤ days) }
+{
+    let length = length_of(year);
+    if days < 0 {
+        let before = year.checked_sub(1)?;
+        Some(date_in(before, days + length_of(before)))
+    } else if days < length {
+        Some(date_in(year, days))
+    } else {
+        let after = year.checked_add(1)?;
+        Some(date_in(after, days - length))
+    }
+}
+
+/// Returns the date `days` days after 1 January of its year.
+fn date_in(year: i64, days: i64) -> Date
+    requires from { pos 0 ≤ℤ days }
+    requires below { days <ℤ pos (days_in_year year) }
+    ensures { number_of result ≡ first_day year +ℤ days }
+{
+    Date::in_year(year, days as u16)
+}

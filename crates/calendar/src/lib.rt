@@ -1,0 +1,25 @@
+//! The proleptic Gregorian calendar: dates, and days counted from 1970-01-01, which is day 0.
+#![tactic(auto)]
+
+mod date;
+mod distance;
+mod iso_weeks;
+mod month_steps;
+mod month_weekdays;
+mod months;
+#[cfg(test)]
+mod tests;
+mod text;
+mod weekday;
+mod weeks;
+mod years;
+
+pub use date::Date;
+pub use distance::days_between;
+pub use iso_weeks::IsoWeek;
+pub use month_weekdays::nth_weekday_of_month;
+pub use months::days_in_month;
+pub use text::DateError;
+pub use weekday::{Weekday, weekday_of};
+pub use weeks::first_weekday_on_or_after;
+pub use years::is_leap_year;

@@ -1,0 +1,35 @@
+//! Days of a month that have a given day of the week.
+
+ghost use Rattle.std.specs.Prelude.{◌<◌, ◌+ℤ◌, ℤ, pos, MatchOption};
+ghost use Rattle.calendar.specs.Dates.{number_of};
+ghost use Rattle.calendar.specs.Months.{IsNthWeekday};
+ghost use Rattle.calendar.specs.Weeks.{HasWeekday};
+ghost use Rattle.calendar.specs.declared.date.Date.{Date};
+
+use crate::weeks::days_until;
+use crate::{Date, Weekday};
+use num_integer::mod_floor;
+
+/// Returns the date of the `n`-th `weekday` of the month, counted from 1, or `None` where there is
+/// none. `nth_weekday_of_month(2026, 11, Weekday::Thursday, 4)` is 2026-11-26.
+pub fn nth_weekday_of_month(year: i64, month: u8, weekday: Weekday, n: u8) -> Option<Date>
+    ensures { MatchOption result
+        ((date : Date) → ¬ (IsNthWeekday year month weekday n date))
+        (λ date. IsNthWeekday year month weekday n date) }
+{
+    let first = Date::new(year, month, 1)?;
+    if !(1..=5).contains(&n) {
+        return None;
+    }
+    let days = 7 * (n - 1) + days_until_weekday(&first, weekday);
+    Date::new(year, month, days + 1)
+}
+
+/// Returns how many days after the date the first day from it on is that has the day of the week.
+fn days_until_weekday(date: &Date, weekday: Weekday) -> u8
+    ensures weekday { HasWeekday (number_of date.now +ℤ pos result) weekday }
+    ensures small { result < 7 }
+{
+    // Days 7 days apart have the same day of the week, and the day from 0 to 6 fits.
+    days_until(mod_floor(date.number(), 7) as i64, weekday)
+}

@@ -1,0 +1,202 @@
+-- The texts of fractions, cut at the slash, and what they are read as.
+use Rattle.std.specs.Prelude.{◌≡◌, ◌≢◌, ◌⊎◌, ◌↔◌, ◌++◌, ◌∷◌, [], ◌<◌, ◌==◌, ℕ, suc, zero, List, codes, length, ℤ, Option, Some, None, Result, Err, FitsSigned, IsTrue, true, false, pos, negsuc, unwrap_or, ◌^◌, Ok, unsigned_abs}
+use Rattle.std.specs.Char.{is_ascii_digit}
+use Rattle.std.specs.List.{list_all}
+use Rattle.std.specs.Str.Parse.{AllDigits, IsNumeral, digits_value, starts_with_minus}
+use Rattle.std.specs.Fmt.{decimal, signed_decimal}
+use Rattle.std.specs.Int.{w64}
+use Rattle.std.specs.Ordering.{int_eq}
+use Rattle.std.proofs.Common.{Bor, ap, append_assoc, arith, get_or, inl, inr, refl, sym, rules, subst, ◌∙◌}
+use Rattle.std.proofs.lemmas.Bool.{cases_Bool}
+use Rattle.std.proofs.lemmas.Bool.Decides.{Decides-int_eq, nat_tests}
+use Rattle.std.proofs.lemmas.Fmt.{decimal_is_IsNumeral}
+use Rattle.std.proofs.lemmas.Grind.{common_steps}
+use Rattle.std.proofs.lemmas.Str.Parse.{IsNumeralModel, numerals_by_value, not_in_digits}
+use Rattle.std.proofs.lemmas.Str.Pattern.{IsSplitOnceResult, split_after, split_parts}
+use borrow.Author.Tests.{ne_eqb}
+use mathlib.Core.HLevel.{is_prop→PathP}
+use Rattle.ratio64.proofs.ForCallers.{err_is_outside, exact_is_inside, only_exact_result, positive_is_nonzero, reduced_is_exact}
+use Rattle.ratio64.specs.Fraction.{IsReduced}
+use Rattle.ratio64.specs.Ratio.{AnswersFraction, den_of, num_of, text_of}
+use Rattle.ratio64.specs.RatioText.{AnswersSpelled, HasLongPart, ReadsFraction, SpellsFraction, SpellsWhole, TextIsReadBack, answer_read, unsigned_part, whole_of}
+use Rattle.ratio64.specs.ReducedPairs.{IsReduced-prop}
+use Rattle.ratio64.specs.declared.error.RatioError.{RatioError}
+use Rattle.ratio64.specs.declared.error.RatioError.TheVariants.{ZeroDenominator, NotFitting}
+use Rattle.ratio64.specs.declared.fraction.Ratio.{Ratio}
+use Rattle.ratio64.specs.declared.parse.ParseRatioError.{ParseRatioError}
+use Rattle.ratio64.specs.declared.parse.ParseRatioError.TheVariants.{NotAFraction, TooLong}
+
+-- ---- digits
+
+own : IsNumeralModel (λ ds. list_all is_ascii_digit ds ≡ true) (digits_value 10)
+own = numerals_by_value _ (search rules)
+
+-- the test of each byte tells a numeral
+pub tells_numeral : (ds : List ℕ) → 0 < length ds → IsTrue (list_all is_ascii_digit ds) ↔ IsNumeral 10 ds
+tells_numeral ds some = (λ t. (some, own.to ds t), λ h. own.from ds h.1)
+
+-- digits have no slash among them, nor does a `-` before them
+no_slash_in : (ds : List ℕ) → AllDigits 10 ds → (i : ℕ) → i < length ds → get_or ds i 0 ≢ 47
+no_slash_in ds h = not_in_digits own ds 47 (own.from ds h) (λ w. omega arith)
+
+no_slash_after_minus : (c : ℕ) (cs : List ℕ) → c ≡ 45 → AllDigits 10 cs → (i : ℕ) → i < length (c ∷ cs) → get_or (c ∷ cs) i 0 ≢ 47
+no_slash_after_minus c cs minus h zero inside = omega arith
+no_slash_after_minus c cs minus h (suc i) inside = no_slash_in cs h i (omega arith)
+
+no_slash : (text : List ℕ) → IsNumeral 10 (unsigned_part text) → (i : ℕ) → i < length text → get_or text i 0 ≢ 47
+no_slash [] h i inside = absurd (omega arith)
+no_slash (c ∷ cs) h i inside = elim (cases_Bool (c == 45)) [
+  | inl minus ↦ let digits = rw minus at h in no_slash_after_minus c cs (grind (arith, nat_tests)) digits.1 i inside
+  | inr plain ↦ let digits = rw plain at h in no_slash_in (c ∷ cs) digits.1 i inside
+]
+
+-- ---- the cut at the first slash
+
+-- the text is num/den, or num alone, where den is 1
+abbrev pub AreParts : List ℕ → List ℕ → List ℕ → Type 0
+AreParts text num den = (text ≡ num ++ codes "/" ++ den) ⊎ ((text ≡ num) × (den ≡ codes "1"))
+
+no_slash_inside : (text : List ℕ) → IsNumeral 10 (unsigned_part text) → (front back : List ℕ) → text ≢ front ++ (47 ∷ back)
+no_slash_inside text h front back e =
+    let inside : length front < length text = grind (arith, common_steps) in
+    let here : get_or text (length front) 0 ≡ 47 = grind (arith, common_steps) in
+    no_slash text h (length front) inside here
+
+-- a text with a slash, by what is on its two sides
+at_slash : {text : List ℕ} (num den : List ℕ) → text ≡ num ++ codes "/" ++ den → text ≡ num ++ (47 ∷ den)
+at_slash num den e = e ∙ append_assoc num (codes "/") den
+
+-- what `split_once` cuts at the slash, or the whole text and `1`
+module _ {text : List ℕ} (t one : Bor (List ℕ)) (same : t.now ≡ text) (is_one : one.now ≡ codes "1") where
+  cut : (r : Option (Bor (List ℕ) × Bor (List ℕ))) → IsSplitOnceResult 47 text r → AreParts text (unwrap_or r (t, one)).0.now (unwrap_or r (t, one)).1.now
+  cut None h = inr (sym same, is_one)
+  cut (Some x) h = inl ((split_parts 47 text (Some x) h (omega arith)).0 ∙ sym (append_assoc x.0.now (codes "/") x.1.now))
+
+  only_cut : (r : Option (Bor (List ℕ) × Bor (List ℕ))) (num den : List ℕ) → IsSplitOnceResult 47 text r → IsNumeral 10 (unsigned_part num) → AreParts text num den
+      → ((unwrap_or r (t, one)).0.now ≡ num) × ((unwrap_or r (t, one)).1.now ≡ den)
+  only_cut None num den h digits parts = elim parts [
+    | inl slash ↦ absurd (split_after 47 text num den None h (omega arith) (at_slash num den slash) (no_slash num digits))
+    | inr alone ↦ (same ∙ alone.0, is_one ∙ sym alone.1)
+  ]
+  only_cut (Some x) num den h digits parts = elim parts [
+    | inl slash ↦ split_after 47 text num den (Some x) h (omega arith) (at_slash num den slash) (no_slash num digits)
+    | inr alone ↦
+        let whole : num ≡ x.0.now ++ (47 ∷ x.1.now) = sym alone.0 ∙ (split_parts 47 text (Some x) h (omega arith)).0 in
+        absurd (no_slash_inside num digits x.0.now x.1.now whole)
+  ]
+
+-- parts that the text is cut into, and no others where the first spells a number
+pub record AreCut (text num den : List ℕ) : Type 0 where
+  pub parts : AreParts text num den
+  pub only : (n d : List ℕ) → IsNumeral 10 (unsigned_part n) → AreParts text n d → (num ≡ n) × (den ≡ d)
+
+pub split_cuts : {text : List ℕ} {x : Bor (List ℕ) × Bor (List ℕ)} (t one : Bor (List ℕ)) (r : Option (Bor (List ℕ) × Bor (List ℕ))) → t.now ≡ text → one.now ≡ codes "1" → x ≡ unwrap_or r (t, one) → IsSplitOnceResult 47 text r → AreCut text x.0.now x.1.now
+split_cuts t one r same is_one is h = rw is (record { parts = cut t one same is_one r h; only = λ n d. only_cut t one same is_one r n d h })
+
+-- ---- what the text is read as
+
+short_parts : (a b : ℤ) → unsigned_abs a < 10 ^ 38 → unsigned_abs b < 10 ^ 38 → ¬ (HasLongPart a b)
+short_parts a b left right h = elim h [ inl long ↦ absurd (omega arith) | inr long ↦ absurd (omega arith) ]
+
+never_long : (r : Result Ratio RatioError) → answer_read r ≢ Err TooLong
+never_long (Ok x) e = cc
+never_long (Err ZeroDenominator) e = cc
+never_long (Err NotFitting) e = cc
+
+-- no fraction, where a part spells no number
+pub other_text : {text num den : List ℕ} → AreCut text num den → ¬ (IsNumeral 10 (unsigned_part num) × IsNumeral 10 (unsigned_part den)) → ReadsFraction text (Err NotAFraction)
+other_text {text} {num} {den} cuts unspelled =
+    let none : (a b : ℤ) → ¬ (SpellsFraction text a b) = λ a b s.
+    let same = cuts.only s.num s.den s.num_spelled.digits s.parts in
+    unspelled (subst (λ ds. IsNumeral 10 (unsigned_part ds)) (sym same.0) s.num_spelled.digits, subst (λ ds. IsNumeral 10 (unsigned_part ds)) (sym same.1) s.den_spelled.digits) in
+    record { not_a_fraction = (λ e. none, λ _. refl); answer = λ a b s. absurd (none a b s) }
+
+-- the fraction of the two numbers, where both parts spell one
+pub spelled_text : {text num den : List ℕ} {result : Result Ratio ParseRatioError} → AreCut text num den → IsNumeral 10 (unsigned_part num) → IsNumeral 10 (unsigned_part den)
+    → AnswersSpelled (whole_of num) (whole_of den) result → result ≢ Err NotAFraction → ReadsFraction text result
+spelled_text {num = num} {den = den} {result = result} cuts left right answer spelled = record {
+  not_a_fraction = (
+    λ e. absurd (spelled e),
+    λ none. absurd (none (whole_of num) (whole_of den) (record {
+      num = num;
+      den = den;
+      parts = cuts.parts;
+      num_spelled = record { digits = left; value = refl };
+      den_spelled = record { digits = right; value = refl };
+    })),
+  );
+  answer = λ a b s.
+      let same = cuts.only s.num s.den s.num_spelled.digits s.parts in
+      rw (s.num_spelled.value, s.den_spelled.value, ← same.0, ← same.1) answer;
+}
+
+-- numbers of at most 38 digits, by what their fraction answers
+pub spelled_fraction : {a b : ℤ} {result : Result Ratio ParseRatioError} (r : Result Ratio RatioError) → unsigned_abs a < 10 ^ 38 → unsigned_abs b < 10 ^ 38 → AnswersFraction a b r → result ≡ answer_read r → AnswersSpelled a b result
+spelled_fraction {a} {b} r left right h is = record {
+  too_long = (λ e. absurd (never_long r (sym is ∙ e)), λ long. absurd (short_parts a b left right long));
+  answer = λ short. (r, is, h);
+}
+
+-- ---- what is printed
+
+one_spelled : SpellsWhole (codes "1") (pos 1)
+one_spelled = record { digits = search rules; value = refl }
+
+no_minus : (n : ℕ) → n < 2 ^ 64 → starts_with_minus (decimal n) ≡ false
+no_minus n small =
+    let h = decimal_is_IsNumeral n small in
+    let first : get_or (decimal n) 0 0 ≢ 45 = not_in_digits own (decimal n) 45 (own.from (decimal n) h.0.1) (λ w. omega arith) 0 h.0.0 in
+    ne_eqb _ 45 first
+
+decimal_spelled : (n : ℕ) → n < 2 ^ 64 → SpellsWhole (decimal n) (pos n)
+decimal_spelled n small =
+    let h = decimal_is_IsNumeral n small in
+    record { digits = rw (no_minus n small) h.0; value = rw (no_minus n small) (ap pos (sym h.1)) }
+
+number_spelled : (z : ℤ) → FitsSigned w64 z → SpellsWhole (signed_decimal z) z
+number_spelled (pos n) fits = decimal_spelled n (let low = fits.sfits in omega arith)
+number_spelled (negsuc n) fits =
+    let h = decimal_is_IsNumeral (suc n) (let low = fits.sfits in omega arith) in
+    record { digits = h.0; value = rw h.1 refl }
+
+-- the text of a fraction spells it
+pub text_spelled : (x : Ratio) → FitsSigned w64 (num_of x) → FitsSigned w64 (den_of x) → SpellsFraction (text_of x) (num_of x) (den_of x)
+text_spelled x num_fits den_fits = elim (cases_Bool (int_eq (den_of x) (pos 1))) [
+  | inl whole ↦
+      let is_one : den_of x ≡ pos 1 = (Decides-int_eq (den_of x) (pos 1)).0 whole in
+      rw whole (record {
+        num = signed_decimal (num_of x);
+        den = codes "1";
+        parts = inr (refl, refl);
+        num_spelled = number_spelled (num_of x) num_fits;
+        den_spelled = rw is_one one_spelled;
+      })
+  | inr other ↦ rw other (record {
+    num = signed_decimal (num_of x);
+    den = signed_decimal (den_of x);
+    parts = inl refl;
+    num_spelled = number_spelled (num_of x) num_fits;
+    den_spelled = number_spelled (den_of x) den_fits;
+  })
+]
+
+-- and is read as that fraction
+
+short_part : (z : ℤ) → FitsSigned w64 z → unsigned_abs z < 10 ^ 38
+short_part (pos n) fits = let low = fits.sfits in omega arith
+short_part (negsuc n) fits = let low = fits.sfits in omega arith
+
+same_value : (x y : Ratio) → num_of x ≡ num_of y → den_of x ≡ den_of y → x ≡ y
+same_value x y p q = λ i. record { num = p i; den = q i; reduced = is_prop→PathP (λ i. IsReduced (p i) (q i)) (λ i. IsReduced-prop (p i) (q i)) x.reduced y.reduced i }
+
+answers_itself : (x : Ratio) (r : Result Ratio RatioError) → FitsSigned w64 (num_of x) → FitsSigned w64 (den_of x) → AnswersFraction (num_of x) (den_of x) r → answer_read r ≡ Ok x
+answers_itself x (Ok y) num_fits den_fits h =
+    let same = only_exact_result h.exact (reduced_is_exact x.reduced) in
+    ap Ok (same_value y x same.0 same.1)
+answers_itself x (Err e) num_fits den_fits h = absurd (exact_is_inside (reduced_is_exact x.reduced) num_fits den_fits (err_is_outside e (positive_is_nonzero x.reduced.positive) h))
+
+pub text_is_read_back : TextIsReadBack
+text_is_read_back x r num_fits den_fits h =
+    let spelled = h.answer (num_of x) (den_of x) (text_spelled x num_fits den_fits) in
+    let given = spelled.answer (short_parts (num_of x) (den_of x) (short_part (num_of x) num_fits) (short_part (den_of x) den_fits)) in
+    given.1 ∙ answers_itself x given.0 num_fits den_fits given.2

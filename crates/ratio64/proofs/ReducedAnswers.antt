@@ -1,0 +1,61 @@
+-- The answers to fractions whose parts are reduced, and to powers of a negative degree.
+use Rattle.std.specs.Prelude.{◌≡◌, ◌⊎◌, ◌<◌, ℤ, ℕ, pos, Result, Ok, Err, FitsSigned}
+use Rattle.std.specs.Int.{int_pow, w64}
+use Rattle.std.proofs.Common.{inl, inr, refl, subst, sym}
+use Rattle.ratio64.proofs.ForCallers.{AreEqual-sym, equal_fractions_answered_alike, exact_answer, positive_is_nonzero, reduced_is_exact}
+use Rattle.ratio64.proofs.FractionPowers.{base_fits, equal_powers, power_nonzero, power_of_zero_is, power_reduced}
+use Rattle.ratio64.specs.Fraction.{IsExact, IsOutsideI64, IsReduced}
+use Rattle.ratio64.specs.Ratio.{AnswersFraction, num_of, den_of}
+use Rattle.ratio64.specs.declared.fraction.Ratio.{Ratio}
+use Rattle.ratio64.specs.declared.error.RatioError.{RatioError}
+use Rattle.ratio64.specs.declared.error.RatioError.TheVariants.{ZeroDenominator, NotFitting}
+
+pub outside_answer : {a b : ℤ} → IsOutsideI64 a b → AnswersFraction a b (Err NotFitting)
+outside_answer far = record {
+  exact = tt;
+  zero_denominator = (λ e. absurd cc, λ none. absurd (far.exact.fraction none));
+  not_fitting = (λ e. far, λ f. refl);
+}
+
+zero_answer : {a b : ℤ} → b ≡ pos 0 → AnswersFraction a b (Err ZeroDenominator)
+zero_answer none = record {
+  exact = tt;
+  zero_denominator = (λ e. none, λ f. refl);
+  not_fitting = (λ e. absurd cc, λ far. absurd (far.exact.fraction none));
+}
+
+-- ---- parts that are reduced
+
+exact_same : {n d p q : ℤ} → IsReduced n d → p ≡ n → q ≡ d → IsExact n d p q
+exact_same reduced num den = rw (num, den) (reduced_is_exact reduced)
+
+pub reduced_answer : {n d : ℤ} (x : Ratio) → IsReduced n d → num_of x ≡ n → den_of x ≡ d → FitsSigned w64 n → FitsSigned w64 d → AnswersFraction n d (Ok x)
+reduced_answer x reduced num den num_fits den_fits = exact_answer x (exact_same reduced num den) (subst (FitsSigned w64) (sym num) num_fits) (subst (FitsSigned w64) (sym den) den_fits)
+
+pub reduced_refused : {n d : ℤ} → IsReduced n d → (¬ (FitsSigned w64 n)) ⊎ (¬ (FitsSigned w64 d)) → AnswersFraction n d (Err NotFitting)
+reduced_refused {n} {d} reduced outside = outside_answer (record { num = n; den = d; exact = reduced_is_exact reduced; outside = outside })
+
+-- ---- powers
+
+exact_powers : {a b n d : ℤ} (k : ℕ) → IsExact a b n d → IsExact (int_pow a k) (int_pow b k) (int_pow n k) (int_pow d k)
+exact_powers {b = b} k x = record { fraction = power_nonzero b k x.fraction; reduced = power_reduced k x.reduced; equal = equal_powers k x.equal }
+
+outside_powers : {a b : ℤ} (k : ℕ) → 0 < k → IsOutsideI64 a b → IsOutsideI64 (int_pow a k) (int_pow b k)
+outside_powers k up far = record {
+  num = int_pow far.num k;
+  den = int_pow far.den k;
+  exact = exact_powers k far.exact;
+  outside = elim far.outside [
+    | inl outside ↦ inl (λ fits. outside (base_fits far.num k up fits))
+    | inr outside ↦ inr (λ fits. outside (base_fits far.den k up fits))
+  ];
+}
+
+-- where a fraction has no exact result that fits, its powers have none
+pub powers_refused : {a b : ℤ} (e : RatioError) (k : ℕ) → 0 < k → AnswersFraction a b (Err e) → AnswersFraction (int_pow a k) (int_pow b k) (Err e)
+powers_refused {b = b} ZeroDenominator k up h = zero_answer (power_of_zero_is b k up (h.zero_denominator.0 refl))
+powers_refused NotFitting k up h = outside_answer (outside_powers k up (h.not_fitting.0 refl))
+
+-- the powers of its exact result answer its powers
+pub powers_of_exact : {a b n d : ℤ} {r : Result Ratio RatioError} (k : ℕ) → IsExact a b n d → AnswersFraction (int_pow n k) (int_pow d k) r → AnswersFraction (int_pow a k) (int_pow b k) r
+powers_of_exact {b = b} {d = d} k x h = equal_fractions_answered_alike (power_nonzero d k (positive_is_nonzero x.reduced.positive)) (power_nonzero b k x.fraction) (AreEqual-sym (equal_powers k x.equal)) h

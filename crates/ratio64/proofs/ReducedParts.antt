@@ -1,0 +1,58 @@
+-- Reduced pairs that come of another: negated, of a remainder.
+use Rattle.std.specs.Prelude.{◌≡◌, ◌+ℤ◌, ◌*ℤ◌, ℤ, pos, negsuc, neg_ℤ, zero, suc, unsigned_abs, FitsSigned}
+use Rattle.std.specs.Int.{w64}
+use Rattle.std.proofs.Common.{arith, subst}
+use Rattle.std.proofs.lemmas.Int.{ints}
+use Rattle.num_integer.proofs.ForCallers.{Divides-sum, linear, mul-neg, products}
+use Rattle.num_integer.specs.Divisors.{Divides, IsGreatestCommonDivisor}
+use Rattle.ratio64.specs.Fraction.{IsReduced}
+
+pub one_divides : (v : ℤ) → Divides (pos 1) v
+one_divides v = record { factor = v; product = omega (arith, products) }
+
+-- a number has the divisors of its negation
+pub negated_divides : {d v : ℤ} → Divides d (neg_ℤ v) → Divides d v
+negated_divides {d} h =
+    let product = h.product in
+    record { factor = neg_ℤ h.factor; product = rw (mul-neg d h.factor) (omega (arith, linear)) }
+
+-- it is coprime to what its negation is coprime to
+pub negated_coprime : {n d : ℤ} → IsGreatestCommonDivisor n d (pos 1) → IsGreatestCommonDivisor (neg_ℤ n) d (pos 1)
+negated_coprime {n} {d} x = record {
+  from_zero = x.from_zero;
+  divides_left = one_divides _;
+  divides_right = one_divides d;
+  greatest = λ e left right. x.greatest e (negated_divides left) right;
+}
+
+pub negated_reduced : {n d : ℤ} → IsReduced n d → IsReduced (neg_ℤ n) d
+negated_reduced x = record { positive = x.positive; lowest = negated_coprime x.lowest }
+
+pub magnitude_reduced : (n : ℤ) {d : ℤ} → IsReduced n d → IsReduced (pos (unsigned_abs n)) d
+magnitude_reduced (pos n) x = x
+magnitude_reduced (negsuc n) x = negated_reduced x
+
+-- a magnitude fits exactly where the negation does
+pub magnitude_fits : (n : ℤ) → FitsSigned w64 n → FitsSigned w64 (neg_ℤ n) → FitsSigned w64 (pos (unsigned_abs n))
+magnitude_fits (pos n) fits negation_fits = fits
+magnitude_fits (negsuc n) fits negation_fits = negation_fits
+
+pub magnitude_outside : (n : ℤ) → ¬ (FitsSigned w64 (neg_ℤ n)) → ¬ (FitsSigned w64 (pos (unsigned_abs n)))
+magnitude_outside (pos zero) outside fits = outside fits
+magnitude_outside (pos (suc n)) outside fits = let low = fits.sfits in outside (record { sfits = omega (arith, ints) })
+magnitude_outside (negsuc n) outside fits = outside fits
+
+-- a remainder by the denominator stays over it
+pub remainder_reduced : {n d r : ℤ} (q : ℤ) → IsReduced n d → n ≡ q *ℤ d +ℤ r → IsReduced r d
+remainder_reduced {n} {d} {r} q x equation = record {
+  positive = x.positive;
+  lowest = record {
+    from_zero = x.lowest.from_zero;
+    divides_left = one_divides r;
+    divides_right = one_divides d;
+    greatest = λ e left right.
+        let whole : Divides e (q *ℤ d +ℤ pos 1 *ℤ r) = Divides-sum q (pos 1) right left in
+        let same : q *ℤ d +ℤ pos 1 *ℤ r ≡ n = omega (arith, products) in
+        x.lowest.greatest e (subst (λ (t : ℤ). Divides e t) same whole) right;
+  };
+}

@@ -1,0 +1,25 @@
+use Rattle.std.proofs.Common.{rules, ◌≡◌, neg_ℤ, inl, pos, unsigned_abs, w64, FitsSigned, to_z, of_z}
+use Rattle.ratio64.proofs.ReducedAnswers.{reduced_answer, reduced_refused}
+use Rattle.ratio64.proofs.ReducedParts.{magnitude_fits, magnitude_outside, magnitude_reduced}
+use Rattle.ratio64.specs.Ratio.{num_of, den_of}
+use Rattle.ratio64.proofs.fraction.Ratio.checked_abs.Goals as goal
+
+pub invariant_of-result : goal.invariant_of-result
+invariant_of-result c =
+    let x = c.args.self.now in
+    let num : to_z w64 (of_z w64 c.in-Some.num) ≡ pos (unsigned_abs (num_of x)) = search rules in
+    let den : to_z w64 (of_z w64 x.den) ≡ den_of x = search rules in
+    record { reduced = rw (num, den) (magnitude_reduced (num_of x) x.reduced) }
+
+pub returns-in-Some-clause-magnitude : goal.returns-in-Some-clause-magnitude
+returns-in-Some-clause-magnitude c =
+    let x = c.args.self.now in
+    let negation_fits : FitsSigned w64 (neg_ℤ (num_of x)) = search rules in
+    let num_fits = magnitude_fits (num_of x) (search rules) negation_fits in
+    reduced_answer _ (magnitude_reduced (num_of x) x.reduced) (search rules) (search rules) num_fits (search rules)
+
+pub returns-in-None-clause-magnitude : goal.returns-in-None-clause-magnitude
+returns-in-None-clause-magnitude c =
+    let x = c.args.self.now in
+    let outside : ¬ (FitsSigned w64 (neg_ℤ (num_of x))) = search rules in
+    reduced_refused (magnitude_reduced (num_of x) x.reduced) (inl (magnitude_outside (num_of x) outside))

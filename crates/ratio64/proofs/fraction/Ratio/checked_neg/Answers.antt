@@ -1,0 +1,24 @@
+use Rattle.std.proofs.Common.{rules, ◌≡◌, neg_ℤ, inl, w64, FitsSigned, to_z, of_z}
+use Rattle.ratio64.proofs.ReducedAnswers.{reduced_answer, reduced_refused}
+use Rattle.ratio64.proofs.ReducedParts.{negated_reduced}
+use Rattle.ratio64.specs.Ratio.{num_of, den_of}
+use Rattle.ratio64.proofs.fraction.Ratio.checked_neg.Goals as goal
+
+pub invariant_of-result : goal.invariant_of-result
+invariant_of-result c =
+    let x = c.args.self.now in
+    let num : to_z w64 (of_z w64 c.in-Some.num) ≡ neg_ℤ (num_of x) = search rules in
+    let den : to_z w64 (of_z w64 x.den) ≡ den_of x = search rules in
+    record { reduced = rw (num, den) (negated_reduced x.reduced) }
+
+pub returns-in-Some-clause-negation : goal.returns-in-Some-clause-negation
+returns-in-Some-clause-negation c =
+    let x = c.args.self.now in
+    let num_fits : FitsSigned w64 (neg_ℤ (num_of x)) = search rules in
+    reduced_answer _ (negated_reduced x.reduced) (search rules) (search rules) num_fits (search rules)
+
+pub returns-in-None-clause-negation : goal.returns-in-None-clause-negation
+returns-in-None-clause-negation c =
+    let x = c.args.self.now in
+    let outside : ¬ (FitsSigned w64 (neg_ℤ (num_of x))) = search rules in
+    reduced_refused (negated_reduced x.reduced) (inl outside)

@@ -1,0 +1,17 @@
+use Rattle.std.proofs.Common.{refl, rules}
+use Rattle.ratio64.proofs.ReadTexts.{other_text, spelled_text, split_cuts}
+use Rattle.ratio64.proofs.parse.RatioFromStr.from_str.Goals as goal
+use Rattle.ratio64.proofs.parse.RatioFromStr.from_str.Goals.{then-not-is_whole_number-via-then-not-is_whole_number, then-not-is_whole_number-via-else-not-is_whole_number+then-not-is_whole_number-2}
+
+pub returns-then-not-is_whole_number : goal.returns-then-not-is_whole_number
+returns-then-not-is_whole_number c =
+    let cut = split_cuts _ _ c.split_once.result refl refl c.unwrap_or.ensures c.split_once.ensures.cases in
+    other_text cut (elim c.then-not-is_whole_number.branch [
+      | then-not-is_whole_number-via-then-not-is_whole_number w ↦ λ whole. search rules
+      | then-not-is_whole_number-via-else-not-is_whole_number+then-not-is_whole_number-2 w ↦ λ whole. search rules
+    ])
+
+pub returns : goal.returns
+returns c =
+    let cut = split_cuts _ _ c.split_once.result refl refl c.unwrap_or.ensures c.split_once.ensures.cases in
+    spelled_text cut (search rules) (search rules) (search rules) (search rules)

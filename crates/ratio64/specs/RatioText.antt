@@ -1,0 +1,58 @@
+-- The texts that spell a fraction, and what each text is read as.
+use Rattle.std.specs.Prelude.{◌≡◌, ◌⊎◌, ◌↔◌, ◌++◌, ◌≤◌, ◌^◌, ℤ, ℕ, List, codes, drop, neg_ℤ, pos, unsigned_abs, Result, Ok, Err, FitsSigned, if◌then◌else◌}
+use Rattle.std.specs.Int.{w64}
+use Rattle.std.specs.Str.Parse.{IsNumeral, digits_value, starts_with_minus}
+use Rattle.ratio64.specs.Ratio.{AnswersFraction, den_of, num_of, text_of}
+use Rattle.ratio64.specs.declared.fraction.Ratio.{Ratio}
+use Rattle.ratio64.specs.declared.error.RatioError.{RatioError}
+use Rattle.ratio64.specs.declared.error.RatioError.TheVariants as refused
+use Rattle.ratio64.specs.declared.parse.ParseRatioError.{ParseRatioError}
+use Rattle.ratio64.specs.declared.parse.ParseRatioError.TheVariants.{NotAFraction, TooLong, ZeroDenominator, NotFitting}
+
+-- the text without a leading `-`
+abbrev pub unsigned_part : List ℕ → List ℕ
+unsigned_part text = if starts_with_minus text then drop 1 text else text
+
+-- the number that digits write in decimal, negated after a `-`
+abbrev pub whole_of : List ℕ → ℤ
+whole_of text =
+    let size = pos (digits_value 10 (unsigned_part text)) in
+    if starts_with_minus text then neg_ℤ size else size
+
+-- the text is an optional `-`, then one digit or more, and nothing else, and writes the number
+pub record SpellsWhole (text : List ℕ) (number : ℤ) : Type 0 where
+  pub digits : IsNumeral 10 (unsigned_part text)
+  pub value : number ≡ whole_of text
+
+-- the text is `a/b`, or `a` alone where b is 1
+pub record SpellsFraction (text : List ℕ) (a b : ℤ) : Type 0 where
+  pub num : List ℕ
+  pub den : List ℕ
+  pub parts : (text ≡ num ++ codes "/" ++ den) ⊎ ((text ≡ num) × (den ≡ codes "1"))
+  pub num_spelled : SpellsWhole num a
+  pub den_spelled : SpellsWhole den b
+
+-- a part has more than 38 digits, leading zeros aside
+abbrev pub HasLongPart : ℤ → ℤ → Type 0
+HasLongPart a b = (10 ^ 38 ≤ unsigned_abs a) ⊎ (10 ^ 38 ≤ unsigned_abs b)
+
+-- the answer of a fraction, its refusal under the same name
+abbrev pub answer_read : Result Ratio RatioError → Result Ratio ParseRatioError
+answer_read (Ok x) = Ok x
+answer_read (Err refused.ZeroDenominator) = Err ZeroDenominator
+answer_read (Err refused.NotFitting) = Err NotFitting
+
+-- what the fraction a/b is read as: too long, or what it answers
+pub record AnswersSpelled (a b : ℤ) (result : Result Ratio ParseRatioError) : Type 0 where
+  pub too_long : (result ≡ Err TooLong) ↔ HasLongPart a b
+  pub answer : ¬ (HasLongPart a b) → (r : Result Ratio RatioError) × (result ≡ answer_read r) × AnswersFraction a b r
+
+-- what a text is read as
+pub record ReadsFraction (text : List ℕ) (result : Result Ratio ParseRatioError) : Type 0 where
+  pub not_a_fraction : (result ≡ Err NotAFraction) ↔ ((a b : ℤ) → ¬ (SpellsFraction text a b))
+  pub answer : (a b : ℤ) → SpellsFraction text a b → AnswersSpelled a b result
+
+-- a law, proved in proofs/ReadTexts.antt: what is printed of a fraction is read as that fraction
+abbrev pub TextIsReadBack : Type 0
+TextIsReadBack = (x : Ratio) (r : Result Ratio ParseRatioError) → FitsSigned w64 (num_of x) → FitsSigned w64 (den_of x)
+    → ReadsFraction (text_of x) r → r ≡ Ok x

@@ -1,0 +1,61 @@
+//! The sign of a fraction, and its magnitude.
+
+ghost use Rattle.std.specs.Prelude.{◌≡◌, ◌≢◌, ◌↔◌, ◌<ℤ◌, pos, neg_ℤ, unsigned_abs, Err, IsTrue};
+ghost use Rattle.std.specs.Int.{int_signum};
+ghost use Rattle.ratio64.specs.Ratio.{AnswersFraction, num_of, den_of};
+
+use crate::{Ratio, RatioError};
+
+impl Ratio {
+    /// Returns `true` if the fraction is 0.
+    pub fn is_zero(&self) -> bool
+        ensures { IsTrue result ↔ (num_of self.now ≡ pos 0) }
+    {
+        self.num == 0
+    }
+
+    /// Returns `true` if the fraction is above 0.
+    pub fn is_positive(&self) -> bool
+        ensures { IsTrue result ↔ (pos 0 <ℤ num_of self.now) }
+    {
+        self.num > 0
+    }
+
+    /// Returns `true` if the fraction is below 0.
+    pub fn is_negative(&self) -> bool
+        ensures { IsTrue result ↔ (num_of self.now <ℤ pos 0) }
+    {
+        self.num < 0
+    }
+
+    /// Returns the sign: -1, 0 or 1, over 1. That of -3/2 is -1.
+    pub fn signum(&self) -> Ratio
+        ensures num { num_of result ≡ int_signum (num_of self.now) }
+        ensures den { den_of result ≡ pos 1 }
+    {
+        Ratio::from(self.num.signum())
+    }
+
+    /// Returns the negation, or `NotFitting` where the numerator is `i64::MIN`. That of -3/2 is 3/2.
+    pub fn checked_neg(&self) -> Result<Ratio, RatioError>
+        ensures negation { AnswersFraction (neg_ℤ (num_of self.now)) (den_of self.now) result }
+        ensures never_zero { result ≢ Err RatioError.ZeroDenominator }
+    {
+        match self.num.checked_neg() {
+            Some(num) => Ok(Ratio { num, den: self.den }),
+            None => Err(RatioError::NotFitting),
+        }
+    }
+
+    /// Returns the magnitude, or `NotFitting` where the numerator is `i64::MIN`. That of -3/2 is 3/2.
+    pub fn checked_abs(&self) -> Result<Ratio, RatioError>
+        ensures magnitude { AnswersFraction (pos (unsigned_abs (num_of self.now)))
+            (den_of self.now) result }
+        ensures never_zero { result ≢ Err RatioError.ZeroDenominator }
+    {
+        match self.num.checked_abs() {
+            Some(num) => Ok(Ratio { num, den: self.den }),
+            None => Err(RatioError::NotFitting),
+        }
+    }
+}

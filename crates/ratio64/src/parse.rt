@@ -1,0 +1,107 @@
+//! Reads a fraction from a text.
+
+ghost use Rattle.std.specs.Prelude.{◌≡◌, ◌≢◌, ◌≤◌, ◌<◌, ◌^◌, ◌↔◌, IsTrue, MatchResult, Err, unsigned_abs};
+ghost use Rattle.std.specs.Char.{is_ascii_digit};
+ghost use Rattle.std.specs.List.{list_all};
+ghost use Rattle.std.specs.Str.Parse.{IsNumeral};
+ghost use Rattle.ratio64.specs.RatioText.{AnswersSpelled, unsigned_part, whole_of};
+
+use crate::{Ratio, RatioError};
+use std::str::FromStr;
+
+/// Why a text is read as no fraction.
+#[derive(Debug, Clone, Copy, PartialEq, Eq)]
+pub enum ParseRatioError {
+    /// The text is neither a whole number nor two of them with a slash between.
+    NotAFraction,
+    /// A part has more than 38 digits, without its leading zeros.
+    TooLong,
+    /// The denominator is 0.
+    ZeroDenominator,
+    /// A part of the reduced fraction lies outside `i64`.
+    NotFitting,
+}
+
+impl From<RatioError> for ParseRatioError {
+    ghost use Rattle.ratio64.specs.RatioText.{answer_read};
+
+    ghost from_gives = { λ refusal error. Err error ≡ answer_read (Err refusal) };
+
+    fn from(refusal: RatioError) -> ParseRatioError {
+        match refusal {
+            RatioError::ZeroDenominator => ParseRatioError::ZeroDenominator,
+            RatioError::NotFitting => ParseRatioError::NotFitting,
+        }
+    }
+}
+
+/// Reads the form that `Display` writes: `num/den`, or only `num`. Each part is an optional `-`, then
+/// digits. `"6/-4".parse::<Ratio>()` is -3/2, and `"+1"` and `"1/"` are no fractions. The fraction is
+/// reduced before its parts have to fit: `"18446744073709551614/2"` is `i64::MAX`.
+impl FromStr for Ratio {
+    type Err = ParseRatioError;
+
+    ghost use Rattle.ratio64.specs.RatioText.{ReadsFraction};
+
+    ghost from_str_gives = { ReadsFraction };
+
+    fn from_str(text: &str) -> Result<Ratio, ParseRatioError> {
+        let (num, den) = text.split_once('/').unwrap_or((text, "1"));
+        if !is_whole_number(num) || !is_whole_number(den) {
+            return Err(ParseRatioError::NotAFraction);
+        }
+        fraction_of(num, den)
+    }
+}
+
+/// Returns the fraction of the two numbers that the texts spell.
+fn fraction_of(num: &str, den: &str) -> Result<Ratio, ParseRatioError>
+    requires num { IsNumeral 10 (unsigned_part num.now) }
+    requires den { IsNumeral 10 (unsigned_part den.now) }
+    ensures fraction { AnswersSpelled (whole_of num.now) (whole_of den.now) result }
+    ensures spelled { result ≢ Err ParseRatioError.NotAFraction }
+{
+    Ok(Ratio::reduced(whole_number(num)?, whole_number(den)?)?)
+}
+
+/// Returns the text without a leading `-`.
+fn without_minus(text: &[u8]) -> &[u8]
+    ensures { result.now ≡ unsigned_part text.now }
+{
+    match text {
+        [b'-', digits @ ..] => digits,
+        _ => text,
+    }
+}
+
+/// Returns `true` if the text is an optional `-`, then one or more digits, and nothing else.
+fn is_whole_number(text: &str) -> bool
+    ensures { IsTrue result ↔ IsNumeral 10 (unsigned_part text.now) }
+{
+    let digits = without_minus(text.as_bytes());
+    !digits.is_empty() && has_only_digits(digits)
+}
+
+/// Returns `true` if each byte is a digit.
+fn has_only_digits(text: &[u8]) -> bool
+    ensures { result ≡ list_all is_ascii_digit text.now }
+{
+    text.iter().all(|byte| byte.is_ascii_digit())
+}
+
+/// 10^38, the least number of 39 digits.
+const LEAST_TOO_LONG: u128 = 100_000_000_000_000_000_000_000_000_000_000_000_000;
+
+/// Returns the number that the text spells, or `TooLong` where it has more than 38 digits without
+/// its leading zeros.
+fn whole_number(text: &str) -> Result<i128, ParseRatioError>
+    requires { IsNumeral 10 (unsigned_part text.now) }
+    ensures { MatchResult result
+        (λ number. (number ≡ whole_of text.now) × (unsigned_abs number < 10 ^ 38))
+        (λ e. (e ≡ ParseRatioError.TooLong) × (10 ^ 38 ≤ unsigned_abs (whole_of text.now))) }
+{
+    match text.parse::<i128>() {
+        Ok(number) if number.unsigned_abs() < LEAST_TOO_LONG => Ok(number),
+        _ => Err(ParseRatioError::TooLong),
+    }
+}
