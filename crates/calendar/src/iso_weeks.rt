@@ -65,6 +65,7 @@ impl Date {
 
 /// Returns how many days after 1 January of the year of the date the Thursday of its week is, below 0
 /// where it is before.
+#[tactic(auto, using(crate::proofs::IsoWeeks::length_range))]
 fn thursday_of_week(date: &Date) -> i64
     ensures of_week { IsThursdayOfWeek (number_of date.now) (first_day date.now.year +ℤ result) }
     ensures from { pos 0 ≤ℤ (result +ℤ pos 6) }
@@ -74,9 +75,12 @@ fn thursday_of_week(date: &Date) -> i64
 }
 
 /// Returns how many days ago the last Monday was.
+#[tactic(auto, using(num_integer::proofs::ForCallers::floored_remainder_range))]
 fn days_since_monday(day: i128) -> i64
     requires { unsigned_abs day < 2 ^ 73 }
-    ensures { IsRemainder IsFloored (day +ℤ pos 3) (pos 7) result }
+    ensures value { IsRemainder IsFloored (day +ℤ pos 3) (pos 7) result }
+    ensures from { pos 0 ≤ℤ result }
+    ensures below { result <ℤ pos 7 }
 {
     mod_floor(day + 3, 7) as i64
 }

@@ -9,11 +9,11 @@ use modular::{difference_modulo, power_modulo, product_modulo, sum_modulo};
 /// The hash of windows of one length, modulo a number.
 #[derive(Debug, Clone, Copy)]
 pub struct RollingHash {
-    base: u64,
-    modulus: u64,
+    pub base: u64,
+    pub modulus: u64,
     /// How many bytes of a window stay when it slides.
-    kept: u64,
-    ghost positive: { 0 < modulus },
+    pub kept: u64,
+    pub ghost positive: { 0 < modulus },
 }
 
 impl RollingHash {

@@ -2,7 +2,6 @@ use Rattle.std.specs.Prelude.{◌≡◌, ◌≤◌, ◌+ℤ◌, ◌-ℤ◌, pos,
 use Rattle.std.specs.Int.{w64, w128}
 use Rattle.std.proofs.Common.{arith}
 use Rattle.std.proofs.lemmas.Int.{ints, to_z-of_z}
-use Rattle.num_integer.proofs.ForCallers.{floored_remainder_range}
 use Rattle.num_integer.specs.Division.{IsFloored, IsRemainder}
 use Rattle.calendar.specs.Years.{first_day}
 use Rattle.calendar.proofs.DateOrder.{year_day_range}
@@ -14,32 +13,16 @@ returns-clause-of_week c =
     let date = c.args.date.now in
     let small = c.number.ensures.small in
     let fits : FitsSigned w128 c.number.result = omega (arith, ints) in
-    let since : IsRemainder IsFloored (c.number.result +ℤ pos 3) (pos 7) c.days_since_monday.result = simp to_z-of_z at c.days_since_monday.ensures in
-    let range = floored_remainder_range (omega (arith, ints)) since in
+    let since : IsRemainder IsFloored (c.number.result +ℤ pos 3) (pos 7) c.days_since_monday.result = simp to_z-of_z at c.days_since_monday.ensures.value in
+    let from = c.days_since_monday.ensures.from in
+    let below = c.days_since_monday.ensures.below in
     let day = c.day_of_year.ensures.day in
     let last = year_day_range date.valid in
     let length = length_range date.year in
     let to : c.day_of_year.result ≤ 366 = omega (arith, day, last.1, length.1) in
     let day_fits : FitsSigned w64 (pos c.day_of_year.result) = omega (arith, ints, to) in
     let plus_fits : FitsSigned w64 (pos c.day_of_year.result +ℤ pos 2) = omega (arith, ints, to) in
-    let since_fits : FitsSigned w64 c.days_since_monday.result = omega (arith, ints, range.0, range.1) in
-    let rest_fits : FitsSigned w64 (pos c.day_of_year.result +ℤ pos 2 -ℤ c.days_since_monday.result) = omega (arith, ints, to, range.0, range.1) in
+    let since_fits : FitsSigned w64 c.days_since_monday.result = omega (arith, ints, from, below) in
+    let rest_fits : FitsSigned w64 (pos c.day_of_year.result +ℤ pos 2 -ℤ c.days_since_monday.result) = omega (arith, ints, to, from, below) in
     let same : c.number.result +ℤ pos 3 -ℤ c.days_since_monday.result ≡ first_day date.year +ℤ (pos c.day_of_year.result +ℤ pos 2 -ℤ c.days_since_monday.result) = omega (arith, ints, c.number.ensures.value, day) in
     simp (c.from.ensures, to_z-of_z) (rw c.number.ensures.value at (rw same at (of_week {day = c.number.result} since)))
-
-pub returns-clause-below : goal.returns-clause-below
-returns-clause-below c =
-    let date = c.args.date.now in
-    let small = c.number.ensures.small in
-    let fits : FitsSigned w128 c.number.result = omega (arith, ints) in
-    let since : IsRemainder IsFloored (c.number.result +ℤ pos 3) (pos 7) c.days_since_monday.result = simp to_z-of_z at c.days_since_monday.ensures in
-    let range = floored_remainder_range (omega (arith, ints)) since in
-    let day = c.day_of_year.ensures.day in
-    let last = year_day_range date.valid in
-    let length = length_range date.year in
-    let to : c.day_of_year.result ≤ 366 = omega (arith, day, last.1, length.1) in
-    let day_fits : FitsSigned w64 (pos c.day_of_year.result) = omega (arith, ints, to) in
-    let plus_fits : FitsSigned w64 (pos c.day_of_year.result +ℤ pos 2) = omega (arith, ints, to) in
-    let since_fits : FitsSigned w64 c.days_since_monday.result = omega (arith, ints, range.0, range.1) in
-    let rest_fits : FitsSigned w64 (pos c.day_of_year.result +ℤ pos 2 -ℤ c.days_since_monday.result) = omega (arith, ints, to, range.0, range.1) in
-    simp (c.from.ensures, to_z-of_z) (omega (arith, ints, to, range.0, range.1))
