@@ -1,7 +1,7 @@
 -- The weeks of ISO 8601.
 use Rattle.std.specs.Prelude.{◌≡◌, ◌+◌, ◌-◌, ◌/◌, ◌%◌, ◌<◌, ◌≤◌, ◌≤ℤ◌, ◌<ℤ◌, ◌+ℤ◌, ◌-ℤ◌, ◌*ℤ◌, ℕ, ℤ, pos, FitsSigned, MatchOption, Option, Some, None}
 use Rattle.std.specs.Int.{w64}
-use Rattle.std.proofs.Common.{arith, subst, sym}
+use Rattle.std.proofs.Common.{ap, arith, subst, sym}
 use Rattle.std.proofs.lemmas.Int.{by_lt_z, ints}
 use Rattle.num_integer.proofs.ForCallers.{floored_by_range, floored_remainder_range, linear}
 use Rattle.num_integer.specs.Division.{IsFloored, IsRemainder}
@@ -66,6 +66,13 @@ later {x} {year} h from =
     let before = h.before in
     by_lt_z year x (λ less. less) (λ rest. absurd (omega (arith, linear, ordered (x +ℤ pos 1) (year +ℤ pos 1) (omega (arith, linear)))))
 
+-- a day is in one year only
+one_year : {y z day : ℤ} → HasDay y day → HasDay z day → y ≡ z
+one_year {y} {z} h k =
+    by_lt_z y z
+    (λ less. absurd (omega (arith, linear, later_year y z less, h.before, k.from)))
+    (λ rest. by_lt_z z y (λ less. absurd (omega (arith, linear, later_year z y less, k.before, h.from))) (λ back. omega (arith, linear)))
+
 pub in_own_year : (date : Date) → HasDay date.year (number_of date)
 in_own_year date =
     let range = year_day_range date.valid in
@@ -78,6 +85,13 @@ pub week_of : {day : ℤ} (thursday : Date) {week : ℕ} → IsThursdayOfWeek da
 week_of thursday h number =
     let range = year_day_range thursday.valid in
     record { thursday = number_of thursday; of_week = h; of_year = in_own_year thursday; from = omega (arith, ints); before = omega (arith, ints) }
+
+-- which is only one
+pub one_week : {day y z : ℤ} {v w : ℕ} → IsInIsoWeek day y v → IsInIsoWeek day z w → (y ≡ z) × (v ≡ w)
+one_week h k =
+    let thursday = same_thursday h.of_week k.of_week in
+    let year = one_year h.of_year (rw (sym thursday) at k.of_year) in
+    (year, omega (arith, ints, h.from, h.before, k.from, k.before, thursday, ap first_day year))
 
 -- a day of the week after a Thursday's Monday
 pub weekday_after : (weekday : Weekday) {day : ℤ} → HasWeekday day Thursday → HasWeekday (day -ℤ pos 3 +ℤ pos ((weekday_number weekday + 6) % 7)) weekday

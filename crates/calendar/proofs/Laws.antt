@@ -3,9 +3,11 @@ use Rattle.std.proofs.Common.{arith}
 use Rattle.std.proofs.lemmas.Bool.Decides.{nat_tests}
 use Rattle.std.proofs.lemmas.Int.{ints}
 use Rattle.num_integer.proofs.ForCallers.{divides_by_magnitude}
-use Rattle.calendar.specs.Laws.{DateIsOnly, FirstDay, LeapYearsByDivisors, LengthsOfYears, OrderOfDates, YearsFollow}
+use Rattle.calendar.specs.Laws.{DateIsOnly, EasterIsOnly, FirstDay, IsoDayIsOnly, IsoWeekIsOnly, LeapYearsByDivisors, LengthsOfYears, OrderOfDates, YearsFollow}
 use Rattle.calendar.specs.Years.{days_in_year, is_leap_year, is_multiple}
 use Rattle.calendar.proofs.DateOrder as order
+use Rattle.calendar.proofs.EasterSundays as easters
+use Rattle.calendar.proofs.IsoWeeks as weeks
 use Rattle.calendar.proofs.YearLengths as lengths
 
 -- ---- years
@@ -35,3 +37,16 @@ date_is_only = order.only_date
 
 pub order_of_dates : OrderOfDates
 order_of_dates = order.order
+
+-- ---- weeks
+
+pub iso_week_is_only : IsoWeekIsOnly
+iso_week_is_only = λ day y z v w h k. weeks.one_week h k
+
+pub iso_day_is_only : IsoDayIsOnly
+iso_day_is_only = λ a b year week weekday h k. weeks.one_day weekday h k
+
+-- ---- Easter
+
+pub easter_is_only : EasterIsOnly
+easter_is_only = easters.only_easter

@@ -7,3 +7,4 @@ pub mod DateTexts
 pub mod WeekdayPlaces
 pub mod MonthWeekdays
 pub mod IsoWeeks
+pub mod EasterSundays

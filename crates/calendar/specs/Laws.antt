@@ -1,9 +1,12 @@
 -- The laws of the calendar. Each is proved in proofs/Laws.antt, by a lemma of its name in small letters.
-use Rattle.std.specs.Prelude.{◌≡◌, ◌⊎◌, ◌↔◌, ◌<ℤ◌, ◌+ℤ◌, ℤ, pos, IsTrue, if◌then◌else◌}
+use Rattle.std.specs.Prelude.{◌≡◌, ◌⊎◌, ◌↔◌, ◌<ℤ◌, ◌+ℤ◌, ℕ, ℤ, pos, IsTrue, if◌then◌else◌}
 use Rattle.num_integer.specs.Divisors.{Divides}
 use Rattle.calendar.specs.Dates.{IsEarlier, number_of}
+use Rattle.calendar.specs.Easter.{IsEaster}
+use Rattle.calendar.specs.IsoWeeks.{IsDayOfIsoWeek, IsInIsoWeek}
 use Rattle.calendar.specs.Years.{day_number, days_in_year, first_day, is_leap_year}
 use Rattle.calendar.specs.declared.date.Date.{Date}
+use Rattle.calendar.specs.declared.weekday.Weekday.{Weekday}
 
 -- ---- years
 
@@ -32,3 +35,19 @@ DateIsOnly = (a b : Date) → number_of a ≡ number_of b → a ≡ b
 -- dates are in the order of their days
 abbrev pub OrderOfDates : Type 0
 OrderOfDates = (a b : Date) → IsEarlier a b ↔ (number_of a <ℤ number_of b)
+
+-- ---- weeks
+
+-- each day is in one week at most, of one year
+abbrev pub IsoWeekIsOnly : Type 0
+IsoWeekIsOnly = (day y z : ℤ) (v w : ℕ) → IsInIsoWeek day y v → IsInIsoWeek day z w → (y ≡ z) × (v ≡ w)
+
+-- each week has one day at most of each day of the week
+abbrev pub IsoDayIsOnly : Type 0
+IsoDayIsOnly = (a b year : ℤ) (week : ℕ) (weekday : Weekday) → IsDayOfIsoWeek a year week weekday → IsDayOfIsoWeek b year week weekday → a ≡ b
+
+-- ---- Easter
+
+-- each year has one day of Easter at most
+abbrev pub EasterIsOnly : Type 0
+EasterIsOnly = (year a b : ℤ) → IsEaster year a → IsEaster year b → a ≡ b

@@ -6,3 +6,4 @@ pub mod Text
 pub mod Weeks
 pub mod Months
 pub mod IsoWeeks
+pub mod Easter

@@ -3,6 +3,7 @@
 
 mod date;
 mod distance;
+mod feasts;
 mod iso_weeks;
 mod month_steps;
 mod month_weekdays;
@@ -16,6 +17,7 @@ mod years;
 
 pub use date::Date;
 pub use distance::days_between;
+pub use feasts::easter;
 pub use iso_weeks::IsoWeek;
 pub use month_weekdays::nth_weekday_of_month;
 pub use months::days_in_month;

@@ -1,6 +1,7 @@
 //! Known dates, the ends of `i64`, and each day of six thousand years.
 
 mod callers;
+mod feasts;
 mod iso_weeks;
 mod months;
 mod texts;

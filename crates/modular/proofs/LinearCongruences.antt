@@ -1,10 +1,9 @@
 -- The solutions of a congruence, where a times x is the gcd modulo m, and quotients.
 use Rattle.std.specs.Prelude.{◌≡◌, ◌≢◌, ◌<ℤ◌, ◌-ℤ◌, ◌*ℤ◌, ℤ, pos, int_div}
 use Rattle.std.proofs.Common.{arith, ap, ◌∙◌, refl, subst, sym}
-use Rattle.integer_core.proofs.Whole.{assoc, left_comm}
 use Rattle.num_integer.specs.Divisors.{Divides, IsGreatestCommonDivisor}
 use Rattle.modular.proofs.Congruences.{congruent-equal, congruent-product, congruent-refl, congruent-sym, congruent-trans, gcd_not_zero}
-use Rattle.num_integer.proofs.ForCallers.{Divides-cancel, Divides-times, exact_quotient, expand, linear, mul-one, products}
+use Rattle.num_integer.proofs.ForCallers.{Divides-cancel, Divides-times, comm, exact_quotient, expand, linear, mul-one}
 use Rattle.num_integer.specs.Only.{IsOnly}
 use Rattle.modular.specs.Congruences.{AreCongruent, IsInverse, IsQuotientModulo, IsReducedModulus, IsResidue, IsResidueClass, Solves}
 
@@ -21,9 +20,6 @@ divided {m} {u} {v} g nonzero h = record { divides = Divides-cancel g nonzero (s
 multiplied : {m u v : ℤ} (g : ℤ) → AreCongruent m u v → AreCongruent (g *ℤ m) (g *ℤ u) (g *ℤ v)
 multiplied {m} {u} {v} g h = record { divides = subst (λ (t : ℤ). Divides (g *ℤ m) t) (sym (factor_apart g u v)) (Divides-times g h.divides) }
 
-one-mul : (x : ℤ) → pos 1 *ℤ x ≡ x
-one-mul x = omega (arith, products)
-
 swapped : (a x z : ℤ) → (a *ℤ x) *ℤ z ≡ (a *ℤ z) *ℤ x
 swapped a x z = simp expand refl
 
@@ -31,12 +27,13 @@ swapped a x z = simp expand refl
 solved_by : (a x : ℤ) {m z b : ℤ} → AreCongruent m (a *ℤ x) (pos 1) → AreCongruent m (a *ℤ z) b → AreCongruent m z (b *ℤ x)
 solved_by a x {m} {z} unit h =
     let times = congruent-product (congruent-sym unit) (congruent-refl {m = m} z) in
-    congruent-trans (same_congruent refl (one-mul z) (swapped a x z) times) (congruent-product h (congruent-refl x))
+    congruent-trans (same_congruent refl (comm (pos 1) z ∙ mul-one z) (swapped a x z) times) (congruent-product h (congruent-refl x))
 
 solves : (a x : ℤ) {m z b : ℤ} → AreCongruent m (a *ℤ x) (pos 1) → AreCongruent m z (b *ℤ x) → AreCongruent m (a *ℤ z) b
 solves a x {m} {b = b} unit h =
     let times = congruent-product (congruent-refl {m = m} a) h in
-    congruent-trans times (same_congruent refl (left_comm b a x) (mul-one b) (congruent-product (congruent-refl {m = m} b) unit))
+    let turned : b *ℤ (a *ℤ x) ≡ a *ℤ (b *ℤ x) = simp expand refl in
+    congruent-trans times (same_congruent refl turned (mul-one b) (congruent-product (congruent-refl {m = m} b) unit))
 
 pub solutions_of : (x : ℤ) {a b m g step quotient first : ℤ} → pos 0 <ℤ m → IsGreatestCommonDivisor a m g → AreCongruent m (a *ℤ x) g → Divides g b → step ≡ int_div m g → quotient ≡ int_div b g
     → IsResidue step (quotient *ℤ x) first → IsResidueClass (Solves a b m) first step × IsReducedModulus a m step
@@ -46,7 +43,7 @@ solutions_of x {a} {b} {m} {g} {step} {quotient} {first} up greatest times divid
     let a_is : a ≡ g *ℤ part = greatest.divides_left.product in
     let b_is : b ≡ g *ℤ quotient = exact_quotient nonzero divides ∙ ap (λ (t : ℤ). g *ℤ t) (sym quotient_is) in
     let m_is : m ≡ g *ℤ step = exact_quotient nonzero greatest.divides_right ∙ ap (λ (t : ℤ). g *ℤ t) (sym step_is) in
-    let a_times : (z : ℤ) → a *ℤ z ≡ g *ℤ (part *ℤ z) = λ z. ap (λ (t : ℤ). t *ℤ z) a_is ∙ assoc g part z in
+    let a_times : (z : ℤ) → a *ℤ z ≡ g *ℤ (part *ℤ z) = λ z. ap (λ (t : ℤ). t *ℤ z) a_is ∙ simp expand refl in
     let unit : AreCongruent step (part *ℤ x) (pos 1) = divided g nonzero (same_congruent m_is (a_times x) (sym (mul-one g)) times) in
     let solutions : IsResidueClass (Solves a b m) first step = record {
       from_zero = rest.from_zero;

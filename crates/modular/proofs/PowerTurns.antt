@@ -1,13 +1,13 @@
 -- Powers by squaring, modulo a number.
-use Rattle.std.specs.Prelude.{◌≡◌, ◌≢◌, ◌⊎◌, ◌+◌, ◌/◌, ◌%◌, ◌≤◌, ◌^◌, ◌*ℤ◌, ℤ, ℕ, pos, negsuc, neg_ℤ, zero, suc, unsigned_abs}
+use Rattle.std.specs.Prelude.{◌≡◌, ◌≢◌, ◌⊎◌, ◌+◌, ◌*◌, ◌/◌, ◌%◌, ◌<◌, ◌≤◌, ◌^◌, ◌*ℤ◌, ℤ, ℕ, pos, negsuc, neg_ℤ, zero, suc, unsigned_abs}
 use Rattle.std.specs.Int.{int_pow}
 use Rattle.std.proofs.Common.{arith, ap, ◌∙◌, inl, inr, refl, subst, sym}
-use Rattle.std.proofs.Math.Nat.{pow-zero, pow-succ'}
+use Rattle.std.proofs.Math.IntN.{negsuc-*ℤ-pos}
+use Rattle.std.proofs.Math.Nat.{mul-le-mul_right, one-le-pow, pow-le-pow_right, pow-zero, pow-succ', two-pow-succ}
 use Rattle.std.proofs.lemmas.Bool.{cases_lt}
 use Rattle.std.proofs.lemmas.Int.{ints}
-use Rattle.integer_core.proofs.Whole.{assoc, neg-mul}
 use Rattle.modular.proofs.Congruences.{congruent-product, congruent-refl, congruent-trans, residue_of_congruent}
-use Rattle.num_integer.proofs.ForCallers.{mul-one, power_of_zero, products}
+use Rattle.num_integer.proofs.ForCallers.{comm, expand, mul-one, power_of_zero, products}
 use Rattle.modular.specs.Congruences.{AreCongruent, IsResidue}
 use Rattle.modular.proofs.BelowModulus.{below_of_residue}
 use Rattle.modular.specs.Below.{LiesBelow}
@@ -39,7 +39,7 @@ int_pow-suc (negsuc a) n = elim (even_or_odd n) [
   | inl even ↦
       let now : int_pow (negsuc a) n ≡ pos (suc a ^ n) = even_power (negsuc a) n even in
       let next : int_pow (negsuc a) (suc n) ≡ neg_ℤ (pos (suc a ^ suc n)) = odd_power (pos (suc a)) (suc n) (omega arith) in
-      next ∙ ap (λ (k : ℕ). neg_ℤ (pos k)) (pow-succ' (suc a) n) ∙ sym (ap (λ (t : ℤ). negsuc a *ℤ t) now ∙ neg-mul (pos (suc a)) (pos (suc a ^ n)))
+      next ∙ ap (λ (k : ℕ). neg_ℤ (pos k)) (pow-succ' (suc a) n) ∙ sym (ap (λ (t : ℤ). negsuc a *ℤ t) now ∙ negsuc-*ℤ-pos a (suc a ^ n))
   | inr odd ↦
       let now : int_pow (negsuc a) n ≡ neg_ℤ (pos (suc a ^ n)) = odd_power (pos (suc a)) n odd in
       let next : int_pow (negsuc a) (suc n) ≡ pos (suc a ^ suc n) = even_power (negsuc a) (suc n) (omega arith) in
@@ -53,12 +53,9 @@ power_of_square x (suc h) =
     let e : suc h + suc h ≡ suc (suc (h + h)) = omega arith in
     let twice : int_pow x (suc (suc (h + h))) ≡ x *ℤ (x *ℤ int_pow x (h + h)) = int_pow-suc x (suc (h + h)) ∙ ap (λ (t : ℤ). x *ℤ t) (int_pow-suc x (h + h)) in
     let less : x *ℤ (x *ℤ int_pow x (h + h)) ≡ x *ℤ (x *ℤ int_pow (x *ℤ x) h) = ap (λ (t : ℤ). x *ℤ (x *ℤ t)) (power_of_square x h) in
-    ap (λ (k : ℕ). int_pow x k) e ∙ twice ∙ less ∙ sym (int_pow-suc (x *ℤ x) h ∙ assoc x x (int_pow (x *ℤ x) h))
+    ap (λ (k : ℕ). int_pow x k) e ∙ twice ∙ less ∙ sym (int_pow-suc (x *ℤ x) h ∙ simp expand refl)
 
 -- ---- modulo a number
-
-one-mul : (x : ℤ) → pos 1 *ℤ x ≡ x
-one-mul x = omega (arith, products)
 
 pub congruent-power : {m u v : ℤ} (n : ℕ) → AreCongruent m u v → AreCongruent m (int_pow u n) (int_pow v n)
 congruent-power {m} {u} {v} zero h = subst (λ (t : ℤ). AreCongruent m (int_pow u 0) t) (int_pow-zero u ∙ sym (int_pow-zero v)) (congruent-refl (int_pow u 0))
@@ -78,7 +75,7 @@ powering_first {m} {a} {one} {power} {base} e is at_one at_a =
     record {
       power_below = below_of_residue at_one;
       base_below = below_of_residue at_a;
-      congruent = subst (λ (t : ℤ). AreCongruent m t (power *ℤ int_pow base e)) (one-mul (int_pow a e)) (congruent-product first (congruent-power e at_a.congruent));
+      congruent = subst (λ (t : ℤ). AreCongruent m t (power *ℤ int_pow base e)) (comm (pos 1) (int_pow a e) ∙ mul-one (int_pow a e)) (congruent-product first (congruent-power e at_a.congruent));
     }
 
 pub turn_at_even : {m a power base b : ℤ} {e rest : ℕ} → Powering m a e power base rest → rest % 2 ≢ 1 → IsResidue m (base *ℤ base) b → Powering m a e power b (rest / 2)
@@ -95,7 +92,7 @@ odd_split : (power base : ℤ) (rest h : ℕ) → rest ≡ suc (h + h) → power
 odd_split power base rest h is =
     let one : int_pow base rest ≡ base *ℤ int_pow base (h + h) = ap (λ (k : ℕ). int_pow base k) is ∙ int_pow-suc base (h + h) in
     let half : int_pow base rest ≡ base *ℤ int_pow (base *ℤ base) h = one ∙ ap (λ (t : ℤ). base *ℤ t) (power_of_square base h) in
-    ap (λ (t : ℤ). power *ℤ t) half ∙ sym (assoc power base (int_pow (base *ℤ base) h))
+    ap (λ (t : ℤ). power *ℤ t) half ∙ simp expand refl
 
 pub turn_at_odd : {m a power base p b : ℤ} {e rest : ℕ} → Powering m a e power base rest → rest % 2 ≡ 1 → IsResidue m (power *ℤ base) p → IsResidue m (base *ℤ base) b
     → Powering m a e p b (rest / 2)
@@ -120,3 +117,47 @@ powering_last_odd {m} {a} {power} {base} {r} {e} {rest} h low other product =
     let first : int_pow base rest ≡ base = ap (λ (k : ℕ). int_pow base k) one ∙ int_pow-suc base 0 ∙ ap (λ (t : ℤ). base *ℤ t) (int_pow-zero base) ∙ mul-one base in
     let is : power *ℤ int_pow base rest ≡ power *ℤ base = ap (λ (t : ℤ). power *ℤ t) first in
     residue_of_congruent (subst (λ (t : ℤ). AreCongruent m (int_pow a e) t) is h.congruent) product
+
+-- ---- the turns
+
+-- the rest is e by 2 to the power of the turns, rounded down; at 0 there is no turn, and above 0 the rest is above 0 too
+pub record Halved (e rest turns : ℕ) : Type 0 where
+  pub never : e ≡ 0 → turns ≡ 0
+  pub some : e ≢ 0 → 1 ≤ rest
+  pub low : rest * 2 ^ turns ≤ e
+  pub high : e < suc rest * 2 ^ turns
+
+pub halved_first : (e : ℕ) → Halved e e 0
+halved_first e = record { never = λ none. refl; some = λ other. omega arith; low = omega arith; high = omega arith }
+
+-- where the rest is above 1, the exponent is at least the power of two
+power_at_most : {e rest turns : ℕ} → Halved e rest turns → 1 < rest → 2 ^ turns ≤ e
+power_at_most {e} {rest} {turns} h more = omega (arith, h.low, mul-le-mul_right {m = 1} {n = rest} (2 ^ turns) (omega arith))
+
+next_power : (n : ℕ) → 2 ^ (n + 1) ≡ 2 ^ n + 2 ^ n
+next_power n = let next : n + 1 ≡ suc n = omega arith in rw next (two-pow-succ n)
+
+pub halved_turn : {e rest turns : ℕ} → Halved e rest turns → 1 < rest → Halved e (rest / 2) (turns + 1)
+halved_turn {e} {rest} {turns} h more =
+    let below = mul-le-mul_right {m = rest / 2 + rest / 2} {n = rest} (2 ^ turns) (omega arith) in
+    let above = mul-le-mul_right {m = suc rest} {n = suc (rest / 2) + suc (rest / 2)} (2 ^ turns) (omega arith) in
+    record {
+      never = λ none. absurd (omega (arith, power_at_most h more, one-le-pow turns 2 (omega arith)));
+      some = λ other. omega arith;
+      low = rw (next_power turns) (omega (arith, h.low));
+      high = rw (next_power turns) (omega (arith, h.high));
+    }
+
+-- the turns are fewer than the digits that hold the exponent
+pub few_halvings : {e rest turns : ℕ} (digits : ℕ) → Halved e rest turns → 1 < rest → e < 2 ^ digits → turns < digits
+few_halvings {turns = turns} digits h more small = elim (cases_lt turns digits) [
+  | inl few ↦ few
+  | inr many ↦ absurd (omega (arith, power_at_most h more, pow-le-pow_right {n = 2} (omega arith) many))
+]
+
+pub halved_last : {e rest turns : ℕ} → Halved e rest turns → rest ≤ 1 → e ≢ 0 → (2 ^ turns ≤ e) × (e < 2 ^ (turns + 1))
+halved_last {e} {rest} {turns} h last other =
+    let one : rest ≡ 1 = omega (arith, h.some other) in
+    let low = rw one at h.low in
+    let high = rw one at h.high in
+    (omega arith, rw (next_power turns) (omega arith))

@@ -2,6 +2,7 @@
 #![tactic(auto)]
 
 mod common_solutions;
+pub mod counted;
 mod inverses;
 mod long_products;
 mod native;

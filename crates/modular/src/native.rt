@@ -7,7 +7,7 @@ ghost use Rattle.modular.specs.Below.{LiesBelow};
 use crate::long_products::long_product;
 use crate::products::Modular;
 use crate::residues::residue;
-use integer_core::NativeInteger;
+use num_integer::NativeInteger;
 use num_traits::{ToPrimitive, cast};
 
 impl<T: NativeInteger> Modular for T {

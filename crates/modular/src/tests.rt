@@ -4,6 +4,7 @@ mod all_bytes;
 mod congruences;
 mod long_products;
 
+use crate::counted::power_modulo_counted;
 use crate::{
     difference_modulo, inverse_modulo, negation_modulo, power_modulo, product_modulo,
     quotient_modulo, residue, sum_modulo,
@@ -62,20 +63,28 @@ fn sums_differences_and_products(rt: HostRuntime) {
     assert!(rt; product_modulo(P64 - 1, P64 - 2, P64) == 2);
 }
 
-/// A number, an exponent, a modulus and the power.
-const POWERS: [(i64, u128, i64, i64); 6] = [
-    (-5, 13, 1000, 875),
-    (-5, 12, 1000, 625),
-    (-5, 13, 2147483647, 926780522),
-    (0, 0, 7, 1),
-    (0, 0, 1, 0),
-    (3, 1, 2, 1),
+/// A number, an exponent, a modulus, the power and the turns.
+const POWERS: [(i64, u128, i64, (i64, u32)); 10] = [
+    (-5, 13, 1000, (875, 3)),
+    (-5, 12, 1000, (625, 3)),
+    (-5, 13, 2147483647, (926780522, 3)),
+    (0, 0, 7, (1, 0)),
+    (0, 0, 1, (0, 0)),
+    (3, 1, 2, (1, 0)),
+    (2, 2, 1000, (4, 1)),
+    (2, 255, 1000, (968, 7)),
+    (2, 256, 1000, (936, 8)),
+    (10, u128::MAX, 11, (10, 127)),
 ];
 
 #[test]
 fn powers(rt: HostRuntime) {
-    for (a, e, m, r) in POWERS {
+    for (a, e, m, (r, turns)) in POWERS {
         assert!(rt; m > 0 && power_modulo(a, e, m) == r, "{a} {e} {m}");
+        assert!(rt;
+            m > 0 && power_modulo_counted(a, e, m) == (r, turns),
+            "{a} {e} {m}"
+        );
     }
     assert!(rt; power_modulo(3, 1000000000000000000, P64) == 4014180641660839766);
     assert!(rt; power_modulo(3, u128::from(P64 - 1), P64) == 1);

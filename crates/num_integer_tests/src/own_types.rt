@@ -1,6 +1,8 @@
-//! Lawful types that the library does not know. `Percent` is written out in full, as an example of
-//! what a lawful type costs. The five others share all but the way in which they store a number.
+//! Lawful types that the library does not know. `Percent` and the signed `Cents` are written out in
+//! full, as examples of what a lawful type costs. The five others share all but the way in which they
+//! store a number. No test calls `Cents`.
 
+mod cents;
 mod form;
 mod forms;
 mod percent;

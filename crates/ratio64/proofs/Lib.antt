@@ -9,3 +9,6 @@ pub mod FractionPowers
 pub mod ReducedAnswers
 pub mod ReducedParts
 pub mod NearestNumbers
+pub mod NeighbourTurns
+pub mod NearerNeighbour
+pub mod LimitedDenominators

@@ -1,9 +1,12 @@
 pub mod Fraction
 pub mod Laws
+pub mod Limiting
 pub mod RatioError
 pub mod Ratio
 pub mod RatioText
 pub mod Rounding
+-- what private functions cite
+pub mod Neighbours
 -- lemmas that the invariant and the order of `Ratio` cite
 pub mod ReducedPairs
 pub mod FractionOrder

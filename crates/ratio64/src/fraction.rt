@@ -5,6 +5,7 @@ ghost use Rattle.num_integer.specs.Division.{IsCeiled, IsFloored, IsQuotient};
 ghost use Rattle.ratio64.specs.Fraction.{IsReduced};
 ghost use Rattle.ratio64.specs.ReducedPairs.{IsReduced-prop};
 
+mod limit;
 mod powers;
 mod rounding;
 mod sign;

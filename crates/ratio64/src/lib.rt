@@ -3,6 +3,7 @@
 
 mod error;
 mod fraction;
+mod neighbours;
 mod order;
 mod parse;
 mod products;

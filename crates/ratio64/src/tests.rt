@@ -1,6 +1,7 @@
 //! Worked values, the ends of `i64`, and each pair of fractions of small parts.
 
 mod callers;
+mod limited;
 mod one_fraction;
 mod operations;
 mod parsing;

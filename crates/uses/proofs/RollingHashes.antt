@@ -1,7 +1,7 @@
 -- The hash of one more byte, and of the next window.
-use Rattle.std.specs.Prelude.{◌≡◌, ◌<◌, ◌+◌, ◌<ℤ◌, ◌+ℤ◌, ◌-ℤ◌, ◌*ℤ◌, ℕ, ℤ, pos, suc, List, [], ◌∷◌, ◌++◌, length, slice_index, take}
+use Rattle.std.specs.Prelude.{◌≡◌, ◌<◌, ◌+◌, ◌<ℤ◌, ◌+ℤ◌, ◌-ℤ◌, ◌*ℤ◌, ℕ, ℤ, pos, List, [], ◌∷◌, ◌++◌, length, slice_index, take}
 use Rattle.std.specs.Int.{int_pow}
-use Rattle.std.proofs.Common.{arith, ap, ◌∙◌, add-one, refl, subst, sym}
+use Rattle.std.proofs.Common.{arith, ap, ◌∙◌, add-one, subst, sym}
 use Rattle.std.proofs.lemmas.List.{length_push}
 use Rattle.std.proofs.Math.Seq.{take-suc}
 use Rattle.num_integer.proofs.ForCallers.{expand, linear, products}

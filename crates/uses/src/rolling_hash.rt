@@ -17,7 +17,8 @@ pub struct RollingHash {
 }
 
 impl RollingHash {
-    /// Returns the hash of windows that have one byte more than `kept`.
+    /// Returns the hash of windows that have one byte more than `kept`. `RollingHash::new(10, 97, 2)`
+    /// is that of windows of three bytes.
     ///
     /// May be called where `modulus` is above 0.
     pub fn new(base: u64, modulus: u64, kept: u64) -> RollingHash

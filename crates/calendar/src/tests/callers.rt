@@ -1,11 +1,12 @@
 //! What callers learn of the calls from their contracts and the laws, each said by a contract of its own.
 
-ghost use Rattle.std.specs.Prelude.{◌≡◌, ◌⊎◌, ◌↔◌, ◌<ℤ◌, pos, FitsSigned, IsTrue, MatchOption, Some};
+ghost use Rattle.std.specs.Prelude.{◌≡◌, ◌⊎◌, ◌↔◌, ◌<ℤ◌, pos, FitsSigned, IfSome, IsTrue, MatchOption, Some, if◌then◌else◌};
 ghost use Rattle.std.specs.Int.{w64};
 ghost use Rattle.num_integer.specs.Divisors.{Divides};
 ghost use Rattle.calendar.specs.Dates.{number_of};
+ghost use Rattle.calendar.specs.Years.{is_leap_year};
 
-use crate::{Date, is_leap_year};
+use crate::{Date, days_between, is_leap_year};
 
 /// The date of the day of a date is the date.
 fn date_again(date: &Date) -> Option<Date>
@@ -43,4 +44,30 @@ fn has_leap_day(year: i64) -> bool
         ↔ (Divides (pos 4) year × ((¬ (Divides (pos 100) year)) ⊎ Divides (pos 400) year)) }
 {
     is_leap_year(year)
+}
+
+/// The days from the first of a year to the first of the next one.
+fn length_of_year(year: i64) -> Option<i64>
+    ensures { MatchOption result (year ≡ i64.MAX)
+        (λ days. days ≡ pos (if is_leap_year year then 366 else 365)) }
+{
+    let first = Date {
+        year,
+        month: 1,
+        day_of_month: 1,
+    };
+    let next = Date {
+        year: year.checked_add(1)?,
+        month: 1,
+        day_of_month: 1,
+    };
+    days_between(&first, &next)
+}
+
+/// The date of the week and of the day of the week of a date is the date.
+fn week_date_again(date: &Date) -> Option<Date>
+    ensures { IfSome result (λ again. again ≡ date.now) }
+{
+    let week = date.iso_week()?;
+    Date::from_iso_week(week.year, week.week, date.weekday())
 }

@@ -4,7 +4,7 @@ use super::{MAX, MIN, date};
 use crate::Weekday::{Friday, Monday, Sunday, Thursday};
 use crate::{Date, Weekday, nth_weekday_of_month};
 
-/// A date, a number of months, and the date so many months later.
+/// A date, a number of months, and the date this number of months later.
 const LATER: [((i64, u8, u8), i64, (i64, u8, u8)); 16] = [
     ((2000, 1, 31), 0, (2000, 1, 31)),
     ((2000, 1, 31), 1, (2000, 2, 29)),

@@ -1,0 +1,73 @@
+-- The date of Easter.
+use Rattle.std.specs.Prelude.{◌≡◌, ◌+◌, ◌-◌, ◌<◌, ◌≤ℤ◌, ◌+ℤ◌, ◌-ℤ◌, ◌*ℤ◌, ℕ, ℤ, pos, unsigned_abs}
+use Rattle.std.proofs.Common.{◌∙◌, ap, arith, sym}
+use Rattle.std.proofs.lemmas.Int.{ints}
+use Rattle.num_integer.proofs.ForCallers.{floored_by_range, floored_remainder_range, linear, only_floored}
+use Rattle.num_integer.specs.Division.{IsFloored, IsQuotient, IsRemainder}
+use Rattle.calendar.specs.Easter.{IsEaster, IsEpact, IsLunarCorrection, IsPaschalFullMoon, IsSolarCorrection}
+use Rattle.calendar.specs.Weekday.{weekday_number}
+use Rattle.calendar.specs.Weeks.{HasWeekday, IsFirstWeekday}
+use Rattle.calendar.specs.Years.{day_number}
+use Rattle.calendar.specs.declared.weekday.Weekday.{Weekday}
+use Rattle.calendar.specs.declared.weekday.Weekday.TheVariants.{Sunday}
+
+-- no Sunday lies between a day and the next Sunday
+sunday_after : (day other q p : ℤ) (n days : ℕ) → n < 7 → days ≡ 7 - n → day +ℤ pos 4 ≡ q *ℤ pos 7 +ℤ pos n → other +ℤ pos 4 ≡ p *ℤ pos 7 +ℤ pos 0 → (day +ℤ pos 1) ≤ℤ other → (day +ℤ pos days) ≤ℤ other
+sunday_after day other q p n days small place own sunday after = omega (arith, ints)
+
+pub next_sunday : {day : ℤ} {weekday : Weekday} {n days : ℕ} → HasWeekday day weekday → n ≡ weekday_number weekday → n < 7 → days ≡ 7 - n → IsFirstWeekday (day +ℤ pos 1) Sunday (day +ℤ pos days)
+next_sunday {day} {n = n} {days = days} h is small place =
+    let own = rw (sym is) at h.remainder.division.division.equation in
+    record {
+      from_there = omega (arith, ints);
+      has_weekday = record { remainder = record { quotient = h.remainder.quotient +ℤ pos 1; division = floored_by_range (omega (arith, ints, own)) (omega (arith, ints)) (omega (arith, ints)) } };
+      first = λ other after k. sunday_after day other h.remainder.quotient k.remainder.quotient n days small place own k.remainder.division.division.equation after;
+    }
+
+-- the remainder of the sum is the epact
+pub is_epact : {century solar lunar sum rest : ℤ} (golden : ℕ) → IsSolarCorrection century solar → IsLunarCorrection century lunar → sum ≡ pos 11 *ℤ pos golden +ℤ pos 8 -ℤ solar +ℤ lunar
+    → IsRemainder IsFloored sum (pos 30) rest → IsEpact century golden (unsigned_abs rest)
+is_epact {solar = solar} {lunar = lunar} {rest = rest} golden solar_is lunar_is sum_is h =
+    let range = floored_remainder_range (omega (arith, ints)) h in
+    let same : pos (unsigned_abs rest) ≡ rest = omega (arith, ints) in
+    record { solar = solar; lunar = lunar; solar_is = solar_is; lunar_is = lunar_is; epact_is = rw same (rw sum_is at h) }
+
+-- the days from 1 March on follow each other
+pub days_later : (year : ℤ) (day : ℕ) {more days : ℕ} → more ≡ days → day_number year 3 (day + more) ≡ day_number year 3 day +ℤ pos days
+days_later year day same = omega (arith, ints)
+
+-- the Sunday after the full moon is Easter
+pub is_easter : {year full_moon day sunday : ℤ} (days : ℕ) → IsPaschalFullMoon year full_moon → day ≡ full_moon → IsFirstWeekday (day +ℤ pos 1) Sunday (day +ℤ pos days) → sunday ≡ full_moon +ℤ pos days → IsEaster year sunday
+is_easter {full_moon = full_moon} days h same first place = record { full_moon = full_moon; full_moon_is = h; sunday_is = rw place (rw same at first) }
+
+-- ---- one day at most
+
+only_quotient : {n d p q : ℤ} → IsQuotient IsFloored n d p → IsQuotient IsFloored n d q → p ≡ q
+only_quotient h k = (only_floored h.division k.division).0
+
+only_remainder : {n d : ℤ} {r s : ℕ} → IsRemainder IsFloored n d (pos r) → IsRemainder IsFloored n d (pos s) → r ≡ s
+only_remainder h k = ap unsigned_abs (only_floored h.division k.division).1
+
+only_solar : {century a b : ℤ} → IsSolarCorrection century a → IsSolarCorrection century b → a ≡ b
+only_solar h k =
+    let same = only_quotient h.leap_centuries_is k.leap_centuries_is in
+    let first = h.days_is in
+    let second = k.days_is in
+    omega (arith, linear)
+
+only_epact : {century : ℤ} {golden a b : ℕ} → IsEpact century golden a → IsEpact century golden b → a ≡ b
+only_epact h k = only_remainder (rw (only_solar h.solar_is k.solar_is, only_quotient h.lunar_is k.lunar_is) at h.epact_is) k.epact_is
+
+only_full_moon : {year a b : ℤ} → IsPaschalFullMoon year a → IsPaschalFullMoon year b → a ≡ b
+only_full_moon h k =
+    let golden = only_remainder h.golden_is k.golden_is in
+    let century = only_quotient h.century_is k.century_is in
+    let epact = only_epact (rw (golden, century) at h.epact_is) k.epact_is in
+    let day = rw (golden, epact) at h.day_is in
+    day ∙ sym k.day_is
+
+pub only_easter : (year a b : ℤ) → IsEaster year a → IsEaster year b → a ≡ b
+only_easter year a b h k =
+    let first = rw (only_full_moon h.full_moon_is k.full_moon_is) at h.sunday_is in
+    let second = k.sunday_is in
+    omega (arith, linear, first.first b second.from_there second.has_weekday, second.first a first.from_there first.has_weekday)

@@ -1,0 +1,22 @@
+use Rattle.std.specs.Prelude.{FitsSigned}
+use Rattle.std.specs.Int.{w64}
+use Rattle.std.proofs.Common.{arith}
+use Rattle.std.proofs.lemmas.Int.{ints, to_z-of_z}
+use Rattle.calendar.proofs.EasterSundays.{is_epact}
+use Rattle.calendar.proofs.feasts.epact_of.Goals as goal
+
+pub returns-clause-value : goal.returns-clause-value
+returns-clause-value c =
+    let century = c.ranges.century in
+    let solar_small = c.solar_correction-solar.ensures.small in
+    let lunar_small = c.lunar_correction-lunar.ensures.small in
+    let sum_small = c.epact_sum.ensures.small in
+    let solar_fits : FitsSigned w64 c.solar_correction-solar.result = omega (arith, ints, solar_small) in
+    let lunar_fits : FitsSigned w64 c.lunar_correction-lunar.result = omega (arith, ints, lunar_small) in
+    let sum_fits : FitsSigned w64 c.epact_sum.result = omega (arith, ints, sum_small) in
+    let rest_fits = c.mod_floor.ensures.in_range in
+    let solar = simp to_z-of_z at c.solar_correction-solar.ensures.value in
+    let lunar = simp to_z-of_z at c.lunar_correction-lunar.ensures.value in
+    let sum = simp to_z-of_z at c.epact_sum.ensures.value in
+    let rest = simp to_z-of_z at c.mod_floor.ensures.floored in
+    simp to_z-of_z (is_epact c.args.golden solar lunar sum rest)

@@ -1,0 +1,56 @@
+-- The date of Easter by the tables of Clavius for the Gregorian calendar.
+use Rattle.std.specs.Prelude.{◌≡◌, ◌-◌, ◌%◌, ◌+ℤ◌, ◌-ℤ◌, ◌*ℤ◌, ℕ, ℤ, pos, Bool, ◌&&◌, ◌||◌, nat_eq, nat_lt, if◌then◌else◌}
+use Rattle.num_integer.specs.Division.{IsFloored, IsQuotient, IsRemainder}
+use Rattle.calendar.specs.Weeks.{IsFirstWeekday}
+use Rattle.calendar.specs.Years.{day_number}
+use Rattle.calendar.specs.declared.weekday.Weekday.TheVariants.{Sunday}
+
+-- the golden number of a year, less 1: its place in the moon's cycle of 19 years
+abbrev pub IsGolden : ℤ → ℕ → Type 0
+IsGolden year golden = IsRemainder IsFloored year (pos 19) (pos golden)
+
+-- the century, counted from the years 0 to 99
+abbrev pub IsCentury : ℤ → ℤ → Type 0
+IsCentury year century = IsQuotient IsFloored year (pos 100) century
+
+-- the leap days that hundredth years drop: all but those of each four hundredth
+pub record IsSolarCorrection (century days : ℤ) : Type 0 where
+  pub leap_centuries : ℤ
+  pub leap_centuries_is : IsQuotient IsFloored century (pos 4) leap_centuries
+  pub days_is : days ≡ century -ℤ leap_centuries
+
+-- the days that the moon gains on its cycle of 19 years: 8 in 2500 years
+abbrev pub IsLunarCorrection : ℤ → ℤ → Type 0
+IsLunarCorrection century days = IsQuotient IsFloored (pos 8 *ℤ century +ℤ pos 13) (pos 25) days
+
+-- the epact, the age of the moon on 1 January, by century and golden number
+pub record IsEpact (century : ℤ) (golden epact : ℕ) : Type 0 where
+  pub solar : ℤ
+  pub lunar : ℤ
+  pub solar_is : IsSolarCorrection century solar
+  pub lunar_is : IsLunarCorrection century lunar
+  pub epact_is : IsRemainder IsFloored (pos 11 *ℤ pos golden +ℤ pos 8 -ℤ solar +ℤ lunar) (pos 30) (pos epact)
+
+-- whether the table has the full moon a day earlier: at epact 24, and at 25 where the golden number is above 11
+abbrev pub is_day_earlier : ℕ → ℕ → Bool
+is_day_earlier epact golden = nat_eq epact 24 || (nat_eq epact 25 && nat_lt 10 golden)
+
+-- the days from 21 March to the full moon: 23 minus the epact, modulo 30, or a day less
+abbrev pub days_to_full_moon : ℕ → ℕ → ℕ
+days_to_full_moon epact golden = if is_day_earlier epact golden then (53 - epact) % 30 - 1 else (53 - epact) % 30
+
+-- the day of the Paschal full moon of the year
+pub record IsPaschalFullMoon (year day : ℤ) : Type 0 where
+  pub golden : ℕ
+  pub century : ℤ
+  pub epact : ℕ
+  pub golden_is : IsGolden year golden
+  pub century_is : IsCentury year century
+  pub epact_is : IsEpact century golden epact
+  pub day_is : day ≡ day_number year 3 21 +ℤ pos (days_to_full_moon epact golden)
+
+-- the day of Easter: the first Sunday after the full moon
+pub record IsEaster (year day : ℤ) : Type 0 where
+  pub full_moon : ℤ
+  pub full_moon_is : IsPaschalFullMoon year full_moon
+  pub sunday_is : IsFirstWeekday (full_moon +ℤ pos 1) Sunday day

@@ -1,0 +1,245 @@
+-- A whole number and the nearer neighbour of the rest.
+use Rattle.std.specs.Prelude.{◌≡◌, ◌<◌, ◌≤◌, ◌+◌, ◌*◌, ◌^◌, ◌<ℤ◌, ◌≤ℤ◌, ◌+ℤ◌, ◌-ℤ◌, ◌*ℤ◌, ℤ, ℕ, pos, negsuc, neg_ℤ, zero, suc, unsigned_abs, FitsSigned}
+use Rattle.std.specs.Int.{w64}
+use Rattle.std.proofs.Common.{arith, ap, refl, sym, ◌∙◌, inl, inr, subst}
+use Rattle.std.proofs.lemmas.Int.{by_lt_z, ints}
+use Rattle.num_integer.proofs.ForCallers.{Divides-sum, cancel, comm, coprime_divides, dist, divisor_at_most, expand, floored_remainder_range, linear, mul-neg, mul-one, product_from_zero, products, sizes}
+use Rattle.num_integer.specs.Division.{IsFloored}
+use Rattle.num_integer.specs.Divisors.{Divides}
+use Rattle.ratio64.specs.declared.neighbours.Neighbour.{Neighbour}
+use Rattle.ratio64.specs.Fraction.{IsReduced}
+use Rattle.ratio64.specs.Limiting.{IsNearestWithin, gap}
+use Rattle.ratio64.specs.Neighbours.{AreNeighbours, IsNearer}
+use Rattle.ratio64.specs.ReducedPairs.{positive_is_nonzero}
+use Rattle.ratio64.proofs.NearerNeighbour.{AreBeside, nearest_above, nearest_below}
+use Rattle.ratio64.proofs.ReducedParts.{one_divides, remainder_reduced}
+
+-- ---- a denominator up to the limit
+
+-- a fraction that is equal to a reduced one has its denominator or a greater one
+least_denominator : {n d v : ℤ} (u : ℤ) → IsReduced n d → pos 0 <ℤ v → n *ℤ v ≡ u *ℤ d → d ≤ℤ v
+least_denominator {n} {d} {v} u x up e = divisor_at_most up (coprime_divides x.lowest (record { factor = u; product = e ∙ comm u d }))
+
+none_left : (n d : ℤ) → n *ℤ d -ℤ n *ℤ d ≡ pos 0
+none_left n d = omega (arith, linear)
+
+no_factor : (z d : ℕ) → 0 < d → z * d ≡ 0 → z ≡ 0
+no_factor zero d up e = omega arith
+no_factor (suc z) d up e = absurd (omega arith)
+
+level : (x y : ℤ) (v d : ℕ) → 0 < d → 0 * v ≡ unsigned_abs (x -ℤ y) * d → x ≡ y
+level x y v d up e =
+    let product : unsigned_abs (x -ℤ y) * d ≡ 0 = omega (arith, e) in
+    let none : unsigned_abs (x -ℤ y) ≡ 0 = no_factor (unsigned_abs (x -ℤ y)) d up product in
+    omega (arith, sizes)
+
+pub itself_is_nearest : {n d max : ℤ} → IsReduced n d → d ≤ℤ max → IsNearestWithin n d max n d
+itself_is_nearest {n} {d} {max} x most =
+    let d_up = x.positive in
+    let own : gap n d n d ≡ 0 = ap unsigned_abs (none_left n d) in
+    record {
+      positive = x.positive;
+      bounded = most;
+      nearest = λ u v up v_most. subst (λ (t : ℕ). t * unsigned_abs v ≤ gap n d u v * unsigned_abs d) (sym own) (omega arith);
+      tie = λ u v up v_most same.
+          let equal : n *ℤ v ≡ u *ℤ d = level (n *ℤ v) (u *ℤ d) (unsigned_abs v) (unsigned_abs d) (omega (arith, sizes)) (subst (λ (t : ℕ). t * unsigned_abs v ≡ gap n d u v * unsigned_abs d) own same) in (
+            least_denominator u x up equal,
+            λ one.
+                let products_same = rw one at equal in
+                let nums : n ≡ u = cancel d n u (positive_is_nonzero x.positive) (comm d n ∙ products_same ∙ comm u d) in
+                omega (arith, linear),
+          );
+    }
+
+-- for natural parts
+pub lowest_natural : {n d : ℕ} → IsReduced (pos n) (pos d) → (a b : ℕ) → 0 < b → n * b ≡ a * d → d ≤ b
+lowest_natural {n} {d} x a b up e =
+    let at_most : pos d ≤ℤ pos b = least_denominator {n = pos n} {d = pos d} {v = pos b} (pos a) x (omega (arith, ints)) (ap pos e) in
+    omega (arith, ints)
+
+-- ---- the whole number added
+
+-- m/D is the whole number w and n/d more, where D is d
+pub record IsSplit (m bottom w : ℤ) (n d : ℕ) : Type 0 where
+  pub den : pos d ≡ bottom
+  pub equation : m ≡ w *ℤ pos d +ℤ pos n
+  pub reduced : IsReduced (pos n) (pos d)
+  pub up : 0 < d
+
+pub floor_splits : {m bottom w r : ℤ} {n d : ℕ} → IsReduced m bottom → IsFloored m bottom w r → n ≡ unsigned_abs r → d ≡ unsigned_abs bottom → IsSplit m bottom w n d
+floor_splits {m} {bottom} {w} {r} {n} {d} x h n_is d_is =
+    let range = floored_remainder_range x.positive (record { quotient = w; division = h }) in
+    let bottom_up = x.positive in
+    let part : pos n ≡ r = omega (arith, sizes) in
+    let den : pos d ≡ bottom = omega (arith, sizes) in
+    record {
+      den = den;
+      equation = rw (part, den) h.division.equation;
+      reduced = rw (part, den) (remainder_reduced w x h.division.equation);
+      up = omega (arith, sizes);
+    }
+
+-- a limit above 0
+pub positive_size : (z : ℤ) → FitsSigned w64 z → pos 0 <ℤ z → (pos (unsigned_abs z) ≡ z) × (unsigned_abs z < 2 ^ 63)
+positive_size (pos n) fits up = let low = fits.sfits in (refl, omega (arith, ints))
+positive_size (negsuc n) fits up = absurd (omega (arith, ints))
+
+pub natural_fits : {n : ℕ} → n < 2 ^ 63 → FitsSigned w64 (pos n)
+natural_fits small = record { sfits = omega arith }
+
+pub same_limits : {n d e max most num den : ℤ} → d ≡ e → max ≡ most → IsNearestWithin n d max num den → IsNearestWithin n e most num den
+same_limits {n} {d} {e} {max} {most} {num} {den} d_is max_is h = rw (sym d_is, sym max_is) h
+
+pub nearer_bounded : {n d max : ℕ} {x y z : Neighbour} → AreNeighbours n d max x y → IsNearer x y z → z.den ≤ max
+nearer_bounded h s = elim s.is [
+  | inl k ↦ rw k.0 h.bounded.0
+  | inr k ↦ rw k.0 h.bounded.1
+]
+
+whole_below : (w d n a b g m : ℤ) → m ≡ w *ℤ d +ℤ n → n *ℤ b ≡ a *ℤ d +ℤ g → m *ℤ b ≡ (w *ℤ b +ℤ a) *ℤ d +ℤ g
+whole_below w d n a b g m e h =
+    let each = simp expand at h in
+    rw e (simp expand (omega (arith, linear)))
+
+whole_above : (w d n a b g m : ℤ) → m ≡ w *ℤ d +ℤ n → a *ℤ d ≡ n *ℤ b +ℤ g → (w *ℤ b +ℤ a) *ℤ d ≡ m *ℤ b +ℤ g
+whole_above w d n a b g m e h =
+    let each = simp expand at h in
+    rw e (simp expand (omega (arith, linear)))
+
+whole_adjacent : (w a b c e : ℤ) → c *ℤ b ≡ a *ℤ e +ℤ pos 1 → (w *ℤ e +ℤ c) *ℤ b ≡ (w *ℤ b +ℤ a) *ℤ e +ℤ pos 1
+whole_adjacent w a b c e h =
+    let each = simp expand at h in
+    simp expand (omega (arith, linear))
+
+whole_beside : {n d max : ℕ} {x y : Neighbour} (w m : ℤ) → AreNeighbours n d max x y → max < x.den + y.den → 0 < d → m ≡ w *ℤ pos d +ℤ pos n
+    → AreBeside m d max (w *ℤ pos x.den +ℤ pos x.num) x.den x.gap (w *ℤ pos y.den +ℤ pos y.num) y.den y.gap
+whole_beside {n} {d} {max} {x} {y} w m h none up e = record {
+  from_below = whole_below w (pos d) (pos n) (pos x.num) (pos x.den) (pos x.gap) m e (ap pos h.from_below);
+  from_above = whole_above w (pos d) (pos n) (pos y.num) (pos y.den) (pos y.gap) m e (ap pos h.from_above);
+  adjacent = whole_adjacent w (pos x.num) (pos x.den) (pos y.num) (pos y.den) (ap pos h.adjacent);
+  positive = (up, h.dens.0, h.dens.1, h.gaps.0, h.gaps.1);
+  bounded = h.bounded;
+  none_between = none;
+}
+
+-- the nearer neighbour is then the nearest fraction
+pub nearer_is_nearest : {n d max : ℕ} {x y z : Neighbour} (w m : ℤ) → AreNeighbours n d max x y → max < x.den + y.den → 0 < d → m ≡ w *ℤ pos d +ℤ pos n → IsNearer x y z
+    → IsNearestWithin m (pos d) (pos max) (w *ℤ pos z.den +ℤ pos z.num) (pos z.den)
+nearer_is_nearest {n} {d} {max} {x} {y} {z} w m h none up e s =
+    let beside = whole_beside w m h none up e in
+    elim s.is [
+      | inl k ↦ rw k.0 (nearest_below beside k.1 k.2)
+      | inr k ↦ rw k.0 (nearest_above beside k.1 k.2)
+    ]
+
+-- ---- it is reduced
+
+bezout_reduced : (x y a b : ℤ) → pos 0 <ℤ b → x *ℤ a +ℤ y *ℤ b ≡ pos 1 → IsReduced a b
+bezout_reduced x y a b up one = record {
+  positive = up;
+  lowest = record {
+    from_zero = omega (arith, linear);
+    divides_left = one_divides a;
+    divides_right = one_divides b;
+    greatest = λ d left right. subst (λ (t : ℤ). Divides d t) one (Divides-sum x y left right);
+  };
+}
+
+pair_below : (a b c e : ℤ) → c *ℤ b ≡ a *ℤ e +ℤ pos 1 → neg_ℤ e *ℤ a +ℤ c *ℤ b ≡ pos 1
+pair_below a b c e h =
+    let each = simp expand at h in
+    simp expand (omega (arith, linear))
+
+pair_above : (a b c e : ℤ) → c *ℤ b ≡ a *ℤ e +ℤ pos 1 → b *ℤ c +ℤ neg_ℤ a *ℤ e ≡ pos 1
+pair_above a b c e h =
+    let each = simp expand at h in
+    simp expand (omega (arith, linear))
+
+pub nearer_is_reduced : {n d max : ℕ} {x y z : Neighbour} (w m : ℤ) → AreNeighbours n d max x y → max < x.den + y.den → 0 < d → m ≡ w *ℤ pos d +ℤ pos n → IsNearer x y z
+    → IsReduced (w *ℤ pos z.den +ℤ pos z.num) (pos z.den)
+nearer_is_reduced {n} {d} {max} {x} {y} {z} w m h none up e s =
+    let beside = whole_beside w m h none up e in
+    let lower = w *ℤ pos x.den +ℤ pos x.num in
+    let upper = w *ℤ pos y.den +ℤ pos y.num in
+    let x_up = h.dens.0 in
+    let y_up = h.dens.1 in
+    elim s.is [
+      | inl k ↦ rw k.0 (bezout_reduced (neg_ℤ (pos y.den)) upper lower (pos x.den) (omega (arith, ints)) (pair_below lower (pos x.den) upper (pos y.den) beside.adjacent))
+      | inr k ↦ rw k.0 (bezout_reduced (pos x.den) (neg_ℤ lower) upper (pos y.den) (omega (arith, ints)) (pair_above lower (pos x.den) upper (pos y.den) beside.adjacent))
+    ]
+
+-- ---- it fits
+
+-- the numerators by the gaps make that of the fraction
+nums_make_num : (n d a b g c e h : ℤ) → n *ℤ b ≡ a *ℤ d +ℤ g → c *ℤ d ≡ n *ℤ e +ℤ h → c *ℤ b ≡ a *ℤ e +ℤ pos 1 → g *ℤ c +ℤ h *ℤ a ≡ n
+nums_make_num n d a b g c e h below above adjacent =
+    let first = ap (λ (t : ℤ). t *ℤ c) below in
+    let second = ap (λ (t : ℤ). t *ℤ a) above in
+    let third : n *ℤ (c *ℤ b) ≡ n *ℤ (a *ℤ e) +ℤ n = ap (λ (t : ℤ). n *ℤ t) adjacent ∙ comm n (a *ℤ e +ℤ pos 1) ∙ dist (a *ℤ e) (pos 1) n ∙ ap (λ (t : ℤ). (a *ℤ e) *ℤ n +ℤ t) (comm (pos 1) n ∙ mul-one n) ∙ ap (λ (t : ℤ). t +ℤ n) (comm (a *ℤ e) n) in
+    let i = simp expand at first in
+    let j = simp expand at second in
+    let k = simp expand at third in
+    simp expand (omega (arith, linear))
+
+-- so each lies from 0 to that, on either side of 0
+parts_up : (g h a c n : ℤ) → pos 0 <ℤ g → pos 0 <ℤ h → pos 0 ≤ℤ a → pos 0 ≤ℤ c → g *ℤ c +ℤ h *ℤ a ≡ n → (a ≤ℤ n) × (c ≤ℤ n)
+parts_up g h a c n g_up h_up a_up c_up e =
+    let first = product_from_zero (g -ℤ pos 1) c (omega (arith, linear)) c_up in
+    let second = product_from_zero (h -ℤ pos 1) a (omega (arith, linear)) a_up in
+    let i = simp expand at first in
+    let j = simp expand at second in
+    (omega (arith, products), omega (arith, products))
+
+parts_down : (g h a c n : ℤ) → pos 0 <ℤ g → pos 0 <ℤ h → a ≤ℤ pos 0 → c ≤ℤ pos 0 → g *ℤ c +ℤ h *ℤ a ≡ n → (n ≤ℤ a) × (n ≤ℤ c)
+parts_down g h a c n g_up h_up a_down c_down e =
+    let turned : g *ℤ neg_ℤ c +ℤ h *ℤ neg_ℤ a ≡ neg_ℤ n = rw (mul-neg g c, mul-neg h a) (omega (arith, linear)) in
+    let both = parts_up g h (neg_ℤ a) (neg_ℤ c) (neg_ℤ n) g_up h_up (omega (arith, linear)) (omega (arith, linear)) turned in
+    (omega (arith, linear, both.0), omega (arith, linear, both.1))
+
+fits_up : (x n : ℤ) → FitsSigned w64 n → pos 0 ≤ℤ x → x ≤ℤ n → FitsSigned w64 x
+fits_up (pos x) (pos n) fits up most = let low = fits.sfits in record { sfits = omega (arith, ints) }
+fits_up (pos x) (negsuc n) fits up most = absurd (omega (arith, ints))
+fits_up (negsuc x) n fits up most = absurd (omega (arith, ints))
+
+fits_down : (x n : ℤ) → FitsSigned w64 n → x ≤ℤ pos 0 → n ≤ℤ x → FitsSigned w64 x
+fits_down (pos x) n fits down least = record { sfits = omega (arith, ints) }
+fits_down (negsuc x) (pos n) fits down least = absurd (omega (arith, ints))
+fits_down (negsuc x) (negsuc n) fits down least = let low = fits.sfits in record { sfits = omega (arith, ints) }
+
+-- a whole number at least 0, or below 0, and a part up to 1
+part_up : (w b a : ℤ) → pos 0 ≤ℤ w → pos 0 ≤ℤ b → pos 0 ≤ℤ a → pos 0 ≤ℤ (w *ℤ b +ℤ a)
+part_up w b a w_up b_up a_up = let product = product_from_zero w b w_up b_up in omega (arith, linear)
+
+part_down : (w b a : ℤ) → w <ℤ pos 0 → pos 0 ≤ℤ b → a ≤ℤ b → (w *ℤ b +ℤ a) ≤ℤ pos 0
+part_down w b a w_down b_up most =
+    let product = product_from_zero (neg_ℤ w -ℤ pos 1) b (omega (arith, linear)) b_up in
+    let each = simp expand at product in
+    let order = comm w b in
+    omega (arith, products)
+
+pub nearer_fits : {n d max : ℕ} {x y z : Neighbour} (w m : ℤ) → AreNeighbours n d max x y → max < x.den + y.den → 0 < d → m ≡ w *ℤ pos d +ℤ pos n → IsNearer x y z
+    → FitsSigned w64 m → FitsSigned w64 (w *ℤ pos z.den +ℤ pos z.num)
+nearer_fits {n} {d} {max} {x} {y} {z} w m h none up e s fits =
+    let beside = whole_beside w m h none up e in
+    let lower = w *ℤ pos x.den +ℤ pos x.num in
+    let upper = w *ℤ pos y.den +ℤ pos y.num in
+    let sum : pos x.gap *ℤ upper +ℤ pos y.gap *ℤ lower ≡ m = nums_make_num m (pos d) lower (pos x.den) (pos x.gap) upper (pos y.den) (pos y.gap) beside.from_below beside.from_above beside.adjacent in
+    let x_gap : pos 0 <ℤ pos x.gap = let some = h.gaps.0 in omega (arith, ints) in
+    let y_gap : pos 0 <ℤ pos y.gap = let some = h.gaps.1 in omega (arith, ints) in
+    let x_num : pos x.num ≤ℤ pos x.den = let some = h.nums.0 in omega (arith, ints) in
+    let y_num : pos y.num ≤ℤ pos y.den = let some = h.nums.1 in omega (arith, ints) in
+    let both : FitsSigned w64 lower × FitsSigned w64 upper = by_lt_z w (pos 0)
+    (λ down.
+    let l = part_down w (pos x.den) (pos x.num) down (omega (arith, ints)) x_num in
+    let u = part_down w (pos y.den) (pos y.num) down (omega (arith, ints)) y_num in
+    let least = parts_down (pos x.gap) (pos y.gap) lower upper m x_gap y_gap l u sum in
+    (fits_down lower m fits l least.0, fits_down upper m fits u least.1))
+    (λ over.
+    let l = part_up w (pos x.den) (pos x.num) over (omega (arith, ints)) (omega (arith, ints)) in
+    let u = part_up w (pos y.den) (pos y.num) over (omega (arith, ints)) (omega (arith, ints)) in
+    let most = parts_up (pos x.gap) (pos y.gap) lower upper m x_gap y_gap l u sum in
+    (fits_up lower m fits l most.0, fits_up upper m fits u most.1)) in
+    elim s.is [
+      | inl k ↦ rw k.0 both.0
+      | inr k ↦ rw k.0 both.1
+    ]

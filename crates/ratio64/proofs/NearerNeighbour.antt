@@ -1,0 +1,254 @@
+-- The nearer of two neighbours is the nearest of all fractions up to the limit.
+use Rattle.std.specs.Prelude.{◌≡◌, ◌⊎◌, ◌<◌, ◌≤◌, ◌+◌, ◌*◌, ◌<ℤ◌, ◌≤ℤ◌, ◌+ℤ◌, ◌-ℤ◌, ◌*ℤ◌, ℤ, ℕ, pos, neg_ℤ, zero, suc, unsigned_abs}
+use Rattle.std.proofs.Common.{arith, ap, sym, ◌∙◌, inl, inr, mul-le-mul_left, subst}
+use Rattle.std.proofs.Math.Nat.{le_of_mul-le-mul_left}
+use Rattle.std.proofs.lemmas.Int.{by_lt_z, ints, unsigned_abs-mul}
+use Rattle.num_integer.proofs.ForCallers.{cancel, comm, dist, expand, linear, mul-one, multiples_apart, product_from_zero, products, sizes}
+use Rattle.ratio64.specs.Limiting.{IsNearestWithin, gap}
+
+-- ---- rings
+
+past_below : (n d a b u v g : ℤ) → n *ℤ b ≡ a *ℤ d +ℤ g → (n *ℤ v -ℤ u *ℤ d) *ℤ b ≡ g *ℤ v +ℤ d *ℤ (a *ℤ v -ℤ u *ℤ b)
+past_below n d a b u v g e =
+    let times = ap (λ (t : ℤ). t *ℤ v) e in
+    let each = simp expand at times in
+    simp expand (omega (arith, linear))
+
+past_above : (n d a b u v g : ℤ) → a *ℤ d ≡ n *ℤ b +ℤ g → (u *ℤ d -ℤ n *ℤ v) *ℤ b ≡ g *ℤ v +ℤ d *ℤ (u *ℤ b -ℤ a *ℤ v)
+past_above n d a b u v g e =
+    let times = ap (λ (t : ℤ). t *ℤ v) e in
+    let each = simp expand at times in
+    simp expand (omega (arith, linear))
+
+-- what u/v lies beyond each of two neighbours makes -v
+both_sides : (a b c e u v : ℤ) → c *ℤ b ≡ a *ℤ e +ℤ pos 1 → (a *ℤ v -ℤ u *ℤ b) *ℤ e +ℤ (u *ℤ e -ℤ c *ℤ v) *ℤ b ≡ neg_ℤ v
+both_sides a b c e u v adjacent =
+    let one : v *ℤ pos 1 ≡ v = mul-one v in
+    let times : v *ℤ (c *ℤ b) ≡ v *ℤ (a *ℤ e) +ℤ v = ap (λ (t : ℤ). v *ℤ t) adjacent ∙ comm v (a *ℤ e +ℤ pos 1) ∙ dist (a *ℤ e) (pos 1) v ∙ ap (λ (t : ℤ). (a *ℤ e) *ℤ v +ℤ t) (comm (pos 1) v ∙ one) ∙ ap (λ (t : ℤ). t +ℤ v) (comm (a *ℤ e) v) in
+    let each = simp expand at times in
+    simp expand (omega (arith, linear))
+
+-- ---- the two neighbours
+
+-- a/b and c/e lie below and above n/d at the gaps g and h, with nothing between them up to the limit
+pub record AreBeside (n : ℤ) (d max : ℕ) (a : ℤ) (b g : ℕ) (c : ℤ) (e h : ℕ) : Type 0 where
+  pub from_below : n *ℤ pos b ≡ a *ℤ pos d +ℤ pos g
+  pub from_above : c *ℤ pos d ≡ n *ℤ pos e +ℤ pos h
+  pub adjacent : c *ℤ pos b ≡ a *ℤ pos e +ℤ pos 1
+  pub positive : (0 < d) × (0 < b) × (0 < e) × (0 < g) × (0 < h)
+  pub bounded : (b ≤ max) × (e ≤ max)
+  pub none_between : max < b + e
+
+-- a fraction whose denominator is v lies at or past a neighbour of the denominator b and the gap g, by i over both
+-- denominators; its own gap is z
+record LiesPast (d v g b z : ℕ) (i : ℤ) : Type 0 where
+  over : ℕ
+  is : i ≡ pos over
+  far : z * b ≡ g * v + d * over
+
+-- one of two is not below 0
+some_past : {i j b e v : ℤ} → pos 0 <ℤ b → pos 0 <ℤ e → v <ℤ (b +ℤ e) → i *ℤ e +ℤ j *ℤ b ≡ neg_ℤ v → i <ℤ pos 0 → pos 0 ≤ℤ j
+some_past {i} {j} {b} {e} {v} b_up e_up small sum left = by_lt_z j (pos 0)
+    (λ right.
+    let first = multiples_apart i (pos 0) e e_up left in
+    let second = multiples_apart j (pos 0) b b_up right in
+    let e_none : pos 0 *ℤ e ≡ pos 0 = omega (arith, products) in
+    let b_none : pos 0 *ℤ b ≡ pos 0 = omega (arith, products) in
+    absurd (omega (arith, linear)))
+    (λ fine. fine)
+
+natural_is : (i : ℤ) → pos 0 ≤ℤ i → i ≡ pos (unsigned_abs i)
+natural_is i up = omega (arith, sizes)
+
+past : (d v g b : ℕ) (z i : ℤ) → z *ℤ pos b ≡ pos g *ℤ pos v +ℤ pos d *ℤ i → pos 0 ≤ℤ i → LiesPast d v g b (unsigned_abs z) i
+past d v g b z i e up =
+    let is = natural_is i up in
+    record {
+      over = unsigned_abs i;
+      is = is;
+      far = sym (unsigned_abs-mul z (pos b)) ∙ ap unsigned_abs (rw is at e);
+    }
+
+turned : (x y : ℤ) → unsigned_abs (x -ℤ y) ≡ unsigned_abs (y -ℤ x)
+turned x y = omega (arith, sizes)
+
+natural_up : {m : ℕ} → 0 < m → pos 0 <ℤ pos m
+natural_up up = omega (arith, ints)
+
+natural_less : (v b e : ℕ) → v < b + e → pos v <ℤ (pos b +ℤ pos e)
+natural_less v b e less = omega (arith, ints)
+
+-- so it lies past one of them
+one_past : {n : ℤ} {d max : ℕ} {a : ℤ} {b g : ℕ} {c : ℤ} {e h : ℕ} (u : ℤ) (v : ℕ) → AreBeside n d max a b g c e h → 0 < v → v ≤ max
+    → LiesPast d v g b (unsigned_abs (n *ℤ pos v -ℤ u *ℤ pos d)) (a *ℤ pos v -ℤ u *ℤ pos b)
+    ⊎ LiesPast d v h e (unsigned_abs (n *ℤ pos v -ℤ u *ℤ pos d)) (u *ℤ pos e -ℤ c *ℤ pos v)
+one_past {n} {d} {max} {a} {b} {g} {c} {e} {h} u v beside up most =
+    let none = beside.none_between in
+    let below = past_below n (pos d) a (pos b) u (pos v) (pos g) beside.from_below in
+    let above = past_above n (pos d) c (pos e) u (pos v) (pos h) beside.from_above in
+    by_lt_z (a *ℤ pos v -ℤ u *ℤ pos b) (pos 0)
+    (λ under.
+    let over = some_past {i = a *ℤ pos v -ℤ u *ℤ pos b} {j = u *ℤ pos e -ℤ c *ℤ pos v} {b = pos b} {e = pos e} {v = pos v}
+    (natural_up beside.positive.1) (natural_up beside.positive.2) (natural_less v b e (omega arith)) (both_sides a (pos b) c (pos e) u (pos v) beside.adjacent) under in
+    inr (rw (turned (n *ℤ pos v) (u *ℤ pos d)) (past d v h e _ _ above over)))
+    (λ over. inl (past d v g b _ _ below over))
+
+-- ---- gaps
+
+product_zero : (d k : ℕ) → 0 < d → d * k ≡ 0 → k ≡ 0
+product_zero d zero up e = omega arith
+product_zero d (suc k) up e = let one : 1 ≤ suc k = omega arith in absurd (omega (arith, mul-le-mul_left d one))
+
+-- past the nearer neighbour
+near_side : {d v g b z : ℕ} {i : ℤ} → LiesPast d v g b z i → g * v ≤ z * b
+near_side p = omega (arith, p.far)
+
+near_tie : {d v g b z : ℕ} {i : ℤ} → 0 < d → LiesPast d v g b z i → g * v ≡ z * b → i ≡ pos 0
+near_tie {d} up p e = p.is ∙ ap pos (product_zero d p.over up (omega (arith, p.far)))
+
+-- past the other one, whose denominator is e and whose gap is h
+far_side : {d v h e z : ℕ} {j : ℤ} (g b : ℕ) → 0 < e → g * e ≤ h * b → LiesPast d v h e z j → g * v ≤ z * b
+far_side {d} {v} {h} {e} {z} g b up near p =
+    let times = ap (λ (t : ℕ). b * t) p.far in
+    let more = mul-le-mul_left v near in
+    le_of_mul-le-mul_left {m = g * v} {n = z * b} {k = e} (omega arith) up
+
+far_tie : {d v h e z : ℕ} {j : ℤ} (g b : ℕ) → 0 < d → 0 < b → 0 < v → g * e ≤ h * b → LiesPast d v h e z j → g * v ≡ z * b → (j ≡ pos 0) × (g * e ≡ h * b)
+far_tie {d} {v} {h} {e} {z} g b d_up b_up v_up near p tie =
+    let times = ap (λ (t : ℕ). b * t) p.far in
+    let more = mul-le-mul_left v near in
+    let same = ap (λ (t : ℕ). e * t) tie in
+    let none : b * (d * p.over) ≡ 0 = omega arith in
+    let level : h * b ≤ g * e = le_of_mul-le-mul_left {m = h * b} {n = g * e} {k = v} (omega arith) v_up in
+    (p.is ∙ ap pos (product_zero d p.over d_up (product_zero b (d * p.over) b_up none)), omega arith)
+
+-- ---- equal fractions
+
+-- where u/v is equal to a neighbour of the denominator b, v is at least b
+at_least : (j b v : ℤ) → pos 0 <ℤ b → pos 0 <ℤ v → j *ℤ b ≡ neg_ℤ v → b ≤ℤ v
+at_least j b v b_up up e = by_lt_z j (pos 0)
+    (λ under.
+    let apart = multiples_apart j (pos 0) b b_up under in
+    let none : pos 0 *ℤ b ≡ pos 0 = omega (arith, products) in
+    omega (arith, linear))
+    (λ over. let product = product_from_zero j b over (omega (arith, linear)) in absurd (omega (arith, linear)))
+
+level_below : (i j b e v : ℤ) → pos 0 <ℤ b → pos 0 <ℤ v → i *ℤ e +ℤ j *ℤ b ≡ neg_ℤ v → i ≡ pos 0 → b ≤ℤ v
+level_below i j b e v b_up up sum zero_i =
+    let none : i *ℤ e ≡ pos 0 = rw zero_i (omega (arith, products)) in
+    at_least j b v b_up up (omega (arith, linear))
+
+level_above : (i j b e v : ℤ) → pos 0 <ℤ e → pos 0 <ℤ v → i *ℤ e +ℤ j *ℤ b ≡ neg_ℤ v → j ≡ pos 0 → e ≤ℤ v
+level_above i j b e v e_up up sum zero_j =
+    let none : j *ℤ b ≡ pos 0 = rw zero_j (omega (arith, products)) in
+    at_least i e v e_up up (omega (arith, linear))
+
+-- over the same denominator the numerators are equal
+same_num : (a u b : ℤ) → pos 0 <ℤ b → a *ℤ b -ℤ u *ℤ b ≡ pos 0 → a ≡ u
+same_num a u b up e =
+    let same : a *ℤ b ≡ u *ℤ b = omega (arith, linear) in
+    cancel b a u (λ none. omega (arith, linear)) (comm b a ∙ same ∙ comm u b)
+
+-- of neighbours with one denominator the lower has the lower numerator
+lower_num : (a c b : ℤ) → pos 0 <ℤ b → c *ℤ b ≡ a *ℤ b +ℤ pos 1 → a ≤ℤ c
+lower_num a c b up e = by_lt_z c a
+    (λ less. let apart = multiples_apart c a b up less in absurd (omega (arith, linear)))
+    (λ fine. fine)
+
+-- ---- the nearest
+
+own_gap_below : (n a : ℤ) (d b g : ℕ) → n *ℤ pos b ≡ a *ℤ pos d +ℤ pos g → gap n (pos d) a (pos b) ≡ g
+own_gap_below n a d b g e =
+    let left : n *ℤ pos b -ℤ a *ℤ pos d ≡ pos g = omega (arith, linear) in
+    ap unsigned_abs left
+
+own_gap_above : (n c : ℤ) (d e h : ℕ) → c *ℤ pos d ≡ n *ℤ pos e +ℤ pos h → gap n (pos d) c (pos e) ≡ h
+own_gap_above n c d e h q =
+    let left : c *ℤ pos d -ℤ n *ℤ pos e ≡ pos h = omega (arith, linear) in
+    turned (n *ℤ pos e) (c *ℤ pos d) ∙ ap unsigned_abs left
+
+near_below : {n : ℤ} {d max : ℕ} {a : ℤ} {b g : ℕ} {c : ℤ} {e h : ℕ} (u : ℤ) (v : ℕ) → AreBeside n d max a b g c e h → g * e ≤ h * b → 0 < v → v ≤ max
+    → g * v ≤ gap n (pos d) u (pos v) * b
+near_below {n} {d} {max} {a} {b} {g} {c} {e} {h} u v beside near up most = elim (one_past u v beside up most) [
+  | inl p ↦ near_side p
+  | inr p ↦ far_side g b beside.positive.2 near p
+]
+
+near_above : {n : ℤ} {d max : ℕ} {a : ℤ} {b g : ℕ} {c : ℤ} {e h : ℕ} (u : ℤ) (v : ℕ) → AreBeside n d max a b g c e h → h * b ≤ g * e → 0 < v → v ≤ max
+    → h * v ≤ gap n (pos d) u (pos v) * e
+near_above {n} {d} {max} {a} {b} {g} {c} {e} {h} u v beside near up most = elim (one_past u v beside up most) [
+  | inl p ↦ far_side h e beside.positive.1 near p
+  | inr p ↦ near_side p
+]
+
+tie_below : {n : ℤ} {d max : ℕ} {a : ℤ} {b g : ℕ} {c : ℤ} {e h : ℕ} (u : ℤ) (v : ℕ) → AreBeside n d max a b g c e h → g * e ≤ h * b → (g * e ≡ h * b → b ≤ e) → 0 < v → v ≤ max
+    → g * v ≡ gap n (pos d) u (pos v) * b → (pos b ≤ℤ pos v) × (pos v ≡ pos b → a ≤ℤ u)
+tie_below {n} {d} {max} {a} {b} {g} {c} {e} {h} u v beside near smaller up most tie =
+    let b_up = natural_up beside.positive.1 in
+    let e_up = natural_up beside.positive.2 in
+    let v_up = natural_up up in
+    let sum = both_sides a (pos b) c (pos e) u (pos v) beside.adjacent in
+    elim (one_past u v beside up most) [
+      | inl p ↦
+          let level = near_tie beside.positive.0 p tie in
+          (level_below _ (u *ℤ pos e -ℤ c *ℤ pos v) (pos b) (pos e) (pos v) b_up v_up sum level, λ same. let own = rw same at level in let equal = same_num a u (pos b) b_up own in omega (arith, linear))
+      | inr p ↦
+          let level = far_tie g b beside.positive.0 beside.positive.1 up near p tie in
+          let least = level_above (a *ℤ pos v -ℤ u *ℤ pos b) _ (pos b) (pos e) (pos v) e_up v_up sum level.0 in
+          let less = smaller level.1 in
+          let low : pos b ≤ℤ pos e = omega (arith, ints) in (
+            omega (arith, linear),
+            λ same.
+                let one : pos e ≡ pos b = omega (arith, linear) in
+                let own = rw (same, one) at level.0 in
+                let equal = same_num u c (pos b) b_up own in
+                let order = lower_num a c (pos b) b_up (rw one at beside.adjacent) in
+                omega (arith, linear),
+          )
+    ]
+
+tie_above : {n : ℤ} {d max : ℕ} {a : ℤ} {b g : ℕ} {c : ℤ} {e h : ℕ} (u : ℤ) (v : ℕ) → AreBeside n d max a b g c e h → h * b ≤ g * e → (h * b ≡ g * e → e < b) → 0 < v → v ≤ max
+    → h * v ≡ gap n (pos d) u (pos v) * e → (pos e ≤ℤ pos v) × (pos v ≡ pos e → c ≤ℤ u)
+tie_above {n} {d} {max} {a} {b} {g} {c} {e} {h} u v beside near smaller up most tie =
+    let b_up = natural_up beside.positive.1 in
+    let e_up = natural_up beside.positive.2 in
+    let v_up = natural_up up in
+    let sum = both_sides a (pos b) c (pos e) u (pos v) beside.adjacent in
+    elim (one_past u v beside up most) [
+      | inl p ↦
+          let level = far_tie h e beside.positive.0 beside.positive.2 up near p tie in
+          let least = level_below _ (u *ℤ pos e -ℤ c *ℤ pos v) (pos b) (pos e) (pos v) b_up v_up sum level.0 in
+          let less = smaller level.1 in
+          let low : pos e <ℤ pos b = omega (arith, ints) in
+          (omega (arith, linear), λ same. absurd (omega (arith, linear)))
+      | inr p ↦
+          let level = near_tie beside.positive.0 p tie in
+          (level_above (a *ℤ pos v -ℤ u *ℤ pos b) _ (pos b) (pos e) (pos v) e_up v_up sum level, λ same. let own = rw same at level in let equal = same_num u c (pos e) e_up own in omega (arith, linear))
+    ]
+
+nearest_by : {n a : ℤ} {d max b g : ℕ} → 0 < b → b ≤ max → gap n (pos d) a (pos b) ≡ g
+    → ((u : ℤ) (v : ℕ) → 0 < v → v ≤ max → g * v ≤ gap n (pos d) u (pos v) * b)
+    → ((u : ℤ) (v : ℕ) → 0 < v → v ≤ max → g * v ≡ gap n (pos d) u (pos v) * b → (pos b ≤ℤ pos v) × (pos v ≡ pos b → a ≤ℤ u))
+    → IsNearestWithin n (pos d) (pos max) a (pos b)
+nearest_by {n} {a} {d} {max} {b} {g} up most own near tie = record {
+  positive = natural_up up;
+  bounded = omega (arith, ints);
+  nearest = λ u v v_up v_most.
+      let is = natural_is v (omega (arith, linear)) in
+      rw is (subst (λ (t : ℕ). t * unsigned_abs v ≤ gap n (pos d) u (pos (unsigned_abs v)) * b) (sym own) (near u (unsigned_abs v) (omega (arith, sizes)) (omega (arith, sizes))));
+  tie = λ u v v_up v_most.
+      let is = natural_is v (omega (arith, linear)) in
+      rw is (λ same. tie u (unsigned_abs v) (omega (arith, sizes)) (omega (arith, sizes)) (subst (λ (t : ℕ). t * unsigned_abs v ≡ gap n (pos d) u (pos (unsigned_abs v)) * b) own same));
+}
+
+pub nearest_below : {n : ℤ} {d max : ℕ} {a : ℤ} {b g : ℕ} {c : ℤ} {e h : ℕ} → AreBeside n d max a b g c e h → g * e ≤ h * b → (g * e ≡ h * b → b ≤ e)
+    → IsNearestWithin n (pos d) (pos max) a (pos b)
+nearest_below {n} {d} {max} {a} {b} {g} {c} {e} {h} beside near smaller = nearest_by beside.positive.1 beside.bounded.0 (own_gap_below n a d b g beside.from_below)
+    (λ u v up most. near_below u v beside near up most)
+    (λ u v up most same. tie_below u v beside near smaller up most same)
+
+pub nearest_above : {n : ℤ} {d max : ℕ} {a : ℤ} {b g : ℕ} {c : ℤ} {e h : ℕ} → AreBeside n d max a b g c e h → h * b ≤ g * e → (h * b ≡ g * e → e < b)
+    → IsNearestWithin n (pos d) (pos max) c (pos e)
+nearest_above {n} {d} {max} {a} {b} {g} {c} {e} {h} beside near smaller = nearest_by beside.positive.2 beside.bounded.1 (own_gap_above n c d e h beside.from_above)
+    (λ u v up most. near_above u v beside near up most)
+    (λ u v up most same. tie_above u v beside near smaller up most same)

@@ -1,0 +1,15 @@
+-- The nearest fraction of a small denominator.
+use Rattle.std.specs.Prelude.{◌≡◌, ◌≤◌, ◌*◌, ◌<ℤ◌, ◌≤ℤ◌, ◌-ℤ◌, ◌*ℤ◌, ℤ, ℕ, pos, unsigned_abs}
+
+-- the distance from n/d to a/b, times both denominators
+abbrev pub gap : ℤ → ℤ → ℤ → ℤ → ℕ
+gap n d a b = unsigned_abs (n *ℤ b -ℤ a *ℤ d)
+
+-- of the fractions with denominators from 1 to max num/den is the nearest to n/d, and of those that are as near the one of
+-- the smallest denominator, and of those of this denominator the lowest
+pub record IsNearestWithin (n d max num den : ℤ) : Type 0 where
+  pub positive : pos 0 <ℤ den
+  pub bounded : den ≤ℤ max
+  pub nearest : (u v : ℤ) → pos 0 <ℤ v → v ≤ℤ max → gap n d num den * unsigned_abs v ≤ gap n d u v * unsigned_abs den
+  pub tie : (u v : ℤ) → pos 0 <ℤ v → v ≤ℤ max → gap n d num den * unsigned_abs v ≡ gap n d u v * unsigned_abs den
+      → (den ≤ℤ v) × (v ≡ den → num ≤ℤ u)

@@ -1,0 +1,28 @@
+-- Two fractions beside a fraction, from 0 to 1, with denominators up to a limit.
+use Rattle.std.specs.Prelude.{◌≡◌, ◌⊎◌, ◌+◌, ◌*◌, ◌<◌, ◌≤◌, ℕ}
+use Rattle.ratio64.specs.declared.neighbours.Neighbour.{Neighbour}
+
+-- n/d lies between the two, at the gaps that they have; their cross products differ by 1
+pub record AreNeighbours (n d max : ℕ) (below above : Neighbour) : Type 0 where
+  pub from_below : n * below.den ≡ below.num * d + below.gap
+  pub from_above : above.num * d ≡ n * above.den + above.gap
+  pub adjacent : above.num * below.den ≡ below.num * above.den + 1
+  pub gaps : (0 < below.gap) × (0 < above.gap)
+  pub dens : (0 < below.den) × (0 < above.den)
+  pub nums : (below.num ≤ below.den) × (above.num ≤ above.den)
+  pub bounded : (below.den ≤ max) × (above.den ≤ max)
+
+-- the parts of the other are added to those of a side some times, and its gap falls
+pub record IsCloser (max : ℕ) (side other result : Neighbour) : Type 0 where
+  pub steps : ℕ
+  pub some : 0 < steps
+  pub num : result.num ≡ side.num + steps * other.num
+  pub den : result.den ≡ side.den + steps * other.den
+  pub gap : result.gap + steps * other.gap ≡ side.gap
+  pub apart : 0 < result.gap
+  pub bounded : result.den ≤ max
+
+-- one of the two, which is nearer; or equally near, and of the smaller denominator; or of the same one, and the lower
+pub record IsNearer (below above result : Neighbour) : Type 0 where
+  pub is : ((result ≡ below) × (below.gap * above.den ≤ above.gap * below.den) × (below.gap * above.den ≡ above.gap * below.den → below.den ≤ above.den))
+      ⊎ ((result ≡ above) × (above.gap * below.den ≤ below.gap * above.den) × (above.gap * below.den ≡ below.gap * above.den → above.den < below.den))

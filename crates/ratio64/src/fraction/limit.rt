@@ -1,0 +1,50 @@
+//! The nearest fraction of a bounded denominator.
+
+ghost use Rattle.std.specs.Int.{w64};
+ghost use Rattle.std.specs.Prelude.{◌≡◌, ◌^◌, ◌<◌, ◌<ℤ◌, ◌+ℤ◌, ◌*ℤ◌, pos, FitsSigned};
+ghost use Rattle.ratio64.specs.Limiting.{IsNearestWithin};
+ghost use Rattle.ratio64.specs.Ratio.{num_of, den_of};
+
+use crate::Ratio;
+use crate::neighbours::{Neighbour, nearer, neighbours};
+use crate::products::product;
+use num_integer::div_mod_floor;
+
+impl Ratio {
+    /// Returns the nearest fraction whose denominator is at most `max`. Of those that are equally near
+    /// it returns the one of the smallest denominator, and of two whole numbers the lower. 3/10
+    /// limited to 5 is 1/3, and 3/2 limited to 1 is 1/1.
+    ///
+    /// May be called where `max` is above 0.
+    pub fn limit_denominator(&self, max: i64) -> Ratio
+        requires { pos 0 <ℤ max }
+        ensures { IsNearestWithin (num_of self.now) (den_of self.now) max (num_of result)
+            (den_of result) }
+    {
+        if self.den <= max {
+            return *self;
+        }
+        let (whole, part) = div_mod_floor(self.num, self.den);
+        let (part, den, limit) = (
+            part.unsigned_abs(),
+            self.den.unsigned_abs(),
+            max.unsigned_abs(),
+        );
+        let (below, above) = neighbours(part, den, limit);
+        let nearest = nearer(below, above);
+        Ratio {
+            num: numerator(whole, nearest),
+            den: nearest.den as i64,
+        }
+    }
+}
+
+/// Returns the numerator of the sum of a whole number and a part, over the denominator of the part.
+fn numerator(whole: i64, part: Neighbour) -> i64
+    requires den { part.den < 2 ^ 63 }
+    requires fits { FitsSigned w64 (whole *ℤ pos part.den +ℤ pos part.num) }
+    ensures { result ≡ whole *ℤ pos part.den +ℤ pos part.num }
+{
+    let num = product(whole, part.den as i64) + i128::from(part.num);
+    num as i64
+}
