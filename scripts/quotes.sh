@@ -1,7 +1,7 @@
 #!/usr/bin/env bash
 # Compares the code on the pages with the files that the gate compiles or runs. Each block of Rust is in a .rt file, each
 # block of a proof in an .antt file, and each line of a block of crates in crates.txt. Indentation does not count, and a
-# comment `// and ..` in a block stands for lines that it leaves out. The command of README.md is the stored run. Prints
+# comment `// and ..` in a block replaces lines that the block leaves out. The command of README.md is the stored run. Prints
 # a line for each block, and a count at the end.
 set -euo pipefail
 cd "$(dirname "$0")/.."

@@ -116,7 +116,7 @@ impl Call {
 
     /// Whether the call is made. Left out are divisors 0 of `is_multiple_of` and `divides`, which
     /// the crate's version 0.1.44 refuses; negative counts, at which it gives some number; and
-    /// Bezout pairs of numbers that `i128` cannot tell.
+    /// Bezout pairs of numbers that `i128` does not have.
     fn is_asked(self, operands: &[Whole]) -> bool {
         match self {
             IsMultipleOf | Divides => operands[1].1 != 0,

@@ -48,7 +48,7 @@ pub struct Shape {
 
 impl Shape {
     /// The type of the numbers from minus `low` to `high`. The least number of `i128` is left out: where the
-    /// Rust crate refuses a call of it, no wider type tells the answer.
+    /// Rust crate refuses a call of it, no wider type has the answer.
     pub fn between(low: u128, high: u128) -> Shape {
         let bits = 128u32.wrapping_sub(high.leading_zeros());
         Shape {

@@ -175,7 +175,7 @@ fn print(name: &str, lines: &[String]) {
     println!("];");
 }
 
-/// What stands above the lines.
+/// The text above the lines.
 const HEAD: &str = "\
 //! What the Rust crate `num-integer` answered, as the program in `compare/` printed it.
 

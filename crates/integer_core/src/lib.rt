@@ -260,7 +260,7 @@ pub trait Integer: Copy + Num + PartialOrd + Ord + Eq {
     /// Returns [`Integer::extended_gcd`] and [`Integer::lcm`]. `10.extended_gcd_lcm(&4)` is gcd 2,
     /// x 1, y -2, and 20.
     ///
-    /// May be called where both may.
+    /// May be called where `Fits::gcd_fits` and `Fits::lcm_fits` are true.
     final fn extended_gcd_lcm(&self, other: &Self) -> (ExtendedGcd<Self>, Self)
     where
         Self: Signed,

@@ -1,5 +1,5 @@
-//! The tests of `num_integer`: worked values, each pair of one byte, the ends of each type, and lawful
-//! types that the library does not know.
+//! The tests of `num_integer`, and of `modular` at your own types: worked values, each pair of one byte,
+//! the ends of each type, and lawful types that the library does not know.
 #![tactic(auto)]
 
 #[cfg(test)]

@@ -52,7 +52,7 @@ pub fn item_at<T: Integer>(page: T, place: T, page_size: T) -> T
         → item ≡ T.value result }
 {
     if is_negative(page) {
-        // the product of the page itself may lie below the type
+        // The product of the page itself may be below the type.
         let next_page = product(successor(page), page_size);
         sum(next_page, difference(place, page_size))
     } else {

@@ -8,8 +8,8 @@ ghost use Rattle.uses.specs.Ranking.{IsBefore, IsChoice, IsChoiceOfRank, rank_of
 use crate::halving::midpoint;
 use num_integer::{Fits, binomial};
 
-/// Returns the rank of a choice of numbers below `n`, in increasing order, among all choices of as
-/// many: how many come before it. `rank(&[0, 2, 3], 5)` is `2`.
+/// Returns the rank of a choice of numbers below `n`, in increasing order, among all choices of the
+/// same length: the number of those before it. `rank(&[0, 2, 3], 5)` is `2`.
 ///
 /// May be called where the numbers increase and are below `n`, and the number of these choices fits a
 /// `u64`.

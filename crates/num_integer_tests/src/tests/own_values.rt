@@ -175,7 +175,7 @@ fn numbers_stored_negated(rt: HostRuntime) {
     check_at(&rt, Type::Marked, &HasItems(8, &items));
 }
 
-/// Two values of one number are equal, whatever stands beside it.
+/// Two values of one number are equal, whatever is stored next to it.
 #[test]
 fn numbers_beside_a_byte(rt: HostRuntime) {
     let (plain, marked) = (Marked::new(5), Marked::new(5).with_mark(9));

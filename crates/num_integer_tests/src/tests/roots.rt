@@ -322,7 +322,7 @@ impl RootCheck for HasBits {
     }
 }
 
-/// The roots of degree `n` of the least number, and of the next, where a sign stands beside `n` bits.
+/// The roots of degree `n` of the least number, and of the next, where a sign and `n` bits fill the type.
 #[derive(Drop)]
 struct HasSign(u32);
 
@@ -400,7 +400,7 @@ fn check_roots_beside_power(rt: &impl Abort, base: i128, n: u32) {
     }
 }
 
-/// The roots beside the powers of a number and of its two neighbors, of the degrees from 3 to 10.
+/// The roots beside the powers of a number and of its two neighbours, of the degrees from 3 to 10.
 fn check_roots_beside_powers(rt: &impl Abort, middle: i128) {
     for base in [middle.saturating_sub(1), middle, middle.saturating_add(1)] {
         for n in 3..=10 {
