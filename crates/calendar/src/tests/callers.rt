@@ -1,12 +1,16 @@
 //! What callers learn of the calls from their contracts and the laws, each said by a contract of its own.
 
-ghost use Rattle.std.specs.Prelude.{◌≡◌, ◌⊎◌, ◌↔◌, ◌<ℤ◌, pos, FitsSigned, IfSome, IsTrue, MatchOption, Some, if◌then◌else◌};
+ghost use Rattle.std.specs.Prelude.{◌≡◌, ◌⊎◌, ◌↔◌, ◌<ℤ◌, pos, FitsSigned, IfOk, IfSome, IsTrue, MatchOption, Ok, Some, if◌then◌else◌};
 ghost use Rattle.std.specs.Int.{w64};
+ghost use Rattle.std.specs.Option.{SomeIff};
 ghost use Rattle.num_integer.specs.Divisors.{Divides};
+ghost use Rattle.num_integer.specs.Only.{IsOnly};
 ghost use Rattle.calendar.specs.Dates.{number_of};
+ghost use Rattle.calendar.specs.Easter.{IsEaster};
 ghost use Rattle.calendar.specs.Years.{is_leap_year};
 
-use crate::{Date, days_between, is_leap_year};
+use crate::{Date, DateError, IsoWeek, Weekday, days_between, easter, is_leap_year};
+use std::alloc::{AllocError, Global};
 
 /// The date of the day of a date is the date.
 fn date_again(date: &Date) -> Option<Date>
@@ -70,4 +74,38 @@ fn week_date_again(date: &Date) -> Option<Date>
 {
     let week = date.iso_week()?;
     Date::from_iso_week(week.year, week.week, date.weekday())
+}
+
+/// The week of the date of a day of a week is the week.
+fn week_again(week: &IsoWeek, weekday: Weekday) -> Option<IsoWeek>
+    ensures { IfSome result (λ again. again ≡ week.now) }
+{
+    Date::from_iso_week(week.year, week.week, weekday)?.iso_week()
+}
+
+/// The days from 1970-01-01 to a date are the day of the date.
+fn days_from_first(date: &Date) -> Option<i64>
+    ensures { SomeIff result (FitsSigned w64 (number_of date.now)) (number_of date.now) }
+{
+    let first = Date {
+        year: 1970,
+        month: 1,
+        day_of_month: 1,
+    };
+    days_between(&first, date)
+}
+
+/// The date of Easter is the only one.
+fn only_easter(year: i64) -> Date
+    ensures { IsOnly (IsEaster year) (number_of result) }
+{
+    easter(year)
+}
+
+/// What is read of the text of a date is the date.
+fn read_back(alloc: Global, date: Date) -> Result<Result<Date, DateError>, AllocError>
+    ensures { IfOk result (λ read. read ≡ Ok date) }
+{
+    let text = date.to_string(alloc)?;
+    Ok(text.as_str().parse())
 }
