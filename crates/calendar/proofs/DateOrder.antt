@@ -93,15 +93,16 @@ IsDate-prop year month day x y =
       day_to_last = to_last x.day_to_last y.day_to_last i;
     }
 
+pub of_parts : (a b : Date) → a.year ≡ b.year → a.month ≡ b.month → a.day_of_month ≡ b.day_of_month → a ≡ b
+of_parts a b year month day = λ i. record {
+  year = year i;
+  month = month i;
+  day_of_month = day i;
+  valid = is_prop→PathP (λ i. IsDate (year i) (month i) (day i)) (λ i. IsDate-prop (year i) (month i) (day i)) a.valid b.valid i;
+}
+
 pub only_date : (a b : Date) → number_of a ≡ number_of b → a ≡ b
-only_date a b equal =
-    let (year, month, day) = same_parts a b equal in
-    λ i. record {
-      year = year i;
-      month = month i;
-      day_of_month = day i;
-      valid = is_prop→PathP (λ i. IsDate (year i) (month i) (day i)) (λ i. IsDate-prop (year i) (month i) (day i)) a.valid b.valid i;
-    }
+only_date a b equal = let (year, month, day) = same_parts a b equal in of_parts a b year month day
 
 -- the order of dates is that of their numbers
 pub order : (a b : Date) → IsEarlier a b ↔ (number_of a <ℤ number_of b)

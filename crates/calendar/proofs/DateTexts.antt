@@ -1,5 +1,6 @@
 -- Dates as they are written, and as they are read.
-use Rattle.std.specs.Prelude.{cond, ◌≡◌, ◌⊎◌, ◌+◌, ◌-◌, ◌*◌, ◌/◌, ◌%◌, ◌<◌, ◌≤◌, ◌++◌, ◌≤ℤ◌, ◌<ℤ◌, ℕ, suc, ℤ, pos, negsuc, List, [], ◌∷◌, drop, take, length, get_or, Bool, true, false, Option, Some, None, MatchOption}
+use Rattle.std.specs.Prelude.{cond, ◌≡◌, ◌⊎◌, ◌+◌, ◌-◌, ◌*◌, ◌/◌, ◌%◌, ◌<◌, ◌≤◌, ◌++◌, ◌≤ℤ◌, ◌<ℤ◌, ℕ, suc, ℤ, pos, negsuc, List, [], ◌∷◌, drop, take, length, get_or, Bool, true, false, Option, Some, None, FitsSigned, MatchOption}
+use Rattle.std.specs.Int.{w64}
 use Rattle.std.specs.Fmt.{char_count, decimal, format_spec, padded_integral, styled_signed_decimal}
 use Rattle.std.specs.List.{All}
 use Rattle.std.specs.Str.{IsCharBoundary}
@@ -13,9 +14,9 @@ use Rattle.calendar.specs.Dates.{HasParts}
 use Rattle.calendar.specs.declared.date.Date.{Date}
 use Rattle.calendar.specs.Text.{padded, text_of, with_number, year_text}
 use Rattle.calendar.specs.Years.{IsDate, is_leap_year, month_lengths, months_of}
-use Rattle.calendar.proofs.DateOrder.{only_date}
+use Rattle.calendar.proofs.DateOrder.{of_parts}
 use Rattle.calendar.proofs.PaddedNumbers.{two_places}
-use Rattle.calendar.proofs.YearTexts.{above, before, below}
+use Rattle.calendar.proofs.YearTexts.{above, before, below, only_year}
 
 -- ---- a number at the end
 
@@ -71,11 +72,20 @@ small_parts date = (
   omega (arith, date.valid.day_to_last, All-get_or (λ days. days ≤ 31) (months_of date.year) (date.month - 1) 0 (omega (arith, date.valid.month_to_twelve)) (short_months (is_leap_year date.year))),
 )
 
+-- each text is that of one date at most
+pub only_text : (a b : Date) → FitsSigned w64 a.year → FitsSigned w64 b.year → text_of a ≡ text_of b → a ≡ b
+only_text a b a_fits b_fits e =
+    let (a_month, a_day) = small_parts a in
+    let (b_month, b_day) = small_parts b in
+    let (front, day) = only_number (text_of a) _ _ _ _ a_day b_day refl e in
+    let (year, month) = only_number (with_number (year_text a.year) a.month) _ _ _ _ a_month b_month refl front in
+    of_parts a b (only_year a.year b.year a_fits b_fits year) month day
+
 -- ---- what `Date::new` answers
 
 pub made_date : (o : Option Date) (date : Date) {year : ℤ} {month day : ℕ} → MatchOption o (¬ (IsDate year month day)) (λ made. HasParts made year month day) → year ≡ date.year → month ≡ date.month → day ≡ date.day_of_month → o ≡ Some date
 made_date None date h year month day = absurd (h (rw (year, month, day) date.valid))
-made_date (Some x) date h year month day = ap (λ (d : Date). Some d) (only_date x date (rw (h.year_is ∙ year, h.month_is ∙ month, h.day_is ∙ day) refl))
+made_date (Some x) date h year month day = ap (λ (d : Date). Some d) (of_parts x date (h.year_is ∙ year) (h.month_is ∙ month) (h.day_is ∙ day))
 
 -- ---- printing
 

@@ -1,15 +1,17 @@
 -- The date of Easter.
-use Rattle.std.specs.Prelude.{◌≡◌, ◌+◌, ◌-◌, ◌<◌, ◌≤ℤ◌, ◌+ℤ◌, ◌-ℤ◌, ◌*ℤ◌, ℕ, ℤ, pos, unsigned_abs}
-use Rattle.std.proofs.Common.{◌∙◌, ap, arith, sym}
-use Rattle.std.proofs.lemmas.Int.{ints}
-use Rattle.num_integer.proofs.ForCallers.{floored_by_range, floored_remainder_range, linear, only_floored}
+use Rattle.std.specs.Prelude.{◌≡◌, ◌⊎◌, ◌+◌, ◌-◌, ◌*◌, ◌/◌, ◌%◌, ◌<◌, ◌≤◌, ◌≤ℤ◌, ◌+ℤ◌, ◌-ℤ◌, ◌*ℤ◌, ℕ, ℤ, pos, unsigned_abs}
+use Rattle.std.proofs.Common.{◌∙◌, ap, arith, inl, inr, refl, sym}
+use Rattle.std.proofs.lemmas.Int.{by_lt_z, ints}
+use Rattle.num_integer.proofs.ForCallers.{floored_by_range, floored_quotient_range, floored_remainder_range, linear, only_floored}
 use Rattle.num_integer.specs.Division.{IsFloored, IsQuotient, IsRemainder}
+use Rattle.num_integer.specs.Divisors.{Divides}
 use Rattle.calendar.specs.Easter.{IsEaster, IsEpact, IsLunarCorrection, IsPaschalFullMoon, IsSolarCorrection}
 use Rattle.calendar.specs.Weekday.{weekday_number}
 use Rattle.calendar.specs.Weeks.{HasWeekday, IsFirstWeekday}
 use Rattle.calendar.specs.Years.{day_number}
 use Rattle.calendar.specs.declared.weekday.Weekday.{Weekday}
 use Rattle.calendar.specs.declared.weekday.Weekday.TheVariants.{Sunday}
+use Rattle.calendar.proofs.WeekdayPlaces.{only_first}
 
 -- no Sunday lies between a day and the next Sunday
 sunday_after : (day other q p : ℤ) (n days : ℕ) → n < 7 → days ≡ 7 - n → day +ℤ pos 4 ≡ q *ℤ pos 7 +ℤ pos n → other +ℤ pos 4 ≡ p *ℤ pos 7 +ℤ pos 0 → (day +ℤ pos 1) ≤ℤ other → (day +ℤ pos days) ≤ℤ other
@@ -67,7 +69,58 @@ only_full_moon h k =
     day ∙ sym k.day_is
 
 pub only_easter : (year a b : ℤ) → IsEaster year a → IsEaster year b → a ≡ b
-only_easter year a b h k =
-    let first = rw (only_full_moon h.full_moon_is k.full_moon_is) at h.sunday_is in
-    let second = k.sunday_is in
-    omega (arith, linear, first.first b second.from_there second.has_weekday, second.first a first.from_there first.has_weekday)
+only_easter year a b h k = only_first _ _ a b (rw (only_full_moon h.full_moon_is k.full_moon_is) at h.sunday_is) k.sunday_is
+
+-- ---- the tables
+
+floored : {n q : ℤ} (d : ℕ) (r : ℕ) → n ≡ q *ℤ pos d +ℤ pos r → r < d → IsFloored n (pos d) q (pos r)
+floored d r equation below = floored_by_range equation (omega (arith, ints)) (omega (arith, ints))
+
+pub next_epact : (century : ℤ) (golden epact : ℕ) → IsEpact century golden epact → IsEpact century (golden + 1) ((epact + 11) % 30)
+next_epact century golden epact h =
+    let own = h.epact_is.division.division.equation in
+    let place : epact + 11 ≡ (epact + 11) / 30 * 30 + (epact + 11) % 30 = omega arith in
+    record {
+      solar = h.solar;
+      lunar = h.lunar;
+      solar_is = h.solar_is;
+      lunar_is = h.lunar_is;
+      epact_is = record { quotient = h.epact_is.quotient +ℤ pos ((epact + 11) / 30); division = floored 30 ((epact + 11) % 30) (omega (arith, ints)) (omega arith) };
+    }
+
+pub next_solar : (century days : ℤ) → IsSolarCorrection century days
+    → (Divides (pos 4) (century +ℤ pos 1) → IsSolarCorrection (century +ℤ pos 1) days)
+    × ((¬ (Divides (pos 4) (century +ℤ pos 1))) → IsSolarCorrection (century +ℤ pos 1) (days +ℤ pos 1))
+next_solar century days h =
+    let own = h.leap_centuries_is.division.division.equation in
+    let range = floored_quotient_range h.leap_centuries_is in
+    let is = h.days_is in (
+      λ leap.
+          let product = leap.product in
+          record { leap_centuries = leap.factor; leap_centuries_is = record { remainder = pos 0; division = floored 4 0 (omega (arith, ints)) (omega arith) }; days_is = omega (arith, ints) },
+      λ common. by_lt_z (century +ℤ pos 1) (h.leap_centuries *ℤ pos 4 +ℤ pos 4)
+          (λ less. record { leap_centuries = h.leap_centuries; leap_centuries_is = record { remainder = h.leap_centuries_is.remainder +ℤ pos 1; division = floored_by_range (omega (arith, ints)) (omega (arith, ints)) (omega (arith, ints)) }; days_is = omega (arith, ints) })
+          (λ more. absurd (common (record { factor = h.leap_centuries +ℤ pos 1; product = omega (arith, ints) }))),
+    )
+
+pub later_lunar : (century days : ℤ) → IsLunarCorrection century days → IsLunarCorrection (century +ℤ pos 25) (days +ℤ pos 8)
+later_lunar century days h =
+    let own = h.division.division.equation in
+    let range = floored_remainder_range {n = pos 8 *ℤ century +ℤ pos 13} {d = pos 25} {r = h.remainder} (omega (arith, ints)) (record { quotient = days; division = h.division }) in
+    record { remainder = h.remainder; division = floored_by_range (omega (arith, ints)) range.0 range.1 }
+
+pub lunar_from_1800 : (step place : ℕ) → step ≤ 7 → (place < 3) ⊎ ((step ≡ 7) × (place ≡ 3)) → IsLunarCorrection (pos (18 + 3 * step + place)) (pos (6 + step))
+lunar_from_1800 step place to (inl within) = record { remainder = pos (7 + 8 * place - step); division = floored 25 (7 + 8 * place - step) (omega (arith, ints)) (omega arith) }
+lunar_from_1800 step place to (inr last) = record { remainder = pos (7 + 8 * place - step); division = floored 25 (7 + 8 * place - step) (omega (arith, ints, last.0, last.1)) (omega (arith, last.0, last.1)) }
+
+pub first_epact : IsEpact (pos 15) 0 1 × IsEpact (pos 16) 0 1
+first_epact = (early (pos 15) (pos 3) 3 8 refl (omega arith) refl refl (omega arith), early (pos 16) (pos 4) 0 16 refl (omega arith) refl refl (omega arith))
+  where
+    early : (century leap : ℤ) (rest moon : ℕ) → century ≡ leap *ℤ pos 4 +ℤ pos rest → rest < 4 → pos 12 ≡ century -ℤ leap → pos 8 *ℤ century +ℤ pos 13 ≡ pos 5 *ℤ pos 25 +ℤ pos moon → moon < 25 → IsEpact century 0 1
+    early century leap rest moon place small twelve gain moon_small = record {
+      solar = pos 12;
+      lunar = pos 5;
+      solar_is = record { leap_centuries = leap; leap_centuries_is = record { remainder = pos rest; division = floored 4 rest place small }; days_is = twelve };
+      lunar_is = record { remainder = pos moon; division = floored 25 moon gain moon_small };
+      epact_is = record { quotient = pos 0; division = floored 30 1 refl (omega arith) };
+    }

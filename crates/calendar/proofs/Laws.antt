@@ -3,11 +3,14 @@ use Rattle.std.proofs.Common.{arith}
 use Rattle.std.proofs.lemmas.Bool.Decides.{nat_tests}
 use Rattle.std.proofs.lemmas.Int.{ints}
 use Rattle.num_integer.proofs.ForCallers.{divides_by_magnitude}
-use Rattle.calendar.specs.Laws.{DateIsOnly, EasterIsOnly, FirstDay, IsoDayIsOnly, IsoWeekIsOnly, LeapYearsByDivisors, LengthsOfYears, OrderOfDates, YearsFollow}
+use Rattle.calendar.specs.Laws.{DateIsOnly, EasterIsOnly, EpactOfTheFirstYear, EpactOfTheNextYear, FirstDay, FirstWeekdayIsOnly, IsoDayIsOnly, IsoWeekIsOnly, LeapYearsByDivisors, LengthsOfYears, LunarCorrectionOfTwentyFiveCenturies, LunarCorrectionsFrom1800, MonthsAfterIsOnly, NthWeekdayIsOnly, OrderOfDates, SolarCorrectionOfTheNextCentury, TextIsOnly, WeekdayIsOnly, YearsFollow}
 use Rattle.calendar.specs.Years.{days_in_year, is_leap_year, is_multiple}
 use Rattle.calendar.proofs.DateOrder as order
+use Rattle.calendar.proofs.DateTexts as texts
 use Rattle.calendar.proofs.EasterSundays as easters
 use Rattle.calendar.proofs.IsoWeeks as weeks
+use Rattle.calendar.proofs.MonthWeekdays as months
+use Rattle.calendar.proofs.WeekdayPlaces as places
 use Rattle.calendar.proofs.YearLengths as lengths
 
 -- ---- years
@@ -38,7 +41,24 @@ date_is_only = order.only_date
 pub order_of_dates : OrderOfDates
 order_of_dates = order.order
 
+pub text_is_only : TextIsOnly
+text_is_only = texts.only_text
+
+-- ---- months
+
+pub months_after_is_only : MonthsAfterIsOnly
+months_after_is_only = months.only_months_after
+
+pub nth_weekday_is_only : NthWeekdayIsOnly
+nth_weekday_is_only = months.only_nth_weekday
+
 -- ---- weeks
+
+pub weekday_is_only : WeekdayIsOnly
+weekday_is_only = places.only_weekday
+
+pub first_weekday_is_only : FirstWeekdayIsOnly
+first_weekday_is_only = places.only_first
 
 pub iso_week_is_only : IsoWeekIsOnly
 iso_week_is_only = λ day y z v w h k. weeks.one_week h k
@@ -50,3 +70,18 @@ iso_day_is_only = λ a b year week weekday h k. weeks.one_day weekday h k
 
 pub easter_is_only : EasterIsOnly
 easter_is_only = easters.only_easter
+
+pub epact_of_the_first_year : EpactOfTheFirstYear
+epact_of_the_first_year = easters.first_epact
+
+pub epact_of_the_next_year : EpactOfTheNextYear
+epact_of_the_next_year = easters.next_epact
+
+pub solar_correction_of_the_next_century : SolarCorrectionOfTheNextCentury
+solar_correction_of_the_next_century = easters.next_solar
+
+pub lunar_corrections_from_1800 : LunarCorrectionsFrom1800
+lunar_corrections_from_1800 = easters.lunar_from_1800
+
+pub lunar_correction_of_twenty_five_centuries : LunarCorrectionOfTwentyFiveCenturies
+lunar_correction_of_twenty_five_centuries = easters.later_lunar

@@ -1,15 +1,16 @@
 -- The days of a month that have a given day of the week.
 use Rattle.std.specs.Prelude.{◌≡◌, ◌+◌, ◌-◌, ◌*◌, ◌<◌, ◌≤◌, ◌<ℤ◌, ◌+ℤ◌, ◌-ℤ◌, ◌*ℤ◌, ℕ, ℤ, pos, negsuc, MatchOption, Option, Some, None}
-use Rattle.std.proofs.Common.{arith, refl}
+use Rattle.std.proofs.Common.{◌∙◌, arith, refl, sym}
 use Rattle.std.proofs.lemmas.Int.{by_lt_z, ints}
 use Rattle.num_integer.proofs.ForCallers.{floored_by_range, floored_remainder_range}
 use Rattle.num_integer.specs.Division.{IsFloored, IsRemainder}
 use Rattle.calendar.specs.declared.date.Date.{Date}
 use Rattle.calendar.specs.declared.weekday.Weekday.{Weekday}
 use Rattle.calendar.specs.Dates.{HasParts, number_of}
-use Rattle.calendar.specs.Months.{IsNthWeekday}
+use Rattle.calendar.specs.Months.{IsMonthsAfter, IsNthWeekday}
 use Rattle.calendar.specs.Weeks.{HasWeekday, IsFirstWeekday}
 use Rattle.calendar.specs.Years.{IsDate}
+use Rattle.calendar.proofs.DateOrder.{of_parts, only_date}
 
 -- days some weeks apart have the same day of the week
 weeks_apart : {day other : ℤ} {weekday : Weekday} (weeks : ℤ) → other ≡ day +ℤ pos 7 *ℤ weeks → HasWeekday day weekday → HasWeekday other weekday
@@ -60,3 +61,18 @@ nth_weekday (Some date) {n = n} first parts h small from place found =
       after_weeks = omega arith;
       within_weeks = omega arith;
     }
+
+-- which is only one
+pub only_nth_weekday : (year : ℤ) (month : ℕ) (weekday : Weekday) (n : ℕ) (a b : Date) → IsNthWeekday year month weekday n a → IsNthWeekday year month weekday n b → a ≡ b
+only_nth_weekday year month weekday n a b h k =
+    let apart = in_month a b (record { year_is = h.year_is; month_is = h.month_is; day_is = refl }) (record { year_is = k.year_is; month_is = k.month_is; day_is = refl }) in
+    only_date a b (one_in_week h.has_weekday k.has_weekday (omega (arith, ints, h.within_weeks, k.after_weeks)) (omega (arith, ints, k.within_weeks, h.after_weeks)))
+
+-- ---- dates some months apart
+
+pub only_months_after : (from : Date) (months : ℤ) (a b : Date) → IsMonthsAfter from months a → IsMonthsAfter from months b → a ≡ b
+only_months_after from months a b h k =
+    let year : a.year ≡ b.year = omega (arith, ints, h.month_is, k.month_is, a.valid.month_from_one, a.valid.month_to_twelve, b.valid.month_from_one, b.valid.month_to_twelve) in
+    let month : a.month ≡ b.month = omega (arith, ints, h.month_is, k.month_is, year) in
+    let day = rw (year, month) at h.day_is in
+    of_parts a b year month (day ∙ sym k.day_is)

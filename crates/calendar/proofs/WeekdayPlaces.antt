@@ -1,14 +1,15 @@
 -- The first day from another on that has a given day of the week.
-use Rattle.std.specs.Prelude.{◌≡◌, ◌+◌, ◌-◌, ◌*◌, ◌/◌, ◌%◌, ◌<◌, ◌≤ℤ◌, ◌+ℤ◌, ◌-ℤ◌, ◌*ℤ◌, ℕ, ℤ, pos, FitsSigned, MatchOption, Option, Some, None}
+use Rattle.std.specs.Prelude.{◌≡◌, ◌+◌, ◌-◌, ◌*◌, ◌/◌, ◌%◌, ◌<◌, ◌≤ℤ◌, ◌+ℤ◌, ◌-ℤ◌, ◌*ℤ◌, ℕ, ℤ, pos, unsigned_abs, FitsSigned, List, [], ◌∷◌, get_or, MatchOption, Option, Some, None}
 use Rattle.std.specs.Int.{w64}
 use Rattle.std.specs.Option.{SomeIff}
-use Rattle.std.proofs.Common.{arith, subst, sym}
+use Rattle.std.proofs.Common.{◌∙◌, ap, arith, refl, subst, sym}
 use Rattle.std.proofs.lemmas.Int.{ints}
-use Rattle.num_integer.proofs.ForCallers.{floored_by_range, floored_remainder_range, linear}
+use Rattle.num_integer.proofs.ForCallers.{floored_by_range, floored_remainder_range, linear, only_floored}
 use Rattle.num_integer.specs.Division.{IsFloored, IsRemainder}
 use Rattle.calendar.specs.declared.weekday.Weekday.{Weekday}
+use Rattle.calendar.specs.declared.weekday.Weekday.TheVariants.{Sunday, Monday, Tuesday, Wednesday, Thursday, Friday, Saturday}
 use Rattle.calendar.specs.Weekday.{weekday_number}
-use Rattle.calendar.specs.Weeks.{IsFirstWeekday}
+use Rattle.calendar.specs.Weeks.{HasWeekday, IsFirstWeekday}
 
 -- the remainder of a sum is that of the sum with the remainder
 pub remainder_of_sum : {n r s : ℤ} (k : ℤ) → IsRemainder IsFloored n (pos 7) r → IsRemainder IsFloored (r +ℤ k) (pos 7) s → IsRemainder IsFloored (n +ℤ k) (pos 7) s
@@ -38,10 +39,31 @@ first_weekday day weekday {r} {t} {w} h r_small is t_small rest =
           not_between day other (day +ℤ pos w) (h.quotient +ℤ pos 1 -ℤ pos ((t + 7 - r) / 7)) k.remainder.quotient t w w_small (omega (arith, ints)) own same after;
     }
 
--- which is only one, so that where it does not fit none does
+-- which is only one
+pub only_first : (from : ℤ) (weekday : Weekday) (a b : ℤ) → IsFirstWeekday from weekday a → IsFirstWeekday from weekday b → a ≡ b
+only_first from weekday a b h k = omega (arith, linear, h.first b k.from_there k.has_weekday, k.first a h.from_there h.has_weekday)
+
+-- so that where it does not fit none does
 pub first_or_beyond : (o : Option ℤ) (day : ℤ) (weekday : Weekday) (found : ℤ) → SomeIff o (FitsSigned w64 found) found → IsFirstWeekday day weekday found
     → MatchOption o ((first : ℤ) → IsFirstWeekday day weekday first → ¬ (FitsSigned w64 first)) (λ first. IsFirstWeekday day weekday first)
-first_or_beyond None day weekday found beyond h = λ first k fits.
-    let same : first ≡ found = omega (arith, linear, h.first first k.from_there k.has_weekday, k.first found h.from_there h.has_weekday) in
-    beyond (subst (λ (x : ℤ). FitsSigned w64 x) same fits)
+first_or_beyond None day weekday found beyond h = λ first k fits. beyond (subst (λ (x : ℤ). FitsSigned w64 x) (only_first day weekday first found k h) fits)
 first_or_beyond (Some x) day weekday found fits h = subst (λ (z : ℤ). IsFirstWeekday day weekday z) (sym fits.1) h
+
+-- ---- one day of the week
+
+abbrev weekdays : List Weekday
+weekdays = Sunday ∷ Monday ∷ Tuesday ∷ Wednesday ∷ Thursday ∷ Friday ∷ Saturday ∷ []
+
+named : (weekday : Weekday) → get_or weekdays (weekday_number weekday) Sunday ≡ weekday
+named Sunday = refl
+named Monday = refl
+named Tuesday = refl
+named Wednesday = refl
+named Thursday = refl
+named Friday = refl
+named Saturday = refl
+
+pub only_weekday : (day : ℤ) (a b : Weekday) → HasWeekday day a → HasWeekday day b → a ≡ b
+only_weekday day a b h k =
+    let same = ap unsigned_abs (only_floored h.remainder.division k.remainder.division).1 in
+    sym (named a) ∙ ap (λ (n : ℕ). get_or weekdays n Sunday) same ∙ named b

@@ -2,12 +2,13 @@
 use Rattle.std.specs.Prelude.{◌≡◌, ◌≢◌, ◌↔◌, ◌-◌, ◌^◌, ◌<◌, ◌≤◌, ℕ, zero, suc, ℤ, pos, negsuc, neg_ℤ, unsigned_abs, List, ◌∷◌, get_or, FitsSigned, Option, Some, None}
 use Rattle.std.specs.Int.{w64}
 use Rattle.std.specs.Option.{option_map}
+use Rattle.std.specs.Str.Parse.{digits_value}
 use Rattle.std.proofs.Common.{arith, ap, inl, inr, refl, sym, ◌∙◌}
 use Rattle.std.proofs.lemmas.Bool.{cases_lt}
 use Rattle.std.proofs.lemmas.Bool.Decides.{nat_tests}
 use Rattle.std.proofs.lemmas.Int.{ints}
 use Rattle.calendar.specs.Text.{padded, year_text}
-use Rattle.calendar.proofs.PaddedNumbers.{padded_shortest}
+use Rattle.calendar.proofs.PaddedNumbers.{padded_shortest, padded_value}
 
 pub below : (n : ℕ) → n < 10000 → year_text (pos n) ≡ padded 4 n
 unfolding year_text
@@ -67,6 +68,25 @@ plain_form text no_minus no_plus = record { tells = told; writes = λ n low smal
       | inr large ↦ absurd (no_plus (padded 4 n) (e ∙ above n large))
     ]
     told (negsuc n) fits e = absurd (no_minus (padded 4 (suc n)) (e ∙ before n))
+
+-- two years of one text are the same
+same_years : {value : ℕ → ℤ} {least most : ℕ} {ds : List ℕ} (x y : ℤ) → FitsSigned w64 x → FitsSigned w64 y → HasForm value least most ds (year_text x) → year_text x ≡ year_text y → x ≡ y
+same_years {value} x y x_fits y_fits form e =
+    let own = form.tells x x_fits refl in
+    let other = form.tells y y_fits e in
+    let digits = ap (digits_value 10) (sym own.3 ∙ other.3) in
+    let size = sym (padded_value 4 (unsigned_abs x) (omega (arith, ints))) ∙ digits ∙ padded_value 4 (unsigned_abs y) (omega (arith, ints)) in
+    sym own.0 ∙ ap value size ∙ other.0
+
+pub only_year : (x y : ℤ) → FitsSigned w64 x → FitsSigned w64 y → year_text x ≡ year_text y → x ≡ y
+only_year (pos n) y x_fits y_fits e = elim (cases_lt n 10000) [
+  | inl small ↦
+      let plain = below n small in
+      let form = plain_form (year_text (pos n)) (λ rest f. no_sign n 45 rest small (omega arith) (sym f ∙ plain)) (λ rest f. no_sign n 43 rest small (omega arith) (sym f ∙ plain)) in
+      same_years (pos n) y x_fits y_fits form e
+  | inr large ↦ same_years (pos n) y x_fits y_fits (plus_form (padded 4 n) (year_text (pos n)) (above n large)) e
+]
+only_year (negsuc n) y x_fits y_fits e = same_years (negsuc n) y x_fits y_fits (minus_form (padded 4 (suc n)) (year_text (negsuc n)) (before n)) e
 
 -- the year that is read of a text of the form
 pub year_read : (value : ℕ → ℤ) (least most : ℕ) (ds text : List ℕ) (o : Option ℕ) → HasForm value least most ds text → ((n : ℕ) → (o ≡ Some n) ↔ ((least ≤ n) × (n ≤ most) × (ds ≡ padded 4 n)))

@@ -1,9 +1,13 @@
 -- The laws of the calendar. Each is proved in proofs/Laws.antt, by a lemma of its name in small letters.
-use Rattle.std.specs.Prelude.{◌≡◌, ◌⊎◌, ◌↔◌, ◌<ℤ◌, ◌+ℤ◌, ℕ, ℤ, pos, IsTrue, if◌then◌else◌}
+use Rattle.std.specs.Prelude.{◌≡◌, ◌⊎◌, ◌↔◌, ◌<◌, ◌≤◌, ◌+◌, ◌*◌, ◌%◌, ◌<ℤ◌, ◌+ℤ◌, ℕ, ℤ, pos, FitsSigned, IsTrue, if◌then◌else◌}
+use Rattle.std.specs.Int.{w64}
 use Rattle.num_integer.specs.Divisors.{Divides}
 use Rattle.calendar.specs.Dates.{IsEarlier, number_of}
-use Rattle.calendar.specs.Easter.{IsEaster}
+use Rattle.calendar.specs.Easter.{IsEaster, IsEpact, IsLunarCorrection, IsSolarCorrection}
 use Rattle.calendar.specs.IsoWeeks.{IsDayOfIsoWeek, IsInIsoWeek}
+use Rattle.calendar.specs.Months.{IsMonthsAfter, IsNthWeekday}
+use Rattle.calendar.specs.Text.{text_of}
+use Rattle.calendar.specs.Weeks.{HasWeekday, IsFirstWeekday}
 use Rattle.calendar.specs.Years.{day_number, days_in_year, first_day, is_leap_year}
 use Rattle.calendar.specs.declared.date.Date.{Date}
 use Rattle.calendar.specs.declared.weekday.Weekday.{Weekday}
@@ -36,7 +40,29 @@ DateIsOnly = (a b : Date) → number_of a ≡ number_of b → a ≡ b
 abbrev pub OrderOfDates : Type 0
 OrderOfDates = (a b : Date) → IsEarlier a b ↔ (number_of a <ℤ number_of b)
 
+-- each text is that of one date at most
+abbrev pub TextIsOnly : Type 0
+TextIsOnly = (a b : Date) → FitsSigned w64 a.year → FitsSigned w64 b.year → text_of a ≡ text_of b → a ≡ b
+
+-- ---- months
+
+-- one date at most lies so many months after another
+abbrev pub MonthsAfterIsOnly : Type 0
+MonthsAfterIsOnly = (from : Date) (months : ℤ) (a b : Date) → IsMonthsAfter from months a → IsMonthsAfter from months b → a ≡ b
+
+-- each month has one n-th day at most of each day of the week
+abbrev pub NthWeekdayIsOnly : Type 0
+NthWeekdayIsOnly = (year : ℤ) (month : ℕ) (weekday : Weekday) (n : ℕ) (a b : Date) → IsNthWeekday year month weekday n a → IsNthWeekday year month weekday n b → a ≡ b
+
 -- ---- weeks
+
+-- each day has one day of the week at most
+abbrev pub WeekdayIsOnly : Type 0
+WeekdayIsOnly = (day : ℤ) (a b : Weekday) → HasWeekday day a → HasWeekday day b → a ≡ b
+
+-- from each day on, one day at most is the first that has a day of the week
+abbrev pub FirstWeekdayIsOnly : Type 0
+FirstWeekdayIsOnly = (from : ℤ) (weekday : Weekday) (a b : ℤ) → IsFirstWeekday from weekday a → IsFirstWeekday from weekday b → a ≡ b
 
 -- each day is in one week at most, of one year
 abbrev pub IsoWeekIsOnly : Type 0
@@ -51,3 +77,25 @@ IsoDayIsOnly = (a b year : ℤ) (week : ℕ) (weekday : Weekday) → IsDayOfIsoW
 -- each year has one day of Easter at most
 abbrev pub EasterIsOnly : Type 0
 EasterIsOnly = (year a b : ℤ) → IsEaster year a → IsEaster year b → a ≡ b
+
+-- the first golden number has the epact 1 in the years 1500 to 1699
+abbrev pub EpactOfTheFirstYear : Type 0
+EpactOfTheFirstYear = IsEpact (pos 15) 0 1 × IsEpact (pos 16) 0 1
+
+-- that of the next golden number is 11 greater, modulo 30
+abbrev pub EpactOfTheNextYear : Type 0
+EpactOfTheNextYear = (century : ℤ) (golden epact : ℕ) → IsEpact century golden epact → IsEpact century (golden + 1) ((epact + 11) % 30)
+
+-- the solar correction is the same in the next century where 4 divides that century, and else 1 greater
+abbrev pub SolarCorrectionOfTheNextCentury : Type 0
+SolarCorrectionOfTheNextCentury = (century days : ℤ) → IsSolarCorrection century days
+    → (Divides (pos 4) (century +ℤ pos 1) → IsSolarCorrection (century +ℤ pos 1) days)
+    × ((¬ (Divides (pos 4) (century +ℤ pos 1))) → IsSolarCorrection (century +ℤ pos 1) (days +ℤ pos 1))
+
+-- the lunar correction is 6 in the three centuries from 1800 on, 7 in the next three, and so on, and 13 in four
+abbrev pub LunarCorrectionsFrom1800 : Type 0
+LunarCorrectionsFrom1800 = (step place : ℕ) → step ≤ 7 → (place < 3) ⊎ ((step ≡ 7) × (place ≡ 3)) → IsLunarCorrection (pos (18 + 3 * step + place)) (pos (6 + step))
+
+-- and it grows by 8 in 25 centuries
+abbrev pub LunarCorrectionOfTwentyFiveCenturies : Type 0
+LunarCorrectionOfTwentyFiveCenturies = (century days : ℤ) → IsLunarCorrection century days → IsLunarCorrection (century +ℤ pos 25) (days +ℤ pos 8)
