@@ -1,12 +1,14 @@
 -- Lemmas that the proofs of callers may cite, beside the laws.
-use Rattle.std.specs.Prelude.{◌≡◌, ◌≢◌, ◌↔◌, ◌<◌, ◌≤◌, ◌^◌, ◌*◌, ◌+ℤ◌, ◌*ℤ◌, ℤ, pos, unsigned_abs, Result, Ok, Err, IfOk, IsOk}
+use Rattle.std.specs.Prelude.{◌≡◌, ◌≢◌, ◌↔◌, ◌<◌, ◌≤◌, ◌^◌, ◌*◌, ◌<ℤ◌, ◌+ℤ◌, ◌*ℤ◌, ℤ, pos, unsigned_abs, Result, Ok, Err, IfOk, IsOk}
+use Rattle.std.specs.Cmp.{int_cmp_is, int_ranked}
 use Rattle.std.specs.Int.{w64}
+use Rattle.std.specs.declared.cmp.Ordering.TheVariants.{Equal, Greater, Less}
 use Rattle.std.proofs.Common.{arith, ap, inl, inr, refl, sym, ◌∙◌}
 use Rattle.std.proofs.Math.Nat.{mul-le-mul_left}
 use Rattle.std.proofs.lemmas.Int.{ints, fits_signed_from_abs, unsigned_abs-mul}
 use Rattle.num_integer.proofs.ForCallers.{Divides-refl, cancel, comm, divisor_at_most, expand, linear, mul-one, products, sizes}
 use Rattle.num_integer.specs.Divisors.{Divides}
-use Rattle.ratio64.specs.Fraction.{AreEqual, IsExact, IsFraction, IsOutsideI64, IsReduced}
+use Rattle.ratio64.specs.Fraction.{AreEqual, IsExact, IsFraction, IsOutsideI64, IsReduced, fraction_cmp}
 use Rattle.ratio64.specs.Ratio.{AnswersFraction, num_of, den_of}
 use Rattle.ratio64.specs.declared.fraction.Ratio.{Ratio}
 use Rattle.ratio64.specs.declared.error.RatioError.{RatioError}
@@ -98,6 +100,31 @@ whole_exactly {n} {d} x = (
   λ h. omega (arith, linear, x.positive, divisor_at_most (omega (arith, linear)) (x.lowest.greatest d h (Divides-refl d))),
   λ one. rw one (one_divides n),
 )
+
+-- ---- whole numbers
+
+-- a multiple of the denominator has the quotient over 1 as its exact result
+pub quotient_is_exact : {a b : ℤ} → IsFraction a b → (h : Divides b a) → IsExact a b h.factor (pos 1)
+quotient_is_exact {a} {b} fraction h = record {
+  fraction = fraction;
+  reduced = (whole_is_exact h.factor).reduced;
+  equal = record { cross = mul-one a ∙ h.product ∙ comm b h.factor };
+}
+
+-- a fraction whose exact result has the denominator 1 is a multiple of its denominator
+pub whole_is_multiple : {a b n d : ℤ} → IsExact a b n d → d ≡ pos 1 → Divides b a
+whole_is_multiple {a} {b} {n} h one = record { factor = n; product = sym (mul-one a) ∙ rw one at h.equal.cross ∙ comm n b }
+
+-- ---- the order, by cross multiplication
+
+pub less_exactly : (a b c d : ℤ) → (fraction_cmp a b c d ≡ Less) ↔ ((a *ℤ d) <ℤ (c *ℤ b))
+less_exactly a b c d = (λ h. int_ranked (a *ℤ d) (c *ℤ b) Less (sym h), λ h. sym (int_cmp_is (a *ℤ d) (c *ℤ b) Less h))
+
+pub equal_exactly : (a b c d : ℤ) → (fraction_cmp a b c d ≡ Equal) ↔ (a *ℤ d ≡ c *ℤ b)
+equal_exactly a b c d = (λ h. int_ranked (a *ℤ d) (c *ℤ b) Equal (sym h), λ h. sym (int_cmp_is (a *ℤ d) (c *ℤ b) Equal h))
+
+pub greater_exactly : (a b c d : ℤ) → (fraction_cmp a b c d ≡ Greater) ↔ ((c *ℤ b) <ℤ (a *ℤ d))
+greater_exactly a b c d = (λ h. int_ranked (a *ℤ d) (c *ℤ b) Greater (sym h), λ h. sym (int_cmp_is (a *ℤ d) (c *ℤ b) Greater h))
 
 -- ---- equal fractions
 

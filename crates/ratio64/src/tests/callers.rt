@@ -1,6 +1,8 @@
 //! What callers learn of the calls from their contracts alone, each said by a contract of its own.
 
-ghost use Rattle.std.specs.Prelude.{◌≡◌, ◌≢◌, ◌↔◌, ◌<ℤ◌, ◌+ℤ◌, ◌*ℤ◌, ℤ, pos, IfOk, IfSome, IsTrue, MatchOption};
+ghost use Rattle.std.specs.Prelude.{◌≡◌, ◌≢◌, ◌↔◌, ◌++◌, ◌<ℤ◌, ◌+ℤ◌, ◌*ℤ◌, ℤ, pos, IfOk, IfSome, IsTrue, MatchOption};
+ghost use Rattle.std.specs.Hash as written;
+ghost use Rattle.std.specs.List.{fold};
 ghost use Rattle.num_integer.specs.Only.{IsOnly};
 ghost use Rattle.ratio64.specs.Fraction.{AreEqual, IsExact, IsFraction, IsReduced, IsOutsideI64, fraction_cmp};
 ghost use Rattle.ratio64.specs.Ratio.{num_of, den_of};
@@ -141,6 +143,22 @@ fn ascend(x: &Ratio, y: &Ratio, z: &Ratio) -> bool
     matches!((x.cmp(y), y.cmp(z)), (Ordering::Less, Ordering::Less))
 }
 
+/// On which side of the second the first lies: -1 below it, 0 at it, 1 above it.
+fn side(x: &Ratio, y: &Ratio) -> i64
+    ensures below { (result <ℤ pos 0)
+        ↔ ((num_of x.now *ℤ den_of y.now) <ℤ (num_of y.now *ℤ den_of x.now)) }
+    ensures level { (result ≡ pos 0)
+        ↔ (num_of x.now *ℤ den_of y.now ≡ num_of y.now *ℤ den_of x.now) }
+    ensures above { (pos 0 <ℤ result)
+        ↔ ((num_of y.now *ℤ den_of x.now) <ℤ (num_of x.now *ℤ den_of y.now)) }
+{
+    match x.cmp(y) {
+        Ordering::Less => -1,
+        Ordering::Equal => 0,
+        Ordering::Greater => 1,
+    }
+}
+
 /// Whether the first is the smaller.
 fn is_less(x: &Ratio, y: &Ratio) -> bool
     ensures { IsTrue result
@@ -157,4 +175,12 @@ fn hash_both<H: Hasher>(x: &Ratio, y: &Ratio, first: &mut H, second: &mut H)
 {
     x.hash(first);
     y.hash(second);
+}
+
+/// A hasher is given the numerator, then the denominator.
+fn hash_of_parts<H: Hasher>(x: &Ratio, state: &mut H)
+    ensures { state.new ≡ fold H.write state.old
+        (written.i64 (num_of x.now) ++ written.i64 (den_of x.now)) }
+{
+    x.hash(state);
 }
