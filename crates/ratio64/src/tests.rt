@@ -175,6 +175,14 @@ fn equal_fractions(rt: HostRuntime) {
 }
 
 #[test]
+fn other_fractions(rt: HostRuntime) {
+    let half = hash_of(&ratio(&rt, 1, 2));
+    for (num, den) in [(1, 3), (1, 1), (-1, 2), (2, 1), (0, 1)] {
+        assert!(rt; hash_of(&ratio(&rt, num, den)) != half, "{num} over {den}");
+    }
+}
+
+#[test]
 fn texts(rt: HostRuntime) {
     for ((num, den), text) in TEXTS {
         let printed = ratio(&rt, num, den).to_string(rt.alloc());

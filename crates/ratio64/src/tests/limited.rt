@@ -1,6 +1,7 @@
 //! The nearest fractions of bounded denominators.
 
 use super::{MAX, MIN, ratio};
+use std::process::Abort;
 
 /// The parts of a fraction, a limit, and the parts of the nearest fraction.
 type Row = ((i64, i64), i64, (i64, i64));
@@ -33,5 +34,63 @@ fn nearest_fractions(rt: HostRuntime) {
             (nearest.num(), nearest.den()) == expected,
             "{num} over {den} limited to {max}"
         );
+    }
+}
+
+/// The distance of two fractions, times both denominators.
+fn gap((a, b): (i64, i64), (c, d): (i64, i64)) -> Option<i64> {
+    a.checked_mul(d)?
+        .checked_sub(c.checked_mul(b)?)?
+        .checked_abs()
+}
+
+/// Whether the first of two fractions is nearer to x than the second.
+fn is_nearer(x: (i64, i64), first: (i64, i64), second: (i64, i64)) -> Option<bool> {
+    let first_gap = gap(x, first)?.checked_mul(second.1)?;
+    let second_gap = gap(x, second)?.checked_mul(first.1)?;
+    Some(first_gap < second_gap)
+}
+
+/// The lowest of the nearest fractions over a denominator, where it is nearer to x than the one
+/// found before. It is looked for from -12 to 12.
+fn nearest_over(x: (i64, i64), den: i64, found: (i64, i64)) -> Option<(i64, i64)> {
+    let mut nearest = found;
+    for num in den.checked_mul(-12)?..=den.checked_mul(12)? {
+        if is_nearer(x, (num, den), nearest)? {
+            nearest = (num, den);
+        }
+    }
+    Some(nearest)
+}
+
+/// The nearest fraction by trial of all: of those that are equally near the one of the smallest
+/// denominator, and of these the lowest.
+fn nearest_by_trial(x: (i64, i64), max: i64) -> Option<(i64, i64)> {
+    let mut nearest = (-12, 1);
+    for den in 1..=max {
+        nearest = nearest_over(x, den, nearest)?;
+    }
+    Some(nearest)
+}
+
+fn check_limits(rt: &impl Abort, num: i64, den: i64) {
+    let x = ratio(rt, num, den);
+    for max in 1..=12 {
+        assert!(rt; max > 0, "limit {max}");
+        let nearest = x.limit_denominator(max);
+        let found = Some((nearest.num(), nearest.den()));
+        assert!(rt;
+            found == nearest_by_trial((num, den), max),
+            "{num} over {den} limited to {max}"
+        );
+    }
+}
+
+#[test]
+fn each_nearest_fraction(rt: HostRuntime) {
+    for num in -12..=12 {
+        for den in 1..=12 {
+            check_limits(&rt, num, den);
+        }
     }
 }

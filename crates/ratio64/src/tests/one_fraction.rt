@@ -73,6 +73,41 @@ fn answers_of_one_fraction(rt: HostRuntime) {
     }
 }
 
+/// The parts of a fraction, its sign, and whether it is above 0, below 0, 0, and a whole number.
+type Signs = ((i64, i64), i64, (bool, bool, bool, bool));
+
+const SIGNS: [Signs; 10] = [
+    ((MIN, 1), -1, (false, true, false, true)),
+    ((MIN, MAX), -1, (false, true, false, false)),
+    ((-3, 2), -1, (false, true, false, false)),
+    ((-1, MAX), -1, (false, true, false, false)),
+    ((0, 1), 0, (false, false, true, true)),
+    ((1, MAX), 1, (true, false, false, false)),
+    ((1, 2), 1, (true, false, false, false)),
+    ((1, 1), 1, (true, false, false, true)),
+    ((MAX, MAX - 1), 1, (true, false, false, false)),
+    ((MAX, 1), 1, (true, false, false, true)),
+];
+
+#[test]
+fn signs(rt: HostRuntime) {
+    for ((num, den), sign, expected) in SIGNS {
+        let x = ratio(&rt, num, den);
+        let found = (
+            x.is_positive(),
+            x.is_negative(),
+            x.is_zero(),
+            x.is_integer(),
+        );
+        let signum = x.signum();
+        assert!(rt; found == expected, "{num} over {den}");
+        assert!(rt;
+            (signum.num(), signum.den()) == (sign, 1),
+            "{num} over {den}"
+        );
+    }
+}
+
 fn sign_times_magnitude(x: &Ratio) -> Result<Ratio, RatioError> {
     x.checked_abs()?.checked_mul(&x.signum())
 }

@@ -4,7 +4,7 @@ ghost use Rattle.std.specs.Prelude.{◌≡◌, IfOk, Ok};
 
 use super::{MAX, MIN, ratio};
 use crate::ParseRatioError::{NotAFraction, NotFitting, TooLong, ZeroDenominator};
-use crate::{ParseRatioError, Ratio};
+use crate::{ParseRatioError, Ratio, RatioError};
 use std::alloc::{AllocError, Global};
 use std::process::Abort;
 
@@ -120,6 +120,13 @@ fn other_texts(rt: HostRuntime) {
     for text in OTHERS {
         assert_eq!(rt; read(text), Err(NotAFraction), "{text}");
     }
+}
+
+#[test]
+fn refusals_read(rt: HostRuntime) {
+    let not_fitting = ParseRatioError::from(RatioError::NotFitting);
+    let zero_denominator = ParseRatioError::from(RatioError::ZeroDenominator);
+    assert!(rt; (not_fitting, zero_denominator) == (NotFitting, ZeroDenominator));
 }
 
 /// The parts of a fraction, and what is read of its text: that fraction, by the contracts alone.

@@ -120,13 +120,13 @@ fn each_pair_of_fractions(rt: HostRuntime) {
     }
 }
 
-/// Each fraction of parts from -6 to 6 has a denominator from 1 to 6.
+/// Each fraction of parts from -12 to 12 has a denominator from 1 to 12.
 #[test]
 fn each_operation_of_fractions(rt: HostRuntime) {
-    for a in -6..=6 {
-        for b in 1..=6 {
-            for c in -6..=6 {
-                for d in 1..=6 {
+    for a in -12..=12 {
+        for b in 1..=12 {
+            for c in -12..=12 {
+                for d in 1..=12 {
                     check_operations(&rt, (a, b), (c, d));
                 }
             }
