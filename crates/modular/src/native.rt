@@ -18,7 +18,7 @@ impl<T: NativeInteger> Modular for T {
     }
 }
 
-/// Returns the product of two residues. Where the modulus has at most 64 bits, their product fits.
+/// Returns the product of two residues. Where the modulus is at most 2^64, their product fits.
 fn product_of_wide(x: u128, y: u128, m: u128) -> u128
     requires x_below { LiesBelow (pos m) (pos x) }
     requires y_below { LiesBelow (pos m) (pos y) }
