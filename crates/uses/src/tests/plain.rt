@@ -97,6 +97,13 @@ fn common_multiple_of_literals() -> u8
     lcm(200, 50)
 }
 
+/// At a signed type too.
+fn signed_common_multiple_of_literals() -> i64
+    ensures { IsLeastCommonMultiple (pos 4) (pos 6) result }
+{
+    lcm(4, 6)
+}
+
 /// The next multiple of literals.
 fn next_multiple_of_literals() -> i64
     ensures { IsMultiple IsCeiled (pos 23) (pos 8) result }
@@ -232,6 +239,7 @@ fn plain_calls(rt: HostRuntime) {
     assert!(rt; natural_common_divisor(56, 42) == 14 && natural_common_divisor(0, 0) == 0);
     assert!(rt; choices_of_4_out_of_9() == 126);
     assert!(rt; common_multiple_of_literals() == 200);
+    assert!(rt; signed_common_multiple_of_literals() == 12);
     assert!(rt; next_multiple_of_literals() == 24 && natural_next_multiple_of_literals() == 24);
     assert!(rt; common_multiple_in_twice_the_bits(4294967295, 4294967294) == 18446744060824649730);
     assert!(rt; is_even(4) && !is_even(7) && remainder(17, 5) == 2);
