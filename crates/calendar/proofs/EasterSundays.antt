@@ -1,5 +1,5 @@
 -- The date of Easter.
-use Rattle.std.specs.Prelude.{◌≡◌, ◌⊎◌, ◌+◌, ◌-◌, ◌*◌, ◌/◌, ◌%◌, ◌<◌, ◌≤◌, ◌≤ℤ◌, ◌+ℤ◌, ◌-ℤ◌, ◌*ℤ◌, ℕ, ℤ, pos, unsigned_abs}
+use Rattle.std.specs.Prelude.{◌≡◌, ◌⊎◌, ◌+◌, ◌-◌, ◌*◌, ◌/◌, ◌%◌, ◌<◌, ◌≤◌, ◌+ℤ◌, ◌-ℤ◌, ◌*ℤ◌, ℕ, ℤ, pos, unsigned_abs}
 use Rattle.std.proofs.Common.{◌∙◌, ap, arith, inl, inr, refl, sym}
 use Rattle.std.proofs.lemmas.Int.{by_lt_z, ints}
 use Rattle.num_integer.proofs.ForCallers.{floored_by_range, floored_quotient_range, floored_remainder_range, linear, only_floored}
@@ -11,20 +11,13 @@ use Rattle.calendar.specs.Weeks.{HasWeekday, IsFirstWeekday}
 use Rattle.calendar.specs.Years.{day_number}
 use Rattle.calendar.specs.declared.weekday.Weekday.{Weekday}
 use Rattle.calendar.specs.declared.weekday.Weekday.TheVariants.{Sunday}
-use Rattle.calendar.proofs.WeekdayPlaces.{only_first}
+use Rattle.calendar.proofs.WeekdayPlaces.{first_within, on_weekday, only_first}
 
--- no Sunday lies between a day and the next Sunday
-sunday_after : (day other q p : ℤ) (n days : ℕ) → n < 7 → days ≡ 7 - n → day +ℤ pos 4 ≡ q *ℤ pos 7 +ℤ pos n → other +ℤ pos 4 ≡ p *ℤ pos 7 +ℤ pos 0 → (day +ℤ pos 1) ≤ℤ other → (day +ℤ pos days) ≤ℤ other
-sunday_after day other q p n days small place own sunday after = omega (arith, ints)
-
+-- the Sunday after a day
 pub next_sunday : {day : ℤ} {weekday : Weekday} {n days : ℕ} → HasWeekday day weekday → n ≡ weekday_number weekday → n < 7 → days ≡ 7 - n → IsFirstWeekday (day +ℤ pos 1) Sunday (day +ℤ pos days)
 next_sunday {day} {n = n} {days = days} h is small place =
     let own = rw (sym is) at h.remainder.division.division.equation in
-    record {
-      from_there = omega (arith, ints);
-      has_weekday = record { remainder = record { quotient = h.remainder.quotient +ℤ pos 1; division = floored_by_range (omega (arith, ints, own)) (omega (arith, ints)) (omega (arith, ints)) } };
-      first = λ other after k. sunday_after day other h.remainder.quotient k.remainder.quotient n days small place own k.remainder.division.division.equation after;
-    }
+    first_within Sunday (on_weekday Sunday (h.remainder.quotient +ℤ pos 1) (omega (arith, ints, own))) (omega (arith, ints)) (omega (arith, ints))
 
 -- the remainder of the sum is the epact
 pub is_epact : {century solar lunar sum rest : ℤ} (golden : ℕ) → IsSolarCorrection century solar → IsLunarCorrection century lunar → sum ≡ pos 11 *ℤ pos golden +ℤ pos 8 -ℤ solar +ℤ lunar

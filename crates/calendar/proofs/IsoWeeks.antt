@@ -1,9 +1,9 @@
 -- The weeks of ISO 8601.
-use Rattle.std.specs.Prelude.{◌≡◌, ◌+◌, ◌-◌, ◌/◌, ◌%◌, ◌<◌, ◌≤◌, ◌≤ℤ◌, ◌<ℤ◌, ◌+ℤ◌, ◌-ℤ◌, ◌*ℤ◌, ℕ, ℤ, pos, FitsSigned, MatchOption, Option, Some, None}
+use Rattle.std.specs.Prelude.{◌≡◌, ◌+◌, ◌-◌, ◌/◌, ◌%◌, ◌<◌, ◌≤ℤ◌, ◌<ℤ◌, ◌+ℤ◌, ◌-ℤ◌, ◌*ℤ◌, ℕ, ℤ, pos, FitsSigned, MatchOption, Option, Some, None}
 use Rattle.std.specs.Int.{w64}
 use Rattle.std.proofs.Common.{ap, arith, subst, sym}
 use Rattle.std.proofs.lemmas.Int.{by_lt_z, ints}
-use Rattle.num_integer.proofs.ForCallers.{floored_by_range, floored_remainder_range, linear}
+use Rattle.num_integer.proofs.ForCallers.{floored_remainder_range, linear}
 use Rattle.num_integer.specs.Division.{IsFloored, IsRemainder}
 use Rattle.calendar.specs.declared.date.Date.{Date}
 use Rattle.calendar.specs.Dates.{number_of, year_day_of}
@@ -12,28 +12,22 @@ use Rattle.calendar.specs.Weekday.{weekday_number}
 use Rattle.calendar.specs.Weeks.{HasWeekday}
 use Rattle.calendar.specs.Years.{days_in_year, first_day}
 use Rattle.calendar.specs.declared.weekday.Weekday.{Weekday}
-use Rattle.calendar.specs.declared.weekday.Weekday.TheVariants.{Sunday, Monday, Tuesday, Wednesday, Thursday, Friday, Saturday}
+use Rattle.calendar.specs.declared.weekday.Weekday.TheVariants.{Thursday}
 use Rattle.calendar.proofs.DateOrder.{year_day_range}
-use Rattle.calendar.proofs.YearLengths.{later_year, length_of, next_first_day}
+use Rattle.calendar.proofs.WeekdayPlaces.{below_seven, on_weekday, same_day}
+use Rattle.calendar.proofs.YearLengths.{later_year, next_first_day}
 
 -- ---- Thursdays
 
 -- whole weeks from day 0 on
 pub is_thursday : {day : ℤ} (q : ℤ) → day ≡ q *ℤ pos 7 → HasWeekday day Thursday
-is_thursday q e = record { remainder = record { quotient = q; division = floored_by_range (omega (arith, ints)) (omega (arith, ints)) (omega (arith, ints)) } }
+is_thursday q e = on_weekday Thursday q (omega (arith, ints))
 
 pub of_week : {day r : ℤ} → IsRemainder IsFloored (day +ℤ pos 3) (pos 7) r → IsThursdayOfWeek day (day +ℤ pos 3 -ℤ r)
 of_week h =
     let range = floored_remainder_range (omega (arith, ints)) h in
     let equation = h.division.division.equation in
     record { has_weekday = is_thursday h.quotient (omega (arith, ints)); from = omega (arith, ints); to = omega (arith, ints) }
-
--- the days of one day of the week are whole weeks apart
-apart : (a b p q : ℤ) (w : ℕ) → a +ℤ pos 4 ≡ p *ℤ pos 7 +ℤ pos w → b +ℤ pos 4 ≡ q *ℤ pos 7 +ℤ pos w → a <ℤ (b +ℤ pos 7) → b <ℤ (a +ℤ pos 7) → a ≡ b
-apart a b p q w first second after before = omega (arith, ints)
-
-pub same_day : {a b : ℤ} (weekday : Weekday) → HasWeekday a weekday → HasWeekday b weekday → a <ℤ (b +ℤ pos 7) → b <ℤ (a +ℤ pos 7) → a ≡ b
-same_day {a} {b} weekday h k after before = apart a b h.remainder.quotient k.remainder.quotient (weekday_number weekday) h.remainder.division.division.equation k.remainder.division.division.equation after before
 
 pub same_thursday : {day a b : ℤ} → IsThursdayOfWeek day a → IsThursdayOfWeek day b → a ≡ b
 same_thursday h k =
@@ -44,10 +38,6 @@ same_thursday h k =
     same_day Thursday h.has_weekday k.has_weekday (omega (arith, linear)) (omega (arith, linear))
 
 -- ---- years
-
-pub length_range : (year : ℤ) → (365 ≤ days_in_year year) × (days_in_year year ≤ 366)
-unfolding days_in_year
-length_range year = rw length_of (grind arith)
 
 ordered : (x y : ℤ) → x ≤ℤ y → first_day x ≤ℤ first_day y
 ordered x y up = by_lt_z x y
@@ -96,20 +86,8 @@ one_week h k =
 -- a day of the week after a Thursday's Monday
 pub weekday_after : (weekday : Weekday) {day : ℤ} → HasWeekday day Thursday → HasWeekday (day -ℤ pos 3 +ℤ pos ((weekday_number weekday + 6) % 7)) weekday
 weekday_after weekday {day} h =
-    let equation = h.remainder.division.division.equation in
-    let small : weekday_number weekday < 7 = below_seven weekday in
-    let after = (weekday_number weekday + 6) / 7 in
-    record { remainder = record { quotient = h.remainder.quotient +ℤ pos 1 -ℤ pos after; division = floored_by_range (placed day h.remainder.quotient (weekday_number weekday) small equation) (omega (arith, ints)) (omega (arith, ints)) } }
+    on_weekday weekday (h.remainder.quotient +ℤ pos 1 -ℤ pos ((weekday_number weekday + 6) / 7)) (placed day h.remainder.quotient (weekday_number weekday) (below_seven weekday) h.remainder.division.division.equation)
   where
-    below_seven : (w : Weekday) → weekday_number w < 7
-    below_seven Sunday = omega arith
-    below_seven Monday = omega arith
-    below_seven Tuesday = omega arith
-    below_seven Wednesday = omega arith
-    below_seven Thursday = omega arith
-    below_seven Friday = omega arith
-    below_seven Saturday = omega arith
-
     placed : (day q : ℤ) (w : ℕ) → w < 7 → day +ℤ pos 4 ≡ q *ℤ pos 7 +ℤ pos 4 → day -ℤ pos 3 +ℤ pos ((w + 6) % 7) +ℤ pos 4 ≡ (q +ℤ pos 1 -ℤ pos ((w + 6) / 7)) *ℤ pos 7 +ℤ pos w
     placed day q w small equation = omega (arith, ints)
 

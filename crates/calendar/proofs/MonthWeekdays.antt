@@ -1,8 +1,7 @@
 -- The days of a month that have a given day of the week.
-use Rattle.std.specs.Prelude.{◌≡◌, ◌+◌, ◌-◌, ◌*◌, ◌<◌, ◌≤◌, ◌<ℤ◌, ◌+ℤ◌, ◌-ℤ◌, ◌*ℤ◌, ℕ, ℤ, pos, negsuc, MatchOption, Option, Some, None}
+use Rattle.std.specs.Prelude.{◌≡◌, ◌+◌, ◌-◌, ◌*◌, ◌<◌, ◌≤◌, ◌+ℤ◌, ◌-ℤ◌, ◌*ℤ◌, ℕ, ℤ, pos, negsuc, MatchOption, Option, Some, None}
 use Rattle.std.proofs.Common.{◌∙◌, arith, refl, sym}
 use Rattle.std.proofs.lemmas.Int.{by_lt_z, ints}
-use Rattle.num_integer.proofs.ForCallers.{floored_by_range, floored_remainder_range}
 use Rattle.num_integer.specs.Division.{IsFloored, IsRemainder}
 use Rattle.calendar.specs.declared.date.Date.{Date}
 use Rattle.calendar.specs.declared.weekday.Weekday.{Weekday}
@@ -11,20 +10,11 @@ use Rattle.calendar.specs.Months.{IsMonthsAfter, IsNthWeekday}
 use Rattle.calendar.specs.Weeks.{HasWeekday, IsFirstWeekday}
 use Rattle.calendar.specs.Years.{IsDate}
 use Rattle.calendar.proofs.DateOrder.{of_parts, only_date}
+use Rattle.calendar.proofs.WeekdayPlaces.{on_weekday, same_day}
 
 -- days some weeks apart have the same day of the week
 weeks_apart : {day other : ℤ} {weekday : Weekday} (weeks : ℤ) → other ≡ day +ℤ pos 7 *ℤ weeks → HasWeekday day weekday → HasWeekday other weekday
-weeks_apart weeks apart h =
-    let range = floored_remainder_range (omega (arith, ints)) h.remainder in
-    let own = h.remainder.division.division.equation in
-    record { remainder = record { quotient = h.remainder.quotient +ℤ weeks; division = floored_by_range (omega (arith, ints)) range.0 range.1 } }
-
--- and less than a week apart are the same
-one_in_week : {x y : ℤ} {weekday : Weekday} → HasWeekday x weekday → HasWeekday y weekday → x <ℤ (y +ℤ pos 7) → y <ℤ (x +ℤ pos 7) → x ≡ y
-one_in_week h k below above =
-    let first = h.remainder.division.division.equation in
-    let second = k.remainder.division.division.equation in
-    omega (arith, ints)
+weeks_apart {weekday = weekday} weeks apart h = on_weekday weekday (h.remainder.quotient +ℤ weeks) (omega (arith, ints, h.remainder.division.division.equation))
 
 -- from a day on, as from the same day of the week near day 0, the day of the week comes within a week
 pub until_weekday : {day rest : ℤ} {weekday : Weekday} {days : ℕ} → IsRemainder IsFloored day (pos 7) rest → IsFirstWeekday rest weekday (rest +ℤ pos days) → HasWeekday (day +ℤ pos days) weekday × (days < 7)
@@ -44,11 +34,11 @@ in_month a b h k = rw (h.year_is, h.month_is, h.day_is, k.year_is, k.month_is, k
 pub nth_weekday : (o : Option Date) {year : ℤ} {month : ℕ} {weekday : Weekday} {n days day : ℕ} (first : Date) → HasParts first year month 1 → HasWeekday (number_of first +ℤ pos days) weekday → days < 7
     → 1 ≤ n → day ≡ 7 * (n - 1) + days + 1 → MatchOption o (¬ (IsDate year month day)) (λ date. HasParts date year month day)
     → MatchOption o ((date : Date) → ¬ (IsNthWeekday year month weekday n date)) (λ date. IsNthWeekday year month weekday n date)
-nth_weekday None {n = n} {day = day} first parts h small from place none = λ date k.
+nth_weekday None {weekday = weekday} {n = n} {day = day} first parts h small from place none = λ date k.
     let apart = in_month date first (record { year_is = k.year_is; month_is = k.month_is; day_is = refl }) parts in
     let after = k.after_weeks in
     let within = k.within_weeks in
-    let own = one_in_week k.has_weekday (weeks_apart (pos (n - 1)) refl h) (omega (arith, ints)) (omega (arith, ints)) in
+    let own = same_day weekday k.has_weekday (weeks_apart (pos (n - 1)) refl h) (omega (arith, ints)) (omega (arith, ints)) in
     let same : date.day_of_month ≡ day = omega (arith, ints) in
     none (rw (k.year_is, k.month_is, same) at date.valid)
 nth_weekday (Some date) {n = n} first parts h small from place found =
@@ -66,7 +56,7 @@ nth_weekday (Some date) {n = n} first parts h small from place found =
 pub only_nth_weekday : (year : ℤ) (month : ℕ) (weekday : Weekday) (n : ℕ) (a b : Date) → IsNthWeekday year month weekday n a → IsNthWeekday year month weekday n b → a ≡ b
 only_nth_weekday year month weekday n a b h k =
     let apart = in_month a b (record { year_is = h.year_is; month_is = h.month_is; day_is = refl }) (record { year_is = k.year_is; month_is = k.month_is; day_is = refl }) in
-    only_date a b (one_in_week h.has_weekday k.has_weekday (omega (arith, ints, h.within_weeks, k.after_weeks)) (omega (arith, ints, k.within_weeks, h.after_weeks)))
+    only_date a b (same_day weekday h.has_weekday k.has_weekday (omega (arith, ints, h.within_weeks, k.after_weeks)) (omega (arith, ints, k.within_weeks, h.after_weeks)))
 
 -- ---- dates some months apart
 

@@ -1,9 +1,9 @@
 -- The first day from another on that has a given day of the week.
-use Rattle.std.specs.Prelude.{◌≡◌, ◌+◌, ◌-◌, ◌*◌, ◌/◌, ◌%◌, ◌<◌, ◌≤ℤ◌, ◌+ℤ◌, ◌-ℤ◌, ◌*ℤ◌, ℕ, ℤ, pos, unsigned_abs, FitsSigned, List, [], ◌∷◌, get_or, MatchOption, Option, Some, None}
+use Rattle.std.specs.Prelude.{◌≡◌, ◌+◌, ◌-◌, ◌*◌, ◌/◌, ◌%◌, ◌<◌, ◌≤ℤ◌, ◌<ℤ◌, ◌+ℤ◌, ◌-ℤ◌, ◌*ℤ◌, ℕ, ℤ, pos, unsigned_abs, FitsSigned, List, [], ◌∷◌, get_or, MatchOption, Option, Some, None}
 use Rattle.std.specs.Int.{w64}
 use Rattle.std.specs.Option.{SomeIff}
 use Rattle.std.proofs.Common.{◌∙◌, ap, arith, refl, subst, sym}
-use Rattle.std.proofs.lemmas.Int.{ints}
+use Rattle.std.proofs.lemmas.Int.{by_lt_z, ints}
 use Rattle.num_integer.proofs.ForCallers.{floored_by_range, floored_remainder_range, linear, only_floored}
 use Rattle.num_integer.specs.Division.{IsFloored, IsRemainder}
 use Rattle.calendar.specs.declared.weekday.Weekday.{Weekday}
@@ -19,25 +19,45 @@ remainder_of_sum k first second =
     let b = second.division.division.equation in
     record { quotient = first.quotient +ℤ second.quotient; division = floored_by_range (omega (arith, ints)) range.0 range.1 }
 
--- days of one day of the week are whole weeks apart
-not_between : (day other first : ℤ) (q p : ℤ) (t w : ℕ) → w < 7 → first ≡ day +ℤ pos w → first +ℤ pos 4 ≡ q *ℤ pos 7 +ℤ pos t → other +ℤ pos 4 ≡ p *ℤ pos 7 +ℤ pos t → day ≤ℤ other → first ≤ℤ other
-not_between day other first q p t w small place a b after = omega (arith, ints)
+-- ---- days of one day of the week
 
-place : (r t : ℕ) → r < 7 → t + 7 - r ≡ 7 * ((t + 7 - r) / 7) + (t + 7 - r) % 7
-place r t small = omega arith
+pub below_seven : (weekday : Weekday) → weekday_number weekday < 7
+below_seven Sunday = omega arith
+below_seven Monday = omega arith
+below_seven Tuesday = omega arith
+below_seven Wednesday = omega arith
+below_seven Thursday = omega arith
+below_seven Friday = omega arith
+below_seven Saturday = omega arith
 
-pub first_weekday : (day : ℤ) (weekday : Weekday) {r t w : ℕ} → IsRemainder IsFloored (day +ℤ pos 4) (pos 7) (pos r) → r < 7 → t ≡ weekday_number weekday → t < 7 → w ≡ (t + 7 - r) % 7 → IsFirstWeekday day weekday (day +ℤ pos w)
-first_weekday day weekday {r} {t} {w} h r_small is t_small rest =
+-- by whole weeks
+pub on_weekday : {day : ℤ} (weekday : Weekday) (weeks : ℤ) → day +ℤ pos 4 ≡ weeks *ℤ pos 7 +ℤ pos (weekday_number weekday) → HasWeekday day weekday
+on_weekday weekday weeks equation = record { remainder = record { quotient = weeks; division = floored_by_range equation (omega (arith, ints)) (omega (arith, ints, below_seven weekday)) } }
+
+-- which are less than a week apart only where they are the same
+apart : (a b p q : ℤ) (w : ℕ) → a +ℤ pos 4 ≡ p *ℤ pos 7 +ℤ pos w → b +ℤ pos 4 ≡ q *ℤ pos 7 +ℤ pos w → a <ℤ (b +ℤ pos 7) → b <ℤ (a +ℤ pos 7) → a ≡ b
+apart a b p q w first second after before = omega (arith, ints)
+
+pub same_day : {a b : ℤ} (weekday : Weekday) → HasWeekday a weekday → HasWeekday b weekday → a <ℤ (b +ℤ pos 7) → b <ℤ (a +ℤ pos 7) → a ≡ b
+same_day {a} {b} weekday h k after before = apart a b h.remainder.quotient k.remainder.quotient (weekday_number weekday) h.remainder.division.division.equation k.remainder.division.division.equation after before
+
+-- ---- the first of them
+
+-- that within a week
+pub first_within : {from day : ℤ} (weekday : Weekday) → HasWeekday day weekday → from ≤ℤ day → day <ℤ (from +ℤ pos 7) → IsFirstWeekday from weekday day
+first_within {from} {day} weekday h up near = record {
+  from_there = up;
+  has_weekday = h;
+  first = λ other after k. by_lt_z other day
+      (λ less. absurd (omega (arith, linear, same_day weekday h k (omega (arith, linear)) (omega (arith, linear)))))
+      (λ fine. fine);
+}
+
+pub first_weekday : (day : ℤ) (weekday : Weekday) {r t w : ℕ} → IsRemainder IsFloored (day +ℤ pos 4) (pos 7) (pos r) → r < 7 → t ≡ weekday_number weekday → w ≡ (t + 7 - r) % 7 → IsFirstWeekday day weekday (day +ℤ pos w)
+first_weekday day weekday {r} {t} {w} h small is rest =
     let equation = h.division.division.equation in
-    let w_small : w < 7 = omega arith in
-    let own : day +ℤ pos w +ℤ pos 4 ≡ (h.quotient +ℤ pos 1 -ℤ pos ((t + 7 - r) / 7)) *ℤ pos 7 +ℤ pos t = omega (arith, ints) in
-    record {
-      from_there = omega (arith, ints);
-      has_weekday = record { remainder = rw (sym is) (record { quotient = h.quotient +ℤ pos 1 -ℤ pos ((t + 7 - r) / 7); division = floored_by_range own (omega (arith, ints)) (omega (arith, ints)) }) };
-      first = λ other after k.
-          let same = rw (sym is) at k.remainder.division.division.equation in
-          not_between day other (day +ℤ pos w) (h.quotient +ℤ pos 1 -ℤ pos ((t + 7 - r) / 7)) k.remainder.quotient t w w_small (omega (arith, ints)) own same after;
-    }
+    let weeks : t + 7 - r ≡ 7 * ((t + 7 - r) / 7) + w = omega arith in
+    first_within weekday (on_weekday weekday (h.quotient +ℤ pos 1 -ℤ pos ((t + 7 - r) / 7)) (rw (sym is) (omega (arith, ints)))) (omega (arith, ints)) (omega (arith, ints))
 
 -- which is only one
 pub only_first : (from : ℤ) (weekday : Weekday) (a b : ℤ) → IsFirstWeekday from weekday a → IsFirstWeekday from weekday b → a ≡ b

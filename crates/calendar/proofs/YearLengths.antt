@@ -36,9 +36,9 @@ pub length_of : (leap : Bool) → sum (month_lengths leap) ≡ cond leap 366 365
 length_of true = refl
 length_of false = refl
 
-at_most : (year : ℤ) → days_in_year year ≤ 366
+pub length_range : (year : ℤ) → (365 ≤ days_in_year year) × (days_in_year year ≤ 366)
 unfolding days_in_year
-at_most year = rw length_of (grind arith)
+length_range year = rw length_of (grind arith)
 
 one_year : (n : ℕ) → days_in_year (negsuc n) + (suc n / 100 + (n / 4 + n / 400)) ≡ 365 + (n / 100 + (suc n / 4 + suc n / 400))
 unfolding days_in_year is_leap_year is_multiple
@@ -83,7 +83,7 @@ next_first_day (negsuc (suc n)) =
 
 -- which are 366 at most
 pub day_in_year : (year : ℤ) {day : ℤ} → day <ℤ first_day (year +ℤ pos 1) → (day <ℤ (first_day year +ℤ pos (days_in_year year))) × (days_in_year year ≤ 366)
-day_in_year year before = (omega (arith, ints, next_first_day year), at_most year)
+day_in_year year before = (omega (arith, ints, next_first_day year), (length_range year).1)
 
 -- by the leap years before it
 pub first_day_is : (year : ℤ) {a b c : ℤ} → IsQuotient IsCeiled year (pos 4) a → IsQuotient IsCeiled year (pos 100) b → IsQuotient IsCeiled year (pos 400) c

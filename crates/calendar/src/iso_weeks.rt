@@ -65,7 +65,7 @@ impl Date {
 
 /// Returns how many days after 1 January of the year of the date the Thursday of its week is, below 0
 /// where it is before.
-#[tactic(auto, using(crate::proofs::IsoWeeks::length_range))]
+#[tactic(auto, using(crate::proofs::YearLengths::length_range))]
 fn thursday_of_week(date: &Date) -> i64
     ensures of_week { IsThursdayOfWeek (number_of date.now) (first_day date.now.year +ℤ result) }
     ensures from { pos 0 ≤ℤ (result +ℤ pos 6) }
@@ -121,7 +121,7 @@ fn day_of_week(thursday: i64, weekday: Weekday) -> i64
 }
 
 /// Returns how many days the year has.
-#[tactic(auto, using(crate::proofs::IsoWeeks::length_range))]
+#[tactic(auto, using(crate::proofs::YearLengths::length_range))]
 fn length_of(year: i64) -> i64
     ensures value { result ≡ pos (days_in_year year) }
     ensures from { pos 365 ≤ℤ result }

@@ -1,6 +1,6 @@
 //! The lengths of months.
 
-ghost use Rattle.std.specs.Prelude.{◌≡◌, ◌-◌, ◌≤◌, length, sum, take};
+ghost use Rattle.std.specs.Prelude.{◌≡◌, ◌≤◌, length, sum};
 ghost use Rattle.calendar.specs.Years.{days_before_month, days_in_month, days_in_year, months_of};
 
 use crate::is_leap_year;

@@ -2,8 +2,8 @@ use Rattle.std.specs.Prelude.{◌≡◌, ◌+ℤ◌, ◌-ℤ◌, pos, FitsSigned
 use Rattle.std.specs.Int.{w64}
 use Rattle.std.proofs.Common.{arith}
 use Rattle.std.proofs.lemmas.Int.{ints, to_z-of_z}
-use Rattle.calendar.proofs.IsoWeeks.{earlier, later, length_range}
-use Rattle.calendar.proofs.YearLengths.{next_first_day}
+use Rattle.calendar.proofs.IsoWeeks.{earlier, later}
+use Rattle.calendar.proofs.YearLengths.{length_range, next_first_day}
 use Rattle.calendar.proofs.iso_weeks.date_near.Goals as goal
 
 pub returns-in_err-before : goal.returns-in_err-before

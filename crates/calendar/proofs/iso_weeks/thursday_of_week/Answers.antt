@@ -5,7 +5,8 @@ use Rattle.std.proofs.lemmas.Int.{ints, to_z-of_z}
 use Rattle.num_integer.specs.Division.{IsFloored, IsRemainder}
 use Rattle.calendar.specs.Years.{first_day}
 use Rattle.calendar.proofs.DateOrder.{year_day_range}
-use Rattle.calendar.proofs.IsoWeeks.{length_range, of_week}
+use Rattle.calendar.proofs.IsoWeeks.{of_week}
+use Rattle.calendar.proofs.YearLengths.{length_range}
 use Rattle.calendar.proofs.iso_weeks.thursday_of_week.Goals as goal
 
 pub returns-clause-of_week : goal.returns-clause-of_week

@@ -7,4 +7,4 @@ pub returns : goal.returns
 returns c =
     let day = c.ranges.day in
     let told = rw (sym c.days_after_sunday-2.ensures.value) at (simp to_z-of_z at c.weekday_of.ensures) in
-    first_weekday c.args.day c.args.weekday told c.days_after_sunday-2.ensures.small c.days_after_sunday.ensures.value c.days_after_sunday.ensures.small refl
+    first_weekday c.args.day c.args.weekday told c.days_after_sunday-2.ensures.small c.days_after_sunday.ensures.value refl
