@@ -72,3 +72,23 @@ fn answers_of_operations(rt: HostRuntime) {
         assert_eq!(rt; answer, expected, "{operation:?} of {a}/{b} and {c}/{d}");
     }
 }
+
+/// One more than the fraction, and whether that is less than 3.
+fn one_more(x: &Ratio) -> Result<(Ratio, bool), RatioError> {
+    let sum = x.checked_add(&Ratio::from(1))?; // 5/3 where x is 2/3
+    Ok((sum, sum < Ratio::from(3)))
+}
+
+#[test]
+fn sums_with_one(rt: HostRuntime) {
+    for ((a, b), (c, d), is_less) in [
+        ((2, 3), (5, 3), true),
+        ((-1, 2), (1, 2), true),
+        ((2, 1), (3, 1), false),
+        ((MIN, 1), (-MAX, 1), true),
+    ] {
+        let expected = Ok((ratio(&rt, c, d), is_less));
+        assert_eq!(rt; one_more(&ratio(&rt, a, b)), expected, "{a}/{b}");
+    }
+    assert!(rt; one_more(&ratio(&rt, MAX, 1)) == Err(NotFitting));
+}
