@@ -91,7 +91,7 @@ weekday_after weekday {day} h =
     placed : (day q : ℤ) (w : ℕ) → w < 7 → day +ℤ pos 4 ≡ q *ℤ pos 7 +ℤ pos 4 → day -ℤ pos 3 +ℤ pos ((w + 6) % 7) +ℤ pos 4 ≡ (q +ℤ pos 1 -ℤ pos ((w + 6) / 7)) *ℤ pos 7 +ℤ pos w
     placed day q w small equation = omega (arith, ints)
 
--- the day of the week whose Thursday is so many days after 1 January
+-- the day of the week whose Thursday is `place` days after 1 January
 pub day_of_week : {year place : ℤ} {week : ℕ} (weekday : Weekday) → HasWeekday (first_day year +ℤ place) Thursday → (pos 7 *ℤ (pos week -ℤ pos 1)) ≤ℤ place → place <ℤ (pos 7 *ℤ pos week) → pos 0 ≤ℤ place → place <ℤ pos (days_in_year year)
     → IsDayOfIsoWeek (first_day year +ℤ place -ℤ pos 3 +ℤ pos ((weekday_number weekday + 6) % 7)) year week weekday
 day_of_week {year} {place} weekday h from before inside below = record {

@@ -18,7 +18,7 @@ use Rattle.calendar.specs.declared.weekday.Weekday.{Weekday}
 abbrev pub LeapYearsByDivisors : Type 0
 LeapYearsByDivisors = (year : ℤ) → IsTrue (is_leap_year year) ↔ (Divides (pos 4) year × ((¬ (Divides (pos 100) year)) ⊎ Divides (pos 400) year))
 
--- a leap year has 366 days, and each other year 365
+-- a leap year has 366 days, and every other year 365
 abbrev pub LengthsOfYears : Type 0
 LengthsOfYears = (year : ℤ) → days_in_year year ≡ (if is_leap_year year then 366 else 365)
 
@@ -32,7 +32,7 @@ FirstDay = day_number (pos 1970) 1 1 ≡ pos 0
 
 -- ---- dates
 
--- each day has one date at most
+-- each day has at most one date
 abbrev pub DateIsOnly : Type 0
 DateIsOnly = (a b : Date) → number_of a ≡ number_of b → a ≡ b
 
@@ -40,41 +40,41 @@ DateIsOnly = (a b : Date) → number_of a ≡ number_of b → a ≡ b
 abbrev pub OrderOfDates : Type 0
 OrderOfDates = (a b : Date) → IsEarlier a b ↔ (number_of a <ℤ number_of b)
 
--- each text is that of one date at most
+-- each text is that of at most one date
 abbrev pub TextIsOnly : Type 0
 TextIsOnly = (a b : Date) → FitsSigned w64 a.year → FitsSigned w64 b.year → text_of a ≡ text_of b → a ≡ b
 
 -- ---- months
 
--- one date at most lies so many months after another
+-- each date has at most one date a number of months later
 abbrev pub MonthsAfterIsOnly : Type 0
 MonthsAfterIsOnly = (from : Date) (months : ℤ) (a b : Date) → IsMonthsAfter from months a → IsMonthsAfter from months b → a ≡ b
 
--- each month has one n-th day at most of each day of the week
+-- each month has at most one n-th day of each day of the week
 abbrev pub NthWeekdayIsOnly : Type 0
 NthWeekdayIsOnly = (year : ℤ) (month : ℕ) (weekday : Weekday) (n : ℕ) (a b : Date) → IsNthWeekday year month weekday n a → IsNthWeekday year month weekday n b → a ≡ b
 
 -- ---- weeks
 
--- each day has one day of the week at most
+-- each day has at most one day of the week
 abbrev pub WeekdayIsOnly : Type 0
 WeekdayIsOnly = (day : ℤ) (a b : Weekday) → HasWeekday day a → HasWeekday day b → a ≡ b
 
--- from each day on, one day at most is the first that has a day of the week
+-- from each day on, at most one day is the first that has a day of the week
 abbrev pub FirstWeekdayIsOnly : Type 0
 FirstWeekdayIsOnly = (from : ℤ) (weekday : Weekday) (a b : ℤ) → IsFirstWeekday from weekday a → IsFirstWeekday from weekday b → a ≡ b
 
--- each day is in one week at most, of one year
+-- each day is in at most one week, of one year
 abbrev pub IsoWeekIsOnly : Type 0
 IsoWeekIsOnly = (day y z : ℤ) (v w : ℕ) → IsInIsoWeek day y v → IsInIsoWeek day z w → (y ≡ z) × (v ≡ w)
 
--- each week has one day at most of each day of the week
+-- each week has at most one day of each day of the week
 abbrev pub IsoDayIsOnly : Type 0
 IsoDayIsOnly = (a b year : ℤ) (week : ℕ) (weekday : Weekday) → IsDayOfIsoWeek a year week weekday → IsDayOfIsoWeek b year week weekday → a ≡ b
 
 -- ---- Easter
 
--- each year has one day of Easter at most
+-- each year has at most one day of Easter
 abbrev pub EasterIsOnly : Type 0
 EasterIsOnly = (year a b : ℤ) → IsEaster year a → IsEaster year b → a ≡ b
 

@@ -10,7 +10,7 @@ use Rattle.calendar.specs.declared.weekday.Weekday.{Weekday}
 abbrev pub month_number : ℤ → ℕ → ℤ
 month_number year month = pos 12 *ℤ year +ℤ pos month -ℤ pos 1
 
--- the date lies in the month so many months after that of another, on the same day of the month, or on the last where there is no such day
+-- the date lies in the month that is `months` after that of another, on the same day of the month, or on the last where there is no such day
 pub record IsMonthsAfter (from : Date) (months : ℤ) (date : Date) : Type 0 where
   pub month_is : month_number date.year date.month ≡ month_number from.year from.month +ℤ months
   pub day_is : date.day_of_month ≡ min from.day_of_month (days_in_month date.year date.month)

@@ -4,7 +4,7 @@ use Rattle.std.specs.Fmt.{decimal}
 use Rattle.std.specs.Int.{IsInRange}
 use Rattle.calendar.specs.declared.date.Date.{Date}
 
--- the digits of a number, after zeros where they are fewer than so many
+-- the digits of a number, after zeros up to `places` digits
 abbrev pub padded : ℕ → ℕ → List ℕ
 padded places n = replicate (places - length (decimal n)) 48 ++ decimal n
 

@@ -48,7 +48,7 @@ fn day_from_march(year: i64, day: u8) -> Date
     }
 }
 
-/// Returns how many days after the date the next Sunday is, 7 after a Sunday.
+/// Returns the number of days from the date to the next Sunday. It is 7 on a Sunday.
 fn days_to_next_sunday(date: &Date) -> u8
     ensures sunday { IsFirstWeekday (number_of date.now +ℤ pos 1) Sunday (number_of date.now +ℤ pos result) }
     ensures from { 1 ≤ result }
@@ -67,7 +67,7 @@ fn paschal_full_moon(year: i64) -> u8
     21 + days_to_full_moon(epact_of(century_of(year), golden), golden)
 }
 
-/// Returns how many days after 21 March the Paschal full moon is.
+/// Returns the number of days from 21 March to the Paschal full moon.
 fn days_to_full_moon(epact: u8, golden: u8) -> u8
     requires { epact < 30 }
     ensures value { result ≡ days_to_full_moon epact golden }
@@ -101,7 +101,7 @@ fn epact_sum(golden: u8, solar: i64, lunar: i64) -> i64
     11 * i64::from(golden) + 8 - solar + lunar
 }
 
-/// Returns how many leap days hundredth years have dropped.
+/// Returns the number of leap days that hundredth years have dropped.
 fn solar_correction(century: i64) -> i64
     requires { unsigned_abs century < 2 ^ 57 }
     ensures value { IsSolarCorrection century result }
@@ -110,7 +110,7 @@ fn solar_correction(century: i64) -> i64
     century - div_floor(century, 4)
 }
 
-/// Returns how many days the moon has gained on its cycle of 19 years.
+/// Returns the number of days that the moon has gained on its cycle of 19 years.
 fn lunar_correction(century: i64) -> i64
     requires { unsigned_abs century < 2 ^ 57 }
     ensures value { IsLunarCorrection century result }

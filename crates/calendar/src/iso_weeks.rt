@@ -63,8 +63,8 @@ impl Date {
     }
 }
 
-/// Returns how many days after 1 January of the year of the date the Thursday of its week is, below 0
-/// where it is before.
+/// Returns the number of days from 1 January of the year of the date to the Thursday of its week. It
+/// is negative where that Thursday is earlier.
 #[tactic(auto, using(crate::proofs::YearLengths::length_range))]
 fn thursday_of_week(date: &Date) -> i64
     ensures of_week { IsThursdayOfWeek (number_of date.now) (first_day date.now.year +ℤ result) }
@@ -74,7 +74,7 @@ fn thursday_of_week(date: &Date) -> i64
     i64::from(date.day_of_year()) + 2 - days_since_monday(date.number())
 }
 
-/// Returns how many days ago the last Monday was.
+/// Returns the number of days since the last Monday.
 #[tactic(auto, using(num_integer::proofs::ForCallers::floored_remainder_range))]
 fn days_since_monday(day: i128) -> i64
     requires { unsigned_abs day < 2 ^ 73 }
@@ -85,8 +85,8 @@ fn days_since_monday(day: i128) -> i64
     mod_floor(day + 3, 7) as i64
 }
 
-/// Returns how many days after 1 January of the year the Thursday of a week of it would be, were the
-/// year long enough.
+/// Returns the number of days from 1 January to the Thursday of the week, also where the year is too
+/// short for it.
 fn thursday_of_iso_week(year: i64, week: u8) -> i64
     ensures weekday { HasWeekday (first_day year +ℤ result) Thursday }
     ensures from { (pos 7 *ℤ (pos week -ℤ pos 1)) ≤ℤ result }
@@ -95,14 +95,14 @@ fn thursday_of_iso_week(year: i64, week: u8) -> i64
     first_thursday(year) + 7 * (i64::from(week) - 1)
 }
 
-/// Returns how many days after 1 January the first Thursday of the year is. Day 0 is a Thursday.
+/// Returns the number of days from 1 January to the first Thursday of the year. Day 0 is a Thursday.
 fn first_thursday(year: i64) -> i64
     ensures { IsRemainder IsFloored (pos 0 -ℤ first_day year) (pos 7) result }
 {
     mod_floor(-first_day_of(year), 7) as i64
 }
 
-/// Returns how many days after a Monday the day of the week is.
+/// Returns the number of days from a Monday to the day of the week.
 fn days_after_monday(weekday: Weekday) -> i64
     ensures { result ≡ pos ((weekday_number weekday + 6) % 7) }
 {
@@ -120,7 +120,7 @@ fn day_of_week(thursday: i64, weekday: Weekday) -> i64
     thursday - 3 + days_after_monday(weekday)
 }
 
-/// Returns how many days the year has.
+/// Returns the number of days of the year.
 #[tactic(auto, using(crate::proofs::YearLengths::length_range))]
 fn length_of(year: i64) -> i64
     ensures value { result ≡ pos (days_in_year year) }

@@ -25,7 +25,8 @@ pub fn nth_weekday_of_month(year: i64, month: u8, weekday: Weekday, n: u8) -> Op
     Date::new(year, month, days + 1)
 }
 
-/// Returns how many days after the date the first day from it on is that has the day of the week.
+/// Returns the number of days from the date to the first day, from the date on, that has this day of
+/// the week.
 fn days_until_weekday(date: &Date, weekday: Weekday) -> u8
     ensures weekday { HasWeekday (number_of date.now +ℤ pos result) weekday }
     ensures small { result < 7 }

@@ -18,7 +18,8 @@ pub fn first_weekday_on_or_after(day: i64, weekday: Weekday) -> Option<i64>
     day.checked_add(i64::from(days_until(day, weekday)))
 }
 
-/// Returns how many days after `day` the first day from it on is that has the day of the week.
+/// Returns the number of days from `day` to the first day, from `day` on, that has this day of the
+/// week.
 pub(crate) fn days_until(day: i64, weekday: Weekday) -> u8
     ensures { IsFirstWeekday day weekday (day +ℤ pos result) }
 {

@@ -31,8 +31,8 @@ pub(crate) fn first_day_of(year: i64) -> i128
     365 * i128::from(year) + i128::from(leap_years_before(year)) - 719528
 }
 
-/// Returns how many leap years there are from year 0 to before this one, and below 0 minus how many
-/// from this one to before year 0.
+/// Returns the number of leap years from year 0 to before this year. For a negative year it returns
+/// minus the number of those from this year to before year 0.
 fn leap_years_before(year: i64) -> i64
     ensures { first_day year ≡ pos 365 *ℤ year +ℤ result -ℤ pos 719528 }
 {

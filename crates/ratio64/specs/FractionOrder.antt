@@ -64,7 +64,7 @@ order_agrees_with_equality a b c d =
     let cross = cross_Decides a b c d in
     (λ h. record { cross = cross.0 (ap is_eq h) }, λ e. (Equal-is (fraction_cmp a b c d)).0 (cross.1 e.cross))
 
--- two reduced pairs have the same parts just where the order has them equal
+-- two reduced pairs have the same parts exactly where the order has them equal
 pub ties_of_reduced : {a b c d : ℤ} → IsReduced a b → IsReduced c d → (int_eq a c && int_eq b d) ≡ is_eq (fraction_cmp a b c d)
 ties_of_reduced {a} {b} {c} {d} x y =
     let cross = cross_Decides a b c d in

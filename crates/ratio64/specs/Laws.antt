@@ -19,7 +19,7 @@ ExactResultIsOnly = (a b num den : ℤ) → IsExact a b num den → IsOnly (λ (
 abbrev pub EqualFractionsHaveOneResult : Type 0
 EqualFractionsHaveOneResult = (a b c d num den : ℤ) → IsFraction c d → AreEqual a b c d → IsExact a b num den → IsExact c d num den
 
--- reduced pairs are equal fractions just where they are the same pair
+-- reduced pairs are equal fractions exactly where they are the same pair
 abbrev pub ReducedPairsAreEqualWhereSame : Type 0
 ReducedPairsAreEqualWhereSame = (a b c d : ℤ) → IsReduced a b → IsReduced c d → AreEqual a b c d ↔ ((a ≡ c) × (b ≡ d))
 
@@ -29,7 +29,7 @@ ReducedPairsAreEqualWhereSame = (a b c d : ℤ) → IsReduced a b → IsReduced 
 abbrev pub OrderIsTotal : Type 1
 OrderIsTotal = (K : Type 0) (num den : K → ℤ) → ((x : K) → pos 0 <ℤ den x) → IsTotalOrder (λ x y. fraction_cmp (num x) (den x) (num y) (den y))
 
--- in which two are level just where they are equal
+-- in which two are equal exactly where the fractions are
 abbrev pub OrderAgreesWithEquality : Type 0
 OrderAgreesWithEquality = (a b c d : ℤ) → (fraction_cmp a b c d ≡ Equal) ↔ AreEqual a b c d
 

@@ -7,10 +7,25 @@ ghost use Rattle.num_integer.specs.Divisors.{Divides};
 ghost use Rattle.num_integer.specs.Only.{IsOnly};
 ghost use Rattle.calendar.specs.Dates.{number_of};
 ghost use Rattle.calendar.specs.Easter.{IsEaster};
+ghost use Rattle.calendar.specs.Laws.{EpactOfTheFirstYear, EpactOfTheNextYear, FirstWeekdayIsOnly, LunarCorrectionOfTwentyFiveCenturies, LunarCorrectionsFrom1800, MonthsAfterIsOnly, NthWeekdayIsOnly, SolarCorrectionOfTheNextCentury, TextIsOnly, WeekdayIsOnly};
 ghost use Rattle.calendar.specs.Years.{is_leap_year};
 
 use crate::{Date, DateError, IsoWeek, Weekday, days_between, easter, is_leap_year};
 use std::alloc::{AllocError, Global};
+
+/// The laws that no call below cites, each proved by its lemma.
+fn laws()
+    ensures text_is_only { TextIsOnly }
+    ensures months_after_is_only { MonthsAfterIsOnly }
+    ensures nth_weekday_is_only { NthWeekdayIsOnly }
+    ensures weekday_is_only { WeekdayIsOnly }
+    ensures first_weekday_is_only { FirstWeekdayIsOnly }
+    ensures epact_of_the_first_year { EpactOfTheFirstYear }
+    ensures epact_of_the_next_year { EpactOfTheNextYear }
+    ensures solar_correction_of_the_next_century { SolarCorrectionOfTheNextCentury }
+    ensures lunar_corrections_from_1800 { LunarCorrectionsFrom1800 }
+    ensures lunar_correction_of_twenty_five_centuries { LunarCorrectionOfTwentyFiveCenturies }
+{}
 
 /// The date of the day of a date is the date.
 fn date_again(date: &Date) -> Option<Date>

@@ -127,7 +127,7 @@ fn compared(x: &Ratio, y: &Ratio) -> Ordering
     x.cmp(y)
 }
 
-/// Whether two are level in the order, which then are equal.
+/// Whether the order says that two are equal, which they then are.
 fn are_level(x: &Ratio, y: &Ratio) -> bool
     ensures { IsTrue result
         ↔ AreEqual (num_of x.now) (den_of x.now) (num_of y.now) (den_of y.now) }
