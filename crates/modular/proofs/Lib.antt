@@ -7,3 +7,4 @@ pub mod EuclidRows
 pub mod LinearCongruences
 pub mod LongDivision
 pub mod CommonSolutions
+pub mod Laws

@@ -1,3 +1,4 @@
 pub mod Below
 pub mod Congruences
 pub mod CommonSolutions
+pub mod Laws

@@ -1,6 +1,7 @@
 //! Worked values at native types.
 
 mod all_bytes;
+mod callers;
 mod congruences;
 mod long_products;
 
