@@ -3,8 +3,8 @@
 ghost use Rattle.std.specs.Prelude.{◌<◌, ◌<ℤ◌, pos};
 
 use crate::{
-    difference_modulo, inverse_modulo, negation_modulo, product_modulo, quotient_modulo, residue,
-    sum_modulo,
+    difference_modulo, inverse_modulo, negation_modulo, power_modulo, product_modulo,
+    quotient_modulo, residue, solutions, sum_modulo,
 };
 use std::process::Abort;
 
@@ -43,6 +43,37 @@ fn only_factor(a: i16, b: i16, m: i16) -> Option<i16>
         }
     }
     found
+}
+
+/// The power, by repeated multiplication.
+fn power_of(a: i16, exponent: u8, m: i16) -> i128
+    requires positive { pos 0 <ℤ m }
+{
+    let (x, n) = (i128::from(a), i128::from(m));
+    let mut power = rest_of(1, n);
+    for _ in 0..exponent {
+        power = rest_of(power.wrapping_mul(x), n);
+    }
+    power
+}
+
+/// Whether the numbers x from 0 to below `m` for which `a` times x is `b` modulo `m` are those that
+/// are the first number modulo the step, a divisor of `m`. With no first number, there is no such x.
+fn are_solutions(found: Option<(i16, i16)>, a: i16, b: i16, m: i16) -> bool
+    requires positive { pos 0 <ℤ m }
+{
+    let (first, step) = found.unwrap_or((m, m));
+    if found.is_some() && (first < 0 || first >= step || m.checked_rem(step) != Some(0)) {
+        return false;
+    }
+    let (_, _, rest) = residues_of(1, b, m);
+    for x in 0..m {
+        let (_, _, product) = residues_of(a, x, m);
+        if (product == rest) != (x.checked_rem(step) == Some(first)) {
+            return false;
+        }
+    }
+    true
 }
 
 /// Each pair of `u8`.
@@ -141,6 +172,53 @@ fn numbers(rt: HostRuntime) {
     for m in 1..=i8::MAX {
         if m > 0 {
             signed_numbers(&rt, m);
+        }
+    }
+}
+
+/// Exponents of none to five binary digits.
+const EXPONENTS: [u8; 6] = [0, 1, 2, 3, 13, 18];
+
+/// The powers of a number of `u8`, and the factors that lead from it to 60.
+fn unsigned_powers_and_solutions(rt: &impl Abort, a: u8, m: u8)
+    requires positive { 0 < m }
+{
+    let (x, n) = (i16::from(a), i16::from(m));
+    for e in EXPONENTS {
+        let power = i128::from(power_modulo(a, u128::from(e), m));
+        assert!(rt; power == power_of(x, e, n), "{a} {e} {m}");
+    }
+    let found = solutions(a, 60, m).map(|(first, step)| (i16::from(first), i16::from(step)));
+    assert!(rt; are_solutions(found, x, 60, n), "{a} {m}");
+}
+
+/// The powers of a number of `i8`, and the factors that lead from it to -60.
+fn signed_powers_and_solutions(rt: &impl Abort, a: i8, m: i8)
+    requires positive { pos 0 <ℤ m }
+{
+    let (x, n) = (i16::from(a), i16::from(m));
+    for e in EXPONENTS {
+        let power = i128::from(power_modulo(a, u128::from(e), m));
+        assert!(rt; power == power_of(x, e, n), "{a} {e} {m}");
+    }
+    let found = solutions(a, -60, m).map(|(first, step)| (i16::from(first), i16::from(step)));
+    assert!(rt; are_solutions(found, x, -60, n), "{a} {m}");
+}
+
+#[test]
+fn powers_and_solutions(rt: HostRuntime) {
+    for m in 1..=u8::MAX {
+        for a in 0..=u8::MAX {
+            if m > 0 {
+                unsigned_powers_and_solutions(&rt, a, m);
+            }
+        }
+    }
+    for m in 1..=i8::MAX {
+        for a in i8::MIN..=i8::MAX {
+            if m > 0 {
+                signed_powers_and_solutions(&rt, a, m);
+            }
         }
     }
 }
