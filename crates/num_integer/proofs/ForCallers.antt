@@ -31,6 +31,7 @@ pub use Rattle.integer_roots.proofs.RootRange.{root_in_range}
 pub use Rattle.integer_roots.proofs.MagnitudeRoots.{first_root}
 pub use Rattle.integer_core.proofs.Whole.{comm, dist, dist-left, expand, linear, mul-neg, mul-one, product_positive, products, sizes}
 pub use Rattle.num_integer.proofs.FittingAnswers.{signed_is}
+pub use Rattle.num_integer.proofs.IntegerPowers.{even_or_odd, even_power, int_pow-suc, int_pow-zero, odd_power, power_of_square}
 pub use Rattle.num_integer.proofs.Pascal.{coefficient-pos, coefficient-zero, none_above}
 
 -- ---- quotients, remainders and multiples by a number above 0

@@ -4,9 +4,8 @@ use Rattle.std.specs.Int.{int_pow}
 use Rattle.std.proofs.Common.{arith, ap, inl, inr, refl, subst, sym, pow_mono, ◌∙◌}
 use Rattle.std.proofs.Math.Nat.{pow-le-pow_left}
 use Rattle.std.proofs.lemmas.Int.{by_lt_z, ints}
-use Rattle.modular.proofs.PowerTurns.{even_or_odd, even_power, odd_power}
 use Rattle.num_integer.specs.RootOf.{IsFloorRoot, IsRoot}
-use Rattle.num_integer.proofs.ForCallers.{exact_power_root, linear, power_of_one, power_of_power, power_of_zero}
+use Rattle.num_integer.proofs.ForCallers.{even_or_odd, even_power, exact_power_root, linear, odd_power, power_of_one, power_of_power, power_of_zero}
 
 pub square_from_zero : (k : ℤ) → pos 0 ≤ℤ (k *ℤ k)
 square_from_zero (pos k) = omega (arith, ints)

@@ -4,9 +4,8 @@ use Rattle.std.specs.Int.{int_pow}
 use Rattle.std.proofs.Common.{arith, ap, ◌∙◌, add-one, subst, sym}
 use Rattle.std.proofs.lemmas.List.{length_push}
 use Rattle.std.proofs.Math.Seq.{take-suc}
-use Rattle.num_integer.proofs.ForCallers.{expand, linear, products}
+use Rattle.num_integer.proofs.ForCallers.{expand, int_pow-suc, int_pow-zero, linear, products}
 use Rattle.modular.proofs.Congruences.{congruent-difference, congruent-product, congruent-refl, congruent-sum, congruent-trans}
-use Rattle.modular.proofs.PowerTurns.{int_pow-suc, int_pow-zero}
 use Rattle.modular.specs.Congruences.{AreCongruent, IsResidue}
 use Rattle.uses.specs.Hashes.{weighted_sum}
 
