@@ -1,7 +1,7 @@
 -- The weeks of ISO 8601.
-use Rattle.std.specs.Prelude.{◌≡◌, ◌+◌, ◌-◌, ◌/◌, ◌%◌, ◌<◌, ◌≤ℤ◌, ◌<ℤ◌, ◌+ℤ◌, ◌-ℤ◌, ◌*ℤ◌, ℕ, ℤ, pos, FitsSigned, MatchOption, Option, Some, None}
+use Rattle.std.specs.Prelude.{◌≡◌, ◌⊎◌, ◌+◌, ◌-◌, ◌/◌, ◌%◌, ◌<◌, ◌≤ℤ◌, ◌<ℤ◌, ◌+ℤ◌, ◌-ℤ◌, ◌*ℤ◌, ℕ, ℤ, pos, FitsSigned, MatchOption, Option, Some, None}
 use Rattle.std.specs.Int.{w64}
-use Rattle.std.proofs.Common.{ap, arith, subst, sym}
+use Rattle.std.proofs.Common.{ap, arith, inl, inr, subst, sym}
 use Rattle.std.proofs.lemmas.Int.{by_lt_z, ints}
 use Rattle.num_integer.proofs.ForCallers.{floored_remainder_range, linear}
 use Rattle.num_integer.specs.Division.{IsFloored, IsRemainder}
@@ -82,6 +82,17 @@ one_week h k =
     let thursday = same_thursday h.of_week k.of_week in
     let year = one_year h.of_year (rw (sym thursday) at k.of_year) in
     (year, omega (arith, ints, h.from, h.before, k.from, k.before, thursday, ap first_day year))
+
+-- the days of an earlier week are before those of a later one
+pub ordered_weeks : {a b y z : ℤ} {v w : ℕ} → IsInIsoWeek a y v → IsInIsoWeek b z w → (y <ℤ z) ⊎ ((y ≡ z) × (v < w)) → a <ℤ b
+ordered_weeks {y = y} {z = z} h k less =
+    let thursdays : h.thursday <ℤ k.thursday = elim less [
+      | inl years ↦ omega (arith, linear, h.of_year.before, k.of_year.from, later_year y z years)
+      | inr weeks ↦ omega (arith, ints, h.before, k.from, ap first_day weeks.0, weeks.1)
+    ] in
+    by_lt_z (h.thursday +ℤ pos 6) k.thursday
+    (λ apart. omega (arith, linear, h.of_week.from, k.of_week.to))
+    (λ near. absurd (omega (arith, linear, same_day Thursday h.of_week.has_weekday k.of_week.has_weekday (omega (arith, linear)) (omega (arith, linear)))))
 
 -- a day of the week after a Thursday's Monday
 pub weekday_after : (weekday : Weekday) {day : ℤ} → HasWeekday day Thursday → HasWeekday (day -ℤ pos 3 +ℤ pos ((weekday_number weekday + 6) % 7)) weekday

@@ -17,7 +17,7 @@ use crate::{Date, Weekday, weekday_of};
 use num_integer::mod_floor;
 
 /// A week of ISO 8601, from Monday to Sunday. Its year is the one that has its Thursday, and week 1
-/// has the first Thursday of the year.
+/// has the first Thursday of the year. Weeks are in the order of their days.
 #[derive(Debug, Clone, Copy, PartialEq, Eq, PartialOrd, Ord, Hash)]
 pub struct IsoWeek {
     pub year: i64,

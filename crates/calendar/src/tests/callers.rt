@@ -1,6 +1,6 @@
 //! What callers learn of the calls from their contracts and the laws, each said by a contract of its own.
 
-ghost use Rattle.std.specs.Prelude.{◌≡◌, ◌⊎◌, ◌↔◌, ◌<ℤ◌, pos, FitsSigned, IfOk, IfSome, IsTrue, MatchOption, Ok, Some, if◌then◌else◌};
+ghost use Rattle.std.specs.Prelude.{◌≡◌, ◌⊎◌, ◌↔◌, ◌<◌, ◌<ℤ◌, pos, FitsSigned, IfOk, IfSome, IsTrue, MatchOption, Ok, Some, if◌then◌else◌};
 ghost use Rattle.std.specs.Int.{w64};
 ghost use Rattle.std.specs.Option.{SomeIff};
 ghost use Rattle.num_integer.specs.Divisors.{Divides};
@@ -96,6 +96,23 @@ fn week_again(week: &IsoWeek, weekday: Weekday) -> Option<IsoWeek>
     ensures { IfSome result (λ again. again ≡ week.now) }
 {
     Date::from_iso_week(week.year, week.week, weekday)?.iso_week()
+}
+
+/// Weeks are in the order of their years, and of their numbers in a year.
+fn is_earlier_week(first: &IsoWeek, second: &IsoWeek) -> bool
+    ensures { IsTrue result ↔ ((first.now.year <ℤ second.now.year)
+        ⊎ ((first.now.year ≡ second.now.year) × (first.now.week < second.now.week))) }
+{
+    first < second
+}
+
+/// A date of an earlier week is before a date of a later one.
+fn is_in_earlier_week(first: &Date, second: &Date) -> Option<bool>
+    ensures { IfSome result (λ earlier. IsTrue earlier → number_of first.now <ℤ number_of second.now) }
+{
+    let week = first.iso_week()?;
+    let other = second.iso_week()?;
+    Some(is_earlier_week(&week, &other))
 }
 
 /// The days from 1970-01-01 to a date are the day of the date.
