@@ -1,5 +1,5 @@
-//! Calls with no file of proofs: those whose conditions a plain fact on the arguments meets, and those
-//! of `checked` and of `ratio64`, which have no conditions.
+//! Calls that need no proof by hand: those whose conditions a plain fact on the arguments meets, and
+//! those of `checked` and of `ratio64`, which have no conditions. Four have a short file of proofs.
 
 ghost use Rattle.std.specs.Prelude.{◌≡◌, ◌≢◌, ◌↔◌, ◌<◌, ◌%◌, ◌≤ℤ◌, ◌<ℤ◌, pos, Err, IfSome, IsTrue};
 ghost use Rattle.num_integer.specs.Bezout.{IsBezoutAnswer};
