@@ -13,6 +13,7 @@ mod gcd_turns;
 mod multiples;
 mod own_pairs;
 mod own_values;
+mod residue_ends;
 mod residues;
 mod roots;
 mod signed_magnitude;

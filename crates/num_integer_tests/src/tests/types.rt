@@ -7,6 +7,7 @@ ghost use Rattle.std.specs.Prelude.{◌≤ℤ◌, IfSome, pos};
 
 use super::signed_magnitude::{SignedMagnitude, to_i128};
 use crate::own_types::{Form, Marked, Negated, OneBit, Own, Percent, Small, TwoBits};
+use modular::Modular;
 use num_integer::counted::{GcdCounted, SqrtCounted};
 use num_integer::{Average, Fits};
 use num_traits::{FromPrimitive, Signed};
@@ -240,5 +241,28 @@ pub(crate) fn check_signed_at(rt: &impl Abort, it: Type, check: &impl SignedChec
         it, check, rt,
         [I8 i8, I16 i16, I32 i32, I64 i64, I128 i128, Isize isize, Small Small, Negated Negated, Marked Marked],
         panic!(rt; "the type has no sign")
+    )
+}
+
+/// What is expected of numbers modulo another at a type.
+pub(crate) trait ResidueCheck {
+    fn at<T: Modular + Tested>(&self, rt: &impl Abort);
+}
+
+/// Makes the check at a type of the library.
+pub(crate) fn check_residues_at(rt: &impl Abort, it: Type, check: &impl ResidueCheck) {
+    at_type!(
+        it, check, rt,
+        [I8 i8, I16 i16, I32 i32, I64 i64, I128 i128, Isize isize],
+        check_unsigned_residues_at(rt, it, check)
+    )
+}
+
+/// Makes the check at a type of the library with no sign.
+fn check_unsigned_residues_at(rt: &impl Abort, it: Type, check: &impl ResidueCheck) {
+    at_type!(
+        it, check, rt,
+        [U8 u8, U16 u16, U32 u32, U64 u64, U128 u128, Usize usize],
+        panic!(rt; "the library has no such type")
     )
 }
