@@ -8,8 +8,6 @@ mod iso_weeks;
 mod month_steps;
 mod month_weekdays;
 mod months;
-#[cfg(test)]
-mod tests;
 mod text;
 mod weekday;
 mod weeks;

@@ -10,8 +10,6 @@ mod powers;
 mod products;
 mod residue_classes;
 mod residues;
-#[cfg(test)]
-mod tests;
 
 pub use common_solutions::{CommonSolution, next_common_solution};
 pub use inverses::{inverse_modulo, quotient_modulo};

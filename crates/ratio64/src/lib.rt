@@ -8,8 +8,6 @@ mod order;
 mod parse;
 mod products;
 mod reduction;
-#[cfg(test)]
-mod tests;
 mod text;
 
 pub use error::RatioError;

@@ -9,5 +9,3 @@ pub mod powers;
 pub mod ranking;
 pub mod rolling_hash;
 pub mod schedules;
-#[cfg(test)]
-mod tests;

@@ -1,0 +1,98 @@
+//! Calls of `uses`: worked values.
+
+mod checked;
+mod lemmas;
+mod plain;
+mod powers;
+mod ranking;
+mod rolling_hash;
+mod schedules;
+mod search;
+
+use uses::halving::midpoint;
+use uses::layout::{align_up, padding};
+use uses::paging::{item_at, pages, place_of};
+use uses::powers::is_square;
+
+const MIN: i64 = i64::MIN;
+
+const MAX: i64 = i64::MAX;
+
+/// Items, the size of a page, the pages, and page and place of the item of that number.
+const ITEMS: [(i64, i64, i64, (i64, i64)); 7] = [
+    (10, 4, 3, (2, 2)),
+    (8, 4, 2, (2, 0)),
+    (0, 4, 0, (0, 0)),
+    (MAX, 2, 4611686018427387904, (4611686018427387903, 1)),
+    (-3, 2, -1, (-2, 1)),
+    (-1, 4, 0, (-1, 3)),
+    (-9, 4, -2, (-3, 3)),
+];
+
+#[test]
+fn paging(rt: HostRuntime) {
+    for (items, page_size, count, place) in ITEMS {
+        assert!(rt; page_size > 0, "{page_size}");
+        assert!(rt; pages(items, page_size) == count, "{items} {page_size}");
+        assert!(rt; place_of(items, page_size) == place, "{items} {page_size}");
+    }
+    assert!(rt; pages(10u8, 4) == 3 && item_at(2u8, 2, 4) == 10 && item_at(15u8, 15, 16) == 255);
+    assert!(rt; item_at(-1i64, 3, 4) == -1 && item_at(-2i8, 99, 100) == -101);
+}
+
+/// An offset, an alignment, the aligned offset and the padding.
+const OFFSETS: [(i64, i64, Option<i64>, i64); 6] = [
+    (13, 8, Some(16), 3),
+    (-13, 8, Some(-8), 5),
+    (16, 8, Some(16), 0),
+    (MIN, 8, Some(MIN), 0),
+    (MAX, 16, None, 1),
+    (0, 1, Some(0), 0),
+];
+
+#[test]
+fn layout(rt: HostRuntime) {
+    for (offset, alignment, aligned, rest) in OFFSETS {
+        assert!(rt;
+            alignment > 0 && align_up(offset, alignment) == aligned,
+            "{offset} {alignment}"
+        );
+        assert!(rt;
+            alignment > 0 && padding(offset, alignment) == rest,
+            "{offset} {alignment}"
+        );
+    }
+    assert!(rt; align_up(250u8, 8) == None && padding(u64::MAX, 8) == 1);
+}
+
+/// Two numbers and their middle.
+const MIDDLES: [(i64, i64, i64); 5] = [
+    (2, 5, 3),
+    (-5, -2, -4),
+    (MAX - 1, MAX, MAX - 1),
+    (MIN, MAX, -1),
+    (7, 7, 7),
+];
+
+/// Whether a number is a square.
+const SQUARES: [(u64, bool); 6] = [
+    (0, true),
+    (1, true),
+    (144, true),
+    (145, false),
+    (18446744065119617025, true),
+    (u64::MAX, false),
+];
+
+#[test]
+fn middles_and_squares(rt: HostRuntime) {
+    for (a, b, middle) in MIDDLES {
+        assert!(rt;
+            midpoint(a, b) == middle && midpoint(b, a) == middle,
+            "{a} {b}"
+        );
+    }
+    for (n, square) in SQUARES {
+        assert!(rt; is_square(n) == square, "{n}");
+    }
+}

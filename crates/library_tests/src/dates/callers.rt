@@ -1,0 +1,143 @@
+//! What callers learn of the calls from their contracts and the laws, each said by a contract of its own.
+
+ghost use Rattle.std.specs.Prelude.{◌≡◌, ◌⊎◌, ◌↔◌, ◌<◌, ◌<ℤ◌, pos, FitsSigned, IfOk, IfSome, IsTrue, MatchOption, Ok, Some, if◌then◌else◌};
+ghost use Rattle.std.specs.Int.{w64};
+ghost use Rattle.std.specs.Option.{SomeIff};
+ghost use Rattle.num_integer.specs.Divisors.{Divides};
+ghost use Rattle.num_integer.specs.Only.{IsOnly};
+ghost use Rattle.calendar.specs.Dates.{number_of};
+ghost use Rattle.calendar.specs.Easter.{IsEaster};
+ghost use Rattle.calendar.specs.Laws.{EpactOfTheFirstYear, EpactOfTheNextYear, FirstWeekdayIsOnly, LunarCorrectionOfTwentyFiveCenturies, LunarCorrectionsFrom1800, MonthsAfterIsOnly, NthWeekdayIsOnly, SolarCorrectionOfTheNextCentury, TextIsOnly, WeekdayIsOnly};
+ghost use Rattle.calendar.specs.Years.{is_leap_year};
+
+use calendar::{Date, DateError, IsoWeek, Weekday, days_between, easter, is_leap_year};
+use std::alloc::{AllocError, Global};
+
+/// The laws that no call below cites, each proved by its lemma.
+fn laws()
+    ensures text_is_only { TextIsOnly }
+    ensures months_after_is_only { MonthsAfterIsOnly }
+    ensures nth_weekday_is_only { NthWeekdayIsOnly }
+    ensures weekday_is_only { WeekdayIsOnly }
+    ensures first_weekday_is_only { FirstWeekdayIsOnly }
+    ensures epact_of_the_first_year { EpactOfTheFirstYear }
+    ensures epact_of_the_next_year { EpactOfTheNextYear }
+    ensures solar_correction_of_the_next_century { SolarCorrectionOfTheNextCentury }
+    ensures lunar_corrections_from_1800 { LunarCorrectionsFrom1800 }
+    ensures lunar_correction_of_twenty_five_centuries { LunarCorrectionOfTwentyFiveCenturies }
+{}
+
+/// The date of the day of a date is the date.
+fn date_again(date: &Date) -> Option<Date>
+    ensures { MatchOption result (¬ (FitsSigned w64 (number_of date.now)))
+        (λ again. again ≡ date.now) }
+{
+    Some(Date::from_day(date.day()?))
+}
+
+/// The day of the date of a day is the day.
+fn day_again(day: i64) -> Option<i64>
+    ensures { result ≡ Some day }
+{
+    Date::from_day(day).day()
+}
+
+/// Dates are in the order of their days.
+fn is_before(first: &Date, second: &Date) -> bool
+    ensures { IsTrue result ↔ (number_of first.now <ℤ number_of second.now) }
+{
+    first < second
+}
+
+/// Dates of the same day are equal.
+fn are_equal(first: &Date, second: &Date) -> bool
+    requires { number_of first.now ≡ number_of second.now }
+    ensures { IsTrue result }
+{
+    first == second
+}
+
+/// The leap rule, by divisors.
+fn has_leap_day(year: i64) -> bool
+    ensures { IsTrue result
+        ↔ (Divides (pos 4) year × ((¬ (Divides (pos 100) year)) ⊎ Divides (pos 400) year)) }
+{
+    is_leap_year(year)
+}
+
+/// The days from the first of a year to the first of the next one.
+fn length_of_year(year: i64) -> Option<i64>
+    ensures { MatchOption result (year ≡ i64.MAX)
+        (λ days. days ≡ pos (if is_leap_year year then 366 else 365)) }
+{
+    let first = Date {
+        year,
+        month: 1,
+        day_of_month: 1,
+    };
+    let next = Date {
+        year: year.checked_add(1)?,
+        month: 1,
+        day_of_month: 1,
+    };
+    days_between(&first, &next)
+}
+
+/// The date of the week and of the day of the week of a date is the date.
+fn week_date_again(date: &Date) -> Option<Date>
+    ensures { IfSome result (λ again. again ≡ date.now) }
+{
+    let week = date.iso_week()?;
+    Date::from_iso_week(week.year, week.week, date.weekday())
+}
+
+/// The week of the date of a day of a week is the week.
+fn week_again(week: &IsoWeek, weekday: Weekday) -> Option<IsoWeek>
+    ensures { IfSome result (λ again. again ≡ week.now) }
+{
+    Date::from_iso_week(week.year, week.week, weekday)?.iso_week()
+}
+
+/// Weeks are in the order of their years, and of their numbers in a year.
+fn is_earlier_week(first: &IsoWeek, second: &IsoWeek) -> bool
+    ensures { IsTrue result ↔ ((first.now.year <ℤ second.now.year)
+        ⊎ ((first.now.year ≡ second.now.year) × (first.now.week < second.now.week))) }
+{
+    first < second
+}
+
+/// A date of an earlier week is before a date of a later one.
+fn is_in_earlier_week(first: &Date, second: &Date) -> Option<bool>
+    ensures { IfSome result (λ earlier. IsTrue earlier → number_of first.now <ℤ number_of second.now) }
+{
+    let week = first.iso_week()?;
+    let other = second.iso_week()?;
+    Some(is_earlier_week(&week, &other))
+}
+
+/// The days from 1970-01-01 to a date are the day of the date.
+fn days_from_first(date: &Date) -> Option<i64>
+    ensures { SomeIff result (FitsSigned w64 (number_of date.now)) (number_of date.now) }
+{
+    let first = Date {
+        year: 1970,
+        month: 1,
+        day_of_month: 1,
+    };
+    days_between(&first, date)
+}
+
+/// The date of Easter is the only one.
+fn only_easter(year: i64) -> Date
+    ensures { IsOnly (IsEaster year) (number_of result) }
+{
+    easter(year)
+}
+
+/// What is read of the text of a date is the date.
+fn read_back(alloc: Global, date: Date) -> Result<Result<Date, DateError>, AllocError>
+    ensures { IfOk result (λ read. read ≡ Ok date) }
+{
+    let text = date.to_string(alloc)?;
+    Ok(text.as_str().parse())
+}

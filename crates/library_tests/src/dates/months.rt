@@ -1,0 +1,96 @@
+//! Dates some months later, and the days of a month that have a given day of the week.
+
+use super::{MAX, MIN, date};
+use calendar::Weekday::{Friday, Monday, Sunday, Thursday};
+use calendar::{Date, Weekday, nth_weekday_of_month};
+
+/// A date, a number of months, and the date this number of months later.
+const LATER: [((i64, u8, u8), i64, (i64, u8, u8)); 16] = [
+    ((2000, 1, 31), 0, (2000, 1, 31)),
+    ((2000, 1, 31), 1, (2000, 2, 29)),
+    ((1999, 1, 31), 1, (1999, 2, 28)),
+    ((1900, 1, 29), 1, (1900, 2, 28)),
+    ((2000, 1, 29), 2, (2000, 3, 29)),
+    ((2000, 3, 31), -1, (2000, 2, 29)),
+    ((2000, 12, 31), 2, (2001, 2, 28)),
+    ((2000, 1, 15), -1, (1999, 12, 15)),
+    ((2026, 5, 31), -6, (2025, 11, 30)),
+    ((0, 1, 1), -1, (-1, 12, 1)),
+    ((1, 3, 31), -13, (0, 2, 29)),
+    ((0, 1, 1), MAX, (768614336404564650, 8, 1)),
+    ((0, 1, 1), MIN, (-768614336404564651, 5, 1)),
+    ((MAX, 1, 31), 11, (MAX, 12, 31)),
+    ((MIN, 12, 31), -11, (MIN, 1, 31)),
+    ((MIN, 3, 31), -1, (MIN, 2, 29)),
+];
+
+#[test]
+fn months_later(rt: HostRuntime) {
+    for (from, months, to) in LATER {
+        let found = date(&rt, from).plus_months(months);
+        assert!(rt; found == Some(date(&rt, to)), "{months}");
+    }
+    let (first, last) = (date(&rt, (MIN, 1, 1)), date(&rt, (MAX, 12, 31)));
+    assert!(rt; first.plus_months(-1) == None && last.plus_months(1) == None);
+    assert!(rt; first.plus_months(MIN) == None && last.plus_months(MAX) == None);
+}
+
+/// Years of twelve months: 29 February becomes 28 February in years that are no leap years.
+#[test]
+fn whole_years(rt: HostRuntime) {
+    let leap_day = date(&rt, (2000, 2, 29));
+    for years in -401..402_i16 {
+        let years = i64::from(years);
+        let year = 2000 + years;
+        let expected = Date::new(year, 2, 29).or(Date::new(year, 2, 28));
+        assert!(rt; leap_day.plus_months(12 * years) == expected, "{year}");
+    }
+}
+
+/// A year, a month, a day of the week, its place in the month, and the day of the month.
+const PLACES: [(i64, u8, Weekday, u8, u8); 16] = [
+    (2020, 11, Thursday, 4, 26),
+    (2021, 11, Thursday, 4, 25),
+    (2022, 11, Thursday, 4, 24),
+    (2023, 11, Thursday, 4, 23),
+    (2024, 11, Thursday, 4, 28),
+    (2025, 11, Thursday, 4, 27),
+    (2026, 11, Thursday, 4, 26),
+    (1970, 1, Monday, 1, 5),
+    (1970, 1, Monday, 2, 12),
+    (1970, 1, Monday, 3, 19),
+    (1970, 1, Monday, 4, 26),
+    (2026, 1, Friday, 5, 30),
+    (2024, 2, Thursday, 5, 29),
+    (2021, 2, Sunday, 4, 28),
+    (MAX, 12, Thursday, 5, 31),
+    (MIN, 1, Sunday, 1, 1),
+];
+
+/// Years, months, days of the week and places where there is no such day.
+const NO_PLACES: [(i64, u8, Weekday, u8); 8] = [
+    (2026, 11, Friday, 5),
+    (2024, 2, Friday, 5),
+    (1970, 1, Monday, 5),
+    (2026, 11, Thursday, 0),
+    (2026, 11, Thursday, 6),
+    (2026, 11, Thursday, u8::MAX),
+    (2026, 0, Thursday, 1),
+    (2026, 13, Thursday, 1),
+];
+
+/// The calendar repeats after 400 years, so the weekdays of the first and the last year are those of
+/// 2192 and 2207.
+#[test]
+fn places_of_weekdays(rt: HostRuntime) {
+    for (year, month, weekday, n, day) in PLACES {
+        let found = nth_weekday_of_month(year, month, weekday, n);
+        assert!(rt; found == Date::new(year, month, day), "{year}");
+    }
+    for (year, month, weekday, n) in NO_PLACES {
+        assert!(rt;
+            nth_weekday_of_month(year, month, weekday, n) == None,
+            "{year} {month} {n}"
+        );
+    }
+}

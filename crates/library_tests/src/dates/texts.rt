@@ -1,0 +1,64 @@
+//! The texts of dates: known ones, the ends of `i64`, and texts that no date has.
+
+use calendar::{Date, DateError};
+use std::process::Abort;
+
+const TEXTS: [((i64, u8, u8), &str); 12] = [
+    ((2026, 11, 23), "2026-11-23"),
+    ((1970, 1, 1), "1970-01-01"),
+    ((9999, 12, 31), "9999-12-31"),
+    ((10000, 1, 1), "+10000-01-01"),
+    ((123456, 2, 3), "+123456-02-03"),
+    ((7, 10, 9), "0007-10-09"),
+    ((0, 2, 29), "0000-02-29"),
+    ((-1, 12, 31), "-0001-12-31"),
+    ((-9999, 1, 1), "-9999-01-01"),
+    ((-10000, 1, 1), "-10000-01-01"),
+    ((i64::MAX, 12, 31), "+9223372036854775807-12-31"),
+    ((i64::MIN, 1, 1), "-9223372036854775808-01-01"),
+];
+
+const NO_TEXTS: [&str; 24] = [
+    "",
+    "-",
+    "11-23",
+    "2026",
+    "2026-11",
+    "2026-11-2",
+    "2026-1-23",
+    "2026-11-23 ",
+    " 2026-11-23",
+    "2026/11/23",
+    "20261123",
+    "2026-11-31",
+    "1900-02-29",
+    "2026-00-01",
+    "2026-13-01",
+    "226-11-23",
+    "02026-11-23",
+    "+2026-11-23",
+    "10000-01-01",
+    "-0000-01-01",
+    "-1-12-31",
+    "+9223372036854775808-12-31",
+    "2026-1é-3",
+    "２026-11-23",
+];
+
+#[test]
+fn both_ways(rt: HostRuntime) {
+    for ((year, month, day_of_month), text) in TEXTS {
+        let date = Date::new(year, month, day_of_month).expect(&rt, "there is such a date");
+        assert!(rt; text.parse::<Date>() == Ok(date), "{year}");
+        let printed = date.to_string(rt.alloc());
+        let printed = printed.expect(&rt, "there is memory");
+        assert!(rt; printed.as_str() == text, "{year}");
+    }
+}
+
+#[test]
+fn no_dates(rt: HostRuntime) {
+    for text in NO_TEXTS {
+        assert!(rt; text.parse::<Date>() == Err(DateError), "{text}");
+    }
+}

@@ -1,0 +1,163 @@
+//! Texts that are read, those that are not, and each printed fraction read back.
+
+ghost use Rattle.std.specs.Prelude.{◌≡◌, IfOk, Ok};
+
+use super::{MAX, MIN, ratio};
+use ratio64::ParseRatioError::{NotAFraction, NotFitting, TooLong, ZeroDenominator};
+use ratio64::{ParseRatioError, Ratio, RatioError};
+use std::alloc::{AllocError, Global};
+use std::process::Abort;
+
+type ParseResult = Result<Ratio, ParseRatioError>;
+
+/// A text, and the parts of the fraction that it is read as.
+type Row = (&'static str, Result<(i64, i64), ParseRatioError>);
+
+const READ: [Row; 23] = [
+    ("3", Ok((3, 1))),
+    ("-3/2", Ok((-3, 2))),
+    ("6/-4", Ok((-3, 2))),
+    ("-6/-4", Ok((3, 2))),
+    ("-0", Ok((0, 1))),
+    ("0/5", Ok((0, 1))),
+    ("0/-5", Ok((0, 1))),
+    ("007/014", Ok((1, 2))),
+    ("9223372036854775807", Ok((MAX, 1))),
+    ("-9223372036854775808", Ok((MIN, 1))),
+    ("-9223372036854775808/9223372036854775807", Ok((MIN, MAX))),
+    ("18446744073709551614/2", Ok((MAX, 1))),
+    ("2/18446744073709551614", Ok((1, MAX))),
+    ("-18446744073709551616/2", Ok((MIN, 1))),
+    ("9223372036854775808", Err(NotFitting)),
+    ("9223372036854775808/-1", Ok((MIN, 1))),
+    ("-9223372036854775809", Err(NotFitting)),
+    ("1/9223372036854775808", Err(NotFitting)),
+    ("1/-9223372036854775808", Err(NotFitting)),
+    ("18446744073709551616/2", Err(NotFitting)),
+    ("1/0", Err(ZeroDenominator)),
+    ("0/-0", Err(ZeroDenominator)),
+    ("99999999999999999999/00", Err(ZeroDenominator)),
+];
+
+/// Parts of 37, 38, 39 and 40 digits.
+const LONG: [Row; 12] = [
+    (
+        "99999999999999999999999999999999999999/99999999999999999999999999999999999999",
+        Ok((1, 1)),
+    ),
+    (
+        "-99999999999999999999999999999999999999/33333333333333333333333333333333333333",
+        Ok((-3, 1)),
+    ),
+    ("1/99999999999999999999999999999999999999", Err(NotFitting)),
+    ("0/99999999999999999999999999999999999999", Ok((0, 1))),
+    (
+        "00099999999999999999999999999999999999999/99999999999999999999999999999999999999",
+        Ok((1, 1)),
+    ),
+    ("100000000000000000000000000000000000000", Err(TooLong)),
+    ("-100000000000000000000000000000000000000", Err(TooLong)),
+    ("0/100000000000000000000000000000000000000", Err(TooLong)),
+    ("999999999999999999999999999999999999999/3", Err(TooLong)),
+    ("-170141183460469231731687303715884105729/0", Err(TooLong)),
+    (
+        "100000000000000000000000000000000000000/x",
+        Err(NotAFraction),
+    ),
+    (
+        "0000000000000000000000000000000000000000000000000012/8",
+        Ok((3, 2)),
+    ),
+];
+
+/// Texts that are no fractions.
+const OTHERS: [&str; 24] = [
+    "",
+    "/",
+    "1/",
+    "/1",
+    "-",
+    "-/1",
+    "1/-",
+    " 1",
+    "1 ",
+    "1 /2",
+    "1/ 2",
+    "+1",
+    "1/+2",
+    "--1",
+    "1/--2",
+    "1//2",
+    "1/2/3",
+    "1/2/",
+    "1.5",
+    "0x1",
+    "a",
+    "1/b",
+    "\u{661}",
+    "1\u{2044}2",
+];
+
+/// The parts of the fraction that the text is read as.
+fn read(text: &str) -> Result<(i64, i64), ParseRatioError> {
+    text.parse::<Ratio>().map(|x| (x.num(), x.den()))
+}
+
+fn check_rows(rt: &impl Abort, rows: &[Row]) {
+    for (text, expected) in rows {
+        assert_eq!(rt; read(text), *expected, "{text}");
+    }
+}
+
+#[test]
+fn texts_read(rt: HostRuntime) {
+    check_rows(&rt, &READ);
+    check_rows(&rt, &LONG);
+}
+
+#[test]
+fn other_texts(rt: HostRuntime) {
+    for text in OTHERS {
+        assert_eq!(rt; read(text), Err(NotAFraction), "{text}");
+    }
+}
+
+#[test]
+fn refusals_read(rt: HostRuntime) {
+    let not_fitting = ParseRatioError::from(RatioError::NotFitting);
+    let zero_denominator = ParseRatioError::from(RatioError::ZeroDenominator);
+    assert!(rt; (not_fitting, zero_denominator) == (NotFitting, ZeroDenominator));
+}
+
+/// The parts of a fraction, and what is read of its text: that fraction, by the contracts alone.
+fn read_back(alloc: Global, x: &Ratio) -> Result<(i64, i64, ParseResult), AllocError>
+    ensures { IfOk result (λ r. r.2 ≡ Ok x.now) }
+{
+    let (num, den) = (x.num(), x.den());
+    let text = x.to_string(alloc)?;
+    Ok((num, den, text.as_str().parse()))
+}
+
+#[test]
+fn printed_and_read_back(rt: HostRuntime) {
+    for num in -12..=12 {
+        for den in -12..=12 {
+            if den != 0 {
+                let x = ratio(&rt, num, den);
+                let read = read_back(rt.alloc(), &x).expect(&rt, "there is memory");
+                assert!(rt; read == (x.num(), x.den(), Ok(x)), "{num} over {den}");
+            }
+        }
+    }
+}
+
+#[test]
+fn small_parts_as_written(rt: HostRuntime) {
+    for num in -12..=12 {
+        for den in -12..=12 {
+            let text = format!(in rt.alloc(); "{num}/{den}").expect(&rt, "there is memory");
+            let expected = Ratio::new(num, den).map_err(ParseRatioError::from);
+            assert!(rt; text.as_str().parse() == expected, "{num} over {den}");
+        }
+    }
+}

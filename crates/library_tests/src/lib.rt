@@ -1,0 +1,11 @@
+//! The tests of `ratio64`, `modular`, `calendar` and `uses`.
+#![tactic(auto)]
+
+#[cfg(test)]
+mod calls;
+#[cfg(test)]
+mod dates;
+#[cfg(test)]
+mod fractions;
+#[cfg(test)]
+mod residues;

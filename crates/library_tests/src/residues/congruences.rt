@@ -1,0 +1,109 @@
+//! Linear congruences.
+
+use super::{MAX, MIN};
+use modular::CommonSolution::{At, Beyond, Never};
+use modular::{CommonSolution, chinese_remainder, next_common_solution, next_congruent, solutions};
+use num_integer::Fits;
+
+#[test]
+fn single_congruences(rt: HostRuntime) {
+    assert!(rt; solutions(6u8, 4, 10) == Some((4, 5)) && solutions(6i8, 3, 10) == None);
+    assert!(rt; solutions(-3i8, 2, 7) == Some((4, 7)) && solutions(0i8, 0, 5) == Some((0, 1)));
+    assert!(rt; solutions(0u8, 1, 5) == None && solutions(5u8, 0, 1) == Some((0, 1)));
+    assert!(rt; solutions(200u8, 40, 240) == Some((5, 6)));
+    assert!(rt;
+        solutions(6000000000000000002u64, 4, 10000000000000000000)
+            == Some((4000000000000000002, 5000000000000000000))
+    );
+    assert!(rt;
+        solutions(
+            12345678901234567890123456789u128,
+            98765432109876543210,
+            u128::MAX - 1
+        ) == Some((307881547042602639720991638492654390550, u128::MAX - 1))
+    );
+}
+
+/// Numbers, each with a modulus, and the numbers that solve both congruences.
+type Row = ((i64, i64), (i64, i64), Option<(i64, i64)>);
+
+const BOTH: [Row; 9] = [
+    ((1, 4), (3, 6), Some((9, 12))),
+    ((1, 4), (2, 6), None),
+    ((2, 3), (3, 5), Some((8, 15))),
+    ((-1, 4), (5, 9), Some((23, 36))),
+    ((7, 1), (3, 1), Some((0, 1))),
+    ((3, 100), (53, 120), None),
+    ((5, 6), (1, 4), Some((5, 12))),
+    ((100, 200), (20, 80), Some((100, 400))),
+    ((MIN, MAX), (-1, 1), Some((MAX - 1, MAX))),
+];
+
+#[test]
+fn two_congruences(rt: HostRuntime) {
+    for ((a, m), (b, n), both) in BOTH {
+        let fits = m > 0 && n > 0 && m.lcm_fits(&n);
+        assert!(rt;
+            fits && chinese_remainder(a, m, b, n) == both,
+            "{a} {m} {b} {n}"
+        );
+    }
+    let (m, n) = (4294967291u64, 4294967279);
+    assert!(rt;
+        m.lcm_fits(&n)
+            && chinese_remainder(5, m, 7, n) == Some((3074457330585873085, 18446743979220271189))
+    );
+}
+
+/// Where to begin, a number and a step, and the next congruent number.
+const NEXT_CONGRUENT: [(i64, i64, i64, Option<i64>); 7] = [
+    (10, 1, 4, Some(13)),
+    (-10, 1, 4, Some(-7)),
+    (13, 1, 4, Some(13)),
+    (MAX, MAX, 5, Some(MAX)),
+    (MIN, MAX, MAX, Some(MIN + 1)),
+    (MAX, 0, 2, None),
+    (MAX - 1, 0, 2, Some(MAX - 1)),
+];
+
+#[test]
+fn next_congruent_numbers(rt: HostRuntime) {
+    for (from, first, step, next) in NEXT_CONGRUENT {
+        assert!(rt;
+            step > 0 && next_congruent(from, first, step) == next,
+            "{from} {first} {step}"
+        );
+    }
+    assert!(rt; next_congruent(120i8, 1, 9) == Some(127) && next_congruent(120i8, 2, 9) == None);
+}
+
+/// Where to begin, two congruences, each a number with a modulus, and the next number that solves both.
+type Next = (i8, (i8, i8), (i8, i8), CommonSolution<i8>);
+
+const NEXT_COMMON_SOLUTION: [Next; 12] = [
+    (10, (1, 4), (3, 6), At(21)),
+    (21, (1, 4), (3, 6), At(21)),
+    (-20, (1, 4), (3, 6), At(-15)),
+    (10, (1, 4), (2, 6), Never),
+    (118, (1, 4), (3, 6), Beyond),
+    (-128, (5, 10), (0, 13), At(-65)),
+    (-64, (5, 10), (0, 13), At(65)),
+    (66, (5, 10), (0, 13), Beyond),
+    (-128, (2, 10), (2, 13), At(-128)),
+    (-127, (2, 10), (2, 13), At(2)),
+    (-128, (7, 127), (7, 126), At(7)),
+    (127, (0, 1), (-1, 1), At(127)),
+];
+
+#[test]
+fn next_common_solutions(rt: HostRuntime) {
+    for (from, (a, m), (b, n), next) in NEXT_COMMON_SOLUTION {
+        assert!(rt;
+            m > 0 && n > 0 && next_common_solution(from, a, m, b, n) == next,
+            "{from} {a} {m} {b} {n}"
+        );
+    }
+    let (m, n) = (u128::MAX, u128::MAX - 1);
+    assert!(rt; next_common_solution(0, 5, m, 5, n) == At(5));
+    assert!(rt; next_common_solution(6, 5, m, 5, n) == Beyond);
+}
