@@ -8,7 +8,7 @@ mod operand;
 mod rows;
 
 use crate::calls::{Answer, Call, Kind, Refusal};
-use operand::{Operand, narrow, needs};
+use operand::{Operand, narrow, narrow_both, needs};
 use std::num::TryFromIntError;
 
 /// Returns the answer of the call at the kind, or why it is refused.
@@ -42,24 +42,24 @@ fn evaluate_at<T: Operand + TryFrom<i128, Error = TryFromIntError>>(
     ensures { OutcomeIn T.fits call.now result }
 {
     match call {
-        Call::DivRem(n, d) => rows::div_rem::<T>(narrow(*n)?, narrow(*d)?),
-        Call::DivModFloor(n, d) => rows::div_mod_floor::<T>(narrow(*n)?, narrow(*d)?),
-        Call::DivFloor(n, d) => rows::div_floor::<T>(narrow(*n)?, narrow(*d)?),
-        Call::DivCeil(n, d) => rows::div_ceil::<T>(narrow(*n)?, narrow(*d)?),
-        Call::ModFloor(n, d) => rows::mod_floor::<T>(narrow(*n)?, narrow(*d)?),
-        Call::NextMultipleOf(n, d) => rows::next_multiple_of::<T>(narrow(*n)?, narrow(*d)?),
-        Call::PrevMultipleOf(n, d) => rows::prev_multiple_of::<T>(narrow(*n)?, narrow(*d)?),
-        Call::IsMultipleOf(n, d) => rows::is_multiple_of::<T>(narrow(*n)?, narrow(*d)?),
-        Call::Gcd(a, b) => rows::gcd::<T>(narrow(*a)?, narrow(*b)?),
-        Call::Lcm(a, b) => rows::lcm::<T>(narrow(*a)?, narrow(*b)?),
-        Call::GcdLcm(a, b) => rows::gcd_lcm::<T>(narrow(*a)?, narrow(*b)?),
-        Call::ExtendedGcd(a, b) => rows::extended_gcd::<T>(narrow(*a)?, narrow(*b)?),
-        Call::AverageFloor(a, b) => rows::average_floor::<T>(narrow(*a)?, narrow(*b)?),
-        Call::AverageCeil(a, b) => rows::average_ceil::<T>(narrow(*a)?, narrow(*b)?),
+        Call::DivRem(n, d) => rows::div_rem::<T>(narrow_both(*n, *d)?),
+        Call::DivModFloor(n, d) => rows::div_mod_floor::<T>(narrow_both(*n, *d)?),
+        Call::DivFloor(n, d) => rows::div_floor::<T>(narrow_both(*n, *d)?),
+        Call::DivCeil(n, d) => rows::div_ceil::<T>(narrow_both(*n, *d)?),
+        Call::ModFloor(n, d) => rows::mod_floor::<T>(narrow_both(*n, *d)?),
+        Call::NextMultipleOf(n, d) => rows::next_multiple_of::<T>(narrow_both(*n, *d)?),
+        Call::PrevMultipleOf(n, d) => rows::prev_multiple_of::<T>(narrow_both(*n, *d)?),
+        Call::IsMultipleOf(n, d) => rows::is_multiple_of::<T>(narrow_both(*n, *d)?),
+        Call::Gcd(a, b) => rows::gcd::<T>(narrow_both(*a, *b)?),
+        Call::Lcm(a, b) => rows::lcm::<T>(narrow_both(*a, *b)?),
+        Call::GcdLcm(a, b) => rows::gcd_lcm::<T>(narrow_both(*a, *b)?),
+        Call::ExtendedGcd(a, b) => rows::extended_gcd::<T>(narrow_both(*a, *b)?),
+        Call::AverageFloor(a, b) => rows::average_floor::<T>(narrow_both(*a, *b)?),
+        Call::AverageCeil(a, b) => rows::average_ceil::<T>(narrow_both(*a, *b)?),
         Call::Sqrt(x) => rows::sqrt::<T>(narrow(*x)?),
         Call::Cbrt(x) => rows::cbrt::<T>(narrow(*x)?),
         Call::NthRoot(x, n) => rows::nth_root::<T>(narrow(*x)?, narrow(*n)?),
-        Call::Binomial(n, k) => rows::binomial::<T>(narrow(*n)?, narrow(*k)?),
+        Call::Binomial(n, k) => rows::binomial::<T>(narrow_both(*n, *k)?),
         Call::RatioAdd(a, b, c, d) => fractions::ratio_add(*a, *b, *c, *d),
         Call::RatioMul(a, b, c, d) => fractions::ratio_mul(*a, *b, *c, *d),
     }

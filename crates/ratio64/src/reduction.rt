@@ -38,5 +38,5 @@ fn part(number: i128) -> Result<i64, RatioError>
     ensures { MatchResult result (λ n. (n ≡ number) × FitsSigned w64 number)
         (λ e. (e ≡ RatioError.NotFitting) × (¬ (FitsSigned w64 number))) }
 {
-    i64::try_from(number).map_err(|_| RatioError::NotFitting)
+    i64::try_from(number).or(Err(RatioError::NotFitting))
 }

@@ -55,7 +55,7 @@ fn fraction(num: i64, den: i64) -> Result<Ratio, Refusal>
     ensures { MatchResult result (IsRatioOf num den)
         (λ refusal. (refusal ≡ refusals.NotFitting) × IsOutsideI64 num den) }
 {
-    Ratio::new(num, den).map_err(|_| Refusal::NotFitting)
+    Ratio::new(num, den).or(Err(Refusal::NotFitting))
 }
 
 /// Returns the parts of a result, or the refusal of a result without parts.

@@ -22,7 +22,20 @@ pub(crate) fn narrow<T: Integer + TryFrom<i128, Error = TryFromIntError>>(
     ensures { MatchResult result (λ x. (T.value x ≡ n) × T.fits n)
         (λ refusal. (refusal ≡ refusals.OutOfType) × ¬ (T.fits n)) }
 {
-    T::try_from(n).map_err(|_| Refusal::OutOfType)
+    T::try_from(n).or(Err(Refusal::OutOfType))
+}
+
+/// Returns the values that mean `a` and `b`, or `OutOfType` where one of them lies outside the type.
+pub(crate) fn narrow_both<T: Integer + TryFrom<i128, Error = TryFromIntError>>(
+    a: i128,
+    b: i128,
+) -> Result<(T, T), Refusal>
+    requires { Narrows T.value T.fits T.try_from_gives }
+    ensures { MatchResult result
+        (λ pair. ((T.value pair.0 ≡ a) × T.fits a) × ((T.value pair.1 ≡ b) × T.fits b))
+        (λ refusal. (refusal ≡ refusals.OutOfType) × ¬ (T.fits a × T.fits b)) }
+{
+    Ok((narrow(a)?, narrow(b)?))
 }
 
 /// Returns the number that `x` means.

@@ -11,134 +11,134 @@ use crate::outcome::operand::{Operand, is_from_zero, needs, three, two, widen};
 use num_integer::checked;
 use num_integer::operators::is_zero;
 
-pub(crate) fn div_rem<T: Operand>(n: T, d: T) -> Result<Answer, Refusal>
-    requires n_in_range { T.fits (T.value n) }
-    requires d_in_range { T.fits (T.value d) }
-    ensures { Inside T.fits (calls.DivRem (T.value n) (T.value d)) result }
+pub(crate) fn div_rem<T: Operand>(pair: (T, T)) -> Result<Answer, Refusal>
+    requires { T.fits (T.value pair.0) × T.fits (T.value pair.1) }
+    ensures { Inside T.fits (calls.DivRem (T.value pair.0) (T.value pair.1)) result }
 {
+    let (n, d) = pair;
     needs(!is_zero(d), Refusal::ZeroDivisor)?;
     let pair = checked::div_rem(n, d).ok_or(Refusal::NotFitting)?;
     Ok(two(pair))
 }
 
-pub(crate) fn div_mod_floor<T: Operand>(n: T, d: T) -> Result<Answer, Refusal>
-    requires n_in_range { T.fits (T.value n) }
-    requires d_in_range { T.fits (T.value d) }
-    ensures { Inside T.fits (calls.DivModFloor (T.value n) (T.value d)) result }
+pub(crate) fn div_mod_floor<T: Operand>(pair: (T, T)) -> Result<Answer, Refusal>
+    requires { T.fits (T.value pair.0) × T.fits (T.value pair.1) }
+    ensures { Inside T.fits (calls.DivModFloor (T.value pair.0) (T.value pair.1)) result }
 {
+    let (n, d) = pair;
     needs(!is_zero(d), Refusal::ZeroDivisor)?;
     let pair = checked::div_mod_floor(n, d).ok_or(Refusal::NotFitting)?;
     Ok(two(pair))
 }
 
-pub(crate) fn div_floor<T: Operand>(n: T, d: T) -> Result<Answer, Refusal>
-    requires n_in_range { T.fits (T.value n) }
-    requires d_in_range { T.fits (T.value d) }
-    ensures { Inside T.fits (calls.DivFloor (T.value n) (T.value d)) result }
+pub(crate) fn div_floor<T: Operand>(pair: (T, T)) -> Result<Answer, Refusal>
+    requires { T.fits (T.value pair.0) × T.fits (T.value pair.1) }
+    ensures { Inside T.fits (calls.DivFloor (T.value pair.0) (T.value pair.1)) result }
 {
+    let (n, d) = pair;
     needs(!is_zero(d), Refusal::ZeroDivisor)?;
     let quotient = checked::div_floor(n, d).ok_or(Refusal::NotFitting)?;
     Ok(Answer::One(widen(quotient)))
 }
 
-pub(crate) fn div_ceil<T: Operand>(n: T, d: T) -> Result<Answer, Refusal>
-    requires n_in_range { T.fits (T.value n) }
-    requires d_in_range { T.fits (T.value d) }
-    ensures { Inside T.fits (calls.DivCeil (T.value n) (T.value d)) result }
+pub(crate) fn div_ceil<T: Operand>(pair: (T, T)) -> Result<Answer, Refusal>
+    requires { T.fits (T.value pair.0) × T.fits (T.value pair.1) }
+    ensures { Inside T.fits (calls.DivCeil (T.value pair.0) (T.value pair.1)) result }
 {
+    let (n, d) = pair;
     needs(!is_zero(d), Refusal::ZeroDivisor)?;
     let quotient = checked::div_ceil(n, d).ok_or(Refusal::NotFitting)?;
     Ok(Answer::One(widen(quotient)))
 }
 
-pub(crate) fn mod_floor<T: Operand>(n: T, d: T) -> Result<Answer, Refusal>
-    requires n_in_range { T.fits (T.value n) }
-    requires d_in_range { T.fits (T.value d) }
-    ensures { Inside T.fits (calls.ModFloor (T.value n) (T.value d)) result }
+pub(crate) fn mod_floor<T: Operand>(pair: (T, T)) -> Result<Answer, Refusal>
+    requires { T.fits (T.value pair.0) × T.fits (T.value pair.1) }
+    ensures { Inside T.fits (calls.ModFloor (T.value pair.0) (T.value pair.1)) result }
 {
+    let (n, d) = pair;
     needs(!is_zero(d), Refusal::ZeroDivisor)?;
     Ok(Answer::One(widen(n.mod_floor(&d))))
 }
 
-pub(crate) fn next_multiple_of<T: Operand>(n: T, d: T) -> Result<Answer, Refusal>
-    requires n_in_range { T.fits (T.value n) }
-    requires d_in_range { T.fits (T.value d) }
-    ensures { Inside T.fits (calls.NextMultipleOf (T.value n) (T.value d)) result }
+pub(crate) fn next_multiple_of<T: Operand>(pair: (T, T)) -> Result<Answer, Refusal>
+    requires { T.fits (T.value pair.0) × T.fits (T.value pair.1) }
+    ensures { Inside T.fits (calls.NextMultipleOf (T.value pair.0) (T.value pair.1)) result }
 {
+    let (n, d) = pair;
     needs(!is_zero(d), Refusal::ZeroDivisor)?;
     needs(n.next_multiple_fits(&d), Refusal::NotFitting)?;
     Ok(Answer::One(widen(n.next_multiple_of(&d))))
 }
 
-pub(crate) fn prev_multiple_of<T: Operand>(n: T, d: T) -> Result<Answer, Refusal>
-    requires n_in_range { T.fits (T.value n) }
-    requires d_in_range { T.fits (T.value d) }
-    ensures { Inside T.fits (calls.PrevMultipleOf (T.value n) (T.value d)) result }
+pub(crate) fn prev_multiple_of<T: Operand>(pair: (T, T)) -> Result<Answer, Refusal>
+    requires { T.fits (T.value pair.0) × T.fits (T.value pair.1) }
+    ensures { Inside T.fits (calls.PrevMultipleOf (T.value pair.0) (T.value pair.1)) result }
 {
+    let (n, d) = pair;
     needs(!is_zero(d), Refusal::ZeroDivisor)?;
     needs(n.prev_multiple_fits(&d), Refusal::NotFitting)?;
     Ok(Answer::One(widen(n.prev_multiple_of(&d))))
 }
 
-pub(crate) fn is_multiple_of<T: Operand>(n: T, d: T) -> Result<Answer, Refusal>
-    requires n_in_range { T.fits (T.value n) }
-    requires d_in_range { T.fits (T.value d) }
-    ensures { Inside T.fits (calls.IsMultipleOf (T.value n) (T.value d)) result }
+pub(crate) fn is_multiple_of<T: Operand>(pair: (T, T)) -> Result<Answer, Refusal>
+    requires { T.fits (T.value pair.0) × T.fits (T.value pair.1) }
+    ensures { Inside T.fits (calls.IsMultipleOf (T.value pair.0) (T.value pair.1)) result }
 {
+    let (n, d) = pair;
     Ok(Answer::Truth(n.is_multiple_of(&d)))
 }
 
-pub(crate) fn gcd<T: Operand>(a: T, b: T) -> Result<Answer, Refusal>
-    requires a_in_range { T.fits (T.value a) }
-    requires b_in_range { T.fits (T.value b) }
-    ensures { Inside T.fits (calls.Gcd (T.value a) (T.value b)) result }
+pub(crate) fn gcd<T: Operand>(pair: (T, T)) -> Result<Answer, Refusal>
+    requires { T.fits (T.value pair.0) × T.fits (T.value pair.1) }
+    ensures { Inside T.fits (calls.Gcd (T.value pair.0) (T.value pair.1)) result }
 {
+    let (a, b) = pair;
     needs(a.gcd_fits(&b), Refusal::NotFitting)?;
     Ok(Answer::One(widen(a.gcd(&b))))
 }
 
-pub(crate) fn lcm<T: Operand>(a: T, b: T) -> Result<Answer, Refusal>
-    requires a_in_range { T.fits (T.value a) }
-    requires b_in_range { T.fits (T.value b) }
-    ensures { Inside T.fits (calls.Lcm (T.value a) (T.value b)) result }
+pub(crate) fn lcm<T: Operand>(pair: (T, T)) -> Result<Answer, Refusal>
+    requires { T.fits (T.value pair.0) × T.fits (T.value pair.1) }
+    ensures { Inside T.fits (calls.Lcm (T.value pair.0) (T.value pair.1)) result }
 {
+    let (a, b) = pair;
     needs(a.lcm_fits(&b), Refusal::NotFitting)?;
     Ok(Answer::One(widen(a.lcm(&b))))
 }
 
-pub(crate) fn gcd_lcm<T: Operand>(a: T, b: T) -> Result<Answer, Refusal>
-    requires a_in_range { T.fits (T.value a) }
-    requires b_in_range { T.fits (T.value b) }
-    ensures { Inside T.fits (calls.GcdLcm (T.value a) (T.value b)) result }
+pub(crate) fn gcd_lcm<T: Operand>(pair: (T, T)) -> Result<Answer, Refusal>
+    requires { T.fits (T.value pair.0) × T.fits (T.value pair.1) }
+    ensures { Inside T.fits (calls.GcdLcm (T.value pair.0) (T.value pair.1)) result }
 {
+    let (a, b) = pair;
     needs(a.gcd_fits(&b), Refusal::NotFitting)?;
     needs(a.lcm_fits(&b), Refusal::NotFitting)?;
     Ok(two(a.gcd_lcm(&b)))
 }
 
-pub(crate) fn extended_gcd<T: Operand>(a: T, b: T) -> Result<Answer, Refusal>
-    requires a_in_range { T.fits (T.value a) }
-    requires b_in_range { T.fits (T.value b) }
-    ensures { Inside T.fits (calls.ExtendedGcd (T.value a) (T.value b)) result }
+pub(crate) fn extended_gcd<T: Operand>(pair: (T, T)) -> Result<Answer, Refusal>
+    requires { T.fits (T.value pair.0) × T.fits (T.value pair.1) }
+    ensures { Inside T.fits (calls.ExtendedGcd (T.value pair.0) (T.value pair.1)) result }
 {
+    let (a, b) = pair;
     needs(a.gcd_fits(&b), Refusal::NotFitting)?;
     let bezout = checked::extended_gcd(a, b).ok_or(Refusal::NoPair)?;
     Ok(three(bezout.gcd, bezout.x, bezout.y))
 }
 
-pub(crate) fn average_floor<T: Operand>(a: T, b: T) -> Result<Answer, Refusal>
-    requires a_in_range { T.fits (T.value a) }
-    requires b_in_range { T.fits (T.value b) }
-    ensures { Inside T.fits (calls.AverageFloor (T.value a) (T.value b)) result }
+pub(crate) fn average_floor<T: Operand>(pair: (T, T)) -> Result<Answer, Refusal>
+    requires { T.fits (T.value pair.0) × T.fits (T.value pair.1) }
+    ensures { Inside T.fits (calls.AverageFloor (T.value pair.0) (T.value pair.1)) result }
 {
+    let (a, b) = pair;
     Ok(Answer::One(widen(a.average_floor(&b))))
 }
 
-pub(crate) fn average_ceil<T: Operand>(a: T, b: T) -> Result<Answer, Refusal>
-    requires a_in_range { T.fits (T.value a) }
-    requires b_in_range { T.fits (T.value b) }
-    ensures { Inside T.fits (calls.AverageCeil (T.value a) (T.value b)) result }
+pub(crate) fn average_ceil<T: Operand>(pair: (T, T)) -> Result<Answer, Refusal>
+    requires { T.fits (T.value pair.0) × T.fits (T.value pair.1) }
+    ensures { Inside T.fits (calls.AverageCeil (T.value pair.0) (T.value pair.1)) result }
 {
+    let (a, b) = pair;
     Ok(Answer::One(widen(a.average_ceil(&b))))
 }
 
@@ -166,11 +166,11 @@ pub(crate) fn nth_root<T: Operand>(x: T, n: u32) -> Result<Answer, Refusal>
     Ok(Answer::One(widen(x.nth_root(n))))
 }
 
-pub(crate) fn binomial<T: Operand>(n: T, k: T) -> Result<Answer, Refusal>
-    requires n_in_range { T.fits (T.value n) }
-    requires k_in_range { T.fits (T.value k) }
-    ensures { Inside T.fits (calls.Binomial (T.value n) (T.value k)) result }
+pub(crate) fn binomial<T: Operand>(pair: (T, T)) -> Result<Answer, Refusal>
+    requires { T.fits (T.value pair.0) × T.fits (T.value pair.1) }
+    ensures { Inside T.fits (calls.Binomial (T.value pair.0) (T.value pair.1)) result }
 {
+    let (n, k) = pair;
     needs(is_from_zero(n) && is_from_zero(k), Refusal::NegativeCount)?;
     needs(n.binomial_fits(&k), Refusal::NotFitting)?;
     Ok(Answer::One(widen(num_integer::binomial(n, k))))

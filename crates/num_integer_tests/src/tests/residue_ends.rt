@@ -2,9 +2,9 @@
 //! greatest number of the type, against computations on the small numbers that are congruent.
 
 use super::signed_magnitude::{SignedMagnitude, signed_magnitude, sum};
-use super::types::{NATIVE, ResidueCheck, Tested, check_residues_at, optional_value, value};
+use super::types::{Check, NATIVE, Tested, check_at_each, optional_value, value};
 use modular::{
-    CommonSolution, Modular, chinese_remainder, difference_modulo, inverse_modulo, negation_modulo,
+    CommonSolution, chinese_remainder, difference_modulo, inverse_modulo, negation_modulo,
     next_common_solution, next_congruent, power_modulo, product_modulo, quotient_modulo, residue,
     solutions, sum_modulo,
 };
@@ -56,7 +56,7 @@ fn quotient_of(z: i128, divisor: i128, m: u128) -> Option<SignedMagnitude> {
 }
 
 /// What the calls of one number answer.
-fn has_residues<T: Modular + Tested>(rt: &impl Abort, (a, z): Near, m: u128) {
+fn has_residues<T: Tested>(rt: &impl Abort, (a, z): Near, m: u128) {
     let (x, n) = (value::<T>(rt, a), value::<T>(rt, (false, m)));
     if is_below(zero(), n) {
         let negated = rest_of(z.wrapping_neg(), m);
@@ -79,7 +79,7 @@ fn has_residues<T: Modular + Tested>(rt: &impl Abort, (a, z): Near, m: u128) {
 }
 
 /// The sum, the difference, the product and the quotient of two numbers.
-fn has_operations<T: Modular + Tested>(rt: &impl Abort, (a, z): Near, (b, w): Near, m: u128) {
+fn has_operations<T: Tested>(rt: &impl Abort, (a, z): Near, (b, w): Near, m: u128) {
     let (x, y, n) = (
         value::<T>(rt, a),
         value::<T>(rt, b),
@@ -125,7 +125,7 @@ fn optional_pair<T: Tested>(pair: Option<(SignedMagnitude, SignedMagnitude)>) ->
 }
 
 /// The factors that lead from one number to another, and the numbers that are congruent to both.
-fn has_classes<T: Modular + Tested>(rt: &impl Abort, (a, z): Near, (b, w): Near, m: u128) {
+fn has_classes<T: Tested>(rt: &impl Abort, (a, z): Near, (b, w): Near, m: u128) {
     let (x, y, n) = (
         value::<T>(rt, a),
         value::<T>(rt, b),
@@ -147,7 +147,7 @@ fn has_classes<T: Modular + Tested>(rt: &impl Abort, (a, z): Near, (b, w): Near,
 }
 
 /// The next number from one on that is congruent to another, alone and beside the first.
-fn has_next<T: Modular + Tested>(rt: &impl Abort, (a, z): Near, (b, w): Near, m: u128) {
+fn has_next<T: Tested>(rt: &impl Abort, (a, z): Near, (b, w): Near, m: u128) {
     let (x, y, n) = (
         value::<T>(rt, a),
         value::<T>(rt, b),
@@ -182,8 +182,8 @@ fn has_next<T: Modular + Tested>(rt: &impl Abort, (a, z): Near, (b, w): Near, m:
 #[derive(Drop)]
 struct Pairs;
 
-impl ResidueCheck for Pairs {
-    fn at<T: Modular + Tested>(&self, rt: &impl Abort) {
+impl Check for Pairs {
+    fn at<T: Tested>(&self, rt: &impl Abort) {
         let (low, high) = T::ends();
         for first in numbers(low, high) {
             has_residues::<T>(rt, first, high);
@@ -198,7 +198,5 @@ impl ResidueCheck for Pairs {
 
 #[test]
 fn residues_at_the_ends(rt: HostRuntime) {
-    for it in NATIVE {
-        check_residues_at(&rt, it, &Pairs);
-    }
+    check_at_each(&rt, &NATIVE, &Pairs);
 }

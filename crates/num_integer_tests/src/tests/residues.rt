@@ -3,9 +3,7 @@
 
 use super::types::{Tested, number, optional};
 use crate::own_types::{Marked, Negated, OneBit, Percent, Small, TwoBits};
-use modular::{
-    Modular, difference_modulo, inverse_modulo, power_modulo, product_modulo, sum_modulo,
-};
+use modular::{difference_modulo, inverse_modulo, power_modulo, product_modulo, sum_modulo};
 use num_integer::operators::{is_below, zero};
 use std::process::Abort;
 
@@ -20,7 +18,7 @@ fn residue_of<T: Tested>(z: Option<i128>, m: i16) -> Option<T> {
 }
 
 /// The sum, the difference and the product of two numbers.
-fn check_pair<T: Modular + Tested>(rt: &impl Abort, (a, b): (i16, i16), m: i16) {
+fn check_pair<T: Tested>(rt: &impl Abort, (a, b): (i16, i16), m: i16) {
     let (x, y) = (number::<T>(rt, a.into()), number::<T>(rt, b.into()));
     let n = number::<T>(rt, m.into());
     if is_below(zero(), n) {
@@ -52,7 +50,7 @@ fn only_factor(a: i16, b: i16, m: i16) -> Option<i128> {
 }
 
 /// The powers and the inverse of a number.
-fn check_number<T: Modular + Tested>(rt: &impl Abort, a: i16, m: i16) {
+fn check_number<T: Tested>(rt: &impl Abort, a: i16, m: i16) {
     let (x, n) = (number::<T>(rt, a.into()), number::<T>(rt, m.into()));
     if is_below(zero(), n) {
         for degree in [0, 1, 2, 13, 18] {
@@ -70,7 +68,7 @@ fn check_number<T: Modular + Tested>(rt: &impl Abort, a: i16, m: i16) {
 
 /// Each number from the lower to the higher, alone and beside some of them, modulo each of them above
 /// 0.
-fn check_each<T: Modular + Tested>(rt: &impl Abort, low: i16, high: i16, others: &[i16]) {
+fn check_each<T: Tested>(rt: &impl Abort, low: i16, high: i16, others: &[i16]) {
     for m in 1..=high {
         for a in low..=high {
             check_number::<T>(rt, a, m);

@@ -51,7 +51,7 @@ pub(crate) const NATIVE: [Type; 12] = [
 ];
 
 /// A type whose values the tests make of numbers.
-pub(crate) trait Tested: Average + Fits + Debug {
+pub(crate) trait Tested: Average + Fits + Modular + Debug {
     /// The number as a value of the type, where the type has it.
     fn from_number(n: i128) -> Option<Self>
         ensures { IfSome result (λ x. Self.fits (Self.value x)) };
@@ -73,7 +73,7 @@ pub(crate) trait Tested: Average + Fits + Debug {
     }
 }
 
-impl<T: Average + Fits + FromPrimitive + GcdCounted + Debug> Tested for T {
+impl<T: Average + Fits + Modular + FromPrimitive + GcdCounted + Debug> Tested for T {
     fn from_number(n: i128) -> Option<T> {
         T::from_i128(n)
     }
@@ -241,28 +241,5 @@ pub(crate) fn check_signed_at(rt: &impl Abort, it: Type, check: &impl SignedChec
         it, check, rt,
         [I8 i8, I16 i16, I32 i32, I64 i64, I128 i128, Isize isize, Small Small, Negated Negated, Marked Marked],
         panic!(rt; "the type has no sign")
-    )
-}
-
-/// What is expected of numbers modulo another at a type.
-pub(crate) trait ResidueCheck {
-    fn at<T: Modular + Tested>(&self, rt: &impl Abort);
-}
-
-/// Makes the check at a type of the library.
-pub(crate) fn check_residues_at(rt: &impl Abort, it: Type, check: &impl ResidueCheck) {
-    at_type!(
-        it, check, rt,
-        [I8 i8, I16 i16, I32 i32, I64 i64, I128 i128, Isize isize],
-        check_unsigned_residues_at(rt, it, check)
-    )
-}
-
-/// Makes the check at a type of the library with no sign.
-fn check_unsigned_residues_at(rt: &impl Abort, it: Type, check: &impl ResidueCheck) {
-    at_type!(
-        it, check, rt,
-        [U8 u8, U16 u16, U32 u32, U64 u64, U128 u128, Usize usize],
-        panic!(rt; "the library has no such type")
     )
 }
