@@ -1,15 +1,14 @@
 #!/usr/bin/env bash
-# Runs the built program as a shell does: with memory refused, with nowhere to print, and with odd arguments. Prints a
-# line for each check, and a count at the end.
+# Runs the built program as a shell does: with nowhere to print, and with odd arguments. Prints a line for each check, and a
+# count at the end.
 set -uo pipefail
 cd "$(dirname "$0")/../crates/intcalc"
 
 program=out/intcalc
 words=(i64 div_mod_floor -8 3)
 answer='-3 1'
-requests=8
 printed=$(mktemp)
-trap 'rm -f "$printed" "$printed".*' EXIT
+trap 'rm -f "$printed"' EXIT
 passed=0
 failed=0
 
@@ -49,31 +48,6 @@ on_an_unread_pipe() {
     "$@" >&"$unread"
 }
 
-# docs/CONTRACTS.md gives this number of requests.
-requests_are_documented() {
-    local spelled=(no one two three four five six seven eight nine ten eleven twelve)
-    grep -q "with each of its ${spelled[requests]} requests refused" ../../docs/CONTRACTS.md
-}
-
-# Refuses each request for memory in turn, side by side. One more is not made.
-refuse_memory() {
-    local request ended started=()
-    for ((request = 1; request <= requests + 1; request++)); do
-        rt try --fail-alloc "$request" -- "${words[@]}" >"$printed.$request" 2>/dev/null &
-        started[request]=$!
-    done
-    for ((request = 1; request <= requests + 1; request++)); do
-        wait "${started[request]}"
-        ended=$?
-        mv "$printed.$request" "$printed"
-        if [ "$request" -le "$requests" ]; then
-            judge "request $request for memory refused" 3 "$ended" 'no memory'
-        else
-            judge "no request $request for memory" 0 "$ended" "$answer"
-        fi
-    done
-}
-
 if [ ! -x "$program" ]; then
     echo "building the program"
     rt run -- "${words[@]}" >/dev/null 2>&1
@@ -97,8 +71,6 @@ prints 'a megabyte of arguments' 2 usage "$program" i64 gcd "$nines"{,,,,,,,}
 ends 'a closed output' 4 on_a_closed_output "$program" "${words[@]}"
 ends 'a full device' 4 on_a_full_device "$program" "${words[@]}"
 ends 'a pipe that nobody reads' 4 on_an_unread_pipe "$program" "${words[@]}"
-refuse_memory
-ends 'as many requests as docs/CONTRACTS.md says' 0 requests_are_documented
 
 echo "$passed passed, $failed failed"
 [ "$failed" -eq 0 ]

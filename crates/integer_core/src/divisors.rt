@@ -4,9 +4,9 @@ ghost use Rattle.std.specs.Prelude.{◌↔◌, IsTrue};
 ghost use Rattle.integer_core.specs.Divisors.{Divides, GcdFits, IsEven, IsGreatestCommonDivisor, IsLeastCommonMultiple};
 ghost use Rattle.integer_core.specs.Range.{EachFits};
 
-use crate::native::Native;
+use crate::native::{Magnitude, Native};
 use crate::operators::{is_zero, one, product, quotient, remainder, sum, zero};
-use crate::stein::{binary_gcd, positive_gcd};
+use crate::stein::binary_gcd;
 
 /// Returns `true` if `d` divides `n`.
 pub(crate) fn is_multiple_of<T: Native>(n: T, d: T) -> bool
@@ -55,5 +55,5 @@ pub(crate) fn lcm<T: Native>(a: T, b: T) -> T
     }
     let m = a.magnitude();
     let n = b.magnitude();
-    T::from_magnitude(product(m, quotient(n, positive_gcd(m, n).0)))
+    T::from_magnitude(product(m, quotient(n, T::Magnitude::positive_gcd(m, n).0)))
 }

@@ -1,17 +1,49 @@
 //! What the native integer types share.
 
-ghost use Rattle.std.specs.Prelude.{◌≡◌, ◌↔◌, ◌≤ℤ◌, ◌<ℤ◌, ◌+ℤ◌, ◌-ℤ◌, pos, negsuc, unsigned_abs, IsTrue};
-ghost use Rattle.std.specs.Int.{w8, w16, w32, w64, w128};
+ghost use Rattle.std.specs.Prelude.{◌≡◌, ◌↔◌, ◌⊎◌, ◌+◌, ◌^◌, ◌<◌, ◌≤◌, ◌≤ℤ◌, ◌<ℤ◌, ◌+ℤ◌, ◌-ℤ◌, ℕ, pos, negsuc, unsigned_abs, IsTrue};
+ghost use Rattle.std.specs.Int.{w8, w16, w32, w64, w128, IsPowerOfTwo};
 ghost use Rattle.std.proofs.Common.{lit≤};
+ghost use Rattle.integer_core.specs.Divisors.{IsGreatestCommonDivisor};
+ghost use Rattle.integer_core.specs.GcdRuns.{MakesGcdRun};
 ghost use Rattle.integer_core.specs.NativeRanges.{IsNative, signed_native, unsigned_native};
 
 use crate::operators::{difference, is_negative, is_zero, successor, zero};
-use num_traits::{AsPrimitive, PrimInt, Unsigned};
+use num_traits::{AsPrimitive, Bounded, FixedWidth, Num, ToPrimitive, Unsigned};
+
+/// A type of magnitudes, with the greatest common divisor of two numbers above 0.
+pub trait Magnitude: Copy + Num + Ord + Unsigned + ToPrimitive {
+    /// Returns the greatest common divisor, and the turns of the loop.
+    fn positive_gcd(a: Self, b: Self) -> (Self, u32)
+        requires a_in_range { Self.fits (Self.value a) }
+        requires b_in_range { Self.fits (Self.value b) }
+        requires a_positive { 0 < unsigned_abs (Self.value a) }
+        requires b_positive { 0 < unsigned_abs (Self.value b) }
+        ensures in_range { Self.fits (Self.value result.0) }
+        ensures greatest { IsGreatestCommonDivisor (Self.value a) (Self.value b)
+            (Self.value result.0) }
+        ensures turns { MakesGcdRun (unsigned_abs (Self.value a)) (unsigned_abs (Self.value b))
+            result.1 }
+        ensures bound { (k l : ℕ) → unsigned_abs (Self.value a) < 2 ^ k
+            → unsigned_abs (Self.value b) < 2 ^ l → result.1 ≤ k + l };
+
+    /// Returns the greatest common divisor where one of the two is a power of two: the power of two
+    /// that both share.
+    fn shared_power_of_two(a: Self, b: Self) -> Self
+        requires a_in_range { Self.fits (Self.value a) }
+        requires b_in_range { Self.fits (Self.value b) }
+        requires a_positive { 0 < unsigned_abs (Self.value a) }
+        requires b_positive { 0 < unsigned_abs (Self.value b) }
+        requires power { IsPowerOfTwo (unsigned_abs (Self.value a))
+            ⊎ IsPowerOfTwo (unsigned_abs (Self.value b)) }
+        ensures in_range { Self.fits (Self.value result) }
+        ensures greatest { IsGreatestCommonDivisor (Self.value a) (Self.value b)
+            (Self.value result) };
+}
 
 /// A native integer type. No other crate can name this trait.
-pub trait Native: PrimInt + AsPrimitive<Self::Magnitude> {
+pub trait Native: Copy + Num + Ord + Bounded + FixedWidth + AsPrimitive<Self::Magnitude> {
     /// The type of the magnitudes.
-    type Magnitude: PrimInt + Unsigned + AsPrimitive<Self>;
+    type Magnitude: Magnitude + AsPrimitive<Self>;
 
     ghost native_law: { IsNative Self.width (λ n. Self.value (Self.of_bits n)) Self.fits Self.low
         Self.high Self.Magnitude.fits };

@@ -4,11 +4,12 @@ use crate::counted::GcdCounted;
 use crate::native::Native;
 use crate::stein::binary_gcd;
 use crate::{Integer, division, divisors};
+use num_traits::PrimInt;
 
 /// A native integer type. The trait is sealed: no other crate can implement it.
-pub trait NativeInteger: Integer + Native {}
+pub trait NativeInteger: Integer + Native + PrimInt {}
 
-impl<T: Native> NativeInteger for T {}
+impl<T: Native + PrimInt> NativeInteger for T {}
 
 impl<T: Native> Integer for T {
     ghost low = { T.Bounded.low };

@@ -9,7 +9,7 @@ ghost use Rattle.integer_core.specs.Divisors.{GcdFits, IsGreatestCommonDivisor};
 ghost use Rattle.integer_core.specs.GcdRuns.{AreGcdTurns, GcdEnds, IsGcdTurn, IsOddPart, IsOrderedTurn, MakesGcdRun};
 ghost use Rattle.integer_core.specs.Runs.{Makes};
 
-use crate::native::Native;
+use crate::native::{Magnitude, Native};
 use crate::operators::{difference, is_below, is_zero, one};
 use num_traits::{PrimInt, Unsigned, cast};
 
@@ -157,7 +157,7 @@ fn narrowing_gcd<M: PrimInt + Unsigned>(a: M, b: M) -> (M, u32)
 }
 
 /// Returns the greatest common divisor of two numbers above 0, and the turns of the loop.
-pub(crate) fn positive_gcd<M: PrimInt + Unsigned>(a: M, b: M) -> (M, u32)
+fn positive_gcd<M: PrimInt + Unsigned>(a: M, b: M) -> (M, u32)
     requires a_in_range { M.fits (M.value a) }
     requires b_in_range { M.fits (M.value b) }
     requires a_positive { 0 < unsigned_abs (M.value a) }
@@ -189,6 +189,26 @@ fn shared_power_of_two<M: PrimInt + Unsigned>(a: M, b: M) -> M
     with_twos(one(), without_twos(a).1.min(without_twos(b).1))
 }
 
+impl Magnitude for u64 {
+    fn positive_gcd(a: u64, b: u64) -> (u64, u32) {
+        positive_gcd(a, b)
+    }
+
+    fn shared_power_of_two(a: u64, b: u64) -> u64 {
+        shared_power_of_two(a, b)
+    }
+}
+
+impl Magnitude for u128 {
+    fn positive_gcd(a: u128, b: u128) -> (u128, u32) {
+        positive_gcd(a, b)
+    }
+
+    fn shared_power_of_two(a: u128, b: u128) -> u128 {
+        shared_power_of_two(a, b)
+    }
+}
+
 /// Returns `true` if this is the least number of its type.
 fn is_least<T: Native>(x: T) -> bool
     ensures { IsTrue result ↔ (T.value x ≡ T.Bounded.low) }
@@ -214,9 +234,9 @@ fn gcd_of_magnitudes<T: Native>(a: T, b: T) -> (T::Magnitude, u32)
     } else if is_zero(b) {
         (m, 0)
     } else if is_least(a) || is_least(b) {
-        (shared_power_of_two(m, n), 0)
+        (T::Magnitude::shared_power_of_two(m, n), 0)
     } else {
-        positive_gcd(m, n)
+        T::Magnitude::positive_gcd(m, n)
     }
 }
 

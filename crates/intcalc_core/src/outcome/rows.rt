@@ -17,8 +17,8 @@ pub(crate) fn div_rem<T: Operand>(pair: (T, T)) -> Result<Answer, Refusal>
 {
     let (n, d) = pair;
     needs(!is_zero(d), Refusal::ZeroDivisor)?;
-    let pair = checked::div_rem(n, d).ok_or(Refusal::NotFitting)?;
-    Ok(two(pair))
+    let answer = checked::div_rem(n, d).ok_or(Refusal::NotFitting)?;
+    Ok(two(answer))
 }
 
 pub(crate) fn div_mod_floor<T: Operand>(pair: (T, T)) -> Result<Answer, Refusal>
@@ -27,8 +27,8 @@ pub(crate) fn div_mod_floor<T: Operand>(pair: (T, T)) -> Result<Answer, Refusal>
 {
     let (n, d) = pair;
     needs(!is_zero(d), Refusal::ZeroDivisor)?;
-    let pair = checked::div_mod_floor(n, d).ok_or(Refusal::NotFitting)?;
-    Ok(two(pair))
+    let answer = checked::div_mod_floor(n, d).ok_or(Refusal::NotFitting)?;
+    Ok(two(answer))
 }
 
 pub(crate) fn div_floor<T: Operand>(pair: (T, T)) -> Result<Answer, Refusal>
