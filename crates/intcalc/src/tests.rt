@@ -14,6 +14,7 @@ use crate::line::Line;
 use crate::number::read_number;
 use crate::run::{line_for, run};
 use crate::sink::Console;
+use std::process::Abort;
 use tape::{ROOM, Tape};
 
 /// A list of words has exactly one line and one status.
@@ -32,6 +33,10 @@ fn prints(words: &[&str], line: &str, status: u8) -> bool {
         let answered = run(words, &mut out);
         answered == status && is_line(out.into_inner().as_bytes(), line)
     })
+}
+
+fn assert_prints(rt: &impl Abort, words: &[&str], line: &str, status: u8) {
+    assert!(rt; prints(words, line, status), "at {words:?}");
 }
 
 fn is_line(bytes: &[u8], line: &str) -> bool {
@@ -80,7 +85,7 @@ fn lines(rt: HostRuntime) {
         (&["i64", "div_rem", "1", "٣"], "usage", 2),
     ];
     for (words, line, status) in rows {
-        assert!(rt; prints(words, line, status), "at {words:?}");
+        assert_prints(&rt, words, line, status);
     }
 }
 
@@ -107,17 +112,11 @@ fn divisions(rt: HostRuntime) {
     for (n, d, answers) in rows {
         for (call, answer) in calls.into_iter().zip(answers) {
             for kind in ["i8", "i64"] {
-                assert!(rt;
-                    prints(&[kind, call, n, d], answer, 0),
-                    "at {kind} {call} {n} {d}"
-                );
+                assert_prints(&rt, &[kind, call, n, d], answer, 0);
             }
             if !n.starts_with('-') && !d.starts_with('-') {
                 for kind in ["u8", "u64"] {
-                    assert!(rt;
-                        prints(&[kind, call, n, d], answer, 0),
-                        "at {kind} {call} {n} {d}"
-                    );
+                    assert_prints(&rt, &[kind, call, n, d], answer, 0);
                 }
             }
         }
@@ -163,8 +162,13 @@ fn a_hundred_digits(rt: HostRuntime) {
         99999999999999999999999999999999999999999999999999";
     assert_eq!(rt; read_number(negative), Some(i128::MIN));
     for kind in ["i8", "u8", "i64", "u64"] {
-        assert!(rt; prints(&[kind, "gcd", "1", nines], "refused 1 OutOfType", 1));
-        assert!(rt; prints(&[kind, "div_rem", nines, "1"], "refused 1 OutOfType", 1));
+        assert_prints(&rt, &[kind, "gcd", "1", nines], "refused 1 OutOfType", 1);
+        assert_prints(
+            &rt,
+            &[kind, "div_rem", nines, "1"],
+            "refused 1 OutOfType",
+            1,
+        );
     }
 }
 

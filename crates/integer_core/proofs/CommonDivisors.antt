@@ -131,6 +131,19 @@ lcm-computed {a} {b} {m} {n} {g} {q} e f nonzero x u v =
     let exact : n ≡ g *ℤ q = rw u (exact_quotient (gcd-nonzero x (omega (arith, sizes))) x.divides_right) in
     lcm-product (gcd-magnitudes e f x) nonzero (rw (unsigned_abs-mul a b, v, left_comm g m q, ← exact, e, f))
 
+-- of two numbers from 0 up
+pub lcm-of-sizes : {a b g q l : ℤ} → pos 0 ≤ℤ a → pos 0 ≤ℤ b → 0 < unsigned_abs b → IsGreatestCommonDivisor a b g → q ≡ int_div b g → l ≡ a *ℤ q → IsLeastCommonMultiple a b l
+lcm-of-sizes a_up b_up b_positive x u v = lcm-computed (omega (arith, sizes, a_up)) (omega (arith, sizes, b_up)) (omega (arith, sizes)) x u v
+
+-- two numbers have that of their magnitudes
+pub lcm-magnitudes : {a b m n l : ℤ} → m ≡ pos (unsigned_abs a) → n ≡ pos (unsigned_abs b) → IsLeastCommonMultiple m n l → IsLeastCommonMultiple a b l
+lcm-magnitudes {a} {b} e f x = record {
+  from_zero = x.from_zero;
+  left_divides = Divides-trans (rw e (divides_magnitude a)) x.left_divides;
+  right_divides = Divides-trans (rw f (divides_magnitude b)) x.right_divides;
+  least = λ u h k. x.least u (rw e (Divides-trans (magnitude_divides a) h)) (rw f (Divides-trans (magnitude_divides b) k));
+}
+
 -- every pair has one, and times the gcd it is the magnitude of the product
 lcm_of_gcd : {a b g : ℤ} → IsGreatestCommonDivisor a b g → (l : ℤ) × IsLeastCommonMultiple a b l × (g *ℤ l ≡ pos (unsigned_abs (a *ℤ b)))
 lcm_of_gcd {a} {b} {g} x = elim (zero_or_not b) [

@@ -5,7 +5,7 @@ ghost use Rattle.integer_core.specs.Divisors.{Divides, GcdFits, IsEven, IsGreate
 ghost use Rattle.integer_core.specs.Range.{EachFits};
 
 use crate::native::{Magnitude, Native};
-use crate::operators::{is_zero, one, product, quotient, remainder, sum, zero};
+use crate::operators::{is_zero, one, remainder, sum, zero};
 use crate::stein::binary_gcd;
 
 /// Returns `true` if `d` divides `n`.
@@ -53,7 +53,5 @@ pub(crate) fn lcm<T: Native>(a: T, b: T) -> T
     if is_zero(a) || is_zero(b) {
         return zero();
     }
-    let m = a.magnitude();
-    let n = b.magnitude();
-    T::from_magnitude(product(m, quotient(n, T::Magnitude::positive_gcd(m, n).0)))
+    T::from_magnitude(T::Magnitude::positive_lcm(a.magnitude(), b.magnitude()))
 }

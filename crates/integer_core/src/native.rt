@@ -3,15 +3,22 @@
 ghost use Rattle.std.specs.Prelude.{◌≡◌, ◌↔◌, ◌⊎◌, ◌+◌, ◌^◌, ◌<◌, ◌≤◌, ◌≤ℤ◌, ◌<ℤ◌, ◌+ℤ◌, ◌-ℤ◌, ℕ, pos, negsuc, unsigned_abs, IsTrue};
 ghost use Rattle.std.specs.Int.{w8, w16, w32, w64, w128, IsPowerOfTwo};
 ghost use Rattle.std.proofs.Common.{lit≤};
-ghost use Rattle.integer_core.specs.Divisors.{IsGreatestCommonDivisor};
+ghost use Rattle.integer_core.specs.Divisors.{IsGreatestCommonDivisor, IsLeastCommonMultiple};
 ghost use Rattle.integer_core.specs.GcdRuns.{MakesGcdRun};
 ghost use Rattle.integer_core.specs.NativeRanges.{IsNative, signed_native, unsigned_native};
+ghost use Rattle.integer_core.specs.Range.{EachFits};
 
 use crate::operators::{difference, is_negative, is_zero, successor, zero};
-use num_traits::{AsPrimitive, Bounded, FixedWidth, Num, ToPrimitive, Unsigned};
+use num_traits::{AsPrimitive, Bounded, FixedWidth, Integral, Num, ToPrimitive};
 
-/// A type of magnitudes, with the greatest common divisor of two numbers above 0.
-pub trait Magnitude: Copy + Num + Ord + Unsigned + ToPrimitive {
+/// A type of magnitudes, with what is computed of two numbers above 0.
+pub trait Magnitude: Copy + Integral + ToPrimitive {
+    /// Returns the number after this.
+    fn following(self) -> Self
+        requires sum_fits { Self.fits (Self.value self +ℤ pos 1) }
+        ensures in_range { Self.fits (Self.value result) }
+        ensures value { Self.value result ≡ Self.value self +ℤ pos 1 };
+
     /// Returns the greatest common divisor, and the turns of the loop.
     fn positive_gcd(a: Self, b: Self) -> (Self, u32)
         requires a_in_range { Self.fits (Self.value a) }
@@ -38,6 +45,18 @@ pub trait Magnitude: Copy + Num + Ord + Unsigned + ToPrimitive {
         ensures in_range { Self.fits (Self.value result) }
         ensures greatest { IsGreatestCommonDivisor (Self.value a) (Self.value b)
             (Self.value result) };
+
+    /// Returns the least common multiple.
+    fn positive_lcm(a: Self, b: Self) -> Self
+        requires a_in_range { Self.fits (Self.value a) }
+        requires b_in_range { Self.fits (Self.value b) }
+        requires a_positive { 0 < unsigned_abs (Self.value a) }
+        requires b_positive { 0 < unsigned_abs (Self.value b) }
+        requires lcm_fits { EachFits Self.fits
+            (IsLeastCommonMultiple (Self.value a) (Self.value b)) }
+        ensures in_range { Self.fits (Self.value result) }
+        ensures least { IsLeastCommonMultiple (Self.value a) (Self.value b)
+            (Self.value result) };
 }
 
 /// A native integer type. No other crate can name this trait.
@@ -63,7 +82,7 @@ pub trait Native: Copy + Num + Ord + Bounded + FixedWidth + AsPrimitive<Self::Ma
         ensures value { Self.Magnitude.value result ≡ pos (unsigned_abs (Self.value self)) }
     {
         if is_negative(self) {
-            successor(converted(beyond(self)))
+            converted(beyond(self)).following()
         } else {
             converted(self)
         }

@@ -5,12 +5,13 @@ ghost use Rattle.std.specs.Prelude.{◌≡◌, ◌≢◌, ◌↔◌, ◌⊎◌, 
 ghost use Rattle.std.specs.Int.{IsGcd, IsPowerOfTwo};
 ghost use Rattle.std.specs.Option.{MatchOption};
 ghost use Rattle.num_traits.specs.Laws.{bit_len};
-ghost use Rattle.integer_core.specs.Divisors.{GcdFits, IsGreatestCommonDivisor};
+ghost use Rattle.integer_core.specs.Divisors.{GcdFits, IsGreatestCommonDivisor, IsLeastCommonMultiple};
 ghost use Rattle.integer_core.specs.GcdRuns.{AreGcdTurns, GcdEnds, IsGcdTurn, IsOddPart, IsOrderedTurn, MakesGcdRun};
+ghost use Rattle.integer_core.specs.Range.{EachFits};
 ghost use Rattle.integer_core.specs.Runs.{Makes};
 
 use crate::native::{Magnitude, Native};
-use crate::operators::{difference, is_below, is_zero, one};
+use crate::operators::{difference, is_below, is_zero, one, product, quotient, successor};
 use num_traits::{PrimInt, Unsigned, cast};
 
 fn is_same<M: PrimInt + Unsigned>(m: M, n: M) -> bool
@@ -189,7 +190,24 @@ fn shared_power_of_two<M: PrimInt + Unsigned>(a: M, b: M) -> M
     with_twos(one(), without_twos(a).1.min(without_twos(b).1))
 }
 
+/// Returns the least common multiple of two numbers above 0.
+fn positive_lcm<M: PrimInt + Unsigned>(a: M, b: M) -> M
+    requires a_in_range { M.fits (M.value a) }
+    requires b_in_range { M.fits (M.value b) }
+    requires a_positive { 0 < unsigned_abs (M.value a) }
+    requires b_positive { 0 < unsigned_abs (M.value b) }
+    requires lcm_fits { EachFits M.fits (IsLeastCommonMultiple (M.value a) (M.value b)) }
+    ensures in_range { M.fits (M.value result) }
+    ensures least { IsLeastCommonMultiple (M.value a) (M.value b) (M.value result) }
+{
+    product(a, quotient(b, positive_gcd(a, b).0))
+}
+
 impl Magnitude for u64 {
+    fn following(self) -> u64 {
+        successor(self)
+    }
+
     fn positive_gcd(a: u64, b: u64) -> (u64, u32) {
         positive_gcd(a, b)
     }
@@ -197,15 +215,27 @@ impl Magnitude for u64 {
     fn shared_power_of_two(a: u64, b: u64) -> u64 {
         shared_power_of_two(a, b)
     }
+
+    fn positive_lcm(a: u64, b: u64) -> u64 {
+        positive_lcm(a, b)
+    }
 }
 
 impl Magnitude for u128 {
+    fn following(self) -> u128 {
+        successor(self)
+    }
+
     fn positive_gcd(a: u128, b: u128) -> (u128, u32) {
         positive_gcd(a, b)
     }
 
     fn shared_power_of_two(a: u128, b: u128) -> u128 {
         shared_power_of_two(a, b)
+    }
+
+    fn positive_lcm(a: u128, b: u128) -> u128 {
+        positive_lcm(a, b)
     }
 }
 

@@ -9,6 +9,7 @@ mod rolling_hash;
 mod schedules;
 mod search;
 
+use crate::assertions::holds_at;
 use uses::halving::midpoint;
 use uses::layout::{align_up, padding};
 use uses::paging::{item_at, pages, place_of};
@@ -32,9 +33,17 @@ const ITEMS: [(i64, i64, i64, (i64, i64)); 7] = [
 #[test]
 fn paging(rt: HostRuntime) {
     for (items, page_size, count, place) in ITEMS {
-        assert!(rt; page_size > 0, "{page_size}");
-        assert!(rt; pages(items, page_size) == count, "{items} {page_size}");
-        assert!(rt; place_of(items, page_size) == place, "{items} {page_size}");
+        holds_at(&rt, page_size > 0, &page_size);
+        holds_at(
+            &rt,
+            pages(items, page_size) == count,
+            &("pages", items, page_size),
+        );
+        holds_at(
+            &rt,
+            place_of(items, page_size) == place,
+            &("place_of", items, page_size),
+        );
     }
     assert!(rt; pages(10u8, 4) == 3 && item_at(2u8, 2, 4) == 10 && item_at(15u8, 15, 16) == 255);
     assert!(rt; item_at(-1i64, 3, 4) == -1 && item_at(-2i8, 99, 100) == -101);
@@ -53,13 +62,15 @@ const OFFSETS: [(i64, i64, Option<i64>, i64); 6] = [
 #[test]
 fn layout(rt: HostRuntime) {
     for (offset, alignment, aligned, rest) in OFFSETS {
-        assert!(rt;
+        holds_at(
+            &rt,
             alignment > 0 && align_up(offset, alignment) == aligned,
-            "{offset} {alignment}"
+            &("align_up", offset, alignment),
         );
-        assert!(rt;
+        holds_at(
+            &rt,
             alignment > 0 && padding(offset, alignment) == rest,
-            "{offset} {alignment}"
+            &("padding", offset, alignment),
         );
     }
     assert!(rt; align_up(250u8, 8) == None && padding(u64::MAX, 8) == 1);
@@ -87,12 +98,13 @@ const SQUARES: [(u64, bool); 6] = [
 #[test]
 fn middles_and_squares(rt: HostRuntime) {
     for (a, b, middle) in MIDDLES {
-        assert!(rt;
+        holds_at(
+            &rt,
             midpoint(a, b) == middle && midpoint(b, a) == middle,
-            "{a} {b}"
+            &("midpoint", a, b),
         );
     }
     for (n, square) in SQUARES {
-        assert!(rt; is_square(n) == square, "{n}");
+        holds_at(&rt, is_square(n) == square, &("is_square", n));
     }
 }

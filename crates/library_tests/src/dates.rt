@@ -7,6 +7,7 @@ mod months;
 mod texts;
 mod weeks;
 
+use crate::assertions::holds_at;
 use calendar::Weekday::{Friday, Monday, Saturday, Sunday, Thursday, Tuesday, Wednesday};
 use calendar::{Date, Weekday, days_between, is_leap_year, weekday_of};
 use std::process::Abort;
@@ -57,21 +58,24 @@ fn date(rt: &impl Abort, (year, month, day_of_month): (i64, u8, u8)) -> Date {
 fn known_dates(rt: HostRuntime) {
     for (parts, day, day_of_year, weekday) in DATES {
         let found = date(&rt, parts);
-        assert!(rt;
+        holds_at(
+            &rt,
             found.day() == Some(day) && Date::from_day(day) == found,
-            "{day}"
+            &("day", day),
         );
-        assert!(rt;
+        holds_at(
+            &rt,
             found.day_of_year() == day_of_year
                 && Date::from_year_day(found.year, day_of_year) == Some(found),
-            "{day}"
+            &("day_of_year", day),
         );
-        assert!(rt; weekday_of(day) == weekday, "{day}");
+        holds_at(&rt, weekday_of(day) == weekday, &("weekday_of", day));
     }
     for (year, month, day_of_month) in NO_DATES {
-        assert!(rt;
+        holds_at(
+            &rt,
             Date::new(year, month, day_of_month) == None,
-            "{year} {month} {day_of_month}"
+            &("Date::new", year, month, day_of_month),
         );
     }
 }
@@ -88,11 +92,12 @@ fn leap_years(rt: HostRuntime) {
         (2023, false),
         (-100, false),
     ] {
-        assert!(rt; is_leap_year(year) == leap, "{year}");
-        assert!(rt;
+        holds_at(&rt, is_leap_year(year) == leap, &("is_leap_year", year));
+        holds_at(
+            &rt,
             Date::from_year_day(year, 366).is_some() == leap
                 && Date::new(year, 2, 29).is_some() == leap,
-            "{year}"
+            &("from_year_day", year),
         );
     }
 }
@@ -120,9 +125,17 @@ fn each_day(rt: HostRuntime) {
     let mut walked = date(&rt, (-2000, 1, 1));
     for day in -719528 - 5 * 146097..-719528 + 10 * 146097 + 366 {
         let found = Date::from_day(day);
-        assert!(rt; found == walked && found.day() == Some(day), "{day}");
+        holds_at(
+            &rt,
+            found == walked && found.day() == Some(day),
+            &("day", day),
+        );
         let next = found.next().expect(&rt, "there is a next day");
-        assert!(rt; found < next && next.previous() == Some(found), "{day}");
+        holds_at(
+            &rt,
+            found < next && next.previous() == Some(found),
+            &("previous", day),
+        );
         walked = next;
     }
     assert!(rt; walked == date(&rt, (4001, 1, 1)));

@@ -8,6 +8,7 @@ mod parsing;
 mod rounded;
 mod small_parts;
 
+use crate::assertions::holds_at;
 use ratio64::RatioError::{NotFitting, ZeroDenominator};
 use ratio64::{Ratio, RatioError};
 use std::hash::{DefaultHasher, Hash, Hasher};
@@ -126,7 +127,7 @@ fn hash_of(x: &Ratio) -> u64 {
 fn check_rows(rt: &impl Abort, rows: &[Row]) {
     for ((num, den), expected) in rows {
         let answer = parts(Ratio::new(*num, *den));
-        assert_eq!(rt; answer, *expected, "{num} over {den}");
+        holds_at(rt, answer == *expected, &("new", num, den));
     }
 }
 
@@ -140,7 +141,7 @@ fn reduced_parts(rt: HostRuntime) {
 fn whole_numbers(rt: HostRuntime) {
     for number in [MIN, -MAX, -12, -1, 0, 1, 7, MAX] {
         let x = Ratio::from(number);
-        assert!(rt; (x.num(), x.den()) == (number, 1), "{number}");
+        holds_at(&rt, (x.num(), x.den()) == (number, 1), &("from", number));
     }
 }
 
@@ -153,7 +154,7 @@ fn numbers_of_errors(rt: HostRuntime) {
 fn rounding(rt: HostRuntime) {
     for ((num, den), expected) in ROUNDED {
         let x = ratio(&rt, num, den);
-        assert_eq!(rt; (x.floor(), x.ceil()), expected, "{num} over {den}");
+        holds_at(&rt, (x.floor(), x.ceil()) == expected, &("floor", num, den));
     }
 }
 
@@ -163,7 +164,7 @@ fn ascending(rt: HostRuntime) {
         for (j, (c, d)) in ASCENDING.iter().enumerate() {
             let (x, y) = (ratio(&rt, *a, *b), ratio(&rt, *c, *d));
             let found = (x.cmp(&y), x < y);
-            assert!(rt; found == (i.cmp(&j), i < j), "{a} over {b}, {c} over {d}");
+            holds_at(&rt, found == (i.cmp(&j), i < j), &("cmp", a, b, c, d));
         }
     }
 }
@@ -178,7 +179,11 @@ fn equal_fractions(rt: HostRuntime) {
 fn other_fractions(rt: HostRuntime) {
     let half = hash_of(&ratio(&rt, 1, 2));
     for (num, den) in [(1, 3), (1, 1), (-1, 2), (2, 1), (0, 1)] {
-        assert!(rt; hash_of(&ratio(&rt, num, den)) != half, "{num} over {den}");
+        holds_at(
+            &rt,
+            hash_of(&ratio(&rt, num, den)) != half,
+            &("hash_of", num, den),
+        );
     }
 }
 
@@ -187,6 +192,6 @@ fn texts(rt: HostRuntime) {
     for ((num, den), text) in TEXTS {
         let printed = ratio(&rt, num, den).to_string(rt.alloc());
         let printed = printed.expect(&rt, "there is memory");
-        assert!(rt; printed.as_str() == text, "{num} over {den}");
+        holds_at(&rt, printed.as_str() == text, &("fmt", num, den));
     }
 }

@@ -5,6 +5,7 @@ mod callers;
 mod congruences;
 mod long_products;
 
+use crate::assertions::holds_at;
 use modular::counted::power_modulo_counted;
 use modular::{
     difference_modulo, inverse_modulo, negation_modulo, power_modulo, product_modulo,
@@ -33,8 +34,12 @@ const RESIDUES: [(i64, i64, i64, i64); 6] = [
 #[test]
 fn residues(rt: HostRuntime) {
     for (a, m, r, negated) in RESIDUES {
-        assert!(rt; m > 0 && residue(a, m) == r, "{a} {m}");
-        assert!(rt; m > 0 && negation_modulo(a, m) == negated, "{a} {m}");
+        holds_at(&rt, m > 0 && residue(a, m) == r, &("residue", a, m));
+        holds_at(
+            &rt,
+            m > 0 && negation_modulo(a, m) == negated,
+            &("negation_modulo", a, m),
+        );
     }
     assert!(rt; negation_modulo(2u8, 7) == 5 && negation_modulo(7u8, 7) == 0);
 }
@@ -51,12 +56,21 @@ const PAIRS: [(i64, i64, i64, (i64, i64, i64)); 5] = [
 #[test]
 fn sums_differences_and_products(rt: HostRuntime) {
     for (a, b, m, (sum, difference, product)) in PAIRS {
-        assert!(rt; m > 0 && sum_modulo(a, b, m) == sum, "{a} {b} {m}");
-        assert!(rt;
-            m > 0 && difference_modulo(a, b, m) == difference,
-            "{a} {b} {m}"
+        holds_at(
+            &rt,
+            m > 0 && sum_modulo(a, b, m) == sum,
+            &("sum_modulo", a, b, m),
         );
-        assert!(rt; m > 0 && product_modulo(a, b, m) == product, "{a} {b} {m}");
+        holds_at(
+            &rt,
+            m > 0 && difference_modulo(a, b, m) == difference,
+            &("difference_modulo", a, b, m),
+        );
+        holds_at(
+            &rt,
+            m > 0 && product_modulo(a, b, m) == product,
+            &("product_modulo", a, b, m),
+        );
     }
     assert!(rt; sum_modulo(200u8, 100, 201) == 99 && difference_modulo(3u8, 200, 255) == 58);
     assert!(rt; sum_modulo(u128::MAX, u128::MAX - 1, u128::MAX) == u128::MAX - 1);
@@ -81,10 +95,15 @@ const POWERS: [(i64, u128, i64, (i64, u32)); 10] = [
 #[test]
 fn powers(rt: HostRuntime) {
     for (a, e, m, (r, turns)) in POWERS {
-        assert!(rt; m > 0 && power_modulo(a, e, m) == r, "{a} {e} {m}");
-        assert!(rt;
+        holds_at(
+            &rt,
+            m > 0 && power_modulo(a, e, m) == r,
+            &("power_modulo", a, e, m),
+        );
+        holds_at(
+            &rt,
             m > 0 && power_modulo_counted(a, e, m) == (r, turns),
-            "{a} {e} {m}"
+            &("power_modulo_counted", a, e, m),
         );
     }
     assert!(rt; power_modulo(3, 1000000000000000000, P64) == 4014180641660839766);
@@ -111,7 +130,11 @@ const INVERSES: [(i64, i64, Option<i64>); 8] = [
 #[test]
 fn inverses(rt: HostRuntime) {
     for (a, m, x) in INVERSES {
-        assert!(rt; m > 0 && inverse_modulo(a, m) == x, "{a} {m}");
+        holds_at(
+            &rt,
+            m > 0 && inverse_modulo(a, m) == x,
+            &("inverse_modulo", a, m),
+        );
     }
     assert!(rt; inverse_modulo(3u64, P64) == Some(6148914691236517186));
     assert!(rt; inverse_modulo(3, P128) == Some(226854911280625642308916404954512140865));
@@ -135,7 +158,11 @@ const QUOTIENTS: [(i64, i64, i64, Option<i64>); 6] = [
 #[test]
 fn quotients(rt: HostRuntime) {
     for (a, b, m, x) in QUOTIENTS {
-        assert!(rt; m > 0 && quotient_modulo(a, b, m) == x, "{a} {b} {m}");
+        holds_at(
+            &rt,
+            m > 0 && quotient_modulo(a, b, m) == x,
+            &("quotient_modulo", a, b, m),
+        );
     }
     assert!(rt; quotient_modulo(P128 - 2, P128 - 1, P128) == Some(2));
 }

@@ -1,5 +1,6 @@
 //! Worked values, the tests of the Rust crate `num-integer`, and each pair of `i8` and of `u8`.
 
+mod assertions;
 mod averages;
 mod bezout;
 mod call_rows;

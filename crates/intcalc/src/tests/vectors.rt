@@ -1,7 +1,8 @@
 //! Vectors: the line and the status for words.
 
 use super::prints;
-use std::alloc::Global;
+use std::alloc::{AllocGlobal, Global};
+use std::process::Abort;
 
 // The words with one space between them, the line, and the status.
 type Row = (&'static str, &'static str, u8);
@@ -15,9 +16,15 @@ fn holds(alloc: Global, row: Row) -> bool {
     }
 }
 
+fn all_hold(rt: &(impl Abort + AllocGlobal), rows: &[Row]) {
+    for row in rows {
+        assert!(rt; holds(rt.alloc(), *row), "at {row:?}");
+    }
+}
+
 #[test]
 fn division_edges(rt: HostRuntime) {
-    for row in [
+    let rows = [
         ("i8 mod_floor -128 -1", "0", 0),
         ("i8 div_floor -128 -1", "refused 6 NotFitting", 1),
         ("i8 div_ceil -128 -1", "refused 6 NotFitting", 1),
@@ -29,14 +36,13 @@ fn division_edges(rt: HostRuntime) {
         ("i8 mod_floor -129 0", "refused 1 OutOfType", 1),
         ("i64 div_floor 1 0", "refused 2 ZeroDivisor", 1),
         ("u8 mod_floor 0 0", "refused 2 ZeroDivisor", 1),
-    ] {
-        assert!(rt; holds(rt.alloc(), row), "at {row:?}");
-    }
+    ];
+    all_hold(&rt, &rows);
 }
 
 #[test]
 fn multiples(rt: HostRuntime) {
-    for row in [
+    let rows = [
         ("i64 next_multiple_of 16 8", "16", 0),
         ("i64 prev_multiple_of 16 8", "16", 0),
         ("i64 next_multiple_of 23 8", "24", 0),
@@ -77,14 +83,13 @@ fn multiples(rt: HostRuntime) {
         ("u64 prev_multiple_of 16 8", "16", 0),
         ("u64 next_multiple_of 23 8", "24", 0),
         ("u64 prev_multiple_of 23 8", "16", 0),
-    ] {
-        assert!(rt; holds(rt.alloc(), row), "at {row:?}");
-    }
+    ];
+    all_hold(&rt, &rows);
 }
 
 #[test]
 fn multiples_at_the_ends(rt: HostRuntime) {
-    for row in [
+    let rows = [
         ("i8 next_multiple_of 127 8", "refused 6 NotFitting", 1),
         ("i8 next_multiple_of 120 8", "120", 0),
         ("i8 next_multiple_of -128 -1", "-128", 0),
@@ -101,14 +106,13 @@ fn multiples_at_the_ends(rt: HostRuntime) {
         ("i64 prev_multiple_of 0 0", "refused 2 ZeroDivisor", 1),
         ("u8 next_multiple_of 256 0", "refused 1 OutOfType", 1),
         ("u8 prev_multiple_of 1 -1", "refused 1 OutOfType", 1),
-    ] {
-        assert!(rt; holds(rt.alloc(), row), "at {row:?}");
-    }
+    ];
+    all_hold(&rt, &rows);
 }
 
 #[test]
 fn multiples_or_not(rt: HostRuntime) {
-    for row in [
+    let rows = [
         ("i8 is_multiple_of -128 -1", "true", 0),
         ("u8 is_multiple_of 42 0", "false", 0),
         ("u8 is_multiple_of 0 0", "true", 0),
@@ -120,14 +124,13 @@ fn multiples_or_not(rt: HostRuntime) {
         ("u64 is_multiple_of 18446744073709551615 5", "true", 0),
         ("u8 is_multiple_of 256 0", "refused 1 OutOfType", 1),
         ("i8 is_multiple_of 0 128", "refused 1 OutOfType", 1),
-    ] {
-        assert!(rt; holds(rt.alloc(), row), "at {row:?}");
-    }
+    ];
+    all_hold(&rt, &rows);
 }
 
 #[test]
 fn greatest_common_divisors(rt: HostRuntime) {
-    for row in [
+    let rows = [
         ("i64 gcd 6 8", "2", 0),
         ("i64 gcd 7 3", "1", 0),
         ("i64 gcd 56 42", "14", 0),
@@ -156,14 +159,13 @@ fn greatest_common_divisors(rt: HostRuntime) {
         ("u8 gcd 255 85", "85", 0),
         ("u8 gcd 256 1", "refused 1 OutOfType", 1),
         ("u8 gcd 1 -1", "refused 1 OutOfType", 1),
-    ] {
-        assert!(rt; holds(rt.alloc(), row), "at {row:?}");
-    }
+    ];
+    all_hold(&rt, &rows);
 }
 
 #[test]
 fn least_common_multiples(rt: HostRuntime) {
-    for row in [
+    let rows = [
         ("i64 lcm 7 3", "21", 0),
         ("i64 lcm 2 4", "4", 0),
         ("i64 lcm 0 0", "0", 0),
@@ -187,14 +189,13 @@ fn least_common_multiples(rt: HostRuntime) {
         ("i8 gcd_lcm 127 2", "refused 6 NotFitting", 1),
         ("i8 gcd_lcm 0 0", "0 0", 0),
         ("u64 gcd_lcm -1 1", "refused 1 OutOfType", 1),
-    ] {
-        assert!(rt; holds(rt.alloc(), row), "at {row:?}");
-    }
+    ];
+    all_hold(&rt, &rows);
 }
 
 #[test]
 fn bezout_pairs(rt: HostRuntime) {
-    for row in [
+    let rows = [
         ("i64 extended_gcd 240 46", "2 -9 47", 0),
         ("i64 extended_gcd 10 4", "2 1 -2", 0),
         ("i64 extended_gcd -6 4", "2 -1 -1", 0),
@@ -223,14 +224,13 @@ fn bezout_pairs(rt: HostRuntime) {
         ("u64 extended_gcd 0 7", "7 0 1", 0),
         ("u64 extended_gcd 8 13", "refused 7 NoPair", 1),
         ("u8 extended_gcd 10 256", "refused 1 OutOfType", 1),
-    ] {
-        assert!(rt; holds(rt.alloc(), row), "at {row:?}");
-    }
+    ];
+    all_hold(&rt, &rows);
 }
 
 #[test]
 fn averages(rt: HostRuntime) {
-    for row in [
+    let rows = [
         ("i64 average_floor 3 10", "6", 0),
         ("i64 average_ceil 3 10", "7", 0),
         ("i64 average_floor -2 -5", "-4", 0),
@@ -267,14 +267,13 @@ fn averages(rt: HostRuntime) {
         ),
         ("u8 average_floor 256 0", "refused 1 OutOfType", 1),
         ("u8 average_ceil 0 -1", "refused 1 OutOfType", 1),
-    ] {
-        assert!(rt; holds(rt.alloc(), row), "at {row:?}");
-    }
+    ];
+    all_hold(&rt, &rows);
 }
 
 #[test]
 fn square_and_cube_roots(rt: HostRuntime) {
-    for row in [
+    let rows = [
         ("u8 sqrt 255", "15", 0),
         ("u8 cbrt 255", "6", 0),
         ("i64 sqrt 152399025", "12345", 0),
@@ -306,14 +305,13 @@ fn square_and_cube_roots(rt: HostRuntime) {
         ("u64 cbrt 4298942376", "1626", 0),
         ("i8 cbrt -128", "-5", 0),
         ("i8 cbrt 128", "refused 1 OutOfType", 1),
-    ] {
-        assert!(rt; holds(rt.alloc(), row), "at {row:?}");
-    }
+    ];
+    all_hold(&rt, &rows);
 }
 
 #[test]
 fn roots_of_any_degree(rt: HostRuntime) {
-    for row in [
+    let rows = [
         ("i64 nth_root 12345 1", "12345", 0),
         ("i64 nth_root 12345 2", "111", 0),
         ("i64 nth_root 12345 3", "23", 0),
@@ -352,14 +350,13 @@ fn roots_of_any_degree(rt: HostRuntime) {
         ("i64 nth_root 5 -1", "refused 1 OutOfType", 1),
         ("u8 nth_root 256 0", "refused 1 OutOfType", 1),
         ("u64 nth_root -1 2", "refused 1 OutOfType", 1),
-    ] {
-        assert!(rt; holds(rt.alloc(), row), "at {row:?}");
-    }
+    ];
+    all_hold(&rt, &rows);
 }
 
 #[test]
 fn binomials(rt: HostRuntime) {
-    for row in [
+    let rows = [
         ("u64 binomial 100 2", "4950", 0),
         ("u64 binomial 14 4", "1001", 0),
         ("u64 binomial 35 11", "417225900", 0),
@@ -402,14 +399,13 @@ fn binomials(rt: HostRuntime) {
         ("i8 binomial -128 -128", "refused 5 NegativeCount", 1),
         ("u8 binomial -1 0", "refused 1 OutOfType", 1),
         ("i8 binomial -1 128", "refused 1 OutOfType", 1),
-    ] {
-        assert!(rt; holds(rt.alloc(), row), "at {row:?}");
-    }
+    ];
+    all_hold(&rt, &rows);
 }
 
 #[test]
 fn sums_of_fractions(rt: HostRuntime) {
-    for row in [
+    let rows = [
         ("i64 ratio_add 1 2 1 3", "5 6", 0),
         ("i64 ratio_add 1 6 1 3", "1 2", 0),
         ("i64 ratio_add 2 4 -1 -2", "1 1", 0),
@@ -471,14 +467,13 @@ fn sums_of_fractions(rt: HostRuntime) {
         ("i64 ratio_add 1 2 +1 3", "usage", 2),
         ("i64 ratio_sub 1 2 1 3", "usage", 2),
         ("i64 gcd 1 2 1 3", "usage", 2),
-    ] {
-        assert!(rt; holds(rt.alloc(), row), "at {row:?}");
-    }
+    ];
+    all_hold(&rt, &rows);
 }
 
 #[test]
 fn products_of_fractions(rt: HostRuntime) {
-    for row in [
+    let rows = [
         ("i64 ratio_mul 2 3 3 2", "1 1", 0),
         ("i64 ratio_mul 2 3 3 4", "1 2", 0),
         ("i64 ratio_mul -1 2 -3 4", "3 8", 0),
@@ -523,14 +518,13 @@ fn products_of_fractions(rt: HostRuntime) {
         ),
         ("i64 ratio_mul 1 2 1", "usage", 2),
         ("i64 ratio_div 1 2 1 3", "usage", 2),
-    ] {
-        assert!(rt; holds(rt.alloc(), row), "at {row:?}");
-    }
+    ];
+    all_hold(&rt, &rows);
 }
 
 #[test]
 fn other_words(rt: HostRuntime) {
-    for row in [
+    let rows = [
         ("i16 gcd 1 2", "usage", 2),
         ("i64 gcd 1", "usage", 2),
         ("i64 gcd 1 2 3", "usage", 2),
@@ -547,7 +541,6 @@ fn other_words(rt: HostRuntime) {
         ("i64 binomial 5", "usage", 2),
         ("i64 multinomial 1 2", "usage", 2),
         ("i32 sqrt 4", "usage", 2),
-    ] {
-        assert!(rt; holds(rt.alloc(), row), "at {row:?}");
-    }
+    ];
+    all_hold(&rt, &rows);
 }

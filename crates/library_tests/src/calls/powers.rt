@@ -1,5 +1,6 @@
 //! Squares and powers.
 
+use crate::assertions::holds_at;
 use uses::powers::{is_perfect_power, is_power, is_square};
 
 #[test]
@@ -25,7 +26,11 @@ const TO_144: [u64; 18] = [
 #[test]
 fn perfect_powers(rt: HostRuntime) {
     for n in 0..=144 {
-        assert!(rt; is_perfect_power(n) == TO_144.contains(&n), "{n}");
+        holds_at(
+            &rt,
+            is_perfect_power(n) == TO_144.contains(&n),
+            &("is_perfect_power", n),
+        );
     }
     assert!(rt; is_perfect_power(1 << 61) && !is_perfect_power((1 << 61) - 1));
     assert!(rt; is_perfect_power(15181127029874798299) && !is_perfect_power(u64::MAX));

@@ -1,5 +1,6 @@
 //! Worked ranks and choices.
 
+use crate::assertions::holds_at;
 use num_integer::{Fits, binomial};
 use std::process::Abort;
 use uses::ranking::{choice_of_rank, rank};
@@ -31,7 +32,11 @@ fn each_rank(rt: HostRuntime) {
     for (i, numbers) in THREE_OF_FIVE.iter().enumerate() {
         let mut choice = [0; 3];
         choice_of_rank(i as u64, 5, &mut choice);
-        assert!(rt; choice == *numbers && rank(&choice, 5) == i as u64, "{i}");
+        holds_at(
+            &rt,
+            choice == *numbers && rank(&choice, 5) == i as u64,
+            &("rank", i),
+        );
     }
 }
 

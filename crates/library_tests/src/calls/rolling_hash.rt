@@ -1,5 +1,6 @@
 //! The hash of a window that slides.
 
+use crate::assertions::holds_at;
 use uses::rolling_hash::RollingHash;
 
 #[test]
@@ -20,6 +21,6 @@ fn windows_of_four_bytes(rt: HostRuntime) {
     for i in 4..12usize {
         hash = rolling.slide(hash, text[i - 4], text[i]);
         let window = u32::from_be_bytes([text[i - 3], text[i - 2], text[i - 1], text[i]]);
-        assert!(rt; hash == u64::from(window) % 1000003, "{i}");
+        holds_at(&rt, hash == u64::from(window) % 1000003, &("hash", i));
     }
 }

@@ -1,5 +1,6 @@
 //! Schedules.
 
+use crate::assertions::holds_at;
 use uses::schedules::Meeting::{At, Never, TooLate};
 use uses::schedules::{Meeting, Schedule, next_meeting};
 
@@ -31,9 +32,10 @@ fn meetings(rt: HostRuntime) {
             first: b,
             period: q,
         };
-        assert!(rt;
+        holds_at(
+            &rt,
             p > 0 && q > 0 && next_meeting(now, first, second) == meeting,
-            "{now} {a} {p} {b} {q}"
+            &("next_meeting", now, a, p, b, q),
         );
     }
     let odd = Schedule {

@@ -1,6 +1,7 @@
 //! Easter in known years, and in the first and the last.
 
 use super::{MAX, MIN, date};
+use crate::assertions::holds_at;
 use calendar::Weekday::Sunday;
 use calendar::easter;
 
@@ -56,7 +57,11 @@ const EASTERS: [(i64, u8, u8); 45] = [
 #[test]
 fn known_easters(rt: HostRuntime) {
     for (year, month, day) in EASTERS {
-        assert!(rt; easter(year) == date(&rt, (year, month, day)), "{year}");
+        holds_at(
+            &rt,
+            easter(year) == date(&rt, (year, month, day)),
+            &("easter", year),
+        );
     }
 }
 
@@ -64,7 +69,11 @@ fn known_easters(rt: HostRuntime) {
 fn easter_at_the_ends(rt: HostRuntime) {
     for year in [MIN, MAX, -1, 0] {
         let found = easter(year);
-        assert!(rt; found.year == year && found.weekday() == Sunday, "{year}");
-        assert!(rt; found.month == 3 || found.month == 4, "{year}");
+        holds_at(
+            &rt,
+            found.year == year && found.weekday() == Sunday,
+            &("easter", year),
+        );
+        holds_at(&rt, found.month == 3 || found.month == 4, &("easter", year));
     }
 }

@@ -1,6 +1,7 @@
 //! The weeks of ISO 8601 around the first days of years, and at the ends of `i64`.
 
 use super::{MAX, MIN, date};
+use crate::assertions::holds_at;
 use calendar::Weekday::{Friday, Monday, Saturday, Sunday, Thursday, Tuesday, Wednesday};
 use calendar::{Date, IsoWeek, Weekday};
 
@@ -31,14 +32,19 @@ const WEEKS: [((i64, u8, u8), (i64, u8, Weekday)); 19] = [
 fn known_weeks(rt: HostRuntime) {
     for ((year, month, day), (iso_year, week, weekday)) in WEEKS {
         let date = Date::from_iso_week(iso_year, week, weekday);
-        assert!(rt; date == Date::new(year, month, day), "{year}-{month}-{day}");
+        holds_at(
+            &rt,
+            date == Date::new(year, month, day),
+            &("from_iso_week", year, month, day),
+        );
         let own = IsoWeek {
             year: iso_year,
             week,
         };
-        assert!(rt;
+        holds_at(
+            &rt,
             date.is_some_and(|date| date.iso_week() == Some(own) && date.weekday() == weekday),
-            "{year}-{month}-{day}"
+            &("iso_week", year, month, day),
         );
     }
 }
@@ -46,9 +52,10 @@ fn known_weeks(rt: HostRuntime) {
 #[test]
 fn no_weeks(rt: HostRuntime) {
     for (year, week) in [(2005, 53), (2005, 0), (2004, 54), (2004, 255)] {
-        assert!(rt;
+        holds_at(
+            &rt,
             Date::from_iso_week(year, week, Monday) == None,
-            "{year} {week}"
+            &("from_iso_week", year, week),
         );
     }
 }

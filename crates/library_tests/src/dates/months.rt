@@ -1,6 +1,7 @@
 //! Dates some months later, and the days of a month that have a given day of the week.
 
 use super::{MAX, MIN, date};
+use crate::assertions::holds_at;
 use calendar::Weekday::{Friday, Monday, Sunday, Thursday};
 use calendar::{Date, Weekday, nth_weekday_of_month};
 
@@ -28,7 +29,7 @@ const LATER: [((i64, u8, u8), i64, (i64, u8, u8)); 16] = [
 fn months_later(rt: HostRuntime) {
     for (from, months, to) in LATER {
         let found = date(&rt, from).plus_months(months);
-        assert!(rt; found == Some(date(&rt, to)), "{months}");
+        holds_at(&rt, found == Some(date(&rt, to)), &("plus_months", months));
     }
     let (first, last) = (date(&rt, (MIN, 1, 1)), date(&rt, (MAX, 12, 31)));
     assert!(rt; first.plus_months(-1) == None && last.plus_months(1) == None);
@@ -43,7 +44,11 @@ fn whole_years(rt: HostRuntime) {
         let years = i64::from(years);
         let year = 2000 + years;
         let expected = Date::new(year, 2, 29).or(Date::new(year, 2, 28));
-        assert!(rt; leap_day.plus_months(12 * years) == expected, "{year}");
+        holds_at(
+            &rt,
+            leap_day.plus_months(12 * years) == expected,
+            &("plus_months", year),
+        );
     }
 }
 
@@ -85,12 +90,17 @@ const NO_PLACES: [(i64, u8, Weekday, u8); 8] = [
 fn places_of_weekdays(rt: HostRuntime) {
     for (year, month, weekday, n, day) in PLACES {
         let found = nth_weekday_of_month(year, month, weekday, n);
-        assert!(rt; found == Date::new(year, month, day), "{year}");
+        holds_at(
+            &rt,
+            found == Date::new(year, month, day),
+            &("nth_weekday_of_month", year),
+        );
     }
     for (year, month, weekday, n) in NO_PLACES {
-        assert!(rt;
+        holds_at(
+            &rt,
             nth_weekday_of_month(year, month, weekday, n) == None,
-            "{year} {month} {n}"
+            &("nth_weekday_of_month", year, month, n),
         );
     }
 }

@@ -1,5 +1,6 @@
 //! The texts of dates: known ones, the ends of `i64`, and texts that no date has.
 
+use crate::assertions::holds_at;
 use calendar::{Date, DateError};
 use std::process::Abort;
 
@@ -49,16 +50,20 @@ const NO_TEXTS: [&str; 24] = [
 fn both_ways(rt: HostRuntime) {
     for ((year, month, day_of_month), text) in TEXTS {
         let date = Date::new(year, month, day_of_month).expect(&rt, "there is such a date");
-        assert!(rt; text.parse::<Date>() == Ok(date), "{year}");
+        holds_at(&rt, text.parse::<Date>() == Ok(date), &("parse", year));
         let printed = date.to_string(rt.alloc());
         let printed = printed.expect(&rt, "there is memory");
-        assert!(rt; printed.as_str() == text, "{year}");
+        holds_at(&rt, printed.as_str() == text, &("fmt", year));
     }
 }
 
 #[test]
 fn no_dates(rt: HostRuntime) {
     for text in NO_TEXTS {
-        assert!(rt; text.parse::<Date>() == Err(DateError), "{text}");
+        holds_at(
+            &rt,
+            text.parse::<Date>() == Err(DateError),
+            &("parse", text),
+        );
     }
 }

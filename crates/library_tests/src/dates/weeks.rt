@@ -1,5 +1,6 @@
 //! The first day from another on that has a given day of the week.
 
+use crate::assertions::holds_at;
 use calendar::Weekday::{Friday, Monday, Sunday, Thursday, Wednesday};
 use calendar::{Weekday, first_weekday_on_or_after};
 
@@ -19,7 +20,11 @@ const FIRST: [(i64, Weekday, Option<i64>); 10] = [
 #[test]
 fn first_weekdays(rt: HostRuntime) {
     for (day, weekday, first) in FIRST {
-        assert!(rt; first_weekday_on_or_after(day, weekday) == first, "{day}");
+        holds_at(
+            &rt,
+            first_weekday_on_or_after(day, weekday) == first,
+            &("first_weekday_on_or_after", day),
+        );
     }
     assert!(rt; first_weekday_on_or_after(i64::MAX, Friday) == None);
 }

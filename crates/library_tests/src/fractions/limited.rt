@@ -1,6 +1,7 @@
 //! The nearest fractions of bounded denominators.
 
 use super::{MAX, MIN, ratio};
+use crate::assertions::holds_at;
 use std::process::Abort;
 
 /// The parts of a fraction, a limit, and the parts of the nearest fraction.
@@ -28,11 +29,12 @@ const LIMITED: [Row; 15] = [
 fn nearest_fractions(rt: HostRuntime) {
     for ((num, den), max, expected) in LIMITED {
         let x = ratio(&rt, num, den);
-        assert!(rt; max > 0, "limit {max}");
+        holds_at(&rt, max > 0, &max);
         let nearest = x.limit_denominator(max);
-        assert!(rt;
+        holds_at(
+            &rt,
             (nearest.num(), nearest.den()) == expected,
-            "{num} over {den} limited to {max}"
+            &("limit_denominator", num, den, max),
         );
     }
 }
@@ -76,12 +78,13 @@ fn nearest_by_trial(x: (i64, i64), max: i64) -> Option<(i64, i64)> {
 fn check_limits(rt: &impl Abort, num: i64, den: i64) {
     let x = ratio(rt, num, den);
     for max in 1..=12 {
-        assert!(rt; max > 0, "limit {max}");
+        holds_at(rt, max > 0, &max);
         let nearest = x.limit_denominator(max);
         let found = Some((nearest.num(), nearest.den()));
-        assert!(rt;
+        holds_at(
+            rt,
             found == nearest_by_trial((num, den), max),
-            "{num} over {den} limited to {max}"
+            &("limit_denominator", num, den, max),
         );
     }
 }

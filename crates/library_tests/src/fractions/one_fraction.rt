@@ -1,6 +1,7 @@
 //! Calls on one fraction: signs, negations, magnitudes, reciprocals and powers.
 
 use super::{MAX, MIN, parts, ratio};
+use crate::assertions::holds_at;
 use Operation::{Abs, Neg, Pow, Recip};
 use ratio64::RatioError::{NotFitting, ZeroDenominator};
 use ratio64::{Ratio, RatioError};
@@ -69,7 +70,7 @@ const ANSWERS: [Row; 34] = [
 fn answers_of_one_fraction(rt: HostRuntime) {
     for (operation, (num, den), expected) in ANSWERS {
         let answer = parts(operation.answer(&ratio(&rt, num, den)));
-        assert_eq!(rt; answer, expected, "{operation:?} of {num}/{den}");
+        holds_at(&rt, answer == expected, &(operation, num, den));
     }
 }
 
@@ -100,10 +101,11 @@ fn signs(rt: HostRuntime) {
             x.is_integer(),
         );
         let signum = x.signum();
-        assert!(rt; found == expected, "{num} over {den}");
-        assert!(rt;
+        holds_at(&rt, found == expected, &("signs", num, den));
+        holds_at(
+            &rt,
             (signum.num(), signum.den()) == (sign, 1),
-            "{num} over {den}"
+            &("signum", num, den),
         );
     }
 }
@@ -120,10 +122,18 @@ fn sum_with_negation(x: &Ratio) -> Result<Ratio, RatioError> {
 fn check_sign(rt: &impl Abort, x: &Ratio) {
     let num = x.num();
     let found = (x.is_negative(), x.is_zero(), x.is_positive());
-    assert!(rt; found == (num < 0, num == 0, num > 0), "{x}");
-    assert!(rt; sign_times_magnitude(x) == Ok(*x), "{x}");
-    assert!(rt; sum_with_negation(x) == Ok(Ratio::zero()), "{x}");
-    assert!(rt; x.is_integer() == (x.den() == 1), "{x}");
+    holds_at(rt, found == (num < 0, num == 0, num > 0), &("signs", x));
+    holds_at(
+        rt,
+        sign_times_magnitude(x) == Ok(*x),
+        &("sign_times_magnitude", x),
+    );
+    holds_at(
+        rt,
+        sum_with_negation(x) == Ok(Ratio::zero()),
+        &("sum_with_negation", x),
+    );
+    holds_at(rt, x.is_integer() == (x.den() == 1), &("is_integer", x));
 }
 
 /// Each power is the one before times the fraction, and that of the negated exponent is its
@@ -131,13 +141,13 @@ fn check_sign(rt: &impl Abort, x: &Ratio) {
 fn check_powers(rt: &impl Abort, x: &Ratio) {
     let mut power = Ratio::one();
     for (up, down) in [(0, 0), (1, -1), (2, -2), (3, -3), (4, -4), (5, -5)] {
-        assert!(rt; x.checked_pow(up) == Ok(power), "{x} to {up}");
+        holds_at(rt, x.checked_pow(up) == Ok(power), &("checked_pow", x, up));
         let turned = if up == 0 {
             Ok(power)
         } else {
             power.checked_recip()
         };
-        assert!(rt; x.checked_pow(down) == turned, "{x} to {down}");
+        holds_at(rt, x.checked_pow(down) == turned, &("checked_pow", x, down));
         power = power.checked_mul(x).expect(rt, "small numbers");
     }
 }

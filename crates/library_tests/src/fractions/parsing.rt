@@ -3,6 +3,7 @@
 ghost use Rattle.std.specs.Prelude.{◌≡◌, IfOk, Ok};
 
 use super::{MAX, MIN, ratio};
+use crate::assertions::holds_at;
 use ratio64::ParseRatioError::{NotAFraction, NotFitting, TooLong, ZeroDenominator};
 use ratio64::{ParseRatioError, Ratio, RatioError};
 use std::alloc::{AllocError, Global};
@@ -105,7 +106,7 @@ fn read(text: &str) -> Result<(i64, i64), ParseRatioError> {
 
 fn check_rows(rt: &impl Abort, rows: &[Row]) {
     for (text, expected) in rows {
-        assert_eq!(rt; read(text), *expected, "{text}");
+        holds_at(rt, read(text) == *expected, &("parse", text));
     }
 }
 
@@ -118,7 +119,7 @@ fn texts_read(rt: HostRuntime) {
 #[test]
 fn other_texts(rt: HostRuntime) {
     for text in OTHERS {
-        assert_eq!(rt; read(text), Err(NotAFraction), "{text}");
+        holds_at(&rt, read(text) == Err(NotAFraction), &("parse", text));
     }
 }
 
@@ -145,7 +146,7 @@ fn printed_and_read_back(rt: HostRuntime) {
             if den != 0 {
                 let x = ratio(&rt, num, den);
                 let read = read_back(rt.alloc(), &x).expect(&rt, "there is memory");
-                assert!(rt; read == (x.num(), x.den(), Ok(x)), "{num} over {den}");
+                holds_at(&rt, read == (x.num(), x.den(), Ok(x)), &("parse", num, den));
             }
         }
     }
@@ -157,7 +158,7 @@ fn small_parts_as_written(rt: HostRuntime) {
         for den in -12..=12 {
             let text = format!(in rt.alloc(); "{num}/{den}").expect(&rt, "there is memory");
             let expected = Ratio::new(num, den).map_err(ParseRatioError::from);
-            assert!(rt; text.as_str().parse() == expected, "{num} over {den}");
+            holds_at(&rt, text.as_str().parse() == expected, &("parse", num, den));
         }
     }
 }

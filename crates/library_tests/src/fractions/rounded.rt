@@ -1,6 +1,7 @@
 //! Rounding toward 0 and to the nearest number, and what the first leaves.
 
 use super::{MAX, MIN, parts, ratio};
+use crate::assertions::holds_at;
 use ratio64::Ratio;
 use std::process::Abort;
 
@@ -45,9 +46,10 @@ fn nearest_numbers(rt: HostRuntime) {
     for ((num, den), expected, rest) in ROUNDED {
         let x = ratio(&rt, num, den);
         let left = x.fract();
-        assert!(rt;
+        holds_at(
+            &rt,
             (x.trunc(), x.round()) == expected && (left.num(), left.den()) == rest,
-            "{num} over {den}"
+            &("trunc", num, den),
         );
     }
 }
@@ -63,10 +65,18 @@ fn nearest(num: i64, den: i64) -> Option<i64> {
 fn check_rounding(rt: &impl Abort, num: i64, den: i64) {
     let x = ratio(rt, num, den);
     let whole = x.trunc();
-    assert!(rt; Some(whole) == num.checked_div(den), "{num} over {den}");
-    assert!(rt; Some(x.round()) == nearest(num, den), "{num} over {den}");
+    holds_at(
+        rt,
+        Some(whole) == num.checked_div(den),
+        &("trunc", num, den),
+    );
+    holds_at(
+        rt,
+        Some(x.round()) == nearest(num, den),
+        &("round", num, den),
+    );
     let sum = parts(Ratio::from(whole).checked_add(&x.fract()));
-    assert!(rt; sum == Ok((x.num(), x.den())), "{num} over {den}");
+    holds_at(rt, sum == Ok((x.num(), x.den())), &("fract", num, den));
 }
 
 #[test]

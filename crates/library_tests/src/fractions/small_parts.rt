@@ -3,6 +3,7 @@
 
 use super::operations::Operation::{Add, Div, Mul, Sub};
 use super::{hash_of, parts, ratio};
+use crate::assertions::holds_at;
 use ratio64::RatioError::ZeroDenominator;
 use ratio64::{Ratio, RatioError};
 use std::cmp::Ordering;
@@ -34,18 +35,23 @@ fn rounded(num: i64, den: i64) -> Option<(i64, i64)> {
 fn check_fraction(rt: &impl Abort, num: i64, den: i64) {
     let x = ratio(rt, num, den);
     let (p, q) = (x.num(), x.den());
-    assert_eq!(rt; product(p, den), product(num, q), "{num} over {den}");
-    assert!(rt; q > 0 && !have_common_factor(p, q), "{num} over {den}");
-    assert!(rt;
+    holds_at(rt, product(p, den) == product(num, q), &("new", num, den));
+    holds_at(rt, q > 0 && !have_common_factor(p, q), &("new", num, den));
+    holds_at(
+        rt,
         Some((x.floor(), x.ceil())) == rounded(p, q),
-        "{num} over {den}"
+        &("floor", num, den),
     );
 }
 
 #[test]
 fn each_fraction(rt: HostRuntime) {
     for num in -12..=12 {
-        assert!(rt; parts(Ratio::new(num, 0)) == Err(ZeroDenominator), "{num}");
+        holds_at(
+            &rt,
+            parts(Ratio::new(num, 0)) == Err(ZeroDenominator),
+            &("new", num),
+        );
         for den in -12..=12 {
             if den != 0 {
                 check_fraction(&rt, num, den);
@@ -70,10 +76,11 @@ fn check_pair(rt: &impl Abort, (a, b): (i64, i64), (c, d): (i64, i64)) {
     let order = order(a, b, c, d);
     let found = (x.cmp(&y), x.partial_cmp(&y), x == y);
     let expected = (order, Some(order), order.is_eq());
-    assert!(rt; found == expected, "{a} over {b}, {c} over {d}");
-    assert!(rt;
+    holds_at(rt, found == expected, &("cmp", a, b, c, d));
+    holds_at(
+        rt,
         x != y || hash_of(&x) == hash_of(&y),
-        "{a} over {b}, {c} over {d}"
+        &("hash_of", a, b, c, d),
     );
 }
 
@@ -98,10 +105,7 @@ fn check_operations(rt: &impl Abort, (a, b): (i64, i64), (c, d): (i64, i64)) {
         (Div, left, right),
     ] {
         let answer = operation.answer(&x, &y);
-        assert!(rt;
-            is_answer(answer, num, den),
-            "{operation:?} of {a}/{b} and {c}/{d}"
-        );
+        holds_at(rt, is_answer(answer, num, den), &(operation, a, b, c, d));
     }
 }
 

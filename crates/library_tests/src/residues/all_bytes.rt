@@ -2,6 +2,7 @@
 
 ghost use Rattle.std.specs.Prelude.{◌<◌, ◌<ℤ◌, pos};
 
+use crate::assertions::holds_at;
 use modular::{
     difference_modulo, inverse_modulo, negation_modulo, power_modulo, product_modulo,
     quotient_modulo, residue, solutions, sum_modulo,
@@ -83,14 +84,20 @@ fn unsigned_pairs(rt: &impl Abort, m: u8)
     for a in 0..=u8::MAX {
         for b in 0..=u8::MAX {
             let (sum, difference, product) = residues_of(i16::from(a), i16::from(b), i16::from(m));
-            assert!(rt; i128::from(sum_modulo(a, b, m)) == sum, "{a} {b} {m}");
-            assert!(rt;
-                i128::from(difference_modulo(a, b, m)) == difference,
-                "{a} {b} {m}"
+            holds_at(
+                rt,
+                i128::from(sum_modulo(a, b, m)) == sum,
+                &("sum_modulo", a, b, m),
             );
-            assert!(rt;
+            holds_at(
+                rt,
+                i128::from(difference_modulo(a, b, m)) == difference,
+                &("difference_modulo", a, b, m),
+            );
+            holds_at(
+                rt,
                 i128::from(product_modulo(a, b, m)) == product,
-                "{a} {b} {m}"
+                &("product_modulo", a, b, m),
             );
         }
     }
@@ -103,14 +110,20 @@ fn signed_pairs(rt: &impl Abort, m: i8)
     for a in i8::MIN..=i8::MAX {
         for b in i8::MIN..=i8::MAX {
             let (sum, difference, product) = residues_of(i16::from(a), i16::from(b), i16::from(m));
-            assert!(rt; i128::from(sum_modulo(a, b, m)) == sum, "{a} {b} {m}");
-            assert!(rt;
-                i128::from(difference_modulo(a, b, m)) == difference,
-                "{a} {b} {m}"
+            holds_at(
+                rt,
+                i128::from(sum_modulo(a, b, m)) == sum,
+                &("sum_modulo", a, b, m),
             );
-            assert!(rt;
+            holds_at(
+                rt,
+                i128::from(difference_modulo(a, b, m)) == difference,
+                &("difference_modulo", a, b, m),
+            );
+            holds_at(
+                rt,
                 i128::from(product_modulo(a, b, m)) == product,
-                "{a} {b} {m}"
+                &("product_modulo", a, b, m),
             );
         }
     }
@@ -137,12 +150,24 @@ fn unsigned_numbers(rt: &impl Abort, m: u8)
     for a in 0..=u8::MAX {
         let (x, n) = (i16::from(a), i16::from(m));
         let (rest, negated, _) = residues_of(0, x, n);
-        assert!(rt; i128::from(residue(a, m)) == rest, "{a} {m}");
-        assert!(rt; i128::from(negation_modulo(a, m)) == negated, "{a} {m}");
+        holds_at(rt, i128::from(residue(a, m)) == rest, &("residue", a, m));
+        holds_at(
+            rt,
+            i128::from(negation_modulo(a, m)) == negated,
+            &("negation_modulo", a, m),
+        );
         let inverse = inverse_modulo(a, m).map(i16::from);
-        assert!(rt; inverse == only_factor(x, 1, n), "{a} {m}");
+        holds_at(
+            rt,
+            inverse == only_factor(x, 1, n),
+            &("inverse_modulo", a, m),
+        );
         let quotient = quotient_modulo(77, a, m).map(i16::from);
-        assert!(rt; quotient == only_factor(x, 77, n), "{a} {m}");
+        holds_at(
+            rt,
+            quotient == only_factor(x, 77, n),
+            &("quotient_modulo", a, m),
+        );
     }
 }
 
@@ -153,12 +178,24 @@ fn signed_numbers(rt: &impl Abort, m: i8)
     for a in i8::MIN..=i8::MAX {
         let (x, n) = (i16::from(a), i16::from(m));
         let (rest, negated, _) = residues_of(0, x, n);
-        assert!(rt; i128::from(residue(a, m)) == rest, "{a} {m}");
-        assert!(rt; i128::from(negation_modulo(a, m)) == negated, "{a} {m}");
+        holds_at(rt, i128::from(residue(a, m)) == rest, &("residue", a, m));
+        holds_at(
+            rt,
+            i128::from(negation_modulo(a, m)) == negated,
+            &("negation_modulo", a, m),
+        );
         let inverse = inverse_modulo(a, m).map(i16::from);
-        assert!(rt; inverse == only_factor(x, 1, n), "{a} {m}");
+        holds_at(
+            rt,
+            inverse == only_factor(x, 1, n),
+            &("inverse_modulo", a, m),
+        );
         let quotient = quotient_modulo(-77, a, m).map(i16::from);
-        assert!(rt; quotient == only_factor(x, -77, n), "{a} {m}");
+        holds_at(
+            rt,
+            quotient == only_factor(x, -77, n),
+            &("quotient_modulo", a, m),
+        );
     }
 }
 
@@ -186,10 +223,10 @@ fn unsigned_powers_and_solutions(rt: &impl Abort, a: u8, m: u8)
     let (x, n) = (i16::from(a), i16::from(m));
     for e in EXPONENTS {
         let power = i128::from(power_modulo(a, u128::from(e), m));
-        assert!(rt; power == power_of(x, e, n), "{a} {e} {m}");
+        holds_at(rt, power == power_of(x, e, n), &("power_modulo", a, e, m));
     }
     let found = solutions(a, 60, m).map(|(first, step)| (i16::from(first), i16::from(step)));
-    assert!(rt; are_solutions(found, x, 60, n), "{a} {m}");
+    holds_at(rt, are_solutions(found, x, 60, n), &("solutions", a, m));
 }
 
 /// The powers of a number of `i8`, and the factors that lead from it to -60.
@@ -199,10 +236,10 @@ fn signed_powers_and_solutions(rt: &impl Abort, a: i8, m: i8)
     let (x, n) = (i16::from(a), i16::from(m));
     for e in EXPONENTS {
         let power = i128::from(power_modulo(a, u128::from(e), m));
-        assert!(rt; power == power_of(x, e, n), "{a} {e} {m}");
+        holds_at(rt, power == power_of(x, e, n), &("power_modulo", a, e, m));
     }
     let found = solutions(a, -60, m).map(|(first, step)| (i16::from(first), i16::from(step)));
-    assert!(rt; are_solutions(found, x, -60, n), "{a} {m}");
+    holds_at(rt, are_solutions(found, x, -60, n), &("solutions", a, m));
 }
 
 #[test]

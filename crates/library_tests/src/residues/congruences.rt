@@ -1,6 +1,7 @@
 //! Linear congruences.
 
 use super::{MAX, MIN};
+use crate::assertions::holds_at;
 use modular::CommonSolution::{At, Beyond, Never};
 use modular::{CommonSolution, chinese_remainder, next_common_solution, next_congruent, solutions};
 use num_integer::Fits;
@@ -43,9 +44,10 @@ const BOTH: [Row; 9] = [
 fn two_congruences(rt: HostRuntime) {
     for ((a, m), (b, n), both) in BOTH {
         let fits = m > 0 && n > 0 && m.lcm_fits(&n);
-        assert!(rt;
+        holds_at(
+            &rt,
             fits && chinese_remainder(a, m, b, n) == both,
-            "{a} {m} {b} {n}"
+            &("chinese_remainder", a, m, b, n),
         );
     }
     let (m, n) = (4294967291u64, 4294967279);
@@ -69,9 +71,10 @@ const NEXT_CONGRUENT: [(i64, i64, i64, Option<i64>); 7] = [
 #[test]
 fn next_congruent_numbers(rt: HostRuntime) {
     for (from, first, step, next) in NEXT_CONGRUENT {
-        assert!(rt;
+        holds_at(
+            &rt,
             step > 0 && next_congruent(from, first, step) == next,
-            "{from} {first} {step}"
+            &("next_congruent", from, first, step),
         );
     }
     assert!(rt; next_congruent(120i8, 1, 9) == Some(127) && next_congruent(120i8, 2, 9) == None);
@@ -98,9 +101,10 @@ const NEXT_COMMON_SOLUTION: [Next; 12] = [
 #[test]
 fn next_common_solutions(rt: HostRuntime) {
     for (from, (a, m), (b, n), next) in NEXT_COMMON_SOLUTION {
-        assert!(rt;
+        holds_at(
+            &rt,
             m > 0 && n > 0 && next_common_solution(from, a, m, b, n) == next,
-            "{from} {a} {m} {b} {n}"
+            &("next_common_solution", from, a, m, b, n),
         );
     }
     let (m, n) = (u128::MAX, u128::MAX - 1);

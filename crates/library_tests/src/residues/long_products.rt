@@ -1,6 +1,7 @@
 //! Products where the modulus has more than 64 bits, against long multiplication in binary digits.
 
 use super::P128;
+use crate::assertions::holds_at;
 use modular::product_modulo;
 
 /// Numbers of more than 64 bits and about there: powers of two with their neighbours, the greatest
@@ -49,7 +50,11 @@ fn products_of_two_digits(rt: HostRuntime) {
             for y in NUMBERS {
                 if x < m && y < m {
                     let product = long_multiplication(x, y, m);
-                    assert!(rt; product_modulo(x, y, m) == product, "{x} {y} {m}");
+                    holds_at(
+                        &rt,
+                        product_modulo(x, y, m) == product,
+                        &("product_modulo", x, y, m),
+                    );
                 }
             }
         }

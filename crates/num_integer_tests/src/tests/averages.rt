@@ -1,6 +1,7 @@
 //! Averages: the rows of their documents, the tests of the Rust crate, and each pair of `i8` and of
 //! `u8` against the halves of both added up.
 
+use super::assertions::holds_at;
 use super::call_rows::AnswersPair;
 use super::call_rows::PairCall::Averages;
 use super::signed_magnitude::{SignedMagnitude, floored, left, signed_magnitude_of, sum};
@@ -42,9 +43,13 @@ impl Check for AveragesAtTheTop {
         let second = value::<T>(rt, (false, high.saturating_sub(2)));
         let third = value::<T>(rt, (false, high.saturating_sub(3)));
         let averages = (average_floor(third, first), average_ceil(third, first));
-        assert_eq!(rt; averages, (second, second));
+        holds_at(rt, averages == (second, second), &("averages", second));
         let averages = (average_floor(third, second), average_ceil(third, second));
-        assert_eq!(rt; averages, (third, second));
+        holds_at(
+            rt,
+            averages == (third, second),
+            &("averages", third, second),
+        );
     }
 }
 
@@ -107,10 +112,10 @@ pub(super) fn has_averages<T: Tested>(rt: &impl Abort, a: SignedMagnitude, b: Si
     let (x, y) = (value::<T>(rt, a), value::<T>(rt, b));
     let (floor, ceil) = halves_of_sum(a, b).expect(rt, "the averages lie between the numbers");
     let expected = (value(rt, floor), value(rt, ceil));
-    assert_eq!(rt;
-        (average_floor(x, y), average_ceil(x, y)),
-        expected,
-        "of {a:?} and {b:?}"
+    holds_at(
+        rt,
+        (average_floor(x, y), average_ceil(x, y)) == expected,
+        &("averages", a, b),
     );
 }
 
@@ -145,7 +150,11 @@ impl Check for GreatestIsItsAverage {
             average_floor(greatest, greatest),
             average_ceil(greatest, greatest),
         );
-        assert_eq!(rt; averages, (greatest, greatest));
+        holds_at(
+            rt,
+            averages == (greatest, greatest),
+            &("averages", greatest),
+        );
     }
 }
 

@@ -2,6 +2,7 @@
 
 ghost use Rattle.std.specs.Prelude.{IfSome};
 
+use super::assertions::holds_at;
 use super::call_rows::Holds;
 use super::call_rows::Question::{GcdFits, IsMultipleOf};
 use super::types::Type::{I8, I64, I128, Isize, U8, U64};
@@ -39,9 +40,13 @@ impl Check for HasPair {
         };
         let (first, second) = (number::<T>(rt, a), number::<T>(rt, b));
         let plain = checked::extended_gcd(first, second);
-        assert_eq!(rt; plain, Some(answer), "of {a} and {b}");
+        holds_at(rt, plain == Some(answer), &("extended_gcd", a, b));
         let counted = extended_gcd_counted(first, second);
-        assert_eq!(rt; counted, Some((answer, self.2)), "of {a} and {b}");
+        holds_at(
+            rt,
+            counted == Some((answer, self.2)),
+            &("extended_gcd_counted", a, b),
+        );
     }
 }
 
@@ -53,7 +58,7 @@ impl Check for HasNoPair {
     fn at<T: Tested>(&self, rt: &impl Abort) {
         let (a, b) = (number::<T>(rt, self.0), number::<T>(rt, self.1));
         let none = checked::extended_gcd(a, b).is_none() && extended_gcd_counted(a, b).is_none();
-        assert!(rt; none, "of {} and {}", self.0, self.1);
+        holds_at(rt, none, &("extended_gcd", self.0, self.1));
     }
 }
 
@@ -137,7 +142,11 @@ fn test_extended_gcd_lcm(rt: HostRuntime) {
     for a in -128i32..=127 {
         for b in -128i32..=127 {
             let pair = pair_with_lcm(&rt, a, b);
-            assert_eq!(rt; combined(&pair, a, b), Some(pair.gcd), "of {a} and {b}");
+            holds_at(
+                &rt,
+                combined(&pair, a, b) == Some(pair.gcd),
+                &("combined", a, b),
+            );
         }
     }
 }

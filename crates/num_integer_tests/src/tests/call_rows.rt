@@ -1,5 +1,6 @@
 //! Names of the calls, and the rows of tables: a call, its operands and its answer.
 
+use super::assertions::holds_at;
 use super::types::{Check, Tested, number, optional};
 use num_integer::{Fits, average_ceil, average_floor, checked};
 use std::process::Abort;
@@ -170,7 +171,7 @@ impl Check for AnswersOne {
         let (call, x) = (self.0, self.1);
         let expected = optional::<T>(rt, self.2);
         let answer = call.answer(number::<T>(rt, x));
-        assert_eq!(rt; answer, expected, "{call:?} of {x}");
+        holds_at(rt, answer == expected, &(call, x));
     }
 }
 
@@ -179,7 +180,7 @@ impl Check for Answers {
         let (call, (a, b)) = (self.0, self.1);
         let expected = optional::<T>(rt, self.2);
         let answer = call.answer(number::<T>(rt, a), number::<T>(rt, b));
-        assert_eq!(rt; answer, expected, "{call:?} of {a} and {b}");
+        holds_at(rt, answer == expected, &(call, a, b));
     }
 }
 
@@ -191,7 +192,7 @@ impl Check for AnswersPair {
             None => None,
         };
         let answers = call.answers(number::<T>(rt, a), number::<T>(rt, b));
-        assert_eq!(rt; answers, expected, "{call:?} of {a} and {b}");
+        holds_at(rt, answers == expected, &(call, a, b));
     }
 }
 
@@ -199,6 +200,6 @@ impl Check for Holds {
     fn at<T: Tested>(&self, rt: &impl Abort) {
         let (question, (a, b)) = (self.0, self.1);
         let holds = question.holds(number::<T>(rt, a), number::<T>(rt, b));
-        assert_eq!(rt; holds, self.2, "{question:?} of {a} and {b}");
+        holds_at(rt, holds == self.2, &(question, a, b));
     }
 }

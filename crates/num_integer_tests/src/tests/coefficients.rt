@@ -3,6 +3,7 @@
 ghost use Rattle.std.specs.Prelude.{IfOk};
 ghost use Rattle.std.specs.List.{All};
 
+use super::assertions::holds_at;
 use super::call_rows::NumberCall::Binomial;
 use super::call_rows::Question::BinomialFits;
 use super::call_rows::{Answers, Holds};
@@ -81,7 +82,7 @@ impl Check for HasTurns {
         let (n, k) = self.0;
         let expected = Some((number::<T>(rt, self.1), self.2));
         let answer = counted(number::<T>(rt, n), number::<T>(rt, k));
-        assert_eq!(rt; answer, expected, "of {n} and {k}");
+        holds_at(rt, answer == expected, &("binomial_counted", n, k));
     }
 }
 
@@ -118,10 +119,10 @@ impl Check for Shares<'_> {
     fn at<T: Tested>(&self, rt: &impl Abort) {
         let counts = values::<T>(rt, self.0, self.1).expect(rt, "memory is left");
         let expected = optional::<T>(rt, self.2);
-        assert!(rt;
+        holds_at(
+            rt,
             checked::multinomial(&counts) == expected,
-            "the multinomial of {:?}",
-            self.1
+            &("multinomial", self.1),
         );
     }
 }
@@ -171,9 +172,13 @@ impl Check for HasItems<'_> {
         let mut row = row.expect(rt, "the row fits");
         for item in self.1 {
             let expected = Some(number::<T>(rt, *item));
-            assert_eq!(rt; row.next(), expected, "in the row of {}", self.0);
+            holds_at(rt, row.next() == expected, &("next", self.0));
         }
-        assert!(rt; row.next().is_none() && row.next().is_none());
+        holds_at(
+            rt,
+            row.next().is_none() && row.next().is_none(),
+            &("next", self.0),
+        );
     }
 }
 
@@ -184,7 +189,7 @@ pub(crate) struct HasNoRow(pub(crate) i128);
 impl Check for HasNoRow {
     fn at<T: Tested>(&self, rt: &impl Abort) {
         let row = checked::row(number::<T>(rt, self.0));
-        assert!(rt; row.is_none(), "the row of {}", self.0);
+        holds_at(rt, row.is_none(), &("row", self.0));
     }
 }
 
@@ -198,13 +203,17 @@ impl Check for HasGreatestRow {
         let mut row = checked::row(n).expect(rt, "the greatest row fits");
         for k in 0..=self.0 {
             let expected = checked::binomial(n, number::<T>(rt, k));
-            assert_eq!(rt; row.next(), expected, "item {k} of the row of {}", self.0);
+            holds_at(rt, row.next() == expected, &("next", k, self.0));
         }
-        assert!(rt; row.next().is_none());
+        holds_at(rt, row.next().is_none(), &("next", self.0));
         let above = self.0.wrapping_add(1);
         let next = number::<T>(rt, above);
         let middle = checked::binomial(next, number::<T>(rt, above / 2));
-        assert!(rt; middle.is_none() && checked::row(next).is_none());
+        holds_at(
+            rt,
+            middle.is_none() && checked::row(next).is_none(),
+            &("row", above),
+        );
     }
 }
 
@@ -264,11 +273,19 @@ fn domains_of_multinomial(rt: HostRuntime) {
         (&[2, 2, 2, 1], false),
     ];
     for (counts, fits) in rows {
-        assert!(rt; u8::multinomial_fits(counts) == fits, "of {counts:?}");
+        holds_at(
+            &rt,
+            u8::multinomial_fits(counts) == fits,
+            &("u8::multinomial_fits", counts),
+        );
     }
     let rows: [&[i8]; 3] = [&[3, 2, 2], &[127, 1], &[-1]];
     for counts in rows {
-        assert!(rt; !i8::multinomial_fits(counts), "of {counts:?}");
+        holds_at(
+            &rt,
+            !i8::multinomial_fits(counts),
+            &("i8::multinomial_fits", counts),
+        );
     }
 }
 
@@ -281,7 +298,11 @@ fn work_of_the_tests(rt: HostRuntime) {
         (u128::MAX - 1, true),
         (u128::MAX / 2, false),
     ] {
-        assert!(rt; u128::MAX.binomial_fits(&k) == fits, "of {k}");
+        holds_at(
+            &rt,
+            u128::MAX.binomial_fits(&k) == fits,
+            &("binomial_fits", k),
+        );
     }
     let rows: [(&[u128], bool); 4] = [
         (&[u128::MAX / 2, u128::MAX / 2], false),
@@ -290,6 +311,10 @@ fn work_of_the_tests(rt: HostRuntime) {
         (&[u128::MAX - 1, 0, 1], true),
     ];
     for (counts, fits) in rows {
-        assert!(rt; u128::multinomial_fits(counts) == fits, "of {counts:?}");
+        holds_at(
+            &rt,
+            u128::multinomial_fits(counts) == fits,
+            &("u128::multinomial_fits", counts),
+        );
     }
 }

@@ -1,5 +1,6 @@
 //! Greatest common divisors and least common multiples.
 
+use super::assertions::holds_at;
 use super::call_rows::NumberCall::{Gcd, Lcm};
 use super::call_rows::PairCall::GcdLcm;
 use super::call_rows::{Answers, AnswersPair, NumberCall};
@@ -177,7 +178,7 @@ impl Check for BothAreEach {
                 let (x, y) = (number::<T>(rt, a as i128), number::<T>(rt, b as i128));
                 let each = checked::gcd(x, y).zip(checked::lcm(x, y));
                 let both = checked::gcd_lcm(x, y);
-                assert!(rt; both.is_some() && both == each, "{a} and {b}");
+                holds_at(rt, both.is_some() && both == each, &("gcd_lcm", a, b));
             }
         }
     }

@@ -1,5 +1,6 @@
 //! Where the domains of the calls end, on both sides.
 
+use super::assertions::holds_at;
 use super::call_rows::NumberCall::{Difference, Product, Sum};
 use super::call_rows::Question::{
     GcdFits, LcmFits, NextMultipleFits, PrevMultipleFits, QuotientFits,
@@ -18,7 +19,7 @@ struct HasEnds(u128, u128);
 
 impl Check for HasEnds {
     fn at<T: Tested>(&self, rt: &impl Abort) {
-        assert_eq!(rt; T::ends(), (self.0, self.1));
+        holds_at(rt, T::ends() == (self.0, self.1), &("ends", self.0, self.1));
     }
 }
 
@@ -28,7 +29,11 @@ struct HasParts(i128, SignedMagnitude);
 
 impl Check for HasParts {
     fn at<T: Tested>(&self, rt: &impl Abort) {
-        assert_eq!(rt; number::<T>(rt, self.0).parts(), self.1);
+        holds_at(
+            rt,
+            number::<T>(rt, self.0).parts() == self.1,
+            &("parts", self.0),
+        );
     }
 }
 

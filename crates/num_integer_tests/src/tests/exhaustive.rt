@@ -1,5 +1,6 @@
 //! Each pair of `i8` and of `u8`, against the definitions computed on signs and magnitudes.
 
+use super::assertions::holds_at;
 use super::call_rows::NumberCall::{
     DivCeil, DivFloor, Gcd, Lcm, ModFloor, NextMultipleOf, PrevMultipleOf,
 };
@@ -38,13 +39,17 @@ fn has_free_quotients<T: Tested>(rt: &impl Abort, n: T, d: T)
     requires d_in_range { T.fits (T.value d) }
 {
     if n.quotient_fits(&d) {
-        assert!(rt; div_rem(n, d) == n.div_rem(&d));
-        assert!(rt; div_floor(n, d) == n.div_floor(&d));
-        assert!(rt; div_mod_floor(n, d) == n.div_mod_floor(&d));
-        assert!(rt; div_ceil(n, d) == n.div_ceil(&d));
+        holds_at(rt, div_rem(n, d) == n.div_rem(&d), &("div_rem", n, d));
+        holds_at(rt, div_floor(n, d) == n.div_floor(&d), &("div_floor", n, d));
+        holds_at(
+            rt,
+            div_mod_floor(n, d) == n.div_mod_floor(&d),
+            &("div_mod_floor", n, d),
+        );
+        holds_at(rt, div_ceil(n, d) == n.div_ceil(&d), &("div_ceil", n, d));
     }
     if !d.is_zero() {
-        assert!(rt; mod_floor(n, d) == n.mod_floor(&d));
+        holds_at(rt, mod_floor(n, d) == n.mod_floor(&d), &("mod_floor", n, d));
     }
 }
 
@@ -62,7 +67,7 @@ pub(super) fn has_quotients<T: Tested>(rt: &impl Abort, n: SignedMagnitude, d: S
         (PrevMultipleOf, multiple(floored, d)),
     ] {
         let expected = optional_value::<T>(expected);
-        assert_eq!(rt; call.answer(x, y), expected, "{call:?} of {n:?} and {d:?}");
+        holds_at(rt, call.answer(x, y) == expected, &(call, n, d));
     }
     let truncated = truncated(n, d);
     let over = left(n, truncated, d);
@@ -72,11 +77,11 @@ pub(super) fn has_quotients<T: Tested>(rt: &impl Abort, n: SignedMagnitude, d: S
         (DivModFloor, floored, rest),
     ] {
         let expected = optional_value::<T>(q).zip(optional_value::<T>(r));
-        assert_eq!(rt; call.answers(x, y), expected, "{call:?} of {n:?} and {d:?}");
+        holds_at(rt, call.answers(x, y) == expected, &(call, n, d));
     }
     let divides = is_multiple(n, d);
     let both = x.is_multiple_of(&y) == divides && x.divides(&y) == divides;
-    assert!(rt; both, "{n:?} and {d:?}");
+    holds_at(rt, both, &("is_multiple_of", n, d));
 }
 
 /// Each free function of divisors answers what the call of that name does.
@@ -85,13 +90,13 @@ fn has_free_divisors<T: Tested>(rt: &impl Abort, a: T, b: T)
     requires b_in_range { T.fits (T.value b) }
 {
     if a.gcd_fits(&b) {
-        assert!(rt; gcd(a, b) == a.gcd(&b));
+        holds_at(rt, gcd(a, b) == a.gcd(&b), &("gcd", a, b));
     }
     if a.lcm_fits(&b) {
-        assert!(rt; lcm(a, b) == a.lcm(&b));
+        holds_at(rt, lcm(a, b) == a.lcm(&b), &("lcm", a, b));
     }
     if a.gcd_fits(&b) && a.lcm_fits(&b) {
-        assert!(rt; gcd_lcm(a, b) == a.gcd_lcm(&b));
+        holds_at(rt, gcd_lcm(a, b) == a.gcd_lcm(&b), &("gcd_lcm", a, b));
     }
 }
 
@@ -107,7 +112,7 @@ pub(super) fn has_divisors<T: Tested>(
     let gcd = T::from_signed_magnitude((false, divisor));
     let lcm = optional_value::<T>(least_multiple(a.1, b.1, divisor).map(|it| (false, it)));
     let answers = (Gcd.answer(x, y), Lcm.answer(x, y), GcdLcm.answers(x, y));
-    assert_eq!(rt; answers, (gcd, lcm, gcd.zip(lcm)), "{a:?} and {b:?}");
+    holds_at(rt, answers == (gcd, lcm, gcd.zip(lcm)), &("gcd_lcm", a, b));
 }
 
 /// Each pair of the numbers from the lower to the higher.

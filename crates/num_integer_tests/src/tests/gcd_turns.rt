@@ -1,5 +1,6 @@
 //! The turns of Stein's loop for a greatest common divisor.
 
+use super::assertions::holds_at;
 use super::call_rows::Holds;
 use super::call_rows::Question::GcdFits;
 use super::signed_magnitude::{SignedMagnitude, signed_magnitude_of};
@@ -19,11 +20,11 @@ pub(super) fn has_turns<T: Tested>(
 ) {
     let (x, y) = (value::<T>(rt, a), value::<T>(rt, b));
     let gcd = value::<T>(rt, (false, gcd));
-    assert_eq!(rt; checked::gcd(x, y), Some(gcd), "of {a:?} and {b:?}");
-    assert_eq!(rt;
-        x.gcd_and_turns(&y),
-        Some((gcd, turns)),
-        "of {a:?} and {b:?}"
+    holds_at(rt, checked::gcd(x, y) == Some(gcd), &("gcd", a, b));
+    holds_at(
+        rt,
+        x.gcd_and_turns(&y) == Some((gcd, turns)),
+        &("gcd_counted", a, b),
     );
 }
 
@@ -116,7 +117,7 @@ fn turns_of_each_pair_of_bytes(rt: HostRuntime) {
         for b in 0..=255u8 {
             let (_, turns) = a.gcd_counted(&b);
             let expected = counted_turns(u128::from(a), u128::from(b));
-            assert_eq!(rt; Some(turns), expected, "of {a} and {b}");
+            holds_at(&rt, Some(turns) == expected, &("gcd_counted", a, b));
         }
     }
 }

@@ -1,5 +1,6 @@
 //! Multiples, parity, and one more or less.
 
+use super::assertions::holds_at;
 use super::call_rows::NumberCall::{NextMultipleOf, PrevMultipleOf};
 use super::call_rows::Question::{Divides, IsMultipleOf};
 use super::call_rows::{Answers, Holds};
@@ -68,7 +69,7 @@ struct IsEven(i128, bool);
 impl Check for IsEven {
     fn at<T: Tested>(&self, rt: &impl Abort) {
         let (n, even) = (self.0, self.1);
-        assert!(rt; number::<T>(rt, n).is_even() == even, "{n}");
+        holds_at(rt, number::<T>(rt, n).is_even() == even, &("is_even", n));
     }
 }
 
@@ -79,7 +80,7 @@ struct IsOdd(i128, bool);
 impl Check for IsOdd {
     fn at<T: Tested>(&self, rt: &impl Abort) {
         let (n, odd) = (self.0, self.1);
-        assert!(rt; number::<T>(rt, n).is_odd() == odd, "{n}");
+        holds_at(rt, number::<T>(rt, n).is_odd() == odd, &("is_odd", n));
     }
 }
 

@@ -1,6 +1,7 @@
 //! Each call of `modular` at both ends of each type of the library and at 0, 1 and 2, modulo the
 //! greatest number of the type, against computations on the small numbers that are congruent.
 
+use super::assertions::holds_at;
 use super::signed_magnitude::{SignedMagnitude, signed_magnitude, sum};
 use super::types::{Check, NATIVE, Tested, check_at_each, optional_value, value};
 use modular::{
@@ -60,21 +61,25 @@ fn has_residues<T: Tested>(rt: &impl Abort, (a, z): Near, m: u128) {
     let (x, n) = (value::<T>(rt, a), value::<T>(rt, (false, m)));
     if is_below(zero(), n) {
         let negated = rest_of(z.wrapping_neg(), m);
-        assert_eq!(rt;
-            (residue(x, n).parts(), negation_modulo(x, n).parts()),
-            (rest_of(z, m), negated),
-            "{a:?} {m}"
+        holds_at(
+            rt,
+            (residue(x, n).parts(), negation_modulo(x, n).parts()) == (rest_of(z, m), negated),
+            &("residue", a, m),
         );
         for degree in [0, 1, 2, 5] {
             let power = power_modulo(x, degree.into(), n);
-            assert_eq!(rt;
-                power.parts(),
-                rest_of(z.wrapping_pow(degree), m),
-                "{a:?} {degree} {m}"
+            holds_at(
+                rt,
+                power.parts() == rest_of(z.wrapping_pow(degree), m),
+                &("power_modulo", a, degree, m),
             );
         }
         let inverse = optional_value::<T>(quotient_of(1, z, m));
-        assert_eq!(rt; inverse_modulo(x, n), inverse, "{a:?} {m}");
+        holds_at(
+            rt,
+            inverse_modulo(x, n) == inverse,
+            &("inverse_modulo", a, m),
+        );
     }
 }
 
@@ -86,21 +91,25 @@ fn has_operations<T: Tested>(rt: &impl Abort, (a, z): Near, (b, w): Near, m: u12
         value::<T>(rt, (false, m)),
     );
     if is_below(zero(), n) {
-        assert_eq!(rt;
+        holds_at(
+            rt,
             (
                 sum_modulo(x, y, n).parts(),
                 difference_modulo(x, y, n).parts(),
-                product_modulo(x, y, n).parts()
-            ),
-            (
+                product_modulo(x, y, n).parts(),
+            ) == (
                 rest_of(z.wrapping_add(w), m),
                 rest_of(z.wrapping_sub(w), m),
-                rest_of(z.wrapping_mul(w), m)
+                rest_of(z.wrapping_mul(w), m),
             ),
-            "{a:?} {b:?} {m}"
+            &("sum_modulo", a, b, m),
         );
         let quotient = optional_value::<T>(quotient_of(z, w, m));
-        assert_eq!(rt; quotient_modulo(x, y, n), quotient, "{a:?} {b:?} {m}");
+        holds_at(
+            rt,
+            quotient_modulo(x, y, n) == quotient,
+            &("quotient_modulo", a, b, m),
+        );
     }
 }
 
@@ -133,7 +142,7 @@ fn has_classes<T: Tested>(rt: &impl Abort, (a, z): Near, (b, w): Near, m: u128) 
     );
     if is_below(zero(), n) {
         let factors = optional_pair::<T>(factors_of(z, w, m));
-        assert_eq!(rt; solutions(x, y, n), factors, "{a:?} {b:?} {m}");
+        holds_at(rt, solutions(x, y, n) == factors, &("solutions", a, b, m));
         if n.lcm_fits(&n) {
             let same = if z == w {
                 Some((rest_of(z, m), (false, m)))
@@ -141,7 +150,11 @@ fn has_classes<T: Tested>(rt: &impl Abort, (a, z): Near, (b, w): Near, m: u128) 
                 None
             };
             let both = optional_pair::<T>(same);
-            assert_eq!(rt; chinese_remainder(x, n, y, n), both, "{a:?} {b:?} {m}");
+            holds_at(
+                rt,
+                chinese_remainder(x, n, y, n) == both,
+                &("chinese_remainder", a, b, m),
+            );
         }
     }
 }
@@ -155,25 +168,29 @@ fn has_next<T: Tested>(rt: &impl Abort, (a, z): Near, (b, w): Near, m: u128) {
     );
     if is_below(zero(), n) {
         let next = optional_value::<T>(sum(a, rest_of(w.wrapping_sub(z), m)));
-        assert_eq!(rt; next_congruent(x, y, n), next, "{a:?} {b:?} {m}");
+        holds_at(
+            rt,
+            next_congruent(x, y, n) == next,
+            &("next_congruent", a, b, m),
+        );
         let again = match next {
             Some(t) => CommonSolution::At(t),
             None => CommonSolution::Beyond,
         };
-        assert_eq!(rt;
-            next_common_solution(x, y, n, y, n),
-            again,
-            "{a:?} {b:?} {m}"
+        holds_at(
+            rt,
+            next_common_solution(x, y, n, y, n) == again,
+            &("next_common_solution", a, b, m),
         );
         let both = if z == w {
             CommonSolution::At(x)
         } else {
             CommonSolution::Never
         };
-        assert_eq!(rt;
-            next_common_solution(x, x, n, y, n),
-            both,
-            "{a:?} {b:?} {m}"
+        holds_at(
+            rt,
+            next_common_solution(x, x, n, y, n) == both,
+            &("next_common_solution", a, b, m),
         );
     }
 }

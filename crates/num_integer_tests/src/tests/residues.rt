@@ -1,6 +1,7 @@
 //! Arithmetic modulo each number above 0 of each own type, against computation in 128 bits and by
 //! trial.
 
+use super::assertions::holds_at;
 use super::types::{Tested, number, optional};
 use crate::own_types::{Marked, Negated, OneBit, Percent, Small, TwoBits};
 use modular::{difference_modulo, inverse_modulo, power_modulo, product_modulo, sum_modulo};
@@ -24,11 +25,23 @@ fn check_pair<T: Tested>(rt: &impl Abort, (a, b): (i16, i16), m: i16) {
     if is_below(zero(), n) {
         let (a, b) = (i128::from(a), i128::from(b));
         let sum = residue_of(a.checked_add(b), m);
-        assert_eq!(rt; Some(sum_modulo(x, y, n)), sum, "{a} {b} {m}");
+        holds_at(
+            rt,
+            Some(sum_modulo(x, y, n)) == sum,
+            &("sum_modulo", a, b, m),
+        );
         let difference = residue_of(a.checked_sub(b), m);
-        assert_eq!(rt; Some(difference_modulo(x, y, n)), difference, "{a} {b} {m}");
+        holds_at(
+            rt,
+            Some(difference_modulo(x, y, n)) == difference,
+            &("difference_modulo", a, b, m),
+        );
         let product = residue_of(a.checked_mul(b), m);
-        assert_eq!(rt; Some(product_modulo(x, y, n)), product, "{a} {b} {m}");
+        holds_at(
+            rt,
+            Some(product_modulo(x, y, n)) == product,
+            &("product_modulo", a, b, m),
+        );
     }
 }
 
@@ -55,14 +68,18 @@ fn check_number<T: Tested>(rt: &impl Abort, a: i16, m: i16) {
     if is_below(zero(), n) {
         for degree in [0, 1, 2, 13, 18] {
             let power = power_modulo(x, degree.into(), n);
-            assert_eq!(rt;
-                Some(power),
-                residue_of(i128::from(a).checked_pow(degree), m),
-                "{a} {degree} {m}"
+            holds_at(
+                rt,
+                Some(power) == residue_of(i128::from(a).checked_pow(degree), m),
+                &("power_modulo", a, degree, m),
             );
         }
         let inverse = optional::<T>(rt, only_factor(a, 1, m));
-        assert_eq!(rt; inverse_modulo(x, n), inverse, "{a} {m}");
+        holds_at(
+            rt,
+            inverse_modulo(x, n) == inverse,
+            &("inverse_modulo", a, m),
+        );
     }
 }
 

@@ -3,6 +3,7 @@
 
 ghost use Rattle.std.specs.Prelude.{◌≤◌};
 
+use super::assertions::holds_at;
 use super::types::Type::{I8, I16, I32, I64, Isize, U8, U16, U32, U64, Usize};
 use super::types::{RootCheck, Tested, Type, check_roots_at, greatest, number};
 use num_integer::counted::SqrtCounted;
@@ -31,22 +32,22 @@ pub(super) fn has_root<T: Roots + Tested>(rt: &impl Abort, x: i128, degree: u32,
     let number = number::<T>(rt, x);
     let expected = Some(self::number::<T>(rt, root));
     let root = checked::nth_root(number, degree);
-    assert_eq!(rt; root, expected, "degree {degree} of {x}");
+    holds_at(rt, root == expected, &("nth_root", degree, x));
     let root = match degree {
         2 => checked::sqrt(number),
         3 => Some(num_integer::cbrt(number)),
         _ => root,
     };
-    assert_eq!(rt; root, expected, "degree {degree} of {x}");
+    holds_at(rt, root == expected, &("nth_root", degree, x));
 }
 
 /// The number has no root of this degree.
 pub(super) fn has_no_root<T: Roots + Tested>(rt: &impl Abort, x: i128, degree: u32) {
     let number = number::<T>(rt, x);
     let none = checked::nth_root(number, degree).is_none();
-    assert!(rt; none, "degree {degree} of {x}");
+    holds_at(rt, none, &("nth_root", degree, x));
     if degree == 2 {
-        assert!(rt; checked::sqrt(number).is_none(), "of {x}");
+        holds_at(rt, checked::sqrt(number).is_none(), &("sqrt", x));
     }
 }
 
@@ -86,7 +87,7 @@ impl RootCheck for HasTurns {
     fn at<T: SqrtCounted + Tested>(&self, rt: &impl Abort) {
         let expected = Some((number::<T>(rt, self.1), self.2));
         let counted = square_root_counted(number::<T>(rt, self.0));
-        assert_eq!(rt; counted, expected, "of {}", self.0);
+        holds_at(rt, counted == expected, &("sqrt_counted", self.0));
     }
 }
 
@@ -192,21 +193,30 @@ fn numbers_with_no_root(rt: HostRuntime) {
 pub(crate) fn check_root<T: Roots + Tested>(rt: &impl Abort, x: i128, n: u32) {
     let number = number::<T>(rt, x);
     let root = checked::nth_root(number, n).expect(rt, "the number has a root");
-    assert!(rt; num_integer::nth_root(number, n) == root);
+    holds_at(
+        rt,
+        num_integer::nth_root(number, n) == root,
+        &("nth_root", x, n),
+    );
     match n {
         2 => {
             let square = checked::sqrt(number).expect(rt, "the number has a square root");
-            assert!(rt; square == root && num_integer::sqrt(number) == root);
+            let both = square == root && num_integer::sqrt(number) == root;
+            holds_at(rt, both, &("sqrt", x));
         }
-        3 => assert!(rt; num_integer::cbrt(number) == root),
+        3 => holds_at(rt, num_integer::cbrt(number) == root, &("cbrt", x)),
         _ => {}
     }
     let (negative, magnitude) = root.parts();
-    assert!(rt; negative == (x < 0));
-    let power = magnitude.checked_pow(n);
-    let next = magnitude.saturating_add(1).checked_pow(n);
-    assert!(rt; power.expect(rt, "the power is no farther from 0") <= x.unsigned_abs());
-    assert!(rt; next.unwrap_or(u128::MAX) > x.unsigned_abs());
+    let power = magnitude
+        .checked_pow(n)
+        .expect(rt, "the power is no farther from 0");
+    let next = magnitude
+        .saturating_add(1)
+        .checked_pow(n)
+        .unwrap_or(u128::MAX);
+    let is_root = negative == (x < 0) && power <= x.unsigned_abs() && x.unsigned_abs() < next;
+    holds_at(rt, is_root, &("nth_root", x, n));
 }
 
 /// The roots of small numbers, of numbers near the top, and of the top shifted either way.

@@ -4,6 +4,7 @@
 ghost use Rattle.std.specs.Prelude.{IfOk};
 ghost use Rattle.std.specs.List.{All};
 
+use super::assertions::holds_at;
 use super::averages::has_averages;
 use super::bezout::extended_gcd_counted;
 use super::call_rows::NumberCall::{Binomial, Difference, Product, Sum};
@@ -73,14 +74,15 @@ impl Ends {
 pub(crate) fn has_neighbours<T: Tested>(rt: &impl Abort, n: SignedMagnitude) {
     let x = value::<T>(rt, n);
     let even = n.1 % 2 == 0;
-    assert_eq!(rt; (x.parts(), x.is_even(), x.is_odd()), (n, even, !even));
+    let shown = (x.parts(), x.is_even(), x.is_odd());
+    holds_at(rt, shown == (n, even, !even), &("parts", n));
     for (call, expected) in [
         (Inc, sum(n, (false, 1))),
         (Dec, sum(n, (true, 1))),
         (Negated, Some(opposite(n))),
     ] {
         let expected = optional_value::<T>(expected);
-        assert_eq!(rt; call.answer(x), expected, "{call:?} of {n:?}");
+        holds_at(rt, call.answer(x) == expected, &(call, n));
     }
     assert_stored(rt, x);
 }
@@ -92,11 +94,11 @@ fn assert_stored<T: Tested>(rt: &impl Abort, x: T)
     let (mut up, mut down) = (x, x);
     if let Some(next) = checked::inc(x) {
         up.inc();
-        assert_eq!(rt; up, next);
+        holds_at(rt, up == next, &("inc", x));
     }
     if let Some(previous) = checked::dec(x) {
         down.dec();
-        assert_eq!(rt; down, previous);
+        holds_at(rt, down == previous, &("dec", x));
     }
 }
 
@@ -109,7 +111,7 @@ fn has_sums<T: Tested>(rt: &impl Abort, a: SignedMagnitude, b: SignedMagnitude) 
         (Product, product(a, b)),
     ] {
         let expected = optional_value::<T>(expected);
-        assert_eq!(rt; call.answer(x, y), expected, "{call:?} of {a:?} and {b:?}");
+        holds_at(rt, call.answer(x, y) == expected, &(call, a, b));
     }
 }
 
@@ -121,7 +123,7 @@ fn has_row<T: Tested>(rt: &impl Abort, n: SignedMagnitude) {
         (false, 1) => &[1, 1],
         (false, 2) => &[1, 2, 1],
         _ => {
-            assert!(rt; checked::row(value::<T>(rt, n)).is_none(), "{n:?}");
+            holds_at(rt, checked::row(value::<T>(rt, n)).is_none(), &("row", n));
             return;
         }
     };
@@ -152,10 +154,10 @@ fn has_coefficient<T: Tested>(rt: &impl Abort, a: SignedMagnitude, b: SignedMagn
     let expected = coefficient(a, b);
     let answer = expected_number::<T>(expected);
     let counted_answer = answer.zip(expected.map(|(_, turns)| turns));
-    assert_eq!(rt;
-        (Binomial.answer(x, y), counted(x, y)),
-        (answer, counted_answer),
-        "{a:?} and {b:?}"
+    holds_at(
+        rt,
+        (Binomial.answer(x, y), counted(x, y)) == (answer, counted_answer),
+        &("binomial", a, b),
     );
 }
 
@@ -199,27 +201,34 @@ fn has_pair<T: Tested>(rt: &impl Abort, a: SignedMagnitude, b: SignedMagnitude) 
     let has_pair = has_negatives || is_multiple(a, b) || is_multiple(b, a);
     let domain = has_pair && T::from_signed_magnitude((false, gcd)).is_some();
     let Some((pair, turns)) = extended_gcd_counted(x, y) else {
-        assert!(rt;
+        holds_at(
+            rt,
             !domain && checked::extended_gcd(x, y).is_none(),
-            "{a:?} and {b:?}"
+            &("extended_gcd", a, b),
         );
         return;
     };
-    assert!(rt;
+    holds_at(
+        rt,
         domain && checked::extended_gcd(x, y) == Some(pair),
-        "{a:?} and {b:?}"
+        &("extended_gcd", a, b),
     );
     let (x, y) = (pair.x.parts(), pair.y.parts());
-    assert_eq!(rt;
-        (turns, pair.gcd.parts(), combined(a, b, x, y)),
-        (
-            remainders.saturating_sub(1),
-            (false, gcd),
-            Some((false, gcd))
-        ),
-        "{a:?} and {b:?}"
+    holds_at(
+        rt,
+        (turns, pair.gcd.parts(), combined(a, b, x, y))
+            == (
+                remainders.saturating_sub(1),
+                (false, gcd),
+                Some((false, gcd)),
+            ),
+        &("extended_gcd_counted", a, b),
     );
-    assert!(rt; is_bezout_pair(a, b, gcd, (x, y)), "{a:?} and {b:?}");
+    holds_at(
+        rt,
+        is_bezout_pair(a, b, gcd, (x, y)),
+        &("extended_gcd", a, b),
+    );
 }
 
 /// The first operand times `x` and the second times `y`, added up.
@@ -245,9 +254,13 @@ pub(crate) fn has_answers<T: Tested>(rt: &impl Abort, a: SignedMagnitude, b: Sig
 
 impl Check for Ends {
     fn at<T: Tested>(&self, rt: &impl Abort) {
-        assert_eq!(rt; T::ends(), (self.0, self.1));
+        holds_at(rt, T::ends() == (self.0, self.1), &("ends", self.0, self.1));
         for a in self.numbers() {
-            assert_eq!(rt; T::from_signed_magnitude(a).is_some(), self.has(a), "{a:?}");
+            holds_at(
+                rt,
+                T::from_signed_magnitude(a).is_some() == self.has(a),
+                &("from_signed_magnitude", a),
+            );
             if self.has(a) {
                 has_neighbours::<T>(rt, a);
                 has_row::<T>(rt, a);
@@ -297,7 +310,7 @@ impl Check for SharesAtEnds {
                         _ => None,
                     };
                     let multinomial = checked::multinomial(&counts);
-                    assert_eq!(rt; multinomial, expected, "{a:?} and {b:?}");
+                    holds_at(rt, multinomial == expected, &("multinomial", a, b));
                 }
             }
         }
@@ -373,7 +386,7 @@ impl RootCheck for RootTurnsAtEnds {
                 let (root, turns) = square_root_turns(n.1).expect(rt, "it has at most 64 bits");
                 let expected = (value::<T>(rt, (false, root)), turns);
                 let counted = square_root_counted(value::<T>(rt, n));
-                assert_eq!(rt; counted, Some(expected), "{n:?}");
+                holds_at(rt, counted == Some(expected), &("sqrt_counted", n));
             }
         }
     }
@@ -432,7 +445,11 @@ pub(super) fn has_pair_and_multiple<T: Signed + Tested>(
 ) {
     let (x, y) = (value::<T>(rt, a), value::<T>(rt, b));
     let each = checked::extended_gcd(x, y).zip(checked::lcm(x, y));
-    assert_eq!(rt; checked::extended_gcd_lcm(x, y), each, "{a:?} and {b:?}");
+    holds_at(
+        rt,
+        checked::extended_gcd_lcm(x, y) == each,
+        &("extended_gcd_lcm", a, b),
+    );
 }
 
 impl SignedCheck for Ends {

@@ -2,9 +2,9 @@ use Rattle.std.proofs.Common.{arith, subst}
 use Rattle.integer_core.proofs.Whole.{sizes}
 use Rattle.integer_core.proofs.native.Native.magnitude.Goals as goal
 
-pub successor-requires-clause-sum_fits : goal.successor-requires-clause-sum_fits
-successor-requires-clause-sum_fits g c =
-    subst g.Self.Magnitude.Number.fits (grind (arith, sizes)) (g.met.Self.Native.native_law.magnitude _ c.requires)
+pub following-requires : goal.following-requires
+following-requires g c =
+    record { sum_fits = subst g.Self.Magnitude.Number.fits (grind (arith, sizes)) (g.met.Self.Native.native_law.magnitude _ c.requires) }
 
 pub returns-then-is_negative-clause-value : goal.returns-then-is_negative-clause-value
 returns-then-is_negative-clause-value g c = grind (arith, sizes)
