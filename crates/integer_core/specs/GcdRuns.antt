@@ -1,5 +1,6 @@
 -- Stein's loop for a greatest common divisor, as runs of pairs of odd numbers.
 use Rattle.std.specs.Prelude.{◌≡◌, ◌⊎◌, ◌-◌, ◌*◌, ◌%◌, ◌^◌, ◌<◌, ◌≤◌, ℕ, ℤ, pos, unsigned_abs}
+use Rattle.std.specs.Int.{IsGcd}
 use Rattle.integer_core.specs.Runs.{Makes}
 
 -- m is n with all factors 2 taken out
@@ -40,6 +41,12 @@ exchanged s = record { m = s.n; n = s.m }
 -- a turn after which n is the number that it kept
 abbrev pub IsOrderedTurn : OddPair → OddPair → Type 0
 IsOrderedTurn s t = IsLeftTurn s t ⊎ IsLeftTurn (exchanged s) t
+
+-- gcd is that of the odd numbers a and b, after so many turns from them
+pub record IsOddGcd (a b gcd turns : ℕ) : Type 0 where
+  pub greatest : IsGcd a b gcd
+  pub run : Makes IsGcdTurn GcdEnds (record { m = a; n = b }) turns
+  pub few : 2 ^ turns ≤ a * b
 
 -- n turns for the gcd of a and b, from the two with all factors 2 taken out
 pub record MakesGcdRun (a b n : ℕ) : Type 0 where

@@ -2,13 +2,12 @@
 //! volume 2, section 4.5.2, algorithm B).
 
 ghost use Rattle.std.specs.Prelude.{◌≡◌, ◌≢◌, ◌↔◌, ◌⊎◌, ◌+◌, ◌-◌, ◌*◌, ◌/◌, ◌%◌, ◌^◌, ◌<◌, ◌≤◌, ℕ, pos, unsigned_abs, IsTrue};
-ghost use Rattle.std.specs.Int.{IsGcd, IsPowerOfTwo};
+ghost use Rattle.std.specs.Int.{IsPowerOfTwo};
 ghost use Rattle.std.specs.Option.{MatchOption};
 ghost use Rattle.num_traits.specs.Laws.{bit_len};
 ghost use Rattle.integer_core.specs.Divisors.{GcdFits, IsGreatestCommonDivisor, IsLeastCommonMultiple};
-ghost use Rattle.integer_core.specs.GcdRuns.{AreGcdTurns, GcdEnds, IsGcdTurn, IsOddPart, IsOrderedTurn, MakesGcdRun};
+ghost use Rattle.integer_core.specs.GcdRuns.{AreGcdTurns, IsOddGcd, IsOddPart, IsOrderedTurn, MakesGcdRun};
 ghost use Rattle.integer_core.specs.Range.{EachFits};
-ghost use Rattle.integer_core.specs.Runs.{Makes};
 
 use crate::native::{Magnitude, Native};
 use crate::operators::{difference, is_below, is_zero, one, product, quotient, successor};
@@ -92,21 +91,14 @@ fn next_pair<M: PrimInt + Unsigned>(m: M, n: M) -> (M, M)
 }
 
 /// Returns the greatest common divisor of two odd numbers, and the turns of the loop.
-fn odd_gcd<M: PrimInt + Unsigned>(a: M, b: M) -> (M, u32)
-    requires a_in_range { M.fits (M.value a) }
-    requires b_in_range { M.fits (M.value b) }
-    requires a_odd { unsigned_abs (M.value a) % 2 ≡ 1 }
-    requires b_odd { unsigned_abs (M.value b) % 2 ≡ 1 }
-    ensures in_range { M.fits (M.value result.0) }
-    ensures greatest { IsGcd (unsigned_abs (M.value a)) (unsigned_abs (M.value b))
-        (unsigned_abs (M.value result.0)) }
-    ensures turns { Makes IsGcdTurn GcdEnds
-        (record { m = unsigned_abs (M.value a); n = unsigned_abs (M.value b) }) result.1 }
-    ensures few { 2 ^ result.1 ≤ unsigned_abs (M.value a) * unsigned_abs (M.value b) }
+fn odd_gcd(a: u64, b: u64) -> (u64, u32)
+    requires a_odd { a % 2 ≡ 1 }
+    requires b_odd { b % 2 ≡ 1 }
+    ensures { IsOddGcd a b result.0 result.1 }
 {
     let (mut m, mut n) = (a, b);
     let mut turns = 0;
-    'turns: while !is_same(m, n) {
+    'turns: while m != n {
         (m, n) = next_pair(m, n);
         turns += 1;
     }
@@ -131,30 +123,38 @@ fn widened<M: PrimInt + Unsigned>(x: u64) -> M
     cast::<u64, M>(x).unwrap()
 }
 
-/// Returns [`odd_gcd`]. It goes on at 64 bits as soon as both numbers fit, with the same turns.
+/// Returns `true` if the numbers differ and one of them has more than 64 bits.
+fn differ_beyond_64_bits<M: PrimInt + Unsigned>(m: M, n: M) -> bool
+    ensures { IsTrue result ↔ ((unsigned_abs (M.value m) ≢ unsigned_abs (M.value n))
+        × (2 ^ 64 ≤ unsigned_abs (M.value m) ⊎ 2 ^ 64 ≤ unsigned_abs (M.value n))) }
+{
+    !is_same(m, n) && narrowed(m, n).is_none()
+}
+
+/// Returns the greatest common divisor of two odd numbers, and the turns of the loop, which goes on at
+/// 64 bits as soon as both numbers fit.
 fn narrowing_gcd<M: PrimInt + Unsigned>(a: M, b: M) -> (M, u32)
     requires a_in_range { M.fits (M.value a) }
     requires b_in_range { M.fits (M.value b) }
     requires a_odd { unsigned_abs (M.value a) % 2 ≡ 1 }
     requires b_odd { unsigned_abs (M.value b) % 2 ≡ 1 }
     ensures in_range { M.fits (M.value result.0) }
-    ensures greatest { IsGcd (unsigned_abs (M.value a)) (unsigned_abs (M.value b))
-        (unsigned_abs (M.value result.0)) }
-    ensures turns { Makes IsGcdTurn GcdEnds
-        (record { m = unsigned_abs (M.value a); n = unsigned_abs (M.value b) }) result.1 }
-    ensures few { 2 ^ result.1 ≤ unsigned_abs (M.value a) * unsigned_abs (M.value b) }
+    ensures odd_gcd { IsOddGcd (unsigned_abs (M.value a)) (unsigned_abs (M.value b))
+        (unsigned_abs (M.value result.0)) result.1 }
 {
     let (mut m, mut n) = (a, b);
     let mut turns = 0;
-    'turns: while !is_same(m, n) {
-        if let Some((x, y)) = narrowed(m, n) {
-            let (gcd, rest) = odd_gcd(x, y);
-            return (widened(gcd), turns + rest);
-        }
+    'turns: while differ_beyond_64_bits(m, n) {
         (m, n) = next_pair(m, n);
         turns += 1;
     }
-    (m, turns)
+    match narrowed(m, n) {
+        Some((x, y)) => {
+            let (gcd, rest) = odd_gcd(x, y);
+            (widened(gcd), turns + rest)
+        }
+        None => (m, turns),
+    }
 }
 
 /// Returns the greatest common divisor of two numbers above 0, and the turns of the loop.

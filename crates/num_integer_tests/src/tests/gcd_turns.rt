@@ -38,6 +38,9 @@ impl Check for HasTurns {
     }
 }
 
+/// The least odd number of more than 64 bits.
+const WIDE: u128 = 18446744073709551617;
+
 #[test]
 fn turns_of_unsigned_types(rt: HostRuntime) {
     for (it, a, b, gcd, turns) in [
@@ -47,6 +50,9 @@ fn turns_of_unsigned_types(rt: HostRuntime) {
         (U64, 18446744073709551615, 1, 1, 63),
         (U128, u128::MAX, 1, 1, 127),
         (U128, u128::MAX, 0, u128::MAX, 0),
+        (U128, WIDE, WIDE, WIDE, 0),
+        (U128, 3 * WIDE, WIDE, WIDE, 1),
+        (U128, 5 * WIDE, 3 * WIDE, WIDE, 2),
         (U8, 128, 42, 2, 2),
     ] {
         check_at(&rt, it, &HasTurns((false, a), (false, b), gcd, turns));

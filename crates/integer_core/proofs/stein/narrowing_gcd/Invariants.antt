@@ -4,7 +4,14 @@ use Rattle.integer_core.proofs.OddLoops.{OddLoop}
 use Rattle.integer_core.proofs.stein.narrowing_gcd.Given as goal
 
 abbrev pub invariant-turns : goal.invariant-turns
-invariant-turns g l = let value = g.M.Number.value in OddLoop g.M.Number.fits (value l.fn.a) (value l.fn.b) (value l.m) (value l.n) l.turns
+invariant-turns g l =
+    let fits = g.M.Number.fits in
+    let value = g.M.Number.value in
+    record {
+      m_in_range : fits (value l.m);
+      n_in_range : fits (value l.n);
+      loop : OddLoop (unsigned_abs (value l.fn.a)) (unsigned_abs (value l.fn.b)) (unsigned_abs (value l.m)) (unsigned_abs (value l.n)) l.turns;
+    }
 
 abbrev pub decreases-turns : goal.decreases-turns
 decreases-turns g l = unsigned_abs (g.M.Number.value l.m) + unsigned_abs (g.M.Number.value l.n)

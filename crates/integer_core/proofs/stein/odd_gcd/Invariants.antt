@@ -1,10 +1,13 @@
-use Rattle.std.specs.Prelude.{unsigned_abs}
-use Rattle.std.proofs.Common.{◌+◌}
+use Rattle.std.proofs.Common.{◌+◌, ◌^◌, ◌<◌}
 use Rattle.integer_core.proofs.OddLoops.{OddLoop}
 use Rattle.integer_core.proofs.stein.odd_gcd.Given as goal
 
 abbrev pub invariant-turns : goal.invariant-turns
-invariant-turns g l = let value = g.M.Number.value in OddLoop g.M.Number.fits (value l.fn.a) (value l.fn.b) (value l.m) (value l.n) l.turns
+invariant-turns l = record {
+  m_in_range : l.m < 2 ^ 64;
+  n_in_range : l.n < 2 ^ 64;
+  loop : OddLoop l.fn.a l.fn.b l.m l.n l.turns;
+}
 
 abbrev pub decreases-turns : goal.decreases-turns
-decreases-turns g l = unsigned_abs (g.M.Number.value l.m) + unsigned_abs (g.M.Number.value l.n)
+decreases-turns l = l.m + l.n

@@ -8,7 +8,7 @@ pub with_twos-requires : goal.with_twos-requires
 with_twos-requires g c =
     let left = c.without_twos-m.ensures in
     let right = c.without_twos-n.ensures in
-    let odd = c.narrowing_gcd-odd.ensures.greatest in
+    let odd = c.narrowing_gcd-odd.ensures.odd_gcd.greatest in
     let all = gcd_of_odd_parts _ _ left.product right.product c.min.ensures left.odd right.odd odd in
     let exact = g.met.M.Integral.exact_law in
     record {
@@ -21,7 +21,7 @@ pub returns : goal.returns
 returns g c =
     let left = c.without_twos-m.ensures in
     let right = c.without_twos-n.ensures in
-    let odd = c.narrowing_gcd-odd.ensures in
+    let odd = c.narrowing_gcd-odd.ensures.odd_gcd in
     let all = gcd_of_odd_parts _ _ left.product right.product c.min.ensures left.odd right.odd odd.greatest in
     record {
       in_range = c.with_twos.ensures.in_range;
@@ -30,7 +30,7 @@ returns g c =
         first = _;
         left = record { odd = left.odd; twos = _; product = left.product };
         right = record { odd = right.odd; twos = _; product = right.product };
-        run = odd.turns;
+        run = odd.run;
       };
       bound = λ k l a_fits b_fits. few_turns k l odd.few (omega (arith, odd_part_le _ left.product)) (omega (arith, odd_part_le _ right.product));
     }
