@@ -1,9 +1,11 @@
 -- The laws of specs/Laws.antt, a lemma each.
-use Rattle.std.proofs.Common.{refl}
+use Rattle.std.specs.Prelude.{◌≡◌}
+use Rattle.std.proofs.Common.{arith, refl, sym}
+use Rattle.num_integer.proofs.ForCallers.{linear}
 use Rattle.ratio64.proofs.EqualFractions as equal
 use Rattle.ratio64.proofs.ExactResults as results
 use Rattle.ratio64.specs.FractionOrder as order
-use Rattle.ratio64.specs.Laws.{EqualFractionsHaveOneResult, ExactResultExists, ExactResultIsOnly, OrderAgreesWithEquality, OrderIsTotal, ProductsOfEqualFractions, ReducedPairsAreEqualWhereSame, SumsOfEqualFractions}
+use Rattle.ratio64.specs.Laws.{EqualFractionsHaveOneResult, ExactResultExists, ExactResultIsOnly, NearestIsOnly, OrderAgreesWithEquality, OrderIsTotal, ProductsOfEqualFractions, ReducedPairsAreEqualWhereSame, SumsOfEqualFractions}
 use Rattle.ratio64.specs.ReducedPairs.{equal_where_same}
 
 -- ---- reduced pairs
@@ -27,6 +29,19 @@ order_is_total = order.order_is_total
 
 pub order_agrees_with_equality : OrderAgreesWithEquality
 order_agrees_with_equality = order.order_agrees_with_equality
+
+-- ---- small denominators
+
+-- two nearest fractions tie, so neither denominator is the greater, and then neither numerator
+pub nearest_is_only : NearestIsOnly
+nearest_is_only = λ n d max num den x (u, v) y.
+    let near = x.nearest u v y.positive y.bounded in
+    let other_near = y.nearest num den x.positive x.bounded in
+    let tie = x.tie u v y.positive y.bounded (omega arith) in
+    let other_tie = y.tie num den x.positive x.bounded (omega arith) in
+    let same_den : v ≡ den = omega (arith, linear, tie.0, other_tie.0) in
+    let same_num : u ≡ num = omega (arith, linear, tie.1 same_den, other_tie.1 (sym same_den)) in
+    rw (same_num, same_den) refl
 
 -- ---- sums and products
 

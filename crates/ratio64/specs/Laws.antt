@@ -4,6 +4,7 @@ use Rattle.std.specs.Cmp.{IsTotalOrder}
 use Rattle.std.specs.declared.cmp.Ordering.TheVariants.{Equal}
 use Rattle.num_integer.specs.Only.{IsOnly}
 use Rattle.ratio64.specs.Fraction.{AreEqual, IsExact, IsFraction, IsReduced, fraction_cmp}
+use Rattle.ratio64.specs.Limiting.{IsNearestWithin}
 
 -- ---- reduced pairs
 
@@ -32,6 +33,12 @@ OrderIsTotal = (K : Type 0) (num den : K → ℤ) → ((x : K) → pos 0 <ℤ de
 -- in which two are equal exactly where the fractions are
 abbrev pub OrderAgreesWithEquality : Type 0
 OrderAgreesWithEquality = (a b c d : ℤ) → (fraction_cmp a b c d ≡ Equal) ↔ AreEqual a b c d
+
+-- ---- small denominators
+
+-- each fraction has one nearest fraction of a small denominator at most
+abbrev pub NearestIsOnly : Type 0
+NearestIsOnly = (n d max num den : ℤ) → IsNearestWithin n d max num den → IsOnly (λ (u, v). IsNearestWithin n d max u v) (num, den)
 
 -- ---- sums and products
 

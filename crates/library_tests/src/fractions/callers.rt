@@ -5,6 +5,7 @@ ghost use Rattle.std.specs.Hash as written;
 ghost use Rattle.std.specs.List.{fold};
 ghost use Rattle.num_integer.specs.Only.{IsOnly};
 ghost use Rattle.ratio64.specs.Fraction.{AreEqual, IsExact, IsFraction, IsReduced, IsOutsideI64, fraction_cmp};
+ghost use Rattle.ratio64.specs.Limiting.{IsNearestWithin};
 ghost use Rattle.ratio64.specs.Ratio.{num_of, den_of};
 
 use num_integer::Integer;
@@ -165,6 +166,16 @@ fn is_less(x: &Ratio, y: &Ratio) -> bool
         ↔ ((num_of x.now *ℤ den_of y.now) <ℤ (num_of y.now *ℤ den_of x.now)) }
 {
     x < y
+}
+
+/// The nearest fraction that is known is the one that is found.
+fn nearest_again(x: &Ratio, max: i64, num: i64, den: i64) -> (i64, i64)
+    requires positive { pos 0 <ℤ max }
+    requires nearest { IsNearestWithin (num_of x.now) (den_of x.now) max num den }
+    ensures { result ≡ (num, den) }
+{
+    let nearest = x.limit_denominator(max);
+    (nearest.num(), nearest.den())
 }
 
 /// Equal values change a hasher alike.
