@@ -1,11 +1,13 @@
 -- The laws of specs/Laws.antt, a lemma each.
-use Rattle.std.specs.Prelude.{◌≡◌}
+use Rattle.std.specs.Prelude.{◌≡◌, ◌*ℤ◌}
+use Rattle.std.specs.Cmp.{int_cmp_is}
+use Rattle.std.specs.declared.cmp.Ordering.TheVariants.{Less}
 use Rattle.std.proofs.Common.{arith, refl, sym}
-use Rattle.num_integer.proofs.ForCallers.{linear}
+use Rattle.num_integer.proofs.ForCallers.{linear, multiples_apart}
 use Rattle.ratio64.proofs.EqualFractions as equal
 use Rattle.ratio64.proofs.ExactResults as results
 use Rattle.ratio64.specs.FractionOrder as order
-use Rattle.ratio64.specs.Laws.{EqualFractionsHaveOneResult, ExactResultExists, ExactResultIsOnly, NearestIsOnly, OrderAgreesWithEquality, OrderIsTotal, ProductsOfEqualFractions, ReducedPairsAreEqualWhereSame, SumsOfEqualFractions}
+use Rattle.ratio64.specs.Laws.{EqualFractionsHaveOneResult, ExactResultExists, ExactResultIsOnly, NearestIsOnly, OrderAgreesWithEquality, OrderIsTotal, OrderOverOneDenominator, ProductsOfEqualFractions, ReducedPairsAreEqualWhereSame, SumsOfEqualFractions}
 use Rattle.ratio64.specs.ReducedPairs.{equal_where_same}
 
 -- ---- reduced pairs
@@ -29,6 +31,9 @@ order_is_total = order.order_is_total
 
 pub order_agrees_with_equality : OrderAgreesWithEquality
 order_agrees_with_equality = order.order_agrees_with_equality
+
+pub order_over_one_denominator : OrderOverOneDenominator
+order_over_one_denominator a c d up less = sym (int_cmp_is (a *ℤ d) (c *ℤ d) Less (omega (arith, linear, multiples_apart a c d up less)))
 
 -- ---- small denominators
 

@@ -1,7 +1,7 @@
 -- The laws of fractions. Each is proved in proofs/Laws.antt, by a lemma of its name in small letters.
 use Rattle.std.specs.Prelude.{◌≡◌, ◌↔◌, ◌<ℤ◌, ◌+ℤ◌, ◌*ℤ◌, ℤ, pos}
 use Rattle.std.specs.Cmp.{IsTotalOrder}
-use Rattle.std.specs.declared.cmp.Ordering.TheVariants.{Equal}
+use Rattle.std.specs.declared.cmp.Ordering.TheVariants.{Equal, Less}
 use Rattle.num_integer.specs.Only.{IsOnly}
 use Rattle.ratio64.specs.Fraction.{AreEqual, IsExact, IsFraction, IsReduced, fraction_cmp}
 use Rattle.ratio64.specs.Limiting.{IsNearestWithin}
@@ -33,6 +33,10 @@ OrderIsTotal = (K : Type 0) (num den : K → ℤ) → ((x : K) → pos 0 <ℤ de
 -- in which two are equal exactly where the fractions are
 abbrev pub OrderAgreesWithEquality : Type 0
 OrderAgreesWithEquality = (a b c d : ℤ) → (fraction_cmp a b c d ≡ Equal) ↔ AreEqual a b c d
+
+-- and of two over one denominator the one of the lesser numerator is the lesser
+abbrev pub OrderOverOneDenominator : Type 0
+OrderOverOneDenominator = (a c d : ℤ) → pos 0 <ℤ d → a <ℤ c → fraction_cmp a d c d ≡ Less
 
 -- ---- small denominators
 

@@ -168,6 +168,15 @@ fn is_less(x: &Ratio, y: &Ratio) -> bool
     x < y
 }
 
+/// Of two fractions over one denominator the one of the lesser numerator is the lesser.
+fn over_one_denominator(x: &Ratio, y: &Ratio) -> Ordering
+    requires denominator { den_of x.now ≡ den_of y.now }
+    requires numerators { num_of x.now <ℤ num_of y.now }
+    ensures { result ≡ Ordering.Less }
+{
+    x.cmp(y)
+}
+
 /// The nearest fraction that is known is the one that is found.
 fn nearest_again(x: &Ratio, max: i64, num: i64, den: i64) -> (i64, i64)
     requires positive { pos 0 <ℤ max }
