@@ -22,10 +22,10 @@ pub use native_integer::NativeInteger;
 use num_traits::{Num, Signed};
 use operators::{difference, is_zero, predecessor, successor, sum};
 
-/// A type of whole numbers. A contract writes `value x` for the number that the value `x` means, and
-/// `fits z` where the type has the number `z`.
+/// A type of whole numbers.
 pub trait Integer: Copy + Num + PartialOrd + Ord + Eq {
-    // The least and the greatest number of the type.
+    // A contract writes `value x` for the number that the value `x` means, and `fits z` where the type
+    // has the number `z`. The least and the greatest number of the type.
     ghost low: { ℤ };
 
     ghost high: { ℤ };

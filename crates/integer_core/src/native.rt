@@ -9,7 +9,7 @@ ghost use Rattle.integer_core.specs.NativeRanges.{IsNative, signed_native, unsig
 ghost use Rattle.integer_core.specs.Range.{EachFits};
 
 use crate::operators::{difference, is_negative, is_zero, successor, zero};
-use num_traits::{AsPrimitive, Bounded, FixedWidth, Integral, Num, ToPrimitive};
+use num_traits::{AsPrimitive, Bounded, FixedWidth, Integral, Num, NumCast, ToPrimitive};
 
 /// A type of magnitudes, with what is computed of two numbers above 0.
 pub trait Magnitude: Copy + Integral + ToPrimitive {
@@ -60,7 +60,7 @@ pub trait Magnitude: Copy + Integral + ToPrimitive {
 }
 
 /// A native integer type. No other crate can name this trait.
-pub trait Native: Copy + Num + Ord + Bounded + FixedWidth + AsPrimitive<Self::Magnitude> {
+pub trait Native: Copy + Num + NumCast + Ord + Bounded + FixedWidth + AsPrimitive<Self::Magnitude> {
     /// The type of the magnitudes.
     type Magnitude: Magnitude + AsPrimitive<Self>;
 
@@ -94,7 +94,7 @@ pub trait Native: Copy + Num + Ord + Bounded + FixedWidth + AsPrimitive<Self::Ma
         ensures in_range { Self.fits (Self.value result) }
         ensures value { Self.value result ≡ Self.Magnitude.value magnitude }
     {
-        magnitude.as_()
+        <Self as NumCast>::from(magnitude).unwrap()
     }
 }
 

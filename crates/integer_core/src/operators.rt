@@ -32,7 +32,7 @@ pub fn is_zero<T: Num>(a: T) -> bool
 }
 
 /// Returns `true` if `a` is below `b`. `is_below(2, 3)` is `true`, and `is_below(3, 3)` is `false`.
-pub fn is_below<T: Num>(a: T, b: T) -> bool
+pub fn is_below<T: Num + PartialOrd>(a: T, b: T) -> bool
     requires { T.exact }
     ensures { IsTrue result ↔ (T.value a <ℤ T.value b) }
 {
@@ -40,7 +40,7 @@ pub fn is_below<T: Num>(a: T, b: T) -> bool
 }
 
 /// Returns `true` if `a` is negative. `is_negative(-1)` is `true`, and `is_negative(0)` is `false`.
-pub fn is_negative<T: Num>(a: T) -> bool
+pub fn is_negative<T: Num + PartialOrd>(a: T) -> bool
     requires { T.exact }
     ensures { IsTrue result ↔ (T.value a <ℤ pos 0) }
 {
