@@ -1,4 +1,5 @@
 pub mod YearLengths
+pub mod Eras
 pub mod DateOrder
 pub mod Laws
 pub mod PaddedNumbers

@@ -92,6 +92,12 @@ first_day_is (pos zero) h k l = omega (arith, ints, epoch, none_after, ceiled_qu
 first_day_is (pos (suc n)) h k l = omega (arith, ints, epoch, years_after n, years_before n, ceiled_quotient_range h, ceiled_quotient_range k, ceiled_quotient_range l)
 first_day_is (negsuc n) h k l = omega (arith, ints, epoch, years_before (suc n), ceiled_quotient_range h, ceiled_quotient_range k, ceiled_quotient_range l)
 
+-- by eras of 400 years, and the years of the era before it
+pub in_era : (era : ℤ) (n : ℕ) (year : ℤ) → year ≡ pos 400 *ℤ era +ℤ pos n +ℤ pos 1 → first_day year ≡ pos 146097 *ℤ era +ℤ pos (365 * n + n / 4 + n / 400) -ℤ pos (n / 100 + 719162)
+in_era era n (pos zero) e = omega (arith, ints, epoch, none_after)
+in_era era n (pos (suc m)) e = omega (arith, ints, epoch, years_after m, years_before m)
+in_era era n (negsuc m) e = omega (arith, ints, epoch, years_before (suc m))
+
 -- years are 146097/400 days long, but for a day or two
 pub mean_length : (year : ℤ) → ((pos 146097 *ℤ (year -ℤ pos 1970)) ≤ℤ (pos 400 *ℤ first_day year +ℤ pos 506)) × ((pos 400 *ℤ first_day year) ≤ℤ (pos 146097 *ℤ (year -ℤ pos 1970) +ℤ pos 589))
 mean_length (pos zero) = omega (arith, ints, epoch, none_after)

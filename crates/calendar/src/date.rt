@@ -4,6 +4,7 @@ ghost use Rattle.calendar.specs.Years.{IsDate};
 
 use crate::months::{days_before_month, days_in_month, days_in_year, months_of};
 use crate::years::{days_before_day, first_day_of, narrowed, year_of_day};
+use num_integer::div_mod_floor;
 
 /// A date of the proleptic Gregorian calendar, in any year of `i64`. The year before year 1 is
 /// year 0. Dates are in the order of their days.
@@ -16,12 +17,13 @@ pub struct Date {
 }
 
 impl Date {
-    ghost use Rattle.std.specs.Prelude.{◌≡◌, ◌↔◌, ◌+◌, ◌<◌, ◌≤◌, ◌^◌, ◌+ℤ◌, ◌-ℤ◌, pos, unsigned_abs, FitsSigned, IfSome, IsSome, MatchOption};
+    ghost use Rattle.std.specs.Prelude.{◌≡◌, ◌+◌, ◌<◌, ◌≤◌, ◌^◌, ◌+ℤ◌, ◌-ℤ◌, ◌*ℤ◌, pos, unsigned_abs, FitsSigned, MatchOption};
     ghost use Rattle.std.specs.Int.{w64};
     ghost use Rattle.std.specs.Option.{SomeIff};
     ghost use Rattle.num_integer.specs.Only.{IsOnly};
     ghost use Rattle.calendar.specs.Years.{days_in_year};
     ghost use Rattle.calendar.specs.Dates.{HasParts, number_of, year_day_of};
+    ghost use Rattle.calendar.specs.declared.date.Date.{Date};
 
     /// Returns the date of a year, a month and a day of the month, or `None` where there is none.
     /// `Date::new(1900, 2, 29)` is `None`.
@@ -140,13 +142,26 @@ impl Date {
     }
 
     /// Returns the date `days` days after this one, or before it where `days` is negative, or `None`
-    /// where its day does not fit an `i64`. -1 day after 2000-03-01 is 2000-02-29.
+    /// where its year does not fit an `i64`. -1 day after 2000-03-01 is 2000-02-29.
     pub fn plus_days(&self, days: i64) -> Option<Date>
-        ensures fits { IsSome result ↔ FitsSigned w64 (number_of self.now +ℤ days) }
-        ensures date { IfSome result (λ date. number_of date ≡ number_of self.now +ℤ days) }
+        ensures { MatchOption result
+            ((date : Date) → number_of date ≡ number_of self.now +ℤ days → ¬ (FitsSigned w64 date.year))
+            (λ date. number_of date ≡ number_of self.now +ℤ days) }
     {
-        let day = narrowed(self.number() + i128::from(days))?;
-        Some(Date::from_day(day))
+        let (eras, day) = div_mod_floor(self.number() + i128::from(days), 146097);
+        Date::from_day(day as i64).eras_later(eras as i64)
+    }
+
+    /// Returns the date `eras` times 400 years after this one, or `None` where its year does not fit.
+    fn eras_later(&self, eras: i64) -> Option<Date>
+        ensures { MatchOption result (¬ (FitsSigned w64 (self.now.year +ℤ pos 400 *ℤ eras)))
+            (λ date. HasParts date (self.now.year +ℤ pos 400 *ℤ eras) self.now.month self.now.day_of_month) }
+    {
+        Some(Date {
+            year: narrowed(i128::from(self.year) + 400 * i128::from(eras))?,
+            month: self.month,
+            day_of_month: self.day_of_month,
+        })
     }
 
     /// Returns the day of the date, which need not fit an `i64`.

@@ -1,6 +1,7 @@
 //! Dates: known ones, the ends of `i64`, and each day of six thousand years.
 
 mod callers;
+mod days;
 mod feasts;
 mod iso_weeks;
 mod months;
@@ -109,8 +110,6 @@ fn ends(rt: HostRuntime) {
     let last = date(&rt, (25252734927768524, 7, 27));
     assert!(rt; Date::from_day(MIN) == first && first.day() == Some(MIN));
     assert!(rt; Date::from_day(MAX) == last && last.day() == Some(MAX));
-    assert!(rt; first.plus_days(-1) == None && last.plus_days(1) == None);
-    assert!(rt; first.plus_days(MAX) == Some(Date::from_day(-1)));
     assert!(rt; days_between(&first, &last) == None && days_between(&last, &last) == Some(0));
     let (first, last) = (date(&rt, (MIN, 1, 1)), date(&rt, (MAX, 12, 31)));
     assert!(rt; first.day() == None && last.day() == None);

@@ -1,6 +1,6 @@
 //! What callers learn of the calls from their contracts and the laws, each said by a contract of its own.
 
-ghost use Rattle.std.specs.Prelude.{◌≡◌, ◌⊎◌, ◌↔◌, ◌<◌, ◌<ℤ◌, pos, FitsSigned, IfOk, IfSome, IsTrue, MatchOption, Ok, Some, if◌then◌else◌};
+ghost use Rattle.std.specs.Prelude.{◌≡◌, ◌⊎◌, ◌↔◌, ◌<◌, ◌<ℤ◌, ◌+ℤ◌, pos, FitsSigned, IfOk, IfSome, IsTrue, MatchOption, Ok, Some, if◌then◌else◌};
 ghost use Rattle.std.specs.Int.{w64};
 ghost use Rattle.std.specs.Option.{SomeIff};
 ghost use Rattle.num_integer.specs.Divisors.{Divides};
@@ -8,7 +8,9 @@ ghost use Rattle.num_integer.specs.Only.{IsOnly};
 ghost use Rattle.calendar.specs.Dates.{number_of};
 ghost use Rattle.calendar.specs.Easter.{IsEaster};
 ghost use Rattle.calendar.specs.Laws.{EpactOfTheFirstYear, EpactOfTheNextYear, FirstWeekdayIsOnly, LunarCorrectionOfTwentyFiveCenturies, LunarCorrectionsFrom1800, MonthsAfterIsOnly, NthWeekdayIsOnly, SolarCorrectionOfTheNextCentury, TextIsOnly, WeekdayIsOnly};
+ghost use Rattle.calendar.specs.Weeks.{HasWeekday};
 ghost use Rattle.calendar.specs.Years.{is_leap_year};
+ghost use Rattle.calendar.specs.declared.date.Date.{Date};
 
 use calendar::{Date, DateError, IsoWeek, Weekday, days_between, easter, is_leap_year};
 use std::alloc::{AllocError, Global};
@@ -40,6 +42,15 @@ fn day_again(day: i64) -> Option<i64>
     ensures { result ≡ Some day }
 {
     Date::from_day(day).day()
+}
+
+/// The day of the week some days after a date, in any year of `i64`.
+fn weekday_later(date: &Date, days: i64) -> Option<Weekday>
+    ensures { MatchOption result
+        ((later : Date) → number_of later ≡ number_of date.now +ℤ days → ¬ (FitsSigned w64 later.year))
+        (λ weekday. HasWeekday (number_of date.now +ℤ days) weekday) }
+{
+    Some(date.plus_days(days)?.weekday())
 }
 
 /// Dates are in the order of their days.
