@@ -1,5 +1,5 @@
 -- The weeks of ISO 8601.
-use Rattle.std.specs.Prelude.{◌≡◌, ◌⊎◌, ◌+◌, ◌-◌, ◌/◌, ◌%◌, ◌<◌, ◌≤ℤ◌, ◌<ℤ◌, ◌+ℤ◌, ◌-ℤ◌, ◌*ℤ◌, ℕ, ℤ, pos, FitsSigned, MatchOption, Option, Some, None}
+use Rattle.std.specs.Prelude.{◌≡◌, ◌⊎◌, ◌+◌, ◌-◌, ◌/◌, ◌%◌, ◌<◌, ◌≤◌, ◌≤ℤ◌, ◌<ℤ◌, ◌+ℤ◌, ◌-ℤ◌, ◌*ℤ◌, ℕ, ℤ, pos, FitsSigned, MatchOption, Option, Some, None}
 use Rattle.std.specs.Int.{w64}
 use Rattle.std.proofs.Common.{ap, arith, inl, inr, subst, sym}
 use Rattle.std.proofs.lemmas.Int.{by_lt_z, ints}
@@ -15,7 +15,7 @@ use Rattle.calendar.specs.declared.weekday.Weekday.{Weekday}
 use Rattle.calendar.specs.declared.weekday.Weekday.TheVariants.{Thursday}
 use Rattle.calendar.proofs.DateOrder.{year_day_range}
 use Rattle.calendar.proofs.WeekdayPlaces.{below_seven, on_weekday, same_day}
-use Rattle.calendar.proofs.YearLengths.{later_year, next_first_day}
+use Rattle.calendar.proofs.YearLengths.{later_year, length_range, next_first_day}
 
 -- ---- Thursdays
 
@@ -82,6 +82,17 @@ one_week h k =
     let thursday = same_thursday h.of_week k.of_week in
     let year = one_year h.of_year (rw (sym thursday) at k.of_year) in
     (year, omega (arith, ints, h.from, h.before, k.from, k.before, thursday, ap first_day year))
+
+-- and one of 53
+pub week_range : {day year : ℤ} {week : ℕ} → IsInIsoWeek day year week → (1 ≤ week) × (week ≤ 53)
+week_range {year = year} h =
+    let year_from = h.of_year.from in
+    let year_before = h.of_year.before in
+    let from = h.from in
+    let before = h.before in
+    let length = length_range year in
+    let next = next_first_day year in
+    (omega (arith, ints), omega (arith, ints))
 
 -- the days of an earlier week are before those of a later one
 pub ordered_weeks : {a b y z : ℤ} {v w : ℕ} → IsInIsoWeek a y v → IsInIsoWeek b z w → (y <ℤ z) ⊎ ((y ≡ z) × (v < w)) → a <ℤ b

@@ -3,7 +3,7 @@ use Rattle.std.proofs.Common.{arith}
 use Rattle.std.proofs.lemmas.Bool.Decides.{nat_tests}
 use Rattle.std.proofs.lemmas.Int.{ints}
 use Rattle.num_integer.proofs.ForCallers.{divides_by_magnitude}
-use Rattle.calendar.specs.Laws.{DateIsOnly, EasterIsOnly, EpactOfTheFirstYear, EpactOfTheNextYear, FirstDay, FirstWeekdayIsOnly, IsoDayIsOnly, IsoWeekIsOnly, LeapYearsByDivisors, LengthsOfYears, LunarCorrectionOfTwentyFiveCenturies, LunarCorrectionsFrom1800, MonthsAfterIsOnly, NthWeekdayIsOnly, OrderOfDates, OrderOfIsoWeeks, SolarCorrectionOfTheNextCentury, TextIsOnly, WeekdayIsOnly, YearsFollow}
+use Rattle.calendar.specs.Laws.{DateIsOnly, EasterIsOnly, EpactOfTheFirstYear, EpactOfTheNextYear, FirstDay, FirstWeekdayIsOnly, IsoDayIsOnly, IsoWeekIsOnly, LeapYearsByDivisors, LengthsOfYears, LunarCorrectionOfTwentyFiveCenturies, LunarCorrectionsFrom1800, MonthsAfterIsOnly, NthWeekdayIsOnly, OrderOfDates, OrderOfIsoWeeks, SolarCorrectionOfTheNextCentury, TextIsOnly, WeekdayIsOnly, WeeksOfAYear, YearsFollow}
 use Rattle.calendar.specs.Years.{days_in_year, is_leap_year, is_multiple}
 use Rattle.calendar.proofs.DateOrder as order
 use Rattle.calendar.proofs.DateTexts as texts
@@ -65,6 +65,9 @@ iso_week_is_only = λ day y z v w h k. weeks.one_week h k
 
 pub iso_day_is_only : IsoDayIsOnly
 iso_day_is_only = λ a b year week weekday h k. weeks.one_day weekday h k
+
+pub weeks_of_a_year : WeeksOfAYear
+weeks_of_a_year = λ day year week h. weeks.week_range h
 
 pub order_of_iso_weeks : OrderOfIsoWeeks
 order_of_iso_weeks = λ a b y z v w h k less. weeks.ordered_weeks h k less

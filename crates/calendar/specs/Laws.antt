@@ -72,6 +72,10 @@ IsoWeekIsOnly = (day y z : ℤ) (v w : ℕ) → IsInIsoWeek day y v → IsInIsoW
 abbrev pub IsoDayIsOnly : Type 0
 IsoDayIsOnly = (a b year : ℤ) (week : ℕ) (weekday : Weekday) → IsDayOfIsoWeek a year week weekday → IsDayOfIsoWeek b year week weekday → a ≡ b
 
+-- each week of a year is one of the first 53
+abbrev pub WeeksOfAYear : Type 0
+WeeksOfAYear = (day year : ℤ) (week : ℕ) → IsInIsoWeek day year week → (1 ≤ week) × (week ≤ 53)
+
 -- the days of an earlier week are before those of a later one
 abbrev pub OrderOfIsoWeeks : Type 0
 OrderOfIsoWeeks = (a b y z : ℤ) (v w : ℕ) → IsInIsoWeek a y v → IsInIsoWeek b z w → (y <ℤ z) ⊎ ((y ≡ z) × (v < w)) → a <ℤ b

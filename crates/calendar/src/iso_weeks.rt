@@ -1,6 +1,6 @@
 //! The weeks of ISO 8601, from Monday to Sunday.
 
-ghost use Rattle.std.specs.Prelude.{◌≡◌, ◌+◌, ◌%◌, ◌<◌, ◌^◌, ◌+ℤ◌, ◌-ℤ◌, ◌*ℤ◌, ◌<ℤ◌, ◌≤ℤ◌, ℕ, ℤ, pos, unsigned_abs, FitsSigned, MatchOption};
+ghost use Rattle.std.specs.Prelude.{◌≡◌, ◌+◌, ◌%◌, ◌<◌, ◌≤◌, ◌^◌, ◌+ℤ◌, ◌-ℤ◌, ◌*ℤ◌, ◌<ℤ◌, ◌≤ℤ◌, ℕ, ℤ, pos, unsigned_abs, FitsSigned, IfSome, MatchOption};
 ghost use Rattle.std.specs.Int.{w64};
 ghost use Rattle.num_integer.specs.Division.{IsFloored, IsRemainder};
 ghost use Rattle.calendar.specs.Dates.{number_of};
@@ -35,9 +35,11 @@ impl Date {
     /// Returns the week of ISO 8601 that has the date, or `None` where its year is beyond `i64`. That
     /// of 2005-01-01 is week 53 of 2004.
     pub fn iso_week(&self) -> Option<IsoWeek>
-        ensures { MatchOption result
+        ensures week { MatchOption result
             ((year : ℤ) (week : ℕ) → IsInIsoWeek (number_of self.now) year week → ¬ (FitsSigned w64 year))
             (λ found. IsInIsoWeek (number_of self.now) found.year found.week) }
+        ensures from_one { IfSome result (λ found. 1 ≤ found.week) }
+        ensures to_53 { IfSome result (λ found. found.week ≤ 53) }
     {
         let thursday = date_near(self.year, thursday_of_week(self))?;
         let week = (thursday.day_of_year() - 1) / 7 + 1;

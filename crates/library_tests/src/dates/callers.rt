@@ -1,6 +1,6 @@
 //! What callers learn of the calls from their contracts and the laws, each said by a contract of its own.
 
-ghost use Rattle.std.specs.Prelude.{◌≡◌, ◌⊎◌, ◌↔◌, ◌<◌, ◌<ℤ◌, ◌+ℤ◌, pos, FitsSigned, IfOk, IfSome, IsTrue, MatchOption, Ok, Some, if◌then◌else◌};
+ghost use Rattle.std.specs.Prelude.{◌≡◌, ◌⊎◌, ◌↔◌, ◌<◌, ◌≤◌, ◌<ℤ◌, ◌+ℤ◌, pos, All, FitsSigned, IfOk, IfSome, IsTrue, MatchOption, Ok, Some, if◌then◌else◌};
 ghost use Rattle.std.specs.Int.{w64};
 ghost use Rattle.std.specs.Option.{SomeIff};
 ghost use Rattle.num_integer.specs.Divisors.{Divides};
@@ -107,6 +107,23 @@ fn week_again(week: &IsoWeek, weekday: Weekday) -> Option<IsoWeek>
     ensures { IfSome result (λ again. again ≡ week.now) }
 {
     Date::from_iso_week(week.year, week.week, weekday)?.iso_week()
+}
+
+/// The working days of the week of a date, by a table of the 53 weeks of a year.
+fn working_days(date: &Date, table: &[u8; 53]) -> Option<u8>
+    requires { All (λ days. days ≤ 5) table.now }
+    ensures { IfSome result (λ days. days ≤ 5) }
+{
+    let week = date.iso_week()?;
+    Some(table[usize::from(week.week) - 1])
+}
+
+/// A week that a year has is one of 53.
+fn week_of_year(year: i64, week: u8) -> Option<u8>
+    ensures { IfSome result (λ week. (1 ≤ week) × (week ≤ 53)) }
+{
+    let _thursday = Date::from_iso_week(year, week, Weekday::Thursday)?;
+    Some(week)
 }
 
 /// Weeks are in the order of their years, and of their numbers in a year.

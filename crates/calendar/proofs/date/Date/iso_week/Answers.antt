@@ -7,8 +7,8 @@ use Rattle.calendar.specs.IsoWeeks.{HasDay, IsThursdayOfWeek}
 use Rattle.calendar.proofs.IsoWeeks.{same_thursday, week_of}
 use Rattle.calendar.proofs.date.Date.iso_week.Goals as goal
 
-pub returns-in_err-thursday : goal.returns-in_err-thursday
-returns-in_err-thursday c =
+pub returns-in_err-thursday-clause-week : goal.returns-in_err-thursday-clause-week
+returns-in_err-thursday-clause-week c =
     let year : FitsSigned w64 c.args.self.now.year = search rules in
     let from = c.thursday_of_week.ensures.from in
     let below = c.thursday_of_week.ensures.below in
@@ -16,8 +16,8 @@ returns-in_err-thursday c =
     let none = simp to_z-of_z at c.in_err-thursday.ensures in
     rw c.from_residual.ensures (λ y week k fits. none y (subst (λ (t : ℤ). HasDay y t) (same_thursday k.of_week c.thursday_of_week.ensures.of_week) k.of_year) fits)
 
-pub returns : goal.returns
-returns c =
+pub returns-clause-week : goal.returns-clause-week
+returns-clause-week c =
     let year : FitsSigned w64 c.args.self.now.year = search rules in
     let thursday = c.in_ok-thursday.thursday in
     let thursday_year : FitsSigned w64 thursday.year = search rules in

@@ -17,4 +17,4 @@ pub returns : goal.returns
 returns c =
     let year : FitsSigned w64 c.args.week.now.year = search rules in
     let day = simp to_z-of_z at c.in_ok-from_iso_week.ensures in
-    same_week c.iso_week.result _ _ c.args.week.now day.in_week c.iso_week.ensures
+    same_week c.iso_week.result _ _ c.args.week.now day.in_week c.iso_week.ensures.week

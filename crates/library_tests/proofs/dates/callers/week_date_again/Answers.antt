@@ -17,5 +17,5 @@ pub returns : goal.returns
 returns c =
     let week = c.in_ok-week.week in
     let year : FitsSigned w64 week.year = search rules in
-    let own : IsDayOfIsoWeek (number_of c.args.date.now) week.year week.week c.weekday.result = record { in_week = c.in_ok-week.ensures; has_weekday = c.weekday.ensures } in
+    let own : IsDayOfIsoWeek (number_of c.args.date.now) week.year week.week c.weekday.result = record { in_week = c.in_ok-week.ensures.week; has_weekday = c.weekday.ensures } in
     same_date c.from_iso_week.result _ c.args.date.now week.year week.week c.weekday.result own (simp to_z-of_z at c.from_iso_week.ensures)
