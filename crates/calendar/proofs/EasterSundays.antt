@@ -1,11 +1,12 @@
 -- The date of Easter.
-use Rattle.std.specs.Prelude.{◌≡◌, ◌⊎◌, ◌+◌, ◌-◌, ◌*◌, ◌/◌, ◌%◌, ◌<◌, ◌≤◌, ◌+ℤ◌, ◌-ℤ◌, ◌*ℤ◌, ℕ, ℤ, pos, unsigned_abs}
+use Rattle.std.specs.Prelude.{◌≡◌, ◌⊎◌, ◌+◌, ◌-◌, ◌*◌, ◌/◌, ◌%◌, ◌<◌, ◌≤◌, ◌+ℤ◌, ◌-ℤ◌, ◌*ℤ◌, ◌↔◌, ℕ, ℤ, pos, unsigned_abs, IsTrue}
 use Rattle.std.proofs.Common.{◌∙◌, ap, arith, inl, inr, refl, sym}
+use Rattle.std.proofs.lemmas.Bool.Decides.{nat_tests}
 use Rattle.std.proofs.lemmas.Int.{by_lt_z, ints}
 use Rattle.num_integer.proofs.ForCallers.{floored_by_range, floored_quotient_range, floored_remainder_range, linear, only_floored}
 use Rattle.num_integer.specs.Division.{IsFloored, IsQuotient, IsRemainder}
 use Rattle.num_integer.specs.Divisors.{Divides}
-use Rattle.calendar.specs.Easter.{IsEaster, IsEpact, IsLunarCorrection, IsPaschalFullMoon, IsSolarCorrection}
+use Rattle.calendar.specs.Easter.{IsEaster, IsEpact, IsLunarCorrection, IsPaschalFullMoon, IsSolarCorrection, days_to_full_moon, is_day_earlier}
 use Rattle.calendar.specs.Weekday.{weekday_number}
 use Rattle.calendar.specs.Weeks.{HasWeekday, IsFirstWeekday}
 use Rattle.calendar.specs.Years.{day_number}
@@ -64,10 +65,64 @@ only_full_moon h k =
 pub only_easter : (year a b : ℤ) → IsEaster year a → IsEaster year b → a ≡ b
 only_easter year a b h k = only_first _ _ a b (rw (only_full_moon h.full_moon_is k.full_moon_is) at h.sunday_is) k.sunday_is
 
--- ---- the tables
+-- ---- the full moons of a century
 
 floored : {n q : ℤ} (d : ℕ) (r : ℕ) → n ≡ q *ℤ pos d +ℤ pos r → r < d → IsFloored n (pos d) q (pos r)
 floored d r equation below = floored_by_range equation (omega (arith, ints)) (omega (arith, ints))
+
+-- a full moon so many days after 21 March, by its epact
+abbrev HasMoon : ℕ → ℕ → ℕ → Type 0
+HasMoon epact golden days = ((epact < 24) × (days + epact ≡ 23)) ⊎ ((25 < epact) × (days + epact ≡ 53)) ⊎ ((epact ≡ 24) × (days ≡ 28)) ⊎ ((epact ≡ 25) × (golden < 11) × (days ≡ 28)) ⊎ ((epact ≡ 25) × (10 < golden) × (days ≡ 27))
+
+moon : (epact golden : ℕ) → epact < 30 → HasMoon epact golden (days_to_full_moon epact golden)
+moon epact golden below = grind (arith, nat_tests)
+
+-- of one golden number, where two are in one century
+one_golden : (g h e f days : ℕ) (q : ℤ) → g < 19 → h < 19 → f < 30 → pos (11 * g + f) ≡ pos (11 * h + e) +ℤ pos 30 *ℤ q → HasMoon e g days → HasMoon f h days → g ≡ h
+one_golden g h e f days q below other_below small apart a b = grind (arith, ints)
+
+small_epact : {century : ℤ} {golden epact : ℕ} → IsEpact century golden epact → epact < 30
+small_epact h = omega (arith, ints, floored_remainder_range (omega (arith, ints)) h.epact_is)
+
+-- the epacts of a century, by their golden numbers
+epacts_apart : {century : ℤ} {g h e f : ℕ} (a : IsEpact century g e) (b : IsEpact century h f) → pos (11 * g + f) ≡ pos (11 * h + e) +ℤ pos 30 *ℤ (a.epact_is.quotient -ℤ b.epact_is.quotient)
+epacts_apart a b = omega (arith, ints, a.epact_is.division.division.equation, b.epact_is.division.division.equation, only_solar a.solar_is b.solar_is, only_quotient a.lunar_is b.lunar_is)
+
+pub different_moons : (century : ℤ) (golden other epact other_epact : ℕ) → golden < 19 → other < 19 → IsEpact century golden epact → IsEpact century other other_epact
+    → (days_to_full_moon epact golden ≤ 28) × (days_to_full_moon epact golden ≡ days_to_full_moon other_epact other → golden ≡ other)
+different_moons century golden other epact other_epact below other_below h k =
+    let own = moon epact golden (small_epact h) in
+    let theirs = moon other_epact other (small_epact k) in (
+      grind arith,
+      λ same. one_golden golden other epact other_epact (days_to_full_moon epact golden) (h.epact_is.quotient -ℤ k.epact_is.quotient) below other_below (small_epact k) (epacts_apart h k) own (rw same theirs),
+    )
+
+-- the epact 25 is that of the golden number 11 above that of 24
+eleven_before : {century : ℤ} {golden epact : ℕ} → IsEpact century golden epact → epact ≡ 25 → 10 < golden → IsEpact century (golden - 11) 24
+eleven_before {golden = golden} h e late = record {
+  solar = h.solar;
+  lunar = h.lunar;
+  solar_is = h.solar_is;
+  lunar_is = h.lunar_is;
+  epact_is = record { quotient = h.epact_is.quotient -ℤ pos 4; division = floored 30 24 (omega (arith, ints, h.epact_is.division.division.equation)) (omega arith) };
+}
+
+pub earlier_moons : (century : ℤ) (golden epact : ℕ) → golden < 19 → IsEpact century golden epact
+    → IsTrue (is_day_earlier epact golden) ↔ ((epact ≡ 24) ⊎ ((epact ≡ 25) × ((other : ℕ) × (other < 19) × IsEpact century other 24)))
+earlier_moons century golden epact below h = (
+  λ earlier.
+      let cases : (epact ≡ 24) ⊎ ((epact ≡ 25) × (10 < golden)) = grind (arith, nat_tests) in
+      elim cases [
+        | inl e ↦ inl e
+        | inr (e, late) ↦ inr (e, (golden - 11, omega arith, eleven_before h e late))
+      ],
+  λ either. elim either [
+    | inl e ↦ grind (arith, nat_tests)
+    | inr (e, (other, other_below, k)) ↦ let late : 10 < golden = omega (arith, ints, epacts_apart h k) in grind (arith, nat_tests)
+  ],
+)
+
+-- ---- the tables
 
 pub next_epact : (century : ℤ) (golden epact : ℕ) → IsEpact century golden epact → IsEpact century (golden + 1) ((epact + 11) % 30)
 next_epact century golden epact h =

@@ -3,7 +3,7 @@ use Rattle.std.proofs.Common.{arith}
 use Rattle.std.proofs.lemmas.Bool.Decides.{nat_tests}
 use Rattle.std.proofs.lemmas.Int.{ints}
 use Rattle.num_integer.proofs.ForCallers.{divides_by_magnitude}
-use Rattle.calendar.specs.Laws.{DateIsOnly, EasterIsOnly, EpactOfTheFirstYear, EpactOfTheNextYear, FirstDay, FirstWeekdayIsOnly, IsoDayIsOnly, IsoWeekIsOnly, LeapYearsByDivisors, LengthsOfYears, LunarCorrectionOfTwentyFiveCenturies, LunarCorrectionsFrom1800, MonthsAfterIsOnly, NthWeekdayIsOnly, OrderOfDates, OrderOfIsoWeeks, SolarCorrectionOfTheNextCentury, TextIsOnly, WeekdayIsOnly, WeeksOfAYear, YearsFollow}
+use Rattle.calendar.specs.Laws.{DateIsOnly, EarlierFullMoons, EasterIsOnly, EpactOfTheFirstYear, EpactOfTheNextYear, FirstDay, FirstWeekdayIsOnly, FullMoonsDiffer, IsoDayIsOnly, IsoWeekIsOnly, LeapYearsByDivisors, LengthsOfYears, LunarCorrectionOfTwentyFiveCenturies, LunarCorrectionsFrom1800, MonthsAfterIsOnly, NthWeekdayIsOnly, OrderOfDates, OrderOfIsoWeeks, SolarCorrectionOfTheNextCentury, TextIsOnly, WeekdayIsOnly, WeeksOfAYear, YearsFollow}
 use Rattle.calendar.specs.Years.{days_in_year, is_leap_year, is_multiple}
 use Rattle.calendar.proofs.DateOrder as order
 use Rattle.calendar.proofs.DateTexts as texts
@@ -76,6 +76,12 @@ order_of_iso_weeks = λ a b y z v w h k less. weeks.ordered_weeks h k less
 
 pub easter_is_only : EasterIsOnly
 easter_is_only = easters.only_easter
+
+pub full_moons_differ : FullMoonsDiffer
+full_moons_differ = easters.different_moons
+
+pub earlier_full_moons : EarlierFullMoons
+earlier_full_moons = easters.earlier_moons
 
 pub epact_of_the_first_year : EpactOfTheFirstYear
 epact_of_the_first_year = easters.first_epact

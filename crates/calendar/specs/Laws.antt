@@ -3,7 +3,7 @@ use Rattle.std.specs.Prelude.{◌≡◌, ◌⊎◌, ◌↔◌, ◌<◌, ◌≤�
 use Rattle.std.specs.Int.{w64}
 use Rattle.num_integer.specs.Divisors.{Divides}
 use Rattle.calendar.specs.Dates.{IsEarlier, number_of}
-use Rattle.calendar.specs.Easter.{IsEaster, IsEpact, IsLunarCorrection, IsSolarCorrection}
+use Rattle.calendar.specs.Easter.{IsEaster, IsEpact, IsLunarCorrection, IsSolarCorrection, days_to_full_moon, is_day_earlier}
 use Rattle.calendar.specs.IsoWeeks.{IsDayOfIsoWeek, IsInIsoWeek}
 use Rattle.calendar.specs.Months.{IsMonthsAfter, IsNthWeekday}
 use Rattle.calendar.specs.Text.{text_of}
@@ -85,6 +85,16 @@ OrderOfIsoWeeks = (a b y z : ℤ) (v w : ℕ) → IsInIsoWeek a y v → IsInIsoW
 -- each year has at most one day of Easter
 abbrev pub EasterIsOnly : Type 0
 EasterIsOnly = (year a b : ℤ) → IsEaster year a → IsEaster year b → a ≡ b
+
+-- in each century the nineteen golden numbers have nineteen different full moons, from 21 March to 18 April
+abbrev pub FullMoonsDiffer : Type 0
+FullMoonsDiffer = (century : ℤ) (golden other epact other_epact : ℕ) → golden < 19 → other < 19 → IsEpact century golden epact → IsEpact century other other_epact
+    → (days_to_full_moon epact golden ≤ 28) × (days_to_full_moon epact golden ≡ days_to_full_moon other_epact other → golden ≡ other)
+
+-- the full moon is a day earlier at the epact 24, and at 25 in the centuries that have the epact 24 too
+abbrev pub EarlierFullMoons : Type 0
+EarlierFullMoons = (century : ℤ) (golden epact : ℕ) → golden < 19 → IsEpact century golden epact
+    → IsTrue (is_day_earlier epact golden) ↔ ((epact ≡ 24) ⊎ ((epact ≡ 25) × ((other : ℕ) × (other < 19) × IsEpact century other 24)))
 
 -- the first golden number has the epact 1 in the years 1500 to 1699
 abbrev pub EpactOfTheFirstYear : Type 0

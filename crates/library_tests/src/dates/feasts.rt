@@ -6,7 +6,7 @@ use calendar::Weekday::Sunday;
 use calendar::easter;
 
 /// Year, month and day of the month.
-const EASTERS: [(i64, u8, u8); 45] = [
+const EASTERS: [(i64, u8, u8); 49] = [
     (1583, 4, 10),
     (1700, 4, 11),
     (1800, 4, 13),
@@ -51,7 +51,11 @@ const EASTERS: [(i64, u8, u8); 45] = [
     (2038, 4, 25),
     (2285, 3, 22),
     (2353, 3, 22),
+    (3165, 4, 18),
+    (3260, 4, 18),
     (4763, 4, 7),
+    (7515, 4, 25),
+    (7610, 4, 25),
 ];
 
 #[test]
