@@ -1,7 +1,9 @@
 //! What callers learn of the calls from their contracts and the laws, each said by a contract of its own.
 
-ghost use Rattle.std.specs.Prelude.{◌≡◌, ◌⊎◌, ◌↔◌, ◌<◌, ◌≤◌, ◌<ℤ◌, ◌+ℤ◌, pos, All, FitsSigned, IfOk, IfSome, IsTrue, MatchOption, Ok, Some, if◌then◌else◌};
+ghost use Rattle.std.specs.Prelude.{◌≡◌, ◌⊎◌, ◌↔◌, ◌++◌, ◌<◌, ◌≤◌, ◌<ℤ◌, ◌+ℤ◌, pos, All, FitsSigned, IfOk, IfSome, IsTrue, MatchOption, Ok, Some, if◌then◌else◌};
 ghost use Rattle.std.specs.Int.{w64};
+ghost use Rattle.std.specs.Hash as written;
+ghost use Rattle.std.specs.List.{fold};
 ghost use Rattle.std.specs.Option.{SomeIff};
 ghost use Rattle.num_integer.specs.Divisors.{Divides};
 ghost use Rattle.num_integer.specs.Only.{IsOnly};
@@ -14,6 +16,7 @@ ghost use Rattle.calendar.specs.declared.date.Date.{Date};
 
 use calendar::{Date, DateError, IsoWeek, Weekday, days_between, easter, is_leap_year};
 use std::alloc::{AllocError, Global};
+use std::hash::{Hash, Hasher};
 
 /// The laws that no call below cites, each proved by its lemma.
 fn laws()
@@ -62,12 +65,19 @@ fn is_before(first: &Date, second: &Date) -> bool
     first < second
 }
 
-/// Dates of the same day are equal.
+/// Dates are equal exactly where their days are.
 fn are_equal(first: &Date, second: &Date) -> bool
-    requires { number_of first.now ≡ number_of second.now }
-    ensures { IsTrue result }
+    ensures { IsTrue result ↔ (number_of first.now ≡ number_of second.now) }
 {
     first == second
+}
+
+/// A hasher is given the year, then the month, then the day of the month.
+fn hash_of_parts<H: Hasher>(date: &Date, state: &mut H)
+    ensures { state.new ≡ fold H.write state.old
+        (written.i64 date.now.year ++ written.u8 date.now.month ++ written.u8 date.now.day_of_month) }
+{
+    date.hash(state);
 }
 
 /// The leap rule, by divisors.
