@@ -3,7 +3,7 @@ use Rattle.std.proofs.Common.{arith}
 use Rattle.std.proofs.lemmas.Bool.Decides.{nat_tests}
 use Rattle.std.proofs.lemmas.Int.{ints}
 use Rattle.num_integer.proofs.ForCallers.{divides_by_magnitude}
-use Rattle.calendar.specs.Laws.{DateIsOnly, EarlierFullMoons, EasterIsOnly, EpactOfTheFirstYear, EpactOfTheNextYear, FirstDay, FirstWeekdayIsOnly, FullMoonsDiffer, IsoDayIsOnly, IsoWeekIsOnly, LeapYearsByDivisors, LengthsOfYears, LunarCorrectionOfTwentyFiveCenturies, LunarCorrectionsFrom1800, MonthsAfterIsOnly, NthWeekdayIsOnly, OrderOfDates, OrderOfIsoWeeks, SolarCorrectionOfTheNextCentury, TextIsOnly, WeekdayIsOnly, WeeksOfAYear, YearsFollow}
+use Rattle.calendar.specs.Laws.{DateIsOnly, EarlierFullMoons, EasterIsOnly, EpactOfTheFirstYear, EpactOfTheNextYear, FirstDay, FirstWeekdayIsOnly, FullMoonsDiffer, IsoDayIsOnly, IsoWeekIsOnly, LeapYearsByDivisors, LengthsOfYears, LunarCorrectionOfTwentyFiveCenturies, LunarCorrectionsFrom1800, MonthsAfterIsOnly, NthWeekdayIsOnly, OrderOfDates, OrderOfIsoWeeks, SolarCorrectionOfTheNextCentury, TextIsOnly, WeekdayIsOnly, WeekdaysFollow, WeeksOfAYear, YearsFollow}
 use Rattle.calendar.specs.Years.{days_in_year, is_leap_year, is_multiple}
 use Rattle.calendar.proofs.DateOrder as order
 use Rattle.calendar.proofs.DateTexts as texts
@@ -56,6 +56,9 @@ nth_weekday_is_only = months.only_nth_weekday
 
 pub weekday_is_only : WeekdayIsOnly
 weekday_is_only = places.only_weekday
+
+pub weekdays_follow : WeekdaysFollow
+weekdays_follow = places.next_weekdays
 
 pub first_weekday_is_only : FirstWeekdayIsOnly
 first_weekday_is_only = places.only_first

@@ -87,3 +87,10 @@ pub only_weekday : (day : ℤ) (a b : Weekday) → HasWeekday day a → HasWeekd
 only_weekday day a b h k =
     let same = ap unsigned_abs (only_floored h.remainder.division k.remainder.division).1 in
     sym (named a) ∙ ap (λ (n : ℕ). get_or weekdays n Sunday) same ∙ named b
+
+-- which follow in turn from the Thursday of day 0
+pub next_weekdays : HasWeekday (pos 0) Thursday × ((day : ℤ) (a b : Weekday) → HasWeekday day a → HasWeekday (day +ℤ pos 1) b → weekday_number b ≡ (weekday_number a + 1) % 7)
+next_weekdays = (
+  on_weekday Thursday (pos 0) (omega (arith, ints)),
+  λ day a b h k. omega (arith, ints, h.remainder.division.division.equation, k.remainder.division.division.equation, below_seven a, below_seven b),
+)

@@ -7,10 +7,12 @@ use Rattle.calendar.specs.Easter.{IsEaster, IsEpact, IsLunarCorrection, IsSolarC
 use Rattle.calendar.specs.IsoWeeks.{IsDayOfIsoWeek, IsInIsoWeek}
 use Rattle.calendar.specs.Months.{IsMonthsAfter, IsNthWeekday}
 use Rattle.calendar.specs.Text.{text_of}
+use Rattle.calendar.specs.Weekday.{weekday_number}
 use Rattle.calendar.specs.Weeks.{HasWeekday, IsFirstWeekday}
 use Rattle.calendar.specs.Years.{day_number, days_in_year, first_day, is_leap_year}
 use Rattle.calendar.specs.declared.date.Date.{Date}
 use Rattle.calendar.specs.declared.weekday.Weekday.{Weekday}
+use Rattle.calendar.specs.declared.weekday.Weekday.TheVariants.{Thursday}
 
 -- ---- years
 
@@ -59,6 +61,10 @@ NthWeekdayIsOnly = (year : ℤ) (month : ℕ) (weekday : Weekday) (n : ℕ) (a b
 -- each day has at most one day of the week
 abbrev pub WeekdayIsOnly : Type 0
 WeekdayIsOnly = (day : ℤ) (a b : Weekday) → HasWeekday day a → HasWeekday day b → a ≡ b
+
+-- day 0 is a Thursday, and the days of the week follow in turn
+abbrev pub WeekdaysFollow : Type 0
+WeekdaysFollow = HasWeekday (pos 0) Thursday × ((day : ℤ) (a b : Weekday) → HasWeekday day a → HasWeekday (day +ℤ pos 1) b → weekday_number b ≡ (weekday_number a + 1) % 7)
 
 -- from each day on, at most one day is the first that has a day of the week
 abbrev pub FirstWeekdayIsOnly : Type 0

@@ -9,7 +9,7 @@ ghost use Rattle.num_integer.specs.Divisors.{Divides};
 ghost use Rattle.num_integer.specs.Only.{IsOnly};
 ghost use Rattle.calendar.specs.Dates.{number_of};
 ghost use Rattle.calendar.specs.Easter.{IsEaster};
-ghost use Rattle.calendar.specs.Laws.{EarlierFullMoons, EpactOfTheFirstYear, EpactOfTheNextYear, FirstWeekdayIsOnly, FullMoonsDiffer, LunarCorrectionOfTwentyFiveCenturies, LunarCorrectionsFrom1800, MonthsAfterIsOnly, NthWeekdayIsOnly, SolarCorrectionOfTheNextCentury, TextIsOnly, WeekdayIsOnly};
+ghost use Rattle.calendar.specs.Laws.{EarlierFullMoons, EpactOfTheFirstYear, EpactOfTheNextYear, FirstWeekdayIsOnly, FullMoonsDiffer, LunarCorrectionOfTwentyFiveCenturies, LunarCorrectionsFrom1800, MonthsAfterIsOnly, NthWeekdayIsOnly, SolarCorrectionOfTheNextCentury, TextIsOnly, WeekdayIsOnly, WeekdaysFollow};
 ghost use Rattle.calendar.specs.Weeks.{HasWeekday};
 ghost use Rattle.calendar.specs.Years.{is_leap_year};
 ghost use Rattle.calendar.specs.declared.date.Date.{Date};
@@ -24,6 +24,7 @@ fn laws()
     ensures months_after_is_only { MonthsAfterIsOnly }
     ensures nth_weekday_is_only { NthWeekdayIsOnly }
     ensures weekday_is_only { WeekdayIsOnly }
+    ensures weekdays_follow { WeekdaysFollow }
     ensures first_weekday_is_only { FirstWeekdayIsOnly }
     ensures full_moons_differ { FullMoonsDiffer }
     ensures earlier_full_moons { EarlierFullMoons }

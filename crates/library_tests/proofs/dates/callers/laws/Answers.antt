@@ -7,6 +7,7 @@ returns c = record {
   months_after_is_only = law.months_after_is_only;
   nth_weekday_is_only = law.nth_weekday_is_only;
   weekday_is_only = law.weekday_is_only;
+  weekdays_follow = law.weekdays_follow;
   first_weekday_is_only = law.first_weekday_is_only;
   full_moons_differ = law.full_moons_differ;
   earlier_full_moons = law.earlier_full_moons;
