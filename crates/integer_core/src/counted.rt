@@ -9,9 +9,9 @@ pub use crate::bezout::extended_gcd_counted;
 
 /// A greatest common divisor by Stein's binary method, with the turns of its loop.
 pub trait GcdCounted: Integer {
-    /// Returns [`Integer::gcd`] and the turns, which are at most the bit lengths of both added. The
-    /// loop makes no turn where an operand is 0 or the least number of its type.
-    /// `56i64.gcd_counted(&42)` is `(14, 1)`.
+    /// Returns [`Integer::gcd`] and the number of turns, which is at most the bit lengths of both
+    /// added, and 0 where an operand is 0 or the least number of its type. `56i64.gcd_counted(&42)` is
+    /// `(14, 1)`.
     ///
     /// May be called where `Fits::gcd_fits` is true.
     fn gcd_counted(&self, other: &Self) -> (Self, u32)

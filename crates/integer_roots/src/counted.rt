@@ -8,8 +8,8 @@ use crate::root::Roots;
 
 /// A square root by Newton's method, with the turns of its two loops.
 pub trait SqrtCounted: Roots {
-    /// Returns the square root and the turns, which are at most five. `99.sqrt_counted()` is `(9, 2)`:
-    /// the guesses are 8, 10 and 9.
+    /// Returns the square root and the number of turns, which is at most five. `99.sqrt_counted()` is
+    /// `(9, 2)`: the guesses are 8, 10 and 9.
     ///
     /// May be called where `self` is not negative.
     fn sqrt_counted(&self) -> (Self, u32)

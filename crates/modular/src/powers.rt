@@ -8,9 +8,9 @@ use crate::products::Modular;
 use crate::residues::residue;
 use num_integer::operators::one;
 
-/// Returns [`power_modulo`] and the number of turns of its loop, each of at most two products. At an
-/// exponent above 0 the turns are its binary logarithm, rounded down. `power_modulo_counted(3, 4, 7)` is
-/// `(4, 2)`, and `power_modulo_counted(3, 0, 7)` is `(1, 0)`.
+/// Returns [`power_modulo`] and the number of turns of its loop, which is the binary logarithm of an
+/// exponent above 0, rounded down. `power_modulo_counted(3, 4, 7)` is `(4, 2)`, and
+/// `power_modulo_counted(3, 0, 7)` is `(1, 0)`.
 ///
 /// May be called where [`power_modulo`] may.
 pub fn power_modulo_counted<T: Modular>(a: T, exponent: u128, m: T) -> (T, u32)
@@ -41,8 +41,7 @@ pub fn power_modulo_counted<T: Modular>(a: T, exponent: u128, m: T) -> (T, u32)
     }
 }
 
-/// Returns `a` to the power `exponent` modulo `m`, by at most two products for each binary digit of the
-/// exponent. `power_modulo(3, 4, 7)` is `4`.
+/// Returns `a` to the power `exponent` modulo `m`, by squares. `power_modulo(3, 4, 7)` is `4`.
 ///
 /// May be called where `m` is above 0.
 pub fn power_modulo<T: Modular>(a: T, exponent: u128, m: T) -> T

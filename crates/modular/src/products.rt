@@ -46,7 +46,7 @@ pub fn product_modulo<T: Modular>(a: T, b: T, m: T) -> T
     a.product_modulo(&b, &m)
 }
 
-/// Returns the product of two residues, by one turn for each binary digit of `y` after the first.
+/// Returns the product of two residues, by doubling along the binary digits of `y`.
 pub(crate) fn product_of_residues<T: Integer>(x: T, y: T, m: T) -> T
     requires y_in_range { T.fits (T.value y) }
     requires m_in_range { T.fits (T.value m) }

@@ -20,8 +20,8 @@ fn next_within(c: u128, n: u128, k: u128, most: u128) -> Option<u128>
     if next <= most { Some(next) } else { None }
 }
 
-/// Returns the coefficient of `n` and `k`, or `None` where it is above `most`. The loop makes at most
-/// 128 turns: after `t` turns the coefficient is at least 2 to the power `t`.
+/// Returns the coefficient of `n` and `k`, or `None` where it is above `most`. The loop stops at the
+/// first coefficient that is above `most`.
 #[tactic(auto, using(crate::proofs::Pascal::row_steps))]
 pub(crate) fn coefficient_within(n: u128, k: u128, most: u128) -> Option<u128>
     requires { 0 < most }

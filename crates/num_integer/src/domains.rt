@@ -130,7 +130,7 @@ pub trait Fits: Integer {
 
     /// Returns `true` if `binomial(self, k)` may be called: neither number is negative, and the
     /// coefficient fits. `11u8.binomial_fits(&3)` is `true`, and `11u8.binomial_fits(&4)` is `false`.
-    /// The loop makes at most 128 turns.
+    /// The loop stops at the first coefficient that does not fit.
     fn binomial_fits(&self, k: &Self) -> bool
         requires self_in_range { Self.fits (Self.value self.now) }
         requires k_in_range { Self.fits (Self.value k.now) }
@@ -147,7 +147,7 @@ pub trait Fits: Integer {
 
     /// Returns `true` if `multinomial(counts)` may be called: no count is negative, and the multinomial
     /// fits. `u8::multinomial_fits(&[254, 1])` is `true`, and `u8::multinomial_fits(&[255, 1])` is
-    /// `false`. The loops make one turn for each count, and at most 128 more in all.
+    /// `false`. The loops stop at the first multinomial that does not fit.
     fn multinomial_fits(counts: &[Self]) -> bool
         requires in_range { All (λ x. Self.fits (Self.value x)) counts.now }
         ensures { IsTrue result ↔ (All (λ x. pos 0 ≤ℤ Self.value x) counts.now

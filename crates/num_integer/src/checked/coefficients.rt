@@ -15,7 +15,7 @@ use crate::rows::IterBinomial;
 
 /// Returns [`binomial`](crate::binomial), the binomial coefficient of `n` and `k`, or `None` where a
 /// number is negative or the coefficient does not fit. `binomial(11u8, 3)` is `Some(165)`, and
-/// `binomial(11u8, 4)` is `None`. The loop makes at most 128 turns where the result is `None`.
+/// `binomial(11u8, 4)` is `None`.
 pub fn binomial<T: Fits>(n: T, k: T) -> Option<T>
     requires n_in_range { T.fits (T.value n) }
     requires k_in_range { T.fits (T.value k) }
