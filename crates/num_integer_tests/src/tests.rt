@@ -14,6 +14,7 @@ mod gcd_turns;
 mod multiples;
 mod own_pairs;
 mod own_values;
+mod plain;
 mod residue_ends;
 mod residues;
 mod roots;

@@ -5,6 +5,7 @@ ghost use Rattle.std.specs.Prelude.{IfSome};
 use super::assertions::holds_at;
 use super::call_rows::Holds;
 use super::call_rows::Question::{GcdFits, IsMultipleOf};
+use super::plain;
 use super::types::Type::{I8, I64, I128, Isize, U8, U64};
 use super::types::{Check, Tested, check_at, check_rows, number};
 use num_integer::{ExtendedGcd, Fits, checked, counted};
@@ -39,8 +40,15 @@ impl Check for HasPair {
             y: number::<T>(rt, y),
         };
         let (first, second) = (number::<T>(rt, a), number::<T>(rt, b));
-        let plain = checked::extended_gcd(first, second);
-        holds_at(rt, plain == Some(answer), &("extended_gcd", a, b));
+        let pairs = (
+            checked::extended_gcd(first, second),
+            plain::extended_gcd(first, second),
+        );
+        holds_at(
+            rt,
+            pairs == (Some(answer), Some(answer)),
+            &("extended_gcd", a, b),
+        );
         let counted = extended_gcd_counted(first, second);
         holds_at(
             rt,
@@ -121,15 +129,17 @@ fn operands_with_no_pair(rt: HostRuntime) {
     check_rows(&rt, &rows);
 }
 
-/// The pair of `extended_gcd_lcm`, which answers what `gcd` and `lcm` do.
-fn pair_with_lcm<T: Fits + Signed>(rt: &impl Abort, a: T, b: T) -> ExtendedGcd<T>
+/// The answer of `extended_gcd_lcm`: its divisor is that of `gcd`, and its multiple that of `lcm`.
+fn pair_with_lcm<T: Fits + Signed>(rt: &impl Abort, a: T, b: T) -> (ExtendedGcd<T>, T)
     requires a_in_range { T.fits (T.value a) }
     requires b_in_range { T.fits (T.value b) }
 {
-    let (pair, lcm) = checked::extended_gcd_lcm(a, b).expect(rt, "both fit");
+    let answer = plain::extended_gcd_lcm(a, b);
+    assert!(rt; checked::extended_gcd_lcm(a, b) == answer);
+    let (pair, lcm) = answer.expect(rt, "both fit");
     assert!(rt; checked::gcd(a, b) == Some(pair.gcd));
     assert!(rt; checked::lcm(a, b) == Some(lcm));
-    pair
+    (pair, lcm)
 }
 
 /// The first operand times `x` and the second times `y`, added up.
@@ -141,7 +151,7 @@ fn combined(pair: &ExtendedGcd<i32>, a: i32, b: i32) -> Option<i32> {
 fn test_extended_gcd_lcm(rt: HostRuntime) {
     for a in -128i32..=127 {
         for b in -128i32..=127 {
-            let pair = pair_with_lcm(&rt, a, b);
+            let (pair, _) = pair_with_lcm(&rt, a, b);
             holds_at(
                 &rt,
                 combined(&pair, a, b) == Some(pair.gcd),
@@ -158,5 +168,5 @@ fn extended_gcd_lcm_of_ten_and_four(rt: HostRuntime) {
         x: 1,
         y: -2,
     };
-    assert_eq!(rt; checked::extended_gcd_lcm(10i32, 4), Some((pair, 20)));
+    assert_eq!(rt; pair_with_lcm(&rt, 10i32, 4), (pair, 20));
 }

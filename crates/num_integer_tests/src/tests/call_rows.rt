@@ -1,6 +1,7 @@
 //! Names of the calls, and the rows of tables: a call, its operands and its answer.
 
 use super::assertions::holds_at;
+use super::plain;
 use super::types::{Check, Tested, number, optional};
 use num_integer::{Fits, average_ceil, average_floor, checked};
 use std::process::Abort;
@@ -66,8 +67,24 @@ impl UnaryCall {
 }
 
 impl NumberCall {
-    /// The answer, or `None` outside the domain of the call.
-    pub(crate) fn answer<T: Tested>(self, a: T, b: T) -> Option<T>
+    /// The answer, or `None` outside the domain of the call. Multiples and coefficients are asked of the
+    /// plain call too.
+    pub(crate) fn answer<T: Tested>(self, rt: &impl Abort, a: T, b: T) -> Option<T>
+        requires a_in_range { T.fits (T.value a) }
+        requires b_in_range { T.fits (T.value b) }
+    {
+        let plain = match self {
+            NumberCall::NextMultipleOf => plain::next_multiple_of(a, b),
+            NumberCall::PrevMultipleOf => plain::prev_multiple_of(a, b),
+            NumberCall::Binomial => plain::binomial(a, b),
+            _ => return self.checked(a, b),
+        };
+        holds_at(rt, self.checked(a, b) == plain, &(self, a, b));
+        plain
+    }
+
+    /// The answer of the call of `checked`.
+    fn checked<T: Tested>(self, a: T, b: T) -> Option<T>
         requires a_in_range { T.fits (T.value a) }
         requires b_in_range { T.fits (T.value b) }
     {
@@ -179,7 +196,7 @@ impl Check for Answers {
     fn at<T: Tested>(&self, rt: &impl Abort) {
         let (call, (a, b)) = (self.0, self.1);
         let expected = optional::<T>(rt, self.2);
-        let answer = call.answer(number::<T>(rt, a), number::<T>(rt, b));
+        let answer = call.answer(rt, number::<T>(rt, a), number::<T>(rt, b));
         holds_at(rt, answer == expected, &(call, a, b));
     }
 }

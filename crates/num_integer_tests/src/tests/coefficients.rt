@@ -7,12 +7,13 @@ use super::assertions::holds_at;
 use super::call_rows::NumberCall::Binomial;
 use super::call_rows::Question::BinomialFits;
 use super::call_rows::{Answers, Holds};
+use super::plain;
 use super::types::Type::{I8, I16, I32, I64, U8, U16, U32, U64};
 use super::types::{
     Check, NATIVE, Tested, Type, check_at, check_at_each, check_rows, number, optional,
 };
 use num_integer::counted::binomial_counted;
-use num_integer::{Fits, checked};
+use num_integer::{Fits, IterBinomial, checked};
 use std::alloc::{AllocError, Global};
 use std::process::Abort;
 
@@ -119,9 +120,10 @@ impl Check for Shares<'_> {
     fn at<T: Tested>(&self, rt: &impl Abort) {
         let counts = values::<T>(rt, self.0, self.1).expect(rt, "memory is left");
         let expected = optional::<T>(rt, self.2);
+        let answers = (checked::multinomial(&counts), plain::multinomial(&counts));
         holds_at(
             rt,
-            checked::multinomial(&counts) == expected,
+            answers == (expected, expected),
             &("multinomial", self.1),
         );
     }
@@ -162,23 +164,26 @@ fn multinomials_at_the_ends(rt: HostRuntime) {
     check_rows(&rt, &rows);
 }
 
+/// Whether no item is left, now and from now on.
+fn has_ended<T: Fits>(mut row: IterBinomial<T>) -> bool {
+    row.next().is_none() && row.next().is_none()
+}
+
 /// A number, and its row.
 #[derive(Drop)]
 pub(crate) struct HasItems<'a>(pub(crate) i128, pub(crate) &'a [i128]);
 
 impl Check for HasItems<'_> {
     fn at<T: Tested>(&self, rt: &impl Abort) {
-        let row = checked::row(number::<T>(rt, self.0));
-        let mut row = row.expect(rt, "the row fits");
+        let n = number::<T>(rt, self.0);
+        let mut row = checked::row(n).expect(rt, "the row fits");
+        let mut plain = plain::row(n).expect(rt, "the row fits");
         for item in self.1 {
             let expected = Some(number::<T>(rt, *item));
-            holds_at(rt, row.next() == expected, &("next", self.0));
+            let items = (row.next(), plain.next());
+            holds_at(rt, items == (expected, expected), &("next", self.0));
         }
-        holds_at(
-            rt,
-            row.next().is_none() && row.next().is_none(),
-            &("next", self.0),
-        );
+        holds_at(rt, has_ended(row) && has_ended(plain), &("next", self.0));
     }
 }
 
@@ -201,11 +206,13 @@ impl Check for HasGreatestRow {
     fn at<T: Tested>(&self, rt: &impl Abort) {
         let n = number::<T>(rt, self.0);
         let mut row = checked::row(n).expect(rt, "the greatest row fits");
+        let mut plain = plain::row(n).expect(rt, "the greatest row fits");
         for k in 0..=self.0 {
-            let expected = checked::binomial(n, number::<T>(rt, k));
-            holds_at(rt, row.next() == expected, &("next", k, self.0));
+            let expected = Binomial.answer(rt, n, number::<T>(rt, k));
+            let items = (row.next(), plain.next());
+            holds_at(rt, items == (expected, expected), &("next", k, self.0));
         }
-        holds_at(rt, row.next().is_none(), &("next", self.0));
+        holds_at(rt, has_ended(row) && has_ended(plain), &("next", self.0));
         let above = self.0.wrapping_add(1);
         let next = number::<T>(rt, above);
         let middle = checked::binomial(next, number::<T>(rt, above / 2));
@@ -263,14 +270,16 @@ fn domains_of_binomial(rt: HostRuntime) {
 
 #[test]
 fn domains_of_multinomial(rt: HostRuntime) {
-    let rows: [(&[u8], bool); 7] = [
+    let rows: [(&[u8], bool); 9] = [
         (&[], true),
         (&[255], true),
         (&[255, 0], true),
         (&[254, 1], true),
         (&[3, 2, 2], true),
+        (&[1, 1, 1, 1, 1], true),
         (&[255, 1], false),
         (&[2, 2, 2, 1], false),
+        (&[1, 1, 1, 1, 1, 1], false),
     ];
     for (counts, fits) in rows {
         holds_at(

@@ -67,7 +67,7 @@ pub(super) fn has_quotients<T: Tested>(rt: &impl Abort, n: SignedMagnitude, d: S
         (PrevMultipleOf, multiple(floored, d)),
     ] {
         let expected = optional_value::<T>(expected);
-        holds_at(rt, call.answer(x, y) == expected, &(call, n, d));
+        holds_at(rt, call.answer(rt, x, y) == expected, &(call, n, d));
     }
     let truncated = truncated(n, d);
     let over = left(n, truncated, d);
@@ -111,7 +111,11 @@ pub(super) fn has_divisors<T: Tested>(
     has_free_divisors(rt, x, y);
     let gcd = T::from_signed_magnitude((false, divisor));
     let lcm = optional_value::<T>(least_multiple(a.1, b.1, divisor).map(|it| (false, it)));
-    let answers = (Gcd.answer(x, y), Lcm.answer(x, y), GcdLcm.answers(x, y));
+    let answers = (
+        Gcd.answer(rt, x, y),
+        Lcm.answer(rt, x, y),
+        GcdLcm.answers(x, y),
+    );
     holds_at(rt, answers == (gcd, lcm, gcd.zip(lcm)), &("gcd_lcm", a, b));
 }
 

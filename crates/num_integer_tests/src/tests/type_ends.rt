@@ -12,6 +12,7 @@ use super::call_rows::UnaryCall::{Dec, Inc, Negated};
 use super::coefficients::{HasItems, counted};
 use super::exhaustive::{has_divisors, has_quotients};
 use super::gcd_turns::{counted_turns, has_turns};
+use super::plain;
 use super::roots::{check_root, has_no_root, square_root_counted};
 use super::signed_magnitude::{
     SignedMagnitude, euclidean_gcd, is_multiple, opposite, product, signed_magnitude, sum, to_i128,
@@ -111,7 +112,7 @@ fn has_sums<T: Tested>(rt: &impl Abort, a: SignedMagnitude, b: SignedMagnitude) 
         (Product, product(a, b)),
     ] {
         let expected = optional_value::<T>(expected);
-        holds_at(rt, call.answer(x, y) == expected, &(call, a, b));
+        holds_at(rt, call.answer(rt, x, y) == expected, &(call, a, b));
     }
 }
 
@@ -156,7 +157,7 @@ fn has_coefficient<T: Tested>(rt: &impl Abort, a: SignedMagnitude, b: SignedMagn
     let counted_answer = answer.zip(expected.map(|(_, turns)| turns));
     holds_at(
         rt,
-        (Binomial.answer(x, y), counted(x, y)) == (answer, counted_answer),
+        (Binomial.answer(rt, x, y), counted(x, y)) == (answer, counted_answer),
         &("binomial", a, b),
     );
 }
@@ -208,9 +209,10 @@ fn has_pair<T: Tested>(rt: &impl Abort, a: SignedMagnitude, b: SignedMagnitude) 
         );
         return;
     };
+    let pairs = (checked::extended_gcd(x, y), plain::extended_gcd(x, y));
     holds_at(
         rt,
-        domain && checked::extended_gcd(x, y) == Some(pair),
+        domain && pairs == (Some(pair), Some(pair)),
         &("extended_gcd", a, b),
     );
     let (x, y) = (pair.x.parts(), pair.y.parts());
@@ -309,8 +311,8 @@ impl Check for SharesAtEnds {
                         Some(total) if !a.0 && !b.0 => expected_number::<T>(coefficient(total, b)),
                         _ => None,
                     };
-                    let multinomial = checked::multinomial(&counts);
-                    holds_at(rt, multinomial == expected, &("multinomial", a, b));
+                    let answers = (checked::multinomial(&counts), plain::multinomial(&counts));
+                    holds_at(rt, answers == (expected, expected), &("multinomial", a, b));
                 }
             }
         }
@@ -445,11 +447,11 @@ pub(super) fn has_pair_and_multiple<T: Signed + Tested>(
 ) {
     let (x, y) = (value::<T>(rt, a), value::<T>(rt, b));
     let each = checked::extended_gcd(x, y).zip(checked::lcm(x, y));
-    holds_at(
-        rt,
-        checked::extended_gcd_lcm(x, y) == each,
-        &("extended_gcd_lcm", a, b),
+    let both = (
+        checked::extended_gcd_lcm(x, y),
+        plain::extended_gcd_lcm(x, y),
     );
+    holds_at(rt, both == (each, each), &("extended_gcd_lcm", a, b));
 }
 
 impl SignedCheck for Ends {
