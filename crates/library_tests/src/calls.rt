@@ -6,6 +6,7 @@ mod plain;
 mod powers;
 mod ranking;
 mod rolling_hash;
+mod rows;
 mod schedules;
 mod search;
 

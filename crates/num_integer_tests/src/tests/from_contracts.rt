@@ -271,14 +271,18 @@ fn none_for_good<T: Integer>(rest: &mut IterBinomial<T>) -> (Option<T>, Option<T
     (rest.next(), rest.next())
 }
 
-/// Whether the next item is even: it is a number of the type, whoever made the row.
-fn next_is_even<T: Integer>(rest: &mut IterBinomial<T>) -> Option<bool> {
+/// Whether the next item is even.
+fn next_is_even<T: Integer>(rest: &mut IterBinomial<T>) -> Option<bool>
+    requires { All T.fits rest.old }
+{
     let item = rest.next()?;
     Some(item.is_even())
 }
 
 /// Whether what is left of a row is odd throughout.
-fn are_odd<T: Integer>(rest: IterBinomial<T>) -> bool {
+fn are_odd<T: Integer>(rest: IterBinomial<T>) -> bool
+    requires { All T.fits rest }
+{
     for item in rest {
         if item.is_even() {
             return false;

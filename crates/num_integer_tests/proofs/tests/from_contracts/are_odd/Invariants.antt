@@ -1,8 +1,0 @@
-use Rattle.std.specs.Prelude.{length, ⊤}
-use Rattle.num_integer_tests.proofs.tests.from_contracts.are_odd.Given as goal
-
-abbrev pub invariant-loop-item : goal.invariant-loop-item
-invariant-loop-item g l = ⊤
-
-abbrev pub decreases-loop-item : goal.decreases-loop-item
-decreases-loop-item g l = length l.item-iterator
