@@ -14,8 +14,9 @@ use crate::line::Line;
 use crate::number::read_number;
 use crate::run::{line_for, run};
 use crate::sink::Console;
+use std::alloc::{AllocGlobal, Global};
 use std::process::Abort;
-use tape::{ROOM, Tape};
+use tape::Tape;
 
 /// A list of words has exactly one line and one status.
 fn only_line(words: &[&str]) -> (Line, u8)
@@ -27,16 +28,20 @@ fn only_line(words: &[&str]) -> (Line, u8)
 }
 
 // Whether the words give this line and this status, written at once and byte by byte.
-fn prints(words: &[&str], line: &str, status: u8) -> bool {
-    [ROOM, 1].into_iter().all(|most| {
-        let mut out = Console::new(Tape::new(most, None));
+fn prints(alloc: Global, words: &[&str], line: &str, status: u8) -> bool {
+    [usize::MAX, 1].into_iter().all(|most| {
+        let mut out = Console::new(Tape {
+            text: Vec::new(alloc),
+            most,
+            fault: None,
+        });
         let answered = run(words, &mut out);
-        answered == status && is_line(out.into_inner().as_bytes(), line)
+        answered == status && is_line(&out.into_inner().text, line)
     })
 }
 
-fn assert_prints(rt: &impl Abort, words: &[&str], line: &str, status: u8) {
-    assert!(rt; prints(words, line, status), "at {words:?}");
+fn assert_prints(rt: &(impl Abort + AllocGlobal), words: &[&str], line: &str, status: u8) {
+    assert!(rt; prints(rt.alloc(), words, line, status), "at {words:?}");
 }
 
 fn is_line(bytes: &[u8], line: &str) -> bool {

@@ -1,8 +1,9 @@
 //! Over a writer that fails, the status is 4, and the sink has failed for good.
 
-use super::tape::{Fault, ROOM, Tape};
+use super::tape::{Fault, Tape};
 use crate::run::run;
 use crate::sink::{Console, Sink};
+use std::alloc::AllocGlobal;
 use std::io::ErrorKind;
 use std::process::Abort;
 
@@ -35,20 +36,24 @@ const ROWS: [Row; 3] = [
 impl Row {
     /// How many bytes a writer takes that takes the line at once, in two parts, and byte by byte.
     fn parts(&self) -> [usize; 3] {
-        [ROOM, self.line.len().div_ceil(2), 1]
+        [self.line.len(), self.line.len().div_ceil(2), 1]
     }
 
     /// Asserts that the status is 4 at the fault, that the writer has the first `len` bytes of the
     /// line, and that nothing is written or flushed from then on.
-    fn fails(&self, rt: &impl Abort, most: usize, fault: Fault, len: usize) {
-        let mut out = Console::new(Tape::new(most, Some(fault)));
+    fn fails(&self, rt: &(impl Abort + AllocGlobal), most: usize, fault: Fault, len: usize) {
+        let mut out = Console::new(Tape {
+            text: Vec::new(rt.alloc()),
+            most,
+            fault: Some(fault),
+        });
         let status = run(self.words, &mut out);
         assert_eq!(rt; status, 4, "{} by {most} at {fault:?}", self.line);
         assert!(rt; out.put(b"").is_none() && out.put(b"more").is_none() && !out.finish());
         let tape = out.into_inner();
         let first = self.line.as_bytes().get(..len);
         assert_eq!(rt;
-            Some(tape.as_bytes()),
+            Some(tape.text.as_slice()),
             first,
             "{} by {most} at {fault:?}",
             self.line
@@ -60,7 +65,11 @@ impl Row {
 fn whole_lines(rt: HostRuntime) {
     for row in &ROWS {
         for most in row.parts() {
-            let mut out = Console::new(Tape::new(most, None));
+            let mut out = Console::new(Tape {
+                text: Vec::new(rt.alloc()),
+                most,
+                fault: None,
+            });
             assert_eq!(rt;
                 run(row.words, &mut out),
                 row.status,
@@ -68,7 +77,7 @@ fn whole_lines(rt: HostRuntime) {
                 row.line
             );
             assert!(rt; out.finish() && out.put(b"") == Some(0));
-            assert_eq!(rt; out.into_inner().as_bytes(), row.line.as_bytes());
+            assert_eq!(rt; out.into_inner().text.as_slice(), row.line.as_bytes());
         }
     }
 }
@@ -81,9 +90,9 @@ fn failing_writes(rt: HostRuntime) {
             for writes in 0..row.line.len() {
                 let len = most.saturating_mul(writes);
                 if len < row.line.len() {
-                    row.fails(&rt, most, Fault::Write(writes, ErrorKind::Other), len);
-                    row.fails(&rt, most, Fault::Write(writes, ErrorKind::Interrupted), len);
-                    row.fails(&rt, most, Fault::NoByte(writes), len);
+                    for kind in [Some(ErrorKind::Other), Some(ErrorKind::Interrupted), None] {
+                        row.fails(&rt, most, Fault::Write(len, kind), len);
+                    }
                 }
             }
         }

@@ -11,7 +11,7 @@ type Row = (&'static str, &'static str, u8);
 fn holds(alloc: Global, row: Row) -> bool {
     let (words, line, status) = row;
     match words.split(' ').collect::<Vec<&str>>(alloc) {
-        Ok(words) => prints(&words, line, status),
+        Ok(words) => prints(alloc, &words, line, status),
         Err(_) => false,
     }
 }
