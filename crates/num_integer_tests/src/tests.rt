@@ -16,6 +16,7 @@ mod own_pairs;
 mod own_values;
 mod plain;
 mod residue_ends;
+mod residue_powers;
 mod residues;
 mod roots;
 mod signed_magnitude;
