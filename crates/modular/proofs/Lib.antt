@@ -1,8 +1,11 @@
 pub mod Congruences
 pub mod BelowModulus
 pub mod DoublingTurns
-pub mod WideProducts
 pub mod PowerTurns
+pub mod WideProducts
+pub mod WordInverses
+pub mod WordProducts
+pub mod SplitModuli
 pub mod EuclidRows
 pub mod LinearCongruences
 pub mod LongDivision

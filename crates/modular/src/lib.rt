@@ -5,11 +5,16 @@ mod common_solutions;
 pub mod counted;
 mod inverses;
 mod long_products;
+mod montgomery;
 mod native;
 mod powers;
 mod products;
+mod representatives;
 mod residue_classes;
 mod residues;
+mod wide_powers;
+mod wide_products;
+mod word_powers;
 
 pub use common_solutions::{CommonSolution, next_common_solution};
 pub use inverses::{inverse_modulo, quotient_modulo};

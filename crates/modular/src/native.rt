@@ -1,34 +1,43 @@
 //! `Modular` for the twelve native types.
 
-ghost use Rattle.std.specs.Prelude.{◌≡◌, ◌*ℤ◌, pos, unsigned_abs};
-ghost use Rattle.modular.specs.Congruences.{IsResidue};
-ghost use Rattle.modular.specs.Below.{LiesBelow};
+ghost use Rattle.std.specs.Prelude.{◌≡◌, ◌≤ℤ◌, ◌<ℤ◌, pos, unsigned_abs};
+ghost use Rattle.modular.specs.Congruences.{AreCongruent};
 
-use crate::long_products::long_product;
 use crate::products::Modular;
 use crate::residues::residue;
+use crate::wide_powers::power_of_wide;
+use crate::wide_products::product_of_wide;
 use num_integer::NativeInteger;
+use num_integer::operators::is_negative;
 use num_traits::{ToPrimitive, cast};
 
 impl<T: NativeInteger> Modular for T {
     fn product_modulo(&self, other: &T, modulus: &T) -> T {
-        let x = wide(residue(*self, *modulus));
-        let y = wide(residue(*other, *modulus));
+        let x = wide(from_zero(*self, *modulus));
+        let y = wide(from_zero(*other, *modulus));
         narrow(product_of_wide(x, y, wide(*modulus)))
+    }
+
+    fn power_modulo_counted(&self, exponent: u128, modulus: &T) -> (T, u32) {
+        let (power, turns) = power_of_wide(
+            wide(residue(*self, *modulus)),
+            exponent,
+            wide(*modulus),
+        );
+        (narrow(power), turns)
     }
 }
 
-/// Returns the product of two residues. Where the modulus is at most 2^64, their product fits.
-fn product_of_wide(x: u128, y: u128, m: u128) -> u128
-    requires x_below { LiesBelow (pos m) (pos x) }
-    requires y_below { LiesBelow (pos m) (pos y) }
-    ensures { IsResidue (pos m) (pos x *ℤ pos y) (pos result) }
+/// Returns `a`, or its residue where it is negative.
+fn from_zero<T: NativeInteger>(a: T, m: T) -> T
+    requires a_in_range { T.fits (T.value a) }
+    requires m_in_range { T.fits (T.value m) }
+    requires positive { pos 0 <ℤ T.value m }
+    ensures in_range { T.fits (T.value result) }
+    ensures from_zero { pos 0 ≤ℤ T.value result }
+    ensures congruent { AreCongruent (T.value m) (T.value a) (T.value result) }
 {
-    if m <= 1 << 64 {
-        x * y % m
-    } else {
-        long_product(x, y, m)
-    }
+    if is_negative(a) { residue(a, m) } else { a }
 }
 
 /// Returns the magnitude, as a number of 128 bits.

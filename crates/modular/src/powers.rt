@@ -5,12 +5,9 @@ ghost use Rattle.std.specs.Int.{int_pow};
 ghost use Rattle.modular.specs.Congruences.{IsResidue};
 
 use crate::products::Modular;
-use crate::residues::residue;
-use num_integer::operators::one;
 
-/// Returns [`power_modulo`] and the number of turns of its loop, which is the binary logarithm of an
-/// exponent above 0, rounded down. `power_modulo_counted(3, 4, 7)` is `(4, 2)`, and
-/// `power_modulo_counted(3, 0, 7)` is `(1, 0)`.
+/// Returns [`power_modulo`] and the number of turns of its loop, by [`Modular::power_modulo_counted`].
+/// `power_modulo_counted(3, 4, 7)` is `(4, 2)`, and `power_modulo_counted(3, 0, 7)` is `(1, 0)`.
 ///
 /// May be called where [`power_modulo`] may.
 pub fn power_modulo_counted<T: Modular>(a: T, exponent: u128, m: T) -> (T, u32)
@@ -22,23 +19,7 @@ pub fn power_modulo_counted<T: Modular>(a: T, exponent: u128, m: T) -> (T, u32)
     ensures no_turn { exponent ≡ 0 → result.1 ≡ 0 }
     ensures turns { exponent ≢ 0 → (2 ^ result.1 ≤ exponent) × (exponent < 2 ^ (result.1 + 1)) }
 {
-    let mut power = residue(one(), m);
-    let mut base = residue(a, m);
-    let mut rest = exponent;
-    let mut turns = 0;
-    'halvings: while rest > 1 {
-        if rest % 2 == 1 {
-            power = power.product_modulo(&base, &m);
-        }
-        base = base.product_modulo(&base, &m);
-        rest /= 2;
-        turns += 1;
-    }
-    if rest == 0 {
-        (power, turns)
-    } else {
-        (power.product_modulo(&base, &m), turns)
-    }
+    a.power_modulo_counted(exponent, &m)
 }
 
 /// Returns `a` to the power `exponent` modulo `m`, by squares. `power_modulo(3, 4, 7)` is `4`.

@@ -1,15 +1,17 @@
 //! Products of residues, where no product has to fit.
 
-ghost use Rattle.std.specs.Prelude.{◌<ℤ◌, ◌*ℤ◌, pos};
+ghost use Rattle.std.specs.Prelude.{◌≡◌, ◌≢◌, ◌+◌, ◌^◌, ◌<◌, ◌≤◌, ◌<ℤ◌, ◌*ℤ◌, pos};
+ghost use Rattle.std.specs.Int.{int_pow};
 ghost use Rattle.modular.specs.Congruences.{IsResidue};
 ghost use Rattle.modular.specs.Below.{LiesBelow};
 
+use crate::representatives::{Residues, power_counted};
 use crate::residues::{residue, sum_of_residues};
 use num_integer::Integer;
 use num_integer::operators::{is_below, is_zero, one, successor, zero};
 
-/// Products modulo a number above 0. An empty implementation gives them to your own type: its default
-/// body doubles and adds.
+/// Products and powers modulo a number above 0. An empty implementation gives them to your own type: its
+/// default bodies double and add, and square and multiply.
 pub trait Modular: Integer {
     /// Returns `self * other` modulo `modulus`. The product need not fit the type.
     /// `4.product_modulo(&5, &7)` is `6`.
@@ -29,6 +31,36 @@ pub trait Modular: Integer {
             residue(*other, *modulus),
             *modulus,
         )
+    }
+
+    /// Returns `self` to the power `exponent` modulo `modulus`, and the number of turns of its loop. At an
+    /// exponent above 0 the turns are its binary logarithm, rounded down.
+    /// `3.power_modulo_counted(4, &7)` is `(4, 2)`, and `3.power_modulo_counted(0, &7)` is `(1, 0)`.
+    ///
+    /// May be called where `modulus` is above 0.
+    fn power_modulo_counted(&self, exponent: u128, modulus: &Self) -> (Self, u32)
+        requires self_in_range { Self.fits (Self.value self.now) }
+        requires modulus_in_range { Self.fits (Self.value modulus.now) }
+        requires positive { pos 0 <ℤ Self.value modulus.now }
+        ensures in_range { Self.fits (Self.value result.0) }
+        ensures residue { IsResidue (Self.value modulus.now)
+            (int_pow (Self.value self.now) exponent) (Self.value result.0) }
+        ensures no_turn { exponent ≡ 0 → result.1 ≡ 0 }
+        ensures turns { exponent ≢ 0
+            → (2 ^ result.1 ≤ exponent) × (exponent < 2 ^ (result.1 + 1)) }
+    {
+        let m = *modulus;
+        let product = move |x: Self, y: Self| -> Self
+            requires in_range { Self.fits (Self.value m) }
+            requires x_below { LiesBelow (Self.value m) (Self.value x) }
+            requires y_below { LiesBelow (Self.value m) (Self.value y) }
+            ensures { IsResidue (Self.value m) (Self.value x *ℤ Self.value y) (Self.value result) }
+        { x.product_modulo(&y, &m) };
+        let residues = Residues {
+            modulus: m,
+            product,
+        };
+        power_counted(&residues, residue(one(), m), residue(*self, m), exponent)
     }
 }
 

@@ -22,6 +22,7 @@ use Rattle.num_integer.specs.Parts.{signed}
 pub use Rattle.integer_core.proofs.CommonDivisors.{gcd-nonzero, gcd-positive, gcd-times, only_gcd, only_lcm}
 pub use Rattle.integer_core.proofs.Divisibility.{Divides-antisym, Divides-cancel, Divides-refl, Divides-sum, Divides-times, Divides-trans, Divides-zero, cancel, exact_quotient, zero_divides}
 pub use Rattle.integer_core.proofs.GcdDomain.{gcd_fits_is}
+pub use Rattle.integer_core.proofs.OddParts.{shift_back}
 pub use Rattle.integer_core.proofs.Quotients.{only_floored, other_quotient_fits, remainder_within, truncated_is, zero_or_not}
 pub use Rattle.integer_core.proofs.Ranges.{within_fits}
 pub use Rattle.integer_core.proofs.Signs.{from_not_less}

@@ -1,0 +1,117 @@
+-- Numbers modulo an odd number and modulo a power of two, joined to numbers modulo the product of the two.
+use Rattle.std.specs.Prelude.{◌≡◌, ◌+◌, ◌-◌, ◌*◌, ◌/◌, ◌%◌, ◌^◌, ◌<◌, ◌≤◌, ◌+ℤ◌, ◌-ℤ◌, ◌*ℤ◌, ℤ, ℕ, pos}
+use Rattle.std.specs.Int.{int_pow, trailing_zeros, w64}
+use Rattle.std.proofs.Common.{arith, ap, inl, inr, subst}
+use Rattle.std.proofs.Math.Nat.{mul-le-mul_left, mul-le-mul_right, pow-le-pow_right}
+use Rattle.std.proofs.lemmas.Bool.{cases_lt}
+use Rattle.std.proofs.lemmas.Int.{ints}
+use Rattle.std.proofs.lemmas.Nat.{mod_below, pow_pos}
+use Rattle.std.proofs.lemmas.Nat.Bits.{bit_at-trailing_zeros}
+use Rattle.num_integer.specs.Divisors.{Divides}
+use Rattle.num_integer.proofs.ForCallers.{Divides-times, expand, linear, products, shift_back}
+use Rattle.modular.specs.Congruences.{AreCongruent, IsResidue}
+use Rattle.modular.specs.Words.{joined, represented}
+use Rattle.modular.proofs.Congruences.{congruent-divisor, congruent-product, congruent-refl, congruent-sum, congruent-sym, congruent-trans, residue_of_congruent}
+use Rattle.modular.proofs.PowerTurns.{congruent-power}
+use Rattle.modular.proofs.WideProducts.{congruent-rest, natural_residue, wrapped_difference}
+use Rattle.modular.proofs.WordInverses.{inverse_congruent, low_divides}
+
+-- ---- the odd part of a modulus, and its factors 2
+
+pub odd_part : (n : ℕ) → 0 < n → n < 2 ^ 64 → n / 2 ^ trailing_zeros w64 n % 2 ≡ 1
+odd_part n up fits = (bit_at-trailing_zeros w64 n up fits).1
+
+pub parts_product : (n : ℕ) → n / 2 ^ trailing_zeros w64 n * 2 ^ trailing_zeros w64 n ≡ n
+parts_product n = shift_back 64 n
+
+pub few_twos : (m k : ℕ) → 0 < m → m * 2 ^ k < 2 ^ 64 → k < 64
+few_twos m k up fits = elim (cases_lt k 64) [
+  | inl few ↦ few
+  | inr many ↦ absurd (omega (arith, pow-le-pow_right {n = 2} (omega arith) many, mul-le-mul_right {m = 1} {n = m} (2 ^ k) up))
+]
+
+-- ---- congruences modulo both
+
+both_at : (m i w c u v z : ℤ) → m *ℤ i -ℤ pos 1 ≡ w *ℤ c → z ≡ m *ℤ u → z ≡ w *ℤ v → z ≡ (m *ℤ w) *ℤ (i *ℤ v -ℤ c *ℤ u)
+both_at m i w c u v z unit left right =
+    let whole = simp expand at (ap (λ (t : ℤ). z *ℤ t) unit) in
+    let first = simp expand at (ap (λ (t : ℤ). t *ℤ (m *ℤ i)) right) in
+    let second = simp expand at (ap (λ (t : ℤ). t *ℤ (w *ℤ c)) left) in
+    simp expand (omega (arith, products))
+
+-- where m has an inverse modulo w, numbers congruent modulo both are congruent modulo the product
+congruent-both : {m w x y : ℤ} (i : ℤ) → AreCongruent w (m *ℤ i) (pos 1) → AreCongruent m x y → AreCongruent w x y → AreCongruent (m *ℤ w) x y
+congruent-both {m} {w} {x} {y} i unit h k = record { divides = record { factor = _; product = both_at m i w _ _ _ (x -ℤ y) unit.divides.product h.divides.product k.divides.product } }
+
+odd_turn : (m i r y : ℤ) → (r +ℤ (m *ℤ i) *ℤ (y -ℤ r)) -ℤ r ≡ m *ℤ (i *ℤ (y -ℤ r))
+odd_turn m i r y = simp expand (omega (arith, linear))
+
+low_turn : (p r y : ℤ) {w : ℤ} → AreCongruent w p (pos 1) → AreCongruent w (r +ℤ p *ℤ (y -ℤ r)) y
+low_turn p r y {w} unit =
+    let whole : r +ℤ pos 1 *ℤ (y -ℤ r) ≡ y = omega (arith, products) in
+    subst (λ (t : ℤ). AreCongruent w (r +ℤ p *ℤ (y -ℤ r)) t) whole (congruent-sum (congruent-refl r) (congruent-product unit (congruent-refl (y -ℤ r))))
+
+-- the quotient that brings the residue r modulo m to y modulo a divisor d of the word w
+quotient_low : (m i r y : ℕ) {d w : ℕ} → 0 < d → 0 < w → r ≤ w → Divides (pos d) (pos w) → AreCongruent (pos w) (pos m *ℤ pos i) (pos 1)
+    → AreCongruent (pos d) (pos r +ℤ pos m *ℤ pos ((y + (w - r)) % w * i % w % d)) (pos y)
+quotient_low m i r y {d} {w} d_up w_up small divides unit =
+    let gap = congruent-rest (y + (w - r)) w (pos y -ℤ pos r) w_up (wrapped_difference y small) in
+    let product = congruent-rest ((y + (w - r)) % w * i) w ((pos y -ℤ pos r) *ℤ pos i) w_up (congruent-product gap (congruent-refl (pos i))) in
+    let quotient = congruent-rest ((y + (w - r)) % w * i % w) d ((pos y -ℤ pos r) *ℤ pos i) d_up (congruent-divisor divides product) in
+    let turn : pos m *ℤ ((pos y -ℤ pos r) *ℤ pos i) ≡ (pos m *ℤ pos i) *ℤ (pos y -ℤ pos r) = simp expand in
+    let sum = congruent-sum (congruent-refl (pos r)) (congruent-product (congruent-refl (pos m)) quotient) in
+    congruent-trans (rw turn at sum) (congruent-divisor divides (low_turn (pos m *ℤ pos i) (pos r) (pos y) unit))
+
+-- ---- joined numbers, where i is the inverse of m
+
+module _ (m i : ℕ) (inverse : m * i % 2 ^ 64 ≡ 1) where
+  unit : AreCongruent (pos (2 ^ 64)) (pos m *ℤ pos i) (pos 1)
+  unit = inverse_congruent m i (omega arith) inverse
+
+  joined_odd : (x y : ℕ) → AreCongruent (pos m) (joined m i x y) (represented m i x)
+  joined_odd x y = record { divides = record { factor = pos i *ℤ (pos y -ℤ represented m i x); product = odd_turn (pos m) (pos i) (represented m i x) (pos y) } }
+
+  joined_low : (x y : ℕ) → AreCongruent (pos (2 ^ 64)) (joined m i x y) (pos y)
+  joined_low x y = low_turn (pos m *ℤ pos i) (represented m i x) (pos y) unit
+
+  -- a number that stands for z by its odd part, and has its low bits
+  pub joined_is : (x y : ℕ) {z : ℤ} → AreCongruent (pos m) z (represented m i x) → AreCongruent (pos (2 ^ 64)) z (pos y) → AreCongruent (pos (m * 2 ^ 64)) z (joined m i x y)
+  joined_is x y odd low = congruent-both (pos i) unit (congruent-trans odd (congruent-sym (joined_odd x y))) (congruent-trans low (congruent-sym (joined_low x y)))
+
+  -- the product of two
+  pub joined_product : (x y u v r : ℕ) → AreCongruent (pos m) (represented m i x *ℤ represented m i u) (represented m i r)
+      → AreCongruent (pos (m * 2 ^ 64)) (joined m i x y *ℤ joined m i u v) (joined m i r (y * v % 2 ^ 64))
+  joined_product x y u v r h =
+      joined_is r (y * v % 2 ^ 64) (congruent-trans (congruent-product (joined_odd x y) (joined_odd u v)) h)
+      (congruent-trans (congruent-product (joined_low x y) (joined_low u v)) (natural_residue (y * v) (2 ^ 64) (omega arith)).congruent)
+
+  -- its residue modulo m times a power of two
+  joined_residue : (x y k r q : ℕ) → k ≤ 64 → q < 2 ^ k → IsResidue (pos m) (represented m i x) (pos r) → AreCongruent (pos (2 ^ k)) (pos r +ℤ pos m *ℤ pos q) (pos y)
+      → IsResidue (pos (m * 2 ^ k)) (joined m i x y) (pos (r + m * q))
+  joined_residue x y k r q few small h low =
+      let below = h.below in
+      let most = mul-le-mul_left m small in
+      let odd : AreCongruent (pos m) (pos r) (pos r +ℤ pos m *ℤ pos q) = congruent-sym (record { divides = record { factor = pos q; product = omega (arith, linear) } }) in
+      record {
+        from_zero = omega (arith, ints);
+        below = omega (arith, ints);
+        congruent = congruent-both (pos i) (congruent-divisor (low_divides k few) unit) (congruent-trans (joined_odd x y) (congruent-trans h.congruent odd))
+            (congruent-trans (congruent-divisor (low_divides k few) (joined_low x y)) (congruent-sym low));
+      }
+
+  pub residue_joined : (x y k r : ℕ) → r < m → m * 2 ^ k < 2 ^ 64 → IsResidue (pos m) (represented m i x) (pos r)
+      → IsResidue (pos (m * 2 ^ k)) (joined m i x y) (pos (r + m * ((y + (2 ^ 64 - r)) % 2 ^ 64 * i % 2 ^ 64 % (1 * 2 ^ k % 2 ^ 64))))
+  residue_joined x y k r below fits h =
+      let few = few_twos m k (omega arith) fits in
+      let up = pow_pos k in
+      let power_fits : 2 ^ k < 2 ^ 64 = omega (arith, mul-le-mul_right {m = 1} {n = m} (2 ^ k) (omega arith)) in
+      let power : 1 * 2 ^ k % 2 ^ 64 ≡ 2 ^ k = omega arith in
+      let small : r ≤ 2 ^ 64 = omega (arith, mul-le-mul_left m up) in
+      rw power (joined_residue x y k r _ (omega arith) (mod_below _ (2 ^ k) up) h (quotient_low m i r y up (omega arith) small (low_divides k (omega arith)) unit))
+
+  -- the residue of a power, where x stands for the base
+  pub power_residue : (a e k : ℕ) {n r : ℕ} {base power : ℤ} → m * 2 ^ k ≡ n → k ≤ 64 → AreCongruent (pos (m * 2 ^ 64)) (pos a) base → AreCongruent (pos (m * 2 ^ 64)) (int_pow base e) power
+      → IsResidue (pos (m * 2 ^ k)) power (pos r) → IsResidue (pos n) (int_pow (pos a) e) (pos r)
+  power_residue a e k {n} {r} {base} {power} n_is few at_base at_power h =
+      let near = congruent-divisor (Divides-times (pos m) (low_divides k few)) (congruent-trans (congruent-power e at_base) at_power) in
+      subst (λ (t : ℕ). IsResidue (pos t) (int_pow (pos a) e) (pos r)) n_is (residue_of_congruent near h)

@@ -1,0 +1,13 @@
+use Rattle.modular.proofs.Congruences.{residue_fits}
+use Rattle.modular.proofs.WideProducts.{power_of_magnitudes}
+use Rattle.modular.proofs.native.AnyModular.power_modulo_counted.Goals as goal
+
+pub narrow-requires : goal.narrow-requires
+narrow-requires g c =
+    residue_fits g.met.T.Native.native_law.range c.requires.modulus_in_range
+    (power_of_magnitudes c.wide.result c.args.exponent c.requires.positive c.residue.ensures.residue c.wide-2.ensures c.wide.ensures c.power_of_wide-power.ensures.residue)
+
+pub returns-clause-residue : goal.returns-clause-residue
+returns-clause-residue g c =
+    rw c.narrow.ensures.value
+    (power_of_magnitudes c.wide.result c.args.exponent c.requires.positive c.residue.ensures.residue c.wide-2.ensures c.wide.ensures c.power_of_wide-power.ensures.residue)
