@@ -1,15 +1,16 @@
 -- Rows: from one coefficient to the next, and what is left of a row.
 use Rattle.std.specs.List.{All}
-use Rattle.std.specs.Prelude.{◌≤ℤ◌, ◌<ℤ◌, ◌+ℤ◌, ◌-ℤ◌, ◌*ℤ◌, ℤ, pos, negsuc, unsigned_abs, ◌≢◌, int_div, ◌≡◌, ◌+◌, ◌-◌, ◌/◌, ◌<◌, ◌≤◌, ℕ, suc, List, [], ◌∷◌, length, drop, get_or, reverse}
+use Rattle.std.specs.Prelude.{◌≤ℤ◌, ◌<ℤ◌, ◌+ℤ◌, ◌-ℤ◌, ◌*ℤ◌, ℤ, pos, negsuc, unsigned_abs, ◌≢◌, int_div, int_rem, ◌≡◌, ◌+◌, ◌-◌, ◌/◌, ◌<◌, ◌≤◌, ℕ, suc, List, [], ◌∷◌, length, drop, get_or, reverse}
 use Rattle.std.proofs.Common.{refl, sym, ◌*◌, ap, ◌∙◌, arith, min}
 use Rattle.std.proofs.lemmas.Int.{ints}
 use Rattle.std.proofs.lemmas.List.{at_drop_more, drop_all, get_or-reverse, length-reverse}
 use Rattle.std.proofs.lemmas.List.Elements.{All-from_get_or, All-nil}
 use Rattle.std.proofs.lemmas.List.FromFn.{fill_by_all, get_or-map-range_with_len, length-map-range_with_len}
 use borrow.Author.Differences.{abs_is}
-use Rattle.integer_core.proofs.CommonDivisors.{gcd-nonzero, gcd-positive, gcd-times}
+use Rattle.integer_core.proofs.CommonDivisors.{gcd-nonzero, gcd-positive, gcd-remainder, gcd-swap, gcd-times}
 use Rattle.integer_core.proofs.Divisibility.{cancel, Divides-cancel, exact_quotient}
 use Rattle.integer_core.proofs.EuclidTurns.{divisor_size}
+use Rattle.integer_core.proofs.Quotients.{truncated_is}
 use Rattle.integer_core.proofs.Whole.{comm, expand, linear, products}
 use Rattle.integer_core.specs.Divisors.{Divides, IsGreatestCommonDivisor}
 use Rattle.integer_core.specs.Range.{IsRange}
@@ -65,6 +66,10 @@ mirror_of = from_naturals (λ n k. coefficient_of n k ≡ coefficient_of n (n -�
 
 regrouped : (r a b g q s t : ℤ) → r ≡ g *ℤ q → b ≡ g *ℤ s → a ≡ s *ℤ t → q *ℤ t *ℤ b ≡ r *ℤ a
 regrouped r a b g q s t e f h = rw (e, f, h) (simp expand)
+
+-- that divisor, of the remainder of `%` and of b
+pub through_remainder : {r b g rest : ℤ} → pos 0 <ℤ b → rest ≡ int_rem r b → IsGreatestCommonDivisor rest b g → IsGreatestCommonDivisor r b g
+through_remainder {r} {b} b_above is greatest = gcd-remainder (truncated_is r b (λ e. omega (arith, linear))).division (gcd-swap (rw is at greatest))
 
 module _ {r b g : ℤ} (b_above : pos 0 <ℤ b) (greatest : IsGreatestCommonDivisor r b g) where
   nonzero : g ≢ pos 0

@@ -8,7 +8,9 @@ ghost use Rattle.num_integer.specs.Coefficient.{coefficient, coefficient_of};
 ghost use Rattle.num_integer.specs.Multinomial.{IsMultinomial};
 
 use integer_core::Integer;
-use integer_core::operators::{difference, is_below, one, product, quotient, successor, sum, zero};
+use integer_core::operators::{
+    difference, is_below, one, product, quotient, remainder, successor, sum, zero,
+};
 
 /// Returns the factors `r / g` and `a / (b / g)` of `r * a / b`, where `g` is the gcd of `r` and `b`,
 /// computed as that of `b` and the remainder of `r`. Where `g` is `b` or 1, one division gives both.
@@ -24,7 +26,7 @@ pub(crate) fn factors<T: Integer>(r: T, a: T, b: T) -> (T, T)
     ensures product { T.value result.0 *ℤ T.value result.1 *ℤ T.value b
         ≡ T.value r *ℤ T.value a }
 {
-    let g = r.mod_floor(&b).gcd(&b);
+    let g = remainder(r, b).gcd(&b);
     if !is_below(g, b) {
         (quotient(r, b), a)
     } else if is_below(one(), g) {

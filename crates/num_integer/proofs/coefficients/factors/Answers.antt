@@ -1,7 +1,6 @@
 use Rattle.std.proofs.Common.{arith}
-use Rattle.integer_core.proofs.CommonDivisors.{gcd-remainder, gcd-swap}
 use Rattle.integer_core.proofs.Whole.{linear}
-use Rattle.num_integer.proofs.Steps.{cancelled, cancelled_one, cancelled_whole, g_above, g_below, rest_above}
+use Rattle.num_integer.proofs.Steps.{cancelled, cancelled_one, cancelled_whole, g_above, g_below, rest_above, through_remainder}
 use Rattle.num_integer.proofs.FittingAnswers.{fits_below, from_test}
 use Rattle.num_integer.proofs.coefficients.factors.Goals as goal
 
@@ -33,17 +32,17 @@ quotient-requires-else-is_below-clause-quotient_fits g c =
 
 pub returns-then-not-is_below-clause-product : goal.returns-then-not-is_below-clause-product
 returns-then-not-is_below-clause-product g c =
-    let greatest = gcd-remainder c.mod_floor.ensures.floored.division.division (gcd-swap c.gcd-g.ensures.greatest) in
+    let greatest = through_remainder c.requires.b_positive c.remainder.ensures.value c.gcd-g.ensures.greatest in
     rw c.quotient.ensures.value (cancelled_whole c.requires.b_positive greatest _ (from_test c.is_below.ensures c.if-not-is_below.true))
 
 pub returns-then-is_below-clause-product : goal.returns-then-is_below-clause-product
 returns-then-is_below-clause-product g c =
-    let greatest = gcd-remainder c.mod_floor.ensures.floored.division.division (gcd-swap c.gcd-g.ensures.greatest) in
+    let greatest = through_remainder c.requires.b_positive c.remainder.ensures.value c.gcd-g.ensures.greatest in
     rw (c.quotient-then-is_below.ensures.value, c.quotient-then-is_below-3.ensures.value, c.quotient-then-is_below-2.ensures.value)
     (cancelled c.requires.b_positive greatest c.requires.a_from_zero c.requires.whole)
 
 pub returns-else-is_below-clause-product : goal.returns-else-is_below-clause-product
 returns-else-is_below-clause-product g c =
-    let greatest = gcd-remainder c.mod_floor.ensures.floored.division.division (gcd-swap c.gcd-g.ensures.greatest) in
+    let greatest = through_remainder c.requires.b_positive c.remainder.ensures.value c.gcd-g.ensures.greatest in
     let small = rw c.one.ensures.value at (from_test c.is_below-else-not-is_below.ensures c.if-is_below.false) in
     rw c.quotient-else-is_below.ensures.value (cancelled_one c.requires.b_positive greatest c.requires.a_from_zero c.requires.whole small)
