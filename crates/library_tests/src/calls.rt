@@ -2,6 +2,7 @@
 
 mod checked;
 mod lemmas;
+mod matched;
 mod plain;
 mod powers;
 mod ranking;

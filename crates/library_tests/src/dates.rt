@@ -4,6 +4,7 @@ mod callers;
 mod days;
 mod feasts;
 mod iso_weeks;
+mod matched;
 mod months;
 mod texts;
 mod weeks;

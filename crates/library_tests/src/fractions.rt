@@ -2,6 +2,7 @@
 
 mod callers;
 mod limited;
+mod matched;
 mod one_fraction;
 mod operations;
 mod parsing;

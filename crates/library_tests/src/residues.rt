@@ -4,6 +4,7 @@ mod all_bytes;
 mod callers;
 mod congruences;
 mod long_products;
+mod matched;
 
 use crate::assertions::holds_at;
 use modular::counted::power_modulo_counted;

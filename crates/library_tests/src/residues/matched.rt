@@ -1,0 +1,130 @@
+//! Calls of `modular` and of `uses` whose result a caller matches on or loops over, each at a native type and
+//! with no proof file.
+
+ghost use Rattle.std.specs.Prelude.{◌≡◌, ◌<◌, ◌<ℤ◌, ◌≤ℤ◌, ℤ, pos, IfSome, MatchOption};
+ghost use Rattle.std.specs.Int.{int_pow};
+ghost use Rattle.modular.specs.Congruences.{IsInverse, IsNextCommonSolution, IsQuotientModulo, IsResidue, IsResidueClass, Solves, SolvesBothCongruences};
+
+use modular::counted::power_modulo_counted;
+use modular::{
+    CommonSolution, chinese_remainder, inverse_modulo, next_common_solution, next_congruent,
+    quotient_modulo, solutions,
+};
+use num_integer::Fits;
+use uses::layout::align_up;
+use uses::schedules::{Meeting, Schedule, next_meeting};
+
+/// The inverse, which is below the modulus, or the modulus where there is none.
+fn inverse_or_modulus(a: u64, m: u64) -> u64
+    requires { 0 < m }
+    ensures inverse { result < m → IsInverse (pos a) (pos m) (pos result) }
+    ensures none { result ≡ m → (x : ℤ) → ¬ (IsInverse (pos a) (pos m) x) }
+{
+    match inverse_modulo(a, m) {
+        Some(inverse) => inverse,
+        None => m,
+    }
+}
+
+/// The quotient, where the divisor has an inverse.
+fn quotient(a: i64, b: i64, m: i64) -> Option<i64>
+    requires { pos 0 <ℤ m }
+    ensures { MatchOption result ((x : ℤ) → ¬ (IsInverse b m x)) (λ x. IsQuotientModulo a b m x) }
+{
+    if let Some(quotient) = quotient_modulo(a, b, m) {
+        Some(quotient)
+    } else {
+        None
+    }
+}
+
+/// The first solution and the step to the next, where there is one.
+fn class_of_solutions(a: i64, b: i64, m: i64) -> Option<(i64, i64)>
+    requires { pos 0 <ℤ m }
+    ensures { MatchOption result ((x : ℤ) → ¬ (Solves a b m x))
+        (λ s. IsResidueClass (Solves a b m) s.0 s.1) }
+{
+    match solutions(a, b, m) {
+        Some((first, step)) => Some((first, step)),
+        None => None,
+    }
+}
+
+/// The numbers that solve both congruences, where the common multiple fits.
+fn both(a: i64, m: i64, b: i64, n: i64) -> Option<(i64, i64)>
+    requires m_positive { pos 0 <ℤ m }
+    requires n_positive { pos 0 <ℤ n }
+    ensures { IfSome result (λ s. IsResidueClass (SolvesBothCongruences a m b n) s.0 s.1) }
+{
+    if m.lcm_fits(&n) {
+        let (first, step) = chinese_remainder(a, m, b, n)?;
+        Some((first, step))
+    } else {
+        None
+    }
+}
+
+/// The next time from now on, or the last of the type.
+fn next_time(now: u64, first: u64, period: u64) -> u64
+    requires { 0 < period }
+    ensures { pos now ≤ℤ pos result }
+{
+    match next_congruent(now, first, period) {
+        Some(time) => time,
+        None => u64::MAX,
+    }
+}
+
+/// The last of the first `count` times from now on.
+fn last_time(now: i64, first: i64, period: i64, count: u8) -> Option<i64>
+    requires { pos 0 <ℤ period }
+{
+    let mut time = next_congruent(now, first, period)?;
+    for _ in 1..count {
+        time = next_congruent(time.checked_add(1)?, first, period)?;
+    }
+    Some(time)
+}
+
+/// The next number that solves both, where there is one in the type.
+fn next_of_both(from: i64, a: i64, m: i64, b: i64, n: i64) -> Option<i64>
+    requires m_positive { pos 0 <ℤ m }
+    requires n_positive { pos 0 <ℤ n }
+    ensures { IfSome result (λ t. IsNextCommonSolution from a m b n t) }
+{
+    match next_common_solution(from, a, m, b, n) {
+        CommonSolution::At(t) => Some(t),
+        CommonSolution::Beyond | CommonSolution::Never => None,
+    }
+}
+
+/// The power and the turns.
+fn power_and_turns(a: u64, exponent: u32, m: u64) -> (u64, u32)
+    requires { 0 < m }
+    ensures { IsResidue (pos m) (int_pow (pos a) exponent) (pos result.0) }
+{
+    let (power, turns) = power_modulo_counted(a, u128::from(exponent), m);
+    (power, turns)
+}
+
+/// The aligned offset, or the offset itself where that is beyond the type.
+fn aligned(offset: u32, alignment: u32) -> u32
+    requires { 0 < alignment }
+    ensures { pos offset ≤ℤ pos result }
+{
+    match align_up(offset, alignment) {
+        Some(aligned) => aligned,
+        None => offset,
+    }
+}
+
+/// How long to wait for the next meeting.
+fn wait(now: u32, first: Schedule<u32>, second: Schedule<u32>) -> Option<u32>
+    requires first { 0 < first.period }
+    requires second { 0 < second.period }
+{
+    match next_meeting(now, first, second) {
+        Meeting::At(time) => Some(time - now),
+        Meeting::Never | Meeting::TooLate => None,
+    }
+}
