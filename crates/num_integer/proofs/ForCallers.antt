@@ -11,7 +11,6 @@ use Rattle.integer_core.specs.Division.{IsCeiled, IsDivision, IsFloored, IsMulti
 use Rattle.integer_core.specs.Range.{EachFits, IsRange}
 use Rattle.integer_core.specs.Divisors.{Divides, IsGreatestCommonDivisor, IsLeastCommonMultiple}
 use Rattle.integer_core.proofs.CommonDivisors.{gcd_exists, gcd-remainder, gcd-swap, gcd-zero, lcm-computed}
-use Rattle.integer_core.proofs.EuclidTurns.{divisor_size}
 use Rattle.integer_core.proofs.OnlyBezoutAnswer.{bezout_answer_exists}
 use Rattle.integer_roots.specs.RootOf.{IsRoot}
 use Rattle.integer_roots.proofs.Powers.{power_two}
@@ -21,6 +20,7 @@ use Rattle.num_integer.specs.Parts.{signed}
 
 pub use Rattle.integer_core.proofs.CommonDivisors.{gcd-nonzero, gcd-positive, gcd-times, only_gcd, only_lcm}
 pub use Rattle.integer_core.proofs.Divisibility.{Divides-antisym, Divides-cancel, Divides-refl, Divides-sum, Divides-times, Divides-trans, Divides-zero, cancel, exact_quotient, zero_divides}
+pub use Rattle.integer_core.proofs.EuclidTurns.{divisor_size}
 pub use Rattle.integer_core.proofs.GcdDomain.{gcd_fits_is}
 pub use Rattle.integer_core.proofs.OddParts.{shift_back}
 pub use Rattle.integer_core.proofs.Quotients.{only_floored, other_quotient_fits, remainder_within, truncated_is, zero_or_not}

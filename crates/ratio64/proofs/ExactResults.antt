@@ -1,9 +1,7 @@
 -- The exact result of a fraction: its parts by the gcd with the sign of the denominator.
-use Rattle.std.specs.Prelude.{◌≡◌, ◌≢◌, ◌⊎◌, ◌≤◌, ◌<◌, ◌^◌, ◌<ℤ◌, ◌≤ℤ◌, ◌-ℤ◌, ◌*ℤ◌, ℤ, pos, negsuc, neg_ℤ, suc, unsigned_abs, int_div, FitsSigned}
-use Rattle.std.specs.Int.{w128}
-use Rattle.std.proofs.Common.{arith, refl, inl, inr, ◌∙◌, lt_of_le_of_lt}
-use Rattle.std.proofs.Math.Nat.{div-le_self}
-use Rattle.std.proofs.lemmas.Int.{ints, fits_signed_from_abs}
+use Rattle.std.specs.Prelude.{◌≡◌, ◌≢◌, ◌⊎◌, ◌<ℤ◌, ◌≤ℤ◌, ◌*ℤ◌, ℤ, pos, negsuc, neg_ℤ, int_div}
+use Rattle.std.proofs.Common.{arith, refl, inl, inr, ◌∙◌}
+use Rattle.std.proofs.lemmas.Int.{ints}
 use Rattle.num_integer.proofs.ForCallers.{Divides-cancel, Divides-times, Divides-trans, cancel, exact_quotient, expand, gcd-nonzero, linear, mul-one, products}
 use Rattle.num_integer.proofs.Laws.{gcd_exists}
 use Rattle.num_integer.specs.Divisors.{Divides, IsGreatestCommonDivisor}
@@ -92,19 +90,3 @@ only_exact_result x y = same_pair x.reduced y.reduced (equal_through x.fraction 
 -- equal fractions have the same
 pub same_result : {a b c d p q : ℤ} → IsFraction c d → AreEqual a b c d → IsExact a b p q → IsExact c d p q
 same_result fraction e x = record { fraction = fraction; reduced = x.reduced; equal = equal_through x.fraction e x.equal }
-
--- ---- where its parts fit
-
--- a quotient is no wider than its dividend
-quotient_small : (n d : ℤ) → unsigned_abs (int_div n d) ≤ unsigned_abs n
-quotient_small (pos n) (pos d) = let h = div-le_self n d in omega (arith, ints)
-quotient_small (pos n) (negsuc d) = let h = div-le_self n (suc d) in omega (arith, ints)
-quotient_small (negsuc n) (pos d) = let h = div-le_self (suc n) d in omega (arith, ints)
-quotient_small (negsuc n) (negsuc d) = let h = div-le_self (suc n) (suc d) in omega (arith, ints)
-
-pub quotient_fits : (n d : ℤ) → unsigned_abs n < 2 ^ 127 → FitsSigned w128 (int_div n d)
-quotient_fits n d h = fits_signed_from_abs w128 (int_div n d) (lt_of_le_of_lt (quotient_small n d) h)
-
-pub negated_fits : (g : ℤ) → FitsSigned w128 g → pos 0 ≤ℤ g → FitsSigned w128 (pos 0 -ℤ g)
-negated_fits (pos g) h up = let low = h.sfits in fits_signed_from_abs w128 (pos 0 -ℤ pos g) (omega (arith, ints))
-negated_fits (negsuc g) h up = absurd (omega (arith, ints))

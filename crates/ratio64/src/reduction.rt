@@ -1,14 +1,15 @@
 //! The lowest terms of a fraction of wide parts.
 
-ghost use Rattle.std.specs.Prelude.{◌≡◌, ◌<◌, ◌^◌, unsigned_abs, FitsSigned, MatchResult};
-ghost use Rattle.std.specs.Int.{w64, w128};
+ghost use Rattle.std.specs.Prelude.{◌≡◌, ◌<◌, ◌≤◌, ◌^◌, ℤ, unsigned_abs, FitsSigned, MatchOption, MatchResult};
+ghost use Rattle.std.specs.Int.{w64};
 ghost use Rattle.ratio64.specs.Fraction.{IsFraction, IsExact, IsOutsideI64};
 
 use crate::RatioError;
-use num_integer::gcd;
+use num_integer::operators::{is_negative, negated, quotient};
+use num_integer::{Integer, gcd};
 
 /// Returns the parts of the reduced fraction that is equal to `num / den`, or `NotFitting` where they
-/// do not fit.
+/// do not fit. Parts that have 64 bits are divided in 64 bits.
 pub(crate) fn lowest_terms(num: i128, den: i128) -> Result<(i64, i64), RatioError>
     requires num_below { unsigned_abs num < 2 ^ 127 }
     requires den_below { unsigned_abs den < 2 ^ 127 }
@@ -16,21 +17,43 @@ pub(crate) fn lowest_terms(num: i128, den: i128) -> Result<(i64, i64), RatioErro
     ensures { MatchResult result (λ (n, d). IsExact num den n d)
         (λ e. (e ≡ RatioError.NotFitting) × IsOutsideI64 num den) }
 {
-    let (num, den) = wide_terms(num, den);
-    Ok((part(num)?, part(den)?))
+    match (narrow(num), narrow(den)) {
+        (Some(num), Some(den)) => Ok(reduced_terms(num, den)),
+        _ => {
+            let (num, den) = reduced_terms(num, den);
+            Ok((part(num)?, part(den)?))
+        }
+    }
 }
 
 /// Returns both parts divided by their greatest common divisor, with a denominator above 0.
-fn wide_terms(num: i128, den: i128) -> (i128, i128)
-    requires num_below { unsigned_abs num < 2 ^ 127 }
-    requires den_below { unsigned_abs den < 2 ^ 127 }
-    requires fraction { IsFraction num den }
-    ensures in_range { FitsSigned w128 result.0 × FitsSigned w128 result.1 }
-    ensures exact { IsExact num den result.0 result.1 }
+///
+/// May be called where each number of no greater magnitude than a part fits.
+fn reduced_terms<T: Integer>(num: T, den: T) -> (T, T)
+    requires num_sizes { (z : ℤ) → unsigned_abs z ≤ unsigned_abs (T.value num) → T.fits z }
+    requires den_sizes { (z : ℤ) → unsigned_abs z ≤ unsigned_abs (T.value den) → T.fits z }
+    requires fraction { IsFraction (T.value num) (T.value den) }
+    ensures in_range { T.fits (T.value result.0) × T.fits (T.value result.1) }
+    ensures exact { IsExact (T.value num) (T.value den) (T.value result.0) (T.value result.1) }
 {
     let common = gcd(num, den);
-    let divisor = if den < 0 { -common } else { common };
-    (num / divisor, den / divisor)
+    let divisor = if is_negative(den) {
+        negated(common)
+    } else {
+        common
+    };
+    (quotient(num, divisor), quotient(den, divisor))
+}
+
+/// Returns the number in 64 bits, where its negation has no more.
+fn narrow(number: i128) -> Option<i64>
+    ensures { MatchOption result (2 ^ 63 ≤ unsigned_abs number)
+        (λ n. (n ≡ number) × (unsigned_abs number < 2 ^ 63)) }
+{
+    match i64::try_from(number) {
+        Ok(n) if n != i64::MIN => Some(n),
+        _ => None,
+    }
 }
 
 /// Returns the number as a part of a fraction, or `NotFitting` where it does not fit.
