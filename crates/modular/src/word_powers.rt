@@ -17,8 +17,8 @@ pub(crate) fn power_of_word(x: u64, exponent: u128, m: u64) -> (u64, u32)
     ensures turns { exponent ≢ 0 → (2 ^ result.1 ≤ exponent) × (exponent < 2 ^ (result.1 + 1)) }
 {
     let modulus = SplitModulus::new(m);
-    let (one, base) = (modulus.standing_for(1), modulus.standing_for(x));
-    let (power, turns) = power_counted(&modulus, one, base, exponent);
+    let base = modulus.standing_for(x);
+    let (power, turns) = power_counted(&modulus, modulus.one(), base, exponent);
     (modulus.residue_of(power), turns)
 }
 
@@ -42,6 +42,15 @@ impl SplitModulus {
             odd: Montgomery::new(m >> twos),
             twos,
         }
+    }
+
+    /// Returns what stands for 1.
+    fn one(&self) -> (u64, u64)
+        ensures below { result.0 < self.now.odd.modulus }
+        ensures congruent { AreCongruent (pos (self.now.odd.modulus * 2 ^ 64)) (pos 1)
+            (joined self.now.odd.modulus self.now.odd.inverse result.0 result.1) }
+    {
+        (self.odd.one(), 1)
     }
 
     /// Returns what stands for `x`.

@@ -14,7 +14,7 @@ use std::marker::Model;
 /// An iterator over the coefficients of `n` and each number from `0` to `n`, in order. For a
 /// negative `n` it has no item.
 ///
-/// `IterBinomial::new(3u8).collect(alloc)` is a vector of `1`, `3`, `3` and `1`.
+/// The items of `IterBinomial::new(3u8)` are `1`, `3`, `3` and `1`.
 ///
 /// The greatest `n` whose row fits is 10 for `u8`, 9 for `i8`, 18 for `u16`, 17 for `i16`, 34 for
 /// `u32`, 33 for `i32`, 67 for `u64` and 66 for `i64`.

@@ -6,6 +6,6 @@ pub returns-clause-residue : goal.returns-clause-residue
 returns-clause-residue c =
     let form = c.new-modulus.result in
     let odd = form.odd in
-    let below = c.standing_for-one.ensures.below in
+    let below = c.one.ensures.below in
     let few = few_twos odd.modulus form.twos (omega arith) form.fits in
     power_residue odd.modulus odd.inverse odd.inverts c.args.x c.args.exponent form.twos c.new-modulus.ensures (omega arith) c.standing_for-base.ensures.congruent c.power_counted-turns.ensures.power c.residue_of.ensures
