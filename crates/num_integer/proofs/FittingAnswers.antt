@@ -72,14 +72,6 @@ each_kind each = (each IsTruncated truncated, each IsFloored floored, each IsCei
 
 -- ---- where the quotient of a division fits, of any kind
 
--- a number whose parts are those of -1
-pub minus_one : {negative : Bool} {magnitude : ℕ} {d : ℤ} → negative ≡ true → magnitude ≡ 1 → IsTrue negative ↔ (d <ℤ pos 0) → magnitude ≡ unsigned_abs d → d ≡ negsuc 0
-minus_one e one sign size = let below = sign.0 e in omega (arith, linear, abs_is)
-
-pub not_minus_one : {negative : Bool} {magnitude : ℕ} {d : ℤ} → (magnitude ≢ 1) ⊎ (negative ≡ false) → IsTrue negative ↔ (d <ℤ pos 0) → magnitude ≡ unsigned_abs d → d ≢ negsuc 0
-not_minus_one (inl other) sign size e = other (rw (size, e) refl)
-not_minus_one (inr e) sign size minus = iff_false sign e (rw minus (record { lt = tt }))
-
 module _ {fits : ℤ → Type 0} {low high n d : ℤ} {Kind : ℤ → ℤ → ℤ → ℤ → Type 0} (kind : IsKind Kind) (range : IsRange fits low high) (n_fits : fits n) (d_fits : fits d) where
   pub by_minus_one : (magnitude top : ℕ) → d ≡ negsuc 0 → magnitude ≡ unsigned_abs n → pos top ≡ high → IsTrue (nat_le magnitude top) ↔ ((d ≢ pos 0) × EachFits fits (IsQuotient Kind n d))
   by_minus_one magnitude top minus size ends =

@@ -2,6 +2,8 @@ pub mod Pascal
 pub mod FittingAnswers
 pub mod IntegerPowers
 pub mod Steps
+pub mod CheckedAnswers
 pub mod Multinomials
+pub mod CheckedMultinomials
 pub mod Laws
 pub mod ForCallers

@@ -36,9 +36,24 @@ pub(crate) fn factors<T: Integer>(r: T, a: T, b: T) -> (T, T)
     }
 }
 
-/// Returns the coefficient of `n` and `k + 1`, where `c` is that of `n` and `k`: it is
-/// `c * (n - k) / (k + 1)`, and no intermediate value exceeds the result.
-#[tactic(auto, using(crate::proofs::FittingAnswers::fits_below))]
+/// Returns two factors of the coefficient of `n` and `k + 1`, where `c` is that of `n` and `k`: it is
+/// `c * (n - k) / (k + 1)`.
+pub(crate) fn next_factors<T: Integer>(c: T, n: T, k: T) -> (T, T)
+    requires c_in_range { T.fits (T.value c) }
+    requires n_in_range { T.fits (T.value n) }
+    requires k_in_range { T.fits (T.value k) }
+    requires k_from_zero { pos 0 ≤ℤ T.value k }
+    requires k_below { T.value k <ℤ T.value n }
+    requires current { T.value c ≡ coefficient_of (T.value n) (T.value k) }
+    ensures in_range { T.fits (T.value result.0) × T.fits (T.value result.1) }
+    ensures product { T.value result.0 *ℤ T.value result.1
+        ≡ coefficient_of (T.value n) (T.value k +ℤ pos 1) }
+{
+    factors(c, difference(n, k), successor(k))
+}
+
+/// Returns the coefficient of `n` and `k + 1`, where `c` is that of `n` and `k`. No intermediate value
+/// exceeds it.
 pub(crate) fn next_coefficient<T: Integer>(c: T, n: T, k: T) -> T
     requires c_in_range { T.fits (T.value c) }
     requires n_in_range { T.fits (T.value n) }
@@ -50,12 +65,12 @@ pub(crate) fn next_coefficient<T: Integer>(c: T, n: T, k: T) -> T
     ensures in_range { T.fits (T.value result) }
     ensures next { T.value result ≡ coefficient_of (T.value n) (T.value k +ℤ pos 1) }
 {
-    let (x, y) = factors(c, difference(n, k), successor(k));
+    let (x, y) = next_factors(c, n, k);
     product(x, y)
 }
 
 /// Returns the lesser of `k` and `n - k`.
-fn nearer_end<T: Integer>(n: T, k: T) -> T
+pub(crate) fn nearer_end<T: Integer>(n: T, k: T) -> T
     requires n_in_range { T.fits (T.value n) }
     requires k_in_range { T.fits (T.value k) }
     requires k_from_zero { pos 0 ≤ℤ T.value k }

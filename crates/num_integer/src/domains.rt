@@ -1,6 +1,6 @@
 //! Tests of the domains of the calls.
 
-ghost use Rattle.std.specs.Prelude.{◌≡◌, ◌≢◌, ◌↔◌, ◌≤ℤ◌, ◌<ℤ◌, pos, unsigned_abs, map, IsTrue};
+ghost use Rattle.std.specs.Prelude.{◌≡◌, ◌≢◌, ◌↔◌, ◌≤ℤ◌, ◌<ℤ◌, pos, negsuc, unsigned_abs, map, IsTrue};
 ghost use Rattle.std.specs.List.{All};
 ghost use Rattle.integer_core.specs.Division.{EachKind, IsCeiled, IsFloored, IsMultiple, IsQuotient};
 ghost use Rattle.integer_core.specs.Divisors.{IsGreatestCommonDivisor, IsLeastCommonMultiple};
@@ -10,7 +10,7 @@ ghost use Rattle.num_integer.specs.Multinomial.{IsMultinomial};
 
 use crate::bounded_coefficients::{Shared, coefficient_within};
 use crate::parts::sum_is_within;
-use integer_core::operators::{difference, is_negative, is_zero};
+use integer_core::operators::{difference, is_negative, is_zero, successor};
 use integer_core::{Integer, NativeInteger};
 use num_traits::ToPrimitive;
 
@@ -39,10 +39,9 @@ pub trait Fits: Integer {
             × EachFits Self.fits
             (IsQuotient Kind (Self.value self.now) (Self.value other.now)))) }
     {
-        let (negative, magnitude) = other.parts();
-        if magnitude == 0 {
+        if is_zero(*other) {
             false
-        } else if negative && magnitude == 1 {
+        } else if is_minus_one(*other) {
             self.parts().1 <= Self::ends().1
         } else {
             true
@@ -180,6 +179,14 @@ impl<T: NativeInteger> Fits for T {
     fn ends() -> (u128, u128) {
         (wide(T::min_value()), wide(T::max_value()))
     }
+}
+
+/// Returns `true` if this is -1, the only divisor whose quotient may not fit.
+fn is_minus_one<T: Integer>(x: T) -> bool
+    requires { T.fits (T.value x) }
+    ensures { IsTrue result ↔ (T.value x ≡ negsuc 0) }
+{
+    is_negative(x) && is_zero(successor(x))
 }
 
 /// Returns the magnitude, as a number of 128 bits.

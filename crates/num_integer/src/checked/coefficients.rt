@@ -1,6 +1,6 @@
 //! Coefficients, without a condition.
 
-ghost use Rattle.std.specs.Prelude.{◌≡◌, ◌↔◌, ◌≤ℤ◌, pos, map, IsTrue};
+ghost use Rattle.std.specs.Prelude.{◌≡◌, ◌↔◌, ◌/◌, ◌≤ℤ◌, pos, unsigned_abs, map, IsTrue};
 ghost use Rattle.std.specs.List.{All};
 ghost use Rattle.integer_core.specs.Range.{EachFits};
 ghost use Rattle.num_integer.specs.Checked.{AnswersWhere};
@@ -8,14 +8,16 @@ ghost use Rattle.num_integer.specs.Coefficient.{coefficient_of};
 ghost use Rattle.num_integer.specs.Multinomial.{IsMultinomial};
 ghost use Rattle.num_integer.specs.Row.{RowFits, row_of};
 
-use crate::bounded_coefficients::coefficient_within;
-use crate::coefficients;
+use crate::checked::operators::{inc, product, sum};
+use crate::coefficients::{nearer_end, next_factors};
 use crate::domains::Fits;
 use crate::rows::IterBinomial;
+use integer_core::operators::{is_below, is_negative, one, quotient, successor, zero};
 
 /// Returns [`binomial`](crate::binomial), the binomial coefficient of `n` and `k`, or `None` where a
 /// number is negative or the coefficient does not fit. `binomial(11u8, 3)` is `Some(165)`, and
 /// `binomial(11u8, 4)` is `None`.
+#[tactic(auto, using(crate::proofs::Pascal::row_steps))]
 pub fn binomial<T: Fits>(n: T, k: T) -> Option<T>
     requires n_in_range { T.fits (T.value n) }
     requires k_in_range { T.fits (T.value k) }
@@ -25,11 +27,21 @@ pub fn binomial<T: Fits>(n: T, k: T) -> Option<T>
         (λ c. T.fits (T.value c) × (T.value c ≡ coefficient_of (T.value n) (T.value k)))
         result }
 {
-    if n.binomial_fits(&k) {
-        Some(coefficients::binomial(n, k))
-    } else {
-        None
+    if is_negative(n) || is_negative(k) {
+        return None;
     }
+    if is_below(n, k) {
+        return Some(zero());
+    }
+    let last = nearer_end(n, k);
+    let mut coefficient = one();
+    let mut place = zero();
+    while is_below(place, last) {
+        let (x, y) = next_factors(coefficient, n, place);
+        coefficient = product(x, y)?;
+        place = successor(place);
+    }
+    Some(coefficient)
 }
 
 /// Returns [`multinomial`](crate::multinomial), the multinomial of the counts, or `None` where a count
@@ -42,11 +54,16 @@ pub fn multinomial<T: Fits>(k: &[T]) -> Option<T>
         (λ m. T.fits (T.value m) × IsMultinomial (map T.value k.now) (T.value m))
         result }
 {
-    if T::multinomial_fits(k) {
-        Some(coefficients::multinomial(k))
-    } else {
-        None
+    let mut multinomial = one();
+    let mut total = zero();
+    for count in k {
+        if is_negative(*count) {
+            return None;
+        }
+        total = sum(total, *count)?;
+        multinomial = product(multinomial, binomial(total, *count)?)?;
     }
+    Some(multinomial)
 }
 
 /// Returns [`IterBinomial::new`], the row of `n` in Pascal's triangle, or `None` where an item or the
@@ -71,7 +88,19 @@ fn row_fits<T: Fits>(n: T) -> bool
     requires { T.fits (T.value n) }
     ensures { IsTrue result ↔ RowFits T.fits (T.value n) }
 {
-    let (negative, magnitude) = n.parts();
-    let (_, high) = T::ends();
-    negative || magnitude < high && coefficient_within(magnitude, magnitude / 2, high).is_some()
+    is_negative(n) || inc(n).is_some() && binomial(n, half(n)).is_some()
+}
+
+/// Returns half of `n`, rounded down.
+fn half<T: Fits>(n: T) -> T
+    requires in_range { T.fits (T.value n) }
+    requires from_zero { pos 0 ≤ℤ T.value n }
+    ensures in_range { T.fits (T.value result) }
+    ensures value { T.value result ≡ pos (unsigned_abs (T.value n) / 2) }
+{
+    if is_below(one(), n) {
+        quotient(n, successor(one()))
+    } else {
+        zero()
+    }
 }

@@ -5,8 +5,9 @@ ghost use Rattle.integer_core.specs.Division.{IsCeiled, IsFloored, IsMultiple, I
 ghost use Rattle.integer_core.specs.Range.{EachFits};
 ghost use Rattle.num_integer.specs.Checked.{AnswersWhere};
 
+use crate::checked::operators::{difference, sum};
 use crate::domains::Fits;
-use integer_core::operators::is_zero;
+use integer_core::operators::{self, is_zero};
 
 /// Returns [`Integer::div_rem`], the quotient rounded toward zero and its remainder, or `None` for a
 /// divisor 0 and for the least number by -1 where its negation does not fit. `div_rem(-8, 3)` is
@@ -106,10 +107,11 @@ pub fn next_multiple_of<T: Fits>(x: T, y: T) -> Option<T>
         (λ m. T.fits (T.value m) × IsMultiple IsCeiled (T.value x) (T.value y) (T.value m))
         result }
 {
-    if x.next_multiple_fits(&y) {
-        Some(x.next_multiple_of(&y))
+    let remainder = mod_floor(x, y)?;
+    if is_zero(remainder) {
+        Some(x)
     } else {
-        None
+        sum(x, operators::difference(y, remainder))
     }
 }
 
@@ -123,9 +125,5 @@ pub fn prev_multiple_of<T: Fits>(x: T, y: T) -> Option<T>
         (λ m. T.fits (T.value m) × IsMultiple IsFloored (T.value x) (T.value y) (T.value m))
         result }
 {
-    if x.prev_multiple_fits(&y) {
-        Some(x.prev_multiple_of(&y))
-    } else {
-        None
-    }
+    difference(x, mod_floor(x, y)?)
 }

@@ -1,13 +1,15 @@
 //! Common divisors and multiples, without a condition.
 
-ghost use Rattle.std.specs.Prelude.{◌↔◌, IsTrue};
+ghost use Rattle.std.specs.Prelude.{◌≡◌, ◌↔◌, ◌*ℤ◌, pos, unsigned_abs, IsTrue};
 ghost use Rattle.integer_core.specs.Bezout.{HasPair, IsBezoutAnswer};
 ghost use Rattle.integer_core.specs.Divisors.{GcdFits, IsGreatestCommonDivisor, IsLeastCommonMultiple};
 ghost use Rattle.integer_core.specs.Range.{EachFits};
 ghost use Rattle.num_integer.specs.Checked.{AnswersWhere};
 
 use crate::domains::Fits;
+use crate::parts::product_is_within;
 use integer_core::ExtendedGcd;
+use integer_core::operators::{is_negative, is_zero, negated, product, quotient, zero};
 use num_traits::Signed;
 
 /// Returns [`Integer::gcd`], the greatest common divisor, or `None` for the least number, whose
@@ -34,11 +36,10 @@ pub fn lcm<T: Fits>(x: T, y: T) -> Option<T>
         (λ l. T.fits (T.value l) × IsLeastCommonMultiple (T.value x) (T.value y) (T.value l))
         result }
 {
-    if x.lcm_fits(&y) {
-        Some(x.lcm(&y))
-    } else {
-        None
+    if is_zero(x) || is_zero(y) {
+        return Some(zero());
     }
+    lcm_with_gcd(x, y, gcd(x, y)?)
 }
 
 /// Returns [`Integer::gcd_lcm`], the greatest common divisor and the least common multiple, or `None`
@@ -54,11 +55,8 @@ pub fn gcd_lcm<T: Fits>(x: T, y: T) -> Option<(T, T)>
         × IsLeastCommonMultiple (T.value x) (T.value y) (T.value r.1))
         result }
 {
-    if has_gcd(x, y) && x.lcm_fits(&y) {
-        Some(x.gcd_lcm(&y))
-    } else {
-        None
-    }
+    let g = gcd(x, y)?;
+    Some((g, lcm_with_gcd(x, y, g)?))
 }
 
 /// Returns [`Integer::extended_gcd`], the greatest common divisor and Bezout's coefficients, or `None`
@@ -94,11 +92,58 @@ pub fn extended_gcd_lcm<T: Fits + Signed>(x: T, y: T) -> Option<(ExtendedGcd<T>,
         × IsLeastCommonMultiple (T.value x) (T.value y) (T.value r.1))
         result }
 {
-    if has_gcd(x, y) && has_pair(x, y) && x.lcm_fits(&y) {
-        Some(x.extended_gcd_lcm(&y))
+    let e = extended_gcd(x, y)?;
+    Some((e, lcm_with_gcd(x, y, e.gcd)?))
+}
+
+/// Returns the least common multiple of two numbers with the greatest common divisor `g`, or `None`
+/// where it does not fit.
+fn lcm_with_gcd<T: Fits>(x: T, y: T, g: T) -> Option<T>
+    requires x_in_range { T.fits (T.value x) }
+    requires y_in_range { T.fits (T.value y) }
+    requires g_in_range { T.fits (T.value g) }
+    requires greatest { IsGreatestCommonDivisor (T.value x) (T.value y) (T.value g) }
+    ensures { AnswersWhere
+        (EachFits T.fits (IsLeastCommonMultiple (T.value x) (T.value y)))
+        (λ l. T.fits (T.value l) × IsLeastCommonMultiple (T.value x) (T.value y) (T.value l))
+        result }
+{
+    if is_zero(y) {
+        Some(zero())
     } else {
-        None
+        product_magnitude(x, quotient(y, g))
     }
+}
+
+/// Returns the magnitude of `a * b`, or `None` where it does not fit.
+fn product_magnitude<T: Fits>(a: T, b: T) -> Option<T>
+    requires a_in_range { T.fits (T.value a) }
+    requires b_in_range { T.fits (T.value b) }
+    ensures { AnswersWhere
+        (T.fits (pos (unsigned_abs (T.value a *ℤ T.value b))))
+        (λ m. T.fits (T.value m) × (T.value m ≡ pos (unsigned_abs (T.value a *ℤ T.value b))))
+        result }
+{
+    if !product_magnitude_fits(a, b) {
+        return None;
+    }
+    let product = product(a, b);
+    Some(if is_negative(product) {
+        negated(product)
+    } else {
+        product
+    })
+}
+
+/// Returns `true` if the magnitude of `a * b` fits.
+fn product_magnitude_fits<T: Fits>(a: T, b: T) -> bool
+    requires a_in_range { T.fits (T.value a) }
+    requires b_in_range { T.fits (T.value b) }
+    ensures { IsTrue result ↔ T.fits (pos (unsigned_abs (T.value a *ℤ T.value b))) }
+{
+    let (_, m) = a.parts();
+    let (_, n) = b.parts();
+    product_is_within((false, m), (false, n), T::ends())
 }
 
 /// Returns `true` if the gcd fits, in the words of [`gcd`].

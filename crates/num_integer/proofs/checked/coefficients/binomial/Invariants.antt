@@ -1,0 +1,15 @@
+use Rattle.std.specs.Prelude.{◌≡◌, ◌-◌, ◌≤ℤ◌, pos, unsigned_abs}
+use Rattle.num_integer.specs.Coefficient.{coefficient_of}
+use Rattle.num_integer.proofs.checked.coefficients.binomial.Given as goal
+
+abbrev pub invariant-loop-n : goal.invariant-loop-n
+invariant-loop-n g l = record {
+  place_in_range : g.T.Number.fits (g.T.Number.value l.place);
+  in_range : g.T.Number.fits (g.T.Number.value l.coefficient);
+  from_zero : pos 0 ≤ℤ g.T.Number.value l.place;
+  within : g.T.Number.value l.place ≤ℤ g.T.Number.value l.last;
+  coefficient : g.T.Number.value l.coefficient ≡ coefficient_of (g.T.Number.value l.n) (g.T.Number.value l.place);
+}
+
+abbrev pub decreases-loop-n : goal.decreases-loop-n
+decreases-loop-n g l = unsigned_abs (g.T.Number.value l.last) - unsigned_abs (g.T.Number.value l.place)

@@ -1,0 +1,5 @@
+use Rattle.num_integer.proofs.CheckedMultinomials.{IsCheckedSoFar}
+use Rattle.num_integer.proofs.checked.coefficients.multinomial.Given as goal
+
+abbrev pub invariant-loop-count : goal.invariant-loop-count
+invariant-loop-count g l = IsCheckedSoFar g.T.Number.fits g.T.Number.value l.k l.count-index (g.T.Number.value l.multinomial) (g.T.Number.value l.total)
