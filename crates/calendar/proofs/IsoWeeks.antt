@@ -1,19 +1,18 @@
 -- The weeks of ISO 8601.
-use Rattle.std.specs.Prelude.{◌≡◌, ◌⊎◌, ◌+◌, ◌-◌, ◌/◌, ◌%◌, ◌<◌, ◌≤◌, ◌≤ℤ◌, ◌<ℤ◌, ◌+ℤ◌, ◌-ℤ◌, ◌*ℤ◌, ℕ, ℤ, pos, FitsSigned, MatchOption, Option, Some, None}
+use Rattle.std.specs.Prelude.{◌≡◌, ◌⊎◌, ◌+◌, ◌/◌, ◌%◌, ◌<◌, ◌≤◌, ◌≤ℤ◌, ◌<ℤ◌, ◌+ℤ◌, ◌-ℤ◌, ◌*ℤ◌, ℕ, ℤ, pos, FitsSigned, MatchOption, Option, Some, None}
 use Rattle.std.specs.Int.{w64}
 use Rattle.std.proofs.Common.{ap, arith, inl, inr, subst, sym}
 use Rattle.std.proofs.lemmas.Int.{by_lt_z, ints}
-use Rattle.num_integer.proofs.ForCallers.{floored_remainder_range, linear}
+use Rattle.num_integer.proofs.ForCallers.{floored_by_range, floored_remainder_range, linear}
 use Rattle.num_integer.specs.Division.{IsFloored, IsRemainder}
 use Rattle.calendar.specs.declared.date.Date.{Date}
-use Rattle.calendar.specs.Dates.{number_of, year_day_of}
+use Rattle.calendar.specs.Dates.{number_of}
 use Rattle.calendar.specs.IsoWeeks.{HasDay, IsDayOfIsoWeek, IsInIsoWeek, IsThursdayOfWeek}
 use Rattle.calendar.specs.Weekday.{weekday_number}
 use Rattle.calendar.specs.Weeks.{HasWeekday}
 use Rattle.calendar.specs.Years.{days_in_year, first_day}
 use Rattle.calendar.specs.declared.weekday.Weekday.{Weekday}
 use Rattle.calendar.specs.declared.weekday.Weekday.TheVariants.{Thursday}
-use Rattle.calendar.proofs.DateOrder.{year_day_range}
 use Rattle.calendar.proofs.WeekdayPlaces.{below_seven, on_weekday, same_day}
 use Rattle.calendar.proofs.YearLengths.{later_year, length_range, next_first_day}
 
@@ -36,6 +35,13 @@ same_thursday h k =
     let from = k.from in
     let to = k.to in
     same_day Thursday h.has_weekday k.has_weekday (omega (arith, linear)) (omega (arith, linear))
+
+-- by the day of an era
+pub since_monday : {day : ℤ} (era : ℤ) (n : ℕ) → day ≡ pos 146097 *ℤ era +ℤ pos n -ℤ pos 865566 → IsRemainder IsFloored (day +ℤ pos 3) (pos 7) (pos ((n + 1) % 7))
+since_monday era n place = record { quotient = pos 20871 *ℤ era -ℤ pos 123652 +ℤ pos ((n + 1) / 7); division = floored_by_range (omega (arith, ints)) (omega (arith, ints)) (omega (arith, ints)) }
+
+pub to_thursday : {first : ℤ} (era : ℤ) (n : ℕ) → first ≡ pos 146097 *ℤ era +ℤ pos n -ℤ pos 865565 → IsRemainder IsFloored (pos 0 -ℤ first) (pos 7) (pos 6 -ℤ pos ((n + 5) % 7))
+to_thursday era n place = record { quotient = pos 123652 -ℤ pos 20871 *ℤ era -ℤ pos ((n + 5) / 7); division = floored_by_range (omega (arith, ints)) (omega (arith, ints)) (omega (arith, ints)) }
 
 -- ---- years
 
@@ -63,18 +69,17 @@ one_year {y} {z} h k =
     (λ less. absurd (omega (arith, linear, later_year y z less, h.before, k.from)))
     (λ rest. by_lt_z z y (λ less. absurd (omega (arith, linear, later_year z y less, k.before, h.from))) (λ back. omega (arith, linear)))
 
-pub in_own_year : (date : Date) → HasDay date.year (number_of date)
-in_own_year date =
-    let range = year_day_range date.valid in
-    record { from = omega (arith, ints); before = omega (arith, ints, next_first_day date.year) }
-
 -- ---- weeks
 
 -- the number of the week that has this Thursday
-pub week_of : {day : ℤ} (thursday : Date) {week : ℕ} → IsThursdayOfWeek day (number_of thursday) → week ≡ (year_day_of thursday - 1) / 7 + 1 → IsInIsoWeek day thursday.year week
-week_of thursday h number =
-    let range = year_day_range thursday.valid in
-    record { thursday = number_of thursday; of_week = h; of_year = in_own_year thursday; from = omega (arith, ints); before = omega (arith, ints) }
+pub week_of : {day year thursday : ℤ} {days week : ℕ} → IsThursdayOfWeek day thursday → days < days_in_year year → first_day year +ℤ pos days ≡ thursday → week ≡ days / 7 + 1 → IsInIsoWeek day year week
+week_of {year = year} {thursday = thursday} h within place number = record {
+  thursday = thursday;
+  of_week = h;
+  of_year = record { from = omega (arith, ints); before = omega (arith, ints, next_first_day year) };
+  from = omega (arith, ints);
+  before = omega (arith, ints);
+}
 
 -- which is only one
 pub one_week : {day y z : ℤ} {v w : ℕ} → IsInIsoWeek day y v → IsInIsoWeek day z w → (y ≡ z) × (v ≡ w)

@@ -1,5 +1,6 @@
 pub mod YearLengths
-pub mod Eras
+pub mod MarchYears
+pub mod LaterEras
 pub mod DateOrder
 pub mod Laws
 pub mod PaddedNumbers

@@ -2,7 +2,6 @@
 use Rattle.std.specs.Prelude.{◌≡◌, ◌+◌, ◌-◌, ◌*◌, ◌<◌, ◌≤◌, ◌+ℤ◌, ◌-ℤ◌, ◌*ℤ◌, ℕ, ℤ, pos, negsuc, MatchOption, Option, Some, None}
 use Rattle.std.proofs.Common.{◌∙◌, arith, refl, sym}
 use Rattle.std.proofs.lemmas.Int.{by_lt_z, ints}
-use Rattle.num_integer.specs.Division.{IsFloored, IsRemainder}
 use Rattle.calendar.specs.declared.date.Date.{Date}
 use Rattle.calendar.specs.declared.weekday.Weekday.{Weekday}
 use Rattle.calendar.specs.Dates.{HasParts, number_of}
@@ -16,15 +15,14 @@ use Rattle.calendar.proofs.WeekdayPlaces.{on_weekday, same_day}
 weeks_apart : {day other : ℤ} {weekday : Weekday} (weeks : ℤ) → other ≡ day +ℤ pos 7 *ℤ weeks → HasWeekday day weekday → HasWeekday other weekday
 weeks_apart {weekday = weekday} weeks apart h = on_weekday weekday (h.remainder.quotient +ℤ weeks) (omega (arith, ints, h.remainder.division.division.equation))
 
--- from a day on, as from the same day of the week near day 0, the day of the week comes within a week
-pub until_weekday : {day rest : ℤ} {weekday : Weekday} {days : ℕ} → IsRemainder IsFloored day (pos 7) rest → IsFirstWeekday rest weekday (rest +ℤ pos days) → HasWeekday (day +ℤ pos days) weekday × (days < 7)
-until_weekday {rest = rest} {days = days} h first =
-    let own = h.division.division.equation in (
-      weeks_apart h.quotient (omega (arith, ints)) first.has_weekday,
-      by_lt_z (pos days) (pos 7)
-          (λ less. omega (arith, ints))
-          (λ more. absurd (omega (arith, ints, first.first (rest +ℤ pos days -ℤ pos 7) (omega (arith, ints)) (weeks_apart (negsuc 0) (omega (arith, ints)) first.has_weekday)))),
-    )
+-- from a day on, as from a day whole weeks away, the day of the week comes within a week
+pub until_weekday : {day rest : ℤ} {weekday : Weekday} {days : ℕ} (weeks : ℤ) → day ≡ rest +ℤ pos 7 *ℤ weeks → IsFirstWeekday rest weekday (rest +ℤ pos days) → HasWeekday (day +ℤ pos days) weekday × (days < 7)
+until_weekday {rest = rest} {days = days} weeks apart first = (
+  weeks_apart weeks (omega (arith, ints)) first.has_weekday,
+  by_lt_z (pos days) (pos 7)
+      (λ less. omega (arith, ints))
+      (λ more. absurd (omega (arith, ints, first.first (rest +ℤ pos days -ℤ pos 7) (omega (arith, ints)) (weeks_apart (negsuc 0) (omega (arith, ints)) first.has_weekday)))),
+)
 
 -- the dates of a month follow each other
 in_month : (a b : Date) {year : ℤ} {month d e : ℕ} → HasParts a year month d → HasParts b year month e → number_of a +ℤ pos e ≡ number_of b +ℤ pos d

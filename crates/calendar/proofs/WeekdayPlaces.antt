@@ -4,20 +4,12 @@ use Rattle.std.specs.Int.{w64}
 use Rattle.std.specs.Option.{SomeIff}
 use Rattle.std.proofs.Common.{◌∙◌, ap, arith, refl, subst, sym}
 use Rattle.std.proofs.lemmas.Int.{by_lt_z, ints}
-use Rattle.num_integer.proofs.ForCallers.{floored_by_range, floored_remainder_range, linear, only_floored}
+use Rattle.num_integer.proofs.ForCallers.{floored_by_range, linear, only_floored}
 use Rattle.num_integer.specs.Division.{IsFloored, IsRemainder}
 use Rattle.calendar.specs.declared.weekday.Weekday.{Weekday}
 use Rattle.calendar.specs.declared.weekday.Weekday.TheVariants.{Sunday, Monday, Tuesday, Wednesday, Thursday, Friday, Saturday}
 use Rattle.calendar.specs.Weekday.{weekday_number}
 use Rattle.calendar.specs.Weeks.{HasWeekday, IsFirstWeekday}
-
--- the remainder of a sum is that of the sum with the remainder
-pub remainder_of_sum : {n r s : ℤ} (k : ℤ) → IsRemainder IsFloored n (pos 7) r → IsRemainder IsFloored (r +ℤ k) (pos 7) s → IsRemainder IsFloored (n +ℤ k) (pos 7) s
-remainder_of_sum k first second =
-    let range = floored_remainder_range (omega (arith, ints)) second in
-    let a = first.division.division.equation in
-    let b = second.division.division.equation in
-    record { quotient = first.quotient +ℤ second.quotient; division = floored_by_range (omega (arith, ints)) range.0 range.1 }
 
 -- ---- days of one day of the week
 
@@ -33,6 +25,10 @@ below_seven Saturday = omega arith
 -- by whole weeks
 pub on_weekday : {day : ℤ} (weekday : Weekday) (weeks : ℤ) → day +ℤ pos 4 ≡ weeks *ℤ pos 7 +ℤ pos (weekday_number weekday) → HasWeekday day weekday
 on_weekday weekday weeks equation = record { remainder = record { quotient = weeks; division = floored_by_range equation (omega (arith, ints)) (omega (arith, ints, below_seven weekday)) } }
+
+-- eras are whole weeks
+pub weekday_in_era : {day : ℤ} (era : ℤ) (n : ℕ) (weekday : Weekday) → day ≡ pos 146097 *ℤ era +ℤ pos n -ℤ pos 865566 → weekday_number weekday ≡ (n + 2) % 7 → HasWeekday day weekday
+weekday_in_era era n weekday place is = on_weekday weekday (pos 20871 *ℤ era -ℤ pos 123652 +ℤ pos ((n + 2) / 7)) (omega (arith, ints))
 
 -- which are less than a week apart only where they are the same
 apart : (a b p q : ℤ) (w : ℕ) → a +ℤ pos 4 ≡ p *ℤ pos 7 +ℤ pos w → b +ℤ pos 4 ≡ q *ℤ pos 7 +ℤ pos w → a <ℤ (b +ℤ pos 7) → b <ℤ (a +ℤ pos 7) → a ≡ b

@@ -1,11 +1,10 @@
 -- The days of years, and the days on which they begin.
-use Rattle.std.specs.Prelude.{◌≡◌, ◌≢◌, ◌⊎◌, ◌↔◌, ◌+◌, ◌*◌, ◌/◌, ◌%◌, ◌<◌, ◌≤◌, ◌≤ℤ◌, ◌<ℤ◌, ◌+ℤ◌, ◌-ℤ◌, ◌*ℤ◌, ℕ, zero, suc, ℤ, pos, negsuc, Bool, true, false, cond, sum, IsTrue}
+use Rattle.std.specs.Prelude.{◌≡◌, ◌≢◌, ◌⊎◌, ◌↔◌, ◌+◌, ◌-◌, ◌*◌, ◌/◌, ◌%◌, ◌<◌, ◌≤◌, ◌≤ℤ◌, ◌<ℤ◌, ◌+ℤ◌, ◌-ℤ◌, ◌*ℤ◌, ℕ, zero, suc, ℤ, pos, negsuc, Bool, true, false, cond, sum, IsTrue}
 use Rattle.std.proofs.Common.{arith, add-one, inl, inr, refl}
 use Rattle.std.proofs.lemmas.Bool.{cases_lt}
 use Rattle.std.proofs.lemmas.Bool.Decides.{nat_tests}
-use Rattle.std.proofs.lemmas.Int.{by_lt_z, ints, to_z-of_z}
-use Rattle.num_integer.proofs.ForCallers.{ceiled_quotient_range, divides_by_magnitude}
-use Rattle.num_integer.specs.Division.{IsCeiled, IsQuotient}
+use Rattle.std.proofs.lemmas.Int.{by_lt_z, ints}
+use Rattle.num_integer.proofs.ForCallers.{divides_by_magnitude}
 use Rattle.num_integer.specs.Divisors.{Divides}
 use Rattle.calendar.specs.Years.{days_after, days_before, days_in_year, first_day, is_leap_year, is_multiple, month_lengths}
 
@@ -81,19 +80,12 @@ next_first_day (negsuc (suc n)) =
     let next : negsuc (suc n) +ℤ pos 1 ≡ negsuc n = omega (arith, ints) in
     rw next (omega (arith, ints))
 
--- which are 366 at most
-pub day_in_year : (year : ℤ) {day : ℤ} → day <ℤ first_day (year +ℤ pos 1) → (day <ℤ (first_day year +ℤ pos (days_in_year year))) × (days_in_year year ≤ 366)
-day_in_year year before = (omega (arith, ints, next_first_day year), (length_range year).1)
+-- the days of the first n years that begin on 1 March, from that of year 0 on
+abbrev pub march_days : ℕ → ℕ
+march_days n = 365 * n + n / 4 - n / 100 + n / 400
 
--- by the leap years before it
-pub first_day_is : (year : ℤ) {a b c : ℤ} → IsQuotient IsCeiled year (pos 4) a → IsQuotient IsCeiled year (pos 100) b → IsQuotient IsCeiled year (pos 400) c
-    → first_day year ≡ pos 365 *ℤ year +ℤ (a -ℤ b +ℤ c) -ℤ pos 719528
-first_day_is (pos zero) h k l = omega (arith, ints, epoch, none_after, ceiled_quotient_range h, ceiled_quotient_range k, ceiled_quotient_range l)
-first_day_is (pos (suc n)) h k l = omega (arith, ints, epoch, years_after n, years_before n, ceiled_quotient_range h, ceiled_quotient_range k, ceiled_quotient_range l)
-first_day_is (negsuc n) h k l = omega (arith, ints, epoch, years_before (suc n), ceiled_quotient_range h, ceiled_quotient_range k, ceiled_quotient_range l)
-
--- by eras of 400 years, and the years of the era before it
-pub in_era : (era : ℤ) (n : ℕ) (year : ℤ) → year ≡ pos 400 *ℤ era +ℤ pos n +ℤ pos 1 → first_day year ≡ pos 146097 *ℤ era +ℤ pos (365 * n + n / 4 + n / 400) -ℤ pos (n / 100 + 719162)
+-- the first day after them, by eras of 400 years
+pub in_era : (era : ℤ) (n : ℕ) (year : ℤ) → year ≡ pos 400 *ℤ era +ℤ pos n +ℤ pos 1 → first_day year ≡ pos 146097 *ℤ era +ℤ pos (march_days n) -ℤ pos 719162
 in_era era n (pos zero) e = omega (arith, ints, epoch, none_after)
 in_era era n (pos (suc m)) e = omega (arith, ints, epoch, years_after m, years_before m)
 in_era era n (negsuc m) e = omega (arith, ints, epoch, years_before (suc m))
@@ -109,14 +101,3 @@ pub later_year : (x y : ℤ) → x <ℤ y → first_day (x +ℤ pos 1) ≤ℤ fi
 later_year x y less = by_lt_z (x +ℤ pos 1) y
     (λ apart. let long = mean_length (x +ℤ pos 1) in let short = mean_length y in omega (arith, ints))
     (λ next. let same : y ≡ x +ℤ pos 1 = omega (arith, ints) in rw same (omega (arith, ints)))
-
--- the year of the mean length, and the next one
-pub mean_year_is : (year : ℤ) {day : ℤ} → (pos 146097 *ℤ (year -ℤ pos 1970)) ≤ℤ (pos 400 *ℤ (day -ℤ pos 2)) → (pos 400 *ℤ (day -ℤ pos 2)) <ℤ (pos 146097 *ℤ (year -ℤ pos 1969))
-    → (first_day year ≤ℤ day) × (day <ℤ first_day (year +ℤ pos 1 +ℤ pos 1))
-mean_year_is year from before =
-    let short = mean_length year in
-    let long = mean_length (year +ℤ pos 1 +ℤ pos 1) in
-    (omega (arith, ints), omega (arith, ints))
-
--- numbers as the code reads them
-pub ruleset reads = (ints, to_z-of_z)

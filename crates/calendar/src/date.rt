@@ -2,8 +2,9 @@
 
 ghost use Rattle.calendar.specs.Years.{IsDate};
 
-use crate::months::{days_before_month, days_in_month, days_in_year, months_of};
-use crate::years::{days_before_day, first_day_of, narrowed, year_of_day};
+use crate::eras::{days_to_month, march_year_of_day, month_and_day};
+use crate::months::{days_before_month, days_in_month, days_in_year};
+use crate::years::narrowed;
 use num_integer::div_mod_floor;
 
 /// A date of the proleptic Gregorian calendar, in any year of `i64`. The year before year 1 is
@@ -48,8 +49,13 @@ impl Date {
         ensures number { number_of result ≡ day }
         ensures only { IsOnly (λ date. number_of date ≡ day) result }
     {
-        let year = year_of_day(day);
-        Date::in_year(year, days_before_day(year, day))
+        let (year, days) = march_year_of_day(day);
+        let (month, day_of_month) = month_and_day(days);
+        Date {
+            year: if days < 306 { year } else { year + 1 },
+            month,
+            day_of_month,
+        }
     }
 
     /// Returns the day of the date, counted from 1970-01-01, or `None` where it does not fit. That of
@@ -148,8 +154,10 @@ impl Date {
             ((date : Date) → number_of date ≡ number_of self.now +ℤ days → ¬ (FitsSigned w64 date.year))
             (λ date. number_of date ≡ number_of self.now +ℤ days) }
     {
-        let (eras, day) = div_mod_floor(self.number() + i128::from(days), 146097);
-        Date::from_day(day as i64).eras_later(eras as i64)
+        let (era, day) = self.day_of_era();
+        let (eras, rest) = div_mod_floor(days, 146097);
+        // 1970-01-01 is day 865566 of era 0.
+        Date::from_day(i64::from(day) + rest - 865566).eras_later(era + eras)
     }
 
     /// Returns the date `eras` times 400 years after this one, or `None` where its year does not fit.
@@ -169,7 +177,20 @@ impl Date {
         ensures value { result ≡ number_of self.now }
         ensures small { unsigned_abs result < 2 ^ 73 }
     {
-        first_day_of(self.year) + i128::from(self.day_of_year()) - 1
+        let (era, day) = self.day_of_era();
+        146097 * i128::from(era) + i128::from(day) - 865566
+    }
+
+    /// Returns the era of the year of the date, and the day of the date counted from 1 March of the year
+    /// 400 years before the era, which is 1.
+    pub(crate) fn day_of_era(&self) -> (i64, u32)
+        ensures number { number_of self.now ≡ pos 146097 *ℤ result.0 +ℤ pos result.1 -ℤ pos 865566 }
+        ensures small { unsigned_abs result.0 < 2 ^ 55 }
+        ensures below { result.1 < 2 ^ 19 }
+    {
+        let (era, year) = div_mod_floor(self.year, 400);
+        let month = days_to_month(year as u32, self.month);
+        (era, month + u32::from(self.day_of_month))
     }
 
     /// Returns the date in a year that has `days` days of the year before it.
@@ -178,17 +199,18 @@ impl Date {
         ensures year { result.year ≡ year }
         ensures day { year_day_of result ≡ days + 1 }
     {
-        let mut rest = days;
-        for (i, length) in months_of(year).iter().enumerate() {
-            if rest < u16::from(*length) {
-                return Date {
-                    year,
-                    month: i as u8 + 1,
-                    day_of_month: rest as u8 + 1,
-                };
-            }
-            rest -= u16::from(*length);
+        // 1 January is 306 days after the last 1 March.
+        let march = days_before_month(year, 3);
+        let from_march = if days < march {
+            days + 306
+        } else {
+            days - march
+        };
+        let (month, day_of_month) = month_and_day(u32::from(from_march));
+        Date {
+            year,
+            month,
+            day_of_month,
         }
-        unreachable!()
     }
 }

@@ -1,6 +1,6 @@
 //! The weeks of ISO 8601, from Monday to Sunday.
 
-ghost use Rattle.std.specs.Prelude.{◌≡◌, ◌+◌, ◌%◌, ◌<◌, ◌≤◌, ◌^◌, ◌+ℤ◌, ◌-ℤ◌, ◌*ℤ◌, ◌<ℤ◌, ◌≤ℤ◌, ℕ, ℤ, pos, unsigned_abs, FitsSigned, IfSome, MatchOption};
+ghost use Rattle.std.specs.Prelude.{◌≡◌, ◌↔◌, ◌+◌, ◌%◌, ◌<◌, ◌≤◌, ◌+ℤ◌, ◌-ℤ◌, ◌*ℤ◌, ◌<ℤ◌, ◌≤ℤ◌, ℕ, ℤ, pos, FitsSigned, IfSome, IsTrue, MatchOption};
 ghost use Rattle.std.specs.Int.{w64};
 ghost use Rattle.num_integer.specs.Division.{IsFloored, IsRemainder};
 ghost use Rattle.calendar.specs.Dates.{number_of};
@@ -10,10 +10,11 @@ ghost use Rattle.calendar.specs.Weeks.{HasWeekday};
 ghost use Rattle.calendar.specs.Years.{days_in_year, first_day};
 ghost use Rattle.calendar.specs.declared.weekday.Weekday.TheVariants.{Thursday};
 
+use crate::eras::days_to_month;
 use crate::months::days_in_year;
+use crate::weekday::weekday_after_sunday;
 use crate::weeks::days_after_sunday;
-use crate::years::first_day_of;
-use crate::{Date, Weekday, weekday_of};
+use crate::{Date, Weekday};
 use num_integer::mod_floor;
 
 /// A week of ISO 8601, from Monday to Sunday. Its year is the one that has its Thursday, and week 1
@@ -29,7 +30,9 @@ impl Date {
     pub fn weekday(&self) -> Weekday
         ensures { HasWeekday (number_of self.now) result }
     {
-        weekday_of(mod_floor(self.number(), 7) as i64)
+        // Eras are whole weeks, and day 0 of each is a Tuesday.
+        let (_, day) = self.day_of_era();
+        weekday_after_sunday(day + 2)
     }
 
     /// Returns the week of ISO 8601 that has the date, or `None` where its year is beyond `i64`. That
@@ -41,11 +44,10 @@ impl Date {
         ensures from_one { IfSome result (λ found. 1 ≤ found.week) }
         ensures to_53 { IfSome result (λ found. found.week ≤ 53) }
     {
-        let thursday = date_near(self.year, thursday_of_week(self))?;
-        let week = (thursday.day_of_year() - 1) / 7 + 1;
+        let (year, days) = year_near(self.year, thursday_of_week(self))?;
         Some(IsoWeek {
-            year: thursday.year,
-            week: week as u8,
+            year,
+            week: (days / 7 + 1) as u8,
         })
     }
 
@@ -57,7 +59,7 @@ impl Date {
             (λ date. IsDayOfIsoWeek (number_of date) year week weekday) }
     {
         let thursday = thursday_of_iso_week(year, week);
-        if 0 <= thursday && thursday < length_of(year) {
+        if is_in_year(year, thursday) {
             date_near(year, day_of_week(thursday, weekday))
         } else {
             None
@@ -73,18 +75,17 @@ fn thursday_of_week(date: &Date) -> i64
     ensures from { pos 0 ≤ℤ (result +ℤ pos 6) }
     ensures below { result <ℤ pos 372 }
 {
-    i64::from(date.day_of_year()) + 2 - days_since_monday(date.number())
+    i64::from(date.day_of_year()) + 2 - days_since_monday(date)
 }
 
-/// Returns the number of days since the last Monday.
-#[tactic(auto, using(num_integer::proofs::ForCallers::floored_remainder_range))]
-fn days_since_monday(day: i128) -> i64
-    requires { unsigned_abs day < 2 ^ 73 }
-    ensures value { IsRemainder IsFloored (day +ℤ pos 3) (pos 7) result }
+/// Returns the number of days from the last Monday to the date.
+fn days_since_monday(date: &Date) -> i64
+    ensures value { IsRemainder IsFloored (number_of date.now +ℤ pos 3) (pos 7) result }
     ensures from { pos 0 ≤ℤ result }
     ensures below { result <ℤ pos 7 }
 {
-    mod_floor(day + 3, 7) as i64
+    let (_, day) = date.day_of_era();
+    i64::from((day + 1) % 7)
 }
 
 /// Returns the number of days from 1 January to the Thursday of the week, also where the year is too
@@ -101,7 +102,9 @@ fn thursday_of_iso_week(year: i64, week: u8) -> i64
 fn first_thursday(year: i64) -> i64
     ensures { IsRemainder IsFloored (pos 0 -ℤ first_day year) (pos 7) result }
 {
-    mod_floor(-first_day_of(year), 7) as i64
+    // 1 March of the first year of an era is a Wednesday.
+    let january = days_to_month(mod_floor(year, 400) as u32, 1);
+    6 - i64::from((january + 5) % 7)
 }
 
 /// Returns the number of days from a Monday to the day of the week.
@@ -132,6 +135,14 @@ fn length_of(year: i64) -> i64
     i64::from(days_in_year(year))
 }
 
+/// Returns `true` if the day `days` days after 1 January of the year is in the year.
+#[tactic(auto, using(crate::proofs::YearLengths::length_range))]
+fn is_in_year(year: i64, days: i64) -> bool
+    ensures { IsTrue result ↔ ((pos 0 ≤ℤ days) × (days <ℤ pos (days_in_year year))) }
+{
+    0 <= days && (days < 365 || days < length_of(year))
+}
+
 /// Returns the date `days` days after 1 January of a year, or `None` where its year is beyond `i64`.
 /// It is in the year or in the one before or after it.
 fn date_near(year: i64, days: i64) -> Option<Date>
@@ -141,23 +152,27 @@ fn date_near(year: i64, days: i64) -> Option<Date>
         ((y : ℤ) → HasDay y (first_day year +ℤ days) → ¬ (FitsSigned w64 y))
         (λ date. number_of date ≡ first_day year +ℤ days) }
 {
-    let length = length_of(year);
-    if days < 0 {
-        let before = year.checked_sub(1)?;
-        Some(date_in(before, days + length_of(before)))
-    } else if days < length {
-        Some(date_in(year, days))
-    } else {
-        let after = year.checked_add(1)?;
-        Some(date_in(after, days - length))
-    }
+    let (year, days) = year_near(year, days)?;
+    Some(Date::in_year(year, days))
 }
 
-/// Returns the date `days` days after 1 January of its year.
-fn date_in(year: i64, days: i64) -> Date
-    requires from { pos 0 ≤ℤ days }
-    requires below { days <ℤ pos (days_in_year year) }
-    ensures { number_of result ≡ first_day year +ℤ days }
+/// Returns the year of the day `days` days after 1 January of a year, and how many days of that year
+/// lie before the day, or `None` where it is beyond `i64`.
+fn year_near(year: i64, days: i64) -> Option<(i64, u16)>
+    requires from { pos 0 ≤ℤ (days +ℤ pos 6) }
+    requires below { days <ℤ pos 372 }
+    ensures { MatchOption result
+        ((y : ℤ) → HasDay y (first_day year +ℤ days) → ¬ (FitsSigned w64 y))
+        (λ found. (found.1 < days_in_year found.0)
+        × (first_day found.0 +ℤ pos found.1 ≡ first_day year +ℤ days)) }
 {
-    Date::in_year(year, days as u16)
+    if is_in_year(year, days) {
+        Some((year, days as u16))
+    } else if days < 0 {
+        let before = year.checked_sub(1)?;
+        Some((before, (days + length_of(before)) as u16))
+    } else {
+        let after = year.checked_add(1)?;
+        Some((after, (days - length_of(year)) as u16))
+    }
 }

@@ -3,6 +3,7 @@
 
 mod date;
 mod distance;
+mod eras;
 mod feasts;
 mod iso_weeks;
 mod month_steps;

@@ -8,7 +8,6 @@ ghost use Rattle.calendar.specs.declared.date.Date.{Date};
 
 use crate::weeks::days_until;
 use crate::{Date, Weekday};
-use num_integer::mod_floor;
 
 /// Returns the date of the `n`-th `weekday` of the month, counted from 1, or `None` where there is
 /// none. `nth_weekday_of_month(2026, 11, Weekday::Thursday, 4)` is 2026-11-26.
@@ -31,6 +30,7 @@ fn days_until_weekday(date: &Date, weekday: Weekday) -> u8
     ensures weekday { HasWeekday (number_of date.now +ℤ pos result) weekday }
     ensures small { result < 7 }
 {
-    // Days 7 days apart have the same day of the week, and the day from 0 to 6 fits.
-    days_until(mod_floor(date.number(), 7) as i64, weekday)
+    // Eras are whole weeks, and day 2 of each has the weekday of 1970-01-01.
+    let (_, day) = date.day_of_era();
+    days_until(i64::from(day) - 2, weekday)
 }

@@ -1,6 +1,6 @@
 //! Days of the week.
 
-ghost use Rattle.std.specs.Prelude.{◌+ℤ◌, pos};
+ghost use Rattle.std.specs.Prelude.{◌≡◌, ◌%◌, ◌+ℤ◌, pos};
 ghost use Rattle.num_integer.specs.Division.{IsFloored, IsRemainder};
 ghost use Rattle.calendar.specs.Weekday.{weekday_number};
 
@@ -23,7 +23,14 @@ pub enum Weekday {
 pub fn weekday_of(day: i64) -> Weekday
     ensures { IsRemainder IsFloored (day +ℤ pos 4) (pos 7) (pos (weekday_number result)) }
 {
-    match days_since_sunday(day) {
+    weekday_after_sunday(mod_floor(day, 7) as u32 + 4)
+}
+
+/// Returns the day of the week of a day `days` days after a Sunday.
+pub(crate) fn weekday_after_sunday(days: u32) -> Weekday
+    ensures { weekday_number result ≡ days % 7 }
+{
+    match days % 7 {
         0 => Weekday::Sunday,
         1 => Weekday::Monday,
         2 => Weekday::Tuesday,
@@ -32,11 +39,4 @@ pub fn weekday_of(day: i64) -> Weekday
         5 => Weekday::Friday,
         _ => Weekday::Saturday,
     }
-}
-
-/// Returns how many days ago the last Sunday was.
-fn days_since_sunday(day: i64) -> i64
-    ensures { IsRemainder IsFloored (day +ℤ pos 4) (pos 7) result }
-{
-    mod_floor(mod_floor(day, 7) + 4, 7)
 }

@@ -19,7 +19,7 @@ const MIN: i64 = i64::MIN;
 const MAX: i64 = i64::MAX;
 
 /// Year, month and day of the month, the day, the day of the year, and the day of the week.
-const DATES: [((i64, u8, u8), i64, u16, Weekday); 17] = [
+const DATES: [((i64, u8, u8), i64, u16, Weekday); 25] = [
     ((1970, 1, 1), 0, 1, Thursday),
     ((1969, 12, 31), -1, 365, Wednesday),
     ((2000, 2, 29), 11016, 60, Tuesday),
@@ -37,6 +37,14 @@ const DATES: [((i64, u8, u8), i64, u16, Weekday); 17] = [
     ((-1, 12, 31), -719529, 365, Friday),
     ((-4, 2, 29), -720930, 60, Thursday),
     ((9999, 12, 31), 2932896, 365, Friday),
+    ((-25252734927764585, 6, 7), MIN, 158, Wednesday),
+    ((-25252734927764585, 12, 31), MIN + 207, 365, Sunday),
+    ((-25252734927764584, 1, 1), MIN + 208, 1, Monday),
+    ((-25252734927764185, 6, 6), MIN + 146096, 157, Tuesday),
+    ((25252734927768124, 7, 28), MAX - 146096, 210, Friday),
+    ((25252734927768524, 1, 1), MAX - 208, 1, Saturday),
+    ((25252734927768524, 1, 2), MAX - 207, 2, Sunday),
+    ((25252734927768524, 7, 27), MAX, 209, Thursday),
 ];
 
 /// Years, months and days of the month that are no dates.
@@ -71,7 +79,11 @@ fn known_dates(rt: HostRuntime) {
                 && Date::from_year_day(found.year, day_of_year) == Some(found),
             &("day_of_year", day),
         );
-        holds_at(&rt, weekday_of(day) == weekday, &("weekday_of", day));
+        holds_at(
+            &rt,
+            weekday_of(day) == weekday && found.weekday() == weekday,
+            &("weekday_of", day),
+        );
     }
     for (year, month, day_of_month) in NO_DATES {
         holds_at(

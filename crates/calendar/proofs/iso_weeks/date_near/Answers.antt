@@ -1,63 +1,21 @@
-use Rattle.std.specs.Prelude.{◌≡◌, ◌+ℤ◌, ◌-ℤ◌, pos, FitsSigned}
+use Rattle.std.specs.Prelude.{FitsSigned}
 use Rattle.std.specs.Int.{w64}
-use Rattle.std.proofs.Common.{arith}
+use Rattle.std.proofs.Common.{arith, rules}
 use Rattle.std.proofs.lemmas.Int.{ints, to_z-of_z}
-use Rattle.calendar.proofs.IsoWeeks.{earlier, later}
-use Rattle.calendar.proofs.YearLengths.{length_range, next_first_day}
 use Rattle.calendar.proofs.iso_weeks.date_near.Goals as goal
 
-pub returns-in_err-before : goal.returns-in_err-before
-returns-in_err-before c =
+pub returns-in_err-year : goal.returns-in_err-year
+returns-in_err-year c =
     let year = c.ranges.year in
     let days = c.ranges.days in
-    let beyond = simp to_z-of_z at c.in_err-before.ensures in
-    rw c.from_residual.ensures (λ y h fits. let less = earlier {year = c.args.year} h (omega (arith, ints)) in beyond (omega (arith, ints)))
+    rw c.from_residual.ensures (simp to_z-of_z at c.in_err-year.ensures)
 
-pub returns-in_err-after : goal.returns-in_err-after
-returns-in_err-after c =
+pub returns : goal.returns
+returns c =
     let year = c.ranges.year in
     let days = c.ranges.days in
-    let length = simp to_z-of_z at c.length_of-length.ensures.value in
-    let beyond = simp to_z-of_z at c.in_err-after.ensures in
-    rw c.from_residual-in_err-after.ensures (λ y h fits. let more = later {year = c.args.year} h (omega (arith, ints, next_first_day c.args.year)) in beyond (omega (arith, ints)))
-
-pub date_in-requires-else-days-length-clause-below : goal.date_in-requires-else-days-length-clause-below
-date_in-requires-else-days-length-clause-below c =
-    let year = c.ranges.year in
-    let days = c.ranges.days in
-    let step = simp to_z-of_z at c.in_ok-after.ensures in
-    let fits = step.0 in
-    let from = c.length_of-length.ensures.from in
-    let to = c.length_of-length.ensures.to in
-    rw step.1 (simp to_z-of_z (omega (arith, ints, length_range (c.args.year +ℤ pos 1))))
-
-pub returns-in_ok-before : goal.returns-in_ok-before
-returns-in_ok-before c =
-    let year = c.ranges.year in
-    let days = c.ranges.days in
-    let step = simp to_z-of_z at c.in_ok-before.ensures in
-    let same : c.in_ok-before.before +ℤ pos 1 ≡ c.args.year = omega (arith, ints, step.1) in
-    let before : FitsSigned w64 c.in_ok-before.before = omega (arith, ints, step.1, step.0) in
-    let from = c.length_of.ensures.from in
-    let to = c.length_of.ensures.to in
-    let length = simp to_z-of_z at c.length_of.ensures.value in
-    let length_fits : FitsSigned w64 c.length_of.result = omega (arith, ints) in
-    let sum : FitsSigned w64 (c.args.days +ℤ c.length_of.result) = omega (arith, ints) in
-    let found = simp to_z-of_z at c.date_in.ensures in
-    let next = rw same at (next_first_day c.in_ok-before.before) in
-    omega (arith, ints, found, next, length)
-
-pub returns-in_ok-after : goal.returns-in_ok-after
-returns-in_ok-after c =
-    let year = c.ranges.year in
-    let days = c.ranges.days in
-    let step = simp to_z-of_z at c.in_ok-after.ensures in
-    let fits = step.0 in
-    let after : FitsSigned w64 c.in_ok-after.after = omega (arith, ints, step.1, step.0) in
-    let from = c.length_of-length.ensures.from in
-    let to = c.length_of-length.ensures.to in
-    let length = simp to_z-of_z at c.length_of-length.ensures.value in
-    let length_fits : FitsSigned w64 c.length_of-length.result = omega (arith, ints) in
-    let rest : FitsSigned w64 (c.args.days -ℤ c.length_of-length.result) = omega (arith, ints) in
-    let found = rw step.1 at (simp to_z-of_z at c.date_in-else-days-length.ensures) in
-    omega (arith, ints, found, next_first_day c.args.year, length)
+    let own : FitsSigned w64 c.in_ok-year.year = search rules in
+    let (within, place) = simp to_z-of_z at c.in_ok-year.ensures in
+    let same = simp to_z-of_z at c.in_year.ensures.year in
+    let day = rw same at c.in_year.ensures.day in
+    rw same (omega (arith, ints, place, day))

@@ -1,8 +1,9 @@
 use Rattle.std.specs.Prelude.{◌≡◌, ◌≤◌, ◌+ℤ◌, ◌-ℤ◌, pos, FitsSigned}
-use Rattle.std.specs.Int.{w64, w128}
+use Rattle.std.specs.Int.{w64}
 use Rattle.std.proofs.Common.{arith}
 use Rattle.std.proofs.lemmas.Int.{ints, to_z-of_z}
 use Rattle.num_integer.specs.Division.{IsFloored, IsRemainder}
+use Rattle.calendar.specs.Dates.{number_of}
 use Rattle.calendar.specs.Years.{first_day}
 use Rattle.calendar.proofs.DateOrder.{year_day_range}
 use Rattle.calendar.proofs.IsoWeeks.{of_week}
@@ -12,9 +13,7 @@ use Rattle.calendar.proofs.iso_weeks.thursday_of_week.Goals as goal
 pub returns-clause-of_week : goal.returns-clause-of_week
 returns-clause-of_week c =
     let date = c.args.date.now in
-    let small = c.number.ensures.small in
-    let fits : FitsSigned w128 c.number.result = omega (arith, ints) in
-    let since : IsRemainder IsFloored (c.number.result +ℤ pos 3) (pos 7) c.days_since_monday.result = simp to_z-of_z at c.days_since_monday.ensures.value in
+    let since : IsRemainder IsFloored (number_of date +ℤ pos 3) (pos 7) c.days_since_monday.result = c.days_since_monday.ensures.value in
     let from = c.days_since_monday.ensures.from in
     let below = c.days_since_monday.ensures.below in
     let day = c.day_of_year.ensures.day in
@@ -25,5 +24,5 @@ returns-clause-of_week c =
     let plus_fits : FitsSigned w64 (pos c.day_of_year.result +ℤ pos 2) = omega (arith, ints, to) in
     let since_fits : FitsSigned w64 c.days_since_monday.result = omega (arith, ints, from, below) in
     let rest_fits : FitsSigned w64 (pos c.day_of_year.result +ℤ pos 2 -ℤ c.days_since_monday.result) = omega (arith, ints, to, from, below) in
-    let same : c.number.result +ℤ pos 3 -ℤ c.days_since_monday.result ≡ first_day date.year +ℤ (pos c.day_of_year.result +ℤ pos 2 -ℤ c.days_since_monday.result) = omega (arith, ints, c.number.ensures.value, day) in
-    simp (c.from.ensures, to_z-of_z) (rw c.number.ensures.value at (rw same at (of_week {day = c.number.result} since)))
+    let same : number_of date +ℤ pos 3 -ℤ c.days_since_monday.result ≡ first_day date.year +ℤ (pos c.day_of_year.result +ℤ pos 2 -ℤ c.days_since_monday.result) = omega (arith, ints, day) in
+    simp (c.from.ensures, to_z-of_z) (rw same at (of_week {day = number_of date} since))

@@ -1,17 +1,18 @@
-use Rattle.std.specs.Prelude.{FitsSigned}
-use Rattle.std.specs.Int.{w64, w128}
-use Rattle.std.proofs.Common.{arith, sym}
+use Rattle.std.specs.Prelude.{◌+ℤ◌, ◌-ℤ◌, ◌*ℤ◌, pos, FitsSigned}
+use Rattle.std.specs.Int.{w64}
+use Rattle.std.proofs.Common.{arith}
 use Rattle.std.proofs.lemmas.Int.{ints, to_z-of_z}
-use Rattle.num_integer.proofs.ForCallers.{floored_remainder_range}
+use Rattle.calendar.specs.Weeks.{IsFirstWeekday}
 use Rattle.calendar.proofs.MonthWeekdays.{until_weekday}
 use Rattle.calendar.proofs.month_weekdays.days_until_weekday.Goals as goal
 
 pub returns : goal.returns
 returns c =
-    let number : FitsSigned w128 c.number.result = omega (arith, ints) in
-    let wide = c.mod_floor.ensures.in_range in
-    let rest = simp to_z-of_z at c.mod_floor.ensures.floored in
-    let range = floored_remainder_range (omega (arith, ints)) rest in
-    let near : FitsSigned w64 c.mod_floor.result = omega (arith, ints) in
-    let found = until_weekday rest (simp to_z-of_z at c.days_until.ensures) in
-    record { weekday = rw (sym c.number.ensures.value) found.0; small = found.1 }
+    let era = c.day_of_era-day.result.0 in
+    let day = c.day_of_era-day.result.1 in
+    let below = c.day_of_era-day.ensures.below in
+    let fits : FitsSigned w64 (pos day) = omega (arith, ints) in
+    let less : FitsSigned w64 (pos day -ℤ pos 2) = omega (arith, ints) in
+    let first : IsFirstWeekday (pos day -ℤ pos 2) c.args.weekday (pos day -ℤ pos 2 +ℤ pos c.days_until.result) = simp (c.from.ensures, to_z-of_z) at c.days_until.ensures in
+    let found = until_weekday (pos 20871 *ℤ era -ℤ pos 123652) (omega (arith, ints, c.day_of_era-day.ensures.number)) first in
+    record { weekday = found.0; small = found.1 }

@@ -2,7 +2,7 @@ use Rattle.std.specs.Prelude.{◌+ℤ◌, ◌*ℤ◌, pos, FitsSigned}
 use Rattle.std.specs.Int.{w64, w128}
 use Rattle.std.proofs.Common.{arith, rules}
 use Rattle.std.proofs.lemmas.Int.{ints, to_z-of_z}
-use Rattle.calendar.proofs.Eras.{date_later}
+use Rattle.calendar.proofs.LaterEras.{date_later}
 use Rattle.calendar.proofs.date.Date.eras_later.Goals as goal
 
 pub returns-in_err-narrowed : goal.returns-in_err-narrowed

@@ -1,21 +1,42 @@
-use Rattle.std.proofs.Common.{◌≡◌, ◌+◌, ◌-◌, arith}
+use Rattle.std.proofs.Common.{arith}
 use Rattle.std.proofs.lemmas.Int.{to_z-of_z}
-use Rattle.calendar.specs.Years.{days_in_year}
+use Rattle.calendar.proofs.MarchYears.{third_month}
+use Rattle.calendar.proofs.YearLengths.{length_range}
 use Rattle.calendar.proofs.date.Date.in_year.Goals as goal
+use Rattle.calendar.proofs.date.Date.in_year.Goals.{then-days-march, else-days-march}
 
-pub returns-then-rest-from-clause-day : goal.returns-then-rest-from-clause-day
-returns-then-rest-from-clause-day c =
-    let fits = c.ranges.year in
-    let months = simp to_z-of_z at c.months_of.ensures in
-    let kept = rw months at c.loop-i.invariant in
-    let before : c.loop-i.i + 1 - 1 ≡ c.loop-i.i = omega arith in
-    simp to_z-of_z (rw before (omega arith))
+pub month_and_day-month-requires : goal.month_and_day-month-requires
+month_and_day-month-requires c =
+    let year = c.ranges.year in
+    let march = simp to_z-of_z at c.days_before_month-march.ensures in
+    let length = length_range c.args.year in
+    elim c.if-days-march.branch [
+      | then-days-march w ↦ omega (arith, c.from.ensures, w.from_march-is, third_month c.args.year)
+      | else-days-march w ↦ omega (arith, c.from.ensures, w.from_march-is, c.requires)
+    ]
 
-pub unreachable-requires : goal.unreachable-requires
-unfolding days_in_year
-unreachable-requires c =
-    let fits = c.ranges.year in
-    let months = simp to_z-of_z at c.months_of.ensures in
-    let end : c.loop-i.i ≡ 12 = omega arith in
-    let kept = rw (end, months) at c.loop-i.invariant in
-    omega (arith, c.requires)
+pub invariant_of-result : goal.invariant_of-result
+invariant_of-result c =
+    let year = c.ranges.year in
+    let march = simp to_z-of_z at c.days_before_month-march.ensures in
+    elim c.if-days-march.branch [
+      | then-days-march w ↦
+          let found = c.month_and_day-month.ensures.next_year c.args.year (omega (arith, c.from.ensures, w.from_march-is)) (omega (arith, c.from.ensures, w.from_march-is, w.if-days-march.true, march)) in
+          record { valid = simp to_z-of_z found.0 }
+      | else-days-march w ↦
+          let found = c.month_and_day-month.ensures.from_march c.args.year (omega (arith, c.from.ensures, w.from_march-is, march, c.requires, third_month c.args.year)) in
+          record { valid = simp to_z-of_z found.0 }
+    ]
+
+pub returns-clause-day : goal.returns-clause-day
+returns-clause-day c =
+    let year = c.ranges.year in
+    let march = simp to_z-of_z at c.days_before_month-march.ensures in
+    elim c.if-days-march.branch [
+      | then-days-march w ↦
+          let found = c.month_and_day-month.ensures.next_year c.args.year (omega (arith, c.from.ensures, w.from_march-is)) (omega (arith, c.from.ensures, w.from_march-is, w.if-days-march.true, march)) in
+          simp to_z-of_z (omega (arith, found.1, c.from.ensures, w.from_march-is))
+      | else-days-march w ↦
+          let found = c.month_and_day-month.ensures.from_march c.args.year (omega (arith, c.from.ensures, w.from_march-is, march, c.requires, third_month c.args.year)) in
+          simp to_z-of_z (omega (arith, found.1, c.from.ensures, w.from_march-is, w.if-days-march.false, march))
+    ]

@@ -1,0 +1,79 @@
+-- The months, and years that begin on 1 March.
+use Rattle.std.specs.Prelude.{◌≡◌, ◌+◌, ◌-◌, ◌*◌, ◌/◌, ◌%◌, ◌<◌, ◌≤◌, ◌+ℤ◌, ◌-ℤ◌, ◌*ℤ◌, ℕ, zero, suc, ℤ, pos, Bool, sum, take}
+use Rattle.std.proofs.Common.{ap, arith, refl}
+use Rattle.std.proofs.lemmas.Int.{ints}
+use Rattle.calendar.specs.Years.{day_number, days_before_month, days_in_year, first_day, is_leap_year, month_lengths}
+use Rattle.calendar.proofs.YearLengths.{in_era, march_days, next_first_day}
+
+-- ---- months
+
+-- the days from 1 March to the first of a later month
+abbrev pub march_months : ℕ → ℕ
+march_months month = (153 * month - 457) / 5
+
+before_month : (leap : Bool) (month : ℕ) → 3 ≤ month → month ≤ 12 → sum (take (month - 1) (month_lengths leap)) ≡ sum (take 2 (month_lengths leap)) + march_months month
+before_month leap zero from to = absurd (omega arith)
+before_month leap (suc zero) from to = absurd (omega arith)
+before_month leap (suc (suc zero)) from to = absurd (omega arith)
+before_month leap (suc (suc (suc zero))) from to = omega arith
+before_month leap (suc (suc (suc (suc zero)))) from to = omega arith
+before_month leap (suc (suc (suc (suc (suc zero))))) from to = omega arith
+before_month leap (suc (suc (suc (suc (suc (suc zero)))))) from to = omega arith
+before_month leap (suc (suc (suc (suc (suc (suc (suc zero))))))) from to = omega arith
+before_month leap (suc (suc (suc (suc (suc (suc (suc (suc zero)))))))) from to = omega arith
+before_month leap (suc (suc (suc (suc (suc (suc (suc (suc (suc zero))))))))) from to = omega arith
+before_month leap (suc (suc (suc (suc (suc (suc (suc (suc (suc (suc zero)))))))))) from to = omega arith
+before_month leap (suc (suc (suc (suc (suc (suc (suc (suc (suc (suc (suc zero))))))))))) from to = omega arith
+before_month leap (suc (suc (suc (suc (suc (suc (suc (suc (suc (suc (suc (suc zero)))))))))))) from to = omega arith
+before_month leap (suc (suc (suc (suc (suc (suc (suc (suc (suc (suc (suc (suc (suc n))))))))))))) from to = absurd (omega arith)
+
+pub from_third_month : (year : ℤ) (month : ℕ) → 3 ≤ month → month ≤ 12 → days_before_month year month ≡ days_before_month year 3 + march_months month
+from_third_month year month from to = before_month (is_leap_year year) month from to
+
+-- January has 31 days
+second_month : (year : ℤ) (month : ℕ) → 1 ≤ month → month ≤ 2 → days_before_month year month ≡ 31 * (month - 1)
+second_month year zero from to = absurd (omega arith)
+second_month year (suc zero) from to = refl
+second_month year (suc (suc zero)) from to = refl
+second_month year (suc (suc (suc n))) from to = absurd (omega arith)
+
+-- 306 days are left from 1 March on
+pub third_month : (year : ℤ) → days_before_month year 3 + 306 ≡ days_in_year year
+unfolding days_in_year
+third_month year = omega arith
+
+-- a day from March on, as a month and a day of that month
+pub month_and_day : (days : ℕ) → days < 306 → march_months ((2141 * days + 197913) / 65536) + (2141 * days + 197913) % 65536 / 2141 ≡ days
+month_and_day days small = omega arith
+
+-- ---- years
+
+-- the 1 March so many years after that of an era
+pub march_first : (era : ℤ) (n : ℕ) → day_number (pos 400 *ℤ era +ℤ pos n) 3 1 ≡ pos 146097 *ℤ era +ℤ pos (march_days n) -ℤ pos 719468
+march_first era n =
+    let next = in_era era n (pos 400 *ℤ era +ℤ pos n +ℤ pos 1) (omega (arith, ints)) in
+    omega (arith, ints, third_month (pos 400 *ℤ era +ℤ pos n), next_first_day (pos 400 *ℤ era +ℤ pos n))
+
+-- January and February come after the days from the 1 March before
+pub after_march : (year next : ℤ) (month : ℕ) → next ≡ year +ℤ pos 1 → 1 ≤ month → month ≤ 2 → day_number next month 1 ≡ day_number year 3 1 +ℤ pos (306 + 31 * (month - 1))
+after_march year next month same from to =
+    let own = second_month next month from to in
+    let first = ap first_day same in
+    omega (arith, ints, third_month year, next_first_day year)
+
+-- whole years in some days, and the days that are left
+abbrev pub years_in : ℕ → ℕ
+years_in days = 100 * ((4 * days + 3) / 146097) + ((4 * days + 3) % 146097 / 4 * 4 + 3) / 1461
+
+abbrev pub days_left : ℕ → ℕ
+days_left days = ((4 * days + 3) % 146097 / 4 * 4 + 3) % 1461 / 4
+
+pub whole_years : (days : ℕ) → days < 300000 → (days ≡ march_days (years_in days) + days_left days) × (days < march_days (years_in days + 1))
+whole_years days small = (omega arith, omega arith)
+
+-- so the days that are left are those of less than a year
+pub part_of_year : (era : ℤ) (n rest days : ℕ) → days ≡ march_days n + rest → days < march_days (n + 1) → rest < days_in_year (pos 400 *ℤ era +ℤ pos n +ℤ pos 1)
+part_of_year era n rest days split within =
+    let first = in_era era n (pos 400 *ℤ era +ℤ pos n +ℤ pos 1) (omega (arith, ints)) in
+    let second = in_era era (n + 1) (pos 400 *ℤ era +ℤ pos n +ℤ pos 1 +ℤ pos 1) (omega (arith, ints)) in
+    omega (arith, ints, next_first_day (pos 400 *ℤ era +ℤ pos n +ℤ pos 1))
