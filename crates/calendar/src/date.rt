@@ -43,8 +43,8 @@ impl Date {
         }
     }
 
-    /// Returns the date of a day, counted from 1970-01-01, which is day 0. `Date::from_day(-1)` is
-    /// 1969-12-31.
+    /// Returns the date of a day, counted from 1970-01-01, which is day 0.
+    /// `Some(Date::from_day(-1))` is `Date::new(1969, 12, 31)`.
     pub fn from_day(day: i64) -> Date
         ensures number { number_of result ≡ day }
         ensures only { IsOnly (λ date. number_of date ≡ day) result }
@@ -134,8 +134,8 @@ impl Date {
     }
 
     /// Returns the date of a day of a year, of which 1 January is 1, or `None` where the year has no
-    /// such day. `Date::from_year_day(2000, 60)` is 2000-02-29, and `Date::from_year_day(1900, 366)`
-    /// is `None`.
+    /// such day. `Date::from_year_day(2000, 60)` is `Date::new(2000, 2, 29)`, and
+    /// `Date::from_year_day(1900, 366)` is `None`.
     pub fn from_year_day(year: i64, day_of_year: u16) -> Option<Date>
         ensures { MatchOption result (¬ ((1 ≤ day_of_year) × (day_of_year ≤ days_in_year year)))
             (λ date. (date.year ≡ year) × (year_day_of date ≡ day_of_year)) }

@@ -12,7 +12,7 @@ use crate::weeks::days_after_sunday;
 use num_integer::{div_floor, mod_floor};
 
 /// Returns the date of Easter Sunday of a year: the first Sunday after the Paschal full moon, by the
-/// tables of Clavius for the Gregorian calendar. `easter(2024)` is 2024-03-31.
+/// tables of Clavius for the Gregorian calendar. `Some(easter(2024))` is `Date::new(2024, 3, 31)`.
 pub fn easter(year: i64) -> Date
     ensures year { result.year ≡ year }
     ensures easter { IsEaster year (number_of result) }

@@ -52,7 +52,7 @@ impl Date {
     }
 
     /// Returns the date of a day of a week of ISO 8601, or `None` where there is none.
-    /// `Date::from_iso_week(2009, 53, Weekday::Sunday)` is 2010-01-03.
+    /// `Date::from_iso_week(2009, 53, Weekday::Sunday)` is `Date::new(2010, 1, 3)`.
     pub fn from_iso_week(year: i64, week: u8, weekday: Weekday) -> Option<Date>
         ensures { MatchOption result
             ((day y : ℤ) → IsDayOfIsoWeek day year week weekday → HasDay y day → ¬ (FitsSigned w64 y))

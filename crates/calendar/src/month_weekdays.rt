@@ -10,7 +10,7 @@ use crate::weeks::days_until;
 use crate::{Date, Weekday};
 
 /// Returns the date of the `n`-th `weekday` of the month, counted from 1, or `None` where there is
-/// none. `nth_weekday_of_month(2026, 11, Weekday::Thursday, 4)` is 2026-11-26.
+/// none. `nth_weekday_of_month(2026, 11, Weekday::Thursday, 4)` is `Date::new(2026, 11, 26)`.
 pub fn nth_weekday_of_month(year: i64, month: u8, weekday: Weekday, n: u8) -> Option<Date>
     ensures { MatchOption result
         ((date : Date) → ¬ (IsNthWeekday year month weekday n date))

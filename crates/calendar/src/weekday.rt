@@ -19,7 +19,7 @@ pub enum Weekday {
 }
 
 /// Returns the day of the week of a day, counted from 1970-01-01, a Thursday.
-/// `weekday_of(-1)` is `Wednesday`.
+/// `weekday_of(-1)` is `Weekday::Wednesday`.
 pub fn weekday_of(day: i64) -> Weekday
     ensures { IsRemainder IsFloored (day +ℤ pos 4) (pos 7) (pos (weekday_number result)) }
 {

@@ -9,7 +9,7 @@ use crate::{Weekday, weekday_of};
 
 /// Returns the first day from `day` on that has the day of the week, counted from 1970-01-01, a
 /// Thursday, or `None` where it is beyond `i64`. `first_weekday_on_or_after(0, Weekday::Sunday)` is
-/// 3, and `first_weekday_on_or_after(3, Weekday::Sunday)` is 3.
+/// `Some(3)`, and `first_weekday_on_or_after(3, Weekday::Sunday)` is `Some(3)`.
 pub fn first_weekday_on_or_after(day: i64, weekday: Weekday) -> Option<i64>
     ensures { MatchOption result
         ((first : ℤ) → IsFirstWeekday day weekday first → ¬ (FitsSigned w64 first))

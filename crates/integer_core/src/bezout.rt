@@ -113,7 +113,8 @@ fn last_row<T: Integer>(a: T, b: T) -> (Row<T>, u32)
 }
 
 /// Returns [`Integer::extended_gcd`] and the turns of its loop. `extended_gcd_counted(8, 13)` is
-/// gcd 1, x 5, y -3, in 5 turns. The bound on the turns is Lamé's (1844); 8 and 13 reach it.
+/// `(ExtendedGcd { gcd: 1, x: 5, y: -3 }, 5)`. The bound on the turns is Lamé's (1844); 8 and 13 reach
+/// it.
 ///
 /// May be called where [`Integer::extended_gcd`] may.
 pub fn extended_gcd_counted<T: Integer>(a: T, b: T) -> (ExtendedGcd<T>, u32)

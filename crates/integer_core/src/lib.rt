@@ -170,8 +170,7 @@ pub trait Integer: Copy + Num + PartialOrd + Ord + Eq {
 
     /// Adds one. `x.inc()` turns an `x` of `41` into `42`.
     ///
-    /// May be called below the greatest number of the type. `checked::inc` of `num_integer` has no
-    /// condition.
+    /// May be called below the greatest number of the type. The call `checked::inc` has no condition.
     fn inc(&mut self)
         requires in_range { Self.fits (Self.value self.old) }
         requires sum_fits { Self.fits (Self.value self.old +ℤ pos 1) }
@@ -183,8 +182,7 @@ pub trait Integer: Copy + Num + PartialOrd + Ord + Eq {
 
     /// Subtracts one. `x.dec()` turns an `x` of `43` into `42`.
     ///
-    /// May be called above the least number of the type. `checked::dec` of `num_integer` has no
-    /// condition.
+    /// May be called above the least number of the type. The call `checked::dec` has no condition.
     fn dec(&mut self)
         requires in_range { Self.fits (Self.value self.old) }
         requires difference_fits { Self.fits (Self.value self.old -ℤ pos 1) }
@@ -240,7 +238,8 @@ pub trait Integer: Copy + Num + PartialOrd + Ord + Eq {
 
     /// Returns the greatest common divisor `gcd` and Bezout's coefficients `x` and `y`: over the
     /// whole numbers, `self` times `x` and `other` times `y` add up to `gcd`. `240.extended_gcd(&46)`
-    /// is gcd 2, x -9, y 47, and `5.extended_gcd(&0)` is gcd 5, x 1, y 0.
+    /// is `ExtendedGcd { gcd: 2, x: -9, y: 47 }`, and `5.extended_gcd(&0)` is
+    /// `ExtendedGcd { gcd: 5, x: 1, y: 0 }`.
     ///
     /// May be called where `Fits::gcd_fits` is true; at an unsigned type one operand must also divide
     /// the other.
@@ -257,8 +256,8 @@ pub trait Integer: Copy + Num + PartialOrd + Ord + Eq {
         extended_gcd_counted(*self, *other).0
     }
 
-    /// Returns [`Integer::extended_gcd`] and [`Integer::lcm`]. `10.extended_gcd_lcm(&4)` is gcd 2,
-    /// x 1, y -2, and 20.
+    /// Returns [`Integer::extended_gcd`] and [`Integer::lcm`]. `10.extended_gcd_lcm(&4)` is
+    /// `(ExtendedGcd { gcd: 2, x: 1, y: -2 }, 20)`.
     ///
     /// May be called where `Fits::gcd_fits` and `Fits::lcm_fits` are true.
     final fn extended_gcd_lcm(&self, other: &Self) -> (ExtendedGcd<Self>, Self)

@@ -1,5 +1,5 @@
-//! The numbers 0 and 1, the operators and three tests, with contracts over the numbers that the values
-//! mean. Each integer type has exact operators, so `exact` asks nothing of a caller.
+//! The numbers 0 and 1, the operators and three tests, over the numbers that the values mean. Each
+//! integer type has exact operators, so the condition `exact` asks nothing of a caller.
 
 ghost use Rattle.std.specs.Prelude.{◌≡◌, ◌≢◌, ◌↔◌, ◌<ℤ◌, ◌+ℤ◌, ◌-ℤ◌, ◌*ℤ◌, pos, neg_ℤ, int_rem, int_div, IsTrue};
 

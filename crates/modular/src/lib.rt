@@ -1,4 +1,4 @@
-//! Arithmetic modulo a number above 0, at every modulus of every lawful integer type.
+//! Arithmetic modulo a number above 0, at every modulus of every integer type.
 #![tactic(auto)]
 
 mod common_solutions;

@@ -139,7 +139,7 @@ pub fn binomial<T: Integer>(n: T, k: T) -> T
 }
 
 /// Returns the number of ways to share out the sum of the counts `k` into parts of these sizes.
-/// `multinomial(&[2, 1, 2])` is `30`, and `multinomial(&[])` is `1`.
+/// `multinomial(&[2, 1, 2])` is `30`, and `multinomial::<u8>(&[])` is `1`.
 ///
 /// May be called where [`crate::Fits::multinomial_fits`] is true.
 #[tactic(auto, using(crate::proofs::Multinomials::multinomial_first))]

@@ -27,8 +27,8 @@ pub struct Ratio {
 impl Ratio {
     ghost use Rattle.ratio64.specs.Ratio.{AnswersFraction, num_of, den_of};
 
-    /// Returns the fraction `num / den`, reduced. `Ratio::new(6, -4)` is -3/2, and
-    /// `Ratio::new(1, 0)` is `ZeroDenominator`.
+    /// Returns the fraction `num / den`, reduced. `Ratio::new(6, -4)` is `Ratio::new(-3, 2)`, and
+    /// `Ratio::new(1, 0)` is `Err(RatioError::ZeroDenominator)`.
     pub fn new(num: i64, den: i64) -> Result<Ratio, RatioError>
         ensures { AnswersFraction num den result }
     {
@@ -134,7 +134,7 @@ impl Ratio {
     }
 }
 
-/// A whole number is never refused: `Ratio::from(5)` is 5/1.
+/// A whole number is never refused: `Ok(Ratio::from(5))` is `Ratio::new(5, 1)`.
 impl From<i64> for Ratio {
     ghost use Rattle.ratio64.specs.Ratio.{num_of, den_of};
 

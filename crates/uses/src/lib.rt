@@ -1,5 +1,5 @@
-//! What people build on integer division: small calls over `num_integer` and `modular`, each with a
-//! contract in the words of its subject.
+//! What people build on integer division: paging, layout, schedules, ranking, the search by halves,
+//! powers and a rolling hash.
 #![tactic(auto)]
 
 pub mod halving;

@@ -35,7 +35,7 @@ impl RollingHash {
     }
 
     /// Returns the sum of the bytes, each times the base to the power of the number of bytes after it,
-    /// modulo the modulus. With base 10 and modulus 97, the hash of `[1, 2, 3]` is `26`.
+    /// modulo the modulus. `RollingHash::new(10, 97, 2).hash(&[1, 2, 3])` is `26`.
     pub fn hash(&self, window: &[u8]) -> u64
         ensures { IsResidue (pos self.now.modulus)
             (weighted_sum (pos self.now.base) window.now) (pos result) }
@@ -49,7 +49,7 @@ impl RollingHash {
     }
 
     /// Returns the hash of the window one byte further on, where `hash` is that of the window that
-    /// begins with `leaving`. With base 10, modulus 97 and two bytes kept, `slide(26, 1, 4)` is `40`.
+    /// begins with `leaving`. `RollingHash::new(10, 97, 2).slide(26, 1, 4)` is `40`.
     pub fn slide(&self, hash: u64, leaving: u8, entering: u8) -> u64
         ensures { (kept : List ℕ) → length kept ≡ self.now.kept
             → IsResidue (pos self.now.modulus) (weighted_sum (pos self.now.base) (leaving ∷ kept)) (pos hash)

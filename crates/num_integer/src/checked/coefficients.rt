@@ -67,8 +67,8 @@ pub fn multinomial<T: Fits>(k: &[T]) -> Option<T>
 }
 
 /// Returns [`IterBinomial::new`], the row of `n` in Pascal's triangle, or `None` where an item or the
-/// number of the items does not fit. For a negative `n` the row has no item. `row(10u8)` is `Some`,
-/// and `row(11u8)` is `None`.
+/// number of the items does not fit. For a negative `n` the row has no item. `row(10u8).is_some()` is
+/// `true`, and `row(11u8).is_some()` is `false`.
 pub fn row<T: Fits>(n: T) -> Option<IterBinomial<T>>
     requires { T.fits (T.value n) }
     ensures { AnswersWhere

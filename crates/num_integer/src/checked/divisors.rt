@@ -61,7 +61,8 @@ pub fn gcd_lcm<T: Fits>(x: T, y: T) -> Option<(T, T)>
 
 /// Returns [`Integer::extended_gcd`], the greatest common divisor and Bezout's coefficients, or `None`
 /// where the divisor does not fit and, at a type without negatives, where neither number divides the
-/// other. `extended_gcd(240, 46)` is `Some` of gcd 2, x -9, y 47, and `extended_gcd(10u8, 4)` is `None`.
+/// other. `extended_gcd(240, 46)` is `Some(ExtendedGcd { gcd: 2, x: -9, y: 47 })`, and
+/// `extended_gcd(10u8, 4)` is `None`.
 pub fn extended_gcd<T: Fits>(x: T, y: T) -> Option<ExtendedGcd<T>>
     requires x_in_range { T.fits (T.value x) }
     requires y_in_range { T.fits (T.value y) }
@@ -79,7 +80,7 @@ pub fn extended_gcd<T: Fits>(x: T, y: T) -> Option<ExtendedGcd<T>>
 }
 
 /// Returns [`Integer::extended_gcd_lcm`], which is [`extended_gcd`] and [`lcm`], or `None` where one of
-/// the two is `None`. `extended_gcd_lcm(10, 4)` is `Some` of gcd 2, x 1, y -2, and of 20.
+/// the two is `None`. `extended_gcd_lcm(10, 4)` is `Some((ExtendedGcd { gcd: 2, x: 1, y: -2 }, 20))`.
 pub fn extended_gcd_lcm<T: Fits + Signed>(x: T, y: T) -> Option<(ExtendedGcd<T>, T)>
     requires x_in_range { T.fits (T.value x) }
     requires y_in_range { T.fits (T.value y) }
