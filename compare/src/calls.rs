@@ -1,43 +1,87 @@
 //! The calls, and what the crate answers.
 
+use crate::asked::{binomial, multinomial, Average, ExtendedGcd, Integer, Roots};
 use crate::inputs::Whole;
-use num_integer::{binomial, multinomial, Average, ExtendedGcd, Integer, Roots};
 use num_traits::{FromPrimitive, PrimInt};
 use std::fmt::Debug;
 use std::ops::Add;
 use std::panic::{catch_unwind, RefUnwindSafe};
 
-/// A type of the crate.
+/// A type of the crate. A call that the type does not have answers `None`.
 pub trait Number:
     Integer
     + Average
-    + Roots
     + PrimInt
     + FromPrimitive
     + RefUnwindSafe
     + Debug
     + for<'a> Add<&'a Self, Output = Self>
 {
-    fn extended_gcd_lcm_of(self, other: Self) -> Option<(ExtendedGcd<Self>, Self)>;
+    fn extended_gcd_lcm_of(self, _: Self) -> Option<(ExtendedGcd<Self>, Self)> {
+        None
+    }
+
+    fn root_of(self, _: Call) -> Option<Self> {
+        None
+    }
+}
+
+macro_rules! signed {
+    () => {
+        fn extended_gcd_lcm_of(self, other: Self) -> Option<(ExtendedGcd<Self>, Self)> {
+            Some(self.extended_gcd_lcm(&other))
+        }
+    };
+}
+
+macro_rules! rooted {
+    () => {
+        fn root_of(self, root: Call) -> Option<Self> {
+            match root {
+                Sqrt => Some(self.sqrt()),
+                Cbrt => Some(self.cbrt()),
+                NthRoot(degree) => Some(self.nth_root(degree)),
+                _ => None,
+            }
+        }
+    };
+}
+
+#[cfg(feature = "cellarcove")]
+macro_rules! rooted_at_128_bits {
+    () => {};
+}
+
+#[cfg(not(feature = "cellarcove"))]
+macro_rules! rooted_at_128_bits {
+    () => {
+        rooted!();
+    };
 }
 
 macro_rules! numbers {
-    ($($signed:ty, $unsigned:ty;)*) => {$(
-        impl Number for $signed {
-            fn extended_gcd_lcm_of(self, other: Self) -> Option<(ExtendedGcd<Self>, Self)> {
-                Some(self.extended_gcd_lcm(&other))
-            }
-        }
-
-        impl Number for $unsigned {
-            fn extended_gcd_lcm_of(self, _: Self) -> Option<(ExtendedGcd<Self>, Self)> {
-                None
-            }
+    ($($number:ty: $($calls:ident)*;)*) => {$(
+        impl Number for $number {
+            $($calls!();)*
         }
     )*};
 }
 
-numbers! { i8, u8; i16, u16; i32, u32; i64, u64; i128, u128; isize, usize; }
+// The calls that not every type has, or that not both crates have.
+numbers! {
+    i8: signed rooted;
+    i16: signed rooted;
+    i32: signed rooted;
+    i64: signed rooted;
+    i128: signed rooted_at_128_bits;
+    isize: signed rooted;
+    u8: rooted;
+    u16: rooted;
+    u32: rooted;
+    u64: rooted;
+    u128: rooted_at_128_bits;
+    usize: rooted;
+}
 
 /// The number in the type, where it lies there.
 pub fn value<T: Number>((negative, magnitude): Whole) -> Option<T> {
@@ -152,11 +196,12 @@ impl Call {
                 Some((answer, lcm)) => [bezout(answer), vec![whole(lcm)]].concat(),
                 None => panic!("the type has no sign"),
             },
-            Sqrt => vec![whole(x[0].sqrt())],
-            Cbrt => vec![whole(x[0].cbrt())],
-            NthRoot(degree) => vec![whole(x[0].nth_root(degree))],
+            Sqrt | Cbrt | NthRoot(_) => match x[0].root_of(self) {
+                Some(root) => vec![whole(root)],
+                None => panic!("the type has no roots"),
+            },
             Multinomial => vec![whole(multinomial(x))],
-            IterBinomial => num_integer::IterBinomial::new(x[0]).map(whole).collect(),
+            IterBinomial => crate::asked::IterBinomial::new(x[0]).map(whole).collect(),
         }
     }
 

@@ -4,6 +4,12 @@ mod calls;
 mod checksum;
 mod inputs;
 
+/// The crate that is asked.
+#[cfg(feature = "cellarcove")]
+use cellarcove as asked;
+#[cfg(not(feature = "cellarcove"))]
+use num_integer as asked;
+
 use calls::{Call, Number, OF_PAIRS};
 use checksum::Checksum;
 use inputs::{counts, degree, Shape, Whole, DEGREES, LISTS, ROOTED, ROWS};

@@ -1,0 +1,172 @@
+//! Division, without a condition.
+
+use crate::checked::operators::{difference, sum};
+use crate::domains::Fits;
+use crate::integer_core::operators::{self, is_zero};
+
+/// Returns [`Integer::div_rem`](crate::Integer::div_rem), the quotient rounded toward zero and its remainder, or `None` for a
+/// divisor 0 and for the least number by -1 where its negation does not fit. `div_rem(-8, 3)` is
+/// `Some((-2, -2))`.
+///
+/// # Proved
+///
+/// ```text
+/// ensures { AnswersWhere
+///     ((T.value y ≢ pos 0) × EachFits T.fits (IsQuotient IsTruncated (T.value x) (T.value y)))
+///     (λ r. T.fits (T.value r.0) × T.fits (T.value r.1)
+///     × IsTruncated (T.value x) (T.value y) (T.value r.0) (T.value r.1))
+///     result }
+/// ```
+///
+/// Words: [`AnswersWhere`](crate::definitions::num_integer#answerswhere),
+/// [`EachFits`](crate::definitions::integer_core#eachfits),
+/// [`IsQuotient`](crate::definitions::integer_core#isquotient),
+/// [`IsTruncated`](crate::definitions::integer_core#istruncated), [how to read it](crate::definitions).
+pub fn div_rem<T: Fits>(x: T, y: T) -> Option<(T, T)> {
+    if x.quotient_fits(&y) {
+        Some(x.div_rem(&y))
+    } else {
+        None
+    }
+}
+
+/// Returns [`Integer::div_floor`](crate::Integer::div_floor), the quotient rounded down, or `None` where [`div_rem`] does.
+/// `div_floor(-8, 3)` is `Some(-3)`, and `div_floor(i8::MIN, -1)` is `None`.
+///
+/// # Proved
+///
+/// ```text
+/// ensures { AnswersWhere
+///     ((T.value y ≢ pos 0) × EachFits T.fits (IsQuotient IsFloored (T.value x) (T.value y)))
+///     (λ q. T.fits (T.value q) × IsQuotient IsFloored (T.value x) (T.value y) (T.value q))
+///     result }
+/// ```
+///
+/// Words: [`AnswersWhere`](crate::definitions::num_integer#answerswhere),
+/// [`EachFits`](crate::definitions::integer_core#eachfits),
+/// [`IsQuotient`](crate::definitions::integer_core#isquotient),
+/// [`IsFloored`](crate::definitions::integer_core#isfloored), [how to read it](crate::definitions).
+pub fn div_floor<T: Fits>(x: T, y: T) -> Option<T> {
+    if x.quotient_fits(&y) {
+        Some(x.div_floor(&y))
+    } else {
+        None
+    }
+}
+
+/// Returns [`Integer::mod_floor`](crate::Integer::mod_floor), the remainder of the quotient rounded down, or `None` for a divisor
+/// 0. `mod_floor(-8, 3)` is `Some(1)`.
+///
+/// # Proved
+///
+/// ```text
+/// ensures { AnswersWhere
+///     (T.value y ≢ pos 0)
+///     (λ r. T.fits (T.value r) × IsRemainder IsFloored (T.value x) (T.value y) (T.value r))
+///     result }
+/// ```
+///
+/// Words: [`AnswersWhere`](crate::definitions::num_integer#answerswhere),
+/// [`IsRemainder`](crate::definitions::integer_core#isremainder),
+/// [`IsFloored`](crate::definitions::integer_core#isfloored), [how to read it](crate::definitions).
+pub fn mod_floor<T: Fits>(x: T, y: T) -> Option<T> {
+    if !is_zero(y) {
+        Some(x.mod_floor(&y))
+    } else {
+        None
+    }
+}
+
+/// Returns [`Integer::div_mod_floor`](crate::Integer::div_mod_floor), the quotient rounded down and its remainder, or `None` where
+/// [`div_rem`] does. `div_mod_floor(-8, 3)` is `Some((-3, 1))`.
+///
+/// # Proved
+///
+/// ```text
+/// ensures { AnswersWhere
+///     ((T.value y ≢ pos 0) × EachFits T.fits (IsQuotient IsFloored (T.value x) (T.value y)))
+///     (λ r. T.fits (T.value r.0) × T.fits (T.value r.1)
+///     × IsFloored (T.value x) (T.value y) (T.value r.0) (T.value r.1))
+///     result }
+/// ```
+///
+/// Words: [`AnswersWhere`](crate::definitions::num_integer#answerswhere),
+/// [`EachFits`](crate::definitions::integer_core#eachfits),
+/// [`IsQuotient`](crate::definitions::integer_core#isquotient),
+/// [`IsFloored`](crate::definitions::integer_core#isfloored), [how to read it](crate::definitions).
+pub fn div_mod_floor<T: Fits>(x: T, y: T) -> Option<(T, T)> {
+    if x.quotient_fits(&y) {
+        Some(x.div_mod_floor(&y))
+    } else {
+        None
+    }
+}
+
+/// Returns [`Integer::div_ceil`](crate::Integer::div_ceil), the quotient rounded up, or `None` where [`div_rem`] does.
+/// `div_ceil(8, 3)` is `Some(3)`.
+///
+/// # Proved
+///
+/// ```text
+/// ensures { AnswersWhere
+///     ((T.value y ≢ pos 0) × EachFits T.fits (IsQuotient IsCeiled (T.value x) (T.value y)))
+///     (λ q. T.fits (T.value q) × IsQuotient IsCeiled (T.value x) (T.value y) (T.value q))
+///     result }
+/// ```
+///
+/// Words: [`AnswersWhere`](crate::definitions::num_integer#answerswhere),
+/// [`EachFits`](crate::definitions::integer_core#eachfits),
+/// [`IsQuotient`](crate::definitions::integer_core#isquotient),
+/// [`IsCeiled`](crate::definitions::integer_core#isceiled), [how to read it](crate::definitions).
+pub fn div_ceil<T: Fits>(x: T, y: T) -> Option<T> {
+    if x.quotient_fits(&y) {
+        Some(x.div_ceil(&y))
+    } else {
+        None
+    }
+}
+
+/// Returns [`Integer::next_multiple_of`](crate::Integer::next_multiple_of), the quotient rounded up, times `y`, or `None` for a divisor 0
+/// and where the multiple does not fit. `next_multiple_of(23, 8)` is `Some(24)`.
+///
+/// # Proved
+///
+/// ```text
+/// ensures { AnswersWhere
+///     ((T.value y ≢ pos 0) × EachFits T.fits (IsMultiple IsCeiled (T.value x) (T.value y)))
+///     (λ m. T.fits (T.value m) × IsMultiple IsCeiled (T.value x) (T.value y) (T.value m))
+///     result }
+/// ```
+///
+/// Words: [`AnswersWhere`](crate::definitions::num_integer#answerswhere),
+/// [`EachFits`](crate::definitions::integer_core#eachfits),
+/// [`IsMultiple`](crate::definitions::integer_core#ismultiple),
+/// [`IsCeiled`](crate::definitions::integer_core#isceiled), [how to read it](crate::definitions).
+pub fn next_multiple_of<T: Fits>(x: T, y: T) -> Option<T> {
+    let remainder = mod_floor(x, y)?;
+    if is_zero(remainder) {
+        Some(x)
+    } else {
+        sum(x, operators::difference(y, remainder))
+    }
+}
+
+/// Returns [`Integer::prev_multiple_of`](crate::Integer::prev_multiple_of), the quotient rounded down, times `y`, or `None` for a divisor
+/// 0 and where the multiple does not fit. `prev_multiple_of(23, 8)` is `Some(16)`.
+///
+/// # Proved
+///
+/// ```text
+/// ensures { AnswersWhere
+///     ((T.value y ≢ pos 0) × EachFits T.fits (IsMultiple IsFloored (T.value x) (T.value y)))
+///     (λ m. T.fits (T.value m) × IsMultiple IsFloored (T.value x) (T.value y) (T.value m))
+///     result }
+/// ```
+///
+/// Words: [`AnswersWhere`](crate::definitions::num_integer#answerswhere),
+/// [`EachFits`](crate::definitions::integer_core#eachfits),
+/// [`IsMultiple`](crate::definitions::integer_core#ismultiple),
+/// [`IsFloored`](crate::definitions::integer_core#isfloored), [how to read it](crate::definitions).
+pub fn prev_multiple_of<T: Fits>(x: T, y: T) -> Option<T> {
+    difference(x, mod_floor(x, y)?)
+}

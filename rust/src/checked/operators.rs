@@ -1,0 +1,150 @@
+//! Sums, differences and products, without a condition.
+
+use crate::domains::Fits;
+use crate::integer_core::operators::{self, one, zero};
+use crate::parts::{product_is_within, sum_is_within};
+
+/// Returns `a + b`, or `None` where it does not fit. `sum(200u8, 55)` is `Some(255)`, and
+/// `sum(200u8, 56)` is `None`.
+///
+/// # Proved
+///
+/// ```text
+/// ensures { AnswersWhere
+///     (T.fits (T.value a +ℤ T.value b))
+///     (λ r. T.fits (T.value r) × (T.value r ≡ T.value a +ℤ T.value b))
+///     result }
+/// ```
+///
+/// Words: [`AnswersWhere`](crate::definitions::num_integer#answerswhere),
+/// [how to read it](crate::definitions).
+pub fn sum<T: Fits>(a: T, b: T) -> Option<T> {
+    if sum_fits(a, b) {
+        Some(operators::sum(a, b))
+    } else {
+        None
+    }
+}
+
+/// Returns `a - b`, or `None` where it does not fit. `difference(2, 3)` is `Some(-1)`, and
+/// `difference(2u8, 3)` is `None`.
+///
+/// # Proved
+///
+/// ```text
+/// ensures { AnswersWhere
+///     (T.fits (T.value a -ℤ T.value b))
+///     (λ r. T.fits (T.value r) × (T.value r ≡ T.value a -ℤ T.value b))
+///     result }
+/// ```
+///
+/// Words: [`AnswersWhere`](crate::definitions::num_integer#answerswhere),
+/// [how to read it](crate::definitions).
+pub fn difference<T: Fits>(a: T, b: T) -> Option<T> {
+    if difference_fits(a, b) {
+        Some(operators::difference(a, b))
+    } else {
+        None
+    }
+}
+
+/// Returns `a * b`, or `None` where it does not fit. `product(15u8, 17)` is `Some(255)`, and
+/// `product(16u8, 16)` is `None`.
+///
+/// # Proved
+///
+/// ```text
+/// ensures { AnswersWhere
+///     (T.fits (T.value a *ℤ T.value b))
+///     (λ r. T.fits (T.value r) × (T.value r ≡ T.value a *ℤ T.value b))
+///     result }
+/// ```
+///
+/// Words: [`AnswersWhere`](crate::definitions::num_integer#answerswhere),
+/// [how to read it](crate::definitions).
+pub fn product<T: Fits>(a: T, b: T) -> Option<T> {
+    if product_fits(a, b) {
+        Some(operators::product(a, b))
+    } else {
+        None
+    }
+}
+
+/// Returns `-a`, or `None` where it does not fit. `negated(7)` is `Some(-7)`, and `negated(7u8)` is
+/// `None`.
+///
+/// # Proved
+///
+/// ```text
+/// ensures { AnswersWhere
+///     (T.fits (neg_ℤ (T.value a)))
+///     (λ r. T.fits (T.value r) × (T.value r ≡ neg_ℤ (T.value a)))
+///     result }
+/// ```
+///
+/// Words: [`AnswersWhere`](crate::definitions::num_integer#answerswhere),
+/// [how to read it](crate::definitions).
+pub fn negated<T: Fits>(a: T) -> Option<T> {
+    if negation_fits(a) {
+        Some(operators::negated(a))
+    } else {
+        None
+    }
+}
+
+/// Returns `x + 1`, which [`Integer::inc`](crate::Integer::inc) stores, or `None` for the greatest number of the type.
+/// `inc(41)` is `Some(42)`, and `inc(u8::MAX)` is `None`.
+///
+/// # Proved
+///
+/// ```text
+/// ensures { AnswersWhere
+///     (T.fits (T.value x +ℤ pos 1))
+///     (λ r. T.fits (T.value r) × (T.value r ≡ T.value x +ℤ pos 1))
+///     result }
+/// ```
+///
+/// Words: [`AnswersWhere`](crate::definitions::num_integer#answerswhere),
+/// [how to read it](crate::definitions).
+pub fn inc<T: Fits>(x: T) -> Option<T> {
+    sum(x, one())
+}
+
+/// Returns `x - 1`, which [`Integer::dec`](crate::Integer::dec) stores, or `None` for the least number of the type.
+/// `dec(43)` is `Some(42)`, and `dec(0u8)` is `None`.
+///
+/// # Proved
+///
+/// ```text
+/// ensures { AnswersWhere
+///     (T.fits (T.value x -ℤ pos 1))
+///     (λ r. T.fits (T.value r) × (T.value r ≡ T.value x -ℤ pos 1))
+///     result }
+/// ```
+///
+/// Words: [`AnswersWhere`](crate::definitions::num_integer#answerswhere),
+/// [how to read it](crate::definitions).
+pub fn dec<T: Fits>(x: T) -> Option<T> {
+    difference(x, one())
+}
+
+/// Returns `true` if `a + b` fits.
+fn sum_fits<T: Fits>(a: T, b: T) -> bool {
+    sum_is_within(a.parts(), b.parts(), T::ends())
+}
+
+/// Returns `true` if `a - b` fits.
+fn difference_fits<T: Fits>(a: T, b: T) -> bool {
+    let (negative, magnitude) = b.parts();
+    sum_is_within(a.parts(), (!negative, magnitude), T::ends())
+}
+
+/// Returns `true` if `-a` fits.
+fn negation_fits<T: Fits>(a: T) -> bool {
+    difference_fits(zero(), a)
+}
+
+/// Returns `true` if `a * b` fits.
+fn product_fits<T: Fits>(a: T, b: T) -> bool {
+    product_is_within(a.parts(), b.parts(), T::ends())
+}

@@ -1,0 +1,49 @@
+//! Roots, without a condition.
+
+use crate::integer_core::operators::is_negative;
+use crate::integer_roots::Roots;
+
+/// Returns [`Roots::nth_root`], the root of degree `n` rounded toward zero, or `None` for degree 0 and
+/// for an even degree and a negative number. `nth_root(-9, 3)` is `Some(-2)`, and `nth_root(-9, 2)` is
+/// `None`.
+///
+/// # Proved
+///
+/// ```text
+/// ensures { AnswersWhere
+///     ((n ≢ 0) × (n % 2 ≡ 0 → pos 0 ≤ℤ T.value x))
+///     (λ r. T.fits (T.value r) × IsRoot (T.value x) n (T.value r))
+///     result }
+/// ```
+///
+/// Words: [`AnswersWhere`](crate::definitions::num_integer#answerswhere),
+/// [`IsRoot`](crate::definitions::integer_roots#isroot), [how to read it](crate::definitions).
+pub fn nth_root<T: Roots>(x: T, n: u32) -> Option<T> {
+    if n != 0 && (n % 2 != 0 || !is_negative(x)) {
+        Some(x.nth_root(n))
+    } else {
+        None
+    }
+}
+
+/// Returns [`Roots::sqrt`], the square root rounded down, or `None` for a negative number. `sqrt(99)` is
+/// `Some(9)`, and `sqrt(-1)` is `None`.
+///
+/// # Proved
+///
+/// ```text
+/// ensures { AnswersWhere
+///     (pos 0 ≤ℤ T.value x)
+///     (λ r. T.fits (T.value r) × IsRoot (T.value x) 2 (T.value r))
+///     result }
+/// ```
+///
+/// Words: [`AnswersWhere`](crate::definitions::num_integer#answerswhere),
+/// [`IsRoot`](crate::definitions::integer_roots#isroot), [how to read it](crate::definitions).
+pub fn sqrt<T: Roots>(x: T) -> Option<T> {
+    if !is_negative(x) {
+        Some(x.sqrt())
+    } else {
+        None
+    }
+}

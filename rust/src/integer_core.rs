@@ -1,0 +1,514 @@
+//! Integer division for every lawful integer type, after the Rust crate `num-integer`.
+
+mod bezout;
+pub mod counted;
+mod division;
+mod divisors;
+mod native;
+mod native_integer;
+pub mod operators;
+mod stein;
+
+use bezout::extended_gcd_counted;
+pub use bezout::ExtendedGcd;
+pub use native_integer::NativeInteger;
+use num_traits::{Num, Signed};
+use operators::{difference, is_zero, predecessor, successor, sum};
+
+/// A type of whole numbers.
+///
+/// # Laws
+///
+/// ```text
+/// ghost exact_law: { Self.exact }
+/// ghost range_law: { IsRange Self.fits low high }
+/// ```
+///
+/// Words: [`IsRange`](crate::definitions::integer_core#isrange), [how to read it](crate::definitions).
+pub trait Integer: Copy + Num + PartialOrd + Ord + Eq {
+    /// Returns the quotient rounded toward zero, and its remainder. `(-8).div_rem(&3)` is
+    /// `(-2, -2)`.
+    ///
+    /// May be called where `Fits::quotient_fits` is true.
+    ///
+    /// # Proved
+    ///
+    /// ```text
+    /// requires nonzero { Self.value other.now ≢ pos 0 }
+    /// requires quotient_fits { EachFits Self.fits
+    ///     (IsQuotient IsTruncated (Self.value self.now) (Self.value other.now)) }
+    /// ensures truncated { IsTruncated (Self.value self.now) (Self.value other.now)
+    ///     (Self.value result.0) (Self.value result.1) }
+    /// ```
+    ///
+    /// Words: [`EachFits`](crate::definitions::integer_core#eachfits),
+    /// [`IsQuotient`](crate::definitions::integer_core#isquotient),
+    /// [`IsTruncated`](crate::definitions::integer_core#istruncated), [how to read it](crate::definitions).
+    fn div_rem(&self, other: &Self) -> (Self, Self);
+
+    /// Returns the quotient rounded down. `(-8).div_floor(&3)` is `-3`.
+    ///
+    /// May be called where `Fits::quotient_fits` is true.
+    ///
+    /// # Proved
+    ///
+    /// ```text
+    /// requires nonzero { Self.value other.now ≢ pos 0 }
+    /// requires quotient_fits { EachFits Self.fits
+    ///     (IsQuotient IsFloored (Self.value self.now) (Self.value other.now)) }
+    /// ensures floored { IsQuotient IsFloored (Self.value self.now) (Self.value other.now)
+    ///     (Self.value result) }
+    /// ```
+    ///
+    /// Words: [`EachFits`](crate::definitions::integer_core#eachfits),
+    /// [`IsQuotient`](crate::definitions::integer_core#isquotient),
+    /// [`IsFloored`](crate::definitions::integer_core#isfloored), [how to read it](crate::definitions).
+    fn div_floor(&self, other: &Self) -> Self;
+
+    /// Returns the remainder of the quotient rounded down, which is 0 or has the sign of `other`.
+    /// `(-8).mod_floor(&3)` is `1`.
+    ///
+    /// May be called where `other` is not 0.
+    ///
+    /// # Proved
+    ///
+    /// ```text
+    /// requires nonzero { Self.value other.now ≢ pos 0 }
+    /// ensures floored { IsRemainder IsFloored (Self.value self.now) (Self.value other.now)
+    ///     (Self.value result) }
+    /// ```
+    ///
+    /// Words: [`IsRemainder`](crate::definitions::integer_core#isremainder),
+    /// [`IsFloored`](crate::definitions::integer_core#isfloored), [how to read it](crate::definitions).
+    fn mod_floor(&self, other: &Self) -> Self;
+
+    /// Returns the quotient rounded down, and its remainder. `(-8).div_mod_floor(&3)` is `(-3, 1)`.
+    ///
+    /// May be called where `Fits::quotient_fits` is true.
+    ///
+    /// # Proved
+    ///
+    /// ```text
+    /// requires nonzero { Self.value other.now ≢ pos 0 }
+    /// requires quotient_fits { EachFits Self.fits
+    ///     (IsQuotient IsFloored (Self.value self.now) (Self.value other.now)) }
+    /// ensures floored { IsFloored (Self.value self.now) (Self.value other.now)
+    ///     (Self.value result.0) (Self.value result.1) }
+    /// ```
+    ///
+    /// Words: [`EachFits`](crate::definitions::integer_core#eachfits),
+    /// [`IsQuotient`](crate::definitions::integer_core#isquotient),
+    /// [`IsFloored`](crate::definitions::integer_core#isfloored), [how to read it](crate::definitions).
+    fn div_mod_floor(&self, other: &Self) -> (Self, Self) {
+        (self.div_floor(other), self.mod_floor(other))
+    }
+
+    /// Returns the quotient rounded up. `8.div_ceil(&3)` is `3`.
+    ///
+    /// May be called where `Fits::quotient_fits` is true.
+    ///
+    /// # Proved
+    ///
+    /// ```text
+    /// requires nonzero { Self.value other.now ≢ pos 0 }
+    /// requires quotient_fits { EachFits Self.fits
+    ///     (IsQuotient IsCeiled (Self.value self.now) (Self.value other.now)) }
+    /// ensures ceiled { IsQuotient IsCeiled (Self.value self.now) (Self.value other.now)
+    ///     (Self.value result) }
+    /// ```
+    ///
+    /// Words: [`EachFits`](crate::definitions::integer_core#eachfits),
+    /// [`IsQuotient`](crate::definitions::integer_core#isquotient),
+    /// [`IsCeiled`](crate::definitions::integer_core#isceiled), [how to read it](crate::definitions).
+    fn div_ceil(&self, other: &Self) -> Self {
+        let (q, r) = self.div_mod_floor(other);
+        if is_zero(r) {
+            q
+        } else {
+            successor(q)
+        }
+    }
+
+    /// Returns the quotient rounded up, times `other`. `23.next_multiple_of(&8)` is `24`, and
+    /// `23.next_multiple_of(&-8)` is `16`.
+    ///
+    /// May be called where `Fits::next_multiple_fits` is true.
+    ///
+    /// # Proved
+    ///
+    /// ```text
+    /// requires nonzero { Self.value other.now ≢ pos 0 }
+    /// requires multiple_fits { EachFits Self.fits
+    ///     (IsMultiple IsCeiled (Self.value self.now) (Self.value other.now)) }
+    /// ensures multiple { IsMultiple IsCeiled (Self.value self.now) (Self.value other.now)
+    ///     (Self.value result) }
+    /// ```
+    ///
+    /// Words: [`EachFits`](crate::definitions::integer_core#eachfits),
+    /// [`IsMultiple`](crate::definitions::integer_core#ismultiple),
+    /// [`IsCeiled`](crate::definitions::integer_core#isceiled), [how to read it](crate::definitions).
+    fn next_multiple_of(&self, other: &Self) -> Self {
+        let m = self.mod_floor(other);
+        if is_zero(m) {
+            *self
+        } else {
+            sum(*self, difference(*other, m))
+        }
+    }
+
+    /// Returns the quotient rounded down, times `other`. `23.prev_multiple_of(&8)` is `16`, and
+    /// `23.prev_multiple_of(&-8)` is `24`.
+    ///
+    /// May be called where `Fits::prev_multiple_fits` is true.
+    ///
+    /// # Proved
+    ///
+    /// ```text
+    /// requires nonzero { Self.value other.now ≢ pos 0 }
+    /// requires multiple_fits { EachFits Self.fits
+    ///     (IsMultiple IsFloored (Self.value self.now) (Self.value other.now)) }
+    /// ensures multiple { IsMultiple IsFloored (Self.value self.now) (Self.value other.now)
+    ///     (Self.value result) }
+    /// ```
+    ///
+    /// Words: [`EachFits`](crate::definitions::integer_core#eachfits),
+    /// [`IsMultiple`](crate::definitions::integer_core#ismultiple),
+    /// [`IsFloored`](crate::definitions::integer_core#isfloored), [how to read it](crate::definitions).
+    fn prev_multiple_of(&self, other: &Self) -> Self {
+        difference(*self, self.mod_floor(other))
+    }
+
+    /// Returns `true` if `other` divides `self`. `9.is_multiple_of(&3)` is `true`. Zero divides only
+    /// zero.
+    ///
+    /// # Proved
+    ///
+    /// ```text
+    /// ensures { IsTrue result ↔ Divides (Self.value other.now) (Self.value self.now) }
+    /// ```
+    ///
+    /// Words: [`Divides`](crate::definitions::integer_core#divides), [how to read it](crate::definitions).
+    fn is_multiple_of(&self, other: &Self) -> bool;
+
+    /// Deprecated: use [`Integer::is_multiple_of`], which returns the same. `9.divides(&3)` is
+    /// `true`.
+    ///
+    /// # Proved
+    ///
+    /// ```text
+    /// ensures { IsTrue result ↔ Divides (Self.value other.now) (Self.value self.now) }
+    /// ```
+    ///
+    /// Words: [`Divides`](crate::definitions::integer_core#divides), [how to read it](crate::definitions).
+    fn divides(&self, other: &Self) -> bool {
+        self.is_multiple_of(other)
+    }
+
+    /// Returns `true` if the number is even. `4.is_even()` is `true`.
+    ///
+    /// # Proved
+    ///
+    /// ```text
+    /// ensures { IsTrue result ↔ IsEven (Self.value self.now) }
+    /// ```
+    ///
+    /// Words: [`IsEven`](crate::definitions::integer_core#iseven), [how to read it](crate::definitions).
+    fn is_even(&self) -> bool;
+
+    /// Returns `true` if the number is odd. `3.is_odd()` is `true`.
+    ///
+    /// # Proved
+    ///
+    /// ```text
+    /// ensures { IsTrue result ↔ ¬ (IsEven (Self.value self.now)) }
+    /// ```
+    ///
+    /// Words: [`IsEven`](crate::definitions::integer_core#iseven), [how to read it](crate::definitions).
+    fn is_odd(&self) -> bool;
+
+    /// Adds one. `x.inc()` turns an `x` of `41` into `42`.
+    ///
+    /// May be called below the greatest number of the type. The call `checked::inc` has no condition.
+    ///
+    /// # Proved
+    ///
+    /// ```text
+    /// requires sum_fits { Self.fits (Self.value self.old +ℤ pos 1) }
+    /// ensures one_more { Self.value self.new ≡ Self.value self.old +ℤ pos 1 }
+    /// ```
+    ///
+    /// Words: [how to read it](crate::definitions).
+    fn inc(&mut self) {
+        *self = successor(*self);
+    }
+
+    /// Subtracts one. `x.dec()` turns an `x` of `43` into `42`.
+    ///
+    /// May be called above the least number of the type. The call `checked::dec` has no condition.
+    ///
+    /// # Proved
+    ///
+    /// ```text
+    /// requires difference_fits { Self.fits (Self.value self.old -ℤ pos 1) }
+    /// ensures one_less { Self.value self.new ≡ Self.value self.old -ℤ pos 1 }
+    /// ```
+    ///
+    /// Words: [how to read it](crate::definitions).
+    fn dec(&mut self) {
+        *self = predecessor(*self);
+    }
+
+    /// Returns the greatest common divisor, which is never negative. `56.gcd(&42)` is `14`, and
+    /// `0.gcd(&0)` is `0`.
+    ///
+    /// May be called where `Fits::gcd_fits` is true.
+    ///
+    /// # Proved
+    ///
+    /// ```text
+    /// requires gcd_fits { GcdFits Self.fits (Self.value self.now) (Self.value other.now) }
+    /// ensures greatest { IsGreatestCommonDivisor (Self.value self.now) (Self.value other.now)
+    ///     (Self.value result) }
+    /// ```
+    ///
+    /// Words: [`GcdFits`](crate::definitions::integer_core#gcdfits),
+    /// [`IsGreatestCommonDivisor`](crate::definitions::integer_core#isgreatestcommondivisor),
+    /// [how to read it](crate::definitions).
+    fn gcd(&self, other: &Self) -> Self;
+
+    /// Returns the least common multiple, which is never negative. `7.lcm(&3)` is `21`, and
+    /// `7.lcm(&0)` is `0`.
+    ///
+    /// May be called where `Fits::lcm_fits` is true.
+    ///
+    /// # Proved
+    ///
+    /// ```text
+    /// requires lcm_fits { EachFits Self.fits
+    ///     (IsLeastCommonMultiple (Self.value self.now) (Self.value other.now)) }
+    /// ensures least { IsLeastCommonMultiple (Self.value self.now) (Self.value other.now)
+    ///     (Self.value result) }
+    /// ```
+    ///
+    /// Words: [`EachFits`](crate::definitions::integer_core#eachfits),
+    /// [`IsLeastCommonMultiple`](crate::definitions::integer_core#isleastcommonmultiple),
+    /// [how to read it](crate::definitions).
+    fn lcm(&self, other: &Self) -> Self;
+
+    /// Returns the greatest common divisor and the least common multiple. `10.gcd_lcm(&4)` is
+    /// `(2, 20)`.
+    ///
+    /// May be called where `Fits::gcd_fits` and `Fits::lcm_fits` are true.
+    ///
+    /// # Proved
+    ///
+    /// ```text
+    /// requires gcd_fits { GcdFits Self.fits (Self.value self.now) (Self.value other.now) }
+    /// requires lcm_fits { EachFits Self.fits
+    ///     (IsLeastCommonMultiple (Self.value self.now) (Self.value other.now)) }
+    /// ensures greatest { IsGreatestCommonDivisor (Self.value self.now) (Self.value other.now)
+    ///     (Self.value result.0) }
+    /// ensures least { IsLeastCommonMultiple (Self.value self.now) (Self.value other.now)
+    ///     (Self.value result.1) }
+    /// ```
+    ///
+    /// Words: [`GcdFits`](crate::definitions::integer_core#gcdfits),
+    /// [`EachFits`](crate::definitions::integer_core#eachfits),
+    /// [`IsLeastCommonMultiple`](crate::definitions::integer_core#isleastcommonmultiple),
+    /// [`IsGreatestCommonDivisor`](crate::definitions::integer_core#isgreatestcommondivisor),
+    /// [how to read it](crate::definitions).
+    fn gcd_lcm(&self, other: &Self) -> (Self, Self) {
+        (self.gcd(other), self.lcm(other))
+    }
+
+    /// Returns the greatest common divisor `gcd` and Bezout's coefficients `x` and `y`: over the
+    /// whole numbers, `self` times `x` and `other` times `y` add up to `gcd`. `240.extended_gcd(&46)`
+    /// is `ExtendedGcd { gcd: 2, x: -9, y: 47 }`, and `5.extended_gcd(&0)` is
+    /// `ExtendedGcd { gcd: 5, x: 1, y: 0 }`.
+    ///
+    /// May be called where `Fits::gcd_fits` is true; at an unsigned type one operand must also divide
+    /// the other.
+    ///
+    /// # Proved
+    ///
+    /// ```text
+    /// requires gcd_fits { GcdFits Self.fits (Self.value self.now) (Self.value other.now) }
+    /// requires has_pair { HasPair Self.fits (Self.value self.now) (Self.value other.now) }
+    /// ensures answer { IsBezoutAnswer (Self.value self.now) (Self.value other.now)
+    ///     (Self.value result.gcd) (Self.value result.x) (Self.value result.y) }
+    /// ```
+    ///
+    /// Words: [`GcdFits`](crate::definitions::integer_core#gcdfits),
+    /// [`HasPair`](crate::definitions::integer_core#haspair),
+    /// [`IsBezoutAnswer`](crate::definitions::integer_core#isbezoutanswer),
+    /// [how to read it](crate::definitions).
+    fn extended_gcd(&self, other: &Self) -> ExtendedGcd<Self> {
+        extended_gcd_counted(*self, *other).0
+    }
+
+    /// Returns [`Integer::extended_gcd`] and [`Integer::lcm`]. `10.extended_gcd_lcm(&4)` is
+    /// `(ExtendedGcd { gcd: 2, x: 1, y: -2 }, 20)`.
+    ///
+    /// May be called where `Fits::gcd_fits` and `Fits::lcm_fits` are true.
+    ///
+    /// # Proved
+    ///
+    /// ```text
+    /// requires gcd_fits { GcdFits Self.fits (Self.value self.now) (Self.value other.now) }
+    /// requires has_pair { HasPair Self.fits (Self.value self.now) (Self.value other.now) }
+    /// requires lcm_fits { EachFits Self.fits
+    ///     (IsLeastCommonMultiple (Self.value self.now) (Self.value other.now)) }
+    /// ensures answer { IsBezoutAnswer (Self.value self.now) (Self.value other.now)
+    ///     (Self.value result.0.gcd) (Self.value result.0.x) (Self.value result.0.y) }
+    /// ensures least { IsLeastCommonMultiple (Self.value self.now) (Self.value other.now)
+    ///     (Self.value result.1) }
+    /// ```
+    ///
+    /// Words: [`GcdFits`](crate::definitions::integer_core#gcdfits),
+    /// [`HasPair`](crate::definitions::integer_core#haspair),
+    /// [`EachFits`](crate::definitions::integer_core#eachfits),
+    /// [`IsLeastCommonMultiple`](crate::definitions::integer_core#isleastcommonmultiple),
+    /// [`IsBezoutAnswer`](crate::definitions::integer_core#isbezoutanswer),
+    /// [how to read it](crate::definitions).
+    fn extended_gcd_lcm(&self, other: &Self) -> (ExtendedGcd<Self>, Self)
+    where
+        Self: Signed,
+    {
+        (self.extended_gcd(other), self.lcm(other))
+    }
+}
+
+/// See [`Integer::div_rem`]. `div_rem(-8, 3)` is `(-2, -2)`.
+///
+/// # Proved
+///
+/// ```text
+/// requires nonzero { T.value y ≢ pos 0 }
+/// requires quotient_fits { EachFits T.fits (IsQuotient IsTruncated (T.value x) (T.value y)) }
+/// ensures truncated { IsTruncated (T.value x) (T.value y) (T.value result.0) (T.value result.1) }
+/// ```
+///
+/// Words: [`EachFits`](crate::definitions::integer_core#eachfits),
+/// [`IsQuotient`](crate::definitions::integer_core#isquotient),
+/// [`IsTruncated`](crate::definitions::integer_core#istruncated), [how to read it](crate::definitions).
+pub fn div_rem<T: Integer>(x: T, y: T) -> (T, T) {
+    x.div_rem(&y)
+}
+
+/// See [`Integer::div_floor`]. `div_floor(-8, 3)` is `-3`.
+///
+/// # Proved
+///
+/// ```text
+/// requires nonzero { T.value y ≢ pos 0 }
+/// requires quotient_fits { EachFits T.fits (IsQuotient IsFloored (T.value x) (T.value y)) }
+/// ensures floored { IsQuotient IsFloored (T.value x) (T.value y) (T.value result) }
+/// ```
+///
+/// Words: [`EachFits`](crate::definitions::integer_core#eachfits),
+/// [`IsQuotient`](crate::definitions::integer_core#isquotient),
+/// [`IsFloored`](crate::definitions::integer_core#isfloored), [how to read it](crate::definitions).
+pub fn div_floor<T: Integer>(x: T, y: T) -> T {
+    x.div_floor(&y)
+}
+
+/// See [`Integer::mod_floor`]. `mod_floor(-8, 3)` is `1`.
+///
+/// # Proved
+///
+/// ```text
+/// requires nonzero { T.value y ≢ pos 0 }
+/// ensures floored { IsRemainder IsFloored (T.value x) (T.value y) (T.value result) }
+/// ```
+///
+/// Words: [`IsRemainder`](crate::definitions::integer_core#isremainder),
+/// [`IsFloored`](crate::definitions::integer_core#isfloored), [how to read it](crate::definitions).
+pub fn mod_floor<T: Integer>(x: T, y: T) -> T {
+    x.mod_floor(&y)
+}
+
+/// See [`Integer::div_mod_floor`]. `div_mod_floor(-8, 3)` is `(-3, 1)`.
+///
+/// # Proved
+///
+/// ```text
+/// requires nonzero { T.value y ≢ pos 0 }
+/// requires quotient_fits { EachFits T.fits (IsQuotient IsFloored (T.value x) (T.value y)) }
+/// ensures floored { IsFloored (T.value x) (T.value y) (T.value result.0) (T.value result.1) }
+/// ```
+///
+/// Words: [`EachFits`](crate::definitions::integer_core#eachfits),
+/// [`IsQuotient`](crate::definitions::integer_core#isquotient),
+/// [`IsFloored`](crate::definitions::integer_core#isfloored), [how to read it](crate::definitions).
+pub fn div_mod_floor<T: Integer>(x: T, y: T) -> (T, T) {
+    x.div_mod_floor(&y)
+}
+
+/// See [`Integer::div_ceil`]. `div_ceil(8, 3)` is `3`.
+///
+/// # Proved
+///
+/// ```text
+/// requires nonzero { T.value y ≢ pos 0 }
+/// requires quotient_fits { EachFits T.fits (IsQuotient IsCeiled (T.value x) (T.value y)) }
+/// ensures ceiled { IsQuotient IsCeiled (T.value x) (T.value y) (T.value result) }
+/// ```
+///
+/// Words: [`EachFits`](crate::definitions::integer_core#eachfits),
+/// [`IsQuotient`](crate::definitions::integer_core#isquotient),
+/// [`IsCeiled`](crate::definitions::integer_core#isceiled), [how to read it](crate::definitions).
+pub fn div_ceil<T: Integer>(x: T, y: T) -> T {
+    x.div_ceil(&y)
+}
+
+/// See [`Integer::gcd`]. `gcd(56, 42)` is `14`.
+///
+/// # Proved
+///
+/// ```text
+/// requires gcd_fits { GcdFits T.fits (T.value x) (T.value y) }
+/// ensures greatest { IsGreatestCommonDivisor (T.value x) (T.value y) (T.value result) }
+/// ```
+///
+/// Words: [`GcdFits`](crate::definitions::integer_core#gcdfits),
+/// [`IsGreatestCommonDivisor`](crate::definitions::integer_core#isgreatestcommondivisor),
+/// [how to read it](crate::definitions).
+pub fn gcd<T: Integer>(x: T, y: T) -> T {
+    x.gcd(&y)
+}
+
+/// See [`Integer::lcm`]. `lcm(7, 3)` is `21`.
+///
+/// # Proved
+///
+/// ```text
+/// requires lcm_fits { EachFits T.fits (IsLeastCommonMultiple (T.value x) (T.value y)) }
+/// ensures least { IsLeastCommonMultiple (T.value x) (T.value y) (T.value result) }
+/// ```
+///
+/// Words: [`EachFits`](crate::definitions::integer_core#eachfits),
+/// [`IsLeastCommonMultiple`](crate::definitions::integer_core#isleastcommonmultiple),
+/// [how to read it](crate::definitions).
+pub fn lcm<T: Integer>(x: T, y: T) -> T {
+    x.lcm(&y)
+}
+
+/// See [`Integer::gcd_lcm`]. `gcd_lcm(10, 4)` is `(2, 20)`.
+///
+/// # Proved
+///
+/// ```text
+/// requires gcd_fits { GcdFits T.fits (T.value x) (T.value y) }
+/// requires lcm_fits { EachFits T.fits (IsLeastCommonMultiple (T.value x) (T.value y)) }
+/// ensures greatest { IsGreatestCommonDivisor (T.value x) (T.value y) (T.value result.0) }
+/// ensures least { IsLeastCommonMultiple (T.value x) (T.value y) (T.value result.1) }
+/// ```
+///
+/// Words: [`GcdFits`](crate::definitions::integer_core#gcdfits),
+/// [`EachFits`](crate::definitions::integer_core#eachfits),
+/// [`IsLeastCommonMultiple`](crate::definitions::integer_core#isleastcommonmultiple),
+/// [`IsGreatestCommonDivisor`](crate::definitions::integer_core#isgreatestcommondivisor),
+/// [how to read it](crate::definitions).
+pub fn gcd_lcm<T: Integer>(x: T, y: T) -> (T, T) {
+    x.gcd_lcm(&y)
+}

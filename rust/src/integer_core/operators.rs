@@ -1,0 +1,197 @@
+//! The numbers 0 and 1, the operators and three tests, over the numbers that the values mean. Each
+//! integer type has exact operators, so the condition `exact` asks nothing of a caller.
+
+use num_traits::Num;
+
+/// Returns the number 0. `zero::<i64>()` is `0`.
+///
+/// # Proved
+///
+/// ```text
+/// requires { T.exact }
+/// ensures value { T.value result ≡ pos 0 }
+/// ```
+///
+/// Words: [how to read it](crate::definitions).
+pub fn zero<T: Num>() -> T {
+    T::zero()
+}
+
+/// Returns the number 1. `one::<i64>()` is `1`.
+///
+/// # Proved
+///
+/// ```text
+/// requires { T.exact }
+/// ensures value { T.value result ≡ pos 1 }
+/// ```
+///
+/// Words: [how to read it](crate::definitions).
+pub fn one<T: Num>() -> T {
+    T::one()
+}
+
+/// Returns `true` if `a` is 0. `is_zero(7)` is `false`.
+///
+/// # Proved
+///
+/// ```text
+/// requires { T.exact }
+/// ensures { IsTrue result ↔ (T.value a ≡ pos 0) }
+/// ```
+///
+/// Words: [how to read it](crate::definitions).
+pub fn is_zero<T: Num>(a: T) -> bool {
+    a.is_zero()
+}
+
+/// Returns `true` if `a` is below `b`. `is_below(2, 3)` is `true`, and `is_below(3, 3)` is `false`.
+///
+/// # Proved
+///
+/// ```text
+/// requires { T.exact }
+/// ensures { IsTrue result ↔ (T.value a <ℤ T.value b) }
+/// ```
+///
+/// Words: [how to read it](crate::definitions).
+pub fn is_below<T: Num + PartialOrd>(a: T, b: T) -> bool {
+    a < b
+}
+
+/// Returns `true` if `a` is negative. `is_negative(-1)` is `true`, and `is_negative(0)` is `false`.
+///
+/// # Proved
+///
+/// ```text
+/// requires { T.exact }
+/// ensures { IsTrue result ↔ (T.value a <ℤ pos 0) }
+/// ```
+///
+/// Words: [how to read it](crate::definitions).
+pub fn is_negative<T: Num + PartialOrd>(a: T) -> bool {
+    is_below(a, zero())
+}
+
+/// Returns `a + b`. `sum(2, 3)` is `5`.
+///
+/// # Proved
+///
+/// ```text
+/// requires exact { T.exact }
+/// requires sum_fits { T.fits (T.value a +ℤ T.value b) }
+/// ensures value { T.value result ≡ T.value a +ℤ T.value b }
+/// ```
+///
+/// Words: [how to read it](crate::definitions).
+pub fn sum<T: Num>(a: T, b: T) -> T {
+    a + b
+}
+
+/// Returns `a - b`. `difference(2, 3)` is `-1`.
+///
+/// # Proved
+///
+/// ```text
+/// requires exact { T.exact }
+/// requires difference_fits { T.fits (T.value a -ℤ T.value b) }
+/// ensures value { T.value result ≡ T.value a -ℤ T.value b }
+/// ```
+///
+/// Words: [how to read it](crate::definitions).
+pub fn difference<T: Num>(a: T, b: T) -> T {
+    a - b
+}
+
+/// Returns `a * b`. `product(2, 3)` is `6`.
+///
+/// # Proved
+///
+/// ```text
+/// requires exact { T.exact }
+/// requires product_fits { T.fits (T.value a *ℤ T.value b) }
+/// ensures value { T.value result ≡ T.value a *ℤ T.value b }
+/// ```
+///
+/// Words: [how to read it](crate::definitions).
+pub fn product<T: Num>(a: T, b: T) -> T {
+    a * b
+}
+
+/// Returns `a / b`, rounded toward zero. `quotient(-8, 3)` is `-2`.
+///
+/// # Proved
+///
+/// ```text
+/// requires exact { T.exact }
+/// requires nonzero { T.value b ≢ pos 0 }
+/// requires quotient_fits { T.fits (int_div (T.value a) (T.value b)) }
+/// ensures value { T.value result ≡ int_div (T.value a) (T.value b) }
+/// ```
+///
+/// Words: [how to read it](crate::definitions).
+pub fn quotient<T: Num>(a: T, b: T) -> T {
+    a / b
+}
+
+/// Returns `a % b`, the remainder of [`quotient`]. `remainder(-8, 3)` is `-2`.
+///
+/// # Proved
+///
+/// ```text
+/// requires exact { T.exact }
+/// requires nonzero { T.value b ≢ pos 0 }
+/// requires quotient_fits { T.fits (int_div (T.value a) (T.value b)) }
+/// ensures in_range { T.fits (T.value a) → T.fits (T.value result) }
+/// ensures value { T.value result ≡ int_rem (T.value a) (T.value b) }
+/// ```
+///
+/// Words: [how to read it](crate::definitions).
+pub fn remainder<T: Num>(a: T, b: T) -> T {
+    a % b
+}
+
+/// Returns `a + 1`. `successor(41)` is `42`.
+///
+/// # Proved
+///
+/// ```text
+/// requires exact { T.exact }
+/// requires sum_fits { T.fits (T.value a +ℤ pos 1) }
+/// ensures value { T.value result ≡ T.value a +ℤ pos 1 }
+/// ```
+///
+/// Words: [how to read it](crate::definitions).
+pub fn successor<T: Num>(a: T) -> T {
+    sum(a, one())
+}
+
+/// Returns `a - 1`. `predecessor(43)` is `42`.
+///
+/// # Proved
+///
+/// ```text
+/// requires exact { T.exact }
+/// requires difference_fits { T.fits (T.value a -ℤ pos 1) }
+/// ensures value { T.value result ≡ T.value a -ℤ pos 1 }
+/// ```
+///
+/// Words: [how to read it](crate::definitions).
+pub fn predecessor<T: Num>(a: T) -> T {
+    difference(a, one())
+}
+
+/// Returns `-a`. `negated(7)` is `-7`.
+///
+/// # Proved
+///
+/// ```text
+/// requires exact { T.exact }
+/// requires negation_fits { T.fits (neg_ℤ (T.value a)) }
+/// ensures value { T.value result ≡ neg_ℤ (T.value a) }
+/// ```
+///
+/// Words: [how to read it](crate::definitions).
+pub fn negated<T: Num>(a: T) -> T {
+    difference(zero(), a)
+}

@@ -1,0 +1,30 @@
+//! Cube roots: by digits up to 32 bits, by Newton's method above.
+
+use crate::integer_roots::cube_root_digits::cube_root_by_digits;
+use crate::integer_roots::newton::newton;
+
+/// Returns the cube root of `a`, a number of a type of `bits` bits.
+pub(crate) fn cube_root(a: u64, bits: u32) -> u64 {
+    if bits > 32 {
+        wide_cube_root(a)
+    } else {
+        u64::from(cube_root_by_digits(a as u32, bits))
+    }
+}
+
+/// Returns the cube root of a number of 64 bits.
+fn wide_cube_root(a: u64) -> u64 {
+    if a < 8 {
+        return u64::from(a > 0);
+    }
+    match u32::try_from(a) {
+        Ok(a) => u64::from(cube_root_by_digits(a, u32::BITS)),
+        Err(_) => cube_root_by_newton(a),
+    }
+}
+
+/// Returns the cube root of `a`, by Newton's method. The first guess is a power of two near the root.
+fn cube_root_by_newton(a: u64) -> u64 {
+    let step = move |x: u64| -> u64 { (a / (x * x) + 2 * x) / 3 };
+    newton(1 << a.ilog2().div_ceil(3), step).0
+}

@@ -1,0 +1,101 @@
+//! Roots.
+
+use crate::integer_core::Integer;
+
+/// Roots of an integer of at most 64 bits, rounded toward zero.
+///
+/// # Laws
+///
+/// ```text
+/// ghost width_law: { IsWithin64Bits Self.low Self.high }
+/// ```
+///
+/// Words: [`IsWithin64Bits`](crate::definitions::integer_roots#iswithin64bits),
+/// [how to read it](crate::definitions).
+pub trait Roots: Integer {
+    /// Returns the root of degree `n`, rounded toward zero. `12345.nth_root(4)` is `10`.
+    ///
+    /// May be called where `n` is not 0, and `n` is odd or `self` is not negative.
+    ///
+    /// # Proved
+    ///
+    /// ```text
+    /// requires degree { n ≢ 0 }
+    /// requires from_zero_where_even { n % 2 ≡ 0 → pos 0 ≤ℤ Self.value self.now }
+    /// ensures root { IsRoot (Self.value self.now) n (Self.value result) }
+    /// ```
+    ///
+    /// Words: [`IsRoot`](crate::definitions::integer_roots#isroot), [how to read it](crate::definitions).
+    fn nth_root(&self, n: u32) -> Self;
+
+    /// Returns the square root, rounded down. `99.sqrt()` is `9`.
+    ///
+    /// May be called where `self` is not negative.
+    ///
+    /// # Proved
+    ///
+    /// ```text
+    /// requires from_zero { pos 0 ≤ℤ Self.value self.now }
+    /// ensures root { IsRoot (Self.value self.now) 2 (Self.value result) }
+    /// ```
+    ///
+    /// Words: [`IsRoot`](crate::definitions::integer_roots#isroot), [how to read it](crate::definitions).
+    fn sqrt(&self) -> Self {
+        self.nth_root(2)
+    }
+
+    /// Returns the cube root, rounded toward zero. `(-9).cbrt()` is `-2`.
+    ///
+    /// # Proved
+    ///
+    /// ```text
+    /// ensures root { IsRoot (Self.value self.now) 3 (Self.value result) }
+    /// ```
+    ///
+    /// Words: [`IsRoot`](crate::definitions::integer_roots#isroot), [how to read it](crate::definitions).
+    fn cbrt(&self) -> Self {
+        self.nth_root(3)
+    }
+}
+
+/// See [`Roots::nth_root`]. `nth_root(12345, 4)` is `10`.
+///
+/// # Proved
+///
+/// ```text
+/// requires degree { n ≢ 0 }
+/// requires from_zero_where_even { n % 2 ≡ 0 → pos 0 ≤ℤ T.value x }
+/// ensures root { IsRoot (T.value x) n (T.value result) }
+/// ```
+///
+/// Words: [`IsRoot`](crate::definitions::integer_roots#isroot), [how to read it](crate::definitions).
+pub fn nth_root<T: Roots>(x: T, n: u32) -> T {
+    x.nth_root(n)
+}
+
+/// See [`Roots::sqrt`]. `sqrt(99)` is `9`.
+///
+/// # Proved
+///
+/// ```text
+/// requires from_zero { pos 0 ≤ℤ T.value x }
+/// ensures root { IsRoot (T.value x) 2 (T.value result) }
+/// ```
+///
+/// Words: [`IsRoot`](crate::definitions::integer_roots#isroot), [how to read it](crate::definitions).
+pub fn sqrt<T: Roots>(x: T) -> T {
+    x.sqrt()
+}
+
+/// See [`Roots::cbrt`]. `cbrt(-9)` is `-2`.
+///
+/// # Proved
+///
+/// ```text
+/// ensures root { IsRoot (T.value x) 3 (T.value result) }
+/// ```
+///
+/// Words: [`IsRoot`](crate::definitions::integer_roots#isroot), [how to read it](crate::definitions).
+pub fn cbrt<T: Roots>(x: T) -> T {
+    x.cbrt()
+}

@@ -1,0 +1,41 @@
+//! Integer division, divisors, roots and coefficients for every integer type, after the crate
+//! `num-integer`; exact fractions, arithmetic modulo a number, dates, and small models that use
+//! them.
+//!
+//! These sources are not written by hand. They are those of the proved library without their
+//! contracts: each body was proved in Rattle, which is Rust with contracts, for arguments in its
+//! domain, against the contract of the same name. The section `# Proved` of an item has that
+//! contract, and [`definitions`] has its words.
+//!
+//! The domain is what a comment says below "May be called". Anywhere else a call panics or returns
+//! some number. The calls of [`checked`] have no condition: they return `None` there.
+#![no_std]
+#![forbid(unsafe_code)]
+// Some names are those of contracts alone.
+#![allow(dead_code)]
+#![allow(clippy::manual_div_ceil)]
+
+mod bounded_coefficients;
+pub mod calendar;
+pub mod checked;
+mod coefficients;
+pub mod counted;
+pub mod definitions;
+mod domains;
+mod integer_core;
+mod integer_roots;
+pub mod modular;
+mod parts;
+pub mod ratio64;
+mod rows;
+mod shift;
+pub mod uses;
+
+pub use crate::integer_core::{
+    div_ceil, div_floor, div_mod_floor, div_rem, gcd, gcd_lcm, lcm, mod_floor, operators,
+    ExtendedGcd, Integer, NativeInteger,
+};
+pub use crate::integer_roots::{average_ceil, average_floor, cbrt, nth_root, sqrt, Average, Roots};
+pub use coefficients::{binomial, multinomial};
+pub use domains::Fits;
+pub use rows::IterBinomial;

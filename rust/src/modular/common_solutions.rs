@@ -1,0 +1,87 @@
+//! The next number that solves two congruences, whether it fits the type or not.
+
+use crate::modular::products::Modular;
+use crate::modular::residue_classes::{next_congruent, solutions};
+use crate::modular::residues::{difference_modulo, residue};
+use crate::operators::{difference, is_below, is_negative, product, successor, sum};
+use crate::{checked, Fits, Integer};
+
+/// The result of [`next_common_solution`].
+#[derive(Debug, Clone, Copy, PartialEq, Eq)]
+pub enum CommonSolution<T> {
+    /// No number solves both.
+    Never,
+    /// The least solution is beyond the type.
+    Beyond,
+    /// The least solution.
+    At(T),
+}
+
+/// Returns the least number from `from` on that is `a` modulo `m` and `b` modulo `n`. The least common
+/// multiple of `m` and `n` need not fit. `next_common_solution(10, 1, 4, 3, 6)` is
+/// `CommonSolution::At(21)`.
+///
+/// May be called where `m` and `n` are above 0.
+///
+/// # Proved
+///
+/// ```text
+/// requires m_positive { pos 0 <ℤ T.value m }
+/// requires n_positive { pos 0 <ℤ T.value n }
+/// ensures { MatchCommonSolution result
+///     ((x : ℤ) → ¬ (SolvesBothCongruences (T.value a) (T.value m) (T.value b) (T.value n) x))
+///     ((t : ℤ) × IsNextCommonSolution (T.value from) (T.value a) (T.value m) (T.value b)
+///     (T.value n) t × ¬ (T.fits t))
+///     (λ t. T.fits (T.value t) × IsNextCommonSolution (T.value from) (T.value a) (T.value m)
+///     (T.value b) (T.value n) (T.value t)) }
+/// ```
+///
+/// Words: [`MatchCommonSolution`](crate::definitions::modular#matchcommonsolution),
+/// [`SolvesBothCongruences`](crate::definitions::modular#solvesbothcongruences),
+/// [`IsNextCommonSolution`](crate::definitions::modular#isnextcommonsolution),
+/// [how to read it](crate::definitions).
+pub fn next_common_solution<T: Modular + Fits>(
+    from: T,
+    a: T,
+    m: T,
+    b: T,
+    n: T,
+) -> CommonSolution<T> {
+    let start = residue(a, m);
+    let gap = difference_modulo(b, start, n);
+    match solutions(m, gap, n) {
+        Some((turn, step)) => match next_in_class(from, start, m, turn, step) {
+            Some(solution) => CommonSolution::At(solution),
+            None => CommonSolution::Beyond,
+        },
+        None => CommonSolution::Never,
+    }
+}
+
+/// Returns the least number from `from` on that is `start` plus a number of turns of `m` that is `turn`
+/// modulo `step`, or `None` where it is beyond the type.
+fn next_in_class<T: Fits>(from: T, start: T, m: T, turn: T, step: T) -> Option<T> {
+    let turns = next_congruent(first_turn(from, start, m), turn, step)?;
+    after_turns(start, m, turns)
+}
+
+/// Returns the least number of turns of `m` that lead from `start` to `from` or beyond.
+fn first_turn<T: Integer>(from: T, start: T, m: T) -> T {
+    let (turn, rest) = from.div_mod_floor(&m);
+    if is_below(start, rest) {
+        successor(turn)
+    } else {
+        turn
+    }
+}
+
+/// Returns `start` plus `turns` times `m`, or `None` where that does not fit.
+fn after_turns<T: Fits>(start: T, m: T, turns: T) -> Option<T> {
+    if is_negative(turns) {
+        let size = product(m, successor(turns));
+        Some(sum(size, difference(start, m)))
+    } else {
+        let size = checked::product(m, turns)?;
+        checked::sum(start, size)
+    }
+}

@@ -1,0 +1,38 @@
+//! Powers modulo a number above 0.
+
+use crate::modular::products::Modular;
+
+/// Returns [`power_modulo`] and the number of turns of its loop, by [`Modular::power_modulo_counted`].
+/// `power_modulo_counted(3, 4, 7)` is `(4, 2)`, and `power_modulo_counted(3, 0, 7)` is `(1, 0)`.
+///
+/// May be called where [`power_modulo`] may.
+///
+/// # Proved
+///
+/// ```text
+/// requires positive { pos 0 <ℤ T.value m }
+/// ensures residue { IsResidue (T.value m) (int_pow (T.value a) exponent) (T.value result.0) }
+/// ensures no_turn { exponent ≡ 0 → result.1 ≡ 0 }
+/// ensures turns { exponent ≢ 0 → (2 ^ result.1 ≤ exponent) × (exponent < 2 ^ (result.1 + 1)) }
+/// ```
+///
+/// Words: [`IsResidue`](crate::definitions::modular#isresidue), [how to read it](crate::definitions).
+pub fn power_modulo_counted<T: Modular>(a: T, exponent: u128, m: T) -> (T, u32) {
+    a.power_modulo_counted(exponent, &m)
+}
+
+/// Returns `a` to the power `exponent` modulo `m`, by squares. `power_modulo(3, 4, 7)` is `4`.
+///
+/// May be called where `m` is above 0.
+///
+/// # Proved
+///
+/// ```text
+/// requires positive { pos 0 <ℤ T.value m }
+/// ensures residue { IsResidue (T.value m) (int_pow (T.value a) exponent) (T.value result) }
+/// ```
+///
+/// Words: [`IsResidue`](crate::definitions::modular#isresidue), [how to read it](crate::definitions).
+pub fn power_modulo<T: Modular>(a: T, exponent: u128, m: T) -> T {
+    power_modulo_counted(a, exponent, m).0
+}

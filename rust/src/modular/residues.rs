@@ -1,0 +1,89 @@
+//! Residues, and their sums, differences and negations.
+
+use crate::operators::{difference, is_below, is_zero, sum};
+use crate::{mod_floor, Integer};
+
+/// Returns `a` modulo `m`, which is at least 0. `residue(-3, 7)` is `4`.
+///
+/// May be called where `m` is above 0.
+///
+/// # Proved
+///
+/// ```text
+/// requires positive { pos 0 <ℤ T.value m }
+/// ensures residue { IsResidue (T.value m) (T.value a) (T.value result) }
+/// ```
+///
+/// Words: [`IsResidue`](crate::definitions::modular#isresidue), [how to read it](crate::definitions).
+pub fn residue<T: Integer>(a: T, m: T) -> T {
+    mod_floor(a, m)
+}
+
+/// Returns `a + b` modulo `m`. The sum need not fit the type: `sum_modulo(200u8, 100, 201)` is `99`.
+///
+/// May be called where `m` is above 0.
+///
+/// # Proved
+///
+/// ```text
+/// requires positive { pos 0 <ℤ T.value m }
+/// ensures residue { IsResidue (T.value m) (T.value a +ℤ T.value b) (T.value result) }
+/// ```
+///
+/// Words: [`IsResidue`](crate::definitions::modular#isresidue), [how to read it](crate::definitions).
+pub fn sum_modulo<T: Integer>(a: T, b: T, m: T) -> T {
+    sum_of_residues(residue(a, m), residue(b, m), m)
+}
+
+/// Returns [`sum_modulo`] of two residues.
+pub(crate) fn sum_of_residues<T: Integer>(x: T, y: T, m: T) -> T {
+    let room = difference(m, y);
+    if is_below(x, room) {
+        sum(x, y)
+    } else {
+        difference(x, room)
+    }
+}
+
+/// Returns `a - b` modulo `m`, which is at least 0. `difference_modulo(2, 5, 7)` is `4`.
+///
+/// May be called where `m` is above 0.
+///
+/// # Proved
+///
+/// ```text
+/// requires positive { pos 0 <ℤ T.value m }
+/// ensures residue { IsResidue (T.value m) (T.value a -ℤ T.value b) (T.value result) }
+/// ```
+///
+/// Words: [`IsResidue`](crate::definitions::modular#isresidue), [how to read it](crate::definitions).
+pub fn difference_modulo<T: Integer>(a: T, b: T, m: T) -> T {
+    let (x, y) = (residue(a, m), residue(b, m));
+    if is_below(x, y) {
+        difference(m, difference(y, x))
+    } else {
+        difference(x, y)
+    }
+}
+
+/// Returns `-a` modulo `m`, which is at least 0. `negation_modulo(2, 7)` is `5`, and
+/// `negation_modulo(0, 7)` is `0`.
+///
+/// May be called where `m` is above 0.
+///
+/// # Proved
+///
+/// ```text
+/// requires positive { pos 0 <ℤ T.value m }
+/// ensures residue { IsResidue (T.value m) (neg_ℤ (T.value a)) (T.value result) }
+/// ```
+///
+/// Words: [`IsResidue`](crate::definitions::modular#isresidue), [how to read it](crate::definitions).
+pub fn negation_modulo<T: Integer>(a: T, m: T) -> T {
+    let x = residue(a, m);
+    if is_zero(x) {
+        x
+    } else {
+        difference(m, x)
+    }
+}

@@ -1,0 +1,38 @@
+//! Products of magnitudes, at 128 bits.
+
+use crate::modular::long_products::{long_product, BASE};
+
+/// Returns the product modulo `m`. Where both numbers have at most 64 bits, it fits.
+#[inline]
+pub(crate) fn product_of_wide(x: u128, y: u128, m: u128) -> u128 {
+    if x < BASE && y < BASE {
+        remainder_of_wide(x * y, m)
+    } else {
+        product_by_residues(x, y, m)
+    }
+}
+
+/// Returns the product modulo `m`, by the residues.
+#[inline(never)]
+fn product_by_residues(x: u128, y: u128, m: u128) -> u128 {
+    product_of_long(x % m, y % m, m)
+}
+
+/// Returns the product of two residues. Where the modulus is at most 2^64, their product fits.
+fn product_of_long(x: u128, y: u128, m: u128) -> u128 {
+    if m <= BASE {
+        x * y % m
+    } else {
+        long_product(x, y, m)
+    }
+}
+
+/// Returns the remainder, by a division of 64 bits where both numbers have no more.
+#[inline]
+pub(crate) fn remainder_of_wide(n: u128, m: u128) -> u128 {
+    if n < BASE && m < BASE {
+        u128::from(n as u64 % m as u64)
+    } else {
+        n % m
+    }
+}

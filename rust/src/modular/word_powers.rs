@@ -1,0 +1,52 @@
+//! Powers modulo a number of 64 bits: by Montgomery's products modulo its odd part, and by the low bits
+//! modulo its power of two.
+
+use crate::modular::montgomery::Montgomery;
+use crate::modular::representatives::{power_counted, Representatives};
+
+/// Returns the power of a number modulo `m`, and the number of turns of its loop.
+pub(crate) fn power_of_word(x: u64, exponent: u128, m: u64) -> (u64, u32) {
+    let modulus = SplitModulus::new(m);
+    let (one, base) = (modulus.standing_for(1), modulus.standing_for(x));
+    let (power, turns) = power_counted(&modulus, one, base, exponent);
+    (modulus.residue_of(power), turns)
+}
+
+/// A modulus, as an odd number times a power of two. A pair stands for a number: what stands for it modulo
+/// the odd number, and its low bits.
+#[derive(Clone, Copy)]
+struct SplitModulus {
+    odd: Montgomery,
+    twos: u32,
+}
+
+impl SplitModulus {
+    /// Returns the form of a modulus.
+    fn new(m: u64) -> SplitModulus {
+        let twos = m.trailing_zeros();
+        SplitModulus {
+            odd: Montgomery::new(m >> twos),
+            twos,
+        }
+    }
+
+    /// Returns what stands for `x`.
+    fn standing_for(&self, x: u64) -> (u64, u64) {
+        (self.odd.standing_for(x), x)
+    }
+
+    /// Returns the residue that `x` stands for, by the Chinese remainder theorem.
+    fn residue_of(&self, x: (u64, u64)) -> u64 {
+        let rest = self.odd.residue_of(x.0);
+        let quotient = x.1.wrapping_sub(rest).wrapping_mul(self.odd.inverse) % (1 << self.twos);
+        rest + self.odd.modulus * quotient
+    }
+}
+
+impl Representatives for SplitModulus {
+    type Number = (u64, u64);
+
+    fn product(&self, x: (u64, u64), y: (u64, u64)) -> (u64, u64) {
+        (self.odd.product(x.0, y.0), x.1.wrapping_mul(y.1))
+    }
+}

@@ -1,0 +1,29 @@
+//! Why a call returns no fraction.
+
+/// Why a call returns no fraction.
+#[derive(Debug, Clone, Copy, PartialEq, Eq)]
+pub enum RatioError {
+    /// The denominator is 0.
+    ZeroDenominator,
+    /// A part of the reduced fraction lies outside `i64`.
+    NotFitting,
+}
+
+impl RatioError {
+    /// Returns the number of the error: `1` for `ZeroDenominator`, `2` for `NotFitting`. It is the
+    /// same in every version.
+    ///
+    /// # Proved
+    ///
+    /// ```text
+    /// ensures { result ≡ number_of self.now }
+    /// ```
+    ///
+    /// Words: [`number_of`](crate::definitions::ratio64#number_of), [how to read it](crate::definitions).
+    pub fn number(&self) -> u32 {
+        match self {
+            RatioError::ZeroDenominator => 1,
+            RatioError::NotFitting => 2,
+        }
+    }
+}

@@ -1,0 +1,220 @@
+//! A fraction, which is always reduced, and the calls that make one.
+
+mod limit;
+mod powers;
+mod rounding;
+mod sign;
+mod whole;
+
+use crate::ratio64::products::{difference, product, sum};
+use crate::ratio64::reduction::lowest_terms;
+use crate::ratio64::RatioError;
+use crate::{div_ceil, div_floor};
+
+/// A fraction. Its denominator is above 0, and the greatest common divisor of its parts is 1.
+///
+/// # Proved
+///
+/// ```text
+/// pub ghost reduced: { IsReduced num den }
+/// ```
+///
+/// Words: [`IsReduced`](crate::definitions::ratio64#isreduced), [how to read it](crate::definitions).
+#[derive(Debug, Clone, Copy, PartialEq, Eq, Hash)]
+pub struct Ratio {
+    num: i64,
+    den: i64,
+}
+
+impl Ratio {
+    /// Returns the fraction `num / den`, reduced. `Ratio::new(6, -4)` is `Ratio::new(-3, 2)`, and
+    /// `Ratio::new(1, 0)` is `Err(RatioError::ZeroDenominator)`.
+    ///
+    /// # Proved
+    ///
+    /// ```text
+    /// ensures { AnswersFraction num den result }
+    /// ```
+    ///
+    /// Words: [`AnswersFraction`](crate::definitions::ratio64#answersfraction),
+    /// [how to read it](crate::definitions).
+    pub fn new(num: i64, den: i64) -> Result<Ratio, RatioError> {
+        Ratio::reduced(i128::from(num), i128::from(den))
+    }
+
+    /// Returns the numerator of the reduced fraction. That of 6/-4 is `-3`.
+    ///
+    /// # Proved
+    ///
+    /// ```text
+    /// ensures { result ≡ num_of self.now }
+    /// ```
+    ///
+    /// Words: [`num_of`](crate::definitions::ratio64#num_of), [how to read it](crate::definitions).
+    pub fn num(&self) -> i64 {
+        self.num
+    }
+
+    /// Returns the denominator of the reduced fraction, which is above 0. That of 6/-4 is `2`.
+    ///
+    /// # Proved
+    ///
+    /// ```text
+    /// ensures { result ≡ den_of self.now }
+    /// ```
+    ///
+    /// Words: [`den_of`](crate::definitions::ratio64#den_of), [how to read it](crate::definitions).
+    pub fn den(&self) -> i64 {
+        self.den
+    }
+
+    /// Returns the fraction rounded down. For -3/2 it returns `-2`.
+    ///
+    /// # Proved
+    ///
+    /// ```text
+    /// ensures { IsQuotient IsFloored (num_of self.now) (den_of self.now) result }
+    /// ```
+    ///
+    /// Words: [`IsQuotient`](crate::definitions::integer_core#isquotient),
+    /// [`IsFloored`](crate::definitions::integer_core#isfloored),
+    /// [`num_of`](crate::definitions::ratio64#num_of), [`den_of`](crate::definitions::ratio64#den_of),
+    /// [how to read it](crate::definitions).
+    pub fn floor(&self) -> i64 {
+        div_floor(self.num, self.den)
+    }
+
+    /// Returns the fraction rounded up. For -3/2 it returns `-1`.
+    ///
+    /// # Proved
+    ///
+    /// ```text
+    /// ensures { IsQuotient IsCeiled (num_of self.now) (den_of self.now) result }
+    /// ```
+    ///
+    /// Words: [`IsQuotient`](crate::definitions::integer_core#isquotient),
+    /// [`IsCeiled`](crate::definitions::integer_core#isceiled),
+    /// [`num_of`](crate::definitions::ratio64#num_of), [`den_of`](crate::definitions::ratio64#den_of),
+    /// [how to read it](crate::definitions).
+    pub fn ceil(&self) -> i64 {
+        div_ceil(self.num, self.den)
+    }
+
+    /// Returns the sum, or `NotFitting` where a part of it does not fit. 1/2 and 1/3 give 5/6.
+    ///
+    /// # Proved
+    ///
+    /// ```text
+    /// ensures sum { AnswersFraction
+    ///     (num_of self.now *ℤ den_of other.now +ℤ num_of other.now *ℤ den_of self.now)
+    ///     (den_of self.now *ℤ den_of other.now) result }
+    /// ensures never_zero { result ≢ Err RatioError.ZeroDenominator }
+    /// ```
+    ///
+    /// Words: [`AnswersFraction`](crate::definitions::ratio64#answersfraction),
+    /// [`num_of`](crate::definitions::ratio64#num_of), [`den_of`](crate::definitions::ratio64#den_of),
+    /// [how to read it](crate::definitions).
+    pub fn checked_add(&self, other: &Ratio) -> Result<Ratio, RatioError> {
+        self.over_both(other, sum(self.num, self.den, other.num, other.den))
+    }
+
+    /// Returns the difference, or `NotFitting` where a part of it does not fit. 1/2 and 1/3 give 1/6.
+    ///
+    /// # Proved
+    ///
+    /// ```text
+    /// ensures difference { AnswersFraction
+    ///     (num_of self.now *ℤ den_of other.now -ℤ num_of other.now *ℤ den_of self.now)
+    ///     (den_of self.now *ℤ den_of other.now) result }
+    /// ensures never_zero { result ≢ Err RatioError.ZeroDenominator }
+    /// ```
+    ///
+    /// Words: [`AnswersFraction`](crate::definitions::ratio64#answersfraction),
+    /// [`num_of`](crate::definitions::ratio64#num_of), [`den_of`](crate::definitions::ratio64#den_of),
+    /// [how to read it](crate::definitions).
+    pub fn checked_sub(&self, other: &Ratio) -> Result<Ratio, RatioError> {
+        self.over_both(other, difference(self.num, self.den, other.num, other.den))
+    }
+
+    /// Returns the product, or `NotFitting` where a part of it does not fit. 2/3 and 3/4 give 1/2.
+    ///
+    /// # Proved
+    ///
+    /// ```text
+    /// ensures product { AnswersFraction (num_of self.now *ℤ num_of other.now)
+    ///     (den_of self.now *ℤ den_of other.now) result }
+    /// ensures never_zero { result ≢ Err RatioError.ZeroDenominator }
+    /// ```
+    ///
+    /// Words: [`AnswersFraction`](crate::definitions::ratio64#answersfraction),
+    /// [`num_of`](crate::definitions::ratio64#num_of), [`den_of`](crate::definitions::ratio64#den_of),
+    /// [how to read it](crate::definitions).
+    pub fn checked_mul(&self, other: &Ratio) -> Result<Ratio, RatioError> {
+        self.over_both(other, product(self.num, other.num))
+    }
+
+    /// Returns the quotient, or `ZeroDenominator` where `other` is 0, or `NotFitting` where a part of
+    /// the quotient does not fit. -1/2 and -3/4 give 2/3.
+    ///
+    /// # Proved
+    ///
+    /// ```text
+    /// ensures quotient { AnswersFraction (num_of self.now *ℤ den_of other.now)
+    ///     (num_of other.now *ℤ den_of self.now) result }
+    /// ensures zero_divisor { (result ≡ Err RatioError.ZeroDenominator)
+    ///     ↔ (num_of other.now ≡ pos 0) }
+    /// ```
+    ///
+    /// Words: [`AnswersFraction`](crate::definitions::ratio64#answersfraction),
+    /// [`num_of`](crate::definitions::ratio64#num_of), [`den_of`](crate::definitions::ratio64#den_of),
+    /// [how to read it](crate::definitions).
+    pub fn checked_div(&self, other: &Ratio) -> Result<Ratio, RatioError> {
+        Ratio::reduced(product(self.num, other.den), product(other.num, self.den))
+    }
+
+    /// Returns the reciprocal `den / num`, or `ZeroDenominator` where the fraction is 0, or
+    /// `NotFitting` where the numerator is `i64::MIN`. That of -2/3 is -3/2.
+    ///
+    /// # Proved
+    ///
+    /// ```text
+    /// ensures { AnswersFraction (den_of self.now) (num_of self.now) result }
+    /// ```
+    ///
+    /// Words: [`AnswersFraction`](crate::definitions::ratio64#answersfraction),
+    /// [`den_of`](crate::definitions::ratio64#den_of), [`num_of`](crate::definitions::ratio64#num_of),
+    /// [how to read it](crate::definitions).
+    pub fn checked_recip(&self) -> Result<Ratio, RatioError> {
+        Ratio::new(self.den, self.num)
+    }
+
+    /// Returns the fraction of `num` over the product of the two denominators.
+    fn over_both(&self, other: &Ratio, num: i128) -> Result<Ratio, RatioError> {
+        Ratio::reduced(num, product(self.den, other.den))
+    }
+
+    /// Returns the fraction `num / den`, with both parts divided by their greatest common divisor.
+    pub(crate) fn reduced(num: i128, den: i128) -> Result<Ratio, RatioError> {
+        if den == 0 {
+            return Err(RatioError::ZeroDenominator);
+        }
+        let (num, den) = lowest_terms(num, den)?;
+        Ok(Ratio { num, den })
+    }
+}
+
+/// A whole number is never refused: `Ok(Ratio::from(5))` is `Ratio::new(5, 1)`.
+///
+/// # Proved
+///
+/// ```text
+/// ghost from_gives = { λ number x. (num_of x ≡ number) × (den_of x ≡ pos 1) }
+/// ```
+///
+/// Words: [`num_of`](crate::definitions::ratio64#num_of), [`den_of`](crate::definitions::ratio64#den_of),
+/// [how to read it](crate::definitions).
+impl From<i64> for Ratio {
+    fn from(num: i64) -> Ratio {
+        Ratio { num, den: 1 }
+    }
+}

@@ -1,0 +1,67 @@
+//! Rounding to whole numbers.
+
+use crate::div_rem;
+use crate::ratio64::Ratio;
+
+impl Ratio {
+    /// Returns the fraction rounded toward 0. For -3/2 it returns `-1`.
+    ///
+    /// # Proved
+    ///
+    /// ```text
+    /// ensures { IsQuotient IsTruncated (num_of self.now) (den_of self.now) result }
+    /// ```
+    ///
+    /// Words: [`IsQuotient`](crate::definitions::integer_core#isquotient),
+    /// [`IsTruncated`](crate::definitions::integer_core#istruncated),
+    /// [`num_of`](crate::definitions::ratio64#num_of), [`den_of`](crate::definitions::ratio64#den_of),
+    /// [how to read it](crate::definitions).
+    pub fn trunc(&self) -> i64 {
+        let (whole, _) = div_rem(self.num, self.den);
+        whole
+    }
+
+    /// Returns the nearest whole number, and of two that are equally near the one farther from 0. For
+    /// -3/2 it returns `-2`.
+    ///
+    /// # Proved
+    ///
+    /// ```text
+    /// ensures { IsRounded (num_of self.now) (den_of self.now) result }
+    /// ```
+    ///
+    /// Words: [`IsRounded`](crate::definitions::ratio64#isrounded),
+    /// [`num_of`](crate::definitions::ratio64#num_of), [`den_of`](crate::definitions::ratio64#den_of),
+    /// [how to read it](crate::definitions).
+    pub fn round(&self) -> i64 {
+        let (whole, rest) = div_rem(self.num, self.den);
+        let (rest, den) = (rest.unsigned_abs(), self.den.unsigned_abs());
+        if rest < den - rest {
+            whole
+        } else {
+            whole + self.num.signum()
+        }
+    }
+
+    /// Returns the fraction minus [`Ratio::trunc`]. For -3/2 it returns -1/2.
+    ///
+    /// # Proved
+    ///
+    /// ```text
+    /// ensures num { IsRemainder IsTruncated (num_of self.now) (den_of self.now)
+    ///     (num_of result) }
+    /// ensures den { den_of result ≡ den_of self.now }
+    /// ```
+    ///
+    /// Words: [`IsRemainder`](crate::definitions::integer_core#isremainder),
+    /// [`IsTruncated`](crate::definitions::integer_core#istruncated),
+    /// [`num_of`](crate::definitions::ratio64#num_of), [`den_of`](crate::definitions::ratio64#den_of),
+    /// [how to read it](crate::definitions).
+    pub fn fract(&self) -> Ratio {
+        let (_, rest) = div_rem(self.num, self.den);
+        Ratio {
+            num: rest,
+            den: self.den,
+        }
+    }
+}

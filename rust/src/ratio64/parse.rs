@@ -1,0 +1,94 @@
+//! Reads a fraction from a text.
+
+use crate::ratio64::{Ratio, RatioError};
+use core::str::FromStr;
+
+/// Why a text is read as no fraction.
+#[derive(Debug, Clone, Copy, PartialEq, Eq)]
+pub enum ParseRatioError {
+    /// The text is neither a whole number nor two of them with a slash between.
+    NotAFraction,
+    /// A part has more than 38 digits, without its leading zeros.
+    TooLong,
+    /// The denominator is 0.
+    ZeroDenominator,
+    /// A part of the reduced fraction lies outside `i64`.
+    NotFitting,
+}
+
+/// # Proved
+///
+/// ```text
+/// ghost from_gives = { λ refusal error. Err error ≡ answer_read (Err refusal) }
+/// ```
+///
+/// Words: [`answer_read`](crate::definitions::ratio64#answer_read), [how to read it](crate::definitions).
+impl From<RatioError> for ParseRatioError {
+    fn from(refusal: RatioError) -> ParseRatioError {
+        match refusal {
+            RatioError::ZeroDenominator => ParseRatioError::ZeroDenominator,
+            RatioError::NotFitting => ParseRatioError::NotFitting,
+        }
+    }
+}
+
+/// Reads the form that `Display` writes: `num/den`, or only `num`. Each part is an optional `-`, then
+/// digits. `"6/-4".parse().ok()` is `Ratio::new(-3, 2).ok()`, and `"+1"` and `"1/"` are no fractions.
+/// The fraction is reduced before its parts have to fit: `"18446744073709551614/2".parse()` is
+/// `Ok(Ratio::from(i64::MAX))`.
+///
+/// # Proved
+///
+/// ```text
+/// ghost from_str_gives = { ReadsFraction }
+/// ```
+///
+/// Words: [`ReadsFraction`](crate::definitions::ratio64#readsfraction),
+/// [how to read it](crate::definitions).
+impl FromStr for Ratio {
+    type Err = ParseRatioError;
+
+    fn from_str(text: &str) -> Result<Ratio, ParseRatioError> {
+        let (num, den) = text.split_once('/').unwrap_or((text, "1"));
+        if !is_whole_number(num) || !is_whole_number(den) {
+            return Err(ParseRatioError::NotAFraction);
+        }
+        fraction_of(num, den)
+    }
+}
+
+/// Returns the fraction of the two numbers that the texts spell.
+fn fraction_of(num: &str, den: &str) -> Result<Ratio, ParseRatioError> {
+    Ok(Ratio::reduced(whole_number(num)?, whole_number(den)?)?)
+}
+
+/// Returns the text without a leading `-`.
+fn without_minus(text: &[u8]) -> &[u8] {
+    match text {
+        [b'-', digits @ ..] => digits,
+        _ => text,
+    }
+}
+
+/// Returns `true` if the text is an optional `-`, then one or more digits, and nothing else.
+fn is_whole_number(text: &str) -> bool {
+    let digits = without_minus(text.as_bytes());
+    !digits.is_empty() && has_only_digits(digits)
+}
+
+/// Returns `true` if each byte is a digit.
+fn has_only_digits(text: &[u8]) -> bool {
+    text.iter().all(|byte| byte.is_ascii_digit())
+}
+
+/// 10^38, the least number of 39 digits.
+const LEAST_TOO_LONG: u128 = 100_000_000_000_000_000_000_000_000_000_000_000_000;
+
+/// Returns the number that the text spells, or `TooLong` where it has more than 38 digits without
+/// its leading zeros.
+fn whole_number(text: &str) -> Result<i128, ParseRatioError> {
+    match text.parse::<i128>() {
+        Ok(number) if number.unsigned_abs() < LEAST_TOO_LONG => Ok(number),
+        _ => Err(ParseRatioError::TooLong),
+    }
+}

@@ -1,0 +1,71 @@
+//! Rows of Pascal's triangle.
+
+use crate::coefficients::next_coefficient;
+use crate::integer_core::operators::{is_below, one, successor, zero};
+use crate::integer_core::Integer;
+
+/// An iterator over the coefficients of `n` and each number from `0` to `n`, in order. For a
+/// negative `n` it has no item.
+///
+/// The items of `IterBinomial::new(3u8)` are `1`, `3`, `3` and `1`.
+///
+/// The greatest `n` whose row fits is 10 for `u8`, 9 for `i8`, 18 for `u16`, 17 for `i16`, 34 for
+/// `u32`, 33 for `i32`, 67 for `u64` and 66 for `i64`.
+pub struct IterBinomial<T: Integer> {
+    n: T,
+    k: T,
+    item: T,
+}
+
+impl<T: Integer> IterBinomial<T> {
+    /// Returns the row of `n`. `IterBinomial::new(3u8)` gives `1`, `3`, `3`, `1`, and then `None`.
+    ///
+    /// May be called where [`crate::checked::row`] returns `Some`.
+    ///
+    /// # Proved
+    ///
+    /// ```text
+    /// requires row_fits { RowFits T.fits (T.value n) }
+    /// ensures row { result ≡ row_of (T.value n) }
+    /// ```
+    ///
+    /// Words: [`RowFits`](crate::definitions::num_integer#rowfits),
+    /// [`row_of`](crate::definitions::num_integer#row_of), [how to read it](crate::definitions).
+    pub fn new(n: T) -> IterBinomial<T> {
+        IterBinomial {
+            n,
+            k: zero(),
+            item: one(),
+        }
+    }
+}
+
+/// Returns the item after the `k`-th, or the `k`-th again where it is the last.
+fn item_after<T: Integer>(item: T, n: T, k: T) -> T {
+    if is_below(k, n) {
+        next_coefficient(item, n, k)
+    } else {
+        item
+    }
+}
+
+/// # Proved
+///
+/// ```text
+/// ghost next_gives = { YieldsFirstBy T.value (λ s. s) }
+/// ```
+///
+/// Words: [how to read it](crate::definitions).
+impl<T: Integer> Iterator for IterBinomial<T> {
+    type Item = T;
+
+    fn next(&mut self) -> Option<T> {
+        if is_below(self.n, self.k) {
+            return None;
+        }
+        let item = self.item;
+        self.item = item_after(item, self.n, self.k);
+        self.k = successor(self.k);
+        Some(item)
+    }
+}

@@ -1,0 +1,10 @@
+//! What people build on integer division: paging, layout, schedules, ranking, the search by halves,
+//! powers and a rolling hash.
+
+pub mod halving;
+pub mod layout;
+pub mod paging;
+pub mod powers;
+pub mod ranking;
+pub mod rolling_hash;
+pub mod schedules;

@@ -1,0 +1,82 @@
+//! The combinatorial number system: choices of some of the numbers below `n`, and their ranks.
+
+use crate::uses::halving::midpoint;
+use crate::{binomial, Fits};
+
+/// Returns the rank of a choice of numbers below `n`, in increasing order, among all choices of the
+/// same length: the number of those before it. `rank(&[0, 2, 3], 5)` is `2`.
+///
+/// May be called where the numbers increase and are below `n`, and the number of these choices fits a
+/// `u64`.
+///
+/// # Proved
+///
+/// ```text
+/// requires choice { IsChoice n choice.now }
+/// requires ranks_fit { coefficient n (length choice.now) < 2 ^ 64 }
+/// ensures rank { result ≡ rank_of choice.now }
+/// ensures below { result < coefficient n (length choice.now) }
+/// ensures order { (other : List ℕ) → IsChoice n other → length other ≡ length choice.now
+///     → IsBefore (length choice.now) other choice.now ↔ (rank_of other < result) }
+/// ```
+///
+/// Words: [`IsChoice`](crate::definitions::uses#ischoice),
+/// [`coefficient`](crate::definitions::num_integer#coefficient),
+/// [`rank_of`](crate::definitions::uses#rank_of), [`IsBefore`](crate::definitions::uses#isbefore),
+/// [how to read it](crate::definitions).
+#[allow(unused_variables)] // its contract alone names a parameter
+pub fn rank(choice: &[u64], n: u64) -> u64 {
+    let mut rank = 0;
+    for (i, number) in choice.iter().enumerate() {
+        rank += binomial(*number, i as u64 + 1);
+    }
+    rank
+}
+
+/// Fills the slice with the choice of numbers below `n` that has the rank, in increasing order. For
+/// rank 2, `n` 5 and three places it is `[0, 2, 3]`.
+///
+/// May be called where `rank` is below the number of these choices.
+///
+/// # Proved
+///
+/// ```text
+/// requires rank { rank < coefficient n (length choice.old) }
+/// ensures choice { IsChoiceOfRank n (length choice.old) rank choice.new }
+/// ensures only { IsOnly (IsChoiceOfRank n (length choice.old) rank) choice.new }
+/// ```
+///
+/// Words: [`coefficient`](crate::definitions::num_integer#coefficient),
+/// [`IsChoiceOfRank`](crate::definitions::uses#ischoiceofrank),
+/// [`IsOnly`](crate::definitions::integer_core#isonly), [how to read it](crate::definitions).
+pub fn choice_of_rank(rank: u64, n: u64, choice: &mut [u64]) {
+    let mut rest = rank;
+    let mut bound = n;
+    for i in (0..choice.len()).rev() {
+        let place = i as u64 + 1;
+        bound = greatest_within(rest, place, bound);
+        rest -= binomial(bound, place);
+        choice[i] = bound;
+    }
+}
+
+/// Returns the greatest number whose coefficient over the place is at most the limit. It searches by
+/// halves below the bound.
+fn greatest_within(limit: u64, place: u64, bound: u64) -> u64 {
+    let mut low = 0;
+    let mut high = bound;
+    while low + 1 < high {
+        let middle = midpoint(low + 1, high);
+        if is_within(middle, place, limit) {
+            low = middle;
+        } else {
+            high = middle;
+        }
+    }
+    low
+}
+
+/// Returns `true` if the coefficient of `n` and `k`, which may not fit, is at most the limit.
+fn is_within(n: u64, k: u64, limit: u64) -> bool {
+    n.binomial_fits(&k) && binomial(n, k) <= limit
+}

@@ -1,0 +1,116 @@
+//! Each module once, with what is not as in Rattle: the readers of fields, and panics outside the domain.
+
+use cellarcove::calendar::{easter, Date, Weekday};
+use cellarcove::counted::{extended_gcd_counted, GcdCounted, SqrtCounted};
+use cellarcove::modular::{chinese_remainder, counted, inverse_modulo, product_modulo, residue};
+use cellarcove::ratio64::{ParseRatioError, Ratio, RatioError};
+use cellarcove::uses::schedules::{next_meeting, Meeting, Schedule};
+use cellarcove::uses::{halving, layout, paging, powers, ranking, rolling_hash::RollingHash};
+use cellarcove::{binomial, operators, Integer, Roots};
+use std::panic::catch_unwind;
+
+#[test]
+fn fractions() {
+    let (half, third) = (Ratio::new(1, 2), Ratio::new(-2, -6));
+    let sum = half.and_then(|half| half.checked_add(&third?));
+    assert_eq!(sum.map(|sum| sum.to_string()), Ok("5/6".to_string()));
+    assert_eq!(Ratio::new(i64::MIN, -1), Err(RatioError::NotFitting));
+    assert_eq!(
+        "1/0".parse::<Ratio>(),
+        Err(ParseRatioError::ZeroDenominator)
+    );
+    let (num, den) = (3141592653589793, 1000000000000000);
+    assert_eq!(
+        Ratio::new(num, den).map(|pi| pi.limit_denominator(1000)),
+        Ratio::new(355, 113)
+    );
+    assert!(half.ok() > third.ok() && Ratio::default().is_zero());
+}
+
+#[test]
+fn dates() {
+    let date: Date = "2024-02-29".parse().expect("the date is one");
+    assert_eq!(
+        (date.year(), date.month(), date.day_of_month()),
+        (2024, 2, 29)
+    );
+    assert_eq!(date.day(), Some(19782));
+    assert_eq!(date.weekday(), Weekday::Thursday);
+    assert_eq!(
+        date.plus_months(12).map(|date| date.to_string()),
+        Some("2025-02-28".to_string())
+    );
+    assert_eq!(easter(2000).to_string(), "2000-04-23");
+    assert_eq!(Date::from_day(i64::MAX).day(), Some(i64::MAX));
+}
+
+#[test]
+fn residues() {
+    assert_eq!(product_modulo(u64::MAX - 1, u64::MAX - 1, u64::MAX), 1);
+    assert_eq!(product_modulo(i128::MIN, 2, i128::MAX), i128::MAX - 2);
+    assert_eq!(inverse_modulo(3u8, 251), Some(84));
+    assert_eq!(chinese_remainder(2, 3, 3, 5), Some((8, 15)));
+    assert_eq!(counted::power_modulo_counted(2u8, 8, 255), (1, 3));
+}
+
+#[test]
+fn models() {
+    let (a, b) = (
+        Schedule {
+            first: 1,
+            period: 4,
+        },
+        Schedule {
+            first: 3,
+            period: 6,
+        },
+    );
+    assert_eq!(next_meeting(10, a, b), Meeting::At(21));
+    assert_eq!(paging::pages(i64::MIN, 1), i64::MIN);
+    assert_eq!(layout::align_up(250u8, 8), None);
+    assert_eq!(halving::lower_bound(&[1, 3, 3, 5], 4), 3);
+    assert!(powers::is_square(144) && powers::is_perfect_power(128));
+    let mut choice = [0; 3];
+    ranking::choice_of_rank(2, 5, &mut choice);
+    assert_eq!((choice, ranking::rank(&choice, 5)), ([0, 2, 3], 2));
+    let hash = RollingHash::new(10, 97, 2);
+    assert_eq!((hash.base(), hash.modulus(), hash.kept()), (10, 97, 2));
+    assert_eq!(
+        hash.slide(hash.hash(&[1, 2, 3]), 1, 4),
+        hash.hash(&[2, 3, 4])
+    );
+}
+
+#[test]
+fn counts_and_operators() {
+    assert_eq!(56i64.gcd_counted(&42), (14, 1));
+    assert_eq!(99u8.sqrt_counted(), (9, 2));
+    assert_eq!(extended_gcd_counted(8, 13).1, 5);
+    assert_eq!(operators::quotient(-8, 3), -2);
+    assert_eq!(operators::negated(i64::MAX), -i64::MAX);
+}
+
+/// Whether the call panics.
+fn panics<T>(call: fn() -> T) -> bool {
+    catch_unwind(call).is_err()
+}
+
+/// The rows of the table in README.md, and more.
+#[test]
+fn outside_the_domain() {
+    assert!(panics(|| i64::MIN.gcd(&0)));
+    assert!(panics(|| 200u8.lcm(&201)));
+    assert!(panics(|| i64::MAX.lcm(&(i64::MAX - 1))));
+    assert!(panics(|| Integer::div_floor(&7, &0)));
+    assert_eq!(i64::MIN.mod_floor(&-1), 0);
+    assert_eq!(panics(|| 10u8.extended_gcd(&4)), cfg!(debug_assertions));
+    assert!(panics(|| (-9).sqrt()));
+    assert!(panics(|| 0.nth_root(0)));
+    assert_eq!(panics(|| binomial(40u32, 20)), cfg!(debug_assertions));
+    assert_eq!(binomial(5, -3), 1);
+    assert!(panics(|| (-9i64).nth_root(4)));
+    assert!(panics(
+        || Ratio::new(1, 3).map(|third| third.limit_denominator(-5))
+    ));
+    assert!(panics(|| residue(5, 0)));
+}

@@ -1,0 +1,205 @@
+//! A type of another crate: the numbers from -100 to 100. It implements the eight methods of `Integer`, `parts` and `ends`
+//! of `Fits`, and the two of `Average`.
+
+use cellarcove::modular::{power_modulo, Modular};
+use cellarcove::{
+    binomial, checked, multinomial, Average, ExtendedGcd, Fits, Integer, IterBinomial,
+};
+use num_traits::{Num, One, Signed, Zero};
+use std::ops::{Add, Div, Mul, Neg, Rem, Sub};
+
+#[derive(Debug, Clone, Copy, PartialEq, Eq, PartialOrd, Ord)]
+struct Score(i32);
+
+/// The score, which panics outside the range as a native type does with overflow checks.
+fn score(points: i32) -> Score {
+    assert!(
+        (-100..=100).contains(&points),
+        "no score has {points} points"
+    );
+    Score(points)
+}
+
+macro_rules! operators {
+    ($($name:ident $call:ident)*) => {$(
+        impl $name for Score {
+            type Output = Score;
+
+            fn $call(self, other: Score) -> Score {
+                score(self.0.$call(other.0))
+            }
+        }
+    )*};
+}
+
+operators! { Add add Sub sub Mul mul Div div Rem rem }
+
+impl Neg for Score {
+    type Output = Score;
+
+    fn neg(self) -> Score {
+        score(-self.0)
+    }
+}
+
+impl Zero for Score {
+    fn zero() -> Score {
+        Score(0)
+    }
+
+    fn is_zero(&self) -> bool {
+        self.0 == 0
+    }
+}
+
+impl One for Score {
+    fn one() -> Score {
+        Score(1)
+    }
+}
+
+impl Num for Score {
+    type FromStrRadixErr = std::num::ParseIntError;
+
+    fn from_str_radix(text: &str, radix: u32) -> Result<Score, Self::FromStrRadixErr> {
+        i32::from_str_radix(text, radix).map(score)
+    }
+}
+
+impl Signed for Score {
+    fn abs(&self) -> Score {
+        score(self.0.abs())
+    }
+
+    fn abs_sub(&self, other: &Score) -> Score {
+        score((self.0 - other.0).max(0))
+    }
+
+    fn signum(&self) -> Score {
+        score(self.0.signum())
+    }
+
+    fn is_positive(&self) -> bool {
+        self.0 > 0
+    }
+
+    fn is_negative(&self) -> bool {
+        self.0 < 0
+    }
+}
+
+impl Integer for Score {
+    fn div_rem(&self, other: &Score) -> (Score, Score) {
+        (*self / *other, *self % *other)
+    }
+
+    fn div_floor(&self, other: &Score) -> Score {
+        // The remainder of `div_euclid` is at least 0, also where the divisor is negative.
+        let rest = self.0.rem_euclid(other.0);
+        score(self.0.div_euclid(other.0) - i32::from(other.0 < 0 && rest != 0))
+    }
+
+    fn mod_floor(&self, other: &Score) -> Score {
+        *self - self.div_floor(other) * *other
+    }
+
+    fn is_multiple_of(&self, other: &Score) -> bool {
+        if other.0 == 0 {
+            self.0 == 0
+        } else {
+            self.0 % other.0 == 0
+        }
+    }
+
+    fn is_even(&self) -> bool {
+        self.0 % 2 == 0
+    }
+
+    fn is_odd(&self) -> bool {
+        self.0 % 2 != 0
+    }
+
+    fn gcd(&self, other: &Score) -> Score {
+        if self.0 == 0 {
+            other.abs()
+        } else {
+            (*other % *self).gcd(self)
+        }
+    }
+
+    fn lcm(&self, other: &Score) -> Score {
+        let common = self.gcd(other);
+        if common.0 == 0 {
+            common
+        } else {
+            score((self.0 / common.0 * other.0).abs())
+        }
+    }
+}
+
+impl Fits for Score {
+    fn parts(&self) -> (bool, u128) {
+        (self.0 < 0, u128::from(self.0.unsigned_abs()))
+    }
+
+    fn ends() -> (u128, u128) {
+        (100, 100)
+    }
+}
+
+impl Average for Score {
+    fn average_floor(&self, other: &Score) -> Score {
+        score((self.0 + other.0).div_euclid(2))
+    }
+
+    fn average_ceil(&self, other: &Score) -> Score {
+        score(-(-self.0 - other.0).div_euclid(2))
+    }
+}
+
+impl Modular for Score {}
+
+#[test]
+fn default_bodies() {
+    let (a, b) = (Score(23), Score(8));
+    assert_eq!(a.div_mod_floor(&Score(-8)), (Score(-3), Score(-1)));
+    assert_eq!(Integer::div_ceil(&a, &b), Score(3));
+    assert_eq!(a.next_multiple_of(&b), Score(24));
+    assert_eq!(a.prev_multiple_of(&b), Score(16));
+    assert!(Score(24).divides(&b));
+    assert_eq!(Score(10).gcd_lcm(&Score(4)), (Score(2), Score(20)));
+    let pair = ExtendedGcd {
+        gcd: Score(1),
+        x: Score(-1),
+        y: Score(3),
+    };
+    assert_eq!(a.extended_gcd(&b), pair);
+    assert_eq!(Score(5).extended_gcd_lcm(&Score(15)).1, Score(15));
+    let mut x = Score(99);
+    x.inc();
+    assert_eq!(x, Score(100));
+    x.dec();
+    assert_eq!(x, Score(99));
+}
+
+#[test]
+fn checked_calls() {
+    assert_eq!(checked::inc(Score(100)), None);
+    assert_eq!(checked::lcm(Score(11), Score(10)), None);
+    assert_eq!(checked::lcm(Score(12), Score(-8)), Some(Score(24)));
+    assert_eq!(checked::product(Score(-10), Score(10)), Some(Score(-100)));
+    assert_eq!(checked::binomial(Score(9), Score(4)), None);
+    assert_eq!(checked::binomial(Score(8), Score(4)), Some(Score(70)));
+    assert!(checked::row(Score(9)).is_none());
+}
+
+#[test]
+fn generic_calls() {
+    let points = |row: IterBinomial<Score>| row.map(|item| item.0).collect::<Vec<_>>();
+    assert_eq!(binomial(Score(8), Score(3)), Score(56));
+    assert_eq!(multinomial(&[Score(2), Score(1), Score(2)]), Score(30));
+    assert_eq!(points(IterBinomial::new(Score(4))), [1, 4, 6, 4, 1]);
+    assert_eq!(cellarcove::average_floor(Score(-3), Score(-4)), Score(-4));
+    // 7 to the power 20 is 1 modulo 100, and so is 7 to the power 100.
+    assert_eq!(power_modulo(Score(7), 100, Score(100)), Score(1));
+}

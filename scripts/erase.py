@@ -1,0 +1,287 @@
+#!/usr/bin/env python3
+"""Takes the contracts out of the libraries, and writes one Cargo crate of plain Rust.
+
+    scripts/erase.py [OUT]     crates/NAME/src/*.rt and rust/by_hand/*  ->  OUT/src/*.rs, OUT/tests/examples.rs
+
+OUT is rust/ where none is given. Code stays token by token, with its comments. What goes: `ghost` items, members and
+fields, clauses, `final`, `#[tactic]`, `#[cfg(test)]` items, labels that nothing names, and the traits that are of
+contracts alone. What changes: the first words of paths, the head of `fmt`, the public fields of a struct with an
+invariant, which become readers, and doc comments, which gain what is proved. A form that is not known here is refused
+by file and line, and then nothing is written."""
+import pathlib
+import shutil
+import subprocess
+import sys
+import tempfile
+
+import rust_docs
+import rust_examples
+from rattle_source import Unknown
+from rust_library import CRATES, ROOT, Library
+
+REPOSITORY = pathlib.Path(__file__).resolve().parent.parent
+BY_HAND = REPOSITORY / 'rust' / 'by_hand'
+
+GHOST_TRAITS = {'Integral', 'FixedWidth', 'Model'}      # traits of contracts alone: no operation of their own
+LOCAL = {'Unsigned': 'crate::shift::Unsigned'}          # names of num_traits that the Rust crate has by hand
+DROPPED = {'tactic', 'cycle'}                           # attributes of proofs
+KEPT = {'derive', 'must_use', 'inline', 'cold', 'non_exhaustive', 'default', 'deprecated'}
+MACROS = {'matches', 'unreachable', 'write'}
+RATTLE = {'ghost', 'requires', 'ensures', 'final', 'prove', 'Drop'}
+NATIVE = {sign + str(width) for sign in 'iu' for width in (8, 16, 32, 64, 128, 'size')} | {'bool'}
+LOOPS = ('while', 'for', 'loop', '{')
+
+
+class Eraser:
+    """A file of a crate of the library."""
+
+    def __init__(self, module, library, page):
+        self.module, self.library, self.page = module, library, page
+        self.source, self.crate, self.texts = module.source, module.crate, module.source.texts
+        self.kind, self.at, self.refuse = module.source.kind, module.source.at, module.source.refuse
+        self.words = {module.source.at(k) for k in range(len(module.source.code))}
+        self.fn_clauses = set()
+
+    def write(self, k, text):
+        self.texts[self.source.code[k]] = text
+
+    # ---- what goes
+
+    def drop(self, first, last):
+        for i in range(self.source.code[first], self.source.code[last] + 1):
+            self.texts[i] = ''
+
+    def drop_item(self, first, last):
+        """Drops an item, and the lines of comments right above it."""
+        self.drop(first, last)
+        tokens, i = self.source.tokens, self.source.code[first] - 1
+        while i > 1 and tokens[i].text.count('\n') == 1 and tokens[i - 1].kind == 'line' and '\n' in tokens[i - 2].text:
+            self.texts[i] = self.texts[i - 1] = ''
+            i -= 2
+
+    def drop_line(self, first, last):
+        """Drops what has a line of its own, with the end of the line."""
+        self.drop(first, last)
+        after = self.source.code[last] + 1
+        self.texts[after] = self.texts[after].replace('\n', '', 1)
+
+    def drop_from_list(self, k):
+        """Drops a name of a list, as of a `use` or of bounds, with a sign beside it."""
+        before = self.at(k - 1) == '+' or self.at(k - 1) == ',' and self.at(k + 1) not in ('+', ',')
+        after = not before and self.at(k + 1) in ('+', ',')
+        self.drop(k - before, k + after)
+
+    # ---- items
+
+    def items(self, items, owner=None):
+        for item in items:
+            self.item(item, owner)
+
+    def item(self, item, owner):
+        if item.kind == 'ghost' or item.of_trait in GHOST_TRAITS or self.is_test(item):
+            return self.drop_item(item.first, item.last)
+        if item.kind in ('macro', 'macro_rules', 'extern', 'static'):
+            self.refuse(item.word, f'an item `{item.kind}`')
+        if item.kind == 'attribute':
+            if item.name not in DROPPED:
+                self.refuse(item.first, f'the attribute `{item.name}`')
+            return self.drop_line(item.first, item.last)
+        for first, last in item.attributes:
+            self.attribute(first, last)
+        rust_docs.add_proved(self, item, owner)
+        for k in range(item.first, item.word):
+            if self.at(k) == 'final':
+                self.drop(k, k)
+        if item.kind == 'use':
+            return self.use(item)
+        if item.kind == 'struct':
+            self.struct(item)
+        if item.kind == 'fn':
+            self.fn_clauses |= {clause.first for clause in item.clauses}
+            self.parameters(item)
+        if item.kind in ('trait', 'impl', 'mod') and item.open:
+            self.walk(item.word, item.open)
+            return self.items(item.items, item)
+        return self.walk(item.word, item.last)
+
+    def is_test(self, item):
+        return any(self.at(first + 2) == 'cfg' and self.at(first + 4) == 'test' for first, _ in item.attributes)
+
+    def attribute(self, first, last):
+        name = self.at(first + 2)
+        if name in DROPPED:
+            self.drop_line(first, last)
+        elif name not in KEPT:
+            self.refuse(first, f'the attribute `{name}`')
+        elif name == 'derive':
+            names = [k for k in range(first + 4, last) if self.kind(k) == 'word']
+            if [self.at(k) for k in names] == ['Drop']:
+                return self.drop_line(first, last)
+            for k in names:
+                if self.at(k) == 'Drop':
+                    self.drop_from_list(k)
+
+    def use(self, item):
+        """A use: without the ghost traits, and with the names that are by hand."""
+        k, last, by_hand = item.word, item.last, ''
+        for path, _ in self.source.imports(item):
+            if not self.library.knows(self.module, path):
+                self.refuse(k, f'a path that begins with `{path[0]}`')
+        names = [j for j in range(k + 1, last) if self.kind(j) == 'word']
+        if self.at(names[-1]) in GHOST_TRAITS and self.at(last - 1) != '}':
+            return self.drop_item(item.first, last)
+        for j in names:
+            if self.at(j) in LOCAL and self.at(k + 1) == 'num_traits':
+                by_hand += f'\nuse {LOCAL[self.at(j)]};'
+                self.drop_from_list(j)
+            elif self.at(j) in GHOST_TRAITS:
+                self.drop_from_list(j)
+            else:
+                self.path(j)
+        return self.write(last, ';' + by_hand)
+
+    def struct(self, item):
+        """A struct. Where a public one has an invariant, its public fields become readers of their names, since other
+        code could break the invariant."""
+        ghosts = [field for field in item.fields if field.ghost]
+        if ghosts and self.library.place_of(self.module, item) is not None:
+            readers = ''.join(self.reader(field) for field in item.fields if field.public and not field.ghost)
+            if readers:
+                self.write(item.last, f'}}\n\nimpl {item.name} {{{readers}}}')
+        for field in ghosts:
+            self.drop_item(field.first, field.last + (self.at(field.last + 1) == ','))
+
+    def reader(self, field):
+        """Makes a public field private to its crate, and returns its reader."""
+        if field.type not in NATIVE:
+            self.refuse(field.place, f'a public field `{field.name}` of type `{field.type}` beside an invariant')
+        self.write(field.place - 1, 'pub(crate)' if self.crate == ROOT else f'pub(in crate::{self.crate})')
+        docs = ''.join(self.source.tokens[i].text + '\n' for i in self.source.docs(field))
+        docs = docs or f'/// Returns the `{field.name}`.\n'
+        return f'\n{docs}pub fn {field.name}(&self) -> {field.type} {{ self.{field.name} }}\n'
+
+    def parameters(self, item):
+        """A parameter that only a clause names is unused in Rust."""
+        opening = self.source.angle(item.word + 2)
+        names = {self.at(k) for k in range(opening, self.source.close(opening))
+                 if self.kind(k) == 'word' and self.at(k + 1) == ':' and self.at(k + 2) != ':'}
+        clauses = {self.at(k) for clause in item.clauses for k in range(clause.first, clause.last)}
+        body = {self.at(k) for k in range(item.open, item.last)} if item.open else names
+        if names & clauses - body:
+            first = self.source.code[item.first]
+            self.texts[first] = '#[allow(unused_variables)] // its contract alone names a parameter\n' + self.texts[first]
+
+    # ---- code
+
+    def walk(self, k, last):
+        while k <= last:
+            k = self.step(k)
+
+    def step(self, k):
+        """Erases what begins at `k`, and returns the place to go on from."""
+        word, source = self.at(k), self.source
+        if not self.texts[source.code[k]]:
+            return k + 1
+        if word == '#' and self.at(k + 1) == '[':
+            last = source.close(k + 1)
+            self.attribute(k, last)
+            return last + 1
+        if source.kind(k) == 'label':
+            self.label(k)
+        if source.kind(k) != 'word':
+            return k + 1
+        if word in ('requires', 'ensures') or k in self.fn_clauses:
+            clause = source.clause(k)
+            self.drop(clause.first, clause.last)
+            return clause.last + 1
+        if word == 'use':
+            item = source.item(k)
+            self.use(item)
+            return item.last + 1
+        if self.is_macro(k) and word not in MACROS:
+            self.refuse(k, f'the macro `{word}!`')
+        if word == 'fmt' and self.at(k - 1) == 'fn' and self.at(k + 1) == '<':
+            self.drop(k + 1, source.angle(k + 1) - 1)
+        elif word == 'Formatter' and self.at(k + 1) == '<':
+            self.write(k + 2, "'_")
+        elif word in GHOST_TRAITS:
+            self.drop_from_list(k)
+        else:
+            self.path(k)
+        return k + 1
+
+    def is_macro(self, k):
+        mark = self.source.code[k] + 1
+        return self.at(k + 1) == '!' and self.source.code[k + 1] == mark and self.at(k + 2) in ('(', '[', '{')
+
+    def label(self, k):
+        """Drops the label of a loop that nothing in it names."""
+        if self.at(k + 1) == ':' and self.at(k + 2) in LOOPS:
+            body = self.source.end(k + 2, '{')
+            if all(self.at(j) != self.at(k) for j in range(body, self.source.close(body))):
+                self.drop(k, k + 1)
+
+    def path(self, k):
+        """The first word of a path."""
+        if self.at(k + 1) + self.at(k + 2) != '::' or self.at(k - 1) == ':':
+            return
+        word = self.at(k)
+        if word == 'std':
+            self.write(k, 'core')
+        elif word == 'crate' and self.crate != ROOT:
+            self.write(k, 'crate::' + self.crate)
+        elif word in CRATES:
+            self.write(k, 'crate' if word == ROOT else 'crate::' + word)
+
+    def rust(self):
+        """The file as Rust."""
+        self.items(self.module.items)
+        for k in range(len(self.source.code)):
+            text = self.texts[self.source.code[k]]
+            if text and (self.at(k) in RATTLE or self.kind(k) in ('sign', 'word') and not self.at(k).isascii()):
+                self.refuse(k, f'`{self.at(k)}`, which is left over')
+        return ''.join(rust_docs.linked(self, token.text) if token.kind == 'line' and text == token.text else text
+                       for token, text in zip(self.source.tokens, self.texts))
+
+
+def head_of_root(rust):
+    """The root of the Rust crate: the head by hand, the modules, and what `num_integer` exports."""
+    modules = ''.join(f'{kind} {crate};\n' for crate, kind in CRATES.items() if kind)
+    items = ''.join(line for line in rust.splitlines(True) if not line.startswith('//!')).lstrip()
+    return (BY_HAND / 'head.rs').read_text() + '\npub mod definitions;\nmod shift;\n' + modules + items
+
+
+def write(out):
+    """Writes the sources below a folder."""
+    library, page = Library(REPOSITORY / 'crates'), rust_docs.Page(REPOSITORY / 'crates')
+    for module in library.modules.values():
+        rust, place = Eraser(module, library, page).rust(), module.rust_file()
+        target = out / 'src' / place
+        target.parent.mkdir(parents=True, exist_ok=True)
+        target.write_text(head_of_root(rust) if place == 'lib.rs' else rust)
+    shutil.copy(BY_HAND / 'shift.rs', out / 'src')
+    words = rust_docs.definitions(page, (BY_HAND / 'definitions.md').read_text())
+    (out / 'src' / 'definitions.rs').write_text(words)
+    (out / 'tests').mkdir()
+    (out / 'tests' / 'examples.rs').write_text(rust_examples.examples(library))
+    files = [str(out / 'src' / 'lib.rs'), str(out / 'tests' / 'examples.rs')]
+    formatted = subprocess.run(['rustfmt', '--edition', '2021', *files], capture_output=True, text=True)
+    if formatted.returncode or formatted.stderr:
+        raise Unknown('what is left is no Rust:\n' + formatted.stderr.replace(f'{out}/', ''))
+
+
+def main():
+    out = pathlib.Path(sys.argv[1]) if len(sys.argv) > 1 else REPOSITORY / 'rust'
+    with tempfile.TemporaryDirectory() as made:
+        try:
+            write(pathlib.Path(made))
+        except Unknown as form:
+            sys.exit(f'erase.py: {form}')
+        shutil.rmtree(out / 'src', ignore_errors=True)
+        (out / 'tests').mkdir(parents=True, exist_ok=True)
+        shutil.copytree(pathlib.Path(made) / 'src', out / 'src')
+        shutil.copy(pathlib.Path(made) / 'tests' / 'examples.rs', out / 'tests')
+
+
+if __name__ == '__main__':
+    main()

@@ -1,0 +1,313 @@
+"""Reads the sources of Rattle, `.rt`, by tokens: comments, texts, brackets, items, and the clauses that items have.
+
+It reads Rust too, of which Rattle is a subset with contracts. A form that it does not know it refuses by file and
+line."""
+import re
+from dataclasses import dataclass, field
+
+COMMENTS = {'space', 'line', 'block'}           # tokens that are no code
+CLAUSES = ('ghost', 'requires', 'ensures')      # the words with which a clause of a function begins
+MODIFIERS = ('final', 'const')                  # words before `fn`
+
+LEXER = re.compile(r'''(?P<space>\s+) | (?P<line>//[^\n]*) | (?P<block>/\*)
+    | (?P<raw>[bc]?r(?P<hashes>\#*)".*?"(?P=hashes)) | (?P<text>[bc]?"(?:[^"\\]|\\.)*")
+    | (?P<char>b?'(?:[^'\\]|\\(?:x..|u\{[^}]*\}|.))') | (?P<label>'\w+) | (?P<word>\w+) | (?P<sign>.)''', re.X | re.S)
+
+
+class Unknown(Exception):
+    """A form that is not known, with its file and line."""
+
+
+@dataclass
+class Token:
+    kind: str
+    text: str
+    line: int
+
+
+@dataclass
+class Clause:
+    """A clause of a function, or a ghost member or field, which says what is proved of a type."""
+    word: str
+    name: str
+    first: int
+    last: int
+
+
+@dataclass
+class Field:
+    """A field of a struct, or a ghost field, which is a clause too. `place` is that of its name."""
+    name: str
+    place: int
+    first: int
+    last: int
+    public: bool
+    ghost: bool
+    type: str
+
+
+@dataclass
+class Item:
+    """An item from its first attribute to its last place. `word` is the place of its keyword, and `open` that of the
+    brace of its body, or None."""
+    kind: str
+    name: str
+    first: int
+    word: int
+    last: int
+    public: bool = False
+    open: int = None
+    of_trait: str = ''
+    attributes: list = field(default_factory=list)
+    clauses: list = field(default_factory=list)
+    items: list = field(default_factory=list)
+    fields: list = field(default_factory=list)
+
+
+class Source:
+    """A file. A place is the number of a token that is no comment; `texts` are what a writer may change."""
+
+    def __init__(self, path, text):
+        self.path, self.tokens = path, list(self.scan(path, text))
+        self.code = [i for i, token in enumerate(self.tokens) if token.kind not in COMMENTS]
+        self.texts = [token.text for token in self.tokens]
+
+    def scan(self, path, text):
+        at, line = 0, 1
+        while at < len(text):
+            match = LEXER.match(text, at)
+            kind, end, depth = match.lastgroup, match.end(), 1
+            while kind == 'block' and depth:
+                mark = re.compile(r'/\*|\*/').search(text, end)
+                if not mark:
+                    raise Unknown(f'{path}:{line}: a comment without an end')
+                depth, end = depth + (1 if mark.group() == '/*' else -1), mark.end()
+            if match.group() == '"':
+                raise Unknown(f'{path}:{line}: a text without an end')
+            yield Token('text' if kind in ('raw', 'hashes') else kind, text[at:end], line)
+            line += text.count('\n', at, end)
+            at = end
+
+    # ---- places
+
+    def kind(self, k):
+        return self.tokens[self.code[k]].kind if 0 <= k < len(self.code) else ''
+
+    def at(self, k):
+        return self.tokens[self.code[k]].text if 0 <= k < len(self.code) else ''
+
+    def line(self, k):
+        return self.tokens[self.code[min(k, len(self.code) - 1)]].line if self.code else 1
+
+    def refuse(self, k, met):
+        raise Unknown(f'{self.path}:{self.line(k)}: {met}')
+
+    def is_sign(self, k, signs):
+        return self.kind(k) == 'sign' and self.at(k) in signs
+
+    def close(self, k):
+        """The place of the bracket that closes the one at `k`."""
+        opened, depth = k, 0
+        while k < len(self.code):
+            depth += self.is_sign(k, '([{') - self.is_sign(k, ')]}')
+            if depth == 0:
+                return k
+            k += 1
+        return self.refuse(opened, f'`{self.at(opened)}` without its end')
+
+    def end(self, k, signs, words=()):
+        """The place of the first of these signs or words from `k` on, outside brackets; the end of the block at
+        most."""
+        while k < len(self.code) and not self.is_sign(k, signs) and self.at(k) not in words:
+            if self.is_sign(k, ')]}'):
+                return k - 1
+            k = 1 + (self.close(k) if self.is_sign(k, '([{') else k)
+        return k if k < len(self.code) else self.refuse(len(self.code) - 1, 'the end of the file within an item')
+
+    def angle(self, k):
+        """The place after the generics that begin at `k`, or `k` where there are none."""
+        depth = 0
+        while self.is_sign(k, '<') or depth:
+            depth += self.is_sign(k, '<') - (self.is_sign(k, '>') and self.at(k - 1) != '-')
+            k += 1
+            if depth == 0:
+                return k
+        return k
+
+    def text(self, first, last):
+        """The text from a place to another, as it stands."""
+        return ''.join(token.text for token in self.tokens[self.code[first]:self.code[last] + 1])
+
+    def docs(self, item):
+        """The numbers of the tokens of the doc comment of an item or a field."""
+        start = self.code[item.first - 1] + 1 if item.first else 0
+        stop = self.code[getattr(item, 'word', item.first)]
+        return [i for i in range(start, stop) if self.tokens[i].kind == 'line'
+                and re.match(r'///(?!/)', self.tokens[i].text)]
+
+    def imports(self, item):
+        """The paths that a `use` imports, each with the name that it gives."""
+        found, prefixes, path, k = [], [], [], item.word + 1
+        while k <= item.last:
+            word = self.at(k)
+            if word == '{':
+                prefixes.append(list(path))
+            elif word in (',', '}', ';'):
+                if path and path != (prefixes[-1] if prefixes else []):
+                    found.append((tuple(path), path[-1]))
+                path = list(prefixes[-1]) if prefixes else []
+                if word == '}':
+                    prefixes.pop()
+                    path = []
+            elif word == 'as':
+                found.append((tuple(path), self.at(k + 1)))
+                path, k = list(prefixes[-1]) if prefixes else [], k + 1
+            elif word == 'self' and path:
+                found.append((tuple(path), path[-1]))
+            elif self.kind(k) == 'word':
+                path.append(word)
+            elif word != ':':
+                self.refuse(k, f'`{word}` in a `use`')
+            k += 1
+        return found
+
+    # ---- items
+
+    def items(self, k=0, last=None):
+        """The items from `k` on, to the place `last`."""
+        found, last = [], len(self.code) if last is None else last
+        while k < last:
+            found.append(self.item(k))
+            k = found[-1].last + 1
+        return found
+
+    def item(self, k):
+        first, attributes = k, []
+        if self.at(k) == '#' and self.at(k + 1) == '!':
+            return Item('attribute', self.at(k + 3), k, k, self.close(k + 2))
+        while self.at(k) == '#':
+            attributes.append((k, self.close(k + 1)))
+            k = attributes[-1][1] + 1
+        public = self.at(k) == 'pub' and self.at(k + 1) != '('
+        if self.at(k) == 'pub':
+            k = 1 + (k if public else self.close(k + 1))
+        while self.at(k) in MODIFIERS and (self.at(k + 1) in MODIFIERS or self.at(k + 1) == 'fn'):
+            k += 1
+        item = Item(self.at(k), self.at(k + 1), first, k, k, public, attributes=attributes)
+        if self.at(k + 1) == '!':
+            return self.macro(item)
+        reader = getattr(self, 'read_' + item.kind, None) if self.kind(k) == 'word' else None
+        if not reader:
+            self.refuse(k, f'an item that begins with `{item.kind}`')
+        reader(item)
+        return item
+
+    def macro(self, item):
+        """A call of a macro, or `macro_rules`."""
+        if item.kind != 'macro_rules':
+            item.kind, item.name = 'macro', item.kind
+        item.last = self.close(self.end(item.word, '([{'))
+        if self.at(item.last + 1) == ';':
+            item.last += 1
+        return item
+
+    def read_line(self, item):
+        item.last = self.end(item.word, ';')
+
+    read_use = read_type = read_const = read_static = read_extern = read_ghost = read_line
+
+    def read_mod(self, item):
+        item.last = self.end(item.word, ';{')
+        if self.at(item.last) == '{':
+            self.read_block(item, item.last)
+
+    def read_block(self, item, brace):
+        item.open, item.last = brace, self.close(brace)
+        item.items = self.items(brace + 1, item.last)
+
+    def read_trait(self, item):
+        self.read_block(item, self.end(item.word, '{'))
+        item.clauses = [self.member(inner) for inner in item.items if inner.kind == 'ghost' and inner.name != 'use']
+
+    def read_impl(self, item):
+        brace = self.end(item.word, '{')
+        head = self.angle(item.word + 1)
+        names, depth = [], 0
+        for k in range(head, brace):
+            depth += self.is_sign(k, '<') - (self.is_sign(k, '>') and self.at(k - 1) != '-')
+            if depth == 0 and self.at(k) == 'where':
+                break
+            if depth == 0 and self.kind(k) == 'word':
+                names.append(self.at(k))
+        if 'for' in names:
+            item.of_trait, names = names[names.index('for') - 1], names[names.index('for') + 1:]
+        item.name = names[-1] if names else ''
+        self.read_block(item, brace)
+        item.clauses = [self.member(inner) for inner in item.items if inner.kind == 'ghost' and inner.name != 'use']
+
+    def member(self, item):
+        """A ghost member as a clause, without its proof."""
+        return Clause('ghost', item.name, item.word, self.close(self.end(item.word, '{')))
+
+    def read_fn(self, item):
+        k = self.end(item.word, ';{', CLAUSES)
+        while self.at(k) in CLAUSES:
+            item.clauses.append(self.clause(k))
+            k = item.clauses[-1].last + 1
+        if self.at(k) == '{':
+            item.open, k = k, self.close(k)
+        elif self.at(k) != ';':
+            self.refuse(k, f'`{self.at(k)}` after the clauses of `{item.name}`')
+        item.last = k
+
+    def clause(self, k):
+        """The clause of a function or a closure that begins at `k`."""
+        brace = k + 1 + (self.kind(k + 1) == 'word')
+        if self.at(k) == 'ghost':
+            brace += self.at(brace) == ':'
+        if self.at(brace) != '{':
+            self.refuse(k, f'`{self.at(k)}` that is no clause')
+        return Clause(self.at(k), self.at(k + 1) if brace > k + 1 else '', k, self.close(brace))
+
+    def read_struct(self, item):
+        brace = self.end(item.word, ';{')
+        item.last = self.close(brace) if self.at(brace) == '{' else brace
+        if self.at(brace) == '{':
+            item.open, item.fields = brace, self.fields(brace + 1, item.last)
+            item.clauses = [Clause('ghost', field.name, field.first, self.close(self.end(field.first, '{')))
+                            for field in item.fields if field.ghost]
+
+    def read_enum(self, item):
+        item.open = self.end(item.word, '{')
+        item.last = self.close(item.open)
+
+    def fields(self, k, last):
+        found = []
+        while k < last:
+            first = k
+            while self.at(k) == '#':
+                k = self.close(k + 1) + 1
+            public = self.at(k) == 'pub' and self.at(k + 1) != '('
+            if self.at(k) == 'pub':
+                k = 1 + (k if public else self.close(k + 1))
+            ghost = self.at(k) == 'ghost'
+            name = k + ghost
+            if self.kind(name) != 'word' or self.at(name + 1) != ':':
+                self.refuse(name, f'a field that begins with `{self.at(name)}`')
+            stop = self.next_field(name, last)
+            kind = ''.join(self.at(i) for i in range(name + 2, stop))
+            found.append(Field(self.at(name), name, first, stop - 1, public, ghost, kind))
+            k = stop + 1
+        return found
+
+    def next_field(self, k, last):
+        """The place of the comma after a field, or `last`."""
+        depth = 0
+        while k < last:
+            if self.is_sign(k, '([{'):
+                k = self.close(k)
+            depth += self.is_sign(k, '<') - (self.is_sign(k, '>') and self.at(k - 1) != '-')
+            if depth == 0 and self.is_sign(k, ','):
+                return k
+            k += 1
+        return last

@@ -1,0 +1,128 @@
+#!/usr/bin/env bash
+# Checks the crate of plain Rust in rust/: its sources are those that scripts/erase.py makes, it builds without a
+# warning, its tests and num-integer's own pass, and so do the checksums of compare/. Works in a temporary folder,
+# offline, with Debian's packages of num-integer and num-traits. Prints a line for each check, and a count at the end.
+# With --write it writes the sources, and checks nothing.
+set -uo pipefail
+cd "$(dirname "$0")/.."
+
+if [ "${1:-}" = --write ]; then
+    exec python3 scripts/erase.py
+fi
+
+registry=/usr/share/cargo/registry
+work=$(mktemp -d)
+trap 'rm -rf "$work"' EXIT
+export CARGO_TARGET_DIR=${CARGO_TARGET_DIR:-$work/target}
+passed=0
+failed=0
+
+# judge NAME STATUS: the check has passed where the status is 0. What it printed is shown where it has not.
+judge() {
+    if [ "$2" -eq 0 ]; then
+        passed=$((passed + 1))
+        echo "$1: passed"
+    else
+        failed=$((failed + 1))
+        echo "$1: failed"
+        tail -n 40 "$work/log"
+    fi
+}
+
+# check NAME COMMAND..: the command succeeds.
+check() {
+    "${@:2}" >"$work/log" 2>&1
+    judge "$1" $?
+}
+
+# check_tests NAME COMMAND..: the command succeeds and runs tests. The line has their number.
+check_tests() {
+    local status=0 count
+    "${@:2}" >"$work/log" 2>&1 || status=$?
+    count=$(awk '/^test result: ok/ { count += $4 } END { print count + 0 }' "$work/log")
+    [ "$count" -gt 0 ] || status=1
+    judge "$1, $count tests" "$status"
+}
+
+# has COMMAND: the machine has the command.
+has() { command -v "$1" >/dev/null; }
+
+is_made_anew() {
+    python3 scripts/erase.py "$work/made" && diff -r "$work/made/src" rust/src &&
+        diff "$work/made/tests/examples.rs" rust/tests/examples.rs
+}
+
+has_packages() {
+    compgen -G "$registry/num-integer-*" >/dev/null && compgen -G "$registry/num-traits-*" >/dev/null
+}
+
+install_packages() {
+    local packages=(librust-num-integer-dev librust-num-traits-dev)
+    apt-get install -qq -y "${packages[@]}" || { apt-get update -qq && apt-get install -qq -y "${packages[@]}"; }
+}
+
+# without_warnings COMMAND..: runs it in the copy of rust/. Each warning is an error.
+without_warnings() { (cd "$work/rust" && RUSTFLAGS=-Dwarnings RUSTDOCFLAGS=-Dwarnings "$@"); }
+
+# Each link of the documentation to a word of a contract leads to that word.
+has_each_word() {
+    local pages=$CARGO_TARGET_DIR/doc/cellarcove page word
+    grep -rhoE 'definitions/\w+/index\.html#[^"]+' "$pages" | sort -u >"$work/words"
+    [ -s "$work/words" ] || return 1
+    while IFS='#' read -r page word; do
+        grep -q "id=\"$word\"" "$pages/$page" || { echo "$page has no $word" && return 1; }
+    done <"$work/words"
+}
+
+# upstream_tests WORD..: runs the tests of num-integer that the words tell cargo.
+upstream_tests() { (cd "$work/upstream" && cargo test --offline "$@"); }
+
+# The lines of a list: type, call, number of inputs and checksum.
+sums() {
+    sed -nE 's/^ *Line\((\w+), (\w+), ([0-9]+), ([0-9]+), ([0-9]+)\),$/\1 \2 \3 \4 \5/p' "$1" |
+        awk '{ print $1, $2, $3 + $4, $5 }'
+}
+
+checksums() {
+    (cd "$work/compare" && cargo run --release --offline --features cellarcove >"$work/list") || return 1
+    [ "$(sums "$work/list" | wc -l)" -gt 0 ] && diff <(sums crates/replay/src/list.rt) <(sums "$work/list")
+}
+
+if ! has cargo || ! has rustfmt; then
+    echo 'no cargo or rustfmt on this machine: the crate of plain Rust is not checked'
+    [ -z "${CI:-}" ]
+    exit
+fi
+
+check 'the sources are made anew' is_made_anew
+if ! has_packages && [ "$(id -u)" -eq 0 ]; then
+    install_packages >"$work/log" 2>&1
+fi
+if has_packages; then
+    mkdir "$work/.cargo"
+    printf '[source.crates-io]\nreplace-with = "debian"\n[source.debian]\ndirectory = "%s"\n' "$registry" \
+        >"$work/.cargo/config.toml"
+    cp -r rust compare "$work"
+    rm -rf "$work"/{rust,compare}/{target,Cargo.lock}
+    check 'the crate is built' without_warnings cargo build --offline --all-targets --all-features
+    check_tests 'its tests' without_warnings cargo test --offline
+    check_tests 'its tests in release' without_warnings cargo test --offline --release
+    check 'its documentation' without_warnings cargo doc --offline --no-deps
+    check 'the words of its contracts' has_each_word
+    if has cargo-clippy; then
+        check 'clippy' without_warnings cargo clippy --offline --all-targets -- -D warnings
+    fi
+    upstream=$(compgen -G "$registry/num-integer-*" | tail -n 1)
+    check "the tests of ${upstream##*/} are taken" \
+        python3 scripts/upstream_tests.py "$upstream" "$work/rust" "$work/upstream"
+    cat "$work/log"
+    check_tests 'those of its library' upstream_tests --lib
+    check_tests 'those of averages' upstream_tests --test average
+    check_tests 'those of roots' upstream_tests --test roots
+    check "the checksums of compare, $(sums crates/replay/src/list.rt | wc -l) lines" checksums
+else
+    echo "no packages of num-integer and num-traits: only the sources are compared"
+fi
+
+echo "$passed passed, $failed failed"
+[ "$failed" -eq 0 ] && { [ "$passed" -gt 1 ] || [ -z "${CI:-}" ]; }

@@ -1,0 +1,154 @@
+"""What is proved, as the doc comments of the Rust crate say it: a section `# Proved` of each public item with clauses, and
+the module `definitions`, which has each word that such a clause cites."""
+import re
+
+from antt_words import Specs, cited, imported
+from rattle_source import Unknown
+from rust_library import CRATES, ROOT
+
+# What a clause says that says only that values lie in their type.
+FITS = r'[A-Z]\w*\.fits \([A-Z]\w*\.value [\w.]+\)'
+LIES = rf'(?:{FITS}|All \(λ x\. {FITS}\) [\w.]+|All \w+\.fits result)'
+ONLY_LIES = re.compile(rf'\w+ (?:\w+ )?\{{ {LIES}(?: × {LIES})* \}}')
+# The ghost members of an implementation that say what its calls return. The others are proofs.
+STATED = {'output', 'from_str_gives', 'from_gives', 'is_default', 'cmp', 'partial_cmp', 'next_gives'}
+WIDTH = 100                                     # of the lines of links
+# What the pages of the module `definitions` are about.
+PAGES = {'integer_core': 'ranges, division, divisors, Bezout pairs and the turns of their loops',
+         'integer_roots': 'averages, roots and the turns of their loops', 'num_integer': 'coefficients and checked calls',
+         'modular': 'residues and congruences', 'ratio64': 'fractions', 'calendar': 'dates', 'uses': 'the models of `uses`'}
+
+
+class Page:
+    """What the module `definitions` has: our words, and those of the toolchain, which are explained by hand."""
+
+    def __init__(self, folder):
+        self.specs, self.words, self.toolchain = Specs(folder), {}, set()
+
+    def add(self, name, crate, path):
+        """Adds a word and the words that its definition cites. Returns its definition, or None."""
+        if crate not in CRATES:
+            self.toolchain.add(name)
+            return None
+        word = self.specs.find(crate, path, name)
+        if word and (word.crate, word.file, word.name) not in self.words:
+            self.words[word.crate, word.file, word.name] = word
+            for below in self.specs.below(word):
+                self.add(*below)
+        return word
+
+
+def clause_text(source, clause):
+    """A clause as it stands, with the lines after the first one indented."""
+    lines = [line.strip() for line in source.text(clause.first, clause.last).rstrip(';').split('\n')]
+    return '\n    '.join(lines)
+
+
+def says_more(text):
+    """Whether a clause says more than that a value lies in its type."""
+    return not ONLY_LIES.fullmatch(re.sub(r'\s+', ' ', text))
+
+
+def imports_of(source, items):
+    return imported('\n'.join(source.text(item.first, item.last) for item in items if item.kind == 'ghost'))
+
+
+def section(eraser, item, owner):
+    """The lines of the section of an item that says what is proved of it."""
+    source, of_impl = eraser.source, item.kind == 'impl'
+    clauses = [clause for clause in item.clauses if not of_impl or clause.name in STATED]
+    if item.kind == 'trait':
+        clauses = [clause for clause in clauses if clause.name.endswith('_law')]
+    texts = [text for text in (clause_text(source, clause) for clause in clauses) if says_more(text)]
+    if not texts:
+        return []
+    names = imports_of(source, eraser.module.items) | imports_of(source, owner.items if owner else item.items)
+    links = []
+    for name in cited('\n'.join(texts), names):
+        word = eraser.page.add(name, *names[name])
+        if word:
+            links.append(f'[`{name}`](crate::definitions::{word.crate}#{name.lower()})')
+    head = '# Laws' if item.kind == 'trait' else '# Proved'
+    links = wrapped('Words:', links + ['[how to read it](crate::definitions)'])
+    return ['', head, '', '```text', *'\n'.join(texts).split('\n'), '```', '', *links]
+
+
+def wrapped(line, links):
+    """The lines of a sentence of links."""
+    lines = []
+    for link in links:
+        if len(line) + len(link) > WIDTH:
+            lines.append(line)
+            line = link + ','
+        else:
+            line += f' {link},'
+    return lines + [line[:-1] + '.']
+
+
+def add_proved(eraser, item, owner):
+    """Adds the section to the doc comment of a public item."""
+    source, library = eraser.source, eraser.library
+    if item.kind == 'impl':
+        public = item.of_trait and library.place_of_type(eraser.module, item.name) is not None
+    else:
+        public = library.place_of(eraser.module, item, owner) is not None
+    if not public or item.kind not in ('fn', 'struct', 'trait', 'impl'):
+        return
+    lines = section(eraser, item, owner)
+    if lines:
+        docs = source.docs(item)
+        text = '\n'.join(f'/// {line}'.rstrip() for line in (lines if docs else lines[1:]))
+        if docs:
+            eraser.texts[docs[-1]] += '\n' + text
+        else:
+            first = source.code[item.first]
+            eraser.texts[first] = text + '\n' + eraser.texts[first]
+
+
+def linked(eraser, comment):
+    """A comment whose links to names of the root lead there where the file does not import them."""
+    if eraser.crate != ROOT:
+        comment = re.sub(r'\[`crate::', f'[`crate::{eraser.crate}::', comment)
+    roots = eraser.library.names_at(())
+
+    def link(match):
+        name = match.group(1).split('::')[0]
+        away = name in roots and name not in eraser.words
+        return f'[`{match.group(1)}`](crate::{match.group(1)})' if away else match.group()
+
+    return re.sub(r'\[`(\w+(?:::\w+)*)`\](?!\()', link, comment)
+
+
+def paragraph(definition):
+    """The lines of a word."""
+    lines = [f'## `{definition.name}`', ''] + ([definition.comment, ''] if definition.comment else [])
+    return lines + ['```text', *definition.text.split('\n'), '```', '']
+
+
+def definitions(page, head):
+    """The module `definitions`, below a head by hand. Call it after the sections have been made."""
+    explained = {part for code in re.findall('`([^`]*)`', head.replace('\\|', '|')) for part in code.split()}
+    missing = sorted(name for name in page.toolchain if name.strip('◌') not in explained)
+    if missing:
+        raise Unknown(f'rust/by_hand/definitions.md: no {", ".join(missing)}')
+    text = ''.join(f'//! {line}'.rstrip() + '\n' for line in head.rstrip('\n').split('\n'))
+    for crate in CRATES:
+        words = [word for word in page.words.values() if word.crate == crate]
+        if not words:
+            continue
+        names = [word.name.lower() for word in words]
+        twice = {name for name in names if names.count(name) > 1}
+        if twice:
+            raise Unknown(f'crates/{crate}/specs: two words for {", ".join(sorted(twice))}')
+        lines = [f'Words of {PAGES[crate]}.', '']
+        for word in sorted(words, key=lambda word: (word.file, order(page, word))):
+            lines += paragraph(word)
+        docs = ''.join(f'    //! {line}'.rstrip() + '\n' for line in lines)
+        text += f'\npub mod {crate} {{\n{docs}}}\n'
+    return text
+
+
+def order(page, word):
+    """The place of a word in its file."""
+    return list(page.specs.read(word.crate, word.file)[0]).index(word.name)
+
