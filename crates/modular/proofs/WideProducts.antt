@@ -1,11 +1,13 @@
 -- Products of residues as magnitudes of 128 bits.
-use Rattle.std.specs.Prelude.{◌≡◌, ◌+◌, ◌-◌, ◌%◌, ◌/◌, ◌<◌, ◌≤◌, ◌<ℤ◌, ◌≤ℤ◌, ◌-ℤ◌, ◌*ℤ◌, ℤ, ℕ, pos, unsigned_abs}
+use Rattle.std.specs.Prelude.{◌≡◌, ◌↔◌, ◌+◌, ◌-◌, ◌*◌, ◌%◌, ◌/◌, ◌<◌, ◌≤◌, ◌<ℤ◌, ◌≤ℤ◌, ◌-ℤ◌, ◌*ℤ◌, ℤ, ℕ, pos, neg_ℤ, unsigned_abs, Bool, true, false, IsTrue, not}
 use Rattle.std.specs.Int.{int_pow}
-use Rattle.std.proofs.Common.{arith, ap, ◌∙◌, subst}
+use Rattle.std.proofs.Common.{arith, ap, subst, sym}
 use Rattle.std.proofs.lemmas.Int.{ints}
+use Rattle.std.proofs.Math.Bool.{beq}
 use Rattle.modular.proofs.Congruences.{congruent-product, congruent-sym, congruent-trans, residue_of_congruent}
 use Rattle.modular.proofs.PowerTurns.{congruent-power}
-use Rattle.num_integer.proofs.ForCallers.{sizes}
+use Rattle.num_integer.proofs.ForCallers.{mul-neg, products, signed_is, sizes}
+use Rattle.num_integer.specs.Parts.{signed}
 use Rattle.modular.specs.Congruences.{AreCongruent, IsResidue}
 
 -- `%` gives the residue
@@ -28,13 +30,25 @@ wrapped_difference x small = record { divides = record { factor = pos 1; product
 size_is : {x : ℤ} {v : ℕ} → pos 0 ≤ℤ x → v ≡ unsigned_abs x → pos v ≡ x
 size_is from_zero is = omega (arith, sizes)
 
--- the product of two numbers from 0 on, by magnitudes
-pub product_of_magnitudes : (u v : ℕ) {m a b x y : ℤ} {w p : ℕ} → pos 0 <ℤ m → pos 0 ≤ℤ x → pos 0 ≤ℤ y → AreCongruent m a x → AreCongruent m b y → w ≡ unsigned_abs m → u ≡ unsigned_abs x → v ≡ unsigned_abs y
-    → IsResidue (pos w) (pos u *ℤ pos v) (pos p) → IsResidue m (a *ℤ b) (pos p)
-product_of_magnitudes u v {m} {a} {b} {x} {y} {w} {p} up x_up y_up at_a at_b m_size x_size y_size h =
-    let m_is : pos w ≡ m = omega (arith, sizes) in
-    let product : pos u *ℤ pos v ≡ x *ℤ y = ap (λ (t : ℤ). t *ℤ pos v) (size_is x_up x_size) ∙ ap (λ (t : ℤ). x *ℤ t) (size_is y_up y_size) in
-    residue_of_congruent (congruent-product at_a at_b) (subst (λ (t : ℤ). IsResidue t (x *ℤ y) (pos p)) m_is (subst (λ (t : ℤ). IsResidue (pos w) t (pos p)) product h))
+opposite_product : (x y : ℤ) → neg_ℤ x *ℤ y ≡ neg_ℤ (x *ℤ y)
+opposite_product x y = grind (arith, products)
+
+opposites_product : (x y : ℤ) → neg_ℤ x *ℤ neg_ℤ y ≡ x *ℤ y
+opposites_product x y = grind (arith, products)
+
+-- a product, by the signs and the magnitudes
+product_by_signs : (s t : Bool) (u v : ℕ) → signed s u *ℤ signed t v ≡ signed (not (beq s t)) (u * v)
+product_by_signs false false u v = omega (arith, products)
+product_by_signs true true u v = opposites_product (pos u) (pos v)
+product_by_signs true false u v = opposite_product (pos u) (pos v)
+product_by_signs false true u v = mul-neg (pos u) (pos v)
+
+pub product_of_magnitudes : (s t : Bool) (u v : ℕ) {a b : ℤ} → IsTrue s ↔ (a <ℤ pos 0) → IsTrue t ↔ (b <ℤ pos 0) → u ≡ unsigned_abs a → v ≡ unsigned_abs b → signed (not (beq s t)) (u * v) ≡ a *ℤ b
+product_of_magnitudes s t u v a_sign b_sign a_size b_size = rw (signed_is a_sign a_size, signed_is b_sign b_size) at (sym (product_by_signs s t u v))
+
+-- a residue modulo a number above 0, by its magnitude
+pub residue_by_magnitude : {m z : ℤ} {w p : ℕ} → pos 0 <ℤ m → w ≡ unsigned_abs m → IsResidue (pos w) z (pos p) → IsResidue m z (pos p)
+residue_by_magnitude {m} {w = w} up size h = let m_is : pos w ≡ m = omega (arith, sizes) in rw m_is at h
 
 -- the power of a residue, by magnitudes
 pub power_of_magnitudes : (u e : ℕ) {m a x : ℤ} {w p : ℕ} → pos 0 <ℤ m → IsResidue m a x → w ≡ unsigned_abs m → u ≡ unsigned_abs x

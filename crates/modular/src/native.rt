@@ -1,10 +1,9 @@
 //! `Modular` for the twelve native types.
 
-ghost use Rattle.std.specs.Prelude.{◌≡◌, ◌≤ℤ◌, ◌<ℤ◌, pos, unsigned_abs};
-ghost use Rattle.modular.specs.Congruences.{AreCongruent};
+ghost use Rattle.std.specs.Prelude.{◌≡◌, pos, unsigned_abs};
 
 use crate::products::Modular;
-use crate::residues::residue;
+use crate::residues::{negation_of_residue, residue};
 use crate::wide_powers::power_of_wide;
 use crate::wide_products::product_of_wide;
 use num_integer::NativeInteger;
@@ -13,9 +12,13 @@ use num_traits::{ToPrimitive, cast};
 
 impl<T: NativeInteger> Modular for T {
     fn product_modulo(&self, other: &T, modulus: &T) -> T {
-        let x = wide(from_zero(*self, *modulus));
-        let y = wide(from_zero(*other, *modulus));
-        narrow(product_of_wide(x, y, wide(*modulus)))
+        let (x, y, m) = (wide(*self), wide(*other), wide(*modulus));
+        let rest = narrow(product_of_wide(x, y, m));
+        if is_negative(*self) != is_negative(*other) {
+            negation_of_residue(rest, *modulus)
+        } else {
+            rest
+        }
     }
 
     fn power_modulo_counted(&self, exponent: u128, modulus: &T) -> (T, u32) {
@@ -26,18 +29,6 @@ impl<T: NativeInteger> Modular for T {
         );
         (narrow(power), turns)
     }
-}
-
-/// Returns `a`, or its residue where it is negative.
-fn from_zero<T: NativeInteger>(a: T, m: T) -> T
-    requires a_in_range { T.fits (T.value a) }
-    requires m_in_range { T.fits (T.value m) }
-    requires positive { pos 0 <ℤ T.value m }
-    ensures in_range { T.fits (T.value result) }
-    ensures from_zero { pos 0 ≤ℤ T.value result }
-    ensures congruent { AreCongruent (T.value m) (T.value a) (T.value result) }
-{
-    if is_negative(a) { residue(a, m) } else { a }
 }
 
 /// Returns the magnitude, as a number of 128 bits.
