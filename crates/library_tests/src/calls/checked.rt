@@ -1,8 +1,9 @@
 //! Calls of `num_integer::checked` at native types, as a program writes them where it knows nothing of
 //! its numbers, and contracts in words of its own.
 
-ghost use Rattle.std.specs.Prelude.{◌≡◌, ◌≢◌, ◌⊎◌, ◌<◌, ◌%◌, ◌^◌, ◌<ℤ◌, ◌+ℤ◌, pos, map, MatchOption, FitsSigned};
+ghost use Rattle.std.specs.Prelude.{◌≡◌, ◌≢◌, ◌⊎◌, ◌<◌, ◌%◌, ◌^◌, ◌<ℤ◌, ◌+ℤ◌, pos, map, IfSome, MatchOption, FitsSigned};
 ghost use Rattle.std.specs.Int.{FitsUnsignedBits, w64};
+ghost use Rattle.std.specs.List.{All};
 ghost use Rattle.num_integer.specs.Bezout.{IsBezoutAnswer};
 ghost use Rattle.num_integer.specs.Coefficient.{coefficient};
 ghost use Rattle.num_integer.specs.Division.{IsCeiled, IsFloored, IsMultiple, IsQuotient, IsRemainder};
@@ -91,6 +92,15 @@ fn orders(counts: &[u64]) -> Option<u64>
     checked::multinomial(counts)
 }
 
+/// The same of signed counts, or `None` where one is negative. The items of a signed slice are asked to
+/// be in the type; the prover knows this of an unsigned one.
+fn signed_orders(counts: &[i64]) -> Option<i64>
+    requires { All (FitsSigned w64) counts.now }
+    ensures { IfSome result (λ m. IsMultinomial (map (λ x. x) counts.now) m) }
+{
+    checked::multinomial(counts)
+}
+
 /// The row of Pascal's triangle, or `None` where the type does not hold it.
 fn row(n: u64) -> Option<IterBinomial<u64>>
     ensures { MatchOption result (¬ (RowFits (FitsUnsignedBits 64) (pos n)))
@@ -138,6 +148,7 @@ fn roots_and_coefficients(rt: HostRuntime) {
     assert!(rt; root(9, 0) == None && choices(9, 4) == Some(126) && choices(68, 34) == None);
     assert!(rt; choices(67, 33) == Some(14226520737620288370));
     assert!(rt; orders(&[2, 1, 2]) == Some(30) && orders(&[u64::MAX, 1]) == None);
+    assert!(rt; signed_orders(&[2, 1, 2]) == Some(30) && signed_orders(&[2, -1]) == None);
 }
 
 /// The row of 67 is the last that fits in 64 bits.

@@ -115,21 +115,22 @@ fn each_day_of_four_eras(rt: HostRuntime) {
     }
 }
 
-/// Each day of the first era of the days of `i64`, and of the last.
+/// Each of the first 146097 days of `i64`, which are 400 years, and each of the last.
 #[test]
 fn each_day_at_the_ends(rt: HostRuntime) {
     let mut first = date(&rt, (-25252734927764585, 6, 7));
     let mut last = date(&rt, (25252734927768524, 7, 27));
-    for days in 0..ERA {
+    for day in MIN..MIN + ERA {
         holds_at(
             &rt,
-            Date::from_day(MIN + days) == first && first.day() == Some(MIN + days),
-            &("day", days),
+            Date::from_day(day) == first && first.day() == Some(day),
+            &("day", day),
         );
+        let mirrored = -1 - day;
         holds_at(
             &rt,
-            Date::from_day(MAX - days) == last && last.day() == Some(MAX - days),
-            &("day", -days),
+            Date::from_day(mirrored) == last && last.day() == Some(mirrored),
+            &("day", mirrored),
         );
         first = first.next().expect(&rt, "there is a next day");
         last = last.previous().expect(&rt, "there is a day before");
