@@ -24,6 +24,18 @@ pub(crate) trait Representatives {
         ensures valid { is_valid self.now result }
         ensures congruent { AreCongruent (modulus self.now)
             (meaning self.now x *ℤ meaning self.now y) (meaning self.now result) };
+
+    /// Returns [`Representatives::product`] where `digit` is 1, else `x`.
+    fn product_at_one(&self, x: Self::Number, y: Self::Number, digit: u128) -> Self::Number
+        requires x_valid { is_valid self.now x }
+        requires y_valid { is_valid self.now y }
+        ensures valid { is_valid self.now result }
+        ensures product { digit ≡ 1 → AreCongruent (modulus self.now)
+            (meaning self.now x *ℤ meaning self.now y) (meaning self.now result) }
+        ensures kept { digit ≢ 1 → result ≡ x }
+    {
+        if digit == 1 { self.product(x, y) } else { x }
+    }
 }
 
 /// Returns what stands for the power of what `base` stands for, and the number of turns, one for each
@@ -48,9 +60,7 @@ pub(crate) fn power_counted<R: Representatives>(
     let mut rest = exponent;
     let mut turns = 0;
     'halvings: while rest > 1 {
-        if rest % 2 == 1 {
-            power = form.product(power, square);
-        }
+        power = form.product_at_one(power, square, rest % 2);
         square = form.product(square, square);
         rest /= 2;
         turns += 1;

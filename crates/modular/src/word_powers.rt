@@ -86,4 +86,10 @@ impl Representatives for SplitModulus {
     fn product(&self, x: (u64, u64), y: (u64, u64)) -> (u64, u64) {
         (self.odd.product(x.0, y.0), x.1.wrapping_mul(y.1))
     }
+
+    /// Makes the product at each digit, and takes it where the digit is 1.
+    fn product_at_one(&self, x: (u64, u64), y: (u64, u64), digit: u128) -> (u64, u64) {
+        let product = self.product(x, y);
+        if digit == 1 { product } else { x }
+    }
 }
