@@ -100,7 +100,7 @@ fn row_fits<T: Fits>(n: T) -> bool {
     is_negative(n) || inc(n).is_some() && binomial(n, half(n)).is_some()
 }
 
-/// Returns half of `n`, rounded down.
+/// Returns half of `n`, rounded down. A type without the number 2 has none above 1.
 fn half<T: Fits>(n: T) -> T {
     if is_below(one(), n) {
         quotient(n, successor(one()))

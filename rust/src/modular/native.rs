@@ -1,7 +1,7 @@
 //! `Modular` for the twelve native types.
 
 use crate::modular::products::Modular;
-use crate::modular::residues::residue;
+use crate::modular::residues::{negation_of_residue, residue};
 use crate::modular::wide_powers::power_of_wide;
 use crate::modular::wide_products::product_of_wide;
 use crate::operators::is_negative;
@@ -10,24 +10,19 @@ use num_traits::{cast, ToPrimitive};
 
 impl<T: NativeInteger> Modular for T {
     fn product_modulo(&self, other: &T, modulus: &T) -> T {
-        let x = wide(from_zero(*self, *modulus));
-        let y = wide(from_zero(*other, *modulus));
-        narrow(product_of_wide(x, y, wide(*modulus)))
+        let (x, y, m) = (wide(*self), wide(*other), wide(*modulus));
+        let rest = narrow(product_of_wide(x, y, m));
+        if is_negative(*self) != is_negative(*other) {
+            negation_of_residue(rest, *modulus)
+        } else {
+            rest
+        }
     }
 
     fn power_modulo_counted(&self, exponent: u128, modulus: &T) -> (T, u32) {
         let (power, turns) =
             power_of_wide(wide(residue(*self, *modulus)), exponent, wide(*modulus));
         (narrow(power), turns)
-    }
-}
-
-/// Returns `a`, or its residue where it is negative.
-fn from_zero<T: NativeInteger>(a: T, m: T) -> T {
-    if is_negative(a) {
-        residue(a, m)
-    } else {
-        a
     }
 }
 

@@ -8,6 +8,15 @@ pub(crate) trait Representatives {
 
     /// Returns what stands for the product of what `x` and `y` stand for.
     fn product(&self, x: Self::Number, y: Self::Number) -> Self::Number;
+
+    /// Returns [`Representatives::product`] where `digit` is 1, else `x`.
+    fn product_at_one(&self, x: Self::Number, y: Self::Number, digit: u128) -> Self::Number {
+        if digit == 1 {
+            self.product(x, y)
+        } else {
+            x
+        }
+    }
 }
 
 /// Returns what stands for the power of what `base` stands for, and the number of turns, one for each
@@ -23,9 +32,7 @@ pub(crate) fn power_counted<R: Representatives>(
     let mut rest = exponent;
     let mut turns = 0;
     while rest > 1 {
-        if rest % 2 == 1 {
-            power = form.product(power, square);
-        }
+        power = form.product_at_one(power, square, rest % 2);
         square = form.product(square, square);
         rest /= 2;
         turns += 1;

@@ -80,7 +80,11 @@ pub fn difference_modulo<T: Integer>(a: T, b: T, m: T) -> T {
 ///
 /// Words: [`IsResidue`](crate::definitions::modular#isresidue), [how to read it](crate::definitions).
 pub fn negation_modulo<T: Integer>(a: T, m: T) -> T {
-    let x = residue(a, m);
+    negation_of_residue(residue(a, m), m)
+}
+
+/// Returns [`negation_modulo`] of a residue.
+pub(crate) fn negation_of_residue<T: Integer>(x: T, m: T) -> T {
     if is_zero(x) {
         x
     } else {

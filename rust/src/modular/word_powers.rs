@@ -7,8 +7,8 @@ use crate::modular::representatives::{power_counted, Representatives};
 /// Returns the power of a number modulo `m`, and the number of turns of its loop.
 pub(crate) fn power_of_word(x: u64, exponent: u128, m: u64) -> (u64, u32) {
     let modulus = SplitModulus::new(m);
-    let (one, base) = (modulus.standing_for(1), modulus.standing_for(x));
-    let (power, turns) = power_counted(&modulus, one, base, exponent);
+    let base = modulus.standing_for(x);
+    let (power, turns) = power_counted(&modulus, modulus.one(), base, exponent);
     (modulus.residue_of(power), turns)
 }
 
@@ -30,6 +30,11 @@ impl SplitModulus {
         }
     }
 
+    /// Returns what stands for 1.
+    fn one(&self) -> (u64, u64) {
+        (self.odd.one(), 1)
+    }
+
     /// Returns what stands for `x`.
     fn standing_for(&self, x: u64) -> (u64, u64) {
         (self.odd.standing_for(x), x)
@@ -48,5 +53,15 @@ impl Representatives for SplitModulus {
 
     fn product(&self, x: (u64, u64), y: (u64, u64)) -> (u64, u64) {
         (self.odd.product(x.0, y.0), x.1.wrapping_mul(y.1))
+    }
+
+    /// Makes the product at each digit, and takes it where the digit is 1.
+    fn product_at_one(&self, x: (u64, u64), y: (u64, u64), digit: u128) -> (u64, u64) {
+        let product = self.product(x, y);
+        if digit == 1 {
+            product
+        } else {
+            x
+        }
     }
 }

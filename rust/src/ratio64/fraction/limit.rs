@@ -24,13 +24,13 @@ impl Ratio {
     /// [`num_of`](crate::definitions::ratio64#num_of), [`den_of`](crate::definitions::ratio64#den_of),
     /// [how to read it](crate::definitions).
     pub fn limit_denominator(&self, max: i64) -> Ratio {
-        if max < 1 {
-            unreachable!("a limit below 1");
-        }
         if self.den <= max {
             return *self;
         }
         let (whole, part) = div_mod_floor(self.num, self.den);
+        if max < 1 {
+            unreachable!("a limit below 1");
+        }
         let (part, den, limit) = (
             part.unsigned_abs(),
             self.den.unsigned_abs(),
