@@ -1,6 +1,6 @@
 //! Products of magnitudes, at 128 bits.
 
-ghost use Rattle.std.specs.Prelude.{◌≡◌, ◌%◌, ◌<◌, ◌*ℤ◌, pos};
+ghost use Rattle.std.specs.Prelude.{◌<◌, ◌*ℤ◌, pos};
 ghost use Rattle.modular.specs.Congruences.{IsResidue};
 ghost use Rattle.modular.specs.Below.{LiesBelow};
 
@@ -13,7 +13,7 @@ pub(crate) fn product_of_wide(x: u128, y: u128, m: u128) -> u128
     ensures { IsResidue (pos m) (pos x *ℤ pos y) (pos result) }
 {
     if x < BASE && y < BASE {
-        remainder_of_wide(x * y, m)
+        x * y % m
     } else {
         product_by_residues(x, y, m)
     }
@@ -38,18 +38,5 @@ fn product_of_long(x: u128, y: u128, m: u128) -> u128
         x * y % m
     } else {
         long_product(x, y, m)
-    }
-}
-
-/// Returns the remainder, by a division of 64 bits where both numbers have no more.
-#[inline]
-pub(crate) fn remainder_of_wide(n: u128, m: u128) -> u128
-    requires { 0 < m }
-    ensures { result ≡ n % m }
-{
-    if n < BASE && m < BASE {
-        u128::from(n as u64 % m as u64)
-    } else {
-        n % m
     }
 }

@@ -2,7 +2,7 @@
 
 use crate::modular::long_products::BASE;
 use crate::modular::representatives::{power_counted, Residues};
-use crate::modular::wide_products::{product_of_wide, remainder_of_wide};
+use crate::modular::wide_products::product_of_wide;
 use crate::modular::word_powers::power_of_word;
 
 /// Returns the power of a residue, and the number of turns of its loop. Up to the exponent 3 there are
@@ -17,5 +17,5 @@ pub(crate) fn power_of_wide(x: u128, exponent: u128, m: u128) -> (u128, u32) {
         modulus: m,
         product,
     };
-    power_counted(&residues, remainder_of_wide(1, m), x, exponent)
+    power_counted(&residues, 1 % m, x, exponent)
 }

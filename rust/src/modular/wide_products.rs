@@ -6,7 +6,7 @@ use crate::modular::long_products::{long_product, BASE};
 #[inline]
 pub(crate) fn product_of_wide(x: u128, y: u128, m: u128) -> u128 {
     if x < BASE && y < BASE {
-        remainder_of_wide(x * y, m)
+        x * y % m
     } else {
         product_by_residues(x, y, m)
     }
@@ -24,15 +24,5 @@ fn product_of_long(x: u128, y: u128, m: u128) -> u128 {
         x * y % m
     } else {
         long_product(x, y, m)
-    }
-}
-
-/// Returns the remainder, by a division of 64 bits where both numbers have no more.
-#[inline]
-pub(crate) fn remainder_of_wide(n: u128, m: u128) -> u128 {
-    if n < BASE && m < BASE {
-        u128::from(n as u64 % m as u64)
-    } else {
-        n % m
     }
 }

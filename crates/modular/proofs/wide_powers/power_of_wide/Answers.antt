@@ -4,4 +4,4 @@ use Rattle.modular.proofs.WideProducts.{natural_residue}
 use Rattle.modular.proofs.wide_powers.power_of_wide.Goals as goal
 
 pub power_counted-requires-clause-one : goal.power_counted-requires-clause-one
-power_counted-requires-clause-one c = rw c.remainder_of_wide.ensures (natural_residue 1 c.args.m (omega (arith, ints))).congruent
+power_counted-requires-clause-one c = (natural_residue 1 c.args.m (omega (arith, ints))).congruent
