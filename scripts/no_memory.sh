@@ -1,14 +1,16 @@
 #!/usr/bin/env bash
-# Refuses each request for memory of the program in turn. One more is not made. Needs no built program. Prints a line for
-# each check, and a count at the end.
+# Refuses each request for memory of the built program in turn. One more is not made. A few lines of C, built here, stand
+# before the functions of the C library that give memory. `rt try --fail-alloc N` refuses one request, and needs no built
+# program. Prints a line for each check, and a count at the end.
 set -uo pipefail
 cd "$(dirname "$0")/../crates/intcalc"
 
+program=out/intcalc
 words=(i64 div_mod_floor -8 3)
 answer='-3 1'
 requests=8
-printed=$(mktemp -d)
-trap 'rm -rf "$printed"' EXIT
+work=$(mktemp -d)
+trap 'rm -rf "$work"' EXIT
 passed=0
 failed=0
 
@@ -23,10 +25,36 @@ judge() {
     fi
 }
 
+# Counts the requests, and refuses the one whose number REFUSED_REQUEST says. The program has all its memory from malloc and
+# realloc.
+build_refusal() {
+    ${CC:-cc} -shared -fPIC -O1 -o "$work/refusal.so" -x c - <<'C'
+#include <errno.h>
+#include <stdlib.h>
+
+void *__libc_malloc(size_t size);
+void *__libc_realloc(void *old, size_t size);
+
+static int is_refused(void) {
+    static unsigned long made;
+    const char *refused = getenv("REFUSED_REQUEST");
+    made += 1;
+    if (!refused || made != strtoul(refused, NULL, 10))
+        return 0;
+    errno = ENOMEM;
+    return 1;
+}
+
+void *malloc(size_t size) { return is_refused() ? NULL : __libc_malloc(size); }
+
+void *realloc(void *old, size_t size) { return is_refused() ? NULL : __libc_realloc(old, size); }
+C
+}
+
 # prints REQUEST STATUS LINE: with that request refused, the program ends with the status and prints the line alone.
 prints() {
-    rt try --fail-alloc "$1" -- "${words[@]}" >"$printed/$1" 2>/dev/null
-    [ $? -eq "$2" ] && printf '%s\n' "$3" | cmp -s - "$printed/$1"
+    REFUSED_REQUEST=$1 LD_PRELOAD=$work/refusal.so "$program" "${words[@]}" >"$work/printed" 2>/dev/null
+    [ $? -eq "$2" ] && printf '%s\n' "$3" | cmp -s - "$work/printed"
 }
 
 # docs/CONTRACTS.md gives this number of requests.
@@ -35,31 +63,19 @@ requests_are_documented() {
     grep -q "with each of its ${spelled[requests]} requests refused" ../../docs/CONTRACTS.md
 }
 
-# Two at a time: each takes 0.9 GB, and rt ci beside them plans its whole run with the memory that is free as it starts.
-lanes=2
+if [ ! -x "$program" ]; then
+    echo "building the program"
+    rt run -- "${words[@]}" >/dev/null 2>&1
+fi
 
-# check_lane FIRST: every second request, and the one that is not made, each with its status in a file.
-check_lane() {
-    local request
-    for ((request = $1; request <= requests + 1; request += lanes)); do
-        if [ "$request" -le "$requests" ]; then
-            prints "$request" 3 'no memory'
-        else
-            prints "$request" 0 "$answer"
-        fi
-        echo $? >"$printed/$request.status"
-    done
-}
-
-for ((lane = 1; lane <= lanes; lane++)); do
-    check_lane "$lane" &
-done
-wait
-
+build_refusal
+judge 'the refusal of a request is built' $?
 for ((request = 1; request <= requests; request++)); do
-    judge "request $request for memory refused" "$(cat "$printed/$request.status")"
+    prints "$request" 3 'no memory'
+    judge "request $request for memory refused" $?
 done
-judge "no request $((requests + 1)) for memory" "$(cat "$printed/$((requests + 1)).status")"
+prints "$((requests + 1))" 0 "$answer"
+judge "no request $((requests + 1)) for memory" $?
 requests_are_documented
 judge 'as many requests as docs/CONTRACTS.md says' $?
 

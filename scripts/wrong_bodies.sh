@@ -1,0 +1,46 @@
+#!/usr/bin/env bash
+# Tries the wrong bodies that the gate does not try: crates/NAME/wrong-bodies/*.edit. The prover must refuse each. Copies the
+# repository to a temporary folder, with what was kept in it, and tries them there in the place of those of must-fail. With names
+# of crates, tries theirs alone. Prints a line for each, and a count at the end. Without what was kept, each crate is proved first.
+#
+# usage: scripts/wrong_bodies.sh [NAME..]
+set -uo pipefail
+cd "$(dirname "$0")/.."
+
+work=$(mktemp -d)
+trap 'rm -rf "$work"' EXIT
+cp -a . "$work/repository"
+
+# take_suite NAME: has the crate's copy try its second suite.
+take_suite() {
+    local crate=$work/repository/crates/$1
+    rm -rf "$crate/must-fail"
+    mv "$crate/wrong-bodies" "$crate/must-fail"
+}
+
+names=("$@")
+if [ ${#names[@]} -eq 0 ]; then
+    for suite in crates/*/wrong-bodies; do
+        suite=${suite#crates/}
+        names+=("${suite%/wrong-bodies}")
+    done
+fi
+
+wanted=0
+for name in "${names[@]}"; do
+    edits=(crates/"$name"/wrong-bodies/*.edit)
+    if [ ! -f "${edits[0]}" ]; then
+        echo "$name: no such crate with wrong bodies"
+        exit 2
+    fi
+    wanted=$((wanted + ${#edits[@]}))
+    take_suite "$name"
+done
+
+status=0
+(cd "$work/repository" && rt must-fail "${names[@]}") >"$work/printed" 2>&1 || status=$?
+cat "$work/printed"
+refused=$(grep -cE '^(rt: )?must-fail [a-z0-9_]+/[^ ]+\.edit: refused, as it must be' "$work/printed")
+
+echo "$refused passed, $((wanted - refused)) failed"
+[ "$status" -eq 0 ] && [ "$refused" -eq "$wanted" ]
