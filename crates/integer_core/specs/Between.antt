@@ -6,7 +6,8 @@ use Rattle.std.proofs.lemmas.Int.{ints}
 use Rattle.num_traits.specs.Laws.{CanDivideIn}
 use Rattle.integer_core.specs.Range.{IsRange}
 
--- z lies from low to high
+-- z lies from low to high, both included.
+-- Examples: from 0 to 100: 0 and 100; from -7 to 7: -7; not from 0 to 100: 101.
 abbrev pub Between : ℤ → ℤ → ℤ → Type 0
 Between low high z = (low ≤ℤ z) × (z ≤ℤ high)
 

@@ -1,44 +1,53 @@
 -- Stein's loop for a greatest common divisor, as runs of pairs of odd numbers.
-use Rattle.std.specs.Prelude.{◌≡◌, ◌⊎◌, ◌-◌, ◌*◌, ◌%◌, ◌^◌, ◌<◌, ◌≤◌, ℕ, ℤ, pos, unsigned_abs}
+use Rattle.std.specs.Prelude.{◌≡◌, ◌⊎◌, ◌+◌, ◌-◌, ◌*◌, ◌%◌, ◌^◌, ◌<◌, ◌≤◌, ℕ, ℤ, pos, unsigned_abs}
 use Rattle.std.specs.Int.{IsGcd}
+use Rattle.integer_core.specs.Divisors.{IsGreatestCommonDivisor}
 use Rattle.integer_core.specs.Runs.{Makes}
 
--- m is n with all factors 2 taken out
+-- m is n with all factors 2 taken out.
+-- Examples: 12: 3; 7: 7; 0 has none.
 pub record IsOddPart (n m : ℕ) : Type 0 where
   pub odd : m % 2 ≡ 1
   pub twos : ℕ
   pub product : n ≡ m * 2 ^ twos
 
--- the numbers that the loop holds
+-- A state of Stein's loop is two odd numbers, a first and a second.
+-- Examples: 5, 3; 7, 21; 7, 7.
 pub record OddPair : Type 0 where
   pub m : ℕ
   pub n : ℕ
 
--- no turn follows where they are equal
+-- No turn follows where the two numbers are equal.
+-- Examples: 7, 7; 1, 1; not 5, 3.
 abbrev pub GcdEnds : OddPair → Type 0
 GcdEnds s = s.m ≡ s.n
 
--- m is above n, and becomes their difference with all factors 2 taken out
+-- The first number is above the second, and becomes their difference with all factors 2 taken out.
+-- Examples: 5, 3 to 1, 3; 21, 7 to 7, 7; none from 3, 5.
 pub record IsLeftTurn (s t : OddPair) : Type 0 where
   pub above : s.n < s.m
   pub m : IsOddPart (s.m - s.n) t.m
   pub n : t.n ≡ s.n
 
--- n is above m, and becomes their difference with all factors 2 taken out
+-- The second number is above the first, and becomes their difference with all factors 2 taken out.
+-- Examples: 3, 5 to 3, 1; 7, 21 to 7, 7; none from 5, 3.
 pub record IsRightTurn (s t : OddPair) : Type 0 where
   pub above : s.m < s.n
   pub m : t.m ≡ s.m
   pub n : IsOddPart (s.n - s.m) t.n
 
--- a turn subtracts the smaller from the larger, and takes all factors 2 out of the difference
+-- A turn subtracts the smaller number of the pair from the larger, and takes all factors 2 out of the difference.
+-- Examples: 5, 3 to 1, 3; 7, 21 to 7, 7; none from 7, 7.
 abbrev pub IsGcdTurn : OddPair → OddPair → Type 0
 IsGcdTurn s t = IsLeftTurn s t ⊎ IsRightTurn s t
 
--- the pair with its places exchanged
+-- The exchanged pair has its numbers in each other's place.
+-- Examples: 5, 3: 3, 5; 7, 21: 21, 7; 7, 7: 7, 7.
 abbrev pub exchanged : OddPair → OddPair
 exchanged s = record { m = s.n; n = s.m }
 
--- a turn after which n is the number that it kept
+-- A turn leaves the number that it kept as the second.
+-- Examples: 5, 3 to 1, 3; 3, 5 to 1, 3; 7, 21 to 7, 7.
 abbrev pub IsOrderedTurn : OddPair → OddPair → Type 0
 IsOrderedTurn s t = IsLeftTurn s t ⊎ IsLeftTurn (exchanged s) t
 
@@ -48,23 +57,47 @@ pub record IsOddGcd (a b gcd turns : ℕ) : Type 0 where
   pub run : Makes IsGcdTurn GcdEnds (record { m = a; n = b }) turns
   pub few : 2 ^ turns ≤ a * b
 
--- n turns for the gcd of a and b, from the two with all factors 2 taken out
+-- Stein's loop makes n turns from a and b with all factors 2 taken out.
+-- Examples: 56 and 42: 1; 5 and 3: 2; 8 and 4: 0.
 pub record MakesGcdRun (a b n : ℕ) : Type 0 where
   pub first : OddPair
   pub left : IsOddPart a first.m
   pub right : IsOddPart b first.n
   pub run : Makes IsGcdTurn GcdEnds first n
 
--- 0, or the least number of a type
+-- The turns are at most the bits of a and of b together: n is at most k + l where a is below 2^k and b below 2^l in
+-- magnitude.
+-- Examples: 5 and 3: at most 5 turns; 56 and 42: at most 12.
+abbrev pub AreWithinBits : ℤ → ℤ → ℕ → Type 0
+AreWithinBits a b n = (k l : ℕ) → unsigned_abs a < 2 ^ k → unsigned_abs b < 2 ^ l → n ≤ k + l
+
+-- For a and b above 0, gcd is their greatest common divisor, found by so many turns of Stein's loop.
+-- Examples: 56 and 42: 14 after 1; 5 and 3: 1 after 2; 8 and 4: 4 after 0.
+pub record IsPositiveGcd (a b gcd : ℤ) (turns : ℕ) : Type 0 where
+  pub greatest : IsGreatestCommonDivisor a b gcd
+  pub run : MakesGcdRun (unsigned_abs a) (unsigned_abs b) turns
+  pub bound : AreWithinBits a b turns
+
+-- x is 0, or low, the least number of a type.
+-- Examples: of i8: 0; -128; not 1.
 abbrev pub IsZeroOrLeast : ℤ → ℤ → Type 0
 IsZeroOrLeast low x = (x ≡ pos 0) ⊎ (x ≡ low)
 
--- the turns for the gcd of a and b in a type: none where one is 0 or the type's least number
+-- n is 0 where a or b is 0 or low, and else the number of turns of the run from the magnitudes of a and b.
+-- Examples: 56 and 42: 1; 5 and 3: 2; i64 MIN and 3: 0.
 pub record AreGcdTurns (low a b : ℤ) (n : ℕ) : Type 0 where
   pub at_once : IsZeroOrLeast low a ⊎ IsZeroOrLeast low b → n ≡ 0
   pub by_turns : ¬ (IsZeroOrLeast low a) → ¬ (IsZeroOrLeast low b) → MakesGcdRun (unsigned_abs a) (unsigned_abs b) n
 
--- l is the bit length of v: the least l for which the magnitude of v is below 2 ^ l
+-- For any a and b of a type with the least number low, gcd is their greatest common divisor, found by n turns.
+-- Examples: 56 and 42: 14 after 1; 0 and 5: 5 after 0; in i8 -128 and 64: 64 after 0.
+pub record IsCountedGcd (low a b gcd : ℤ) (n : ℕ) : Type 0 where
+  pub greatest : IsGreatestCommonDivisor a b gcd
+  pub turns : AreGcdTurns low a b n
+  pub bound : AreWithinBits a b n
+
+-- l is the least number for which the magnitude of v is below 2 to the power l.
+-- Examples: 0: 0; 7 and -7: 3; 8: 4.
 pub record IsBitLength (v : ℤ) (l : ℕ) : Type 0 where
   pub below : unsigned_abs v < 2 ^ l
   pub least : (k : ℕ) → unsigned_abs v < 2 ^ k → l ≤ k

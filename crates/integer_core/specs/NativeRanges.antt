@@ -9,7 +9,9 @@ use Rattle.integer_core.specs.Range.{IsRange}
 use Rattle.integer_core.specs.TwosComplement.{IsTwosComplement, doubled, signed_complement, unsigned_complement}
 use mir.Val.{hbits}
 
--- a native type of this width, the numbers of its bits, and the type of its magnitudes
+-- A native type of width w has numbers in two's complement, of which the least is 0 or minus a power of two; its
+-- magnitudes are in the range wide, as is twice its greatest number where the least is negative.
+-- Examples: i8 with the magnitudes of u64; u128 with those of u128; not i128 with those of u64.
 pub record IsNative (w : Width) (number : ℕ → ℤ) (fits : ℤ → Type 0) (low high : ℤ) (wide : ℤ → Type 0) : Type 0 where
   pub range : IsRange fits low high
   pub magnitude : (z : ℤ) → fits z → wide (pos (unsigned_abs z))

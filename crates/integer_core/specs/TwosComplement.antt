@@ -9,7 +9,8 @@ use Rattle.std.proofs.lemmas.Nat.Bits.{bit_at_above}
 use Rattle.num_traits.specs.Laws.{bit_len}
 use mir.Val.{bits, hbits}
 
--- the number of the bits n is n, less `weight` where the highest bit is set
+-- The number of the bits n, of a type of width w, is n, less weight where the highest bit is set.
+-- Examples: i8: weight 256, the bits 255: -1; the bits 127: 127; u8: weight 0, the bits 255: 255.
 pub record IsTwosComplement (w : Width) (number : ℕ → ℤ) : Type 0 where
   pub weight : ℕ
   pub is : (n : ℕ) → n < 2 ^ bit_len w → number n ≡ (pos n -ℤ pos (weight * bit_at n (hbits w)))

@@ -1,11 +1,11 @@
 //! Division of the native types.
 
 ghost use Rattle.std.specs.Prelude.{◌≢◌, pos};
-ghost use Rattle.integer_core.specs.Division.{IsFloored, IsQuotient, IsRemainder, IsTruncated};
+ghost use Rattle.integer_core.specs.Division.{IsFloored, IsQuotient, IsTruncated};
 ghost use Rattle.integer_core.specs.Range.{EachFits};
 
 use crate::native::Native;
-use crate::operators::{is_negative, is_zero, predecessor, quotient, remainder, sum, zero};
+use crate::operators::{is_negative, is_zero, predecessor, quotient, remainder, sum};
 
 /// Returns the quotient rounded toward zero, and its remainder.
 pub(crate) fn div_rem<T: Native>(n: T, d: T) -> (T, T)
@@ -33,20 +33,5 @@ pub(crate) fn div_mod_floor<T: Native>(n: T, d: T) -> (T, T)
         (predecessor(q), sum(r, d))
     } else {
         (q, r)
-    }
-}
-
-/// Returns the remainder of the quotient rounded down. The quotient need not fit.
-pub(crate) fn mod_floor<T: Native>(n: T, d: T) -> T
-    requires n_in_range { T.fits (T.value n) }
-    requires d_in_range { T.fits (T.value d) }
-    requires nonzero { T.value d ≢ pos 0 }
-    ensures in_range { T.fits (T.value result) }
-    ensures floored { IsRemainder IsFloored (T.value n) (T.value d) (T.value result) }
-{
-    if d.is_minus_one() {
-        zero()
-    } else {
-        div_mod_floor(n, d).1
     }
 }

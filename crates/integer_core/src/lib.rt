@@ -286,7 +286,7 @@ pub trait Integer: Copy + Num + PartialOrd + Ord + Eq {
     ghost range_law: { IsRange Self.fits low high };
 }
 
-/// See [`Integer::div_rem`]. `div_rem(-8, 3)` is `(-2, -2)`.
+/// Returns the quotient rounded toward zero, and its remainder. `div_rem(-8, 3)` is `(-2, -2)`.
 pub fn div_rem<T: Integer>(x: T, y: T) -> (T, T)
     requires x_in_range { T.fits (T.value x) }
     requires y_in_range { T.fits (T.value y) }
@@ -298,7 +298,7 @@ pub fn div_rem<T: Integer>(x: T, y: T) -> (T, T)
     x.div_rem(&y)
 }
 
-/// See [`Integer::div_floor`]. `div_floor(-8, 3)` is `-3`.
+/// Returns the quotient rounded down. `div_floor(-8, 3)` is `-3`.
 pub fn div_floor<T: Integer>(x: T, y: T) -> T
     requires x_in_range { T.fits (T.value x) }
     requires y_in_range { T.fits (T.value y) }
@@ -310,7 +310,7 @@ pub fn div_floor<T: Integer>(x: T, y: T) -> T
     x.div_floor(&y)
 }
 
-/// See [`Integer::mod_floor`]. `mod_floor(-8, 3)` is `1`.
+/// Returns the remainder of the quotient rounded down. `mod_floor(-8, 3)` is `1`.
 pub fn mod_floor<T: Integer>(x: T, y: T) -> T
     requires x_in_range { T.fits (T.value x) }
     requires y_in_range { T.fits (T.value y) }
@@ -321,7 +321,7 @@ pub fn mod_floor<T: Integer>(x: T, y: T) -> T
     x.mod_floor(&y)
 }
 
-/// See [`Integer::div_mod_floor`]. `div_mod_floor(-8, 3)` is `(-3, 1)`.
+/// Returns the quotient rounded down, and its remainder. `div_mod_floor(-8, 3)` is `(-3, 1)`.
 pub fn div_mod_floor<T: Integer>(x: T, y: T) -> (T, T)
     requires x_in_range { T.fits (T.value x) }
     requires y_in_range { T.fits (T.value y) }
@@ -333,7 +333,7 @@ pub fn div_mod_floor<T: Integer>(x: T, y: T) -> (T, T)
     x.div_mod_floor(&y)
 }
 
-/// See [`Integer::div_ceil`]. `div_ceil(8, 3)` is `3`.
+/// Returns the quotient rounded up. `div_ceil(8, 3)` is `3`.
 pub fn div_ceil<T: Integer>(x: T, y: T) -> T
     requires x_in_range { T.fits (T.value x) }
     requires y_in_range { T.fits (T.value y) }
@@ -345,7 +345,7 @@ pub fn div_ceil<T: Integer>(x: T, y: T) -> T
     x.div_ceil(&y)
 }
 
-/// See [`Integer::gcd`]. `gcd(56, 42)` is `14`.
+/// Returns the greatest common divisor. `gcd(56, 42)` is `14`.
 pub fn gcd<T: Integer>(x: T, y: T) -> T
     requires x_in_range { T.fits (T.value x) }
     requires y_in_range { T.fits (T.value y) }
@@ -356,7 +356,7 @@ pub fn gcd<T: Integer>(x: T, y: T) -> T
     x.gcd(&y)
 }
 
-/// See [`Integer::lcm`]. `lcm(7, 3)` is `21`.
+/// Returns the least common multiple. `lcm(7, 3)` is `21`.
 pub fn lcm<T: Integer>(x: T, y: T) -> T
     requires x_in_range { T.fits (T.value x) }
     requires y_in_range { T.fits (T.value y) }
@@ -367,7 +367,8 @@ pub fn lcm<T: Integer>(x: T, y: T) -> T
     x.lcm(&y)
 }
 
-/// See [`Integer::gcd_lcm`]. `gcd_lcm(10, 4)` is `(2, 20)`.
+/// Returns the greatest common divisor and the least common multiple. `gcd_lcm(10, 4)` is
+/// `(2, 20)`.
 pub fn gcd_lcm<T: Integer>(x: T, y: T) -> (T, T)
     requires x_in_range { T.fits (T.value x) }
     requires y_in_range { T.fits (T.value y) }

@@ -2,7 +2,8 @@
 
 use crate::counted::GcdCounted;
 use crate::native::Native;
-use crate::stein::binary_gcd;
+use crate::operators::{is_zero, zero};
+use crate::stein::{Magnitude, binary_gcd};
 use crate::{Integer, division, divisors};
 use num_traits::PrimInt;
 
@@ -29,7 +30,11 @@ impl<T: Native> Integer for T {
     }
 
     fn mod_floor(&self, other: &T) -> T {
-        division::mod_floor(*self, *other)
+        if other.is_minus_one() {
+            zero()
+        } else {
+            division::div_mod_floor(*self, *other).1
+        }
     }
 
     fn div_mod_floor(&self, other: &T) -> (T, T) {
@@ -49,11 +54,14 @@ impl<T: Native> Integer for T {
     }
 
     fn gcd(&self, other: &T) -> T {
-        divisors::gcd(*self, *other)
+        binary_gcd(*self, *other).0
     }
 
     fn lcm(&self, other: &T) -> T {
-        divisors::lcm(*self, *other)
+        if is_zero(*self) || is_zero(*other) {
+            return zero();
+        }
+        T::from_magnitude(T::Magnitude::positive_lcm(self.magnitude(), other.magnitude()))
     }
 }
 

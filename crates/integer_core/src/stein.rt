@@ -1,17 +1,17 @@
 //! The greatest common divisor by Stein's binary method (Knuth, The Art of Computer Programming,
 //! volume 2, section 4.5.2, algorithm B).
 
-ghost use Rattle.std.specs.Prelude.{◌≡◌, ◌≢◌, ◌↔◌, ◌⊎◌, ◌+◌, ◌-◌, ◌*◌, ◌/◌, ◌%◌, ◌^◌, ◌<◌, ◌≤◌, ℕ, pos, unsigned_abs, IsTrue};
+ghost use Rattle.std.specs.Prelude.{◌≡◌, ◌≢◌, ◌↔◌, ◌⊎◌, ◌-◌, ◌*◌, ◌/◌, ◌%◌, ◌^◌, ◌<◌, ◌≤◌, ◌+ℤ◌, pos, unsigned_abs, IsTrue};
 ghost use Rattle.std.specs.Int.{IsPowerOfTwo};
 ghost use Rattle.std.specs.Option.{MatchOption};
 ghost use Rattle.num_traits.specs.Laws.{bit_len};
 ghost use Rattle.integer_core.specs.Divisors.{GcdFits, IsGreatestCommonDivisor, IsLeastCommonMultiple};
-ghost use Rattle.integer_core.specs.GcdRuns.{AreGcdTurns, IsOddGcd, IsOddPart, IsOrderedTurn, MakesGcdRun};
+ghost use Rattle.integer_core.specs.GcdRuns.{IsCountedGcd, IsOddGcd, IsOddPart, IsOrderedTurn, IsPositiveGcd};
 ghost use Rattle.integer_core.specs.Range.{EachFits};
 
-use crate::native::{Magnitude, Native};
+use crate::native::Native;
 use crate::operators::{difference, is_below, is_zero, one, product, quotient, successor};
-use num_traits::{PrimInt, Unsigned, cast};
+use num_traits::{Integral, PrimInt, ToPrimitive, Unsigned, cast};
 
 fn is_same<M: PrimInt + Unsigned>(m: M, n: M) -> bool
     ensures { IsTrue result ↔ (unsigned_abs (M.value m) ≡ unsigned_abs (M.value n)) }
@@ -106,7 +106,7 @@ fn odd_gcd(a: u64, b: u64) -> (u64, u32)
 }
 
 /// Returns both numbers at 64 bits, or `None` where one does not fit.
-fn narrowed<M: PrimInt + Unsigned>(m: M, n: M) -> Option<(u64, u64)>
+fn at_64_bits<M: PrimInt + Unsigned>(m: M, n: M) -> Option<(u64, u64)>
     ensures { MatchOption result
         (2 ^ 64 ≤ unsigned_abs (M.value m) ⊎ 2 ^ 64 ≤ unsigned_abs (M.value n))
         (λ pair. (pair.0 ≡ unsigned_abs (M.value m)) × (pair.1 ≡ unsigned_abs (M.value n))) }
@@ -114,8 +114,8 @@ fn narrowed<M: PrimInt + Unsigned>(m: M, n: M) -> Option<(u64, u64)>
     Some((m.to_u64()?, n.to_u64()?))
 }
 
-/// Returns a number of 64 bits, which fits.
-fn widened<M: PrimInt + Unsigned>(x: u64) -> M
+/// Returns a number of 64 bits as a magnitude.
+fn from_64_bits<M: PrimInt + Unsigned>(x: u64) -> M
     requires { M.fits (pos x) }
     ensures in_range { M.fits (M.value result) }
     ensures value { M.value result ≡ pos x }
@@ -128,7 +128,7 @@ fn differ_beyond_64_bits<M: PrimInt + Unsigned>(m: M, n: M) -> bool
     ensures { IsTrue result ↔ ((unsigned_abs (M.value m) ≢ unsigned_abs (M.value n))
         × (2 ^ 64 ≤ unsigned_abs (M.value m) ⊎ 2 ^ 64 ≤ unsigned_abs (M.value n))) }
 {
-    !is_same(m, n) && narrowed(m, n).is_none()
+    !is_same(m, n) && at_64_bits(m, n).is_none()
 }
 
 /// Returns the greatest common divisor of two odd numbers, and the turns of the loop, which goes on at
@@ -148,10 +148,10 @@ fn narrowing_gcd<M: PrimInt + Unsigned>(a: M, b: M) -> (M, u32)
         (m, n) = next_pair(m, n);
         turns += 1;
     }
-    match narrowed(m, n) {
+    match at_64_bits(m, n) {
         Some((x, y)) => {
             let (gcd, rest) = odd_gcd(x, y);
-            (widened(gcd), turns + rest)
+            (from_64_bits(gcd), turns + rest)
         }
         None => (m, turns),
     }
@@ -164,10 +164,7 @@ fn positive_gcd<M: PrimInt + Unsigned>(a: M, b: M) -> (M, u32)
     requires a_positive { 0 < unsigned_abs (M.value a) }
     requires b_positive { 0 < unsigned_abs (M.value b) }
     ensures in_range { M.fits (M.value result.0) }
-    ensures greatest { IsGreatestCommonDivisor (M.value a) (M.value b) (M.value result.0) }
-    ensures turns { MakesGcdRun (unsigned_abs (M.value a)) (unsigned_abs (M.value b)) result.1 }
-    ensures bound { (k l : ℕ) → unsigned_abs (M.value a) < 2 ^ k
-        → unsigned_abs (M.value b) < 2 ^ l → result.1 ≤ k + l }
+    ensures gcd { IsPositiveGcd (M.value a) (M.value b) (M.value result.0) result.1 }
 {
     let (m, twos_of_a) = without_twos(a);
     let (n, twos_of_b) = without_twos(b);
@@ -203,8 +200,51 @@ fn positive_lcm<M: PrimInt + Unsigned>(a: M, b: M) -> M
     product(a, quotient(b, positive_gcd(a, b).0))
 }
 
+/// A type of magnitudes, with what is computed of two numbers above 0.
+pub trait Magnitude: Copy + Integral + ToPrimitive {
+    /// Returns the next number.
+    fn successor(self) -> Self
+        requires sum_fits { Self.fits (Self.value self +ℤ pos 1) }
+        ensures in_range { Self.fits (Self.value result) }
+        ensures value { Self.value result ≡ Self.value self +ℤ pos 1 };
+
+    /// Returns the greatest common divisor, and the turns of the loop.
+    fn positive_gcd(a: Self, b: Self) -> (Self, u32)
+        requires a_in_range { Self.fits (Self.value a) }
+        requires b_in_range { Self.fits (Self.value b) }
+        requires a_positive { 0 < unsigned_abs (Self.value a) }
+        requires b_positive { 0 < unsigned_abs (Self.value b) }
+        ensures in_range { Self.fits (Self.value result.0) }
+        ensures gcd { IsPositiveGcd (Self.value a) (Self.value b) (Self.value result.0) result.1 };
+
+    /// Returns the greatest common divisor where one of the two is a power of two: the power of two
+    /// that both share.
+    fn shared_power_of_two(a: Self, b: Self) -> Self
+        requires a_in_range { Self.fits (Self.value a) }
+        requires b_in_range { Self.fits (Self.value b) }
+        requires a_positive { 0 < unsigned_abs (Self.value a) }
+        requires b_positive { 0 < unsigned_abs (Self.value b) }
+        requires power { IsPowerOfTwo (unsigned_abs (Self.value a))
+            ⊎ IsPowerOfTwo (unsigned_abs (Self.value b)) }
+        ensures in_range { Self.fits (Self.value result) }
+        ensures greatest { IsGreatestCommonDivisor (Self.value a) (Self.value b)
+            (Self.value result) };
+
+    /// Returns the least common multiple.
+    fn positive_lcm(a: Self, b: Self) -> Self
+        requires a_in_range { Self.fits (Self.value a) }
+        requires b_in_range { Self.fits (Self.value b) }
+        requires a_positive { 0 < unsigned_abs (Self.value a) }
+        requires b_positive { 0 < unsigned_abs (Self.value b) }
+        requires lcm_fits { EachFits Self.fits
+            (IsLeastCommonMultiple (Self.value a) (Self.value b)) }
+        ensures in_range { Self.fits (Self.value result) }
+        ensures least { IsLeastCommonMultiple (Self.value a) (Self.value b)
+            (Self.value result) };
+}
+
 impl Magnitude for u64 {
-    fn following(self) -> u64 {
+    fn successor(self) -> u64 {
         successor(self)
     }
 
@@ -222,7 +262,7 @@ impl Magnitude for u64 {
 }
 
 impl Magnitude for u128 {
-    fn following(self) -> u128 {
+    fn successor(self) -> u128 {
         successor(self)
     }
 
@@ -252,11 +292,8 @@ fn is_least<T: Native>(x: T) -> bool
 fn gcd_of_magnitudes<T: Native>(a: T, b: T) -> (T::Magnitude, u32)
     requires a_in_range { T.fits (T.value a) }
     requires b_in_range { T.fits (T.value b) }
-    ensures greatest { IsGreatestCommonDivisor (T.value a) (T.value b)
-        (T.Magnitude.value result.0) }
-    ensures turns { AreGcdTurns T.Bounded.low (T.value a) (T.value b) result.1 }
-    ensures bound { (k l : ℕ) → unsigned_abs (T.value a) < 2 ^ k
-        → unsigned_abs (T.value b) < 2 ^ l → result.1 ≤ k + l }
+    ensures { IsCountedGcd T.Bounded.low (T.value a) (T.value b) (T.Magnitude.value result.0)
+        result.1 }
 {
     let (m, n) = (a.magnitude(), b.magnitude());
     if is_zero(a) {
@@ -276,10 +313,7 @@ pub(crate) fn binary_gcd<T: Native>(a: T, b: T) -> (T, u32)
     requires b_in_range { T.fits (T.value b) }
     requires gcd_fits { GcdFits T.fits (T.value a) (T.value b) }
     ensures in_range { T.fits (T.value result.0) }
-    ensures greatest { IsGreatestCommonDivisor (T.value a) (T.value b) (T.value result.0) }
-    ensures turns { AreGcdTurns T.Bounded.low (T.value a) (T.value b) result.1 }
-    ensures bound { (k l : ℕ) → unsigned_abs (T.value a) < 2 ^ k
-        → unsigned_abs (T.value b) < 2 ^ l → result.1 ≤ k + l }
+    ensures gcd { IsCountedGcd T.Bounded.low (T.value a) (T.value b) (T.value result.0) result.1 }
 {
     let (gcd, turns) = gcd_of_magnitudes(a, b);
     (T::from_magnitude(gcd), turns)

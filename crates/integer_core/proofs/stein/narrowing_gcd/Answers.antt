@@ -25,8 +25,8 @@ turns-preserved g c = record {
   loop = loop_goes_on c.turns.invariant.loop c.next_pair.ensures.turn;
 }
 
-pub widened-requires : goal.widened-requires
-widened-requires g c =
+pub from_64_bits-requires : goal.from_64_bits-requires
+from_64_bits-requires g c =
     let pair = c.in-Some.ensures in
     let exact = g.met.M.Integral.exact_law in
     gcd_fits (λ x y z. g.M.Number.between_law x y z exact) (g.met.M.Zero.zero_fits_law exact) c.turns.invariant.m_in_range (g.met.M.Unsigned.unsigned_law c.turns.m) (omega (arith, c.turns.invariant.loop.kept.m_odd))
@@ -41,7 +41,7 @@ overflow_add-result g c =
 pub returns-in-Some-clause-odd_gcd : goal.returns-in-Some-clause-odd_gcd
 returns-in-Some-clause-odd_gcd g c =
     let pair = c.in-Some.ensures in
-    rw c.widened.ensures.value (loop_handed_on c.turns.invariant.loop {g = c.odd_gcd-gcd.result.0} {r = c.odd_gcd-gcd.result.1} (rw (pair.0, pair.1) at c.odd_gcd-gcd.ensures))
+    rw c.from_64_bits.ensures.value (loop_handed_on c.turns.invariant.loop {g = c.odd_gcd-gcd.result.0} {r = c.odd_gcd-gcd.result.1} (rw (pair.0, pair.1) at c.odd_gcd-gcd.ensures))
 
 pub returns-in-None-clause-odd_gcd : goal.returns-in-None-clause-odd_gcd
 returns-in-None-clause-odd_gcd g c = loop_ends c.turns.invariant.loop (elim (cases_eq _ _) [

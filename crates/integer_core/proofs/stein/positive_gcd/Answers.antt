@@ -17,16 +17,15 @@ with_twos-requires g c =
           (g.met.M.Unsigned.unsigned_law c.args.a) c.requires.a_positive all;
     }
 
-pub returns : goal.returns
-returns g c =
+pub returns-clause-gcd : goal.returns-clause-gcd
+returns-clause-gcd g c =
     let left = c.without_twos-m.ensures in
     let right = c.without_twos-n.ensures in
     let odd = c.narrowing_gcd-odd.ensures.odd_gcd in
     let all = gcd_of_odd_parts _ _ left.product right.product c.min.ensures left.odd right.odd odd.greatest in
     record {
-      in_range = c.with_twos.ensures.in_range;
       greatest = rw c.with_twos.ensures.value (gcd_of_sizes _ _ all);
-      turns = record {
+      run = record {
         first = _;
         left = record { odd = left.odd; twos = _; product = left.product };
         right = record { odd = right.odd; twos = _; product = right.product };

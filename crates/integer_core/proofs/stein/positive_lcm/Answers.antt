@@ -4,18 +4,18 @@ use Rattle.integer_core.proofs.CommonDivisors.{gcd-nonzero, gcd-positive, lcm-of
 use Rattle.integer_core.proofs.stein.positive_lcm.Goals as goal
 
 pub quotient-requires-clause-nonzero : goal.quotient-requires-clause-nonzero
-quotient-requires-clause-nonzero g c = gcd-nonzero c.positive_gcd.ensures.greatest (grind (arith, sizes))
+quotient-requires-clause-nonzero g c = gcd-nonzero c.positive_gcd.ensures.gcd.greatest (grind (arith, sizes))
 
 pub quotient-requires-clause-quotient_fits : goal.quotient-requires-clause-quotient_fits
 quotient-requires-clause-quotient_fits g c =
-    let positive = gcd-positive c.positive_gcd.ensures.greatest (grind (arith, sizes)) in
+    let positive = gcd-positive c.positive_gcd.ensures.gcd.greatest (grind (arith, sizes)) in
     let law = g.met.M.Num.positive_divisor_law _ _ g.met.M.Integral.exact_law in
     (law c.requires.b_in_range c.positive_gcd.ensures.in_range positive).1
 
 pub product-requires-clause-product_fits : goal.product-requires-clause-product_fits
 product-requires-clause-product_fits g c =
-    c.requires.lcm_fits _ (lcm-of-sizes (g.met.M.Unsigned.unsigned_law c.args.a) (g.met.M.Unsigned.unsigned_law c.args.b) c.requires.b_positive c.positive_gcd.ensures.greatest c.quotient.ensures.value refl)
+    c.requires.lcm_fits _ (lcm-of-sizes (g.met.M.Unsigned.unsigned_law c.args.a) (g.met.M.Unsigned.unsigned_law c.args.b) c.requires.b_positive c.positive_gcd.ensures.gcd.greatest c.quotient.ensures.value refl)
 
 pub returns-clause-least : goal.returns-clause-least
 returns-clause-least g c =
-    lcm-of-sizes (g.met.M.Unsigned.unsigned_law c.args.a) (g.met.M.Unsigned.unsigned_law c.args.b) c.requires.b_positive c.positive_gcd.ensures.greatest c.quotient.ensures.value c.product.ensures.value
+    lcm-of-sizes (g.met.M.Unsigned.unsigned_law c.args.a) (g.met.M.Unsigned.unsigned_law c.args.b) c.requires.b_positive c.positive_gcd.ensures.gcd.greatest c.quotient.ensures.value c.product.ensures.value

@@ -1,13 +1,13 @@
 use Rattle.std.proofs.lemmas.Bool.{iff_false}
 use Rattle.integer_core.proofs.Quotients.{other_quotient_fits, floored_by_minus_one}
-use Rattle.integer_core.proofs.division.mod_floor.Goals as goal
+use Rattle.integer_core.proofs.native_integer.AnyInteger.mod_floor.Goals as goal
 
 pub div_mod_floor-requires-clause-quotient_fits : goal.div_mod_floor-requires-clause-quotient_fits
 div_mod_floor-requires-clause-quotient_fits g c q h =
     let other = iff_false c.is_minus_one.ensures c.if-is_minus_one.false in
-    other_quotient_fits g.met.T.Native.native_law.range c.requires.n_in_range c.requires.d_in_range other h.division.division
+    other_quotient_fits g.met.T.Native.native_law.range c.requires.self_in_range c.requires.other_in_range other h.division.division
 
 pub returns-then-is_minus_one-clause-floored : goal.returns-then-is_minus_one-clause-floored
 returns-then-is_minus_one-clause-floored g c =
-    let exact = floored_by_minus_one (g.T.Number.value c.args.n) _ (c.is_minus_one.ensures.0 c.if-is_minus_one.true) in
+    let exact = floored_by_minus_one (g.T.Number.value c.args.self.now) _ (c.is_minus_one.ensures.0 c.if-is_minus_one.true) in
     rw c.zero.ensures.value (record { quotient = _; division = exact })

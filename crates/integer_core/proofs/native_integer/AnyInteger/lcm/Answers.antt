@@ -2,7 +2,7 @@ use Rattle.std.proofs.Common.{arith}
 use Rattle.integer_core.proofs.Ranges.{lcm_is_magnitude}
 use Rattle.integer_core.proofs.Whole.{linear}
 use Rattle.integer_core.proofs.CommonDivisors.{lcm-magnitudes, lcm-zero}
-use Rattle.integer_core.proofs.divisors.lcm.Goals as goal
+use Rattle.integer_core.proofs.native_integer.AnyInteger.lcm.Goals as goal
 
 pub returns-then-is_zero-clause-least : goal.returns-then-is_zero-clause-least
 returns-then-is_zero-clause-least g c = rw c.zero.ensures.value (lcm-zero (grind (arith, linear)))

@@ -1,7 +1,7 @@
 use Rattle.std.proofs.Common.{arith}
 use Rattle.integer_core.proofs.Ranges.{beyond_fits, within_fits}
 use Rattle.integer_core.proofs.Whole.{linear}
-use Rattle.integer_core.proofs.native.beyond.Goals as goal
+use Rattle.integer_core.proofs.native.distance_below_minus_one.Goals as goal
 
 pub successor-requires-clause-sum_fits : goal.successor-requires-clause-sum_fits
 successor-requires-clause-sum_fits g c = within_fits g.met.T.Native.native_law.range c.requires.in_range (grind (arith, linear))
