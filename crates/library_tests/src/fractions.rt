@@ -1,6 +1,7 @@
 //! Fractions: worked values, the ends of `i64`, and each pair of fractions of small parts.
 
 mod callers;
+mod errors;
 mod limited;
 mod matched;
 mod one_fraction;
@@ -8,6 +9,7 @@ mod operations;
 mod parsing;
 mod rounded;
 mod small_parts;
+mod times;
 
 use crate::assertions::holds_at;
 use ratio64::RatioError::{NotFitting, ZeroDenominator};

@@ -12,6 +12,7 @@ use Rattle.ratio64.specs.Limiting.{IsNearestWithin, gap}
 use Rattle.ratio64.specs.Neighbours.{AreNeighbours, IsNearer}
 use Rattle.ratio64.specs.ReducedPairs.{positive_is_nonzero}
 use Rattle.ratio64.proofs.NearerNeighbour.{AreBeside, nearest_above, nearest_below}
+use Rattle.ratio64.proofs.NearestNumbers.{down_fits, up_fits}
 use Rattle.ratio64.proofs.ReducedParts.{one_divides, remainder_reduced}
 
 -- ---- a denominator up to the limit
@@ -196,16 +197,6 @@ parts_down g h a c n g_up h_up a_down c_down e =
     let both = parts_up g h (neg_ℤ a) (neg_ℤ c) (neg_ℤ n) g_up h_up (omega (arith, linear)) (omega (arith, linear)) turned in
     (omega (arith, linear, both.0), omega (arith, linear, both.1))
 
-fits_up : (x n : ℤ) → FitsSigned w64 n → pos 0 ≤ℤ x → x ≤ℤ n → FitsSigned w64 x
-fits_up (pos x) (pos n) fits up most = let low = fits.sfits in record { sfits = omega (arith, ints) }
-fits_up (pos x) (negsuc n) fits up most = absurd (omega (arith, ints))
-fits_up (negsuc x) n fits up most = absurd (omega (arith, ints))
-
-fits_down : (x n : ℤ) → FitsSigned w64 n → x ≤ℤ pos 0 → n ≤ℤ x → FitsSigned w64 x
-fits_down (pos x) n fits down least = record { sfits = omega (arith, ints) }
-fits_down (negsuc x) (pos n) fits down least = absurd (omega (arith, ints))
-fits_down (negsuc x) (negsuc n) fits down least = let low = fits.sfits in record { sfits = omega (arith, ints) }
-
 -- a whole number at least 0, or below 0, and a part up to 1
 part_up : (w b a : ℤ) → pos 0 ≤ℤ w → pos 0 ≤ℤ b → pos 0 ≤ℤ a → pos 0 ≤ℤ (w *ℤ b +ℤ a)
 part_up w b a w_up b_up a_up = let product = product_from_zero w b w_up b_up in omega (arith, linear)
@@ -233,12 +224,12 @@ nearer_fits {n} {d} {max} {x} {y} {z} w m h none up e s fits =
     let l = part_down w (pos x.den) (pos x.num) down (omega (arith, ints)) x_num in
     let u = part_down w (pos y.den) (pos y.num) down (omega (arith, ints)) y_num in
     let least = parts_down (pos x.gap) (pos y.gap) lower upper m x_gap y_gap l u sum in
-    (fits_down lower m fits l least.0, fits_down upper m fits u least.1))
+    (down_fits w64 lower m fits l least.0, down_fits w64 upper m fits u least.1))
     (λ over.
     let l = part_up w (pos x.den) (pos x.num) over (omega (arith, ints)) (omega (arith, ints)) in
     let u = part_up w (pos y.den) (pos y.num) over (omega (arith, ints)) (omega (arith, ints)) in
     let most = parts_up (pos x.gap) (pos y.gap) lower upper m x_gap y_gap l u sum in
-    (fits_up lower m fits l most.0, fits_up upper m fits u most.1)) in
+    (up_fits w64 lower m fits l most.0, up_fits w64 upper m fits u most.1)) in
     elim s.is [
       | inl k ↦ rw k.0 both.0
       | inr k ↦ rw k.0 both.1

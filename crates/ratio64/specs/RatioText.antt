@@ -3,6 +3,7 @@ use Rattle.std.specs.Prelude.{◌≡◌, ◌⊎◌, ◌↔◌, ◌++◌, ◌≤�
 use Rattle.std.specs.Int.{w64}
 use Rattle.std.specs.Str.Parse.{IsNumeral, digits_value, starts_with_minus}
 use Rattle.ratio64.specs.Ratio.{AnswersFraction, den_of, num_of, text_of}
+use Rattle.ratio64.specs.RatioError.{error_text}
 use Rattle.ratio64.specs.declared.fraction.Ratio.{Ratio}
 use Rattle.ratio64.specs.declared.error.RatioError.{RatioError}
 use Rattle.ratio64.specs.declared.error.RatioError.TheVariants as refused
@@ -41,6 +42,13 @@ abbrev pub answer_read : Result Ratio RatioError → Result Ratio ParseRatioErro
 answer_read (Ok x) = Ok x
 answer_read (Err refused.ZeroDenominator) = Err ZeroDenominator
 answer_read (Err refused.NotFitting) = Err NotFitting
+
+-- The text of an error is what `Display` writes of it.
+abbrev pub parse_error_text : ParseRatioError → List ℕ
+parse_error_text NotAFraction = codes "the text is not a fraction"
+parse_error_text TooLong = codes "a part has more than 38 digits, leading zeros aside"
+parse_error_text ZeroDenominator = error_text refused.ZeroDenominator
+parse_error_text NotFitting = error_text refused.NotFitting
 
 -- what the fraction a/b is read as: too long, or what it answers
 pub record AnswersSpelled (a b : ℤ) (result : Result Ratio ParseRatioError) : Type 0 where
