@@ -147,11 +147,19 @@ abbrev pub AllFit : (ℤ → Type 0) → List ℤ → Type 0
 AllFit fits [] = ⊤
 AllFit fits (n ∷ ns) = fits n × AllFit fits ns
 
+-- The parts of two fractions lie in `i64`.
+abbrev pub PartsFit : (a b c d : ℤ) → Type 0
+PartsFit a b c d = AllFit (FitsKind I64) (a ∷ b ∷ c ∷ d ∷ [])
+
+-- What two fractions are refused for comes in the order: their parts outside `i64`, then what `NeedsFractions` says.
+abbrev pub NeedsParts : (a b c d : ℤ) → (Result Answer Refusal → Type 0) → Result Answer Refusal → Type 0
+NeedsParts a b c d rest = Needs (PartsFit a b c d) OutOfType (NeedsFractions a b c d rest)
+
 -- the operands lie in the type, a degree lies in `u32`, and parts of fractions lie in `i64`
 abbrev pub OperandsFit : (ℤ → Type 0) → Call → Type 0
 OperandsFit fits (NthRoot x n) = fits x × FitsUnsignedBits 32 n
-OperandsFit fits (RatioAdd a b c d) = AllFit (FitsKind I64) (a ∷ b ∷ c ∷ d ∷ [])
-OperandsFit fits (RatioMul a b c d) = AllFit (FitsKind I64) (a ∷ b ∷ c ∷ d ∷ [])
+OperandsFit fits (RatioAdd a b c d) = PartsFit a b c d
+OperandsFit fits (RatioMul a b c d) = PartsFit a b c d
 OperandsFit fits call = AllFit fits (operands_of call)
 
 -- the outcome in a type: the call is refused where an operand lies outside, else by its row
@@ -163,6 +171,12 @@ abbrev pub IsMadeAt : Kind → Call → Type 0
 IsMadeAt kind (RatioAdd a b c d) = kind ≡ I64
 IsMadeAt kind (RatioMul a b c d) = kind ≡ I64
 IsMadeAt kind call = ⊤
+
+-- The call is none on fractions.
+abbrev pub IsOnNumbers : Call → Type 0
+IsOnNumbers (RatioAdd a b c d) = ⊥
+IsOnNumbers (RatioMul a b c d) = ⊥
+IsOnNumbers call = ⊤
 
 -- the outcome of a kind and a call
 abbrev pub Outcome : Kind → Call → Result Answer Refusal → Type 0
