@@ -11,7 +11,7 @@ use Rattle.ratio64.specs.Fraction.{IsReduced}
 use Rattle.ratio64.specs.Limiting.{IsNearestWithin, gap}
 use Rattle.ratio64.specs.Neighbours.{AreNeighbours, IsNearer}
 use Rattle.ratio64.specs.ReducedPairs.{positive_is_nonzero}
-use Rattle.ratio64.proofs.NearerNeighbour.{AreBeside, nearest_above, nearest_below}
+use Rattle.ratio64.proofs.NearerNeighbour.{AreBeside, nearest_above, nearest_below, other_factor_zero}
 use Rattle.ratio64.proofs.NearestNumbers.{down_fits, up_fits}
 use Rattle.ratio64.proofs.ReducedParts.{one_divides, remainder_reduced}
 
@@ -24,14 +24,10 @@ least_denominator {n} {d} {v} u x up e = divisor_at_most up (coprime_divides x.l
 none_left : (n d : ℤ) → n *ℤ d -ℤ n *ℤ d ≡ pos 0
 none_left n d = omega (arith, linear)
 
-no_factor : (z d : ℕ) → 0 < d → z * d ≡ 0 → z ≡ 0
-no_factor zero d up e = omega arith
-no_factor (suc z) d up e = absurd (omega arith)
-
 level : (x y : ℤ) (v d : ℕ) → 0 < d → 0 * v ≡ unsigned_abs (x -ℤ y) * d → x ≡ y
 level x y v d up e =
-    let product : unsigned_abs (x -ℤ y) * d ≡ 0 = omega (arith, e) in
-    let none : unsigned_abs (x -ℤ y) ≡ 0 = no_factor (unsigned_abs (x -ℤ y)) d up product in
+    let product : d * unsigned_abs (x -ℤ y) ≡ 0 = omega (arith, e) in
+    let none : unsigned_abs (x -ℤ y) ≡ 0 = other_factor_zero d (unsigned_abs (x -ℤ y)) up product in
     omega (arith, sizes)
 
 pub itself_is_nearest : {n d max : ℤ} → IsReduced n d → d ≤ℤ max → IsNearestWithin n d max n d
