@@ -7,6 +7,7 @@ mod matched;
 mod one_fraction;
 mod operations;
 mod parsing;
+mod recipes;
 mod rounded;
 mod small_parts;
 mod times;

@@ -14,7 +14,6 @@ use Rattle.ratio64.specs.Ratio.{AnswersFraction, num_of, den_of}
 use Rattle.ratio64.specs.declared.fraction.Ratio.{Ratio}
 use Rattle.ratio64.specs.declared.error.RatioError.{RatioError}
 use Rattle.ratio64.specs.declared.error.RatioError.TheVariants.{ZeroDenominator, NotFitting}
-use Rattle.ratio64.proofs.NearestNumbers.{quotient_fits}
 use Rattle.ratio64.proofs.ReducedParts.{one_divides}
 use Rattle.ratio64.proofs.Laws.{equal_fractions_have_one_result, products_of_equal_fractions, sums_of_equal_fractions}
 -- ---- lemmas from elsewhere
@@ -22,7 +21,7 @@ use Rattle.ratio64.proofs.Laws.{equal_fractions_have_one_result, products_of_equ
 pub use Rattle.ratio64.proofs.ExactResults.{only_exact_result}
 pub use Rattle.ratio64.proofs.FractionAnswers.{exact_answer, exact_is_inside, zero_exactly, zero_factor}
 pub use Rattle.ratio64.proofs.FractionPowers.{base_fits, equal_powers, power_nonzero, power_of_product, power_reduced}
-pub use Rattle.ratio64.proofs.NearestNumbers.{rounded_is_only}
+pub use Rattle.ratio64.proofs.NearestNumbers.{quotient_fits, quotient_is_only, rounded_division, rounded_is_only}
 pub use Rattle.ratio64.proofs.ReducedParts.{magnitude_reduced, negated_reduced, remainder_reduced}
 pub use Rattle.ratio64.proofs.WideSums.{difference_below, read, read_product, sum_below}
 pub use Rattle.ratio64.specs.ReducedPairs.{AreEqual-sym, denominator_divides, positive_is_nonzero, same_pair}
