@@ -27,7 +27,7 @@ pub extern "C" fn cellarcove_binomial_i64(n: i64, k: i64) -> I64Answer
 #[unsafe(no_mangle)]
 pub extern "C" fn cellarcove_binomial_u64(n: u64, k: u64) -> U64Answer
     ensures answer { AnswersWhere
-        ((pos 0 ≤ℤ (pos n)) × (pos 0 ≤ℤ (pos k)) × FitsUnsignedBits 64 (coefficient_of (pos n) (pos k)))
+        ((pos 0 ≤ℤ pos n) × (pos 0 ≤ℤ pos k) × FitsUnsignedBits 64 (coefficient_of (pos n) (pos k)))
         (λ c. pos c ≡ coefficient_of (pos n) (pos k))
         (answer_of result.status result.value) }
     ensures refusal { result.status ≢ 0 → result ≡ record { status = outside; value = 0 } }
@@ -40,7 +40,8 @@ pub extern "C" fn cellarcove_binomial_u64(n: u64, k: u64) -> U64Answer
 pub extern "C" fn cellarcove_multinomial_u64(counts: &[u64]) -> U64Answer
     ensures answer { AnswersWhere
         (EachFits (FitsUnsignedBits 64) (IsMultinomial (map (λ x. pos x) counts.now)))
-        (λ m. IsMultinomial (map (λ x. pos x) counts.now) (pos m)) (answer_of result.status result.value) }
+        (λ m. IsMultinomial (map (λ x. pos x) counts.now) (pos m))
+        (answer_of result.status result.value) }
     ensures refusal { result.status ≢ 0 → result ≡ record { status = outside; value = 0 } }
 {
     U64Answer::of(checked::multinomial(counts))

@@ -32,7 +32,8 @@ pub struct U64Division {
 /// Returns the quotient rounded toward 0, and its remainder. Those of -8 by 3 are -2 and -2.
 #[unsafe(no_mangle)]
 pub extern "C" fn cellarcove_div_rem_i64(x: i64, y: i64) -> I64Division
-    ensures answer { AnswersWhere ((y ≢ pos 0) × EachFits (FitsSigned w64) (IsQuotient IsTruncated x y))
+    ensures answer { AnswersWhere
+        ((y ≢ pos 0) × EachFits (FitsSigned w64) (IsQuotient IsTruncated x y))
         (λ (q, r). IsTruncated x y q r)
         (answer_of result.status (result.quotient, result.remainder)) }
     ensures refusal { result.status ≢ 0
@@ -44,7 +45,8 @@ pub extern "C" fn cellarcove_div_rem_i64(x: i64, y: i64) -> I64Division
 /// See [`cellarcove_div_rem_i64`].
 #[unsafe(no_mangle)]
 pub extern "C" fn cellarcove_div_rem_u64(x: u64, y: u64) -> U64Division
-    ensures answer { AnswersWhere (((pos y) ≢ pos 0) × EachFits (FitsUnsignedBits 64) (IsQuotient IsTruncated (pos x) (pos y)))
+    ensures answer { AnswersWhere
+        ((pos y ≢ pos 0) × EachFits (FitsUnsignedBits 64) (IsQuotient IsTruncated (pos x) (pos y)))
         (λ (q, r). IsTruncated (pos x) (pos y) (pos q) (pos r))
         (answer_of result.status (result.quotient, result.remainder)) }
     ensures refusal { result.status ≢ 0
@@ -56,7 +58,8 @@ pub extern "C" fn cellarcove_div_rem_u64(x: u64, y: u64) -> U64Division
 /// Returns the quotient rounded down. That of -8 by 3 is -3.
 #[unsafe(no_mangle)]
 pub extern "C" fn cellarcove_div_floor_i64(x: i64, y: i64) -> I64Answer
-    ensures answer { AnswersWhere ((y ≢ pos 0) × EachFits (FitsSigned w64) (IsQuotient IsFloored x y)) (IsQuotient IsFloored x y)
+    ensures answer { AnswersWhere
+        ((y ≢ pos 0) × EachFits (FitsSigned w64) (IsQuotient IsFloored x y)) (IsQuotient IsFloored x y)
         (answer_of result.status result.value) }
     ensures refusal { result.status ≢ 0 → result ≡ record { status = outside; value = pos 0 } }
 {
@@ -66,7 +69,9 @@ pub extern "C" fn cellarcove_div_floor_i64(x: i64, y: i64) -> I64Answer
 /// See [`cellarcove_div_floor_i64`].
 #[unsafe(no_mangle)]
 pub extern "C" fn cellarcove_div_floor_u64(x: u64, y: u64) -> U64Answer
-    ensures answer { AnswersWhere (((pos y) ≢ pos 0) × EachFits (FitsUnsignedBits 64) (IsQuotient IsFloored (pos x) (pos y))) (λ q. IsQuotient IsFloored (pos x) (pos y) (pos q))
+    ensures answer { AnswersWhere
+        ((pos y ≢ pos 0) × EachFits (FitsUnsignedBits 64) (IsQuotient IsFloored (pos x) (pos y)))
+        (λ q. IsQuotient IsFloored (pos x) (pos y) (pos q))
         (answer_of result.status result.value) }
     ensures refusal { result.status ≢ 0 → result ≡ record { status = outside; value = 0 } }
 {
@@ -76,7 +81,8 @@ pub extern "C" fn cellarcove_div_floor_u64(x: u64, y: u64) -> U64Answer
 /// Returns the quotient rounded up. That of 8 by 3 is 3.
 #[unsafe(no_mangle)]
 pub extern "C" fn cellarcove_div_ceil_i64(x: i64, y: i64) -> I64Answer
-    ensures answer { AnswersWhere ((y ≢ pos 0) × EachFits (FitsSigned w64) (IsQuotient IsCeiled x y)) (IsQuotient IsCeiled x y)
+    ensures answer { AnswersWhere
+        ((y ≢ pos 0) × EachFits (FitsSigned w64) (IsQuotient IsCeiled x y)) (IsQuotient IsCeiled x y)
         (answer_of result.status result.value) }
     ensures refusal { result.status ≢ 0 → result ≡ record { status = outside; value = pos 0 } }
 {
@@ -86,7 +92,9 @@ pub extern "C" fn cellarcove_div_ceil_i64(x: i64, y: i64) -> I64Answer
 /// See [`cellarcove_div_ceil_i64`].
 #[unsafe(no_mangle)]
 pub extern "C" fn cellarcove_div_ceil_u64(x: u64, y: u64) -> U64Answer
-    ensures answer { AnswersWhere (((pos y) ≢ pos 0) × EachFits (FitsUnsignedBits 64) (IsQuotient IsCeiled (pos x) (pos y))) (λ q. IsQuotient IsCeiled (pos x) (pos y) (pos q))
+    ensures answer { AnswersWhere
+        ((pos y ≢ pos 0) × EachFits (FitsUnsignedBits 64) (IsQuotient IsCeiled (pos x) (pos y)))
+        (λ q. IsQuotient IsCeiled (pos x) (pos y) (pos q))
         (answer_of result.status result.value) }
     ensures refusal { result.status ≢ 0 → result ≡ record { status = outside; value = 0 } }
 {
@@ -106,7 +114,8 @@ pub extern "C" fn cellarcove_mod_floor_i64(x: i64, y: i64) -> I64Answer
 /// See [`cellarcove_mod_floor_i64`].
 #[unsafe(no_mangle)]
 pub extern "C" fn cellarcove_mod_floor_u64(x: u64, y: u64) -> U64Answer
-    ensures answer { AnswersWhere ((pos y) ≢ pos 0) (λ r. IsRemainder IsFloored (pos x) (pos y) (pos r))
+    ensures answer { AnswersWhere (pos y ≢ pos 0)
+        (λ r. IsRemainder IsFloored (pos x) (pos y) (pos r))
         (answer_of result.status result.value) }
     ensures refusal { result.status ≢ 0 → result ≡ record { status = outside; value = 0 } }
 {
@@ -116,7 +125,8 @@ pub extern "C" fn cellarcove_mod_floor_u64(x: u64, y: u64) -> U64Answer
 /// Returns the quotient rounded down, and its remainder. Those of -8 by 3 are -3 and 1.
 #[unsafe(no_mangle)]
 pub extern "C" fn cellarcove_div_mod_floor_i64(x: i64, y: i64) -> I64Division
-    ensures answer { AnswersWhere ((y ≢ pos 0) × EachFits (FitsSigned w64) (IsQuotient IsFloored x y))
+    ensures answer { AnswersWhere
+        ((y ≢ pos 0) × EachFits (FitsSigned w64) (IsQuotient IsFloored x y))
         (λ (q, r). IsFloored x y q r)
         (answer_of result.status (result.quotient, result.remainder)) }
     ensures refusal { result.status ≢ 0
@@ -128,7 +138,8 @@ pub extern "C" fn cellarcove_div_mod_floor_i64(x: i64, y: i64) -> I64Division
 /// See [`cellarcove_div_mod_floor_i64`].
 #[unsafe(no_mangle)]
 pub extern "C" fn cellarcove_div_mod_floor_u64(x: u64, y: u64) -> U64Division
-    ensures answer { AnswersWhere (((pos y) ≢ pos 0) × EachFits (FitsUnsignedBits 64) (IsQuotient IsFloored (pos x) (pos y)))
+    ensures answer { AnswersWhere
+        ((pos y ≢ pos 0) × EachFits (FitsUnsignedBits 64) (IsQuotient IsFloored (pos x) (pos y)))
         (λ (q, r). IsFloored (pos x) (pos y) (pos q) (pos r))
         (answer_of result.status (result.quotient, result.remainder)) }
     ensures refusal { result.status ≢ 0
@@ -140,7 +151,8 @@ pub extern "C" fn cellarcove_div_mod_floor_u64(x: u64, y: u64) -> U64Division
 /// Returns the quotient rounded up, times `y`. For 23 and 8 it is 24.
 #[unsafe(no_mangle)]
 pub extern "C" fn cellarcove_next_multiple_of_i64(x: i64, y: i64) -> I64Answer
-    ensures answer { AnswersWhere ((y ≢ pos 0) × EachFits (FitsSigned w64) (IsMultiple IsCeiled x y)) (IsMultiple IsCeiled x y)
+    ensures answer { AnswersWhere
+        ((y ≢ pos 0) × EachFits (FitsSigned w64) (IsMultiple IsCeiled x y)) (IsMultiple IsCeiled x y)
         (answer_of result.status result.value) }
     ensures refusal { result.status ≢ 0 → result ≡ record { status = outside; value = pos 0 } }
 {
@@ -150,7 +162,9 @@ pub extern "C" fn cellarcove_next_multiple_of_i64(x: i64, y: i64) -> I64Answer
 /// See [`cellarcove_next_multiple_of_i64`].
 #[unsafe(no_mangle)]
 pub extern "C" fn cellarcove_next_multiple_of_u64(x: u64, y: u64) -> U64Answer
-    ensures answer { AnswersWhere (((pos y) ≢ pos 0) × EachFits (FitsUnsignedBits 64) (IsMultiple IsCeiled (pos x) (pos y))) (λ m. IsMultiple IsCeiled (pos x) (pos y) (pos m))
+    ensures answer { AnswersWhere
+        ((pos y ≢ pos 0) × EachFits (FitsUnsignedBits 64) (IsMultiple IsCeiled (pos x) (pos y)))
+        (λ m. IsMultiple IsCeiled (pos x) (pos y) (pos m))
         (answer_of result.status result.value) }
     ensures refusal { result.status ≢ 0 → result ≡ record { status = outside; value = 0 } }
 {
@@ -160,7 +174,8 @@ pub extern "C" fn cellarcove_next_multiple_of_u64(x: u64, y: u64) -> U64Answer
 /// Returns the quotient rounded down, times `y`. For 23 and 8 it is 16.
 #[unsafe(no_mangle)]
 pub extern "C" fn cellarcove_prev_multiple_of_i64(x: i64, y: i64) -> I64Answer
-    ensures answer { AnswersWhere ((y ≢ pos 0) × EachFits (FitsSigned w64) (IsMultiple IsFloored x y)) (IsMultiple IsFloored x y)
+    ensures answer { AnswersWhere
+        ((y ≢ pos 0) × EachFits (FitsSigned w64) (IsMultiple IsFloored x y)) (IsMultiple IsFloored x y)
         (answer_of result.status result.value) }
     ensures refusal { result.status ≢ 0 → result ≡ record { status = outside; value = pos 0 } }
 {
@@ -170,7 +185,9 @@ pub extern "C" fn cellarcove_prev_multiple_of_i64(x: i64, y: i64) -> I64Answer
 /// See [`cellarcove_prev_multiple_of_i64`].
 #[unsafe(no_mangle)]
 pub extern "C" fn cellarcove_prev_multiple_of_u64(x: u64, y: u64) -> U64Answer
-    ensures answer { AnswersWhere (((pos y) ≢ pos 0) × EachFits (FitsUnsignedBits 64) (IsMultiple IsFloored (pos x) (pos y))) (λ m. IsMultiple IsFloored (pos x) (pos y) (pos m))
+    ensures answer { AnswersWhere
+        ((pos y ≢ pos 0) × EachFits (FitsUnsignedBits 64) (IsMultiple IsFloored (pos x) (pos y)))
+        (λ m. IsMultiple IsFloored (pos x) (pos y) (pos m))
         (answer_of result.status result.value) }
     ensures refusal { result.status ≢ 0 → result ≡ record { status = outside; value = 0 } }
 {

@@ -1,5 +1,5 @@
-//! Exact fractions. A fraction that is passed is reduced first, and a part of it that does not fit then is
-//! refused.
+//! Exact fractions. A fraction that is passed is reduced first, and a part of it that does not fit
+//! then is refused.
 
 ghost use Rattle.std.specs.Prelude.{◌≡◌, ◌⊎◌, ◌<ℤ◌, ◌≤ℤ◌, ◌+ℤ◌, ◌-ℤ◌, ◌*ℤ◌, pos, Result, Err, MatchResult};
 ghost use Rattle.std.specs.declared.cmp.Ordering.{Ordering};

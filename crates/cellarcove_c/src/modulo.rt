@@ -16,7 +16,8 @@ use modular::{
 };
 use num_integer::Fits;
 
-/// A status, and a class of solutions: the first that is at least 0, and the step from each to the next.
+/// A status, and a class of solutions: the first that is at least 0, and the step from each to the
+/// next.
 #[repr(C)]
 #[derive(Debug, Clone, Copy, PartialEq, Eq)]
 pub struct I64Solutions {
@@ -25,7 +26,8 @@ pub struct I64Solutions {
     pub step: i64,
 }
 
-/// A status, and a class of solutions: the first that is at least 0, and the step from each to the next.
+/// A status, and a class of solutions: the first that is at least 0, and the step from each to the
+/// next.
 #[repr(C)]
 #[derive(Debug, Clone, Copy, PartialEq, Eq)]
 pub struct U64Solutions {
@@ -51,7 +53,7 @@ pub extern "C" fn cellarcove_sum_modulo_i64(a: i64, b: i64, m: i64) -> I64Answer
 /// See [`cellarcove_sum_modulo_i64`].
 #[unsafe(no_mangle)]
 pub extern "C" fn cellarcove_sum_modulo_u64(a: u64, b: u64, m: u64) -> U64Answer
-    ensures answer { AnswersWhere (pos 0 <ℤ (pos m)) (λ r. IsResidue (pos m) ((pos a) +ℤ (pos b)) (pos r))
+    ensures answer { AnswersWhere (pos 0 <ℤ pos m) (λ r. IsResidue (pos m) (pos a +ℤ pos b) (pos r))
         (answer_of result.status result.value) }
     ensures refusal { result.status ≢ 0 → result ≡ record { status = bad_modulus; value = 0 } }
 {
@@ -79,7 +81,7 @@ pub extern "C" fn cellarcove_difference_modulo_i64(a: i64, b: i64, m: i64) -> I6
 /// See [`cellarcove_difference_modulo_i64`].
 #[unsafe(no_mangle)]
 pub extern "C" fn cellarcove_difference_modulo_u64(a: u64, b: u64, m: u64) -> U64Answer
-    ensures answer { AnswersWhere (pos 0 <ℤ (pos m)) (λ r. IsResidue (pos m) ((pos a) -ℤ (pos b)) (pos r))
+    ensures answer { AnswersWhere (pos 0 <ℤ pos m) (λ r. IsResidue (pos m) (pos a -ℤ pos b) (pos r))
         (answer_of result.status result.value) }
     ensures refusal { result.status ≢ 0 → result ≡ record { status = bad_modulus; value = 0 } }
 {
@@ -107,7 +109,7 @@ pub extern "C" fn cellarcove_product_modulo_i64(a: i64, b: i64, m: i64) -> I64An
 /// See [`cellarcove_product_modulo_i64`].
 #[unsafe(no_mangle)]
 pub extern "C" fn cellarcove_product_modulo_u64(a: u64, b: u64, m: u64) -> U64Answer
-    ensures answer { AnswersWhere (pos 0 <ℤ (pos m)) (λ r. IsResidue (pos m) ((pos a) *ℤ (pos b)) (pos r))
+    ensures answer { AnswersWhere (pos 0 <ℤ pos m) (λ r. IsResidue (pos m) (pos a *ℤ pos b) (pos r))
         (answer_of result.status result.value) }
     ensures refusal { result.status ≢ 0 → result ≡ record { status = bad_modulus; value = 0 } }
 {
@@ -135,7 +137,8 @@ pub extern "C" fn cellarcove_power_modulo_i64(a: i64, exponent: u64, m: i64) -> 
 /// See [`cellarcove_power_modulo_i64`].
 #[unsafe(no_mangle)]
 pub extern "C" fn cellarcove_power_modulo_u64(a: u64, exponent: u64, m: u64) -> U64Answer
-    ensures answer { AnswersWhere (pos 0 <ℤ (pos m)) (λ r. IsResidue (pos m) (int_pow (pos a) exponent) (pos r))
+    ensures answer { AnswersWhere (pos 0 <ℤ pos m)
+        (λ r. IsResidue (pos m) (int_pow (pos a) exponent) (pos r))
         (answer_of result.status result.value) }
     ensures refusal { result.status ≢ 0 → result ≡ record { status = bad_modulus; value = 0 } }
 {
@@ -168,9 +171,9 @@ pub extern "C" fn cellarcove_inverse_modulo_i64(a: i64, m: i64) -> I64Answer
 /// See [`cellarcove_inverse_modulo_i64`].
 #[unsafe(no_mangle)]
 pub extern "C" fn cellarcove_inverse_modulo_u64(a: u64, m: u64) -> U64Answer
-    ensures answer { (pos 0 <ℤ (pos m)) → MatchOption (answer_of result.status result.value)
+    ensures answer { (pos 0 <ℤ pos m) → MatchOption (answer_of result.status result.value)
         ((x : ℤ) → ¬ (IsInverse (pos a) (pos m) x)) (λ x. IsInverse (pos a) (pos m) (pos x)) }
-    ensures bad_modulus { (result.status ≡ bad_modulus) ↔ ((pos m) ≤ℤ pos 0) }
+    ensures bad_modulus { (result.status ≡ bad_modulus) ↔ (pos m ≤ℤ pos 0) }
     ensures refusal { result.status ≢ 0 → (result.value ≡ 0)
         × ((result.status ≡ bad_modulus) ⊎ (result.status ≡ no_solution)) }
 {
@@ -215,19 +218,20 @@ pub extern "C" fn cellarcove_chinese_remainder_i64(a: i64, m: i64, b: i64, n: i6
 /// See [`cellarcove_chinese_remainder_i64`].
 #[unsafe(no_mangle)]
 pub extern "C" fn cellarcove_chinese_remainder_u64(a: u64, m: u64, b: u64, n: u64) -> U64Solutions
-    ensures answer { (pos 0 <ℤ (pos m)) → (pos 0 <ℤ (pos n))
+    ensures answer { (pos 0 <ℤ pos m) → (pos 0 <ℤ pos n)
         → EachFits (FitsUnsignedBits 64) (IsLeastCommonMultiple (pos m) (pos n))
         → MatchOption (answer_of result.status (result.first, result.step))
         ((x : ℤ) → ¬ (SolvesBothCongruences (pos a) (pos m) (pos b) (pos n) x))
-        (λ (first, step). IsResidueClass (SolvesBothCongruences (pos a) (pos m) (pos b) (pos n)) (pos first) (pos step)) }
-    ensures bad_modulus { (result.status ≡ bad_modulus) ↔ (((pos m) ≤ℤ pos 0) ⊎ ((pos n) ≤ℤ pos 0)) }
-    ensures not_fitting { (result.status ≡ not_fitting) ↔ ((pos 0 <ℤ (pos m)) × (pos 0 <ℤ (pos n))
+        (λ (first, step). IsResidueClass (SolvesBothCongruences (pos a) (pos m) (pos b) (pos n))
+        (pos first) (pos step)) }
+    ensures bad_modulus { (result.status ≡ bad_modulus) ↔ ((pos m ≤ℤ pos 0) ⊎ (pos n ≤ℤ pos 0)) }
+    ensures not_fitting { (result.status ≡ not_fitting) ↔ ((pos 0 <ℤ pos m) × (pos 0 <ℤ pos n)
         × (¬ (EachFits (FitsUnsignedBits 64) (IsLeastCommonMultiple (pos m) (pos n))))) }
     ensures refusal { result.status ≢ 0 → (result.first ≡ 0) × (result.step ≡ 0)
         × ((result.status ≡ bad_modulus)
         ⊎ ((result.status ≡ not_fitting) ⊎ (result.status ≡ no_solution))) }
 {
-    if m <= 0 || n <= 0 {
+    if m == 0 || n == 0 {
         U64Solutions::none(BAD_MODULUS)
     } else if !m.lcm_fits(&n) {
         U64Solutions::none(NOT_FITTING)
@@ -263,10 +267,10 @@ pub extern "C" fn cellarcove_next_congruent_i64(from: i64, first: i64, step: i64
 /// See [`cellarcove_next_congruent_i64`].
 #[unsafe(no_mangle)]
 pub extern "C" fn cellarcove_next_congruent_u64(from: u64, first: u64, step: u64) -> U64Answer
-    ensures answer { (pos 0 <ℤ (pos step)) → MatchOption (answer_of result.status result.value)
+    ensures answer { (pos 0 <ℤ pos step) → MatchOption (answer_of result.status result.value)
         ((t : ℤ) × IsNextCongruent (pos from) (pos first) (pos step) t × ¬ (FitsUnsignedBits 64 t))
         (λ t. IsNextCongruent (pos from) (pos first) (pos step) (pos t)) }
-    ensures bad_modulus { (result.status ≡ bad_modulus) ↔ ((pos step) ≤ℤ pos 0) }
+    ensures bad_modulus { (result.status ≡ bad_modulus) ↔ (pos step ≤ℤ pos 0) }
     ensures refusal { result.status ≢ 0 → (result.value ≡ 0)
         × ((result.status ≡ bad_modulus) ⊎ (result.status ≡ not_fitting)) }
 {
@@ -319,17 +323,18 @@ pub extern "C" fn cellarcove_next_common_solution_u64(
     b: u64,
     n: u64,
 ) -> U64Answer
-    ensures answer { (pos 0 <ℤ (pos m)) → (pos 0 <ℤ (pos n))
+    ensures answer { (pos 0 <ℤ pos m) → (pos 0 <ℤ pos n)
         → MatchCommonSolution (common_solution_of result.status result.value)
         ((x : ℤ) → ¬ (SolvesBothCongruences (pos a) (pos m) (pos b) (pos n) x))
-        ((t : ℤ) × IsNextCommonSolution (pos from) (pos a) (pos m) (pos b) (pos n) t × ¬ (FitsUnsignedBits 64 t))
+        ((t : ℤ) × IsNextCommonSolution (pos from) (pos a) (pos m) (pos b) (pos n) t
+        × ¬ (FitsUnsignedBits 64 t))
         (λ t. IsNextCommonSolution (pos from) (pos a) (pos m) (pos b) (pos n) (pos t)) }
-    ensures bad_modulus { (result.status ≡ bad_modulus) ↔ (((pos m) ≤ℤ pos 0) ⊎ ((pos n) ≤ℤ pos 0)) }
+    ensures bad_modulus { (result.status ≡ bad_modulus) ↔ ((pos m ≤ℤ pos 0) ⊎ (pos n ≤ℤ pos 0)) }
     ensures refusal { result.status ≢ 0 → (result.value ≡ 0)
         × ((result.status ≡ bad_modulus)
         ⊎ ((result.status ≡ not_fitting) ⊎ (result.status ≡ no_solution))) }
 {
-    if m <= 0 || n <= 0 {
+    if m == 0 || n == 0 {
         return U64Answer::none(BAD_MODULUS);
     }
     match next_common_solution(from, a, m, b, n) {

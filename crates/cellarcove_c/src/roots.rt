@@ -54,7 +54,7 @@ pub extern "C" fn cellarcove_sqrt_i64(x: i64) -> I64Answer
 /// See [`cellarcove_sqrt_i64`].
 #[unsafe(no_mangle)]
 pub extern "C" fn cellarcove_sqrt_u64(x: u64) -> U64Answer
-    ensures answer { AnswersWhere (pos 0 ≤ℤ (pos x)) (λ r. IsRoot (pos x) 2 (pos r))
+    ensures answer { AnswersWhere (pos 0 ≤ℤ pos x) (λ r. IsRoot (pos x) 2 (pos r))
         (answer_of result.status result.value) }
     ensures refusal { result.status ≢ 0 → result ≡ record { status = outside; value = 0 } }
 {
@@ -90,7 +90,8 @@ pub extern "C" fn cellarcove_nth_root_i64(x: i64, degree: u32) -> I64Answer
 /// See [`cellarcove_nth_root_i64`].
 #[unsafe(no_mangle)]
 pub extern "C" fn cellarcove_nth_root_u64(x: u64, degree: u32) -> U64Answer
-    ensures answer { AnswersWhere ((degree ≢ 0) × (degree % 2 ≡ 0 → pos 0 ≤ℤ (pos x))) (λ r. IsRoot (pos x) degree (pos r))
+    ensures answer { AnswersWhere ((degree ≢ 0) × (degree % 2 ≡ 0 → pos 0 ≤ℤ pos x))
+        (λ r. IsRoot (pos x) degree (pos r))
         (answer_of result.status result.value) }
     ensures refusal { result.status ≢ 0 → result ≡ record { status = outside; value = 0 } }
 {
