@@ -1,0 +1,231 @@
+/* Each call once or more: an answer, and each status that it has. What the answers are is proved; this tries that
+ * they reach C, field by field. */
+#include "cellarcove.h"
+
+#include <stdio.h>
+
+static int failed = 0;
+static int passed = 0;
+
+#define CHECK(claim)                                              \
+    do {                                                          \
+        if (claim) {                                              \
+            passed++;                                             \
+        } else {                                                  \
+            failed++;                                             \
+            printf("FAIL line %d: %s\n", __LINE__, #claim);       \
+        }                                                         \
+    } while (0)
+
+#define ANSWERS(call, wanted)                                     \
+    CHECK((call).status == CELLARCOVE_ANSWER && (call).value == (wanted))
+
+#define REFUSES(call, reason)                                     \
+    CHECK((call).status == (reason) && (call).value == 0)
+
+static void layout(void) {
+    CHECK(sizeof(cellarcove_i64_answer) == 16 && sizeof(cellarcove_u64_answer) == 16);
+    CHECK(sizeof(cellarcove_i64_division) == 24 && sizeof(cellarcove_u64_division) == 24);
+    CHECK(sizeof(cellarcove_i64_solutions) == 24 && sizeof(cellarcove_u64_solutions) == 24);
+    CHECK(sizeof(cellarcove_i64_bezout) == 32);
+    CHECK(sizeof(cellarcove_fraction) == 16 && sizeof(cellarcove_fraction_answer) == 24);
+    CHECK(sizeof(cellarcove_order_answer) == 8);
+    CHECK(sizeof(cellarcove_date) == 16 && sizeof(cellarcove_date_answer) == 24);
+    CHECK(sizeof(cellarcove_iso_week_answer) == 16);
+}
+
+static void division(void) {
+    cellarcove_i64_division d = cellarcove_div_rem_i64(-8, 3);
+    CHECK(d.status == CELLARCOVE_ANSWER && d.quotient == -2 && d.remainder == -2);
+    d = cellarcove_div_rem_i64(INT64_MIN, -1);
+    CHECK(d.status == CELLARCOVE_OUTSIDE && d.quotient == 0 && d.remainder == 0);
+    d = cellarcove_div_mod_floor_i64(-8, 3);
+    CHECK(d.status == CELLARCOVE_ANSWER && d.quotient == -3 && d.remainder == 1);
+    cellarcove_u64_division e = cellarcove_div_rem_u64(UINT64_MAX, 10);
+    CHECK(e.status == CELLARCOVE_ANSWER && e.quotient == UINT64_MAX / 10 && e.remainder == 5);
+    e = cellarcove_div_mod_floor_u64(8, 3);
+    CHECK(e.status == CELLARCOVE_ANSWER && e.quotient == 2 && e.remainder == 2);
+    e = cellarcove_div_mod_floor_u64(8, 0);
+    CHECK(e.status == CELLARCOVE_OUTSIDE && e.quotient == 0 && e.remainder == 0);
+    ANSWERS(cellarcove_div_floor_i64(-8, 3), -3);
+    REFUSES(cellarcove_div_floor_i64(1, 0), CELLARCOVE_OUTSIDE);
+    REFUSES(cellarcove_div_floor_i64(INT64_MIN, -1), CELLARCOVE_OUTSIDE);
+    ANSWERS(cellarcove_div_floor_u64(UINT64_MAX, 1), UINT64_MAX);
+    ANSWERS(cellarcove_div_ceil_i64(8, 3), 3);
+    ANSWERS(cellarcove_div_ceil_u64(9, 3), 3);
+    ANSWERS(cellarcove_mod_floor_i64(-8, 3), 1);
+    ANSWERS(cellarcove_mod_floor_i64(INT64_MIN, -1), 0);
+    ANSWERS(cellarcove_mod_floor_u64(8, 3), 2);
+    ANSWERS(cellarcove_next_multiple_of_i64(23, 8), 24);
+    REFUSES(cellarcove_next_multiple_of_i64(INT64_MAX, 2), CELLARCOVE_OUTSIDE);
+    ANSWERS(cellarcove_next_multiple_of_u64(23, 8), 24);
+    ANSWERS(cellarcove_prev_multiple_of_i64(-1, 8), -8);
+    ANSWERS(cellarcove_prev_multiple_of_u64(23, 8), 16);
+    CHECK(cellarcove_is_multiple_of_i64(-9, 3) && !cellarcove_is_multiple_of_i64(1, 0));
+    CHECK(cellarcove_is_multiple_of_u64(0, 0) && !cellarcove_is_multiple_of_u64(8, 3));
+}
+
+static void divisors(void) {
+    ANSWERS(cellarcove_gcd_i64(-56, 42), 14);
+    REFUSES(cellarcove_gcd_i64(INT64_MIN, 0), CELLARCOVE_OUTSIDE);
+    ANSWERS(cellarcove_gcd_u64(UINT64_MAX, 0), UINT64_MAX);
+    ANSWERS(cellarcove_lcm_i64(-4, 6), 12);
+    REFUSES(cellarcove_lcm_i64(INT64_MAX, 2), CELLARCOVE_OUTSIDE);
+    ANSWERS(cellarcove_lcm_u64(4, 6), 12);
+    cellarcove_i64_bezout e = cellarcove_extended_gcd_i64(240, 46);
+    CHECK(e.status == CELLARCOVE_ANSWER && e.gcd == 2 && e.x == -9 && e.y == 47);
+    e = cellarcove_extended_gcd_i64(INT64_MIN, INT64_MIN);
+    CHECK(e.status == CELLARCOVE_OUTSIDE && e.gcd == 0 && e.x == 0 && e.y == 0);
+}
+
+static void roots(void) {
+    CHECK(cellarcove_average_floor_i64(-2, -5) == -4 && cellarcove_average_ceil_i64(-2, -5) == -3);
+    CHECK(cellarcove_average_floor_u64(UINT64_MAX, UINT64_MAX) == UINT64_MAX);
+    CHECK(cellarcove_average_ceil_u64(3, 10) == 7);
+    ANSWERS(cellarcove_sqrt_i64(99), 9);
+    REFUSES(cellarcove_sqrt_i64(-1), CELLARCOVE_OUTSIDE);
+    ANSWERS(cellarcove_sqrt_u64(UINT64_MAX), UINT32_MAX);
+    CHECK(cellarcove_cbrt_i64(-9) == -2 && cellarcove_cbrt_u64(UINT64_MAX) == 2642245);
+    ANSWERS(cellarcove_nth_root_i64(-9, 3), -2);
+    REFUSES(cellarcove_nth_root_i64(-9, 2), CELLARCOVE_OUTSIDE);
+    ANSWERS(cellarcove_nth_root_u64(1024, 10), 2);
+    REFUSES(cellarcove_nth_root_u64(1024, 0), CELLARCOVE_OUTSIDE);
+}
+
+static void coefficients(void) {
+    uint64_t counts[] = {2, 1, 2};
+    ANSWERS(cellarcove_binomial_i64(11, 3), 165);
+    REFUSES(cellarcove_binomial_i64(-1, 3), CELLARCOVE_OUTSIDE);
+    ANSWERS(cellarcove_binomial_u64(67, 33), UINT64_C(14226520737620288370));
+    REFUSES(cellarcove_binomial_u64(68, 34), CELLARCOVE_OUTSIDE);
+    ANSWERS(cellarcove_multinomial_u64(counts, 3), 30);
+    ANSWERS(cellarcove_multinomial_u64(counts, 0), 1);
+}
+
+static void residues(void) {
+    ANSWERS(cellarcove_sum_modulo_i64(INT64_MAX, INT64_MAX, 10), 4);
+    ANSWERS(cellarcove_sum_modulo_u64(5, 4, 7), 2);
+    REFUSES(cellarcove_sum_modulo_i64(1, 1, -7), CELLARCOVE_BAD_MODULUS);
+    REFUSES(cellarcove_sum_modulo_u64(1, 1, 0), CELLARCOVE_BAD_MODULUS);
+    ANSWERS(cellarcove_difference_modulo_i64(2, 5, 7), 4);
+    ANSWERS(cellarcove_difference_modulo_u64(2, 5, 7), 4);
+    ANSWERS(cellarcove_product_modulo_i64(-4, 5, 7), 1);
+    ANSWERS(cellarcove_product_modulo_u64(4, 5, 7), 6);
+    ANSWERS(cellarcove_power_modulo_i64(-3, 3, 7), 1);
+    ANSWERS(cellarcove_power_modulo_u64(3, 4, 7), 4);
+    REFUSES(cellarcove_power_modulo_u64(3, 4, 0), CELLARCOVE_BAD_MODULUS);
+    ANSWERS(cellarcove_inverse_modulo_i64(-4, 7), 5);
+    REFUSES(cellarcove_inverse_modulo_i64(4, 6), CELLARCOVE_NO_SOLUTION);
+    REFUSES(cellarcove_inverse_modulo_i64(4, -6), CELLARCOVE_BAD_MODULUS);
+    ANSWERS(cellarcove_inverse_modulo_u64(3, 7), 5);
+}
+
+static void congruences(void) {
+    cellarcove_i64_solutions s = cellarcove_chinese_remainder_i64(1, 4, 3, 6);
+    CHECK(s.status == CELLARCOVE_ANSWER && s.first == 9 && s.step == 12);
+    s = cellarcove_chinese_remainder_i64(1, 4, 2, 6);
+    CHECK(s.status == CELLARCOVE_NO_SOLUTION && s.first == 0 && s.step == 0);
+    s = cellarcove_chinese_remainder_i64(1, INT64_MAX, 0, INT64_MAX - 1);
+    CHECK(s.status == CELLARCOVE_NOT_FITTING && s.first == 0 && s.step == 0);
+    s = cellarcove_chinese_remainder_i64(1, 4, 3, 0);
+    CHECK(s.status == CELLARCOVE_BAD_MODULUS && s.first == 0 && s.step == 0);
+    cellarcove_u64_solutions t = cellarcove_chinese_remainder_u64(1, 4, 3, 6);
+    CHECK(t.status == CELLARCOVE_ANSWER && t.first == 9 && t.step == 12);
+    ANSWERS(cellarcove_next_congruent_i64(-10, 1, 4), -7);
+    REFUSES(cellarcove_next_congruent_i64(INT64_MAX, 1, 4), CELLARCOVE_NOT_FITTING);
+    REFUSES(cellarcove_next_congruent_i64(10, 1, 0), CELLARCOVE_BAD_MODULUS);
+    ANSWERS(cellarcove_next_congruent_u64(10, 1, 4), 13);
+    ANSWERS(cellarcove_next_common_solution_i64(10, 1, 4, 3, 6), 21);
+    REFUSES(cellarcove_next_common_solution_i64(10, 1, 4, 2, 6), CELLARCOVE_NO_SOLUTION);
+    REFUSES(cellarcove_next_common_solution_i64(10, 1, 4, 3, -6), CELLARCOVE_BAD_MODULUS);
+    REFUSES(cellarcove_next_common_solution_i64(INT64_MAX, 1, 4, 3, 6), CELLARCOVE_NOT_FITTING);
+    ANSWERS(cellarcove_next_common_solution_u64(10, 1, 4, 3, 6), 21);
+}
+
+static cellarcove_fraction fraction(int64_t num, int64_t den) {
+    cellarcove_fraction f = {num, den};
+    return f;
+}
+
+static bool is_fraction(cellarcove_fraction_answer answer, int64_t num, int64_t den) {
+    return answer.status == CELLARCOVE_ANSWER && answer.value.num == num && answer.value.den == den;
+}
+
+static bool is_refused(cellarcove_fraction_answer answer, uint32_t status) {
+    return answer.status == status && answer.value.num == 0 && answer.value.den == 0;
+}
+
+static void fractions(void) {
+    cellarcove_fraction half = {1, 2}, third = {-1, -3}, none = {1, 0}, zero = {0, 5}, large = {INT64_MIN, -1};
+    CHECK(is_fraction(cellarcove_fraction_new(6, -4), -3, 2));
+    CHECK(is_refused(cellarcove_fraction_new(1, 0), CELLARCOVE_ZERO_DENOMINATOR));
+    CHECK(is_refused(cellarcove_fraction_new(INT64_MIN, -1), CELLARCOVE_NOT_FITTING));
+    CHECK(is_fraction(cellarcove_fraction_add(half, third), 5, 6));
+    CHECK(is_refused(cellarcove_fraction_add(half, none), CELLARCOVE_ZERO_DENOMINATOR));
+    CHECK(is_refused(cellarcove_fraction_add(large, half), CELLARCOVE_NOT_FITTING));
+    CHECK(is_fraction(cellarcove_fraction_sub(half, third), 1, 6));
+    CHECK(is_fraction(cellarcove_fraction_mul(half, third), 1, 6));
+    CHECK(is_fraction(cellarcove_fraction_div(half, third), 3, 2));
+    CHECK(is_refused(cellarcove_fraction_div(half, zero), CELLARCOVE_ZERO_DENOMINATOR));
+    CHECK(is_fraction(cellarcove_fraction_limit_denominator(fraction(3, 10), 5), 1, 3));
+    CHECK(is_refused(cellarcove_fraction_limit_denominator(half, 0), CELLARCOVE_OUTSIDE));
+    cellarcove_order_answer order = cellarcove_fraction_cmp(half, third);
+    CHECK(order.status == CELLARCOVE_ANSWER && order.order == 1);
+    order = cellarcove_fraction_cmp(third, half);
+    CHECK(order.status == CELLARCOVE_ANSWER && order.order == -1);
+    order = cellarcove_fraction_cmp(half, none);
+    CHECK(order.status == CELLARCOVE_ZERO_DENOMINATOR && order.order == 0);
+    ANSWERS(cellarcove_fraction_floor(fraction(-3, 2)), -2);
+    REFUSES(cellarcove_fraction_floor(none), CELLARCOVE_ZERO_DENOMINATOR);
+    ANSWERS(cellarcove_fraction_round(fraction(-3, 2)), -2);
+    REFUSES(cellarcove_fraction_round(large), CELLARCOVE_NOT_FITTING);
+}
+
+static cellarcove_date date(int64_t year, uint8_t month, uint8_t day_of_month) {
+    cellarcove_date d = {year, month, day_of_month};
+    return d;
+}
+
+static bool is_date(cellarcove_date d, int64_t year, int month, int day_of_month) {
+    return d.year == year && d.month == month && d.day_of_month == day_of_month;
+}
+
+static void dates(void) {
+    cellarcove_date end = {2000, 1, 31}, none = {1900, 2, 29}, far = {INT64_MAX, 12, 31};
+    CHECK(is_date(cellarcove_date_from_day(-1), 1969, 12, 31));
+    ANSWERS(cellarcove_day_from_date(date(2000, 2, 29)), 11016);
+    REFUSES(cellarcove_day_from_date(none), CELLARCOVE_NO_DATE);
+    REFUSES(cellarcove_day_from_date(far), CELLARCOVE_NOT_FITTING);
+    CHECK(cellarcove_weekday(0) == 4 && cellarcove_weekday(INT64_MIN) < 7);
+    cellarcove_date_answer later = cellarcove_plus_months(end, 1);
+    CHECK(later.status == CELLARCOVE_ANSWER && is_date(later.date, 2000, 2, 29));
+    later = cellarcove_plus_months(none, 1);
+    CHECK(later.status == CELLARCOVE_NO_DATE && is_date(later.date, 0, 0, 0));
+    later = cellarcove_plus_months(far, 1);
+    CHECK(later.status == CELLARCOVE_NOT_FITTING && is_date(later.date, 0, 0, 0));
+    cellarcove_iso_week_answer week = cellarcove_iso_week(date(2005, 1, 1));
+    CHECK(week.status == CELLARCOVE_ANSWER && week.week == 53 && week.year == 2004);
+    week = cellarcove_iso_week(none);
+    CHECK(week.status == CELLARCOVE_NO_DATE && week.week == 0 && week.year == 0);
+    cellarcove_date_answer day = cellarcove_date_from_iso_week(2009, 53, 0);
+    CHECK(day.status == CELLARCOVE_ANSWER && is_date(day.date, 2010, 1, 3));
+    day = cellarcove_date_from_iso_week(2010, 53, 0);
+    CHECK(day.status == CELLARCOVE_NO_DATE && is_date(day.date, 0, 0, 0));
+    day = cellarcove_date_from_iso_week(2009, 53, 7);
+    CHECK(day.status == CELLARCOVE_OUTSIDE && is_date(day.date, 0, 0, 0));
+    CHECK(is_date(cellarcove_easter(2024), 2024, 3, 31));
+}
+
+int main(void) {
+    layout();
+    division();
+    divisors();
+    roots();
+    coefficients();
+    residues();
+    congruences();
+    fractions();
+    dates();
+    printf("%d answers right, %d wrong\n", passed, failed);
+    return failed != 0;
+}

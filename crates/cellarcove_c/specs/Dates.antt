@@ -1,0 +1,10 @@
+-- Dates by their year, month and day of the month.
+use Rattle.std.specs.Prelude.{◌≡◌, ◌+ℤ◌, ℕ, ℤ, min}
+use Rattle.calendar.specs.Months.{month_number}
+use Rattle.calendar.specs.Years.{days_in_month}
+
+-- A date lies in the month that is `months` after that of another, on the same day of the month, or on the last where there is
+-- no such day.
+pub record IsMonthsLater (from_year : ℤ) (from_month from_day : ℕ) (months year : ℤ) (month day : ℕ) : Type 0 where
+  pub month_is : month_number year month ≡ month_number from_year from_month +ℤ months
+  pub day_is : day ≡ min from_day (days_in_month year month)

@@ -1,0 +1,48 @@
+//! Coefficients.
+
+ghost use Rattle.std.specs.Prelude.{◌≡◌, ◌≢◌, ◌≤ℤ◌, pos, map, FitsSigned};
+ghost use Rattle.std.specs.Int.{FitsUnsignedBits, w64};
+ghost use Rattle.num_integer.specs.Checked.{AnswersWhere};
+ghost use Rattle.num_integer.specs.Coefficient.{coefficient_of};
+ghost use Rattle.num_integer.specs.Multinomial.{IsMultinomial};
+ghost use Rattle.num_integer.specs.Range.{EachFits};
+ghost use Rattle.cellarcove_c.specs.Statuses.{answer_of, outside};
+
+use crate::answers::{I64Answer, U64Answer};
+use num_integer::checked;
+
+/// Returns the binomial coefficient of `n` and `k`. That of 11 and 3 is 165.
+#[unsafe(no_mangle)]
+pub extern "C" fn cellarcove_binomial_i64(n: i64, k: i64) -> I64Answer
+    ensures answer { AnswersWhere
+        ((pos 0 ≤ℤ n) × (pos 0 ≤ℤ k) × FitsSigned w64 (coefficient_of n k))
+        (λ c. c ≡ coefficient_of n k)
+        (answer_of result.status result.value) }
+    ensures refusal { result.status ≢ 0 → result ≡ record { status = outside; value = pos 0 } }
+{
+    I64Answer::of(checked::binomial(n, k))
+}
+
+/// See [`cellarcove_binomial_i64`].
+#[unsafe(no_mangle)]
+pub extern "C" fn cellarcove_binomial_u64(n: u64, k: u64) -> U64Answer
+    ensures answer { AnswersWhere
+        ((pos 0 ≤ℤ pos n) × (pos 0 ≤ℤ pos k) × FitsUnsignedBits 64 (coefficient_of (pos n) (pos k)))
+        (λ c. pos c ≡ coefficient_of (pos n) (pos k))
+        (answer_of result.status result.value) }
+    ensures refusal { result.status ≢ 0 → result ≡ record { status = outside; value = 0 } }
+{
+    U64Answer::of(checked::binomial(n, k))
+}
+
+/// Returns the multinomial of the counts. That of 2, 1 and 2 is 30.
+#[unsafe(no_mangle)]
+pub extern "C" fn cellarcove_multinomial_u64(counts: &[u64]) -> U64Answer
+    ensures answer { AnswersWhere
+        (EachFits (FitsUnsignedBits 64) (IsMultinomial (map (λ x. pos x) counts.now)))
+        (λ m. IsMultinomial (map (λ x. pos x) counts.now) (pos m))
+        (answer_of result.status result.value) }
+    ensures refusal { result.status ≢ 0 → result ≡ record { status = outside; value = 0 } }
+{
+    U64Answer::of(checked::multinomial(counts))
+}

@@ -1,0 +1,272 @@
+//! Dates of the proleptic Gregorian calendar, and days counted from 1970-01-01, which is day 0.
+
+ghost use Rattle.std.specs.Prelude.{◌≡◌, ◌≢◌, ◌⊎◌, ◌↔◌, ◌≤◌, ◌+ℤ◌, ℕ, ℤ, pos, FitsSigned, MatchOption};
+ghost use Rattle.std.specs.Int.{w64};
+ghost use Rattle.calendar.specs.Dates.{HasParts, number_of};
+ghost use Rattle.calendar.specs.Easter.{IsEaster};
+ghost use Rattle.calendar.specs.IsoWeeks.{HasDay, IsDayOfIsoWeek, IsInIsoWeek};
+ghost use Rattle.calendar.specs.Weekday.{weekday_number};
+ghost use Rattle.calendar.specs.Years.{IsDate, day_number};
+ghost use Rattle.calendar.specs.declared.weekday.Weekday.{Weekday};
+ghost use Rattle.num_integer.specs.Checked.{AnswersWhere};
+ghost use Rattle.num_integer.specs.Division.{IsFloored, IsRemainder};
+ghost use Rattle.cellarcove_c.specs.Dates.{IsMonthsLater};
+ghost use Rattle.cellarcove_c.specs.Statuses.{answer_of, no_date, not_fitting, outside};
+
+use crate::answers::{ANSWER, I64Answer, NO_DATE, NOT_FITTING, OUTSIDE};
+use calendar::{Weekday, easter, weekday_of};
+
+/// A date, where there is one of its year, month and day of the month.
+#[repr(C)]
+#[derive(Debug, Clone, Copy, PartialEq, Eq)]
+pub struct Date {
+    pub year: i64,
+    pub month: u8,
+    pub day_of_month: u8,
+}
+
+/// A status, and a date.
+#[repr(C)]
+#[derive(Debug, Clone, Copy, PartialEq, Eq)]
+pub struct DateAnswer {
+    pub status: u32,
+    pub date: Date,
+}
+
+/// A status, and a week of ISO 8601.
+#[repr(C)]
+#[derive(Debug, Clone, Copy, PartialEq, Eq)]
+pub struct IsoWeekAnswer {
+    pub status: u32,
+    pub week: u8,
+    pub year: i64,
+}
+
+/// Returns the date of a day. That of -1 is 1969-12-31.
+#[unsafe(no_mangle)]
+pub extern "C" fn cellarcove_date_from_day(day: i64) -> Date
+    ensures date { IsDate result.year result.month result.day_of_month }
+    ensures day { day_number result.year result.month result.day_of_month ≡ day }
+{
+    Date::of(&calendar::Date::from_day(day))
+}
+
+/// Returns the day of a date. That of 1969-12-31 is -1.
+#[unsafe(no_mangle)]
+pub extern "C" fn cellarcove_day_from_date(date: Date) -> I64Answer
+    ensures answer { AnswersWhere
+        (IsDate date.year date.month date.day_of_month
+        × FitsSigned w64 (day_number date.year date.month date.day_of_month))
+        (λ day. day ≡ day_number date.year date.month date.day_of_month)
+        (answer_of result.status result.value) }
+    ensures no_date { (result.status ≡ no_date)
+        ↔ (¬ (IsDate date.year date.month date.day_of_month)) }
+    ensures refusal { result.status ≢ 0 → (result.value ≡ pos 0)
+        × ((result.status ≡ no_date) ⊎ (result.status ≡ not_fitting)) }
+{
+    match date.found() {
+        Some(found) => match found.day() {
+            Some(day) => I64Answer::some(day),
+            None => I64Answer::none(NOT_FITTING),
+        },
+        None => I64Answer::none(NO_DATE),
+    }
+}
+
+/// Returns the day of the week of a day, from 0 for Sunday to 6 for Saturday. That of 0 is 4.
+#[unsafe(no_mangle)]
+pub extern "C" fn cellarcove_weekday(day: i64) -> u8
+    ensures { IsRemainder IsFloored (day +ℤ pos 4) (pos 7) (pos result) }
+{
+    number_of_weekday(weekday_of(day))
+}
+
+/// Returns the date `months` months after a date, or before it where `months` is negative. Its day of
+/// the month is the same, or the last one where its month is shorter. That of 2000-01-31 and 1 is
+/// 2000-02-29.
+#[unsafe(no_mangle)]
+pub extern "C" fn cellarcove_plus_months(date: Date, months: i64) -> DateAnswer
+    ensures answer { result.status ≡ 0
+        → IsDate result.date.year result.date.month result.date.day_of_month
+        × IsMonthsLater date.year date.month date.day_of_month months result.date.year
+        result.date.month result.date.day_of_month }
+    ensures no_date { (result.status ≡ no_date)
+        ↔ (¬ (IsDate date.year date.month date.day_of_month)) }
+    ensures not_fitting { result.status ≡ not_fitting → (year : ℤ) (month day : ℕ)
+        → IsDate year month day
+        → IsMonthsLater date.year date.month date.day_of_month months year month day
+        → ¬ (FitsSigned w64 year) }
+    ensures refusal { result.status ≢ 0
+        → (result.date ≡ record { year = pos 0; month = 0; day_of_month = 0 })
+        × ((result.status ≡ no_date) ⊎ (result.status ≡ not_fitting)) }
+{
+    match date.found() {
+        Some(found) => match found.plus_months(months) {
+            Some(later) => DateAnswer::some(&later),
+            None => DateAnswer::none(NOT_FITTING),
+        },
+        None => DateAnswer::none(NO_DATE),
+    }
+}
+
+/// Returns the week of ISO 8601 that has a date. That of 2005-01-01 is week 53 of 2004.
+#[unsafe(no_mangle)]
+pub extern "C" fn cellarcove_iso_week(date: Date) -> IsoWeekAnswer
+    ensures answer { result.status ≡ 0
+        → IsInIsoWeek (day_number date.year date.month date.day_of_month) result.year result.week }
+    ensures no_date { (result.status ≡ no_date)
+        ↔ (¬ (IsDate date.year date.month date.day_of_month)) }
+    ensures not_fitting { result.status ≡ not_fitting → (year : ℤ) (week : ℕ)
+        → IsInIsoWeek (day_number date.year date.month date.day_of_month) year week
+        → ¬ (FitsSigned w64 year) }
+    ensures refusal { result.status ≢ 0 → (result.year ≡ pos 0) × (result.week ≡ 0)
+        × ((result.status ≡ no_date) ⊎ (result.status ≡ not_fitting)) }
+{
+    match date.found() {
+        Some(found) => match found.iso_week() {
+            Some(week) => IsoWeekAnswer {
+                status: ANSWER,
+                week: week.week,
+                year: week.year,
+            },
+            None => IsoWeekAnswer::none(NOT_FITTING),
+        },
+        None => IsoWeekAnswer::none(NO_DATE),
+    }
+}
+
+/// Returns the date of a day of a week of ISO 8601, from 0 for Sunday to 6 for Saturday. That of 2009,
+/// 53 and 0 is 2010-01-03.
+#[unsafe(no_mangle)]
+pub extern "C" fn cellarcove_date_from_iso_week(year: i64, week: u8, weekday: u8) -> DateAnswer
+    ensures answer { result.status ≡ 0
+        → IsDate result.date.year result.date.month result.date.day_of_month
+        × ((w : Weekday) × (weekday_number w ≡ weekday) × IsDayOfIsoWeek
+        (day_number result.date.year result.date.month result.date.day_of_month) year week w) }
+    ensures outside { (result.status ≡ outside) ↔ (7 ≤ weekday) }
+    ensures no_date { result.status ≡ no_date → (w : Weekday) × (weekday_number w ≡ weekday)
+        × ((day y : ℤ) → IsDayOfIsoWeek day year week w → HasDay y day → ¬ (FitsSigned w64 y)) }
+    ensures refusal { result.status ≢ 0
+        → (result.date ≡ record { year = pos 0; month = 0; day_of_month = 0 })
+        × ((result.status ≡ outside) ⊎ (result.status ≡ no_date)) }
+{
+    match weekday_of_number(weekday) {
+        Some(weekday) => match calendar::Date::from_iso_week(year, week, weekday) {
+            Some(found) => DateAnswer::some(&found),
+            None => DateAnswer::none(NO_DATE),
+        },
+        None => DateAnswer::none(OUTSIDE),
+    }
+}
+
+/// Returns the date of Easter Sunday of a year, by the rules of today. That of 2024 is 2024-03-31.
+#[unsafe(no_mangle)]
+pub extern "C" fn cellarcove_easter(year: i64) -> Date
+    ensures year { result.year ≡ year }
+    ensures date { IsDate result.year result.month result.day_of_month }
+    ensures easter { IsEaster year (day_number result.year result.month result.day_of_month) }
+{
+    Date::of(&easter(year))
+}
+
+impl Date {
+    /// Returns the date of a date of the calendar.
+    fn of(date: &calendar::Date) -> Date
+        ensures parts { HasParts date.now result.year result.month result.day_of_month }
+        ensures date { IsDate result.year result.month result.day_of_month }
+        ensures number { day_number result.year result.month result.day_of_month ≡ number_of date.now }
+    {
+        Date {
+            year: date.year,
+            month: date.month,
+            day_of_month: date.day_of_month,
+        }
+    }
+
+    /// Returns the date of the calendar, or `None` where there is none.
+    fn found(self) -> Option<calendar::Date>
+        ensures { MatchOption result (¬ (IsDate self.year self.month self.day_of_month))
+            (λ date. IsDate self.year self.month self.day_of_month
+            × HasParts date self.year self.month self.day_of_month
+            × (number_of date ≡ day_number self.year self.month self.day_of_month)) }
+    {
+        calendar::Date::new(self.year, self.month, self.day_of_month)
+    }
+}
+
+impl DateAnswer {
+    /// Returns an answer.
+    fn some(date: &calendar::Date) -> DateAnswer
+        ensures status { result.status ≡ 0 }
+        ensures parts { HasParts date.now result.date.year result.date.month result.date.day_of_month }
+        ensures date { IsDate result.date.year result.date.month result.date.day_of_month }
+        ensures number { day_number result.date.year result.date.month result.date.day_of_month
+            ≡ number_of date.now }
+    {
+        DateAnswer {
+            status: ANSWER,
+            date: Date::of(date),
+        }
+    }
+
+    /// Returns a refusal.
+    fn none(status: u32) -> DateAnswer
+        ensures { result ≡ record {
+          status = status;
+          date = record { year = pos 0; month = 0; day_of_month = 0 };
+        } }
+    {
+        DateAnswer {
+            status,
+            date: Date {
+                year: 0,
+                month: 0,
+                day_of_month: 0,
+            },
+        }
+    }
+}
+
+impl IsoWeekAnswer {
+    /// Returns a refusal.
+    fn none(status: u32) -> IsoWeekAnswer
+        ensures { result ≡ record { status = status; week = 0; year = pos 0 } }
+    {
+        IsoWeekAnswer {
+            status,
+            week: 0,
+            year: 0,
+        }
+    }
+}
+
+/// Returns the number of a day of the week, which is 0 for Sunday.
+fn number_of_weekday(weekday: Weekday) -> u8
+    ensures { result ≡ weekday_number weekday }
+{
+    match weekday {
+        Weekday::Sunday => 0,
+        Weekday::Monday => 1,
+        Weekday::Tuesday => 2,
+        Weekday::Wednesday => 3,
+        Weekday::Thursday => 4,
+        Weekday::Friday => 5,
+        Weekday::Saturday => 6,
+    }
+}
+
+/// Returns the day of the week of a number.
+fn weekday_of_number(number: u8) -> Option<Weekday>
+    ensures { MatchOption result (7 ≤ number) (λ weekday. weekday_number weekday ≡ number) }
+{
+    match number {
+        0 => Some(Weekday::Sunday),
+        1 => Some(Weekday::Monday),
+        2 => Some(Weekday::Tuesday),
+        3 => Some(Weekday::Wednesday),
+        4 => Some(Weekday::Thursday),
+        5 => Some(Weekday::Friday),
+        6 => Some(Weekday::Saturday),
+        _ => None,
+    }
+}

@@ -1,0 +1,255 @@
+//! Division.
+
+ghost use Rattle.std.specs.Prelude.{◌≡◌, ◌≢◌, ◌↔◌, pos, FitsSigned, IsTrue};
+ghost use Rattle.std.specs.Int.{FitsUnsignedBits, w64};
+ghost use Rattle.num_integer.specs.Checked.{AnswersWhere};
+ghost use Rattle.num_integer.specs.Division.{IsCeiled, IsFloored, IsMultiple, IsQuotient, IsRemainder, IsTruncated};
+ghost use Rattle.num_integer.specs.Divisors.{Divides};
+ghost use Rattle.num_integer.specs.Range.{EachFits};
+ghost use Rattle.cellarcove_c.specs.Statuses.{answer_of, outside};
+
+use crate::answers::{ANSWER, I64Answer, OUTSIDE, U64Answer};
+use num_integer::{Integer, checked};
+
+/// A status, and a quotient with its remainder.
+#[repr(C)]
+#[derive(Debug, Clone, Copy, PartialEq, Eq)]
+pub struct I64Division {
+    pub status: u32,
+    pub quotient: i64,
+    pub remainder: i64,
+}
+
+/// A status, and a quotient with its remainder.
+#[repr(C)]
+#[derive(Debug, Clone, Copy, PartialEq, Eq)]
+pub struct U64Division {
+    pub status: u32,
+    pub quotient: u64,
+    pub remainder: u64,
+}
+
+/// Returns the quotient rounded toward 0, and its remainder. Those of -8 by 3 are -2 and -2.
+#[unsafe(no_mangle)]
+pub extern "C" fn cellarcove_div_rem_i64(x: i64, y: i64) -> I64Division
+    ensures answer { AnswersWhere
+        ((y ≢ pos 0) × EachFits (FitsSigned w64) (IsQuotient IsTruncated x y))
+        (λ (q, r). IsTruncated x y q r)
+        (answer_of result.status (result.quotient, result.remainder)) }
+    ensures refusal { result.status ≢ 0
+        → result ≡ record { status = outside; quotient = pos 0; remainder = pos 0 } }
+{
+    I64Division::of(checked::div_rem(x, y))
+}
+
+/// See [`cellarcove_div_rem_i64`].
+#[unsafe(no_mangle)]
+pub extern "C" fn cellarcove_div_rem_u64(x: u64, y: u64) -> U64Division
+    ensures answer { AnswersWhere
+        ((pos y ≢ pos 0) × EachFits (FitsUnsignedBits 64) (IsQuotient IsTruncated (pos x) (pos y)))
+        (λ (q, r). IsTruncated (pos x) (pos y) (pos q) (pos r))
+        (answer_of result.status (result.quotient, result.remainder)) }
+    ensures refusal { result.status ≢ 0
+        → result ≡ record { status = outside; quotient = 0; remainder = 0 } }
+{
+    U64Division::of(checked::div_rem(x, y))
+}
+
+/// Returns the quotient rounded down. That of -8 by 3 is -3.
+#[unsafe(no_mangle)]
+pub extern "C" fn cellarcove_div_floor_i64(x: i64, y: i64) -> I64Answer
+    ensures answer { AnswersWhere
+        ((y ≢ pos 0) × EachFits (FitsSigned w64) (IsQuotient IsFloored x y)) (IsQuotient IsFloored x y)
+        (answer_of result.status result.value) }
+    ensures refusal { result.status ≢ 0 → result ≡ record { status = outside; value = pos 0 } }
+{
+    I64Answer::of(checked::div_floor(x, y))
+}
+
+/// See [`cellarcove_div_floor_i64`].
+#[unsafe(no_mangle)]
+pub extern "C" fn cellarcove_div_floor_u64(x: u64, y: u64) -> U64Answer
+    ensures answer { AnswersWhere
+        ((pos y ≢ pos 0) × EachFits (FitsUnsignedBits 64) (IsQuotient IsFloored (pos x) (pos y)))
+        (λ q. IsQuotient IsFloored (pos x) (pos y) (pos q))
+        (answer_of result.status result.value) }
+    ensures refusal { result.status ≢ 0 → result ≡ record { status = outside; value = 0 } }
+{
+    U64Answer::of(checked::div_floor(x, y))
+}
+
+/// Returns the quotient rounded up. That of 8 by 3 is 3.
+#[unsafe(no_mangle)]
+pub extern "C" fn cellarcove_div_ceil_i64(x: i64, y: i64) -> I64Answer
+    ensures answer { AnswersWhere
+        ((y ≢ pos 0) × EachFits (FitsSigned w64) (IsQuotient IsCeiled x y)) (IsQuotient IsCeiled x y)
+        (answer_of result.status result.value) }
+    ensures refusal { result.status ≢ 0 → result ≡ record { status = outside; value = pos 0 } }
+{
+    I64Answer::of(checked::div_ceil(x, y))
+}
+
+/// See [`cellarcove_div_ceil_i64`].
+#[unsafe(no_mangle)]
+pub extern "C" fn cellarcove_div_ceil_u64(x: u64, y: u64) -> U64Answer
+    ensures answer { AnswersWhere
+        ((pos y ≢ pos 0) × EachFits (FitsUnsignedBits 64) (IsQuotient IsCeiled (pos x) (pos y)))
+        (λ q. IsQuotient IsCeiled (pos x) (pos y) (pos q))
+        (answer_of result.status result.value) }
+    ensures refusal { result.status ≢ 0 → result ≡ record { status = outside; value = 0 } }
+{
+    U64Answer::of(checked::div_ceil(x, y))
+}
+
+/// Returns the remainder of the quotient rounded down. That of -8 by 3 is 1.
+#[unsafe(no_mangle)]
+pub extern "C" fn cellarcove_mod_floor_i64(x: i64, y: i64) -> I64Answer
+    ensures answer { AnswersWhere (y ≢ pos 0) (IsRemainder IsFloored x y)
+        (answer_of result.status result.value) }
+    ensures refusal { result.status ≢ 0 → result ≡ record { status = outside; value = pos 0 } }
+{
+    I64Answer::of(checked::mod_floor(x, y))
+}
+
+/// See [`cellarcove_mod_floor_i64`].
+#[unsafe(no_mangle)]
+pub extern "C" fn cellarcove_mod_floor_u64(x: u64, y: u64) -> U64Answer
+    ensures answer { AnswersWhere (pos y ≢ pos 0)
+        (λ r. IsRemainder IsFloored (pos x) (pos y) (pos r))
+        (answer_of result.status result.value) }
+    ensures refusal { result.status ≢ 0 → result ≡ record { status = outside; value = 0 } }
+{
+    U64Answer::of(checked::mod_floor(x, y))
+}
+
+/// Returns the quotient rounded down, and its remainder. Those of -8 by 3 are -3 and 1.
+#[unsafe(no_mangle)]
+pub extern "C" fn cellarcove_div_mod_floor_i64(x: i64, y: i64) -> I64Division
+    ensures answer { AnswersWhere
+        ((y ≢ pos 0) × EachFits (FitsSigned w64) (IsQuotient IsFloored x y))
+        (λ (q, r). IsFloored x y q r)
+        (answer_of result.status (result.quotient, result.remainder)) }
+    ensures refusal { result.status ≢ 0
+        → result ≡ record { status = outside; quotient = pos 0; remainder = pos 0 } }
+{
+    I64Division::of(checked::div_mod_floor(x, y))
+}
+
+/// See [`cellarcove_div_mod_floor_i64`].
+#[unsafe(no_mangle)]
+pub extern "C" fn cellarcove_div_mod_floor_u64(x: u64, y: u64) -> U64Division
+    ensures answer { AnswersWhere
+        ((pos y ≢ pos 0) × EachFits (FitsUnsignedBits 64) (IsQuotient IsFloored (pos x) (pos y)))
+        (λ (q, r). IsFloored (pos x) (pos y) (pos q) (pos r))
+        (answer_of result.status (result.quotient, result.remainder)) }
+    ensures refusal { result.status ≢ 0
+        → result ≡ record { status = outside; quotient = 0; remainder = 0 } }
+{
+    U64Division::of(checked::div_mod_floor(x, y))
+}
+
+/// Returns the quotient rounded up, times `y`. For 23 and 8 it is 24.
+#[unsafe(no_mangle)]
+pub extern "C" fn cellarcove_next_multiple_of_i64(x: i64, y: i64) -> I64Answer
+    ensures answer { AnswersWhere
+        ((y ≢ pos 0) × EachFits (FitsSigned w64) (IsMultiple IsCeiled x y)) (IsMultiple IsCeiled x y)
+        (answer_of result.status result.value) }
+    ensures refusal { result.status ≢ 0 → result ≡ record { status = outside; value = pos 0 } }
+{
+    I64Answer::of(checked::next_multiple_of(x, y))
+}
+
+/// See [`cellarcove_next_multiple_of_i64`].
+#[unsafe(no_mangle)]
+pub extern "C" fn cellarcove_next_multiple_of_u64(x: u64, y: u64) -> U64Answer
+    ensures answer { AnswersWhere
+        ((pos y ≢ pos 0) × EachFits (FitsUnsignedBits 64) (IsMultiple IsCeiled (pos x) (pos y)))
+        (λ m. IsMultiple IsCeiled (pos x) (pos y) (pos m))
+        (answer_of result.status result.value) }
+    ensures refusal { result.status ≢ 0 → result ≡ record { status = outside; value = 0 } }
+{
+    U64Answer::of(checked::next_multiple_of(x, y))
+}
+
+/// Returns the quotient rounded down, times `y`. For 23 and 8 it is 16.
+#[unsafe(no_mangle)]
+pub extern "C" fn cellarcove_prev_multiple_of_i64(x: i64, y: i64) -> I64Answer
+    ensures answer { AnswersWhere
+        ((y ≢ pos 0) × EachFits (FitsSigned w64) (IsMultiple IsFloored x y)) (IsMultiple IsFloored x y)
+        (answer_of result.status result.value) }
+    ensures refusal { result.status ≢ 0 → result ≡ record { status = outside; value = pos 0 } }
+{
+    I64Answer::of(checked::prev_multiple_of(x, y))
+}
+
+/// See [`cellarcove_prev_multiple_of_i64`].
+#[unsafe(no_mangle)]
+pub extern "C" fn cellarcove_prev_multiple_of_u64(x: u64, y: u64) -> U64Answer
+    ensures answer { AnswersWhere
+        ((pos y ≢ pos 0) × EachFits (FitsUnsignedBits 64) (IsMultiple IsFloored (pos x) (pos y)))
+        (λ m. IsMultiple IsFloored (pos x) (pos y) (pos m))
+        (answer_of result.status result.value) }
+    ensures refusal { result.status ≢ 0 → result ≡ record { status = outside; value = 0 } }
+{
+    U64Answer::of(checked::prev_multiple_of(x, y))
+}
+
+/// Returns `true` if `x` is a multiple of `y`. Of 0 only 0 is one.
+#[unsafe(no_mangle)]
+pub extern "C" fn cellarcove_is_multiple_of_i64(x: i64, y: i64) -> bool
+    ensures { IsTrue result ↔ Divides y x }
+{
+    Integer::is_multiple_of(&x, &y)
+}
+
+/// See [`cellarcove_is_multiple_of_i64`].
+#[unsafe(no_mangle)]
+pub extern "C" fn cellarcove_is_multiple_of_u64(x: u64, y: u64) -> bool
+    ensures { IsTrue result ↔ Divides (pos y) (pos x) }
+{
+    Integer::is_multiple_of(&x, &y)
+}
+
+impl I64Division {
+    /// Returns the answer of a call of `num_integer::checked`.
+    fn of(option: Option<(i64, i64)>) -> I64Division
+        ensures answer { answer_of result.status (result.quotient, result.remainder) ≡ option }
+        ensures refusal { result.status ≢ 0
+            → result ≡ record { status = outside; quotient = pos 0; remainder = pos 0 } }
+    {
+        match option {
+            Some((quotient, remainder)) => I64Division {
+                status: ANSWER,
+                quotient,
+                remainder,
+            },
+            None => I64Division {
+                status: OUTSIDE,
+                quotient: 0,
+                remainder: 0,
+            },
+        }
+    }
+}
+
+impl U64Division {
+    /// Returns the answer of a call of `num_integer::checked`.
+    fn of(option: Option<(u64, u64)>) -> U64Division
+        ensures answer { answer_of result.status (result.quotient, result.remainder) ≡ option }
+        ensures refusal { result.status ≢ 0
+            → result ≡ record { status = outside; quotient = 0; remainder = 0 } }
+    {
+        match option {
+            Some((quotient, remainder)) => U64Division {
+                status: ANSWER,
+                quotient,
+                remainder,
+            },
+            None => U64Division {
+                status: OUTSIDE,
+                quotient: 0,
+                remainder: 0,
+            },
+        }
+    }
+}

@@ -1,0 +1,108 @@
+//! Common divisors and multiples.
+
+ghost use Rattle.std.specs.Prelude.{◌≡◌, ◌≢◌, pos, FitsSigned};
+ghost use Rattle.std.specs.Int.{FitsUnsignedBits, w64};
+ghost use Rattle.num_integer.specs.Bezout.{HasPair, IsBezoutAnswer};
+ghost use Rattle.num_integer.specs.Checked.{AnswersWhere};
+ghost use Rattle.num_integer.specs.Divisors.{GcdFits, IsGreatestCommonDivisor, IsLeastCommonMultiple};
+ghost use Rattle.num_integer.specs.Range.{EachFits};
+ghost use Rattle.cellarcove_c.specs.Statuses.{answer_of, outside};
+
+use crate::answers::{ANSWER, I64Answer, OUTSIDE, U64Answer};
+use num_integer::{ExtendedGcd, checked};
+
+/// A status, and the greatest common divisor with Bezout's coefficients.
+#[repr(C)]
+#[derive(Debug, Clone, Copy, PartialEq, Eq)]
+pub struct I64Bezout {
+    pub status: u32,
+    pub gcd: i64,
+    pub x: i64,
+    pub y: i64,
+}
+
+/// Returns the greatest common divisor. That of -56 and 42 is 14.
+#[unsafe(no_mangle)]
+pub extern "C" fn cellarcove_gcd_i64(x: i64, y: i64) -> I64Answer
+    ensures answer { AnswersWhere (GcdFits (FitsSigned w64) x y) (IsGreatestCommonDivisor x y)
+        (answer_of result.status result.value) }
+    ensures refusal { result.status ≢ 0 → result ≡ record { status = outside; value = pos 0 } }
+{
+    I64Answer::of(checked::gcd(x, y))
+}
+
+/// See [`cellarcove_gcd_i64`].
+#[unsafe(no_mangle)]
+pub extern "C" fn cellarcove_gcd_u64(x: u64, y: u64) -> U64Answer
+    ensures answer { AnswersWhere (GcdFits (FitsUnsignedBits 64) (pos x) (pos y))
+        (λ g. IsGreatestCommonDivisor (pos x) (pos y) (pos g))
+        (answer_of result.status result.value) }
+    ensures refusal { result.status ≢ 0 → result ≡ record { status = outside; value = 0 } }
+{
+    U64Answer::of(checked::gcd(x, y))
+}
+
+/// Returns the least common multiple. That of 4 and 6 is 12.
+#[unsafe(no_mangle)]
+pub extern "C" fn cellarcove_lcm_i64(x: i64, y: i64) -> I64Answer
+    ensures answer { AnswersWhere (EachFits (FitsSigned w64) (IsLeastCommonMultiple x y))
+        (IsLeastCommonMultiple x y) (answer_of result.status result.value) }
+    ensures refusal { result.status ≢ 0 → result ≡ record { status = outside; value = pos 0 } }
+{
+    I64Answer::of(checked::lcm(x, y))
+}
+
+/// See [`cellarcove_lcm_i64`].
+#[unsafe(no_mangle)]
+pub extern "C" fn cellarcove_lcm_u64(x: u64, y: u64) -> U64Answer
+    ensures answer { AnswersWhere
+        (EachFits (FitsUnsignedBits 64) (IsLeastCommonMultiple (pos x) (pos y)))
+        (λ l. IsLeastCommonMultiple (pos x) (pos y) (pos l))
+        (answer_of result.status result.value) }
+    ensures refusal { result.status ≢ 0 → result ≡ record { status = outside; value = 0 } }
+{
+    U64Answer::of(checked::lcm(x, y))
+}
+
+/// Returns the greatest common divisor and Bezout's coefficients: `x` times the first number and `y`
+/// times the second add up to it. For 240 and 46 they are 2, -9 and 47.
+#[unsafe(no_mangle)]
+pub extern "C" fn cellarcove_extended_gcd_i64(x: i64, y: i64) -> I64Bezout
+    ensures answer { AnswersWhere
+        (GcdFits (FitsSigned w64) x y × HasPair (FitsSigned w64) x y)
+        (λ (g, u, v). IsBezoutAnswer x y g u v)
+        (answer_of result.status (result.gcd, result.x, result.y)) }
+    ensures refusal { result.status ≢ 0
+        → result ≡ record { status = outside; gcd = pos 0; x = pos 0; y = pos 0 } }
+{
+    match checked::extended_gcd(x, y) {
+        Some(e) => I64Bezout::some(e),
+        None => I64Bezout::none(),
+    }
+}
+
+impl I64Bezout {
+    /// Returns an answer.
+    fn some(e: ExtendedGcd<i64>) -> I64Bezout
+        ensures { result ≡ record { status = 0; gcd = e.gcd; x = e.x; y = e.y } }
+    {
+        I64Bezout {
+            status: ANSWER,
+            gcd: e.gcd,
+            x: e.x,
+            y: e.y,
+        }
+    }
+
+    /// Returns the refusal.
+    fn none() -> I64Bezout
+        ensures { result ≡ record { status = outside; gcd = pos 0; x = pos 0; y = pos 0 } }
+    {
+        I64Bezout {
+            status: OUTSIDE,
+            gcd: 0,
+            x: 0,
+            y: 0,
+        }
+    }
+}

@@ -1,0 +1,301 @@
+//! Exact fractions. A fraction that is passed is reduced first, and a part of it that does not fit
+//! then is refused.
+
+ghost use Rattle.std.specs.Prelude.{◌≡◌, ◌⊎◌, ◌<ℤ◌, ◌≤ℤ◌, ◌+ℤ◌, ◌-ℤ◌, ◌*ℤ◌, pos, Result, Err, MatchResult};
+ghost use Rattle.std.specs.declared.cmp.Ordering.{Ordering};
+ghost use Rattle.num_integer.specs.Division.{IsFloored, IsQuotient};
+ghost use Rattle.ratio64.specs.Fraction.{fraction_cmp};
+ghost use Rattle.ratio64.specs.Limiting.{IsNearestWithin};
+ghost use Rattle.ratio64.specs.Ratio.{AnswersFraction, den_of, num_of};
+ghost use Rattle.ratio64.specs.RatioError.{number_of};
+ghost use Rattle.ratio64.specs.Rounding.{IsRounded};
+ghost use Rattle.ratio64.specs.declared.error.RatioError.{RatioError};
+ghost use Rattle.ratio64.specs.declared.fraction.Ratio.{Ratio};
+ghost use Rattle.cellarcove_c.specs.Fractions.{OnBoth, StandsFor, StandsForNumber, order_number};
+ghost use Rattle.cellarcove_c.specs.Statuses.{outside};
+
+use crate::answers::{ANSWER, I64Answer, OUTSIDE};
+use ratio64::{Ratio, RatioError};
+use std::cmp::Ordering;
+
+/// The parts of a fraction.
+#[repr(C)]
+#[derive(Debug, Clone, Copy, PartialEq, Eq)]
+pub struct Fraction {
+    pub num: i64,
+    pub den: i64,
+}
+
+/// A status, and a fraction, which is reduced.
+#[repr(C)]
+#[derive(Debug, Clone, Copy, PartialEq, Eq)]
+pub struct FractionAnswer {
+    pub status: u32,
+    pub value: Fraction,
+}
+
+/// A status, and an order: -1, 0 or 1.
+#[repr(C)]
+#[derive(Debug, Clone, Copy, PartialEq, Eq)]
+pub struct OrderAnswer {
+    pub status: u32,
+    pub order: i32,
+}
+
+/// Returns the fraction `num / den`, reduced. That of 6 and -4 is -3/2.
+#[unsafe(no_mangle)]
+pub extern "C" fn cellarcove_fraction_new(num: i64, den: i64) -> FractionAnswer
+    ensures { (r : Result Ratio RatioError) × AnswersFraction num den r
+        × StandsFor r result.status result.value.num result.value.den }
+{
+    FractionAnswer::of(Ratio::new(num, den))
+}
+
+/// Returns the sum. That of 1/2 and 1/3 is 5/6.
+#[unsafe(no_mangle)]
+pub extern "C" fn cellarcove_fraction_add(a: Fraction, b: Fraction) -> FractionAnswer
+    ensures { (p q r : Result Ratio RatioError) × AnswersFraction a.num a.den p
+        × AnswersFraction b.num b.den q
+        × OnBoth p q
+        (λ x y. AnswersFraction (num_of x *ℤ den_of y +ℤ num_of y *ℤ den_of x)
+        (den_of x *ℤ den_of y) r)
+        (λ e. r ≡ Err e)
+        × StandsFor r result.status result.value.num result.value.den }
+{
+    FractionAnswer::of(sum(a.reduced(), b.reduced()))
+}
+
+/// Returns the difference. That of 1/2 and 1/3 is 1/6.
+#[unsafe(no_mangle)]
+pub extern "C" fn cellarcove_fraction_sub(a: Fraction, b: Fraction) -> FractionAnswer
+    ensures { (p q r : Result Ratio RatioError) × AnswersFraction a.num a.den p
+        × AnswersFraction b.num b.den q
+        × OnBoth p q
+        (λ x y. AnswersFraction (num_of x *ℤ den_of y -ℤ num_of y *ℤ den_of x)
+        (den_of x *ℤ den_of y) r)
+        (λ e. r ≡ Err e)
+        × StandsFor r result.status result.value.num result.value.den }
+{
+    FractionAnswer::of(difference(a.reduced(), b.reduced()))
+}
+
+/// Returns the product. That of 2/3 and 3/4 is 1/2.
+#[unsafe(no_mangle)]
+pub extern "C" fn cellarcove_fraction_mul(a: Fraction, b: Fraction) -> FractionAnswer
+    ensures { (p q r : Result Ratio RatioError) × AnswersFraction a.num a.den p
+        × AnswersFraction b.num b.den q
+        × OnBoth p q
+        (λ x y. AnswersFraction (num_of x *ℤ num_of y)
+        (den_of x *ℤ den_of y) r)
+        (λ e. r ≡ Err e)
+        × StandsFor r result.status result.value.num result.value.den }
+{
+    FractionAnswer::of(product(a.reduced(), b.reduced()))
+}
+
+/// Returns the quotient. That of -1/2 and -3/4 is 2/3.
+#[unsafe(no_mangle)]
+pub extern "C" fn cellarcove_fraction_div(a: Fraction, b: Fraction) -> FractionAnswer
+    ensures { (p q r : Result Ratio RatioError) × AnswersFraction a.num a.den p
+        × AnswersFraction b.num b.den q
+        × OnBoth p q
+        (λ x y. AnswersFraction (num_of x *ℤ den_of y)
+        (num_of y *ℤ den_of x) r)
+        (λ e. r ≡ Err e)
+        × StandsFor r result.status result.value.num result.value.den }
+{
+    FractionAnswer::of(quotient(a.reduced(), b.reduced()))
+}
+
+/// Returns -1, 0 or 1 where `a` is below, equal to or above `b`. For 1/2 and 1/3 it is 1.
+#[unsafe(no_mangle)]
+pub extern "C" fn cellarcove_fraction_cmp(a: Fraction, b: Fraction) -> OrderAnswer
+    ensures { (p q : Result Ratio RatioError) × AnswersFraction a.num a.den p
+        × AnswersFraction b.num b.den q
+        × OnBoth p q
+        (λ x y. (result.status ≡ 0) × (result.order
+        ≡ order_number (fraction_cmp (num_of x) (den_of x) (num_of y) (den_of y))))
+        (λ e. (result.status ≡ number_of e) × (result.order ≡ pos 0)) }
+{
+    order(a.reduced(), b.reduced())
+}
+
+/// Returns the fraction rounded down. That of -3/2 is -2.
+#[unsafe(no_mangle)]
+pub extern "C" fn cellarcove_fraction_floor(a: Fraction) -> I64Answer
+    ensures { (p : Result Ratio RatioError) × AnswersFraction a.num a.den p
+        × StandsForNumber p result.status result.value
+        (λ x. IsQuotient IsFloored (num_of x) (den_of x) result.value) }
+{
+    match a.reduced() {
+        Ok(x) => I64Answer::some(x.floor()),
+        Err(error) => I64Answer::none(error.number()),
+    }
+}
+
+/// Returns the nearest whole number, and of two that are equally near the one farther from 0. That of
+/// -3/2 is -2.
+#[unsafe(no_mangle)]
+pub extern "C" fn cellarcove_fraction_round(a: Fraction) -> I64Answer
+    ensures { (p : Result Ratio RatioError) × AnswersFraction a.num a.den p
+        × StandsForNumber p result.status result.value
+        (λ x. IsRounded (num_of x) (den_of x) result.value) }
+{
+    match a.reduced() {
+        Ok(x) => I64Answer::some(x.round()),
+        Err(error) => I64Answer::none(error.number()),
+    }
+}
+
+/// Returns the nearest fraction whose denominator is at most `max`, which is above 0. That of 3/10 and
+/// 5 is 1/3.
+#[unsafe(no_mangle)]
+pub extern "C" fn cellarcove_fraction_limit_denominator(a: Fraction, max: i64) -> FractionAnswer
+    ensures outside { max ≤ℤ pos 0
+        → result ≡ record { status = outside; value = record { num = pos 0; den = pos 0 } } }
+    ensures nearest { (pos 0 <ℤ max) → (p : Result Ratio RatioError) × AnswersFraction a.num a.den p
+        × MatchResult p
+        (λ x. (result.status ≡ 0)
+        × IsNearestWithin (num_of x) (den_of x) max result.value.num result.value.den)
+        (λ e. result ≡ record { status = number_of e; value = record { num = pos 0; den = pos 0 } }) }
+{
+    if max <= 0 {
+        return FractionAnswer::none(OUTSIDE);
+    }
+    match a.reduced() {
+        Ok(x) => FractionAnswer::some(&x.limit_denominator(max)),
+        Err(error) => FractionAnswer::none(error.number()),
+    }
+}
+
+impl Fraction {
+    /// Returns the reduced fraction.
+    fn reduced(self) -> Result<Ratio, RatioError>
+        ensures { AnswersFraction self.num self.den result }
+    {
+        Ratio::new(self.num, self.den)
+    }
+}
+
+impl FractionAnswer {
+    /// Returns a result as an answer.
+    fn of(answered: Result<Ratio, RatioError>) -> FractionAnswer
+        ensures { StandsFor answered result.status result.value.num result.value.den }
+    {
+        match answered {
+            Ok(ratio) => FractionAnswer::some(&ratio),
+            Err(error) => FractionAnswer::none(error.number()),
+        }
+    }
+
+    /// Returns an answer.
+    fn some(ratio: &Ratio) -> FractionAnswer
+        ensures { result ≡ record {
+          status = 0;
+          value = record { num = num_of ratio.now; den = den_of ratio.now };
+        } }
+    {
+        FractionAnswer {
+            status: ANSWER,
+            value: Fraction {
+                num: ratio.num(),
+                den: ratio.den(),
+            },
+        }
+    }
+
+    /// Returns a refusal.
+    fn none(status: u32) -> FractionAnswer
+        ensures { result ≡ record { status = status; value = record { num = pos 0; den = pos 0 } } }
+    {
+        FractionAnswer {
+            status,
+            value: Fraction { num: 0, den: 0 },
+        }
+    }
+}
+
+impl OrderAnswer {
+    /// Returns a refusal.
+    fn none(error: RatioError) -> OrderAnswer
+        ensures { result ≡ record { status = number_of error; order = pos 0 } }
+    {
+        OrderAnswer {
+            status: error.number(),
+            order: 0,
+        }
+    }
+}
+
+/// Returns the sum of two fractions, or the first error.
+fn sum(a: Result<Ratio, RatioError>, b: Result<Ratio, RatioError>) -> Result<Ratio, RatioError>
+    ensures { OnBoth a b
+        (λ x y. AnswersFraction (num_of x *ℤ den_of y +ℤ num_of y *ℤ den_of x)
+        (den_of x *ℤ den_of y) result)
+        (λ e. result ≡ Err e) }
+{
+    a?.checked_add(&b?)
+}
+
+/// Returns the difference of two fractions, or the first error.
+fn difference(
+    a: Result<Ratio, RatioError>,
+    b: Result<Ratio, RatioError>,
+) -> Result<Ratio, RatioError>
+    ensures { OnBoth a b
+        (λ x y. AnswersFraction (num_of x *ℤ den_of y -ℤ num_of y *ℤ den_of x)
+        (den_of x *ℤ den_of y) result)
+        (λ e. result ≡ Err e) }
+{
+    a?.checked_sub(&b?)
+}
+
+/// Returns the product of two fractions, or the first error.
+fn product(a: Result<Ratio, RatioError>, b: Result<Ratio, RatioError>) -> Result<Ratio, RatioError>
+    ensures { OnBoth a b
+        (λ x y. AnswersFraction (num_of x *ℤ num_of y)
+        (den_of x *ℤ den_of y) result)
+        (λ e. result ≡ Err e) }
+{
+    a?.checked_mul(&b?)
+}
+
+/// Returns the quotient of two fractions, or the first error.
+fn quotient(a: Result<Ratio, RatioError>, b: Result<Ratio, RatioError>) -> Result<Ratio, RatioError>
+    ensures { OnBoth a b
+        (λ x y. AnswersFraction (num_of x *ℤ den_of y)
+        (num_of y *ℤ den_of x) result)
+        (λ e. result ≡ Err e) }
+{
+    a?.checked_div(&b?)
+}
+
+/// Returns the order of two fractions, or the status of the first error.
+fn order(a: Result<Ratio, RatioError>, b: Result<Ratio, RatioError>) -> OrderAnswer
+    ensures { OnBoth a b
+        (λ x y. (result.status ≡ 0) × (result.order
+        ≡ order_number (fraction_cmp (num_of x) (den_of x) (num_of y) (den_of y))))
+        (λ e. (result.status ≡ number_of e) × (result.order ≡ pos 0)) }
+{
+    match a {
+        Ok(x) => match b {
+            Ok(y) => OrderAnswer {
+                status: ANSWER,
+                order: number_of_order(x.cmp(&y)),
+            },
+            Err(error) => OrderAnswer::none(error),
+        },
+        Err(error) => OrderAnswer::none(error),
+    }
+}
+
+/// Returns the number of an order.
+fn number_of_order(order: Ordering) -> i32
+    ensures { result ≡ order_number order }
+{
+    match order {
+        Ordering::Less => -1,
+        Ordering::Equal => 0,
+        Ordering::Greater => 1,
+    }
+}

@@ -1,0 +1,99 @@
+//! Averages and roots.
+
+ghost use Rattle.std.specs.Prelude.{◌≡◌, ◌≢◌, ◌%◌, ◌≤ℤ◌, pos};
+ghost use Rattle.num_integer.specs.Averages.{IsAverageCeil, IsAverageFloor};
+ghost use Rattle.num_integer.specs.Checked.{AnswersWhere};
+ghost use Rattle.num_integer.specs.RootOf.{IsRoot};
+ghost use Rattle.cellarcove_c.specs.Statuses.{answer_of, outside};
+
+use crate::answers::{I64Answer, U64Answer};
+use num_integer::{average_ceil, average_floor, cbrt, checked};
+
+/// Returns the average rounded down. That of 3 and 10 is 6.
+#[unsafe(no_mangle)]
+pub extern "C" fn cellarcove_average_floor_i64(x: i64, y: i64) -> i64
+    ensures { IsAverageFloor x y result }
+{
+    average_floor(x, y)
+}
+
+/// See [`cellarcove_average_floor_i64`].
+#[unsafe(no_mangle)]
+pub extern "C" fn cellarcove_average_floor_u64(x: u64, y: u64) -> u64
+    ensures { IsAverageFloor (pos x) (pos y) (pos result) }
+{
+    average_floor(x, y)
+}
+
+/// Returns the average rounded up. That of 3 and 10 is 7.
+#[unsafe(no_mangle)]
+pub extern "C" fn cellarcove_average_ceil_i64(x: i64, y: i64) -> i64
+    ensures { IsAverageCeil x y result }
+{
+    average_ceil(x, y)
+}
+
+/// See [`cellarcove_average_ceil_i64`].
+#[unsafe(no_mangle)]
+pub extern "C" fn cellarcove_average_ceil_u64(x: u64, y: u64) -> u64
+    ensures { IsAverageCeil (pos x) (pos y) (pos result) }
+{
+    average_ceil(x, y)
+}
+
+/// Returns the square root rounded down. That of 99 is 9.
+#[unsafe(no_mangle)]
+pub extern "C" fn cellarcove_sqrt_i64(x: i64) -> I64Answer
+    ensures answer { AnswersWhere (pos 0 ≤ℤ x) (IsRoot x 2)
+        (answer_of result.status result.value) }
+    ensures refusal { result.status ≢ 0 → result ≡ record { status = outside; value = pos 0 } }
+{
+    I64Answer::of(checked::sqrt(x))
+}
+
+/// See [`cellarcove_sqrt_i64`].
+#[unsafe(no_mangle)]
+pub extern "C" fn cellarcove_sqrt_u64(x: u64) -> U64Answer
+    ensures answer { AnswersWhere (pos 0 ≤ℤ pos x) (λ r. IsRoot (pos x) 2 (pos r))
+        (answer_of result.status result.value) }
+    ensures refusal { result.status ≢ 0 → result ≡ record { status = outside; value = 0 } }
+{
+    U64Answer::of(checked::sqrt(x))
+}
+
+/// Returns the cube root rounded toward 0. That of -9 is -2.
+#[unsafe(no_mangle)]
+pub extern "C" fn cellarcove_cbrt_i64(x: i64) -> i64
+    ensures { IsRoot x 3 result }
+{
+    cbrt(x)
+}
+
+/// See [`cellarcove_cbrt_i64`].
+#[unsafe(no_mangle)]
+pub extern "C" fn cellarcove_cbrt_u64(x: u64) -> u64
+    ensures { IsRoot (pos x) 3 (pos result) }
+{
+    cbrt(x)
+}
+
+/// Returns the root of a degree, rounded toward 0. That of -9 of degree 3 is -2.
+#[unsafe(no_mangle)]
+pub extern "C" fn cellarcove_nth_root_i64(x: i64, degree: u32) -> I64Answer
+    ensures answer { AnswersWhere ((degree ≢ 0) × (degree % 2 ≡ 0 → pos 0 ≤ℤ x)) (IsRoot x degree)
+        (answer_of result.status result.value) }
+    ensures refusal { result.status ≢ 0 → result ≡ record { status = outside; value = pos 0 } }
+{
+    I64Answer::of(checked::nth_root(x, degree))
+}
+
+/// See [`cellarcove_nth_root_i64`].
+#[unsafe(no_mangle)]
+pub extern "C" fn cellarcove_nth_root_u64(x: u64, degree: u32) -> U64Answer
+    ensures answer { AnswersWhere ((degree ≢ 0) × (degree % 2 ≡ 0 → pos 0 ≤ℤ pos x))
+        (λ r. IsRoot (pos x) degree (pos r))
+        (answer_of result.status result.value) }
+    ensures refusal { result.status ≢ 0 → result ≡ record { status = outside; value = 0 } }
+{
+    U64Answer::of(checked::nth_root(x, degree))
+}

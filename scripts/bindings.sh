@@ -1,0 +1,118 @@
+#!/usr/bin/env bash
+# Builds the archive for C, compares the header and the table of ctypes with its sources, looks at its symbols, and calls it
+# from C, C++ and Python. Prints a line for each check, a line for each compiler that the machine lacks, and a count at the end.
+set -uo pipefail
+cd "$(dirname "$0")/.."
+
+archive=$PWD/crates/cellarcove_c/out/libcellarcove_c.a
+header=$PWD/bindings/c/cellarcove.h
+caller=$PWD/bindings/c/test.c
+work=$(mktemp -d)
+trap 'rm -rf "$work"' EXIT
+passed=0
+failed=0
+languages=0
+
+# check NAME COMMAND..: the command ends with 0.
+check() {
+    if "${@:2}" >"$work/said" 2>&1; then
+        passed=$((passed + 1))
+        echo "$1: passed"
+    else
+        failed=$((failed + 1))
+        echo "$1: failed"
+        tail -20 "$work/said"
+    fi
+}
+
+# has PROGRAM LANGUAGE: the program is on the machine, or a line says that the language is skipped.
+has() {
+    command -v "$1" >/dev/null || { echo "$2: skipped, since there is no $1"; return 1; }
+}
+
+build() { (cd crates/cellarcove_c && rt lib); }
+
+# The archive exports the calls of the sources and nothing else.
+exports_its_calls() {
+    diff <(bindings/header.py --calls | sort) \
+        <(nm --defined-only --extern-only "$archive" | awk 'NF == 3 { print $3 }' | sort)
+}
+
+# It needs nothing but the division of 128 bits, which every compiler for C brings.
+needs_division_alone() {
+    ! nm --undefined-only "$archive" | awk '$1 == "U" { print $2 }' | grep -vxE '__u?(div|mod)ti3'
+}
+
+# It has no data that is written.
+has_no_state() {
+    ! nm "$archive" | awk 'NF == 3 && $2 ~ /[BbDd]/' | grep .
+}
+
+# calls COMPILER FLAG..: the caller, built so, finds every answer right.
+calls() {
+    "$@" -Wall -Wextra -Wpedantic -Werror -I bindings/c "$caller" -x none "$archive" -o "$work/caller" && "$work/caller"
+}
+
+# The compiler has the library that the sanitizers need.
+sanitizes() {
+    echo 'int main(void) { return 0; }' | "$1" -fsanitize=undefined,address -x c - -o "$work/empty" 2>/dev/null && "$work/empty"
+}
+
+# c_with COMPILER: the caller in C, once as it is and once with the sanitizers.
+c_with() {
+    has "$1" "C with $1" || return 0
+    languages=$((languages + 1))
+    check "C with $1" calls "$1" -std=c11 -O2 -x c
+    if sanitizes "$1"; then
+        check "C with $1 and its sanitizers" calls "$1" -std=c11 -g -fsanitize=undefined,address -fno-sanitize-recover -x c
+    else
+        echo "C with $1 and its sanitizers: skipped, since it lacks their library"
+    fi
+}
+
+finds_by_pkg_config() {
+    mkdir -p "$work/prefix/lib/pkgconfig" "$work/prefix/include" && cp "$archive" "$work/prefix/lib" &&
+        cp "$header" "$work/prefix/include" && cp bindings/c/cellarcove.pc "$work/prefix/lib/pkgconfig" &&
+        local flags && flags=$(PKG_CONFIG_PATH=$work/prefix/lib/pkgconfig pkg-config --cflags --libs cellarcove) &&
+        cp "$caller" "$work/caller.c" && (cd "$work" && read -ra flags <<<"$flags" && cc caller.c "${flags[@]}" -o found && ./found)
+}
+
+makes_a_wheel() {
+    python3 -m pip wheel --quiet --disable-pip-version-check --no-build-isolation --no-deps --no-index \
+        --wheel-dir "$work/wheel" bindings/python
+}
+
+# The wheel, unpacked, runs in an empty folder.
+passes_its_tests() {
+    local tests=$PWD/bindings/python/tests/test_cellarcove.py
+    python3 -m zipfile -e "$work"/wheel/*.whl "$work/site" && mkdir "$work/empty_folder" &&
+        (cd "$work/empty_folder" && PYTHONPATH=$work/site PYTHONDONTWRITEBYTECODE=1 python3 "$tests")
+}
+
+check 'the archive' build
+check 'the header and the table of ctypes' bindings/header.py
+check 'planted slips' bindings/header.py --self-test
+check 'the exported symbols' exports_its_calls
+check 'the needed symbols' needs_division_alone
+check 'no state' has_no_state
+c_with gcc
+c_with clang
+if has g++ 'C++'; then
+    languages=$((languages + 1))
+    check 'C++' calls g++ -std=c++17 -O2 -x c++
+fi
+if has pkg-config pkg-config && has cc pkg-config; then
+    check 'pkg-config' finds_by_pkg_config
+fi
+if has python3 Python && has cc Python; then
+    if python3 -m pip --version >/dev/null 2>&1; then
+        languages=$((languages + 1))
+        check 'the wheel' makes_a_wheel
+        check 'Python' passes_its_tests
+    else
+        echo 'Python: skipped, since there is no pip'
+    fi
+fi
+check 'a language ran' test "$languages" -gt 0
+echo "$passed passed, $failed failed"
+[ "$failed" -eq 0 ]
