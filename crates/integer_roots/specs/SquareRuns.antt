@@ -2,43 +2,51 @@
 use Rattle.std.specs.Prelude.{◌≡◌, ℕ, ℤ, ◌+◌, ◌/◌, ◌^◌, ◌<◌, ◌≤◌, ◌<ℤ◌, ◌≤ℤ◌, pos, unsigned_abs}
 use Rattle.integer_core.specs.Runs.{Makes}
 
--- Newton's step for the square root of a, from the guess x
+-- Newton's step for the square root of a from the guess x is (a / x + x) / 2, both quotients rounded down.
+-- Examples: 99 from 8: 10; 99 from 10: 9; 16 from 4: 4.
 abbrev pub square_step : ℕ → ℕ → ℕ
 square_step a x = (a / x + x) / 2
 
--- a guess, and its loop: the first rises, and the second falls
+-- A guess is a number with its loop: in the first loop guesses rise, and in the second they fall.
+-- Examples: of 99: Rising 8, Rising 10 and Falling 9.
 pub data Guess : Type 0 where
   Rising : ℕ → Guess
   Falling : ℕ → Guess
 
--- the first loop takes a step that rises; the second takes one that falls, and the first does not follow it
+-- The first loop takes a step that rises, and the second takes one that falls, from a guess of either loop.
+-- Examples: of 99: Rising 8 to Rising 10; Rising 10 to Falling 9; none from Falling 9.
 abbrev pub IsNewtonTurn : ℕ → Guess → Guess → Type 0
 IsNewtonTurn a (Rising x) (Rising y) = (x < y) × (y ≡ square_step a x)
 IsNewtonTurn a (Rising x) (Falling y) = (y < x) × (y ≡ square_step a x)
 IsNewtonTurn a (Falling x) (Falling y) = (y < x) × (y ≡ square_step a x)
 IsNewtonTurn a (Falling x) (Rising y) = ⊥
 
--- no loop that follows takes a step
+-- No turn follows where the step from a rising guess stays, or that from a falling guess does not fall.
+-- Examples: of 99: Falling 9; of 16: Rising 4; not of 99: Rising 8.
 abbrev pub NewtonEnds : ℕ → Guess → Type 0
 NewtonEnds a (Rising x) = square_step a x ≡ x
 NewtonEnds a (Falling x) = x ≤ square_step a x
 
--- top is the place of the highest bit of a, counted from 0
+-- top is the place of the highest bit of a, counted from 0.
+-- Examples: 99: 6; 16: 4; 1: 0.
 pub record IsHighestBit (a top : ℕ) : Type 0 where
   pub power_le : 2 ^ top ≤ a
   pub next_power_gt : a < 2 ^ (top + 1)
 
--- the first guess of the loops
+-- The first guess is 2 to the power of half of top + 1, where the half is rounded down.
+-- Examples: 6: 8; 5: 8; 4: 4.
 abbrev pub first_guess : ℕ → ℕ
 first_guess top = 2 ^ ((top + 1) / 2)
 
--- n turns for the square root of a
+-- The two loops make n turns from the first guess for the square root of a.
+-- Examples: 99: 2, by 8, 10, 9; 15: 1, by 4, 3; 16: 0.
 pub record MakesNewtonRun (a n : ℕ) : Type 0 where
   pub top : ℕ
   pub highest : IsHighestBit a top
   pub run : Makes (IsNewtonTurn a) (NewtonEnds a) (Rising (first_guess top)) n
 
--- the turns for the square root of x: none below 4, else those of the run of the loops
+-- The number of turns is 0 for x below 4, and else that of the run of the two loops.
+-- Examples: 99: 2; 15: 1; 3: 0.
 pub record AreSquareRootTurns (x : ℤ) (turns : ℕ) : Type 0 where
   pub below_four : x <ℤ pos 4 → turns ≡ 0
   pub from_four : pos 4 ≤ℤ x → MakesNewtonRun (unsigned_abs x) turns

@@ -1,10 +1,9 @@
-//! Cube roots: by digits up to 32 bits, by Newton's method above.
+//! Cube roots: by binary digits up to 32 bits, by Newton's method above.
 
 ghost use Rattle.std.specs.Prelude.{◌≡◌, ◌≤◌, ◌<◌, ◌^◌, pos};
 ghost use Rattle.integer_roots.specs.RootOf.{IsFloorRoot};
 ghost use Rattle.integer_roots.specs.NewtonRuns.{newton_step};
 
-use crate::cube_root_digits::cube_root_by_digits;
 use crate::newton::newton;
 
 /// Returns the cube root of `a`, a number of a type of `bits` bits.
@@ -43,4 +42,28 @@ fn cube_root_by_newton(a: u64) -> u64
         ensures { result ≡ newton_step a 3 x }
     { (a / (x * x) + 2 * x) / 3 };
     newton(1 << a.ilog2().div_ceil(3), step).0
+}
+
+/// Returns the cube root of `a`, a number of `bits` bits. It computes a digit for each three bits,
+/// the highest first.
+fn cube_root_by_digits(a: u32, bits: u32) -> u32
+    requires narrow { bits ≤ 32 }
+    requires fits { a < 2 ^ bits }
+    ensures root { IsFloorRoot (pos a) 3 (pos result) }
+{
+    let mut rest = a;
+    let mut square = 0;
+    let mut root = 0;
+    for digit in (0..bits / 3 + 1).rev() {
+        let place = 3 * digit;
+        square *= 4;
+        root *= 2;
+        let step = 3 * (square + root) + 1;
+        if rest >> place >= step {
+            rest -= step << place;
+            square += 2 * root + 1;
+            root += 1;
+        }
+    }
+    root
 }

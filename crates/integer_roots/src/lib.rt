@@ -4,15 +4,11 @@
 mod averages;
 pub mod counted;
 mod cube_root;
-mod cube_root_digits;
 mod magnitude_roots;
-mod native_averages;
-mod native_roots;
 mod newton;
 mod root;
 mod root_of_degree;
 mod square_root;
-mod squaring;
 
 pub use averages::{Average, average_ceil, average_floor};
 pub use root::{Roots, cbrt, nth_root, sqrt};

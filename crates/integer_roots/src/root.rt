@@ -1,9 +1,12 @@
-//! Roots.
+//! Roots, and those of the native types of at most 64 bits.
 
 ghost use Rattle.std.specs.Prelude.{◌≡◌, ◌≢◌, ◌%◌, ◌≤ℤ◌, pos};
 ghost use Rattle.integer_roots.specs.RootOf.{IsRoot, IsWithin64Bits};
+ghost use Rattle.integer_roots.specs.NativeWidth.{within_64_bits};
 
-use integer_core::Integer;
+use crate::counted::SqrtCounted;
+use crate::magnitude_roots::{cube_root_by_magnitude, root_by_magnitude, square_root_by_magnitude};
+use integer_core::{Integer, NativeInteger};
 
 /// Roots of an integer of at most 64 bits, rounded toward zero.
 pub trait Roots: Integer {
@@ -70,4 +73,26 @@ pub fn cbrt<T: Roots>(x: T) -> T
     ensures root { IsRoot (T.value x) 3 (T.value result) }
 {
     x.cbrt()
+}
+
+impl<T: Integer + NativeInteger<Magnitude = u64>> Roots for T {
+    ghost width_law = { within_64_bits T.range_law T.native_law };
+
+    fn nth_root(&self, n: u32) -> T {
+        root_by_magnitude(*self, n)
+    }
+
+    fn sqrt(&self) -> T {
+        square_root_by_magnitude(*self).0
+    }
+
+    fn cbrt(&self) -> T {
+        cube_root_by_magnitude(*self)
+    }
+}
+
+impl<T: NativeInteger<Magnitude = u64>> SqrtCounted for T {
+    fn sqrt_counted(&self) -> (T, u32) {
+        square_root_by_magnitude(*self)
+    }
 }

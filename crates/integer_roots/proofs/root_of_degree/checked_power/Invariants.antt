@@ -1,5 +1,5 @@
 use Rattle.std.proofs.Common.{◌≡◌, ◌*◌, ◌^◌, ◌<◌}
-use Rattle.integer_roots.proofs.squaring.checked_power.Given as goal
+use Rattle.integer_roots.proofs.root_of_degree.checked_power.Given as goal
 
 abbrev pub invariant-loop-rest : goal.invariant-loop-rest
 invariant-loop-rest l = record {

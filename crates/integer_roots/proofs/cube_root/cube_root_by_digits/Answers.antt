@@ -1,6 +1,6 @@
 use Rattle.std.proofs.Common.{◌≡◌, arith, ◌-◌, ◌*◌, ◌^◌, pow_pos}
 use Rattle.integer_roots.proofs.CubeDigits.{cube_step, front_at_first, are_small, next_digit, front_stays, front_grows, step_fits, front_at_last}
-use Rattle.integer_roots.proofs.cube_root_digits.cube_root_by_digits.Goals as goal
+use Rattle.integer_roots.proofs.cube_root.cube_root_by_digits.Goals as goal
 
 pub loop-digit-init : goal.loop-digit-init
 loop-digit-init c =

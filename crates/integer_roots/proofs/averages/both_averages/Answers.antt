@@ -1,8 +1,8 @@
 use Rattle.std.proofs.Common.{rules}
 use Rattle.integer_roots.proofs.Averaging.{AreAverages, averages}
-use Rattle.integer_roots.proofs.native_averages.both_averages.Given.{Over}
-use Rattle.integer_roots.proofs.native_averages.both_averages.Goals as goal
-use Rattle.integer_roots.proofs.native_averages.both_averages.Goals.{After-shr-half}
+use Rattle.integer_roots.proofs.averages.both_averages.Given.{Over}
+use Rattle.integer_roots.proofs.averages.both_averages.Goals as goal
+use Rattle.integer_roots.proofs.averages.both_averages.Goals.{After-shr-half}
 
 are_averages : (g : Over) (c : After-shr-half g) → let value = g.T.Number.value in
     AreAverages g.T.Number.fits (value c.args.a) (value c.args.b) (value c.bitand-both.result) (value c.bitor-either.result) (value c.shr-half.result)

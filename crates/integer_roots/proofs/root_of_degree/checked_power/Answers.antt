@@ -1,7 +1,7 @@
 use Rattle.std.proofs.Common.{arith, mul-pos}
 use Rattle.integer_roots.proofs.Powers.{even_left, odd_left, product_within, square_within, last_left}
-use Rattle.integer_roots.proofs.squaring.checked_power.Goals as goal
-use Rattle.integer_roots.proofs.squaring.checked_power.Goals.{then-rest-eq1+in_ok-power, else-rest-eq1}
+use Rattle.integer_roots.proofs.root_of_degree.checked_power.Goals as goal
+use Rattle.integer_roots.proofs.root_of_degree.checked_power.Goals.{then-rest-eq1+in_ok-power, else-rest-eq1}
 
 pub returns-in_err-power : goal.returns-in_err-power
 returns-in_err-power c =
