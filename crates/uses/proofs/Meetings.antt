@@ -10,8 +10,8 @@ pub next_meeting_is : {now a p b q start from t : ℤ} → IsMaximum a b start �
 next_meeting_is start from next = record {
   from_now = omega (arith, linear, from.from_x, next.from_there);
   meeting = record {
-    of_first = record { from_first = omega (arith, linear, start.from_x, from.from_y, next.from_there); congruent = next.solves.first };
-    of_second = record { from_first = omega (arith, linear, start.from_y, from.from_y, next.from_there); congruent = next.solves.second };
+    of_first = record { from_first = omega (arith, linear, start.from_x, from.from_y, next.from_there); congruent = next.holds.first };
+    of_second = record { from_first = omega (arith, linear, start.from_y, from.from_y, next.from_there); congruent = next.holds.second };
   };
   least = λ u above h. next.least u
       (from.least u above (start.least u h.of_first.from_first h.of_second.from_first))
