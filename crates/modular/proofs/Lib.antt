@@ -10,4 +10,8 @@ pub mod EuclidRows
 pub mod LinearCongruences
 pub mod LongDivision
 pub mod CommonSolutions
+pub mod Counts
+pub mod ListedItems
+pub mod Agreements
 pub mod Laws
+pub mod ForCallers

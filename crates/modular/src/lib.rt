@@ -12,13 +12,15 @@ mod products;
 mod representatives;
 mod residue_classes;
 mod residues;
+mod several_congruences;
 mod wide_powers;
 mod wide_products;
 mod word_powers;
 
-pub use common_solutions::{CommonSolution, next_common_solution};
+pub use common_solutions::{CommonSolution, chinese_remainder, next_common_solution};
 pub use inverses::{inverse_modulo, quotient_modulo};
 pub use powers::power_modulo;
 pub use products::{Modular, product_modulo};
-pub use residue_classes::{chinese_remainder, next_congruent, solutions};
+pub use residue_classes::{count_congruent, next_congruent, previous_congruent, solutions};
 pub use residues::{difference_modulo, negation_modulo, residue, sum_modulo};
+pub use several_congruences::next_common_solution_of;

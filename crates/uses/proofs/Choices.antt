@@ -26,7 +26,7 @@ pub rank_of_none : (xs : List ℕ) → rank_of_first 0 xs ≡ 0
 unfolding rank_of_first
 rank_of_none xs = refl
 
-rank_of_more : (xs : List ℕ) (i : ℕ) → i < length xs → rank_of_first (suc i) xs ≡ rank_of_first i xs + coefficient (slice_index xs i) (suc i)
+pub rank_of_more : (xs : List ℕ) (i : ℕ) → i < length xs → rank_of_first (suc i) xs ≡ rank_of_first i xs + coefficient (slice_index xs i) (suc i)
 unfolding rank_of_first
 rank_of_more xs i within =
     let placed = get_or-enumerate_from 1 xs i (0, 0) within in

@@ -1,33 +1,22 @@
 -- Times that come again each period.
-use Rattle.std.specs.Prelude.{◌≤ℤ◌, ℤ}
+use Rattle.std.specs.Prelude.{◌≤ℤ◌, ℤ, List}
+use Rattle.std.specs.List.{All}
 use Rattle.modular.specs.Congruences.{AreCongruent}
-use Rattle.uses.specs.declared.schedules.Meeting.{Meeting}
-use Rattle.uses.specs.declared.schedules.Meeting.TheVariants.{Never, TooLate, At}
 
--- t is the first time, or some periods after it
+-- The time t is the first time, or some periods after it. With the first time 3 and the period 6, the times are 3, 9, 15 and so on.
 pub record IsTime (first period t : ℤ) : Type 0 where
   pub from_first : first ≤ℤ t
   pub congruent : AreCongruent period t first
 
--- t is a time of both
+-- The time t is one of both schedules, whose first times are a and b, and whose periods p and q. From 1 by 4 and from 3 by 6 meet at 9, 21, 33 and so on.
 pub record IsMeeting (a p b q t : ℤ) : Type 0 where
   pub of_first : IsTime a p t
   pub of_second : IsTime b q t
 
--- t is the least such time from now on
-pub record IsNextMeeting (now a p b q t : ℤ) : Type 0 where
-  pub from_now : now ≤ℤ t
-  pub meeting : IsMeeting a p b q t
-  pub least : (u : ℤ) → now ≤ℤ u → IsMeeting a p b q u → t ≤ℤ u
+-- The time t is one of each schedule of the list, which are pairs of a first time and a period.
+abbrev pub IsMeetingOfEach : {X : Type 0} → (X → ℤ) → List (X × X) → ℤ → Type 0
+IsMeetingOfEach value schedules t = All (λ s. IsTime (value s.0) (value s.1) t) schedules
 
--- z is the greater of two numbers
-pub record IsMaximum (x y z : ℤ) : Type 0 where
-  pub from_x : x ≤ℤ z
-  pub from_y : y ≤ℤ z
-  pub least : (u : ℤ) → x ≤ℤ u → y ≤ℤ u → z ≤ℤ u
-
--- what holds at each answer
-abbrev pub MatchMeeting : {T : Type 0} → Meeting T → Type 0 → Type 0 → (T → Type 0) → Type 0
-MatchMeeting Never never too_late at = never
-MatchMeeting TooLate never too_late at = too_late
-MatchMeeting (At t) never too_late at = at t
+-- The time t is not before the first time of any schedule of the list.
+abbrev pub HaveBegun : {X : Type 0} → (X → ℤ) → List (X × X) → ℤ → Type 0
+HaveBegun value schedules t = All (λ s. value s.0 ≤ℤ t) schedules

@@ -1,9 +1,9 @@
 //! The combinatorial number system: choices of some of the numbers below `n`, and their ranks.
 
-ghost use Rattle.std.specs.Prelude.{◌≡◌, ◌↔◌, ◌+◌, ◌<◌, ◌≤◌, ◌^◌, ℕ, List, length, IsTrue};
+ghost use Rattle.std.specs.Prelude.{◌≡◌, ◌↔◌, ◌+◌, ◌<◌, ◌≤◌, ◌^◌, ℕ, List, length, slice_index, slice_index_or, IsFalse, IsTrue, MatchOption};
 ghost use Rattle.num_integer.specs.Coefficient.{coefficient};
 ghost use Rattle.num_integer.specs.Only.{IsOnly};
-ghost use Rattle.uses.specs.Ranking.{IsBefore, IsChoice, IsChoiceOfRank, rank_of};
+ghost use Rattle.uses.specs.Ranking.{IsBefore, IsChoice, IsChoiceOfRank, IsFirstToRise, IsLastChoice, rank_of};
 
 use crate::halving::midpoint;
 use num_integer::{Fits, binomial};
@@ -76,4 +76,63 @@ fn is_within(n: u64, k: u64, limit: u64) -> bool
     ensures { IsTrue result ↔ (coefficient n k ≤ limit) }
 {
     n.binomial_fits(&k) && binomial(n, k) <= limit
+}
+
+/// Replaces a choice of numbers below `n`, in increasing order, by the one of the next rank, and returns
+/// `true`, or returns `false` where it is the last. From `[0, 1, 4]` and `n` 5 it is `[0, 2, 4]`, and
+/// `[2, 3, 4]` is the last.
+///
+/// May be called where the numbers increase and are below `n`.
+pub fn next_choice(choice: &mut [u64], n: u64) -> bool
+    requires choice { IsChoice n choice.old }
+    ensures choice { IsChoice n choice.new }
+    ensures next { IsTrue result
+        → IsChoiceOfRank n (length choice.old) (rank_of choice.old + 1) choice.new }
+    ensures last { IsFalse result
+        → (choice.new ≡ choice.old)
+        × (rank_of choice.old + 1 ≡ coefficient n (length choice.old)) }
+{
+    match first_to_rise(choice, n) {
+        Some(place) => {
+            choice[place] += 1;
+            number_from_zero(choice, place);
+            true
+        }
+        None => false,
+    }
+}
+
+/// Returns the first place whose number can be one more and still below the number after it, or `n` at
+/// the end.
+fn first_to_rise(choice: &[u64], n: u64) -> Option<usize>
+    requires choice { IsChoice n choice.now }
+    ensures { MatchOption result (IsLastChoice n choice.now)
+        (λ place. IsFirstToRise n choice.now place) }
+{
+    for place in 0..choice.len() {
+        if choice[place] + 1 < number_after(choice, place, n) {
+            return Some(place);
+        }
+    }
+    None
+}
+
+/// Returns the number after a place, or `n` after the last one.
+fn number_after(choice: &[u64], place: usize, n: u64) -> u64
+    requires { place < length choice.now }
+    ensures { result ≡ slice_index_or choice.now (place + 1) n }
+{
+    choice.get(place + 1).copied().unwrap_or(n)
+}
+
+/// Writes 0, 1, 2 and so on at the places before `end`.
+fn number_from_zero(numbers: &mut [u64], end: usize)
+    requires { end ≤ length numbers.old }
+    ensures length { length numbers.new ≡ length numbers.old }
+    ensures before { (i : ℕ) → i < end → slice_index numbers.new i ≡ i }
+    ensures after { (i : ℕ) → end ≤ i → slice_index numbers.new i ≡ slice_index numbers.old i }
+{
+    for i in 0..end {
+        numbers[i] = i as u64;
+    }
 }

@@ -1,0 +1,295 @@
+-- Several congruences: those of which each two agree have a common solution, and all their solutions are congruent.
+use Rattle.std.specs.Prelude.{◌≡◌, ◌<◌, ◌≤◌, ◌+◌, ◌≤ℤ◌, ◌<ℤ◌, ◌+ℤ◌, ◌-ℤ◌, ◌*ℤ◌, ℤ, ℕ, pos, neg_ℤ, unsigned_abs, List, [], ◌∷◌, length, Option, Some, None, MatchOption}
+use Rattle.std.specs.List.{All}
+use Rattle.std.proofs.Common.{arith, ◌∙◌, ap, get_or, refl, subst, sym, take}
+use Rattle.std.proofs.lemmas.List.Elements.{All-cons, All-head, All-nil, All-tail}
+use Rattle.num_integer.specs.Range.{IsRange}
+use Rattle.num_integer.specs.Divisors.{Divides, IsGreatestCommonDivisor, IsLeastCommonMultiple}
+use Rattle.num_integer.proofs.ForCallers.{Divides-sum, cancel, comm, expand, gcd-nonzero, lcm-positive, linear, only_gcd, product_from_zero, products, sizes}
+use Rattle.num_integer.proofs.Laws.{bezout_answer_exists, division_exists, gcd_exists, gcd_times_lcm, lcm_exists}
+use Rattle.modular.specs.declared.common_solutions.CommonSolution.{CommonSolution}
+use Rattle.modular.specs.declared.common_solutions.CommonSolution.TheVariants.{Never, Beyond, At}
+use Rattle.modular.specs.CommonSolutions.{MatchCommonSolution}
+use Rattle.modular.specs.Agreement.{Agree, AgreeInPairs, AgreesWithEach}
+use Rattle.modular.specs.Congruences.{AreCongruent, IsNextCongruent, IsResidueClass, SolvesBothCongruences, SolvesEach}
+use Rattle.modular.specs.Least.{IsLeastFrom}
+use Rattle.modular.proofs.ListedItems.{all_items, at_item, one_item_more}
+use Rattle.modular.proofs.Congruences.{congruent-divisor, congruent-refl, congruent-sym, congruent-trans, next_congruent_is, remainder_is_residue}
+
+-- ---- two congruences that agree
+
+-- what the gcd of two numbers divides is a sum of multiples of both
+record IsCombination (m k z : ℤ) : Type 0 where
+  left : ℤ
+  right : ℤ
+  sum : z ≡ m *ℤ left +ℤ k *ℤ right
+
+factored : (x m y k f : ℤ) → (x *ℤ m +ℤ y *ℤ k) *ℤ f ≡ m *ℤ (x *ℤ f) +ℤ k *ℤ (y *ℤ f)
+factored x m y k f = simp expand refl
+
+combination : {m k g z : ℤ} → IsGreatestCommonDivisor m k g → Divides g z → IsCombination m k z
+combination {m} {k} {g} {z} h divides =
+    let own = bezout_answer_exists m k in
+    let same : g ≡ own.1 *ℤ m +ℤ own.2 *ℤ k = sym (own.3.equation ∙ only_gcd own.3.greatest h) in
+    record {
+      left = own.1 *ℤ divides.factor;
+      right = own.2 *ℤ divides.factor;
+      sum = divides.product ∙ ap (λ (t : ℤ). t *ℤ divides.factor) same ∙ factored own.1 m own.2 k divides.factor;
+    }
+
+-- m times such a sum of multiples of n and k, where m times n is g times l
+scaled : (m n k g l part u v : ℤ) → g *ℤ l ≡ m *ℤ n → m ≡ g *ℤ part → m *ℤ (n *ℤ u +ℤ k *ℤ v) ≡ g *ℤ (u *ℤ l +ℤ (part *ℤ v) *ℤ k)
+scaled m n k g l part u v product part_is =
+    let apart : m *ℤ (n *ℤ u +ℤ k *ℤ v) ≡ (m *ℤ n) *ℤ u +ℤ m *ℤ (k *ℤ v) = simp expand refl in
+    let joined : (g *ℤ l) *ℤ u +ℤ (g *ℤ part) *ℤ (k *ℤ v) ≡ g *ℤ (u *ℤ l +ℤ (part *ℤ v) *ℤ k) = simp expand refl in
+    apart ∙ ap (λ (t : ℤ). t *ℤ u +ℤ m *ℤ (k *ℤ v)) (sym product) ∙ ap (λ (t : ℤ). (g *ℤ l) *ℤ u +ℤ t *ℤ (k *ℤ v)) part_is ∙ joined
+
+between_sums : (x y g a b : ℤ) → x *ℤ (g *ℤ a) +ℤ y *ℤ (g *ℤ b) ≡ g *ℤ (x *ℤ a +ℤ y *ℤ b)
+between_sums x y g a b = simp expand refl
+
+-- what the gcds of m and of n with k divide, the gcd of their least common multiple with k divides
+divides_of_gcds : {m n k l z c d g : ℤ} → pos 0 <ℤ m → pos 0 <ℤ n → IsGreatestCommonDivisor m k c → IsGreatestCommonDivisor n k d → IsLeastCommonMultiple m n l
+    → Divides c z → Divides d z → Divides g l → Divides g k → Divides g z
+divides_of_gcds {m} {n} {k} {l} {z} {c} {d} {g} m_up n_up at_m at_n least by_m by_n g_l g_k =
+    let own = bezout_answer_exists m n in
+    let h = own.3.greatest in
+    let common : ℤ = own.0 in
+    let first = combination at_m by_m in
+    let second = combination at_n by_n in
+    let positive = product_from_zero m n (omega (arith, linear)) (omega (arith, linear)) in
+    let size : pos (unsigned_abs (m *ℤ n)) ≡ m *ℤ n = omega (arith, sizes) in
+    let whole : common *ℤ l ≡ m *ℤ n = gcd_times_lcm m n common l h least ∙ size in
+    let turned : common *ℤ l ≡ n *ℤ m = whole ∙ comm m n in
+    let a : ℤ = second.left *ℤ l +ℤ (h.divides_left.factor *ℤ second.right) *ℤ k in
+    let b : ℤ = first.left *ℤ l +ℤ (h.divides_right.factor *ℤ first.right) *ℤ k in
+    let by_left : m *ℤ z ≡ common *ℤ a = ap (λ (t : ℤ). m *ℤ t) second.sum ∙ scaled m n k common l h.divides_left.factor second.left second.right whole h.divides_left.product in
+    let by_right : n *ℤ z ≡ common *ℤ b = ap (λ (t : ℤ). n *ℤ t) first.sum ∙ scaled n m k common l h.divides_right.factor first.left first.right turned h.divides_right.product in
+    let split : (own.1 *ℤ m +ℤ own.2 *ℤ n) *ℤ z ≡ own.1 *ℤ (m *ℤ z) +ℤ own.2 *ℤ (n *ℤ z) = simp expand refl in
+    let joined : own.1 *ℤ (common *ℤ a) +ℤ own.2 *ℤ (common *ℤ b) ≡ common *ℤ (own.1 *ℤ a +ℤ own.2 *ℤ b) = between_sums own.1 own.2 common a b in
+    let times : common *ℤ z ≡ common *ℤ (own.1 *ℤ a +ℤ own.2 *ℤ b) =
+    ap (λ (t : ℤ). t *ℤ z) (sym own.3.equation) ∙ split ∙ ap (λ (t : ℤ). own.1 *ℤ t +ℤ own.2 *ℤ (n *ℤ z)) by_left ∙ ap (λ (t : ℤ). own.1 *ℤ (common *ℤ a) +ℤ own.2 *ℤ t) by_right ∙ joined in
+    let is : z ≡ own.1 *ℤ a +ℤ own.2 *ℤ b = cancel common z (own.1 *ℤ a +ℤ own.2 *ℤ b) (gcd-nonzero h (λ none. omega (arith, linear))) times in
+    let at_a = Divides-sum second.left (h.divides_left.factor *ℤ second.right) g_l g_k in
+    let at_b = Divides-sum first.left (h.divides_right.factor *ℤ first.right) g_l g_k in
+    rw (sym is) at (Divides-sum own.1 own.2 at_a at_b)
+
+-- two congruences that agree have a common solution, and those that have one agree
+pub solution_of_two : {a m b n : ℤ} → Agree a m b n → (x : ℤ) × SolvesBothCongruences a m b n x
+solution_of_two {a} {m} {b} {n} h =
+    let own = bezout_answer_exists m n in
+    let near = (h.congruent own.0 own.3.greatest).divides in
+    let turns : ℤ = own.1 *ℤ near.factor in
+    let gap : a -ℤ b ≡ m *ℤ turns +ℤ n *ℤ (own.2 *ℤ near.factor) =
+    near.product ∙ ap (λ (t : ℤ). t *ℤ near.factor) (sym own.3.equation) ∙ factored own.1 m own.2 n near.factor in (
+      a -ℤ m *ℤ turns,
+      record {
+        first = record { divides = record { factor = neg_ℤ turns; product = simp expand (omega (arith, linear)) } };
+        second = record { divides = record { factor = own.2 *ℤ near.factor; product = omega (arith, linear) } };
+      },
+    )
+
+pub solved_agree : {a m b n x : ℤ} → AreCongruent m x a → AreCongruent n x b → Agree a m b n
+solved_agree h k = record { congruent = λ g common. congruent-trans (congruent-sym (congruent-divisor common.divides_left h)) (congruent-divisor common.divides_right k) }
+
+-- numbers equal modulo the gcd agree
+pub agree_at_gcd : {a m b n g : ℤ} → IsGreatestCommonDivisor m n g → AreCongruent g a b → Agree a m b n
+agree_at_gcd h near = record { congruent = λ k other. rw (only_gcd h other) at near }
+
+-- a congruence that agrees with two agrees with both at once
+merged_agree : {a m b n e k x l : ℤ} → pos 0 <ℤ m → pos 0 <ℤ n → SolvesBothCongruences a m b n x → IsLeastCommonMultiple m n l → Agree a m e k → Agree b n e k → Agree x l e k
+merged_agree {m = m} {n = n} {k = k} m_up n_up both least left right =
+    let at_m = gcd_exists m k in
+    let at_n = gcd_exists n k in
+    record {
+      congruent = λ g h. record {
+        divides = divides_of_gcds m_up n_up at_m.1 at_n.1 least
+            (congruent-trans (congruent-divisor at_m.1.divides_left both.first) (left.congruent at_m.0 at_m.1)).divides
+            (congruent-trans (congruent-divisor at_n.1.divides_left both.second) (right.congruent at_n.0 at_n.1)).divides
+            h.divides_left h.divides_right;
+      };
+    }
+
+-- ---- several congruences
+
+module _ {X : Type 0} (value : X → ℤ) where
+  abbrev pub IsInRange : (ℤ → Type 0) → X × X → Type 0
+  IsInRange fits c = fits (value c.0) × fits (value c.1)
+
+  abbrev pub IsPositive : X × X → Type 0
+  IsPositive c = pos 0 <ℤ value c.1
+
+  abbrev pub AgreesAt : ℤ → ℤ → X × X → Type 0
+  AgreesAt a m c = Agree a m (value c.0) (value c.1)
+
+  abbrev pub SolvesAt : ℤ → X × X → Type 0
+  SolvesAt x c = AreCongruent (value c.1) x (value c.0)
+
+  pub common_with : (cs : List (X × X)) {a m : ℤ} → pos 0 <ℤ m → All IsPositive cs → AgreesWithEach value a m cs → AgreeInPairs value cs → (x : ℤ) × AreCongruent m x a × SolvesEach value cs x
+  common_with [] {a} {m} up positive agrees pairs = (a, congruent-refl a, All-nil (SolvesAt a))
+  common_with (c ∷ cs) {a} {m} up positive agrees pairs =
+      let own = All-head IsPositive c cs positive in
+      let both = solution_of_two (All-head (AgreesAt a m) c cs agrees) in
+      let least = lcm_exists m (value c.1) in
+      let l_up = lcm-positive least.1 (λ e. omega (arith, linear)) (λ e. omega (arith, linear)) in
+      let merged : AgreesWithEach value both.0 least.0 cs = λ k d within. merged_agree up own both.1 least.1 (All-tail (AgreesAt a m) c cs agrees k d within) (pairs.0 k d within) in
+      let rest = common_with cs {a = both.0} {m = least.0} l_up (All-tail IsPositive c cs positive) merged pairs.1 in (
+        rest.0,
+        congruent-trans (congruent-divisor least.1.left_divides rest.1) both.1.first,
+        All-cons (SolvesAt rest.0) c cs (congruent-trans (congruent-divisor least.1.right_divides rest.1) both.1.second) rest.2,
+      )
+
+  pub agreeing_have_solution : (cs : List (X × X)) → All IsPositive cs → AgreeInPairs value cs → (x : ℤ) × SolvesEach value cs x
+  agreeing_have_solution [] positive pairs = (pos 0, All-nil (SolvesAt (pos 0)))
+  agreeing_have_solution (c ∷ cs) positive pairs =
+      let rest = common_with cs (All-head IsPositive c cs positive) (All-tail IsPositive c cs positive) pairs.0 pairs.1 in
+      (rest.0, All-cons (SolvesAt rest.0) c cs rest.1 rest.2)
+
+  pub solved_agree_with_each : {a m x : ℤ} (cs : List (X × X)) → AreCongruent m x a → SolvesEach value cs x → AgreesWithEach value a m cs
+  solved_agree_with_each cs h each = λ k d within. solved_agree h (each k d within)
+
+  pub first_agrees : {c : X × X} {cs rest : List (X × X)} {x : ℤ} → rest ≡ c ∷ cs → SolvesEach value rest x → AgreesWithEach value (value c.0) (value c.1) cs
+  first_agrees {c} {cs} {x = x} split each =
+      let own = subst (All (SolvesAt x)) split each in
+      solved_agree_with_each cs (All-head (SolvesAt x) c cs own) (All-tail (SolvesAt x) c cs own)
+
+  pub no_pairs : (cs : List (X × X)) → length cs ≡ 0 → AgreeInPairs value cs
+  no_pairs [] none = tt
+  no_pairs (c ∷ cs) none = absurd (omega arith)
+
+-- a search that found nothing
+pub nothing_found : {A N : Type 0} (P : A → Type 0) (found : Option A) → ((x : A) → found ≡ Some x → ⊥) → MatchOption found N P → N
+nothing_found P None other none = none
+nothing_found P (Some x) other h = absurd (other x refl)
+
+-- ---- the solutions, from one of them
+
+-- the numbers with the property are those that are x modulo `period`
+pub record HasPeriod (Has : ℤ → Type 0) (x period : ℤ) : Type 0 where
+  pub positive : pos 0 <ℤ period
+  pub every : (y : ℤ) → Has y → AreCongruent period y x
+  pub no_other : (y : ℤ) → AreCongruent period y x → Has y
+
+pub period_of_solutions : {X : Type 0} (value : X → ℤ) {x : ℤ} (cs : List (X × X)) → All (λ c. pos 0 <ℤ value c.1) cs → SolvesEach value cs x → (l : ℤ) × HasPeriod (SolvesEach value cs) x l
+period_of_solutions value {x} [] positive each = (
+  pos 1,
+  record {
+    positive = omega (arith, linear);
+    every = λ y h. record { divides = record { factor = y -ℤ x; product = omega (arith, products) } };
+    no_other = λ y h. All-nil (λ c. AreCongruent (value c.1) y (value c.0));
+  },
+)
+period_of_solutions {X} value {x} (c ∷ cs) positive each =
+    let up = All-head (λ c. pos 0 <ℤ value c.1) c cs positive in
+    let own = All-head (λ c. AreCongruent (value c.1) x (value c.0)) c cs each in
+    let rest = period_of_solutions value cs (All-tail (λ c. pos 0 <ℤ value c.1) c cs positive) (All-tail (λ c. AreCongruent (value c.1) x (value c.0)) c cs each) in
+    let least = lcm_exists (value c.1) rest.0 in
+    let rest_up = rest.1.positive in (
+      least.0,
+      record {
+        positive = lcm-positive least.1 (λ e. omega (arith, linear)) (λ e. omega (arith, linear));
+        every = λ y h. record {
+          divides = least.1.least _
+              (congruent-trans (All-head (λ c. AreCongruent (value c.1) y (value c.0)) c cs h) (congruent-sym own)).divides
+              (rest.1.every y (All-tail (λ c. AreCongruent (value c.1) y (value c.0)) c cs h)).divides;
+        };
+        no_other = λ y h. All-cons (λ c. AreCongruent (value c.1) y (value c.0)) c cs
+            (congruent-trans (congruent-divisor least.1.left_divides h) own)
+            (rest.1.no_other y (congruent-divisor least.1.right_divides h));
+      },
+    )
+
+-- from each number on there is a least one of them
+pub least_of_period : {Has : ℤ → Type 0} {x period : ℤ} (from : ℤ) → HasPeriod Has x period → (t : ℤ) × IsLeastFrom from Has t
+least_of_period {Has} {x} {period} from h =
+    let up = h.positive in
+    let division = division_exists.1 (x -ℤ from) period (λ e. omega (arith, linear)) in
+    let next = next_congruent_is {t = from +ℤ division.1} (remainder_is_residue up (record { quotient = division.0; division = division.2 })) refl in
+    (from +ℤ division.1, record { from_there = next.from_there; holds = h.no_other _ next.holds; least = λ u far has. next.least u far (h.every u has) })
+
+-- so where some number solves each congruence, there is a least one, beyond the type where none in the type does
+pub least_beyond : {X : Type 0} (value : X → ℤ) {fits : ℤ → Type 0} {from : ℤ} (cs : List (X × X)) → All (λ c. pos 0 <ℤ value c.1) cs → (x : ℤ) × SolvesEach value cs x
+    → ((t : ℤ) → from ≤ℤ t → SolvesEach value cs t → ¬ (fits t)) → (t : ℤ) × IsLeastFrom from (SolvesEach value cs) t × ¬ (fits t)
+least_beyond value {from = from} cs positive solution none =
+    let t = least_of_period from (period_of_solutions value cs positive solution.1).1 in
+    (t.0, t.1, none t.0 t.1.from_there t.1.holds)
+
+-- ---- candidates for the least solution: the numbers of the type that solve two of the congruences
+
+-- a number between two of the type is in the type
+between_fits : {fits : ℤ → Type 0} {low high x y z : ℤ} → IsRange fits low high → fits x → fits y → x ≤ℤ z → z ≤ℤ y → fits z
+between_fits range x_fits y_fits after before = (range.between _).1 (omega (arith, linear, ((range.between _).0 x_fits).0), omega (arith, linear, ((range.between _).0 y_fits).1))
+
+module _ {Each Both : ℤ → Type 0} {from next : ℤ} (narrows : (x : ℤ) → Each x → Both x) (passed : (x : ℤ) → from ≤ℤ x → Each x → next ≤ℤ x) where
+  pub candidate_is_least : {t : ℤ} → from ≤ℤ next → IsLeastFrom next Both t → Each t → IsLeastFrom from Each t
+  candidate_is_least onward h each = record {
+    from_there = omega (arith, linear, h.from_there);
+    holds = each;
+    least = λ u far has. h.least u (passed u far has) (narrows u has);
+  }
+
+  pub candidate_passed : {t : ℤ} → IsLeastFrom next Both t → ¬ (Each t) → (x : ℤ) → from ≤ℤ x → Each x → (t +ℤ pos 1) ≤ℤ x
+  candidate_passed {t} h none = λ x far has.
+      let other : ¬ (t ≡ x) = λ e. none (subst Each (sym e) has) in
+      let most = h.least x (passed x far has) (narrows x has) in
+      omega (arith, linear)
+
+  -- none after the last number of the type, and none after a candidate beyond the type
+  pub none_after_last : {fits : ℤ → Type 0} {low high t : ℤ} → IsRange fits low high → fits t → IsLeastFrom next Both t → ¬ (Each t) → ¬ (fits (t +ℤ pos 1)) → (x : ℤ) → from ≤ℤ x → Each x → ¬ (fits x)
+  none_after_last range t_fits h none last = λ x far has x_fits. last (between_fits range t_fits x_fits (omega (arith, linear)) (candidate_passed h none x far has))
+
+  pub none_after_beyond : {fits : ℤ → Type 0} {low high t : ℤ} → IsRange fits low high → fits next → IsLeastFrom next Both t → ¬ (fits t) → (x : ℤ) → from ≤ℤ x → Each x → ¬ (fits x)
+  none_after_beyond range next_fits h none = λ x far has x_fits. none (between_fits range next_fits x_fits h.from_there (h.least x (passed x far has) (narrows x has)))
+
+  -- so none where the next number that solves two of them is not in the type
+  pub none_at_end : {X : Type 0} (value : X → ℤ) {fits : ℤ → Type 0} {low high : ℤ} (found : CommonSolution X) → IsRange fits low high → fits next → ((t : X) → found ≡ At t → ⊥)
+      → MatchCommonSolution found ((x : ℤ) → ¬ (Both x)) ((t : ℤ) × IsLeastFrom next Both t × ¬ (fits t)) (λ t. fits (value t) × IsLeastFrom next Both (value t))
+      → (x : ℤ) → from ≤ℤ x → Each x → ¬ (fits x)
+  none_at_end value Never range next_fits other h = λ x far has _. h x (narrows x has)
+  none_at_end value Beyond range next_fits other h = none_after_beyond range next_fits h.1 h.2
+  none_at_end value (At t) range next_fits other h = λ _ _ _ _. other t refl
+
+-- each candidate is nearer to the last number of the type
+pub nearer_to_last : {fits : ℤ → Type 0} {low high next t further : ℤ} → IsRange fits low high → fits further → further ≡ t +ℤ pos 1 → next ≤ℤ t → unsigned_abs (high -ℤ further) < unsigned_abs (high -ℤ next)
+nearer_to_last range further_fits is onward = omega (arith, sizes, ((range.between _).0 further_fits).1)
+
+-- ---- the class of the numbers that solve the congruences so far
+
+-- the numbers of the class solve the first i congruences, and each number that solves all is of the class
+pub record Narrowed {X : Type 0} (value : X → ℤ) (congruences : List (X × X)) (i : ℕ) (first step : ℤ) : Type 0 where
+  pub positive : pos 0 <ℤ step
+  pub every : (x : ℤ) → SolvesEach value congruences x → AreCongruent step x first
+  pub no_other : (x : ℤ) → AreCongruent step x first → SolvesEach value (take i congruences) x
+
+pub narrowed_first : {X : Type 0} (value : X → ℤ) (congruences : List (X × X)) {first step : ℤ} → step ≡ pos 1 → Narrowed value congruences 0 first step
+narrowed_first value congruences {first} {step} one = record {
+  positive = omega (arith, linear);
+  every = λ x each. record { divides = record { factor = x -ℤ first; product = rw one (omega (arith, products)) } };
+  no_other = λ x near k d within. absurd (omega arith);
+}
+
+module _ {X : Type 0} {value : X → ℤ} {congruences : List (X × X)} {i : ℕ} {first step : ℤ} (h : Narrowed value congruences i first step) where
+  pub narrowed_solves : {c : X × X} → c ≡ get_or congruences i c → i < length congruences → (x : ℤ) → SolvesEach value congruences x → SolvesBothCongruences first step (value c.0) (value c.1) x
+  narrowed_solves is within x each = record { first = h.every x each; second = at_item (SolvesAt value x) congruences i is within each }
+
+  pub narrowed_more : {c : X × X} {f s : ℤ} → c ≡ get_or congruences i c → i < length congruences → IsResidueClass (SolvesBothCongruences first step (value c.0) (value c.1)) f s → Narrowed value congruences (i + 1) f s
+  narrowed_more is within class = record {
+    positive = omega (arith, linear, class.from_zero, class.below);
+    every = λ x each. class.every x (narrowed_solves is within x each);
+    no_other = λ x near.
+        let both = class.no_other x near in
+        one_item_more (SolvesAt value x) congruences i is within (h.no_other x both.first) both.second;
+  }
+
+  pub least_of_class : {A : Type 0} (own : A → ℤ) {fits : ℤ → Type 0} {low high from : ℤ} (found : Option A) → IsRange fits low high → fits from → length congruences ≤ i
+      → MatchOption found ((t : ℤ) × IsNextCongruent from first step t × ¬ (fits t)) (λ t. fits (own t) × IsNextCongruent from first step (own t))
+      → MatchOption found ((t : ℤ) → from ≤ℤ t → SolvesEach value congruences t → ¬ (fits t)) (λ t. fits (own t) × IsLeastFrom from (SolvesEach value congruences) (own t))
+  least_of_class own (Some t) range from_fits past next = (
+    next.0,
+    record {
+      from_there = next.1.from_there;
+      holds = all_items (SolvesAt value (own t)) congruences i past (h.no_other _ next.1.holds);
+      least = λ u far each. next.1.least u far (h.every u each);
+    },
+  )
+  least_of_class own None range from_fits past next = λ t far each t_fits.
+      next.2 (between_fits range from_fits t_fits next.1.from_there (next.1.least t far (h.every t each)))

@@ -1,0 +1,120 @@
+-- How many congruent numbers lie between two others.
+use Rattle.std.specs.Prelude.{◌≡◌, ◌+◌, ◌≤ℤ◌, ◌<ℤ◌, ◌+ℤ◌, ◌-ℤ◌, ◌*ℤ◌, ℤ, ℕ, zero, suc, pos, unsigned_abs, [], ◌∷◌, Option, Some, None, MatchOption}
+use Rattle.std.proofs.Common.{arith, ◌∙◌, ap, inl, refl, subst, sym}
+use Rattle.std.proofs.lemmas.Int.{by_lt_z, ints}
+use Rattle.num_integer.specs.Checked.{AnswersWhere}
+use Rattle.num_integer.specs.Range.{IsRange}
+use Rattle.num_integer.proofs.ForCallers.{expand, from_not_less, linear, product_from_zero, products, sizes, within_fits}
+use Rattle.modular.proofs.CommonSolutions.{turns_ordered}
+use Rattle.modular.proofs.Congruences.{congruent-refl, congruent-sym, congruent-trans, next_within_step}
+use Rattle.modular.specs.Below.{IsFirstTurn}
+use Rattle.modular.specs.Congruences.{AreCongruent, IsCongruentTo, IsCountOfCongruent, IsNextCongruent, IsResidue}
+
+-- a congruent number and a step
+step_further : {step t first : ℤ} → AreCongruent step t first → AreCongruent step (t +ℤ step) first
+step_further {step} {t} h = congruent-trans (record { divides = record { factor = pos 1; product = omega (arith, products) } }) h
+
+-- the first turn leads to the next congruent number
+pub next_by_turns : {from start first step k : ℤ} → pos 0 <ℤ step → AreCongruent step first start → IsFirstTurn from start step k → IsNextCongruent from first step (start +ℤ step *ℤ k)
+next_by_turns {from} {start} {first} {step} {k} up at_start h = record {
+  from_there = h.from_there;
+  holds = congruent-trans (record { divides = record { factor = k; product = omega (arith, linear) } }) (congruent-sym at_start);
+  least = λ u far near.
+      let turns = (congruent-trans near at_start).divides in
+      let is : step *ℤ turns.factor ≡ u -ℤ start = sym turns.product in
+      let ordered = turns_ordered {m = step} k turns.factor up (h.least turns.factor (omega (arith, linear))) in
+      omega (arith, linear);
+}
+
+one_more_step : (step : ℤ) (n : ℕ) → step *ℤ pos (suc n) ≡ step +ℤ step *ℤ pos n
+one_more_step step n =
+    let one : pos (suc n) ≡ pos n +ℤ pos 1 = omega (arith, ints) in
+    rw one (simp expand (omega (arith, products)))
+
+-- the next congruent number, where it lies in the range, and those after it
+one_number_more : {from to first step t : ℤ} {n : ℕ} → IsNextCongruent from first step t → t ≤ℤ to → IsCountOfCongruent (t +ℤ pos 1) to first step (pos n) → IsCountOfCongruent from to first step (pos (suc n))
+one_number_more {t = t} at_start within rest = record {
+  items = t ∷ rest.items;
+  all = (
+    record {
+      from_there = at_start.from_there;
+      holds = record { to_there = within; congruent = at_start.holds };
+      least = λ x far h. at_start.least x far h.congruent;
+    },
+    rest.all,
+  );
+  counted = omega (arith, ints, rest.counted);
+}
+
+-- between the next congruent number and the next one after the range there are so many as there are steps
+count_of_steps : {to first step u : ℤ} (n : ℕ) {from t : ℤ} → pos 0 <ℤ step → IsNextCongruent from first step t → IsNextCongruent (to +ℤ pos 1) first step u → u ≡ t +ℤ step *ℤ pos n
+    → IsCountOfCongruent from to first step (pos n)
+count_of_steps {to} {u = u} zero {from} {t} up at_start at_end is = record {
+  items = [];
+  all = λ x far h.
+      let same : t ≡ u = omega (arith, products) in
+      absurd (omega (arith, linear, at_start.least x far h.congruent, at_end.from_there, h.to_there));
+  counted = refl;
+}
+count_of_steps {to} {first} {step} {u} (suc n) {from} {t} up at_start at_end is =
+    let beyond = product_from_zero step (pos n) (omega (arith, linear)) (omega (arith, ints)) in
+    let more : step *ℤ pos (suc n) ≡ step +ℤ step *ℤ pos n = one_more_step step n in
+    let next : IsNextCongruent (t +ℤ pos 1) first step (t +ℤ step) = next_within_step (step_further at_start.holds) (omega (arith, linear)) (omega (arith, linear)) in
+    let onward : u ≡ (t +ℤ step) +ℤ step *ℤ pos n = omega (arith, linear) in
+    let within : t ≤ℤ to = by_lt_z to t (λ less. absurd (omega (arith, linear, at_end.least t (omega (arith, linear)) at_start.holds))) (λ fine. fine) in
+    one_number_more at_start within (count_of_steps n up next at_end onward)
+
+-- the numbers of an empty range
+pub count_of_none : {from to first step count : ℤ} → to <ℤ from → count ≡ pos 0 → IsCountOfCongruent from to first step count
+count_of_none less none = record { items = []; all = λ x far h. absurd (omega (arith, linear, h.to_there)); counted = none }
+
+-- the turns that lead to both ends of a range: one number more where its last one is congruent
+pub record IsCountedByTurns (from to first step turns : ℤ) : Type 0 where
+  pub from_zero : pos 0 ≤ℤ turns
+  pub last : AreCongruent step to first → IsCountOfCongruent from to first step (turns +ℤ pos 1)
+  pub other : ¬ (AreCongruent step to first) → IsCountOfCongruent from to first step turns
+
+counted_steps : {from to first step t u count : ℤ} → pos 0 <ℤ step → IsNextCongruent from first step t → IsNextCongruent (to +ℤ pos 1) first step u → pos 0 ≤ℤ count → u ≡ t +ℤ step *ℤ count
+    → IsCountOfCongruent from to first step count
+counted_steps {from} {to} {first} {step} {t} {u} {count} up at_start at_end from_zero is =
+    let size : pos (unsigned_abs count) ≡ count = omega (arith, sizes) in
+    subst (IsCountOfCongruent from to first step) size (count_of_steps (unsigned_abs count) up at_start at_end (is ∙ ap (λ (n : ℤ). t +ℤ step *ℤ n) (sym size)))
+
+pub counted_by_turns : {from to first start step j k : ℤ} → pos 0 <ℤ step → IsResidue step first start → ¬ (to <ℤ from) → IsFirstTurn to start step k → IsFirstTurn from start step j
+    → IsCountedByTurns from to first step (k -ℤ j)
+counted_by_turns {from} {to} {first} {start} {step} {j} {k} up at_start ordered at_end at_from =
+    let range : from ≤ℤ to = from_not_less ordered in
+    let turns = at_from.least k (omega (arith, linear, at_end.from_there)) in
+    let own = next_by_turns up at_start.congruent at_from in
+    let last = next_by_turns up at_start.congruent at_end in
+    let apart : start +ℤ step *ℤ k ≡ (start +ℤ step *ℤ j) +ℤ step *ℤ (k -ℤ j) = simp expand (omega (arith, products)) in
+    let more : step *ℤ (k -ℤ j +ℤ pos 1) ≡ step *ℤ (k -ℤ j) +ℤ step = simp expand (omega (arith, products)) in
+    record {
+      from_zero = omega (arith, linear);
+      last = λ near.
+          let here = last.least to (omega (arith, linear)) near in
+          let there = last.from_there in
+          let next = next_within_step {from = to +ℤ pos 1} {t = to +ℤ step} (step_further near) (omega (arith, linear)) (omega (arith, linear)) in
+          counted_steps up own next (omega (arith, linear)) (omega (arith, linear));
+      other = λ far.
+          let apart_from : ¬ (start +ℤ step *ℤ k ≡ to) = λ e. far (subst (λ (x : ℤ). AreCongruent step x first) e last.holds) in
+          let there = last.from_there in
+          counted_steps up own (record { from_there = by_lt_z to (start +ℤ step *ℤ k) (λ less. omega (arith, linear)) (λ fine. absurd (apart_from (omega (arith, linear)))); holds = last.holds; least = λ x beyond near. last.least x (omega (arith, linear)) near }) (omega (arith, linear)) apart;
+    }
+
+-- or the count lies beyond the type where the turns do
+pub count_without_last : {X : Type 0} (fits : ℤ → Type 0) (value : X → ℤ) {from to first step turns : ℤ} (found : Option X) → IsCountedByTurns from to first step turns → ¬ (AreCongruent step to first)
+    → AnswersWhere (fits turns) (λ n. fits (value n) × (value n ≡ turns)) found
+    → MatchOption found ((n : ℤ) × IsCountOfCongruent from to first step n × ¬ (fits n)) (λ n. fits (value n) × IsCountOfCongruent from to first step (value n))
+count_without_last fits value {from} {to} {first} {step} (Some n) h far found = (found.1.0, subst (IsCountOfCongruent from to first step) (sym found.1.1) (h.other far))
+count_without_last fits value None h far found = (_, h.other far, found)
+
+pub count_with_last : {X : Type 0} (fits : ℤ → Type 0) (value : X → ℤ) {from to first step turns : ℤ} (found : Option X) → IsCountedByTurns from to first step turns → AreCongruent step to first
+    → AnswersWhere (fits (turns +ℤ pos 1)) (λ n. fits (value n) × (value n ≡ turns +ℤ pos 1)) found
+    → MatchOption found ((n : ℤ) × IsCountOfCongruent from to first step n × ¬ (fits n)) (λ n. fits (value n) × IsCountOfCongruent from to first step (value n))
+count_with_last fits value {from} {to} {first} {step} (Some n) h near found = (found.1.0, subst (IsCountOfCongruent from to first step) (sym found.1.1) (h.last near))
+count_with_last fits value None h near found = (_, h.last near, found)
+
+-- where the turns do not fit, neither does one more
+pub one_more_too_great : {fits : ℤ → Type 0} {low high turns : ℤ} → IsRange fits low high → pos 0 ≤ℤ turns → ¬ (fits turns) → ¬ (fits (turns +ℤ pos 1))
+one_more_too_great range from_zero none more_fits = none (within_fits range more_fits (inl (from_zero, omega (arith, linear))))

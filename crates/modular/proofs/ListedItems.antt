@@ -1,0 +1,19 @@
+-- A property of each item of a slice, in a loop over it.
+use Rattle.std.specs.Prelude.{◌≡◌, ◌<◌, ◌≤◌, ◌+◌, ℕ, List, length}
+use Rattle.std.specs.List.{All}
+use Rattle.std.proofs.Common.{get_or, subst, sym, take}
+use Rattle.std.proofs.lemmas.List.{take_all}
+use Rattle.std.proofs.lemmas.List.Elements.{All-get_or, All-more}
+
+module _ {X : Type 0} (Has : X → Type 0) (items : List X) (i : ℕ) where
+  -- the item at an index has it
+  pub at_item : {x : X} → x ≡ get_or items i x → i < length items → All Has items → Has x
+  at_item {x} is within all = subst Has (sym is) (All-get_or Has items i x within all)
+
+  -- with this item the items so far are one more
+  pub one_item_more : {x : X} → x ≡ get_or items i x → i < length items → All Has (take i items) → Has x → All Has (take (i + 1) items)
+  one_item_more {x} is within before has = All-more Has items i x within before (subst Has is has)
+
+  -- in the end they are all
+  pub all_items : length items ≤ i → All Has (take i items) → All Has items
+  all_items past before = subst (All Has) (take_all i items past) before

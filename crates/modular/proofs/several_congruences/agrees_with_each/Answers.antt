@@ -1,0 +1,18 @@
+use Rattle.std.proofs.Common.{refl}
+use Rattle.num_integer.proofs.ForCallers.{gcd_with_positive_fits}
+use Rattle.modular.proofs.Agreements.{AgreesAt, IsInRange, IsPositive, agree_at_gcd}
+use Rattle.modular.proofs.ListedItems.{all_items, at_item, one_item_more}
+use Rattle.modular.proofs.several_congruences.agrees_with_each.Goals as goal
+
+pub gcd-requires-clause-gcd_fits : goal.gcd-requires-clause-gcd_fits
+gcd-requires-clause-gcd_fits g c = λ _ z h.
+    let in_range = at_item (IsInRange g.T.Number.value g.T.Number.fits) _ _ c.other-item.is c.loop-other-test.true c.requires.in_range in
+    let positive = at_item (IsPositive g.T.Number.value) _ _ c.other-item.is c.loop-other-test.true c.requires.positive in
+    gcd_with_positive_fits g.met.T.Integer.range_law in_range.1 positive h
+
+pub loop-other-preserved : goal.loop-other-preserved
+loop-other-preserved g c =
+    one_item_more (AgreesAt g.T.Number.value _ _) _ _ c.other-item.is c.loop-other-test.true c.loop-other.invariant (agree_at_gcd c.gcd.ensures.greatest (c.are_congruent.ensures.0 c.if-not-are_congruent.false))
+
+pub returns : goal.returns
+returns g c = ((λ _. all_items (AgreesAt g.T.Number.value _ _) _ _ c.loop-other-test.false c.loop-other.invariant), (λ _. refl))

@@ -1,0 +1,24 @@
+use Rattle.modular.proofs.Agreements.{least_of_class, narrowed_first, narrowed_more, narrowed_solves}
+use Rattle.modular.proofs.several_congruences.least_solution.Goals as goal
+
+pub loop-congruence-init : goal.loop-congruence-init
+loop-congruence-init g c = record {
+  first_in_range = c.zero-first.ensures.in_range;
+  step_in_range = c.one-step.ensures.in_range;
+  kept = narrowed_first g.T.Number.value c.args.congruences.now c.one-step.ensures.value;
+}
+
+pub least_candidate-requires-clause-candidates : goal.least_candidate-requires-clause-candidates
+least_candidate-requires-clause-candidates g c = narrowed_solves c.loop-congruence.invariant.kept c.congruence-item.is c.loop-congruence-test.true
+
+pub loop-congruence-preserved : goal.loop-congruence-preserved
+loop-congruence-preserved g c =
+    let class = c.in_ok-first.ensures in
+    record {
+      first_in_range = class.0;
+      step_in_range = class.1;
+      kept = narrowed_more c.loop-congruence.invariant.kept c.congruence-item.is c.loop-congruence-test.true class.2;
+    }
+
+pub returns : goal.returns
+returns g c = least_of_class c.loop-congruence.invariant.kept g.T.Number.value c.next_congruent.result g.met.T.Integer.range_law c.requires.from_in_range c.loop-congruence-test.false c.next_congruent.ensures
