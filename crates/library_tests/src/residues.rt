@@ -1,10 +1,16 @@
-//! Residues: worked values at native types.
+//! Residues: worked values at native types, the ends of each of them, and a type that the library does not
+//! know.
 
 mod all_bytes;
 mod callers;
+mod cents;
 mod congruences;
 mod long_products;
 mod matched;
+mod own_numbers;
+mod residue_ends;
+mod residue_powers;
+mod types;
 
 use crate::assertions::holds_at;
 use modular::counted::power_modulo_counted;

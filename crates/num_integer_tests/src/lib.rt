@@ -1,8 +1,6 @@
-//! The tests of `num_integer`, and of `modular` at your own types: worked values, each pair of one byte,
-//! the ends of each type, and lawful types that the library does not know.
+//! The tests of `num_integer`: worked values, each pair of the numbers of lawful types that the library does
+//! not know, and the ends of each type.
 #![tactic(auto)]
 
-#[cfg(test)]
-mod own_types;
 #[cfg(test)]
 mod tests;

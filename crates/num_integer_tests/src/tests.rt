@@ -1,4 +1,4 @@
-//! Worked values, the tests of the Rust crate `num-integer`, and each pair of `i8` and of `u8`.
+//! Worked values, and the tests of the Rust crate `num-integer`.
 
 mod assertions;
 mod averages;
@@ -8,17 +8,13 @@ mod coefficients;
 mod division;
 mod divisors;
 mod domain_ends;
-mod exhaustive;
 mod from_contracts;
 mod gcd_turns;
 mod multiples;
 mod own_pairs;
 mod own_values;
 mod plain;
-mod residue_ends;
-mod residue_powers;
-mod residues;
+mod quotients_and_divisors;
 mod roots;
-mod signed_magnitude;
 mod type_ends;
 mod types;

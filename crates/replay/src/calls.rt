@@ -3,12 +3,12 @@
 ghost use Rattle.std.specs.List.{All};
 
 use crate::checksum::Checksum;
-use crate::types::Replayed;
 use num_integer::operators::is_zero;
 use num_integer::{
     ExtendedGcd, Fits, IterBinomial, Roots, average_ceil, average_floor, cbrt, checked,
 };
 use num_traits::Signed;
+use test_types::types::Tested;
 
 /// A call.
 #[derive(Clone, Copy, Debug)]
@@ -39,7 +39,7 @@ pub(crate) enum Call {
 }
 
 /// A call of two operands at a type.
-pub(crate) trait OfPair<T: Replayed> {
+pub(crate) trait OfPair<T: Tested> {
     /// The checksum with the answer, or `None` where the call is not made.
     fn with_answer(&self, sum: Checksum, x: T, y: T) -> Option<Checksum>
         requires x_in_range { T.fits (T.value x) }
@@ -48,7 +48,7 @@ pub(crate) trait OfPair<T: Replayed> {
 
 /// The calls of two operands that each type has. Where the divisor is 0, version 0.1.44 of the Rust
 /// crate refuses `is_multiple_of` and `divides`.
-impl<T: Replayed> OfPair<T> for Call {
+impl<T: Tested> OfPair<T> for Call {
     fn with_answer(&self, sum: Checksum, x: T, y: T) -> Option<Checksum> {
         Some(match self {
             Call::DivRem => with_values(sum, checked::div_rem(x, y)?),
@@ -112,7 +112,7 @@ fn with_bezout<T: Fits>(sum: Checksum, answer: ExtendedGcd<T>) -> Checksum
 /// The call `extended_gcd_lcm`, which only types with a sign have.
 pub(crate) struct BezoutAndMultiple;
 
-impl<T: Signed + Replayed> OfPair<T> for BezoutAndMultiple {
+impl<T: Signed + Tested> OfPair<T> for BezoutAndMultiple {
     fn with_answer(&self, sum: Checksum, a: T, b: T) -> Option<Checksum> {
         let (pair, lcm) = checked::extended_gcd_lcm(a, b)?;
         Some(with_value(with_bezout(sum, pair), lcm))

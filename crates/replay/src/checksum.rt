@@ -1,6 +1,6 @@
 //! The checksum. `compare/src/checksum.rs` computes the same one.
 
-use crate::inputs::Whole;
+use test_types::signed_magnitude::SignedMagnitude;
 
 #[derive(Clone, Copy, Debug, PartialEq, Eq)]
 pub(crate) struct Checksum(pub(crate) u64);
@@ -10,7 +10,7 @@ impl Checksum {
         Checksum((self.0.rotate_left(5) ^ word).wrapping_mul(0x517CC1B727220A95))
     }
 
-    pub(crate) fn with(self, (negative, magnitude): Whole) -> Checksum {
+    pub(crate) fn with(self, (negative, magnitude): SignedMagnitude) -> Checksum {
         self.with_word((magnitude & 0xFFFF_FFFF_FFFF_FFFF) as u64)
             .with_word((magnitude >> 64) as u64)
             .with_word(u64::from(negative))

@@ -2,8 +2,7 @@
 
 ghost use Rattle.std.specs.Prelude.{◌≤◌, ⊤, MatchOption, if◌then◌else◌};
 
-/// Whether a number is negative, and its magnitude.
-pub type Whole = (bool, u128);
+use test_types::signed_magnitude::SignedMagnitude;
 
 /// How many numbers are asked for their roots.
 pub(crate) const ROOTED: u32 = 2048;
@@ -28,7 +27,7 @@ pub(crate) fn degree(index: u32) -> u32 {
 pub(crate) const LISTS: u32 = 144;
 
 /// The list of three counts at an index. The second and the third count go from 0 to 11.
-pub(crate) fn counts(first: Whole, index: u32) -> [Whole; 3] {
+pub(crate) fn counts(first: SignedMagnitude, index: u32) -> [SignedMagnitude; 3] {
     let (second, third) = (index / 12, index % 12);
     [
         first,
@@ -68,7 +67,7 @@ impl Shape {
 
     /// The number at an index, where it lies in the type. At other widths than 8 bits the first indices
     /// give edges, the next Fibonacci numbers, and all further ones random numbers.
-    pub fn number(self, index: u32) -> Option<Whole>
+    pub fn number(self, index: u32) -> Option<SignedMagnitude>
         ensures { MatchOption result ⊤ (λ n. n.1 ≤ (if n.0 then self.low else self.high)) }
     {
         let odd = index % 2 == 1;
@@ -121,7 +120,7 @@ impl Shape {
     }
 
     /// A random number. The indices go through all lengths in bits.
-    fn random(self, index: u32) -> Whole {
+    fn random(self, index: u32) -> SignedMagnitude {
         let lengths = self.width.max(1);
         let length = (index % lengths).wrapping_add(1);
         let negative = index / lengths % 2 == 1;

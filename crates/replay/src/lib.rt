@@ -13,6 +13,4 @@ mod list;
 #[cfg(test)]
 mod tests;
 #[cfg(test)]
-mod types;
-#[cfg(test)]
 mod walks;

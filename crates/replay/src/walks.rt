@@ -7,12 +7,13 @@ use crate::calls::{
     BezoutAndMultiple, Call, OfPair, with_multinomial, with_root, with_row, with_value, with_values,
 };
 use crate::checksum::Checksum;
-use crate::inputs::{DEGREES, LISTS, ROOTED, ROWS, Shape, Whole, counts, degree};
-use crate::types::{Replayed, shape_of};
-use num_integer::{IterBinomial, Roots, checked};
+use crate::inputs::{DEGREES, LISTS, ROOTED, ROWS, Shape, counts, degree};
+use num_integer::{Fits, IterBinomial, Roots, checked};
 use num_traits::Signed;
 use std::alloc::Global;
 use std::process::Abort;
+use test_types::signed_magnitude::SignedMagnitude;
+use test_types::types::Tested;
 
 /// How many answered inputs of a line are taken: all. To find the input at which a line is red, leave
 /// that line alone in the list and lower this: as long as that input is not taken, the test says on its
@@ -37,8 +38,14 @@ impl Answered {
     }
 }
 
+/// The bits and the ends of a type.
+fn shape_of<T: Fits>() -> Shape {
+    let (low, high) = T::ends();
+    Shape::between(low, high)
+}
+
 /// The numbers at the first indices.
-fn numbers(rt: &impl Abort, alloc: Global, shape: Shape, count: u32) -> Vec<Whole> {
+fn numbers(rt: &impl Abort, alloc: Global, shape: Shape, count: u32) -> Vec<SignedMagnitude> {
     let mut numbers = Vec::new(alloc);
     for index in 0..count {
         if let Some(n) = shape.number(index) {
@@ -49,12 +56,12 @@ fn numbers(rt: &impl Abort, alloc: Global, shape: Shape, count: u32) -> Vec<Whol
 }
 
 /// Those of the numbers that the type has.
-fn values<T: Replayed>(rt: &impl Abort, alloc: Global, numbers: &[Whole]) -> Vec<T>
+fn values<T: Tested>(rt: &impl Abort, alloc: Global, numbers: &[SignedMagnitude]) -> Vec<T>
     ensures { All (λ x. T.fits (T.value x)) result.items }
 {
     let mut values = Vec::new(alloc);
     for n in numbers {
-        if let Some(x) = T::from_whole(*n) {
+        if let Some(x) = T::from_signed_magnitude(*n) {
             values.push(x).expect(rt, "memory is left");
         }
     }
@@ -62,7 +69,7 @@ fn values<T: Replayed>(rt: &impl Abort, alloc: Global, numbers: &[Whole]) -> Vec
 }
 
 /// The numbers of the type at the first indices.
-fn values_at<T: Replayed>(rt: &impl Abort, alloc: Global, count: u32) -> Vec<T>
+fn values_at<T: Tested>(rt: &impl Abort, alloc: Global, count: u32) -> Vec<T>
     ensures { All (λ x. T.fits (T.value x)) result.items }
 {
     let numbers = numbers(rt, alloc, shape_of::<T>(), count);
@@ -70,7 +77,7 @@ fn values_at<T: Replayed>(rt: &impl Abort, alloc: Global, count: u32) -> Vec<T>
 }
 
 /// What the call answers of each two of the numbers.
-fn pairs<T: Replayed, C: OfPair<T>>(rt: &impl Abort, alloc: Global, call: &C) -> Answered {
+fn pairs<T: Tested, C: OfPair<T>>(rt: &impl Abort, alloc: Global, call: &C) -> Answered {
     let numbers = values_at::<T>(rt, alloc, shape_of::<T>().paired());
     let mut answered = Answered::none();
     for x in &numbers {
@@ -83,7 +90,7 @@ fn pairs<T: Replayed, C: OfPair<T>>(rt: &impl Abort, alloc: Global, call: &C) ->
 }
 
 /// The roots of each number. A call that takes no degree is made once.
-fn roots<T: Roots + Replayed>(rt: &impl Abort, alloc: Global, call: Call) -> Answered {
+fn roots<T: Roots + Tested>(rt: &impl Abort, alloc: Global, call: Call) -> Answered {
     let degrees = match call {
         Call::NthRoot => DEGREES,
         _ => 1,
@@ -99,7 +106,7 @@ fn roots<T: Roots + Replayed>(rt: &impl Abort, alloc: Global, call: Call) -> Ans
 }
 
 /// The multinomials of lists of three counts.
-fn multinomials<T: Replayed>(rt: &impl Abort, alloc: Global) -> Answered {
+fn multinomials<T: Tested>(rt: &impl Abort, alloc: Global) -> Answered {
     let shape = shape_of::<T>();
     let mut answered = Answered::none();
     for first in &numbers(rt, alloc, shape, shape.paired()) {
@@ -112,7 +119,7 @@ fn multinomials<T: Replayed>(rt: &impl Abort, alloc: Global) -> Answered {
 }
 
 /// The rows of Pascal's triangle.
-fn rows<T: Replayed>() -> Answered {
+fn rows<T: Tested>() -> Answered {
     let mut answered = Answered::none();
     for n in 0..ROWS {
         let number = (false, u128::from(n));
@@ -125,14 +132,14 @@ fn rows<T: Replayed>() -> Answered {
 }
 
 /// The row of a number, where the type has both.
-fn row_of<T: Replayed>(n: Whole) -> Option<IterBinomial<T>>
+fn row_of<T: Tested>(n: SignedMagnitude) -> Option<IterBinomial<T>>
     ensures { IfSome result (λ items. All T.fits items) }
 {
-    checked::row(T::from_whole(n)?)
+    checked::row(T::from_signed_magnitude(n)?)
 }
 
 /// What a call that each type has answers.
-pub(crate) fn answers<T: Replayed>(rt: &impl Abort, alloc: Global, call: Call) -> Answered {
+pub(crate) fn answers<T: Tested>(rt: &impl Abort, alloc: Global, call: Call) -> Answered {
     match call {
         Call::Multinomial => multinomials::<T>(rt, alloc),
         Call::IterBinomial => rows::<T>(),
@@ -141,7 +148,7 @@ pub(crate) fn answers<T: Replayed>(rt: &impl Abort, alloc: Global, call: Call) -
 }
 
 /// What a call answers at a type with roots.
-pub(crate) fn rooted_answers<T: Roots + Replayed>(
+pub(crate) fn rooted_answers<T: Roots + Tested>(
     rt: &impl Abort,
     alloc: Global,
     call: Call,
@@ -153,7 +160,7 @@ pub(crate) fn rooted_answers<T: Roots + Replayed>(
 }
 
 /// What a call answers at a type with a sign.
-pub(crate) fn signed_answers<T: Signed + Replayed>(
+pub(crate) fn signed_answers<T: Signed + Tested>(
     rt: &impl Abort,
     alloc: Global,
     call: Call,
@@ -165,7 +172,7 @@ pub(crate) fn signed_answers<T: Signed + Replayed>(
 }
 
 /// What a call answers at a type with a sign and roots.
-pub(crate) fn signed_rooted_answers<T: Signed + Roots + Replayed>(
+pub(crate) fn signed_rooted_answers<T: Signed + Roots + Tested>(
     rt: &impl Abort,
     alloc: Global,
     call: Call,

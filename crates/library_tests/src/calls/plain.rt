@@ -150,45 +150,16 @@ fn row_of_three() -> IterBinomial<u8>
     IterBinomial::new(3)
 }
 
-/// The greatest common divisor of two numbers of which twelve calls have an answer.
-fn divisor_after_twelve_calls(a: i64, b: i64) -> Option<i64>
+/// The greatest common divisor of two numbers of which five calls have an answer.
+fn divisor_after_five_calls(a: i64, b: i64) -> Option<i64>
     ensures { IfSome result (λ g. IsGreatestCommonDivisor a b g) }
 {
     let quotient = checked::div_floor(a, b)?;
-    let rest = checked::mod_floor(a, b)?;
-    let multiple = checked::next_multiple_of(a, b)?;
     let divisor = checked::gcd(a, b)?;
     let common = checked::lcm(a, b)?;
     let product = checked::product(divisor, common)?;
     let sum = checked::sum(product, quotient)?;
-    let more = checked::inc(sum)?;
-    let root = checked::nth_root(more, 3)?;
-    let ways = checked::binomial(multiple, rest)?;
-    let pair = checked::extended_gcd(root, ways)?;
-    let orders = checked::multinomial(&[quotient, rest, more])?;
-    if orders == pair.x {
-        None
-    } else {
-        Some(divisor)
-    }
-}
-
-/// The choices of `k` out of `n`, two numbers of which eleven calls have an answer.
-fn choices_after_eleven_calls(n: u8, k: u8) -> Option<u8>
-    ensures { IfSome result (λ c. c ≡ coefficient n k) }
-{
-    let choices = checked::binomial(n, k)?;
-    let (quotient, rest) = checked::div_rem(n, k)?;
-    let above = checked::div_ceil(n, k)?;
-    let multiple = checked::prev_multiple_of(n, k)?;
-    let (divisor, common) = checked::gcd_lcm(n, k)?;
-    let root = checked::sqrt(common)?;
-    let sum = checked::sum(quotient, rest)?;
-    let product = checked::product(divisor, root)?;
-    let more = checked::inc(product)?;
-    let shared = checked::gcd(sum, more)?;
-    let next = checked::next_multiple_of(above, multiple)?;
-    if shared == next { None } else { Some(choices) }
+    if sum == a { None } else { Some(divisor) }
 }
 
 /// A fraction, its parts, and its neighbours among the whole numbers.
@@ -225,11 +196,9 @@ fn plain_fractions(rt: HostRuntime) {
 
 #[test]
 fn many_calls(rt: HostRuntime) {
-    assert!(rt; divisor_after_twelve_calls(8, 6) == Some(2));
-    assert!(rt; divisor_after_twelve_calls(8, 0) == None);
-    assert!(rt; divisor_after_twelve_calls(i64::MIN, -1) == None);
-    assert!(rt; choices_after_eleven_calls(6, 2) == Some(15));
-    assert!(rt; choices_after_eleven_calls(11, 4) == None);
+    assert!(rt; divisor_after_five_calls(8, 6) == Some(2));
+    assert!(rt; divisor_after_five_calls(8, 0) == None);
+    assert!(rt; divisor_after_five_calls(i64::MIN, -1) == None);
 }
 
 #[test]

@@ -1,261 +1,208 @@
 //! Each number of `u8` and of `i8`, against computation in 128 bits and by trial.
 
-ghost use Rattle.std.specs.Prelude.{◌<◌, ◌<ℤ◌, pos};
-
+use super::types::{Check, check_at};
 use crate::assertions::holds_at;
 use modular::{
-    difference_modulo, inverse_modulo, negation_modulo, power_modulo, product_modulo,
+    Modular, difference_modulo, inverse_modulo, negation_modulo, power_modulo, product_modulo,
     quotient_modulo, residue, solutions, sum_modulo,
 };
+use num_integer::operators::{is_below, zero};
 use std::process::Abort;
+use test_types::types::Tested;
+use test_types::types::Type::{I8, U8};
 
-/// Moduli of both types: the ends, a prime, a product of two, a square and a power of two.
-const MODULI: [i8; 7] = [1, 2, 15, 64, 100, 113, 127];
+/// Moduli: the ends of both types and their neighbours, primes, products of two, squares and powers of two.
+const MODULI: [i16; 11] = [1, 2, 15, 64, 100, 113, 127, 128, 200, 251, 255];
 
 /// The residue of a number.
-fn rest_of(z: i128, m: i128) -> i128
-    requires positive { pos 0 <ℤ m }
-{
-    z.rem_euclid(m)
+fn rest_of(z: i128, m: i16) -> Option<u128> {
+    Some(z.checked_rem_euclid(m.into())?.unsigned_abs())
 }
 
-/// The residue of a sum, a difference and a product.
-fn residues_of(a: i16, b: i16, m: i16) -> (i128, i128, i128)
-    requires positive { pos 0 <ℤ m }
-{
-    let (x, y, n) = (i128::from(a), i128::from(b), i128::from(m));
-    (rest_of(x + y, n), rest_of(x - y, n), rest_of(x * y, n))
+/// The residues of a sum, a difference and a product.
+fn residues_of(a: i16, b: i16, m: i16) -> Option<(u128, u128, u128)> {
+    let (x, y) = (i128::from(a), i128::from(b));
+    Some((
+        rest_of(x + y, m)?,
+        rest_of(x - y, m)?,
+        rest_of(x.wrapping_mul(y), m)?,
+    ))
 }
 
-/// The one number x from 0 to below `m` for which `a` times x is `b` modulo `m`, found by trial, or
-/// `None` where there are none or several.
-fn only_factor(a: i16, b: i16, m: i16) -> Option<i16>
-    requires positive { pos 0 <ℤ m }
-{
-    let mut found = None;
-    let (_, _, rest) = residues_of(1, b, m);
+/// The least number x from 0 to below `m` for which `a` times x is `b` modulo `m`, and the step to the next
+/// one, or `m` where there is no other, found by trial.
+fn factors_of(a: i16, b: i16, m: i16) -> Option<(i16, i16)> {
+    let mut first = None;
+    let rest = rest_of(b.into(), m);
     for x in 0..m {
-        let (_, _, product) = residues_of(a, x, m);
-        if product == rest {
-            if found.is_some() {
-                return None;
+        if rest_of(i128::from(a).wrapping_mul(x.into()), m) == rest {
+            if let Some(least) = first {
+                return Some((least, x.wrapping_sub(least)));
             }
-            found = Some(x);
+            first = Some(x);
         }
     }
-    found
+    Some((first?, m))
+}
+
+/// The one number x from 0 to below `m` for which `a` times x is `b` modulo `m`, or `None` where there are
+/// none or several.
+fn only_factor(a: i16, b: i16, m: i16) -> Option<i16> {
+    match factors_of(a, b, m)? {
+        (x, step) if step == m => Some(x),
+        _ => None,
+    }
 }
 
 /// The power, by repeated multiplication.
-fn power_of(a: i16, exponent: u8, m: i16) -> i128
-    requires positive { pos 0 <ℤ m }
-{
-    let (x, n) = (i128::from(a), i128::from(m));
-    let mut power = rest_of(1, n);
+fn power_of(a: i16, exponent: u8, m: i16) -> Option<u128> {
+    let mut power = rest_of(1, m)?;
     for _ in 0..exponent {
-        power = rest_of(power.wrapping_mul(x), n);
+        power = rest_of((power as i128).wrapping_mul(a.into()), m)?;
     }
-    power
+    Some(power)
 }
 
-/// Whether the numbers x from 0 to below `m` for which `a` times x is `b` modulo `m` are those that
-/// are the first number modulo the step, a divisor of `m`. With no first number, there is no such x.
-fn are_solutions(found: Option<(i16, i16)>, a: i16, b: i16, m: i16) -> bool
-    requires positive { pos 0 <ℤ m }
+/// The number as a value of the type.
+fn number<T: Tested>(rt: &impl Abort, n: i16) -> T
+    ensures { T.fits (T.value result) }
 {
-    let (first, step) = found.unwrap_or((m, m));
-    if found.is_some() && (first < 0 || first >= step || m.checked_rem(step) != Some(0)) {
-        return false;
-    }
-    let (_, _, rest) = residues_of(1, b, m);
-    for x in 0..m {
-        let (_, _, product) = residues_of(a, x, m);
-        if (product == rest) != (x.checked_rem(step) == Some(first)) {
-            return false;
-        }
-    }
-    true
+    T::from_number(n.into()).expect(rt, "the type has the number")
 }
 
-/// Each pair of `u8`.
-fn unsigned_pairs(rt: &impl Abort, m: u8)
-    requires positive { 0 < m }
-{
-    for a in 0..=u8::MAX {
-        for b in 0..=u8::MAX {
-            let (sum, difference, product) = residues_of(i16::from(a), i16::from(b), i16::from(m));
-            holds_at(
-                rt,
-                i128::from(sum_modulo(a, b, m)) == sum,
-                &("sum_modulo", a, b, m),
-            );
-            holds_at(
-                rt,
-                i128::from(difference_modulo(a, b, m)) == difference,
-                &("difference_modulo", a, b, m),
-            );
-            holds_at(
-                rt,
-                i128::from(product_modulo(a, b, m)) == product,
-                &("product_modulo", a, b, m),
-            );
-        }
+/// The number as a value of the type, where one is given.
+fn optional<T: Tested>(n: Option<i16>) -> Option<T> {
+    T::from_number(n?.into())
+}
+
+/// The numbers as values of the type, where they are given.
+fn optional_pair<T: Tested>(pair: Option<(i16, i16)>) -> Option<(T, T)> {
+    let (first, step) = pair?;
+    Some((T::from_number(first.into())?, T::from_number(step.into())?))
+}
+
+/// The sum, the difference and the product of two numbers.
+fn has_operations<T: Modular + Tested>(rt: &impl Abort, (a, b): (i16, i16), m: i16) {
+    let (x, y, n) = (number::<T>(rt, a), number::<T>(rt, b), number::<T>(rt, m));
+    if is_below(zero(), n) {
+        let answers = (
+            sum_modulo(x, y, n).parts().1,
+            difference_modulo(x, y, n).parts().1,
+            product_modulo(x, y, n).parts().1,
+        );
+        holds_at(
+            rt,
+            Some(answers) == residues_of(a, b, m),
+            &("sum_modulo", a, b, m),
+        );
     }
 }
 
-/// Each pair of `i8`.
-fn signed_pairs(rt: &impl Abort, m: i8)
-    requires positive { pos 0 <ℤ m }
-{
-    for a in i8::MIN..=i8::MAX {
-        for b in i8::MIN..=i8::MAX {
-            let (sum, difference, product) = residues_of(i16::from(a), i16::from(b), i16::from(m));
-            holds_at(
-                rt,
-                i128::from(sum_modulo(a, b, m)) == sum,
-                &("sum_modulo", a, b, m),
-            );
-            holds_at(
-                rt,
-                i128::from(difference_modulo(a, b, m)) == difference,
-                &("difference_modulo", a, b, m),
-            );
-            holds_at(
-                rt,
-                i128::from(product_modulo(a, b, m)) == product,
-                &("product_modulo", a, b, m),
-            );
+/// Each pair of the numbers from the one to the other.
+#[derive(Drop)]
+struct EachPair(i16, i16);
+
+impl Check for EachPair {
+    fn at<T: Modular + Tested>(&self, rt: &impl Abort) {
+        for m in MODULI {
+            if m <= self.1 {
+                for a in self.0..=self.1 {
+                    for b in self.0..=self.1 {
+                        has_operations::<T>(rt, (a, b), m);
+                    }
+                }
+            }
         }
     }
 }
 
 #[test]
 fn pairs(rt: HostRuntime) {
-    for m in MODULI {
-        if m > 0 {
-            signed_pairs(&rt, m);
-        }
-    }
-    for m in [1, 2, 15, 64, 128, 200, 251, 254, 255u8] {
-        if m > 0 {
-            unsigned_pairs(&rt, m);
-        }
-    }
+    check_at(&rt, I8, &EachPair(-128, 127));
+    check_at(&rt, U8, &EachPair(0, 255));
 }
 
-/// Each number of `u8`, by itself.
-fn unsigned_numbers(rt: &impl Abort, m: u8)
-    requires positive { 0 < m }
-{
-    for a in 0..=u8::MAX {
-        let (x, n) = (i16::from(a), i16::from(m));
-        let (rest, negated, _) = residues_of(0, x, n);
-        holds_at(rt, i128::from(residue(a, m)) == rest, &("residue", a, m));
+/// A number by itself, and a quotient by it.
+fn has_inverse<T: Modular + Tested>(rt: &impl Abort, dividend: i16, a: i16, m: i16) {
+    let (x, n) = (number::<T>(rt, a), number::<T>(rt, m));
+    let y = number::<T>(rt, dividend);
+    if is_below(zero(), n) {
+        let residues = (residue(x, n).parts().1, negation_modulo(x, n).parts().1);
+        let expected = residues_of(0, a, m).map(|(rest, negated, _)| (rest, negated));
+        holds_at(rt, Some(residues) == expected, &("residue", a, m));
         holds_at(
             rt,
-            i128::from(negation_modulo(a, m)) == negated,
-            &("negation_modulo", a, m),
-        );
-        let inverse = inverse_modulo(a, m).map(i16::from);
-        holds_at(
-            rt,
-            inverse == only_factor(x, 1, n),
+            inverse_modulo(x, n) == optional::<T>(only_factor(a, 1, m)),
             &("inverse_modulo", a, m),
         );
-        let quotient = quotient_modulo(77, a, m).map(i16::from);
         holds_at(
             rt,
-            quotient == only_factor(x, 77, n),
+            quotient_modulo(y, x, n) == optional::<T>(only_factor(a, dividend, m)),
             &("quotient_modulo", a, m),
         );
     }
 }
 
-/// Each number of `i8`, by itself.
-fn signed_numbers(rt: &impl Abort, m: i8)
-    requires positive { pos 0 <ℤ m }
-{
-    for a in i8::MIN..=i8::MAX {
-        let (x, n) = (i16::from(a), i16::from(m));
-        let (rest, negated, _) = residues_of(0, x, n);
-        holds_at(rt, i128::from(residue(a, m)) == rest, &("residue", a, m));
-        holds_at(
-            rt,
-            i128::from(negation_modulo(a, m)) == negated,
-            &("negation_modulo", a, m),
-        );
-        let inverse = inverse_modulo(a, m).map(i16::from);
-        holds_at(
-            rt,
-            inverse == only_factor(x, 1, n),
-            &("inverse_modulo", a, m),
-        );
-        let quotient = quotient_modulo(-77, a, m).map(i16::from);
-        holds_at(
-            rt,
-            quotient == only_factor(x, -77, n),
-            &("quotient_modulo", a, m),
-        );
+/// Each number from the one to the other, modulo each above 0, and a dividend.
+#[derive(Drop)]
+struct EachNumber(i16, i16, i16);
+
+impl Check for EachNumber {
+    fn at<T: Modular + Tested>(&self, rt: &impl Abort) {
+        for m in 1..=self.1 {
+            for a in self.0..=self.1 {
+                has_inverse::<T>(rt, self.2, a, m);
+            }
+        }
     }
 }
 
 #[test]
 fn numbers(rt: HostRuntime) {
-    for m in 1..=u8::MAX {
-        if m > 0 {
-            unsigned_numbers(&rt, m);
-        }
-    }
-    for m in 1..=i8::MAX {
-        if m > 0 {
-            signed_numbers(&rt, m);
-        }
-    }
+    check_at(&rt, I8, &EachNumber(-128, 127, -77));
+    check_at(&rt, U8, &EachNumber(0, 255, 77));
 }
 
 /// Exponents of none to five binary digits.
 const EXPONENTS: [u8; 6] = [0, 1, 2, 3, 13, 18];
 
-/// The powers of a number of `u8`, and the factors that lead from it to 60.
-fn unsigned_powers_and_solutions(rt: &impl Abort, a: u8, m: u8)
-    requires positive { 0 < m }
-{
-    let (x, n) = (i16::from(a), i16::from(m));
-    for e in EXPONENTS {
-        let power = i128::from(power_modulo(a, u128::from(e), m));
-        holds_at(rt, power == power_of(x, e, n), &("power_modulo", a, e, m));
+/// The powers of a number, and the factors that lead from it to another.
+fn has_powers<T: Modular + Tested>(rt: &impl Abort, product: i16, a: i16, m: i16) {
+    let (x, n) = (number::<T>(rt, a), number::<T>(rt, m));
+    let y = number::<T>(rt, product);
+    if is_below(zero(), n) {
+        for e in EXPONENTS {
+            let power = power_modulo(x, e.into(), n).parts().1;
+            holds_at(
+                rt,
+                Some(power) == power_of(a, e, m),
+                &("power_modulo", a, e, m),
+            );
+        }
+        holds_at(
+            rt,
+            solutions(x, y, n) == optional_pair::<T>(factors_of(a, product, m)),
+            &("solutions", a, m),
+        );
     }
-    let found = solutions(a, 60, m).map(|(first, step)| (i16::from(first), i16::from(step)));
-    holds_at(rt, are_solutions(found, x, 60, n), &("solutions", a, m));
 }
 
-/// The powers of a number of `i8`, and the factors that lead from it to -60.
-fn signed_powers_and_solutions(rt: &impl Abort, a: i8, m: i8)
-    requires positive { pos 0 <ℤ m }
-{
-    let (x, n) = (i16::from(a), i16::from(m));
-    for e in EXPONENTS {
-        let power = i128::from(power_modulo(a, u128::from(e), m));
-        holds_at(rt, power == power_of(x, e, n), &("power_modulo", a, e, m));
+/// Each number from the one to the other, modulo each above 0, and a product.
+#[derive(Drop)]
+struct EachPower(i16, i16, i16);
+
+impl Check for EachPower {
+    fn at<T: Modular + Tested>(&self, rt: &impl Abort) {
+        for m in 1..=self.1 {
+            for a in self.0..=self.1 {
+                has_powers::<T>(rt, self.2, a, m);
+            }
+        }
     }
-    let found = solutions(a, -60, m).map(|(first, step)| (i16::from(first), i16::from(step)));
-    holds_at(rt, are_solutions(found, x, -60, n), &("solutions", a, m));
 }
 
 #[test]
 fn powers_and_solutions(rt: HostRuntime) {
-    for m in 1..=u8::MAX {
-        for a in 0..=u8::MAX {
-            if m > 0 {
-                unsigned_powers_and_solutions(&rt, a, m);
-            }
-        }
-    }
-    for m in 1..=i8::MAX {
-        for a in i8::MIN..=i8::MAX {
-            if m > 0 {
-                signed_powers_and_solutions(&rt, a, m);
-            }
-        }
-    }
+    check_at(&rt, I8, &EachPower(-128, 127, -60));
+    check_at(&rt, U8, &EachPower(0, 255, 60));
 }

@@ -1,16 +1,15 @@
-//! Averages: the rows of their documents, the tests of the Rust crate, and each pair of `i8` and of
-//! `u8` against the halves of both added up.
+//! Averages: the rows of their documents, the tests of the Rust crate, and the halves of both numbers added
+//! up.
 
 use super::assertions::holds_at;
 use super::call_rows::AnswersPair;
 use super::call_rows::PairCall::Averages;
-use super::signed_magnitude::{SignedMagnitude, floored, left, signed_magnitude_of, sum};
-use super::types::Type::{I8, I64, I128, U8};
-use super::types::{
-    Check, SIGNED, Tested, Type, UNSIGNED, check_at, check_at_each, check_rows, greatest, value,
-};
+use super::types::{Check, check_at_each, check_rows, greatest, value};
 use num_integer::{average_ceil, average_floor};
 use std::process::Abort;
+use test_types::signed_magnitude::{SignedMagnitude, floored, left, sum};
+use test_types::types::Type::{I64, I128, U8};
+use test_types::types::{SIGNED, Tested, Type, UNSIGNED};
 
 /// Checks both averages at each of the types.
 fn check_averages(rt: &impl Abort, types: &[Type], operands: (i128, i128), averages: (i128, i128)) {
@@ -117,26 +116,6 @@ pub(super) fn has_averages<T: Tested>(rt: &impl Abort, a: SignedMagnitude, b: Si
         (average_floor(x, y), average_ceil(x, y)) == expected,
         &("averages", a, b),
     );
-}
-
-/// The averages of each pair of the numbers from the lower to the higher.
-#[derive(Drop)]
-struct AveragesOfEachPair(i128, i128);
-
-impl Check for AveragesOfEachPair {
-    fn at<T: Tested>(&self, rt: &impl Abort) {
-        for a in self.0..=self.1 {
-            for b in self.0..=self.1 {
-                has_averages::<T>(rt, signed_magnitude_of(a), signed_magnitude_of(b));
-            }
-        }
-    }
-}
-
-#[test]
-fn averages_of_each_pair_of_one_byte(rt: HostRuntime) {
-    check_at(&rt, I8, &AveragesOfEachPair(-128, 127));
-    check_at(&rt, U8, &AveragesOfEachPair(0, 255));
 }
 
 /// The averages of the greatest number and itself.

@@ -6,11 +6,12 @@ use super::assertions::holds_at;
 use super::call_rows::Holds;
 use super::call_rows::Question::{GcdFits, IsMultipleOf};
 use super::plain;
-use super::types::Type::{I8, I64, I128, Isize, U8, U64};
-use super::types::{Check, Tested, check_at, check_rows, number};
+use super::types::{Check, check_at, check_rows, number};
 use num_integer::{ExtendedGcd, Fits, checked, counted};
 use num_traits::Signed;
 use std::process::Abort;
+use test_types::types::Tested;
+use test_types::types::Type::{I8, I64, I128, Isize, U8, U64};
 
 /// The answer of `extended_gcd` and the turns, where that call answers.
 pub(crate) fn extended_gcd_counted<T: Fits>(a: T, b: T) -> Option<(ExtendedGcd<T>, u32)>

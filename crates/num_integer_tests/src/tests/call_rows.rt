@@ -2,9 +2,10 @@
 
 use super::assertions::holds_at;
 use super::plain;
-use super::types::{Check, Tested, number, optional};
+use super::types::{Check, number, optional};
 use num_integer::{Fits, average_ceil, average_floor, checked};
 use std::process::Abort;
+use test_types::types::Tested;
 
 /// A call of one operand that answers a number.
 #[derive(Clone, Copy, Debug)]

@@ -8,14 +8,13 @@ use super::call_rows::NumberCall::Binomial;
 use super::call_rows::Question::BinomialFits;
 use super::call_rows::{Answers, Holds};
 use super::plain;
-use super::types::Type::{I8, I16, I32, I64, U8, U16, U32, U64};
-use super::types::{
-    Check, NATIVE, Tested, Type, check_at, check_at_each, check_rows, number, optional,
-};
+use super::types::{Check, check_at, check_at_each, check_rows, number, optional};
 use num_integer::counted::binomial_counted;
 use num_integer::{Fits, IterBinomial, checked};
 use std::alloc::{AllocError, Global};
 use std::process::Abort;
+use test_types::types::Type::{I8, I16, I32, I64, U8, U16, U32, U64};
+use test_types::types::{NATIVE, Tested, Type};
 
 /// The types whose numbers have 16 bits or more, and at most 64.
 const FROM_16_BITS: [Type; 6] = [U16, I16, U32, I32, U64, I64];

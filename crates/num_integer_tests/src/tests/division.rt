@@ -3,9 +3,10 @@
 use super::call_rows::NumberCall::{DivCeil, DivFloor, ModFloor};
 use super::call_rows::PairCall::{DivModFloor, DivRem, Operators};
 use super::call_rows::{Answers, AnswersPair};
-use super::types::Type::{I8, I64, I128, U64};
-use super::types::{SIGNED, Type, UNSIGNED, check_at, check_at_each, check_rows};
+use super::types::{check_at, check_at_each, check_rows};
 use std::process::Abort;
+use test_types::types::Type::{I8, I64, I128, U64};
+use test_types::types::{SIGNED, Type, UNSIGNED};
 
 /// A dividend and a divisor, the quotient and the remainder rounded toward zero, those rounded down,
 /// and the quotient rounded up.

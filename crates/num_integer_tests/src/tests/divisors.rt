@@ -4,13 +4,12 @@ use super::assertions::holds_at;
 use super::call_rows::NumberCall::{Gcd, Lcm};
 use super::call_rows::PairCall::GcdLcm;
 use super::call_rows::{Answers, AnswersPair, NumberCall};
-use super::signed_magnitude::euclidean_gcd;
-use super::types::Type::{I8, I16, I32, I64, U8, U16, U32, U64};
-use super::types::{
-    Check, SIGNED, Tested, UNSIGNED, check_at, check_at_each, check_rows, greatest, number,
-};
+use super::types::{Check, check_at, check_at_each, check_rows, greatest, number};
 use num_integer::checked;
 use std::process::Abort;
+use test_types::signed_magnitude::euclidean_gcd;
+use test_types::types::Type::{I8, I16, I32, I64, U8, U16, U32, U64};
+use test_types::types::{SIGNED, Tested, UNSIGNED};
 
 /// Two operands and their greatest common divisor.
 const GCDS: [(i128, i128, i128); 11] = [

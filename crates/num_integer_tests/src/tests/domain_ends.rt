@@ -7,11 +7,12 @@ use super::call_rows::Question::{
 };
 use super::call_rows::UnaryCall::{Dec, Inc, Negated};
 use super::call_rows::{Answers, AnswersOne, Holds};
-use super::signed_magnitude::SignedMagnitude;
-use super::types::Type::{I8, I64, U8, U64};
-use super::types::{Check, Tested, check_rows, number};
+use super::types::{Check, check_rows, number};
 use num_integer::Fits;
 use std::process::Abort;
+use test_types::signed_magnitude::SignedMagnitude;
+use test_types::types::Tested;
+use test_types::types::Type::{I8, I64, U8, U64};
 
 /// The magnitude of the least number of a type, and its greatest number.
 #[derive(Drop)]
@@ -121,7 +122,7 @@ fn ends_of_multiples(rt: HostRuntime) {
     check_rows(&rt, &rows);
 }
 
-/// That `gcd` fits for each pair of `u8` is shown where each pair is tried.
+/// That `gcd` fits for each pair of `u8` is shown by `replay`, which tries each pair.
 #[test]
 fn ends_of_divisors(rt: HostRuntime) {
     let rows = [

@@ -3,12 +3,13 @@
 use super::assertions::holds_at;
 use super::call_rows::Holds;
 use super::call_rows::Question::GcdFits;
-use super::signed_magnitude::{SignedMagnitude, signed_magnitude_of};
-use super::types::Type::{I8, I64, I128, U8, U64, U128};
-use super::types::{Check, Tested, Type, check_at, value};
+use super::types::{Check, check_at, value};
 use num_integer::checked;
 use num_integer::counted::GcdCounted;
 use std::process::Abort;
+use test_types::signed_magnitude::{SignedMagnitude, signed_magnitude_of};
+use test_types::types::Type::{I8, I64, I128, U8, U64, U128};
+use test_types::types::{Tested, Type};
 
 /// The plain and the counted call answer this.
 pub(super) fn has_turns<T: Tested>(

@@ -4,12 +4,11 @@ use super::assertions::holds_at;
 use super::call_rows::NumberCall::{NextMultipleOf, PrevMultipleOf};
 use super::call_rows::Question::{Divides, IsMultipleOf};
 use super::call_rows::{Answers, Holds};
-use super::types::Type::{I8, I128};
-use super::types::{
-    Check, SIGNED, Tested, UNSIGNED, check_at, check_at_each, check_rows, greatest, number,
-};
+use super::types::{Check, check_at, check_at_each, check_rows, greatest, number};
 use num_integer::Integer;
 use std::process::Abort;
+use test_types::types::Type::{I8, I128};
+use test_types::types::{SIGNED, Tested, UNSIGNED};
 
 /// Two operands, and the next and the previous multiple.
 const MULTIPLES: [(i128, i128, i128, i128); 8] = [

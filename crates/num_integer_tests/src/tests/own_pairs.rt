@@ -1,14 +1,15 @@
 //! Each call on each pair of numbers of each own type, against computations on signs and magnitudes.
 
 use super::roots::{check_root, has_no_root};
-use super::signed_magnitude::signed_magnitude_of;
 use super::type_ends::{has_answers, has_neighbours, has_pair_and_multiple};
-use super::types::Type::{Marked, Negated, OneBit, Percent, Small, TwoBits};
-use super::types::{Check, SignedCheck, Tested, check_at, check_at_each, check_signed_at};
-use crate::own_types;
+use super::types::{Check, SignedCheck, check_at, check_at_each, check_signed_at};
 use num_integer::{Fits, Roots};
 use num_traits::Signed;
 use std::process::Abort;
+use test_types::own_types;
+use test_types::signed_magnitude::signed_magnitude_of;
+use test_types::types::Tested;
+use test_types::types::Type::{Marked, Negated, OneBit, Percent, Small, TwoBits};
 
 /// The pairs whose first number lies from the one to the other.
 #[derive(Drop)]

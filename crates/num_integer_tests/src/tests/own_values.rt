@@ -10,10 +10,11 @@ use super::call_rows::{Answers, AnswersPair, Holds};
 use super::coefficients::{HasItems, HasNoRow, Shares, counted as counted_coefficient};
 use super::plain;
 use super::roots::has_root;
-use super::types::{Type, check_at, check_rows};
-use crate::own_types::{Marked, Negated, OneBit, Percent, Small, TwoBits};
+use super::types::{check_at, check_rows};
 use num_integer::{ExtendedGcd, Fits, Integer, checked, div_ceil};
 use num_traits::{Num, Signed};
+use test_types::own_types::{Marked, Negated, OneBit, Percent, Small, TwoBits};
+use test_types::types::Type;
 
 #[test]
 fn division_of_percents(rt: HostRuntime) {

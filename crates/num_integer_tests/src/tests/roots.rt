@@ -4,11 +4,12 @@
 ghost use Rattle.std.specs.Prelude.{◌≤◌};
 
 use super::assertions::holds_at;
-use super::types::Type::{I8, I16, I32, I64, Isize, U8, U16, U32, U64, Usize};
-use super::types::{RootCheck, Tested, Type, check_roots_at, greatest, number};
+use super::types::{RootCheck, check_roots_at, greatest, number};
 use num_integer::counted::SqrtCounted;
 use num_integer::{Fits, Roots, checked};
 use std::process::Abort;
+use test_types::types::Type::{I8, I16, I32, I64, Isize, U8, U16, U32, U64, Usize};
+use test_types::types::{Tested, Type};
 
 /// The signed types of at most 64 bits, and the bits beside the sign.
 const SIGNED_BITS: [(Type, u32); 5] = [(I8, 7), (I16, 15), (I32, 31), (I64, 63), (Isize, 63)];

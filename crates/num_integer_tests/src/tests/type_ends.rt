@@ -10,23 +10,24 @@ use super::bezout::extended_gcd_counted;
 use super::call_rows::NumberCall::{Binomial, Difference, Product, Sum};
 use super::call_rows::UnaryCall::{Dec, Inc, Negated};
 use super::coefficients::{HasItems, counted};
-use super::exhaustive::{has_divisors, has_quotients};
 use super::gcd_turns::{counted_turns, has_turns};
 use super::plain;
+use super::quotients_and_divisors::{has_divisors, has_quotients};
 use super::roots::{check_root, has_no_root, square_root_counted};
-use super::signed_magnitude::{
-    SignedMagnitude, euclidean_gcd, is_multiple, opposite, product, signed_magnitude, sum, to_i128,
-};
-use super::types::Type::{I8, I16, I32, I64, I128, Isize, U8, U16, U32, U64, U128, Usize};
 use super::types::{
-    Check, RootCheck, SignedCheck, Tested, Type, check_at, check_roots_at, check_rows,
-    check_signed_at, optional_value, value,
+    Check, RootCheck, SignedCheck, check_at, check_roots_at, check_rows, check_signed_at,
+    optional_value, value,
 };
 use num_integer::checked;
 use num_integer::counted::SqrtCounted;
 use num_traits::Signed;
 use std::alloc::{AllocError, Global};
 use std::process::Abort;
+use test_types::signed_magnitude::{
+    SignedMagnitude, euclidean_gcd, is_multiple, opposite, product, signed_magnitude, sum, to_i128,
+};
+use test_types::types::Type::{I8, I16, I32, I64, I128, Isize, U8, U16, U32, U64, U128, Usize};
+use test_types::types::{Tested, Type};
 
 /// The magnitude of the least number of a type, and its greatest number.
 #[derive(Clone, Copy)]

@@ -1,0 +1,115 @@
+//! The names of the types, and values made of numbers.
+
+ghost use Rattle.std.specs.Prelude.{IfSome};
+
+use crate::own_types::{Form, Own, Percent};
+use crate::signed_magnitude::{SignedMagnitude, to_i128};
+use num_integer::counted::GcdCounted;
+use num_integer::{Average, Fits};
+use num_traits::FromPrimitive;
+use std::fmt::Debug;
+
+/// A type of whole numbers.
+#[derive(Clone, Copy, Debug)]
+pub enum Type {
+    I8,
+    I16,
+    I32,
+    I64,
+    I128,
+    Isize,
+    U8,
+    U16,
+    U32,
+    U64,
+    U128,
+    Usize,
+    Percent,
+    Small,
+    Negated,
+    Marked,
+    OneBit,
+    TwoBits,
+}
+
+use Type::{I8, I16, I32, I64, I128, Isize, U8, U16, U32, U64, U128, Usize};
+
+/// The types of the library with a sign.
+pub const SIGNED: [Type; 6] = [I8, I16, I32, I64, I128, Isize];
+
+/// The types of the library with no sign.
+pub const UNSIGNED: [Type; 6] = [U8, U16, U32, U64, U128, Usize];
+
+/// The types of the library.
+pub const NATIVE: [Type; 12] = [
+    I8, I16, I32, I64, I128, Isize, U8, U16, U32, U64, U128, Usize,
+];
+
+/// A type whose values the tests make of numbers.
+pub trait Tested: Average + Fits + Debug {
+    /// The number as a value of the type, where the type has it.
+    fn from_number(n: i128) -> Option<Self>
+        ensures { IfSome result (λ x. Self.fits (Self.value x)) };
+
+    /// The number of this sign and magnitude as a value of the type, where the type has it.
+    fn from_signed_magnitude(n: SignedMagnitude) -> Option<Self>
+        ensures { IfSome result (λ x. Self.fits (Self.value x)) }
+    {
+        Self::from_number(to_i128(n)?)
+    }
+
+    /// The greatest common divisor and the turns of its loop, where the divisor fits and the type has
+    /// the call that counts them.
+    fn gcd_and_turns(&self, _other: &Self) -> Option<(Self, u32)>
+        requires self_in_range { Self.fits (Self.value self.now) }
+        requires other_in_range { Self.fits (Self.value _other.now) }
+    {
+        None
+    }
+}
+
+impl<T: Average + Fits + FromPrimitive + GcdCounted + Debug> Tested for T {
+    fn from_number(n: i128) -> Option<T> {
+        T::from_i128(n)
+    }
+
+    fn from_signed_magnitude(n: SignedMagnitude) -> Option<T> {
+        if n.0 {
+            T::from_i128(to_i128(n)?)
+        } else {
+            T::from_u128(n.1)
+        }
+    }
+
+    fn gcd_and_turns(&self, other: &T) -> Option<(T, u32)> {
+        if self.gcd_fits(other) {
+            Some(self.gcd_counted(other))
+        } else {
+            None
+        }
+    }
+}
+
+impl Tested for Percent {
+    fn from_number(n: i128) -> Option<Percent> {
+        let number = u8::try_from(n).ok()?;
+        if number <= 100 {
+            Some(Percent::new(number))
+        } else {
+            None
+        }
+    }
+}
+
+impl<F: Form> Tested for Own<F> {
+    fn from_number(n: i128) -> Option<Own<F>> {
+        let number = i64::try_from(n).ok()?;
+        let (low, high) = F::ends();
+        let bound = if number < 0 { low } else { high };
+        if u128::from(number.unsigned_abs()) <= bound {
+            Some(Own::new(number))
+        } else {
+            None
+        }
+    }
+}
