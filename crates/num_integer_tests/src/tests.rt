@@ -19,6 +19,7 @@ mod residue_ends;
 mod residue_powers;
 mod residues;
 mod roots;
+mod scaling;
 mod signed_magnitude;
 mod type_ends;
 mod types;
