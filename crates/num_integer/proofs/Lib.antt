@@ -5,5 +5,7 @@ pub mod Steps
 pub mod CheckedAnswers
 pub mod Multinomials
 pub mod CheckedMultinomials
+pub mod ScaledQuotients
 pub mod Laws
 pub mod ForCallers
+pub mod ReducedByGcd

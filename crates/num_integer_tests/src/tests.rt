@@ -16,5 +16,6 @@ mod own_values;
 mod plain;
 mod quotients_and_divisors;
 mod roots;
+mod scaling;
 mod type_ends;
 mod types;

@@ -220,3 +220,21 @@ fn choices_and_turns(n: u64, k: u64) -> (u64, u32)
     let (choices, turns) = binomial_counted(n, k);
     (choices, turns)
 }
+
+/// The share of an amount at a rate, rounded down, where it fits; the product need not.
+fn share(amount: i64, rate: i64, whole: i64) -> Option<i64>
+    ensures { IfSome result (λ q. IsQuotient IsFloored (amount *ℤ rate) whole q) }
+{
+    let (share, _) = checked::product_div_mod_floor(amount, rate, whole)?;
+    Some(share)
+}
+
+/// The same, and what is left.
+fn share_and_rest(amount: u64, rate: u64, whole: u64) -> Option<(u64, u64)>
+    ensures { IfSome result (λ r. pos amount *ℤ pos rate ≡ pos r.0 *ℤ pos whole +ℤ pos r.1) }
+{
+    match checked::product_div_mod_floor(amount, rate, whole) {
+        Some((share, rest)) => Some((share, rest)),
+        None => None,
+    }
+}
