@@ -9,7 +9,8 @@ use mathlib.Core.HLevel.{is_prop→PathP}
 use Rattle.num_integer.proofs.ForCallers.{linear}
 use Rattle.calendar.specs.declared.date.Date.{Date}
 use Rattle.calendar.specs.Dates.{IsEarlier, number_of}
-use Rattle.calendar.specs.Years.{IsDate, day_number, days_before_month, days_in_month, days_in_year, months_of}
+use Rattle.calendar.specs.Months.{IsDate, days_before_month, days_in_month, months_of}
+use Rattle.calendar.specs.Years.{day_number, days_in_year}
 use Rattle.calendar.proofs.YearLengths.{later_year, next_first_day}
 
 -- ---- months

@@ -2,19 +2,18 @@
 use Rattle.std.specs.Prelude.{cond, ◌≡◌, ◌⊎◌, ◌+◌, ◌-◌, ◌*◌, ◌/◌, ◌%◌, ◌<◌, ◌≤◌, ◌++◌, ◌≤ℤ◌, ◌<ℤ◌, ℕ, suc, ℤ, pos, negsuc, List, [], ◌∷◌, drop, take, length, get_or, Bool, true, false, Option, Some, None, FitsSigned, MatchOption}
 use Rattle.std.specs.Int.{w64}
 use Rattle.std.specs.Fmt.{char_count, decimal, format_spec, padded_integral, styled_signed_decimal}
-use Rattle.std.specs.List.{All}
 use Rattle.std.specs.Str.{IsCharBoundary}
-use Rattle.std.proofs.Common.{arith, ap, append_assoc, inl, inr, refl, rules, sym, ◌∙◌}
+use Rattle.std.proofs.Common.{arith, ap, append_assoc, inl, inr, refl, sym, ◌∙◌}
 use Rattle.std.proofs.Math.Seq.{drop-append_seam, take-append_seam}
 use Rattle.std.proofs.lemmas.Int.{ints}
 use Rattle.std.proofs.lemmas.List.{append-nil, get_or-drop, length-append, take-append-drop}
 use lib.Signed.{lt_z}
-use Rattle.std.proofs.lemmas.List.Elements.{All-get_or}
 use Rattle.calendar.specs.Dates.{HasParts}
+use Rattle.calendar.specs.Months.{IsDate}
 use Rattle.calendar.specs.declared.date.Date.{Date}
 use Rattle.calendar.specs.Text.{padded, text_of, with_number, year_text}
-use Rattle.calendar.specs.Years.{IsDate, is_leap_year, month_lengths, months_of}
 use Rattle.calendar.proofs.DateOrder.{of_parts}
+use Rattle.calendar.proofs.MonthLengths.{month_length_range}
 use Rattle.calendar.proofs.PaddedNumbers.{two_places}
 use Rattle.calendar.proofs.YearTexts.{above, before, below, only_year}
 
@@ -62,14 +61,10 @@ number_text text k tens ones t o e =
 
 -- ---- months and days are of two digits
 
-short_months : (leap : Bool) → All (λ days. days ≤ 31) (month_lengths leap)
-short_months true = search rules
-short_months false = search rules
-
 pub small_parts : (date : Date) → (date.month < 100) × (date.day_of_month < 100)
 small_parts date = (
   omega (arith, date.valid.month_to_twelve),
-  omega (arith, date.valid.day_to_last, All-get_or (λ days. days ≤ 31) (months_of date.year) (date.month - 1) 0 (omega (arith, date.valid.month_to_twelve)) (short_months (is_leap_year date.year))),
+  omega (arith, date.valid.day_to_last, month_length_range date.year date.month date.valid.month_from_one date.valid.month_to_twelve),
 )
 
 -- each text is that of one date at most

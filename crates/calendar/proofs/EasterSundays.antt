@@ -12,13 +12,11 @@ use Rattle.calendar.specs.Weeks.{HasWeekday, IsFirstWeekday}
 use Rattle.calendar.specs.Years.{day_number}
 use Rattle.calendar.specs.declared.weekday.Weekday.{Weekday}
 use Rattle.calendar.specs.declared.weekday.Weekday.TheVariants.{Sunday}
-use Rattle.calendar.proofs.WeekdayPlaces.{first_within, on_weekday, only_first}
+use Rattle.calendar.proofs.WeekdayPlaces.{days_later, first_within, only_first}
 
 -- the Sunday after a day
 pub next_sunday : {day : ℤ} {weekday : Weekday} {n days : ℕ} → HasWeekday day weekday → n ≡ weekday_number weekday → n < 7 → days ≡ 7 - n → IsFirstWeekday (day +ℤ pos 1) Sunday (day +ℤ pos days)
-next_sunday {day} {n = n} {days = days} h is small place =
-    let own = rw (sym is) at h.remainder.division.division.equation in
-    first_within Sunday (on_weekday Sunday (h.remainder.quotient +ℤ pos 1) (omega (arith, ints, own))) (omega (arith, ints)) (omega (arith, ints))
+next_sunday {days = days} h is small place = first_within Sunday (days_later days h (omega arith)) (omega (arith, ints)) (omega (arith, ints))
 
 -- the remainder of the sum is the epact
 pub is_epact : {century solar lunar sum rest : ℤ} (golden : ℕ) → IsSolarCorrection century solar → IsLunarCorrection century lunar → sum ≡ pos 11 *ℤ pos golden +ℤ pos 8 -ℤ solar +ℤ lunar
@@ -29,8 +27,8 @@ is_epact {solar = solar} {lunar = lunar} {rest = rest} golden solar_is lunar_is 
     record { solar = solar; lunar = lunar; solar_is = solar_is; lunar_is = lunar_is; epact_is = rw same (rw sum_is at h) }
 
 -- the days from 1 March on follow each other
-pub days_later : (year : ℤ) (day : ℕ) {more days : ℕ} → more ≡ days → day_number year 3 (day + more) ≡ day_number year 3 day +ℤ pos days
-days_later year day same = omega (arith, ints)
+pub march_days_later : (year : ℤ) (day : ℕ) {more days : ℕ} → more ≡ days → day_number year 3 (day + more) ≡ day_number year 3 day +ℤ pos days
+march_days_later year day same = omega (arith, ints)
 
 -- the Sunday after the full moon is Easter
 pub is_easter : {year full_moon day sunday : ℤ} (days : ℕ) → IsPaschalFullMoon year full_moon → day ≡ full_moon → IsFirstWeekday (day +ℤ pos 1) Sunday (day +ℤ pos days) → sunday ≡ full_moon +ℤ pos days → IsEaster year sunday

@@ -1,19 +1,20 @@
 -- The weeks of ISO 8601.
-use Rattle.std.specs.Prelude.{◌≡◌, ◌⊎◌, ◌+◌, ◌/◌, ◌%◌, ◌<◌, ◌≤◌, ◌≤ℤ◌, ◌<ℤ◌, ◌+ℤ◌, ◌-ℤ◌, ◌*ℤ◌, ℕ, ℤ, pos, FitsSigned, MatchOption, Option, Some, None}
+use Rattle.std.specs.Prelude.{◌≡◌, ◌⊎◌, ◌+◌, ◌/◌, ◌%◌, ◌<◌, ◌≤◌, ◌≤ℤ◌, ◌<ℤ◌, ◌+ℤ◌, ◌-ℤ◌, ◌*ℤ◌, ℕ, ℤ, pos, negsuc, FitsSigned, MatchOption, Option, Some, None}
 use Rattle.std.specs.Int.{w64}
-use Rattle.std.proofs.Common.{ap, arith, inl, inr, subst, sym}
+use Rattle.std.proofs.Common.{ap, arith, inl, inr, refl, subst, sym}
+use Rattle.std.proofs.lemmas.Bool.{cases_lt}
 use Rattle.std.proofs.lemmas.Int.{by_lt_z, ints}
 use Rattle.num_integer.proofs.ForCallers.{floored_by_range, floored_remainder_range, linear}
 use Rattle.num_integer.specs.Division.{IsFloored, IsRemainder}
 use Rattle.calendar.specs.declared.date.Date.{Date}
 use Rattle.calendar.specs.Dates.{number_of}
-use Rattle.calendar.specs.IsoWeeks.{HasDay, IsDayOfIsoWeek, IsInIsoWeek, IsThursdayOfWeek}
+use Rattle.calendar.specs.IsoWeeks.{HasIsoWeeks, IsDayOfIsoWeek, IsInIsoWeek, IsThursdayOfWeek}
+use Rattle.calendar.specs.Years.{HasDay, days_in_year, first_day}
 use Rattle.calendar.specs.Weekday.{weekday_number}
 use Rattle.calendar.specs.Weeks.{HasWeekday}
-use Rattle.calendar.specs.Years.{days_in_year, first_day}
 use Rattle.calendar.specs.declared.weekday.Weekday.{Weekday}
-use Rattle.calendar.specs.declared.weekday.Weekday.TheVariants.{Thursday}
-use Rattle.calendar.proofs.WeekdayPlaces.{below_seven, on_weekday, same_day}
+use Rattle.calendar.specs.declared.weekday.Weekday.TheVariants.{Monday, Thursday}
+use Rattle.calendar.proofs.WeekdayPlaces.{below_seven, days_earlier, days_later, on_weekday, same_day, weeks_apart}
 use Rattle.calendar.proofs.YearLengths.{later_year, length_range, next_first_day}
 
 -- ---- Thursdays
@@ -81,14 +82,14 @@ week_of {year = year} {thursday = thursday} h within place number = record {
   before = omega (arith, ints);
 }
 
--- which is only one
+-- of which there is only one
 pub one_week : {day y z : ℤ} {v w : ℕ} → IsInIsoWeek day y v → IsInIsoWeek day z w → (y ≡ z) × (v ≡ w)
 one_week h k =
     let thursday = same_thursday h.of_week k.of_week in
     let year = one_year h.of_year (rw (sym thursday) at k.of_year) in
     (year, omega (arith, ints, h.from, h.before, k.from, k.before, thursday, ap first_day year))
 
--- and one of 53
+-- a week is one of 53
 pub week_range : {day year : ℤ} {week : ℕ} → IsInIsoWeek day year week → (1 ≤ week) × (week ≤ 53)
 week_range {year = year} h =
     let year_from = h.of_year.from in
@@ -112,11 +113,7 @@ ordered_weeks {y = y} {z = z} h k less =
 
 -- a day of the week after a Thursday's Monday
 pub weekday_after : (weekday : Weekday) {day : ℤ} → HasWeekday day Thursday → HasWeekday (day -ℤ pos 3 +ℤ pos ((weekday_number weekday + 6) % 7)) weekday
-weekday_after weekday {day} h =
-    on_weekday weekday (h.remainder.quotient +ℤ pos 1 -ℤ pos ((weekday_number weekday + 6) / 7)) (placed day h.remainder.quotient (weekday_number weekday) (below_seven weekday) h.remainder.division.division.equation)
-  where
-    placed : (day q : ℤ) (w : ℕ) → w < 7 → day +ℤ pos 4 ≡ q *ℤ pos 7 +ℤ pos 4 → day -ℤ pos 3 +ℤ pos ((w + 6) % 7) +ℤ pos 4 ≡ (q +ℤ pos 1 -ℤ pos ((w + 6) / 7)) *ℤ pos 7 +ℤ pos w
-    placed day q w small equation = omega (arith, ints)
+weekday_after weekday h = days_later ((weekday_number weekday + 6) % 7) (days_earlier {b = Monday} 3 h refl) (omega (arith, below_seven weekday))
 
 -- the day of the week whose Thursday is `place` days after 1 January
 pub day_of_week : {year place : ℤ} {week : ℕ} (weekday : Weekday) → HasWeekday (first_day year +ℤ place) Thursday → (pos 7 *ℤ (pos week -ℤ pos 1)) ≤ℤ place → place <ℤ (pos 7 *ℤ pos week) → pos 0 ≤ℤ place → place <ℤ pos (days_in_year year)
@@ -132,7 +129,7 @@ day_of_week {year} {place} weekday h from before inside below = record {
   has_weekday = weekday_after weekday h;
 }
 
--- which is only one
+-- of which there is only one
 pub one_day : {a b year : ℤ} {week : ℕ} (weekday : Weekday) → IsDayOfIsoWeek a year week weekday → IsDayOfIsoWeek b year week weekday → a ≡ b
 one_day weekday h k =
     let thursday = one_thursday h.in_week k.in_week in
@@ -149,10 +146,35 @@ day_or_none None weekday own beyond = λ d y k h fits. beyond y (subst (λ (t : 
 day_or_none (Some date) {year = year} {week = week} weekday own near = subst (λ (t : ℤ). IsDayOfIsoWeek t year week weekday) (sym near) own
 
 -- a Thursday outside the year has no week of the year
-pub no_day : {day year place : ℤ} {week : ℕ} {weekday : Weekday} → HasWeekday (first_day year +ℤ place) Thursday → (pos 7 *ℤ (pos week -ℤ pos 1)) ≤ℤ place → place <ℤ (pos 7 *ℤ pos week) → IsDayOfIsoWeek day year week weekday → (pos 0 ≤ℤ place) × (place <ℤ pos (days_in_year year))
+pub no_day : {day year place : ℤ} {week : ℕ} → HasWeekday (first_day year +ℤ place) Thursday → (pos 7 *ℤ (pos week -ℤ pos 1)) ≤ℤ place → place <ℤ (pos 7 *ℤ pos week) → IsInIsoWeek day year week → (pos 0 ≤ℤ place) × (place <ℤ pos (days_in_year year))
 no_day {year = year} own from before h =
-    let week = h.in_week in
-    let year_from = week.of_year.from in
-    let year_before = week.of_year.before in
-    let same = same_day Thursday week.of_week.has_weekday own (omega (arith, ints, week.from, week.before)) (omega (arith, ints, week.from, week.before)) in
+    let year_from = h.of_year.from in
+    let year_before = h.of_year.before in
+    let same = same_day Thursday h.of_week.has_weekday own (omega (arith, ints, h.from, h.before)) (omega (arith, ints, h.from, h.before)) in
     (omega (arith, ints), omega (arith, ints, next_first_day year))
+
+-- ---- the number of weeks of a year
+
+-- 53, where the 53rd Thursday is in the year, and else 52
+pub has_53_weeks : {year place : ℤ} → HasWeekday (first_day year +ℤ place) Thursday → pos 364 ≤ℤ place → place <ℤ pos 371 → place <ℤ pos (days_in_year year) → HasIsoWeeks year 53
+has_53_weeks h from before below = record {
+  day = _;
+  in_last = (day_of_week Thursday h from before (omega (arith, ints)) below).in_week;
+  no_later = λ other week k. (week_range k).1;
+}
+
+pub has_52_weeks : {year place : ℤ} → HasWeekday (first_day year +ℤ place) Thursday → pos 364 ≤ℤ place → place <ℤ pos 371 → ¬ ((pos 0 ≤ℤ place) × (place <ℤ pos (days_in_year year))) → HasIsoWeeks year 52
+has_52_weeks {year} {place} h from before none = record {
+  day = _;
+  in_last = (day_of_week {place = place -ℤ pos 7} Thursday (weeks_apart (negsuc 0) (omega (arith, ints)) h) (omega (arith, ints)) (omega (arith, ints)) (omega (arith, ints)) (omega (arith, ints, length_range year))).in_week;
+  no_later = λ other week k. elim (cases_lt week 53) [
+    | inl small ↦ omega arith
+    | inr last ↦
+        let number : week ≡ 53 = omega (arith, week_range k) in
+        absurd (none (no_day h from before (rw number at k)))
+  ];
+}
+
+-- of which there is only one
+pub one_number : {year : ℤ} {m n : ℕ} → HasIsoWeeks year m → HasIsoWeeks year n → m ≡ n
+one_number {m = m} {n = n} h k = omega (arith, h.no_later k.day n k.in_last, k.no_later h.day m h.in_last)

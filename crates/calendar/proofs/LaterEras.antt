@@ -7,7 +7,9 @@ use Rattle.std.proofs.lemmas.Int.{ints}
 use Rattle.num_integer.proofs.ForCallers.{dist-left, divides_by_magnitude, mul-neg}
 use Rattle.num_integer.specs.Divisors.{Divides}
 use Rattle.calendar.specs.Dates.{HasParts, number_of}
-use Rattle.calendar.specs.Years.{IsDate, first_day, is_leap_year, is_multiple}
+use Rattle.calendar.specs.LeapYears.{is_leap_year, is_multiple}
+use Rattle.calendar.specs.Months.{IsDate}
+use Rattle.calendar.specs.Years.{first_day}
 use Rattle.calendar.specs.declared.date.Date.{Date}
 use Rattle.calendar.proofs.DateOrder.{only_date}
 use Rattle.calendar.proofs.YearLengths.{in_era}

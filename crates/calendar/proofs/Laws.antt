@@ -3,12 +3,14 @@ use Rattle.std.proofs.Common.{arith}
 use Rattle.std.proofs.lemmas.Bool.Decides.{nat_tests}
 use Rattle.std.proofs.lemmas.Int.{ints}
 use Rattle.num_integer.proofs.ForCallers.{divides_by_magnitude}
-use Rattle.calendar.specs.Laws.{DateIsOnly, EarlierFullMoons, EasterIsOnly, EpactOfTheFirstYear, EpactOfTheNextYear, FirstDay, FirstWeekdayIsOnly, FullMoonsDiffer, IsoDayIsOnly, IsoWeekIsOnly, LeapYearsByDivisors, LengthsOfYears, LunarCorrectionOfTwentyFiveCenturies, LunarCorrectionsFrom1800, MonthsAfterIsOnly, NthWeekdayIsOnly, OrderOfDates, OrderOfIsoWeeks, SolarCorrectionOfTheNextCentury, TextIsOnly, WeekdayIsOnly, WeekdaysFollow, WeeksOfAYear, YearsFollow}
-use Rattle.calendar.specs.Years.{days_in_year, is_leap_year, is_multiple}
+use Rattle.calendar.specs.Laws.{DateIsOnly, EarlierFullMoons, EasterIsOnly, EpactOfTheFirstYear, EpactOfTheNextYear, FirstDay, FirstWeekdayIsOnly, FullMoonsDiffer, IsoDayIsOnly, IsoNumberIsOnly, IsoWeekIsOnly, IsoWeeksAreOnly, LastWeekdayIsOnly, LastWeekdayOfMonthIsOnly, LeapYearsByDivisors, LengthsOfYears, LunarCorrectionOfTwentyFiveCenturies, LunarCorrectionsFrom1800, MonthsAfterIsOnly, MonthsBetweenIsOnly, NthWeekdayIsOnly, OrderOfDates, OrderOfIsoWeeks, SolarCorrectionOfTheNextCentury, TextIsOnly, WeekdayIsOnly, WeekdaysFollow, WeeksOfAYear, YearsFollow}
+use Rattle.calendar.specs.LeapYears.{is_leap_year, is_multiple}
+use Rattle.calendar.specs.Years.{days_in_year}
 use Rattle.calendar.proofs.DateOrder as order
 use Rattle.calendar.proofs.DateTexts as texts
 use Rattle.calendar.proofs.EasterSundays as easters
 use Rattle.calendar.proofs.IsoWeeks as weeks
+use Rattle.calendar.proofs.MonthSteps as steps
 use Rattle.calendar.proofs.MonthWeekdays as months
 use Rattle.calendar.proofs.WeekdayPlaces as places
 use Rattle.calendar.proofs.YearLengths as lengths
@@ -47,12 +49,21 @@ text_is_only = texts.only_text
 -- ---- months
 
 pub months_after_is_only : MonthsAfterIsOnly
-months_after_is_only = months.only_months_after
+months_after_is_only = steps.only_months_after
 
 pub nth_weekday_is_only : NthWeekdayIsOnly
 nth_weekday_is_only = months.only_nth_weekday
 
+pub months_between_is_only : MonthsBetweenIsOnly
+months_between_is_only = steps.only_months_between
+
+pub last_weekday_of_month_is_only : LastWeekdayOfMonthIsOnly
+last_weekday_of_month_is_only = months.only_last_of_month
+
 -- ---- weeks
+
+pub iso_number_is_only : IsoNumberIsOnly
+iso_number_is_only = places.only_iso_number
 
 pub weekday_is_only : WeekdayIsOnly
 weekday_is_only = places.only_weekday
@@ -63,6 +74,9 @@ weekdays_follow = places.next_weekdays
 pub first_weekday_is_only : FirstWeekdayIsOnly
 first_weekday_is_only = places.only_first
 
+pub last_weekday_is_only : LastWeekdayIsOnly
+last_weekday_is_only = places.only_last
+
 pub iso_week_is_only : IsoWeekIsOnly
 iso_week_is_only = λ day y z v w h k. weeks.one_week h k
 
@@ -71,6 +85,9 @@ iso_day_is_only = λ a b year week weekday h k. weeks.one_day weekday h k
 
 pub weeks_of_a_year : WeeksOfAYear
 weeks_of_a_year = λ day year week h. weeks.week_range h
+
+pub iso_weeks_are_only : IsoWeeksAreOnly
+iso_weeks_are_only = λ year m n h k. weeks.one_number h k
 
 pub order_of_iso_weeks : OrderOfIsoWeeks
 order_of_iso_weeks = λ a b y z v w h k less. weeks.ordered_weeks h k less

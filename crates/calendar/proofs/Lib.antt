@@ -1,4 +1,6 @@
+pub mod Greatest
 pub mod YearLengths
+pub mod MonthLengths
 pub mod MarchYears
 pub mod LaterEras
 pub mod DateOrder
@@ -7,6 +9,8 @@ pub mod PaddedNumbers
 pub mod YearTexts
 pub mod DateTexts
 pub mod WeekdayPlaces
+pub mod MonthSteps
 pub mod MonthWeekdays
 pub mod IsoWeeks
 pub mod EasterSundays
+pub mod ForCallers

@@ -2,7 +2,9 @@
 use Rattle.std.specs.Prelude.{◌≡◌, ◌+◌, ◌-◌, ◌*◌, ◌/◌, ◌%◌, ◌<◌, ◌≤◌, ◌+ℤ◌, ◌-ℤ◌, ◌*ℤ◌, ℕ, zero, suc, ℤ, pos, Bool, sum, take}
 use Rattle.std.proofs.Common.{ap, arith, refl}
 use Rattle.std.proofs.lemmas.Int.{ints}
-use Rattle.calendar.specs.Years.{day_number, days_before_month, days_in_year, first_day, is_leap_year, month_lengths}
+use Rattle.calendar.specs.LeapYears.{is_leap_year}
+use Rattle.calendar.specs.Months.{days_before_month, month_lengths}
+use Rattle.calendar.specs.Years.{day_number, days_in_year, first_day}
 use Rattle.calendar.proofs.YearLengths.{in_era, march_days, next_first_day}
 
 -- ---- months

@@ -1,28 +1,17 @@
 -- The days of a month that have a given day of the week.
-use Rattle.std.specs.Prelude.{◌≡◌, ◌+◌, ◌-◌, ◌*◌, ◌<◌, ◌≤◌, ◌+ℤ◌, ◌-ℤ◌, ◌*ℤ◌, ℕ, ℤ, pos, negsuc, MatchOption, Option, Some, None}
-use Rattle.std.proofs.Common.{◌∙◌, arith, refl, sym}
+use Rattle.std.specs.Prelude.{◌≡◌, ◌+◌, ◌-◌, ◌*◌, ◌%◌, ◌<◌, ◌≤◌, ◌+ℤ◌, ◌-ℤ◌, ℕ, ℤ, pos, MatchOption, Option, Some, None}
+use Rattle.std.proofs.Common.{arith, refl, sym}
 use Rattle.std.proofs.lemmas.Int.{by_lt_z, ints}
 use Rattle.calendar.specs.declared.date.Date.{Date}
 use Rattle.calendar.specs.declared.weekday.Weekday.{Weekday}
-use Rattle.calendar.specs.Dates.{HasParts, number_of}
-use Rattle.calendar.specs.Months.{IsMonthsAfter, IsNthWeekday}
-use Rattle.calendar.specs.Weeks.{HasWeekday, IsFirstWeekday}
-use Rattle.calendar.specs.Years.{IsDate}
-use Rattle.calendar.proofs.DateOrder.{of_parts, only_date}
-use Rattle.calendar.proofs.WeekdayPlaces.{on_weekday, same_day}
-
--- days some weeks apart have the same day of the week
-weeks_apart : {day other : ℤ} {weekday : Weekday} (weeks : ℤ) → other ≡ day +ℤ pos 7 *ℤ weeks → HasWeekday day weekday → HasWeekday other weekday
-weeks_apart {weekday = weekday} weeks apart h = on_weekday weekday (h.remainder.quotient +ℤ weeks) (omega (arith, ints, h.remainder.division.division.equation))
-
--- from a day on, as from a day whole weeks away, the day of the week comes within a week
-pub until_weekday : {day rest : ℤ} {weekday : Weekday} {days : ℕ} (weeks : ℤ) → day ≡ rest +ℤ pos 7 *ℤ weeks → IsFirstWeekday rest weekday (rest +ℤ pos days) → HasWeekday (day +ℤ pos days) weekday × (days < 7)
-until_weekday {rest = rest} {days = days} weeks apart first = (
-  weeks_apart weeks (omega (arith, ints)) first.has_weekday,
-  by_lt_z (pos days) (pos 7)
-      (λ less. omega (arith, ints))
-      (λ more. absurd (omega (arith, ints, first.first (rest +ℤ pos days -ℤ pos 7) (omega (arith, ints)) (weeks_apart (negsuc 0) (omega (arith, ints)) first.has_weekday)))),
-)
+use Rattle.calendar.specs.Dates.{HasParts, IsLastWeekdayOfMonth, IsNthWeekday, number_of}
+use Rattle.calendar.specs.Months.{IsDate, days_in_month}
+use Rattle.calendar.specs.Weekday.{weekday_number}
+use Rattle.calendar.specs.Weeks.{HasWeekday}
+use Rattle.calendar.specs.Years.{day_number}
+use Rattle.calendar.proofs.DateOrder.{only_date}
+use Rattle.calendar.proofs.MonthLengths.{month_length_range}
+use Rattle.calendar.proofs.WeekdayPlaces.{days_earlier, same_day, weekday_within, weeks_apart}
 
 -- the dates of a month follow each other
 in_month : (a b : Date) {year : ℤ} {month d e : ℕ} → HasParts a year month d → HasParts b year month e → number_of a +ℤ pos e ≡ number_of b +ℤ pos d
@@ -50,17 +39,44 @@ nth_weekday (Some date) {n = n} first parts h small from place found =
       within_weeks = omega arith;
     }
 
--- which is only one
+-- there is at most one
 pub only_nth_weekday : (year : ℤ) (month : ℕ) (weekday : Weekday) (n : ℕ) (a b : Date) → IsNthWeekday year month weekday n a → IsNthWeekday year month weekday n b → a ≡ b
 only_nth_weekday year month weekday n a b h k =
     let apart = in_month a b (record { year_is = h.year_is; month_is = h.month_is; day_is = refl }) (record { year_is = k.year_is; month_is = k.month_is; day_is = refl }) in
     only_date a b (same_day weekday h.has_weekday k.has_weekday (omega (arith, ints, h.within_weeks, k.after_weeks)) (omega (arith, ints, k.within_weeks, h.after_weeks)))
 
--- ---- dates some months apart
+-- each month has a first, a second, a third and a fourth of each day of the week
+pub nth_weekday_exists : (year : ℤ) (month : ℕ) (weekday : Weekday) (n : ℕ) → 1 ≤ month → month ≤ 12 → 1 ≤ n → n ≤ 4 → (date : Date) × IsNthWeekday year month weekday n date
+nth_weekday_exists year month weekday n from to n_from n_to =
+    let (length, most) = month_length_range year month from to in
+    let (days, small, has_weekday) = weekday_within (day_number year month 1) weekday in
+    let date : Date = record {
+      year = year;
+      month = month;
+      day_of_month = 7 * (n - 1) + days + 1;
+      valid = record { month_from_one = from; month_to_twelve = to; day_from_one = omega arith; day_to_last = omega arith };
+    } in (
+      date,
+      record { year_is = refl; month_is = refl; has_weekday = weeks_apart (pos (n - 1)) (omega (arith, ints)) has_weekday; after_weeks = omega arith; within_weeks = omega arith },
+    )
 
-pub only_months_after : (from : Date) (months : ℤ) (a b : Date) → IsMonthsAfter from months a → IsMonthsAfter from months b → a ≡ b
-only_months_after from months a b h k =
-    let year : a.year ≡ b.year = omega (arith, ints, h.month_is, k.month_is, a.valid.month_from_one, a.valid.month_to_twelve, b.valid.month_from_one, b.valid.month_to_twelve) in
-    let month : a.month ≡ b.month = omega (arith, ints, h.month_is, k.month_is, year) in
-    let day = rw (year, month) at h.day_is in
-    of_parts a b year month (day ∙ sym k.day_is)
+-- ---- the last of them
+
+-- the last is less than a week before the end of the month
+pub last_of_month : {year : ℤ} {month : ℕ} {weekday own : Weekday} (date : Date) (length n : ℕ) → HasParts date year month (length - n) → length ≡ days_in_month year month → HasWeekday (day_number year month length) own
+    → weekday_number own ≡ (weekday_number weekday + n) % 7 → n < 7 → IsLastWeekdayOfMonth year month weekday date
+last_of_month {year} {month} {weekday} date length n parts is h turned small =
+    let place : number_of date ≡ day_number year month length -ℤ pos n = rw (parts.year_is, parts.month_is, parts.day_is) (omega (arith, ints, date.valid.day_from_one, parts.day_is)) in
+    let has_weekday = rw (sym place) at (days_earlier n h turned) in
+    record {
+      of_month = record { year_is = parts.year_is; month_is = parts.month_is; has_weekday = has_weekday };
+      last = λ other k.
+          let apart = in_month other date (record { year_is = k.year_is; month_is = k.month_is; day_is = refl }) parts in
+          let to = rw (k.year_is, k.month_is) at other.valid.day_to_last in
+          by_lt_z (number_of date) (number_of other)
+          (λ more. absurd (omega (arith, ints, same_day weekday has_weekday k.has_weekday (omega (arith, ints)) (omega (arith, ints)))))
+          (λ fine. fine);
+    }
+
+pub only_last_of_month : (year : ℤ) (month : ℕ) (weekday : Weekday) (a b : Date) → IsLastWeekdayOfMonth year month weekday a → IsLastWeekdayOfMonth year month weekday b → a ≡ b
+only_last_of_month year month weekday a b h k = only_date a b (omega (arith, ints, h.last b k.of_month, k.last a h.of_month))

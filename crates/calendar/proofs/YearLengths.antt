@@ -6,7 +6,9 @@ use Rattle.std.proofs.lemmas.Bool.Decides.{nat_tests}
 use Rattle.std.proofs.lemmas.Int.{by_lt_z, ints}
 use Rattle.num_integer.proofs.ForCallers.{divides_by_magnitude}
 use Rattle.num_integer.specs.Divisors.{Divides}
-use Rattle.calendar.specs.Years.{days_after, days_before, days_in_year, first_day, is_leap_year, is_multiple, month_lengths}
+use Rattle.calendar.specs.LeapYears.{is_leap_year, is_multiple}
+use Rattle.calendar.specs.Months.{month_lengths}
+use Rattle.calendar.specs.Years.{days_after, days_before, days_in_year, first_day}
 
 -- ---- the multiples of a number below another
 

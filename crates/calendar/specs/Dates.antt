@@ -1,22 +1,76 @@
--- What is seen of a date.
-use Rattle.std.specs.Prelude.{◌≡◌, ◌⊎◌, ◌<◌, ◌<ℤ◌, ◌+◌, ℕ, ℤ}
-use Rattle.calendar.specs.Years.{day_number, days_before_month}
+-- What is said of dates. Their years are whole numbers without limit.
+use Rattle.std.specs.Prelude.{◌≡◌, ◌⊎◌, ◌<◌, ◌≤◌, ◌<ℤ◌, ◌≤ℤ◌, ◌+◌, ◌*◌, ◌+ℤ◌, ℕ, ℤ, min}
+use Rattle.calendar.specs.Greatest.{IsGreatest}
+use Rattle.calendar.specs.Months.{days_before_month, days_in_month, month_number}
+use Rattle.calendar.specs.Weeks.{HasWeekday}
+use Rattle.calendar.specs.Years.{day_number}
 use Rattle.calendar.specs.declared.date.Date.{Date}
+use Rattle.calendar.specs.declared.weekday.Weekday.{Weekday}
 
--- its day, counted from 1970-01-01
+-- ---- one date
+
+-- This is the day of the date, counted from 1970-01-01.
+-- Examples: 1970-01-01: 0; 2000-03-01: 11017; 1969-12-31: -1.
 abbrev pub number_of : Date → ℤ
 number_of date = day_number date.year date.month date.day_of_month
 
--- its day, counted from the first of its year, which is 1
+-- This is the day of the date in its year, which is 1 on 1 January.
+-- Examples: 1970-01-01: 1; 2000-03-01: 61; 1969-12-31: 365.
 abbrev pub year_day_of : Date → ℕ
 year_day_of date = days_before_month date.year date.month + date.day_of_month
 
--- it has this year, this month and this day of the month
+-- The date has this year, this month and this day of the month.
+-- Examples: 2000-02-29: 2000, 2, 29; not 2000, 3, 1.
 pub record HasParts (date : Date) (year : ℤ) (month day : ℕ) : Type 0 where
   pub year_is : date.year ≡ year
   pub month_is : date.month ≡ month
   pub day_is : date.day_of_month ≡ day
 
--- an earlier year, or an earlier month of the same, or an earlier day of that
+-- The first date has the lesser year; or the same year and the lesser month; or the same year and month, and the lesser day.
+-- Examples: 1999-12-31 before 2000-01-01; 2000-02-28 before 2000-02-29; no date before itself.
 abbrev pub IsEarlier : Date → Date → Type 0
 IsEarlier a b = (a.year <ℤ b.year) ⊎ ((a.year ≡ b.year) × ((a.month < b.month) ⊎ ((a.month ≡ b.month) × (a.day_of_month < b.day_of_month))))
+
+-- ---- dates some months apart
+
+-- The date lies in the month that is `months` after that of `from`, on the same day of the month, or on the last where there is no such day.
+-- Examples: from 2000-01-31: 0: 2000-01-31; 1: 2000-02-29; -2: 1999-11-30; not 2000-02-28 at 1.
+pub record IsMonthsAfter (from : Date) (months : ℤ) (date : Date) : Type 0 where
+  pub month_is : month_number date.year date.month ≡ month_number from.year from.month +ℤ months
+  pub day_is : date.day_of_month ≡ min from.day_of_month (days_in_month date.year date.month)
+
+-- The date that is `months` after `from` is not after `to`.
+-- Examples: from 2000-01-31 to 2000-03-30: 1, which is 2000-02-29; -7; not 2, which is 2000-03-31.
+pub record HasMonths (from to : Date) (months : ℤ) : Type 0 where
+  pub date : Date
+  pub is_after : IsMonthsAfter from months date
+  pub not_later : number_of date ≤ℤ number_of to
+
+-- This is the greatest number of months after `from` that lead to a date not after `to`.
+-- Examples: 2000-01-31 to 2000-02-29: 1; 2000-02-29 to 2001-02-28: 12; 2000-03-01 to 2000-02-29: -1.
+abbrev pub IsMonthsBetween : Date → Date → ℤ → Type 0
+IsMonthsBetween from to months = IsGreatest (HasMonths from to) months
+
+-- ---- dates of a month that have a day of the week
+
+-- The date has this year, this month and this day of the week, and its day of the month is above 7·(n - 1) and at most 7·n.
+-- Examples: 2026, 11, Thursday: 1: 2026-11-05; 4: 2026-11-26; none at 0 or 5.
+pub record IsNthWeekday (year : ℤ) (month : ℕ) (weekday : Weekday) (n : ℕ) (date : Date) : Type 0 where
+  pub year_is : date.year ≡ year
+  pub month_is : date.month ≡ month
+  pub has_weekday : HasWeekday (number_of date) weekday
+  pub after_weeks : 7 * n < date.day_of_month + 7
+  pub within_weeks : date.day_of_month ≤ 7 * n
+
+-- The date has this year, this month and this day of the week.
+-- Examples: 2026, 11, Thursday: 2026-11-05; 2026-11-26; not 2026-11-27.
+pub record IsWeekdayOfMonth (year : ℤ) (month : ℕ) (weekday : Weekday) (date : Date) : Type 0 where
+  pub year_is : date.year ≡ year
+  pub month_is : date.month ≡ month
+  pub has_weekday : HasWeekday (number_of date) weekday
+
+-- The date has this year, this month and this day of the week, and no other such date is later.
+-- Examples: 2026, 11, Thursday: 2026-11-26; 2026, 10, Friday: 2026-10-30; not 2026-10-23.
+pub record IsLastWeekdayOfMonth (year : ℤ) (month : ℕ) (weekday : Weekday) (date : Date) : Type 0 where
+  pub of_month : IsWeekdayOfMonth year month weekday date
+  pub last : (other : Date) → IsWeekdayOfMonth year month weekday other → number_of other ≤ℤ number_of date

@@ -1,22 +1,19 @@
 -- The weeks of ISO 8601, from Monday to Sunday.
-use Rattle.std.specs.Prelude.{◌+ℤ◌, ◌-ℤ◌, ◌*ℤ◌, ◌≤ℤ◌, ◌<ℤ◌, ℕ, ℤ, pos}
+use Rattle.std.specs.Prelude.{◌≤◌, ◌+ℤ◌, ◌-ℤ◌, ◌*ℤ◌, ◌≤ℤ◌, ◌<ℤ◌, ℕ, ℤ, pos}
+use Rattle.calendar.specs.Weeks.{HasWeekday}
+use Rattle.calendar.specs.Years.{HasDay, first_day}
 use Rattle.calendar.specs.declared.weekday.Weekday.{Weekday}
 use Rattle.calendar.specs.declared.weekday.Weekday.TheVariants.{Thursday}
-use Rattle.calendar.specs.Weeks.{HasWeekday}
-use Rattle.calendar.specs.Years.{first_day}
 
--- the Thursday of the week of a day: the one at most three days away
+-- The second day is the Thursday of the week of the first: the one at most three days away.
+-- Examples: 0: 0; 3: 0; 4: 7; not 3: 7.
 pub record IsThursdayOfWeek (day thursday : ℤ) : Type 0 where
   pub has_weekday : HasWeekday thursday Thursday
   pub from : (day -ℤ pos 3) ≤ℤ thursday
   pub to : thursday ≤ℤ (day +ℤ pos 3)
 
--- the year has the day
-pub record HasDay (year day : ℤ) : Type 0 where
-  pub from : first_day year ≤ℤ day
-  pub before : day <ℤ first_day (year +ℤ pos 1)
-
--- the day is in this week of the year that has its Thursday: week 1 has the Thursday among the first 7 days
+-- The day is in this week of the year that has its Thursday: week 1 has the Thursday among the first 7 days of the year.
+-- Examples: 0: 1970, 1; 3: 1970, 1; 4: 1970, 2; -3: 1970, 1; -4: 1969, 52.
 pub record IsInIsoWeek (day year : ℤ) (week : ℕ) : Type 0 where
   pub thursday : ℤ
   pub of_week : IsThursdayOfWeek day thursday
@@ -24,7 +21,15 @@ pub record IsInIsoWeek (day year : ℤ) (week : ℕ) : Type 0 where
   pub from : (pos 7 *ℤ (pos week -ℤ pos 1)) ≤ℤ (thursday -ℤ first_day year)
   pub before : (thursday -ℤ first_day year) <ℤ (pos 7 *ℤ pos week)
 
--- and is this day of the week
+-- The day is in this week of the year, and is this day of the week.
+-- Examples: 3: 1970, 1, Sunday; not 3: 1970, 2, Sunday.
 pub record IsDayOfIsoWeek (day year : ℤ) (week : ℕ) (weekday : Weekday) : Type 0 where
   pub in_week : IsInIsoWeek day year week
   pub has_weekday : HasWeekday day weekday
+
+-- The year has so many weeks: some day is in the last of them, and no day is in a later week of the year.
+-- Examples: 2004: 53; 2005: 52; 2020: 53.
+pub record HasIsoWeeks (year : ℤ) (weeks : ℕ) : Type 0 where
+  pub day : ℤ
+  pub in_last : IsInIsoWeek day year weeks
+  pub no_later : (other : ℤ) (week : ℕ) → IsInIsoWeek other year week → week ≤ weeks

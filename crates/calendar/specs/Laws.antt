@@ -2,124 +2,144 @@
 use Rattle.std.specs.Prelude.{◌≡◌, ◌⊎◌, ◌↔◌, ◌<◌, ◌≤◌, ◌+◌, ◌*◌, ◌%◌, ◌<ℤ◌, ◌+ℤ◌, ℕ, ℤ, pos, FitsSigned, IsTrue, if◌then◌else◌}
 use Rattle.std.specs.Int.{w64}
 use Rattle.num_integer.specs.Divisors.{Divides}
-use Rattle.calendar.specs.Dates.{IsEarlier, number_of}
+use Rattle.calendar.specs.Dates.{IsEarlier, IsLastWeekdayOfMonth, IsMonthsAfter, IsMonthsBetween, IsNthWeekday, number_of}
+use Rattle.calendar.specs.IsoWeeks.{HasIsoWeeks, IsDayOfIsoWeek, IsInIsoWeek}
+use Rattle.calendar.specs.LeapYears.{is_leap_year}
+use Rattle.calendar.specs.Years.{day_number, days_in_year, first_day}
 use Rattle.calendar.specs.Easter.{IsEaster, IsEpact, IsLunarCorrection, IsSolarCorrection, days_to_full_moon, is_day_earlier}
-use Rattle.calendar.specs.IsoWeeks.{IsDayOfIsoWeek, IsInIsoWeek}
-use Rattle.calendar.specs.Months.{IsMonthsAfter, IsNthWeekday}
 use Rattle.calendar.specs.Text.{text_of}
-use Rattle.calendar.specs.Weekday.{weekday_number}
-use Rattle.calendar.specs.Weeks.{HasWeekday, IsFirstWeekday}
-use Rattle.calendar.specs.Years.{day_number, days_in_year, first_day, is_leap_year}
+use Rattle.calendar.specs.Weekday.{iso_number, weekday_number}
+use Rattle.calendar.specs.Weeks.{HasWeekday, IsFirstWeekday, IsLastWeekday}
 use Rattle.calendar.specs.declared.date.Date.{Date}
 use Rattle.calendar.specs.declared.weekday.Weekday.{Weekday}
 use Rattle.calendar.specs.declared.weekday.Weekday.TheVariants.{Thursday}
 
 -- ---- years
 
--- 4 divides the leap years, and 100 does not, or 400 does
+-- 4 divides the leap years, and 100 does not, or 400 does.
 abbrev pub LeapYearsByDivisors : Type 0
 LeapYearsByDivisors = (year : ℤ) → IsTrue (is_leap_year year) ↔ (Divides (pos 4) year × ((¬ (Divides (pos 100) year)) ⊎ Divides (pos 400) year))
 
--- a leap year has 366 days, and every other year 365
+-- A leap year has 366 days, and every other year 365.
 abbrev pub LengthsOfYears : Type 0
 LengthsOfYears = (year : ℤ) → days_in_year year ≡ (if is_leap_year year then 366 else 365)
 
--- the next year begins after the days of the year
+-- The next year begins after the days of the year.
 abbrev pub YearsFollow : Type 0
 YearsFollow = (year : ℤ) → first_day (year +ℤ pos 1) ≡ first_day year +ℤ pos (days_in_year year)
 
--- 1970-01-01 is day 0
+-- 1970-01-01 is day 0.
 abbrev pub FirstDay : Type 0
 FirstDay = day_number (pos 1970) 1 1 ≡ pos 0
 
 -- ---- dates
 
--- each day has at most one date
+-- Each day has at most one date.
 abbrev pub DateIsOnly : Type 0
 DateIsOnly = (a b : Date) → number_of a ≡ number_of b → a ≡ b
 
--- dates are in the order of their days
+-- Dates are in the order of their days.
 abbrev pub OrderOfDates : Type 0
 OrderOfDates = (a b : Date) → IsEarlier a b ↔ (number_of a <ℤ number_of b)
 
--- each text is that of at most one date
+-- Each text is that of at most one date.
 abbrev pub TextIsOnly : Type 0
 TextIsOnly = (a b : Date) → FitsSigned w64 a.year → FitsSigned w64 b.year → text_of a ≡ text_of b → a ≡ b
 
 -- ---- months
 
--- each date has at most one date a number of months later
+-- Each date has at most one date a number of months later.
 abbrev pub MonthsAfterIsOnly : Type 0
 MonthsAfterIsOnly = (from : Date) (months : ℤ) (a b : Date) → IsMonthsAfter from months a → IsMonthsAfter from months b → a ≡ b
 
--- each month has at most one n-th day of each day of the week
+-- Each month has at most one n-th day of each day of the week.
 abbrev pub NthWeekdayIsOnly : Type 0
 NthWeekdayIsOnly = (year : ℤ) (month : ℕ) (weekday : Weekday) (n : ℕ) (a b : Date) → IsNthWeekday year month weekday n a → IsNthWeekday year month weekday n b → a ≡ b
 
+-- From each date to each other there is at most one number of whole months.
+abbrev pub MonthsBetweenIsOnly : Type 0
+MonthsBetweenIsOnly = (from to : Date) (a b : ℤ) → IsMonthsBetween from to a → IsMonthsBetween from to b → a ≡ b
+
+-- Each month has at most one last day of each day of the week.
+abbrev pub LastWeekdayOfMonthIsOnly : Type 0
+LastWeekdayOfMonthIsOnly = (year : ℤ) (month : ℕ) (weekday : Weekday) (a b : Date) → IsLastWeekdayOfMonth year month weekday a → IsLastWeekdayOfMonth year month weekday b → a ≡ b
+
 -- ---- weeks
 
--- each day has at most one day of the week
+-- Each number of a day of the week by ISO 8601 is that of at most one.
+abbrev pub IsoNumberIsOnly : Type 0
+IsoNumberIsOnly = (a b : Weekday) → iso_number a ≡ iso_number b → a ≡ b
+
+-- Each day has at most one day of the week.
 abbrev pub WeekdayIsOnly : Type 0
 WeekdayIsOnly = (day : ℤ) (a b : Weekday) → HasWeekday day a → HasWeekday day b → a ≡ b
 
--- day 0 is a Thursday, and the days of the week follow in turn
+-- Day 0 is a Thursday, and the days of the week follow in turn.
 abbrev pub WeekdaysFollow : Type 0
 WeekdaysFollow = HasWeekday (pos 0) Thursday × ((day : ℤ) (a b : Weekday) → HasWeekday day a → HasWeekday (day +ℤ pos 1) b → weekday_number b ≡ (weekday_number a + 1) % 7)
 
--- from each day on, at most one day is the first that has a day of the week
+-- From each day on, at most one day is the first that has a day of the week.
 abbrev pub FirstWeekdayIsOnly : Type 0
 FirstWeekdayIsOnly = (from : ℤ) (weekday : Weekday) (a b : ℤ) → IsFirstWeekday from weekday a → IsFirstWeekday from weekday b → a ≡ b
 
--- each day is in at most one week, of one year
+-- Up to each day, at most one day is the last that has a day of the week.
+abbrev pub LastWeekdayIsOnly : Type 0
+LastWeekdayIsOnly = (to : ℤ) (weekday : Weekday) (a b : ℤ) → IsLastWeekday to weekday a → IsLastWeekday to weekday b → a ≡ b
+
+-- Each day is in at most one week, of one year.
 abbrev pub IsoWeekIsOnly : Type 0
 IsoWeekIsOnly = (day y z : ℤ) (v w : ℕ) → IsInIsoWeek day y v → IsInIsoWeek day z w → (y ≡ z) × (v ≡ w)
 
--- each week has at most one day of each day of the week
+-- Each week has at most one day of each day of the week.
 abbrev pub IsoDayIsOnly : Type 0
 IsoDayIsOnly = (a b year : ℤ) (week : ℕ) (weekday : Weekday) → IsDayOfIsoWeek a year week weekday → IsDayOfIsoWeek b year week weekday → a ≡ b
 
--- each week of a year is one of the first 53
+-- Each week of a year is one of the first 53.
 abbrev pub WeeksOfAYear : Type 0
 WeeksOfAYear = (day year : ℤ) (week : ℕ) → IsInIsoWeek day year week → (1 ≤ week) × (week ≤ 53)
 
--- the days of an earlier week are before those of a later one
+-- Each year has at most one number of weeks.
+abbrev pub IsoWeeksAreOnly : Type 0
+IsoWeeksAreOnly = (year : ℤ) (m n : ℕ) → HasIsoWeeks year m → HasIsoWeeks year n → m ≡ n
+
+-- The days of an earlier week are before those of a later one.
 abbrev pub OrderOfIsoWeeks : Type 0
 OrderOfIsoWeeks = (a b y z : ℤ) (v w : ℕ) → IsInIsoWeek a y v → IsInIsoWeek b z w → (y <ℤ z) ⊎ ((y ≡ z) × (v < w)) → a <ℤ b
 
 -- ---- Easter
 
--- each year has at most one day of Easter
+-- Each year has at most one day of Easter.
 abbrev pub EasterIsOnly : Type 0
 EasterIsOnly = (year a b : ℤ) → IsEaster year a → IsEaster year b → a ≡ b
 
--- in each century the nineteen golden numbers have nineteen different full moons, from 21 March to 18 April
+-- In each century the nineteen golden numbers have nineteen different full moons, from 21 March to 18 April.
 abbrev pub FullMoonsDiffer : Type 0
 FullMoonsDiffer = (century : ℤ) (golden other epact other_epact : ℕ) → golden < 19 → other < 19 → IsEpact century golden epact → IsEpact century other other_epact
     → (days_to_full_moon epact golden ≤ 28) × (days_to_full_moon epact golden ≡ days_to_full_moon other_epact other → golden ≡ other)
 
--- the full moon is a day earlier at the epact 24, and at 25 in the centuries that have the epact 24 too
+-- The full moon is a day earlier at the epact 24, and at 25 in the centuries that have the epact 24 too.
 abbrev pub EarlierFullMoons : Type 0
 EarlierFullMoons = (century : ℤ) (golden epact : ℕ) → golden < 19 → IsEpact century golden epact
     → IsTrue (is_day_earlier epact golden) ↔ ((epact ≡ 24) ⊎ ((epact ≡ 25) × ((other : ℕ) × (other < 19) × IsEpact century other 24)))
 
--- the first golden number has the epact 1 in the years 1500 to 1699
+-- The first golden number has the epact 1 in the years 1500 to 1699.
 abbrev pub EpactOfTheFirstYear : Type 0
 EpactOfTheFirstYear = IsEpact (pos 15) 0 1 × IsEpact (pos 16) 0 1
 
--- that of the next golden number is 11 greater, modulo 30
+-- The epact of the next golden number is 11 greater, modulo 30.
 abbrev pub EpactOfTheNextYear : Type 0
 EpactOfTheNextYear = (century : ℤ) (golden epact : ℕ) → IsEpact century golden epact → IsEpact century (golden + 1) ((epact + 11) % 30)
 
--- the solar correction is the same in the next century where 4 divides that century, and else 1 greater
+-- The solar correction is the same in the next century where 4 divides that century, and else 1 greater.
 abbrev pub SolarCorrectionOfTheNextCentury : Type 0
 SolarCorrectionOfTheNextCentury = (century days : ℤ) → IsSolarCorrection century days
     → (Divides (pos 4) (century +ℤ pos 1) → IsSolarCorrection (century +ℤ pos 1) days)
     × ((¬ (Divides (pos 4) (century +ℤ pos 1))) → IsSolarCorrection (century +ℤ pos 1) (days +ℤ pos 1))
 
--- the lunar correction is 6 in the three centuries from 1800 on, 7 in the next three, and so on, and 13 in four
+-- The lunar correction is 6 in the three centuries from 1800 on, 7 in the next three, and so on, and 13 in four.
 abbrev pub LunarCorrectionsFrom1800 : Type 0
 LunarCorrectionsFrom1800 = (step place : ℕ) → step ≤ 7 → (place < 3) ⊎ ((step ≡ 7) × (place ≡ 3)) → IsLunarCorrection (pos (18 + 3 * step + place)) (pos (6 + step))
 
--- and it grows by 8 in 25 centuries
+-- The lunar correction grows by 8 in 25 centuries.
 abbrev pub LunarCorrectionOfTwentyFiveCenturies : Type 0
 LunarCorrectionOfTwentyFiveCenturies = (century days : ℤ) → IsLunarCorrection century days → IsLunarCorrection (century +ℤ pos 25) (days +ℤ pos 8)

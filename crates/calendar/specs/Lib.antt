@@ -1,9 +1,11 @@
+pub mod Greatest
+pub mod LeapYears
+pub mod Months
 pub mod Years
 pub mod Dates
 pub mod Weekday
 pub mod Laws
 pub mod Text
 pub mod Weeks
-pub mod Months
 pub mod IsoWeeks
 pub mod Easter

@@ -1,24 +1,36 @@
--- Months counted one by one.
-use Rattle.std.specs.Prelude.{◌≡◌, ◌<◌, ◌≤◌, ◌+◌, ◌*◌, ◌+ℤ◌, ◌-ℤ◌, ◌*ℤ◌, ℕ, ℤ, pos, min}
-use Rattle.calendar.specs.Dates.{number_of}
-use Rattle.calendar.specs.Weeks.{HasWeekday}
-use Rattle.calendar.specs.Years.{days_in_month}
-use Rattle.calendar.specs.declared.date.Date.{Date}
-use Rattle.calendar.specs.declared.weekday.Weekday.{Weekday}
+-- The months and their lengths.
+use Rattle.std.specs.Prelude.{◌≤◌, ◌-◌, ◌+ℤ◌, ◌-ℤ◌, ◌*ℤ◌, ℕ, ℤ, pos, Bool, if◌then◌else◌, List, [], ◌∷◌, take, sum, slice_index}
+use Rattle.calendar.specs.LeapYears.{is_leap_year}
 
--- the month, counted from January of year 0
+-- These are the lengths of the months, from January on, in a leap year or in another.
+-- Examples: in a leap year 31, 29, 31 and so on; in another 31, 28, 31 and so on.
+abbrev pub month_lengths : Bool → List ℕ
+month_lengths leap = 31 ∷ (if leap then 29 else 28) ∷ 31 ∷ 30 ∷ 31 ∷ 30 ∷ 31 ∷ 31 ∷ 30 ∷ 31 ∷ 30 ∷ 31 ∷ []
+
+-- These are the lengths of the months of the year.
+-- Examples: 2000: 31, 29, 31 and so on; 1900: 31, 28, 31 and so on.
+abbrev pub months_of : ℤ → List ℕ
+months_of year = month_lengths (is_leap_year year)
+
+-- This is the length of the month.
+-- Examples: 2000 and 2: 29; 1900 and 2: 28; 2000 and 3: 31.
+abbrev pub days_in_month : ℤ → ℕ → ℕ
+days_in_month year month = slice_index (months_of year) (month - 1)
+
+-- These are the lengths of all earlier months of the year, added.
+-- Examples: 2000 and 2: 31; 2000 and 3: 60; 1900 and 3: 59.
+abbrev pub days_before_month : ℤ → ℕ → ℕ
+days_before_month year month = sum (take (month - 1) (months_of year))
+
+-- The month is from 1 to 12, and the day from 1 to the length of the month.
+-- Examples: 2000, 2, 29; not 1900, 2, 29; not 2000, 0, 1.
+pub record IsDate (year : ℤ) (month day : ℕ) : Type 0 where
+  pub month_from_one : 1 ≤ month
+  pub month_to_twelve : month ≤ 12
+  pub day_from_one : 1 ≤ day
+  pub day_to_last : day ≤ days_in_month year month
+
+-- This is the number of the month, counted from January of year 0.
+-- Examples: 0 and 1: 0; 2000 and 2: 24001; -1 and 12: -1.
 abbrev pub month_number : ℤ → ℕ → ℤ
 month_number year month = pos 12 *ℤ year +ℤ pos month -ℤ pos 1
-
--- the date lies in the month that is `months` after that of another, on the same day of the month, or on the last where there is no such day
-pub record IsMonthsAfter (from : Date) (months : ℤ) (date : Date) : Type 0 where
-  pub month_is : month_number date.year date.month ≡ month_number from.year from.month +ℤ months
-  pub day_is : date.day_of_month ≡ min from.day_of_month (days_in_month date.year date.month)
-
--- the date is the n-th day of the month that has the day of the week, counted from 1
-pub record IsNthWeekday (year : ℤ) (month : ℕ) (weekday : Weekday) (n : ℕ) (date : Date) : Type 0 where
-  pub year_is : date.year ≡ year
-  pub month_is : date.month ≡ month
-  pub has_weekday : HasWeekday (number_of date) weekday
-  pub after_weeks : 7 * n < date.day_of_month + 7
-  pub within_weeks : date.day_of_month ≤ 7 * n

@@ -1,15 +1,27 @@
 -- Days that have a given day of the week.
 use Rattle.std.specs.Prelude.{◌+ℤ◌, ◌≤ℤ◌, ℤ, pos}
 use Rattle.num_integer.specs.Division.{IsFloored, IsRemainder}
-use Rattle.calendar.specs.declared.weekday.Weekday.{Weekday}
+use Rattle.calendar.specs.Greatest.{IsGreatest, IsLeastFrom}
 use Rattle.calendar.specs.Weekday.{weekday_number}
+use Rattle.calendar.specs.declared.weekday.Weekday.{Weekday}
 
--- the day has this day of the week
+-- The floored remainder of the day and 4 by 7 is the number of the day of the week: day 0 is a Thursday.
+-- Examples: 0: Thursday; 3: Sunday; -4: Sunday.
 pub record HasWeekday (day : ℤ) (weekday : Weekday) : Type 0 where
   pub remainder : IsRemainder IsFloored (day +ℤ pos 4) (pos 7) (pos (weekday_number weekday))
 
--- and is the first that has it from there on
-pub record IsFirstWeekday (from : ℤ) (weekday : Weekday) (day : ℤ) : Type 0 where
-  pub from_there : from ≤ℤ day
+-- The day is the least from `from` on that has the day of the week.
+-- Examples: Sunday: from 0: 3; from 3: 3; from 4: 10.
+abbrev pub IsFirstWeekday : ℤ → Weekday → ℤ → Type 0
+IsFirstWeekday from weekday day = IsLeastFrom from (λ day. HasWeekday day weekday) day
+
+-- The day is at most `to`, and has the day of the week.
+-- Examples: 4 and Sunday: 3; -4; not 10.
+pub record IsWeekdayTo (to : ℤ) (weekday : Weekday) (day : ℤ) : Type 0 where
+  pub to_there : day ≤ℤ to
   pub has_weekday : HasWeekday day weekday
-  pub first : (other : ℤ) → from ≤ℤ other → HasWeekday other weekday → day ≤ℤ other
+
+-- The day is the greatest up to `to` that has the day of the week.
+-- Examples: Sunday: to 4: 3; to 3: 3; to 2: -4.
+abbrev pub IsLastWeekday : ℤ → Weekday → ℤ → Type 0
+IsLastWeekday to weekday day = IsGreatest (IsWeekdayTo to weekday) day

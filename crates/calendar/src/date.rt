@@ -1,11 +1,11 @@
 //! Dates and their days.
 
-ghost use Rattle.calendar.specs.Years.{IsDate};
+ghost use Rattle.calendar.specs.Months.{IsDate};
 
-use crate::eras::{days_to_month, march_year_of_day, month_and_day};
-use crate::months::{days_before_month, days_in_month, days_in_year};
-use crate::years::narrowed;
-use num_integer::div_mod_floor;
+use crate::days_in_year;
+use crate::eras::{days_to_month, era_of_year, eras_in_days, march_year_of_day, parts_from_march};
+use crate::months::{days_before_month, days_in_month, month_and_day_in_year};
+use crate::years::{narrowed, year_near};
 
 /// A date of the proleptic Gregorian calendar, in any year of `i64`. The year before year 1 is
 /// year 0. Dates are in the order of their days.
@@ -18,12 +18,12 @@ pub struct Date {
 }
 
 impl Date {
-    ghost use Rattle.std.specs.Prelude.{◌≡◌, ◌+◌, ◌<◌, ◌≤◌, ◌^◌, ◌+ℤ◌, ◌-ℤ◌, ◌*ℤ◌, pos, unsigned_abs, FitsSigned, MatchOption};
+    ghost use Rattle.std.specs.Prelude.{◌≡◌, ◌+◌, ◌<◌, ◌≤◌, ◌^◌, ◌≤ℤ◌, ◌<ℤ◌, ◌+ℤ◌, ◌-ℤ◌, ◌*ℤ◌, ℤ, pos, unsigned_abs, FitsSigned, MatchOption};
     ghost use Rattle.std.specs.Int.{w64};
     ghost use Rattle.std.specs.Option.{SomeIff};
     ghost use Rattle.num_integer.specs.Only.{IsOnly};
-    ghost use Rattle.calendar.specs.Years.{days_in_year};
     ghost use Rattle.calendar.specs.Dates.{HasParts, number_of, year_day_of};
+    ghost use Rattle.calendar.specs.Years.{HasDay, days_in_year, first_day};
     ghost use Rattle.calendar.specs.declared.date.Date.{Date};
 
     /// Returns the date of a year, a month and a day of the month, or `None` where there is none.
@@ -49,10 +49,10 @@ impl Date {
         ensures number { number_of result ≡ day }
         ensures only { IsOnly (λ date. number_of date ≡ day) result }
     {
-        let (year, days) = march_year_of_day(day);
-        let (month, day_of_month) = month_and_day(days);
+        let (march_year, days) = march_year_of_day(day);
+        let (year, month, day_of_month) = parts_from_march(march_year, days);
         Date {
-            year: if days < 306 { year } else { year + 1 },
+            year,
             month,
             day_of_month,
         }
@@ -155,9 +155,9 @@ impl Date {
             (λ date. number_of date ≡ number_of self.now +ℤ days) }
     {
         let (era, day) = self.day_of_era();
-        let (eras, rest) = div_mod_floor(days, 146097);
+        let (eras, rest) = eras_in_days(days);
         // 1970-01-01 is day 865566 of era 0.
-        Date::from_day(i64::from(day) + rest - 865566).eras_later(era + eras)
+        Date::from_day(i64::from(day + rest) - 865566).eras_later(era + eras)
     }
 
     /// Returns the date `eras` times 400 years after this one, or `None` where its year does not fit.
@@ -188,8 +188,8 @@ impl Date {
         ensures small { unsigned_abs result.0 < 2 ^ 55 }
         ensures below { result.1 < 2 ^ 19 }
     {
-        let (era, year) = div_mod_floor(self.year, 400);
-        let month = days_to_month(year as u32, self.month);
+        let (era, year) = era_of_year(self.year);
+        let month = days_to_month(year, self.month);
         (era, month + u32::from(self.day_of_month))
     }
 
@@ -199,18 +199,24 @@ impl Date {
         ensures year { result.year ≡ year }
         ensures day { year_day_of result ≡ days + 1 }
     {
-        // 1 January is 306 days after the last 1 March.
-        let march = days_before_month(year, 3);
-        let from_march = if days < march {
-            days + 306
-        } else {
-            days - march
-        };
-        let (month, day_of_month) = month_and_day(u32::from(from_march));
+        let (month, day_of_month) = month_and_day_in_year(year, days);
         Date {
             year,
             month,
             day_of_month,
         }
+    }
+
+    /// Returns the date `days` days after 1 January of a year, or `None` where its year is beyond `i64`.
+    /// It is in the year or in the one before or after it.
+    pub(crate) fn near(year: i64, days: i64) -> Option<Date>
+        requires from { pos 0 ≤ℤ (days +ℤ pos 6) }
+        requires below { days <ℤ pos 372 }
+        ensures { MatchOption result
+            ((y : ℤ) → HasDay y (first_day year +ℤ days) → ¬ (FitsSigned w64 y))
+            (λ date. number_of date ≡ first_day year +ℤ days) }
+    {
+        let (year, days) = year_near(year, days)?;
+        Some(Date::in_year(year, days))
     }
 }

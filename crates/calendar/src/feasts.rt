@@ -2,13 +2,12 @@
 
 ghost use Rattle.std.specs.Prelude.{◌≡◌, ◌⊎◌, ◌+◌, ◌<◌, ◌≤◌, ◌^◌, ◌+ℤ◌, ◌-ℤ◌, ◌*ℤ◌, pos, unsigned_abs};
 ghost use Rattle.calendar.specs.Dates.{number_of};
+ghost use Rattle.calendar.specs.Years.{day_number};
 ghost use Rattle.calendar.specs.Easter.{IsCentury, IsEaster, IsEpact, IsGolden, IsLunarCorrection, IsPaschalFullMoon, IsSolarCorrection, days_to_full_moon};
 ghost use Rattle.calendar.specs.Weeks.{IsFirstWeekday};
-ghost use Rattle.calendar.specs.Years.{day_number};
 ghost use Rattle.calendar.specs.declared.weekday.Weekday.TheVariants.{Sunday};
 
 use crate::Date;
-use crate::weeks::days_after_sunday;
 use num_integer::{div_floor, mod_floor};
 
 /// Returns the date of Easter Sunday of a year: the first Sunday after the Paschal full moon, by the
@@ -54,7 +53,7 @@ fn days_to_next_sunday(date: &Date) -> u8
     ensures from { 1 ≤ result }
     ensures to { result ≤ 7 }
 {
-    7 - days_after_sunday(date.weekday())
+    7 - date.weekday().days_after_sunday()
 }
 
 /// Returns the day of the Paschal full moon, counted from 1 March.

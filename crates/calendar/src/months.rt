@@ -1,10 +1,11 @@
-//! The lengths of months.
+//! Months: their lengths, and their days in a year.
 
-ghost use Rattle.std.specs.Prelude.{◌≡◌, ◌≤◌};
-ghost use Rattle.calendar.specs.Years.{days_before_month, days_in_month, days_in_year};
+ghost use Rattle.std.specs.Prelude.{◌≡◌, ◌+◌, ◌<◌, ◌≤◌};
+ghost use Rattle.calendar.specs.Months.{IsDate, days_before_month, days_in_month};
+ghost use Rattle.calendar.specs.Years.{days_in_year};
 
-use crate::eras::days_of_months;
-use crate::is_leap_year;
+use crate::eras::{days_of_months, month_and_day};
+use crate::{days_in_year, is_leap_year};
 
 /// Returns how many days the month has, where January is 1. `days_in_month(1900, 2)` is `28`.
 ///
@@ -22,14 +23,6 @@ pub fn days_in_month(year: i64, month: u8) -> u8
     }
 }
 
-/// Returns how many days the year has.
-#[tactic(auto, unfolding(crate::specs::Years::days_in_year))]
-pub(crate) fn days_in_year(year: i64) -> u16
-    ensures { result ≡ days_in_year year }
-{
-    if is_leap_year(year) { 366 } else { 365 }
-}
-
 /// Returns how many days of the year lie before the month.
 pub(crate) fn days_before_month(year: i64, month: u8) -> u16
     requires from_one { 1 ≤ month }
@@ -42,4 +35,20 @@ pub(crate) fn days_before_month(year: i64, month: u8) -> u16
         // From 1 March on each year has 306 days.
         days_in_year(year) - 306 + days_of_months(month) as u16
     }
+}
+
+/// Returns the month and the day of the month of the day that has `days` days of the year before it.
+pub(crate) fn month_and_day_in_year(year: i64, days: u16) -> (u8, u8)
+    requires { days < days_in_year year }
+    ensures date { IsDate year result.0 result.1 }
+    ensures day { days_before_month year result.0 + result.1 ≡ days + 1 }
+{
+    // 1 January is 306 days after the last 1 March.
+    let march = days_before_month(year, 3);
+    let from_march = if days < march {
+        days + 306
+    } else {
+        days - march
+    };
+    month_and_day(u32::from(from_march))
 }

@@ -2,16 +2,27 @@
 
 ghost use Rattle.std.specs.Prelude.{◌≡◌, ◌≢◌, ◌↔◌, ◌<◌, ◌≤◌, ℕ, ℤ, List, FitsSigned, IfSome, IsTrue, MatchOption, Some, Ok};
 ghost use Rattle.std.specs.Int.{w64};
-ghost use Rattle.calendar.specs.Text.{IsShortest, padded, text_of, with_number, year_text};
+ghost use Rattle.calendar.specs.Text.{IsShortest, error_text, padded, text_of, with_number, year_text};
 ghost use Rattle.calendar.specs.declared.date.Date.{Date};
 
 use crate::Date;
+use std::error::Error;
 use std::fmt;
 use std::str::FromStr;
 
 /// A text that is not the text of a date.
 #[derive(Debug, Clone, Copy, PartialEq, Eq)]
 pub struct DateError;
+
+impl fmt::Display for DateError {
+    ghost output = { λ _. Some error_text };
+
+    fn fmt<W: fmt::Write>(&self, f: &mut fmt::Formatter<W>) -> fmt::Result {
+        f.write_str("not the text of a date")
+    }
+}
+
+impl Error for DateError {}
 
 impl fmt::Display for Date {
     ghost output = { λ date. Some (text_of date) };

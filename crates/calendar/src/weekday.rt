@@ -1,9 +1,12 @@
-//! Days of the week.
+//! Days of the week, and their numbers.
 
-ghost use Rattle.std.specs.Prelude.{◌≡◌, ◌%◌, ◌+ℤ◌, pos};
+ghost use Rattle.std.specs.Prelude.{◌≡◌, ◌+◌, ◌%◌, ◌<◌, ◌≤◌, ◌+ℤ◌, pos, MatchOption};
 ghost use Rattle.num_integer.specs.Division.{IsFloored, IsRemainder};
-ghost use Rattle.calendar.specs.Weekday.{weekday_number};
+ghost use Rattle.calendar.specs.Dates.{number_of};
+ghost use Rattle.calendar.specs.Weekday.{iso_number, weekday_number};
+ghost use Rattle.calendar.specs.Weeks.{HasWeekday};
 
+use crate::Date;
 use num_integer::mod_floor;
 
 /// A day of the week. It has no order, since weeks begin on different days in different places.
@@ -18,6 +21,59 @@ pub enum Weekday {
     Saturday,
 }
 
+impl Weekday {
+    /// Returns the number of the day of the week by ISO 8601, from 1 for Monday to 7 for Sunday.
+    /// `Weekday::Sunday.iso_number()` is `7`.
+    pub fn iso_number(self) -> u8
+        ensures number { result ≡ iso_number self }
+        ensures from_one { 1 ≤ result }
+        ensures to_seven { result ≤ 7 }
+    {
+        (self.days_after_sunday() + 6) % 7 + 1
+    }
+
+    /// Returns the day of the week that has the number by ISO 8601, or `None` where the number is not
+    /// from 1 to 7. `Weekday::from_iso_number(7)` is `Some(Weekday::Sunday)`.
+    pub fn from_iso_number(number: u8) -> Option<Weekday>
+        ensures { MatchOption result (¬ ((1 ≤ number) × (number ≤ 7)))
+            (λ weekday. iso_number weekday ≡ number) }
+    {
+        if (1..=7).contains(&number) {
+            Some(weekday_after_sunday(u32::from(number)))
+        } else {
+            None
+        }
+    }
+
+    /// Returns how many days after a Sunday the day of the week is.
+    pub(crate) fn days_after_sunday(self) -> u8
+        ensures value { result ≡ weekday_number self }
+        ensures small { result < 7 }
+    {
+        self as u8
+    }
+
+    /// Returns the number of days from this day of the week to the next day that has the other, which
+    /// is 0 where they are the same.
+    pub(crate) fn days_until(self, other: Weekday) -> u8
+        ensures value { weekday_number other ≡ (weekday_number self + result) % 7 }
+        ensures small { result < 7 }
+    {
+        (other.days_after_sunday() + 7 - self.days_after_sunday()) % 7
+    }
+}
+
+impl Date {
+    /// Returns the day of the week of the date. That of 2000-02-29 is `Tuesday`.
+    pub fn weekday(&self) -> Weekday
+        ensures { HasWeekday (number_of self.now) result }
+    {
+        // Eras are whole weeks, and day 0 of each is a Tuesday.
+        let (_, day) = self.day_of_era();
+        weekday_after_sunday(day + 2)
+    }
+}
+
 /// Returns the day of the week of a day, counted from 1970-01-01, a Thursday.
 /// `weekday_of(-1)` is `Weekday::Wednesday`.
 pub fn weekday_of(day: i64) -> Weekday
@@ -27,7 +83,7 @@ pub fn weekday_of(day: i64) -> Weekday
 }
 
 /// Returns the day of the week of a day `days` days after a Sunday.
-pub(crate) fn weekday_after_sunday(days: u32) -> Weekday
+fn weekday_after_sunday(days: u32) -> Weekday
     ensures { weekday_number result ≡ days % 7 }
 {
     match days % 7 {

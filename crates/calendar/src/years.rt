@@ -1,14 +1,15 @@
-//! Leap years, and years and days as numbers of `i64`.
+//! Years: leap years, their lengths, and the year of a day.
 
-ghost use Rattle.std.specs.Prelude.{◌≡◌, ◌<◌, FitsSigned};
+ghost use Rattle.std.specs.Prelude.{◌≡◌, ◌↔◌, ◌<◌, ◌≤ℤ◌, ◌<ℤ◌, ◌+ℤ◌, ℤ, pos, FitsSigned, IsTrue, MatchOption};
 ghost use Rattle.std.specs.Int.{w64};
 ghost use Rattle.std.specs.Option.{SomeIff};
-ghost use Rattle.calendar.specs.Years.{is_leap_year, is_multiple};
+ghost use Rattle.calendar.specs.LeapYears.{is_leap_year, is_multiple};
+ghost use Rattle.calendar.specs.Years.{HasDay, days_in_year, first_day};
 
 use num_integer::Integer;
 
 /// Returns `true` if the year has a 29 February. 2000 and 0 have one, and 1900 and -1 do not.
-#[tactic(auto, unfolding(crate::specs::Years::is_leap_year))]
+#[tactic(auto, unfolding(crate::specs::LeapYears::is_leap_year))]
 pub fn is_leap_year(year: i64) -> bool
     ensures { result ≡ is_leap_year year }
 {
@@ -26,6 +27,53 @@ fn is_multiple(year: i64, number: u16) -> bool
     ensures { result ≡ is_multiple year number }
 {
     year.is_multiple_of(&i64::from(number))
+}
+
+/// Returns how many days the year has. `days_in_year(1900)` is `365`.
+#[tactic(auto, unfolding(crate::specs::Years::days_in_year))]
+pub fn days_in_year(year: i64) -> u16
+    ensures { result ≡ days_in_year year }
+{
+    if is_leap_year(year) { 366 } else { 365 }
+}
+
+/// Returns the number of days of the year.
+#[tactic(auto, using(crate::proofs::YearLengths::length_range))]
+fn length_of(year: i64) -> i64
+    ensures value { result ≡ pos (days_in_year year) }
+    ensures from { pos 365 ≤ℤ result }
+    ensures to { result ≤ℤ pos 366 }
+{
+    i64::from(days_in_year(year))
+}
+
+/// Returns `true` if the day `days` days after 1 January of the year is in the year.
+#[tactic(auto, using(crate::proofs::YearLengths::length_range))]
+pub(crate) fn is_in_year(year: i64, days: i64) -> bool
+    ensures { IsTrue result ↔ ((pos 0 ≤ℤ days) × (days <ℤ pos (days_in_year year))) }
+{
+    0 <= days && (days < 365 || days < length_of(year))
+}
+
+/// Returns the year of the day `days` days after 1 January of a year, and how many days of that year
+/// lie before the day, or `None` where it is beyond `i64`.
+pub(crate) fn year_near(year: i64, days: i64) -> Option<(i64, u16)>
+    requires from { pos 0 ≤ℤ (days +ℤ pos 6) }
+    requires below { days <ℤ pos 372 }
+    ensures { MatchOption result
+        ((y : ℤ) → HasDay y (first_day year +ℤ days) → ¬ (FitsSigned w64 y))
+        (λ found. (found.1 < days_in_year found.0)
+        × (first_day found.0 +ℤ pos found.1 ≡ first_day year +ℤ days)) }
+{
+    if is_in_year(year, days) {
+        Some((year, days as u16))
+    } else if days < 0 {
+        let before = year.checked_sub(1)?;
+        Some((before, (days + length_of(before)) as u16))
+    } else {
+        let after = year.checked_add(1)?;
+        Some((after, (days - length_of(year)) as u16))
+    }
 }
 
 /// Returns the number as an `i64`, or `None` where it does not fit.

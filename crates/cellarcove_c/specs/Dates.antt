@@ -1,7 +1,6 @@
 -- Dates by their year, month and day of the month.
 use Rattle.std.specs.Prelude.{◌≡◌, ◌+ℤ◌, ℕ, ℤ, min}
-use Rattle.calendar.specs.Months.{month_number}
-use Rattle.calendar.specs.Years.{days_in_month}
+use Rattle.calendar.specs.Months.{days_in_month, month_number}
 
 -- A date lies in the month that is `months` after that of another, on the same day of the month, or on the last where there is
 -- no such day.

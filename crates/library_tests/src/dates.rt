@@ -1,13 +1,16 @@
 //! Dates: known ones, the ends of `i64`, and each day of six thousand years.
 
+mod ages;
 mod callers;
 mod days;
 mod feasts;
 mod iso_weeks;
 mod matched;
 mod months;
+mod pay_days;
 mod texts;
 mod weeks;
+mod whole_months;
 
 use crate::assertions::holds_at;
 use calendar::Weekday::{Friday, Monday, Saturday, Sunday, Thursday, Tuesday, Wednesday};

@@ -7,14 +7,17 @@ ghost use Rattle.std.specs.List.{fold};
 ghost use Rattle.std.specs.Option.{SomeIff};
 ghost use Rattle.num_integer.specs.Divisors.{Divides};
 ghost use Rattle.num_integer.specs.Only.{IsOnly};
-ghost use Rattle.calendar.specs.Dates.{number_of};
+ghost use Rattle.calendar.specs.Dates.{IsMonthsAfter, number_of};
+ghost use Rattle.calendar.specs.LeapYears.{is_leap_year};
+ghost use Rattle.calendar.specs.Months.{days_in_month, month_number};
 ghost use Rattle.calendar.specs.Easter.{IsEaster};
-ghost use Rattle.calendar.specs.Laws.{EarlierFullMoons, EpactOfTheFirstYear, EpactOfTheNextYear, FirstWeekdayIsOnly, FullMoonsDiffer, LunarCorrectionOfTwentyFiveCenturies, LunarCorrectionsFrom1800, MonthsAfterIsOnly, NthWeekdayIsOnly, SolarCorrectionOfTheNextCentury, TextIsOnly, WeekdayIsOnly, WeekdaysFollow};
+ghost use Rattle.calendar.specs.Laws.{EarlierFullMoons, EpactOfTheFirstYear, EpactOfTheNextYear, FirstWeekdayIsOnly, FullMoonsDiffer, IsoNumberIsOnly, IsoWeeksAreOnly, LastWeekdayIsOnly, LastWeekdayOfMonthIsOnly, LunarCorrectionOfTwentyFiveCenturies, LunarCorrectionsFrom1800, MonthsAfterIsOnly, MonthsBetweenIsOnly, NthWeekdayIsOnly, SolarCorrectionOfTheNextCentury, TextIsOnly, WeekdayIsOnly, WeekdaysFollow};
 ghost use Rattle.calendar.specs.Weeks.{HasWeekday};
-ghost use Rattle.calendar.specs.Years.{is_leap_year};
 ghost use Rattle.calendar.specs.declared.date.Date.{Date};
 
-use calendar::{Date, DateError, IsoWeek, Weekday, days_between, easter, is_leap_year};
+use calendar::{
+    Date, DateError, IsoWeek, Weekday, days_between, days_in_month, easter, is_leap_year,
+};
 use std::alloc::{AllocError, Global};
 use std::hash::{Hash, Hasher};
 
@@ -23,9 +26,14 @@ fn laws()
     ensures text_is_only { TextIsOnly }
     ensures months_after_is_only { MonthsAfterIsOnly }
     ensures nth_weekday_is_only { NthWeekdayIsOnly }
+    ensures months_between_is_only { MonthsBetweenIsOnly }
+    ensures last_weekday_of_month_is_only { LastWeekdayOfMonthIsOnly }
+    ensures iso_number_is_only { IsoNumberIsOnly }
     ensures weekday_is_only { WeekdayIsOnly }
     ensures weekdays_follow { WeekdaysFollow }
     ensures first_weekday_is_only { FirstWeekdayIsOnly }
+    ensures last_weekday_is_only { LastWeekdayIsOnly }
+    ensures iso_weeks_are_only { IsoWeeksAreOnly }
     ensures full_moons_differ { FullMoonsDiffer }
     ensures earlier_full_moons { EarlierFullMoons }
     ensures epact_of_the_first_year { EpactOfTheFirstYear }
@@ -181,4 +189,45 @@ fn read_back(alloc: Global, date: Date) -> Result<Result<Date, DateError>, Alloc
 {
     let text = date.to_string(alloc)?;
     Ok(text.as_str().parse())
+}
+
+/// The last day of a month, which has at least 28 days.
+#[tactic(auto, using(calendar::proofs::MonthLengths::month_length_range))]
+fn last_day_of_month(year: i64, month: u8) -> Date
+    requires from_one { 1 ≤ month }
+    requires to_twelve { month ≤ 12 }
+    ensures year { result.year ≡ year }
+    ensures month { result.month ≡ month }
+    ensures last { result.day_of_month ≡ days_in_month year month }
+{
+    Date {
+        year,
+        month,
+        day_of_month: days_in_month(year, month),
+    }
+}
+
+/// A week later the day of the week is the same.
+fn weekday_in_a_week(date: &Date) -> Option<Weekday>
+    ensures { IfSome result (λ weekday. HasWeekday (number_of date.now +ℤ pos 7) weekday) }
+{
+    date.plus_days(7)?;
+    Some(date.weekday())
+}
+
+/// A date in a later month is later.
+fn is_after_month(date: &Date, month: &Date) -> bool
+    ensures { month_number month.now.year month.now.month <ℤ month_number date.now.year date.now.month → IsTrue result }
+{
+    is_before(month, date)
+}
+
+/// A month later there is a date, and only its year may not fit.
+fn has_no_date_in_a_month(date: &Date) -> bool
+    ensures { IsTrue result → ((later : Date) × IsMonthsAfter date.now (pos 1) later × ¬ (FitsSigned w64 later.year)) }
+{
+    match date.plus_months(1) {
+        Some(_) => false,
+        None => true,
+    }
 }

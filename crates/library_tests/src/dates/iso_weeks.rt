@@ -3,7 +3,7 @@
 use super::{MAX, MIN, date};
 use crate::assertions::holds_at;
 use calendar::Weekday::{Friday, Monday, Saturday, Sunday, Thursday, Tuesday, Wednesday};
-use calendar::{Date, IsoWeek, Weekday};
+use calendar::{Date, IsoWeek, Weekday, days_in_year, weeks_in_year};
 
 /// Year, month and day of the month, and year, week and day of the week.
 const WEEKS: [((i64, u8, u8), (i64, u8, Weekday)); 19] = [
@@ -71,4 +71,42 @@ fn weeks_beyond_the_ends(rt: HostRuntime) {
     }
     assert!(rt; Date::from_iso_week(MIN, 0, Sunday) == None);
     assert!(rt; Date::from_iso_week(MIN, 53, Monday) == None);
+}
+
+#[test]
+fn weeks_of_years(rt: HostRuntime) {
+    for (year, weeks, days) in [
+        (2004, 53, 366),
+        (2005, 52, 365),
+        (2009, 53, 365),
+        (2015, 53, 365),
+        (2020, 53, 366),
+        (2024, 52, 366),
+        (1900, 52, 365),
+        (0, 52, 366),
+        (MIN, 52, 366),
+        (MAX, 53, 365),
+    ] {
+        holds_at(&rt, weeks_in_year(year) == weeks, &("weeks_in_year", year));
+        holds_at(&rt, days_in_year(year) == days, &("days_in_year", year));
+    }
+}
+
+/// Each of 800 years: 28 December is in the last week, and 31 December is the last day.
+#[test]
+fn last_weeks_of_years(rt: HostRuntime) {
+    for years in -400..400_i16 {
+        let year = i64::from(years);
+        let week = date(&rt, (year, 12, 28)).iso_week();
+        let own = IsoWeek {
+            year,
+            week: weeks_in_year(year),
+        };
+        holds_at(&rt, week == Some(own), &("weeks_in_year", year));
+        holds_at(
+            &rt,
+            date(&rt, (year, 12, 31)).day_of_year() == days_in_year(year),
+            &("days_in_year", year),
+        );
+    }
 }

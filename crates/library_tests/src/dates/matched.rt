@@ -1,16 +1,17 @@
 //! Calls of `calendar` whose result a caller matches on or loops over, each with no proof file.
 
-ghost use Rattle.std.specs.Prelude.{◌≡◌, ◌≤ℤ◌, ◌+ℤ◌, ◌-ℤ◌, pos, IfSome, IsTrue, MatchOption, FitsSigned};
+ghost use Rattle.std.specs.Prelude.{◌≡◌, ◌<◌, ◌≤◌, ◌≤ℤ◌, ◌+ℤ◌, ◌-ℤ◌, pos, IfSome, IsTrue, MatchOption, FitsSigned};
 ghost use Rattle.std.specs.Int.{w64};
-ghost use Rattle.calendar.specs.Dates.{number_of};
+ghost use Rattle.calendar.specs.Dates.{HasMonths, IsLastWeekdayOfMonth, IsMonthsAfter, number_of};
 ghost use Rattle.calendar.specs.IsoWeeks.{IsDayOfIsoWeek, IsInIsoWeek};
-ghost use Rattle.calendar.specs.Months.{IsMonthsAfter};
+ghost use Rattle.calendar.specs.Months.{IsDate};
+ghost use Rattle.calendar.specs.Weekday.{iso_number};
 ghost use Rattle.calendar.specs.Weeks.{HasWeekday};
-ghost use Rattle.calendar.specs.Years.{IsDate};
 
 use calendar::{
-    Date, DateError, IsoWeek, Weekday, days_between, first_weekday_on_or_after,
-    nth_weekday_of_month, weekday_of,
+    Date, DateError, IsoWeek, Weekday, days_between, days_in_month, days_in_year,
+    first_weekday_on_or_after, last_weekday_of_month, last_weekday_on_or_before, months_between,
+    nth_weekday_of_month, weekday_of, weeks_in_year,
 };
 
 /// Whether there is such a date.
@@ -165,4 +166,77 @@ fn is_at_weekend(day: i64) -> bool
 fn year_of_text(text: &str) -> Result<i64, DateError> {
     let date: Date = text.parse()?;
     Ok(date.year)
+}
+
+/// Thanksgiving, the fourth Thursday of November.
+fn thanksgiving(year: i64) -> Option<Date>
+    ensures { IfSome result (λ date. HasWeekday (number_of date) Weekday.Thursday) }
+{
+    nth_weekday_of_month(year, 11, Weekday::Thursday, 4)
+}
+
+/// The last day of the month after that of the date.
+fn end_of_next_month(date: &Date) -> Option<Date>
+    ensures { IfSome result (λ end. IsDate end.year end.month end.day_of_month) }
+{
+    let next = date.plus_months(1)?;
+    Date::new(next.year, next.month, days_in_month(next.year, next.month))
+}
+
+/// The age in months, where it fits.
+fn age_in_months(birth: &Date, today: &Date) -> Option<i64>
+    ensures { IfSome result (λ months. HasMonths birth.now today.now months) }
+{
+    match months_between(birth, today) {
+        Some(months) => Some(months),
+        None => None,
+    }
+}
+
+/// The last Friday of a month.
+fn last_friday(year: i64, month: u8) -> Option<Date>
+    ensures { MatchOption result (¬ ((1 ≤ month) × (month ≤ 12)))
+        (λ date. IsLastWeekdayOfMonth year month Weekday.Friday date) }
+{
+    match last_weekday_of_month(year, month, Weekday::Friday) {
+        Some(date) => Some(date),
+        None => None,
+    }
+}
+
+/// The Sunday up to a day, or the day itself at the end.
+fn sunday_up_to(day: i64) -> i64
+    ensures { result ≤ℤ day }
+{
+    match last_weekday_on_or_before(day, Weekday::Sunday) {
+        Some(sunday) => sunday,
+        None => day,
+    }
+}
+
+/// The day of the week of a number, or Monday.
+fn weekday_or_monday(number: u8) -> Weekday
+    ensures { 1 ≤ number → number ≤ 7 → iso_number result ≡ number }
+{
+    match Weekday::from_iso_number(number) {
+        Some(weekday) => weekday,
+        None => Weekday::Monday,
+    }
+}
+
+/// The place of a day of the week in a row of seven from Monday on.
+fn place_in_row(row: &[u32; 7], weekday: Weekday) -> u32 {
+    row[usize::from(weekday.iso_number()) - 1]
+}
+
+/// The weeks of the year after a week.
+fn weeks_left(week: &IsoWeek) -> u8
+    ensures { result ≤ 53 }
+{
+    weeks_in_year(week.year).saturating_sub(week.week)
+}
+
+/// The days of the year after a date.
+fn days_left(date: &Date) -> u16 {
+    days_in_year(date.year) - date.day_of_year()
 }

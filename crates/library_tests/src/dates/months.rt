@@ -3,7 +3,7 @@
 use super::{MAX, MIN, date};
 use crate::assertions::holds_at;
 use calendar::Weekday::{Friday, Monday, Sunday, Thursday};
-use calendar::{Date, Weekday, nth_weekday_of_month};
+use calendar::{Date, Weekday, last_weekday_of_month, nth_weekday_of_month};
 
 /// A date, a number of months, and the date this number of months later.
 const LATER: [((i64, u8, u8), i64, (i64, u8, u8)); 16] = [
@@ -102,5 +102,52 @@ fn places_of_weekdays(rt: HostRuntime) {
             nth_weekday_of_month(year, month, weekday, n) == None,
             &("nth_weekday_of_month", year, month, n),
         );
+    }
+}
+
+/// A year, a month, a day of the week, and the last day of the month that has it.
+const LAST: [(i64, u8, Weekday, u8); 10] = [
+    (2026, 10, Friday, 30),
+    (2026, 11, Thursday, 26),
+    (2024, 2, Thursday, 29),
+    (2024, 2, Friday, 23),
+    (2021, 2, Sunday, 28),
+    (2021, 2, Monday, 22),
+    (1970, 1, Monday, 26),
+    (1970, 1, Friday, 30),
+    (MAX, 12, Thursday, 31),
+    (MIN, 1, Sunday, 29),
+];
+
+#[test]
+fn last_weekdays_of_months(rt: HostRuntime) {
+    for (year, month, weekday, day) in LAST {
+        holds_at(
+            &rt,
+            last_weekday_of_month(year, month, weekday) == Date::new(year, month, day),
+            &("last_weekday_of_month", year, month, day),
+        );
+    }
+    for month in [0, 13, u8::MAX] {
+        assert!(rt; last_weekday_of_month(2026, month, Friday) == None);
+    }
+}
+
+/// Each month of 400 years: the last is the fifth, or the fourth where there is no fifth.
+#[test]
+fn last_by_places(rt: HostRuntime) {
+    for years in 0..400_i16 {
+        let year = 1800 + i64::from(years);
+        for month in 1..=12_u8 {
+            for weekday in [Monday, Thursday, Friday, Sunday] {
+                let fifth = nth_weekday_of_month(year, month, weekday, 5);
+                let fourth = nth_weekday_of_month(year, month, weekday, 4);
+                holds_at(
+                    &rt,
+                    last_weekday_of_month(year, month, weekday) == fifth.or(fourth),
+                    &("last_weekday_of_month", year, month),
+                );
+            }
+        }
     }
 }

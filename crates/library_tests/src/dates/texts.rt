@@ -1,6 +1,11 @@
 //! The texts of dates: known ones, the ends of `i64`, and texts that no date has.
 
+ghost use Rattle.std.specs.Prelude.{IfErr, Some};
+ghost use Rattle.anyhow.specs.Error.{HasMessage};
+ghost use Rattle.calendar.specs.Text.{error_text};
+
 use crate::assertions::holds_at;
+use anyhow::Result;
 use calendar::{Date, DateError};
 use std::process::Abort;
 
@@ -64,6 +69,28 @@ fn no_dates(rt: HostRuntime) {
             &rt,
             text.parse::<Date>() == Err(DateError),
             &("parse", text),
+        );
+    }
+}
+
+/// The year of a date that a text spells, as a program reads it: the error is any error.
+fn year_of_text(text: &str) -> Result<i64>
+    ensures { IfErr result (λ error. HasMessage (Some error_text) error) }
+{
+    let date: Date = text.parse()?;
+    Ok(date.year)
+}
+
+#[test]
+fn text_of_the_error(rt: HostRuntime) {
+    let printed = DateError.to_string(rt.alloc());
+    let printed = printed.expect(&rt, "there is memory");
+    assert!(rt; printed.as_str() == "not the text of a date");
+    for (text, year) in [("2026-11-23", Some(2026)), ("2026-11-31", None)] {
+        holds_at(
+            &rt,
+            year_of_text(text).ok() == year,
+            &("year_of_text", text),
         );
     }
 }

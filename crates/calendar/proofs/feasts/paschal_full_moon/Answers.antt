@@ -2,7 +2,7 @@ use Rattle.std.specs.Prelude.{FitsSigned}
 use Rattle.std.specs.Int.{w64}
 use Rattle.std.proofs.Common.{arith}
 use Rattle.std.proofs.lemmas.Int.{ints, to_z-of_z}
-use Rattle.calendar.proofs.EasterSundays.{days_later}
+use Rattle.calendar.proofs.EasterSundays.{march_days_later}
 use Rattle.calendar.proofs.feasts.paschal_full_moon.Goals as goal
 
 pub returns-clause-full_moon : goal.returns-clause-full_moon
@@ -17,5 +17,5 @@ returns-clause-full_moon c =
       golden_is = simp to_z-of_z at c.golden_of-golden.ensures;
       century_is = simp to_z-of_z at c.century_of.ensures.value;
       epact_is = simp to_z-of_z at c.epact_of.ensures.value;
-      day_is = days_later c.args.year 21 c.days_to_full_moon.ensures.value;
+      day_is = march_days_later c.args.year 21 c.days_to_full_moon.ensures.value;
     }

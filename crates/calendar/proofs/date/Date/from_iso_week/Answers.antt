@@ -3,8 +3,8 @@ use Rattle.std.specs.Int.{w64}
 use Rattle.std.proofs.Common.{arith, refl, subst}
 use Rattle.std.proofs.lemmas.Int.{ints, to_z-of_z}
 use Rattle.calendar.specs.IsoWeeks.{IsDayOfIsoWeek}
-use Rattle.calendar.specs.Weekday.{weekday_number}
 use Rattle.calendar.specs.Years.{first_day}
+use Rattle.calendar.specs.Weekday.{weekday_number}
 use Rattle.calendar.proofs.IsoWeeks.{day_of_week, day_or_none, no_day}
 use Rattle.calendar.proofs.YearLengths.{length_range}
 use Rattle.calendar.proofs.date.Date.from_iso_week.Goals as goal
@@ -38,8 +38,8 @@ returns-then-is_in_year c =
     let day = simp to_z-of_z at c.day_of_week.ensures.value in
     let day_fits : FitsSigned w64 c.day_of_week.result = few_days c.day_of_week.ensures.from c.day_of_week.ensures.below in
     let same = placed (first_day c.args.year) c.thursday_of_iso_week-thursday.result ((weekday_number c.args.weekday + 6) % 7) day in
-    let near = simp to_z-of_z at c.date_near.ensures in
-    day_or_none c.date_near.result c.args.weekday (subst (λ (t : ℤ). IsDayOfIsoWeek t c.args.year c.args.week c.args.weekday) same found) near
+    let near = simp to_z-of_z at c.near.ensures in
+    day_or_none c.near.result c.args.weekday (subst (λ (t : ℤ). IsDayOfIsoWeek t c.args.year c.args.week c.args.weekday) same found) near
 
 pub returns-else-is_in_year : goal.returns-else-is_in_year
 returns-else-is_in_year c = λ day y k h y_fits.
@@ -50,5 +50,5 @@ returns-else-is_in_year c = λ day y k h y_fits.
     let fits : FitsSigned w64 c.thursday_of_iso_week-thursday.result = omega (arith, ints) in
     let thursday = simp to_z-of_z at c.thursday_of_iso_week-thursday.ensures.weekday in
     let out = simp to_z-of_z at c.if-is_in_year.ensures in
-    let clash = out.1 (no_day {year = c.args.year} {week = c.args.week} thursday first last k) in
+    let clash = out.1 (no_day {year = c.args.year} {week = c.args.week} thursday first last k.in_week) in
     cc

@@ -3,7 +3,7 @@ use Rattle.std.specs.Int.{w64}
 use Rattle.std.proofs.Common.{arith, rules}
 use Rattle.std.proofs.lemmas.Int.{to_z-of_z}
 use Rattle.calendar.proofs.DateOrder.{last_of_year, next_month, next_year}
-use Rattle.calendar.specs.Years.{days_in_month}
+use Rattle.calendar.specs.Months.{days_in_month}
 use Rattle.calendar.proofs.date.Date.next.Goals as goal
 
 pub returns-then-month-lt12 : goal.returns-then-month-lt12

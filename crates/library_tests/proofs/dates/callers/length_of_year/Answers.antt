@@ -4,7 +4,8 @@ use Rattle.std.specs.Option.{SomeIff}
 use Rattle.std.proofs.Common.{◌∙◌, ap, arith, refl}
 use Rattle.std.proofs.lemmas.Bool.Decides.{nat_tests}
 use Rattle.std.proofs.lemmas.Int.{ints, to_z-of_z}
-use Rattle.calendar.specs.Years.{day_number, days_in_year, first_day, is_leap_year}
+use Rattle.calendar.specs.LeapYears.{is_leap_year}
+use Rattle.calendar.specs.Years.{day_number, days_in_year, first_day}
 use Rattle.calendar.proofs.Laws.{lengths_of_years, years_follow}
 use Rattle.library_tests.proofs.dates.callers.length_of_year.Goals as goal
 

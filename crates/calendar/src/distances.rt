@@ -1,8 +1,10 @@
-//! Dates some months apart.
+//! Dates some months apart, and the days and the months from a date to another.
 
-ghost use Rattle.std.specs.Prelude.{◌≡◌, ◌<◌, ◌≤◌, ◌^◌, ℕ, ℤ, unsigned_abs, FitsSigned, MatchOption};
+ghost use Rattle.std.specs.Prelude.{◌≡◌, ◌<◌, ◌≤◌, ◌^◌, ◌-ℤ◌, ℕ, ℤ, unsigned_abs, FitsSigned, MatchOption};
 ghost use Rattle.std.specs.Int.{w64};
-ghost use Rattle.calendar.specs.Months.{IsMonthsAfter, month_number};
+ghost use Rattle.std.specs.Option.{SomeIff};
+ghost use Rattle.calendar.specs.Dates.{IsMonthsAfter, IsMonthsBetween, number_of};
+ghost use Rattle.calendar.specs.Months.{month_number};
 ghost use Rattle.calendar.specs.declared.date.Date.{Date};
 
 use crate::Date;
@@ -33,6 +35,38 @@ impl Date {
         ensures small { unsigned_abs result < 2 ^ 68 }
     {
         12 * i128::from(self.year) + i128::from(self.month) - 1
+    }
+}
+
+/// Returns the number of days from `from` to `to`, negative where `to` is earlier, or `None` where
+/// that does not fit. From 2000-03-01 to 2000-02-28 it returns `Some(-2)`.
+pub fn days_between(from: &Date, to: &Date) -> Option<i64>
+    ensures { SomeIff result (FitsSigned w64 (number_of to.now -ℤ number_of from.now))
+        (number_of to.now -ℤ number_of from.now) }
+{
+    narrowed(to.number() - from.number())
+}
+
+/// Returns the number of whole months from `from` to `to`, negative where `to` is earlier, or `None`
+/// where that does not fit: the greatest number of months after `from` that lead to a date not after
+/// `to`. From 2000-01-31 to 2000-02-29 it returns `Some(1)`.
+pub fn months_between(from: &Date, to: &Date) -> Option<i64>
+    ensures { MatchOption result
+        ((months : ℤ) × IsMonthsBetween from.now to.now months × ¬ (FitsSigned w64 months))
+        (λ months. IsMonthsBetween from.now to.now months) }
+{
+    narrowed(whole_months(from, to))
+}
+
+/// Returns the number of whole months from `from` to `to`, which need not fit an `i64`.
+fn whole_months(from: &Date, to: &Date) -> i128
+    ensures { IsMonthsBetween from.now to.now result }
+{
+    let months = to.month_number() - from.month_number();
+    if to.day_of_month < from.day_of_month.min(days_in_month(to.year, to.month)) {
+        months - 1
+    } else {
+        months
     }
 }
 

@@ -2,7 +2,8 @@ use Rattle.std.specs.Prelude.{◌≤◌}
 use Rattle.std.proofs.Common.{refl, rules}
 use Rattle.std.proofs.lemmas.Int.{to_z-of_z}
 use Rattle.calendar.proofs.MonthWeekdays.{nth_weekday}
-use Rattle.calendar.proofs.month_weekdays.nth_weekday_of_month.Goals as goal
+use Rattle.calendar.proofs.WeekdayPlaces.{days_later}
+use Rattle.calendar.proofs.weeks.nth_weekday_of_month.Goals as goal
 
 pub returns : goal.returns
 returns c =
@@ -10,5 +11,4 @@ returns c =
     let parts = simp to_z-of_z at c.in_ok-first.ensures in
     let found = simp to_z-of_z at c.new-3.ensures in
     let from : 1 ≤ c.args.n = search rules in
-    let until = c.days_until_weekday.ensures in
-    nth_weekday c.new-3.result c.in_ok-first.first parts until.weekday until.small from refl found
+    nth_weekday c.new-3.result c.in_ok-first.first parts (days_later c.days_until.result c.weekday.ensures c.days_until.ensures.value) c.days_until.ensures.small from refl found

@@ -1,0 +1,15 @@
+-- The lengths of the months.
+use Rattle.std.specs.Prelude.{◌≤◌, ◌-◌, ℕ, ℤ, Bool, true, false}
+use Rattle.std.specs.List.{All}
+use Rattle.std.proofs.Common.{arith, rules}
+use Rattle.std.proofs.lemmas.List.Elements.{All-get_or}
+use Rattle.calendar.specs.LeapYears.{is_leap_year}
+use Rattle.calendar.specs.Months.{days_in_month, month_lengths, months_of}
+
+lengths : (leap : Bool) → All (λ days. (28 ≤ days) × (days ≤ 31)) (month_lengths leap)
+lengths true = search rules
+lengths false = search rules
+
+-- a month has 28 to 31 days
+pub month_length_range : (year : ℤ) (month : ℕ) → 1 ≤ month → month ≤ 12 → (28 ≤ days_in_month year month) × (days_in_month year month ≤ 31)
+month_length_range year month from to = All-get_or (λ days. (28 ≤ days) × (days ≤ 31)) (months_of year) (month - 1) 0 (omega arith) (lengths (is_leap_year year))

@@ -1,0 +1,100 @@
+-- Dates some months apart.
+use Rattle.std.specs.Prelude.{◌≡◌, ◌<◌, ◌≤◌, ◌+◌, ◌-◌, ◌/◌, ◌%◌, ◌≤ℤ◌, ◌<ℤ◌, ◌+ℤ◌, ◌-ℤ◌, ℕ, ℤ, pos, negsuc, min}
+use Rattle.std.proofs.Common.{◌∙◌, arith, inl, inr, refl, sym}
+use Rattle.std.proofs.lemmas.Bool.{cases_lt}
+use Rattle.std.proofs.lemmas.Int.{by_lt_z, ints}
+use Rattle.calendar.specs.Dates.{IsMonthsAfter, IsMonthsBetween, number_of}
+use Rattle.calendar.specs.Months.{days_in_month, month_number}
+use Rattle.calendar.specs.declared.date.Date.{Date}
+use Rattle.calendar.proofs.DateOrder.{of_parts, order}
+use Rattle.calendar.proofs.Greatest.{only_greatest}
+use Rattle.calendar.proofs.MonthLengths.{month_length_range}
+
+-- ---- months by their numbers
+
+pub same_month : (a b : Date) → month_number a.year a.month ≡ month_number b.year b.month → (a.year ≡ b.year) × (a.month ≡ b.month)
+same_month a b same =
+    let year : a.year ≡ b.year = omega (arith, ints, a.valid.month_from_one, a.valid.month_to_twelve, b.valid.month_from_one, b.valid.month_to_twelve) in
+    (year, omega (arith, ints))
+
+-- a date of a later month is later
+pub later_month : (a b : Date) → month_number a.year a.month <ℤ month_number b.year b.month → number_of a <ℤ number_of b
+later_month a b less = (order a b).0 (by_lt_z a.year b.year
+    (λ years. inl years)
+    (λ rest. inr (omega (arith, ints, a.valid.month_from_one, b.valid.month_to_twelve), inl (omega (arith, ints, a.valid.month_from_one, b.valid.month_to_twelve)))))
+
+-- each number is that of a month
+month_of : (number : ℤ) → (year : ℤ) × (month : ℕ) × (1 ≤ month) × (month ≤ 12) × (month_number year month ≡ number)
+month_of (pos n) = (pos (n / 12), n % 12 + 1, omega arith, omega arith, omega (arith, ints))
+month_of (negsuc n) = (negsuc (n / 12), 12 - n % 12, omega arith, omega arith, omega (arith, ints))
+
+-- ---- the date some months after another
+
+pub months_after_exists : (from : Date) (months : ℤ) → (date : Date) × IsMonthsAfter from months date
+months_after_exists from months =
+    let (year, month, month_from, month_to, is) = month_of (month_number from.year from.month +ℤ months) in
+    let (length, most) = month_length_range year month month_from month_to in
+    let date : Date = record {
+      year = year;
+      month = month;
+      day_of_month = min from.day_of_month (days_in_month year month);
+      valid = record { month_from_one = month_from; month_to_twelve = month_to; day_from_one = omega (arith, from.valid.day_from_one); day_to_last = omega arith };
+    } in
+    (date, record { month_is = is; day_is = refl })
+
+pub only_months_after : (from : Date) (months : ℤ) (a b : Date) → IsMonthsAfter from months a → IsMonthsAfter from months b → a ≡ b
+only_months_after from months a b h k =
+    let (year, month) = same_month a b (h.month_is ∙ sym k.month_is) in
+    let day = rw (year, month) at h.day_is in
+    of_parts a b year month (day ∙ sym k.day_is)
+
+-- more months lead to no earlier date
+pub months_in_order : {from a b : Date} {m n : ℤ} → m ≤ℤ n → IsMonthsAfter from m a → IsMonthsAfter from n b → number_of a ≤ℤ number_of b
+months_in_order {from} {a} {b} {m} {n} less h k = by_lt_z m n
+    (λ more. omega (arith, ints, later_month a b (omega (arith, ints, h.month_is, k.month_is))))
+    (λ rest. let same : n ≡ m = omega (arith, ints) in rw (only_months_after from m a b h (rw same at k)) (omega (arith, ints)))
+
+-- ---- the months from a date to another
+
+-- so many, where one more is too many
+months_of : {from to : Date} (months : ℤ) → ((date : Date) → IsMonthsAfter from months date → number_of date ≤ℤ number_of to) → ((date : Date) → IsMonthsAfter from (months +ℤ pos 1) date → number_of to <ℤ number_of date) → IsMonthsBetween from to months
+months_of {from} {to} months reached next =
+    let (date, is_after) = months_after_exists from months in
+    let (later, is_later) = months_after_exists from (months +ℤ pos 1) in
+    record {
+      holds = record { date = date; is_after = is_after; not_later = reached date is_after };
+      greatest = λ other h. let own = h.not_later in by_lt_z months other
+          (λ more. absurd (omega (arith, ints, next later is_later, months_in_order (omega (arith, ints)) is_later h.is_after)))
+          (λ fine. fine);
+    }
+
+-- the date in the month of another
+in_month : (from to date : Date) → IsMonthsAfter from (month_number to.year to.month -ℤ month_number from.year from.month) date → number_of date +ℤ pos to.day_of_month ≡ number_of to +ℤ pos (min from.day_of_month (days_in_month to.year to.month))
+in_month from to date h =
+    let (year, month) = same_month date to (omega (arith, ints, h.month_is)) in
+    rw (h.day_is, year, month) (omega (arith, ints))
+
+pub whole_months : (from to : Date) (months : ℤ) → months ≡ month_number to.year to.month -ℤ month_number from.year from.month → min from.day_of_month (days_in_month to.year to.month) ≤ to.day_of_month → IsMonthsBetween from to months
+whole_months from to months is late = months_of months
+    (λ date h. omega (arith, ints, in_month from to date (rw is at h)))
+    (λ date h. later_month to date (omega (arith, ints, h.month_is)))
+
+pub month_less : (from to : Date) (months : ℤ) → months ≡ month_number to.year to.month -ℤ month_number from.year from.month -ℤ pos 1 → to.day_of_month < min from.day_of_month (days_in_month to.year to.month) → IsMonthsBetween from to months
+month_less from to months is early = months_of months
+    (λ date h. omega (arith, ints, later_month date to (omega (arith, ints, h.month_is))))
+    (λ date h. let more : months +ℤ pos 1 ≡ month_number to.year to.month -ℤ month_number from.year from.month = omega (arith, ints) in omega (arith, ints, in_month from to date (rw more at h)))
+
+pub only_months_between : (from to : Date) (a b : ℤ) → IsMonthsBetween from to a → IsMonthsBetween from to b → a ≡ b
+only_months_between from to a b h k = only_greatest h k
+
+-- there is such a number, and one month more leads beyond the second date
+pub months_between_exist : (from to : Date) → (months : ℤ) × IsMonthsBetween from to months
+months_between_exist from to = elim (cases_lt to.day_of_month (min from.day_of_month (days_in_month to.year to.month))) [
+  | inl early ↦ (_, month_less from to _ refl early)
+  | inr late ↦ (_, whole_months from to _ refl late)
+]
+
+pub next_month_is_later : {from to date : Date} {months : ℤ} → IsMonthsBetween from to months → IsMonthsAfter from (months +ℤ pos 1) date → number_of to <ℤ number_of date
+next_month_is_later {from} {to} {date} {months} h k = by_lt_z (number_of to) (number_of date)
+    (λ less. less)
+    (λ rest. absurd (omega (arith, ints, h.greatest (months +ℤ pos 1) (record { date = date; is_after = k; not_later = rest }))))

@@ -1,0 +1,12 @@
+use Rattle.std.specs.Prelude.{FitsSigned}
+use Rattle.std.specs.Int.{w128}
+use Rattle.std.proofs.Common.{rules}
+use Rattle.std.proofs.lemmas.Int.{to_z-of_z}
+use Rattle.calendar.specs.Dates.{IsMonthsBetween}
+use Rattle.calendar.proofs.Greatest.{found_or_beyond}
+use Rattle.calendar.proofs.distances.months_between.Goals as goal
+
+pub returns : goal.returns
+returns c =
+    let fits : FitsSigned w128 c.whole_months.result = search rules in
+    found_or_beyond (IsMonthsBetween c.args.from.now c.args.to.now) c.narrowed.result (simp to_z-of_z at c.narrowed.ensures) c.whole_months.ensures

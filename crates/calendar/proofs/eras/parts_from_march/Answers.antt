@@ -1,0 +1,16 @@
+use Rattle.std.specs.Prelude.{◌+ℤ◌, pos}
+use Rattle.std.proofs.Common.{arith}
+use Rattle.std.proofs.lemmas.Int.{ints, to_z-of_z}
+use Rattle.calendar.proofs.MarchYears.{third_month}
+use Rattle.calendar.proofs.YearLengths.{length_range, next_first_day}
+use Rattle.calendar.proofs.eras.parts_from_march.Goals as goal
+
+pub month_and_day-month-requires : goal.month_and_day-month-requires
+month_and_day-month-requires c = omega (arith, c.requires.within, length_range (c.args.year +ℤ pos 1))
+
+pub returns-else-days-lt306 : goal.returns-else-days-lt306
+returns-else-days-lt306 c =
+    let year = c.ranges.year in
+    let next = c.requires.next_fits in
+    let found = c.month_and_day-month.ensures.next_year (c.args.year +ℤ pos 1) c.if-days-lt306.false (omega (arith, c.requires.within, third_month (c.args.year +ℤ pos 1))) in
+    simp to_z-of_z (record { date = found.0; day = omega (arith, ints, found.1, third_month c.args.year, next_first_day c.args.year) })
