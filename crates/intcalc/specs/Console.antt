@@ -2,14 +2,17 @@
 use Rattle.std.specs.Prelude.{Bool}
 use Rattle.intcalc.specs.declared.sink.Console.{Console}
 
--- the writer below
+-- A console writes to the writer below it.
+-- Examples: new over w: w.
 abbrev pub writer_of : {W : Type 0} → Console W → W
 writer_of console = console.out
 
--- whether it has failed
+-- A console has failed where its writer has.
+-- Examples: new: false; after a `put` that its writer refused: true.
 abbrev pub has_failed : {W : Type 0} → Console W → Bool
 has_failed console = console.failed
 
--- whether it has finished, with nothing put since
+-- A console is finished where `finish` was called, with nothing put since.
+-- Examples: new: false; after `put`: false; after `finish`: true.
 abbrev pub is_finished : {W : Type 0} → Console W → Bool
 is_finished console = console.finished

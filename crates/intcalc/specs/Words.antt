@@ -7,14 +7,16 @@ use Rattle.intcalc_core.specs.declared.calls.Kind.TheVariants.{I8, U8, I64, U64}
 use Rattle.intcalc_core.specs.declared.calls.Call.{Call}
 use Rattle.intcalc_core.specs.declared.calls.Call.TheVariants.{DivRem, DivModFloor, DivFloor, DivCeil, ModFloor, NextMultipleOf, PrevMultipleOf, IsMultipleOf, Gcd, Lcm, GcdLcm, ExtendedGcd, AverageFloor, AverageCeil, Sqrt, Cbrt, NthRoot, Binomial, RatioAdd, RatioMul}
 
--- the word of a kind
+-- Each kind has a word.
+-- Examples: `I8`: `i8`; `U64`: `u64`.
 abbrev pub word_of_kind : Kind → List ℕ
 word_of_kind I8 = codes "i8"
 word_of_kind U8 = codes "u8"
 word_of_kind I64 = codes "i64"
 word_of_kind U64 = codes "u64"
 
--- the word of a call
+-- Each call has a word.
+-- Examples: `Gcd(4, 6)`: `gcd`; `DivFloor(7, 2)`: `div_floor`.
 abbrev pub word_of_call : Call → List ℕ
 word_of_call (DivRem n d) = codes "div_rem"
 word_of_call (DivModFloor n d) = codes "div_mod_floor"
@@ -37,19 +39,22 @@ word_of_call (Binomial n k) = codes "binomial"
 word_of_call (RatioAdd a b c d) = codes "ratio_add"
 word_of_call (RatioMul a b c d) = codes "ratio_mul"
 
--- the word is that of the call, and there is a number word for each operand
+-- The word is that of the call, and the others are number words of its operands.
+-- Examples: `gcd` with `4` and `6`: `Gcd(4, 6)`; `gcd` with `04` and `6` the same; `gcd` with `4`: no call.
 pub record Spell (word : List ℕ) (numbers : List (List ℕ)) (call : Call) : Type 0 where
   pub name : word ≡ word_of_call call
   pub operands : map spelled_number numbers ≡ map Some (operands_of call)
 
--- the words are that of the kind, and then those that spell the call
+-- The words are that of the kind, and then those that spell the call.
+-- Examples: `i64 gcd 4 6`: `I64`, `Gcd(4, 6)`; `u8 sqrt 9`: `U8`, `Sqrt(9)`; `gcd 4 6`: neither.
 pub record AskFor (words : List (List ℕ)) (kind : Kind) (call : Call) : Type 0 where
   pub word : List ℕ
   pub numbers : List (List ℕ)
   pub parts : words ≡ word_of_kind kind ∷ word ∷ numbers
   pub spelled : Spell word numbers call
 
--- the kind and the call that the words ask for, or none where they ask for none
+-- The request is the kind and the call that the words ask for, and none where they ask for none.
+-- Examples: `i64 gcd 1 2`: `I64`, `Gcd(1, 2)`; none for `i64 gcd 1`; none for no words.
 abbrev pub IsRequest : List (List ℕ) → Option (Kind × Call) → Type 0
 IsRequest words request = MatchOption request
     ((kind : Kind) (call : Call) → ¬ (AskFor words kind call))

@@ -3,7 +3,8 @@ use Rattle.std.specs.Prelude.{ℤ, List, [], ◌∷◌}
 use Rattle.intcalc_core.specs.declared.calls.Call.{Call}
 use Rattle.intcalc_core.specs.declared.calls.Call.TheVariants.{DivRem, DivModFloor, DivFloor, DivCeil, ModFloor, NextMultipleOf, PrevMultipleOf, IsMultipleOf, Gcd, Lcm, GcdLcm, ExtendedGcd, AverageFloor, AverageCeil, Sqrt, Cbrt, NthRoot, Binomial, RatioAdd, RatioMul}
 
--- the operands of a call
+-- The operands of a call stand in the order of its fields.
+-- Examples: `Gcd(4, 6)`: 4, 6; `Sqrt(9)`: 9; `RatioAdd(1, 2, 1, 3)`: 1, 2, 1, 3.
 abbrev pub operands_of : Call → List ℤ
 operands_of (DivRem n d) = n ∷ d ∷ []
 operands_of (DivModFloor n d) = n ∷ d ∷ []

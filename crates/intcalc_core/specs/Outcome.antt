@@ -19,36 +19,42 @@ use Rattle.intcalc_core.specs.declared.calls.Answer.TheVariants.{One, Two, Three
 use Rattle.intcalc_core.specs.declared.calls.Refusal.{Refusal}
 use Rattle.intcalc_core.specs.declared.calls.Refusal.TheVariants.{OutOfType, ZeroDivisor, ZeroDegree, NegativeRoot, NegativeCount, NotFitting, NoPair}
 
--- the numbers of a kind
+-- The type of the kind has the number n.
+-- Examples: `I8`: -128; `U8`: 255; not `U8`: -1.
 abbrev pub FitsKind : Kind → ℤ → Type 0
 FitsKind I8 = λ n. FitsSigned w8 n
 FitsKind U8 = FitsUnsignedBits 8
 FitsKind I64 = λ n. FitsSigned w64 n
 FitsKind U64 = FitsUnsignedBits 64
 
--- a conversion that returns the value of a number where the type has it, and fails where it does not
+-- A conversion returns the value that means a number where the type has it, and fails where it does not.
+-- Examples: to `i8`: 127; -128; not 128.
 abbrev pub Narrows : {T E : Type 0} → (T → ℤ) → (ℤ → Type 0) → (ℤ → Result T E → Type 0) → Type 0
 Narrows {T} {E} value fits gives = (n : ℤ) (r : Result T E) → gives n r
     → MatchResult r (λ x. (value x ≡ n) × fits n) (λ _. ¬ (fits n))
 
--- refused unless the condition holds, else what the rest says
+-- The result is the refusal where the condition does not hold, and what the rest says where it holds.
+-- Examples: that 0 is not 0, `ZeroDivisor`: `ZeroDivisor`; that 3 is not 0: the rest.
 abbrev pub Needs : Type 0 → Refusal → (Result Answer Refusal → Type 0) → Result Answer Refusal → Type 0
 Needs P refusal rest r = (¬ P × (r ≡ Err refusal)) ⊎ (P × rest r)
 
--- the answer is one number, which meets the condition
+-- The answer is one number, which meets the condition.
+-- Examples: the gcd of 4 and 6: 2.
 pub record AnswersOne (P : ℤ → Type 0) (r : Result Answer Refusal) : Type 0 where
   pub number : ℤ
   pub is : r ≡ Ok (One number)
   pub meets : P number
 
--- the answer is two numbers, which together meet the condition
+-- The answer is two numbers, which together meet the condition.
+-- Examples: the quotient of 8 by 3 and its remainder: 2 and 2.
 pub record AnswersTwo (P : ℤ → ℤ → Type 0) (r : Result Answer Refusal) : Type 0 where
   pub first : ℤ
   pub second : ℤ
   pub is : r ≡ Ok (Two first second)
   pub meets : P first second
 
--- the answer is three numbers, which together meet the condition
+-- The answer is three numbers, which together meet the condition.
+-- Examples: the gcd of 240 and 46 and its pair: 2, -9 and 47.
 pub record AnswersThree (P : ℤ → ℤ → ℤ → Type 0) (r : Result Answer Refusal) : Type 0 where
   pub first : ℤ
   pub second : ℤ
@@ -56,46 +62,57 @@ pub record AnswersThree (P : ℤ → ℤ → ℤ → Type 0) (r : Result Answer 
   pub is : r ≡ Ok (Three first second third)
   pub meets : P first second third
 
--- the answer is whether the condition holds
+-- The answer says whether the condition holds.
+-- Examples: that 3 divides 9: `true`; that 9 divides 3: `false`; that 0 divides 0: `true`.
 pub record AnswersWhether (P : Type 0) (r : Result Answer Refusal) : Type 0 where
   pub truth : Bool
   pub is : r ≡ Ok (Truth truth)
   pub tells : IsTrue truth ↔ P
 
--- refused unless the divisor is not 0
+-- The result is `ZeroDivisor` where the divisor is 0, and what the rest says elsewhere.
+-- Examples: 0: `ZeroDivisor`; 3: the rest; -1: the rest.
 abbrev pub NeedsDivisor : ℤ → (Result Answer Refusal → Type 0) → Result Answer Refusal → Type 0
 NeedsDivisor d = Needs (d ≢ pos 0) ZeroDivisor
 
--- refused unless each number with the property fits
+-- The result is `NotFitting` where a number with the property does not fit, and what the rest says elsewhere.
+-- Examples: in `i8`, the quotient of -128 by -1: `NotFitting`; of -128 by 2: the rest; of 7 by 2: the rest.
 abbrev pub NeedsFitting : (ℤ → Type 0) → (ℤ → Type 0) → (Result Answer Refusal → Type 0) → Result Answer Refusal → Type 0
 NeedsFitting fits P = Needs (EachFits fits P) NotFitting
 
--- the greatest common divisor and the least common multiple
+-- The greatest common divisor of a and b is g, and their least common multiple is l.
+-- Examples: 10 and 4: 2 and 20; 0 and 5: 5 and 0; 7 and 3: 1 and 21.
 pub record AreGcdAndLcm (a b g l : ℤ) : Type 0 where
   pub greatest : IsGreatestCommonDivisor a b g
   pub least : IsLeastCommonMultiple a b l
 
--- the number has a root of the degree: it is not negative where the degree is even
+-- The number has a root of the degree: it is not negative where the degree is even.
+-- Examples: -8 at 3; 4 at 2; not -4 at 2.
 abbrev pub HasRoot : ℤ → ℤ → Type 0
 HasRoot x n = unsigned_abs n % 2 ≡ 0 → pos 0 ≤ℤ x
 
--- no count is negative
+-- Neither number is negative.
+-- Examples: 9 and 4; 2 and 3; not -1 and 0.
 abbrev pub AreCounts : ℤ → ℤ → Type 0
 AreCounts n k = (pos 0 ≤ℤ n) × (pos 0 ≤ℤ k)
 
--- refused where a part of the exact result of the fraction a/b lies outside `i64`
+-- The result is `NotFitting` where a part of the exact result of a/b lies outside `i64`, and what the rest says elsewhere.
+-- Examples: 1/MIN: `NotFitting`; MIN/2: the rest; 6/-4: the rest.
 abbrev pub NeedsInsideI64 : ℤ → ℤ → (Result Answer Refusal → Type 0) → Result Answer Refusal → Type 0
 NeedsInsideI64 a b = Needs (¬ (IsOutsideI64 a b)) NotFitting
 
--- refused where a part lies outside `i64`, else the answer is the parts of the exact result
+-- The result is `NotFitting` where a part of the exact result of a/b lies outside `i64`, and its two parts elsewhere.
+-- Examples: 5/6: 5 and 6; 6/-4: -3 and 2; 1/MIN: `NotFitting`.
 abbrev pub AnswersExact : ℤ → ℤ → Result Answer Refusal → Type 0
 AnswersExact a b = NeedsInsideI64 a b (AnswersTwo (IsExact a b))
 
--- refused unless a/b and c/d are fractions whose exact results fit
+-- The result is `ZeroDivisor` where b or d is 0, then `NotFitting` where a part of the exact result of a/b or of c/d lies
+-- outside `i64`, and what the rest says elsewhere.
+-- Examples: 1/2 and 1/3: the rest; 1/MIN and 0/1: `NotFitting`; 1/MIN and 1/0: `ZeroDivisor`.
 abbrev pub NeedsFractions : (a b c d : ℤ) → (Result Answer Refusal → Type 0) → Result Answer Refusal → Type 0
 NeedsFractions a b c d rest = NeedsDivisor b (NeedsDivisor d (NeedsInsideI64 a b (NeedsInsideI64 c d rest)))
 
--- the rows of the calls, at operands of the type: the refusals in their order, then the answer
+-- The row of a call, at operands of the type, has the refusals in their order, and then the answer.
+-- Examples: `DivFloor` 7 by 0: `ZeroDivisor`; in `i8` -128 by -1: `NotFitting`; 7 by 2: 3.
 unfoldable pub Inside : (ℤ → Type 0) → Call → Result Answer Refusal → Type 0
 Inside fits (DivRem n d) =
     NeedsDivisor d (NeedsFitting fits (IsQuotient IsTruncated n d) (AnswersTwo (IsTruncated n d)))
@@ -142,28 +159,50 @@ Inside fits (RatioAdd a b c d) =
 Inside fits (RatioMul a b c d) =
     NeedsFractions a b c d (AnswersExact (a *ℤ c) (b *ℤ d))
 
--- each of the numbers fits
+-- Each of the numbers fits.
+-- Examples: in `u8`: 0 and 255; none; not 0 and 256.
 abbrev pub AllFit : (ℤ → Type 0) → List ℤ → Type 0
 AllFit fits [] = ⊤
 AllFit fits (n ∷ ns) = fits n × AllFit fits ns
 
--- the operands lie in the type, a degree lies in `u32`, and parts of fractions lie in `i64`
+-- The parts of two fractions lie in `i64`.
+-- Examples: 1, 2, 1 and 3; MIN, 1, 0 and 1; not 2^63, 1, 0 and 1.
+abbrev pub PartsFit : (a b c d : ℤ) → Type 0
+PartsFit a b c d = AllFit (FitsKind I64) (a ∷ b ∷ c ∷ d ∷ [])
+
+-- The result is `OutOfType` where a part lies outside `i64`, and else what `NeedsFractions` says.
+-- Examples: 2^63/0 and 1/2: `OutOfType`; 1/0 and 1/2: `ZeroDivisor`; 1/2 and 1/3: the rest.
+abbrev pub NeedsParts : (a b c d : ℤ) → (Result Answer Refusal → Type 0) → Result Answer Refusal → Type 0
+NeedsParts a b c d rest = Needs (PartsFit a b c d) OutOfType (NeedsFractions a b c d rest)
+
+-- The operands lie in the type, a degree lies in `u32`, and parts of fractions lie in `i64`.
+-- Examples: in `i8`: `Gcd(-128, 127)`; `NthRoot(127, 200)`; not `Gcd(128, 1)`.
 abbrev pub OperandsFit : (ℤ → Type 0) → Call → Type 0
 OperandsFit fits (NthRoot x n) = fits x × FitsUnsignedBits 32 n
-OperandsFit fits (RatioAdd a b c d) = AllFit (FitsKind I64) (a ∷ b ∷ c ∷ d ∷ [])
-OperandsFit fits (RatioMul a b c d) = AllFit (FitsKind I64) (a ∷ b ∷ c ∷ d ∷ [])
+OperandsFit fits (RatioAdd a b c d) = PartsFit a b c d
+OperandsFit fits (RatioMul a b c d) = PartsFit a b c d
 OperandsFit fits call = AllFit fits (operands_of call)
 
--- the outcome in a type: the call is refused where an operand lies outside, else by its row
+-- In a type the call is refused where an operand lies outside it, and else by its row.
+-- Examples: in `i8`, `DivFloor` 128 by 0: `OutOfType`; 7 by 0: `ZeroDivisor`; 7 by 2: 3.
 abbrev pub OutcomeIn : (ℤ → Type 0) → Call → Result Answer Refusal → Type 0
 OutcomeIn fits call = Needs (OperandsFit fits call) OutOfType (Inside fits call)
 
--- the call is made at the kind: sums and products of fractions only at `i64`
+-- The call is made at the kind: sums and products of fractions only at `i64`, and every other call at each kind.
+-- Examples: `i64` and `ratio_add`; `u8` and `gcd`; not `u8` and `ratio_add`.
 abbrev pub IsMadeAt : Kind → Call → Type 0
 IsMadeAt kind (RatioAdd a b c d) = kind ≡ I64
 IsMadeAt kind (RatioMul a b c d) = kind ≡ I64
 IsMadeAt kind call = ⊤
 
--- the outcome of a kind and a call
+-- The call is none on fractions.
+-- Examples: `Gcd(4, 6)`; `Sqrt(9)`; not `RatioAdd(1, 2, 1, 3)`.
+abbrev pub IsOnNumbers : Call → Type 0
+IsOnNumbers (RatioAdd a b c d) = ⊥
+IsOnNumbers (RatioMul a b c d) = ⊥
+IsOnNumbers call = ⊤
+
+-- The outcome is `OutOfType` where the call is not made at the kind, and else that in the type of the kind.
+-- Examples: `i64` 7 by 0: `ZeroDivisor`; `i64` MIN by -1, `div_floor`: `NotFitting`; -8 by 3, `div_mod_floor`: -3 and 1.
 abbrev pub Outcome : Kind → Call → Result Answer Refusal → Type 0
 Outcome kind call = Needs (IsMadeAt kind call) OutOfType (OutcomeIn (FitsKind kind) call)

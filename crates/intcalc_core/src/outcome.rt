@@ -1,7 +1,6 @@
 //! The outcome of a call at a kind.
 
-ghost use Rattle.std.specs.Prelude.{◌↔◌, IsTrue};
-ghost use Rattle.intcalc_core.specs.Outcome.{IsMadeAt, Narrows, Outcome, OutcomeIn};
+ghost use Rattle.intcalc_core.specs.Outcome.{FitsKind, IsOnNumbers, Narrows, Outcome, OutcomeIn};
 
 mod fractions;
 mod operand;
@@ -16,28 +15,37 @@ use std::num::TryFromIntError;
 pub fn evaluate(kind: Kind, call: Call) -> Result<Answer, Refusal>
     ensures { Outcome kind call result }
 {
-    needs(is_made_at(kind, &call), Refusal::OutOfType)?;
-    match kind {
-        Kind::I8 => evaluate_at::<i8>(&call),
-        Kind::U8 => evaluate_at::<u8>(&call),
-        Kind::I64 => evaluate_at::<i64>(&call),
-        Kind::U64 => evaluate_at::<u64>(&call),
-    }
-}
-
-/// Returns `true` if the call is made at the kind.
-fn is_made_at(kind: Kind, call: &Call) -> bool
-    ensures { IsTrue result ↔ IsMadeAt kind call.now }
-{
     match call {
-        Call::RatioAdd(..) | Call::RatioMul(..) => matches!(kind, Kind::I64),
-        _ => true,
+        Call::RatioAdd(a, b, c, d) => {
+            needs(matches!(kind, Kind::I64), Refusal::OutOfType)?;
+            fractions::ratio_add(a, b, c, d)
+        }
+        Call::RatioMul(a, b, c, d) => {
+            needs(matches!(kind, Kind::I64), Refusal::OutOfType)?;
+            fractions::ratio_mul(a, b, c, d)
+        }
+        _ => evaluate_numbers(kind, &call),
     }
 }
 
+/// Returns the answer of a call on numbers.
+fn evaluate_numbers(kind: Kind, call: &Call) -> Result<Answer, Refusal>
+    requires numbers { IsOnNumbers call.now }
+    ensures { OutcomeIn (FitsKind kind) call.now result }
+{
+    match kind {
+        Kind::I8 => evaluate_at::<i8>(call),
+        Kind::U8 => evaluate_at::<u8>(call),
+        Kind::I64 => evaluate_at::<i64>(call),
+        Kind::U64 => evaluate_at::<u64>(call),
+    }
+}
+
+/// Returns the answer of a call on numbers at the type of a kind.
 fn evaluate_at<T: Operand + TryFrom<i128, Error = TryFromIntError>>(
     call: &Call,
 ) -> Result<Answer, Refusal>
+    requires numbers { IsOnNumbers call.now }
     requires narrows { Narrows T.value T.fits T.try_from_gives }
     ensures { OutcomeIn T.fits call.now result }
 {
@@ -60,7 +68,6 @@ fn evaluate_at<T: Operand + TryFrom<i128, Error = TryFromIntError>>(
         Call::Cbrt(x) => rows::cbrt::<T>(narrow(*x)?),
         Call::NthRoot(x, n) => rows::nth_root::<T>(narrow(*x)?, narrow(*n)?),
         Call::Binomial(n, k) => rows::binomial::<T>(narrow_both(*n, *k)?),
-        Call::RatioAdd(a, b, c, d) => fractions::ratio_add(*a, *b, *c, *d),
-        Call::RatioMul(a, b, c, d) => fractions::ratio_mul(*a, *b, *c, *d),
+        Call::RatioAdd(..) | Call::RatioMul(..) => unreachable!("a call on fractions"),
     }
 }

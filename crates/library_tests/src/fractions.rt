@@ -1,13 +1,16 @@
 //! Fractions: worked values, the ends of `i64`, and each pair of fractions of small parts.
 
 mod callers;
+mod errors;
 mod limited;
 mod matched;
 mod one_fraction;
 mod operations;
 mod parsing;
+mod recipes;
 mod rounded;
 mod small_parts;
+mod times;
 
 use crate::assertions::holds_at;
 use ratio64::RatioError::{NotFitting, ZeroDenominator};

@@ -1,12 +1,13 @@
 -- Lemmas that the proofs of callers may cite, beside the laws.
-use Rattle.std.specs.Prelude.{◌≡◌, ◌≢◌, ◌↔◌, ◌<◌, ◌≤◌, ◌^◌, ◌*◌, ◌<ℤ◌, ◌+ℤ◌, ◌*ℤ◌, ℤ, pos, unsigned_abs, Result, Ok, Err, IfOk, IsOk}
+use Rattle.std.specs.Prelude.{◌≡◌, ◌≢◌, ◌⊎◌, ◌↔◌, ◌<◌, ◌≤◌, ◌^◌, ◌*◌, ◌<ℤ◌, ◌≤ℤ◌, ◌+ℤ◌, ◌*ℤ◌, ℤ, pos, negsuc, neg_ℤ, unsigned_abs, Result, Ok, Err, FitsSigned, IfErr, IfOk, IsOk}
 use Rattle.std.specs.Cmp.{int_cmp_is, int_ranked}
 use Rattle.std.specs.Int.{w64}
 use Rattle.std.specs.declared.cmp.Ordering.TheVariants.{Equal, Greater, Less}
 use Rattle.std.proofs.Common.{arith, ap, inl, inr, refl, sym, ◌∙◌}
 use Rattle.std.proofs.Math.Nat.{mul-le-mul_left}
-use Rattle.std.proofs.lemmas.Int.{ints, fits_signed_from_abs, unsigned_abs-mul}
-use Rattle.num_integer.proofs.ForCallers.{Divides-refl, cancel, comm, divisor_at_most, expand, linear, mul-one, products, sizes}
+use Rattle.std.proofs.lemmas.Int.{by_lt_z, ints, fits_signed_from_abs, unsigned_abs-mul}
+use Rattle.num_integer.proofs.ForCallers.{Divides-refl, cancel, comm, divisor_at_most, expand, factor_positive, linear, mul-one, products, sizes, zero_or_not}
+use Rattle.num_integer.specs.Division.{IsDivision}
 use Rattle.num_integer.specs.Divisors.{Divides}
 use Rattle.ratio64.specs.Fraction.{AreEqual, IsExact, IsFraction, IsOutsideI64, IsReduced, fraction_cmp}
 use Rattle.ratio64.specs.Ratio.{AnswersFraction, num_of, den_of}
@@ -20,7 +21,7 @@ use Rattle.ratio64.proofs.Laws.{equal_fractions_have_one_result, products_of_equ
 pub use Rattle.ratio64.proofs.ExactResults.{only_exact_result}
 pub use Rattle.ratio64.proofs.FractionAnswers.{exact_answer, exact_is_inside, zero_exactly, zero_factor}
 pub use Rattle.ratio64.proofs.FractionPowers.{base_fits, equal_powers, power_nonzero, power_of_product, power_reduced}
-pub use Rattle.ratio64.proofs.NearestNumbers.{rounded_is_only}
+pub use Rattle.ratio64.proofs.NearestNumbers.{quotient_fits, quotient_is_only, rounded_division, rounded_is_only}
 pub use Rattle.ratio64.proofs.ReducedParts.{magnitude_reduced, negated_reduced, remainder_reduced}
 pub use Rattle.ratio64.proofs.WideSums.{difference_below, read, read_product, sum_below}
 pub use Rattle.ratio64.specs.ReducedPairs.{AreEqual-sym, denominator_divides, positive_is_nonzero, same_pair}
@@ -72,6 +73,42 @@ small_parts_inside a_small b_small far =
       | inl outside ↦ outside (fits_signed_from_abs w64 far.num (omega arith))
       | inr outside ↦ outside (fits_signed_from_abs w64 far.den (omega arith))
     ]
+
+-- where the denominator is above 0, the parts that fit are enough, MIN among them
+pub positive_denominator_inside : {a b : ℤ} → FitsSigned w64 a → FitsSigned w64 b → pos 0 <ℤ b → ¬ (IsOutsideI64 a b)
+positive_denominator_inside {a} {b} a_fits b_fits up far =
+    let s = common_factor far.exact in
+    let s_up = factor_positive up far.exact.reduced.positive s.2 in
+    elim far.outside [
+      | inl outside ↦ outside (quotient_fits s_up (exact_division s_up s.1) w64 a_fits)
+      | inr outside ↦ outside (quotient_fits s_up (exact_division s_up s.2) w64 b_fits)
+    ]
+  where
+    exact_division : {n q t : ℤ} → pos 0 <ℤ t → n ≡ q *ℤ t → IsDivision n t q (pos 0)
+    exact_division t_up e = record { equation = omega (arith, linear); small = omega (arith, sizes) }
+
+pub positive_is_answered : {a b : ℤ} (r : Result Ratio RatioError) → FitsSigned w64 a → FitsSigned w64 b → AnswersFraction a b r → IfErr r (λ _. b ≤ℤ pos 0)
+positive_is_answered (Ok x) a_fits b_fits h = tt
+positive_is_answered {b = b} (Err e) a_fits b_fits h = by_lt_z (pos 0) b
+    (λ up. absurd (positive_denominator_inside a_fits b_fits up (err_is_outside e (positive_is_nonzero up) h)))
+    (λ fine. fine)
+
+-- a number that fits is MIN, or its negation fits too
+small_or_least : (z : ℤ) → FitsSigned w64 z → (unsigned_abs z < 2 ^ 63) ⊎ (z ≡ neg_ℤ (pos (2 ^ 63)))
+small_or_least (pos n) fits = inl (let low = fits.sfits in omega arith)
+small_or_least (negsuc n) fits = let low = fits.sfits in grind (arith, ints)
+
+-- a numerator above 0 is refused over 0 and MIN alone
+pub positive_over_other : {a b : ℤ} (r : Result Ratio RatioError) → FitsSigned w64 a → FitsSigned w64 b → pos 0 <ℤ a → AnswersFraction a b r
+    → IfErr r (λ _. (b ≡ pos 0) ⊎ (b ≡ neg_ℤ (pos (2 ^ 63))))
+positive_over_other (Ok x) a_fits b_fits up h = tt
+positive_over_other {a} {b} (Err e) a_fits b_fits up h = elim (zero_or_not b) [
+  | inl none ↦ inl none
+  | inr nonzero ↦ inr (elim (small_or_least b b_fits) [
+    | inl small ↦ absurd (small_parts_inside (elim (small_or_least a a_fits) [ inl fine ↦ fine | inr least ↦ absurd (omega (arith, ints)) ]) small (err_is_outside e nonzero h))
+    | inr least ↦ least
+  ])
+]
 
 -- ---- fractions that are reduced already
 

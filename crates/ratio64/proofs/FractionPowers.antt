@@ -111,13 +111,13 @@ power_coprime : (x : ℤ) (k : ℕ) {c : ℤ} → IsGreatestCommonDivisor x c (p
 power_coprime (pos n) k h = natural_coprime n k h
 power_coprime (negsuc n) k h = signed_coprime (k % 2 == 0) (natural_coprime (suc n) k (negated_coprime h))
 
-turned : {a b : ℤ} → IsGreatestCommonDivisor a b (pos 1) → IsGreatestCommonDivisor b a (pos 1)
-turned x = record { from_zero = x.from_zero; divides_left = x.divides_right; divides_right = x.divides_left; greatest = λ e left right. x.greatest e right left }
+gcd_swapped : {a b : ℤ} → IsGreatestCommonDivisor a b (pos 1) → IsGreatestCommonDivisor b a (pos 1)
+gcd_swapped x = record { from_zero = x.from_zero; divides_left = x.divides_right; divides_right = x.divides_left; greatest = λ e left right. x.greatest e right left }
 
 pub power_reduced : {n d : ℤ} (k : ℕ) → IsReduced n d → IsReduced (int_pow n k) (int_pow d k)
 power_reduced {n} {d} k x = record {
   positive = power_positive d k x.positive;
-  lowest = turned (power_coprime d k (turned (power_coprime n k x.lowest)));
+  lowest = gcd_swapped (power_coprime d k (gcd_swapped (power_coprime n k x.lowest)));
 }
 
 pub equal_powers : {a b c d : ℤ} (k : ℕ) → AreEqual a b c d → AreEqual (int_pow a k) (int_pow b k) (int_pow c k) (int_pow d k)

@@ -11,7 +11,8 @@ use Rattle.ratio64.specs.Fraction.{IsReduced}
 use Rattle.ratio64.specs.Limiting.{IsNearestWithin, gap}
 use Rattle.ratio64.specs.Neighbours.{AreNeighbours, IsNearer}
 use Rattle.ratio64.specs.ReducedPairs.{positive_is_nonzero}
-use Rattle.ratio64.proofs.NearerNeighbour.{AreBeside, nearest_above, nearest_below}
+use Rattle.ratio64.proofs.NearerNeighbour.{AreBeside, nearest_above, nearest_below, other_factor_zero}
+use Rattle.ratio64.proofs.NearestNumbers.{down_fits, up_fits}
 use Rattle.ratio64.proofs.ReducedParts.{one_divides, remainder_reduced}
 
 -- ---- a denominator up to the limit
@@ -23,14 +24,10 @@ least_denominator {n} {d} {v} u x up e = divisor_at_most up (coprime_divides x.l
 none_left : (n d : ℤ) → n *ℤ d -ℤ n *ℤ d ≡ pos 0
 none_left n d = omega (arith, linear)
 
-no_factor : (z d : ℕ) → 0 < d → z * d ≡ 0 → z ≡ 0
-no_factor zero d up e = omega arith
-no_factor (suc z) d up e = absurd (omega arith)
-
 level : (x y : ℤ) (v d : ℕ) → 0 < d → 0 * v ≡ unsigned_abs (x -ℤ y) * d → x ≡ y
 level x y v d up e =
-    let product : unsigned_abs (x -ℤ y) * d ≡ 0 = omega (arith, e) in
-    let none : unsigned_abs (x -ℤ y) ≡ 0 = no_factor (unsigned_abs (x -ℤ y)) d up product in
+    let product : d * unsigned_abs (x -ℤ y) ≡ 0 = omega (arith, e) in
+    let none : unsigned_abs (x -ℤ y) ≡ 0 = other_factor_zero d (unsigned_abs (x -ℤ y)) up product in
     omega (arith, sizes)
 
 pub itself_is_nearest : {n d max : ℤ} → IsReduced n d → d ≤ℤ max → IsNearestWithin n d max n d
@@ -87,9 +84,6 @@ positive_size (negsuc n) fits up = absurd (omega (arith, ints))
 pub natural_fits : {n : ℕ} → n < 2 ^ 63 → FitsSigned w64 (pos n)
 natural_fits small = record { sfits = omega arith }
 
-pub same_limits : {n d e max most num den : ℤ} → d ≡ e → max ≡ most → IsNearestWithin n d max num den → IsNearestWithin n e most num den
-same_limits {n} {d} {e} {max} {most} {num} {den} d_is max_is h = rw (sym d_is, sym max_is) h
-
 pub nearer_bounded : {n d max : ℕ} {x y z : Neighbour} → AreNeighbours n d max x y → IsNearer x y z → z.den ≤ max
 nearer_bounded h s = elim s.is [
   | inl k ↦ rw k.0 h.bounded.0
@@ -110,27 +104,6 @@ whole_adjacent : (w a b c e : ℤ) → c *ℤ b ≡ a *ℤ e +ℤ pos 1 → (w *
 whole_adjacent w a b c e h =
     let each = simp expand at h in
     simp expand (omega (arith, linear))
-
-whole_beside : {n d max : ℕ} {x y : Neighbour} (w m : ℤ) → AreNeighbours n d max x y → max < x.den + y.den → 0 < d → m ≡ w *ℤ pos d +ℤ pos n
-    → AreBeside m d max (w *ℤ pos x.den +ℤ pos x.num) x.den x.gap (w *ℤ pos y.den +ℤ pos y.num) y.den y.gap
-whole_beside {n} {d} {max} {x} {y} w m h none up e = record {
-  from_below = whole_below w (pos d) (pos n) (pos x.num) (pos x.den) (pos x.gap) m e (ap pos h.from_below);
-  from_above = whole_above w (pos d) (pos n) (pos y.num) (pos y.den) (pos y.gap) m e (ap pos h.from_above);
-  adjacent = whole_adjacent w (pos x.num) (pos x.den) (pos y.num) (pos y.den) (ap pos h.adjacent);
-  positive = (up, h.dens.0, h.dens.1, h.gaps.0, h.gaps.1);
-  bounded = h.bounded;
-  none_between = none;
-}
-
--- the nearer neighbour is then the nearest fraction
-pub nearer_is_nearest : {n d max : ℕ} {x y z : Neighbour} (w m : ℤ) → AreNeighbours n d max x y → max < x.den + y.den → 0 < d → m ≡ w *ℤ pos d +ℤ pos n → IsNearer x y z
-    → IsNearestWithin m (pos d) (pos max) (w *ℤ pos z.den +ℤ pos z.num) (pos z.den)
-nearer_is_nearest {n} {d} {max} {x} {y} {z} w m h none up e s =
-    let beside = whole_beside w m h none up e in
-    elim s.is [
-      | inl k ↦ rw k.0 (nearest_below beside k.1 k.2)
-      | inr k ↦ rw k.0 (nearest_above beside k.1 k.2)
-    ]
 
 -- ---- it is reduced
 
@@ -154,19 +127,6 @@ pair_above : (a b c e : ℤ) → c *ℤ b ≡ a *ℤ e +ℤ pos 1 → b *ℤ c +
 pair_above a b c e h =
     let each = simp expand at h in
     simp expand (omega (arith, linear))
-
-pub nearer_is_reduced : {n d max : ℕ} {x y z : Neighbour} (w m : ℤ) → AreNeighbours n d max x y → max < x.den + y.den → 0 < d → m ≡ w *ℤ pos d +ℤ pos n → IsNearer x y z
-    → IsReduced (w *ℤ pos z.den +ℤ pos z.num) (pos z.den)
-nearer_is_reduced {n} {d} {max} {x} {y} {z} w m h none up e s =
-    let beside = whole_beside w m h none up e in
-    let lower = w *ℤ pos x.den +ℤ pos x.num in
-    let upper = w *ℤ pos y.den +ℤ pos y.num in
-    let x_up = h.dens.0 in
-    let y_up = h.dens.1 in
-    elim s.is [
-      | inl k ↦ rw k.0 (bezout_reduced (neg_ℤ (pos y.den)) upper lower (pos x.den) (omega (arith, ints)) (pair_below lower (pos x.den) upper (pos y.den) beside.adjacent))
-      | inr k ↦ rw k.0 (bezout_reduced (pos x.den) (neg_ℤ lower) upper (pos y.den) (omega (arith, ints)) (pair_above lower (pos x.den) upper (pos y.den) beside.adjacent))
-    ]
 
 -- ---- it fits
 
@@ -196,16 +156,6 @@ parts_down g h a c n g_up h_up a_down c_down e =
     let both = parts_up g h (neg_ℤ a) (neg_ℤ c) (neg_ℤ n) g_up h_up (omega (arith, linear)) (omega (arith, linear)) turned in
     (omega (arith, linear, both.0), omega (arith, linear, both.1))
 
-fits_up : (x n : ℤ) → FitsSigned w64 n → pos 0 ≤ℤ x → x ≤ℤ n → FitsSigned w64 x
-fits_up (pos x) (pos n) fits up most = let low = fits.sfits in record { sfits = omega (arith, ints) }
-fits_up (pos x) (negsuc n) fits up most = absurd (omega (arith, ints))
-fits_up (negsuc x) n fits up most = absurd (omega (arith, ints))
-
-fits_down : (x n : ℤ) → FitsSigned w64 n → x ≤ℤ pos 0 → n ≤ℤ x → FitsSigned w64 x
-fits_down (pos x) n fits down least = record { sfits = omega (arith, ints) }
-fits_down (negsuc x) (pos n) fits down least = absurd (omega (arith, ints))
-fits_down (negsuc x) (negsuc n) fits down least = let low = fits.sfits in record { sfits = omega (arith, ints) }
-
 -- a whole number at least 0, or below 0, and a part up to 1
 part_up : (w b a : ℤ) → pos 0 ≤ℤ w → pos 0 ≤ℤ b → pos 0 ≤ℤ a → pos 0 ≤ℤ (w *ℤ b +ℤ a)
 part_up w b a w_up b_up a_up = let product = product_from_zero w b w_up b_up in omega (arith, linear)
@@ -217,29 +167,62 @@ part_down w b a w_down b_up most =
     let order = comm w b in
     omega (arith, products)
 
-pub nearer_fits : {n d max : ℕ} {x y z : Neighbour} (w m : ℤ) → AreNeighbours n d max x y → max < x.den + y.den → 0 < d → m ≡ w *ℤ pos d +ℤ pos n → IsNearer x y z
-    → FitsSigned w64 m → FitsSigned w64 (w *ℤ pos z.den +ℤ pos z.num)
-nearer_fits {n} {d} {max} {x} {y} {z} w m h none up e s fits =
-    let beside = whole_beside w m h none up e in
-    let lower = w *ℤ pos x.den +ℤ pos x.num in
-    let upper = w *ℤ pos y.den +ℤ pos y.num in
-    let sum : pos x.gap *ℤ upper +ℤ pos y.gap *ℤ lower ≡ m = nums_make_num m (pos d) lower (pos x.den) (pos x.gap) upper (pos y.den) (pos y.gap) beside.from_below beside.from_above beside.adjacent in
-    let x_gap : pos 0 <ℤ pos x.gap = let some = h.gaps.0 in omega (arith, ints) in
-    let y_gap : pos 0 <ℤ pos y.gap = let some = h.gaps.1 in omega (arith, ints) in
-    let x_num : pos x.num ≤ℤ pos x.den = let some = h.nums.0 in omega (arith, ints) in
-    let y_num : pos y.num ≤ℤ pos y.den = let some = h.nums.1 in omega (arith, ints) in
-    let both : FitsSigned w64 lower × FitsSigned w64 upper = by_lt_z w (pos 0)
-    (λ down.
-    let l = part_down w (pos x.den) (pos x.num) down (omega (arith, ints)) x_num in
-    let u = part_down w (pos y.den) (pos y.num) down (omega (arith, ints)) y_num in
-    let least = parts_down (pos x.gap) (pos y.gap) lower upper m x_gap y_gap l u sum in
-    (fits_down lower m fits l least.0, fits_down upper m fits u least.1))
-    (λ over.
-    let l = part_up w (pos x.den) (pos x.num) over (omega (arith, ints)) (omega (arith, ints)) in
-    let u = part_up w (pos y.den) (pos y.num) over (omega (arith, ints)) (omega (arith, ints)) in
-    let most = parts_up (pos x.gap) (pos y.gap) lower upper m x_gap y_gap l u sum in
-    (fits_up lower m fits l most.0, fits_up upper m fits u most.1)) in
-    elim s.is [
-      | inl k ↦ rw k.0 both.0
-      | inr k ↦ rw k.0 both.1
-    ]
+-- ---- the nearer neighbour, with the whole number added
+
+module _ {n d max : ℕ} {x y z : Neighbour} {m bottom w : ℤ} (split : IsSplit m bottom w n d) (h : AreNeighbours n d max x y) (none : max < x.den + y.den) (near : IsNearer x y z) where
+  abbrev lower : ℤ
+  lower = w *ℤ pos x.den +ℤ pos x.num
+
+  abbrev upper : ℤ
+  upper = w *ℤ pos y.den +ℤ pos y.num
+
+  beside : AreBeside m d max lower x.den x.gap upper y.den y.gap
+  beside = record {
+    from_below = whole_below w (pos d) (pos n) (pos x.num) (pos x.den) (pos x.gap) m split.equation (ap pos h.from_below);
+    from_above = whole_above w (pos d) (pos n) (pos y.num) (pos y.den) (pos y.gap) m split.equation (ap pos h.from_above);
+    adjacent = whole_adjacent w (pos x.num) (pos x.den) (pos y.num) (pos y.den) (ap pos h.adjacent);
+    positive = (split.up, h.dens.0, h.dens.1, h.gaps.0, h.gaps.1);
+    bounded = h.bounded;
+    none_between = none;
+  }
+
+  -- it is the nearest fraction
+  pub nearer_is_nearest : IsNearestWithin m bottom (pos max) (w *ℤ pos z.den +ℤ pos z.num) (pos z.den)
+  nearer_is_nearest = rw (← split.den) (elim near.is [
+    | inl k ↦ rw k.0 (nearest_below beside k.1 k.2)
+    | inr k ↦ rw k.0 (nearest_above beside k.1 k.2)
+  ])
+
+  -- it is reduced
+  pub nearer_is_reduced : IsReduced (w *ℤ pos z.den +ℤ pos z.num) (pos z.den)
+  nearer_is_reduced =
+      let x_up = h.dens.0 in
+      let y_up = h.dens.1 in
+      elim near.is [
+        | inl k ↦ rw k.0 (bezout_reduced (neg_ℤ (pos y.den)) upper lower (pos x.den) (omega (arith, ints)) (pair_below lower (pos x.den) upper (pos y.den) beside.adjacent))
+        | inr k ↦ rw k.0 (bezout_reduced (pos x.den) (neg_ℤ lower) upper (pos y.den) (omega (arith, ints)) (pair_above lower (pos x.den) upper (pos y.den) beside.adjacent))
+      ]
+
+  -- it fits
+  pub nearer_fits : FitsSigned w64 m → FitsSigned w64 (w *ℤ pos z.den +ℤ pos z.num)
+  nearer_fits fits =
+      let sum : pos x.gap *ℤ upper +ℤ pos y.gap *ℤ lower ≡ m = nums_make_num m (pos d) lower (pos x.den) (pos x.gap) upper (pos y.den) (pos y.gap) beside.from_below beside.from_above beside.adjacent in
+      let x_gap : pos 0 <ℤ pos x.gap = let some = h.gaps.0 in omega (arith, ints) in
+      let y_gap : pos 0 <ℤ pos y.gap = let some = h.gaps.1 in omega (arith, ints) in
+      let x_num : pos x.num ≤ℤ pos x.den = let some = h.nums.0 in omega (arith, ints) in
+      let y_num : pos y.num ≤ℤ pos y.den = let some = h.nums.1 in omega (arith, ints) in
+      let both : FitsSigned w64 lower × FitsSigned w64 upper = by_lt_z w (pos 0)
+      (λ down.
+      let l = part_down w (pos x.den) (pos x.num) down (omega (arith, ints)) x_num in
+      let u = part_down w (pos y.den) (pos y.num) down (omega (arith, ints)) y_num in
+      let least = parts_down (pos x.gap) (pos y.gap) lower upper m x_gap y_gap l u sum in
+      (down_fits w64 lower m fits l least.0, down_fits w64 upper m fits u least.1))
+      (λ over.
+      let l = part_up w (pos x.den) (pos x.num) over (omega (arith, ints)) (omega (arith, ints)) in
+      let u = part_up w (pos y.den) (pos y.num) over (omega (arith, ints)) (omega (arith, ints)) in
+      let most = parts_up (pos x.gap) (pos y.gap) lower upper m x_gap y_gap l u sum in
+      (up_fits w64 lower m fits l most.0, up_fits w64 upper m fits u most.1)) in
+      elim near.is [
+        | inl k ↦ rw k.0 both.0
+        | inr k ↦ rw k.0 both.1
+      ]

@@ -69,8 +69,8 @@ past d v g b z i e up =
       far = sym (unsigned_abs-mul z (pos b)) ∙ ap unsigned_abs (rw is at e);
     }
 
-turned : (x y : ℤ) → unsigned_abs (x -ℤ y) ≡ unsigned_abs (y -ℤ x)
-turned x y = omega (arith, sizes)
+distance_symmetric : (x y : ℤ) → unsigned_abs (x -ℤ y) ≡ unsigned_abs (y -ℤ x)
+distance_symmetric x y = omega (arith, sizes)
 
 natural_up : {m : ℕ} → 0 < m → pos 0 <ℤ pos m
 natural_up up = omega (arith, ints)
@@ -78,33 +78,18 @@ natural_up up = omega (arith, ints)
 natural_less : (v b e : ℕ) → v < b + e → pos v <ℤ (pos b +ℤ pos e)
 natural_less v b e less = omega (arith, ints)
 
--- so it lies past one of them
-one_past : {n : ℤ} {d max : ℕ} {a : ℤ} {b g : ℕ} {c : ℤ} {e h : ℕ} (u : ℤ) (v : ℕ) → AreBeside n d max a b g c e h → 0 < v → v ≤ max
-    → LiesPast d v g b (unsigned_abs (n *ℤ pos v -ℤ u *ℤ pos d)) (a *ℤ pos v -ℤ u *ℤ pos b)
-    ⊎ LiesPast d v h e (unsigned_abs (n *ℤ pos v -ℤ u *ℤ pos d)) (u *ℤ pos e -ℤ c *ℤ pos v)
-one_past {n} {d} {max} {a} {b} {g} {c} {e} {h} u v beside up most =
-    let none = beside.none_between in
-    let below = past_below n (pos d) a (pos b) u (pos v) (pos g) beside.from_below in
-    let above = past_above n (pos d) c (pos e) u (pos v) (pos h) beside.from_above in
-    by_lt_z (a *ℤ pos v -ℤ u *ℤ pos b) (pos 0)
-    (λ under.
-    let over = some_past {i = a *ℤ pos v -ℤ u *ℤ pos b} {j = u *ℤ pos e -ℤ c *ℤ pos v} {b = pos b} {e = pos e} {v = pos v}
-    (natural_up beside.positive.1) (natural_up beside.positive.2) (natural_less v b e (omega arith)) (both_sides a (pos b) c (pos e) u (pos v) beside.adjacent) under in
-    inr (rw (turned (n *ℤ pos v) (u *ℤ pos d)) (past d v h e _ _ above over)))
-    (λ over. inl (past d v g b _ _ below over))
-
 -- ---- gaps
 
-product_zero : (d k : ℕ) → 0 < d → d * k ≡ 0 → k ≡ 0
-product_zero d zero up e = omega arith
-product_zero d (suc k) up e = let one : 1 ≤ suc k = omega arith in absurd (omega (arith, mul-le-mul_left d one))
+pub other_factor_zero : (d k : ℕ) → 0 < d → d * k ≡ 0 → k ≡ 0
+other_factor_zero d zero up e = omega arith
+other_factor_zero d (suc k) up e = let one : 1 ≤ suc k = omega arith in absurd (omega (arith, mul-le-mul_left d one))
 
 -- past the nearer neighbour
 near_side : {d v g b z : ℕ} {i : ℤ} → LiesPast d v g b z i → g * v ≤ z * b
 near_side p = omega (arith, p.far)
 
 near_tie : {d v g b z : ℕ} {i : ℤ} → 0 < d → LiesPast d v g b z i → g * v ≡ z * b → i ≡ pos 0
-near_tie {d} up p e = p.is ∙ ap pos (product_zero d p.over up (omega (arith, p.far)))
+near_tie {d} up p e = p.is ∙ ap pos (other_factor_zero d p.over up (omega (arith, p.far)))
 
 -- past the other one, whose denominator is e and whose gap is h
 far_side : {d v h e z : ℕ} {j : ℤ} (g b : ℕ) → 0 < e → g * e ≤ h * b → LiesPast d v h e z j → g * v ≤ z * b
@@ -120,7 +105,7 @@ far_tie {d} {v} {h} {e} {z} g b d_up b_up v_up near p tie =
     let same = ap (λ (t : ℕ). e * t) tie in
     let none : b * (d * p.over) ≡ 0 = omega arith in
     let level : h * b ≤ g * e = le_of_mul-le-mul_left {m = h * b} {n = g * e} {k = v} (omega arith) v_up in
-    (p.is ∙ ap pos (product_zero d p.over d_up (product_zero b (d * p.over) b_up none)), omega arith)
+    (p.is ∙ ap pos (other_factor_zero d p.over d_up (other_factor_zero b (d * p.over) b_up none)), omega arith)
 
 -- ---- equal fractions
 
@@ -165,66 +150,7 @@ own_gap_below n a d b g e =
 own_gap_above : (n c : ℤ) (d e h : ℕ) → c *ℤ pos d ≡ n *ℤ pos e +ℤ pos h → gap n (pos d) c (pos e) ≡ h
 own_gap_above n c d e h q =
     let left : c *ℤ pos d -ℤ n *ℤ pos e ≡ pos h = omega (arith, linear) in
-    turned (n *ℤ pos e) (c *ℤ pos d) ∙ ap unsigned_abs left
-
-near_below : {n : ℤ} {d max : ℕ} {a : ℤ} {b g : ℕ} {c : ℤ} {e h : ℕ} (u : ℤ) (v : ℕ) → AreBeside n d max a b g c e h → g * e ≤ h * b → 0 < v → v ≤ max
-    → g * v ≤ gap n (pos d) u (pos v) * b
-near_below {n} {d} {max} {a} {b} {g} {c} {e} {h} u v beside near up most = elim (one_past u v beside up most) [
-  | inl p ↦ near_side p
-  | inr p ↦ far_side g b beside.positive.2 near p
-]
-
-near_above : {n : ℤ} {d max : ℕ} {a : ℤ} {b g : ℕ} {c : ℤ} {e h : ℕ} (u : ℤ) (v : ℕ) → AreBeside n d max a b g c e h → h * b ≤ g * e → 0 < v → v ≤ max
-    → h * v ≤ gap n (pos d) u (pos v) * e
-near_above {n} {d} {max} {a} {b} {g} {c} {e} {h} u v beside near up most = elim (one_past u v beside up most) [
-  | inl p ↦ far_side h e beside.positive.1 near p
-  | inr p ↦ near_side p
-]
-
-tie_below : {n : ℤ} {d max : ℕ} {a : ℤ} {b g : ℕ} {c : ℤ} {e h : ℕ} (u : ℤ) (v : ℕ) → AreBeside n d max a b g c e h → g * e ≤ h * b → (g * e ≡ h * b → b ≤ e) → 0 < v → v ≤ max
-    → g * v ≡ gap n (pos d) u (pos v) * b → (pos b ≤ℤ pos v) × (pos v ≡ pos b → a ≤ℤ u)
-tie_below {n} {d} {max} {a} {b} {g} {c} {e} {h} u v beside near smaller up most tie =
-    let b_up = natural_up beside.positive.1 in
-    let e_up = natural_up beside.positive.2 in
-    let v_up = natural_up up in
-    let sum = both_sides a (pos b) c (pos e) u (pos v) beside.adjacent in
-    elim (one_past u v beside up most) [
-      | inl p ↦
-          let level = near_tie beside.positive.0 p tie in
-          (level_below _ (u *ℤ pos e -ℤ c *ℤ pos v) (pos b) (pos e) (pos v) b_up v_up sum level, λ same. let own = rw same at level in let equal = same_num a u (pos b) b_up own in omega (arith, linear))
-      | inr p ↦
-          let level = far_tie g b beside.positive.0 beside.positive.1 up near p tie in
-          let least = level_above (a *ℤ pos v -ℤ u *ℤ pos b) _ (pos b) (pos e) (pos v) e_up v_up sum level.0 in
-          let less = smaller level.1 in
-          let low : pos b ≤ℤ pos e = omega (arith, ints) in (
-            omega (arith, linear),
-            λ same.
-                let one : pos e ≡ pos b = omega (arith, linear) in
-                let own = rw (same, one) at level.0 in
-                let equal = same_num u c (pos b) b_up own in
-                let order = lower_num a c (pos b) b_up (rw one at beside.adjacent) in
-                omega (arith, linear),
-          )
-    ]
-
-tie_above : {n : ℤ} {d max : ℕ} {a : ℤ} {b g : ℕ} {c : ℤ} {e h : ℕ} (u : ℤ) (v : ℕ) → AreBeside n d max a b g c e h → h * b ≤ g * e → (h * b ≡ g * e → e < b) → 0 < v → v ≤ max
-    → h * v ≡ gap n (pos d) u (pos v) * e → (pos e ≤ℤ pos v) × (pos v ≡ pos e → c ≤ℤ u)
-tie_above {n} {d} {max} {a} {b} {g} {c} {e} {h} u v beside near smaller up most tie =
-    let b_up = natural_up beside.positive.1 in
-    let e_up = natural_up beside.positive.2 in
-    let v_up = natural_up up in
-    let sum = both_sides a (pos b) c (pos e) u (pos v) beside.adjacent in
-    elim (one_past u v beside up most) [
-      | inl p ↦
-          let level = far_tie h e beside.positive.0 beside.positive.2 up near p tie in
-          let least = level_below _ (u *ℤ pos e -ℤ c *ℤ pos v) (pos b) (pos e) (pos v) b_up v_up sum level.0 in
-          let less = smaller level.1 in
-          let low : pos e <ℤ pos b = omega (arith, ints) in
-          (omega (arith, linear), λ same. absurd (omega (arith, linear)))
-      | inr p ↦
-          let level = near_tie beside.positive.0 p tie in
-          (level_above (a *ℤ pos v -ℤ u *ℤ pos b) _ (pos b) (pos e) (pos v) e_up v_up sum level, λ same. let own = rw same at level in let equal = same_num u c (pos e) e_up own in omega (arith, linear))
-    ]
+    distance_symmetric (n *ℤ pos e) (c *ℤ pos d) ∙ ap unsigned_abs left
 
 nearest_by : {n a : ℤ} {d max b g : ℕ} → 0 < b → b ≤ max → gap n (pos d) a (pos b) ≡ g
     → ((u : ℤ) (v : ℕ) → 0 < v → v ≤ max → g * v ≤ gap n (pos d) u (pos v) * b)
@@ -241,14 +167,91 @@ nearest_by {n} {a} {d} {max} {b} {g} up most own near tie = record {
       rw is (λ same. tie u (unsigned_abs v) (omega (arith, sizes)) (omega (arith, sizes)) (subst (λ (t : ℕ). t * unsigned_abs v ≡ gap n (pos d) u (pos (unsigned_abs v)) * b) own same));
 }
 
-pub nearest_below : {n : ℤ} {d max : ℕ} {a : ℤ} {b g : ℕ} {c : ℤ} {e h : ℕ} → AreBeside n d max a b g c e h → g * e ≤ h * b → (g * e ≡ h * b → b ≤ e)
-    → IsNearestWithin n (pos d) (pos max) a (pos b)
-nearest_below {n} {d} {max} {a} {b} {g} {c} {e} {h} beside near smaller = nearest_by beside.positive.1 beside.bounded.0 (own_gap_below n a d b g beside.from_below)
-    (λ u v up most. near_below u v beside near up most)
-    (λ u v up most same. tie_below u v beside near smaller up most same)
+-- ---- between two neighbours
 
-pub nearest_above : {n : ℤ} {d max : ℕ} {a : ℤ} {b g : ℕ} {c : ℤ} {e h : ℕ} → AreBeside n d max a b g c e h → h * b ≤ g * e → (h * b ≡ g * e → e < b)
-    → IsNearestWithin n (pos d) (pos max) c (pos e)
-nearest_above {n} {d} {max} {a} {b} {g} {c} {e} {h} beside near smaller = nearest_by beside.positive.2 beside.bounded.1 (own_gap_above n c d e h beside.from_above)
-    (λ u v up most. near_above u v beside near up most)
-    (λ u v up most same. tie_above u v beside near smaller up most same)
+module _ {n : ℤ} {d max : ℕ} {a : ℤ} {b g : ℕ} {c : ℤ} {e h : ℕ} (beside : AreBeside n d max a b g c e h) where
+  -- so it lies past one of them
+  one_past : (u : ℤ) (v : ℕ) → 0 < v → v ≤ max
+      → LiesPast d v g b (unsigned_abs (n *ℤ pos v -ℤ u *ℤ pos d)) (a *ℤ pos v -ℤ u *ℤ pos b)
+      ⊎ LiesPast d v h e (unsigned_abs (n *ℤ pos v -ℤ u *ℤ pos d)) (u *ℤ pos e -ℤ c *ℤ pos v)
+  one_past u v up most =
+      let none = beside.none_between in
+      let below = past_below n (pos d) a (pos b) u (pos v) (pos g) beside.from_below in
+      let above = past_above n (pos d) c (pos e) u (pos v) (pos h) beside.from_above in
+      by_lt_z (a *ℤ pos v -ℤ u *ℤ pos b) (pos 0)
+      (λ under.
+      let over = some_past {i = a *ℤ pos v -ℤ u *ℤ pos b} {j = u *ℤ pos e -ℤ c *ℤ pos v} {b = pos b} {e = pos e} {v = pos v}
+      (natural_up beside.positive.1) (natural_up beside.positive.2) (natural_less v b e (omega arith)) (both_sides a (pos b) c (pos e) u (pos v) beside.adjacent) under in
+      inr (rw (distance_symmetric (n *ℤ pos v) (u *ℤ pos d)) (past d v h e _ _ above over)))
+      (λ over. inl (past d v g b _ _ below over))
+
+  near_below : (u : ℤ) (v : ℕ) → g * e ≤ h * b → 0 < v → v ≤ max
+      → g * v ≤ gap n (pos d) u (pos v) * b
+  near_below u v near up most = elim (one_past u v up most) [
+    | inl p ↦ near_side p
+    | inr p ↦ far_side g b beside.positive.2 near p
+  ]
+
+  near_above : (u : ℤ) (v : ℕ) → h * b ≤ g * e → 0 < v → v ≤ max
+      → h * v ≤ gap n (pos d) u (pos v) * e
+  near_above u v near up most = elim (one_past u v up most) [
+    | inl p ↦ far_side h e beside.positive.1 near p
+    | inr p ↦ near_side p
+  ]
+
+  tie_below : (u : ℤ) (v : ℕ) → g * e ≤ h * b → (g * e ≡ h * b → b ≤ e) → 0 < v → v ≤ max
+      → g * v ≡ gap n (pos d) u (pos v) * b → (pos b ≤ℤ pos v) × (pos v ≡ pos b → a ≤ℤ u)
+  tie_below u v near smaller up most tie =
+      let b_up = natural_up beside.positive.1 in
+      let e_up = natural_up beside.positive.2 in
+      let v_up = natural_up up in
+      let sum = both_sides a (pos b) c (pos e) u (pos v) beside.adjacent in
+      elim (one_past u v up most) [
+        | inl p ↦
+            let level = near_tie beside.positive.0 p tie in
+            (level_below _ (u *ℤ pos e -ℤ c *ℤ pos v) (pos b) (pos e) (pos v) b_up v_up sum level, λ same. let own = rw same at level in let equal = same_num a u (pos b) b_up own in omega (arith, linear))
+        | inr p ↦
+            let level = far_tie g b beside.positive.0 beside.positive.1 up near p tie in
+            let least = level_above (a *ℤ pos v -ℤ u *ℤ pos b) _ (pos b) (pos e) (pos v) e_up v_up sum level.0 in
+            let less = smaller level.1 in
+            let low : pos b ≤ℤ pos e = omega (arith, ints) in (
+              omega (arith, linear),
+              λ same.
+                  let one : pos e ≡ pos b = omega (arith, linear) in
+                  let own = rw (same, one) at level.0 in
+                  let equal = same_num u c (pos b) b_up own in
+                  let order = lower_num a c (pos b) b_up (rw one at beside.adjacent) in
+                  omega (arith, linear),
+            )
+      ]
+
+  tie_above : (u : ℤ) (v : ℕ) → h * b ≤ g * e → (h * b ≡ g * e → e < b) → 0 < v → v ≤ max
+      → h * v ≡ gap n (pos d) u (pos v) * e → (pos e ≤ℤ pos v) × (pos v ≡ pos e → c ≤ℤ u)
+  tie_above u v near smaller up most tie =
+      let b_up = natural_up beside.positive.1 in
+      let e_up = natural_up beside.positive.2 in
+      let v_up = natural_up up in
+      let sum = both_sides a (pos b) c (pos e) u (pos v) beside.adjacent in
+      elim (one_past u v up most) [
+        | inl p ↦
+            let level = far_tie h e beside.positive.0 beside.positive.2 up near p tie in
+            let least = level_below _ (u *ℤ pos e -ℤ c *ℤ pos v) (pos b) (pos e) (pos v) b_up v_up sum level.0 in
+            let less = smaller level.1 in
+            let low : pos e <ℤ pos b = omega (arith, ints) in
+            (omega (arith, linear), λ same. absurd (omega (arith, linear)))
+        | inr p ↦
+            let level = near_tie beside.positive.0 p tie in
+            (level_above (a *ℤ pos v -ℤ u *ℤ pos b) _ (pos b) (pos e) (pos v) e_up v_up sum level, λ same. let own = rw same at level in let equal = same_num u c (pos e) e_up own in omega (arith, linear))
+      ]
+
+  pub nearest_below : g * e ≤ h * b → (g * e ≡ h * b → b ≤ e)
+      → IsNearestWithin n (pos d) (pos max) a (pos b)
+  nearest_below near smaller = nearest_by beside.positive.1 beside.bounded.0 (own_gap_below n a d b g beside.from_below)
+      (λ u v up most. near_below u v near up most)
+      (λ u v up most same. tie_below u v near smaller up most same)
+
+  pub nearest_above : h * b ≤ g * e → (h * b ≡ g * e → e < b)
+      → IsNearestWithin n (pos d) (pos max) c (pos e)
+  nearest_above near smaller = nearest_by beside.positive.2 beside.bounded.1 (own_gap_above n c d e h beside.from_above)
+      (λ u v up most. near_above u v near up most)
+      (λ u v up most same. tie_above u v near smaller up most same)

@@ -1,73 +1,91 @@
--- The nearest whole number.
-use Rattle.std.specs.Prelude.{◌≡◌, ◌<◌, ◌≤◌, ◌*◌, ◌<ℤ◌, ◌≤ℤ◌, ◌+ℤ◌, ◌-ℤ◌, ◌*ℤ◌, ℤ, ℕ, pos, negsuc, unsigned_abs, min, int_div, int_rem, FitsSigned}
-use Rattle.std.specs.Int.{int_signum, w64}
-use Rattle.std.proofs.Common.{arith, ap, sym, ◌∙◌, subst, zero, suc}
-use Rattle.std.proofs.lemmas.Int.{by_lt_z, fits_signed_from_abs, ints, quot_fits}
-use Rattle.num_integer.proofs.ForCallers.{dist, expand, linear, multiples_apart, product_from_zero, products, sizes, truncated_is}
-use Rattle.num_integer.proofs.Laws.{division_is_only}
-use Rattle.num_integer.specs.Division.{IsQuotient, IsTruncated}
+-- Quotients by a number above 0, and the nearest whole number.
+use Rattle.std.specs.Prelude.{◌≡◌, ◌≢◌, ◌⊎◌, ◌<◌, ◌≤◌, ◌*◌, ◌<ℤ◌, ◌≤ℤ◌, ◌+ℤ◌, ◌-ℤ◌, ◌*ℤ◌, ℤ, pos, negsuc, neg_ℤ, unsigned_abs, FitsSigned, MatchOption, Option, Some, None}
+use Rattle.std.specs.Int.{Width, w64}
+use Rattle.std.proofs.Common.{ap, arith, inl, inr, subst, sym}
+use Rattle.std.proofs.lemmas.Int.{by_lt_z, ints}
+use Rattle.num_integer.proofs.ForCallers.{dist, expand, linear, multiples_apart, product_from_zero, products, sizes}
+use Rattle.num_integer.specs.Checked.{AnswersWhere}
+use Rattle.num_integer.specs.Division.{IsDivision, IsQuotient, IsTruncated}
+use Rattle.num_integer.specs.Only.{IsOnly}
+use Rattle.num_integer.specs.Range.{EachFits}
 use Rattle.ratio64.specs.Rounding.{IsRounded}
 
--- the quotient toward 0 fits
-pub truncated_fits : {n d z : ℤ} → FitsSigned w64 n → pos 0 <ℤ d → IsQuotient IsTruncated n d z → FitsSigned w64 z
-truncated_fits {n} {d} {z} fits up h =
-    let own = truncated_is n d (λ e. omega (arith, linear)) in
-    let same : (z, h.remainder) ≡ (int_div n d, int_rem n d) = division_is_only.0 n d _ _ own (z, h.remainder) h.division in
-    subst (FitsSigned w64) (sym (ap (λ (p : ℤ × ℤ). p.0) same)) (quot_fits w64 n d fits up)
+-- ---- a quotient by a number above 0 fits where the dividend does
 
--- less than half is left of the quotient toward 0
+pub up_fits : (w : Width) (q n : ℤ) → FitsSigned w n → pos 0 ≤ℤ q → q ≤ℤ n → FitsSigned w q
+up_fits w (pos x) (pos n) fits up most = let low = fits.sfits in record { sfits = omega (arith, ints) }
+up_fits w (pos x) (negsuc n) fits up most = absurd (omega (arith, ints))
+up_fits w (negsuc x) n fits up most = absurd (omega (arith, ints))
+
+pub down_fits : (w : Width) (q n : ℤ) → FitsSigned w n → q ≤ℤ pos 0 → n ≤ℤ q → FitsSigned w q
+down_fits w (pos x) n fits down least = record { sfits = omega (arith, ints) }
+down_fits w (negsuc x) (pos n) fits down least = absurd (omega (arith, ints))
+down_fits w (negsuc x) (negsuc n) fits down least = let low = fits.sfits in record { sfits = omega (arith, ints) }
+
+module _ {n d q r : ℤ} (up : pos 0 <ℤ d) (h : IsDivision n d q r) where
+  zero_times : pos 0 *ℤ d ≡ pos 0
+  zero_times = omega (arith, products)
+
+  quotient_up : pos 0 ≤ℤ n → (pos 0 ≤ℤ q) × (q ≤ℤ n)
+  quotient_up n_up =
+      let equation = h.equation in
+      let small = h.small in (
+        by_lt_z q (pos 0) (λ below. absurd (omega (arith, sizes, zero_times, multiples_apart q (pos 0) d up below))) (λ fine. fine),
+        by_lt_z n q
+            (λ over.
+            let times = product_from_zero n (d -ℤ pos 1) n_up (omega (arith, linear)) in
+            let each = simp expand at times in
+            absurd (omega (arith, sizes, products, multiples_apart n q d up over)))
+            (λ fine. fine),
+      )
+
+  quotient_down : n <ℤ pos 0 → (q ≤ℤ pos 0) × (n ≤ℤ q)
+  quotient_down n_down =
+      let equation = h.equation in
+      let small = h.small in (
+        by_lt_z (pos 0) q (λ over. absurd (omega (arith, sizes, zero_times, multiples_apart (pos 0) q d up over))) (λ fine. fine),
+        by_lt_z q n
+            (λ under.
+            let times = product_from_zero (pos 0 -ℤ n) (d -ℤ pos 1) (omega (arith, linear)) (omega (arith, linear)) in
+            let each = simp expand at times in
+            absurd (omega (arith, sizes, products, multiples_apart q n d up under)))
+            (λ fine. fine),
+      )
+
+  pub quotient_fits : (w : Width) → FitsSigned w n → FitsSigned w q
+  quotient_fits w fits = by_lt_z n (pos 0)
+      (λ n_down. let q_down = quotient_down n_down in down_fits w q n fits q_down.0 q_down.1)
+      (λ n_up. let q_up = quotient_up n_up in up_fits w q n fits q_up.0 q_up.1)
+
+-- ---- the nearest number
+
+-- it is the quotient of a division
+pub rounded_division : {n d r : ℤ} → pos 0 <ℤ d → IsRounded n d r → IsDivision n d r (n -ℤ r *ℤ d)
+rounded_division {n} {d} {r} up h = let near = h.nearest in record { equation = omega (arith, linear); small = omega (arith, sizes) }
+
+-- it is the quotient toward 0 where less than half is left
 pub rounded_toward : {n d q r : ℤ} → IsTruncated n d q r → 2 * unsigned_abs r < unsigned_abs d → IsRounded n d q
 rounded_toward {n} {d} {q} {r} h small =
     let equation = h.division.equation in
     let left : n -ℤ q *ℤ d ≡ r = omega (arith, linear) in
     record { nearest = rw left (omega arith); tie = rw left (λ e. absurd (omega arith)) }
 
--- half or more
-pub rounded_away : (n : ℤ) {d q r : ℤ} → pos 0 <ℤ d → IsTruncated n d q r → unsigned_abs d ≤ 2 * unsigned_abs r → IsRounded n d (q +ℤ int_signum n)
-rounded_away (pos zero) {d} {q} {r} up h large = absurd (let sign = h.sign in omega (arith, sizes))
-rounded_away (pos (suc n)) {d} {q} {r} up h large =
+-- where half or more is left, it is the next number away from 0
+pub rounded_above : {n d q r : ℤ} → pos 0 <ℤ d → IsTruncated n d q r → pos 0 ≤ℤ n → d ≤ℤ (r +ℤ r) → IsRounded n d (q +ℤ pos 1)
+rounded_above {n} {d} {q} {r} up h n_up large =
     let equation = h.division.equation in
     let small = h.division.small in
     let sign = h.sign in
-    let one : min (suc n) 1 ≡ 1 = omega arith in
-    let product : (q +ℤ int_signum (pos (suc n))) *ℤ d ≡ q *ℤ d +ℤ d = ap (λ (t : ℕ). (q +ℤ pos t) *ℤ d) one ∙ dist q (pos 1) d ∙ ap (λ (t : ℤ). q *ℤ d +ℤ t) (omega (arith, products)) in
-    record { nearest = rw product (omega (arith, sizes)); tie = rw product (λ e. omega (arith, sizes)) }
-rounded_away (negsuc n) {d} {q} {r} up h large =
-    let equation = h.division.equation in
-    let small = h.division.small in
-    let sign = h.sign in
-    let product : (q +ℤ negsuc 0) *ℤ d ≡ q *ℤ d -ℤ d = dist q (negsuc 0) d ∙ ap (λ (t : ℤ). q *ℤ d +ℤ t) (omega (arith, products)) in
+    let product : (q +ℤ pos 1) *ℤ d ≡ q *ℤ d +ℤ d = simp expand (omega (arith, products)) in
     record { nearest = rw product (omega (arith, sizes)); tie = rw product (λ e. omega (arith, sizes)) }
 
-above_fits : (n : ℕ) (z : ℤ) → FitsSigned w64 (negsuc n) → negsuc n ≤ℤ z → z <ℤ pos 0 → FitsSigned w64 z
-above_fits n (pos m) fits least below = absurd (omega (arith, ints))
-above_fits n (negsuc m) fits least below = let low = fits.sfits in record { sfits = omega (arith, ints) }
-
--- which fits
-pub away_fits : (n : ℤ) {d q r : ℤ} → pos 0 <ℤ d → IsTruncated n d q r → unsigned_abs d ≤ 2 * unsigned_abs r → FitsSigned w64 n → FitsSigned w64 (q +ℤ int_signum n)
-away_fits (pos zero) up h large fits = absurd (let sign = h.sign in omega (arith, sizes))
-away_fits (pos (suc n)) {d} {q} {r} up h large fits =
+pub rounded_below : {n d q r : ℤ} → pos 0 <ℤ d → IsTruncated n d q r → n <ℤ pos 0 → (r +ℤ r +ℤ d) ≤ℤ pos 0 → IsRounded n d (q -ℤ pos 1)
+rounded_below {n} {d} {q} {r} up h n_down large =
     let equation = h.division.equation in
     let small = h.division.small in
     let sign = h.sign in
-    let one : min (suc n) 1 ≡ 1 = omega arith in
-    let low = fits.sfits in
-    let none : pos 0 *ℤ d ≡ pos 0 = omega (arith, products) in
-    let from_zero : pos 0 ≤ℤ q = by_lt_z q (pos 0) (λ below. absurd (let far = multiples_apart q (pos 0) d up below in omega (arith, sizes))) (λ above. above) in
-    let gap = product_from_zero q (d -ℤ pos 1 -ℤ pos 1) from_zero (omega (arith, sizes)) in
-    let twice = simp expand at gap in
-    let most : (q +ℤ pos 1) ≤ℤ pos (suc n) = omega (arith, sizes, products) in
-    rw one (fits_signed_from_abs w64 (q +ℤ pos 1) (omega (arith, sizes)))
-away_fits (negsuc n) {d} {q} {r} up h large fits =
-    let equation = h.division.equation in
-    let small = h.division.small in
-    let sign = h.sign in
-    let none : pos 0 *ℤ d ≡ pos 0 = omega (arith, products) in
-    let to_zero : q ≤ℤ pos 0 = by_lt_z (pos 0) q (λ over. absurd (let far = multiples_apart (pos 0) q d up over in omega (arith, sizes))) (λ under. under) in
-    let gap = product_from_zero (pos 0 -ℤ q) (d -ℤ pos 1 -ℤ pos 1) (omega (arith, linear)) (omega (arith, sizes)) in
-    let twice = simp expand at gap in
-    let least : negsuc n ≤ℤ (q +ℤ negsuc 0) = omega (arith, sizes, products) in
-    above_fits n (q +ℤ negsuc 0) fits least (omega (arith, linear))
+    let product : (q -ℤ pos 1) *ℤ d ≡ q *ℤ d -ℤ d = simp expand (omega (arith, products)) in
+    record { nearest = rw product (omega (arith, sizes)); tie = rw product (λ e. omega (arith, sizes)) }
 
 -- and only one number is it
 rounded_apart : {n d r s : ℤ} → pos 0 <ℤ d → IsRounded n d r → IsRounded n d s → ¬ (r <ℤ s)
@@ -88,3 +106,15 @@ rounded_is_only {n} {d} {r} {s} up x y = by_lt_z r s
     (λ above. by_lt_z s r
     (λ less. absurd (rounded_apart up y x less))
     (λ most. omega (arith, linear)))
+
+-- ---- a whole number that is narrowed to 64 bits
+
+-- it answers where it is the only number with a property
+pub narrowed_answer : {P : ℤ → Type 0} {z : ℤ} (r : Option ℤ) → P z → IsOnly P z → MatchOption r (¬ (FitsSigned w64 z)) (λ q. (q ≡ z) × FitsSigned w64 z)
+    → AnswersWhere (EachFits (FitsSigned w64) P) P r
+narrowed_answer None own only none = λ each. none (each _ own)
+narrowed_answer (Some q) own only is = (λ y h. subst (FitsSigned w64) (sym (only y h)) is.1, rw is.0 own)
+
+-- a kind of division has one quotient
+pub quotient_is_only : {Kind : ℤ → ℤ → ℤ → ℤ → Type 0} {n d q : ℤ} → ((n d q r : ℤ) → Kind n d q r → IsOnly (λ (p, s). Kind n d p s) (q, r)) → IsQuotient Kind n d q → IsOnly (IsQuotient Kind n d) q
+quotient_is_only only h p k = ap (λ (t : ℤ × ℤ). t.0) (only _ _ _ _ h.division (p, k.remainder) k.division)

@@ -28,16 +28,16 @@ use Rattle.ratio64.specs.declared.parse.ParseRatioError.TheVariants.{NotAFractio
 
 -- ---- digits
 
-own : IsNumeralModel (λ ds. list_all is_ascii_digit ds ≡ true) (digits_value 10)
-own = numerals_by_value _ (search rules)
+decimal_model : IsNumeralModel (λ ds. list_all is_ascii_digit ds ≡ true) (digits_value 10)
+decimal_model = numerals_by_value _ (search rules)
 
 -- the test of each byte tells a numeral
 pub tells_numeral : (ds : List ℕ) → 0 < length ds → IsTrue (list_all is_ascii_digit ds) ↔ IsNumeral 10 ds
-tells_numeral ds some = (λ t. (some, own.to ds t), λ h. own.from ds h.1)
+tells_numeral ds some = (λ t. (some, decimal_model.to ds t), λ h. decimal_model.from ds h.1)
 
 -- digits have no slash among them, nor does a `-` before them
 no_slash_in : (ds : List ℕ) → AllDigits 10 ds → (i : ℕ) → i < length ds → get_or ds i 0 ≢ 47
-no_slash_in ds h = not_in_digits own ds 47 (own.from ds h) (λ w. omega arith)
+no_slash_in ds h = not_in_digits decimal_model ds 47 (decimal_model.from ds h) (λ w. omega arith)
 
 no_slash_after_minus : (c : ℕ) (cs : List ℕ) → c ≡ 45 → AllDigits 10 cs → (i : ℕ) → i < length (c ∷ cs) → get_or (c ∷ cs) i 0 ≢ 47
 no_slash_after_minus c cs minus h zero inside = omega arith
@@ -145,7 +145,7 @@ one_spelled = record { digits = search rules; value = refl }
 no_minus : (n : ℕ) → n < 2 ^ 64 → starts_with_minus (decimal n) ≡ false
 no_minus n small =
     let h = decimal_is_IsNumeral n small in
-    let first : get_or (decimal n) 0 0 ≢ 45 = not_in_digits own (decimal n) 45 (own.from (decimal n) h.0.1) (λ w. omega arith) 0 h.0.0 in
+    let first : get_or (decimal n) 0 0 ≢ 45 = not_in_digits decimal_model (decimal n) 45 (decimal_model.from (decimal n) h.0.1) (λ w. omega arith) 0 h.0.0 in
     ne_eqb _ 45 first
 
 decimal_spelled : (n : ℕ) → n < 2 ^ 64 → SpellsWhole (decimal n) (pos n)

@@ -11,6 +11,8 @@ pub mod Neighbours
 pub mod ReducedPairs
 pub mod FractionOrder
 -- what the clauses cite of the crate below
+pub use Rattle.num_integer.specs.Checked
 pub use Rattle.num_integer.specs.Division
 pub use Rattle.num_integer.specs.Divisors
 pub use Rattle.num_integer.specs.Only
+pub use Rattle.num_integer.specs.Range

@@ -1,12 +1,14 @@
 -- The nearest fraction of a small denominator.
 use Rattle.std.specs.Prelude.{◌≡◌, ◌≤◌, ◌*◌, ◌<ℤ◌, ◌≤ℤ◌, ◌-ℤ◌, ◌*ℤ◌, ℤ, ℕ, pos, unsigned_abs}
 
--- the distance from n/d to a/b, times both denominators
+-- The gap is the distance from n/d to a/b, times both denominators.
+-- Examples: 3/10 and 1/3: 1; 3/10 and 1/4: 2; 3/2 and 6/4: 0.
 abbrev pub gap : ℤ → ℤ → ℤ → ℤ → ℕ
 gap n d a b = unsigned_abs (n *ℤ b -ℤ a *ℤ d)
 
--- of the fractions with denominators from 1 to max num/den is the nearest to n/d, and of those that are as near the one of
--- the smallest denominator, and of those of this denominator the lowest
+-- Of the fractions with denominators from 1 to max num/den is the nearest to n/d, and of those that are as near the one of
+-- the smallest denominator, and of those of this denominator the lowest.
+-- Examples: 3/10 within 5: 1/3; 3/2 within 1: 1/1; 1/100 within 50: 0/1.
 pub record IsNearestWithin (n d max num den : ℤ) : Type 0 where
   pub positive : pos 0 <ℤ den
   pub bounded : den ≤ℤ max

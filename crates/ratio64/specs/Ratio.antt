@@ -7,19 +7,24 @@ use Rattle.ratio64.specs.declared.fraction.Ratio.{Ratio}
 use Rattle.ratio64.specs.declared.error.RatioError.{RatioError}
 use Rattle.ratio64.specs.declared.error.RatioError.TheVariants.{ZeroDenominator, NotFitting}
 
--- its parts
+-- The numerator of a `Ratio` is its first part.
+-- Examples: of -3/2: -3; of 0/1: 0; of 3/1: 3.
 abbrev pub num_of : Ratio → ℤ
 num_of x = x.num
 
+-- The denominator of a `Ratio` is its second part, which is above 0.
+-- Examples: of -3/2: 2; of 0/1: 1; of 3/1: 1.
 abbrev pub den_of : Ratio → ℤ
 den_of x = x.den
 
--- the answer of a call whose result is a/b: its exact result, or the refusal whose condition holds
+-- The answer of a call whose result is a/b is its exact result, or the refusal whose condition holds.
+-- Examples: 6/-4: -3/2; 1/0: `ZeroDenominator`; 1/MIN: `NotFitting`.
 pub record AnswersFraction (a b : ℤ) (result : Result Ratio RatioError) : Type 0 where
   pub exact : IfOk result (λ x. IsExact a b (num_of x) (den_of x))
   pub zero_denominator : (result ≡ Err ZeroDenominator) ↔ (b ≡ pos 0)
   pub not_fitting : (result ≡ Err NotFitting) ↔ IsOutsideI64 a b
 
--- its text: the numerator, and the denominator after a slash where it is not 1
+-- The text of a fraction is its numerator, and its denominator after a slash where that is not 1.
+-- Examples: `-3/2`; `3`; `0`.
 abbrev pub text_of : Ratio → List ℕ
 text_of x = if int_eq (den_of x) (pos 1) then signed_decimal (num_of x) else signed_decimal (num_of x) ++ codes "/" ++ signed_decimal (den_of x)

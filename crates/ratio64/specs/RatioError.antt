@@ -1,8 +1,16 @@
--- The numbers of the errors.
-use Rattle.std.specs.Prelude.{ℕ}
+-- The numbers and the texts of the errors.
+use Rattle.std.specs.Prelude.{ℕ, List, codes}
 use Rattle.ratio64.specs.declared.error.RatioError.{RatioError}
 use Rattle.ratio64.specs.declared.error.RatioError.TheVariants.{ZeroDenominator, NotFitting}
 
+-- The number of an error is the same in every version.
+-- Examples: `ZeroDenominator`: 1; `NotFitting`: 2.
 abbrev pub number_of : RatioError → ℕ
 number_of ZeroDenominator = 1
 number_of NotFitting = 2
+
+-- The text of an error is what `Display` writes of it.
+-- Examples: `ZeroDenominator`: `the denominator is 0`.
+abbrev pub error_text : RatioError → List ℕ
+error_text ZeroDenominator = codes "the denominator is 0"
+error_text NotFitting = codes "a part of the reduced fraction does not fit in 64 bits"

@@ -1,7 +1,10 @@
 //! Why a call returns no fraction.
 
-ghost use Rattle.std.specs.Prelude.{◌≡◌};
-ghost use Rattle.ratio64.specs.RatioError.{number_of};
+ghost use Rattle.std.specs.Prelude.{◌≡◌, Some};
+ghost use Rattle.ratio64.specs.RatioError.{error_text, number_of};
+
+use std::error::Error;
+use std::fmt;
 
 /// Why a call returns no fraction.
 #[derive(Debug, Clone, Copy, PartialEq, Eq)]
@@ -24,3 +27,18 @@ impl RatioError {
         }
     }
 }
+
+impl fmt::Display for RatioError {
+    ghost output = { λ e. Some (error_text e) };
+
+    fn fmt<W: fmt::Write>(&self, f: &mut fmt::Formatter<W>) -> fmt::Result {
+        match self {
+            RatioError::ZeroDenominator => write!(f, "the denominator is 0"),
+            RatioError::NotFitting => {
+                write!(f, "a part of the reduced fraction does not fit in 64 bits")
+            }
+        }
+    }
+}
+
+impl Error for RatioError {}

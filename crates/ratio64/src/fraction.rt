@@ -1,6 +1,6 @@
 //! A fraction, which is always reduced, and the calls that make one.
 
-ghost use Rattle.std.specs.Prelude.{◌≡◌, ◌≢◌, ◌↔◌, ◌<◌, ◌^◌, ◌+ℤ◌, ◌-ℤ◌, ◌*ℤ◌, pos, unsigned_abs, Err};
+ghost use Rattle.std.specs.Prelude.{◌≡◌, ◌≢◌, ◌⊎◌, ◌↔◌, ◌<◌, ◌^◌, ◌≤ℤ◌, ◌+ℤ◌, ◌-ℤ◌, ◌*ℤ◌, pos, neg_ℤ, unsigned_abs, Err, IfErr};
 ghost use Rattle.num_integer.specs.Division.{IsCeiled, IsFloored, IsQuotient};
 ghost use Rattle.ratio64.specs.Fraction.{IsReduced};
 ghost use Rattle.ratio64.specs.ReducedPairs.{IsReduced-prop};
@@ -9,6 +9,7 @@ mod limit;
 mod powers;
 mod rounding;
 mod sign;
+mod times;
 mod whole;
 
 use crate::RatioError;
@@ -30,7 +31,8 @@ impl Ratio {
     /// Returns the fraction `num / den`, reduced. `Ratio::new(6, -4)` is `Ratio::new(-3, 2)`, and
     /// `Ratio::new(1, 0)` is `Err(RatioError::ZeroDenominator)`.
     pub fn new(num: i64, den: i64) -> Result<Ratio, RatioError>
-        ensures { AnswersFraction num den result }
+        ensures fraction { AnswersFraction num den result }
+        ensures refused { IfErr result (λ _. den ≤ℤ pos 0) }
     {
         Ratio::reduced(i128::from(num), i128::from(den))
     }
@@ -106,7 +108,9 @@ impl Ratio {
     /// Returns the reciprocal `den / num`, or `ZeroDenominator` where the fraction is 0, or
     /// `NotFitting` where the numerator is `i64::MIN`. That of -2/3 is -3/2.
     pub fn checked_recip(&self) -> Result<Ratio, RatioError>
-        ensures { AnswersFraction (den_of self.now) (num_of self.now) result }
+        ensures reciprocal { AnswersFraction (den_of self.now) (num_of self.now) result }
+        ensures refused { IfErr result
+            (λ _. (num_of self.now ≡ pos 0) ⊎ (num_of self.now ≡ neg_ℤ (pos (2 ^ 63)))) }
     {
         Ratio::new(self.den, self.num)
     }

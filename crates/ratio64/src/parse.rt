@@ -7,6 +7,8 @@ ghost use Rattle.std.specs.Str.Parse.{IsNumeral};
 ghost use Rattle.ratio64.specs.RatioText.{AnswersSpelled, unsigned_part, whole_of};
 
 use crate::{Ratio, RatioError};
+use std::error::Error;
+use std::fmt;
 use std::str::FromStr;
 
 /// Why a text is read as no fraction.
@@ -34,6 +36,27 @@ impl From<RatioError> for ParseRatioError {
         }
     }
 }
+
+impl fmt::Display for ParseRatioError {
+    ghost use Rattle.std.specs.Prelude.{Some};
+    ghost use Rattle.ratio64.specs.RatioText.{parse_error_text};
+
+    ghost output = { λ e. Some (parse_error_text e) };
+
+    fn fmt<W: fmt::Write>(&self, f: &mut fmt::Formatter<W>) -> fmt::Result {
+        match self {
+            ParseRatioError::NotAFraction => write!(f, "the text is not a fraction"),
+            ParseRatioError::TooLong => write!(
+                f,
+                "a part has more than 38 digits, leading zeros aside"
+            ),
+            ParseRatioError::ZeroDenominator => RatioError::ZeroDenominator.fmt(f),
+            ParseRatioError::NotFitting => RatioError::NotFitting.fmt(f),
+        }
+    }
+}
+
+impl Error for ParseRatioError {}
 
 /// Reads the form that `Display` writes: `num/den`, or only `num`. Each part is an optional `-`, then
 /// digits. `"6/-4".parse().ok()` is `Ratio::new(-3, 2).ok()`, and `"+1"` and `"1/"` are no fractions.

@@ -1,6 +1,6 @@
 //! Sums and products of fractions.
 
-ghost use Rattle.std.specs.Prelude.{◌≡◌, ◌+ℤ◌, ◌*ℤ◌, Ok, Err, MatchResult};
+ghost use Rattle.std.specs.Prelude.{◌≡◌, Ok, Err, MatchResult};
 ghost use Rattle.ratio64.specs.Fraction.{IsFraction, IsOutsideI64};
 ghost use Rattle.ratio64.specs.Ratio.{num_of, den_of};
 ghost use Rattle.intcalc_core.specs.declared.calls.Answer.TheVariants as answers;
@@ -8,7 +8,7 @@ ghost use Rattle.intcalc_core.specs.declared.calls.Call.TheVariants as calls;
 ghost use Rattle.intcalc_core.specs.declared.calls.Kind.TheVariants as kinds;
 ghost use Rattle.intcalc_core.specs.declared.calls.Refusal.TheVariants as refusals;
 ghost use Rattle.intcalc_core.specs.Fractions.{IsRatioOf};
-ghost use Rattle.intcalc_core.specs.Outcome.{AnswersExact, FitsKind, NeedsFractions, OutcomeIn};
+ghost use Rattle.intcalc_core.specs.Outcome.{FitsKind, NeedsFractions, NeedsParts, OutcomeIn, PartsFit};
 
 use crate::calls::{Answer, Refusal};
 use crate::outcome::operand::{narrow, needs};
@@ -17,27 +17,23 @@ use ratio64::{Ratio, RatioError};
 pub(crate) fn ratio_add(a: i128, b: i128, c: i128, d: i128) -> Result<Answer, Refusal>
     ensures { OutcomeIn (FitsKind kinds.I64) (calls.RatioAdd a b c d) result }
 {
-    sum(narrow(a)?, narrow(b)?, narrow(c)?, narrow(d)?)
+    let (x, y) = operands(a, b, c, d)?;
+    parts(x.checked_add(&y))
 }
 
 pub(crate) fn ratio_mul(a: i128, b: i128, c: i128, d: i128) -> Result<Answer, Refusal>
     ensures { OutcomeIn (FitsKind kinds.I64) (calls.RatioMul a b c d) result }
 {
-    product(narrow(a)?, narrow(b)?, narrow(c)?, narrow(d)?)
-}
-
-fn sum(a: i64, b: i64, c: i64, d: i64) -> Result<Answer, Refusal>
-    ensures { NeedsFractions a b c d (AnswersExact (a *ℤ d +ℤ c *ℤ b) (b *ℤ d)) result }
-{
-    let (x, y) = fractions(a, b, c, d)?;
-    parts(x.checked_add(&y))
-}
-
-fn product(a: i64, b: i64, c: i64, d: i64) -> Result<Answer, Refusal>
-    ensures { NeedsFractions a b c d (AnswersExact (a *ℤ c) (b *ℤ d)) result }
-{
-    let (x, y) = fractions(a, b, c, d)?;
+    let (x, y) = operands(a, b, c, d)?;
     parts(x.checked_mul(&y))
+}
+
+/// Returns the fractions `a / b` and `c / d`, whose parts have to lie in `i64`.
+fn operands(a: i128, b: i128, c: i128, d: i128) -> Result<(Ratio, Ratio), Refusal>
+    ensures { MatchResult result (λ (x, y). PartsFit a b c d × IsRatioOf a b x × IsRatioOf c d y)
+        (λ refusal. NeedsParts a b c d (λ _. ⊥) (Err refusal)) }
+{
+    fractions(narrow(a)?, narrow(b)?, narrow(c)?, narrow(d)?)
 }
 
 /// Returns the fractions `a / b` and `c / d`.

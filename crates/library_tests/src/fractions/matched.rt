@@ -1,9 +1,11 @@
 //! Calls of `ratio64` whose result a caller matches on or loops over, each with no proof file.
 
-ghost use Rattle.std.specs.Prelude.{◌≡◌, ◌≢◌, ◌*ℤ◌, ◌-ℤ◌, pos, neg_ℤ, unsigned_abs, Err, IfOk, IfSome, MatchOption};
+ghost use Rattle.std.specs.Prelude.{◌≡◌, ◌≢◌, ◌^◌, ◌<ℤ◌, ◌*ℤ◌, ◌-ℤ◌, pos, neg_ℤ, unsigned_abs, Err, IfOk, IfSome, IsOk, MatchOption};
 ghost use Rattle.std.specs.Int.{int_pow};
+ghost use Rattle.num_integer.specs.Division.{IsCeiled, IsFloored, IsQuotient};
 ghost use Rattle.ratio64.specs.Fraction.{IsExact, IsFraction, IsOutsideI64};
 ghost use Rattle.ratio64.specs.Ratio.{num_of, den_of};
+ghost use Rattle.ratio64.specs.Rounding.{IsRounded};
 
 use ratio64::{ParseRatioError, Ratio, RatioError};
 
@@ -135,4 +137,98 @@ fn read_or_zero(text: &str) -> Result<Ratio, ParseRatioError>
 fn sum_with_text(x: &Ratio, text: &str) -> Result<Ratio, ParseRatioError> {
     let read: Ratio = text.parse()?;
     Ok(x.checked_add(&read)?)
+}
+
+// ---- calls that are not refused
+
+/// The negation of a fraction whose numerator is above MIN.
+fn negation_above_least(x: &Ratio) -> Ratio
+    requires { neg_ℤ (pos (2 ^ 63)) <ℤ num_of x.now }
+    ensures { IsExact (neg_ℤ (num_of x.now)) (den_of x.now) (num_of result) (den_of result) }
+{
+    match x.checked_neg() {
+        Ok(negation) => negation,
+        Err(_) => unreachable!("a numerator above MIN"),
+    }
+}
+
+/// The negation, or the fraction where it has none.
+fn turned_where_it_can(x: Ratio) -> Ratio {
+    if x.num() == i64::MIN {
+        return x;
+    }
+    x.checked_neg().unwrap()
+}
+
+/// The magnitude of a fraction whose numerator is above MIN.
+fn magnitude_above_least(x: &Ratio) -> Result<Ratio, RatioError>
+    requires { neg_ℤ (pos (2 ^ 63)) <ℤ num_of x.now }
+    ensures { IsOk result }
+{
+    let magnitude = x.checked_abs()?;
+    Ok(magnitude)
+}
+
+/// The reciprocal of a fraction above 0.
+fn reciprocal_of_positive(x: &Ratio) -> Ratio {
+    if !x.is_positive() {
+        return Ratio::zero();
+    }
+    match x.checked_recip() {
+        Ok(reciprocal) => reciprocal,
+        Err(_) => unreachable!("a numerator above 0"),
+    }
+}
+
+/// So many parts of as many as there are.
+fn share(parts: i64, of: i64) -> Result<Ratio, RatioError>
+    requires { pos 0 <ℤ of }
+    ensures { IsOk result }
+{
+    match Ratio::new(parts, of) {
+        Ok(share) => Ok(share),
+        Err(e) => Err(e),
+    }
+}
+
+/// So many hundredths.
+fn percent(hundredths: i64) -> Ratio
+    ensures { IsExact hundredths (pos 100) (num_of result) (den_of result) }
+{
+    match Ratio::new(hundredths, 100) {
+        Ok(percent) => percent,
+        Err(_) => unreachable!("the denominator is above 0"),
+    }
+}
+
+// ---- whole numbers times a fraction
+
+/// What of an amount is a share of it, rounded down and up, or `None` where one of them does not fit.
+fn portion(share: &Ratio, amount: i64) -> Option<(i64, i64)>
+    ensures { IfSome result
+        (λ p. IsQuotient IsFloored (num_of share.now *ℤ amount) (den_of share.now) p.0
+        × IsQuotient IsCeiled (num_of share.now *ℤ amount) (den_of share.now) p.1) }
+{
+    match (share.floor_times(amount), share.ceil_times(amount)) {
+        (Some(least), Some(most)) => Some((least, most)),
+        _ => None,
+    }
+}
+
+/// The greatest of the amounts times a rate, each rounded, and of 0.
+fn greatest_of_rounded(rate: &Ratio, amounts: &[i64]) -> Option<i64> {
+    let mut greatest = 0;
+    for amount in amounts {
+        greatest = greatest.max(rate.round_times(*amount)?);
+    }
+    Some(greatest)
+}
+
+/// A price with its tax, by the rate of the tax.
+fn with_tax(price: i64, rate: &Ratio) -> Option<i64>
+    ensures { IfSome result
+        (λ total. IsRounded (num_of rate.now *ℤ price) (den_of rate.now) (total -ℤ price)) }
+{
+    let tax = rate.round_times(price)?;
+    price.checked_add(tax)
 }

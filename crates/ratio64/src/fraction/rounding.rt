@@ -1,12 +1,15 @@
 //! Rounding to whole numbers.
 
-ghost use Rattle.std.specs.Prelude.{◌≡◌, ◌<ℤ◌, pos, unsigned_abs};
-ghost use Rattle.num_integer.specs.Division.{IsQuotient, IsRemainder, IsTruncated};
+ghost use Rattle.std.specs.Prelude.{◌≡◌, ◌<ℤ◌, ℤ, pos};
+ghost use Rattle.num_integer.specs.Division.{IsDivision, IsQuotient, IsRemainder, IsTruncated};
 ghost use Rattle.ratio64.specs.Ratio.{num_of, den_of};
 ghost use Rattle.ratio64.specs.Rounding.{IsRounded};
 
 use crate::Ratio;
-use num_integer::div_rem;
+use num_integer::operators::{
+    difference, is_below, is_negative, negated, predecessor, successor, sum,
+};
+use num_integer::{Integer, div_rem};
 
 impl Ratio {
     /// Returns the fraction rounded toward 0. For -3/2 it returns `-1`.
@@ -22,13 +25,7 @@ impl Ratio {
     pub fn round(&self) -> i64
         ensures { IsRounded (num_of self.now) (den_of self.now) result }
     {
-        let (whole, rest) = div_rem(self.num, self.den);
-        let (rest, den) = (rest.unsigned_abs(), self.den.unsigned_abs());
-        if rest < den - rest {
-            whole
-        } else {
-            whole + self.num.signum()
-        }
+        nearest(self.num, self.den)
     }
 
     /// Returns the fraction minus [`Ratio::trunc`]. For -3/2 it returns -1/2.
@@ -42,5 +39,30 @@ impl Ratio {
             num: rest,
             den: self.den,
         }
+    }
+}
+
+/// Returns the whole number nearest to `num / den`, and of two that are equally near the one farther
+/// from 0.
+///
+/// May be called where `den` is above 0.
+pub(crate) fn nearest<T: Integer>(num: T, den: T) -> T
+    requires in_range { T.fits (T.value num) × T.fits (T.value den) }
+    requires positive { pos 0 <ℤ T.value den }
+    requires quotients_fit { (q r : ℤ) → IsDivision (T.value num) (T.value den) q r → T.fits q }
+    ensures in_range { T.fits (T.value result) }
+    ensures rounded { IsRounded (T.value num) (T.value den) (T.value result) }
+{
+    let (whole, rest) = div_rem(num, den);
+    if is_negative(num) {
+        if is_below(negated(rest), sum(den, rest)) {
+            whole
+        } else {
+            predecessor(whole)
+        }
+    } else if is_below(rest, difference(den, rest)) {
+        whole
+    } else {
+        successor(whole)
     }
 }

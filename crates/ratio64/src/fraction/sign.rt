@@ -1,6 +1,6 @@
 //! The sign of a fraction, and its magnitude.
 
-ghost use Rattle.std.specs.Prelude.{◌≡◌, ◌≢◌, ◌↔◌, ◌<ℤ◌, pos, neg_ℤ, unsigned_abs, Err, IsTrue};
+ghost use Rattle.std.specs.Prelude.{◌≡◌, ◌≢◌, ◌↔◌, ◌^◌, ◌<ℤ◌, pos, neg_ℤ, unsigned_abs, Err, IfErr, IsTrue};
 ghost use Rattle.std.specs.Int.{int_signum};
 ghost use Rattle.ratio64.specs.Ratio.{AnswersFraction, num_of, den_of};
 
@@ -40,6 +40,7 @@ impl Ratio {
     pub fn checked_neg(&self) -> Result<Ratio, RatioError>
         ensures negation { AnswersFraction (neg_ℤ (num_of self.now)) (den_of self.now) result }
         ensures never_zero { result ≢ Err RatioError.ZeroDenominator }
+        ensures least { IfErr result (λ _. num_of self.now ≡ neg_ℤ (pos (2 ^ 63))) }
     {
         match self.num.checked_neg() {
             Some(num) => Ok(Ratio { num, den: self.den }),
@@ -52,6 +53,7 @@ impl Ratio {
         ensures magnitude { AnswersFraction (pos (unsigned_abs (num_of self.now)))
             (den_of self.now) result }
         ensures never_zero { result ≢ Err RatioError.ZeroDenominator }
+        ensures least { IfErr result (λ _. num_of self.now ≡ neg_ℤ (pos (2 ^ 63))) }
     {
         match self.num.checked_abs() {
             Some(num) => Ok(Ratio { num, den: self.den }),

@@ -1,7 +1,16 @@
-use Rattle.intcalc_core.proofs.FractionLemmas.{narrowed, sum_row}
+use Rattle.std.specs.Int.{w128}
+use Rattle.std.proofs.lemmas.Int.{to_z-of_z}
+use Rattle.std.proofs.lemmas.Result.{err_from_is_err_and}
+use Rattle.intcalc_core.proofs.FractionLemmas.{sum_outcome, sum_refused}
 use Rattle.intcalc_core.proofs.outcome.fractions.ratio_add.Goals as goal
 
+pub returns-in_err-x : goal.returns-in_err-x
+returns-in_err-x c =
+    let given = rw (to_z-of_z w128 _ c.ranges.a, to_z-of_z w128 _ c.ranges.b, to_z-of_z w128 _ c.ranges.c, to_z-of_z w128 _ c.ranges.d) at c.in_err-x.ensures in
+    let refused = err_from_is_err_and c.from_residual.result c.from_residual.ensures.1 in
+    rw (refused.1, refused.2) (sum_refused given)
+
 pub returns : goal.returns
-returns c = sum_row
-    (narrowed c.args.a c.ranges.a c.in_ok-narrow.ensures) (narrowed c.args.b c.ranges.b c.in_ok-narrow-2.ensures)
-    (narrowed c.args.c c.ranges.c c.in_ok-narrow-3.ensures) (narrowed c.args.d c.ranges.d c.in_ok-narrow-4.ensures) c.sum.ensures
+returns c =
+    let given = rw (to_z-of_z w128 _ c.ranges.a, to_z-of_z w128 _ c.ranges.b, to_z-of_z w128 _ c.ranges.c, to_z-of_z w128 _ c.ranges.d) at c.in_ok-x.ensures in
+    sum_outcome c.checked_add.result given c.parts.ensures c.checked_add.ensures.sum

@@ -9,12 +9,12 @@ use Rattle.library_tests.proofs.fractions.callers.exact_parts.Goals as goal
 
 pub returns-in-Err-clause-parts : goal.returns-in-Err-clause-parts
 returns-in-Err-clause-parts c =
-    let answer = rw (to_z-of_z w64 _ c.ranges.num, to_z-of_z w64 _ c.ranges.den) at c.in-Err.ensures in
+    let answer = rw (to_z-of_z w64 _ c.ranges.num, to_z-of_z w64 _ c.ranges.den) at c.in-Err.ensures.fraction in
     err_is_outside c.in-Err.field-0 c.requires answer
 
 pub returns-in-Ok-clause-only : goal.returns-in-Ok-clause-only
 returns-in-Ok-clause-only c =
-    let answer = rw (to_z-of_z w64 _ c.ranges.num, to_z-of_z w64 _ c.ranges.den) at c.in-Ok.ensures in
+    let answer = rw (to_z-of_z w64 _ c.ranges.num, to_z-of_z w64 _ c.ranges.den) at c.in-Ok.ensures.fraction in
     let exact : IsExact c.args.num c.args.den c.num.result c.den.result = rw (c.num.ensures, c.den.ensures) answer.exact in
     let num_fits : FitsSigned w64 c.num.result = search rules in
     let den_fits : FitsSigned w64 c.den.result = search rules in

@@ -5,5 +5,5 @@ use Rattle.library_tests.proofs.fractions.callers.of_equal.Goals as goal
 
 pub returns : goal.returns
 returns c =
-    let exact = rw (to_z-of_z w64 _ c.ranges.a, to_z-of_z w64 _ c.ranges.b) at c.new.ensures.exact in
+    let exact = rw (to_z-of_z w64 _ c.ranges.a, to_z-of_z w64 _ c.ranges.b) at c.new.ensures.fraction.exact in
     equal_exact c.new.result c.requires.fraction c.requires.equal exact

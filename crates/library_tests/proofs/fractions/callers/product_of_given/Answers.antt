@@ -5,6 +5,6 @@ use Rattle.library_tests.proofs.fractions.callers.product_of_given.Goals as goal
 
 pub returns : goal.returns
 returns c =
-    let x = rw (to_z-of_z w64 _ c.ranges.a, to_z-of_z w64 _ c.ranges.b) at c.in_ok-new.ensures.exact in
-    let y = rw (to_z-of_z w64 _ c.ranges.c, to_z-of_z w64 _ c.ranges.d) at c.in_ok-new-2.ensures.exact in
+    let x = rw (to_z-of_z w64 _ c.ranges.a, to_z-of_z w64 _ c.ranges.b) at c.in_ok-new.ensures.fraction.exact in
+    let y = rw (to_z-of_z w64 _ c.ranges.c, to_z-of_z w64 _ c.ranges.d) at c.in_ok-new-2.ensures.fraction.exact in
     (product_of_exact_results x y c.checked_mul.ensures.product).exact

@@ -1,81 +1,60 @@
-use Rattle.std.proofs.Common.{FitsSigned, ap, arith, pos, rules, w64, ◌∙◌}
+use Rattle.std.proofs.Common.{◌≡◌, ◌<◌, ◌^◌, ◌+ℤ◌, ◌*ℤ◌, FitsSigned, arith, pos, rules, w64}
 use Rattle.std.proofs.lemmas.Int.{ints, to_z-of_z, to_z_pos}
-use Rattle.ratio64.proofs.LimitedDenominators.{floor_splits, itself_is_nearest, lowest_natural, nearer_bounded, nearer_fits, nearer_is_nearest, nearer_is_reduced, natural_fits, positive_size, same_limits}
+use Rattle.ratio64.proofs.LimitedDenominators.{IsSplit, floor_splits, itself_is_nearest, lowest_natural, nearer_bounded, nearer_fits, nearer_is_nearest, nearer_is_reduced, natural_fits, positive_size}
 use Rattle.ratio64.proofs.NeighbourTurns.{gaps_make_den}
 use Rattle.ratio64.specs.Ratio.{num_of, den_of}
 use Rattle.ratio64.proofs.fraction.Ratio.limit_denominator.Goals as goal
+use Rattle.ratio64.proofs.fraction.Ratio.limit_denominator.Goals.{After-nearer-nearest, After-numerator, After-unsigned_abs-limit}
+
+-- the fraction is the whole number and the part
+split : (c : After-unsigned_abs-limit) → IsSplit (num_of c.args.self.now) (den_of c.args.self.now) c.div_mod_floor-whole.result.0 c.unsigned_abs-part.result c.unsigned_abs-den.result
+split c =
+    let num : FitsSigned w64 c.args.self.now.num = search rules in
+    let den : FitsSigned w64 c.args.self.now.den = search rules in
+    let part : FitsSigned w64 c.div_mod_floor-whole.result.1 = search rules in
+    floor_splits c.args.self.now.reduced (simp to_z-of_z at c.div_mod_floor-whole.ensures.floored) (simp to_z-of_z at c.unsigned_abs-part.ensures.value) (simp to_z-of_z at c.unsigned_abs-den.ensures.value)
+
+limit : (c : After-nearer-nearest) → (pos c.unsigned_abs-limit.result ≡ c.args.max) × (c.unsigned_abs-limit.result < 2 ^ 63)
+limit c = rw (rw (to_z-of_z w64 c.args.max c.ranges.max) at c.unsigned_abs-limit.ensures.value) (positive_size c.args.max c.ranges.max c.requires)
+
+small : (c : After-nearer-nearest) → c.nearer-nearest.result.den < 2 ^ 63
+small c = omega (arith, nearer_bounded c.neighbours.ensures.neighbours c.nearer-nearest.ensures, limit c)
+
+sum : (c : After-numerator) → c.numerator.result ≡ c.div_mod_floor-whole.result.0 *ℤ pos c.nearer-nearest.result.den +ℤ pos c.nearer-nearest.result.num
+sum c = rw (to_z-of_z w64 c.div_mod_floor-whole.result.0 (search rules)) at c.numerator.ensures
 
 pub returns-then-self-max : goal.returns-then-self-max
 returns-then-self-max c =
-    let x = c.args.self.now in
     let test = c.if-self-max.true in
-    itself_is_nearest x.reduced (omega (arith, ints))
+    itself_is_nearest c.args.self.now.reduced (omega (arith, ints))
 
 pub neighbours-requires-clause-lowest : goal.neighbours-requires-clause-lowest
-neighbours-requires-clause-lowest c =
-    let x = c.args.self.now in
-    let num = to_z-of_z w64 (num_of x) (search rules) in
-    let den = to_z-of_z w64 (den_of x) (search rules) in
-    let part = to_z-of_z w64 c.div_mod_floor-whole.result.1 (search rules) in
-    let s = floor_splits x.reduced (rw (num, den) at c.div_mod_floor-whole.ensures.floored) (rw part at c.unsigned_abs-part.ensures.value) (rw den at c.unsigned_abs-den.ensures.value) in
-    lowest_natural s.reduced
+neighbours-requires-clause-lowest c = lowest_natural (split (goal.at.neighbours-requires-clause-lowest c).After-unsigned_abs-limit).reduced
 
 pub nearer-nearest-requires : goal.nearer-nearest-requires
 nearer-nearest-requires c = omega (arith, gaps_make_den c.neighbours.ensures.neighbours, c.unsigned_abs-den.type_inv)
 
 pub numerator-requires-clause-den : goal.numerator-requires-clause-den
-numerator-requires-clause-den c =
-    let max = to_z-of_z w64 c.args.max c.ranges.max in
-    let size = rw max at c.unsigned_abs-limit.ensures.value in
-    let most = positive_size c.args.max c.ranges.max c.requires in
-    omega (arith, nearer_bounded c.neighbours.ensures.neighbours c.nearer-nearest.ensures, size, most.1)
+numerator-requires-clause-den c = small (goal.at.numerator-requires-clause-den c).After-nearer-nearest
 
 pub numerator-requires-clause-fits : goal.numerator-requires-clause-fits
 numerator-requires-clause-fits c =
-    let x = c.args.self.now in
-    let num_fits : FitsSigned w64 (num_of x) = search rules in
-    let num = to_z-of_z w64 (num_of x) num_fits in
-    let den = to_z-of_z w64 (den_of x) (search rules) in
-    let part = to_z-of_z w64 c.div_mod_floor-whole.result.1 (search rules) in
-    let whole = to_z-of_z w64 c.div_mod_floor-whole.result.0 (search rules) in
-    let s = floor_splits x.reduced (rw (num, den) at c.div_mod_floor-whole.ensures.floored) (rw part at c.unsigned_abs-part.ensures.value) (rw den at c.unsigned_abs-den.ensures.value) in
-    rw whole (nearer_fits c.div_mod_floor-whole.result.0 (num_of x) c.neighbours.ensures.neighbours c.neighbours.ensures.none_between s.up s.equation c.nearer-nearest.ensures num_fits)
+    let s = split (goal.at.numerator-requires-clause-fits c).After-unsigned_abs-limit in
+    rw (to_z-of_z w64 c.div_mod_floor-whole.result.0 (search rules)) (nearer_fits s c.neighbours.ensures.neighbours c.neighbours.ensures.none_between c.nearer-nearest.ensures (search rules))
 
 pub overflow_cast-result : goal.overflow_cast-result
-overflow_cast-result c =
-    let max = to_z-of_z w64 c.args.max c.ranges.max in
-    let size = rw max at c.unsigned_abs-limit.ensures.value in
-    let most = positive_size c.args.max c.ranges.max c.requires in
-    natural_fits (omega (arith, nearer_bounded c.neighbours.ensures.neighbours c.nearer-nearest.ensures, size, most.1))
+overflow_cast-result c = natural_fits (small (goal.at.overflow_cast-result c).After-nearer-nearest)
 
 pub invariant_of-result : goal.invariant_of-result
 invariant_of-result c =
-    let x = c.args.self.now in
-    let num = to_z-of_z w64 (num_of x) (search rules) in
-    let den = to_z-of_z w64 (den_of x) (search rules) in
-    let part = to_z-of_z w64 c.div_mod_floor-whole.result.1 (search rules) in
-    let whole = to_z-of_z w64 c.div_mod_floor-whole.result.0 (search rules) in
-    let s = floor_splits x.reduced (rw (num, den) at c.div_mod_floor-whole.ensures.floored) (rw part at c.unsigned_abs-part.ensures.value) (rw den at c.unsigned_abs-den.ensures.value) in
-    let max = to_z-of_z w64 c.args.max c.ranges.max in
-    let size = rw max at c.unsigned_abs-limit.ensures.value in
-    let most = positive_size c.args.max c.ranges.max c.requires in
-    let nearest = to_z_pos w64 c.nearer-nearest.result.den (omega (arith, nearer_bounded c.neighbours.ensures.neighbours c.nearer-nearest.ensures, size, most.1)) in
-    let result = to_z-of_z w64 c.numerator.result (search rules) in
-    let sum = rw whole at c.numerator.ensures in
-    record { reduced = rw (result, nearest, sum) (nearer_is_reduced c.div_mod_floor-whole.result.0 (num_of x) c.neighbours.ensures.neighbours c.neighbours.ensures.none_between s.up s.equation c.nearer-nearest.ensures) }
+    let at = goal.at.invariant_of-result c in
+    let den = to_z_pos w64 c.nearer-nearest.result.den (small at.After-nearer-nearest) in
+    let reduced = nearer_is_reduced (split at.After-unsigned_abs-limit) c.neighbours.ensures.neighbours c.neighbours.ensures.none_between c.nearer-nearest.ensures in
+    record { reduced = rw (to_z-of_z w64 c.numerator.result (search rules), den, sum at.After-numerator) reduced }
 
 pub returns : goal.returns
 returns c =
-    let x = c.args.self.now in
-    let num = to_z-of_z w64 (num_of x) (search rules) in
-    let den = to_z-of_z w64 (den_of x) (search rules) in
-    let part = to_z-of_z w64 c.div_mod_floor-whole.result.1 (search rules) in
-    let whole = to_z-of_z w64 c.div_mod_floor-whole.result.0 (search rules) in
-    let s = floor_splits x.reduced (rw (num, den) at c.div_mod_floor-whole.ensures.floored) (rw part at c.unsigned_abs-part.ensures.value) (rw den at c.unsigned_abs-den.ensures.value) in
-    let max = to_z-of_z w64 c.args.max c.ranges.max in
-    let size = rw max at c.unsigned_abs-limit.ensures.value in
-    let most = positive_size c.args.max c.ranges.max c.requires in
-    let nearest = to_z_pos w64 c.nearer-nearest.result.den (omega (arith, nearer_bounded c.neighbours.ensures.neighbours c.nearer-nearest.ensures, size, most.1)) in
-    let result = to_z-of_z w64 c.numerator.result (search rules) in
-    let sum = rw whole at c.numerator.ensures in
-    rw (result, nearest, sum) (same_limits s.den (ap pos size ∙ most.0) (nearer_is_nearest c.div_mod_floor-whole.result.0 (num_of x) c.neighbours.ensures.neighbours c.neighbours.ensures.none_between s.up s.equation c.nearer-nearest.ensures))
+    let at = goal.at.returns c in
+    let den = to_z_pos w64 c.nearer-nearest.result.den (small at.After-nearer-nearest) in
+    let nearest = nearer_is_nearest (split at.After-unsigned_abs-limit) c.neighbours.ensures.neighbours c.neighbours.ensures.none_between c.nearer-nearest.ensures in
+    rw (to_z-of_z w64 c.numerator.result (search rules), den, sum at.After-numerator) (rw (limit at.After-nearer-nearest).0 at nearest)

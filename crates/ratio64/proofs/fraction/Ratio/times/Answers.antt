@@ -1,0 +1,12 @@
+use Rattle.std.specs.Prelude.{◌<◌, ◌^◌, ◌*ℤ◌, unsigned_abs}
+use Rattle.std.specs.Int.{w128}
+use Rattle.std.proofs.Common.{rules}
+use Rattle.std.proofs.lemmas.Int.{fits_signed_from_abs}
+use Rattle.ratio64.proofs.NearestNumbers.{quotient_fits}
+use Rattle.ratio64.specs.Ratio.{num_of}
+use Rattle.ratio64.proofs.fraction.Ratio.times.Goals as goal
+
+pub returns-clause-quotients_fit : goal.returns-clause-quotients_fit
+returns-clause-quotients_fit c = λ q r h.
+    let size : unsigned_abs (num_of c.args.self.now *ℤ c.args.n) < 2 ^ 127 = search rules in
+    quotient_fits c.args.self.now.reduced.positive h w128 (fits_signed_from_abs w128 _ size)

@@ -1,0 +1,41 @@
+use Rattle.std.specs.Prelude.{◌≡◌, ◌+ℤ◌, ◌-ℤ◌, pos, true, false}
+use Rattle.std.proofs.Common.{arith, inl}
+use Rattle.num_integer.proofs.FittingAnswers.{from_test}
+use Rattle.num_integer.proofs.ForCallers.{linear, sizes, within_fits}
+use Rattle.ratio64.proofs.NearestNumbers.{rounded_above, rounded_below, rounded_division}
+use Rattle.ratio64.specs.Rounding.{IsRounded}
+use Rattle.ratio64.proofs.fraction.rounding.nearest.Given.{Over}
+use Rattle.ratio64.proofs.fraction.rounding.nearest.Goals as goal
+use Rattle.ratio64.proofs.fraction.rounding.nearest.Goals.{After-is_below, After-is_below-else-is_negative}
+
+pub sum-requires-clause-sum_fits : goal.sum-requires-clause-sum_fits
+sum-requires-clause-sum_fits g c =
+    let h = c.div_rem-whole.ensures.truncated in
+    let sign = h.sign in
+    let small = h.division.small in
+    let below = c.is_negative.ensures.0 c.if-is_negative.true in
+    within_fits {z = g.T.Number.value c.args.den +ℤ g.T.Number.value c.div_rem-whole.result.1} g.met.T.Integer.range_law c.requires.in_range.1 (inl (omega (arith, sizes), omega (arith, sizes)))
+
+below : (g : Over) (c : After-is_below g) → c.is_below.result ≡ false → c.is_negative.result ≡ true → IsRounded (g.T.Number.value c.args.num) (g.T.Number.value c.args.den) (g.T.Number.value c.div_rem-whole.result.0 -ℤ pos 1)
+below g c far is =
+    let large = from_test c.is_below.ensures far in
+    rounded_below c.requires.positive c.div_rem-whole.ensures.truncated (c.is_negative.ensures.0 is) (omega (arith, linear, large, c.negated.ensures.value, c.sum.ensures.value))
+
+pub predecessor-requires-clause-difference_fits : goal.predecessor-requires-clause-difference_fits
+predecessor-requires-clause-difference_fits g c =
+    c.requires.quotients_fit _ _ (rounded_division c.requires.positive (below g (goal.at.predecessor-requires-clause-difference_fits g c).After-is_below c.if-is_below.false c.if-is_negative.true))
+
+pub returns-else-is_below-clause-rounded : goal.returns-else-is_below-clause-rounded
+returns-else-is_below-clause-rounded g c = rw c.predecessor.ensures.value (below g (goal.at.returns-else-is_below-clause-rounded g c).After-is_below c.if-is_below.false c.if-is_negative.true)
+
+above : (g : Over) (c : After-is_below-else-is_negative g) → c.is_below-else-is_negative.result ≡ false → c.is_negative.result ≡ false → IsRounded (g.T.Number.value c.args.num) (g.T.Number.value c.args.den) (g.T.Number.value c.div_rem-whole.result.0 +ℤ pos 1)
+above g c far is =
+    let large = from_test c.is_below-else-is_negative.ensures far in
+    rounded_above c.requires.positive c.div_rem-whole.ensures.truncated (from_test c.is_negative.ensures is) (omega (arith, linear, large, c.difference.ensures.value))
+
+pub successor-requires-clause-sum_fits : goal.successor-requires-clause-sum_fits
+successor-requires-clause-sum_fits g c =
+    c.requires.quotients_fit _ _ (rounded_division c.requires.positive (above g (goal.at.successor-requires-clause-sum_fits g c).After-is_below-else-is_negative c.if-is_below-2.false c.if-is_negative.false))
+
+pub returns-else-is_below-2-clause-rounded : goal.returns-else-is_below-2-clause-rounded
+returns-else-is_below-2-clause-rounded g c = rw c.successor.ensures.value (above g (goal.at.returns-else-is_below-2-clause-rounded g c).After-is_below-else-is_negative c.if-is_below-2.false c.if-is_negative.false)
