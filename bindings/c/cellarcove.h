@@ -251,6 +251,9 @@ cellarcove_i64_answer cellarcove_fraction_floor(cellarcove_fraction a);
 /* The nearest whole number, and of two the one farther from 0. */
 cellarcove_i64_answer cellarcove_fraction_round(cellarcove_fraction a);
 
+/* The fraction times n, rounded down. */
+cellarcove_i64_answer cellarcove_fraction_floor_times(cellarcove_fraction a, int64_t n);
+
 /* The nearest fraction whose denominator is at most max. CELLARCOVE_OUTSIDE where max is not above 0. */
 cellarcove_fraction_answer cellarcove_fraction_limit_denominator(cellarcove_fraction a, int64_t max);
 

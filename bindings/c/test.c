@@ -177,6 +177,8 @@ static void fractions(void) {
     CHECK(order.status == CELLARCOVE_ZERO_DENOMINATOR && order.order == 0);
     ANSWERS(cellarcove_fraction_floor(fraction(-3, 2)), -2);
     REFUSES(cellarcove_fraction_floor(none), CELLARCOVE_ZERO_DENOMINATOR);
+    ANSWERS(cellarcove_fraction_floor_times(fraction(2, 3), 100), 66);
+    REFUSES(cellarcove_fraction_floor_times(fraction(3, 2), INT64_MAX), CELLARCOVE_NOT_FITTING);
     ANSWERS(cellarcove_fraction_round(fraction(-3, 2)), -2);
     REFUSES(cellarcove_fraction_round(large), CELLARCOVE_NOT_FITTING);
 }

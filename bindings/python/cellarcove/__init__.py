@@ -289,6 +289,11 @@ def fraction_round(a: Rational) -> int:
     return _accepted(_CALLS['fraction_round'](_parts(a))).value
 
 
+def fraction_floor_times(a: Rational, n: SupportsIndex) -> int:
+    """The fraction times `n`, rounded down, as `math.floor(a * n)`."""
+    return _accepted(_CALLS['fraction_floor_times'](_parts(a), _within(_I64, n))).value
+
+
 def limit_denominator(a: Rational, max_denominator: SupportsIndex) -> Fraction:
     """The nearest fraction whose denominator is at most `max_denominator`."""
     return _fraction(_CALLS['fraction_limit_denominator'](_parts(a), _within(_I64, max_denominator)))

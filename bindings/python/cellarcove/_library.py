@@ -152,6 +152,7 @@ CALLS: dict[str, tuple[Any, ...]] = {
     'fraction_cmp': (OrderAnswer, FractionParts, FractionParts),
     'fraction_floor': (I64Answer, FractionParts),
     'fraction_round': (I64Answer, FractionParts),
+    'fraction_floor_times': (I64Answer, FractionParts, i64),
     'fraction_limit_denominator': (FractionAnswer, FractionParts, i64),
     'date_from_day': (DateParts, i64),
     'day_from_date': (I64Answer, DateParts),

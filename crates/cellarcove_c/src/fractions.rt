@@ -1,9 +1,12 @@
 //! Exact fractions. A fraction that is passed is reduced first, and a part of it that does not fit
 //! then is refused.
 
-ghost use Rattle.std.specs.Prelude.{◌≡◌, ◌⊎◌, ◌<ℤ◌, ◌≤ℤ◌, ◌+ℤ◌, ◌-ℤ◌, ◌*ℤ◌, pos, Result, Err, MatchResult};
+ghost use Rattle.std.specs.Prelude.{◌≡◌, ◌≢◌, ◌<ℤ◌, ◌≤ℤ◌, ◌+ℤ◌, ◌-ℤ◌, ◌*ℤ◌, pos, FitsSigned, Result, Err, MatchResult};
 ghost use Rattle.std.specs.declared.cmp.Ordering.{Ordering};
+ghost use Rattle.std.specs.Int.{w64};
+ghost use Rattle.num_integer.specs.Checked.{AnswersWhere};
 ghost use Rattle.num_integer.specs.Division.{IsFloored, IsQuotient};
+ghost use Rattle.num_integer.specs.Range.{EachFits};
 ghost use Rattle.ratio64.specs.Fraction.{fraction_cmp};
 ghost use Rattle.ratio64.specs.Limiting.{IsNearestWithin};
 ghost use Rattle.ratio64.specs.Ratio.{AnswersFraction, den_of, num_of};
@@ -12,9 +15,9 @@ ghost use Rattle.ratio64.specs.Rounding.{IsRounded};
 ghost use Rattle.ratio64.specs.declared.error.RatioError.{RatioError};
 ghost use Rattle.ratio64.specs.declared.fraction.Ratio.{Ratio};
 ghost use Rattle.cellarcove_c.specs.Fractions.{OnBoth, StandsFor, StandsForNumber, order_number};
-ghost use Rattle.cellarcove_c.specs.Statuses.{outside};
+ghost use Rattle.cellarcove_c.specs.Statuses.{answer_of, not_fitting, outside};
 
-use crate::answers::{ANSWER, I64Answer, OUTSIDE};
+use crate::answers::{ANSWER, I64Answer, NOT_FITTING, OUTSIDE};
 use ratio64::{Ratio, RatioError};
 use std::cmp::Ordering;
 
@@ -143,6 +146,27 @@ pub extern "C" fn cellarcove_fraction_round(a: Fraction) -> I64Answer
 {
     match a.reduced() {
         Ok(x) => I64Answer::some(x.round()),
+        Err(error) => I64Answer::none(error.number()),
+    }
+}
+
+/// Returns the fraction times `n`, rounded down. That of 2/3 and 100 is 66.
+#[unsafe(no_mangle)]
+pub extern "C" fn cellarcove_fraction_floor_times(a: Fraction, n: i64) -> I64Answer
+    ensures { (p : Result Ratio RatioError) × AnswersFraction a.num a.den p
+        × MatchResult p
+        (λ x. AnswersWhere
+        (EachFits (FitsSigned w64) (IsQuotient IsFloored (num_of x *ℤ n) (den_of x)))
+        (IsQuotient IsFloored (num_of x *ℤ n) (den_of x))
+        (answer_of result.status result.value)
+        × (result.status ≢ 0 → result ≡ record { status = not_fitting; value = pos 0 }))
+        (λ e. result ≡ record { status = number_of e; value = pos 0 }) }
+{
+    match a.reduced() {
+        Ok(x) => match x.floor_times(n) {
+            Some(whole) => I64Answer::some(whole),
+            None => I64Answer::none(NOT_FITTING),
+        },
         Err(error) => I64Answer::none(error.number()),
     }
 }
