@@ -196,6 +196,24 @@ divided_by_gcd {g} {x} {y} nonzero h =
     let same : g *ℤ k.0 ≡ g = only_gcd (gcd-times g h.from_zero k.1) h in
     subst (λ (t : ℤ). IsGreatestCommonDivisor x y t) (cancel g k.0 (pos 1) nonzero (same ∙ sym (mul-one g))) k.1
 
+-- the gcd of natural numbers, of which the second is not 0, is above 0
+pub natural_gcd_positive : {n m d : ℕ} → 0 < m → IsGreatestCommonDivisor (pos n) (pos m) (pos d) → 0 < d
+natural_gcd_positive up h = omega (arith, ints, gcd-positive h (λ e. omega (arith, ints)))
+
+-- a divisor above 0 of a natural number times the quotient by it is that number
+pub natural_exact_quotient : {n d : ℕ} → 0 < d → Divides (pos d) (pos n) → d * (n / d) ≡ n
+natural_exact_quotient {n} {d} up h =
+    let exact : pos n ≡ pos d *ℤ pos (n / d) = exact_quotient (λ e. omega (arith, ints)) h in
+    sym (omega (arith, ints, exact))
+
+-- natural numbers divided by their gcd, where it is above 0, have the gcd 1
+pub natural_quotients_coprime : {n m d : ℕ} → 0 < d → IsGreatestCommonDivisor (pos n) (pos m) (pos d) → IsGreatestCommonDivisor (pos (n / d)) (pos (m / d)) (pos 1)
+natural_quotients_coprime {n} {m} {d} up h =
+    let left = natural_exact_quotient up h.divides_left in
+    let right = natural_exact_quotient up h.divides_right in
+    let times : IsGreatestCommonDivisor (pos (d * (n / d))) (pos (d * (m / d))) (pos d) = rw (left, right) h in
+    divided_by_gcd {g = pos d} {x = pos (n / d)} {y = pos (m / d)} (λ e. omega (arith, ints)) times
+
 bezout_times : (x y a d b : ℤ) → x *ℤ a +ℤ y *ℤ d ≡ pos 1 → x *ℤ (a *ℤ b) +ℤ b *ℤ y *ℤ d ≡ b
 bezout_times x y a d b unit =
     let times : b *ℤ (x *ℤ a +ℤ y *ℤ d) ≡ b = ap (λ (t : ℤ). b *ℤ t) unit ∙ mul-one b in

@@ -5,9 +5,9 @@ ghost use Rattle.integer_core.specs.Division.{IsCeiled, IsFloored, IsMultiple, I
 ghost use Rattle.integer_core.specs.Range.{EachFits};
 ghost use Rattle.num_integer.specs.Checked.{AnswersWhere};
 
-use crate::checked::operators::{difference, sum};
+use crate::checked::operators::moved_fits;
 use crate::domains::Fits;
-use integer_core::operators::{self, is_zero};
+use integer_core::operators::{difference, is_negative, is_zero, sum};
 
 /// Returns [`Integer::div_rem`], the quotient rounded toward zero and its remainder, or `None` for a
 /// divisor 0 and for the least number by -1 where its negation does not fit. `div_rem(-8, 3)` is
@@ -109,9 +109,13 @@ pub fn next_multiple_of<T: Fits>(x: T, y: T) -> Option<T>
 {
     let remainder = mod_floor(x, y)?;
     if is_zero(remainder) {
-        Some(x)
+        return Some(x);
+    }
+    let gap = difference(y, remainder);
+    if moved_fits(x, is_negative(y), gap) {
+        Some(sum(x, gap))
     } else {
-        sum(x, operators::difference(y, remainder))
+        None
     }
 }
 
@@ -125,5 +129,10 @@ pub fn prev_multiple_of<T: Fits>(x: T, y: T) -> Option<T>
         (λ m. T.fits (T.value m) × IsMultiple IsFloored (T.value x) (T.value y) (T.value m))
         result }
 {
-    difference(x, mod_floor(x, y)?)
+    let remainder = mod_floor(x, y)?;
+    if moved_fits(x, !is_negative(y), remainder) {
+        Some(difference(x, remainder))
+    } else {
+        None
+    }
 }
