@@ -1,6 +1,6 @@
 -- The exact result of a fraction: its parts by the gcd with the sign of the denominator.
 use Rattle.std.specs.Prelude.{◌≡◌, ◌≢◌, ◌⊎◌, ◌<ℤ◌, ◌≤ℤ◌, ◌*ℤ◌, ℤ, pos, negsuc, neg_ℤ, int_div}
-use Rattle.std.proofs.Common.{arith, refl, inl, inr, ◌∙◌}
+use Rattle.std.proofs.Common.{arith, refl, inl, inr, subst, ◌∙◌}
 use Rattle.std.proofs.lemmas.Int.{ints}
 use Rattle.num_integer.proofs.ForCallers.{Divides-cancel, Divides-times, Divides-trans, cancel, exact_quotient, expand, gcd-nonzero, linear, mul-one, products}
 use Rattle.num_integer.proofs.Laws.{gcd_exists}
@@ -63,6 +63,14 @@ exact_quotients {a} {b} {g} {s} fraction x h =
       };
       equal = equal_parts s left right;
     }
+
+-- where the gcd is at most 1, and the denominator not below 0, the parts are their own
+pub coprime_is_exact : {a b g : ℤ} → IsFraction a b → pos 0 ≤ℤ b → IsGreatestCommonDivisor a b g → g ≤ℤ pos 1 → IsExact a b a b
+coprime_is_exact {a} {b} {g} fraction up x small =
+    let nonzero = gcd-nonzero x fraction in
+    let from_zero = x.from_zero in
+    let one : g ≡ pos 1 = omega (arith, linear) in
+    record { fraction = fraction; reduced = record { positive = omega (arith, linear); lowest = subst (IsGreatestCommonDivisor a b) one x }; equal = record { cross = refl } }
 
 pub exact_result_exists : (a b : ℤ) → IsFraction a b → (num den : ℤ) × IsExact a b num den
 exact_result_exists a b fraction =

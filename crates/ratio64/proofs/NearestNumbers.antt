@@ -1,9 +1,9 @@
 -- Quotients by a number above 0, and the nearest whole number.
-use Rattle.std.specs.Prelude.{◌≡◌, ◌≢◌, ◌⊎◌, ◌<◌, ◌≤◌, ◌*◌, ◌<ℤ◌, ◌≤ℤ◌, ◌+ℤ◌, ◌-ℤ◌, ◌*ℤ◌, ℤ, pos, negsuc, neg_ℤ, unsigned_abs, FitsSigned, MatchOption, Option, Some, None}
+use Rattle.std.specs.Prelude.{◌≡◌, ◌<◌, ◌*◌, ◌<ℤ◌, ◌≤ℤ◌, ◌+ℤ◌, ◌-ℤ◌, ◌*ℤ◌, ℤ, pos, negsuc, unsigned_abs, FitsSigned, MatchOption, Option, Some, None}
 use Rattle.std.specs.Int.{Width, w64}
-use Rattle.std.proofs.Common.{ap, arith, inl, inr, subst, sym}
+use Rattle.std.proofs.Common.{ap, arith, subst, sym}
 use Rattle.std.proofs.lemmas.Int.{by_lt_z, ints}
-use Rattle.num_integer.proofs.ForCallers.{dist, expand, linear, multiples_apart, product_from_zero, products, sizes}
+use Rattle.num_integer.proofs.ForCallers.{expand, linear, multiples_apart, product_from_zero, products, sizes}
 use Rattle.num_integer.specs.Checked.{AnswersWhere}
 use Rattle.num_integer.specs.Division.{IsDivision, IsQuotient, IsTruncated}
 use Rattle.num_integer.specs.Only.{IsOnly}

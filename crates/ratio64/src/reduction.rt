@@ -5,7 +5,7 @@ ghost use Rattle.std.specs.Int.{w64};
 ghost use Rattle.ratio64.specs.Fraction.{IsFraction, IsExact, IsOutsideI64};
 
 use crate::RatioError;
-use num_integer::operators::{is_negative, negated, quotient};
+use num_integer::operators::{is_below, is_negative, negated, one, quotient};
 use num_integer::{Integer, gcd};
 
 /// Returns the parts of the reduced fraction that is equal to `num / den`, or `NotFitting` where they
@@ -37,12 +37,14 @@ fn reduced_terms<T: Integer>(num: T, den: T) -> (T, T)
     ensures exact { IsExact (T.value num) (T.value den) (T.value result.0) (T.value result.1) }
 {
     let common = gcd(num, den);
-    let divisor = if is_negative(den) {
-        negated(common)
+    if is_negative(den) {
+        let divisor = negated(common);
+        (quotient(num, divisor), quotient(den, divisor))
+    } else if is_below(one(), common) {
+        (quotient(num, common), quotient(den, common))
     } else {
-        common
-    };
-    (quotient(num, divisor), quotient(den, divisor))
+        (num, den)
+    }
 }
 
 /// Returns the number in 64 bits, where its negation has no more.

@@ -1,4 +1,3 @@
-use Rattle.std.proofs.lemmas.Int.{to_z-of_z}
 use Rattle.intcalc_core.proofs.FractionLemmas.{given_or_refused, narrowed}
 use Rattle.intcalc_core.proofs.outcome.fractions.operands.Goals as goal
 
