@@ -8,4 +8,3 @@ pub mod CheckedMultinomials
 pub mod ScaledQuotients
 pub mod Laws
 pub mod ForCallers
-pub mod ReducedByGcd
