@@ -130,6 +130,10 @@ cellarcove_u64_answer cellarcove_mod_floor_u64(uint64_t x, uint64_t y);
 cellarcove_i64_division cellarcove_div_mod_floor_i64(int64_t x, int64_t y);
 cellarcove_u64_division cellarcove_div_mod_floor_u64(uint64_t x, uint64_t y);
 
+/* The quotient of a * b by d, rounded down, and its remainder. The product need not fit. */
+cellarcove_i64_division cellarcove_product_div_mod_floor_i64(int64_t a, int64_t b, int64_t d);
+cellarcove_u64_division cellarcove_product_div_mod_floor_u64(uint64_t a, uint64_t b, uint64_t d);
+
 /* The quotient rounded up, times y: for y above 0 the least multiple of y that is at least x. */
 cellarcove_i64_answer cellarcove_next_multiple_of_i64(int64_t x, int64_t y);
 cellarcove_u64_answer cellarcove_next_multiple_of_u64(uint64_t x, uint64_t y);
@@ -272,6 +276,10 @@ uint8_t cellarcove_weekday(int64_t day);
 /* The date some months later, or before where months is negative: on the same day of the month, or on the last
  * one where the month is shorter. */
 cellarcove_date_answer cellarcove_plus_months(cellarcove_date date, int64_t months);
+
+/* The greatest number of months after one date that lead to a date not after the other, negative where the other is
+ * earlier. */
+cellarcove_i64_answer cellarcove_months_between(cellarcove_date from, cellarcove_date to);
 
 /* The week of ISO 8601 that has a date. */
 cellarcove_iso_week_answer cellarcove_iso_week(cellarcove_date date);

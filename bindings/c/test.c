@@ -47,6 +47,12 @@ static void division(void) {
     CHECK(e.status == CELLARCOVE_ANSWER && e.quotient == 2 && e.remainder == 2);
     e = cellarcove_div_mod_floor_u64(8, 0);
     CHECK(e.status == CELLARCOVE_OUTSIDE && e.quotient == 0 && e.remainder == 0);
+    d = cellarcove_product_div_mod_floor_i64(INT64_MIN, -1, -1);
+    CHECK(d.status == CELLARCOVE_ANSWER && d.quotient == INT64_MIN && d.remainder == 0);
+    d = cellarcove_product_div_mod_floor_i64(INT64_MIN, -1, 1);
+    CHECK(d.status == CELLARCOVE_OUTSIDE && d.quotient == 0 && d.remainder == 0);
+    e = cellarcove_product_div_mod_floor_u64(UINT64_MAX, UINT64_MAX, UINT64_MAX);
+    CHECK(e.status == CELLARCOVE_ANSWER && e.quotient == UINT64_MAX && e.remainder == 0);
     ANSWERS(cellarcove_div_floor_i64(-8, 3), -3);
     REFUSES(cellarcove_div_floor_i64(1, 0), CELLARCOVE_OUTSIDE);
     REFUSES(cellarcove_div_floor_i64(INT64_MIN, -1), CELLARCOVE_OUTSIDE);
@@ -205,6 +211,9 @@ static void dates(void) {
     CHECK(later.status == CELLARCOVE_NO_DATE && is_date(later.date, 0, 0, 0));
     later = cellarcove_plus_months(far, 1);
     CHECK(later.status == CELLARCOVE_NOT_FITTING && is_date(later.date, 0, 0, 0));
+    ANSWERS(cellarcove_months_between(end, date(2000, 2, 29)), 1);
+    REFUSES(cellarcove_months_between(end, none), CELLARCOVE_NO_DATE);
+    REFUSES(cellarcove_months_between(end, far), CELLARCOVE_NOT_FITTING);
     cellarcove_iso_week_answer week = cellarcove_iso_week(date(2005, 1, 1));
     CHECK(week.status == CELLARCOVE_ANSWER && week.week == 53 && week.year == 2004);
     week = cellarcove_iso_week(none);

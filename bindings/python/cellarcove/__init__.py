@@ -109,6 +109,12 @@ def div_mod_floor(x: SupportsIndex, y: SupportsIndex) -> tuple[int, int]:
     return answer.quotient, answer.remainder
 
 
+def product_div_mod_floor(a: SupportsIndex, b: SupportsIndex, d: SupportsIndex) -> tuple[int, int]:
+    """The quotient of `a * b` by `d`, rounded down, and its remainder. The product need not fit."""
+    answer = _accepted(_call('product_div_mod_floor', a, b, d))
+    return answer.quotient, answer.remainder
+
+
 def next_multiple_of(x: SupportsIndex, y: SupportsIndex) -> int:
     """The quotient rounded up, times `y`."""
     return _number('next_multiple_of', x, y)
@@ -329,6 +335,11 @@ def weekday(day: SupportsIndex) -> int:
 def plus_months(date: datetime.date, months: SupportsIndex) -> datetime.date:
     """The date some months later, on the same day of the month, or on the last one of a shorter month."""
     return _date(_accepted(_CALLS['plus_months'](_date_parts(date), _within(_I64, months))).date)
+
+
+def months_between(start: datetime.date, end: datetime.date) -> int:
+    """The greatest number of months after `start` that lead to a date not after `end`."""
+    return _accepted(_CALLS['months_between'](_date_parts(start), _date_parts(end))).value
 
 
 def iso_week(date: datetime.date) -> tuple[int, int]:

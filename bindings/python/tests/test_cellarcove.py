@@ -71,6 +71,12 @@ class Numbers(unittest.TestCase):
                 quotient = quotient_toward_zero(x, y)
                 self.assertEqual(cellarcove.div_rem(x, y), (quotient, x - quotient * y))
 
+    def test_products_divided(self):
+        for _ in range(TURNS // 4):
+            a, b, d = numbers(3)
+            if d and fits(a * b // d, (a, b, d)):
+                self.assertEqual(cellarcove.product_div_mod_floor(a, b, d), divmod(a * b, d))
+
     def test_divisors(self):
         for _ in range(TURNS):
             x, y = numbers(2)
@@ -209,7 +215,9 @@ class Dates(unittest.TestCase):
             months = random.randint(-10000, 10000)
             years, month = divmod(date.month - 1 + months, 12)
             self.assertEqual(cellarcove.plus_months(date, months), date.replace(date.year + years, month + 1))
+            self.assertEqual(cellarcove.months_between(date, date.replace(date.year + years, month + 1)), months)
         self.assertEqual(cellarcove.plus_months(datetime.date(2000, 1, 31), 1), datetime.date(2000, 2, 29))
+        self.assertEqual(cellarcove.months_between(datetime.date(2000, 1, 31), datetime.date(2000, 2, 29)), 1)
         with self.assertRaises(OverflowError):
             cellarcove.plus_months(datetime.date.max, 1)
 

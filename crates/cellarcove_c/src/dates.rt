@@ -11,11 +11,11 @@ ghost use Rattle.calendar.specs.Years.{HasDay, day_number};
 ghost use Rattle.calendar.specs.declared.weekday.Weekday.{Weekday};
 ghost use Rattle.num_integer.specs.Checked.{AnswersWhere};
 ghost use Rattle.num_integer.specs.Division.{IsFloored, IsRemainder};
-ghost use Rattle.cellarcove_c.specs.Dates.{IsMonthsLater};
+ghost use Rattle.cellarcove_c.specs.Dates.{AreMonthsBetween, IsMonthsLater};
 ghost use Rattle.cellarcove_c.specs.Statuses.{answer_of, no_date, not_fitting, outside};
 
 use crate::answers::{ANSWER, I64Answer, NO_DATE, NOT_FITTING, OUTSIDE};
-use calendar::{Weekday, easter, weekday_of};
+use calendar::{Weekday, easter, months_between, weekday_of};
 
 /// A date, where there is one of its year, month and day of the month.
 #[repr(C)]
@@ -107,6 +107,29 @@ pub extern "C" fn cellarcove_plus_months(date: Date, months: i64) -> DateAnswer
             None => DateAnswer::none(NOT_FITTING),
         },
         None => DateAnswer::none(NO_DATE),
+    }
+}
+
+/// Returns the greatest number of months after `from` that lead to a date not after `to`. From 2000-01-31 to
+/// 2000-02-29 it is 1.
+#[unsafe(no_mangle)]
+pub extern "C" fn cellarcove_months_between(from: Date, to: Date) -> I64Answer
+    ensures answer { result.status ≡ 0 → AreMonthsBetween from.year from.month from.day_of_month
+        to.year to.month to.day_of_month result.value }
+    ensures no_date { (result.status ≡ no_date)
+        ↔ (¬ (IsDate from.year from.month from.day_of_month) ⊎ ¬ (IsDate to.year to.month to.day_of_month)) }
+    ensures not_fitting { result.status ≡ not_fitting → (months : ℤ)
+        × AreMonthsBetween from.year from.month from.day_of_month to.year to.month to.day_of_month months
+        × ¬ (FitsSigned w64 months) }
+    ensures refusal { result.status ≢ 0 → (result.value ≡ pos 0)
+        × ((result.status ≡ no_date) ⊎ (result.status ≡ not_fitting)) }
+{
+    match (from.found(), to.found()) {
+        (Some(from), Some(to)) => match months_between(&from, &to) {
+            Some(months) => I64Answer::some(months),
+            None => I64Answer::none(NOT_FITTING),
+        },
+        _ => I64Answer::none(NO_DATE),
     }
 }
 

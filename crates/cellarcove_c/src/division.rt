@@ -1,6 +1,6 @@
 //! Division.
 
-ghost use Rattle.std.specs.Prelude.{◌≡◌, ◌≢◌, ◌↔◌, pos, FitsSigned, IsTrue};
+ghost use Rattle.std.specs.Prelude.{◌≡◌, ◌≢◌, ◌↔◌, ◌*ℤ◌, pos, FitsSigned, IsTrue};
 ghost use Rattle.std.specs.Int.{FitsUnsignedBits, w64};
 ghost use Rattle.num_integer.specs.Checked.{AnswersWhere};
 ghost use Rattle.num_integer.specs.Division.{IsCeiled, IsFloored, IsMultiple, IsQuotient, IsRemainder, IsTruncated};
@@ -146,6 +146,33 @@ pub extern "C" fn cellarcove_div_mod_floor_u64(x: u64, y: u64) -> U64Division
         → result ≡ record { status = outside; quotient = 0; remainder = 0 } }
 {
     U64Division::of(checked::div_mod_floor(x, y))
+}
+
+/// Returns the quotient of `a * b` by `d`, rounded down, and its remainder. The product need not fit. Those
+/// for -7, 3 and 2 are -11 and 1.
+#[unsafe(no_mangle)]
+pub extern "C" fn cellarcove_product_div_mod_floor_i64(a: i64, b: i64, d: i64) -> I64Division
+    ensures answer { AnswersWhere
+        ((d ≢ pos 0) × EachFits (FitsSigned w64) (IsQuotient IsFloored (a *ℤ b) d))
+        (λ (q, r). IsFloored (a *ℤ b) d q r)
+        (answer_of result.status (result.quotient, result.remainder)) }
+    ensures refusal { result.status ≢ 0
+        → result ≡ record { status = outside; quotient = pos 0; remainder = pos 0 } }
+{
+    I64Division::of(checked::product_div_mod_floor(a, b, d))
+}
+
+/// See [`cellarcove_product_div_mod_floor_i64`].
+#[unsafe(no_mangle)]
+pub extern "C" fn cellarcove_product_div_mod_floor_u64(a: u64, b: u64, d: u64) -> U64Division
+    ensures answer { AnswersWhere
+        ((pos d ≢ pos 0) × EachFits (FitsUnsignedBits 64) (IsQuotient IsFloored (pos a *ℤ pos b) (pos d)))
+        (λ (q, r). IsFloored (pos a *ℤ pos b) (pos d) (pos q) (pos r))
+        (answer_of result.status (result.quotient, result.remainder)) }
+    ensures refusal { result.status ≢ 0
+        → result ≡ record { status = outside; quotient = 0; remainder = 0 } }
+{
+    U64Division::of(checked::product_div_mod_floor(a, b, d))
 }
 
 /// Returns the quotient rounded up, times `y`. For 23 and 8 it is 24.
