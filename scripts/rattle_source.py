@@ -193,6 +193,8 @@ class Source:
             k = 1 + (k if public else self.close(k + 1))
         while self.at(k) in MODIFIERS and (self.at(k + 1) in MODIFIERS or self.at(k + 1) == 'fn'):
             k += 1
+        if self.at(k) == 'extern' and self.kind(k + 1) == 'text' and self.at(k + 2) == 'fn':
+            k += 2
         item = Item(self.at(k), self.at(k + 1), first, k, k, public, attributes=attributes)
         if self.at(k + 1) == '!':
             return self.macro(item)

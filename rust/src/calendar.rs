@@ -1,12 +1,10 @@
 //! The proleptic Gregorian calendar: dates, and days counted from 1970-01-01, which is day 0.
 
 mod date;
-mod distance;
+mod distances;
 mod eras;
 mod feasts;
 mod iso_weeks;
-mod month_steps;
-mod month_weekdays;
 mod months;
 mod text;
 mod weekday;
@@ -14,12 +12,14 @@ mod weeks;
 mod years;
 
 pub use date::Date;
-pub use distance::days_between;
+pub use distances::{days_between, months_between};
 pub use feasts::easter;
-pub use iso_weeks::IsoWeek;
-pub use month_weekdays::nth_weekday_of_month;
+pub use iso_weeks::{weeks_in_year, IsoWeek};
 pub use months::days_in_month;
 pub use text::DateError;
 pub use weekday::{weekday_of, Weekday};
-pub use weeks::first_weekday_on_or_after;
-pub use years::is_leap_year;
+pub use weeks::{
+    first_weekday_on_or_after, last_weekday_of_month, last_weekday_on_or_before,
+    nth_weekday_of_month,
+};
+pub use years::{days_in_year, is_leap_year};

@@ -6,6 +6,7 @@ mod division;
 mod divisors;
 mod operators;
 mod roots;
+mod scaling;
 
 pub use coefficients::{binomial, multinomial, row};
 pub use division::{
@@ -14,3 +15,4 @@ pub use division::{
 pub use divisors::{extended_gcd, extended_gcd_lcm, gcd, gcd_lcm, lcm};
 pub use operators::{dec, difference, inc, negated, product, sum};
 pub use roots::{nth_root, sqrt};
+pub use scaling::product_div_mod_floor;

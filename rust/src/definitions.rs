@@ -51,12 +51,12 @@
 //! | `int_pow z n`, `int_signum z` | z to the power n; -1, 0 or 1 |
 //! | `int_cmp a b`, `int_eq a b`, `as_partial_cmp c` | how two whole numbers compare; whether they are equal; the comparison c, in `Some` |
 //! | `nat_eq a b`, `nat_lt a b`, `min a b` | whether two natural numbers are equal; whether the first is below; the lesser one |
-//! | `IsTrue b` | b is true |
+//! | `IsTrue b`, `IsFalse b` | b is true; b is false |
 //! | `FitsSigned w64 z` | z lies in `i64` |
 //! | `IsSome r`, `IfSome r P` | r is `Some`; where it is, P holds of its value |
 //! | `MatchOption r A P` | A where r is `None`, and P of the value where it is `Some` |
 //! | `SomeIff r A v` | r is `Some` of v where A holds, and `None` where it does not |
-//! | `IfOk r P` | where r is `Ok`, P holds of its value |
+//! | `IfOk r P`, `IfErr r P` | where r is `Ok`, P holds of its value; where it is `Err`, P holds of the error |
 //! | `All P xs`, `AllWithin P xs i j` | P holds of each item; of each from the place i to before the place j |
 //! | `length xs`, `map f xs`, `sum xs`, `sum_by f xs` | the number of the items; f of each; their sum; the sum of f of each |
 //! | `take n xs`, `drop n xs`, `slice_index xs i` | the first n items; the others; the item at the place i |
@@ -71,7 +71,7 @@ pub mod integer_core {
     //!
     //! ## `sign`
     //!
-    //! -1 for a number below 0, and else 1
+    //! The sign of a number is -1 below 0, and else 1. Examples: -5: -1; 0: 1; 5: 1.
     //!
     //! ```text
     //! abbrev pub sign : ℤ → ℤ
@@ -81,7 +81,7 @@ pub mod integer_core {
     //!
     //! ## `SecondDividesFirst`
     //!
-    //! b is not 0 and divides a: up to its sign b is the gcd
+    //! The first case of a pair: b is not 0 and divides a, so b is the gcd up to its sign. Examples: 12 and 4; 0 and 5; not 5 and 0.
     //!
     //! ```text
     //! pub record SecondDividesFirst (a b : ℤ) : Type 0 where
@@ -91,7 +91,7 @@ pub mod integer_core {
     //!
     //! ## `FirstDividesSecond`
     //!
-    //! b is 0, or a divides b: up to its sign a is the gcd
+    //! The second case of a pair: b is 0 or a divides b, so a is the gcd up to its sign. Examples: 4 and 12; 5 and 0; not 10 and 4.
     //!
     //! ```text
     //! abbrev pub FirstDividesSecond : ℤ → ℤ → Type 0
@@ -100,7 +100,7 @@ pub mod integer_core {
     //!
     //! ## `NeedsBoth`
     //!
-    //! neither of the two holds
+    //! The third case of a pair: neither of the other two holds. Examples: 240 and 46; 10 and 4; not 12 and 4.
     //!
     //! ```text
     //! pub record NeedsBoth (a b : ℤ) : Type 0 where
@@ -110,7 +110,7 @@ pub mod integer_core {
     //!
     //! ## `IsSmallPair`
     //!
-    //! a pair for g that is small relative to the operands
+    //! x·a + y·b is g, twice the magnitude of x·g is at most that of b, and twice that of y·g is at most that of a. Examples: 240 and 46, with 2: -9, 47; not 14, -73, which meets the equation too; 10 and 4, with 2: 1, -2.
     //!
     //! ```text
     //! pub record IsSmallPair (a b g x y : ℤ) : Type 0 where
@@ -121,7 +121,7 @@ pub mod integer_core {
     //!
     //! ## `IsBezoutAnswer`
     //!
-    //! the gcd and the pair, by the first of the three cases that holds
+    //! g is the greatest common divisor of a and b, and x·a + y·b is g, by the first case that holds: where b is not 0 and divides a, x is 0 and y the sign of b; where b is 0 or a divides b, x is the sign of a and y is 0; else the pair is small. Examples: 12 and 4: 4, 0, 1; 0 and 0: 0, 1, 0; 240 and 46: 2, -9, 47.
     //!
     //! ```text
     //! pub record IsBezoutAnswer (a b g x y : ℤ) : Type 0 where
@@ -134,7 +134,7 @@ pub mod integer_core {
     //!
     //! ## `HasPair`
     //!
-    //! a type without negatives, which has no -1, has a pair where one operand divides the other
+    //! In a type without negatives, which has no -1, one operand divides the other. Examples: u8: 4 and 12; not 10 and 4; i8: 10 and 4, as every pair.
     //!
     //! ```text
     //! abbrev pub HasPair : (ℤ → Type 0) → ℤ → ℤ → Type 0
@@ -143,7 +143,7 @@ pub mod integer_core {
     //!
     //! ## `Remainders`
     //!
-    //! the remainders that Euclid's loop holds
+    //! A state of Euclid's loop is the current and the previous remainder. Examples: of 240 and 46: 46 and 240, then 10 and 46, then 6 and 10.
     //!
     //! ```text
     //! pub record Remainders : Type 0 where
@@ -153,7 +153,7 @@ pub mod integer_core {
     //!
     //! ## `EuclidEnds`
     //!
-    //! no turn follows where the current one divides the previous
+    //! No turn follows where the current remainder divides the previous one. Examples: 2 and 4; 4 and 12; not 46 and 240.
     //!
     //! ```text
     //! abbrev pub EuclidEnds : Remainders → Type 0
@@ -162,7 +162,7 @@ pub mod integer_core {
     //!
     //! ## `IsEuclidTurn`
     //!
-    //! a turn goes on to previous - q·current, with the truncated quotient q of previous by current
+    //! Where the current remainder does not divide the previous one, a turn goes on to previous - q·current, with the truncated quotient q of the two. Examples: 46 and 240 to 10 and 46; 10 and 46 to 6 and 10; none from 2 and 4.
     //!
     //! ```text
     //! pub record IsEuclidTurn (s t : Remainders) : Type 0 where
@@ -175,7 +175,7 @@ pub mod integer_core {
     //!
     //! ## `AreEuclidTurns`
     //!
-    //! the number of turns that the loop makes from b and a: none where b is 0
+    //! n is 0 where b is 0, and else the number of turns of the run that begins with b as the current and a as the previous remainder. Examples: 240 and 46: 4; 12 and 4: 0; 8 and 13: 5.
     //!
     //! ```text
     //! pub record AreEuclidTurns (a b : ℤ) (n : ℕ) : Type 0 where
@@ -185,7 +185,7 @@ pub mod integer_core {
     //!
     //! ## `IsDivision`
     //!
-    //! n is q times d and r more, and the magnitude of r is below that of d
+    //! n is q times d and r more, and the magnitude of r is below that of d. Examples: 8 by 3: 2 and 2; 8 by 3: 3 and -1 too; by 0: none, since no magnitude is below 0.
     //!
     //! ```text
     //! pub record IsDivision (n d q r : ℤ) : Type 0 where
@@ -195,7 +195,7 @@ pub mod integer_core {
     //!
     //! ## `HaveSameSign`
     //!
-    //! both are above 0, or both below
+    //! Both numbers are above 0, or both are below. Examples: 2 and 8; -2 and -8; not 0 and 8.
     //!
     //! ```text
     //! abbrev pub HaveSameSign : ℤ → ℤ → Type 0
@@ -204,7 +204,7 @@ pub mod integer_core {
     //!
     //! ## `HaveOppositeSigns`
     //!
-    //! one is above 0, and the other below
+    //! One number is above 0, and the other is below. Examples: -1 and 3; 2 and -3; not 0 and 3.
     //!
     //! ```text
     //! abbrev pub HaveOppositeSigns : ℤ → ℤ → Type 0
@@ -213,7 +213,7 @@ pub mod integer_core {
     //!
     //! ## `IsTruncated`
     //!
-    //! rounded toward zero: the remainder is 0 or has the sign of n
+    //! q is n by d rounded toward zero: the remainder r is 0 or has the sign of n. Examples: 8 by 3: 2, 2; -8 by 3: -2, -2; 8 by -3: -2, 2.
     //!
     //! ```text
     //! pub record IsTruncated (n d q r : ℤ) : Type 0 where
@@ -223,7 +223,7 @@ pub mod integer_core {
     //!
     //! ## `IsFloored`
     //!
-    //! rounded down: the remainder is 0 or has the sign of d
+    //! q is n by d rounded down: the remainder r is 0 or has the sign of d. Examples: 8 by 3: 2, 2; -8 by 3: -3, 1; 8 by -3: -3, -1.
     //!
     //! ```text
     //! pub record IsFloored (n d q r : ℤ) : Type 0 where
@@ -233,7 +233,7 @@ pub mod integer_core {
     //!
     //! ## `IsCeiled`
     //!
-    //! rounded up: the remainder is 0 or has the sign opposite to that of d
+    //! q is n by d rounded up: the remainder r is 0 or has the sign opposite to that of d. Examples: 8 by 3: 3, -1; -8 by 3: -2, -2; 8 by -3: -2, 2.
     //!
     //! ```text
     //! pub record IsCeiled (n d q r : ℤ) : Type 0 where
@@ -243,7 +243,7 @@ pub mod integer_core {
     //!
     //! ## `IsQuotient`
     //!
-    //! the quotient of a kind on its own, with some remainder
+    //! q is the quotient of n by d of this kind, with some remainder. Examples: -8 by 3: truncated -2, floored -3, ceiled -2; 1 by 2: 0, 0, 1; 6 by 3: 2, 2, 2.
     //!
     //! ```text
     //! pub record IsQuotient (Kind : ℤ → ℤ → ℤ → ℤ → Type 0) (n d q : ℤ) : Type 0 where
@@ -253,7 +253,7 @@ pub mod integer_core {
     //!
     //! ## `IsRemainder`
     //!
-    //! the remainder of a kind on its own, with some quotient
+    //! r is the remainder of n by d of this kind, with some quotient. Examples: floored, -8 by 3: 1; 8 by -3: -1; 6 by 3: 0.
     //!
     //! ```text
     //! pub record IsRemainder (Kind : ℤ → ℤ → ℤ → ℤ → Type 0) (n d r : ℤ) : Type 0 where
@@ -263,7 +263,7 @@ pub mod integer_core {
     //!
     //! ## `IsMultiple`
     //!
-    //! the quotient of a kind, times d
+    //! m is the quotient of n by d of this kind, times d: the next multiple where it is ceiled, the previous one where it is floored. Examples: ceiled, 23 by 8: 24; 23 by -8: 16; floored, 23 by -8: 24.
     //!
     //! ```text
     //! pub record IsMultiple (Kind : ℤ → ℤ → ℤ → ℤ → Type 0) (n d m : ℤ) : Type 0 where
@@ -274,7 +274,7 @@ pub mod integer_core {
     //!
     //! ## `EachKind`
     //!
-    //! the property holds of each of the three kinds
+    //! The property holds of each of the three kinds of division. Examples: a quotient of 6 by 3 is 2; a quotient of -6 by 3 is -2; not: a quotient of 8 by 3 is 2, since the ceiled one is 3.
     //!
     //! ```text
     //! abbrev pub EachKind : ((ℤ → ℤ → ℤ → ℤ → Type 0) → Type 0) → Type 0
@@ -283,7 +283,7 @@ pub mod integer_core {
     //!
     //! ## `Divides`
     //!
-    //! v is a multiple of u, so 0 divides 0 alone
+    //! v is u times some whole number, so 0 divides 0 alone. Examples: 3 divides 9; 9 does not divide 3; 0 divides 0 and nothing else.
     //!
     //! ```text
     //! pub record Divides (u v : ℤ) : Type 0 where
@@ -293,6 +293,8 @@ pub mod integer_core {
     //!
     //! ## `IsEven`
     //!
+    //! 2 divides v. Examples: 0; -128; not 3.
+    //!
     //! ```text
     //! abbrev pub IsEven : ℤ → Type 0
     //! IsEven v = Divides (pos 2) v
@@ -300,7 +302,7 @@ pub mod integer_core {
     //!
     //! ## `IsGreatestCommonDivisor`
     //!
-    //! the common divisor, at least 0, that each common divisor divides
+    //! g is at least 0, divides both a and b, and each number that divides both divides g. Examples: 56 and 42: 14; 3 and -3: 3; 0 and 0: 0.
     //!
     //! ```text
     //! pub record IsGreatestCommonDivisor (a b g : ℤ) : Type 0 where
@@ -312,7 +314,7 @@ pub mod integer_core {
     //!
     //! ## `IsLeastCommonMultiple`
     //!
-    //! the common multiple, at least 0, that divides each common multiple
+    //! l is at least 0, a and b divide it, and it divides each number that both divide. Examples: 7 and 3: 21; -1 and 1: 1; 0 and 5: 0.
     //!
     //! ```text
     //! pub record IsLeastCommonMultiple (a b l : ℤ) : Type 0 where
@@ -324,7 +326,7 @@ pub mod integer_core {
     //!
     //! ## `GcdFits`
     //!
-    //! the gcd fits; a type without negatives, which has no -1, has the gcd of any two of its numbers
+    //! The greatest common divisor fits, asked only of a type that has -1: any other type has the gcd of any two of its numbers. Examples: u8: 0 and 255, as every pair; i8: -128 and 64; not -128 and 0.
     //!
     //! ```text
     //! abbrev pub GcdFits : (ℤ → Type 0) → ℤ → ℤ → Type 0
@@ -333,7 +335,7 @@ pub mod integer_core {
     //!
     //! ## `fibonacci`
     //!
-    //! 0, 1, 1, 2, 3, 5 ..
+    //! The Fibonacci numbers are 0, 1, 1, 2, 3, 5 and so on, each the sum of the two before. Examples: of 1: 1; of 2: 1; of 7: 13.
     //!
     //! ```text
     //! abbrev pub fibonacci : ℕ → ℕ
@@ -344,7 +346,7 @@ pub mod integer_core {
     //!
     //! ## `IsOddPart`
     //!
-    //! m is n with all factors 2 taken out
+    //! m is n with all factors 2 taken out. Examples: 12: 3; 7: 7; 0 has none.
     //!
     //! ```text
     //! pub record IsOddPart (n m : ℕ) : Type 0 where
@@ -355,7 +357,7 @@ pub mod integer_core {
     //!
     //! ## `OddPair`
     //!
-    //! the numbers that the loop holds
+    //! A state of Stein's loop is two odd numbers, a first and a second. Examples: 5, 3; 7, 21; 7, 7.
     //!
     //! ```text
     //! pub record OddPair : Type 0 where
@@ -365,7 +367,7 @@ pub mod integer_core {
     //!
     //! ## `GcdEnds`
     //!
-    //! no turn follows where they are equal
+    //! No turn follows where the two numbers are equal. Examples: 7, 7; 1, 1; not 5, 3.
     //!
     //! ```text
     //! abbrev pub GcdEnds : OddPair → Type 0
@@ -374,7 +376,7 @@ pub mod integer_core {
     //!
     //! ## `IsLeftTurn`
     //!
-    //! m is above n, and becomes their difference with all factors 2 taken out
+    //! The first number is above the second, and becomes their difference with all factors 2 taken out. Examples: 5, 3 to 1, 3; 21, 7 to 7, 7; none from 3, 5.
     //!
     //! ```text
     //! pub record IsLeftTurn (s t : OddPair) : Type 0 where
@@ -385,7 +387,7 @@ pub mod integer_core {
     //!
     //! ## `IsRightTurn`
     //!
-    //! n is above m, and becomes their difference with all factors 2 taken out
+    //! The second number is above the first, and becomes their difference with all factors 2 taken out. Examples: 3, 5 to 3, 1; 7, 21 to 7, 7; none from 5, 3.
     //!
     //! ```text
     //! pub record IsRightTurn (s t : OddPair) : Type 0 where
@@ -396,7 +398,7 @@ pub mod integer_core {
     //!
     //! ## `IsGcdTurn`
     //!
-    //! a turn subtracts the smaller from the larger, and takes all factors 2 out of the difference
+    //! A turn subtracts the smaller number of the pair from the larger, and takes all factors 2 out of the difference. Examples: 5, 3 to 1, 3; 7, 21 to 7, 7; none from 7, 7.
     //!
     //! ```text
     //! abbrev pub IsGcdTurn : OddPair → OddPair → Type 0
@@ -405,7 +407,7 @@ pub mod integer_core {
     //!
     //! ## `MakesGcdRun`
     //!
-    //! n turns for the gcd of a and b, from the two with all factors 2 taken out
+    //! Stein's loop makes n turns from a and b with all factors 2 taken out. Examples: 56 and 42: 1; 5 and 3: 2; 8 and 4: 0.
     //!
     //! ```text
     //! pub record MakesGcdRun (a b n : ℕ) : Type 0 where
@@ -417,7 +419,7 @@ pub mod integer_core {
     //!
     //! ## `IsZeroOrLeast`
     //!
-    //! 0, or the least number of a type
+    //! x is 0, or low, the least number of a type. Examples: of i8: 0; -128; not 1.
     //!
     //! ```text
     //! abbrev pub IsZeroOrLeast : ℤ → ℤ → Type 0
@@ -426,7 +428,7 @@ pub mod integer_core {
     //!
     //! ## `AreGcdTurns`
     //!
-    //! the turns for the gcd of a and b in a type: none where one is 0 or the type's least number
+    //! n is 0 where a or b is 0 or low, and else the number of turns of the run from the magnitudes of a and b. Examples: 56 and 42: 1; 5 and 3: 2; i64 MIN and 3: 0.
     //!
     //! ```text
     //! pub record AreGcdTurns (low a b : ℤ) (n : ℕ) : Type 0 where
@@ -436,7 +438,7 @@ pub mod integer_core {
     //!
     //! ## `IsBitLength`
     //!
-    //! l is the bit length of v: the least l for which the magnitude of v is below 2 ^ l
+    //! l is the least number for which the magnitude of v is below 2 to the power l. Examples: 0: 0; 7 and -7: 3; 8: 4.
     //!
     //! ```text
     //! pub record IsBitLength (v : ℤ) (l : ℕ) : Type 0 where
@@ -446,7 +448,7 @@ pub mod integer_core {
     //!
     //! ## `IsOnly`
     //!
-    //! x is the only one with the property
+    //! x is the only one with the property P: whatever has it is x. Examples: being twice itself: 0; being the gcd of 56 and 42: 14; having the square 4: neither 2 nor -2.
     //!
     //! ```text
     //! abbrev pub IsOnly : {A : Type 0} → (A → Type 0) → A → Type 0
@@ -455,7 +457,7 @@ pub mod integer_core {
     //!
     //! ## `IsRange`
     //!
-    //! a number fits exactly where it lies from low to high
+    //! A number fits a type exactly where it lies from low to high; low is 0, -high or -high - 1, and high is at least 1, below 2^128, and below 2^127 where low is negative. Examples: i8: -128 to 127; u64: 0 to 18446744073709551615; your own type: -7 to 7.
     //!
     //! ```text
     //! pub record IsRange (fits : ℤ → Type 0) (low high : ℤ) : Type 0 where
@@ -468,7 +470,7 @@ pub mod integer_core {
     //!
     //! ## `EachFits`
     //!
-    //! each number with the property fits
+    //! Each number with the property P fits. Examples: in i8: being a quotient of -128 by 2; being a quotient of 1 by 0, which no number is; not: being a quotient of -128 by -1, which 128 is.
     //!
     //! ```text
     //! abbrev pub EachFits : (ℤ → Type 0) → (ℤ → Type 0) → Type 0
@@ -476,6 +478,8 @@ pub mod integer_core {
     //! ```
     //!
     //! ## `IsRun`
+    //!
+    //! Each state is a turn of the one before, and no turn follows the last. Examples: of Euclid's loop from 46 and 240: five states; from 4 and 12: one state; the empty list is no run.
     //!
     //! ```text
     //! abbrev pub IsRun : {S : Type 0} → (S → S → Type 0) → (S → Type 0) → List S → Type 0
@@ -486,7 +490,7 @@ pub mod integer_core {
     //!
     //! ## `Makes`
     //!
-    //! a run that begins with this state makes n turns
+    //! A run that begins with the first state has n turns, one fewer than states. Examples: from 46 and 240: 4; from 4 and 12: 0; from 13 and 8: 5.
     //!
     //! ```text
     //! pub record Makes {S : Type 0} (turn : S → S → Type 0) (ends : S → Type 0) (first : S) (n : ℕ) : Type 0 where
@@ -502,7 +506,7 @@ pub mod integer_roots {
     //!
     //! ## `IsAverageFloor`
     //!
-    //! a + b lies from twice f to below twice f and 2 more
+    //! f is the average of a and b rounded down: a + b lies from twice f to below twice f and 2 more. Examples: 3 and 10: 6; -2 and -5: -4; 4 and 4: 4.
     //!
     //! ```text
     //! pub record IsAverageFloor (a b f : ℤ) : Type 0 where
@@ -512,7 +516,7 @@ pub mod integer_roots {
     //!
     //! ## `IsAverageCeil`
     //!
-    //! a + b lies from above twice c and 2 less to twice c
+    //! c is the average of a and b rounded up: a + b lies from above twice c and 2 less to twice c. Examples: 3 and 10: 7; -2 and -5: -3; 4 and 4: 4.
     //!
     //! ```text
     //! pub record IsAverageCeil (a b c : ℤ) : Type 0 where
@@ -522,7 +526,7 @@ pub mod integer_roots {
     //!
     //! ## `IsFloorRoot`
     //!
-    //! r is at least 0, its power of degree n is at most x, and the power of r + 1 is above x
+    //! r is at least 0, its power of degree n is at most x, and the power of r + 1 is above x. Examples: 99 at degree 2: 9; 12345 at 4: 10; 7 at 3: 1.
     //!
     //! ```text
     //! pub record IsFloorRoot (x : ℤ) (n : ℕ) (r : ℤ) : Type 0 where
@@ -533,7 +537,7 @@ pub mod integer_roots {
     //!
     //! ## `IsRoot`
     //!
-    //! for x at least 0 the floor root; for negative x, only at an odd degree, minus the floor root of -x
+    //! r is the floor root of x at least 0; of a negative x, which has a root only at odd degrees, r is minus the floor root of -x. Examples: -9 at 3: -2; -128 at 7: -2; none of -1 at 2.
     //!
     //! ```text
     //! pub record IsRoot (x : ℤ) (n : ℕ) (r : ℤ) : Type 0 where
@@ -543,7 +547,7 @@ pub mod integer_roots {
     //!
     //! ## `IsWithin64Bits`
     //!
-    //! the range of a type of at most 64 bits: below 2 ^ 64, and below 2 ^ 63 where the type has negatives
+    //! The range of a type has at most 64 bits: high is below 2^64, and below 2^63 where low is negative. Examples: the range of u64; that of i8; not that of i128.
     //!
     //! ```text
     //! abbrev pub IsWithin64Bits : ℤ → ℤ → Type 0
@@ -552,7 +556,7 @@ pub mod integer_roots {
     //!
     //! ## `square_step`
     //!
-    //! Newton's step for the square root of a, from the guess x
+    //! Newton's step for the square root of a from the guess x is (a / x + x) / 2, both quotients rounded down. Examples: 99 from 8: 10; 99 from 10: 9; 16 from 4: 4.
     //!
     //! ```text
     //! abbrev pub square_step : ℕ → ℕ → ℕ
@@ -561,7 +565,7 @@ pub mod integer_roots {
     //!
     //! ## `Guess`
     //!
-    //! a guess, and its loop: the first rises, and the second falls
+    //! A guess is a number with its loop: in the first loop guesses rise, and in the second they fall. Examples: of 99: Rising 8, Rising 10 and Falling 9.
     //!
     //! ```text
     //! pub data Guess : Type 0 where
@@ -571,7 +575,7 @@ pub mod integer_roots {
     //!
     //! ## `IsNewtonTurn`
     //!
-    //! the first loop takes a step that rises; the second takes one that falls, and the first does not follow it
+    //! The first loop takes a step that rises, and the second takes one that falls, from a guess of either loop. Examples: of 99: Rising 8 to Rising 10; Rising 10 to Falling 9; none from Falling 9.
     //!
     //! ```text
     //! abbrev pub IsNewtonTurn : ℕ → Guess → Guess → Type 0
@@ -583,7 +587,7 @@ pub mod integer_roots {
     //!
     //! ## `NewtonEnds`
     //!
-    //! no loop that follows takes a step
+    //! No turn follows where the step from a rising guess stays, or that from a falling guess does not fall. Examples: of 99: Falling 9; of 16: Rising 4; not of 99: Rising 8.
     //!
     //! ```text
     //! abbrev pub NewtonEnds : ℕ → Guess → Type 0
@@ -593,7 +597,7 @@ pub mod integer_roots {
     //!
     //! ## `IsHighestBit`
     //!
-    //! top is the place of the highest bit of a, counted from 0
+    //! top is the place of the highest bit of a, counted from 0. Examples: 99: 6; 16: 4; 1: 0.
     //!
     //! ```text
     //! pub record IsHighestBit (a top : ℕ) : Type 0 where
@@ -603,7 +607,7 @@ pub mod integer_roots {
     //!
     //! ## `first_guess`
     //!
-    //! the first guess of the loops
+    //! The first guess is 2 to the power of half of top + 1, where the half is rounded down. Examples: 6: 8; 5: 8; 4: 4.
     //!
     //! ```text
     //! abbrev pub first_guess : ℕ → ℕ
@@ -612,7 +616,7 @@ pub mod integer_roots {
     //!
     //! ## `MakesNewtonRun`
     //!
-    //! n turns for the square root of a
+    //! The two loops make n turns from the first guess for the square root of a. Examples: 99: 2, by 8, 10, 9; 15: 1, by 4, 3; 16: 0.
     //!
     //! ```text
     //! pub record MakesNewtonRun (a n : ℕ) : Type 0 where
@@ -623,7 +627,7 @@ pub mod integer_roots {
     //!
     //! ## `AreSquareRootTurns`
     //!
-    //! the turns for the square root of x: none below 4, else those of the run of the loops
+    //! The number of turns is 0 for x below 4, and else that of the run of the two loops. Examples: 99: 2; 15: 1; 3: 0.
     //!
     //! ```text
     //! pub record AreSquareRootTurns (x : ℤ) (turns : ℕ) : Type 0 where
@@ -730,7 +734,7 @@ pub mod modular {
     //!
     //! ## `MatchCommonSolution`
     //!
-    //! what holds at each answer
+    //! the first fact holds at `Never`, the second at `Beyond`, and the third of the number at `At`
     //!
     //! ```text
     //! abbrev pub MatchCommonSolution : {T : Type 0} → CommonSolution T → Type 0 → Type 0 → (T → Type 0) → Type 0
@@ -741,7 +745,7 @@ pub mod modular {
     //!
     //! ## `AreCongruent`
     //!
-    //! x and y are equal modulo m
+    //! x and y are equal modulo m: m divides their difference
     //!
     //! ```text
     //! pub record AreCongruent (m x y : ℤ) : Type 0 where
@@ -804,7 +808,7 @@ pub mod modular {
     //!
     //! ## `IsReducedModulus`
     //!
-    //! m divided by its gcd with a, the step from one solution of a·x = b modulo m to the next
+    //! reduced is m divided by its gcd with a: the step from one solution of a·x = b modulo m to the next
     //!
     //! ```text
     //! pub record IsReducedModulus (a m reduced : ℤ) : Type 0 where
@@ -825,24 +829,100 @@ pub mod modular {
     //!
     //! ## `IsNextCongruent`
     //!
-    //! t is the least number from there on that is first modulo step
+    //! t is the least number from `from` on that is first modulo step
     //!
     //! ```text
-    //! pub record IsNextCongruent (from first step t : ℤ) : Type 0 where
-    //!   pub from_there : from ≤ℤ t
-    //!   pub congruent : AreCongruent step t first
-    //!   pub least : (u : ℤ) → from ≤ℤ u → AreCongruent step u first → t ≤ℤ u
+    //! abbrev pub IsNextCongruent : ℤ → ℤ → ℤ → ℤ → Type 0
+    //! IsNextCongruent from first step t = IsLeastFrom from (λ u. AreCongruent step u first) t
+    //! ```
+    //!
+    //! ## `IsPreviousCongruent`
+    //!
+    //! t is the greatest number up to `to` that is first modulo step
+    //!
+    //! ```text
+    //! abbrev pub IsPreviousCongruent : ℤ → ℤ → ℤ → ℤ → Type 0
+    //! IsPreviousCongruent to first step t = IsGreatestTo to (λ u. AreCongruent step u first) t
+    //! ```
+    //!
+    //! ## `IsCongruentTo`
+    //!
+    //! x is at most `to`, and first modulo step
+    //!
+    //! ```text
+    //! pub record IsCongruentTo (to first step x : ℤ) : Type 0 where
+    //!   pub to_there : x ≤ℤ to
+    //!   pub congruent : AreCongruent step x first
+    //! ```
+    //!
+    //! ## `IsCountOfCongruent`
+    //!
+    //! count is how many numbers of from..=to are first modulo step
+    //!
+    //! ```text
+    //! abbrev pub IsCountOfCongruent : ℤ → ℤ → ℤ → ℤ → ℤ → Type 0
+    //! IsCountOfCongruent from to first step count = IsCountFrom from (IsCongruentTo to first step) count
     //! ```
     //!
     //! ## `IsNextCommonSolution`
     //!
-    //! t is the least number from there on that is a modulo m and b modulo n
+    //! t is the least number from `from` on that is a modulo m and b modulo n
     //!
     //! ```text
-    //! pub record IsNextCommonSolution (from a m b n t : ℤ) : Type 0 where
+    //! abbrev pub IsNextCommonSolution : ℤ → ℤ → ℤ → ℤ → ℤ → ℤ → Type 0
+    //! IsNextCommonSolution from a m b n t = IsLeastFrom from (SolvesBothCongruences a m b n) t
+    //! ```
+    //!
+    //! ## `SolvesEach`
+    //!
+    //! x is congruent to the first number of each pair, modulo the second
+    //!
+    //! ```text
+    //! abbrev pub SolvesEach : {X : Type 0} → (X → ℤ) → List (X × X) → ℤ → Type 0
+    //! SolvesEach value congruences x = All (λ c. AreCongruent (value c.1) x (value c.0)) congruences
+    //! ```
+    //!
+    //! ## `IsLeastFrom`
+    //!
+    //! t is the least number from `from` on that has the property
+    //!
+    //! ```text
+    //! pub record IsLeastFrom (from : ℤ) (Has : ℤ → Type 0) (t : ℤ) : Type 0 where
     //!   pub from_there : from ≤ℤ t
-    //!   pub solves : SolvesBothCongruences a m b n t
-    //!   pub least : (u : ℤ) → from ≤ℤ u → SolvesBothCongruences a m b n u → t ≤ℤ u
+    //!   pub holds : Has t
+    //!   pub least : (u : ℤ) → from ≤ℤ u → Has u → t ≤ℤ u
+    //! ```
+    //!
+    //! ## `IsGreatestTo`
+    //!
+    //! t is the greatest number up to `to` that has the property
+    //!
+    //! ```text
+    //! pub record IsGreatestTo (to : ℤ) (Has : ℤ → Type 0) (t : ℤ) : Type 0 where
+    //!   pub to_there : t ≤ℤ to
+    //!   pub holds : Has t
+    //!   pub greatest : (u : ℤ) → u ≤ℤ to → Has u → u ≤ℤ t
+    //! ```
+    //!
+    //! ## `AreAllFrom`
+    //!
+    //! the items are all the numbers from `from` on that have the property, each once and in increasing order
+    //!
+    //! ```text
+    //! abbrev pub AreAllFrom : ℤ → (ℤ → Type 0) → List ℤ → Type 0
+    //! AreAllFrom from Has [] = (u : ℤ) → from ≤ℤ u → ¬ (Has u)
+    //! AreAllFrom from Has (t ∷ items) = IsLeastFrom from Has t × AreAllFrom (t +ℤ pos 1) Has items
+    //! ```
+    //!
+    //! ## `IsCountFrom`
+    //!
+    //! count is how many numbers from `from` on have the property: the length of their list
+    //!
+    //! ```text
+    //! pub record IsCountFrom (from : ℤ) (Has : ℤ → Type 0) (count : ℤ) : Type 0 where
+    //!   pub items : List ℤ
+    //!   pub all : AreAllFrom from Has items
+    //!   pub counted : count ≡ pos (length items)
     //! ```
     //!
 }
@@ -852,7 +932,7 @@ pub mod ratio64 {
     //!
     //! ## `IsFraction`
     //!
-    //! the denominator is not 0
+    //! The denominator of the fraction num/den is not 0. Examples: 6/-4; 0/5; not 1/0.
     //!
     //! ```text
     //! abbrev pub IsFraction : ℤ → ℤ → Type 0
@@ -861,7 +941,7 @@ pub mod ratio64 {
     //!
     //! ## `AreEqual`
     //!
-    //! a/b is equal to c/d
+    //! The fractions a/b and c/d are equal: a·d is c·b. Examples: 6/-4 and -3/2; 0/5 and 0/1; not 1/2 and 1/3.
     //!
     //! ```text
     //! pub record AreEqual (a b c d : ℤ) : Type 0 where
@@ -870,7 +950,7 @@ pub mod ratio64 {
     //!
     //! ## `IsReduced`
     //!
-    //! the denominator is above 0, and the gcd of the two parts is 1
+    //! The denominator is above 0, and the greatest common divisor of the two parts is 1. Examples: -3 and 2; 0 and 1; not 3 and -2.
     //!
     //! ```text
     //! pub record IsReduced (num den : ℤ) : Type 0 where
@@ -880,7 +960,7 @@ pub mod ratio64 {
     //!
     //! ## `IsExact`
     //!
-    //! the exact result of the fraction a/b: the reduced pair that is equal to it
+    //! The exact result of the fraction a/b is num/den, the reduced pair that is equal to it. Examples: 6/-4: -3/2; 0/-9: 0/1; none of 1/0.
     //!
     //! ```text
     //! pub record IsExact (a b num den : ℤ) : Type 0 where
@@ -891,7 +971,7 @@ pub mod ratio64 {
     //!
     //! ## `IsOutsideI64`
     //!
-    //! a part of the exact result of a/b lies outside i64
+    //! A part of the exact result of a/b lies outside `i64`. Examples: 1/MIN, whose denominator is 2^63; MIN/-1; not MIN/2.
     //!
     //! ```text
     //! pub record IsOutsideI64 (a b : ℤ) : Type 0 where
@@ -903,7 +983,7 @@ pub mod ratio64 {
     //!
     //! ## `fraction_cmp`
     //!
-    //! a/b and c/d compare as a·d and c·b do, where b and d are above 0
+    //! The fractions a/b and c/d compare as a·d and c·b do, where b and d are above 0. Examples: 1/3 and 1/2: `Less`; 2/4 and 1/2: `Equal`; -1/MAX and MIN/1: `Greater`.
     //!
     //! ```text
     //! abbrev pub fraction_cmp : ℤ → ℤ → ℤ → ℤ → Ordering
@@ -912,7 +992,7 @@ pub mod ratio64 {
     //!
     //! ## `gap`
     //!
-    //! the distance from n/d to a/b, times both denominators
+    //! The gap is the distance from n/d to a/b, times both denominators. Examples: 3/10 and 1/3: 1; 3/10 and 1/4: 2; 3/2 and 6/4: 0.
     //!
     //! ```text
     //! abbrev pub gap : ℤ → ℤ → ℤ → ℤ → ℕ
@@ -921,7 +1001,7 @@ pub mod ratio64 {
     //!
     //! ## `IsNearestWithin`
     //!
-    //! of the fractions with denominators from 1 to max num/den is the nearest to n/d, and of those that are as near the one of the smallest denominator, and of those of this denominator the lowest
+    //! Of the fractions with denominators from 1 to max num/den is the nearest to n/d, and of those that are as near the one of the smallest denominator, and of those of this denominator the lowest. Examples: 3/10 within 5: 1/3; 3/2 within 1: 1/1; 1/100 within 50: 0/1.
     //!
     //! ```text
     //! pub record IsNearestWithin (n d max num den : ℤ) : Type 0 where
@@ -934,7 +1014,7 @@ pub mod ratio64 {
     //!
     //! ## `num_of`
     //!
-    //! its parts
+    //! The numerator of a `Ratio` is its first part. Examples: of -3/2: -3; of 0/1: 0; of 3/1: 3.
     //!
     //! ```text
     //! abbrev pub num_of : Ratio → ℤ
@@ -943,6 +1023,8 @@ pub mod ratio64 {
     //!
     //! ## `den_of`
     //!
+    //! The denominator of a `Ratio` is its second part, which is above 0. Examples: of -3/2: 2; of 0/1: 1; of 3/1: 1.
+    //!
     //! ```text
     //! abbrev pub den_of : Ratio → ℤ
     //! den_of x = x.den
@@ -950,7 +1032,7 @@ pub mod ratio64 {
     //!
     //! ## `AnswersFraction`
     //!
-    //! the answer of a call whose result is a/b: its exact result, or the refusal whose condition holds
+    //! The answer of a call whose result is a/b is its exact result, or the refusal whose condition holds. Examples: 6/-4: -3/2; 1/0: `ZeroDenominator`; 1/MIN: `NotFitting`.
     //!
     //! ```text
     //! pub record AnswersFraction (a b : ℤ) (result : Result Ratio RatioError) : Type 0 where
@@ -961,7 +1043,7 @@ pub mod ratio64 {
     //!
     //! ## `text_of`
     //!
-    //! its text: the numerator, and the denominator after a slash where it is not 1
+    //! The text of a fraction is its numerator, and its denominator after a slash where that is not 1. Examples: `-3/2`; `3`; `0`.
     //!
     //! ```text
     //! abbrev pub text_of : Ratio → List ℕ
@@ -970,15 +1052,27 @@ pub mod ratio64 {
     //!
     //! ## `number_of`
     //!
+    //! The number of an error is the same in every version. Examples: `ZeroDenominator`: 1; `NotFitting`: 2.
+    //!
     //! ```text
     //! abbrev pub number_of : RatioError → ℕ
     //! number_of ZeroDenominator = 1
     //! number_of NotFitting = 2
     //! ```
     //!
+    //! ## `error_text`
+    //!
+    //! The text of an error is what `Display` writes of it. Examples: `ZeroDenominator`: `the denominator is 0`.
+    //!
+    //! ```text
+    //! abbrev pub error_text : RatioError → List ℕ
+    //! error_text ZeroDenominator = codes "the denominator is 0"
+    //! error_text NotFitting = codes "a part of the reduced fraction does not fit in 64 bits"
+    //! ```
+    //!
     //! ## `unsigned_part`
     //!
-    //! the text without a leading `-`
+    //! The unsigned part of a text is the text without a leading `-`. Examples: of `-007`: `007`; of `12`: `12`; of `-0`: `0`.
     //!
     //! ```text
     //! abbrev pub unsigned_part : List ℕ → List ℕ
@@ -987,7 +1081,7 @@ pub mod ratio64 {
     //!
     //! ## `whole_of`
     //!
-    //! the number that digits write in decimal, negated after a `-`
+    //! The number of a text is the one that its digits write in decimal, negated after a `-`. Examples: of `-007`: -7; of `12`: 12; of `-0`: 0.
     //!
     //! ```text
     //! abbrev pub whole_of : List ℕ → ℤ
@@ -998,7 +1092,7 @@ pub mod ratio64 {
     //!
     //! ## `SpellsWhole`
     //!
-    //! the text is an optional `-`, then one digit or more, and nothing else, and writes the number
+    //! The text is an optional `-`, then one digit or more, and nothing else, and writes the number. Examples: `-007`: -7; `-0`: 0; none of `+1`.
     //!
     //! ```text
     //! pub record SpellsWhole (text : List ℕ) (number : ℤ) : Type 0 where
@@ -1008,7 +1102,7 @@ pub mod ratio64 {
     //!
     //! ## `SpellsFraction`
     //!
-    //! the text is `a/b`, or `a` alone where b is 1
+    //! The text is `a/b`, or `a` alone where b is 1. Examples: `6/-4`: 6 and -4; `3`: 3 and 1; none of `1/`.
     //!
     //! ```text
     //! pub record SpellsFraction (text : List ℕ) (a b : ℤ) : Type 0 where
@@ -1021,7 +1115,7 @@ pub mod ratio64 {
     //!
     //! ## `HasLongPart`
     //!
-    //! a part has more than 38 digits, leading zeros aside
+    //! A part has more than 38 digits, leading zeros aside. Examples: 1 and 10^38; -10^38 and 1; not 1 and 10^38 - 1.
     //!
     //! ```text
     //! abbrev pub HasLongPart : ℤ → ℤ → Type 0
@@ -1030,7 +1124,7 @@ pub mod ratio64 {
     //!
     //! ## `answer_read`
     //!
-    //! the answer of a fraction, its refusal under the same name
+    //! The answer of a fraction is read with its refusal under the same name. Examples: of `Ok` of 1/2: `Ok` of 1/2; of `Err(NotFitting)`: `Err(NotFitting)`.
     //!
     //! ```text
     //! abbrev pub answer_read : Result Ratio RatioError → Result Ratio ParseRatioError
@@ -1039,9 +1133,21 @@ pub mod ratio64 {
     //! answer_read (Err refused.NotFitting) = Err NotFitting
     //! ```
     //!
+    //! ## `parse_error_text`
+    //!
+    //! The text of an error is what `Display` writes of it. Examples: `NotAFraction`: `the text is not a fraction`; `ZeroDenominator`: `the denominator is 0`.
+    //!
+    //! ```text
+    //! abbrev pub parse_error_text : ParseRatioError → List ℕ
+    //! parse_error_text NotAFraction = codes "the text is not a fraction"
+    //! parse_error_text TooLong = codes "a part has more than 38 digits, leading zeros aside"
+    //! parse_error_text ZeroDenominator = error_text refused.ZeroDenominator
+    //! parse_error_text NotFitting = error_text refused.NotFitting
+    //! ```
+    //!
     //! ## `AnswersSpelled`
     //!
-    //! what the fraction a/b is read as: too long, or what it answers
+    //! The fraction a/b is read as `TooLong` where it has a long part, and else as what it answers. Examples: 1/10^38: `TooLong`; 2^64/2: `NotFitting`; 1/0: `ZeroDenominator`.
     //!
     //! ```text
     //! pub record AnswersSpelled (a b : ℤ) (result : Result Ratio ParseRatioError) : Type 0 where
@@ -1051,7 +1157,7 @@ pub mod ratio64 {
     //!
     //! ## `ReadsFraction`
     //!
-    //! what a text is read as
+    //! A text is read as `NotAFraction` where it spells none, and else as what the fraction that it spells is read as. Examples: `6/-4`: -3/2; `1/`: `NotAFraction`; `18446744073709551614/2`: MAX/1.
     //!
     //! ```text
     //! pub record ReadsFraction (text : List ℕ) (result : Result Ratio ParseRatioError) : Type 0 where
@@ -1061,7 +1167,7 @@ pub mod ratio64 {
     //!
     //! ## `IsRounded`
     //!
-    //! r is the whole number nearest to n/d, and of two that are as near the one farther from 0
+    //! The whole number nearest to n/d is r, and of two that are equally near the one farther from 0. Examples: 7 and 3: 2; 3 and 2: 2; -3 and 2: -2.
     //!
     //! ```text
     //! pub record IsRounded (n d r : ℤ) : Type 0 where
@@ -1076,7 +1182,7 @@ pub mod calendar {
     //!
     //! ## `number_of`
     //!
-    //! its day, counted from 1970-01-01
+    //! This is the day of the date, counted from 1970-01-01. Examples: 1970-01-01: 0; 2000-03-01: 11017; 1969-12-31: -1.
     //!
     //! ```text
     //! abbrev pub number_of : Date → ℤ
@@ -1085,7 +1191,7 @@ pub mod calendar {
     //!
     //! ## `year_day_of`
     //!
-    //! its day, counted from the first of its year, which is 1
+    //! This is the day of the date in its year, which is 1 on 1 January. Examples: 1970-01-01: 1; 2000-03-01: 61; 1969-12-31: 365.
     //!
     //! ```text
     //! abbrev pub year_day_of : Date → ℕ
@@ -1094,7 +1200,7 @@ pub mod calendar {
     //!
     //! ## `HasParts`
     //!
-    //! it has this year, this month and this day of the month
+    //! The date has this year, this month and this day of the month. Examples: 2000-02-29: 2000, 2, 29; not 2000, 3, 1.
     //!
     //! ```text
     //! pub record HasParts (date : Date) (year : ℤ) (month day : ℕ) : Type 0 where
@@ -1103,9 +1209,73 @@ pub mod calendar {
     //!   pub day_is : date.day_of_month ≡ day
     //! ```
     //!
+    //! ## `IsMonthsAfter`
+    //!
+    //! The date lies in the month that is `months` after that of `from`, on the same day of the month, or on the last where there is no such day. Examples: from 2000-01-31: 0: 2000-01-31; 1: 2000-02-29; -2: 1999-11-30; not 2000-02-28 at 1.
+    //!
+    //! ```text
+    //! pub record IsMonthsAfter (from : Date) (months : ℤ) (date : Date) : Type 0 where
+    //!   pub month_is : month_number date.year date.month ≡ month_number from.year from.month +ℤ months
+    //!   pub day_is : date.day_of_month ≡ min from.day_of_month (days_in_month date.year date.month)
+    //! ```
+    //!
+    //! ## `HasMonths`
+    //!
+    //! The date that is `months` after `from` is not after `to`. Examples: from 2000-01-31 to 2000-03-30: 1, which is 2000-02-29; -7; not 2, which is 2000-03-31.
+    //!
+    //! ```text
+    //! pub record HasMonths (from to : Date) (months : ℤ) : Type 0 where
+    //!   pub date : Date
+    //!   pub is_after : IsMonthsAfter from months date
+    //!   pub not_later : number_of date ≤ℤ number_of to
+    //! ```
+    //!
+    //! ## `IsMonthsBetween`
+    //!
+    //! This is the greatest number of months after `from` that lead to a date not after `to`. Examples: 2000-01-31 to 2000-02-29: 1; 2000-02-29 to 2001-02-28: 12; 2000-03-01 to 2000-02-29: -1.
+    //!
+    //! ```text
+    //! abbrev pub IsMonthsBetween : Date → Date → ℤ → Type 0
+    //! IsMonthsBetween from to months = IsGreatest (HasMonths from to) months
+    //! ```
+    //!
+    //! ## `IsNthWeekday`
+    //!
+    //! The date has this year, this month and this day of the week, and its day of the month is above 7·(n - 1) and at most 7·n. Examples: 2026, 11, Thursday: 1: 2026-11-05; 4: 2026-11-26; none at 0 or 5.
+    //!
+    //! ```text
+    //! pub record IsNthWeekday (year : ℤ) (month : ℕ) (weekday : Weekday) (n : ℕ) (date : Date) : Type 0 where
+    //!   pub year_is : date.year ≡ year
+    //!   pub month_is : date.month ≡ month
+    //!   pub has_weekday : HasWeekday (number_of date) weekday
+    //!   pub after_weeks : 7 * n < date.day_of_month + 7
+    //!   pub within_weeks : date.day_of_month ≤ 7 * n
+    //! ```
+    //!
+    //! ## `IsWeekdayOfMonth`
+    //!
+    //! The date has this year, this month and this day of the week. Examples: 2026, 11, Thursday: 2026-11-05; 2026-11-26; not 2026-11-27.
+    //!
+    //! ```text
+    //! pub record IsWeekdayOfMonth (year : ℤ) (month : ℕ) (weekday : Weekday) (date : Date) : Type 0 where
+    //!   pub year_is : date.year ≡ year
+    //!   pub month_is : date.month ≡ month
+    //!   pub has_weekday : HasWeekday (number_of date) weekday
+    //! ```
+    //!
+    //! ## `IsLastWeekdayOfMonth`
+    //!
+    //! The date has this year, this month and this day of the week, and no other such date is later. Examples: 2026, 11, Thursday: 2026-11-26; 2026, 10, Friday: 2026-10-30; not 2026-10-23.
+    //!
+    //! ```text
+    //! pub record IsLastWeekdayOfMonth (year : ℤ) (month : ℕ) (weekday : Weekday) (date : Date) : Type 0 where
+    //!   pub of_month : IsWeekdayOfMonth year month weekday date
+    //!   pub last : (other : Date) → IsWeekdayOfMonth year month weekday other → number_of other ≤ℤ number_of date
+    //! ```
+    //!
     //! ## `IsGolden`
     //!
-    //! the golden number of a year, less 1: its place in the moon's cycle of 19 years
+    //! This is the golden number of the year, less 1: its place in the moon's cycle of 19 years. Examples: 2024: 10; 1900: 0; -1: 18.
     //!
     //! ```text
     //! abbrev pub IsGolden : ℤ → ℕ → Type 0
@@ -1114,7 +1284,7 @@ pub mod calendar {
     //!
     //! ## `IsCentury`
     //!
-    //! the century, counted from the years 0 to 99
+    //! This is the century of the year, counted from the years 0 to 99. Examples: 2024: 20; 1999: 19; -1: -1.
     //!
     //! ```text
     //! abbrev pub IsCentury : ℤ → ℤ → Type 0
@@ -1123,7 +1293,7 @@ pub mod calendar {
     //!
     //! ## `IsSolarCorrection`
     //!
-    //! the leap days that hundredth years drop: all but those of each four hundredth
+    //! These are the leap days that hundredth years drop: all but those of each four hundredth. Examples: 20: 15; 19: 15; 18: 14.
     //!
     //! ```text
     //! pub record IsSolarCorrection (century days : ℤ) : Type 0 where
@@ -1134,7 +1304,7 @@ pub mod calendar {
     //!
     //! ## `IsLunarCorrection`
     //!
-    //! the days that the moon gains on its cycle of 19 years: 8 in 2500 years
+    //! These are the days that the moon gains on its cycle of 19 years: 8 in 2500 years. Examples: 20: 6; 17: 5; -1: 0.
     //!
     //! ```text
     //! abbrev pub IsLunarCorrection : ℤ → ℤ → Type 0
@@ -1143,7 +1313,7 @@ pub mod calendar {
     //!
     //! ## `IsEpact`
     //!
-    //! the epact, the age of the moon on 1 January, by century and golden number
+    //! This is the epact, the age of the moon on 1 January, by century and golden number. Examples: 20 and 10: 19; 20 and 0: 29; 19 and 5: 24.
     //!
     //! ```text
     //! pub record IsEpact (century : ℤ) (golden epact : ℕ) : Type 0 where
@@ -1156,7 +1326,7 @@ pub mod calendar {
     //!
     //! ## `is_day_earlier`
     //!
-    //! whether the table has the full moon a day earlier: at epact 24, and at 25 where the golden number is above 11
+    //! The table has the full moon a day earlier: at epact 24, and at 25 where the golden number is above 11. Examples: 24 and 5: true; 25 and 16: true; 25 and 5: false.
     //!
     //! ```text
     //! abbrev pub is_day_earlier : ℕ → ℕ → Bool
@@ -1165,7 +1335,7 @@ pub mod calendar {
     //!
     //! ## `days_to_full_moon`
     //!
-    //! the days from 21 March to the full moon: 23 minus the epact, modulo 30, or a day less
+    //! These are the days from 21 March to the full moon: 23 minus the epact, modulo 30, or a day less. Examples: 19 and 10: 4; 24 and 5: 28; 25 and 5: 28; 25 and 16: 27.
     //!
     //! ```text
     //! abbrev pub days_to_full_moon : ℕ → ℕ → ℕ
@@ -1174,7 +1344,7 @@ pub mod calendar {
     //!
     //! ## `IsPaschalFullMoon`
     //!
-    //! the day of the Paschal full moon of the year
+    //! The day is that of the Paschal full moon of the year. Examples: 2024: 19807, which is 2024-03-25; 1981: 4125, which is 1981-04-18.
     //!
     //! ```text
     //! pub record IsPaschalFullMoon (year day : ℤ) : Type 0 where
@@ -1189,7 +1359,7 @@ pub mod calendar {
     //!
     //! ## `IsEaster`
     //!
-    //! the day of Easter: the first Sunday after the full moon
+    //! The day is Easter of the year: the first Sunday after the Paschal full moon. Examples: 2024: 19813, which is 2024-03-31; 1981: 4126, which is 1981-04-19.
     //!
     //! ```text
     //! pub record IsEaster (year day : ℤ) : Type 0 where
@@ -1198,9 +1368,30 @@ pub mod calendar {
     //!   pub sunday_is : IsFirstWeekday (full_moon +ℤ pos 1) Sunday day
     //! ```
     //!
+    //! ## `IsGreatest`
+    //!
+    //! The number has the property, and no greater number has it. Examples: being even and at most 7: 6; being at most -2: -2; no number is the greatest of the even numbers.
+    //!
+    //! ```text
+    //! pub record IsGreatest (P : ℤ → Type 0) (z : ℤ) : Type 0 where
+    //!   pub holds : P z
+    //!   pub greatest : (other : ℤ) → P other → other ≤ℤ z
+    //! ```
+    //!
+    //! ## `IsLeastFrom`
+    //!
+    //! The number is the least from `from` on that has the property. Examples: being even: from 7: 8; from 8: 8; being at most 5: from 6: none.
+    //!
+    //! ```text
+    //! pub record IsLeastFrom (from : ℤ) (P : ℤ → Type 0) (z : ℤ) : Type 0 where
+    //!   pub from_there : from ≤ℤ z
+    //!   pub holds : P z
+    //!   pub least : (other : ℤ) → from ≤ℤ other → P other → z ≤ℤ other
+    //! ```
+    //!
     //! ## `IsThursdayOfWeek`
     //!
-    //! the Thursday of the week of a day: the one at most three days away
+    //! The second day is the Thursday of the week of the first: the one at most three days away. Examples: 0: 0; 3: 0; 4: 7; not 3: 7.
     //!
     //! ```text
     //! pub record IsThursdayOfWeek (day thursday : ℤ) : Type 0 where
@@ -1209,19 +1400,9 @@ pub mod calendar {
     //!   pub to : thursday ≤ℤ (day +ℤ pos 3)
     //! ```
     //!
-    //! ## `HasDay`
-    //!
-    //! the year has the day
-    //!
-    //! ```text
-    //! pub record HasDay (year day : ℤ) : Type 0 where
-    //!   pub from : first_day year ≤ℤ day
-    //!   pub before : day <ℤ first_day (year +ℤ pos 1)
-    //! ```
-    //!
     //! ## `IsInIsoWeek`
     //!
-    //! the day is in this week of the year that has its Thursday: week 1 has the Thursday among the first 7 days
+    //! The day is in this week of the year that has its Thursday: week 1 has the Thursday among the first 7 days of the year. Examples: 0: 1970, 1; 3: 1970, 1; 4: 1970, 2; -3: 1970, 1; -4: 1969, 52.
     //!
     //! ```text
     //! pub record IsInIsoWeek (day year : ℤ) (week : ℕ) : Type 0 where
@@ -1234,7 +1415,7 @@ pub mod calendar {
     //!
     //! ## `IsDayOfIsoWeek`
     //!
-    //! and is this day of the week
+    //! The day is in this week of the year, and is this day of the week. Examples: 3: 1970, 1, Sunday; not 3: 1970, 2, Sunday.
     //!
     //! ```text
     //! pub record IsDayOfIsoWeek (day year : ℤ) (week : ℕ) (weekday : Weekday) : Type 0 where
@@ -1242,41 +1423,95 @@ pub mod calendar {
     //!   pub has_weekday : HasWeekday day weekday
     //! ```
     //!
+    //! ## `HasIsoWeeks`
+    //!
+    //! The year has so many weeks: some day is in the last of them, and no day is in a later week of the year. Examples: 2004: 53; 2005: 52; 2020: 53.
+    //!
+    //! ```text
+    //! pub record HasIsoWeeks (year : ℤ) (weeks : ℕ) : Type 0 where
+    //!   pub day : ℤ
+    //!   pub in_last : IsInIsoWeek day year weeks
+    //!   pub no_later : (other : ℤ) (week : ℕ) → IsInIsoWeek other year week → week ≤ weeks
+    //! ```
+    //!
+    //! ## `is_multiple`
+    //!
+    //! The number divides the year, by the remainder of its magnitude. Examples: -4 and 4: true; 0 and 400: true; 1900 and 400: false.
+    //!
+    //! ```text
+    //! unfoldable pub is_multiple : ℤ → ℕ → Bool
+    //! is_multiple year number = nat_eq (unsigned_abs year % number) 0
+    //! ```
+    //!
+    //! ## `is_leap_year`
+    //!
+    //! The year has a 29 February: it is each fourth year but no hundredth, unless it is a four hundredth. Examples: 2000: true; 1900: false; -4: true.
+    //!
+    //! ```text
+    //! unfoldable pub is_leap_year : ℤ → Bool
+    //! is_leap_year year = is_multiple year 4 && (not (is_multiple year 100) || is_multiple year 400)
+    //! ```
+    //!
+    //! ## `month_lengths`
+    //!
+    //! These are the lengths of the months, from January on, in a leap year or in another. Examples: in a leap year 31, 29, 31 and so on; in another 31, 28, 31 and so on.
+    //!
+    //! ```text
+    //! abbrev pub month_lengths : Bool → List ℕ
+    //! month_lengths leap = 31 ∷ (if leap then 29 else 28) ∷ 31 ∷ 30 ∷ 31 ∷ 30 ∷ 31 ∷ 31 ∷ 30 ∷ 31 ∷ 30 ∷ 31 ∷ []
+    //! ```
+    //!
+    //! ## `months_of`
+    //!
+    //! These are the lengths of the months of the year. Examples: 2000: 31, 29, 31 and so on; 1900: 31, 28, 31 and so on.
+    //!
+    //! ```text
+    //! abbrev pub months_of : ℤ → List ℕ
+    //! months_of year = month_lengths (is_leap_year year)
+    //! ```
+    //!
+    //! ## `days_in_month`
+    //!
+    //! This is the length of the month. Examples: 2000 and 2: 29; 1900 and 2: 28; 2000 and 3: 31.
+    //!
+    //! ```text
+    //! abbrev pub days_in_month : ℤ → ℕ → ℕ
+    //! days_in_month year month = slice_index (months_of year) (month - 1)
+    //! ```
+    //!
+    //! ## `days_before_month`
+    //!
+    //! These are the lengths of all earlier months of the year, added. Examples: 2000 and 2: 31; 2000 and 3: 60; 1900 and 3: 59.
+    //!
+    //! ```text
+    //! abbrev pub days_before_month : ℤ → ℕ → ℕ
+    //! days_before_month year month = sum (take (month - 1) (months_of year))
+    //! ```
+    //!
+    //! ## `IsDate`
+    //!
+    //! The month is from 1 to 12, and the day from 1 to the length of the month. Examples: 2000, 2, 29; not 1900, 2, 29; not 2000, 0, 1.
+    //!
+    //! ```text
+    //! pub record IsDate (year : ℤ) (month day : ℕ) : Type 0 where
+    //!   pub month_from_one : 1 ≤ month
+    //!   pub month_to_twelve : month ≤ 12
+    //!   pub day_from_one : 1 ≤ day
+    //!   pub day_to_last : day ≤ days_in_month year month
+    //! ```
+    //!
     //! ## `month_number`
     //!
-    //! the month, counted from January of year 0
+    //! This is the number of the month, counted from January of year 0. Examples: 0 and 1: 0; 2000 and 2: 24001; -1 and 12: -1.
     //!
     //! ```text
     //! abbrev pub month_number : ℤ → ℕ → ℤ
     //! month_number year month = pos 12 *ℤ year +ℤ pos month -ℤ pos 1
     //! ```
     //!
-    //! ## `IsMonthsAfter`
-    //!
-    //! the date lies in the month that is `months` after that of another, on the same day of the month, or on the last where there is no such day
-    //!
-    //! ```text
-    //! pub record IsMonthsAfter (from : Date) (months : ℤ) (date : Date) : Type 0 where
-    //!   pub month_is : month_number date.year date.month ≡ month_number from.year from.month +ℤ months
-    //!   pub day_is : date.day_of_month ≡ min from.day_of_month (days_in_month date.year date.month)
-    //! ```
-    //!
-    //! ## `IsNthWeekday`
-    //!
-    //! the date is the n-th day of the month that has the day of the week, counted from 1
-    //!
-    //! ```text
-    //! pub record IsNthWeekday (year : ℤ) (month : ℕ) (weekday : Weekday) (n : ℕ) (date : Date) : Type 0 where
-    //!   pub year_is : date.year ≡ year
-    //!   pub month_is : date.month ≡ month
-    //!   pub has_weekday : HasWeekday (number_of date) weekday
-    //!   pub after_weeks : 7 * n < date.day_of_month + 7
-    //!   pub within_weeks : date.day_of_month ≤ 7 * n
-    //! ```
-    //!
     //! ## `padded`
     //!
-    //! the digits of a number, after zeros up to `places` digits
+    //! These are the decimal digits of the number, with zeros in front up to `places` digits. Examples: 4 and 7: `0007`; 2 and 11: `11`; 4 and 12345: `12345`.
     //!
     //! ```text
     //! abbrev pub padded : ℕ → ℕ → List ℕ
@@ -1285,7 +1520,7 @@ pub mod calendar {
     //!
     //! ## `year_text`
     //!
-    //! at least four digits, after a minus below 0 and a plus above 9999
+    //! This is the magnitude of the year with at least four digits, after a minus below 0 and a plus above 9999. Examples: 2026: `2026`; -1: `-0001`; 10000: `+10000`.
     //!
     //! ```text
     //! unfoldable pub year_text : ℤ → List ℕ
@@ -1295,7 +1530,7 @@ pub mod calendar {
     //!
     //! ## `with_number`
     //!
-    //! a text, and then a number of two digits after a hyphen
+    //! This is the text, then a hyphen, and the number with at least two digits. Examples: `2026` and 9: `2026-09`; `2026-09` and 31: `2026-09-31`; an empty text and 7: `-07`.
     //!
     //! ```text
     //! abbrev pub with_number : List ℕ → ℕ → List ℕ
@@ -1304,16 +1539,25 @@ pub mod calendar {
     //!
     //! ## `text_of`
     //!
-    //! year, month and day
+    //! This is the text of the year, then that of the month and the day. Examples: `2026-11-23`; `-0001-12-31`; `+10000-01-01`.
     //!
     //! ```text
     //! abbrev pub text_of : Date → List ℕ
     //! text_of date = with_number (with_number (year_text date.year) date.month) date.day_of_month
     //! ```
     //!
+    //! ## `error_text`
+    //!
+    //! This is the text of the error of a text that no date has. Examples: the only one is `not the text of a date`.
+    //!
+    //! ```text
+    //! abbrev pub error_text : List ℕ
+    //! error_text = codes "not the text of a date"
+    //! ```
+    //!
     //! ## `weekday_number`
     //!
-    //! Sunday is 0, and Saturday 6
+    //! These are the days from a Sunday to the day of the week. Examples: Sunday: 0; Thursday: 4; Saturday: 6.
     //!
     //! ```text
     //! abbrev pub weekday_number : Weekday → ℕ
@@ -1326,9 +1570,18 @@ pub mod calendar {
     //! weekday_number Saturday = 6
     //! ```
     //!
+    //! ## `iso_number`
+    //!
+    //! This is the number of the day of the week by ISO 8601: the days from a Monday, and 1 more. Examples: Monday: 1; Thursday: 4; Sunday: 7.
+    //!
+    //! ```text
+    //! abbrev pub iso_number : Weekday → ℕ
+    //! iso_number weekday = (weekday_number weekday + 6) % 7 + 1
+    //! ```
+    //!
     //! ## `HasWeekday`
     //!
-    //! the day has this day of the week
+    //! The floored remainder of the day and 4 by 7 is the number of the day of the week: day 0 is a Thursday. Examples: 0: Thursday; 3: Sunday; -4: Sunday.
     //!
     //! ```text
     //! pub record HasWeekday (day : ℤ) (weekday : Weekday) : Type 0 where
@@ -1337,87 +1590,44 @@ pub mod calendar {
     //!
     //! ## `IsFirstWeekday`
     //!
-    //! and is the first that has it from there on
+    //! The day is the least from `from` on that has the day of the week. Examples: Sunday: from 0: 3; from 3: 3; from 4: 10.
     //!
     //! ```text
-    //! pub record IsFirstWeekday (from : ℤ) (weekday : Weekday) (day : ℤ) : Type 0 where
-    //!   pub from_there : from ≤ℤ day
+    //! abbrev pub IsFirstWeekday : ℤ → Weekday → ℤ → Type 0
+    //! IsFirstWeekday from weekday day = IsLeastFrom from (λ day. HasWeekday day weekday) day
+    //! ```
+    //!
+    //! ## `IsWeekdayTo`
+    //!
+    //! The day is at most `to`, and has the day of the week. Examples: 4 and Sunday: 3; -4; not 10.
+    //!
+    //! ```text
+    //! pub record IsWeekdayTo (to : ℤ) (weekday : Weekday) (day : ℤ) : Type 0 where
+    //!   pub to_there : day ≤ℤ to
     //!   pub has_weekday : HasWeekday day weekday
-    //!   pub first : (other : ℤ) → from ≤ℤ other → HasWeekday other weekday → day ≤ℤ other
     //! ```
     //!
-    //! ## `is_multiple`
+    //! ## `IsLastWeekday`
     //!
-    //! whether the year is a multiple of the number
-    //!
-    //! ```text
-    //! unfoldable pub is_multiple : ℤ → ℕ → Bool
-    //! is_multiple year number = nat_eq (unsigned_abs year % number) 0
-    //! ```
-    //!
-    //! ## `is_leap_year`
-    //!
-    //! whether the year has a 29 February: each fourth year but no hundredth, unless it is a four hundredth
+    //! The day is the greatest up to `to` that has the day of the week. Examples: Sunday: to 4: 3; to 3: 3; to 2: -4.
     //!
     //! ```text
-    //! unfoldable pub is_leap_year : ℤ → Bool
-    //! is_leap_year year = is_multiple year 4 && (not (is_multiple year 100) || is_multiple year 400)
-    //! ```
-    //!
-    //! ## `month_lengths`
-    //!
-    //! the days of the months, from January on
-    //!
-    //! ```text
-    //! abbrev pub month_lengths : Bool → List ℕ
-    //! month_lengths leap = 31 ∷ (if leap then 29 else 28) ∷ 31 ∷ 30 ∷ 31 ∷ 30 ∷ 31 ∷ 31 ∷ 30 ∷ 31 ∷ 30 ∷ 31 ∷ []
-    //! ```
-    //!
-    //! ## `months_of`
-    //!
-    //! ```text
-    //! abbrev pub months_of : ℤ → List ℕ
-    //! months_of year = month_lengths (is_leap_year year)
-    //! ```
-    //!
-    //! ## `days_in_month`
-    //!
-    //! ```text
-    //! abbrev pub days_in_month : ℤ → ℕ → ℕ
-    //! days_in_month year month = slice_index (months_of year) (month - 1)
-    //! ```
-    //!
-    //! ## `days_before_month`
-    //!
-    //! the days of the year before the month
-    //!
-    //! ```text
-    //! abbrev pub days_before_month : ℤ → ℕ → ℕ
-    //! days_before_month year month = sum (take (month - 1) (months_of year))
+    //! abbrev pub IsLastWeekday : ℤ → Weekday → ℤ → Type 0
+    //! IsLastWeekday to weekday day = IsGreatest (IsWeekdayTo to weekday) day
     //! ```
     //!
     //! ## `days_in_year`
+    //!
+    //! These are the lengths of all months of the year, added. Examples: 2000: 366; 1900: 365; 0: 366.
     //!
     //! ```text
     //! unfoldable pub days_in_year : ℤ → ℕ
     //! days_in_year year = sum (months_of year)
     //! ```
     //!
-    //! ## `IsDate`
-    //!
-    //! the year has the month, and the month the day
-    //!
-    //! ```text
-    //! pub record IsDate (year : ℤ) (month day : ℕ) : Type 0 where
-    //!   pub month_from_one : 1 ≤ month
-    //!   pub month_to_twelve : month ≤ 12
-    //!   pub day_from_one : 1 ≤ day
-    //!   pub day_to_last : day ≤ days_in_month year month
-    //! ```
-    //!
     //! ## `days_after`
     //!
-    //! the days of the first n years from year 0 on
+    //! These are the days of the first n years from year 0 on. Examples: 0: 0; 1: 366; 4: 1461.
     //!
     //! ```text
     //! unfoldable pub days_after : ℕ → ℕ
@@ -1427,7 +1637,7 @@ pub mod calendar {
     //!
     //! ## `days_before`
     //!
-    //! and those of the last n years before it
+    //! These are the days of the last n years before year 0. Examples: 0: 0; 1: 365; 4: 1461.
     //!
     //! ```text
     //! unfoldable pub days_before : ℕ → ℕ
@@ -1437,7 +1647,7 @@ pub mod calendar {
     //!
     //! ## `beginning`
     //!
-    //! the day on which a year begins, counted from that of year 0
+    //! This is the day on which the year begins, counted from the beginning of year 0. Examples: 0: 0; 1970: 719528; 2000: 730485.
     //!
     //! ```text
     //! abbrev pub beginning : ℤ → ℤ
@@ -1447,16 +1657,26 @@ pub mod calendar {
     //!
     //! ## `first_day`
     //!
-    //! the first day of a year
+    //! This is the first day of the year. Examples: 1970: 0; 0: -719528; 2000: 10957.
     //!
     //! ```text
     //! abbrev pub first_day : ℤ → ℤ
     //! first_day year = beginning year -ℤ beginning (pos 1970)
     //! ```
     //!
+    //! ## `HasDay`
+    //!
+    //! The day is from the first day of the year to before that of the next. Examples: 1970: 0 and 364; 1969: -1; not 1970: 365.
+    //!
+    //! ```text
+    //! pub record HasDay (year day : ℤ) : Type 0 where
+    //!   pub from : first_day year ≤ℤ day
+    //!   pub before : day <ℤ first_day (year +ℤ pos 1)
+    //! ```
+    //!
     //! ## `day_number`
     //!
-    //! the day of a year, a month and a day of the month
+    //! This is the day of a year, a month and a day of the month. Examples: 1970, 1, 1: 0; 2000, 2, 29: 11016; 1969, 12, 31: -1.
     //!
     //! ```text
     //! abbrev pub day_number : ℤ → ℕ → ℕ → ℤ
@@ -1491,13 +1711,50 @@ pub mod uses {
     //!
     //! ## `IsPlace`
     //!
-    //! the item lies at this place of this page, all counted from 0
+    //! The item lies at this place of this page, all counted from 0. With pages of 4 items, item 10 lies at place 2 of page 2, and item -1 at place 3 of page -1.
     //!
     //! ```text
     //! pub record IsPlace (item page_size page place : ℤ) : Type 0 where
     //!   pub equation : item ≡ page *ℤ page_size +ℤ place
     //!   pub from_zero : pos 0 ≤ℤ place
     //!   pub below : place <ℤ page_size
+    //! ```
+    //!
+    //! ## `IsRangeOfPage`
+    //!
+    //! The numbers from first on and before end are exactly the items of 0..items that lie on the page. Both are items where there is none. With pages of 4 items, those of page 2 among 10 items are 8..10, and those of page 3 are 10..10.
+    //!
+    //! ```text
+    //! pub record IsRangeOfPage (page page_size items first end : ℤ) : Type 0 where
+    //!   pub ordered : first ≤ℤ end
+    //!   pub to_items : end ≤ℤ items
+    //!   pub exactly : (item : ℤ) → ((first ≤ℤ item) × (item <ℤ end)) ↔ ((pos 0 ≤ℤ item) × (item <ℤ items) × ((place : ℤ) × IsPlace item page_size page place))
+    //!   pub empty : end ≤ℤ first → first ≡ items
+    //! ```
+    //!
+    //! ## `IsEvenCut`
+    //!
+    //! A function cuts items into parts: it is 0 at 0, items at parts, and the size of each part is (items - part) / parts, rounded up. So no part is larger than the one before it, nor smaller by more than 1. 10 items are cut into 3 parts at 0, 4, 7 and 10.
+    //!
+    //! ```text
+    //! pub record IsEvenCut (parts items : ℤ) (cut : ℤ → ℤ) : Type 0 where
+    //!   pub begins : cut (pos 0) ≡ pos 0
+    //!   pub ends : cut parts ≡ items
+    //!   pub sizes : (part : ℤ) → pos 0 ≤ℤ part → part <ℤ parts → IsQuotient IsCeiled (items -ℤ part) parts (cut (part +ℤ pos 1) -ℤ cut part)
+    //! ```
+    //!
+    //! ## `IsRangeOfPart`
+    //!
+    //! The part begins at first and ends before end, where items are cut evenly into parts. Of 10 items in 3 parts, part 1 is 4..7.
+    //!
+    //! ```text
+    //! pub record IsRangeOfPart (part parts items first end : ℤ) : Type 0 where
+    //!   pub ordered : first ≤ℤ end
+    //!   pub to_items : end ≤ℤ items
+    //!   pub cut : ℤ → ℤ
+    //!   pub even : IsEvenCut parts items cut
+    //!   pub begins : first ≡ cut part
+    //!   pub ends : end ≡ cut (part +ℤ pos 1)
     //! ```
     //!
     //! ## `IsChoice`
@@ -1544,7 +1801,7 @@ pub mod uses {
     //!
     //! ## `IsTime`
     //!
-    //! t is the first time, or some periods after it
+    //! The time t is the first time, or some periods after it. With the first time 3 and the period 6, the times are 3, 9, 15 and so on.
     //!
     //! ```text
     //! pub record IsTime (first period t : ℤ) : Type 0 where
@@ -1554,7 +1811,7 @@ pub mod uses {
     //!
     //! ## `IsMeeting`
     //!
-    //! t is a time of both
+    //! The time t is one of both schedules, whose first times are a and b, and whose periods p and q. From 1 by 4 and from 3 by 6 meet at 9, 21, 33 and so on.
     //!
     //! ```text
     //! pub record IsMeeting (a p b q t : ℤ) : Type 0 where
@@ -1562,26 +1819,13 @@ pub mod uses {
     //!   pub of_second : IsTime b q t
     //! ```
     //!
-    //! ## `IsNextMeeting`
+    //! ## `IsMeetingOfEach`
     //!
-    //! t is the least such time from now on
-    //!
-    //! ```text
-    //! pub record IsNextMeeting (now a p b q t : ℤ) : Type 0 where
-    //!   pub from_now : now ≤ℤ t
-    //!   pub meeting : IsMeeting a p b q t
-    //!   pub least : (u : ℤ) → now ≤ℤ u → IsMeeting a p b q u → t ≤ℤ u
-    //! ```
-    //!
-    //! ## `MatchMeeting`
-    //!
-    //! what holds at each answer
+    //! The time t is one of each schedule of the list, which are pairs of a first time and a period.
     //!
     //! ```text
-    //! abbrev pub MatchMeeting : {T : Type 0} → Meeting T → Type 0 → Type 0 → (T → Type 0) → Type 0
-    //! MatchMeeting Never never too_late at = never
-    //! MatchMeeting TooLate never too_late at = too_late
-    //! MatchMeeting (At t) never too_late at = at t
+    //! abbrev pub IsMeetingOfEach : {X : Type 0} → (X → ℤ) → List (X × X) → ℤ → Type 0
+    //! IsMeetingOfEach value schedules t = All (λ s. IsTime (value s.0) (value s.1) t) schedules
     //! ```
     //!
 }

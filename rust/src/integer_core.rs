@@ -378,7 +378,7 @@ pub trait Integer: Copy + Num + PartialOrd + Ord + Eq {
     }
 }
 
-/// See [`Integer::div_rem`]. `div_rem(-8, 3)` is `(-2, -2)`.
+/// Returns the quotient rounded toward zero, and its remainder. `div_rem(-8, 3)` is `(-2, -2)`.
 ///
 /// # Proved
 ///
@@ -395,7 +395,7 @@ pub fn div_rem<T: Integer>(x: T, y: T) -> (T, T) {
     x.div_rem(&y)
 }
 
-/// See [`Integer::div_floor`]. `div_floor(-8, 3)` is `-3`.
+/// Returns the quotient rounded down. `div_floor(-8, 3)` is `-3`.
 ///
 /// # Proved
 ///
@@ -412,7 +412,7 @@ pub fn div_floor<T: Integer>(x: T, y: T) -> T {
     x.div_floor(&y)
 }
 
-/// See [`Integer::mod_floor`]. `mod_floor(-8, 3)` is `1`.
+/// Returns the remainder of the quotient rounded down. `mod_floor(-8, 3)` is `1`.
 ///
 /// # Proved
 ///
@@ -427,7 +427,7 @@ pub fn mod_floor<T: Integer>(x: T, y: T) -> T {
     x.mod_floor(&y)
 }
 
-/// See [`Integer::div_mod_floor`]. `div_mod_floor(-8, 3)` is `(-3, 1)`.
+/// Returns the quotient rounded down, and its remainder. `div_mod_floor(-8, 3)` is `(-3, 1)`.
 ///
 /// # Proved
 ///
@@ -444,7 +444,7 @@ pub fn div_mod_floor<T: Integer>(x: T, y: T) -> (T, T) {
     x.div_mod_floor(&y)
 }
 
-/// See [`Integer::div_ceil`]. `div_ceil(8, 3)` is `3`.
+/// Returns the quotient rounded up. `div_ceil(8, 3)` is `3`.
 ///
 /// # Proved
 ///
@@ -461,7 +461,7 @@ pub fn div_ceil<T: Integer>(x: T, y: T) -> T {
     x.div_ceil(&y)
 }
 
-/// See [`Integer::gcd`]. `gcd(56, 42)` is `14`.
+/// Returns the greatest common divisor. `gcd(56, 42)` is `14`.
 ///
 /// # Proved
 ///
@@ -477,7 +477,7 @@ pub fn gcd<T: Integer>(x: T, y: T) -> T {
     x.gcd(&y)
 }
 
-/// See [`Integer::lcm`]. `lcm(7, 3)` is `21`.
+/// Returns the least common multiple. `lcm(7, 3)` is `21`.
 ///
 /// # Proved
 ///
@@ -493,7 +493,8 @@ pub fn lcm<T: Integer>(x: T, y: T) -> T {
     x.lcm(&y)
 }
 
-/// See [`Integer::gcd_lcm`]. `gcd_lcm(10, 4)` is `(2, 20)`.
+/// Returns the greatest common divisor and the least common multiple. `gcd_lcm(10, 4)` is
+/// `(2, 20)`.
 ///
 /// # Proved
 ///

@@ -11,13 +11,15 @@ mod products;
 mod representatives;
 mod residue_classes;
 mod residues;
+mod several_congruences;
 mod wide_powers;
 mod wide_products;
 mod word_powers;
 
-pub use common_solutions::{next_common_solution, CommonSolution};
+pub use common_solutions::{chinese_remainder, next_common_solution, CommonSolution};
 pub use inverses::{inverse_modulo, quotient_modulo};
 pub use powers::power_modulo;
 pub use products::{product_modulo, Modular};
-pub use residue_classes::{chinese_remainder, next_congruent, solutions};
+pub use residue_classes::{count_congruent, next_congruent, previous_congruent, solutions};
 pub use residues::{difference_modulo, negation_modulo, residue, sum_modulo};
+pub use several_congruences::next_common_solution_of;

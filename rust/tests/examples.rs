@@ -327,6 +327,11 @@ mod calendar {
     }
 
     #[test]
+    fn days_in_year_example() {
+        assert_eq!(days_in_year(1900), 365);
+    }
+
+    #[test]
     fn easter_example() {
         assert_eq!(Some(easter(2024)), Date::new(2024, 3, 31));
     }
@@ -344,6 +349,11 @@ mod calendar {
     #[test]
     fn from_day_example() {
         assert_eq!(Some(Date::from_day(-1)), Date::new(1969, 12, 31));
+    }
+
+    #[test]
+    fn from_iso_number_example() {
+        assert_eq!(Weekday::from_iso_number(7), Some(Weekday::Sunday));
     }
 
     #[test]
@@ -365,6 +375,29 @@ mod calendar {
     }
 
     #[test]
+    fn iso_number_example() {
+        assert_eq!(Weekday::Sunday.iso_number(), 7);
+    }
+
+    #[test]
+    fn last_weekday_of_month_example() {
+        assert_eq!(
+            last_weekday_of_month(2026, 10, Weekday::Friday),
+            Date::new(2026, 10, 30)
+        );
+    }
+
+    #[test]
+    fn last_weekday_on_or_before_1() {
+        assert_eq!(last_weekday_on_or_before(4, Weekday::Sunday), Some(3));
+    }
+
+    #[test]
+    fn last_weekday_on_or_before_2() {
+        assert_eq!(last_weekday_on_or_before(3, Weekday::Sunday), Some(3));
+    }
+
+    #[test]
     fn new_example() {
         assert_eq!(Date::new(1900, 2, 29), None);
     }
@@ -380,6 +413,11 @@ mod calendar {
     #[test]
     fn weekday_of_example() {
         assert_eq!(weekday_of(-1), Weekday::Wednesday);
+    }
+
+    #[test]
+    fn weeks_in_year_example() {
+        assert_eq!(weeks_in_year(2004), 53);
     }
 }
 
@@ -560,6 +598,19 @@ mod checked {
     }
 
     #[test]
+    fn product_div_mod_floor_1() {
+        assert_eq!(
+            product_div_mod_floor(i64::MAX, 2, 3),
+            Some((6148914691236517204, 2))
+        );
+    }
+
+    #[test]
+    fn product_div_mod_floor_2() {
+        assert_eq!(product_div_mod_floor(i64::MAX, 3, 2), None);
+    }
+
+    #[test]
     fn row_1() {
         assert_eq!(row(10u8).is_some(), true);
     }
@@ -645,6 +696,11 @@ mod modular {
     }
 
     #[test]
+    fn count_congruent_example() {
+        assert_eq!(count_congruent(1, 10, 1, 4), Some(3));
+    }
+
+    #[test]
     fn difference_modulo_example() {
         assert_eq!(difference_modulo(2, 5, 7), 4);
     }
@@ -675,6 +731,14 @@ mod modular {
     }
 
     #[test]
+    fn next_common_solution_of_example() {
+        assert_eq!(
+            next_common_solution_of(10, &[(1, 4), (3, 6), (0, 7)]),
+            CommonSolution::At(21)
+        );
+    }
+
+    #[test]
     fn next_congruent_example() {
         assert_eq!(next_congruent(10, 1, 4), Some(13));
     }
@@ -692,6 +756,11 @@ mod modular {
     #[test]
     fn power_modulo_counted_2() {
         assert_eq!(3.power_modulo_counted(0, &7), (1, 0));
+    }
+
+    #[test]
+    fn previous_congruent_example() {
+        assert_eq!(previous_congruent(10, 1, 4), Some(9));
     }
 
     #[test]
@@ -938,6 +1007,31 @@ mod uses_paging {
     fn place_of_2() {
         assert_eq!(place_of(-1, 4), (-1, 3));
     }
+
+    #[test]
+    fn range_of_page_1() {
+        assert_eq!(range_of_page(2, 4, 10), (8, 10));
+    }
+
+    #[test]
+    fn range_of_page_2() {
+        assert_eq!(range_of_page(3, 4, 10), (10, 10));
+    }
+
+    #[test]
+    fn range_of_part_1() {
+        assert_eq!(range_of_part(0, 3, 10), (0, 4));
+    }
+
+    #[test]
+    fn range_of_part_2() {
+        assert_eq!(range_of_part(1, 3, 10), (4, 7));
+    }
+
+    #[test]
+    fn range_of_part_3() {
+        assert_eq!(range_of_part(2, 3, 10), (7, 10));
+    }
 }
 
 mod uses_ranking {
@@ -962,5 +1056,23 @@ mod uses_rolling_hash {
     #[test]
     fn slide_example() {
         assert_eq!(RollingHash::new(10, 97, 2).slide(26, 1, 4), 40);
+    }
+}
+
+mod uses_schedules {
+    use cellarcove::uses::schedules::*;
+    use cellarcove::{Average, ExtendedGcd, Fits, Integer, IterBinomial, NativeInteger, Roots};
+
+    #[test]
+    fn next_meeting_example() {
+        assert_eq!(next_meeting(10, (1, 4), (3, 6)), CommonSolution::At(21));
+    }
+
+    #[test]
+    fn next_meeting_of_example() {
+        assert_eq!(
+            next_meeting_of(10, &[(1, 4), (3, 6), (0, 7)]),
+            CommonSolution::At(21)
+        );
     }
 }

@@ -6,6 +6,8 @@ mod assertions;
 #[cfg(test)]
 mod calls;
 #[cfg(test)]
+mod cookbook;
+#[cfg(test)]
 mod dates;
 #[cfg(test)]
 mod fractions;

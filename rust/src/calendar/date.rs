@@ -1,9 +1,11 @@
 //! Dates and their days.
 
-use crate::calendar::eras::{days_to_month, march_year_of_day, month_and_day};
-use crate::calendar::months::{days_before_month, days_in_month, days_in_year};
-use crate::calendar::years::narrowed;
-use crate::div_mod_floor;
+use crate::calendar::days_in_year;
+use crate::calendar::eras::{
+    days_to_month, era_of_year, eras_in_days, march_year_of_day, parts_from_march,
+};
+use crate::calendar::months::{days_before_month, days_in_month, month_and_day_in_year};
+use crate::calendar::years::{narrowed, year_near};
 
 /// A date of the proleptic Gregorian calendar, in any year of `i64`. The year before year 1 is
 /// year 0. Dates are in the order of their days.
@@ -77,10 +79,10 @@ impl Date {
     /// Words: [`number_of`](crate::definitions::calendar#number_of),
     /// [`IsOnly`](crate::definitions::integer_core#isonly), [how to read it](crate::definitions).
     pub fn from_day(day: i64) -> Date {
-        let (year, days) = march_year_of_day(day);
-        let (month, day_of_month) = month_and_day(days);
+        let (march_year, days) = march_year_of_day(day);
+        let (year, month, day_of_month) = parts_from_march(march_year, days);
         Date {
-            year: if days < 306 { year } else { year + 1 },
+            year,
             month,
             day_of_month,
         }
@@ -221,9 +223,9 @@ impl Date {
     /// Words: [`number_of`](crate::definitions::calendar#number_of), [how to read it](crate::definitions).
     pub fn plus_days(&self, days: i64) -> Option<Date> {
         let (era, day) = self.day_of_era();
-        let (eras, rest) = div_mod_floor(days, 146097);
+        let (eras, rest) = eras_in_days(days);
         // 1970-01-01 is day 865566 of era 0.
-        Date::from_day(i64::from(day) + rest - 865566).eras_later(era + eras)
+        Date::from_day(i64::from(day + rest) - 865566).eras_later(era + eras)
     }
 
     /// Returns the date `eras` times 400 years after this one, or `None` where its year does not fit.
@@ -244,25 +246,25 @@ impl Date {
     /// Returns the era of the year of the date, and the day of the date counted from 1 March of the year
     /// 400 years before the era, which is 1.
     pub(crate) fn day_of_era(&self) -> (i64, u32) {
-        let (era, year) = div_mod_floor(self.year, 400);
-        let month = days_to_month(year as u32, self.month);
+        let (era, year) = era_of_year(self.year);
+        let month = days_to_month(year, self.month);
         (era, month + u32::from(self.day_of_month))
     }
 
     /// Returns the date in a year that has `days` days of the year before it.
     pub(crate) fn in_year(year: i64, days: u16) -> Date {
-        // 1 January is 306 days after the last 1 March.
-        let march = days_before_month(year, 3);
-        let from_march = if days < march {
-            days + 306
-        } else {
-            days - march
-        };
-        let (month, day_of_month) = month_and_day(u32::from(from_march));
+        let (month, day_of_month) = month_and_day_in_year(year, days);
         Date {
             year,
             month,
             day_of_month,
         }
+    }
+
+    /// Returns the date `days` days after 1 January of a year, or `None` where its year is beyond `i64`.
+    /// It is in the year or in the one before or after it.
+    pub(crate) fn near(year: i64, days: i64) -> Option<Date> {
+        let (year, days) = year_near(year, days)?;
+        Some(Date::in_year(year, days))
     }
 }

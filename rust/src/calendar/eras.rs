@@ -3,6 +3,18 @@
 
 use crate::div_mod_floor;
 
+/// Returns the era of a year, and the number of years of the era before it.
+pub(crate) fn era_of_year(year: i64) -> (i64, u32) {
+    let (era, place) = div_mod_floor(year, 400);
+    (era, place as u32)
+}
+
+/// Returns the number of whole eras in so many days, rounded down, and the number of days that are left.
+pub(crate) fn eras_in_days(days: i64) -> (i64, u32) {
+    let (eras, rest) = div_mod_floor(days, 146097);
+    (eras, rest as u32)
+}
+
 /// Returns the number of days from 1 March of the year 400 years before an era to the first of a month
 /// of a year of the era.
 pub(crate) fn days_to_month(year: u32, month: u8) -> u32 {
@@ -37,12 +49,22 @@ pub(crate) fn month_and_day(days: u32) -> (u8, u8) {
     )
 }
 
+/// Returns the year, the month and the day of the month of the day `days` days after 1 March of a year.
+pub(crate) fn parts_from_march(year: i64, days: u32) -> (i64, u8, u8) {
+    let (month, day_of_month) = month_and_day(days);
+    (
+        if days < 306 { year } else { year + 1 },
+        month,
+        day_of_month,
+    )
+}
+
 /// Returns the year that has the day between its 1 March and the next, and the number of days from the
 /// first of the two.
 pub(crate) fn march_year_of_day(day: i64) -> (i64, u32) {
-    let (era, days) = div_mod_floor(day, 146097);
+    let (era, days) = eras_in_days(day);
     // 1970-01-01, which is day 0, is 135080 days after 1600-03-01.
-    let (years, rest) = march_year(days as u32 + 135080);
+    let (years, rest) = march_year(days + 135080);
     (400 * era + (i64::from(years) + 1600), rest)
 }
 

@@ -1,6 +1,5 @@
 //! The date of Easter.
 
-use crate::calendar::weeks::days_after_sunday;
 use crate::calendar::Date;
 use crate::{div_floor, mod_floor};
 
@@ -43,7 +42,7 @@ fn day_from_march(year: i64, day: u8) -> Date {
 
 /// Returns the number of days from the date to the next Sunday. It is 7 on a Sunday.
 fn days_to_next_sunday(date: &Date) -> u8 {
-    7 - days_after_sunday(date.weekday())
+    7 - date.weekday().days_after_sunday()
 }
 
 /// Returns the day of the Paschal full moon, counted from 1 March.

@@ -1,11 +1,8 @@
 //! The weeks of ISO 8601, from Monday to Sunday.
 
-use crate::calendar::eras::days_to_month;
-use crate::calendar::months::days_in_year;
-use crate::calendar::weekday::weekday_after_sunday;
-use crate::calendar::weeks::days_after_sunday;
+use crate::calendar::eras::{days_to_month, era_of_year};
+use crate::calendar::years::{is_in_year, year_near};
 use crate::calendar::{Date, Weekday};
-use crate::mod_floor;
 
 /// A week of ISO 8601, from Monday to Sunday. Its year is the one that has its Thursday, and week 1
 /// has the first Thursday of the year. Weeks are in the order of their days.
@@ -16,22 +13,6 @@ pub struct IsoWeek {
 }
 
 impl Date {
-    /// Returns the day of the week of the date. That of 2000-02-29 is `Tuesday`.
-    ///
-    /// # Proved
-    ///
-    /// ```text
-    /// ensures { HasWeekday (number_of self.now) result }
-    /// ```
-    ///
-    /// Words: [`HasWeekday`](crate::definitions::calendar#hasweekday),
-    /// [`number_of`](crate::definitions::calendar#number_of), [how to read it](crate::definitions).
-    pub fn weekday(&self) -> Weekday {
-        // Eras are whole weeks, and day 0 of each is a Tuesday.
-        let (_, day) = self.day_of_era();
-        weekday_after_sunday(day + 2)
-    }
-
     /// Returns the week of ISO 8601 that has the date, or `None` where its year is beyond `i64`. That
     /// of 2005-01-01 is week 53 of 2004.
     ///
@@ -72,10 +53,30 @@ impl Date {
     pub fn from_iso_week(year: i64, week: u8, weekday: Weekday) -> Option<Date> {
         let thursday = thursday_of_iso_week(year, week);
         if is_in_year(year, thursday) {
-            date_near(year, day_of_week(thursday, weekday))
+            Date::near(year, day_of_week(thursday, weekday))
         } else {
             None
         }
+    }
+}
+
+/// Returns how many weeks of ISO 8601 the year has, 52 or 53. `weeks_in_year(2004)` is `53`.
+///
+/// # Proved
+///
+/// ```text
+/// ensures weeks { HasIsoWeeks year result }
+/// ensures from_52 { 52 ≤ result }
+/// ensures to_53 { result ≤ 53 }
+/// ```
+///
+/// Words: [`HasIsoWeeks`](crate::definitions::calendar#hasisoweeks),
+/// [how to read it](crate::definitions).
+pub fn weeks_in_year(year: i64) -> u8 {
+    if is_in_year(year, thursday_of_iso_week(year, 53)) {
+        53
+    } else {
+        52
     }
 }
 
@@ -100,47 +101,17 @@ fn thursday_of_iso_week(year: i64, week: u8) -> i64 {
 /// Returns the number of days from 1 January to the first Thursday of the year. Day 0 is a Thursday.
 fn first_thursday(year: i64) -> i64 {
     // 1 March of the first year of an era is a Wednesday.
-    let january = days_to_month(mod_floor(year, 400) as u32, 1);
+    let (_, place) = era_of_year(year);
+    let january = days_to_month(place, 1);
     6 - i64::from((january + 5) % 7)
 }
 
 /// Returns the number of days from a Monday to the day of the week.
 fn days_after_monday(weekday: Weekday) -> i64 {
-    i64::from((days_after_sunday(weekday) + 6) % 7)
+    i64::from((weekday.days_after_sunday() + 6) % 7)
 }
 
 /// Returns the day of the week that has the Thursday.
 fn day_of_week(thursday: i64, weekday: Weekday) -> i64 {
     thursday - 3 + days_after_monday(weekday)
-}
-
-/// Returns the number of days of the year.
-fn length_of(year: i64) -> i64 {
-    i64::from(days_in_year(year))
-}
-
-/// Returns `true` if the day `days` days after 1 January of the year is in the year.
-fn is_in_year(year: i64, days: i64) -> bool {
-    0 <= days && (days < 365 || days < length_of(year))
-}
-
-/// Returns the date `days` days after 1 January of a year, or `None` where its year is beyond `i64`.
-/// It is in the year or in the one before or after it.
-fn date_near(year: i64, days: i64) -> Option<Date> {
-    let (year, days) = year_near(year, days)?;
-    Some(Date::in_year(year, days))
-}
-
-/// Returns the year of the day `days` days after 1 January of a year, and how many days of that year
-/// lie before the day, or `None` where it is beyond `i64`.
-fn year_near(year: i64, days: i64) -> Option<(i64, u16)> {
-    if is_in_year(year, days) {
-        Some((year, days as u16))
-    } else if days < 0 {
-        let before = year.checked_sub(1)?;
-        Some((before, (days + length_of(before)) as u16))
-    } else {
-        let after = year.checked_add(1)?;
-        Some((after, (days - length_of(year)) as u16))
-    }
 }

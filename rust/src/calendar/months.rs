@@ -1,7 +1,7 @@
-//! The lengths of months.
+//! Months: their lengths, and their days in a year.
 
-use crate::calendar::eras::days_of_months;
-use crate::calendar::is_leap_year;
+use crate::calendar::eras::{days_of_months, month_and_day};
+use crate::calendar::{days_in_year, is_leap_year};
 
 /// Returns how many days the month has, where January is 1. `days_in_month(1900, 2)` is `28`.
 ///
@@ -30,15 +30,6 @@ pub fn days_in_month(year: i64, month: u8) -> u8 {
     }
 }
 
-/// Returns how many days the year has.
-pub(crate) fn days_in_year(year: i64) -> u16 {
-    if is_leap_year(year) {
-        366
-    } else {
-        365
-    }
-}
-
 /// Returns how many days of the year lie before the month.
 pub(crate) fn days_before_month(year: i64, month: u8) -> u16 {
     if month <= 2 {
@@ -47,4 +38,16 @@ pub(crate) fn days_before_month(year: i64, month: u8) -> u16 {
         // From 1 March on each year has 306 days.
         days_in_year(year) - 306 + days_of_months(month) as u16
     }
+}
+
+/// Returns the month and the day of the month of the day that has `days` days of the year before it.
+pub(crate) fn month_and_day_in_year(year: i64, days: u16) -> (u8, u8) {
+    // 1 January is 306 days after the last 1 March.
+    let march = days_before_month(year, 3);
+    let from_march = if days < march {
+        days + 306
+    } else {
+        days - march
+    };
+    month_and_day(u32::from(from_march))
 }

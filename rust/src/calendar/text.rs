@@ -1,12 +1,28 @@
 //! How a date is written and read: ISO 8601.
 
 use crate::calendar::Date;
+use core::error::Error;
 use core::fmt;
 use core::str::FromStr;
 
 /// A text that is not the text of a date.
 #[derive(Debug, Clone, Copy, PartialEq, Eq)]
 pub struct DateError;
+
+/// # Proved
+///
+/// ```text
+/// ghost output = { λ _. Some error_text }
+/// ```
+///
+/// Words: [`error_text`](crate::definitions::calendar#error_text), [how to read it](crate::definitions).
+impl fmt::Display for DateError {
+    fn fmt(&self, f: &mut fmt::Formatter<'_>) -> fmt::Result {
+        f.write_str("not the text of a date")
+    }
+}
+
+impl Error for DateError {}
 
 /// # Proved
 ///

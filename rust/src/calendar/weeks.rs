@@ -1,6 +1,7 @@
-//! Days that have a given day of the week.
+//! Days that have a given day of the week, from another on and in a month.
 
-use crate::calendar::{weekday_of, Weekday};
+use crate::calendar::months::days_in_month;
+use crate::calendar::{weekday_of, Date, Weekday};
 
 /// Returns the first day from `day` on that has the day of the week, counted from 1970-01-01, a
 /// Thursday, or `None` where it is beyond `i64`. `first_weekday_on_or_after(0, Weekday::Sunday)` is
@@ -17,24 +18,73 @@ use crate::calendar::{weekday_of, Weekday};
 /// Words: [`IsFirstWeekday`](crate::definitions::calendar#isfirstweekday),
 /// [how to read it](crate::definitions).
 pub fn first_weekday_on_or_after(day: i64, weekday: Weekday) -> Option<i64> {
-    day.checked_add(i64::from(days_until(day, weekday)))
+    day.checked_add(i64::from(weekday_of(day).days_until(weekday)))
 }
 
-/// Returns the number of days from `day` to the first day, from `day` on, that has this day of the
-/// week.
-pub(crate) fn days_until(day: i64, weekday: Weekday) -> u8 {
-    (days_after_sunday(weekday) + 7 - days_after_sunday(weekday_of(day))) % 7
+/// Returns the last day up to `day` that has the day of the week, counted from 1970-01-01, a
+/// Thursday, or `None` where it is beyond `i64`. `last_weekday_on_or_before(4, Weekday::Sunday)` is
+/// `Some(3)`, and `last_weekday_on_or_before(3, Weekday::Sunday)` is `Some(3)`.
+///
+/// # Proved
+///
+/// ```text
+/// ensures { MatchOption result
+///     ((last : ℤ) → IsLastWeekday day weekday last → ¬ (FitsSigned w64 last))
+///     (λ last. IsLastWeekday day weekday last) }
+/// ```
+///
+/// Words: [`IsLastWeekday`](crate::definitions::calendar#islastweekday),
+/// [how to read it](crate::definitions).
+pub fn last_weekday_on_or_before(day: i64, weekday: Weekday) -> Option<i64> {
+    day.checked_sub(i64::from(weekday.days_until(weekday_of(day))))
 }
 
-/// Returns how many days after a Sunday the day of the week is.
-pub(crate) fn days_after_sunday(weekday: Weekday) -> u8 {
-    match weekday {
-        Weekday::Sunday => 0,
-        Weekday::Monday => 1,
-        Weekday::Tuesday => 2,
-        Weekday::Wednesday => 3,
-        Weekday::Thursday => 4,
-        Weekday::Friday => 5,
-        Weekday::Saturday => 6,
+/// Returns the date of the `n`-th `weekday` of the month, counted from 1, or `None` where there is
+/// none. `nth_weekday_of_month(2026, 11, Weekday::Thursday, 4)` is `Date::new(2026, 11, 26)`.
+///
+/// # Proved
+///
+/// ```text
+/// ensures { MatchOption result
+///     ((date : Date) → ¬ (IsNthWeekday year month weekday n date))
+///     (λ date. IsNthWeekday year month weekday n date) }
+/// ```
+///
+/// Words: [`IsNthWeekday`](crate::definitions::calendar#isnthweekday),
+/// [how to read it](crate::definitions).
+pub fn nth_weekday_of_month(year: i64, month: u8, weekday: Weekday, n: u8) -> Option<Date> {
+    let first = Date::new(year, month, 1)?;
+    if !(1..=5).contains(&n) {
+        return None;
     }
+    let days = 7 * (n - 1) + first.weekday().days_until(weekday);
+    Date::new(year, month, days + 1)
+}
+
+/// Returns the date of the last `weekday` of the month, or `None` where the month is not from 1 to 12.
+/// `last_weekday_of_month(2026, 10, Weekday::Friday)` is `Date::new(2026, 10, 30)`.
+///
+/// # Proved
+///
+/// ```text
+/// ensures { MatchOption result (¬ ((1 ≤ month) × (month ≤ 12)))
+///     (λ date. IsLastWeekdayOfMonth year month weekday date) }
+/// ```
+///
+/// Words: [`IsLastWeekdayOfMonth`](crate::definitions::calendar#islastweekdayofmonth),
+/// [how to read it](crate::definitions).
+pub fn last_weekday_of_month(year: i64, month: u8, weekday: Weekday) -> Option<Date> {
+    if !(1..=12).contains(&month) {
+        return None;
+    }
+    let last = Date {
+        year,
+        month,
+        day_of_month: days_in_month(year, month),
+    };
+    Some(Date {
+        year,
+        month,
+        day_of_month: last.day_of_month - weekday.days_until(last.weekday()),
+    })
 }

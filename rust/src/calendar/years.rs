@@ -1,4 +1,4 @@
-//! Leap years, and years and days as numbers of `i64`.
+//! Years: leap years, their lengths, and the year of a day.
 
 use crate::Integer;
 
@@ -24,6 +24,48 @@ pub fn is_leap_year(year: i64) -> bool {
 /// Returns `true` if the year is a multiple of the number.
 fn is_multiple(year: i64, number: u16) -> bool {
     year.is_multiple_of(&i64::from(number))
+}
+
+/// Returns how many days the year has. `days_in_year(1900)` is `365`.
+///
+/// # Proved
+///
+/// ```text
+/// ensures { result ≡ days_in_year year }
+/// ```
+///
+/// Words: [`days_in_year`](crate::definitions::calendar#days_in_year),
+/// [how to read it](crate::definitions).
+pub fn days_in_year(year: i64) -> u16 {
+    if is_leap_year(year) {
+        366
+    } else {
+        365
+    }
+}
+
+/// Returns the number of days of the year.
+fn length_of(year: i64) -> i64 {
+    i64::from(days_in_year(year))
+}
+
+/// Returns `true` if the day `days` days after 1 January of the year is in the year.
+pub(crate) fn is_in_year(year: i64, days: i64) -> bool {
+    0 <= days && (days < 365 || days < length_of(year))
+}
+
+/// Returns the year of the day `days` days after 1 January of a year, and how many days of that year
+/// lie before the day, or `None` where it is beyond `i64`.
+pub(crate) fn year_near(year: i64, days: i64) -> Option<(i64, u16)> {
+    if is_in_year(year, days) {
+        Some((year, days as u16))
+    } else if days < 0 {
+        let before = year.checked_sub(1)?;
+        Some((before, (days + length_of(before)) as u16))
+    } else {
+        let after = year.checked_add(1)?;
+        Some((after, (days - length_of(year)) as u16))
+    }
 }
 
 /// Returns the number as an `i64`, or `None` where it does not fit.

@@ -1,8 +1,8 @@
 //! Division, without a condition.
 
-use crate::checked::operators::{difference, sum};
+use crate::checked::operators::moved_fits;
 use crate::domains::Fits;
-use crate::integer_core::operators::{self, is_zero};
+use crate::integer_core::operators::{difference, is_negative, is_zero, sum};
 
 /// Returns [`Integer::div_rem`](crate::Integer::div_rem), the quotient rounded toward zero and its remainder, or `None` for a
 /// divisor 0 and for the least number by -1 where its negation does not fit. `div_rem(-8, 3)` is
@@ -145,9 +145,13 @@ pub fn div_ceil<T: Fits>(x: T, y: T) -> Option<T> {
 pub fn next_multiple_of<T: Fits>(x: T, y: T) -> Option<T> {
     let remainder = mod_floor(x, y)?;
     if is_zero(remainder) {
-        Some(x)
+        return Some(x);
+    }
+    let gap = difference(y, remainder);
+    if moved_fits(x, is_negative(y), gap) {
+        Some(sum(x, gap))
     } else {
-        sum(x, operators::difference(y, remainder))
+        None
     }
 }
 
@@ -168,5 +172,10 @@ pub fn next_multiple_of<T: Fits>(x: T, y: T) -> Option<T> {
 /// [`IsMultiple`](crate::definitions::integer_core#ismultiple),
 /// [`IsFloored`](crate::definitions::integer_core#isfloored), [how to read it](crate::definitions).
 pub fn prev_multiple_of<T: Fits>(x: T, y: T) -> Option<T> {
-    difference(x, mod_floor(x, y)?)
+    let remainder = mod_floor(x, y)?;
+    if moved_fits(x, !is_negative(y), remainder) {
+        Some(difference(x, remainder))
+    } else {
+        None
+    }
 }

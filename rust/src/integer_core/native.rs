@@ -1,23 +1,8 @@
 //! What the native integer types share.
 
 use crate::integer_core::operators::{difference, is_negative, is_zero, successor, zero};
-use num_traits::{AsPrimitive, Bounded, Num, NumCast, ToPrimitive};
-
-/// A type of magnitudes, with what is computed of two numbers above 0.
-pub trait Magnitude: Copy + ToPrimitive {
-    /// Returns the number after this.
-    fn following(self) -> Self;
-
-    /// Returns the greatest common divisor, and the turns of the loop.
-    fn positive_gcd(a: Self, b: Self) -> (Self, u32);
-
-    /// Returns the greatest common divisor where one of the two is a power of two: the power of two
-    /// that both share.
-    fn shared_power_of_two(a: Self, b: Self) -> Self;
-
-    /// Returns the least common multiple.
-    fn positive_lcm(a: Self, b: Self) -> Self;
-}
+use crate::integer_core::stein::Magnitude;
+use num_traits::{AsPrimitive, Bounded, Num, NumCast};
 
 /// A native integer type. No other crate can name this trait.
 pub trait Native: Copy + Num + NumCast + Ord + Bounded + AsPrimitive<Self::Magnitude> {
@@ -26,15 +11,15 @@ pub trait Native: Copy + Num + NumCast + Ord + Bounded + AsPrimitive<Self::Magni
 
     /// Returns `true` if this is -1, the only divisor whose quotient may not fit.
     fn is_minus_one(&self) -> bool {
-        is_negative(*self) && is_zero(beyond(*self))
+        is_negative(*self) && is_zero(distance_below_minus_one(*self))
     }
 
     /// Returns the distance of the number from 0.
     fn magnitude(self) -> Self::Magnitude {
         if is_negative(self) {
-            converted(beyond(self)).following()
+            as_magnitude(distance_below_minus_one(self)).successor()
         } else {
-            converted(self)
+            as_magnitude(self)
         }
     }
 
@@ -45,12 +30,12 @@ pub trait Native: Copy + Num + NumCast + Ord + Bounded + AsPrimitive<Self::Magni
 }
 
 /// Returns the distance of a negative number from -1.
-fn beyond<T: Native>(x: T) -> T {
+fn distance_below_minus_one<T: Native>(x: T) -> T {
     difference(zero(), successor(x))
 }
 
 /// Returns a number at least 0 as a magnitude.
-fn converted<T: Native>(x: T) -> T::Magnitude {
+fn as_magnitude<T: Native>(x: T) -> T::Magnitude {
     x.as_()
 }
 

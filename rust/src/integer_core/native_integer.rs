@@ -2,7 +2,8 @@
 
 use crate::integer_core::counted::GcdCounted;
 use crate::integer_core::native::Native;
-use crate::integer_core::stein::binary_gcd;
+use crate::integer_core::operators::{is_zero, zero};
+use crate::integer_core::stein::{binary_gcd, Magnitude};
 use crate::integer_core::{division, divisors, Integer};
 use num_traits::PrimInt;
 
@@ -21,7 +22,11 @@ impl<T: Native> Integer for T {
     }
 
     fn mod_floor(&self, other: &T) -> T {
-        division::mod_floor(*self, *other)
+        if other.is_minus_one() {
+            zero()
+        } else {
+            division::div_mod_floor(*self, *other).1
+        }
     }
 
     fn div_mod_floor(&self, other: &T) -> (T, T) {
@@ -41,11 +46,17 @@ impl<T: Native> Integer for T {
     }
 
     fn gcd(&self, other: &T) -> T {
-        divisors::gcd(*self, *other)
+        binary_gcd(*self, *other).0
     }
 
     fn lcm(&self, other: &T) -> T {
-        divisors::lcm(*self, *other)
+        if is_zero(*self) || is_zero(*other) {
+            return zero();
+        }
+        T::from_magnitude(T::Magnitude::positive_lcm(
+            self.magnitude(),
+            other.magnitude(),
+        ))
     }
 }
 

@@ -1,12 +1,12 @@
 //! The greatest common divisor by Stein's binary method (Knuth, The Art of Computer Programming,
 //! volume 2, section 4.5.2, algorithm B).
 
-use crate::integer_core::native::{Magnitude, Native};
+use crate::integer_core::native::Native;
 use crate::integer_core::operators::{
     difference, is_below, is_zero, one, product, quotient, successor,
 };
 use crate::shift::Unsigned;
-use num_traits::{cast, PrimInt};
+use num_traits::{cast, PrimInt, ToPrimitive};
 
 fn is_same<M: PrimInt + Unsigned>(m: M, n: M) -> bool {
     m == n
@@ -60,18 +60,18 @@ fn odd_gcd(a: u64, b: u64) -> (u64, u32) {
 }
 
 /// Returns both numbers at 64 bits, or `None` where one does not fit.
-fn narrowed<M: PrimInt + Unsigned>(m: M, n: M) -> Option<(u64, u64)> {
+fn at_64_bits<M: PrimInt + Unsigned>(m: M, n: M) -> Option<(u64, u64)> {
     Some((m.to_u64()?, n.to_u64()?))
 }
 
-/// Returns a number of 64 bits, which fits.
-fn widened<M: PrimInt + Unsigned>(x: u64) -> M {
+/// Returns a number of 64 bits as a magnitude.
+fn from_64_bits<M: PrimInt + Unsigned>(x: u64) -> M {
     cast::<u64, M>(x).unwrap()
 }
 
 /// Returns `true` if the numbers differ and one of them has more than 64 bits.
 fn differ_beyond_64_bits<M: PrimInt + Unsigned>(m: M, n: M) -> bool {
-    !is_same(m, n) && narrowed(m, n).is_none()
+    !is_same(m, n) && at_64_bits(m, n).is_none()
 }
 
 /// Returns the greatest common divisor of two odd numbers, and the turns of the loop, which goes on at
@@ -83,10 +83,10 @@ fn narrowing_gcd<M: PrimInt + Unsigned>(a: M, b: M) -> (M, u32) {
         (m, n) = next_pair(m, n);
         turns += 1;
     }
-    match narrowed(m, n) {
+    match at_64_bits(m, n) {
         Some((x, y)) => {
             let (gcd, rest) = odd_gcd(x, y);
-            (widened(gcd), turns + rest)
+            (from_64_bits(gcd), turns + rest)
         }
         None => (m, turns),
     }
@@ -111,8 +111,24 @@ fn positive_lcm<M: PrimInt + Unsigned>(a: M, b: M) -> M {
     product(a, quotient(b, positive_gcd(a, b).0))
 }
 
+/// A type of magnitudes, with what is computed of two numbers above 0.
+pub trait Magnitude: Copy + ToPrimitive {
+    /// Returns the next number.
+    fn successor(self) -> Self;
+
+    /// Returns the greatest common divisor, and the turns of the loop.
+    fn positive_gcd(a: Self, b: Self) -> (Self, u32);
+
+    /// Returns the greatest common divisor where one of the two is a power of two: the power of two
+    /// that both share.
+    fn shared_power_of_two(a: Self, b: Self) -> Self;
+
+    /// Returns the least common multiple.
+    fn positive_lcm(a: Self, b: Self) -> Self;
+}
+
 impl Magnitude for u64 {
-    fn following(self) -> u64 {
+    fn successor(self) -> u64 {
         successor(self)
     }
 
@@ -130,7 +146,7 @@ impl Magnitude for u64 {
 }
 
 impl Magnitude for u128 {
-    fn following(self) -> u128 {
+    fn successor(self) -> u128 {
         successor(self)
     }
 

@@ -1,6 +1,6 @@
-//! Averages.
+//! Averages, and those of the twelve native types by the bits of both numbers.
 
-use crate::integer_core::Integer;
+use crate::integer_core::{Integer, NativeInteger};
 
 /// Averages of two integers. They never overflow.
 pub trait Average: Integer {
@@ -57,4 +57,23 @@ pub fn average_floor<T: Average>(x: T, y: T) -> T {
 /// [how to read it](crate::definitions).
 pub fn average_ceil<T: Average>(x: T, y: T) -> T {
     x.average_ceil(&y)
+}
+
+impl<T: NativeInteger> Average for T {
+    fn average_floor(&self, other: &T) -> T {
+        both_averages(*self, *other).0
+    }
+
+    fn average_ceil(&self, other: &T) -> T {
+        both_averages(*self, *other).1
+    }
+}
+
+/// Returns the averages rounded down and up. The first is the bits that both have and half of those
+/// that one alone has; the second is the bits that either has, less that half.
+fn both_averages<T: NativeInteger>(a: T, b: T) -> (T, T) {
+    let both = a & b;
+    let either = a | b;
+    let half = (a ^ b) >> 1;
+    (both + half, either - half)
 }

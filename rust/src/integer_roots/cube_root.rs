@@ -1,6 +1,5 @@
-//! Cube roots: by digits up to 32 bits, by Newton's method above.
+//! Cube roots: by binary digits up to 32 bits, by Newton's method above.
 
-use crate::integer_roots::cube_root_digits::cube_root_by_digits;
 use crate::integer_roots::newton::newton;
 
 /// Returns the cube root of `a`, a number of a type of `bits` bits.
@@ -27,4 +26,24 @@ fn wide_cube_root(a: u64) -> u64 {
 fn cube_root_by_newton(a: u64) -> u64 {
     let step = move |x: u64| -> u64 { (a / (x * x) + 2 * x) / 3 };
     newton(1 << a.ilog2().div_ceil(3), step).0
+}
+
+/// Returns the cube root of `a`, a number of `bits` bits. It computes a digit for each three bits,
+/// the highest first.
+fn cube_root_by_digits(a: u32, bits: u32) -> u32 {
+    let mut rest = a;
+    let mut square = 0;
+    let mut root = 0;
+    for digit in (0..bits / 3 + 1).rev() {
+        let place = 3 * digit;
+        square *= 4;
+        root *= 2;
+        let step = 3 * (square + root) + 1;
+        if rest >> place >= step {
+            rest -= step << place;
+            square += 2 * root + 1;
+            root += 1;
+        }
+    }
+    root
 }

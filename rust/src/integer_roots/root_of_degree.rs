@@ -1,7 +1,6 @@
-//! Roots of any degree from 3 up by Newton's method, at 64 bits.
+//! Roots of any degree from 3 up by Newton's method, and powers by squares, at 64 bits.
 
 use crate::integer_roots::newton::newton;
-use crate::integer_roots::squaring::checked_power;
 
 /// Returns the root of `a` of degree `n`. The first guess is a power of two near the root.
 pub(crate) fn root_of_degree(a: u64, n: u32) -> u64 {
@@ -32,4 +31,22 @@ fn quotient_by_power(a: u64, x: u64, k: u32) -> u64 {
             None => 0,
         }
     }
+}
+
+/// Returns the power of `x` of degree `k`, or `None` where it does not fit.
+fn checked_power(x: u64, k: u32) -> Option<u64> {
+    let (mut power, mut square, mut rest) = (1_u64, x, k);
+    while rest > 1 {
+        if rest % 2 == 1 {
+            power = checked_product(power, square)?;
+        }
+        square = checked_product(square, square)?;
+        rest /= 2;
+    }
+    checked_product(power, square)
+}
+
+/// Returns the product, or `None` where it does not fit.
+fn checked_product(a: u64, b: u64) -> Option<u64> {
+    u64::try_from(u128::from(a) * u128::from(b)).ok()
 }

@@ -1,10 +1,41 @@
-//! The next number that solves two congruences, whether it fits the type or not.
+//! Two congruences at once: the numbers that solve both, and the next one, whether it fits the type or not.
 
 use crate::modular::products::Modular;
-use crate::modular::residue_classes::{next_congruent, solutions};
+use crate::modular::residue_classes::{first_turn, next_congruent, solutions};
 use crate::modular::residues::{difference_modulo, residue};
-use crate::operators::{difference, is_below, is_negative, product, successor, sum};
-use crate::{checked, Fits, Integer};
+use crate::operators::{difference, is_negative, product, successor, sum};
+use crate::{checked, Fits};
+
+/// Returns the numbers that are `a` modulo `m` and `b` modulo `n`, as the first that is at least 0 and
+/// the step from each to the next, or `None` where there is no such number.
+/// `chinese_remainder(1, 4, 3, 6)` is `Some((9, 12))`, and `chinese_remainder(1, 4, 2, 6)` is `None`.
+///
+/// May be called where `m` and `n` are above 0 and their least common multiple fits, which
+/// `Fits::lcm_fits` tests.
+///
+/// # Proved
+///
+/// ```text
+/// requires m_positive { pos 0 <ℤ T.value m }
+/// requires n_positive { pos 0 <ℤ T.value n }
+/// requires lcm_fits { EachFits T.fits (IsLeastCommonMultiple (T.value m) (T.value n)) }
+/// ensures { MatchOption result
+///     ((x : ℤ) → ¬ (SolvesBothCongruences (T.value a) (T.value m) (T.value b) (T.value n) x))
+///     (λ s. T.fits (T.value s.0) × T.fits (T.value s.1)
+///     × IsResidueClass (SolvesBothCongruences (T.value a) (T.value m) (T.value b) (T.value n)) (T.value s.0)
+///     (T.value s.1)) }
+/// ```
+///
+/// Words: [`EachFits`](crate::definitions::integer_core#eachfits),
+/// [`IsLeastCommonMultiple`](crate::definitions::integer_core#isleastcommonmultiple),
+/// [`SolvesBothCongruences`](crate::definitions::modular#solvesbothcongruences),
+/// [`IsResidueClass`](crate::definitions::modular#isresidueclass), [how to read it](crate::definitions).
+pub fn chinese_remainder<T: Modular>(a: T, m: T, b: T, n: T) -> Option<(T, T)> {
+    let start = residue(a, m);
+    let gap = difference_modulo(b, start, n);
+    let (turns, step) = solutions(m, gap, n)?;
+    Some((sum(start, product(m, turns)), product(m, step)))
+}
 
 /// The result of [`next_common_solution`].
 #[derive(Debug, Clone, Copy, PartialEq, Eq)]
@@ -63,16 +94,6 @@ pub fn next_common_solution<T: Modular + Fits>(
 fn next_in_class<T: Fits>(from: T, start: T, m: T, turn: T, step: T) -> Option<T> {
     let turns = next_congruent(first_turn(from, start, m), turn, step)?;
     after_turns(start, m, turns)
-}
-
-/// Returns the least number of turns of `m` that lead from `start` to `from` or beyond.
-fn first_turn<T: Integer>(from: T, start: T, m: T) -> T {
-    let (turn, rest) = from.div_mod_floor(&m);
-    if is_below(start, rest) {
-        successor(turn)
-    } else {
-        turn
-    }
 }
 
 /// Returns `start` plus `turns` times `m`, or `None` where that does not fit.

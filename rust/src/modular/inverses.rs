@@ -1,4 +1,6 @@
 //! Inverses and quotients modulo a number above 0, in types with negative numbers and in those without.
+//! Euclid's loop is one of its own: `extended_gcd` makes signed coefficients, which an unsigned type does
+//! not have, and both of them, where an inverse needs one.
 
 use crate::modular::products::Modular;
 use crate::modular::residues::{negation_modulo, residue};

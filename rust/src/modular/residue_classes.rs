@@ -1,10 +1,11 @@
-//! Linear congruences, one and two at once, and the next congruent number.
+//! The solutions of a linear congruence, and the congruent numbers from another on, up to another and
+//! between two.
 
 use crate::modular::inverses::gcd_modulo;
 use crate::modular::products::Modular;
-use crate::modular::residues::{difference_modulo, residue};
-use crate::operators::{product, quotient, sum};
-use crate::{checked, Fits};
+use crate::modular::residues::{are_congruent, difference_modulo, residue};
+use crate::operators::{is_below, quotient, successor, zero};
+use crate::{checked, Fits, Integer};
 
 /// Returns the numbers x for which `a` times x is `b` modulo `m`, as the first that is at least 0 and
 /// the step from each to the next, or `None` where there is no such number. `solutions(6, 4, 10)` is
@@ -36,37 +37,6 @@ pub fn solutions<T: Modular>(a: T, b: T, m: T) -> Option<(T, T)> {
     Some((first, step))
 }
 
-/// Returns the numbers that are `a` modulo `m` and `b` modulo `n`, as the first that is at least 0 and
-/// the step from each to the next, or `None` where there is no such number.
-/// `chinese_remainder(1, 4, 3, 6)` is `Some((9, 12))`, and `chinese_remainder(1, 4, 2, 6)` is `None`.
-///
-/// May be called where `m` and `n` are above 0 and their least common multiple fits, which
-/// `Fits::lcm_fits` tests.
-///
-/// # Proved
-///
-/// ```text
-/// requires m_positive { pos 0 <ℤ T.value m }
-/// requires n_positive { pos 0 <ℤ T.value n }
-/// requires lcm_fits { EachFits T.fits (IsLeastCommonMultiple (T.value m) (T.value n)) }
-/// ensures { MatchOption result
-///     ((x : ℤ) → ¬ (SolvesBothCongruences (T.value a) (T.value m) (T.value b) (T.value n) x))
-///     (λ s. T.fits (T.value s.0) × T.fits (T.value s.1)
-///     × IsResidueClass (SolvesBothCongruences (T.value a) (T.value m) (T.value b) (T.value n)) (T.value s.0)
-///     (T.value s.1)) }
-/// ```
-///
-/// Words: [`EachFits`](crate::definitions::integer_core#eachfits),
-/// [`IsLeastCommonMultiple`](crate::definitions::integer_core#isleastcommonmultiple),
-/// [`SolvesBothCongruences`](crate::definitions::modular#solvesbothcongruences),
-/// [`IsResidueClass`](crate::definitions::modular#isresidueclass), [how to read it](crate::definitions).
-pub fn chinese_remainder<T: Modular>(a: T, m: T, b: T, n: T) -> Option<(T, T)> {
-    let start = residue(a, m);
-    let gap = difference_modulo(b, start, n);
-    let (turns, step) = solutions(m, gap, n)?;
-    Some((sum(start, product(m, turns)), product(m, step)))
-}
-
 /// Returns the least number from `from` on that is `first` modulo `step`, or `None` where it is beyond
 /// the type. `next_congruent(10, 1, 4)` is `Some(13)`.
 ///
@@ -86,4 +56,67 @@ pub fn chinese_remainder<T: Modular>(a: T, m: T, b: T, n: T) -> Option<(T, T)> {
 /// [how to read it](crate::definitions).
 pub fn next_congruent<T: Fits>(from: T, first: T, step: T) -> Option<T> {
     checked::sum(from, difference_modulo(first, from, step))
+}
+
+/// Returns the greatest number up to `to` that is `first` modulo `step`, or `None` where it is below
+/// the type. `previous_congruent(10, 1, 4)` is `Some(9)`.
+///
+/// May be called where `step` is above 0.
+///
+/// # Proved
+///
+/// ```text
+/// requires positive { pos 0 <ℤ T.value step }
+/// ensures { MatchOption result
+///     ((t : ℤ) × IsPreviousCongruent (T.value to) (T.value first) (T.value step) t
+///     × ¬ (T.fits t))
+///     (λ t. T.fits (T.value t)
+///     × IsPreviousCongruent (T.value to) (T.value first) (T.value step) (T.value t)) }
+/// ```
+///
+/// Words: [`IsPreviousCongruent`](crate::definitions::modular#ispreviouscongruent),
+/// [how to read it](crate::definitions).
+pub fn previous_congruent<T: Fits>(to: T, first: T, step: T) -> Option<T> {
+    checked::difference(to, difference_modulo(to, first, step))
+}
+
+/// Returns how many numbers of `from..=to` are `first` modulo `step`, or `None` where that is beyond
+/// the type. `count_congruent(1, 10, 1, 4)` is `Some(3)`.
+///
+/// May be called where `step` is above 0.
+///
+/// # Proved
+///
+/// ```text
+/// requires positive { pos 0 <ℤ T.value step }
+/// ensures { MatchOption result
+///     ((n : ℤ) × IsCountOfCongruent (T.value from) (T.value to) (T.value first) (T.value step) n
+///     × ¬ (T.fits n))
+///     (λ n. T.fits (T.value n) × IsCountOfCongruent (T.value from) (T.value to) (T.value first)
+///     (T.value step) (T.value n)) }
+/// ```
+///
+/// Words: [`IsCountOfCongruent`](crate::definitions::modular#iscountofcongruent),
+/// [how to read it](crate::definitions).
+pub fn count_congruent<T: Fits>(from: T, to: T, first: T, step: T) -> Option<T> {
+    if is_below(to, from) {
+        return Some(zero());
+    }
+    let start = residue(first, step);
+    let before = checked::difference(first_turn(to, start, step), first_turn(from, start, step));
+    if are_congruent(to, first, step) {
+        checked::inc(before?)
+    } else {
+        before
+    }
+}
+
+/// Returns the least number of turns of `m` that lead from `start` to `from` or beyond.
+pub(crate) fn first_turn<T: Integer>(from: T, start: T, m: T) -> T {
+    let (turn, rest) = from.div_mod_floor(&m);
+    if is_below(start, rest) {
+        successor(turn)
+    } else {
+        turn
+    }
 }

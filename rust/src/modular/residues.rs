@@ -91,3 +91,8 @@ pub(crate) fn negation_of_residue<T: Integer>(x: T, m: T) -> T {
         difference(m, x)
     }
 }
+
+/// Returns `true` if `a` and `b` are equal modulo `m`.
+pub(crate) fn are_congruent<T: Integer>(a: T, b: T, m: T) -> bool {
+    is_zero(difference_modulo(a, b, m))
+}

@@ -1,5 +1,8 @@
 //! Why a call returns no fraction.
 
+use core::error::Error;
+use core::fmt;
+
 /// Why a call returns no fraction.
 #[derive(Debug, Clone, Copy, PartialEq, Eq)]
 pub enum RatioError {
@@ -27,3 +30,23 @@ impl RatioError {
         }
     }
 }
+
+/// # Proved
+///
+/// ```text
+/// ghost output = { λ e. Some (error_text e) }
+/// ```
+///
+/// Words: [`error_text`](crate::definitions::ratio64#error_text), [how to read it](crate::definitions).
+impl fmt::Display for RatioError {
+    fn fmt(&self, f: &mut fmt::Formatter<'_>) -> fmt::Result {
+        match self {
+            RatioError::ZeroDenominator => write!(f, "the denominator is 0"),
+            RatioError::NotFitting => {
+                write!(f, "a part of the reduced fraction does not fit in 64 bits")
+            }
+        }
+    }
+}
+
+impl Error for RatioError {}

@@ -4,6 +4,7 @@ mod limit;
 mod powers;
 mod rounding;
 mod sign;
+mod times;
 mod whole;
 
 use crate::ratio64::products::{difference, product, sum};
@@ -33,7 +34,8 @@ impl Ratio {
     /// # Proved
     ///
     /// ```text
-    /// ensures { AnswersFraction num den result }
+    /// ensures fraction { AnswersFraction num den result }
+    /// ensures refused { IfErr result (λ _. den ≤ℤ pos 0) }
     /// ```
     ///
     /// Words: [`AnswersFraction`](crate::definitions::ratio64#answersfraction),
@@ -178,7 +180,9 @@ impl Ratio {
     /// # Proved
     ///
     /// ```text
-    /// ensures { AnswersFraction (den_of self.now) (num_of self.now) result }
+    /// ensures reciprocal { AnswersFraction (den_of self.now) (num_of self.now) result }
+    /// ensures refused { IfErr result
+    ///     (λ _. (num_of self.now ≡ pos 0) ⊎ (num_of self.now ≡ neg_ℤ (pos (2 ^ 63)))) }
     /// ```
     ///
     /// Words: [`AnswersFraction`](crate::definitions::ratio64#answersfraction),

@@ -1,6 +1,8 @@
 //! Reads a fraction from a text.
 
 use crate::ratio64::{Ratio, RatioError};
+use core::error::Error;
+use core::fmt;
 use core::str::FromStr;
 
 /// Why a text is read as no fraction.
@@ -31,6 +33,29 @@ impl From<RatioError> for ParseRatioError {
         }
     }
 }
+
+/// # Proved
+///
+/// ```text
+/// ghost output = { λ e. Some (parse_error_text e) }
+/// ```
+///
+/// Words: [`parse_error_text`](crate::definitions::ratio64#parse_error_text),
+/// [how to read it](crate::definitions).
+impl fmt::Display for ParseRatioError {
+    fn fmt(&self, f: &mut fmt::Formatter<'_>) -> fmt::Result {
+        match self {
+            ParseRatioError::NotAFraction => write!(f, "the text is not a fraction"),
+            ParseRatioError::TooLong => {
+                write!(f, "a part has more than 38 digits, leading zeros aside")
+            }
+            ParseRatioError::ZeroDenominator => RatioError::ZeroDenominator.fmt(f),
+            ParseRatioError::NotFitting => RatioError::NotFitting.fmt(f),
+        }
+    }
+}
+
+impl Error for ParseRatioError {}
 
 /// Reads the form that `Display` writes: `num/den`, or only `num`. Each part is an optional `-`, then
 /// digits. `"6/-4".parse().ok()` is `Ratio::new(-3, 2).ok()`, and `"+1"` and `"1/"` are no fractions.

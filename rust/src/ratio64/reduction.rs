@@ -1,6 +1,6 @@
 //! The lowest terms of a fraction of wide parts.
 
-use crate::operators::{is_negative, negated, quotient};
+use crate::operators::{is_below, is_negative, negated, one, quotient};
 use crate::ratio64::RatioError;
 use crate::{gcd, Integer};
 
@@ -21,12 +21,14 @@ pub(crate) fn lowest_terms(num: i128, den: i128) -> Result<(i64, i64), RatioErro
 /// May be called where each number of no greater magnitude than a part fits.
 fn reduced_terms<T: Integer>(num: T, den: T) -> (T, T) {
     let common = gcd(num, den);
-    let divisor = if is_negative(den) {
-        negated(common)
+    if is_negative(den) {
+        let divisor = negated(common);
+        (quotient(num, divisor), quotient(den, divisor))
+    } else if is_below(one(), common) {
+        (quotient(num, common), quotient(den, common))
     } else {
-        common
-    };
-    (quotient(num, divisor), quotient(den, divisor))
+        (num, den)
+    }
 }
 
 /// Returns the number in 64 bits, where its negation has no more.

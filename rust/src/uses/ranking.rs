@@ -80,3 +80,59 @@ fn greatest_within(limit: u64, place: u64, bound: u64) -> u64 {
 fn is_within(n: u64, k: u64, limit: u64) -> bool {
     n.binomial_fits(&k) && binomial(n, k) <= limit
 }
+
+/// Replaces a choice of numbers below `n`, in increasing order, by the one of the next rank, and returns
+/// `true`, or returns `false` where it is the last. From `[0, 1, 4]` and `n` 5 it is `[0, 2, 4]`, and
+/// `[2, 3, 4]` is the last.
+///
+/// May be called where the numbers increase and are below `n`.
+///
+/// # Proved
+///
+/// ```text
+/// requires choice { IsChoice n choice.old }
+/// ensures choice { IsChoice n choice.new }
+/// ensures next { IsTrue result
+///     → IsChoiceOfRank n (length choice.old) (rank_of choice.old + 1) choice.new }
+/// ensures last { IsFalse result
+///     → (choice.new ≡ choice.old)
+///     × (rank_of choice.old + 1 ≡ coefficient n (length choice.old)) }
+/// ```
+///
+/// Words: [`IsChoice`](crate::definitions::uses#ischoice),
+/// [`IsChoiceOfRank`](crate::definitions::uses#ischoiceofrank),
+/// [`rank_of`](crate::definitions::uses#rank_of),
+/// [`coefficient`](crate::definitions::num_integer#coefficient), [how to read it](crate::definitions).
+pub fn next_choice(choice: &mut [u64], n: u64) -> bool {
+    match first_to_rise(choice, n) {
+        Some(place) => {
+            choice[place] += 1;
+            number_from_zero(choice, place);
+            true
+        }
+        None => false,
+    }
+}
+
+/// Returns the first place whose number can be one more and still below the number after it, or `n` at
+/// the end.
+fn first_to_rise(choice: &[u64], n: u64) -> Option<usize> {
+    for place in 0..choice.len() {
+        if choice[place] + 1 < number_after(choice, place, n) {
+            return Some(place);
+        }
+    }
+    None
+}
+
+/// Returns the number after a place, or `n` after the last one.
+fn number_after(choice: &[u64], place: usize, n: u64) -> u64 {
+    choice.get(place + 1).copied().unwrap_or(n)
+}
+
+/// Writes 0, 1, 2 and so on at the places before `end`.
+fn number_from_zero(numbers: &mut [u64], end: usize) {
+    for i in 0..end {
+        numbers[i] = i as u64;
+    }
+}

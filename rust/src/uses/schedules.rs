@@ -1,56 +1,74 @@
 //! Times that come again each period.
 
-use crate::modular::{next_common_solution, CommonSolution, Modular};
+use crate::modular::{next_common_solution, next_common_solution_of, CommonSolution, Modular};
 use crate::operators::is_below;
 use crate::{Fits, Integer};
 
 /// A first time, and the period after which it comes again.
-#[derive(Clone, Copy)]
-pub struct Schedule<T> {
-    pub first: T,
-    pub period: T,
-}
+pub type Schedule<T> = (T, T);
 
-/// When two schedules meet next.
-#[derive(Debug, Clone, Copy, PartialEq, Eq)]
-pub enum Meeting<T> {
-    /// At no time.
-    Never,
-    /// At a time beyond the type.
-    TooLate,
-    /// At this time.
-    At(T),
-}
-
-/// Returns the least time from `now` on at which both come. From 10 on, a first time 1 with period 4
-/// and a first time 3 with period 6 meet at 21.
+/// Returns the least time from `now` on at which both come. `next_meeting(10, (1, 4), (3, 6))` is
+/// `CommonSolution::At(21)`.
 ///
 /// May be called where both periods are above 0.
 ///
 /// # Proved
 ///
 /// ```text
-/// requires a_positive { pos 0 <ℤ T.value a.period }
-/// requires b_positive { pos 0 <ℤ T.value b.period }
-/// ensures { MatchMeeting result
-///     ((t : ℤ) → ¬ (IsMeeting (T.value a.first) (T.value a.period) (T.value b.first)
-///     (T.value b.period) t))
-///     ((t : ℤ) × IsNextMeeting (T.value now) (T.value a.first) (T.value a.period)
-///     (T.value b.first) (T.value b.period) t × ¬ (T.fits t))
-///     (λ t. T.fits (T.value t) × IsNextMeeting (T.value now) (T.value a.first)
-///     (T.value a.period) (T.value b.first) (T.value b.period) (T.value t)) }
+/// requires a_positive { pos 0 <ℤ T.value a.1 }
+/// requires b_positive { pos 0 <ℤ T.value b.1 }
+/// ensures { MatchCommonSolution result
+///     ((t : ℤ) → ¬ (IsMeeting (T.value a.0) (T.value a.1) (T.value b.0) (T.value b.1) t))
+///     ((t : ℤ) × IsLeastFrom (T.value now) (IsMeeting (T.value a.0) (T.value a.1) (T.value b.0)
+///     (T.value b.1)) t × ¬ (T.fits t))
+///     (λ t. T.fits (T.value t) × IsLeastFrom (T.value now) (IsMeeting (T.value a.0)
+///     (T.value a.1) (T.value b.0) (T.value b.1)) (T.value t)) }
 /// ```
 ///
-/// Words: [`MatchMeeting`](crate::definitions::uses#matchmeeting),
+/// Words: [`MatchCommonSolution`](crate::definitions::modular#matchcommonsolution),
 /// [`IsMeeting`](crate::definitions::uses#ismeeting),
-/// [`IsNextMeeting`](crate::definitions::uses#isnextmeeting), [how to read it](crate::definitions).
-pub fn next_meeting<T: Modular + Fits>(now: T, a: Schedule<T>, b: Schedule<T>) -> Meeting<T> {
-    let from = maximum(now, maximum(a.first, b.first));
-    match next_common_solution(from, a.first, a.period, b.first, b.period) {
-        CommonSolution::Never => Meeting::Never,
-        CommonSolution::Beyond => Meeting::TooLate,
-        CommonSolution::At(time) => Meeting::At(time),
+/// [`IsLeastFrom`](crate::definitions::modular#isleastfrom), [how to read it](crate::definitions).
+pub fn next_meeting<T: Modular + Fits>(
+    now: T,
+    a: Schedule<T>,
+    b: Schedule<T>,
+) -> CommonSolution<T> {
+    let from = maximum(now, maximum(a.0, b.0));
+    next_common_solution(from, a.0, a.1, b.0, b.1)
+}
+
+/// Returns the least time from `now` on at which each of the schedules comes. No product of the periods
+/// need fit. `next_meeting_of(10, &[(1, 4), (3, 6), (0, 7)])` is `CommonSolution::At(21)`.
+///
+/// May be called where each period is above 0.
+///
+/// # Proved
+///
+/// ```text
+/// requires in_range { All (λ s. T.fits (T.value s.0) × T.fits (T.value s.1)) schedules.now }
+/// requires positive { All (λ s. pos 0 <ℤ T.value s.1) schedules.now }
+/// ensures { MatchCommonSolution result
+///     ((t : ℤ) → ¬ (IsMeetingOfEach T.value schedules.now t))
+///     ((t : ℤ) × IsLeastFrom (T.value now) (IsMeetingOfEach T.value schedules.now) t
+///     × ¬ (T.fits t))
+///     (λ t. T.fits (T.value t)
+///     × IsLeastFrom (T.value now) (IsMeetingOfEach T.value schedules.now) (T.value t)) }
+/// ```
+///
+/// Words: [`MatchCommonSolution`](crate::definitions::modular#matchcommonsolution),
+/// [`IsMeetingOfEach`](crate::definitions::uses#ismeetingofeach),
+/// [`IsLeastFrom`](crate::definitions::modular#isleastfrom), [how to read it](crate::definitions).
+pub fn next_meeting_of<T: Modular + Fits>(now: T, schedules: &[Schedule<T>]) -> CommonSolution<T> {
+    next_common_solution_of(latest(now, schedules), schedules)
+}
+
+/// Returns the least time from `now` on that is not before the first time of any schedule.
+fn latest<T: Integer>(now: T, schedules: &[Schedule<T>]) -> T {
+    let mut latest = now;
+    for schedule in schedules {
+        latest = maximum(latest, schedule.0);
     }
+    latest
 }
 
 /// Returns the greater of two numbers.

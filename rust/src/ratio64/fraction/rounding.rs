@@ -1,7 +1,8 @@
 //! Rounding to whole numbers.
 
-use crate::div_rem;
+use crate::operators::{difference, is_below, is_negative, negated, predecessor, successor, sum};
 use crate::ratio64::Ratio;
+use crate::{div_rem, Integer};
 
 impl Ratio {
     /// Returns the fraction rounded toward 0. For -3/2 it returns `-1`.
@@ -34,13 +35,7 @@ impl Ratio {
     /// [`num_of`](crate::definitions::ratio64#num_of), [`den_of`](crate::definitions::ratio64#den_of),
     /// [how to read it](crate::definitions).
     pub fn round(&self) -> i64 {
-        let (whole, rest) = div_rem(self.num, self.den);
-        let (rest, den) = (rest.unsigned_abs(), self.den.unsigned_abs());
-        if rest < den - rest {
-            whole
-        } else {
-            whole + self.num.signum()
-        }
+        nearest(self.num, self.den)
     }
 
     /// Returns the fraction minus [`Ratio::trunc`]. For -3/2 it returns -1/2.
@@ -63,5 +58,24 @@ impl Ratio {
             num: rest,
             den: self.den,
         }
+    }
+}
+
+/// Returns the whole number nearest to `num / den`, and of two that are equally near the one farther
+/// from 0.
+///
+/// May be called where `den` is above 0.
+pub(crate) fn nearest<T: Integer>(num: T, den: T) -> T {
+    let (whole, rest) = div_rem(num, den);
+    if is_negative(num) {
+        if is_below(negated(rest), sum(den, rest)) {
+            whole
+        } else {
+            predecessor(whole)
+        }
+    } else if is_below(rest, difference(den, rest)) {
+        whole
+    } else {
+        successor(whole)
     }
 }

@@ -64,6 +64,7 @@ impl Ratio {
     /// ```text
     /// ensures negation { AnswersFraction (neg_ℤ (num_of self.now)) (den_of self.now) result }
     /// ensures never_zero { result ≢ Err RatioError.ZeroDenominator }
+    /// ensures least { IfErr result (λ _. num_of self.now ≡ neg_ℤ (pos (2 ^ 63))) }
     /// ```
     ///
     /// Words: [`AnswersFraction`](crate::definitions::ratio64#answersfraction),
@@ -84,6 +85,7 @@ impl Ratio {
     /// ensures magnitude { AnswersFraction (pos (unsigned_abs (num_of self.now)))
     ///     (den_of self.now) result }
     /// ensures never_zero { result ≢ Err RatioError.ZeroDenominator }
+    /// ensures least { IfErr result (λ _. num_of self.now ≡ neg_ℤ (pos (2 ^ 63))) }
     /// ```
     ///
     /// Words: [`AnswersFraction`](crate::definitions::ratio64#answersfraction),

@@ -1,0 +1,412 @@
+#!/usr/bin/env python3
+"""Makes docs/reference of the sources: a page for each crate, with its public items, their clauses and the words they cite.
+
+    scripts/reference.py            writes the pages
+    scripts/reference.py --check    compares them with what the sources make; status 1 where a page differs
+
+A page has, in the order of the modules, each public item with its doc comment, its signature and its clauses as they
+stand, without its body; then each definition of `specs/` that a public clause or such a definition cites; then the laws,
+and the lemmas of `proofs/ForCallers.antt`. A word that a clause cites has a link. A form that is not known is refused by
+file and line, and then nothing is written."""
+import pathlib
+import re
+import sys
+import textwrap
+
+from antt_words import Specs, cited, imported
+from rattle_source import Source, Unknown
+from rust_docs import STATED
+
+REPOSITORY = pathlib.Path(__file__).resolve().parent.parent
+CRATES = REPOSITORY / 'crates'
+PAGES = REPOSITORY / 'docs' / 'reference'
+TOOLCHAIN = REPOSITORY / 'rust' / 'by_hand' / 'definitions.md'
+NAMES = ('integer_core', 'integer_roots', 'num_integer', 'modular', 'ratio64', 'calendar', 'uses', 'cellarcove_c',
+         'intcalc_core', 'intcalc')
+PROGRAMS = {'intcalc_core', 'intcalc', 'cellarcove_c'}      # nothing is exported: their public items are those of modules
+NOT_READ = {'tests', 'assertions'}                          # modules that only tests have
+SHOWN = ('fn', 'struct', 'enum', 'trait', 'const', 'type')
+LEMMA = re.compile(r'pub ([^\s:]+) :')
+EXPORT = re.compile(r'pub use Rattle\.(\w+)\.([\w.]+)\.\{([^}]*)\}')
+
+
+class Module:
+    """A file of a crate: its source, its items and its place."""
+
+    def __init__(self, crate, path, file):
+        self.crate, self.path = crate, path
+        self.source = Source(file.relative_to(REPOSITORY), file.read_text())
+        self.items = self.source.items()
+        self.imports = imports_of(self.source, self.items)
+        self.head = [line[3:].removeprefix(' ') for line in file.read_text().split('\n') if line.startswith('//!')]
+
+    def is_test(self, item):
+        return any(self.source.at(first + 4) == 'test' for first, _ in item.attributes)
+
+    def below(self):
+        return [item for item in self.items
+                if item.kind == 'mod' and not self.is_test(item) and item.name not in NOT_READ]
+
+
+def imports_of(source, items):
+    return imported('\n'.join(source.text(item.first, item.last) for item in items if item.kind == 'ghost'))
+
+
+class Crate:
+    """The modules of a crate, in the order in which a reader meets them."""
+
+    def __init__(self, name):
+        self.name, self.modules = name, []
+        root = next(file for file in (CRATES / name / 'src' / 'lib.rt', CRATES / name / 'src' / 'main.rt') if file.is_file())
+        self.read((), root)
+        self.exported = self.exports()
+
+    def read(self, path, file):
+        module = Module(self.name, path, file)
+        self.modules.append(module)
+        for item in module.below():
+            place = path + (item.name,)
+            self.read(place, (CRATES / self.name / 'src').joinpath(*place).with_suffix('.rt'))
+
+    def exports(self):
+        """The public modules from which a caller imports: of each name those that have or re-export it."""
+        public, found = {()}, {}
+        for module in self.modules:
+            if module.path not in public:
+                continue
+            public |= {module.path + (item.name,) for item in module.items if item.kind == 'mod' and item.public}
+            for item in module.items:
+                if item.public and item.kind == 'use':
+                    names = [(path[-1], path) for path, _ in module.source.imports(item)]
+                else:
+                    names = [(item.name, ())] if item.public else []
+                for name, path in names:
+                    found.setdefault(name, []).append((module, path))
+        return found
+
+    def place(self, module, item):
+        """The public module from which a caller imports an item, or None. Names of one kind differ below one module, so a
+        re-export is told by the last module of its path."""
+        for public, path in self.exported.get(item.name, ()):
+            if public is module or path and (module.path[-1:] == path[-2:-1] or not module.path):
+                return public
+        return None
+
+    def shows(self, module, item):
+        """Whether an item is public for a user of the crate."""
+        if item.kind == 'impl':
+            return any(self.shows(place, other) for place in self.modules for other in place.items
+                       if other.name == item.name and other.kind in ('struct', 'enum', 'trait'))
+        return item.kind in SHOWN and item.public and (self.name in PROGRAMS or self.place(module, item) is not None)
+
+    def imports_of(self, module, shown):
+        """The line by which a caller imports the items of a module."""
+        if self.name in PROGRAMS:
+            return []
+        places = {}
+        for item in shown:
+            if item.kind != 'impl':
+                places.setdefault(self.place(module, item).path, []).append(item.name)
+        return [f"use {'::'.join((self.name,) + path)}::" + (names[0] if len(names) == 1 else '{' + ', '.join(names) + '}') + ';'
+                for path, names in places.items()]
+
+
+class Page:
+    """The page of a crate as it grows. Headings get the anchors that the browser of the repository gives them."""
+
+    def __init__(self, title):
+        self.lines, self.slugs = [f'# {title}', ''], {}
+
+    def heading(self, level, text):
+        slug = re.sub(r'[^\w\- ]', '', text.lower()).replace(' ', '-')
+        count = self.slugs[slug] = self.slugs.get(slug, -1) + 1
+        self.lines += ['#' * level + ' ' + text, '']
+        return f'{slug}-{count}' if count else slug
+
+    def add(self, *lines):
+        self.lines += lines
+
+    def block(self, kind, text):
+        self.add(f'```{kind}', *text.split('\n'), '```', '')
+
+
+def title_of(module):
+    return f"`{'/'.join(module.path)}.rt`" if module.path else 'The root'
+
+
+def wrapped(line):
+    return textwrap.wrap(line, 100, subsequent_indent='    ', break_long_words=False)
+
+
+def dedented(source, first, last):
+    """The text of code from a place to another, without the indentation of its first line."""
+    text = source.text(first, last)
+    start = source.code[first] - 1
+    margin = source.tokens[start].text.rpartition('\n')[2] if start >= 0 and source.tokens[start].kind == 'space' else ''
+    return textwrap.dedent(margin + text)
+
+
+def head_of(source, item):
+    """The signature and the clauses of an item, without its body."""
+    first = item.attributes[-1][1] + 1 if item.attributes else item.first
+    if item.kind == 'fn':
+        return dedented(source, first, item.open - 1 if item.open else item.last).rstrip(';').rstrip()
+    if item.kind in ('trait', 'impl'):
+        return dedented(source, first, item.open - 1)
+    return dedented(source, item.first, item.last)
+
+
+def doc_of(source, item):
+    """The doc comment of an item. Its links are those of the documentation of the Rust crate, so here they are names."""
+    text = '\n'.join(source.tokens[i].text[3:].removeprefix(' ') for i in source.docs(item))
+    return re.sub(r'\[(`[^`]+`)\](?:\([^)]*\))?', r'\1', text).split('\n')
+
+
+class Reference:
+    """All pages: the items first, which name the words that the definitions are then made of."""
+
+    def __init__(self):
+        self.specs = Specs(CRATES)
+        self.crates = {name: Crate(name) for name in NAMES if (CRATES / name / 'src').is_dir()}
+        self.pages = {name: Page(f'`{name}`') for name in self.crates}
+        self.words, self.anchors, self.waiting, self.items = {}, {}, [], {}
+
+    # ---- words
+
+    def need(self, name, crate, path):
+        """Notes a word, and the words of its definition. Returns its key, or None for one of the toolchain."""
+        if crate not in self.crates:
+            return None
+        word = self.specs.find(crate, path, name)
+        if word is None:
+            return None
+        key = (word.crate, word.file, word.name)
+        if key not in self.words:
+            self.words[key] = word
+            for below in self.specs.below(word):
+                self.need(*below)
+        return key
+
+    def links(self, page, text, imports):
+        """Adds the line of links to the words of a text, which is filled in when the anchors are known."""
+        keys = [key for key in (self.need(name, *imports[name]) for name in cited(text, imports)) if key]
+        if keys:
+            self.waiting.append((page, len(self.pages[page].lines), keys))
+            self.pages[page].add('', '')
+
+    def fill_in(self):
+        for page, at, keys in self.waiting:
+            links = [f'[`{key[2]}`]({"" if key[0] == page else key[0] + ".md"}#{self.anchors[key]})' for key in keys]
+            self.pages[page].lines[at] = '\n'.join(textwrap.wrap('Words: ' + ', '.join(links) + '.', 110,
+                                                                   break_long_words=False, break_on_hyphens=False))
+
+    # ---- items
+
+    def items_of(self, crate):
+        page = self.pages[crate.name]
+        page.add(*crate.modules[0].head, '')
+        for module in crate.modules:
+            shown = [item for item in module.items if crate.shows(module, item)]
+            blocks = [block for item in shown for block in self.blocks(module, item)]
+            if blocks:
+                page.heading(2, title_of(module))
+                page.add(*(module.head + [''] if module.path else []))
+                names = crate.imports_of(module, shown)
+                if names:
+                    page.block('rust', '\n'.join(line for name in names for line in wrapped(name)))
+                for block in blocks:
+                    self.block(page, module, *block)
+
+    def blocks(self, module, item):
+        """What the page shows of an item: pairs of a title, its doc comment, its code and the items whose imports count."""
+        source = module.source
+        if item.kind in ('trait', 'impl'):
+            ghosts = [source.text(inner.first, inner.last) for inner in item.items
+                      if inner.kind == 'ghost' and inner.name != 'use' and (item.kind == 'trait' or inner.name in STATED)]
+            methods = [inner for inner in item.items if inner.kind == 'fn' and self.has_part(item, inner)]
+            stated = item.kind == 'trait' or ghosts or (item.of_trait and methods)
+            if stated:
+                head = head_of(source, item) + ' { .. }' * (not ghosts)
+                if ghosts:
+                    body = '\n\n'.join(textwrap.indent(textwrap.dedent('    ' + ghost), '    ') for ghost in ghosts)
+                    head += ' {\n' + body + '\n}'
+                title = f'trait `{item.name}`' if item.kind == 'trait' else f'`{item.of_trait}` for `{item.name}`'
+                yield title, doc_of(source, item), head, item.items
+            for inner in methods:
+                yield f'`{item.name}::{inner.name}`', doc_of(source, inner), head_of(source, inner), item.items
+        else:
+            yield f'`{item.name}`', doc_of(source, item), head_of(source, item), [], item.kind, item.name
+
+    def has_part(self, item, inner):
+        """Whether a page shows a method: each of a trait, each public one of a type, each with a clause of an `impl`."""
+        if item.kind == 'trait':
+            return True
+        return bool(inner.clauses) if item.of_trait else inner.public
+
+    def block(self, page, module, title, doc, code, inner, kind='', name=''):
+        page.heading(3, title)
+        page.add(*doc, '')
+        page.block('rust', code)
+        if kind in ('struct', 'enum'):
+            place = '.'.join(('Rattle', module.crate, 'specs', 'declared') + module.path + (name,))
+            variants = f", `ghost use {place}.TheVariants.{{..}};`" * (kind == 'enum')
+            page.add(f'In a clause: `ghost use {place}.{{{name}}};`{variants}', '')
+        imports = module.imports | imports_of(module.source, inner)
+        self.links(module.crate, code, imports)
+
+    # ---- definitions, laws and lemmas
+
+    def definitions_of(self, crate):
+        page = self.pages[crate]
+        files = list(dict.fromkeys(key[1] for key in self.words if key[0] == crate))
+        for file in sorted(files, key=lambda file: (file == 'Laws', file)):
+            words = self.specs.read(crate, file)[0]
+            if file == 'Laws':
+                page.heading(2, f'Laws: `Rattle.{crate}.specs.Laws`')
+                page.add('Each law has a proof of its name in small letters in `proofs/Laws.antt`, which a proof may cite.', '')
+            else:
+                page.heading(2, f'Definitions: `Rattle.{crate}.specs.{file}`')
+            page.add(*self.comment_of(crate, file), '')
+            for name, word in words.items():
+                if (crate, file, name) in self.words:
+                    self.anchors[crate, file, name] = page.heading(3, f'`{name}`')
+                    page.add(sentence(word.comment), '') if word.comment else None
+                    page.block('text', word.text)
+                    names = {other: (crate, 'specs.' + file) for other in words} | self.specs.read(crate, file)[1]
+                    names.pop(name, None)
+                    self.links(crate, word.text, names)
+
+    def comment_of(self, crate, file):
+        first = (CRATES / crate / 'specs' / f'{file}.antt').read_text().split('\n\n')[0].split('\n')
+        lines = []
+        for line in first:
+            if not line.startswith('-- '):
+                break
+            lines.append(line[3:])
+        return lines
+
+    def laws_of(self, crate):
+        file = CRATES / crate / 'specs' / 'Laws.antt'
+        if file.is_file():
+            for name in self.specs.read(crate, 'Laws')[0]:
+                self.need(name, crate, 'specs.Laws')
+
+    def lemmas_of(self, crate):
+        file = CRATES / crate / 'proofs' / 'ForCallers.antt'
+        if not file.is_file():
+            return
+        page = self.pages[crate]
+        page.heading(2, f'Lemmas for callers: `Rattle.{crate}.proofs.ForCallers`')
+        page.add('Lemmas that the proof of a caller may cite, beside the laws.', '')
+        text = file.read_text()
+        for paragraph in re.split(r'\n\s*\n', text):
+            if paragraph.startswith('-- ---- '):
+                page.add(f'**{paragraph.split(chr(10))[0][8:].capitalize()}**', '')
+            for other, path, names in EXPORT.findall(paragraph):
+                found = lemmas((CRATES / other).joinpath(*path.split('.')).with_suffix('.antt'))
+                for name in (name.strip() for name in names.split(',')):
+                    self.lemma(page, name, found.get(name))
+            for name, lemma in lemmas_in(paragraph).items():
+                self.lemma(page, name, lemma)
+
+    def lemma(self, page, name, lemma):
+        if lemma is None:                       # a ruleset, which states nothing
+            return
+        comment, text = lemma
+        if comment:
+            page.add(sentence(comment), '')
+        page.block('text', text)
+
+    # ---- the pages
+
+    def made(self):
+        for crate in self.crates.values():
+            self.items_of(crate)
+        for name in self.crates:
+            self.laws_of(name)
+        for name in self.crates:
+            self.definitions_of(name)
+        self.fill_in()
+        for name in self.crates:
+            self.lemmas_of(name)
+        pages = {f'{name}.md': '\n'.join(page.lines) for name, page in self.pages.items()}
+        pages['README.md'] = self.index()
+        pages['modules.md'] = self.modules()
+        return {name: re.sub(r'\n{3,}', '\n\n', text).rstrip('\n') + '\n' for name, text in pages.items()}
+
+    def modules(self):
+        lines = ['# Modules', '', 'Each file of a crate, by the first sentence of its head.', '']
+        for name, crate in self.crates.items():
+            lines += [f'## `{name}`', '', '| file | what it has |', '|---|---|']
+            lines += [f"| `{'/'.join(module.path) or module.source.path.stem}.rt` | {first_sentence(module.head)} |"
+                      for module in crate.modules]
+            lines.append('')
+        return '\n'.join(lines)
+
+    def index(self):
+        rows = '\n'.join(f'| [`{name}`]({name}.md) | {first_sentence(crate.modules[0].head)} |'
+                         for name, crate in self.crates.items())
+        return '\n'.join(['# Reference', '', 'Made of the sources by `scripts/reference.py`. Nobody edits these pages.', '',
+                          '| crate | what it is |', '|---|---|', rows, '',
+                          '[modules.md](modules.md) lists the files of each crate.', '', '# How to read a clause', '',
+                          *TOOLCHAIN.read_text().split('\n')[1:]])
+
+
+def sentence(comment):
+    """A comment as a sentence: it begins with a capital, where that is no name, and ends with a full stop."""
+    comment = comment if comment[-1] in '.:?!' else comment + '.'
+    first = comment.split()[0]
+    return comment[0].upper() + comment[1:] if first.isalpha() and len(first) > 1 or first == 'a' else comment
+
+
+def first_sentence(head):
+    return re.split(r'(?<=\.)\s', ' '.join(head).strip())[0]
+
+
+def lemmas(file):
+    """The lemmas of a file, each with its comment and its statement."""
+    found = {}
+    for paragraph in re.split(r'\n\s*\n', file.read_text()):
+        found |= lemmas_in(paragraph)
+    return found
+
+
+def lemmas_in(paragraph):
+    found, comment, lines = {}, [], paragraph.split('\n')
+    for i, line in enumerate(lines):
+        if line.startswith('-- '):
+            comment = comment + [line[3:]] if not line.startswith('-- ---- ') else []
+        match = LEMMA.match(line)
+        if match:
+            name = match.group(1)
+            stated = [line.removeprefix('pub ')]
+            for more in lines[i + 1:]:
+                if not more.startswith(' '):
+                    break
+                stated.append(more)
+            found[name] = (' '.join(comment), '\n'.join(stated))
+            comment = []
+    return found
+
+
+def main():
+    try:
+        made = Reference().made()
+    except Unknown as form:
+        sys.exit(f'reference.py: {form}')
+    if '--check' not in sys.argv:
+        PAGES.mkdir(parents=True, exist_ok=True)
+        for page in PAGES.glob('*.md'):
+            page.unlink()
+        for name, text in made.items():
+            (PAGES / name).write_text(text)
+        return
+    there = {page.name: page.read_text() for page in PAGES.glob('*.md')}
+    differing = sorted(name for name in made.keys() | there.keys() if made.get(name) != there.get(name))
+    for name in differing:
+        print(f'docs/reference/{name} differs from the sources: run scripts/reference.py')
+    sys.exit(1 if differing else 0)
+
+
+if __name__ == '__main__':
+    main()
