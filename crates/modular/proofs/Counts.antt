@@ -1,14 +1,14 @@
 -- How many congruent numbers lie between two others.
-use Rattle.std.specs.Prelude.{◌≡◌, ◌+◌, ◌≤ℤ◌, ◌<ℤ◌, ◌+ℤ◌, ◌-ℤ◌, ◌*ℤ◌, ℤ, ℕ, zero, suc, pos, unsigned_abs, [], ◌∷◌, Option, Some, None, MatchOption}
+use Rattle.std.specs.Prelude.{◌≡◌, ◌≤ℤ◌, ◌<ℤ◌, ◌+ℤ◌, ◌-ℤ◌, ◌*ℤ◌, ℤ, ℕ, zero, suc, pos, unsigned_abs, [], ◌∷◌, Option, Some, None, MatchOption}
 use Rattle.std.proofs.Common.{arith, ◌∙◌, ap, inl, refl, subst, sym}
 use Rattle.std.proofs.lemmas.Int.{by_lt_z, ints}
 use Rattle.num_integer.specs.Checked.{AnswersWhere}
 use Rattle.num_integer.specs.Range.{IsRange}
 use Rattle.num_integer.proofs.ForCallers.{expand, from_not_less, linear, product_from_zero, products, sizes, within_fits}
 use Rattle.modular.proofs.CommonSolutions.{turns_ordered}
-use Rattle.modular.proofs.Congruences.{congruent-refl, congruent-sym, congruent-trans, next_within_step}
+use Rattle.modular.proofs.Congruences.{congruent-sym, congruent-trans, next_within_step}
 use Rattle.modular.specs.Below.{IsFirstTurn}
-use Rattle.modular.specs.Congruences.{AreCongruent, IsCongruentTo, IsCountOfCongruent, IsNextCongruent, IsResidue}
+use Rattle.modular.specs.Congruences.{AreCongruent, IsCountOfCongruent, IsNextCongruent, IsResidue}
 
 -- a congruent number and a step
 step_further : {step t first : ℤ} → AreCongruent step t first → AreCongruent step (t +ℤ step) first

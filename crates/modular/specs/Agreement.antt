@@ -1,5 +1,5 @@
 -- Congruences that have common solutions.
-use Rattle.std.specs.Prelude.{ℤ, pos, List, [], ◌∷◌}
+use Rattle.std.specs.Prelude.{ℤ, List, [], ◌∷◌}
 use Rattle.std.specs.List.{All}
 use Rattle.num_integer.specs.Divisors.{IsGreatestCommonDivisor}
 use Rattle.modular.specs.Congruences.{AreCongruent}

@@ -1,6 +1,5 @@
-use Rattle.std.specs.Prelude.{◌-ℤ◌}
 use Rattle.std.proofs.lemmas.Bool.{iff_false}
-use Rattle.modular.proofs.Counts.{IsCountedByTurns, count_with_last, count_without_last, counted_by_turns, one_more_too_great}
+use Rattle.modular.proofs.Counts.{count_with_last, count_without_last, counted_by_turns, one_more_too_great}
 use Rattle.modular.proofs.residue_classes.count_congruent.Goals as goal
 
 pub returns-in_err-before : goal.returns-in_err-before

@@ -1,6 +1,6 @@
 use Rattle.std.proofs.Common.{refl, subst, sym}
 use Rattle.std.proofs.lemmas.Bool.{iff_false}
-use Rattle.std.proofs.lemmas.List.Elements.{All-head, All-rest}
+use Rattle.std.proofs.lemmas.List.Elements.{All-rest}
 use Rattle.modular.specs.Agreement.{AgreeInPairs}
 use Rattle.modular.proofs.Agreements.{IsInRange, IsPositive, SolvesAt, agreeing_have_solution, first_agrees, no_pairs, nothing_found}
 use Rattle.modular.proofs.several_congruences.agree_in_pairs.Goals as goal
