@@ -3,6 +3,7 @@
 mod all_bytes;
 mod callers;
 mod congruences;
+mod congruent_bytes;
 mod long_products;
 mod matched;
 
