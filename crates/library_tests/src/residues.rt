@@ -5,6 +5,7 @@ mod all_bytes;
 mod callers;
 mod cents;
 mod congruences;
+mod congruent_bytes;
 mod long_products;
 mod matched;
 mod own_numbers;

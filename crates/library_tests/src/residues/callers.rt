@@ -2,13 +2,13 @@
 
 ghost use Rattle.std.specs.Prelude.{◌≡◌, ◌<ℤ◌, ℤ, pos, IsTrue, Some};
 ghost use Rattle.num_integer.specs.Only.{IsOnly};
-ghost use Rattle.modular.specs.Congruences.{IsInverse, IsNextCommonSolution, IsNextCongruent, IsQuotientModulo, IsResidueClass, Solves};
-ghost use Rattle.modular.specs.Laws.{InverseIsOnly, NextCommonSolutionIsOnly, NextCongruentIsOnly, QuotientIsOnly, ResidueIsOnly};
+ghost use Rattle.modular.specs.Congruences.{IsCountOfCongruent, IsInverse, IsNextCommonSolution, IsNextCongruent, IsPreviousCongruent, IsQuotientModulo, IsResidueClass, Solves};
+ghost use Rattle.modular.specs.Laws.{CountOfCongruentIsOnly, InverseIsOnly, NextCommonSolutionIsOnly, NextCongruentIsOnly, PreviousCongruentIsOnly, QuotientIsOnly, ResidueIsOnly};
 ghost use Rattle.modular.specs.declared.common_solutions.CommonSolution.TheVariants.{At};
 
 use modular::{
-    CommonSolution, inverse_modulo, next_common_solution, next_congruent, quotient_modulo, residue,
-    solutions,
+    CommonSolution, count_congruent, inverse_modulo, next_common_solution, next_congruent,
+    previous_congruent, quotient_modulo, residue, solutions,
 };
 
 /// A property of whole numbers. No clause can speak of every property, but one can of each `P: Property`.
@@ -24,6 +24,8 @@ fn laws<P: Property>()
     ensures residue_class_is_only { (first step : ℤ) → IsResidueClass P.holds first step
         → IsOnly (λ (f, s). IsResidueClass P.holds f s) (first, step) }
     ensures next_congruent_is_only { NextCongruentIsOnly }
+    ensures previous_congruent_is_only { PreviousCongruentIsOnly }
+    ensures count_of_congruent_is_only { CountOfCongruentIsOnly }
     ensures next_common_solution_is_only { NextCommonSolutionIsOnly }
 {}
 
@@ -70,6 +72,24 @@ fn next_congruent_again(from: i64, first: i64, step: i64, known: i64) -> Option<
     ensures { result ≡ Some known }
 {
     next_congruent(from, first, step)
+}
+
+/// The previous congruent number is the one that is found.
+fn previous_congruent_again(to: i64, first: i64, step: i64, known: i64) -> Option<i64>
+    requires positive { pos 0 <ℤ step }
+    requires previous { IsPreviousCongruent to first step known }
+    ensures { result ≡ Some known }
+{
+    previous_congruent(to, first, step)
+}
+
+/// The count of the congruent numbers of a range is the one that is found.
+fn count_congruent_again(from: i64, to: i64, first: i64, step: i64, known: i64) -> Option<i64>
+    requires positive { pos 0 <ℤ step }
+    requires count { IsCountOfCongruent from to first step known }
+    ensures { result ≡ Some known }
+{
+    count_congruent(from, to, first, step)
 }
 
 /// The next number that solves two congruences is the one that is found.

@@ -3,7 +3,10 @@
 use super::{MAX, MIN};
 use crate::assertions::holds_at;
 use modular::CommonSolution::{At, Beyond, Never};
-use modular::{CommonSolution, chinese_remainder, next_common_solution, next_congruent, solutions};
+use modular::{
+    CommonSolution, chinese_remainder, count_congruent, next_common_solution,
+    next_common_solution_of, next_congruent, previous_congruent, solutions,
+};
 use num_integer::Fits;
 
 #[test]
@@ -80,6 +83,60 @@ fn next_congruent_numbers(rt: HostRuntime) {
     assert!(rt; next_congruent(120i8, 1, 9) == Some(127) && next_congruent(120i8, 2, 9) == None);
 }
 
+/// Where to end, a number and a step, and the previous congruent number.
+const PREVIOUS_CONGRUENT: [(i64, i64, i64, Option<i64>); 7] = [
+    (10, 1, 4, Some(9)),
+    (-10, 1, 4, Some(-11)),
+    (9, 1, 4, Some(9)),
+    (MIN, MIN, 5, Some(MIN)),
+    (MAX, MIN, MAX, Some(MAX - 1)),
+    (MIN, 1, 2, None),
+    (MIN + 1, 1, 2, Some(MIN + 1)),
+];
+
+#[test]
+fn previous_congruent_numbers(rt: HostRuntime) {
+    for (to, first, step, previous) in PREVIOUS_CONGRUENT {
+        holds_at(
+            &rt,
+            step > 0 && previous_congruent(to, first, step) == previous,
+            &("previous_congruent", to, first, step),
+        );
+    }
+    assert!(rt; previous_congruent(3u8, 4, 9) == None && previous_congruent(4u8, 4, 9) == Some(4));
+    assert!(rt; previous_congruent(u128::MAX, 7, u128::MAX) == Some(7));
+}
+
+/// Where to begin and to end, a number and a step, and how many numbers are congruent.
+const COUNT_CONGRUENT: [(i8, i8, i8, i8, Option<i8>); 10] = [
+    (-128, 127, 0, 2, None),
+    (-128, 127, 0, 3, Some(85)),
+    (-127, 127, 0, 2, Some(127)),
+    (-127, 127, 1, 2, None),
+    (1, 10, 1, 4, Some(3)),
+    (1, 0, 0, 1, Some(0)),
+    (127, -128, 0, 1, Some(0)),
+    (127, 127, 1, 2, Some(1)),
+    (127, 127, 0, 2, Some(0)),
+    (-128, -128, -128, 127, Some(1)),
+];
+
+#[test]
+fn counts_of_congruent_numbers(rt: HostRuntime) {
+    for (from, to, first, step, count) in COUNT_CONGRUENT {
+        holds_at(
+            &rt,
+            step > 0 && count_congruent(from, to, first, step) == count,
+            &("count_congruent", from, to, first, step),
+        );
+    }
+    assert!(rt; count_congruent(0, u64::MAX, 0, 1) == None);
+    assert!(rt; count_congruent(1, u64::MAX, 0, 1) == Some(u64::MAX));
+    assert!(rt; count_congruent(MIN, MAX, 0, 2) == None);
+    assert!(rt; count_congruent(MIN, MAX, 0, 3) == Some(6148914691236517205));
+    assert!(rt; count_congruent(i128::MIN, i128::MAX, 0, i128::MAX) == Some(3));
+}
+
 /// Where to begin, two congruences, each a number with a modulus, and the next number that solves both.
 type Next = (i8, (i8, i8), (i8, i8), CommonSolution<i8>);
 
@@ -110,4 +167,29 @@ fn next_common_solutions(rt: HostRuntime) {
     let (m, n) = (u128::MAX, u128::MAX - 1);
     assert!(rt; next_common_solution(0, 5, m, 5, n) == At(5));
     assert!(rt; next_common_solution(6, 5, m, 5, n) == Beyond);
+}
+
+#[test]
+fn next_common_solutions_of_several(rt: HostRuntime) {
+    assert!(rt; next_common_solution_of(-128i8, &[(0, 11), (0, 13), (0, 7)]) == At(0));
+    assert!(rt; next_common_solution_of(0i8, &[(0, 11), (0, 13), (0, 7)]) == At(0));
+    assert!(rt; next_common_solution_of(1i8, &[(0, 11), (0, 13), (0, 7)]) == Beyond);
+    assert!(rt; next_common_solution_of(127u8, &[]) == At(127));
+    assert!(rt; next_common_solution_of(-128i8, &[(-1, 127)]) == At(-128));
+    assert!(rt; next_common_solution_of(10, &[(1, 4), (3, 6), (0, 7)]) == At(21));
+    assert!(rt; next_common_solution_of(22, &[(1, 4), (3, 6), (0, 7)]) == At(105));
+    assert!(rt; next_common_solution_of(10, &[(1, 4), (0, 5), (2, 6)]) == Never);
+    assert!(rt; next_common_solution_of(-128i8, &[(1, 100), (0, 99), (2, 100)]) == Never);
+    assert!(rt; next_common_solution_of(-128i8, &[(28, 126), (28, 127), (28, 125)]) == At(28));
+}
+
+/// Moduli whose common multiple no type holds.
+#[test]
+fn next_common_solutions_at_the_ends(rt: HostRuntime) {
+    let (m, n, k) = (u128::MAX, u128::MAX - 1, u128::MAX - 2);
+    assert!(rt; next_common_solution_of(0, &[(5, m), (5, n), (5, k)]) == At(5));
+    assert!(rt; next_common_solution_of(6, &[(5, m), (5, n), (5, k)]) == Beyond);
+    assert!(rt; next_common_solution_of(0, &[(5, m), (5, n), (4, n)]) == Never);
+    assert!(rt; next_common_solution_of(MIN, &[(-1, MAX), (-1, MAX - 1), (-1, 7)]) == At(-1));
+    assert!(rt; next_common_solution_of(MIN, &[(0, MAX), (-1, MAX - 1)]) == At(-MAX));
 }

@@ -1,14 +1,16 @@
 //! Calls of `modular` and of `uses` whose result a caller matches on or loops over, each at a native type and
 //! with no proof file.
 
-ghost use Rattle.std.specs.Prelude.{◌≡◌, ◌<◌, ◌<ℤ◌, ◌≤ℤ◌, ℤ, pos, IfSome, MatchOption};
-ghost use Rattle.std.specs.Int.{int_pow};
-ghost use Rattle.modular.specs.Congruences.{IsInverse, IsNextCommonSolution, IsQuotientModulo, IsResidue, IsResidueClass, Solves, SolvesBothCongruences};
+ghost use Rattle.std.specs.Prelude.{◌≡◌, ◌<◌, ◌<ℤ◌, ◌≤ℤ◌, ℤ, pos, IfSome, MatchOption, FitsSigned};
+ghost use Rattle.std.specs.Int.{int_pow, w64};
+ghost use Rattle.std.specs.List.{All};
+ghost use Rattle.modular.specs.Congruences.{IsCountOfCongruent, IsInverse, IsNextCommonSolution, IsQuotientModulo, IsResidue, IsResidueClass, Solves, SolvesBothCongruences, SolvesEach};
+ghost use Rattle.modular.specs.Least.{IsLeastFrom};
 
 use modular::counted::power_modulo_counted;
 use modular::{
-    CommonSolution, chinese_remainder, inverse_modulo, next_common_solution, next_congruent,
-    quotient_modulo, solutions,
+    CommonSolution, chinese_remainder, count_congruent, inverse_modulo, next_common_solution,
+    next_common_solution_of, next_congruent, previous_congruent, quotient_modulo, solutions,
 };
 use num_integer::Fits;
 use uses::layout::align_up;
@@ -95,6 +97,49 @@ fn next_of_both(from: i64, a: i64, m: i64, b: i64, n: i64) -> Option<i64>
     match next_common_solution(from, a, m, b, n) {
         CommonSolution::At(t) => Some(t),
         CommonSolution::Beyond | CommonSolution::Never => None,
+    }
+}
+
+/// The last time up to now, or 0 where there is none.
+fn time_before(now: u64, first: u64, period: u64) -> u64
+    requires { 0 < period }
+    ensures { pos result ≤ℤ pos now }
+{
+    match previous_congruent(now, first, period) {
+        Some(time) => time,
+        None => 0,
+    }
+}
+
+/// How many times come in a range.
+fn times_between(from: i64, to: i64, first: i64, period: i64) -> Option<i64>
+    requires { pos 0 <ℤ period }
+    ensures { IfSome result (λ n. IsCountOfCongruent from to first period n) }
+{
+    let times = count_congruent(from, to, first, period)?;
+    Some(times)
+}
+
+/// The next number that solves each of signed congruences, where there is one in the type.
+fn next_of_each(from: i64, congruences: &[(i64, i64)]) -> Option<i64>
+    requires in_range { All (λ c. FitsSigned w64 c.0 × FitsSigned w64 c.1) congruences.now }
+    requires positive { All (λ c. pos 0 <ℤ c.1) congruences.now }
+    ensures { IfSome result (λ t. IsLeastFrom from (SolvesEach (λ x. x) congruences.now) t) }
+{
+    match next_common_solution_of(from, congruences) {
+        CommonSolution::At(t) => Some(t),
+        CommonSolution::Beyond | CommonSolution::Never => None,
+    }
+}
+
+/// The next time at which all bells ring, or the last of the type.
+fn next_ring(now: u64, bells: &[(u64, u64)]) -> u64
+    requires { All (λ c. 0 < c.1) bells.now }
+    ensures { pos now ≤ℤ pos result }
+{
+    match next_common_solution_of(now, bells) {
+        CommonSolution::At(time) => time,
+        CommonSolution::Beyond | CommonSolution::Never => u64::MAX,
     }
 }
 

@@ -8,5 +8,7 @@ returns g c = record {
   quotient_is_only = law.quotient_is_only;
   residue_class_is_only = law.residue_class_is_only _;
   next_congruent_is_only = law.next_congruent_is_only;
+  previous_congruent_is_only = law.previous_congruent_is_only;
+  count_of_congruent_is_only = law.count_of_congruent_is_only;
   next_common_solution_is_only = law.next_common_solution_is_only;
 }
