@@ -13,7 +13,12 @@
 #![forbid(unsafe_code)]
 // Some names are those of contracts alone.
 #![allow(dead_code)]
-#![allow(clippy::manual_div_ceil)]
+// Loops and quotients are written as they were proved.
+#![allow(
+    clippy::manual_div_ceil,
+    clippy::manual_find,
+    clippy::needless_range_loop
+)]
 
 mod bounded_coefficients;
 pub mod calendar;

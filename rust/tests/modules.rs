@@ -4,7 +4,7 @@ use cellarcove::calendar::{easter, Date, Weekday};
 use cellarcove::counted::{extended_gcd_counted, GcdCounted, SqrtCounted};
 use cellarcove::modular::{chinese_remainder, counted, inverse_modulo, product_modulo, residue};
 use cellarcove::ratio64::{ParseRatioError, Ratio, RatioError};
-use cellarcove::uses::schedules::{next_meeting, Meeting, Schedule};
+use cellarcove::uses::schedules::{next_meeting, CommonSolution};
 use cellarcove::uses::{halving, layout, paging, powers, ranking, rolling_hash::RollingHash};
 use cellarcove::{binomial, operators, Integer, Roots};
 use std::panic::catch_unwind;
@@ -55,17 +55,7 @@ fn residues() {
 
 #[test]
 fn models() {
-    let (a, b) = (
-        Schedule {
-            first: 1,
-            period: 4,
-        },
-        Schedule {
-            first: 3,
-            period: 6,
-        },
-    );
-    assert_eq!(next_meeting(10, a, b), Meeting::At(21));
+    assert_eq!(next_meeting(10, (1, 4), (3, 6)), CommonSolution::At(21));
     assert_eq!(paging::pages(i64::MIN, 1), i64::MIN);
     assert_eq!(layout::align_up(250u8, 8), None);
     assert_eq!(halving::lower_bound(&[1, 3, 3, 5], 4), 3);

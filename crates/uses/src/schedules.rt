@@ -6,7 +6,8 @@ ghost use Rattle.modular.specs.CommonSolutions.{MatchCommonSolution};
 ghost use Rattle.modular.specs.Least.{IsLeastFrom};
 ghost use Rattle.uses.specs.Schedules.{HaveBegun, IsMeeting, IsMeetingOfEach};
 
-use modular::{CommonSolution, Modular, next_common_solution, next_common_solution_of};
+pub use modular::CommonSolution;
+use modular::{Modular, next_common_solution, next_common_solution_of};
 use num_integer::operators::is_below;
 use num_integer::{Fits, Integer};
 

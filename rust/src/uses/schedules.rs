@@ -1,6 +1,7 @@
 //! Times that come again each period.
 
-use crate::modular::{next_common_solution, next_common_solution_of, CommonSolution, Modular};
+pub use crate::modular::CommonSolution;
+use crate::modular::{next_common_solution, next_common_solution_of, Modular};
 use crate::operators::is_below;
 use crate::{Fits, Integer};
 
