@@ -57,10 +57,10 @@ prints() {
     [ $? -eq "$2" ] && printf '%s\n' "$3" | cmp -s - "$work/printed"
 }
 
-# docs/CONTRACTS.md gives this number of requests.
+# docs/TESTING.md gives this number of requests.
 requests_are_documented() {
     local spelled=(no one two three four five six seven eight nine ten eleven twelve)
-    grep -q "with each of its ${spelled[requests]} requests refused" ../../docs/CONTRACTS.md
+    tr '\n' ' ' <../../docs/TESTING.md | grep -q "each of its ${spelled[requests]} requests for memory refused"
 }
 
 if [ ! -x "$program" ]; then
@@ -77,7 +77,7 @@ done
 prints "$((requests + 1))" 0 "$answer"
 judge "no request $((requests + 1)) for memory" $?
 requests_are_documented
-judge 'as many requests as docs/CONTRACTS.md says' $?
+judge 'as many requests as docs/TESTING.md says' $?
 
 echo "$passed passed, $failed failed"
 [ "$failed" -eq 0 ]
