@@ -11,7 +11,7 @@ ghost use Rattle.calendar.specs.Years.{HasDay, day_number};
 ghost use Rattle.calendar.specs.declared.weekday.Weekday.{Weekday};
 ghost use Rattle.num_integer.specs.Checked.{AnswersWhere};
 ghost use Rattle.num_integer.specs.Division.{IsFloored, IsRemainder};
-ghost use Rattle.cellarcove_c.specs.Dates.{AreMonthsBetween, IsMonthsLater};
+ghost use Rattle.cellarcove_c.specs.Dates.{IsMonthsLater, MatchMonthsBetween};
 ghost use Rattle.cellarcove_c.specs.Statuses.{answer_of, no_date, not_fitting, outside};
 
 use crate::answers::{ANSWER, I64Answer, NO_DATE, NOT_FITTING, OUTSIDE};
@@ -110,26 +110,28 @@ pub extern "C" fn cellarcove_plus_months(date: Date, months: i64) -> DateAnswer
     }
 }
 
-/// Returns the greatest number of months after `from` that lead to a date not after `to`. From 2000-01-31 to
-/// 2000-02-29 it is 1.
+/// Returns the whole months from one date to another. From 2000-01-31 to 2000-02-29 it is 1.
 #[unsafe(no_mangle)]
 pub extern "C" fn cellarcove_months_between(from: Date, to: Date) -> I64Answer
-    ensures answer { result.status ≡ 0 → AreMonthsBetween from.year from.month from.day_of_month
-        to.year to.month to.day_of_month result.value }
+    ensures answer { IsDate from.year from.month from.day_of_month
+        → IsDate to.year to.month to.day_of_month
+        → MatchMonthsBetween from.year from.month from.day_of_month to.year to.month to.day_of_month
+        (answer_of result.status result.value) }
     ensures no_date { (result.status ≡ no_date)
-        ↔ (¬ (IsDate from.year from.month from.day_of_month) ⊎ ¬ (IsDate to.year to.month to.day_of_month)) }
-    ensures not_fitting { result.status ≡ not_fitting → (months : ℤ)
-        × AreMonthsBetween from.year from.month from.day_of_month to.year to.month to.day_of_month months
-        × ¬ (FitsSigned w64 months) }
+        ↔ ((¬ (IsDate from.year from.month from.day_of_month))
+        ⊎ (¬ (IsDate to.year to.month to.day_of_month))) }
     ensures refusal { result.status ≢ 0 → (result.value ≡ pos 0)
         × ((result.status ≡ no_date) ⊎ (result.status ≡ not_fitting)) }
 {
-    match (from.found(), to.found()) {
-        (Some(from), Some(to)) => match months_between(&from, &to) {
-            Some(months) => I64Answer::some(months),
-            None => I64Answer::none(NOT_FITTING),
+    match from.found() {
+        Some(first) => match to.found() {
+            Some(last) => match months_between(&first, &last) {
+                Some(months) => I64Answer::some(months),
+                None => I64Answer::none(NOT_FITTING),
+            },
+            None => I64Answer::none(NO_DATE),
         },
-        _ => I64Answer::none(NO_DATE),
+        None => I64Answer::none(NO_DATE),
     }
 }
 
