@@ -5,6 +5,7 @@ mod lemmas;
 mod matched;
 mod plain;
 mod powers;
+mod ranges;
 mod ranking;
 mod rolling_hash;
 mod rows;

@@ -1,51 +1,64 @@
 //! Schedules.
 
-use crate::assertions::holds_at;
-use uses::schedules::Meeting::{At, Never, TooLate};
-use uses::schedules::{Meeting, Schedule, next_meeting};
+ghost use Rattle.std.specs.Prelude.{◌<ℤ◌, pos, IfSome};
+ghost use Rattle.std.specs.List.{All};
+ghost use Rattle.modular.specs.Least.{IsLeastFrom};
+ghost use Rattle.uses.specs.Schedules.{IsMeetingOfEach};
 
-/// A time, two schedules, each a first time and a period, and when both come next.
-type Next = (i8, (i8, i8), (i8, i8), Meeting<i8>);
+use crate::assertions::holds_at;
+use modular::CommonSolution;
+use modular::CommonSolution::{At, Beyond, Never};
+use uses::schedules::{Schedule, next_meeting, next_meeting_of};
+
+/// The next day from `now` on that lies on each schedule, where it is in the type.
+fn next_shift(now: i64, schedules: &[Schedule<i64>]) -> Option<i64>
+    requires { All (λ s. pos 0 <ℤ s.1) schedules.now }
+    ensures { IfSome result (λ day. IsLeastFrom now (IsMeetingOfEach (λ t. t) schedules.now) day) }
+{
+    match next_meeting_of(now, schedules) {
+        At(day) => Some(day),
+        Beyond | Never => None,
+    }
+}
+
+/// A time, two schedules and when both come next.
+type Next = (i8, Schedule<i8>, Schedule<i8>, CommonSolution<i8>);
 
 const NEXT: [Next; 11] = [
     (10, (1, 4), (3, 6), At(21)),
     (21, (1, 4), (3, 6), At(21)),
     (0, (1, 4), (2, 6), Never),
     (-20, (-5, 6), (1, 4), At(1)),
-    (5, (100, 7), (3, 5), TooLate),
+    (5, (100, 7), (3, 5), Beyond),
     (5, (93, 7), (3, 5), At(93)),
     (100, (1, 4), (3, 6), At(105)),
     (100, (0, 10), (0, 12), At(120)),
     (5, (5, 10), (0, 13), At(65)),
-    (66, (5, 10), (0, 13), TooLate),
+    (66, (5, 10), (0, 13), Beyond),
     (-128, (-128, 127), (-128, 126), At(-128)),
 ];
 
 #[test]
 fn meetings(rt: HostRuntime) {
-    for (now, (a, p), (b, q), meeting) in NEXT {
-        let first = Schedule {
-            first: a,
-            period: p,
-        };
-        let second = Schedule {
-            first: b,
-            period: q,
-        };
+    for (now, a, b, meeting) in NEXT {
         holds_at(
             &rt,
-            p > 0 && q > 0 && next_meeting(now, first, second) == meeting,
-            &("next_meeting", now, a, p, b, q),
+            a.1 > 0 && b.1 > 0 && next_meeting(now, a, b) == meeting,
+            &("next_meeting", now, a, b),
         );
     }
-    let odd = Schedule {
-        first: 1u8,
-        period: 4,
-    };
-    let third = Schedule {
-        first: 3,
-        period: 6,
-    };
-    assert!(rt; next_meeting(10, odd, third) == At(21));
-    assert!(rt; next_meeting(250, odd, third) == TooLate);
+    assert!(rt; next_meeting(10u8, (1, 4), (3, 6)) == At(21));
+    assert!(rt; next_meeting(250u8, (1, 4), (3, 6)) == Beyond);
+}
+
+#[test]
+fn meetings_of_several(rt: HostRuntime) {
+    assert!(rt; next_meeting_of(-128i8, &[(0, 11), (0, 13), (0, 7)]) == At(0));
+    assert!(rt; next_meeting_of(1i8, &[(0, 11), (0, 13), (0, 7)]) == Beyond);
+    assert!(rt; next_meeting_of(-128i8, &[(5, 11), (5, 13), (5, 7)]) == At(5));
+    assert!(rt; next_meeting_of(0u8, &[(1, 4), (3, 6), (0, 7)]) == At(21));
+    assert!(rt; next_meeting_of(0u8, &[(1, 4), (3, 6), (0, 2)]) == Never);
+    assert!(rt; next_meeting_of(i64::MAX, &[(0, 1), (1, 2)]) == At(i64::MAX));
+    assert!(rt; next_shift(10, &[(1, 4), (3, 6), (0, 7)]) == Some(21));
+    assert!(rt; next_shift(10, &[(1, 4), (3, 6), (0, 2)]) == None && next_shift(7, &[]) == Some(7));
 }

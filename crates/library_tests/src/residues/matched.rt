@@ -14,7 +14,7 @@ use modular::{
 };
 use num_integer::Fits;
 use uses::layout::align_up;
-use uses::schedules::{Meeting, Schedule, next_meeting};
+use uses::schedules::{Schedule, next_meeting};
 
 /// The inverse, which is below the modulus, or the modulus where there is none.
 fn inverse_or_modulus(a: u64, m: u64) -> u64
@@ -165,11 +165,11 @@ fn aligned(offset: u32, alignment: u32) -> u32
 
 /// How long to wait for the next meeting.
 fn wait(now: u32, first: Schedule<u32>, second: Schedule<u32>) -> Option<u32>
-    requires first { 0 < first.period }
-    requires second { 0 < second.period }
+    requires first { 0 < first.1 }
+    requires second { 0 < second.1 }
 {
     match next_meeting(now, first, second) {
-        Meeting::At(time) => Some(time - now),
-        Meeting::Never | Meeting::TooLate => None,
+        CommonSolution::At(time) => Some(time - now),
+        CommonSolution::Never | CommonSolution::Beyond => None,
     }
 }
