@@ -1,6 +1,7 @@
 //! Schedules.
 
-ghost use Rattle.std.specs.Prelude.{◌<ℤ◌, pos, IfSome};
+ghost use Rattle.std.specs.Prelude.{◌<ℤ◌, pos, FitsSigned, IfSome};
+ghost use Rattle.std.specs.Int.{w64};
 ghost use Rattle.std.specs.List.{All};
 ghost use Rattle.modular.specs.Least.{IsLeastFrom};
 ghost use Rattle.uses.specs.Schedules.{IsMeetingOfEach};
@@ -12,7 +13,8 @@ use uses::schedules::{Schedule, next_meeting, next_meeting_of};
 
 /// The next day from `now` on that lies on each schedule, where it is in the type.
 fn next_shift(now: i64, schedules: &[Schedule<i64>]) -> Option<i64>
-    requires { All (λ s. pos 0 <ℤ s.1) schedules.now }
+    requires in_range { All (λ s. FitsSigned w64 s.0 × FitsSigned w64 s.1) schedules.now }
+    requires positive { All (λ s. pos 0 <ℤ s.1) schedules.now }
     ensures { IfSome result (λ day. IsLeastFrom now (IsMeetingOfEach (λ t. t) schedules.now) day) }
 {
     match next_meeting_of(now, schedules) {

@@ -132,17 +132,6 @@ fn next_of_each(from: i64, congruences: &[(i64, i64)]) -> Option<i64>
     }
 }
 
-/// The next time at which all bells ring, or the last of the type.
-fn next_ring(now: u64, bells: &[(u64, u64)]) -> u64
-    requires { All (λ c. 0 < c.1) bells.now }
-    ensures { pos now ≤ℤ pos result }
-{
-    match next_common_solution_of(now, bells) {
-        CommonSolution::At(time) => time,
-        CommonSolution::Beyond | CommonSolution::Never => u64::MAX,
-    }
-}
-
 /// The power and the turns.
 fn power_and_turns(a: u64, exponent: u32, m: u64) -> (u64, u32)
     requires { 0 < m }
