@@ -58,7 +58,8 @@ fn only_factor(a: i16, b: i16, m: i16) -> Option<i16> {
 fn power_of(a: i16, exponent: u8, m: i16) -> Option<u128> {
     let mut power = rest_of(1, m)?;
     for _ in 0..exponent {
-        power = rest_of((power as i128).wrapping_mul(a.into()), m)?;
+        let product = i128::try_from(power).ok()?.wrapping_mul(a.into());
+        power = rest_of(product, m)?;
     }
     Some(power)
 }

@@ -2,13 +2,13 @@
 
 ghost use Rattle.std.specs.Prelude.{◌≡◌, ◌<ℤ◌, ℤ, pos, IsTrue, Some};
 ghost use Rattle.num_integer.specs.Only.{IsOnly};
-ghost use Rattle.modular.specs.Congruences.{IsCountOfCongruent, IsInverse, IsNextCommonSolution, IsNextCongruent, IsPreviousCongruent, IsQuotientModulo, IsResidueClass, Solves};
+ghost use Rattle.modular.specs.Congruences.{IsInverse, IsNextCommonSolution, IsNextCongruent, IsPreviousCongruent, IsQuotientModulo, IsResidueClass, Solves};
 ghost use Rattle.modular.specs.Laws.{CountOfCongruentIsOnly, InverseIsOnly, NextCommonSolutionIsOnly, NextCongruentIsOnly, PreviousCongruentIsOnly, QuotientIsOnly, ResidueIsOnly};
 ghost use Rattle.modular.specs.declared.common_solutions.CommonSolution.TheVariants.{At};
 
 use modular::{
-    CommonSolution, count_congruent, inverse_modulo, next_common_solution, next_congruent,
-    previous_congruent, quotient_modulo, residue, solutions,
+    CommonSolution, inverse_modulo, next_common_solution, next_congruent, previous_congruent,
+    quotient_modulo, residue, solutions,
 };
 
 /// A property of whole numbers. No clause can speak of every property, but one can of each `P: Property`.
@@ -81,15 +81,6 @@ fn previous_congruent_again(to: i64, first: i64, step: i64, known: i64) -> Optio
     ensures { result ≡ Some known }
 {
     previous_congruent(to, first, step)
-}
-
-/// The count of the congruent numbers of a range is the one that is found.
-fn count_congruent_again(from: i64, to: i64, first: i64, step: i64, known: i64) -> Option<i64>
-    requires positive { pos 0 <ℤ step }
-    requires count { IsCountOfCongruent from to first step known }
-    ensures { result ≡ Some known }
-{
-    count_congruent(from, to, first, step)
 }
 
 /// The next number that solves two congruences is the one that is found.
