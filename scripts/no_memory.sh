@@ -60,7 +60,7 @@ prints() {
 # docs/TESTING.md gives this number of requests.
 requests_are_documented() {
     local spelled=(no one two three four five six seven eight nine ten eleven twelve)
-    tr '\n' ' ' <../../docs/TESTING.md | grep -q "each of its ${spelled[requests]} requests for memory refused"
+    tr -s '\n ' ' ' <../../docs/TESTING.md | grep -q "each of its ${spelled[requests]} requests for memory refused"
 }
 
 if [ ! -x "$program" ]; then
