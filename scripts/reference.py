@@ -3,6 +3,8 @@
 
     scripts/reference.py            writes the pages
     scripts/reference.py --check    compares them with what the sources make; status 1 where a page differs
+    scripts/reference.py --self-test
+                                    plants one difference of each kind in a copy; status 1 where one is not found
 
 A page has, in the order of the modules, each public item with its doc comment, its signature and its clauses as they
 stand, without its body; then each definition of `specs/` that a public clause or such a definition cites; then the laws,
@@ -10,7 +12,10 @@ and the lemmas of `proofs/ForCallers.antt`. A word that a clause cites has a lin
 file and line, and then nothing is written."""
 import pathlib
 import re
+import shutil
+import subprocess
 import sys
+import tempfile
 import textwrap
 
 from antt_words import Specs, cited, imported
@@ -389,7 +394,37 @@ def lemmas_in(paragraph):
     return found
 
 
+SLIPS = (
+    ('a clause', 'crates/ratio64/src/fraction.rt', 'IfErr result (λ _. den ≤ℤ pos 0)', 'IfErr result (λ _. den <ℤ pos 0)'),
+    ('a definition', 'crates/integer_core/specs/Divisors.antt', 'pub divides_left : Divides g a', 'pub divides_left : Divides a g'),
+    ('a lemma for callers', 'crates/num_integer/proofs/ForCallers.antt', 'pub natural_gcd_positive : {n m d : ℕ} → 0 < m',
+     'pub natural_gcd_positive : {n m d : ℕ} → 0 < n'),
+    ('a doc comment', 'crates/calendar/src/feasts.rt', '/// Returns', '/// Computes'),
+    ('a line of a page', 'docs/reference/modular.md', 'fn inverse_modulo', 'fn modular_inverse'),
+)
+
+
+def self_test():
+    """The number of planted differences that a comparison does not find."""
+    missed = 0
+    with tempfile.TemporaryDirectory() as copy:
+        for part in ('crates', 'docs/reference', 'rust/by_hand', 'scripts'):
+            shutil.copytree(REPOSITORY / part, pathlib.Path(copy, part))
+        for slip, path, old, new in SLIPS:
+            file = pathlib.Path(copy, path)
+            text = file.read_text()
+            file.write_text(text.replace(old, new, 1))
+            check = subprocess.run([f'{copy}/scripts/reference.py', '--check'], capture_output=True, check=False)
+            file.write_text(text)
+            found = old in text and check.returncode == 1
+            missed += not found
+            print(f'{"ok  " if found else "FAIL"} reference.py finds {slip} that differs')
+    return missed
+
+
 def main():
+    if '--self-test' in sys.argv:
+        sys.exit(1 if self_test() else 0)
     try:
         made = Reference().made()
     except Unknown as form:

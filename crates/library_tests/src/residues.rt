@@ -4,6 +4,7 @@
 mod all_bytes;
 mod callers;
 mod cents;
+mod ciphers;
 mod congruences;
 mod congruent_bytes;
 mod long_products;

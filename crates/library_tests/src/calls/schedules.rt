@@ -1,6 +1,6 @@
 //! Schedules.
 
-ghost use Rattle.std.specs.Prelude.{◌<ℤ◌, pos, FitsSigned, IfSome};
+ghost use Rattle.std.specs.Prelude.{◌<ℤ◌, ℤ, pos, FitsSigned, MatchOption};
 ghost use Rattle.std.specs.Int.{w64};
 ghost use Rattle.std.specs.List.{All};
 ghost use Rattle.modular.specs.Least.{IsLeastFrom};
@@ -11,15 +11,19 @@ use modular::CommonSolution;
 use modular::CommonSolution::{At, Beyond, Never};
 use uses::schedules::{Schedule, next_meeting, next_meeting_of};
 
-/// The next day from `now` on that lies on each schedule, where it is in the type.
+/// The next day from `now` on that lies on each schedule, or `None` where no such day fits `i64`.
 fn next_shift(now: i64, schedules: &[Schedule<i64>]) -> Option<i64>
     requires in_range { All (λ s. FitsSigned w64 s.0 × FitsSigned w64 s.1) schedules.now }
     requires positive { All (λ s. pos 0 <ℤ s.1) schedules.now }
-    ensures { IfSome result (λ day. IsLeastFrom now (IsMeetingOfEach (λ t. t) schedules.now) day) }
+    ensures { MatchOption result
+        ((day : ℤ) → IsLeastFrom now (IsMeetingOfEach (λ t. t) schedules.now) day
+        → ¬ (FitsSigned w64 day))
+        (λ day. IsLeastFrom now (IsMeetingOfEach (λ t. t) schedules.now) day) }
 {
     match next_meeting_of(now, schedules) {
         At(day) => Some(day),
-        Beyond | Never => None,
+        Beyond => None,
+        Never => None,
     }
 }
 
