@@ -149,9 +149,9 @@ module _ {a first : ℕ} (known : IsSquareStart a first) where
   near_root (falls {x} {y} reached is down) = near_after_turn a x y _ (positive reached) (near_root reached) is known.start.limited (λ h. down)
 
   -- where they end, their turns are those of the run
-  pub turns_of_run : {x next turns : ℕ} → IsReached (IsSquareStep a) first (Falling x) turns → IsSquareStep a x next → x ≤ next
+  pub turns_of_run : {x turns : ℕ} → IsReached (IsSquareStep a) first (Falling x) turns → (next : ℕ) × IsSquareStep a x next × (x ≤ next)
       → AreSquareRootTurns (pos a) turns
-  turns_of_run reached is up =
+  turns_of_run reached (next, is, up) =
       let least = known.start.power_le in
       record {
         below_four = λ h. absurd (omega (arith, ints));
