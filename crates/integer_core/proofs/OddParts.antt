@@ -1,11 +1,10 @@
 -- Odd parts: what a shift by `trailing_zeros` leaves, and what the turns of Stein's loop keep.
 use Rattle.std.proofs.Common.{◌≡◌, ℕ, zero, suc, ◌+◌, ◌-◌, ◌*◌, ◌/◌, ◌%◌, ◌^◌, ◌<◌, ◌≤◌, inl, inr, refl, sym, ◌∙◌, ap, arith, mul-one, div-one, add-one, mul-le-mul_right, mul-pos, pow_mono, pow_pos, pow-add, le-mul_of_pos_right}
-use Rattle.std.proofs.Math.Nat.{pow-succ', div-div-eq-div-mul}
+use Rattle.std.proofs.Math.Nat.{pow-succ', div-div-eq-div-mul, lt_of_not-le}
 use lib.Count.{count_trailing_zeros, under}
 use Rattle.std.specs.Int.{IsGcd, Width}
 use Rattle.num_traits.specs.Ints.{pow-bit_len}
 use Rattle.num_traits.specs.Laws.{bit_len}
-use Rattle.std.proofs.lemmas.Bool.{cases_lt}
 use Rattle.std.proofs.lemmas.Nat.{mul-lt}
 use Rattle.std.proofs.lemmas.Nat.Gcd.{IsGcd-from_sub, IsGcd-swap}
 use Rattle.integer_core.proofs.NaturalGcd.{gcd_strip}
@@ -83,12 +82,9 @@ pub turning_ends : {a b m n t : ℕ} → Turning a b m n t → 2 ^ t ≤ a * b
 turning_ends {m = m} {n = n} {t = t} v = omega (arith, v.shrunk, mul-le-mul_right (2 ^ t) (mul-pos {m = m} {n = n} (omega (arith, v.m_odd)) (omega (arith, v.n_odd))))
 
 pub few_turns : {a b t : ℕ} (k l : ℕ) → 2 ^ t ≤ a * b → a < 2 ^ k → b < 2 ^ l → t ≤ k + l
-few_turns {a} {b} {t} k l least a_fits b_fits = elim (cases_lt (k + l) t) [
-  | inl more ↦
-      let wide : 2 ^ (k + l) ≤ 2 ^ t = pow_mono {i = k + l} {j = t} (omega arith) in
-      absurd (omega (arith, least, mul-lt a b (2 ^ k) (2 ^ l) a_fits b_fits, pow-add 2 k l))
-  | inr few ↦ few
-]
+few_turns {a} {b} {t} k l least a_fits b_fits = omega (arith, lt_of_not-le {n = k + l + 1} {m = t} (λ more.
+    let wide = pow_mono {i = k + l} {j = t} (omega arith) in
+    omega (arith, least, mul-lt a b (2 ^ k) (2 ^ l) a_fits b_fits, pow-add 2 k l)))
 
 -- at each width, and so a turn more can be counted
 pub turns_fit : (w : Width) (t : ℕ) {a b : ℕ} → 2 ^ t ≤ a * b → a < 2 ^ bit_len w → b < 2 ^ bit_len w → t + 1 < 2 ^ 32

@@ -2,14 +2,13 @@
 use Rattle.std.specs.Prelude.{◌≡◌, ◌⊎◌, ◌≤ℤ◌, ◌-ℤ◌, ℤ, pos, unsigned_abs}
 use Rattle.std.specs.Int.{Width, w8, w16, w32, w64, w128, trailing_zeros, int_shr}
 use Rattle.std.proofs.Common.{ℕ, min, ◌-◌, ◌*◌, ◌/◌, ◌%◌, ◌^◌, ◌<◌, ◌≤◌, refl, sym, subst, arith, inl, inr, pow_mono, mul-le-mul_right}
-use Rattle.std.proofs.lemmas.Bool.{cases_lt}
 use Rattle.std.proofs.lemmas.Int.{ints}
 use Rattle.std.proofs.lemmas.Nat.Bits.{bit_at-trailing_zeros}
 use Rattle.num_traits.specs.Laws.{bit_len}
 use borrow.Author.Differences.{abs_is}
 use Rattle.integer_core.proofs.Whole.{linear}
 use Rattle.std.specs.Int.{IsGcd, IsPowerOfTwo}
-use Rattle.std.proofs.Math.Nat.{eq-one_of_dvd-one, one-dvd}
+use Rattle.std.proofs.Math.Nat.{eq-one_of_dvd-one, lt_of_not-le, one-dvd}
 use Rattle.std.proofs.lemmas.Nat.Gcd.{dvd_refl, le_of_dvd}
 use Rattle.integer_core.proofs.NaturalGcd.{gcd_shift, odd_divisor, odd_divides}
 use Rattle.integer_core.proofs.OddParts.{shift_back}
@@ -45,12 +44,9 @@ size_of_difference x_up y_up less = omega (arith, linear, abs_is)
 
 -- a shift that keeps its number in the range
 pub shift_few : (m k bits : ℕ) → 0 < m → m * 2 ^ k < 2 ^ bits → k < bits
-shift_few m k bits positive fits = elim (cases_lt k bits) [
-  | inl few ↦ few
-  | inr many ↦
-      let wide : 2 ^ bits ≤ 2 ^ k = pow_mono {i = bits} {j = k} many in
-      absurd (omega (arith, mul-le-mul_right {m = 1} {n = m} (2 ^ k) positive))
-]
+shift_few m k bits positive fits = lt_of_not-le (λ many.
+    let wide = pow_mono {i = bits} {j = k} many in
+    omega (arith, mul-le-mul_right {m = 1} {n = m} (2 ^ k) positive))
 
 pub natural : {z : ℤ} → pos 0 ≤ℤ z → z ≡ pos (unsigned_abs z)
 natural up = omega (arith, linear, abs_is)

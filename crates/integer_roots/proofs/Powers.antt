@@ -1,7 +1,7 @@
 -- Powers, multiplied out and compared.
-use Rattle.std.proofs.Common.{◌≡◌, ◌≢◌, ◌/◌, ◌%◌, ℕ, suc, zero, ◌*◌, ◌^◌, ◌+◌, ◌-◌, ◌<◌, ◌≤◌, ap, sym, refl, ◌∙◌, arith, pos, mul-le-mul_left, mul-le-mul_right, mul-one, mul-pos, zero-mul, pow-add, pow_mono}
+use Rattle.std.proofs.Common.{◌≡◌, ◌≢◌, ◌/◌, ◌%◌, ℕ, suc, zero, ◌*◌, ◌^◌, ◌+◌, ◌<◌, ◌≤◌, ap, refl, ◌∙◌, arith, pos, mul-le-mul_left, mul-le-mul_right, mul-one, mul-pos, pow-add, pow_mono}
 use Rattle.std.proofs.lemmas.Int.{ints}
-use Rattle.std.proofs.Math.Nat.{pow-zero, pow-succ', pow-le-pow_left, pow-le-pow_right, lt_of_not-le}
+use Rattle.std.proofs.Math.Nat.{pow-zero, pow-succ', pow-le-pow_left, pow-le-pow_right, pow-lt-pow_left, lt_of_not-le}
 use Rattle.integer_roots.specs.RootOf.{IsFloorRoot}
 
 -- the first three powers
@@ -21,15 +21,11 @@ power_of_one (suc n) = rw (pow-succ' 1 n, power_of_one n) refl
 
 -- the powers of 0, and of a power
 pub power_of_zero : (n : ℕ) → 0 < n → 0 ^ n ≡ 0
-power_of_zero n h =
-    let e : n ≡ suc (n - 1) = omega arith in
-    ap (λ (k : ℕ). 0 ^ k) e ∙ pow-succ' 0 (n - 1) ∙ zero-mul (0 ^ (n - 1))
+power_of_zero n h = omega (arith, pow-lt-pow_left {a = 0} {b = 1} {n = n} (omega arith) (omega arith), power_of_one n)
 
 pub power_of_power : (b i j : ℕ) → (b ^ i) ^ j ≡ b ^ (i * j)
-power_of_power b i zero = pow-zero (b ^ i) ∙ sym (ap (λ (k : ℕ). b ^ k) (let e : i * 0 ≡ 0 = omega arith in e) ∙ pow-zero b)
-power_of_power b i (suc j) =
-    let e : i * suc j ≡ i + i * j = omega arith in
-    pow-succ' (b ^ i) j ∙ ap (λ (k : ℕ). b ^ i * k) (power_of_power b i j) ∙ sym (ap (λ (k : ℕ). b ^ k) e ∙ pow-add b i (i * j))
+power_of_power b i zero = let e : i * 0 ≡ 0 = omega arith in rw (e, pow-zero (b ^ i), pow-zero b) refl
+power_of_power b i (suc j) = let e : i * suc j ≡ i + i * j = omega arith in rw (e, pow-succ' (b ^ i) j, power_of_power b i j, pow-add b i) refl
 
 -- a power by squares: what is computed already, and the power of the square that is left of the whole
 pub record IsPowerLeft (power square rest whole : ℕ) : Type 0 where
