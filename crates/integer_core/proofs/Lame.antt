@@ -1,6 +1,6 @@
 -- Lamé's theorem: Euclid's loop makes few turns. By recursion on the run, from its last state.
 use Rattle.std.specs.Prelude.{◌≡◌, ◌≢◌, ◌<◌, ◌≤◌, ◌+◌, ◌*◌, ◌^◌, ℤ, ℕ, pos, suc, zero, List, [], ◌∷◌, length, unsigned_abs}
-use Rattle.std.proofs.Common.{arith, inl, inr, subst}
+use Rattle.std.proofs.Common.{arith, subst}
 use Rattle.std.proofs.Math.Nat.{lt_of_not-le, pow-succ'}
 use Rattle.integer_core.specs.Bezout.{Remainders, IsEuclidTurn, EuclidEnds}
 use Rattle.integer_core.specs.Divisors.{Divides}

@@ -43,9 +43,12 @@ odd_divides e a zero odd h = subst (λ (n : ℕ). e ∣ n) (mul-one a) h
 odd_divides e a (suc k) odd h = odd_divides e a k odd (odd_half e (a * 2 ^ k) odd (subst (λ (n : ℕ). e ∣ n) (ap (λ (n : ℕ). a * n) (pow-suc 2 k) ∙ sym (mul_assoc a (2 ^ k) 2)) h))
 
 pub odd_divisor : (d n : ℕ) → d ∣ n → n % 2 ≡ 1 → d % 2 ≡ 1
-odd_divisor d n h odd = omega (arith, lt_of_not-le {n = d % 2} {m = 0} (λ none.
-    let even : d % 2 ≡ 0 = omega arith in
-    omega (arith, mod-eq-zero_of_dvd 2 (dvd_trans 2 (dvd_of_mod-eq-zero 2 even) h))))
+odd_divisor d n h odd = omega (
+  arith,
+  lt_of_not-le {n = d % 2} {m = 0} (λ none.
+      let even : d % 2 ≡ 0 = omega arith in
+      omega (arith, mod-eq-zero_of_dvd 2 (dvd_trans 2 (dvd_of_mod-eq-zero 2 even) h))),
+)
 
 -- factors of two on one side do not matter where the other is odd
 pub gcd_strip : {m n g : ℕ} (k : ℕ) → n % 2 ≡ 1 → IsGcd m n g → IsGcd (m * 2 ^ k) n g

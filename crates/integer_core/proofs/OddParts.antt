@@ -32,8 +32,8 @@ times_half n m (suc k) odd product even =
     omega (arith, pow-succ' 2 k, ap (λ (x : ℕ). m * x) (pow-succ' 2 k))
 
 -- an odd part is at most its number
-pub odd_part_le : {n m : ℕ} (k : ℕ) → n ≡ m * 2 ^ k → m ≤ n
-odd_part_le {m = m} k product = let up : m ≤ m * 2 ^ k = le-mul_of_pos_right m (pow_pos k) in omega arith
+pub odd_part_le : {n m : ℕ} → IsOddPart n m → m ≤ n
+odd_part_le {m = m} part = omega (arith, part.product, le-mul_of_pos_right m (pow_pos part.twos))
 
 -- what the loop keeps: its numbers are odd, their gcd is that of a and b, and their product has been halved each turn
 pub record Turning (a b m n turns : ℕ) : Type 0 where
@@ -70,8 +70,8 @@ turning_turn v h = elim h [
 
 pub turning_falls : {a b m n d e t : ℕ} → Turning a b m n t → IsOrderedTurn (record { m = m; n = n }) (record { m = d; n = e }) → d + e < m + n
 turning_falls v h = elim h [
-  | inl left ↦ omega (arith, odd_part_le left.m.twos left.m.product, left.above, left.n, v.n_odd)
-  | inr right ↦ omega (arith, odd_part_le right.m.twos right.m.product, right.above, right.n, v.m_odd)
+  | inl left ↦ omega (arith, odd_part_le left.m, left.above, left.n, v.n_odd)
+  | inr right ↦ omega (arith, odd_part_le right.m, right.above, right.n, v.m_odd)
 ]
 
 -- so the turns are few
@@ -82,9 +82,12 @@ pub turning_ends : {a b m n t : ℕ} → Turning a b m n t → 2 ^ t ≤ a * b
 turning_ends {m = m} {n = n} {t = t} v = omega (arith, v.shrunk, mul-le-mul_right (2 ^ t) (mul-pos {m = m} {n = n} (omega (arith, v.m_odd)) (omega (arith, v.n_odd))))
 
 pub few_turns : {a b t : ℕ} (k l : ℕ) → 2 ^ t ≤ a * b → a < 2 ^ k → b < 2 ^ l → t ≤ k + l
-few_turns {a} {b} {t} k l least a_fits b_fits = omega (arith, lt_of_not-le {n = k + l + 1} {m = t} (λ more.
-    let wide = pow_mono {i = k + l} {j = t} (omega arith) in
-    omega (arith, least, mul-lt a b (2 ^ k) (2 ^ l) a_fits b_fits, pow-add 2 k l)))
+few_turns {a} {b} {t} k l least a_fits b_fits = omega (
+  arith,
+  lt_of_not-le {n = k + l + 1} {m = t} (λ more.
+      let wide = pow_mono {i = k + l} {j = t} (omega arith) in
+      omega (arith, least, mul-lt a b (2 ^ k) (2 ^ l) a_fits b_fits, pow-add 2 k l)),
+)
 
 -- at each width, and so a turn more can be counted
 pub turns_fit : (w : Width) (t : ℕ) {a b : ℕ} → 2 ^ t ≤ a * b → a < 2 ^ bit_len w → b < 2 ^ bit_len w → t + 1 < 2 ^ 32

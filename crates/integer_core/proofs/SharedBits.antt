@@ -1,6 +1,6 @@
 -- The last bits that two numbers share: their difference has as many factors 2.
 use Rattle.std.specs.Prelude.{bit_xor}
-use Rattle.std.proofs.Common.{◌≡◌, ℕ, ◌+◌, ◌-◌, ◌*◌, ◌/◌, ◌%◌, ◌^◌, ◌<◌, ◌≤◌, inl, inr, sym, ◌∙◌, ap, arith, pow_pos, mul-le-mul_right}
+use Rattle.std.proofs.Common.{◌≡◌, ℕ, ◌+◌, ◌-◌, ◌*◌, ◌/◌, ◌%◌, ◌^◌, ◌<◌, sym, ◌∙◌, ap, arith, pow_pos, mul-le-mul_right}
 use Rattle.std.specs.Int.{Width, trailing_zeros}
 use Rattle.std.specs.Int.Bits.{xor_add_and}
 use Rattle.std.proofs.lemmas.Nat.{xor_mod, and_le_l, and_le_r, div-add-mod'}
@@ -24,7 +24,7 @@ difference_by {m} {n} {p} positive less same odd =
     let a : ℕ = m / p in
     let b : ℕ = n / p in
     let below : b < a + 1 = lt_of_not-le (λ up.
-        omega (arith, same, div-add-mod' m p, div-add-mod' n p, mul-le-mul_right {m = a} {n = b} p (omega arith))) in
+    omega (arith, same, div-add-mod' m p, div-add-mod' n p, mul-le-mul_right {m = a} {n = b} p (omega arith))) in
     let split : a ≡ b + (a - b) = omega arith in
     let times : m - n ≡ (a - b) * p = omega (arith, same, div-add-mod' m p, div-add-mod' n p, ap (λ (x : ℕ). x * p) split) in
     let quotient : (m - n) / p ≡ a - b = ap (λ (x : ℕ). x / p) times ∙ mul-div_cancel (a - b) positive in

@@ -21,7 +21,8 @@ pub from_64_bits-requires : goal.from_64_bits-requires
 from_64_bits-requires g c =
     let pair = c.in-Some.ensures in
     let exact = g.met.M.Integral.exact_law in
-    gcd_fits (λ x y z. g.M.Number.between_law x y z exact) (g.met.M.Zero.zero_fits_law exact) c.turns.invariant.in_range.0 (g.met.M.Unsigned.unsigned_law c.turns.m) (omega (arith, c.turns.invariant.kept.m_odd))
+    gcd_fits (λ y. g.M.Number.between_law _ y _ exact (g.met.M.Zero.zero_fits_law exact) c.turns.invariant.in_range.0)
+    (g.met.M.Unsigned.unsigned_law c.turns.m) (omega (arith, c.turns.invariant.kept.m_odd))
     (rw (pair.0, pair.1) at c.odd_gcd-gcd.ensures.greatest)
 
 pub overflow_add-result : goal.overflow_add-result
