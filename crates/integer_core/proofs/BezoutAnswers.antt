@@ -10,7 +10,7 @@ use Rattle.integer_core.proofs.EuclidTurns.{divides_or_not}
 use Rattle.integer_core.proofs.Quotients.{small_multiple}
 use Rattle.integer_core.proofs.SmallPairs.{only_small}
 use Rattle.integer_core.proofs.Whole.{linear, products, expand, comm, mul-one}
-use Rattle.integer_core.specs.Bezout.{IsBezoutAnswer, IsSmallPair, NeedsBoth, sign}
+use Rattle.integer_core.specs.Bezout.{IsBezoutAnswer, IsSmallPair, NeedsBoth, SecondDividesFirst, sign}
 use Rattle.integer_core.specs.Divisors.{Divides, IsGreatestCommonDivisor}
 use Rattle.integer_core.specs.Only.{IsOnly}
 
@@ -54,41 +54,29 @@ answer_for_zero {a} {b} none = record {
   both = λ needs. absurd (needs.not_first (inl none));
 }
 
--- where the loop makes no turn
-answer_at_once : {a b : ℤ} → b ≢ pos 0 → Divides b a → IsBezoutAnswer a b (sign b *ℤ b) (sign b *ℤ pos 0) (sign b *ℤ pos 1)
-answer_at_once {a} {b} nonzero divides = record {
-  greatest = rw (sign_size b) (gcd-divisor divides);
-  equation = simp (mul-one, *ℤ-zero, zero-*ℤ, +ℤ_idl);
-  second_divides = λ _. (*ℤ-zero (sign b), mul-one (sign b));
-  first_divides = λ not_second. absurd (not_second (record { nonzero = nonzero; divides = divides }));
-  both = λ needs. absurd (needs.not_second (record { nonzero = nonzero; divides = divides }));
-}
-
--- where it makes a turn
-answer_after_turns : {a b r x y : ℤ} → b ≢ pos 0 → ¬ (Divides b a) → IsGreatestCommonDivisor a b (pos (unsigned_abs r)) → IsSmallPair a b r x y
-    → IsBezoutAnswer a b (sign r *ℤ r) (sign r *ℤ x) (sign r *ℤ y)
-answer_after_turns {a} {b} {r} nonzero not_second greatest h =
-    let small = small_signed h in
-    let is : IsGreatestCommonDivisor a b (sign r *ℤ r) = rw (sign_size r) greatest in
-    record {
-      greatest = is;
-      equation = small.equation;
-      second_divides = λ second. absurd (not_second second.divides);
-      first_divides = λ _. elim [
-        | inl none ↦ absurd (nonzero none)
-        | inr divides ↦ small_alone is divides (λ none. not_second (rw none (Divides-zero b))) small
-      ];
-      both = λ _. small;
-    }
-
 -- from what the loop's last row is
 pub answer_of_loop : {a b r x y : ℤ} → b ≢ pos 0 → IsGreatestCommonDivisor a b (pos (unsigned_abs r))
     → (Divides b a → (r ≡ b) × (x ≡ pos 0) × (y ≡ pos 1)) → (¬ (Divides b a) → IsSmallPair a b r x y)
     → IsBezoutAnswer a b (sign r *ℤ r) (sign r *ℤ x) (sign r *ℤ y)
-answer_of_loop {a} {b} nonzero greatest at_once after_turns = elim (divides_or_not b a nonzero) [
-  | inl divides ↦ let row = at_once divides in rw (row.0, row.1, row.2) (answer_at_once nonzero divides)
-  | inr not_second ↦ answer_after_turns nonzero not_second greatest (after_turns not_second)
-]
+answer_of_loop {a} {b} {r} nonzero greatest at_once after_turns =
+    let is : IsGreatestCommonDivisor a b (sign r *ℤ r) = rw (sign_size r) greatest in
+    let small = λ (not_second : ¬ (SecondDividesFirst a b)).
+    small_signed (after_turns (λ divides. not_second (record { nonzero = nonzero; divides = divides }))) in
+    record {
+      greatest = is;
+      equation = elim (divides_or_not b a nonzero) [
+        | inl divides ↦ let row = at_once divides in rw (row.0, row.1, row.2) (simp (mul-one, *ℤ-zero, zero-*ℤ, +ℤ_idl))
+        | inr not_second ↦ (small_signed (after_turns not_second)).equation
+      ];
+      second_divides = λ second. let row = at_once second.divides in rw (row.0, row.1, row.2) (*ℤ-zero (sign b), mul-one (sign b));
+      first_divides = λ not_second. elim [
+        | inl none ↦ absurd (nonzero none)
+        | inr divides ↦
+            let of_zero = λ (none : a ≡ pos 0). not_second (record { nonzero = nonzero; divides = rw none (Divides-zero b) }) in
+            small_alone is divides of_zero (small not_second)
+      ];
+      both = λ needs. small needs.not_second;
+    }
 
 -- where it needs both operands, no other pair is as small
 pub only_answer : {a b g x y : ℤ} → IsBezoutAnswer a b g x y → NeedsBoth a b → IsOnly (λ (z, w). IsSmallPair a b g z w) (x, y)

@@ -1,7 +1,7 @@
 -- Turns of Euclid's loop: what a division says of magnitudes, and that each state has one turn at most.
 use Rattle.std.specs.Prelude.{◌≡◌, ◌≢◌, ◌⊎◌, ◌<◌, ◌≤◌, ◌+◌, ◌*◌, ◌-ℤ◌, ◌*ℤ◌, ℤ, ℕ, pos, zero, suc, unsigned_abs, int_rem}
 use Rattle.std.proofs.Common.{arith, inl, inr, sym, ◌∙◌, ap}
-use Rattle.std.proofs.lemmas.Bool.{cases_lt}
+use Rattle.std.proofs.Math.Nat.{lt_of_not-le}
 use Rattle.std.proofs.lemmas.Int.{unsigned_abs-mul}
 use Rattle.std.proofs.lemmas.Nat.Gcd.{le_of_dvd}
 use borrow.Author.Differences.{abs_is}
@@ -39,12 +39,9 @@ one_divides n = record { factor = n; product = omega (arith, products) }
 
 -- where d does not divide n, it is not 1 or -1
 pub not_one : {n d : ℤ} → ¬ (Divides d n) → d ≢ pos 0 → 2 ≤ unsigned_abs d
-not_one {n} {d} goes_on nonzero = elim (cases_lt (unsigned_abs d) 2) [
-  | inl less ↦
-      let one : unsigned_abs d ≡ 1 = omega (arith, linear, abs_is) in
-      absurd (goes_on (Divides-trans (rw one at (divides_magnitude d)) (one_divides n)))
-  | inr more ↦ more
-]
+not_one {n} {d} goes_on nonzero = lt_of_not-le (λ less.
+    let one : unsigned_abs d ≡ 1 = omega (arith, linear, abs_is) in
+    goes_on (Divides-trans (rw one at (divides_magnitude d)) (one_divides n)))
 
 pub divides_or_not : (d n : ℤ) → d ≢ pos 0 → Divides d n ⊎ (¬ (Divides d n))
 divides_or_not d n nonzero =

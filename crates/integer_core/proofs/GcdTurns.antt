@@ -1,12 +1,11 @@
 -- That the turns of Stein's loop are the only ones, and that each number has a bit length.
-use Rattle.std.specs.Prelude.{◌≡◌, ◌⊎◌, ◌^◌, ◌<◌, ◌≤◌, ◌-ℤ◌, ℤ, ℕ, zero, suc, unsigned_abs}
+use Rattle.std.specs.Prelude.{◌≡◌, ◌⊎◌, ◌^◌, ◌<◌, ◌≤◌, ℤ, ℕ, zero, suc, unsigned_abs}
 use Rattle.std.proofs.Common.{arith, inl, inr, sym, ◌∙◌, subst, pow_mono}
-use Rattle.std.proofs.Math.Nat.{dvd-mul_right, pow-succ'}
+use Rattle.std.proofs.Math.Nat.{dvd-mul_right, lt_of_not-le, pow-succ'}
 use Rattle.std.proofs.lemmas.Bool.{cases_lt}
 use Rattle.std.proofs.lemmas.Nat.Gcd.{dvd_antisymm}
 use Rattle.std.specs.Int.{◌∣◌}
 use Rattle.integer_core.proofs.NaturalGcd.{odd_divides}
-use Rattle.integer_core.proofs.Quotients.{zero_or_not}
 use Rattle.integer_core.proofs.Runs.{only_turns}
 use Rattle.integer_core.proofs.Whole.{linear}
 use Rattle.integer_core.specs.GcdRuns.{AreGcdTurns, GcdEnds, IsBitLength, IsGcdTurn, IsOddPart, IsZeroOrLeast, MakesGcdRun, OddPair}
@@ -49,13 +48,7 @@ only_gcd_run h m i =
     only_turns only_gcd_turn no_gcd_turn h.run m (subst (λ (s : OddPair). Makes IsGcdTurn GcdEnds s m) first i.run)
 
 zero_or_least : (low x : ℤ) → IsZeroOrLeast low x ⊎ (¬ (IsZeroOrLeast low x))
-zero_or_least low x = elim (zero_or_not x) [
-  | inl none ↦ inl (inl none)
-  | inr nonzero ↦ elim (zero_or_not (x -ℤ low)) [
-    | inl least ↦ inl (inr (omega (arith, linear)))
-    | inr above ↦ inr (λ h. elim h [ inl none ↦ nonzero none | inr least ↦ above (omega (arith, linear)) ])
-  ]
-]
+zero_or_least low x = grind (arith, linear)
 
 pub only_gcd_turns : {low a b : ℤ} {n : ℕ} → AreGcdTurns low a b n → IsOnly (AreGcdTurns low a b) n
 only_gcd_turns {low} {a} {b} h m i = elim (zero_or_least low a) [
@@ -77,10 +70,7 @@ bit_length (suc n) =
       | inr above ↦ (
         suc rest.0,
         omega (arith, rest.1, pow-succ' 2 rest.0),
-        λ k h. elim (cases_lt rest.0 k) [
-          | inl less ↦ less
-          | inr more ↦ let wide = pow_mono {i = k} {j = rest.0} more in absurd (omega arith)
-        ],
+        λ k h. lt_of_not-le (λ more. let wide = pow_mono {i = k} {j = rest.0} more in omega arith),
       )
     ]
 

@@ -1,8 +1,7 @@
 -- Lamé's theorem: Euclid's loop makes few turns. By recursion on the run, from its last state.
 use Rattle.std.specs.Prelude.{◌≡◌, ◌≢◌, ◌<◌, ◌≤◌, ◌+◌, ◌*◌, ◌^◌, ℤ, ℕ, pos, suc, zero, List, [], ◌∷◌, length, unsigned_abs}
-use Rattle.std.proofs.Common.{arith, inl, inr, subst}
-use Rattle.std.proofs.Math.Nat.{pow-succ'}
-use Rattle.std.proofs.lemmas.Bool.{cases_lt}
+use Rattle.std.proofs.Common.{arith, subst}
+use Rattle.std.proofs.Math.Nat.{lt_of_not-le, pow-succ'}
 use Rattle.integer_core.specs.Bezout.{Remainders, IsEuclidTurn, EuclidEnds}
 use Rattle.integer_core.specs.Divisors.{Divides}
 use Rattle.integer_core.specs.Fibonacci.{fibonacci}
@@ -57,7 +56,5 @@ fibonacci_doubled (suc k) (suc (suc n)) h = rw pow-succ' (omega (arith, fibonacc
 
 pub few_turns : {a b : ℤ} {n : ℕ} (k : ℕ) → b ≢ pos 0 → Makes IsEuclidTurn EuclidEnds (record { current = b; previous = a }) n
     → unsigned_abs b < 2 ^ k → n < k + k
-few_turns {n = n} k nonzero makes small = elim (cases_lt n (k + k)) [
-  | inl less ↦ less
-  | inr more ↦ absurd (omega (arith, fibonacci_doubled k n more, lame 1 nonzero makes (one_divides _) (one_divides _)))
-]
+few_turns {n = n} k nonzero makes small = lt_of_not-le (λ more.
+    omega (arith, fibonacci_doubled k n more, lame 1 nonzero makes (one_divides _) (one_divides _)))

@@ -1,7 +1,7 @@
 -- The greatest common divisor of natural numbers, and of their odd parts.
 use Rattle.std.specs.Prelude.{ℤ, pos, unsigned_abs}
 use Rattle.std.proofs.Common.{◌≡◌, ℕ, zero, suc, ◌+◌, ◌-◌, ◌*◌, ◌/◌, ◌%◌, ◌^◌, ◌≤◌, inl, inr, sym, ◌∙◌, ap, subst, arith, mul-one, mul_comm, mul_assoc, pow-suc, pow-add, min, div-add-mod'}
-use Rattle.std.proofs.Math.Nat.{dvd-mul_right_of_dvd}
+use Rattle.std.proofs.Math.Nat.{dvd-mul_right_of_dvd, lt_of_not-le}
 use Rattle.std.proofs.lemmas.Bool.{cases_lt}
 use Rattle.std.proofs.lemmas.Int.{ints}
 use Rattle.std.proofs.lemmas.Nat.Gcd.{IsGcd-swap, dvd_of_mod-eq-zero, dvd_trans, mod-eq-zero_of_dvd}
@@ -23,8 +23,8 @@ sizes_of_gcd : {m n g : ℕ} → IsGreatestCommonDivisor (pos m) (pos n) (pos g)
 sizes_of_gcd h = (to_natural h.divides_left, to_natural h.divides_right, λ d p q. to_natural (h.greatest (pos d) (from_natural p) (from_natural q)))
 
 -- a common factor comes out
-gcd_times : {a b g : ℕ} (k : ℕ) → IsGcd a b g → IsGcd (k * a) (k * b) (k * g)
-gcd_times {a} {b} k h = sizes_of_gcd (gcd-times (pos k) (omega (arith, ints)) (gcd_of_sizes (pos a) (pos b) h))
+natural_gcd_times : {a b g : ℕ} (k : ℕ) → IsGcd a b g → IsGcd (k * a) (k * b) (k * g)
+natural_gcd_times {a} {b} k h = sizes_of_gcd (gcd-times (pos k) (omega (arith, ints)) (gcd_of_sizes (pos a) (pos b) h))
 
 half_factor : (h q a : ℕ) → q * (h * 2 + 1) ≡ a * 2 → a ≡ (h * 2 + 1) * (q / 2)
 half_factor h q a e =
@@ -43,10 +43,12 @@ odd_divides e a zero odd h = subst (λ (n : ℕ). e ∣ n) (mul-one a) h
 odd_divides e a (suc k) odd h = odd_divides e a k odd (odd_half e (a * 2 ^ k) odd (subst (λ (n : ℕ). e ∣ n) (ap (λ (n : ℕ). a * n) (pow-suc 2 k) ∙ sym (mul_assoc a (2 ^ k) 2)) h))
 
 pub odd_divisor : (d n : ℕ) → d ∣ n → n % 2 ≡ 1 → d % 2 ≡ 1
-odd_divisor d n h odd = elim (cases_lt 0 (d % 2)) [
-  | inl some ↦ omega arith
-  | inr none ↦ let even : d % 2 ≡ 0 = omega arith in absurd (omega (arith, mod-eq-zero_of_dvd 2 (dvd_trans 2 (dvd_of_mod-eq-zero 2 even) h)))
-]
+odd_divisor d n h odd = omega (
+  arith,
+  lt_of_not-le {n = d % 2} {m = 0} (λ none.
+      let even : d % 2 ≡ 0 = omega arith in
+      omega (arith, mod-eq-zero_of_dvd 2 (dvd_trans 2 (dvd_of_mod-eq-zero 2 even) h))),
+)
 
 -- factors of two on one side do not matter where the other is odd
 pub gcd_strip : {m n g : ℕ} (k : ℕ) → n % 2 ≡ 1 → IsGcd m n g → IsGcd (m * 2 ^ k) n g
@@ -57,7 +59,7 @@ gcd_shift_le {m} {n} {g} i j odd less h =
     let more : i + (j - i) ≡ j = omega arith in
     let power = sym (pow-add 2 i (j - i)) ∙ ap (λ (x : ℕ). 2 ^ x) more in
     let right : n * 2 ^ j ≡ 2 ^ i * (n * 2 ^ (j - i)) = omega (arith, ap (λ (x : ℕ). n * x) power) in
-    rw (mul_comm m (2 ^ i), right, mul_comm g (2 ^ i)) (gcd_times (2 ^ i) (IsGcd-swap _ _ _ (gcd_strip (j - i) odd (IsGcd-swap _ _ _ h))))
+    rw (mul_comm m (2 ^ i), right, mul_comm g (2 ^ i)) (natural_gcd_times (2 ^ i) (IsGcd-swap _ _ _ (gcd_strip (j - i) odd (IsGcd-swap _ _ _ h))))
 
 -- the gcd of two numbers from that of their odd parts
 pub gcd_shift : {m n g : ℕ} (i j : ℕ) → m % 2 ≡ 1 → n % 2 ≡ 1 → IsGcd m n g → IsGcd (m * 2 ^ i) (n * 2 ^ j) (g * 2 ^ min i j)

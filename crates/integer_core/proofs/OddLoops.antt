@@ -13,21 +13,23 @@ use Rattle.integer_core.proofs.SteinSteps.{gcd_of_same}
 abbrev pair_of : ℕ → ℕ → OddPair
 pair_of m n = record { m = m; n = n }
 
--- the turns so far lead from a and b to m and n
-pub record OddLoop (a b m n turns : ℕ) : Type 0 where
+-- the turns so far lead from a and b to m and n, which are in range
+pub record OddLoop (InRange : Type 0) (a b m n turns : ℕ) : Type 0 where
+  pub in_range : InRange
   pub kept : Turning a b m n turns
   pub reached : Reaches IsGcdTurn GcdEnds (pair_of a b) (pair_of m n) turns
 
 module _ {a b : ℕ} where
-  pub loop_begins : a % 2 ≡ 1 → b % 2 ≡ 1 → OddLoop a b a b 0
-  loop_begins a_odd b_odd = record {
+  pub loop_begins : {InRange : Type 0} → InRange → a % 2 ≡ 1 → b % 2 ≡ 1 → OddLoop InRange a b a b 0
+  loop_begins in_range a_odd b_odd = record {
+    in_range = in_range;
     kept = record { m_odd = a_odd; n_odd = b_odd; same = λ d h. h; shrunk = omega arith };
     reached = reaches_first;
   }
 
-  module _ {m n t : ℕ} (v : OddLoop a b m n t) where
-    pub loop_goes_on : {d e : ℕ} → IsOrderedTurn (pair_of m n) (pair_of d e) → OddLoop a b d e (t + 1)
-    loop_goes_on turn = record { kept = turning_turn v.kept turn; reached = reaches_ordered v.reached turn }
+  module _ {Before : Type 0} {m n t : ℕ} (v : OddLoop Before a b m n t) where
+    pub loop_goes_on : {InRange : Type 0} {d e : ℕ} → InRange → IsOrderedTurn (pair_of m n) (pair_of d e) → OddLoop InRange a b d e (t + 1)
+    loop_goes_on in_range turn = record { in_range = in_range; kept = turning_turn v.kept turn; reached = reaches_ordered v.reached turn }
 
     -- another count of turns begins with these
     pub loop_handed_on : {g r : ℕ} → IsOddGcd m n g r → IsOddGcd a b g (t + r)

@@ -1,11 +1,10 @@
 -- Odd parts: what a shift by `trailing_zeros` leaves, and what the turns of Stein's loop keep.
 use Rattle.std.proofs.Common.{◌≡◌, ℕ, zero, suc, ◌+◌, ◌-◌, ◌*◌, ◌/◌, ◌%◌, ◌^◌, ◌<◌, ◌≤◌, inl, inr, refl, sym, ◌∙◌, ap, arith, mul-one, div-one, add-one, mul-le-mul_right, mul-pos, pow_mono, pow_pos, pow-add, le-mul_of_pos_right}
-use Rattle.std.proofs.Math.Nat.{pow-succ', div-div-eq-div-mul}
+use Rattle.std.proofs.Math.Nat.{pow-succ', div-div-eq-div-mul, lt_of_not-le}
 use lib.Count.{count_trailing_zeros, under}
 use Rattle.std.specs.Int.{IsGcd, Width}
 use Rattle.num_traits.specs.Ints.{pow-bit_len}
 use Rattle.num_traits.specs.Laws.{bit_len}
-use Rattle.std.proofs.lemmas.Bool.{cases_lt}
 use Rattle.std.proofs.lemmas.Nat.{mul-lt}
 use Rattle.std.proofs.lemmas.Nat.Gcd.{IsGcd-from_sub, IsGcd-swap}
 use Rattle.integer_core.proofs.NaturalGcd.{gcd_strip}
@@ -33,8 +32,8 @@ times_half n m (suc k) odd product even =
     omega (arith, pow-succ' 2 k, ap (λ (x : ℕ). m * x) (pow-succ' 2 k))
 
 -- an odd part is at most its number
-pub odd_part_le : {n m : ℕ} (k : ℕ) → n ≡ m * 2 ^ k → m ≤ n
-odd_part_le {m = m} k product = let up : m ≤ m * 2 ^ k = le-mul_of_pos_right m (pow_pos k) in omega arith
+pub odd_part_le : {n m : ℕ} → IsOddPart n m → m ≤ n
+odd_part_le {m = m} part = omega (arith, part.product, le-mul_of_pos_right m (pow_pos part.twos))
 
 -- what the loop keeps: its numbers are odd, their gcd is that of a and b, and their product has been halved each turn
 pub record Turning (a b m n turns : ℕ) : Type 0 where
@@ -71,8 +70,8 @@ turning_turn v h = elim h [
 
 pub turning_falls : {a b m n d e t : ℕ} → Turning a b m n t → IsOrderedTurn (record { m = m; n = n }) (record { m = d; n = e }) → d + e < m + n
 turning_falls v h = elim h [
-  | inl left ↦ omega (arith, odd_part_le left.m.twos left.m.product, left.above, left.n, v.n_odd)
-  | inr right ↦ omega (arith, odd_part_le right.m.twos right.m.product, right.above, right.n, v.m_odd)
+  | inl left ↦ omega (arith, odd_part_le left.m, left.above, left.n, v.n_odd)
+  | inr right ↦ omega (arith, odd_part_le right.m, right.above, right.n, v.m_odd)
 ]
 
 -- so the turns are few
@@ -83,12 +82,12 @@ pub turning_ends : {a b m n t : ℕ} → Turning a b m n t → 2 ^ t ≤ a * b
 turning_ends {m = m} {n = n} {t = t} v = omega (arith, v.shrunk, mul-le-mul_right (2 ^ t) (mul-pos {m = m} {n = n} (omega (arith, v.m_odd)) (omega (arith, v.n_odd))))
 
 pub few_turns : {a b t : ℕ} (k l : ℕ) → 2 ^ t ≤ a * b → a < 2 ^ k → b < 2 ^ l → t ≤ k + l
-few_turns {a} {b} {t} k l least a_fits b_fits = elim (cases_lt (k + l) t) [
-  | inl more ↦
-      let wide : 2 ^ (k + l) ≤ 2 ^ t = pow_mono {i = k + l} {j = t} (omega arith) in
-      absurd (omega (arith, least, mul-lt a b (2 ^ k) (2 ^ l) a_fits b_fits, pow-add 2 k l))
-  | inr few ↦ few
-]
+few_turns {a} {b} {t} k l least a_fits b_fits = omega (
+  arith,
+  lt_of_not-le {n = k + l + 1} {m = t} (λ more.
+      let wide = pow_mono {i = k + l} {j = t} (omega arith) in
+      omega (arith, least, mul-lt a b (2 ^ k) (2 ^ l) a_fits b_fits, pow-add 2 k l)),
+)
 
 -- at each width, and so a turn more can be counted
 pub turns_fit : (w : Width) (t : ℕ) {a b : ℕ} → 2 ^ t ≤ a * b → a < 2 ^ bit_len w → b < 2 ^ bit_len w → t + 1 < 2 ^ 32

@@ -34,9 +34,6 @@ only_floored h k = only_one h.division k.division (omega (arith, sizes))
 pub only_ceiled : {n d q r p s : ℤ} → IsCeiled n d q r → IsCeiled n d p s → (q ≡ p) × (r ≡ s)
 only_ceiled h k = only_one h.division k.division (omega (arith, sizes))
 
-pub only_division : EachKind (λ Kind. (n d q r p s : ℤ) → Kind n d q r → Kind n d p s → (q ≡ p) × (r ≡ s))
-only_division = (λ n d q r p s. only_truncated, λ n d q r p s. only_floored, λ n d q r p s. only_ceiled)
-
 -- the quotient of one division and the remainder of another are those of one
 pub of_one_division : {n d q r : ℤ} → IsQuotient IsFloored n d q → IsRemainder IsFloored n d r → IsFloored n d q r
 of_one_division {n} {d} {q} h k = subst (IsFloored n d q) (only_floored h.division k.division).1 h.division

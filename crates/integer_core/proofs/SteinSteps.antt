@@ -1,18 +1,18 @@
 -- Stein's method on the values of an unsigned type.
 use Rattle.std.specs.Prelude.{◌≡◌, ◌⊎◌, ◌≤ℤ◌, ◌-ℤ◌, ℤ, pos, unsigned_abs}
 use Rattle.std.specs.Int.{Width, w8, w16, w32, w64, w128, trailing_zeros, int_shr}
-use Rattle.std.proofs.Common.{ℕ, min, ◌-◌, ◌*◌, ◌/◌, ◌%◌, ◌^◌, ◌<◌, ◌≤◌, refl, sym, subst, arith, inl, inr, pow_mono, mul-le-mul_right}
-use Rattle.std.proofs.lemmas.Bool.{cases_lt}
+use Rattle.std.proofs.Common.{ℕ, min, ◌-◌, ◌*◌, ◌/◌, ◌%◌, ◌^◌, ◌<◌, refl, sym, subst, arith, inl, inr, pow_mono, mul-le-mul_right}
 use Rattle.std.proofs.lemmas.Int.{ints}
 use Rattle.std.proofs.lemmas.Nat.Bits.{bit_at-trailing_zeros}
 use Rattle.num_traits.specs.Laws.{bit_len}
 use borrow.Author.Differences.{abs_is}
 use Rattle.integer_core.proofs.Whole.{linear}
 use Rattle.std.specs.Int.{IsGcd, IsPowerOfTwo}
-use Rattle.std.proofs.Math.Nat.{eq-one_of_dvd-one, one-dvd}
+use Rattle.std.proofs.Math.Nat.{eq-one_of_dvd-one, lt_of_not-le, one-dvd}
 use Rattle.std.proofs.lemmas.Nat.Gcd.{dvd_refl, le_of_dvd}
 use Rattle.integer_core.proofs.NaturalGcd.{gcd_shift, odd_divisor, odd_divides}
 use Rattle.integer_core.proofs.OddParts.{shift_back}
+use Rattle.integer_core.specs.GcdRuns.{IsOddPart}
 use mir.Val.{bits}
 
 pub width : (w : Width) → bits w ≡ bit_len w
@@ -45,12 +45,9 @@ size_of_difference x_up y_up less = omega (arith, linear, abs_is)
 
 -- a shift that keeps its number in the range
 pub shift_few : (m k bits : ℕ) → 0 < m → m * 2 ^ k < 2 ^ bits → k < bits
-shift_few m k bits positive fits = elim (cases_lt k bits) [
-  | inl few ↦ few
-  | inr many ↦
-      let wide : 2 ^ bits ≤ 2 ^ k = pow_mono {i = bits} {j = k} many in
-      absurd (omega (arith, mul-le-mul_right {m = 1} {n = m} (2 ^ k) positive))
-]
+shift_few m k bits positive fits = lt_of_not-le (λ many.
+    let wide = pow_mono {i = bits} {j = k} many in
+    omega (arith, mul-le-mul_right {m = 1} {n = m} (2 ^ k) positive))
 
 pub natural : {z : ℤ} → pos 0 ≤ℤ z → z ≡ pos (unsigned_abs z)
 natural up = omega (arith, linear, abs_is)
@@ -67,21 +64,21 @@ pub gcd_positive : {m n g : ℕ} → m % 2 ≡ 1 → IsGcd m n g → 0 < g
 gcd_positive {m} {n} {g} odd h = let o = odd_divisor g m h.0 odd in omega arith
 
 -- so it fits where one of the two does
-pub gcd_fits : {fits : ℤ → Type 0} {a : ℤ} {b g : ℕ} → ((x y z : ℤ) → fits x → fits z → x ≤ℤ y → y ≤ℤ z → fits y) → fits (pos 0) → fits a → pos 0 ≤ℤ a
-    → 0 < unsigned_abs a → IsGcd (unsigned_abs a) b g → fits (pos g)
-gcd_fits between zero_fits a_fits up positive h =
+pub gcd_fits : {fits : ℤ → Type 0} {a : ℤ} {b g : ℕ} → ((y : ℤ) → pos 0 ≤ℤ y → y ≤ℤ a → fits y) → pos 0 ≤ℤ a → 0 < unsigned_abs a
+    → IsGcd (unsigned_abs a) b g → fits (pos g)
+gcd_fits within up positive h =
     let small = le_of_dvd positive h.0 in
-    between _ _ _ zero_fits a_fits (omega (arith, ints)) (omega (arith, linear, abs_is))
+    within _ (omega (arith, ints)) (omega (arith, linear, abs_is))
 
 -- the odd part of a power of two is 1
-odd_of_power : {n m : ℕ} (i : ℕ) → IsPowerOfTwo n → n ≡ m * 2 ^ i → m % 2 ≡ 1 → m ≡ 1
-odd_of_power {m = m} i h product odd =
-    let whole : 1 * 2 ^ h.0 ≡ m * 2 ^ i = omega (arith, h.1, product) in
-    eq-one_of_dvd-one (odd_divides m 1 h.0 odd (∣ (2 ^ i, whole) ∣₁))
+odd_of_power : {n m : ℕ} → IsPowerOfTwo n → IsOddPart n m → m ≡ 1
+odd_of_power {m = m} h part =
+    let whole : 1 * 2 ^ h.0 ≡ m * 2 ^ part.twos = omega (arith, h.1, part.product) in
+    eq-one_of_dvd-one (odd_divides m 1 h.0 part.odd (∣ (2 ^ part.twos, whole) ∣₁))
 
 -- so where one of two numbers is a power of two, their odd parts have the gcd 1
-pub gcd_of_power : {a b m n one : ℕ} (i j : ℕ) → IsPowerOfTwo a ⊎ IsPowerOfTwo b → one ≡ 1 → a ≡ m * 2 ^ i → b ≡ n * 2 ^ j → m % 2 ≡ 1 → n % 2 ≡ 1 → IsGcd m n one
-gcd_of_power {m = m} {n = n} i j h is a_is b_is m_odd n_odd = rw is (elim h [
-  | inl left ↦ rw (odd_of_power i left a_is m_odd) (dvd_refl 1, one-dvd n, λ d u v. u)
-  | inr right ↦ rw (odd_of_power j right b_is n_odd) (one-dvd m, dvd_refl 1, λ d u v. v)
+pub gcd_of_power : {a b m n one : ℕ} → IsPowerOfTwo a ⊎ IsPowerOfTwo b → one ≡ 1 → IsOddPart a m → IsOddPart b n → IsGcd m n one
+gcd_of_power {m = m} {n = n} h is a_part b_part = rw is (elim h [
+  | inl left ↦ rw (odd_of_power left a_part) (dvd_refl 1, one-dvd n, λ d u v. u)
+  | inr right ↦ rw (odd_of_power right b_part) (one-dvd m, dvd_refl 1, λ d u v. v)
 ])

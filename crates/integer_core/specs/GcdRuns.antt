@@ -71,6 +71,14 @@ pub record MakesGcdRun (a b n : ℕ) : Type 0 where
 abbrev pub AreWithinBits : ℤ → ℤ → ℕ → Type 0
 AreWithinBits a b n = (k l : ℕ) → unsigned_abs a < 2 ^ k → unsigned_abs b < 2 ^ l → n ≤ k + l
 
+-- a and b are numbers of the type, above 0 in magnitude.
+-- Examples: in u8: 56 and 42; 1 and 255; not 0 and 7, nor 256 and 1.
+pub record ArePositive (fits : ℤ → Type 0) (a b : ℤ) : Type 0 where
+  pub a_in_range : fits a
+  pub b_in_range : fits b
+  pub a_positive : 0 < unsigned_abs a
+  pub b_positive : 0 < unsigned_abs b
+
 -- For a and b above 0, gcd is their greatest common divisor, found by so many turns of Stein's loop.
 -- Examples: 56 and 42: 14 after 1; 5 and 3: 1 after 2; 8 and 4: 4 after 0.
 pub record IsPositiveGcd (a b gcd : ℤ) (turns : ℕ) : Type 0 where

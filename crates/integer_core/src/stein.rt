@@ -1,24 +1,26 @@
 //! The greatest common divisor by Stein's binary method (Knuth, The Art of Computer Programming,
 //! volume 2, section 4.5.2, algorithm B).
 
-ghost use Rattle.std.specs.Prelude.{◌≡◌, ◌≢◌, ◌↔◌, ◌⊎◌, ◌-◌, ◌*◌, ◌/◌, ◌%◌, ◌^◌, ◌<◌, ◌≤◌, ◌+ℤ◌, pos, unsigned_abs, IsTrue};
-ghost use Rattle.std.specs.Int.{IsPowerOfTwo};
+ghost use Rattle.std.specs.Prelude.{ℕ, ◌≡◌, ◌≢◌, ◌↔◌, ◌⊎◌, ◌-◌, ◌*◌, ◌/◌, ◌%◌, ◌^◌, ◌<◌, ◌≤◌, ◌+ℤ◌, pos, unsigned_abs, IsTrue};
+ghost use Rattle.std.specs.Int.{IsGcd, IsPowerOfTwo};
 ghost use Rattle.std.specs.Option.{MatchOption};
 ghost use Rattle.num_traits.specs.Laws.{bit_len};
 ghost use Rattle.integer_core.specs.Divisors.{GcdFits, IsGreatestCommonDivisor, IsLeastCommonMultiple};
-ghost use Rattle.integer_core.specs.GcdRuns.{IsCountedGcd, IsOddGcd, IsOddPart, IsOrderedTurn, IsPositiveGcd};
+ghost use Rattle.integer_core.specs.GcdRuns.{ArePositive, IsCountedGcd, IsOddGcd, IsOddPart, IsOrderedTurn, IsPositiveGcd};
 ghost use Rattle.integer_core.specs.Range.{EachFits};
 
 use crate::native::Native;
 use crate::operators::{difference, is_below, is_zero, one, product, quotient, successor};
 use num_traits::{Integral, PrimInt, ToPrimitive, Unsigned, cast};
 
+/// Returns `true` if the magnitudes are the same.
 fn is_same<M: PrimInt + Unsigned>(m: M, n: M) -> bool
     ensures { IsTrue result ↔ (unsigned_abs (M.value m) ≡ unsigned_abs (M.value n)) }
 {
     m == n
 }
 
+/// Returns `true` if the first magnitude is below the second.
 fn is_smaller<M: PrimInt + Unsigned>(m: M, n: M) -> bool
     ensures { IsTrue result ↔ (unsigned_abs (M.value m) < unsigned_abs (M.value n)) }
 {
@@ -45,6 +47,22 @@ fn with_twos<M: PrimInt + Unsigned>(x: M, twos: u32) -> M
     ensures value { M.value result ≡ pos (unsigned_abs (M.value x) * 2 ^ twos) }
 {
     x << twos
+}
+
+/// Returns both numbers with all factors 2 taken out, and the number of those that both have.
+fn odd_parts<M: PrimInt + Unsigned>(a: M, b: M) -> (M, M, u32)
+    requires operands { ArePositive M.fits (M.value a) (M.value b) }
+    ensures in_range { M.fits (M.value result.0) × M.fits (M.value result.1) }
+    ensures left { IsOddPart (unsigned_abs (M.value a)) (unsigned_abs (M.value result.0)) }
+    ensures right { IsOddPart (unsigned_abs (M.value b)) (unsigned_abs (M.value result.1)) }
+    ensures gcd { (odd : ℕ)
+        → IsGcd (unsigned_abs (M.value result.0)) (unsigned_abs (M.value result.1)) odd
+        → IsGreatestCommonDivisor (M.value a) (M.value b) (pos (odd * 2 ^ result.2))
+        × M.fits (pos (odd * 2 ^ result.2)) }
+{
+    let (m, twos_of_a) = without_twos(a);
+    let (n, twos_of_b) = without_twos(b);
+    (m, n, twos_of_a.min(twos_of_b))
 }
 
 /// Returns the number of last bits that `x` and the lesser `y` share. Their difference has as many
@@ -159,40 +177,30 @@ fn narrowing_gcd<M: PrimInt + Unsigned>(a: M, b: M) -> (M, u32)
 
 /// Returns the greatest common divisor of two numbers above 0, and the turns of the loop.
 fn positive_gcd<M: PrimInt + Unsigned>(a: M, b: M) -> (M, u32)
-    requires a_in_range { M.fits (M.value a) }
-    requires b_in_range { M.fits (M.value b) }
-    requires a_positive { 0 < unsigned_abs (M.value a) }
-    requires b_positive { 0 < unsigned_abs (M.value b) }
+    requires operands { ArePositive M.fits (M.value a) (M.value b) }
     ensures in_range { M.fits (M.value result.0) }
     ensures gcd { IsPositiveGcd (M.value a) (M.value b) (M.value result.0) result.1 }
 {
-    let (m, twos_of_a) = without_twos(a);
-    let (n, twos_of_b) = without_twos(b);
+    let (m, n, twos) = odd_parts(a, b);
     let (odd, turns) = narrowing_gcd(m, n);
-    (with_twos(odd, twos_of_a.min(twos_of_b)), turns)
+    (with_twos(odd, twos), turns)
 }
 
 /// Returns the greatest common divisor of two numbers above 0, one of which is a power of two: the
 /// power of two that both share.
 fn shared_power_of_two<M: PrimInt + Unsigned>(a: M, b: M) -> M
-    requires a_in_range { M.fits (M.value a) }
-    requires b_in_range { M.fits (M.value b) }
-    requires a_positive { 0 < unsigned_abs (M.value a) }
-    requires b_positive { 0 < unsigned_abs (M.value b) }
+    requires operands { ArePositive M.fits (M.value a) (M.value b) }
     requires power { IsPowerOfTwo (unsigned_abs (M.value a))
         ⊎ IsPowerOfTwo (unsigned_abs (M.value b)) }
     ensures in_range { M.fits (M.value result) }
     ensures greatest { IsGreatestCommonDivisor (M.value a) (M.value b) (M.value result) }
 {
-    with_twos(one(), without_twos(a).1.min(without_twos(b).1))
+    with_twos(one(), odd_parts(a, b).2)
 }
 
 /// Returns the least common multiple of two numbers above 0.
 fn positive_lcm<M: PrimInt + Unsigned>(a: M, b: M) -> M
-    requires a_in_range { M.fits (M.value a) }
-    requires b_in_range { M.fits (M.value b) }
-    requires a_positive { 0 < unsigned_abs (M.value a) }
-    requires b_positive { 0 < unsigned_abs (M.value b) }
+    requires operands { ArePositive M.fits (M.value a) (M.value b) }
     requires lcm_fits { EachFits M.fits (IsLeastCommonMultiple (M.value a) (M.value b)) }
     ensures in_range { M.fits (M.value result) }
     ensures least { IsLeastCommonMultiple (M.value a) (M.value b) (M.value result) }
@@ -210,20 +218,14 @@ pub trait Magnitude: Copy + Integral + ToPrimitive {
 
     /// Returns the greatest common divisor, and the turns of the loop.
     fn positive_gcd(a: Self, b: Self) -> (Self, u32)
-        requires a_in_range { Self.fits (Self.value a) }
-        requires b_in_range { Self.fits (Self.value b) }
-        requires a_positive { 0 < unsigned_abs (Self.value a) }
-        requires b_positive { 0 < unsigned_abs (Self.value b) }
+        requires operands { ArePositive Self.fits (Self.value a) (Self.value b) }
         ensures in_range { Self.fits (Self.value result.0) }
         ensures gcd { IsPositiveGcd (Self.value a) (Self.value b) (Self.value result.0) result.1 };
 
     /// Returns the greatest common divisor where one of the two is a power of two: the power of two
     /// that both share.
     fn shared_power_of_two(a: Self, b: Self) -> Self
-        requires a_in_range { Self.fits (Self.value a) }
-        requires b_in_range { Self.fits (Self.value b) }
-        requires a_positive { 0 < unsigned_abs (Self.value a) }
-        requires b_positive { 0 < unsigned_abs (Self.value b) }
+        requires operands { ArePositive Self.fits (Self.value a) (Self.value b) }
         requires power { IsPowerOfTwo (unsigned_abs (Self.value a))
             ⊎ IsPowerOfTwo (unsigned_abs (Self.value b)) }
         ensures in_range { Self.fits (Self.value result) }
@@ -232,10 +234,7 @@ pub trait Magnitude: Copy + Integral + ToPrimitive {
 
     /// Returns the least common multiple.
     fn positive_lcm(a: Self, b: Self) -> Self
-        requires a_in_range { Self.fits (Self.value a) }
-        requires b_in_range { Self.fits (Self.value b) }
-        requires a_positive { 0 < unsigned_abs (Self.value a) }
-        requires b_positive { 0 < unsigned_abs (Self.value b) }
+        requires operands { ArePositive Self.fits (Self.value a) (Self.value b) }
         requires lcm_fits { EachFits Self.fits
             (IsLeastCommonMultiple (Self.value a) (Self.value b)) }
         ensures in_range { Self.fits (Self.value result) }

@@ -1,5 +1,5 @@
 -- Averages by bits: two numbers are twice the bits that both have, and those that one alone has.
-use Rattle.std.specs.Prelude.{◌≡◌, ◌^◌, ◌*◌, ◌+◌, ◌<◌, ◌+ℤ◌, ◌-ℤ◌, ◌*ℤ◌, ◌≤ℤ◌, ◌<ℤ◌, ℕ, ℤ, pos, negsuc, bit_and, bit_or, bit_xor}
+use Rattle.std.specs.Prelude.{◌≡◌, ◌*◌, ◌+◌, ◌+ℤ◌, ◌-ℤ◌, ◌*ℤ◌, ◌≤ℤ◌, ◌<ℤ◌, ℕ, ℤ, pos, negsuc, bit_and, bit_or, bit_xor}
 use Rattle.std.specs.Int.{Width, bit_at, int_shr, FitsUnsignedBits}
 use Rattle.std.specs.Int.Bits.{xor_add_and, or_add_and}
 use Rattle.std.proofs.Common.{arith, subst, sym, ap, ◌∙◌, lt_of_le_of_lt}
@@ -37,38 +37,28 @@ shifted_half : (x : ℤ) → ((pos 2 *ℤ int_shr x 1) ≤ℤ x) × (x <ℤ (pos
 shifted_half (pos n) = omega (arith, ints)
 shifted_half (negsuc n) = omega (arith, ints)
 
--- the averages of a and b, which fit since they lie between the two
+-- the averages of a and b by the bits m and n of a type in two's complement: they fit, since they lie between the two
 pub record AreAverages (fits : ℤ → Type 0) (a b both either half : ℤ) : Type 0 where
   pub floor : IsAverageFloor a b (both +ℤ half) × fits (both +ℤ half)
   pub ceil : IsAverageCeil a b (either -ℤ half) × fits (either -ℤ half)
 
-shared_averages : {fits : ℤ → Type 0} {low high a b both either one : ℤ} → IsRange fits low high → fits a → fits b → AreShared a b both either one
-    → AreAverages fits a b both either (int_shr one 1)
-shared_averages {a = a} {b = b} {one = one} range a_fits b_fits shared =
-    let half = shifted_half one in
+pub averages : {w : Width} {number : ℕ → ℤ} {fits : ℤ → Type 0} {low high a b : ℤ} {m n : ℕ} → IsRange fits low high → IsTwosComplement w number
+    → fits a → fits b → number m ≡ a → number n ≡ b → pos m ≡ wrap_unsigned (bit_len w) a → pos n ≡ wrap_unsigned (bit_len w) b
+    → AreAverages fits a b (number (bit_and m n)) (number (bit_or m n)) (int_shr (number (bit_xor m n)) 1)
+averages {w} {number} {a = a} {b = b} {m = m} {n = n} range complement a_fits b_fits a_is b_is a_bits b_bits =
+    let m_small = subst (FitsUnsignedBits (bit_len w)) (sym a_bits) (unsigned-wrap_fits (bit_len w) a) in
+    let n_small = subst (FitsUnsignedBits (bit_len w)) (sym b_bits) (unsigned-wrap_fits (bit_len w) b) in
+    let shares : AreShared a b (number (bit_and m n)) (number (bit_or m n)) (number (bit_xor m n)) = rw (
+      sym a_is ∙ complement.is m m_small,
+      sym b_is ∙ complement.is n n_small,
+      complement.is _ (lt_of_le_of_lt (and_le_l m n) m_small),
+      complement.is _ (or_lt (bit_len w) m n m_small n_small),
+      complement.is _ (xor_lt (bit_len w) m n m_small n_small),
+    ) (shared (hbits w) complement.weight m n) in
+    let half = shifted_half (number (bit_xor m n)) in
     let a_in = (range.between a).0 a_fits in
     let b_in = (range.between b).0 b_fits in
     record {
-      floor = (omega (arith, products, shared.by_both), (range.between _).1 (omega (arith, products, shared.by_both)));
-      ceil = (omega (arith, products, shared.by_both, shared.by_either), (range.between _).1 (omega (arith, products, shared.by_both, shared.by_either)));
+      floor = (omega (arith, products, shares.by_both), (range.between _).1 (omega (arith, products, shares.by_both)));
+      ceil = (omega (arith, products, shares.by_both, shares.by_either), (range.between _).1 (omega (arith, products, shares.by_both, shares.by_either)));
     }
-
--- so they are of the numbers of a type in two's complement
-pub averages : {T : Type 0} (value : T → ℤ) (fits : ℤ → Type 0) (of_bits : ℕ → T) (bits_of : T → ℕ) (w : Width) {low high : ℤ} → IsRange fits low high
-    → IsTwosComplement w (λ n. value (of_bits n)) → ((x : T) → fits (value x) → of_bits (bits_of x) ≡ x)
-    → ((x : T) → fits (value x) → pos (bits_of x) ≡ wrap_unsigned (bit_len w) (value x)) → (a b : T) → fits (value a) → fits (value b)
-    → AreAverages fits (value a) (value b) (value (of_bits (bit_and (bits_of a) (bits_of b)))) (value (of_bits (bit_or (bits_of a) (bits_of b))))
-    (int_shr (value (of_bits (bit_xor (bits_of a) (bits_of b)))) 1)
-averages {T} value fits of_bits bits_of w range complement round_trip wrapped a b a_fits b_fits =
-    let small : (x : T) → fits (value x) → bits_of x < 2 ^ bit_len w =
-    λ x x_fits. subst (FitsUnsignedBits (bit_len w)) (sym (wrapped x x_fits)) (unsigned-wrap_fits (bit_len w) (value x)) in
-    let number : (x : T) → fits (value x) → value x ≡ weighted (hbits w) complement.weight (bits_of x) =
-    λ x x_fits. ap value (sym (round_trip x x_fits)) ∙ complement.is (bits_of x) (small x x_fits) in
-    shared_averages range a_fits b_fits (rw (
-      number a a_fits,
-      number b b_fits,
-      complement.is _ (lt_of_le_of_lt (and_le_l (bits_of a) (bits_of b)) (small a a_fits)),
-      complement.is _ (or_lt (bit_len w) (bits_of a) (bits_of b) (small a a_fits) (small b b_fits)),
-      complement.is _ (xor_lt (bit_len w) (bits_of a) (bits_of b) (small a a_fits) (small b b_fits)),
-    )
-    (shared (hbits w) complement.weight (bits_of a) (bits_of b)))

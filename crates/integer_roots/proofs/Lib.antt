@@ -6,4 +6,3 @@ pub mod CubeDigits
 pub mod Averaging
 pub mod MagnitudeRoots
 pub mod OnlyAnswers
-pub mod RootRange

@@ -67,10 +67,8 @@ newton_settled {n = n} {x = x} {y = y} s h = omega (arith, newton_above s, pow-l
 
 -- a guess that is at most its step has a power of at most a
 pub newton_stays : {a n x y : ℕ} → IsNewtonStep a n x y → x ≤ y → x ^ n ≤ a
-newton_stays {a} {n} {x} s h = elim (cases_lt a (x ^ n)) [
-  | inl k ↦ absurd (omega (arith, newton_below 1 s (omega arith) (omega arith)))
-  | inr k ↦ k
-]
+newton_stays {a} {n} {x} s h =
+    omega (arith, lt_of_not-le {n = a + 1} {m = x ^ n} (λ k. omega (arith, newton_below 1 s (omega arith) (omega arith))))
 
 -- the step for a square root, and that for a cube root
 pub square_step_is : (a x : ℕ) → square_step a x ≡ newton_step a 2 x

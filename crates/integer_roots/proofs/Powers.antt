@@ -1,7 +1,7 @@
 -- Powers, multiplied out and compared.
-use Rattle.std.proofs.Common.{◌≡◌, ◌≢◌, ◌/◌, ◌%◌, ℕ, suc, zero, ◌*◌, ◌^◌, ◌+◌, ◌-◌, ◌<◌, ◌≤◌, ap, sym, refl, ◌∙◌, arith, pos, mul-le-mul_left, mul-le-mul_right, mul-one, zero-mul, pow-add, pow_mono}
+use Rattle.std.proofs.Common.{◌≡◌, ◌≢◌, ◌/◌, ◌%◌, ℕ, suc, zero, ◌*◌, ◌^◌, ◌+◌, ◌<◌, ◌≤◌, ap, refl, ◌∙◌, arith, pos, mul-le-mul_left, mul-le-mul_right, mul-one, mul-pos, pow-add, pow_mono}
 use Rattle.std.proofs.lemmas.Int.{ints}
-use Rattle.std.proofs.Math.Nat.{pow-zero, pow-succ', pow-le-pow_left, pow-le-pow_right, lt_of_not-le}
+use Rattle.std.proofs.Math.Nat.{pow-zero, pow-succ', pow-le-pow_left, pow-le-pow_right, pow-lt-pow_left, lt_of_not-le}
 use Rattle.integer_roots.specs.RootOf.{IsFloorRoot}
 
 -- the first three powers
@@ -21,45 +21,53 @@ power_of_one (suc n) = rw (pow-succ' 1 n, power_of_one n) refl
 
 -- the powers of 0, and of a power
 pub power_of_zero : (n : ℕ) → 0 < n → 0 ^ n ≡ 0
-power_of_zero n h =
-    let e : n ≡ suc (n - 1) = omega arith in
-    ap (λ (k : ℕ). 0 ^ k) e ∙ pow-succ' 0 (n - 1) ∙ zero-mul (0 ^ (n - 1))
+power_of_zero n h = omega (arith, pow-lt-pow_left {a = 0} {b = 1} {n = n} (omega arith) (omega arith), power_of_one n)
 
 pub power_of_power : (b i j : ℕ) → (b ^ i) ^ j ≡ b ^ (i * j)
-power_of_power b i zero = pow-zero (b ^ i) ∙ sym (ap (λ (k : ℕ). b ^ k) (let e : i * 0 ≡ 0 = omega arith in e) ∙ pow-zero b)
-power_of_power b i (suc j) =
-    let e : i * suc j ≡ i + i * j = omega arith in
-    pow-succ' (b ^ i) j ∙ ap (λ (k : ℕ). b ^ i * k) (power_of_power b i j) ∙ sym (ap (λ (k : ℕ). b ^ k) e ∙ pow-add b i (i * j))
+power_of_power b i zero = let e : i * 0 ≡ 0 = omega arith in rw (e, pow-zero (b ^ i), pow-zero b) refl
+power_of_power b i (suc j) = let e : i * suc j ≡ i + i * j = omega arith in rw (e, pow-succ' (b ^ i) j, power_of_power b i j, pow-add b i) refl
 
--- a power by squares: what is computed already, and the power of the square that is left of it
-module _ {power square whole : ℕ} (rest : ℕ) (power_positive : 0 < power) (square_positive : 0 < square) (left : power * square ^ rest ≡ whole) where
+-- a power by squares: what is computed already, and the power of the square that is left of the whole
+pub record IsPowerLeft (power square rest whole : ℕ) : Type 0 where
+  pub power_positive : 0 < power
+  pub square_positive : 0 < square
+  pub rest_positive : 0 < rest
+  pub left : power * square ^ rest ≡ whole
+
+module _ {power square rest whole : ℕ} (v : IsPowerLeft power square rest whole) where
   halved : (square * square) ^ (rest / 2) ≡ square ^ (2 * (rest / 2))
-  halved = ap (λ (s : ℕ). s ^ (rest / 2)) (sym (power_two square)) ∙ power_of_power square 2 (rest / 2)
+  halved = rw (← power_two square) (power_of_power square 2 (rest / 2))
 
-  pub even_left : rest % 2 ≢ 1 → power * (square * square) ^ (rest / 2) ≡ whole
-  even_left even =
+  pub even_left : 1 < rest → rest % 2 ≢ 1 → IsPowerLeft power (square * square) (rest / 2) whole
+  even_left more even =
       let e : 2 * (rest / 2) ≡ rest = omega arith in
-      ap (λ (s : ℕ). power * s) (halved ∙ ap (λ (k : ℕ). square ^ k) e) ∙ left
+      let squared = mul-pos v.square_positive v.square_positive in
+      record { power_positive = v.power_positive; square_positive = squared; rest_positive = omega arith; left = rw (halved, e) v.left }
 
-  pub odd_left : rest % 2 ≡ 1 → power * square * (square * square) ^ (rest / 2) ≡ whole
-  odd_left odd =
+  pub odd_left : 1 < rest → rest % 2 ≡ 1 → IsPowerLeft (power * square) (square * square) (rest / 2) whole
+  odd_left more odd =
       let e : rest ≡ suc (2 * (rest / 2)) = omega arith in
-      let f : square ^ rest ≡ square * square ^ (2 * (rest / 2)) = ap (λ (k : ℕ). square ^ k) e ∙ pow-succ' square (2 * (rest / 2)) in
-      rw halved (omega (arith, left, ap (λ (s : ℕ). power * s) f))
+      let power_next = ap (λ (k : ℕ). power * square ^ k) e in
+      record {
+        power_positive = mul-pos v.power_positive v.square_positive;
+        square_positive = mul-pos v.square_positive v.square_positive;
+        rest_positive = omega arith;
+        left = rw halved (omega (arith, v.left, rw pow-succ' at power_next));
+      }
 
   -- neither factor is above the whole
-  pub product_within : 0 < rest → power * square ≤ whole
-  product_within some =
-      let up : square ≤ square ^ rest = rw (power_one square) at (pow-le-pow_right square_positive {i = 1} {j = rest} some) in
-      omega (arith, left, mul-le-mul_left power up)
+  pub product_within : power * square ≤ whole
+  product_within =
+      let up = rw (power_one square) at (pow-le-pow_right v.square_positive {i = 1} {j = rest} v.rest_positive) in
+      omega (arith, v.left, mul-le-mul_left power up)
 
   pub square_within : 1 < rest → square * square ≤ whole
   square_within more =
-      let up : square ^ 2 ≤ square ^ rest = pow-le-pow_right square_positive {i = 2} {j = rest} more in
-      omega (arith, left, power_two square, up, mul-le-mul_right (square ^ rest) power_positive)
+      let up = rw (power_two square) at (pow-le-pow_right v.square_positive {i = 2} {j = rest} more) in
+      omega (arith, v.left, up, mul-le-mul_right (square ^ rest) v.power_positive)
 
   pub last_left : rest ≡ 1 → power * square ≡ whole
-  last_left one = ap (λ (s : ℕ). power * s) (sym (ap (λ (k : ℕ). square ^ k) one ∙ power_one square)) ∙ left
+  last_left one = rw (one, power_one) at v.left
 
 -- a base is below another where its power is, and the place of a number's highest bit is at least that of each power of two up to it
 pub base_below : (x y n : ℕ) → x ^ n < y ^ n → x < y

@@ -12,9 +12,12 @@ use Rattle.integer_roots.specs.NewtonRuns.{guess_of, IsReached, begins, rises, g
 use Rattle.integer_roots.proofs.NewtonStep.{IsNewtonStep, newton_least, newton_below, newton_above, newton_settled, newton_stays}
 use Rattle.integer_roots.proofs.Powers.{power_one, power_of_power, base_below, floor_root}
 
+-- the turns of the loops, for `grind`
+pub ruleset newton_turns = (begins, rises, goes_over, falls)
+
 -- the numbers of a step fit
-pub step_fits : (a n x : ℕ) → 2 ≤ n → n < 64 → a < 2 ^ 64 → 2 ≤ x → x ≤ 2 ^ 24 → a / x ^ (n - 1) + (n - 1) * x < 2 ^ 64
-step_fits a n x degree few fits two small =
+pub root_step_fits : (a n x : ℕ) → 2 ≤ n → n < 64 → a < 2 ^ 64 → 2 ≤ x → x ≤ 2 ^ 24 → a / x ^ (n - 1) + (n - 1) * x < 2 ^ 64
+root_step_fits a n x degree few fits two small =
     let p : ℕ = x ^ (n - 1) in
     let power : x ^ 1 ≤ p = pow-le-pow_right (omega arith) {i = 1} {j = n - 1} (omega arith) in
     let product : (n - 1) * x ≤ 63 * x = mul-le-mul_right x (omega arith) in
@@ -92,6 +95,6 @@ module _ {step : ℕ → ℕ → Type 0} {a n limit first : ℕ} (known : IsStar
   above_root (falls {x} {y} reached is down) = newton_above (stepped x y is (in_range reached).above_one)
 
   -- so the guess where they end is the root
-  pub ended_at_root : {x next turns : ℕ} → IsReached step first (Falling x) turns → step x next → x ≤ next → IsFloorRoot (pos a) n (pos x)
-  ended_at_root {x = x} {next = next} reached is up =
+  pub ended_at_root : {x turns : ℕ} → IsReached step first (Falling x) turns → (next : ℕ) × step x next × (x ≤ next) → IsFloorRoot (pos a) n (pos x)
+  ended_at_root {x = x} reached (next, is, up) =
       floor_root (newton_stays (stepped x next is (in_range reached).above_one) up) (above_root reached)

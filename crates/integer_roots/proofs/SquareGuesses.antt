@@ -1,6 +1,6 @@
 -- The guesses of a square root's two loops: how near the root each turn brings them, and that five turns are enough.
 use Rattle.std.specs.Prelude.{pos}
-use Rattle.std.proofs.Common.{◌≡◌, ℕ, zero, suc, ◌+◌, ◌-◌, ◌*◌, ◌/◌, ◌^◌, ◌<◌, ◌≤◌, List, [], ◌∷◌, inl, inr, ◌∙◌, arith, refl, add-one, mul-le-mul, mul-le-mul_left, mul-le-mul_right, le_of_mul-le-mul_right, mul-pos, div-mul-le_self, div-lt_iff_lt-mul, le_trans, pow-add, pow_mono, ap, ◌%◌}
+use Rattle.std.proofs.Common.{◌≡◌, ℕ, zero, suc, ◌+◌, ◌-◌, ◌*◌, ◌/◌, ◌^◌, ◌<◌, ◌≤◌, List, [], ◌∷◌, inl, inr, ◌∙◌, arith, refl, add-one, mul-le-mul, mul-le-mul_left, mul-le-mul_right, le_of_mul-le-mul_right, mul-pos, div-mul-le_self, div-lt_iff_lt-mul, le_trans, pow-add, pow_mono, ◌%◌}
 use Rattle.std.proofs.lemmas.Bool.{cases_lt}
 use Rattle.std.proofs.Math.Nat.{lt_of_not-le}
 use Rattle.std.proofs.lemmas.Int.{ints}
@@ -55,16 +55,10 @@ near_next a x y (suc turns) positive near h above =
 near_after_turn : (a x y turns : ℕ) → 0 < x → IsNear a x turns → y ≡ square_step a x → a < 2 ^ 64 → (0 < turns → y < x) → IsNear a y (turns + 1)
 near_after_turn a x y turns positive near is fits down =
     let above : (0 < turns → a < x * x) = λ h. (div-lt_iff_lt-mul positive).0 (let f = down h in omega arith) in
-    record {
-      near = near_next a x y turns positive near (omega arith) above;
-      high_at_first = λ e. absurd (omega arith);
-      bound = omega (
-        arith,
-        lt_of_not-le {n = 5} {m = turns} (λ h.
-            let five : turns ≡ 5 = omega (arith, near.bound) in
-            omega (arith, above (omega arith), rw five at near.near)),
-      );
-    }
+    let few : turns < 5 = lt_of_not-le (λ h.
+    let five : turns ≡ 5 = omega (arith, near.bound) in
+    omega (arith, above (omega arith), rw five at near.near)) in
+    record { near = near_next a x y turns positive near (omega arith) above; high_at_first = λ e. absurd (omega arith); bound = omega arith }
 
 rise_cases : (x e y q a : ℕ) → y ≡ x + e + 1 → a < q * x + x → q + x ≤ 2 * y + 1 → (y + 2) * y ≤ a → ⊥
 rise_cases x e y q a is lt le big =
@@ -106,9 +100,8 @@ square_start a top least fits small low high =
 near_at_first : {a first : ℕ} → IsSquareStart a first → IsNear a first 0
 near_at_first {first = first} s =
     let k : ℕ = (s.top + 1) / 2 in
-    let square : 2 ^ (k + k) ≡ 2 ^ k * 2 ^ k = pow-add 2 k k in
-    let beyond : 2 ^ (k + k) ≤ 2 ^ (s.top + 1) = pow_mono {i = k + k} {j = s.top + 1} (omega arith) in
-    let same : first * first ≡ 2 ^ k * 2 ^ k = ap (λ (t : ℕ). t * t) s.is in
+    let square : first * first ≡ 2 ^ (k + k) = rw (s.is, pow-add) refl in
+    let beyond = pow_mono {i = k + k} {j = s.top + 1} (omega arith) in
     record {
       near = omega (arith, pow-add 2 s.top 1, s.highest.power_le);
       high_at_first = λ e. omega (arith, s.start.near, power_two first);
@@ -149,11 +142,9 @@ module _ {a first : ℕ} (known : IsSquareStart a first) where
   near_root (falls {x} {y} reached is down) = near_after_turn a x y _ (positive reached) (near_root reached) is known.start.limited (λ h. down)
 
   -- where they end, their turns are those of the run
-  pub turns_of_run : {x next turns : ℕ} → IsReached (IsSquareStep a) first (Falling x) turns → IsSquareStep a x next → x ≤ next
+  pub turns_of_run : {x turns : ℕ} → IsReached (IsSquareStep a) first (Falling x) turns → (next : ℕ) × IsSquareStep a x next × (x ≤ next)
       → AreSquareRootTurns (pos a) turns
-  turns_of_run reached is up =
-      let least = known.start.power_le in
-      record {
-        below_four = λ h. absurd (omega (arith, ints));
-        from_four = λ h. record { top = known.top; highest = known.highest; run = rw known.is at (reaches_last (run_to a reached) (omega arith)) };
-      }
+  turns_of_run reached (next, is, up) = record {
+    below_four = λ h. absurd (omega (arith, ints, known.start.power_le));
+    from_four = λ h. record { top = known.top; highest = known.highest; run = rw known.is at (reaches_last (run_to a reached) (omega arith)) };
+  }

@@ -8,10 +8,12 @@ use crate::integer_core::operators::{
 use crate::shift::Unsigned;
 use num_traits::{cast, PrimInt, ToPrimitive};
 
+/// Returns `true` if the magnitudes are the same.
 fn is_same<M: PrimInt + Unsigned>(m: M, n: M) -> bool {
     m == n
 }
 
+/// Returns `true` if the first magnitude is below the second.
 fn is_smaller<M: PrimInt + Unsigned>(m: M, n: M) -> bool {
     is_below(m, n)
 }
@@ -25,6 +27,13 @@ fn without_twos<M: PrimInt + Unsigned>(x: M) -> (M, u32) {
 /// Returns `x` times 2 to the power `twos`.
 fn with_twos<M: PrimInt + Unsigned>(x: M, twos: u32) -> M {
     x << twos
+}
+
+/// Returns both numbers with all factors 2 taken out, and the number of those that both have.
+fn odd_parts<M: PrimInt + Unsigned>(a: M, b: M) -> (M, M, u32) {
+    let (m, twos_of_a) = without_twos(a);
+    let (n, twos_of_b) = without_twos(b);
+    (m, n, twos_of_a.min(twos_of_b))
 }
 
 /// Returns the number of last bits that `x` and the lesser `y` share. Their difference has as many
@@ -94,16 +103,15 @@ fn narrowing_gcd<M: PrimInt + Unsigned>(a: M, b: M) -> (M, u32) {
 
 /// Returns the greatest common divisor of two numbers above 0, and the turns of the loop.
 fn positive_gcd<M: PrimInt + Unsigned>(a: M, b: M) -> (M, u32) {
-    let (m, twos_of_a) = without_twos(a);
-    let (n, twos_of_b) = without_twos(b);
+    let (m, n, twos) = odd_parts(a, b);
     let (odd, turns) = narrowing_gcd(m, n);
-    (with_twos(odd, twos_of_a.min(twos_of_b)), turns)
+    (with_twos(odd, twos), turns)
 }
 
 /// Returns the greatest common divisor of two numbers above 0, one of which is a power of two: the
 /// power of two that both share.
 fn shared_power_of_two<M: PrimInt + Unsigned>(a: M, b: M) -> M {
-    with_twos(one(), without_twos(a).1.min(without_twos(b).1))
+    with_twos(one(), odd_parts(a, b).2)
 }
 
 /// Returns the least common multiple of two numbers above 0.

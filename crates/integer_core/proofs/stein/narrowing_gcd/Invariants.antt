@@ -7,11 +7,8 @@ abbrev pub invariant-turns : goal.invariant-turns
 invariant-turns g l =
     let fits = g.M.Number.fits in
     let value = g.M.Number.value in
-    record {
-      m_in_range : fits (value l.m);
-      n_in_range : fits (value l.n);
-      loop : OddLoop (unsigned_abs (value l.fn.a)) (unsigned_abs (value l.fn.b)) (unsigned_abs (value l.m)) (unsigned_abs (value l.n)) l.turns;
-    }
+    OddLoop (fits (value l.m) × fits (value l.n)) (unsigned_abs (value l.fn.a)) (unsigned_abs (value l.fn.b))
+    (unsigned_abs (value l.m)) (unsigned_abs (value l.n)) l.turns
 
 abbrev pub decreases-turns : goal.decreases-turns
 decreases-turns g l = unsigned_abs (g.M.Number.value l.m) + unsigned_abs (g.M.Number.value l.n)

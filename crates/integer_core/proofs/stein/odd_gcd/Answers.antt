@@ -5,24 +5,16 @@ use Rattle.integer_core.proofs.OddLoops.{loop_begins, loop_counts, loop_ends, lo
 use Rattle.integer_core.proofs.stein.odd_gcd.Goals as goal
 
 pub turns-init : goal.turns-init
-turns-init c = record {
-  m_in_range = c.ranges.a.fits;
-  n_in_range = c.ranges.b.fits;
-  loop = loop_begins c.requires.a_odd c.requires.b_odd;
-}
+turns-init c = loop_begins (c.ranges.a.fits, c.ranges.b.fits) c.requires.a_odd c.requires.b_odd
 
 pub overflow_add-turns : goal.overflow_add-turns
-overflow_add-turns c = omega (arith, loop_counts c.turns.invariant.loop w64 c.ranges.a.fits c.ranges.b.fits)
+overflow_add-turns c = omega (arith, loop_counts c.turns.invariant w64 c.ranges.a.fits c.ranges.b.fits)
 
 pub turns-smaller : goal.turns-smaller
-turns-smaller c = turning_falls c.turns.invariant.loop.kept c.next_pair.ensures.turn
+turns-smaller c = turning_falls c.turns.invariant.kept c.next_pair.ensures.turn
 
 pub turns-preserved : goal.turns-preserved
-turns-preserved c = record {
-  m_in_range = c.next_pair.ensures.in_range.0;
-  n_in_range = c.next_pair.ensures.in_range.1;
-  loop = loop_goes_on c.turns.invariant.loop c.next_pair.ensures.turn;
-}
+turns-preserved c = loop_goes_on c.turns.invariant c.next_pair.ensures.in_range c.next_pair.ensures.turn
 
 pub returns : goal.returns
-returns c = loop_ends c.turns.invariant.loop c.turns-test.false
+returns c = loop_ends c.turns.invariant c.turns-test.false

@@ -10,12 +10,12 @@ pub quotient-requires-clause-quotient_fits : goal.quotient-requires-clause-quoti
 quotient-requires-clause-quotient_fits g c =
     let positive = gcd-positive c.positive_gcd.ensures.gcd.greatest (grind (arith, sizes)) in
     let law = g.met.M.Num.positive_divisor_law _ _ g.met.M.Integral.exact_law in
-    (law c.requires.b_in_range c.positive_gcd.ensures.in_range positive).1
+    (law c.requires.operands.b_in_range c.positive_gcd.ensures.in_range positive).1
 
 pub product-requires-clause-product_fits : goal.product-requires-clause-product_fits
 product-requires-clause-product_fits g c =
-    c.requires.lcm_fits _ (lcm-of-sizes (g.met.M.Unsigned.unsigned_law c.args.a) (g.met.M.Unsigned.unsigned_law c.args.b) c.requires.b_positive c.positive_gcd.ensures.gcd.greatest c.quotient.ensures.value refl)
+    c.requires.lcm_fits _ (lcm-of-sizes (g.met.M.Unsigned.unsigned_law c.args.a) (g.met.M.Unsigned.unsigned_law c.args.b) c.requires.operands.b_positive c.positive_gcd.ensures.gcd.greatest c.quotient.ensures.value refl)
 
 pub returns-clause-least : goal.returns-clause-least
 returns-clause-least g c =
-    lcm-of-sizes (g.met.M.Unsigned.unsigned_law c.args.a) (g.met.M.Unsigned.unsigned_law c.args.b) c.requires.b_positive c.positive_gcd.ensures.gcd.greatest c.quotient.ensures.value c.product.ensures.value
+    lcm-of-sizes (g.met.M.Unsigned.unsigned_law c.args.a) (g.met.M.Unsigned.unsigned_law c.args.b) c.requires.operands.b_positive c.positive_gcd.ensures.gcd.greatest c.quotient.ensures.value c.product.ensures.value

@@ -1,4 +1,4 @@
-use Rattle.std.proofs.Common.{rules}
+use Rattle.std.proofs.Common.{rules, ap}
 use Rattle.integer_roots.proofs.Averaging.{AreAverages, averages}
 use Rattle.integer_roots.proofs.averages.both_averages.Given.{Over}
 use Rattle.integer_roots.proofs.averages.both_averages.Goals as goal
@@ -7,14 +7,17 @@ use Rattle.integer_roots.proofs.averages.both_averages.Goals.{After-shr-half}
 are_averages : (g : Over) (c : After-shr-half g) → let value = g.T.Number.value in
     AreAverages g.T.Number.fits (value c.args.a) (value c.args.b) (value c.bitand-both.result) (value c.bitor-either.result) (value c.shr-half.result)
 are_averages g c =
-    let type = g.T.FixedWidth in
     let laws = g.met.T.PrimInt in
+    let fixed = g.met.T.FixedWidth in
     let both = laws.bitand_law c.args.a c.args.b c.bitand-both.result c.bitand-both.ensures in
     let either = laws.bitor_law c.args.a c.args.b c.bitor-either.result c.bitor-either.ensures in
     let one = laws.bitxor_law c.args.a c.args.b c.bitxor.result c.bitxor.ensures in
     let half = laws.shr_law c.bitxor.result 1 c.shr-half.result c.shr-half.ensures in
-    rw (half, one, both, either) (averages g.T.Number.value g.T.Number.fits type.of_bits type.bits_of type.width g.met.T.Integer.range_law g.met.T.Native.native_law.complement
-    g.met.T.FixedWidth.value_round_trip_law g.met.T.FixedWidth.bits_of_law c.args.a c.args.b c.requires.a_in_range c.requires.b_in_range)
+    let a_fits = c.requires.a_in_range in
+    let b_fits = c.requires.b_in_range in
+    let a_is = ap g.T.Number.value (fixed.value_round_trip_law _ a_fits) in
+    let b_is = ap g.T.Number.value (fixed.value_round_trip_law _ b_fits) in
+    rw (half, one, both, either) (averages g.met.T.Integer.range_law g.met.T.Native.native_law.complement a_fits b_fits a_is b_is (fixed.bits_of_law _ a_fits) (fixed.bits_of_law _ b_fits))
 
 pub add-requires : goal.add-requires
 add-requires g c = let fits = (are_averages g c).floor.1 in search rules

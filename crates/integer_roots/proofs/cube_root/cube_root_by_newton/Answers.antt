@@ -12,12 +12,9 @@ first c =
     start_from_three c.div_ceil.ensures (omega arith) three b.bound (omega arith) b.power_le b.next_power_gt
 
 pub newton-requires : goal.newton-requires
-newton-requires c = record {
-  may_step = λ guess n reached. let range = in_range (first c) reached in (range.above_one, omega (arith, range.small));
-  turns_fit = λ guess n reached. let range = in_range (first c) reached in omega (arith, range.small);
-}
+newton-requires c guess n reached =
+    let range = in_range (first c) reached in
+    ((range.above_one, omega (arith, range.small)), omega (arith, range.small))
 
 pub returns : goal.returns
-returns c =
-    let ended = c.newton.ensures.ended in
-    record { root = ended_at_root (first (goal.at.returns c).After-div_ceil) c.newton.ensures.reached ended.1 ended.2 }
+returns c = record { root = ended_at_root (first (goal.at.returns c).After-div_ceil) c.newton.ensures.reached c.newton.ensures.ended }

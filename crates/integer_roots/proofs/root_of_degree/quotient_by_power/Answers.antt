@@ -1,4 +1,4 @@
-use Rattle.std.proofs.Common.{rules, arith, ℕ, ◌≡◌, ◌/◌, ◌*◌, ◌^◌, ◌≤◌, ap, sym, ◌∙◌, pow_mono}
+use Rattle.std.proofs.Common.{rules, arith, refl, ◌*◌, ◌^◌, sym, pow_mono}
 use Rattle.std.proofs.Math.Nat.{div-eq_of_lt, one-le-pow, pow-le-pow_left}
 use Rattle.std.proofs.lemmas.Nat.{one_shl}
 use Rattle.integer_roots.proofs.Powers.{power_of_power}
@@ -9,13 +9,10 @@ nonzero_div-result c = let positive = one-le-pow c.args.k c.args.x c.requires.po
 
 pub returns-then-top-k-ge-BITS : goal.returns-then-top-k-ge-BITS
 returns-then-top-k-ge-BITS c =
-    let top : ℕ = c.ilog2-top.result in
-    let wide : 2 ^ 64 ≤ 2 ^ (top * c.args.k) = pow_mono {i = 64} {j = top * c.args.k} c.if-top-k-ge-BITS.true in
-    let above : (2 ^ top) ^ c.args.k ≤ c.args.x ^ c.args.k = pow-le-pow_left c.ilog2-top.ensures.power_le c.args.k in
-    sym (div-eq_of_lt {n = c.args.a} {m = c.args.x ^ c.args.k} (omega (arith, power_of_power 2 top c.args.k)))
+    let wide = pow_mono {i = 64} {j = c.ilog2-top.result * c.args.k} c.if-top-k-ge-BITS.true in
+    let above = rw power_of_power at (pow-le-pow_left c.ilog2-top.ensures.power_le c.args.k) in
+    sym (div-eq_of_lt {n = c.args.a} {m = c.args.x ^ c.args.k} (omega arith))
 
 pub returns-then-x-top : goal.returns-then-x-top
 returns-then-x-top c =
-    let top : ℕ = c.ilog2-top.result in
-    let bit : c.args.x ≡ 2 ^ top = c.if-x-top.true ∙ one_shl top 64 c.ilog2-top.ensures.bound in
-    ap (λ (p : ℕ). c.args.a / p) (sym (power_of_power 2 top c.args.k) ∙ ap (λ (x : ℕ). x ^ c.args.k) (sym bit))
+    rw (c.if-x-top.true, one_shl c.ilog2-top.result 64 c.ilog2-top.ensures.bound, power_of_power) refl

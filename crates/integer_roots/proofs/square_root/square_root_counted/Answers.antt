@@ -11,20 +11,16 @@ first c =
     square_start c.args.a c.ilog2.result (omega arith) (omega arith) b.bound b.power_le b.next_power_gt
 
 pub newton-requires : goal.newton-requires
-newton-requires c =
-    let s = first c in
-    record {
-      may_step = λ guess n reached. let range = in_range s.start reached in (range.above_one, omega (arith, range.small));
-      turns_fit = λ guess n reached. let near = near_root s reached in omega (arith, near.bound);
-    }
+newton-requires c guess n reached =
+    let range = in_range (first c).start reached in
+    ((range.above_one, omega (arith, range.small)), omega (arith, (near_root (first c) reached).bound))
 
 pub returns : goal.returns
 returns c =
     let s = first (goal.at.returns c).After-ilog2 in
-    let reached = c.newton.ensures.reached in
-    let ended = c.newton.ensures.ended in
+    let e = c.newton.ensures in
     record {
-      root = ended_at_root s.start reached ended.1 ended.2;
-      turns = turns_of_run s reached ended.1 ended.2;
-      bound = (near_root s reached).bound;
+      root = ended_at_root s.start e.reached e.ended;
+      turns = turns_of_run s e.reached e.ended;
+      bound = (near_root s e.reached).bound;
     }

@@ -1,0 +1,19 @@
+use Rattle.std.specs.Prelude.{ℤ}
+use Rattle.integer_core.proofs.NaturalGcd.{gcd_of_sizes}
+use Rattle.integer_core.proofs.SteinSteps.{gcd_fits, gcd_of_odd_parts}
+use Rattle.integer_core.proofs.stein.odd_parts.Goals as goal
+
+pub returns-clause-left : goal.returns-clause-left
+returns-clause-left g c = let e = c.without_twos-m.ensures in record { odd = e.odd; twos = _; product = e.product }
+
+pub returns-clause-right : goal.returns-clause-right
+returns-clause-right g c = let e = c.without_twos-n.ensures in record { odd = e.odd; twos = _; product = e.product }
+
+pub returns-clause-gcd : goal.returns-clause-gcd
+returns-clause-gcd g c odd h =
+    let left = c.without_twos-m.ensures in
+    let right = c.without_twos-n.ensures in
+    let all = gcd_of_odd_parts _ _ left.product right.product c.min.ensures left.odd right.odd h in
+    let exact = g.met.M.Integral.exact_law in
+    let within = λ (y : ℤ). g.M.Number.between_law _ y _ exact (g.met.M.Zero.zero_fits_law exact) c.requires.operands.a_in_range in
+    (gcd_of_sizes _ _ all, gcd_fits within (g.met.M.Unsigned.unsigned_law c.args.a) c.requires.operands.a_positive all)
