@@ -732,6 +732,16 @@ pub mod num_integer {
 pub mod modular {
     //! Words of residues and congruences.
     //!
+    //! ## `LiesBelow`
+    //!
+    //! x lies in 0..m
+    //!
+    //! ```text
+    //! pub record LiesBelow (m x : ℤ) : Type 0 where
+    //!   pub from_zero : pos 0 ≤ℤ x
+    //!   pub below : x <ℤ m
+    //! ```
+    //!
     //! ## `MatchCommonSolution`
     //!
     //! the first fact holds at `Never`, the second at `Beyond`, and the third of the number at `At`
@@ -758,8 +768,7 @@ pub mod modular {
     //!
     //! ```text
     //! pub record IsResidue (m x r : ℤ) : Type 0 where
-    //!   pub from_zero : pos 0 ≤ℤ r
-    //!   pub below : r <ℤ m
+    //!   pub below : LiesBelow m r
     //!   pub congruent : AreCongruent m x r
     //! ```
     //!
@@ -769,8 +778,7 @@ pub mod modular {
     //!
     //! ```text
     //! pub record IsInverse (a m x : ℤ) : Type 0 where
-    //!   pub from_zero : pos 0 ≤ℤ x
-    //!   pub below : x <ℤ m
+    //!   pub below : LiesBelow m x
     //!   pub one : AreCongruent m (a *ℤ x) (pos 1)
     //! ```
     //!
@@ -780,8 +788,7 @@ pub mod modular {
     //!
     //! ```text
     //! pub record IsQuotientModulo (a b m x : ℤ) : Type 0 where
-    //!   pub from_zero : pos 0 ≤ℤ x
-    //!   pub below : x <ℤ m
+    //!   pub below : LiesBelow m x
     //!   pub product : AreCongruent m (b *ℤ x) a
     //! ```
     //!
@@ -800,8 +807,7 @@ pub mod modular {
     //!
     //! ```text
     //! pub record IsResidueClass (Is : ℤ → Type 0) (first step : ℤ) : Type 0 where
-    //!   pub from_zero : pos 0 ≤ℤ first
-    //!   pub below : first <ℤ step
+    //!   pub below : LiesBelow step first
     //!   pub every : (x : ℤ) → Is x → AreCongruent step x first
     //!   pub no_other : (x : ℤ) → AreCongruent step x first → Is x
     //! ```

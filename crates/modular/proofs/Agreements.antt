@@ -5,7 +5,7 @@ use Rattle.std.proofs.Common.{arith, ◌∙◌, ap, get_or, refl, subst, sym, ta
 use Rattle.std.proofs.lemmas.List.Elements.{All-cons, All-head, All-nil, All-tail}
 use Rattle.num_integer.specs.Range.{IsRange}
 use Rattle.num_integer.specs.Divisors.{Divides, IsGreatestCommonDivisor, IsLeastCommonMultiple}
-use Rattle.num_integer.proofs.ForCallers.{Divides-sum, cancel, comm, expand, gcd-nonzero, lcm-positive, linear, only_gcd, product_from_zero, products, sizes}
+use Rattle.num_integer.proofs.ForCallers.{Divides-cancel, Divides-sum, Divides-times, Divides-trans, comm, expand, gcd-nonzero, gcd-times, lcm-positive, linear, only_gcd, product_from_zero, products, sizes}
 use Rattle.num_integer.proofs.Laws.{bezout_answer_exists, division_exists, gcd_exists, gcd_times_lcm, lcm_exists}
 use Rattle.modular.specs.declared.common_solutions.CommonSolution.{CommonSolution}
 use Rattle.modular.specs.declared.common_solutions.CommonSolution.TheVariants.{Never, Beyond, At}
@@ -18,73 +18,41 @@ use Rattle.modular.proofs.Congruences.{congruent-divisor, congruent-refl, congru
 
 -- ---- two congruences that agree
 
--- what the gcd of two numbers divides is a sum of multiples of both
-record IsCombination (m k z : ℤ) : Type 0 where
-  left : ℤ
-  right : ℤ
-  sum : z ≡ m *ℤ left +ℤ k *ℤ right
+divides_product : {a b c d : ℤ} → Divides a b → Divides c d → Divides (a *ℤ c) (b *ℤ d)
+divides_product h k = record { factor = h.factor *ℤ k.factor; product = rw (h.product, k.product) (simp expand refl) }
 
-factored : (x m y k f : ℤ) → (x *ℤ m +ℤ y *ℤ k) *ℤ f ≡ m *ℤ (x *ℤ f) +ℤ k *ℤ (y *ℤ f)
-factored x m y k f = simp expand refl
-
-combination : {m k g z : ℤ} → IsGreatestCommonDivisor m k g → Divides g z → IsCombination m k z
-combination {m} {k} {g} {z} h divides =
-    let own = bezout_answer_exists m k in
-    let same : g ≡ own.1 *ℤ m +ℤ own.2 *ℤ k = sym (own.3.equation ∙ only_gcd own.3.greatest h) in
-    record {
-      left = own.1 *ℤ divides.factor;
-      right = own.2 *ℤ divides.factor;
-      sum = divides.product ∙ ap (λ (t : ℤ). t *ℤ divides.factor) same ∙ factored own.1 m own.2 k divides.factor;
-    }
-
--- m times such a sum of multiples of n and k, where m times n is g times l
-scaled : (m n k g l part u v : ℤ) → g *ℤ l ≡ m *ℤ n → m ≡ g *ℤ part → m *ℤ (n *ℤ u +ℤ k *ℤ v) ≡ g *ℤ (u *ℤ l +ℤ (part *ℤ v) *ℤ k)
-scaled m n k g l part u v product part_is =
-    let apart : m *ℤ (n *ℤ u +ℤ k *ℤ v) ≡ (m *ℤ n) *ℤ u +ℤ m *ℤ (k *ℤ v) = simp expand refl in
-    let joined : (g *ℤ l) *ℤ u +ℤ (g *ℤ part) *ℤ (k *ℤ v) ≡ g *ℤ (u *ℤ l +ℤ (part *ℤ v) *ℤ k) = simp expand refl in
-    apart ∙ ap (λ (t : ℤ). t *ℤ u +ℤ m *ℤ (k *ℤ v)) (sym product) ∙ ap (λ (t : ℤ). (g *ℤ l) *ℤ u +ℤ t *ℤ (k *ℤ v)) part_is ∙ joined
-
-between_sums : (x y g a b : ℤ) → x *ℤ (g *ℤ a) +ℤ y *ℤ (g *ℤ b) ≡ g *ℤ (x *ℤ a +ℤ y *ℤ b)
-between_sums x y g a b = simp expand refl
+-- what divides m·n and m·k divides m·z, where the gcd of n and k divides z
+divides_multiple : {n k d f z : ℤ} (m : ℤ) → pos 0 ≤ℤ m → IsGreatestCommonDivisor n k d → Divides d z → Divides f (m *ℤ n) → Divides f (m *ℤ k) → Divides f (m *ℤ z)
+divides_multiple m from_zero h divides at_n at_k = Divides-trans ((gcd-times m from_zero h).greatest _ at_n at_k) (Divides-times m divides)
 
 -- what the gcds of m and of n with k divide, the gcd of their least common multiple with k divides
 divides_of_gcds : {m n k l z c d g : ℤ} → pos 0 <ℤ m → pos 0 <ℤ n → IsGreatestCommonDivisor m k c → IsGreatestCommonDivisor n k d → IsLeastCommonMultiple m n l
     → Divides c z → Divides d z → Divides g l → Divides g k → Divides g z
 divides_of_gcds {m} {n} {k} {l} {z} {c} {d} {g} m_up n_up at_m at_n least by_m by_n g_l g_k =
-    let own = bezout_answer_exists m n in
-    let h = own.3.greatest in
-    let common : ℤ = own.0 in
-    let first = combination at_m by_m in
-    let second = combination at_n by_n in
+    let bezout = bezout_answer_exists m n in
+    let h = bezout.3.greatest in
+    let common : ℤ = bezout.0 in
     let positive = product_from_zero m n (omega (arith, linear)) (omega (arith, linear)) in
     let size : pos (unsigned_abs (m *ℤ n)) ≡ m *ℤ n = omega (arith, sizes) in
-    let whole : common *ℤ l ≡ m *ℤ n = gcd_times_lcm m n common l h least ∙ size in
-    let turned : common *ℤ l ≡ n *ℤ m = whole ∙ comm m n in
-    let a : ℤ = second.left *ℤ l +ℤ (h.divides_left.factor *ℤ second.right) *ℤ k in
-    let b : ℤ = first.left *ℤ l +ℤ (h.divides_right.factor *ℤ first.right) *ℤ k in
-    let by_left : m *ℤ z ≡ common *ℤ a = ap (λ (t : ℤ). m *ℤ t) second.sum ∙ scaled m n k common l h.divides_left.factor second.left second.right whole h.divides_left.product in
-    let by_right : n *ℤ z ≡ common *ℤ b = ap (λ (t : ℤ). n *ℤ t) first.sum ∙ scaled n m k common l h.divides_right.factor first.left first.right turned h.divides_right.product in
-    let split : (own.1 *ℤ m +ℤ own.2 *ℤ n) *ℤ z ≡ own.1 *ℤ (m *ℤ z) +ℤ own.2 *ℤ (n *ℤ z) = simp expand refl in
-    let joined : own.1 *ℤ (common *ℤ a) +ℤ own.2 *ℤ (common *ℤ b) ≡ common *ℤ (own.1 *ℤ a +ℤ own.2 *ℤ b) = between_sums own.1 own.2 common a b in
-    let times : common *ℤ z ≡ common *ℤ (own.1 *ℤ a +ℤ own.2 *ℤ b) =
-    ap (λ (t : ℤ). t *ℤ z) (sym own.3.equation) ∙ split ∙ ap (λ (t : ℤ). own.1 *ℤ t +ℤ own.2 *ℤ (n *ℤ z)) by_left ∙ ap (λ (t : ℤ). own.1 *ℤ (common *ℤ a) +ℤ own.2 *ℤ t) by_right ∙ joined in
-    let is : z ≡ own.1 *ℤ a +ℤ own.2 *ℤ b = cancel common z (own.1 *ℤ a +ℤ own.2 *ℤ b) (gcd-nonzero h (λ none. omega (arith, linear))) times in
-    let at_a = Divides-sum second.left (h.divides_left.factor *ℤ second.right) g_l g_k in
-    let at_b = Divides-sum first.left (h.divides_right.factor *ℤ first.right) g_l g_k in
-    rw (sym is) at (Divides-sum own.1 own.2 at_a at_b)
+    let whole : Divides (common *ℤ g) (m *ℤ n) = rw (gcd_times_lcm m n common l h least ∙ size) at (Divides-times common g_l) in
+    let turned : Divides (common *ℤ g) (n *ℤ m) = rw (comm m n) at whole in
+    let at_left = divides_multiple m (omega (arith, linear)) at_n by_n whole (divides_product h.divides_left g_k) in
+    let at_right = divides_multiple n (omega (arith, linear)) at_m by_m turned (divides_product h.divides_right g_k) in
+    let split : bezout.1 *ℤ (m *ℤ z) +ℤ bezout.2 *ℤ (n *ℤ z) ≡ (bezout.1 *ℤ m +ℤ bezout.2 *ℤ n) *ℤ z = simp expand refl in
+    let is = split ∙ ap (λ (t : ℤ). t *ℤ z) bezout.3.equation in
+    Divides-cancel common (gcd-nonzero h (λ none. omega (arith, linear))) (rw is at (Divides-sum bezout.1 bezout.2 at_left at_right))
 
 -- two congruences that agree have a common solution, and those that have one agree
 pub solution_of_two : {a m b n : ℤ} → Agree a m b n → (x : ℤ) × SolvesBothCongruences a m b n x
 solution_of_two {a} {m} {b} {n} h =
-    let own = bezout_answer_exists m n in
-    let near = (h.congruent own.0 own.3.greatest).divides in
-    let turns : ℤ = own.1 *ℤ near.factor in
-    let gap : a -ℤ b ≡ m *ℤ turns +ℤ n *ℤ (own.2 *ℤ near.factor) =
-    near.product ∙ ap (λ (t : ℤ). t *ℤ near.factor) (sym own.3.equation) ∙ factored own.1 m own.2 n near.factor in (
-      a -ℤ m *ℤ turns,
+    let bezout = bezout_answer_exists m n in
+    let near = (h.congruent bezout.0 bezout.3.greatest).divides in
+    let split : (bezout.1 *ℤ m +ℤ bezout.2 *ℤ n) *ℤ near.factor ≡ m *ℤ (bezout.1 *ℤ near.factor) +ℤ n *ℤ (bezout.2 *ℤ near.factor) = simp expand refl in
+    let gap = near.product ∙ ap (λ (t : ℤ). t *ℤ near.factor) (sym bezout.3.equation) ∙ split in (
+      a -ℤ m *ℤ (bezout.1 *ℤ near.factor),
       record {
-        first = record { divides = record { factor = neg_ℤ turns; product = simp expand (omega (arith, linear)) } };
-        second = record { divides = record { factor = own.2 *ℤ near.factor; product = omega (arith, linear) } };
+        first = record { divides = record { factor = neg_ℤ (bezout.1 *ℤ near.factor); product = simp expand (omega (arith, linear)) } };
+        second = record { divides = record { factor = bezout.2 *ℤ near.factor; product = omega (arith, linear) } };
       },
     )
 
@@ -203,7 +171,7 @@ pub least_of_period : {Has : ℤ → Type 0} {x period : ℤ} (from : ℤ) → H
 least_of_period {Has} {x} {period} from h =
     let up = h.positive in
     let division = division_exists.1 (x -ℤ from) period (λ e. omega (arith, linear)) in
-    let next = next_congruent_is {t = from +ℤ division.1} (remainder_is_residue up (record { quotient = division.0; division = division.2 })) refl in
+    let next = next_congruent_is (remainder_is_residue up (record { quotient = division.0; division = division.2 })) in
     (from +ℤ division.1, record { from_there = next.from_there; holds = h.no_other _ next.holds; least = λ u far has. next.least u far (h.every u has) })
 
 -- so where some number solves each congruence, there is a least one, beyond the type where none in the type does
@@ -273,7 +241,7 @@ module _ {X : Type 0} {value : X → ℤ} {congruences : List (X × X)} {i : ℕ
 
   pub narrowed_more : {c : X × X} {f s : ℤ} → c ≡ get_or congruences i c → i < length congruences → IsResidueClass (SolvesBothCongruences first step (value c.0) (value c.1)) f s → Narrowed value congruences (i + 1) f s
   narrowed_more is within class = record {
-    positive = omega (arith, linear, class.from_zero, class.below);
+    positive = omega (arith, linear, class.below.from_zero, class.below.below);
     every = λ x each. class.every x (narrowed_solves is within x each);
     no_other = λ x near.
         let both = class.no_other x near in

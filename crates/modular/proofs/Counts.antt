@@ -1,13 +1,12 @@
 -- How many congruent numbers lie between two others.
-use Rattle.std.specs.Prelude.{◌≡◌, ◌≤ℤ◌, ◌<ℤ◌, ◌+ℤ◌, ◌-ℤ◌, ◌*ℤ◌, ℤ, ℕ, zero, suc, pos, unsigned_abs, [], ◌∷◌, Option, Some, None, MatchOption}
+use Rattle.std.specs.Prelude.{◌≡◌, ◌≤ℤ◌, ◌<ℤ◌, ◌+ℤ◌, ◌-ℤ◌, ◌*ℤ◌, ℤ, ℕ, zero, suc, pos, unsigned_abs, [], ◌∷◌}
 use Rattle.std.proofs.Common.{arith, ◌∙◌, ap, inl, refl, subst, sym}
 use Rattle.std.proofs.lemmas.Int.{by_lt_z, ints}
-use Rattle.num_integer.specs.Checked.{AnswersWhere}
 use Rattle.num_integer.specs.Range.{IsRange}
 use Rattle.num_integer.proofs.ForCallers.{expand, from_not_less, linear, product_from_zero, products, sizes, within_fits}
 use Rattle.modular.proofs.CommonSolutions.{turns_ordered}
 use Rattle.modular.proofs.Congruences.{congruent-sym, congruent-trans, next_within_step}
-use Rattle.modular.specs.Below.{IsFirstTurn}
+use Rattle.modular.specs.Turns.{IsFirstTurn}
 use Rattle.modular.specs.Congruences.{AreCongruent, IsCountOfCongruent, IsNextCongruent, IsResidue}
 
 -- a congruent number and a step
@@ -64,10 +63,6 @@ count_of_steps {to} {first} {step} {u} (suc n) {from} {t} up at_start at_end is 
     let within : t ≤ℤ to = by_lt_z to t (λ less. absurd (omega (arith, linear, at_end.least t (omega (arith, linear)) at_start.holds))) (λ fine. fine) in
     one_number_more at_start within (count_of_steps n up next at_end onward)
 
--- the numbers of an empty range
-pub count_of_none : {from to first step count : ℤ} → to <ℤ from → count ≡ pos 0 → IsCountOfCongruent from to first step count
-count_of_none less none = record { items = []; all = λ x far h. absurd (omega (arith, linear, h.to_there)); counted = none }
-
 -- the turns that lead to both ends of a range: one number more where its last one is congruent
 pub record IsCountedByTurns (from to first step turns : ℤ) : Type 0 where
   pub from_zero : pos 0 ≤ℤ turns
@@ -101,19 +96,6 @@ counted_by_turns {from} {to} {first} {start} {step} {j} {k} up at_start ordered 
           let there = last.from_there in
           counted_steps up own (record { from_there = by_lt_z to (start +ℤ step *ℤ k) (λ less. omega (arith, linear)) (λ fine. absurd (apart_from (omega (arith, linear)))); holds = last.holds; least = λ x beyond near. last.least x (omega (arith, linear)) near }) (omega (arith, linear)) apart;
     }
-
--- or the count lies beyond the type where the turns do
-pub count_without_last : {X : Type 0} (fits : ℤ → Type 0) (value : X → ℤ) {from to first step turns : ℤ} (found : Option X) → IsCountedByTurns from to first step turns → ¬ (AreCongruent step to first)
-    → AnswersWhere (fits turns) (λ n. fits (value n) × (value n ≡ turns)) found
-    → MatchOption found ((n : ℤ) × IsCountOfCongruent from to first step n × ¬ (fits n)) (λ n. fits (value n) × IsCountOfCongruent from to first step (value n))
-count_without_last fits value {from} {to} {first} {step} (Some n) h far found = (found.1.0, subst (IsCountOfCongruent from to first step) (sym found.1.1) (h.other far))
-count_without_last fits value None h far found = (_, h.other far, found)
-
-pub count_with_last : {X : Type 0} (fits : ℤ → Type 0) (value : X → ℤ) {from to first step turns : ℤ} (found : Option X) → IsCountedByTurns from to first step turns → AreCongruent step to first
-    → AnswersWhere (fits (turns +ℤ pos 1)) (λ n. fits (value n) × (value n ≡ turns +ℤ pos 1)) found
-    → MatchOption found ((n : ℤ) × IsCountOfCongruent from to first step n × ¬ (fits n)) (λ n. fits (value n) × IsCountOfCongruent from to first step (value n))
-count_with_last fits value {from} {to} {first} {step} (Some n) h near found = (found.1.0, subst (IsCountOfCongruent from to first step) (sym found.1.1) (h.last near))
-count_with_last fits value None h near found = (_, h.last near, found)
 
 -- where the turns do not fit, neither does one more
 pub one_more_too_great : {fits : ℤ → Type 0} {low high turns : ℤ} → IsRange fits low high → pos 0 ≤ℤ turns → ¬ (fits turns) → ¬ (fits (turns +ℤ pos 1))

@@ -13,7 +13,8 @@ use Rattle.modular.specs.Congruences.{AreCongruent, IsResidue}
 use Rattle.modular.specs.Words.{joined, represented}
 use Rattle.modular.proofs.Congruences.{congruent-divisor, congruent-product, congruent-refl, congruent-sum, congruent-sym, congruent-trans, residue_of_congruent}
 use Rattle.modular.proofs.PowerTurns.{congruent-power}
-use Rattle.modular.proofs.WideProducts.{congruent-rest, natural_residue, wrapped_difference}
+use Rattle.modular.proofs.BelowModulus.{congruent-rest, natural_residue}
+use Rattle.modular.proofs.WideProducts.{wrapped_difference}
 use Rattle.modular.proofs.WordInverses.{inverse_congruent, low_divides}
 
 -- ---- the odd part of a modulus, and its factors 2
@@ -55,9 +56,9 @@ low_turn p r y {w} unit =
 quotient_low : (m i r y : ℕ) {d w : ℕ} → 0 < d → 0 < w → r ≤ w → Divides (pos d) (pos w) → AreCongruent (pos w) (pos m *ℤ pos i) (pos 1)
     → AreCongruent (pos d) (pos r +ℤ pos m *ℤ pos ((y + (w - r)) % w * i % w % d)) (pos y)
 quotient_low m i r y {d} {w} d_up w_up small divides unit =
-    let gap = congruent-rest (y + (w - r)) w (pos y -ℤ pos r) w_up (wrapped_difference y small) in
-    let product = congruent-rest ((y + (w - r)) % w * i) w ((pos y -ℤ pos r) *ℤ pos i) w_up (congruent-product gap (congruent-refl (pos i))) in
-    let quotient = congruent-rest ((y + (w - r)) % w * i % w) d ((pos y -ℤ pos r) *ℤ pos i) d_up (congruent-divisor divides product) in
+    let gap = congruent-rest (y + (w - r)) w_up (wrapped_difference y small) in
+    let product = congruent-rest ((y + (w - r)) % w * i) w_up (congruent-product gap (congruent-refl (pos i))) in
+    let quotient = congruent-rest ((y + (w - r)) % w * i % w) d_up (congruent-divisor divides product) in
     let turn : pos m *ℤ ((pos y -ℤ pos r) *ℤ pos i) ≡ (pos m *ℤ pos i) *ℤ (pos y -ℤ pos r) = simp expand in
     let sum = congruent-sum (congruent-refl (pos r)) (congruent-product (congruent-refl (pos m)) quotient) in
     congruent-trans (rw turn at sum) (congruent-divisor divides (low_turn (pos m *ℤ pos i) (pos r) (pos y) unit))
@@ -83,18 +84,17 @@ module _ (m i : ℕ) (inverse : m * i % 2 ^ 64 ≡ 1) where
       → AreCongruent (pos (m * 2 ^ 64)) (joined m i x y *ℤ joined m i u v) (joined m i r (y * v % 2 ^ 64))
   joined_product x y u v r h =
       joined_is r (y * v % 2 ^ 64) (congruent-trans (congruent-product (joined_odd x y) (joined_odd u v)) h)
-      (congruent-trans (congruent-product (joined_low x y) (joined_low u v)) (natural_residue (y * v) (2 ^ 64) (omega arith)).congruent)
+      (congruent-trans (congruent-product (joined_low x y) (joined_low u v)) (natural_residue (y * v) (omega arith)).congruent)
 
   -- its residue modulo m times a power of two
   joined_residue : (x y k r q : ℕ) → k ≤ 64 → q < 2 ^ k → IsResidue (pos m) (represented m i x) (pos r) → AreCongruent (pos (2 ^ k)) (pos r +ℤ pos m *ℤ pos q) (pos y)
       → IsResidue (pos (m * 2 ^ k)) (joined m i x y) (pos (r + m * q))
   joined_residue x y k r q few small h low =
-      let below = h.below in
+      let below = h.below.below in
       let most = mul-le-mul_left m small in
       let odd : AreCongruent (pos m) (pos r) (pos r +ℤ pos m *ℤ pos q) = congruent-sym (record { divides = record { factor = pos q; product = omega (arith, linear) } }) in
       record {
-        from_zero = omega (arith, ints);
-        below = omega (arith, ints);
+        below = record { from_zero = omega (arith, ints); below = omega (arith, ints) };
         congruent = congruent-both (pos i) (congruent-divisor (low_divides k few) unit) (congruent-trans (joined_odd x y) (congruent-trans h.congruent odd))
             (congruent-trans (congruent-divisor (low_divides k few) (joined_low x y)) (congruent-sym low));
       }

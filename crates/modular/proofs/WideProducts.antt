@@ -4,23 +4,12 @@ use Rattle.std.specs.Int.{int_pow}
 use Rattle.std.proofs.Common.{arith, ap, subst, sym}
 use Rattle.std.proofs.lemmas.Int.{ints}
 use Rattle.std.proofs.Math.Bool.{beq}
-use Rattle.modular.proofs.Congruences.{congruent-product, congruent-sym, congruent-trans, residue_of_congruent}
+use Rattle.modular.proofs.Congruences.{congruent-product, residue_of_congruent}
+use Rattle.modular.proofs.BelowModulus.{natural_residue}
 use Rattle.modular.proofs.PowerTurns.{congruent-power}
 use Rattle.num_integer.proofs.ForCallers.{mul-neg, products, signed_is, sizes}
 use Rattle.num_integer.specs.Parts.{signed}
 use Rattle.modular.specs.Congruences.{AreCongruent, IsResidue}
-
--- `%` gives the residue
-pub natural_residue : (n d : ℕ) → 0 < d → IsResidue (pos d) (pos n) (pos (n % d))
-natural_residue n d up = record {
-  from_zero = omega (arith, ints);
-  below = omega (arith, ints);
-  congruent = record { divides = record { factor = pos (n / d); product = omega (arith, ints) } };
-}
-
--- a remainder in a congruence
-pub congruent-rest : (n d : ℕ) (z : ℤ) → 0 < d → AreCongruent (pos d) (pos n) z → AreCongruent (pos d) (pos (n % d)) z
-congruent-rest n d z up h = congruent-trans (congruent-sym (natural_residue n d up).congruent) h
 
 -- a wrapping difference
 pub wrapped_difference : (x : ℕ) {u w : ℕ} → u ≤ w → AreCongruent (pos w) (pos (x + (w - u))) (pos x -ℤ pos u)
@@ -55,9 +44,9 @@ pub power_of_magnitudes : (u e : ℕ) {m a x : ℤ} {w p : ℕ} → pos 0 <ℤ m
     → IsResidue (pos w) (int_pow (pos u) e) (pos p) → IsResidue m (int_pow a e) (pos p)
 power_of_magnitudes u e {m} {a} {x} {w} {p} up at_a m_size x_size h =
     let m_is : pos w ≡ m = omega (arith, sizes) in
-    let power : int_pow (pos u) e ≡ int_pow x e = ap (λ (t : ℤ). int_pow t e) (size_is at_a.from_zero x_size) in
+    let power : int_pow (pos u) e ≡ int_pow x e = ap (λ (t : ℤ). int_pow t e) (size_is at_a.below.from_zero x_size) in
     residue_of_congruent (congruent-power e at_a.congruent) (subst (λ (t : ℤ). IsResidue t (int_pow x e) (pos p)) m_is (subst (λ (t : ℤ). IsResidue (pos w) t (pos p)) power h))
 
 -- the product of two numbers' remainders
 pub product_of_rests : (x y : ℕ) {m r : ℕ} → 0 < m → IsResidue (pos m) (pos (x % m) *ℤ pos (y % m)) (pos r) → IsResidue (pos m) (pos x *ℤ pos y) (pos r)
-product_of_rests x y {m} up h = residue_of_congruent (congruent-product (natural_residue x m up).congruent (natural_residue y m up).congruent) h
+product_of_rests x y up h = residue_of_congruent (congruent-product (natural_residue x up).congruent (natural_residue y up).congruent) h

@@ -8,7 +8,8 @@ use Rattle.num_integer.specs.Divisors.{Divides}
 use Rattle.num_integer.proofs.ForCallers.{expand, linear, products}
 use Rattle.modular.specs.Congruences.{AreCongruent}
 use Rattle.modular.proofs.Congruences.{congruent-difference, congruent-divisor, congruent-equal, congruent-product, congruent-refl, congruent-sym, congruent-trans}
-use Rattle.modular.proofs.WideProducts.{congruent-rest, natural_residue, wrapped_difference}
+use Rattle.modular.proofs.BelowModulus.{congruent-rest, natural_residue}
+use Rattle.modular.proofs.WideProducts.{wrapped_difference}
 
 own_inverse_at : (m g k f : ℕ) → m ≡ g * 4 + k → (g * 4 + k) * (g * 4 + k) ≡ 8 * f + 1 → pos m *ℤ pos m -ℤ pos 1 ≡ pos 8 *ℤ pos f
 own_inverse_at m g k f is square =
@@ -35,14 +36,14 @@ square_apart d f x e =
     let all = simp expand at square in
     simp expand (omega (arith, products))
 
-turned : (m x : ℤ) → m *ℤ (x *ℤ (pos 2 -ℤ m *ℤ x)) ≡ (m *ℤ x) *ℤ (pos 2 -ℤ m *ℤ x)
-turned m x = simp expand (omega (arith, linear))
+modulus_first : (m x : ℤ) → m *ℤ (x *ℤ (pos 2 -ℤ m *ℤ x)) ≡ (m *ℤ x) *ℤ (pos 2 -ℤ m *ℤ x)
+modulus_first m x = simp expand (omega (arith, linear))
 
 -- from the inverse modulo d to that modulo a divisor of its square
 newton : (m x : ℤ) {d e next : ℤ} → Divides e (d *ℤ d) → AreCongruent d (m *ℤ x) (pos 1) → AreCongruent e next (x *ℤ (pos 2 -ℤ m *ℤ x)) → AreCongruent e (m *ℤ next) (pos 1)
 newton m x {d} {e} {next} divides h step =
     let square : AreCongruent (d *ℤ d) ((m *ℤ x) *ℤ (pos 2 -ℤ m *ℤ x)) (pos 1) = record { divides = record { factor = neg_ℤ (h.divides.factor *ℤ h.divides.factor); product = square_apart d h.divides.factor (m *ℤ x) h.divides.product } } in
-    let near = subst (λ (t : ℤ). AreCongruent e t (pos 1)) (sym (turned m x)) (congruent-divisor divides square) in
+    let near = subst (λ (t : ℤ). AreCongruent e t (pos 1)) (sym (modulus_first m x)) (congruent-divisor divides square) in
     congruent-trans (congruent-product (congruent-refl m) step) near
 
 -- a lower power of two divides 2 ^ 64
@@ -69,24 +70,24 @@ five_steps m {a} {b} {c} {d} odd i j k l n =
 -- the inverse by a remainder, and by a congruence
 pub inverse_remainder : (m i : ℕ) {w : ℕ} → 1 < w → AreCongruent (pos w) (pos m *ℤ pos i) (pos 1) → m * i % w ≡ 1
 inverse_remainder m i {w} up h =
-    let rest = natural_residue (m * i) w (omega arith) in
+    let rest = natural_residue {m = w} (m * i) (omega arith) in
     let same : pos m *ℤ pos i ≡ pos (m * i) = omega (arith, ints) in
     let near = subst (λ (t : ℤ). AreCongruent (pos w) t (pos 1)) same h in
-    let is = congruent-equal (congruent-trans (congruent-sym rest.congruent) near) rest.from_zero rest.below (omega (arith, ints)) (omega (arith, ints)) in
+    let is = congruent-equal (congruent-trans (congruent-sym rest.congruent) near) rest.below.from_zero rest.below.below (omega (arith, ints)) (omega (arith, ints)) in
     ap unsigned_abs is
 
 pub inverse_congruent : (m i : ℕ) {w : ℕ} → 0 < w → m * i % w ≡ 1 → AreCongruent (pos w) (pos m *ℤ pos i) (pos 1)
-inverse_congruent m i {w} up one = subst (λ (t : ℕ). AreCongruent (pos w) (pos (m * i)) (pos t)) one (natural_residue (m * i) w up).congruent
+inverse_congruent m i {w} up one = subst (λ (t : ℕ). AreCongruent (pos w) (pos (m * i)) (pos t)) one (natural_residue (m * i) up).congruent
 
 -- wrapping operations, modulo the word
 step_by_parts : (m x u v n w : ℕ) → 0 < w → u ≡ m * x % w → v ≡ (2 + (w - u)) % w → n ≡ x * v % w → AreCongruent (pos w) (pos n) (pos x *ℤ (pos 2 -ℤ pos m *ℤ pos x))
 step_by_parts m x u v n w up u_is v_is n_is =
     let product : pos (m * x) ≡ pos m *ℤ pos x = omega (arith, ints) in
-    let first : AreCongruent (pos w) (pos u) (pos m *ℤ pos x) = rw u_is (congruent-rest (m * x) w _ up (subst (λ (t : ℤ). AreCongruent (pos w) (pos (m * x)) t) product (congruent-refl _))) in
+    let first : AreCongruent (pos w) (pos u) (pos m *ℤ pos x) = rw u_is (congruent-rest (m * x) up (subst (λ (t : ℤ). AreCongruent (pos w) (pos (m * x)) t) product (congruent-refl _))) in
     let small : u ≤ w = rw u_is (omega (arith, mod_below (m * x) w up)) in
-    let second : AreCongruent (pos w) (pos v) (pos 2 -ℤ pos m *ℤ pos x) = rw v_is (congruent-rest (2 + (w - u)) w _ up (congruent-trans (wrapped_difference 2 small) (congruent-difference (congruent-refl (pos 2)) first))) in
+    let second : AreCongruent (pos w) (pos v) (pos 2 -ℤ pos m *ℤ pos x) = rw v_is (congruent-rest (2 + (w - u)) up (congruent-trans (wrapped_difference 2 small) (congruent-difference (congruent-refl (pos 2)) first))) in
     let times : pos (x * v) ≡ pos x *ℤ pos v = omega (arith, ints) in
-    rw n_is (congruent-rest (x * v) w _ up (subst (λ (t : ℤ). AreCongruent (pos w) t (pos x *ℤ (pos 2 -ℤ pos m *ℤ pos x))) (sym times) (congruent-product (congruent-refl (pos x)) second)))
+    rw n_is (congruent-rest (x * v) up (subst (λ (t : ℤ). AreCongruent (pos w) t (pos x *ℤ (pos 2 -ℤ pos m *ℤ pos x))) (sym times) (congruent-product (congruent-refl (pos x)) second)))
 
 pub step_wrapped : (m x : ℕ) → AreCongruent (pos (2 ^ 64)) (pos (x * ((2 + (2 ^ 64 - m * x % 2 ^ 64)) % 2 ^ 64) % 2 ^ 64)) (pos x *ℤ (pos 2 -ℤ pos m *ℤ pos x))
 step_wrapped m x = step_by_parts m x _ _ _ (2 ^ 64) (omega arith) refl refl refl

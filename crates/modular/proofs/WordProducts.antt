@@ -1,5 +1,5 @@
 -- Montgomery's products: the multiple of the modulus that is taken away, and what a number stands for.
-use Rattle.std.specs.Prelude.{◌≡◌, ◌+◌, ◌-◌, ◌*◌, ◌/◌, ◌%◌, ◌^◌, ◌<◌, ◌-ℤ◌, ◌*ℤ◌, ℤ, ℕ, pos, suc, zero, neg_ℤ}
+use Rattle.std.specs.Prelude.{◌≡◌, ◌+◌, ◌-◌, ◌*◌, ◌/◌, ◌%◌, ◌^◌, ◌<◌, ◌-ℤ◌, ◌*ℤ◌, ℤ, ℕ, pos, neg_ℤ}
 use Rattle.std.proofs.Common.{arith, ap, refl, subst, sym}
 use Rattle.std.proofs.Math.Nat.{mul-le-mul_left}
 use Rattle.std.proofs.lemmas.Int.{ints}
@@ -8,7 +8,7 @@ use Rattle.num_integer.proofs.ForCallers.{expand, linear, mul-neg, mul-one}
 use Rattle.modular.specs.Congruences.{AreCongruent, IsResidue}
 use Rattle.modular.specs.Words.{represented}
 use Rattle.modular.proofs.Congruences.{congruent-product, congruent-refl, congruent-sym, congruent-trans}
-use Rattle.modular.proofs.WideProducts.{natural_residue}
+use Rattle.modular.proofs.BelowModulus.{natural_residue}
 
 -- ---- the reduced product
 
@@ -28,21 +28,15 @@ low_same m i t w up inverse =
 difference_times : (m q w : ℤ) → m *ℤ (q -ℤ w) ≡ m *ℤ q -ℤ m *ℤ w
 difference_times m q w = simp expand (omega (arith, linear))
 
--- the difference of the high digits, or m more
-reduced_same : (h s r q w l : ℕ) {m t n : ℕ} → t ≡ h * w + l → n ≡ s * w + l → n ≡ q * m → r + s ≡ h → AreCongruent (pos m) (pos t) (pos r *ℤ pos w)
-reduced_same h s r q w l {m} {t} t_is n_is multiple is =
-    let times : (r + s) * w ≡ h * w = ap (λ (z : ℕ). z * w) is in
-    let all : t ≡ r * w + m * q = omega arith in
-    record { divides = record { factor = pos q; product = omega (arith, ints) } }
-
-reduced_more : (h s r q w l : ℕ) {m t n : ℕ} → t ≡ h * w + l → n ≡ s * w + l → n ≡ q * m → r + s ≡ h + m → AreCongruent (pos m) (pos t) (pos r *ℤ pos w)
-reduced_more h s r q w l {m} {t} t_is n_is multiple is =
-    let times : (r + s) * w ≡ (h + m) * w = ap (λ (z : ℕ). z * w) is in
-    let all : t + m * w ≡ r * w + m * q = omega arith in
-    record { divides = record { factor = pos q -ℤ pos w; product = omega (arith, linear, difference_times (pos m) (pos q) (pos w)) } }
+-- the difference of the high digits, and m more e times
+reduced_at : (h s r q w l e : ℕ) {m t n : ℕ} → t ≡ h * w + l → n ≡ s * w + l → n ≡ q * m → r + s ≡ h + e * m → AreCongruent (pos m) (pos t) (pos r *ℤ pos w)
+reduced_at h s r q w l e {m} {t} t_is n_is multiple is =
+    let times : (r + s) * w ≡ (h + e * m) * w = ap (λ (z : ℕ). z * w) is in
+    let all : t + m * (e * w) ≡ r * w + m * q = omega arith in
+    record { divides = record { factor = pos q -ℤ pos (e * w); product = omega (arith, linear, difference_times (pos m) (pos q) (pos (e * w))) } }
 
 -- what is taken away has no more high digits than the modulus
-taken_at_most : (i t : ℕ) {m q p w : ℕ} → 0 < w → 0 < m → q ≡ t % w * i % w → p ≡ m → q * p / w < m
+pub taken_at_most : (i t : ℕ) {m q p w : ℕ} → 0 < w → 0 < m → q ≡ t % w * i % w → p ≡ m → q * p / w < m
 taken_at_most i t {m} {q} {p} {w} up m_up q_is p_is =
     let small : q < w = rw q_is (mod_below (t % w * i) w up) in
     let most = mul-le-mul_left m small in
@@ -54,20 +48,12 @@ low_kept i t {m} {q} {p} {w} up inverse q_is p_is =
     let parts = div-add-mod' (q * p) w in
     omega arith
 
-pub reduced_less : (i r : ℕ) {x y a b m q p w : ℕ} → 0 < w → m * i % w ≡ 1 → a ≡ x → b ≡ y → q ≡ a * b % w * i % w → p ≡ m → r + q * p / w ≡ a * b / w
+pub reduced_is : (i r e : ℕ) {x y a b m q p w : ℕ} → 0 < w → m * i % w ≡ 1 → a ≡ x → b ≡ y → q ≡ a * b % w * i % w → p ≡ m → r + q * p / w ≡ a * b / w + e * m
     → AreCongruent (pos m) (pos (x * y)) (pos (r * w))
-reduced_less i r {x} {y} {a} {b} {m} {q} {p} {w} up inverse a_is b_is q_is p_is is =
+reduced_is i r e {x} {y} {a} {b} {m} {q} {p} {w} up inverse a_is b_is q_is p_is is =
     let same : a * b ≡ x * y = rw (a_is, b_is) refl in
     subst (λ (t : ℕ). AreCongruent (pos m) (pos t) (pos (r * w))) same
-    (reduced_same (a * b / w) (q * p / w) r q w (a * b % w) (sym (div-add-mod' (a * b) w)) (low_kept i (a * b) up inverse q_is p_is) (ap (λ (z : ℕ). q * z) p_is) is)
-
-pub reduced_beyond : (i r : ℕ) {x y a b m q p w : ℕ} → 0 < w → 0 < m → m * i % w ≡ 1 → a ≡ x → b ≡ y → q ≡ a * b % w * i % w → p ≡ m → r ≡ a * b / w + (m - q * p / w)
-    → AreCongruent (pos m) (pos (x * y)) (pos (r * w))
-reduced_beyond i r {x} {y} {a} {b} {m} {q} {p} {w} up m_up inverse a_is b_is q_is p_is is =
-    let same : a * b ≡ x * y = rw (a_is, b_is) refl in
-    let most = taken_at_most i (a * b) up m_up q_is p_is in
-    subst (λ (t : ℕ). AreCongruent (pos m) (pos t) (pos (r * w))) same
-    (reduced_more (a * b / w) (q * p / w) r q w (a * b % w) (sym (div-add-mod' (a * b) w)) (low_kept i (a * b) up inverse q_is p_is) (ap (λ (z : ℕ). q * z) p_is) (omega arith))
+    (reduced_at (a * b / w) (q * p / w) r q w (a * b % w) e (sym (div-add-mod' (a * b) w)) (low_kept i (a * b) up inverse q_is p_is) (ap (λ (z : ℕ). q * z) p_is) is)
 
 -- ---- what a number stands for
 
@@ -98,9 +84,6 @@ product_stands_for w s x y r {m} unit h =
     congruent-trans (subst (λ (t : ℤ). AreCongruent m t (((r *ℤ s) *ℤ w) *ℤ s)) left (subst (λ (t : ℤ). AreCongruent m ((x *ℤ y) *ℤ (s *ℤ s)) t) right (congruent-product h (congruent-refl (s *ℤ s)))))
     (times_unit w s (r *ℤ s) unit)
 
-zero_times : (i : ℕ) → 0 * i ≡ 0
-zero_times i = omega arith
-
 -- the form's functions
 pub product_meaning : (m i x y r : ℕ) → m * i % 2 ^ 64 ≡ 1 → AreCongruent (pos m) (pos x *ℤ pos y) (pos r *ℤ pos (2 ^ 64)) → AreCongruent (pos m) (represented m i x *ℤ represented m i y) (represented m i r)
 product_meaning m i x y r inverse h = product_stands_for (pos (2 ^ 64)) (neg_ℤ (pos (m * i / 2 ^ 64))) (pos x) (pos y) (pos r) (word_unit m i (2 ^ 64) inverse) h
@@ -108,19 +91,15 @@ product_meaning m i x y r inverse h = product_stands_for (pos (2 ^ 64)) (neg_ℤ
 pub standing_for_meaning : (m i x r a b : ℕ) → 0 < m → m * i % 2 ^ 64 ≡ 1 → a ≡ x → b ≡ m → r ≡ a * 2 ^ 64 % b → AreCongruent (pos m) (pos x) (represented m i r)
 standing_for_meaning m i x r a b up inverse a_is b_is is =
     let same : r ≡ x * 2 ^ 64 % m = rw (is, a_is, b_is) refl in
-    let near : AreCongruent (pos m) (pos x *ℤ pos (2 ^ 64)) (pos r) = rw same (natural_residue (x * 2 ^ 64) m up).congruent in
+    let near : AreCongruent (pos m) (pos x *ℤ pos (2 ^ 64)) (pos r) = rw same (natural_residue (x * 2 ^ 64) up).congruent in
     stands_for (pos (2 ^ 64)) (neg_ℤ (pos (m * i / 2 ^ 64))) (pos x) (word_unit m i (2 ^ 64) inverse) near
-
-pub modulus_positive : (m i : ℕ) → m * i % 2 ^ 64 ≡ 1 → 0 < m
-modulus_positive zero i e = absurd (omega (arith, zero_times i))
-modulus_positive (suc m) i e = omega arith
 
 pub one_meaning : (m i n : ℕ) → 0 < m → m * i % 2 ^ 64 ≡ 1 → n + m ≡ 2 ^ 64 → AreCongruent (pos m) (pos 1) (represented m i (n % m))
 one_meaning m i n up inverse is =
     let turn : AreCongruent (pos m) (pos (2 ^ 64)) (pos n) = record { divides = record { factor = pos 1; product = omega (arith, ints) } } in
-    stands_for (pos (2 ^ 64)) (neg_ℤ (pos (m * i / 2 ^ 64))) (pos 1) (word_unit m i (2 ^ 64) inverse) (congruent-trans turn (natural_residue n m up).congruent)
+    stands_for (pos (2 ^ 64)) (neg_ℤ (pos (m * i / 2 ^ 64))) (pos 1) (word_unit m i (2 ^ 64) inverse) (congruent-trans turn (natural_residue n up).congruent)
 
 pub residue_of_meaning : (m i x r : ℕ) → m * i % 2 ^ 64 ≡ 1 → r < m → AreCongruent (pos m) (pos x *ℤ pos 1) (pos r *ℤ pos (2 ^ 64)) → IsResidue (pos m) (represented m i x) (pos r)
 residue_of_meaning m i x r inverse below h =
     let near : AreCongruent (pos m) (pos r *ℤ pos (2 ^ 64)) (pos x) = congruent-sym (subst (λ (t : ℤ). AreCongruent (pos m) t (pos r *ℤ pos (2 ^ 64))) (mul-one (pos x)) h) in
-    record { from_zero = omega (arith, ints); below = omega (arith, ints); congruent = congruent-sym (stands_for (pos (2 ^ 64)) (neg_ℤ (pos (m * i / 2 ^ 64))) (pos r) (word_unit m i (2 ^ 64) inverse) near) }
+    record { below = record { from_zero = omega (arith, ints); below = omega (arith, ints) }; congruent = congruent-sym (stands_for (pos (2 ^ 64)) (neg_ℤ (pos (m * i / 2 ^ 64))) (pos r) (word_unit m i (2 ^ 64) inverse) near) }

@@ -12,6 +12,7 @@ use crate::long_products::BASE;
 pub(crate) struct Montgomery {
     pub modulus: u64,
     pub inverse: u64,
+    ghost positive: { 0 < modulus },
     ghost inverts: { modulus * inverse % 2 ^ 64 ≡ 1 },
 }
 
@@ -102,6 +103,7 @@ fn word_inverse(m: u64) -> u64
 }
 
 /// Returns one of Newton's steps towards the inverse of `m`.
+#[tactic(auto, using(crate::proofs::WordInverses::step_wrapped))]
 fn next_inverse(m: u64, x: u64) -> u64
     ensures { AreCongruent (pos (2 ^ 64)) (pos result)
         (pos x *ℤ (pos 2 -ℤ pos m *ℤ pos x)) }

@@ -38,6 +38,7 @@ pub trait Modular: Integer {
     /// `3.power_modulo_counted(4, &7)` is `(4, 2)`, and `3.power_modulo_counted(0, &7)` is `(1, 0)`.
     ///
     /// May be called where `modulus` is above 0.
+    #[tactic(auto, using(crate::proofs::PowerTurns::residue_of_power))]
     fn power_modulo_counted(&self, exponent: u128, modulus: &Self) -> (Self, u32)
         requires self_in_range { Self.fits (Self.value self.now) }
         requires modulus_in_range { Self.fits (Self.value modulus.now) }

@@ -1,9 +1,10 @@
 //! Powers by numbers that stand for others modulo a modulus.
 
-ghost use Rattle.std.specs.Prelude.{◌≡◌, ◌≢◌, ℤ, ◌+◌, ◌^◌, ◌<◌, ◌≤◌, ◌*ℤ◌, pos};
+ghost use Rattle.std.specs.Prelude.{ℤ, ◌<◌, ◌*ℤ◌, pos};
 ghost use Rattle.std.specs.Int.{int_pow};
 ghost use Rattle.modular.specs.Congruences.{AreCongruent};
-ghost use Rattle.modular.specs.Below.{LiesBelow, MultipliesResidues};
+ghost use Rattle.modular.specs.Below.{LiesBelow};
+ghost use Rattle.modular.specs.Powers.{IsTurnCount, MultipliesResidues};
 
 use num_integer::Integer;
 
@@ -25,14 +26,15 @@ pub(crate) trait Representatives {
         ensures congruent { AreCongruent (modulus self.now)
             (meaning self.now x *ℤ meaning self.now y) (meaning self.now result) };
 
-    /// Returns [`Representatives::product`] where `digit` is 1, else `x`.
+    /// Returns [`Representatives::product`] where `digit` is 1, and `x` where it is 0.
+    #[tactic(auto, using(crate::proofs::PowerTurns::times_at_one, crate::proofs::PowerTurns::times_at_zero))]
     fn product_at_one(&self, x: Self::Number, y: Self::Number, digit: u128) -> Self::Number
         requires x_valid { is_valid self.now x }
         requires y_valid { is_valid self.now y }
+        requires is_digit { digit < 2 }
         ensures valid { is_valid self.now result }
-        ensures product { digit ≡ 1 → AreCongruent (modulus self.now)
-            (meaning self.now x *ℤ meaning self.now y) (meaning self.now result) }
-        ensures kept { digit ≢ 1 → result ≡ x }
+        ensures congruent { AreCongruent (modulus self.now)
+            (meaning self.now x *ℤ int_pow (meaning self.now y) digit) (meaning self.now result) }
     {
         if digit == 1 { self.product(x, y) } else { x }
     }
@@ -52,8 +54,7 @@ pub(crate) fn power_counted<R: Representatives>(
     ensures valid { R.is_valid form.now result.0 }
     ensures power { AreCongruent (R.modulus form.now)
         (int_pow (R.meaning form.now base) exponent) (R.meaning form.now result.0) }
-    ensures no_turn { exponent ≡ 0 → result.1 ≡ 0 }
-    ensures turns { exponent ≢ 0 → (2 ^ result.1 ≤ exponent) × (exponent < 2 ^ (result.1 + 1)) }
+    ensures turns { IsTurnCount exponent result.1 }
 {
     let mut power = one;
     let mut square = base;
@@ -65,11 +66,7 @@ pub(crate) fn power_counted<R: Representatives>(
         rest /= 2;
         turns += 1;
     }
-    if rest == 0 {
-        (power, turns)
-    } else {
-        (form.product(power, square), turns)
-    }
+    (form.product_at_one(power, square, rest), turns)
 }
 
 /// The residues of a modulus, which stand for themselves, and how to multiply them.

@@ -1,9 +1,10 @@
 //! Powers of magnitudes, at 128 bits.
 
-ghost use Rattle.std.specs.Prelude.{◌≡◌, ◌≢◌, ◌+◌, ◌^◌, ◌<◌, ◌≤◌, ◌*ℤ◌, pos};
+ghost use Rattle.std.specs.Prelude.{◌<◌, ◌*ℤ◌, pos};
 ghost use Rattle.std.specs.Int.{int_pow};
 ghost use Rattle.modular.specs.Congruences.{IsResidue};
 ghost use Rattle.modular.specs.Below.{LiesBelow};
+ghost use Rattle.modular.specs.Powers.{IsTurnCount};
 
 use crate::long_products::BASE;
 use crate::representatives::{Residues, power_counted};
@@ -15,8 +16,7 @@ use crate::word_powers::power_of_word;
 pub(crate) fn power_of_wide(x: u128, exponent: u128, m: u128) -> (u128, u32)
     requires { LiesBelow (pos m) (pos x) }
     ensures residue { IsResidue (pos m) (int_pow (pos x) exponent) (pos result.0) }
-    ensures no_turn { exponent ≡ 0 → result.1 ≡ 0 }
-    ensures turns { exponent ≢ 0 → (2 ^ result.1 ≤ exponent) × (exponent < 2 ^ (result.1 + 1)) }
+    ensures turns { IsTurnCount exponent result.1 }
 {
     if m < BASE && exponent > 3 {
         let (power, turns) = power_of_word(x as u64, exponent, m as u64);

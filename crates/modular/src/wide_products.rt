@@ -21,6 +21,7 @@ pub(crate) fn product_of_wide(x: u128, y: u128, m: u128) -> u128
 
 /// Returns the product modulo `m`, by the residues.
 #[inline(never)]
+#[tactic(auto, using(crate::proofs::WideProducts::product_of_rests))]
 fn product_by_residues(x: u128, y: u128, m: u128) -> u128
     requires { 0 < m }
     ensures { IsResidue (pos m) (pos x *ℤ pos y) (pos result) }

@@ -1,9 +1,10 @@
 //! Powers modulo a number of 64 bits: by Montgomery's products modulo its odd part, and by the low bits
 //! modulo its power of two.
 
-ghost use Rattle.std.specs.Prelude.{◌≡◌, ◌≢◌, ◌+◌, ◌*◌, ◌^◌, ◌<◌, ◌≤◌, pos};
+ghost use Rattle.std.specs.Prelude.{◌≡◌, ◌*◌, ◌^◌, ◌<◌, pos};
 ghost use Rattle.std.specs.Int.{int_pow};
 ghost use Rattle.modular.specs.Congruences.{AreCongruent, IsResidue};
+ghost use Rattle.modular.specs.Powers.{IsTurnCount};
 ghost use Rattle.modular.specs.Words.{joined};
 
 use crate::montgomery::Montgomery;
@@ -13,8 +14,7 @@ use crate::representatives::{Representatives, power_counted};
 pub(crate) fn power_of_word(x: u64, exponent: u128, m: u64) -> (u64, u32)
     requires { 0 < m }
     ensures residue { IsResidue (pos m) (int_pow (pos x) exponent) (pos result.0) }
-    ensures no_turn { exponent ≡ 0 → result.1 ≡ 0 }
-    ensures turns { exponent ≢ 0 → (2 ^ result.1 ≤ exponent) × (exponent < 2 ^ (result.1 + 1)) }
+    ensures turns { IsTurnCount exponent result.1 }
 {
     let modulus = SplitModulus::new(m);
     let base = modulus.standing_for(x);
@@ -88,6 +88,7 @@ impl Representatives for SplitModulus {
     }
 
     /// Makes the product at each digit, and takes it where the digit is 1.
+    #[tactic(auto, using(crate::proofs::PowerTurns::times_at_one, crate::proofs::PowerTurns::times_at_zero))]
     fn product_at_one(&self, x: (u64, u64), y: (u64, u64), digit: u128) -> (u64, u64) {
         let product = self.product(x, y);
         if digit == 1 { product } else { x }

@@ -23,11 +23,10 @@ with_residue : {m x y r : ℤ} → IsResidue m x r → y ≡ x → IsResidue m y
 with_residue {m} {r = r} h is = subst (λ (t : ℤ). IsResidue m t r) (sym is) h
 
 pub hash_first : {m : ℤ} (base : ℤ) → pos 0 <ℤ m → IsResidue m (weighted_sum base []) (pos 0)
-hash_first base up = record { from_zero = omega arith; below = up; congruent = congruent-refl (pos 0) }
+hash_first base up = record { below = record { from_zero = omega arith; below = up }; congruent = congruent-refl (pos 0) }
 
 hash_shifted : {m sum hash shifted r : ℤ} (base byte : ℤ) → AreCongruent m sum hash → IsResidue m (hash *ℤ base) shifted → IsResidue m (shifted +ℤ byte) r → IsResidue m (sum *ℤ base +ℤ byte) r
 hash_shifted base byte h shift last = record {
-  from_zero = last.from_zero;
   below = last.below;
   congruent = congruent-trans (congruent-sum (congruent-trans (congruent-product h (congruent-refl base)) shift.congruent) (congruent-refl byte)) last.congruent;
 }

@@ -9,7 +9,7 @@ pub(crate) trait Representatives {
     /// Returns what stands for the product of what `x` and `y` stand for.
     fn product(&self, x: Self::Number, y: Self::Number) -> Self::Number;
 
-    /// Returns [`Representatives::product`] where `digit` is 1, else `x`.
+    /// Returns [`Representatives::product`] where `digit` is 1, and `x` where it is 0.
     fn product_at_one(&self, x: Self::Number, y: Self::Number, digit: u128) -> Self::Number {
         if digit == 1 {
             self.product(x, y)
@@ -37,11 +37,7 @@ pub(crate) fn power_counted<R: Representatives>(
         rest /= 2;
         turns += 1;
     }
-    if rest == 0 {
-        (power, turns)
-    } else {
-        (form.product(power, square), turns)
-    }
+    (form.product_at_one(power, square, rest), turns)
 }
 
 /// The residues of a modulus, which stand for themselves, and how to multiply them.

@@ -1,5 +1,6 @@
 use Rattle.std.proofs.lemmas.Bool.{iff_false}
-use Rattle.modular.proofs.Counts.{count_with_last, count_without_last, counted_by_turns, one_more_too_great}
+use Rattle.modular.proofs.Congruences.{found_or_beyond}
+use Rattle.modular.proofs.Counts.{counted_by_turns, one_more_too_great}
 use Rattle.modular.proofs.residue_classes.count_congruent.Goals as goal
 
 pub returns-in_err-before : goal.returns-in_err-before
@@ -10,9 +11,9 @@ returns-in_err-before g c =
 pub returns-in_ok-before : goal.returns-in_ok-before
 returns-in_ok-before g c =
     let counted = counted_by_turns c.requires.positive c.residue-start.ensures.residue (iff_false c.is_below.ensures c.if-is_below.false) c.first_turn.ensures.first c.first_turn-2.ensures.first in
-    count_with_last g.T.Number.fits g.T.Number.value c.inc.result counted (c.are_congruent.ensures.0 c.if-are_congruent.true) (rw c.in_ok-before.ensures.1.1 at c.inc.ensures)
+    found_or_beyond _ _ _ _ (counted.last (c.are_congruent.ensures.0 c.if-are_congruent.true)) (rw c.in_ok-before.ensures.1.1 at c.inc.ensures)
 
 pub returns-else-are_congruent : goal.returns-else-are_congruent
 returns-else-are_congruent g c =
     let counted = counted_by_turns c.requires.positive c.residue-start.ensures.residue (iff_false c.is_below.ensures c.if-is_below.false) c.first_turn.ensures.first c.first_turn-2.ensures.first in
-    count_without_last g.T.Number.fits g.T.Number.value c.difference-before.result counted (iff_false c.are_congruent.ensures c.if-are_congruent.false) c.difference-before.ensures
+    found_or_beyond _ _ _ _ (counted.other (iff_false c.are_congruent.ensures c.if-are_congruent.false)) c.difference-before.ensures

@@ -1,4 +1,4 @@
-use Rattle.modular.proofs.Congruences.{residue_fits}
+use Rattle.modular.proofs.BelowModulus.{residue_fits}
 use Rattle.modular.proofs.WideProducts.{power_of_magnitudes}
 use Rattle.modular.proofs.native.AnyModular.power_modulo_counted.Goals as goal
 

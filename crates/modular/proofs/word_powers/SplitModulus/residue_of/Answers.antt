@@ -12,5 +12,5 @@ pub returns : goal.returns
 returns c =
     let form = c.args.self.now in
     let rest = c.residue_of-rest.ensures in
-    let below = rest.below in
+    let below = rest.below.below in
     residue_joined form.odd.modulus form.odd.inverse form.odd.inverts c.args.x.0 c.args.x.1 form.twos c.residue_of-rest.result (omega (arith, ints)) form.fits rest
