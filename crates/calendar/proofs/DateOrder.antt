@@ -1,6 +1,6 @@
 -- Dates in their order, and their days.
-use Rattle.std.specs.Prelude.{◌≡◌, ◌⊎◌, ◌↔◌, ◌+◌, ◌-◌, ◌<◌, ◌≤◌, ◌<ℤ◌, ◌+ℤ◌, ℕ, ℤ, pos, List, length, take, sum, slice_index}
-use Rattle.std.proofs.Common.{arith, inl, inr, le_refl, refl, sym}
+use Rattle.std.specs.Prelude.{◌≡◌, ◌⊎◌, ◌+◌, ◌-◌, ◌<◌, ◌≤◌, ◌<ℤ◌, ◌+ℤ◌, ℕ, ℤ, pos, List, length, take, sum, slice_index}
+use Rattle.std.proofs.Common.{ap, arith, inl, inr, le_refl, sym}
 use Rattle.std.proofs.Props.{props}
 use Rattle.std.proofs.lemmas.Int.{ints}
 use Rattle.std.proofs.lemmas.List.{take-take}
@@ -9,6 +9,7 @@ use mathlib.Core.HLevel.{is_prop→PathP}
 use Rattle.num_integer.proofs.ForCallers.{linear}
 use Rattle.calendar.specs.declared.date.Date.{Date}
 use Rattle.calendar.specs.Dates.{IsEarlier, number_of}
+use Rattle.calendar.specs.Laws.{DateIsOnly, OrderOfDates}
 use Rattle.calendar.specs.Months.{IsDate, days_before_month, days_in_month, months_of}
 use Rattle.calendar.specs.Years.{day_number, days_in_year}
 use Rattle.calendar.proofs.YearLengths.{later_year, next_first_day}
@@ -70,29 +71,9 @@ earlier_is_less a b (inr (same, inr (month, days))) = rw (same, month) (omega (a
 compared : (x y : ℤ) (m n d e : ℕ) → ((x <ℤ y) ⊎ ((x ≡ y) × ((m < n) ⊎ ((m ≡ n) × (d < e))))) ⊎ (((y <ℤ x) ⊎ ((y ≡ x) × ((n < m) ⊎ ((n ≡ m) × (e < d))))) ⊎ ((x ≡ y) × (m ≡ n) × (d ≡ e)))
 compared x y m n d e = grind (arith, linear)
 
--- dates of one number have the same parts
-same_parts : (a b : Date) → number_of a ≡ number_of b → (a.year ≡ b.year) × (a.month ≡ b.month) × (a.day_of_month ≡ b.day_of_month)
-same_parts a b equal = elim (compared a.year b.year a.month b.month a.day_of_month b.day_of_month) [
-  | inl earlier ↦ absurd (omega (arith, linear, earlier_is_less a b earlier))
-  | inr rest ↦ elim rest [
-    | inl later ↦ absurd (omega (arith, linear, earlier_is_less b a later))
-    | inr same ↦ same
-  ]
-]
-
--- and are the same
+-- dates of the same parts are the same
 IsDate-prop : (year : ℤ) (month day : ℕ) → IsProp (IsDate year month day)
-IsDate-prop year month day x y =
-    let from_one : IsProp (1 ≤ month) = hlevel props in
-    let to_twelve : IsProp (month ≤ 12) = hlevel props in
-    let day_from_one : IsProp (1 ≤ day) = hlevel props in
-    let to_last : IsProp (day ≤ days_in_month year month) = hlevel props in
-    λ i. record {
-      month_from_one = from_one x.month_from_one y.month_from_one i;
-      month_to_twelve = to_twelve x.month_to_twelve y.month_to_twelve i;
-      day_from_one = day_from_one x.day_from_one y.day_from_one i;
-      day_to_last = to_last x.day_to_last y.day_to_last i;
-    }
+IsDate-prop year month day = hlevel props
 
 pub of_parts : (a b : Date) → a.year ≡ b.year → a.month ≡ b.month → a.day_of_month ≡ b.day_of_month → a ≡ b
 of_parts a b year month day = λ i. record {
@@ -102,20 +83,21 @@ of_parts a b year month day = λ i. record {
   valid = is_prop→PathP (λ i. IsDate (year i) (month i) (day i)) (λ i. IsDate-prop (year i) (month i) (day i)) a.valid b.valid i;
 }
 
-pub only_date : (a b : Date) → number_of a ≡ number_of b → a ≡ b
-only_date a b equal = let (year, month, day) = same_parts a b equal in of_parts a b year month day
+-- and so are dates of one number
+pub only_date : DateIsOnly
+only_date a b equal = elim (compared a.year b.year a.month b.month a.day_of_month b.day_of_month) [
+  | inl earlier ↦ absurd (omega (arith, linear, earlier_is_less a b earlier))
+  | inr (inl later) ↦ absurd (omega (arith, linear, earlier_is_less b a later))
+  | inr (inr (year, month, day)) ↦ of_parts a b year month day
+]
 
 -- the order of dates is that of their numbers
-pub order : (a b : Date) → IsEarlier a b ↔ (number_of a <ℤ number_of b)
+pub order : OrderOfDates
 order a b = (
   earlier_is_less a b,
   λ less. elim (compared a.year b.year a.month b.month a.day_of_month b.day_of_month) [
     | inl earlier ↦ earlier
-    | inr rest ↦ elim rest [
-      | inl later ↦ absurd (omega (arith, linear, earlier_is_less b a later))
-      | inr same ↦
-          let equal : number_of a ≡ number_of b = rw (same.0, same.1, same.2) refl in
-          absurd (omega (arith, linear))
-    ]
+    | inr (inl later) ↦ absurd (omega (arith, linear, earlier_is_less b a later))
+    | inr (inr (year, month, day)) ↦ absurd (omega (arith, linear, ap number_of (of_parts a b year month day)))
   ],
 )

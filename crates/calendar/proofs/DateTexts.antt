@@ -1,6 +1,5 @@
 -- Dates as they are written, and as they are read.
-use Rattle.std.specs.Prelude.{cond, ◌≡◌, ◌⊎◌, ◌+◌, ◌-◌, ◌*◌, ◌/◌, ◌%◌, ◌<◌, ◌≤◌, ◌++◌, ◌≤ℤ◌, ◌<ℤ◌, ℕ, suc, ℤ, pos, negsuc, List, [], ◌∷◌, drop, take, length, get_or, Bool, true, false, Option, Some, None, FitsSigned, MatchOption}
-use Rattle.std.specs.Int.{w64}
+use Rattle.std.specs.Prelude.{cond, ◌≡◌, ◌⊎◌, ◌+◌, ◌-◌, ◌*◌, ◌/◌, ◌%◌, ◌<◌, ◌≤◌, ◌++◌, ◌≤ℤ◌, ◌<ℤ◌, ℕ, suc, ℤ, pos, negsuc, List, [], ◌∷◌, drop, take, length, get_or, Bool, true, false, Option, Some, None, MatchOption}
 use Rattle.std.specs.Fmt.{char_count, decimal, format_spec, padded_integral, styled_signed_decimal}
 use Rattle.std.specs.Str.{IsCharBoundary}
 use Rattle.std.proofs.Common.{arith, ap, append_assoc, inl, inr, refl, sym, ◌∙◌}
@@ -9,6 +8,7 @@ use Rattle.std.proofs.lemmas.Int.{ints}
 use Rattle.std.proofs.lemmas.List.{append-nil, get_or-drop, length-append, take-append-drop}
 use lib.Signed.{lt_z}
 use Rattle.calendar.specs.Dates.{HasParts}
+use Rattle.calendar.specs.Laws.{TextIsOnly}
 use Rattle.calendar.specs.Months.{IsDate}
 use Rattle.calendar.specs.declared.date.Date.{Date}
 use Rattle.calendar.specs.Text.{padded, text_of, with_number, year_text}
@@ -68,7 +68,7 @@ small_parts date = (
 )
 
 -- each text is that of one date at most
-pub only_text : (a b : Date) → FitsSigned w64 a.year → FitsSigned w64 b.year → text_of a ≡ text_of b → a ≡ b
+pub only_text : TextIsOnly
 only_text a b a_fits b_fits e =
     let (a_month, a_day) = small_parts a in
     let (b_month, b_day) = small_parts b in

@@ -1,12 +1,12 @@
 -- The date of Easter.
-use Rattle.std.specs.Prelude.{◌≡◌, ◌⊎◌, ◌+◌, ◌-◌, ◌*◌, ◌/◌, ◌%◌, ◌<◌, ◌≤◌, ◌+ℤ◌, ◌-ℤ◌, ◌*ℤ◌, ◌↔◌, ℕ, ℤ, pos, unsigned_abs, IsTrue}
+use Rattle.std.specs.Prelude.{◌≡◌, ◌⊎◌, ◌+◌, ◌-◌, ◌*◌, ◌/◌, ◌<◌, ◌+ℤ◌, ◌-ℤ◌, ◌*ℤ◌, ℕ, ℤ, pos, unsigned_abs}
 use Rattle.std.proofs.Common.{◌∙◌, ap, arith, inl, inr, refl, sym}
 use Rattle.std.proofs.lemmas.Bool.Decides.{nat_tests}
 use Rattle.std.proofs.lemmas.Int.{by_lt_z, ints}
 use Rattle.num_integer.proofs.ForCallers.{floored_by_range, floored_quotient_range, floored_remainder_range, linear, only_floored}
 use Rattle.num_integer.specs.Division.{IsFloored, IsQuotient, IsRemainder}
-use Rattle.num_integer.specs.Divisors.{Divides}
-use Rattle.calendar.specs.Easter.{IsEaster, IsEpact, IsLunarCorrection, IsPaschalFullMoon, IsSolarCorrection, days_to_full_moon, is_day_earlier}
+use Rattle.calendar.specs.Easter.{IsEaster, IsEpact, IsLunarCorrection, IsPaschalFullMoon, IsSolarCorrection, days_to_full_moon}
+use Rattle.calendar.specs.Laws.{EarlierFullMoons, EasterIsOnly, EpactOfTheFirstYear, EpactOfTheNextYear, FullMoonsDiffer, LunarCorrectionOfTwentyFiveCenturies, LunarCorrectionsFrom1800, SolarCorrectionOfTheNextCentury}
 use Rattle.calendar.specs.Weekday.{weekday_number}
 use Rattle.calendar.specs.Weeks.{HasWeekday, IsFirstWeekday}
 use Rattle.calendar.specs.Years.{day_number}
@@ -43,11 +43,7 @@ only_remainder : {n d : ℤ} {r s : ℕ} → IsRemainder IsFloored n d (pos r) �
 only_remainder h k = ap unsigned_abs (only_floored h.division k.division).1
 
 only_solar : {century a b : ℤ} → IsSolarCorrection century a → IsSolarCorrection century b → a ≡ b
-only_solar h k =
-    let same = only_quotient h.leap_centuries_is k.leap_centuries_is in
-    let first = h.days_is in
-    let second = k.days_is in
-    omega (arith, linear)
+only_solar h k = omega (arith, linear, only_quotient h.leap_centuries_is k.leap_centuries_is, h.days_is, k.days_is)
 
 only_epact : {century : ℤ} {golden a b : ℕ} → IsEpact century golden a → IsEpact century golden b → a ≡ b
 only_epact h k = only_remainder (rw (only_solar h.solar_is k.solar_is, only_quotient h.lunar_is k.lunar_is) at h.epact_is) k.epact_is
@@ -55,12 +51,10 @@ only_epact h k = only_remainder (rw (only_solar h.solar_is k.solar_is, only_quot
 only_full_moon : {year a b : ℤ} → IsPaschalFullMoon year a → IsPaschalFullMoon year b → a ≡ b
 only_full_moon h k =
     let golden = only_remainder h.golden_is k.golden_is in
-    let century = only_quotient h.century_is k.century_is in
-    let epact = only_epact (rw (golden, century) at h.epact_is) k.epact_is in
-    let day = rw (golden, epact) at h.day_is in
-    day ∙ sym k.day_is
+    let epact = only_epact (rw (golden, only_quotient h.century_is k.century_is) at h.epact_is) k.epact_is in
+    rw (golden, epact) at h.day_is ∙ sym k.day_is
 
-pub only_easter : (year a b : ℤ) → IsEaster year a → IsEaster year b → a ≡ b
+pub only_easter : EasterIsOnly
 only_easter year a b h k = only_first _ _ a b (rw (only_full_moon h.full_moon_is k.full_moon_is) at h.sunday_is) k.sunday_is
 
 -- ---- the full moons of a century
@@ -86,8 +80,7 @@ small_epact h = omega (arith, ints, floored_remainder_range (omega (arith, ints)
 epacts_apart : {century : ℤ} {g h e f : ℕ} (a : IsEpact century g e) (b : IsEpact century h f) → pos (11 * g + f) ≡ pos (11 * h + e) +ℤ pos 30 *ℤ (a.epact_is.quotient -ℤ b.epact_is.quotient)
 epacts_apart a b = omega (arith, ints, a.epact_is.division.division.equation, b.epact_is.division.division.equation, only_solar a.solar_is b.solar_is, only_quotient a.lunar_is b.lunar_is)
 
-pub different_moons : (century : ℤ) (golden other epact other_epact : ℕ) → golden < 19 → other < 19 → IsEpact century golden epact → IsEpact century other other_epact
-    → (days_to_full_moon epact golden ≤ 28) × (days_to_full_moon epact golden ≡ days_to_full_moon other_epact other → golden ≡ other)
+pub different_moons : FullMoonsDiffer
 different_moons century golden other epact other_epact below other_below h k =
     let own = moon epact golden (small_epact h) in
     let theirs = moon other_epact other (small_epact k) in (
@@ -95,24 +88,24 @@ different_moons century golden other epact other_epact below other_below h k =
       λ same. one_golden golden other epact other_epact (days_to_full_moon epact golden) (h.epact_is.quotient -ℤ k.epact_is.quotient) below other_below (small_epact k) (epacts_apart h k) own (rw same theirs),
     )
 
--- the epact 25 is that of the golden number 11 above that of 24
-eleven_before : {century : ℤ} {golden epact : ℕ} → IsEpact century golden epact → epact ≡ 25 → 10 < golden → IsEpact century (golden - 11) 24
-eleven_before {golden = golden} h e late = record {
+-- the epact of another golden number of the century
+another_epact : {century : ℤ} {golden other epact found : ℕ} (q : ℤ) → IsEpact century golden epact → found < 30 → pos (11 * golden + found) ≡ pos (11 * other + epact) +ℤ pos 30 *ℤ q → IsEpact century other found
+another_epact {found = found} q h below apart = record {
   solar = h.solar;
   lunar = h.lunar;
   solar_is = h.solar_is;
   lunar_is = h.lunar_is;
-  epact_is = record { quotient = h.epact_is.quotient -ℤ pos 4; division = floored 30 24 (omega (arith, ints, h.epact_is.division.division.equation)) (omega arith) };
+  epact_is = record { quotient = h.epact_is.quotient -ℤ q; division = floored 30 found (omega (arith, ints, h.epact_is.division.division.equation)) below };
 }
 
-pub earlier_moons : (century : ℤ) (golden epact : ℕ) → golden < 19 → IsEpact century golden epact
-    → IsTrue (is_day_earlier epact golden) ↔ ((epact ≡ 24) ⊎ ((epact ≡ 25) × ((other : ℕ) × (other < 19) × IsEpact century other 24)))
+-- the epact 25 is that of the golden number 11 above that of 24
+pub earlier_moons : EarlierFullMoons
 earlier_moons century golden epact below h = (
   λ earlier.
       let cases : (epact ≡ 24) ⊎ ((epact ≡ 25) × (10 < golden)) = grind (arith, nat_tests) in
       elim cases [
         | inl e ↦ inl e
-        | inr (e, late) ↦ inr (e, (golden - 11, omega arith, eleven_before h e late))
+        | inr (e, late) ↦ inr (e, (golden - 11, omega arith, another_epact (pos 4) h (omega arith) (omega (arith, ints))))
       ],
   λ either. elim either [
     | inl e ↦ grind (arith, nat_tests)
@@ -122,21 +115,10 @@ earlier_moons century golden epact below h = (
 
 -- ---- the tables
 
-pub next_epact : (century : ℤ) (golden epact : ℕ) → IsEpact century golden epact → IsEpact century (golden + 1) ((epact + 11) % 30)
-next_epact century golden epact h =
-    let own = h.epact_is.division.division.equation in
-    let place : epact + 11 ≡ (epact + 11) / 30 * 30 + (epact + 11) % 30 = omega arith in
-    record {
-      solar = h.solar;
-      lunar = h.lunar;
-      solar_is = h.solar_is;
-      lunar_is = h.lunar_is;
-      epact_is = record { quotient = h.epact_is.quotient +ℤ pos ((epact + 11) / 30); division = floored 30 ((epact + 11) % 30) (omega (arith, ints)) (omega arith) };
-    }
+pub next_epact : EpactOfTheNextYear
+next_epact century golden epact h = another_epact (pos 0 -ℤ pos ((epact + 11) / 30)) h (omega arith) (omega (arith, ints))
 
-pub next_solar : (century days : ℤ) → IsSolarCorrection century days
-    → (Divides (pos 4) (century +ℤ pos 1) → IsSolarCorrection (century +ℤ pos 1) days)
-    × ((¬ (Divides (pos 4) (century +ℤ pos 1))) → IsSolarCorrection (century +ℤ pos 1) (days +ℤ pos 1))
+pub next_solar : SolarCorrectionOfTheNextCentury
 next_solar century days h =
     let own = h.leap_centuries_is.division.division.equation in
     let range = floored_quotient_range h.leap_centuries_is in
@@ -149,17 +131,16 @@ next_solar century days h =
           (λ more. absurd (common (record { factor = h.leap_centuries +ℤ pos 1; product = omega (arith, ints) }))),
     )
 
-pub later_lunar : (century days : ℤ) → IsLunarCorrection century days → IsLunarCorrection (century +ℤ pos 25) (days +ℤ pos 8)
+pub later_lunar : LunarCorrectionOfTwentyFiveCenturies
 later_lunar century days h =
     let own = h.division.division.equation in
     let range = floored_remainder_range {n = pos 8 *ℤ century +ℤ pos 13} {d = pos 25} {r = h.remainder} (omega (arith, ints)) (record { quotient = days; division = h.division }) in
     record { remainder = h.remainder; division = floored_by_range (omega (arith, ints)) range.0 range.1 }
 
-pub lunar_from_1800 : (step place : ℕ) → step ≤ 7 → (place < 3) ⊎ ((step ≡ 7) × (place ≡ 3)) → IsLunarCorrection (pos (18 + 3 * step + place)) (pos (6 + step))
-lunar_from_1800 step place to (inl within) = record { remainder = pos (7 + 8 * place - step); division = floored 25 (7 + 8 * place - step) (omega (arith, ints)) (omega arith) }
-lunar_from_1800 step place to (inr last) = record { remainder = pos (7 + 8 * place - step); division = floored 25 (7 + 8 * place - step) (omega (arith, ints, last.0, last.1)) (omega (arith, last.0, last.1)) }
+pub lunar_from_1800 : LunarCorrectionsFrom1800
+lunar_from_1800 step place to where_is = record { remainder = pos (7 + 8 * place - step); division = floored 25 (7 + 8 * place - step) (omega (arith, ints)) (grind arith) }
 
-pub first_epact : IsEpact (pos 15) 0 1 × IsEpact (pos 16) 0 1
+pub first_epact : EpactOfTheFirstYear
 first_epact = (early (pos 15) (pos 3) 3 8 refl (omega arith) refl refl (omega arith), early (pos 16) (pos 4) 0 16 refl (omega arith) refl refl (omega arith))
   where
     early : (century leap : ℤ) (rest moon : ℕ) → century ≡ leap *ℤ pos 4 +ℤ pos rest → rest < 4 → pos 12 ≡ century -ℤ leap → pos 8 *ℤ century +ℤ pos 13 ≡ pos 5 *ℤ pos 25 +ℤ pos moon → moon < 25 → IsEpact century 0 1

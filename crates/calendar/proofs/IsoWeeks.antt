@@ -1,5 +1,5 @@
 -- The weeks of ISO 8601.
-use Rattle.std.specs.Prelude.{◌≡◌, ◌⊎◌, ◌+◌, ◌/◌, ◌%◌, ◌<◌, ◌≤◌, ◌≤ℤ◌, ◌<ℤ◌, ◌+ℤ◌, ◌-ℤ◌, ◌*ℤ◌, ℕ, ℤ, pos, negsuc, FitsSigned, MatchOption, Option, Some, None}
+use Rattle.std.specs.Prelude.{◌≡◌, ◌+◌, ◌/◌, ◌%◌, ◌<◌, ◌≤ℤ◌, ◌<ℤ◌, ◌+ℤ◌, ◌-ℤ◌, ◌*ℤ◌, ℕ, ℤ, pos, negsuc, FitsSigned, MatchOption, Option, Some, None}
 use Rattle.std.specs.Int.{w64}
 use Rattle.std.proofs.Common.{ap, arith, inl, inr, refl, subst, sym}
 use Rattle.std.proofs.lemmas.Bool.{cases_lt}
@@ -9,6 +9,7 @@ use Rattle.num_integer.specs.Division.{IsFloored, IsRemainder}
 use Rattle.calendar.specs.declared.date.Date.{Date}
 use Rattle.calendar.specs.Dates.{number_of}
 use Rattle.calendar.specs.IsoWeeks.{HasIsoWeeks, IsDayOfIsoWeek, IsInIsoWeek, IsThursdayOfWeek}
+use Rattle.calendar.specs.Laws.{IsoDayIsOnly, IsoWeekIsOnly, IsoWeeksAreOnly, OrderOfIsoWeeks, WeeksOfAYear}
 use Rattle.calendar.specs.Years.{HasDay, days_in_year, first_day}
 use Rattle.calendar.specs.Weekday.{weekday_number}
 use Rattle.calendar.specs.Weeks.{HasWeekday}
@@ -31,11 +32,7 @@ of_week h =
 
 pub same_thursday : {day a b : ℤ} → IsThursdayOfWeek day a → IsThursdayOfWeek day b → a ≡ b
 same_thursday h k =
-    let first = h.from in
-    let last = h.to in
-    let from = k.from in
-    let to = k.to in
-    same_day Thursday h.has_weekday k.has_weekday (omega (arith, linear)) (omega (arith, linear))
+    same_day Thursday h.has_weekday k.has_weekday (omega (arith, linear, h.to, k.from)) (omega (arith, linear, h.from, k.to))
 
 -- by the day of an era
 pub since_monday : {day : ℤ} (era : ℤ) (n : ℕ) → day ≡ pos 146097 *ℤ era +ℤ pos n -ℤ pos 865566 → IsRemainder IsFloored (day +ℤ pos 3) (pos 7) (pos ((n + 1) % 7))
@@ -53,22 +50,15 @@ ordered x y up = by_lt_z x y
 
 -- a day before the first of a year is in an earlier year
 pub earlier : {x year day : ℤ} → HasDay x day → day <ℤ first_day year → x <ℤ year
-earlier {x} {year} h before =
-    let from = h.from in
-    by_lt_z x year (λ less. less) (λ rest. absurd (omega (arith, linear, ordered year x rest)))
+earlier {x} {year} h before = grind (arith, linear, ordered year x)
 
 -- and a day after the last in a later one
 pub later : {x year day : ℤ} → HasDay x day → first_day (year +ℤ pos 1) ≤ℤ day → year <ℤ x
-later {x} {year} h from =
-    let before = h.before in
-    by_lt_z year x (λ less. less) (λ rest. absurd (omega (arith, linear, ordered (x +ℤ pos 1) (year +ℤ pos 1) (omega (arith, linear)))))
+later {x} {year} h from = grind (arith, linear, ordered (x +ℤ pos 1) (year +ℤ pos 1))
 
 -- a day is in one year only
 one_year : {y z day : ℤ} → HasDay y day → HasDay z day → y ≡ z
-one_year {y} {z} h k =
-    by_lt_z y z
-    (λ less. absurd (omega (arith, linear, later_year y z less, h.before, k.from)))
-    (λ rest. by_lt_z z y (λ less. absurd (omega (arith, linear, later_year z y less, k.before, h.from))) (λ back. omega (arith, linear)))
+one_year {y} {z} h k = grind (arith, linear, later_year y z, later_year z y)
 
 -- ---- weeks
 
@@ -83,33 +73,27 @@ week_of {year = year} {thursday = thursday} h within place number = record {
 }
 
 -- of which there is only one
-pub one_week : {day y z : ℤ} {v w : ℕ} → IsInIsoWeek day y v → IsInIsoWeek day z w → (y ≡ z) × (v ≡ w)
-one_week h k =
+pub one_week : IsoWeekIsOnly
+one_week day y z v w h k =
     let thursday = same_thursday h.of_week k.of_week in
     let year = one_year h.of_year (rw (sym thursday) at k.of_year) in
     (year, omega (arith, ints, h.from, h.before, k.from, k.before, thursday, ap first_day year))
 
 -- a week is one of 53
-pub week_range : {day year : ℤ} {week : ℕ} → IsInIsoWeek day year week → (1 ≤ week) × (week ≤ 53)
-week_range {year = year} h =
-    let year_from = h.of_year.from in
-    let year_before = h.of_year.before in
-    let from = h.from in
-    let before = h.before in
+pub week_range : WeeksOfAYear
+week_range day year week h =
     let length = length_range year in
     let next = next_first_day year in
-    (omega (arith, ints), omega (arith, ints))
+    (omega (arith, ints, h.of_year.from, h.from, h.before), omega (arith, ints, h.of_year.before, h.from))
 
 -- the days of an earlier week are before those of a later one
-pub ordered_weeks : {a b y z : ℤ} {v w : ℕ} → IsInIsoWeek a y v → IsInIsoWeek b z w → (y <ℤ z) ⊎ ((y ≡ z) × (v < w)) → a <ℤ b
-ordered_weeks {y = y} {z = z} h k less =
+pub ordered_weeks : OrderOfIsoWeeks
+ordered_weeks a b y z v w h k less =
     let thursdays : h.thursday <ℤ k.thursday = elim less [
       | inl years ↦ omega (arith, linear, h.of_year.before, k.of_year.from, later_year y z years)
       | inr weeks ↦ omega (arith, ints, h.before, k.from, ap first_day weeks.0, weeks.1)
     ] in
-    by_lt_z (h.thursday +ℤ pos 6) k.thursday
-    (λ apart. omega (arith, linear, h.of_week.from, k.of_week.to))
-    (λ near. absurd (omega (arith, linear, same_day Thursday h.of_week.has_weekday k.of_week.has_weekday (omega (arith, linear)) (omega (arith, linear)))))
+    grind (arith, linear, h.of_week.from, k.of_week.to, same_day Thursday h.of_week.has_weekday k.of_week.has_weekday)
 
 -- a day of the week after a Thursday's Monday
 pub weekday_after : (weekday : Weekday) {day : ℤ} → HasWeekday day Thursday → HasWeekday (day -ℤ pos 3 +ℤ pos ((weekday_number weekday + 6) % 7)) weekday
@@ -130,37 +114,32 @@ day_of_week {year} {place} weekday h from before inside below = record {
 }
 
 -- of which there is only one
-pub one_day : {a b year : ℤ} {week : ℕ} (weekday : Weekday) → IsDayOfIsoWeek a year week weekday → IsDayOfIsoWeek b year week weekday → a ≡ b
-one_day weekday h k =
-    let thursday = one_thursday h.in_week k.in_week in
-    let first = h.in_week.of_week in
-    let last = k.in_week.of_week in
-    same_day weekday h.has_weekday k.has_weekday (omega (arith, ints, thursday, first.from, first.to, last.from, last.to)) (omega (arith, ints, thursday, first.from, first.to, last.from, last.to))
-  where
-    one_thursday : {a b year : ℤ} {week : ℕ} → (h : IsInIsoWeek a year week) → (k : IsInIsoWeek b year week) → h.thursday ≡ k.thursday
-    one_thursday h k = same_day Thursday h.of_week.has_weekday k.of_week.has_weekday (omega (arith, ints, h.from, h.before, k.from, k.before)) (omega (arith, ints, h.from, h.before, k.from, k.before))
+pub one_day : IsoDayIsOnly
+one_day a b year week weekday h k =
+    let first = h.in_week in
+    let second = k.in_week in
+    let thursday = same_day Thursday first.of_week.has_weekday second.of_week.has_weekday (omega (arith, ints, first.from, first.before, second.from, second.before)) (omega (arith, ints, first.from, first.before, second.from, second.before)) in
+    same_day weekday h.has_weekday k.has_weekday (omega (arith, ints, thursday, first.of_week.to, second.of_week.from)) (omega (arith, ints, thursday, first.of_week.from, second.of_week.to))
 
 pub day_or_none : (o : Option Date) {day year : ℤ} {week : ℕ} (weekday : Weekday) → IsDayOfIsoWeek day year week weekday → MatchOption o ((y : ℤ) → HasDay y day → ¬ (FitsSigned w64 y)) (λ date. number_of date ≡ day)
     → MatchOption o ((d y : ℤ) → IsDayOfIsoWeek d year week weekday → HasDay y d → ¬ (FitsSigned w64 y)) (λ date. IsDayOfIsoWeek (number_of date) year week weekday)
-day_or_none None weekday own beyond = λ d y k h fits. beyond y (subst (λ (t : ℤ). HasDay y t) (one_day weekday k own) h) fits
+day_or_none None weekday own beyond = λ d y k h fits. beyond y (subst (λ (t : ℤ). HasDay y t) (one_day _ _ _ _ weekday k own) h) fits
 day_or_none (Some date) {year = year} {week = week} weekday own near = subst (λ (t : ℤ). IsDayOfIsoWeek t year week weekday) (sym near) own
 
 -- a Thursday outside the year has no week of the year
 pub no_day : {day year place : ℤ} {week : ℕ} → HasWeekday (first_day year +ℤ place) Thursday → (pos 7 *ℤ (pos week -ℤ pos 1)) ≤ℤ place → place <ℤ (pos 7 *ℤ pos week) → IsInIsoWeek day year week → (pos 0 ≤ℤ place) × (place <ℤ pos (days_in_year year))
 no_day {year = year} own from before h =
-    let year_from = h.of_year.from in
-    let year_before = h.of_year.before in
     let same = same_day Thursday h.of_week.has_weekday own (omega (arith, ints, h.from, h.before)) (omega (arith, ints, h.from, h.before)) in
-    (omega (arith, ints), omega (arith, ints, next_first_day year))
+    (omega (arith, ints, h.of_year.from), omega (arith, ints, h.of_year.before, next_first_day year))
 
 -- ---- the number of weeks of a year
 
 -- 53, where the 53rd Thursday is in the year, and else 52
 pub has_53_weeks : {year place : ℤ} → HasWeekday (first_day year +ℤ place) Thursday → pos 364 ≤ℤ place → place <ℤ pos 371 → place <ℤ pos (days_in_year year) → HasIsoWeeks year 53
-has_53_weeks h from before below = record {
+has_53_weeks {year = year} h from before below = record {
   day = _;
   in_last = (day_of_week Thursday h from before (omega (arith, ints)) below).in_week;
-  no_later = λ other week k. (week_range k).1;
+  no_later = λ other week k. (week_range other year week k).1;
 }
 
 pub has_52_weeks : {year place : ℤ} → HasWeekday (first_day year +ℤ place) Thursday → pos 364 ≤ℤ place → place <ℤ pos 371 → ¬ ((pos 0 ≤ℤ place) × (place <ℤ pos (days_in_year year))) → HasIsoWeeks year 52
@@ -170,11 +149,11 @@ has_52_weeks {year} {place} h from before none = record {
   no_later = λ other week k. elim (cases_lt week 53) [
     | inl small ↦ omega arith
     | inr last ↦
-        let number : week ≡ 53 = omega (arith, week_range k) in
+        let number : week ≡ 53 = omega (arith, week_range other year week k) in
         absurd (none (no_day h from before (rw number at k)))
   ];
 }
 
 -- of which there is only one
-pub one_number : {year : ℤ} {m n : ℕ} → HasIsoWeeks year m → HasIsoWeeks year n → m ≡ n
-one_number {m = m} {n = n} h k = omega (arith, h.no_later k.day n k.in_last, k.no_later h.day m h.in_last)
+pub one_number : IsoWeeksAreOnly
+one_number year m n h k = omega (arith, h.no_later k.day n k.in_last, k.no_later h.day m h.in_last)

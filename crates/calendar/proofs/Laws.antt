@@ -3,19 +3,41 @@ use Rattle.std.proofs.Common.{arith}
 use Rattle.std.proofs.lemmas.Bool.Decides.{nat_tests}
 use Rattle.std.proofs.lemmas.Int.{ints}
 use Rattle.num_integer.proofs.ForCallers.{divides_by_magnitude}
-use Rattle.calendar.specs.Laws.{DateIsOnly, EarlierFullMoons, EasterIsOnly, EpactOfTheFirstYear, EpactOfTheNextYear, FirstDay, FirstWeekdayIsOnly, FullMoonsDiffer, IsoDayIsOnly, IsoNumberIsOnly, IsoWeekIsOnly, IsoWeeksAreOnly, LastWeekdayIsOnly, LastWeekdayOfMonthIsOnly, LeapYearsByDivisors, LengthsOfYears, LunarCorrectionOfTwentyFiveCenturies, LunarCorrectionsFrom1800, MonthsAfterIsOnly, MonthsBetweenIsOnly, NthWeekdayIsOnly, OrderOfDates, OrderOfIsoWeeks, SolarCorrectionOfTheNextCentury, TextIsOnly, WeekdayIsOnly, WeekdaysFollow, WeeksOfAYear, YearsFollow}
+use Rattle.calendar.specs.Laws.{FirstDay, LeapYearsByDivisors, LengthsOfYears}
 use Rattle.calendar.specs.LeapYears.{is_leap_year, is_multiple}
 use Rattle.calendar.specs.Years.{days_in_year}
-use Rattle.calendar.proofs.DateOrder as order
-use Rattle.calendar.proofs.DateTexts as texts
-use Rattle.calendar.proofs.EasterSundays as easters
-use Rattle.calendar.proofs.IsoWeeks as weeks
-use Rattle.calendar.proofs.MonthSteps as steps
-use Rattle.calendar.proofs.MonthWeekdays as months
-use Rattle.calendar.proofs.WeekdayPlaces as places
-use Rattle.calendar.proofs.YearLengths as lengths
-
+use Rattle.calendar.proofs.YearLengths.{length_of}
 -- ---- years
+
+pub use Rattle.calendar.proofs.YearLengths.{next_first_day as years_follow}
+-- ---- dates
+
+pub use Rattle.calendar.proofs.DateOrder.{only_date as date_is_only, order as order_of_dates}
+pub use Rattle.calendar.proofs.DateTexts.{only_text as text_is_only}
+-- ---- months
+
+pub use Rattle.calendar.proofs.MonthSteps.{only_months_after as months_after_is_only}
+pub use Rattle.calendar.proofs.MonthSteps.{only_months_between as months_between_is_only}
+pub use Rattle.calendar.proofs.MonthWeekdays.{only_nth_weekday as nth_weekday_is_only}
+pub use Rattle.calendar.proofs.MonthWeekdays.{only_last_of_month as last_weekday_of_month_is_only}
+-- ---- weeks
+
+pub use Rattle.calendar.proofs.WeekdayPlaces.{only_iso_number as iso_number_is_only, only_weekday as weekday_is_only}
+pub use Rattle.calendar.proofs.WeekdayPlaces.{next_weekdays as weekdays_follow}
+pub use Rattle.calendar.proofs.WeekdayPlaces.{only_first as first_weekday_is_only, only_last as last_weekday_is_only}
+pub use Rattle.calendar.proofs.IsoWeeks.{one_week as iso_week_is_only, one_day as iso_day_is_only}
+pub use Rattle.calendar.proofs.IsoWeeks.{week_range as weeks_of_a_year, one_number as iso_weeks_are_only}
+pub use Rattle.calendar.proofs.IsoWeeks.{ordered_weeks as order_of_iso_weeks}
+-- ---- Easter
+
+pub use Rattle.calendar.proofs.EasterSundays.{only_easter as easter_is_only, different_moons as full_moons_differ}
+pub use Rattle.calendar.proofs.EasterSundays.{earlier_moons as earlier_full_moons, first_epact as epact_of_the_first_year}
+pub use Rattle.calendar.proofs.EasterSundays.{next_epact as epact_of_the_next_year}
+pub use Rattle.calendar.proofs.EasterSundays.{next_solar as solar_correction_of_the_next_century}
+pub use Rattle.calendar.proofs.EasterSundays.{lunar_from_1800 as lunar_corrections_from_1800}
+pub use Rattle.calendar.proofs.EasterSundays.{later_lunar as lunar_correction_of_twenty_five_centuries}
+
+-- ---- those that are proved here
 
 pub leap_years_by_divisors : LeapYearsByDivisors
 unfolding is_leap_year is_multiple
@@ -27,93 +49,7 @@ leap_years_by_divisors = λ year.
 
 pub lengths_of_years : LengthsOfYears
 unfolding days_in_year
-lengths_of_years = λ year. lengths.length_of (is_leap_year year)
-
-pub years_follow : YearsFollow
-years_follow = lengths.next_first_day
+lengths_of_years = λ year. length_of (is_leap_year year)
 
 pub first_day : FirstDay
 first_day = omega (arith, ints)
-
--- ---- dates
-
-pub date_is_only : DateIsOnly
-date_is_only = order.only_date
-
-pub order_of_dates : OrderOfDates
-order_of_dates = order.order
-
-pub text_is_only : TextIsOnly
-text_is_only = texts.only_text
-
--- ---- months
-
-pub months_after_is_only : MonthsAfterIsOnly
-months_after_is_only = steps.only_months_after
-
-pub nth_weekday_is_only : NthWeekdayIsOnly
-nth_weekday_is_only = months.only_nth_weekday
-
-pub months_between_is_only : MonthsBetweenIsOnly
-months_between_is_only = steps.only_months_between
-
-pub last_weekday_of_month_is_only : LastWeekdayOfMonthIsOnly
-last_weekday_of_month_is_only = months.only_last_of_month
-
--- ---- weeks
-
-pub iso_number_is_only : IsoNumberIsOnly
-iso_number_is_only = places.only_iso_number
-
-pub weekday_is_only : WeekdayIsOnly
-weekday_is_only = places.only_weekday
-
-pub weekdays_follow : WeekdaysFollow
-weekdays_follow = places.next_weekdays
-
-pub first_weekday_is_only : FirstWeekdayIsOnly
-first_weekday_is_only = places.only_first
-
-pub last_weekday_is_only : LastWeekdayIsOnly
-last_weekday_is_only = places.only_last
-
-pub iso_week_is_only : IsoWeekIsOnly
-iso_week_is_only = λ day y z v w h k. weeks.one_week h k
-
-pub iso_day_is_only : IsoDayIsOnly
-iso_day_is_only = λ a b year week weekday h k. weeks.one_day weekday h k
-
-pub weeks_of_a_year : WeeksOfAYear
-weeks_of_a_year = λ day year week h. weeks.week_range h
-
-pub iso_weeks_are_only : IsoWeeksAreOnly
-iso_weeks_are_only = λ year m n h k. weeks.one_number h k
-
-pub order_of_iso_weeks : OrderOfIsoWeeks
-order_of_iso_weeks = λ a b y z v w h k less. weeks.ordered_weeks h k less
-
--- ---- Easter
-
-pub easter_is_only : EasterIsOnly
-easter_is_only = easters.only_easter
-
-pub full_moons_differ : FullMoonsDiffer
-full_moons_differ = easters.different_moons
-
-pub earlier_full_moons : EarlierFullMoons
-earlier_full_moons = easters.earlier_moons
-
-pub epact_of_the_first_year : EpactOfTheFirstYear
-epact_of_the_first_year = easters.first_epact
-
-pub epact_of_the_next_year : EpactOfTheNextYear
-epact_of_the_next_year = easters.next_epact
-
-pub solar_correction_of_the_next_century : SolarCorrectionOfTheNextCentury
-solar_correction_of_the_next_century = easters.next_solar
-
-pub lunar_corrections_from_1800 : LunarCorrectionsFrom1800
-lunar_corrections_from_1800 = easters.lunar_from_1800
-
-pub lunar_correction_of_twenty_five_centuries : LunarCorrectionOfTwentyFiveCenturies
-lunar_correction_of_twenty_five_centuries = easters.later_lunar

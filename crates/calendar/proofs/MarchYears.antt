@@ -1,7 +1,10 @@
 -- The months, and years that begin on 1 March.
-use Rattle.std.specs.Prelude.{◌≡◌, ◌+◌, ◌-◌, ◌*◌, ◌/◌, ◌%◌, ◌<◌, ◌≤◌, ◌+ℤ◌, ◌-ℤ◌, ◌*ℤ◌, ℕ, zero, suc, ℤ, pos, Bool, sum, take}
-use Rattle.std.proofs.Common.{ap, arith, refl}
+use Rattle.std.specs.Prelude.{◌≡◌, ◌+◌, ◌-◌, ◌*◌, ◌/◌, ◌%◌, ◌<◌, ◌≤◌, ◌+ℤ◌, ◌-ℤ◌, ◌*ℤ◌, ℕ, ℤ, pos, ◌⊎◌, Bool, true, false, sum, take}
+use Rattle.std.specs.List.{All, range_with_len}
+use Rattle.std.proofs.Common.{ap, arith, inl, inr, rules}
 use Rattle.std.proofs.lemmas.Int.{ints}
+use Rattle.std.proofs.lemmas.List.Elements.{All-get_or}
+use Rattle.std.proofs.lemmas.List.FromFn.{get_or-range_with_len}
 use Rattle.calendar.specs.LeapYears.{is_leap_year}
 use Rattle.calendar.specs.Months.{days_before_month, month_lengths}
 use Rattle.calendar.specs.Years.{day_number, days_in_year, first_day}
@@ -13,31 +16,18 @@ use Rattle.calendar.proofs.YearLengths.{in_era, march_days, next_first_day}
 abbrev pub march_months : ℕ → ℕ
 march_months month = (153 * month - 457) / 5
 
-before_month : (leap : Bool) (month : ℕ) → 3 ≤ month → month ≤ 12 → sum (take (month - 1) (month_lengths leap)) ≡ sum (take 2 (month_lengths leap)) + march_months month
-before_month leap zero from to = absurd (omega arith)
-before_month leap (suc zero) from to = absurd (omega arith)
-before_month leap (suc (suc zero)) from to = absurd (omega arith)
-before_month leap (suc (suc (suc zero))) from to = omega arith
-before_month leap (suc (suc (suc (suc zero)))) from to = omega arith
-before_month leap (suc (suc (suc (suc (suc zero))))) from to = omega arith
-before_month leap (suc (suc (suc (suc (suc (suc zero)))))) from to = omega arith
-before_month leap (suc (suc (suc (suc (suc (suc (suc zero))))))) from to = omega arith
-before_month leap (suc (suc (suc (suc (suc (suc (suc (suc zero)))))))) from to = omega arith
-before_month leap (suc (suc (suc (suc (suc (suc (suc (suc (suc zero))))))))) from to = omega arith
-before_month leap (suc (suc (suc (suc (suc (suc (suc (suc (suc (suc zero)))))))))) from to = omega arith
-before_month leap (suc (suc (suc (suc (suc (suc (suc (suc (suc (suc (suc zero))))))))))) from to = omega arith
-before_month leap (suc (suc (suc (suc (suc (suc (suc (suc (suc (suc (suc (suc zero)))))))))))) from to = omega arith
-before_month leap (suc (suc (suc (suc (suc (suc (suc (suc (suc (suc (suc (suc (suc n))))))))))))) from to = absurd (omega arith)
+abbrev FollowsMarch : Bool → ℕ → Type 0
+FollowsMarch leap month = sum (take (month - 1) (month_lengths leap)) ≡ sum (take 2 (month_lengths leap)) + march_months month
+
+before_month : (leap : Bool) → All (FollowsMarch leap) (range_with_len 3 10)
+before_month true = search rules
+before_month false = search rules
 
 pub from_third_month : (year : ℤ) (month : ℕ) → 3 ≤ month → month ≤ 12 → days_before_month year month ≡ days_before_month year 3 + march_months month
-from_third_month year month from to = before_month (is_leap_year year) month from to
-
--- January has 31 days
-second_month : (year : ℤ) (month : ℕ) → 1 ≤ month → month ≤ 2 → days_before_month year month ≡ 31 * (month - 1)
-second_month year zero from to = absurd (omega arith)
-second_month year (suc zero) from to = refl
-second_month year (suc (suc zero)) from to = refl
-second_month year (suc (suc (suc n))) from to = absurd (omega arith)
+from_third_month year month from to =
+    let month_is : 3 + (month - 3) ≡ month = omega arith in
+    let own = All-get_or (FollowsMarch (is_leap_year year)) (range_with_len 3 10) (month - 3) 0 (omega arith) (before_month (is_leap_year year)) in
+    rw (get_or-range_with_len 3 10 (month - 3) 0 (omega arith), month_is) at own
 
 -- 306 days are left from 1 March on
 pub third_month : (year : ℤ) → days_before_month year 3 + 306 ≡ days_in_year year
@@ -59,9 +49,12 @@ march_first era n =
 -- January and February come after the days from the 1 March before
 pub after_march : (year next : ℤ) (month : ℕ) → next ≡ year +ℤ pos 1 → 1 ≤ month → month ≤ 2 → day_number next month 1 ≡ day_number year 3 1 +ℤ pos (306 + 31 * (month - 1))
 after_march year next month same from to =
-    let own = second_month next month from to in
     let first = ap first_day same in
-    omega (arith, ints, third_month year, next_first_day year)
+    let months : (month ≡ 1) ⊎ (month ≡ 2) = grind arith in
+    elim months [
+      | inl january ↦ rw january (omega (arith, ints, third_month year, next_first_day year))
+      | inr february ↦ rw february (omega (arith, ints, third_month year, next_first_day year))
+    ]
 
 -- whole years in some days, and the days that are left
 abbrev pub years_in : ℕ → ℕ

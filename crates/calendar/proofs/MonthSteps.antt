@@ -3,7 +3,9 @@ use Rattle.std.specs.Prelude.{◌≡◌, ◌<◌, ◌≤◌, ◌+◌, ◌-◌, �
 use Rattle.std.proofs.Common.{◌∙◌, arith, inl, inr, refl, sym}
 use Rattle.std.proofs.lemmas.Bool.{cases_lt}
 use Rattle.std.proofs.lemmas.Int.{by_lt_z, ints}
+use Rattle.num_integer.proofs.ForCallers.{linear}
 use Rattle.calendar.specs.Dates.{IsMonthsAfter, IsMonthsBetween, number_of}
+use Rattle.calendar.specs.Laws.{MonthsAfterIsOnly, MonthsBetweenIsOnly}
 use Rattle.calendar.specs.Months.{days_in_month, month_number}
 use Rattle.calendar.specs.declared.date.Date.{Date}
 use Rattle.calendar.proofs.DateOrder.{of_parts, order}
@@ -42,7 +44,7 @@ months_after_exists from months =
     } in
     (date, record { month_is = is; day_is = refl })
 
-pub only_months_after : (from : Date) (months : ℤ) (a b : Date) → IsMonthsAfter from months a → IsMonthsAfter from months b → a ≡ b
+pub only_months_after : MonthsAfterIsOnly
 only_months_after from months a b h k =
     let (year, month) = same_month a b (h.month_is ∙ sym k.month_is) in
     let day = rw (year, month) at h.day_is in
@@ -63,9 +65,7 @@ months_of {from} {to} months reached next =
     let (later, is_later) = months_after_exists from (months +ℤ pos 1) in
     record {
       holds = record { date = date; is_after = is_after; not_later = reached date is_after };
-      greatest = λ other h. let own = h.not_later in by_lt_z months other
-          (λ more. absurd (omega (arith, ints, next later is_later, months_in_order (omega (arith, ints)) is_later h.is_after)))
-          (λ fine. fine);
+      greatest = λ other h. grind (arith, linear, next later is_later, λ (more : (months +ℤ pos 1) ≤ℤ other). months_in_order more is_later h.is_after);
     }
 
 -- the date in the month of another
@@ -84,7 +84,7 @@ month_less from to months is early = months_of months
     (λ date h. omega (arith, ints, later_month date to (omega (arith, ints, h.month_is))))
     (λ date h. let more : months +ℤ pos 1 ≡ month_number to.year to.month -ℤ month_number from.year from.month = omega (arith, ints) in omega (arith, ints, in_month from to date (rw more at h)))
 
-pub only_months_between : (from to : Date) (a b : ℤ) → IsMonthsBetween from to a → IsMonthsBetween from to b → a ≡ b
+pub only_months_between : MonthsBetweenIsOnly
 only_months_between from to a b h k = only_greatest h k
 
 -- there is such a number, and one month more leads beyond the second date
@@ -95,6 +95,6 @@ months_between_exist from to = elim (cases_lt to.day_of_month (min from.day_of_m
 ]
 
 pub next_month_is_later : {from to date : Date} {months : ℤ} → IsMonthsBetween from to months → IsMonthsAfter from (months +ℤ pos 1) date → number_of to <ℤ number_of date
-next_month_is_later {from} {to} {date} {months} h k = by_lt_z (number_of to) (number_of date)
-    (λ less. less)
-    (λ rest. absurd (omega (arith, ints, h.greatest (months +ℤ pos 1) (record { date = date; is_after = k; not_later = rest }))))
+next_month_is_later {from} {to} {date} {months} h k =
+    let sooner : number_of date ≤ℤ number_of to → ⊥ = λ rest. omega (arith, ints, h.greatest (months +ℤ pos 1) (record { date = date; is_after = k; not_later = rest })) in
+    grind (arith, linear)

@@ -5,6 +5,7 @@ use Rattle.std.proofs.lemmas.Int.{by_lt_z, ints}
 use Rattle.calendar.specs.declared.date.Date.{Date}
 use Rattle.calendar.specs.declared.weekday.Weekday.{Weekday}
 use Rattle.calendar.specs.Dates.{HasParts, IsLastWeekdayOfMonth, IsNthWeekday, number_of}
+use Rattle.calendar.specs.Laws.{LastWeekdayOfMonthIsOnly, NthWeekdayIsOnly}
 use Rattle.calendar.specs.Months.{IsDate, days_in_month}
 use Rattle.calendar.specs.Weekday.{weekday_number}
 use Rattle.calendar.specs.Weeks.{HasWeekday}
@@ -40,7 +41,7 @@ nth_weekday (Some date) {n = n} first parts h small from place found =
     }
 
 -- there is at most one
-pub only_nth_weekday : (year : ℤ) (month : ℕ) (weekday : Weekday) (n : ℕ) (a b : Date) → IsNthWeekday year month weekday n a → IsNthWeekday year month weekday n b → a ≡ b
+pub only_nth_weekday : NthWeekdayIsOnly
 only_nth_weekday year month weekday n a b h k =
     let apart = in_month a b (record { year_is = h.year_is; month_is = h.month_is; day_is = refl }) (record { year_is = k.year_is; month_is = k.month_is; day_is = refl }) in
     only_date a b (same_day weekday h.has_weekday k.has_weekday (omega (arith, ints, h.within_weeks, k.after_weeks)) (omega (arith, ints, k.within_weeks, h.after_weeks)))
@@ -78,5 +79,5 @@ last_of_month {year} {month} {weekday} date length n parts is h turned small =
           (λ fine. fine);
     }
 
-pub only_last_of_month : (year : ℤ) (month : ℕ) (weekday : Weekday) (a b : Date) → IsLastWeekdayOfMonth year month weekday a → IsLastWeekdayOfMonth year month weekday b → a ≡ b
+pub only_last_of_month : LastWeekdayOfMonthIsOnly
 only_last_of_month year month weekday a b h k = only_date a b (omega (arith, ints, h.last b k.of_month, k.last a h.of_month))

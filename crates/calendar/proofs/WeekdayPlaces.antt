@@ -1,24 +1,34 @@
 -- Days that have a given day of the week, and the first and the last of them.
-use Rattle.std.specs.Prelude.{◌≡◌, ◌+◌, ◌-◌, ◌*◌, ◌/◌, ◌%◌, ◌<◌, ◌≤ℤ◌, ◌<ℤ◌, ◌+ℤ◌, ◌-ℤ◌, ◌*ℤ◌, ℕ, ℤ, pos, negsuc, unsigned_abs, List, [], ◌∷◌, get_or}
+use Rattle.std.specs.Prelude.{◌≡◌, ◌+◌, ◌-◌, ◌/◌, ◌%◌, ◌<◌, ◌≤ℤ◌, ◌<ℤ◌, ◌+ℤ◌, ◌-ℤ◌, ◌*ℤ◌, ℕ, ℤ, pos, negsuc, unsigned_abs, List, [], ◌∷◌, get_or}
 use Rattle.std.proofs.Common.{◌∙◌, ap, arith, refl, sym}
-use Rattle.std.proofs.lemmas.Int.{by_lt_z, ints}
+use Rattle.std.proofs.lemmas.Int.{ints}
 use Rattle.num_integer.proofs.ForCallers.{floored_by_range, linear, only_floored}
 use Rattle.calendar.specs.declared.weekday.Weekday.{Weekday}
 use Rattle.calendar.specs.declared.weekday.Weekday.TheVariants.{Sunday, Monday, Tuesday, Wednesday, Thursday, Friday, Saturday}
-use Rattle.calendar.specs.Weekday.{iso_number, weekday_number}
+use Rattle.calendar.specs.Laws.{FirstWeekdayIsOnly, IsoNumberIsOnly, LastWeekdayIsOnly, WeekdayIsOnly, WeekdaysFollow}
+use Rattle.calendar.specs.Weekday.{weekday_number}
 use Rattle.calendar.specs.Weeks.{HasWeekday, IsFirstWeekday, IsLastWeekday}
 use Rattle.calendar.proofs.Greatest.{only_greatest, only_least}
 
 -- ---- days of one day of the week
 
+abbrev weekdays : List Weekday
+weekdays = Sunday ∷ Monday ∷ Tuesday ∷ Wednesday ∷ Thursday ∷ Friday ∷ Saturday ∷ []
+
+by_number : (weekday : Weekday) → (weekday_number weekday < 7) × (get_or weekdays (weekday_number weekday) Sunday ≡ weekday)
+by_number Sunday = (omega arith, refl)
+by_number Monday = (omega arith, refl)
+by_number Tuesday = (omega arith, refl)
+by_number Wednesday = (omega arith, refl)
+by_number Thursday = (omega arith, refl)
+by_number Friday = (omega arith, refl)
+by_number Saturday = (omega arith, refl)
+
 pub below_seven : (weekday : Weekday) → weekday_number weekday < 7
-below_seven Sunday = omega arith
-below_seven Monday = omega arith
-below_seven Tuesday = omega arith
-below_seven Wednesday = omega arith
-below_seven Thursday = omega arith
-below_seven Friday = omega arith
-below_seven Saturday = omega arith
+below_seven weekday = (by_number weekday).0
+
+only_number : {a b : Weekday} → weekday_number a ≡ weekday_number b → a ≡ b
+only_number {a} {b} same = sym (by_number a).1 ∙ ap (λ (n : ℕ). get_or weekdays n Sunday) same ∙ (by_number b).1
 
 -- by whole weeks
 pub on_weekday : {day : ℤ} (weekday : Weekday) (weeks : ℤ) → day +ℤ pos 4 ≡ weeks *ℤ pos 7 +ℤ pos (weekday_number weekday) → HasWeekday day weekday
@@ -56,17 +66,13 @@ pub first_within : {from day : ℤ} (weekday : Weekday) → HasWeekday day weekd
 first_within {from} {day} weekday h up near = record {
   from_there = up;
   holds = h;
-  least = λ other after k. by_lt_z other day
-      (λ less. absurd (omega (arith, linear, same_day weekday h k (omega (arith, linear)) (omega (arith, linear)))))
-      (λ fine. fine);
+  least = λ other after k. grind (arith, linear, same_day weekday h k);
 }
 
 pub last_within : {to day : ℤ} (weekday : Weekday) → HasWeekday day weekday → day ≤ℤ to → to <ℤ (day +ℤ pos 7) → IsLastWeekday to weekday day
 last_within {to} {day} weekday h down near = record {
   holds = record { to_there = down; has_weekday = h };
-  greatest = λ other k. let before = k.to_there in by_lt_z day other
-      (λ more. absurd (omega (arith, linear, same_day weekday h k.has_weekday (omega (arith, linear)) (omega (arith, linear)))))
-      (λ fine. fine);
+  greatest = λ other k. grind (arith, linear, same_day weekday h k.has_weekday);
 }
 
 -- by the days of the week
@@ -88,38 +94,22 @@ weekday_within day weekday =
     (place % 7, omega arith, on_weekday weekday (weeks +ℤ pos 1 -ℤ pos (place / 7)) (omega (arith, ints)))
 
 -- the first and the last are only one
-pub only_first : (from : ℤ) (weekday : Weekday) (a b : ℤ) → IsFirstWeekday from weekday a → IsFirstWeekday from weekday b → a ≡ b
+pub only_first : FirstWeekdayIsOnly
 only_first from weekday a b h k = only_least h k
 
-pub only_last : (to : ℤ) (weekday : Weekday) (a b : ℤ) → IsLastWeekday to weekday a → IsLastWeekday to weekday b → a ≡ b
+pub only_last : LastWeekdayIsOnly
 only_last to weekday a b h k = only_greatest h k
 
 -- ---- one day of the week
 
-abbrev weekdays : List Weekday
-weekdays = Sunday ∷ Monday ∷ Tuesday ∷ Wednesday ∷ Thursday ∷ Friday ∷ Saturday ∷ []
+pub only_weekday : WeekdayIsOnly
+only_weekday day a b h k = only_number (ap unsigned_abs (only_floored h.remainder.division k.remainder.division).1)
 
-named : (weekday : Weekday) → get_or weekdays (weekday_number weekday) Sunday ≡ weekday
-named Sunday = refl
-named Monday = refl
-named Tuesday = refl
-named Wednesday = refl
-named Thursday = refl
-named Friday = refl
-named Saturday = refl
-
-pub only_weekday : (day : ℤ) (a b : Weekday) → HasWeekday day a → HasWeekday day b → a ≡ b
-only_weekday day a b h k =
-    let same = ap unsigned_abs (only_floored h.remainder.division k.remainder.division).1 in
-    sym (named a) ∙ ap (λ (n : ℕ). get_or weekdays n Sunday) same ∙ named b
-
-pub only_iso_number : (a b : Weekday) → iso_number a ≡ iso_number b → a ≡ b
-only_iso_number a b same =
-    let number : weekday_number a ≡ weekday_number b = omega (arith, below_seven a, below_seven b) in
-    sym (named a) ∙ ap (λ (n : ℕ). get_or weekdays n Sunday) number ∙ named b
+pub only_iso_number : IsoNumberIsOnly
+only_iso_number a b same = only_number (omega (arith, below_seven a, below_seven b))
 
 -- days of the week follow in turn from the Thursday of day 0
-pub next_weekdays : HasWeekday (pos 0) Thursday × ((day : ℤ) (a b : Weekday) → HasWeekday day a → HasWeekday (day +ℤ pos 1) b → weekday_number b ≡ (weekday_number a + 1) % 7)
+pub next_weekdays : WeekdaysFollow
 next_weekdays = (
   on_weekday Thursday (pos 0) (omega (arith, ints)),
   λ day a b h k. omega (arith, ints, h.remainder.division.division.equation, k.remainder.division.division.equation, below_seven a, below_seven b),

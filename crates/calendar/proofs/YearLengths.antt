@@ -1,29 +1,14 @@
 -- The days of years, and the days on which they begin.
-use Rattle.std.specs.Prelude.{◌≡◌, ◌≢◌, ◌⊎◌, ◌↔◌, ◌+◌, ◌-◌, ◌*◌, ◌/◌, ◌%◌, ◌<◌, ◌≤◌, ◌≤ℤ◌, ◌<ℤ◌, ◌+ℤ◌, ◌-ℤ◌, ◌*ℤ◌, ℕ, zero, suc, ℤ, pos, negsuc, Bool, true, false, cond, sum, IsTrue}
-use Rattle.std.proofs.Common.{arith, add-one, inl, inr, refl}
-use Rattle.std.proofs.lemmas.Bool.{cases_lt}
+use Rattle.std.specs.Prelude.{◌≡◌, ◌↔◌, ◌+◌, ◌-◌, ◌*◌, ◌/◌, ◌<◌, ◌≤◌, ◌≤ℤ◌, ◌<ℤ◌, ◌+ℤ◌, ◌-ℤ◌, ◌*ℤ◌, ℕ, zero, suc, ℤ, pos, negsuc, Bool, true, false, cond, sum, IsTrue}
+use Rattle.std.proofs.Common.{arith, add-one, refl}
 use Rattle.std.proofs.lemmas.Bool.Decides.{nat_tests}
 use Rattle.std.proofs.lemmas.Int.{by_lt_z, ints}
 use Rattle.num_integer.proofs.ForCallers.{divides_by_magnitude}
 use Rattle.num_integer.specs.Divisors.{Divides}
+use Rattle.calendar.specs.Laws.{YearsFollow}
 use Rattle.calendar.specs.LeapYears.{is_leap_year, is_multiple}
 use Rattle.calendar.specs.Months.{month_lengths}
 use Rattle.calendar.specs.Years.{days_after, days_before, days_in_year, first_day}
-
--- ---- the multiples of a number below another
-
--- whether n + 1 is one more of them
-abbrev AddsOne : ℕ → ℕ → Type 0
-AddsOne d n = ((suc n % d ≡ 0) × (suc n / d ≡ n / d + 1)) ⊎ ((suc n % d ≢ 0) × (suc n / d ≡ n / d))
-
-fourth : (n : ℕ) → AddsOne 4 n
-fourth n = elim (cases_lt 0 (suc n % 4)) [ inl rest ↦ inr (omega arith, omega arith) | inr none ↦ inl (omega arith, omega arith) ]
-
-hundredth : (n : ℕ) → AddsOne 100 n
-hundredth n = elim (cases_lt 0 (suc n % 100)) [ inl rest ↦ inr (omega arith, omega arith) | inr none ↦ inl (omega arith, omega arith) ]
-
-four_hundredth : (n : ℕ) → AddsOne 400 n
-four_hundredth n = elim (cases_lt 0 (suc n % 400)) [ inl rest ↦ inr (omega arith, omega arith) | inr none ↦ inl (omega arith, omega arith) ]
 
 -- ---- the days of years
 
@@ -43,11 +28,7 @@ length_range year = rw length_of (grind arith)
 
 one_year : (n : ℕ) → days_in_year (negsuc n) + (suc n / 100 + (n / 4 + n / 400)) ≡ 365 + (n / 100 + (suc n / 4 + suc n / 400))
 unfolding days_in_year is_leap_year is_multiple
-one_year n =
-    let a = fourth n in
-    let b = hundredth n in
-    let c = four_hundredth n in
-    rw length_of (grind (arith, nat_tests))
+one_year n = rw length_of (grind (arith, nat_tests))
 
 years_before : (n : ℕ) → days_before n + n / 100 ≡ 365 * n + (n / 4 + n / 400)
 unfolding days_before
@@ -74,7 +55,7 @@ epoch = omega (arith, years_after 1969, years_before 1969)
 -- ---- the first day of a year
 
 -- the next year begins after the days of the year
-pub next_first_day : (year : ℤ) → first_day (year +ℤ pos 1) ≡ first_day year +ℤ pos (days_in_year year)
+pub next_first_day : YearsFollow
 unfolding days_after days_before
 next_first_day (pos n) = rw (add-one n) (omega (arith, ints))
 next_first_day (negsuc zero) = omega (arith, ints)
