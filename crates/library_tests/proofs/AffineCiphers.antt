@@ -24,8 +24,7 @@ pub odd_has_inverse : (f : ℕ) → f < 256 → f % 2 ≡ 1 → IsInverse (pos f
 odd_has_inverse f below odd =
     let half : 2 * (f / 2) + 1 ≡ f = omega arith in
     record {
-      from_zero = omega (arith, ints);
-      below = omega (arith, ints);
+      below = record { from_zero = omega (arith, ints); below = omega (arith, ints) };
       one = (congruent_is_natural (omega arith)).1 (rw half at (inverts 128 refl (f / 2) (omega arith)));
     }
 
