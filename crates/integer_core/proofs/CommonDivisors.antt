@@ -66,8 +66,8 @@ gcd_combined a b = below (suc (unsigned_abs b)) a b (omega arith)
     below zero a b h = absurd (omega arith)
     below (suc size) a b h = elim (zero_or_not b) [
       | inl none ↦
-          let own = divides_magnitude a in
-          (pos (unsigned_abs a), own.factor, pos 0, rw none (gcd-zero a), omega (arith, products))
+          let size = divides_magnitude a in
+          (pos (unsigned_abs a), size.factor, pos 0, rw none (gcd-zero a), omega (arith, products))
       | inr nonzero ↦
           let division = (truncated_is a b nonzero).division in
           let rest = below size b (int_rem a b) (omega arith) in
@@ -80,8 +80,8 @@ gcd_exists a b = let h = gcd_combined a b in (h.0, h.3)
 -- what divides a multiple of both divides that of the gcd
 divides_multiple : {d a b g : ℤ} (k : ℤ) → IsGreatestCommonDivisor a b g → Divides d (k *ℤ a) → Divides d (k *ℤ b) → Divides d (k *ℤ g)
 divides_multiple {a = a} {b = b} k x h m =
-    let own = gcd_combined a b in
-    rw (only_gcd x own.3, own.4, dist-left, left_comm k own.1 a, left_comm k own.2 b) (Divides-sum own.1 own.2 h m)
+    let sum = gcd_combined a b in
+    rw (only_gcd x sum.3, sum.4, dist-left, left_comm k sum.1 a, left_comm k sum.2 b) (Divides-sum sum.1 sum.2 h m)
 
 -- a common factor comes out
 pub gcd-times : {a b g : ℤ} (k : ℤ) → pos 0 ≤ℤ k → IsGreatestCommonDivisor a b g → IsGreatestCommonDivisor (k *ℤ a) (k *ℤ b) (k *ℤ g)
@@ -150,12 +150,12 @@ lcm_of_gcd {a} {b} {g} x = elim (zero_or_not b) [
   | inl none ↦ (pos 0, lcm-zero (inr none), rw none (omega (arith, products, sizes)))
   | inr nonzero ↦
       let multiple = Divides-trans (record { factor = a; product = comm a b }) (divides_magnitude (a *ℤ b)) in
-      let own = Divides-trans x.divides_right multiple in
-      (own.factor, lcm-product x nonzero own.product, sym own.product)
+      let exact = Divides-trans x.divides_right multiple in
+      (exact.factor, lcm-product x nonzero exact.product, sym exact.product)
 ]
 
 pub lcm_exists : (a b : ℤ) → (l : ℤ) × IsLeastCommonMultiple a b l
 lcm_exists a b = let h = lcm_of_gcd (gcd_exists a b).1 in (h.0, h.1)
 
 pub gcd-mul-lcm : {a b g l : ℤ} → IsGreatestCommonDivisor a b g → IsLeastCommonMultiple a b l → g *ℤ l ≡ pos (unsigned_abs (a *ℤ b))
-gcd-mul-lcm x y = let own = lcm_of_gcd x in rw (only_lcm y own.1) own.2
+gcd-mul-lcm x y = let lcm = lcm_of_gcd x in rw (only_lcm y lcm.1) lcm.2

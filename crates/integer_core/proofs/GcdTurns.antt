@@ -37,10 +37,7 @@ only_gcd_turn s t h u i =
     λ k. record { m = same.0 k; n = same.1 k }
 
 no_gcd_turn : (s t : OddPair) → GcdEnds s → ¬ (IsGcdTurn s t)
-no_gcd_turn s t ends h = elim h [
-  | inl left ↦ absurd (omega (arith, left.above))
-  | inr right ↦ absurd (omega (arith, right.above))
-]
+no_gcd_turn s t ends h = grind arith
 
 only_gcd_run : {a b n : ℕ} → MakesGcdRun a b n → IsOnly (MakesGcdRun a b) n
 only_gcd_run h m i =

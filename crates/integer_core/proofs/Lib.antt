@@ -1,5 +1,4 @@
 pub mod Whole
-pub mod Signs
 pub mod Ranges
 pub mod Quotients
 pub mod Multiples

@@ -107,9 +107,9 @@ module _ {fits : ℤ → Type 0} {low high a b q r : ℤ} {current previous : Ro
     | inr divides ↦ absurd (goes_on divides)
   ]
 
-  step_fits : {m x previous_x : ℤ} → fits m → IsWeighed m current.remainder previous.remainder x previous_x
+  row_step_fits : {m x previous_x : ℤ} → fits m → IsWeighed m current.remainder previous.remainder x previous_x
       → IsCoefficient fits high previous_x → StepFits fits high q x previous_x
-  step_fits m_fits weighed previous_fits = elim (zero_or_not low) [
+  row_step_fits m_fits weighed previous_fits = elim (zero_or_not low) [
     | inl unsigned ↦
         let none = no_quotient (no_minus_one h.range unsigned) in
         record { product = rw (none, zero-*ℤ) (zero_fits h.range).in_range; next = rw (none, zero-*ℤ, +ℤ_idr) previous_fits }
@@ -120,8 +120,8 @@ module _ {fits : ℤ → Type 0} {low high a b q r : ℤ} {current previous : Ro
 
   pub turn_fits : TurnFits fits high q current previous
   turn_fits = record {
-    x = step_fits h.b_fits h.rows.x_weighed h.previous_fits.x;
-    y = step_fits h.a_fits h.rows.y_weighed h.previous_fits.y;
+    x = row_step_fits h.b_fits h.rows.x_weighed h.previous_fits.x;
+    y = row_step_fits h.a_fits h.rows.y_weighed h.previous_fits.y;
   }
 
   pub rows_fit_turn : fits r → RowsFit fits low high a b (next_row current previous q r) current (t + 1)

@@ -9,8 +9,8 @@ use Rattle.integer_core.proofs.Whole.{linear, expand}
 use Rattle.integer_core.specs.Bezout.{IsSmallPair}
 use Rattle.integer_core.specs.Only.{IsOnly}
 
-swapped : {a b g x y : ℤ} → IsSmallPair a b g x y → IsSmallPair b a g y x
-swapped h = record { equation = let e = h.equation in omega (arith, linear); x_small = h.y_small; y_small = h.x_small }
+small_pair_swapped : {a b g x y : ℤ} → IsSmallPair a b g x y → IsSmallPair b a g y x
+small_pair_swapped h = record { equation = let e = h.equation in omega (arith, linear); x_small = h.y_small; y_small = h.x_small }
 
 -- by Cramer's rule the pairs' determinant times b is g times what the first coefficients differ by
 cramer : {a b g x y z w : ℤ} → IsSmallPair a b g x y → IsSmallPair a b g z w → (x *ℤ w -ℤ y *ℤ z) *ℤ b ≡ g *ℤ (x -ℤ z)
@@ -53,15 +53,15 @@ differ_by_even m n e one = omega (arith, linear, abs_is)
 pub only_small : {a b g x y : ℤ} → b ≢ pos 0 → g ≢ pos 0 → IsSmallPair a b g x y → IsOnly (λ (z, w). IsSmallPair a b g z w) (x, y)
 only_small {a} {b} {g} {x} {y} b_nonzero g_nonzero h (z, w) i =
     let first = determinant g_nonzero h i in
-    let second = determinant g_nonzero (swapped h) (swapped i) in
-    let turned : unsigned_abs (y *ℤ z -ℤ x *ℤ w) ≡ unsigned_abs (x *ℤ w -ℤ y *ℤ z) = omega (arith, linear, abs_is) in
+    let second = determinant g_nonzero (small_pair_swapped h) (small_pair_swapped i) in
+    let opposite : unsigned_abs (y *ℤ z -ℤ x *ℤ w) ≡ unsigned_abs (x *ℤ w -ℤ y *ℤ z) = omega (arith, linear, abs_is) in
     elim (cases_lt 0 (unsigned_abs (x *ℤ w -ℤ y *ℤ z))) [
       | inl more ↦
           let one : unsigned_abs (x *ℤ w -ℤ y *ℤ z) ≡ 1 = omega (arith, first.at_most_one b_nonzero) in
           let same : unsigned_abs (x *ℤ w) ≡ unsigned_abs (y *ℤ z) =
-          simp (unsigned_abs-mul, first.of_one one, second.of_one (turned ∙ one)) (omega arith) in
+          simp (unsigned_abs-mul, first.of_one one, second.of_one (opposite ∙ one)) (omega arith) in
           absurd (differ_by_even (x *ℤ w) (y *ℤ z) same one)
       | inr none ↦
           let zero : unsigned_abs (x *ℤ w -ℤ y *ℤ z) ≡ 0 = omega arith in
-          rw (first.of_zero zero, second.of_zero (turned ∙ zero)) refl
+          rw (first.of_zero zero, second.of_zero (opposite ∙ zero)) refl
     ]

@@ -1,5 +1,5 @@
 -- The ring of the whole numbers, for `omega` and `simp`.
-use Rattle.std.specs.Prelude.{◌≡◌, ◌+◌, ◌*◌, ◌<ℤ◌, ◌+ℤ◌, ◌*ℤ◌, ℤ, pos, neg_ℤ}
+use Rattle.std.specs.Prelude.{◌≡◌, ◌+◌, ◌*◌, ◌<ℤ◌, ◌≤ℤ◌, ◌+ℤ◌, ◌*ℤ◌, ℤ, pos, neg_ℤ}
 use Rattle.std.proofs.Common.{arith, ap, mul-pos}
 use Rattle.std.proofs.lemmas.Int.{ints}
 use borrow.Author.Differences.{up, down, same_in, same_out, sum_is_lem, neg_is, product_is, abs_is, lt_out, le_out, below_in, at_most_in, Apart-out}
@@ -7,6 +7,10 @@ pub use Rattle.std.proofs.Math.IntN.{*ℤ_comm as comm}
 
 -- linear arithmetic of whole numbers
 pub ruleset linear = (same_out, Apart-out, lt_out, le_out, below_in, at_most_in, same_in, sum_is_lem, neg_is)
+
+-- what a test says
+pub from_not_less : {a b : ℤ} → ¬ (a <ℤ b) → b ≤ℤ a
+from_not_less h = grind (arith, linear)
 
 -- that, with magnitudes
 pub ruleset sizes = (linear, abs_is)

@@ -5,7 +5,7 @@ use Rattle.std.proofs.Common.{arith, refl, subst, sym, ◌∙◌}
 use Rattle.std.proofs.Math.Nat.{le-mul_of_pos_right}
 use Rattle.std.proofs.lemmas.Int.{ints, unsigned_abs-mul}
 use Rattle.std.proofs.lemmas.List.Elements.{All-from_all_within, AllWithin-more, AllWithin-upto, at_read}
-use Rattle.integer_core.proofs.Signs.{from_not_less}
+use Rattle.integer_core.proofs.Whole.{from_not_less}
 use Rattle.integer_core.specs.Range.{IsRange}
 use Rattle.num_integer.proofs.FittingAnswers.{fits_below}
 use Rattle.num_integer.proofs.ForCallers.{product_from_zero}

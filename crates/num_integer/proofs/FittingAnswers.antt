@@ -11,7 +11,7 @@ use Rattle.integer_core.proofs.EuclidTurns.{divisor_size}
 use Rattle.integer_core.proofs.Multiples.{only_multiple}
 use Rattle.integer_core.proofs.Quotients.{only_ceiled, only_floored, only_truncated, floored_by_minus_one, other_quotient_fits}
 use Rattle.integer_core.proofs.Ranges.{within_fits}
-use Rattle.integer_core.proofs.Signs.{from_not_less}
+use Rattle.integer_core.proofs.Whole.{from_not_less}
 use Rattle.integer_core.proofs.Whole.{linear}
 use Rattle.integer_core.specs.Division.{EachKind, IsCeiled, IsDivision, IsFloored, IsTruncated, IsQuotient, IsMultiple}
 use Rattle.integer_core.specs.Divisors.{IsGreatestCommonDivisor, IsLeastCommonMultiple}
