@@ -35,14 +35,14 @@ divides_of_gcds {m} {n} {k} {l} {z} {c} {d} {g} m_up n_up at_m at_n least by_m b
     let positive = product_from_zero m n (omega (arith, linear)) (omega (arith, linear)) in
     let size : pos (unsigned_abs (m *ℤ n)) ≡ m *ℤ n = omega (arith, sizes) in
     let whole : Divides (common *ℤ g) (m *ℤ n) = rw (gcd_times_lcm m n common l h least ∙ size) at (Divides-times common g_l) in
-    let turned : Divides (common *ℤ g) (n *ℤ m) = rw (comm m n) at whole in
+    let exchanged : Divides (common *ℤ g) (n *ℤ m) = rw (comm m n) at whole in
     let at_left = divides_multiple m (omega (arith, linear)) at_n by_n whole (divides_product h.divides_left g_k) in
-    let at_right = divides_multiple n (omega (arith, linear)) at_m by_m turned (divides_product h.divides_right g_k) in
+    let at_right = divides_multiple n (omega (arith, linear)) at_m by_m exchanged (divides_product h.divides_right g_k) in
     let split : bezout.1 *ℤ (m *ℤ z) +ℤ bezout.2 *ℤ (n *ℤ z) ≡ (bezout.1 *ℤ m +ℤ bezout.2 *ℤ n) *ℤ z = simp expand refl in
     let is = split ∙ ap (λ (t : ℤ). t *ℤ z) bezout.3.equation in
     Divides-cancel common (gcd-nonzero h (λ none. omega (arith, linear))) (rw is at (Divides-sum bezout.1 bezout.2 at_left at_right))
 
--- two congruences that agree have a common solution, and those that have one agree
+-- Two congruences that agree have a common solution, and those that have one agree.
 pub solution_of_two : {a m b n : ℤ} → Agree a m b n → (x : ℤ) × SolvesBothCongruences a m b n x
 solution_of_two {a} {m} {b} {n} h =
     let bezout = bezout_answer_exists m n in
