@@ -112,13 +112,10 @@ module _ {X : Type 0} (value : X → ℤ) where
       let rest = common_with cs (All-head IsPositive c cs positive) (All-tail IsPositive c cs positive) pairs.0 pairs.1 in
       (rest.0, All-cons (SolvesAt rest.0) c cs rest.1 rest.2)
 
-  pub solved_agree_with_each : {a m x : ℤ} (cs : List (X × X)) → AreCongruent m x a → SolvesEach value cs x → AgreesWithEach value a m cs
-  solved_agree_with_each cs h each = λ k d within. solved_agree h (each k d within)
-
   pub first_agrees : {c : X × X} {cs rest : List (X × X)} {x : ℤ} → rest ≡ c ∷ cs → SolvesEach value rest x → AgreesWithEach value (value c.0) (value c.1) cs
   first_agrees {c} {cs} {x = x} split each =
       let own = subst (All (SolvesAt x)) split each in
-      solved_agree_with_each cs (All-head (SolvesAt x) c cs own) (All-tail (SolvesAt x) c cs own)
+      λ k d within. solved_agree (All-head (SolvesAt x) c cs own) (All-tail (SolvesAt x) c cs own k d within)
 
   pub no_pairs : (cs : List (X × X)) → length cs ≡ 0 → AgreeInPairs value cs
   no_pairs [] none = tt

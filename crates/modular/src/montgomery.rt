@@ -29,6 +29,7 @@ impl Montgomery {
     }
 
     /// Returns what stands for 1, which is 2^64 modulo the modulus.
+    #[tactic(auto, using(crate::proofs::WordProducts::one_meaning))]
     pub(crate) fn one(&self) -> u64
         ensures below { result < self.now.modulus }
         ensures one { AreCongruent (pos self.now.modulus) (pos 1)
@@ -38,6 +39,7 @@ impl Montgomery {
     }
 
     /// Returns what stands for `x`.
+    #[tactic(auto, using(crate::proofs::WordProducts::standing_for_meaning))]
     pub(crate) fn standing_for(&self, x: u64) -> u64
         ensures below { result < self.now.modulus }
         ensures congruent { AreCongruent (pos self.now.modulus) (pos x)
