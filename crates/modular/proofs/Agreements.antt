@@ -35,14 +35,14 @@ divides_of_gcds {m} {n} {k} {l} {z} {c} {d} {g} m_up n_up at_m at_n least by_m b
     let positive = product_from_zero m n (omega (arith, linear)) (omega (arith, linear)) in
     let size : pos (unsigned_abs (m *ℤ n)) ≡ m *ℤ n = omega (arith, sizes) in
     let whole : Divides (common *ℤ g) (m *ℤ n) = rw (gcd_times_lcm m n common l h least ∙ size) at (Divides-times common g_l) in
-    let turned : Divides (common *ℤ g) (n *ℤ m) = rw (comm m n) at whole in
+    let exchanged : Divides (common *ℤ g) (n *ℤ m) = rw (comm m n) at whole in
     let at_left = divides_multiple m (omega (arith, linear)) at_n by_n whole (divides_product h.divides_left g_k) in
-    let at_right = divides_multiple n (omega (arith, linear)) at_m by_m turned (divides_product h.divides_right g_k) in
+    let at_right = divides_multiple n (omega (arith, linear)) at_m by_m exchanged (divides_product h.divides_right g_k) in
     let split : bezout.1 *ℤ (m *ℤ z) +ℤ bezout.2 *ℤ (n *ℤ z) ≡ (bezout.1 *ℤ m +ℤ bezout.2 *ℤ n) *ℤ z = simp expand refl in
     let is = split ∙ ap (λ (t : ℤ). t *ℤ z) bezout.3.equation in
     Divides-cancel common (gcd-nonzero h (λ none. omega (arith, linear))) (rw is at (Divides-sum bezout.1 bezout.2 at_left at_right))
 
--- two congruences that agree have a common solution, and those that have one agree
+-- Two congruences that agree have a common solution, and those that have one agree.
 pub solution_of_two : {a m b n : ℤ} → Agree a m b n → (x : ℤ) × SolvesBothCongruences a m b n x
 solution_of_two {a} {m} {b} {n} h =
     let bezout = bezout_answer_exists m n in
@@ -112,13 +112,10 @@ module _ {X : Type 0} (value : X → ℤ) where
       let rest = common_with cs (All-head IsPositive c cs positive) (All-tail IsPositive c cs positive) pairs.0 pairs.1 in
       (rest.0, All-cons (SolvesAt rest.0) c cs rest.1 rest.2)
 
-  pub solved_agree_with_each : {a m x : ℤ} (cs : List (X × X)) → AreCongruent m x a → SolvesEach value cs x → AgreesWithEach value a m cs
-  solved_agree_with_each cs h each = λ k d within. solved_agree h (each k d within)
-
   pub first_agrees : {c : X × X} {cs rest : List (X × X)} {x : ℤ} → rest ≡ c ∷ cs → SolvesEach value rest x → AgreesWithEach value (value c.0) (value c.1) cs
   first_agrees {c} {cs} {x = x} split each =
       let own = subst (All (SolvesAt x)) split each in
-      solved_agree_with_each cs (All-head (SolvesAt x) c cs own) (All-tail (SolvesAt x) c cs own)
+      λ k d within. solved_agree (All-head (SolvesAt x) c cs own) (All-tail (SolvesAt x) c cs own k d within)
 
   pub no_pairs : (cs : List (X × X)) → length cs ≡ 0 → AgreeInPairs value cs
   no_pairs [] none = tt

@@ -7,7 +7,7 @@ use Rattle.std.proofs.Math.Bool.{beq}
 use Rattle.modular.proofs.Congruences.{congruent-product, residue_of_congruent}
 use Rattle.modular.proofs.BelowModulus.{natural_residue}
 use Rattle.modular.proofs.PowerTurns.{congruent-power}
-use Rattle.num_integer.proofs.ForCallers.{mul-neg, products, signed_is, sizes}
+use Rattle.num_integer.proofs.ForCallers.{expand, mul-neg, products, signed_is, sizes}
 use Rattle.num_integer.specs.Parts.{signed}
 use Rattle.modular.specs.Congruences.{AreCongruent, IsResidue}
 
@@ -19,17 +19,11 @@ wrapped_difference x small = record { divides = record { factor = pos 1; product
 size_is : {x : ℤ} {v : ℕ} → pos 0 ≤ℤ x → v ≡ unsigned_abs x → pos v ≡ x
 size_is from_zero is = omega (arith, sizes)
 
-opposite_product : (x y : ℤ) → neg_ℤ x *ℤ y ≡ neg_ℤ (x *ℤ y)
-opposite_product x y = grind (arith, products)
-
-opposites_product : (x y : ℤ) → neg_ℤ x *ℤ neg_ℤ y ≡ x *ℤ y
-opposites_product x y = grind (arith, products)
-
 -- a product, by the signs and the magnitudes
 product_by_signs : (s t : Bool) (u v : ℕ) → signed s u *ℤ signed t v ≡ signed (not (beq s t)) (u * v)
 product_by_signs false false u v = omega (arith, products)
-product_by_signs true true u v = opposites_product (pos u) (pos v)
-product_by_signs true false u v = opposite_product (pos u) (pos v)
+product_by_signs true true u v = simp expand (omega (arith, products))
+product_by_signs true false u v = simp expand (omega (arith, products))
 product_by_signs false true u v = mul-neg (pos u) (pos v)
 
 pub product_of_magnitudes : (s t : Bool) (u v : ℕ) {a b : ℤ} → IsTrue s ↔ (a <ℤ pos 0) → IsTrue t ↔ (b <ℤ pos 0) → u ≡ unsigned_abs a → v ≡ unsigned_abs b → signed (not (beq s t)) (u * v) ≡ a *ℤ b
@@ -42,10 +36,9 @@ residue_by_magnitude {m} {w = w} up size h = let m_is : pos w ≡ m = omega (ari
 -- the power of a residue, by magnitudes
 pub power_of_magnitudes : (u e : ℕ) {m a x : ℤ} {w p : ℕ} → pos 0 <ℤ m → IsResidue m a x → w ≡ unsigned_abs m → u ≡ unsigned_abs x
     → IsResidue (pos w) (int_pow (pos u) e) (pos p) → IsResidue m (int_pow a e) (pos p)
-power_of_magnitudes u e {m} {a} {x} {w} {p} up at_a m_size x_size h =
-    let m_is : pos w ≡ m = omega (arith, sizes) in
-    let power : int_pow (pos u) e ≡ int_pow x e = ap (λ (t : ℤ). int_pow t e) (size_is at_a.below.from_zero x_size) in
-    residue_of_congruent (congruent-power e at_a.congruent) (subst (λ (t : ℤ). IsResidue t (int_pow x e) (pos p)) m_is (subst (λ (t : ℤ). IsResidue (pos w) t (pos p)) power h))
+power_of_magnitudes u e up at_a m_size x_size h =
+    let power = ap (λ (t : ℤ). int_pow t e) (size_is at_a.below.from_zero x_size) in
+    residue_of_congruent (congruent-power e at_a.congruent) (residue_by_magnitude up m_size (rw power at h))
 
 -- the product of two numbers' remainders
 pub product_of_rests : (x y : ℕ) {m r : ℕ} → 0 < m → IsResidue (pos m) (pos (x % m) *ℤ pos (y % m)) (pos r) → IsResidue (pos m) (pos x *ℤ pos y) (pos r)

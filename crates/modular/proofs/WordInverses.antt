@@ -5,29 +5,29 @@ use Rattle.std.proofs.lemmas.Bool.{cases_lt}
 use Rattle.std.proofs.lemmas.Int.{ints}
 use Rattle.std.proofs.lemmas.Nat.{mod_below, pow-add}
 use Rattle.num_integer.specs.Divisors.{Divides}
-use Rattle.num_integer.proofs.ForCallers.{expand, linear, products}
+use Rattle.num_integer.proofs.ForCallers.{expand, linear, mul-one, products}
 use Rattle.modular.specs.Congruences.{AreCongruent}
 use Rattle.modular.proofs.Congruences.{congruent-difference, congruent-divisor, congruent-equal, congruent-product, congruent-refl, congruent-sym, congruent-trans}
 use Rattle.modular.proofs.BelowModulus.{congruent-rest, natural_residue}
 use Rattle.modular.proofs.WideProducts.{wrapped_difference}
 
-own_inverse_at : (m g k f : ℕ) → m ≡ g * 4 + k → (g * 4 + k) * (g * 4 + k) ≡ 8 * f + 1 → pos m *ℤ pos m -ℤ pos 1 ≡ pos 8 *ℤ pos f
-own_inverse_at m g k f is square =
+odd_inverse_at : (m g k f : ℕ) → m ≡ g * 4 + k → (g * 4 + k) * (g * 4 + k) ≡ 8 * f + 1 → pos m *ℤ pos m -ℤ pos 1 ≡ pos 8 *ℤ pos f
+odd_inverse_at m g k f is square =
     let same : m * m ≡ 8 * f + 1 = rw is square in
     omega (arith, ints)
 
 -- an odd number is its own inverse modulo 8
-own_inverse : (m : ℕ) → m % 2 ≡ 1 → AreCongruent (pos (2 ^ 3)) (pos m *ℤ pos m) (pos 1)
-own_inverse m odd =
+pub odd_inverse : (m : ℕ) → m % 2 ≡ 1 → AreCongruent (pos (2 ^ 3)) (pos m *ℤ pos m) (pos 1)
+odd_inverse m odd =
     elim (cases_lt (m % 4) 2) [
       | inl low ↦
           let is : m ≡ m / 4 * 4 + 1 = omega arith in
           let g : ℕ = m / 4 in
-          record { divides = record { factor = pos (g * g * 2 + g); product = own_inverse_at m g 1 _ is (omega arith) } }
+          record { divides = record { factor = pos (g * g * 2 + g); product = odd_inverse_at m g 1 _ is (omega arith) } }
       | inr high ↦
           let is : m ≡ m / 4 * 4 + 3 = omega arith in
           let g : ℕ = m / 4 in
-          record { divides = record { factor = pos (g * g * 2 + 3 * g + 1); product = own_inverse_at m g 3 _ is (omega arith) } }
+          record { divides = record { factor = pos (g * g * 2 + 3 * g + 1); product = odd_inverse_at m g 3 _ is (omega arith) } }
     ]
 
 square_apart : (d f x : ℤ) → x -ℤ pos 1 ≡ d *ℤ f → x *ℤ (pos 2 -ℤ x) -ℤ pos 1 ≡ (d *ℤ d) *ℤ neg_ℤ (f *ℤ f)
@@ -52,21 +52,6 @@ low_divides k few =
     let whole : k + (64 - k) ≡ 64 = omega arith in
     record { factor = pos (2 ^ (64 - k)); product = ap pos (sym (ap (λ (n : ℕ). 2 ^ n) whole) ∙ pow-add 2 k (64 - k)) }
 
--- five steps from 8
-pub five_steps : (m : ℕ) {a b c d e : ℕ} → m % 2 ≡ 1
-    → AreCongruent (pos (2 ^ 64)) (pos a) (pos m *ℤ (pos 2 -ℤ pos m *ℤ pos m))
-    → AreCongruent (pos (2 ^ 64)) (pos b) (pos a *ℤ (pos 2 -ℤ pos m *ℤ pos a))
-    → AreCongruent (pos (2 ^ 64)) (pos c) (pos b *ℤ (pos 2 -ℤ pos m *ℤ pos b))
-    → AreCongruent (pos (2 ^ 64)) (pos d) (pos c *ℤ (pos 2 -ℤ pos m *ℤ pos c))
-    → AreCongruent (pos (2 ^ 64)) (pos e) (pos d *ℤ (pos 2 -ℤ pos m *ℤ pos d))
-    → AreCongruent (pos (2 ^ 64)) (pos m *ℤ pos e) (pos 1)
-five_steps m {a} {b} {c} {d} odd i j k l n =
-    let one = newton (pos m) (pos m) (record { factor = pos 1; product = refl }) (own_inverse m odd) (congruent-divisor (low_divides 6 (omega arith)) i) in
-    let two = newton (pos m) (pos a) (record { factor = pos 1; product = refl }) one (congruent-divisor (low_divides 12 (omega arith)) j) in
-    let three = newton (pos m) (pos b) (record { factor = pos 1; product = refl }) two (congruent-divisor (low_divides 24 (omega arith)) k) in
-    let four = newton (pos m) (pos c) (record { factor = pos 1; product = refl }) three (congruent-divisor (low_divides 48 (omega arith)) l) in
-    newton (pos m) (pos d) (record { factor = pos (2 ^ 32); product = refl }) four n
-
 -- the inverse by a remainder, and by a congruence
 pub inverse_remainder : (m i : ℕ) {w : ℕ} → 1 < w → AreCongruent (pos w) (pos m *ℤ pos i) (pos 1) → m * i % w ≡ 1
 inverse_remainder m i {w} up h =
@@ -89,5 +74,12 @@ step_by_parts m x u v n w up u_is v_is n_is =
     let times : pos (x * v) ≡ pos x *ℤ pos v = omega (arith, ints) in
     rw n_is (congruent-rest (x * v) up (subst (λ (t : ℤ). AreCongruent (pos w) t (pos x *ℤ (pos 2 -ℤ pos m *ℤ pos x))) (sym times) (congruent-product (congruent-refl (pos x)) second)))
 
-pub step_wrapped : (m x : ℕ) → AreCongruent (pos (2 ^ 64)) (pos (x * ((2 + (2 ^ 64 - m * x % 2 ^ 64)) % 2 ^ 64) % 2 ^ 64)) (pos x *ℤ (pos 2 -ℤ pos m *ℤ pos x))
+step_wrapped : (m x : ℕ) → AreCongruent (pos (2 ^ 64)) (pos (x * ((2 + (2 ^ 64 - m * x % 2 ^ 64)) % 2 ^ 64) % 2 ^ 64)) (pos x *ℤ (pos 2 -ℤ pos m *ℤ pos x))
 step_wrapped m x = step_by_parts m x _ _ _ (2 ^ 64) (omega arith) refl refl refl
+
+-- from the inverse modulo 2 ^ k to that modulo 2 ^ (k + k)
+pub inverse_doubled : (m x k : ℕ) → k ≤ 32 → AreCongruent (pos (2 ^ k)) (pos m *ℤ pos x) (pos 1)
+    → AreCongruent (pos (2 ^ (k + k))) (pos m *ℤ pos (x * ((2 + (2 ^ 64 - m * x % 2 ^ 64)) % 2 ^ 64) % 2 ^ 64)) (pos 1)
+inverse_doubled m x k few h =
+    let square : Divides (pos (2 ^ (k + k))) (pos (2 ^ k) *ℤ pos (2 ^ k)) = record { factor = pos 1; product = sym (mul-one (pos (2 ^ (k + k))) ∙ ap pos (pow-add 2 k k)) } in
+    newton (pos m) (pos x) square h (congruent-divisor (low_divides (k + k) (omega arith)) (step_wrapped m x))

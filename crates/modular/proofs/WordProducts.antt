@@ -79,10 +79,9 @@ stands_for w s x unit h = congruent-trans (congruent-sym (times_unit w s x unit)
 -- what a reduced product stands for
 product_stands_for : (w s x y r : ℤ) {m : ℤ} → AreCongruent m (w *ℤ s) (pos 1) → AreCongruent m (x *ℤ y) (r *ℤ w) → AreCongruent m ((x *ℤ s) *ℤ (y *ℤ s)) (r *ℤ s)
 product_stands_for w s x y r {m} unit h =
-    let left : (x *ℤ y) *ℤ (s *ℤ s) ≡ (x *ℤ s) *ℤ (y *ℤ s) = simp expand refl in
+    let left : (x *ℤ s) *ℤ (y *ℤ s) ≡ (x *ℤ y) *ℤ (s *ℤ s) = simp expand refl in
     let right : (r *ℤ w) *ℤ (s *ℤ s) ≡ ((r *ℤ s) *ℤ w) *ℤ s = simp expand refl in
-    congruent-trans (subst (λ (t : ℤ). AreCongruent m t (((r *ℤ s) *ℤ w) *ℤ s)) left (subst (λ (t : ℤ). AreCongruent m ((x *ℤ y) *ℤ (s *ℤ s)) t) right (congruent-product h (congruent-refl (s *ℤ s)))))
-    (times_unit w s (r *ℤ s) unit)
+    rw left (congruent-trans (rw right at (congruent-product h (congruent-refl (s *ℤ s)))) (times_unit w s (r *ℤ s) unit))
 
 -- the form's functions
 pub product_meaning : (m i x y r : ℕ) → m * i % 2 ^ 64 ≡ 1 → AreCongruent (pos m) (pos x *ℤ pos y) (pos r *ℤ pos (2 ^ 64)) → AreCongruent (pos m) (represented m i x *ℤ represented m i y) (represented m i r)

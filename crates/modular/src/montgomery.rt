@@ -1,7 +1,7 @@
 //! Montgomery's products modulo an odd number of 64 bits, with no division: a number stands for itself
 //! times the inverse of 2^64.
 
-ghost use Rattle.std.specs.Prelude.{◌≡◌, ◌*◌, ◌%◌, ◌^◌, ◌<◌, ◌-ℤ◌, ◌*ℤ◌, pos};
+ghost use Rattle.std.specs.Prelude.{◌≡◌, ◌+◌, ◌*◌, ◌%◌, ◌^◌, ◌<◌, ◌≤◌, ◌*ℤ◌, ℕ, pos};
 ghost use Rattle.modular.specs.Congruences.{AreCongruent, IsResidue};
 ghost use Rattle.modular.specs.Words.{represented};
 
@@ -29,6 +29,7 @@ impl Montgomery {
     }
 
     /// Returns what stands for 1, which is 2^64 modulo the modulus.
+    #[tactic(auto, using(crate::proofs::WordProducts::one_meaning))]
     pub(crate) fn one(&self) -> u64
         ensures below { result < self.now.modulus }
         ensures one { AreCongruent (pos self.now.modulus) (pos 1)
@@ -38,6 +39,7 @@ impl Montgomery {
     }
 
     /// Returns what stands for `x`.
+    #[tactic(auto, using(crate::proofs::WordProducts::standing_for_meaning))]
     pub(crate) fn standing_for(&self, x: u64) -> u64
         ensures below { result < self.now.modulus }
         ensures congruent { AreCongruent (pos self.now.modulus) (pos x)
@@ -48,6 +50,7 @@ impl Montgomery {
     }
 
     /// Returns the residue that `x` stands for.
+    #[tactic(auto, using(crate::proofs::WordProducts::residue_of_meaning))]
     pub(crate) fn residue_of(&self, x: u64) -> u64
         requires { x < self.now.modulus }
         ensures { IsResidue (pos self.now.modulus)
@@ -57,6 +60,7 @@ impl Montgomery {
     }
 
     /// Returns what stands for the product of what `x` and `y` stand for.
+    #[tactic(auto, using(crate::proofs::WordProducts::product_meaning))]
     pub(crate) fn product(&self, x: u64, y: u64) -> u64
         requires { x < self.now.modulus }
         ensures below { result < self.now.modulus }
@@ -102,11 +106,12 @@ fn word_inverse(m: u64) -> u64
     next_inverse(m, fourth)
 }
 
-/// Returns one of Newton's steps towards the inverse of `m`.
-#[tactic(auto, using(crate::proofs::WordInverses::step_wrapped))]
+/// Returns one of Newton's steps towards the inverse of `m`: from the inverse modulo 2^k it makes that
+/// modulo 2^(2k).
+#[tactic(auto, using(crate::proofs::WordInverses::inverse_doubled))]
 fn next_inverse(m: u64, x: u64) -> u64
-    ensures { AreCongruent (pos (2 ^ 64)) (pos result)
-        (pos x *ℤ (pos 2 -ℤ pos m *ℤ pos x)) }
+    ensures { (k : ℕ) → k ≤ 32 → AreCongruent (pos (2 ^ k)) (pos m *ℤ pos x) (pos 1)
+        → AreCongruent (pos (2 ^ (k + k))) (pos m *ℤ pos result) (pos 1) }
 {
     x.wrapping_mul(2u64.wrapping_sub(m.wrapping_mul(x)))
 }

@@ -1,19 +1,19 @@
 //! `Modular` for the twelve native types.
 
-ghost use Rattle.std.specs.Prelude.{◌≡◌, pos, unsigned_abs};
+ghost use Rattle.std.specs.Prelude.{◌≡◌, pos};
 
 use crate::products::Modular;
 use crate::residues::{negation_of_residue, residue};
 use crate::wide_powers::power_of_wide;
 use crate::wide_products::product_of_wide;
-use num_integer::NativeInteger;
 use num_integer::operators::is_negative;
-use num_traits::{ToPrimitive, cast};
+use num_integer::{Fits, NativeInteger};
+use num_traits::cast;
 
 impl<T: NativeInteger> Modular for T {
     fn product_modulo(&self, other: &T, modulus: &T) -> T {
-        let (x, y, m) = (wide(*self), wide(*other), wide(*modulus));
-        let rest = narrow(product_of_wide(x, y, m));
+        let (x, y, m) = (self.parts().1, other.parts().1, modulus.parts().1);
+        let rest = of_magnitude(product_of_wide(x, y, m));
         if is_negative(*self) != is_negative(*other) {
             negation_of_residue(rest, *modulus)
         } else {
@@ -23,24 +23,16 @@ impl<T: NativeInteger> Modular for T {
 
     fn power_modulo_counted(&self, exponent: u128, modulus: &T) -> (T, u32) {
         let (power, turns) = power_of_wide(
-            wide(residue(*self, *modulus)),
+            residue(*self, *modulus).parts().1,
             exponent,
-            wide(*modulus),
+            modulus.parts().1,
         );
-        (narrow(power), turns)
+        (of_magnitude(power), turns)
     }
 }
 
-/// Returns the magnitude, as a number of 128 bits.
-fn wide<T: NativeInteger>(x: T) -> u128
-    requires { T.fits (T.value x) }
-    ensures { result ≡ unsigned_abs (T.value x) }
-{
-    x.magnitude().to_u128().unwrap()
-}
-
-/// Returns the number, as one of the type.
-fn narrow<T: NativeInteger>(x: u128) -> T
+/// Returns the number of the type with this magnitude, which is at least 0.
+fn of_magnitude<T: NativeInteger>(x: u128) -> T
     requires { T.fits (pos x) }
     ensures in_range { T.fits (T.value result) }
     ensures value { T.value result ≡ pos x }

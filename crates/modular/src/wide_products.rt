@@ -30,6 +30,7 @@ fn product_by_residues(x: u128, y: u128, m: u128) -> u128
 }
 
 /// Returns the product of two residues. Where the modulus is at most 2^64, their product fits.
+#[tactic(auto, using(crate::proofs::LongDivision::rest_is_residue))]
 fn product_of_long(x: u128, y: u128, m: u128) -> u128
     requires x_below { LiesBelow (pos m) (pos x) }
     requires y_below { LiesBelow (pos m) (pos y) }

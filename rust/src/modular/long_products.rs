@@ -8,7 +8,7 @@ pub(crate) const BASE: u128 = 18446744073709551616;
 /// which makes its first digit large, so that each digit of the quotient is guessed well.
 pub(crate) fn long_product(x: u128, y: u128, m: u128) -> u128 {
     let places = places_of(m);
-    scaled_product(moved(x, places), y, moved(m, places)) >> places
+    scaled_product(times_power(x, places), y, times_power(m, places)) >> places
 }
 
 /// Returns by how many places the highest bit of `m` can be moved up.
@@ -16,8 +16,8 @@ fn places_of(m: u128) -> u32 {
     m.leading_zeros()
 }
 
-/// Returns `x` with each bit moved up by `places`.
-fn moved(x: u128, places: u32) -> u128 {
+/// Returns `x` times 2 to the power `places`.
+fn times_power(x: u128, places: u32) -> u128 {
     x << places
 }
 

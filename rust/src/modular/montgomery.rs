@@ -66,7 +66,8 @@ fn word_inverse(m: u64) -> u64 {
     next_inverse(m, fourth)
 }
 
-/// Returns one of Newton's steps towards the inverse of `m`.
+/// Returns one of Newton's steps towards the inverse of `m`: from the inverse modulo 2^k it makes that
+/// modulo 2^(2k).
 fn next_inverse(m: u64, x: u64) -> u64 {
     x.wrapping_mul(2u64.wrapping_sub(m.wrapping_mul(x)))
 }

@@ -5,13 +5,13 @@ use crate::modular::residues::{negation_of_residue, residue};
 use crate::modular::wide_powers::power_of_wide;
 use crate::modular::wide_products::product_of_wide;
 use crate::operators::is_negative;
-use crate::NativeInteger;
-use num_traits::{cast, ToPrimitive};
+use crate::{Fits, NativeInteger};
+use num_traits::cast;
 
 impl<T: NativeInteger> Modular for T {
     fn product_modulo(&self, other: &T, modulus: &T) -> T {
-        let (x, y, m) = (wide(*self), wide(*other), wide(*modulus));
-        let rest = narrow(product_of_wide(x, y, m));
+        let (x, y, m) = (self.parts().1, other.parts().1, modulus.parts().1);
+        let rest = of_magnitude(product_of_wide(x, y, m));
         if is_negative(*self) != is_negative(*other) {
             negation_of_residue(rest, *modulus)
         } else {
@@ -20,18 +20,16 @@ impl<T: NativeInteger> Modular for T {
     }
 
     fn power_modulo_counted(&self, exponent: u128, modulus: &T) -> (T, u32) {
-        let (power, turns) =
-            power_of_wide(wide(residue(*self, *modulus)), exponent, wide(*modulus));
-        (narrow(power), turns)
+        let (power, turns) = power_of_wide(
+            residue(*self, *modulus).parts().1,
+            exponent,
+            modulus.parts().1,
+        );
+        (of_magnitude(power), turns)
     }
 }
 
-/// Returns the magnitude, as a number of 128 bits.
-fn wide<T: NativeInteger>(x: T) -> u128 {
-    x.magnitude().to_u128().unwrap()
-}
-
-/// Returns the number, as one of the type.
-fn narrow<T: NativeInteger>(x: u128) -> T {
+/// Returns the number of the type with this magnitude, which is at least 0.
+fn of_magnitude<T: NativeInteger>(x: u128) -> T {
     cast::<u128, T>(x).unwrap()
 }

@@ -2,12 +2,12 @@ use Rattle.modular.proofs.BelowModulus.{residue_fits}
 use Rattle.modular.proofs.WideProducts.{power_of_magnitudes}
 use Rattle.modular.proofs.native.AnyModular.power_modulo_counted.Goals as goal
 
-pub narrow-requires : goal.narrow-requires
-narrow-requires g c =
+pub of_magnitude-requires : goal.of_magnitude-requires
+of_magnitude-requires g c =
     residue_fits g.met.T.Native.native_law.range c.requires.modulus_in_range
-    (power_of_magnitudes c.wide.result c.args.exponent c.requires.positive c.residue.ensures.residue c.wide-2.ensures c.wide.ensures c.power_of_wide-power.ensures.residue)
+    (power_of_magnitudes c.parts.result.1 c.args.exponent c.requires.positive c.residue.ensures.residue c.parts-2.ensures.magnitude c.parts.ensures.magnitude c.power_of_wide-power.ensures.residue)
 
 pub returns-clause-residue : goal.returns-clause-residue
 returns-clause-residue g c =
-    rw c.narrow.ensures.value
-    (power_of_magnitudes c.wide.result c.args.exponent c.requires.positive c.residue.ensures.residue c.wide-2.ensures c.wide.ensures c.power_of_wide-power.ensures.residue)
+    rw c.of_magnitude.ensures.value
+    (power_of_magnitudes c.parts.result.1 c.args.exponent c.requires.positive c.residue.ensures.residue c.parts-2.ensures.magnitude c.parts.ensures.magnitude c.power_of_wide-power.ensures.residue)
