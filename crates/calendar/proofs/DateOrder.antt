@@ -2,7 +2,7 @@
 use Rattle.std.specs.Prelude.{◌≡◌, ◌⊎◌, ◌+◌, ◌-◌, ◌<◌, ◌≤◌, ◌<ℤ◌, ◌+ℤ◌, ℕ, ℤ, pos, List, length, take, sum, slice_index}
 use Rattle.std.proofs.Common.{ap, arith, inl, inr, le_refl, sym}
 use Rattle.std.proofs.Props.{props}
-use Rattle.std.proofs.lemmas.Int.{ints}
+use Rattle.std.proofs.lemmas.Int.{ints, to_z-of_z}
 use Rattle.std.proofs.lemmas.List.{take-take}
 use Rattle.std.proofs.lemmas.List.Sums.{sum_by-take-le, sum_by_more}
 use mathlib.Core.HLevel.{is_prop→PathP}
@@ -38,6 +38,9 @@ next_month year month from below =
     let next : month - 1 + 1 ≡ month + 1 - 1 = omega arith in
     let part = rw next at more in
     omega (arith, ints)
+
+-- the first day of the next month, of a date that a call takes
+pub ruleset month_ends = (ints, to_z-of_z, next_month)
 
 pub next_year : (year : ℤ) → day_number (year +ℤ pos 1) 1 1 ≡ day_number year 12 31 +ℤ pos 1
 unfolding days_in_year

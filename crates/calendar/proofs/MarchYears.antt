@@ -2,13 +2,13 @@
 use Rattle.std.specs.Prelude.{◌≡◌, ◌+◌, ◌-◌, ◌*◌, ◌/◌, ◌%◌, ◌<◌, ◌≤◌, ◌+ℤ◌, ◌-ℤ◌, ◌*ℤ◌, ℕ, ℤ, pos, ◌⊎◌, Bool, true, false, sum, take}
 use Rattle.std.specs.List.{All, range_with_len}
 use Rattle.std.proofs.Common.{ap, arith, inl, inr, rules}
-use Rattle.std.proofs.lemmas.Int.{ints}
+use Rattle.std.proofs.lemmas.Int.{ints, to_z-of_z}
 use Rattle.std.proofs.lemmas.List.Elements.{All-get_or}
 use Rattle.std.proofs.lemmas.List.FromFn.{get_or-range_with_len}
 use Rattle.calendar.specs.LeapYears.{is_leap_year}
 use Rattle.calendar.specs.Months.{days_before_month, month_lengths}
 use Rattle.calendar.specs.Years.{day_number, days_in_year, first_day}
-use Rattle.calendar.proofs.YearLengths.{in_era, march_days, next_first_day}
+use Rattle.calendar.proofs.YearLengths.{in_era, length_range, march_days, next_first_day}
 
 -- ---- months
 
@@ -38,6 +38,9 @@ third_month year = omega arith
 pub month_and_day : (days : ℕ) → days < 306 → march_months ((2141 * days + 197913) / 65536) + (2141 * days + 197913) % 65536 / 2141 ≡ days
 month_and_day days small = omega arith
 
+-- the months of a year that begins on 1 March
+pub ruleset month_steps = (ints, to_z-of_z, length_range, third_month, from_third_month, month_and_day)
+
 -- ---- years
 
 -- the 1 March so many years after that of an era
@@ -45,6 +48,9 @@ pub march_first : (era : ℤ) (n : ℕ) → day_number (pos 400 *ℤ era +ℤ po
 march_first era n =
     let next = in_era era n (pos 400 *ℤ era +ℤ pos n +ℤ pos 1) (omega (arith, ints)) in
     omega (arith, ints, third_month (pos 400 *ℤ era +ℤ pos n), next_first_day (pos 400 *ℤ era +ℤ pos n))
+
+-- the same, of days that a call takes
+pub ruleset march_steps = (ints, march_first)
 
 -- January and February come after the days from the 1 March before
 pub after_march : (year next : ℤ) (month : ℕ) → next ≡ year +ℤ pos 1 → 1 ≤ month → month ≤ 2 → day_number next month 1 ≡ day_number year 3 1 +ℤ pos (306 + 31 * (month - 1))

@@ -1,10 +1,9 @@
 -- The days of years, and the days on which they begin.
-use Rattle.std.specs.Prelude.{◌≡◌, ◌↔◌, ◌+◌, ◌-◌, ◌*◌, ◌/◌, ◌<◌, ◌≤◌, ◌≤ℤ◌, ◌<ℤ◌, ◌+ℤ◌, ◌-ℤ◌, ◌*ℤ◌, ℕ, zero, suc, ℤ, pos, negsuc, Bool, true, false, cond, sum, IsTrue}
+use Rattle.std.specs.Prelude.{◌≡◌, ◌+◌, ◌-◌, ◌*◌, ◌/◌, ◌≤◌, ◌≤ℤ◌, ◌<ℤ◌, ◌+ℤ◌, ◌-ℤ◌, ◌*ℤ◌, ℕ, zero, suc, ℤ, pos, negsuc, Bool, true, false, cond, sum}
 use Rattle.std.proofs.Common.{arith, add-one, refl}
 use Rattle.std.proofs.lemmas.Bool.Decides.{nat_tests}
-use Rattle.std.proofs.lemmas.Int.{by_lt_z, ints}
+use Rattle.std.proofs.lemmas.Int.{by_lt_z, ints, to_z-of_z}
 use Rattle.num_integer.proofs.ForCallers.{divides_by_magnitude}
-use Rattle.num_integer.specs.Divisors.{Divides}
 use Rattle.calendar.specs.Laws.{YearsFollow}
 use Rattle.calendar.specs.LeapYears.{is_leap_year, is_multiple}
 use Rattle.calendar.specs.Months.{month_lengths}
@@ -12,11 +11,8 @@ use Rattle.calendar.specs.Years.{days_after, days_before, days_in_year, first_da
 
 -- ---- the days of years
 
-pub multiple_test : (z : ℤ) (d : ℕ) {answer : Bool} → 0 < d → IsTrue answer ↔ Divides (pos d) z → is_multiple z d ≡ answer
-unfolding is_multiple
-multiple_test z d {answer} up test =
-    let told = divides_by_magnitude z d up in
-    grind (arith, nat_tests)
+-- what decides whether a number divides a year
+pub ruleset multiples = (ints, to_z-of_z, nat_tests, divides_by_magnitude)
 
 pub length_of : (leap : Bool) → sum (month_lengths leap) ≡ cond leap 366 365
 length_of true = refl
@@ -25,6 +21,9 @@ length_of false = refl
 pub length_range : (year : ℤ) → (365 ≤ days_in_year year) × (days_in_year year ≤ 366)
 unfolding days_in_year
 length_range year = rw length_of (grind arith)
+
+-- what a number is read as, and the length of a year
+pub ruleset year_steps = (ints, to_z-of_z, length_range)
 
 one_year : (n : ℕ) → days_in_year (negsuc n) + (suc n / 100 + (n / 4 + n / 400)) ≡ 365 + (n / 100 + (suc n / 4 + suc n / 400))
 unfolding days_in_year is_leap_year is_multiple

@@ -1,7 +1,6 @@
 -- Years as they are written.
 use Rattle.std.specs.Prelude.{◌≡◌, ◌≢◌, ◌↔◌, ◌-◌, ◌^◌, ◌<◌, ◌≤◌, ℕ, zero, suc, ℤ, pos, negsuc, neg_ℤ, unsigned_abs, List, ◌∷◌, get_or, FitsSigned, Option, Some, None}
 use Rattle.std.specs.Int.{w64}
-use Rattle.std.specs.Option.{option_map}
 use Rattle.std.specs.Str.Parse.{digits_value}
 use Rattle.std.proofs.Common.{arith, ap, inl, inr, refl, sym, ◌∙◌}
 use Rattle.std.proofs.lemmas.Bool.{cases_lt}
@@ -88,17 +87,21 @@ only_year (pos n) y x_fits y_fits e = elim (cases_lt n 10000) [
 ]
 only_year (negsuc n) y x_fits y_fits e = same_years (negsuc n) y x_fits y_fits (minus_form (padded 4 (suc n)) (year_text (negsuc n)) (before n)) e
 
--- the year that is read of a text of the form
-pub year_read : (value : ℕ → ℤ) (least most : ℕ) (ds text : List ℕ) (o : Option ℕ) → HasForm value least most ds text → ((n : ℕ) → (o ≡ Some n) ↔ ((least ≤ n) × (n ≤ most) × (ds ≡ padded 4 n)))
-    → (year : ℤ) → FitsSigned w64 year → (option_map value o ≡ Some year) ↔ (text ≡ year_text year)
-year_read value least most ds text None form reads year fits = (
+-- what is read of a text of the form: no year, or the one that has the text
+abbrev Reads : Option ℕ → ℕ → ℕ → List ℕ → Type 0
+Reads o least most ds = (n : ℕ) → (o ≡ Some n) ↔ ((least ≤ n) × (n ≤ most) × (ds ≡ padded 4 n))
+
+pub no_year_read : {value : ℕ → ℤ} {least most : ℕ} {ds text : List ℕ} {o : Option ℤ} → HasForm value least most ds text → Reads None least most ds → o ≡ None → (year : ℤ) → FitsSigned w64 year → (o ≡ Some year) ↔ (text ≡ year_text year)
+no_year_read form reads none year fits = (
   λ e. absurd (cc),
   λ e. let told = form.tells year fits e in absurd (cc ((reads (unsigned_abs year)).1 (told.1, told.2, told.3))),
 )
-year_read value least most ds text (Some n) form reads year fits = (
-  λ e. let same : value n ≡ year = cc in let is = (reads n).0 refl in form.writes n is.0 is.1 is.2 ∙ ap year_text same,
+
+pub year_read : {value : ℕ → ℤ} {least most : ℕ} {ds text : List ℕ} (n : ℕ) {read : ℤ} → HasForm value least most ds text → Reads (Some n) least most ds → read ≡ value n → (year : ℤ) → FitsSigned w64 year → (Some read ≡ Some year) ↔ (text ≡ year_text year)
+year_read {value = value} n form reads is year fits = (
+  λ e. let same : value n ≡ year = cc in let within = (reads n).0 refl in form.writes n within.0 within.1 within.2 ∙ ap year_text same,
   λ e.
       let told = form.tells year fits e in
       let same : n ≡ unsigned_abs year = cc ((reads (unsigned_abs year)).1 (told.1, told.2, told.3)) in
-      ap (λ (k : ℕ). Some (value k)) same ∙ ap (λ (y : ℤ). Some y) told.0,
+      ap (λ (y : ℤ). Some y) (is ∙ ap value same ∙ told.0),
 )

@@ -68,6 +68,7 @@ impl Date {
 
     /// Returns the date of the next day, or `None` where that is in the year after `i64::MAX`.
     /// That of 2000-02-28 is 2000-02-29.
+    #[tactic(auto, using(crate::proofs::DateOrder::month_ends))]
     pub fn next(&self) -> Option<Date>
         ensures { MatchOption result
             ((self.now.year ≡ i64.MAX) × (self.now.month ≡ 12) × (self.now.day_of_month ≡ 31))

@@ -16,6 +16,7 @@ impl Date {
     /// Returns the date `months` months after this one, or before it where `months` is negative, or
     /// `None` where its year does not fit an `i64`. Its day of the month is the same, or the last one
     /// where its month is shorter. 1 month after 2000-01-31 is 2000-02-29.
+    #[tactic(auto, using(crate::proofs::YearLengths::year_steps))]
     pub fn plus_months(&self, months: i64) -> Option<Date>
         ensures { MatchOption result
             ((date : Date) → IsMonthsAfter self.now months date → ¬ (FitsSigned w64 date.year))

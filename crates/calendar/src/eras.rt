@@ -45,6 +45,7 @@ pub(crate) fn days_to_month(year: u32, month: u8) -> u32
 
 /// Returns the number of days from 1 March of the first year of an era to the 1 March that is `years`
 /// years later.
+#[tactic(auto, using(crate::proofs::MarchYears::march_steps))]
 fn days_of_years(years: u32) -> u32
     requires { years < 800 }
     ensures day { (era : ℤ) → day_number (pos 400 *ℤ era +ℤ pos years) 3 1
@@ -56,6 +57,7 @@ fn days_of_years(years: u32) -> u32
 }
 
 /// Returns the number of days from 1 March to the first of a later month of the year.
+#[tactic(auto, using(crate::proofs::MarchYears::month_steps))]
 pub(crate) fn days_of_months(month: u8) -> u32
     requires from { 3 ≤ month }
     requires to_twelve { month ≤ 12 }
@@ -67,6 +69,7 @@ pub(crate) fn days_of_months(month: u8) -> u32
 }
 
 /// Returns the month and the day of the month `days` days after 1 March.
+#[tactic(auto, using(crate::proofs::MarchYears::month_steps))]
 pub(crate) fn month_and_day(days: u32) -> (u8, u8)
     requires { days < 366 }
     ensures from_march { (year : ℤ) → days < 306 → IsDate year result.0 result.1
@@ -84,6 +87,7 @@ pub(crate) fn month_and_day(days: u32) -> (u8, u8)
 }
 
 /// Returns the year, the month and the day of the month of the day `days` days after 1 March of a year.
+#[tactic(auto, using(crate::proofs::MarchYears::month_steps))]
 pub(crate) fn parts_from_march(year: i64, days: u32) -> (i64, u8, u8)
     requires within { days < days_in_year (year +ℤ pos 1) }
     requires next_fits { FitsSigned w64 (year +ℤ pos 1) }

@@ -25,6 +25,7 @@ pub struct IsoWeek {
 impl Date {
     /// Returns the week of ISO 8601 that has the date, or `None` where its year is beyond `i64`. That
     /// of 2005-01-01 is week 53 of 2004.
+    #[tactic(auto, using(crate::proofs::YearLengths::year_steps))]
     pub fn iso_week(&self) -> Option<IsoWeek>
         ensures week { MatchOption result
             ((year : ℤ) (week : ℕ) → IsInIsoWeek (number_of self.now) year week → ¬ (FitsSigned w64 year))
@@ -41,6 +42,7 @@ impl Date {
 
     /// Returns the date of a day of a week of ISO 8601, or `None` where there is none.
     /// `Date::from_iso_week(2009, 53, Weekday::Sunday)` is `Date::new(2010, 1, 3)`.
+    #[tactic(auto, using(crate::proofs::YearLengths::year_steps))]
     pub fn from_iso_week(year: i64, week: u8, weekday: Weekday) -> Option<Date>
         ensures { MatchOption result
             ((day y : ℤ) → IsDayOfIsoWeek day year week weekday → HasDay y day → ¬ (FitsSigned w64 y))

@@ -24,6 +24,7 @@ pub fn days_in_month(year: i64, month: u8) -> u8
 }
 
 /// Returns how many days of the year lie before the month.
+#[tactic(auto, using(crate::proofs::MarchYears::month_steps))]
 pub(crate) fn days_before_month(year: i64, month: u8) -> u16
     requires from_one { 1 ≤ month }
     requires to_twelve { month ≤ 12 }
@@ -38,6 +39,7 @@ pub(crate) fn days_before_month(year: i64, month: u8) -> u16
 }
 
 /// Returns the month and the day of the month of the day that has `days` days of the year before it.
+#[tactic(auto, using(crate::proofs::MarchYears::month_steps))]
 pub(crate) fn month_and_day_in_year(year: i64, days: u16) -> (u8, u8)
     requires { days < days_in_year year }
     ensures date { IsDate year result.0 result.1 }

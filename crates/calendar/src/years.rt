@@ -9,7 +9,7 @@ ghost use Rattle.calendar.specs.Years.{HasDay, days_in_year, first_day};
 use num_integer::Integer;
 
 /// Returns `true` if the year has a 29 February. 2000 and 0 have one, and 1900 and -1 do not.
-#[tactic(auto, unfolding(crate::specs::LeapYears::is_leap_year))]
+#[tactic(auto, using(crate::proofs::YearLengths::multiples), unfolding(crate::specs::LeapYears::is_leap_year, crate::specs::LeapYears::is_multiple))]
 pub fn is_leap_year(year: i64) -> bool
     ensures { result ≡ is_leap_year year }
 {
@@ -22,6 +22,7 @@ pub fn is_leap_year(year: i64) -> bool
 }
 
 /// Returns `true` if the year is a multiple of the number.
+#[tactic(auto, using(crate::proofs::YearLengths::multiples), unfolding(crate::specs::LeapYears::is_multiple))]
 fn is_multiple(year: i64, number: u16) -> bool
     requires { 0 < number }
     ensures { result ≡ is_multiple year number }

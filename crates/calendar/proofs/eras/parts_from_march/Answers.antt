@@ -2,11 +2,8 @@ use Rattle.std.specs.Prelude.{◌+ℤ◌, pos}
 use Rattle.std.proofs.Common.{arith}
 use Rattle.std.proofs.lemmas.Int.{ints, to_z-of_z}
 use Rattle.calendar.proofs.MarchYears.{third_month}
-use Rattle.calendar.proofs.YearLengths.{length_range, next_first_day}
+use Rattle.calendar.proofs.YearLengths.{next_first_day}
 use Rattle.calendar.proofs.eras.parts_from_march.Goals as goal
-
-pub month_and_day-month-requires : goal.month_and_day-month-requires
-month_and_day-month-requires c = omega (arith, c.requires.within, length_range (c.args.year +ℤ pos 1))
 
 pub returns-else-days-lt306 : goal.returns-else-days-lt306
 returns-else-days-lt306 c =

@@ -6,7 +6,6 @@ use Rattle.calendar.specs.IsoWeeks.{IsDayOfIsoWeek}
 use Rattle.calendar.specs.Years.{first_day}
 use Rattle.calendar.specs.Weekday.{weekday_number}
 use Rattle.calendar.proofs.IsoWeeks.{day_of_week, day_or_none, no_day}
-use Rattle.calendar.proofs.YearLengths.{length_range}
 use Rattle.calendar.proofs.date.Date.from_iso_week.Goals as goal
 
 few_days : {days : ℤ} → pos 0 ≤ℤ (days +ℤ pos 6) → days <ℤ pos 372 → FitsSigned w64 days
@@ -14,16 +13,6 @@ few_days from below = omega (arith, ints)
 
 placed : (first place : ℤ) (after : ℕ) {days : ℤ} → days ≡ place -ℤ pos 3 +ℤ pos after → first +ℤ place -ℤ pos 3 +ℤ pos after ≡ first +ℤ days
 placed first place after is = omega (arith, ints)
-
-pub day_of_week-requires-clause-below : goal.day_of_week-requires-clause-below
-day_of_week-requires-clause-below c =
-    let week = c.ranges.week in
-    let first = c.thursday_of_iso_week-thursday.ensures.from in
-    let last = c.thursday_of_iso_week-thursday.ensures.before in
-    let year = c.ranges.year in
-    let fits : FitsSigned w64 c.thursday_of_iso_week-thursday.result = omega (arith, ints) in
-    let inside = (simp to_z-of_z at c.if-is_in_year.ensures).0 refl in
-    simp to_z-of_z (omega (arith, ints, inside, length_range c.args.year))
 
 pub returns-then-is_in_year : goal.returns-then-is_in_year
 returns-then-is_in_year c =

@@ -1,10 +1,9 @@
-use Rattle.std.specs.Prelude.{◌<◌, ℤ, FitsSigned}
+use Rattle.std.specs.Prelude.{ℤ, FitsSigned}
 use Rattle.std.specs.Int.{w64}
 use Rattle.std.proofs.Common.{arith, refl, rules, subst}
 use Rattle.std.proofs.lemmas.Int.{ints, to_z-of_z}
 use Rattle.calendar.specs.Years.{HasDay}
 use Rattle.calendar.proofs.IsoWeeks.{same_thursday, week_of}
-use Rattle.calendar.proofs.YearLengths.{length_range}
 use Rattle.calendar.proofs.date.Date.iso_week.Goals as goal
 
 pub returns-in_err-year-clause-week : goal.returns-in_err-year-clause-week
@@ -16,11 +15,6 @@ returns-in_err-year-clause-week c =
     let none = simp to_z-of_z at c.in_err-year.ensures in
     rw c.from_residual.ensures (λ y week k fits. none y (subst (λ (t : ℤ). HasDay y t) (same_thursday k.of_week c.thursday_of_week.ensures.of_week) k.of_year) fits)
 
-pub overflow_cast-result : goal.overflow_cast-result
-overflow_cast-result c =
-    let days : c.in_ok-year.days < 366 = omega (arith, c.in_ok-year.ensures.0, length_range c.in_ok-year.year) in
-    search rules
-
 pub returns-clause-week : goal.returns-clause-week
 returns-clause-week c =
     let year : FitsSigned w64 c.args.self.now.year = search rules in
@@ -30,6 +24,3 @@ returns-clause-week c =
     let fits : FitsSigned w64 c.thursday_of_week.result = omega (arith, ints) in
     let (within, place) = simp to_z-of_z at c.in_ok-year.ensures in
     simp to_z-of_z (week_of c.thursday_of_week.ensures.of_week within place refl)
-
-pub returns-clause-to_53 : goal.returns-clause-to_53
-returns-clause-to_53 c = omega (arith, c.in_ok-year.ensures.0, length_range c.in_ok-year.year)

@@ -1,18 +1,9 @@
-use Rattle.std.specs.Prelude.{◌≡◌, FitsSigned}
+use Rattle.std.specs.Prelude.{FitsSigned}
 use Rattle.std.specs.Int.{w64}
 use Rattle.std.proofs.Common.{arith, rules}
 use Rattle.std.proofs.lemmas.Int.{to_z-of_z}
-use Rattle.calendar.proofs.DateOrder.{last_of_year, next_month, next_year}
-use Rattle.calendar.specs.Months.{days_in_month}
+use Rattle.calendar.proofs.DateOrder.{last_of_year, next_year}
 use Rattle.calendar.proofs.date.Date.next.Goals as goal
-
-pub returns-then-month-lt12 : goal.returns-then-month-lt12
-returns-then-month-lt12 c =
-    let date = c.args.self.now in
-    let year : FitsSigned w64 date.year = search rules in
-    let days = simp to_z-of_z at c.days_in_month.ensures in
-    let last : date.day_of_month ≡ days_in_month date.year date.month = omega (arith, date.valid.day_to_last) in
-    rw last (simp to_z-of_z (next_month date.year date.month date.valid.month_from_one (omega arith)))
 
 pub returns-in_ok-checked_add : goal.returns-in_ok-checked_add
 returns-in_ok-checked_add c =
