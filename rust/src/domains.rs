@@ -225,6 +225,28 @@ impl<T: NativeInteger> Fits for T {
     fn ends() -> (u128, u128) {
         (wide(T::min_value()), wide(T::max_value()))
     }
+
+    fn next_multiple_fits(&self, other: &T) -> bool {
+        if is_zero(*other) {
+            return false;
+        }
+        let remainder = self.mod_floor(other);
+        is_zero(remainder) || sum_fits(*self, difference(*other, remainder))
+    }
+
+    fn prev_multiple_fits(&self, other: &T) -> bool {
+        !is_zero(*other) && difference_fits(*self, self.mod_floor(other))
+    }
+}
+
+/// Returns `true` if `a + b` fits.
+fn sum_fits<T: NativeInteger>(a: T, b: T) -> bool {
+    a.checked_add(&b).is_some()
+}
+
+/// Returns `true` if `a - b` fits.
+fn difference_fits<T: NativeInteger>(a: T, b: T) -> bool {
+    a.checked_sub(&b).is_some()
 }
 
 /// Returns `true` if this is -1, the only divisor whose quotient may not fit.

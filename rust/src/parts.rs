@@ -3,8 +3,21 @@
 
 /// Returns `true` if `a + b` lies in a range that has `a`.
 pub(crate) fn sum_is_within(a: (bool, u128), b: (bool, u128), ends: (u128, u128)) -> bool {
-    let end = if b.0 { ends.0 } else { ends.1 };
-    b.1 <= if a.0 == b.0 { end - a.1 } else { end + a.1 }
+    b.1 <= room(a, b.0, ends)
+}
+
+/// Returns the distance of `a` from the end of its range, the lower one if `down`. In a range of 64
+/// bits it is computed in 64 bits.
+fn room(a: (bool, u128), down: bool, ends: (u128, u128)) -> u128 {
+    let end = if down { ends.0 } else { ends.1 };
+    if ends.0 + ends.1 <= u128::from(u64::MAX) {
+        let (end, size) = (end as u64, a.1 as u64);
+        u128::from(if a.0 == down { end - size } else { end + size })
+    } else if a.0 == down {
+        end - a.1
+    } else {
+        end + a.1
+    }
 }
 
 /// Returns `true` if `a * b` lies in a range.

@@ -4,12 +4,10 @@ use Rattle.std.proofs.Common.{arith, inl, inr, subst, sym, ap, ◌∙◌}
 use Rattle.std.proofs.lemmas.Int.{unsigned_abs-mul}
 use Rattle.integer_core.proofs.CommonDivisors.{gcd-mul-lcm, gcd-nonzero, lcm-zero, lcm_exists, only_lcm}
 use Rattle.integer_core.proofs.Divisibility.{Divides-trans, cancel, exact_quotient}
-use Rattle.integer_core.proofs.Multiples.{only_multiple}
 use Rattle.integer_core.proofs.Whole.{linear, left_comm, sizes}
-use Rattle.integer_core.specs.Division.{IsMultiple}
 use Rattle.integer_core.specs.Divisors.{IsGreatestCommonDivisor, IsLeastCommonMultiple}
 use Rattle.integer_core.specs.Range.{EachFits, IsRange}
-use Rattle.num_integer.proofs.FittingAnswers.{IsKind, each_fits, each_fits_by, fits_below, test_inside}
+use Rattle.num_integer.proofs.FittingAnswers.{each_fits, fits_below, test_inside}
 use Rattle.num_integer.proofs.ForCallers.{divisor_at_most, lcm-positive, product_from_zero}
 use Rattle.num_integer.specs.Checked.{AnswersWhere}
 use Rattle.num_integer.specs.Parts.{IsWithin}
@@ -23,12 +21,6 @@ answers_as None same each none = λ e. none (same.1 e)
 pub answers_only : (fits P : ℤ → Type 0) {X : Type 0} (value : X → ℤ) {z : ℤ} (r : Option X) → P z → ((y : ℤ) → P y → z ≡ y)
     → AnswersWhere (fits z) (λ x. fits (value x) × (value x ≡ z)) r → AnswersWhere (EachFits fits P) (λ x. fits (value x) × P (value x)) r
 answers_only fits P value r own only = answers_as r (each_fits {fits = fits} {P = P} own only (λ f. f, λ f. f)) (λ x is. (is.0, subst P (sym is.1) own))
-
--- the same of a multiple by a divisor that is not 0
-pub answers_multiple : (fits : ℤ → Type 0) {X : Type 0} (value : X → ℤ) {Kind : ℤ → ℤ → ℤ → ℤ → Type 0} {n d z : ℤ} (r : Option X) → IsKind Kind → d ≢ pos 0 → IsMultiple Kind n d z
-    → AnswersWhere (fits z) (λ x. fits (value x) × (value x ≡ z)) r → AnswersWhere ((d ≢ pos 0) × EachFits fits (IsMultiple Kind n d)) (λ x. fits (value x) × IsMultiple Kind n d (value x)) r
-answers_multiple fits value {Kind} {n} {d} r kind nonzero own =
-    answers_as r (each_fits_by nonzero own (λ k is. sym (only_multiple (λ q r p s. kind.only) own k is)) (λ f. f, λ f. f)) (λ x is. (is.0, subst (IsMultiple Kind n d) (sym is.1) own))
 
 -- ---- products by their magnitudes
 

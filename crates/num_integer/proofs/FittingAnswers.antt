@@ -1,5 +1,5 @@
 -- Where the results of calls fit, in the words of the tests of `Fits`.
-use Rattle.std.specs.Prelude.{◌≡◌, ◌≢◌, ◌↔◌, ◌≤◌, ◌<◌, ◌^◌, ◌≤ℤ◌, ℕ, ℤ, pos, IsTrue, nat_le, ◌⊎◌, ◌<ℤ◌, ◌-ℤ◌, negsuc, neg_ℤ, unsigned_abs, Bool, true, false, not, ◌*◌, ◌/◌, min, max}
+use Rattle.std.specs.Prelude.{◌≡◌, ◌≢◌, ◌↔◌, ◌≤◌, ◌<◌, ◌^◌, ◌≤ℤ◌, ℕ, ℤ, pos, IsTrue, nat_le, ◌⊎◌, ◌<ℤ◌, negsuc, neg_ℤ, unsigned_abs, Bool, true, false, not, ◌*◌, ◌/◌, min, max}
 use Rattle.std.proofs.Common.{arith, inl, inr, subst, refl, sym, ap, ◌∙◌}
 use Rattle.std.proofs.Math.Nat.{pow-le-pow_right}
 use Rattle.std.proofs.lemmas.Bool.{cases_lt, le-leb, leb-true, iff_false}
@@ -98,19 +98,6 @@ signed_is {negative = false} sign size = let up = from_test sign refl in omega (
 pub signed-not : (negative : Bool) (magnitude : ℕ) {z : ℤ} → signed negative magnitude ≡ z → signed (not negative) magnitude ≡ neg_ℤ z
 signed-not true magnitude e = omega (arith, linear)
 signed-not false magnitude e = omega (arith, linear)
-
--- a number on the side of another is given by the sign of that one
-pub signed_beside : {negative : Bool} {magnitude : ℕ} {y z : ℤ} → IsTrue negative ↔ (y <ℤ pos 0) → (y <ℤ pos 0 → z ≤ℤ pos 0) × (pos 0 ≤ℤ y → pos 0 ≤ℤ z) → magnitude ≡ unsigned_abs z → signed negative magnitude ≡ z
-signed_beside {negative = true} sign side size = let below = side.0 (sign.0 refl) in omega (arith, linear, abs_is)
-signed_beside {negative = false} sign side size = let above = side.1 (from_test sign refl) in omega (arith, linear, abs_is)
-
--- a floored remainder lies on the side of the divisor
-pub remainder_beside : {n d q r : ℤ} → IsFloored n d q r → (d <ℤ pos 0 → r ≤ℤ pos 0) × (pos 0 ≤ℤ d → pos 0 ≤ℤ r)
-remainder_beside h = (λ below. omega (arith, linear, abs_is, h.sign), λ above. omega (arith, linear, abs_is, h.sign, h.division.small))
-
--- what it leaves of the divisor lies there too
-pub gap_beside : {n d q r : ℤ} → IsFloored n d q r → (d <ℤ pos 0 → (d -ℤ r) ≤ℤ pos 0) × (pos 0 ≤ℤ d → pos 0 ≤ℤ (d -ℤ r))
-gap_beside h = (λ below. omega (arith, linear, abs_is, h.sign, h.division.small), λ above. omega (arith, linear, abs_is, h.sign, h.division.small))
 
 module _ {fits : ℤ → Type 0} {low high : ℤ} {least most : ℕ} (range : IsRange fits low high) (bottom : least ≡ unsigned_abs low) (top : pos most ≡ high) where
   -- a number fits where it lies between the ends

@@ -1,6 +1,6 @@
 //! Tests of the domains of the calls.
 
-ghost use Rattle.std.specs.Prelude.{◌≡◌, ◌≢◌, ◌↔◌, ◌≤ℤ◌, ◌<ℤ◌, pos, negsuc, unsigned_abs, map, IsTrue};
+ghost use Rattle.std.specs.Prelude.{◌≡◌, ◌≢◌, ◌↔◌, ◌≤ℤ◌, ◌<ℤ◌, ◌+ℤ◌, ◌-ℤ◌, pos, negsuc, unsigned_abs, map, IsTrue};
 ghost use Rattle.std.specs.List.{All};
 ghost use Rattle.integer_core.specs.Division.{EachKind, IsCeiled, IsFloored, IsMultiple, IsQuotient};
 ghost use Rattle.integer_core.specs.Divisors.{IsGreatestCommonDivisor, IsLeastCommonMultiple};
@@ -179,6 +179,32 @@ impl<T: NativeInteger> Fits for T {
     fn ends() -> (u128, u128) {
         (wide(T::min_value()), wide(T::max_value()))
     }
+
+    fn next_multiple_fits(&self, other: &T) -> bool {
+        if is_zero(*other) {
+            return false;
+        }
+        let remainder = self.mod_floor(other);
+        is_zero(remainder) || sum_fits(*self, difference(*other, remainder))
+    }
+
+    fn prev_multiple_fits(&self, other: &T) -> bool {
+        !is_zero(*other) && difference_fits(*self, self.mod_floor(other))
+    }
+}
+
+/// Returns `true` if `a + b` fits.
+fn sum_fits<T: NativeInteger>(a: T, b: T) -> bool
+    ensures { IsTrue result ↔ T.fits (T.value a +ℤ T.value b) }
+{
+    a.checked_add(&b).is_some()
+}
+
+/// Returns `true` if `a - b` fits.
+fn difference_fits<T: NativeInteger>(a: T, b: T) -> bool
+    ensures { IsTrue result ↔ T.fits (T.value a -ℤ T.value b) }
+{
+    a.checked_sub(&b).is_some()
 }
 
 /// Returns `true` if this is -1, the only divisor whose quotient may not fit.

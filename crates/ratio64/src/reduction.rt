@@ -1,11 +1,11 @@
 //! The lowest terms of a fraction of wide parts.
 
-ghost use Rattle.std.specs.Prelude.{◌≡◌, ◌<◌, ◌≤◌, ◌^◌, ℤ, unsigned_abs, FitsSigned, MatchOption, MatchResult};
+ghost use Rattle.std.specs.Prelude.{◌≡◌, ◌↔◌, ◌<◌, ◌≤◌, ◌^◌, ◌<ℤ◌, ℤ, pos, unsigned_abs, FitsSigned, IsTrue, MatchOption, MatchResult};
 ghost use Rattle.std.specs.Int.{w64};
-ghost use Rattle.ratio64.specs.Fraction.{IsFraction, IsExact, IsOutsideI64};
+ghost use Rattle.ratio64.specs.Fraction.{AreEqual, IsFraction, IsExact, IsOutsideI64};
 
 use crate::RatioError;
-use num_integer::operators::{is_below, is_negative, negated, one, quotient};
+use num_integer::operators::{is_below, is_negative, is_zero, negated, one, quotient};
 use num_integer::{Integer, gcd};
 
 /// Returns the parts of the reduced fraction that is equal to `num / den`, or `NotFitting` where they
@@ -36,15 +36,44 @@ fn reduced_terms<T: Integer>(num: T, den: T) -> (T, T)
     ensures in_range { T.fits (T.value result.0) × T.fits (T.value result.1) }
     ensures exact { IsExact (T.value num) (T.value den) (T.value result.0) (T.value result.1) }
 {
+    if is_zero(num) {
+        return (num, one());
+    }
+    if is_same(num, den) {
+        return (one(), one());
+    }
+    let (num, den) = above_zero(num, den);
     let common = gcd(num, den);
-    if is_negative(den) {
-        let divisor = negated(common);
-        (quotient(num, divisor), quotient(den, divisor))
-    } else if is_below(one(), common) {
+    if is_below(one(), common) {
         (quotient(num, common), quotient(den, common))
     } else {
         (num, den)
     }
+}
+
+/// Returns the parts of the equal fraction of the same size whose denominator is above 0.
+///
+/// May be called where [`reduced_terms`] may.
+fn above_zero<T: Integer>(num: T, den: T) -> (T, T)
+    requires num_sizes { (z : ℤ) → unsigned_abs z ≤ unsigned_abs (T.value num) → T.fits z }
+    requires den_sizes { (z : ℤ) → unsigned_abs z ≤ unsigned_abs (T.value den) → T.fits z }
+    requires fraction { IsFraction (T.value num) (T.value den) }
+    ensures sizes { (unsigned_abs (T.value result.0) ≡ unsigned_abs (T.value num))
+        × (unsigned_abs (T.value result.1) ≡ unsigned_abs (T.value den)) }
+    ensures positive { pos 0 <ℤ T.value result.1 }
+    ensures equal { AreEqual (T.value result.0) (T.value result.1) (T.value num) (T.value den) }
+{
+    if is_negative(den) {
+        (negated(num), negated(den))
+    } else {
+        (num, den)
+    }
+}
+
+fn is_same<T: Integer>(a: T, b: T) -> bool
+    ensures { IsTrue result ↔ (T.value a ≡ T.value b) }
+{
+    a == b
 }
 
 /// Returns the number in 64 bits, where its negation has no more.

@@ -1,8 +1,7 @@
 //! Division, without a condition.
 
-use crate::checked::operators::moved_fits;
 use crate::domains::Fits;
-use crate::integer_core::operators::{difference, is_negative, is_zero, sum};
+use crate::integer_core::operators::is_zero;
 
 /// Returns [`Integer::div_rem`](crate::Integer::div_rem), the quotient rounded toward zero and its remainder, or `None` for a
 /// divisor 0 and for the least number by -1 where its negation does not fit. `div_rem(-8, 3)` is
@@ -143,13 +142,8 @@ pub fn div_ceil<T: Fits>(x: T, y: T) -> Option<T> {
 /// [`IsMultiple`](crate::definitions::integer_core#ismultiple),
 /// [`IsCeiled`](crate::definitions::integer_core#isceiled), [how to read it](crate::definitions).
 pub fn next_multiple_of<T: Fits>(x: T, y: T) -> Option<T> {
-    let remainder = mod_floor(x, y)?;
-    if is_zero(remainder) {
-        return Some(x);
-    }
-    let gap = difference(y, remainder);
-    if moved_fits(x, is_negative(y), gap) {
-        Some(sum(x, gap))
+    if x.next_multiple_fits(&y) {
+        Some(x.next_multiple_of(&y))
     } else {
         None
     }
@@ -172,9 +166,8 @@ pub fn next_multiple_of<T: Fits>(x: T, y: T) -> Option<T> {
 /// [`IsMultiple`](crate::definitions::integer_core#ismultiple),
 /// [`IsFloored`](crate::definitions::integer_core#isfloored), [how to read it](crate::definitions).
 pub fn prev_multiple_of<T: Fits>(x: T, y: T) -> Option<T> {
-    let remainder = mod_floor(x, y)?;
-    if moved_fits(x, !is_negative(y), remainder) {
-        Some(difference(x, remainder))
+    if x.prev_multiple_fits(&y) {
+        Some(x.prev_multiple_of(&y))
     } else {
         None
     }

@@ -133,12 +133,6 @@ fn sum_fits<T: Fits>(a: T, b: T) -> bool {
     sum_is_within(a.parts(), b.parts(), T::ends())
 }
 
-/// Returns `true` if `a` fits once it is moved by the magnitude of `b`, down if `negative`.
-pub(super) fn moved_fits<T: Fits>(a: T, negative: bool, b: T) -> bool {
-    let (_, magnitude) = b.parts();
-    sum_is_within(a.parts(), (negative, magnitude), T::ends())
-}
-
 /// Returns `true` if `a - b` fits.
 fn difference_fits<T: Fits>(a: T, b: T) -> bool {
     let (negative, magnitude) = b.parts();

@@ -1,6 +1,6 @@
 //! The lowest terms of a fraction of wide parts.
 
-use crate::operators::{is_below, is_negative, negated, one, quotient};
+use crate::operators::{is_below, is_negative, is_zero, negated, one, quotient};
 use crate::ratio64::RatioError;
 use crate::{gcd, Integer};
 
@@ -20,15 +20,34 @@ pub(crate) fn lowest_terms(num: i128, den: i128) -> Result<(i64, i64), RatioErro
 ///
 /// May be called where each number of no greater magnitude than a part fits.
 fn reduced_terms<T: Integer>(num: T, den: T) -> (T, T) {
+    if is_zero(num) {
+        return (num, one());
+    }
+    if is_same(num, den) {
+        return (one(), one());
+    }
+    let (num, den) = above_zero(num, den);
     let common = gcd(num, den);
-    if is_negative(den) {
-        let divisor = negated(common);
-        (quotient(num, divisor), quotient(den, divisor))
-    } else if is_below(one(), common) {
+    if is_below(one(), common) {
         (quotient(num, common), quotient(den, common))
     } else {
         (num, den)
     }
+}
+
+/// Returns the parts of the equal fraction of the same size whose denominator is above 0.
+///
+/// May be called where [`reduced_terms`] may.
+fn above_zero<T: Integer>(num: T, den: T) -> (T, T) {
+    if is_negative(den) {
+        (negated(num), negated(den))
+    } else {
+        (num, den)
+    }
+}
+
+fn is_same<T: Integer>(a: T, b: T) -> bool {
+    a == b
 }
 
 /// Returns the number in 64 bits, where its negation has no more.

@@ -5,9 +5,8 @@ ghost use Rattle.integer_core.specs.Division.{IsCeiled, IsFloored, IsMultiple, I
 ghost use Rattle.integer_core.specs.Range.{EachFits};
 ghost use Rattle.num_integer.specs.Checked.{AnswersWhere};
 
-use crate::checked::operators::moved_fits;
 use crate::domains::Fits;
-use integer_core::operators::{difference, is_negative, is_zero, sum};
+use integer_core::operators::is_zero;
 
 /// Returns [`Integer::div_rem`], the quotient rounded toward zero and its remainder, or `None` for a
 /// divisor 0 and for the least number by -1 where its negation does not fit. `div_rem(-8, 3)` is
@@ -107,13 +106,8 @@ pub fn next_multiple_of<T: Fits>(x: T, y: T) -> Option<T>
         (λ m. T.fits (T.value m) × IsMultiple IsCeiled (T.value x) (T.value y) (T.value m))
         result }
 {
-    let remainder = mod_floor(x, y)?;
-    if is_zero(remainder) {
-        return Some(x);
-    }
-    let gap = difference(y, remainder);
-    if moved_fits(x, is_negative(y), gap) {
-        Some(sum(x, gap))
+    if x.next_multiple_fits(&y) {
+        Some(x.next_multiple_of(&y))
     } else {
         None
     }
@@ -129,9 +123,8 @@ pub fn prev_multiple_of<T: Fits>(x: T, y: T) -> Option<T>
         (λ m. T.fits (T.value m) × IsMultiple IsFloored (T.value x) (T.value y) (T.value m))
         result }
 {
-    let remainder = mod_floor(x, y)?;
-    if moved_fits(x, !is_negative(y), remainder) {
-        Some(difference(x, remainder))
+    if x.prev_multiple_fits(&y) {
+        Some(x.prev_multiple_of(&y))
     } else {
         None
     }

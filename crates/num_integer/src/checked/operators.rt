@@ -1,8 +1,7 @@
 //! Sums, differences and products, without a condition.
 
-ghost use Rattle.std.specs.Prelude.{◌≡◌, ◌↔◌, ◌+ℤ◌, ◌-ℤ◌, ◌*ℤ◌, pos, neg_ℤ, unsigned_abs, IsTrue};
+ghost use Rattle.std.specs.Prelude.{◌≡◌, ◌↔◌, ◌+ℤ◌, ◌-ℤ◌, ◌*ℤ◌, pos, neg_ℤ, IsTrue};
 ghost use Rattle.num_integer.specs.Checked.{AnswersWhere};
-ghost use Rattle.num_integer.specs.Parts.{signed};
 
 use crate::domains::Fits;
 use crate::parts::{product_is_within, sum_is_within};
@@ -106,16 +105,6 @@ fn sum_fits<T: Fits>(a: T, b: T) -> bool
     ensures { IsTrue result ↔ T.fits (T.value a +ℤ T.value b) }
 {
     sum_is_within(a.parts(), b.parts(), T::ends())
-}
-
-/// Returns `true` if `a` fits once it is moved by the magnitude of `b`, down if `negative`.
-pub(super) fn moved_fits<T: Fits>(a: T, negative: bool, b: T) -> bool
-    requires a_in_range { T.fits (T.value a) }
-    requires b_in_range { T.fits (T.value b) }
-    ensures { IsTrue result ↔ T.fits (T.value a +ℤ signed negative (unsigned_abs (T.value b))) }
-{
-    let (_, magnitude) = b.parts();
-    sum_is_within(a.parts(), (negative, magnitude), T::ends())
 }
 
 /// Returns `true` if `a - b` fits.

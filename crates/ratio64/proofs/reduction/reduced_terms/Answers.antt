@@ -1,21 +1,34 @@
-use Rattle.std.proofs.Common.{arith, inl, inr, refl}
+use Rattle.std.specs.Prelude.{pos}
+use Rattle.std.proofs.Common.{arith, inr, refl}
 use Rattle.num_integer.proofs.FittingAnswers.{from_test}
-use Rattle.num_integer.proofs.ForCallers.{divisor_size, linear}
-use Rattle.ratio64.proofs.ExactResults.{coprime_is_exact, exact_quotients}
+use Rattle.num_integer.proofs.ForCallers.{divisor_size, linear, products}
+use Rattle.ratio64.proofs.ExactResults.{coprime_is_exact, exact_quotients, same_result}
+use Rattle.ratio64.proofs.ForCallers.{positive_is_nonzero, whole_is_exact}
 use Rattle.ratio64.proofs.reduction.reduced_terms.Goals as goal
 
-pub gcd-common-requires-clause-gcd_fits : goal.gcd-common-requires-clause-gcd_fits
-gcd-common-requires-clause-gcd_fits g c = λ _ z h. c.requires.den_sizes z (divisor_size h.divides_right c.requires.fraction)
+pub returns-then-is_zero-clause-exact : goal.returns-then-is_zero-clause-exact
+returns-then-is_zero-clause-exact g c =
+    rw (c.is_zero.ensures.0 c.if-is_zero.true, c.one.ensures.value) (same_result c.requires.fraction (record { cross = omega (arith, products) }) (whole_is_exact (pos 0)))
 
-pub returns-then-is_negative-clause-exact : goal.returns-then-is_negative-clause-exact
-returns-then-is_negative-clause-exact g c =
-    rw (c.quotient.ensures.value, c.quotient-then-is_negative.ensures.value) (exact_quotients c.requires.fraction c.gcd-common.ensures.greatest (record { sign = inl (c.is_negative.ensures.0 c.if-is_negative.true, c.negated-divisor.ensures.value) }))
+pub returns-then-is_same-clause-exact : goal.returns-then-is_same-clause-exact
+returns-then-is_same-clause-exact g c =
+    let same = c.is_same.ensures.0 c.if-is_same.true in
+    rw (c.one-then-is_same.ensures.value, c.one-then-is_same-2.ensures.value) (same_result c.requires.fraction (record { cross = omega (arith, products, same) }) (whole_is_exact (pos 1)))
+
+pub gcd-common-requires-clause-gcd_fits : goal.gcd-common-requires-clause-gcd_fits
+gcd-common-requires-clause-gcd_fits g c =
+    let turned = c.above_zero-num.ensures in
+    λ _ z h. c.requires.den_sizes z (rw turned.sizes.1 at (divisor_size h.divides_right (positive_is_nonzero turned.positive)))
 
 pub returns-then-is_below-clause-exact : goal.returns-then-is_below-clause-exact
 returns-then-is_below-clause-exact g c =
-    rw (c.quotient-then-is_below.ensures.value, c.quotient-then-is_below-2.ensures.value) (exact_quotients c.requires.fraction c.gcd-common.ensures.greatest (record { sign = inr (from_test c.is_negative.ensures c.if-is_negative.false, refl) }))
+    let turned = c.above_zero-num.ensures in
+    let own = exact_quotients (positive_is_nonzero turned.positive) c.gcd-common.ensures.greatest (record { sign = inr (omega (arith, linear, turned.positive), refl) }) in
+    rw (c.quotient.ensures.value, c.quotient-then-is_below.ensures.value) (same_result c.requires.fraction turned.equal own)
 
 pub returns-else-is_below-clause-exact : goal.returns-else-is_below-clause-exact
 returns-else-is_below-clause-exact g c =
+    let turned = c.above_zero-num.ensures in
     let small = from_test c.is_below.ensures c.if-is_below.false in
-    coprime_is_exact c.requires.fraction (from_test c.is_negative.ensures c.if-is_negative.false) c.gcd-common.ensures.greatest (omega (arith, linear, small, c.one.ensures.value))
+    let own = coprime_is_exact (positive_is_nonzero turned.positive) (omega (arith, linear, turned.positive)) c.gcd-common.ensures.greatest (omega (arith, linear, small, c.one-2.ensures.value)) in
+    same_result c.requires.fraction turned.equal own
