@@ -170,6 +170,15 @@ nearest_by {n} {a} {d} {max} {b} {g} up most own near tie = record {
 -- ---- between two neighbours
 
 module _ {n : ℤ} {d max : ℕ} {a : ℤ} {b g : ℕ} {c : ℤ} {e h : ℕ} (beside : AreBeside n d max a b g c e h) where
+  b_up : pos 0 <ℤ pos b
+  b_up = natural_up beside.positive.1
+
+  e_up : pos 0 <ℤ pos e
+  e_up = natural_up beside.positive.2
+
+  past_both : (u : ℤ) (v : ℕ) → (a *ℤ pos v -ℤ u *ℤ pos b) *ℤ pos e +ℤ (u *ℤ pos e -ℤ c *ℤ pos v) *ℤ pos b ≡ neg_ℤ (pos v)
+  past_both u v = both_sides a (pos b) c (pos e) u (pos v) beside.adjacent
+
   -- so it lies past one of them
   one_past : (u : ℤ) (v : ℕ) → 0 < v → v ≤ max
       → LiesPast d v g b (unsigned_abs (n *ℤ pos v -ℤ u *ℤ pos d)) (a *ℤ pos v -ℤ u *ℤ pos b)
@@ -181,7 +190,7 @@ module _ {n : ℤ} {d max : ℕ} {a : ℤ} {b g : ℕ} {c : ℤ} {e h : ℕ} (be
       by_lt_z (a *ℤ pos v -ℤ u *ℤ pos b) (pos 0)
       (λ under.
       let over = some_past {i = a *ℤ pos v -ℤ u *ℤ pos b} {j = u *ℤ pos e -ℤ c *ℤ pos v} {b = pos b} {e = pos e} {v = pos v}
-      (natural_up beside.positive.1) (natural_up beside.positive.2) (natural_less v b e (omega arith)) (both_sides a (pos b) c (pos e) u (pos v) beside.adjacent) under in
+      b_up e_up (natural_less v b e (omega arith)) (past_both u v) under in
       inr (rw (distance_symmetric (n *ℤ pos v) (u *ℤ pos d)) (past d v h e _ _ above over)))
       (λ over. inl (past d v g b _ _ below over))
 
@@ -202,10 +211,8 @@ module _ {n : ℤ} {d max : ℕ} {a : ℤ} {b g : ℕ} {c : ℤ} {e h : ℕ} (be
   tie_below : (u : ℤ) (v : ℕ) → g * e ≤ h * b → (g * e ≡ h * b → b ≤ e) → 0 < v → v ≤ max
       → g * v ≡ gap n (pos d) u (pos v) * b → (pos b ≤ℤ pos v) × (pos v ≡ pos b → a ≤ℤ u)
   tie_below u v near smaller up most tie =
-      let b_up = natural_up beside.positive.1 in
-      let e_up = natural_up beside.positive.2 in
       let v_up = natural_up up in
-      let sum = both_sides a (pos b) c (pos e) u (pos v) beside.adjacent in
+      let sum = past_both u v in
       elim (one_past u v up most) [
         | inl p ↦
             let level = near_tie beside.positive.0 p tie in
@@ -228,10 +235,8 @@ module _ {n : ℤ} {d max : ℕ} {a : ℤ} {b g : ℕ} {c : ℤ} {e h : ℕ} (be
   tie_above : (u : ℤ) (v : ℕ) → h * b ≤ g * e → (h * b ≡ g * e → e < b) → 0 < v → v ≤ max
       → h * v ≡ gap n (pos d) u (pos v) * e → (pos e ≤ℤ pos v) × (pos v ≡ pos e → c ≤ℤ u)
   tie_above u v near smaller up most tie =
-      let b_up = natural_up beside.positive.1 in
-      let e_up = natural_up beside.positive.2 in
       let v_up = natural_up up in
-      let sum = both_sides a (pos b) c (pos e) u (pos v) beside.adjacent in
+      let sum = past_both u v in
       elim (one_past u v up most) [
         | inl p ↦
             let level = far_tie h e beside.positive.0 beside.positive.2 up near p tie in

@@ -118,3 +118,8 @@ narrowed_answer (Some q) own only is = (λ y h. subst (FitsSigned w64) (sym (onl
 -- a kind of division has one quotient
 pub quotient_is_only : {Kind : ℤ → ℤ → ℤ → ℤ → Type 0} {n d q : ℤ} → ((n d q r : ℤ) → Kind n d q r → IsOnly (λ (p, s). Kind n d p s) (q, r)) → IsQuotient Kind n d q → IsOnly (IsQuotient Kind n d) q
 quotient_is_only only h p k = ap (λ (t : ℤ × ℤ). t.0) (only _ _ _ _ h.division (p, k.remainder) k.division)
+
+-- so it answers where it is the quotient of a kind
+pub narrowed_quotient : {Kind : ℤ → ℤ → ℤ → ℤ → Type 0} {n d q : ℤ} (r : Option ℤ) → ((n d q r : ℤ) → Kind n d q r → IsOnly (λ (p, s). Kind n d p s) (q, r)) → IsQuotient Kind n d q
+    → MatchOption r (¬ (FitsSigned w64 q)) (λ p. (p ≡ q) × FitsSigned w64 q) → AnswersWhere (EachFits (FitsSigned w64) (IsQuotient Kind n d)) (IsQuotient Kind n d) r
+narrowed_quotient r only own is = narrowed_answer r own (quotient_is_only only own) is

@@ -23,9 +23,6 @@ first_neighbours {n} {d} {max} up above proper lowest =
 pub above_closer : {n d max : ℕ} {x y z : Neighbour} → AreNeighbours n d max x y → IsCloser max y x z → AreNeighbours n d max x z
 above_closer {n} {d} {max} {x} {y} {z} h s =
     let below = ap (λ (t : ℕ). s.steps * t) h.from_below in
-    let above = h.from_above in
-    let adjacent = h.adjacent in
-    let gap = s.gap in
     record {
       from_below = h.from_below;
       from_above = rw (s.num, s.den) (omega arith);
@@ -40,9 +37,6 @@ above_closer {n} {d} {max} {x} {y} {z} h s =
 pub below_closer : {n d max : ℕ} {x y z : Neighbour} → AreNeighbours n d max x y → IsCloser max x y z → AreNeighbours n d max z y
 below_closer {n} {d} {max} {x} {y} {z} h s =
     let above = ap (λ (t : ℕ). s.steps * t) h.from_above in
-    let below = h.from_below in
-    let adjacent = h.adjacent in
-    let gap = s.gap in
     record {
       from_below = rw (s.num, s.den) (omega arith);
       from_above = h.from_above;

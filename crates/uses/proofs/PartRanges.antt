@@ -49,6 +49,18 @@ size_from_zero {parts} {size = size} up from_zero equation below = by_lt_z size 
     (λ under. absurd (omega (arith, products, multiples_apart size (pos 0) parts up under)))
     (λ fine. fine)
 
+-- it begins and ends where the items are cut
+range_at : {parts items first end : ℤ} (size longer part : ℤ) → IsEvenCut parts items (cut_at size longer) → first ≤ℤ end → end ≤ℤ items → first ≡ cut_at size longer part → end ≡ cut_at size longer (part +ℤ pos 1)
+    → IsRangeOfPart part parts items first end
+range_at size longer part even ordered within begins ends = record {
+  ordered = ordered;
+  to_items = within;
+  cut = cut_at size longer;
+  even = even;
+  begins = begins;
+  ends = ends;
+}
+
 -- one of the first parts, which have one item more
 pub record IsLongerPart (part parts items size : ℤ) : Type 0 where
   pub begins : pos 0 ≤ℤ (part *ℤ size)
@@ -70,14 +82,7 @@ longer_part {parts} {items} {size} {longer} {part} from_zero division part_up wi
       begins = begins;
       larger = omega (arith, linear);
       ends = ends;
-      range = record {
-        ordered = omega (arith, linear);
-        to_items = ends;
-        cut = cut_at size longer;
-        even = even_cut equation range.0 range.1;
-        begins = omega (arith, linear, clamps);
-        ends = omega (arith, linear, clamps);
-      };
+      range = range_at size longer part (even_cut equation range.0 range.1) (omega (arith, linear)) ends (omega (arith, linear, clamps)) (omega (arith, linear, clamps));
     }
 
 -- one of the others
@@ -102,14 +107,7 @@ shorter_part {parts} {items} {size} {longer} {part} from_zero division part_up w
       later = range.0;
       size_up = size_up;
       ends = ends;
-      range = record {
-        ordered = omega (arith, linear);
-        to_items = ends;
-        cut = cut_at size longer;
-        even = even_cut equation range.0 range.1;
-        begins = omega (arith, linear, clamps);
-        ends = omega (arith, linear, clamps);
-      };
+      range = range_at size longer part (even_cut equation range.0 range.1) (omega (arith, linear)) ends (omega (arith, linear, clamps)) (omega (arith, linear, clamps));
     }
 
 -- ---- the only range

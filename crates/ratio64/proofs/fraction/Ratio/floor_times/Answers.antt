@@ -1,15 +1,10 @@
-use Rattle.std.specs.Prelude.{◌*ℤ◌}
 use Rattle.std.proofs.Common.{rules}
 use Rattle.std.proofs.lemmas.Int.{to_z-of_z}
 use Rattle.num_integer.proofs.Laws.{division_is_only}
-use Rattle.num_integer.specs.Division.{IsFloored, IsQuotient}
-use Rattle.ratio64.proofs.NearestNumbers.{narrowed_answer, quotient_is_only}
-use Rattle.ratio64.specs.Ratio.{den_of, num_of}
+use Rattle.ratio64.proofs.NearestNumbers.{narrowed_quotient}
 use Rattle.ratio64.proofs.fraction.Ratio.floor_times.Goals as goal
 
 pub returns : goal.returns
 returns c =
-    let x = c.args.self.now in
     let wide = c.div_floor.ensures.in_range in
-    let own : IsQuotient IsFloored (num_of x *ℤ c.args.n) (den_of x) c.div_floor.result = search rules in
-    narrowed_answer c.at_64_bits.result own (quotient_is_only division_is_only.1 own) (simp to_z-of_z at c.at_64_bits.ensures)
+    narrowed_quotient {q = c.div_floor.result} c.at_64_bits.result division_is_only.1 (search rules) (simp to_z-of_z at c.at_64_bits.ensures)
