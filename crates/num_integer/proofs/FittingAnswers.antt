@@ -11,8 +11,7 @@ use Rattle.integer_core.proofs.EuclidTurns.{divisor_size}
 use Rattle.integer_core.proofs.Multiples.{only_multiple}
 use Rattle.integer_core.proofs.Quotients.{only_ceiled, only_floored, only_truncated, floored_by_minus_one, other_quotient_fits}
 use Rattle.integer_core.proofs.Ranges.{within_fits}
-use Rattle.integer_core.proofs.Whole.{from_not_less}
-use Rattle.integer_core.proofs.Whole.{linear}
+use Rattle.integer_core.proofs.Whole.{from_not_less, linear, sizes}
 use Rattle.integer_core.specs.Division.{EachKind, IsCeiled, IsDivision, IsFloored, IsTruncated, IsQuotient, IsMultiple}
 use Rattle.integer_core.specs.Divisors.{IsGreatestCommonDivisor, IsLeastCommonMultiple}
 use Rattle.integer_core.specs.Range.{IsRange, EachFits}
@@ -49,6 +48,18 @@ few_bits t c range h power = elim (cases_lt t 128) [
   | inl few ↦ few
   | inr many ↦ absurd (omega (arith, ints, (range.between (pos c)).0 h, pow-le-pow_right {n = 2} (omega arith) many))
 ]
+
+-- by a number above 0 each quotient fits
+pub quotients_by_positive : {fits : ℤ → Type 0} {low high n d : ℤ} {answer : Bool} → IsRange fits low high → fits n → fits d
+    → EachKind (λ Kind. IsTrue answer ↔ ((d ≢ pos 0) × EachFits fits (IsQuotient Kind n d))) → pos 0 <ℤ d → IsTrue answer
+quotients_by_positive range n_fits d_fits test up =
+    test.0.1 (λ none. omega (arith, linear), λ q h. other_quotient_fits range n_fits d_fits (λ e. omega (arith, linear)) h.division.division)
+
+-- and each greatest common divisor with one
+pub gcd_with_positive : {fits : ℤ → Type 0} {low high a b : ℤ} {answer : Bool} → IsRange fits low high → fits b
+    → IsTrue answer ↔ EachFits fits (IsGreatestCommonDivisor a b) → pos 0 <ℤ b → IsTrue answer
+gcd_with_positive range b_fits test up =
+    test.1 (λ g h. fits_below range b_fits h.from_zero (omega (arith, sizes, divisor_size h.divides_right (λ none. omega (arith, linear)))))
 
 -- ---- what the three kinds of division share
 

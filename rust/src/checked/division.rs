@@ -10,11 +10,12 @@ use crate::integer_core::operators::is_zero;
 /// # Proved
 ///
 /// ```text
-/// ensures { AnswersWhere
+/// ensures answer { AnswersWhere
 ///     ((T.value y ≢ pos 0) × EachFits T.fits (IsQuotient IsTruncated (T.value x) (T.value y)))
 ///     (λ r. T.fits (T.value r.0) × T.fits (T.value r.1)
 ///     × IsTruncated (T.value x) (T.value y) (T.value r.0) (T.value r.1))
 ///     result }
+/// ensures positive { pos 0 <ℤ T.value y → IsSome result }
 /// ```
 ///
 /// Words: [`AnswersWhere`](crate::definitions::num_integer#answerswhere),
@@ -22,7 +23,7 @@ use crate::integer_core::operators::is_zero;
 /// [`IsQuotient`](crate::definitions::integer_core#isquotient),
 /// [`IsTruncated`](crate::definitions::integer_core#istruncated), [how to read it](crate::definitions).
 pub fn div_rem<T: Fits>(x: T, y: T) -> Option<(T, T)> {
-    if x.quotient_fits(&y) {
+    if has_quotient(x, y) {
         Some(x.div_rem(&y))
     } else {
         None
@@ -35,10 +36,11 @@ pub fn div_rem<T: Fits>(x: T, y: T) -> Option<(T, T)> {
 /// # Proved
 ///
 /// ```text
-/// ensures { AnswersWhere
+/// ensures answer { AnswersWhere
 ///     ((T.value y ≢ pos 0) × EachFits T.fits (IsQuotient IsFloored (T.value x) (T.value y)))
 ///     (λ q. T.fits (T.value q) × IsQuotient IsFloored (T.value x) (T.value y) (T.value q))
 ///     result }
+/// ensures positive { pos 0 <ℤ T.value y → IsSome result }
 /// ```
 ///
 /// Words: [`AnswersWhere`](crate::definitions::num_integer#answerswhere),
@@ -46,7 +48,7 @@ pub fn div_rem<T: Fits>(x: T, y: T) -> Option<(T, T)> {
 /// [`IsQuotient`](crate::definitions::integer_core#isquotient),
 /// [`IsFloored`](crate::definitions::integer_core#isfloored), [how to read it](crate::definitions).
 pub fn div_floor<T: Fits>(x: T, y: T) -> Option<T> {
-    if x.quotient_fits(&y) {
+    if has_quotient(x, y) {
         Some(x.div_floor(&y))
     } else {
         None
@@ -82,11 +84,12 @@ pub fn mod_floor<T: Fits>(x: T, y: T) -> Option<T> {
 /// # Proved
 ///
 /// ```text
-/// ensures { AnswersWhere
+/// ensures answer { AnswersWhere
 ///     ((T.value y ≢ pos 0) × EachFits T.fits (IsQuotient IsFloored (T.value x) (T.value y)))
 ///     (λ r. T.fits (T.value r.0) × T.fits (T.value r.1)
 ///     × IsFloored (T.value x) (T.value y) (T.value r.0) (T.value r.1))
 ///     result }
+/// ensures positive { pos 0 <ℤ T.value y → IsSome result }
 /// ```
 ///
 /// Words: [`AnswersWhere`](crate::definitions::num_integer#answerswhere),
@@ -94,7 +97,7 @@ pub fn mod_floor<T: Fits>(x: T, y: T) -> Option<T> {
 /// [`IsQuotient`](crate::definitions::integer_core#isquotient),
 /// [`IsFloored`](crate::definitions::integer_core#isfloored), [how to read it](crate::definitions).
 pub fn div_mod_floor<T: Fits>(x: T, y: T) -> Option<(T, T)> {
-    if x.quotient_fits(&y) {
+    if has_quotient(x, y) {
         Some(x.div_mod_floor(&y))
     } else {
         None
@@ -107,10 +110,11 @@ pub fn div_mod_floor<T: Fits>(x: T, y: T) -> Option<(T, T)> {
 /// # Proved
 ///
 /// ```text
-/// ensures { AnswersWhere
+/// ensures answer { AnswersWhere
 ///     ((T.value y ≢ pos 0) × EachFits T.fits (IsQuotient IsCeiled (T.value x) (T.value y)))
 ///     (λ q. T.fits (T.value q) × IsQuotient IsCeiled (T.value x) (T.value y) (T.value q))
 ///     result }
+/// ensures positive { pos 0 <ℤ T.value y → IsSome result }
 /// ```
 ///
 /// Words: [`AnswersWhere`](crate::definitions::num_integer#answerswhere),
@@ -118,7 +122,7 @@ pub fn div_mod_floor<T: Fits>(x: T, y: T) -> Option<(T, T)> {
 /// [`IsQuotient`](crate::definitions::integer_core#isquotient),
 /// [`IsCeiled`](crate::definitions::integer_core#isceiled), [how to read it](crate::definitions).
 pub fn div_ceil<T: Fits>(x: T, y: T) -> Option<T> {
-    if x.quotient_fits(&y) {
+    if has_quotient(x, y) {
         Some(x.div_ceil(&y))
     } else {
         None
@@ -171,4 +175,9 @@ pub fn prev_multiple_of<T: Fits>(x: T, y: T) -> Option<T> {
     } else {
         None
     }
+}
+
+/// Returns `true` if the quotient fits, of each kind, as it does by a number above 0.
+fn has_quotient<T: Fits>(x: T, y: T) -> bool {
+    x.quotient_fits(&y)
 }

@@ -13,10 +13,11 @@ use num_traits::Signed;
 /// # Proved
 ///
 /// ```text
-/// ensures { AnswersWhere
+/// ensures answer { AnswersWhere
 ///     (GcdFits T.fits (T.value x) (T.value y))
 ///     (λ g. T.fits (T.value g) × IsGreatestCommonDivisor (T.value x) (T.value y) (T.value g))
 ///     result }
+/// ensures positive { pos 0 <ℤ T.value y → IsSome result }
 /// ```
 ///
 /// Words: [`AnswersWhere`](crate::definitions::num_integer#answerswhere),
@@ -166,7 +167,7 @@ fn product_magnitude_fits<T: Fits>(a: T, b: T) -> bool {
     product_is_within((false, m), (false, n), T::ends())
 }
 
-/// Returns `true` if the gcd fits, in the words of [`gcd`].
+/// Returns `true` if the gcd fits, in the words of [`gcd`], as it does with a number above 0.
 fn has_gcd<T: Fits>(x: T, y: T) -> bool {
     x.gcd_fits(&y)
 }

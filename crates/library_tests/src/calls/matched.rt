@@ -4,7 +4,7 @@ ghost use Rattle.std.specs.Prelude.{◌≡◌, ◌≢◌, ◌-◌, ◌*◌, ◌<
 ghost use Rattle.std.specs.Int.{w64};
 ghost use Rattle.num_integer.specs.Bezout.{IsBezoutAnswer};
 ghost use Rattle.num_integer.specs.Coefficient.{coefficient};
-ghost use Rattle.num_integer.specs.Division.{IsCeiled, IsFloored, IsMultiple, IsQuotient, IsTruncated};
+ghost use Rattle.num_integer.specs.Division.{IsCeiled, IsFloored, IsMultiple, IsQuotient, IsRemainder, IsTruncated};
 ghost use Rattle.num_integer.specs.Divisors.{IsGreatestCommonDivisor, IsLeastCommonMultiple};
 ghost use Rattle.num_integer.specs.Range.{EachFits};
 ghost use Rattle.num_integer.specs.RootOf.{IsRoot};
@@ -81,6 +81,72 @@ fn divisor(a: i64, b: i64) -> i64
     match checked::gcd(a, b) {
         Some(divisor) => divisor,
         None => 0,
+    }
+}
+
+/// The greatest common divisor with a number above 0, which is there.
+fn divisor_with_positive(a: i64, b: i64) -> i64
+    requires { pos 0 <ℤ b }
+    ensures { IsGreatestCommonDivisor a b result }
+{
+    match checked::gcd(a, b) {
+        Some(divisor) => divisor,
+        None => unreachable!(),
+    }
+}
+
+/// The quotient by a number above 0, rounded down, which is there.
+fn floored_by_positive(n: i64, d: i64) -> i64
+    requires { pos 0 <ℤ d }
+    ensures { IsQuotient IsFloored n d result }
+{
+    match checked::div_floor(n, d) {
+        Some(quotient) => quotient,
+        None => unreachable!(),
+    }
+}
+
+/// The same, rounded up.
+fn ceiled_by_positive(n: i64, d: i64) -> i64
+    requires { pos 0 <ℤ d }
+    ensures { IsQuotient IsCeiled n d result }
+{
+    match checked::div_ceil(n, d) {
+        Some(quotient) => quotient,
+        None => unreachable!(),
+    }
+}
+
+/// The quotient by a number above 0, rounded toward 0, and the remainder.
+fn divided_by_positive(n: i64, d: i64) -> (i64, i64)
+    requires { pos 0 <ℤ d }
+    ensures { IsQuotient IsTruncated n d result.0 × (n ≡ result.0 *ℤ d +ℤ result.1) }
+{
+    match checked::div_rem(n, d) {
+        Some((quotient, remainder)) => (quotient, remainder),
+        None => unreachable!(),
+    }
+}
+
+/// The same, rounded down.
+fn page_and_place(n: i64, d: i64) -> (i64, i64)
+    requires { pos 0 <ℤ d }
+    ensures { IsFloored n d result.0 result.1 }
+{
+    match checked::div_mod_floor(n, d) {
+        Some(parts) => parts,
+        None => unreachable!(),
+    }
+}
+
+/// The remainder of the quotient rounded down.
+fn place_by_positive(n: i64, d: i64) -> i64
+    requires { pos 0 <ℤ d }
+    ensures { IsRemainder IsFloored n d result }
+{
+    match checked::mod_floor(n, d) {
+        Some(remainder) => remainder,
+        None => unreachable!(),
     }
 }
 

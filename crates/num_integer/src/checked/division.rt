@@ -1,7 +1,8 @@
 //! Division, without a condition.
 
-ghost use Rattle.std.specs.Prelude.{◌≢◌, pos};
-ghost use Rattle.integer_core.specs.Division.{IsCeiled, IsFloored, IsMultiple, IsQuotient, IsRemainder, IsTruncated};
+ghost use Rattle.std.specs.Prelude.{◌≢◌, ◌↔◌, ◌<ℤ◌, pos, IsTrue};
+ghost use Rattle.std.specs.Option.{IsSome};
+ghost use Rattle.integer_core.specs.Division.{EachKind, IsCeiled, IsFloored, IsMultiple, IsQuotient, IsRemainder, IsTruncated};
 ghost use Rattle.integer_core.specs.Range.{EachFits};
 ghost use Rattle.num_integer.specs.Checked.{AnswersWhere};
 
@@ -14,13 +15,14 @@ use integer_core::operators::is_zero;
 pub fn div_rem<T: Fits>(x: T, y: T) -> Option<(T, T)>
     requires x_in_range { T.fits (T.value x) }
     requires y_in_range { T.fits (T.value y) }
-    ensures { AnswersWhere
+    ensures answer { AnswersWhere
         ((T.value y ≢ pos 0) × EachFits T.fits (IsQuotient IsTruncated (T.value x) (T.value y)))
         (λ r. T.fits (T.value r.0) × T.fits (T.value r.1)
         × IsTruncated (T.value x) (T.value y) (T.value r.0) (T.value r.1))
         result }
+    ensures positive { pos 0 <ℤ T.value y → IsSome result }
 {
-    if x.quotient_fits(&y) {
+    if has_quotient(x, y) {
         Some(x.div_rem(&y))
     } else {
         None
@@ -32,12 +34,13 @@ pub fn div_rem<T: Fits>(x: T, y: T) -> Option<(T, T)>
 pub fn div_floor<T: Fits>(x: T, y: T) -> Option<T>
     requires x_in_range { T.fits (T.value x) }
     requires y_in_range { T.fits (T.value y) }
-    ensures { AnswersWhere
+    ensures answer { AnswersWhere
         ((T.value y ≢ pos 0) × EachFits T.fits (IsQuotient IsFloored (T.value x) (T.value y)))
         (λ q. T.fits (T.value q) × IsQuotient IsFloored (T.value x) (T.value y) (T.value q))
         result }
+    ensures positive { pos 0 <ℤ T.value y → IsSome result }
 {
-    if x.quotient_fits(&y) {
+    if has_quotient(x, y) {
         Some(x.div_floor(&y))
     } else {
         None
@@ -66,13 +69,14 @@ pub fn mod_floor<T: Fits>(x: T, y: T) -> Option<T>
 pub fn div_mod_floor<T: Fits>(x: T, y: T) -> Option<(T, T)>
     requires x_in_range { T.fits (T.value x) }
     requires y_in_range { T.fits (T.value y) }
-    ensures { AnswersWhere
+    ensures answer { AnswersWhere
         ((T.value y ≢ pos 0) × EachFits T.fits (IsQuotient IsFloored (T.value x) (T.value y)))
         (λ r. T.fits (T.value r.0) × T.fits (T.value r.1)
         × IsFloored (T.value x) (T.value y) (T.value r.0) (T.value r.1))
         result }
+    ensures positive { pos 0 <ℤ T.value y → IsSome result }
 {
-    if x.quotient_fits(&y) {
+    if has_quotient(x, y) {
         Some(x.div_mod_floor(&y))
     } else {
         None
@@ -84,12 +88,13 @@ pub fn div_mod_floor<T: Fits>(x: T, y: T) -> Option<(T, T)>
 pub fn div_ceil<T: Fits>(x: T, y: T) -> Option<T>
     requires x_in_range { T.fits (T.value x) }
     requires y_in_range { T.fits (T.value y) }
-    ensures { AnswersWhere
+    ensures answer { AnswersWhere
         ((T.value y ≢ pos 0) × EachFits T.fits (IsQuotient IsCeiled (T.value x) (T.value y)))
         (λ q. T.fits (T.value q) × IsQuotient IsCeiled (T.value x) (T.value y) (T.value q))
         result }
+    ensures positive { pos 0 <ℤ T.value y → IsSome result }
 {
-    if x.quotient_fits(&y) {
+    if has_quotient(x, y) {
         Some(x.div_ceil(&y))
     } else {
         None
@@ -128,4 +133,15 @@ pub fn prev_multiple_of<T: Fits>(x: T, y: T) -> Option<T>
     } else {
         None
     }
+}
+
+/// Returns `true` if the quotient fits, of each kind, as it does by a number above 0.
+fn has_quotient<T: Fits>(x: T, y: T) -> bool
+    requires x_in_range { T.fits (T.value x) }
+    requires y_in_range { T.fits (T.value y) }
+    ensures domain { EachKind (λ Kind. IsTrue result ↔ ((T.value y ≢ pos 0)
+        × EachFits T.fits (IsQuotient Kind (T.value x) (T.value y)))) }
+    ensures positive { pos 0 <ℤ T.value y → IsTrue result }
+{
+    x.quotient_fits(&y)
 }

@@ -1,6 +1,7 @@
 //! Common divisors and multiples, without a condition.
 
-ghost use Rattle.std.specs.Prelude.{◌≡◌, ◌↔◌, ◌*ℤ◌, pos, unsigned_abs, IsTrue};
+ghost use Rattle.std.specs.Prelude.{◌≡◌, ◌↔◌, ◌<ℤ◌, ◌*ℤ◌, pos, unsigned_abs, IsTrue};
+ghost use Rattle.std.specs.Option.{IsSome};
 ghost use Rattle.integer_core.specs.Bezout.{HasPair, IsBezoutAnswer};
 ghost use Rattle.integer_core.specs.Divisors.{GcdFits, IsGreatestCommonDivisor, IsLeastCommonMultiple};
 ghost use Rattle.integer_core.specs.Range.{EachFits};
@@ -18,10 +19,11 @@ use num_traits::Signed;
 pub fn gcd<T: Fits>(x: T, y: T) -> Option<T>
     requires x_in_range { T.fits (T.value x) }
     requires y_in_range { T.fits (T.value y) }
-    ensures { AnswersWhere
+    ensures answer { AnswersWhere
         (GcdFits T.fits (T.value x) (T.value y))
         (λ g. T.fits (T.value g) × IsGreatestCommonDivisor (T.value x) (T.value y) (T.value g))
         result }
+    ensures positive { pos 0 <ℤ T.value y → IsSome result }
 {
     if has_gcd(x, y) { Some(x.gcd(&y)) } else { None }
 }
@@ -147,11 +149,12 @@ fn product_magnitude_fits<T: Fits>(a: T, b: T) -> bool
     product_is_within((false, m), (false, n), T::ends())
 }
 
-/// Returns `true` if the gcd fits, in the words of [`gcd`].
+/// Returns `true` if the gcd fits, in the words of [`gcd`], as it does with a number above 0.
 fn has_gcd<T: Fits>(x: T, y: T) -> bool
     requires x_in_range { T.fits (T.value x) }
     requires y_in_range { T.fits (T.value y) }
-    ensures { IsTrue result ↔ GcdFits T.fits (T.value x) (T.value y) }
+    ensures domain { IsTrue result ↔ GcdFits T.fits (T.value x) (T.value y) }
+    ensures positive { pos 0 <ℤ T.value y → IsTrue result }
 {
     x.gcd_fits(&y)
 }

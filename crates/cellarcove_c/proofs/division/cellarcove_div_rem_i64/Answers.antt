@@ -5,5 +5,5 @@ use Rattle.cellarcove_c.proofs.division.cellarcove_div_rem_i64.Goals as goal
 
 pub returns-clause-answer : goal.returns-clause-answer
 returns-clause-answer c =
-    let own = rw (to_z-of_z w64 c.args.x c.ranges.x, to_z-of_z w64 c.args.y c.ranges.y) at c.div_rem.ensures in
+    let own = rw (to_z-of_z w64 c.args.x c.ranges.x, to_z-of_z w64 c.args.y c.ranges.y) at c.div_rem.ensures.answer in
     rw c.of.ensures.answer (third_only _ _ _ _ c.div_rem.result own)

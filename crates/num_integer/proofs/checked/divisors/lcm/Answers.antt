@@ -15,5 +15,5 @@ returns-then-is_zero g c =
 
 pub returns-in_err-gcd : goal.returns-in_err-gcd
 returns-in_err-gcd g c =
-    rw c.from_residual.ensures (λ each. c.in_err-gcd.ensures (λ _.
+    rw c.from_residual.ensures (λ each. c.in_err-gcd.ensures.answer (λ _.
     gcd_fits_with_lcm g.met.T.Integer.range_law (iff_false c.is_zero.ensures c.if-is_zero.false) (iff_false c.is_zero-else-is_zero.ensures c.if-is_zero-2.false) each))
