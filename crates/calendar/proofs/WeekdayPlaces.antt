@@ -1,5 +1,7 @@
 -- Days that have a given day of the week, and the first and the last of them.
-use Rattle.std.specs.Prelude.{◌≡◌, ◌+◌, ◌-◌, ◌/◌, ◌%◌, ◌<◌, ◌≤ℤ◌, ◌<ℤ◌, ◌+ℤ◌, ◌-ℤ◌, ◌*ℤ◌, ℕ, ℤ, pos, negsuc, unsigned_abs, List, [], ◌∷◌, get_or}
+use Rattle.std.specs.Prelude.{◌≡◌, ◌+◌, ◌-◌, ◌/◌, ◌%◌, ◌<◌, ◌≤ℤ◌, ◌<ℤ◌, ◌+ℤ◌, ◌-ℤ◌, ◌*ℤ◌, ℕ, ℤ, pos, negsuc, unsigned_abs, List, [], ◌∷◌, get_or, FitsSigned, MatchOption, Option}
+use Rattle.std.specs.Int.{w64}
+use Rattle.std.specs.Option.{SomeIff}
 use Rattle.std.proofs.Common.{◌∙◌, ap, arith, refl, sym}
 use Rattle.std.proofs.lemmas.Int.{ints}
 use Rattle.num_integer.proofs.ForCallers.{floored_by_range, linear, only_floored}
@@ -8,7 +10,7 @@ use Rattle.calendar.specs.declared.weekday.Weekday.TheVariants.{Sunday, Monday, 
 use Rattle.calendar.specs.Laws.{FirstWeekdayIsOnly, IsoNumberIsOnly, LastWeekdayIsOnly, WeekdayIsOnly, WeekdaysFollow}
 use Rattle.calendar.specs.Weekday.{weekday_number}
 use Rattle.calendar.specs.Weeks.{HasWeekday, IsFirstWeekday, IsLastWeekday}
-use Rattle.calendar.proofs.Greatest.{only_greatest, only_least}
+use Rattle.calendar.proofs.Greatest.{only_greatest, only_least, only_or_beyond}
 
 -- ---- days of one day of the week
 
@@ -76,12 +78,21 @@ last_within {to} {day} weekday h down near = record {
   greatest = λ other k. grind (arith, linear, same_day weekday h k.has_weekday);
 }
 
--- by the days of the week
-pub first_weekday : {day : ℤ} {a : Weekday} (b : Weekday) (n : ℕ) → HasWeekday day a → weekday_number b ≡ (weekday_number a + n) % 7 → n < 7 → IsFirstWeekday day b (day +ℤ pos n)
-first_weekday b n h turned small = first_within b (days_later n h turned) (omega (arith, ints)) (omega (arith, ints))
+-- the first and the last are only one
+pub only_first : FirstWeekdayIsOnly
+only_first from weekday a b h k = only_least h k
 
-pub last_weekday : {day : ℤ} {a : Weekday} (b : Weekday) (n : ℕ) → HasWeekday day a → weekday_number a ≡ (weekday_number b + n) % 7 → n < 7 → IsLastWeekday day b (day -ℤ pos n)
-last_weekday b n h turned small = last_within b (days_earlier n h turned) (omega (arith, ints)) (omega (arith, ints))
+pub only_last : LastWeekdayIsOnly
+only_last to weekday a b h k = only_greatest h k
+
+-- by the days between the days of the week, where it fits
+pub first_or_beyond : (o : Option ℤ) {day : ℤ} {a : Weekday} (b : Weekday) (n : ℕ) → HasWeekday day a → weekday_number b ≡ (weekday_number a + n) % 7 → n < 7 → SomeIff o (FitsSigned w64 (day +ℤ pos n)) (day +ℤ pos n)
+    → MatchOption o ((z : ℤ) → IsFirstWeekday day b z → ¬ (FitsSigned w64 z)) (IsFirstWeekday day b)
+first_or_beyond o {day = day} b n h turned small found = only_or_beyond (IsFirstWeekday day b) o (only_first day b) found (first_within b (days_later n h turned) (omega (arith, ints)) (omega (arith, ints)))
+
+pub last_or_beyond : (o : Option ℤ) {day : ℤ} {a : Weekday} (b : Weekday) (n : ℕ) → HasWeekday day a → weekday_number a ≡ (weekday_number b + n) % 7 → n < 7 → SomeIff o (FitsSigned w64 (day -ℤ pos n)) (day -ℤ pos n)
+    → MatchOption o ((z : ℤ) → IsLastWeekday day b z → ¬ (FitsSigned w64 z)) (IsLastWeekday day b)
+last_or_beyond o {day = day} b n h turned small found = only_or_beyond (IsLastWeekday day b) o (only_last day b) found (last_within b (days_earlier n h turned) (omega (arith, ints)) (omega (arith, ints)))
 
 rest_of_week : (day : ℤ) → (weeks : ℤ) × (rest : ℕ) × (rest < 7) × (day +ℤ pos 4 ≡ weeks *ℤ pos 7 +ℤ pos rest)
 rest_of_week (pos n) = (pos ((n + 4) / 7), (n + 4) % 7, omega arith, omega (arith, ints))
@@ -93,13 +104,6 @@ weekday_within day weekday =
     let (weeks, rest, small, equation) = rest_of_week day in
     let place = weekday_number weekday + 7 - rest in
     (place % 7, omega arith, on_weekday weekday (weeks +ℤ pos 1 -ℤ pos (place / 7)) (omega (arith, ints)))
-
--- the first and the last are only one
-pub only_first : FirstWeekdayIsOnly
-only_first from weekday a b h k = only_least h k
-
-pub only_last : LastWeekdayIsOnly
-only_last to weekday a b h k = only_greatest h k
 
 -- ---- one day of the week
 
