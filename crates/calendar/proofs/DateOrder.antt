@@ -24,7 +24,7 @@ month_end ms i j before within =
     let part = rw (take-take (i + 1) j ms (omega arith)) at all in
     omega (arith, more, part)
 
--- the day of a date in its year
+-- The day of a date in its year is from 1 to the length of the year.
 pub year_day_range : {year : ℤ} {month day : ℕ} → IsDate year month day → (1 ≤ days_before_month year month + day) × (days_before_month year month + day ≤ days_in_year year)
 unfolding days_in_year
 year_day_range {year} {month} {day} h =

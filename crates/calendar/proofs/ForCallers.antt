@@ -1,19 +1,20 @@
 -- Lemmas for callers. The laws are in proofs/Laws.antt.
 
--- a month has 28 to 31 days
+-- A month has 28 to 31 days.
 pub use Rattle.calendar.proofs.MonthLengths.{month_length_range}
--- equal month numbers are those of one year and month, and a later number is that of later days
+-- Equal month numbers are those of one year and month, and a date of a later month is later.
 pub use Rattle.calendar.proofs.MonthSteps.{later_month, same_month}
--- each date has a date some months after it, and one after more months is not earlier
+-- Each date has a date any number of months after it, and one after more months is not earlier.
 pub use Rattle.calendar.proofs.MonthSteps.{months_after_exists, months_in_order}
--- there is a number of whole months from a date to another, and one month more leads beyond the second
+-- There is a number of whole months from each date to each other, and one month more leads beyond the second.
 pub use Rattle.calendar.proofs.MonthSteps.{months_between_exist, next_month_is_later}
--- a week later, and some weeks away, the day of the week is the same
+-- A week later, and some weeks away, the day of the week is the same.
 pub use Rattle.calendar.proofs.WeekdayPlaces.{week_later, weeks_apart}
--- each day of the week comes within a week, and less than a week apart only once
+-- Each day of the week comes within a week, and less than a week apart only once.
 pub use Rattle.calendar.proofs.WeekdayPlaces.{same_day, weekday_within}
--- each month has a first, a second, a third and a fourth of each day of the week
+-- Each month has a first, a second, a third and a fourth of each day of the week.
 pub use Rattle.calendar.proofs.MonthWeekdays.{nth_weekday_exists}
--- a year has 365 or 366 days, and a day of a date is one of its year
+-- The day of a date in its year is from 1 to the length of the year.
 pub use Rattle.calendar.proofs.DateOrder.{year_day_range}
+-- A year has 365 or 366 days.
 pub use Rattle.calendar.proofs.YearLengths.{length_range}

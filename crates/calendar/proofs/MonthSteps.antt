@@ -14,12 +14,13 @@ use Rattle.calendar.proofs.MonthLengths.{month_length_range}
 
 -- ---- months by their numbers
 
+-- Dates of one month number are of one year and month.
 pub same_month : (a b : Date) → month_number a.year a.month ≡ month_number b.year b.month → (a.year ≡ b.year) × (a.month ≡ b.month)
 same_month a b same =
     let year : a.year ≡ b.year = omega (arith, ints, a.valid.month_from_one, a.valid.month_to_twelve, b.valid.month_from_one, b.valid.month_to_twelve) in
     (year, omega (arith, ints))
 
--- a date of a later month is later
+-- A date of a later month is later.
 pub later_month : (a b : Date) → month_number a.year a.month <ℤ month_number b.year b.month → number_of a <ℤ number_of b
 later_month a b less = (order a b).0 (by_lt_z a.year b.year
     (λ years. inl years)
@@ -32,6 +33,7 @@ month_of (negsuc n) = (negsuc (n / 12), 12 - n % 12, omega arith, omega arith, o
 
 -- ---- the date some months after another
 
+-- Each date has a date any number of months after it.
 pub months_after_exists : (from : Date) (months : ℤ) → (date : Date) × IsMonthsAfter from months date
 months_after_exists from months =
     let (year, month, month_from, month_to, is) = month_of (month_number from.year from.month +ℤ months) in
@@ -50,7 +52,7 @@ only_months_after from months a b h k =
     let day = rw (year, month) at h.day_is in
     of_parts a b year month (day ∙ sym k.day_is)
 
--- more months lead to no earlier date
+-- More months lead to no earlier date.
 pub months_in_order : {from a b : Date} {m n : ℤ} → m ≤ℤ n → IsMonthsAfter from m a → IsMonthsAfter from n b → number_of a ≤ℤ number_of b
 months_in_order {from} {a} {b} {m} {n} less h k = by_lt_z m n
     (λ more. omega (arith, ints, later_month a b (omega (arith, ints, h.month_is, k.month_is))))
@@ -87,13 +89,14 @@ month_less from to months is early = months_of months
 pub only_months_between : MonthsBetweenIsOnly
 only_months_between from to a b h k = only_greatest h k
 
--- there is such a number, and one month more leads beyond the second date
+-- There is a number of whole months from each date to each other.
 pub months_between_exist : (from to : Date) → (months : ℤ) × IsMonthsBetween from to months
 months_between_exist from to = elim (cases_lt to.day_of_month (min from.day_of_month (days_in_month to.year to.month))) [
   | inl early ↦ (_, month_less from to _ refl early)
   | inr late ↦ (_, whole_months from to _ refl late)
 ]
 
+-- One month more than those leads beyond the second date.
 pub next_month_is_later : {from to date : Date} {months : ℤ} → IsMonthsBetween from to months → IsMonthsAfter from (months +ℤ pos 1) date → number_of to <ℤ number_of date
 next_month_is_later {from} {to} {date} {months} h k =
     let sooner : number_of date ≤ℤ number_of to → ⊥ = λ rest. omega (arith, ints, h.greatest (months +ℤ pos 1) (record { date = date; is_after = k; not_later = rest })) in

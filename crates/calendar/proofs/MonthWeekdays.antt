@@ -46,7 +46,7 @@ only_nth_weekday year month weekday n a b h k =
     let apart = in_month a b (record { year_is = h.year_is; month_is = h.month_is; day_is = refl }) (record { year_is = k.year_is; month_is = k.month_is; day_is = refl }) in
     only_date a b (same_day weekday h.has_weekday k.has_weekday (omega (arith, ints, h.within_weeks, k.after_weeks)) (omega (arith, ints, k.within_weeks, h.after_weeks)))
 
--- each month has a first, a second, a third and a fourth of each day of the week
+-- Each month has a first, a second, a third and a fourth of each day of the week.
 pub nth_weekday_exists : (year : ℤ) (month : ℕ) (weekday : Weekday) (n : ℕ) → 1 ≤ month → month ≤ 12 → 1 ≤ n → n ≤ 4 → (date : Date) × IsNthWeekday year month weekday n date
 nth_weekday_exists year month weekday n from to n_from n_to =
     let (length, most) = month_length_range year month from to in

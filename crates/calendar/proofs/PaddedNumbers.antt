@@ -11,8 +11,8 @@ use Rattle.std.proofs.lemmas.Str.{digit_value_digit}
 use Rattle.std.proofs.lemmas.Str.Parse.{IsNumeralModel, digit_at, digit_from_value, digits_value_short, numerals_by_value, parse_gives, parse_plain, tells_digits}
 use Rattle.calendar.specs.Text.{IsShortest, padded}
 
-pub own : IsNumeralModel (AllDigits 10) (digits_value 10)
-own = numerals_by_value (AllDigits 10) tells_digits
+pub decimal_numerals : IsNumeralModel (AllDigits 10) (digits_value 10)
+decimal_numerals = numerals_by_value (AllDigits 10) tells_digits
 
 -- zeros in front are digits, and leave the value as it is
 zeros_digits : (k : ℕ) (ds : List ℕ) → AllDigits 10 ds → AllDigits 10 (replicate k 48 ++ ds)
@@ -78,8 +78,8 @@ padded_is ds h so small =
     let same : length ds ≡ length (padded 4 (digits_value 10 ds)) = elim (cases_lt (get_or ds 0 0) 49) [
       | inl low ↦
           let four = so.2 (omega arith) in
-          omega (arith, length-decimal-le 4 (digits_value 10 ds) (omega arith) (digits_value_short own ds 4 h (omega arith)) small)
-      | inr high ↦ omega (arith, ap (λ (x : List ℕ). length x) (decimal-digits_value own ds h (omega arith) (λ e. absurd (omega arith)) small))
+          omega (arith, length-decimal-le 4 (digits_value 10 ds) (omega arith) (digits_value_short decimal_numerals ds 4 h (omega arith)) small)
+      | inr high ↦ omega (arith, ap (λ (x : List ℕ). length x) (decimal-digits_value decimal_numerals ds h (omega arith) (λ e. absurd (omega arith)) small))
     ] in
     (same_digits 0 0 ds (padded 4 (digits_value 10 ds)) h (padded_digits 4 (digits_value 10 ds) small) same (sym (padded_value 4 (digits_value 10 ds) small))).1
 
@@ -88,9 +88,9 @@ pub number_read : {E : Type 0} (n : ℕ) (ds : List ℕ) (r : Result ℕ E) → 
 number_read n ds r small e h =
     let so = padded_shortest n small in
     let value = padded_value 4 n small in
-    rw value at (parse_gives own 64 (padded 4 n) r (rw e at h) (padded_digits 4 n small) (omega (arith, so.0)) (rw value small))
+    rw value at (parse_gives decimal_numerals 64 (padded 4 n) r (rw e at h) (padded_digits 4 n small) (omega (arith, so.0)) (rw value small))
 
 pub number_text : {E : Type 0} (n : ℕ) (ds : List ℕ) (r : Result ℕ E) → IsShortest ds → r ≡ Ok n → ParsesUnsigned 64 10 ds r → ds ≡ padded 4 n
 number_text n ds r so e h =
-    let all = rw e at (parse_plain own 64 ds r h (λ plus. absurd (omega (arith, so.1.0)))) in
+    let all = rw e at (parse_plain decimal_numerals 64 ds r h (λ plus. absurd (omega (arith, so.1.0)))) in
     padded_is ds all.0.0 so (omega (arith, all.0.2)) ∙ ap (padded 4) (sym all.1)

@@ -1,5 +1,7 @@
 -- Days that have a given day of the week, and the first and the last of them.
-use Rattle.std.specs.Prelude.{◌≡◌, ◌+◌, ◌-◌, ◌/◌, ◌%◌, ◌<◌, ◌≤ℤ◌, ◌<ℤ◌, ◌+ℤ◌, ◌-ℤ◌, ◌*ℤ◌, ℕ, ℤ, pos, negsuc, unsigned_abs, List, [], ◌∷◌, get_or}
+use Rattle.std.specs.Prelude.{◌≡◌, ◌+◌, ◌-◌, ◌/◌, ◌%◌, ◌<◌, ◌≤ℤ◌, ◌<ℤ◌, ◌+ℤ◌, ◌-ℤ◌, ◌*ℤ◌, ℕ, ℤ, pos, negsuc, unsigned_abs, List, [], ◌∷◌, get_or, FitsSigned, MatchOption, Option}
+use Rattle.std.specs.Int.{w64}
+use Rattle.std.specs.Option.{SomeIff}
 use Rattle.std.proofs.Common.{◌∙◌, ap, arith, refl, sym}
 use Rattle.std.proofs.lemmas.Int.{ints}
 use Rattle.num_integer.proofs.ForCallers.{floored_by_range, linear, only_floored}
@@ -8,7 +10,7 @@ use Rattle.calendar.specs.declared.weekday.Weekday.TheVariants.{Sunday, Monday, 
 use Rattle.calendar.specs.Laws.{FirstWeekdayIsOnly, IsoNumberIsOnly, LastWeekdayIsOnly, WeekdayIsOnly, WeekdaysFollow}
 use Rattle.calendar.specs.Weekday.{weekday_number}
 use Rattle.calendar.specs.Weeks.{HasWeekday, IsFirstWeekday, IsLastWeekday}
-use Rattle.calendar.proofs.Greatest.{only_greatest, only_least}
+use Rattle.calendar.proofs.Greatest.{only_greatest, only_least, only_or_beyond}
 
 -- ---- days of one day of the week
 
@@ -34,10 +36,11 @@ only_number {a} {b} same = sym (by_number a).1 ∙ ap (λ (n : ℕ). get_or week
 pub on_weekday : {day : ℤ} (weekday : Weekday) (weeks : ℤ) → day +ℤ pos 4 ≡ weeks *ℤ pos 7 +ℤ pos (weekday_number weekday) → HasWeekday day weekday
 on_weekday weekday weeks equation = record { remainder = record { quotient = weeks; division = floored_by_range equation (omega (arith, ints)) (omega (arith, ints, below_seven weekday)) } }
 
--- days some weeks apart have the same day of the week
+-- Days some weeks apart have the same day of the week.
 pub weeks_apart : {day other : ℤ} {weekday : Weekday} (weeks : ℤ) → other ≡ day +ℤ pos 7 *ℤ weeks → HasWeekday day weekday → HasWeekday other weekday
 weeks_apart {weekday = weekday} weeks apart h = on_weekday weekday (h.remainder.quotient +ℤ weeks) (omega (arith, ints, h.remainder.division.division.equation))
 
+-- A week later the day of the week is the same.
 pub week_later : {day : ℤ} {weekday : Weekday} → HasWeekday day weekday → HasWeekday (day +ℤ pos 7) weekday
 week_later h = weeks_apart (pos 1) refl h
 
@@ -52,12 +55,12 @@ days_earlier {b = b} n h turned = on_weekday b (h.remainder.quotient -ℤ pos ((
 pub weekday_in_era : {day : ℤ} (era : ℤ) (n : ℕ) (weekday : Weekday) → day ≡ pos 146097 *ℤ era +ℤ pos n -ℤ pos 865566 → weekday_number weekday ≡ (n + 2) % 7 → HasWeekday day weekday
 weekday_in_era era n weekday place is = on_weekday weekday (pos 20871 *ℤ era -ℤ pos 123652 +ℤ pos ((n + 2) / 7)) (omega (arith, ints))
 
--- days of one day of the week are less than a week apart only where they are the same
-apart : (a b p q : ℤ) (w : ℕ) → a +ℤ pos 4 ≡ p *ℤ pos 7 +ℤ pos w → b +ℤ pos 4 ≡ q *ℤ pos 7 +ℤ pos w → a <ℤ (b +ℤ pos 7) → b <ℤ (a +ℤ pos 7) → a ≡ b
-apart a b p q w first second after before = omega (arith, ints)
+same_place : (a b p q : ℤ) (w : ℕ) → a +ℤ pos 4 ≡ p *ℤ pos 7 +ℤ pos w → b +ℤ pos 4 ≡ q *ℤ pos 7 +ℤ pos w → a <ℤ (b +ℤ pos 7) → b <ℤ (a +ℤ pos 7) → a ≡ b
+same_place a b p q w first second after before = omega (arith, ints)
 
+-- Days of one day of the week are less than a week apart only where they are the same.
 pub same_day : {a b : ℤ} (weekday : Weekday) → HasWeekday a weekday → HasWeekday b weekday → a <ℤ (b +ℤ pos 7) → b <ℤ (a +ℤ pos 7) → a ≡ b
-same_day {a} {b} weekday h k after before = apart a b h.remainder.quotient k.remainder.quotient (weekday_number weekday) h.remainder.division.division.equation k.remainder.division.division.equation after before
+same_day {a} {b} weekday h k after before = same_place a b h.remainder.quotient k.remainder.quotient (weekday_number weekday) h.remainder.division.division.equation k.remainder.division.division.equation after before
 
 -- ---- the first and the last of them
 
@@ -75,30 +78,32 @@ last_within {to} {day} weekday h down near = record {
   greatest = λ other k. grind (arith, linear, same_day weekday h k.has_weekday);
 }
 
--- by the days of the week
-pub first_weekday : {day : ℤ} {a : Weekday} (b : Weekday) (n : ℕ) → HasWeekday day a → weekday_number b ≡ (weekday_number a + n) % 7 → n < 7 → IsFirstWeekday day b (day +ℤ pos n)
-first_weekday b n h turned small = first_within b (days_later n h turned) (omega (arith, ints)) (omega (arith, ints))
-
-pub last_weekday : {day : ℤ} {a : Weekday} (b : Weekday) (n : ℕ) → HasWeekday day a → weekday_number a ≡ (weekday_number b + n) % 7 → n < 7 → IsLastWeekday day b (day -ℤ pos n)
-last_weekday b n h turned small = last_within b (days_earlier n h turned) (omega (arith, ints)) (omega (arith, ints))
-
--- each day of the week comes within a week
-rest_of_week : (day : ℤ) → (weeks : ℤ) × (rest : ℕ) × (rest < 7) × (day +ℤ pos 4 ≡ weeks *ℤ pos 7 +ℤ pos rest)
-rest_of_week (pos n) = (pos ((n + 4) / 7), (n + 4) % 7, omega arith, omega (arith, ints))
-rest_of_week (negsuc n) = (pos 0 -ℤ pos ((n + 3) / 7), 6 - (n + 3) % 7, omega arith, omega (arith, ints))
-
-pub weekday_within : (day : ℤ) (weekday : Weekday) → (days : ℕ) × (days < 7) × HasWeekday (day +ℤ pos days) weekday
-weekday_within day weekday =
-    let (weeks, rest, small, equation) = rest_of_week day in
-    let place = weekday_number weekday + 7 - rest in
-    (place % 7, omega arith, on_weekday weekday (weeks +ℤ pos 1 -ℤ pos (place / 7)) (omega (arith, ints)))
-
 -- the first and the last are only one
 pub only_first : FirstWeekdayIsOnly
 only_first from weekday a b h k = only_least h k
 
 pub only_last : LastWeekdayIsOnly
 only_last to weekday a b h k = only_greatest h k
+
+-- by the days between the days of the week, where it fits
+pub first_or_beyond : (o : Option ℤ) {day : ℤ} {a : Weekday} (b : Weekday) (n : ℕ) → HasWeekday day a → weekday_number b ≡ (weekday_number a + n) % 7 → n < 7 → SomeIff o (FitsSigned w64 (day +ℤ pos n)) (day +ℤ pos n)
+    → MatchOption o ((z : ℤ) → IsFirstWeekday day b z → ¬ (FitsSigned w64 z)) (IsFirstWeekday day b)
+first_or_beyond o {day = day} b n h turned small found = only_or_beyond (IsFirstWeekday day b) o (only_first day b) found (first_within b (days_later n h turned) (omega (arith, ints)) (omega (arith, ints)))
+
+pub last_or_beyond : (o : Option ℤ) {day : ℤ} {a : Weekday} (b : Weekday) (n : ℕ) → HasWeekday day a → weekday_number a ≡ (weekday_number b + n) % 7 → n < 7 → SomeIff o (FitsSigned w64 (day -ℤ pos n)) (day -ℤ pos n)
+    → MatchOption o ((z : ℤ) → IsLastWeekday day b z → ¬ (FitsSigned w64 z)) (IsLastWeekday day b)
+last_or_beyond o {day = day} b n h turned small found = only_or_beyond (IsLastWeekday day b) o (only_last day b) found (last_within b (days_earlier n h turned) (omega (arith, ints)) (omega (arith, ints)))
+
+rest_of_week : (day : ℤ) → (weeks : ℤ) × (rest : ℕ) × (rest < 7) × (day +ℤ pos 4 ≡ weeks *ℤ pos 7 +ℤ pos rest)
+rest_of_week (pos n) = (pos ((n + 4) / 7), (n + 4) % 7, omega arith, omega (arith, ints))
+rest_of_week (negsuc n) = (pos 0 -ℤ pos ((n + 3) / 7), 6 - (n + 3) % 7, omega arith, omega (arith, ints))
+
+-- Each day of the week comes within a week.
+pub weekday_within : (day : ℤ) (weekday : Weekday) → (days : ℕ) × (days < 7) × HasWeekday (day +ℤ pos days) weekday
+weekday_within day weekday =
+    let (weeks, rest, small, equation) = rest_of_week day in
+    let place = weekday_number weekday + 7 - rest in
+    (place % 7, omega arith, on_weekday weekday (weeks +ℤ pos 1 -ℤ pos (place / 7)) (omega (arith, ints)))
 
 -- ---- one day of the week
 

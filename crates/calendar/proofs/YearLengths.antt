@@ -18,6 +18,7 @@ pub length_of : (leap : Bool) → sum (month_lengths leap) ≡ cond leap 366 365
 length_of true = refl
 length_of false = refl
 
+-- A year has 365 or 366 days.
 pub length_range : (year : ℤ) → (365 ≤ days_in_year year) × (days_in_year year ≤ 366)
 unfolding days_in_year
 length_range year = rw length_of (grind arith)

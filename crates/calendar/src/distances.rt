@@ -1,10 +1,10 @@
 //! Dates some months apart, and the days and the months from a date to another.
 
-ghost use Rattle.std.specs.Prelude.{◌≡◌, ◌<◌, ◌≤◌, ◌^◌, ◌-ℤ◌, ℕ, ℤ, unsigned_abs, FitsSigned, MatchOption};
+ghost use Rattle.std.specs.Prelude.{◌≡◌, ◌↔◌, ◌<◌, ◌≤◌, ◌^◌, ◌-ℤ◌, ℕ, ℤ, min, unsigned_abs, FitsSigned, IsTrue, MatchOption};
 ghost use Rattle.std.specs.Int.{w64};
 ghost use Rattle.std.specs.Option.{SomeIff};
 ghost use Rattle.calendar.specs.Dates.{IsMonthsAfter, IsMonthsBetween, number_of};
-ghost use Rattle.calendar.specs.Months.{month_number};
+ghost use Rattle.calendar.specs.Months.{days_in_month, month_number};
 ghost use Rattle.calendar.specs.declared.date.Date.{Date};
 
 use crate::Date;
@@ -64,11 +64,21 @@ fn whole_months(from: &Date, to: &Date) -> i128
     ensures { IsMonthsBetween from.now to.now result }
 {
     let months = to.month_number() - from.month_number();
-    if to.day_of_month < from.day_of_month.min(days_in_month(to.year, to.month)) {
+    if ends_in_part_of_month(from, to) {
         months - 1
     } else {
         months
     }
+}
+
+/// Returns `true` if the day of the month of `from`, or the last day of the month of `to` where that is
+/// shorter, comes after `to` there.
+#[tactic(auto, using(crate::proofs::YearLengths::year_steps))]
+fn ends_in_part_of_month(from: &Date, to: &Date) -> bool
+    ensures { IsTrue result
+        ↔ (to.now.day_of_month < min from.now.day_of_month (days_in_month to.now.year to.now.month)) }
+{
+    to.day_of_month < from.day_of_month.min(days_in_month(to.year, to.month))
 }
 
 /// Returns the year and the month of a month counted from January of year 0, or `None` where the year

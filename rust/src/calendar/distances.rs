@@ -71,11 +71,17 @@ pub fn months_between(from: &Date, to: &Date) -> Option<i64> {
 /// Returns the number of whole months from `from` to `to`, which need not fit an `i64`.
 fn whole_months(from: &Date, to: &Date) -> i128 {
     let months = to.month_number() - from.month_number();
-    if to.day_of_month < from.day_of_month.min(days_in_month(to.year, to.month)) {
+    if ends_in_part_of_month(from, to) {
         months - 1
     } else {
         months
     }
+}
+
+/// Returns `true` if the day of the month of `from`, or the last day of the month of `to` where that is
+/// shorter, comes after `to` there.
+fn ends_in_part_of_month(from: &Date, to: &Date) -> bool {
+    to.day_of_month < from.day_of_month.min(days_in_month(to.year, to.month))
 }
 
 /// Returns the year and the month of a month counted from January of year 0, or `None` where the year

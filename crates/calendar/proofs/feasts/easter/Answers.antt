@@ -13,10 +13,6 @@ returns-clause-easter c =
 
 pub returns-clause-season : goal.returns-clause-season
 returns-clause-season c =
-    let from = c.paschal_full_moon-full_moon.ensures.from in
-    let to = c.paschal_full_moon-full_moon.ensures.to in
-    let first = c.days_to_next_sunday-days.ensures.from in
-    let last = c.days_to_next_sunday-days.ensures.to in
     elim c.day_from_march-2.ensures.month [
       | inl march ↦ inl (march.0, omega (arith, march.1))
       | inr april ↦ inr (april.0, omega (arith, april.1))

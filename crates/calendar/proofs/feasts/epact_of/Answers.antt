@@ -8,12 +8,9 @@ use Rattle.calendar.proofs.feasts.epact_of.Goals as goal
 pub returns-clause-value : goal.returns-clause-value
 returns-clause-value c =
     let century = c.ranges.century in
-    let solar_small = c.solar_correction-solar.ensures.small in
-    let lunar_small = c.lunar_correction-lunar.ensures.small in
-    let sum_small = c.epact_sum.ensures.small in
-    let solar_fits : FitsSigned w64 c.solar_correction-solar.result = omega (arith, ints, solar_small) in
-    let lunar_fits : FitsSigned w64 c.lunar_correction-lunar.result = omega (arith, ints, lunar_small) in
-    let sum_fits : FitsSigned w64 c.epact_sum.result = omega (arith, ints, sum_small) in
+    let solar_fits : FitsSigned w64 c.solar_correction-solar.result = omega (arith, ints) in
+    let lunar_fits : FitsSigned w64 c.lunar_correction-lunar.result = omega (arith, ints) in
+    let sum_fits : FitsSigned w64 c.epact_sum.result = omega (arith, ints) in
     let rest_fits = c.mod_floor.ensures.in_range in
     let solar = simp to_z-of_z at c.solar_correction-solar.ensures.value in
     let lunar = simp to_z-of_z at c.lunar_correction-lunar.ensures.value in

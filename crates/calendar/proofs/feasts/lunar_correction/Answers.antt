@@ -7,7 +7,6 @@ use Rattle.calendar.proofs.feasts.lunar_correction.Goals as goal
 pub returns-clause-value : goal.returns-clause-value
 returns-clause-value c =
     let century = c.ranges.century in
-    let small = c.requires in
     let product : FitsSigned w64 (pos 8 *ℤ c.args.century) = omega (arith, ints) in
     let sum : FitsSigned w64 (pos 8 *ℤ c.args.century +ℤ pos 13) = omega (arith, ints) in
     let fits = c.div_floor.ensures.in_range in

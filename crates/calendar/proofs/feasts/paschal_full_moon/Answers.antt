@@ -8,7 +8,6 @@ use Rattle.calendar.proofs.feasts.paschal_full_moon.Goals as goal
 pub returns-clause-full_moon : goal.returns-clause-full_moon
 returns-clause-full_moon c =
     let year = c.ranges.year in
-    let small = c.century_of.ensures.small in
     let fits : FitsSigned w64 c.century_of.result = omega (arith, ints) in
     record {
       golden = c.golden_of-golden.result;

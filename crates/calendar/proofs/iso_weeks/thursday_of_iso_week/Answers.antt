@@ -11,7 +11,6 @@ use Rattle.calendar.proofs.iso_weeks.thursday_of_iso_week.Goals as goal
 pub returns-clause-weekday : goal.returns-clause-weekday
 returns-clause-weekday c =
     let year = c.ranges.year in
-    let week = c.ranges.week in
     let first : IsRemainder IsFloored (pos 0 -ℤ first_day c.args.year) (pos 7) c.first_thursday.result = simp to_z-of_z at c.first_thursday.ensures in
     let range = floored_remainder_range (omega (arith, ints)) first in
     let equation = first.division.division.equation in

@@ -14,15 +14,13 @@ pub returns-clause-of_week : goal.returns-clause-of_week
 returns-clause-of_week c =
     let date = c.args.date.now in
     let since : IsRemainder IsFloored (number_of date +ℤ pos 3) (pos 7) c.days_since_monday.result = c.days_since_monday.ensures.value in
-    let from = c.days_since_monday.ensures.from in
-    let below = c.days_since_monday.ensures.below in
     let day = c.day_of_year.ensures.day in
     let last = year_day_range date.valid in
     let length = length_range date.year in
     let to : c.day_of_year.result ≤ 366 = omega (arith, day, last.1, length.1) in
     let day_fits : FitsSigned w64 (pos c.day_of_year.result) = omega (arith, ints, to) in
     let plus_fits : FitsSigned w64 (pos c.day_of_year.result +ℤ pos 2) = omega (arith, ints, to) in
-    let since_fits : FitsSigned w64 c.days_since_monday.result = omega (arith, ints, from, below) in
-    let rest_fits : FitsSigned w64 (pos c.day_of_year.result +ℤ pos 2 -ℤ c.days_since_monday.result) = omega (arith, ints, to, from, below) in
+    let since_fits : FitsSigned w64 c.days_since_monday.result = omega (arith, ints) in
+    let rest_fits : FitsSigned w64 (pos c.day_of_year.result +ℤ pos 2 -ℤ c.days_since_monday.result) = omega (arith, ints, to) in
     let same : number_of date +ℤ pos 3 -ℤ c.days_since_monday.result ≡ first_day date.year +ℤ (pos c.day_of_year.result +ℤ pos 2 -ℤ c.days_since_monday.result) = omega (arith, ints, day) in
     simp (c.from.ensures, to_z-of_z) (rw same at (of_week {day = number_of date} since))

@@ -2,15 +2,12 @@ use Rattle.std.specs.Prelude.{pos, FitsSigned}
 use Rattle.std.specs.Int.{w64}
 use Rattle.std.proofs.Common.{arith}
 use Rattle.std.proofs.lemmas.Int.{ints, to_z-of_z}
-use Rattle.calendar.specs.Weeks.{IsFirstWeekday}
-use Rattle.calendar.proofs.Greatest.{only_or_beyond}
-use Rattle.calendar.proofs.WeekdayPlaces.{first_weekday, only_first}
+use Rattle.calendar.proofs.WeekdayPlaces.{first_or_beyond}
 use Rattle.calendar.proofs.weeks.first_weekday_on_or_after.Goals as goal
 
 pub returns : goal.returns
 returns c =
     let day = c.ranges.day in
-    let small = c.days_until.ensures.small in
     let days : FitsSigned w64 (pos c.days_until.result) = omega (arith, ints) in
-    let found = first_weekday {day = c.args.day} c.args.weekday c.days_until.result (record { remainder = simp to_z-of_z at c.weekday_of.ensures }) c.days_until.ensures.value small in
-    only_or_beyond (IsFirstWeekday c.args.day c.args.weekday) c.checked_add.result (only_first c.args.day c.args.weekday) (simp (c.from.ensures, to_z-of_z) at c.checked_add.ensures) found
+    let found = simp (c.from.ensures, to_z-of_z) at c.checked_add.ensures in
+    first_or_beyond _ {day = c.args.day} c.args.weekday c.days_until.result (record { remainder = simp to_z-of_z at c.weekday_of.ensures }) c.days_until.ensures.value c.days_until.ensures.small found

@@ -10,7 +10,6 @@ use Rattle.calendar.proofs.years.year_near.Goals as goal
 pub returns-in_err-before : goal.returns-in_err-before
 returns-in_err-before c =
     let year = c.ranges.year in
-    let days = c.ranges.days in
     let beyond = simp to_z-of_z at c.in_err-before.ensures in
     rw c.from_residual.ensures (λ y h fits. let less = earlier {year = c.args.year} h (omega (arith, ints)) in beyond (omega (arith, ints)))
 
@@ -26,12 +25,9 @@ returns-in_err-after c =
 pub returns-in_ok-before : goal.returns-in_ok-before
 returns-in_ok-before c =
     let year = c.ranges.year in
-    let days = c.ranges.days in
     let step = simp to_z-of_z at c.in_ok-before.ensures in
     let same : c.in_ok-before.before +ℤ pos 1 ≡ c.args.year = omega (arith, ints, step.1) in
     let before : FitsSigned w64 c.in_ok-before.before = omega (arith, ints, step.1, step.0) in
-    let from = c.length_of.ensures.from in
-    let to = c.length_of.ensures.to in
     let length = simp to_z-of_z at c.length_of.ensures.value in
     let length_fits : FitsSigned w64 c.length_of.result = omega (arith, ints) in
     let sum : FitsSigned w64 (c.args.days +ℤ c.length_of.result) = omega (arith, ints) in
@@ -47,8 +43,6 @@ returns-in_ok-after c =
     let out = simp to_z-of_z at c.if-is_in_year.ensures in
     let over : pos (days_in_year c.args.year) ≤ℤ c.args.days = by_lt_z c.args.days (pos (days_in_year c.args.year)) (λ less. let clash = out.1 (omega (arith, ints), less) in (cc)) (λ far. far) in
     let after : FitsSigned w64 c.in_ok-after.after = omega (arith, ints, step.1, step.0) in
-    let from = c.length_of-else-days-lt0.ensures.from in
-    let to = c.length_of-else-days-lt0.ensures.to in
     let length = simp to_z-of_z at c.length_of-else-days-lt0.ensures.value in
     let length_fits : FitsSigned w64 c.length_of-else-days-lt0.result = omega (arith, ints) in
     let rest : FitsSigned w64 (c.args.days -ℤ c.length_of-else-days-lt0.result) = omega (arith, ints) in

@@ -18,7 +18,6 @@ pub returns-then-is_in_year : goal.returns-then-is_in_year
 returns-then-is_in_year c =
     let year = c.ranges.year in
     let thursday = simp to_z-of_z at c.thursday_of_iso_week-thursday.ensures.weekday in
-    let week = c.ranges.week in
     let first = c.thursday_of_iso_week-thursday.ensures.from in
     let last = c.thursday_of_iso_week-thursday.ensures.before in
     let fits : FitsSigned w64 c.thursday_of_iso_week-thursday.result = omega (arith, ints) in
@@ -33,7 +32,6 @@ returns-then-is_in_year c =
 pub returns-else-is_in_year : goal.returns-else-is_in_year
 returns-else-is_in_year c = λ day y k h y_fits.
     let year = c.ranges.year in
-    let week = c.ranges.week in
     let first = c.thursday_of_iso_week-thursday.ensures.from in
     let last = c.thursday_of_iso_week-thursday.ensures.before in
     let fits : FitsSigned w64 c.thursday_of_iso_week-thursday.result = omega (arith, ints) in

@@ -8,8 +8,6 @@ pub returns-clause-value : goal.returns-clause-value
 returns-clause-value c =
     let era = c.day_of_era-era.result.0 in
     let day = c.day_of_era-era.result.1 in
-    let small = c.day_of_era-era.ensures.small in
-    let below = c.day_of_era-era.ensures.below in
     let era_fits : FitsSigned w64 era = omega (arith, ints) in
     let era_wide : FitsSigned w128 era = omega (arith, ints) in
     let day_wide : FitsSigned w128 (pos day) = omega (arith, ints) in
@@ -20,6 +18,4 @@ returns-clause-value c =
 
 pub returns-clause-small : goal.returns-clause-small
 returns-clause-small c =
-    let small = c.day_of_era-era.ensures.small in
-    let below = c.day_of_era-era.ensures.below in
     rw (returns-clause-value c, c.day_of_era-era.ensures.number) (omega (arith, ints))

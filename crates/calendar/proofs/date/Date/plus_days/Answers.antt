@@ -10,12 +10,9 @@ pub returns : goal.returns
 returns c =
     let era = c.day_of_era-era.result.0 in
     let day = c.day_of_era-era.result.1 in
-    let small = c.day_of_era-era.ensures.small in
-    let below = c.day_of_era-era.ensures.below in
     let days = c.ranges.days in
     let eras = c.eras_in_days-eras.result.0 in
     let rest = c.eras_in_days-eras.result.1 in
-    let rest_below = c.eras_in_days-eras.ensures.below in
     let eras_fit : FitsSigned w64 eras = search rules in
     let place = simp to_z-of_z at c.eras_in_days-eras.ensures.place in
     let sum : FitsSigned w64 (pos (day + rest)) = omega (arith, ints) in
