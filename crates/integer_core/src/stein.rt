@@ -244,6 +244,7 @@ pub trait Magnitude: Copy + Integral + ToPrimitive {
 }
 
 impl Magnitude for u64 {
+    #[inline]
     fn successor(self) -> u64 {
         successor(self)
     }
@@ -262,6 +263,7 @@ impl Magnitude for u64 {
 }
 
 impl Magnitude for u128 {
+    #[inline]
     fn successor(self) -> u128 {
         successor(self)
     }
