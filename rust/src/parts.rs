@@ -2,12 +2,14 @@
 //! magnitudes of its ends. The lower end is not above 0.
 
 /// Returns `true` if `a + b` lies in a range that has `a`.
+#[inline]
 pub(crate) fn sum_is_within(a: (bool, u128), b: (bool, u128), ends: (u128, u128)) -> bool {
     b.1 <= room(a, b.0, ends)
 }
 
 /// Returns the distance of `a` from the end of its range, the lower one if `down`. In a range of 64
 /// bits it is computed in 64 bits.
+#[inline]
 fn room(a: (bool, u128), down: bool, ends: (u128, u128)) -> u128 {
     let end = if down { ends.0 } else { ends.1 };
     if ends.0 + ends.1 <= u128::from(u64::MAX) {

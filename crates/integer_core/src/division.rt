@@ -1,6 +1,6 @@
 //! Division of the native types.
 
-ghost use Rattle.std.specs.Prelude.{◌≢◌, pos};
+ghost use Rattle.std.specs.Prelude.{◌≢◌, ◌↔◌, ◌⊎◌, ◌≤ℤ◌, ◌<ℤ◌, pos, IsTrue};
 ghost use Rattle.integer_core.specs.Division.{IsFloored, IsQuotient, IsTruncated};
 ghost use Rattle.integer_core.specs.Range.{EachFits};
 
@@ -30,9 +30,18 @@ pub(crate) fn div_mod_floor<T: Native>(n: T, d: T) -> (T, T)
     ensures floored { IsFloored (T.value n) (T.value d) (T.value result.0) (T.value result.1) }
 {
     let (q, r) = div_rem(n, d);
-    if !is_zero(r) && is_negative(r) != is_negative(d) {
+    if is_above_floor(r, d) {
         (predecessor(q), sum(r, d))
     } else {
         (q, r)
     }
+}
+
+/// Returns `true` if the quotient rounded toward zero, of this remainder, is above the exact one. The
+/// two tests are one number, and no branch.
+fn is_above_floor<T: Native>(r: T, d: T) -> bool
+    ensures { IsTrue result ↔ ((T.value r ≢ pos 0)
+        × (((T.value r <ℤ pos 0) × (pos 0 ≤ℤ T.value d)) ⊎ ((pos 0 ≤ℤ T.value r) × (T.value d <ℤ pos 0)))) }
+{
+    !is_zero(r) & (is_negative(r) != is_negative(d))
 }

@@ -243,6 +243,7 @@ pub trait Magnitude: Copy + Integral + ToPrimitive {
 }
 
 impl Magnitude for u64 {
+    #[inline]
     fn successor(self) -> u64 {
         successor(self)
     }
@@ -261,6 +262,7 @@ impl Magnitude for u64 {
 }
 
 impl Magnitude for u128 {
+    #[inline]
     fn successor(self) -> u128 {
         successor(self)
     }

@@ -5,6 +5,7 @@ ghost use Rattle.std.specs.Prelude.{◌≡◌, ◌↔◌, ◌+◌, ◌<◌, ◌^
 ghost use Rattle.num_integer.specs.Parts.{IsWithin, signed};
 
 /// Returns `true` if `a + b` lies in a range that has `a`.
+#[inline]
 pub(crate) fn sum_is_within(a: (bool, u128), b: (bool, u128), ends: (u128, u128)) -> bool
     requires width { ends.0 + ends.1 < 2 ^ 128 }
     requires within { IsWithin ends.0 ends.1 (signed a.0 a.1) }
@@ -15,6 +16,7 @@ pub(crate) fn sum_is_within(a: (bool, u128), b: (bool, u128), ends: (u128, u128)
 
 /// Returns the distance of `a` from the end of its range, the lower one if `down`. In a range of 64
 /// bits it is computed in 64 bits.
+#[inline]
 fn room(a: (bool, u128), down: bool, ends: (u128, u128)) -> u128
     requires width { ends.0 + ends.1 < 2 ^ 128 }
     requires within { IsWithin ends.0 ends.1 (signed a.0 a.1) }

@@ -136,6 +136,7 @@ pub trait Magnitude: Copy + ToPrimitive {
 }
 
 impl Magnitude for u64 {
+    #[inline]
     fn successor(self) -> u64 {
         successor(self)
     }
@@ -154,6 +155,7 @@ impl Magnitude for u64 {
 }
 
 impl Magnitude for u128 {
+    #[inline]
     fn successor(self) -> u128 {
         successor(self)
     }

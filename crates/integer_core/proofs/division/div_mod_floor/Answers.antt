@@ -14,9 +14,9 @@ pub sum-requires-clause-sum_fits : goal.sum-requires-clause-sum_fits
 sum-requires-clause-sum_fits g c =
     floored_remainder_fits g.met.T.Native.native_law.range c.requires.d_in_range (floored_below c.div_rem-q.ensures.truncated (grind (arith, linear)))
 
-pub returns-then-is_negative-clause-floored : goal.returns-then-is_negative-clause-floored
-returns-then-is_negative-clause-floored g c =
+pub returns-then-is_above_floor-clause-floored : goal.returns-then-is_above_floor-clause-floored
+returns-then-is_above_floor-clause-floored g c =
     rw (c.predecessor.ensures.value, c.sum.ensures.value) (floored_below c.div_rem-q.ensures.truncated (grind (arith, linear)))
 
-pub returns-else-not-is_zero-clause-floored : goal.returns-else-not-is_zero-clause-floored
-returns-else-not-is_zero-clause-floored g c = floored_same c.div_rem-q.ensures.truncated (grind (arith, linear))
+pub returns-else-is_above_floor-clause-floored : goal.returns-else-is_above_floor-clause-floored
+returns-else-is_above_floor-clause-floored g c = floored_same c.div_rem-q.ensures.truncated (grind (arith, linear))
