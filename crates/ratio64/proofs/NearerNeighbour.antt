@@ -211,15 +211,13 @@ module _ {n : ℤ} {d max : ℕ} {a : ℤ} {b g : ℕ} {c : ℤ} {e h : ℕ} (be
   tie_below : (u : ℤ) (v : ℕ) → g * e ≤ h * b → (g * e ≡ h * b → b ≤ e) → 0 < v → v ≤ max
       → g * v ≡ gap n (pos d) u (pos v) * b → (pos b ≤ℤ pos v) × (pos v ≡ pos b → a ≤ℤ u)
   tie_below u v near smaller up most tie =
-      let v_up = natural_up up in
-      let sum = past_both u v in
       elim (one_past u v up most) [
         | inl p ↦
             let level = near_tie beside.positive.0 p tie in
-            (level_below _ (u *ℤ pos e -ℤ c *ℤ pos v) (pos b) (pos e) (pos v) b_up v_up sum level, λ same. let own = rw same at level in let equal = same_num a u (pos b) b_up own in omega (arith, linear))
+            (level_below _ (u *ℤ pos e -ℤ c *ℤ pos v) (pos b) (pos e) (pos v) b_up (natural_up up) (past_both u v) level, λ same. let own = rw same at level in let equal = same_num a u (pos b) b_up own in omega (arith, linear))
         | inr p ↦
             let level = far_tie g b beside.positive.0 beside.positive.1 up near p tie in
-            let least = level_above (a *ℤ pos v -ℤ u *ℤ pos b) _ (pos b) (pos e) (pos v) e_up v_up sum level.0 in
+            let least = level_above (a *ℤ pos v -ℤ u *ℤ pos b) _ (pos b) (pos e) (pos v) e_up (natural_up up) (past_both u v) level.0 in
             let less = smaller level.1 in
             let low : pos b ≤ℤ pos e = omega (arith, ints) in (
               omega (arith, linear),
@@ -235,18 +233,16 @@ module _ {n : ℤ} {d max : ℕ} {a : ℤ} {b g : ℕ} {c : ℤ} {e h : ℕ} (be
   tie_above : (u : ℤ) (v : ℕ) → h * b ≤ g * e → (h * b ≡ g * e → e < b) → 0 < v → v ≤ max
       → h * v ≡ gap n (pos d) u (pos v) * e → (pos e ≤ℤ pos v) × (pos v ≡ pos e → c ≤ℤ u)
   tie_above u v near smaller up most tie =
-      let v_up = natural_up up in
-      let sum = past_both u v in
       elim (one_past u v up most) [
         | inl p ↦
             let level = far_tie h e beside.positive.0 beside.positive.2 up near p tie in
-            let least = level_below _ (u *ℤ pos e -ℤ c *ℤ pos v) (pos b) (pos e) (pos v) b_up v_up sum level.0 in
+            let least = level_below _ (u *ℤ pos e -ℤ c *ℤ pos v) (pos b) (pos e) (pos v) b_up (natural_up up) (past_both u v) level.0 in
             let less = smaller level.1 in
             let low : pos e <ℤ pos b = omega (arith, ints) in
             (omega (arith, linear), λ same. absurd (omega (arith, linear)))
         | inr p ↦
             let level = near_tie beside.positive.0 p tie in
-            (level_above (a *ℤ pos v -ℤ u *ℤ pos b) _ (pos b) (pos e) (pos v) e_up v_up sum level, λ same. let own = rw same at level in let equal = same_num u c (pos e) e_up own in omega (arith, linear))
+            (level_above (a *ℤ pos v -ℤ u *ℤ pos b) _ (pos b) (pos e) (pos v) e_up (natural_up up) (past_both u v) level, λ same. let own = rw same at level in let equal = same_num u c (pos e) e_up own in omega (arith, linear))
       ]
 
   pub nearest_below : g * e ≤ h * b → (g * e ≡ h * b → b ≤ e)

@@ -102,9 +102,9 @@ no_first {xs} none = record {
 }
 
 -- a number at place i that is below the bound and above the first i numbers
-one_more : {xs : List ℕ} {i c bound rest : ℕ} → i < length xs → slice_index xs i ≡ c → c < bound → coefficient c (i + 1) ≤ rest
+first_with_next : {xs : List ℕ} {i c bound rest : ℕ} → i < length xs → slice_index xs i ≡ c → c < bound → coefficient c (i + 1) ≤ rest
     → IsFirst xs i c (rest - coefficient c (i + 1)) → IsFirst xs (i + 1) bound rest
-one_more {xs} {i} {c} {bound} {rest} within at below part h = record {
+first_with_next {xs} {i} {c} {bound} {rest} within at below part h = record {
   increasing = λ j k. elim (cases_lt (j + 1) i) [
     | inl before ↦ h.increasing j before
     | inr last ↦ let e : j + 1 ≡ i = omega arith in rw (e, at) (h.below j (omega arith))
@@ -144,7 +144,7 @@ one_more_written {j = j} {rest = rest} {c = c} {ys = ys} next within below part 
   below = rest_below c j rest part greatest;
   completes = λ xs same first.
       let after = same_after_write within same in
-      h.completes xs (rw next at after.0) (rw next at (one_more (omega (arith, after.0.size)) after.1 below part first));
+      h.completes xs (rw next at after.0) (rw next at (first_with_next (omega (arith, after.0.size)) after.1 below part first));
 }
 
 pub all_written : {n k r bound rest : ℕ} {ys : List ℕ} → IsWrittenFrom n k r 0 bound rest ys → IsChoiceOfRank n k r ys

@@ -10,13 +10,13 @@ use Rattle.modular.specs.Congruences.{AreCongruent, IsResidue}
 use Rattle.uses.specs.Hashes.{weighted_sum}
 
 -- one more byte at the end moves each before it up by one power
-one_more : (base : ℤ) (bytes : List ℕ) (last : ℕ) → weighted_sum base (bytes ++ last ∷ []) ≡ weighted_sum base bytes *ℤ base +ℤ pos last
-one_more base [] last =
+sum_with_last : (base : ℤ) (bytes : List ℕ) (last : ℕ) → weighted_sum base (bytes ++ last ∷ []) ≡ weighted_sum base bytes *ℤ base +ℤ pos last
+sum_with_last base [] last =
     let unit : pos last *ℤ int_pow base 0 ≡ pos last *ℤ pos 1 = ap (λ (t : ℤ). pos last *ℤ t) (int_pow-zero base) in
     omega (arith, products)
-one_more base (byte ∷ bytes) last =
+sum_with_last base (byte ∷ bytes) last =
     let power : int_pow base (length (bytes ++ last ∷ [])) ≡ base *ℤ int_pow base (length bytes) = ap (λ (k : ℕ). int_pow base k) (length_push bytes last ∙ add-one (length bytes)) ∙ int_pow-suc base (length bytes) in
-    let rest = one_more base bytes last in
+    let rest = sum_with_last base bytes last in
     rw (power, rest) (simp expand (omega (arith, linear)))
 
 with_residue : {m x y r : ℤ} → IsResidue m x r → y ≡ x → IsResidue m y r
@@ -34,7 +34,7 @@ hash_shifted base byte h shift last = record {
 pub hash_more : {m hash shifted r : ℤ} (base : ℤ) (bytes : List ℕ) (i : ℕ) → i < length bytes → IsResidue m (weighted_sum base (take i bytes)) hash → IsResidue m (hash *ℤ base) shifted
     → IsResidue m (shifted +ℤ pos (slice_index bytes i)) r → IsResidue m (weighted_sum base (take (i + 1) bytes)) r
 hash_more base bytes i within h shift last =
-    with_residue (hash_shifted base (pos (slice_index bytes i)) h.congruent shift last) (ap (λ (k : ℕ). weighted_sum base (take k bytes)) (add-one i) ∙ ap (weighted_sum base) (take-suc bytes i 0 within) ∙ one_more base (take i bytes) (slice_index bytes i))
+    with_residue (hash_shifted base (pos (slice_index bytes i)) h.congruent shift last) (ap (λ (k : ℕ). weighted_sum base (take k bytes)) (add-one i) ∙ ap (weighted_sum base) (take-suc bytes i 0 within) ∙ sum_with_last base (take i bytes) (slice_index bytes i))
 
 pub next_window : {m hash weight first rest shifted r : ℤ} {count : ℕ} (base : ℤ) (leaving entering : ℕ) (kept : List ℕ) → length kept ≡ count → IsResidue m (weighted_sum base (leaving ∷ kept)) hash
     → IsResidue m (int_pow base count) weight → IsResidue m (pos leaving *ℤ weight) first → IsResidue m (hash -ℤ first) rest
@@ -46,4 +46,4 @@ next_window {m} {weight = weight} {rest = rest} base leaving entering kept size 
     let left = congruent-trans (congruent-difference h.congruent gone) at_rest.congruent in
     let same : (top +ℤ weighted_sum base kept) -ℤ top ≡ weighted_sum base kept = omega (arith, linear) in
     let stays : AreCongruent m (weighted_sum base kept) rest = subst (λ (t : ℤ). AreCongruent m t rest) same left in
-    with_residue (hash_shifted base (pos entering) stays shift last) (one_more base kept entering)
+    with_residue (hash_shifted base (pos entering) stays shift last) (sum_with_last base kept entering)
