@@ -7,7 +7,6 @@ pub mod CommonDivisors
 pub mod Runs
 pub mod NaturalGcd
 pub mod OddParts
-pub mod ExchangedPairs
 pub mod SteinSteps
 pub mod OddLoops
 pub mod SharedBits

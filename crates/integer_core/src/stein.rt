@@ -6,7 +6,7 @@ ghost use Rattle.std.specs.Int.{IsGcd, IsPowerOfTwo};
 ghost use Rattle.std.specs.Option.{MatchOption};
 ghost use Rattle.num_traits.specs.Laws.{bit_len};
 ghost use Rattle.integer_core.specs.Divisors.{GcdFits, IsGreatestCommonDivisor, IsLeastCommonMultiple};
-ghost use Rattle.integer_core.specs.GcdRuns.{ArePositive, IsCountedGcd, IsOddGcd, IsOddPart, IsOrderedTurn, IsPositiveGcd};
+ghost use Rattle.integer_core.specs.GcdRuns.{AreGcdTurns, ArePositive, AreWithinBits, IsCountedGcd, IsOddGcd, IsOddPart, IsOrderedTurn, IsPositiveGcd};
 ghost use Rattle.integer_core.specs.Range.{EachFits};
 
 use crate::native::Native;
@@ -293,8 +293,10 @@ fn is_least<T: Native>(x: T) -> bool
 fn gcd_of_magnitudes<T: Native>(a: T, b: T) -> (T::Magnitude, u32)
     requires a_in_range { T.fits (T.value a) }
     requires b_in_range { T.fits (T.value b) }
-    ensures { IsCountedGcd T.Bounded.low (T.value a) (T.value b) (T.Magnitude.value result.0)
-        result.1 }
+    ensures greatest { IsGreatestCommonDivisor (T.value a) (T.value b)
+        (T.Magnitude.value result.0) }
+    ensures turns { AreGcdTurns T.Bounded.low (T.value a) (T.value b) result.1 }
+    ensures bound { AreWithinBits (T.value a) (T.value b) result.1 }
 {
     let (m, n) = (a.magnitude(), b.magnitude());
     if is_zero(a) {

@@ -17,18 +17,12 @@ pub record IsCubeFront (a rest square front weight : ℕ) : Type 0 where
 -- the square and the front are small
 cube_front : {a rest square front weight : ℕ} → 0 < weight → rest + front * front * front * weight ≡ a
     → rest < (3 * (front * front + front) + 1) * weight → square ≡ front * front → a < 2 ^ 32 → IsCubeFront a rest square front weight
-cube_front {front = front} positive whole near square_is fits =
+cube_front {square = square} {front = front} positive whole near square_is fits =
     let cube = mul-le-mul_left (front * front * front) positive in
     let small = base_below front (2 ^ 11) 3 (omega (arith, whole, fits, cube, power_three front)) in
     let below : front ≤ 2047 = omega arith in
-    record {
-      whole = whole;
-      near = near;
-      square_is = square_is;
-      fits = fits;
-      square_below = omega (arith, square_is, mul-le-mul below below);
-      front_below = small;
-    }
+    let squares : square < 2 ^ 22 = omega (arith, square_is, mul-le-mul below below) in
+    record { whole = whole; near = near; square_is = square_is; fits = fits; square_below = squares; front_below = small }
 
 -- what the next digit 1 takes of the rest, with the square and the front moved up by a place
 abbrev pub cube_step : ℕ → ℕ → ℕ

@@ -21,18 +21,12 @@ cross_powers x y m = elim (cases_lt x y) [
   | inr h ↦ omega (arith, cross y x (y ^ m) (x ^ m) h (pow-le-pow_left h m))
 ]
 
-means_next : (x y p q m : ℕ) → (m + 1) * (y * p) ≤ y * q + m * (x * p)
-    → x * (y * q) + y * (x * p) ≤ x * (x * p) + y * (y * q)
-    → (suc m + 1) * (y * (x * p)) ≤ y * (y * q) + suc m * (x * (x * p))
-means_next x y p q m h k = omega (arith, mul-le-mul_left x h, k)
-
 -- the inequality of the arithmetic and geometric means, of one y and m times x
 means : (x y m : ℕ) → (m + 1) * (y * x ^ m) ≤ y * y ^ m + m * (x * x ^ m)
 means x y zero = rw (pow-zero x, pow-zero y) (omega arith)
 means x y (suc m) =
-    let k : x * (y * y ^ m) + y * (x * x ^ m) ≤ x * (x * x ^ m) + y * (y * y ^ m) =
-    rw (pow-succ' x m, pow-succ' y m) at (cross_powers x y (suc m)) in
-    rw (pow-succ' x m, pow-succ' y m) (means_next x y (x ^ m) (y ^ m) m (means x y m) k)
+    let crossed = rw (pow-succ' x m, pow-succ' y m) at (cross_powers x y (suc m)) in
+    rw (pow-succ' x m, pow-succ' y m) (omega (arith, mul-le-mul_left x (means x y m), crossed))
 
 -- a step y from the guess x, where m is one less than the degree
 pub record IsNewtonStep (a n x y : ℕ) : Type 0 where

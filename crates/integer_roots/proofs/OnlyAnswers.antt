@@ -1,5 +1,5 @@
 -- Each answer is the only number that meets its definition.
-use Rattle.std.specs.Prelude.{◌≡◌, ◌≤ℤ◌, ℤ, pos, negsuc}
+use Rattle.std.specs.Prelude.{◌≡◌, ℤ, pos, negsuc}
 use Rattle.std.proofs.Common.{ℕ, ◌+◌, arith, sym, ◌∙◌}
 use Rattle.std.proofs.lemmas.Int.{ints, by_lt_z}
 use Rattle.integer_core.specs.Only.{IsOnly}
@@ -16,15 +16,13 @@ average_floor_is_only_one h g k = omega (arith, products, h.double_le, h.next_do
 pub average_ceil_is_only_one : {a b c : ℤ} → IsAverageCeil a b c → IsOnly (IsAverageCeil a b) c
 average_ceil_is_only_one h d k = omega (arith, products, h.previous_double_lt, h.double_ge, k.previous_double_lt, k.double_ge)
 
-floor_root_at_most : (x : ℤ) (n : ℕ) (r s : ℤ) → IsFloorRoot x n r → IsFloorRoot x n s → r ≤ℤ s
-floor_root_at_most x n (pos i) (pos j) h k =
-    omega (arith, ints, base_below i (j + 1) n (omega (arith, linear, h.power_le, k.next_power_gt)))
-floor_root_at_most x n (negsuc i) s h k = absurd (omega (arith, ints, h.from_zero))
-floor_root_at_most x n (pos i) (negsuc j) h k = absurd (omega (arith, ints, k.from_zero))
-
 floor_root_is_only_one : {x r : ℤ} {n : ℕ} → IsFloorRoot x n r → IsOnly (IsFloorRoot x n) r
-floor_root_is_only_one {x} {r} {n} h s k =
-    omega (arith, linear, floor_root_at_most x n r s h k, floor_root_at_most x n s r k h)
+floor_root_is_only_one {r = negsuc i} h s k = absurd (omega (arith, ints, h.from_zero))
+floor_root_is_only_one {r = pos i} h (negsuc j) k = absurd (omega (arith, ints, k.from_zero))
+floor_root_is_only_one {r = pos i} {n = n} h (pos j) k =
+    let most = base_below i (j + 1) n (omega (arith, linear, h.power_le, k.next_power_gt)) in
+    let least = base_below j (i + 1) n (omega (arith, linear, k.power_le, h.next_power_gt)) in
+    omega (arith, ints)
 
 pub root_is_only_one : {x r : ℤ} {n : ℕ} → IsRoot x n r → IsOnly (IsRoot x n) r
 root_is_only_one {x} h s k = by_lt_z x (pos 0)

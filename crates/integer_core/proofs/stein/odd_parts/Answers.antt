@@ -3,12 +3,6 @@ use Rattle.integer_core.proofs.NaturalGcd.{gcd_of_sizes}
 use Rattle.integer_core.proofs.SteinSteps.{gcd_fits, gcd_of_odd_parts}
 use Rattle.integer_core.proofs.stein.odd_parts.Goals as goal
 
-pub returns-clause-left : goal.returns-clause-left
-returns-clause-left g c = let e = c.without_twos-m.ensures in record { odd = e.odd; twos = _; product = e.product }
-
-pub returns-clause-right : goal.returns-clause-right
-returns-clause-right g c = let e = c.without_twos-n.ensures in record { odd = e.odd; twos = _; product = e.product }
-
 pub returns-clause-gcd : goal.returns-clause-gcd
 returns-clause-gcd g c odd h =
     let left = c.without_twos-m.ensures in
