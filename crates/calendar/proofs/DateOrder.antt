@@ -39,7 +39,7 @@ next_month year month from below =
     let part = rw next at more in
     omega (arith, ints)
 
--- the first day of the next month, of a date that a call takes
+-- what a function's goals about the end of a month need
 pub ruleset month_ends = (ints, to_z-of_z, next_month)
 
 pub next_year : (year : ℤ) → day_number (year +ℤ pos 1) 1 1 ≡ day_number year 12 31 +ℤ pos 1

@@ -16,6 +16,7 @@ use Rattle.calendar.proofs.YearLengths.{in_era, length_range, march_days, next_f
 abbrev pub march_months : ℕ → ℕ
 march_months month = (153 * month - 457) / 5
 
+-- the month begins so many days after 1 March
 abbrev FollowsMarch : Bool → ℕ → Type 0
 FollowsMarch leap month = sum (take (month - 1) (month_lengths leap)) ≡ sum (take 2 (month_lengths leap)) + march_months month
 
@@ -38,7 +39,7 @@ third_month year = omega arith
 pub month_and_day : (days : ℕ) → days < 306 → march_months ((2141 * days + 197913) / 65536) + (2141 * days + 197913) % 65536 / 2141 ≡ days
 month_and_day days small = omega arith
 
--- the months of a year that begins on 1 March
+-- what a function's goals about months from March on need
 pub ruleset month_steps = (ints, to_z-of_z, length_range, third_month, from_third_month, month_and_day)
 
 -- ---- years
@@ -49,7 +50,7 @@ march_first era n =
     let next = in_era era n (pos 400 *ℤ era +ℤ pos n +ℤ pos 1) (omega (arith, ints)) in
     omega (arith, ints, third_month (pos 400 *ℤ era +ℤ pos n), next_first_day (pos 400 *ℤ era +ℤ pos n))
 
--- the same, of days that a call takes
+-- what a function's goals about a 1 March need
 pub ruleset march_steps = (ints, march_first)
 
 -- January and February come after the days from the 1 March before

@@ -11,7 +11,7 @@ use Rattle.calendar.specs.Years.{days_after, days_before, days_in_year, first_da
 
 -- ---- the days of years
 
--- what decides whether a number divides a year
+-- what a function's goals about the multiples of a number need
 pub ruleset multiples = (ints, to_z-of_z, nat_tests, divides_by_magnitude)
 
 pub length_of : (leap : Bool) → sum (month_lengths leap) ≡ cond leap 366 365
@@ -23,7 +23,7 @@ pub length_range : (year : ℤ) → (365 ≤ days_in_year year) × (days_in_year
 unfolding days_in_year
 length_range year = rw length_of (grind arith)
 
--- what a number is read as, and the length of a year
+-- what a function's goals about the length of a year need
 pub ruleset year_steps = (ints, to_z-of_z, length_range)
 
 one_year : (n : ℕ) → days_in_year (negsuc n) + (suc n / 100 + (n / 4 + n / 400)) ≡ 365 + (n / 100 + (suc n / 4 + suc n / 400))

@@ -71,8 +71,8 @@ fn whole_months(from: &Date, to: &Date) -> i128
     }
 }
 
-/// Returns `true` if the day of the month of `from`, or the last day of the month of `to` where that is
-/// shorter, comes after `to` there.
+/// Returns `true` if the day of the month of `from`, or the last day of the month of `to` where that
+/// month is shorter, comes after the day of the month of `to`.
 #[tactic(auto, using(crate::proofs::YearLengths::year_steps))]
 fn ends_in_part_of_month(from: &Date, to: &Date) -> bool
     ensures { IsTrue result

@@ -78,8 +78,8 @@ fn whole_months(from: &Date, to: &Date) -> i128 {
     }
 }
 
-/// Returns `true` if the day of the month of `from`, or the last day of the month of `to` where that is
-/// shorter, comes after `to` there.
+/// Returns `true` if the day of the month of `from`, or the last day of the month of `to` where that
+/// month is shorter, comes after the day of the month of `to`.
 fn ends_in_part_of_month(from: &Date, to: &Date) -> bool {
     to.day_of_month < from.day_of_month.min(days_in_month(to.year, to.month))
 }
