@@ -10,7 +10,8 @@ use Rattle.integer_core.specs.Division.{IsMultiple}
 use Rattle.integer_core.specs.Divisors.{IsGreatestCommonDivisor, IsLeastCommonMultiple}
 use Rattle.integer_core.specs.Range.{EachFits, IsRange}
 use Rattle.num_integer.proofs.FittingAnswers.{IsKind, each_fits, each_fits_by, fits_below, test_inside}
-use Rattle.num_integer.proofs.ForCallers.{divisor_at_most, lcm-positive, product_from_zero}
+use Rattle.num_integer.proofs.DivisorSizes.{divisor_at_most, lcm-positive}
+use Rattle.num_integer.proofs.OrderedProducts.{product_from_zero}
 use Rattle.num_integer.specs.Checked.{AnswersWhere}
 use Rattle.num_integer.specs.Parts.{IsWithin}
 

@@ -15,7 +15,7 @@ use Rattle.integer_core.proofs.Divisibility.{cancel}
 use Rattle.integer_core.proofs.Whole.{comm}
 use Rattle.integer_core.specs.Range.{IsRange, EachFits}
 use Rattle.num_integer.proofs.FittingAnswers.{fits_below, fits_up}
-use Rattle.num_integer.proofs.ForCallers.{product_from_zero}
+use Rattle.num_integer.proofs.OrderedProducts.{product_from_zero}
 use Rattle.num_integer.proofs.Pascal.{coefficient-pos, divides_factorials, factorial-pos, not_below_top}
 use Rattle.num_integer.specs.Coefficient.{coefficient, factorial, coefficient_of}
 use Rattle.num_integer.specs.Laws.{MultinomialIgnoresOrder}
