@@ -32,17 +32,17 @@ pub(crate) fn coefficient_within(n: u128, k: u128, most: u128) -> Option<u128> {
 
 /// The sum of counts, and their multinomial.
 #[derive(Clone, Copy)]
-pub(crate) struct Shared {
+pub(crate) struct RunningMultinomial {
     pub(crate) total: u128,
     pub(crate) multinomial: u128,
 }
 
-impl Shared {
+impl RunningMultinomial {
     /// Returns the same with one more count, or `None` where the multinomial is then above `most`.
-    pub(crate) fn with_count(self, count: u128, most: u128) -> Option<Shared> {
+    pub(crate) fn with_count(self, count: u128, most: u128) -> Option<RunningMultinomial> {
         let total = self.total.checked_add(count)?;
         let ways = coefficient_within(total, count, most / self.multinomial)?;
-        Some(Shared {
+        Some(RunningMultinomial {
             total,
             multinomial: self.multinomial * ways,
         })

@@ -1,6 +1,6 @@
 //! Tests of the domains of the calls.
 
-use crate::bounded_coefficients::{coefficient_within, Shared};
+use crate::bounded_coefficients::{coefficient_within, RunningMultinomial};
 use crate::integer_core::operators::{difference, is_negative, is_zero, successor};
 use crate::integer_core::{Integer, NativeInteger};
 use crate::parts::sum_is_within;
@@ -199,7 +199,7 @@ pub trait Fits: Integer {
     /// [how to read it](crate::definitions).
     fn multinomial_fits(counts: &[Self]) -> bool {
         let most = Self::ends().1;
-        let mut shared = Shared {
+        let mut running = RunningMultinomial {
             total: 0,
             multinomial: 1,
         };
@@ -208,8 +208,8 @@ pub trait Fits: Integer {
             if negative {
                 return false;
             }
-            match shared.with_count(magnitude, most) {
-                Some(more) => shared = more,
+            match running.with_count(magnitude, most) {
+                Some(more) => running = more,
                 None => return false,
             }
         }

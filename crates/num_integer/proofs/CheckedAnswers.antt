@@ -7,8 +7,9 @@ use Rattle.integer_core.proofs.Divisibility.{Divides-trans, cancel, exact_quotie
 use Rattle.integer_core.proofs.Whole.{linear, left_comm, sizes}
 use Rattle.integer_core.specs.Divisors.{IsGreatestCommonDivisor, IsLeastCommonMultiple}
 use Rattle.integer_core.specs.Range.{EachFits, IsRange}
+use Rattle.num_integer.proofs.DivisorSizes.{divisor_at_most, lcm-positive}
 use Rattle.num_integer.proofs.FittingAnswers.{each_fits, fits_below, test_inside}
-use Rattle.num_integer.proofs.ForCallers.{divisor_at_most, lcm-positive, product_from_zero}
+use Rattle.num_integer.proofs.OrderedProducts.{product_from_zero}
 use Rattle.num_integer.specs.Checked.{AnswersWhere}
 use Rattle.num_integer.specs.Parts.{IsWithin}
 

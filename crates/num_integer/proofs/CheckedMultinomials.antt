@@ -8,7 +8,7 @@ use Rattle.std.proofs.lemmas.List.Elements.{All-from_all_within, AllWithin-more,
 use Rattle.integer_core.proofs.Whole.{from_not_less}
 use Rattle.integer_core.specs.Range.{IsRange}
 use Rattle.num_integer.proofs.FittingAnswers.{fits_below}
-use Rattle.num_integer.proofs.ForCallers.{product_from_zero}
+use Rattle.num_integer.proofs.OrderedProducts.{product_from_zero}
 use Rattle.num_integer.proofs.Multinomials.{HasFittingMultinomial, IsMultinomialSoFar, is_multinomial, only_multinomial, past_top, product_of, shared_below, shared_last, shared_next}
 use Rattle.num_integer.specs.Coefficient.{coefficient, coefficient_of}
 use Rattle.num_integer.specs.Multinomial.{IsMultinomial}

@@ -11,10 +11,11 @@ use Rattle.integer_core.proofs.EuclidTurns.{divisor_size}
 use Rattle.integer_core.proofs.Multiples.{only_multiple}
 use Rattle.integer_core.proofs.Quotients.{only_ceiled, only_floored, only_truncated, floored_by_minus_one, other_quotient_fits}
 use Rattle.integer_core.proofs.Ranges.{within_fits}
-use Rattle.integer_core.proofs.Whole.{from_not_less, linear, sizes}
+use Rattle.integer_core.proofs.Whole.{from_not_less, linear}
 use Rattle.integer_core.specs.Division.{EachKind, IsCeiled, IsDivision, IsFloored, IsTruncated, IsQuotient, IsMultiple}
 use Rattle.integer_core.specs.Divisors.{IsGreatestCommonDivisor, IsLeastCommonMultiple}
 use Rattle.integer_core.specs.Range.{IsRange, EachFits}
+use Rattle.num_integer.proofs.DivisorSizes.{divisor_at_most}
 use Rattle.num_integer.specs.Parts.{IsWithin, signed}
 
 -- ---- what fits a lawful type
@@ -59,7 +60,7 @@ quotients_by_positive range n_fits d_fits test up =
 pub gcd_with_positive : {fits : ℤ → Type 0} {low high a b : ℤ} {answer : Bool} → IsRange fits low high → fits b
     → IsTrue answer ↔ EachFits fits (IsGreatestCommonDivisor a b) → pos 0 <ℤ b → IsTrue answer
 gcd_with_positive range b_fits test up =
-    test.1 (λ g h. fits_below range b_fits h.from_zero (omega (arith, sizes, divisor_size h.divides_right (λ none. omega (arith, linear)))))
+    test.1 (λ g h. fits_below range b_fits h.from_zero (divisor_at_most up h.divides_right))
 
 -- ---- what the three kinds of division share
 

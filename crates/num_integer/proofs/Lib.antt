@@ -7,4 +7,13 @@ pub mod Multinomials
 pub mod CheckedMultinomials
 pub mod ScaledQuotients
 pub mod Laws
+pub mod OrderedProducts
+pub mod FlooredByPositive
+pub mod DivisorSizes
+pub mod Coprimes
+pub mod ExactRoots
+pub mod GrowingCoefficients
+pub mod NaturalDivision
+pub mod LiteralMultiples
+pub mod DivisionByLiterals
 pub mod ForCallers

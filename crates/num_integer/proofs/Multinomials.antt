@@ -15,7 +15,7 @@ use Rattle.integer_core.proofs.Divisibility.{cancel}
 use Rattle.integer_core.proofs.Whole.{comm}
 use Rattle.integer_core.specs.Range.{IsRange, EachFits}
 use Rattle.num_integer.proofs.FittingAnswers.{fits_below, fits_up}
-use Rattle.num_integer.proofs.ForCallers.{product_from_zero}
+use Rattle.num_integer.proofs.OrderedProducts.{product_from_zero}
 use Rattle.num_integer.proofs.Pascal.{coefficient-pos, divides_factorials, factorial-pos, not_below_top}
 use Rattle.num_integer.specs.Coefficient.{coefficient, factorial, coefficient_of}
 use Rattle.num_integer.specs.Laws.{MultinomialIgnoresOrder}
@@ -219,8 +219,8 @@ factorials-set (x ∷ xs) zero y d h = omega arith
 factorials-set (x ∷ xs) (suc i) y d h = let e = ap (λ (t : ℕ). factorial x * t) (factorials-set xs i y d (omega arith)) in omega arith
 
 -- two numbers in each other's place
-swapped : (l : List ℕ) (i j : ℕ) → i < length l → j < length l → product (map factorial (swap l i j)) ≡ product (map factorial l)
-swapped l i j p q =
+swap_keeps_factorials : (l : List ℕ) (i j : ℕ) → i < length l → j < length l → product (map factorial (swap l i j)) ≡ product (map factorial l)
+swap_keeps_factorials l i j p q =
     let a : ℕ = get_or l i 0 in
     let b : ℕ = get_or l j 0 in
     let w : List ℕ = set l i b in
@@ -238,5 +238,5 @@ pub in_any_order : MultinomialIgnoresOrder
 in_any_order counts others h m is =
     let magnitudes = IsPermutation-map unsigned_abs counts others h in
     let own : ℕ = product (map factorial (map unsigned_abs counts)) in
-    let products = IsPermutation-keeps _ (λ (l : List ℕ). product (map factorial l) ≡ own) refl (λ l i j p q h. swapped l i j p q ∙ h) _ magnitudes in
+    let products = IsPermutation-keeps _ (λ (l : List ℕ). product (map factorial l) ≡ own) refl (λ l i j p q h. swap_keeps_factorials l i j p q ∙ h) _ magnitudes in
     record { factorials = rw (products, sum_by-IsPermutation (λ (x : ℕ). x) _ _ magnitudes) is.factorials }

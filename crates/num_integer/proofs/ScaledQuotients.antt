@@ -10,7 +10,7 @@ use Rattle.integer_core.proofs.Whole.{linear, products, sizes}
 use Rattle.integer_core.specs.Division.{IsFloored, IsQuotient}
 use Rattle.integer_core.specs.Range.{EachFits, IsRange}
 use Rattle.num_integer.proofs.FittingAnswers.{signed_is}
-use Rattle.num_integer.proofs.ForCallers.{floored_by_range}
+use Rattle.num_integer.proofs.FlooredByPositive.{floored_by_range}
 use Rattle.num_integer.specs.Checked.{AnswersWhere}
 use Rattle.num_integer.specs.Parts.{signed}
 

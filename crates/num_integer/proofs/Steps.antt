@@ -15,7 +15,7 @@ use Rattle.integer_core.proofs.Whole.{comm, expand, linear, products}
 use Rattle.integer_core.specs.Divisors.{Divides, IsGreatestCommonDivisor}
 use Rattle.integer_core.specs.Range.{IsRange}
 use Rattle.num_integer.proofs.FittingAnswers.{fits_below}
-use Rattle.num_integer.proofs.ForCallers.{factor_positive}
+use Rattle.num_integer.proofs.OrderedProducts.{factor_positive}
 use Rattle.num_integer.proofs.Pascal.{mirror, next_in_row, coefficient-zero, nearer_same, rises}
 use Rattle.num_integer.specs.Coefficient.{coefficient, coefficient_of}
 use Rattle.num_integer.specs.Laws.{RowIsGreatestInMiddle, RowIsPalindrome, RowLength}

@@ -8,7 +8,7 @@ ghost use Rattle.integer_core.specs.Range.{EachFits};
 ghost use Rattle.num_integer.specs.Coefficient.{coefficient_of};
 ghost use Rattle.num_integer.specs.Multinomial.{IsMultinomial};
 
-use crate::bounded_coefficients::{Shared, coefficient_within};
+use crate::bounded_coefficients::{RunningMultinomial, coefficient_within};
 use crate::parts::sum_is_within;
 use integer_core::operators::{difference, is_negative, is_zero, successor};
 use integer_core::{Integer, NativeInteger};
@@ -153,7 +153,7 @@ pub trait Fits: Integer {
             × EachFits Self.fits (IsMultinomial (map Self.value counts.now))) }
     {
         let most = Self::ends().1;
-        let mut shared = Shared {
+        let mut running = RunningMultinomial {
             total: 0,
             multinomial: 1,
         };
@@ -162,8 +162,8 @@ pub trait Fits: Integer {
             if negative {
                 return false;
             }
-            match shared.with_count(magnitude, most) {
-                Some(more) => shared = more,
+            match running.with_count(magnitude, most) {
+                Some(more) => running = more,
                 None => return false,
             }
         }

@@ -1,7 +1,7 @@
 use Rattle.std.specs.Prelude.{◌≡◌, ◌/◌, ◌≤ℤ◌, ℤ, pos, negsuc, unsigned_abs, int_div}
 use Rattle.std.proofs.Common.{arith, refl, ◌∙◌}
 use Rattle.std.proofs.lemmas.Int.{ints}
-use Rattle.num_integer.proofs.ForCallers.{operator_quotient_fits}
+use Rattle.num_integer.proofs.FlooredByPositive.{operator_quotient_fits}
 use Rattle.num_integer.proofs.checked.coefficients.half.Goals as goal
 
 -- half of a number at least 0

@@ -3,7 +3,7 @@ use Rattle.std.proofs.lemmas.Bool.{iff_false}
 use Rattle.integer_core.proofs.CommonDivisors.{gcd-positive, only_lcm}
 use Rattle.integer_core.specs.Divisors.{IsLeastCommonMultiple}
 use Rattle.num_integer.proofs.CheckedAnswers.{answers_only, lcm_by_gcd, zero_lcm}
-use Rattle.num_integer.proofs.ForCallers.{operator_quotient_fits}
+use Rattle.num_integer.proofs.FlooredByPositive.{operator_quotient_fits}
 use Rattle.num_integer.proofs.checked.divisors.lcm_with_gcd.Goals as goal
 
 pub quotient-requires-clause-quotient_fits : goal.quotient-requires-clause-quotient_fits

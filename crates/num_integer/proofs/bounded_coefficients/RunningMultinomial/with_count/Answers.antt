@@ -1,7 +1,7 @@
 use Rattle.std.specs.Int.{w128}
 use Rattle.std.proofs.Common.{arith, rules, Fits}
 use Rattle.num_integer.proofs.Multinomials.{past_top}
-use Rattle.num_integer.proofs.bounded_coefficients.Shared.with_count.Goals as goal
+use Rattle.num_integer.proofs.bounded_coefficients.RunningMultinomial.with_count.Goals as goal
 
 pub returns-in_err-total : goal.returns-in_err-total
 returns-in_err-total c =

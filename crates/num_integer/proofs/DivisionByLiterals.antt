@@ -1,0 +1,33 @@
+-- Division by literals.
+use Rattle.std.specs.Prelude.{◌≡◌, ◌↔◌, ◌<◌, ◌%◌, ◌≤ℤ◌, ◌<ℤ◌, ◌+ℤ◌, ◌*ℤ◌, ℤ, ℕ, pos, negsuc, suc, unsigned_abs}
+use Rattle.std.proofs.Common.{arith}
+use Rattle.std.proofs.lemmas.Int.{ints}
+use Rattle.integer_core.specs.Division.{IsCeiled, IsFloored, IsQuotient}
+use Rattle.integer_core.specs.Divisors.{Divides}
+use Rattle.integer_core.proofs.Divisibility.{Divides-trans}
+use Rattle.integer_core.proofs.Whole.{linear}
+use Rattle.num_integer.proofs.FlooredByPositive.{ceiled_remainder_range, floored_remainder_range}
+use Rattle.num_integer.proofs.NaturalDivision.{divides_is_natural}
+
+-- a floored quotient by inequalities
+pub floored_quotient_range : {n q : ℤ} {d : ℕ} → IsQuotient IsFloored n (pos (suc d)) q → ((q *ℤ pos (suc d)) ≤ℤ n) × (n <ℤ (q *ℤ pos (suc d) +ℤ pos (suc d)))
+floored_quotient_range {q = q} h =
+    let range = floored_remainder_range (omega (arith, ints)) (record { quotient = q; division = h.division }) in
+    let equation = h.division.division.equation in
+    (omega (arith, linear), omega (arith, linear))
+
+-- a ceiled quotient by inequalities
+pub ceiled_quotient_range : {n q : ℤ} {d : ℕ} → IsQuotient IsCeiled n (pos (suc d)) q → (n ≤ℤ (q *ℤ pos (suc d))) × ((q *ℤ pos (suc d)) <ℤ (n +ℤ pos (suc d)))
+ceiled_quotient_range h =
+    let range = ceiled_remainder_range (omega (arith, ints)) h.division in
+    let equation = h.division.division.equation in
+    (omega (arith, linear), omega (arith, linear))
+
+-- a divisor of a whole number leaves no remainder of its magnitude
+pub divides_by_magnitude : (z : ℤ) (d : ℕ) → 0 < d → Divides (pos d) z ↔ (unsigned_abs z % d ≡ 0)
+divides_by_magnitude (pos n) d up = divides_is_natural up
+divides_by_magnitude (negsuc n) d up =
+    let natural = divides_is_natural {d = d} {n = suc n} up in (
+      λ h. natural.0 (Divides-trans h (record { factor = negsuc 0; product = omega (arith, ints) })),
+      λ e. Divides-trans (natural.1 e) (record { factor = negsuc 0; product = omega (arith, ints) }),
+    )

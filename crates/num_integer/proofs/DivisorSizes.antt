@@ -1,0 +1,54 @@
+-- How great divisors and multiples are.
+use Rattle.std.specs.Prelude.{◌≡◌, ◌≢◌, ◌<◌, ◌≤◌, ◌≤ℤ◌, ◌<ℤ◌, ◌*ℤ◌, ℤ, ℕ, pos, unsigned_abs}
+use Rattle.std.proofs.Common.{arith, ◌∙◌, inl, inr, refl}
+use Rattle.std.proofs.lemmas.Int.{ints}
+use Rattle.integer_core.specs.Range.{IsRange}
+use Rattle.integer_core.specs.Divisors.{Divides, IsGreatestCommonDivisor, IsLeastCommonMultiple}
+use Rattle.integer_core.proofs.CommonDivisors.{gcd-swap, gcd-zero, only_gcd}
+use Rattle.integer_core.proofs.Divisibility.{cancel, zero_divides}
+use Rattle.integer_core.proofs.EuclidTurns.{divisor_size}
+use Rattle.integer_core.proofs.Quotients.{zero_or_not}
+use Rattle.integer_core.proofs.Ranges.{within_fits}
+use Rattle.integer_core.proofs.Whole.{comm, linear, products, sizes}
+
+-- a divisor of a number above 0 is at most that number
+pub divisor_at_most : {u v : ℤ} → pos 0 <ℤ v → Divides u v → u ≤ℤ v
+divisor_at_most up h = let size = divisor_size h (λ none. omega (arith, linear)) in omega (arith, sizes)
+
+-- a gcd with a number above 0 fits
+pub gcd_with_positive_fits : {fits : ℤ → Type 0} {low high a b g : ℤ} → IsRange fits low high → fits b → pos 0 <ℤ b → IsGreatestCommonDivisor a b g → fits g
+gcd_with_positive_fits range b_fits up h = within_fits range b_fits (inl (h.from_zero, divisor_at_most up h.divides_right))
+
+-- a gcd is no greater than a number that both are not above, by magnitudes
+pub gcd_at_most : {a b g : ℤ} (most : ℕ) → unsigned_abs a ≤ most → unsigned_abs b ≤ most → IsGreatestCommonDivisor a b g → unsigned_abs g ≤ most
+gcd_at_most {a} {b} most left right h = elim (zero_or_not a) [
+  | inl none ↦ let same = only_gcd (rw none at h) (gcd-swap (gcd-zero b)) in omega (arith, ints)
+  | inr nonzero ↦ omega (arith, divisor_size h.divides_left nonzero)
+]
+
+-- a multiple of a number that is smaller than the number is 0
+pub small_multiple_is_zero : {u v : ℤ} → Divides u v → unsigned_abs v < unsigned_abs u → v ≡ pos 0
+small_multiple_is_zero {u} {v} h small = elim (zero_or_not v) [
+  | inl none ↦ none
+  | inr nonzero ↦ absurd (omega (arith, divisor_size h nonzero))
+]
+
+-- the least common multiple is at most the magnitude of the product
+pub lcm_at_most_product : {a b l : ℤ} → IsLeastCommonMultiple a b l → l ≤ℤ pos (unsigned_abs (a *ℤ b))
+lcm_at_most_product {a} {b} {l} h = elim (zero_or_not a) [
+  | inl none ↦ omega (arith, sizes, zero_divides (rw none at h.left_divides))
+  | inr a_nonzero ↦ elim (zero_or_not b) [
+    | inl none ↦ omega (arith, sizes, zero_divides (rw none at h.right_divides))
+    | inr b_nonzero ↦
+        let x = h.least (a *ℤ b) (record { factor = b; product = refl }) (record { factor = a; product = comm a b }) in
+        let size = divisor_size x (λ none. b_nonzero (cancel a b (pos 0) a_nonzero (none ∙ omega (arith, products)))) in
+        omega (arith, sizes, h.from_zero)
+  ]
+]
+
+-- the least common multiple of numbers that are not 0 is above 0
+pub lcm-positive : {a b l : ℤ} → IsLeastCommonMultiple a b l → a ≢ pos 0 → b ≢ pos 0 → pos 0 <ℤ l
+lcm-positive {a} {b} {l} h a_nonzero b_nonzero =
+    let x = h.least (a *ℤ b) (record { factor = b; product = refl }) (record { factor = a; product = comm a b }) in
+    let nonzero : l ≢ pos 0 = λ none. b_nonzero (cancel a b (pos 0) a_nonzero (zero_divides (rw none at x) ∙ omega (arith, products))) in
+    omega (arith, linear, h.from_zero)

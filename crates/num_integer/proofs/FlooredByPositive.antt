@@ -1,0 +1,95 @@
+-- Quotients, remainders and multiples by a number above 0.
+use Rattle.std.specs.Prelude.{◌≡◌, ◌≢◌, ◌↔◌, ◌≤ℤ◌, ◌<ℤ◌, ◌+ℤ◌, ◌-ℤ◌, ◌*ℤ◌, ℤ, ℕ, pos, unsigned_abs, int_div, Bool, IsTrue}
+use Rattle.std.proofs.Common.{arith, ◌∙◌, subst}
+use Rattle.std.proofs.lemmas.Int.{by_lt_z}
+use Rattle.integer_core.specs.Division.{IsCeiled, IsDivision, IsFloored, IsMultiple, IsQuotient, IsRemainder}
+use Rattle.integer_core.specs.Range.{EachFits, IsRange}
+use Rattle.integer_core.specs.Divisors.{Divides}
+use Rattle.num_integer.specs.Parts.{signed}
+use Rattle.integer_core.proofs.Quotients.{only_floored, other_quotient_fits, truncated_is}
+use Rattle.integer_core.proofs.Whole.{comm, expand, linear, products, sizes}
+use Rattle.num_integer.proofs.FittingAnswers.{signed_is}
+use Rattle.num_integer.proofs.OrderedProducts.{multiples_apart}
+
+-- a floored remainder lies from 0 to below the divisor
+pub floored_remainder_range : {n d r : ℤ} → pos 0 <ℤ d → IsRemainder IsFloored n d r → (pos 0 ≤ℤ r) × (r <ℤ d)
+floored_remainder_range up h = (omega (arith, sizes, h.division.sign, h.division.division.small), omega (arith, sizes, h.division.sign, h.division.division.small))
+
+-- and is the only number there that is a multiple of the divisor away
+pub floored_by_range : {n d q r : ℤ} → n ≡ q *ℤ d +ℤ r → pos 0 ≤ℤ r → r <ℤ d → IsFloored n d q r
+floored_by_range equation from_zero below = record {
+  division = record { equation = equation; small = omega (arith, sizes) };
+  sign = grind (arith, linear);
+}
+
+-- so the pair of a floored quotient and remainder is the only one whose remainder lies there
+pub only_pair_by_range : {n d q r p s : ℤ} → IsFloored n d q r → n ≡ p *ℤ d +ℤ s → pos 0 ≤ℤ s → s <ℤ d → (p ≡ q) × (s ≡ r)
+only_pair_by_range h equation from_zero below = only_floored (floored_by_range equation from_zero below) h
+
+-- what the remainder leaves of the divisor leads to a multiple
+pub rest_leads_to_multiple : {n d r : ℤ} → IsRemainder IsFloored n d r → Divides d (n +ℤ (d -ℤ r))
+rest_leads_to_multiple {n} {d} {r} h = record { factor = h.quotient +ℤ pos 1; product = simp (h.division.division.equation, expand) (omega (arith, products)) }
+
+-- a ceiled remainder lies from above the divisor's negation to 0
+pub ceiled_remainder_range : {n d q r : ℤ} → pos 0 <ℤ d → IsCeiled n d q r → (r ≤ℤ pos 0) × (pos 0 <ℤ (r +ℤ d))
+ceiled_remainder_range up h = (omega (arith, sizes, h.sign, h.division.small), omega (arith, sizes, h.sign, h.division.small))
+
+-- a ceiled quotient is the least number whose multiple is not below the dividend
+pub ceiled_quotient_least : {n d q : ℤ} → pos 0 <ℤ d → IsQuotient IsCeiled n d q → (n ≤ℤ (q *ℤ d)) × ((m : ℤ) → n ≤ℤ (m *ℤ d) → q ≤ℤ m)
+ceiled_quotient_least {n} {d} {q} up h =
+    let range = ceiled_remainder_range up h.division in
+    let equation = h.division.division.equation in (
+      omega (arith, linear),
+      λ m above. by_lt_z m q
+          (λ less. absurd (omega (arith, linear, multiples_apart m q d up less)))
+          (λ fine. fine),
+    )
+
+-- the next multiple is the least one from the number on
+pub next_multiple_least : {n d m : ℤ} → pos 0 <ℤ d → IsMultiple IsCeiled n d m
+    → (n ≤ℤ m) × (m <ℤ (n +ℤ d)) × Divides d m × ((u : ℤ) → n ≤ℤ u → Divides d u → m ≤ℤ u)
+next_multiple_least {n} {d} {m} up h =
+    let range = ceiled_remainder_range up h.is.division in
+    let equation = h.is.division.division.equation in
+    let product = h.product in
+    let least = (ceiled_quotient_least up h.is).1 in (
+      omega (arith, linear),
+      omega (arith, linear),
+      record { factor = h.quotient; product = product ∙ comm h.quotient d },
+      λ u above x.
+          let same : u ≡ x.factor *ℤ d = x.product ∙ comm d x.factor in
+          by_lt_z u m
+          (λ less. by_lt_z x.factor h.quotient
+          (λ under. absurd (omega (arith, linear, least x.factor (omega (arith, linear)))))
+          (λ over. by_lt_z h.quotient x.factor
+          (λ far. absurd (omega (arith, linear, multiples_apart h.quotient x.factor d up far)))
+          (λ near. let one : x.factor ≡ h.quotient = omega (arith, linear) in absurd (omega (arith, linear, rw one at same)))))
+          (λ fine. fine),
+    )
+
+-- where that multiple does not fit, no least multiple from the number on does
+pub least_multiple_beyond : (fits : ℤ → Type 0) {n d : ℤ} → pos 0 <ℤ d → ¬ ((d ≢ pos 0) × EachFits fits (IsMultiple IsCeiled n d))
+    → (u : ℤ) → n ≤ℤ u → Divides d u → ((v : ℤ) → n ≤ℤ v → Divides d v → u ≤ℤ v) → ¬ (fits u)
+least_multiple_beyond fits up none u above divides least u_fits = none (
+  λ e. omega (arith, linear),
+  λ m h.
+      let own = next_multiple_least up h in
+      let same : u ≡ m = omega (arith, linear, least m own.0 own.2, own.3 u above divides) in
+      subst fits same u_fits,
+)
+
+-- such a quotient fits
+pub positive_quotient_fits : {fits : ℤ → Type 0} {low high n d q r : ℤ} → IsRange fits low high → fits n → fits d → pos 0 <ℤ d → IsDivision n d q r → fits q
+positive_quotient_fits range n_fits d_fits up division = other_quotient_fits range n_fits d_fits (λ e. omega (arith, linear)) division
+
+-- as that of `/` does
+pub operator_quotient_fits : {fits : ℤ → Type 0} {low high : ℤ} (n d : ℤ) → IsRange fits low high → fits n → fits d → pos 0 <ℤ d → fits (int_div n d)
+operator_quotient_fits n d range n_fits d_fits up = positive_quotient_fits range n_fits d_fits up (truncated_is n d (λ e. omega (arith, linear))).division
+
+-- a sum with a number at least 0 fits exactly where it is at most the greatest number, by signs and magnitudes
+pub sum_fits_exactly : {fits : ℤ → Type 0} {low high a b : ℤ} {negative answer : Bool} {m n h : ℕ} → IsRange fits low high → fits a → pos 0 ≤ℤ b → IsTrue negative ↔ (a <ℤ pos 0) → m ≡ unsigned_abs a
+    → n ≡ unsigned_abs b → pos h ≡ high → IsTrue answer ↔ ((signed negative m +ℤ pos n) ≤ℤ pos h) → IsTrue answer ↔ fits (a +ℤ b)
+sum_fits_exactly {high = high} {a = a} {b = b} {answer = answer} {n = n} range a_fits up negative a_size b_size top test =
+    let b_is : pos n ≡ b = omega (arith, sizes) in
+    let sum : IsTrue answer ↔ ((a +ℤ b) ≤ℤ high) = rw (signed_is negative a_size, b_is, top) at test in
+    (λ t. (range.between _).1 (omega (arith, linear, (range.between a).0 a_fits, sum.0 t)), λ f. sum.1 ((range.between _).0 f).1)

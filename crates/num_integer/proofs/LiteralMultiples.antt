@@ -1,0 +1,46 @@
+-- Least common multiples of literals, which the prover computes.
+use Rattle.std.specs.Prelude.{◌≡◌, ◌<◌, ◌*◌, ◌/◌, ◌%◌, ◌^◌, ℤ, ℕ, pos, zero, suc, unsigned_abs, IsTrue, nat_lt, FitsSigned}
+use Rattle.std.specs.Int.{FitsUnsignedBits, Width}
+use mir.Val.{hbits}
+use Rattle.std.proofs.Common.{arith, ◌∙◌, ap, inl, inr, refl, subst, sym}
+use Rattle.std.proofs.lemmas.Bool.{ltb-true}
+use Rattle.std.proofs.lemmas.Int.{fits_signed_from_abs}
+use Rattle.std.proofs.Math.Nat.{div-le_self}
+use Rattle.integer_core.specs.Divisors.{IsGreatestCommonDivisor, IsLeastCommonMultiple}
+use Rattle.integer_core.proofs.CommonDivisors.{gcd-remainder, gcd-zero, lcm-computed, only_lcm}
+use Rattle.integer_core.proofs.Divisibility.{zero_divides}
+use Rattle.integer_core.proofs.Quotients.{zero_or_not}
+use Rattle.num_integer.proofs.NaturalDivision.{natural_division}
+
+-- Euclid's algorithm, which the prover computes
+abbrev pub euclid : ℕ → ℕ → ℕ → ℕ
+euclid zero a b = a
+euclid (suc turns) a zero = a
+euclid (suc turns) a (suc b) = euclid turns (suc b) (a % suc b)
+
+euclid_is : (turns a b : ℕ) → b < turns → IsGreatestCommonDivisor (pos a) (pos b) (pos (euclid turns a b))
+euclid_is zero a b h = absurd (omega arith)
+euclid_is (suc turns) a zero h = gcd-zero (pos a)
+euclid_is (suc turns) a (suc b) h =
+    let rest : a % suc b < turns = omega arith in
+    gcd-remainder (natural_division a (suc b) (omega arith)).division (euclid_is turns (suc b) (a % suc b) rest)
+
+-- the lcm of two numbers by their magnitudes
+abbrev pub lcm_number : ℕ → ℕ → ℕ
+lcm_number m n = m * (n / euclid (suc n) m n)
+
+none_over : (m x : ℕ) → m * (0 / x) ≡ 0
+none_over m x = let e : 0 / x ≡ 0 = omega (arith, div-le_self 0 x) in rw e (omega arith)
+
+lcm_is : {a b l : ℤ} → IsLeastCommonMultiple a b l → l ≡ pos (lcm_number (unsigned_abs a) (unsigned_abs b))
+lcm_is {a} {b} h = elim (zero_or_not b) [
+  | inl none ↦ rw none (zero_divides (rw none at h.right_divides) ∙ ap pos (sym (none_over _ _)))
+  | inr nonzero ↦ only_lcm h (lcm-computed {q = pos (unsigned_abs b / euclid (suc (unsigned_abs b)) (unsigned_abs a) (unsigned_abs b))} refl refl nonzero (euclid_is (suc (unsigned_abs b)) (unsigned_abs a) (unsigned_abs b) (omega arith)) refl refl)
+]
+
+-- the lcm of two literals fits where the computed one does
+pub literal_lcm_fits : (bits : ℕ) {a b l : ℤ} → IsLeastCommonMultiple a b l → IsTrue (nat_lt (lcm_number (unsigned_abs a) (unsigned_abs b)) (2 ^ bits)) → FitsUnsignedBits bits l
+literal_lcm_fits bits h test = subst (FitsUnsignedBits bits) (sym (lcm_is h)) (ltb-true _ _ test)
+
+pub literal_lcm_fits_signed : (w : Width) {a b l : ℤ} → IsLeastCommonMultiple a b l → IsTrue (nat_lt (lcm_number (unsigned_abs a) (unsigned_abs b)) (2 ^ hbits w)) → FitsSigned w l
+literal_lcm_fits_signed w h test = subst (FitsSigned w) (sym (lcm_is h)) (fits_signed_from_abs w _ (ltb-true _ _ test))

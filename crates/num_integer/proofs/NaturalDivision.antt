@@ -1,0 +1,58 @@
+-- Division of natural numbers, as `/` and `%` say it.
+use Rattle.std.specs.Prelude.{◌≡◌, ◌↔◌, ◌<◌, ◌≤◌, ◌+◌, ◌*◌, ◌/◌, ◌%◌, ◌^◌, ◌≤ℤ◌, ◌<ℤ◌, ◌+ℤ◌, ◌*ℤ◌, ℤ, ℕ, pos, unsigned_abs}
+use Rattle.std.specs.Int.{FitsUnsignedBits}
+use Rattle.std.proofs.Common.{arith, ◌∙◌, ap}
+use Rattle.std.proofs.lemmas.Int.{ints}
+use Rattle.std.proofs.lemmas.Nat.{div_below, le-div, mul-lt}
+use Rattle.std.proofs.Math.Nat.{div-le_self}
+use Rattle.integer_core.specs.Division.{IsFloored, IsQuotient, IsRemainder}
+use Rattle.integer_core.specs.Range.{EachFits}
+use Rattle.integer_core.specs.Divisors.{Divides, IsLeastCommonMultiple}
+use Rattle.integer_core.proofs.Quotients.{only_floored}
+use Rattle.integer_core.proofs.Whole.{products}
+use Rattle.num_integer.proofs.FlooredByPositive.{floored_by_range}
+use Rattle.num_integer.proofs.DivisorSizes.{divisor_at_most, lcm-positive}
+
+multiple_alone : (d k : ℤ) → d *ℤ k ≡ k *ℤ d +ℤ pos 0
+multiple_alone d k = omega (arith, products)
+
+pub natural_division : (n d : ℕ) → 0 < d → IsFloored (pos n) (pos d) (pos (n / d)) (pos (n % d))
+natural_division n d up = floored_by_range (omega (arith, ints)) (omega (arith, ints)) (omega (arith, ints))
+
+-- a floored quotient and remainder are those of `/` and `%`
+pub quotient_is_natural : {n d q : ℕ} → 0 < d → IsQuotient IsFloored (pos n) (pos d) (pos q) → q ≡ n / d
+quotient_is_natural {n} {d} up h = ap unsigned_abs (only_floored h.division (natural_division n d up)).0
+
+pub remainder_is_natural : {n d r : ℕ} → 0 < d → IsRemainder IsFloored (pos n) (pos d) (pos r) → r ≡ n % d
+remainder_is_natural {n} {d} up h = ap unsigned_abs (only_floored h.division (natural_division n d up)).1
+
+pub division_is_natural : {n d q r : ℕ} → 0 < d → IsFloored (pos n) (pos d) (pos q) (pos r) → (q ≡ n / d) × (r ≡ n % d)
+division_is_natural {n} {d} up h = let same = only_floored h (natural_division n d up) in (ap unsigned_abs same.0, ap unsigned_abs same.1)
+
+-- such a quotient fits
+pub natural_quotient_fits : (bits : ℕ) {n d : ℕ} → n < 2 ^ bits → 0 < d → EachFits (FitsUnsignedBits bits) (IsQuotient IsFloored (pos n) (pos d))
+natural_quotient_fits bits {n} {d} small up q h = rw (only_floored h.division (natural_division n d up)).0 (omega (arith, div-le_self n d))
+
+-- a divisor leaves no remainder
+pub divides_is_natural : {d n : ℕ} → 0 < d → Divides (pos d) (pos n) ↔ (n % d ≡ 0)
+divides_is_natural {d} {n} up = (
+  λ h.
+      let own : IsRemainder IsFloored (pos n) (pos d) (pos 0) = record { quotient = h.factor; division = floored_by_range (h.product ∙ multiple_alone (pos d) h.factor) (omega (arith, ints)) (omega (arith, ints)) } in
+      omega (arith, ints, remainder_is_natural up own),
+  λ e. record { factor = pos (n / d); product = omega (arith, ints) },
+)
+
+-- l / a and l / b, where l is the lcm, are the least turns of wheels of a and b teeth that end where they began
+pub least_turns : {a b l : ℕ} → 0 < a → 0 < b → IsLeastCommonMultiple (pos a) (pos b) (pos l)
+    → (0 < l / a) × (l / a * a ≡ l / b * b) × ((x y : ℕ) → 0 < x → x * a ≡ y * b → (l / a ≤ x) × (l / b ≤ y))
+least_turns {a} {b} {l} a_up b_up h =
+    let up : pos 0 <ℤ pos l = lcm-positive h (λ e. omega (arith, ints)) (λ e. omega (arith, ints)) in
+    let most : pos a ≤ℤ pos l = divisor_at_most up h.left_divides in (
+      le-div 1 l a a_up (omega (arith, ints)),
+      omega (arith, (divides_is_natural a_up).0 h.left_divides, (divides_is_natural b_up).0 h.right_divides),
+      λ x y x_up e.
+          let left : Divides (pos a) (pos (x * a)) = record { factor = pos x; product = omega (arith, ints) } in
+          let right : Divides (pos b) (pos (x * a)) = rw e (record { factor = pos y; product = omega (arith, ints) }) in
+          let down : pos l ≤ℤ pos (x * a) = divisor_at_most (omega (arith, ints, mul-lt 0 0 x a x_up a_up)) (h.least _ left right) in
+          (omega (arith, ints, div_below l a (x + 1) a_up (omega (arith, ints))), omega (arith, ints, div_below l b (y + 1) b_up (omega (arith, ints)))),
+    )
