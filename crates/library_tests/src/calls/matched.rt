@@ -140,7 +140,7 @@ fn product_up_to_the_greatest(a: u32, b: u32) -> u32
 }
 
 /// The negation, or the greatest number.
-fn turned(x: i8) -> i8
+fn negated_or_greatest(x: i8) -> i8
     ensures { i8.MIN <ℤ x → result ≡ neg_ℤ x }
 {
     if let Some(negation) = checked::negated(x) {
