@@ -14,7 +14,7 @@ mod residue_ends;
 mod residue_powers;
 mod types;
 
-use crate::assertions::holds_at;
+use crate::assertions::each_holds;
 use modular::counted::power_modulo_counted;
 use modular::{
     difference_modulo, inverse_modulo, negation_modulo, power_modulo, product_modulo,
@@ -42,14 +42,9 @@ const RESIDUES: [(i64, i64, i64, i64); 6] = [
 
 #[test]
 fn residues(rt: HostRuntime) {
-    for (a, m, r, negated) in RESIDUES {
-        holds_at(&rt, m > 0 && residue(a, m) == r, &("residue", a, m));
-        holds_at(
-            &rt,
-            m > 0 && negation_modulo(a, m) == negated,
-            &("negation_modulo", a, m),
-        );
-    }
+    each_holds(&rt, &RESIDUES, |(a, m, r, negated)| {
+        m > 0 && (residue(a, m), negation_modulo(a, m)) == (r, negated)
+    });
     assert!(rt; negation_modulo(2u8, 7) == 5 && negation_modulo(7u8, 7) == 0);
 }
 
@@ -64,23 +59,14 @@ const PAIRS: [(i64, i64, i64, (i64, i64, i64)); 5] = [
 
 #[test]
 fn sums_differences_and_products(rt: HostRuntime) {
-    for (a, b, m, (sum, difference, product)) in PAIRS {
-        holds_at(
-            &rt,
-            m > 0 && sum_modulo(a, b, m) == sum,
-            &("sum_modulo", a, b, m),
-        );
-        holds_at(
-            &rt,
-            m > 0 && difference_modulo(a, b, m) == difference,
-            &("difference_modulo", a, b, m),
-        );
-        holds_at(
-            &rt,
-            m > 0 && product_modulo(a, b, m) == product,
-            &("product_modulo", a, b, m),
-        );
-    }
+    each_holds(&rt, &PAIRS, |(a, b, m, expected)| {
+        m > 0
+            && (
+                sum_modulo(a, b, m),
+                difference_modulo(a, b, m),
+                product_modulo(a, b, m),
+            ) == expected
+    });
     assert!(rt; sum_modulo(200u8, 100, 201) == 99 && difference_modulo(3u8, 200, 255) == 58);
     assert!(rt; sum_modulo(u128::MAX, u128::MAX - 1, u128::MAX) == u128::MAX - 1);
     assert!(rt; product_modulo(MIN, MAX, 1000003) == 174587 && product_modulo(5u8, 5, 1) == 0);
@@ -103,18 +89,9 @@ const POWERS: [(i64, u128, i64, (i64, u32)); 10] = [
 
 #[test]
 fn powers(rt: HostRuntime) {
-    for (a, e, m, (r, turns)) in POWERS {
-        holds_at(
-            &rt,
-            m > 0 && power_modulo(a, e, m) == r,
-            &("power_modulo", a, e, m),
-        );
-        holds_at(
-            &rt,
-            m > 0 && power_modulo_counted(a, e, m) == (r, turns),
-            &("power_modulo_counted", a, e, m),
-        );
-    }
+    each_holds(&rt, &POWERS, |(a, e, m, counted)| {
+        m > 0 && power_modulo(a, e, m) == counted.0 && power_modulo_counted(a, e, m) == counted
+    });
     assert!(rt; power_modulo(3, 1000000000000000000, P64) == 4014180641660839766);
     assert!(rt; power_modulo(3, u128::from(P64 - 1), P64) == 1);
     assert!(rt; power_modulo(3, P128 - 1, P128) == 1);
@@ -138,13 +115,11 @@ const INVERSES: [(i64, i64, Option<i64>); 8] = [
 
 #[test]
 fn inverses(rt: HostRuntime) {
-    for (a, m, x) in INVERSES {
-        holds_at(
-            &rt,
-            m > 0 && inverse_modulo(a, m) == x,
-            &("inverse_modulo", a, m),
-        );
-    }
+    each_holds(
+        &rt,
+        &INVERSES,
+        |(a, m, x)| m > 0 && inverse_modulo(a, m) == x,
+    );
     assert!(rt; inverse_modulo(3u64, P64) == Some(6148914691236517186));
     assert!(rt; inverse_modulo(3, P128) == Some(226854911280625642308916404954512140865));
     assert!(rt;
@@ -166,12 +141,8 @@ const QUOTIENTS: [(i64, i64, i64, Option<i64>); 6] = [
 
 #[test]
 fn quotients(rt: HostRuntime) {
-    for (a, b, m, x) in QUOTIENTS {
-        holds_at(
-            &rt,
-            m > 0 && quotient_modulo(a, b, m) == x,
-            &("quotient_modulo", a, b, m),
-        );
-    }
+    each_holds(&rt, &QUOTIENTS, |(a, b, m, x)| {
+        m > 0 && quotient_modulo(a, b, m) == x
+    });
     assert!(rt; quotient_modulo(P128 - 2, P128 - 1, P128) == Some(2));
 }

@@ -169,7 +169,7 @@ fn three_halves_below() -> Result<(i64, i64, i64, i64), RatioError> {
 }
 
 /// The whole numbers that the fraction lies between.
-fn neighbors(x: &Ratio) -> (i64, i64)
+fn neighbours(x: &Ratio) -> (i64, i64)
     ensures floor { IsQuotient IsFloored (num_of x.now) (den_of x.now) result.0 }
     ensures ceil { IsQuotient IsCeiled (num_of x.now) (den_of x.now) result.1 }
 {
@@ -189,7 +189,7 @@ fn plain_fractions(rt: HostRuntime) {
     let third = Ratio::new(1, 3);
     let sixth = Ratio::new(1, 6);
     if let (Ok(half), Ok(third), Ok(sixth)) = (half, third, sixth) {
-        assert!(rt; neighbors(&half) == (0, 1));
+        assert!(rt; neighbours(&half) == (0, 1));
         assert!(rt; sum_of_three(&half, &third, &sixth) == Ratio::new(1, 1));
     }
 }

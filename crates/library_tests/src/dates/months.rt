@@ -1,7 +1,7 @@
 //! Dates some months later, and the days of a month that have a given day of the week.
 
 use super::{MAX, MIN, date};
-use crate::assertions::holds_at;
+use crate::assertions::{each_holds, holds_at};
 use calendar::Weekday::{Friday, Monday, Sunday, Thursday};
 use calendar::{Date, Weekday, last_weekday_of_month, nth_weekday_of_month};
 
@@ -52,57 +52,43 @@ fn whole_years(rt: HostRuntime) {
     }
 }
 
-/// A year, a month, a day of the week, its place in the month, and the day of the month.
-const PLACES: [(i64, u8, Weekday, u8, u8); 16] = [
-    (2020, 11, Thursday, 4, 26),
-    (2021, 11, Thursday, 4, 25),
-    (2022, 11, Thursday, 4, 24),
-    (2023, 11, Thursday, 4, 23),
-    (2024, 11, Thursday, 4, 28),
-    (2025, 11, Thursday, 4, 27),
-    (2026, 11, Thursday, 4, 26),
-    (1970, 1, Monday, 1, 5),
-    (1970, 1, Monday, 2, 12),
-    (1970, 1, Monday, 3, 19),
-    (1970, 1, Monday, 4, 26),
-    (2026, 1, Friday, 5, 30),
-    (2024, 2, Thursday, 5, 29),
-    (2021, 2, Sunday, 4, 28),
-    (MAX, 12, Thursday, 5, 31),
-    (MIN, 1, Sunday, 1, 1),
-];
-
-/// Years, months, days of the week and places where there is no such day.
-const NO_PLACES: [(i64, u8, Weekday, u8); 8] = [
-    (2026, 11, Friday, 5),
-    (2024, 2, Friday, 5),
-    (1970, 1, Monday, 5),
-    (2026, 11, Thursday, 0),
-    (2026, 11, Thursday, 6),
-    (2026, 11, Thursday, u8::MAX),
-    (2026, 0, Thursday, 1),
-    (2026, 13, Thursday, 1),
+/// A year, a month, a day of the week, its place in the month, and the day of the month, or `None` where there is
+/// no such day.
+const PLACES: [(i64, u8, Weekday, u8, Option<u8>); 24] = [
+    (2020, 11, Thursday, 4, Some(26)),
+    (2021, 11, Thursday, 4, Some(25)),
+    (2022, 11, Thursday, 4, Some(24)),
+    (2023, 11, Thursday, 4, Some(23)),
+    (2024, 11, Thursday, 4, Some(28)),
+    (2025, 11, Thursday, 4, Some(27)),
+    (2026, 11, Thursday, 4, Some(26)),
+    (1970, 1, Monday, 1, Some(5)),
+    (1970, 1, Monday, 2, Some(12)),
+    (1970, 1, Monday, 3, Some(19)),
+    (1970, 1, Monday, 4, Some(26)),
+    (2026, 1, Friday, 5, Some(30)),
+    (2024, 2, Thursday, 5, Some(29)),
+    (2021, 2, Sunday, 4, Some(28)),
+    (MAX, 12, Thursday, 5, Some(31)),
+    (MIN, 1, Sunday, 1, Some(1)),
+    (2026, 11, Friday, 5, None),
+    (2024, 2, Friday, 5, None),
+    (1970, 1, Monday, 5, None),
+    (2026, 11, Thursday, 0, None),
+    (2026, 11, Thursday, 6, None),
+    (2026, 11, Thursday, u8::MAX, None),
+    (2026, 0, Thursday, 1, None),
+    (2026, 13, Thursday, 1, None),
 ];
 
 /// The calendar repeats after 400 years, so the weekdays of the first and the last year are those of
 /// 2192 and 2207.
 #[test]
 fn places_of_weekdays(rt: HostRuntime) {
-    for (year, month, weekday, n, day) in PLACES {
-        let found = nth_weekday_of_month(year, month, weekday, n);
-        holds_at(
-            &rt,
-            found == Date::new(year, month, day),
-            &("nth_weekday_of_month", year),
-        );
-    }
-    for (year, month, weekday, n) in NO_PLACES {
-        holds_at(
-            &rt,
-            nth_weekday_of_month(year, month, weekday, n) == None,
-            &("nth_weekday_of_month", year, month, n),
-        );
-    }
+    each_holds(&rt, &PLACES, |(year, month, weekday, n, day)| {
+        let expected = day.and_then(|day| Date::new(year, month, day));
+        nth_weekday_of_month(year, month, weekday, n) == expected
+    });
 }
 
 /// A year, a month, a day of the week, and the last day of the month that has it.
@@ -121,13 +107,9 @@ const LAST: [(i64, u8, Weekday, u8); 10] = [
 
 #[test]
 fn last_weekdays_of_months(rt: HostRuntime) {
-    for (year, month, weekday, day) in LAST {
-        holds_at(
-            &rt,
-            last_weekday_of_month(year, month, weekday) == Date::new(year, month, day),
-            &("last_weekday_of_month", year, month, day),
-        );
-    }
+    each_holds(&rt, &LAST, |(year, month, weekday, day)| {
+        last_weekday_of_month(year, month, weekday) == Date::new(year, month, day)
+    });
     for month in [0, 13, u8::MAX] {
         assert!(rt; last_weekday_of_month(2026, month, Friday) == None);
     }

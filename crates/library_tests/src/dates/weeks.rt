@@ -1,7 +1,7 @@
 //! The first day from another on that has a given day of the week, the last one up to it, and the numbers
 //! of the days of the week.
 
-use crate::assertions::holds_at;
+use crate::assertions::{each_holds, holds_at};
 use calendar::Weekday::{Friday, Monday, Saturday, Sunday, Thursday, Tuesday, Wednesday};
 use calendar::{Weekday, first_weekday_on_or_after, last_weekday_on_or_before, weekday_of};
 
@@ -20,13 +20,9 @@ const FIRST: [(i64, Weekday, Option<i64>); 10] = [
 
 #[test]
 fn first_weekdays(rt: HostRuntime) {
-    for (day, weekday, first) in FIRST {
-        holds_at(
-            &rt,
-            first_weekday_on_or_after(day, weekday) == first,
-            &("first_weekday_on_or_after", day),
-        );
-    }
+    each_holds(&rt, &FIRST, |(day, weekday, first)| {
+        first_weekday_on_or_after(day, weekday) == first
+    });
     assert!(rt; first_weekday_on_or_after(i64::MAX, Friday) == None);
 }
 
@@ -46,13 +42,9 @@ const LAST: [(i64, Weekday, Option<i64>); 11] = [
 
 #[test]
 fn last_weekdays(rt: HostRuntime) {
-    for (day, weekday, last) in LAST {
-        holds_at(
-            &rt,
-            last_weekday_on_or_before(day, weekday) == last,
-            &("last_weekday_on_or_before", day),
-        );
-    }
+    each_holds(&rt, &LAST, |(day, weekday, last)| {
+        last_weekday_on_or_before(day, weekday) == last
+    });
     assert!(rt; last_weekday_on_or_before(i64::MIN, Tuesday) == None);
     assert!(rt; last_weekday_on_or_before(i64::MIN + 5, Tuesday) == None);
     assert!(rt; last_weekday_on_or_before(i64::MIN + 1, Thursday) == Some(i64::MIN + 1));

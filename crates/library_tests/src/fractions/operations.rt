@@ -75,7 +75,7 @@ fn answers_of_operations(rt: HostRuntime) {
 }
 
 /// One more than the fraction, and whether that is less than 3.
-fn one_more(x: &Ratio) -> Result<(Ratio, bool), RatioError> {
+fn plus_one(x: &Ratio) -> Result<(Ratio, bool), RatioError> {
     let sum = x.checked_add(&Ratio::from(1))?; // 5/3 where x is 2/3
     Ok((sum, sum < Ratio::from(3)))
 }
@@ -91,9 +91,9 @@ fn sums_with_one(rt: HostRuntime) {
         let expected = Ok((ratio(&rt, c, d), is_less));
         holds_at(
             &rt,
-            one_more(&ratio(&rt, a, b)) == expected,
-            &("one_more", a, b),
+            plus_one(&ratio(&rt, a, b)) == expected,
+            &("plus_one", a, b),
         );
     }
-    assert!(rt; one_more(&ratio(&rt, MAX, 1)) == Err(NotFitting));
+    assert!(rt; plus_one(&ratio(&rt, MAX, 1)) == Err(NotFitting));
 }

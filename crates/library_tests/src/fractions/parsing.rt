@@ -3,7 +3,7 @@
 ghost use Rattle.std.specs.Prelude.{◌≡◌, IfOk, Ok};
 
 use super::{MAX, MIN, ratio};
-use crate::assertions::holds_at;
+use crate::assertions::{each_holds, holds_at};
 use ratio64::ParseRatioError::{NotAFraction, NotFitting, TooLong, ZeroDenominator};
 use ratio64::{ParseRatioError, Ratio, RatioError};
 use std::alloc::{AllocError, Global};
@@ -104,23 +104,11 @@ fn read(text: &str) -> Result<(i64, i64), ParseRatioError> {
     text.parse::<Ratio>().map(|x| (x.num(), x.den()))
 }
 
-fn check_rows(rt: &impl Abort, rows: &[Row]) {
-    for (text, expected) in rows {
-        holds_at(rt, read(text) == *expected, &("parse", text));
-    }
-}
-
 #[test]
 fn texts_read(rt: HostRuntime) {
-    check_rows(&rt, &READ);
-    check_rows(&rt, &LONG);
-}
-
-#[test]
-fn other_texts(rt: HostRuntime) {
-    for text in OTHERS {
-        holds_at(&rt, read(text) == Err(NotAFraction), &("parse", text));
-    }
+    each_holds(&rt, &READ, |(text, expected)| read(text) == expected);
+    each_holds(&rt, &LONG, |(text, expected)| read(text) == expected);
+    each_holds(&rt, &OTHERS, |text| read(text) == Err(NotAFraction));
 }
 
 #[test]

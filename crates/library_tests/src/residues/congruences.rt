@@ -1,7 +1,7 @@
 //! Linear congruences.
 
 use super::{MAX, MIN};
-use crate::assertions::holds_at;
+use crate::assertions::each_holds;
 use modular::CommonSolution::{At, Beyond, Never};
 use modular::{
     CommonSolution, chinese_remainder, count_congruent, next_common_solution,
@@ -45,14 +45,9 @@ const BOTH: [Row; 9] = [
 
 #[test]
 fn two_congruences(rt: HostRuntime) {
-    for ((a, m), (b, n), both) in BOTH {
-        let fits = m > 0 && n > 0 && m.lcm_fits(&n);
-        holds_at(
-            &rt,
-            fits && chinese_remainder(a, m, b, n) == both,
-            &("chinese_remainder", a, m, b, n),
-        );
-    }
+    each_holds(&rt, &BOTH, |((a, m), (b, n), both)| {
+        m > 0 && n > 0 && m.lcm_fits(&n) && chinese_remainder(a, m, b, n) == both
+    });
     let (m, n) = (4294967291u64, 4294967279);
     assert!(rt;
         m.lcm_fits(&n)
@@ -73,13 +68,9 @@ const NEXT_CONGRUENT: [(i64, i64, i64, Option<i64>); 7] = [
 
 #[test]
 fn next_congruent_numbers(rt: HostRuntime) {
-    for (from, first, step, next) in NEXT_CONGRUENT {
-        holds_at(
-            &rt,
-            step > 0 && next_congruent(from, first, step) == next,
-            &("next_congruent", from, first, step),
-        );
-    }
+    each_holds(&rt, &NEXT_CONGRUENT, |(from, first, step, next)| {
+        step > 0 && next_congruent(from, first, step) == next
+    });
     assert!(rt; next_congruent(120i8, 1, 9) == Some(127) && next_congruent(120i8, 2, 9) == None);
 }
 
@@ -96,13 +87,9 @@ const PREVIOUS_CONGRUENT: [(i64, i64, i64, Option<i64>); 7] = [
 
 #[test]
 fn previous_congruent_numbers(rt: HostRuntime) {
-    for (to, first, step, previous) in PREVIOUS_CONGRUENT {
-        holds_at(
-            &rt,
-            step > 0 && previous_congruent(to, first, step) == previous,
-            &("previous_congruent", to, first, step),
-        );
-    }
+    each_holds(&rt, &PREVIOUS_CONGRUENT, |(to, first, step, previous)| {
+        step > 0 && previous_congruent(to, first, step) == previous
+    });
     assert!(rt; previous_congruent(3u8, 4, 9) == None && previous_congruent(4u8, 4, 9) == Some(4));
     assert!(rt; previous_congruent(u128::MAX, 7, u128::MAX) == Some(7));
 }
@@ -123,13 +110,9 @@ const COUNT_CONGRUENT: [(i8, i8, i8, i8, Option<i8>); 10] = [
 
 #[test]
 fn counts_of_congruent_numbers(rt: HostRuntime) {
-    for (from, to, first, step, count) in COUNT_CONGRUENT {
-        holds_at(
-            &rt,
-            step > 0 && count_congruent(from, to, first, step) == count,
-            &("count_congruent", from, to, first, step),
-        );
-    }
+    each_holds(&rt, &COUNT_CONGRUENT, |(from, to, first, step, count)| {
+        step > 0 && count_congruent(from, to, first, step) == count
+    });
     assert!(rt; count_congruent(0, u64::MAX, 0, 1) == None);
     assert!(rt; count_congruent(1, u64::MAX, 0, 1) == Some(u64::MAX));
     assert!(rt; count_congruent(MIN, MAX, 0, 2) == None);
@@ -157,13 +140,9 @@ const NEXT_COMMON_SOLUTION: [Next; 12] = [
 
 #[test]
 fn next_common_solutions(rt: HostRuntime) {
-    for (from, (a, m), (b, n), next) in NEXT_COMMON_SOLUTION {
-        holds_at(
-            &rt,
-            m > 0 && n > 0 && next_common_solution(from, a, m, b, n) == next,
-            &("next_common_solution", from, a, m, b, n),
-        );
-    }
+    each_holds(&rt, &NEXT_COMMON_SOLUTION, |(from, (a, m), (b, n), next)| {
+        m > 0 && n > 0 && next_common_solution(from, a, m, b, n) == next
+    });
     let (m, n) = (u128::MAX, u128::MAX - 1);
     assert!(rt; next_common_solution(0, 5, m, 5, n) == At(5));
     assert!(rt; next_common_solution(6, 5, m, 5, n) == Beyond);
