@@ -15,39 +15,30 @@ pub use Rattle.integer_core.proofs.Whole.{comm, dist, dist-left, expand, from_no
 pub use Rattle.num_integer.proofs.FittingAnswers.{signed_is}
 pub use Rattle.num_integer.proofs.IntegerPowers.{even_or_odd, even_power, int_pow-suc, int_pow-zero, odd_power, power_of_square}
 pub use Rattle.num_integer.proofs.Pascal.{coefficient-pos, coefficient-zero, none_above}
-
 -- ---- products in order
 
 pub use Rattle.num_integer.proofs.OrderedProducts.{product_from_zero, multiples_apart, product_at_most, factor_positive}
-
 -- ---- quotients, remainders and multiples by a number above 0
 
 pub use Rattle.num_integer.proofs.FlooredByPositive.{floored_remainder_range, floored_by_range, only_pair_by_range, rest_leads_to_multiple, ceiled_remainder_range, ceiled_quotient_least, next_multiple_least, least_multiple_beyond, positive_quotient_fits, operator_quotient_fits, sum_fits_exactly}
-
 -- ---- sizes of divisors and multiples
 
 pub use Rattle.num_integer.proofs.DivisorSizes.{divisor_at_most, gcd_with_positive_fits, gcd_at_most, small_multiple_is_zero, lcm_at_most_product, lcm-positive}
-
 -- ---- coprime numbers
 
 pub use Rattle.num_integer.proofs.Coprimes.{Divides-difference, coprime_exactly, divided_by_gcd, natural_gcd_positive, natural_exact_quotient, natural_quotients_coprime, coprime_divides}
-
 -- ---- roots
 
 pub use Rattle.num_integer.proofs.ExactRoots.{root_by_squares, exact_power_root, square_root_of_square}
-
 -- ---- coefficients
 
 pub use Rattle.num_integer.proofs.GrowingCoefficients.{pascal, coefficient_grows}
-
 -- ---- the operators of the natural numbers
 
 pub use Rattle.num_integer.proofs.NaturalDivision.{quotient_is_natural, remainder_is_natural, division_is_natural, natural_quotient_fits, divides_is_natural, least_turns}
-
 -- ---- literals
 
 pub use Rattle.num_integer.proofs.LiteralMultiples.{euclid, lcm_number, literal_lcm_fits, literal_lcm_fits_signed}
-
 -- ---- division by literals
 
 pub use Rattle.num_integer.proofs.DivisionByLiterals.{floored_quotient_range, ceiled_quotient_range, divides_by_magnitude}
