@@ -68,8 +68,7 @@ only_euclid_turn : (s t : Remainders) → IsEuclidTurn s t → IsOnly (IsEuclidT
 only_euclid_turn s t h u i =
     let same = (only_truncated i.truncated.division h.truncated.division).0 in
     let current : u.current ≡ t.current = i.current ∙ ap (λ (q : ℤ). s.previous -ℤ q *ℤ s.current) same ∙ sym h.current in
-    let previous : u.previous ≡ t.previous = i.previous ∙ sym h.previous in
-    λ k. record { current = current k; previous = previous k }
+    λ k. record { current = current k; previous = (i.previous ∙ sym h.previous) k }
 
 pub only_euclid_turns : {a b : ℤ} {n : ℕ} → AreEuclidTurns a b n → IsOnly (AreEuclidTurns a b) n
 only_euclid_turns {b = b} h m i = elim (zero_or_not b) [

@@ -30,9 +30,7 @@ large (t ∷ rest) s g nonzero run left right =
     record {
       lower = lower;
       upper = λ less.
-          let sum : (fibonacci (suc (suc (suc (length rest)))) + fibonacci (suc (suc (length rest)))) * g ≤ unsigned_abs s.previous =
-          omega (arith, lower, after.lower, rw (← is) at (truncated_size row), multiple_size (unsigned_abs turn.quotient) (unsigned_abs s.current)) in
-          sum;
+          omega (arith, lower, after.lower, rw (← is) at (truncated_size row), multiple_size (unsigned_abs turn.quotient) (unsigned_abs s.current));
     }
 
 -- n turns from (b, a) take a b of at least F(n + 2) times the gcd

@@ -43,9 +43,6 @@ module _ {fits : ℤ → Type 0} {low high : ℤ} (range : IsRange fits low high
   pub first_fits : {a : ℤ} → fits a → CoefficientsFit fits high (of_first a)
   first_fits a_fits = record { remainder = a_fits; x = one_fits; y = zero_fits }
 
-  second_fits : {b : ℤ} → fits b → CoefficientsFit fits high (of_second b)
-  second_fits b_fits = record { remainder = b_fits; x = zero_fits; y = one_fits }
-
   -- at most half of a number, where the type has negatives
   half_fits : {n z : ℤ} → low ≢ pos 0 → fits n → 2 * unsigned_abs z ≤ unsigned_abs n → IsCoefficient fits high z
   half_fits {n} signed n_fits half =
@@ -81,7 +78,7 @@ rows_fit_first {a = a} {b = b} range a_fits b_fits nonzero pair = record {
   a_fits = a_fits;
   b_fits = b_fits;
   rows = rows_first a b nonzero;
-  current_fits = second_fits range b_fits;
+  current_fits = record { remainder = b_fits; x = zero_fits range; y = one_fits range };
   previous_fits = first_fits range a_fits;
   pair = pair;
 }

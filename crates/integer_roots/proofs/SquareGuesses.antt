@@ -1,7 +1,6 @@
 -- The guesses of a square root's two loops: how near the root each turn brings them, and that five turns are enough.
 use Rattle.std.specs.Prelude.{pos}
-use Rattle.std.proofs.Common.{◌≡◌, ℕ, zero, suc, ◌+◌, ◌-◌, ◌*◌, ◌/◌, ◌^◌, ◌<◌, ◌≤◌, List, [], ◌∷◌, inl, inr, ◌∙◌, arith, refl, add-one, mul-le-mul, mul-le-mul_left, mul-le-mul_right, le_of_mul-le-mul_right, mul-pos, div-mul-le_self, div-lt_iff_lt-mul, le_trans, pow-add, pow_mono, ◌%◌}
-use Rattle.std.proofs.lemmas.Bool.{cases_lt}
+use Rattle.std.proofs.Common.{◌≡◌, ℕ, zero, suc, ◌+◌, ◌-◌, ◌*◌, ◌/◌, ◌^◌, ◌<◌, ◌≤◌, List, [], ◌∷◌, ◌∙◌, arith, refl, add-one, mul-le-mul, mul-le-mul_left, mul-le-mul_right, le_of_mul-le-mul_right, mul-pos, div-mul-le_self, div-lt_iff_lt-mul, le_trans, pow-add, pow_mono, ◌%◌}
 use Rattle.std.proofs.Math.Nat.{lt_of_not-le}
 use Rattle.std.proofs.lemmas.Int.{ints}
 use Rattle.std.proofs.lemmas.Nat.{one_shl}
@@ -68,11 +67,12 @@ rise_cases x e y q a is lt le big =
 
 -- the first loop makes one turn at most
 rise_once : (a x y : ℕ) → 0 < x → y ≡ square_step a x → x < y → square_step a y ≤ y
-rise_once a x y positive is up = elim (cases_lt y (square_step a y)) [
-  | inl lt ↦ absurd (rise_cases x (y - x - 1) y (a / x) a (omega arith) (omega arith) (omega arith)
-      (le_trans (mul-le-mul_right y (omega arith)) (div-mul-le_self a y)))
-  | inr le ↦ le
-]
+rise_once a x y positive is up = omega (
+  arith,
+  lt_of_not-le {n = y + 1} {m = square_step a y} (λ lt.
+      rise_cases x (y - x - 1) y (a / x) a (omega arith) (omega arith) (omega arith)
+      (le_trans (mul-le-mul_right y (omega arith)) (div-mul-le_self a y))),
+)
 
 -- the steps of the loops
 abbrev pub IsSquareStep : ℕ → ℕ → ℕ → Type 0
