@@ -23,7 +23,7 @@ pub trait Average: Integer {
             (Self.value result) };
 }
 
-/// See [`Average::average_floor`]. `average_floor(3, 10)` is `6`.
+/// Returns the average rounded down, as [`Average::average_floor`]. `average_floor(3, 10)` is `6`.
 pub fn average_floor<T: Average>(x: T, y: T) -> T
     requires x_in_range { T.fits (T.value x) }
     requires y_in_range { T.fits (T.value y) }
@@ -33,7 +33,7 @@ pub fn average_floor<T: Average>(x: T, y: T) -> T
     x.average_floor(&y)
 }
 
-/// See [`Average::average_ceil`]. `average_ceil(3, 10)` is `7`.
+/// Returns the average rounded up, as [`Average::average_ceil`]. `average_ceil(3, 10)` is `7`.
 pub fn average_ceil<T: Average>(x: T, y: T) -> T
     requires x_in_range { T.fits (T.value x) }
     requires y_in_range { T.fits (T.value y) }

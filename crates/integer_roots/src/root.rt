@@ -45,7 +45,8 @@ pub trait Roots: Integer {
     ghost width_law: { IsWithin64Bits Self.low Self.high };
 }
 
-/// See [`Roots::nth_root`]. `nth_root(12345, 4)` is `10`.
+/// Returns the root of degree `n`, rounded toward zero. `nth_root(12345, 4)` is `10`. May be called where
+/// [`Roots::nth_root`] may.
 pub fn nth_root<T: Roots>(x: T, n: u32) -> T
     requires x_in_range { T.fits (T.value x) }
     requires degree { n ≢ 0 }
@@ -56,7 +57,7 @@ pub fn nth_root<T: Roots>(x: T, n: u32) -> T
     x.nth_root(n)
 }
 
-/// See [`Roots::sqrt`]. `sqrt(99)` is `9`.
+/// Returns the square root, rounded down. `sqrt(99)` is `9`. May be called where [`Roots::sqrt`] may.
 pub fn sqrt<T: Roots>(x: T) -> T
     requires x_in_range { T.fits (T.value x) }
     requires from_zero { pos 0 ≤ℤ T.value x }
@@ -66,7 +67,7 @@ pub fn sqrt<T: Roots>(x: T) -> T
     x.sqrt()
 }
 
-/// See [`Roots::cbrt`]. `cbrt(-9)` is `-2`.
+/// Returns the cube root, rounded toward zero, as [`Roots::cbrt`]. `cbrt(-9)` is `-2`.
 pub fn cbrt<T: Roots>(x: T) -> T
     requires x_in_range { T.fits (T.value x) }
     ensures in_range { T.fits (T.value result) }

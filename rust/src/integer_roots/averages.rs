@@ -31,7 +31,7 @@ pub trait Average: Integer {
     fn average_ceil(&self, other: &Self) -> Self;
 }
 
-/// See [`Average::average_floor`]. `average_floor(3, 10)` is `6`.
+/// Returns the average rounded down, as [`Average::average_floor`]. `average_floor(3, 10)` is `6`.
 ///
 /// # Proved
 ///
@@ -45,7 +45,7 @@ pub fn average_floor<T: Average>(x: T, y: T) -> T {
     x.average_floor(&y)
 }
 
-/// See [`Average::average_ceil`]. `average_ceil(3, 10)` is `7`.
+/// Returns the average rounded up, as [`Average::average_ceil`]. `average_ceil(3, 10)` is `7`.
 ///
 /// # Proved
 ///

@@ -62,7 +62,8 @@ pub trait Roots: Integer {
     }
 }
 
-/// See [`Roots::nth_root`]. `nth_root(12345, 4)` is `10`.
+/// Returns the root of degree `n`, rounded toward zero. `nth_root(12345, 4)` is `10`. May be called where
+/// [`Roots::nth_root`] may.
 ///
 /// # Proved
 ///
@@ -77,7 +78,7 @@ pub fn nth_root<T: Roots>(x: T, n: u32) -> T {
     x.nth_root(n)
 }
 
-/// See [`Roots::sqrt`]. `sqrt(99)` is `9`.
+/// Returns the square root, rounded down. `sqrt(99)` is `9`. May be called where [`Roots::sqrt`] may.
 ///
 /// # Proved
 ///
@@ -91,7 +92,7 @@ pub fn sqrt<T: Roots>(x: T) -> T {
     x.sqrt()
 }
 
-/// See [`Roots::cbrt`]. `cbrt(-9)` is `-2`.
+/// Returns the cube root, rounded toward zero, as [`Roots::cbrt`]. `cbrt(-9)` is `-2`.
 ///
 /// # Proved
 ///
