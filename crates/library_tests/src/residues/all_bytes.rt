@@ -1,6 +1,6 @@
 //! Each number of `u8` and of `i8`, against computation in 128 bits and by trial.
 
-use super::types::{Check, check_at};
+use super::types::{Check, check_at, number, optional};
 use crate::assertions::holds_at;
 use modular::{
     Modular, difference_modulo, inverse_modulo, negation_modulo, power_modulo, product_modulo,
@@ -62,18 +62,6 @@ fn power_of(a: i16, exponent: u8, m: i16) -> Option<u128> {
         power = rest_of(product, m)?;
     }
     Some(power)
-}
-
-/// The number as a value of the type.
-fn number<T: Tested>(rt: &impl Abort, n: i16) -> T
-    ensures { T.fits (T.value result) }
-{
-    T::from_number(n.into()).expect(rt, "the type has the number")
-}
-
-/// The number as a value of the type, where one is given.
-fn optional<T: Tested>(n: Option<i16>) -> Option<T> {
-    T::from_number(n?.into())
 }
 
 /// The numbers as values of the type, where they are given.
@@ -144,26 +132,6 @@ fn has_inverse<T: Modular + Tested>(rt: &impl Abort, dividend: i16, a: i16, m: i
     }
 }
 
-/// Each number from the one to the other, modulo each above 0, and a dividend.
-#[derive(Drop)]
-struct EachNumber(i16, i16, i16);
-
-impl Check for EachNumber {
-    fn at<T: Modular + Tested>(&self, rt: &impl Abort) {
-        for m in 1..=self.1 {
-            for a in self.0..=self.1 {
-                has_inverse::<T>(rt, self.2, a, m);
-            }
-        }
-    }
-}
-
-#[test]
-fn numbers(rt: HostRuntime) {
-    check_at(&rt, I8, &EachNumber(-128, 127, -77));
-    check_at(&rt, U8, &EachNumber(0, 255, 77));
-}
-
 /// Exponents of none to five binary digits.
 const EXPONENTS: [u8; 6] = [0, 1, 2, 3, 13, 18];
 
@@ -188,22 +156,45 @@ fn has_powers<T: Modular + Tested>(rt: &impl Abort, product: i16, a: i16, m: i16
     }
 }
 
-/// Each number from the one to the other, modulo each above 0, and a product.
+/// Each number from the one to the other, modulo each above 0: quotients of a dividend by it, and the
+/// factors that lead from it to a product.
 #[derive(Drop)]
-struct EachPower(i16, i16, i16);
+struct EachNumber {
+    first: i16,
+    last: i16,
+    dividend: i16,
+    product: i16,
+}
 
-impl Check for EachPower {
+impl Check for EachNumber {
     fn at<T: Modular + Tested>(&self, rt: &impl Abort) {
-        for m in 1..=self.1 {
-            for a in self.0..=self.1 {
-                has_powers::<T>(rt, self.2, a, m);
+        for m in 1..=self.last {
+            for a in self.first..=self.last {
+                has_inverse::<T>(rt, self.dividend, a, m);
+                has_powers::<T>(rt, self.product, a, m);
             }
         }
     }
 }
 
 #[test]
-fn powers_and_solutions(rt: HostRuntime) {
-    check_at(&rt, I8, &EachPower(-128, 127, -60));
-    check_at(&rt, U8, &EachPower(0, 255, 60));
+fn signed_numbers(rt: HostRuntime) {
+    let each = EachNumber {
+        first: -128,
+        last: 127,
+        dividend: -77,
+        product: -60,
+    };
+    check_at(&rt, I8, &each);
+}
+
+#[test]
+fn unsigned_numbers(rt: HostRuntime) {
+    let each = EachNumber {
+        first: 0,
+        last: 255,
+        dividend: 77,
+        product: 60,
+    };
+    check_at(&rt, U8, &each);
 }

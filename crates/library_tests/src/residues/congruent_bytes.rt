@@ -1,15 +1,20 @@
 //! Congruent numbers and common solutions at each number of `u8` and of `i8`, against computation by trial.
 
-ghost use Rattle.std.specs.Prelude.{◌<◌, ◌<ℤ◌, pos};
+ghost use Rattle.std.specs.Prelude.{◌<ℤ◌, pos};
 
+use super::types::{Check, check_at, number, optional};
 use crate::assertions::holds_at;
 use modular::{
-    CommonSolution, count_congruent, next_common_solution_of, next_congruent, previous_congruent,
+    CommonSolution, Modular, count_congruent, next_common_solution_of, next_congruent,
+    previous_congruent,
 };
+use num_integer::operators::{is_below, zero};
 use std::process::Abort;
+use test_types::types::Tested;
+use test_types::types::Type::{I8, U8};
 
 /// First numbers and steps of both types.
-const CLASSES: [(i8, i8); 9] = [
+const CLASSES: [(i16, i16); 9] = [
     (0, 1),
     (1, 2),
     (5, 3),
@@ -22,7 +27,7 @@ const CLASSES: [(i8, i8); 9] = [
 ];
 
 /// Where a range of both types begins.
-const STARTS: [i8; 5] = [0, 1, 2, 100, 127];
+const STARTS: [i16; 5] = [0, 1, 2, 100, 127];
 
 /// Whether the number is `first` modulo `step`.
 fn is_congruent(x: i16, first: i16, step: i16) -> bool
@@ -32,12 +37,12 @@ fn is_congruent(x: i16, first: i16, step: i16) -> bool
 }
 
 /// The least and the greatest congruent number of a range, and how many it has.
-fn congruent_in(from: i16, to: i16, first: i16, step: i16) -> (Option<i16>, Option<i16>, usize)
+fn congruent_in(from: i16, to: i16, first: i16, step: i16) -> (Option<i16>, Option<i16>, i16)
     requires positive { pos 0 <ℤ step }
 {
     let mut least = None;
     let mut greatest = None;
-    let mut count = 0usize;
+    let mut count = 0i16;
     for x in from..=to {
         if is_congruent(x, first, step) {
             least = least.or(Some(x));
@@ -48,102 +53,76 @@ fn congruent_in(from: i16, to: i16, first: i16, step: i16) -> (Option<i16>, Opti
     (least, greatest, count)
 }
 
-/// Each number of `u8`.
-fn unsigned_numbers(rt: &impl Abort, first: u8, step: u8)
-    requires positive { 0 < step }
-{
-    let (f, s) = (i16::from(first), i16::from(step));
-    for n in u8::MIN..=u8::MAX {
-        let (least, _, _) = congruent_in(i16::from(n), 255, f, s);
-        let next = next_congruent(n, first, step).map(i16::from);
-        holds_at(rt, next == least, &("next_congruent", n, first, step));
-        let (_, greatest, _) = congruent_in(0, i16::from(n), f, s);
-        let previous = previous_congruent(n, first, step).map(i16::from);
-        holds_at(
-            rt,
-            previous == greatest,
-            &("previous_congruent", n, first, step),
-        );
+/// The ends of a type, and a first number with its step: the next congruent number and the previous one at
+/// each number of the type.
+#[derive(Drop)]
+struct Beside((i16, i16), (i16, i16));
+
+impl Check for Beside {
+    fn at<T: Modular + Tested>(&self, rt: &impl Abort) {
+        let ((low, high), (first, step)) = (self.0, self.1);
+        let (a, m) = (number::<T>(rt, first), number::<T>(rt, step));
+        if step > 0 && is_below(zero(), m) {
+            for n in low..=high {
+                let x = number::<T>(rt, n);
+                let (least, _, _) = congruent_in(n, high, first, step);
+                let next = next_congruent(x, a, m) == optional::<T>(least);
+                holds_at(rt, next, &("next_congruent", n, first, step));
+                let (_, greatest, _) = congruent_in(low, n, first, step);
+                let previous = previous_congruent(x, a, m) == optional::<T>(greatest);
+                holds_at(rt, previous, &("previous_congruent", n, first, step));
+            }
+        }
     }
 }
 
-/// Each range of `u8` that begins at the number.
-fn unsigned_counts(rt: &impl Abort, from: u8, first: u8, step: u8)
-    requires positive { 0 < step }
-{
-    let (start, f, s) = (i16::from(from), i16::from(first), i16::from(step));
-    for to in u8::MIN..=u8::MAX {
-        let (_, _, count) = congruent_in(start, i16::from(to), f, s);
-        let expected = u8::try_from(count).ok();
-        let found = count_congruent(from, to, first, step);
-        holds_at(
-            rt,
-            found == expected,
-            &("count_congruent", from, to, first, step),
+/// The ends of a type, a number of it, and a first number with its step: the count of the congruent numbers in
+/// each range that begins at the number.
+#[derive(Drop)]
+struct CountsFrom((i16, i16), i16, (i16, i16));
+
+impl Check for CountsFrom {
+    fn at<T: Modular + Tested>(&self, rt: &impl Abort) {
+        let ((low, high), from, (first, step)) = (self.0, self.1, self.2);
+        let (x, a, m) = (
+            number::<T>(rt, from),
+            number::<T>(rt, first),
+            number::<T>(rt, step),
         );
+        if step > 0 && is_below(zero(), m) {
+            for to in low..=high {
+                let (_, _, count) = congruent_in(from, to, first, step);
+                let counted = count_congruent(x, number(rt, to), a, m)
+                    == optional::<T>(Some(count));
+                holds_at(rt, counted, &("count_congruent", from, to, first, step));
+            }
+        }
     }
 }
 
-/// Each number of `i8`.
-fn signed_numbers(rt: &impl Abort, first: i8, step: i8)
-    requires positive { pos 0 <ℤ step }
-{
-    let (f, s) = (i16::from(first), i16::from(step));
-    for n in i8::MIN..=i8::MAX {
-        let (least, _, _) = congruent_in(i16::from(n), 127, f, s);
-        let next = next_congruent(n, first, step).map(i16::from);
-        holds_at(rt, next == least, &("next_congruent", n, first, step));
-        let (_, greatest, _) = congruent_in(-128, i16::from(n), f, s);
-        let previous = previous_congruent(n, first, step).map(i16::from);
-        holds_at(
-            rt,
-            previous == greatest,
-            &("previous_congruent", n, first, step),
-        );
-    }
-}
+/// The ends of the two types.
+const UNSIGNED: (i16, i16) = (0, 255);
 
-/// Each range of `i8` that begins at the number.
-fn signed_counts(rt: &impl Abort, from: i8, first: i8, step: i8)
-    requires positive { pos 0 <ℤ step }
-{
-    let (start, f, s) = (i16::from(from), i16::from(first), i16::from(step));
-    for to in i8::MIN..=i8::MAX {
-        let (_, _, count) = congruent_in(start, i16::from(to), f, s);
-        let expected = i8::try_from(count).ok();
-        let found = count_congruent(from, to, first, step);
-        holds_at(
-            rt,
-            found == expected,
-            &("count_congruent", from, to, first, step),
-        );
-    }
-}
+const SIGNED: (i16, i16) = (-128, 127);
 
 #[test]
 fn congruent_numbers(rt: HostRuntime) {
-    for (first, step) in CLASSES {
-        if first >= 0 && step > 0 {
-            unsigned_numbers(&rt, first as u8, step as u8);
-            signed_numbers(&rt, first, step);
-        }
+    for class in CLASSES {
+        check_at(&rt, U8, &Beside(UNSIGNED, class));
+        check_at(&rt, I8, &Beside(SIGNED, class));
     }
-    unsigned_numbers(&rt, 255, 254);
-    signed_numbers(&rt, -128, 7);
+    check_at(&rt, U8, &Beside(UNSIGNED, (255, 254)));
+    check_at(&rt, I8, &Beside(SIGNED, (-128, 7)));
 }
 
 #[test]
 fn counts_of_congruent_numbers(rt: HostRuntime) {
-    for (first, step) in CLASSES {
+    for class in CLASSES {
         for from in STARTS {
-            if first >= 0 && step > 0 && from >= 0 {
-                unsigned_counts(&rt, from as u8, first as u8, step as u8);
-                signed_counts(&rt, from, first, step);
-            }
+            check_at(&rt, U8, &CountsFrom(UNSIGNED, from, class));
+            check_at(&rt, I8, &CountsFrom(SIGNED, from, class));
         }
-        if step > 0 {
-            signed_counts(&rt, -128, first, step);
-        }
+        check_at(&rt, I8, &CountsFrom(SIGNED, -128, class));
     }
 }
 

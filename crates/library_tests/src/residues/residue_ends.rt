@@ -57,6 +57,18 @@ fn quotient_of(z: i128, divisor: i128, m: u128) -> Option<SignedMagnitude> {
     }
 }
 
+/// Two numbers and a modulus as values of the type.
+fn operands<T: Tested>(
+    rt: &impl Abort,
+    a: SignedMagnitude,
+    b: SignedMagnitude,
+    m: u128,
+) -> (T, T, T)
+    ensures { T.fits (T.value result.0) × T.fits (T.value result.1) × T.fits (T.value result.2) }
+{
+    (value(rt, a), value(rt, b), value(rt, (false, m)))
+}
+
 /// What the calls of one number answer.
 fn has_residues<T: Modular + Tested>(rt: &impl Abort, (a, z): Near, m: u128) {
     let (x, n) = (value::<T>(rt, a), value::<T>(rt, (false, m)));
@@ -86,11 +98,7 @@ fn has_residues<T: Modular + Tested>(rt: &impl Abort, (a, z): Near, m: u128) {
 
 /// The sum, the difference, the product and the quotient of two numbers.
 fn has_operations<T: Modular + Tested>(rt: &impl Abort, (a, z): Near, (b, w): Near, m: u128) {
-    let (x, y, n) = (
-        value::<T>(rt, a),
-        value::<T>(rt, b),
-        value::<T>(rt, (false, m)),
-    );
+    let (x, y, n) = operands::<T>(rt, a, b, m);
     if is_below(zero(), n) {
         holds_at(
             rt,
@@ -136,11 +144,7 @@ fn optional_pair<T: Tested>(pair: Option<(SignedMagnitude, SignedMagnitude)>) ->
 
 /// The factors that lead from one number to another, and the numbers that are congruent to both.
 fn has_classes<T: Modular + Tested>(rt: &impl Abort, (a, z): Near, (b, w): Near, m: u128) {
-    let (x, y, n) = (
-        value::<T>(rt, a),
-        value::<T>(rt, b),
-        value::<T>(rt, (false, m)),
-    );
+    let (x, y, n) = operands::<T>(rt, a, b, m);
     if is_below(zero(), n) {
         let factors = optional_pair::<T>(factors_of(z, w, m));
         holds_at(rt, solutions(x, y, n) == factors, &("solutions", a, b, m));
@@ -162,11 +166,7 @@ fn has_classes<T: Modular + Tested>(rt: &impl Abort, (a, z): Near, (b, w): Near,
 
 /// The next number from one on that is congruent to another, alone and beside the first.
 fn has_next<T: Modular + Tested>(rt: &impl Abort, (a, z): Near, (b, w): Near, m: u128) {
-    let (x, y, n) = (
-        value::<T>(rt, a),
-        value::<T>(rt, b),
-        value::<T>(rt, (false, m)),
-    );
+    let (x, y, n) = operands::<T>(rt, a, b, m);
     if is_below(zero(), n) {
         let next = optional_value::<T>(sum(a, rest_of(w.wrapping_sub(z), m)));
         holds_at(
@@ -178,21 +178,15 @@ fn has_next<T: Modular + Tested>(rt: &impl Abort, (a, z): Near, (b, w): Near, m:
             Some(t) => CommonSolution::At(t),
             None => CommonSolution::Beyond,
         };
-        holds_at(
-            rt,
-            next_common_solution(x, y, n, y, n) == again,
-            &("next_common_solution", a, b, m),
-        );
+        let found = next_common_solution(x, y, n, y, n);
+        holds_at(rt, found == again, &("next_common_solution", a, b, m));
         let both = if z == w {
             CommonSolution::At(x)
         } else {
             CommonSolution::Never
         };
-        holds_at(
-            rt,
-            next_common_solution(x, x, n, y, n) == both,
-            &("next_common_solution", a, b, m),
-        );
+        let found = next_common_solution(x, x, n, y, n);
+        holds_at(rt, found == both, &("next_common_solution", a, b, m));
     }
 }
 

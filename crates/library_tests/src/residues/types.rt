@@ -19,6 +19,18 @@ pub(super) fn optional_value<T: Tested>(n: Option<SignedMagnitude>) -> Option<T>
     T::from_signed_magnitude(n?)
 }
 
+/// The number as a value of the type.
+pub(super) fn number<T: Tested>(rt: &impl Abort, n: i16) -> T
+    ensures { T.fits (T.value result) }
+{
+    T::from_number(n.into()).expect(rt, "the type has the number")
+}
+
+/// The number as a value of the type, where one is given.
+pub(super) fn optional<T: Tested>(n: Option<i16>) -> Option<T> {
+    T::from_number(n?.into())
+}
+
 /// What is expected of calls at a type.
 pub(super) trait Check {
     fn at<T: Modular + Tested>(&self, rt: &impl Abort);
