@@ -55,8 +55,7 @@ pub front_grows : {a rest square front weight : ℕ} → 0 < weight → IsCubeFr
 front_grows {rest = rest} {square = square} {front = front} {weight = weight} positive v above =
     let squares = ap (λ (n : ℕ). n * weight) v.square_is in
     let enough = (le-div_iff_mul-le positive).0 above in
-    let left : ℕ = rest - cube_step square front * weight in
-    let back : left + cube_step square front * weight ≡ rest = omega arith in
+    let back : rest - cube_step square front * weight + cube_step square front * weight ≡ rest = omega arith in
     cube_front positive (omega (arith, v.whole)) (omega (arith, v.near)) (omega (arith, v.square_is)) v.fits
 
 -- a step that is at most the rest, shifted, fits

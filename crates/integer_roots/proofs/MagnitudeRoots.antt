@@ -20,8 +20,7 @@ first_root (negsuc a) = record { from_zero = λ h. absurd (omega (arith, ints));
 -- a number fits that is at most 1, or below the magnitude of one that fits
 below_fits : {fits : ℤ → Type 0} {low high x : ℤ} {m : ℕ} → IsRange fits low high → fits x → (1 < m → m < unsigned_abs x) → fits (pos m)
 below_fits {x = x} range x_fits small =
-    let x_in = (range.between x).0 x_fits in
-    (range.between _).1 (grind (arith, sizes, range.low_end, range.positive))
+    (range.between _).1 (grind (arith, sizes, range.low_end, range.positive, (range.between x).0 x_fits))
 
 -- the root of a magnitude fits, from degree 2 on
 pub root_fits : {fits : ℤ → Type 0} {low high x z r : ℤ} {n : ℕ} → IsRange fits low high → fits x → 2 ≤ n
@@ -35,10 +34,8 @@ root_fits {x = x} {r = pos m} {n = n} range x_fits degree is floor =
 -- and so does its negation, where the type has a number below 0
 pub negation_fits : {fits : ℤ → Type 0} {low high x m : ℤ} → IsRange fits low high → fits x → x <ℤ pos 0 → pos 0 ≤ℤ m → fits m
     → fits (neg_ℤ m)
-negation_fits {x = x} range x_fits below up m_fits =
-    let x_in = (range.between x).0 x_fits in
-    let m_in = (range.between _).0 m_fits in
-    (range.between _).1 (omega (arith, linear, range.low_end, range.positive))
+negation_fits {x = x} {m = m} range x_fits below up m_fits =
+    (range.between _).1 (omega (arith, linear, range.low_end, range.positive, (range.between x).0 x_fits, (range.between m).0 m_fits))
 
 -- each root of a number of the type is a number of the type
 pub root_in_range : {fits : ℤ → Type 0} {low high x : ℤ} {n : ℕ} {r : ℤ} → IsRange fits low high → fits x → n ≢ 0
@@ -49,6 +46,5 @@ root_in_range {x = x} {n = suc (suc k)} {r = r} range x_fits degree root = by_lt
     (λ below.
     let floor = (root.below_zero below).1 in
     let same : neg_ℤ (neg_ℤ r) ≡ r = omega (arith, linear) in
-    let fits = root_fits range x_fits (omega arith) (omega (arith, sizes)) floor in
-    rw same at (negation_fits range x_fits below floor.from_zero fits))
+    rw same at (negation_fits range x_fits below floor.from_zero (root_fits range x_fits (omega arith) (omega (arith, sizes)) floor)))
     (λ up. root_fits range x_fits (omega arith) (omega (arith, sizes)) (root.from_zero up))

@@ -21,14 +21,11 @@ floor_root_is_only_one {r = negsuc i} h s k = absurd (omega (arith, ints, h.from
 floor_root_is_only_one {r = pos i} h (negsuc j) k = absurd (omega (arith, ints, k.from_zero))
 floor_root_is_only_one {r = pos i} {n = n} h (pos j) k =
     let most = base_below i (j + 1) n (omega (arith, linear, h.power_le, k.next_power_gt)) in
-    let least = base_below j (i + 1) n (omega (arith, linear, k.power_le, h.next_power_gt)) in
-    omega (arith, ints)
+    omega (arith, ints, base_below j (i + 1) n (omega (arith, linear, k.power_le, h.next_power_gt)))
 
 pub root_is_only_one : {x r : ℤ} {n : ℕ} → IsRoot x n r → IsOnly (IsRoot x n) r
 root_is_only_one {x} h s k = by_lt_z x (pos 0)
-    (λ below.
-    let same = floor_root_is_only_one (h.below_zero below).1 _ (k.below_zero below).1 in
-    omega (arith, linear))
+    (λ below. omega (arith, linear, floor_root_is_only_one (h.below_zero below).1 _ (k.below_zero below).1))
     (λ up. floor_root_is_only_one (h.from_zero up) _ (k.from_zero up))
 
 -- a state has one turn at most, and none where the run ends

@@ -47,12 +47,11 @@ module _ {power square rest whole : ℕ} (v : IsPowerLeft power square rest whol
   pub odd_left : 1 < rest → rest % 2 ≡ 1 → IsPowerLeft (power * square) (square * square) (rest / 2) whole
   odd_left more odd =
       let e : rest ≡ suc (2 * (rest / 2)) = omega arith in
-      let power_next = ap (λ (k : ℕ). power * square ^ k) e in
       record {
         power_positive = mul-pos v.power_positive v.square_positive;
         square_positive = mul-pos v.square_positive v.square_positive;
         rest_positive = omega arith;
-        left = rw halved (omega (arith, v.left, rw pow-succ' at power_next));
+        left = rw halved (omega (arith, v.left, rw pow-succ' at (ap (λ (k : ℕ). power * square ^ k) e)));
       }
 
   -- neither factor is above the whole

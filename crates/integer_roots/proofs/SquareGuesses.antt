@@ -29,8 +29,8 @@ squared_step : (a x y k m : ℕ) → 0 < x → 2 * y ≤ a / x + x → k * ((a +
     → 4 * k * (y * y) ≤ m * a
 squared_step a x y k m positive h bound =
     let times : 2 * (x * y) ≤ a + x * x = omega (arith, mul-le-mul_left x h, div-mul-le_self a x) in
-    let scaled = mul-le-mul_left k (mul-le-mul times times) in
-    le_of_mul-le-mul_right {m = 4 * k * (y * y)} {n = m * a} {k = x * x} (omega (arith, scaled, bound)) (mul-pos positive positive)
+    le_of_mul-le-mul_right {m = 4 * k * (y * y)} {n = m * a} {k = x * x}
+    (omega (arith, mul-le-mul_left k (mul-le-mul times times), bound)) (mul-pos positive positive)
 
 -- of a number s that is d above a, where k times d is at most a
 near_squares : (a d s k : ℕ) → s ≡ a + d → k * s ≤ (k + 1) * a → k * k * ((a + s) * (a + s)) ≤ (4 * k * k + 1) * (a * s)
@@ -62,17 +62,15 @@ near_after_turn a x y turns positive near is fits down =
 rise_cases : (x e y q a : ℕ) → y ≡ x + e + 1 → a < q * x + x → q + x ≤ 2 * y + 1 → (y + 2) * y ≤ a → ⊥
 rise_cases x e y q a is lt le big =
     let wide : (q + 1) * x ≤ (x + 2 * e + 4) * x = mul-le-mul_right x (omega arith) in
-    let risen = rw is at big in
-    omega (arith, wide)
+    omega (arith, wide, rw is at big)
 
 -- the first loop makes one turn at most
 rise_once : (a x y : ℕ) → 0 < x → y ≡ square_step a x → x < y → square_step a y ≤ y
-rise_once a x y positive is up = omega (
-  arith,
-  lt_of_not-le {n = y + 1} {m = square_step a y} (λ lt.
-      rise_cases x (y - x - 1) y (a / x) a (omega arith) (omega arith) (omega arith)
-      (le_trans (mul-le-mul_right y (omega arith)) (div-mul-le_self a y))),
-)
+rise_once a x y positive is up =
+    let settled = lt_of_not-le {n = y + 1} {m = square_step a y} (λ lt.
+    rise_cases x (y - x - 1) y (a / x) a (omega arith) (omega arith) (omega arith)
+    (le_trans (mul-le-mul_right y (omega arith)) (div-mul-le_self a y))) in
+    omega (arith, settled)
 
 -- the steps of the loops
 abbrev pub IsSquareStep : ℕ → ℕ → ℕ → Type 0
@@ -101,9 +99,8 @@ near_at_first : {a first : ℕ} → IsSquareStart a first → IsNear a first 0
 near_at_first {first = first} s =
     let k : ℕ = (s.top + 1) / 2 in
     let square : first * first ≡ 2 ^ (k + k) = rw (s.is, pow-add) refl in
-    let beyond = pow_mono {i = k + k} {j = s.top + 1} (omega arith) in
     record {
-      near = omega (arith, pow-add 2 s.top 1, s.highest.power_le);
+      near = omega (arith, pow_mono {i = k + k} {j = s.top + 1} (omega arith), pow-add 2 s.top 1, s.highest.power_le);
       high_at_first = λ e. omega (arith, s.start.near, power_two first);
       bound = omega arith;
     }

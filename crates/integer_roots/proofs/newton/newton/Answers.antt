@@ -7,13 +7,11 @@ step-next-requires g c = let may = c.requires _ _ begins in search rules
 
 pub step-next-requires-in-rise : goal.step-next-requires-in-rise
 step-next-requires-in-rise g c =
-    let v = c.rise.invariant in
-    let may = c.requires _ _ (rises v.reached v.next_is c.rise-test.true) in search rules
+    let may = c.requires _ _ (rises c.rise.invariant.reached c.rise.invariant.next_is c.rise-test.true) in search rules
 
 pub overflow_add-turns : goal.overflow_add-turns
 overflow_add-turns g c =
-    let v = c.rise.invariant in
-    let may = c.requires _ _ (rises v.reached v.next_is c.rise-test.true) in omega (arith, may.1)
+    omega (arith, (c.requires _ _ (rises c.rise.invariant.reached c.rise.invariant.next_is c.rise-test.true)).1)
 
 pub fall-init : goal.fall-init
 fall-init g c =
@@ -22,10 +20,8 @@ fall-init g c =
 
 pub step-next-requires-in-fall : goal.step-next-requires-in-fall
 step-next-requires-in-fall g c =
-    let v = c.fall.invariant in
-    let may = c.requires _ _ (falls v.reached v.next_is c.fall-test.true) in search rules
+    let may = c.requires _ _ (falls c.fall.invariant.reached c.fall.invariant.next_is c.fall-test.true) in search rules
 
 pub overflow_add-turns-in-fall : goal.overflow_add-turns-in-fall
 overflow_add-turns-in-fall g c =
-    let v = c.fall.invariant in
-    let may = c.requires _ _ (falls v.reached v.next_is c.fall-test.true) in omega (arith, may.1)
+    omega (arith, (c.requires _ _ (falls c.fall.invariant.reached c.fall.invariant.next_is c.fall-test.true)).1)

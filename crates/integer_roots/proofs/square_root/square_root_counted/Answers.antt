@@ -18,9 +18,8 @@ newton-requires c guess n reached =
 pub returns : goal.returns
 returns c =
     let s = first (goal.at.returns c).After-ilog2 in
-    let e = c.newton.ensures in
     record {
-      root = ended_at_root s.start e.reached e.ended;
-      turns = turns_of_run s e.reached e.ended;
-      bound = (near_root s e.reached).bound;
+      root = ended_at_root s.start c.newton.ensures.reached c.newton.ensures.ended;
+      turns = turns_of_run s c.newton.ensures.reached c.newton.ensures.ended;
+      bound = (near_root s c.newton.ensures.reached).bound;
     }
