@@ -397,7 +397,7 @@ def lemmas_in(paragraph):
 SLIPS = (
     ('a clause', 'crates/ratio64/src/fraction.rt', 'IfErr result (λ _. den ≤ℤ pos 0)', 'IfErr result (λ _. den <ℤ pos 0)'),
     ('a definition', 'crates/integer_core/specs/Divisors.antt', 'pub divides_left : Divides g a', 'pub divides_left : Divides a g'),
-    ('a lemma for callers', 'crates/num_integer/proofs/ForCallers.antt', 'pub natural_gcd_positive : {n m d : ℕ} → 0 < m',
+    ('a lemma for callers', 'crates/num_integer/proofs/Coprimes.antt', 'pub natural_gcd_positive : {n m d : ℕ} → 0 < m',
      'pub natural_gcd_positive : {n m d : ℕ} → 0 < n'),
     ('a doc comment', 'crates/calendar/src/feasts.rt', '/// Returns', '/// Computes'),
     ('a line of a page', 'docs/reference/modular.md', 'fn inverse_modulo', 'fn modular_inverse'),
