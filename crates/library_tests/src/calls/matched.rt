@@ -26,7 +26,7 @@ fn place(item: i64, size: i64) -> Option<(i64, i64)>
     ensures { IfSome result (λ r. (item ≡ r.0 *ℤ size +ℤ r.1) × (pos 0 ≤ℤ r.1) × (r.1 <ℤ size)) }
 {
     match checked::div_mod_floor(item, size) {
-        Some((page, place)) => Some((page, place)),
+        Some(parts) => Some(parts),
         None => None,
     }
 }
