@@ -1,7 +1,8 @@
 #!/usr/bin/env bash
 # Tries the wrong bodies that the gate does not try: crates/NAME/wrong-bodies/*.edit. The prover must refuse each. Copies the
-# repository to a temporary folder, with what was kept in it, and tries them there in the place of those of must-fail. With names
-# of crates, tries theirs alone. Prints a line for each, and a count at the end. Without what was kept, each crate is proved first.
+# repository to a temporary folder, with what was kept in it, and tries them there in the place of those of must-fail, as many
+# crates side by side as there are processors. With names of crates, tries theirs alone. Prints a line for each, and a count at
+# the end. A library of which nothing was kept is proved first.
 #
 # usage: scripts/wrong_bodies.sh [NAME..]
 set -uo pipefail
@@ -16,6 +17,25 @@ take_suite() {
     local crate=$work/repository/crates/$1
     rm -rf "$crate/must-fail"
     mv "$crate/wrong-bodies" "$crate/must-fail"
+}
+
+# build_libraries: proves the crates on which others depend, lowest first, where that is not kept.
+build_libraries() {
+    local name
+    while IFS=': ' read -r name _; do
+        grep -qE ": .*\b$name\b" crates.txt || continue
+        (cd "$work/repository/crates/$name" && rt lib) >"$work/built" 2>&1 && continue
+        cat "$work/built"
+        return 1
+    done <crates.txt
+}
+
+# try_suite NAME: tries the suite of the crate, and prints what was said of it once the whole is tried.
+try_suite() {
+    local status=0
+    (cd "$work/repository" && rt must-fail "$1") >"$work/$1" 2>&1 || status=$?
+    cat "$work/$1"
+    return "$status"
 }
 
 names=("$@")
@@ -37,8 +57,11 @@ for name in "${names[@]}"; do
     take_suite "$name"
 done
 
+build_libraries || exit 2
+export work
+export -f try_suite
 status=0
-(cd "$work/repository" && rt must-fail "${names[@]}") >"$work/printed" 2>&1 || status=$?
+printf '%s\n' "${names[@]}" | xargs -P "$(nproc)" -I{} bash -c 'try_suite {}' >"$work/printed" || status=$?
 cat "$work/printed"
 refused=$(grep -cE '^(rt: )?must-fail [a-z0-9_]+/[^ ]+\.edit: refused, as it must be' "$work/printed")
 

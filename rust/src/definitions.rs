@@ -679,6 +679,28 @@ pub mod num_integer {
     //! factorial (suc n) = suc n * factorial n
     //! ```
     //!
+    //! ## `IsLeastFrom`
+    //!
+    //! t is the least number from `from` on that has the property. Examples: being even: from 7: 8; from 8: 8; being at most 5: from 6: none.
+    //!
+    //! ```text
+    //! pub record IsLeastFrom (from : ℤ) (Has : ℤ → Type 0) (t : ℤ) : Type 0 where
+    //!   pub from_there : from ≤ℤ t
+    //!   pub holds : Has t
+    //!   pub least : (u : ℤ) → from ≤ℤ u → Has u → t ≤ℤ u
+    //! ```
+    //!
+    //! ## `IsGreatestTo`
+    //!
+    //! t is the greatest number up to `to` that has the property. Examples: being even: to 7: 6; to 6: 6; being at least 5: to 4: none.
+    //!
+    //! ```text
+    //! pub record IsGreatestTo (to : ℤ) (Has : ℤ → Type 0) (t : ℤ) : Type 0 where
+    //!   pub to_there : t ≤ℤ to
+    //!   pub holds : Has t
+    //!   pub greatest : (u : ℤ) → u ≤ℤ to → Has u → u ≤ℤ t
+    //! ```
+    //!
     //! ## `product`
     //!
     //! the product of a list
@@ -888,31 +910,9 @@ pub mod modular {
     //! SolvesEach value congruences x = All (λ c. AreCongruent (value c.1) x (value c.0)) congruences
     //! ```
     //!
-    //! ## `IsLeastFrom`
-    //!
-    //! t is the least number from `from` on that has the property
-    //!
-    //! ```text
-    //! pub record IsLeastFrom (from : ℤ) (Has : ℤ → Type 0) (t : ℤ) : Type 0 where
-    //!   pub from_there : from ≤ℤ t
-    //!   pub holds : Has t
-    //!   pub least : (u : ℤ) → from ≤ℤ u → Has u → t ≤ℤ u
-    //! ```
-    //!
-    //! ## `IsGreatestTo`
-    //!
-    //! t is the greatest number up to `to` that has the property
-    //!
-    //! ```text
-    //! pub record IsGreatestTo (to : ℤ) (Has : ℤ → Type 0) (t : ℤ) : Type 0 where
-    //!   pub to_there : t ≤ℤ to
-    //!   pub holds : Has t
-    //!   pub greatest : (u : ℤ) → u ≤ℤ to → Has u → u ≤ℤ t
-    //! ```
-    //!
     //! ## `AreAllFrom`
     //!
-    //! the items are all the numbers from `from` on that have the property, each once and in increasing order
+    //! The items are all the numbers from `from` on that have the property, each once and in increasing order. Examples: being even and at most 7: from 3: 4, 6; from 7: none.
     //!
     //! ```text
     //! abbrev pub AreAllFrom : ℤ → (ℤ → Type 0) → List ℤ → Type 0
@@ -922,7 +922,7 @@ pub mod modular {
     //!
     //! ## `IsCountFrom`
     //!
-    //! count is how many numbers from `from` on have the property: the length of their list
+    //! The count is how many numbers from `from` on have the property: the length of their list. Examples: being even and at most 7: from 3: 2; from 7: 0.
     //!
     //! ```text
     //! pub record IsCountFrom (from : ℤ) (Has : ℤ → Type 0) (count : ℤ) : Type 0 where
@@ -1382,17 +1382,6 @@ pub mod calendar {
     //! pub record IsGreatest (P : ℤ → Type 0) (z : ℤ) : Type 0 where
     //!   pub holds : P z
     //!   pub greatest : (other : ℤ) → P other → other ≤ℤ z
-    //! ```
-    //!
-    //! ## `IsLeastFrom`
-    //!
-    //! The number is the least from `from` on that has the property. Examples: being even: from 7: 8; from 8: 8; being at most 5: from 6: none.
-    //!
-    //! ```text
-    //! pub record IsLeastFrom (from : ℤ) (P : ℤ → Type 0) (z : ℤ) : Type 0 where
-    //!   pub from_there : from ≤ℤ z
-    //!   pub holds : P z
-    //!   pub least : (other : ℤ) → from ≤ℤ other → P other → z ≤ℤ other
     //! ```
     //!
     //! ## `IsThursdayOfWeek`

@@ -4,13 +4,13 @@ use Rattle.std.specs.Int.{w64}
 use Rattle.std.specs.Option.{SomeIff}
 use Rattle.std.proofs.Common.{◌∙◌, ap, arith, refl, sym}
 use Rattle.std.proofs.lemmas.Int.{ints}
-use Rattle.num_integer.proofs.ForCallers.{floored_by_range, linear, only_floored}
+use Rattle.num_integer.proofs.ForCallers.{floored_by_range, least_is_only, linear, only_floored}
 use Rattle.calendar.specs.declared.weekday.Weekday.{Weekday}
 use Rattle.calendar.specs.declared.weekday.Weekday.TheVariants.{Sunday, Monday, Tuesday, Wednesday, Thursday, Friday, Saturday}
 use Rattle.calendar.specs.Laws.{FirstWeekdayIsOnly, IsoNumberIsOnly, LastWeekdayIsOnly, WeekdayIsOnly, WeekdaysFollow}
 use Rattle.calendar.specs.Weekday.{weekday_number}
 use Rattle.calendar.specs.Weeks.{HasWeekday, IsFirstWeekday, IsLastWeekday}
-use Rattle.calendar.proofs.Greatest.{only_greatest, only_least, only_or_beyond}
+use Rattle.calendar.proofs.Greatest.{only_greatest, only_or_beyond}
 
 -- ---- days of one day of the week
 
@@ -80,7 +80,7 @@ last_within {to} {day} weekday h down near = record {
 
 -- the first and the last are only one
 pub only_first : FirstWeekdayIsOnly
-only_first from weekday a b h k = only_least h k
+only_first from weekday a b h k = least_is_only k a h
 
 pub only_last : LastWeekdayIsOnly
 only_last to weekday a b h k = only_greatest h k

@@ -1,7 +1,8 @@
 -- Days that have a given day of the week.
 use Rattle.std.specs.Prelude.{◌+ℤ◌, ◌≤ℤ◌, ℤ, pos}
 use Rattle.num_integer.specs.Division.{IsFloored, IsRemainder}
-use Rattle.calendar.specs.Greatest.{IsGreatest, IsLeastFrom}
+use Rattle.num_integer.specs.Least.{IsLeastFrom}
+use Rattle.calendar.specs.Greatest.{IsGreatest}
 use Rattle.calendar.specs.Weekday.{weekday_number}
 use Rattle.calendar.specs.declared.weekday.Weekday.{Weekday}
 

@@ -12,7 +12,7 @@ use Rattle.modular.specs.declared.common_solutions.CommonSolution.TheVariants.{N
 use Rattle.modular.specs.CommonSolutions.{MatchCommonSolution}
 use Rattle.modular.specs.Agreement.{Agree, AgreeInPairs, AgreesWithEach}
 use Rattle.modular.specs.Congruences.{AreCongruent, IsNextCongruent, IsResidueClass, SolvesBothCongruences, SolvesEach}
-use Rattle.modular.specs.Least.{IsLeastFrom}
+use Rattle.num_integer.specs.Least.{IsLeastFrom}
 use Rattle.modular.proofs.ListedItems.{all_items, at_item, one_item_more}
 use Rattle.modular.proofs.Congruences.{congruent-divisor, congruent-refl, congruent-sym, congruent-trans, next_congruent_is, remainder_is_residue}
 

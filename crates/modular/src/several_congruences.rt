@@ -5,7 +5,7 @@ ghost use Rattle.std.specs.List.{All};
 ghost use Rattle.modular.specs.Agreement.{AgreesWithEach};
 ghost use Rattle.modular.specs.CommonSolutions.{MatchCommonSolution};
 ghost use Rattle.modular.specs.Congruences.{SolvesBothCongruences, SolvesEach};
-ghost use Rattle.modular.specs.Least.{IsLeastFrom};
+ghost use Rattle.num_integer.specs.Least.{IsLeastFrom};
 
 use crate::common_solutions::{CommonSolution, chinese_remainder, next_common_solution};
 use crate::products::Modular;

@@ -15,6 +15,9 @@ pub use Rattle.integer_core.proofs.Whole.{comm, dist, dist-left, expand, from_no
 pub use Rattle.num_integer.proofs.FittingAnswers.{signed_is}
 pub use Rattle.num_integer.proofs.IntegerPowers.{even_or_odd, even_power, int_pow-suc, int_pow-zero, odd_power, power_of_square}
 pub use Rattle.num_integer.proofs.Pascal.{coefficient-pos, coefficient-zero, none_above}
+-- ---- least and greatest numbers
+
+pub use Rattle.num_integer.proofs.Least.{greatest_is_only, least_is_only}
 -- ---- products in order
 
 pub use Rattle.num_integer.proofs.OrderedProducts.{product_from_zero, multiples_apart, product_at_most, factor_positive}

@@ -7,6 +7,7 @@ pub mod Multinomials
 pub mod CheckedMultinomials
 pub mod ScaledQuotients
 pub mod Laws
+pub mod Least
 pub mod OrderedProducts
 pub mod FlooredByPositive
 pub mod DivisorSizes

@@ -12,6 +12,7 @@ pub use Rattle.integer_core.specs.Runs
 pub mod Laws
 pub mod Checked
 pub mod Coefficient
+pub mod Least
 pub mod Multinomial
 pub mod Row
 pub mod Parts

@@ -3,7 +3,7 @@ use Rattle.std.specs.Prelude.{◌≤ℤ◌, ℤ, List}
 use Rattle.std.proofs.Common.{arith}
 use Rattle.num_integer.proofs.ForCallers.{linear}
 use Rattle.modular.specs.Congruences.{IsNextCommonSolution, SolvesBothCongruences, SolvesEach}
-use Rattle.modular.specs.Least.{IsLeastFrom}
+use Rattle.num_integer.specs.Least.{IsLeastFrom}
 use Rattle.modular.specs.CommonSolutions.{MatchCommonSolution}
 use Rattle.modular.specs.declared.common_solutions.CommonSolution.{CommonSolution}
 use Rattle.modular.specs.declared.common_solutions.CommonSolution.TheVariants.{At, Beyond, Never}

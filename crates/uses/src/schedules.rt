@@ -3,7 +3,7 @@
 ghost use Rattle.std.specs.Prelude.{◌≤ℤ◌, ◌<ℤ◌, ℤ, pos};
 ghost use Rattle.std.specs.List.{All};
 ghost use Rattle.modular.specs.CommonSolutions.{MatchCommonSolution};
-ghost use Rattle.modular.specs.Least.{IsLeastFrom};
+ghost use Rattle.num_integer.specs.Least.{IsLeastFrom};
 ghost use Rattle.uses.specs.Schedules.{HaveBegun, IsMeeting, IsMeetingOfEach};
 
 pub use modular::CommonSolution;

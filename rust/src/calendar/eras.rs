@@ -5,14 +5,18 @@ use crate::div_mod_floor;
 
 /// Returns the era of a year, and the number of years of the era before it.
 pub(crate) fn era_of_year(year: i64) -> (i64, u32) {
-    let (era, place) = div_mod_floor(year, 400);
-    (era, place as u32)
+    groups_and_rest(year, 400)
 }
 
 /// Returns the number of whole eras in so many days, rounded down, and the number of days that are left.
 pub(crate) fn eras_in_days(days: i64) -> (i64, u32) {
-    let (eras, rest) = div_mod_floor(days, 146097);
-    (eras, rest as u32)
+    groups_and_rest(days, 146097)
+}
+
+/// Returns the number of whole groups of a size in `n`, rounded down, and the number that is left.
+fn groups_and_rest(n: i64, size: u32) -> (i64, u32) {
+    let (groups, rest) = div_mod_floor(n, i64::from(size));
+    (groups, rest as u32)
 }
 
 /// Returns the number of days from 1 March of the year 400 years before an era to the first of a month

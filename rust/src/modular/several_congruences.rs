@@ -28,7 +28,7 @@ use crate::{checked, Fits, Integer};
 ///
 /// Words: [`MatchCommonSolution`](crate::definitions::modular#matchcommonsolution),
 /// [`SolvesEach`](crate::definitions::modular#solveseach),
-/// [`IsLeastFrom`](crate::definitions::modular#isleastfrom), [how to read it](crate::definitions).
+/// [`IsLeastFrom`](crate::definitions::num_integer#isleastfrom), [how to read it](crate::definitions).
 pub fn next_common_solution_of<T: Modular + Fits>(
     from: T,
     congruences: &[(T, T)],

@@ -28,7 +28,7 @@ pub type Schedule<T> = (T, T);
 ///
 /// Words: [`MatchCommonSolution`](crate::definitions::modular#matchcommonsolution),
 /// [`IsMeeting`](crate::definitions::uses#ismeeting),
-/// [`IsLeastFrom`](crate::definitions::modular#isleastfrom), [how to read it](crate::definitions).
+/// [`IsLeastFrom`](crate::definitions::num_integer#isleastfrom), [how to read it](crate::definitions).
 pub fn next_meeting<T: Modular + Fits>(
     now: T,
     a: Schedule<T>,
@@ -58,7 +58,7 @@ pub fn next_meeting<T: Modular + Fits>(
 ///
 /// Words: [`MatchCommonSolution`](crate::definitions::modular#matchcommonsolution),
 /// [`IsMeetingOfEach`](crate::definitions::uses#ismeetingofeach),
-/// [`IsLeastFrom`](crate::definitions::modular#isleastfrom), [how to read it](crate::definitions).
+/// [`IsLeastFrom`](crate::definitions::num_integer#isleastfrom), [how to read it](crate::definitions).
 pub fn next_meeting_of<T: Modular + Fits>(now: T, schedules: &[Schedule<T>]) -> CommonSolution<T> {
     next_common_solution_of(latest(now, schedules), schedules)
 }

@@ -3,7 +3,7 @@
 ghost use Rattle.std.specs.Prelude.{◌<ℤ◌, ℤ, pos, FitsSigned, MatchOption};
 ghost use Rattle.std.specs.Int.{w64};
 ghost use Rattle.std.specs.List.{All};
-ghost use Rattle.modular.specs.Least.{IsLeastFrom};
+ghost use Rattle.num_integer.specs.Least.{IsLeastFrom};
 ghost use Rattle.uses.specs.Schedules.{IsMeetingOfEach};
 
 use crate::assertions::holds_at;

@@ -5,7 +5,7 @@ ghost use Rattle.std.specs.Prelude.{◌≡◌, ◌<◌, ◌<ℤ◌, ◌≤ℤ◌
 ghost use Rattle.std.specs.Int.{int_pow, w64};
 ghost use Rattle.std.specs.List.{All};
 ghost use Rattle.modular.specs.Congruences.{IsCountOfCongruent, IsInverse, IsNextCommonSolution, IsQuotientModulo, IsResidue, IsResidueClass, Solves, SolvesBothCongruences, SolvesEach};
-ghost use Rattle.modular.specs.Least.{IsLeastFrom};
+ghost use Rattle.num_integer.specs.Least.{IsLeastFrom};
 
 use modular::counted::power_modulo_counted;
 use modular::{

@@ -2,8 +2,8 @@ use Rattle.std.specs.Prelude.{ℤ, FitsSigned}
 use Rattle.std.specs.Int.{w64}
 use Rattle.std.proofs.Common.{subst}
 use Rattle.std.proofs.lemmas.Int.{to_z-of_z}
-use Rattle.modular.specs.Least.{IsLeastFrom}
-use Rattle.modular.proofs.Laws.{least_is_only}
+use Rattle.num_integer.specs.Least.{IsLeastFrom}
+use Rattle.num_integer.proofs.ForCallers.{least_is_only}
 use Rattle.uses.specs.Schedules.{IsMeetingOfEach}
 use Rattle.library_tests.proofs.calls.schedules.next_shift.Goals as goal
 
