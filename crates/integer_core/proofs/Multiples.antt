@@ -1,7 +1,7 @@
 -- Multiples next to a number.
 use Rattle.std.specs.Prelude.{◌≡◌, ◌≢◌, ◌↔◌, ◌+ℤ◌, ◌-ℤ◌, ℤ, pos, neg_ℤ}
 use Rattle.std.proofs.Common.{arith}
-use Rattle.integer_core.proofs.Quotients.{ceiled_above, ceiled_exact, ceiled_by_negation, floored_by_negation}
+use Rattle.integer_core.proofs.Quotients.{ceiled_above, ceiled_exact}
 use Rattle.integer_core.proofs.Ranges.{within_fits}
 use Rattle.integer_core.proofs.Whole.{linear, sizes, products, expand}
 use Rattle.integer_core.specs.Division.{IsFloored, IsMultiple, IsCeiled}
@@ -33,6 +33,6 @@ only_multiple only h k g = let same = only _ _ _ _ g.is.division h.is.division i
 -- the next multiple of a negated divisor is the previous one of the divisor
 pub negation_turns_multiples : (n d m : ℤ) → IsMultiple IsCeiled n (neg_ℤ d) m ↔ IsMultiple IsFloored n d m
 negation_turns_multiples n d m = (
-  λ h. record { quotient = neg_ℤ h.quotient; is = record { remainder = _; division = floored_by_negation h.is.division }; product = grind (arith, products) },
-  λ h. record { quotient = neg_ℤ h.quotient; is = record { remainder = _; division = ceiled_by_negation h.is.division }; product = grind (arith, products) },
+  λ h. let k = h.is.division in record { quotient = neg_ℤ h.quotient; is = record { remainder = h.is.remainder; division = grind (arith, products, sizes) }; product = grind (arith, products) },
+  λ h. let k = h.is.division in record { quotient = neg_ℤ h.quotient; is = record { remainder = h.is.remainder; division = grind (arith, products, sizes) }; product = grind (arith, products) },
 )

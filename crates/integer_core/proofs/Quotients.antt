@@ -64,13 +64,6 @@ floored_same h sign = record { division = h.division; sign = sign }
 pub floored_by_minus_one : (n d : ℤ) → d ≡ negsuc 0 → IsFloored n d (neg_ℤ n) (pos 0)
 floored_by_minus_one n d e = grind (arith, products, sizes)
 
--- by the negated divisor the negated quotient is rounded the other way
-pub ceiled_by_negation : {n d q r : ℤ} → IsFloored n d q r → IsCeiled n (neg_ℤ d) (neg_ℤ q) r
-ceiled_by_negation h = grind (arith, products, sizes)
-
-pub floored_by_negation : {n d q r : ℤ} → IsCeiled n (neg_ℤ d) q r → IsFloored n d (neg_ℤ q) r
-floored_by_negation h = grind (arith, products, sizes)
-
 -- ---- they exist
 
 pub remainder_within : (n d : ℤ) → LiesWithin n (int_rem n d)

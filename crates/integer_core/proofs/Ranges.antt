@@ -1,5 +1,5 @@
 -- What fits, by the range of a type.
-use Rattle.std.specs.Prelude.{◌≡◌, ◌⊎◌, ◌<ℤ◌, ◌+ℤ◌, ◌-ℤ◌, ℕ, ℤ, pos, unsigned_abs}
+use Rattle.std.specs.Prelude.{◌≡◌, ◌⊎◌, ℕ, ℤ, pos, unsigned_abs}
 use Rattle.std.specs.Int.{Width}
 use Rattle.std.proofs.Common.{arith, subst}
 use Rattle.integer_core.proofs.Whole.{linear, sizes}
@@ -15,10 +15,6 @@ LiesWithin n z = Between (pos 0) n z ⊎ Between n (pos 0) z
 -- what lies between 0 and a number that fits
 pub within_fits : {fits : ℤ → Type 0} {low high n z : ℤ} → IsRange fits low high → fits n → LiesWithin n z → fits z
 within_fits {n = n} {z = z} range n_fits within = (range.between z).1 (omega (arith, linear, (range.between n).0 n_fits))
-
--- how far a number below 0 is from -1
-pub beyond_fits : {fits : ℤ → Type 0} {low high x : ℤ} → IsRange fits low high → fits x → x <ℤ pos 0 → fits (pos 0 -ℤ (x +ℤ pos 1))
-beyond_fits {x = x} range x_fits below = (range.between _).1 (omega (arith, linear, (range.between x).0 x_fits))
 
 -- an lcm that fits is a magnitude
 pub lcm_is_magnitude : {w : Width} {number : ℕ → ℤ} {fits wide : ℤ → Type 0} {low high a b l : ℤ} → IsNative w number fits low high wide → EachFits fits (IsLeastCommonMultiple a b)

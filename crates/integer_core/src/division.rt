@@ -8,7 +8,6 @@ use crate::native::Native;
 use crate::operators::{is_negative, is_zero, predecessor, quotient, remainder, sum};
 
 /// Returns the quotient rounded toward zero, and its remainder.
-#[tactic(auto, using(crate::proofs::Quotients::truncated_is))]
 pub(crate) fn div_rem<T: Native>(n: T, d: T) -> (T, T)
     requires n_in_range { T.fits (T.value n) }
     requires d_in_range { T.fits (T.value d) }

@@ -106,7 +106,6 @@ pub trait Integer: Copy + Num + PartialOrd + Ord + Eq {
     /// `23.next_multiple_of(&-8)` is `16`.
     ///
     /// May be called where `Fits::next_multiple_fits` is true.
-    #[tactic(auto, using(crate::proofs::Multiples::next_exact))]
     fn next_multiple_of(&self, other: &Self) -> Self
         requires self_in_range { Self.fits (Self.value self.now) }
         requires other_in_range { Self.fits (Self.value other.now) }

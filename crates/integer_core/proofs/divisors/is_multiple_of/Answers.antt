@@ -11,7 +11,7 @@ remainder-requires-clause-quotient_fits g c =
     other_quotient_fits g.met.T.Native.native_law.range c.requires.n_in_range c.requires.d_in_range (grind (arith, linear)) division
 
 pub returns-then-is_zero : goal.returns-then-is_zero
-returns-then-is_zero g c = rw (c.is_zero.ensures.0 c.if-is_zero.true) (grind (arith, linear, zero_divides, Divides-zero))
+returns-then-is_zero g c = rw (c.is_zero.ensures.0 c.if-is_zero.true) (λ t. rw (c.is_zero-then-is_zero.ensures.0 t) (Divides-zero _), λ h. c.is_zero-then-is_zero.ensures.1 (zero_divides h))
 
 pub returns-then-is_minus_one : goal.returns-then-is_minus_one
 returns-then-is_minus_one g c = rw (c.is_minus_one.ensures.0 c.if-is_minus_one.true) (search (rules, Divides-minus_one))

@@ -11,3 +11,6 @@ pub returns-then-is_minus_one-clause-floored : goal.returns-then-is_minus_one-cl
 returns-then-is_minus_one-clause-floored g c =
     let exact = floored_by_minus_one (g.T.Number.value c.args.self.now) _ (c.is_minus_one.ensures.0 c.if-is_minus_one.true) in
     rw c.zero.ensures.value (record { quotient = _; division = exact })
+
+pub returns-else-is_minus_one-clause-floored : goal.returns-else-is_minus_one-clause-floored
+returns-else-is_minus_one-clause-floored g c = record { quotient = _; division = c.div_mod_floor.ensures.floored }
