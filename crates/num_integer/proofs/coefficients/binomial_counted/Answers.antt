@@ -32,5 +32,10 @@ returns-clause-coefficient g c =
     let done = from_test c.is_below-in-loop-n.ensures c.loop-n-test.false in
     c.loop-n.invariant.coefficient ∙ ap pos (nearer_same _ _ _ (omega (arith, ints)) (omega (arith, ints)))
 
+pub returns-clause-turns : goal.returns-clause-turns
+returns-clause-turns g c =
+    let done = from_test c.is_below-in-loop-n.ensures c.loop-n-test.false in
+    omega (arith, ints)
+
 pub returns-clause-bound : goal.returns-clause-bound
 returns-clause-bound g c = λ within. power_below_answer _ _ _ (omega (arith, ints)) (omega (arith, ints))

@@ -1,6 +1,6 @@
 use Rattle.std.proofs.Common.{arith, ap, length, sym, ◌∙◌}
 use Rattle.num_integer.proofs.FittingAnswers.{from_test}
-use Rattle.num_integer.proofs.Steps.{item_fits, place_fits, rest_next}
+use Rattle.num_integer.proofs.Steps.{item_fits, place_fits, rest_next, rest_none}
 use Rattle.num_integer.proofs.rows.IterBinomialIterator.next.Goals as goal
 
 pub item_after-self-inside-requires-clause-next_fits : goal.item_after-self-inside-requires-clause-next_fits
@@ -8,6 +8,10 @@ item_after-self-inside-requires-clause-next_fits g c = item_fits g.met.T.Integer
 
 pub successor-self-inside-requires-clause-sum_fits : goal.successor-self-inside-requires-clause-sum_fits
 successor-self-inside-requires-clause-sum_fits g c = place_fits g.met.T.Integer.range_law c.self.invariant (from_test c.is_below.ensures c.if-is_below.false)
+
+pub returns-then-is_below-clause-steps : goal.returns-then-is_below-clause-steps
+returns-then-is_below-clause-steps g c =
+    let none = sym c.self.view_is ∙ rest_none _ _ c.self.invariant.k_from_zero (c.is_below.ensures.0 c.if-is_below.true) in (none, none)
 
 pub returns-clause-steps : goal.returns-clause-steps
 returns-clause-steps g c =

@@ -1,0 +1,8 @@
+use Rattle.std.proofs.Common.{◌∙◌}
+use Rattle.num_integer.proofs.coefficients.next_coefficient.Goals as goal
+
+pub product-requires-clause-product_fits : goal.product-requires-clause-product_fits
+product-requires-clause-product_fits g c = rw c.next_factors-x.ensures.product c.requires.next_fits
+
+pub returns-clause-next : goal.returns-clause-next
+returns-clause-next g c = c.product.ensures.value ∙ c.next_factors-x.ensures.product
