@@ -1,5 +1,6 @@
 //! Worked values, and the tests of the Rust crate `num-integer`.
 
+mod answers;
 mod assertions;
 mod averages;
 mod bezout;

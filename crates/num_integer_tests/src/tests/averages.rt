@@ -1,15 +1,15 @@
 //! Averages: the rows of their documents, the tests of the Rust crate, and the halves of both numbers added
 //! up.
 
-use super::assertions::holds_at;
-use super::call_rows::AnswersPair;
+use super::answers::two;
+use super::assertions::call_answers;
 use super::call_rows::PairCall::Averages;
-use super::types::{Check, check_at_each, check_rows, greatest, value};
-use num_integer::{average_ceil, average_floor};
+use super::call_rows::{AnswersPair, Call};
+use super::types::{Check, check_at_each, check_rows, ends, greatest};
 use std::process::Abort;
 use test_types::signed_magnitude::{SignedMagnitude, floored, left, sum};
 use test_types::types::Type::{I64, I128, U8};
-use test_types::types::{SIGNED, Tested, Type, UNSIGNED};
+use test_types::types::{SIGNED, Type, UNSIGNED};
 
 /// Checks both averages at each of the types.
 fn check_averages(rt: &impl Abort, types: &[Type], operands: (i128, i128), averages: (i128, i128)) {
@@ -31,24 +31,34 @@ fn averages_of_the_documents(rt: HostRuntime) {
     check_averages(&rt, &[U8], (255, 2), (128, 129));
 }
 
+/// Asserts that the two numbers have these averages.
+fn assert_averages(
+    rt: &impl Abort,
+    it: Type,
+    operands: (SignedMagnitude, SignedMagnitude),
+    (floor, ceil): (SignedMagnitude, SignedMagnitude),
+) {
+    call_answers(
+        rt,
+        it,
+        Call::Pair(Averages),
+        operands,
+        Some(two(floor, ceil)),
+    );
+}
+
 /// The averages of numbers right below the greatest of the type.
 #[derive(Drop)]
 struct AveragesAtTheTop;
 
 impl Check for AveragesAtTheTop {
-    fn at<T: Tested>(&self, rt: &impl Abort) {
-        let (_, high) = T::ends();
-        let first = value::<T>(rt, (false, high.saturating_sub(1)));
-        let second = value::<T>(rt, (false, high.saturating_sub(2)));
-        let third = value::<T>(rt, (false, high.saturating_sub(3)));
-        let averages = (average_floor(third, first), average_ceil(third, first));
-        holds_at(rt, averages == (second, second), &("averages", second));
-        let averages = (average_floor(third, second), average_ceil(third, second));
-        holds_at(
-            rt,
-            averages == (third, second),
-            &("averages", third, second),
-        );
+    fn at(&self, rt: &impl Abort, it: Type) {
+        let (_, high) = ends(rt, it);
+        let first = (false, high.saturating_sub(1));
+        let second = (false, high.saturating_sub(2));
+        let third = (false, high.saturating_sub(3));
+        assert_averages(rt, it, (third, first), (second, second));
+        assert_averages(rt, it, (third, second), (third, second));
     }
 }
 
@@ -80,10 +90,9 @@ fn overflow(rt: HostRuntime) {
 struct AveragesOfTheEnds;
 
 impl Check for AveragesOfTheEnds {
-    fn at<T: Tested>(&self, rt: &impl Abort) {
-        let greatest = greatest::<T>(rt);
-        let check = AnswersPair(Averages, (-greatest - 1, greatest), Some((-1, 0)));
-        check.at::<T>(rt);
+    fn at(&self, rt: &impl Abort, it: Type) {
+        let greatest = greatest(rt, it);
+        AnswersPair(Averages, (-greatest - 1, greatest), Some((-1, 0))).at(rt, it);
     }
 }
 
@@ -107,15 +116,9 @@ fn halves_of_sum(
     Some((floor, sum(floor, (false, over % 2))?))
 }
 
-pub(super) fn has_averages<T: Tested>(rt: &impl Abort, a: SignedMagnitude, b: SignedMagnitude) {
-    let (x, y) = (value::<T>(rt, a), value::<T>(rt, b));
-    let (floor, ceil) = halves_of_sum(a, b).expect(rt, "the averages lie between the numbers");
-    let expected = (value(rt, floor), value(rt, ceil));
-    holds_at(
-        rt,
-        (average_floor(x, y), average_ceil(x, y)) == expected,
-        &("averages", a, b),
-    );
+pub(super) fn has_averages(rt: &impl Abort, it: Type, a: SignedMagnitude, b: SignedMagnitude) {
+    let averages = halves_of_sum(a, b).expect(rt, "the averages lie between the numbers");
+    assert_averages(rt, it, (a, b), averages);
 }
 
 /// The averages of the greatest number and itself.
@@ -123,17 +126,9 @@ pub(super) fn has_averages<T: Tested>(rt: &impl Abort, a: SignedMagnitude, b: Si
 struct GreatestIsItsAverage;
 
 impl Check for GreatestIsItsAverage {
-    fn at<T: Tested>(&self, rt: &impl Abort) {
-        let greatest = value::<T>(rt, (false, T::ends().1));
-        let averages = (
-            average_floor(greatest, greatest),
-            average_ceil(greatest, greatest),
-        );
-        holds_at(
-            rt,
-            averages == (greatest, greatest),
-            &("averages", greatest),
-        );
+    fn at(&self, rt: &impl Abort, it: Type) {
+        let greatest = (false, ends(rt, it).1);
+        assert_averages(rt, it, (greatest, greatest), (greatest, greatest));
     }
 }
 

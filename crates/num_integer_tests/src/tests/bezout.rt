@@ -1,28 +1,15 @@
 //! Bezout pairs.
 
-ghost use Rattle.std.specs.Prelude.{IfSome};
-
-use super::assertions::holds_at;
-use super::call_rows::Holds;
+use super::answers::{Ask, Numbers, answer, one};
+use super::assertions::{call_answers, holds_at};
+use super::call_rows::NumberCall::{Gcd, Lcm};
 use super::call_rows::Question::{GcdFits, IsMultipleOf};
-use super::plain;
-use super::types::{Check, check_at, check_rows, number};
-use num_integer::{ExtendedGcd, Fits, checked, counted};
-use num_traits::Signed;
+use super::call_rows::{Call, Holds, operands};
+use super::types::{Check, check_at, check_rows};
 use std::process::Abort;
-use test_types::types::Tested;
-use test_types::types::Type::{I8, I64, I128, Isize, U8, U64};
-
-/// The answer of `extended_gcd` and the turns, where that call answers.
-pub(crate) fn extended_gcd_counted<T: Fits>(a: T, b: T) -> Option<(ExtendedGcd<T>, u32)>
-    requires a_in_range { T.fits (T.value a) }
-    requires b_in_range { T.fits (T.value b) }
-    ensures { IfSome result (λ answer. T.fits (T.value answer.0.gcd)
-        × T.fits (T.value answer.0.x) × T.fits (T.value answer.0.y)) }
-{
-    checked::extended_gcd(a, b)?;
-    Some(counted::extended_gcd_counted(a, b))
-}
+use test_types::signed_magnitude::{SignedMagnitude, product, signed_magnitude_of, sum};
+use test_types::types::Type;
+use test_types::types::Type::{I8, I32, I64, I128, Isize, U8, U64};
 
 /// Two operands, their greatest common divisor with its pair, and the turns.
 #[derive(Drop)]
@@ -33,29 +20,15 @@ pub(crate) struct HasPair(
 );
 
 impl Check for HasPair {
-    fn at<T: Tested>(&self, rt: &impl Abort) {
-        let ((a, b), (gcd, x, y)) = (self.0, self.1);
-        let answer = ExtendedGcd {
-            gcd: number::<T>(rt, gcd),
-            x: number::<T>(rt, x),
-            y: number::<T>(rt, y),
-        };
-        let (first, second) = (number::<T>(rt, a), number::<T>(rt, b));
-        let pairs = (
-            checked::extended_gcd(first, second),
-            plain::extended_gcd(first, second),
+    fn at(&self, rt: &impl Abort, it: Type) {
+        let (gcd, x, y) = self.1;
+        let expected = (
+            signed_magnitude_of(gcd),
+            signed_magnitude_of(x),
+            signed_magnitude_of(y),
+            (false, u128::from(self.2)),
         );
-        holds_at(
-            rt,
-            pairs == (Some(answer), Some(answer)),
-            &("extended_gcd", a, b),
-        );
-        let counted = extended_gcd_counted(first, second);
-        holds_at(
-            rt,
-            counted == Some((answer, self.2)),
-            &("extended_gcd_counted", a, b),
-        );
+        call_answers(rt, it, Call::Bezout, operands(self.0), Some(expected));
     }
 }
 
@@ -64,10 +37,8 @@ impl Check for HasPair {
 struct HasNoPair(i128, i128);
 
 impl Check for HasNoPair {
-    fn at<T: Tested>(&self, rt: &impl Abort) {
-        let (a, b) = (number::<T>(rt, self.0), number::<T>(rt, self.1));
-        let none = checked::extended_gcd(a, b).is_none() && extended_gcd_counted(a, b).is_none();
-        holds_at(rt, none, &("extended_gcd", self.0, self.1));
+    fn at(&self, rt: &impl Abort, it: Type) {
+        call_answers(rt, it, Call::Bezout, operands((self.0, self.1)), None);
     }
 }
 
@@ -131,43 +102,38 @@ fn operands_with_no_pair(rt: HostRuntime) {
 }
 
 /// The answer of `extended_gcd_lcm`: its divisor is that of `gcd`, and its multiple that of `lcm`.
-fn pair_with_lcm<T: Fits + Signed>(rt: &impl Abort, a: T, b: T) -> (ExtendedGcd<T>, T)
-    requires a_in_range { T.fits (T.value a) }
-    requires b_in_range { T.fits (T.value b) }
-{
-    let answer = plain::extended_gcd_lcm(a, b);
-    assert!(rt; checked::extended_gcd_lcm(a, b) == answer);
-    let (pair, lcm) = answer.expect(rt, "both fit");
-    assert!(rt; checked::gcd(a, b) == Some(pair.gcd));
-    assert!(rt; checked::lcm(a, b) == Some(lcm));
-    (pair, lcm)
+fn pair_with_lcm(rt: &impl Abort, a: SignedMagnitude, b: SignedMagnitude) -> Numbers {
+    let numbers = answer(rt, I32, Ask::Of(Call::BezoutAndMultiple, a, b)).expect(rt, "both fit");
+    let (gcd, _, _, lcm) = numbers;
+    call_answers(rt, I32, Call::Number(Gcd), (a, b), Some(one(gcd)));
+    call_answers(rt, I32, Call::Number(Lcm), (a, b), Some(one(lcm)));
+    numbers
 }
 
 /// The first operand times `x` and the second times `y`, added up.
-fn combined(pair: &ExtendedGcd<i32>, a: i32, b: i32) -> Option<i32> {
-    pair.x.checked_mul(a)?.checked_add(pair.y.checked_mul(b)?)
+pub(super) fn combined(
+    a: SignedMagnitude,
+    b: SignedMagnitude,
+    x: SignedMagnitude,
+    y: SignedMagnitude,
+) -> Option<SignedMagnitude> {
+    sum(product(a, x)?, product(b, y)?)
 }
 
 #[test]
 fn test_extended_gcd_lcm(rt: HostRuntime) {
     for a in -128i32..=127 {
         for b in -128i32..=127 {
-            let (pair, _) = pair_with_lcm(&rt, a, b);
-            holds_at(
-                &rt,
-                combined(&pair, a, b) == Some(pair.gcd),
-                &("combined", a, b),
-            );
+            let (a, b) = operands((i128::from(a), i128::from(b)));
+            let (gcd, x, y, _) = pair_with_lcm(&rt, a, b);
+            holds_at(&rt, combined(a, b, x, y) == Some(gcd), &("combined", a, b));
         }
     }
 }
 
 #[test]
 fn extended_gcd_lcm_of_ten_and_four(rt: HostRuntime) {
-    let pair = ExtendedGcd {
-        gcd: 2,
-        x: 1,
-        y: -2,
-    };
-    assert_eq!(rt; pair_with_lcm(&rt, 10i32, 4), (pair, 20));
+    let numbers = pair_with_lcm(&rt, (false, 10), (false, 4));
+    let expected = ((false, 2), (false, 1), (true, 2), (false, 20));
+    holds_at(&rt, numbers == expected, &numbers);
 }

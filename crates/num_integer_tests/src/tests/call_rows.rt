@@ -1,18 +1,45 @@
 //! Names of the calls, and the rows of tables: a call, its operands and its answer.
 
-use super::assertions::holds_at;
-use super::plain;
-use super::types::{Check, number, optional};
-use num_integer::{Fits, average_ceil, average_floor, checked};
+use super::answers::{Numbers, one, truth, two};
+use super::assertions::call_answers;
+use super::types::Check;
+use num_integer::Fits;
 use std::process::Abort;
-use test_types::types::Tested;
+use test_types::signed_magnitude::{SignedMagnitude, signed_magnitude_of};
+use test_types::types::Type;
 
-/// A call of one operand that answers a number.
+/// A call.
+#[derive(Clone, Copy, Debug)]
+pub(crate) enum Call {
+    Unary(UnaryCall),
+    Number(NumberCall),
+    Pair(PairCall),
+    Question(Question),
+    /// The greatest common divisor, its pair and the turns, by each of the calls.
+    Bezout,
+    /// The greatest common divisor, its pair, and the least common multiple.
+    BezoutAndMultiple,
+    /// The greatest common divisor and the turns.
+    CountedGcd,
+    /// The coefficient and the turns.
+    CountedBinomial,
+    /// The square root and the turns.
+    CountedRoot,
+    /// The root of a degree, by each of the calls.
+    Root(u32),
+    /// Whether the free functions of division and of divisors answer what the calls of their names do.
+    FreeCalls,
+}
+
+/// A call of one operand.
 #[derive(Clone, Copy, Debug)]
 pub(crate) enum UnaryCall {
     Inc,
     Dec,
     Negated,
+    Parts,
+    IsEven,
+    IsOdd,
 }
 
 /// A call of two operands that answers a number.
@@ -54,59 +81,8 @@ pub(crate) enum Question {
     BinomialFits,
 }
 
-impl UnaryCall {
-    /// The answer, or `None` outside the domain of the call.
-    pub(crate) fn answer<T: Tested>(self, x: T) -> Option<T>
-        requires { T.fits (T.value x) }
-    {
-        match self {
-            UnaryCall::Inc => checked::inc(x),
-            UnaryCall::Dec => checked::dec(x),
-            UnaryCall::Negated => checked::negated(x),
-        }
-    }
-}
-
-impl NumberCall {
-    /// The answer, or `None` outside the domain of the call. Multiples and coefficients are asked of the
-    /// plain call too.
-    pub(crate) fn answer<T: Tested>(self, rt: &impl Abort, a: T, b: T) -> Option<T>
-        requires a_in_range { T.fits (T.value a) }
-        requires b_in_range { T.fits (T.value b) }
-    {
-        let plain = match self {
-            NumberCall::NextMultipleOf => plain::next_multiple_of(a, b),
-            NumberCall::PrevMultipleOf => plain::prev_multiple_of(a, b),
-            NumberCall::Binomial => plain::binomial(a, b),
-            _ => return self.checked(a, b),
-        };
-        holds_at(rt, self.checked(a, b) == plain, &(self, a, b));
-        plain
-    }
-
-    /// The answer of the call of `checked`.
-    fn checked<T: Tested>(self, a: T, b: T) -> Option<T>
-        requires a_in_range { T.fits (T.value a) }
-        requires b_in_range { T.fits (T.value b) }
-    {
-        match self {
-            NumberCall::DivFloor => checked::div_floor(a, b),
-            NumberCall::ModFloor => checked::mod_floor(a, b),
-            NumberCall::DivCeil => checked::div_ceil(a, b),
-            NumberCall::NextMultipleOf => checked::next_multiple_of(a, b),
-            NumberCall::PrevMultipleOf => checked::prev_multiple_of(a, b),
-            NumberCall::Gcd => checked::gcd(a, b),
-            NumberCall::Lcm => checked::lcm(a, b),
-            NumberCall::Binomial => checked::binomial(a, b),
-            NumberCall::Sum => checked::sum(a, b),
-            NumberCall::Difference => checked::difference(a, b),
-            NumberCall::Product => checked::product(a, b),
-        }
-    }
-}
-
 /// What `/` and `%` answer, or `None` where the quotient is outside the type.
-fn operators<T: Fits>(n: T, d: T) -> Option<(T, T)>
+pub(super) fn operators<T: Fits>(n: T, d: T) -> Option<(T, T)>
     requires n_in_range { T.fits (T.value n) }
     requires d_in_range { T.fits (T.value d) }
 {
@@ -114,41 +90,6 @@ fn operators<T: Fits>(n: T, d: T) -> Option<(T, T)>
         Some((n / d, n % d))
     } else {
         None
-    }
-}
-
-impl PairCall {
-    /// The answers, or `None` outside the domain of the call.
-    pub(crate) fn answers<T: Tested>(self, a: T, b: T) -> Option<(T, T)>
-        requires a_in_range { T.fits (T.value a) }
-        requires b_in_range { T.fits (T.value b) }
-    {
-        match self {
-            PairCall::Averages => Some((average_floor(a, b), average_ceil(a, b))),
-            PairCall::DivRem => checked::div_rem(a, b),
-            PairCall::Operators => operators(a, b),
-            PairCall::DivModFloor => checked::div_mod_floor(a, b),
-            PairCall::GcdLcm => checked::gcd_lcm(a, b),
-        }
-    }
-}
-
-impl Question {
-    /// Whether it holds.
-    fn holds<T: Tested>(self, a: T, b: T) -> bool
-        requires a_in_range { T.fits (T.value a) }
-        requires b_in_range { T.fits (T.value b) }
-    {
-        match self {
-            Question::IsMultipleOf => a.is_multiple_of(&b),
-            Question::Divides => a.divides(&b),
-            Question::QuotientFits => a.quotient_fits(&b),
-            Question::NextMultipleFits => a.next_multiple_fits(&b),
-            Question::PrevMultipleFits => a.prev_multiple_fits(&b),
-            Question::GcdFits => a.gcd_fits(&b),
-            Question::LcmFits => a.lcm_fits(&b),
-            Question::BinomialFits => a.binomial_fits(&b),
-        }
     }
 }
 
@@ -184,40 +125,46 @@ pub(crate) struct Holds(
     pub(crate) bool,
 );
 
+/// The number, where there is one.
+pub(super) fn number_if_any(n: Option<i128>) -> Option<Numbers> {
+    Some(one(signed_magnitude_of(n?)))
+}
+
+/// The signs and magnitudes of two numbers.
+pub(super) fn operands((a, b): (i128, i128)) -> (SignedMagnitude, SignedMagnitude) {
+    (signed_magnitude_of(a), signed_magnitude_of(b))
+}
+
 impl Check for AnswersOne {
-    fn at<T: Tested>(&self, rt: &impl Abort) {
-        let (call, x) = (self.0, self.1);
-        let expected = optional::<T>(rt, self.2);
-        let answer = call.answer(number::<T>(rt, x));
-        holds_at(rt, answer == expected, &(call, x));
+    fn at(&self, rt: &impl Abort, it: Type) {
+        let expected = number_if_any(self.2);
+        call_answers(
+            rt,
+            it,
+            Call::Unary(self.0),
+            operands((self.1, self.1)),
+            expected,
+        );
     }
 }
 
 impl Check for Answers {
-    fn at<T: Tested>(&self, rt: &impl Abort) {
-        let (call, (a, b)) = (self.0, self.1);
-        let expected = optional::<T>(rt, self.2);
-        let answer = call.answer(rt, number::<T>(rt, a), number::<T>(rt, b));
-        holds_at(rt, answer == expected, &(call, a, b));
+    fn at(&self, rt: &impl Abort, it: Type) {
+        let expected = number_if_any(self.2);
+        call_answers(rt, it, Call::Number(self.0), operands(self.1), expected);
     }
 }
 
 impl Check for AnswersPair {
-    fn at<T: Tested>(&self, rt: &impl Abort) {
-        let (call, (a, b)) = (self.0, self.1);
-        let expected = match self.2 {
-            Some((first, second)) => Some((number::<T>(rt, first), number::<T>(rt, second))),
-            None => None,
-        };
-        let answers = call.answers(number::<T>(rt, a), number::<T>(rt, b));
-        holds_at(rt, answers == expected, &(call, a, b));
+    fn at(&self, rt: &impl Abort, it: Type) {
+        let expected = self.2.map(|(a, b)| two(signed_magnitude_of(a), signed_magnitude_of(b)));
+        call_answers(rt, it, Call::Pair(self.0), operands(self.1), expected);
     }
 }
 
 impl Check for Holds {
-    fn at<T: Tested>(&self, rt: &impl Abort) {
-        let (question, (a, b)) = (self.0, self.1);
-        let holds = question.holds(number::<T>(rt, a), number::<T>(rt, b));
-        holds_at(rt, holds == self.2, &(question, a, b));
+    fn at(&self, rt: &impl Abort, it: Type) {
+        let expected = Some(truth(self.2));
+        call_answers(rt, it, Call::Question(self.0), operands(self.1), expected);
     }
 }

@@ -3,17 +3,18 @@
 ghost use Rattle.std.specs.Prelude.{IfOk};
 ghost use Rattle.std.specs.List.{All};
 
-use super::assertions::holds_at;
+use super::answers::{Ask, Numbers, after_turns, answer, one, truth};
+use super::assertions::{answers, call_answers, holds_at};
 use super::call_rows::NumberCall::Binomial;
 use super::call_rows::Question::BinomialFits;
-use super::call_rows::{Answers, Holds};
+use super::call_rows::{Answers, Call, Holds, number_if_any, operands};
 use super::plain;
-use super::types::{Check, check_at, check_at_each, check_rows, number, optional};
-use num_integer::counted::binomial_counted;
+use super::types::{Check, check_at, check_at_each, check_rows, value};
 use num_integer::{Fits, IterBinomial, checked};
 use std::alloc::{AllocError, Global};
 use std::process::Abort;
-use test_types::types::Type::{I8, I16, I32, I64, U8, U16, U32, U64};
+use test_types::signed_magnitude::{SignedMagnitude, signed_magnitude_of};
+use test_types::types::Type::{I8, I16, I32, I64, U8, U16, U32, U64, U128};
 use test_types::types::{NATIVE, Tested, Type};
 
 /// The types whose numbers have 16 bits or more, and at most 64.
@@ -21,18 +22,6 @@ const FROM_16_BITS: [Type; 6] = [U16, I16, U32, I32, U64, I64];
 
 /// The types whose numbers have 32 or 64 bits.
 const FROM_32_BITS: [Type; 4] = [U32, I32, U64, I64];
-
-/// The coefficient and the turns, where the coefficient fits.
-pub(crate) fn counted<T: Fits>(n: T, k: T) -> Option<(T, u32)>
-    requires n_in_range { T.fits (T.value n) }
-    requires k_in_range { T.fits (T.value k) }
-{
-    if n.binomial_fits(&k) {
-        Some(binomial_counted(n, k))
-    } else {
-        None
-    }
-}
 
 #[test]
 fn test_binomial(rt: HostRuntime) {
@@ -78,11 +67,15 @@ fn binomials_at_the_ends(rt: HostRuntime) {
 struct HasTurns((i128, i128), i128, u32);
 
 impl Check for HasTurns {
-    fn at<T: Tested>(&self, rt: &impl Abort) {
-        let (n, k) = self.0;
-        let expected = Some((number::<T>(rt, self.1), self.2));
-        let answer = counted(number::<T>(rt, n), number::<T>(rt, k));
-        holds_at(rt, answer == expected, &("binomial_counted", n, k));
+    fn at(&self, rt: &impl Abort, it: Type) {
+        let expected = after_turns(signed_magnitude_of(self.1), self.2);
+        call_answers(
+            rt,
+            it,
+            Call::CountedBinomial,
+            operands(self.0),
+            Some(expected),
+        );
     }
 }
 
@@ -97,14 +90,54 @@ fn binomial_turns(rt: HostRuntime) {
 }
 
 /// The numbers as values of the type.
-fn values<T: Tested>(rt: &impl Abort, alloc: Global, numbers: &[i128]) -> Result<Vec<T>, AllocError>
+fn values<T: Tested>(
+    rt: &impl Abort,
+    alloc: Global,
+    numbers: &[SignedMagnitude],
+) -> Result<Vec<T>, AllocError>
     ensures { IfOk result (λ v. All (λ x. T.fits (T.value x)) v.items) }
 {
     let mut values = Vec::new(alloc);
     for it in numbers {
-        values.push(number::<T>(rt, *it))?;
+        values.push(value::<T>(rt, *it))?;
     }
     Ok(values)
+}
+
+/// The multinomial of the counts, where it fits the type.
+pub(super) fn multinomial<T: Tested>(
+    rt: &impl Abort,
+    alloc: Global,
+    counts: &[SignedMagnitude],
+) -> Option<Numbers> {
+    let values = values::<T>(rt, alloc, counts).expect(rt, "memory is left");
+    let answer = checked::multinomial(&values);
+    holds_at(
+        rt,
+        plain::multinomial(&values) == answer,
+        &("multinomial", counts),
+    );
+    Some(one(answer?.parts()))
+}
+
+/// Whether the multinomial of the counts fits the type.
+pub(super) fn multinomial_fits<T: Tested>(
+    rt: &impl Abort,
+    alloc: Global,
+    counts: &[SignedMagnitude],
+) -> Option<Numbers> {
+    let values = values::<T>(rt, alloc, counts).expect(rt, "memory is left");
+    Some(truth(T::multinomial_fits(&values)))
+}
+
+/// The signs and magnitudes of the numbers.
+fn signed_magnitudes(rt: &impl Abort, alloc: Global, numbers: &[i128]) -> Vec<SignedMagnitude> {
+    let mut list = Vec::new(alloc);
+    for n in numbers {
+        list.push(signed_magnitude_of(*n))
+            .expect(rt, "memory is left");
+    }
+    list
 }
 
 /// Counts, and their multinomial, or `None` where it does not fit.
@@ -116,15 +149,10 @@ pub(crate) struct Shares<'a>(
 );
 
 impl Check for Shares<'_> {
-    fn at<T: Tested>(&self, rt: &impl Abort) {
-        let counts = values::<T>(rt, self.0, self.1).expect(rt, "memory is left");
-        let expected = optional::<T>(rt, self.2);
-        let answers = (checked::multinomial(&counts), plain::multinomial(&counts));
-        holds_at(
-            rt,
-            answers == (expected, expected),
-            &("multinomial", self.1),
-        );
+    fn at(&self, rt: &impl Abort, it: Type) {
+        let counts = signed_magnitudes(rt, self.0, self.1);
+        let expected = number_if_any(self.2);
+        answers(rt, it, Ask::Multinomial(self.0, &counts), expected);
     }
 }
 
@@ -168,21 +196,32 @@ fn has_ended<T: Fits>(mut row: IterBinomial<T>) -> bool {
     row.next().is_none() && row.next().is_none()
 }
 
+/// Asserts that both calls answer the row of these items, where the row fits the type.
+pub(super) fn has_row<T: Tested>(
+    rt: &impl Abort,
+    n: SignedMagnitude,
+    items: &[SignedMagnitude],
+) -> Option<Numbers> {
+    let x = value::<T>(rt, n);
+    let mut row = checked::row(x)?;
+    let mut plain = plain::row(x)?;
+    for item in items {
+        let expected = Some(value::<T>(rt, *item));
+        let next = (row.next(), plain.next());
+        holds_at(rt, next == (expected, expected), &("next", n));
+    }
+    Some(truth(has_ended(row) && has_ended(plain)))
+}
+
 /// A number, and its row.
 #[derive(Drop)]
-pub(crate) struct HasItems<'a>(pub(crate) i128, pub(crate) &'a [i128]);
+pub(crate) struct HasItems<'a>(pub(crate) Global, pub(crate) i128, pub(crate) &'a [i128]);
 
 impl Check for HasItems<'_> {
-    fn at<T: Tested>(&self, rt: &impl Abort) {
-        let n = number::<T>(rt, self.0);
-        let mut row = checked::row(n).expect(rt, "the row fits");
-        let mut plain = plain::row(n).expect(rt, "the row fits");
-        for item in self.1 {
-            let expected = Some(number::<T>(rt, *item));
-            let items = (row.next(), plain.next());
-            holds_at(rt, items == (expected, expected), &("next", self.0));
-        }
-        holds_at(rt, has_ended(row) && has_ended(plain), &("next", self.0));
+    fn at(&self, rt: &impl Abort, it: Type) {
+        let items = signed_magnitudes(rt, self.0, self.2);
+        let row = Ask::Row(signed_magnitude_of(self.1), &items);
+        answers(rt, it, row, Some(truth(true)));
     }
 }
 
@@ -191,35 +230,29 @@ impl Check for HasItems<'_> {
 pub(crate) struct HasNoRow(pub(crate) i128);
 
 impl Check for HasNoRow {
-    fn at<T: Tested>(&self, rt: &impl Abort) {
-        let row = checked::row(number::<T>(rt, self.0));
-        holds_at(rt, row.is_none(), &("row", self.0));
+    fn at(&self, rt: &impl Abort, it: Type) {
+        answers(rt, it, Ask::Row(signed_magnitude_of(self.0), &[]), None);
     }
 }
 
 /// A number whose row is the greatest: the next row has a coefficient that does not fit.
 #[derive(Drop)]
-struct HasGreatestRow(i128);
+struct HasGreatestRow(Global, u128);
 
 impl Check for HasGreatestRow {
-    fn at<T: Tested>(&self, rt: &impl Abort) {
-        let n = number::<T>(rt, self.0);
-        let mut row = checked::row(n).expect(rt, "the greatest row fits");
-        let mut plain = plain::row(n).expect(rt, "the greatest row fits");
-        for k in 0..=self.0 {
-            let expected = Binomial.answer(rt, n, number::<T>(rt, k));
-            let items = (row.next(), plain.next());
-            holds_at(rt, items == (expected, expected), &("next", k, self.0));
+    fn at(&self, rt: &impl Abort, it: Type) {
+        let n = (false, self.1);
+        let mut items = Vec::new(self.0);
+        for k in 0..=self.1 {
+            let ask = Ask::Of(Call::Number(Binomial), n, (false, k));
+            let (item, _, _, _) = answer(rt, it, ask).expect(rt, "the coefficient fits");
+            items.push(item).expect(rt, "memory is left");
         }
-        holds_at(rt, has_ended(row) && has_ended(plain), &("next", self.0));
-        let above = self.0.wrapping_add(1);
-        let next = number::<T>(rt, above);
-        let middle = checked::binomial(next, number::<T>(rt, above / 2));
-        holds_at(
-            rt,
-            middle.is_none() && checked::row(next).is_none(),
-            &("row", above),
-        );
+        answers(rt, it, Ask::Row(n, &items), Some(truth(true)));
+        let above = self.1.saturating_add(1);
+        let middle = ((false, above), (false, above / 2));
+        call_answers(rt, it, Call::Number(Binomial), middle, None);
+        answers(rt, it, Ask::Row((false, above), &[]), None);
     }
 }
 
@@ -235,16 +268,16 @@ fn test_iter_binomial(rt: HostRuntime) {
         (U64, 67),
         (I64, 66),
     ] {
-        check_at(&rt, it, &HasItems(3, &[1, 3, 3, 1]));
-        check_at(&rt, it, &HasGreatestRow(n));
+        check_at(&rt, it, &HasItems(rt.alloc(), 3, &[1, 3, 3, 1]));
+        check_at(&rt, it, &HasGreatestRow(rt.alloc(), n));
     }
 }
 
 #[test]
 fn rows_at_the_ends(rt: HostRuntime) {
     let items = [1, 10, 45, 120, 210, 252, 210, 120, 45, 10, 1];
-    check_at(&rt, U8, &HasItems(10, &items));
-    check_at(&rt, I8, &HasItems(-1, &[]));
+    check_at(&rt, U8, &HasItems(rt.alloc(), 10, &items));
+    check_at(&rt, I8, &HasItems(rt.alloc(), -1, &[]));
 }
 
 #[test]
@@ -267,62 +300,56 @@ fn domains_of_binomial(rt: HostRuntime) {
     check_rows(&rt, &rows);
 }
 
+/// Checks whether the multinomial of the counts of each row fits.
+fn check_domain(rt: &impl Abort, alloc: Global, rows: &[(Type, &[i128], bool)]) {
+    for (it, counts, fits) in rows {
+        let counts = signed_magnitudes(rt, alloc, counts);
+        let ask = Ask::MultinomialFits(alloc, &counts);
+        answers(rt, *it, ask, Some(truth(*fits)));
+    }
+}
+
 #[test]
 fn domains_of_multinomial(rt: HostRuntime) {
-    let rows: [(&[u8], bool); 9] = [
-        (&[], true),
-        (&[255], true),
-        (&[255, 0], true),
-        (&[254, 1], true),
-        (&[3, 2, 2], true),
-        (&[1, 1, 1, 1, 1], true),
-        (&[255, 1], false),
-        (&[2, 2, 2, 1], false),
-        (&[1, 1, 1, 1, 1, 1], false),
+    let rows: [(Type, &[i128], bool); 12] = [
+        (U8, &[], true),
+        (U8, &[255], true),
+        (U8, &[255, 0], true),
+        (U8, &[254, 1], true),
+        (U8, &[3, 2, 2], true),
+        (U8, &[1, 1, 1, 1, 1], true),
+        (U8, &[255, 1], false),
+        (U8, &[2, 2, 2, 1], false),
+        (U8, &[1, 1, 1, 1, 1, 1], false),
+        (I8, &[3, 2, 2], false),
+        (I8, &[127, 1], false),
+        (I8, &[-1], false),
     ];
-    for (counts, fits) in rows {
-        holds_at(
-            &rt,
-            u8::multinomial_fits(counts) == fits,
-            &("u8::multinomial_fits", counts),
-        );
-    }
-    let rows: [&[i8]; 3] = [&[3, 2, 2], &[127, 1], &[-1]];
-    for counts in rows {
-        holds_at(
-            &rt,
-            !i8::multinomial_fits(counts),
-            &("i8::multinomial_fits", counts),
-        );
-    }
+    check_domain(&rt, rt.alloc(), &rows);
 }
 
 /// Half of the greatest number would take about 2^127 turns, if the tests did not stop.
 #[test]
 fn work_of_the_tests(rt: HostRuntime) {
+    let (greatest, half) = ((false, u128::MAX), (false, u128::MAX / 2));
+    let (one, next) = ((false, 1), (false, u128::MAX - 1));
     for (k, fits) in [
-        (1, true),
-        (2, false),
-        (u128::MAX - 1, true),
-        (u128::MAX / 2, false),
+        (one, true),
+        ((false, 2), false),
+        (next, true),
+        (half, false),
     ] {
-        holds_at(
-            &rt,
-            u128::MAX.binomial_fits(&k) == fits,
-            &("binomial_fits", k),
-        );
+        let fits = Some(truth(fits));
+        call_answers(&rt, U128, Call::Question(BinomialFits), (greatest, k), fits);
     }
-    let rows: [(&[u128], bool); 4] = [
-        (&[u128::MAX / 2, u128::MAX / 2], false),
-        (&[u128::MAX, u128::MAX], false),
-        (&[u128::MAX, 1], false),
-        (&[u128::MAX - 1, 0, 1], true),
+    let rows: [(&[SignedMagnitude], bool); 4] = [
+        (&[half, half], false),
+        (&[greatest, greatest], false),
+        (&[greatest, one], false),
+        (&[next, (false, 0), one], true),
     ];
     for (counts, fits) in rows {
-        holds_at(
-            &rt,
-            u128::multinomial_fits(counts) == fits,
-            &("u128::multinomial_fits", counts),
-        );
+        let ask = Ask::MultinomialFits(rt.alloc(), counts);
+        answers(&rt, U128, ask, Some(truth(fits)));
     }
 }

@@ -1,15 +1,15 @@
 //! Greatest common divisors and least common multiples.
 
-use super::assertions::holds_at;
+use super::answers::{Ask, answer, one, two};
+use super::assertions::call_answers;
 use super::call_rows::NumberCall::{Gcd, Lcm};
 use super::call_rows::PairCall::GcdLcm;
-use super::call_rows::{Answers, AnswersPair, NumberCall};
-use super::types::{Check, check_at, check_at_each, check_rows, greatest, number};
-use num_integer::checked;
+use super::call_rows::{Answers, AnswersPair, Call, NumberCall, operands};
+use super::types::{Check, check_at, check_at_each, check_rows, greatest};
 use std::process::Abort;
 use test_types::signed_magnitude::euclidean_gcd;
-use test_types::types::Type::{I8, I16, I32, I64, U8, U16, U32, U64};
-use test_types::types::{SIGNED, Tested, UNSIGNED};
+use test_types::types::Type::{I8, I16, I32, I64, U8, U16, U32, U64, U128};
+use test_types::types::{SIGNED, Type, UNSIGNED};
 
 /// Two operands and their greatest common divisor.
 const GCDS: [(i128, i128, i128); 11] = [
@@ -44,11 +44,10 @@ const LCMS: [(i128, i128, i128); 9] = [
 struct InBothOrders(NumberCall, (i128, i128), i128);
 
 impl Check for InBothOrders {
-    fn at<T: Tested>(&self, rt: &impl Abort) {
+    fn at(&self, rt: &impl Abort, it: Type) {
         let (a, b) = self.1;
-        for operands in [(a, b), (b, a)] {
-            Answers(self.0, operands, Some(self.2)).at::<T>(rt);
-        }
+        Answers(self.0, (a, b), Some(self.2)).at(rt, it);
+        Answers(self.0, (b, a), Some(self.2)).at(rt, it);
     }
 }
 
@@ -74,12 +73,12 @@ fn test_gcd(rt: HostRuntime) {
 struct AgreesWithEuclid(i128, i128);
 
 impl Check for AgreesWithEuclid {
-    fn at<T: Tested>(&self, rt: &impl Abort) {
+    fn at(&self, rt: &impl Abort, it: Type) {
         for a in self.0..=self.1 {
             for b in self.0..=self.1 {
                 let (gcd, _) = euclidean_gcd(a.unsigned_abs(), b.unsigned_abs());
                 let gcd = i128::try_from(gcd).expect(rt, "the divisor is small");
-                InBothOrders(Gcd, (a, b), gcd).at::<T>(rt);
+                InBothOrders(Gcd, (a, b), gcd).at(rt, it);
             }
         }
     }
@@ -100,11 +99,11 @@ fn test_gcd_cmp_with_euclidean_unsigned(rt: HostRuntime) {
 struct MeetsTheLeast;
 
 impl Check for MeetsTheLeast {
-    fn at<T: Tested>(&self, rt: &impl Abort) {
-        let greatest = greatest::<T>(rt);
+    fn at(&self, rt: &impl Abort, it: Type) {
+        let greatest = greatest(rt, it);
         let (least, power) = (-greatest - 1, greatest / 2 + 1);
         for (number, gcd) in [(greatest, 1), (power, power), (42, 2)] {
-            InBothOrders(Gcd, (least, number), gcd).at::<T>(rt);
+            InBothOrders(Gcd, (least, number), gcd).at(rt, it);
         }
     }
 }
@@ -136,8 +135,10 @@ fn divisors_at_the_ends(rt: HostRuntime) {
     ];
     check_rows(&rt, &rows);
     check_at(&rt, I8, &AnswersPair(GcdLcm, (-128, 0), None));
-    assert!(rt; checked::lcm(u128::MAX, u128::MAX) == Some(u128::MAX));
-    assert!(rt; checked::lcm(u128::MAX, 2).is_none());
+    let greatest = (false, u128::MAX);
+    let same = Some(one(greatest));
+    call_answers(&rt, U128, Call::Number(Lcm), (greatest, greatest), same);
+    call_answers(&rt, U128, Call::Number(Lcm), (greatest, (false, 2)), None);
 }
 
 #[test]
@@ -168,16 +169,17 @@ fn test_lcm_overflow(rt: HostRuntime) {
 /// Of each pair of the numbers from the lower to the higher, `gcd_lcm` answers what `gcd` and `lcm`
 /// do.
 #[derive(Drop)]
-struct BothAreEach(i32, i32);
+struct BothAreEach(i128, i128);
 
 impl Check for BothAreEach {
-    fn at<T: Tested>(&self, rt: &impl Abort) {
+    fn at(&self, rt: &impl Abort, it: Type) {
         for a in self.0..=self.1 {
             for b in self.0..=self.1 {
-                let (x, y) = (number::<T>(rt, a as i128), number::<T>(rt, b as i128));
-                let each = checked::gcd(x, y).zip(checked::lcm(x, y));
-                let both = checked::gcd_lcm(x, y);
-                holds_at(rt, both.is_some() && both == each, &("gcd_lcm", a, b));
+                let (x, y) = operands((a, b));
+                let gcd = answer(rt, it, Ask::Of(Call::Number(Gcd), x, y));
+                let lcm = answer(rt, it, Ask::Of(Call::Number(Lcm), x, y));
+                let (gcd, lcm) = gcd.zip(lcm).expect(rt, "both fit");
+                call_answers(rt, it, Call::Pair(GcdLcm), (x, y), Some(two(gcd.0, lcm.0)));
             }
         }
     }

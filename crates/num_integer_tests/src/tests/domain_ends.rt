@@ -1,26 +1,27 @@
 //! Where the domains of the calls end, on both sides.
 
-use super::assertions::holds_at;
+use super::answers::{Ask, one, truth, two};
+use super::assertions::{answers, call_answers};
 use super::call_rows::NumberCall::{Difference, Product, Sum};
 use super::call_rows::Question::{
     GcdFits, LcmFits, NextMultipleFits, PrevMultipleFits, QuotientFits,
 };
-use super::call_rows::UnaryCall::{Dec, Inc, Negated};
-use super::call_rows::{Answers, AnswersOne, Holds};
-use super::types::{Check, check_rows, number};
-use num_integer::Fits;
+use super::call_rows::UnaryCall::{Dec, Inc, Negated, Parts};
+use super::call_rows::{Answers, AnswersOne, Call, Holds, operands};
+use super::types::{Check, check_rows};
 use std::process::Abort;
 use test_types::signed_magnitude::SignedMagnitude;
-use test_types::types::Tested;
-use test_types::types::Type::{I8, I64, U8, U64};
+use test_types::types::Type;
+use test_types::types::Type::{I8, I64, U8, U64, U128};
 
 /// The magnitude of the least number of a type, and its greatest number.
 #[derive(Drop)]
 struct HasEnds(u128, u128);
 
 impl Check for HasEnds {
-    fn at<T: Tested>(&self, rt: &impl Abort) {
-        holds_at(rt, T::ends() == (self.0, self.1), &("ends", self.0, self.1));
+    fn at(&self, rt: &impl Abort, it: Type) {
+        let expected = two((false, self.0), (false, self.1));
+        answers(rt, it, Ask::Ends, Some(expected));
     }
 }
 
@@ -29,11 +30,14 @@ impl Check for HasEnds {
 struct HasParts(i128, SignedMagnitude);
 
 impl Check for HasParts {
-    fn at<T: Tested>(&self, rt: &impl Abort) {
-        holds_at(
+    fn at(&self, rt: &impl Abort, it: Type) {
+        let expected = Some(one(self.1));
+        call_answers(
             rt,
-            number::<T>(rt, self.0).parts() == self.1,
-            &("parts", self.0),
+            it,
+            Call::Unary(Parts),
+            operands((self.0, self.0)),
+            expected,
         );
     }
 }
@@ -141,5 +145,12 @@ fn ends_of_divisors(rt: HostRuntime) {
         (U8, Holds(LcmFits, (16, 17), false)),
     ];
     check_rows(&rt, &rows);
-    assert!(rt; !u128::MAX.lcm_fits(&2));
+    let operands = ((false, u128::MAX), (false, 2));
+    call_answers(
+        &rt,
+        U128,
+        Call::Question(LcmFits),
+        operands,
+        Some(truth(false)),
+    );
 }

@@ -1,32 +1,26 @@
 //! The turns of Stein's loop for a greatest common divisor.
 
-use super::assertions::holds_at;
-use super::call_rows::Holds;
+use super::answers::after_turns;
+use super::assertions::{call_answers, holds_at};
 use super::call_rows::Question::GcdFits;
-use super::types::{Check, check_at, value};
-use num_integer::checked;
+use super::call_rows::{Call, Holds};
+use super::types::{Check, check_at};
 use num_integer::counted::GcdCounted;
 use std::process::Abort;
 use test_types::signed_magnitude::{SignedMagnitude, signed_magnitude_of};
+use test_types::types::Type;
 use test_types::types::Type::{I8, I64, I128, U8, U64, U128};
-use test_types::types::{Tested, Type};
 
 /// The plain and the counted call answer this.
-pub(super) fn has_turns<T: Tested>(
+pub(super) fn has_turns(
     rt: &impl Abort,
-    a: SignedMagnitude,
-    b: SignedMagnitude,
+    it: Type,
+    operands: (SignedMagnitude, SignedMagnitude),
     gcd: u128,
     turns: u32,
 ) {
-    let (x, y) = (value::<T>(rt, a), value::<T>(rt, b));
-    let gcd = value::<T>(rt, (false, gcd));
-    holds_at(rt, checked::gcd(x, y) == Some(gcd), &("gcd", a, b));
-    holds_at(
-        rt,
-        x.gcd_and_turns(&y) == Some((gcd, turns)),
-        &("gcd_counted", a, b),
-    );
+    let expected = after_turns((false, gcd), turns);
+    call_answers(rt, it, Call::CountedGcd, operands, Some(expected));
 }
 
 /// Two numbers, their greatest common divisor, and the turns.
@@ -34,8 +28,8 @@ pub(super) fn has_turns<T: Tested>(
 struct HasTurns(SignedMagnitude, SignedMagnitude, u128, u32);
 
 impl Check for HasTurns {
-    fn at<T: Tested>(&self, rt: &impl Abort) {
-        has_turns::<T>(rt, self.0, self.1, self.2, self.3);
+    fn at(&self, rt: &impl Abort, it: Type) {
+        has_turns(rt, it, (self.0, self.1), self.2, self.3);
     }
 }
 

@@ -1,14 +1,16 @@
 //! Multiples, parity, and one more or less.
 
-use super::assertions::holds_at;
+use super::answers::truth;
+use super::assertions::call_answers;
 use super::call_rows::NumberCall::{NextMultipleOf, PrevMultipleOf};
 use super::call_rows::Question::{Divides, IsMultipleOf};
-use super::call_rows::{Answers, Holds};
-use super::types::{Check, check_at, check_at_each, check_rows, greatest, number};
+use super::call_rows::UnaryCall::{IsEven, IsOdd};
+use super::call_rows::{Answers, Call, Holds, UnaryCall, operands};
+use super::types::{Check, check_at, check_at_each, check_rows, greatest};
 use num_integer::Integer;
 use std::process::Abort;
 use test_types::types::Type::{I8, I128};
-use test_types::types::{SIGNED, Tested, UNSIGNED};
+use test_types::types::{SIGNED, Type, UNSIGNED};
 
 /// Two operands, and the next and the previous multiple.
 const MULTIPLES: [(i128, i128, i128, i128); 8] = [
@@ -40,9 +42,9 @@ const PARITIES: [(i128, bool); 9] = [
 struct LiesBetween((i128, i128), i128, i128);
 
 impl Check for LiesBetween {
-    fn at<T: Tested>(&self, rt: &impl Abort) {
-        Answers(NextMultipleOf, self.0, Some(self.1)).at::<T>(rt);
-        Answers(PrevMultipleOf, self.0, Some(self.2)).at::<T>(rt);
+    fn at(&self, rt: &impl Abort, it: Type) {
+        Answers(NextMultipleOf, self.0, Some(self.1)).at(rt, it);
+        Answers(PrevMultipleOf, self.0, Some(self.2)).at(rt, it);
     }
 }
 
@@ -51,35 +53,30 @@ impl Check for LiesBetween {
 struct EndsAreMultiples;
 
 impl Check for EndsAreMultiples {
-    fn at<T: Tested>(&self, rt: &impl Abort) {
-        let greatest = greatest::<T>(rt);
+    fn at(&self, rt: &impl Abort, it: Type) {
+        let greatest = greatest(rt, it);
         for n in [-greatest - 1, greatest] {
             for d in [1, -1] {
-                LiesBetween((n, d), n, n).at::<T>(rt);
+                LiesBetween((n, d), n, n).at(rt, it);
             }
         }
     }
 }
 
-/// Whether the number is even, by `is_even`.
+/// A question, a number, and whether it holds.
 #[derive(Drop)]
-struct IsEven(i128, bool);
+struct HasParity(UnaryCall, i128, bool);
 
-impl Check for IsEven {
-    fn at<T: Tested>(&self, rt: &impl Abort) {
-        let (n, even) = (self.0, self.1);
-        holds_at(rt, number::<T>(rt, n).is_even() == even, &("is_even", n));
-    }
-}
-
-/// Whether the number is odd, by `is_odd`.
-#[derive(Drop)]
-struct IsOdd(i128, bool);
-
-impl Check for IsOdd {
-    fn at<T: Tested>(&self, rt: &impl Abort) {
-        let (n, odd) = (self.0, self.1);
-        holds_at(rt, number::<T>(rt, n).is_odd() == odd, &("is_odd", n));
+impl Check for HasParity {
+    fn at(&self, rt: &impl Abort, it: Type) {
+        let expected = Some(truth(self.2));
+        call_answers(
+            rt,
+            it,
+            Call::Unary(self.0),
+            operands((self.1, self.1)),
+            expected,
+        );
     }
 }
 
@@ -129,20 +126,20 @@ fn test_is_multiple_of(rt: HostRuntime) {
 #[test]
 fn test_even(rt: HostRuntime) {
     for (n, even) in PARITIES {
-        check_at_each(&rt, &SIGNED, &IsEven(n, even));
+        check_at_each(&rt, &SIGNED, &HasParity(IsEven, n, even));
         if n >= 0 {
-            check_at_each(&rt, &UNSIGNED, &IsEven(n, even));
+            check_at_each(&rt, &UNSIGNED, &HasParity(IsEven, n, even));
         }
     }
-    check_at(&rt, I8, &IsEven(-128, true));
+    check_at(&rt, I8, &HasParity(IsEven, -128, true));
 }
 
 #[test]
 fn test_odd(rt: HostRuntime) {
     for (n, even) in PARITIES {
-        check_at_each(&rt, &SIGNED, &IsOdd(n, !even));
+        check_at_each(&rt, &SIGNED, &HasParity(IsOdd, n, !even));
         if n >= 0 {
-            check_at_each(&rt, &UNSIGNED, &IsOdd(n, !even));
+            check_at_each(&rt, &UNSIGNED, &HasParity(IsOdd, n, !even));
         }
     }
 }

@@ -1,13 +1,14 @@
 //! Worked values on the own types, most of them by the checks of the library's types.
 
-use super::bezout::{HasPair, extended_gcd_counted};
+use super::assertions::holds_at;
+use super::bezout::HasPair;
 use super::call_rows::NumberCall::{Binomial, DivCeil, DivFloor, Gcd, Lcm, NextMultipleOf};
 use super::call_rows::PairCall::{Averages, DivModFloor};
 use super::call_rows::Question::{
     BinomialFits, GcdFits, IsMultipleOf, LcmFits, NextMultipleFits, PrevMultipleFits, QuotientFits,
 };
 use super::call_rows::{Answers, AnswersPair, Holds};
-use super::coefficients::{HasItems, HasNoRow, Shares, counted as counted_coefficient};
+use super::coefficients::{HasItems, HasNoRow, Shares};
 use super::plain;
 use super::roots::has_root;
 use super::types::{check_at, check_rows};
@@ -63,13 +64,13 @@ fn row_of_a_percent(rt: HostRuntime) {
     check_at(&rt, Type::Percent, &Holds(BinomialFits, (8, 4), true));
     check_at(&rt, Type::Percent, &Holds(BinomialFits, (9, 4), false));
     let items = [1, 8, 28, 56, 70, 56, 28, 8, 1];
-    check_at(&rt, Type::Percent, &HasItems(8, &items));
+    check_at(&rt, Type::Percent, &HasItems(rt.alloc(), 8, &items));
 }
 
 #[test]
 fn roots_and_averages_of_percents(rt: HostRuntime) {
     for (x, degree, root) in [(99, 2, 9), (100, 3, 4), (100, 6, 2)] {
-        has_root::<Percent>(&rt, x, degree, root);
+        has_root(&rt, Type::Percent, x, degree, root);
     }
     let averages = AnswersPair(Averages, (100, 99), Some((99, 100)));
     check_at(&rt, Type::Percent, &averages);
@@ -164,7 +165,7 @@ fn coefficients_of_small_numbers(rt: HostRuntime) {
 fn row_of_a_small_number(rt: HostRuntime) {
     check_at(&rt, Type::Small, &Holds(BinomialFits, (4, 2), true));
     check_at(&rt, Type::Small, &Holds(BinomialFits, (5, 2), false));
-    check_at(&rt, Type::Small, &HasItems(4, &[1, 4, 6, 4, 1]));
+    check_at(&rt, Type::Small, &HasItems(rt.alloc(), 4, &[1, 4, 6, 4, 1]));
 }
 
 /// What `Negated` stores is ordered the other way round.
@@ -174,9 +175,13 @@ fn numbers_stored_negated(rt: HostRuntime) {
     assert!(rt; least < greatest && least.abs() == greatest);
     assert!(rt; Negated::ends() == (7, 7) && least.parts() == (true, 7));
     check_at(&rt, Type::Negated, &HasPair((7, 5), (1, -2, 3), 2));
-    check_at(&rt, Type::Negated, &HasItems(4, &[1, 4, 6, 4, 1]));
+    check_at(
+        &rt,
+        Type::Negated,
+        &HasItems(rt.alloc(), 4, &[1, 4, 6, 4, 1]),
+    );
     let items = [1, 8, 28, 56, 70, 56, 28, 8, 1];
-    check_at(&rt, Type::Marked, &HasItems(8, &items));
+    check_at(&rt, Type::Marked, &HasItems(rt.alloc(), 8, &items));
 }
 
 /// Two values of one number are equal, whatever is stored next to it.
@@ -205,7 +210,7 @@ fn numbers_of_one_bit(rt: HostRuntime) {
         (Type::OneBit, Answers(Gcd, (1, 1), Some(1))),
     ];
     check_rows(&rt, &answers);
-    check_at(&rt, Type::OneBit, &HasItems(0, &[1]));
+    check_at(&rt, Type::OneBit, &HasItems(rt.alloc(), 0, &[1]));
     assert!(rt; OneBit::ends() == (0, 1));
 }
 
@@ -217,9 +222,9 @@ fn numbers_of_two_bits(rt: HostRuntime) {
     ];
     check_rows(&rt, &answers);
     let rows = [
-        (Type::TwoBits, HasItems(0, &[1])),
-        (Type::TwoBits, HasItems(1, &[1, 1])),
-        (Type::TwoBits, HasItems(2, &[1, 2, 1])),
+        (Type::TwoBits, HasItems(rt.alloc(), 0, &[1])),
+        (Type::TwoBits, HasItems(rt.alloc(), 1, &[1, 1])),
+        (Type::TwoBits, HasItems(rt.alloc(), 2, &[1, 2, 1])),
     ];
     check_rows(&rt, &rows);
     assert!(rt; TwoBits::ends() == (0, 3));
@@ -255,32 +260,49 @@ fn shares_of_odd_types(rt: HostRuntime) {
     check_rows(&rt, &rows);
 }
 
-/// The three numbers of an answer.
-fn numbers(pair: &ExtendedGcd<Marked>) -> (i64, i64, i64) {
-    (pair.gcd.number(), pair.x.number(), pair.y.number())
+/// The answers of each call for a Bezout pair, and the turns.
+fn pairs<T: Fits>(a: T, b: T) -> Option<([ExtendedGcd<T>; 3], u32)>
+    requires a_in_range { T.fits (T.value a) }
+    requires b_in_range { T.fits (T.value b) }
+{
+    let pair = checked::extended_gcd(a, b)?;
+    let plain = plain::extended_gcd(a, b)?;
+    let (counted, turns) = plain::extended_gcd_counted(a, b)?;
+    Some(([pair, plain, counted], turns))
 }
 
-/// The greatest byte of the three answers.
-fn greatest_mark(pair: &ExtendedGcd<Marked>) -> u8 {
-    pair.gcd.mark().max(pair.x.mark()).max(pair.y.mark())
+/// The answers of each call for a coefficient, and the turns.
+fn coefficients<T: Fits>(n: T, k: T) -> Option<([T; 3], u32)>
+    requires n_in_range { T.fits (T.value n) }
+    requires k_in_range { T.fits (T.value k) }
+{
+    let coefficient = checked::binomial(n, k)?;
+    let plain = plain::binomial(n, k)?;
+    let (counted, turns) = plain::binomial_counted(n, k)?;
+    Some(([coefficient, plain, counted], turns))
+}
+
+/// The three numbers of an answer, and the greatest of their bytes.
+fn numbers(pair: &ExtendedGcd<Marked>) -> ((i64, i64, i64), u8) {
+    let mark = pair.gcd.mark().max(pair.x.mark()).max(pair.y.mark());
+    ((pair.gcd.number(), pair.x.number(), pair.y.number()), mark)
 }
 
 /// A body that made more turns than it counts, or that subtracted where it should divide, would
 /// leave a greater byte.
 #[test]
 fn bytes_tell_the_work(rt: HostRuntime) {
-    let (a, b) = (Marked::new(99), Marked::new(2));
-    for pair in [checked::extended_gcd(a, b), plain::extended_gcd(a, b)] {
-        let pair = pair.expect(&rt, "the pair fits");
-        assert!(rt; numbers(&pair) == (1, 1, -49) && greatest_mark(&pair) <= 16);
+    let answer = pairs(Marked::new(99), Marked::new(2));
+    let (pairs, turns) = answer.expect(&rt, "the pair fits");
+    holds_at(&rt, turns == 1, &turns);
+    for pair in pairs {
+        let (numbers, mark) = numbers(&pair);
+        holds_at(&rt, numbers == (1, 1, -49) && mark <= 16, &pair);
     }
-    let (counted, turns) = extended_gcd_counted(a, b).expect(&rt, "the pair fits");
-    assert!(rt; numbers(&counted) == (1, 1, -49) && turns == 1 && greatest_mark(&counted) <= 16);
-    let (n, k) = (Marked::new(100), Marked::new(99));
-    for coefficient in [checked::binomial(n, k), plain::binomial(n, k)] {
-        let coefficient = coefficient.expect(&rt, "the coefficient fits");
-        assert!(rt; coefficient.number() == 100 && coefficient.mark() <= 16);
+    let answer = coefficients(Marked::new(100), Marked::new(99));
+    let (coefficients, turns) = answer.expect(&rt, "the coefficient fits");
+    holds_at(&rt, turns == 1, &turns);
+    for it in coefficients {
+        holds_at(&rt, it.number() == 100 && it.mark() <= 16, &it);
     }
-    let (counted, turns) = counted_coefficient(n, k).expect(&rt, "the coefficient fits");
-    assert!(rt; counted.number() == 100 && turns == 1 && counted.mark() <= 16);
 }

@@ -1,18 +1,21 @@
 //! Quotients, multiples and divisors of two numbers, against the definitions computed on signs and
 //! magnitudes.
 
-use super::assertions::holds_at;
+use super::answers::{one, truth, two};
+use super::assertions::{call_answers, holds_at};
 use super::call_rows::NumberCall::{
     DivCeil, DivFloor, Gcd, Lcm, ModFloor, NextMultipleOf, PrevMultipleOf,
 };
 use super::call_rows::PairCall::{DivModFloor, DivRem, GcdLcm, Operators};
-use super::types::{optional_value, value};
+use super::call_rows::Question::{Divides, IsMultipleOf};
+use super::call_rows::{Call, NumberCall, PairCall};
+use super::types::inside;
 use num_integer::{div_ceil, div_floor, div_mod_floor, div_rem, gcd, gcd_lcm, lcm, mod_floor};
 use std::process::Abort;
 use test_types::signed_magnitude::{
     SignedMagnitude, ceiled, floored, is_multiple, left, multiple, truncated,
 };
-use test_types::types::Tested;
+use test_types::types::{Tested, Type};
 
 /// One magnitude by the greatest common divisor, times the other.
 fn least_multiple(a: u128, b: u128, gcd: u128) -> Option<u128> {
@@ -24,7 +27,7 @@ fn least_multiple(a: u128, b: u128, gcd: u128) -> Option<u128> {
 }
 
 /// Each free function of division answers what the call of that name does.
-fn has_free_quotients<T: Tested>(rt: &impl Abort, n: T, d: T)
+pub(super) fn has_free_quotients<T: Tested>(rt: &impl Abort, n: T, d: T)
     requires n_in_range { T.fits (T.value n) }
     requires d_in_range { T.fits (T.value d) }
 {
@@ -43,12 +46,40 @@ fn has_free_quotients<T: Tested>(rt: &impl Abort, n: T, d: T)
     }
 }
 
+/// Asserts that the call answers this, where the type has it.
+pub(super) fn has_number(
+    rt: &impl Abort,
+    it: Type,
+    call: NumberCall,
+    operands: (SignedMagnitude, SignedMagnitude),
+    expected: Option<SignedMagnitude>,
+) {
+    let expected = match inside(rt, it, expected) {
+        Some(n) => Some(one(n)),
+        None => None,
+    };
+    call_answers(rt, it, Call::Number(call), operands, expected);
+}
+
+/// Asserts that the call answers these two, where the type has both.
+fn has_numbers(
+    rt: &impl Abort,
+    it: Type,
+    call: PairCall,
+    operands: (SignedMagnitude, SignedMagnitude),
+    (first, second): (Option<SignedMagnitude>, Option<SignedMagnitude>),
+) {
+    let expected = match (inside(rt, it, first), inside(rt, it, second)) {
+        (Some(first), Some(second)) => Some(two(first, second)),
+        _ => None,
+    };
+    call_answers(rt, it, Call::Pair(call), operands, expected);
+}
+
 /// The quotients, the remainders and the multiples of two numbers.
-pub(super) fn has_quotients<T: Tested>(rt: &impl Abort, n: SignedMagnitude, d: SignedMagnitude) {
-    let (x, y) = (value::<T>(rt, n), value::<T>(rt, d));
-    has_free_quotients(rt, x, y);
-    let (floored, ceiled) = (floored(n, d), ceiled(n, d));
-    let rest = left(n, floored, d);
+pub(super) fn has_quotients(rt: &impl Abort, it: Type, n: SignedMagnitude, d: SignedMagnitude) {
+    let (floored, ceiled, truncated) = (floored(n, d), ceiled(n, d), truncated(n, d));
+    let (rest, over) = (left(n, floored, d), left(n, truncated, d));
     for (call, expected) in [
         (DivFloor, floored),
         (ModFloor, rest),
@@ -56,26 +87,23 @@ pub(super) fn has_quotients<T: Tested>(rt: &impl Abort, n: SignedMagnitude, d: S
         (NextMultipleOf, multiple(ceiled, d)),
         (PrevMultipleOf, multiple(floored, d)),
     ] {
-        let expected = optional_value::<T>(expected);
-        holds_at(rt, call.answer(rt, x, y) == expected, &(call, n, d));
+        has_number(rt, it, call, (n, d), expected);
     }
-    let truncated = truncated(n, d);
-    let over = left(n, truncated, d);
-    for (call, q, r) in [
-        (DivRem, truncated, over),
-        (Operators, truncated, over),
-        (DivModFloor, floored, rest),
+    for (call, expected) in [
+        (DivRem, (truncated, over)),
+        (Operators, (truncated, over)),
+        (DivModFloor, (floored, rest)),
     ] {
-        let expected = optional_value::<T>(q).zip(optional_value::<T>(r));
-        holds_at(rt, call.answers(x, y) == expected, &(call, n, d));
+        has_numbers(rt, it, call, (n, d), expected);
     }
-    let divides = is_multiple(n, d);
-    let both = x.is_multiple_of(&y) == divides && x.divides(&y) == divides;
-    holds_at(rt, both, &("is_multiple_of", n, d));
+    for question in [IsMultipleOf, Divides] {
+        let expected = Some(truth(is_multiple(n, d)));
+        call_answers(rt, it, Call::Question(question), (n, d), expected);
+    }
 }
 
 /// Each free function of divisors answers what the call of that name does.
-fn has_free_divisors<T: Tested>(rt: &impl Abort, a: T, b: T)
+pub(super) fn has_free_divisors<T: Tested>(rt: &impl Abort, a: T, b: T)
     requires a_in_range { T.fits (T.value a) }
     requires b_in_range { T.fits (T.value b) }
 {
@@ -91,20 +119,20 @@ fn has_free_divisors<T: Tested>(rt: &impl Abort, a: T, b: T)
 }
 
 /// The greatest common divisor, which is given, and the least common multiple of two numbers.
-pub(super) fn has_divisors<T: Tested>(
+pub(super) fn has_divisors(
     rt: &impl Abort,
+    it: Type,
     a: SignedMagnitude,
     b: SignedMagnitude,
     divisor: u128,
 ) {
-    let (x, y) = (value::<T>(rt, a), value::<T>(rt, b));
-    has_free_divisors(rt, x, y);
-    let gcd = T::from_signed_magnitude((false, divisor));
-    let lcm = optional_value::<T>(least_multiple(a.1, b.1, divisor).map(|it| (false, it)));
-    let answers = (
-        Gcd.answer(rt, x, y),
-        Lcm.answer(rt, x, y),
-        GcdLcm.answers(x, y),
-    );
-    holds_at(rt, answers == (gcd, lcm, gcd.zip(lcm)), &("gcd_lcm", a, b));
+    let gcd = Some((false, divisor));
+    let lcm = match least_multiple(a.1, b.1, divisor) {
+        Some(multiple) => Some((false, multiple)),
+        None => None,
+    };
+    has_number(rt, it, Gcd, (a, b), gcd);
+    has_number(rt, it, Lcm, (a, b), lcm);
+    has_numbers(rt, it, GcdLcm, (a, b), (gcd, lcm));
+    call_answers(rt, it, Call::FreeCalls, (a, b), Some(truth(true)));
 }

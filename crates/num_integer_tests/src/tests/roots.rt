@@ -3,13 +3,14 @@
 
 ghost use Rattle.std.specs.Prelude.{◌≤◌};
 
-use super::assertions::holds_at;
-use super::types::{RootCheck, check_roots_at, greatest, number};
-use num_integer::counted::SqrtCounted;
-use num_integer::{Fits, Roots, checked};
+use super::answers::{Ask, after_turns, answer, one};
+use super::assertions::{call_answers, holds_at};
+use super::call_rows::{Call, operands};
+use super::types::greatest;
 use std::process::Abort;
+use test_types::signed_magnitude::signed_magnitude_of;
+use test_types::types::Type;
 use test_types::types::Type::{I8, I16, I32, I64, Isize, U8, U16, U32, U64, Usize};
-use test_types::types::{Tested, Type};
 
 /// The signed types of at most 64 bits, and the bits beside the sign.
 const SIGNED_BITS: [(Type, u32); 5] = [(I8, 7), (I16, 15), (I32, 31), (I64, 63), (Isize, 63)];
@@ -17,78 +18,22 @@ const SIGNED_BITS: [(Type, u32); 5] = [(I8, 7), (I16, 15), (I32, 31), (I64, 63),
 /// The unsigned types of at most 64 bits, and their bits.
 const UNSIGNED_BITS: [(Type, u32); 5] = [(U8, 8), (U16, 16), (U32, 32), (U64, 64), (Usize, 64)];
 
-/// The square root and the turns, from 0 up.
-pub(super) fn square_root_counted<T: SqrtCounted + Fits>(x: T) -> Option<(T, u32)>
-    requires { T.fits (T.value x) }
-{
-    if x.parts().0 {
-        None
-    } else {
-        Some(x.sqrt_counted())
-    }
-}
-
-/// The number has this root, by `nth_root` and the call of the degree.
-pub(super) fn has_root<T: Roots + Tested>(rt: &impl Abort, x: i128, degree: u32, root: i128) {
-    let number = number::<T>(rt, x);
-    let expected = Some(self::number::<T>(rt, root));
-    let root = checked::nth_root(number, degree);
-    holds_at(rt, root == expected, &("nth_root", degree, x));
-    let root = match degree {
-        2 => checked::sqrt(number),
-        3 => Some(num_integer::cbrt(number)),
-        _ => root,
-    };
-    holds_at(rt, root == expected, &("nth_root", degree, x));
+/// The number has this root.
+pub(super) fn has_root(rt: &impl Abort, it: Type, x: i128, degree: u32, root: i128) {
+    let expected = Some(one(signed_magnitude_of(root)));
+    call_answers(rt, it, Call::Root(degree), operands((x, x)), expected);
 }
 
 /// The number has no root of this degree.
-pub(super) fn has_no_root<T: Roots + Tested>(rt: &impl Abort, x: i128, degree: u32) {
-    let number = number::<T>(rt, x);
-    let none = checked::nth_root(number, degree).is_none();
-    holds_at(rt, none, &("nth_root", degree, x));
-    if degree == 2 {
-        holds_at(rt, checked::sqrt(number).is_none(), &("sqrt", x));
-    }
-}
-
-/// A number, a degree, and the root.
-#[derive(Drop)]
-struct HasRoot(i128, u32, i128);
-
-impl RootCheck for HasRoot {
-    fn at<T: SqrtCounted + Tested>(&self, rt: &impl Abort) {
-        has_root::<T>(rt, self.0, self.1, self.2);
-    }
-}
-
-/// A number, and a degree of which it has no root.
-#[derive(Drop)]
-struct HasNoRoot(i128, u32);
-
-impl RootCheck for HasNoRoot {
-    fn at<T: SqrtCounted + Tested>(&self, rt: &impl Abort) {
-        has_no_root::<T>(rt, self.0, self.1);
-    }
+pub(super) fn has_no_root(rt: &impl Abort, it: Type, x: i128, degree: u32) {
+    call_answers(rt, it, Call::Root(degree), operands((x, x)), None);
 }
 
 /// Checks the root of each row, a number, a degree and a root, at the row's type.
 pub(crate) fn check_roots(rt: &impl Abort, rows: &[(Type, i128, u32, i128)]) {
     for row in rows {
         let (it, x, degree, root) = *row;
-        check_roots_at(rt, it, &HasRoot(x, degree, root));
-    }
-}
-
-/// A number, its square root, and the turns.
-#[derive(Drop)]
-struct HasTurns(i128, i128, u32);
-
-impl RootCheck for HasTurns {
-    fn at<T: SqrtCounted + Tested>(&self, rt: &impl Abort) {
-        let expected = Some((number::<T>(rt, self.1), self.2));
-        let counted = square_root_counted(number::<T>(rt, self.0));
-        holds_at(rt, counted == expected, &("sqrt_counted", self.0));
+        has_root(rt, it, x, degree, root);
     }
 }
 
@@ -106,8 +51,9 @@ fn square_roots_and_their_turns(rt: HostRuntime) {
         (I64, 4, 2, 0),
         (U8, 255, 15, 1),
     ] {
-        check_roots_at(&rt, it, &HasTurns(x, root, turns));
-        check_roots_at(&rt, it, &HasRoot(x, 2, root));
+        let expected = Some(after_turns(signed_magnitude_of(root), turns));
+        call_answers(&rt, it, Call::CountedRoot, operands((x, x)), expected);
+        has_root(&rt, it, x, 2, root);
     }
 }
 
@@ -185,30 +131,16 @@ fn numbers_with_no_root(rt: HostRuntime) {
         (I8, -9, 0),
         (U8, 0, 0),
     ] {
-        check_roots_at(&rt, it, &HasNoRoot(x, degree));
+        has_no_root(&rt, it, x, degree);
     }
 }
 
 /// The root has the sign of the number, and of those whose power is no farther from 0 than the
 /// number it is the farthest from 0.
-pub(crate) fn check_root<T: Roots + Tested>(rt: &impl Abort, x: i128, n: u32) {
-    let number = number::<T>(rt, x);
-    let root = checked::nth_root(number, n).expect(rt, "the number has a root");
-    holds_at(
-        rt,
-        num_integer::nth_root(number, n) == root,
-        &("nth_root", x, n),
-    );
-    match n {
-        2 => {
-            let square = checked::sqrt(number).expect(rt, "the number has a square root");
-            let both = square == root && num_integer::sqrt(number) == root;
-            holds_at(rt, both, &("sqrt", x));
-        }
-        3 => holds_at(rt, num_integer::cbrt(number) == root, &("cbrt", x)),
-        _ => {}
-    }
-    let (negative, magnitude) = root.parts();
+pub(crate) fn check_root(rt: &impl Abort, it: Type, x: i128, n: u32) {
+    let (operand, _) = operands((x, x));
+    let root = answer(rt, it, Ask::Of(Call::Root(n), operand, operand));
+    let ((negative, magnitude), _, _, _) = root.expect(rt, "the number has a root");
     let power = magnitude
         .checked_pow(n)
         .expect(rt, "the power is no farther from 0");
@@ -221,69 +153,53 @@ pub(crate) fn check_root<T: Roots + Tested>(rt: &impl Abort, x: i128, n: u32) {
 }
 
 /// The roots of small numbers, of numbers near the top, and of the top shifted either way.
-fn check_roots_from_zero<T: Roots + Tested>(rt: &impl Abort, bits: u32, n: u32)
+fn check_roots_from_zero(rt: &impl Abort, it: Type, bits: u32, n: u32)
     requires { bits ≤ 64 }
 {
-    let greatest = greatest::<T>(rt);
+    let greatest = greatest(rt, it);
     for step in 0..128u8 {
-        check_root::<T>(rt, i128::from(step), n);
-        check_root::<T>(rt, greatest - i128::from(step), n);
+        check_root(rt, it, i128::from(step), n);
+        check_root(rt, it, greatest - i128::from(step), n);
     }
     for shift in 0..=bits {
-        check_root::<T>(rt, (greatest << shift) & greatest, n);
-        check_root::<T>(rt, greatest >> shift, n);
+        check_root(rt, it, (greatest << shift) & greatest, n);
+        check_root(rt, it, greatest >> shift, n);
     }
 }
 
 /// The same of negative numbers, where the degree is odd.
-fn check_roots_below_zero<T: Roots + Tested>(rt: &impl Abort, bits: u32, n: u32)
+fn check_roots_below_zero(rt: &impl Abort, it: Type, bits: u32, n: u32)
     requires { bits ≤ 64 }
 {
-    let least = -greatest::<T>(rt) - 1;
+    let least = -greatest(rt, it) - 1;
     for step in 0..128u8 {
-        check_root::<T>(rt, -i128::from(step), n);
-        check_root::<T>(rt, least + i128::from(step), n);
+        check_root(rt, it, -i128::from(step), n);
+        check_root(rt, it, least + i128::from(step), n);
     }
-    check_root::<T>(rt, least + 128, n);
+    check_root(rt, it, least + 128, n);
     for shift in 0..=bits {
-        check_root::<T>(rt, -1 << shift, n);
-        check_root::<T>(rt, least >> shift, n);
-    }
-}
-
-/// The bits of the greatest number of a type, the first of the degrees, and their end.
-#[derive(Drop)]
-struct RootsFromZero(u32, u32, u32);
-
-impl RootCheck for RootsFromZero {
-    fn at<T: SqrtCounted + Tested>(&self, rt: &impl Abort) {
-        assert!(rt; self.0 <= 64);
-        for n in self.1..self.2 {
-            check_roots_from_zero::<T>(rt, self.0, n);
-        }
-    }
-}
-
-/// The bits of the greatest number of a type, the first of the degrees, of which the odd ones count,
-/// and their end.
-#[derive(Drop)]
-struct RootsBelowZero(u32, u32, u32);
-
-impl RootCheck for RootsBelowZero {
-    fn at<T: SqrtCounted + Tested>(&self, rt: &impl Abort) {
-        assert!(rt; self.0 <= 64);
-        for n in self.1..self.2 {
-            if !n.is_multiple_of(2) {
-                check_roots_below_zero::<T>(rt, self.0, n);
-            }
-        }
+        check_root(rt, it, -1 << shift, n);
+        check_root(rt, it, least >> shift, n);
     }
 }
 
 /// Checks the roots from 0 up, of the degrees from the first to before the end, at each of the types.
 fn check_from_zero(rt: &impl Abort, types: &[(Type, u32)], first: u32, end: u32) {
     for (it, bits) in types {
-        check_roots_at(rt, *it, &RootsFromZero(*bits, first, end));
+        holds_at(rt, *bits <= 64, bits);
+        for n in first..end {
+            check_roots_from_zero(rt, *it, *bits, n);
+        }
+    }
+}
+
+/// Checks the roots below 0, of the odd ones of the degrees from the first to before the end.
+fn check_below_zero(rt: &impl Abort, (it, bits): (Type, u32), first: u32, end: u32) {
+    holds_at(rt, bits <= 64, &bits);
+    for n in first..end {
+        if !n.is_multiple_of(2) {
+            check_roots_below_zero(rt, it, bits, n);
+        }
     }
 }
 
@@ -302,70 +218,53 @@ fn cbrt(rt: HostRuntime) {
 #[test]
 fn cbrt_neg(rt: HostRuntime) {
     for (it, bits) in SIGNED_BITS {
-        check_roots_at(&rt, it, &RootsBelowZero(bits, 3, 4));
+        check_below_zero(&rt, (it, bits), 3, 4);
     }
 }
 
 #[test]
 fn nth_root(rt: HostRuntime) {
     for (it, bits) in SIGNED_BITS {
-        check_roots_at(&rt, it, &RootsFromZero(bits, 4, bits));
+        check_from_zero(&rt, &[(it, bits)], 4, bits);
     }
 }
 
 #[test]
 fn nth_root_neg(rt: HostRuntime) {
     for (it, bits) in SIGNED_BITS {
-        check_roots_at(&rt, it, &RootsBelowZero(bits, 5, bits));
+        check_below_zero(&rt, (it, bits), 5, bits);
     }
 }
 
 /// The root of degree `n` of the greatest number of `n` bits is 1, and of degree `n - 1` it is 2.
-#[derive(Drop)]
-struct HasBits(u32);
-
-impl RootCheck for HasBits {
-    fn at<T: SqrtCounted + Tested>(&self, rt: &impl Abort) {
-        let (n, number) = (self.0, greatest::<T>(rt));
-        for (degree, root) in [(n.saturating_sub(1), 2), (n, 1)] {
-            HasRoot(number, degree, root).at::<T>(rt);
-        }
-    }
-}
-
-/// The roots of degree `n` of the least number, and of the next, where a sign and `n` bits fill the type.
-#[derive(Drop)]
-struct HasSign(u32);
-
-impl RootCheck for HasSign {
-    fn at<T: SqrtCounted + Tested>(&self, rt: &impl Abort) {
-        let greatest = greatest::<T>(rt);
-        for (number, root) in [(-greatest - 1, -2), (-greatest, -1)] {
-            HasRoot(number, self.0, root).at::<T>(rt);
-        }
-    }
+fn has_bits(rt: &impl Abort, it: Type, n: u32) {
+    let number = greatest(rt, it);
+    has_root(rt, it, number, n.saturating_sub(1), 2);
+    has_root(rt, it, number, n, 1);
 }
 
 #[test]
 fn bit_size(rt: HostRuntime) {
     for (it, bits) in SIGNED_BITS {
-        check_roots_at(&rt, it, &HasBits(bits));
-        check_roots_at(&rt, it, &HasSign(bits));
+        has_bits(&rt, it, bits);
+        let greatest = greatest(&rt, it);
+        has_root(&rt, it, -greatest - 1, bits, -2);
+        has_root(&rt, it, -greatest, bits, -1);
     }
     for (it, bits) in UNSIGNED_BITS {
-        check_roots_at(&rt, it, &HasBits(bits));
+        has_bits(&rt, it, bits);
     }
 }
 
 /// The root of degree `n` of each number of a type from 0 up: it is the same from one power to before
 /// the next.
-fn check_each_root<T: Roots + Tested>(rt: &impl Abort, n: u32) {
-    let end = greatest::<T>(rt).saturating_add(1);
+fn check_each_root(rt: &impl Abort, it: Type, n: u32) {
+    let end = greatest(rt, it).saturating_add(1);
     let mut power = 0i128;
     for root in 0..end {
         let next = root.saturating_add(1).checked_pow(n).unwrap_or(end);
         for x in power..next.min(end) {
-            has_root::<T>(rt, x, n, root);
+            has_root(rt, it, x, n, root);
         }
         if next >= end {
             return;
@@ -374,22 +273,12 @@ fn check_each_root<T: Roots + Tested>(rt: &impl Abort, n: u32) {
     }
 }
 
-/// The roots of each number from 0 up, of the degrees from 1 to 16.
-#[derive(Drop)]
-struct EachRoot;
-
-impl RootCheck for EachRoot {
-    fn at<T: SqrtCounted + Tested>(&self, rt: &impl Abort) {
-        for n in 1..=16 {
-            check_each_root::<T>(rt, n);
-        }
-    }
-}
-
 #[test]
 fn roots_of_each_number(rt: HostRuntime) {
     for it in [U8, U16] {
-        check_roots_at(&rt, it, &EachRoot);
+        for n in 1..=16 {
+            check_each_root(&rt, it, n);
+        }
     }
 }
 

@@ -1,33 +1,24 @@
 //! Each call at the ends of each type, one number in from them, and at 0, 1, 2, -1 and -2, against
 //! computations on signs and magnitudes.
 
-ghost use Rattle.std.specs.Prelude.{IfOk};
-ghost use Rattle.std.specs.List.{All};
-
-use super::assertions::holds_at;
+use super::answers::{Ask, Numbers, after_turns, answer, one, truth, two};
+use super::assertions::{answers, call_answers, holds_at};
 use super::averages::has_averages;
-use super::bezout::extended_gcd_counted;
-use super::call_rows::NumberCall::{Binomial, Difference, Product, Sum};
-use super::call_rows::UnaryCall::{Dec, Inc, Negated};
-use super::coefficients::{HasItems, counted};
+use super::bezout::combined;
+use super::call_rows::NumberCall::{Binomial, Difference, Lcm, Product, Sum};
+use super::call_rows::UnaryCall::{Dec, Inc, IsEven, IsOdd, Negated, Parts};
+use super::call_rows::{Call, UnaryCall};
 use super::gcd_turns::{counted_turns, has_turns};
-use super::plain;
-use super::quotients_and_divisors::{has_divisors, has_quotients};
-use super::roots::{check_root, has_no_root, square_root_counted};
-use super::types::{
-    Check, RootCheck, SignedCheck, check_at, check_roots_at, check_rows, check_signed_at,
-    optional_value, value,
-};
-use num_integer::checked;
-use num_integer::counted::SqrtCounted;
-use num_traits::Signed;
-use std::alloc::{AllocError, Global};
+use super::quotients_and_divisors::{has_divisors, has_number, has_quotients};
+use super::roots::{check_root, has_no_root};
+use super::types::{has, inside};
+use std::alloc::Global;
 use std::process::Abort;
 use test_types::signed_magnitude::{
     SignedMagnitude, euclidean_gcd, is_multiple, opposite, product, signed_magnitude, sum, to_i128,
 };
+use test_types::types::Type;
 use test_types::types::Type::{I8, I16, I32, I64, I128, Isize, U8, U16, U32, U64, U128, Usize};
-use test_types::types::{Tested, Type};
 
 /// The magnitude of the least number of a type, and its greatest number.
 #[derive(Clone, Copy)]
@@ -72,65 +63,62 @@ impl Ends {
     }
 }
 
+/// Asserts that the call of one operand answers this, where the type has it.
+fn has_neighbour(
+    rt: &impl Abort,
+    it: Type,
+    call: UnaryCall,
+    n: SignedMagnitude,
+    expected: Option<SignedMagnitude>,
+) {
+    let expected = match inside(rt, it, expected) {
+        Some(n) => Some(one(n)),
+        None => None,
+    };
+    call_answers(rt, it, Call::Unary(call), (n, n), expected);
+}
+
 /// What the calls of one operand answer, and what the tests of the domains see of it.
-pub(crate) fn has_neighbours<T: Tested>(rt: &impl Abort, n: SignedMagnitude) {
-    let x = value::<T>(rt, n);
+pub(crate) fn has_neighbours(rt: &impl Abort, it: Type, n: SignedMagnitude) {
     let even = n.1 % 2 == 0;
-    let shown = (x.parts(), x.is_even(), x.is_odd());
-    holds_at(rt, shown == (n, even, !even), &("parts", n));
+    for (call, expected) in [
+        (Parts, one(n)),
+        (IsEven, truth(even)),
+        (IsOdd, truth(!even)),
+    ] {
+        call_answers(rt, it, Call::Unary(call), (n, n), Some(expected));
+    }
     for (call, expected) in [
         (Inc, sum(n, (false, 1))),
         (Dec, sum(n, (true, 1))),
         (Negated, Some(opposite(n))),
     ] {
-        let expected = optional_value::<T>(expected);
-        holds_at(rt, call.answer(x) == expected, &(call, n));
-    }
-    assert_stored(rt, x);
-}
-
-/// `inc` and `dec` store what `checked::inc` and `checked::dec` answer.
-fn assert_stored<T: Tested>(rt: &impl Abort, x: T)
-    requires { T.fits (T.value x) }
-{
-    let (mut up, mut down) = (x, x);
-    if let Some(next) = checked::inc(x) {
-        up.inc();
-        holds_at(rt, up == next, &("inc", x));
-    }
-    if let Some(previous) = checked::dec(x) {
-        down.dec();
-        holds_at(rt, down == previous, &("dec", x));
+        has_neighbour(rt, it, call, n, expected);
     }
 }
 
 /// The sum, the difference and the product of two numbers.
-fn has_sums<T: Tested>(rt: &impl Abort, a: SignedMagnitude, b: SignedMagnitude) {
-    let (x, y) = (value::<T>(rt, a), value::<T>(rt, b));
+fn has_sums(rt: &impl Abort, it: Type, a: SignedMagnitude, b: SignedMagnitude) {
     for (call, expected) in [
         (Sum, sum(a, b)),
         (Difference, sum(a, opposite(b))),
         (Product, product(a, b)),
     ] {
-        let expected = optional_value::<T>(expected);
-        holds_at(rt, call.answer(rt, x, y) == expected, &(call, a, b));
+        has_number(rt, it, call, (a, b), expected);
     }
 }
 
 /// The row of a number below 3. That of a number at the upper end does not fit.
-fn has_row<T: Tested>(rt: &impl Abort, n: SignedMagnitude) {
-    let items: &[i128] = match n {
-        (true, _) => &[],
-        (false, 0) => &[1],
-        (false, 1) => &[1, 1],
-        (false, 2) => &[1, 2, 1],
-        _ => {
-            holds_at(rt, checked::row(value::<T>(rt, n)).is_none(), &("row", n));
-            return;
-        }
-    };
-    let number = to_i128(n).expect(rt, "it is below 3");
-    HasItems(number, items).at::<T>(rt);
+fn has_row(rt: &impl Abort, it: Type, n: SignedMagnitude) {
+    let (one, two) = ((false, 1), (false, 2));
+    let fits = Some(truth(true));
+    match n {
+        (true, _) => answers(rt, it, Ask::Row(n, &[]), fits),
+        (false, 0) => answers(rt, it, Ask::Row(n, &[one]), fits),
+        (false, 1) => answers(rt, it, Ask::Row(n, &[one, one]), fits),
+        (false, 2) => answers(rt, it, Ask::Row(n, &[one, two, one]), fits),
+        _ => answers(rt, it, Ask::Row(n, &[]), None),
+    }
 }
 
 /// The coefficient of `n` and `k` by the product formula, and its turns: the distance to the nearer
@@ -150,23 +138,39 @@ fn coefficient(n: SignedMagnitude, k: SignedMagnitude) -> Option<(u128, u32)> {
     Some((coefficient, u32::try_from(turns).ok()?))
 }
 
-/// The coefficient of two numbers.
-fn has_coefficient<T: Tested>(rt: &impl Abort, a: SignedMagnitude, b: SignedMagnitude) {
-    let (x, y) = (value::<T>(rt, a), value::<T>(rt, b));
-    let expected = coefficient(a, b);
-    let answer = expected_number::<T>(expected);
-    let counted_answer = answer.zip(expected.map(|(_, turns)| turns));
-    holds_at(
+/// The coefficient of two numbers, and its turns, where the type has the coefficient.
+fn has_coefficient(rt: &impl Abort, it: Type, a: SignedMagnitude, b: SignedMagnitude) {
+    let expected = coefficient_inside(rt, it, a, b);
+    let counted = match expected {
+        Some((number, turns)) => Some(after_turns((false, number), turns)),
+        None => None,
+    };
+    call_answers(
         rt,
-        (Binomial.answer(rt, x, y), counted(x, y)) == (answer, counted_answer),
-        &("binomial", a, b),
+        it,
+        Call::Number(Binomial),
+        (a, b),
+        first_alone(expected),
     );
+    call_answers(rt, it, Call::CountedBinomial, (a, b), counted);
 }
 
-/// The coefficient as a value of the type, where the type has it.
-fn expected_number<T: Tested>(expected: Option<(u128, u32)>) -> Option<T> {
+/// The coefficient and its turns, where the type has the coefficient.
+fn coefficient_inside(
+    rt: &impl Abort,
+    it: Type,
+    n: SignedMagnitude,
+    k: SignedMagnitude,
+) -> Option<(u128, u32)> {
+    let (number, turns) = coefficient(n, k)?;
+    inside(rt, it, Some((false, number)))?;
+    Some((number, turns))
+}
+
+/// The coefficient without its turns.
+fn first_alone(expected: Option<(u128, u32)>) -> Option<Numbers> {
     let (number, _) = expected?;
-    T::from_signed_magnitude((false, number))
+    Some(one((false, number)))
 }
 
 /// Whether this is the pair: one operand that divides the other is taken alone, the second before
@@ -196,82 +200,47 @@ fn is_small(coefficient: SignedMagnitude, gcd: u128, operand: SignedMagnitude) -
 
 /// The pair of two numbers, where the greatest common divisor fits and, in a type with no negative
 /// numbers, one divides the other.
-fn has_pair<T: Tested>(rt: &impl Abort, a: SignedMagnitude, b: SignedMagnitude) {
-    let (x, y) = (value::<T>(rt, a), value::<T>(rt, b));
+fn has_pair(rt: &impl Abort, it: Type, a: SignedMagnitude, b: SignedMagnitude) {
     let (gcd, remainders) = euclidean_gcd(b.1, a.1);
-    let has_negatives = T::from_signed_magnitude((true, 1)).is_some();
-    let has_pair = has_negatives || is_multiple(a, b) || is_multiple(b, a);
-    let domain = has_pair && T::from_signed_magnitude((false, gcd)).is_some();
-    let Some((pair, turns)) = extended_gcd_counted(x, y) else {
-        holds_at(
-            rt,
-            !domain && checked::extended_gcd(x, y).is_none(),
-            &("extended_gcd", a, b),
-        );
-        return;
+    let has_pair = has(rt, it, (true, 1)) || is_multiple(a, b) || is_multiple(b, a);
+    let domain = has_pair && has(rt, it, (false, gcd));
+    let answered = match answer(rt, it, Ask::Of(Call::Bezout, a, b)) {
+        None => !domain,
+        Some((divisor, x, y, turns)) => {
+            domain
+                && divisor == (false, gcd)
+                && turns == (false, u128::from(remainders.saturating_sub(1)))
+                && combined(a, b, x, y) == Some((false, gcd))
+                && is_bezout_pair(a, b, gcd, (x, y))
+        }
     };
-    let pairs = (checked::extended_gcd(x, y), plain::extended_gcd(x, y));
-    holds_at(
-        rt,
-        domain && pairs == (Some(pair), Some(pair)),
-        &("extended_gcd", a, b),
-    );
-    let (x, y) = (pair.x.parts(), pair.y.parts());
-    holds_at(
-        rt,
-        (turns, pair.gcd.parts(), combined(a, b, x, y))
-            == (
-                remainders.saturating_sub(1),
-                (false, gcd),
-                Some((false, gcd)),
-            ),
-        &("extended_gcd_counted", a, b),
-    );
-    holds_at(
-        rt,
-        is_bezout_pair(a, b, gcd, (x, y)),
-        &("extended_gcd", a, b),
-    );
-}
-
-/// The first operand times `x` and the second times `y`, added up.
-fn combined(
-    a: SignedMagnitude,
-    b: SignedMagnitude,
-    x: SignedMagnitude,
-    y: SignedMagnitude,
-) -> Option<SignedMagnitude> {
-    sum(product(a, x)?, product(b, y)?)
+    holds_at(rt, answered, &("extended_gcd", it, a, b));
 }
 
 /// What the calls of two operands answer.
-pub(crate) fn has_answers<T: Tested>(rt: &impl Abort, a: SignedMagnitude, b: SignedMagnitude) {
+pub(crate) fn has_answers(rt: &impl Abort, it: Type, a: SignedMagnitude, b: SignedMagnitude) {
     let (gcd, _) = euclidean_gcd(a.1, b.1);
-    has_sums::<T>(rt, a, b);
-    has_quotients::<T>(rt, a, b);
-    has_divisors::<T>(rt, a, b, gcd);
-    has_averages::<T>(rt, a, b);
-    has_coefficient::<T>(rt, a, b);
-    has_pair::<T>(rt, a, b);
+    has_sums(rt, it, a, b);
+    has_quotients(rt, it, a, b);
+    has_divisors(rt, it, a, b, gcd);
+    has_averages(rt, it, a, b);
+    has_coefficient(rt, it, a, b);
+    has_pair(rt, it, a, b);
 }
 
-impl Check for Ends {
-    fn at<T: Tested>(&self, rt: &impl Abort) {
-        holds_at(rt, T::ends() == (self.0, self.1), &("ends", self.0, self.1));
-        for a in self.numbers() {
-            holds_at(
-                rt,
-                T::from_signed_magnitude(a).is_some() == self.has(a),
-                &("from_signed_magnitude", a),
-            );
-            if self.has(a) {
-                has_neighbours::<T>(rt, a);
-                has_row::<T>(rt, a);
-            }
-            for b in self.numbers() {
-                if self.has(a) && self.has(b) {
-                    has_answers::<T>(rt, a, b);
-                }
+/// What the calls answer of the numbers at the ends.
+fn check_ends(rt: &impl Abort, it: Type, ends: Ends) {
+    let expected = two((false, ends.0), (false, ends.1));
+    answers(rt, it, Ask::Ends, Some(expected));
+    for a in ends.numbers() {
+        answers(rt, it, Ask::Has(a), Some(truth(ends.has(a))));
+        if ends.has(a) {
+            has_neighbours(rt, it, a);
+            has_row(rt, it, a);
+        }
+        for b in ends.numbers() {
+            if ends.has(a) && ends.has(b) {
+                has_answers(rt, it, a, b);
             }
         }
     }
@@ -279,42 +248,22 @@ impl Check for Ends {
 
 #[test]
 fn ends_of_each_type(rt: HostRuntime) {
-    check_rows(&rt, &ENDS);
-}
-
-/// Two counts as values of the type.
-fn two_counts<T: Tested>(
-    rt: &impl Abort,
-    alloc: Global,
-    a: SignedMagnitude,
-    b: SignedMagnitude,
-) -> Result<Vec<T>, AllocError>
-    ensures { IfOk result (λ v. All (λ x. T.fits (T.value x)) v.items) }
-{
-    let mut counts = Vec::new(alloc);
-    counts.push(value::<T>(rt, a))?;
-    counts.push(value::<T>(rt, b))?;
-    Ok(counts)
+    for (it, ends) in ENDS {
+        check_ends(&rt, it, ends);
+    }
 }
 
 /// The multinomials of two numbers, each of which is a coefficient of their sum.
-#[derive(Drop)]
-struct SharesAtEnds(Global, Ends);
-
-impl Check for SharesAtEnds {
-    fn at<T: Tested>(&self, rt: &impl Abort) {
-        let ends = self.1;
-        for a in ends.numbers() {
-            for b in ends.numbers() {
-                if ends.has(a) && ends.has(b) {
-                    let counts = two_counts::<T>(rt, self.0, a, b).expect(rt, "memory is left");
-                    let expected = match sum(a, b) {
-                        Some(total) if !a.0 && !b.0 => expected_number::<T>(coefficient(total, b)),
-                        _ => None,
-                    };
-                    let answers = (checked::multinomial(&counts), plain::multinomial(&counts));
-                    holds_at(rt, answers == (expected, expected), &("multinomial", a, b));
-                }
+fn check_shares(rt: &impl Abort, alloc: Global, it: Type, ends: Ends) {
+    for a in ends.numbers() {
+        for b in ends.numbers() {
+            if ends.has(a) && ends.has(b) {
+                let expected = match sum(a, b) {
+                    Some(total) if !a.0 && !b.0 => coefficient_inside(rt, it, total, b),
+                    _ => None,
+                };
+                let ask = Ask::Multinomial(alloc, &[a, b]);
+                answers(rt, it, ask, first_alone(expected));
             }
         }
     }
@@ -323,7 +272,7 @@ impl Check for SharesAtEnds {
 #[test]
 fn multinomials_at_the_ends(rt: HostRuntime) {
     for (it, ends) in ENDS {
-        check_at(&rt, it, &SharesAtEnds(rt.alloc(), ends));
+        check_shares(&rt, rt.alloc(), it, ends);
     }
 }
 
@@ -332,19 +281,14 @@ const DEGREES: [u32; 16] = [
     0, 1, 2, 3, 4, 5, 7, 8, 31, 32, 62, 63, 64, 65, 4294967294, 4294967295,
 ];
 
-impl RootCheck for Ends {
-    fn at<T: SqrtCounted + Tested>(&self, rt: &impl Abort) {
-        for n in self.numbers() {
-            for degree in DEGREES {
-                if self.has(n) {
-                    let number = to_i128(n).expect(rt, "it has at most 64 bits");
-                    if degree == 0 || n.0 && degree % 2 == 0 {
-                        has_no_root::<T>(rt, number, degree);
-                    } else {
-                        check_root::<T>(rt, number, degree);
-                    }
-                }
-            }
+/// The root of each of the degrees, where there is one.
+fn check_roots(rt: &impl Abort, it: Type, n: SignedMagnitude) {
+    let number = to_i128(n).expect(rt, "it has at most 64 bits");
+    for degree in DEGREES {
+        if degree == 0 || n.0 && degree % 2 == 0 {
+            has_no_root(rt, it, number, degree);
+        } else {
+            check_root(rt, it, number, degree);
         }
     }
 }
@@ -353,7 +297,11 @@ impl RootCheck for Ends {
 fn roots_at_the_ends(rt: HostRuntime) {
     for (it, ends) in ENDS {
         if ends.1 <= u128::from(u64::MAX) {
-            check_roots_at(&rt, it, &ends);
+            for n in ends.numbers() {
+                if ends.has(n) {
+                    check_roots(&rt, it, n);
+                }
+            }
         }
     }
 }
@@ -377,48 +325,35 @@ fn square_root_turns(a: u128) -> Option<(u128, u32)> {
     Some((guess, turns))
 }
 
-/// The turns of the square roots.
-#[derive(Drop)]
-struct RootTurnsAtEnds(Ends);
-
-impl RootCheck for RootTurnsAtEnds {
-    fn at<T: SqrtCounted + Tested>(&self, rt: &impl Abort) {
-        let ends = self.0;
-        for n in ends.numbers() {
-            if ends.has(n) && !n.0 {
-                let (root, turns) = square_root_turns(n.1).expect(rt, "it has at most 64 bits");
-                let expected = (value::<T>(rt, (false, root)), turns);
-                let counted = square_root_counted(value::<T>(rt, n));
-                holds_at(rt, counted == Some(expected), &("sqrt_counted", n));
-            }
-        }
-    }
+/// The turns of the square root of a number, where it has one.
+fn has_root_turns(rt: &impl Abort, it: Type, n: SignedMagnitude) {
+    let (root, turns) = square_root_turns(n.1).expect(rt, "it has at most 64 bits");
+    let expected = Some(after_turns((false, root), turns));
+    call_answers(rt, it, Call::CountedRoot, (n, n), expected);
 }
 
 #[test]
 fn turns_of_square_roots_at_the_ends(rt: HostRuntime) {
     for (it, ends) in ENDS {
         if ends.1 <= u128::from(u64::MAX) {
-            check_roots_at(&rt, it, &RootTurnsAtEnds(ends));
+            for n in ends.numbers() {
+                if ends.has(n) && !n.0 {
+                    has_root_turns(&rt, it, n);
+                }
+            }
         }
     }
 }
 
 /// The turns of the greatest common divisors.
-#[derive(Drop)]
-struct TurnsAtEnds(Ends);
-
-impl Check for TurnsAtEnds {
-    fn at<T: Tested>(&self, rt: &impl Abort) {
-        let ends = self.0;
-        for a in ends.numbers() {
-            for b in ends.numbers() {
-                let (gcd, _) = euclidean_gcd(a.1, b.1);
-                if ends.has(a) && ends.has(b) && gcd <= ends.1 {
-                    let turns = turns_between(a, b, (true, ends.0));
-                    let turns = turns.expect(rt, "no pair makes more turns than it has bits");
-                    has_turns::<T>(rt, a, b, gcd, turns);
-                }
+fn check_turns(rt: &impl Abort, it: Type, ends: Ends) {
+    for a in ends.numbers() {
+        for b in ends.numbers() {
+            let (gcd, _) = euclidean_gcd(a.1, b.1);
+            if ends.has(a) && ends.has(b) && gcd <= ends.1 {
+                let turns = turns_between(a, b, (true, ends.0));
+                let turns = turns.expect(rt, "no pair makes more turns than it has bits");
+                has_turns(rt, it, (a, b), gcd, turns);
             }
         }
     }
@@ -436,40 +371,34 @@ fn turns_between(a: SignedMagnitude, b: SignedMagnitude, least: SignedMagnitude)
 #[test]
 fn turns_at_the_ends(rt: HostRuntime) {
     for (it, ends) in ENDS {
-        check_at(&rt, it, &TurnsAtEnds(ends));
+        check_turns(&rt, it, ends);
     }
 }
 
 /// The pair and the least common multiple: both at once are what each is alone.
-pub(super) fn has_pair_and_multiple<T: Signed + Tested>(
+pub(super) fn has_pair_and_multiple(
     rt: &impl Abort,
+    it: Type,
     a: SignedMagnitude,
     b: SignedMagnitude,
 ) {
-    let (x, y) = (value::<T>(rt, a), value::<T>(rt, b));
-    let each = checked::extended_gcd(x, y).zip(checked::lcm(x, y));
-    let both = (
-        checked::extended_gcd_lcm(x, y),
-        plain::extended_gcd_lcm(x, y),
-    );
-    holds_at(rt, both == (each, each), &("extended_gcd_lcm", a, b));
-}
-
-impl SignedCheck for Ends {
-    fn at<T: Signed + Tested>(&self, rt: &impl Abort) {
-        for a in self.numbers() {
-            for b in self.numbers() {
-                has_pair_and_multiple::<T>(rt, a, b);
-            }
-        }
-    }
+    let pair = answer(rt, it, Ask::Of(Call::Bezout, a, b));
+    let expected = match (pair, answer(rt, it, Ask::Of(Call::Number(Lcm), a, b))) {
+        (Some((gcd, x, y, _)), Some((lcm, _, _, _))) => Some((gcd, x, y, lcm)),
+        _ => None,
+    };
+    call_answers(rt, it, Call::BezoutAndMultiple, (a, b), expected);
 }
 
 #[test]
 fn pairs_and_multiples_at_the_ends(rt: HostRuntime) {
     for (it, ends) in ENDS {
         if ends.0 > 0 {
-            check_signed_at(&rt, it, &ends);
+            for a in ends.numbers() {
+                for b in ends.numbers() {
+                    has_pair_and_multiple(&rt, it, a, b);
+                }
+            }
         }
     }
 }
