@@ -32,14 +32,12 @@ pub(super) fn has_free_quotients<T: Tested>(rt: &impl Abort, n: T, d: T)
     requires d_in_range { T.fits (T.value d) }
 {
     if n.quotient_fits(&d) {
-        holds_at(rt, div_rem(n, d) == n.div_rem(&d), &("div_rem", n, d));
-        holds_at(rt, div_floor(n, d) == n.div_floor(&d), &("div_floor", n, d));
-        holds_at(
-            rt,
-            div_mod_floor(n, d) == n.div_mod_floor(&d),
-            &("div_mod_floor", n, d),
-        );
-        holds_at(rt, div_ceil(n, d) == n.div_ceil(&d), &("div_ceil", n, d));
+        let free = (div_floor(n, d), div_ceil(n, d));
+        let same = free == (n.div_floor(&d), n.div_ceil(&d));
+        holds_at(rt, same, &("div_floor and div_ceil", n, d));
+        let free = (div_rem(n, d), div_mod_floor(n, d));
+        let same = free == (n.div_rem(&d), n.div_mod_floor(&d));
+        holds_at(rt, same, &("div_rem and div_mod_floor", n, d));
     }
     if !d.is_zero() {
         holds_at(rt, mod_floor(n, d) == n.mod_floor(&d), &("mod_floor", n, d));
