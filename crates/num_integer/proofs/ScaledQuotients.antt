@@ -1,17 +1,13 @@
 -- Floored quotients of products, by signs and magnitudes.
-use Rattle.std.specs.Prelude.{◌≡◌, ◌≢◌, ◌↔◌, ◌<◌, ◌*◌, ◌/◌, ◌%◌, ◌≤ℤ◌, ◌<ℤ◌, ◌*ℤ◌, ℕ, ℤ, pos, neg_ℤ, unsigned_abs, not, Bool, true, false, IsTrue, Option, Some, None}
-use Rattle.std.proofs.Common.{arith, refl, rules, subst, sym, ◌∙◌}
+use Rattle.std.specs.Prelude.{◌≡◌, ◌<◌, ◌*◌, ◌/◌, ◌%◌, ◌*ℤ◌, ℕ, ℤ, pos, neg_ℤ, not, Bool, true, false}
+use Rattle.std.proofs.Common.{arith, sym}
 use Rattle.std.proofs.lemmas.Int.{ints}
 use Rattle.std.proofs.Math.Bool.{beq}
 use Rattle.std.proofs.Math.Nat.{div-add-mod, mod-lt}
-use Rattle.integer_core.proofs.Quotients.{only_floored}
-use Rattle.integer_core.proofs.Ranges.{within_fits}
 use Rattle.integer_core.proofs.Whole.{linear, products, sizes}
-use Rattle.integer_core.specs.Division.{IsFloored, IsQuotient}
-use Rattle.integer_core.specs.Range.{EachFits, IsRange}
-use Rattle.num_integer.proofs.FittingAnswers.{signed_is}
+use Rattle.integer_core.specs.Division.{IsFloored}
+use Rattle.integer_core.specs.Range.{IsRange}
 use Rattle.num_integer.proofs.FlooredByPositive.{floored_by_range}
-use Rattle.num_integer.specs.Checked.{AnswersWhere}
 use Rattle.num_integer.specs.Parts.{signed}
 
 -- the quotient and the remainder of natural numbers are floored

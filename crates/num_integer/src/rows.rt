@@ -78,6 +78,7 @@ impl<T: Integer> Iterator for IterBinomial<T> {
 
     ghost remaining = { item_count (λ s. s) };
 
+    #[tactic(auto, using(crate::proofs::Steps::rest_none))]
     fn next(&mut self) -> Option<T> {
         if is_below(self.n, self.k) {
             return None;

@@ -3,6 +3,9 @@ use Rattle.num_integer.proofs.FittingAnswers.{from_test}
 use Rattle.num_integer.proofs.Steps.{item_fits, place_fits, rest_next, rest_none}
 use Rattle.num_integer.proofs.rows.IterBinomialIterator.next.Goals as goal
 
+pub item_after-self-inside-requires-clause-current : goal.item_after-self-inside-requires-clause-current
+item_after-self-inside-requires-clause-current g c = c.self.invariant.item_is (from_test c.is_below.ensures c.if-is_below.false)
+
 pub item_after-self-inside-requires-clause-next_fits : goal.item_after-self-inside-requires-clause-next_fits
 item_after-self-inside-requires-clause-next_fits g c = item_fits g.met.T.Integer.range_law c.self.invariant
 
