@@ -3,7 +3,7 @@
 
 pub use Rattle.integer_core.proofs.CommonDivisors.{gcd-nonzero, gcd-positive, gcd-times, only_gcd, only_lcm}
 pub use Rattle.integer_core.proofs.Divisibility.{Divides-antisym, Divides-cancel, Divides-refl, Divides-sum, Divides-times, Divides-trans, Divides-zero, cancel, exact_quotient, zero_divides}
-pub use Rattle.integer_core.proofs.EuclidTurns.{divisor_size}
+pub use Rattle.integer_core.proofs.EuclidTurns.{divisor_size, one_divides}
 pub use Rattle.integer_core.proofs.GcdDomain.{gcd_fits_is}
 pub use Rattle.integer_core.proofs.OddParts.{shift_back}
 pub use Rattle.integer_core.proofs.Quotients.{only_floored, other_quotient_fits, remainder_within, truncated_is, zero_or_not}
@@ -13,7 +13,7 @@ pub use Rattle.integer_roots.proofs.Powers.{power_of_one, power_of_power, power_
 pub use Rattle.integer_roots.proofs.MagnitudeRoots.{first_root, root_in_range}
 pub use Rattle.integer_core.proofs.Whole.{comm, dist, dist-left, expand, from_not_less, linear, mul-neg, mul-one, product_positive, products, sizes}
 pub use Rattle.num_integer.proofs.FittingAnswers.{signed_is}
-pub use Rattle.num_integer.proofs.IntegerPowers.{even_or_odd, even_power, int_pow-suc, int_pow-zero, odd_power, power_of_square}
+pub use Rattle.num_integer.proofs.IntegerPowers.{even_or_odd, even_power, int_pow-suc, int_pow-zero, odd_power, power_of_square, power_size}
 pub use Rattle.num_integer.proofs.Pascal.{coefficient-pos, coefficient-zero, none_above}
 -- ---- least and greatest numbers
 

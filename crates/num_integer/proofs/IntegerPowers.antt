@@ -21,6 +21,13 @@ odd_power (negsuc a) n odd = rw odd (omega (arith, ints))
 pub even_or_odd : (n : ℕ) → (n % 2 ≡ 0) ⊎ (n % 2 ≡ 1)
 even_or_odd n = elim (cases_lt (n % 2) 1) [ inl even ↦ inl (omega arith) | inr odd ↦ inr (omega arith) ]
 
+pub power_size : (k : ℤ) (n : ℕ) → unsigned_abs (int_pow k n) ≡ unsigned_abs k ^ n
+power_size (pos a) n = refl
+power_size (negsuc a) n = elim (even_or_odd n) [
+  | inl even ↦ rw even refl
+  | inr odd ↦ rw odd (omega (arith, ints))
+]
+
 pub int_pow-zero : (x : ℤ) → int_pow x 0 ≡ pos 1
 int_pow-zero (pos a) = ap pos (pow-zero a)
 int_pow-zero (negsuc a) = ap pos (pow-zero (suc a))

@@ -6,7 +6,7 @@ use Rattle.std.specs.declared.cmp.Ordering.TheVariants.{Equal, Greater, Less}
 use Rattle.std.proofs.Common.{arith, ap, inl, inr, refl, sym, ◌∙◌}
 use Rattle.std.proofs.Math.Nat.{mul-le-mul_left}
 use Rattle.std.proofs.lemmas.Int.{by_lt_z, ints, fits_signed_from_abs, unsigned_abs-mul}
-use Rattle.num_integer.proofs.ForCallers.{Divides-refl, cancel, comm, divisor_at_most, expand, factor_positive, linear, mul-one, products, sizes, zero_or_not}
+use Rattle.num_integer.proofs.ForCallers.{Divides-refl, cancel, comm, divisor_at_most, expand, factor_positive, linear, mul-one, one_divides, products, sizes, zero_or_not}
 use Rattle.num_integer.specs.Division.{IsDivision}
 use Rattle.num_integer.specs.Divisors.{Divides}
 use Rattle.ratio64.specs.Fraction.{AreEqual, IsExact, IsFraction, IsOutsideI64, IsReduced, fraction_cmp}
@@ -14,7 +14,6 @@ use Rattle.ratio64.specs.Ratio.{AnswersFraction, num_of, den_of}
 use Rattle.ratio64.specs.declared.fraction.Ratio.{Ratio}
 use Rattle.ratio64.specs.declared.error.RatioError.{RatioError}
 use Rattle.ratio64.specs.declared.error.RatioError.TheVariants.{ZeroDenominator, NotFitting}
-use Rattle.ratio64.proofs.ReducedParts.{one_divides}
 use Rattle.ratio64.proofs.Laws.{equal_fractions_have_one_result, products_of_equal_fractions, sums_of_equal_fractions}
 -- ---- lemmas from elsewhere
 

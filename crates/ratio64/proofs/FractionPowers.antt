@@ -5,10 +5,10 @@ use Rattle.std.proofs.Common.{arith, ap, refl, sym, ◌∙◌, true, false, cond
 use Rattle.std.proofs.Math.Nat.{one-le-pow, pow-zero, pow-succ', mul-le-mul_left}
 use Rattle.std.proofs.lemmas.Int.{ints}
 use Rattle.std.proofs.lemmas.Nat.{mul-pow}
-use Rattle.num_integer.proofs.ForCallers.{Divides-trans, comm, coprime_divides, mul-neg, products, sizes}
+use Rattle.num_integer.proofs.ForCallers.{Divides-trans, comm, coprime_divides, mul-neg, one_divides, power_size, products, sizes}
 use Rattle.num_integer.specs.Divisors.{IsGreatestCommonDivisor}
 use Rattle.ratio64.specs.Fraction.{AreEqual, IsReduced}
-use Rattle.ratio64.proofs.ReducedParts.{one_divides, negated_coprime}
+use Rattle.ratio64.proofs.ReducedParts.{negated_coprime}
 
 -- ---- powers of whole numbers
 
@@ -47,14 +47,6 @@ power_of_product (pos m) (pos n) k = ap pos (mul-pow m n k)
 power_of_product (pos m) (negsuc n) k = times_negative m n k
 power_of_product (negsuc m) (pos n) k = ap (λ (t : ℤ). int_pow t k) (comm (negsuc m) (pos n)) ∙ times_negative n m k ∙ comm (int_pow (pos n) k) (int_pow (negsuc m) k)
 power_of_product (negsuc m) (negsuc n) k = ap pos (mul-pow (suc m) (suc n) k) ∙ sym (both_signed (k % 2 == 0) (pos (suc m ^ k)) (pos (suc n ^ k)))
-
-signed_size : (even : Bool) (n : ℕ) → unsigned_abs (with_sign even (pos n)) ≡ n
-signed_size true n = refl
-signed_size false n = omega (arith, sizes)
-
-pub power_size : (x : ℤ) (k : ℕ) → unsigned_abs (int_pow x k) ≡ unsigned_abs x ^ k
-power_size (pos n) k = refl
-power_size (negsuc n) k = signed_size (k % 2 == 0) (suc n ^ k)
 
 -- it is not 0 where the number is not
 pub power_nonzero : (x : ℤ) (k : ℕ) → x ≢ pos 0 → int_pow x k ≢ pos 0

@@ -3,12 +3,9 @@ use Rattle.std.specs.Prelude.{◌≡◌, ◌+ℤ◌, ◌*ℤ◌, ℤ, pos, negsu
 use Rattle.std.specs.Int.{w64}
 use Rattle.std.proofs.Common.{arith, subst}
 use Rattle.std.proofs.lemmas.Int.{ints}
-use Rattle.num_integer.proofs.ForCallers.{Divides-sum, linear, mul-neg, products}
+use Rattle.num_integer.proofs.ForCallers.{Divides-sum, linear, mul-neg, one_divides, products}
 use Rattle.num_integer.specs.Divisors.{Divides, IsGreatestCommonDivisor}
 use Rattle.ratio64.specs.Fraction.{IsReduced}
-
-pub one_divides : (v : ℤ) → Divides (pos 1) v
-one_divides v = record { factor = v; product = omega (arith, products) }
 
 -- a number has the divisors of its negation
 pub negated_divides : {d v : ℤ} → Divides d (neg_ℤ v) → Divides d v
