@@ -12,12 +12,3 @@ pub(crate) fn holds_at(rt: &impl Abort, holds: bool, row: &impl Debug)
 {
     assert!(rt; holds, "at {row:?}");
 }
-
-/// Asserts that each row holds, with a message that shows the row.
-pub(crate) fn each_holds<R: Copy + Debug, F: Fn(R) -> bool>(rt: &impl Abort, rows: &[R], holds: F)
-    requires { F.IsAlwaysCallable holds }
-{
-    for row in rows {
-        holds_at(rt, holds(*row), row);
-    }
-}

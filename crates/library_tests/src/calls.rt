@@ -36,20 +36,15 @@ const ITEMS: [(i64, i64, i64, (i64, i64)); 7] = [
 #[test]
 fn paging(rt: HostRuntime) {
     for (items, page_size, count, place) in ITEMS {
-        holds_at(&rt, page_size > 0, &page_size);
         holds_at(
             &rt,
-            pages(items, page_size) == count,
+            page_size > 0
+                && (pages(items, page_size), place_of(items, page_size)) == (count, place),
             &("pages", items, page_size),
         );
-        holds_at(
-            &rt,
-            place_of(items, page_size) == place,
-            &("place_of", items, page_size),
-        );
     }
-    assert!(rt; pages(10u8, 4) == 3 && item_at(2u8, 2, 4) == 10 && item_at(15u8, 15, 16) == 255);
-    assert!(rt; item_at(-1i64, 3, 4) == -1 && item_at(-2i8, 99, 100) == -101);
+    assert!(rt; (pages(10u8, 4), item_at(2u8, 2, 4), item_at(15u8, 15, 16)) == (3, 10, 255));
+    assert!(rt; (item_at(-1i64, 3, 4), item_at(-2i8, 99, 100)) == (-1, -101));
 }
 
 /// An offset, an alignment, the aligned offset and the padding.
@@ -67,16 +62,12 @@ fn layout(rt: HostRuntime) {
     for (offset, alignment, aligned, rest) in OFFSETS {
         holds_at(
             &rt,
-            alignment > 0 && align_up(offset, alignment) == aligned,
+            alignment > 0
+                && (align_up(offset, alignment), padding(offset, alignment)) == (aligned, rest),
             &("align_up", offset, alignment),
         );
-        holds_at(
-            &rt,
-            alignment > 0 && padding(offset, alignment) == rest,
-            &("padding", offset, alignment),
-        );
     }
-    assert!(rt; align_up(250u8, 8) == None && padding(u64::MAX, 8) == 1);
+    assert!(rt; (align_up(250u8, 8), padding(u64::MAX, 8)) == (None, 1));
 }
 
 /// Two numbers and their middle.
@@ -103,7 +94,7 @@ fn middles_and_squares(rt: HostRuntime) {
     for (a, b, middle) in MIDDLES {
         holds_at(
             &rt,
-            midpoint(a, b) == middle && midpoint(b, a) == middle,
+            (midpoint(a, b), midpoint(b, a)) == (middle, middle),
             &("midpoint", a, b),
         );
     }

@@ -13,3 +13,5 @@ mod dates;
 mod fractions;
 #[cfg(test)]
 mod residues;
+#[cfg(test)]
+mod types;

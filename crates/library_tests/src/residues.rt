@@ -12,9 +12,8 @@ mod matched;
 mod own_numbers;
 mod residue_ends;
 mod residue_powers;
-mod types;
 
-use crate::assertions::each_holds;
+use crate::assertions::holds_at;
 use modular::counted::power_modulo_counted;
 use modular::{
     difference_modulo, inverse_modulo, negation_modulo, power_modulo, product_modulo,
@@ -42,10 +41,14 @@ const RESIDUES: [(i64, i64, i64, i64); 6] = [
 
 #[test]
 fn residues(rt: HostRuntime) {
-    each_holds(&rt, &RESIDUES, |(a, m, r, negated)| {
-        m > 0 && (residue(a, m), negation_modulo(a, m)) == (r, negated)
-    });
-    assert!(rt; negation_modulo(2u8, 7) == 5 && negation_modulo(7u8, 7) == 0);
+    for (a, m, r, negated) in RESIDUES {
+        holds_at(
+            &rt,
+            m > 0 && (residue(a, m), negation_modulo(a, m)) == (r, negated),
+            &("residue", a, m),
+        );
+    }
+    assert!(rt; (negation_modulo(2u8, 7), negation_modulo(7u8, 7)) == (5, 0));
 }
 
 /// Two numbers, a modulus, and the residues of their sum, difference and product.
@@ -59,17 +62,30 @@ const PAIRS: [(i64, i64, i64, (i64, i64, i64)); 5] = [
 
 #[test]
 fn sums_differences_and_products(rt: HostRuntime) {
-    each_holds(&rt, &PAIRS, |(a, b, m, expected)| {
-        m > 0
-            && (
-                sum_modulo(a, b, m),
-                difference_modulo(a, b, m),
-                product_modulo(a, b, m),
-            ) == expected
-    });
-    assert!(rt; sum_modulo(200u8, 100, 201) == 99 && difference_modulo(3u8, 200, 255) == 58);
+    for (a, b, m, expected) in PAIRS {
+        holds_at(
+            &rt,
+            m > 0
+                && (
+                    sum_modulo(a, b, m),
+                    difference_modulo(a, b, m),
+                    product_modulo(a, b, m),
+                ) == expected,
+            &("sum_modulo", a, b, m),
+        );
+    }
+}
+
+#[test]
+fn worked_sums_and_products(rt: HostRuntime) {
+    assert!(rt;
+        (
+            sum_modulo(200u8, 100, 201),
+            difference_modulo(3u8, 200, 255)
+        ) == (99, 58)
+    );
     assert!(rt; sum_modulo(u128::MAX, u128::MAX - 1, u128::MAX) == u128::MAX - 1);
-    assert!(rt; product_modulo(MIN, MAX, 1000003) == 174587 && product_modulo(5u8, 5, 1) == 0);
+    assert!(rt; (product_modulo(MIN, MAX, 1000003), product_modulo(5u8, 5, 1)) == (174587, 0));
     assert!(rt; product_modulo(P64 - 1, P64 - 2, P64) == 2);
 }
 
@@ -89,16 +105,33 @@ const POWERS: [(i64, u128, i64, (i64, u32)); 10] = [
 
 #[test]
 fn powers(rt: HostRuntime) {
-    each_holds(&rt, &POWERS, |(a, e, m, counted)| {
-        m > 0 && power_modulo(a, e, m) == counted.0 && power_modulo_counted(a, e, m) == counted
-    });
-    assert!(rt; power_modulo(3, 1000000000000000000, P64) == 4014180641660839766);
-    assert!(rt; power_modulo(3, u128::from(P64 - 1), P64) == 1);
-    assert!(rt; power_modulo(3, P128 - 1, P128) == 1);
-    assert!(rt;
-        power_modulo(3, 1267650600228229401496703205383, P128)
-            == 127217210967892199878414826638185792867
-    );
+    for (a, e, m, counted) in POWERS {
+        holds_at(
+            &rt,
+            m > 0 && (power_modulo(a, e, m), power_modulo_counted(a, e, m)) == (counted.0, counted),
+            &("power_modulo", a, e, m),
+        );
+    }
+}
+
+/// Exponents, and the powers of 3 modulo the primes.
+#[test]
+fn powers_modulo_primes(rt: HostRuntime) {
+    for (e, power) in [
+        (1000000000000000000, 4014180641660839766),
+        (u128::from(P64 - 1), 1),
+    ] {
+        holds_at(&rt, power_modulo(3, e, P64) == power, &("power_modulo", e));
+    }
+    for (e, power) in [
+        (P128 - 1, 1),
+        (
+            1267650600228229401496703205383,
+            127217210967892199878414826638185792867,
+        ),
+    ] {
+        holds_at(&rt, power_modulo(3, e, P128) == power, &("power_modulo", e));
+    }
 }
 
 /// A number, a modulus, and the inverse.
@@ -113,20 +146,33 @@ const INVERSES: [(i64, i64, Option<i64>); 8] = [
     (MIN, MAX, Some(MAX - 1)),
 ];
 
+const WIDE_INVERSES: [(u128, u128, u128); 3] = [
+    (3, P128, 226854911280625642308916404954512140865),
+    (
+        1000000000000000000000000000000,
+        P128,
+        220185386694555189540702570464961134522,
+    ),
+    (u128::MAX - 1, u128::MAX, u128::MAX - 1),
+];
+
 #[test]
 fn inverses(rt: HostRuntime) {
-    each_holds(
-        &rt,
-        &INVERSES,
-        |(a, m, x)| m > 0 && inverse_modulo(a, m) == x,
-    );
+    for (a, m, x) in INVERSES {
+        holds_at(
+            &rt,
+            m > 0 && inverse_modulo(a, m) == x,
+            &("inverse_modulo", a, m),
+        );
+    }
+    for (a, m, x) in WIDE_INVERSES {
+        holds_at(
+            &rt,
+            m > 0 && inverse_modulo(a, m) == Some(x),
+            &("inverse_modulo", a, m),
+        );
+    }
     assert!(rt; inverse_modulo(3u64, P64) == Some(6148914691236517186));
-    assert!(rt; inverse_modulo(3, P128) == Some(226854911280625642308916404954512140865));
-    assert!(rt;
-        inverse_modulo(1000000000000000000000000000000, P128)
-            == Some(220185386694555189540702570464961134522)
-    );
-    assert!(rt; inverse_modulo(u128::MAX - 1, u128::MAX) == Some(u128::MAX - 1));
 }
 
 /// Two numbers, a modulus, and the quotient.
@@ -141,8 +187,12 @@ const QUOTIENTS: [(i64, i64, i64, Option<i64>); 6] = [
 
 #[test]
 fn quotients(rt: HostRuntime) {
-    each_holds(&rt, &QUOTIENTS, |(a, b, m, x)| {
-        m > 0 && quotient_modulo(a, b, m) == x
-    });
+    for (a, b, m, x) in QUOTIENTS {
+        holds_at(
+            &rt,
+            m > 0 && quotient_modulo(a, b, m) == x,
+            &("quotient_modulo", a, b, m),
+        );
+    }
     assert!(rt; quotient_modulo(P128 - 2, P128 - 1, P128) == Some(2));
 }

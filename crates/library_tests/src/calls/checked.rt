@@ -13,6 +13,7 @@ ghost use Rattle.num_integer.specs.Range.{EachFits};
 ghost use Rattle.num_integer.specs.RootOf.{IsRoot};
 ghost use Rattle.num_integer.specs.Row.{RowFits, row_of};
 
+use crate::assertions::holds_at;
 use num_integer::{ExtendedGcd, IterBinomial, checked};
 
 /// The quotient rounded down, or `None` for a divisor 0 and for the least number by -1.
@@ -122,33 +123,61 @@ const MAX: i64 = i64::MAX;
 
 #[test]
 fn quotients_and_multiples(rt: HostRuntime) {
-    assert!(rt; floored_quotient(-8, 3) == Some(-3) && floored_quotient(8, 0) == None);
-    assert!(rt; floored_quotient(MIN, -1) == None && floored_quotient(MAX, -1) == Some(-MAX));
-    assert!(rt; floored_remainder(-8, 3) == Some(1) && floored_remainder(8, 0) == None);
-    assert!(rt; floored_remainder(MIN, -1) == Some(0) && next_multiple(23, 8) == Some(24));
-    assert!(rt; next_multiple(u64::MAX, 2) == None && next_multiple(5, 0) == None);
+    for (n, d, parts) in [
+        (-8, 3, (Some(-3), Some(1))),
+        (8, 0, (None, None)),
+        (MIN, -1, (None, Some(0))),
+        (MAX, -1, (Some(-MAX), Some(0))),
+    ] {
+        let found = (floored_quotient(n, d), floored_remainder(n, d));
+        holds_at(&rt, found == parts, &("floored", n, d));
+    }
+    for (n, d, multiple) in [(23, 8, Some(24)), (u64::MAX, 2, None), (5, 0, None)] {
+        holds_at(
+            &rt,
+            next_multiple(n, d) == multiple,
+            &("next_multiple", n, d),
+        );
+    }
 }
 
 #[test]
 fn divisors(rt: HostRuntime) {
-    assert!(rt; common_multiple(7, 3) == Some(21) && common_multiple(MAX, 2) == None);
+    assert!(rt; (common_multiple(7, 3), common_multiple(MAX, 2)) == (Some(21), None));
     let pair = ExtendedGcd {
         gcd: 2,
         x: -9,
         y: 47,
     };
-    assert!(rt; bezout_pair(240, 46) == Some(pair) && bezout_pair(MIN, MIN) == None);
+    assert!(rt; (bezout_pair(240, 46), bezout_pair(MIN, MIN)) == (Some(pair), None));
     let pair = ExtendedGcd { gcd: 4, x: 1, y: 0 };
-    assert!(rt; natural_bezout_pair(4, 12) == Some(pair) && natural_bezout_pair(10, 4) == None);
+    let found = (natural_bezout_pair(4, 12), natural_bezout_pair(10, 4));
+    assert!(rt; found == (Some(pair), None));
 }
 
 #[test]
 fn roots_and_coefficients(rt: HostRuntime) {
-    assert!(rt; root(-9, 3) == Some(-2) && root(99, 2) == Some(9) && root(-9, 2) == None);
-    assert!(rt; root(9, 0) == None && choices(9, 4) == Some(126) && choices(68, 34) == None);
-    assert!(rt; choices(67, 33) == Some(14226520737620288370));
-    assert!(rt; orders(&[2, 1, 2]) == Some(30) && orders(&[u64::MAX, 1]) == None);
-    assert!(rt; signed_orders(&[2, 1, 2]) == Some(30) && signed_orders(&[2, -1]) == None);
+    for (x, degree, expected) in [
+        (-9, 3, Some(-2)),
+        (99, 2, Some(9)),
+        (-9, 2, None),
+        (9, 0, None),
+    ] {
+        holds_at(&rt, root(x, degree) == expected, &("root", x, degree));
+    }
+    for (n, k, expected) in [
+        (9, 4, Some(126)),
+        (68, 34, None),
+        (67, 33, Some(14226520737620288370)),
+    ] {
+        holds_at(&rt, choices(n, k) == expected, &("choices", n, k));
+    }
+}
+
+#[test]
+fn orders_of_counts(rt: HostRuntime) {
+    assert!(rt; (orders(&[2, 1, 2]), orders(&[u64::MAX, 1])) == (Some(30), None));
+    assert!(rt; (signed_orders(&[2, 1, 2]), signed_orders(&[2, -1])) == (Some(30), None));
 }
 
 /// The row of 67 is the last that fits in 64 bits.
@@ -164,5 +193,5 @@ fn rows(rt: HostRuntime) {
 
 #[test]
 fn sums(rt: HostRuntime) {
-    assert!(rt; sum(MAX, 1) == None && sum(MIN, MAX) == Some(-1));
+    assert!(rt; (sum(MAX, 1), sum(MIN, MAX)) == (None, Some(-1)));
 }

@@ -91,9 +91,9 @@ fn turns(a: u32, b: u32) -> Option<(u32, u32)>
 
 #[test]
 fn calls_by_lemmas(rt: HostRuntime) {
-    assert!(rt; split_bill(1000, 3) == (333, 1) && share(u64::MAX, 2) == 9223372036854775807);
-    assert!(rt; hour_after(22, 5) == 3 && hour_after(1, -2) == 23);
-    assert!(rt; moon_sum(2024) == 229 && moon_sum(-1) == 459);
-    assert!(rt; side(99) == 9 && side(u64::MAX) == 4294967295 && tile(56, 42) == 14);
-    assert!(rt; turns(40, 60) == Some((3, 2)) && turns(u32::MAX, 2) == None);
+    assert!(rt; (split_bill(1000, 3), share(u64::MAX, 2)) == ((333, 1), 9223372036854775807));
+    assert!(rt; (hour_after(22, 5), hour_after(1, -2)) == (3, 23));
+    assert!(rt; (moon_sum(2024), moon_sum(-1)) == (229, 459));
+    assert!(rt; (side(99), side(u64::MAX), tile(56, 42)) == (9, 4294967295, 14));
+    assert!(rt; (turns(40, 60), turns(u32::MAX, 2)) == (Some((3, 2)), None));
 }

@@ -10,6 +10,7 @@ ghost use Rattle.num_integer.specs.RootOf.{IsRoot};
 ghost use Rattle.num_integer.specs.Row.{row_of};
 ghost use Rattle.ratio64.specs.Ratio.{den_of, num_of};
 
+use crate::assertions::holds_at;
 use num_integer::{ExtendedGcd, Integer, IterBinomial, Roots, binomial, checked, lcm};
 use ratio64::{Ratio, RatioError};
 
@@ -150,15 +151,13 @@ fn row_of_three() -> IterBinomial<u8>
     IterBinomial::new(3)
 }
 
-/// The greatest common divisor of two numbers of which five calls have an answer.
-fn divisor_after_five_calls(a: i64, b: i64) -> Option<i64>
+/// The greatest common divisor of two numbers of which three calls have an answer.
+fn divisor_after_three_calls(a: i64, b: i64) -> Option<i64>
     ensures { IfSome result (λ g. IsGreatestCommonDivisor a b g) }
 {
     let quotient = checked::div_floor(a, b)?;
     let divisor = checked::gcd(a, b)?;
-    let common = checked::lcm(a, b)?;
-    let product = checked::product(divisor, common)?;
-    let sum = checked::sum(product, quotient)?;
+    let sum = checked::sum(divisor, quotient)?;
     if sum == a { None } else { Some(divisor) }
 }
 
@@ -196,23 +195,44 @@ fn plain_fractions(rt: HostRuntime) {
 
 #[test]
 fn many_calls(rt: HostRuntime) {
-    assert!(rt; divisor_after_five_calls(8, 6) == Some(2));
-    assert!(rt; divisor_after_five_calls(8, 0) == None);
-    assert!(rt; divisor_after_five_calls(i64::MIN, -1) == None);
+    for ((a, b), divisor) in [((8, 6), Some(2)), ((8, 0), None), ((i64::MIN, -1), None)] {
+        holds_at(
+            &rt,
+            divisor_after_three_calls(a, b) == divisor,
+            &("divisor_after_three_calls", a, b),
+        );
+    }
 }
 
 #[test]
 fn plain_calls(rt: HostRuntime) {
-    assert!(rt; quotient_by_positive(-8, 3) == -3 && natural_quotient(8, 3) == 2);
-    assert!(rt; previous_multiple(23, 8) == 16 && common_divisor_with_positive(-56, 42) == 14);
-    assert!(rt; natural_common_divisor(56, 42) == 14 && natural_common_divisor(0, 0) == 0);
-    assert!(rt; choices_of_4_out_of_9() == 126);
-    assert!(rt; common_multiple_of_literals() == 200);
-    assert!(rt; signed_common_multiple_of_literals() == 12);
-    assert!(rt; next_multiple_of_literals() == 24 && natural_next_multiple_of_literals() == 24);
+    let signed = (
+        quotient_by_positive(-8, 3),
+        common_divisor_with_positive(-56, 42),
+    );
+    assert!(rt; signed == (-3, 14));
+    assert!(rt; (weeks(-1), side(99), signed_common_multiple_of_literals()) == (-1, 9, 12));
+    let natural = (
+        natural_quotient(8, 3),
+        previous_multiple(23, 8),
+        remainder(17, 5),
+    );
+    assert!(rt; natural == (2, 16, 2));
+    let divisors = (natural_common_divisor(56, 42), natural_common_divisor(0, 0));
+    assert!(rt; (divisors, natural_root(99, 3)) == ((14, 0), 4));
+    assert!(rt; (is_even(4), is_even(7)) == (true, false));
+}
+
+#[test]
+fn plain_calls_of_literals(rt: HostRuntime) {
+    assert!(rt; (choices_of_4_out_of_9(), common_multiple_of_literals()) == (126, 200));
+    assert!(rt;
+        (
+            next_multiple_of_literals(),
+            natural_next_multiple_of_literals()
+        ) == (24, 24)
+    );
     assert!(rt; common_multiple_in_twice_the_bits(4294967295, 4294967294) == 18446744060824649730);
-    assert!(rt; is_even(4) && !is_even(7) && remainder(17, 5) == 2);
-    assert!(rt; weeks(-1) == -1 && side(99) == 9 && natural_root(99, 3) == 4);
     assert!(rt;
         pair_with_positive(240, 46)
             == ExtendedGcd {

@@ -5,18 +5,54 @@ use uses::powers::{is_perfect_power, is_power, is_square};
 
 #[test]
 fn squares(rt: HostRuntime) {
-    assert!(rt; is_square(121i8) && !is_square(127i8) && !is_square(2u8) && is_square(225u8));
-    assert!(rt; !is_square(-121i8) && !is_square(i64::MIN));
+    for (n, square) in [(121i8, true), (127, false), (-121, false)] {
+        holds_at(&rt, is_square(n) == square, &("is_square", n));
+    }
+    let others = (is_square(2u8), is_square(225u8), is_square(i64::MIN));
+    assert!(rt; others == (false, true, false));
 }
 
 #[test]
 fn powers_of_a_degree(rt: HostRuntime) {
-    assert!(rt; is_power(243u8, 5) && !is_power(243u8, 4) && !is_power(244u8, 5));
-    assert!(rt; !is_power(-16i8, 4) && !is_power(i64::MIN, 2) && !is_power(-1i64, u32::MAX - 1));
-    assert!(rt; is_power(-243i16, 5) && !is_power(-244i16, 5) && is_power(-128i8, 7));
-    assert!(rt; is_power(i64::MIN, 63) && !is_power(i64::MAX, 63) && is_power(-7i32, 1));
-    assert!(rt; is_power(1u64, u32::MAX) && is_power(0u32, 64) && is_power(-1i64, u32::MAX));
-    assert!(rt; is_power(12157665459056928801u64, 40) && !is_power(12157665459056928802u64, 40));
+    for (n, degree, power) in [(243u8, 5, true), (243, 4, false), (244, 5, false)] {
+        holds_at(
+            &rt,
+            degree > 0 && is_power(n, degree) == power,
+            &("is_power", n, degree),
+        );
+    }
+    for (n, degree, power) in [
+        (i64::MIN, 2, false),
+        (-1, u32::MAX - 1, false),
+        (-1, u32::MAX, true),
+        (i64::MIN, 63, true),
+        (i64::MAX, 63, false),
+    ] {
+        holds_at(
+            &rt,
+            degree > 0 && is_power(n, degree) == power,
+            &("is_power", n, degree),
+        );
+    }
+}
+
+#[test]
+fn powers_at_other_types(rt: HostRuntime) {
+    assert!(rt; (is_power(-16i8, 4), is_power(-128i8, 7)) == (false, true));
+    assert!(rt; (is_power(-243i16, 5), is_power(-244i16, 5)) == (true, false));
+    assert!(rt;
+        (
+            is_power(-7i32, 1),
+            is_power(0u32, 64),
+            is_power(1u64, u32::MAX)
+        ) == (true, true, true)
+    );
+    for (n, power) in [
+        (12157665459056928801u64, true),
+        (12157665459056928802, false),
+    ] {
+        holds_at(&rt, is_power(n, 40) == power, &("is_power", n));
+    }
 }
 
 const TO_144: [u64; 18] = [
@@ -32,6 +68,12 @@ fn perfect_powers(rt: HostRuntime) {
             &("is_perfect_power", n),
         );
     }
-    assert!(rt; is_perfect_power(1 << 61) && !is_perfect_power((1 << 61) - 1));
-    assert!(rt; is_perfect_power(15181127029874798299) && !is_perfect_power(u64::MAX));
+    for (n, power) in [
+        (1 << 61, true),
+        ((1 << 61) - 1, false),
+        (15181127029874798299, true),
+        (u64::MAX, false),
+    ] {
+        holds_at(&rt, is_perfect_power(n) == power, &("is_perfect_power", n));
+    }
 }

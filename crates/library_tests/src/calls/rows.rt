@@ -136,14 +136,23 @@ fn has_odd_item<T: Integer>(n: T) -> bool
 #[tactic(auto, unfolding(num_integer::specs::Coefficient::coefficient))]
 #[test]
 fn loops(rt: HostRuntime) {
-    assert!(rt; greatest(4) == 6 && greatest_signed(5) == 10 && greatest_signed(-1) == 0);
-    assert!(rt; greatest_where_it_fits(67) == Some(14226520737620288370));
-    assert!(rt; greatest_where_it_fits(68) == None);
-    assert!(rt; first_above(6, 6) == Some(15) && first_above(6, 20) == None);
-    assert!(rt; last_to_grow(4) == 6 && last_to_grow(5) == 10 && last_to_grow(-3) == 0);
-    assert!(rt; first_even(6u32) == Some(6) && first_even(7i64) == None);
-    assert!(rt; are_odd(IterBinomial::new(3u8)) && !are_odd(IterBinomial::new(4u8)));
-    assert!(rt; greatest_item(5u32) == Some(10) && greatest_item(-1i32) == None);
-    assert!(rt; greatest_kept(4u64) == 6 && greatest_kept(-1i64) == 0);
-    assert!(rt; has_odd_item(4i16) && !has_odd_item(-4i8));
+    assert!(rt; (greatest(4), greatest_signed(5), greatest_signed(-1)) == (6, 10, 0));
+    let fitting = (greatest_where_it_fits(67), greatest_where_it_fits(68));
+    assert!(rt; fitting == (Some(14226520737620288370), None));
+    assert!(rt; (first_above(6, 6), first_above(6, 20)) == (Some(15), None));
+    assert!(rt; (last_to_grow(4), last_to_grow(5), last_to_grow(-3)) == (6, 10, 0));
+}
+
+#[tactic(auto, unfolding(num_integer::specs::Coefficient::coefficient))]
+#[test]
+fn generic_loops(rt: HostRuntime) {
+    assert!(rt; (first_even(6u32), first_even(7i64)) == (Some(6), None));
+    let odd = (
+        are_odd(IterBinomial::new(3u8)),
+        are_odd(IterBinomial::new(4u8)),
+    );
+    assert!(rt; odd == (true, false));
+    assert!(rt; (greatest_item(5u32), greatest_item(-1i32)) == (Some(10), None));
+    assert!(rt; (greatest_kept(4u64), greatest_kept(-1i64)) == (6, 0));
+    assert!(rt; (has_odd_item(4i16), has_odd_item(-4i8)) == (true, false));
 }

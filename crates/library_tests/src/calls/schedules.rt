@@ -53,8 +53,13 @@ fn meetings(rt: HostRuntime) {
             &("next_meeting", now, a, b),
         );
     }
-    assert!(rt; next_meeting(10u8, (1, 4), (3, 6)) == At(21));
-    assert!(rt; next_meeting(250u8, (1, 4), (3, 6)) == Beyond);
+    for (now, meeting) in [(10u8, At(21)), (250, Beyond)] {
+        holds_at(
+            &rt,
+            next_meeting(now, (1, 4), (3, 6)) == meeting,
+            &("next_meeting", now),
+        );
+    }
 }
 
 #[test]

@@ -1,7 +1,7 @@
 //! Dates some months later, and the days of a month that have a given day of the week.
 
 use super::{MAX, MIN, date};
-use crate::assertions::{each_holds, holds_at};
+use crate::assertions::holds_at;
 use calendar::Weekday::{Friday, Monday, Sunday, Thursday};
 use calendar::{Date, Weekday, last_weekday_of_month, nth_weekday_of_month};
 
@@ -32,8 +32,10 @@ fn months_later(rt: HostRuntime) {
         holds_at(&rt, found == Some(date(&rt, to)), &("plus_months", months));
     }
     let (first, last) = (date(&rt, (MIN, 1, 1)), date(&rt, (MAX, 12, 31)));
-    assert!(rt; first.plus_months(-1) == None && last.plus_months(1) == None);
-    assert!(rt; first.plus_months(MIN) == None && last.plus_months(MAX) == None);
+    for (before, after) in [(-1, 1), (MIN, MAX)] {
+        let beyond = (first.plus_months(before), last.plus_months(after));
+        holds_at(&rt, beyond == (None, None), &("plus_months", before, after));
+    }
 }
 
 /// Years of twelve months: 29 February becomes 28 February in years that are no leap years.
@@ -85,10 +87,17 @@ const PLACES: [(i64, u8, Weekday, u8, Option<u8>); 24] = [
 /// 2192 and 2207.
 #[test]
 fn places_of_weekdays(rt: HostRuntime) {
-    each_holds(&rt, &PLACES, |(year, month, weekday, n, day)| {
-        let expected = day.and_then(|day| Date::new(year, month, day));
-        nth_weekday_of_month(year, month, weekday, n) == expected
-    });
+    for (year, month, weekday, n, day) in PLACES {
+        let expected = match day {
+            Some(day) => Date::new(year, month, day),
+            None => None,
+        };
+        holds_at(
+            &rt,
+            nth_weekday_of_month(year, month, weekday, n) == expected,
+            &("nth_weekday_of_month", year, month, weekday, n),
+        );
+    }
 }
 
 /// A year, a month, a day of the week, and the last day of the month that has it.
@@ -107,11 +116,19 @@ const LAST: [(i64, u8, Weekday, u8); 10] = [
 
 #[test]
 fn last_weekdays_of_months(rt: HostRuntime) {
-    each_holds(&rt, &LAST, |(year, month, weekday, day)| {
-        last_weekday_of_month(year, month, weekday) == Date::new(year, month, day)
-    });
+    for (year, month, weekday, day) in LAST {
+        holds_at(
+            &rt,
+            last_weekday_of_month(year, month, weekday) == Date::new(year, month, day),
+            &("last_weekday_of_month", year, month, weekday),
+        );
+    }
     for month in [0, 13, u8::MAX] {
-        assert!(rt; last_weekday_of_month(2026, month, Friday) == None);
+        holds_at(
+            &rt,
+            last_weekday_of_month(2026, month, Friday) == None,
+            &("last_weekday_of_month", month),
+        );
     }
 }
 

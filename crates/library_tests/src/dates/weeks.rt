@@ -1,11 +1,11 @@
 //! The first day from another on that has a given day of the week, the last one up to it, and the numbers
 //! of the days of the week.
 
-use crate::assertions::{each_holds, holds_at};
+use crate::assertions::holds_at;
 use calendar::Weekday::{Friday, Monday, Saturday, Sunday, Thursday, Tuesday, Wednesday};
 use calendar::{Weekday, first_weekday_on_or_after, last_weekday_on_or_before, weekday_of};
 
-const FIRST: [(i64, Weekday, Option<i64>); 10] = [
+const FIRST: [(i64, Weekday, Option<i64>); 11] = [
     (0, Thursday, Some(0)),
     (0, Friday, Some(1)),
     (0, Wednesday, Some(6)),
@@ -16,17 +16,21 @@ const FIRST: [(i64, Weekday, Option<i64>); 10] = [
     (20779, Thursday, Some(20783)),
     (i64::MAX, Thursday, Some(i64::MAX)),
     (i64::MIN, Monday, Some(i64::MIN + 5)),
+    (i64::MAX, Friday, None),
 ];
 
 #[test]
 fn first_weekdays(rt: HostRuntime) {
-    each_holds(&rt, &FIRST, |(day, weekday, first)| {
-        first_weekday_on_or_after(day, weekday) == first
-    });
-    assert!(rt; first_weekday_on_or_after(i64::MAX, Friday) == None);
+    for (day, weekday, first) in FIRST {
+        holds_at(
+            &rt,
+            first_weekday_on_or_after(day, weekday) == first,
+            &("first_weekday_on_or_after", day, weekday),
+        );
+    }
 }
 
-const LAST: [(i64, Weekday, Option<i64>); 11] = [
+const LAST: [(i64, Weekday, Option<i64>); 14] = [
     (0, Thursday, Some(0)),
     (0, Friday, Some(-6)),
     (0, Wednesday, Some(-1)),
@@ -38,16 +42,20 @@ const LAST: [(i64, Weekday, Option<i64>); 11] = [
     (i64::MIN, Wednesday, Some(i64::MIN)),
     (i64::MAX, Thursday, Some(i64::MAX)),
     (i64::MAX, Friday, Some(i64::MAX - 6)),
+    (i64::MIN, Tuesday, None),
+    (i64::MIN + 5, Tuesday, None),
+    (i64::MIN + 1, Thursday, Some(i64::MIN + 1)),
 ];
 
 #[test]
 fn last_weekdays(rt: HostRuntime) {
-    each_holds(&rt, &LAST, |(day, weekday, last)| {
-        last_weekday_on_or_before(day, weekday) == last
-    });
-    assert!(rt; last_weekday_on_or_before(i64::MIN, Tuesday) == None);
-    assert!(rt; last_weekday_on_or_before(i64::MIN + 5, Tuesday) == None);
-    assert!(rt; last_weekday_on_or_before(i64::MIN + 1, Thursday) == Some(i64::MIN + 1));
+    for (day, weekday, last) in LAST {
+        holds_at(
+            &rt,
+            last_weekday_on_or_before(day, weekday) == last,
+            &("last_weekday_on_or_before", day, weekday),
+        );
+    }
 }
 
 /// The days of the week in the order of their numbers by ISO 8601.

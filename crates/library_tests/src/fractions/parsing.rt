@@ -3,7 +3,7 @@
 ghost use Rattle.std.specs.Prelude.{◌≡◌, IfOk, Ok};
 
 use super::{MAX, MIN, ratio};
-use crate::assertions::{each_holds, holds_at};
+use crate::assertions::holds_at;
 use ratio64::ParseRatioError::{NotAFraction, NotFitting, TooLong, ZeroDenominator};
 use ratio64::{ParseRatioError, Ratio, RatioError};
 use std::alloc::{AllocError, Global};
@@ -106,9 +106,15 @@ fn read(text: &str) -> Result<(i64, i64), ParseRatioError> {
 
 #[test]
 fn texts_read(rt: HostRuntime) {
-    each_holds(&rt, &READ, |(text, expected)| read(text) == expected);
-    each_holds(&rt, &LONG, |(text, expected)| read(text) == expected);
-    each_holds(&rt, &OTHERS, |text| read(text) == Err(NotAFraction));
+    for (text, expected) in READ {
+        holds_at(&rt, read(text) == expected, &("parse", text));
+    }
+    for (text, expected) in LONG {
+        holds_at(&rt, read(text) == expected, &("parse", text));
+    }
+    for text in OTHERS {
+        holds_at(&rt, read(text) == Err(NotAFraction), &("parse", text));
+    }
 }
 
 #[test]

@@ -1,7 +1,7 @@
 //! Each number of `u8` and of `i8`, against computation in 128 bits and by trial.
 
-use super::types::{Check, check_at, number, optional};
 use crate::assertions::holds_at;
+use crate::types::{Check, check_at, number, optional};
 use modular::{
     Modular, difference_modulo, inverse_modulo, negation_modulo, power_modulo, product_modulo,
     quotient_modulo, residue, solutions, sum_modulo,

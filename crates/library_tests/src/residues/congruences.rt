@@ -1,7 +1,7 @@
 //! Linear congruences.
 
 use super::{MAX, MIN};
-use crate::assertions::each_holds;
+use crate::assertions::holds_at;
 use modular::CommonSolution::{At, Beyond, Never};
 use modular::{
     CommonSolution, chinese_remainder, count_congruent, next_common_solution,
@@ -11,10 +11,33 @@ use num_integer::Fits;
 
 #[test]
 fn single_congruences(rt: HostRuntime) {
-    assert!(rt; solutions(6u8, 4, 10) == Some((4, 5)) && solutions(6i8, 3, 10) == None);
-    assert!(rt; solutions(-3i8, 2, 7) == Some((4, 7)) && solutions(0i8, 0, 5) == Some((0, 1)));
-    assert!(rt; solutions(0u8, 1, 5) == None && solutions(5u8, 0, 1) == Some((0, 1)));
-    assert!(rt; solutions(200u8, 40, 240) == Some((5, 6)));
+    for (a, b, m, class) in [
+        (6u8, 4, 10, Some((4, 5))),
+        (0, 1, 5, None),
+        (5, 0, 1, Some((0, 1))),
+        (200, 40, 240, Some((5, 6))),
+    ] {
+        holds_at(
+            &rt,
+            m > 0 && solutions(a, b, m) == class,
+            &("solutions", a, b, m),
+        );
+    }
+    for (a, b, m, class) in [
+        (6i8, 3, 10, None),
+        (-3, 2, 7, Some((4, 7))),
+        (0, 0, 5, Some((0, 1))),
+    ] {
+        holds_at(
+            &rt,
+            m > 0 && solutions(a, b, m) == class,
+            &("solutions", a, b, m),
+        );
+    }
+}
+
+#[test]
+fn wide_single_congruences(rt: HostRuntime) {
     assert!(rt;
         solutions(6000000000000000002u64, 4, 10000000000000000000)
             == Some((4000000000000000002, 5000000000000000000))
@@ -45,9 +68,13 @@ const BOTH: [Row; 9] = [
 
 #[test]
 fn two_congruences(rt: HostRuntime) {
-    each_holds(&rt, &BOTH, |((a, m), (b, n), both)| {
-        m > 0 && n > 0 && m.lcm_fits(&n) && chinese_remainder(a, m, b, n) == both
-    });
+    for ((a, m), (b, n), both) in BOTH {
+        holds_at(
+            &rt,
+            m > 0 && n > 0 && m.lcm_fits(&n) && chinese_remainder(a, m, b, n) == both,
+            &("chinese_remainder", a, m, b, n),
+        );
+    }
     let (m, n) = (4294967291u64, 4294967279);
     assert!(rt;
         m.lcm_fits(&n)
@@ -68,10 +95,20 @@ const NEXT_CONGRUENT: [(i64, i64, i64, Option<i64>); 7] = [
 
 #[test]
 fn next_congruent_numbers(rt: HostRuntime) {
-    each_holds(&rt, &NEXT_CONGRUENT, |(from, first, step, next)| {
-        step > 0 && next_congruent(from, first, step) == next
-    });
-    assert!(rt; next_congruent(120i8, 1, 9) == Some(127) && next_congruent(120i8, 2, 9) == None);
+    for (from, first, step, next) in NEXT_CONGRUENT {
+        holds_at(
+            &rt,
+            step > 0 && next_congruent(from, first, step) == next,
+            &("next_congruent", from, first, step),
+        );
+    }
+    for (first, next) in [(1, Some(127)), (2, None)] {
+        holds_at(
+            &rt,
+            next_congruent(120i8, first, 9) == next,
+            &("next_congruent", first),
+        );
+    }
 }
 
 /// Where to end, a number and a step, and the previous congruent number.
@@ -87,10 +124,20 @@ const PREVIOUS_CONGRUENT: [(i64, i64, i64, Option<i64>); 7] = [
 
 #[test]
 fn previous_congruent_numbers(rt: HostRuntime) {
-    each_holds(&rt, &PREVIOUS_CONGRUENT, |(to, first, step, previous)| {
-        step > 0 && previous_congruent(to, first, step) == previous
-    });
-    assert!(rt; previous_congruent(3u8, 4, 9) == None && previous_congruent(4u8, 4, 9) == Some(4));
+    for (to, first, step, previous) in PREVIOUS_CONGRUENT {
+        holds_at(
+            &rt,
+            step > 0 && previous_congruent(to, first, step) == previous,
+            &("previous_congruent", to, first, step),
+        );
+    }
+    for (to, previous) in [(3u8, None), (4, Some(4))] {
+        holds_at(
+            &rt,
+            previous_congruent(to, 4, 9) == previous,
+            &("previous_congruent", to),
+        );
+    }
     assert!(rt; previous_congruent(u128::MAX, 7, u128::MAX) == Some(7));
 }
 
@@ -110,13 +157,27 @@ const COUNT_CONGRUENT: [(i8, i8, i8, i8, Option<i8>); 10] = [
 
 #[test]
 fn counts_of_congruent_numbers(rt: HostRuntime) {
-    each_holds(&rt, &COUNT_CONGRUENT, |(from, to, first, step, count)| {
-        step > 0 && count_congruent(from, to, first, step) == count
-    });
-    assert!(rt; count_congruent(0, u64::MAX, 0, 1) == None);
-    assert!(rt; count_congruent(1, u64::MAX, 0, 1) == Some(u64::MAX));
-    assert!(rt; count_congruent(MIN, MAX, 0, 2) == None);
-    assert!(rt; count_congruent(MIN, MAX, 0, 3) == Some(6148914691236517205));
+    for (from, to, first, step, count) in COUNT_CONGRUENT {
+        holds_at(
+            &rt,
+            step > 0 && count_congruent(from, to, first, step) == count,
+            &("count_congruent", from, to, first, step),
+        );
+    }
+}
+
+#[test]
+fn counts_at_the_ends(rt: HostRuntime) {
+    for (from, count) in [(0, None), (1, Some(u64::MAX))] {
+        holds_at(
+            &rt,
+            count_congruent(from, u64::MAX, 0, 1) == count,
+            &("count_congruent", from),
+        );
+    }
+    let halves = count_congruent(MIN, MAX, 0, 2);
+    let thirds = count_congruent(MIN, MAX, 0, 3);
+    assert!(rt; (halves, thirds) == (None, Some(6148914691236517205)));
     assert!(rt; count_congruent(i128::MIN, i128::MAX, 0, i128::MAX) == Some(3));
 }
 
@@ -140,12 +201,20 @@ const NEXT_COMMON_SOLUTION: [Next; 12] = [
 
 #[test]
 fn next_common_solutions(rt: HostRuntime) {
-    each_holds(&rt, &NEXT_COMMON_SOLUTION, |(from, (a, m), (b, n), next)| {
-        m > 0 && n > 0 && next_common_solution(from, a, m, b, n) == next
-    });
-    let (m, n) = (u128::MAX, u128::MAX - 1);
-    assert!(rt; next_common_solution(0, 5, m, 5, n) == At(5));
-    assert!(rt; next_common_solution(6, 5, m, 5, n) == Beyond);
+    for (from, (a, m), (b, n), next) in NEXT_COMMON_SOLUTION {
+        holds_at(
+            &rt,
+            m > 0 && n > 0 && next_common_solution(from, a, m, b, n) == next,
+            &("next_common_solution", from, a, m, b, n),
+        );
+    }
+    for (from, next) in [(0, At(5)), (6, Beyond)] {
+        holds_at(
+            &rt,
+            next_common_solution(from, 5, u128::MAX, 5, u128::MAX - 1) == next,
+            &("next_common_solution", from),
+        );
+    }
 }
 
 #[test]

@@ -2,8 +2,8 @@
 
 ghost use Rattle.std.specs.Prelude.{◌<ℤ◌, pos};
 
-use super::types::{Check, check_at, number, optional};
 use crate::assertions::holds_at;
+use crate::types::{Check, check_at, number, optional};
 use modular::{
     CommonSolution, Modular, count_congruent, next_common_solution_of, next_congruent,
     previous_congruent,
@@ -66,11 +66,10 @@ impl Check for Beside {
             for n in low..=high {
                 let x = number::<T>(rt, n);
                 let (least, _, _) = congruent_in(n, high, first, step);
-                let next = next_congruent(x, a, m) == optional::<T>(least);
-                holds_at(rt, next, &("next_congruent", n, first, step));
                 let (_, greatest, _) = congruent_in(low, n, first, step);
-                let previous = previous_congruent(x, a, m) == optional::<T>(greatest);
-                holds_at(rt, previous, &("previous_congruent", n, first, step));
+                let expected = (optional::<T>(least), optional::<T>(greatest));
+                let found = (next_congruent(x, a, m), previous_congruent(x, a, m));
+                holds_at(rt, found == expected, &("next_congruent", n, first, step));
             }
         }
     }

@@ -3,6 +3,7 @@
 use super::P128;
 use crate::assertions::holds_at;
 use modular::product_modulo;
+use std::process::Abort;
 
 /// Numbers of more than 64 bits and about there: powers of two with their neighbours, the greatest
 /// prime, and digits of 64 bits that are all ones or all but none.
@@ -43,20 +44,24 @@ fn long_multiplication(x: u128, y: u128, m: u128) -> u128 {
     total
 }
 
+/// The products of a number.
+fn has_products(rt: &impl Abort, x: u128, m: u128) {
+    for y in NUMBERS {
+        if x < m && y < m {
+            holds_at(
+                rt,
+                product_modulo(x, y, m) == long_multiplication(x, y, m),
+                &("product_modulo", x, y, m),
+            );
+        }
+    }
+}
+
 #[test]
 fn products_of_two_digits(rt: HostRuntime) {
     for m in NUMBERS {
         for x in NUMBERS {
-            for y in NUMBERS {
-                if x < m && y < m {
-                    let product = long_multiplication(x, y, m);
-                    holds_at(
-                        &rt,
-                        product_modulo(x, y, m) == product,
-                        &("product_modulo", x, y, m),
-                    );
-                }
-            }
+            has_products(&rt, x, m);
         }
     }
 }

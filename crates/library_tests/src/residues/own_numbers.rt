@@ -31,21 +31,17 @@ fn has_operations(rt: &impl Abort, (a, x): (i64, Cents), (b, y): (i64, Cents), m
     let n = cents(m).expect(rt, "the modulus is an amount");
     if is_below(zero(), n) {
         let (a, b) = (i128::from(a), i128::from(b));
-        holds_at(
-            rt,
-            number_of(sum_modulo(x, y, n)) == residue_of(a.checked_add(b), m),
-            &("sum_modulo", a, b, m),
+        let found = (
+            number_of(sum_modulo(x, y, n)),
+            number_of(difference_modulo(x, y, n)),
+            number_of(product_modulo(x, y, n)),
         );
-        holds_at(
-            rt,
-            number_of(difference_modulo(x, y, n)) == residue_of(a.checked_sub(b), m),
-            &("difference_modulo", a, b, m),
+        let expected = (
+            residue_of(a.checked_add(b), m),
+            residue_of(a.checked_sub(b), m),
+            residue_of(a.checked_mul(b), m),
         );
-        holds_at(
-            rt,
-            number_of(product_modulo(x, y, n)) == residue_of(a.checked_mul(b), m),
-            &("product_modulo", a, b, m),
-        );
+        holds_at(rt, found == expected, &("sum_modulo", a, b, m));
     }
 }
 

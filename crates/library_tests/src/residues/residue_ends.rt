@@ -1,8 +1,8 @@
 //! Each call of `modular` at both ends of each type of the library and at 0, 1 and 2, modulo the
 //! greatest number of the type, against computations on the small numbers that are congruent.
 
-use super::types::{Check, check_at_each, optional_value, value};
 use crate::assertions::holds_at;
+use crate::types::{Check, check_at_each, optional_value, value};
 use modular::{
     CommonSolution, Modular, chinese_remainder, difference_modulo, inverse_modulo, negation_modulo,
     next_common_solution, next_congruent, power_modulo, product_modulo, quotient_modulo, residue,
@@ -142,6 +142,15 @@ fn optional_pair<T: Tested>(pair: Option<(SignedMagnitude, SignedMagnitude)>) ->
     ))
 }
 
+/// The numbers congruent to two, modulo the same number: those of one class, or none.
+fn class_of_both(z: i128, w: i128, m: u128) -> Option<(SignedMagnitude, SignedMagnitude)> {
+    if z == w {
+        Some((rest_of(z, m), (false, m)))
+    } else {
+        None
+    }
+}
+
 /// The factors that lead from one number to another, and the numbers that are congruent to both.
 fn has_classes<T: Modular + Tested>(rt: &impl Abort, (a, z): Near, (b, w): Near, m: u128) {
     let (x, y, n) = operands::<T>(rt, a, b, m);
@@ -149,18 +158,27 @@ fn has_classes<T: Modular + Tested>(rt: &impl Abort, (a, z): Near, (b, w): Near,
         let factors = optional_pair::<T>(factors_of(z, w, m));
         holds_at(rt, solutions(x, y, n) == factors, &("solutions", a, b, m));
         if n.lcm_fits(&n) {
-            let same = if z == w {
-                Some((rest_of(z, m), (false, m)))
-            } else {
-                None
-            };
-            let both = optional_pair::<T>(same);
-            holds_at(
-                rt,
-                chinese_remainder(x, n, y, n) == both,
-                &("chinese_remainder", a, b, m),
-            );
+            let both = optional_pair::<T>(class_of_both(z, w, m));
+            let found = chinese_remainder(x, n, y, n);
+            holds_at(rt, found == both, &("chinese_remainder", a, b, m));
         }
+    }
+}
+
+/// The number as an answer, where there is one.
+fn at_or_beyond<T: Modular>(next: Option<T>) -> CommonSolution<T> {
+    match next {
+        Some(t) => CommonSolution::At(t),
+        None => CommonSolution::Beyond,
+    }
+}
+
+/// The number as an answer, or that there is none.
+fn at_or_never<T: Modular>(x: T, there: bool) -> CommonSolution<T> {
+    if there {
+        CommonSolution::At(x)
+    } else {
+        CommonSolution::Never
     }
 }
 
@@ -169,24 +187,13 @@ fn has_next<T: Modular + Tested>(rt: &impl Abort, (a, z): Near, (b, w): Near, m:
     let (x, y, n) = operands::<T>(rt, a, b, m);
     if is_below(zero(), n) {
         let next = optional_value::<T>(sum(a, rest_of(w.wrapping_sub(z), m)));
-        holds_at(
-            rt,
-            next_congruent(x, y, n) == next,
-            &("next_congruent", a, b, m),
+        let expected = (next, at_or_beyond(next), at_or_never(x, z == w));
+        let found = (
+            next_congruent(x, y, n),
+            next_common_solution(x, y, n, y, n),
+            next_common_solution(x, x, n, y, n),
         );
-        let again = match next {
-            Some(t) => CommonSolution::At(t),
-            None => CommonSolution::Beyond,
-        };
-        let found = next_common_solution(x, y, n, y, n);
-        holds_at(rt, found == again, &("next_common_solution", a, b, m));
-        let both = if z == w {
-            CommonSolution::At(x)
-        } else {
-            CommonSolution::Never
-        };
-        let found = next_common_solution(x, x, n, y, n);
-        holds_at(rt, found == both, &("next_common_solution", a, b, m));
+        holds_at(rt, found == expected, &("next_congruent", a, b, m));
     }
 }
 

@@ -3,8 +3,8 @@
 
 ghost use Rattle.std.specs.Prelude.{◌<◌};
 
-use super::types::{Check, check_at_each, value};
 use crate::assertions::holds_at;
+use crate::types::{Check, check_at_each, value};
 use modular::Modular;
 use modular::counted::power_modulo_counted;
 use num_integer::operators::{is_below, zero};
@@ -79,7 +79,14 @@ fn has_power<T: Modular + Tested>(rt: &impl Abort, a: SignedMagnitude, exponent:
     }
 }
 
-/// Each number and exponent at each modulus.
+/// The power and the turns at one number and modulus, for each exponent.
+fn has_powers<T: Modular + Tested>(rt: &impl Abort, a: SignedMagnitude, m: u128) {
+    for exponent in EXPONENTS {
+        has_power::<T>(rt, a, exponent, m);
+    }
+}
+
+/// Each number at each modulus.
 #[derive(Drop)]
 struct Powers;
 
@@ -88,9 +95,7 @@ impl Check for Powers {
         let (low, high) = T::ends();
         for m in moduli(high.min(1 << 64)) {
             for a in numbers(low, high) {
-                for exponent in EXPONENTS {
-                    has_power::<T>(rt, a, exponent, m);
-                }
+                has_powers::<T>(rt, a, m);
             }
         }
     }

@@ -1,4 +1,4 @@
-//! Checks of `modular` that are made at each type of the library.
+//! Checks that are made at types of the library, which a row names.
 
 use modular::Modular;
 use std::process::Abort;
@@ -7,7 +7,7 @@ use test_types::types::Type::{I8, I16, I32, I64, I128, Isize, U8, U16, U32, U64,
 use test_types::types::{NATIVE, Tested, Type};
 
 /// The number of this sign and magnitude as a value of the type.
-pub(super) fn value<T: Tested>(rt: &impl Abort, n: SignedMagnitude) -> T
+pub(crate) fn value<T: Tested>(rt: &impl Abort, n: SignedMagnitude) -> T
     ensures { T.fits (T.value result) }
 {
     T::from_signed_magnitude(n).expect(rt, "the type has the number")
@@ -15,29 +15,29 @@ pub(super) fn value<T: Tested>(rt: &impl Abort, n: SignedMagnitude) -> T
 
 /// The number of this sign and magnitude as a value of the type, where one is given and the type has
 /// it.
-pub(super) fn optional_value<T: Tested>(n: Option<SignedMagnitude>) -> Option<T> {
+pub(crate) fn optional_value<T: Tested>(n: Option<SignedMagnitude>) -> Option<T> {
     T::from_signed_magnitude(n?)
 }
 
 /// The number as a value of the type.
-pub(super) fn number<T: Tested>(rt: &impl Abort, n: i16) -> T
+pub(crate) fn number<T: Tested>(rt: &impl Abort, n: i16) -> T
     ensures { T.fits (T.value result) }
 {
     T::from_number(n.into()).expect(rt, "the type has the number")
 }
 
 /// The number as a value of the type, where one is given.
-pub(super) fn optional<T: Tested>(n: Option<i16>) -> Option<T> {
+pub(crate) fn optional<T: Tested>(n: Option<i16>) -> Option<T> {
     T::from_number(n?.into())
 }
 
 /// What is expected of calls at a type.
-pub(super) trait Check {
+pub(crate) trait Check {
     fn at<T: Modular + Tested>(&self, rt: &impl Abort);
 }
 
 /// Makes the check at the type.
-pub(super) fn check_at(rt: &impl Abort, it: Type, check: &impl Check) {
+pub(crate) fn check_at(rt: &impl Abort, it: Type, check: &impl Check) {
     match it {
         I8 => check.at::<i8>(rt),
         I16 => check.at::<i16>(rt),
@@ -62,7 +62,7 @@ fn check_at_unsigned(rt: &impl Abort, it: Type, check: &impl Check) {
 }
 
 /// Makes the check at each type of the library.
-pub(super) fn check_at_each(rt: &impl Abort, check: &impl Check) {
+pub(crate) fn check_at_each(rt: &impl Abort, check: &impl Check) {
     for it in NATIVE {
         check_at(rt, it, check);
     }
