@@ -1,4 +1,4 @@
-//! The tests of `ratio64`, `modular`, `calendar` and `uses`.
+//! The tests of `modular` and `uses`, callers of `num_integer`, and the tasks of the cookbook.
 #![tactic(auto)]
 
 #[cfg(test)]
@@ -7,10 +7,6 @@ mod assertions;
 mod calls;
 #[cfg(test)]
 mod cookbook;
-#[cfg(test)]
-mod dates;
-#[cfg(test)]
-mod fractions;
 #[cfg(test)]
 mod residues;
 #[cfg(test)]

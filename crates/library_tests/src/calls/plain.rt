@@ -151,13 +151,15 @@ fn row_of_three() -> IterBinomial<u8>
     IterBinomial::new(3)
 }
 
-/// The greatest common divisor of two numbers of which three calls have an answer.
-fn divisor_after_three_calls(a: i64, b: i64) -> Option<i64>
+/// The greatest common divisor of two numbers of which five calls have an answer.
+fn divisor_after_five_calls(a: i64, b: i64) -> Option<i64>
     ensures { IfSome result (λ g. IsGreatestCommonDivisor a b g) }
 {
     let quotient = checked::div_floor(a, b)?;
     let divisor = checked::gcd(a, b)?;
-    let sum = checked::sum(divisor, quotient)?;
+    let common = checked::lcm(a, b)?;
+    let product = checked::product(divisor, common)?;
+    let sum = checked::sum(product, quotient)?;
     if sum == a { None } else { Some(divisor) }
 }
 
@@ -198,8 +200,8 @@ fn many_calls(rt: HostRuntime) {
     for ((a, b), divisor) in [((8, 6), Some(2)), ((8, 0), None), ((i64::MIN, -1), None)] {
         holds_at(
             &rt,
-            divisor_after_three_calls(a, b) == divisor,
-            &("divisor_after_three_calls", a, b),
+            divisor_after_five_calls(a, b) == divisor,
+            &("divisor_after_five_calls", a, b),
         );
     }
 }
