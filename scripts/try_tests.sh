@@ -1,6 +1,7 @@
 #!/usr/bin/env bash
 # Runs the tests before any proof: those of each crate beside those of the others, as `rt try --test` does. A test may take the
-# seconds that some of them need on a slow machine. Prints a line for each crate, what went wrong, and a count at the end.
+# seconds that some of them need on a slow machine. Prints a line for each crate, what went wrong, and a count at the end. The 15
+# million results of `replay` take longer than all others together, and are computed where it is named.
 #
 # usage: scripts/try_tests.sh [NAME..]
 set -uo pipefail
@@ -15,7 +16,7 @@ failed=0
 names=("$@")
 if [ ${#names[@]} -eq 0 ]; then
     for crate in crates/*; do
-        grep -rqF '#[test]' "$crate/src" && names+=("${crate#crates/}")
+        [ "$crate" != crates/replay ] && grep -rqF '#[test]' "$crate/src" && names+=("${crate#crates/}")
     done
 fi
 

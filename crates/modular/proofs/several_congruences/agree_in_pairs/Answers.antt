@@ -1,9 +1,29 @@
-use Rattle.std.proofs.Common.{refl, subst, sym}
+use Rattle.std.proofs.Common.{ap, arith, length, refl, subst, sym}
 use Rattle.std.proofs.lemmas.Bool.{iff_false}
-use Rattle.std.proofs.lemmas.List.Elements.{All-rest}
+use Rattle.std.proofs.lemmas.List.Elements.{All-head, All-rest, All-same}
 use Rattle.modular.specs.Agreement.{AgreeInPairs}
 use Rattle.modular.proofs.Agreements.{IsInRange, IsPositive, SolvesAt, agreeing_have_solution, first_agrees, no_pairs, nothing_found}
 use Rattle.modular.proofs.several_congruences.agree_in_pairs.Goals as goal
+
+pub pairs-init : goal.pairs-init
+pairs-init g c = record { in_range = c.requires.in_range; positive = c.requires.positive; solved = λ x each. each; agree = λ pairs. pairs }
+
+pub agrees_with_each-requires : goal.agrees_with_each-requires
+agrees_with_each-requires g c =
+    let value = g.T.Number.value in
+    let kept = c.pairs.invariant in
+    let split = c.in-Some.ensures.cases.0 in
+    let own = All-head (IsInRange value g.T.Number.fits) _ _ (All-same (IsInRange value g.T.Number.fits) _ _ (sym split) kept.in_range) in
+    record {
+      a_in_range = own.0;
+      m_in_range = own.1;
+      m_positive = All-head (IsPositive value) _ _ (All-same (IsPositive value) _ _ (sym split) kept.positive);
+      in_range = All-rest (IsInRange value g.T.Number.fits) _ _ _ split kept.in_range;
+      positive = All-rest (IsPositive value) _ _ _ split kept.positive;
+    }
+
+pub pairs-smaller : goal.pairs-smaller
+pairs-smaller g c = omega (arith, ap length c.in-Some.ensures.cases.0)
 
 pub returns-then-not-agrees_with_each : goal.returns-then-not-agrees_with_each
 returns-then-not-agrees_with_each g c = (
