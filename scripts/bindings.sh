@@ -1,12 +1,16 @@
 #!/usr/bin/env bash
 # Builds the archive for C, compares the header and the table of ctypes with its sources, looks at its symbols, and calls it
 # from C, C++ and Python. Prints a line for each check, a line for each compiler that the machine lacks, and a count at the end.
+# With --proved it builds the archive over the libraries that `rt ci` has just proved and left, which `rt lib` proves again.
+#
+# usage: scripts/bindings.sh [--proved]
 set -uo pipefail
 cd "$(dirname "$0")/.."
 
 archive=$PWD/crates/cellarcove_c/out/libcellarcove_c.a
 header=$PWD/bindings/c/cellarcove.h
 caller=$PWD/bindings/c/test.c
+libraries=${1:-}
 work=$(mktemp -d)
 trap 'rm -rf "$work"' EXIT
 passed=0
@@ -30,7 +34,27 @@ has() {
     command -v "$1" >/dev/null || { echo "$2: skipped, since there is no $1"; return 1; }
 }
 
-build() { (cd crates/cellarcove_c && rt lib); }
+# over_proved: builds the archive over the libraries that `rt ci` has left.
+over_proved() {
+    local kit name words=()
+    kit=$(dirname "$(rt doc)")
+    for name in integer_core integer_roots num_integer calendar modular ratio64; do
+        [ -d "crates/$name/out/rlib/$name.rlib" ] || return 1
+        words+=(-L "dependency=$PWD/crates/$name/out/rlib")
+    done
+    for name in num_integer calendar modular ratio64; do
+        words+=(--extern "$name=$PWD/crates/$name/out/rlib/$name.rlib")
+    done
+    mkdir -p crates/cellarcove_c/out
+    (cd crates/cellarcove_c && "$kit/bin/rattle" build --crate-name cellarcove_c src/lib.rt --crate-type staticlib \
+        --extern "std=$kit/rlibs/std.rlib" -L "dependency=$kit/rlibs" "${words[@]}" --links cellarcove_c= --jobs "$(nproc)" \
+        --antt-project "$kit/rattle/logic/antt-project.json" --logic-built "$kit/logic_built" \
+        --toolchain "$kit/toolchain" --backend llvm -o "$archive")
+}
+
+build() {
+    [ "$libraries" = --proved ] && over_proved || (cd crates/cellarcove_c && rt lib)
+}
 
 # The archive exports the calls of the sources and nothing else.
 exports_its_calls() {
