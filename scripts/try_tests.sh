@@ -1,7 +1,7 @@
 #!/usr/bin/env bash
 # Runs the tests before any proof: those of each crate beside those of the others, as `rt try --test` does. A test may take the
 # seconds that some of them need on a slow machine. Prints a line for each crate, what went wrong, and a count at the end. The 15
-# million results of `replay` take longer than all others together, and are computed where it is named.
+# million results of `replay` take minutes more, and are computed where it is named.
 #
 # usage: scripts/try_tests.sh [NAME..]
 set -uo pipefail
