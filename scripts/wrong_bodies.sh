@@ -24,7 +24,7 @@ build_libraries() {
     local name
     while IFS=': ' read -r name _; do
         grep -qE ": .*\b$name\b" crates.txt || continue
-        (cd "$work/repository/crates/$name" && rt lib) >"$work/built" 2>&1 && continue
+        (cd "$work/repository/crates/$name" && rt lib) </dev/null >"$work/built" 2>&1 && continue
         cat "$work/built"
         return 1
     done <crates.txt
