@@ -92,6 +92,10 @@ module _ {X : Type 0} (value : X → ℤ) where
   abbrev pub SolvesAt : ℤ → X × X → Type 0
   SolvesAt x c = AreCongruent (value c.1) x (value c.0)
 
+  -- what is asked of all pairs, of the one at an index
+  pub pair_at : (fits : ℤ → Type 0) (pairs : List (X × X)) (i : ℕ) {x : X × X} → x ≡ get_or pairs i x → i < length pairs → All (IsInRange fits) pairs → All IsPositive pairs → IsInRange fits x × IsPositive x
+  pair_at fits pairs i is within in_range positive = (at_item (IsInRange fits) pairs i is within in_range, at_item IsPositive pairs i is within positive)
+
   pub common_with : (cs : List (X × X)) {a m : ℤ} → pos 0 <ℤ m → All IsPositive cs → AgreesWithEach value a m cs → AgreeInPairs value cs → (x : ℤ) × AreCongruent m x a × SolvesEach value cs x
   common_with [] {a} {m} up positive agrees pairs = (a, congruent-refl a, All-nil (SolvesAt a))
   common_with (c ∷ cs) {a} {m} up positive agrees pairs =

@@ -1,10 +1,9 @@
 //! Times that come again each period.
 
-ghost use Rattle.std.specs.Prelude.{◌≤ℤ◌, ◌<ℤ◌, ℤ, pos};
+ghost use Rattle.std.specs.Prelude.{◌≤ℤ◌, ◌<ℤ◌, pos};
 ghost use Rattle.std.specs.List.{All};
-ghost use Rattle.modular.specs.CommonSolutions.{MatchCommonSolution};
 ghost use Rattle.num_integer.specs.Least.{IsLeastFrom};
-ghost use Rattle.uses.specs.Schedules.{HaveBegun, IsMeeting, IsMeetingOfEach};
+ghost use Rattle.uses.specs.Schedules.{HaveBegun, IsLeastTime, IsMeeting, IsMeetingOfEach};
 
 pub use modular::CommonSolution;
 use modular::{Modular, next_common_solution, next_common_solution_of};
@@ -24,12 +23,8 @@ pub fn next_meeting<T: Modular + Fits>(now: T, a: Schedule<T>, b: Schedule<T>) -
     requires b_in_range { T.fits (T.value b.0) × T.fits (T.value b.1) }
     requires a_positive { pos 0 <ℤ T.value a.1 }
     requires b_positive { pos 0 <ℤ T.value b.1 }
-    ensures { MatchCommonSolution result
-        ((t : ℤ) → ¬ (IsMeeting (T.value a.0) (T.value a.1) (T.value b.0) (T.value b.1) t))
-        ((t : ℤ) × IsLeastFrom (T.value now) (IsMeeting (T.value a.0) (T.value a.1) (T.value b.0)
-        (T.value b.1)) t × ¬ (T.fits t))
-        (λ t. T.fits (T.value t) × IsLeastFrom (T.value now) (IsMeeting (T.value a.0)
-        (T.value a.1) (T.value b.0) (T.value b.1)) (T.value t)) }
+    ensures { IsLeastTime T.value T.fits (T.value now)
+        (IsMeeting (T.value a.0) (T.value a.1) (T.value b.0) (T.value b.1)) result }
 {
     let from = maximum(now, maximum(a.0, b.0));
     next_common_solution(from, a.0, a.1, b.0, b.1)
@@ -43,12 +38,7 @@ pub fn next_meeting_of<T: Modular + Fits>(now: T, schedules: &[Schedule<T>]) -> 
     requires now_in_range { T.fits (T.value now) }
     requires in_range { All (λ s. T.fits (T.value s.0) × T.fits (T.value s.1)) schedules.now }
     requires positive { All (λ s. pos 0 <ℤ T.value s.1) schedules.now }
-    ensures { MatchCommonSolution result
-        ((t : ℤ) → ¬ (IsMeetingOfEach T.value schedules.now t))
-        ((t : ℤ) × IsLeastFrom (T.value now) (IsMeetingOfEach T.value schedules.now) t
-        × ¬ (T.fits t))
-        (λ t. T.fits (T.value t)
-        × IsLeastFrom (T.value now) (IsMeetingOfEach T.value schedules.now) (T.value t)) }
+    ensures { IsLeastTime T.value T.fits (T.value now) (IsMeetingOfEach T.value schedules.now) result }
 {
     next_common_solution_of(latest(now, schedules), schedules)
 }

@@ -1,4 +1,4 @@
-use Rattle.modular.proofs.Agreements.{least_of_class, narrowed_first, narrowed_more, narrowed_solves}
+use Rattle.modular.proofs.Agreements.{least_of_class, narrowed_first, narrowed_more, narrowed_solves, pair_at}
 use Rattle.modular.proofs.several_congruences.least_solution.Goals as goal
 
 pub loop-congruence-init : goal.loop-congruence-init
@@ -10,6 +10,20 @@ loop-congruence-init g c = record {
 
 pub least_candidate-requires-clause-candidates : goal.least_candidate-requires-clause-candidates
 least_candidate-requires-clause-candidates g c = narrowed_solves c.loop-congruence.invariant.kept c.congruence-item.is c.loop-congruence-test.true
+
+pub chinese_remainder-requires : goal.chinese_remainder-requires
+chinese_remainder-requires g c =
+    let class = c.loop-congruence.invariant in
+    let pair = pair_at g.T.Number.value g.T.Number.fits _ _ c.congruence-item.is c.loop-congruence-test.true c.requires.in_range c.requires.positive in
+    record {
+      a_in_range = class.first_in_range;
+      m_in_range = class.step_in_range;
+      b_in_range = pair.0.0;
+      n_in_range = pair.0.1;
+      m_positive = class.kept.positive;
+      n_positive = pair.1;
+      lcm_fits = c.lcm_fits.ensures.0 c.if-not-lcm_fits.false;
+    }
 
 pub loop-congruence-preserved : goal.loop-congruence-preserved
 loop-congruence-preserved g c =

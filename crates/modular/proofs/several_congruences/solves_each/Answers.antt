@@ -1,17 +1,12 @@
 use Rattle.std.proofs.Common.{refl}
-use Rattle.modular.proofs.Agreements.{IsInRange, IsPositive, SolvesAt}
-use Rattle.modular.proofs.ListedItems.{all_items, at_item, one_item_more}
+use Rattle.modular.proofs.Agreements.{SolvesAt, pair_at}
+use Rattle.modular.proofs.ListedItems.{all_items, one_item_more}
 use Rattle.modular.proofs.several_congruences.solves_each.Goals as goal
 
 pub are_congruent-requires : goal.are_congruent-requires
 are_congruent-requires g c =
-    let item = at_item (IsInRange g.T.Number.value g.T.Number.fits) _ _ c.congruence-item.is c.loop-congruence-test.true c.requires.in_range in
-    record {
-      a_in_range = c.requires.x_in_range;
-      b_in_range = item.0;
-      m_in_range = item.1;
-      positive = at_item (IsPositive g.T.Number.value) _ _ c.congruence-item.is c.loop-congruence-test.true c.requires.positive;
-    }
+    let pair = pair_at g.T.Number.value g.T.Number.fits _ _ c.congruence-item.is c.loop-congruence-test.true c.requires.in_range c.requires.positive in
+    record { a_in_range = c.requires.x_in_range; b_in_range = pair.0.0; m_in_range = pair.0.1; positive = pair.1 }
 
 pub loop-congruence-preserved : goal.loop-congruence-preserved
 loop-congruence-preserved g c =
