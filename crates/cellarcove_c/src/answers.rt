@@ -26,7 +26,7 @@ pub const NO_DATE: u32 = 6;
 
 /// A status, and a number, which is the answer where the status is [`ANSWER`] and else 0.
 #[repr(C)]
-#[derive(Debug, Clone, Copy, PartialEq, Eq)]
+#[derive(Clone, Copy)]
 pub struct I64Answer {
     pub status: u32,
     pub value: i64,
@@ -34,7 +34,7 @@ pub struct I64Answer {
 
 /// A status, and a number, which is the answer where the status is [`ANSWER`] and else 0.
 #[repr(C)]
-#[derive(Debug, Clone, Copy, PartialEq, Eq)]
+#[derive(Clone, Copy)]
 pub struct U64Answer {
     pub status: u32,
     pub value: u64,

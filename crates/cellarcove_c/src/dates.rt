@@ -19,7 +19,7 @@ use calendar::{Weekday, easter, months_between, weekday_of};
 
 /// A date, where there is one of its year, month and day of the month.
 #[repr(C)]
-#[derive(Debug, Clone, Copy, PartialEq, Eq)]
+#[derive(Clone, Copy)]
 pub struct Date {
     pub year: i64,
     pub month: u8,
@@ -28,7 +28,7 @@ pub struct Date {
 
 /// A status, and a date.
 #[repr(C)]
-#[derive(Debug, Clone, Copy, PartialEq, Eq)]
+#[derive(Clone, Copy)]
 pub struct DateAnswer {
     pub status: u32,
     pub date: Date,
@@ -36,7 +36,7 @@ pub struct DateAnswer {
 
 /// A status, and a week of ISO 8601.
 #[repr(C)]
-#[derive(Debug, Clone, Copy, PartialEq, Eq)]
+#[derive(Clone, Copy)]
 pub struct IsoWeekAnswer {
     pub status: u32,
     pub week: u8,

@@ -13,7 +13,7 @@ use num_integer::{Integer, checked};
 
 /// A status, and a quotient with its remainder.
 #[repr(C)]
-#[derive(Debug, Clone, Copy, PartialEq, Eq)]
+#[derive(Clone, Copy)]
 pub struct I64Division {
     pub status: u32,
     pub quotient: i64,
@@ -22,7 +22,7 @@ pub struct I64Division {
 
 /// A status, and a quotient with its remainder.
 #[repr(C)]
-#[derive(Debug, Clone, Copy, PartialEq, Eq)]
+#[derive(Clone, Copy)]
 pub struct U64Division {
     pub status: u32,
     pub quotient: u64,

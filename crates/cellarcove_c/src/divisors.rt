@@ -13,7 +13,7 @@ use num_integer::{ExtendedGcd, checked};
 
 /// A status, and the greatest common divisor with Bezout's coefficients.
 #[repr(C)]
-#[derive(Debug, Clone, Copy, PartialEq, Eq)]
+#[derive(Clone, Copy)]
 pub struct I64Bezout {
     pub status: u32,
     pub gcd: i64,

@@ -23,7 +23,7 @@ use std::cmp::Ordering;
 
 /// The parts of a fraction.
 #[repr(C)]
-#[derive(Debug, Clone, Copy, PartialEq, Eq)]
+#[derive(Clone, Copy)]
 pub struct Fraction {
     pub num: i64,
     pub den: i64,
@@ -31,7 +31,7 @@ pub struct Fraction {
 
 /// A status, and a fraction, which is reduced.
 #[repr(C)]
-#[derive(Debug, Clone, Copy, PartialEq, Eq)]
+#[derive(Clone, Copy)]
 pub struct FractionAnswer {
     pub status: u32,
     pub value: Fraction,
@@ -39,7 +39,7 @@ pub struct FractionAnswer {
 
 /// A status, and an order: -1, 0 or 1.
 #[repr(C)]
-#[derive(Debug, Clone, Copy, PartialEq, Eq)]
+#[derive(Clone, Copy)]
 pub struct OrderAnswer {
     pub status: u32,
     pub order: i32,

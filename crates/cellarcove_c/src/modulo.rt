@@ -19,7 +19,7 @@ use num_integer::Fits;
 /// A status, and a class of solutions: the first that is at least 0, and the step from each to the
 /// next.
 #[repr(C)]
-#[derive(Debug, Clone, Copy, PartialEq, Eq)]
+#[derive(Clone, Copy)]
 pub struct I64Solutions {
     pub status: u32,
     pub first: i64,
@@ -29,7 +29,7 @@ pub struct I64Solutions {
 /// A status, and a class of solutions: the first that is at least 0, and the step from each to the
 /// next.
 #[repr(C)]
-#[derive(Debug, Clone, Copy, PartialEq, Eq)]
+#[derive(Clone, Copy)]
 pub struct U64Solutions {
     pub status: u32,
     pub first: u64,
