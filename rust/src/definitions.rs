@@ -1823,4 +1823,13 @@ pub mod uses {
     //! IsMeetingOfEach value schedules t = All (λ s. IsTime (value s.0) (value s.1) t) schedules
     //! ```
     //!
+    //! ## `IsLeastTime`
+    //!
+    //! The answer is the least time from `now` on that has P: `At` it where it is in the type, `Beyond` where it is not, and `Never` where no time has P.
+    //!
+    //! ```text
+    //! abbrev pub IsLeastTime : {X : Type 0} → (X → ℤ) → (ℤ → Type 0) → ℤ → (ℤ → Type 0) → CommonSolution X → Type 0
+    //! IsLeastTime value fits now P answer = MatchCommonSolution answer ((t : ℤ) → ¬ (P t)) ((t : ℤ) × IsLeastFrom now P t × ¬ (fits t)) (λ t. fits (value t) × IsLeastFrom now P (value t))
+    //! ```
+    //!
 }

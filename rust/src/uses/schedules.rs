@@ -18,17 +18,12 @@ pub type Schedule<T> = (T, T);
 /// ```text
 /// requires a_positive { pos 0 <ℤ T.value a.1 }
 /// requires b_positive { pos 0 <ℤ T.value b.1 }
-/// ensures { MatchCommonSolution result
-///     ((t : ℤ) → ¬ (IsMeeting (T.value a.0) (T.value a.1) (T.value b.0) (T.value b.1) t))
-///     ((t : ℤ) × IsLeastFrom (T.value now) (IsMeeting (T.value a.0) (T.value a.1) (T.value b.0)
-///     (T.value b.1)) t × ¬ (T.fits t))
-///     (λ t. T.fits (T.value t) × IsLeastFrom (T.value now) (IsMeeting (T.value a.0)
-///     (T.value a.1) (T.value b.0) (T.value b.1)) (T.value t)) }
+/// ensures { IsLeastTime T.value T.fits (T.value now)
+///     (IsMeeting (T.value a.0) (T.value a.1) (T.value b.0) (T.value b.1)) result }
 /// ```
 ///
-/// Words: [`MatchCommonSolution`](crate::definitions::modular#matchcommonsolution),
-/// [`IsMeeting`](crate::definitions::uses#ismeeting),
-/// [`IsLeastFrom`](crate::definitions::num_integer#isleastfrom), [how to read it](crate::definitions).
+/// Words: [`IsLeastTime`](crate::definitions::uses#isleasttime),
+/// [`IsMeeting`](crate::definitions::uses#ismeeting), [how to read it](crate::definitions).
 pub fn next_meeting<T: Modular + Fits>(
     now: T,
     a: Schedule<T>,
@@ -48,17 +43,11 @@ pub fn next_meeting<T: Modular + Fits>(
 /// ```text
 /// requires in_range { All (λ s. T.fits (T.value s.0) × T.fits (T.value s.1)) schedules.now }
 /// requires positive { All (λ s. pos 0 <ℤ T.value s.1) schedules.now }
-/// ensures { MatchCommonSolution result
-///     ((t : ℤ) → ¬ (IsMeetingOfEach T.value schedules.now t))
-///     ((t : ℤ) × IsLeastFrom (T.value now) (IsMeetingOfEach T.value schedules.now) t
-///     × ¬ (T.fits t))
-///     (λ t. T.fits (T.value t)
-///     × IsLeastFrom (T.value now) (IsMeetingOfEach T.value schedules.now) (T.value t)) }
+/// ensures { IsLeastTime T.value T.fits (T.value now) (IsMeetingOfEach T.value schedules.now) result }
 /// ```
 ///
-/// Words: [`MatchCommonSolution`](crate::definitions::modular#matchcommonsolution),
-/// [`IsMeetingOfEach`](crate::definitions::uses#ismeetingofeach),
-/// [`IsLeastFrom`](crate::definitions::num_integer#isleastfrom), [how to read it](crate::definitions).
+/// Words: [`IsLeastTime`](crate::definitions::uses#isleasttime),
+/// [`IsMeetingOfEach`](crate::definitions::uses#ismeetingofeach), [how to read it](crate::definitions).
 pub fn next_meeting_of<T: Modular + Fits>(now: T, schedules: &[Schedule<T>]) -> CommonSolution<T> {
     next_common_solution_of(latest(now, schedules), schedules)
 }
