@@ -47,7 +47,7 @@ over_proved() {
     done
     mkdir -p crates/cellarcove_c/out
     (cd crates/cellarcove_c && "$kit/bin/rattle" build --crate-name cellarcove_c src/lib.rt --crate-type staticlib \
-        --extern "std=$kit/rlibs/std.rlib" -L "dependency=$kit/rlibs" "${words[@]}" --links cellarcove_c= --jobs "$(nproc)" \
+        --extern "std=$kit/rlibs/std.rlib" -L "dependency=$kit/rlibs" "${words[@]}" --links cellarcove_c= --jobs 1 \
         --antt-project "$kit/rattle/logic/antt-project.json" --logic-built "$kit/logic_built" \
         --toolchain "$kit/toolchain" --backend llvm -o "$archive")
 }

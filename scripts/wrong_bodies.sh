@@ -1,8 +1,8 @@
 #!/usr/bin/env bash
 # Tries the wrong bodies that the gate does not try: crates/NAME/wrong-bodies/*.edit. The prover must refuse each. Copies the
 # repository to a temporary folder, with what was kept in it, and tries them there in the place of those of must-fail, as many
-# crates side by side as there are processors. With names of crates, tries theirs alone. Prints a line for each, and a count at
-# the end. A library of which nothing was kept is proved first.
+# side by side as there are processors and memory. With names of crates, tries theirs alone. Prints a line for each, and a count
+# at the end. A library of which nothing was kept is proved first.
 #
 # usage: scripts/wrong_bodies.sh [NAME..]
 set -uo pipefail
@@ -30,14 +30,6 @@ build_libraries() {
     done <crates.txt
 }
 
-# try_suite NAME: tries the suite of the crate, and prints what was said of it once the whole is tried.
-try_suite() {
-    local status=0
-    (cd "$work/repository" && rt must-fail "$1") >"$work/$1" 2>&1 || status=$?
-    cat "$work/$1"
-    return "$status"
-}
-
 names=("$@")
 if [ ${#names[@]} -eq 0 ]; then
     for suite in crates/*/wrong-bodies; do
@@ -58,12 +50,10 @@ for name in "${names[@]}"; do
 done
 
 build_libraries || exit 2
-export work
-export -f try_suite
 status=0
-printf '%s\n' "${names[@]}" | xargs -P "$(nproc)" -I{} bash -c 'try_suite {}' >"$work/printed" || status=$?
-cat "$work/printed"
-refused=$(grep -cE '^(rt: )?must-fail [a-z0-9_]+/[^ ]+\.edit: refused, as it must be' "$work/printed")
+(cd "$work/repository" && rt must-fail "${names[@]}") >"$work/said" 2>&1 || status=$?
+cat "$work/said"
+refused=$(grep -cE '^(rt: )?must-fail [a-z0-9_]+/[^ ]+\.edit: refused, as it must be' "$work/said")
 
 echo "$refused passed, $((wanted - refused)) failed"
 [ "$status" -eq 0 ] && [ "$refused" -eq "$wanted" ]

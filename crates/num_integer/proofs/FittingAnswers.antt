@@ -125,6 +125,11 @@ module _ {fits : ℤ → Type 0} {low high : ℤ} {least most : ℕ} (range : Is
   pub test_inside : {answer : Bool} {z : ℤ} → IsTrue answer ↔ IsWithin least most z → IsTrue answer ↔ fits z
   test_inside test = (λ t. (inside _).0 (test.0 t), λ f. test.1 ((inside _).1 f))
 
+  -- the same of a number that is computed of two, by their signs and magnitudes
+  pub test_of_both : {answer s t : Bool} {m n : ℕ} {a b : ℤ} (of : ℤ → ℤ → ℤ) → IsTrue s ↔ (a <ℤ pos 0) → m ≡ unsigned_abs a → IsTrue t ↔ (b <ℤ pos 0) → n ≡ unsigned_abs b
+      → IsTrue answer ↔ IsWithin least most (of (signed s m) (signed t n)) → IsTrue answer ↔ fits (of a b)
+  test_of_both of s m t n test = test_inside (rw (signed_is s m, signed_is t n) at test)
+
 -- where the multiple is a known number
 pub multiple_domain : {fits : ℤ → Type 0} {Kind : ℤ → ℤ → ℤ → ℤ → Type 0} {n d m : ℤ} {answer : Bool} → IsKind Kind → d ≢ pos 0 → IsMultiple Kind n d m → IsTrue answer ↔ fits m
     → IsTrue answer ↔ ((d ≢ pos 0) × EachFits fits (IsMultiple Kind n d))

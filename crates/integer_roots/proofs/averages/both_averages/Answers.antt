@@ -1,4 +1,4 @@
-use Rattle.std.proofs.Common.{rules, ap}
+use Rattle.std.proofs.Common.{ap}
 use Rattle.integer_roots.proofs.Averaging.{AreAverages, averages}
 use Rattle.integer_roots.proofs.averages.both_averages.Given.{Over}
 use Rattle.integer_roots.proofs.averages.both_averages.Goals as goal
@@ -20,10 +20,10 @@ are_averages g c =
     rw (half, one, both, either) (averages g.met.T.Integer.range_law g.met.T.Native.native_law.complement a_fits b_fits a_is b_is (fixed.bits_of_law _ a_fits) (fixed.bits_of_law _ b_fits))
 
 pub add-requires : goal.add-requires
-add-requires g c = let fits = (are_averages g c).floor.1 in search rules
+add-requires g c = g.met.T.Zero.can_add_law _ _ (λ _. (are_averages g c).floor.1)
 
 pub sub-requires : goal.sub-requires
-sub-requires g c = let fits = (are_averages g (goal.at.sub-requires g c).After-shr-half).ceil.1 in search rules
+sub-requires g c = g.met.T.Num.can_sub_law _ _ (λ _. (are_averages g (goal.at.sub-requires g c).After-shr-half).ceil.1)
 
 pub returns : goal.returns
 returns g c =

@@ -1,9 +1,7 @@
-use Rattle.num_integer.proofs.FittingAnswers.{signed_is, test_inside}
+use Rattle.std.specs.Prelude.{◌*ℤ◌}
+use Rattle.num_integer.proofs.FittingAnswers.{test_of_both}
 use Rattle.num_integer.proofs.checked.operators.product_fits.Goals as goal
 
 pub returns : goal.returns
-returns g c =
-    let a = c.parts.ensures in
-    let b = c.parts-2.ensures in
-    test_inside g.met.T.Integer.range_law c.ends.ensures.low c.ends.ensures.high
-    (rw (signed_is a.negative a.magnitude, signed_is b.negative b.magnitude) at c.product_is_within.ensures)
+returns g c = test_of_both g.met.T.Integer.range_law c.ends.ensures.low c.ends.ensures.high (λ a b. a *ℤ b)
+    c.parts.ensures.negative c.parts.ensures.magnitude c.parts-2.ensures.negative c.parts-2.ensures.magnitude c.product_is_within.ensures
