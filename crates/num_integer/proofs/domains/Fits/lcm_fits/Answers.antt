@@ -1,7 +1,10 @@
-use Rattle.std.proofs.Common.{arith}
+use Rattle.std.proofs.Common.{arith, refl, rules}
 use Rattle.std.proofs.lemmas.Int.{ints}
 use Rattle.num_integer.proofs.FittingAnswers.{lcm_domain, fits_up, test_up}
 use Rattle.num_integer.proofs.domains.Fits.lcm_fits.Goals as goal
+
+pub returns-then-m-eq0 : goal.returns-then-m-eq0
+returns-then-m-eq0 g c = (λ _. search rules, λ _. refl)
 
 pub returns-in-Some : goal.returns-in-Some
 returns-in-Some g c =
