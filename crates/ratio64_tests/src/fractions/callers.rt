@@ -128,14 +128,6 @@ fn compared(x: &Ratio, y: &Ratio) -> Ordering
     x.cmp(y)
 }
 
-/// Whether the order says that two are equal, which they then are.
-fn are_level(x: &Ratio, y: &Ratio) -> bool
-    ensures { IsTrue result
-        ↔ AreEqual (num_of x.now) (den_of x.now) (num_of y.now) (den_of y.now) }
-{
-    matches!(x.cmp(y), Ordering::Equal)
-}
-
 /// Whether three ascend, where the first is below the last.
 fn ascend(x: &Ratio, y: &Ratio, z: &Ratio) -> bool
     ensures { IsTrue result → fraction_cmp (num_of x.now) (den_of x.now) (num_of z.now)

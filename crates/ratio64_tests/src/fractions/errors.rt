@@ -23,24 +23,28 @@ fn quotient_of_texts(num: &str, den: &str) -> anyhow::Result<Ratio> {
     Ok(num.checked_div(&den)?)
 }
 
-const TEXTS: [(RatioError, &str); 2] = [
-    (RatioError::ZeroDenominator, "the denominator is 0"),
+/// A refusal, the same one of a text, its number, and what both print.
+const REFUSALS: [(RatioError, ParseRatioError, u32, &str); 2] = [
+    (
+        RatioError::ZeroDenominator,
+        ParseRatioError::ZeroDenominator,
+        1,
+        "the denominator is 0",
+    ),
     (
         RatioError::NotFitting,
+        ParseRatioError::NotFitting,
+        2,
         "a part of the reduced fraction does not fit in 64 bits",
     ),
 ];
 
-const PARSE_TEXTS: [(ParseRatioError, &str); 4] = [
+/// The refusals of a text alone.
+const PARSE_TEXTS: [(ParseRatioError, &str); 2] = [
     (ParseRatioError::NotAFraction, "the text is not a fraction"),
     (
         ParseRatioError::TooLong,
         "a part has more than 38 digits, leading zeros aside",
-    ),
-    (ParseRatioError::ZeroDenominator, "the denominator is 0"),
-    (
-        ParseRatioError::NotFitting,
-        "a part of the reduced fraction does not fit in 64 bits",
     ),
 ];
 
@@ -55,35 +59,41 @@ const REFUSED: [((&str, &str), &str); 4] = [
     ),
 ];
 
-/// Whether the value is written so.
+/// Returns `true` if the value is written so.
 fn is_written(value: &impl Display, text: &str, alloc: Global) -> Result<bool, AllocError> {
     Ok(value.to_string(alloc)?.as_str() == text)
 }
 
 #[test]
 fn texts_of_errors(rt: HostRuntime) {
-    for (error, text) in &TEXTS {
-        let written = is_written(error, text, rt.alloc()).expect(&rt, "there is memory");
-        holds_at(&rt, written, &("fmt", error));
+    for &(error, of_text, number, text) in &REFUSALS {
+        let is_same = error.number() == number && ParseRatioError::from(error) == of_text;
+        let written = is_written(&error, text, rt.alloc());
+        let of_text_written = is_written(&of_text, text, rt.alloc());
+        holds_at(&rt, is_same, &("number", error));
+        holds_at(&rt, written == Ok(true), &("fmt", error));
+        holds_at(&rt, of_text_written == Ok(true), &("fmt", of_text));
     }
-    for (error, text) in &PARSE_TEXTS {
-        let written = is_written(error, text, rt.alloc()).expect(&rt, "there is memory");
-        holds_at(&rt, written, &("fmt", error));
+    for &(error, text) in &PARSE_TEXTS {
+        let written = is_written(&error, text, rt.alloc());
+        holds_at(&rt, written == Ok(true), &("fmt", error));
+    }
+}
+
+/// Returns `true` if the quotient of two texts is refused by this text.
+fn is_refused(num: &str, den: &str, text: &str, alloc: Global) -> Result<bool, AllocError> {
+    match quotient_of_texts(num, den) {
+        Ok(_) => Ok(false),
+        Err(error) => is_written(&error, text, alloc),
     }
 }
 
 #[test]
 fn errors_of_callers(rt: HostRuntime) {
-    assert!(rt; fraction_of(6, -4).is_ok() && quotient_of_texts("6/-4", "3/2").is_ok());
-    for ((num, den), text) in &REFUSED {
-        if let Err(error) = quotient_of_texts(num, den) {
-            let written = is_written(&error, text, rt.alloc()).expect(&rt, "there is memory");
-            holds_at(&rt, written, &("quotient_of_texts", num, den));
-        }
-        holds_at(
-            &rt,
-            quotient_of_texts(num, den).is_err(),
-            &("is_err", num, den),
-        );
+    let are_fractions = fraction_of(6, -4).is_ok() && quotient_of_texts("6/-4", "3/2").is_ok();
+    holds_at(&rt, are_fractions, &"fraction_of");
+    for &((num, den), text) in &REFUSED {
+        let refused = is_refused(num, den, text, rt.alloc());
+        holds_at(&rt, refused == Ok(true), &("quotient_of_texts", num, den));
     }
 }

@@ -1,13 +1,11 @@
 //! The nearest fractions of bounded denominators.
 
-use super::{MAX, MIN, ratio};
+use super::{MAX, MIN, Parts, ratio};
 use crate::assertions::holds_at;
-use std::process::Abort;
+use ratio64::Ratio;
 
 /// The parts of a fraction, a limit, and the parts of the nearest fraction.
-type Row = ((i64, i64), i64, (i64, i64));
-
-const LIMITED: [Row; 15] = [
+const LIMITED: [(Parts, i64, Parts); 15] = [
     ((3141592653589793, 1000000000000000), 10, (22, 7)),
     ((3141592653589793, 1000000000000000), 100, (311, 99)),
     ((3141592653589793, 1000000000000000), 1000, (355, 113)),
@@ -27,73 +25,54 @@ const LIMITED: [Row; 15] = [
 
 #[test]
 fn nearest_fractions(rt: HostRuntime) {
-    for ((num, den), max, expected) in LIMITED {
-        let x = ratio(&rt, num, den);
+    for &(given, max, expected) in &LIMITED {
         holds_at(&rt, max > 0, &max);
-        let nearest = x.limit_denominator(max);
-        holds_at(
-            &rt,
-            (nearest.num(), nearest.den()) == expected,
-            &("limit_denominator", num, den, max),
-        );
+        let nearest = ratio(&rt, given).limit_denominator(max);
+        let found = (nearest.num(), nearest.den());
+        holds_at(&rt, found == expected, &("limit_denominator", given, max));
     }
 }
 
-/// The distance of two fractions, times both denominators.
-fn gap((a, b): (i64, i64), (c, d): (i64, i64)) -> Option<i64> {
-    a.checked_mul(d)?
-        .checked_sub(c.checked_mul(b)?)?
-        .checked_abs()
+/// The distance of two fractions of small parts, times both denominators.
+fn gap((a, b): Parts, (c, d): Parts) -> u64 {
+    a.wrapping_mul(d).abs_diff(c.wrapping_mul(b))
 }
 
-/// Whether the first of two fractions is nearer to x than the second.
-fn is_nearer(x: (i64, i64), first: (i64, i64), second: (i64, i64)) -> Option<bool> {
-    let first_gap = gap(x, first)?.checked_mul(second.1)?;
-    let second_gap = gap(x, second)?.checked_mul(first.1)?;
-    Some(first_gap < second_gap)
+/// Returns `true` if the first of two fractions is nearer to x than the second.
+fn is_nearer(x: Parts, first: Parts, second: Parts) -> bool {
+    let first_gap = gap(x, first).wrapping_mul(second.1.unsigned_abs());
+    first_gap < gap(x, second).wrapping_mul(first.1.unsigned_abs())
 }
 
-/// The lowest of the nearest fractions over a denominator, where it is nearer to x than the one
-/// found before. It is looked for from -12 to 12.
-fn nearest_over(x: (i64, i64), den: i64, found: (i64, i64)) -> Option<(i64, i64)> {
-    let mut nearest = found;
-    for num in den.checked_mul(-12)?..=den.checked_mul(12)? {
-        if is_nearer(x, (num, den), nearest)? {
-            nearest = (num, den);
-        }
-    }
-    Some(nearest)
-}
-
-/// The nearest fraction by trial of all: of those that are equally near the one of the smallest
+/// The nearest fraction by trial of all from -12 to 12: of those that are equally near the one of the smallest
 /// denominator, and of these the lowest.
-fn nearest_by_trial(x: (i64, i64), max: i64) -> Option<(i64, i64)> {
+fn nearest_by_trial(x: Parts, max: i64) -> Parts {
     let mut nearest = (-12, 1);
     for den in 1..=max {
-        nearest = nearest_over(x, den, nearest)?;
-    }
-    Some(nearest)
-}
-
-fn check_limits(rt: &impl Abort, num: i64, den: i64) {
-    let x = ratio(rt, num, den);
-    for max in 1..=12 {
-        holds_at(rt, max > 0, &max);
-        let nearest = x.limit_denominator(max);
-        let found = Some((nearest.num(), nearest.den()));
-        holds_at(
-            rt,
-            found == nearest_by_trial((num, den), max),
-            &("limit_denominator", num, den, max),
-        );
-    }
-}
-
-#[test]
-fn each_nearest_fraction(rt: HostRuntime) {
-    for num in -12..=12 {
-        for den in 1..=12 {
-            check_limits(&rt, num, den);
+        for num in -144..=144 {
+            if is_nearer(x, (num, den), nearest) {
+                nearest = (num, den);
+            }
         }
     }
+    nearest
+}
+
+/// Returns `true` if the nearest fraction of a denominator up to a positive limit is the one found by trial.
+fn has_nearest_within(x: &Ratio, max: i64) -> bool {
+    if max <= 0 {
+        return false;
+    }
+    let nearest = x.limit_denominator(max);
+    (nearest.num(), nearest.den()) == nearest_by_trial((x.num(), x.den()), max)
+}
+
+/// Returns `true` if the nearest fractions of denominators up to 12 are those found by trial.
+pub(super) fn has_nearest(x: &Ratio) -> bool {
+    for max in 1..=12 {
+        if !has_nearest_within(x, max) {
+            return false;
+        }
+    }
+    true
 }

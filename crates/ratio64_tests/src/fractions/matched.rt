@@ -1,6 +1,6 @@
 //! Calls of `ratio64` whose result a caller matches on or loops over, each with no proof file.
 
-ghost use Rattle.std.specs.Prelude.{◌≡◌, ◌≢◌, ◌^◌, ◌<ℤ◌, ◌*ℤ◌, ◌-ℤ◌, pos, neg_ℤ, unsigned_abs, Err, IfOk, IfSome, IsOk, MatchOption};
+ghost use Rattle.std.specs.Prelude.{◌≡◌, ◌≢◌, ◌^◌, ◌<ℤ◌, ◌+ℤ◌, ◌*ℤ◌, ◌-ℤ◌, ℤ, pos, neg_ℤ, unsigned_abs, Err, IfOk, IfSome, IsOk, MatchOption};
 ghost use Rattle.std.specs.Int.{int_pow};
 ghost use Rattle.num_integer.specs.Division.{IsCeiled, IsFloored, IsQuotient};
 ghost use Rattle.ratio64.specs.Fraction.{IsExact, IsFraction, IsOutsideI64};
@@ -152,14 +152,6 @@ fn negation_above_least(x: &Ratio) -> Ratio
     }
 }
 
-/// The negation, or the fraction where it has none.
-fn turned_where_it_can(x: Ratio) -> Ratio {
-    if x.num() == i64::MIN {
-        return x;
-    }
-    x.checked_neg().unwrap()
-}
-
 /// The magnitude of a fraction whose numerator is above MIN.
 fn magnitude_above_least(x: &Ratio) -> Result<Ratio, RatioError>
     requires { neg_ℤ (pos (2 ^ 63)) <ℤ num_of x.now }
@@ -177,17 +169,6 @@ fn reciprocal_of_positive(x: &Ratio) -> Ratio {
     match x.checked_recip() {
         Ok(reciprocal) => reciprocal,
         Err(_) => unreachable!("a numerator above 0"),
-    }
-}
-
-/// So many parts of as many as there are.
-fn share(parts: i64, of: i64) -> Result<Ratio, RatioError>
-    requires { pos 0 <ℤ of }
-    ensures { IsOk result }
-{
-    match Ratio::new(parts, of) {
-        Ok(share) => Ok(share),
-        Err(e) => Err(e),
     }
 }
 
@@ -215,19 +196,10 @@ fn portion(share: &Ratio, amount: i64) -> Option<(i64, i64)>
     }
 }
 
-/// The greatest of the amounts times a rate, each rounded, and of 0.
-fn greatest_of_rounded(rate: &Ratio, amounts: &[i64]) -> Option<i64> {
-    let mut greatest = 0;
-    for amount in amounts {
-        greatest = greatest.max(rate.round_times(*amount)?);
-    }
-    Some(greatest)
-}
-
 /// A price with its tax, by the rate of the tax.
 fn with_tax(price: i64, rate: &Ratio) -> Option<i64>
-    ensures { IfSome result
-        (λ total. IsRounded (num_of rate.now *ℤ price) (den_of rate.now) (total -ℤ price)) }
+    ensures { IfSome result (λ total. (tax : ℤ)
+        × IsRounded (num_of rate.now *ℤ price) (den_of rate.now) tax × (total ≡ price +ℤ tax)) }
 {
     let tax = rate.round_times(price)?;
     price.checked_add(tax)

@@ -1,83 +1,77 @@
 //! Calls on one fraction: signs, negations, magnitudes, reciprocals and powers.
 
-use super::{MAX, MIN, parts, ratio};
+use super::{MAX, MIN, Parts, parts, ratio};
 use crate::assertions::holds_at;
-use Operation::{Abs, Neg, Pow, Recip};
 use ratio64::RatioError::{NotFitting, ZeroDenominator};
 use ratio64::{Ratio, RatioError};
-use std::process::Abort;
 
-#[derive(Clone, Copy, Debug)]
-enum Operation {
-    Neg,
-    Abs,
-    Recip,
-    Pow(i32),
-}
+/// The parts of a fraction, and of its negation, its magnitude and its reciprocal, or `None` where one is refused.
+const TURNED: [(Parts, [Option<Parts>; 3]); 8] = [
+    ((0, 1), [Some((0, 1)), Some((0, 1)), None]),
+    ((-3, 2), [Some((3, 2)), Some((3, 2)), Some((-2, 3))]),
+    ((-2, 3), [Some((2, 3)), Some((2, 3)), Some((-3, 2))]),
+    ((MAX, 2), [Some((-MAX, 2)), Some((MAX, 2)), Some((2, MAX))]),
+    ((-MAX, 1), [Some((MAX, 1)), Some((MAX, 1)), Some((-1, MAX))]),
+    ((MIN, 1), [None, None, None]),
+    ((MIN, 3), [None, None, None]),
+    ((MIN, MAX), [None, None, None]),
+];
 
-impl Operation {
-    fn answer(self, x: &Ratio) -> Result<Ratio, RatioError> {
-        match self {
-            Neg => x.checked_neg(),
-            Abs => x.checked_abs(),
-            Recip => x.checked_recip(),
-            Pow(exponent) => x.checked_pow(exponent),
-        }
+/// The reciprocal of 0 alone is refused for its denominator.
+#[test]
+fn turned_fractions(rt: HostRuntime) {
+    for &(given, [negated, absolute, inverted]) in &TURNED {
+        let x = ratio(&rt, given);
+        let refusal = if given == (0, 1) {
+            ZeroDenominator
+        } else {
+            NotFitting
+        };
+        let (neg, abs) = (parts(x.checked_neg()), parts(x.checked_abs()));
+        let recip = parts(x.checked_recip());
+        holds_at(&rt, neg == negated.ok_or(NotFitting), &("neg", given));
+        holds_at(&rt, abs == absolute.ok_or(NotFitting), &("abs", given));
+        holds_at(&rt, recip == inverted.ok_or(refusal), &("recip", given));
     }
 }
 
-/// An operation, the parts of its operand, and those of its answer.
-type Row = (Operation, (i64, i64), Result<(i64, i64), RatioError>);
-
-const ANSWERS: [Row; 34] = [
-    (Neg, (MAX, 2), Ok((-MAX, 2))),
-    (Neg, (0, 1), Ok((0, 1))),
-    (Neg, (MIN, 1), Err(NotFitting)),
-    (Neg, (MIN, 3), Err(NotFitting)),
-    (Abs, (-3, 2), Ok((3, 2))),
-    (Abs, (-MAX, 1), Ok((MAX, 1))),
-    (Abs, (MIN, MAX), Err(NotFitting)),
-    (Recip, (-2, 3), Ok((-3, 2))),
-    (Recip, (-MAX, 1), Ok((-1, MAX))),
-    (Recip, (MIN, 1), Err(NotFitting)),
-    (Recip, (0, 1), Err(ZeroDenominator)),
-    (Pow(2), (2, 3), Ok((4, 9))),
-    (Pow(-3), (-2, 3), Ok((-27, 8))),
-    (Pow(0), (0, 1), Ok((1, 1))),
-    (Pow(0), (MIN, 1), Ok((1, 1))),
-    (Pow(1), (MIN, MAX), Ok((MIN, MAX))),
-    (Pow(-1), (0, 1), Err(ZeroDenominator)),
-    (Pow(-1), (MIN, 1), Err(NotFitting)),
-    (Pow(62), (2, 1), Ok((4611686018427387904, 1))),
-    (Pow(63), (2, 1), Err(NotFitting)),
-    (Pow(63), (-2, 1), Ok((MIN, 1))),
-    (Pow(64), (-2, 1), Err(NotFitting)),
-    (Pow(63), (-1, 2), Err(NotFitting)),
-    (Pow(-63), (-1, 2), Ok((MIN, 1))),
-    (Pow(2), (3037000499, 1), Ok((9223372030926249001, 1))),
-    (Pow(2), (1, 3037000500), Err(NotFitting)),
-    (Pow(i32::MAX), (2, 1), Err(NotFitting)),
-    (Pow(i32::MAX), (0, 1), Ok((0, 1))),
-    (Pow(i32::MIN), (0, 1), Err(ZeroDenominator)),
-    (Pow(i32::MAX), (1, 1), Ok((1, 1))),
-    (Pow(i32::MIN), (1, 1), Ok((1, 1))),
-    (Pow(i32::MAX), (-1, 1), Ok((-1, 1))),
-    (Pow(i32::MIN), (-1, 1), Ok((1, 1))),
-    (Pow(i32::MIN), (1, 2), Err(NotFitting)),
+/// An exponent, the parts of a fraction, and those of its power.
+const POWERS: [(i32, Parts, Result<Parts, RatioError>); 23] = [
+    (2, (2, 3), Ok((4, 9))),
+    (-3, (-2, 3), Ok((-27, 8))),
+    (0, (0, 1), Ok((1, 1))),
+    (0, (MIN, 1), Ok((1, 1))),
+    (1, (MIN, MAX), Ok((MIN, MAX))),
+    (-1, (0, 1), Err(ZeroDenominator)),
+    (-1, (MIN, 1), Err(NotFitting)),
+    (62, (2, 1), Ok((4611686018427387904, 1))),
+    (63, (2, 1), Err(NotFitting)),
+    (63, (-2, 1), Ok((MIN, 1))),
+    (64, (-2, 1), Err(NotFitting)),
+    (63, (-1, 2), Err(NotFitting)),
+    (-63, (-1, 2), Ok((MIN, 1))),
+    (2, (3037000499, 1), Ok((9223372030926249001, 1))),
+    (2, (1, 3037000500), Err(NotFitting)),
+    (i32::MAX, (2, 1), Err(NotFitting)),
+    (i32::MAX, (0, 1), Ok((0, 1))),
+    (i32::MIN, (0, 1), Err(ZeroDenominator)),
+    (i32::MAX, (1, 1), Ok((1, 1))),
+    (i32::MIN, (1, 1), Ok((1, 1))),
+    (i32::MAX, (-1, 1), Ok((-1, 1))),
+    (i32::MIN, (-1, 1), Ok((1, 1))),
+    (i32::MIN, (1, 2), Err(NotFitting)),
 ];
 
 #[test]
-fn answers_of_one_fraction(rt: HostRuntime) {
-    for (operation, (num, den), expected) in ANSWERS {
-        let answer = parts(operation.answer(&ratio(&rt, num, den)));
-        holds_at(&rt, answer == expected, &(operation, num, den));
+fn powers(rt: HostRuntime) {
+    for &(exponent, given, expected) in &POWERS {
+        let found = parts(ratio(&rt, given).checked_pow(exponent));
+        holds_at(&rt, found == expected, &("pow", given, exponent));
     }
 }
 
 /// The parts of a fraction, its sign, and whether it is above 0, below 0, 0, and a whole number.
-type Signs = ((i64, i64), i64, (bool, bool, bool, bool));
-
-const SIGNS: [Signs; 10] = [
+const SIGNS: [(Parts, i64, (bool, bool, bool, bool)); 10] = [
     ((MIN, 1), -1, (false, true, false, true)),
     ((MIN, MAX), -1, (false, true, false, false)),
     ((-3, 2), -1, (false, true, false, false)),
@@ -90,76 +84,55 @@ const SIGNS: [Signs; 10] = [
     ((MAX, 1), 1, (true, false, false, true)),
 ];
 
+/// Whether a fraction is above 0, below 0, 0, and a whole number.
+fn signs_of(x: &Ratio) -> (bool, bool, bool, bool) {
+    (
+        x.is_positive(),
+        x.is_negative(),
+        x.is_zero(),
+        x.is_integer(),
+    )
+}
+
 #[test]
 fn signs(rt: HostRuntime) {
-    for ((num, den), sign, expected) in SIGNS {
-        let x = ratio(&rt, num, den);
-        let found = (
-            x.is_positive(),
-            x.is_negative(),
-            x.is_zero(),
-            x.is_integer(),
-        );
-        let signum = x.signum();
-        holds_at(&rt, found == expected, &("signs", num, den));
-        holds_at(
-            &rt,
-            (signum.num(), signum.den()) == (sign, 1),
-            &("signum", num, den),
-        );
+    for &(given, sign, expected) in &SIGNS {
+        let x = ratio(&rt, given);
+        holds_at(&rt, signs_of(&x) == expected, &("signs", given));
+        holds_at(&rt, x.signum() == Ratio::from(sign), &("signum", given));
     }
 }
 
-fn sign_times_magnitude(x: &Ratio) -> Result<Ratio, RatioError> {
-    x.checked_abs()?.checked_mul(&x.signum())
-}
-
-fn sum_with_negation(x: &Ratio) -> Result<Ratio, RatioError> {
-    x.checked_neg()?.checked_add(x)
-}
-
-/// The signs are those of the numerator, and the sign times the magnitude is the fraction.
-fn check_sign(rt: &impl Abort, x: &Ratio) {
+/// Returns `true` if the signs are those of the numerator, the sign times the magnitude is the fraction, and the sum
+/// with the negation is 0.
+pub(super) fn has_sign(x: &Ratio) -> Result<bool, RatioError> {
     let num = x.num();
-    let found = (x.is_negative(), x.is_zero(), x.is_positive());
-    holds_at(rt, found == (num < 0, num == 0, num > 0), &("signs", x));
-    holds_at(
-        rt,
-        sign_times_magnitude(x) == Ok(*x),
-        &("sign_times_magnitude", x),
-    );
-    holds_at(
-        rt,
-        sum_with_negation(x) == Ok(Ratio::zero()),
-        &("sum_with_negation", x),
-    );
-    holds_at(rt, x.is_integer() == (x.den() == 1), &("is_integer", x));
+    let product = x.checked_abs()?.checked_mul(&x.signum())?;
+    let sum = x.checked_neg()?.checked_add(x)?;
+    Ok(
+        signs_of(x) == (num > 0, num < 0, num == 0, x.den() == 1)
+            && (product, sum) == (*x, Ratio::zero()),
+    )
 }
 
-/// Each power is the one before times the fraction, and that of the negated exponent is its
-/// reciprocal.
-fn check_powers(rt: &impl Abort, x: &Ratio) {
+/// Returns `true` if this is the power of the exponent, and that of the negated exponent is its reciprocal.
+fn has_power(x: &Ratio, exponent: i32, power: Ratio) -> bool {
+    let turned = if exponent == 0 {
+        Ok(power)
+    } else {
+        power.checked_recip()
+    };
+    x.checked_pow(exponent) == Ok(power) && x.checked_pow(exponent.wrapping_neg()) == turned
+}
+
+/// Returns `true` if each power is the one before times the fraction.
+pub(super) fn has_powers(x: &Ratio) -> Result<bool, RatioError> {
     let mut power = Ratio::one();
-    for (up, down) in [(0, 0), (1, -1), (2, -2), (3, -3), (4, -4), (5, -5)] {
-        holds_at(rt, x.checked_pow(up) == Ok(power), &("checked_pow", x, up));
-        let turned = if up == 0 {
-            Ok(power)
-        } else {
-            power.checked_recip()
-        };
-        holds_at(rt, x.checked_pow(down) == turned, &("checked_pow", x, down));
-        power = power.checked_mul(x).expect(rt, "small numbers");
-    }
-}
-
-#[test]
-fn each_fraction_of_small_parts(rt: HostRuntime) {
-    assert!(rt; Ratio::default() == Ratio::zero());
-    for num in -12..=12 {
-        for den in 1..=12 {
-            let x = ratio(&rt, num, den);
-            check_sign(&rt, &x);
-            check_powers(&rt, &x);
+    for exponent in 0..6 {
+        if !has_power(x, exponent, power) {
+            return Ok(false);
         }
+        power = power.checked_mul(x)?;
     }
+    Ok(true)
 }

@@ -2,19 +2,14 @@
 
 ghost use Rattle.std.specs.Prelude.{◌≡◌, IfOk, Ok};
 
-use super::{MAX, MIN, ratio};
+use super::{MAX, MIN, Parts, ratio};
 use crate::assertions::holds_at;
 use ratio64::ParseRatioError::{NotAFraction, NotFitting, TooLong, ZeroDenominator};
-use ratio64::{ParseRatioError, Ratio, RatioError};
+use ratio64::{ParseRatioError, Ratio};
 use std::alloc::{AllocError, Global};
-use std::process::Abort;
 
-type ParseResult = Result<Ratio, ParseRatioError>;
-
-/// A text, and the parts of the fraction that it is read as.
-type Row = (&'static str, Result<(i64, i64), ParseRatioError>);
-
-const READ: [Row; 23] = [
+/// A text, and the parts of the fraction that it is read as. The last rows have parts of 37, 38, 39 and 40 digits.
+const READ: [(&str, Result<Parts, ParseRatioError>); 35] = [
     ("3", Ok((3, 1))),
     ("-3/2", Ok((-3, 2))),
     ("6/-4", Ok((-3, 2))),
@@ -38,10 +33,6 @@ const READ: [Row; 23] = [
     ("1/0", Err(ZeroDenominator)),
     ("0/-0", Err(ZeroDenominator)),
     ("99999999999999999999/00", Err(ZeroDenominator)),
-];
-
-/// Parts of 37, 38, 39 and 40 digits.
-const LONG: [Row; 12] = [
     (
         "99999999999999999999999999999999999999/99999999999999999999999999999999999999",
         Ok((1, 1)),
@@ -58,16 +49,16 @@ const LONG: [Row; 12] = [
     ),
     ("100000000000000000000000000000000000000", Err(TooLong)),
     ("-100000000000000000000000000000000000000", Err(TooLong)),
+    (
+        "0000000000000000000000000000000000000000000000000012/8",
+        Ok((3, 2)),
+    ),
     ("0/100000000000000000000000000000000000000", Err(TooLong)),
     ("999999999999999999999999999999999999999/3", Err(TooLong)),
     ("-170141183460469231731687303715884105729/0", Err(TooLong)),
     (
         "100000000000000000000000000000000000000/x",
         Err(NotAFraction),
-    ),
-    (
-        "0000000000000000000000000000000000000000000000000012/8",
-        Ok((3, 2)),
     ),
 ];
 
@@ -99,30 +90,42 @@ const OTHERS: [&str; 24] = [
     "1\u{2044}2",
 ];
 
+/// The parts of a fraction, and its text.
+const TEXTS: [(Parts, &str); 6] = [
+    ((6, -4), "-3/2"),
+    ((12, 4), "3"),
+    ((0, -9), "0"),
+    ((-5, 1), "-5"),
+    ((MIN, MAX), "-9223372036854775808/9223372036854775807"),
+    ((MIN, 1), "-9223372036854775808"),
+];
+
 /// The parts of the fraction that the text is read as.
-fn read(text: &str) -> Result<(i64, i64), ParseRatioError> {
-    text.parse::<Ratio>().map(|x| (x.num(), x.den()))
+fn read(text: &str) -> Result<Parts, ParseRatioError> {
+    let x: Ratio = text.parse()?;
+    Ok((x.num(), x.den()))
 }
 
 #[test]
 fn texts_read(rt: HostRuntime) {
-    for (text, expected) in READ {
+    for &(text, expected) in &READ {
         holds_at(&rt, read(text) == expected, &("parse", text));
     }
-    for (text, expected) in LONG {
-        holds_at(&rt, read(text) == expected, &("parse", text));
-    }
-    for text in OTHERS {
+    for &text in &OTHERS {
         holds_at(&rt, read(text) == Err(NotAFraction), &("parse", text));
     }
 }
 
 #[test]
-fn refusals_read(rt: HostRuntime) {
-    let not_fitting = ParseRatioError::from(RatioError::NotFitting);
-    let zero_denominator = ParseRatioError::from(RatioError::ZeroDenominator);
-    assert!(rt; (not_fitting, zero_denominator) == (NotFitting, ZeroDenominator));
+fn texts_printed(rt: HostRuntime) {
+    for &(given, text) in &TEXTS {
+        let printed = ratio(&rt, given).to_string(rt.alloc());
+        let printed = printed.expect(&rt, "there is memory");
+        holds_at(&rt, printed.as_str() == text, &("fmt", given));
+    }
 }
+
+type ParseResult = Result<Ratio, ParseRatioError>;
 
 /// The parts of a fraction, and what is read of its text: that fraction, by the contracts alone.
 fn read_back(alloc: Global, x: &Ratio) -> Result<(i64, i64, ParseResult), AllocError>
@@ -133,26 +136,22 @@ fn read_back(alloc: Global, x: &Ratio) -> Result<(i64, i64, ParseResult), AllocE
     Ok((num, den, text.as_str().parse()))
 }
 
+/// Each fraction of small parts, as it is printed, and as its parts are written.
 #[test]
-fn printed_and_read_back(rt: HostRuntime) {
+fn small_parts_read(rt: HostRuntime) {
     for num in -12..=12 {
         for den in -12..=12 {
-            if den != 0 {
-                let x = ratio(&rt, num, den);
-                let read = read_back(rt.alloc(), &x).expect(&rt, "there is memory");
-                holds_at(&rt, read == (x.num(), x.den(), Ok(x)), &("parse", num, den));
-            }
-        }
-    }
-}
-
-#[test]
-fn small_parts_as_written(rt: HostRuntime) {
-    for num in -12..=12 {
-        for den in -12..=12 {
-            let text = format!(in rt.alloc(); "{num}/{den}").expect(&rt, "there is memory");
             let expected = Ratio::new(num, den).map_err(ParseRatioError::from);
+            let text = format!(in rt.alloc(); "{num}/{den}").expect(&rt, "there is memory");
             holds_at(&rt, text.as_str().parse() == expected, &("parse", num, den));
+            if let Ok(x) = expected {
+                let read = read_back(rt.alloc(), &x).expect(&rt, "there is memory");
+                holds_at(
+                    &rt,
+                    read == (x.num(), x.den(), Ok(x)),
+                    &("read_back", num, den),
+                );
+            }
         }
     }
 }

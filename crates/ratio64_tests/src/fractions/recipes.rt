@@ -33,36 +33,24 @@ fn reduced_resolution(width: u32, height: u32) -> Ratio
     Ratio::new(i64::from(width), i64::from(height)).unwrap()
 }
 
-#[test]
-fn recipes(rt: HostRuntime) {
-    let third = Ratio::new(1, 3).ok();
-    let amount = third.and_then(|amount| scale(amount, 6, 4).ok());
-    holds_at(&rt, amount == Ratio::new(1, 2).ok(), &("scale", 6, 4));
-    for ((grams, persons, servings), whole) in [
-        ((100, 6, 4), Some(150)),
-        ((125, 3, 4), Some(94)),
-        ((i64::MAX, 3, 4), Some(6917529027641081855)),
-        ((i64::MAX, 4, 3), None),
-    ] {
-        let found = if servings > 0 {
-            grams_for(grams, persons, servings)
-        } else {
-            None
-        };
-        holds_at(
-            &rt,
-            found == whole,
-            &("grams_for", grams, persons, servings),
-        );
-    }
-}
+/// Grams, persons and servings, and the whole grams for so many persons.
+const GRAMS: [(i64, i64, i64, Option<i64>); 4] = [
+    (100, 6, 4, Some(150)),
+    (125, 3, 4, Some(94)),
+    (i64::MAX, 3, 4, Some(6917529027641081855)),
+    (i64::MAX, 4, 3, None),
+];
 
 #[test]
-fn resolutions(rt: HostRuntime) {
+fn recipes(rt: HostRuntime) {
+    let third = Ratio::new(1, 3).expect(&rt, "the parts fit");
+    let amount = scale(third, 6, 4);
+    holds_at(&rt, amount == Ratio::new(1, 2), &("scale", 6, 4));
+    for &(grams, persons, servings, whole) in &GRAMS {
+        holds_at(&rt, servings > 0, &servings);
+        let found = grams_for(grams, persons, servings);
+        holds_at(&rt, found == whole, &("grams_for", grams, persons));
+    }
     let found = reduced_resolution(1920, 1080);
-    holds_at(
-        &rt,
-        (found.num(), found.den()) == (16, 9),
-        &("reduced_resolution", 1920, 1080),
-    );
+    holds_at(&rt, (found.num(), found.den()) == (16, 9), &"resolution");
 }

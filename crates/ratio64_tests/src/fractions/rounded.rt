@@ -1,15 +1,26 @@
-//! Rounding toward 0 and to the nearest number, and what the first leaves.
+//! Rounding down, up, toward 0 and to the nearest number, and what rounding toward 0 leaves.
 
-use super::{MAX, MIN, parts, ratio};
+use super::{MAX, MIN, Parts, ratio};
 use crate::assertions::holds_at;
 use ratio64::Ratio;
-use std::process::Abort;
+
+/// The parts of a fraction, and what it is rounded to down and up.
+const DOWN_AND_UP: [(Parts, (i64, i64)); 10] = [
+    ((6, -4), (-2, -1)),
+    ((7, 2), (3, 4)),
+    ((-7, 2), (-4, -3)),
+    ((12, 4), (3, 3)),
+    ((0, -9), (0, 0)),
+    ((2, MIN), (-1, 0)),
+    ((1, MAX), (0, 1)),
+    ((MIN, 1), (MIN, MIN)),
+    ((MIN, MAX), (-2, -1)),
+    ((MAX, 2), (4611686018427387903, 4611686018427387904)),
+];
 
 /// The parts of a fraction, what it is rounded to toward 0 and to the nearest number, and the
 /// parts of what the first leaves.
-type Row = ((i64, i64), (i64, i64), (i64, i64));
-
-const ROUNDED: [Row; 17] = [
+const TOWARD_0: [(Parts, (i64, i64), Parts); 17] = [
     ((3, 2), (1, 2), (1, 2)),
     ((-3, 2), (-1, -2), (-1, 2)),
     ((5, 2), (2, 3), (1, 2)),
@@ -42,48 +53,32 @@ const ROUNDED: [Row; 17] = [
 ];
 
 #[test]
-fn nearest_numbers(rt: HostRuntime) {
-    for ((num, den), expected, rest) in ROUNDED {
-        let x = ratio(&rt, num, den);
-        let left = x.fract();
-        holds_at(
-            &rt,
-            (x.trunc(), x.round()) == expected && (left.num(), left.den()) == rest,
-            &("trunc", num, den),
-        );
+fn rounded_numbers(rt: HostRuntime) {
+    for &(given, expected) in &DOWN_AND_UP {
+        let x = ratio(&rt, given);
+        holds_at(&rt, (x.floor(), x.ceil()) == expected, &("floor", given));
+    }
+    for &(given, expected, rest) in &TOWARD_0 {
+        let x = ratio(&rt, given);
+        holds_at(&rt, (x.trunc(), x.round()) == expected, &("trunc", given));
+        holds_at(&rt, x.fract() == ratio(&rt, rest), &("fract", given));
     }
 }
 
-/// The nearest number by magnitudes: half is added, and the quotient takes the sign.
+/// The nearest number by magnitudes: half is added, and the quotient takes the sign. The parts are small.
 fn nearest(num: i64, den: i64) -> Option<i64> {
-    let twice = num.checked_abs()?.checked_mul(2)?.checked_add(den)?;
-    twice
-        .checked_div(den.checked_mul(2)?)?
-        .checked_mul(num.signum())
+    let twice = num.wrapping_abs().wrapping_mul(2).wrapping_add(den);
+    let magnitude = twice.checked_div(den.wrapping_mul(2))?;
+    Some(magnitude.wrapping_mul(num.signum()))
 }
 
-fn check_rounding(rt: &impl Abort, num: i64, den: i64) {
-    let x = ratio(rt, num, den);
-    let whole = x.trunc();
-    holds_at(
-        rt,
-        Some(whole) == num.checked_div(den),
-        &("trunc", num, den),
-    );
-    holds_at(
-        rt,
-        Some(x.round()) == nearest(num, den),
-        &("round", num, den),
-    );
-    let sum = parts(Ratio::from(whole).checked_add(&x.fract()));
-    holds_at(rt, sum == Ok((x.num(), x.den())), &("fract", num, den));
-}
-
-#[test]
-fn each_rounding(rt: HostRuntime) {
-    for num in -12..=12 {
-        for den in 1..=12 {
-            check_rounding(&rt, num, den);
-        }
-    }
+/// Returns `true` if a fraction of small parts is rounded as the quotient of its parts.
+pub(super) fn is_rounded(x: &Ratio) -> bool {
+    let (num, den) = (x.num(), x.den());
+    let sum = Ratio::from(x.trunc()).checked_add(&x.fract());
+    Some(x.floor()) == num.checked_div_euclid(den)
+        && Some(x.ceil().wrapping_neg()) == num.wrapping_neg().checked_div_euclid(den)
+        && Some(x.trunc()) == num.checked_div(den)
+        && Some(x.round()) == nearest(num, den)
+        && sum == Ok(*x)
 }

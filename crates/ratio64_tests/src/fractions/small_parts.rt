@@ -1,20 +1,20 @@
 //! Fractions of small parts, each pair of them, and what the operations answer, against cross
 //! multiplication.
 
-use super::operations::Operation::{Add, Div, Mul, Sub};
-use super::{hash_of, parts, ratio};
+use super::limited::has_nearest;
+use super::one_fraction::{has_powers, has_sign};
+use super::rounded::is_rounded;
+use super::{Parts, hash_of, parts, ratio};
 use crate::assertions::holds_at;
 use ratio64::RatioError::ZeroDenominator;
 use ratio64::{Ratio, RatioError};
-use std::cmp::Ordering;
-use std::process::Abort;
 
 /// The product, which `i64` need not have.
 fn product(a: i64, b: i64) -> i128 {
     i128::from(a) * i128::from(b)
 }
 
-/// Whether a number from 2 to 12 divides both.
+/// Returns `true` if a number from 2 to 12 divides both.
 fn have_common_factor(a: i64, b: i64) -> bool {
     for k in 2..=12 {
         if a.checked_rem(k) == Some(0) && b.checked_rem(k) == Some(0) {
@@ -24,67 +24,39 @@ fn have_common_factor(a: i64, b: i64) -> bool {
     false
 }
 
-/// The quotient by a positive divisor, rounded down and up.
-fn rounded(num: i64, den: i64) -> Option<(i64, i64)> {
-    let down = num.checked_div_euclid(den)?;
-    let up = num.checked_neg()?.checked_div_euclid(den)?.checked_neg()?;
-    Some((down, up))
-}
-
-/// The reduced fraction is equal to the one given, and is rounded as it is.
-fn check_fraction(rt: &impl Abort, num: i64, den: i64) {
-    let x = ratio(rt, num, den);
+/// Returns `true` if the fraction is equal to the one of two numbers, and reduced.
+fn is_reduced(x: &Ratio, (num, den): Parts) -> bool {
     let (p, q) = (x.num(), x.den());
-    holds_at(rt, product(p, den) == product(num, q), &("new", num, den));
-    holds_at(rt, q > 0 && !have_common_factor(p, q), &("new", num, den));
-    holds_at(
-        rt,
-        Some((x.floor(), x.ceil())) == rounded(p, q),
-        &("floor", num, den),
-    );
+    product(p, den) == product(num, q) && q > 0 && !have_common_factor(p, q)
 }
 
 #[test]
 fn each_fraction(rt: HostRuntime) {
+    holds_at(&rt, Ratio::default() == Ratio::zero(), &"default");
     for num in -12..=12 {
-        holds_at(
-            &rt,
-            parts(Ratio::new(num, 0)) == Err(ZeroDenominator),
-            &("new", num),
-        );
+        let refused = parts(Ratio::new(num, 0));
+        holds_at(&rt, refused == Err(ZeroDenominator), &("new", num));
         for den in -12..=12 {
             if den != 0 {
-                check_fraction(&rt, num, den);
+                let x = ratio(&rt, (num, den));
+                holds_at(&rt, is_reduced(&x, (num, den)), &("new", num, den));
+                holds_at(&rt, is_rounded(&x), &("round", num, den));
+                holds_at(&rt, has_sign(&x) == Ok(true), &("sign", num, den));
+                holds_at(&rt, has_powers(&x) == Ok(true), &("pow", num, den));
+                holds_at(&rt, has_nearest(&x), &("nearest", num, den));
             }
         }
     }
 }
 
-/// How the fractions a/b and c/d compare. A negative denominator turns the products round.
-fn order(a: i64, b: i64, c: i64, d: i64) -> Ordering {
-    let order = product(a, d).cmp(&product(c, b));
-    if (b < 0) == (d < 0) {
-        order
-    } else {
-        order.reverse()
-    }
+/// Returns `true` if the fractions compare as the products do, and have equal hashes where they are equal.
+fn are_ordered(x: &Ratio, y: &Ratio, left: i128, right: i128) -> bool {
+    let order = left.cmp(&right);
+    let found = (x.cmp(y), x.partial_cmp(y), x == y);
+    found == (order, Some(order), order.is_eq()) && (x != y || hash_of(x) == hash_of(y))
 }
 
-/// The fractions compare as the products do, and have equal hashes where they are equal.
-fn check_pair(rt: &impl Abort, (a, b): (i64, i64), (c, d): (i64, i64)) {
-    let (x, y) = (ratio(rt, a, b), ratio(rt, c, d));
-    let order = order(a, b, c, d);
-    let found = (x.cmp(&y), x.partial_cmp(&y), x == y);
-    let expected = (order, Some(order), order.is_eq());
-    holds_at(rt, found == expected, &("cmp", a, b, c, d));
-    holds_at(
-        rt,
-        x != y || hash_of(&x) == hash_of(&y),
-        &("hash_of", a, b, c, d),
-    );
-}
-
-/// Whether the answer is equal to the fraction of two numbers, or says that it is none.
+/// Returns `true` if the answer is equal to the fraction of two numbers, or says that it is none.
 fn is_answer(answer: Result<Ratio, RatioError>, num: i128, den: i128) -> bool {
     match answer {
         Ok(x) => den != 0 && num.checked_mul(x.den().into()) == den.checked_mul(x.num().into()),
@@ -92,46 +64,26 @@ fn is_answer(answer: Result<Ratio, RatioError>, num: i128, den: i128) -> bool {
     }
 }
 
-/// The answers are equal to the fractions that the definitions name.
-fn check_operations(rt: &impl Abort, (a, b): (i64, i64), (c, d): (i64, i64)) {
-    let (x, y) = (ratio(rt, a, b), ratio(rt, c, d));
+/// Returns `true` if the order, and the answers of the operations, are those that the definitions name.
+fn are_related(x: &Ratio, y: &Ratio, (a, b): Parts, (c, d): Parts) -> Option<bool> {
     let (left, right, below) = (product(a, d), product(c, b), product(b, d));
-    let sum = left.checked_add(right).expect(rt, "small numbers");
-    let difference = left.checked_sub(right).expect(rt, "small numbers");
-    for (operation, num, den) in [
-        (Add, sum, below),
-        (Sub, difference, below),
-        (Mul, product(a, c), below),
-        (Div, left, right),
-    ] {
-        let answer = operation.answer(&x, &y);
-        holds_at(rt, is_answer(answer, num, den), &(operation, a, b, c, d));
-    }
-}
-
-#[test]
-fn each_pair_of_fractions(rt: HostRuntime) {
-    for a in -12..=12 {
-        for b in -12..=12 {
-            for c in -12..=12 {
-                for d in -12..=12 {
-                    if b != 0 && d != 0 {
-                        check_pair(&rt, (a, b), (c, d));
-                    }
-                }
-            }
-        }
-    }
+    let are_sums = is_answer(x.checked_add(y), left.checked_add(right)?, below)
+        && is_answer(x.checked_sub(y), left.checked_sub(right)?, below);
+    let are_products = is_answer(x.checked_mul(y), product(a, c), below)
+        && is_answer(x.checked_div(y), left, right);
+    Some(are_ordered(x, y, left, right) && are_sums && are_products)
 }
 
 /// Each fraction of parts from -12 to 12 has a denominator from 1 to 12.
 #[test]
-fn each_operation_of_fractions(rt: HostRuntime) {
+fn each_pair_of_fractions(rt: HostRuntime) {
     for a in -12..=12 {
         for b in 1..=12 {
             for c in -12..=12 {
                 for d in 1..=12 {
-                    check_operations(&rt, (a, b), (c, d));
+                    let (x, y) = (ratio(&rt, (a, b)), ratio(&rt, (c, d)));
+                    let are_related = are_related(&x, &y, (a, b), (c, d));
+                    holds_at(&rt, are_related == Some(true), &(a, b, c, d));
                 }
             }
         }

@@ -1,11 +1,10 @@
 //! Whole numbers times a fraction, rounded down, up and to the nearest, at the ends of `i64`.
 
-use super::{MAX, MIN, ratio};
+use super::{MAX, MIN, Parts, ratio};
 use crate::assertions::holds_at;
-use std::process::Abort;
 
 /// The parts of a fraction and a number, and their product rounded down, up and to the nearest.
-type Row = ((i64, i64), i64, (Option<i64>, Option<i64>, Option<i64>));
+type Row = (Parts, i64, (Option<i64>, Option<i64>, Option<i64>));
 
 const TIMES: [Row; 24] = [
     ((2, 3), 100, (Some(66), Some(67), Some(67))),
@@ -52,9 +51,9 @@ const TIMES: [Row; 24] = [
 
 #[test]
 fn whole_numbers_times(rt: HostRuntime) {
-    for ((num, den), n, expected) in TIMES {
-        let x = ratio(&rt, num, den);
+    for &(given, n, expected) in &TIMES {
+        let x = ratio(&rt, given);
         let found = (x.floor_times(n), x.ceil_times(n), x.round_times(n));
-        holds_at(&rt, found == expected, &("floor_times", num, den, n));
+        holds_at(&rt, found == expected, &("times", given, n));
     }
 }
