@@ -1,4 +1,4 @@
-//! Dates: known ones, the ends of `i64`, and each day of six thousand years.
+//! Dates: known ones, the ends of `i64`, and leap years.
 
 mod ages;
 mod callers;
@@ -14,15 +14,18 @@ mod whole_months;
 
 use crate::assertions::holds_at;
 use calendar::Weekday::{Friday, Monday, Saturday, Sunday, Thursday, Tuesday, Wednesday};
-use calendar::{Date, Weekday, days_between, is_leap_year, weekday_of};
+use calendar::{Date, Weekday, is_leap_year, weekday_of};
 use std::process::Abort;
 
 const MIN: i64 = i64::MIN;
 
 const MAX: i64 = i64::MAX;
 
-/// Year, month and day of the month, the day, the day of the year, and the day of the week.
-const DATES: [((i64, u8, u8), i64, u16, Weekday); 25] = [
+/// A year, a month and a day of the month.
+type Parts = (i64, u8, u8);
+
+/// The parts of a date, the day, the day of the year, and the day of the week.
+const DATES: [(Parts, i64, u16, Weekday); 25] = [
     ((1970, 1, 1), 0, 1, Thursday),
     ((1969, 12, 31), -1, 365, Wednesday),
     ((2000, 2, 29), 11016, 60, Tuesday),
@@ -50,108 +53,71 @@ const DATES: [((i64, u8, u8), i64, u16, Weekday); 25] = [
     ((25252734927768524, 7, 27), MAX, 209, Thursday),
 ];
 
-/// Years, months and days of the month that are no dates.
-const NO_DATES: [(i64, u8, u8); 8] = [
-    (1900, 2, 29),
-    (2023, 2, 29),
-    (2000, 2, 30),
-    (2000, 4, 31),
-    (2000, 0, 1),
-    (2000, 13, 1),
-    (2000, 1, 0),
-    (2000, 1, 32),
+/// Years, and whether they are leap years.
+const YEARS: [(i64, bool); 8] = [
+    (2000, true),
+    (0, true),
+    (-4, true),
+    (2024, true),
+    (1900, false),
+    (-1, false),
+    (2023, false),
+    (-100, false),
 ];
 
 /// The date of a year, a month and a day of the month.
-fn date(rt: &impl Abort, (year, month, day_of_month): (i64, u8, u8)) -> Date {
+fn date(rt: &impl Abort, (year, month, day_of_month): Parts) -> Date {
     Date::new(year, month, day_of_month).expect(rt, "there is such a date")
+}
+
+/// The year, the month and the day of the month of a date.
+fn parts(date: Option<Date>) -> Option<Parts> {
+    let date = date?;
+    Some((date.year, date.month, date.day_of_month))
+}
+
+/// Returns `true` if the date is that of the day, and the day that of the date.
+fn has_day(date: &Date, day: i64) -> bool {
+    Date::from_day(day) == *date && date.day() == Some(day)
+}
+
+/// Returns `true` if the date is that of the day of its year, and the day that of the date.
+fn has_day_of_year(date: &Date, day: u16) -> bool {
+    Date::from_year_day(date.year, day) == Some(*date) && date.day_of_year() == day
 }
 
 #[test]
 fn known_dates(rt: HostRuntime) {
-    for (parts, day, day_of_year, weekday) in DATES {
-        let found = date(&rt, parts);
-        holds_at(
-            &rt,
-            found.day() == Some(day) && Date::from_day(day) == found,
-            &("day", day),
-        );
-        holds_at(
-            &rt,
-            found.day_of_year() == day_of_year
-                && Date::from_year_day(found.year, day_of_year) == Some(found),
-            &("day_of_year", day),
-        );
-        holds_at(
-            &rt,
-            weekday_of(day) == weekday && found.weekday() == weekday,
-            &("weekday_of", day),
-        );
+    for &(parts, day, day_of_year, weekday) in &DATES {
+        let date = date(&rt, parts);
+        let weekdays = (weekday_of(day), date.weekday());
+        holds_at(&rt, has_day(&date, day), &("day", day));
+        holds_at(&rt, has_day_of_year(&date, day_of_year), &("year_day", day));
+        holds_at(&rt, weekdays == (weekday, weekday), &("weekday", day));
     }
-    for (year, month, day_of_month) in NO_DATES {
-        holds_at(
-            &rt,
-            Date::new(year, month, day_of_month) == None,
-            &("Date::new", year, month, day_of_month),
-        );
+    for (month, day) in [(2, 30), (4, 31), (0, 1), (13, 1), (1, 0), (1, 32)] {
+        let date = Date::new(2000, month, day);
+        holds_at(&rt, date == None, &("Date::new", month, day));
     }
 }
 
 #[test]
 fn leap_years(rt: HostRuntime) {
-    for (year, leap) in [
-        (2000, true),
-        (0, true),
-        (-4, true),
-        (2024, true),
-        (1900, false),
-        (-1, false),
-        (2023, false),
-        (-100, false),
-    ] {
-        holds_at(&rt, is_leap_year(year) == leap, &("is_leap_year", year));
-        holds_at(
-            &rt,
-            Date::from_year_day(year, 366).is_some() == leap
-                && Date::new(year, 2, 29).is_some() == leap,
-            &("from_year_day", year),
-        );
+    for &(year, leap) in &YEARS {
+        let has_leap_day = Date::new(year, 2, 29).is_some();
+        let has_366_days = Date::from_year_day(year, 366).is_some();
+        let found = (is_leap_year(year), has_leap_day, has_366_days);
+        holds_at(&rt, found == (leap, leap, leap), &("is_leap_year", year));
     }
 }
 
-/// The first and the last day of `i64`, and the first and the last date.
+/// The first and the last date, beyond the days of `i64`.
 #[test]
 fn ends(rt: HostRuntime) {
-    let first = date(&rt, (-25252734927764585, 6, 7));
-    let last = date(&rt, (25252734927768524, 7, 27));
-    assert!(rt; Date::from_day(MIN) == first && first.day() == Some(MIN));
-    assert!(rt; Date::from_day(MAX) == last && last.day() == Some(MAX));
-    assert!(rt; days_between(&first, &last) == None && days_between(&last, &last) == Some(0));
     let (first, last) = (date(&rt, (MIN, 1, 1)), date(&rt, (MAX, 12, 31)));
-    assert!(rt; first.day() == None && last.day() == None);
-    assert!(rt; first.previous() == None && last.next() == None);
-    assert!(rt; days_between(&last, &date(&rt, (MAX, 1, 1))) == Some(-364));
-}
-
-/// Each day from the year -2000 to the year 4000. 1970 years before 1970 are 719528 days, and 400
-/// years 146097.
-#[test]
-fn each_day(rt: HostRuntime) {
-    let mut walked = date(&rt, (-2000, 1, 1));
-    for day in -719528 - 5 * 146097..-719528 + 10 * 146097 + 366 {
-        let found = Date::from_day(day);
-        holds_at(
-            &rt,
-            found == walked && found.day() == Some(day),
-            &("day", day),
-        );
-        let next = found.next().expect(&rt, "there is a next day");
-        holds_at(
-            &rt,
-            found < next && next.previous() == Some(found),
-            &("previous", day),
-        );
-        walked = next;
-    }
-    assert!(rt; walked == date(&rt, (4001, 1, 1)));
+    let days = (first.day(), last.day());
+    let beyond = (first.previous(), last.next(), first.iso_week());
+    holds_at(&rt, days == (None, None), &"day");
+    holds_at(&rt, beyond == (None, None, None), &"next");
+    holds_at(&rt, first.weekday() == Sunday, &"weekday");
 }

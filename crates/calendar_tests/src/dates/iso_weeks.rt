@@ -1,12 +1,13 @@
 //! The weeks of ISO 8601 around the first days of years, and at the ends of `i64`.
 
-use super::{MAX, MIN, date};
+use super::days::has_week;
+use super::{MAX, MIN, Parts, date};
 use crate::assertions::holds_at;
 use calendar::Weekday::{Friday, Monday, Saturday, Sunday, Thursday, Tuesday, Wednesday};
 use calendar::{Date, IsoWeek, Weekday, days_in_year, weeks_in_year};
 
-/// Year, month and day of the month, and year, week and day of the week.
-const WEEKS: [((i64, u8, u8), (i64, u8, Weekday)); 19] = [
+/// The parts of a date, and the year, the week and the day of the week.
+const WEEKS: [(Parts, (i64, u8, Weekday)); 19] = [
     ((2005, 1, 1), (2004, 53, Saturday)),
     ((2005, 1, 2), (2004, 53, Sunday)),
     ((2005, 12, 31), (2005, 52, Saturday)),
@@ -28,85 +29,45 @@ const WEEKS: [((i64, u8, u8), (i64, u8, Weekday)); 19] = [
     ((MAX, 12, 31), (MAX, 53, Thursday)),
 ];
 
+/// Years, weeks and days of the week that no date has, and those of dates beyond the ends.
+const NO_WEEKS: [(i64, u8, Weekday); 9] = [
+    (2005, 53, Monday),
+    (2005, 0, Monday),
+    (2004, 54, Monday),
+    (2004, 255, Monday),
+    (MAX, 53, Friday),
+    (MAX, 53, Saturday),
+    (MAX, 53, Sunday),
+    (MIN, 0, Sunday),
+    (MIN, 53, Monday),
+];
+
 #[test]
 fn known_weeks(rt: HostRuntime) {
-    for ((year, month, day), (iso_year, week, weekday)) in WEEKS {
-        let date = Date::from_iso_week(iso_year, week, weekday);
-        holds_at(
-            &rt,
-            date == Date::new(year, month, day),
-            &("from_iso_week", year, month, day),
-        );
-        let own = IsoWeek {
-            year: iso_year,
-            week,
-        };
-        holds_at(
-            &rt,
-            date.is_some_and(|date| date.iso_week() == Some(own) && date.weekday() == weekday),
-            &("iso_week", year, month, day),
-        );
+    for &(parts, (year, week, weekday)) in &WEEKS {
+        let is_known = has_week(&date(&rt, parts), IsoWeek { year, week }, weekday);
+        holds_at(&rt, is_known, &("iso_week", parts));
+    }
+    for &(year, week, weekday) in &NO_WEEKS {
+        let date = Date::from_iso_week(year, week, weekday);
+        holds_at(&rt, date == None, &("from_iso_week", year, week, weekday));
     }
 }
 
-#[test]
-fn no_weeks(rt: HostRuntime) {
-    for (year, week) in [(2005, 53), (2005, 0), (2004, 54), (2004, 255)] {
-        holds_at(
-            &rt,
-            Date::from_iso_week(year, week, Monday) == None,
-            &("from_iso_week", year, week),
-        );
-    }
-}
-
-/// The first date is a Sunday in the last week of the year before, and the last one is a Thursday in
-/// a week that ends in the year after.
-#[test]
-fn weeks_beyond_the_ends(rt: HostRuntime) {
-    let first = date(&rt, (MIN, 1, 1));
-    assert!(rt; first.weekday() == Sunday && first.iso_week() == None);
-    for weekday in [Friday, Saturday, Sunday] {
-        assert!(rt; Date::from_iso_week(MAX, 53, weekday) == None);
-    }
-    assert!(rt; Date::from_iso_week(MIN, 0, Sunday) == None);
-    assert!(rt; Date::from_iso_week(MIN, 53, Monday) == None);
-}
+/// The weeks and the days of some years.
+const YEARS: [((u8, u16), &[i64]); 4] = [
+    ((53, 366), &[2004, 2020]),
+    ((53, 365), &[2009, 2015, MAX]),
+    ((52, 366), &[2024, 0, MIN]),
+    ((52, 365), &[2005, 1900]),
+];
 
 #[test]
 fn weeks_of_years(rt: HostRuntime) {
-    for (year, weeks, days) in [
-        (2004, 53, 366),
-        (2005, 52, 365),
-        (2009, 53, 365),
-        (2015, 53, 365),
-        (2020, 53, 366),
-        (2024, 52, 366),
-        (1900, 52, 365),
-        (0, 52, 366),
-        (MIN, 52, 366),
-        (MAX, 53, 365),
-    ] {
-        holds_at(&rt, weeks_in_year(year) == weeks, &("weeks_in_year", year));
-        holds_at(&rt, days_in_year(year) == days, &("days_in_year", year));
-    }
-}
-
-/// Each of 800 years: 28 December is in the last week, and 31 December is the last day.
-#[test]
-fn last_weeks_of_years(rt: HostRuntime) {
-    for years in -400..400_i16 {
-        let year = i64::from(years);
-        let week = date(&rt, (year, 12, 28)).iso_week();
-        let own = IsoWeek {
-            year,
-            week: weeks_in_year(year),
-        };
-        holds_at(&rt, week == Some(own), &("weeks_in_year", year));
-        holds_at(
-            &rt,
-            date(&rt, (year, 12, 31)).day_of_year() == days_in_year(year),
-            &("days_in_year", year),
-        );
+    for &(expected, years) in &YEARS {
+        for &year in years {
+            let found = (weeks_in_year(year), days_in_year(year));
+            holds_at(&rt, found == expected, &("weeks_in_year", year));
+        }
     }
 }

@@ -4,12 +4,13 @@ ghost use Rattle.std.specs.Prelude.{IfErr, Some};
 ghost use Rattle.anyhow.specs.Error.{HasMessage};
 ghost use Rattle.calendar.specs.Text.{error_text};
 
+use super::{Parts, date};
 use crate::assertions::holds_at;
 use anyhow::Result;
 use calendar::{Date, DateError};
-use std::process::Abort;
+use std::alloc::{AllocError, Global};
 
-const TEXTS: [((i64, u8, u8), &str); 12] = [
+const TEXTS: [(Parts, &str); 12] = [
     ((2026, 11, 23), "2026-11-23"),
     ((1970, 1, 1), "1970-01-01"),
     ((9999, 12, 31), "9999-12-31"),
@@ -51,25 +52,25 @@ const NO_TEXTS: [&str; 24] = [
     "２026-11-23",
 ];
 
-#[test]
-fn both_ways(rt: HostRuntime) {
-    for ((year, month, day_of_month), text) in TEXTS {
-        let date = Date::new(year, month, day_of_month).expect(&rt, "there is such a date");
-        holds_at(&rt, text.parse::<Date>() == Ok(date), &("parse", year));
-        let printed = date.to_string(rt.alloc());
-        let printed = printed.expect(&rt, "there is memory");
-        holds_at(&rt, printed.as_str() == text, &("fmt", year));
-    }
+/// Returns `true` if the text is that of the date, and read as the date.
+fn is_text_of(date: &Date, text: &str, alloc: Global) -> Result<bool, AllocError> {
+    let printed = date.to_string(alloc)?;
+    Ok(printed.as_str() == text && text.parse() == Ok(*date))
+}
+
+/// Returns `true` if the text is read as no date.
+fn is_no_text(text: &str) -> bool {
+    text.parse::<Date>().is_err()
 }
 
 #[test]
-fn no_dates(rt: HostRuntime) {
-    for text in NO_TEXTS {
-        holds_at(
-            &rt,
-            text.parse::<Date>() == Err(DateError),
-            &("parse", text),
-        );
+fn texts_of_dates(rt: HostRuntime) {
+    for &(parts, text) in &TEXTS {
+        let is_text = is_text_of(&date(&rt, parts), text, rt.alloc());
+        holds_at(&rt, is_text == Ok(true), &("fmt", text));
+    }
+    for &text in &NO_TEXTS {
+        holds_at(&rt, is_no_text(text), &("parse", text));
     }
 }
 
@@ -85,12 +86,9 @@ fn year_of_text(text: &str) -> Result<i64>
 fn text_of_the_error(rt: HostRuntime) {
     let printed = DateError.to_string(rt.alloc());
     let printed = printed.expect(&rt, "there is memory");
-    assert!(rt; printed.as_str() == "not the text of a date");
+    holds_at(&rt, printed.as_str() == "not the text of a date", &"fmt");
     for (text, year) in [("2026-11-23", Some(2026)), ("2026-11-31", None)] {
-        holds_at(
-            &rt,
-            year_of_text(text).ok() == year,
-            &("year_of_text", text),
-        );
+        let found = year_of_text(text).ok();
+        holds_at(&rt, found == year, &("year_of_text", text));
     }
 }

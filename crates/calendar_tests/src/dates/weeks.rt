@@ -19,17 +19,6 @@ const FIRST: [(i64, Weekday, Option<i64>); 11] = [
     (i64::MAX, Friday, None),
 ];
 
-#[test]
-fn first_weekdays(rt: HostRuntime) {
-    for (day, weekday, first) in FIRST {
-        holds_at(
-            &rt,
-            first_weekday_on_or_after(day, weekday) == first,
-            &("first_weekday_on_or_after", day, weekday),
-        );
-    }
-}
-
 const LAST: [(i64, Weekday, Option<i64>); 14] = [
     (0, Thursday, Some(0)),
     (0, Friday, Some(-6)),
@@ -48,13 +37,14 @@ const LAST: [(i64, Weekday, Option<i64>); 14] = [
 ];
 
 #[test]
-fn last_weekdays(rt: HostRuntime) {
-    for (day, weekday, last) in LAST {
-        holds_at(
-            &rt,
-            last_weekday_on_or_before(day, weekday) == last,
-            &("last_weekday_on_or_before", day, weekday),
-        );
+fn first_and_last_weekdays(rt: HostRuntime) {
+    for &(day, weekday, first) in &FIRST {
+        let found = first_weekday_on_or_after(day, weekday);
+        holds_at(&rt, found == first, &("first_weekday", day, weekday));
+    }
+    for &(day, weekday, last) in &LAST {
+        let found = last_weekday_on_or_before(day, weekday);
+        holds_at(&rt, found == last, &("last_weekday", day, weekday));
     }
 }
 
@@ -66,41 +56,36 @@ const BY_NUMBER: [Weekday; 7] = [
 #[test]
 fn iso_numbers(rt: HostRuntime) {
     for number in 0..=u8::MAX {
-        let expected = match number.checked_sub(1) {
-            Some(place) => BY_NUMBER.get(usize::from(place)).copied(),
-            None => None,
-        };
+        let place = usize::from(number.wrapping_sub(1));
         let found = Weekday::from_iso_number(number);
-        holds_at(&rt, found == expected, &("from_iso_number", number));
+        let is_known = found == BY_NUMBER.get(place).copied();
+        holds_at(&rt, is_known, &("from_iso_number", number));
         if let Some(weekday) = found {
             holds_at(&rt, weekday.iso_number() == number, &("iso_number", number));
         }
     }
 }
 
-/// Returns `true` if the day of the week comes on the day, less than a week later or earlier than another.
-fn is_near(day: Option<i64>, other: i64, weekday: Weekday) -> bool {
-    day.is_some_and(|day| weekday_of(day) == weekday && day.abs_diff(other) < 7)
+/// Returns `true` if the first day from the day on that has the day of the week, and the last one up to it, are
+/// less than a week away, on their sides.
+fn are_near(day: i64, weekday: Weekday) -> Option<bool> {
+    let first = first_weekday_on_or_after(day, weekday)?;
+    let last = last_weekday_on_or_before(day, weekday)?;
+    let are_on_their_sides = last <= day && day <= first;
+    let are_within_a_week = day.abs_diff(last) < 7 && first.abs_diff(day) < 7;
+    let have_weekday = weekday_of(first) == weekday && weekday_of(last) == weekday;
+    Some(are_on_their_sides && are_within_a_week && have_weekday)
 }
 
-/// Each of 1000 days around day 0 and at both ends: the first day from it on and the last up to it that
-/// have a day of the week are less than a week away, on their sides.
+/// Each of 1000 days around day 0 and at both ends.
 #[test]
 fn weekdays_within_a_week(rt: HostRuntime) {
     for from in [-500, i64::MIN + 7, i64::MAX - 1007] {
         for place in 0..1000_i16 {
             let day = from.wrapping_add(i64::from(place));
             for weekday in BY_NUMBER {
-                let first = first_weekday_on_or_after(day, weekday);
-                let last = last_weekday_on_or_before(day, weekday);
-                holds_at(
-                    &rt,
-                    is_near(first, day, weekday)
-                        && is_near(last, day, weekday)
-                        && Some(day) <= first
-                        && last <= Some(day),
-                    &("weekday_on", day),
-                );
+                let are_near = are_near(day, weekday) == Some(true);
+                holds_at(&rt, are_near, &("weekday_on", day, weekday));
             }
         }
     }

@@ -1,57 +1,52 @@
 //! The whole months from a date to another: known ones, the ends of `i64`, and each pair of some dates.
 
-use super::{MAX, MIN, date};
+use super::{MAX, MIN, Parts, date};
 use crate::assertions::holds_at;
 use calendar::{Date, days_in_month, months_between};
 
-/// Two dates, and the number of whole months from the first to the second.
-const BETWEEN: [((i64, u8, u8), (i64, u8, u8), i64); 18] = [
-    ((2000, 1, 31), (2000, 2, 29), 1),
-    ((2000, 1, 31), (2000, 2, 28), 0),
-    ((2000, 1, 31), (2000, 1, 31), 0),
-    ((2000, 1, 31), (2000, 3, 30), 1),
-    ((2000, 1, 31), (2000, 3, 31), 2),
-    ((2000, 2, 29), (2001, 2, 28), 12),
-    ((2000, 2, 29), (2001, 2, 27), 11),
-    ((2000, 2, 29), (2004, 2, 29), 48),
-    ((2000, 3, 1), (2000, 2, 29), -1),
-    ((2000, 3, 1), (2000, 2, 1), -1),
-    ((2000, 3, 1), (2000, 1, 31), -2),
-    ((2000, 3, 31), (2000, 2, 29), -1),
-    ((2000, 3, 31), (2000, 2, 28), -2),
-    ((-1, 12, 31), (0, 1, 30), 0),
-    ((0, 1, 1), (768614336404564650, 8, 1), MAX),
-    ((0, 1, 2), (768614336404564650, 9, 1), MAX),
-    ((0, 1, 1), (-768614336404564651, 5, 1), MIN),
-    ((MAX, 1, 31), (MAX, 12, 31), 11),
+/// Two dates, and the number of whole months from the first to the second, or `None` where it does not fit.
+const BETWEEN: [(Parts, Parts, Option<i64>); 25] = [
+    ((2000, 1, 31), (2000, 2, 29), Some(1)),
+    ((2000, 1, 31), (2000, 2, 28), Some(0)),
+    ((2000, 1, 31), (2000, 1, 31), Some(0)),
+    ((2000, 1, 31), (2000, 3, 30), Some(1)),
+    ((2000, 1, 31), (2000, 3, 31), Some(2)),
+    ((2000, 2, 29), (2001, 2, 28), Some(12)),
+    ((2000, 2, 29), (2001, 2, 27), Some(11)),
+    ((2000, 2, 29), (2004, 2, 29), Some(48)),
+    ((2000, 3, 1), (2000, 2, 29), Some(-1)),
+    ((2000, 3, 1), (2000, 2, 1), Some(-1)),
+    ((2000, 3, 1), (2000, 1, 31), Some(-2)),
+    ((2000, 3, 31), (2000, 2, 29), Some(-1)),
+    ((2000, 3, 31), (2000, 2, 28), Some(-2)),
+    ((-1, 12, 31), (0, 1, 30), Some(0)),
+    ((0, 1, 1), (768614336404564650, 8, 1), Some(MAX)),
+    ((0, 1, 2), (768614336404564650, 9, 1), Some(MAX)),
+    ((0, 1, 1), (-768614336404564651, 5, 1), Some(MIN)),
+    ((MAX, 1, 31), (MAX, 12, 31), Some(11)),
+    ((0, 1, 1), (768614336404564650, 9, 1), None),
+    ((0, 1, 1), (-768614336404564651, 4, 30), None),
+    ((MIN, 1, 1), (MAX, 12, 31), None),
+    ((MAX, 12, 31), (MIN, 1, 1), None),
+    ((MIN, 1, 1), (MIN, 1, 1), Some(0)),
+    ((MAX, 12, 30), (MAX, 12, 31), Some(0)),
+    ((MAX, 12, 31), (MAX, 12, 30), Some(-1)),
 ];
 
 #[test]
 fn months_between_dates(rt: HostRuntime) {
-    for (from, to, months) in BETWEEN {
+    for &(from, to, months) in &BETWEEN {
         let found = months_between(&date(&rt, from), &date(&rt, to));
-        holds_at(&rt, found == Some(months), &("months_between", months));
+        holds_at(&rt, found == months, &("months_between", from, to));
     }
 }
 
-/// The first months that do not fit, on both sides, and the first and the last date.
-#[test]
-fn months_beyond_the_ends(rt: HostRuntime) {
-    let start = date(&rt, (0, 1, 1));
-    assert!(rt; months_between(&start, &date(&rt, (768614336404564650, 9, 1))) == None);
-    assert!(rt; months_between(&start, &date(&rt, (-768614336404564651, 4, 30))) == None);
-    let (first, last) = (date(&rt, (MIN, 1, 1)), date(&rt, (MAX, 12, 31)));
-    assert!(rt; months_between(&first, &last) == None && months_between(&last, &first) == None);
-    assert!(rt; months_between(&first, &first) == Some(0));
-    assert!(rt; months_between(&date(&rt, (MAX, 12, 30)), &last) == Some(0));
-    assert!(rt; months_between(&last, &date(&rt, (MAX, 12, 30))) == Some(-1));
-}
-
-/// Returns `true` if the months after a date lead no further than another, and a month more leads beyond.
-fn are_between(from: &Date, to: &Date, months: i64) -> bool {
-    let reached = from.plus_months(months);
-    let next = from.plus_months(months.wrapping_add(1));
-    reached.is_some_and(|date| date <= *to) && next.is_some_and(|date| *to < date)
+/// Returns `true` if the whole months after a date lead no further than another, and a month more leads beyond.
+fn are_whole_months(from: &Date, to: &Date) -> Option<bool> {
+    let months = months_between(from, to)?;
+    let reached = from.plus_months(months)?;
+    let next = from.plus_months(months.wrapping_add(1))?;
+    Some(reached <= *to && *to < next)
 }
 
 /// Each pair of the 1st, 15th and the four last days of the months of three years, one of them a leap
@@ -70,12 +65,8 @@ fn each_pair_of_three_years(rt: HostRuntime) {
                     let Some(to) = Date::new(other_year, other_month, other_day) else {
                         continue;
                     };
-                    let months = months_between(&from, &to);
-                    holds_at(
-                        &rt,
-                        months.is_some_and(|months| are_between(&from, &to, months)),
-                        &("months_between", from.year, from.month, day),
-                    );
+                    let are_whole = are_whole_months(&from, &to) == Some(true);
+                    holds_at(&rt, are_whole, &("months_between", from, to));
                 }
             }
         }
@@ -90,16 +81,9 @@ fn ends_of_months(rt: HostRuntime) {
         let place = 11 + months;
         let (year, month) = (1999 + i64::from(place / 12), place % 12 + 1);
         let last = date(&rt, (year, month, days_in_month(year, month)));
-        holds_at(
-            &rt,
-            months_between(&from, &last) == Some(i64::from(months)),
-            &("months_between", months),
-        );
         let before = last.previous().expect(&rt, "there is a day before");
-        holds_at(
-            &rt,
-            months_between(&from, &before) == Some(i64::from(months) - 1),
-            &("months_between", months),
-        );
+        let found = (months_between(&from, &before), months_between(&from, &last));
+        let expected = (Some(i64::from(months) - 1), Some(i64::from(months)));
+        holds_at(&rt, found == expected, &("months_between", months));
     }
 }
