@@ -3,6 +3,7 @@
 ghost use Rattle.intcalc_core.specs.Only.{IsOnly};
 ghost use Rattle.intcalc_core.specs.Outcome.{Outcome};
 
+use super::holds_at;
 use intcalc_core::{Answer, Call, Kind, Refusal, evaluate};
 
 /// A kind and a call have exactly one outcome.
@@ -13,48 +14,44 @@ fn only_outcome(kind: Kind, call: Call) -> Result<Answer, Refusal>
     evaluate(kind, call)
 }
 
+const REFUSALS: [(Refusal, u32, &str); 7] = [
+    (Refusal::OutOfType, 1, "OutOfType"),
+    (Refusal::ZeroDivisor, 2, "ZeroDivisor"),
+    (Refusal::ZeroDegree, 3, "ZeroDegree"),
+    (Refusal::NegativeRoot, 4, "NegativeRoot"),
+    (Refusal::NegativeCount, 5, "NegativeCount"),
+    (Refusal::NotFitting, 6, "NotFitting"),
+    (Refusal::NoPair, 7, "NoPair"),
+];
+
 #[test]
 fn refusals(rt: HostRuntime) {
-    let rows = [
-        (Refusal::OutOfType, 1, "OutOfType"),
-        (Refusal::ZeroDivisor, 2, "ZeroDivisor"),
-        (Refusal::ZeroDegree, 3, "ZeroDegree"),
-        (Refusal::NegativeRoot, 4, "NegativeRoot"),
-        (Refusal::NegativeCount, 5, "NegativeCount"),
-        (Refusal::NotFitting, 6, "NotFitting"),
-        (Refusal::NoPair, 7, "NoPair"),
-    ];
-    for (refusal, number, name) in rows {
-        assert_eq!(rt; refusal.number(), number);
-        assert_eq!(rt; refusal.name(), name);
+    for &(refusal, number, name) in &REFUSALS {
+        let is_known = refusal.number() == number && refusal.name() == name;
+        holds_at(&rt, is_known, &name);
     }
 }
+
+/// Calls whose operands lie at the ends of `i128`, or whose degree lies outside `u32`.
+const OUT_OF_TYPE: [(Kind, Call); 9] = [
+    (Kind::U64, Call::ModFloor(-9223372036854775808, -1)),
+    (Kind::I64, Call::DivRem(i128::MIN, 0)),
+    (Kind::I8, Call::Gcd(i128::MAX, i128::MIN)),
+    (Kind::U64, Call::NthRoot(5, -1)),
+    (Kind::U64, Call::NthRoot(5, i128::MAX)),
+    (Kind::I64, Call::RatioAdd(i128::MIN, 0, 1, 1)),
+    (Kind::I64, Call::RatioAdd(1, 0, 1, i128::MAX)),
+    (Kind::I64, Call::RatioMul(1, i128::MAX, 1, 0)),
+    (Kind::I64, Call::RatioMul(1, 1, i128::MIN, i128::MIN)),
+];
 
 #[test]
 fn outcomes(rt: HostRuntime) {
-    let call = Call::ModFloor(i128::from(i64::MIN), -1);
-    assert_eq!(rt; only_outcome(Kind::I64, call), Ok(Answer::One(0)));
-    assert_eq!(rt; only_outcome(Kind::U64, call), Err(Refusal::OutOfType));
-    let call = Call::DivRem(i128::MIN, 0);
-    assert_eq!(rt; only_outcome(Kind::I64, call), Err(Refusal::OutOfType));
-    let call = Call::Gcd(i128::MAX, i128::MIN);
-    assert_eq!(rt; only_outcome(Kind::I8, call), Err(Refusal::OutOfType));
-    for degree in [-1, i128::MAX] {
-        let call = Call::NthRoot(5, degree);
-        assert_eq!(rt; only_outcome(Kind::U64, call), Err(Refusal::OutOfType));
-    }
-}
-
-/// The calls whose operands lie at the ends of `i128`, or whose degree lies outside `u32`, asked of
-/// `evaluate` itself.
-#[test]
-fn operands_far_outside(rt: HostRuntime) {
-    for (kind, call) in [
-        (Kind::I64, Call::DivRem(i128::MIN, 0)),
-        (Kind::I8, Call::Gcd(i128::MAX, i128::MIN)),
-        (Kind::U64, Call::NthRoot(5, -1)),
-        (Kind::U64, Call::NthRoot(5, i128::MAX)),
-    ] {
-        assert_eq!(rt; evaluate(kind, call), Err(Refusal::OutOfType));
+    let call = Call::ModFloor(-9223372036854775808, -1);
+    let rest = only_outcome(Kind::I64, call);
+    holds_at(&rt, rest == Ok(Answer::One(0)), &"ModFloor");
+    for (place, &(kind, call)) in OUT_OF_TYPE.iter().enumerate() {
+        let refused = only_outcome(kind, call) == Err(Refusal::OutOfType);
+        holds_at(&rt, refused, &place);
     }
 }

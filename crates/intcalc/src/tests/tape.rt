@@ -3,7 +3,7 @@
 use std::io::{self, ErrorKind, Write};
 
 /// What a writer does wrong, once: after it, the writer is as good as new.
-#[derive(Clone, Copy, Debug)]
+#[derive(Clone, Copy)]
 pub enum Fault {
     /// The write after this number of bytes returns an error of this kind, or takes no byte.
     Write(usize, Option<ErrorKind>),
@@ -25,7 +25,10 @@ impl Write for Tape {
         match self.fault {
             Some(Fault::Write(after, kind)) if after == self.text.len() => {
                 self.fault = None;
-                kind.map_or(Ok(0), |kind| Err(io::Error::from(kind)))
+                match kind {
+                    Some(kind) => Err(io::Error::from(kind)),
+                    None => Ok(0),
+                }
             }
             _ => self.text.write(&buf[..buf.len().min(self.most)]),
         }
