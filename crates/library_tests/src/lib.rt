@@ -2,12 +2,4 @@
 #![tactic(auto)]
 
 #[cfg(test)]
-mod assertions;
-#[cfg(test)]
-mod calls;
-#[cfg(test)]
-mod cookbook;
-#[cfg(test)]
-mod residues;
-#[cfg(test)]
-mod types;
+mod tests;

@@ -1,0 +1,140 @@
+//! Worked ranks and choices, and the choices that follow them.
+
+ghost use Rattle.std.specs.Prelude.{◌≡◌, ◌+◌, ◌<◌, ◌^◌, IsTrue, length};
+ghost use Rattle.num_integer.specs.Coefficient.{coefficient};
+ghost use Rattle.uses.specs.Ranking.{IsChoice, rank_of};
+
+use crate::tests::assertions::holds_at;
+use num_integer::{Fits, binomial};
+use std::process::Abort;
+use uses::ranking::{choice_of_rank, next_choice, rank};
+
+/// The choices of three of the numbers below 5, in the order of their ranks.
+const THREE_OF_FIVE: [[u64; 3]; 10] = [
+    [0, 1, 2],
+    [0, 1, 3],
+    [0, 2, 3],
+    [1, 2, 3],
+    [0, 1, 4],
+    [0, 2, 4],
+    [1, 2, 4],
+    [0, 3, 4],
+    [1, 3, 4],
+    [2, 3, 4],
+];
+
+#[tactic(auto, unfolding(num_integer::specs::Coefficient::coefficient))]
+#[test]
+fn ranks(rt: HostRuntime) {
+    assert!(rt; rank(&[0, 1, 2], 5) == 0 && rank(&[0, 2, 3], 5) == 2 && rank(&[2, 3, 4], 5) == 9);
+    assert!(rt; rank(&[], 5) == 0 && rank(&[3], 5) == 3 && rank(&[0, 1, 2, 3, 4], 5) == 0);
+}
+
+#[tactic(auto, unfolding(num_integer::specs::Coefficient::coefficient))]
+#[test]
+fn each_rank(rt: HostRuntime) {
+    for (i, numbers) in THREE_OF_FIVE.iter().enumerate() {
+        let mut choice = [0; 3];
+        choice_of_rank(i as u64, 5, &mut choice);
+        holds_at(
+            &rt,
+            choice == *numbers && rank(&choice, 5) == i as u64,
+            &("rank", i),
+        );
+    }
+}
+
+/// Fills the slice with the choice of a rank, which is the rank of that choice.
+fn fill(rt: &impl Abort, wanted: u64, n: u64, choice: &mut [u64])
+    ensures choice { IsChoice n choice.new }
+    ensures ranks_fit { coefficient n (length choice.new) < 2 ^ 64 }
+{
+    let k = choice.len() as u64;
+    assert!(rt; n.binomial_fits(&k) && wanted < binomial(n, k));
+    choice_of_rank(wanted, n, choice);
+    assert!(rt; rank(choice, n) == wanted);
+}
+
+#[test]
+fn great_choices(rt: HostRuntime) {
+    let mut lottery = [0; 6];
+    fill(&rt, 13983815, 49, &mut lottery);
+    assert!(rt; lottery == [43, 44, 45, 46, 47, 48]);
+
+    let mut one = [0];
+    fill(&rt, 12345678901234567890, u64::MAX, &mut one);
+    assert!(rt; one == [12345678901234567890]);
+
+    let mut most = [0; 98];
+    fill(&rt, 4949, 100, &mut most);
+    assert!(rt; most[0] == 2 && most[49] == 51 && most[97] == 99);
+}
+
+/// The choice two ranks on, where there is one.
+fn two_further(choice: &mut [u64], n: u64) -> bool
+    requires { IsChoice n choice.old }
+    ensures choice { IsChoice n choice.new }
+    ensures rank { IsTrue result → rank_of choice.new ≡ rank_of choice.old + 2 }
+{
+    next_choice(choice, n) && next_choice(choice, n)
+}
+
+/// Whether the numbers are the places of the ones of the mask.
+fn are_ones(choice: &[u64], mask: u64) -> bool {
+    let mut ones: u64 = 0;
+    for number in choice {
+        if *number < 64 {
+            ones |= 1 << *number;
+        }
+    }
+    ones == mask
+}
+
+/// Goes from the choice of a rank to the next, which is that of the mask.
+fn step_to(rt: &impl Abort, rank: u64, n: u64, choice: &mut [u64], mask: u64) {
+    fill(rt, rank, n, choice);
+    holds_at(
+        rt,
+        next_choice(choice, n) && are_ones(choice, mask),
+        &(n, rank, mask),
+    );
+}
+
+/// In the order of their ranks, the masks of choices of numbers below `n` increase.
+fn follow_masks(rt: &impl Abort, n: u64, choice: &mut [u64]) {
+    let mut masks: u64 = 0;
+    for mask in 0u64..256 {
+        if mask.count_ones() as usize == choice.len() && mask < 1 << n.min(8) {
+            if masks > 0 {
+                step_to(rt, masks.wrapping_sub(1), n, choice, mask);
+            }
+            masks = masks.wrapping_add(1);
+        }
+    }
+    fill(rt, masks.wrapping_sub(1), n, choice);
+    let last = rank(choice, n);
+    holds_at(rt, !next_choice(choice, n) && rank(choice, n) == last, &n);
+}
+
+#[test]
+fn next_choices_of_few_numbers(rt: HostRuntime) {
+    let mut numbers = [0; 8];
+    for n in 0u64..8 {
+        for k in 0..n as usize + 1 {
+            follow_masks(&rt, n, &mut numbers[..k]);
+        }
+    }
+}
+
+#[tactic(auto, unfolding(num_integer::specs::Coefficient::coefficient))]
+#[test]
+fn next_choices(rt: HostRuntime) {
+    let mut choice = [0, 1, 4];
+    assert!(rt; next_choice(&mut choice, 5) && choice == [0, 2, 4]);
+    let mut last = [u64::MAX - 1];
+    assert!(rt; !next_choice(&mut last, u64::MAX) && last == [u64::MAX - 1]);
+    let mut wide = [0, u64::MAX - 3, u64::MAX - 2];
+    assert!(rt; two_further(&mut wide, u64::MAX) && wide == [2, u64::MAX - 3, u64::MAX - 2]);
+    let mut none: [u64; 0] = [];
+    assert!(rt; !next_choice(&mut none, 0));
+}

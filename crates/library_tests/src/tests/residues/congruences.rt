@@ -1,0 +1,165 @@
+//! Linear congruences.
+
+use super::{MAX, MIN};
+use crate::tests::answers::Call::{
+    ChineseRemainder, CountCongruent, NextCommonSolution, NextCongruent, PreviousCongruent,
+    Solutions,
+};
+use crate::tests::assertions::holds_at;
+use crate::tests::rows::{Next, Row, next_hold, rows_hold};
+use modular::CommonSolution::{At, Beyond, Never};
+use modular::next_common_solution_of;
+use test_types::types::Type::{I8, I64, I128, U8, U64, U128};
+
+const MAX_U64: i128 = u64::MAX as i128;
+
+const ROWS: [Row<i128>; 51] = [
+    (U8, Solutions, 10, &[6, 4], &[4, 5]),
+    (U8, Solutions, 5, &[0, 1], &[]),
+    (U8, Solutions, 1, &[5, 0], &[0, 1]),
+    (U8, Solutions, 240, &[200, 40], &[5, 6]),
+    (I8, Solutions, 10, &[6, 3], &[]),
+    (I8, Solutions, 7, &[-3, 2], &[4, 7]),
+    (I8, Solutions, 5, &[0, 0], &[0, 1]),
+    (
+        U64,
+        Solutions,
+        10000000000000000000,
+        &[6000000000000000002, 4],
+        &[4000000000000000002, 5000000000000000000],
+    ),
+    (I64, ChineseRemainder, 4, &[1, 3, 6], &[9, 12]),
+    (I64, ChineseRemainder, 4, &[1, 2, 6], &[]),
+    (I64, ChineseRemainder, 3, &[2, 3, 5], &[8, 15]),
+    (I64, ChineseRemainder, 4, &[-1, 5, 9], &[23, 36]),
+    (I64, ChineseRemainder, 1, &[7, 3, 1], &[0, 1]),
+    (I64, ChineseRemainder, 100, &[3, 53, 120], &[]),
+    (I64, ChineseRemainder, 6, &[5, 1, 4], &[5, 12]),
+    (I64, ChineseRemainder, 200, &[100, 20, 80], &[100, 400]),
+    (I64, ChineseRemainder, MAX, &[MIN, -1, 1], &[MAX - 1, MAX]),
+    (
+        U64,
+        ChineseRemainder,
+        4294967291,
+        &[5, 7, 4294967279],
+        &[3074457330585873085, 18446743979220271189],
+    ),
+    (I64, NextCongruent, 4, &[10, 1], &[13]),
+    (I64, NextCongruent, 4, &[-10, 1], &[-7]),
+    (I64, NextCongruent, 4, &[13, 1], &[13]),
+    (I64, NextCongruent, 5, &[MAX, MAX], &[MAX]),
+    (I64, NextCongruent, MAX, &[MIN, MAX], &[MIN + 1]),
+    (I64, NextCongruent, 2, &[MAX, 0], &[]),
+    (I64, NextCongruent, 2, &[MAX - 1, 0], &[MAX - 1]),
+    (I8, NextCongruent, 9, &[120, 1], &[127]),
+    (I8, NextCongruent, 9, &[120, 2], &[]),
+    (I64, PreviousCongruent, 4, &[10, 1], &[9]),
+    (I64, PreviousCongruent, 4, &[-10, 1], &[-11]),
+    (I64, PreviousCongruent, 4, &[9, 1], &[9]),
+    (I64, PreviousCongruent, 5, &[MIN, MIN], &[MIN]),
+    (I64, PreviousCongruent, MAX, &[MAX, MIN], &[MAX - 1]),
+    (I64, PreviousCongruent, 2, &[MIN, 1], &[]),
+    (I64, PreviousCongruent, 2, &[MIN + 1, 1], &[MIN + 1]),
+    (U8, PreviousCongruent, 9, &[3, 4], &[]),
+    (U8, PreviousCongruent, 9, &[4, 4], &[4]),
+    (I8, CountCongruent, 2, &[-128, 127, 0], &[]),
+    (I8, CountCongruent, 3, &[-128, 127, 0], &[85]),
+    (I8, CountCongruent, 2, &[-127, 127, 0], &[127]),
+    (I8, CountCongruent, 2, &[-127, 127, 1], &[]),
+    (I8, CountCongruent, 4, &[1, 10, 1], &[3]),
+    (I8, CountCongruent, 1, &[1, 0, 0], &[0]),
+    (I8, CountCongruent, 1, &[127, -128, 0], &[0]),
+    (I8, CountCongruent, 2, &[127, 127, 1], &[1]),
+    (I8, CountCongruent, 2, &[127, 127, 0], &[0]),
+    (I8, CountCongruent, 127, &[-128, -128, -128], &[1]),
+    (U64, CountCongruent, 1, &[0, MAX_U64, 0], &[]),
+    (U64, CountCongruent, 1, &[1, MAX_U64, 0], &[MAX_U64]),
+    (I64, CountCongruent, 2, &[MIN, MAX, 0], &[]),
+    (
+        I64,
+        CountCongruent,
+        3,
+        &[MIN, MAX, 0],
+        &[6148914691236517205],
+    ),
+    (
+        I128,
+        CountCongruent,
+        i128::MAX,
+        &[i128::MIN, i128::MAX, 0],
+        &[3],
+    ),
+];
+
+const NEXT: [Next<i128>; 12] = [
+    (I8, NextCommonSolution, 10, (1, 4), (3, 6), At(21)),
+    (I8, NextCommonSolution, 21, (1, 4), (3, 6), At(21)),
+    (I8, NextCommonSolution, -20, (1, 4), (3, 6), At(-15)),
+    (I8, NextCommonSolution, 10, (1, 4), (2, 6), Never),
+    (I8, NextCommonSolution, 118, (1, 4), (3, 6), Beyond),
+    (I8, NextCommonSolution, -128, (5, 10), (0, 13), At(-65)),
+    (I8, NextCommonSolution, -64, (5, 10), (0, 13), At(65)),
+    (I8, NextCommonSolution, 66, (5, 10), (0, 13), Beyond),
+    (I8, NextCommonSolution, -128, (2, 10), (2, 13), At(-128)),
+    (I8, NextCommonSolution, -127, (2, 10), (2, 13), At(2)),
+    (I8, NextCommonSolution, -128, (7, 127), (7, 126), At(7)),
+    (I8, NextCommonSolution, 127, (0, 1), (-1, 1), At(127)),
+];
+
+/// Moduli whose common multiple no type holds.
+const WIDE_NEXT: [Next<u128>; 2] = [
+    (
+        U128,
+        NextCommonSolution,
+        0,
+        (5, u128::MAX),
+        (5, u128::MAX - 1),
+        At(5),
+    ),
+    (
+        U128,
+        NextCommonSolution,
+        6,
+        (5, u128::MAX),
+        (5, u128::MAX - 1),
+        Beyond,
+    ),
+];
+
+#[test]
+fn worked_congruences(rt: HostRuntime) {
+    rows_hold(&rt, &ROWS);
+    next_hold(&rt, &NEXT);
+    next_hold(&rt, &WIDE_NEXT);
+}
+
+#[test]
+fn next_common_solutions_of_several(rt: HostRuntime) {
+    for (from, next) in [(-128i8, At(0)), (0, At(0)), (1, Beyond)] {
+        let found = next_common_solution_of(from, &[(0, 11), (0, 13), (0, 7)]);
+        holds_at(&rt, found == next, &("next_common_solution_of", from));
+    }
+    for (from, next) in [(10, At(21)), (22, At(105))] {
+        let found = next_common_solution_of(from, &[(1, 4), (3, 6), (0, 7)]);
+        holds_at(&rt, found == next, &("next_common_solution_of", from));
+    }
+    assert!(rt; next_common_solution_of(127u8, &[]) == At(127));
+    assert!(rt; next_common_solution_of(-128i8, &[(-1, 127)]) == At(-128));
+    assert!(rt; next_common_solution_of(10, &[(1, 4), (0, 5), (2, 6)]) == Never);
+    assert!(rt; next_common_solution_of(-128i8, &[(1, 100), (0, 99), (2, 100)]) == Never);
+    assert!(rt; next_common_solution_of(-128i8, &[(28, 126), (28, 127), (28, 125)]) == At(28));
+}
+
+/// Moduli whose common multiple no type holds.
+#[test]
+fn next_common_solutions_at_the_ends(rt: HostRuntime) {
+    let (m, n, k) = (u128::MAX, u128::MAX - 1, u128::MAX - 2);
+    for (from, next) in [(0, At(5)), (6, Beyond)] {
+        let found = next_common_solution_of(from, &[(5, m), (5, n), (5, k)]);
+        holds_at(&rt, found == next, &("next_common_solution_of", from));
+    }
+    assert!(rt; next_common_solution_of(0, &[(5, m), (5, n), (4, n)]) == Never);
+    let (least, m) = (i64::MIN, i64::MAX);
+    assert!(rt; next_common_solution_of(least, &[(-1, m), (-1, m - 1), (-1, 7)]) == At(-1));
+    assert!(rt; next_common_solution_of(least, &[(0, m), (-1, m - 1)]) == At(-m));
+}

@@ -1,0 +1,94 @@
+//! Arithmetic modulo each number above 0 of a type that the library does not know, against computation in
+//! 128 bits and by trial.
+
+use super::cents::Cents;
+use crate::tests::assertions::holds_at;
+use modular::{difference_modulo, inverse_modulo, power_modulo, product_modulo, sum_modulo};
+use num_integer::operators::{is_below, zero};
+use std::process::Abort;
+
+/// The amount, where it lies below one euro.
+fn cents(number: i64) -> Option<Cents> {
+    if -99 <= number && number <= 99 {
+        Some(Cents::new(number))
+    } else {
+        None
+    }
+}
+
+/// The residue of a number.
+fn residue_of(z: Option<i128>, m: i64) -> Option<i128> {
+    z?.checked_rem_euclid(m.into())
+}
+
+/// The number of an amount.
+fn number_of(amount: Cents) -> Option<i128> {
+    Some(amount.number().into())
+}
+
+/// The sum, the difference and the product of two amounts.
+fn has_operations(rt: &impl Abort, (a, x): (i64, Cents), (b, y): (i64, Cents), m: i64) {
+    let n = cents(m).expect(rt, "the modulus is an amount");
+    if is_below(zero(), n) {
+        let (a, b) = (i128::from(a), i128::from(b));
+        let found = (
+            number_of(sum_modulo(x, y, n)),
+            number_of(difference_modulo(x, y, n)),
+            number_of(product_modulo(x, y, n)),
+        );
+        let expected = (
+            residue_of(a.checked_add(b), m),
+            residue_of(a.checked_sub(b), m),
+            residue_of(a.checked_mul(b), m),
+        );
+        holds_at(rt, found == expected, &("sum_modulo", a, b, m));
+    }
+}
+
+/// The one number x from 0 to below `m` for which `a` times x is 1 modulo `m`, found by trial, or `None`
+/// where there are none or several.
+fn only_inverse(a: i64, m: i64) -> Option<i128> {
+    let mut found = None;
+    let rest = residue_of(Some(1), m);
+    for x in 0..m {
+        let product = i128::from(a).checked_mul(i128::from(x));
+        if residue_of(product, m) == rest {
+            if found.is_some() {
+                return None;
+            }
+            found = Some(i128::from(x));
+        }
+    }
+    found
+}
+
+/// The powers and the inverse of an amount.
+fn has_powers(rt: &impl Abort, (a, x): (i64, Cents), m: i64) {
+    let n = cents(m).expect(rt, "the modulus is an amount");
+    if is_below(zero(), n) {
+        for degree in [0, 1, 2, 13, 18] {
+            let power = number_of(power_modulo(x, degree.into(), n));
+            holds_at(
+                rt,
+                power == residue_of(i128::from(a).checked_pow(degree), m),
+                &("power_modulo", a, degree, m),
+            );
+        }
+        let inverse = inverse_modulo(x, n).and_then(number_of);
+        holds_at(rt, inverse == only_inverse(a, m), &("inverse_modulo", a, m));
+    }
+}
+
+#[test]
+fn residues_of_own_numbers(rt: HostRuntime) {
+    for m in 1..=99 {
+        for a in -99..=99 {
+            let x = cents(a).expect(&rt, "the number is an amount");
+            has_powers(&rt, (a, x), m);
+            for b in [-99, -98, -50, -1, 0, 1, 2, 64, 97, 99] {
+                let y = cents(b).expect(&rt, "the number is an amount");
+                has_operations(&rt, (a, x), (b, y), m);
+            }
+        }
+    }
+}

@@ -1,0 +1,108 @@
+//! Rows of tables: a call, its operands and its answer.
+
+use super::answers::{Answer, Call, Operands, ask};
+use super::assertions::holds_at;
+use modular::CommonSolution;
+use std::process::Abort;
+use test_types::signed_magnitude::{SignedMagnitude, signed_magnitude_of};
+use test_types::types::Type;
+
+/// A number in a table.
+pub(crate) trait Entry: Copy {
+    fn parts(self) -> SignedMagnitude;
+}
+
+impl Entry for i128 {
+    fn parts(self) -> SignedMagnitude {
+        signed_magnitude_of(self)
+    }
+}
+
+impl Entry for u128 {
+    fn parts(self) -> SignedMagnitude {
+        (false, self)
+    }
+}
+
+impl Entry for SignedMagnitude {
+    fn parts(self) -> SignedMagnitude {
+        self
+    }
+}
+
+/// A type, a call, its operand above 0, its other operands, and the numbers of its answer, if it has one.
+pub(crate) type Row<N> = (Type, Call, N, &'static [N], &'static [N]);
+
+/// The operands, and 0 for each that is not there.
+pub(crate) fn operands<N: Entry>(numbers: &[N]) -> Operands {
+    let mut all = [(false, 0); 4];
+    for (place, number) in all.iter_mut().zip(numbers) {
+        *place = number.parts();
+    }
+    all
+}
+
+/// The answer of these numbers.
+fn answer_of<N: Entry>(numbers: &[N]) -> Option<Answer> {
+    match numbers {
+        [] => None,
+        [number] => Some(Answer::Number(number.parts())),
+        [first, second, ..] => Some(Answer::Pair(first.parts(), second.parts())),
+    }
+}
+
+/// The number, where there is one.
+pub(crate) fn number<N: Entry>(n: Option<N>) -> Option<Answer> {
+    Some(Answer::Number(n?.parts()))
+}
+
+/// The magnitude of the least number of the type, and its greatest number.
+pub(crate) fn ends(rt: &impl Abort, it: Type) -> (u128, u128) {
+    match ask(rt, it, Call::Ends, (false, 1), [(false, 0); 4]) {
+        Some(Answer::Pair((_, low), (_, high))) => (low, high),
+        _ => panic!(rt; "a type has ends"),
+    }
+}
+
+/// Asserts that the call answers this at the type, where `None` stands for no answer.
+pub(crate) fn answers(
+    rt: &impl Abort,
+    it: Type,
+    call: Call,
+    m: SignedMagnitude,
+    operands: Operands,
+    expected: Option<Answer>,
+) {
+    let found = ask(rt, it, call, m, operands);
+    holds_at(rt, found == expected, &(it, call, m, operands, expected));
+}
+
+/// Asserts that each call answers what its row says.
+pub(crate) fn rows_hold<N: Entry>(rt: &impl Abort, rows: &[Row<N>]) {
+    for (it, call, m, others, numbers) in rows {
+        answers(
+            rt,
+            *it,
+            *call,
+            m.parts(),
+            operands(others),
+            answer_of(numbers),
+        );
+    }
+}
+
+/// A type, a call, where to begin, two numbers, each with its modulus or period, and the next number of both.
+pub(crate) type Next<N> = (Type, Call, N, (N, N), (N, N), CommonSolution<N>);
+
+/// Asserts that each next number is what its row says.
+pub(crate) fn next_hold<N: Entry>(rt: &impl Abort, rows: &[Next<N>]) {
+    for (it, call, from, (a, m), (b, n), next) in rows {
+        let expected = match next {
+            CommonSolution::At(t) => Some(Answer::Number(t.parts())),
+            CommonSolution::Beyond => Some(Answer::Beyond),
+            CommonSolution::Never => None,
+        };
+        let numbers = [a.parts(), b.parts(), n.parts(), from.parts()];
+        answers(rt, *it, *call, m.parts(), numbers, expected);
+    }
+}
