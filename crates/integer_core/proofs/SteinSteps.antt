@@ -1,13 +1,12 @@
 -- Stein's method on the values of an unsigned type.
 use Rattle.std.specs.Prelude.{◌≡◌, ◌⊎◌, ◌≤ℤ◌, ◌-ℤ◌, ℤ, pos, unsigned_abs}
-use Rattle.std.specs.Int.{Width, w8, w16, w32, w64, w128, trailing_zeros, int_shr}
+use Rattle.std.specs.Int.{Width, w8, w16, w32, w64, w128, trailing_zeros, int_shr, IsGcd, IsPowerOfTwo}
 use Rattle.std.proofs.Common.{ℕ, min, ◌-◌, ◌*◌, ◌/◌, ◌%◌, ◌^◌, ◌<◌, refl, sym, subst, arith, inl, inr, pow_mono, mul-le-mul_right}
 use Rattle.std.proofs.lemmas.Int.{ints}
 use Rattle.std.proofs.lemmas.Nat.Bits.{bit_at-trailing_zeros}
 use Rattle.num_traits.specs.Laws.{bit_len}
 use borrow.Author.Differences.{abs_is}
 use Rattle.integer_core.proofs.Whole.{linear}
-use Rattle.std.specs.Int.{IsGcd, IsPowerOfTwo}
 use Rattle.std.proofs.Math.Nat.{eq-one_of_dvd-one, lt_of_not-le, one-dvd}
 use Rattle.std.proofs.lemmas.Nat.Gcd.{dvd_refl, le_of_dvd}
 use Rattle.integer_core.proofs.NaturalGcd.{gcd_shift, odd_divisor, odd_divides}
