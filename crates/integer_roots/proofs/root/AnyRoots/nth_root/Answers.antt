@@ -2,8 +2,7 @@ use Rattle.integer_roots.proofs.root.AnyRoots.nth_root.Goals as goal
 
 pub returns : goal.returns
 returns g c =
-    let root = c.root_by_magnitude.ensures in
     record {
-      in_range = root.in_range;
-      root = root.root;
+      in_range = c.root_by_magnitude.ensures.in_range;
+      root = c.root_by_magnitude.ensures.root;
     }
