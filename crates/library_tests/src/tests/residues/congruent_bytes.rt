@@ -128,11 +128,11 @@ const CONGRUENCES: [[(i8, i8); 3]; 10] = [
 ];
 
 /// The first number from `from` on that solves the three, by trial of 12000 numbers.
-fn solution_from(from: i128, congruences: [(i8, i8); 3]) -> Option<i128> {
+fn solution_from(from: i16, congruences: [(i8, i8); 3]) -> Option<i16> {
     for x in from..=12000 {
         let mut solves = true;
         for (first, step) in congruences {
-            solves &= is_congruent(x, first.into(), step.into());
+            solves &= is_congruent(x.into(), first.into(), step.into());
         }
         if solves {
             return Some(x);
@@ -145,7 +145,7 @@ fn solution_from(from: i128, congruences: [(i8, i8); 3]) -> Option<i128> {
 fn next_of_three(rt: &impl Abort, congruences: [(i8, i8); 3]) {
     let [(a, m), (b, n), (c, k)] = congruences;
     for from in i8::MIN..=i8::MAX {
-        let expected = match solution_from(from.into(), congruences) {
+        let expected = match solution_from(i16::from(from), congruences) {
             None => CommonSolution::Never,
             Some(x) => match i8::try_from(x) {
                 Ok(solution) => CommonSolution::At(solution),
