@@ -149,15 +149,3 @@ fn next_is_even<T: Integer>(rest: &mut IterBinomial<T>) -> Option<bool>
     let item = rest.next()?;
     Some(item.is_even())
 }
-
-/// Whether what is left of a row is odd throughout.
-fn are_odd<T: Integer>(rest: IterBinomial<T>) -> bool
-    requires { All T.fits rest }
-{
-    for item in rest {
-        if item.is_even() {
-            return false;
-        }
-    }
-    true
-}

@@ -1,7 +1,8 @@
 //! Products divided by a number: at the ends of the types, and small numbers against computation in 64 bits.
 
-use super::assertions::holds_at;
+use super::rows::holds_at;
 use num_integer::checked::product_div_mod_floor;
+use std::process::Abort;
 
 /// Two factors, a divisor, and the quotient with its remainder.
 type Row<T> = (T, T, T, Option<(T, T)>);
@@ -45,42 +46,58 @@ fn rates_at_the_ends(rt: HostRuntime) {
 }
 
 /// The quotient rounded down, and the remainder.
-fn floored(a: i16, b: i16, d: i16) -> Option<(i64, i64)> {
-    let product = i64::from(a) * i64::from(b);
-    let divisor = i64::from(d);
-    let quotient = product.checked_div(divisor)?;
-    let rest = product.checked_rem(divisor)?;
-    if rest != 0 && (rest < 0) != (divisor < 0) {
-        Some((quotient.checked_sub(1)?, rest.checked_add(divisor)?))
+fn floored(product: i64, d: i64) -> Option<(i64, i64)> {
+    let quotient = product.checked_div(d)?;
+    let rest = product.checked_rem(d)?;
+    if rest != 0 && (rest < 0) != (d < 0) {
+        Some((quotient.checked_sub(1)?, rest.checked_add(d)?))
     } else {
         Some((quotient, rest))
     }
 }
 
-const DIVISORS: [i16; 12] = [0, 1, -1, 2, -2, 3, -7, 100, 127, -127, -128, 255];
+/// The quotient of a product rounded down, and the remainder, where the quotient lies between the ends.
+fn expected([a, b, d]: [i64; 3], least: i64, greatest: i64) -> Option<(i64, i64)> {
+    let (quotient, rest) = floored(a.checked_mul(b)?, d)?;
+    if least <= quotient && quotient <= greatest {
+        Some((quotient, rest))
+    } else {
+        None
+    }
+}
+
+/// Checks two bytes with no sign, and a divisor.
+fn check_unsigned(rt: &impl Abort, a: u8, b: u8, d: u8) {
+    let numbers = [i64::from(a), i64::from(b), i64::from(d)];
+    let answer = match product_div_mod_floor(a, b, d) {
+        Some((q, r)) => Some((i64::from(q), i64::from(r))),
+        None => None,
+    };
+    holds_at(rt, answer == expected(numbers, 0, 255), &numbers);
+}
 
 #[test]
 fn rates_of_all_bytes(rt: HostRuntime) {
-    for d in DIVISORS {
-        for a in -128..256i16 {
-            for b in -128..256i16 {
-                let expected = floored(a, b, d);
-                if let (Ok(a), Ok(b), Ok(d)) = (i8::try_from(a), i8::try_from(b), i8::try_from(d)) {
-                    let answer = product_div_mod_floor(a, b, d).map(|(q, r)| (
-                        i64::from(q),
-                        i64::from(r),
-                    ));
-                    let inside = expected.filter(|(q, _)| i8::try_from(*q).is_ok());
-                    holds_at(&rt, answer == inside, &(a, b, d));
-                }
-                if let (Ok(a), Ok(b), Ok(d)) = (u8::try_from(a), u8::try_from(b), u8::try_from(d)) {
-                    let answer = product_div_mod_floor(a, b, d).map(|(q, r)| (
-                        i64::from(q),
-                        i64::from(r),
-                    ));
-                    let inside = expected.filter(|(q, _)| u8::try_from(*q).is_ok());
-                    holds_at(&rt, answer == inside, &(a, b, d));
-                }
+    for d in [0, 1, 2, 3, 100, 127, 255] {
+        for a in 0..=255u8 {
+            for b in 0..=255u8 {
+                check_unsigned(&rt, a, b, d);
+            }
+        }
+    }
+}
+
+#[test]
+fn rates_of_all_signed_bytes(rt: HostRuntime) {
+    for d in [0, 1, -1, 2, -2, 3, -7, 100, 127, -127, -128] {
+        for a in -128..=127i8 {
+            for b in -128..=127i8 {
+                let answer = match product_div_mod_floor(a, b, d) {
+                    Some((q, r)) => Some((i64::from(q), i64::from(r))),
+                    None => None,
+                };
+                let numbers = [i64::from(a), i64::from(b), i64::from(d)];
+                holds_at(&rt, answer == expected(numbers, -128, 127), &numbers);
             }
         }
     }

@@ -1,17 +1,19 @@
 //! Each call at the ends of each type, one number in from them, and at 0, 1, 2, -1 and -2, against
 //! computations on signs and magnitudes.
 
-use super::answers::{Ask, Numbers, after_turns, answer, one, truth, two};
-use super::assertions::{answers, call_answers, holds_at};
-use super::averages::has_averages;
-use super::bezout::combined;
-use super::call_rows::NumberCall::{Binomial, Difference, Lcm, Product, Sum};
-use super::call_rows::UnaryCall::{Dec, Inc, IsEven, IsOdd, Negated, Parts};
-use super::call_rows::{Call, UnaryCall};
-use super::gcd_turns::{counted_turns, has_turns};
-use super::quotients_and_divisors::{has_divisors, has_number, has_quotients};
+use super::answers::{Numbers, after_turns, answer, one, truth, two};
+use super::averages::halves_of_sum;
+use super::calls::Call::{
+    Averages, Bezout, BezoutAndMultiple, Binomial, BinomialFits, CountedBinomial, CountedGcd,
+    CountedRoot, Dec, Difference, Ends as EndsOf, Has, Inc, IsEven, IsOdd, Lcm, Multinomial,
+    MultinomialFits, Negated, Parts, Product, Row as RowOf, Sum,
+};
+use super::divisors::combined;
+use super::gcd_turns::counted_turns;
+use super::quotients_and_divisors::{has_divisors, has_quotients, number_inside};
 use super::roots::{check_root, has_no_root};
-use super::types::{has, inside};
+use super::rows::{answers, holds_at};
+use super::types::has;
 use std::alloc::Global;
 use std::process::Abort;
 use test_types::signed_magnitude::{
@@ -63,114 +65,92 @@ impl Ends {
     }
 }
 
-/// Asserts that the call of one operand answers this, where the type has it.
-fn has_neighbour(
-    rt: &impl Abort,
-    it: Type,
-    call: UnaryCall,
-    n: SignedMagnitude,
-    expected: Option<SignedMagnitude>,
-) {
-    let expected = match inside(rt, it, expected) {
-        Some(n) => Some(one(n)),
-        None => None,
-    };
-    call_answers(rt, it, Call::Unary(call), (n, n), expected);
-}
-
 /// What the calls of one operand answer, and what the tests of the domains see of it.
-pub(crate) fn has_neighbours(rt: &impl Abort, it: Type, n: SignedMagnitude) {
+pub(super) fn has_neighbours(rt: &impl Abort, alloc: Global, it: Type, n: SignedMagnitude) {
     let even = n.1 % 2 == 0;
     for (call, expected) in [
-        (Parts, one(n)),
-        (IsEven, truth(even)),
-        (IsOdd, truth(!even)),
+        (Parts, Some(one(n))),
+        (IsEven, Some(truth(even))),
+        (IsOdd, Some(truth(!even))),
+        (Inc, number_inside(alloc, it, sum(n, (false, 1)))),
+        (Dec, number_inside(alloc, it, sum(n, (true, 1)))),
+        (Negated, number_inside(alloc, it, Some(opposite(n)))),
     ] {
-        call_answers(rt, it, Call::Unary(call), (n, n), Some(expected));
-    }
-    for (call, expected) in [
-        (Inc, sum(n, (false, 1))),
-        (Dec, sum(n, (true, 1))),
-        (Negated, Some(opposite(n))),
-    ] {
-        has_neighbour(rt, it, call, n, expected);
+        answers(rt, alloc, (it, call), &[n], expected);
     }
 }
 
-/// The sum, the difference and the product of two numbers.
-fn has_sums(rt: &impl Abort, it: Type, a: SignedMagnitude, b: SignedMagnitude) {
+/// The sum, the difference, the product and the averages of two numbers.
+fn has_sums(rt: &impl Abort, alloc: Global, it: Type, [a, b]: [SignedMagnitude; 2]) {
+    let averages = halves_of_sum(a, b);
+    let (floor, ceil) = averages.expect(rt, "the averages lie between the numbers");
     for (call, expected) in [
-        (Sum, sum(a, b)),
-        (Difference, sum(a, opposite(b))),
-        (Product, product(a, b)),
+        (Sum, number_inside(alloc, it, sum(a, b))),
+        (Difference, number_inside(alloc, it, sum(a, opposite(b)))),
+        (Product, number_inside(alloc, it, product(a, b))),
+        (Averages, Some(two(floor, ceil))),
     ] {
-        has_number(rt, it, call, (a, b), expected);
+        answers(rt, alloc, (it, call), &[a, b], expected);
     }
 }
 
 /// The row of a number below 3. That of a number at the upper end does not fit.
-fn has_row(rt: &impl Abort, it: Type, n: SignedMagnitude) {
+fn has_row(rt: &impl Abort, alloc: Global, it: Type, n: SignedMagnitude) {
     let (one, two) = ((false, 1), (false, 2));
+    let row = (it, RowOf);
     let fits = Some(truth(true));
     match n {
-        (true, _) => answers(rt, it, Ask::Row(n, &[]), fits),
-        (false, 0) => answers(rt, it, Ask::Row(n, &[one]), fits),
-        (false, 1) => answers(rt, it, Ask::Row(n, &[one, one]), fits),
-        (false, 2) => answers(rt, it, Ask::Row(n, &[one, two, one]), fits),
-        _ => answers(rt, it, Ask::Row(n, &[]), None),
+        (true, _) => answers(rt, alloc, row, &[n], fits),
+        (false, 0) => answers(rt, alloc, row, &[n, one], fits),
+        (false, 1) => answers(rt, alloc, row, &[n, one, one], fits),
+        (false, 2) => answers(rt, alloc, row, &[n, one, two, one], fits),
+        _ => answers(rt, alloc, row, &[n], None),
     }
 }
 
 /// The coefficient of `n` and `k` by the product formula, and its turns: the distance to the nearer
 /// end of the row.
-fn coefficient(n: SignedMagnitude, k: SignedMagnitude) -> Option<(u128, u32)> {
+fn coefficient(n: SignedMagnitude, k: SignedMagnitude) -> Option<(SignedMagnitude, u32)> {
     if n.0 || k.0 {
         return None;
     }
     let Some(rest) = n.1.checked_sub(k.1) else {
-        return Some((0, 0));
+        return Some(((false, 0), 0));
     };
     let turns = rest.min(k.1);
     let mut coefficient: u128 = 1;
     for i in 0..turns {
         coefficient = coefficient.checked_mul(n.1.checked_sub(i)?)? / (i + 1);
     }
-    Some((coefficient, u32::try_from(turns).ok()?))
+    Some(((false, coefficient), u32::try_from(turns).ok()?))
 }
 
-/// The coefficient of two numbers, and its turns, where the type has the coefficient.
-fn has_coefficient(rt: &impl Abort, it: Type, a: SignedMagnitude, b: SignedMagnitude) {
-    let expected = coefficient_inside(rt, it, a, b);
-    let counted = match expected {
-        Some((number, turns)) => Some(after_turns((false, number), turns)),
-        None => None,
-    };
-    call_answers(
-        rt,
-        it,
-        Call::Number(Binomial),
-        (a, b),
-        first_alone(expected),
-    );
-    call_answers(rt, it, Call::CountedBinomial, (a, b), counted);
-}
-
-/// The coefficient and its turns, where the type has the coefficient.
+/// The coefficient, and the coefficient with its turns, where the type has the coefficient.
 fn coefficient_inside(
-    rt: &impl Abort,
+    alloc: Global,
     it: Type,
     n: SignedMagnitude,
     k: SignedMagnitude,
-) -> Option<(u128, u32)> {
-    let (number, turns) = coefficient(n, k)?;
-    inside(rt, it, Some((false, number)))?;
-    Some((number, turns))
+) -> (Option<Numbers>, Option<Numbers>) {
+    match coefficient(n, k) {
+        Some((number, turns)) if has(alloc, it, number) => {
+            (Some(one(number)), Some(after_turns(number, turns)))
+        }
+        _ => (None, None),
+    }
 }
 
-/// The coefficient without its turns.
-fn first_alone(expected: Option<(u128, u32)>) -> Option<Numbers> {
-    let (number, _) = expected?;
-    Some(one((false, number)))
+/// The coefficient of two numbers, and its turns, where the type has the coefficient.
+fn has_coefficient(rt: &impl Abort, alloc: Global, it: Type, [a, b]: [SignedMagnitude; 2]) {
+    let (expected, counted) = coefficient_inside(alloc, it, a, b);
+    let fits = Some(truth(expected.is_some()));
+    for (call, expected) in [
+        (Binomial, expected),
+        (BinomialFits, fits),
+        (CountedBinomial, counted),
+    ] {
+        answers(rt, alloc, (it, call), &[a, b], expected);
+    }
 }
 
 /// Whether this is the pair: one operand that divides the other is taken alone, the second before
@@ -200,11 +180,11 @@ fn is_small(coefficient: SignedMagnitude, gcd: u128, operand: SignedMagnitude) -
 
 /// The pair of two numbers, where the greatest common divisor fits and, in a type with no negative
 /// numbers, one divides the other.
-fn has_pair(rt: &impl Abort, it: Type, a: SignedMagnitude, b: SignedMagnitude) {
+fn has_pair(rt: &impl Abort, alloc: Global, it: Type, [a, b]: [SignedMagnitude; 2]) {
     let (gcd, remainders) = euclidean_gcd(b.1, a.1);
-    let has_pair = has(rt, it, (true, 1)) || is_multiple(a, b) || is_multiple(b, a);
-    let domain = has_pair && has(rt, it, (false, gcd));
-    let answered = match answer(rt, it, Ask::Of(Call::Bezout, a, b)) {
+    let has_pair = has(alloc, it, (true, 1)) || is_multiple(a, b) || is_multiple(b, a);
+    let domain = has_pair && has(alloc, it, (false, gcd));
+    let answered = match answer(alloc, it, Bezout, &[a, b]) {
         None => !domain,
         Some((divisor, x, y, turns)) => {
             domain
@@ -214,66 +194,22 @@ fn has_pair(rt: &impl Abort, it: Type, a: SignedMagnitude, b: SignedMagnitude) {
                 && is_bezout_pair(a, b, gcd, (x, y))
         }
     };
-    holds_at(rt, answered, &("extended_gcd", it, a, b));
+    holds_at(rt, answered, &(it, Bezout, a, b));
 }
 
 /// What the calls of two operands answer.
-pub(crate) fn has_answers(rt: &impl Abort, it: Type, a: SignedMagnitude, b: SignedMagnitude) {
-    let (gcd, _) = euclidean_gcd(a.1, b.1);
-    has_sums(rt, it, a, b);
-    has_quotients(rt, it, a, b);
-    has_divisors(rt, it, a, b, gcd);
-    has_averages(rt, it, a, b);
-    has_coefficient(rt, it, a, b);
-    has_pair(rt, it, a, b);
-}
-
-/// What the calls answer of the numbers at the ends.
-fn check_ends(rt: &impl Abort, it: Type, ends: Ends) {
-    let expected = two((false, ends.0), (false, ends.1));
-    answers(rt, it, Ask::Ends, Some(expected));
-    for a in ends.numbers() {
-        answers(rt, it, Ask::Has(a), Some(truth(ends.has(a))));
-        if ends.has(a) {
-            has_neighbours(rt, it, a);
-            has_row(rt, it, a);
-        }
-        for b in ends.numbers() {
-            if ends.has(a) && ends.has(b) {
-                has_answers(rt, it, a, b);
-            }
-        }
-    }
-}
-
-#[test]
-fn ends_of_each_type(rt: HostRuntime) {
-    for (it, ends) in ENDS {
-        check_ends(&rt, it, ends);
-    }
-}
-
-/// The multinomials of two numbers, each of which is a coefficient of their sum.
-fn check_shares(rt: &impl Abort, alloc: Global, it: Type, ends: Ends) {
-    for a in ends.numbers() {
-        for b in ends.numbers() {
-            if ends.has(a) && ends.has(b) {
-                let expected = match sum(a, b) {
-                    Some(total) if !a.0 && !b.0 => coefficient_inside(rt, it, total, b),
-                    _ => None,
-                };
-                let ask = Ask::Multinomial(alloc, &[a, b]);
-                answers(rt, it, ask, first_alone(expected));
-            }
-        }
-    }
-}
-
-#[test]
-fn multinomials_at_the_ends(rt: HostRuntime) {
-    for (it, ends) in ENDS {
-        check_shares(&rt, rt.alloc(), it, ends);
-    }
+pub(super) fn has_answers(
+    rt: &impl Abort,
+    alloc: Global,
+    it: Type,
+    operands: [SignedMagnitude; 2],
+) {
+    let (gcd, _) = euclidean_gcd(operands[0].1, operands[1].1);
+    has_sums(rt, alloc, it, operands);
+    has_quotients(rt, alloc, it, operands);
+    has_divisors(rt, alloc, it, operands, gcd);
+    has_coefficient(rt, alloc, it, operands);
+    has_pair(rt, alloc, it, operands);
 }
 
 /// Degrees up to the bits of a type, and far above.
@@ -282,26 +218,13 @@ const DEGREES: [u32; 16] = [
 ];
 
 /// The root of each of the degrees, where there is one.
-fn check_roots(rt: &impl Abort, it: Type, n: SignedMagnitude) {
+fn check_roots(rt: &impl Abort, alloc: Global, it: Type, n: SignedMagnitude) {
     let number = to_i128(n).expect(rt, "it has at most 64 bits");
     for degree in DEGREES {
         if degree == 0 || n.0 && degree % 2 == 0 {
-            has_no_root(rt, it, number, degree);
+            has_no_root(rt, alloc, it, n, degree);
         } else {
-            check_root(rt, it, number, degree);
-        }
-    }
-}
-
-#[test]
-fn roots_at_the_ends(rt: HostRuntime) {
-    for (it, ends) in ENDS {
-        if ends.1 <= u128::from(u64::MAX) {
-            for n in ends.numbers() {
-                if ends.has(n) {
-                    check_roots(&rt, it, n);
-                }
-            }
+            check_root(rt, alloc, it, number, degree);
         }
     }
 }
@@ -326,79 +249,109 @@ fn square_root_turns(a: u128) -> Option<(u128, u32)> {
 }
 
 /// The turns of the square root of a number, where it has one.
-fn has_root_turns(rt: &impl Abort, it: Type, n: SignedMagnitude) {
+fn has_root_turns(rt: &impl Abort, alloc: Global, it: Type, n: SignedMagnitude) {
     let (root, turns) = square_root_turns(n.1).expect(rt, "it has at most 64 bits");
-    let expected = Some(after_turns((false, root), turns));
-    call_answers(rt, it, Call::CountedRoot, (n, n), expected);
+    let expected = if n.0 {
+        None
+    } else {
+        Some(after_turns((false, root), turns))
+    };
+    answers(rt, alloc, (it, CountedRoot), &[n], expected);
 }
 
-#[test]
-fn turns_of_square_roots_at_the_ends(rt: HostRuntime) {
-    for (it, ends) in ENDS {
+/// What the calls of one operand answer of a number at the ends, where the type has the number.
+fn check_number(rt: &impl Abort, alloc: Global, it: Type, ends: Ends, n: SignedMagnitude) {
+    answers(rt, alloc, (it, Has), &[n], Some(truth(ends.has(n))));
+    if ends.has(n) {
+        has_neighbours(rt, alloc, it, n);
+        has_row(rt, alloc, it, n);
         if ends.1 <= u128::from(u64::MAX) {
-            for n in ends.numbers() {
-                if ends.has(n) && !n.0 {
-                    has_root_turns(&rt, it, n);
-                }
-            }
+            check_roots(rt, alloc, it, n);
+            has_root_turns(rt, alloc, it, n);
         }
     }
 }
 
-/// The turns of the greatest common divisors.
-fn check_turns(rt: &impl Abort, it: Type, ends: Ends) {
-    for a in ends.numbers() {
-        for b in ends.numbers() {
-            let (gcd, _) = euclidean_gcd(a.1, b.1);
-            if ends.has(a) && ends.has(b) && gcd <= ends.1 {
-                let turns = turns_between(a, b, (true, ends.0));
-                let turns = turns.expect(rt, "no pair makes more turns than it has bits");
-                has_turns(rt, it, (a, b), gcd, turns);
-            }
-        }
-    }
+/// The multinomials of two numbers, each of which is a coefficient of their sum.
+fn has_shares(rt: &impl Abort, alloc: Global, it: Type, [a, b]: [SignedMagnitude; 2]) {
+    let (expected, _) = match sum(a, b) {
+        Some(total) if !a.0 && !b.0 => coefficient_inside(alloc, it, total, b),
+        _ => (None, None),
+    };
+    answers(rt, alloc, (it, Multinomial), &[a, b], expected);
+    let fits = Some(truth(expected.is_some()));
+    answers(rt, alloc, (it, MultinomialFits), &[a, b], fits);
 }
 
-/// The turns for a greatest common divisor. The least number of a type makes none.
-fn turns_between(a: SignedMagnitude, b: SignedMagnitude, least: SignedMagnitude) -> Option<u32> {
-    if a == least || b == least {
+/// The turns of the greatest common divisor, where it fits. The least number of a type makes none.
+fn has_turns(rt: &impl Abort, alloc: Global, it: Type, ends: Ends, [a, b]: [SignedMagnitude; 2]) {
+    let (gcd, _) = euclidean_gcd(a.1, b.1);
+    let least = (true, ends.0);
+    let turns = if a == least || b == least {
         Some(0)
     } else {
         counted_turns(a.1, b.1)
-    }
-}
-
-#[test]
-fn turns_at_the_ends(rt: HostRuntime) {
-    for (it, ends) in ENDS {
-        check_turns(&rt, it, ends);
-    }
+    };
+    let turns = turns.expect(rt, "no pair makes more turns than it has bits");
+    let expected = if gcd <= ends.1 {
+        Some(after_turns((false, gcd), turns))
+    } else {
+        None
+    };
+    answers(rt, alloc, (it, CountedGcd), &[a, b], expected);
 }
 
 /// The pair and the least common multiple: both at once are what each is alone.
 pub(super) fn has_pair_and_multiple(
     rt: &impl Abort,
+    alloc: Global,
     it: Type,
-    a: SignedMagnitude,
-    b: SignedMagnitude,
+    operands: [SignedMagnitude; 2],
 ) {
-    let pair = answer(rt, it, Ask::Of(Call::Bezout, a, b));
-    let expected = match (pair, answer(rt, it, Ask::Of(Call::Number(Lcm), a, b))) {
+    let (pair, multiple) = (
+        answer(alloc, it, Bezout, &operands),
+        answer(alloc, it, Lcm, &operands),
+    );
+    let expected = match (pair, multiple) {
         (Some((gcd, x, y, _)), Some((lcm, _, _, _))) => Some((gcd, x, y, lcm)),
         _ => None,
     };
-    call_answers(rt, it, Call::BezoutAndMultiple, (a, b), expected);
+    answers(rt, alloc, (it, BezoutAndMultiple), &operands, expected);
+}
+
+/// What the calls of two operands answer at the ends, where the type has the numbers.
+fn check_pair(
+    rt: &impl Abort,
+    alloc: Global,
+    it: Type,
+    ends: Ends,
+    operands: [SignedMagnitude; 2],
+) {
+    if ends.has(operands[0]) && ends.has(operands[1]) {
+        has_answers(rt, alloc, it, operands);
+        has_shares(rt, alloc, it, operands);
+        has_turns(rt, alloc, it, ends, operands);
+        if ends.0 > 0 {
+            has_pair_and_multiple(rt, alloc, it, operands);
+        }
+    }
+}
+
+/// What the calls answer of the numbers at the ends.
+fn check_ends(rt: &impl Abort, alloc: Global, it: Type, ends: Ends) {
+    let expected = two((false, ends.0), (false, ends.1));
+    answers(rt, alloc, (it, EndsOf), &[], Some(expected));
+    for a in ends.numbers() {
+        check_number(rt, alloc, it, ends, a);
+        for b in ends.numbers() {
+            check_pair(rt, alloc, it, ends, [a, b]);
+        }
+    }
 }
 
 #[test]
-fn pairs_and_multiples_at_the_ends(rt: HostRuntime) {
+fn ends_of_each_type(rt: HostRuntime) {
     for (it, ends) in ENDS {
-        if ends.0 > 0 {
-            for a in ends.numbers() {
-                for b in ends.numbers() {
-                    has_pair_and_multiple(&rt, it, a, b);
-                }
-            }
-        }
+        check_ends(&rt, rt.alloc(), it, ends);
     }
 }

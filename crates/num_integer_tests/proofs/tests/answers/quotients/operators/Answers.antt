@@ -1,6 +1,6 @@
 use Rattle.std.proofs.Common.{refl}
 use Rattle.num_integer.proofs.ForCallers.{truncated_is}
-use Rattle.num_integer_tests.proofs.tests.call_rows.operators.Goals as goal
+use Rattle.num_integer_tests.proofs.tests.answers.quotients.operators.Goals as goal
 
 pub div-requires : goal.div-requires
 div-requires g c =

@@ -1,0 +1,90 @@
+//! Rows of tables: a call at some types, its operands and its answer.
+
+ghost use Rattle.std.specs.Prelude.{IsTrue};
+
+use super::answers::{Numbers, answer, operand};
+use super::calls::Call;
+use std::alloc::Global;
+use std::fmt::Debug;
+use std::process::Abort;
+use test_types::signed_magnitude::{SignedMagnitude, signed_magnitude_of};
+use test_types::types::Type;
+
+/// The types, a call, its operands, and the numbers of its answer, or `None` where it has none.
+pub(crate) type Row = (
+    &'static [Type],
+    Call,
+    &'static [i128],
+    Option<&'static [i128]>,
+);
+
+/// The answer of what holds.
+pub(crate) const YES: Option<&[i128]> = Some(&[1]);
+
+/// The answer of what does not hold.
+pub(crate) const NO: Option<&[i128]> = Some(&[0]);
+
+/// Asserts that the check holds, with a message that shows the row: the call and its operands. A message of
+/// its own would cost each function seconds of proof.
+pub(crate) fn holds_at(rt: &impl Abort, holds: bool, row: &impl Debug)
+    ensures { IsTrue holds }
+{
+    assert!(rt; holds, "at {row:?}");
+}
+
+/// Asserts that the call answers this at the type, where `None` stands for no answer.
+pub(crate) fn answers(
+    rt: &impl Abort,
+    alloc: Global,
+    (it, call): (Type, Call),
+    operands: &[SignedMagnitude],
+    expected: Option<Numbers>,
+) {
+    let same = answer(alloc, it, call, operands) == expected;
+    holds_at(rt, same, &(it, call, operands, expected));
+}
+
+/// The signs and magnitudes of the numbers.
+fn signed_magnitudes(rt: &impl Abort, alloc: Global, numbers: &[i128]) -> Vec<SignedMagnitude> {
+    let mut list = Vec::new(alloc);
+    for n in numbers {
+        list.push(signed_magnitude_of(*n))
+            .expect(rt, "memory is left");
+    }
+    list
+}
+
+/// The numbers of an answer.
+fn numbers(list: &[SignedMagnitude]) -> Numbers {
+    (
+        operand(list, 0),
+        operand(list, 1),
+        operand(list, 2),
+        operand(list, 3),
+    )
+}
+
+/// Checks the answer of the call at each of the types.
+pub(crate) fn check_row(
+    rt: &impl Abort,
+    alloc: Global,
+    (types, call): (&[Type], Call),
+    operands: &[i128],
+    expected: Option<&[i128]>,
+) {
+    let operands = signed_magnitudes(rt, alloc, operands);
+    let expected = match expected {
+        Some(list) => Some(numbers(&signed_magnitudes(rt, alloc, list))),
+        None => None,
+    };
+    for it in types {
+        answers(rt, alloc, (*it, call), &operands, expected);
+    }
+}
+
+/// Checks each of the rows.
+pub(crate) fn check_rows(rt: &impl Abort, alloc: Global, rows: &[Row]) {
+    for (types, call, operands, expected) in rows {
+        check_row(rt, alloc, (types, *call), operands, *expected);
+    }
+}
