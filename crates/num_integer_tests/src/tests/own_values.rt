@@ -2,9 +2,16 @@
 
 use super::rows::holds_at;
 use num_integer::counted::{binomial_counted, extended_gcd_counted};
-use num_integer::{ExtendedGcd, Fits, Integer, binomial, checked};
+use num_integer::{ExtendedGcd, Fits, Integer, binomial, checked, div_ceil};
 use num_traits::{Num, Signed};
 use test_types::own_types::{Marked, Negated, Percent, Small};
+
+#[test]
+fn division_of_percents(rt: HostRuntime) {
+    let (hundred, three) = (Percent::new(100), Percent::new(3));
+    assert!(rt; hundred.quotient_fits(&three));
+    assert!(rt; div_ceil(hundred, three).number() == 34);
+}
 
 #[test]
 fn texts(rt: HostRuntime) {
