@@ -123,10 +123,10 @@ fn modulo<T: Modular + Fits>(call: Call, a: T, b: T, m: T) -> Option<Answer>
 
 /// What a call on the items of pages and parts, or on offsets, answers.
 fn placed<T: Tested>(rt: &impl Abort, call: Call, a: T, b: T, m: T) -> Option<Answer>
+    requires positive { pos 0 <ℤ T.value m }
     requires a_in_range { T.fits (T.value a) }
     requires b_in_range { T.fits (T.value b) }
     requires m_in_range { T.fits (T.value m) }
-    requires positive { pos 0 <ℤ T.value m }
 {
     Some(match call {
         Call::Pages => number_of(pages(a, m)),

@@ -9,33 +9,14 @@ use test_types::signed_magnitude::SignedMagnitude;
 use test_types::types::Type::U128;
 
 #[test]
-fn sums_and_averages(rt: HostRuntime) {
-    check_rows(&rt, rt.alloc(), &SUMS);
-}
-
-#[test]
-fn quotients_and_multiples(rt: HostRuntime) {
-    check_rows(&rt, rt.alloc(), &QUOTIENTS);
-}
-
-#[test]
-fn divisors_and_pairs(rt: HostRuntime) {
-    check_rows(&rt, rt.alloc(), &DIVISORS);
-}
-
-#[test]
-fn coefficients_and_rows(rt: HostRuntime) {
-    check_rows(&rt, rt.alloc(), &COEFFICIENTS);
-}
-
-#[test]
-fn turns_of_square_roots(rt: HostRuntime) {
-    check_rows(&rt, rt.alloc(), &TURNS);
-}
-
-#[test]
-fn values_of_own_types(rt: HostRuntime) {
-    check_rows(&rt, rt.alloc(), &OWN_TYPES);
+fn worked_values(rt: HostRuntime) {
+    let alloc = rt.alloc();
+    check_rows(&rt, alloc, &SUMS);
+    check_rows(&rt, alloc, &QUOTIENTS);
+    check_rows(&rt, alloc, &DIVISORS);
+    check_rows(&rt, alloc, &COEFFICIENTS);
+    check_rows(&rt, alloc, &TURNS);
+    check_rows(&rt, alloc, &OWN_TYPES);
 }
 
 const GREATEST: SignedMagnitude = (false, u128::MAX);

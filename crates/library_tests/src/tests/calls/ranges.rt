@@ -55,9 +55,10 @@ fn on_page(items: i128, page_size: i128, page: i128) -> Answer {
 /// Each page of up to 20 items.
 #[test]
 fn pages_of_few_items(rt: HostRuntime) {
-    for items in 0..21 {
-        for page_size in 1..23 {
-            for page in -2..22 {
+    for items in 0i64..21 {
+        for page_size in 1i64..23 {
+            for page in -2i64..22 {
+                let (items, page_size, page) = (items.into(), page_size.into(), page.into());
                 let expected = Some(on_page(items, page_size, page));
                 let numbers = operands(&[page, items]);
                 answers(
@@ -100,9 +101,9 @@ fn has_parts(rt: &impl Abort, items: u128, parts: u128) {
 /// The parts of up to 20 items.
 #[test]
 fn parts_of_few_items(rt: HostRuntime) {
-    for items in 0..21 {
-        for parts in 1..23 {
-            has_parts(&rt, items, parts);
+    for items in 0u64..21 {
+        for parts in 1u64..23 {
+            has_parts(&rt, items.into(), parts.into());
         }
     }
 }

@@ -127,18 +127,18 @@ fn has_residues(rt: &impl Abort, it: Type, a: i128, m: i128, (dividend, product)
 
 #[test]
 fn signed_numbers(rt: HostRuntime) {
-    for m in 1..=127 {
-        for a in -128..=127 {
-            has_residues(&rt, I8, a, m, (-77, -60));
+    for m in 1i64..=127 {
+        for a in -128i64..=127 {
+            has_residues(&rt, I8, a.into(), m.into(), (-77, -60));
         }
     }
 }
 
 #[test]
 fn unsigned_numbers(rt: HostRuntime) {
-    for m in 1..=255 {
-        for a in 0..=255 {
-            has_residues(&rt, U8, a, m, (77, 60));
+    for m in 1i64..=255 {
+        for a in 0i64..=255 {
+            has_residues(&rt, U8, a.into(), m.into(), (77, 60));
         }
     }
 }
