@@ -115,9 +115,9 @@ fn check_both_are_each(rt: &impl Abort, alloc: Global, a: i128, b: i128) {
 
 #[test]
 fn test_gcd_lcm(rt: HostRuntime) {
-    for a in -128..=255 {
-        for b in -128..=255 {
-            check_both_are_each(&rt, rt.alloc(), a, b);
+    for a in -128i64..=255 {
+        for b in -128i64..=255 {
+            check_both_are_each(&rt, rt.alloc(), a.into(), b.into());
         }
     }
 }
@@ -144,9 +144,9 @@ fn check_pair_with_lcm(rt: &impl Abort, alloc: Global, a: SignedMagnitude, b: Si
 
 #[test]
 fn test_extended_gcd_lcm(rt: HostRuntime) {
-    for a in -128..=127 {
-        for b in -128..=127 {
-            let (a, b) = (signed_magnitude_of(a), signed_magnitude_of(b));
+    for a in -128i64..=127 {
+        for b in -128i64..=127 {
+            let (a, b) = (signed_magnitude_of(a.into()), signed_magnitude_of(b.into()));
             check_pair_with_lcm(&rt, rt.alloc(), a, b);
         }
     }

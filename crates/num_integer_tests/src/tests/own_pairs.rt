@@ -37,15 +37,15 @@ fn pairs_of_small_types(rt: HostRuntime) {
 
 #[test]
 fn pairs_beside_a_byte(rt: HostRuntime) {
-    for a in -100..0 {
-        check_pairs(&rt, rt.alloc(), (Marked, -100, 100), a);
+    for a in -100i64..0 {
+        check_pairs(&rt, rt.alloc(), (Marked, -100, 100), a.into());
     }
 }
 
 #[test]
 fn pairs_beside_a_byte_from_zero(rt: HostRuntime) {
-    for a in 0..=100 {
-        check_pairs(&rt, rt.alloc(), (Marked, -100, 100), a);
+    for a in 0i64..=100 {
+        check_pairs(&rt, rt.alloc(), (Marked, -100, 100), a.into());
     }
 }
 
