@@ -13,6 +13,7 @@ mod schedules;
 mod search;
 
 use super::answers::Call::{AlignUp, Midpoint, Padding, Pages, PlaceOf, RangeOfPage, RangeOfPart};
+use super::assertions::holds_at;
 use super::rows::{Row, rows_hold};
 use test_types::types::Type::{I8, I16, I32, I64, I128, Isize, U8, U16, U32, U64, U128, Usize};
 use uses::paging::item_at;
@@ -185,6 +186,12 @@ const WIDE_ROWS: [Row<u128>; 2] = [
 fn pages_offsets_and_middles(rt: HostRuntime) {
     rows_hold(&rt, &ROWS);
     rows_hold(&rt, &WIDE_ROWS);
-    assert!(rt; (item_at(2u8, 2, 4), item_at(15u8, 15, 16)) == (10, 255));
-    assert!(rt; (item_at(-1i64, 3, 4), item_at(-2i8, 99, 100)) == (-1, -101));
+}
+
+#[test]
+fn items_at_their_places(rt: HostRuntime) {
+    holds_at(&rt, item_at(2u8, 2, 4) == 10, &"item_at");
+    holds_at(&rt, item_at(15u8, 15, 16) == 255, &"item_at");
+    holds_at(&rt, item_at(-1i64, 3, 4) == -1, &"item_at below 0");
+    holds_at(&rt, item_at(-2i8, 99, 100) == -101, &"item_at below 0");
 }

@@ -54,14 +54,19 @@ fn overflow(rt: HostRuntime) {
     check_below_the_top(&rt, rt.alloc(), &UNSIGNED);
 }
 
+/// Checks the averages of both ends of each signed type.
+fn check_ends(rt: &impl Abort, alloc: Global) {
+    for it in SIGNED {
+        let greatest = greatest(rt, alloc, it);
+        let ends = [-greatest - 1, greatest];
+        check_row(rt, alloc, (&[it], Averages), &ends, Some(&[-1, 0]));
+    }
+}
+
 #[test]
 fn different_sign(rt: HostRuntime) {
     check_rows(&rt, rt.alloc(), &OF_DIFFERENT_SIGN);
-    for it in SIGNED {
-        let greatest = greatest(&rt, rt.alloc(), it);
-        let ends = [-greatest - 1, greatest];
-        check_row(&rt, rt.alloc(), (&[it], Averages), &ends, Some(&[-1, 0]));
-    }
+    check_ends(&rt, rt.alloc());
 }
 
 /// Half of the sum, rounded down and rounded up: the halves rounded down, and what they leave.

@@ -19,9 +19,10 @@ fn check_greatest_row(rt: &impl Abort, alloc: Global, it: Type, n: u128) {
     let mut row = Vec::new(alloc);
     row.push((false, n)).expect(rt, "memory is left");
     for k in 0..=n {
-        let item = answer(alloc, it, Binomial, &[(false, n), (false, k)]);
-        let (item, _, _, _) = item.expect(rt, "the coefficient fits");
-        row.push(item).expect(rt, "memory is left");
+        match answer(alloc, it, Binomial, &[(false, n), (false, k)]) {
+            Some((item, _, _, _)) => row.push(item).expect(rt, "memory is left"),
+            None => panic!(rt; "the coefficient fits"),
+        }
     }
     answers(rt, alloc, (it, RowOf), &row, Some(truth(true)));
     let above = (false, n.saturating_add(1));
@@ -35,20 +36,23 @@ fn check_greatest_row(rt: &impl Abort, alloc: Global, it: Type, n: u128) {
     answers(rt, alloc, (it, RowOf), &[above], None);
 }
 
+/// The greatest number with a row, at each of the types.
+const GREATEST_ROWS: [(Type, u128); 8] = [
+    (U8, 10),
+    (I8, 9),
+    (U16, 18),
+    (I16, 17),
+    (U32, 34),
+    (I32, 33),
+    (U64, 67),
+    (I64, 66),
+];
+
 #[test]
 fn test_iter_binomial(rt: HostRuntime) {
-    for (it, n) in [
-        (U8, 10),
-        (I8, 9),
-        (U16, 18),
-        (I16, 17),
-        (U32, 34),
-        (I32, 33),
-        (U64, 67),
-        (I64, 66),
-    ] {
-        check_row(&rt, rt.alloc(), (&[it], RowOf), &[3, 1, 3, 3, 1], YES);
-        check_greatest_row(&rt, rt.alloc(), it, n);
+    for (it, n) in &GREATEST_ROWS {
+        check_row(&rt, rt.alloc(), (&[*it], RowOf), &[3, 1, 3, 3, 1], YES);
+        check_greatest_row(&rt, rt.alloc(), *it, *n);
     }
 }
 

@@ -1,11 +1,12 @@
 //! Greatest common divisors, least common multiples and Bezout pairs.
 
-use super::answers::{answer, one, two};
+use super::answers::{answer, one};
 use super::calls::Call;
-use super::calls::Call::{BezoutAndMultiple, Gcd, GcdLcm, Lcm};
+use super::calls::Call::{BezoutAndMultiple, Gcd, Lcm};
 use super::rows::{answers, check_row, holds_at};
 use super::tables::{GCDS, LCMS};
 use super::types::greatest;
+use num_integer::checked;
 use std::alloc::Global;
 use std::process::Abort;
 use test_types::signed_magnitude::{
@@ -105,19 +106,17 @@ fn test_lcm_overflow(rt: HostRuntime) {
 }
 
 /// Of two numbers of `i32`, `gcd_lcm` answers what `gcd` and `lcm` do.
-fn check_both_are_each(rt: &impl Abort, alloc: Global, a: i128, b: i128) {
-    let operands = [signed_magnitude_of(a), signed_magnitude_of(b)];
-    let gcd = answer(alloc, I32, Gcd, &operands);
-    let lcm = answer(alloc, I32, Lcm, &operands);
-    let (gcd, lcm) = gcd.zip(lcm).expect(rt, "both fit");
-    answers(rt, alloc, (I32, GcdLcm), &operands, Some(two(gcd.0, lcm.0)));
+fn check_both_are_each(rt: &impl Abort, a: i32, b: i32) {
+    let each = checked::gcd(a, b).zip(checked::lcm(a, b));
+    let both = checked::gcd_lcm(a, b);
+    holds_at(rt, both.is_some() && both == each, &("gcd_lcm", a, b));
 }
 
 #[test]
 fn test_gcd_lcm(rt: HostRuntime) {
-    for a in -128i64..=255 {
-        for b in -128i64..=255 {
-            check_both_are_each(&rt, rt.alloc(), a.into(), b.into());
+    for a in -128..=255 {
+        for b in -128..=255 {
+            check_both_are_each(&rt, a, b);
         }
     }
 }

@@ -208,7 +208,7 @@ fn check_each_root(rt: &impl Abort, alloc: Global, it: Type, n: u32) {
 #[test]
 fn roots_of_each_number(rt: HostRuntime) {
     for it in [U8, U16] {
-        for n in 1..=16 {
+        for n in [1, 2, 3, 4, 7, 8, 16] {
             check_each_root(&rt, rt.alloc(), it, n);
         }
     }

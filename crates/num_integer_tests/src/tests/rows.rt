@@ -84,7 +84,7 @@ pub(crate) fn check_row(
 
 /// Checks each of the rows.
 pub(crate) fn check_rows(rt: &impl Abort, alloc: Global, rows: &[Row]) {
-    for (types, call, operands, expected) in rows {
-        check_row(rt, alloc, (types, *call), operands, *expected);
+    for row in rows {
+        check_row(rt, alloc, (row.0, row.1), row.2, row.3);
     }
 }

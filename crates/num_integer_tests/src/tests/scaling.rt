@@ -37,11 +37,13 @@ const UNSIGNED: [Row<u64>; 5] = [
 
 #[test]
 fn rates_at_the_ends(rt: HostRuntime) {
-    for (a, b, d, expected) in SIGNED {
-        holds_at(&rt, product_div_mod_floor(a, b, d) == expected, &(a, b, d));
+    for (a, b, d, expected) in &SIGNED {
+        let found = product_div_mod_floor(*a, *b, *d);
+        holds_at(&rt, found == *expected, &(*a, *b, *d));
     }
-    for (a, b, d, expected) in UNSIGNED {
-        holds_at(&rt, product_div_mod_floor(a, b, d) == expected, &(a, b, d));
+    for (a, b, d, expected) in &UNSIGNED {
+        let found = product_div_mod_floor(*a, *b, *d);
+        holds_at(&rt, found == *expected, &(*a, *b, *d));
     }
 }
 

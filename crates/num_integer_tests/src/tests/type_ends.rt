@@ -351,7 +351,7 @@ fn check_ends(rt: &impl Abort, alloc: Global, it: Type, ends: Ends) {
 
 #[test]
 fn ends_of_each_type(rt: HostRuntime) {
-    for (it, ends) in ENDS {
-        check_ends(&rt, rt.alloc(), it, ends);
+    for (it, ends) in &ENDS {
+        check_ends(&rt, rt.alloc(), *it, *ends);
     }
 }

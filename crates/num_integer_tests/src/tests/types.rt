@@ -26,8 +26,10 @@ pub(super) fn inside(
 
 /// The magnitude of the least number of the type, and its greatest number.
 pub(super) fn ends(rt: &impl Abort, alloc: Global, it: Type) -> (u128, u128) {
-    let ((_, low), (_, high), _, _) = answer(alloc, it, Ends, &[]).expect(rt, "a type has ends");
-    (low, high)
+    match answer(alloc, it, Ends, &[]) {
+        Some(((_, low), (_, high), _, _)) => (low, high),
+        None => panic!(rt; "a type has ends"),
+    }
 }
 
 /// The greatest number of a type whose numbers `i128` has.

@@ -143,16 +143,20 @@ fn quotients_and_multiples(rt: HostRuntime) {
 
 #[test]
 fn divisors(rt: HostRuntime) {
-    assert!(rt; (common_multiple(7, 3), common_multiple(MAX, 2)) == (Some(21), None));
+    holds_at(&rt, common_multiple(7, 3) == Some(21), &"common_multiple");
+    holds_at(&rt, common_multiple(MAX, 2).is_none(), &"common_multiple");
     let pair = ExtendedGcd {
         gcd: 2,
         x: -9,
         y: 47,
     };
-    assert!(rt; (bezout_pair(240, 46), bezout_pair(MIN, MIN)) == (Some(pair), None));
+    holds_at(&rt, bezout_pair(240, 46) == Some(pair), &"bezout_pair");
+    holds_at(&rt, bezout_pair(MIN, MIN).is_none(), &"bezout_pair");
     let pair = ExtendedGcd { gcd: 4, x: 1, y: 0 };
-    let found = (natural_bezout_pair(4, 12), natural_bezout_pair(10, 4));
-    assert!(rt; found == (Some(pair), None));
+    let found = natural_bezout_pair(4, 12);
+    holds_at(&rt, found == Some(pair), &"natural_bezout_pair");
+    let found = natural_bezout_pair(10, 4);
+    holds_at(&rt, found.is_none(), &"natural_bezout_pair");
 }
 
 #[test]

@@ -7,6 +7,7 @@ ghost use Rattle.modular.specs.Congruences.{IsResidue};
 ghost use Rattle.num_integer.specs.Divisors.{IsLeastCommonMultiple};
 ghost use Rattle.num_integer.specs.Range.{EachFits};
 
+use crate::tests::assertions::holds_at;
 use modular::sum_modulo;
 use num_integer::{Fits, Integer, Roots};
 
@@ -91,9 +92,20 @@ fn turns(a: u32, b: u32) -> Option<(u32, u32)>
 
 #[test]
 fn calls_by_lemmas(rt: HostRuntime) {
-    assert!(rt; (split_bill(1000, 3), share(u64::MAX, 2)) == ((333, 1), 9223372036854775807));
-    assert!(rt; (hour_after(22, 5), hour_after(1, -2)) == (3, 23));
-    assert!(rt; (moon_sum(2024), moon_sum(-1)) == (229, 459));
-    assert!(rt; (side(99), side(u64::MAX), tile(56, 42)) == (9, 4294967295, 14));
-    assert!(rt; (turns(40, 60), turns(u32::MAX, 2)) == (Some((3, 2)), None));
+    holds_at(&rt, split_bill(1000, 3) == (333, 1), &"split_bill");
+    holds_at(&rt, share(u64::MAX, 2) == 9223372036854775807, &"share");
+    holds_at(
+        &rt,
+        hour_after(22, 5) == 3 && hour_after(1, -2) == 23,
+        &"hour_after",
+    );
+    holds_at(
+        &rt,
+        moon_sum(2024) == 229 && moon_sum(-1) == 459,
+        &"moon_sum",
+    );
+    holds_at(&rt, side(99) == 9 && side(u64::MAX) == 4294967295, &"side");
+    holds_at(&rt, tile(56, 42) == 14, &"tile");
+    holds_at(&rt, turns(40, 60) == Some((3, 2)), &"turns");
+    holds_at(&rt, turns(u32::MAX, 2).is_none(), &"turns");
 }

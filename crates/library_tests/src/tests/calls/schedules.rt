@@ -56,10 +56,21 @@ fn meetings_of_several(rt: HostRuntime) {
         let found = next_meeting_of(now, &[(0, 11), (0, 13), (0, 7)]);
         holds_at(&rt, found == next, &("next_meeting_of", now));
     }
-    assert!(rt; next_meeting_of(-128i8, &[(5, 11), (5, 13), (5, 7)]) == At(5));
-    assert!(rt; next_meeting_of(0u8, &[(1, 4), (3, 6), (0, 7)]) == At(21));
-    assert!(rt; next_meeting_of(0u8, &[(1, 4), (3, 6), (0, 2)]) == Never);
-    assert!(rt; next_meeting_of(i64::MAX, &[(0, 1), (1, 2)]) == At(i64::MAX));
-    assert!(rt; next_shift(10, &[(1, 4), (3, 6), (0, 7)]) == Some(21));
-    assert!(rt; next_shift(10, &[(1, 4), (3, 6), (0, 2)]) == None && next_shift(7, &[]) == Some(7));
+    let found = next_meeting_of(-128i8, &[(5, 11), (5, 13), (5, 7)]);
+    holds_at(&rt, found == At(5), &"next_meeting_of");
+    let found = next_meeting_of(0u8, &[(1, 4), (3, 6), (0, 7)]);
+    holds_at(&rt, found == At(21), &"next_meeting_of");
+    let found = next_meeting_of(0u8, &[(1, 4), (3, 6), (0, 2)]);
+    holds_at(&rt, found == Never, &"next_meeting_of");
+    let found = next_meeting_of(i64::MAX, &[(0, 1), (1, 2)]);
+    holds_at(&rt, found == At(i64::MAX), &"next_meeting_of");
+}
+
+#[test]
+fn shifts(rt: HostRuntime) {
+    let shift = next_shift(10, &[(1, 4), (3, 6), (0, 7)]);
+    holds_at(&rt, shift == Some(21), &"next_shift");
+    let shift = next_shift(10, &[(1, 4), (3, 6), (0, 2)]);
+    holds_at(&rt, shift.is_none(), &"next_shift");
+    holds_at(&rt, next_shift(7, &[]) == Some(7), &"next_shift of none");
 }

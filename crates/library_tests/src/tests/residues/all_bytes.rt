@@ -13,6 +13,9 @@ use test_types::types::Type::{I8, U8};
 /// Moduli: the ends of both types and their neighbours, primes, products of two, squares and powers of two.
 const MODULI: [i128; 11] = [1, 2, 15, 64, 100, 113, 127, 128, 200, 251, 255];
 
+/// Moduli of each pair of numbers.
+const MODULI_OF_PAIRS: [i128; 4] = [1, 100, 127, 255];
+
 /// Exponents of none to five binary digits.
 const EXPONENTS: [u32; 6] = [0, 1, 2, 3, 13, 18];
 
@@ -76,7 +79,7 @@ fn has_operations(rt: &impl Abort, it: Type, (a, b): (i128, i128), m: i128) {
 
 /// Each pair of the numbers from the one to the other.
 fn has_pairs(rt: &impl Abort, it: Type, low: i128, high: i128) {
-    for m in MODULI {
+    for m in MODULI_OF_PAIRS {
         if m <= high {
             for a in low..=high {
                 for b in low..=high {
@@ -136,9 +139,9 @@ fn signed_numbers(rt: HostRuntime) {
 
 #[test]
 fn unsigned_numbers(rt: HostRuntime) {
-    for m in 1i64..=255 {
+    for m in MODULI {
         for a in 0i64..=255 {
-            has_residues(&rt, U8, a.into(), m.into(), (77, 60));
+            has_residues(&rt, U8, a.into(), m, (77, 60));
         }
     }
 }

@@ -139,15 +139,20 @@ fn next_common_solutions_of_several(rt: HostRuntime) {
         let found = next_common_solution_of(from, &[(0, 11), (0, 13), (0, 7)]);
         holds_at(&rt, found == next, &("next_common_solution_of", from));
     }
-    for (from, next) in [(10, At(21)), (22, At(105))] {
+    for (from, next) in [(10i8, At(21)), (22, At(105))] {
         let found = next_common_solution_of(from, &[(1, 4), (3, 6), (0, 7)]);
         holds_at(&rt, found == next, &("next_common_solution_of", from));
     }
-    assert!(rt; next_common_solution_of(127u8, &[]) == At(127));
-    assert!(rt; next_common_solution_of(-128i8, &[(-1, 127)]) == At(-128));
-    assert!(rt; next_common_solution_of(10, &[(1, 4), (0, 5), (2, 6)]) == Never);
-    assert!(rt; next_common_solution_of(-128i8, &[(1, 100), (0, 99), (2, 100)]) == Never);
-    assert!(rt; next_common_solution_of(-128i8, &[(28, 126), (28, 127), (28, 125)]) == At(28));
+    let found = next_common_solution_of(127i8, &[]);
+    holds_at(&rt, found == At(127), &"of no congruence");
+    let found = next_common_solution_of(-128i8, &[(-1, 127)]);
+    holds_at(&rt, found == At(-128), &"of one congruence");
+    let found = next_common_solution_of(10i8, &[(1, 4), (0, 5), (2, 6)]);
+    holds_at(&rt, found == Never, &"an odd and an even number");
+    let found = next_common_solution_of(-128i8, &[(1, 100), (0, 99), (2, 100)]);
+    holds_at(&rt, found == Never, &"two numbers of one modulus");
+    let found = next_common_solution_of(-128i8, &[(28, 126), (28, 127), (28, 125)]);
+    holds_at(&rt, found == At(28), &"one number of three moduli");
 }
 
 /// Moduli whose common multiple no type holds.
@@ -158,8 +163,11 @@ fn next_common_solutions_at_the_ends(rt: HostRuntime) {
         let found = next_common_solution_of(from, &[(5, m), (5, n), (5, k)]);
         holds_at(&rt, found == next, &("next_common_solution_of", from));
     }
-    assert!(rt; next_common_solution_of(0, &[(5, m), (5, n), (4, n)]) == Never);
+    let found = next_common_solution_of(0, &[(5, m), (5, n), (4, n)]);
+    holds_at(&rt, found == Never, &"two numbers of one modulus");
     let (least, m) = (i64::MIN, i64::MAX);
-    assert!(rt; next_common_solution_of(least, &[(-1, m), (-1, m - 1), (-1, 7)]) == At(-1));
-    assert!(rt; next_common_solution_of(least, &[(0, m), (-1, m - 1)]) == At(-m));
+    let found = next_common_solution_of(least, &[(-1, m), (-1, m - 1), (-1, 7)]);
+    holds_at(&rt, found == At(-1), &"one number of three moduli");
+    let found = next_common_solution_of(least, &[(0, m), (-1, m - 1)]);
+    holds_at(&rt, found == At(-m), &"two numbers");
 }

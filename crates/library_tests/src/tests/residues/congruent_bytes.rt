@@ -127,36 +127,38 @@ const CONGRUENCES: [[(i8, i8); 3]; 10] = [
     [(0, 16), (8, 12), (3, 9)],
 ];
 
-/// The first number from `from` on that solves the three, by trial of 12000 numbers.
-fn solution_from(from: i16, congruences: [(i8, i8); 3]) -> Option<i16> {
-    for x in from..=12000 {
-        let mut solves = true;
-        for (first, step) in congruences {
-            solves &= is_congruent(x.into(), first.into(), step.into());
-        }
-        if solves {
-            return Some(x);
-        }
+/// Whether the number solves the three.
+fn solves(x: i16, congruences: [(i8, i8); 3]) -> bool {
+    let mut solves = true;
+    for (first, step) in congruences {
+        solves &= is_congruent(x.into(), first.into(), step.into());
     }
-    None
+    solves
 }
 
-/// Each number of `i8`.
+/// What there is above `i8`, by trial of 12000 numbers.
+fn next_above(congruences: [(i8, i8); 3]) -> CommonSolution<i8> {
+    for x in 128..=12000 {
+        if solves(x, congruences) {
+            return CommonSolution::Beyond;
+        }
+    }
+    CommonSolution::Never
+}
+
+/// Each number of `i8`, from the greatest to the least.
 fn next_of_three(rt: &impl Abort, congruences: [(i8, i8); 3]) {
     let [(a, m), (b, n), (c, k)] = congruences;
-    for from in i8::MIN..=i8::MAX {
-        let expected = match solution_from(i16::from(from), congruences) {
-            None => CommonSolution::Never,
-            Some(x) => match i8::try_from(x) {
-                Ok(solution) => CommonSolution::At(solution),
-                Err(_) => CommonSolution::Beyond,
-            },
-        };
+    let mut next = next_above(congruences);
+    for from in (i8::MIN..=i8::MAX).rev() {
+        if solves(from.into(), congruences) {
+            next = CommonSolution::At(from);
+        }
         if m > 0 && n > 0 && k > 0 {
             let found = next_common_solution_of(from, &[(a, m), (b, n), (c, k)]);
             holds_at(
                 rt,
-                found == expected,
+                found == next,
                 &("next_common_solution_of", from, congruences),
             );
         }

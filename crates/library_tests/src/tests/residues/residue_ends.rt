@@ -146,7 +146,7 @@ fn has_pairs(rt: &impl Abort, it: Type) {
 
 #[test]
 fn residues_at_the_ends(rt: HostRuntime) {
-    for it in NATIVE {
-        has_pairs(&rt, it);
+    for it in &NATIVE {
+        has_pairs(&rt, *it);
     }
 }

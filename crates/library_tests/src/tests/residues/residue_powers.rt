@@ -84,11 +84,11 @@ fn has_powers(rt: &impl Abort, it: Type, a: SignedMagnitude, m: u128) {
 /// Each number at each modulus, at each type.
 #[test]
 fn powers_at_the_upper_ends(rt: HostRuntime) {
-    for it in NATIVE {
-        let (low, high) = ends(&rt, it);
+    for it in &NATIVE {
+        let (low, high) = ends(&rt, *it);
         for m in moduli(high.min(1 << 64)) {
             for a in numbers(low, high) {
-                has_powers(&rt, it, a, m);
+                has_powers(&rt, *it, a, m);
             }
         }
     }

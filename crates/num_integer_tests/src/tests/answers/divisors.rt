@@ -53,29 +53,73 @@ pub(super) fn bezout_and_multiple<T: Signed + Tested>(a: T, b: T) -> Option<Numb
     }
 }
 
+/// The greatest common divisor.
+fn common_divisor<T: Tested>(a: T, b: T) -> Option<Numbers>
+    requires a_in_range { T.fits (T.value a) }
+    requires b_in_range { T.fits (T.value b) }
+{
+    Some(agreed(checked::gcd(a, b)?, gcd(a, b)))
+}
+
+/// The greatest common divisor and the turns.
+fn counted_divisor<T: Tested>(a: T, b: T) -> Option<Numbers>
+    requires a_in_range { T.fits (T.value a) }
+    requires b_in_range { T.fits (T.value b) }
+{
+    let (gcd, turns) = a.gcd_and_turns(&b)?;
+    Some(counted(checked::gcd(a, b)?, gcd, turns))
+}
+
+/// The least common multiple.
+fn common_multiple<T: Tested>(a: T, b: T) -> Option<Numbers>
+    requires a_in_range { T.fits (T.value a) }
+    requires b_in_range { T.fits (T.value b) }
+{
+    Some(agreed(checked::lcm(a, b)?, lcm(a, b)))
+}
+
+/// The greatest common divisor and the least common multiple.
+fn divisor_and_multiple<T: Tested>(a: T, b: T) -> Option<Numbers>
+    requires a_in_range { T.fits (T.value a) }
+    requires b_in_range { T.fits (T.value b) }
+{
+    Some(both_agreed(checked::gcd_lcm(a, b)?, gcd_lcm(a, b)))
+}
+
+/// The coefficient.
+fn coefficient<T: Tested>(n: T, k: T) -> Option<Numbers>
+    requires n_in_range { T.fits (T.value n) }
+    requires k_in_range { T.fits (T.value k) }
+{
+    Some(agreed(checked::binomial(n, k)?, binomial(n, k)))
+}
+
+/// The coefficient and the turns.
+fn counted_coefficient<T: Tested>(n: T, k: T) -> Option<Numbers>
+    requires n_in_range { T.fits (T.value n) }
+    requires k_in_range { T.fits (T.value k) }
+{
+    let coefficient = checked::binomial(n, k)?;
+    let (other, turns) = binomial_counted(n, k);
+    Some(counted(coefficient, other, turns))
+}
+
 /// What the calls of divisors and of coefficients answer.
 pub(super) fn divisor<T: Tested>(call: Call, a: T, b: T) -> Option<Numbers>
     requires a_in_range { T.fits (T.value a) }
     requires b_in_range { T.fits (T.value b) }
 {
-    Some(match call {
-        Call::Gcd => agreed(checked::gcd(a, b)?, gcd(a, b)),
-        Call::Lcm => agreed(checked::lcm(a, b)?, lcm(a, b)),
-        Call::GcdLcm => both_agreed(checked::gcd_lcm(a, b)?, gcd_lcm(a, b)),
-        Call::CountedGcd => {
-            let (gcd, turns) = a.gcd_and_turns(&b)?;
-            counted(checked::gcd(a, b)?, gcd, turns)
-        }
-        Call::Bezout => return bezout(a, b),
-        Call::GcdFits => truth(a.gcd_fits(&b)),
-        Call::LcmFits => truth(a.lcm_fits(&b)),
-        Call::Binomial => agreed(checked::binomial(a, b)?, binomial(a, b)),
-        Call::CountedBinomial => {
-            let coefficient = checked::binomial(a, b)?;
-            let (other, turns) = binomial_counted(a, b);
-            counted(coefficient, other, turns)
-        }
-        Call::BinomialFits => truth(a.binomial_fits(&b)),
-        _ => DIFFERENT,
-    })
+    match call {
+        Call::Gcd => common_divisor(a, b),
+        Call::Lcm => common_multiple(a, b),
+        Call::GcdLcm => divisor_and_multiple(a, b),
+        Call::CountedGcd => counted_divisor(a, b),
+        Call::Bezout => bezout(a, b),
+        Call::GcdFits => Some(truth(a.gcd_fits(&b))),
+        Call::LcmFits => Some(truth(a.lcm_fits(&b))),
+        Call::Binomial => coefficient(a, b),
+        Call::CountedBinomial => counted_coefficient(a, b),
+        Call::BinomialFits => Some(truth(a.binomial_fits(&b))),
+        _ => Some(DIFFERENT),
+    }
 }

@@ -1,5 +1,8 @@
 //! Multinomials and rows.
 
+ghost use Rattle.std.specs.Prelude.{IfSome};
+ghost use Rattle.std.specs.List.{All};
+
 use super::{DIFFERENT, Numbers, agreed, truth};
 use crate::tests::calls::Call;
 use num_integer::{IterBinomial, checked};
@@ -7,28 +10,31 @@ use std::alloc::Global;
 use test_types::signed_magnitude::SignedMagnitude;
 use test_types::types::Tested;
 
+/// The numbers as values of the type, where it has them and memory is left.
+fn values<T: Tested>(alloc: Global, numbers: &[SignedMagnitude]) -> Option<Vec<T>>
+    ensures { IfSome result (λ v. All (λ x. T.fits (T.value x)) v.items) }
+{
+    let mut values = Vec::new(alloc);
+    for number in numbers {
+        values.push(T::from_signed_magnitude(*number)?).ok()?;
+    }
+    Some(values)
+}
+
 /// The multinomial of the counts, or whether it fits the type.
 pub(super) fn multinomial<T: Tested>(
     alloc: Global,
     call: Call,
     counts: &[SignedMagnitude],
 ) -> Option<Numbers> {
-    let mut values = Vec::new(alloc);
-    for count in counts {
-        let Some(value) = T::from_signed_magnitude(*count) else {
-            return Some(DIFFERENT);
-        };
-        if values.push(value).is_err() {
-            return Some(DIFFERENT);
-        }
+    let Some(counts) = values::<T>(alloc, counts) else {
+        return Some(DIFFERENT);
+    };
+    if matches!(call, Call::MultinomialFits) {
+        return Some(truth(T::multinomial_fits(&counts)));
     }
-    match call {
-        Call::MultinomialFits => Some(truth(T::multinomial_fits(&values))),
-        _ => {
-            let answer = checked::multinomial(&values)?;
-            Some(agreed(answer, num_integer::multinomial(&values)))
-        }
-    }
+    let answer = checked::multinomial(&counts)?;
+    Some(agreed(answer, num_integer::multinomial(&counts)))
 }
 
 /// Whether both calls answer the row of the first number, and the other numbers are its items.
@@ -40,10 +46,13 @@ pub(super) fn row<T: Tested>(n: T, items: &[SignedMagnitude]) -> Option<Numbers>
     let mut same = true;
     for item in items.iter().skip(1) {
         let item = T::from_signed_magnitude(*item);
-        same = same && item.is_some() && row.next() == item && plain.next() == item;
+        same &= item.is_some();
+        same &= row.next() == item;
+        same &= plain.next() == item;
     }
     for _ in 0..2u8 {
-        same = same && row.next().is_none() && plain.next().is_none();
+        same &= row.next().is_none();
+        same &= plain.next().is_none();
     }
     Some(truth(same))
 }
