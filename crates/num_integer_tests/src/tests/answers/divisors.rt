@@ -53,12 +53,16 @@ pub(super) fn bezout_and_multiple<T: Signed + Tested>(a: T, b: T) -> Option<Numb
     }
 }
 
-/// The greatest common divisor.
-fn common_divisor<T: Tested>(a: T, b: T) -> Option<Numbers>
+/// The greatest common divisor, the least common multiple, or both.
+fn divisor_or_multiple<T: Tested>(call: Call, a: T, b: T) -> Option<Numbers>
     requires a_in_range { T.fits (T.value a) }
     requires b_in_range { T.fits (T.value b) }
 {
-    Some(agreed(checked::gcd(a, b)?, gcd(a, b)))
+    Some(match call {
+        Call::Gcd => agreed(checked::gcd(a, b)?, gcd(a, b)),
+        Call::Lcm => agreed(checked::lcm(a, b)?, lcm(a, b)),
+        _ => both_agreed(checked::gcd_lcm(a, b)?, gcd_lcm(a, b)),
+    })
 }
 
 /// The greatest common divisor and the turns.
@@ -70,36 +74,15 @@ fn counted_divisor<T: Tested>(a: T, b: T) -> Option<Numbers>
     Some(counted(checked::gcd(a, b)?, gcd, turns))
 }
 
-/// The least common multiple.
-fn common_multiple<T: Tested>(a: T, b: T) -> Option<Numbers>
-    requires a_in_range { T.fits (T.value a) }
-    requires b_in_range { T.fits (T.value b) }
-{
-    Some(agreed(checked::lcm(a, b)?, lcm(a, b)))
-}
-
-/// The greatest common divisor and the least common multiple.
-fn divisor_and_multiple<T: Tested>(a: T, b: T) -> Option<Numbers>
-    requires a_in_range { T.fits (T.value a) }
-    requires b_in_range { T.fits (T.value b) }
-{
-    Some(both_agreed(checked::gcd_lcm(a, b)?, gcd_lcm(a, b)))
-}
-
-/// The coefficient.
-fn coefficient<T: Tested>(n: T, k: T) -> Option<Numbers>
-    requires n_in_range { T.fits (T.value n) }
-    requires k_in_range { T.fits (T.value k) }
-{
-    Some(agreed(checked::binomial(n, k)?, binomial(n, k)))
-}
-
-/// The coefficient and the turns.
-fn counted_coefficient<T: Tested>(n: T, k: T) -> Option<Numbers>
+/// The coefficient, or the coefficient and the turns.
+fn coefficient<T: Tested>(call: Call, n: T, k: T) -> Option<Numbers>
     requires n_in_range { T.fits (T.value n) }
     requires k_in_range { T.fits (T.value k) }
 {
     let coefficient = checked::binomial(n, k)?;
+    if matches!(call, Call::Binomial) {
+        return Some(agreed(coefficient, binomial(n, k)));
+    }
     let (other, turns) = binomial_counted(n, k);
     Some(counted(coefficient, other, turns))
 }
@@ -110,15 +93,12 @@ pub(super) fn divisor<T: Tested>(call: Call, a: T, b: T) -> Option<Numbers>
     requires b_in_range { T.fits (T.value b) }
 {
     match call {
-        Call::Gcd => common_divisor(a, b),
-        Call::Lcm => common_multiple(a, b),
-        Call::GcdLcm => divisor_and_multiple(a, b),
+        Call::Gcd | Call::Lcm | Call::GcdLcm => divisor_or_multiple(call, a, b),
         Call::CountedGcd => counted_divisor(a, b),
         Call::Bezout => bezout(a, b),
         Call::GcdFits => Some(truth(a.gcd_fits(&b))),
         Call::LcmFits => Some(truth(a.lcm_fits(&b))),
-        Call::Binomial => coefficient(a, b),
-        Call::CountedBinomial => counted_coefficient(a, b),
+        Call::Binomial | Call::CountedBinomial => coefficient(call, a, b),
         Call::BinomialFits => Some(truth(a.binomial_fits(&b))),
         _ => Some(DIFFERENT),
     }
