@@ -56,7 +56,7 @@ fi
 # The greatest argument that the kernel passes on is 128 KiB with its end. It refuses one of a megabyte before the program
 # starts; it passes on a megabyte in eight arguments.
 digits=$(printf '%0131071d' 7)
-nines=${digits//?/9}
+nines=$(printf '%0131071d' 0 | tr 0 9)
 
 prints 'the stored run' 0 "$answer" "$program" "${words[@]}"
 prints 'no argument' 2 usage "$program"
