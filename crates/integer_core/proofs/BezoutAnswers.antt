@@ -38,7 +38,6 @@ small_alone {a} {b} {g} {x} {y} greatest divides nonzero h =
     let less : unsigned_abs (y *ℤ a) < unsigned_abs a = omega (arith, linear, abs_is, unsigned_abs-mul y a, rw is at h.y_small) in
     let none = small_multiple y a less in
     let rest = ap (λ (t : ℤ). t *ℤ b) none ∙ zero-*ℤ b in
-    let e = h.equation in
     let size : x *ℤ a ≡ pos (unsigned_abs a) = omega (arith, linear) in
     (cancel a x (sign a) nonzero (comm a x ∙ size ∙ sym (sign_size a) ∙ comm (sign a) a), none)
 

@@ -52,14 +52,15 @@ from_natural {u} {v} h =
 pub Divides-sum : {d u v : ℤ} (x y : ℤ) → Divides d u → Divides d v → Divides d (x *ℤ u +ℤ y *ℤ v)
 Divides-sum x y h k = record { factor = x *ℤ h.factor +ℤ y *ℤ k.factor; product = simp (h.product, k.product, expand) }
 
+pub rest_is : {n d q r : ℤ} → IsDivision n d q r → r ≡ n -ℤ q *ℤ d
+rest_is h = let e = h.equation in omega (arith, linear)
+
 -- a divisor of the divisor and the remainder divides the number
 pub divides_number : {g n d q r : ℤ} → IsDivision n d q r → Divides g d → Divides g r → Divides g n
 divides_number {q = q} x h k = record { factor = q *ℤ h.factor +ℤ k.factor; product = simp (x.equation, h.product, k.product, expand) (omega (arith, linear)) }
 
 pub divides_remainder : {g n d q r : ℤ} → IsDivision n d q r → Divides g n → Divides g d → Divides g r
-divides_remainder {g} {n} {d} {q} {r} x h k =
-    let is : r ≡ n -ℤ q *ℤ d = omega (arith, linear) in
-    record { factor = h.factor -ℤ q *ℤ k.factor; product = is ∙ simp (h.product, k.product, expand) (omega (arith, linear)) }
+divides_remainder {q = q} x h k = record { factor = h.factor -ℤ q *ℤ k.factor; product = rest_is x ∙ simp (h.product, k.product, expand) (omega (arith, linear)) }
 
 -- a number leaves no remainder exactly where the divisor divides it
 pub exact_from_divides : {n d q r : ℤ} → IsDivision n d q r → Divides d n → r ≡ pos 0

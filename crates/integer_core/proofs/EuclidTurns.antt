@@ -23,12 +23,8 @@ multiple_size (suc (suc k)) d = inr (inr (omega arith))
 -- the multiple and the remainder have one sign, so magnitudes divide alike
 pub truncated_size : {n d q r : ℤ} → IsTruncated n d q r → unsigned_abs n ≡ unsigned_abs q * unsigned_abs d + unsigned_abs r
 truncated_size {n} {d} {q} {r} h =
-    let e = h.division.equation in
-    let small = h.division.small in
+    let division = h.division in
     omega (arith, linear, abs_is, h.sign, unsigned_abs-mul q d, multiple_size (unsigned_abs q) (unsigned_abs d))
-
-pub truncated_rest : {n d q r : ℤ} → IsTruncated n d q r → r ≡ n -ℤ q *ℤ d
-truncated_rest h = let e = h.division.equation in omega (arith, linear)
 
 -- where d does not divide n, something is left
 pub inexact : {n d q r : ℤ} → IsTruncated n d q r → ¬ (Divides d n) → r ≢ pos 0

@@ -5,7 +5,8 @@ use Rattle.std.proofs.Math.IntN.{zero-*ℤ, +ℤ_idr}
 use Rattle.std.proofs.lemmas.Int.{unsigned_abs-mul}
 use borrow.Author.Differences.{abs_is}
 use Rattle.integer_core.proofs.BezoutCoefficients.{IsWeighed, halves}
-use Rattle.integer_core.proofs.EuclidTurns.{truncated_size, truncated_rest, inexact, not_one, divisor_size}
+use Rattle.integer_core.proofs.Divisibility.{rest_is}
+use Rattle.integer_core.proofs.EuclidTurns.{truncated_size, inexact, not_one, divisor_size}
 use Rattle.integer_core.proofs.GcdDomain.{no_minus_one}
 use Rattle.integer_core.proofs.Lame.{few_turns}
 use Rattle.integer_core.proofs.Quotients.{zero_or_not, small_multiple}
@@ -133,7 +134,7 @@ module _ {fits : ℤ → Type 0} {low high a b q r : ℤ} {current previous : Ro
   }
     where
       same : ¬ (fits (negsuc 0)) → r ≡ previous.remainder
-      same unsigned = truncated_rest row ∙ simp (no_quotient unsigned, zero-*ℤ, +ℤ_idr)
+      same unsigned = rest_is row.division ∙ simp (no_quotient unsigned, zero-*ℤ, +ℤ_idr)
 
 -- the turns are few, and fit their counter
 pub turns_fit : {fits : ℤ → Type 0} {low high a b : ℤ} {current previous : Row} {t : ℕ} → b ≢ pos 0

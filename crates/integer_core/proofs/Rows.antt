@@ -5,7 +5,8 @@ use Rattle.std.proofs.lemmas.Int.{ints}
 use borrow.Author.Differences.{abs_is}
 use Rattle.integer_core.proofs.BezoutCoefficients.{IsWeighed, weighed_first, weighed_second, weighed_turn, last_half}
 use Rattle.integer_core.proofs.CommonDivisors.{gcd-divisor, gcd-remainder}
-use Rattle.integer_core.proofs.EuclidTurns.{divides_or_not, inexact, truncated_rest}
+use Rattle.integer_core.proofs.Divisibility.{rest_is}
+use Rattle.integer_core.proofs.EuclidTurns.{divides_or_not, inexact}
 use Rattle.integer_core.proofs.Quotients.{truncated_is}
 use Rattle.integer_core.proofs.Runs.{Reaches, reaches_first, reaches_turn}
 use Rattle.integer_core.proofs.Whole.{linear, expand}
@@ -59,7 +60,7 @@ module _ {a b : ℤ} {current previous : Row} {t : ℕ} (h : Rows a b current pr
       → Rows a b (next_row current previous q r) current (t + 1)
   rows_turn {q} {r} goes_on row = record {
     nonzero = inexact row goes_on;
-    equation = rw (truncated_rest row, ← h.equation, ← h.previous_equation) (simp expand (omega (arith, linear)));
+    equation = rw (rest_is row.division, ← h.equation, ← h.previous_equation) (simp expand (omega (arith, linear)));
     previous_equation = h.equation;
     x_weighed = weighed_turn h.x_weighed row;
     y_weighed = weighed_turn h.y_weighed row;
@@ -69,7 +70,7 @@ module _ {a b : ℤ} {current previous : Row} {t : ℕ} (h : Rows a b current pr
       goes_on = goes_on;
       quotient = q;
       truncated = record { remainder = r; division = row };
-      current = truncated_rest row;
+      current = rest_is row.division;
       previous = refl;
     });
   }

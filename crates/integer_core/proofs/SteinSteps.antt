@@ -76,7 +76,7 @@ odd_of_power {m = m} h part =
     eq-one_of_dvd-one (odd_divides m 1 h.0 part.odd (∣ (2 ^ part.twos, whole) ∣₁))
 
 -- so where one of two numbers is a power of two, their odd parts have the gcd 1
-pub gcd_of_power : {a b m n one : ℕ} → IsPowerOfTwo a ⊎ IsPowerOfTwo b → one ≡ 1 → IsOddPart a m → IsOddPart b n → IsGcd m n one
+pub gcd_of_power : {a b m n : ℕ} {one : ℤ} → IsPowerOfTwo a ⊎ IsPowerOfTwo b → one ≡ pos 1 → IsOddPart a m → IsOddPart b n → IsGcd m n (unsigned_abs one)
 gcd_of_power {m = m} {n = n} h is a_part b_part = rw is (elim h [
   | inl left ↦ rw (odd_of_power left a_part) (dvd_refl 1, one-dvd n, λ d u v. u)
   | inr right ↦ rw (odd_of_power right b_part) (one-dvd m, dvd_refl 1, λ d u v. v)

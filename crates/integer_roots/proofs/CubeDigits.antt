@@ -21,8 +21,7 @@ cube_front {square = square} {front = front} positive whole near square_is fits 
     let cube = mul-le-mul_left (front * front * front) positive in
     let small = base_below front (2 ^ 11) 3 (omega (arith, whole, fits, cube, power_three front)) in
     let below : front ≤ 2047 = omega arith in
-    let squares : square < 2 ^ 22 = omega (arith, square_is, mul-le-mul below below) in
-    record { whole = whole; near = near; square_is = square_is; fits = fits; square_below = squares; front_below = small }
+    record { whole = whole; near = near; square_is = square_is; fits = fits; square_below = omega (arith, square_is, mul-le-mul below below); front_below = small }
 
 -- what the next digit 1 takes of the rest, with the square and the front moved up by a place
 abbrev pub cube_step : ℕ → ℕ → ℕ
@@ -66,6 +65,7 @@ cube_step_fits rest step weight positive below fits =
     (mod-eq_of_lt (omega arith), most)
 
 -- with no digit left the front is the root
-pub front_at_last : {a rest square front : ℕ} → IsCubeFront a rest square front 1 → IsFloorRoot (pos a) 3 (pos front)
-front_at_last {front = front} v =
+pub front_at_last : {a rest square front digits : ℕ} → digits ≡ 0 → IsCubeFront a rest square front (2 ^ (3 * digits)) → IsFloorRoot (pos a) 3 (pos front)
+front_at_last {front = front} none known =
+    let v = rw none at known in
     floor_root (omega (arith, v.whole, power_three front)) (omega (arith, v.whole, v.near, power_three (front + 1)))

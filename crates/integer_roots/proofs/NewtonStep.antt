@@ -38,11 +38,10 @@ pub record IsNewtonStep (a n x y : ℕ) : Type 0 where
 -- a step is at least each z whose power is at most a
 pub newton_least : {a n x y : ℕ} (z : ℕ) → IsNewtonStep a n x y → z ^ n ≤ a → z ≤ y
 newton_least {a} {n} {x} z s h =
-    let p : ℕ = x ^ s.m in
-    let one : 0 < p = one-le-pow s.m x s.positive in
+    let one : 0 < x ^ s.m = one-le-pow s.m x s.positive in
     let low : z * z ^ s.m ≤ a = rw (s.degree, pow-succ') at h in
-    let quotient : (s.m + 1) * z ≤ (a + s.m * x * p) / p = le-div ((s.m + 1) * z) (a + s.m * x * p) p one (omega (arith, means x z s.m)) in
-    rw (s.is, s.degree) (le-div z (a / p + s.m * x) (suc s.m) (omega arith) (omega (arith, quotient, add-mul-div_right a (s.m * x) one)))
+    let quotient : (s.m + 1) * z ≤ (a + s.m * x * x ^ s.m) / x ^ s.m = le-div _ _ _ one (omega (arith, means x z s.m)) in
+    rw (s.is, s.degree) (le-div z (a / x ^ s.m + s.m * x) (suc s.m) (omega arith) (omega (arith, quotient, add-mul-div_right a (s.m * x) one)))
 
 -- it is below k times a guess whose power, k times, is above a
 pub newton_below : {a n x y : ℕ} (k : ℕ) → IsNewtonStep a n x y → 0 < k → a < k * x ^ n → y < k * x

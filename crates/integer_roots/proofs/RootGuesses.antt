@@ -40,26 +40,23 @@ pub start : {step : ℕ → ℕ → Type 0} {a n limit : ℕ} (top place : ℕ) 
 start top zero newton degree le small place low high limited = absurd (omega arith)
 start {a = a} {n = n} {limit = limit} top (suc k) newton degree le small place low high limited =
     let bit : 2 ^ suc k ≡ 2 * 2 ^ k = pow-succ' 2 k in
-    let least : 2 ^ n ≤ 2 ^ top = pow_mono {i = n} {j = top} le in
-    let before : 2 ^ (k * n) ≤ 2 ^ top = pow_mono {i = k * n} {j = top} (omega arith) in
-    let beyond : 2 ^ top ≤ 2 ^ (suc k * n) = pow_mono {i = top} {j = suc k * n} place.0 in
-    let half : 2 ^ k < limit = base_below (2 ^ k) limit n (omega (arith, power_of_power 2 k n)) in
+    let half : 2 ^ k < limit = base_below (2 ^ k) limit n (omega (arith, power_of_power 2 k n, pow_mono {i = k * n} {j = top} (omega arith))) in
     rw (one_shl (suc k) 64 (omega (arith, mul-le-mul_left k degree))) (record {
       newton = newton;
       degree = degree;
-      power_le = omega arith;
+      power_le = omega (arith, pow_mono {i = n} {j = top} le);
       limited = limited;
       above_one = omega (arith, pow_pos k);
       small = omega arith;
-      near = omega (arith, power_of_power 2 (suc k) n);
+      near = omega (arith, power_of_power 2 (suc k) n, pow_mono {i = top} {j = suc k * n} place.0);
     })
 
 -- from degree 3 up the root has at most 22 bits
 pub start_from_three : {a n top place : ℕ} → place ≡ div_ceil top n → 3 ≤ n → n ≤ top → top < 64 → a < 2 ^ 64 → 2 ^ top ≤ a → a < 2 * 2 ^ top
     → IsStart (λ x y. y ≡ newton_step a n x) a n (2 ^ 22) (1 * 2 ^ place % 2 ^ 64)
 start_from_three {a} {n} {top} {place} is degree le small fits low high =
-    let cube : (2 ^ 22) ^ 3 ≤ (2 ^ 22) ^ n = pow-le-pow_right (omega arith) {i = 3} {j = n} degree in
-    start top place (λ x y step. step) (omega arith) le small (rw is (div_ceil_times top n (omega arith))) low high (omega arith)
+    start top place (λ x y step. step) (omega arith) le small (rw is (div_ceil_times top n (omega arith))) low high
+    (omega (arith, pow-le-pow_right {n = 2 ^ 22} (omega arith) {i = 3} {j = n} degree))
 
 -- each turn of the first loop steps up
 rises_from_first : {step : ℕ → ℕ → Type 0} {first x turns : ℕ} → IsReached step first (Rising x) turns → first + turns ≤ x

@@ -60,9 +60,7 @@ near_after_turn a x y turns positive near is fits down =
     record { near = near_next a x y turns positive near (omega arith) above; high_at_first = λ e. absurd (omega arith); bound = omega arith }
 
 rise_cases : (x e y q a : ℕ) → y ≡ x + e + 1 → a < q * x + x → q + x ≤ 2 * y + 1 → (y + 2) * y ≤ a → ⊥
-rise_cases x e y q a is lt le big =
-    let wide : (q + 1) * x ≤ (x + 2 * e + 4) * x = mul-le-mul_right x (omega arith) in
-    omega (arith, wide, rw is at big)
+rise_cases x e y q a is lt le big = omega (arith, mul-le-mul_right {m = q + 1} {n = x + 2 * e + 4} x (omega arith), rw is at big)
 
 -- the first loop makes one turn at most
 rise_once : (a x y : ℕ) → 0 < x → y ≡ square_step a x → x < y → square_step a y ≤ y
@@ -86,9 +84,8 @@ pub record IsSquareStart (a first : ℕ) : Type 0 where
 pub square_start : (a top : ℕ) → 4 ≤ a → a < 2 ^ 64 → top < 64 → 2 ^ top ≤ a → a < 2 * 2 ^ top → IsSquareStart a (1 * first_guess top % 2 ^ 64)
 square_start a top least fits small low high =
     let highest : IsHighestBit a top = record { power_le = low; next_power_gt = omega (arith, pow-add 2 top 1) } in
-    let two : 2 ≤ top = highest_bit a 2 top least highest.next_power_gt in
     record {
-      start = start top ((top + 1) / 2) (λ x y is. is ∙ square_step_is a x) (omega arith) two small (omega arith, omega arith) low high fits;
+      start = start top ((top + 1) / 2) (λ x y is. is ∙ square_step_is a x) (omega arith) (highest_bit a 2 top least highest.next_power_gt) small (omega arith, omega arith) low high fits;
       top = top;
       highest = highest;
       is = one_shl _ 64 (omega arith);

@@ -85,8 +85,8 @@ average_floor_is_only = λ a b f. roots.average_floor_is_only_one
 pub average_ceil_is_only : law.AverageCeilIsOnly
 average_ceil_is_only = λ a b c. roots.average_ceil_is_only_one
 
-pub averages_are_neighbors : law.AveragesAreNeighbors
-averages_are_neighbors = λ a b f c floor ceil.
+pub averages_are_neighbours : law.AveragesAreNeighbours
+averages_are_neighbours = λ a b f c floor ceil.
     (omega (arith, products, floor.double_le, ceil.double_ge), omega (arith, products, floor.next_double_gt, ceil.previous_double_lt))
 
 pub root_is_only : law.RootIsOnly

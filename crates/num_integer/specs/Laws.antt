@@ -93,8 +93,8 @@ abbrev pub AverageCeilIsOnly : Type 0
 AverageCeilIsOnly = (a b c : ℤ) → IsAverageCeil a b c → IsOnly (IsAverageCeil a b) c
 
 -- the average rounded up is the one rounded down, or 1 more
-abbrev pub AveragesAreNeighbors : Type 0
-AveragesAreNeighbors = (a b f c : ℤ) → IsAverageFloor a b f → IsAverageCeil a b c → (f ≤ℤ c) × (c ≤ℤ (f +ℤ pos 1))
+abbrev pub AveragesAreNeighbours : Type 0
+AveragesAreNeighbours = (a b f c : ℤ) → IsAverageFloor a b f → IsAverageCeil a b c → (f ≤ℤ c) × (c ≤ℤ (f +ℤ pos 1))
 
 abbrev pub RootIsOnly : Type 0
 RootIsOnly = (x : ℤ) (n : ℕ) (r : ℤ) → IsRoot x n r → IsOnly (IsRoot x n) r

@@ -7,7 +7,7 @@ ghost use Rattle.num_integer.specs.Bezout.{HasPair};
 ghost use Rattle.num_integer.specs.Division.{IsFloored, IsQuotient};
 ghost use Rattle.num_integer.specs.Divisors.{GcdFits, IsGreatestCommonDivisor};
 ghost use Rattle.num_integer.specs.Range.{EachFits};
-ghost use Rattle.num_integer.specs.Laws.{DivisionExists, DivisionIsOnly, NegationTurnsMultiples, GcdExists, GcdIsOnly, GcdIsSymmetric, GcdOfZeros, LcmExists, LcmIsOnly, LcmIsSymmetric, GcdTimesLcm, GcdTurnsAreOnly, BitLengthExists, BezoutAnswerExists, BezoutAnswerIsOnly, EuclidTurnsAreOnly, AverageFloorIsOnly, AverageCeilIsOnly, AveragesAreNeighbors, RootIsOnly, FirstRoot, SquareRootTurnsAreOnly, CoefficientMirror, CoefficientAboveRow, FactorialFormula, MultinomialFormula, MultinomialIsOnly, MultinomialIgnoresOrder, RowLength, RowIsPalindrome, RowIsGreatestInMiddle};
+ghost use Rattle.num_integer.specs.Laws.{DivisionExists, DivisionIsOnly, NegationTurnsMultiples, GcdExists, GcdIsOnly, GcdIsSymmetric, GcdOfZeros, LcmExists, LcmIsOnly, LcmIsSymmetric, GcdTimesLcm, GcdTurnsAreOnly, BitLengthExists, BezoutAnswerExists, BezoutAnswerIsOnly, EuclidTurnsAreOnly, AverageFloorIsOnly, AverageCeilIsOnly, AveragesAreNeighbours, RootIsOnly, FirstRoot, SquareRootTurnsAreOnly, CoefficientMirror, CoefficientAboveRow, FactorialFormula, MultinomialFormula, MultinomialIsOnly, MultinomialIgnoresOrder, RowLength, RowIsPalindrome, RowIsGreatestInMiddle};
 ghost use Rattle.num_integer.specs.Row.{RowFits, row_of};
 
 use num_integer::counted::extended_gcd_counted;
@@ -34,7 +34,7 @@ fn laws()
     ensures euclid_turns_are_only { EuclidTurnsAreOnly }
     ensures average_floor_is_only { AverageFloorIsOnly }
     ensures average_ceil_is_only { AverageCeilIsOnly }
-    ensures averages_are_neighbors { AveragesAreNeighbors }
+    ensures averages_are_neighbours { AveragesAreNeighbours }
     ensures root_is_only { RootIsOnly }
     ensures first_root { FirstRoot }
     ensures square_root_turns_are_only { SquareRootTurnsAreOnly }

@@ -13,10 +13,8 @@ pub returns-clause-gcd : goal.returns-clause-gcd
 returns-clause-gcd g c =
     let parts = c.odd_parts-m.ensures in
     let odd = c.narrowing_gcd-odd.ensures.odd_gcd in
-    let left = odd_part_le parts.left in
-    let right = odd_part_le parts.right in
     record {
       greatest = rw c.with_twos.ensures.value (parts.gcd _ odd.greatest).0;
       run = record { first = _; left = parts.left; right = parts.right; run = odd.run };
-      bound = λ k l a_fits b_fits. few_turns k l odd.few (omega arith) (omega arith);
+      bound = λ k l a_fits b_fits. few_turns k l odd.few (omega (arith, odd_part_le parts.left)) (omega (arith, odd_part_le parts.right));
     }

@@ -1,4 +1,4 @@
-use Rattle.std.proofs.Common.{◌≡◌, arith, ◌-◌, ◌*◌, ◌^◌, pow_pos}
+use Rattle.std.proofs.Common.{arith, ◌-◌, ◌*◌, ◌^◌, pow_pos}
 use Rattle.integer_roots.proofs.CubeDigits.{cube_step, front_at_first, next_digit, front_stays, front_grows, cube_step_fits, front_at_last}
 use Rattle.integer_roots.proofs.cube_root.cube_root_by_digits.Goals as goal
 
@@ -19,6 +19,4 @@ pub loop-digit-preserved : goal.loop-digit-preserved
 loop-digit-preserved c = front_stays (pow_pos _) (next_digit (omega arith) c.loop-digit.invariant) (omega arith)
 
 pub returns : goal.returns
-returns c =
-    let none : c.loop-digit.digit ≡ 0 = omega arith in
-    record { root = front_at_last (rw none at c.loop-digit.invariant) }
+returns c = record { root = front_at_last {digits = c.loop-digit.digit} (omega arith) c.loop-digit.invariant }

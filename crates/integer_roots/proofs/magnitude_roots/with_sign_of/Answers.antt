@@ -5,5 +5,4 @@ use Rattle.integer_roots.proofs.magnitude_roots.with_sign_of.Goals as goal
 
 pub negated-requires-clause-negation_fits : goal.negated-requires-clause-negation_fits
 negated-requires-clause-negation_fits g c =
-    let below = c.is_negative.ensures.0 c.if-is_negative.true in
-    rw c.from_magnitude-root.ensures.value (negation_fits g.met.T.Integer.range_law c.requires.x_in_range below (omega (arith, ints)) c.requires.magnitude_fits)
+    rw c.from_magnitude-root.ensures.value (negation_fits g.met.T.Integer.range_law c.requires.x_in_range (c.is_negative.ensures.0 c.if-is_negative.true) (omega (arith, ints)) c.requires.magnitude_fits)

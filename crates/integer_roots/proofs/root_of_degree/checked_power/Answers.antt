@@ -9,8 +9,7 @@ returns-in_err-power c =
 
 pub returns-in_err-square : goal.returns-in_err-square
 returns-in_err-square c =
-    let within = square_within c.loop-rest.invariant c.loop-rest-test.true in
-    rw c.from_residual-in_err-square.ensures (λ fits. c.in_err-square.ensures (omega (arith, fits, within)))
+    rw c.from_residual-in_err-square.ensures (λ fits. c.in_err-square.ensures (omega (arith, fits, square_within c.loop-rest.invariant c.loop-rest-test.true)))
 
 pub loop-rest-preserved : goal.loop-rest-preserved
 loop-rest-preserved c =
