@@ -76,11 +76,6 @@ floor_splits {m} {bottom} {w} {r} {n} {d} x h n_is d_is =
       up = omega (arith, sizes);
     }
 
--- a limit above 0
-pub positive_size : (z : ℤ) → FitsSigned w64 z → pos 0 <ℤ z → (pos (unsigned_abs z) ≡ z) × (unsigned_abs z < 2 ^ 63)
-positive_size (pos n) fits up = let low = fits.sfits in (refl, omega (arith, ints))
-positive_size (negsuc n) fits up = absurd (omega (arith, ints))
-
 pub natural_fits : {n : ℕ} → n < 2 ^ 63 → FitsSigned w64 (pos n)
 natural_fits small = record { sfits = omega arith }
 

@@ -9,3 +9,9 @@ nearest-requires-clause-quotients_fit c =
     let x = c.args.self.now in
     let fits : FitsSigned w64 (num_of x) = search rules in
     rw (to_z-of_z w64 (num_of x) fits, to_z-of_z w64 (den_of x) (search rules)) (λ q r h. quotient_fits x.reduced.positive h w64 fits)
+
+pub returns : goal.returns
+returns c =
+    let x = c.args.self.now in
+    let rounded = rw (to_z-of_z w64 (num_of x) (search rules), to_z-of_z w64 (den_of x) (search rules)) at c.nearest.ensures.rounded in
+    rw (to_z-of_z w64 c.nearest.result c.nearest.ensures.in_range) rounded
