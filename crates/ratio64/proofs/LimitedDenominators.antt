@@ -1,7 +1,7 @@
 -- A whole number and the nearer neighbour of the rest.
-use Rattle.std.specs.Prelude.{◌≡◌, ◌<◌, ◌≤◌, ◌+◌, ◌*◌, ◌^◌, ◌<ℤ◌, ◌≤ℤ◌, ◌+ℤ◌, ◌-ℤ◌, ◌*ℤ◌, ℤ, ℕ, pos, negsuc, neg_ℤ, unsigned_abs, FitsSigned}
+use Rattle.std.specs.Prelude.{◌≡◌, ◌<◌, ◌≤◌, ◌+◌, ◌*◌, ◌^◌, ◌<ℤ◌, ◌≤ℤ◌, ◌+ℤ◌, ◌-ℤ◌, ◌*ℤ◌, ℤ, ℕ, pos, neg_ℤ, unsigned_abs, FitsSigned}
 use Rattle.std.specs.Int.{w64}
-use Rattle.std.proofs.Common.{arith, ap, refl, sym, ◌∙◌, inl, inr, subst}
+use Rattle.std.proofs.Common.{arith, ap, sym, ◌∙◌, inl, inr, subst}
 use Rattle.std.proofs.lemmas.Int.{by_lt_z, ints}
 use Rattle.num_integer.proofs.ForCallers.{Divides-sum, cancel, comm, coprime_divides, dist, divisor_at_most, expand, floored_remainder_range, linear, mul-neg, mul-one, one_divides, product_from_zero, products, sizes}
 use Rattle.num_integer.specs.Division.{IsFloored}

@@ -3,12 +3,7 @@ use Rattle.std.proofs.Common.{rules}
 use Rattle.std.proofs.lemmas.Int.{to_z-of_z}
 use Rattle.num_integer.proofs.Laws.{division_is_only}
 use Rattle.ratio64.proofs.NearestNumbers.{narrowed_quotient}
-use Rattle.ratio64.specs.ReducedPairs.{positive_is_nonzero}
 use Rattle.ratio64.proofs.fraction.Ratio.ceil_times.Goals as goal
-
-pub div_ceil-requires-clause-nonzero : goal.div_ceil-requires-clause-nonzero
-div_ceil-requires-clause-nonzero c =
-    rw (to_z-of_z w128 c.times-num.result.1 (search rules), c.times-num.ensures.den) (positive_is_nonzero c.args.self.now.reduced.positive)
 
 pub div_ceil-requires-clause-quotient_fits : goal.div_ceil-requires-clause-quotient_fits
 div_ceil-requires-clause-quotient_fits c =

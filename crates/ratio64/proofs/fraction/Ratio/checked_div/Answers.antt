@@ -1,5 +1,3 @@
-use Rattle.std.specs.Prelude.{FitsSigned}
-use Rattle.std.specs.Int.{w64}
 use Rattle.std.proofs.Common.{rules}
 use Rattle.ratio64.proofs.FractionAnswers.{zero_exactly}
 use Rattle.ratio64.proofs.WideSums.{read_value}
@@ -9,13 +7,11 @@ use Rattle.ratio64.proofs.fraction.Ratio.checked_div.Goals as goal
 
 pub returns-clause-quotient : goal.returns-clause-quotient
 returns-clause-quotient c =
-    let a : FitsSigned w64 (num_of c.args.self.now) = search rules in
-    let b : FitsSigned w64 (den_of c.args.self.now) = search rules in
-    let u : FitsSigned w64 (num_of c.args.other.now) = search rules in
-    let v : FitsSigned w64 (den_of c.args.other.now) = search rules in
-    let num = c.product.ensures in
-    let den = c.product-2.ensures in
-    rw (read_value a v num.value num.below, read_value u b den.value den.below) at c.reduced.ensures
+    let x = c.args.self.now in
+    let y = c.args.other.now in
+    let num = read_value {a = num_of x} {b = den_of y} (search rules) (search rules) c.product.ensures.value c.product.ensures.below in
+    let den = read_value {a = num_of y} {b = den_of x} (search rules) (search rules) c.product-2.ensures.value c.product-2.ensures.below in
+    rw (num, den) at c.reduced.ensures
 
 pub returns-clause-zero_divisor : goal.returns-clause-zero_divisor
 returns-clause-zero_divisor c = zero_exactly (positive_is_nonzero c.args.self.now.reduced.positive) (returns-clause-quotient c)

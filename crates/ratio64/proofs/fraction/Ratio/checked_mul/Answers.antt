@@ -1,5 +1,3 @@
-use Rattle.std.specs.Prelude.{FitsSigned}
-use Rattle.std.specs.Int.{w64}
 use Rattle.std.proofs.Common.{rules}
 use Rattle.ratio64.proofs.WideSums.{read_value}
 use Rattle.ratio64.specs.Ratio.{num_of}
@@ -7,6 +5,5 @@ use Rattle.ratio64.proofs.fraction.Ratio.checked_mul.Goals as goal
 
 pub returns-clause-product : goal.returns-clause-product
 returns-clause-product c =
-    let a : FitsSigned w64 (num_of c.args.self.now) = search rules in
-    let u : FitsSigned w64 (num_of c.args.other.now) = search rules in
-    rw (read_value a u c.product.ensures.value c.product.ensures.below) at c.over_both.ensures.fraction
+    let h = c.product.ensures in
+    rw (read_value {a = num_of c.args.self.now} {b = num_of c.args.other.now} (search rules) (search rules) h.value h.below) at c.over_both.ensures.fraction
