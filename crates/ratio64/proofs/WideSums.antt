@@ -50,16 +50,5 @@ wide_product {a} {b} a_fits b_fits e f =
     let right = part_size b b_fits in
     rw (e, f, to_z-of_z w64 a a_fits, to_z-of_z w64 b b_fits, read a (omega arith), read b (omega arith)) (read _ (product_below a b a_fits b_fits))
 
-pub product_value : {a b x : ℤ} → FitsSigned w64 a → FitsSigned w64 b → x ≡ to_z w64 (of_z w64 a) *ℤ to_z w64 (of_z w64 b) → x ≡ a *ℤ b
-product_value {a} {b} a_fits b_fits e = rw (to_z-of_z w64 a a_fits, to_z-of_z w64 b b_fits) at e
-
 pub read_value : {a b p : ℤ} → FitsSigned w64 a → FitsSigned w64 b → p ≡ to_z w64 (of_z w64 a) *ℤ to_z w64 (of_z w64 b) → unsigned_abs p < 2 ^ 127 → to_z w128 (of_z w128 p) ≡ a *ℤ b
-read_value {p = p} a_fits b_fits value below = rw (read p below) (product_value a_fits b_fits value)
-
--- ---- the sum and the difference of two products
-
-pub wide_sum : (x y : ℤ) → unsigned_abs x < 2 ^ 126 → unsigned_abs y < 2 ^ 126 → to_z w128 (of_z w128 (to_z w128 (of_z w128 x) +ℤ to_z w128 (of_z w128 y))) ≡ x +ℤ y
-wide_sum x y h k = rw (read_product x h, read_product y k) (read _ (sum_below x y h k))
-
-pub wide_difference : (x y : ℤ) → unsigned_abs x < 2 ^ 126 → unsigned_abs y < 2 ^ 126 → to_z w128 (of_z w128 (to_z w128 (of_z w128 x) -ℤ to_z w128 (of_z w128 y))) ≡ x -ℤ y
-wide_difference x y h k = rw (read_product x h, read_product y k) (read _ (difference_below x y h k))
+read_value {a} {b} {p} a_fits b_fits value below = rw (read p below) (rw (to_z-of_z w64 a a_fits, to_z-of_z w64 b b_fits) at value)
