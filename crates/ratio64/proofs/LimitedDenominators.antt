@@ -1,7 +1,7 @@
 -- A whole number and the nearer neighbour of the rest.
-use Rattle.std.specs.Prelude.{◌≡◌, ◌<◌, ◌≤◌, ◌+◌, ◌*◌, ◌^◌, ◌<ℤ◌, ◌≤ℤ◌, ◌+ℤ◌, ◌-ℤ◌, ◌*ℤ◌, ℤ, ℕ, pos, negsuc, neg_ℤ, unsigned_abs, FitsSigned}
+use Rattle.std.specs.Prelude.{◌≡◌, ◌<◌, ◌≤◌, ◌+◌, ◌*◌, ◌^◌, ◌<ℤ◌, ◌≤ℤ◌, ◌+ℤ◌, ◌-ℤ◌, ◌*ℤ◌, ℤ, ℕ, pos, neg_ℤ, unsigned_abs, FitsSigned}
 use Rattle.std.specs.Int.{w64}
-use Rattle.std.proofs.Common.{arith, ap, refl, sym, ◌∙◌, inl, inr, subst}
+use Rattle.std.proofs.Common.{arith, ap, sym, ◌∙◌, inl, inr, subst}
 use Rattle.std.proofs.lemmas.Int.{by_lt_z, ints}
 use Rattle.num_integer.proofs.ForCallers.{Divides-sum, cancel, comm, coprime_divides, dist, divisor_at_most, expand, floored_remainder_range, linear, mul-neg, mul-one, one_divides, product_from_zero, products, sizes}
 use Rattle.num_integer.specs.Division.{IsFloored}
@@ -75,11 +75,6 @@ floor_splits {m} {bottom} {w} {r} {n} {d} x h n_is d_is =
       reduced = rw (part, den) (remainder_reduced w x h.division.equation);
       up = omega (arith, sizes);
     }
-
--- a limit above 0
-pub positive_size : (z : ℤ) → FitsSigned w64 z → pos 0 <ℤ z → (pos (unsigned_abs z) ≡ z) × (unsigned_abs z < 2 ^ 63)
-positive_size (pos n) fits up = let low = fits.sfits in (refl, omega (arith, ints))
-positive_size (negsuc n) fits up = absurd (omega (arith, ints))
 
 pub natural_fits : {n : ℕ} → n < 2 ^ 63 → FitsSigned w64 (pos n)
 natural_fits small = record { sfits = omega arith }

@@ -1,8 +1,9 @@
--- Sums of products of parts, in `i128`.
-use Rattle.std.specs.Prelude.{◌≡◌, ◌<◌, ◌^◌, ◌+ℤ◌, ◌-ℤ◌, ℤ, unsigned_abs}
-use Rattle.std.specs.Int.{w128}
-use Rattle.std.proofs.Common.{arith, to_z, of_z}
-use Rattle.std.proofs.lemmas.Int.{to_z-of_z, fits_signed_from_abs}
+-- Products of parts, and their sums and differences, in `i128`.
+use Rattle.std.specs.Prelude.{◌≡◌, ◌<◌, ◌≤◌, ◌-◌, ◌^◌, ◌<ℤ◌, ◌+ℤ◌, ◌-ℤ◌, ◌*ℤ◌, ℤ, pos, negsuc, unsigned_abs, FitsSigned}
+use Rattle.std.specs.Int.{w64, w128}
+use Rattle.std.proofs.Common.{arith, refl, to_z, of_z}
+use Rattle.std.proofs.Math.Nat.{mul-le-mul}
+use Rattle.std.proofs.lemmas.Int.{to_z-of_z, fits_signed_from_abs, unsigned_abs-mul}
 use Rattle.num_integer.proofs.ForCallers.{sizes}
 
 pub sum_below : (x y : ℤ) → unsigned_abs x < 2 ^ 126 → unsigned_abs y < 2 ^ 126 → unsigned_abs (x +ℤ y) < 2 ^ 127
@@ -17,3 +18,37 @@ read x h = to_z-of_z w128 x (fits_signed_from_abs w128 x h)
 
 pub read_product : (x : ℤ) → unsigned_abs x < 2 ^ 126 → to_z w128 (of_z w128 x) ≡ x
 read_product x h = read x (omega arith)
+
+-- a number of 64 bits fits in 128
+pub fits_wide : {z : ℤ} → FitsSigned w64 z → FitsSigned w128 z
+fits_wide fits = record { sfits = let low = fits.sfits in omega arith }
+
+-- ---- the product of two parts
+
+part_size : (a : ℤ) → FitsSigned w64 a → unsigned_abs a ≤ 2 ^ 63
+part_size (pos a) fits = let low = fits.sfits in omega arith
+part_size (negsuc a) fits = let low = fits.sfits in omega arith
+
+pub positive_size : (z : ℤ) → FitsSigned w64 z → pos 0 <ℤ z → (pos (unsigned_abs z) ≡ z) × (unsigned_abs z < 2 ^ 63)
+positive_size (pos n) fits up = let low = fits.sfits in (refl, omega arith)
+positive_size (negsuc n) fits up = absurd up.lt
+
+pub product_below : (a b : ℤ) → FitsSigned w64 a → FitsSigned w64 b → unsigned_abs (a *ℤ b) < 2 ^ 127
+product_below a b a_fits b_fits = rw (unsigned_abs-mul a b) (omega (arith, mul-le-mul (part_size a a_fits) (part_size b b_fits)))
+
+pub product_by_positive : (a b : ℤ) → FitsSigned w64 a → FitsSigned w64 b → pos 0 <ℤ b → unsigned_abs (a *ℤ b) < 2 ^ 126
+product_by_positive a b a_fits b_fits up =
+    let below = (positive_size b b_fits up).1 in
+    let small : unsigned_abs b ≤ 2 ^ 63 - 1 = omega arith in
+    rw (unsigned_abs-mul a b) (omega (arith, mul-le-mul (part_size a a_fits) small))
+
+-- both are widened, multiplied and read
+pub wide_product : {a b x y : ℤ} → FitsSigned w64 a → FitsSigned w64 b → x ≡ to_z w64 (of_z w64 a) → y ≡ to_z w64 (of_z w64 b)
+    → to_z w128 (of_z w128 (to_z w128 (of_z w128 x) *ℤ to_z w128 (of_z w128 y))) ≡ a *ℤ b
+wide_product {a} {b} a_fits b_fits e f =
+    let left = part_size a a_fits in
+    let right = part_size b b_fits in
+    rw (e, f, to_z-of_z w64 a a_fits, to_z-of_z w64 b b_fits, read a (omega arith), read b (omega arith)) (read _ (product_below a b a_fits b_fits))
+
+pub read_value : {a b p : ℤ} → FitsSigned w64 a → FitsSigned w64 b → p ≡ to_z w64 (of_z w64 a) *ℤ to_z w64 (of_z w64 b) → unsigned_abs p < 2 ^ 127 → to_z w128 (of_z w128 p) ≡ a *ℤ b
+read_value {a} {b} {p} a_fits b_fits value below = rw (read p below) (rw (to_z-of_z w64 a a_fits, to_z-of_z w64 b b_fits) at value)

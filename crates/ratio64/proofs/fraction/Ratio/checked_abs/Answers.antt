@@ -1,4 +1,4 @@
-use Rattle.std.proofs.Common.{rules, ◌≡◌, neg_ℤ, inl, pos, unsigned_abs, w64, FitsSigned, to_z, of_z}
+use Rattle.std.proofs.Common.{rules, ◌≡◌, inl, pos, unsigned_abs, w64, to_z, of_z}
 use Rattle.ratio64.proofs.ReducedAnswers.{reduced_answer, reduced_refused}
 use Rattle.ratio64.proofs.ReducedParts.{magnitude_fits, magnitude_outside, magnitude_reduced}
 use Rattle.ratio64.specs.Ratio.{num_of, den_of}
@@ -14,12 +14,10 @@ invariant_of-result c =
 pub returns-in-Some-clause-magnitude : goal.returns-in-Some-clause-magnitude
 returns-in-Some-clause-magnitude c =
     let x = c.args.self.now in
-    let negation_fits : FitsSigned w64 (neg_ℤ (num_of x)) = search rules in
-    let num_fits = magnitude_fits (num_of x) (search rules) negation_fits in
+    let num_fits = magnitude_fits (num_of x) (search rules) (search rules) in
     reduced_answer _ (magnitude_reduced (num_of x) x.reduced) (search rules) (search rules) num_fits (search rules)
 
 pub returns-in-None-clause-magnitude : goal.returns-in-None-clause-magnitude
 returns-in-None-clause-magnitude c =
     let x = c.args.self.now in
-    let outside : ¬ (FitsSigned w64 (neg_ℤ (num_of x))) = search rules in
-    reduced_refused (magnitude_reduced (num_of x) x.reduced) (inl (magnitude_outside (num_of x) outside))
+    reduced_refused (magnitude_reduced (num_of x) x.reduced) (inl (magnitude_outside (num_of x) (search rules)))

@@ -1,4 +1,4 @@
-use Rattle.std.proofs.Common.{rules, ◌≡◌, neg_ℤ, inl, w64, FitsSigned, to_z, of_z}
+use Rattle.std.proofs.Common.{rules, ◌≡◌, neg_ℤ, inl, w64, to_z, of_z}
 use Rattle.ratio64.proofs.ReducedAnswers.{reduced_answer, reduced_refused}
 use Rattle.ratio64.proofs.ReducedParts.{negated_reduced}
 use Rattle.ratio64.specs.Ratio.{num_of, den_of}
@@ -14,11 +14,8 @@ invariant_of-result c =
 pub returns-in-Some-clause-negation : goal.returns-in-Some-clause-negation
 returns-in-Some-clause-negation c =
     let x = c.args.self.now in
-    let num_fits : FitsSigned w64 (neg_ℤ (num_of x)) = search rules in
-    reduced_answer _ (negated_reduced x.reduced) (search rules) (search rules) num_fits (search rules)
+    reduced_answer _ (negated_reduced x.reduced) (search rules) (search rules) (search rules) (search rules)
 
 pub returns-in-None-clause-negation : goal.returns-in-None-clause-negation
 returns-in-None-clause-negation c =
-    let x = c.args.self.now in
-    let outside : ¬ (FitsSigned w64 (neg_ℤ (num_of x))) = search rules in
-    reduced_refused (negated_reduced x.reduced) (inl outside)
+    reduced_refused (negated_reduced c.args.self.now.reduced) (inl (search rules))

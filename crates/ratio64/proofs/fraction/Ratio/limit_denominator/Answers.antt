@@ -1,7 +1,8 @@
 use Rattle.std.proofs.Common.{◌≡◌, ◌<◌, ◌^◌, ◌+ℤ◌, ◌*ℤ◌, FitsSigned, arith, pos, rules, w64}
 use Rattle.std.proofs.lemmas.Int.{ints, to_z-of_z, to_z_pos}
-use Rattle.ratio64.proofs.LimitedDenominators.{IsSplit, floor_splits, itself_is_nearest, lowest_natural, nearer_bounded, nearer_fits, nearer_is_nearest, nearer_is_reduced, natural_fits, positive_size}
+use Rattle.ratio64.proofs.LimitedDenominators.{IsSplit, floor_splits, itself_is_nearest, lowest_natural, nearer_bounded, nearer_fits, nearer_is_nearest, nearer_is_reduced, natural_fits}
 use Rattle.ratio64.proofs.NeighbourTurns.{gaps_make_den}
+use Rattle.ratio64.proofs.WideSums.{positive_size}
 use Rattle.ratio64.specs.Ratio.{num_of, den_of}
 use Rattle.ratio64.proofs.fraction.Ratio.limit_denominator.Goals as goal
 use Rattle.ratio64.proofs.fraction.Ratio.limit_denominator.Goals.{After-nearer-nearest, After-numerator, After-unsigned_abs-limit}

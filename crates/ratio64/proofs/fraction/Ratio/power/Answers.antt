@@ -1,5 +1,5 @@
 use Rattle.std.specs.Int.{int_pow}
-use Rattle.std.proofs.Common.{◌≡◌, Err, FitsSigned, inl, inr, of_z, rules, to_z, w64}
+use Rattle.std.proofs.Common.{◌≡◌, Err, inl, inr, of_z, rules, to_z, w64}
 use Rattle.std.proofs.lemmas.Int.{to_z-of_z}
 use Rattle.ratio64.proofs.FractionPowers.{power_reduced}
 use Rattle.ratio64.proofs.ReducedAnswers.{reduced_answer, reduced_refused}
@@ -30,7 +30,4 @@ invariant_of-result c =
 
 pub returns : goal.returns
 returns c =
-    let x = c.args.self.now in
-    let num_fits : FitsSigned w64 (int_pow (num_of x) c.args.degree) = search rules in
-    let den_fits : FitsSigned w64 (int_pow (den_of x) c.args.degree) = search rules in
-    reduced_answer _ (power_reduced c.args.degree x.reduced) (search rules) (search rules) num_fits den_fits
+    reduced_answer _ (power_reduced c.args.degree c.args.self.now.reduced) (search rules) (search rules) (search rules) (search rules)
