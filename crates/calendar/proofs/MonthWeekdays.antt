@@ -32,13 +32,7 @@ nth_weekday None {weekday = weekday} {n = n} {day = day} first parts h small fro
 nth_weekday (Some date) {n = n} first parts h small from place found =
     let apart = in_month date first found parts in
     let own = found.day_is in
-    record {
-      year_is = found.year_is;
-      month_is = found.month_is;
-      has_weekday = weeks_apart (pos (n - 1)) (omega (arith, ints)) h;
-      after_weeks = omega arith;
-      within_weeks = omega arith;
-    }
+    record { year_is = found.year_is; month_is = found.month_is; has_weekday = weeks_apart (pos (n - 1)) (omega (arith, ints)) h; after_weeks = omega arith; within_weeks = omega arith }
 
 -- there is at most one
 pub only_nth_weekday : NthWeekdayIsOnly

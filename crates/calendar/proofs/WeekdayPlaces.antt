@@ -66,17 +66,10 @@ same_day {a} {b} weekday h k after before = same_place a b h.remainder.quotient 
 
 -- that within a week
 pub first_within : {from day : ℤ} (weekday : Weekday) → HasWeekday day weekday → from ≤ℤ day → day <ℤ (from +ℤ pos 7) → IsFirstWeekday from weekday day
-first_within {from} {day} weekday h up near = record {
-  from_there = up;
-  holds = h;
-  least = λ other after k. grind (arith, linear, same_day weekday h k);
-}
+first_within {from} {day} weekday h up near = record { from_there = up; holds = h; least = λ other after k. grind (arith, linear, same_day weekday h k) }
 
 pub last_within : {to day : ℤ} (weekday : Weekday) → HasWeekday day weekday → day ≤ℤ to → to <ℤ (day +ℤ pos 7) → IsLastWeekday to weekday day
-last_within {to} {day} weekday h down near = record {
-  holds = record { to_there = down; has_weekday = h };
-  greatest = λ other k. grind (arith, linear, same_day weekday h k.has_weekday);
-}
+last_within {to} {day} weekday h down near = record { holds = record { to_there = down; has_weekday = h }; greatest = λ other k. grind (arith, linear, same_day weekday h k.has_weekday) }
 
 -- the first and the last are only one
 pub only_first : FirstWeekdayIsOnly

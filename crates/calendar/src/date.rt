@@ -5,7 +5,7 @@ ghost use Rattle.calendar.specs.Months.{IsDate};
 use crate::days_in_year;
 use crate::eras::{days_to_month, era_of_year, eras_in_days, march_year_of_day, parts_from_march};
 use crate::months::{days_before_month, days_in_month, month_and_day_in_year};
-use crate::years::{narrowed, year_near};
+use crate::years::{at_64_bits, year_near};
 
 /// A date of the proleptic Gregorian calendar, in any year of `i64`. The year before year 1 is
 /// year 0. Dates are in the order of their days.
@@ -63,7 +63,7 @@ impl Date {
     pub fn day(&self) -> Option<i64>
         ensures { SomeIff result (FitsSigned w64 (number_of self.now)) (number_of self.now) }
     {
-        narrowed(self.number())
+        at_64_bits(self.number())
     }
 
     /// Returns the date of the next day, or `None` where that is in the year after `i64::MAX`.
@@ -167,7 +167,7 @@ impl Date {
             (λ date. HasParts date (self.now.year +ℤ pos 400 *ℤ eras) self.now.month self.now.day_of_month) }
     {
         Some(Date {
-            year: narrowed(i128::from(self.year) + 400 * i128::from(eras))?,
+            year: at_64_bits(i128::from(self.year) + 400 * i128::from(eras))?,
             month: self.month,
             day_of_month: self.day_of_month,
         })

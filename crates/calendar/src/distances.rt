@@ -9,7 +9,7 @@ ghost use Rattle.calendar.specs.declared.date.Date.{Date};
 
 use crate::Date;
 use crate::months::days_in_month;
-use crate::years::narrowed;
+use crate::years::at_64_bits;
 use num_integer::div_mod_floor;
 
 impl Date {
@@ -45,7 +45,7 @@ pub fn days_between(from: &Date, to: &Date) -> Option<i64>
     ensures { SomeIff result (FitsSigned w64 (number_of to.now -ℤ number_of from.now))
         (number_of to.now -ℤ number_of from.now) }
 {
-    narrowed(to.number() - from.number())
+    at_64_bits(to.number() - from.number())
 }
 
 /// Returns the number of whole months from `from` to `to`, negative where `to` is earlier, or `None`
@@ -56,7 +56,7 @@ pub fn months_between(from: &Date, to: &Date) -> Option<i64>
         ((months : ℤ) × IsMonthsBetween from.now to.now months × ¬ (FitsSigned w64 months))
         (λ months. IsMonthsBetween from.now to.now months) }
 {
-    narrowed(whole_months(from, to))
+    at_64_bits(whole_months(from, to))
 }
 
 /// Returns the number of whole months from `from` to `to`, which need not fit an `i64`.
@@ -89,5 +89,5 @@ fn month_of(number: i128) -> Option<(i64, u8)>
         (λ found. (1 ≤ found.1) × (found.1 ≤ 12) × (month_number found.0 found.1 ≡ number)) }
 {
     let (year, month) = div_mod_floor(number, 12);
-    Some((narrowed(year)?, month as u8 + 1))
+    Some((at_64_bits(year)?, month as u8 + 1))
 }

@@ -78,7 +78,7 @@ pub(crate) fn year_near(year: i64, days: i64) -> Option<(i64, u16)>
 }
 
 /// Returns the number as an `i64`, or `None` where it does not fit.
-pub(crate) fn narrowed(number: i128) -> Option<i64>
+pub(crate) fn at_64_bits(number: i128) -> Option<i64>
     ensures { SomeIff result (FitsSigned w64 number) number }
 {
     i64::try_from(number).ok()

@@ -190,11 +190,7 @@ between_fits range x_fits y_fits after before = (range.between _).1 (omega (arit
 
 module _ {Each Both : ℤ → Type 0} {from next : ℤ} (narrows : (x : ℤ) → Each x → Both x) (passed : (x : ℤ) → from ≤ℤ x → Each x → next ≤ℤ x) where
   pub candidate_is_least : {t : ℤ} → from ≤ℤ next → IsLeastFrom next Both t → Each t → IsLeastFrom from Each t
-  candidate_is_least onward h each = record {
-    from_there = omega (arith, linear, h.from_there);
-    holds = each;
-    least = λ u far has. h.least u (passed u far has) (narrows u has);
-  }
+  candidate_is_least onward h each = record { from_there = omega (arith, linear, h.from_there); holds = each; least = λ u far has. h.least u (passed u far has) (narrows u has) }
 
   pub candidate_passed : {t : ℤ} → IsLeastFrom next Both t → ¬ (Each t) → (x : ℤ) → from ≤ℤ x → Each x → (t +ℤ pos 1) ≤ℤ x
   candidate_passed {t} h none = λ x far has.
@@ -254,11 +250,7 @@ module _ {X : Type 0} {value : X → ℤ} {congruences : List (X × X)} {i : ℕ
       → MatchOption found ((t : ℤ) → from ≤ℤ t → SolvesEach value congruences t → ¬ (fits t)) (λ t. fits (own t) × IsLeastFrom from (SolvesEach value congruences) (own t))
   least_of_class own (Some t) range from_fits past next = (
     next.0,
-    record {
-      from_there = next.1.from_there;
-      holds = all_items (SolvesAt value (own t)) congruences i past (h.no_other _ next.1.holds);
-      least = λ u far each. next.1.least u far (h.every u each);
-    },
+    record { from_there = next.1.from_there; holds = all_items (SolvesAt value (own t)) congruences i past (h.no_other _ next.1.holds); least = λ u far each. next.1.least u far (h.every u each) },
   )
   least_of_class own None range from_fits past next = λ t far each t_fits.
       next.2 (between_fits range from_fits t_fits next.1.from_there (next.1.least t far (h.every t each)))

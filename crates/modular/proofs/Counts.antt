@@ -35,11 +35,7 @@ one_number_more : {from to first step t : ℤ} {n : ℕ} → IsNextCongruent fro
 one_number_more {t = t} at_start within rest = record {
   items = t ∷ rest.items;
   all = (
-    record {
-      from_there = at_start.from_there;
-      holds = record { to_there = within; congruent = at_start.holds };
-      least = λ x far h. at_start.least x far h.congruent;
-    },
+    record { from_there = at_start.from_there; holds = record { to_there = within; congruent = at_start.holds }; least = λ x far h. at_start.least x far h.congruent },
     rest.all,
   );
   counted = omega (arith, ints, rest.counted);

@@ -60,7 +60,6 @@ impl Montgomery {
     }
 
     /// Returns what stands for the product of what `x` and `y` stand for.
-    #[tactic(auto, using(crate::proofs::WordProducts::product_meaning))]
     pub(crate) fn product(&self, x: u64, y: u64) -> u64
         requires { x < self.now.modulus }
         ensures below { result < self.now.modulus }

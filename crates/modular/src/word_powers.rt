@@ -89,7 +89,6 @@ impl Representatives for SplitModulus {
     }
 
     /// Makes the product at each digit, and takes it where the digit is 1.
-    #[tactic(auto, using(crate::proofs::PowerTurns::times_at_one, crate::proofs::PowerTurns::times_at_zero))]
     fn product_at_one(&self, x: (u64, u64), y: (u64, u64), digit: u128) -> (u64, u64) {
         let product = self.product(x, y);
         if digit == 1 { product } else { x }

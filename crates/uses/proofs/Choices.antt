@@ -87,19 +87,12 @@ pub record IsWrittenFrom (n k r i bound rest : ℕ) (written : List ℕ) : Type 
 whole_choice : {xs : List ℕ} {n r k : ℕ} → length xs ≡ k → IsFirst xs k n r → IsChoiceOfRank n k r xs
 whole_choice {xs} {n} size h = record {
   size = size;
-  choice = record {
-    increasing = λ j k. h.increasing j (omega arith);
-    below = All-from_get_or (λ (c : ℕ). c < n) xs 0 (λ j k. h.below j (omega arith));
-  };
+  choice = record { increasing = λ j k. h.increasing j (omega arith); below = All-from_get_or (λ (c : ℕ). c < n) xs 0 (λ j k. h.below j (omega arith)) };
   rank = sym (rank_of_all xs) ∙ rw size h.rank;
 }
 
 no_first : {xs : List ℕ} {bound rest : ℕ} → rest ≡ 0 → IsFirst xs 0 bound rest
-no_first {xs} none = record {
-  increasing = λ j h. absurd (omega arith);
-  below = λ j h. absurd (omega arith);
-  rank = rank_of_none xs ∙ sym none;
-}
+no_first {xs} none = record { increasing = λ j h. absurd (omega arith); below = λ j h. absurd (omega arith); rank = rank_of_none xs ∙ sym none }
 
 -- a number at place i that is below the bound and above the first i numbers
 first_with_next : {xs : List ℕ} {i c bound rest : ℕ} → i < length xs → slice_index xs i ≡ c → c < bound → coefficient c (i + 1) ≤ rest

@@ -113,10 +113,7 @@ raised_below {n} {i} {xs} {ys} choice first h j within = elim (cases_lt j i) [
 pub next_choice_is : {n i : ℕ} {xs ys : List ℕ} → IsChoice n xs → IsFirstToRise n xs i → IsRaisedAt i xs ys → IsChoiceOfRank n (length xs) (rank_of xs + 1) ys
 next_choice_is {n} {i} {xs} {ys} choice first h = record {
   size = h.size;
-  choice = record {
-    increasing = raised_increases choice first h;
-    below = All-from_get_or (λ (c : ℕ). c < n) ys 0 (raised_below choice first h);
-  };
+  choice = record { increasing = raised_increases choice first h; below = All-from_get_or (λ (c : ℕ). c < n) ys 0 (raised_below choice first h) };
   rank =
       let all : rank_of_first (length xs) ys ≡ rank_of ys = rw h.size at (rank_of_all ys) in
       omega (arith, raised_rank first h (length xs) first.within (omega arith), rank_of_all xs, all);

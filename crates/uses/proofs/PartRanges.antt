@@ -16,10 +16,7 @@ abbrev cut_at : ℤ → ℤ → ℤ → ℤ
 cut_at size longer part = part *ℤ size +ℤ int_min part longer
 
 ceiled_by_range : {n d q r : ℤ} → n ≡ q *ℤ d +ℤ r → r ≤ℤ pos 0 → pos 0 <ℤ (r +ℤ d) → IsCeiled n d q r
-ceiled_by_range equation to_zero above = record {
-  division = record { equation = equation; small = omega (arith, sizes) };
-  sign = grind (arith, linear);
-}
+ceiled_by_range equation to_zero above = record { division = record { equation = equation; small = omega (arith, sizes) }; sign = grind (arith, linear) }
 
 part_size : (parts items size longer part : ℤ) → items ≡ size *ℤ parts +ℤ longer → pos 0 ≤ℤ longer → longer <ℤ parts → pos 0 ≤ℤ part → part <ℤ parts
     → IsQuotient IsCeiled (items -ℤ part) parts (cut_at size longer (part +ℤ pos 1) -ℤ cut_at size longer part)

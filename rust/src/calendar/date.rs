@@ -5,7 +5,7 @@ use crate::calendar::eras::{
     days_to_month, era_of_year, eras_in_days, march_year_of_day, parts_from_march,
 };
 use crate::calendar::months::{days_before_month, days_in_month, month_and_day_in_year};
-use crate::calendar::years::{narrowed, year_near};
+use crate::calendar::years::{at_64_bits, year_near};
 
 /// A date of the proleptic Gregorian calendar, in any year of `i64`. The year before year 1 is
 /// year 0. Dates are in the order of their days.
@@ -99,7 +99,7 @@ impl Date {
     ///
     /// Words: [`number_of`](crate::definitions::calendar#number_of), [how to read it](crate::definitions).
     pub fn day(&self) -> Option<i64> {
-        narrowed(self.number())
+        at_64_bits(self.number())
     }
 
     /// Returns the date of the next day, or `None` where that is in the year after `i64::MAX`.
@@ -231,7 +231,7 @@ impl Date {
     /// Returns the date `eras` times 400 years after this one, or `None` where its year does not fit.
     fn eras_later(&self, eras: i64) -> Option<Date> {
         Some(Date {
-            year: narrowed(i128::from(self.year) + 400 * i128::from(eras))?,
+            year: at_64_bits(i128::from(self.year) + 400 * i128::from(eras))?,
             month: self.month,
             day_of_month: self.day_of_month,
         })

@@ -1,7 +1,7 @@
 //! Dates some months apart, and the days and the months from a date to another.
 
 use crate::calendar::months::days_in_month;
-use crate::calendar::years::narrowed;
+use crate::calendar::years::at_64_bits;
 use crate::calendar::Date;
 use crate::div_mod_floor;
 
@@ -47,7 +47,7 @@ impl Date {
 ///
 /// Words: [`number_of`](crate::definitions::calendar#number_of), [how to read it](crate::definitions).
 pub fn days_between(from: &Date, to: &Date) -> Option<i64> {
-    narrowed(to.number() - from.number())
+    at_64_bits(to.number() - from.number())
 }
 
 /// Returns the number of whole months from `from` to `to`, negative where `to` is earlier, or `None`
@@ -65,7 +65,7 @@ pub fn days_between(from: &Date, to: &Date) -> Option<i64> {
 /// Words: [`IsMonthsBetween`](crate::definitions::calendar#ismonthsbetween),
 /// [how to read it](crate::definitions).
 pub fn months_between(from: &Date, to: &Date) -> Option<i64> {
-    narrowed(whole_months(from, to))
+    at_64_bits(whole_months(from, to))
 }
 
 /// Returns the number of whole months from `from` to `to`, which need not fit an `i64`.
@@ -88,5 +88,5 @@ fn ends_in_part_of_month(from: &Date, to: &Date) -> bool {
 /// does not fit.
 fn month_of(number: i128) -> Option<(i64, u8)> {
     let (year, month) = div_mod_floor(number, 12);
-    Some((narrowed(year)?, month as u8 + 1))
+    Some((at_64_bits(year)?, month as u8 + 1))
 }

@@ -69,6 +69,6 @@ pub(crate) fn year_near(year: i64, days: i64) -> Option<(i64, u16)> {
 }
 
 /// Returns the number as an `i64`, or `None` where it does not fit.
-pub(crate) fn narrowed(number: i128) -> Option<i64> {
+pub(crate) fn at_64_bits(number: i128) -> Option<i64> {
     i64::try_from(number).ok()
 }

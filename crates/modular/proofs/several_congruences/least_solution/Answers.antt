@@ -28,11 +28,7 @@ chinese_remainder-requires g c =
 pub loop-congruence-preserved : goal.loop-congruence-preserved
 loop-congruence-preserved g c =
     let class = c.in_ok-first.ensures in
-    record {
-      first_in_range = class.0;
-      step_in_range = class.1;
-      kept = narrowed_more c.loop-congruence.invariant.kept c.congruence-item.is c.loop-congruence-test.true class.2;
-    }
+    record { first_in_range = class.0; step_in_range = class.1; kept = narrowed_more c.loop-congruence.invariant.kept c.congruence-item.is c.loop-congruence-test.true class.2 }
 
 pub returns : goal.returns
 returns g c = least_of_class c.loop-congruence.invariant.kept g.T.Number.value c.next_congruent.result g.met.T.Integer.range_law c.requires.from_in_range c.loop-congruence-test.false c.next_congruent.ensures

@@ -9,17 +9,17 @@ use Rattle.calendar.proofs.date.Date.eras_later.Goals as goal
 wide : (year eras : ℤ) → FitsSigned w64 year → FitsSigned w64 eras → FitsSigned w128 year × FitsSigned w128 eras × FitsSigned w128 (pos 400 *ℤ eras) × FitsSigned w128 (year +ℤ pos 400 *ℤ eras)
 wide year eras fits eras_fit = (omega (arith, ints), omega (arith, ints), omega (arith, ints), omega (arith, ints))
 
-pub returns-in_err-narrowed : goal.returns-in_err-narrowed
-returns-in_err-narrowed c =
+pub returns-in_err-at_64_bits : goal.returns-in_err-at_64_bits
+returns-in_err-at_64_bits c =
     let own : FitsSigned w64 c.args.self.now.year = search rules in
     let eras = c.ranges.eras in
     let (year, more, years, sum) = wide c.args.self.now.year c.args.eras own (search rules) in
-    rw c.from_residual.ensures (simp (c.from.ensures, c.from-2.ensures, to_z-of_z) at c.in_err-narrowed.ensures)
+    rw c.from_residual.ensures (simp (c.from.ensures, c.from-2.ensures, to_z-of_z) at c.in_err-at_64_bits.ensures)
 
 pub invariant_of-result : goal.invariant_of-result
 invariant_of-result c =
     let own : FitsSigned w64 c.args.self.now.year = search rules in
     let eras = c.ranges.eras in
     let (year, more, years, sum) = wide c.args.self.now.year c.args.eras own (search rules) in
-    let (fits, is) = simp (c.from.ensures, c.from-2.ensures, to_z-of_z) at c.in_ok-narrowed.ensures in
+    let (fits, is) = simp (c.from.ensures, c.from-2.ensures, to_z-of_z) at c.in_ok-at_64_bits.ensures in
     record { valid = rw is (simp to_z-of_z (date_later c.args.eras c.args.self.now.valid)) }

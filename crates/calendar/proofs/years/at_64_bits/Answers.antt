@@ -3,7 +3,7 @@ use Rattle.std.specs.Int.{w64}
 use Rattle.std.specs.Option.{SomeIff}
 use Rattle.std.specs.Result.{OkIff, result_ok}
 use Rattle.std.proofs.lemmas.Int.{to_z-of_z}
-use Rattle.calendar.proofs.years.narrowed.Goals as goal
+use Rattle.calendar.proofs.years.at_64_bits.Goals as goal
 
 -- a number as an `i64`, where it fits
 some_from_ok : {E : Type 0} (x : ℤ) (r : Result ℤ E) {o : Option ℤ} → OkIff r (FitsSigned w64 x) x → o ≡ result_ok r → SomeIff o (FitsSigned w64 x) x

@@ -1,0 +1,31 @@
+use Rattle.std.specs.Prelude.{◌+ℤ◌, FitsSigned}
+use Rattle.std.specs.Int.{w64, w128}
+use Rattle.std.proofs.Common.{arith, of_z, rules, to_z}
+use Rattle.std.proofs.lemmas.Int.{ints, to_z-of_z}
+use Rattle.calendar.proofs.MonthLengths.{month_length_range}
+use Rattle.calendar.proofs.date.Date.plus_months.Goals as goal
+
+pub returns-in_err-year : goal.returns-in_err-year
+returns-in_err-year c =
+    let months = c.ranges.months in
+    let wide : FitsSigned w128 c.args.months = omega (arith, ints) in
+    let sum : FitsSigned w128 (c.month_number.result +ℤ c.args.months) = omega (arith, ints) in
+    let none = simp (c.from.ensures, to_z-of_z) at c.in_err-year.ensures in
+    rw c.from_residual.ensures (λ date h. none date.year date.month date.valid.month_from_one date.valid.month_to_twelve (omega (arith, ints, h.month_is)))
+
+pub invariant_of-result : goal.invariant_of-result
+invariant_of-result c =
+    let (from, to, is) = c.in_ok-year.ensures in
+    let length = month_length_range (to_z w64 (of_z w64 c.in_ok-year.year)) c.in_ok-year.month from to in
+    let month = c.days_in_month.ensures in
+    let day = c.min.ensures in
+    record { valid = record { month_from_one = from; month_to_twelve = to; day_from_one = omega (arith, c.args.self.now.valid.day_from_one); day_to_last = omega arith } }
+
+pub returns : goal.returns
+returns c =
+    let months = c.ranges.months in
+    let wide : FitsSigned w128 c.args.months = omega (arith, ints) in
+    let sum : FitsSigned w128 (c.month_number.result +ℤ c.args.months) = omega (arith, ints) in
+    let year : FitsSigned w64 c.in_ok-year.year = search rules in
+    let (from, to, is) = simp (c.from.ensures, to_z-of_z) at c.in_ok-year.ensures in
+    record { month_is = simp to_z-of_z (omega (arith, ints, is)); day_is = rw c.days_in_month.ensures at c.min.ensures }
