@@ -69,9 +69,9 @@ pub(crate) fn operand(operands: &[SignedMagnitude], place: usize) -> SignedMagni
     }
 }
 
-/// The numbers, where two calls answer the same. A function of types has no branch that it can leave here, since
-/// each spells what the types implement.
-pub(crate) fn where_same(same: bool, numbers: Numbers) -> Numbers {
+/// The numbers, where two calls answer the same. In a generic function each branch of its own would spell what the
+/// type implements.
+fn where_same(same: bool, numbers: Numbers) -> Numbers {
     if same { numbers } else { DIFFERENT }
 }
 
