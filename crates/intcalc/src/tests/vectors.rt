@@ -1,11 +1,12 @@
-//! Vectors: the line for words.
+//! Vectors: the line for words. A row is the words with one space between them, the first at each of some kinds,
+//! and the line.
 
 use super::{holds_at, prints};
 use std::alloc::{AllocError, Global};
+use std::process::Abort;
 
-/// The words with one space between them, the first at each of some kinds, and the line.
-const VECTORS: [&str; 334] = [
-    // Quotients and remainders.
+/// Quotients and remainders.
+static QUOTIENTS: [&str; 57] = [
     "i8/i64/u8/u64 div_rem 8 3 = 2 2",
     "i8/i64/u8/u64 div_mod_floor 8 3 = 2 2",
     "i8/i64/u8/u64 div_floor 8 3 = 2",
@@ -63,6 +64,10 @@ const VECTORS: [&str; 334] = [
     "u8 div_floor 256 0 = refused 1 OutOfType",
     "i8 mod_floor -129 0 = refused 1 OutOfType",
     "u8 mod_floor 0 0 = refused 2 ZeroDivisor",
+];
+
+/// Multiples.
+static MULTIPLES: [&str; 43] = [
     // Multiples.
     "i64/i8/u8/u64 next_multiple_of 16 8 = 16",
     "i64/i8/u8/u64 prev_multiple_of 16 8 = 16",
@@ -109,6 +114,10 @@ const VECTORS: [&str; 334] = [
     "u64 is_multiple_of 18446744073709551615 5 = true",
     "u8 is_multiple_of 256 0 = refused 1 OutOfType",
     "i8 is_multiple_of 0 128 = refused 1 OutOfType",
+];
+
+/// Greatest common divisors and least common multiples.
+static DIVISORS: [&str; 43] = [
     // Greatest common divisors.
     "i64 gcd 6 8 = 2",
     "i64 gcd 7 3 = 1",
@@ -154,7 +163,10 @@ const VECTORS: [&str; 334] = [
     "i8 gcd_lcm 127 2 = refused 6 NotFitting",
     "i8 gcd_lcm 0 0 = 0 0",
     "u64 gcd_lcm -1 1 = refused 1 OutOfType",
-    // Coefficients.
+];
+
+/// Coefficients.
+static PAIRS: [&str; 20] = [
     "i64 extended_gcd 240 46 = 2 -9 47",
     "i64 extended_gcd 10 4 = 2 1 -2",
     "i64 extended_gcd -6 4 = 2 -1 -1",
@@ -175,7 +187,10 @@ const VECTORS: [&str; 334] = [
     "u64 extended_gcd 0 7 = 7 0 1",
     "u64 extended_gcd 8 13 = refused 7 NoPair",
     "u8 extended_gcd 10 256 = refused 1 OutOfType",
-    // Averages.
+];
+
+/// Averages.
+static AVERAGES: [&str; 18] = [
     "i64/u64 average_floor 3 10 = 6",
     "i64/u64 average_ceil 3 10 = 7",
     "i64 average_floor -2 -5 = -4",
@@ -194,6 +209,10 @@ const VECTORS: [&str; 334] = [
     "u64 average_ceil 18446744073709551615 18446744073709551615 = 18446744073709551615",
     "u8 average_floor 256 0 = refused 1 OutOfType",
     "u8 average_ceil 0 -1 = refused 1 OutOfType",
+];
+
+/// Roots.
+static ROOTS: [&str; 61] = [
     // Square and cube roots.
     "u8 sqrt 255 = 15",
     "u8 cbrt 255 = 6",
@@ -257,7 +276,10 @@ const VECTORS: [&str; 334] = [
     "i64 nth_root 5 -1 = refused 1 OutOfType",
     "u8 nth_root 256 0 = refused 1 OutOfType",
     "u64 nth_root -1 2 = refused 1 OutOfType",
-    // Binomials.
+];
+
+/// Binomials.
+static BINOMIALS: [&str; 26] = [
     "u64 binomial 100 2 = 4950",
     "u64 binomial 14 4 = 1001",
     "u64 binomial 35 11 = 417225900",
@@ -284,6 +306,10 @@ const VECTORS: [&str; 334] = [
     "i8 binomial -128 -128 = refused 5 NegativeCount",
     "u8 binomial -1 0 = refused 1 OutOfType",
     "i8 binomial -1 128 = refused 1 OutOfType",
+];
+
+/// Sums and products of fractions.
+static FRACTIONS: [&str; 40] = [
     // Sums of fractions.
     "i64 ratio_add 1 2 1 3 = 5 6",
     "i64 ratio_add 1 6 1 3 = 1 2",
@@ -326,7 +352,10 @@ const VECTORS: [&str; 334] = [
     "i64 ratio_mul 9223372036854775808 1 1 0 = refused 1 OutOfType",
     "i64 ratio_mul 1 2 1 = usage",
     "i64 ratio_div 1 2 1 3 = usage",
-    // Words that ask for no call.
+];
+
+/// Words that ask for no call.
+static NO_CALLS: [&str; 26] = [
     "i16/U8 gcd 1 2 = usage",
     "i64 gcd 1 = usage",
     "i64 gcd 1 2 3 = usage",
@@ -378,9 +407,22 @@ fn holds(alloc: Global, row: &str) -> Option<bool> {
     Some(true)
 }
 
+/// Checks each of the rows.
+fn check_all(rt: &impl Abort, alloc: Global, rows: &[&str]) {
+    for &row in rows {
+        holds_at(rt, holds(alloc, row) == Some(true), &row);
+    }
+}
+
 #[test]
 fn vectors(rt: HostRuntime) {
-    for &row in &VECTORS {
-        holds_at(&rt, holds(rt.alloc(), row) == Some(true), &row);
-    }
+    check_all(&rt, rt.alloc(), &QUOTIENTS);
+    check_all(&rt, rt.alloc(), &MULTIPLES);
+    check_all(&rt, rt.alloc(), &DIVISORS);
+    check_all(&rt, rt.alloc(), &PAIRS);
+    check_all(&rt, rt.alloc(), &AVERAGES);
+    check_all(&rt, rt.alloc(), &ROOTS);
+    check_all(&rt, rt.alloc(), &BINOMIALS);
+    check_all(&rt, rt.alloc(), &FRACTIONS);
+    check_all(&rt, rt.alloc(), &NO_CALLS);
 }

@@ -69,11 +69,17 @@ pub(crate) fn operand(operands: &[SignedMagnitude], place: usize) -> SignedMagni
     }
 }
 
+/// The numbers, where two calls answer the same. In a generic function each branch of its own would spell what the
+/// type implements.
+fn where_same(same: bool, numbers: Numbers) -> Numbers {
+    if same { numbers } else { DIFFERENT }
+}
+
 /// The number that two calls answer.
 fn agreed<T: Fits>(x: T, y: T) -> Numbers
     requires { T.fits (T.value x) }
 {
-    if x == y { one(x.parts()) } else { DIFFERENT }
+    where_same(x == y, one(x.parts()))
 }
 
 /// The two numbers that two calls answer.
@@ -81,22 +87,15 @@ fn both_agreed<T: Fits>(x: (T, T), y: (T, T)) -> Numbers
     requires first_in_range { T.fits (T.value x.0) }
     requires second_in_range { T.fits (T.value x.1) }
 {
-    if x.0 == y.0 && x.1 == y.1 {
-        two(x.0.parts(), x.1.parts())
-    } else {
-        DIFFERENT
-    }
+    let same = (x.0 == y.0) & (x.1 == y.1);
+    where_same(same, two(x.0.parts(), x.1.parts()))
 }
 
 /// The number that a call and its counted one answer, and the turns.
 fn counted<T: Fits>(x: T, y: T, turns: u32) -> Numbers
     requires { T.fits (T.value x) }
 {
-    if x == y {
-        after_turns(x.parts(), turns)
-    } else {
-        DIFFERENT
-    }
+    where_same(x == y, after_turns(x.parts(), turns))
 }
 
 /// What each type answers.

@@ -7,7 +7,7 @@ use test_types::types::SIGNED;
 
 /// A dividend and a divisor, the quotient and the remainder rounded toward zero, those rounded down,
 /// and the quotient rounded up.
-const DIVISIONS: [([i128; 2], (i128, i128), (i128, i128), i128); 8] = [
+static DIVISIONS: [([i128; 2], (i128, i128), (i128, i128), i128); 8] = [
     ([8, 3], (2, 2), (2, 2), 3),
     ([8, -3], (-2, 2), (-3, -1), -2),
     ([-8, 3], (-2, -2), (-3, 1), -2),
@@ -20,31 +20,24 @@ const DIVISIONS: [([i128; 2], (i128, i128), (i128, i128), i128); 8] = [
 
 #[test]
 fn test_div_rem(rt: HostRuntime) {
-    for (operands, (q, r), _, _) in DIVISIONS {
+    for (operands, (q, r), _, _) in &DIVISIONS {
         for call in [DivRem, Operators] {
-            check_row(&rt, rt.alloc(), (&SIGNED, call), &operands, Some(&[q, r]));
+            check_row(&rt, rt.alloc(), (&SIGNED, call), operands, Some(&[*q, *r]));
         }
     }
 }
 
 #[test]
 fn test_div_mod_floor(rt: HostRuntime) {
-    for (operands, _, (q, r), ceiled) in DIVISIONS {
-        check_row(
-            &rt,
-            rt.alloc(),
-            (&SIGNED, DivModFloor),
-            &operands,
-            Some(&[q, r]),
-        );
-        for (call, expected) in [(DivFloor, q), (ModFloor, r), (DivCeil, ceiled)] {
-            check_row(
-                &rt,
-                rt.alloc(),
-                (&SIGNED, call),
-                &operands,
-                Some(&[expected]),
-            );
+    for (operands, _, (q, r), ceiled) in &DIVISIONS {
+        let both: &[i128] = &[*q, *r];
+        for (call, expected) in [
+            (DivModFloor, both),
+            (DivFloor, &[*q]),
+            (ModFloor, &[*r]),
+            (DivCeil, &[*ceiled]),
+        ] {
+            check_row(&rt, rt.alloc(), (&SIGNED, call), operands, Some(expected));
         }
     }
     check_rows(&rt, rt.alloc(), &UNSIGNED_DIVISIONS);

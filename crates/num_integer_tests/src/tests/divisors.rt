@@ -86,7 +86,7 @@ fn test_gcd_min_val(rt: HostRuntime) {
 }
 
 /// The product of the operands is outside the type, and their least common multiple is in it.
-const MULTIPLES_THAT_FIT: [(Type, (i128, i128, i128)); 9] = [
+static MULTIPLES_THAT_FIT: [(Type, (i128, i128, i128)); 9] = [
     (I64, (46656000000000000, 600, 46656000000000000)),
     (I8, (0x40, 4, 0x40)),
     (I16, (0x4000, 4, 0x4000)),
@@ -100,8 +100,8 @@ const MULTIPLES_THAT_FIT: [(Type, (i128, i128, i128)); 9] = [
 
 #[test]
 fn test_lcm_overflow(rt: HostRuntime) {
-    for (it, row) in MULTIPLES_THAT_FIT {
-        check_both_orders(&rt, rt.alloc(), (&[it], Lcm), row);
+    for (it, row) in &MULTIPLES_THAT_FIT {
+        check_both_orders(&rt, rt.alloc(), (&[*it], Lcm), *row);
     }
 }
 

@@ -10,7 +10,7 @@ use std::process::Abort;
 use test_types::types::{SIGNED, Type, UNSIGNED};
 
 /// Two operands, and the next and the previous multiple.
-const MULTIPLES: [(i128, i128, i128, i128); 8] = [
+static MULTIPLES: [(i128, i128, i128, i128); 8] = [
     (16, 8, 16, 16),
     (23, 8, 24, 16),
     (16, -8, 16, 16),
@@ -35,8 +35,8 @@ fn check_multiples(
 
 #[test]
 fn multiples_on_both_sides(rt: HostRuntime) {
-    for row in MULTIPLES {
-        check_multiples(&rt, rt.alloc(), &SIGNED, row);
+    for row in &MULTIPLES {
+        check_multiples(&rt, rt.alloc(), &SIGNED, *row);
     }
 }
 
@@ -52,21 +52,25 @@ fn test_multiple_of_one_limits(rt: HostRuntime) {
     }
 }
 
+/// Two operands, and whether the first is a multiple of the second.
+static ARE_MULTIPLES: [([i128; 2], bool); 9] = [
+    ([0, 0], true),
+    ([6, 6], true),
+    ([6, 3], true),
+    ([6, 1], true),
+    ([9, 3], true),
+    ([3, 9], false),
+    ([42, 5], false),
+    ([5, 3], false),
+    ([42, 0], false),
+];
+
 #[test]
 fn test_is_multiple_of(rt: HostRuntime) {
-    for (operands, holds) in [
-        ([0, 0], YES),
-        ([6, 6], YES),
-        ([6, 3], YES),
-        ([6, 1], YES),
-        ([9, 3], YES),
-        ([3, 9], NO),
-        ([42, 5], NO),
-        ([5, 3], NO),
-        ([42, 0], NO),
-    ] {
+    for (operands, holds) in &ARE_MULTIPLES {
+        let expected = if *holds { YES } else { NO };
         for call in [IsMultipleOf, Divides] {
-            check_row(&rt, rt.alloc(), (&UNSIGNED, call), &operands, holds);
+            check_row(&rt, rt.alloc(), (&UNSIGNED, call), operands, expected);
         }
     }
 }

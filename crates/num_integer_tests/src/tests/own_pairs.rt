@@ -9,7 +9,7 @@ use test_types::types::Type;
 use test_types::types::Type::{Marked, Negated, OneBit, Percent, Small, TwoBits};
 
 /// The small types, and their ends.
-const SMALL_TYPES: [(Type, i128, i128); 5] = [
+static SMALL_TYPES: [(Type, i128, i128); 5] = [
     (Percent, 0, 100),
     (Small, -7, 7),
     (Negated, -7, 7),
@@ -28,15 +28,15 @@ fn check_pairs(rt: &impl Abort, alloc: Global, (it, low, high): (Type, i128, i12
 
 #[test]
 fn pairs_of_small_types(rt: HostRuntime) {
-    for (it, low, high) in SMALL_TYPES {
-        for a in low..=high {
-            check_pairs(&rt, rt.alloc(), (it, low, high), a);
+    for (it, low, high) in &SMALL_TYPES {
+        for a in *low..=*high {
+            check_pairs(&rt, rt.alloc(), (*it, *low, *high), a);
         }
     }
 }
 
 /// Ends of the type beside a byte, their neighbours, and numbers between.
-const FIRST_NUMBERS: [i128; 15] = [-100, -99, -60, -50, -7, -2, -1, 0, 1, 2, 3, 10, 50, 99, 100];
+static FIRST_NUMBERS: [i128; 15] = [-100, -99, -60, -50, -7, -2, -1, 0, 1, 2, 3, 10, 50, 99, 100];
 
 #[test]
 fn pairs_beside_a_byte(rt: HostRuntime) {

@@ -46,8 +46,8 @@ fn check_number(rt: &impl Abort, alloc: Global, (it, x, degree, root): (Type, i1
 
 #[test]
 fn worked_roots(rt: HostRuntime) {
-    for row in ROOTS {
-        check_number(&rt, rt.alloc(), row);
+    for row in &ROOTS {
+        check_number(&rt, rt.alloc(), *row);
     }
 }
 

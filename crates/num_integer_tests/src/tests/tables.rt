@@ -29,8 +29,8 @@ const FROM_32_BITS: [Type; 4] = [U32, I32, U64, I64];
 /// The types whose numbers have 16 bits or more, and at most 64.
 const FROM_16_BITS: [Type; 6] = [U16, I16, U32, I32, U64, I64];
 
-/// Ends, signs and magnitudes, sums, products and averages.
-pub(super) static SUMS: [Row; 32] = [
+/// Ends, signs and magnitudes, sums and products.
+pub(super) static SUMS: [Row; 18] = [
     (&[I8], Ends, &[], Some(&[128, 127])),
     (&[U8], Ends, &[], Some(&[0, 255])),
     (
@@ -54,6 +54,10 @@ pub(super) static SUMS: [Row; 32] = [
     (&[I8], Product, &[-128, -1], None),
     (&[U8], Product, &[15, 17], Some(&[255])),
     (&[U8], Product, &[16, 16], None),
+];
+
+/// The other sign, one more and one less, and averages.
+pub(super) static NEIGHBOURS: [Row; 14] = [
     (&[I8], Negated, &[-128], None),
     (&[I8], Negated, &[-127], Some(&[127])),
     (&[U8], Negated, &[1], None),
@@ -70,9 +74,9 @@ pub(super) static SUMS: [Row; 32] = [
     (&[U8], Averages, &[255, 2], Some(&[128, 129])),
 ];
 
-/// Quotients, remainders and multiples. Only the least number by -1 has a quotient outside the type, and its
-/// remainder is in the type.
-pub(super) static QUOTIENTS: [Row; 40] = [
+/// Quotients and remainders. Only the least number by -1 has a quotient outside the type, and its remainder is in
+/// the type.
+pub(super) static QUOTIENTS: [Row; 17] = [
     (&[I8], DivFloor, &[-128, -1], None),
     (&[I8], ModFloor, &[-128, -1], Some(&[0])),
     (&[I64], DivFloor, &[LEAST, -1], None),
@@ -90,6 +94,10 @@ pub(super) static QUOTIENTS: [Row; 40] = [
     (&[I64], QuotientFits, &[LEAST, -1], NO),
     (&[I64], QuotientFits, &[LEAST, 0], NO),
     (&[U8], QuotientFits, &[0, 0], NO),
+];
+
+/// The next and the previous multiple, and whether a number is a multiple.
+pub(super) static MULTIPLES: [Row; 17] = [
     (&[I8], NextMultipleOf, &[127, 8], None),
     (&[I8], PrevMultipleOf, &[127, 8], Some(&[120])),
     (&[I8], NextMultipleOf, &[-128, -1], Some(&[-128])),
@@ -108,22 +116,25 @@ pub(super) static QUOTIENTS: [Row; 40] = [
     (&[I8], NextMultipleFits, &[-127, -3], NO),
     (&[U8], NextMultipleFits, &[255, 2], NO),
     (&[U8], NextMultipleFits, &[0, 0], NO),
-    (&[I8], PrevMultipleFits, &[127, 8], YES),
-    (&[I8], PrevMultipleFits, &[-128, -1], YES),
-    (&[U8], PrevMultipleFits, &[255, 2], YES),
-    (&[I8], PrevMultipleFits, &[-128, 3], NO),
-    (&[I8], PrevMultipleFits, &[127, -8], NO),
-    (&[I8], PrevMultipleFits, &[0, 0], NO),
     (&[I8], IsMultipleOf, &[-128, -1], YES),
     (&[I8], Divides, &[-128, -1], YES),
     (&[U8], IsMultipleOf, &[10, 4], NO),
     (&[U8], IsMultipleOf, &[4, 10], NO),
 ];
 
-/// Divisors, multiples, Bezout pairs, and the turns. The greatest common divisor of the least number with
-/// itself or with 0 is outside the type, and with another number it takes no turn. That it fits for each pair
-/// of `u8` is shown by `replay`, which tries each pair.
-pub(super) static DIVISORS: [Row; 72] = [
+/// Where the previous multiple fits.
+pub(super) static PREVIOUS_MULTIPLES: [Row; 6] = [
+    (&[I8], PrevMultipleFits, &[127, 8], YES),
+    (&[I8], PrevMultipleFits, &[-128, -1], YES),
+    (&[U8], PrevMultipleFits, &[255, 2], YES),
+    (&[I8], PrevMultipleFits, &[-128, 3], NO),
+    (&[I8], PrevMultipleFits, &[127, -8], NO),
+    (&[I8], PrevMultipleFits, &[0, 0], NO),
+];
+
+/// Divisors and multiples. The greatest common divisor of the least number with itself or with 0 is outside the
+/// type. That it fits for each pair of `u8` is shown by `replay`, which tries each pair.
+pub(super) static DIVISORS: [Row; 16] = [
     (&[I64], Gcd, &[LEAST, -HALF], Some(&[HALF])),
     (&[I64], Gcd, &[-HALF, LEAST], Some(&[HALF])),
     (&[U64], Gcd, &[TOP, 0], Some(&[TOP])),
@@ -140,6 +151,10 @@ pub(super) static DIVISORS: [Row; 72] = [
     (&[I8], GcdLcm, &[-128, 0], None),
     (&[I64], GcdLcm, &[10, 4], Some(&[2, 20])),
     (&[I32], GcdLcm, &[8, 9], Some(&[1, 72])),
+];
+
+/// Where divisors and multiples fit.
+pub(super) static FITTING_DIVISORS: [Row; 14] = [
     (&[I8], GcdFits, &[-128, 64], YES),
     (&[I8], GcdFits, &[-128, 127], YES),
     (&[I8], GcdFits, &[-128, -128], NO),
@@ -154,6 +169,10 @@ pub(super) static DIVISORS: [Row; 72] = [
     (&[I8], LcmFits, &[-128, 1], NO),
     (&[I8], LcmFits, &[127, 2], NO),
     (&[U8], LcmFits, &[16, 17], NO),
+];
+
+/// Bezout pairs of the types with a sign.
+pub(super) static SIGNED_PAIRS: [Row; 14] = [
     (&[I64], Bezout, &[240, 46], Some(&[2, -9, 47, 4])),
     (&[I64], Bezout, &[46, 240], Some(&[2, 47, -9, 5])),
     (&[I8], Bezout, &[10, 4], Some(&[2, 1, -2, 1])),
@@ -173,6 +192,10 @@ pub(super) static DIVISORS: [Row; 72] = [
         &[i128::MIN, i128::MAX],
         Some(&[1, -1, -1, 1]),
     ),
+];
+
+/// Bezout pairs of the types with no sign, operands with no pair, and a pair with a multiple.
+pub(super) static PAIRS: [Row; 12] = [
     (&[U8], Bezout, &[4, 12], Some(&[4, 1, 0, 1])),
     (&[U64], Bezout, &[0, 7], Some(&[7, 0, 1, 0])),
     (&[U64], Bezout, &[4, 12], Some(&[4, 1, 0, 1])),
@@ -185,6 +208,10 @@ pub(super) static DIVISORS: [Row; 72] = [
     (&[U8], Bezout, &[10, 4], None),
     (&[U8], Bezout, &[4, 10], None),
     (&[I32], BezoutAndMultiple, &[10, 4], Some(&[2, 1, -2, 20])),
+];
+
+/// Divisors and their turns. The least number takes no turn with another.
+pub(super) static DIVISOR_TURNS: [Row; 16] = [
     (&[U64], CountedGcd, &[0, 0], Some(&[0, 0])),
     (&[U64], CountedGcd, &[5, 3], Some(&[1, 2])),
     (&[U64], CountedGcd, &[3, 5], Some(&[1, 2])),
@@ -203,8 +230,8 @@ pub(super) static DIVISORS: [Row; 72] = [
     (&[I128], CountedGcd, &[i128::MIN, i128::MAX], Some(&[1, 0])),
 ];
 
-/// Coefficients, their turns, multinomials and rows.
-pub(super) static COEFFICIENTS: [Row; 51] = [
+/// Coefficients, and their turns.
+pub(super) static COEFFICIENTS: [Row; 15] = [
     (&[U64], Binomial, &[67, 33], Some(&[14226520737620288370])),
     (&[U64], Binomial, &[TOP, 1], Some(&[TOP])),
     (&[U64], Binomial, &[TOP, TOP - 1], Some(&[TOP])),
@@ -217,6 +244,13 @@ pub(super) static COEFFICIENTS: [Row; 51] = [
     (&[I8], Binomial, &[-1, 0], None),
     (&[I64], Binomial, &[67, 33], None),
     (&[U64], Binomial, &[TOP, 2], None),
+    (&[U8], CountedBinomial, &[9, 4], Some(&[126, 4])),
+    (&[U8], CountedBinomial, &[200, 199], Some(&[200, 1])),
+    (&[U8], CountedBinomial, &[3, 4], Some(&[0, 0])),
+];
+
+/// Where coefficients fit.
+pub(super) static FITTING_COEFFICIENTS: [Row; 13] = [
     (&[U8], BinomialFits, &[10, 5], YES),
     (&[U8], BinomialFits, &[11, 3], YES),
     (&[U8], BinomialFits, &[255, 1], YES),
@@ -230,9 +264,10 @@ pub(super) static COEFFICIENTS: [Row; 51] = [
     (&[I8], BinomialFits, &[10, 5], NO),
     (&[I8], BinomialFits, &[-1, 0], NO),
     (&[I8], BinomialFits, &[3, -1], NO),
-    (&[U8], CountedBinomial, &[9, 4], Some(&[126, 4])),
-    (&[U8], CountedBinomial, &[200, 199], Some(&[200, 1])),
-    (&[U8], CountedBinomial, &[3, 4], Some(&[0, 0])),
+];
+
+/// Multinomials and rows.
+pub(super) static SHARES: [Row; 11] = [
     (&[U8], Multinomial, &[2, 2, 2], Some(&[90])),
     (&[U8], Multinomial, &[3, 2, 2], Some(&[210])),
     (&[U8], Multinomial, &[], Some(&[1])),
@@ -242,6 +277,17 @@ pub(super) static COEFFICIENTS: [Row; 51] = [
     (&[I8], Multinomial, &[127, 1], None),
     (&[U8], Multinomial, &[1, 1, 1, 1, 1], Some(&[120])),
     (&[U8], Multinomial, &[1, 1, 1, 1, 1, 1], None),
+    (
+        &[U8],
+        RowOf,
+        &[10, 1, 10, 45, 120, 210, 252, 210, 120, 45, 10, 1],
+        YES,
+    ),
+    (&[I8], RowOf, &[-1], YES),
+];
+
+/// Where multinomials fit.
+pub(super) static FITTING_SHARES: [Row; 12] = [
     (&[U8], MultinomialFits, &[], YES),
     (&[U8], MultinomialFits, &[255], YES),
     (&[U8], MultinomialFits, &[255, 0], YES),
@@ -254,58 +300,94 @@ pub(super) static COEFFICIENTS: [Row; 51] = [
     (&[I8], MultinomialFits, &[3, 2, 2], NO),
     (&[I8], MultinomialFits, &[127, 1], NO),
     (&[I8], MultinomialFits, &[-1], NO),
-    (
-        &[U8],
-        RowOf,
-        &[10, 1, 10, 45, 120, 210, 252, 210, 120, 45, 10, 1],
-        YES,
-    ),
-    (&[I8], RowOf, &[-1], YES),
 ];
 
-/// Values of the own types. Each coefficient of 3 is one of 0 to 3, as each of 1 is one bit, but their numbers
-/// of items are not.
-pub(super) static OWN_TYPES: [Row; 81] = [
+/// Percents.
+pub(super) static PERCENTS: [Row; 17] = [
     (&[Percent], Ends, &[], Some(&[0, 100])),
-    (&[Small, Type::Negated], Ends, &[], Some(&[7, 7])),
-    (&[Marked], Ends, &[], Some(&[100, 100])),
-    (&[OneBit], Ends, &[], Some(&[0, 1])),
-    (&[TwoBits], Ends, &[], Some(&[0, 3])),
-    (&[Small, Type::Negated], Parts, &[-7], Some(&[-7])),
-    (&[Percent], QuotientFits, &[100, 3], YES),
     (&[Percent], DivCeil, &[100, 3], Some(&[34])),
+    (&[Percent], NextMultipleOf, &[97, 10], Some(&[100])),
+    (&[Percent], IsMultipleOf, &[100, 20], YES),
+    (&[Percent], Binomial, &[8, 4], Some(&[70])),
+    (&[Percent], Binomial, &[100, 99], Some(&[100])),
+    (&[Percent], RowOf, &[9], None),
+    (&[Percent], Lcm, &[50, 100], Some(&[100])),
+    (&[Percent], Bezout, &[20, 100], Some(&[20, 1, 0, 1])),
+    (&[Percent], Multinomial, &[2, 2, 2], Some(&[90])),
+    (&[Percent], RowOf, &[8, 1, 8, 28, 56, 70, 56, 28, 8, 1], YES),
+    (&[Percent], Sqrt, &[99], Some(&[9])),
+    (&[Percent], Root, &[99, 2], Some(&[9])),
+    (&[Percent], Cbrt, &[100], Some(&[4])),
+    (&[Percent], Root, &[100, 3], Some(&[4])),
+    (&[Percent], Root, &[100, 6], Some(&[2])),
+    (&[Percent], Averages, &[100, 99], Some(&[99, 100])),
+];
+
+/// Where the answers are percents.
+pub(super) static FITTING_PERCENTS: [Row; 9] = [
+    (&[Percent], QuotientFits, &[100, 3], YES),
     (&[Percent], NextMultipleFits, &[97, 10], YES),
     (&[Percent], NextMultipleFits, &[100, 3], NO),
-    (&[Percent], NextMultipleOf, &[97, 10], Some(&[100])),
-    (&[Small], GcdFits, &[-6, 3], YES),
-    (&[Small], LcmFits, &[-6, 3], YES),
-    (&[Small], BezoutAndMultiple, &[-6, 3], Some(&[3, 0, 1, 6])),
     (&[Percent], LcmFits, &[50, 100], YES),
     (&[Percent], LcmFits, &[51, 2], NO),
     (&[Percent], GcdFits, &[20, 100], YES),
-    (&[Percent], IsMultipleOf, &[100, 20], YES),
     (&[Percent], BinomialFits, &[8, 4], YES),
     (&[Percent], BinomialFits, &[100, 99], YES),
-    (&[Percent], Binomial, &[8, 4], Some(&[70])),
-    (&[Percent], Binomial, &[100, 99], Some(&[100])),
-    (&[Small], QuotientFits, &[-7, 2], YES),
-    (&[Small], QuotientFits, &[-7, -1], YES),
-    (&[Small], NextMultipleFits, &[7, -2], YES),
-    (&[Small], PrevMultipleFits, &[7, -2], NO),
+    (&[Percent], BinomialFits, &[9, 4], NO),
+];
+
+/// Small numbers.
+pub(super) static SMALL_NUMBERS: [Row; 13] = [
+    (&[Small], BezoutAndMultiple, &[-6, 3], Some(&[3, 0, 1, 6])),
     (&[Small], DivCeil, &[-7, 2], Some(&[-3])),
     (&[Small], DivFloor, &[-7, -1], Some(&[7])),
     (&[Small], NextMultipleOf, &[7, -2], Some(&[6])),
-    (&[Small], GcdFits, &[7, 5], YES),
-    (&[Small], GcdFits, &[-6, 4], YES),
-    (&[Small], LcmFits, &[-6, 4], NO),
     (&[Small], Bezout, &[7, 5], Some(&[1, -2, 3, 2])),
     (&[Small], Bezout, &[-6, 4], Some(&[2, -1, -1, 1])),
-    (&[Small], BinomialFits, &[4, 2], YES),
-    (&[Small], BinomialFits, &[7, 1], YES),
     (&[Small], Binomial, &[4, 2], Some(&[6])),
     (&[Small], Binomial, &[7, 1], Some(&[7])),
     (&[Small], Multinomial, &[1, 1, 1], Some(&[6])),
     (&[Small], Multinomial, &[2, 2, 2], None),
+    (&[Small], RowOf, &[5], None),
+    (&[Small], Averages, &[-7, 2], Some(&[-3, -2])),
+    (&[Small], DivModFloor, &[-7, 2], Some(&[-4, 1])),
+];
+
+/// Where the answers are small numbers.
+pub(super) static FITTING_SMALL_NUMBERS: [Row; 12] = [
+    (&[Small], GcdFits, &[-6, 3], YES),
+    (&[Small], LcmFits, &[-6, 3], YES),
+    (&[Small], QuotientFits, &[-7, 2], YES),
+    (&[Small], QuotientFits, &[-7, -1], YES),
+    (&[Small], NextMultipleFits, &[7, -2], YES),
+    (&[Small], PrevMultipleFits, &[7, -2], NO),
+    (&[Small], GcdFits, &[7, 5], YES),
+    (&[Small], GcdFits, &[-6, 4], YES),
+    (&[Small], LcmFits, &[-6, 4], NO),
+    (&[Small], BinomialFits, &[4, 2], YES),
+    (&[Small], BinomialFits, &[7, 1], YES),
+    (&[Small], BinomialFits, &[5, 2], NO),
+];
+
+/// Numbers of one bit and of two. Each coefficient of 3 is one of 0 to 3, as each of 1 is one bit, but their
+/// numbers of items are not.
+pub(super) static BITS: [Row; 10] = [
+    (&[TwoBits], RowOf, &[0, 1], YES),
+    (&[TwoBits], RowOf, &[1, 1, 1], YES),
+    (&[TwoBits], RowOf, &[2, 1, 2, 1], YES),
+    (&[TwoBits], RowOf, &[3], None),
+    (&[OneBit], RowOf, &[1], None),
+    (&[OneBit], Multinomial, &[1, 0], Some(&[1])),
+    (&[OneBit], Multinomial, &[1, 1], None),
+    (&[TwoBits], Multinomial, &[2, 1], Some(&[3])),
+    (&[TwoBits], Multinomial, &[1, 1, 1], None),
+    (&[OneBit], RowOf, &[0, 1], YES),
+];
+
+/// The other calls of numbers of one bit and of two.
+pub(super) static PAIRS_OF_BITS: [Row; 12] = [
+    (&[OneBit], Ends, &[], Some(&[0, 1])),
+    (&[TwoBits], Ends, &[], Some(&[0, 3])),
     (&[OneBit], Bezout, &[1, 1], Some(&[1, 0, 1, 0])),
     (&[OneBit], Bezout, &[0, 1], Some(&[1, 0, 1, 0])),
     (&[OneBit], Bezout, &[1, 0], Some(&[1, 1, 0, 0])),
@@ -314,39 +396,20 @@ pub(super) static OWN_TYPES: [Row; 81] = [
     (&[OneBit], Gcd, &[1, 1], Some(&[1])),
     (&[TwoBits], Binomial, &[3, 2], Some(&[3])),
     (&[TwoBits], Binomial, &[2, 1], Some(&[2])),
-    (&[TwoBits], RowOf, &[0, 1], YES),
-    (&[TwoBits], RowOf, &[1, 1, 1], YES),
-    (&[TwoBits], RowOf, &[2, 1, 2, 1], YES),
     (&[TwoBits], BinomialFits, &[3, 1], YES),
     (&[OneBit], BinomialFits, &[1, 0], YES),
-    (&[TwoBits], RowOf, &[3], None),
-    (&[OneBit], RowOf, &[1], None),
-    (&[Percent], RowOf, &[9], None),
-    (&[Small], RowOf, &[5], None),
+];
+
+/// Numbers that are stored negated, or beside a byte.
+pub(super) static STORED_OTHERWISE: [Row; 8] = [
+    (&[Small, Type::Negated], Ends, &[], Some(&[7, 7])),
+    (&[Marked], Ends, &[], Some(&[100, 100])),
+    (&[Small, Type::Negated], Parts, &[-7], Some(&[-7])),
     (&[Type::Negated], Multinomial, &[1, 1, 1], Some(&[6])),
     (&[Marked], Multinomial, &[2, 2, 2], Some(&[90])),
-    (&[OneBit], Multinomial, &[1, 0], Some(&[1])),
-    (&[OneBit], Multinomial, &[1, 1], None),
-    (&[TwoBits], Multinomial, &[2, 1], Some(&[3])),
-    (&[TwoBits], Multinomial, &[1, 1, 1], None),
-    (&[Percent], Lcm, &[50, 100], Some(&[100])),
-    (&[Percent], Bezout, &[20, 100], Some(&[20, 1, 0, 1])),
-    (&[Percent], Multinomial, &[2, 2, 2], Some(&[90])),
-    (&[Percent], BinomialFits, &[9, 4], NO),
-    (&[Percent], RowOf, &[8, 1, 8, 28, 56, 70, 56, 28, 8, 1], YES),
-    (&[Percent], Sqrt, &[99], Some(&[9])),
-    (&[Percent], Root, &[99, 2], Some(&[9])),
-    (&[Percent], Cbrt, &[100], Some(&[4])),
-    (&[Percent], Root, &[100, 3], Some(&[4])),
-    (&[Percent], Root, &[100, 6], Some(&[2])),
-    (&[Percent], Averages, &[100, 99], Some(&[99, 100])),
-    (&[Small], Averages, &[-7, 2], Some(&[-3, -2])),
-    (&[Small], DivModFloor, &[-7, 2], Some(&[-4, 1])),
-    (&[Small], BinomialFits, &[5, 2], NO),
     (&[Small, Type::Negated], RowOf, &[4, 1, 4, 6, 4, 1], YES),
     (&[Type::Negated], Bezout, &[7, 5], Some(&[1, -2, 3, 2])),
     (&[Marked], RowOf, &[8, 1, 8, 28, 56, 70, 56, 28, 8, 1], YES),
-    (&[OneBit], RowOf, &[0, 1], YES),
 ];
 
 /// Square roots and their turns, and numbers with no root.
@@ -385,7 +448,7 @@ pub(super) static TURNS: [Row; 16] = [
 ];
 
 /// Numbers, a degree, and their root.
-pub(super) const ROOTS: [(Type, i128, u32, i128); 63] = [
+pub(super) static ROOTS: [(Type, i128, u32, i128); 63] = [
     (U64, TOP, 2, 4294967295),
     (U64, 18446744065119617025, 2, 4294967295),
     (U64, 18446744065119617024, 2, 4294967294),

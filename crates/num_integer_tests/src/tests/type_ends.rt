@@ -172,10 +172,7 @@ fn is_bezout_pair(
 
 /// Whether twice the coefficient, times the greatest common divisor, is at most the other operand.
 fn is_small(coefficient: SignedMagnitude, gcd: u128, operand: SignedMagnitude) -> bool {
-    match coefficient.1.checked_mul(gcd) {
-        Some(magnitude) => magnitude <= operand.1 / 2,
-        None => false,
-    }
+    coefficient.1.saturating_mul(gcd) <= operand.1 / 2
 }
 
 /// The pair of two numbers, where the greatest common divisor fits and, in a type with no negative

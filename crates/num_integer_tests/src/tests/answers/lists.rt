@@ -5,7 +5,7 @@ ghost use Rattle.std.specs.List.{All};
 
 use super::{DIFFERENT, Numbers, agreed, truth};
 use crate::tests::calls::Call;
-use num_integer::{IterBinomial, checked};
+use num_integer::{Integer, IterBinomial, checked};
 use std::alloc::Global;
 use test_types::signed_magnitude::SignedMagnitude;
 use test_types::types::Tested;
@@ -16,7 +16,10 @@ fn values<T: Tested>(alloc: Global, numbers: &[SignedMagnitude]) -> Option<Vec<T
 {
     let mut values = Vec::new(alloc);
     for number in numbers {
-        values.push(T::from_signed_magnitude(*number)?).ok()?;
+        let value = T::from_signed_magnitude(*number)?;
+        if values.push(value).is_err() {
+            return None;
+        }
     }
     Some(values)
 }
@@ -37,6 +40,15 @@ pub(super) fn multinomial<T: Tested>(
     Some(agreed(answer, num_integer::multinomial(&counts)))
 }
 
+/// Whether both rows have this item next.
+fn have_next<T: Integer>(
+    row: &mut IterBinomial<T>,
+    plain: &mut IterBinomial<T>,
+    item: Option<T>,
+) -> bool {
+    (row.next() == item) & (plain.next() == item)
+}
+
 /// Whether both calls answer the row of the first number, and the other numbers are its items.
 pub(super) fn row<T: Tested>(n: T, items: &[SignedMagnitude]) -> Option<Numbers>
     requires { T.fits (T.value n) }
@@ -46,13 +58,10 @@ pub(super) fn row<T: Tested>(n: T, items: &[SignedMagnitude]) -> Option<Numbers>
     let mut same = true;
     for item in items.iter().skip(1) {
         let item = T::from_signed_magnitude(*item);
-        same &= item.is_some();
-        same &= row.next() == item;
-        same &= plain.next() == item;
+        same &= item.is_some() & have_next(&mut row, &mut plain, item);
     }
     for _ in 0..2u8 {
-        same &= row.next().is_none();
-        same &= plain.next().is_none();
+        same &= have_next(&mut row, &mut plain, None);
     }
     Some(truth(same))
 }

@@ -3,12 +3,11 @@
 use super::{DIFFERENT, Numbers, agreed, counted, one};
 use crate::tests::calls::Call;
 use num_integer::counted::SqrtCounted;
-use num_integer::{Roots, cbrt, checked, nth_root, sqrt};
+use num_integer::{Fits, Roots, cbrt, checked, nth_root, sqrt};
 use test_types::signed_magnitude::SignedMagnitude;
-use test_types::types::Tested;
 
 /// The root, of the degree that a number is where the call takes one.
-pub(super) fn root<T: Roots + Tested>(call: Call, x: T, degree: SignedMagnitude) -> Option<Numbers>
+pub(super) fn root<T: Roots + Fits>(call: Call, x: T, degree: SignedMagnitude) -> Option<Numbers>
     requires { T.fits (T.value x) }
 {
     match (call, u32::try_from(degree.1)) {
@@ -20,7 +19,7 @@ pub(super) fn root<T: Roots + Tested>(call: Call, x: T, degree: SignedMagnitude)
 }
 
 /// The square root and the turns.
-pub(super) fn counted_root<T: SqrtCounted + Tested>(x: T) -> Option<Numbers>
+pub(super) fn counted_root<T: SqrtCounted + Fits>(x: T) -> Option<Numbers>
     requires { T.fits (T.value x) }
 {
     let root = checked::sqrt(x)?;
