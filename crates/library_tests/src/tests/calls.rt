@@ -165,7 +165,7 @@ static ROWS: [Row<i128>; 76] = [
     (Isize, RangeOfPart, 1, &[0, 0], &[0, 0]),
 ];
 
-const WIDE_ROWS: [Row<u128>; 2] = [
+static WIDE_ROWS: [Row<u128>; 2] = [
     (
         U128,
         RangeOfPage,

@@ -101,7 +101,7 @@ static ROWS: [Row<i128>; 62] = [
 ];
 
 /// Rows with numbers beyond `i128`.
-const WIDE_ROWS: [Row<u128>; 12] = [
+static WIDE_ROWS: [Row<u128>; 12] = [
     (
         U128,
         Sum,

@@ -92,7 +92,7 @@ static ROWS: [Row<i128>; 51] = [
     ),
 ];
 
-const NEXT: [Next<i128>; 12] = [
+static NEXT: [Next<i128>; 12] = [
     (I8, NextCommonSolution, 10, (1, 4), (3, 6), At(21)),
     (I8, NextCommonSolution, 21, (1, 4), (3, 6), At(21)),
     (I8, NextCommonSolution, -20, (1, 4), (3, 6), At(-15)),
@@ -108,7 +108,7 @@ const NEXT: [Next<i128>; 12] = [
 ];
 
 /// Moduli whose common multiple no type holds.
-const WIDE_NEXT: [Next<u128>; 2] = [
+static WIDE_NEXT: [Next<u128>; 2] = [
     (
         U128,
         NextCommonSolution,
