@@ -35,9 +35,10 @@ pub(crate) type Row<N> = (Type, Call, N, &'static [N], &'static [N]);
 
 /// The operand at a place, or 0 where there is none.
 fn operand<N: Entry>(numbers: &[N], place: usize) -> SignedMagnitude {
-    match numbers.get(place) {
-        Some(number) => number.parts(),
-        None => (false, 0),
+    if place < numbers.len() {
+        numbers[place].parts()
+    } else {
+        (false, 0)
     }
 }
 
