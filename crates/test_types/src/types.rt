@@ -7,7 +7,6 @@ use crate::signed_magnitude::{SignedMagnitude, to_i128};
 use num_integer::counted::GcdCounted;
 use num_integer::{Average, Fits};
 use num_traits::FromPrimitive;
-use std::fmt::Debug;
 
 /// A type of whole numbers.
 #[derive(Clone, Copy, Debug)]
@@ -46,17 +45,10 @@ pub const NATIVE: [Type; 12] = [
 ];
 
 /// A type whose values the tests make of numbers.
-pub trait Tested: Average + Fits + Debug {
-    /// The number as a value of the type, where the type has it.
-    fn from_number(n: i128) -> Option<Self>
-        ensures { IfSome result (λ x. Self.fits (Self.value x)) };
-
+pub trait Tested: Average + Fits {
     /// The number of this sign and magnitude as a value of the type, where the type has it.
     fn from_signed_magnitude(n: SignedMagnitude) -> Option<Self>
-        ensures { IfSome result (λ x. Self.fits (Self.value x)) }
-    {
-        Self::from_number(to_i128(n)?)
-    }
+        ensures { IfSome result (λ x. Self.fits (Self.value x)) };
 
     /// The greatest common divisor and the turns of its loop, where the divisor fits and the type has
     /// the call that counts them.
@@ -68,11 +60,7 @@ pub trait Tested: Average + Fits + Debug {
     }
 }
 
-impl<T: Average + Fits + FromPrimitive + GcdCounted + Debug> Tested for T {
-    fn from_number(n: i128) -> Option<T> {
-        T::from_i128(n)
-    }
-
+impl<T: Average + Fits + FromPrimitive + GcdCounted> Tested for T {
     fn from_signed_magnitude(n: SignedMagnitude) -> Option<T> {
         if n.0 {
             T::from_i128(to_i128(n)?)
@@ -91,10 +79,9 @@ impl<T: Average + Fits + FromPrimitive + GcdCounted + Debug> Tested for T {
 }
 
 impl Tested for Percent {
-    fn from_number(n: i128) -> Option<Percent> {
-        let number = u8::try_from(n).ok()?;
-        if number <= 100 {
-            Some(Percent::new(number))
+    fn from_signed_magnitude((negative, magnitude): SignedMagnitude) -> Option<Percent> {
+        if !negative && magnitude <= 100 {
+            Some(Percent::new(magnitude as u8))
         } else {
             None
         }
@@ -102,8 +89,8 @@ impl Tested for Percent {
 }
 
 impl<F: Form> Tested for Own<F> {
-    fn from_number(n: i128) -> Option<Own<F>> {
-        let number = i64::try_from(n).ok()?;
+    fn from_signed_magnitude(n: SignedMagnitude) -> Option<Own<F>> {
+        let number = i64::try_from(to_i128(n)?).ok()?;
         let (low, high) = F::ends();
         let bound = if number < 0 { low } else { high };
         if u128::from(number.unsigned_abs()) <= bound {

@@ -3,20 +3,19 @@
 //! The only calls at each type of the library are those of `ask` here: what is expected of the answers is
 //! compared as plain data.
 
-ghost use Rattle.std.specs.Prelude.{◌<ℤ◌, pos};
+ghost use Rattle.std.specs.Prelude.{◌<ℤ◌, pos, IfSome};
 
-use super::assertions::holds_at;
 use modular::counted::power_modulo_counted;
 use modular::{
     CommonSolution, Modular, chinese_remainder, count_congruent, difference_modulo, inverse_modulo,
     negation_modulo, next_common_solution, next_congruent, power_modulo, previous_congruent,
     product_modulo, quotient_modulo, residue, solutions, sum_modulo,
 };
-use num_integer::Fits;
 use num_integer::operators::{is_below, is_negative, zero};
-use std::process::Abort;
-use test_types::signed_magnitude::SignedMagnitude;
-use test_types::types::{Tested, Type};
+use num_integer::{Average, Fits, Integer};
+use num_traits::FromPrimitive;
+use test_types::signed_magnitude::{SignedMagnitude, to_i128};
+use test_types::types::Type;
 use uses::halving::midpoint;
 use uses::layout::{align_up, padding};
 use uses::paging::{pages, place_of, range_of_page, range_of_part};
@@ -55,74 +54,89 @@ pub(crate) enum Call {
     Midpoint,
 }
 
-/// What a call answers, where it has an answer.
-#[derive(Clone, Copy, Debug, PartialEq)]
-pub(crate) enum Answer {
-    Number(SignedMagnitude),
-    Pair(SignedMagnitude, SignedMagnitude),
-    /// There is a number, and it is beyond the type.
-    Beyond,
-}
+/// The numbers of an answer. One number stands beside 0.
+pub(crate) type Numbers = (SignedMagnitude, SignedMagnitude);
+
+const ZERO: SignedMagnitude = (false, 0);
+
+/// What stands for a number that is there and is beyond the type. No number is a negative 0.
+pub(crate) const BEYOND: Numbers = (ZERO, (true, 0));
+
+/// What no call answers: an operand is not of the domain, or two calls of one name answered differently.
+const DIFFERENT: Numbers = ((true, 0), ZERO);
 
 /// The operands of a call but the one above 0, in its order. Those that it lacks are 0.
 pub(crate) type Operands = [SignedMagnitude; 4];
 
-/// The number of this sign and magnitude as a value of the type.
-fn value<T: Tested>(rt: &impl Abort, n: SignedMagnitude) -> T
-    ensures { T.fits (T.value result) }
+/// One number.
+pub(crate) fn one(n: SignedMagnitude) -> Numbers {
+    (n, ZERO)
+}
+
+/// The number of this sign and magnitude as a value of the type, where the type has it.
+fn value<T: Integer + FromPrimitive>(n: SignedMagnitude) -> Option<T>
+    ensures { IfSome result (λ x. T.fits (T.value x)) }
 {
-    T::from_signed_magnitude(n).expect(rt, "the type has the number")
+    if n.0 {
+        T::from_i128(to_i128(n)?)
+    } else {
+        T::from_u128(n.1)
+    }
 }
 
 /// The number of a value.
-fn number_of<T: Fits>(x: T) -> Answer
+fn number_of<T: Fits>(x: T) -> Numbers
     requires { T.fits (T.value x) }
 {
-    Answer::Number(x.parts())
+    one(x.parts())
 }
 
 /// The numbers of two values.
-fn pair_of<T: Fits>(both: (T, T)) -> Answer
+fn pair_of<T: Fits>(both: (T, T)) -> Numbers
     requires first_in_range { T.fits (T.value both.0) }
     requires second_in_range { T.fits (T.value both.1) }
 {
-    Answer::Pair(both.0.parts(), both.1.parts())
+    (both.0.parts(), both.1.parts())
 }
 
 /// The power and the turns of its loop.
-fn power<T: Modular + Fits>(rt: &impl Abort, a: T, exponent: u128, m: T) -> Answer
+fn power<T: Modular + Fits>(a: T, exponent: u128, m: T) -> Numbers
     requires a_in_range { T.fits (T.value a) }
     requires m_in_range { T.fits (T.value m) }
     requires positive { pos 0 <ℤ T.value m }
 {
     let (power, turns) = power_modulo_counted(a, exponent, m);
-    holds_at(rt, power_modulo(a, exponent, m) == power, &"power_modulo");
-    Answer::Pair(power.parts(), (false, turns.into()))
+    if power_modulo(a, exponent, m) == power {
+        (power.parts(), (false, u128::from(turns)))
+    } else {
+        DIFFERENT
+    }
 }
 
 /// What a call modulo a number answers.
-fn modulo<T: Modular + Fits>(call: Call, a: T, b: T, m: T) -> Option<Answer>
+fn modulo<T: Modular + Fits>(call: Call, a: T, b: T, m: T) -> Option<Numbers>
     requires a_in_range { T.fits (T.value a) }
     requires b_in_range { T.fits (T.value b) }
     requires m_in_range { T.fits (T.value m) }
     requires positive { pos 0 <ℤ T.value m }
 {
-    Some(match call {
-        Call::Residue => number_of(residue(a, m)),
-        Call::Negation => number_of(negation_modulo(a, m)),
-        Call::Sum => number_of(sum_modulo(a, b, m)),
-        Call::Difference => number_of(difference_modulo(a, b, m)),
-        Call::Product => number_of(product_modulo(a, b, m)),
-        Call::Inverse => number_of(inverse_modulo(a, m)?),
-        Call::Quotient => number_of(quotient_modulo(a, b, m)?),
-        Call::Solutions => pair_of(solutions(a, b, m)?),
-        Call::NextCongruent => number_of(next_congruent(a, b, m)?),
-        _ => number_of(previous_congruent(a, b, m)?),
-    })
+    let number = match call {
+        Call::Residue => residue(a, m),
+        Call::Negation => negation_modulo(a, m),
+        Call::Sum => sum_modulo(a, b, m),
+        Call::Difference => difference_modulo(a, b, m),
+        Call::Product => product_modulo(a, b, m),
+        Call::Inverse => inverse_modulo(a, m)?,
+        Call::Quotient => quotient_modulo(a, b, m)?,
+        Call::Solutions => return Some(pair_of(solutions(a, b, m)?)),
+        Call::NextCongruent => next_congruent(a, b, m)?,
+        _ => previous_congruent(a, b, m)?,
+    };
+    Some(number_of(number))
 }
 
 /// What a call on the items of pages and parts, or on offsets, answers.
-fn placed<T: Tested>(rt: &impl Abort, call: Call, a: T, b: T, m: T) -> Option<Answer>
+fn placed<T: Average + Fits>(call: Call, a: T, b: T, m: T) -> Option<Numbers>
     requires positive { pos 0 <ℤ T.value m }
     requires a_in_range { T.fits (T.value a) }
     requires b_in_range { T.fits (T.value b) }
@@ -131,69 +145,113 @@ fn placed<T: Tested>(rt: &impl Abort, call: Call, a: T, b: T, m: T) -> Option<An
     Some(match call {
         Call::Pages => number_of(pages(a, m)),
         Call::PlaceOf => pair_of(place_of(a, m)),
-        Call::RangeOfPage => {
-            holds_at(rt, !is_negative(b), &(call, b));
-            pair_of(range_of_page(a, m, b))
-        }
-        Call::RangeOfPart => {
-            let in_order = !is_negative(a) && is_below(a, m) && !is_negative(b);
-            holds_at(rt, in_order, &(call, a, b));
+        Call::RangeOfPage if !is_negative(b) => pair_of(range_of_page(a, m, b)),
+        Call::RangeOfPart if !is_negative(a) && is_below(a, m) && !is_negative(b) => {
             pair_of(range_of_part(a, m, b))
         }
         Call::AlignUp => number_of(align_up(a, m)?),
         Call::Padding => number_of(padding(a, m)),
-        _ => number_of(midpoint(a, b)),
+        Call::Midpoint => number_of(midpoint(a, b)),
+        _ => DIFFERENT,
     })
 }
 
-/// What a call with two moduli answers.
-fn of_both<T: Modular + Tested>(
-    rt: &impl Abort,
-    call: Call,
-    m: T,
-    operands: Operands,
-) -> Option<Answer>
+/// What the Chinese remainder of two congruences answers.
+fn both<T: Modular + Fits>(a: T, m: T, b: T, n: T) -> Option<Numbers>
+    requires a_in_range { T.fits (T.value a) }
     requires m_in_range { T.fits (T.value m) }
-    requires positive { pos 0 <ℤ T.value m }
+    requires b_in_range { T.fits (T.value b) }
+    requires n_in_range { T.fits (T.value n) }
+    requires m_positive { pos 0 <ℤ T.value m }
+    requires n_positive { pos 0 <ℤ T.value n }
 {
-    let [a, b, n, from] = operands;
-    let (x, y) = (value::<T>(rt, a), value::<T>(rt, b));
-    let (n, from) = (value::<T>(rt, n), value::<T>(rt, from));
-    holds_at(rt, is_below(zero(), n), &(call, n));
-    let next = match call {
-        Call::ChineseRemainder => {
-            holds_at(rt, m.lcm_fits(&n), &(call, m, n));
-            return Some(pair_of(chinese_remainder(x, m, y, n)?));
-        }
-        Call::NextCommonSolution => next_common_solution(from, x, m, y, n),
-        _ => next_meeting(from, (x, m), (y, n)),
+    if m.lcm_fits(&n) {
+        Some(pair_of(chinese_remainder(a, m, b, n)?))
+    } else {
+        Some(DIFFERENT)
+    }
+}
+
+/// What a call for the next number of two congruences answers.
+fn next_of_both<T: Modular + Fits>(call: Call, from: T, a: T, m: T, b: T, n: T) -> Option<Numbers>
+    requires from_in_range { T.fits (T.value from) }
+    requires a_in_range { T.fits (T.value a) }
+    requires m_in_range { T.fits (T.value m) }
+    requires b_in_range { T.fits (T.value b) }
+    requires n_in_range { T.fits (T.value n) }
+    requires m_positive { pos 0 <ℤ T.value m }
+    requires n_positive { pos 0 <ℤ T.value n }
+{
+    let next = if let Call::NextMeeting = call {
+        next_meeting(from, (a, m), (b, n))
+    } else {
+        next_common_solution(from, a, m, b, n)
     };
     match next {
         CommonSolution::At(t) => Some(number_of(t)),
-        CommonSolution::Beyond => Some(Answer::Beyond),
+        CommonSolution::Beyond => Some(BEYOND),
         CommonSolution::Never => None,
     }
 }
 
-/// What the calls of one type answer.
-fn answer_of<T: Modular + Tested>(
-    rt: &impl Abort,
+/// What a call with two moduli answers. The second follows the first two operands.
+fn of_two_moduli<T: Modular + Fits + FromPrimitive>(
     call: Call,
-    m: SignedMagnitude,
+    a: T,
+    b: T,
+    m: T,
     operands: Operands,
-) -> Option<Answer> {
-    let [a, b, c, _] = operands;
-    let (x, y, m) = (value::<T>(rt, a), value::<T>(rt, b), value::<T>(rt, m));
-    holds_at(rt, is_below(zero(), m), &(call, m));
+) -> Option<Numbers>
+    requires a_in_range { T.fits (T.value a) }
+    requires b_in_range { T.fits (T.value b) }
+    requires m_in_range { T.fits (T.value m) }
+    requires positive { pos 0 <ℤ T.value m }
+{
+    let [_, _, n, from] = operands;
+    match (value::<T>(n), value::<T>(from)) {
+        (Some(n), Some(from)) if is_below(zero(), n) => match call {
+            Call::ChineseRemainder => both(a, m, b, n),
+            _ => next_of_both(call, from, a, m, b, n),
+        },
+        _ => Some(DIFFERENT),
+    }
+}
+
+/// How many numbers of a range are congruent.
+fn count<T: Fits + FromPrimitive>(a: T, b: T, first: SignedMagnitude, m: T) -> Option<Numbers>
+    requires a_in_range { T.fits (T.value a) }
+    requires b_in_range { T.fits (T.value b) }
+    requires m_in_range { T.fits (T.value m) }
+    requires positive { pos 0 <ℤ T.value m }
+{
+    match value::<T>(first) {
+        Some(first) => Some(number_of(count_congruent(a, b, first, m)?)),
+        None => Some(DIFFERENT),
+    }
+}
+
+/// What the call answers on two operands and the one above 0.
+fn answer_on<T: Modular + Fits + Average + FromPrimitive>(
+    call: Call,
+    a: T,
+    b: T,
+    m: T,
+    operands: Operands,
+) -> Option<Numbers>
+    requires a_in_range { T.fits (T.value a) }
+    requires b_in_range { T.fits (T.value b) }
+    requires m_in_range { T.fits (T.value m) }
+    requires positive { pos 0 <ℤ T.value m }
+{
     match call {
         Call::Ends => {
             let (low, high) = T::ends();
-            Some(Answer::Pair((false, low), (false, high)))
+            Some(((false, low), (false, high)))
         }
-        Call::Power(exponent) => Some(power(rt, x, exponent, m)),
-        Call::CountCongruent => Some(number_of(count_congruent(x, y, value::<T>(rt, c), m)?)),
+        Call::Power(exponent) => Some(power(a, exponent, m)),
+        Call::CountCongruent => count(a, b, operands[2], m),
         Call::ChineseRemainder | Call::NextCommonSolution | Call::NextMeeting => {
-            of_both(rt, call, m, operands)
+            of_two_moduli(call, a, b, m, operands)
         }
         Call::Pages
         | Call::PlaceOf
@@ -201,31 +259,38 @@ fn answer_of<T: Modular + Tested>(
         | Call::RangeOfPart
         | Call::AlignUp
         | Call::Padding
-        | Call::Midpoint => placed(rt, call, x, y, m),
-        _ => modulo(call, x, y, m),
+        | Call::Midpoint => placed(call, a, b, m),
+        _ => modulo(call, a, b, m),
+    }
+}
+
+/// What the calls of one type answer.
+fn answer_of<T: Modular + Fits + Average + FromPrimitive>(
+    call: Call,
+    m: SignedMagnitude,
+    operands: Operands,
+) -> Option<Numbers> {
+    let [a, b, ..] = operands;
+    match (value::<T>(a), value::<T>(b), value::<T>(m)) {
+        (Some(a), Some(b), Some(m)) if is_below(zero(), m) => answer_on(call, a, b, m, operands),
+        _ => Some(DIFFERENT),
     }
 }
 
 /// What the call answers at the type, or `None` where there is no answer.
-pub(crate) fn ask(
-    rt: &impl Abort,
-    it: Type,
-    call: Call,
-    m: SignedMagnitude,
-    operands: Operands,
-) -> Option<Answer> {
+pub(crate) fn ask(it: Type, call: Call, m: SignedMagnitude, operands: Operands) -> Option<Numbers> {
     match it {
-        Type::I8 => answer_of::<i8>(rt, call, m, operands),
-        Type::I16 => answer_of::<i16>(rt, call, m, operands),
-        Type::I32 => answer_of::<i32>(rt, call, m, operands),
-        Type::I64 => answer_of::<i64>(rt, call, m, operands),
-        Type::I128 => answer_of::<i128>(rt, call, m, operands),
-        Type::Isize => answer_of::<isize>(rt, call, m, operands),
-        Type::U8 => answer_of::<u8>(rt, call, m, operands),
-        Type::U16 => answer_of::<u16>(rt, call, m, operands),
-        Type::U32 => answer_of::<u32>(rt, call, m, operands),
-        Type::U64 => answer_of::<u64>(rt, call, m, operands),
-        Type::U128 => answer_of::<u128>(rt, call, m, operands),
-        _ => answer_of::<usize>(rt, call, m, operands),
+        Type::I8 => answer_of::<i8>(call, m, operands),
+        Type::I16 => answer_of::<i16>(call, m, operands),
+        Type::I32 => answer_of::<i32>(call, m, operands),
+        Type::I64 => answer_of::<i64>(call, m, operands),
+        Type::I128 => answer_of::<i128>(call, m, operands),
+        Type::Isize => answer_of::<isize>(call, m, operands),
+        Type::U8 => answer_of::<u8>(call, m, operands),
+        Type::U16 => answer_of::<u16>(call, m, operands),
+        Type::U32 => answer_of::<u32>(call, m, operands),
+        Type::U64 => answer_of::<u64>(call, m, operands),
+        Type::U128 => answer_of::<u128>(call, m, operands),
+        _ => answer_of::<usize>(call, m, operands),
     }
 }

@@ -26,7 +26,7 @@ const MAX_U64: i128 = u64::MAX as i128;
 
 const MAX_USIZE: i128 = usize::MAX as i128;
 
-const ROWS: [Row<i128>; 76] = [
+static ROWS: [Row<i128>; 76] = [
     (I64, Pages, 4, &[10], &[3]),
     (I64, PlaceOf, 4, &[10], &[2, 2]),
     (I64, Pages, 4, &[8], &[2]),
@@ -165,7 +165,7 @@ const ROWS: [Row<i128>; 76] = [
     (Isize, RangeOfPart, 1, &[0, 0], &[0, 0]),
 ];
 
-const WIDE_ROWS: [Row<u128>; 2] = [
+static WIDE_ROWS: [Row<u128>; 2] = [
     (
         U128,
         RangeOfPage,

@@ -29,7 +29,7 @@ const MIN: i128 = i64::MIN as i128;
 
 const MAX: i128 = i64::MAX as i128;
 
-const ROWS: [Row<i128>; 62] = [
+static ROWS: [Row<i128>; 62] = [
     (I64, Residue, 7, &[-3], &[4]),
     (I64, Negation, 7, &[-3], &[3]),
     (I64, Residue, 7, &[MIN], &[6]),
@@ -101,7 +101,7 @@ const ROWS: [Row<i128>; 62] = [
 ];
 
 /// Rows with numbers beyond `i128`.
-const WIDE_ROWS: [Row<u128>; 12] = [
+static WIDE_ROWS: [Row<u128>; 12] = [
     (
         U128,
         Sum,

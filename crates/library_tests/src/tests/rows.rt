@@ -1,6 +1,6 @@
 //! Rows of tables: a call, its operands and its answer.
 
-use super::answers::{Answer, Call, Operands, ask};
+use super::answers::{BEYOND, Call, Numbers, Operands, ask, one};
 use super::assertions::holds_at;
 use modular::CommonSolution;
 use std::process::Abort;
@@ -33,33 +33,43 @@ impl Entry for SignedMagnitude {
 /// A type, a call, its operand above 0, its other operands, and the numbers of its answer, if it has one.
 pub(crate) type Row<N> = (Type, Call, N, &'static [N], &'static [N]);
 
+/// The operand at a place, or 0 where there is none.
+fn operand<N: Entry>(numbers: &[N], place: usize) -> SignedMagnitude {
+    if place < numbers.len() {
+        numbers[place].parts()
+    } else {
+        (false, 0)
+    }
+}
+
 /// The operands, and 0 for each that is not there.
 pub(crate) fn operands<N: Entry>(numbers: &[N]) -> Operands {
-    let mut all = [(false, 0); 4];
-    for (place, number) in all.iter_mut().zip(numbers) {
-        *place = number.parts();
-    }
-    all
+    [
+        operand(numbers, 0),
+        operand(numbers, 1),
+        operand(numbers, 2),
+        operand(numbers, 3),
+    ]
 }
 
 /// The answer of these numbers.
-fn answer_of<N: Entry>(numbers: &[N]) -> Option<Answer> {
+fn answer_of<N: Entry>(numbers: &[N]) -> Option<Numbers> {
     match numbers {
         [] => None,
-        [number] => Some(Answer::Number(number.parts())),
-        [first, second, ..] => Some(Answer::Pair(first.parts(), second.parts())),
+        [number] => Some(one(number.parts())),
+        [first, second, ..] => Some((first.parts(), second.parts())),
     }
 }
 
 /// The number, where there is one.
-pub(crate) fn number<N: Entry>(n: Option<N>) -> Option<Answer> {
-    Some(Answer::Number(n?.parts()))
+pub(crate) fn number<N: Entry>(n: Option<N>) -> Option<Numbers> {
+    Some(one(n?.parts()))
 }
 
 /// The magnitude of the least number of the type, and its greatest number.
 pub(crate) fn ends(rt: &impl Abort, it: Type) -> (u128, u128) {
-    match ask(rt, it, Call::Ends, (false, 1), [(false, 0); 4]) {
-        Some(Answer::Pair((_, low), (_, high))) => (low, high),
+    match ask(it, Call::Ends, (false, 1), [(false, 0); 4]) {
+        Some(((_, low), (_, high))) => (low, high),
         _ => panic!(rt; "a type has ends"),
     }
 }
@@ -71,9 +81,9 @@ pub(crate) fn answers(
     call: Call,
     m: SignedMagnitude,
     operands: Operands,
-    expected: Option<Answer>,
+    expected: Option<Numbers>,
 ) {
-    let found = ask(rt, it, call, m, operands);
+    let found = ask(it, call, m, operands);
     holds_at(rt, found == expected, &(it, call, m, operands, expected));
 }
 
@@ -91,18 +101,22 @@ pub(crate) fn rows_hold<N: Entry>(rt: &impl Abort, rows: &[Row<N>]) {
     }
 }
 
+/// What there is, as an answer.
+fn solution<N: Entry>(next: &CommonSolution<N>) -> Option<Numbers> {
+    match next {
+        CommonSolution::At(t) => Some(one(t.parts())),
+        CommonSolution::Beyond => Some(BEYOND),
+        CommonSolution::Never => None,
+    }
+}
+
 /// A type, a call, where to begin, two numbers, each with its modulus or period, and the next number of both.
 pub(crate) type Next<N> = (Type, Call, N, (N, N), (N, N), CommonSolution<N>);
 
 /// Asserts that each next number is what its row says.
 pub(crate) fn next_hold<N: Entry>(rt: &impl Abort, rows: &[Next<N>]) {
     for (it, call, from, (a, m), (b, n), next) in rows {
-        let expected = match next {
-            CommonSolution::At(t) => Some(Answer::Number(t.parts())),
-            CommonSolution::Beyond => Some(Answer::Beyond),
-            CommonSolution::Never => None,
-        };
         let numbers = [a.parts(), b.parts(), n.parts(), from.parts()];
-        answers(rt, *it, *call, m.parts(), numbers, expected);
+        answers(rt, *it, *call, m.parts(), numbers, solution(next));
     }
 }

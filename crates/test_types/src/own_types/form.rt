@@ -11,11 +11,10 @@ ghost use Rattle.num_integer.specs.Range.{IsRange};
 use num_integer::{Average, Fits, Integer};
 use num_traits::{Num, Number, One, Signed, Zero};
 use std::cmp::Ordering;
-use std::fmt::Debug;
 use std::ops::{Add, Div, Mul, Neg, Rem, Sub};
 
 /// How a type stores its numbers, which are those from `low` to `high`.
-pub trait Form: Copy + Debug {
+pub trait Form: Copy {
     ghost low: { ℤ };
 
     ghost high: { ℤ };
@@ -69,7 +68,7 @@ pub trait Form: Copy + Debug {
 
 /// A number, stored in the form `F`. It is compared by the number and not by what is stored, so
 /// equality and order are not derived.
-#[derive(Clone, Copy, Debug)]
+#[derive(Clone, Copy)]
 pub struct Own<F: Form> {
     pub(super) form: F,
 }

@@ -8,7 +8,7 @@ ghost use Rattle.num_integer.specs.Between.{Between, between_range};
 use super::form::{Form, Own, SignedForm};
 
 /// From -7 to 7.
-#[derive(Clone, Copy, Debug)]
+#[derive(Clone, Copy)]
 pub struct SmallForm {
     number: i8,
     ghost in_range: { Between (negsuc 6) (pos 7) number },
@@ -64,7 +64,7 @@ impl SignedForm for SmallForm {
 }
 
 /// From -7 to 7, stored negated.
-#[derive(Clone, Copy, Debug)]
+#[derive(Clone, Copy)]
 pub struct NegatedForm {
     negation: i8,
     ghost in_range: { Between (negsuc 6) (pos 7) negation },
@@ -121,7 +121,7 @@ impl SignedForm for NegatedForm {
 
 /// From -100 to 100, beside a byte that no number depends on: the greatest of the bytes of a
 /// call's operands and 1 more, as far as it goes.
-#[derive(Clone, Copy, Debug)]
+#[derive(Clone, Copy)]
 pub struct MarkedForm {
     number: i8,
     mark: u8,
@@ -205,7 +205,7 @@ impl SignedForm for MarkedForm {
 }
 
 /// 0 and 1.
-#[derive(Clone, Copy, Debug)]
+#[derive(Clone, Copy)]
 pub struct OneBitForm {
     number: u8,
     ghost in_range: { number ≤ 1 },
@@ -257,7 +257,7 @@ impl Form for OneBitForm {
 }
 
 /// From 0 to 3.
-#[derive(Clone, Copy, Debug)]
+#[derive(Clone, Copy)]
 pub struct TwoBitsForm {
     number: u8,
     ghost in_range: { number ≤ 3 },

@@ -3,8 +3,8 @@
 ghost use Rattle.std.specs.Prelude.{◌↔◌, ◌<◌, ◌≤◌, ℕ, ℤ, pos};
 ghost use Rattle.uses.specs.Paging.{IsPlace};
 
-use crate::tests::answers::Answer;
 use crate::tests::answers::Call::{RangeOfPage, RangeOfPart};
+use crate::tests::answers::Numbers;
 use crate::tests::assertions::holds_at;
 use crate::tests::rows::{answers, operands};
 use std::process::Abort;
@@ -40,7 +40,7 @@ fn items_of_slices(rt: HostRuntime) {
 }
 
 /// The items that a division puts on a page, by the first and one past the last, or none at their end.
-fn on_page(items: i128, page_size: i128, page: i128) -> Answer {
+fn on_page(items: i128, page_size: i128, page: i128) -> Numbers {
     let mut range = None;
     for item in 0..items {
         if item.checked_div(page_size) == Some(page) {
@@ -49,7 +49,7 @@ fn on_page(items: i128, page_size: i128, page: i128) -> Answer {
         }
     }
     let (first, end) = range.unwrap_or((items, items));
-    Answer::Pair(signed_magnitude_of(first), signed_magnitude_of(end))
+    (signed_magnitude_of(first), signed_magnitude_of(end))
 }
 
 /// Each page of up to 20 items.
@@ -91,7 +91,7 @@ fn has_parts(rt: &impl Abort, items: u128, parts: u128) {
     for part in 0..parts {
         let first = end;
         end = first.wrapping_add(dealt(items, parts, part));
-        let expected = Some(Answer::Pair((false, first), (false, end)));
+        let expected = Some(((false, first), (false, end)));
         let numbers = operands(&[part, items]);
         answers(rt, U8, RangeOfPart, (false, parts), numbers, expected);
     }

@@ -29,7 +29,7 @@ fn next_shift(now: i64, schedules: &[Schedule<i64>]) -> Option<i64>
     }
 }
 
-const NEXT: [Next<i128>; 13] = [
+static NEXT: [Next<i128>; 13] = [
     (I8, NextMeeting, 10, (1, 4), (3, 6), At(21)),
     (I8, NextMeeting, 21, (1, 4), (3, 6), At(21)),
     (I8, NextMeeting, 0, (1, 4), (2, 6), Never),

@@ -1,9 +1,9 @@
 //! Each number of `u8` and of `i8`, against computation in 128 bits and by trial.
 
-use crate::tests::answers::Answer;
 use crate::tests::answers::Call::{
     Difference, Inverse, Negation, Power, Product, Quotient, Residue, Solutions, Sum,
 };
+use crate::tests::answers::Numbers;
 use crate::tests::rows::{answers, number, operands};
 use std::process::Abort;
 use test_types::signed_magnitude::signed_magnitude_of;
@@ -43,19 +43,19 @@ fn only_factor(a: i128, b: i128, m: i128) -> Option<i128> {
 }
 
 /// The factors that lead from `a` to `b`: the first and the step.
-fn solutions(a: i128, b: i128, m: i128) -> Option<Answer> {
+fn solutions(a: i128, b: i128, m: i128) -> Option<Numbers> {
     let (first, step) = factors_of(a, b, m)?;
-    Some(Answer::Pair(signed_magnitude_of(first), signed_magnitude_of(step)))
+    Some((signed_magnitude_of(first), signed_magnitude_of(step)))
 }
 
 /// The power by repeated multiplication, and the binary logarithm of the exponent.
-fn power_of(a: i128, exponent: u32, m: i128) -> Option<Answer> {
+fn power_of(a: i128, exponent: u32, m: i128) -> Option<Numbers> {
     let mut power = 1i128.checked_rem_euclid(m)?;
     for _ in 0..exponent {
         power = power.wrapping_mul(a).checked_rem_euclid(m)?;
     }
     let turns = exponent.checked_ilog2().unwrap_or(0);
-    Some(Answer::Pair(signed_magnitude_of(power), (false, turns.into())))
+    Some((signed_magnitude_of(power), (false, turns.into())))
 }
 
 /// The sum, the difference and the product of two numbers.

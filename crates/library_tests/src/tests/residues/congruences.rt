@@ -8,12 +8,13 @@ use crate::tests::answers::Call::{
 use crate::tests::assertions::holds_at;
 use crate::tests::rows::{Next, Row, next_hold, rows_hold};
 use modular::CommonSolution::{At, Beyond, Never};
-use modular::next_common_solution_of;
+use modular::{CommonSolution, next_common_solution_of};
+use std::process::Abort;
 use test_types::types::Type::{I8, I64, I128, U8, U64, U128};
 
 const MAX_U64: i128 = u64::MAX as i128;
 
-const ROWS: [Row<i128>; 51] = [
+static ROWS: [Row<i128>; 51] = [
     (U8, Solutions, 10, &[6, 4], &[4, 5]),
     (U8, Solutions, 5, &[0, 1], &[]),
     (U8, Solutions, 1, &[5, 0], &[0, 1]),
@@ -91,7 +92,7 @@ const ROWS: [Row<i128>; 51] = [
     ),
 ];
 
-const NEXT: [Next<i128>; 12] = [
+static NEXT: [Next<i128>; 12] = [
     (I8, NextCommonSolution, 10, (1, 4), (3, 6), At(21)),
     (I8, NextCommonSolution, 21, (1, 4), (3, 6), At(21)),
     (I8, NextCommonSolution, -20, (1, 4), (3, 6), At(-15)),
@@ -107,7 +108,7 @@ const NEXT: [Next<i128>; 12] = [
 ];
 
 /// Moduli whose common multiple no type holds.
-const WIDE_NEXT: [Next<u128>; 2] = [
+static WIDE_NEXT: [Next<u128>; 2] = [
     (
         U128,
         NextCommonSolution,
@@ -133,26 +134,44 @@ fn worked_congruences(rt: HostRuntime) {
     next_hold(&rt, &WIDE_NEXT);
 }
 
+/// Where to begin, three congruences, and the next number that solves each.
+const NEXT_OF_THREE: [(i8, [(i8, i8); 3], CommonSolution<i8>); 8] = [
+    (-128, [(0, 11), (0, 13), (0, 7)], At(0)),
+    (0, [(0, 11), (0, 13), (0, 7)], At(0)),
+    (1, [(0, 11), (0, 13), (0, 7)], Beyond),
+    (10, [(1, 4), (3, 6), (0, 7)], At(21)),
+    (22, [(1, 4), (3, 6), (0, 7)], At(105)),
+    // an odd and an even number, two numbers of one modulus, one number of three moduli
+    (10, [(1, 4), (0, 5), (2, 6)], Never),
+    (-128, [(1, 100), (0, 99), (2, 100)], Never),
+    (-128, [(28, 126), (28, 127), (28, 125)], At(28)),
+];
+
+/// The next number that solves the three.
+fn next_of_three(rt: &impl Abort, from: i8, congruences: [(i8, i8); 3]) -> CommonSolution<i8> {
+    let [(a, m), (b, n), (c, k)] = congruences;
+    assert!(rt; m > 0 && n > 0 && k > 0);
+    next_common_solution_of(from, &[(a, m), (b, n), (c, k)])
+}
+
 #[test]
-fn next_common_solutions_of_several(rt: HostRuntime) {
-    for (from, next) in [(-128i8, At(0)), (0, At(0)), (1, Beyond)] {
-        let found = next_common_solution_of(from, &[(0, 11), (0, 13), (0, 7)]);
-        holds_at(&rt, found == next, &("next_common_solution_of", from));
+fn next_common_solutions_of_three(rt: HostRuntime) {
+    for (from, congruences, next) in NEXT_OF_THREE {
+        let found = next_of_three(&rt, from, congruences);
+        holds_at(
+            &rt,
+            found == next,
+            &("next_common_solution_of", from, congruences),
+        );
     }
-    for (from, next) in [(10i8, At(21)), (22, At(105))] {
-        let found = next_common_solution_of(from, &[(1, 4), (3, 6), (0, 7)]);
-        holds_at(&rt, found == next, &("next_common_solution_of", from));
-    }
+}
+
+#[test]
+fn next_common_solutions_of_fewer(rt: HostRuntime) {
     let found = next_common_solution_of(127i8, &[]);
     holds_at(&rt, found == At(127), &"of no congruence");
     let found = next_common_solution_of(-128i8, &[(-1, 127)]);
     holds_at(&rt, found == At(-128), &"of one congruence");
-    let found = next_common_solution_of(10i8, &[(1, 4), (0, 5), (2, 6)]);
-    holds_at(&rt, found == Never, &"an odd and an even number");
-    let found = next_common_solution_of(-128i8, &[(1, 100), (0, 99), (2, 100)]);
-    holds_at(&rt, found == Never, &"two numbers of one modulus");
-    let found = next_common_solution_of(-128i8, &[(28, 126), (28, 127), (28, 125)]);
-    holds_at(&rt, found == At(28), &"one number of three moduli");
 }
 
 /// Moduli whose common multiple no type holds.

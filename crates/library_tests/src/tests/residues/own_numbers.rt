@@ -16,32 +16,27 @@ fn cents(number: i64) -> Option<Cents> {
     }
 }
 
-/// The residue of a number.
-fn residue_of(z: Option<i128>, m: i64) -> Option<i128> {
-    z?.checked_rem_euclid(m.into())
+/// The residue of a number, by a modulus above 0.
+fn residue_of(z: i128, m: i64) -> i128 {
+    z.checked_rem_euclid(m.into()).unwrap_or(-1)
 }
 
 /// The number of an amount.
-fn number_of(amount: Cents) -> Option<i128> {
-    Some(amount.number().into())
+fn number_of(amount: Cents) -> i128 {
+    amount.number().into()
 }
 
 /// The sum, the difference and the product of two amounts.
 fn has_operations(rt: &impl Abort, (a, x): (i64, Cents), (b, y): (i64, Cents), m: i64) {
     let n = cents(m).expect(rt, "the modulus is an amount");
     if is_below(zero(), n) {
-        let (a, b) = (i128::from(a), i128::from(b));
-        let found = (
-            number_of(sum_modulo(x, y, n)),
-            number_of(difference_modulo(x, y, n)),
-            number_of(product_modulo(x, y, n)),
-        );
-        let expected = (
-            residue_of(a.checked_add(b), m),
-            residue_of(a.checked_sub(b), m),
-            residue_of(a.checked_mul(b), m),
-        );
-        holds_at(rt, found == expected, &("sum_modulo", a, b, m));
+        let sum = residue_of(a.wrapping_add(b).into(), m);
+        let difference = residue_of(a.wrapping_sub(b).into(), m);
+        let product = residue_of(a.wrapping_mul(b).into(), m);
+        let holds = number_of(sum_modulo(x, y, n)) == sum
+            && number_of(difference_modulo(x, y, n)) == difference
+            && number_of(product_modulo(x, y, n)) == product;
+        holds_at(rt, holds, &(a, b, m));
     }
 }
 
@@ -49,10 +44,9 @@ fn has_operations(rt: &impl Abort, (a, x): (i64, Cents), (b, y): (i64, Cents), m
 /// where there are none or several.
 fn only_inverse(a: i64, m: i64) -> Option<i128> {
     let mut found = None;
-    let rest = residue_of(Some(1), m);
+    let rest = residue_of(1, m);
     for x in 0..m {
-        let product = i128::from(a).checked_mul(i128::from(x));
-        if residue_of(product, m) == rest {
+        if residue_of(a.wrapping_mul(x).into(), m) == rest {
             if found.is_some() {
                 return None;
             }
@@ -70,15 +64,15 @@ fn has_powers(rt: &impl Abort, (a, x): (i64, Cents), m: i64) {
             let power = number_of(power_modulo(x, degree.into(), n));
             holds_at(
                 rt,
-                power == residue_of(i128::from(a).checked_pow(degree), m),
-                &("power_modulo", a, degree, m),
+                power == residue_of(i128::from(a).wrapping_pow(degree), m),
+                &(a, degree, m),
             );
         }
         let inverse = match inverse_modulo(x, n) {
-            Some(inverse) => number_of(inverse),
+            Some(inverse) => Some(number_of(inverse)),
             None => None,
         };
-        holds_at(rt, inverse == only_inverse(a, m), &("inverse_modulo", a, m));
+        holds_at(rt, inverse == only_inverse(a, m), &(a, m));
     }
 }
 

@@ -1,11 +1,11 @@
 //! Each call of `modular` at both ends of each type of the library and at 0, 1 and 2, modulo the
 //! greatest number of the type, against computations on the small numbers that are congruent.
 
-use crate::tests::answers::Answer;
 use crate::tests::answers::Call::{
     ChineseRemainder, Difference, Inverse, Negation, NextCommonSolution, NextCongruent, Power,
     Product, Quotient, Residue, Solutions, Sum,
 };
+use crate::tests::answers::{BEYOND, Numbers, one};
 use crate::tests::rows::{answers, ends, number, operands};
 use std::process::Abort;
 use test_types::signed_magnitude::{SignedMagnitude, signed_magnitude, sum};
@@ -56,11 +56,11 @@ fn quotient_of(z: i128, divisor: i128, m: u128) -> Option<SignedMagnitude> {
 }
 
 /// The factors that lead from a small number to another: the first and the step.
-fn factors_of(z: i128, product: i128, m: u128) -> Option<Answer> {
+fn factors_of(z: i128, product: i128, m: u128) -> Option<Numbers> {
     if z != 0 {
-        Some(Answer::Pair(quotient_of(product, z, m)?, (false, m)))
+        Some((quotient_of(product, z, m)?, (false, m)))
     } else if product == 0 {
-        Some(Answer::Pair((false, 0), (false, 1)))
+        Some(((false, 0), (false, 1)))
     } else {
         None
     }
@@ -77,7 +77,7 @@ fn has_residues(rt: &impl Abort, it: Type, (a, z): Near, m: u128) {
         answers(rt, it, call, (false, m), numbers, number(expected));
     }
     for (degree, turns) in [(0, 0), (1, 0), (2, 1), (5, 2)] {
-        let power = Answer::Pair(rest_of(z.wrapping_pow(degree), m), (false, turns));
+        let power = (rest_of(z.wrapping_pow(degree), m), (false, turns));
         answers(
             rt,
             it,
@@ -91,7 +91,7 @@ fn has_residues(rt: &impl Abort, it: Type, (a, z): Near, m: u128) {
 
 /// What the calls of two numbers answer.
 fn has_operations(rt: &impl Abort, it: Type, (a, z): Near, (b, w): Near, m: u128) {
-    let class = Answer::Pair(rest_of(z, m), (false, m));
+    let class = (rest_of(z, m), (false, m));
     for (call, expected) in [
         (Sum, number(Some(rest_of(z.wrapping_add(w), m)))),
         (Difference, number(Some(rest_of(z.wrapping_sub(w), m)))),
@@ -119,14 +119,22 @@ fn has_next(rt: &impl Abort, it: Type, (a, z): Near, (b, w): Near, m: u128) {
         next => next,
     };
     let solution = match next {
-        Some(t) => Answer::Number(t),
-        None => Answer::Beyond,
+        Some(t) => one(t),
+        None => BEYOND,
     };
     let itself = if z == w { Some(a) } else { None };
     for (call, numbers, expected) in [
         (NextCongruent, operands(&[a, b]), number(next)),
-        (NextCommonSolution, [b, b, modulus, a], Some(solution)),
-        (NextCommonSolution, [a, b, modulus, a], number(itself)),
+        (
+            NextCommonSolution,
+            operands(&[b, b, modulus, a]),
+            Some(solution),
+        ),
+        (
+            NextCommonSolution,
+            operands(&[a, b, modulus, a]),
+            number(itself),
+        ),
     ] {
         answers(rt, it, call, modulus, numbers, expected);
     }

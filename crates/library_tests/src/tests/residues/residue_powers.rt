@@ -3,7 +3,6 @@
 
 ghost use Rattle.std.specs.Prelude.{◌<◌};
 
-use crate::tests::answers::Answer;
 use crate::tests::answers::Call::Power;
 use crate::tests::rows::{answers, ends, operands};
 use std::process::Abort;
@@ -68,7 +67,7 @@ fn has_powers(rt: &impl Abort, it: Type, a: SignedMagnitude, m: u128) {
         if m > 0 {
             let power = power_by_squares(rest_of(a, m), exponent, m);
             let turns = exponent.checked_ilog2().unwrap_or(0);
-            let expected = Answer::Pair((false, power), (false, turns.into()));
+            let expected = ((false, power), (false, turns.into()));
             answers(
                 rt,
                 it,
