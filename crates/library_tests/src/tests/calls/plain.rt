@@ -150,13 +150,15 @@ fn row_of_three() -> IterBinomial<u8>
     IterBinomial::new(3)
 }
 
-/// The greatest common divisor of two numbers of which three calls have an answer.
-fn divisor_after_three_calls(a: i64, b: i64) -> Option<i64>
+/// The greatest common divisor of two numbers of which five calls have an answer.
+fn divisor_after_five_calls(a: i64, b: i64) -> Option<i64>
     ensures { IfSome result (λ g. IsGreatestCommonDivisor a b g) }
 {
     let quotient = checked::div_floor(a, b)?;
     let divisor = checked::gcd(a, b)?;
-    let sum = checked::sum(divisor, quotient)?;
+    let common = checked::lcm(a, b)?;
+    let product = checked::product(divisor, common)?;
+    let sum = checked::sum(product, quotient)?;
     if sum == a { None } else { Some(divisor) }
 }
 
@@ -195,9 +197,9 @@ fn plain_fractions(rt: HostRuntime) {
 #[test]
 fn many_calls(rt: HostRuntime) {
     let divisors = (
-        divisor_after_three_calls(8, 6),
-        divisor_after_three_calls(8, 0),
-        divisor_after_three_calls(i64::MIN, -1),
+        divisor_after_five_calls(8, 6),
+        divisor_after_five_calls(8, 0),
+        divisor_after_five_calls(i64::MIN, -1),
     );
     assert!(rt; divisors == (Some(2), None, None));
 }
