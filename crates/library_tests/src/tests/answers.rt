@@ -158,12 +158,9 @@ fn placed<T: Average + Fits>(call: Call, a: T, b: T, m: T) -> Option<Numbers>
 
 /// What the Chinese remainder of two congruences answers.
 fn both<T: Modular + Fits>(a: T, m: T, b: T, n: T) -> Option<Numbers>
-    requires a_in_range { T.fits (T.value a) }
-    requires m_in_range { T.fits (T.value m) }
-    requires b_in_range { T.fits (T.value b) }
-    requires n_in_range { T.fits (T.value n) }
-    requires m_positive { pos 0 <ℤ T.value m }
-    requires n_positive { pos 0 <ℤ T.value n }
+    requires numbers_in_range { T.fits (T.value a) × T.fits (T.value b) }
+    requires moduli_in_range { T.fits (T.value m) × T.fits (T.value n) }
+    requires positive { pos 0 <ℤ T.value m × pos 0 <ℤ T.value n }
 {
     if m.lcm_fits(&n) {
         Some(pair_of(chinese_remainder(a, m, b, n)?))
@@ -175,12 +172,9 @@ fn both<T: Modular + Fits>(a: T, m: T, b: T, n: T) -> Option<Numbers>
 /// What a call for the next number of two congruences answers.
 fn next_of_both<T: Modular + Fits>(call: Call, from: T, a: T, m: T, b: T, n: T) -> Option<Numbers>
     requires from_in_range { T.fits (T.value from) }
-    requires a_in_range { T.fits (T.value a) }
-    requires m_in_range { T.fits (T.value m) }
-    requires b_in_range { T.fits (T.value b) }
-    requires n_in_range { T.fits (T.value n) }
-    requires m_positive { pos 0 <ℤ T.value m }
-    requires n_positive { pos 0 <ℤ T.value n }
+    requires numbers_in_range { T.fits (T.value a) × T.fits (T.value b) }
+    requires moduli_in_range { T.fits (T.value m) × T.fits (T.value n) }
+    requires positive { pos 0 <ℤ T.value m × pos 0 <ℤ T.value n }
 {
     let next = if let Call::NextMeeting = call {
         next_meeting(from, (a, m), (b, n))
@@ -194,20 +188,19 @@ fn next_of_both<T: Modular + Fits>(call: Call, from: T, a: T, m: T, b: T, n: T) 
     }
 }
 
-/// What a call with two moduli answers. The second follows the first two operands.
+/// What a call with two moduli answers.
 fn of_two_moduli<T: Modular + Fits + FromPrimitive>(
     call: Call,
     a: T,
     b: T,
     m: T,
-    operands: Operands,
+    n: SignedMagnitude,
+    from: SignedMagnitude,
 ) -> Option<Numbers>
-    requires a_in_range { T.fits (T.value a) }
-    requires b_in_range { T.fits (T.value b) }
+    requires numbers_in_range { T.fits (T.value a) × T.fits (T.value b) }
     requires m_in_range { T.fits (T.value m) }
     requires positive { pos 0 <ℤ T.value m }
 {
-    let [_, _, n, from] = operands;
     match (value::<T>(n), value::<T>(from)) {
         (Some(n), Some(from)) if is_below(zero(), n) => match call {
             Call::ChineseRemainder => both(a, m, b, n),
@@ -236,7 +229,7 @@ fn answer_on<T: Modular + Fits + Average + FromPrimitive>(
     a: T,
     b: T,
     m: T,
-    operands: Operands,
+    operands: &Operands,
 ) -> Option<Numbers>
     requires a_in_range { T.fits (T.value a) }
     requires b_in_range { T.fits (T.value b) }
@@ -251,7 +244,7 @@ fn answer_on<T: Modular + Fits + Average + FromPrimitive>(
         Call::Power(exponent) => Some(power(a, exponent, m)),
         Call::CountCongruent => count(a, b, operands[2], m),
         Call::ChineseRemainder | Call::NextCommonSolution | Call::NextMeeting => {
-            of_two_moduli(call, a, b, m, operands)
+            of_two_moduli(call, a, b, m, operands[2], operands[3])
         }
         Call::Pages
         | Call::PlaceOf
@@ -268,9 +261,9 @@ fn answer_on<T: Modular + Fits + Average + FromPrimitive>(
 fn answer_of<T: Modular + Fits + Average + FromPrimitive>(
     call: Call,
     m: SignedMagnitude,
-    operands: Operands,
+    operands: &Operands,
 ) -> Option<Numbers> {
-    let [a, b, ..] = operands;
+    let [a, b, ..] = *operands;
     match (value::<T>(a), value::<T>(b), value::<T>(m)) {
         (Some(a), Some(b), Some(m)) if is_below(zero(), m) => answer_on(call, a, b, m, operands),
         _ => Some(DIFFERENT),
@@ -280,17 +273,17 @@ fn answer_of<T: Modular + Fits + Average + FromPrimitive>(
 /// What the call answers at the type, or `None` where there is no answer.
 pub(crate) fn ask(it: Type, call: Call, m: SignedMagnitude, operands: Operands) -> Option<Numbers> {
     match it {
-        Type::I8 => answer_of::<i8>(call, m, operands),
-        Type::I16 => answer_of::<i16>(call, m, operands),
-        Type::I32 => answer_of::<i32>(call, m, operands),
-        Type::I64 => answer_of::<i64>(call, m, operands),
-        Type::I128 => answer_of::<i128>(call, m, operands),
-        Type::Isize => answer_of::<isize>(call, m, operands),
-        Type::U8 => answer_of::<u8>(call, m, operands),
-        Type::U16 => answer_of::<u16>(call, m, operands),
-        Type::U32 => answer_of::<u32>(call, m, operands),
-        Type::U64 => answer_of::<u64>(call, m, operands),
-        Type::U128 => answer_of::<u128>(call, m, operands),
-        _ => answer_of::<usize>(call, m, operands),
+        Type::I8 => answer_of::<i8>(call, m, &operands),
+        Type::I16 => answer_of::<i16>(call, m, &operands),
+        Type::I32 => answer_of::<i32>(call, m, &operands),
+        Type::I64 => answer_of::<i64>(call, m, &operands),
+        Type::I128 => answer_of::<i128>(call, m, &operands),
+        Type::Isize => answer_of::<isize>(call, m, &operands),
+        Type::U8 => answer_of::<u8>(call, m, &operands),
+        Type::U16 => answer_of::<u16>(call, m, &operands),
+        Type::U32 => answer_of::<u32>(call, m, &operands),
+        Type::U64 => answer_of::<u64>(call, m, &operands),
+        Type::U128 => answer_of::<u128>(call, m, &operands),
+        _ => answer_of::<usize>(call, m, &operands),
     }
 }

@@ -7,24 +7,20 @@ use crate::tests::calls::Call;
 use num_integer::{Fits, average_ceil, average_floor, checked};
 use test_types::types::Tested;
 
-/// One more.
-fn incremented<T: Fits>(x: T) -> Option<Numbers>
+/// What is stored of one more or of one less.
+fn stored<T: Fits>(more: bool, x: T) -> Option<Numbers>
     requires { T.fits (T.value x) }
 {
-    let answer = checked::inc(x)?;
     let mut next = x;
-    next.inc();
-    Some(agreed(answer, next))
-}
-
-/// One less.
-fn decremented<T: Fits>(x: T) -> Option<Numbers>
-    requires { T.fits (T.value x) }
-{
-    let answer = checked::dec(x)?;
-    let mut next = x;
-    next.dec();
-    Some(agreed(answer, next))
+    if more {
+        let answer = checked::inc(x)?;
+        next.inc();
+        Some(agreed(answer, next))
+    } else {
+        let answer = checked::dec(x)?;
+        next.dec();
+        Some(agreed(answer, next))
+    }
 }
 
 /// What the calls of one operand answer, sums and averages.
@@ -33,8 +29,8 @@ pub(super) fn neighbour<T: Tested>(call: Call, x: T, y: T) -> Option<Numbers>
     requires y_in_range { T.fits (T.value y) }
 {
     match call {
-        Call::Inc => incremented(x),
-        Call::Dec => decremented(x),
+        Call::Inc => stored(true, x),
+        Call::Dec => stored(false, x),
         Call::Negated => Some(one(checked::negated(x)?.parts())),
         Call::Parts => Some(one(x.parts())),
         Call::IsEven => Some(truth(x.is_even())),
