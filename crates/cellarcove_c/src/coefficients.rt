@@ -23,7 +23,7 @@ pub extern "C" fn cellarcove_binomial_i64(n: i64, k: i64) -> I64Answer
     I64Answer::of(checked::binomial(n, k))
 }
 
-/// See [`cellarcove_binomial_i64`].
+/// Returns the binomial coefficient of `n` and `k`. That of 11 and 3 is 165.
 #[unsafe(no_mangle)]
 pub extern "C" fn cellarcove_binomial_u64(n: u64, k: u64) -> U64Answer
     ensures answer { AnswersWhere

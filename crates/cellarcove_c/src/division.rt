@@ -42,7 +42,7 @@ pub extern "C" fn cellarcove_div_rem_i64(x: i64, y: i64) -> I64Division
     I64Division::of(checked::div_rem(x, y))
 }
 
-/// See [`cellarcove_div_rem_i64`].
+/// Returns the quotient rounded toward 0, and its remainder. Those of 8 by 3 are 2 and 2.
 #[unsafe(no_mangle)]
 pub extern "C" fn cellarcove_div_rem_u64(x: u64, y: u64) -> U64Division
     ensures answer { AnswersWhere
@@ -66,7 +66,7 @@ pub extern "C" fn cellarcove_div_floor_i64(x: i64, y: i64) -> I64Answer
     I64Answer::of(checked::div_floor(x, y))
 }
 
-/// See [`cellarcove_div_floor_i64`].
+/// Returns the quotient rounded down. That of 8 by 3 is 2.
 #[unsafe(no_mangle)]
 pub extern "C" fn cellarcove_div_floor_u64(x: u64, y: u64) -> U64Answer
     ensures answer { AnswersWhere
@@ -89,7 +89,7 @@ pub extern "C" fn cellarcove_div_ceil_i64(x: i64, y: i64) -> I64Answer
     I64Answer::of(checked::div_ceil(x, y))
 }
 
-/// See [`cellarcove_div_ceil_i64`].
+/// Returns the quotient rounded up. That of 8 by 3 is 3.
 #[unsafe(no_mangle)]
 pub extern "C" fn cellarcove_div_ceil_u64(x: u64, y: u64) -> U64Answer
     ensures answer { AnswersWhere
@@ -111,7 +111,7 @@ pub extern "C" fn cellarcove_mod_floor_i64(x: i64, y: i64) -> I64Answer
     I64Answer::of(checked::mod_floor(x, y))
 }
 
-/// See [`cellarcove_mod_floor_i64`].
+/// Returns the remainder of the quotient rounded down. That of 8 by 3 is 2.
 #[unsafe(no_mangle)]
 pub extern "C" fn cellarcove_mod_floor_u64(x: u64, y: u64) -> U64Answer
     ensures answer { AnswersWhere (pos y ≢ pos 0)
@@ -135,7 +135,7 @@ pub extern "C" fn cellarcove_div_mod_floor_i64(x: i64, y: i64) -> I64Division
     I64Division::of(checked::div_mod_floor(x, y))
 }
 
-/// See [`cellarcove_div_mod_floor_i64`].
+/// Returns the quotient rounded down, and its remainder. Those of 8 by 3 are 2 and 2.
 #[unsafe(no_mangle)]
 pub extern "C" fn cellarcove_div_mod_floor_u64(x: u64, y: u64) -> U64Division
     ensures answer { AnswersWhere
@@ -162,7 +162,8 @@ pub extern "C" fn cellarcove_product_div_mod_floor_i64(a: i64, b: i64, d: i64) -
     I64Division::of(checked::product_div_mod_floor(a, b, d))
 }
 
-/// See [`cellarcove_product_div_mod_floor_i64`].
+/// Returns the quotient of `a * b` by `d`, rounded down, and its remainder. The product need not
+/// fit. Those for 7, 3 and 2 are 10 and 1.
 #[unsafe(no_mangle)]
 pub extern "C" fn cellarcove_product_div_mod_floor_u64(a: u64, b: u64, d: u64) -> U64Division
     ensures answer { AnswersWhere
@@ -186,7 +187,7 @@ pub extern "C" fn cellarcove_next_multiple_of_i64(x: i64, y: i64) -> I64Answer
     I64Answer::of(checked::next_multiple_of(x, y))
 }
 
-/// See [`cellarcove_next_multiple_of_i64`].
+/// Returns the quotient rounded up, times `y`. For 23 and 8 it is 24.
 #[unsafe(no_mangle)]
 pub extern "C" fn cellarcove_next_multiple_of_u64(x: u64, y: u64) -> U64Answer
     ensures answer { AnswersWhere
@@ -209,7 +210,7 @@ pub extern "C" fn cellarcove_prev_multiple_of_i64(x: i64, y: i64) -> I64Answer
     I64Answer::of(checked::prev_multiple_of(x, y))
 }
 
-/// See [`cellarcove_prev_multiple_of_i64`].
+/// Returns the quotient rounded down, times `y`. For 23 and 8 it is 16.
 #[unsafe(no_mangle)]
 pub extern "C" fn cellarcove_prev_multiple_of_u64(x: u64, y: u64) -> U64Answer
     ensures answer { AnswersWhere
@@ -229,7 +230,7 @@ pub extern "C" fn cellarcove_is_multiple_of_i64(x: i64, y: i64) -> bool
     Integer::is_multiple_of(&x, &y)
 }
 
-/// See [`cellarcove_is_multiple_of_i64`].
+/// Returns `true` if `x` is a multiple of `y`. Of 0 only 0 is one.
 #[unsafe(no_mangle)]
 pub extern "C" fn cellarcove_is_multiple_of_u64(x: u64, y: u64) -> bool
     ensures { IsTrue result ↔ Divides (pos y) (pos x) }

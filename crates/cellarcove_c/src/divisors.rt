@@ -31,7 +31,7 @@ pub extern "C" fn cellarcove_gcd_i64(x: i64, y: i64) -> I64Answer
     I64Answer::of(checked::gcd(x, y))
 }
 
-/// See [`cellarcove_gcd_i64`].
+/// Returns the greatest common divisor. That of 56 and 42 is 14.
 #[unsafe(no_mangle)]
 pub extern "C" fn cellarcove_gcd_u64(x: u64, y: u64) -> U64Answer
     ensures answer { AnswersWhere (GcdFits (FitsUnsignedBits 64) (pos x) (pos y))
@@ -52,7 +52,7 @@ pub extern "C" fn cellarcove_lcm_i64(x: i64, y: i64) -> I64Answer
     I64Answer::of(checked::lcm(x, y))
 }
 
-/// See [`cellarcove_lcm_i64`].
+/// Returns the least common multiple. That of 4 and 6 is 12.
 #[unsafe(no_mangle)]
 pub extern "C" fn cellarcove_lcm_u64(x: u64, y: u64) -> U64Answer
     ensures answer { AnswersWhere

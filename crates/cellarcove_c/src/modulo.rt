@@ -50,7 +50,7 @@ pub extern "C" fn cellarcove_sum_modulo_i64(a: i64, b: i64, m: i64) -> I64Answer
     }
 }
 
-/// See [`cellarcove_sum_modulo_i64`].
+/// Returns `a + b` modulo `m`. For 5, 4 and 7 it is 2.
 #[unsafe(no_mangle)]
 pub extern "C" fn cellarcove_sum_modulo_u64(a: u64, b: u64, m: u64) -> U64Answer
     ensures answer { AnswersWhere (pos 0 <ℤ pos m) (λ r. IsResidue (pos m) (pos a +ℤ pos b) (pos r))
@@ -78,7 +78,7 @@ pub extern "C" fn cellarcove_difference_modulo_i64(a: i64, b: i64, m: i64) -> I6
     }
 }
 
-/// See [`cellarcove_difference_modulo_i64`].
+/// Returns `a - b` modulo `m`, which is at least 0. For 2, 5 and 7 it is 4.
 #[unsafe(no_mangle)]
 pub extern "C" fn cellarcove_difference_modulo_u64(a: u64, b: u64, m: u64) -> U64Answer
     ensures answer { AnswersWhere (pos 0 <ℤ pos m) (λ r. IsResidue (pos m) (pos a -ℤ pos b) (pos r))
@@ -106,7 +106,7 @@ pub extern "C" fn cellarcove_product_modulo_i64(a: i64, b: i64, m: i64) -> I64An
     }
 }
 
-/// See [`cellarcove_product_modulo_i64`].
+/// Returns `a * b` modulo `m`. For 4, 5 and 7 it is 6.
 #[unsafe(no_mangle)]
 pub extern "C" fn cellarcove_product_modulo_u64(a: u64, b: u64, m: u64) -> U64Answer
     ensures answer { AnswersWhere (pos 0 <ℤ pos m) (λ r. IsResidue (pos m) (pos a *ℤ pos b) (pos r))
@@ -134,7 +134,7 @@ pub extern "C" fn cellarcove_power_modulo_i64(a: i64, exponent: u64, m: i64) -> 
     }
 }
 
-/// See [`cellarcove_power_modulo_i64`].
+/// Returns `a` to the power `exponent` modulo `m`. For 3, 4 and 7 it is 4.
 #[unsafe(no_mangle)]
 pub extern "C" fn cellarcove_power_modulo_u64(a: u64, exponent: u64, m: u64) -> U64Answer
     ensures answer { AnswersWhere (pos 0 <ℤ pos m)
@@ -168,7 +168,7 @@ pub extern "C" fn cellarcove_inverse_modulo_i64(a: i64, m: i64) -> I64Answer
     }
 }
 
-/// See [`cellarcove_inverse_modulo_i64`].
+/// Returns the inverse of `a` modulo `m`. That of 3 modulo 7 is 5, and 4 has none modulo 6.
 #[unsafe(no_mangle)]
 pub extern "C" fn cellarcove_inverse_modulo_u64(a: u64, m: u64) -> U64Answer
     ensures answer { (pos 0 <ℤ pos m) → MatchOption (answer_of result.status result.value)
@@ -215,7 +215,8 @@ pub extern "C" fn cellarcove_chinese_remainder_i64(a: i64, m: i64, b: i64, n: i6
     }
 }
 
-/// See [`cellarcove_chinese_remainder_i64`].
+/// Returns the numbers that are `a` modulo `m` and `b` modulo `n`. For 1, 4, 3 and 6 they are 9 and
+/// those in steps of 12 from it.
 #[unsafe(no_mangle)]
 pub extern "C" fn cellarcove_chinese_remainder_u64(a: u64, m: u64, b: u64, n: u64) -> U64Solutions
     ensures answer { (pos 0 <ℤ pos m) → (pos 0 <ℤ pos n)
@@ -264,7 +265,7 @@ pub extern "C" fn cellarcove_next_congruent_i64(from: i64, first: i64, step: i64
     }
 }
 
-/// See [`cellarcove_next_congruent_i64`].
+/// Returns the least number from `from` on that is `first` modulo `step`. For 10, 1 and 4 it is 13.
 #[unsafe(no_mangle)]
 pub extern "C" fn cellarcove_next_congruent_u64(from: u64, first: u64, step: u64) -> U64Answer
     ensures answer { (pos 0 <ℤ pos step) → MatchOption (answer_of result.status result.value)
@@ -314,7 +315,8 @@ pub extern "C" fn cellarcove_next_common_solution_i64(
     }
 }
 
-/// See [`cellarcove_next_common_solution_i64`].
+/// Returns the least number from `from` on that is `a` modulo `m` and `b` modulo `n`. The least
+/// common multiple of `m` and `n` need not fit. For 10, 1, 4, 3 and 6 it is 21.
 #[unsafe(no_mangle)]
 pub extern "C" fn cellarcove_next_common_solution_u64(
     from: u64,

@@ -17,7 +17,7 @@ pub extern "C" fn cellarcove_average_floor_i64(x: i64, y: i64) -> i64
     average_floor(x, y)
 }
 
-/// See [`cellarcove_average_floor_i64`].
+/// Returns the average rounded down. That of 3 and 10 is 6.
 #[unsafe(no_mangle)]
 pub extern "C" fn cellarcove_average_floor_u64(x: u64, y: u64) -> u64
     ensures { IsAverageFloor (pos x) (pos y) (pos result) }
@@ -33,7 +33,7 @@ pub extern "C" fn cellarcove_average_ceil_i64(x: i64, y: i64) -> i64
     average_ceil(x, y)
 }
 
-/// See [`cellarcove_average_ceil_i64`].
+/// Returns the average rounded up. That of 3 and 10 is 7.
 #[unsafe(no_mangle)]
 pub extern "C" fn cellarcove_average_ceil_u64(x: u64, y: u64) -> u64
     ensures { IsAverageCeil (pos x) (pos y) (pos result) }
@@ -51,7 +51,7 @@ pub extern "C" fn cellarcove_sqrt_i64(x: i64) -> I64Answer
     I64Answer::of(checked::sqrt(x))
 }
 
-/// See [`cellarcove_sqrt_i64`].
+/// Returns the square root rounded down. That of 99 is 9.
 #[unsafe(no_mangle)]
 pub extern "C" fn cellarcove_sqrt_u64(x: u64) -> U64Answer
     ensures answer { AnswersWhere (pos 0 ≤ℤ pos x) (λ r. IsRoot (pos x) 2 (pos r))
@@ -69,7 +69,7 @@ pub extern "C" fn cellarcove_cbrt_i64(x: i64) -> i64
     cbrt(x)
 }
 
-/// See [`cellarcove_cbrt_i64`].
+/// Returns the cube root rounded down. That of 9 is 2.
 #[unsafe(no_mangle)]
 pub extern "C" fn cellarcove_cbrt_u64(x: u64) -> u64
     ensures { IsRoot (pos x) 3 (pos result) }
@@ -87,7 +87,7 @@ pub extern "C" fn cellarcove_nth_root_i64(x: i64, degree: u32) -> I64Answer
     I64Answer::of(checked::nth_root(x, degree))
 }
 
-/// See [`cellarcove_nth_root_i64`].
+/// Returns the root of a degree, rounded down. That of 9 of degree 3 is 2.
 #[unsafe(no_mangle)]
 pub extern "C" fn cellarcove_nth_root_u64(x: u64, degree: u32) -> U64Answer
     ensures answer { AnswersWhere ((degree ≢ 0) × (degree % 2 ≡ 0 → pos 0 ≤ℤ pos x))
