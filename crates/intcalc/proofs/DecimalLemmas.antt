@@ -13,8 +13,8 @@ room text n rest zero size n_fits rest_fits e =
 room text n rest (suc at) size n_fits rest_fits e = omega arith
 
 -- a digit is written between those that are left and those that are written
-pub one_more : (left ds text : List ℕ) (at d : ℕ) → 0 < at → at ≤ length text → (left ++ (d ∷ [])) ++ drop at text ≡ ds → left ++ drop (at - 1) (set text (at - 1) d) ≡ ds
-one_more left ds text at d pos within e =
+pub one_digit_more : (left ds text : List ℕ) (at d : ℕ) → 0 < at → at ≤ length text → (left ++ (d ∷ [])) ++ drop at text ≡ ds → left ++ drop (at - 1) (set text (at - 1) d) ≡ ds
+one_digit_more left ds text at d pos within e =
     let same : at - 1 + 1 ≡ at = omega arith in
     let written : drop (at - 1) (set text (at - 1) d) ≡ d ∷ drop at text = drop-set text (at - 1) d (omega arith) ∙ ap (λ n. d ∷ drop n text) same in
     rw written (sym (append_assoc left (d ∷ []) (drop at text)) ∙ e)

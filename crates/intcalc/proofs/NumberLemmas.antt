@@ -11,8 +11,8 @@ use Rattle.std.proofs.lemmas.Bool.{cases_lt, cases_Bool}
 use Rattle.intcalc.specs.Number.{spelled_number, begins_with_minus, unsigned_part, is_digits, digits_sum}
 
 -- the sum of digits is a reading of numerals as std means it
-own : IsNumeralModel (λ ds. list_all is_ascii_digit ds ≡ true) digits_sum
-own = numerals_by_weight _ (search rules) digits_sum (search rules)
+digits_model : IsNumeralModel (λ ds. list_all is_ascii_digit ds ≡ true) digits_sum
+digits_model = numerals_by_weight _ (search rules) digits_sum (search rules)
 
 -- a number of `i128` is not moved
 sat_inside : (z : ℤ) → FitsSigned w128 z → saturate_signed w128 z ≡ z
@@ -47,11 +47,11 @@ parsed {E} bs (Ok m) n h is f d =
     elim (cases_Bool (begins_with_minus bs)) [
       | inl minus ↦
           let a = at_minus bs minus d in
-          let p = parse_signed_minus own {E = E} w128 bs (Ok m) h a.0 in
+          let p = parse_signed_minus digits_model {E = E} w128 bs (Ok m) h a.0 in
           ap Some (sym (ap (saturate_signed w128) (sym p.1 ∙ same) ∙ sat_inside n f)) ∙ sym a.3
       | inr plain ↦
           let a = at_plain bs plain d in
-          let p = parse_signed_plain own {E = E} w128 bs (Ok m) h (not_in_digits own bs 43 a.1 (λ w. omega arith) 0 a.2) a.0 in
+          let p = parse_signed_plain digits_model {E = E} w128 bs (Ok m) h (not_in_digits digits_model bs 43 a.1 (λ w. omega arith) 0 a.2) a.0 in
           ap Some (sym (ap (saturate_signed w128) (sym p.1 ∙ same) ∙ sat_inside n f)) ∙ sym a.3
     ]
 parsed bs (Err e) n h is f d = cc
@@ -61,7 +61,7 @@ pub too_low : {E : Type 0} → (bs : List ℕ) (r : Result ℤ E) (e : E) → Pa
 too_low bs (Ok n) e h is d m = cc
 too_low bs (Err x) e h is d m =
     let a = at_minus bs m d in
-    let p = parse_signed_minus own w128 bs (Err x) h a.0 in
+    let p = parse_signed_minus digits_model w128 bs (Err x) h a.0 in
     elim (cases_lt (2 ^ 127) (digits_sum (drop 1 bs))) [
       | inl big ↦ ap Some (sym (sat_low _ big)) ∙ sym a.3
       | inr small ↦ absurd (p (a.1, a.2, small))
@@ -72,7 +72,7 @@ pub too_high : {E : Type 0} → (bs : List ℕ) (r : Result ℤ E) (e : E) → P
 too_high bs (Ok n) e h is d m = cc
 too_high bs (Err x) e h is d m =
     let a = at_plain bs m d in
-    let p = parse_signed_plain own w128 bs (Err x) h (not_in_digits own bs 43 a.1 (λ w. omega arith) 0 a.2) a.0 in
+    let p = parse_signed_plain digits_model w128 bs (Err x) h (not_in_digits digits_model bs 43 a.1 (λ w. omega arith) 0 a.2) a.0 in
     elim (cases_lt (digits_sum bs) (2 ^ 127)) [
       | inl small ↦ absurd (p (a.1, a.2, small))
       | inr big ↦ ap Some (sym (sat_high _ big)) ∙ sym a.3

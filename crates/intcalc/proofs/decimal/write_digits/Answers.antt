@@ -2,7 +2,7 @@ use Rattle.std.proofs.Common.{[], ◌/◌, append-nil, arith, rules}
 use Rattle.std.specs.Fmt.{decimal}
 use Rattle.std.proofs.lemmas.List.{drop_all}
 use Rattle.std.proofs.lemmas.Fmt.{decimal_digit, decimal_step_wide}
-use Rattle.intcalc.proofs.DecimalLemmas.{one_more, room}
+use Rattle.intcalc.proofs.DecimalLemmas.{one_digit_more, room}
 use Rattle.intcalc.proofs.decimal.write_digits.Goals as goal
 
 pub loop-rest-init : goal.loop-rest-init
@@ -25,7 +25,7 @@ loop-rest-preserved c =
     record {
       size = search rules;
       within = omega arith;
-      digits = one_more (decimal (rest / 10)) _ c.loop-rest.text c.loop-rest.start c.digit.result (room _ c.args.n _ _ i.size (omega arith) (omega arith) i.digits) (omega arith) (cc (last, i.digits));
+      digits = one_digit_more (decimal (rest / 10)) _ c.loop-rest.text c.loop-rest.start c.digit.result (room _ c.args.n _ _ i.size (omega arith) (omega arith) i.digits) (omega arith) (cc (last, i.digits));
     }
 
 pub overflow_sub-start-2 : goal.overflow_sub-start-2
@@ -37,4 +37,4 @@ pub returns-clause-digits : goal.returns-clause-digits
 returns-clause-digits c =
     let i = c.loop-rest.invariant in
     let all = rw (decimal_digit c.loop-rest.rest c.loop-rest-test.false) at i.digits in
-    one_more [] _ c.loop-rest.text c.loop-rest.start c.digit-2.result (room _ c.args.n _ _ i.size (omega arith) (omega arith) i.digits) (omega arith) (cc all)
+    one_digit_more [] _ c.loop-rest.text c.loop-rest.start c.digit-2.result (room _ c.args.n _ _ i.size (omega arith) (omega arith) i.digits) (omega arith) (cc all)
