@@ -1,8 +1,8 @@
 #!/usr/bin/env bash
 # Tries the wrong bodies that the gate does not try: crates/NAME/wrong-bodies/*.edit. The prover must refuse each. Copies the
-# repository to a temporary folder, with what was kept in it, and tries them there in the place of those of must-fail, as many
-# side by side as there are processors and memory. With names of crates, tries theirs alone. Prints a line for each, and a count
-# at the end. A library of which nothing was kept is proved first.
+# repository to a temporary folder, with what was kept in it, and tries them there in the place of those of must-fail, those of as
+# many crates side by side as there are processors. With names of crates, tries theirs alone. Prints a line for each, and a count at
+# the end. A library of which nothing was kept is proved first.
 #
 # usage: scripts/wrong_bodies.sh [NAME..]
 set -uo pipefail
@@ -49,11 +49,33 @@ for name in "${names[@]}"; do
     take_suite "$name"
 done
 
+# try_suite NAME: tries those of the crate, one after the other. What is said and the status are in files of its name.
+try_suite() {
+    (cd "$work/repository" && RT_JOBS=1 rt must-fail "$1") >"$work/$1" 2>&1
+    echo $? >"$work/$1.status"
+}
+
+# The names, those of the crates with the most wrong bodies first.
+longest_first() {
+    local name
+    for name in "${names[@]}"; do
+        echo "$(ls "crates/$name/wrong-bodies" | wc -l) $name"
+    done | sort -rn | cut -d ' ' -f 2
+}
+
 build_libraries || exit 2
+for name in $(longest_first); do
+    [ "$(jobs -rp | wc -l)" -lt "$(nproc)" ] || wait -n
+    try_suite "$name" &
+done
+wait
+
 status=0
-(cd "$work/repository" && rt must-fail "${names[@]}") >"$work/said" 2>&1 || status=$?
-cat "$work/said"
-refused=$(grep -cE '^(rt: )?must-fail [a-z0-9_]+/[^ ]+\.edit: refused, as it must be' "$work/said")
+for name in "${names[@]}"; do
+    cat "$work/$name"
+    [ "$(cat "$work/$name.status")" -eq 0 ] || status=1
+done
+refused=$(cat "${names[@]/#/$work/}" | grep -cE '^(rt: )?must-fail [a-z0-9_]+/[^ ]+\.edit: refused, as it must be')
 
 echo "$refused passed, $((wanted - refused)) failed"
 [ "$status" -eq 0 ] && [ "$refused" -eq "$wanted" ]
