@@ -1,13 +1,16 @@
 #!/usr/bin/env bash
 # Compares the code on the pages with the files that the gate compiles or runs. Each block of Rust is in a .rt file, each
-# block of a proof in an .antt file, and each line of a block of crates in crates.txt. Indentation does not count, and a
-# comment `// and ..` in a block replaces lines that the block leaves out. The command of README.md is the stored run. Prints
-# a line for each block, and a count at the end.
+# block of a proof in an .antt file, and each line of a block of crates in crates.txt. Of a block of imports alone, each
+# name is imported so in a .rt file. Indentation does not count, and a comment `// and ..` in a block replaces lines that the
+# block leaves out. Blocks of any other kind are not read. The command of README.md is the stored run. Prints a line for each
+# block, and a count at the end.
 set -euo pipefail
 cd "$(dirname "$0")/.."
 
 pages=(README.md docs/*.md crates/*/CALLING.md crates/*/README.md)
 declare -A rust proofs
+imports=$(mktemp)
+trap 'rm -f "$imports"' EXIT
 passed=0
 failed=0
 
@@ -34,11 +37,31 @@ contains() {
     done
 }
 
+# imported_names: of the imports in the input that stand on a line, one line for each name, with its path before it.
+imported_names() {
+    awk '
+        !/^ *(pub )?(ghost )?use .*;$/ { next }
+        { sub(/^ */, ""); sub(/^pub /, "") }
+        match($0, /[{][^{}]*[}];$/) {
+            count = split(substr($0, RSTART + 1, RLENGTH - 3), names, /, */)
+            for (i = 1; i <= count; i++) print substr($0, 1, RSTART - 1) names[i]
+            next
+        }
+        { print substr($0, 1, length($0) - 1) }'
+}
+
+# is_imports TEXT: the text has imports and nothing else.
+is_imports() { ! grep -vE '^((ghost )?use .*;)?$' <<<"$1" >/dev/null; }
+
 # is_quoted KIND TEXT: a file of that kind has the text.
 is_quoted() {
     local pieces=() piece= line file
     if [ "$1" = crates ]; then
         ! grep -vxFf crates.txt <<<"$2" >/dev/null
+        return
+    fi
+    if [ "$1" = rust ] && is_imports "$2"; then
+        ! imported_names <<<"$2" | grep -vxFf "$imports" >/dev/null
         return
     fi
     while IFS= read -r line; do
@@ -72,6 +95,7 @@ while IFS= read -r file; do
         *) proofs[$file]=$(sed 's/^ *//' "$file")$'\n' ;;
     esac
 done < <(find crates/*/src crates/*/specs crates/*/proofs -name '*.rt' -o -name '*.antt')
+find crates/*/src -name '*.rt' -exec cat {} + | imported_names | sort -u >"$imports"
 
 for page in "${pages[@]}"; do
     kind= text= number=0 begins=0
