@@ -120,6 +120,7 @@ fn tasks_on_fractions(rt: HostRuntime) {
         }
         _ => panic!(rt; "they are fractions"),
     }
+    holds_at(&rt, read("1/0").is_err(), &"read");
     holds_at(&rt, read("1.5").is_err(), &"read");
 }
 
@@ -133,6 +134,9 @@ fn tasks_on_dates(rt: HostRuntime) {
         easter_monday(2027) == Date::new(2027, 3, 29),
         &"easter monday",
     );
+    if let Some(invoice) = Date::new(2026, 1, 31) {
+        holds_at(&rt, due(&invoice) == Date::new(2026, 2, 28), &"due");
+    }
     if let (Some(start), Some(end), Some(day)) = (
         Date::new(2000, 1, 31),
         Date::new(2000, 2, 29),
