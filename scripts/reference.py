@@ -4,12 +4,13 @@
     scripts/reference.py            writes the pages
     scripts/reference.py --check    compares them with what the sources make; status 1 where a page differs
     scripts/reference.py --self-test
-                                    plants one difference of each kind in a copy; status 1 where one is not found
+                                    makes the pages of a copy, and plants one slip of each kind in it; status 1 where the
+                                    comparison does not name the page that then differs
 
 A page has, in the order of the modules, each public item with its doc comment, its signature and its clauses as they
 stand, without its body; then each definition of `specs/` that a public clause or such a definition cites; then the laws,
 and the lemmas of `proofs/ForCallers.antt`. A word that a clause cites has a link. A form that is not known is refused by
-file and line, and then nothing is written."""
+file and line; then nothing is written, and the status is 2."""
 import pathlib
 import re
 import shutil
@@ -64,6 +65,7 @@ class Crate:
         self.name, self.modules = name, []
         root = next(file for file in (CRATES / name / 'src' / 'lib.rt', CRATES / name / 'src' / 'main.rt') if file.is_file())
         self.read((), root)
+        self.at = {module.path: module for module in self.modules}
         self.exported = self.exports()
 
     def read(self, path, file):
@@ -89,11 +91,24 @@ class Crate:
                     found.setdefault(name, []).append((module, path))
         return found
 
+    def home(self, module, path):
+        """The module of the item that a path names in a module, or None where it is of another crate."""
+        at, names = module.path, list(path)
+        if names[0] in ('crate', 'self', 'super'):
+            at = {'crate': (), 'self': at, 'super': at[:-1]}[names.pop(0)]
+        while len(names) > 1 and at + (names[0],) in self.at:
+            at += (names.pop(0),)
+        here = self.at[at]
+        if len(names) != 1 or any(item.name == names[0] and item.kind in SHOWN for item in here.items):
+            return here if len(names) == 1 else None
+        uses = [path for item in here.items if item.kind == 'use' for path, name in here.source.imports(item)
+                if name == names[0]]
+        return self.home(here, uses[0]) if uses else None
+
     def place(self, module, item):
-        """The public module from which a caller imports an item, or None. Names of one kind differ below one module, so a
-        re-export is told by the last module of its path."""
+        """The public module from which a caller imports an item, or None."""
         for public, path in self.exported.get(item.name, ()):
-            if public is module or path and (module.path[-1:] == path[-2:-1] or not module.path):
+            if (self.home(public, path) if path else public) is module:
                 return public
         return None
 
@@ -164,7 +179,8 @@ def head_of(source, item):
 def doc_of(source, item):
     """The doc comment of an item. Its links are those of the documentation of the Rust crate, so here they are names."""
     text = '\n'.join(source.tokens[i].text[3:].removeprefix(' ') for i in source.docs(item))
-    return re.sub(r'\[(`[^`]+`)\](?:\([^)]*\))?', r'\1', text).split('\n')
+    text = re.sub(r'\[(`[^`]+`)\](?:\([^)]*\))?', r'\1', text)
+    return text.replace('`crate::', '`').split('\n')
 
 
 class Reference:
@@ -394,31 +410,49 @@ def lemmas_in(paragraph):
     return found
 
 
+# What is planted: a slip, its file, an old text that stands in it, a new one, and the page that then differs.
 SLIPS = (
-    ('a clause', 'crates/ratio64/src/fraction.rt', 'IfErr result (λ _. den ≤ℤ pos 0)', 'IfErr result (λ _. den <ℤ pos 0)'),
-    ('a definition', 'crates/integer_core/specs/Divisors.antt', 'pub divides_left : Divides g a', 'pub divides_left : Divides a g'),
-    ('a lemma for callers', 'crates/num_integer/proofs/Coprimes.antt', 'pub natural_gcd_positive : {n m d : ℕ} → 0 < m',
-     'pub natural_gcd_positive : {n m d : ℕ} → 0 < n'),
-    ('a doc comment', 'crates/calendar/src/feasts.rt', '/// Returns', '/// Computes'),
-    ('a line of a page', 'docs/reference/modular.md', 'fn inverse_modulo', 'fn modular_inverse'),
+    ('a clause that differs', 'crates/ratio64/src/fraction.rt', 'IfErr result (λ _. den ≤ℤ pos 0)',
+     'IfErr result (λ _. den <ℤ pos 0)', 'ratio64.md'),
+    ('a definition that differs', 'crates/integer_core/specs/Divisors.antt', 'pub divides_left : Divides g a',
+     'pub divides_left : Divides a g', 'integer_core.md'),
+    ('a lemma for callers that differs', 'crates/num_integer/proofs/Coprimes.antt',
+     'pub natural_gcd_positive : {n m d : ℕ} → 0 < m', 'pub natural_gcd_positive : {n m d : ℕ} → 0 < n', 'num_integer.md'),
+    ('a doc comment that differs', 'crates/calendar/src/feasts.rt', '/// Returns', '/// Computes', 'calendar.md'),
+    ('a line of a page that differs', 'docs/reference/modular.md', 'fn inverse_modulo', 'fn modular_inverse', 'modular.md'),
+    ('an import that differs', 'docs/reference/num_integer.md', 'use num_integer::checked::{binomial, multinomial, row};',
+     'use num_integer::{binomial, multinomial};', 'num_integer.md'),
+    ('a place told by the last module of its path', 'scripts/reference.py',
+     '(self.home(public, path) if path else public) is module', 'public is module or path and module.path[-1:] == path[-2:-1]',
+     'num_integer.md'),
 )
 
 
+def run_in(copy, *words):
+    return subprocess.run([f'{copy}/scripts/reference.py', *words], capture_output=True, text=True, check=False)
+
+
 def self_test():
-    """The number of planted differences that a comparison does not find."""
+    """The number of slips that the comparison does not find in a copy whose pages were those of its sources. A crash or a
+    form that is refused finds nothing."""
     missed = 0
     with tempfile.TemporaryDirectory() as copy:
         for part in ('crates', 'docs/reference', 'rust/by_hand', 'scripts'):
-            shutil.copytree(REPOSITORY / part, pathlib.Path(copy, part))
-        for slip, path, old, new in SLIPS:
+            shutil.copytree(REPOSITORY / part, pathlib.Path(copy, part), ignore=shutil.ignore_patterns('out'))
+        made, same = run_in(copy), run_in(copy, '--check')
+        if made.returncode or same.returncode or same.stdout:
+            print('FAIL reference.py does not make the pages of the copy', made.stderr, same.stdout, same.stderr, sep='\n')
+            return 1
+        for slip, path, old, new, page in SLIPS:
             file = pathlib.Path(copy, path)
             text = file.read_text()
             file.write_text(text.replace(old, new, 1))
-            check = subprocess.run([f'{copy}/scripts/reference.py', '--check'], capture_output=True, check=False)
+            check = run_in(copy, '--check')
             file.write_text(text)
-            found = old in text and check.returncode == 1
+            found = (old in text and check.returncode == 1 and not check.stderr
+                     and f'docs/reference/{page} differs' in check.stdout)
             missed += not found
-            print(f'{"ok  " if found else "FAIL"} reference.py finds {slip} that differs')
+            print(f'{"ok  " if found else "FAIL"} reference.py finds {slip}')
     return missed
 
 
@@ -428,7 +462,8 @@ def main():
     try:
         made = Reference().made()
     except Unknown as form:
-        sys.exit(f'reference.py: {form}')
+        print(f'reference.py: {form}', file=sys.stderr)
+        sys.exit(2)
     if '--check' not in sys.argv:
         PAGES.mkdir(parents=True, exist_ok=True)
         for page in PAGES.glob('*.md'):

@@ -12,7 +12,7 @@ import zipfile
 
 HERE = pathlib.Path(__file__).resolve().parent
 ARCHIVE = HERE.parent.parent / 'crates' / 'cellarcove_c' / 'out' / 'libcellarcove_c.a'
-NAME, VERSION, TAG = 'cellarcove', '0.1.0', 'py3-none-linux_x86_64'
+NAME, VERSION, TAG = 'cellarcove', '0.3.0', 'py3-none-linux_x86_64'
 INFO = f'{NAME}-{VERSION}.dist-info'
 
 
