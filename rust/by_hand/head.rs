@@ -1,8 +1,8 @@
-//! Integer division, divisors, roots and coefficients for every integer type, after the crate
-//! `num-integer`; exact fractions, arithmetic modulo a number, dates, and small models that use
-//! them.
+//! Integer division, divisors and coefficients for every integer type, and roots for those of at
+//! most 64 bits, after the crate `num-integer`; exact fractions, arithmetic modulo a number, dates,
+//! and small models that use them.
 //!
-//! These sources are not written by hand. They are those of the proved library without their
+//! But for this page and `shift.rs`, these sources are not written by hand. They are those of the proved library without their
 //! contracts: each body was proved in Rattle, which is Rust with contracts, for arguments in its
 //! domain, against the contract of the same name. The section `# Proved` of an item has that
 //! contract, and [`definitions`] has its words.
