@@ -3,15 +3,13 @@
 of a function of a crate of crates.txt.
 
     scripts/laws.py                 a line for each law that stands in none, and a count; status 1 where there is one
-    scripts/laws.py --self-test     plants a law in no clause, and takes a clause away, in a copy; status 1 where one is not
-                                    found
+    scripts/laws.py --self-test     plants slips in a sample; status 1 where one is not found
 
 A law is a definition that is `Type N` itself. One with arguments is a word: it stands in a clause too, or a law cites it. A
 name counts where the file imports it from that `Laws`. A form that is not known is refused by file and line; then the
 status is 2."""
 import pathlib
 import re
-import shutil
 import sys
 import tempfile
 
@@ -83,41 +81,85 @@ def missing(root):
     return count, lines
 
 
+# A repository in which each law stands in a clause.
+SAMPLE = {
+    'crates.txt': '# the crates\nsample: std\nsample_tests: sample\n',
+    'crates/sample/src/lib.rt': '//! Sample.\n',
+    'crates/sample/specs/Laws.antt': '''\
+-- The laws.
+
+-- one is one
+abbrev pub OneIsOne : Type 0
+OneIsOne = IsSame 1
+
+abbrev pub IsSame : ℕ → Type 0
+IsSame n = n ≡ n
+
+-- a law of each property
+abbrev pub LawOfEach : {X : Type 0} → (X → ℤ) → Type 0
+LawOfEach value = (x : ℤ) → x ≡ x
+''',
+    'crates/sample_tests/src/lib.rt': '''\
+//! Callers.
+ghost use Rattle.sample.specs.Laws.{LawOfEach, OneIsOne};
+
+#[cfg(test)]
+mod tests;
+''',
+    'crates/sample_tests/src/tests.rt': '''\
+//! The laws.
+ghost use Rattle.sample.specs.Laws.{OneIsOne, LawOfEach};
+
+struct Holder;
+
+impl Holder {
+    fn law<T: Integer>(&self)
+        ensures law_of_each { LawOfEach T.value }
+    {
+    }
+}
+
+fn laws()
+    ensures one_is_one { OneIsOne }
+{
+}
+''',
+}
+LAWS, TESTS = 'crates/sample/specs/Laws.antt', 'crates/sample_tests/src/tests.rt'
+# What is planted: a slip, its file, an old text and a new one, and the definition that then stands in no clause.
+SLIPS = (
+    ('a law in no clause', LAWS, '-- one is one', 'abbrev pub TwoIsTwo : Type 0\nTwoIsTwo = IsSame 2\n', 'TwoIsTwo'),
+    ('a law that another cites, in no clause', LAWS, '-- one is one',
+     'abbrev pub TwoIsTwo : Type 0\nTwoIsTwo = IsSame 2\n\nabbrev pub Both : Type 0\nBoth = TwoIsTwo\n', 'TwoIsTwo'),
+    ('a word that no law cites', LAWS, 'OneIsOne = IsSame 1', 'OneIsOne = 1 ≡ 1', 'IsSame'),
+    ('a clause that is gone', TESTS, '    ensures one_is_one { OneIsOne }\n', '', 'OneIsOne'),
+    ('a clause that is a comment', TESTS, '    ensures one', '    // ensures one', 'OneIsOne'),
+    ('a law that is required', TESTS, 'ensures law_of_each', 'requires law_of_each', 'LawOfEach'),
+    ('a name of another file', TESTS, 'specs.Laws.{OneIsOne, ', 'specs.Laws.{', 'OneIsOne'),
+    ('a crate that is not proved', 'crates.txt', 'sample_tests: sample\n', '# sample_tests: sample\n', 'OneIsOne'),
+)
+
+
 def self_test():
-    """The number of slips that are not found, in a copy in which each law stands in a clause."""
+    """The number of slips that are not found in a sample, of which nothing is said before."""
     missed = 0
     with tempfile.TemporaryDirectory() as folder:
-        copy = pathlib.Path(folder)
-        shutil.copytree(REPOSITORY / 'crates', copy / 'crates', ignore=shutil.ignore_patterns('out'))
-        shutil.copy(REPOSITORY / 'crates.txt', copy / 'crates.txt')
-        before = set(missing(copy)[1])
-        for slip, path, old, new, name in SLIPS:
-            file = copy / path
-            text = file.read_text()
-            file.write_text(text.replace(old, new, 1))
-            after = set(missing(copy)[1])
-            file.write_text(text)
-            found = text.count(old) == 1 and len(after - before) == 1 and name in (after - before).pop()
+        root = pathlib.Path(folder)
+        for name, text in SAMPLE.items():
+            (root / name).parent.mkdir(parents=True, exist_ok=True)
+            (root / name).write_text(text)
+        if missing(root) != (1, []):
+            print('FAIL laws.py: something is said of the sample', *missing(root)[1], sep='\n')
+            return 1
+        for slip, name, old, new, law in SLIPS:
+            text = SAMPLE[name]
+            (root / name).write_text(text.replace(old, new, 1))
+            lines = missing(root)[1]
+            (root / name).write_text(text)
+            found = text.count(old) == 1 and f'{LAWS}: no function ensures `{law}`' in lines
             missed += not found
             print(f'{"ok  " if found else "FAIL"} laws.py finds {slip}')
     return missed
-
-
-NUMBERS = 'crates/num_integer_tests/src/tests/from_contracts.rt'
-SLIPS = (
-    ('a law in no clause', 'crates/num_integer/specs/Laws.antt', 'abbrev pub LcmExists : Type 0\n',
-     'abbrev pub LcmIsThere : Type 0\nLcmIsThere = LcmExists\n\nabbrev pub LcmExists : Type 0\n', '`LcmIsThere`'),
-    ('a clause that is gone', NUMBERS, '    ensures root_is_only { RootIsOnly }\n', '', '`RootIsOnly`'),
-    ('a clause that is a comment', NUMBERS, '    ensures first_root { FirstRoot }\n',
-     '    // ensures first_root { FirstRoot }\n', '`FirstRoot`'),
-    ('a law that is only required', NUMBERS, '    ensures gcd_of_zeros { GcdOfZeros }\n',
-     '    requires gcd_of_zeros { GcdOfZeros }\n', '`GcdOfZeros`'),
-    ('a name that means another word', NUMBERS, 'ghost use Rattle.num_integer.specs.Laws.{DivisionExists, ',
-     'ghost use Rattle.num_integer.specs.Other.{DivisionExists};\nghost use Rattle.num_integer.specs.Laws.{', '`DivisionExists`'),
-    ('a word that no law cites', 'crates/num_integer/specs/Laws.antt',
-     'RowIsPalindrome = (n : ℤ) → IsPalindrome (row_of n)', 'RowIsPalindrome = (n : ℤ) → reverse (row_of n) ≡ row_of n',
-     '`IsPalindrome`'),
-)
 
 
 def main():

@@ -2,10 +2,10 @@
 //! most 64 bits, after the crate `num-integer`; exact fractions, arithmetic modulo a number, dates,
 //! and small models that use them.
 //!
-//! But for this page and `shift.rs`, these sources are not written by hand. They are those of the
-//! proved library without their contracts: each body was proved in Rattle, which is Rust with
-//! contracts, for arguments in its domain, against the contract of the same name. The section `# Proved` of an item has that
-//! contract, and [`definitions`] has its words.
+//! But for this page and a few short files, these sources are not written by hand. They are those
+//! of the proved library without their contracts: each body was proved in Rattle, which is Rust with
+//! contracts, for arguments in its domain, against the contract of the same name. The section
+//! `# Proved` of an item has that contract, and [`definitions`] has its words.
 //!
 //! The domain is what a comment says below "May be called". Anywhere else a call panics or returns
 //! some number. The calls of [`checked`] have no condition: they return `None` there.
