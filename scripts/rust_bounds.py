@@ -274,3 +274,102 @@ class Bounds:
                         eraser.drop_from_list(k)
                     elif eraser.at(k) == name:
                         eraser.refuse(k, f'`{name}`, which is imported by itself')
+
+
+# ---- a test of the rules
+
+TRAIT = 'pub trait Integer: Copy + Num {}'
+# Of a crate with this line below `TRAIT`, what is refused at that line.
+REFUSED = [
+    ('integer_core', 'fn first<T: Integer>(items: &[T]) -> T { items[0] }', 'a copy of an item of `items`'),
+    ('integer_core', 'fn is_one<T: Integer>(x: T) -> bool { is_zero(predecessor(x)) }', '`is_zero` of what is no name'),
+    ('integer_core', 'fn is_high<T: Integer>(x: T) -> bool { !is_negative(x) }', '`is_negative` beside an operator'),
+    ('integer_core', 'trait Doubled: Integer { fn twice(&self) -> Self { sum(*self, *self) } }',
+     'the trait `Doubled`, whose methods copy'),
+    ('modular', 'fn twice<T>(x: T) -> T where T: Integer { sum(x, x) }',
+     'the bound `Integer`, which does not stand in `<>` after `twice`'),
+    ('modular', 'fn is_odd(x: impl Integer) -> bool { x.is_odd() }',
+     'the bound `Integer`, which does not stand in `<>` after `is_odd`'),
+]
+# What is refused of the trait itself.
+REFUSED_TRAITS = [
+    ('pub trait Integer: Num {}', '`Integer` whose first supertrait is not `Copy`'),
+    ('pub trait Integer: Copy + Num { fn div_ceil(&self, other: &Self) -> Self { sum(*self, *other) } }',
+     '`div_ceil` of `Integer`, which copies; that of num-integer does not'),
+    ('pub trait Integer: Copy + Num { fn inc(&mut self) { *self = one(); } }',
+     '`inc` of `Integer`, which does not copy; that of num-integer does'),
+]
+# Of a crate with this line below `TRAIT`, what becomes of the line.
+WRITTEN = [
+    ('integer_core', 'fn square<T: Integer>(x: T) -> T { product(x, x) }',
+     'fn square<T: Integer + Clone>(x: T) -> T { product(x.clone(), x) }'),
+    ('integer_core', 'fn powers<T: Integer>(x: T) -> T { let mut y = one(); loop { y = product(y, x); } }',
+     'fn powers<T: Integer + Clone>(x: T) -> T { let mut y = one(); loop { y = product(y, x.clone()); } }'),
+    ('integer_core', 'fn low<T: Integer>(x: T, y: T) -> T { if is_negative(x) { x } else { y } }',
+     'fn low<T: Integer>(x: T, y: T) -> T { if x < T::zero() { x } else { y } }'),
+    ('integer_core', 'use operators::{is_zero, one}; fn is_none<T: Integer>(x: T) -> bool { is_zero(x) }',
+     'use operators::{ one}; fn is_none<T: Integer>(x: T) -> bool { x.is_zero() }'),
+    ('integer_core', 'impl<T: Integer> Row<T> { fn swapped(self) -> Row<T> { Row { x: self.y, y: self.x } } }',
+     'impl<T: Integer> Row<T> { fn swapped(self) -> Row<T> { Row { x: self.y, y: self.x } } }'),
+    ('integer_core', 'fn parts<T: Integer>(row: Row<T>) -> (T, Row<T>) { (row.x, row) }',
+     'fn parts<T: Integer + Clone>(row: Row<T>) -> (T, Row<T>) { (row.x.clone(), row) }'),
+    ('modular', 'fn square<T: Integer>(x: T) -> T { product(x, x) }',
+     'fn square<T: Integer + Copy>(x: T) -> T { product(x, x) }'),
+    ('modular', 'fn pages<T: Integer>(x: T, y: T) -> T { div_ceil(x, y) }',
+     'fn pages<T: Integer>(x: T, y: T) -> T { div_ceil(x, y) }'),
+    ('modular', 'trait Doubled: Integer { fn twice(&self) -> Self { sum(*self, *self) } }',
+     'trait Doubled: Integer + Copy { fn twice(&self) -> Self { sum(*self, *self) } }'),
+    ('modular', 'fn two<T: Integer>(x: T) -> T { sum(x, x) } fn call<T: Integer>(x: T) -> T { two(x) }',
+     'fn two<T: Integer + Copy>(x: T) -> T { sum(x, x) } fn call<T: Integer + Copy>(x: T) -> T { two(x) }'),
+]
+
+
+def written(folder, crate, text):
+    """What the rules make of a crate with this text, beside the trait in its own crate."""
+    import erase
+    for name in CRATES:
+        (folder / name / 'src').mkdir(parents=True, exist_ok=True)
+        (folder / name / 'src' / 'lib.rt').write_text(text if name == crate else TRAIT if name == CLONING else '')
+    library = Library(folder)
+    rules = Bounds(library)
+    for module in library.modules.values():
+        rules.write(erase.Eraser(module, library, None))
+    return ''.join(library.modules[crate, ()].source.texts)
+
+
+def refusal(folder, crate, text):
+    try:
+        return written(folder, crate, text)
+    except Unknown as form:
+        return str(form)
+
+
+def self_test(folder):
+    """The lines of the test that are not as they should be."""
+    for crate, line, reason in REFUSED:
+        first = TRAIT if crate == CLONING else ''
+        said = refusal(folder, crate, f'{first}\n{line}')
+        if said != f'crates/{crate}/src/lib.rt:2: {reason}':
+            yield f'{line}\n    gives {said}'
+    for line, reason in REFUSED_TRAITS:
+        said = refusal(folder, CLONING, line)
+        if said != f'crates/{CLONING}/src/lib.rt:1: {reason}':
+            yield f'{line}\n    gives {said}'
+    for crate, line, expected in WRITTEN:
+        first = TRAIT if crate == CLONING else ''
+        said = refusal(folder, crate, f'{first}\n{line}').split('\n', 1)[-1]
+        if said != expected:
+            yield f'{line}\n    gives {said}'
+
+
+def main():
+    if sys.argv[1:] != ['--self-test']:
+        sys.exit('usage: scripts/rust_bounds.py --self-test')
+    with tempfile.TemporaryDirectory() as made:
+        wrong = list(self_test(pathlib.Path(made) / 'crates'))
+    print('\n'.join(wrong + [f'{len(REFUSED) + len(REFUSED_TRAITS)} forms are refused, {len(WRITTEN)} are written']))
+    sys.exit(bool(wrong))
+
+
+if __name__ == '__main__':
+    main()

@@ -129,17 +129,23 @@ class Body:
         return False
 
     def paths(self, use):
-        """The places that may run after a use: those to the end, and those of the next pass of each loop around it."""
+        """The places that may run after a use: those to the end, and those of the next pass of each loop around it. A
+        statement that gives the name a new value, as `x = f(x)`, is the last one."""
+        begin = self.statement(use.first)
+        if self.at(begin) == self.at(use.first) and self.is_replaced(Use(begin, begin)):
+            yield range(use.last + 1, next(k for k in range(use.last, self.last + 1) if self.at(k) in (';', '}')))
+            return
         yield self.rest(use, self.last)
         for k in range(self.first, use.first):
             if self.at(k) in LOOPS:
                 last = self.source.close(self.source.end(k, '{'))
                 if last > use.last:
-                    yield self.rest(use, last) + list(range(k, use.first))
+                    yield self.rest(use, last) + list(range(k, use.first + 1))
 
     def rest(self, use, last):
         """The places from a use to `last`, without the branches that run instead of it."""
-        places, k, leaves = [], use.last + 1, self.leaves(use.first)
+        places, k = [], use.last + 1
+        leaves = self.at(self.statement(use.first)) == 'return'
         while k <= last and not (leaves and self.at(k) == ';'):
             places.append(k)
             while self.opened.get(k, use.first) < use.first and self.at(k + 1) == 'else':
@@ -147,8 +153,8 @@ class Body:
             k += 1
         return places
 
-    def leaves(self, k):
-        """Whether the statement at `k` is a `return`."""
-        while self.at(k) not in (';', '{', '}', 'return'):
+    def statement(self, k):
+        """The place at which the statement of `k` begins."""
+        while self.at(k - 1) not in (';', '{', '}'):
             k -= 1
-        return self.at(k) == 'return'
+        return k
