@@ -113,8 +113,12 @@ is_replaced() {
         head -n 1 "$work/list" | grep -F "($work/rust/num-integer)"
 }
 
-# dependent_tests NAME WORD..: runs the tests of a package in the tree that the words tell cargo.
-dependent_tests() { (cd "$work/tree" && cargo test --offline -j "${RT_JOBS:-$(nproc)}" -p "$@"); }
+# dependent_tests NAME WORD..: runs the tests of a package in the tree that the words tell cargo. They are built without
+# what a debugger needs, which takes less time.
+dependent_tests() {
+    (cd "$work/tree" && CARGO_PROFILE_DEV_DEBUG=0 CARGO_INCREMENTAL=0 \
+        cargo test --offline -j "${RT_JOBS:-$(nproc)}" -p "$@")
+}
 
 check_dependents() {
     local name words begin=$SECONDS
