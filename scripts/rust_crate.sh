@@ -1,9 +1,9 @@
 #!/usr/bin/env bash
 # Checks the crate of plain Rust in rust/: its sources are those that scripts/erase.py makes, it builds without a
 # warning, its tests and num-integer's own pass, and so do the checksums of compare/. Then the package num-integer of
-# rust/ replaces the original below packages of other authors, and their tests run. Works in a temporary folder, offline,
-# with Debian's packages of these crates, which it installs where it may and says so. Prints a line for each check, and a
-# count at the end. With --write it writes the sources, and checks nothing.
+# rust/ replaces the original below packages of other authors, and their tests run. Works in a temporary folder,
+# offline, with Debian's packages of these crates, which it installs if it may, and says so. Prints a line for each
+# check, and a count at the end. With --write it writes the sources, and checks nothing.
 set -uo pipefail
 cd "$(dirname "$0")/.."
 

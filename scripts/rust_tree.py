@@ -4,8 +4,8 @@
     scripts/rust_tree.py REGISTRY NUM_INTEGER OUT NAME..
 
 REGISTRY is a folder of sources, from which each package is copied. NUM_INTEGER is the folder of the package that
-replaces the one of that name, for each of them and for what they depend on. Dev-dependencies that the registry does not
-have, and benches, are taken out of the manifests, and each is printed."""
+replaces the one of that name, for each of them and for what they depend on. Benches, and dev-dependencies that the
+registry does not have, are taken out of the manifests. A line for each package says what."""
 import pathlib
 import re
 import shutil
