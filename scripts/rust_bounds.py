@@ -29,8 +29,8 @@ BEFORE_COMPARISON = ('if', 'while', '(', '{', ';', '=', ',')
 
 @dataclass
 class Generic:
-    """Code with a bound: a function, an implementation, a struct or a trait. `over` is the name of its type, `bounds` has
-    the bounds of that type by place, and `method` is whether it is a method of `Integer`."""
+    """Code with a bound: a function, an implementation, a struct or a trait. `over` is the name of its type, `bounds`
+    has the bounds of that type by place, and `method` is whether it is a method of `Integer`."""
     module: Module
     item: Item
     over: str
