@@ -15,7 +15,9 @@ ghost use Rattle.calendar.specs.Laws.{DateIsOnly, DateOfPartsIsOnly, DateOfYearD
 ghost use Rattle.calendar.specs.Weeks.{HasWeekday};
 ghost use Rattle.calendar.specs.declared.date.Date.{Date};
 
-use calendar::{Date, DateError, IsoWeek, Weekday, days_between, easter, is_leap_year};
+use calendar::{
+    Date, DateError, IsoWeek, Weekday, days_between, days_in_month, easter, is_leap_year,
+};
 use std::alloc::{AllocError, Global};
 use std::hash::{Hash, Hasher};
 
@@ -201,6 +203,17 @@ fn read_back(alloc: Global, date: Date) -> Result<Result<Date, DateError>, Alloc
 {
     let text = date.to_string(alloc)?;
     Ok(text.as_str().parse())
+}
+
+/// The days of the months of a year, added: the invariant of the sum is that each month has at most 31.
+fn days_of_months(year: i64) -> u16
+    ensures { result ≤ 372 }
+{
+    let mut days = 0;
+    for month in 1..=12 {
+        days += u16::from(days_in_month(year, month));
+    }
+    days
 }
 
 /// A week later the day of the week is the same.

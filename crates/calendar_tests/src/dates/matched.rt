@@ -203,15 +203,6 @@ fn rent(rents: &[u32; 4], date: &Date) -> u32 {
     rents[usize::from(days_in_month(date.year, date.month)) - 28]
 }
 
-/// The days of the months of a year, added.
-fn days_of_months(year: i64) -> u16 {
-    let mut days = 0;
-    for month in 1..=12 {
-        days += u16::from(days_in_month(year, month));
-    }
-    days
-}
-
 /// The days of two years, added.
 fn days_of_two_years(year: i64) -> Option<u16>
     ensures { IfSome result (λ days. 730 ≤ days × days ≤ 732) }
