@@ -99,6 +99,6 @@ pub one_more_too_great : {fits : ℤ → Type 0} {low high turns : ℤ} → IsRa
 one_more_too_great range from_zero none more_fits = none (within_fits range more_fits (inl (from_zero, omega (arith, linear))))
 
 -- no count is below 0
-pub count_from_zero : {X : Type 0} (fits : ℤ → Type 0) (value : X → ℤ) {N : Type 0} {from : ℤ} {Has : ℤ → Type 0} (r : Option X) → MatchOption r N (λ n. fits (value n) × IsCountFrom from Has (value n)) → IfSome r (λ n. pos 0 ≤ℤ value n)
-count_from_zero fits value (Some n) h = omega (arith, ints, h.1.counted)
-count_from_zero fits value None h = tt
+pub count_from_zero : {X : Type 0} (fits : ℤ → Type 0) (value : X → ℤ) (N : Type 0) (from : ℤ) (Has : ℤ → Type 0) (r : Option X) → MatchOption r N (λ n. fits (value n) × IsCountFrom from Has (value n)) → IfSome r (λ n. pos 0 ≤ℤ value n)
+count_from_zero fits value N from Has (Some n) h = omega (arith, ints, h.1.counted)
+count_from_zero fits value N from Has None h = tt

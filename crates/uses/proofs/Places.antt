@@ -48,16 +48,16 @@ pub record IsItemAnswer {X : Type 0} (fits : ℤ → Type 0) (value : X → ℤ)
   pub place : AnswersWhere (EachFits fits (λ item. IsPlace item s p q)) (λ item. fits (value item) × IsPlace (value item) s p q) r
   pub only : IfSome r (λ found. IsOnly (λ item. IsPlace item s p q) (value found))
 
-only_item : {X : Type 0} {fits : ℤ → Type 0} {value : X → ℤ} {p q s : ℤ} (r : Option X) → AnswersWhere (EachFits fits (λ item. IsPlace item s p q)) (λ item. fits (value item) × IsPlace (value item) s p q) r
+only_item : {X : Type 0} (fits : ℤ → Type 0) (value : X → ℤ) (p q s : ℤ) (r : Option X) → AnswersWhere (EachFits fits (λ item. IsPlace item s p q)) (λ item. fits (value item) × IsPlace (value item) s p q) r
     → IfSome r (λ found. IsOnly (λ item. IsPlace item s p q) (value found))
-only_item (Some x) h = λ item k. k.equation ∙ sym h.1.1.equation
-only_item None h = tt
+only_item fits value p q s (Some x) h = λ item k. k.equation ∙ sym h.1.1.equation
+only_item fits value p q s None h = tt
 
 pub item_answer : {X : Type 0} (fits : ℤ → Type 0) (value : X → ℤ) {p q s : ℤ} (r : Option X) → pos 0 ≤ℤ q → q <ℤ s
     → AnswersWhere (fits (p *ℤ s +ℤ q)) (λ x. fits (value x) × (value x ≡ p *ℤ s +ℤ q)) r → IsItemAnswer fits value p q s r
 item_answer fits value {p} {q} {s} r from_zero below h =
     let place = answers_only fits (λ item. IsPlace item s p q) value r (own_item from_zero below) (λ y k. sym k.equation) h in
-    record { place = place; only = only_item r place }
+    record { place = place; only = only_item fits value p q s r place }
 
 -- where the item does not fit, there is none
 pub no_item : {X : Type 0} (fits : ℤ → Type 0) (value : X → ℤ) {p q s : ℤ} → pos 0 ≤ℤ q → q <ℤ s → ¬ (fits (p *ℤ s +ℤ q)) → IsItemAnswer fits value p q s None

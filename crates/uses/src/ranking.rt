@@ -33,6 +33,7 @@ pub fn rank_fits(choice: &[u64]) -> bool
 }
 
 /// Returns the rank of a choice, or `None` if it does not fit.
+#[tactic(auto, using(crate::proofs::Choices::rank_steps))]
 fn checked_rank(choice: &[u64]) -> Option<u64>
     ensures { AnswersWhere (rank_of choice.now < 2 ^ 64) (λ r. r ≡ rank_of choice.now) result }
 {

@@ -19,7 +19,7 @@ returns-else-are_congruent-clause-count g c =
     found_or_beyond _ _ _ _ (counted.other (iff_false c.are_congruent.ensures c.if-are_congruent.false)) c.difference-before.ensures
 
 pub returns-in_ok-before-clause-from_zero : goal.returns-in_ok-before-clause-from_zero
-returns-in_ok-before-clause-from_zero g c = count_from_zero g.T.Number.fits g.T.Number.value _ (returns-in_ok-before-clause-count g c)
+returns-in_ok-before-clause-from_zero g c = count_from_zero g.T.Number.fits g.T.Number.value _ _ _ _ (returns-in_ok-before-clause-count g c)
 
 pub returns-else-are_congruent-clause-from_zero : goal.returns-else-are_congruent-clause-from_zero
-returns-else-are_congruent-clause-from_zero g c = count_from_zero g.T.Number.fits g.T.Number.value _ (returns-else-are_congruent-clause-count g c)
+returns-else-are_congruent-clause-from_zero g c = count_from_zero g.T.Number.fits g.T.Number.value _ _ _ _ (returns-else-are_congruent-clause-count g c)
