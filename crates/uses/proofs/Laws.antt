@@ -44,19 +44,19 @@ padding_is_only = λ offset alignment bytes other from_zero below multiple other
 -- ---- schedules
 
 -- a time that is not in the type is not one in the type
-not_at : {fits : ℤ → Type 0} {now t u : ℤ} {P : ℤ → Type 0} → IsLeastFrom now P t → fits t → IsLeastFrom now P u → ¬ (fits u) → ⊥
-not_at {fits} at_time time_fits beyond none = none (subst fits (least_is_only beyond _ at_time) time_fits)
+not_at : (fits : ℤ → Type 0) {now t u : ℤ} {P : ℤ → Type 0} → IsLeastFrom now P t → fits t → IsLeastFrom now P u → ¬ (fits u) → ⊥
+not_at fits at_time time_fits beyond none = none (subst fits (least_is_only beyond _ at_time) time_fits)
 
 same_time : {X : Type 0} (value : X → ℤ) (fits P : ℤ → Type 0) → ((x y : X) → value x ≡ value y → x ≡ y) → (now : ℤ) (answer other : CommonSolution X) → IsLeastTime value fits now P answer → IsLeastTime value fits now P other → other ≡ answer
 same_time value fits P one now Never Never h k = refl
 same_time value fits P one now Beyond Beyond h k = refl
 same_time value fits P one now (At t) (At u) h k = ap At (one u t (least_is_only h.1 (value u) k.1))
-same_time value fits P one now Never Beyond h k = absurd (h k.0 k.1.0.holds)
+same_time value fits P one now Never Beyond h k = absurd (h k.0 k.1.holds)
 same_time value fits P one now Never (At u) h k = absurd (h (value u) k.1.holds)
-same_time value fits P one now Beyond Never h k = absurd (k h.0 h.1.0.holds)
+same_time value fits P one now Beyond Never h k = absurd (k h.0 h.1.holds)
 same_time value fits P one now (At t) Never h k = absurd (k (value t) h.1.holds)
-same_time value fits P one now Beyond (At u) h k = absurd (not_at k.1 k.0 h.1.0 h.1.1)
-same_time value fits P one now (At t) Beyond h k = absurd (not_at h.1 h.0 k.1.0 k.1.1)
+same_time value fits P one now Beyond (At u) h k = absurd (not_at fits k.1 k.0 h.1 h.2)
+same_time value fits P one now (At t) Beyond h k = absurd (not_at fits h.1 h.0 k.1 k.2)
 
 pub least_time_is_only : {X : Type 0} (value : X → ℤ) (fits P : ℤ → Type 0) → LeastTimeIsOnly value fits P
 least_time_is_only value fits P = λ one now answer h other k. same_time value fits P one now answer other h k

@@ -85,13 +85,19 @@ fn items_by_signed_numbers(rt: HostRuntime) {
     let mut items = [0; 100];
     items[96] = 5;
     items[99] = 4;
-    assert!(rt; eight_items(&items, 12) == [5, 0, 0, 4].as_slice() && eight_items(&items, -1).is_empty());
+    assert!(rt;
+        eight_items(&items, 12) == [5, 0, 0, 4].as_slice() && eight_items(&items, -1).is_empty()
+    );
     assert!(rt; greatest_of_part(&items, 6) == 5 && greatest_of_part(&items, 0) == 0);
 }
 
 #[test]
 fn items_at_places(rt: HostRuntime) {
-    let items = (item_of_ten(2, 3), item_of_ten(-1, 9), item_of_ten(i64::MAX, 0));
+    let items = (
+        item_of_ten(2, 3),
+        item_of_ten(-1, 9),
+        item_of_ten(i64::MAX, 0),
+    );
     assert!(rt; items == (Some(23), Some(-1), None));
     assert!(rt; item_up_to_the_greatest(15, 15) == 255 && item_up_to_the_greatest(16, 0) == 255);
     assert!(rt; item_of_few(15, 14) == 254);

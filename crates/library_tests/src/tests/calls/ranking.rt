@@ -81,7 +81,9 @@ fn ranks_of_read_numbers(rt: HostRuntime) {
         *number = i as u64;
     }
     assert!(rt; rank_of_read(&forty, 80) == Some(0) && rank_of_counted(&forty, 80).is_none());
-    assert!(rt; rank_of_read(&[0, 2, 3], 5) == Some(2) && rank_of_counted(&[0, 2, 3], 5) == Some(2));
+    assert!(rt;
+        rank_of_read(&[0, 2, 3], 5) == Some(2) && rank_of_counted(&[0, 2, 3], 5) == Some(2)
+    );
     assert!(rt; rank_of_read(&[0, 2, 2], 5).is_none() && rank_of_read(&[0, 2, 5], 5).is_none());
     assert!(rt; rank_of_read(&[], 0) == Some(0) && rank_of_read(&[1, 0], 5).is_none());
     assert!(rt; rank_of_read(&[u64::MAX], u64::MAX).is_none() && !rank_fits(&[0, u64::MAX]));

@@ -1,4 +1,4 @@
-use Rattle.std.proofs.Common.{arith, inr, refl}
+use Rattle.std.proofs.Common.{arith, inr}
 use Rattle.std.proofs.lemmas.Bool.{iff_false}
 use Rattle.num_integer.proofs.ForCallers.{from_not_less, linear, within_fits}
 use Rattle.uses.proofs.Places.{end_fits, item_answer, item_before, no_item, page_fits, rest_fits}
