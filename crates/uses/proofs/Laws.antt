@@ -1,14 +1,12 @@
 -- The laws of specs/Laws.antt, a lemma each.
 use Rattle.std.specs.Prelude.{◌≡◌, ◌<◌, ◌≤◌, ◌≤ℤ◌, ◌<ℤ◌, ◌+ℤ◌, ◌-ℤ◌, ◌*ℤ◌, ℕ, ℤ, pos, List, [], ◌∷◌, length}
 use Rattle.std.specs.List.{AllWithin}
-use Rattle.std.proofs.Common.{arith, ap, inl, inr, refl, subst, sym}
+use Rattle.std.proofs.Common.{arith, ap, inl, inr, refl, subst}
 use Rattle.std.proofs.lemmas.Bool.{cases_lt}
 use Rattle.modular.specs.Congruences.{AreCongruent}
 use Rattle.modular.specs.declared.common_solutions.CommonSolution.{CommonSolution}
 use Rattle.modular.specs.declared.common_solutions.CommonSolution.TheVariants.{Never, Beyond, At}
 use Rattle.modular.proofs.ForCallers.{congruent-equal}
-use Rattle.num_integer.specs.Division.{IsCeiled, IsQuotient}
-use Rattle.num_integer.specs.Divisors.{Divides}
 use Rattle.num_integer.specs.Least.{IsLeastFrom}
 use Rattle.num_integer.proofs.ForCallers.{Divides-difference, ceiled_quotient_least, expand, least_is_only, linear, products}
 use Rattle.uses.specs.Laws.{AlignedUpIsOnly, ChoiceOfRankIsOnly, LeastTimeIsOnly, LowerBoundIsOnly, MidpointIsOnly, PaddingIsOnly, PagesAreOnly, PartsDifferByOne, RankIsBelow}

@@ -1,6 +1,6 @@
 -- The choice of the next rank.
 use Rattle.std.specs.Prelude.{◌≡◌, ◌≢◌, ◌<◌, ◌≤◌, ◌+◌, ◌-◌, ℕ, zero, suc, List, length, slice_index, slice_index_or, slice_set}
-use Rattle.std.proofs.Common.{arith, inl, inr, refl, sym, ◌∙◌, add-one}
+use Rattle.std.proofs.Common.{arith, inl, inr, refl, ◌∙◌, add-one}
 use Rattle.std.proofs.lemmas.Bool.{cases_lt}
 use Rattle.std.proofs.lemmas.List.{get_or_default, get_or_past, get_or-set_other, get_or-set_same, length-set}
 use Rattle.std.proofs.lemmas.List.Elements.{All-from_get_or}

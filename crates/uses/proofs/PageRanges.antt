@@ -1,11 +1,11 @@
 -- The items of a page among the items counted from 0.
-use Rattle.std.specs.Prelude.{◌≡◌, ◌↔◌, ◌≤ℤ◌, ◌<ℤ◌, ◌+ℤ◌, ◌-ℤ◌, ◌*ℤ◌, ℤ, pos}
+use Rattle.std.specs.Prelude.{◌≡◌, ◌≤ℤ◌, ◌<ℤ◌, ◌+ℤ◌, ◌-ℤ◌, ◌*ℤ◌, ℤ, pos}
 use Rattle.std.proofs.Common.{arith, refl}
 use Rattle.std.proofs.lemmas.Int.{by_lt_z}
 use Rattle.num_integer.specs.Division.{IsFloored}
 use Rattle.num_integer.specs.Only.{IsOnly}
 use Rattle.num_integer.proofs.ForCallers.{floored_remainder_range, linear, multiples_apart, product_from_zero, products}
-use Rattle.uses.specs.Paging.{IsPlace, IsRangeOfPage}
+use Rattle.uses.specs.Paging.{IsRangeOfPage}
 
 -- an item lies on a page where it is from the page times its size on, and before the same of the next page
 page_range_is : {page size items first end : ℤ} → pos 0 ≤ℤ first → first ≤ℤ end → end ≤ℤ items
