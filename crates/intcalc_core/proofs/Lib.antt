@@ -1,2 +1,3 @@
 pub mod OnlyOutcome
 pub mod FractionLemmas
+pub mod QuotientRefusals

@@ -1,6 +1,7 @@
 //! Operands at the type of a kind, and refusals.
 
 ghost use Rattle.std.specs.Prelude.{◌≡◌, ◌↔◌, ◌≤ℤ◌, pos, false, IsTrue, MatchResult};
+ghost use Rattle.num_integer.specs.Bezout.{HasPair};
 ghost use Rattle.intcalc_core.specs.declared.calls.Answer.TheVariants as answers;
 ghost use Rattle.intcalc_core.specs.declared.calls.Refusal.TheVariants as refusals;
 ghost use Rattle.intcalc_core.specs.Outcome.{Narrows};
@@ -77,4 +78,13 @@ pub(crate) fn is_from_zero<T: Operand>(x: T) -> bool
     ensures { IsTrue result ↔ (pos 0 ≤ℤ T.value x) }
 {
     !x.parts().0
+}
+
+/// Returns `true` if the type has negative numbers, or if one of the two divides the other.
+pub(crate) fn has_pair<T: Operand>(a: T, b: T) -> bool
+    requires a_in_range { T.fits (T.value a) }
+    requires b_in_range { T.fits (T.value b) }
+    ensures { IsTrue result ↔ HasPair T.fits (T.value a) (T.value b) }
+{
+    T::ends().0 != 0 || a.is_multiple_of(&b) || b.is_multiple_of(&a)
 }

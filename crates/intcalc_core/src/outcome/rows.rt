@@ -7,8 +7,7 @@ ghost use Rattle.intcalc_core.specs.declared.calls.Call.TheVariants as calls;
 ghost use Rattle.intcalc_core.specs.Outcome.{Inside};
 
 use crate::calls::{Answer, Refusal};
-use crate::outcome::operand::{Operand, is_from_zero, needs, three, two, widen};
-use num_integer::checked;
+use crate::outcome::operand::{Operand, has_pair, is_from_zero, needs, three, two, widen};
 use num_integer::operators::is_zero;
 
 pub(crate) fn div_rem<T: Operand>(pair: (T, T)) -> Result<Answer, Refusal>
@@ -17,8 +16,8 @@ pub(crate) fn div_rem<T: Operand>(pair: (T, T)) -> Result<Answer, Refusal>
 {
     let (n, d) = pair;
     needs(!is_zero(d), Refusal::ZeroDivisor)?;
-    let answer = checked::div_rem(n, d).ok_or(Refusal::NotFitting)?;
-    Ok(two(answer))
+    needs(n.quotient_fits(&d), Refusal::NotFitting)?;
+    Ok(two(n.div_rem(&d)))
 }
 
 pub(crate) fn div_mod_floor<T: Operand>(pair: (T, T)) -> Result<Answer, Refusal>
@@ -27,8 +26,8 @@ pub(crate) fn div_mod_floor<T: Operand>(pair: (T, T)) -> Result<Answer, Refusal>
 {
     let (n, d) = pair;
     needs(!is_zero(d), Refusal::ZeroDivisor)?;
-    let answer = checked::div_mod_floor(n, d).ok_or(Refusal::NotFitting)?;
-    Ok(two(answer))
+    needs(n.quotient_fits(&d), Refusal::NotFitting)?;
+    Ok(two(n.div_mod_floor(&d)))
 }
 
 pub(crate) fn div_floor<T: Operand>(pair: (T, T)) -> Result<Answer, Refusal>
@@ -37,8 +36,8 @@ pub(crate) fn div_floor<T: Operand>(pair: (T, T)) -> Result<Answer, Refusal>
 {
     let (n, d) = pair;
     needs(!is_zero(d), Refusal::ZeroDivisor)?;
-    let quotient = checked::div_floor(n, d).ok_or(Refusal::NotFitting)?;
-    Ok(Answer::One(widen(quotient)))
+    needs(n.quotient_fits(&d), Refusal::NotFitting)?;
+    Ok(Answer::One(widen(n.div_floor(&d))))
 }
 
 pub(crate) fn div_ceil<T: Operand>(pair: (T, T)) -> Result<Answer, Refusal>
@@ -47,8 +46,8 @@ pub(crate) fn div_ceil<T: Operand>(pair: (T, T)) -> Result<Answer, Refusal>
 {
     let (n, d) = pair;
     needs(!is_zero(d), Refusal::ZeroDivisor)?;
-    let quotient = checked::div_ceil(n, d).ok_or(Refusal::NotFitting)?;
-    Ok(Answer::One(widen(quotient)))
+    needs(n.quotient_fits(&d), Refusal::NotFitting)?;
+    Ok(Answer::One(widen(n.div_ceil(&d))))
 }
 
 pub(crate) fn mod_floor<T: Operand>(pair: (T, T)) -> Result<Answer, Refusal>
@@ -122,7 +121,8 @@ pub(crate) fn extended_gcd<T: Operand>(pair: (T, T)) -> Result<Answer, Refusal>
 {
     let (a, b) = pair;
     needs(a.gcd_fits(&b), Refusal::NotFitting)?;
-    let bezout = checked::extended_gcd(a, b).ok_or(Refusal::NoPair)?;
+    needs(has_pair(a, b), Refusal::NoPair)?;
+    let bezout = a.extended_gcd(&b);
     Ok(three(bezout.gcd, bezout.x, bezout.y))
 }
 
