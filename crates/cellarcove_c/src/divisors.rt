@@ -37,6 +37,7 @@ pub extern "C" fn cellarcove_gcd_u64(x: u64, y: u64) -> U64Answer
     ensures answer { AnswersWhere (GcdFits (FitsUnsignedBits 64) (pos x) (pos y))
         (λ g. IsGreatestCommonDivisor (pos x) (pos y) (pos g))
         (answer_of result.status result.value) }
+    ensures always { result.status ≡ 0 }
     ensures refusal { result.status ≢ 0 → result ≡ record { status = not_fitting; value = 0 } }
 {
     U64Answer::of(checked::gcd(x, y), NOT_FITTING)

@@ -56,6 +56,7 @@ pub extern "C" fn cellarcove_sqrt_i64(x: i64) -> I64Answer
 pub extern "C" fn cellarcove_sqrt_u64(x: u64) -> U64Answer
     ensures answer { AnswersWhere (pos 0 ≤ℤ pos x) (λ r. IsRoot (pos x) 2 (pos r))
         (answer_of result.status result.value) }
+    ensures always { result.status ≡ 0 }
     ensures refusal { result.status ≢ 0 → result ≡ record { status = outside; value = 0 } }
 {
     U64Answer::of(checked::sqrt(x), OUTSIDE)
