@@ -94,6 +94,13 @@ c_with() {
     fi
 }
 
+# The example of the page for C is compiled, and prints what its comment says.
+page_holds() {
+    sed -n '/^```c$/,/^```$/p' bindings/README.md | grep -v '^```' >"$work/page.c" &&
+        cc -std=c11 -Wall -Wextra -Wpedantic -Werror -I bindings/c "$work/page.c" "$archive" -o "$work/page" &&
+        "$work/page" | diff - <(sed -n 's|.*/\* \(.*\) \*/|\1|p' "$work/page.c")
+}
+
 finds_by_pkg_config() {
     mkdir -p "$work/prefix/lib/pkgconfig" "$work/prefix/include" && cp "$archive" "$work/prefix/lib" &&
         cp "$header" "$work/prefix/include" && cp bindings/c/cellarcove.pc "$work/prefix/lib/pkgconfig" &&
@@ -124,6 +131,9 @@ c_with clang
 if has g++ 'C++'; then
     languages=$((languages + 1))
     check 'C++' calls g++ -std=c++17 -O2 -x c++
+fi
+if has cc 'the example of the page'; then
+    check 'the example of the page' page_holds
 fi
 if has pkg-config pkg-config && has cc pkg-config; then
     check 'pkg-config' finds_by_pkg_config

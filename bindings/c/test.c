@@ -38,6 +38,8 @@ static void division(void) {
     cellarcove_i64_division d = cellarcove_div_rem_i64(-8, 3);
     CHECK(d.status == CELLARCOVE_ANSWER && d.quotient == -2 && d.remainder == -2);
     d = cellarcove_div_rem_i64(INT64_MIN, -1);
+    CHECK(d.status == CELLARCOVE_NOT_FITTING && d.quotient == 0 && d.remainder == 0);
+    d = cellarcove_div_rem_i64(INT64_MIN, 0);
     CHECK(d.status == CELLARCOVE_OUTSIDE && d.quotient == 0 && d.remainder == 0);
     d = cellarcove_div_mod_floor_i64(-8, 3);
     CHECK(d.status == CELLARCOVE_ANSWER && d.quotient == -3 && d.remainder == 1);
@@ -50,22 +52,37 @@ static void division(void) {
     d = cellarcove_product_div_mod_floor_i64(INT64_MIN, -1, -1);
     CHECK(d.status == CELLARCOVE_ANSWER && d.quotient == INT64_MIN && d.remainder == 0);
     d = cellarcove_product_div_mod_floor_i64(INT64_MIN, -1, 1);
+    CHECK(d.status == CELLARCOVE_NOT_FITTING && d.quotient == 0 && d.remainder == 0);
+    d = cellarcove_product_div_mod_floor_i64(INT64_MIN, -1, 0);
     CHECK(d.status == CELLARCOVE_OUTSIDE && d.quotient == 0 && d.remainder == 0);
     e = cellarcove_product_div_mod_floor_u64(UINT64_MAX, UINT64_MAX, UINT64_MAX);
     CHECK(e.status == CELLARCOVE_ANSWER && e.quotient == UINT64_MAX && e.remainder == 0);
+    e = cellarcove_product_div_mod_floor_u64(UINT64_MAX, 2, 1);
+    CHECK(e.status == CELLARCOVE_NOT_FITTING && e.quotient == 0 && e.remainder == 0);
+    e = cellarcove_product_div_mod_floor_u64(UINT64_MAX, 2, 0);
+    CHECK(e.status == CELLARCOVE_OUTSIDE && e.quotient == 0 && e.remainder == 0);
     ANSWERS(cellarcove_div_floor_i64(-8, 3), -3);
     REFUSES(cellarcove_div_floor_i64(1, 0), CELLARCOVE_OUTSIDE);
-    REFUSES(cellarcove_div_floor_i64(INT64_MIN, -1), CELLARCOVE_OUTSIDE);
+    REFUSES(cellarcove_div_floor_i64(INT64_MIN, -1), CELLARCOVE_NOT_FITTING);
     ANSWERS(cellarcove_div_floor_u64(UINT64_MAX, 1), UINT64_MAX);
+    REFUSES(cellarcove_div_floor_u64(UINT64_MAX, 0), CELLARCOVE_OUTSIDE);
     ANSWERS(cellarcove_div_ceil_i64(8, 3), 3);
+    REFUSES(cellarcove_div_ceil_i64(8, 0), CELLARCOVE_OUTSIDE);
+    REFUSES(cellarcove_div_ceil_i64(INT64_MIN, -1), CELLARCOVE_NOT_FITTING);
     ANSWERS(cellarcove_div_ceil_u64(9, 3), 3);
     ANSWERS(cellarcove_mod_floor_i64(-8, 3), 1);
     ANSWERS(cellarcove_mod_floor_i64(INT64_MIN, -1), 0);
+    REFUSES(cellarcove_mod_floor_i64(INT64_MIN, 0), CELLARCOVE_OUTSIDE);
     ANSWERS(cellarcove_mod_floor_u64(8, 3), 2);
     ANSWERS(cellarcove_next_multiple_of_i64(23, 8), 24);
-    REFUSES(cellarcove_next_multiple_of_i64(INT64_MAX, 2), CELLARCOVE_OUTSIDE);
+    REFUSES(cellarcove_next_multiple_of_i64(INT64_MAX, 2), CELLARCOVE_NOT_FITTING);
+    REFUSES(cellarcove_next_multiple_of_i64(INT64_MAX, 0), CELLARCOVE_OUTSIDE);
     ANSWERS(cellarcove_next_multiple_of_u64(23, 8), 24);
+    REFUSES(cellarcove_next_multiple_of_u64(UINT64_MAX, 2), CELLARCOVE_NOT_FITTING);
+    REFUSES(cellarcove_next_multiple_of_u64(UINT64_MAX, 0), CELLARCOVE_OUTSIDE);
     ANSWERS(cellarcove_prev_multiple_of_i64(-1, 8), -8);
+    REFUSES(cellarcove_prev_multiple_of_i64(INT64_MIN, 3), CELLARCOVE_NOT_FITTING);
+    REFUSES(cellarcove_prev_multiple_of_i64(INT64_MIN, 0), CELLARCOVE_OUTSIDE);
     ANSWERS(cellarcove_prev_multiple_of_u64(23, 8), 16);
     CHECK(cellarcove_is_multiple_of_i64(-9, 3) && !cellarcove_is_multiple_of_i64(1, 0));
     CHECK(cellarcove_is_multiple_of_u64(0, 0) && !cellarcove_is_multiple_of_u64(8, 3));
@@ -73,15 +90,16 @@ static void division(void) {
 
 static void divisors(void) {
     ANSWERS(cellarcove_gcd_i64(-56, 42), 14);
-    REFUSES(cellarcove_gcd_i64(INT64_MIN, 0), CELLARCOVE_OUTSIDE);
+    REFUSES(cellarcove_gcd_i64(INT64_MIN, 0), CELLARCOVE_NOT_FITTING);
     ANSWERS(cellarcove_gcd_u64(UINT64_MAX, 0), UINT64_MAX);
     ANSWERS(cellarcove_lcm_i64(-4, 6), 12);
-    REFUSES(cellarcove_lcm_i64(INT64_MAX, 2), CELLARCOVE_OUTSIDE);
+    REFUSES(cellarcove_lcm_i64(INT64_MAX, 2), CELLARCOVE_NOT_FITTING);
     ANSWERS(cellarcove_lcm_u64(4, 6), 12);
+    REFUSES(cellarcove_lcm_u64(UINT64_MAX, 2), CELLARCOVE_NOT_FITTING);
     cellarcove_i64_bezout e = cellarcove_extended_gcd_i64(240, 46);
     CHECK(e.status == CELLARCOVE_ANSWER && e.gcd == 2 && e.x == -9 && e.y == 47);
     e = cellarcove_extended_gcd_i64(INT64_MIN, INT64_MIN);
-    CHECK(e.status == CELLARCOVE_OUTSIDE && e.gcd == 0 && e.x == 0 && e.y == 0);
+    CHECK(e.status == CELLARCOVE_NOT_FITTING && e.gcd == 0 && e.x == 0 && e.y == 0);
 }
 
 static void roots(void) {
@@ -99,12 +117,15 @@ static void roots(void) {
 }
 
 static void coefficients(void) {
-    uint64_t counts[] = {2, 1, 2};
+    uint64_t counts[] = {2, 1, 2}, many[] = {34, 34};
     ANSWERS(cellarcove_binomial_i64(11, 3), 165);
     REFUSES(cellarcove_binomial_i64(-1, 3), CELLARCOVE_OUTSIDE);
+    REFUSES(cellarcove_binomial_i64(3, -1), CELLARCOVE_OUTSIDE);
+    REFUSES(cellarcove_binomial_i64(67, 33), CELLARCOVE_NOT_FITTING);
     ANSWERS(cellarcove_binomial_u64(67, 33), UINT64_C(14226520737620288370));
-    REFUSES(cellarcove_binomial_u64(68, 34), CELLARCOVE_OUTSIDE);
+    REFUSES(cellarcove_binomial_u64(68, 34), CELLARCOVE_NOT_FITTING);
     ANSWERS(cellarcove_multinomial_u64(counts, 3), 30);
+    REFUSES(cellarcove_multinomial_u64(many, 2), CELLARCOVE_NOT_FITTING);
     ANSWERS(cellarcove_multinomial_u64(counts, 0), 1);
 }
 
@@ -222,9 +243,29 @@ static void dates(void) {
     CHECK(day.status == CELLARCOVE_ANSWER && is_date(day.date, 2010, 1, 3));
     day = cellarcove_date_from_iso_week(2010, 53, 0);
     CHECK(day.status == CELLARCOVE_NO_DATE && is_date(day.date, 0, 0, 0));
+    day = cellarcove_date_from_iso_week(2009, 0, 0);
+    CHECK(day.status == CELLARCOVE_NO_DATE && is_date(day.date, 0, 0, 0));
     day = cellarcove_date_from_iso_week(2009, 53, 7);
     CHECK(day.status == CELLARCOVE_OUTSIDE && is_date(day.date, 0, 0, 0));
+    day = cellarcove_date_from_iso_week(2009, 99, 7);
+    CHECK(day.status == CELLARCOVE_OUTSIDE && is_date(day.date, 0, 0, 0));
     CHECK(is_date(cellarcove_easter(2024), 2024, 3, 31));
+}
+
+/* The week of the last day of all, a Thursday, and that of the first day but one, a Monday. */
+static void last_and_first_week(void) {
+    for (uint8_t weekday = 0; weekday < 7; weekday++) {
+        bool fits = 1 <= weekday && weekday <= 4;
+        cellarcove_date_answer day = cellarcove_date_from_iso_week(INT64_MAX, 53, weekday);
+        CHECK(day.status == (fits ? CELLARCOVE_ANSWER : CELLARCOVE_NOT_FITTING));
+        CHECK(fits ? is_date(day.date, INT64_MAX, 12, 27 + weekday) : is_date(day.date, 0, 0, 0));
+        day = cellarcove_date_from_iso_week(INT64_MAX, 54, weekday);
+        CHECK(day.status == CELLARCOVE_NO_DATE && is_date(day.date, 0, 0, 0));
+        day = cellarcove_date_from_iso_week(INT64_MIN, 1, weekday);
+        CHECK(day.status == CELLARCOVE_ANSWER && is_date(day.date, INT64_MIN, 1, weekday == 0 ? 8 : 1 + weekday));
+        day = cellarcove_date_from_iso_week(INT64_MIN, 0, weekday);
+        CHECK(day.status == CELLARCOVE_NO_DATE && is_date(day.date, 0, 0, 0));
+    }
 }
 
 int main(void) {
@@ -237,6 +278,7 @@ int main(void) {
     congruences();
     fractions();
     dates();
+    last_and_first_week();
     printf("%d answers right, %d wrong\n", passed, failed);
     return failed != 0;
 }

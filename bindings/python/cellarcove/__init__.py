@@ -1,7 +1,9 @@
 """Proved integer arithmetic, fractions and dates.
 
-Numbers of at least 0 lie below 2**64; where a number is negative, all lie in -2**63..2**63. Others raise
-`OverflowError`. Where a call has no answer, it raises `Refused`, a `ValueError` that has the status.
+If all numbers of a call are at least 0, they lie below 2**64, and otherwise from -2**63 to 2**63 - 1. `extended_gcd`, the
+parts of fractions, and days, months and years are always from -2**63 to 2**63 - 1; `multinomial` and exponents are always
+from 0 to 2**64 - 1, and degrees from 0 to 2**32 - 1. Dates are in the years of `datetime`, from 1 to 9999. A number out of
+its range raises `OverflowError`. If a call has no answer, it raises `Refused`, a `ValueError` that has the status.
 """
 
 import datetime
@@ -18,7 +20,7 @@ _I64, _U64 = range(-(2**63), 2**63), range(2**64)
 _REASONS = {
     Status.ZERO_DENOMINATOR: 'a denominator or a divisor is 0',
     Status.NOT_FITTING: 'the answer does not fit 64 bits',
-    Status.OUTSIDE: 'the arguments lie outside the domain of the call',
+    Status.OUTSIDE: 'nothing is defined for the arguments',
     Status.NO_SOLUTION: 'no number solves the congruences',
     Status.BAD_MODULUS: 'a modulus is not above 0',
     Status.NO_DATE: 'there is no such date',
@@ -99,7 +101,7 @@ def div_ceil(x: SupportsIndex, y: SupportsIndex) -> int:
 
 
 def mod_floor(x: SupportsIndex, y: SupportsIndex) -> int:
-    """The remainder of the quotient rounded down, as `x % y`."""
+    """The remainder of the quotient rounded down, as `x % y`: 0, or of the sign of `y`."""
     return _number('mod_floor', x, y)
 
 
@@ -144,7 +146,7 @@ def lcm(x: SupportsIndex, y: SupportsIndex) -> int:
 
 
 def extended_gcd(x: SupportsIndex, y: SupportsIndex) -> ExtendedGcd:
-    """The greatest common divisor, and small coefficients with which `r.x * x + r.y * y` is it."""
+    """The greatest common divisor, and small coefficients with which `r.x * x + r.y * y` is it. All are signed."""
     answer = _accepted(_CALLS['extended_gcd_i64'](_within(_I64, x), _within(_I64, y)))
     return ExtendedGcd(answer.gcd, answer.x, answer.y)
 
@@ -160,7 +162,7 @@ def average_ceil(x: SupportsIndex, y: SupportsIndex) -> int:
 
 
 def sqrt(x: SupportsIndex) -> int:
-    """The square root rounded down."""
+    """The square root rounded down, as `math.isqrt`, and not as `math.sqrt`."""
     return _number('sqrt', x)
 
 
@@ -168,7 +170,7 @@ isqrt = sqrt
 
 
 def cbrt(x: SupportsIndex) -> int:
-    """The cube root rounded toward 0."""
+    """The cube root rounded toward 0, and not as `math.cbrt`."""
     return _call('cbrt', x)
 
 
@@ -190,7 +192,7 @@ comb = binomial
 
 
 def multinomial(counts: Iterable[SupportsIndex]) -> int:
-    """The ways to order things of several kinds, of each as many as its count."""
+    """The ways to order things of several kinds, of each as many as its count, which is at least 0."""
     integers = [_within(_U64, count) for count in counts]
     items = (u64 * len(integers))(*integers)
     return _accepted(_CALLS['multinomial_u64'](items, len(integers))).value
@@ -328,7 +330,7 @@ def day_from_date(date: datetime.date) -> int:
 
 
 def weekday(day: SupportsIndex) -> int:
-    """The day of the week of a day, from 0 for Sunday to 6 for Saturday."""
+    """The day of the week of a day, from 0 for Sunday to 6 for Saturday, as `isoweekday() % 7` of its date."""
     return _CALLS['weekday'](_within(_I64, day))
 
 

@@ -3,7 +3,9 @@
 import datetime
 import functools
 import math
+import pathlib
 import random
+import re
 import unittest
 from fractions import Fraction
 
@@ -14,6 +16,7 @@ from cellarcove._library import Status
 I64, U64 = (-(2**63), 2**63 - 1), (0, 2**64 - 1)
 ENDS = [0, 1, 2, 3, 2**32 - 1, 2**32, 2**63 - 1, 2**63, 2**64 - 1]
 SIGNED_ENDS = [-(2**63), 1 - 2**63, -(2**32), -3, -2, -1, 0, 1, 2, 3, 2**32, 2**63 - 2, 2**63 - 1]
+PAGE = pathlib.Path(__file__).resolve().parents[2] / 'README.md'
 FIRST_DAY = datetime.date(1970, 1, 1).toordinal()
 TURNS = 100_000
 random.seed(64)
@@ -47,15 +50,21 @@ def quotient_toward_zero(x, y):
     return quotient if (x < 0) == (y < 0) else -quotient
 
 
-class Numbers(unittest.TestCase):
+class Refusals(unittest.TestCase):
+    def refuses(self, status, call, *arguments):
+        with self.assertRaises(Refused, msg=arguments) as refusal:
+            call(*arguments)
+        self.assertEqual(refusal.exception.status, status)
+        self.assertIn(status.name, str(refusal.exception))
+
+
+class Numbers(Refusals):
     def agree(self, call, arguments, wanted):
-        """The call returns what is wanted where that fits, and else is refused."""
+        """The call returns what is wanted if that fits; if not, or if nothing is wanted, it says so."""
         if wanted is not None and fits(wanted, arguments):
             self.assertEqual(call(*arguments), wanted, arguments)
         else:
-            with self.assertRaises(Refused, msg=arguments) as refusal:
-                call(*arguments)
-            self.assertEqual(refusal.exception.status, Status.OUTSIDE)
+            self.refuses(Status.OUTSIDE if wanted is None else Status.NOT_FITTING, call, *arguments)
 
     def test_division(self):
         for _ in range(TURNS // 4):
@@ -66,7 +75,13 @@ class Numbers(unittest.TestCase):
             self.agree(cellarcove.next_multiple_of, (x, y), -(-x // y) * y if y else None)
             self.agree(cellarcove.prev_multiple_of, (x, y), x // y * y if y else None)
             self.assertEqual(cellarcove.is_multiple_of(x, y), x % y == 0 if y else x == 0)
-            if y and fits(x // y, (x, y)):
+            if not y:
+                self.refuses(Status.OUTSIDE, cellarcove.div_mod_floor, x, y)
+                self.refuses(Status.OUTSIDE, cellarcove.div_rem, x, y)
+            elif not fits(x // y, (x, y)):
+                self.refuses(Status.NOT_FITTING, cellarcove.div_mod_floor, x, y)
+                self.refuses(Status.NOT_FITTING, cellarcove.div_rem, x, y)
+            else:
                 self.assertEqual(cellarcove.div_mod_floor(x, y), divmod(x, y))
                 quotient = quotient_toward_zero(x, y)
                 self.assertEqual(cellarcove.div_rem(x, y), (quotient, x - quotient * y))
@@ -74,7 +89,11 @@ class Numbers(unittest.TestCase):
     def test_products_divided(self):
         for _ in range(TURNS // 4):
             a, b, d = numbers(3)
-            if d and fits(a * b // d, (a, b, d)):
+            if not d:
+                self.refuses(Status.OUTSIDE, cellarcove.product_div_mod_floor, a, b, d)
+            elif not fits(a * b // d, (a, b, d)):
+                self.refuses(Status.NOT_FITTING, cellarcove.product_div_mod_floor, a, b, d)
+            else:
                 self.assertEqual(cellarcove.product_div_mod_floor(a, b, d), divmod(a * b, d))
 
     def test_divisors(self):
@@ -109,13 +128,13 @@ class Numbers(unittest.TestCase):
             counts = [random.randrange(6) for _ in range(random.randrange(6))]
             factorials = math.prod(map(math.factorial, counts))
             self.assertEqual(cellarcove.multinomial(counts), math.factorial(sum(counts)) // factorials)
-        with self.assertRaises(Refused):
-            cellarcove.multinomial([2**63, 2**63])
+        self.refuses(Status.OUTSIDE, cellarcove.binomial, -1, 3)
+        self.refuses(Status.NOT_FITTING, cellarcove.multinomial, [2**63, 2**63])
         with self.assertRaises(OverflowError):
             cellarcove.multinomial([1, -1])
 
 
-class Residues(unittest.TestCase):
+class Residues(Refusals):
     def test_residues(self):
         for _ in range(TURNS // 4):
             a, b, m = numbers(3)
@@ -152,14 +171,8 @@ class Residues(unittest.TestCase):
                 self.refuses(Status.NO_SOLUTION, cellarcove.chinese_remainder, a, m, b, n)
                 self.refuses(Status.NO_SOLUTION, cellarcove.next_common_solution, start, a, m, b, n)
 
-    def refuses(self, status, call, *arguments):
-        with self.assertRaises(Refused, msg=arguments) as refusal:
-            call(*arguments)
-        self.assertEqual(refusal.exception.status, status)
-        self.assertIn(status.name, str(refusal.exception))
 
-
-class Fractions(unittest.TestCase):
+class Fractions(Refusals):
     def some(self):
         top = 2 ** random.choice((4, 16, 31, 62))
         return Fraction(random.randint(-top, top), random.randint(1, top))
@@ -168,9 +181,7 @@ class Fractions(unittest.TestCase):
         if all(I64[0] <= part <= I64[1] for part in (wanted.numerator, wanted.denominator)):
             self.assertEqual(call(*fractions), wanted, fractions)
         else:
-            with self.assertRaises(Refused, msg=fractions) as refusal:
-                call(*fractions)
-            self.assertEqual(refusal.exception.status, Status.NOT_FITTING)
+            self.refuses(Status.NOT_FITTING, call, *fractions)
 
     def test_fractions(self):
         for _ in range(TURNS // 10):
@@ -192,12 +203,10 @@ class Fractions(unittest.TestCase):
             self.assertLessEqual(near.denominator, limit)
             self.assertEqual(abs(near - a), abs(wanted - a))
         self.assertEqual(cellarcove.fraction_new(6, -4), Fraction(-3, 2))
-        with self.assertRaises(Refused) as refusal:
-            cellarcove.fraction_div(Fraction(1), Fraction(0))
-        self.assertEqual(refusal.exception.status, Status.ZERO_DENOMINATOR)
+        self.refuses(Status.ZERO_DENOMINATOR, cellarcove.fraction_div, Fraction(1), Fraction(0))
 
 
-class Dates(unittest.TestCase):
+class Dates(Refusals):
     def test_dates(self):
         for _ in range(TURNS // 4):
             date = datetime.date.fromordinal(random.randint(1, datetime.date.max.toordinal()))
@@ -208,6 +217,18 @@ class Dates(unittest.TestCase):
             year, week, weekday = date.isocalendar()
             self.assertEqual(cellarcove.iso_week(date), (year, week))
             self.assertEqual(cellarcove.date_from_iso_week(year, week, weekday % 7), date)
+
+    def test_last_and_first_week(self):
+        """The last day of all is the Thursday of its week, and the first but one a Monday."""
+        for weekday in (0, 5, 6):
+            self.refuses(Status.NOT_FITTING, cellarcove.date_from_iso_week, I64[1], 53, weekday)
+        for weekday in range(7):
+            self.refuses(Status.NO_DATE, cellarcove.date_from_iso_week, I64[1], 54, weekday)
+            self.refuses(Status.NO_DATE, cellarcove.date_from_iso_week, I64[0], 0, weekday)
+            with self.assertRaises(OverflowError):
+                cellarcove.date_from_iso_week(I64[0], 1, weekday)
+        self.refuses(Status.NO_DATE, cellarcove.date_from_iso_week, 2010, 53, 0)
+        self.refuses(Status.OUTSIDE, cellarcove.date_from_iso_week, 2009, 99, 7)
 
     def test_months(self):
         for _ in range(TURNS // 20):
@@ -241,6 +262,27 @@ class Ranges(unittest.TestCase):
             cellarcove.power_modulo(3, -1, 7)
         with self.assertRaises(TypeError):
             cellarcove.gcd(1.5, 4)
+
+
+class Page(unittest.TestCase):
+    def test_examples(self):
+        """Each example of the page does what its comment says."""
+        names = {}
+        for line in re.search('```python\n(.*?)```', PAGE.read_text(), re.S).group(1).splitlines():
+            code, _, said = (part.strip() for part in line.partition('#'))
+            if not said:
+                exec(code, names)
+            elif said.startswith('raises '):
+                self.raises(said.removeprefix('raises '), code, names)
+            else:
+                self.assertEqual(repr(eval(code, names)), said, line)
+
+    def raises(self, said, code, names):
+        error, _, status = said.partition(': ')
+        with self.assertRaises(Exception) as raised:
+            eval(code, names)
+        self.assertEqual(type(raised.exception).__name__, error)
+        self.assertTrue(str(raised.exception).startswith(status), said)
 
 
 if __name__ == '__main__':

@@ -2,8 +2,12 @@
 use Rattle.std.specs.Int.{w64}
 use Rattle.std.specs.Prelude.{◌≡◌, ◌+ℤ◌, ℕ, ℤ, min, FitsSigned, MatchOption, Option}
 use Rattle.calendar.specs.Dates.{HasParts, IsMonthsBetween}
+use Rattle.calendar.specs.IsoWeeks.{IsDayOfIsoWeek, IsInIsoWeek}
 use Rattle.calendar.specs.Months.{days_in_month, month_number}
+use Rattle.calendar.specs.Weekday.{weekday_number}
+use Rattle.calendar.specs.Years.{HasDay}
 use Rattle.calendar.specs.declared.date.Date.{Date}
+use Rattle.calendar.specs.declared.weekday.Weekday.{Weekday}
 
 -- A date lies in the month that is `months` after that of another, on the same day of the month, or on the last where there is
 -- no such day.
@@ -16,3 +20,18 @@ abbrev pub MatchMonthsBetween : ℤ → ℕ → ℕ → ℤ → ℕ → ℕ → 
 MatchMonthsBetween year month day to_year to_month to_day answer = (from to : Date) × HasParts from year month day
     × HasParts to to_year to_month to_day × MatchOption answer
     ((months : ℤ) × IsMonthsBetween from to months × ¬ (FitsSigned w64 months)) (IsMonthsBetween from to)
+
+-- Some day is in this week of the year.
+-- Examples: 2009 and 53; not 2010 and 53; not 2009 and 0.
+pub record HasIsoWeek (year : ℤ) (week : ℕ) : Type 0 where
+  pub day : ℤ
+  pub in_week : IsInIsoWeek day year week
+
+-- The week has a day of the week of this number, and no year of an `i64` has that day.
+-- Examples: 9223372036854775807, 53 and 0; not 9223372036854775807, 53 and 4, which is the last day of that year.
+pub record IsDayBeyond (year : ℤ) (week weekday : ℕ) : Type 0 where
+  pub day : ℤ
+  pub day_of_week : Weekday
+  pub number : weekday_number day_of_week ≡ weekday
+  pub of_week : IsDayOfIsoWeek day year week day_of_week
+  pub beyond : (y : ℤ) → HasDay y day → ¬ (FitsSigned w64 y)

@@ -1,3 +1,4 @@
 pub mod Statuses
 pub mod Fractions
 pub mod Dates
+pub mod Laws

@@ -1,5 +1,5 @@
 -- The statuses of answers, and what an answer with a status stands for.
-use Rattle.std.specs.Prelude.{ℕ, zero, suc, Option, Some, None}
+use Rattle.std.specs.Prelude.{◌≡◌, ◌↔◌, ℕ, zero, suc, Option, Some, None}
 use Rattle.modular.specs.declared.common_solutions.CommonSolution.{CommonSolution}
 use Rattle.modular.specs.declared.common_solutions.CommonSolution.TheVariants.{Never, Beyond, At}
 
@@ -11,7 +11,7 @@ zero_denominator = 1
 abbrev pub not_fitting : ℕ
 not_fitting = 2
 
--- The arguments lie outside the domain of the call.
+-- Nothing is defined for the arguments.
 abbrev pub outside : ℕ
 outside = 3
 
@@ -26,6 +26,11 @@ bad_modulus = 5
 -- There is no such date.
 abbrev pub no_date : ℕ
 no_date = 6
+
+-- The status of a refusal is `outside` exactly if nothing is defined for the arguments, and `not_fitting` exactly if something
+-- is: then the answer does not fit.
+abbrev pub IsReason : Type 0 → ℕ → Type 0
+IsReason undefined status = ((status ≡ outside) ↔ undefined) × ((status ≡ not_fitting) ↔ (¬ undefined))
 
 -- A status of 0 says that there is an answer.
 abbrev pub answer_of : {A : Type 0} → ℕ → A → Option A

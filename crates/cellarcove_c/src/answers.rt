@@ -1,7 +1,7 @@
 //! Answers with a status.
 
 ghost use Rattle.std.specs.Prelude.{◌≡◌, ◌≢◌, pos};
-ghost use Rattle.cellarcove_c.specs.Statuses.{answer_of, outside};
+ghost use Rattle.cellarcove_c.specs.Statuses.{answer_of};
 
 /// There is an answer.
 pub const ANSWER: u32 = 0;
@@ -12,7 +12,7 @@ pub const ZERO_DENOMINATOR: u32 = 1;
 /// The answer does not fit its type.
 pub const NOT_FITTING: u32 = 2;
 
-/// The arguments lie outside the domain of the call.
+/// Nothing is defined for the arguments.
 pub const OUTSIDE: u32 = 3;
 
 /// No number solves the congruences.
@@ -41,14 +41,15 @@ pub struct U64Answer {
 }
 
 impl I64Answer {
-    /// Returns the answer of a call of `num_integer::checked`.
-    pub(crate) fn of(option: Option<i64>) -> I64Answer
+    /// Returns the answer of a call of `num_integer::checked`, or a refusal for a reason.
+    pub(crate) fn of(option: Option<i64>, reason: u32) -> I64Answer
+        requires { reason ≢ 0 }
         ensures answer { answer_of result.status result.value ≡ option }
-        ensures refusal { result.status ≢ 0 → result ≡ record { status = outside; value = pos 0 } }
+        ensures refusal { result.status ≢ 0 → result ≡ record { status = reason; value = pos 0 } }
     {
         match option {
             Some(value) => I64Answer::some(value),
-            None => I64Answer::none(OUTSIDE),
+            None => I64Answer::none(reason),
         }
     }
 
@@ -71,14 +72,15 @@ impl I64Answer {
 }
 
 impl U64Answer {
-    /// Returns the answer of a call of `num_integer::checked`.
-    pub(crate) fn of(option: Option<u64>) -> U64Answer
+    /// Returns the answer of a call of `num_integer::checked`, or a refusal for a reason.
+    pub(crate) fn of(option: Option<u64>, reason: u32) -> U64Answer
+        requires { reason ≢ 0 }
         ensures answer { answer_of result.status result.value ≡ option }
-        ensures refusal { result.status ≢ 0 → result ≡ record { status = outside; value = 0 } }
+        ensures refusal { result.status ≢ 0 → result ≡ record { status = reason; value = 0 } }
     {
         match option {
             Some(value) => U64Answer::some(value),
-            None => U64Answer::none(OUTSIDE),
+            None => U64Answer::none(reason),
         }
     }
 

@@ -1,14 +1,14 @@
 //! Coefficients.
 
-ghost use Rattle.std.specs.Prelude.{◌≡◌, ◌≢◌, ◌≤ℤ◌, pos, map, FitsSigned};
+ghost use Rattle.std.specs.Prelude.{◌≡◌, ◌≢◌, ◌⊎◌, ◌<ℤ◌, ◌≤ℤ◌, pos, map, FitsSigned};
 ghost use Rattle.std.specs.Int.{FitsUnsignedBits, w64};
 ghost use Rattle.num_integer.specs.Checked.{AnswersWhere};
 ghost use Rattle.num_integer.specs.Coefficient.{coefficient_of};
 ghost use Rattle.num_integer.specs.Multinomial.{IsMultinomial};
 ghost use Rattle.num_integer.specs.Range.{EachFits};
-ghost use Rattle.cellarcove_c.specs.Statuses.{answer_of, outside};
+ghost use Rattle.cellarcove_c.specs.Statuses.{IsReason, answer_of, not_fitting};
 
-use crate::answers::{I64Answer, U64Answer};
+use crate::answers::{I64Answer, NOT_FITTING, OUTSIDE, U64Answer};
 use num_integer::checked;
 
 /// Returns the binomial coefficient of `n` and `k`. That of 11 and 3 is 165.
@@ -18,9 +18,10 @@ pub extern "C" fn cellarcove_binomial_i64(n: i64, k: i64) -> I64Answer
         ((pos 0 ≤ℤ n) × (pos 0 ≤ℤ k) × FitsSigned w64 (coefficient_of n k))
         (λ c. c ≡ coefficient_of n k)
         (answer_of result.status result.value) }
-    ensures refusal { result.status ≢ 0 → result ≡ record { status = outside; value = pos 0 } }
+    ensures refusal { result.status ≢ 0 → (result.value ≡ pos 0)
+        × IsReason ((n <ℤ pos 0) ⊎ (k <ℤ pos 0)) result.status }
 {
-    I64Answer::of(checked::binomial(n, k))
+    I64Answer::of(checked::binomial(n, k), reason_for_counts(n, k))
 }
 
 /// Returns the binomial coefficient of `n` and `k`. That of 11 and 3 is 165.
@@ -30,9 +31,9 @@ pub extern "C" fn cellarcove_binomial_u64(n: u64, k: u64) -> U64Answer
         ((pos 0 ≤ℤ pos n) × (pos 0 ≤ℤ pos k) × FitsUnsignedBits 64 (coefficient_of (pos n) (pos k)))
         (λ c. pos c ≡ coefficient_of (pos n) (pos k))
         (answer_of result.status result.value) }
-    ensures refusal { result.status ≢ 0 → result ≡ record { status = outside; value = 0 } }
+    ensures refusal { result.status ≢ 0 → result ≡ record { status = not_fitting; value = 0 } }
 {
-    U64Answer::of(checked::binomial(n, k))
+    U64Answer::of(checked::binomial(n, k), NOT_FITTING)
 }
 
 /// Returns the multinomial of the counts. That of 2, 1 and 2 is 30.
@@ -42,7 +43,15 @@ pub extern "C" fn cellarcove_multinomial_u64(counts: &[u64]) -> U64Answer
         (EachFits (FitsUnsignedBits 64) (IsMultinomial (map (λ x. pos x) counts.now)))
         (λ m. IsMultinomial (map (λ x. pos x) counts.now) (pos m))
         (answer_of result.status result.value) }
-    ensures refusal { result.status ≢ 0 → result ≡ record { status = outside; value = 0 } }
+    ensures refusal { result.status ≢ 0 → result ≡ record { status = not_fitting; value = 0 } }
 {
-    U64Answer::of(checked::multinomial(counts))
+    U64Answer::of(checked::multinomial(counts), NOT_FITTING)
+}
+
+/// Returns why there is no coefficient of two counts.
+fn reason_for_counts(n: i64, k: i64) -> u32
+    ensures reason { IsReason ((n <ℤ pos 0) ⊎ (k <ℤ pos 0)) result }
+    ensures refused { result ≢ 0 }
+{
+    if n < 0 || k < 0 { OUTSIDE } else { NOT_FITTING }
 }

@@ -1,21 +1,21 @@
 //! Dates of the proleptic Gregorian calendar, and days counted from 1970-01-01, which is day 0.
 
-ghost use Rattle.std.specs.Prelude.{◌≡◌, ◌≢◌, ◌⊎◌, ◌↔◌, ◌≤◌, ◌+ℤ◌, ℕ, ℤ, pos, FitsSigned, MatchOption};
+ghost use Rattle.std.specs.Prelude.{◌≡◌, ◌≢◌, ◌⊎◌, ◌↔◌, ◌<◌, ◌≤◌, ◌+ℤ◌, ℕ, ℤ, pos, FitsSigned, MatchOption};
 ghost use Rattle.std.specs.Int.{w64};
 ghost use Rattle.calendar.specs.Dates.{HasParts, number_of};
 ghost use Rattle.calendar.specs.Easter.{IsEaster};
 ghost use Rattle.calendar.specs.IsoWeeks.{IsDayOfIsoWeek, IsInIsoWeek};
 ghost use Rattle.calendar.specs.Months.{IsDate};
 ghost use Rattle.calendar.specs.Weekday.{weekday_number};
-ghost use Rattle.calendar.specs.Years.{HasDay, day_number};
+ghost use Rattle.calendar.specs.Years.{day_number};
 ghost use Rattle.calendar.specs.declared.weekday.Weekday.{Weekday};
 ghost use Rattle.num_integer.specs.Checked.{AnswersWhere};
 ghost use Rattle.num_integer.specs.Division.{IsFloored, IsRemainder};
-ghost use Rattle.cellarcove_c.specs.Dates.{IsMonthsLater, MatchMonthsBetween};
+ghost use Rattle.cellarcove_c.specs.Dates.{HasIsoWeek, IsDayBeyond, IsMonthsLater, MatchMonthsBetween};
 ghost use Rattle.cellarcove_c.specs.Statuses.{answer_of, no_date, not_fitting, outside};
 
 use crate::answers::{ANSWER, I64Answer, NO_DATE, NOT_FITTING, OUTSIDE};
-use calendar::{Weekday, easter, months_between, weekday_of};
+use calendar::{Weekday, easter, months_between, weekday_of, weeks_in_year};
 
 /// A date, where there is one of its year, month and day of the month.
 #[repr(C)]
@@ -170,16 +170,16 @@ pub extern "C" fn cellarcove_date_from_iso_week(year: i64, week: u8, weekday: u8
         × ((w : Weekday) × (weekday_number w ≡ weekday) × IsDayOfIsoWeek
         (day_number result.date.year result.date.month result.date.day_of_month) year week w) }
     ensures outside { (result.status ≡ outside) ↔ (7 ≤ weekday) }
-    ensures no_date { result.status ≡ no_date → (w : Weekday) × (weekday_number w ≡ weekday)
-        × ((day y : ℤ) → IsDayOfIsoWeek day year week w → HasDay y day → ¬ (FitsSigned w64 y)) }
+    ensures no_date { (result.status ≡ no_date) ↔ ((weekday < 7) × (¬ (HasIsoWeek year week))) }
+    ensures not_fitting { (result.status ≡ not_fitting) ↔ IsDayBeyond year week weekday }
     ensures refusal { result.status ≢ 0
         → (result.date ≡ record { year = pos 0; month = 0; day_of_month = 0 })
-        × ((result.status ≡ outside) ⊎ (result.status ≡ no_date)) }
+        × ((result.status ≡ outside) ⊎ ((result.status ≡ no_date) ⊎ (result.status ≡ not_fitting))) }
 {
     match weekday_of_number(weekday) {
         Some(weekday) => match calendar::Date::from_iso_week(year, week, weekday) {
             Some(found) => DateAnswer::some(&found),
-            None => DateAnswer::none(NO_DATE),
+            None => DateAnswer::none(reason_for_week(year, week)),
         },
         None => DateAnswer::none(OUTSIDE),
     }
@@ -263,6 +263,20 @@ impl IsoWeekAnswer {
             week: 0,
             year: 0,
         }
+    }
+}
+
+/// Returns why there is no date of a day of a week: the year has no such week, or the day is in a year
+/// that does not fit.
+fn reason_for_week(year: i64, week: u8) -> u32
+    ensures no_date { (result ≡ no_date) ↔ (¬ (HasIsoWeek year week)) }
+    ensures not_fitting { (result ≡ not_fitting) ↔ HasIsoWeek year week }
+    ensures refusal { (result ≡ no_date) ⊎ (result ≡ not_fitting) }
+{
+    if (1..=weeks_in_year(year)).contains(&week) {
+        NOT_FITTING
+    } else {
+        NO_DATE
     }
 }
 

@@ -6,9 +6,9 @@ ghost use Rattle.num_integer.specs.Checked.{AnswersWhere};
 ghost use Rattle.num_integer.specs.Division.{IsCeiled, IsFloored, IsMultiple, IsQuotient, IsRemainder, IsTruncated};
 ghost use Rattle.num_integer.specs.Divisors.{Divides};
 ghost use Rattle.num_integer.specs.Range.{EachFits};
-ghost use Rattle.cellarcove_c.specs.Statuses.{answer_of, outside};
+ghost use Rattle.cellarcove_c.specs.Statuses.{IsReason, answer_of, outside};
 
-use crate::answers::{ANSWER, I64Answer, OUTSIDE, U64Answer};
+use crate::answers::{ANSWER, I64Answer, NOT_FITTING, OUTSIDE, U64Answer};
 use num_integer::{Integer, checked};
 
 /// A status, and a quotient with its remainder.
@@ -36,10 +36,10 @@ pub extern "C" fn cellarcove_div_rem_i64(x: i64, y: i64) -> I64Division
         ((y ≢ pos 0) × EachFits (FitsSigned w64) (IsQuotient IsTruncated x y))
         (λ (q, r). IsTruncated x y q r)
         (answer_of result.status (result.quotient, result.remainder)) }
-    ensures refusal { result.status ≢ 0
-        → result ≡ record { status = outside; quotient = pos 0; remainder = pos 0 } }
+    ensures refusal { result.status ≢ 0 → (result.quotient ≡ pos 0) × (result.remainder ≡ pos 0)
+        × IsReason (y ≡ pos 0) result.status }
 {
-    I64Division::of(checked::div_rem(x, y))
+    I64Division::of(checked::div_rem(x, y), reason_for_divisor(y))
 }
 
 /// Returns the quotient rounded toward 0, and its remainder. Those of 8 by 3 are 2 and 2.
@@ -52,7 +52,7 @@ pub extern "C" fn cellarcove_div_rem_u64(x: u64, y: u64) -> U64Division
     ensures refusal { result.status ≢ 0
         → result ≡ record { status = outside; quotient = 0; remainder = 0 } }
 {
-    U64Division::of(checked::div_rem(x, y))
+    U64Division::of(checked::div_rem(x, y), OUTSIDE)
 }
 
 /// Returns the quotient rounded down. That of -8 by 3 is -3.
@@ -61,9 +61,9 @@ pub extern "C" fn cellarcove_div_floor_i64(x: i64, y: i64) -> I64Answer
     ensures answer { AnswersWhere
         ((y ≢ pos 0) × EachFits (FitsSigned w64) (IsQuotient IsFloored x y)) (IsQuotient IsFloored x y)
         (answer_of result.status result.value) }
-    ensures refusal { result.status ≢ 0 → result ≡ record { status = outside; value = pos 0 } }
+    ensures refusal { result.status ≢ 0 → (result.value ≡ pos 0) × IsReason (y ≡ pos 0) result.status }
 {
-    I64Answer::of(checked::div_floor(x, y))
+    I64Answer::of(checked::div_floor(x, y), reason_for_divisor(y))
 }
 
 /// Returns the quotient rounded down. That of 8 by 3 is 2.
@@ -75,7 +75,7 @@ pub extern "C" fn cellarcove_div_floor_u64(x: u64, y: u64) -> U64Answer
         (answer_of result.status result.value) }
     ensures refusal { result.status ≢ 0 → result ≡ record { status = outside; value = 0 } }
 {
-    U64Answer::of(checked::div_floor(x, y))
+    U64Answer::of(checked::div_floor(x, y), OUTSIDE)
 }
 
 /// Returns the quotient rounded up. That of 8 by 3 is 3.
@@ -84,9 +84,9 @@ pub extern "C" fn cellarcove_div_ceil_i64(x: i64, y: i64) -> I64Answer
     ensures answer { AnswersWhere
         ((y ≢ pos 0) × EachFits (FitsSigned w64) (IsQuotient IsCeiled x y)) (IsQuotient IsCeiled x y)
         (answer_of result.status result.value) }
-    ensures refusal { result.status ≢ 0 → result ≡ record { status = outside; value = pos 0 } }
+    ensures refusal { result.status ≢ 0 → (result.value ≡ pos 0) × IsReason (y ≡ pos 0) result.status }
 {
-    I64Answer::of(checked::div_ceil(x, y))
+    I64Answer::of(checked::div_ceil(x, y), reason_for_divisor(y))
 }
 
 /// Returns the quotient rounded up. That of 8 by 3 is 3.
@@ -98,7 +98,7 @@ pub extern "C" fn cellarcove_div_ceil_u64(x: u64, y: u64) -> U64Answer
         (answer_of result.status result.value) }
     ensures refusal { result.status ≢ 0 → result ≡ record { status = outside; value = 0 } }
 {
-    U64Answer::of(checked::div_ceil(x, y))
+    U64Answer::of(checked::div_ceil(x, y), OUTSIDE)
 }
 
 /// Returns the remainder of the quotient rounded down. That of -8 by 3 is 1.
@@ -108,7 +108,7 @@ pub extern "C" fn cellarcove_mod_floor_i64(x: i64, y: i64) -> I64Answer
         (answer_of result.status result.value) }
     ensures refusal { result.status ≢ 0 → result ≡ record { status = outside; value = pos 0 } }
 {
-    I64Answer::of(checked::mod_floor(x, y))
+    I64Answer::of(checked::mod_floor(x, y), OUTSIDE)
 }
 
 /// Returns the remainder of the quotient rounded down. That of 8 by 3 is 2.
@@ -119,7 +119,7 @@ pub extern "C" fn cellarcove_mod_floor_u64(x: u64, y: u64) -> U64Answer
         (answer_of result.status result.value) }
     ensures refusal { result.status ≢ 0 → result ≡ record { status = outside; value = 0 } }
 {
-    U64Answer::of(checked::mod_floor(x, y))
+    U64Answer::of(checked::mod_floor(x, y), OUTSIDE)
 }
 
 /// Returns the quotient rounded down, and its remainder. Those of -8 by 3 are -3 and 1.
@@ -129,10 +129,10 @@ pub extern "C" fn cellarcove_div_mod_floor_i64(x: i64, y: i64) -> I64Division
         ((y ≢ pos 0) × EachFits (FitsSigned w64) (IsQuotient IsFloored x y))
         (λ (q, r). IsFloored x y q r)
         (answer_of result.status (result.quotient, result.remainder)) }
-    ensures refusal { result.status ≢ 0
-        → result ≡ record { status = outside; quotient = pos 0; remainder = pos 0 } }
+    ensures refusal { result.status ≢ 0 → (result.quotient ≡ pos 0) × (result.remainder ≡ pos 0)
+        × IsReason (y ≡ pos 0) result.status }
 {
-    I64Division::of(checked::div_mod_floor(x, y))
+    I64Division::of(checked::div_mod_floor(x, y), reason_for_divisor(y))
 }
 
 /// Returns the quotient rounded down, and its remainder. Those of 8 by 3 are 2 and 2.
@@ -145,7 +145,7 @@ pub extern "C" fn cellarcove_div_mod_floor_u64(x: u64, y: u64) -> U64Division
     ensures refusal { result.status ≢ 0
         → result ≡ record { status = outside; quotient = 0; remainder = 0 } }
 {
-    U64Division::of(checked::div_mod_floor(x, y))
+    U64Division::of(checked::div_mod_floor(x, y), OUTSIDE)
 }
 
 /// Returns the quotient of `a * b` by `d`, rounded down, and its remainder. The product need not fit. Those
@@ -156,10 +156,13 @@ pub extern "C" fn cellarcove_product_div_mod_floor_i64(a: i64, b: i64, d: i64) -
         ((d ≢ pos 0) × EachFits (FitsSigned w64) (IsQuotient IsFloored (a *ℤ b) d))
         (λ (q, r). IsFloored (a *ℤ b) d q r)
         (answer_of result.status (result.quotient, result.remainder)) }
-    ensures refusal { result.status ≢ 0
-        → result ≡ record { status = outside; quotient = pos 0; remainder = pos 0 } }
+    ensures refusal { result.status ≢ 0 → (result.quotient ≡ pos 0) × (result.remainder ≡ pos 0)
+        × IsReason (d ≡ pos 0) result.status }
 {
-    I64Division::of(checked::product_div_mod_floor(a, b, d))
+    I64Division::of(
+        checked::product_div_mod_floor(a, b, d),
+        reason_for_divisor(d),
+    )
 }
 
 /// Returns the quotient of `a * b` by `d`, rounded down, and its remainder. The product need not
@@ -170,10 +173,13 @@ pub extern "C" fn cellarcove_product_div_mod_floor_u64(a: u64, b: u64, d: u64) -
         ((pos d ≢ pos 0) × EachFits (FitsUnsignedBits 64) (IsQuotient IsFloored (pos a *ℤ pos b) (pos d)))
         (λ (q, r). IsFloored (pos a *ℤ pos b) (pos d) (pos q) (pos r))
         (answer_of result.status (result.quotient, result.remainder)) }
-    ensures refusal { result.status ≢ 0
-        → result ≡ record { status = outside; quotient = 0; remainder = 0 } }
+    ensures refusal { result.status ≢ 0 → (result.quotient ≡ 0) × (result.remainder ≡ 0)
+        × IsReason (pos d ≡ pos 0) result.status }
 {
-    U64Division::of(checked::product_div_mod_floor(a, b, d))
+    U64Division::of(
+        checked::product_div_mod_floor(a, b, d),
+        reason_for_unsigned_divisor(d),
+    )
 }
 
 /// Returns the quotient rounded up, times `y`. For 23 and 8 it is 24.
@@ -182,9 +188,9 @@ pub extern "C" fn cellarcove_next_multiple_of_i64(x: i64, y: i64) -> I64Answer
     ensures answer { AnswersWhere
         ((y ≢ pos 0) × EachFits (FitsSigned w64) (IsMultiple IsCeiled x y)) (IsMultiple IsCeiled x y)
         (answer_of result.status result.value) }
-    ensures refusal { result.status ≢ 0 → result ≡ record { status = outside; value = pos 0 } }
+    ensures refusal { result.status ≢ 0 → (result.value ≡ pos 0) × IsReason (y ≡ pos 0) result.status }
 {
-    I64Answer::of(checked::next_multiple_of(x, y))
+    I64Answer::of(checked::next_multiple_of(x, y), reason_for_divisor(y))
 }
 
 /// Returns the quotient rounded up, times `y`. For 23 and 8 it is 24.
@@ -194,9 +200,12 @@ pub extern "C" fn cellarcove_next_multiple_of_u64(x: u64, y: u64) -> U64Answer
         ((pos y ≢ pos 0) × EachFits (FitsUnsignedBits 64) (IsMultiple IsCeiled (pos x) (pos y)))
         (λ m. IsMultiple IsCeiled (pos x) (pos y) (pos m))
         (answer_of result.status result.value) }
-    ensures refusal { result.status ≢ 0 → result ≡ record { status = outside; value = 0 } }
+    ensures refusal { result.status ≢ 0 → (result.value ≡ 0) × IsReason (pos y ≡ pos 0) result.status }
 {
-    U64Answer::of(checked::next_multiple_of(x, y))
+    U64Answer::of(
+        checked::next_multiple_of(x, y),
+        reason_for_unsigned_divisor(y),
+    )
 }
 
 /// Returns the quotient rounded down, times `y`. For 23 and 8 it is 16.
@@ -205,9 +214,9 @@ pub extern "C" fn cellarcove_prev_multiple_of_i64(x: i64, y: i64) -> I64Answer
     ensures answer { AnswersWhere
         ((y ≢ pos 0) × EachFits (FitsSigned w64) (IsMultiple IsFloored x y)) (IsMultiple IsFloored x y)
         (answer_of result.status result.value) }
-    ensures refusal { result.status ≢ 0 → result ≡ record { status = outside; value = pos 0 } }
+    ensures refusal { result.status ≢ 0 → (result.value ≡ pos 0) × IsReason (y ≡ pos 0) result.status }
 {
-    I64Answer::of(checked::prev_multiple_of(x, y))
+    I64Answer::of(checked::prev_multiple_of(x, y), reason_for_divisor(y))
 }
 
 /// Returns the quotient rounded down, times `y`. For 23 and 8 it is 16.
@@ -219,7 +228,7 @@ pub extern "C" fn cellarcove_prev_multiple_of_u64(x: u64, y: u64) -> U64Answer
         (answer_of result.status result.value) }
     ensures refusal { result.status ≢ 0 → result ≡ record { status = outside; value = 0 } }
 {
-    U64Answer::of(checked::prev_multiple_of(x, y))
+    U64Answer::of(checked::prev_multiple_of(x, y), OUTSIDE)
 }
 
 /// Returns `true` if `x` is a multiple of `y`. Of 0 only 0 is one.
@@ -239,11 +248,12 @@ pub extern "C" fn cellarcove_is_multiple_of_u64(x: u64, y: u64) -> bool
 }
 
 impl I64Division {
-    /// Returns the answer of a call of `num_integer::checked`.
-    fn of(option: Option<(i64, i64)>) -> I64Division
+    /// Returns the answer of a call of `num_integer::checked`, or a refusal for a reason.
+    fn of(option: Option<(i64, i64)>, reason: u32) -> I64Division
+        requires { reason ≢ 0 }
         ensures answer { answer_of result.status (result.quotient, result.remainder) ≡ option }
         ensures refusal { result.status ≢ 0
-            → result ≡ record { status = outside; quotient = pos 0; remainder = pos 0 } }
+            → result ≡ record { status = reason; quotient = pos 0; remainder = pos 0 } }
     {
         match option {
             Some((quotient, remainder)) => I64Division {
@@ -252,7 +262,7 @@ impl I64Division {
                 remainder,
             },
             None => I64Division {
-                status: OUTSIDE,
+                status: reason,
                 quotient: 0,
                 remainder: 0,
             },
@@ -261,11 +271,12 @@ impl I64Division {
 }
 
 impl U64Division {
-    /// Returns the answer of a call of `num_integer::checked`.
-    fn of(option: Option<(u64, u64)>) -> U64Division
+    /// Returns the answer of a call of `num_integer::checked`, or a refusal for a reason.
+    fn of(option: Option<(u64, u64)>, reason: u32) -> U64Division
+        requires { reason ≢ 0 }
         ensures answer { answer_of result.status (result.quotient, result.remainder) ≡ option }
         ensures refusal { result.status ≢ 0
-            → result ≡ record { status = outside; quotient = 0; remainder = 0 } }
+            → result ≡ record { status = reason; quotient = 0; remainder = 0 } }
     {
         match option {
             Some((quotient, remainder)) => U64Division {
@@ -274,10 +285,26 @@ impl U64Division {
                 remainder,
             },
             None => U64Division {
-                status: OUTSIDE,
+                status: reason,
                 quotient: 0,
                 remainder: 0,
             },
         }
     }
+}
+
+/// Returns why a number has no quotient or multiple by a divisor.
+fn reason_for_divisor(divisor: i64) -> u32
+    ensures reason { IsReason (divisor ≡ pos 0) result }
+    ensures refused { result ≢ 0 }
+{
+    if divisor == 0 { OUTSIDE } else { NOT_FITTING }
+}
+
+/// Returns why a number has no quotient or multiple by a divisor.
+fn reason_for_unsigned_divisor(divisor: u64) -> u32
+    ensures reason { IsReason (pos divisor ≡ pos 0) result }
+    ensures refused { result ≢ 0 }
+{
+    if divisor == 0 { OUTSIDE } else { NOT_FITTING }
 }

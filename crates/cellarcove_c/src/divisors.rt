@@ -6,9 +6,9 @@ ghost use Rattle.num_integer.specs.Bezout.{HasPair, IsBezoutAnswer};
 ghost use Rattle.num_integer.specs.Checked.{AnswersWhere};
 ghost use Rattle.num_integer.specs.Divisors.{GcdFits, IsGreatestCommonDivisor, IsLeastCommonMultiple};
 ghost use Rattle.num_integer.specs.Range.{EachFits};
-ghost use Rattle.cellarcove_c.specs.Statuses.{answer_of, outside};
+ghost use Rattle.cellarcove_c.specs.Statuses.{answer_of, not_fitting};
 
-use crate::answers::{ANSWER, I64Answer, OUTSIDE, U64Answer};
+use crate::answers::{ANSWER, I64Answer, NOT_FITTING, U64Answer};
 use num_integer::{ExtendedGcd, checked};
 
 /// A status, and the greatest common divisor with Bezout's coefficients.
@@ -26,9 +26,9 @@ pub struct I64Bezout {
 pub extern "C" fn cellarcove_gcd_i64(x: i64, y: i64) -> I64Answer
     ensures answer { AnswersWhere (GcdFits (FitsSigned w64) x y) (IsGreatestCommonDivisor x y)
         (answer_of result.status result.value) }
-    ensures refusal { result.status ≢ 0 → result ≡ record { status = outside; value = pos 0 } }
+    ensures refusal { result.status ≢ 0 → result ≡ record { status = not_fitting; value = pos 0 } }
 {
-    I64Answer::of(checked::gcd(x, y))
+    I64Answer::of(checked::gcd(x, y), NOT_FITTING)
 }
 
 /// Returns the greatest common divisor. That of 56 and 42 is 14.
@@ -37,9 +37,10 @@ pub extern "C" fn cellarcove_gcd_u64(x: u64, y: u64) -> U64Answer
     ensures answer { AnswersWhere (GcdFits (FitsUnsignedBits 64) (pos x) (pos y))
         (λ g. IsGreatestCommonDivisor (pos x) (pos y) (pos g))
         (answer_of result.status result.value) }
-    ensures refusal { result.status ≢ 0 → result ≡ record { status = outside; value = 0 } }
+    ensures always { result.status ≡ 0 }
+    ensures refusal { result.status ≢ 0 → result ≡ record { status = not_fitting; value = 0 } }
 {
-    U64Answer::of(checked::gcd(x, y))
+    U64Answer::of(checked::gcd(x, y), NOT_FITTING)
 }
 
 /// Returns the least common multiple. That of 4 and 6 is 12.
@@ -47,9 +48,9 @@ pub extern "C" fn cellarcove_gcd_u64(x: u64, y: u64) -> U64Answer
 pub extern "C" fn cellarcove_lcm_i64(x: i64, y: i64) -> I64Answer
     ensures answer { AnswersWhere (EachFits (FitsSigned w64) (IsLeastCommonMultiple x y))
         (IsLeastCommonMultiple x y) (answer_of result.status result.value) }
-    ensures refusal { result.status ≢ 0 → result ≡ record { status = outside; value = pos 0 } }
+    ensures refusal { result.status ≢ 0 → result ≡ record { status = not_fitting; value = pos 0 } }
 {
-    I64Answer::of(checked::lcm(x, y))
+    I64Answer::of(checked::lcm(x, y), NOT_FITTING)
 }
 
 /// Returns the least common multiple. That of 4 and 6 is 12.
@@ -59,9 +60,9 @@ pub extern "C" fn cellarcove_lcm_u64(x: u64, y: u64) -> U64Answer
         (EachFits (FitsUnsignedBits 64) (IsLeastCommonMultiple (pos x) (pos y)))
         (λ l. IsLeastCommonMultiple (pos x) (pos y) (pos l))
         (answer_of result.status result.value) }
-    ensures refusal { result.status ≢ 0 → result ≡ record { status = outside; value = 0 } }
+    ensures refusal { result.status ≢ 0 → result ≡ record { status = not_fitting; value = 0 } }
 {
-    U64Answer::of(checked::lcm(x, y))
+    U64Answer::of(checked::lcm(x, y), NOT_FITTING)
 }
 
 /// Returns the greatest common divisor and Bezout's coefficients: `x` times the first number and `y`
@@ -73,7 +74,7 @@ pub extern "C" fn cellarcove_extended_gcd_i64(x: i64, y: i64) -> I64Bezout
         (λ (g, u, v). IsBezoutAnswer x y g u v)
         (answer_of result.status (result.gcd, result.x, result.y)) }
     ensures refusal { result.status ≢ 0
-        → result ≡ record { status = outside; gcd = pos 0; x = pos 0; y = pos 0 } }
+        → result ≡ record { status = not_fitting; gcd = pos 0; x = pos 0; y = pos 0 } }
 {
     match checked::extended_gcd(x, y) {
         Some(e) => I64Bezout::some(e),
@@ -96,10 +97,10 @@ impl I64Bezout {
 
     /// Returns the refusal.
     fn none() -> I64Bezout
-        ensures { result ≡ record { status = outside; gcd = pos 0; x = pos 0; y = pos 0 } }
+        ensures { result ≡ record { status = not_fitting; gcd = pos 0; x = pos 0; y = pos 0 } }
     {
         I64Bezout {
-            status: OUTSIDE,
+            status: NOT_FITTING,
             gcd: 0,
             x: 0,
             y: 0,

@@ -8,5 +8,6 @@ mod dates;
 mod division;
 mod divisors;
 mod fractions;
+mod from_contracts;
 mod modulo;
 mod roots;

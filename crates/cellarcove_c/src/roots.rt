@@ -6,7 +6,7 @@ ghost use Rattle.num_integer.specs.Checked.{AnswersWhere};
 ghost use Rattle.num_integer.specs.RootOf.{IsRoot};
 ghost use Rattle.cellarcove_c.specs.Statuses.{answer_of, outside};
 
-use crate::answers::{I64Answer, U64Answer};
+use crate::answers::{I64Answer, OUTSIDE, U64Answer};
 use num_integer::{average_ceil, average_floor, cbrt, checked};
 
 /// Returns the average rounded down. That of 3 and 10 is 6.
@@ -48,7 +48,7 @@ pub extern "C" fn cellarcove_sqrt_i64(x: i64) -> I64Answer
         (answer_of result.status result.value) }
     ensures refusal { result.status ≢ 0 → result ≡ record { status = outside; value = pos 0 } }
 {
-    I64Answer::of(checked::sqrt(x))
+    I64Answer::of(checked::sqrt(x), OUTSIDE)
 }
 
 /// Returns the square root rounded down. That of 99 is 9.
@@ -56,9 +56,10 @@ pub extern "C" fn cellarcove_sqrt_i64(x: i64) -> I64Answer
 pub extern "C" fn cellarcove_sqrt_u64(x: u64) -> U64Answer
     ensures answer { AnswersWhere (pos 0 ≤ℤ pos x) (λ r. IsRoot (pos x) 2 (pos r))
         (answer_of result.status result.value) }
+    ensures always { result.status ≡ 0 }
     ensures refusal { result.status ≢ 0 → result ≡ record { status = outside; value = 0 } }
 {
-    U64Answer::of(checked::sqrt(x))
+    U64Answer::of(checked::sqrt(x), OUTSIDE)
 }
 
 /// Returns the cube root rounded toward 0. That of -9 is -2.
@@ -84,7 +85,7 @@ pub extern "C" fn cellarcove_nth_root_i64(x: i64, degree: u32) -> I64Answer
         (answer_of result.status result.value) }
     ensures refusal { result.status ≢ 0 → result ≡ record { status = outside; value = pos 0 } }
 {
-    I64Answer::of(checked::nth_root(x, degree))
+    I64Answer::of(checked::nth_root(x, degree), OUTSIDE)
 }
 
 /// Returns the root of a degree, rounded down. That of 9 of degree 3 is 2.
@@ -95,5 +96,5 @@ pub extern "C" fn cellarcove_nth_root_u64(x: u64, degree: u32) -> U64Answer
         (answer_of result.status result.value) }
     ensures refusal { result.status ≢ 0 → result ≡ record { status = outside; value = 0 } }
 {
-    U64Answer::of(checked::nth_root(x, degree))
+    U64Answer::of(checked::nth_root(x, degree), OUTSIDE)
 }

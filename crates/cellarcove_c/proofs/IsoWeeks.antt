@@ -1,0 +1,85 @@
+-- The weeks of a year, and their days.
+use Rattle.std.specs.Prelude.{◌≡◌, ◌↔◌, ◌+◌, ◌-◌, ◌%◌, ◌≤◌, ◌-ℤ◌, ◌*ℤ◌, ℕ, ℤ, pos, FitsSigned}
+use Rattle.std.specs.Int.{w64}
+use Rattle.std.proofs.Common.{◌∙◌, ap, arith, subst, sym}
+use Rattle.std.proofs.lemmas.Int.{ints}
+use Rattle.calendar.specs.Dates.{number_of}
+use Rattle.calendar.specs.IsoWeeks.{HasIsoWeeks, IsDayOfIsoWeek, IsInIsoWeek}
+use Rattle.calendar.specs.Weekday.{weekday_number}
+use Rattle.calendar.specs.Years.{HasDay}
+use Rattle.calendar.specs.declared.date.Date.{Date}
+use Rattle.calendar.specs.declared.weekday.Weekday.{Weekday}
+use Rattle.calendar.proofs.ForCallers.{weekday_within, weeks_apart, year_day_range}
+use Rattle.calendar.proofs.Laws.{iso_day_is_only, iso_number_is_only, weeks_of_a_year, years_follow}
+use Rattle.cellarcove_c.specs.Dates.{HasIsoWeek, IsDayBeyond}
+
+-- ---- weeks
+
+-- a year that has a week has the earlier ones
+earlier_week : {day year : ℤ} {week : ℕ} (n : ℕ) → 1 ≤ week → IsInIsoWeek day year (week + n) → HasIsoWeek year week
+earlier_week n from h =
+    let thursday = h.thursday -ℤ pos 7 *ℤ pos n in
+    record {
+      day = thursday;
+      in_week = record {
+        thursday = thursday;
+        of_week = record {
+          has_weekday = weeks_apart (pos 0 -ℤ pos n) (omega (arith, ints)) h.of_week.has_weekday;
+          from = omega (arith, ints);
+          to = omega (arith, ints);
+        };
+        of_year = record { from = omega (arith, ints, h.from); before = omega (arith, ints, h.of_year.before) };
+        from = omega (arith, ints, h.from);
+        before = omega (arith, ints, h.before);
+      };
+    }
+
+-- it has those up to the last and no other
+pub has_week : {year : ℤ} {weeks week : ℕ} → HasIsoWeeks year weeks → HasIsoWeek year week ↔ ((1 ≤ week) × (week ≤ weeks))
+has_week {year} {weeks} {week} h = (
+  λ k. ((weeks_of_a_year k.day year week k.in_week).0, h.no_later k.day week k.in_week),
+  λ (from, to).
+      let apart : weeks ≡ week + (weeks - week) = omega arith in
+      earlier_week (weeks - week) from (subst (λ (n : ℕ). IsInIsoWeek h.day year n) apart h.in_last),
+)
+
+-- ---- days
+
+-- a week has each day of the week
+day_in_week : {year : ℤ} {week : ℕ} → HasIsoWeek year week → (weekday : Weekday) → (day : ℤ) × IsDayOfIsoWeek day year week weekday
+day_in_week h weekday =
+    let k = h.in_week in
+    let (days, small, own) = weekday_within (k.thursday -ℤ pos 3) weekday in (
+      _,
+      record {
+        in_week = record {
+          thursday = k.thursday;
+          of_week = record { has_weekday = k.of_week.has_weekday; from = omega (arith, ints); to = omega (arith, ints) };
+          of_year = k.of_year;
+          from = k.from;
+          before = k.before;
+        };
+        has_weekday = own;
+      },
+    )
+
+-- a date is in its year
+in_its_year : (date : Date) → HasDay date.year (number_of date)
+in_its_year date =
+    let range = year_day_range date.valid in
+    record { from = omega (arith, ints); before = omega (arith, ints, years_follow date.year) }
+
+-- a week of the year that has no date in a year that fits has its day beyond
+pub is_beyond : {year : ℤ} {week number : ℕ} (weekday : Weekday) → weekday_number weekday ≡ number
+    → ((day y : ℤ) → IsDayOfIsoWeek day year week weekday → HasDay y day → ¬ (FitsSigned w64 y)) → HasIsoWeek year week → IsDayBeyond year week number
+is_beyond weekday same beyond h =
+    let (day, own) = day_in_week h weekday in
+    record { day = day; day_of_week = weekday; number = same; of_week = own; beyond = λ y k. beyond day y own k }
+
+-- and one that has a date has not
+pub not_beyond : {year : ℤ} {week number : ℕ} (weekday : Weekday) (date : Date) → weekday_number weekday ≡ number → IsDayOfIsoWeek (number_of date) year week weekday
+    → FitsSigned w64 date.year → ¬ (IsDayBeyond year week number)
+not_beyond {year} {week} weekday date same own fits = λ h.
+    let weekday_is = iso_number_is_only h.day_of_week weekday (ap (λ (n : ℕ). (n + 6) % 7 + 1) (h.number ∙ sym same)) in
+    let day = iso_day_is_only h.day (number_of date) year week weekday (subst (λ (d : Weekday). IsDayOfIsoWeek h.day year week d) weekday_is h.of_week) own in
+    h.beyond date.year (subst (λ (t : ℤ). HasDay date.year t) (sym day) (in_its_year date)) fits

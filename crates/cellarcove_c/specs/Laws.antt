@@ -1,0 +1,39 @@
+-- The laws of what the calls for C say. Each is proved in proofs/Laws.antt, by a lemma of its name in small letters.
+use Rattle.std.specs.Prelude.{◌≡◌, ℕ, ℤ, pos, FitsSigned, IfSome, Option, Result}
+use Rattle.std.specs.Int.{w64}
+use Rattle.std.specs.declared.cmp.Ordering.{Ordering}
+use Rattle.calendar.specs.Months.{IsDate}
+use Rattle.ratio64.specs.declared.error.RatioError.{RatioError}
+use Rattle.ratio64.specs.declared.fraction.Ratio.{Ratio}
+use Rattle.cellarcove_c.specs.Dates.{IsMonthsLater, MatchMonthsBetween}
+use Rattle.cellarcove_c.specs.Fractions.{StandsFor, order_number}
+use Rattle.cellarcove_c.specs.Statuses.{IsReason}
+
+-- ---- statuses
+
+-- Each divisor has at most one status that says why there is no quotient.
+abbrev pub ReasonIsOnly : Type 0
+ReasonIsOnly = (divisor : ℤ) (s t : ℕ) → IsReason (divisor ≡ pos 0) s → IsReason (divisor ≡ pos 0) t → s ≡ t
+
+-- ---- fractions
+
+-- Each result has at most one status and one pair of numbers.
+abbrev pub StandsForIsOnly : Type 0
+StandsForIsOnly = (answered : Result Ratio RatioError) (s t : ℕ) (a b c d : ℤ) → StandsFor answered s a b → StandsFor answered t c d → (s ≡ t) × (a ≡ c) × (b ≡ d)
+
+-- Each number is that of at most one order.
+abbrev pub OrderNumberIsOnly : Type 0
+OrderNumberIsOnly = (a b : Ordering) → order_number a ≡ order_number b → a ≡ b
+
+-- ---- dates
+
+-- Each date has at most one date a number of months later.
+abbrev pub MonthsLaterIsOnly : Type 0
+MonthsLaterIsOnly = (from_year months a_year b_year : ℤ) (from_month from_day a_month a_day b_month b_day : ℕ) → IsDate a_year a_month a_day → IsDate b_year b_month b_day
+    → IsMonthsLater from_year from_month from_day months a_year a_month a_day → IsMonthsLater from_year from_month from_day months b_year b_month b_day
+    → (a_year ≡ b_year) × (a_month ≡ b_month) × (a_day ≡ b_day)
+
+-- From each date to each other there is at most one number of months that fits, or none at all.
+abbrev pub MonthsBetweenIsOnly : Type 0
+MonthsBetweenIsOnly = (year to_year : ℤ) (month day to_month to_day : ℕ) (a b : Option ℤ) → IfSome a (FitsSigned w64) → IfSome b (FitsSigned w64)
+    → MatchMonthsBetween year month day to_year to_month to_day a → MatchMonthsBetween year month day to_year to_month to_day b → a ≡ b
