@@ -91,11 +91,11 @@ class Eraser:
             return self.drop_line(item.first, item.last)
         for first, last in item.attributes:
             self.attribute(first, last)
-        self.guards.add(item, owner)
         rust_docs.add_proved(self, item, owner)
         for k in range(item.first, item.word):
             if self.at(k) == 'final':
                 self.drop(k, k)
+        self.guards.add(item, owner)
         if item.kind == 'use':
             return self.use(item)
         if item.kind == 'struct':

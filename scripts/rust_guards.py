@@ -15,11 +15,13 @@ import shutil
 import subprocess
 import sys
 import tempfile
+import textwrap
 from dataclasses import dataclass
 
 from rattle_source import Source, Unknown
 
 REPOSITORY = pathlib.Path(__file__).resolve().parent.parent
+WIDTH = 96                                      # of the lines of a section
 HIDDEN = REPOSITORY / 'rust' / 'by_hand' / 'hidden_methods.rs'
 
 # ---- what the clauses say
@@ -178,6 +180,10 @@ WAY = {('integer_core', 'division', 'div_rem'), ('integer_core', 'division', 'di
        ('num_integer', 'rows', 'next')}
 
 
+def wrapped(texts):
+    return [line for text in texts for line in textwrap.wrap(text, WIDTH)]
+
+
 def fold(text):
     return re.sub(r'\s+', ' ', text).strip()
 
@@ -245,7 +251,7 @@ class Guards:
         known = item.kind == 'fn' and (*self.place, item.name) in WAY
         of_trait = owner is not None and owner.kind == 'impl' and owner.of_trait
         if (any(row.when and row.way not in (LATER, DOCUMENTED) for row, _ in met) and not of_trait) or known:
-            first = self.source.code[item.first]
+            first = next(i for i in self.source.code[item.first:item.word + 1] if self.eraser.texts[i])
             self.eraser.texts[first] = '#[track_caller]\n' + self.eraser.texts[first]
         if item.kind == 'fn' and item.open is not None:
             tests = ''.join(self.test(row, names, item) for row, names in met)
@@ -271,8 +277,8 @@ class Guards:
         panics = [f'If {", or if ".join(conditions)}.'] if conditions else []
         if any(row.way == LATER for row, _ in self.met(item, owner)):
             panics, others = panics + others, []
-        lines = ['', *others] if others else []
-        return lines + (['', '# Panics', '', *panics] if panics else [])
+        lines = ['', *wrapped(others)] if others else []
+        return lines + (['', '# Panics', '', *wrapped(panics)] if panics else [])
 
     # ---- after the walk
 
