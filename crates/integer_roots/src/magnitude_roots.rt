@@ -20,9 +20,6 @@ pub(crate) fn square_root_by_magnitude<T: NativeInteger<Magnitude = u64>>(x: T) 
     ensures turns { AreSquareRootTurns (T.value x) result.1 }
     ensures bound { result.1 ≤ 5 }
 {
-    if is_negative(x) {
-        unreachable!("the square root of a negative number");
-    }
     let (root, turns) = square_root_counted(x.magnitude());
     (T::from_magnitude(root), turns)
 }
@@ -52,11 +49,9 @@ pub(crate) fn root_by_magnitude<T: NativeInteger<Magnitude = u64>>(x: T, n: u32)
     ensures root { IsRoot (T.value x) n (T.value result) }
 {
     match n {
-        0 => unreachable!("a root of degree 0"),
         1 => x,
         2 => square_root_by_magnitude(x).0,
         3 => cube_root_by_magnitude(x),
-        _ if n % 2 == 0 && is_negative(x) => unreachable!("an even root of a negative number"),
         _ => with_sign_of(x, root_of_degree(x.magnitude(), n)),
     }
 }

@@ -8,12 +8,13 @@ use borrow.Author.Differences.{abs_is}
 use Rattle.integer_core.proofs.CommonDivisors.{gcd-divisor, only_gcd, gcd-zero, gcd-swap, lcm-computed, only_lcm}
 use Rattle.integer_core.proofs.Divisibility.{Divides-refl, abs_zero}
 use Rattle.integer_core.proofs.EuclidTurns.{divisor_size}
+use Rattle.integer_core.proofs.GcdDomain.{gcd_fits_is}
 use Rattle.integer_core.proofs.Multiples.{only_multiple}
 use Rattle.integer_core.proofs.Quotients.{only_ceiled, only_floored, only_truncated, floored_by_minus_one, other_quotient_fits}
 use Rattle.integer_core.proofs.Ranges.{within_fits}
 use Rattle.integer_core.proofs.Whole.{from_not_less, linear}
 use Rattle.integer_core.specs.Division.{EachKind, IsCeiled, IsDivision, IsFloored, IsTruncated, IsQuotient, IsMultiple}
-use Rattle.integer_core.specs.Divisors.{IsGreatestCommonDivisor, IsLeastCommonMultiple}
+use Rattle.integer_core.specs.Divisors.{GcdFits, IsGreatestCommonDivisor, IsLeastCommonMultiple}
 use Rattle.integer_core.specs.Range.{IsRange, EachFits}
 use Rattle.num_integer.proofs.DivisorSizes.{divisor_at_most}
 use Rattle.num_integer.specs.Parts.{IsWithin, signed}
@@ -61,6 +62,11 @@ pub gcd_with_positive : {fits : ℤ → Type 0} {low high a b : ℤ} {answer : B
     → IsTrue answer ↔ EachFits fits (IsGreatestCommonDivisor a b) → pos 0 <ℤ b → IsTrue answer
 gcd_with_positive range b_fits test up =
     test.1 (λ g h. fits_below range b_fits h.from_zero (divisor_at_most up h.divides_right))
+
+-- the same test, of the condition of the call
+pub gcd_domain : {fits : ℤ → Type 0} {low high a b : ℤ} {answer : Bool} → IsRange fits low high → fits a → fits b
+    → IsTrue answer ↔ EachFits fits (IsGreatestCommonDivisor a b) → IsTrue answer ↔ GcdFits fits a b
+gcd_domain range a_fits b_fits test = let same = gcd_fits_is range a_fits b_fits in (λ t. same.1 (test.0 t), λ domain. test.1 (same.0 domain))
 
 -- ---- what the three kinds of division share
 

@@ -16,7 +16,7 @@ use Rattle.integer_core.specs.Divisors.{Divides, IsGreatestCommonDivisor}
 use Rattle.integer_core.specs.Range.{IsRange}
 use Rattle.num_integer.proofs.FittingAnswers.{fits_below}
 use Rattle.num_integer.proofs.OrderedProducts.{factor_positive}
-use Rattle.num_integer.proofs.Pascal.{mirror, next_in_row, coefficient-zero, nearer_same, rises}
+use Rattle.num_integer.proofs.Pascal.{mirror, next_in_row, nearer_same, rises}
 use Rattle.num_integer.specs.Coefficient.{coefficient, coefficient_of}
 use Rattle.num_integer.specs.Laws.{RowIsGreatestInMiddle, RowIsPalindrome, RowLength}
 use Rattle.num_integer.specs.Row.{IsPlaceInRow, RowFits, row_of}
@@ -177,19 +177,19 @@ row_in_range {fits} (negsuc n) range row = All-nil fits
 -- ---- the steps of an iterator over the row of n
 
 -- a new iterator begins at the first item
-pub place_first : {fits : ℤ → Type 0} {n k item : ℤ} → fits n → RowFits fits n → fits k → k ≡ pos 0 → fits item → item ≡ pos 1 → IsPlaceInRow fits n k item
-place_first n_fits row k_fits none item_fits one =
-    record { n_in_range = n_fits; k_in_range = k_fits; k_from_zero = omega (arith, ints); row_fits = row; item_in_range = item_fits; item_is = λ within. one ∙ ap pos (sym (rw none (coefficient-zero _))) }
+pub place_first : {fits : ℤ → Type 0} {n k item : ℤ} → fits n → RowFits fits n → fits k → k ≡ pos 0 → fits item → IsPlaceInRow fits n k item
+place_first n_fits row k_fits none item_fits =
+    record { n_in_range = n_fits; k_in_range = k_fits; k_from_zero = omega (arith, ints); row_fits = row; item_in_range = item_fits; item_is = λ above. absurd (omega (arith, ints)) }
 
 -- neither the next item nor the next place leaves the type
-module _ {fits : ℤ → Type 0} {low high n k item : ℤ} (range : IsRange fits low high) (place : IsPlaceInRow fits n k item) where
-  pub item_fits : k <ℤ n → fits (coefficient_of n (k +ℤ pos 1))
-  item_fits below =
+module _ {fits : ℤ → Type 0} {low high n k item : ℤ} (range : IsRange fits low high) (place : IsPlaceInRow fits n k item) (within : k ≤ℤ n) where
+  pub item_fits : fits (coefficient_of n k)
+  item_fits =
       let up = place.k_from_zero in
-      fits_below range (place.row_fits (omega (arith, ints))).1 (omega (arith, ints)) (omega (arith, ints, below_middle (unsigned_abs n) (unsigned_abs (k +ℤ pos 1)) (omega (arith, ints))))
+      fits_below range (place.row_fits (omega (arith, ints))).1 (omega (arith, ints)) (omega (arith, ints, below_middle (unsigned_abs n) (unsigned_abs k) (omega (arith, ints))))
 
-  pub place_fits : k ≤ℤ n → fits (k +ℤ pos 1)
-  place_fits within = let up = place.k_from_zero in fits_below range (place.row_fits (omega (arith, ints))).0 (omega (arith, ints)) (omega (arith, ints))
+  pub place_fits : fits (k +ℤ pos 1)
+  place_fits = let up = place.k_from_zero in fits_below range (place.row_fits (omega (arith, ints))).0 (omega (arith, ints)) (omega (arith, ints))
 
 -- a row has one item more than n
 pub one_item_more : RowLength

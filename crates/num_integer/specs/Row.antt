@@ -1,5 +1,5 @@
 -- Rows of Pascal's triangle.
-use Rattle.std.specs.Prelude.{◌≡◌, ◌+◌, ◌/◌, ◌≤ℤ◌, ◌+ℤ◌, ℤ, pos, negsuc, unsigned_abs, List, [], map}
+use Rattle.std.specs.Prelude.{◌≡◌, ◌+◌, ◌/◌, ◌≤ℤ◌, ◌<ℤ◌, ◌+ℤ◌, ◌-ℤ◌, ℤ, pos, negsuc, unsigned_abs, List, [], map}
 use Rattle.std.specs.List.{range_with_len}
 use Rattle.num_integer.specs.Coefficient.{coefficient, coefficient_of}
 
@@ -16,11 +16,11 @@ middle_of n = pos (coefficient (unsigned_abs n) (unsigned_abs n / 2))
 abbrev pub RowFits : (ℤ → Type 0) → ℤ → Type 0
 RowFits fits n = (pos 0 ≤ℤ n) → fits (n +ℤ pos 1) × fits (middle_of n)
 
--- an iterator over the row of n, whose next item is the k-th
+-- an iterator over the row of n, whose next item is the k-th, and whose last item was this one
 pub record IsPlaceInRow (fits : ℤ → Type 0) (n k item : ℤ) : Type 0 where
   pub n_in_range : fits n
   pub k_in_range : fits k
   pub k_from_zero : pos 0 ≤ℤ k
   pub row_fits : RowFits fits n
   pub item_in_range : fits item
-  pub item_is : k ≤ℤ n → item ≡ coefficient_of n k
+  pub item_is : pos 0 <ℤ k → k ≤ℤ n → item ≡ coefficient_of n (k -ℤ pos 1)

@@ -35,9 +35,10 @@ pub trait Fits: Integer {
     fn quotient_fits(&self, other: &Self) -> bool
         requires self_in_range { Self.fits (Self.value self.now) }
         requires other_in_range { Self.fits (Self.value other.now) }
-        ensures { EachKind (λ Kind. IsTrue result ↔ ((Self.value other.now ≢ pos 0)
+        ensures domain { EachKind (λ Kind. IsTrue result ↔ ((Self.value other.now ≢ pos 0)
             × EachFits Self.fits
             (IsQuotient Kind (Self.value self.now) (Self.value other.now)))) }
+        ensures positive { pos 0 <ℤ Self.value other.now → IsTrue result }
     {
         if is_zero(*other) {
             false
@@ -93,8 +94,9 @@ pub trait Fits: Integer {
     fn gcd_fits(&self, other: &Self) -> bool
         requires self_in_range { Self.fits (Self.value self.now) }
         requires other_in_range { Self.fits (Self.value other.now) }
-        ensures { IsTrue result ↔ EachFits Self.fits
+        ensures domain { IsTrue result ↔ EachFits Self.fits
             (IsGreatestCommonDivisor (Self.value self.now) (Self.value other.now)) }
+        ensures positive { pos 0 <ℤ Self.value other.now → IsTrue result }
     {
         let (_, high) = Self::ends();
         let (_, a) = self.parts();

@@ -1,6 +1,6 @@
 //! Rows of Pascal's triangle.
 
-ghost use Rattle.std.specs.Prelude.{◌≡◌, ◌≤ℤ◌, ◌<ℤ◌, ◌+ℤ◌, List, ℤ, pos, unsigned_abs, drop};
+ghost use Rattle.std.specs.Prelude.{◌≡◌, ◌≤ℤ◌, ◌<ℤ◌, ◌-ℤ◌, List, ℤ, pos, unsigned_abs, drop};
 ghost use Rattle.std.specs.List.{All};
 ghost use Rattle.std.specs.Iterator.{YieldsFirstBy, item_count};
 ghost use Rattle.num_integer.specs.Coefficient.{coefficient_of};
@@ -8,7 +8,7 @@ ghost use Rattle.num_integer.specs.Row.{IsPlaceInRow, RowFits, row_of};
 
 use crate::coefficients::next_coefficient;
 use integer_core::Integer;
-use integer_core::operators::{is_below, one, successor, zero};
+use integer_core::operators::{is_below, is_zero, one, predecessor, successor, zero};
 use std::marker::Model;
 
 /// An iterator over the coefficients of `n` and each number from `0` to `n`, in order. For a
@@ -51,23 +51,23 @@ impl<T: Integer> IterBinomial<T> {
     }
 }
 
-/// Returns the item after the `k`-th, or the `k`-th again where it is the last.
-fn item_after<T: Integer>(item: T, n: T, k: T) -> T
-    requires item_in_range { T.fits (T.value item) }
+/// Returns the `k`-th item of the row of `n`, where `previous` is the item before it. The first is 1.
+fn item_at<T: Integer>(n: T, k: T, previous: T) -> T
     requires n_in_range { T.fits (T.value n) }
     requires k_in_range { T.fits (T.value k) }
+    requires previous_in_range { T.fits (T.value previous) }
     requires k_from_zero { pos 0 ≤ℤ T.value k }
-    requires current { T.value item ≡ coefficient_of (T.value n) (T.value k) }
-    requires next_fits { T.value k <ℤ T.value n
-        → T.fits (coefficient_of (T.value n) (T.value k +ℤ pos 1)) }
+    requires k_within { T.value k ≤ℤ T.value n }
+    requires previous_is { pos 0 <ℤ T.value k
+        → T.value previous ≡ coefficient_of (T.value n) (T.value k -ℤ pos 1) }
+    requires item_fits { T.fits (coefficient_of (T.value n) (T.value k)) }
     ensures in_range { T.fits (T.value result) }
-    ensures next { T.value k <ℤ T.value n
-        → T.value result ≡ coefficient_of (T.value n) (T.value k +ℤ pos 1) }
+    ensures item { T.value result ≡ coefficient_of (T.value n) (T.value k) }
 {
-    if is_below(k, n) {
-        next_coefficient(item, n, k)
+    if is_zero(k) {
+        one()
     } else {
-        item
+        next_coefficient(previous, n, predecessor(k))
     }
 }
 
@@ -83,9 +83,8 @@ impl<T: Integer> Iterator for IterBinomial<T> {
         if is_below(self.n, self.k) {
             return None;
         }
-        let item = self.item;
-        self.item = item_after(item, self.n, self.k);
+        self.item = item_at(self.n, self.k, self.item);
         self.k = successor(self.k);
-        Some(item)
+        Some(self.item)
     }
 }

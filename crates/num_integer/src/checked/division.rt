@@ -1,8 +1,8 @@
 //! Division, without a condition.
 
-ghost use Rattle.std.specs.Prelude.{◌≢◌, ◌↔◌, ◌<ℤ◌, pos, IsTrue};
+ghost use Rattle.std.specs.Prelude.{◌≢◌, ◌<ℤ◌, pos};
 ghost use Rattle.std.specs.Option.{IsSome};
-ghost use Rattle.integer_core.specs.Division.{EachKind, IsCeiled, IsFloored, IsMultiple, IsQuotient, IsRemainder, IsTruncated};
+ghost use Rattle.integer_core.specs.Division.{IsCeiled, IsFloored, IsMultiple, IsQuotient, IsRemainder, IsTruncated};
 ghost use Rattle.integer_core.specs.Range.{EachFits};
 ghost use Rattle.num_integer.specs.Checked.{AnswersWhere};
 
@@ -22,7 +22,7 @@ pub fn div_rem<T: Fits>(x: T, y: T) -> Option<(T, T)>
         result }
     ensures positive { pos 0 <ℤ T.value y → IsSome result }
 {
-    if has_quotient(x, y) {
+    if x.quotient_fits(&y) {
         Some(x.div_rem(&y))
     } else {
         None
@@ -40,7 +40,7 @@ pub fn div_floor<T: Fits>(x: T, y: T) -> Option<T>
         result }
     ensures positive { pos 0 <ℤ T.value y → IsSome result }
 {
-    if has_quotient(x, y) {
+    if x.quotient_fits(&y) {
         Some(x.div_floor(&y))
     } else {
         None
@@ -76,7 +76,7 @@ pub fn div_mod_floor<T: Fits>(x: T, y: T) -> Option<(T, T)>
         result }
     ensures positive { pos 0 <ℤ T.value y → IsSome result }
 {
-    if has_quotient(x, y) {
+    if x.quotient_fits(&y) {
         Some(x.div_mod_floor(&y))
     } else {
         None
@@ -94,7 +94,7 @@ pub fn div_ceil<T: Fits>(x: T, y: T) -> Option<T>
         result }
     ensures positive { pos 0 <ℤ T.value y → IsSome result }
 {
-    if has_quotient(x, y) {
+    if x.quotient_fits(&y) {
         Some(x.div_ceil(&y))
     } else {
         None
@@ -133,15 +133,4 @@ pub fn prev_multiple_of<T: Fits>(x: T, y: T) -> Option<T>
     } else {
         None
     }
-}
-
-/// Returns `true` if the quotient fits, of each kind, as it does by a number above 0.
-fn has_quotient<T: Fits>(x: T, y: T) -> bool
-    requires x_in_range { T.fits (T.value x) }
-    requires y_in_range { T.fits (T.value y) }
-    ensures domain { EachKind (λ Kind. IsTrue result ↔ ((T.value y ≢ pos 0)
-        × EachFits T.fits (IsQuotient Kind (T.value x) (T.value y)))) }
-    ensures positive { pos 0 <ℤ T.value y → IsTrue result }
-{
-    x.quotient_fits(&y)
 }

@@ -25,7 +25,11 @@ pub fn gcd<T: Fits>(x: T, y: T) -> Option<T>
         result }
     ensures positive { pos 0 <ℤ T.value y → IsSome result }
 {
-    if has_gcd(x, y) { Some(x.gcd(&y)) } else { None }
+    if x.gcd_fits(&y) {
+        Some(x.gcd(&y))
+    } else {
+        None
+    }
 }
 
 /// Returns [`Integer::lcm`], the least common multiple, or `None` where it does not fit. `lcm(7, 3)` is
@@ -74,7 +78,7 @@ pub fn extended_gcd<T: Fits>(x: T, y: T) -> Option<ExtendedGcd<T>>
         × IsBezoutAnswer (T.value x) (T.value y) (T.value e.gcd) (T.value e.x) (T.value e.y))
         result }
 {
-    if has_gcd(x, y) && has_pair(x, y) {
+    if x.gcd_fits(&y) && has_pair(x, y) {
         Some(x.extended_gcd(&y))
     } else {
         None
@@ -147,16 +151,6 @@ fn product_magnitude_fits<T: Fits>(a: T, b: T) -> bool
     let (_, m) = a.parts();
     let (_, n) = b.parts();
     product_is_within((false, m), (false, n), T::ends())
-}
-
-/// Returns `true` if the gcd fits, in the words of [`gcd`], as it does with a number above 0.
-fn has_gcd<T: Fits>(x: T, y: T) -> bool
-    requires x_in_range { T.fits (T.value x) }
-    requires y_in_range { T.fits (T.value y) }
-    ensures domain { IsTrue result ↔ GcdFits T.fits (T.value x) (T.value y) }
-    ensures positive { pos 0 <ℤ T.value y → IsTrue result }
-{
-    x.gcd_fits(&y)
 }
 
 /// Returns `true` if the type has a pair of coefficients: a type without negatives has one where one
