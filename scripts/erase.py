@@ -15,6 +15,7 @@ import subprocess
 import sys
 import tempfile
 
+import rust_bounds
 import rust_docs
 import rust_examples
 import rust_guards
@@ -261,8 +262,11 @@ def head_of_root(rust):
 def write(out):
     """Writes the sources below a folder."""
     library, page = Library(REPOSITORY / 'crates'), rust_docs.Page(REPOSITORY / 'crates')
+    bounds = rust_bounds.Bounds(library)
     for module in library.modules.values():
-        rust, place = Eraser(module, library, page).rust(), module.rust_file()
+        eraser = Eraser(module, library, page)
+        bounds.write(eraser)
+        rust, place = eraser.rust(), module.rust_file()
         target = out / 'src' / place
         target.parent.mkdir(parents=True, exist_ok=True)
         target.write_text(head_of_root(rust) if place == 'lib.rs' else rust)

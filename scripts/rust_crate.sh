@@ -1,8 +1,9 @@
 #!/usr/bin/env bash
 # Checks the crate of plain Rust in rust/: its sources are those that scripts/erase.py makes, it builds without a
-# warning, its tests and num-integer's own pass, and so do the checksums of compare/. Works in a temporary folder,
-# offline, with Debian's packages of num-integer and num-traits. Prints a line for each check, and a count at the end.
-# With --write it writes the sources, and checks nothing.
+# warning, its tests and num-integer's own pass, and so do the checksums of compare/. Then the package num-integer of
+# rust/ replaces the original below packages of other authors, and their tests run. Works in a temporary folder, offline,
+# with Debian's packages of these crates, which it installs where it may and says so. Prints a line for each check, and a
+# count at the end. With --write it writes the sources, and checks nothing.
 set -uo pipefail
 cd "$(dirname "$0")/.."
 
@@ -11,6 +12,8 @@ if [ "${1:-}" = --write ]; then
 fi
 
 registry=/usr/share/cargo/registry
+originals=(num-integer num-traits)
+dependents=(num-bigint num-rational bigdecimal num num-iter chrono)
 work=$(mktemp -d)
 trap 'rm -rf "$work"' EXIT
 export CARGO_TARGET_DIR=${CARGO_TARGET_DIR:-$work/target}
@@ -52,13 +55,30 @@ is_made_anew() {
         diff "$work/made/tests/examples.rs" rust/tests/examples.rs
 }
 
+# has_packages NAME..: the sources of these crates are in the registry.
 has_packages() {
-    compgen -G "$registry/num-integer-*" >/dev/null && compgen -G "$registry/num-traits-*" >/dev/null
+    local name
+    for name in "$@"; do
+        compgen -G "$registry/$name-[0-9]*" >/dev/null || return 1
+    done
 }
 
+# install_packages NAME..: installs Debian's packages of these crates, if one is missing and the user may.
 install_packages() {
-    local packages=(librust-num-integer-dev librust-num-traits-dev)
-    apt-get install -qq -y "${packages[@]}" || { apt-get update -qq && apt-get install -qq -y "${packages[@]}"; }
+    local packages=("${@/#/librust-}")
+    packages=("${packages[@]/%/-dev}")
+    if has_packages "$@" || [ "$(id -u)" -ne 0 ]; then
+        return
+    fi
+    echo "installs ${packages[*]} and what they depend on"
+    apt-get update -qq >"$work/log" 2>&1
+    apt-get install -qq -y --no-install-recommends "${packages[@]}" >>"$work/log" 2>&1
+}
+
+# absent WORD..: says what is not checked. In the gate it is a failure.
+absent() {
+    echo "$*"
+    [ -z "${CI:-}" ] || failed=$((failed + 1))
 }
 
 # without_warnings COMMAND..: runs it in the copy of rust/. Each warning is an error.
@@ -72,6 +92,42 @@ has_each_word() {
     while IFS='#' read -r page word; do
         grep -q "id=\"$word\"" "$pages/$page" || { echo "$page has no $word" && return 1; }
     done <"$work/words"
+}
+
+# A package that depends on this crate alone has a type of its own.
+own_type() {
+    mkdir -p "$work"/own/{src,tests}
+    printf '[package]\nname = "own"\nedition = "2021"\n[dependencies]\ncellarcove = { path = "../rust" }\n' \
+        >"$work/own/Cargo.toml"
+    touch "$work/own/src/lib.rs"
+    cp rust/tests/boxed_type.rs "$work/own/tests"
+    (cd "$work/own" && cargo test --offline --test boxed_type)
+}
+
+# num_integer WORD..: builds the package num-integer with the features that the words say.
+num_integer() { (cd "$work/rust/num-integer" && RUSTFLAGS=-Dwarnings cargo build --offline "$@"); }
+
+# The package num-integer of rust/ is the only one of that name in the tree.
+is_replaced() {
+    (cd "$work/tree" && cargo tree --offline --workspace -i num-integer) >"$work/list" &&
+        head -n 1 "$work/list" | grep -F "($work/rust/num-integer)"
+}
+
+# dependent_tests NAME WORD..: runs the tests of a package in the tree that the words tell cargo.
+dependent_tests() { (cd "$work/tree" && cargo test --offline -j "${RT_JOBS:-$(nproc)}" -p "$@"); }
+
+check_dependents() {
+    local name words begin=$SECONDS
+    check 'packages that depend on num-integer are taken' \
+        python3 scripts/rust_tree.py "$registry" "$work/rust/num-integer" "$work/tree" "${dependents[@]}"
+    cat "$work/log"
+    check 'this crate replaces num-integer in each of them' is_replaced
+    for name in "${dependents[@]}"; do
+        words=()
+        [ "$name" != chrono ] || words=(--lib --no-default-features --features 'clock std')
+        check_tests "those of $name" dependent_tests "$name" "${words[@]}"
+    done
+    echo "the packages above took $((SECONDS - begin)) seconds"
 }
 
 # upstream_tests WORD..: runs the tests of num-integer that the words tell cargo.
@@ -95,18 +151,21 @@ if ! has cargo || ! has rustfmt; then
 fi
 
 check 'the sources are made anew' is_made_anew
-if ! has_packages && [ "$(id -u)" -eq 0 ]; then
-    install_packages >"$work/log" 2>&1
-fi
-if has_packages; then
+check 'forms that the bounds do not fit are refused' python3 scripts/rust_bounds.py --self-test
+install_packages "${originals[@]}"
+install_packages "${dependents[@]}"
+if has_packages "${originals[@]}"; then
     mkdir "$work/.cargo"
     printf '[source.crates-io]\nreplace-with = "debian"\n[source.debian]\ndirectory = "%s"\n' "$registry" \
         >"$work/.cargo/config.toml"
     cp -r rust compare "$work"
-    rm -rf "$work"/{rust,compare}/{target,Cargo.lock}
+    rm -rf "$work"/{rust,rust/num-integer,compare}/{target,Cargo.lock}
     check 'the crate is built' without_warnings cargo build --offline --all-targets --all-features
     check_tests 'its tests' without_warnings cargo test --offline
     check_tests 'its tests in release' without_warnings cargo test --offline --release
+    check_tests 'a type that is not Copy, of a package that depends on this crate alone' own_type
+    check 'the package num-integer without features' num_integer --no-default-features
+    check 'the package num-integer with all features' num_integer --all-features
     check 'its documentation' without_warnings cargo doc --offline --no-deps
     check 'the words of its contracts' has_each_word
     if has cargo-clippy; then
@@ -120,9 +179,14 @@ if has_packages; then
     check_tests 'those of averages' upstream_tests --test average
     check_tests 'those of roots' upstream_tests --test roots
     check "the checksums of compare, $(sums crates/replay/src/list.rt | wc -l) lines" checksums
+    if has_packages "${dependents[@]}"; then
+        check_dependents
+    else
+        absent "no packages of ${dependents[*]}: their tests are not run"
+    fi
 else
-    echo "no packages of num-integer and num-traits: only the sources are compared"
+    absent 'no packages of num-integer and num-traits: only the sources are compared'
 fi
 
 echo "$passed passed, $failed failed"
-[ "$failed" -eq 0 ] && { [ "$passed" -gt 1 ] || [ -z "${CI:-}" ]; }
+[ "$failed" -eq 0 ]

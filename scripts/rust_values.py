@@ -1,0 +1,160 @@
+"""What the body of a function does with the values that it names: which uses copy a value, and where it is borrowed."""
+from collections import namedtuple
+
+# Tests of a number that take it by value, and may borrow it instead.
+TESTS = ('is_zero', 'is_negative')
+LOOPS = ('while', 'for', 'loop')
+KEYWORDS = {'as', 'break', 'continue', 'else', 'false', 'fn', 'if', 'in', 'let', 'match', 'move', 'mut', 'ref', 'return',
+            'true', *LOOPS}
+Use = namedtuple('Use', 'first last')           # the places of a name, and of the last field after it
+
+
+class Body:
+    """The body of a function."""
+
+    def __init__(self, source, item):
+        self.source, self.at = source, source.at
+        self.first, self.last = item.open, item.last
+        self.opened = {source.close(k): k for k in range(item.open, item.last) if source.is_sign(k, '([{')}
+        self.patterns = set(self.places_of_patterns())
+        self.references = set(self.names_of_references(item))
+
+    # ---- names
+
+    def names_of_references(self, item):
+        """The parameters that are references."""
+        for k in range(item.word, item.open):
+            if self.at(k) == ':' and self.at(k + 1) == '&':
+                yield self.at(k - 1)
+            elif self.at(k) == 'self' and '&' in (self.at(k - 1), self.at(k - 2)):
+                yield self.at(k)
+
+    def places_of_patterns(self):
+        """The places at which names are given to values."""
+        for k in range(self.first, self.last):
+            if self.at(k) == 'let':
+                yield from range(k, self.source.end(k + 1, '=;'))
+            elif self.at(k) == 'for':
+                yield from range(k, self.source.end(k + 1, '{', ('in',)))
+            elif self.at(k) == '|' and self.at(k - 1) in ('(', ',', '=', 'move'):
+                yield from range(k, next(j for j in range(k + 1, self.last) if self.at(j) == '|'))
+            elif self.at(k) + self.at(k + 1) == '=>':
+                yield from range(self.arm(k), k)
+
+    def arm(self, k):
+        """The place at which the pattern before the arrow at `k` begins."""
+        while self.at(k - 1) not in (',', '{', '}'):
+            k = self.opened.get(k - 1, k - 1)
+        return k
+
+    def is_name(self, k):
+        """Whether a name of a value stands here, and no field, call, macro, label or part of a path."""
+        word, after = self.at(k), self.at(k + 1) + self.at(k + 2)
+        is_field = self.at(k - 1) == '.' and self.at(k - 2) != '.'
+        is_call = after[:1] in ('(', ':') or after[:1] == '!' and after != '!='
+        return (self.source.kind(k) == 'word' and word[0].islower() and word not in KEYWORDS
+                and not is_field and not is_call and self.at(k - 1) != ':')
+
+    def uses(self):
+        """The uses of values by name."""
+        return [self.use(k) for k in range(self.first, self.last) if self.is_name(k) and k not in self.patterns]
+
+    def use(self, k):
+        """The use of the name at `k` with the fields that follow it."""
+        last = k
+        while self.at(last + 1) == '.' and self.source.kind(last + 2) == 'word' and self.at(last + 3) != '(':
+            last += 2
+        return Use(k, last)
+
+    # ---- uses
+
+    def is_replaced(self, use):
+        """Whether a new value is written here."""
+        sign, after = self.at(use.last + 1), self.at(use.last + 2)
+        return sign == '=' and after not in ('=', '>') or sign in '+-*/%' and after == '='
+
+    def is_borrowed(self, use):
+        """Whether the use leaves the value where it is, as a reference, a method or a comparison does."""
+        before = self.at(use.first - 2) + self.at(use.first - 1)
+        after = self.at(use.last + 1) + self.at(use.last + 2)
+        is_reference = before.endswith('&') and before != '&&' or before == '&mut'
+        is_compared = before in ('==', '!=', '<=', '>=') or before[-1] in '<>' and before not in ('->', '=>')
+        return is_reference or is_compared or after[0] in '.<>' or after in ('==', '!=')
+
+    def is_behind(self, use):
+        """Whether the value lies behind a reference, as in `*x`, which is no product."""
+        before = use.first - 2
+        is_product = self.at(before) in (')', ']') or self.source.kind(before) == 'word' \
+            and self.at(before) not in KEYWORDS
+        return self.at(use.first - 1) == '*' and not is_product and self.at(before) != '&'
+
+    def is_field_behind(self, use):
+        return self.at(use.first) in self.references and use.last > use.first and not self.is_borrowed(use)
+
+    def is_item(self, use):
+        """Whether an item of a slice is taken from it."""
+        return self.at(use.last + 1) == '[' and self.at(self.source.close(use.last + 1) + 1) != '.'
+
+    def test_of(self, use):
+        """The test whose argument this is, or nothing."""
+        is_argument = self.at(use.first - 1) == '(' and self.at(use.last + 1) == ')'
+        return self.at(use.first - 2) if is_argument and self.at(use.first - 2) in TESTS else ''
+
+    def copies(self, tests_borrow):
+        """The uses that copy a value."""
+        for use in self.uses():
+            if self.is_replaced(use) or tests_borrow and self.test_of(use):
+                continue
+            if self.is_behind(use) or self.is_field_behind(use) or not self.is_borrowed(use) and self.is_item(use):
+                yield use
+            elif self.at(use.first) not in self.references and not self.is_borrowed(use) and self.is_named_again(use):
+                yield use
+
+    # ---- what runs later
+
+    def is_named_again(self, use):
+        """Whether the value, or one that has it as a field, is used before the name has a new one."""
+        return any(self.is_used_on(path, use) for path in self.paths(use))
+
+    def is_used_on(self, path, use):
+        name, fields = self.at(use.first), self.source.text(*use)
+        for k in path:
+            if self.at(k) == name and (k in self.patterns or self.is_name(k) and self.is_replaced(Use(k, k))):
+                stop = next(j for j in range(k, self.last + 1) if self.at(j) in (';', '{', '}'))
+                return any(self.at(j) == name and self.is_name(j) for j in range(k + 1, stop))
+            if self.at(k) == name and self.is_name(k):
+                others = self.source.text(*self.use(k))
+                if (others + '.').startswith(fields + '.') or (fields + '.').startswith(others + '.'):
+                    return True
+        return False
+
+    def paths(self, use):
+        """The places that may run after a use: those to the end, and those of the next pass of each loop around it. A
+        statement that gives the name a new value, as `x = f(x)`, is the last one."""
+        begin = self.statement(use.first)
+        if self.at(begin) == self.at(use.first) and self.is_replaced(Use(begin, begin)):
+            yield range(use.last + 1, next(k for k in range(use.last, self.last + 1) if self.at(k) in (';', '}')))
+            return
+        yield self.rest(use, self.last)
+        for k in range(self.first, use.first):
+            if self.at(k) in LOOPS:
+                last = self.source.close(self.source.end(k, '{'))
+                if last > use.last:
+                    yield self.rest(use, last) + list(range(k, use.first + 1))
+
+    def rest(self, use, last):
+        """The places from a use to `last`, without the branches that run instead of it."""
+        places, k = [], use.last + 1
+        leaves = self.at(self.statement(use.first)) == 'return'
+        while k <= last and not (leaves and self.at(k) == ';'):
+            places.append(k)
+            while self.opened.get(k, use.first) < use.first and self.at(k + 1) == 'else':
+                k = self.source.close(self.source.end(k + 2, '{'))
+            k += 1
+        return places
+
+    def statement(self, k):
+        """The place at which the statement of `k` begins."""
+        while self.at(k - 1) not in (';', '{', '}'):
+            k -= 1
+        return k
