@@ -5,10 +5,10 @@
 it needs none, and with the sentence below `# Panics`. A clause of another form is refused by file and line. `CODE` has
 the few bodies that get operators which check, and `PLAIN` the modules whose loops cannot overflow.
 
-    scripts/rust_guards.py --self-test [FORM]   takes the tests of each form out of a copy of rust/, and the test
-                                                rust/tests/domains.rs has to fail; FORM names one form
-    scripts/rust_guards.py --list               prints the forms, each with how often it is met"""
-import os
+    scripts/rust_guards.py --self-test [FORM..]     takes the guards of each form, and each change of code, out of a copy
+                                                    of rust/: the tests rust/tests/domains/forms.rs have to fail in
+                                                    release, with no overflow checks. FORM names a form or a function
+    scripts/rust_guards.py --list                   prints the forms, and how many clauses have each"""
 import pathlib
 import re
 import shutil
@@ -169,6 +169,8 @@ CODE = {
         ('rank += binomial(*number, i as u64 + 1)',
          'rank = crate::guards::sum(rank, binomial(*number, i as u64 + 1), "the rank does not fit")'),),
 }
+# The code that is changed only where the clause of its function has a form.
+ONLY = {('uses', 'ranking', 'rank'): 'rank fits'}
 # The modules that import plain operators: what they add, subtract and multiply fits wherever the division or the test
 # before it passed.
 PLAIN = {('integer_core', 'bezout'), ('integer_core', 'division'), ('integer_core', 'divisors'),
@@ -176,8 +178,12 @@ PLAIN = {('integer_core', 'bezout'), ('integer_core', 'division'), ('integer_cor
 # The functions without a clause that the place of the caller goes through, on the way to a panic.
 WAY = {('integer_core', 'division', 'div_rem'), ('integer_core', 'division', 'div_mod_floor'),
        ('integer_core', 'stein', 'binary_gcd'), ('integer_core', 'stein', 'positive_lcm'),
-       ('num_integer', 'coefficients', 'next_coefficient'), ('num_integer', 'rows', 'item_after'),
+       ('num_integer', 'coefficients', 'next_coefficient'), ('num_integer', 'rows', 'item_at'),
        ('num_integer', 'rows', 'next')}
+
+
+MET = {}                        # how many clauses have each form, noted as files are made
+LEFT_OUT = ''                   # the form or the function whose guards the self-test leaves out
 
 
 def wrapped(texts):
@@ -194,7 +200,7 @@ class Guards:
     def __init__(self, eraser):
         self.eraser, self.source, self.module = eraser, eraser.source, eraser.module
         self.place = (self.module.crate, '/'.join(self.module.path))
-        self.tested = set()
+        self.tested, self.passed = set(), set()
 
     # ---- clauses
 
@@ -238,6 +244,7 @@ class Guards:
         for row in ROWS:
             match = re.fullmatch(row.form, text)
             if match and not (row.way == TESTED and row.within and item.name not in row.within):
+                MET.setdefault(row.name, set()).add((source.path, clause.first))
                 return row, Names(source, clause, row, match)
         return source.refuse(clause.first, f'a condition of `{item.name}` that no row of scripts/rust_guards.py '
                                            f'guards: `{text}`')
@@ -249,6 +256,7 @@ class Guards:
         self.tested = set()
         met = self.met(item, owner)
         known = item.kind == 'fn' and (*self.place, item.name) in WAY
+        self.passed |= {item.name} if known else set()
         of_trait = owner is not None and owner.kind == 'impl' and owner.of_trait
         if (any(row.when and row.way not in (LATER, DOCUMENTED) for row, _ in met) and not of_trait) or known:
             first = next(i for i in self.source.code[item.first:item.word + 1] if self.eraser.texts[i])
@@ -259,7 +267,7 @@ class Guards:
             self.eraser.write(item.open, '{' + tests)
 
     def test(self, row, names, item):
-        if not row.test or row.within and item.name not in row.within:
+        if not row.test or row.within and item.name not in row.within or row.name == LEFT_OUT:
             return ''
         test = names.fill(row.test)
         if row.way == TESTED:
@@ -285,10 +293,14 @@ class Guards:
     def finish(self):
         """Writes what stands in place of code of the source."""
         for (crate, path, name), changes in CODE.items():
-            if (crate, path) == self.place:
+            if (crate, path) == self.place and ONLY.get((crate, path, name)) in (None, *MET):
                 item = self.item(name)
                 for old, new in changes:
-                    self.replace(item, old, new)
+                    if name != LEFT_OUT or new == INTEGER:
+                        self.replace(item, old, new)
+        missing = {name for crate, path, name in WAY if (crate, path) == self.place} - self.passed
+        if missing:
+            raise Unknown(f'{self.source.path}: no {", ".join(sorted(missing))}, on the way to a panic')
         if self.place in PLAIN:
             self.plain()
         if any((crate, path) == self.place for crate, path, _ in CODE):
@@ -384,3 +396,73 @@ class Names:
 
     def fill(self, text):
         return re.sub(r'\{(\w+(?:\.\w+)?)\}', self.one, text)
+
+
+# ---- a test of the guards
+
+# What the self-test takes out: the forms with a test, and the changes of code that are no bound.
+def forms():
+    changed = [key[2] for key, changes in CODE.items()
+               if any(new != INTEGER for _, new in changes) and key[2] != 'Native' and ONLY.get(key) in (None, *MET)]
+    return [row.name for row in ROWS if row.test and row.name in MET] + changed
+
+
+def make(folder):
+    """Makes the sources of the crate, and notes the forms that are met."""
+    import erase
+    (folder / 'src').mkdir(parents=True, exist_ok=True)
+    for name in ('src', 'tests'):
+        shutil.rmtree(folder / name, ignore_errors=True)
+    erase.write(folder)
+    tests = folder / 'tests' / 'domains'
+    shutil.copytree(REPOSITORY / 'rust' / 'tests' / 'domains', tests)
+    shutil.copy(REPOSITORY / 'rust' / 'Cargo.toml', folder)
+    main = (tests / 'main.rs').read_text()
+    (tests / 'main.rs').write_text(re.sub(r'mod (?:small|slices|wide);\n', '', main))
+
+
+def fails(folder):
+    """Whether the crate is built and its tests by name fail."""
+    test = ['cargo', 'test', '--quiet', '--offline', '--release', '--test', 'domains']
+    if subprocess.run(test + ['--no-run'], cwd=folder, capture_output=True).returncode:
+        raise Unknown('the crate with a guard left out is not built')
+    return subprocess.run(test, cwd=folder, capture_output=True).returncode != 0
+
+
+def self_test(folder, names):
+    """The forms whose guards nobody misses."""
+    global LEFT_OUT
+    make(folder)
+    if fails(folder):
+        raise Unknown('the tests fail with every guard in its place')
+    missed = []
+    for name in forms():
+        if not names or name in names:
+            LEFT_OUT = name
+            make(folder)
+            found = fails(folder)
+            print(f'without {name}: {"the tests fail" if found else "no test fails"}', flush=True)
+            missed += [] if found else [name]
+    LEFT_OUT = ''
+    return missed
+
+
+def main():
+    with tempfile.TemporaryDirectory() as folder:
+        if sys.argv[1:2] == ['--list']:
+            make(pathlib.Path(folder) / 'rust')
+            for row in ROWS:
+                print(f'{row.name:<16} {row.way:<12} {len(MET.get(row.name, ())):>4}')
+        elif sys.argv[1:2] == ['--self-test']:
+            missed = self_test(pathlib.Path(folder) / 'rust', sys.argv[2:])
+            sys.exit(f'nobody misses {", ".join(missed)}' if missed else 0)
+        else:
+            sys.exit(__doc__)
+
+
+if __name__ == '__main__':
+    import rust_guards
+    try:
+        rust_guards.main()
+    except Unknown as form:
+        sys.exit(f'rust_guards.py: {form}')
