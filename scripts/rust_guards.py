@@ -5,10 +5,12 @@
 it needs none, and with the sentence below `# Panics`. A clause of another form is refused by file and line. `CODE` has
 the few bodies that get operators which check, and `PLAIN` the modules whose loops cannot overflow.
 
-    scripts/rust_guards.py --self-test [FORM..]     takes the guards of each form, and each change of code, out of a copy
-                                                    of rust/: the tests rust/tests/domains/forms.rs have to fail in
-                                                    release, with no overflow checks. FORM names a form or a function
-    scripts/rust_guards.py --list                   prints the forms, and how many clauses have each"""
+    scripts/rust_guards.py --self-test [FORM..]
+    scripts/rust_guards.py --list
+
+The self-test sees that a condition of no known form is refused. Then it takes the guards of each form, and each change of
+code, out of a copy of rust/, and the tests rust/tests/domains/forms.rs have to fail in release. FORM is a form, or the
+name of a function whose code is changed. The list has the forms, and how many clauses have each."""
 import pathlib
 import re
 import shutil
@@ -36,7 +38,7 @@ def value(name):
 
 ANY = r'[A-Z]\w*\.value [\w.]+'
 RANGE = rf'{FITS} \({ANY}\)'
-RESULT = rf'(?:{ANY} [-+*]ℤ (?:{ANY}|pos 1)|{ANY} \*ℤ {ANY} \+ℤ {ANY}|neg_ℤ \({ANY}\)|int_div \({ANY}\) \({ANY}\))'
+RESULT = rf'(?:{ANY} [-+*]ℤ (?:{ANY}|pos 1)|{ANY} \*ℤ {ANY} \+ℤ {ANY}|neg_ℤ \({ANY}\))'
 
 # What a parameter is called where it has to be above 0, where it may not be negative, and where it is the end of another.
 POSITIVE = {'m': 'the modulus', 'n': 'the modulus', 'modulus': 'the modulus', 'step': 'the step', 'max': 'the limit',
@@ -76,6 +78,7 @@ ROWS = (
     Row('ranges', rf'All \(λ \w\. {FITS} \({ANY}\)(?: × {FITS} \({ANY}\))*\) [\w.]+', NONE),
     Row('divisor', rf'{value("x")} ≢ pos 0', DIVISION, '`{x}` is 0'),
     Row('quotient', rf'EachFits {FITS} \(IsQuotient \w+ \({ANY}\) \({ANY}\)\)', DIVISION, 'the quotient does not fit'),
+    Row('quotient of operators', rf'{FITS} \(int_div \({ANY}\) \({ANY}\)\)', DIVISION, 'the quotient does not fit'),
     Row('multiple', rf'EachFits {FITS} \(IsMultiple \w+ \({ANY}\) \({ANY}\)\)', ARITHMETIC, 'the multiple does not fit'),
     Row('result', rf'{FITS} \({RESULT}\)', ARITHMETIC, 'the result does not fit'),
     Row('gcd', rf'GcdFits {FITS} \({ANY}\) \({ANY}\)', KERNEL, 'the greatest common divisor does not fit'),
@@ -122,7 +125,7 @@ ROWS = (
         'there are no more than `{x}` choices', 'crate::guards::is_rank({x}, {n}, {y}.len())',
         'no choice has the rank'),
     Row('sorted', r'IsSortedByKey [A-Z]\w*\.value int_cmp [\w.]+', DOCUMENTED,
-        'If the items do not increase, the result is some place, as with `binary_search`.'),
+        'If the items are not sorted, the result is some place, as that of `binary_search` of a slice is.'),
 )
 
 # ---- the bodies that are not those of the sources
@@ -400,6 +403,39 @@ class Names:
 
 # ---- a test of the guards
 
+# A function with a condition that nothing guards, and what is said of it.
+REFUSED = [
+    ('pub fn half(x: u64) -> u64\n    requires even { x % 2 ≡ 0 }\n{ x / 2 }',
+     '2: a condition of `half` that no row of scripts/rust_guards.py guards: `x % 2 ≡ 0`'),
+    ('pub fn inverse<T: Integer>(x: T) -> T\n    requires { pos 0 <ℤ T.value x }\n{ x }',
+     '2: `x`, which scripts/rust_guards.py has no words for'),
+    ('pub trait Half { fn half(&self) -> Self\n    requires { IsEven (Self.value self.now) }; }',
+     '2: a condition of `half` that no row of scripts/rust_guards.py guards: `IsEven (Self.value self.now)`'),
+]
+
+
+def refusal(folder, text):
+    """What is said of a crate of this text."""
+    import erase
+    from rust_library import CRATES, ROOT, Library
+    for crate in CRATES:
+        (folder / crate / 'src').mkdir(parents=True, exist_ok=True)
+        (folder / crate / 'src' / 'lib.rt').write_text(text if crate == ROOT else '')
+    library = Library(folder)
+    try:
+        return erase.Eraser(library.modules[ROOT, ()], library, None).rust()
+    except Unknown as form:
+        return str(form)
+
+
+def not_refused(folder):
+    """The functions of `REFUSED` of which something else is said."""
+    for text, reason in REFUSED:
+        said = refusal(folder, text)
+        if not said.endswith(f'num_integer/src/lib.rt:{reason}'):
+            yield f'{text}\n    gives {said}'
+
+
 # What the self-test takes out: the forms with a test, and the changes of code that are no bound.
 def forms():
     changed = [key[2] for key, changes in CODE.items()
@@ -432,6 +468,10 @@ def fails(folder):
 def self_test(folder, names):
     """The forms whose guards nobody misses."""
     global LEFT_OUT
+    wrong = list(not_refused(folder.parent / 'crates'))
+    if wrong:
+        raise Unknown('\n'.join(wrong))
+    print(f'{len(REFUSED)} conditions without a guard are refused', flush=True)
     make(folder)
     if fails(folder):
         raise Unknown('the tests fail with every guard in its place')
