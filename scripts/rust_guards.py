@@ -1,16 +1,16 @@
 #!/usr/bin/env python3
 """What a call of the Rust crate does outside its domain: it panics, with the reason and the place of the caller.
 
-`ROWS` has each form of a clause `requires` of a public function, with the test that a body gets for it or the reason why
-it needs none, and with the sentence below `# Panics`. A clause of another form is refused by file and line. `CODE` has
-the few bodies that get operators which check, and `PLAIN` the modules whose loops cannot overflow.
+`ROWS` has each form of a clause `requires` of a public function, with the test that a body gets for it or the reason
+why it needs none, and with the sentence below `# Panics`. A clause of another form is refused by file and line. `CODE`
+has the few bodies that get operators which check, and `PLAIN` the modules whose loops cannot overflow.
 
     scripts/rust_guards.py --self-test [FORM..]
     scripts/rust_guards.py --list
 
-The self-test sees that a condition of no known form is refused. Then it takes the guards of each form, and each change of
-code, out of a copy of rust/, and the tests rust/tests/domains/forms.rs have to fail in release. FORM is a form, or the
-name of a function whose code is changed. The list has the forms, and how many clauses have each."""
+The self-test sees that a condition of no known form is refused. Then it takes the guards of each form, and each change
+of code, out of a copy of rust/, and the tests rust/tests/domains/forms.rs have to fail in release. FORM is a form, or
+the name of a function whose code is changed. The list has the forms, and how many clauses have each."""
 import pathlib
 import re
 import shutil
@@ -40,7 +40,7 @@ ANY = r'[A-Z]\w*\.value [\w.]+'
 RANGE = rf'{FITS} \({ANY}\)'
 RESULT = rf'(?:{ANY} [-+*]ℤ (?:{ANY}|pos 1)|{ANY} \*ℤ {ANY} \+ℤ {ANY}|neg_ℤ \({ANY}\))'
 
-# What a parameter is called where it has to be above 0, where it may not be negative, and where it is the end of another.
+# What a parameter is called where it has to be above 0, where it may not be negative, and where it ends another.
 POSITIVE = {'m': 'the modulus', 'n': 'the modulus', 'modulus': 'the modulus', 'step': 'the step', 'max': 'the limit',
             'a.1': 'the period', 'b.1': 'the period', 'page_size': 'the page size', 'alignment': 'the alignment',
             'congruences': 'a modulus', 'schedules': 'a period'}
@@ -60,8 +60,8 @@ DOCUMENTED = 'documented'       # no test: it would take longer than the call
 @dataclass(frozen=True)
 class Row:
     """A form of a clause. In the texts `{x}` is a parameter that the form names, as Rust has it, `{x.value}` its value
-    where the function has a reference, `{x.zero}` the zero of its type, and `{x.name}` what it is called. `when` is the condition below `# Panics`. A test is written where
-    `within` is None or names the function."""
+    where the function has a reference, `{x.zero}` the zero of its type, and `{x.name}` what it is called. `when` is the
+    condition below `# Panics`. A test is written where `within` is None or names the function."""
     name: str
     form: str
     way: str
@@ -79,7 +79,8 @@ ROWS = (
     Row('divisor', rf'{value("x")} ≢ pos 0', DIVISION, '`{x}` is 0'),
     Row('quotient', rf'EachFits {FITS} \(IsQuotient \w+ \({ANY}\) \({ANY}\)\)', DIVISION, 'the quotient does not fit'),
     Row('quotient of operators', rf'{FITS} \(int_div \({ANY}\) \({ANY}\)\)', DIVISION, 'the quotient does not fit'),
-    Row('multiple', rf'EachFits {FITS} \(IsMultiple \w+ \({ANY}\) \({ANY}\)\)', ARITHMETIC, 'the multiple does not fit'),
+    Row('multiple', rf'EachFits {FITS} \(IsMultiple \w+ \({ANY}\) \({ANY}\)\)', ARITHMETIC,
+        'the multiple does not fit'),
     Row('result', rf'{FITS} \({RESULT}\)', ARITHMETIC, 'the result does not fit'),
     Row('gcd', rf'GcdFits {FITS} \({ANY}\) \({ANY}\)', KERNEL, 'the greatest common divisor does not fit'),
     Row('lcm', rf'EachFits {FITS} \(IsLeastCommonMultiple \({value("x")}\) \({value("y")}\)\)', KERNEL,
@@ -101,7 +102,8 @@ ROWS = (
         'the binomial coefficient does not fit'),
     Row('multinomial', rf'EachFits {FITS} \(IsMultinomial \(map [A-Z]\w*\.value [\w.]+\)\)', ARITHMETIC,
         'the multinomial coefficient does not fit'),
-    Row('row', rf'RowFits {FITS} \({ANY}\)', LATER, 'Not this call. The one that asks for an item does, if the item does not fit.'),
+    Row('row', rf'RowFits {FITS} \({ANY}\)', LATER,
+        'Not this call. The one that asks for an item does, if the item does not fit.'),
     Row('positive', rf'pos 0 <ℤ {value("x")}', TESTED, '{x.name} is not positive', '{x.value} > {x.zero}',
         '{x.name} is not positive', names=POSITIVE),
     Row('positive limit', r'pos 0 <ℤ (?P<x>max)|0 < (?P<y>modulus)', TESTED, '{x.name} is not positive', '{x} > 0',
@@ -359,7 +361,8 @@ class Guards:
 
     def members(self, item):
         """Adds the hidden methods to the trait `Integer`, or to its implementation for the built-in types."""
-        if self.module.crate == 'integer_core' and 'Integer' in (item.name if item.kind == 'trait' else '', item.of_trait):
+        trait = item.name if item.kind == 'trait' else item.of_trait
+        if self.module.crate == 'integer_core' and trait == 'Integer':
             fragments = Source(HIDDEN, HIDDEN.read_text())
             [block] = [block for block in fragments.items() if block.kind == item.kind]
             self.eraser.write(item.last, fragments.text(block.open + 1, block.last))
