@@ -6,8 +6,9 @@
 OUT is rust/ where none is given. Code stays token by token, with its comments. What goes: `ghost` items, members and
 fields, clauses, `final`, `#[tactic]`, `#[cfg(test)]` items, labels that nothing names, and the traits that are of
 contracts alone. What changes: the first words of paths, the head of `fmt`, the public fields of a struct with an
-invariant, which become readers, and doc comments, which gain what is proved. What is added: the guards of the calls that
-have a domain (rust_guards.py). A form that is not known here is refused by file and line, and then nothing is written."""
+invariant, which become readers, bounds and copies (rust_bounds.py), and doc comments, which gain what is proved. What is
+added: the guards of the calls that have a domain (rust_guards.py). A form that is not known here is refused by file and
+line, and then nothing is written."""
 import pathlib
 import shutil
 import subprocess
