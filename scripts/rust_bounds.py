@@ -20,6 +20,8 @@ from rust_values import TESTS, Body
 INTEGER = 'Integer'
 CLONING = 'integer_core'                        # the crate that clones
 COPIED = {'Copy', 'PrimInt'}                    # traits of other crates, all of whose types are `Copy`
+# Traits that num-integer has for types that are not `Copy`, so their methods do not copy.
+OPEN = {'Roots', 'Average'}
 # The methods of num-integer's trait that have `where Self: Clone`.
 CLONING_METHODS = {'next_multiple_of', 'prev_multiple_of', 'inc', 'dec', 'extended_gcd', 'extended_gcd_lcm'}
 BEFORE_COMPARISON = ('if', 'while', '(', '{', ';', '=', ',')
@@ -27,8 +29,8 @@ BEFORE_COMPARISON = ('if', 'while', '(', '{', ';', '=', ',')
 
 @dataclass
 class Generic:
-    """Code with a bound: a function, an implementation, a struct or a trait. `over` is the name of its type, `bounds` the
-    bounds of that type by place, and `method` whether it is a method of `Integer`."""
+    """Code with a bound: a function, an implementation, a struct or a trait. `over` is the name of its type, `bounds`
+    has the bounds of that type by place, and `method` is whether it is a method of `Integer`."""
     module: Module
     item: Item
     over: str
@@ -109,7 +111,8 @@ class Bounds:
         """The generic code of a module that is over a trait whose types need not be `Copy`."""
         for item in module.items:
             if item.kind == 'trait' and item.name == INTEGER:
-                yield from (Generic(module, inner, 'Self', {}, bodies(module, inner), True) for inner in functions(item))
+                for inner in functions(item):
+                    yield Generic(module, inner, 'Self', {}, bodies(module, inner), method=True)
             elif item.kind == 'trait' and item.name in self.over:
                 found = bounds(module.source, item.word + 2, item.open)
                 yield Generic(module, item, 'Self', found, bodies(module, item))
@@ -207,7 +210,7 @@ class Bounds:
             return self.write_where(eraser, generic)
         if not generic.needs or any(self.is_copied(name) for name in generic.bounds.values()):
             return None
-        if generic.clones and item.kind == 'trait':
+        if item.kind == 'trait' and (generic.clones or item.name in OPEN):
             eraser.refuse(item.word, f'the trait `{item.name}`, whose methods copy')
         k = next(k for k, name in generic.bounds.items() if name in self.over)
         return eraser.write(k, f'{eraser.at(k)} + {"Clone" if generic.clones else "Copy"}')
@@ -286,6 +289,8 @@ REFUSED = [
     ('integer_core', 'fn is_high<T: Integer>(x: T) -> bool { !is_negative(x) }', '`is_negative` beside an operator'),
     ('integer_core', 'trait Doubled: Integer { fn twice(&self) -> Self { sum(*self, *self) } }',
      'the trait `Doubled`, whose methods copy'),
+    ('integer_roots', 'pub trait Roots: Integer { fn sqrt(&self) -> Self { root(*self) } }',
+     'the trait `Roots`, whose methods copy'),
     ('modular', 'fn twice<T>(x: T) -> T where T: Integer { sum(x, x) }',
      'the bound `Integer`, which does not stand in `<>` after `twice`'),
     ('modular', 'fn is_odd(x: impl Integer) -> bool { x.is_odd() }',

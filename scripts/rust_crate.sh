@@ -2,7 +2,7 @@
 # Checks the crate of plain Rust in rust/: its sources are those that scripts/erase.py makes, it builds without a
 # warning, its tests and num-integer's own pass, a guard that is taken out is missed, and the checksums of compare/ are
 # the same. Then the package num-integer of rust/ replaces the original below packages of other authors, and their tests
-# run. Works in a temporary folder, offline, with Debian's packages of these crates, which it installs where it may and
+# run. Works in a temporary folder, offline, with Debian's packages of these crates, which it installs if it may, and
 # says so. Prints a line for each check, and a count at the end. With --write it writes the sources, and checks nothing.
 set -uo pipefail
 cd "$(dirname "$0")/.."
@@ -113,8 +113,12 @@ is_replaced() {
         head -n 1 "$work/list" | grep -F "($work/rust/num-integer)"
 }
 
-# dependent_tests NAME WORD..: runs the tests of a package in the tree that the words tell cargo.
-dependent_tests() { (cd "$work/tree" && cargo test --offline -j "${RT_JOBS:-$(nproc)}" -p "$@"); }
+# dependent_tests NAME WORD..: runs the tests of a package in the tree that the words tell cargo. They are built without
+# what a debugger needs, which takes less time.
+dependent_tests() {
+    (cd "$work/tree" && CARGO_PROFILE_DEV_DEBUG=0 CARGO_INCREMENTAL=0 \
+        cargo test --offline -j "${RT_JOBS:-$(nproc)}" -p "$@")
+}
 
 check_dependents() {
     local name words begin=$SECONDS

@@ -4,8 +4,8 @@
     scripts/rust_tree.py REGISTRY NUM_INTEGER OUT NAME..
 
 REGISTRY is a folder of sources, from which each package is copied. NUM_INTEGER is the folder of the package that
-replaces the one of that name, for each of them and for what they depend on. Dev-dependencies that the registry does not
-have, and benches, are taken out of the manifests, and each is printed."""
+replaces the one of that name, for each of them and for what they depend on. Benches, and dev-dependencies that the
+registry does not have, are taken out of the manifests. A line for each package says what."""
 import pathlib
 import re
 import shutil
@@ -36,32 +36,28 @@ def newest(registry, name):
     return found[-1] if found else None
 
 
-def is_left_out(registry, section):
-    """What a section has that is left out, in words, or nothing."""
+def left_out(registry, section):
+    """What a section has that is left out, or nothing."""
     bench = re.match(r'\[\[bench\]\]\s+name = "([^"]+)"', section)
     dependency = re.match(r'\[dev-dependencies\.([\w-]+)\]', section)
     if bench:
-        return f'the bench {bench.group(1)}'
+        return 'bench ' + bench.group(1)
     if dependency and newest(registry, dependency.group(1)) is None:
-        return f'the dev-dependency {dependency.group(1)}, which is not installed'
+        return 'dev-dependency ' + dependency.group(1)
     return ''
 
 
 def take(registry, name, out):
-    """Copies a package, and says what is left out."""
+    """Copies a package, and says what is left out of its manifest."""
     folder = newest(registry, name)
     if folder is None:
         sys.exit(f'rust_tree.py: no package {name} in {registry}')
     shutil.copytree(folder, out / name, ignore=shutil.ignore_patterns('benches', 'debian'))
-    manifest, kept = out / name / 'Cargo.toml', ''
-    for section in sections(manifest.read_text()):
-        reason = is_left_out(registry, section)
-        if reason:
-            print(f'{folder.name}: left out: {reason}')
-        else:
-            kept += section
-    manifest.write_text(kept)
-    print(f'{folder.name}: taken')
+    manifest = out / name / 'Cargo.toml'
+    found = [(section, left_out(registry, section)) for section in sections(manifest.read_text())]
+    manifest.write_text(''.join(section for section, reason in found if not reason))
+    without = ', '.join(reason for _, reason in found if reason)
+    print(f'{folder.name}: taken' + (f' without {without}' if without else ''))
 
 
 def main():

@@ -4,8 +4,8 @@ from collections import namedtuple
 # Tests of a number that take it by value, and may borrow it instead.
 TESTS = ('is_zero', 'is_negative')
 LOOPS = ('while', 'for', 'loop')
-KEYWORDS = {'as', 'break', 'continue', 'else', 'false', 'fn', 'if', 'in', 'let', 'match', 'move', 'mut', 'ref', 'return',
-            'true', *LOOPS}
+KEYWORDS = {'as', 'break', 'continue', 'else', 'false', 'fn', 'if', 'in', 'let', 'match', 'move', 'mut', 'ref',
+            'return', 'true', *LOOPS}
 Use = namedtuple('Use', 'first last')           # the places of a name, and of the last field after it
 
 
