@@ -9,6 +9,7 @@ use Rattle.integer_core.proofs.OnlyBezoutAnswer as bezout
 use Rattle.integer_core.proofs.Multiples as multiples
 use Rattle.integer_core.proofs.Quotients as quotients
 use Rattle.integer_core.proofs.Whole.{products}
+use Rattle.integer_core.specs.Division.{IsMultiple, IsQuotient, IsRemainder}
 use Rattle.integer_core.specs.Only.{IsOnly}
 use Rattle.integer_roots.proofs.OnlyAnswers as roots
 use Rattle.integer_roots.proofs.MagnitudeRoots as magnitude_roots
@@ -27,6 +28,25 @@ pub division_is_only : law.DivisionIsOnly
 division_is_only =
     each_kind {P = λ Kind. (n d q r : ℤ) → Kind n d q r → IsOnly (λ (p, s). Kind n d p s) (q, r)}
     (λ Kind kind n d q r h. λ (p, s) other. let same = kind.only other h in rw (same.0, same.1) refl)
+
+pub quotient_is_only : law.QuotientIsOnly
+quotient_is_only =
+    each_kind {P = λ Kind. (n d q : ℤ) → IsQuotient Kind n d q → IsOnly (IsQuotient Kind n d) q}
+    (λ Kind kind n d q h other k. (kind.only k.division h.division).0)
+
+pub remainder_is_only : law.RemainderIsOnly
+remainder_is_only =
+    each_kind {P = λ Kind. (n d r : ℤ) → IsRemainder Kind n d r → IsOnly (IsRemainder Kind n d) r}
+    (λ Kind kind n d r h other k. (kind.only k.division h.division).1)
+
+pub multiple_is_only : law.MultipleIsOnly
+multiple_is_only =
+    each_kind {P = λ Kind. (n d m : ℤ) → IsMultiple Kind n d m → IsOnly (IsMultiple Kind n d) m}
+    (λ Kind kind n d m. multiples.only_multiple (λ q r p s. kind.only))
+
+pub floored_parts_add_up : law.FlooredPartsAddUp
+floored_parts_add_up = λ n d q r quotient remainder.
+    let one = quotients.of_one_division quotient remainder in (sym one.division.equation, one.sign, one.division.small)
 
 pub negation_turns_multiples : law.NegationTurnsMultiples
 negation_turns_multiples = multiples.negation_turns_multiples
@@ -65,6 +85,9 @@ gcd_turns_are_only = λ low a b n. gcd_turns.only_gcd_turns
 
 pub bit_length_exists : law.BitLengthExists
 bit_length_exists = gcd_turns.bit_length_exists
+
+pub bit_length_is_only : law.BitLengthIsOnly
+bit_length_is_only = λ v l h other k. omega (arith, h.least other k.below, k.least l h.below)
 
 -- ---- Bezout pairs
 

@@ -1,9 +1,9 @@
 -- The laws of the definitions. Each is proved in proofs/Laws.antt, by a lemma of its name in small letters.
-use Rattle.std.specs.Prelude.{◌≡◌, ◌≢◌, ◌↔◌, ◌-◌, ◌*◌, ◌<◌, ◌≤◌, ◌+ℤ◌, ◌*ℤ◌, ◌≤ℤ◌, ℕ, ℤ, pos, neg_ℤ, unsigned_abs, List, map, length, reverse}
+use Rattle.std.specs.Prelude.{◌≡◌, ◌≢◌, ◌⊎◌, ◌↔◌, ◌-◌, ◌*◌, ◌<◌, ◌≤◌, ◌+ℤ◌, ◌*ℤ◌, ◌≤ℤ◌, ℕ, ℤ, pos, neg_ℤ, unsigned_abs, List, map, length, reverse}
 use Rattle.std.specs.List.{All}
 use Rattle.std.specs.List.Sorted.{IsPermutation}
 use Rattle.integer_core.specs.Bezout.{AreEuclidTurns, IsBezoutAnswer}
-use Rattle.integer_core.specs.Division.{EachKind, IsCeiled, IsFloored, IsMultiple}
+use Rattle.integer_core.specs.Division.{EachKind, HaveSameSign, IsCeiled, IsFloored, IsMultiple, IsQuotient, IsRemainder}
 use Rattle.integer_core.specs.Divisors.{GcdFits, IsGreatestCommonDivisor, IsLeastCommonMultiple}
 use Rattle.integer_core.specs.GcdRuns.{AreGcdTurns, IsBitLength}
 use Rattle.integer_core.specs.Only.{IsOnly}
@@ -24,6 +24,24 @@ DivisionExists = EachKind (λ Kind. (n d : ℤ) → d ≢ pos 0 → (q r : ℤ) 
 -- the quotient and the remainder of a kind are the only ones
 abbrev pub DivisionIsOnly : Type 0
 DivisionIsOnly = EachKind (λ Kind. (n d q r : ℤ) → Kind n d q r → IsOnly (λ (p, s). Kind n d p s) (q, r))
+
+-- of each kind, the quotient alone is the only one
+abbrev pub QuotientIsOnly : Type 0
+QuotientIsOnly = EachKind (λ Kind. (n d q : ℤ) → IsQuotient Kind n d q → IsOnly (IsQuotient Kind n d) q)
+
+-- and so is the remainder alone
+abbrev pub RemainderIsOnly : Type 0
+RemainderIsOnly = EachKind (λ Kind. (n d r : ℤ) → IsRemainder Kind n d r → IsOnly (IsRemainder Kind n d) r)
+
+-- and the quotient times the divisor
+abbrev pub MultipleIsOnly : Type 0
+MultipleIsOnly = EachKind (λ Kind. (n d m : ℤ) → IsMultiple Kind n d m → IsOnly (IsMultiple Kind n d) m)
+
+-- rounded down, the quotient times the divisor and the remainder add up to the number; the remainder is 0 or has the sign
+-- of the divisor, and its magnitude is below that of the divisor
+abbrev pub FlooredPartsAddUp : Type 0
+FlooredPartsAddUp = (n d q r : ℤ) → IsQuotient IsFloored n d q → IsRemainder IsFloored n d r
+    → (q *ℤ d +ℤ r ≡ n) × ((r ≡ pos 0) ⊎ HaveSameSign r d) × (unsigned_abs r < unsigned_abs d)
 
 -- the next multiple of a divisor is the previous multiple of its negation
 abbrev pub NegationTurnsMultiples : Type 0
@@ -69,6 +87,9 @@ GcdTurnsAreOnly = (low a b : ℤ) (n : ℕ) → AreGcdTurns low a b n → IsOnly
 -- each number has a bit length
 abbrev pub BitLengthExists : Type 0
 BitLengthExists = (v : ℤ) → (l : ℕ) × IsBitLength v l
+
+abbrev pub BitLengthIsOnly : Type 0
+BitLengthIsOnly = (v : ℤ) (l : ℕ) → IsBitLength v l → IsOnly (IsBitLength v) l
 
 -- ---- Bezout pairs
 

@@ -119,7 +119,7 @@ pub fn binomial_counted<T: Integer>(n: T, k: T) -> (T, u32)
 /// Returns the binomial coefficient of `n` and `k`, the number of ways to choose `k` of `n` things.
 /// `binomial(9, 4)` is `126`, and `binomial(2, 3)` is `0`.
 ///
-/// May be called where [`crate::Fits::binomial_fits`] is true.
+/// May be called where `Fits::binomial_fits` is true.
 ///
 /// Each coefficient of `n` fits up to this `n`, and above it those near the middle do not:
 ///
@@ -141,7 +141,7 @@ pub fn binomial<T: Integer>(n: T, k: T) -> T
 /// Returns the number of ways to share out the sum of the counts `k` into parts of these sizes.
 /// `multinomial(&[2, 1, 2])` is `30`, and `multinomial::<u8>(&[])` is `1`.
 ///
-/// May be called where [`crate::Fits::multinomial_fits`] is true.
+/// May be called where `Fits::multinomial_fits` is true.
 #[tactic(auto, using(crate::proofs::Multinomials::multinomial_first))]
 pub fn multinomial<T: Integer>(k: &[T]) -> T
     requires counts_in_range { All (λ x. T.fits (T.value x)) k.now }

@@ -36,7 +36,7 @@ impl<T: Integer> Model for IterBinomial<T> {
 impl<T: Integer> IterBinomial<T> {
     /// Returns the row of `n`. `IterBinomial::new(3u8)` gives `1`, `3`, `3`, `1`, and then `None`.
     ///
-    /// May be called where [`crate::checked::row`] returns `Some`.
+    /// May be called where `checked::row` returns `Some`.
     pub fn new(n: T) -> IterBinomial<T>
         requires in_range { T.fits (T.value n) }
         requires row_fits { RowFits T.fits (T.value n) }
