@@ -1,5 +1,6 @@
 """What is proved, as the doc comments of the Rust crate say it: a section `# Proved` of each public item with clauses, and
-the module `definitions`, which has each word that such a clause cites."""
+the module `definitions`, which has each word that such a clause cites. The section `# Panics` before it is that of
+rust_guards.py."""
 import re
 
 from antt_words import Specs, cited, imported

@@ -38,7 +38,7 @@ def value(name):
 
 ANY = r'[A-Z]\w*\.value [\w.]+'
 RANGE = rf'{FITS} \({ANY}\)'
-RESULT = rf'(?:{ANY} [-+*]ℤ (?:{ANY}|pos 1)|{ANY} \*ℤ {ANY} \+ℤ {ANY}|neg_ℤ \({ANY}\))'
+RESULT = rf'(?:{ANY} [-+*]ℤ (?:{ANY}|pos 1)|neg_ℤ \({ANY}\))'
 
 # What a parameter is called where it has to be above 0, where it may not be negative, and where it ends another.
 POSITIVE = {'m': 'the modulus', 'n': 'the modulus', 'modulus': 'the modulus', 'step': 'the step', 'max': 'the limit',
@@ -119,9 +119,6 @@ ROWS = (
     Row('choice', r'IsChoice (?P<n>\w+) (?P<x>\w+)\.(?:now|old)', TESTED,
         'the numbers do not increase, or one is not below `{n}`', 'crate::guards::increase_below({x}, {n})',
         'the numbers of the choice do not increase below `{n}`'),
-    Row('choices', r'coefficient (?P<n>\w+) \(length (?P<x>\w+)\.now\) < 2 \^ 64', TESTED,
-        'the number of choices does not fit', '{n}.binomial_fits(&({x}.len() as u64))',
-        'the number of choices does not fit'),
     Row('rank fits', r'rank_of \w+\.now < 2 \^ 64', ARITHMETIC, 'the rank does not fit'),
     Row('rank', r'(?P<x>rank) < coefficient (?P<n>\w+) \(length (?P<y>\w+)\.old\)', TESTED,
         'there are no more than `{x}` choices', 'crate::guards::is_rank({x}, {n}, {y}.len())',
@@ -174,8 +171,6 @@ CODE = {
         ('rank += binomial(*number, i as u64 + 1)',
          'rank = crate::guards::sum(rank, binomial(*number, i as u64 + 1), "the rank does not fit")'),),
 }
-# The code that is changed only where the clause of its function has a form.
-ONLY = {('uses', 'ranking', 'rank'): 'rank fits'}
 # The modules that import plain operators: what they add, subtract and multiply fits wherever the division or the test
 # before it passed.
 PLAIN = {('integer_core', 'bezout'), ('integer_core', 'division'), ('integer_core', 'divisors'),
@@ -298,7 +293,7 @@ class Guards:
     def finish(self):
         """Writes what stands in place of code of the source."""
         for (crate, path, name), changes in CODE.items():
-            if (crate, path) == self.place and ONLY.get((crate, path, name)) in (None, *MET):
+            if (crate, path) == self.place:
                 item = self.item(name)
                 for old, new in changes:
                     if name != LEFT_OUT or new == INTEGER:
@@ -442,8 +437,8 @@ def not_refused(folder):
 # What the self-test takes out: the forms with a test, and the changes of code that are no bound.
 def forms():
     changed = [key[2] for key, changes in CODE.items()
-               if any(new != INTEGER for _, new in changes) and key[2] != 'Native' and ONLY.get(key) in (None, *MET)]
-    return [row.name for row in ROWS if row.test and row.name in MET] + changed
+               if any(new != INTEGER for _, new in changes) and key[2] != 'Native']
+    return [row.name for row in ROWS if row.test] + changed
 
 
 def make(folder):

@@ -278,7 +278,7 @@ fn models() {
         "no month has the number 0",
         "no month has a number above 12",
     );
-    let limit = "the limit is not positive";
+    let (limit, great_rank) = ("the limit is not positive", "the rank does not fit");
     panics! {
         PERIOD {
             schedules::next_meeting(0, (1, -2), (1, 3));
@@ -312,6 +312,7 @@ fn models() {
             ranking::next_choice(&mut [3, 1], 5);
             ranking::next_choice(&mut [3, 5], 5);
         }
+        great_rank { ranking::rank(&[2746052116, 6074001000], 6074001001); }
         rank {
             ranking::choice_of_rank(13983816, 49, &mut [0; 6]);
             ranking::choice_of_rank(0, 2, &mut [0; 3]);

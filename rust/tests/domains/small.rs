@@ -1,6 +1,6 @@
 //! Every pair of numbers of 8 bits, and every number.
 
-use crate::{check, exact, outcome};
+use crate::{check, exact};
 use cellarcove::counted::{binomial_counted, extended_gcd_counted, GcdCounted, SqrtCounted};
 use cellarcove::modular::{self, Modular};
 use cellarcove::uses::{halving, layout, paging, powers, schedules};
@@ -28,11 +28,6 @@ macro_rules! tests {
                         call(a, b, i128::from(a), i128::from(b));
                     }
                 }
-            }
-
-            /// An answer, which may be `None`.
-            fn answered(answer: impl Into<Option<N>>) -> Option<N> {
-                answer.into()
             }
 
             /// A third argument: an end, a small number, or another one.
@@ -448,17 +443,8 @@ macro_rules! tests {
                     check("range_of_part", args, part, || {
                         paging::range_of_part(a, b, c)
                     });
-                    let item = fit!(N, x * z + y);
-                    let answer = outcome(|| answered(paging::item_at(a, b, c)));
-                    let is_place = 0 <= y && y < z;
-                    assert!(
-                        if is_place {
-                            answer.clone().unwrap_or(None) == item
-                        } else {
-                            answer.is_err()
-                        },
-                        "item_at of {args:?} is {answer:?}"
-                    );
+                    let item = Some(fit!(N, x * z + y)).filter(|_| 0 <= y && y < z);
+                    check("item_at", args, item, || paging::item_at(a, b, c));
                 });
             }
         }
