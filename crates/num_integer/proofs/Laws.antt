@@ -65,7 +65,7 @@ gcd_is_symmetric = λ a b g. common.gcd-swap
 pub gcd_of_zeros : law.GcdOfZeros
 gcd_of_zeros = common.gcd-zero (pos 0)
 
-pub gcd_fits_exactly : law.GcdFitsExactly
+pub gcd_fits_exactly : (fits : ℤ → Type 0) → law.GcdFitsExactly fits
 gcd_fits_exactly = λ fits low high a b range. domain.gcd_fits_is range
 
 pub lcm_exists : law.LcmExists

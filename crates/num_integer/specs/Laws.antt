@@ -63,8 +63,8 @@ abbrev pub GcdOfZeros : Type 0
 GcdOfZeros = IsGreatestCommonDivisor (pos 0) (pos 0) (pos 0)
 
 -- for two numbers of a type, the condition `GcdFits` says exactly that their gcd fits
-abbrev pub GcdFitsExactly : Type 1
-GcdFitsExactly = (fits : ℤ → Type 0) (low high a b : ℤ) → IsRange fits low high → fits a → fits b
+abbrev pub GcdFitsExactly : (ℤ → Type 0) → Type 0
+GcdFitsExactly fits = (low high a b : ℤ) → IsRange fits low high → fits a → fits b
     → GcdFits fits a b ↔ EachFits fits (IsGreatestCommonDivisor a b)
 
 abbrev pub LcmExists : Type 0

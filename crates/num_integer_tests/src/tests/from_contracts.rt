@@ -1,23 +1,29 @@
 //! What callers learn of the calls from their contracts alone, each said by a contract of its own.
 
-ghost use Rattle.std.specs.Prelude.{◌≡◌, ◌≢◌, ◌<◌, ◌-◌, ◌^◌, pos, [], None, IfOk, FitsSigned, map, length};
+ghost use Rattle.std.specs.Prelude.{◌≡◌, ◌≢◌, ◌⊎◌, ◌↔◌, ◌<◌, ◌-◌, ◌^◌, ◌<ℤ◌, ◌+ℤ◌, ◌*ℤ◌, pos, unsigned_abs, [], None, IfOk, IsTrue, FitsSigned, map, length};
 ghost use Rattle.std.specs.Int.{FitsUnsignedBits, w8};
 ghost use Rattle.std.specs.List.{All};
 ghost use Rattle.num_integer.specs.Bezout.{HasPair};
-ghost use Rattle.num_integer.specs.Division.{IsFloored, IsQuotient};
+ghost use Rattle.num_integer.specs.Division.{HaveSameSign, IsFloored, IsQuotient};
 ghost use Rattle.num_integer.specs.Divisors.{GcdFits, IsGreatestCommonDivisor};
 ghost use Rattle.num_integer.specs.Range.{EachFits};
-ghost use Rattle.num_integer.specs.Laws.{DivisionExists, DivisionIsOnly, NegationTurnsMultiples, GcdExists, GcdIsOnly, GcdIsSymmetric, GcdOfZeros, LcmExists, LcmIsOnly, LcmIsSymmetric, GcdTimesLcm, GcdTurnsAreOnly, BitLengthExists, BezoutAnswerExists, BezoutAnswerIsOnly, EuclidTurnsAreOnly, AverageFloorIsOnly, AverageCeilIsOnly, AveragesAreNeighbours, RootIsOnly, FirstRoot, SquareRootTurnsAreOnly, CoefficientMirror, CoefficientAboveRow, FactorialFormula, MultinomialFormula, MultinomialIsOnly, MultinomialIgnoresOrder, RowLength, RowIsPalindrome, RowIsGreatestInMiddle};
+ghost use Rattle.num_integer.specs.Laws.{DivisionExists, DivisionIsOnly, QuotientIsOnly, RemainderIsOnly, MultipleIsOnly, FlooredPartsAddUp, NegationTurnsMultiples, GcdExists, GcdIsOnly, GcdIsSymmetric, GcdOfZeros, GcdFitsExactly, LcmExists, LcmIsOnly, LcmIsSymmetric, GcdTimesLcm, GcdTurnsAreOnly, BitLengthExists, BitLengthIsOnly, BezoutAnswerExists, BezoutAnswerIsOnly, EuclidTurnsAreOnly, AverageFloorIsOnly, AverageCeilIsOnly, AveragesAreNeighbours, RootIsOnly, FirstRoot, SquareRootTurnsAreOnly, CoefficientMirror, CoefficientAboveRow, FactorialFormula, MultinomialFormula, MultinomialIsOnly, MultinomialIgnoresOrder, RowLength, RowIsPalindrome, RowIsGreatestInMiddle};
 ghost use Rattle.num_integer.specs.Row.{RowFits, row_of};
 
 use num_integer::counted::extended_gcd_counted;
-use num_integer::{ExtendedGcd, Integer, IterBinomial, div_floor, div_mod_floor, gcd};
+use num_integer::{
+    ExtendedGcd, Fits, Integer, IterBinomial, div_floor, div_mod_floor, gcd, mod_floor,
+};
 use std::alloc::{AllocError, Global};
 
-/// The laws of the definitions, each proved by its lemma; `gcd_that_fits` uses that of `GcdFits`.
+/// The laws of the definitions, each proved by its lemma; `law_of_gcd_fits` has the one of a type.
 fn laws()
     ensures division_exists { DivisionExists }
     ensures division_is_only { DivisionIsOnly }
+    ensures quotient_is_only { QuotientIsOnly }
+    ensures remainder_is_only { RemainderIsOnly }
+    ensures multiple_is_only { MultipleIsOnly }
+    ensures floored_parts_add_up { FlooredPartsAddUp }
     ensures negation_turns_multiples { NegationTurnsMultiples }
     ensures gcd_exists { GcdExists }
     ensures gcd_is_only { GcdIsOnly }
@@ -29,6 +35,7 @@ fn laws()
     ensures gcd_times_lcm { GcdTimesLcm }
     ensures gcd_turns_are_only { GcdTurnsAreOnly }
     ensures bit_length_exists { BitLengthExists }
+    ensures bit_length_is_only { BitLengthIsOnly }
     ensures bezout_answer_exists { BezoutAnswerExists }
     ensures bezout_answer_is_only { BezoutAnswerIsOnly }
     ensures euclid_turns_are_only { EuclidTurnsAreOnly }
@@ -49,6 +56,11 @@ fn laws()
     ensures row_is_greatest_in_middle { RowIsGreatestInMiddle }
 {}
 
+/// The law of a lawful type: `GcdFits` says exactly that the divisor fits.
+fn law_of_gcd_fits<T: Integer>()
+    ensures { GcdFitsExactly T.fits }
+{}
+
 /// The condition of `gcd` says that the divisor fits, at a type without -1 too.
 fn gcd_that_fits<T: Integer>(a: T, b: T) -> T
     requires a_in_range { T.fits (T.value a) }
@@ -58,6 +70,47 @@ fn gcd_that_fits<T: Integer>(a: T, b: T) -> T
     ensures greatest { IsGreatestCommonDivisor (T.value a) (T.value b) (T.value result) }
 {
     gcd(a, b)
+}
+
+/// Equality and order of values are those of their numbers.
+fn compared<T: Integer>(a: T, b: T) -> (bool, bool)
+    ensures equal { IsTrue result.0 ↔ (T.value a ≡ T.value b) }
+    ensures below { IsTrue result.1 ↔ (T.value a <ℤ T.value b) }
+{
+    (a == b, a < b)
+}
+
+/// The quotient rounded down, times the divisor, and the remainder add up to the number.
+fn floored_parts<T: Integer>(n: T, d: T) -> (T, T)
+    requires n_in_range { T.fits (T.value n) }
+    requires d_in_range { T.fits (T.value d) }
+    requires nonzero { T.value d ≢ pos 0 }
+    requires quotient_fits { EachFits T.fits (IsQuotient IsFloored (T.value n) (T.value d)) }
+    ensures sum { T.value result.0 *ℤ T.value d +ℤ T.value result.1 ≡ T.value n }
+    ensures sign { (T.value result.1 ≡ pos 0) ⊎ HaveSameSign (T.value result.1) (T.value d) }
+    ensures small { unsigned_abs (T.value result.1) < unsigned_abs (T.value d) }
+{
+    (div_floor(n, d), mod_floor(n, d))
+}
+
+/// By a number above 0 each gcd and each quotient fits.
+fn by_positive(a: i64, b: i64) -> (bool, bool)
+    requires { pos 0 <ℤ b }
+    ensures gcd { IsTrue result.0 }
+    ensures quotient { IsTrue result.1 }
+{
+    (a.gcd_fits(&b), a.quotient_fits(&b))
+}
+
+/// The same at any type.
+fn by_positive_of_any_type<T: Fits>(a: T, b: T) -> (bool, bool)
+    requires a_in_range { T.fits (T.value a) }
+    requires b_in_range { T.fits (T.value b) }
+    requires positive { pos 0 <ℤ T.value b }
+    ensures gcd { IsTrue result.0 }
+    ensures quotient { IsTrue result.1 }
+{
+    (a.gcd_fits(&b), a.quotient_fits(&b))
 }
 
 /// The quotient rounded down, alone and with its remainder.
