@@ -1,5 +1,5 @@
 -- The laws of specs/Laws.antt, a lemma each.
-use Rattle.std.specs.Prelude.{◌≡◌, ◌*ℤ◌}
+use Rattle.std.specs.Prelude.{◌≡◌, ◌*ℤ◌, ℤ}
 use Rattle.std.specs.Cmp.{int_cmp_is}
 use Rattle.std.specs.declared.cmp.Ordering.TheVariants.{Less}
 use Rattle.std.proofs.Common.{arith, refl, sym}
@@ -36,7 +36,7 @@ answer_is_only = answers.only_answer
 
 -- ---- the order
 
-pub order_is_total : OrderIsTotal
+pub order_is_total : (K : Type 0) (num den : K → ℤ) → OrderIsTotal K num den
 order_is_total = order.order_is_total
 
 pub order_agrees_with_equality : OrderAgreesWithEquality

@@ -42,8 +42,8 @@ AnswerIsOnly = (a b : ℤ) (r s : Result Ratio RatioError) → AnswersFraction a
 -- ---- the order
 
 -- Fractions whose denominators are above 0 are in a total order.
-abbrev pub OrderIsTotal : Type 1
-OrderIsTotal = (K : Type 0) (num den : K → ℤ) → ((x : K) → pos 0 <ℤ den x) → IsTotalOrder (λ x y. fraction_cmp (num x) (den x) (num y) (den y))
+abbrev pub OrderIsTotal : (K : Type 0) → (K → ℤ) → (K → ℤ) → Type 0
+OrderIsTotal K num den = ((x : K) → pos 0 <ℤ den x) → IsTotalOrder (λ x y. fraction_cmp (num x) (den x) (num y) (den y))
 
 -- Two fractions compare equal in that order exactly where they are equal.
 abbrev pub OrderAgreesWithEquality : Type 0
