@@ -45,8 +45,8 @@ fn greatest_of_part(items: &[u8; 100], part: i64) -> u8
 {
     let (first, end) = range_of_part(part, 7, 100);
     let mut greatest = 0;
-    for place in first..end {
-        greatest = greatest.max(items[place as usize]);
+    for item in &items[first as usize..end as usize] {
+        greatest = greatest.max(*item);
     }
     greatest
 }
@@ -57,7 +57,8 @@ fn item_of_ten(page: i64, place: i64) -> Option<i64>
     requires below { place <ℤ pos 10 }
     ensures { IfSome result (λ item. item ≡ page *ℤ pos 10 +ℤ place) }
 {
-    item_at(page, place, 10)
+    let item = item_at(page, place, 10)?;
+    Some(item)
 }
 
 /// The item at a place of a page of sixteen, or the greatest number.

@@ -1,6 +1,7 @@
 //! Worked ranks and choices, and the choices that follow them.
 
-ghost use Rattle.std.specs.Prelude.{◌≡◌, ◌+◌, ◌<◌, IfSome, IsTrue};
+ghost use Rattle.std.specs.Prelude.{◌≡◌, ◌+◌, ◌<◌, ◌^◌, IfSome, IsTrue, length};
+ghost use Rattle.num_integer.specs.Coefficient.{coefficient};
 ghost use Rattle.uses.specs.Ranking.{IsChoice, rank_of};
 
 use crate::tests::assertions::holds_at;
@@ -65,13 +66,12 @@ fn rank_of_counted(numbers: &[u64], n: u64) -> Option<u64> {
     }
 }
 
-/// The number of a ticket that is known to be one.
-#[tactic(auto, using(uses::proofs::Laws::rank_is_below), unfolding(num_integer::specs::Coefficient::coefficient))]
-fn number_of_ticket(numbers: &[u64; 6]) -> u64
-    requires { IsChoice 49 numbers.now }
-    ensures { result < 13983816 }
+/// The rank of numbers that are known to be a choice, where the number of choices of their length fits.
+fn rank_of_known(numbers: &[u64], n: u64) -> u64
+    requires choice { IsChoice n numbers.now }
+    requires count_fits { coefficient n (length numbers.now) < 2 ^ 64 }
 {
-    rank(numbers, 49)
+    rank(numbers, n)
 }
 
 #[test]
@@ -97,6 +97,7 @@ fn ranks_of_read_numbers(rt: HostRuntime) {
 #[test]
 fn ranks(rt: HostRuntime) {
     assert!(rt; rank(&[0, 1, 2], 5) == 0 && rank(&[0, 2, 3], 5) == 2 && rank(&[2, 3, 4], 5) == 9);
+    assert!(rt; rank_of_known(&[0, 2, 3], 5) == 2);
     assert!(rt; rank(&[], 5) == 0 && rank(&[3], 5) == 3 && rank(&[0, 1, 2, 3, 4], 5) == 0);
 }
 

@@ -13,14 +13,14 @@ returns g c = record {
   previous_congruent_is_only = modular.previous_congruent_is_only;
   count_of_congruent_is_only = modular.count_of_congruent_is_only;
   next_common_solution_is_only = modular.next_common_solution_is_only;
-  next_solution_of_each_is_only = modular.next_solution_of_each_is_only _;
+  next_solution_of_each_is_only = modular.next_solution_of_each_is_only g.T.Number.value;
   pages_are_only = uses.pages_are_only;
   parts_differ_by_one = uses.parts_differ_by_one;
   aligned_up_is_only = uses.aligned_up_is_only;
   padding_is_only = uses.padding_is_only;
-  least_time_is_only = uses.least_time_is_only _ _ _;
+  least_time_is_only = uses.least_time_is_only g.T.Number.value _ _;
   choice_of_rank_is_only = uses.choice_of_rank_is_only;
   rank_is_below = uses.rank_is_below;
   midpoint_is_only = uses.midpoint_is_only;
-  lower_bound_is_only = uses.lower_bound_is_only _;
+  lower_bound_is_only = uses.lower_bound_is_only g.T.Number.value;
 }
