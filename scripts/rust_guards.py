@@ -120,7 +120,7 @@ ROWS = (
         'the numbers do not increase, or one is not below `{n}`', 'crate::guards::increase_below({x}, {n})',
         'the numbers of the choice do not increase below `{n}`'),
     Row('rank fits', r'rank_of \w+\.now < 2 \^ 64', ARITHMETIC, 'the rank does not fit'),
-    Row('rank', r'(?P<x>rank) < coefficient (?P<n>\w+) \(length (?P<y>\w+)\.old\)', TESTED,
+    Row('last rank', r'(?P<x>rank) < coefficient (?P<n>\w+) \(length (?P<y>\w+)\.old\)', TESTED,
         'there are no more than `{x}` choices', 'crate::guards::is_rank({x}, {n}, {y}.len())',
         'no choice has the rank'),
     Row('sorted', r'IsSortedByKey [A-Z]\w*\.value int_cmp [\w.]+', DOCUMENTED,
