@@ -1,5 +1,6 @@
 //! The calls that have a condition, without the condition: each returns `Some` of the answer in the
-//! domain of the plain call of its name, and `None` everywhere else.
+//! domain of the plain call of its name, and `None` everywhere else. `product_div_mod_floor` has no
+//! plain call: it returns `Some` if the divisor is not 0 and the quotient fits.
 
 mod coefficients;
 mod division;

@@ -1,14 +1,12 @@
 //! Binomials and multinomials.
 
-use crate::integer_core::operators::{
-    difference, is_below, one, product, quotient, remainder, successor, sum, zero,
-};
 use crate::integer_core::Integer;
+use crate::plain::{difference, is_below, one, quotient, remainder, successor, zero};
 
 /// Returns the factors `r / g` and `a / (b / g)` of `r * a / b`, where `g` is the gcd of `r` and `b`,
 /// computed as that of `b` and the remainder of `r`. Where `g` is `b` or 1, one division gives both.
 /// After <https://blog.plover.com/math/choose-2.html>.
-pub(crate) fn factors<T: Integer>(r: T, a: T, b: T) -> (T, T) {
+pub(crate) fn factors<T: Integer + Copy>(r: T, a: T, b: T) -> (T, T) {
     let g = remainder(r, b).gcd(&b);
     if !is_below(g, b) {
         (quotient(r, b), a)
@@ -21,19 +19,20 @@ pub(crate) fn factors<T: Integer>(r: T, a: T, b: T) -> (T, T) {
 
 /// Returns two factors of the coefficient of `n` and `k + 1`, where `c` is that of `n` and `k`: it is
 /// `c * (n - k) / (k + 1)`.
-pub(crate) fn next_factors<T: Integer>(c: T, n: T, k: T) -> (T, T) {
+pub(crate) fn next_factors<T: Integer + Copy>(c: T, n: T, k: T) -> (T, T) {
     factors(c, difference(n, k), successor(k))
 }
 
 /// Returns the coefficient of `n` and `k + 1`, where `c` is that of `n` and `k`. No intermediate value
 /// exceeds it.
-pub(crate) fn next_coefficient<T: Integer>(c: T, n: T, k: T) -> T {
+#[track_caller]
+pub(crate) fn next_coefficient<T: Integer + Copy>(c: T, n: T, k: T) -> T {
     let (x, y) = next_factors(c, n, k);
-    product(x, y)
+    x.exact_product(y, "the binomial coefficient does not fit")
 }
 
 /// Returns the lesser of `k` and `n - k`.
-pub(crate) fn nearer_end<T: Integer>(n: T, k: T) -> T {
+pub(crate) fn nearer_end<T: Integer + Copy>(n: T, k: T) -> T {
     let rest = difference(n, k);
     if is_below(rest, k) {
         rest
@@ -46,6 +45,10 @@ pub(crate) fn nearer_end<T: Integer>(n: T, k: T) -> T {
 /// and `binomial_counted(200, 199)` is `(200, 1)`.
 ///
 /// May be called where [`binomial`] may.
+///
+/// # Panics
+///
+/// If `n` is negative, or if `k` is negative, or if the binomial coefficient does not fit.
 ///
 /// # Proved
 ///
@@ -62,7 +65,10 @@ pub(crate) fn nearer_end<T: Integer>(n: T, k: T) -> T {
 ///
 /// Words: [`coefficient_of`](crate::definitions::num_integer#coefficient_of),
 /// [`coefficient`](crate::definitions::num_integer#coefficient), [how to read it](crate::definitions).
-pub fn binomial_counted<T: Integer>(n: T, k: T) -> (T, u32) {
+#[track_caller]
+pub fn binomial_counted<T: Integer + Copy>(n: T, k: T) -> (T, u32) {
+    assert!(n >= T::zero(), "`n` is negative");
+    assert!(k >= T::zero(), "`k` is negative");
     if is_below(n, k) {
         return (zero(), 0);
     }
@@ -81,13 +87,17 @@ pub fn binomial_counted<T: Integer>(n: T, k: T) -> (T, u32) {
 /// Returns the binomial coefficient of `n` and `k`, the number of ways to choose `k` of `n` things.
 /// `binomial(9, 4)` is `126`, and `binomial(2, 3)` is `0`.
 ///
-/// May be called where [`crate::Fits::binomial_fits`] is true.
+/// May be called where `Fits::binomial_fits` is true.
 ///
 /// Each coefficient of `n` fits up to this `n`, and above it those near the middle do not:
 ///
 /// | `u8` | `i8` | `u16` | `i16` | `u32` | `i32` | `u64` | `i64` |
 /// |---|---|---|---|---|---|---|---|
 /// | 10 | 9 | 18 | 17 | 34 | 33 | 67 | 66 |
+///
+/// # Panics
+///
+/// If `n` is negative, or if `k` is negative, or if the binomial coefficient does not fit.
 ///
 /// # Proved
 ///
@@ -100,14 +110,21 @@ pub fn binomial_counted<T: Integer>(n: T, k: T) -> (T, u32) {
 ///
 /// Words: [`coefficient_of`](crate::definitions::num_integer#coefficient_of),
 /// [`coefficient`](crate::definitions::num_integer#coefficient), [how to read it](crate::definitions).
-pub fn binomial<T: Integer>(n: T, k: T) -> T {
+#[track_caller]
+pub fn binomial<T: Integer + Copy>(n: T, k: T) -> T {
+    assert!(n >= T::zero(), "`n` is negative");
+    assert!(k >= T::zero(), "`k` is negative");
     binomial_counted(n, k).0
 }
 
 /// Returns the number of ways to share out the sum of the counts `k` into parts of these sizes.
 /// `multinomial(&[2, 1, 2])` is `30`, and `multinomial::<u8>(&[])` is `1`.
 ///
-/// May be called where [`crate::Fits::multinomial_fits`] is true.
+/// May be called where `Fits::multinomial_fits` is true.
+///
+/// # Panics
+///
+/// If a count is negative, or if the multinomial coefficient does not fit.
 ///
 /// # Proved
 ///
@@ -120,12 +137,21 @@ pub fn binomial<T: Integer>(n: T, k: T) -> T {
 /// Words: [`EachFits`](crate::definitions::integer_core#eachfits),
 /// [`IsMultinomial`](crate::definitions::num_integer#ismultinomial),
 /// [how to read it](crate::definitions).
-pub fn multinomial<T: Integer>(k: &[T]) -> T {
+#[track_caller]
+pub fn multinomial<T: Integer + Copy>(k: &[T]) -> T {
+    assert!(
+        k.iter().all(|count| *count >= T::zero()),
+        "a count is negative"
+    );
     let mut multinomial = one();
     let mut total = zero();
     for count in k {
-        total = sum(total, *count);
-        multinomial = product(multinomial, binomial(total, *count));
+        total = T::exact_sum(total, *count, "the multinomial coefficient does not fit");
+        multinomial = T::exact_product(
+            multinomial,
+            binomial(total, *count),
+            "the multinomial coefficient does not fit",
+        );
     }
     multinomial
 }

@@ -2,12 +2,11 @@
 //!
 //! A section has clauses. A `requires` is a condition on the arguments, and an `ensures` says what then holds as the call
 //! returns. A `ghost` says what holds of each value of a type, or what the call of a trait of std returns. A clause may have
-//! a name before its braces, as `floored`. Clauses that only say that numbers lie in their type are left out.
+//! a name before its braces, as `floored`. In the documentation of the Rust crate, clauses that only say that numbers lie in
+//! their type are left out.
 //!
-//! Each word that a clause cites is on a page below. A `record` holds where each of its lines does; a line such as
+//! Below a section are links to the words that it cites. A `record` holds where each of its lines does; a line such as
 //! `quotient : ℤ` says that there is such a number. Any other word is a function, given by its equations, or by its cases.
-//!
-//! This module has no code.
 //!
 //! # Values
 //!
@@ -1238,11 +1237,12 @@ pub mod calendar {
     //!
     //! ## `IsMonthsBetween`
     //!
-    //! This is the greatest number of months after `from` that lead to a date not after `to`. Examples: 2000-01-31 to 2000-02-29: 1; 2000-02-29 to 2001-02-28: 12; 2000-03-01 to 2000-02-29: -1.
+    //! The date that is `months` after `from` is not after `to`, and no greater number of months leads to such a date. Examples: 2000-01-31 to 2000-02-29: 1; 2000-02-29 to 2001-02-28: 12; 2000-03-01 to 2000-02-29: -1.
     //!
     //! ```text
-    //! abbrev pub IsMonthsBetween : Date → Date → ℤ → Type 0
-    //! IsMonthsBetween from to months = IsGreatest (HasMonths from to) months
+    //! pub record IsMonthsBetween (from to : Date) (months : ℤ) : Type 0 where
+    //!   pub holds : HasMonths from to months
+    //!   pub greatest : (more : ℤ) → HasMonths from to more → more ≤ℤ months
     //! ```
     //!
     //! ## `IsNthWeekday`
@@ -1372,16 +1372,6 @@ pub mod calendar {
     //!   pub full_moon : ℤ
     //!   pub full_moon_is : IsPaschalFullMoon year full_moon
     //!   pub sunday_is : IsFirstWeekday (full_moon +ℤ pos 1) Sunday day
-    //! ```
-    //!
-    //! ## `IsGreatest`
-    //!
-    //! The number has the property, and no greater number has it. Examples: being even and at most 7: 6; being at most -2: -2; no number is the greatest of the even numbers.
-    //!
-    //! ```text
-    //! pub record IsGreatest (P : ℤ → Type 0) (z : ℤ) : Type 0 where
-    //!   pub holds : P z
-    //!   pub greatest : (other : ℤ) → P other → other ≤ℤ z
     //! ```
     //!
     //! ## `IsThursdayOfWeek`
@@ -1592,23 +1582,13 @@ pub mod calendar {
     //! IsFirstWeekday from weekday day = IsLeastFrom from (λ day. HasWeekday day weekday) day
     //! ```
     //!
-    //! ## `IsWeekdayTo`
-    //!
-    //! The day is at most `to`, and has the day of the week. Examples: 4 and Sunday: 3; -4; not 10.
-    //!
-    //! ```text
-    //! pub record IsWeekdayTo (to : ℤ) (weekday : Weekday) (day : ℤ) : Type 0 where
-    //!   pub to_there : day ≤ℤ to
-    //!   pub has_weekday : HasWeekday day weekday
-    //! ```
-    //!
     //! ## `IsLastWeekday`
     //!
     //! The day is the greatest up to `to` that has the day of the week. Examples: Sunday: to 4: 3; to 3: 3; to 2: -4.
     //!
     //! ```text
     //! abbrev pub IsLastWeekday : ℤ → Weekday → ℤ → Type 0
-    //! IsLastWeekday to weekday day = IsGreatest (IsWeekdayTo to weekday) day
+    //! IsLastWeekday to weekday day = IsGreatestTo to (λ day. HasWeekday day weekday) day
     //! ```
     //!
     //! ## `days_in_year`
@@ -1721,6 +1701,7 @@ pub mod uses {
     //!
     //! ```text
     //! pub record IsRangeOfPage (page page_size items first end : ℤ) : Type 0 where
+    //!   pub from_zero : pos 0 ≤ℤ first
     //!   pub ordered : first ≤ℤ end
     //!   pub to_items : end ≤ℤ items
     //!   pub exactly : (item : ℤ) → ((first ≤ℤ item) × (item <ℤ end)) ↔ ((pos 0 ≤ℤ item) × (item <ℤ items) × ((place : ℤ) × IsPlace item page_size page place))
@@ -1744,6 +1725,7 @@ pub mod uses {
     //!
     //! ```text
     //! pub record IsRangeOfPart (part parts items first end : ℤ) : Type 0 where
+    //!   pub from_zero : pos 0 ≤ℤ first
     //!   pub ordered : first ≤ℤ end
     //!   pub to_items : end ≤ℤ items
     //!   pub cut : ℤ → ℤ

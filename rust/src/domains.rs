@@ -8,7 +8,7 @@ use num_traits::ToPrimitive;
 
 /// Tests whether the arguments of a call lie in its domain. Your own type implements `parts` and
 /// `ends`.
-pub trait Fits: Integer {
+pub trait Fits: Integer + Copy {
     /// Returns whether the number is negative, and its magnitude. `(-5).parts()` is `(true, 5)`.
     ///
     /// # Proved
@@ -41,9 +41,10 @@ pub trait Fits: Integer {
     /// # Proved
     ///
     /// ```text
-    /// ensures { EachKind (λ Kind. IsTrue result ↔ ((Self.value other.now ≢ pos 0)
+    /// ensures domain { EachKind (λ Kind. IsTrue result ↔ ((Self.value other.now ≢ pos 0)
     ///     × EachFits Self.fits
     ///     (IsQuotient Kind (Self.value self.now) (Self.value other.now)))) }
+    /// ensures positive { pos 0 <ℤ Self.value other.now → IsTrue result }
     /// ```
     ///
     /// Words: [`EachKind`](crate::definitions::integer_core#eachkind),
@@ -116,8 +117,9 @@ pub trait Fits: Integer {
     /// # Proved
     ///
     /// ```text
-    /// ensures { IsTrue result ↔ EachFits Self.fits
+    /// ensures domain { IsTrue result ↔ EachFits Self.fits
     ///     (IsGreatestCommonDivisor (Self.value self.now) (Self.value other.now)) }
+    /// ensures positive { pos 0 <ℤ Self.value other.now → IsTrue result }
     /// ```
     ///
     /// Words: [`EachFits`](crate::definitions::integer_core#eachfits),
@@ -250,7 +252,7 @@ fn difference_fits<T: NativeInteger>(a: T, b: T) -> bool {
 }
 
 /// Returns `true` if this is -1, the only divisor whose quotient may not fit.
-fn is_minus_one<T: Integer>(x: T) -> bool {
+fn is_minus_one<T: Integer + Copy>(x: T) -> bool {
     is_negative(x) && is_zero(successor(x))
 }
 

@@ -13,7 +13,7 @@ use bezout::extended_gcd_counted;
 pub use bezout::ExtendedGcd;
 pub use native_integer::NativeInteger;
 use num_traits::{Num, Signed};
-use operators::{difference, is_zero, predecessor, successor, sum};
+use operators::{difference, predecessor, successor, sum};
 
 /// A type of whole numbers.
 ///
@@ -25,11 +25,15 @@ use operators::{difference, is_zero, predecessor, successor, sum};
 /// ```
 ///
 /// Words: [`IsRange`](crate::definitions::integer_core#isrange), [how to read it](crate::definitions).
-pub trait Integer: Copy + Num + PartialOrd + Ord + Eq {
+pub trait Integer: Sized + Num + PartialOrd + Ord + Eq {
     /// Returns the quotient rounded toward zero, and its remainder. `(-8).div_rem(&3)` is
     /// `(-2, -2)`.
     ///
     /// May be called where `Fits::quotient_fits` is true.
+    ///
+    /// # Panics
+    ///
+    /// If `other` is 0, or if the quotient does not fit.
     ///
     /// # Proved
     ///
@@ -44,11 +48,16 @@ pub trait Integer: Copy + Num + PartialOrd + Ord + Eq {
     /// Words: [`EachFits`](crate::definitions::integer_core#eachfits),
     /// [`IsQuotient`](crate::definitions::integer_core#isquotient),
     /// [`IsTruncated`](crate::definitions::integer_core#istruncated), [how to read it](crate::definitions).
+    #[track_caller]
     fn div_rem(&self, other: &Self) -> (Self, Self);
 
     /// Returns the quotient rounded down. `(-8).div_floor(&3)` is `-3`.
     ///
     /// May be called where `Fits::quotient_fits` is true.
+    ///
+    /// # Panics
+    ///
+    /// If `other` is 0, or if the quotient does not fit.
     ///
     /// # Proved
     ///
@@ -63,12 +72,17 @@ pub trait Integer: Copy + Num + PartialOrd + Ord + Eq {
     /// Words: [`EachFits`](crate::definitions::integer_core#eachfits),
     /// [`IsQuotient`](crate::definitions::integer_core#isquotient),
     /// [`IsFloored`](crate::definitions::integer_core#isfloored), [how to read it](crate::definitions).
+    #[track_caller]
     fn div_floor(&self, other: &Self) -> Self;
 
     /// Returns the remainder of the quotient rounded down, which is 0 or has the sign of `other`.
     /// `(-8).mod_floor(&3)` is `1`.
     ///
     /// May be called where `other` is not 0.
+    ///
+    /// # Panics
+    ///
+    /// If `other` is 0.
     ///
     /// # Proved
     ///
@@ -80,11 +94,16 @@ pub trait Integer: Copy + Num + PartialOrd + Ord + Eq {
     ///
     /// Words: [`IsRemainder`](crate::definitions::integer_core#isremainder),
     /// [`IsFloored`](crate::definitions::integer_core#isfloored), [how to read it](crate::definitions).
+    #[track_caller]
     fn mod_floor(&self, other: &Self) -> Self;
 
     /// Returns the quotient rounded down, and its remainder. `(-8).div_mod_floor(&3)` is `(-3, 1)`.
     ///
     /// May be called where `Fits::quotient_fits` is true.
+    ///
+    /// # Panics
+    ///
+    /// If `other` is 0, or if the quotient does not fit.
     ///
     /// # Proved
     ///
@@ -99,6 +118,7 @@ pub trait Integer: Copy + Num + PartialOrd + Ord + Eq {
     /// Words: [`EachFits`](crate::definitions::integer_core#eachfits),
     /// [`IsQuotient`](crate::definitions::integer_core#isquotient),
     /// [`IsFloored`](crate::definitions::integer_core#isfloored), [how to read it](crate::definitions).
+    #[track_caller]
     fn div_mod_floor(&self, other: &Self) -> (Self, Self) {
         (self.div_floor(other), self.mod_floor(other))
     }
@@ -106,6 +126,10 @@ pub trait Integer: Copy + Num + PartialOrd + Ord + Eq {
     /// Returns the quotient rounded up. `8.div_ceil(&3)` is `3`.
     ///
     /// May be called where `Fits::quotient_fits` is true.
+    ///
+    /// # Panics
+    ///
+    /// If `other` is 0, or if the quotient does not fit.
     ///
     /// # Proved
     ///
@@ -120,9 +144,10 @@ pub trait Integer: Copy + Num + PartialOrd + Ord + Eq {
     /// Words: [`EachFits`](crate::definitions::integer_core#eachfits),
     /// [`IsQuotient`](crate::definitions::integer_core#isquotient),
     /// [`IsCeiled`](crate::definitions::integer_core#isceiled), [how to read it](crate::definitions).
+    #[track_caller]
     fn div_ceil(&self, other: &Self) -> Self {
         let (q, r) = self.div_mod_floor(other);
-        if is_zero(r) {
+        if r.is_zero() {
             q
         } else {
             successor(q)
@@ -133,6 +158,10 @@ pub trait Integer: Copy + Num + PartialOrd + Ord + Eq {
     /// `23.next_multiple_of(&-8)` is `16`.
     ///
     /// May be called where `Fits::next_multiple_fits` is true.
+    ///
+    /// # Panics
+    ///
+    /// If `other` is 0, or if the multiple does not fit.
     ///
     /// # Proved
     ///
@@ -147,12 +176,16 @@ pub trait Integer: Copy + Num + PartialOrd + Ord + Eq {
     /// Words: [`EachFits`](crate::definitions::integer_core#eachfits),
     /// [`IsMultiple`](crate::definitions::integer_core#ismultiple),
     /// [`IsCeiled`](crate::definitions::integer_core#isceiled), [how to read it](crate::definitions).
-    fn next_multiple_of(&self, other: &Self) -> Self {
+    #[track_caller]
+    fn next_multiple_of(&self, other: &Self) -> Self
+    where
+        Self: Clone,
+    {
         let m = self.mod_floor(other);
-        if is_zero(m) {
-            *self
+        if m.is_zero() {
+            self.clone()
         } else {
-            sum(*self, difference(*other, m))
+            sum(self.clone(), difference(other.clone(), m))
         }
     }
 
@@ -160,6 +193,10 @@ pub trait Integer: Copy + Num + PartialOrd + Ord + Eq {
     /// `23.prev_multiple_of(&-8)` is `24`.
     ///
     /// May be called where `Fits::prev_multiple_fits` is true.
+    ///
+    /// # Panics
+    ///
+    /// If `other` is 0, or if the multiple does not fit.
     ///
     /// # Proved
     ///
@@ -174,8 +211,12 @@ pub trait Integer: Copy + Num + PartialOrd + Ord + Eq {
     /// Words: [`EachFits`](crate::definitions::integer_core#eachfits),
     /// [`IsMultiple`](crate::definitions::integer_core#ismultiple),
     /// [`IsFloored`](crate::definitions::integer_core#isfloored), [how to read it](crate::definitions).
-    fn prev_multiple_of(&self, other: &Self) -> Self {
-        difference(*self, self.mod_floor(other))
+    #[track_caller]
+    fn prev_multiple_of(&self, other: &Self) -> Self
+    where
+        Self: Clone,
+    {
+        difference(self.clone(), self.mod_floor(other))
     }
 
     /// Returns `true` if `other` divides `self`. `9.is_multiple_of(&3)` is `true`. Zero divides only
@@ -230,6 +271,10 @@ pub trait Integer: Copy + Num + PartialOrd + Ord + Eq {
     ///
     /// May be called below the greatest number of the type. The call `checked::inc` has no condition.
     ///
+    /// # Panics
+    ///
+    /// If the result does not fit.
+    ///
     /// # Proved
     ///
     /// ```text
@@ -238,13 +283,21 @@ pub trait Integer: Copy + Num + PartialOrd + Ord + Eq {
     /// ```
     ///
     /// Words: [how to read it](crate::definitions).
-    fn inc(&mut self) {
-        *self = successor(*self);
+    #[track_caller]
+    fn inc(&mut self)
+    where
+        Self: Clone,
+    {
+        *self = successor(self.clone());
     }
 
     /// Subtracts one. `x.dec()` turns an `x` of `43` into `42`.
     ///
     /// May be called above the least number of the type. The call `checked::dec` has no condition.
+    ///
+    /// # Panics
+    ///
+    /// If the result does not fit.
     ///
     /// # Proved
     ///
@@ -254,14 +307,22 @@ pub trait Integer: Copy + Num + PartialOrd + Ord + Eq {
     /// ```
     ///
     /// Words: [how to read it](crate::definitions).
-    fn dec(&mut self) {
-        *self = predecessor(*self);
+    #[track_caller]
+    fn dec(&mut self)
+    where
+        Self: Clone,
+    {
+        *self = predecessor(self.clone());
     }
 
     /// Returns the greatest common divisor, which is never negative. `56.gcd(&42)` is `14`, and
     /// `0.gcd(&0)` is `0`.
     ///
     /// May be called where `Fits::gcd_fits` is true.
+    ///
+    /// # Panics
+    ///
+    /// If the greatest common divisor does not fit.
     ///
     /// # Proved
     ///
@@ -274,12 +335,17 @@ pub trait Integer: Copy + Num + PartialOrd + Ord + Eq {
     /// Words: [`GcdFits`](crate::definitions::integer_core#gcdfits),
     /// [`IsGreatestCommonDivisor`](crate::definitions::integer_core#isgreatestcommondivisor),
     /// [how to read it](crate::definitions).
+    #[track_caller]
     fn gcd(&self, other: &Self) -> Self;
 
     /// Returns the least common multiple, which is never negative. `7.lcm(&3)` is `21`, and
     /// `7.lcm(&0)` is `0`.
     ///
     /// May be called where `Fits::lcm_fits` is true.
+    ///
+    /// # Panics
+    ///
+    /// If the least common multiple does not fit.
     ///
     /// # Proved
     ///
@@ -293,12 +359,17 @@ pub trait Integer: Copy + Num + PartialOrd + Ord + Eq {
     /// Words: [`EachFits`](crate::definitions::integer_core#eachfits),
     /// [`IsLeastCommonMultiple`](crate::definitions::integer_core#isleastcommonmultiple),
     /// [how to read it](crate::definitions).
+    #[track_caller]
     fn lcm(&self, other: &Self) -> Self;
 
     /// Returns the greatest common divisor and the least common multiple. `10.gcd_lcm(&4)` is
     /// `(2, 20)`.
     ///
     /// May be called where `Fits::gcd_fits` and `Fits::lcm_fits` are true.
+    ///
+    /// # Panics
+    ///
+    /// If the greatest common divisor does not fit, or if the least common multiple does not fit.
     ///
     /// # Proved
     ///
@@ -317,6 +388,7 @@ pub trait Integer: Copy + Num + PartialOrd + Ord + Eq {
     /// [`IsLeastCommonMultiple`](crate::definitions::integer_core#isleastcommonmultiple),
     /// [`IsGreatestCommonDivisor`](crate::definitions::integer_core#isgreatestcommondivisor),
     /// [how to read it](crate::definitions).
+    #[track_caller]
     fn gcd_lcm(&self, other: &Self) -> (Self, Self) {
         (self.gcd(other), self.lcm(other))
     }
@@ -328,6 +400,11 @@ pub trait Integer: Copy + Num + PartialOrd + Ord + Eq {
     ///
     /// May be called where `Fits::gcd_fits` is true; at an unsigned type one operand must also divide
     /// the other.
+    ///
+    /// # Panics
+    ///
+    /// If the greatest common divisor does not fit, or if the type is unsigned and neither number
+    /// divides the other.
     ///
     /// # Proved
     ///
@@ -342,14 +419,23 @@ pub trait Integer: Copy + Num + PartialOrd + Ord + Eq {
     /// [`HasPair`](crate::definitions::integer_core#haspair),
     /// [`IsBezoutAnswer`](crate::definitions::integer_core#isbezoutanswer),
     /// [how to read it](crate::definitions).
-    fn extended_gcd(&self, other: &Self) -> ExtendedGcd<Self> {
-        extended_gcd_counted(*self, *other).0
+    #[track_caller]
+    fn extended_gcd(&self, other: &Self) -> ExtendedGcd<Self>
+    where
+        Self: Clone,
+    {
+        extended_gcd_counted(self.clone(), other.clone()).0
     }
 
     /// Returns [`Integer::extended_gcd`] and [`Integer::lcm`]. `10.extended_gcd_lcm(&4)` is
     /// `(ExtendedGcd { gcd: 2, x: 1, y: -2 }, 20)`.
     ///
     /// May be called where `Fits::gcd_fits` and `Fits::lcm_fits` are true.
+    ///
+    /// # Panics
+    ///
+    /// If the greatest common divisor does not fit, or if the type is unsigned and neither number
+    /// divides the other, or if the least common multiple does not fit.
     ///
     /// # Proved
     ///
@@ -370,15 +456,51 @@ pub trait Integer: Copy + Num + PartialOrd + Ord + Eq {
     /// [`IsLeastCommonMultiple`](crate::definitions::integer_core#isleastcommonmultiple),
     /// [`IsBezoutAnswer`](crate::definitions::integer_core#isbezoutanswer),
     /// [how to read it](crate::definitions).
+    #[track_caller]
     fn extended_gcd_lcm(&self, other: &Self) -> (ExtendedGcd<Self>, Self)
     where
-        Self: Signed,
+        Self: Clone + Signed,
     {
         (self.extended_gcd(other), self.lcm(other))
     }
+
+    #[doc(hidden)]
+    #[inline]
+    #[track_caller]
+    fn exact_sum(self, other: Self, _reason: &'static str) -> Self {
+        self + other
+    }
+
+    #[doc(hidden)]
+    #[inline]
+    #[track_caller]
+    fn exact_difference(self, other: Self, _reason: &'static str) -> Self {
+        self - other
+    }
+
+    #[doc(hidden)]
+    #[inline]
+    #[track_caller]
+    fn exact_product(self, other: Self, _reason: &'static str) -> Self {
+        self * other
+    }
+
+    #[doc(hidden)]
+    #[inline]
+    #[track_caller]
+    fn expect_pair(&self, _other: &Self) {}
+
+    #[doc(hidden)]
+    #[inline]
+    #[track_caller]
+    fn expect_lcm(&self, _other: &Self) {}
 }
 
 /// Returns the quotient rounded toward zero, and its remainder. `div_rem(-8, 3)` is `(-2, -2)`.
+///
+/// # Panics
+///
+/// If `y` is 0, or if the quotient does not fit.
 ///
 /// # Proved
 ///
@@ -391,11 +513,16 @@ pub trait Integer: Copy + Num + PartialOrd + Ord + Eq {
 /// Words: [`EachFits`](crate::definitions::integer_core#eachfits),
 /// [`IsQuotient`](crate::definitions::integer_core#isquotient),
 /// [`IsTruncated`](crate::definitions::integer_core#istruncated), [how to read it](crate::definitions).
+#[track_caller]
 pub fn div_rem<T: Integer>(x: T, y: T) -> (T, T) {
     x.div_rem(&y)
 }
 
 /// Returns the quotient rounded down. `div_floor(-8, 3)` is `-3`.
+///
+/// # Panics
+///
+/// If `y` is 0, or if the quotient does not fit.
 ///
 /// # Proved
 ///
@@ -408,11 +535,16 @@ pub fn div_rem<T: Integer>(x: T, y: T) -> (T, T) {
 /// Words: [`EachFits`](crate::definitions::integer_core#eachfits),
 /// [`IsQuotient`](crate::definitions::integer_core#isquotient),
 /// [`IsFloored`](crate::definitions::integer_core#isfloored), [how to read it](crate::definitions).
+#[track_caller]
 pub fn div_floor<T: Integer>(x: T, y: T) -> T {
     x.div_floor(&y)
 }
 
 /// Returns the remainder of the quotient rounded down. `mod_floor(-8, 3)` is `1`.
+///
+/// # Panics
+///
+/// If `y` is 0.
 ///
 /// # Proved
 ///
@@ -423,11 +555,16 @@ pub fn div_floor<T: Integer>(x: T, y: T) -> T {
 ///
 /// Words: [`IsRemainder`](crate::definitions::integer_core#isremainder),
 /// [`IsFloored`](crate::definitions::integer_core#isfloored), [how to read it](crate::definitions).
+#[track_caller]
 pub fn mod_floor<T: Integer>(x: T, y: T) -> T {
     x.mod_floor(&y)
 }
 
 /// Returns the quotient rounded down, and its remainder. `div_mod_floor(-8, 3)` is `(-3, 1)`.
+///
+/// # Panics
+///
+/// If `y` is 0, or if the quotient does not fit.
 ///
 /// # Proved
 ///
@@ -440,11 +577,16 @@ pub fn mod_floor<T: Integer>(x: T, y: T) -> T {
 /// Words: [`EachFits`](crate::definitions::integer_core#eachfits),
 /// [`IsQuotient`](crate::definitions::integer_core#isquotient),
 /// [`IsFloored`](crate::definitions::integer_core#isfloored), [how to read it](crate::definitions).
+#[track_caller]
 pub fn div_mod_floor<T: Integer>(x: T, y: T) -> (T, T) {
     x.div_mod_floor(&y)
 }
 
 /// Returns the quotient rounded up. `div_ceil(8, 3)` is `3`.
+///
+/// # Panics
+///
+/// If `y` is 0, or if the quotient does not fit.
 ///
 /// # Proved
 ///
@@ -457,11 +599,16 @@ pub fn div_mod_floor<T: Integer>(x: T, y: T) -> (T, T) {
 /// Words: [`EachFits`](crate::definitions::integer_core#eachfits),
 /// [`IsQuotient`](crate::definitions::integer_core#isquotient),
 /// [`IsCeiled`](crate::definitions::integer_core#isceiled), [how to read it](crate::definitions).
+#[track_caller]
 pub fn div_ceil<T: Integer>(x: T, y: T) -> T {
     x.div_ceil(&y)
 }
 
 /// Returns the greatest common divisor. `gcd(56, 42)` is `14`.
+///
+/// # Panics
+///
+/// If the greatest common divisor does not fit.
 ///
 /// # Proved
 ///
@@ -473,11 +620,16 @@ pub fn div_ceil<T: Integer>(x: T, y: T) -> T {
 /// Words: [`GcdFits`](crate::definitions::integer_core#gcdfits),
 /// [`IsGreatestCommonDivisor`](crate::definitions::integer_core#isgreatestcommondivisor),
 /// [how to read it](crate::definitions).
+#[track_caller]
 pub fn gcd<T: Integer>(x: T, y: T) -> T {
     x.gcd(&y)
 }
 
 /// Returns the least common multiple. `lcm(7, 3)` is `21`.
+///
+/// # Panics
+///
+/// If the least common multiple does not fit.
 ///
 /// # Proved
 ///
@@ -489,12 +641,17 @@ pub fn gcd<T: Integer>(x: T, y: T) -> T {
 /// Words: [`EachFits`](crate::definitions::integer_core#eachfits),
 /// [`IsLeastCommonMultiple`](crate::definitions::integer_core#isleastcommonmultiple),
 /// [how to read it](crate::definitions).
+#[track_caller]
 pub fn lcm<T: Integer>(x: T, y: T) -> T {
     x.lcm(&y)
 }
 
 /// Returns the greatest common divisor and the least common multiple. `gcd_lcm(10, 4)` is
 /// `(2, 20)`.
+///
+/// # Panics
+///
+/// If the greatest common divisor does not fit, or if the least common multiple does not fit.
 ///
 /// # Proved
 ///
@@ -510,6 +667,7 @@ pub fn lcm<T: Integer>(x: T, y: T) -> T {
 /// [`IsLeastCommonMultiple`](crate::definitions::integer_core#isleastcommonmultiple),
 /// [`IsGreatestCommonDivisor`](crate::definitions::integer_core#isgreatestcommondivisor),
 /// [how to read it](crate::definitions).
+#[track_caller]
 pub fn gcd_lcm<T: Integer>(x: T, y: T) -> (T, T) {
     x.gcd_lcm(&y)
 }

@@ -1,7 +1,7 @@
 //! Rows of Pascal's triangle.
 
 use crate::coefficients::next_coefficient;
-use crate::integer_core::operators::{is_below, one, successor, zero};
+use crate::integer_core::operators::{is_below, is_zero, one, predecessor, successor, zero};
 use crate::integer_core::Integer;
 
 /// An iterator over the coefficients of `n` and each number from `0` to `n`, in order. For a
@@ -11,16 +11,20 @@ use crate::integer_core::Integer;
 ///
 /// The greatest `n` whose row fits is 10 for `u8`, 9 for `i8`, 18 for `u16`, 17 for `i16`, 34 for
 /// `u32`, 33 for `i32`, 67 for `u64` and 66 for `i64`.
-pub struct IterBinomial<T: Integer> {
+pub struct IterBinomial<T: Integer + Copy> {
     n: T,
     k: T,
     item: T,
 }
 
-impl<T: Integer> IterBinomial<T> {
+impl<T: Integer + Copy> IterBinomial<T> {
     /// Returns the row of `n`. `IterBinomial::new(3u8)` gives `1`, `3`, `3`, `1`, and then `None`.
     ///
-    /// May be called where [`crate::checked::row`] returns `Some`.
+    /// May be called where `checked::row` returns `Some`.
+    ///
+    /// # Panics
+    ///
+    /// Not this call. The one that asks for an item does, if the item does not fit.
     ///
     /// # Proved
     ///
@@ -40,12 +44,13 @@ impl<T: Integer> IterBinomial<T> {
     }
 }
 
-/// Returns the item after the `k`-th, or the `k`-th again where it is the last.
-fn item_after<T: Integer>(item: T, n: T, k: T) -> T {
-    if is_below(k, n) {
-        next_coefficient(item, n, k)
+/// Returns the `k`-th item of the row of `n`, where `previous` is the item before it. The first is 1.
+#[track_caller]
+fn item_at<T: Integer + Copy>(n: T, k: T, previous: T) -> T {
+    if is_zero(k) {
+        one()
     } else {
-        item
+        next_coefficient(previous, n, predecessor(k))
     }
 }
 
@@ -56,16 +61,16 @@ fn item_after<T: Integer>(item: T, n: T, k: T) -> T {
 /// ```
 ///
 /// Words: [how to read it](crate::definitions).
-impl<T: Integer> Iterator for IterBinomial<T> {
+impl<T: Integer + Copy> Iterator for IterBinomial<T> {
     type Item = T;
 
+    #[track_caller]
     fn next(&mut self) -> Option<T> {
         if is_below(self.n, self.k) {
             return None;
         }
-        let item = self.item;
-        self.item = item_after(item, self.n, self.k);
+        self.item = item_at(self.n, self.k, self.item);
         self.k = successor(self.k);
-        Some(item)
+        Some(self.item)
     }
 }

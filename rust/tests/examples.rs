@@ -980,12 +980,17 @@ mod uses_paging {
 
     #[test]
     fn item_at_1() {
-        assert_eq!(item_at(2, 2, 4), 10);
+        assert_eq!(item_at(2, 2, 4), Some(10));
     }
 
     #[test]
     fn item_at_2() {
-        assert_eq!(item_at(-1, 3, 4), -1);
+        assert_eq!(item_at(-1, 3, 4), Some(-1));
+    }
+
+    #[test]
+    fn item_at_3() {
+        assert_eq!(item_at(64u8, 0, 4), None);
     }
 
     #[test]
@@ -1039,8 +1044,33 @@ mod uses_ranking {
     use cellarcove::{Average, ExtendedGcd, Fits, Integer, IterBinomial, NativeInteger, Roots};
 
     #[test]
+    fn is_choice_1() {
+        assert_eq!(is_choice(&[0, 2, 3], 5), true);
+    }
+
+    #[test]
+    fn is_choice_2() {
+        assert_eq!(is_choice(&[0, 2, 2], 5), false);
+    }
+
+    #[test]
+    fn is_choice_3() {
+        assert_eq!(is_choice(&[0, 2, 5], 5), false);
+    }
+
+    #[test]
     fn rank_example() {
         assert_eq!(rank(&[0, 2, 3], 5), 2);
+    }
+
+    #[test]
+    fn rank_fits_1() {
+        assert_eq!(rank_fits(&[0, 2, 3]), true);
+    }
+
+    #[test]
+    fn rank_fits_2() {
+        assert_eq!(rank_fits(&[0, 10000000000]), false);
     }
 }
 

@@ -7,17 +7,26 @@ use crate::calendar::{days_in_year, is_leap_year};
 ///
 /// May be called where `month` is from 1 to 12.
 ///
+/// # Panics
+///
+/// If `month` is 0, or if `month` is above 12.
+///
 /// # Proved
 ///
 /// ```text
 /// requires from_one { 1 ≤ month }
 /// requires to_twelve { month ≤ 12 }
-/// ensures { result ≡ days_in_month year month }
+/// ensures days { result ≡ days_in_month year month }
+/// ensures from_28 { 28 ≤ result }
+/// ensures to_31 { result ≤ 31 }
 /// ```
 ///
 /// Words: [`days_in_month`](crate::definitions::calendar#days_in_month),
 /// [how to read it](crate::definitions).
+#[track_caller]
 pub fn days_in_month(year: i64, month: u8) -> u8 {
+    assert!(month >= 1, "no month has the number 0");
+    assert!(month <= 12, "no month has a number above 12");
     if month == 2 {
         if is_leap_year(year) {
             29

@@ -31,7 +31,9 @@ fn is_multiple(year: i64, number: u16) -> bool {
 /// # Proved
 ///
 /// ```text
-/// ensures { result ≡ days_in_year year }
+/// ensures days { result ≡ days_in_year year }
+/// ensures from_365 { 365 ≤ result }
+/// ensures to_366 { result ≤ 366 }
 /// ```
 ///
 /// Words: [`days_in_year`](crate::definitions::calendar#days_in_year),

@@ -23,7 +23,7 @@ use crate::integer_core::operators::is_zero;
 /// [`IsQuotient`](crate::definitions::integer_core#isquotient),
 /// [`IsTruncated`](crate::definitions::integer_core#istruncated), [how to read it](crate::definitions).
 pub fn div_rem<T: Fits>(x: T, y: T) -> Option<(T, T)> {
-    if has_quotient(x, y) {
+    if x.quotient_fits(&y) {
         Some(x.div_rem(&y))
     } else {
         None
@@ -48,7 +48,7 @@ pub fn div_rem<T: Fits>(x: T, y: T) -> Option<(T, T)> {
 /// [`IsQuotient`](crate::definitions::integer_core#isquotient),
 /// [`IsFloored`](crate::definitions::integer_core#isfloored), [how to read it](crate::definitions).
 pub fn div_floor<T: Fits>(x: T, y: T) -> Option<T> {
-    if has_quotient(x, y) {
+    if x.quotient_fits(&y) {
         Some(x.div_floor(&y))
     } else {
         None
@@ -97,7 +97,7 @@ pub fn mod_floor<T: Fits>(x: T, y: T) -> Option<T> {
 /// [`IsQuotient`](crate::definitions::integer_core#isquotient),
 /// [`IsFloored`](crate::definitions::integer_core#isfloored), [how to read it](crate::definitions).
 pub fn div_mod_floor<T: Fits>(x: T, y: T) -> Option<(T, T)> {
-    if has_quotient(x, y) {
+    if x.quotient_fits(&y) {
         Some(x.div_mod_floor(&y))
     } else {
         None
@@ -122,7 +122,7 @@ pub fn div_mod_floor<T: Fits>(x: T, y: T) -> Option<(T, T)> {
 /// [`IsQuotient`](crate::definitions::integer_core#isquotient),
 /// [`IsCeiled`](crate::definitions::integer_core#isceiled), [how to read it](crate::definitions).
 pub fn div_ceil<T: Fits>(x: T, y: T) -> Option<T> {
-    if has_quotient(x, y) {
+    if x.quotient_fits(&y) {
         Some(x.div_ceil(&y))
     } else {
         None
@@ -175,9 +175,4 @@ pub fn prev_multiple_of<T: Fits>(x: T, y: T) -> Option<T> {
     } else {
         None
     }
-}
-
-/// Returns `true` if the quotient fits, of each kind, as it does by a number above 0.
-fn has_quotient<T: Fits>(x: T, y: T) -> bool {
-    x.quotient_fits(&y)
 }

@@ -25,7 +25,7 @@ use num_traits::Signed;
 /// [`IsGreatestCommonDivisor`](crate::definitions::integer_core#isgreatestcommondivisor),
 /// [how to read it](crate::definitions).
 pub fn gcd<T: Fits>(x: T, y: T) -> Option<T> {
-    if has_gcd(x, y) {
+    if x.gcd_fits(&y) {
         Some(x.gcd(&y))
     } else {
         None
@@ -102,7 +102,7 @@ pub fn gcd_lcm<T: Fits>(x: T, y: T) -> Option<(T, T)> {
 /// [`IsBezoutAnswer`](crate::definitions::integer_core#isbezoutanswer),
 /// [how to read it](crate::definitions).
 pub fn extended_gcd<T: Fits>(x: T, y: T) -> Option<ExtendedGcd<T>> {
-    if has_gcd(x, y) && has_pair(x, y) {
+    if x.gcd_fits(&y) && has_pair(x, y) {
         Some(x.extended_gcd(&y))
     } else {
         None
@@ -165,11 +165,6 @@ fn product_magnitude_fits<T: Fits>(a: T, b: T) -> bool {
     let (_, m) = a.parts();
     let (_, n) = b.parts();
     product_is_within((false, m), (false, n), T::ends())
-}
-
-/// Returns `true` if the gcd fits, in the words of [`gcd`], as it does with a number above 0.
-fn has_gcd<T: Fits>(x: T, y: T) -> bool {
-    x.gcd_fits(&y)
 }
 
 /// Returns `true` if the type has a pair of coefficients: a type without negatives has one where one

@@ -18,7 +18,7 @@ use crate::integer_roots::Roots;
 ///
 /// Words: [`AnswersWhere`](crate::definitions::num_integer#answerswhere),
 /// [`IsRoot`](crate::definitions::integer_roots#isroot), [how to read it](crate::definitions).
-pub fn nth_root<T: Roots>(x: T, n: u32) -> Option<T> {
+pub fn nth_root<T: Roots + Copy>(x: T, n: u32) -> Option<T> {
     if n != 0 && (n % 2 != 0 || !is_negative(x)) {
         Some(x.nth_root(n))
     } else {
@@ -40,7 +40,7 @@ pub fn nth_root<T: Roots>(x: T, n: u32) -> Option<T> {
 ///
 /// Words: [`AnswersWhere`](crate::definitions::num_integer#answerswhere),
 /// [`IsRoot`](crate::definitions::integer_roots#isroot), [how to read it](crate::definitions).
-pub fn sqrt<T: Roots>(x: T) -> Option<T> {
+pub fn sqrt<T: Roots + Copy>(x: T) -> Option<T> {
     if !is_negative(x) {
         Some(x.sqrt())
     } else {

@@ -1,10 +1,8 @@
 //! The extended Euclidean algorithm (Knuth, The Art of Computer Programming, volume 2, section
 //! 4.5.2, algorithm X). The loop here stops one row earlier.
 
-use crate::integer_core::operators::{
-    difference, is_negative, is_zero, negated, one, product, zero,
-};
 use crate::integer_core::Integer;
+use crate::plain::{difference, negated, one, product, zero};
 
 /// A greatest common divisor with Bezout's coefficients: the first operand times `x` and the
 /// second times `y` add up to `gcd`. For 240 and 46, `gcd` is 2, `x` is -9 and `y` is 47.
@@ -39,7 +37,7 @@ impl<T: Integer> Row<T> {
 
     /// Returns the row as a result. Where the remainder is negative, it negates all three numbers.
     fn normalized(self) -> ExtendedGcd<T> {
-        if is_negative(self.remainder) {
+        if self.remainder < T::zero() {
             ExtendedGcd {
                 gcd: negated(self.remainder),
                 x: negated(self.x),
@@ -57,7 +55,7 @@ impl<T: Integer> Row<T> {
 
 /// Returns the row whose remainder is the greatest common divisor up to its sign, and the turns that
 /// lead to it. The loop never makes the row of remainder 0, whose coefficients need not fit.
-fn last_row<T: Integer>(a: T, b: T) -> (Row<T>, u32) {
+fn last_row<T: Integer + Clone>(a: T, b: T) -> (Row<T>, u32) {
     let mut previous = Row::of_first(a);
     let mut current = Row {
         remainder: b,
@@ -67,8 +65,8 @@ fn last_row<T: Integer>(a: T, b: T) -> (Row<T>, u32) {
     let mut turns = 0;
     while !previous.remainder.is_multiple_of(&current.remainder) {
         let (quotient, remainder) = previous.remainder.div_rem(&current.remainder);
-        let x = difference(previous.x, product(quotient, current.x));
-        let y = difference(previous.y, product(quotient, current.y));
+        let x = difference(previous.x, product(quotient.clone(), current.x.clone()));
+        let y = difference(previous.y, product(quotient, current.y.clone()));
         previous = current;
         current = Row { remainder, x, y };
         turns += 1;
@@ -81,6 +79,11 @@ fn last_row<T: Integer>(a: T, b: T) -> (Row<T>, u32) {
 /// it.
 ///
 /// May be called where [`Integer::extended_gcd`] may.
+///
+/// # Panics
+///
+/// If the greatest common divisor does not fit, or if the type is unsigned and neither number
+/// divides the other.
 ///
 /// # Proved
 ///
@@ -106,8 +109,10 @@ fn last_row<T: Integer>(a: T, b: T) -> (Row<T>, u32) {
 /// [`IsSmallPair`](crate::definitions::integer_core#issmallpair),
 /// [`AreEuclidTurns`](crate::definitions::integer_core#areeuclidturns),
 /// [`fibonacci`](crate::definitions::integer_core#fibonacci), [how to read it](crate::definitions).
-pub fn extended_gcd_counted<T: Integer>(a: T, b: T) -> (ExtendedGcd<T>, u32) {
-    if is_zero(b) {
+#[track_caller]
+pub fn extended_gcd_counted<T: Integer + Clone>(a: T, b: T) -> (ExtendedGcd<T>, u32) {
+    a.expect_pair(&b);
+    if b.is_zero() {
         (Row::of_first(a).normalized(), 0)
     } else {
         let (row, turns) = last_row(a, b);

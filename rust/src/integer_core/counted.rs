@@ -11,6 +11,10 @@ pub trait GcdCounted: Integer {
     ///
     /// May be called where `Fits::gcd_fits` is true.
     ///
+    /// # Panics
+    ///
+    /// If the greatest common divisor does not fit.
+    ///
     /// # Proved
     ///
     /// ```text
@@ -27,5 +31,6 @@ pub trait GcdCounted: Integer {
     /// [`IsGreatestCommonDivisor`](crate::definitions::integer_core#isgreatestcommondivisor),
     /// [`AreGcdTurns`](crate::definitions::integer_core#aregcdturns),
     /// [`IsBitLength`](crate::definitions::integer_core#isbitlength), [how to read it](crate::definitions).
+    #[track_caller]
     fn gcd_counted(&self, other: &Self) -> (Self, u32);
 }

@@ -1,14 +1,16 @@
 //! Division of the native types.
 
 use crate::integer_core::native::Native;
-use crate::integer_core::operators::{is_negative, is_zero, predecessor, quotient, remainder, sum};
+use crate::plain::{is_negative, is_zero, predecessor, quotient, remainder, sum};
 
 /// Returns the quotient rounded toward zero, and its remainder.
+#[track_caller]
 pub(crate) fn div_rem<T: Native>(n: T, d: T) -> (T, T) {
     (quotient(n, d), remainder(n, d))
 }
 
 /// Returns the quotient rounded down, and its remainder.
+#[track_caller]
 pub(crate) fn div_mod_floor<T: Native>(n: T, d: T) -> (T, T) {
     let (q, r) = div_rem(n, d);
     if is_above_floor(r, d) {

@@ -1,7 +1,7 @@
 //! Divisors and multiples of the native types.
 
 use crate::integer_core::native::Native;
-use crate::integer_core::operators::{is_zero, one, remainder, sum};
+use crate::plain::{is_zero, one, remainder, sum};
 
 /// Returns `true` if `d` divides `n`.
 pub(crate) fn is_multiple_of<T: Native>(n: T, d: T) -> bool {

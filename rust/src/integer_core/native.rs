@@ -1,11 +1,21 @@
 //! What the native integer types share.
 
-use crate::integer_core::operators::{difference, is_negative, is_zero, successor, zero};
 use crate::integer_core::stein::Magnitude;
+use crate::plain::{difference, is_negative, is_zero, successor, zero};
 use num_traits::{AsPrimitive, Bounded, Num, NumCast};
 
 /// A native integer type. No other crate can name this trait.
-pub trait Native: Copy + Num + NumCast + Ord + Bounded + AsPrimitive<Self::Magnitude> {
+pub trait Native:
+    Copy
+    + Num
+    + num_traits::CheckedAdd
+    + num_traits::CheckedSub
+    + num_traits::CheckedMul
+    + NumCast
+    + Ord
+    + Bounded
+    + AsPrimitive<Self::Magnitude>
+{
     /// The type of the magnitudes.
     type Magnitude: Magnitude + AsPrimitive<Self>;
 

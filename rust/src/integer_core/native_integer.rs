@@ -53,10 +53,34 @@ impl<T: Native> Integer for T {
         if is_zero(*self) || is_zero(*other) {
             return zero();
         }
-        T::from_magnitude(T::Magnitude::positive_lcm(
-            self.magnitude(),
-            other.magnitude(),
-        ))
+        crate::guards::number(
+            T::Magnitude::positive_lcm(self.magnitude(), other.magnitude()),
+            "the least common multiple does not fit",
+        )
+    }
+    #[inline]
+    fn exact_sum(self, other: T, reason: &'static str) -> T {
+        crate::guards::sum(self, other, reason)
+    }
+
+    #[inline]
+    fn exact_difference(self, other: T, reason: &'static str) -> T {
+        crate::guards::difference(self, other, reason)
+    }
+
+    #[inline]
+    fn exact_product(self, other: T, reason: &'static str) -> T {
+        crate::guards::product(self, other, reason)
+    }
+
+    #[inline]
+    fn expect_pair(&self, other: &T) {
+        crate::guards::expect_pair(*self, *other);
+    }
+
+    #[inline]
+    fn expect_lcm(&self, other: &T) {
+        crate::guards::expect_lcm(*self, *other);
     }
 }
 

@@ -75,6 +75,10 @@ pub fn is_negative<T: Num + PartialOrd>(a: T) -> bool {
 
 /// Returns `a + b`. `sum(2, 3)` is `5`.
 ///
+/// # Panics
+///
+/// If the result does not fit.
+///
 /// # Proved
 ///
 /// ```text
@@ -84,11 +88,16 @@ pub fn is_negative<T: Num + PartialOrd>(a: T) -> bool {
 /// ```
 ///
 /// Words: [how to read it](crate::definitions).
-pub fn sum<T: Num>(a: T, b: T) -> T {
-    a + b
+#[track_caller]
+pub fn sum<T: crate::integer_core::Integer>(a: T, b: T) -> T {
+    a.exact_sum(b, "attempt to add with overflow")
 }
 
 /// Returns `a - b`. `difference(2, 3)` is `-1`.
+///
+/// # Panics
+///
+/// If the result does not fit.
 ///
 /// # Proved
 ///
@@ -99,11 +108,16 @@ pub fn sum<T: Num>(a: T, b: T) -> T {
 /// ```
 ///
 /// Words: [how to read it](crate::definitions).
-pub fn difference<T: Num>(a: T, b: T) -> T {
-    a - b
+#[track_caller]
+pub fn difference<T: crate::integer_core::Integer>(a: T, b: T) -> T {
+    a.exact_difference(b, "attempt to subtract with overflow")
 }
 
 /// Returns `a * b`. `product(2, 3)` is `6`.
+///
+/// # Panics
+///
+/// If the result does not fit.
 ///
 /// # Proved
 ///
@@ -114,11 +128,16 @@ pub fn difference<T: Num>(a: T, b: T) -> T {
 /// ```
 ///
 /// Words: [how to read it](crate::definitions).
-pub fn product<T: Num>(a: T, b: T) -> T {
-    a * b
+#[track_caller]
+pub fn product<T: crate::integer_core::Integer>(a: T, b: T) -> T {
+    a.exact_product(b, "attempt to multiply with overflow")
 }
 
 /// Returns `a / b`, rounded toward zero. `quotient(-8, 3)` is `-2`.
+///
+/// # Panics
+///
+/// If `b` is 0, or if the quotient does not fit.
 ///
 /// # Proved
 ///
@@ -130,11 +149,16 @@ pub fn product<T: Num>(a: T, b: T) -> T {
 /// ```
 ///
 /// Words: [how to read it](crate::definitions).
+#[track_caller]
 pub fn quotient<T: Num>(a: T, b: T) -> T {
     a / b
 }
 
 /// Returns `a % b`, the remainder of [`quotient`]. `remainder(-8, 3)` is `-2`.
+///
+/// # Panics
+///
+/// If `b` is 0, or if the quotient does not fit.
 ///
 /// # Proved
 ///
@@ -147,11 +171,16 @@ pub fn quotient<T: Num>(a: T, b: T) -> T {
 /// ```
 ///
 /// Words: [how to read it](crate::definitions).
+#[track_caller]
 pub fn remainder<T: Num>(a: T, b: T) -> T {
     a % b
 }
 
 /// Returns `a + 1`. `successor(41)` is `42`.
+///
+/// # Panics
+///
+/// If the result does not fit.
 ///
 /// # Proved
 ///
@@ -162,11 +191,16 @@ pub fn remainder<T: Num>(a: T, b: T) -> T {
 /// ```
 ///
 /// Words: [how to read it](crate::definitions).
-pub fn successor<T: Num>(a: T) -> T {
+#[track_caller]
+pub fn successor<T: crate::integer_core::Integer>(a: T) -> T {
     sum(a, one())
 }
 
 /// Returns `a - 1`. `predecessor(43)` is `42`.
+///
+/// # Panics
+///
+/// If the result does not fit.
 ///
 /// # Proved
 ///
@@ -177,11 +211,16 @@ pub fn successor<T: Num>(a: T) -> T {
 /// ```
 ///
 /// Words: [how to read it](crate::definitions).
-pub fn predecessor<T: Num>(a: T) -> T {
+#[track_caller]
+pub fn predecessor<T: crate::integer_core::Integer>(a: T) -> T {
     difference(a, one())
 }
 
 /// Returns `-a`. `negated(7)` is `-7`.
+///
+/// # Panics
+///
+/// If the result does not fit.
 ///
 /// # Proved
 ///
@@ -192,6 +231,7 @@ pub fn predecessor<T: Num>(a: T) -> T {
 /// ```
 ///
 /// Words: [how to read it](crate::definitions).
-pub fn negated<T: Num>(a: T) -> T {
-    difference(zero(), a)
+#[track_caller]
+pub fn negated<T: crate::integer_core::Integer>(a: T) -> T {
+    zero::<T>().exact_difference(a, "attempt to negate with overflow")
 }

@@ -2,9 +2,7 @@
 //! volume 2, section 4.5.2, algorithm B).
 
 use crate::integer_core::native::Native;
-use crate::integer_core::operators::{
-    difference, is_below, is_zero, one, product, quotient, successor,
-};
+use crate::plain::{difference, is_below, is_zero, one, quotient, successor};
 use crate::shift::Unsigned;
 use num_traits::{cast, PrimInt, ToPrimitive};
 
@@ -115,8 +113,13 @@ fn shared_power_of_two<M: PrimInt + Unsigned>(a: M, b: M) -> M {
 }
 
 /// Returns the least common multiple of two numbers above 0.
+#[track_caller]
 fn positive_lcm<M: PrimInt + Unsigned>(a: M, b: M) -> M {
-    product(a, quotient(b, positive_gcd(a, b).0))
+    crate::guards::product(
+        a,
+        quotient(b, positive_gcd(a, b).0),
+        "the least common multiple does not fit",
+    )
 }
 
 /// A type of magnitudes, with what is computed of two numbers above 0.
@@ -132,6 +135,7 @@ pub trait Magnitude: Copy + ToPrimitive {
     fn shared_power_of_two(a: Self, b: Self) -> Self;
 
     /// Returns the least common multiple.
+    #[track_caller]
     fn positive_lcm(a: Self, b: Self) -> Self;
 }
 
@@ -149,6 +153,7 @@ impl Magnitude for u64 {
         shared_power_of_two(a, b)
     }
 
+    #[track_caller]
     fn positive_lcm(a: u64, b: u64) -> u64 {
         positive_lcm(a, b)
     }
@@ -168,6 +173,7 @@ impl Magnitude for u128 {
         shared_power_of_two(a, b)
     }
 
+    #[track_caller]
     fn positive_lcm(a: u128, b: u128) -> u128 {
         positive_lcm(a, b)
     }
@@ -195,7 +201,11 @@ fn gcd_of_magnitudes<T: Native>(a: T, b: T) -> (T::Magnitude, u32) {
 }
 
 /// Returns the greatest common divisor, and the turns of its loop.
+#[track_caller]
 pub(crate) fn binary_gcd<T: Native>(a: T, b: T) -> (T, u32) {
     let (gcd, turns) = gcd_of_magnitudes(a, b);
-    (T::from_magnitude(gcd), turns)
+    (
+        crate::guards::number(gcd, "the greatest common divisor does not fit"),
+        turns,
+    )
 }

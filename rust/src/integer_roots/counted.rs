@@ -9,6 +9,10 @@ pub trait SqrtCounted: Roots {
     ///
     /// May be called where `self` is not negative.
     ///
+    /// # Panics
+    ///
+    /// If the number is negative.
+    ///
     /// # Proved
     ///
     /// ```text
@@ -21,5 +25,6 @@ pub trait SqrtCounted: Roots {
     /// Words: [`IsRoot`](crate::definitions::integer_roots#isroot),
     /// [`AreSquareRootTurns`](crate::definitions::integer_roots#aresquarerootturns),
     /// [how to read it](crate::definitions).
+    #[track_caller]
     fn sqrt_counted(&self) -> (Self, u32);
 }

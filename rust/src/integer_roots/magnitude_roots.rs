@@ -8,9 +8,6 @@ use crate::integer_roots::square_root::square_root_counted;
 
 /// Returns the square root, and the turns of its loops.
 pub(crate) fn square_root_by_magnitude<T: NativeInteger<Magnitude = u64>>(x: T) -> (T, u32) {
-    if is_negative(x) {
-        unreachable!("the square root of a negative number");
-    }
     let (root, turns) = square_root_counted(x.magnitude());
     (T::from_magnitude(root), turns)
 }
@@ -28,11 +25,9 @@ fn bits<T: NativeInteger>() -> u32 {
 /// Returns the root of degree `n`.
 pub(crate) fn root_by_magnitude<T: NativeInteger<Magnitude = u64>>(x: T, n: u32) -> T {
     match n {
-        0 => unreachable!("a root of degree 0"),
         1 => x,
         2 => square_root_by_magnitude(x).0,
         3 => cube_root_by_magnitude(x),
-        _ if n % 2 == 0 && is_negative(x) => unreachable!("an even root of a negative number"),
         _ => with_sign_of(x, root_of_degree(x.magnitude(), n)),
     }
 }

@@ -21,6 +21,10 @@ pub trait Roots: Integer {
     ///
     /// May be called where `n` is not 0, and `n` is odd or `self` is not negative.
     ///
+    /// # Panics
+    ///
+    /// If `n` is 0, or if `n` is even and the number is negative.
+    ///
     /// # Proved
     ///
     /// ```text
@@ -30,11 +34,16 @@ pub trait Roots: Integer {
     /// ```
     ///
     /// Words: [`IsRoot`](crate::definitions::integer_roots#isroot), [how to read it](crate::definitions).
+    #[track_caller]
     fn nth_root(&self, n: u32) -> Self;
 
     /// Returns the square root, rounded down. `99.sqrt()` is `9`.
     ///
     /// May be called where `self` is not negative.
+    ///
+    /// # Panics
+    ///
+    /// If the number is negative.
     ///
     /// # Proved
     ///
@@ -44,7 +53,12 @@ pub trait Roots: Integer {
     /// ```
     ///
     /// Words: [`IsRoot`](crate::definitions::integer_roots#isroot), [how to read it](crate::definitions).
+    #[track_caller]
     fn sqrt(&self) -> Self {
+        assert!(
+            *self >= Self::zero(),
+            "attempt to take the square root of a negative number"
+        );
         self.nth_root(2)
     }
 
@@ -65,6 +79,10 @@ pub trait Roots: Integer {
 /// Returns the root of degree `n`, rounded toward zero. `nth_root(12345, 4)` is `10`. May be called where
 /// [`Roots::nth_root`] may.
 ///
+/// # Panics
+///
+/// If `n` is 0, or if `n` is even and the number is negative.
+///
 /// # Proved
 ///
 /// ```text
@@ -74,11 +92,21 @@ pub trait Roots: Integer {
 /// ```
 ///
 /// Words: [`IsRoot`](crate::definitions::integer_roots#isroot), [how to read it](crate::definitions).
+#[track_caller]
 pub fn nth_root<T: Roots>(x: T, n: u32) -> T {
+    assert!(n != 0, "attempt to take a root of degree 0");
+    assert!(
+        n % 2 != 0 || x >= T::zero(),
+        "attempt to take an even root of a negative number"
+    );
     x.nth_root(n)
 }
 
 /// Returns the square root, rounded down. `sqrt(99)` is `9`. May be called where [`Roots::sqrt`] may.
+///
+/// # Panics
+///
+/// If the number is negative.
 ///
 /// # Proved
 ///
@@ -88,7 +116,12 @@ pub fn nth_root<T: Roots>(x: T, n: u32) -> T {
 /// ```
 ///
 /// Words: [`IsRoot`](crate::definitions::integer_roots#isroot), [how to read it](crate::definitions).
+#[track_caller]
 pub fn sqrt<T: Roots>(x: T) -> T {
+    assert!(
+        x >= T::zero(),
+        "attempt to take the square root of a negative number"
+    );
     x.sqrt()
 }
 
@@ -107,10 +140,19 @@ pub fn cbrt<T: Roots>(x: T) -> T {
 
 impl<T: Integer + NativeInteger<Magnitude = u64>> Roots for T {
     fn nth_root(&self, n: u32) -> T {
+        assert!(n != 0, "attempt to take a root of degree 0");
+        assert!(
+            n % 2 != 0 || *self >= Self::zero(),
+            "attempt to take an even root of a negative number"
+        );
         root_by_magnitude(*self, n)
     }
 
     fn sqrt(&self) -> T {
+        assert!(
+            *self >= Self::zero(),
+            "attempt to take the square root of a negative number"
+        );
         square_root_by_magnitude(*self).0
     }
 
@@ -121,6 +163,10 @@ impl<T: Integer + NativeInteger<Magnitude = u64>> Roots for T {
 
 impl<T: NativeInteger<Magnitude = u64>> SqrtCounted for T {
     fn sqrt_counted(&self) -> (T, u32) {
+        assert!(
+            *self >= Self::zero(),
+            "attempt to take the square root of a negative number"
+        );
         square_root_by_magnitude(*self)
     }
 }

@@ -1,4 +1,4 @@
-//! Roots of any degree from 3 up by Newton's method, and powers by squares, at 64 bits.
+//! Roots of any degree from 3 up by Newton's method, and powers by squares, of numbers of 64 bits.
 
 use crate::integer_roots::newton::newton;
 

@@ -13,6 +13,10 @@ use crate::{checked, Fits};
 /// May be called where `m` and `n` are above 0 and their least common multiple fits, which
 /// `Fits::lcm_fits` tests.
 ///
+/// # Panics
+///
+/// If the modulus is not positive, or if the least common multiple does not fit.
+///
 /// # Proved
 ///
 /// ```text
@@ -30,7 +34,11 @@ use crate::{checked, Fits};
 /// [`IsLeastCommonMultiple`](crate::definitions::integer_core#isleastcommonmultiple),
 /// [`SolvesBothCongruences`](crate::definitions::modular#solvesbothcongruences),
 /// [`IsResidueClass`](crate::definitions::modular#isresidueclass), [how to read it](crate::definitions).
+#[track_caller]
 pub fn chinese_remainder<T: Modular>(a: T, m: T, b: T, n: T) -> Option<(T, T)> {
+    assert!(m > T::zero(), "the modulus is not positive");
+    assert!(n > T::zero(), "the modulus is not positive");
+    m.expect_lcm(&n);
     let start = residue(a, m);
     let gap = difference_modulo(b, start, n);
     let (turns, step) = solutions(m, gap, n)?;
@@ -54,6 +62,10 @@ pub enum CommonSolution<T> {
 ///
 /// May be called where `m` and `n` are above 0.
 ///
+/// # Panics
+///
+/// If the modulus is not positive.
+///
 /// # Proved
 ///
 /// ```text
@@ -71,6 +83,7 @@ pub enum CommonSolution<T> {
 /// [`SolvesBothCongruences`](crate::definitions::modular#solvesbothcongruences),
 /// [`IsNextCommonSolution`](crate::definitions::modular#isnextcommonsolution),
 /// [how to read it](crate::definitions).
+#[track_caller]
 pub fn next_common_solution<T: Modular + Fits>(
     from: T,
     a: T,
@@ -78,6 +91,8 @@ pub fn next_common_solution<T: Modular + Fits>(
     b: T,
     n: T,
 ) -> CommonSolution<T> {
+    assert!(m > T::zero(), "the modulus is not positive");
+    assert!(n > T::zero(), "the modulus is not positive");
     let start = residue(a, m);
     let gap = difference_modulo(b, start, n);
     match solutions(m, gap, n) {

@@ -12,6 +12,10 @@ use crate::Integer;
 ///
 /// May be called where `m` is above 0.
 ///
+/// # Panics
+///
+/// If the modulus is not positive.
+///
 /// # Proved
 ///
 /// ```text
@@ -23,7 +27,9 @@ use crate::Integer;
 ///
 /// Words: [`IsInverse`](crate::definitions::modular#isinverse),
 /// [`IsOnly`](crate::definitions::integer_core#isonly), [how to read it](crate::definitions).
-pub fn inverse_modulo<T: Integer>(a: T, m: T) -> Option<T> {
+#[track_caller]
+pub fn inverse_modulo<T: Integer + Copy>(a: T, m: T) -> Option<T> {
+    assert!(m > T::zero(), "the modulus is not positive");
     let (gcd, x) = gcd_modulo(a, m);
     if gcd == one() {
         Some(x)
@@ -37,6 +43,10 @@ pub fn inverse_modulo<T: Integer>(a: T, m: T) -> Option<T> {
 ///
 /// May be called where `m` is above 0.
 ///
+/// # Panics
+///
+/// If the modulus is not positive.
+///
 /// # Proved
 ///
 /// ```text
@@ -49,7 +59,9 @@ pub fn inverse_modulo<T: Integer>(a: T, m: T) -> Option<T> {
 /// Words: [`IsInverse`](crate::definitions::modular#isinverse),
 /// [`IsQuotientModulo`](crate::definitions::modular#isquotientmodulo),
 /// [`IsOnly`](crate::definitions::integer_core#isonly), [how to read it](crate::definitions).
+#[track_caller]
 pub fn quotient_modulo<T: Modular>(a: T, b: T, m: T) -> Option<T> {
+    assert!(m > T::zero(), "the modulus is not positive");
     match inverse_modulo(b, m) {
         Some(inverse) => Some(a.product_modulo(&inverse, &m)),
         None => None,
@@ -59,7 +71,7 @@ pub fn quotient_modulo<T: Modular>(a: T, b: T, m: T) -> Option<T> {
 /// Returns the greatest common divisor of `a` and `m`, and a number that times `a` is this divisor
 /// modulo `m`. Euclid's loop keeps the magnitudes of the coefficients of `a`, which are at most `m`;
 /// their signs alternate.
-pub(crate) fn gcd_modulo<T: Integer>(a: T, m: T) -> (T, T) {
+pub(crate) fn gcd_modulo<T: Integer + Copy>(a: T, m: T) -> (T, T) {
     let mut previous = m;
     let mut current = residue(a, m);
     let mut previous_size = zero();

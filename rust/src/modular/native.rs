@@ -10,6 +10,7 @@ use num_traits::cast;
 
 impl<T: NativeInteger> Modular for T {
     fn product_modulo(&self, other: &T, modulus: &T) -> T {
+        assert!(*modulus > Self::zero(), "the modulus is not positive");
         let (x, y, m) = (self.parts().1, other.parts().1, modulus.parts().1);
         let rest = of_magnitude(product_of_wide(x, y, m));
         if is_negative(*self) != is_negative(*other) {
@@ -20,6 +21,7 @@ impl<T: NativeInteger> Modular for T {
     }
 
     fn power_modulo_counted(&self, exponent: u128, modulus: &T) -> (T, u32) {
+        assert!(*modulus > Self::zero(), "the modulus is not positive");
         let (power, turns) = power_of_wide(
             residue(*self, *modulus).parts().1,
             exponent,

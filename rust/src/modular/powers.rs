@@ -7,6 +7,10 @@ use crate::modular::products::Modular;
 ///
 /// May be called where [`power_modulo`] may.
 ///
+/// # Panics
+///
+/// If the modulus is not positive.
+///
 /// # Proved
 ///
 /// ```text
@@ -17,13 +21,19 @@ use crate::modular::products::Modular;
 /// ```
 ///
 /// Words: [`IsResidue`](crate::definitions::modular#isresidue), [how to read it](crate::definitions).
+#[track_caller]
 pub fn power_modulo_counted<T: Modular>(a: T, exponent: u128, m: T) -> (T, u32) {
+    assert!(m > T::zero(), "the modulus is not positive");
     a.power_modulo_counted(exponent, &m)
 }
 
 /// Returns `a` to the power `exponent` modulo `m`, by squares. `power_modulo(3, 4, 7)` is `4`.
 ///
 /// May be called where `m` is above 0.
+///
+/// # Panics
+///
+/// If the modulus is not positive.
 ///
 /// # Proved
 ///
@@ -33,6 +43,8 @@ pub fn power_modulo_counted<T: Modular>(a: T, exponent: u128, m: T) -> (T, u32) 
 /// ```
 ///
 /// Words: [`IsResidue`](crate::definitions::modular#isresidue), [how to read it](crate::definitions).
+#[track_caller]
 pub fn power_modulo<T: Modular>(a: T, exponent: u128, m: T) -> T {
+    assert!(m > T::zero(), "the modulus is not positive");
     power_modulo_counted(a, exponent, m).0
 }

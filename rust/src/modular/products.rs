@@ -7,11 +7,15 @@ use crate::Integer;
 
 /// Products and powers modulo a number above 0. An empty implementation gives them to your own type: its
 /// default bodies double and add, and square and multiply.
-pub trait Modular: Integer {
+pub trait Modular: Integer + Copy {
     /// Returns `self * other` modulo `modulus`. The product need not fit the type.
     /// `4.product_modulo(&5, &7)` is `6`.
     ///
     /// May be called where `modulus` is above 0.
+    ///
+    /// # Panics
+    ///
+    /// If the modulus is not positive.
     ///
     /// # Proved
     ///
@@ -22,7 +26,9 @@ pub trait Modular: Integer {
     /// ```
     ///
     /// Words: [`IsResidue`](crate::definitions::modular#isresidue), [how to read it](crate::definitions).
+    #[track_caller]
     fn product_modulo(&self, other: &Self, modulus: &Self) -> Self {
+        assert!(*modulus > Self::zero(), "the modulus is not positive");
         product_of_residues(
             residue(*self, *modulus),
             residue(*other, *modulus),
@@ -36,6 +42,10 @@ pub trait Modular: Integer {
     ///
     /// May be called where `modulus` is above 0.
     ///
+    /// # Panics
+    ///
+    /// If the modulus is not positive.
+    ///
     /// # Proved
     ///
     /// ```text
@@ -48,7 +58,9 @@ pub trait Modular: Integer {
     /// ```
     ///
     /// Words: [`IsResidue`](crate::definitions::modular#isresidue), [how to read it](crate::definitions).
+    #[track_caller]
     fn power_modulo_counted(&self, exponent: u128, modulus: &Self) -> (Self, u32) {
+        assert!(*modulus > Self::zero(), "the modulus is not positive");
         let m = *modulus;
         let product = move |x: Self, y: Self| -> Self { x.product_modulo(&y, &m) };
         let residues = Residues {
@@ -63,6 +75,10 @@ pub trait Modular: Integer {
 ///
 /// May be called where `m` is above 0.
 ///
+/// # Panics
+///
+/// If the modulus is not positive.
+///
 /// # Proved
 ///
 /// ```text
@@ -71,12 +87,14 @@ pub trait Modular: Integer {
 /// ```
 ///
 /// Words: [`IsResidue`](crate::definitions::modular#isresidue), [how to read it](crate::definitions).
+#[track_caller]
 pub fn product_modulo<T: Modular>(a: T, b: T, m: T) -> T {
+    assert!(m > T::zero(), "the modulus is not positive");
     a.product_modulo(&b, &m)
 }
 
 /// Returns the product of two residues, by doubling along the binary digits of `y`.
-pub(crate) fn product_of_residues<T: Integer>(x: T, y: T, m: T) -> T {
+pub(crate) fn product_of_residues<T: Integer + Copy>(x: T, y: T, m: T) -> T {
     let mut total = zero();
     let mut addend = x;
     let mut rest = y;

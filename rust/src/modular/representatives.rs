@@ -47,7 +47,7 @@ pub(crate) struct Residues<T, F> {
     pub product: F,
 }
 
-impl<T: Integer, F: Fn(T, T) -> T> Representatives for Residues<T, F> {
+impl<T: Integer + Copy, F: Fn(T, T) -> T> Representatives for Residues<T, F> {
     type Number = T;
 
     fn product(&self, x: T, y: T) -> T {

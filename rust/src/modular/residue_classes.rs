@@ -13,6 +13,10 @@ use crate::{checked, Fits, Integer};
 ///
 /// May be called where `m` is above 0.
 ///
+/// # Panics
+///
+/// If the modulus is not positive.
+///
 /// # Proved
 ///
 /// ```text
@@ -27,7 +31,9 @@ use crate::{checked, Fits, Integer};
 /// [`IsResidueClass`](crate::definitions::modular#isresidueclass),
 /// [`IsReducedModulus`](crate::definitions::modular#isreducedmodulus),
 /// [how to read it](crate::definitions).
+#[track_caller]
 pub fn solutions<T: Modular>(a: T, b: T, m: T) -> Option<(T, T)> {
+    assert!(m > T::zero(), "the modulus is not positive");
     let (gcd, x) = gcd_modulo(a, m);
     if !b.is_multiple_of(&gcd) {
         return None;
@@ -42,6 +48,10 @@ pub fn solutions<T: Modular>(a: T, b: T, m: T) -> Option<(T, T)> {
 ///
 /// May be called where `step` is above 0.
 ///
+/// # Panics
+///
+/// If the step is not positive.
+///
 /// # Proved
 ///
 /// ```text
@@ -54,7 +64,9 @@ pub fn solutions<T: Modular>(a: T, b: T, m: T) -> Option<(T, T)> {
 ///
 /// Words: [`IsNextCongruent`](crate::definitions::modular#isnextcongruent),
 /// [how to read it](crate::definitions).
+#[track_caller]
 pub fn next_congruent<T: Fits>(from: T, first: T, step: T) -> Option<T> {
+    assert!(step > T::zero(), "the step is not positive");
     checked::sum(from, difference_modulo(first, from, step))
 }
 
@@ -62,6 +74,10 @@ pub fn next_congruent<T: Fits>(from: T, first: T, step: T) -> Option<T> {
 /// the type. `previous_congruent(10, 1, 4)` is `Some(9)`.
 ///
 /// May be called where `step` is above 0.
+///
+/// # Panics
+///
+/// If the step is not positive.
 ///
 /// # Proved
 ///
@@ -76,7 +92,9 @@ pub fn next_congruent<T: Fits>(from: T, first: T, step: T) -> Option<T> {
 ///
 /// Words: [`IsPreviousCongruent`](crate::definitions::modular#ispreviouscongruent),
 /// [how to read it](crate::definitions).
+#[track_caller]
 pub fn previous_congruent<T: Fits>(to: T, first: T, step: T) -> Option<T> {
+    assert!(step > T::zero(), "the step is not positive");
     checked::difference(to, difference_modulo(to, first, step))
 }
 
@@ -85,20 +103,27 @@ pub fn previous_congruent<T: Fits>(to: T, first: T, step: T) -> Option<T> {
 ///
 /// May be called where `step` is above 0.
 ///
+/// # Panics
+///
+/// If the step is not positive.
+///
 /// # Proved
 ///
 /// ```text
 /// requires positive { pos 0 <ℤ T.value step }
-/// ensures { MatchOption result
+/// ensures count { MatchOption result
 ///     ((n : ℤ) × IsCountOfCongruent (T.value from) (T.value to) (T.value first) (T.value step) n
 ///     × ¬ (T.fits n))
 ///     (λ n. T.fits (T.value n) × IsCountOfCongruent (T.value from) (T.value to) (T.value first)
 ///     (T.value step) (T.value n)) }
+/// ensures from_zero { IfSome result (λ n. pos 0 ≤ℤ T.value n) }
 /// ```
 ///
 /// Words: [`IsCountOfCongruent`](crate::definitions::modular#iscountofcongruent),
 /// [how to read it](crate::definitions).
+#[track_caller]
 pub fn count_congruent<T: Fits>(from: T, to: T, first: T, step: T) -> Option<T> {
+    assert!(step > T::zero(), "the step is not positive");
     if is_below(to, from) {
         return Some(zero());
     }

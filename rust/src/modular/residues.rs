@@ -7,6 +7,10 @@ use crate::{mod_floor, Integer};
 ///
 /// May be called where `m` is above 0.
 ///
+/// # Panics
+///
+/// If the modulus is not positive.
+///
 /// # Proved
 ///
 /// ```text
@@ -15,13 +19,19 @@ use crate::{mod_floor, Integer};
 /// ```
 ///
 /// Words: [`IsResidue`](crate::definitions::modular#isresidue), [how to read it](crate::definitions).
+#[track_caller]
 pub fn residue<T: Integer>(a: T, m: T) -> T {
+    assert!(m > T::zero(), "the modulus is not positive");
     mod_floor(a, m)
 }
 
 /// Returns `a + b` modulo `m`. The sum need not fit the type: `sum_modulo(200u8, 100, 201)` is `99`.
 ///
 /// May be called where `m` is above 0.
+///
+/// # Panics
+///
+/// If the modulus is not positive.
 ///
 /// # Proved
 ///
@@ -31,12 +41,14 @@ pub fn residue<T: Integer>(a: T, m: T) -> T {
 /// ```
 ///
 /// Words: [`IsResidue`](crate::definitions::modular#isresidue), [how to read it](crate::definitions).
-pub fn sum_modulo<T: Integer>(a: T, b: T, m: T) -> T {
+#[track_caller]
+pub fn sum_modulo<T: Integer + Copy>(a: T, b: T, m: T) -> T {
+    assert!(m > T::zero(), "the modulus is not positive");
     sum_of_residues(residue(a, m), residue(b, m), m)
 }
 
 /// Returns [`sum_modulo`] of two residues.
-pub(crate) fn sum_of_residues<T: Integer>(x: T, y: T, m: T) -> T {
+pub(crate) fn sum_of_residues<T: Integer + Copy>(x: T, y: T, m: T) -> T {
     let room = difference(m, y);
     if is_below(x, room) {
         sum(x, y)
@@ -49,6 +61,10 @@ pub(crate) fn sum_of_residues<T: Integer>(x: T, y: T, m: T) -> T {
 ///
 /// May be called where `m` is above 0.
 ///
+/// # Panics
+///
+/// If the modulus is not positive.
+///
 /// # Proved
 ///
 /// ```text
@@ -57,7 +73,9 @@ pub(crate) fn sum_of_residues<T: Integer>(x: T, y: T, m: T) -> T {
 /// ```
 ///
 /// Words: [`IsResidue`](crate::definitions::modular#isresidue), [how to read it](crate::definitions).
-pub fn difference_modulo<T: Integer>(a: T, b: T, m: T) -> T {
+#[track_caller]
+pub fn difference_modulo<T: Integer + Copy>(a: T, b: T, m: T) -> T {
+    assert!(m > T::zero(), "the modulus is not positive");
     let (x, y) = (residue(a, m), residue(b, m));
     if is_below(x, y) {
         difference(m, difference(y, x))
@@ -71,6 +89,10 @@ pub fn difference_modulo<T: Integer>(a: T, b: T, m: T) -> T {
 ///
 /// May be called where `m` is above 0.
 ///
+/// # Panics
+///
+/// If the modulus is not positive.
+///
 /// # Proved
 ///
 /// ```text
@@ -79,12 +101,14 @@ pub fn difference_modulo<T: Integer>(a: T, b: T, m: T) -> T {
 /// ```
 ///
 /// Words: [`IsResidue`](crate::definitions::modular#isresidue), [how to read it](crate::definitions).
-pub fn negation_modulo<T: Integer>(a: T, m: T) -> T {
+#[track_caller]
+pub fn negation_modulo<T: Integer + Copy>(a: T, m: T) -> T {
+    assert!(m > T::zero(), "the modulus is not positive");
     negation_of_residue(residue(a, m), m)
 }
 
 /// Returns [`negation_modulo`] of a residue.
-pub(crate) fn negation_of_residue<T: Integer>(x: T, m: T) -> T {
+pub(crate) fn negation_of_residue<T: Integer + Copy>(x: T, m: T) -> T {
     if is_zero(x) {
         x
     } else {
@@ -93,6 +117,6 @@ pub(crate) fn negation_of_residue<T: Integer>(x: T, m: T) -> T {
 }
 
 /// Returns `true` if `a` and `b` are equal modulo `m`.
-pub(crate) fn are_congruent<T: Integer>(a: T, b: T, m: T) -> bool {
+pub(crate) fn are_congruent<T: Integer + Copy>(a: T, b: T, m: T) -> bool {
     is_zero(difference_modulo(a, b, m))
 }

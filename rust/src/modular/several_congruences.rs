@@ -11,7 +11,12 @@ use crate::{checked, Fits, Integer};
 /// the second. No product of the moduli need fit. `next_common_solution_of(10, &[(1, 4), (3, 6), (0, 7)])`
 /// is `CommonSolution::At(21)`.
 ///
-/// May be called where each modulus is above 0.
+/// May be called where each modulus is above 0. In Rattle, a function that passes on a slice of its own
+/// parameters asks its callers for `in_range` too.
+///
+/// # Panics
+///
+/// If a modulus is not positive.
 ///
 /// # Proved
 ///
@@ -29,10 +34,15 @@ use crate::{checked, Fits, Integer};
 /// Words: [`MatchCommonSolution`](crate::definitions::modular#matchcommonsolution),
 /// [`SolvesEach`](crate::definitions::modular#solveseach),
 /// [`IsLeastFrom`](crate::definitions::num_integer#isleastfrom), [how to read it](crate::definitions).
+#[track_caller]
 pub fn next_common_solution_of<T: Modular + Fits>(
     from: T,
     congruences: &[(T, T)],
 ) -> CommonSolution<T> {
+    assert!(
+        congruences.iter().all(|pair| pair.1 > T::zero()),
+        "a modulus is not positive"
+    );
     match least_solution(from, congruences) {
         Some(solution) => CommonSolution::At(solution),
         None => {
@@ -81,7 +91,7 @@ fn least_candidate<T: Modular + Fits>(
 }
 
 /// Returns `true` if the number solves each congruence.
-fn solves_each<T: Integer>(x: T, congruences: &[(T, T)]) -> bool {
+fn solves_each<T: Integer + Copy>(x: T, congruences: &[(T, T)]) -> bool {
     for congruence in congruences {
         let (a, m) = *congruence;
         if !are_congruent(x, a, m) {
@@ -92,7 +102,7 @@ fn solves_each<T: Integer>(x: T, congruences: &[(T, T)]) -> bool {
 }
 
 /// Returns `true` if each two of the congruences agree, and so all have a common solution.
-fn agree_in_pairs<T: Integer>(congruences: &[(T, T)]) -> bool {
+fn agree_in_pairs<T: Integer + Copy>(congruences: &[(T, T)]) -> bool {
     let mut rest = congruences;
     while let Some((congruence, others)) = rest.split_first() {
         let (a, m) = *congruence;
@@ -106,7 +116,7 @@ fn agree_in_pairs<T: Integer>(congruences: &[(T, T)]) -> bool {
 
 /// Returns `true` if `a` is equal to the first number of each pair, modulo the greatest common divisor
 /// of `m` and the second.
-fn agrees_with_each<T: Integer>(a: T, m: T, others: &[(T, T)]) -> bool {
+fn agrees_with_each<T: Integer + Copy>(a: T, m: T, others: &[(T, T)]) -> bool {
     for other in others {
         let (b, n) = *other;
         if !are_congruent(a, b, m.gcd(&n)) {

@@ -24,6 +24,8 @@ pub fn midpoint<T: Average>(a: T, b: T) -> T {
 ///
 /// May be called where `items` is sorted.
 ///
+/// If the items are not sorted, the result is some place, as that of `binary_search` of a slice is.
+///
 /// # Proved
 ///
 /// ```text
@@ -35,7 +37,7 @@ pub fn midpoint<T: Average>(a: T, b: T) -> T {
 /// ```
 ///
 /// Words: [how to read it](crate::definitions).
-pub fn lower_bound<T: Integer>(items: &[T], least: T) -> usize {
+pub fn lower_bound<T: Integer + Copy>(items: &[T], least: T) -> usize {
     let mut low = 0;
     let mut high = items.len();
     while low < high {

@@ -8,6 +8,10 @@ use crate::{mod_floor, Fits, Integer};
 ///
 /// May be called where `alignment` is above 0.
 ///
+/// # Panics
+///
+/// If the alignment is not positive.
+///
 /// # Proved
 ///
 /// ```text
@@ -20,7 +24,9 @@ use crate::{mod_floor, Fits, Integer};
 /// ```
 ///
 /// Words: [`IsAlignedUp`](crate::definitions::uses#isalignedup), [how to read it](crate::definitions).
+#[track_caller]
 pub fn align_up<T: Fits>(offset: T, alignment: T) -> Option<T> {
+    assert!(alignment > T::zero(), "the alignment is not positive");
     if offset.next_multiple_fits(&alignment) {
         Some(offset.next_multiple_of(&alignment))
     } else {
@@ -33,6 +39,10 @@ pub fn align_up<T: Fits>(offset: T, alignment: T) -> Option<T> {
 ///
 /// May be called where `alignment` is above 0.
 ///
+/// # Panics
+///
+/// If the alignment is not positive.
+///
 /// # Proved
 ///
 /// ```text
@@ -43,7 +53,9 @@ pub fn align_up<T: Fits>(offset: T, alignment: T) -> Option<T> {
 /// ```
 ///
 /// Words: [`Divides`](crate::definitions::integer_core#divides), [how to read it](crate::definitions).
-pub fn padding<T: Integer>(offset: T, alignment: T) -> T {
+#[track_caller]
+pub fn padding<T: Integer + Copy>(offset: T, alignment: T) -> T {
+    assert!(alignment > T::zero(), "the alignment is not positive");
     let over = mod_floor(offset, alignment);
     if is_zero(over) {
         over

@@ -1,11 +1,15 @@
 //! Items on pages of one size, and in parts of nearly one size.
 
 use crate::operators::{difference, is_below, is_negative, product, successor, sum};
-use crate::{div_ceil, div_mod_floor, Integer};
+use crate::{checked, div_ceil, div_mod_floor, Fits, Integer};
 
 /// Returns the fewest pages that hold all items. `pages(10, 4)` is `3`, and `pages(-9, 4)` is `-2`.
 ///
 /// May be called where `page_size` is above 0.
+///
+/// # Panics
+///
+/// If the page size is not positive.
 ///
 /// # Proved
 ///
@@ -17,7 +21,9 @@ use crate::{div_ceil, div_mod_floor, Integer};
 /// ```
 ///
 /// Words: [how to read it](crate::definitions).
+#[track_caller]
 pub fn pages<T: Integer>(items: T, page_size: T) -> T {
+    assert!(page_size > T::zero(), "the page size is not positive");
     div_ceil(items, page_size)
 }
 
@@ -25,6 +31,10 @@ pub fn pages<T: Integer>(items: T, page_size: T) -> T {
 /// `(2, 2)`, and `place_of(-1, 4)` is `(-1, 3)`.
 ///
 /// May be called where `page_size` is above 0.
+///
+/// # Panics
+///
+/// If the page size is not positive.
 ///
 /// # Proved
 ///
@@ -37,35 +47,52 @@ pub fn pages<T: Integer>(items: T, page_size: T) -> T {
 /// ```
 ///
 /// Words: [`IsPlace`](crate::definitions::uses#isplace), [how to read it](crate::definitions).
+#[track_caller]
 pub fn place_of<T: Integer>(item: T, page_size: T) -> (T, T) {
+    assert!(page_size > T::zero(), "the page size is not positive");
     div_mod_floor(item, page_size)
 }
 
-/// Returns the item at a place of a page, all counted from 0. `item_at(2, 2, 4)` is `10`, and
-/// `item_at(-1, 3, 4)` is `-1`.
+/// Returns the item at a place of a page, all counted from 0, or `None` if it does not fit.
+/// `item_at(2, 2, 4)` is `Some(10)`, `item_at(-1, 3, 4)` is `Some(-1)`, and `item_at(64u8, 0, 4)` is
+/// `None`.
 ///
-/// May be called where `place` is at least 0 and below `page_size`, and the item fits.
+/// May be called where `place` is at least 0 and below `page_size`.
+///
+/// # Panics
+///
+/// If the place is negative, or if the place is not below the page size.
 ///
 /// # Proved
 ///
 /// ```text
 /// requires place_from_zero { pos 0 ≤ℤ T.value place }
 /// requires place_below { T.value place <ℤ T.value page_size }
-/// requires item_fits { T.fits (T.value page *ℤ T.value page_size +ℤ T.value place) }
-/// ensures place { IsPlace (T.value result) (T.value page_size) (T.value page)
-///     (T.value place) }
-/// ensures only { (item : ℤ) → IsPlace item (T.value page_size) (T.value page) (T.value place)
-///     → item ≡ T.value result }
+/// ensures place { AnswersWhere
+///     (EachFits T.fits (λ item. IsPlace item (T.value page_size) (T.value page) (T.value place)))
+///     (λ item. T.fits (T.value item)
+///     × IsPlace (T.value item) (T.value page_size) (T.value page) (T.value place))
+///     result }
+/// ensures only { IfSome result (λ found. IsOnly
+///     (λ item. IsPlace item (T.value page_size) (T.value page) (T.value place))
+///     (T.value found)) }
 /// ```
 ///
-/// Words: [`IsPlace`](crate::definitions::uses#isplace), [how to read it](crate::definitions).
-pub fn item_at<T: Integer>(page: T, place: T, page_size: T) -> T {
+/// Words: [`AnswersWhere`](crate::definitions::num_integer#answerswhere),
+/// [`EachFits`](crate::definitions::integer_core#eachfits),
+/// [`IsPlace`](crate::definitions::uses#isplace), [`IsOnly`](crate::definitions::integer_core#isonly),
+/// [how to read it](crate::definitions).
+#[track_caller]
+pub fn item_at<T: Fits>(page: T, place: T, page_size: T) -> Option<T> {
+    assert!(place >= T::zero(), "the place is negative");
+    assert!(place < page_size, "the place is not below the page size");
     if is_negative(page) {
         // The product of the page itself may be below the type.
-        let next_page = product(successor(page), page_size);
-        sum(next_page, difference(place, page_size))
+        let next_page = checked::product(successor(page), page_size)?;
+        checked::sum(next_page, difference(place, page_size))
     } else {
-        sum(product(page, page_size), place)
+        let first = checked::product(page, page_size)?;
+        checked::sum(first, place)
     }
 }
 
@@ -74,6 +101,10 @@ pub fn item_at<T: Integer>(page: T, place: T, page_size: T) -> T {
 /// `range_of_page(3, 4, 10)` is `(10, 10)`.
 ///
 /// May be called where `page_size` is above 0 and `items` at least 0.
+///
+/// # Panics
+///
+/// If the page size is not positive, or if the number of items is negative.
 ///
 /// # Proved
 ///
@@ -88,7 +119,10 @@ pub fn item_at<T: Integer>(page: T, place: T, page_size: T) -> T {
 ///
 /// Words: [`IsRangeOfPage`](crate::definitions::uses#israngeofpage),
 /// [`IsOnly`](crate::definitions::integer_core#isonly), [how to read it](crate::definitions).
-pub fn range_of_page<T: Integer>(page: T, page_size: T, items: T) -> (T, T) {
+#[track_caller]
+pub fn range_of_page<T: Integer + Copy>(page: T, page_size: T, items: T) -> (T, T) {
+    assert!(page_size > T::zero(), "the page size is not positive");
+    assert!(items >= T::zero(), "the number of items is negative");
     let (full_pages, rest) = div_mod_floor(items, page_size);
     if is_negative(page) {
         (items, items)
@@ -109,6 +143,11 @@ pub fn range_of_page<T: Integer>(page: T, page_size: T, items: T) -> (T, T) {
 ///
 /// May be called where `part` is in 0..`parts` and `items` at least 0.
 ///
+/// # Panics
+///
+/// If the part is negative, or if the part is not below the number of parts, or if the number of
+/// items is negative.
+///
 /// # Proved
 ///
 /// ```text
@@ -123,7 +162,11 @@ pub fn range_of_page<T: Integer>(page: T, page_size: T, items: T) -> (T, T) {
 ///
 /// Words: [`IsRangeOfPart`](crate::definitions::uses#israngeofpart),
 /// [`IsOnly`](crate::definitions::integer_core#isonly), [how to read it](crate::definitions).
-pub fn range_of_part<T: Integer>(part: T, parts: T, items: T) -> (T, T) {
+#[track_caller]
+pub fn range_of_part<T: Integer + Copy>(part: T, parts: T, items: T) -> (T, T) {
+    assert!(part >= T::zero(), "the part is negative");
+    assert!(part < parts, "the part is not below the number of parts");
+    assert!(items >= T::zero(), "the number of items is negative");
     let (size, longer) = div_mod_floor(items, parts);
     if is_below(part, longer) {
         let larger = successor(size);

@@ -13,7 +13,7 @@ use num_traits::Pow;
 /// ```
 ///
 /// Words: [how to read it](crate::definitions).
-pub fn is_square<T: Roots>(n: T) -> bool {
+pub fn is_square<T: Roots + Copy>(n: T) -> bool {
     if is_negative(n) {
         return false;
     }
@@ -26,6 +26,10 @@ pub fn is_square<T: Roots>(n: T) -> bool {
 ///
 /// May be called where `degree` is not 0.
 ///
+/// # Panics
+///
+/// If `degree` is 0.
+///
 /// # Proved
 ///
 /// ```text
@@ -34,7 +38,9 @@ pub fn is_square<T: Roots>(n: T) -> bool {
 /// ```
 ///
 /// Words: [how to read it](crate::definitions).
-pub fn is_power<T: Roots + Pow<u32, Output = T>>(n: T, degree: u32) -> bool {
+#[track_caller]
+pub fn is_power<T: Roots + Copy + Pow<u32, Output = T>>(n: T, degree: u32) -> bool {
+    assert!(degree != 0, "attempt to take a root of degree 0");
     if degree % 2 == 0 && is_negative(n) {
         return false;
     }

@@ -1,34 +1,91 @@
 //! The combinatorial number system: choices of some of the numbers below `n`, and their ranks.
 
 use crate::uses::halving::midpoint;
-use crate::{binomial, Fits};
+use crate::{binomial, checked, Fits};
+
+/// Returns `true` if the numbers increase and are below `n`, as [`rank`] and [`next_choice`] ask.
+/// `is_choice(&[0, 2, 3], 5)` is `true`, `is_choice(&[0, 2, 2], 5)` is `false`, and
+/// `is_choice(&[0, 2, 5], 5)` is `false`.
+///
+/// # Proved
+///
+/// ```text
+/// ensures choice { IsTrue result ↔ IsChoice n numbers.now }
+/// ensures rank_below { IsTrue result → rank_of numbers.now < coefficient n (length numbers.now) }
+/// ```
+///
+/// Words: [`IsChoice`](crate::definitions::uses#ischoice), [`rank_of`](crate::definitions::uses#rank_of),
+/// [`coefficient`](crate::definitions::num_integer#coefficient), [how to read it](crate::definitions).
+pub fn is_choice(numbers: &[u64], n: u64) -> bool {
+    for place in 0..numbers.len() {
+        if numbers[place] >= number_after(numbers, place, n) {
+            return false;
+        }
+    }
+    true
+}
+
+/// Returns `true` if the rank of a choice fits a `u64`. `rank_fits(&[0, 2, 3])` is `true`, and
+/// `rank_fits(&[0, 10000000000])` is `false`.
+///
+/// # Proved
+///
+/// ```text
+/// ensures { IsTrue result ↔ (rank_of choice.now < 2 ^ 64) }
+/// ```
+///
+/// Words: [`rank_of`](crate::definitions::uses#rank_of), [how to read it](crate::definitions).
+pub fn rank_fits(choice: &[u64]) -> bool {
+    checked_rank(choice).is_some()
+}
+
+/// Returns the rank of a choice, or `None` if it does not fit.
+fn checked_rank(choice: &[u64]) -> Option<u64> {
+    let mut rank = 0;
+    for (i, number) in choice.iter().enumerate() {
+        let count = checked::binomial(*number, i as u64 + 1)?;
+        rank = checked::sum(rank, count)?;
+    }
+    Some(rank)
+}
 
 /// Returns the rank of a choice of numbers below `n`, in increasing order, among all choices of the
 /// same length: the number of those before it. `rank(&[0, 2, 3], 5)` is `2`.
 ///
-/// May be called where the numbers increase and are below `n`, and the number of these choices fits a
-/// `u64`.
+/// May be called where the numbers increase and are below `n`, which [`is_choice`] tests, and the rank
+/// fits a `u64`, which [`rank_fits`] tests. It fits if the number of all these choices does.
+///
+/// # Panics
+///
+/// If the numbers do not increase, or one is not below `n`, or if the rank does not fit.
 ///
 /// # Proved
 ///
 /// ```text
 /// requires choice { IsChoice n choice.now }
-/// requires ranks_fit { coefficient n (length choice.now) < 2 ^ 64 }
+/// requires rank_fits { rank_of choice.now < 2 ^ 64 }
 /// ensures rank { result ≡ rank_of choice.now }
 /// ensures below { result < coefficient n (length choice.now) }
 /// ensures order { (other : List ℕ) → IsChoice n other → length other ≡ length choice.now
 ///     → IsBefore (length choice.now) other choice.now ↔ (rank_of other < result) }
 /// ```
 ///
-/// Words: [`IsChoice`](crate::definitions::uses#ischoice),
+/// Words: [`IsChoice`](crate::definitions::uses#ischoice), [`rank_of`](crate::definitions::uses#rank_of),
 /// [`coefficient`](crate::definitions::num_integer#coefficient),
-/// [`rank_of`](crate::definitions::uses#rank_of), [`IsBefore`](crate::definitions::uses#isbefore),
-/// [how to read it](crate::definitions).
-#[allow(unused_variables)] // its contract alone names a parameter
+/// [`IsBefore`](crate::definitions::uses#isbefore), [how to read it](crate::definitions).
+#[track_caller]
 pub fn rank(choice: &[u64], n: u64) -> u64 {
+    assert!(
+        crate::guards::increase_below(choice, n),
+        "the numbers of the choice do not increase below `n`"
+    );
     let mut rank = 0;
     for (i, number) in choice.iter().enumerate() {
-        rank += binomial(*number, i as u64 + 1);
+        rank = crate::guards::sum(
+            rank,
+            binomial(*number, i as u64 + 1),
+            "the rank does not fit",
+        );
     }
     rank
 }
@@ -37,6 +94,10 @@ pub fn rank(choice: &[u64], n: u64) -> u64 {
 /// rank 2, `n` 5 and three places it is `[0, 2, 3]`.
 ///
 /// May be called where `rank` is below the number of these choices.
+///
+/// # Panics
+///
+/// If there are no more than `rank` choices.
 ///
 /// # Proved
 ///
@@ -49,7 +110,12 @@ pub fn rank(choice: &[u64], n: u64) -> u64 {
 /// Words: [`coefficient`](crate::definitions::num_integer#coefficient),
 /// [`IsChoiceOfRank`](crate::definitions::uses#ischoiceofrank),
 /// [`IsOnly`](crate::definitions::integer_core#isonly), [how to read it](crate::definitions).
+#[track_caller]
 pub fn choice_of_rank(rank: u64, n: u64, choice: &mut [u64]) {
+    assert!(
+        crate::guards::is_rank(rank, n, choice.len()),
+        "no choice has the rank"
+    );
     let mut rest = rank;
     let mut bound = n;
     for i in (0..choice.len()).rev() {
@@ -87,6 +153,10 @@ fn is_within(n: u64, k: u64, limit: u64) -> bool {
 ///
 /// May be called where the numbers increase and are below `n`.
 ///
+/// # Panics
+///
+/// If the numbers do not increase, or one is not below `n`.
+///
 /// # Proved
 ///
 /// ```text
@@ -103,7 +173,12 @@ fn is_within(n: u64, k: u64, limit: u64) -> bool {
 /// [`IsChoiceOfRank`](crate::definitions::uses#ischoiceofrank),
 /// [`rank_of`](crate::definitions::uses#rank_of),
 /// [`coefficient`](crate::definitions::num_integer#coefficient), [how to read it](crate::definitions).
+#[track_caller]
 pub fn next_choice(choice: &mut [u64], n: u64) -> bool {
+    assert!(
+        crate::guards::increase_below(choice, n),
+        "the numbers of the choice do not increase below `n`"
+    );
     match first_to_rise(choice, n) {
         Some(place) => {
             choice[place] += 1;

@@ -42,6 +42,10 @@ impl RollingHash {
     ///
     /// May be called where `modulus` is above 0.
     ///
+    /// # Panics
+    ///
+    /// If the modulus is not positive.
+    ///
     /// # Proved
     ///
     /// ```text
@@ -52,7 +56,9 @@ impl RollingHash {
     /// ```
     ///
     /// Words: [how to read it](crate::definitions).
+    #[track_caller]
     pub fn new(base: u64, modulus: u64, kept: u64) -> RollingHash {
+        assert!(modulus > 0, "the modulus is not positive");
         RollingHash {
             base,
             modulus,

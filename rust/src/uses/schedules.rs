@@ -13,6 +13,10 @@ pub type Schedule<T> = (T, T);
 ///
 /// May be called where both periods are above 0.
 ///
+/// # Panics
+///
+/// If the period is not positive.
+///
 /// # Proved
 ///
 /// ```text
@@ -24,11 +28,14 @@ pub type Schedule<T> = (T, T);
 ///
 /// Words: [`IsLeastTime`](crate::definitions::uses#isleasttime),
 /// [`IsMeeting`](crate::definitions::uses#ismeeting), [how to read it](crate::definitions).
+#[track_caller]
 pub fn next_meeting<T: Modular + Fits>(
     now: T,
     a: Schedule<T>,
     b: Schedule<T>,
 ) -> CommonSolution<T> {
+    assert!(a.1 > T::zero(), "the period is not positive");
+    assert!(b.1 > T::zero(), "the period is not positive");
     let from = maximum(now, maximum(a.0, b.0));
     next_common_solution(from, a.0, a.1, b.0, b.1)
 }
@@ -36,7 +43,12 @@ pub fn next_meeting<T: Modular + Fits>(
 /// Returns the least time from `now` on at which each of the schedules comes. No product of the periods
 /// need fit. `next_meeting_of(10, &[(1, 4), (3, 6), (0, 7)])` is `CommonSolution::At(21)`.
 ///
-/// May be called where each period is above 0.
+/// May be called where each period is above 0. In Rattle, a function that passes on a slice of its own
+/// parameters asks its callers for `in_range` too.
+///
+/// # Panics
+///
+/// If a period is not positive.
 ///
 /// # Proved
 ///
@@ -48,12 +60,17 @@ pub fn next_meeting<T: Modular + Fits>(
 ///
 /// Words: [`IsLeastTime`](crate::definitions::uses#isleasttime),
 /// [`IsMeetingOfEach`](crate::definitions::uses#ismeetingofeach), [how to read it](crate::definitions).
+#[track_caller]
 pub fn next_meeting_of<T: Modular + Fits>(now: T, schedules: &[Schedule<T>]) -> CommonSolution<T> {
+    assert!(
+        schedules.iter().all(|pair| pair.1 > T::zero()),
+        "a period is not positive"
+    );
     next_common_solution_of(latest(now, schedules), schedules)
 }
 
 /// Returns the least time from `now` on that is not before the first time of any schedule.
-fn latest<T: Integer>(now: T, schedules: &[Schedule<T>]) -> T {
+fn latest<T: Integer + Copy>(now: T, schedules: &[Schedule<T>]) -> T {
     let mut latest = now;
     for schedule in schedules {
         latest = maximum(latest, schedule.0);
@@ -62,7 +79,7 @@ fn latest<T: Integer>(now: T, schedules: &[Schedule<T>]) -> T {
 }
 
 /// Returns the greater of two numbers.
-fn maximum<T: Integer>(x: T, y: T) -> T {
+fn maximum<T: Integer + Copy>(x: T, y: T) -> T {
     if is_below(x, y) {
         y
     } else {

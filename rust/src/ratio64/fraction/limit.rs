@@ -12,6 +12,10 @@ impl Ratio {
     ///
     /// May be called where `max` is above 0.
     ///
+    /// # Panics
+    ///
+    /// If the limit is not positive.
+    ///
     /// # Proved
     ///
     /// ```text
@@ -23,14 +27,13 @@ impl Ratio {
     /// Words: [`IsNearestWithin`](crate::definitions::ratio64#isnearestwithin),
     /// [`num_of`](crate::definitions::ratio64#num_of), [`den_of`](crate::definitions::ratio64#den_of),
     /// [how to read it](crate::definitions).
+    #[track_caller]
     pub fn limit_denominator(&self, max: i64) -> Ratio {
+        assert!(max > 0, "the limit is not positive");
         if self.den <= max {
             return *self;
         }
         let (whole, part) = div_mod_floor(self.num, self.den);
-        if max < 1 {
-            unreachable!("a limit below 1");
-        }
         let (part, den, limit) = (
             part.unsigned_abs(),
             self.den.unsigned_abs(),

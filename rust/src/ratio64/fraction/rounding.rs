@@ -65,7 +65,7 @@ impl Ratio {
 /// from 0.
 ///
 /// May be called where `den` is above 0.
-pub(crate) fn nearest<T: Integer>(num: T, den: T) -> T {
+pub(crate) fn nearest<T: Integer + Copy>(num: T, den: T) -> T {
     let (whole, rest) = div_rem(num, den);
     if is_negative(num) {
         if is_below(negated(rest), sum(den, rest)) {
