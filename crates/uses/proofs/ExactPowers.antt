@@ -5,7 +5,7 @@ use Rattle.std.proofs.Common.{arith, ap, inl, inr, refl, subst, sym, pow_mono, �
 use Rattle.std.proofs.Math.Nat.{pow-le-pow_left}
 use Rattle.std.proofs.lemmas.Int.{by_lt_z, ints}
 use Rattle.num_integer.specs.RootOf.{IsFloorRoot, IsRoot}
-use Rattle.num_integer.proofs.ForCallers.{even_or_odd, even_power, exact_power_root, linear, odd_power, power_of_one, power_of_power, power_of_zero, power_size}
+use Rattle.num_integer.proofs.ForCallers.{even_power, exact_power_root, linear, odd_power, power_of_one, power_of_power, power_of_zero, power_size}
 
 pub square_from_zero : (k : ℤ) → pos 0 ≤ℤ (k *ℤ k)
 square_from_zero (pos k) = omega (arith, ints)
