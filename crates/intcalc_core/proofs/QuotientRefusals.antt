@@ -1,5 +1,5 @@
 -- Where a quotient does not fit, the row of a division is `NotFitting`.
-use Rattle.std.specs.Prelude.{◌≡◌, ◌≢◌, ◌↔◌, ℤ, pos, Bool, true, false, IsTrue, Err}
+use Rattle.std.specs.Prelude.{◌≡◌, ◌≢◌, ◌↔◌, ℤ, pos, Bool, false, IsTrue, Err}
 use Rattle.std.proofs.Common.{inl, inr, refl, sym, ◌∙◌}
 use Rattle.std.proofs.lemmas.Bool.{true≢false}
 use Rattle.num_integer.specs.Division.{EachKind, IsQuotient}

@@ -2,8 +2,8 @@
 //!
 //! A call of a generic function at a type of the library spells all that the type implements, which is
 //! long, and so the only such calls are those of `answer` here: what is expected of the answers is compared
-//! as plain data. Where a call has more than one name, as the free function and the method, or the call and
-//! its counted one, all of them are made, and where two of them differ the answer is `DIFFERENT`.
+//! as plain data. A call of `checked` that answers is compared with the free function of its name or, where
+//! there is none, with the method, and with its counted call. Where two of them differ the answer is `DIFFERENT`.
 
 mod divisors;
 mod lists;

@@ -1,7 +1,7 @@
 //! Coefficients, multinomials and rows: the tests of the Rust crate.
 
 use super::answers::{answer, truth};
-use super::calls::Call::{Binomial, Row as RowOf};
+use super::calls::Call::{Binomial, BinomialFits, Row as RowOf};
 use super::rows::{YES, answers, check_row, check_rows};
 use super::tables::{BINOMIALS, MULTINOMIALS};
 use std::alloc::Global;
@@ -47,6 +47,22 @@ const GREATEST_ROWS: [(Type, u128); 8] = [
     (U64, 67),
     (I64, 66),
 ];
+
+/// The greatest coefficient of a row is that in its middle: the middle of the greatest row fits, and that of the
+/// next does not.
+fn check_middles(rt: &impl Abort, alloc: Global, it: Type, n: u128) {
+    for (n, fits) in [(n, true), (n.saturating_add(1), false)] {
+        let middle = [(false, n), (false, n / 2)];
+        answers(rt, alloc, (it, BinomialFits), &middle, Some(truth(fits)));
+    }
+}
+
+#[test]
+fn middles_of_greatest_rows(rt: HostRuntime) {
+    for (it, n) in &GREATEST_ROWS {
+        check_middles(&rt, rt.alloc(), *it, *n);
+    }
+}
 
 #[test]
 fn test_iter_binomial(rt: HostRuntime) {

@@ -1,12 +1,12 @@
 //! Greatest common divisors, least common multiples and Bezout pairs.
 
-use super::answers::{answer, one};
+use super::answers::one;
 use super::calls::Call;
-use super::calls::Call::{BezoutAndMultiple, Gcd, Lcm};
+use super::calls::Call::{Gcd, Lcm};
 use super::rows::{answers, check_row, holds_at};
 use super::tables::{GCDS, LCMS};
 use super::types::greatest;
-use num_integer::checked;
+use num_integer::{Fits, Integer, checked, gcd, gcd_lcm, lcm};
 use std::alloc::Global;
 use std::process::Abort;
 use test_types::signed_magnitude::{
@@ -105,11 +105,22 @@ fn test_lcm_overflow(rt: HostRuntime) {
     }
 }
 
+#[test]
+fn gcd_fits_for_each_pair_of_bytes(rt: HostRuntime) {
+    for a in 0..=255u8 {
+        for b in 0..=255u8 {
+            holds_at(&rt, a.gcd_fits(&b), &("gcd_fits", a, b));
+        }
+    }
+}
+
 /// Of two numbers of `i32`, `gcd_lcm` answers what `gcd` and `lcm` do.
 fn check_both_are_each(rt: &impl Abort, a: i32, b: i32) {
-    let each = checked::gcd(a, b).zip(checked::lcm(a, b));
-    let both = checked::gcd_lcm(a, b);
-    holds_at(rt, both.is_some() && both == each, &("gcd_lcm", a, b));
+    holds_at(rt, a.gcd_fits(&b), &("gcd_fits", a, b));
+    holds_at(rt, a.lcm_fits(&b), &("lcm_fits", a, b));
+    let both = gcd_lcm(a, b);
+    holds_at(rt, both == (gcd(a, b), lcm(a, b)), &("gcd_lcm", a, b));
+    holds_at(rt, checked::gcd_lcm(a, b) == Some(both), &("checked", a, b));
 }
 
 #[test]
@@ -131,22 +142,31 @@ pub(super) fn combined(
     sum(product(a, x)?, product(b, y)?)
 }
 
+/// The first operand times `x` and the second times `y`, added up in `i32`.
+fn combined_in_32_bits(a: i32, b: i32, x: i32, y: i32) -> Option<i32> {
+    a.checked_mul(x)?.checked_add(b.checked_mul(y)?)
+}
+
 /// The answer of `extended_gcd_lcm`: its divisor is that of `gcd`, its multiple that of `lcm`, and its pair
 /// gives the divisor.
-fn check_pair_with_lcm(rt: &impl Abort, alloc: Global, a: SignedMagnitude, b: SignedMagnitude) {
-    let numbers = answer(alloc, I32, BezoutAndMultiple, &[a, b]).expect(rt, "both fit");
-    let (gcd, x, y, lcm) = numbers;
-    answers(rt, alloc, (I32, Gcd), &[a, b], Some(one(gcd)));
-    answers(rt, alloc, (I32, Lcm), &[a, b], Some(one(lcm)));
-    holds_at(rt, combined(a, b, x, y) == Some(gcd), &("combined", a, b));
+fn check_pair_with_lcm(rt: &impl Abort, a: i32, b: i32) {
+    holds_at(rt, a.gcd_fits(&b), &("gcd_fits", a, b));
+    holds_at(rt, a.lcm_fits(&b), &("lcm_fits", a, b));
+    let both = a.extended_gcd_lcm(&b);
+    let (pair, multiple) = both;
+    let each = (gcd(a, b), lcm(a, b));
+    holds_at(rt, (pair.gcd, multiple) == each, &("each", a, b));
+    let combined = combined_in_32_bits(a, b, pair.x, pair.y);
+    holds_at(rt, combined == Some(pair.gcd), &("combined", a, b));
+    let same = checked::extended_gcd_lcm(a, b) == Some(both);
+    holds_at(rt, same, &("checked", a, b));
 }
 
 #[test]
 fn test_extended_gcd_lcm(rt: HostRuntime) {
-    for a in -128i64..=127 {
-        for b in -128i64..=127 {
-            let (a, b) = (signed_magnitude_of(a.into()), signed_magnitude_of(b.into()));
-            check_pair_with_lcm(&rt, rt.alloc(), a, b);
+    for a in -128..=127 {
+        for b in -128..=127 {
+            check_pair_with_lcm(&rt, a, b);
         }
     }
 }

@@ -3,9 +3,9 @@
 use super::calls::Call::{
     Averages, Bezout, BezoutAndMultiple, Binomial, BinomialFits, Cbrt, CountedBinomial, CountedGcd,
     CountedRoot, Dec, Difference, DivCeil, DivFloor, DivModFloor, DivRem, Divides, Ends, Gcd,
-    GcdFits, GcdLcm, Inc, IsMultipleOf, Lcm, LcmFits, ModFloor, Multinomial, MultinomialFits,
-    Negated, NextMultipleFits, NextMultipleOf, Parts, PrevMultipleFits, PrevMultipleOf, Product,
-    QuotientFits, Root, Row as RowOf, Sqrt, Sum,
+    GcdFits, GcdLcm, Inc, IsEven, IsMultipleOf, Lcm, LcmFits, ModFloor, Multinomial,
+    MultinomialFits, Negated, NextMultipleFits, NextMultipleOf, Parts, PrevMultipleFits,
+    PrevMultipleOf, Product, QuotientFits, Root, Row as RowOf, Sqrt, Sum,
 };
 use super::rows::{NO, Row, YES};
 use test_types::types::Type::{
@@ -56,8 +56,8 @@ pub(super) static SUMS: [Row; 18] = [
     (&[U8], Product, &[16, 16], None),
 ];
 
-/// The other sign, one more and one less, and averages.
-pub(super) static NEIGHBOURS: [Row; 14] = [
+/// The other sign, one more and one less, parity, and averages.
+pub(super) static NEIGHBOURS: [Row; 15] = [
     (&[I8], Negated, &[-128], None),
     (&[I8], Negated, &[-127], Some(&[127])),
     (&[U8], Negated, &[1], None),
@@ -66,6 +66,7 @@ pub(super) static NEIGHBOURS: [Row; 14] = [
     (&[I8], Inc, &[127], None),
     (&[I8], Dec, &[-128], None),
     (&[U8], Dec, &[0], None),
+    (&[I8], IsEven, &[-128], YES),
     (&SIGNED, Averages, &[3, 10], Some(&[6, 7])),
     (&SIGNED, Averages, &[-2, -5], Some(&[-4, -3])),
     (&SIGNED, Averages, &[4, 4], Some(&[4, 4])),
@@ -133,10 +134,11 @@ pub(super) static PREVIOUS_MULTIPLES: [Row; 6] = [
 ];
 
 /// Divisors and multiples. The greatest common divisor of the least number with itself or with 0 is outside the
-/// type. That it fits for each pair of `u8` is shown by `replay`, which tries each pair.
-pub(super) static DIVISORS: [Row; 16] = [
+/// type.
+pub(super) static DIVISORS: [Row; 17] = [
     (&[I64], Gcd, &[LEAST, -HALF], Some(&[HALF])),
     (&[I64], Gcd, &[-HALF, LEAST], Some(&[HALF])),
+    (&[I64], Gcd, &[LEAST, 3], Some(&[1])),
     (&[U64], Gcd, &[TOP, 0], Some(&[TOP])),
     (&[U64], Gcd, &[0, TOP], Some(&[TOP])),
     (&[I8], Gcd, &[-128, 0], None),

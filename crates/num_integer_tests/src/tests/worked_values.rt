@@ -1,8 +1,8 @@
 //! Worked values, and where the domains of the calls end.
 
-use super::answers::truth;
+use super::answers::{Numbers, after_turns, one, truth, two};
 use super::calls::Call;
-use super::calls::Call::{BinomialFits, LcmFits, MultinomialFits};
+use super::calls::Call::{Averages, BinomialFits, CountedGcd, Gcd, Lcm, LcmFits, MultinomialFits};
 use super::rows::{answers, check_rows};
 use super::tables::{
     BITS, COEFFICIENTS, DIVISOR_TURNS, DIVISORS, FITTING_COEFFICIENTS, FITTING_DIVISORS,
@@ -68,5 +68,19 @@ fn domains_of_128_bits(rt: HostRuntime) {
     ];
     for (call, operands, fits) in rows {
         answers(&rt, rt.alloc(), (U128, call), operands, Some(truth(fits)));
+    }
+}
+
+/// Answers about the greatest number of `u128`, which no row of a table can hold.
+#[test]
+fn answers_of_128_bits(rt: HostRuntime) {
+    let rows: [(Call, [SignedMagnitude; 2], Numbers); 4] = [
+        (Gcd, [GREATEST, ONE], one(ONE)),
+        (CountedGcd, [GREATEST, ONE], after_turns(ONE, 127)),
+        (Lcm, [GREATEST, GREATEST], one(GREATEST)),
+        (Averages, [GREATEST, GREATEST], two(GREATEST, GREATEST)),
+    ];
+    for (call, operands, expected) in rows {
+        answers(&rt, rt.alloc(), (U128, call), &operands, Some(expected));
     }
 }
