@@ -6,8 +6,9 @@
 OUT is rust/ where none is given. Code stays token by token, with its comments. What goes: `ghost` items, members and
 fields, clauses, `final`, `#[tactic]`, `#[cfg(test)]` items, labels that nothing names, and the traits that are of
 contracts alone. What changes: the first words of paths, the head of `fmt`, the public fields of a struct with an
-invariant, which become readers, and doc comments, which gain what is proved. A form that is not known here is refused
-by file and line, and then nothing is written."""
+invariant, which become readers, bounds and copies (rust_bounds.py), and doc comments, which gain what is proved. What is
+added: the guards of the calls that have a domain (rust_guards.py). A form that is not known here is refused by file and
+line, and then nothing is written."""
 import pathlib
 import shutil
 import subprocess
@@ -17,11 +18,13 @@ import tempfile
 import rust_bounds
 import rust_docs
 import rust_examples
+import rust_guards
 from rattle_source import Unknown
 from rust_library import CRATES, ROOT, Library
 
 REPOSITORY = pathlib.Path(__file__).resolve().parent.parent
 BY_HAND = REPOSITORY / 'rust' / 'by_hand'
+MADE_BY_HAND = ('guards', 'plain', 'shift')             # modules of the Rust crate that are by hand
 
 GHOST_TRAITS = {'Integral', 'FixedWidth', 'Model'}      # traits of contracts alone: no operation of their own
 LOCAL = {'Unsigned': 'crate::shift::Unsigned'}          # names of num_traits that the Rust crate has by hand
@@ -41,7 +44,7 @@ class Eraser:
         self.source, self.crate, self.texts = module.source, module.crate, module.source.texts
         self.kind, self.at, self.refuse = module.source.kind, module.source.at, module.source.refuse
         self.words = {module.source.at(k) for k in range(len(module.source.code))}
-        self.fn_clauses = set()
+        self.fn_clauses, self.guards = set(), rust_guards.Guards(self)
 
     def write(self, k, text):
         self.texts[self.source.code[k]] = text
@@ -93,6 +96,7 @@ class Eraser:
         for k in range(item.first, item.word):
             if self.at(k) == 'final':
                 self.drop(k, k)
+        self.guards.add(item, owner)
         if item.kind == 'use':
             return self.use(item)
         if item.kind == 'struct':
@@ -102,7 +106,8 @@ class Eraser:
             self.parameters(item)
         if item.kind in ('trait', 'impl', 'mod') and item.open:
             self.walk(item.word, item.open)
-            return self.items(item.items, item)
+            self.items(item.items, item)
+            return self.guards.members(item)
         return self.walk(item.word, item.last)
 
     def is_test(self, item):
@@ -167,7 +172,7 @@ class Eraser:
         names = {self.at(k) for k in range(opening, self.source.close(opening))
                  if self.kind(k) == 'word' and self.at(k + 1) == ':' and self.at(k + 2) != ':'}
         clauses = {self.at(k) for clause in item.clauses for k in range(clause.first, clause.last)}
-        body = {self.at(k) for k in range(item.open, item.last)} if item.open else names
+        body = {self.at(k) for k in range(item.open, item.last)} | self.guards.tested if item.open else names
         if names & clauses - body:
             first = self.source.code[item.first]
             self.texts[first] = '#[allow(unused_variables)] // its contract alone names a parameter\n' + self.texts[first]
@@ -237,6 +242,7 @@ class Eraser:
     def rust(self):
         """The file as Rust."""
         self.items(self.module.items)
+        self.guards.finish()
         for k in range(len(self.source.code)):
             text = self.texts[self.source.code[k]]
             if text and (self.at(k) in RATTLE or self.kind(k) in ('sign', 'word') and not self.at(k).isascii()):
@@ -248,8 +254,9 @@ class Eraser:
 def head_of_root(rust):
     """The root of the Rust crate: the head by hand, the modules, and what `num_integer` exports."""
     modules = ''.join(f'{kind} {crate};\n' for crate, kind in CRATES.items() if kind)
+    by_hand = ''.join(f'mod {name};\n' for name in MADE_BY_HAND)
     items = ''.join(line for line in rust.splitlines(True) if not line.startswith('//!')).lstrip()
-    return (BY_HAND / 'head.rs').read_text() + '\npub mod definitions;\nmod shift;\n' + modules + items
+    return (BY_HAND / 'head.rs').read_text() + '\npub mod definitions;\n' + by_hand + modules + items
 
 
 def write(out):
@@ -263,7 +270,8 @@ def write(out):
         target = out / 'src' / place
         target.parent.mkdir(parents=True, exist_ok=True)
         target.write_text(head_of_root(rust) if place == 'lib.rs' else rust)
-    shutil.copy(BY_HAND / 'shift.rs', out / 'src')
+    for name in MADE_BY_HAND:
+        shutil.copy(BY_HAND / f'{name}.rs', out / 'src')
     words = rust_docs.definitions(page, (BY_HAND / 'definitions.md').read_text())
     (out / 'src' / 'definitions.rs').write_text(words)
     (out / 'tests').mkdir()

@@ -1,5 +1,6 @@
 """What is proved, as the doc comments of the Rust crate say it: a section `# Proved` of each public item with clauses, and
-the module `definitions`, which has each word that such a clause cites."""
+the module `definitions`, which has each word that such a clause cites. The section `# Panics` before it is that of
+rust_guards.py."""
 import re
 
 from antt_words import Specs, cited, imported
@@ -86,7 +87,7 @@ def wrapped(line, links):
 
 
 def add_proved(eraser, item, owner):
-    """Adds the section to the doc comment of a public item."""
+    """Adds the sections to the doc comment of a public item."""
     source, library = eraser.source, eraser.library
     if item.kind == 'impl':
         public = item.of_trait and library.place_of_type(eraser.module, item.name) is not None
@@ -94,7 +95,7 @@ def add_proved(eraser, item, owner):
         public = library.place_of(eraser.module, item, owner) is not None
     if not public or item.kind not in ('fn', 'struct', 'trait', 'impl'):
         return
-    lines = section(eraser, item, owner)
+    lines = eraser.guards.section(item, owner) + section(eraser, item, owner)
     if lines:
         docs = source.docs(item)
         text = '\n'.join(f'/// {line}'.rstrip() for line in (lines if docs else lines[1:]))
