@@ -85,22 +85,19 @@ fn panics<T>(call: fn() -> T) -> bool {
     catch_unwind(call).is_err()
 }
 
-/// The rows of the table in README.md, and more.
+/// The calls of the table in README.md: each panics, in debug and in release. `tests/domains` has all calls.
 #[test]
 fn outside_the_domain() {
     assert!(panics(|| i64::MIN.gcd(&0)));
     assert!(panics(|| 200u8.lcm(&201)));
-    assert!(panics(|| i64::MAX.lcm(&(i64::MAX - 1))));
+    assert!(panics(|| u64::MAX.lcm(&(u64::MAX - 1))));
     assert!(panics(|| Integer::div_floor(&7, &0)));
     assert_eq!(i64::MIN.mod_floor(&-1), 0);
-    assert_eq!(panics(|| 10u8.extended_gcd(&4)), cfg!(debug_assertions));
+    assert!(panics(|| 10u8.extended_gcd(&4)));
     assert!(panics(|| (-9).sqrt()));
     assert!(panics(|| 0.nth_root(0)));
-    assert_eq!(panics(|| binomial(40u32, 20)), cfg!(debug_assertions));
-    assert_eq!(binomial(5, -3), 1);
-    assert!(panics(|| (-9i64).nth_root(4)));
-    assert!(panics(
-        || Ratio::new(1, 3).map(|third| third.limit_denominator(-5))
-    ));
+    assert!(panics(|| binomial(40u32, 20)));
+    assert!(panics(|| binomial(5, -3)));
+    assert!(panics(|| Integer::inc(&mut u64::MAX.clone())));
     assert!(panics(|| residue(5, 0)));
 }

@@ -1,12 +1,14 @@
 //! A type of another crate: the numbers from -100 to 100. It implements the eight methods of `Integer`, `parts` and `ends`
 //! of `Fits`, and the two of `Average`.
 
-use cellarcove::modular::{power_modulo, Modular};
+use cellarcove::modular::{power_modulo, residue, Modular};
+use cellarcove::operators::sum;
 use cellarcove::{
     binomial, checked, multinomial, Average, ExtendedGcd, Fits, Integer, IterBinomial,
 };
 use num_traits::{Num, One, Signed, Zero};
 use std::ops::{Add, Div, Mul, Neg, Rem, Sub};
+use std::panic::catch_unwind;
 
 #[derive(Debug, Clone, Copy, PartialEq, Eq, PartialOrd, Ord)]
 struct Score(i32);
@@ -202,4 +204,39 @@ fn generic_calls() {
     assert_eq!(cellarcove::average_floor(Score(-3), Score(-4)), Score(-4));
     // 7 to the power 20 is 1 modulo 100, and so is 7 to the power 100.
     assert_eq!(power_modulo(Score(7), 100, Score(100)), Score(1));
+}
+
+/// The reason of the panic of a call.
+fn reason(call: fn() -> Score) -> String {
+    let payload = catch_unwind(call).expect_err("the call panics");
+    match payload.downcast_ref::<String>() {
+        Some(reason) => reason.clone(),
+        None => payload
+            .downcast_ref::<&str>()
+            .copied()
+            .unwrap_or("")
+            .to_string(),
+    }
+}
+
+/// Where a number does not fit, the operators of the type decide. Where a call has no meaning, it panics at any type.
+#[test]
+fn outside_the_domain() {
+    assert_eq!(
+        reason(|| binomial(Score(9), Score(4))),
+        "no score has 126 points"
+    );
+    assert_eq!(
+        reason(|| sum(Score(99), Score(2))),
+        "no score has 101 points"
+    );
+    assert_eq!(
+        reason(|| residue(Score(5), Score(-7))),
+        "the modulus is not positive"
+    );
+    assert_eq!(reason(|| binomial(Score(5), Score(-3))), "`k` is negative");
+    assert_eq!(
+        reason(|| multinomial(&[Score(3), Score(-1)])),
+        "a count is negative"
+    );
 }

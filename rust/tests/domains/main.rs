@@ -1,0 +1,87 @@
+//! Each public call with a domain: within it the call returns the right answer, and outside it panics with its reason and
+//! the place of the caller, in debug and in release. The domains are computed here, apart from the crate.
+
+mod exact;
+mod forms;
+mod slices;
+mod small;
+mod wide;
+
+use std::cell::RefCell;
+use std::fmt::Debug;
+use std::panic::{catch_unwind, set_hook, take_hook, AssertUnwindSafe};
+use std::sync::Once;
+
+/// The reason and the file of the last panic of a call that may panic; `None` outside such a call.
+struct Watch {
+    watching: bool,
+    last: (String, String),
+}
+
+thread_local! {
+    static WATCH: RefCell<Watch> = const { RefCell::new(Watch { watching: false, last: (String::new(), String::new()) }) };
+}
+
+/// Notes the panics of calls that may panic, and prints the others as before.
+fn watch_panics() {
+    static ONCE: Once = Once::new();
+    ONCE.call_once(|| {
+        let before = take_hook();
+        set_hook(Box::new(move |panic| {
+            let watching = WATCH.with_borrow(|watch| watch.watching);
+            if !watching {
+                return before(panic);
+            }
+            let payload = panic.payload();
+            let reason = match payload.downcast_ref::<String>() {
+                Some(reason) => reason.clone(),
+                None => payload
+                    .downcast_ref::<&str>()
+                    .copied()
+                    .unwrap_or("")
+                    .to_string(),
+            };
+            let file = panic
+                .location()
+                .map_or("", |place| place.file())
+                .to_string();
+            WATCH.with_borrow_mut(|watch| watch.last = (reason, file));
+        }));
+    });
+}
+
+/// Runs a call, and returns the reason of its panic, whose place is in these files.
+fn watched(call: &mut dyn FnMut()) -> Result<(), String> {
+    watch_panics();
+    WATCH.with_borrow_mut(|watch| watch.watching = true);
+    let outcome = catch_unwind(AssertUnwindSafe(call));
+    WATCH.with_borrow_mut(|watch| watch.watching = false);
+    outcome.map_err(|_| {
+        let (reason, file) = WATCH.with_borrow(|watch| watch.last.clone());
+        assert!(file.contains("domains"), "`{reason}` is said of {file}");
+        for word in ["internal", "unreachable", "unwrap", "Option"] {
+            assert!(!reason.contains(word), "a reason is `{reason}`");
+        }
+        reason
+    })
+}
+
+/// What a call returns, or the reason of its panic.
+fn outcome<R>(call: impl FnOnce() -> R) -> Result<R, String> {
+    let (mut call, mut result) = (Some(call), None);
+    watched(&mut || result = call.take().map(|call| call()))?;
+    Ok(result.expect("the call returned"))
+}
+
+/// The call returns the answer, or panics where there is none.
+fn check<R: PartialEq + Debug>(
+    name: &str,
+    args: impl Debug,
+    answer: Option<R>,
+    call: impl FnOnce() -> R,
+) {
+    let outcome = outcome(call);
+    if outcome.as_ref().ok() != answer.as_ref() {
+        panic!("{name} of {args:?} is {outcome:?}, and not {answer:?}");
+    }
+}
