@@ -1,9 +1,9 @@
 #!/usr/bin/env bash
 # Checks the crate of plain Rust in rust/: its sources are those that scripts/erase.py makes, it builds without a
-# warning, its tests and num-integer's own pass, and so do the checksums of compare/. Then the package num-integer of
-# rust/ replaces the original below packages of other authors, and their tests run. Works in a temporary folder,
-# offline, with Debian's packages of these crates, which it installs if it may, and says so. Prints a line for each
-# check, and a count at the end. With --write it writes the sources, and checks nothing.
+# warning, its tests and num-integer's own pass, a guard that is taken out is missed, and the checksums of compare/ are
+# the same. Then the package num-integer of rust/ replaces the original below packages of other authors, and their tests
+# run. Works in a temporary folder, offline, with Debian's packages of these crates, which it installs if it may, and
+# says so. Prints a line for each check, and a count at the end. With --write it writes the sources, and checks nothing.
 set -uo pipefail
 cd "$(dirname "$0")/.."
 
@@ -134,6 +134,9 @@ check_dependents() {
     echo "the packages above took $((SECONDS - begin)) seconds"
 }
 
+# A guard that is taken out is missed by a test: one of each kind. scripts/rust_guards.py takes out all.
+has_each_guard() { TMPDIR=$work python3 scripts/rust_guards.py --self-test positive pair positive_lcm; }
+
 # upstream_tests WORD..: runs the tests of num-integer that the words tell cargo.
 upstream_tests() { (cd "$work/upstream" && cargo test --offline "$@"); }
 
@@ -167,6 +170,7 @@ if has_packages "${originals[@]}"; then
     check 'the crate is built' without_warnings cargo build --offline --all-targets --all-features
     check_tests 'its tests' without_warnings cargo test --offline
     check_tests 'its tests in release' without_warnings cargo test --offline --release
+    check 'a guard that is taken out is missed' has_each_guard
     check_tests 'a type that is not Copy, of a package that depends on this crate alone' own_type
     check 'the package num-integer without features' num_integer --no-default-features
     check 'the package num-integer with all features' num_integer --all-features

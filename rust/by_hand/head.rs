@@ -23,8 +23,10 @@
 //! both among the tests of this crate: `tests/own_type.rs`, and `tests/boxed_type.rs`, whose type is
 //! not `Copy`.
 //!
-//! The domain is what a comment says below "May be called". Anywhere else a call panics or returns
-//! some number. The calls of [`checked`] have no condition: they return `None` there.
+//! The domain is what a comment says below "May be called". Anywhere else a call of a built-in type
+//! panics, in debug and in release, with the reason and the line of the caller: the section `# Panics`
+//! of an item says where. At your own type its operators decide where a number does not fit. The calls
+//! of [`checked`] have no condition: they return `None` there.
 #![no_std]
 #![forbid(unsafe_code)]
 // Some names are those of contracts alone.
