@@ -175,12 +175,21 @@ CODE = {
 # before it passed.
 PLAIN = {('integer_core', 'bezout'), ('integer_core', 'division'), ('integer_core', 'divisors'),
          ('integer_core', 'native'), ('integer_core', 'stein'), ('num_integer', 'coefficients')}
+# By crate, the functions that get no test for some clause: their bodies panic, or the call of their result does, or no
+# test is made. rust/tests/domains shows it of each.
+LEFT_TO_BODY = {
+    'integer_core': {'div_rem', 'div_floor', 'mod_floor', 'div_mod_floor', 'div_ceil', 'next_multiple_of',
+                     'prev_multiple_of', 'inc', 'dec', 'gcd', 'gcd_counted', 'lcm', 'gcd_lcm', 'extended_gcd',
+                     'extended_gcd_lcm', 'extended_gcd_counted', 'sum', 'difference', 'product', 'quotient',
+                     'remainder', 'successor', 'predecessor', 'negated'},
+    'num_integer': {'binomial', 'binomial_counted', 'multinomial', 'new'},
+    'uses': {'rank', 'lower_bound'},
+}
 # The functions without a clause that the place of the caller goes through, on the way to a panic.
 WAY = {('integer_core', 'division', 'div_rem'), ('integer_core', 'division', 'div_mod_floor'),
        ('integer_core', 'stein', 'binary_gcd'), ('integer_core', 'stein', 'positive_lcm'),
        ('num_integer', 'coefficients', 'next_coefficient'), ('num_integer', 'rows', 'item_at'),
        ('num_integer', 'rows', 'next')}
-
 
 MET = {}                        # how many clauses have each form, noted as files are made
 LEFT_OUT = ''                   # the form or the function whose guards the self-test leaves out
@@ -245,6 +254,10 @@ class Guards:
             match = re.fullmatch(row.form, text)
             if match and not (row.way == TESTED and row.within and item.name not in row.within):
                 MET.setdefault(row.name, set()).add((source.path, clause.first))
+                is_tested = row.test and (row.within is None or item.name in row.within)
+                if not is_tested and row.way != NONE and item.name not in LEFT_TO_BODY.get(self.module.crate, ()):
+                    source.refuse(clause.first, f'a condition of `{item.name}` that scripts/rust_guards.py leaves to '
+                                                f'its body: `{text}`')
                 return row, Names(source, clause, row, match)
         return source.refuse(clause.first, f'a condition of `{item.name}` that no row of scripts/rust_guards.py '
                                            f'guards: `{text}`')
@@ -407,6 +420,8 @@ REFUSED = [
      '2: a condition of `half` that no row of scripts/rust_guards.py guards: `x % 2 ≡ 0`'),
     ('pub fn inverse<T: Integer>(x: T) -> T\n    requires { pos 0 <ℤ T.value x }\n{ x }',
      '2: `x`, which scripts/rust_guards.py has no words for'),
+    ('pub fn rest<T: Integer>(x: T, y: T) -> T\n    requires { T.value y ≢ pos 0 }\n{ x }',
+     '2: a condition of `rest` that scripts/rust_guards.py leaves to its body: `T.value y ≢ pos 0`'),
     ('pub trait Half { fn half(&self) -> Self\n    requires { IsEven (Self.value self.now) }; }',
      '2: a condition of `half` that no row of scripts/rust_guards.py guards: `IsEven (Self.value self.now)`'),
 ]
