@@ -43,9 +43,9 @@ fn next_choices() {
 /// The first of the items that lie on a page, and one past the last.
 fn on_page(items: i8, page_size: i8, page: i8) -> (i8, i8) {
     let mut on = (0..items).filter(|item| item / page_size == page);
-    match (on.next(), on.last()) {
-        (Some(first), last) => (first, last.unwrap_or(first) + 1),
-        (None, _) => (items, items),
+    match on.next() {
+        Some(first) => (first, on.next_back().unwrap_or(first) + 1),
+        None => (items, items),
     }
 }
 
