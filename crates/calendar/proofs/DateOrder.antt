@@ -1,6 +1,6 @@
 -- Dates in their order, and their days.
 use Rattle.std.specs.Prelude.{◌≡◌, ◌⊎◌, ◌+◌, ◌-◌, ◌<◌, ◌≤◌, ◌<ℤ◌, ◌+ℤ◌, ℕ, ℤ, pos, List, length, take, sum, slice_index}
-use Rattle.std.proofs.Common.{ap, arith, inl, inr, le_refl, sym}
+use Rattle.std.proofs.Common.{◌∙◌, ap, arith, inl, inr, le_refl, sym}
 use Rattle.std.proofs.Props.{props}
 use Rattle.std.proofs.lemmas.Int.{ints, to_z-of_z}
 use Rattle.std.proofs.lemmas.List.{take-take}
@@ -9,9 +9,9 @@ use mathlib.Core.HLevel.{is_prop→PathP}
 use Rattle.num_integer.proofs.ForCallers.{linear}
 use Rattle.calendar.specs.declared.date.Date.{Date}
 use Rattle.calendar.specs.Dates.{IsEarlier, number_of}
-use Rattle.calendar.specs.Laws.{DateIsOnly, OrderOfDates}
+use Rattle.calendar.specs.Laws.{DateIsOnly, DateOfPartsIsOnly, DateOfYearDayIsOnly, OrderOfDates}
 use Rattle.calendar.specs.Months.{IsDate, days_before_month, days_in_month, months_of}
-use Rattle.calendar.specs.Years.{day_number, days_in_year}
+use Rattle.calendar.specs.Years.{day_number, days_in_year, first_day}
 use Rattle.calendar.proofs.YearLengths.{later_year, next_first_day}
 
 -- ---- months
@@ -86,6 +86,9 @@ of_parts a b year month day = λ i. record {
   valid = is_prop→PathP (λ i. IsDate (year i) (month i) (day i)) (λ i. IsDate-prop (year i) (month i) (day i)) a.valid b.valid i;
 }
 
+pub only_of_parts : DateOfPartsIsOnly
+only_of_parts year month day a b h k = of_parts a b (h.year_is ∙ sym k.year_is) (h.month_is ∙ sym k.month_is) (h.day_is ∙ sym k.day_is)
+
 -- and so are dates of one number
 pub only_date : DateIsOnly
 only_date a b equal = elim (compared a.year b.year a.month b.month a.day_of_month b.day_of_month) [
@@ -93,6 +96,10 @@ only_date a b equal = elim (compared a.year b.year a.month b.month a.day_of_mont
   | inr (inl later) ↦ absurd (omega (arith, linear, earlier_is_less b a later))
   | inr (inr (year, month, day)) ↦ of_parts a b year month day
 ]
+
+-- and dates of one day of a year
+pub only_of_year_day : DateOfYearDayIsOnly
+only_of_year_day a b year day = only_date a b (omega (arith, linear, ap first_day year, ap pos day))
 
 -- the order of dates is that of their numbers
 pub order : OrderOfDates

@@ -9,7 +9,7 @@ use Rattle.num_integer.specs.Division.{IsFloored, IsRemainder}
 use Rattle.calendar.specs.declared.date.Date.{Date}
 use Rattle.calendar.specs.Dates.{number_of}
 use Rattle.calendar.specs.IsoWeeks.{HasIsoWeeks, IsDayOfIsoWeek, IsInIsoWeek, IsThursdayOfWeek}
-use Rattle.calendar.specs.Laws.{IsoDayIsOnly, IsoWeekIsOnly, IsoWeeksAreOnly, OrderOfIsoWeeks, WeeksOfAYear}
+use Rattle.calendar.specs.Laws.{IsoDayIsOnly, IsoWeekIsOnly, IsoWeeksAreOnly, OrderOfIsoWeeks, WeeksOfAYear, YearOfDayIsOnly}
 use Rattle.calendar.specs.Years.{HasDay, days_in_year, first_day}
 use Rattle.calendar.specs.Weekday.{weekday_number}
 use Rattle.calendar.specs.Weeks.{HasWeekday}
@@ -57,8 +57,8 @@ pub later : {x year day : ℤ} → HasDay x day → first_day (year +ℤ pos 1) 
 later {x} {year} h from = grind (arith, linear, ordered (x +ℤ pos 1) (year +ℤ pos 1))
 
 -- a day is in one year only
-one_year : {y z day : ℤ} → HasDay y day → HasDay z day → y ≡ z
-one_year {y} {z} h k = grind (arith, linear, later_year y z, later_year z y)
+pub one_year : YearOfDayIsOnly
+one_year day y z h k = grind (arith, linear, later_year y z, later_year z y)
 
 -- ---- weeks
 
@@ -76,7 +76,7 @@ week_of {year = year} {thursday = thursday} h within place number = record {
 pub one_week : IsoWeekIsOnly
 one_week day y z v w h k =
     let thursday = same_thursday h.of_week k.of_week in
-    let year = one_year h.of_year (rw (sym thursday) at k.of_year) in
+    let year = one_year _ y z h.of_year (rw (sym thursday) at k.of_year) in
     (year, omega (arith, ints, h.from, h.before, k.from, k.before, thursday, ap first_day year))
 
 -- a week is one of 53

@@ -10,8 +10,10 @@ use Rattle.calendar.proofs.YearLengths.{length_of}
 -- ---- years
 
 pub use Rattle.calendar.proofs.YearLengths.{next_first_day as years_follow}
+pub use Rattle.calendar.proofs.IsoWeeks.{one_year as year_of_day_is_only}
 -- ---- dates
 
+pub use Rattle.calendar.proofs.DateOrder.{only_of_parts as date_of_parts_is_only, only_of_year_day as date_of_year_day_is_only}
 pub use Rattle.calendar.proofs.DateOrder.{only_date as date_is_only, order as order_of_dates}
 pub use Rattle.calendar.proofs.DateTexts.{only_text as text_is_only}
 -- ---- months

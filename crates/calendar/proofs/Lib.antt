@@ -1,4 +1,4 @@
-pub mod Greatest
+pub mod FoundOrBeyond
 pub mod YearLengths
 pub mod MonthLengths
 pub mod MarchYears

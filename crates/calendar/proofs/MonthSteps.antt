@@ -9,7 +9,6 @@ use Rattle.calendar.specs.Laws.{MonthsAfterIsOnly, MonthsBetweenIsOnly}
 use Rattle.calendar.specs.Months.{days_in_month, month_number}
 use Rattle.calendar.specs.declared.date.Date.{Date}
 use Rattle.calendar.proofs.DateOrder.{of_parts, order}
-use Rattle.calendar.proofs.Greatest.{only_greatest}
 use Rattle.calendar.proofs.MonthLengths.{month_length_range}
 
 -- ---- months by their numbers
@@ -87,7 +86,7 @@ month_less from to months is early = months_of months
     (λ date h. let more : months +ℤ pos 1 ≡ month_number to.year to.month -ℤ month_number from.year from.month = omega (arith, ints) in omega (arith, ints, in_month from to date (rw more at h)))
 
 pub only_months_between : MonthsBetweenIsOnly
-only_months_between from to a b h k = only_greatest h k
+only_months_between from to a b h k = omega (arith, linear, h.greatest b k.holds, k.greatest a h.holds)
 
 -- There is a number of whole months from each date to each other.
 pub months_between_exist : (from to : Date) → (months : ℤ) × IsMonthsBetween from to months

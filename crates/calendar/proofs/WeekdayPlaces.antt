@@ -4,13 +4,13 @@ use Rattle.std.specs.Int.{w64}
 use Rattle.std.specs.Option.{SomeIff}
 use Rattle.std.proofs.Common.{◌∙◌, ap, arith, refl, sym}
 use Rattle.std.proofs.lemmas.Int.{ints}
-use Rattle.num_integer.proofs.ForCallers.{floored_by_range, least_is_only, linear, only_floored}
+use Rattle.num_integer.proofs.ForCallers.{floored_by_range, greatest_is_only, least_is_only, linear, only_floored}
 use Rattle.calendar.specs.declared.weekday.Weekday.{Weekday}
 use Rattle.calendar.specs.declared.weekday.Weekday.TheVariants.{Sunday, Monday, Tuesday, Wednesday, Thursday, Friday, Saturday}
 use Rattle.calendar.specs.Laws.{FirstWeekdayIsOnly, IsoNumberIsOnly, LastWeekdayIsOnly, WeekdayIsOnly, WeekdaysFollow}
 use Rattle.calendar.specs.Weekday.{weekday_number}
 use Rattle.calendar.specs.Weeks.{HasWeekday, IsFirstWeekday, IsLastWeekday}
-use Rattle.calendar.proofs.Greatest.{only_greatest, only_or_beyond}
+use Rattle.calendar.proofs.FoundOrBeyond.{only_or_beyond}
 
 -- ---- days of one day of the week
 
@@ -69,14 +69,14 @@ pub first_within : {from day : ℤ} (weekday : Weekday) → HasWeekday day weekd
 first_within {from} {day} weekday h up near = record { from_there = up; holds = h; least = λ other after k. grind (arith, linear, same_day weekday h k) }
 
 pub last_within : {to day : ℤ} (weekday : Weekday) → HasWeekday day weekday → day ≤ℤ to → to <ℤ (day +ℤ pos 7) → IsLastWeekday to weekday day
-last_within {to} {day} weekday h down near = record { holds = record { to_there = down; has_weekday = h }; greatest = λ other k. grind (arith, linear, same_day weekday h k.has_weekday) }
+last_within {to} {day} weekday h down near = record { to_there = down; holds = h; greatest = λ other before k. grind (arith, linear, same_day weekday h k) }
 
 -- the first and the last are only one
 pub only_first : FirstWeekdayIsOnly
 only_first from weekday a b h k = least_is_only k a h
 
 pub only_last : LastWeekdayIsOnly
-only_last to weekday a b h k = only_greatest h k
+only_last to weekday a b h k = greatest_is_only k a h
 
 -- by the days between the days of the week, where it fits
 pub first_or_beyond : (o : Option ℤ) {day : ℤ} {a : Weekday} (b : Weekday) (n : ℕ) → HasWeekday day a → weekday_number b ≡ (weekday_number a + n) % 7 → n < 7 → SomeIff o (FitsSigned w64 (day +ℤ pos n)) (day +ℤ pos n)

@@ -1,6 +1,5 @@
 -- What is said of dates. Their years are whole numbers without limit.
 use Rattle.std.specs.Prelude.{◌≡◌, ◌⊎◌, ◌<◌, ◌≤◌, ◌<ℤ◌, ◌≤ℤ◌, ◌+◌, ◌*◌, ◌+ℤ◌, ℕ, ℤ, min}
-use Rattle.calendar.specs.Greatest.{IsGreatest}
 use Rattle.calendar.specs.Months.{days_before_month, days_in_month, month_number}
 use Rattle.calendar.specs.Weeks.{HasWeekday}
 use Rattle.calendar.specs.Years.{day_number}
@@ -46,10 +45,11 @@ pub record HasMonths (from to : Date) (months : ℤ) : Type 0 where
   pub is_after : IsMonthsAfter from months date
   pub not_later : number_of date ≤ℤ number_of to
 
--- This is the greatest number of months after `from` that lead to a date not after `to`.
+-- The date that is `months` after `from` is not after `to`, and no greater number of months leads to such a date.
 -- Examples: 2000-01-31 to 2000-02-29: 1; 2000-02-29 to 2001-02-28: 12; 2000-03-01 to 2000-02-29: -1.
-abbrev pub IsMonthsBetween : Date → Date → ℤ → Type 0
-IsMonthsBetween from to months = IsGreatest (HasMonths from to) months
+pub record IsMonthsBetween (from to : Date) (months : ℤ) : Type 0 where
+  pub holds : HasMonths from to months
+  pub greatest : (more : ℤ) → HasMonths from to more → more ≤ℤ months
 
 -- ---- dates of a month that have a day of the week
 

@@ -2,10 +2,10 @@
 use Rattle.std.specs.Prelude.{◌≡◌, ◌⊎◌, ◌↔◌, ◌<◌, ◌≤◌, ◌+◌, ◌*◌, ◌%◌, ◌<ℤ◌, ◌+ℤ◌, ℕ, ℤ, pos, FitsSigned, IsTrue, if◌then◌else◌}
 use Rattle.std.specs.Int.{w64}
 use Rattle.num_integer.specs.Divisors.{Divides}
-use Rattle.calendar.specs.Dates.{IsEarlier, IsLastWeekdayOfMonth, IsMonthsAfter, IsMonthsBetween, IsNthWeekday, number_of}
+use Rattle.calendar.specs.Dates.{HasParts, IsEarlier, IsLastWeekdayOfMonth, IsMonthsAfter, IsMonthsBetween, IsNthWeekday, number_of, year_day_of}
 use Rattle.calendar.specs.IsoWeeks.{HasIsoWeeks, IsDayOfIsoWeek, IsInIsoWeek}
 use Rattle.calendar.specs.LeapYears.{is_leap_year}
-use Rattle.calendar.specs.Years.{day_number, days_in_year, first_day}
+use Rattle.calendar.specs.Years.{HasDay, day_number, days_in_year, first_day}
 use Rattle.calendar.specs.Easter.{IsEaster, IsEpact, IsLunarCorrection, IsSolarCorrection, days_to_full_moon, is_day_earlier}
 use Rattle.calendar.specs.Text.{text_of}
 use Rattle.calendar.specs.Weekday.{iso_number, weekday_number}
@@ -32,11 +32,23 @@ YearsFollow = (year : ℤ) → first_day (year +ℤ pos 1) ≡ first_day year +�
 abbrev pub FirstDay : Type 0
 FirstDay = day_number (pos 1970) 1 1 ≡ pos 0
 
+-- Each day is in at most one year.
+abbrev pub YearOfDayIsOnly : Type 0
+YearOfDayIsOnly = (day y z : ℤ) → HasDay y day → HasDay z day → y ≡ z
+
 -- ---- dates
+
+-- Each year, month and day of the month are those of at most one date.
+abbrev pub DateOfPartsIsOnly : Type 0
+DateOfPartsIsOnly = (year : ℤ) (month day : ℕ) (a b : Date) → HasParts a year month day → HasParts b year month day → a ≡ b
 
 -- Each day has at most one date.
 abbrev pub DateIsOnly : Type 0
 DateIsOnly = (a b : Date) → number_of a ≡ number_of b → a ≡ b
+
+-- Each day of a year is that of at most one date.
+abbrev pub DateOfYearDayIsOnly : Type 0
+DateOfYearDayIsOnly = (a b : Date) → a.year ≡ b.year → year_day_of a ≡ year_day_of b → a ≡ b
 
 -- Dates are in the order of their days.
 abbrev pub OrderOfDates : Type 0

@@ -1,4 +1,3 @@
-pub mod Greatest
 pub mod LeapYears
 pub mod Months
 pub mod Years
@@ -9,3 +8,8 @@ pub mod Text
 pub mod Weeks
 pub mod IsoWeeks
 pub mod Easter
+-- what the clauses and the laws cite of the crate below
+pub use Rattle.num_integer.specs.Division
+pub use Rattle.num_integer.specs.Divisors
+pub use Rattle.num_integer.specs.Least
+pub use Rattle.num_integer.specs.Only

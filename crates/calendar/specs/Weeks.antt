@@ -1,8 +1,7 @@
 -- Days that have a given day of the week.
-use Rattle.std.specs.Prelude.{◌+ℤ◌, ◌≤ℤ◌, ℤ, pos}
+use Rattle.std.specs.Prelude.{◌+ℤ◌, ℤ, pos}
 use Rattle.num_integer.specs.Division.{IsFloored, IsRemainder}
-use Rattle.num_integer.specs.Least.{IsLeastFrom}
-use Rattle.calendar.specs.Greatest.{IsGreatest}
+use Rattle.num_integer.specs.Least.{IsGreatestTo, IsLeastFrom}
 use Rattle.calendar.specs.Weekday.{weekday_number}
 use Rattle.calendar.specs.declared.weekday.Weekday.{Weekday}
 
@@ -16,13 +15,7 @@ pub record HasWeekday (day : ℤ) (weekday : Weekday) : Type 0 where
 abbrev pub IsFirstWeekday : ℤ → Weekday → ℤ → Type 0
 IsFirstWeekday from weekday day = IsLeastFrom from (λ day. HasWeekday day weekday) day
 
--- The day is at most `to`, and has the day of the week.
--- Examples: 4 and Sunday: 3; -4; not 10.
-pub record IsWeekdayTo (to : ℤ) (weekday : Weekday) (day : ℤ) : Type 0 where
-  pub to_there : day ≤ℤ to
-  pub has_weekday : HasWeekday day weekday
-
 -- The day is the greatest up to `to` that has the day of the week.
 -- Examples: Sunday: to 4: 3; to 3: 3; to 2: -4.
 abbrev pub IsLastWeekday : ℤ → Weekday → ℤ → Type 0
-IsLastWeekday to weekday day = IsGreatest (IsWeekdayTo to weekday) day
+IsLastWeekday to weekday day = IsGreatestTo to (λ day. HasWeekday day weekday) day

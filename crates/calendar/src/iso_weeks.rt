@@ -40,7 +40,8 @@ impl Date {
         })
     }
 
-    /// Returns the date of a day of a week of ISO 8601, or `None` where there is none.
+    /// Returns the date of a day of a week of ISO 8601, or `None` where the year has no such week or
+    /// the year of the date does not fit an `i64`.
     /// `Date::from_iso_week(2009, 53, Weekday::Sunday)` is `Date::new(2010, 1, 3)`.
     #[tactic(auto, using(crate::proofs::YearLengths::year_steps))]
     pub fn from_iso_week(year: i64, week: u8, weekday: Weekday) -> Option<Date>

@@ -13,7 +13,9 @@ use crate::{days_in_year, is_leap_year};
 pub fn days_in_month(year: i64, month: u8) -> u8
     requires from_one { 1 ≤ month }
     requires to_twelve { month ≤ 12 }
-    ensures { result ≡ days_in_month year month }
+    ensures days { result ≡ days_in_month year month }
+    ensures from_28 { 28 ≤ result }
+    ensures to_31 { result ≤ 31 }
 {
     if month == 2 {
         if is_leap_year(year) { 29 } else { 28 }

@@ -1,6 +1,6 @@
 //! Years: leap years, their lengths, and the year of a day.
 
-ghost use Rattle.std.specs.Prelude.{◌≡◌, ◌↔◌, ◌<◌, ◌≤ℤ◌, ◌<ℤ◌, ◌+ℤ◌, ℤ, pos, FitsSigned, IsTrue, MatchOption};
+ghost use Rattle.std.specs.Prelude.{◌≡◌, ◌↔◌, ◌<◌, ◌≤◌, ◌≤ℤ◌, ◌<ℤ◌, ◌+ℤ◌, ℤ, pos, FitsSigned, IsTrue, MatchOption};
 ghost use Rattle.std.specs.Int.{w64};
 ghost use Rattle.std.specs.Option.{SomeIff};
 ghost use Rattle.calendar.specs.LeapYears.{is_leap_year, is_multiple};
@@ -33,7 +33,9 @@ fn is_multiple(year: i64, number: u16) -> bool
 /// Returns how many days the year has. `days_in_year(1900)` is `365`.
 #[tactic(auto, unfolding(crate::specs::Years::days_in_year))]
 pub fn days_in_year(year: i64) -> u16
-    ensures { result ≡ days_in_year year }
+    ensures days { result ≡ days_in_year year }
+    ensures from_365 { 365 ≤ result }
+    ensures to_366 { result ≤ 366 }
 {
     if is_leap_year(year) { 366 } else { 365 }
 }

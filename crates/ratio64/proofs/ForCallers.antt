@@ -14,13 +14,14 @@ use Rattle.ratio64.specs.Ratio.{AnswersFraction, num_of, den_of}
 use Rattle.ratio64.specs.declared.fraction.Ratio.{Ratio}
 use Rattle.ratio64.specs.declared.error.RatioError.{RatioError}
 use Rattle.ratio64.specs.declared.error.RatioError.TheVariants.{ZeroDenominator, NotFitting}
-use Rattle.ratio64.proofs.Laws.{equal_fractions_have_one_result, products_of_equal_fractions, sums_of_equal_fractions}
+use Rattle.ratio64.proofs.EqualFractions.{equal_products, equal_sums}
+use Rattle.ratio64.proofs.ExactResults.{same_result}
 -- ---- lemmas from elsewhere
 
 pub use Rattle.ratio64.proofs.ExactResults.{only_exact_result}
 pub use Rattle.ratio64.proofs.FractionAnswers.{exact_answer, exact_is_inside, zero_exactly, zero_factor}
 pub use Rattle.ratio64.proofs.FractionPowers.{base_fits, equal_powers, power_nonzero, power_of_product, power_reduced}
-pub use Rattle.ratio64.proofs.NearestNumbers.{quotient_fits, quotient_is_only, rounded_division, rounded_is_only}
+pub use Rattle.ratio64.proofs.NearestNumbers.{quotient_fits, quotient_is_only, rounded_division}
 pub use Rattle.ratio64.proofs.ReducedParts.{magnitude_reduced, negated_reduced, remainder_reduced}
 pub use Rattle.ratio64.proofs.WideSums.{difference_below, read, read_product, sum_below}
 pub use Rattle.ratio64.specs.ReducedPairs.{AreEqual-sym, denominator_divides, positive_is_nonzero, same_pair}
@@ -165,11 +166,11 @@ greater_exactly a b c d = (λ h. int_ranked (a *ℤ d) (c *ℤ b) Greater (sym h
 -- ---- equal fractions
 
 pub equal_outside : {a b c d : ℤ} → IsFraction c d → AreEqual a b c d → IsOutsideI64 a b → IsOutsideI64 c d
-equal_outside fraction equal far = record { num = far.num; den = far.den; exact = equal_fractions_have_one_result _ _ _ _ _ _ fraction equal far.exact; outside = far.outside }
+equal_outside fraction equal far = record { num = far.num; den = far.den; exact = same_result fraction equal far.exact; outside = far.outside }
 
 -- the exact result in an answer is that of each equal fraction
 pub equal_exact : {a b c d : ℤ} (r : Result Ratio RatioError) → IsFraction c d → AreEqual a b c d → IfOk r (λ x. IsExact a b (num_of x) (den_of x)) → IfOk r (λ x. IsExact c d (num_of x) (den_of x))
-equal_exact (Ok x) fraction equal exact = equal_fractions_have_one_result _ _ _ _ _ _ fraction equal exact
+equal_exact (Ok x) fraction equal exact = same_result fraction equal exact
 equal_exact (Err e) fraction equal exact = tt
 
 pub equal_fractions_answered_alike : {a b c d : ℤ} {r : Result Ratio RatioError} → b ≢ pos 0 → d ≢ pos 0 → AreEqual a b c d → AnswersFraction a b r → AnswersFraction c d r
@@ -192,8 +193,8 @@ module _ {a b c d m n p q : ℤ} (x : IsExact a b m n) (y : IsExact c d p q) whe
 
   -- their sum answers that of the fractions
   pub sum_of_exact_results : {r : Result Ratio RatioError} → AnswersFraction (m *ℤ q +ℤ p *ℤ n) (n *ℤ q) r → AnswersFraction (a *ℤ d +ℤ c *ℤ b) (b *ℤ d) r
-  sum_of_exact_results = equal_fractions_answered_alike denominators (nonzero_product x.fraction y.fraction) (sums_of_equal_fractions m n p q a b c d (AreEqual-sym x.equal) (AreEqual-sym y.equal))
+  sum_of_exact_results = equal_fractions_answered_alike denominators (nonzero_product x.fraction y.fraction) (equal_sums m n p q a b c d (AreEqual-sym x.equal) (AreEqual-sym y.equal))
 
   -- and so does their product
   pub product_of_exact_results : {r : Result Ratio RatioError} → AnswersFraction (m *ℤ p) (n *ℤ q) r → AnswersFraction (a *ℤ c) (b *ℤ d) r
-  product_of_exact_results = equal_fractions_answered_alike denominators (nonzero_product x.fraction y.fraction) (products_of_equal_fractions m n p q a b c d (AreEqual-sym x.equal) (AreEqual-sym y.equal))
+  product_of_exact_results = equal_fractions_answered_alike denominators (nonzero_product x.fraction y.fraction) (equal_products m n p q a b c d (AreEqual-sym x.equal) (AreEqual-sym y.equal))

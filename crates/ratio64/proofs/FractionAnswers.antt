@@ -1,14 +1,35 @@
 -- The answers to a fraction: its exact result, or a refusal.
 use Rattle.std.specs.Prelude.{◌≡◌, ◌≢◌, ◌↔◌, ◌*ℤ◌, ℤ, pos, Result, Ok, Err, FitsSigned}
 use Rattle.std.specs.Int.{w64}
-use Rattle.std.proofs.Common.{arith, inl, inr, subst, ◌∙◌}
+use Rattle.std.proofs.Common.{ap, arith, inl, inr, refl, subst, sym, ◌∙◌}
+use mathlib.Core.HLevel.{is_prop→PathP}
 use Rattle.num_integer.proofs.ForCallers.{cancel, comm, products}
 use Rattle.ratio64.proofs.ExactResults.{only_exact_result}
-use Rattle.ratio64.specs.Fraction.{IsExact, IsOutsideI64}
+use Rattle.ratio64.specs.Fraction.{IsExact, IsOutsideI64, IsReduced}
+use Rattle.ratio64.specs.Laws.{AnswerIsOnly, RatioOfPartsIsOnly}
 use Rattle.ratio64.specs.Ratio.{AnswersFraction, num_of, den_of}
+use Rattle.ratio64.specs.ReducedPairs.{IsReduced-prop}
 use Rattle.ratio64.specs.declared.fraction.Ratio.{Ratio}
 use Rattle.ratio64.specs.declared.error.RatioError.{RatioError}
-use Rattle.ratio64.specs.declared.error.RatioError.TheVariants.{ZeroDenominator}
+use Rattle.ratio64.specs.declared.error.RatioError.TheVariants.{ZeroDenominator, NotFitting}
+
+-- ---- one of them
+
+-- fractions of the same parts are the same
+pub only_of_parts : RatioOfPartsIsOnly
+only_of_parts x y p q = λ i. record { num = p i; den = q i; reduced = is_prop→PathP (λ i. IsReduced (p i) (q i)) (λ i. IsReduced-prop (p i) (q i)) x.reduced y.reduced i }
+
+-- so the exact result is one, and each refusal is told by its condition
+pub only_answer : AnswerIsOnly
+only_answer a b (Ok x) (Ok y) h k =
+    let same = only_exact_result h.exact k.exact in
+    ap Ok (only_of_parts x y same.0 same.1)
+only_answer a b (Ok x) (Err ZeroDenominator) h k = h.zero_denominator.1 (k.zero_denominator.0 refl)
+only_answer a b (Ok x) (Err NotFitting) h k = h.not_fitting.1 (k.not_fitting.0 refl)
+only_answer a b (Err ZeroDenominator) s h k = sym (k.zero_denominator.1 (h.zero_denominator.0 refl))
+only_answer a b (Err NotFitting) s h k = sym (k.not_fitting.1 (h.not_fitting.0 refl))
+
+-- ---- what they say
 
 -- where the parts of the exact result fit, none lies outside
 pub exact_is_inside : {a b n d : ℤ} → IsExact a b n d → FitsSigned w64 n → FitsSigned w64 d → ¬ (IsOutsideI64 a b)

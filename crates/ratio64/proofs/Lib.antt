@@ -3,6 +3,7 @@ pub mod ForCallers
 pub mod FractionAnswers
 pub mod Laws
 pub mod ReadTexts
+pub mod OnlyReadings
 pub mod WideSums
 pub mod EqualFractions
 pub mod FractionPowers

@@ -8,6 +8,7 @@ use Rattle.num_integer.specs.Checked.{AnswersWhere}
 use Rattle.num_integer.specs.Division.{IsDivision, IsQuotient, IsTruncated}
 use Rattle.num_integer.specs.Only.{IsOnly}
 use Rattle.num_integer.specs.Range.{EachFits}
+use Rattle.ratio64.specs.Laws.{RoundedIsOnly}
 use Rattle.ratio64.specs.Rounding.{IsRounded}
 
 -- ---- a quotient by a number above 0 fits where the dividend does
@@ -100,8 +101,8 @@ rounded_apart {n} {d} {r} {s} up x y less =
     (λ below. let low = multiples_apart r (pos 0) d up below in let none : pos 0 *ℤ d ≡ pos 0 = omega (arith, products) in omega (arith, sizes))
     (λ above. let high = product_from_zero r d above (omega (arith, linear)) in omega (arith, sizes))
 
-pub rounded_is_only : {n d r s : ℤ} → pos 0 <ℤ d → IsRounded n d r → IsRounded n d s → s ≡ r
-rounded_is_only {n} {d} {r} {s} up x y = by_lt_z r s
+pub only_rounded : RoundedIsOnly
+only_rounded n d r up x s y = by_lt_z r s
     (λ less. absurd (rounded_apart up x y less))
     (λ above. by_lt_z s r
     (λ less. absurd (rounded_apart up y x less))

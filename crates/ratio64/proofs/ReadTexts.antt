@@ -14,12 +14,11 @@ use Rattle.std.proofs.lemmas.Grind.{common_steps}
 use Rattle.std.proofs.lemmas.Str.Parse.{IsNumeralModel, numerals_by_value, not_in_digits}
 use Rattle.std.proofs.lemmas.Str.Pattern.{IsSplitOnceResult, split_after, split_parts}
 use borrow.Author.Tests.{ne_eqb}
-use mathlib.Core.HLevel.{is_prop→PathP}
 use Rattle.ratio64.proofs.ForCallers.{err_is_outside, exact_is_inside, only_exact_result, positive_is_nonzero, reduced_is_exact}
-use Rattle.ratio64.specs.Fraction.{IsReduced}
+use Rattle.ratio64.proofs.FractionAnswers.{only_of_parts}
+use Rattle.ratio64.specs.Laws.{TextIsReadBack}
 use Rattle.ratio64.specs.Ratio.{AnswersFraction, den_of, num_of, text_of}
-use Rattle.ratio64.specs.RatioText.{AnswersSpelled, HasLongPart, ReadsFraction, SpellsFraction, SpellsWhole, TextIsReadBack, answer_read, unsigned_part, whole_of}
-use Rattle.ratio64.specs.ReducedPairs.{IsReduced-prop}
+use Rattle.ratio64.specs.RatioText.{AnswersSpelled, HasLongPart, ReadsFraction, SpellsFraction, SpellsWhole, answer_read, unsigned_part, whole_of}
 use Rattle.ratio64.specs.declared.error.RatioError.{RatioError}
 use Rattle.ratio64.specs.declared.error.RatioError.TheVariants.{ZeroDenominator, NotFitting}
 use Rattle.ratio64.specs.declared.fraction.Ratio.{Ratio}
@@ -95,7 +94,7 @@ split_cuts t one r same is_one is h = rw is (record { parts = cut t one same is_
 
 -- ---- what the text is read as
 
-short_parts : (a b : ℤ) → unsigned_abs a < 10 ^ 38 → unsigned_abs b < 10 ^ 38 → ¬ (HasLongPart a b)
+pub short_parts : (a b : ℤ) → unsigned_abs a < 10 ^ 38 → unsigned_abs b < 10 ^ 38 → ¬ (HasLongPart a b)
 short_parts a b left right h = elim h [ inl long ↦ absurd (omega arith) | inr long ↦ absurd (omega arith) ]
 
 never_long : (r : Result Ratio RatioError) → answer_read r ≢ Err TooLong
@@ -186,17 +185,14 @@ short_part : (z : ℤ) → FitsSigned w64 z → unsigned_abs z < 10 ^ 38
 short_part (pos n) fits = let low = fits.sfits in omega arith
 short_part (negsuc n) fits = let low = fits.sfits in omega arith
 
-same_value : (x y : Ratio) → num_of x ≡ num_of y → den_of x ≡ den_of y → x ≡ y
-same_value x y p q = λ i. record { num = p i; den = q i; reduced = is_prop→PathP (λ i. IsReduced (p i) (q i)) (λ i. IsReduced-prop (p i) (q i)) x.reduced y.reduced i }
-
 answers_itself : (x : Ratio) (r : Result Ratio RatioError) → FitsSigned w64 (num_of x) → FitsSigned w64 (den_of x) → AnswersFraction (num_of x) (den_of x) r → answer_read r ≡ Ok x
 answers_itself x (Ok y) num_fits den_fits h =
     let same = only_exact_result h.exact (reduced_is_exact x.reduced) in
-    ap Ok (same_value y x same.0 same.1)
+    ap Ok (only_of_parts y x same.0 same.1)
 answers_itself x (Err e) num_fits den_fits h = absurd (exact_is_inside (reduced_is_exact x.reduced) num_fits den_fits (err_is_outside e (positive_is_nonzero x.reduced.positive) h))
 
-pub text_is_read_back : TextIsReadBack
-text_is_read_back x r num_fits den_fits h =
+pub printed_is_read : TextIsReadBack
+printed_is_read x r num_fits den_fits h =
     let spelled = h.answer (num_of x) (den_of x) (text_spelled x num_fits den_fits) in
     let given = spelled.answer (short_parts (num_of x) (den_of x) (short_part (num_of x) num_fits) (short_part (den_of x) den_fits)) in
     given.1 ∙ answers_itself x given.0 num_fits den_fits given.2

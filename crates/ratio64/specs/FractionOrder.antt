@@ -47,7 +47,7 @@ module _ (a b c d e f : ℤ) (b_up : pos 0 <ℤ b) (d_up : pos 0 <ℤ d) (f_up :
   cmp_congr : fraction_cmp a b c d ≡ Equal → fraction_cmp a b e f ≡ fraction_cmp c d e f
   cmp_congr h = outer ∙ int_cmp_total.congr (a *ℤ (d *ℤ f)) (c *ℤ (b *ℤ f)) (e *ℤ (b *ℤ d)) (sym first ∙ h) ∙ sym second
 
-pub order_is_total : OrderIsTotal
+pub order_is_total : (K : Type 0) (num den : K → ℤ) → OrderIsTotal K num den
 order_is_total K num den up = record {
   antisymm = λ x y. int_cmp_total.antisymm (num x *ℤ den y) (num y *ℤ den x);
   trans = λ x y z. cmp_trans (num x) (den x) (num y) (den y) (num z) (den z) (up x) (up y) (up z);

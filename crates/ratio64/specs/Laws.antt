@@ -1,10 +1,17 @@
 -- The laws of fractions. Each is proved in proofs/Laws.antt, by a lemma of its name in small letters.
-use Rattle.std.specs.Prelude.{◌≡◌, ◌↔◌, ◌<ℤ◌, ◌+ℤ◌, ◌*ℤ◌, ℤ, pos}
+use Rattle.std.specs.Prelude.{◌≡◌, ◌↔◌, ◌<ℤ◌, ◌+ℤ◌, ◌*ℤ◌, ℕ, ℤ, List, pos, FitsSigned, Ok, Result}
 use Rattle.std.specs.Cmp.{IsTotalOrder}
+use Rattle.std.specs.Int.{w64}
 use Rattle.std.specs.declared.cmp.Ordering.TheVariants.{Equal, Less}
 use Rattle.num_integer.specs.Only.{IsOnly}
 use Rattle.ratio64.specs.Fraction.{AreEqual, IsExact, IsFraction, IsReduced, fraction_cmp}
 use Rattle.ratio64.specs.Limiting.{IsNearestWithin}
+use Rattle.ratio64.specs.Ratio.{AnswersFraction, num_of, den_of, text_of}
+use Rattle.ratio64.specs.RatioText.{ReadsFraction}
+use Rattle.ratio64.specs.Rounding.{IsRounded}
+use Rattle.ratio64.specs.declared.error.RatioError.{RatioError}
+use Rattle.ratio64.specs.declared.fraction.Ratio.{Ratio}
+use Rattle.ratio64.specs.declared.parse.ParseRatioError.{ParseRatioError}
 
 -- ---- reduced pairs
 
@@ -24,11 +31,19 @@ EqualFractionsHaveOneResult = (a b c d num den : ℤ) → IsFraction c d → Are
 abbrev pub ReducedPairsAreEqualWhereSame : Type 0
 ReducedPairsAreEqualWhereSame = (a b c d : ℤ) → IsReduced a b → IsReduced c d → AreEqual a b c d ↔ ((a ≡ c) × (b ≡ d))
 
+-- Each numerator and denominator are those of at most one `Ratio`.
+abbrev pub RatioOfPartsIsOnly : Type 0
+RatioOfPartsIsOnly = (x y : Ratio) → num_of x ≡ num_of y → den_of x ≡ den_of y → x ≡ y
+
+-- Each fraction has only one answer.
+abbrev pub AnswerIsOnly : Type 0
+AnswerIsOnly = (a b : ℤ) (r s : Result Ratio RatioError) → AnswersFraction a b r → AnswersFraction a b s → r ≡ s
+
 -- ---- the order
 
 -- Fractions whose denominators are above 0 are in a total order.
-abbrev pub OrderIsTotal : Type 1
-OrderIsTotal = (K : Type 0) (num den : K → ℤ) → ((x : K) → pos 0 <ℤ den x) → IsTotalOrder (λ x y. fraction_cmp (num x) (den x) (num y) (den y))
+abbrev pub OrderIsTotal : (K : Type 0) → (K → ℤ) → (K → ℤ) → Type 0
+OrderIsTotal K num den = ((x : K) → pos 0 <ℤ den x) → IsTotalOrder (λ x y. fraction_cmp (num x) (den x) (num y) (den y))
 
 -- Two fractions compare equal in that order exactly where they are equal.
 abbrev pub OrderAgreesWithEquality : Type 0
@@ -37,6 +52,12 @@ OrderAgreesWithEquality = (a b c d : ℤ) → (fraction_cmp a b c d ≡ Equal) �
 -- Of two fractions over one denominator above 0 the one of the lesser numerator is the lesser.
 abbrev pub OrderOverOneDenominator : Type 0
 OrderOverOneDenominator = (a c d : ℤ) → pos 0 <ℤ d → a <ℤ c → fraction_cmp a d c d ≡ Less
+
+-- ---- rounding
+
+-- Each fraction has only one nearest whole number.
+abbrev pub RoundedIsOnly : Type 0
+RoundedIsOnly = (n d r : ℤ) → pos 0 <ℤ d → IsRounded n d r → IsOnly (IsRounded n d) r
 
 -- ---- small denominators
 
@@ -55,3 +76,14 @@ SumsOfEqualFractions = (a b c d e f g h : ℤ) → AreEqual a b e f → AreEqual
 abbrev pub ProductsOfEqualFractions : Type 0
 ProductsOfEqualFractions = (a b c d e f g h : ℤ) → AreEqual a b e f → AreEqual c d g h
     → AreEqual (a *ℤ c) (b *ℤ d) (e *ℤ g) (f *ℤ h)
+
+-- ---- texts
+
+-- Each text is read as only one result.
+abbrev pub ReadingIsOnly : Type 0
+ReadingIsOnly = (text : List ℕ) (r s : Result Ratio ParseRatioError) → ReadsFraction text r → ReadsFraction text s → r ≡ s
+
+-- What is printed of a fraction is read as that fraction.
+abbrev pub TextIsReadBack : Type 0
+TextIsReadBack = (x : Ratio) (r : Result Ratio ParseRatioError) → FitsSigned w64 (num_of x) → FitsSigned w64 (den_of x)
+    → ReadsFraction (text_of x) r → r ≡ Ok x

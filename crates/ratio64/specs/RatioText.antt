@@ -1,8 +1,7 @@
 -- The texts that spell a fraction, and what each text is read as.
-use Rattle.std.specs.Prelude.{◌≡◌, ◌⊎◌, ◌↔◌, ◌++◌, ◌≤◌, ◌^◌, ℤ, ℕ, List, codes, drop, neg_ℤ, pos, unsigned_abs, Result, Ok, Err, FitsSigned, if◌then◌else◌}
-use Rattle.std.specs.Int.{w64}
+use Rattle.std.specs.Prelude.{◌≡◌, ◌⊎◌, ◌↔◌, ◌++◌, ◌≤◌, ◌^◌, ℤ, ℕ, List, codes, drop, neg_ℤ, pos, unsigned_abs, Result, Ok, Err, if◌then◌else◌}
 use Rattle.std.specs.Str.Parse.{IsNumeral, digits_value, starts_with_minus}
-use Rattle.ratio64.specs.Ratio.{AnswersFraction, den_of, num_of, text_of}
+use Rattle.ratio64.specs.Ratio.{AnswersFraction}
 use Rattle.ratio64.specs.RatioError.{error_text}
 use Rattle.ratio64.specs.declared.fraction.Ratio.{Ratio}
 use Rattle.ratio64.specs.declared.error.RatioError.{RatioError}
@@ -68,8 +67,3 @@ pub record AnswersSpelled (a b : ℤ) (result : Result Ratio ParseRatioError) : 
 pub record ReadsFraction (text : List ℕ) (result : Result Ratio ParseRatioError) : Type 0 where
   pub not_a_fraction : (result ≡ Err NotAFraction) ↔ ((a b : ℤ) → ¬ (SpellsFraction text a b))
   pub answer : (a b : ℤ) → SpellsFraction text a b → AnswersSpelled a b result
-
--- What is printed of a fraction is read as that fraction. This is a law, proved in proofs/ReadTexts.antt.
-abbrev pub TextIsReadBack : Type 0
-TextIsReadBack = (x : Ratio) (r : Result Ratio ParseRatioError) → FitsSigned w64 (num_of x) → FitsSigned w64 (den_of x)
-    → ReadsFraction (text_of x) r → r ≡ Ok x

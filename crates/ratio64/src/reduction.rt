@@ -26,7 +26,8 @@ pub(crate) fn lowest_terms(num: i128, den: i128) -> Result<(i64, i64), RatioErro
     }
 }
 
-/// Returns both parts divided by their greatest common divisor, with a denominator above 0.
+/// Returns both parts divided by their greatest common divisor, with a denominator above 0. Two
+/// fractions need no divisor: 0 over any number is 0/1, and a number over itself is 1/1.
 ///
 /// May be called where each number of no greater magnitude than a part fits.
 fn reduced_terms<T: Integer>(num: T, den: T) -> (T, T)

@@ -126,6 +126,14 @@ fn ascending(rt: HostRuntime) {
 }
 
 #[test]
+fn equal_fractions(rt: HostRuntime) {
+    let first = Ratio::new(2, 4).expect(&rt, "it is 1/2");
+    let second = Ratio::new(-1, -2).expect(&rt, "it is 1/2");
+    assert!(rt; first == second);
+    assert!(rt; hash_of(&first) == hash_of(&second));
+}
+
+#[test]
 fn hashes_of_other_fractions(rt: HostRuntime) {
     let half = hash_of(&ratio(&rt, (1, 2)));
     for other in [(1, 3), (1, 1), (-1, 2), (2, 1), (0, 1)] {

@@ -9,9 +9,9 @@ ghost use Rattle.num_integer.specs.Divisors.{Divides};
 ghost use Rattle.num_integer.specs.Only.{IsOnly};
 ghost use Rattle.calendar.specs.Dates.{IsMonthsAfter, number_of};
 ghost use Rattle.calendar.specs.LeapYears.{is_leap_year};
-ghost use Rattle.calendar.specs.Months.{days_in_month, month_number};
+ghost use Rattle.calendar.specs.Months.{month_number};
 ghost use Rattle.calendar.specs.Easter.{IsEaster};
-ghost use Rattle.calendar.specs.Laws.{EarlierFullMoons, EpactOfTheFirstYear, EpactOfTheNextYear, FirstWeekdayIsOnly, FullMoonsDiffer, IsoNumberIsOnly, IsoWeeksAreOnly, LastWeekdayIsOnly, LastWeekdayOfMonthIsOnly, LunarCorrectionOfTwentyFiveCenturies, LunarCorrectionsFrom1800, MonthsAfterIsOnly, MonthsBetweenIsOnly, NthWeekdayIsOnly, SolarCorrectionOfTheNextCentury, TextIsOnly, WeekdayIsOnly, WeekdaysFollow};
+ghost use Rattle.calendar.specs.Laws.{DateIsOnly, DateOfPartsIsOnly, DateOfYearDayIsOnly, EarlierFullMoons, EasterIsOnly, EpactOfTheFirstYear, EpactOfTheNextYear, FirstDay, FirstWeekdayIsOnly, FullMoonsDiffer, IsoDayIsOnly, IsoNumberIsOnly, IsoWeekIsOnly, IsoWeeksAreOnly, LastWeekdayIsOnly, LastWeekdayOfMonthIsOnly, LeapYearsByDivisors, LengthsOfYears, LunarCorrectionOfTwentyFiveCenturies, LunarCorrectionsFrom1800, MonthsAfterIsOnly, MonthsBetweenIsOnly, NthWeekdayIsOnly, OrderOfDates, OrderOfIsoWeeks, SolarCorrectionOfTheNextCentury, TextIsOnly, WeekdayIsOnly, WeekdaysFollow, WeeksOfAYear, YearOfDayIsOnly, YearsFollow};
 ghost use Rattle.calendar.specs.Weeks.{HasWeekday};
 ghost use Rattle.calendar.specs.declared.date.Date.{Date};
 
@@ -21,8 +21,17 @@ use calendar::{
 use std::alloc::{AllocError, Global};
 use std::hash::{Hash, Hasher};
 
-/// The laws that no call below cites, each proved by its lemma.
+/// The laws of the calendar, each proved by its lemma.
 fn laws()
+    ensures leap_years_by_divisors { LeapYearsByDivisors }
+    ensures lengths_of_years { LengthsOfYears }
+    ensures years_follow { YearsFollow }
+    ensures first_day { FirstDay }
+    ensures year_of_day_is_only { YearOfDayIsOnly }
+    ensures date_of_parts_is_only { DateOfPartsIsOnly }
+    ensures date_is_only { DateIsOnly }
+    ensures date_of_year_day_is_only { DateOfYearDayIsOnly }
+    ensures order_of_dates { OrderOfDates }
     ensures text_is_only { TextIsOnly }
     ensures months_after_is_only { MonthsAfterIsOnly }
     ensures nth_weekday_is_only { NthWeekdayIsOnly }
@@ -33,7 +42,12 @@ fn laws()
     ensures weekdays_follow { WeekdaysFollow }
     ensures first_weekday_is_only { FirstWeekdayIsOnly }
     ensures last_weekday_is_only { LastWeekdayIsOnly }
+    ensures iso_week_is_only { IsoWeekIsOnly }
+    ensures iso_day_is_only { IsoDayIsOnly }
+    ensures weeks_of_a_year { WeeksOfAYear }
     ensures iso_weeks_are_only { IsoWeeksAreOnly }
+    ensures order_of_iso_weeks { OrderOfIsoWeeks }
+    ensures easter_is_only { EasterIsOnly }
     ensures full_moons_differ { FullMoonsDiffer }
     ensures earlier_full_moons { EarlierFullMoons }
     ensures epact_of_the_first_year { EpactOfTheFirstYear }
@@ -191,20 +205,15 @@ fn read_back(alloc: Global, date: Date) -> Result<Result<Date, DateError>, Alloc
     Ok(text.as_str().parse())
 }
 
-/// The last day of a month, which has at least 28 days.
-#[tactic(auto, using(calendar::proofs::MonthLengths::month_length_range))]
-fn last_day_of_month(year: i64, month: u8) -> Date
-    requires from_one { 1 ≤ month }
-    requires to_twelve { month ≤ 12 }
-    ensures year { result.year ≡ year }
-    ensures month { result.month ≡ month }
-    ensures last { result.day_of_month ≡ days_in_month year month }
+/// The days of the months of a year, added: the invariant of the sum is that each month has at most 31.
+fn days_of_months(year: i64) -> u16
+    ensures { result ≤ 372 }
 {
-    Date {
-        year,
-        month,
-        day_of_month: days_in_month(year, month),
+    let mut days = 0;
+    for month in 1..=12 {
+        days += u16::from(days_in_month(year, month));
     }
+    days
 }
 
 /// A week later the day of the week is the same.

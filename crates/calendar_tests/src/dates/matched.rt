@@ -4,7 +4,7 @@ ghost use Rattle.std.specs.Prelude.{◌≡◌, ◌<◌, ◌≤◌, ◌≤ℤ◌,
 ghost use Rattle.std.specs.Int.{w64};
 ghost use Rattle.calendar.specs.Dates.{HasMonths, IsLastWeekdayOfMonth, IsMonthsAfter, number_of};
 ghost use Rattle.calendar.specs.IsoWeeks.{IsDayOfIsoWeek, IsInIsoWeek};
-ghost use Rattle.calendar.specs.Months.{IsDate};
+ghost use Rattle.calendar.specs.Months.{IsDate, days_in_month};
 ghost use Rattle.calendar.specs.Weekday.{iso_number};
 ghost use Rattle.calendar.specs.Weeks.{HasWeekday};
 
@@ -181,6 +181,34 @@ fn end_of_next_month(date: &Date) -> Option<Date>
 {
     let next = date.plus_months(1)?;
     Date::new(next.year, next.month, days_in_month(next.year, next.month))
+}
+
+/// The last day of a month.
+fn last_day_of_month(year: i64, month: u8) -> Date
+    requires from_one { 1 ≤ month }
+    requires to_twelve { month ≤ 12 }
+    ensures year { result.year ≡ year }
+    ensures month { result.month ≡ month }
+    ensures last { result.day_of_month ≡ days_in_month year month }
+{
+    Date {
+        year,
+        month,
+        day_of_month: days_in_month(year, month),
+    }
+}
+
+/// The rent of the month of a date, by a table of the months of 28, 29, 30 and 31 days.
+fn rent(rents: &[u32; 4], date: &Date) -> u32 {
+    rents[usize::from(days_in_month(date.year, date.month)) - 28]
+}
+
+/// The days of two years, added.
+fn days_of_two_years(year: i64) -> Option<u16>
+    ensures { IfSome result (λ days. 730 ≤ days × days ≤ 732) }
+{
+    let next = year.checked_add(1)?;
+    Some(days_in_year(year) + days_in_year(next))
 }
 
 /// The age in months, where it fits.

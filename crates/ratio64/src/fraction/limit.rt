@@ -25,9 +25,6 @@ impl Ratio {
             return *self;
         }
         let (whole, part) = div_mod_floor(self.num, self.den);
-        if max < 1 {
-            unreachable!("a limit below 1");
-        }
         let (part, den, limit) = (
             part.unsigned_abs(),
             self.den.unsigned_abs(),

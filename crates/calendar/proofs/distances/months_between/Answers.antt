@@ -3,7 +3,7 @@ use Rattle.std.specs.Int.{w128}
 use Rattle.std.proofs.Common.{rules}
 use Rattle.std.proofs.lemmas.Int.{to_z-of_z}
 use Rattle.calendar.specs.Dates.{IsMonthsBetween}
-use Rattle.calendar.proofs.Greatest.{found_or_beyond}
+use Rattle.calendar.proofs.FoundOrBeyond.{found_or_beyond}
 use Rattle.calendar.proofs.distances.months_between.Goals as goal
 
 pub returns : goal.returns

@@ -9,7 +9,7 @@ pub returns-in_ok-checked_add : goal.returns-in_ok-checked_add
 returns-in_ok-checked_add c =
     let date = c.args.self.now in
     let year : FitsSigned w64 date.year = search rules in
-    let days = simp to_z-of_z at c.days_in_month.ensures in
+    let days = simp to_z-of_z at c.days_in_month.ensures.days in
     let last = last_of_year date.valid (omega arith) (omega arith) in
     let step = simp to_z-of_z at c.in_ok-checked_add.ensures in
     let fits = step.0 in

@@ -17,7 +17,7 @@ pub invariant_of-result : goal.invariant_of-result
 invariant_of-result c =
     let (from, to, is) = c.in_ok-year.ensures in
     let length = month_length_range (to_z w64 (of_z w64 c.in_ok-year.year)) c.in_ok-year.month from to in
-    let month = c.days_in_month.ensures in
+    let month = c.days_in_month.ensures.days in
     let day = c.min.ensures in
     record { valid = record { month_from_one = from; month_to_twelve = to; day_from_one = omega (arith, c.args.self.now.valid.day_from_one); day_to_last = omega arith } }
 
@@ -28,4 +28,4 @@ returns c =
     let sum : FitsSigned w128 (c.month_number.result +ℤ c.args.months) = omega (arith, ints) in
     let year : FitsSigned w64 c.in_ok-year.year = search rules in
     let (from, to, is) = simp (c.from.ensures, to_z-of_z) at c.in_ok-year.ensures in
-    record { month_is = simp to_z-of_z (omega (arith, ints, is)); day_is = rw c.days_in_month.ensures at c.min.ensures }
+    record { month_is = simp to_z-of_z (omega (arith, ints, is)); day_is = rw c.days_in_month.ensures.days at c.min.ensures }

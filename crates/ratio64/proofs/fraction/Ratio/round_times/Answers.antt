@@ -1,7 +1,7 @@
 use Rattle.std.specs.Prelude.{◌*ℤ◌}
 use Rattle.std.proofs.Common.{rules}
 use Rattle.std.proofs.lemmas.Int.{to_z-of_z}
-use Rattle.ratio64.proofs.NearestNumbers.{narrowed_answer, rounded_is_only}
+use Rattle.ratio64.proofs.NearestNumbers.{narrowed_answer, only_rounded}
 use Rattle.ratio64.specs.Ratio.{den_of, num_of}
 use Rattle.ratio64.specs.Rounding.{IsRounded}
 use Rattle.ratio64.proofs.fraction.Ratio.round_times.Goals as goal
@@ -11,4 +11,4 @@ returns c =
     let x = c.args.self.now in
     let wide = c.nearest.ensures.in_range in
     let own : IsRounded (num_of x *ℤ c.args.n) (den_of x) c.nearest.result = search rules in
-    narrowed_answer c.at_64_bits.result own (λ y. rounded_is_only x.reduced.positive own) (simp to_z-of_z at c.at_64_bits.ensures)
+    narrowed_answer c.at_64_bits.result own (only_rounded _ _ _ x.reduced.positive own) (simp to_z-of_z at c.at_64_bits.ensures)

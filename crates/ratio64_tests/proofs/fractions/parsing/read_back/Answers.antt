@@ -1,7 +1,7 @@
 use Rattle.std.specs.Prelude.{FitsSigned}
 use Rattle.std.specs.Int.{w64}
 use Rattle.std.proofs.Common.{rules}
-use Rattle.ratio64.proofs.ReadTexts.{text_is_read_back}
+use Rattle.ratio64.proofs.Laws.{text_is_read_back}
 use Rattle.ratio64.specs.Ratio.{text_of}
 use Rattle.ratio64.specs.RatioText.{ReadsFraction}
 use Rattle.ratio64_tests.proofs.fractions.parsing.read_back.Goals as goal

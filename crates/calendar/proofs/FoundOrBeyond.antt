@@ -1,14 +1,8 @@
--- The greatest number that has a property.
+-- Numbers that fit an `i64`, or lie beyond it.
 use Rattle.std.specs.Prelude.{◌≡◌, ℤ, FitsSigned, MatchOption, Option, Some, None}
 use Rattle.std.specs.Int.{w64}
 use Rattle.std.specs.Option.{SomeIff}
-use Rattle.std.proofs.Common.{arith, subst, sym}
-use Rattle.num_integer.proofs.ForCallers.{linear}
-use Rattle.calendar.specs.Greatest.{IsGreatest}
-
--- there is at most one
-pub only_greatest : {P : ℤ → Type 0} {a b : ℤ} → IsGreatest P a → IsGreatest P b → a ≡ b
-only_greatest {a = a} {b = b} h k = omega (arith, linear, h.greatest b k.holds, k.greatest a h.holds)
+use Rattle.std.proofs.Common.{subst, sym}
 
 -- a number that is the only one, where it fits, and else no number that fits
 pub only_or_beyond : (P : ℤ → Type 0) (o : Option ℤ) {found : ℤ} → ((a b : ℤ) → P a → P b → a ≡ b) → SomeIff o (FitsSigned w64 found) found → P found → MatchOption o ((z : ℤ) → P z → ¬ (FitsSigned w64 z)) P
