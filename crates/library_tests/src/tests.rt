@@ -4,5 +4,6 @@ mod answers;
 mod assertions;
 mod calls;
 mod cookbook;
+mod laws;
 mod residues;
 mod rows;

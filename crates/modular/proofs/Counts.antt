@@ -1,5 +1,5 @@
 -- How many congruent numbers lie between two others.
-use Rattle.std.specs.Prelude.{◌≡◌, ◌≤ℤ◌, ◌<ℤ◌, ◌+ℤ◌, ◌-ℤ◌, ◌*ℤ◌, ℤ, ℕ, zero, suc, pos, unsigned_abs, [], ◌∷◌}
+use Rattle.std.specs.Prelude.{◌≡◌, ◌≤ℤ◌, ◌<ℤ◌, ◌+ℤ◌, ◌-ℤ◌, ◌*ℤ◌, ℤ, ℕ, zero, suc, pos, unsigned_abs, [], ◌∷◌, Option, Some, None, IfSome, MatchOption}
 use Rattle.std.proofs.Common.{arith, ◌∙◌, ap, inl, refl, subst, sym}
 use Rattle.std.proofs.lemmas.Int.{by_lt_z, ints}
 use Rattle.num_integer.specs.Range.{IsRange}
@@ -7,6 +7,7 @@ use Rattle.num_integer.proofs.ForCallers.{expand, from_not_less, linear, product
 use Rattle.modular.proofs.CommonSolutions.{turns_ordered}
 use Rattle.modular.proofs.Congruences.{congruent-sym, congruent-trans, next_within_step}
 use Rattle.modular.specs.Turns.{IsFirstTurn}
+use Rattle.modular.specs.Counts.{IsCountFrom}
 use Rattle.modular.specs.Congruences.{AreCongruent, IsCountOfCongruent, IsNextCongruent, IsResidue}
 
 -- a congruent number and a step
@@ -96,3 +97,8 @@ counted_by_turns {from} {to} {first} {start} {step} {j} {k} up at_start ordered 
 -- where the turns do not fit, neither does one more
 pub one_more_too_great : {fits : ℤ → Type 0} {low high turns : ℤ} → IsRange fits low high → pos 0 ≤ℤ turns → ¬ (fits turns) → ¬ (fits (turns +ℤ pos 1))
 one_more_too_great range from_zero none more_fits = none (within_fits range more_fits (inl (from_zero, omega (arith, linear))))
+
+-- no count is below 0
+pub count_from_zero : {X : Type 0} (fits : ℤ → Type 0) (value : X → ℤ) (N : Type 0) (from : ℤ) (Has : ℤ → Type 0) (r : Option X) → MatchOption r N (λ n. fits (value n) × IsCountFrom from Has (value n)) → IfSome r (λ n. pos 0 ≤ℤ value n)
+count_from_zero fits value N from Has (Some n) h = omega (arith, ints, h.1.counted)
+count_from_zero fits value N from Has None h = tt

@@ -18,7 +18,8 @@ use num_integer::{Fits, Integer, checked};
 /// the second. No product of the moduli need fit. `next_common_solution_of(10, &[(1, 4), (3, 6), (0, 7)])`
 /// is `CommonSolution::At(21)`.
 ///
-/// May be called where each modulus is above 0.
+/// May be called where each modulus is above 0. In Rattle, a function that passes on a slice of its own
+/// parameters asks its callers for `in_range` too.
 pub fn next_common_solution_of<T: Modular + Fits>(
     from: T,
     congruences: &[(T, T)],

@@ -56,15 +56,15 @@ rank_of_below {n} xs h =
     let below = rank_of_first_below xs (length xs) n h.increasing (omega arith) (λ j e. h.below j 0 (omega arith)) in
     omega (arith, below, rank_of_all xs)
 
--- each sum on the way is below the number of choices too
-pub next_rank_below : {n : ℕ} (xs : List ℕ) (i : ℕ) → IsChoice n xs → i < length xs → rank_of_first i xs + coefficient (slice_index xs i) (i + 1) < coefficient n (length xs)
-next_rank_below xs i h within = rw add-one (omega (arith, rank_of_more xs i within, rank_of_first_at_most xs (suc i), rank_of_below xs h))
+-- each sum on the way is at most the rank
+pub next_rank_at_most : (xs : List ℕ) (i : ℕ) → i < length xs → rank_of_first i xs + coefficient (slice_index xs i) (i + 1) ≤ rank_of xs
+next_rank_at_most xs i within = rw add-one (omega (arith, rank_of_more xs i within, rank_of_first_at_most xs (suc i)))
 
 pub next_rank : (xs : List ℕ) (i : ℕ) → i < length xs → rank_of_first (i + 1) xs ≡ rank_of_first i xs + coefficient (slice_index xs i) (i + 1)
 next_rank xs i within = rw add-one (rank_of_more xs i within)
 
 -- the steps of the sum
-pub ruleset rank_steps = (rank_of_none, next_rank, next_rank_below)
+pub ruleset rank_steps = (rank_of_none, next_rank, next_rank_at_most)
 
 -- ---- the choice of a rank
 

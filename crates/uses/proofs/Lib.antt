@@ -6,3 +6,4 @@ pub mod RollingHashes
 pub mod Places
 pub mod PageRanges
 pub mod PartRanges
+pub mod Laws

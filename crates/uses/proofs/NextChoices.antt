@@ -1,5 +1,5 @@
 -- The choice of the next rank.
-use Rattle.std.specs.Prelude.{◌≡◌, ◌≢◌, ◌<◌, ◌≤◌, ◌+◌, ℕ, zero, suc, List, length, slice_index, slice_index_or, slice_set}
+use Rattle.std.specs.Prelude.{◌≡◌, ◌≢◌, ◌<◌, ◌≤◌, ◌+◌, ◌-◌, ℕ, zero, suc, List, length, slice_index, slice_index_or, slice_set}
 use Rattle.std.proofs.Common.{arith, inl, inr, refl, sym, ◌∙◌, add-one}
 use Rattle.std.proofs.lemmas.Bool.{cases_lt}
 use Rattle.std.proofs.lemmas.List.{get_or_default, get_or_past, get_or-set_other, get_or-set_same, length-set}
@@ -18,6 +18,17 @@ next_above {n} {xs} h i within = elim (cases_lt (i + 1) (length xs)) [
   | inl more ↦ omega (arith, h.increasing i more, get_or_default xs (i + 1) n 0 more)
   | inr last ↦ omega (arith, h.below i 0 within, get_or_past xs (i + 1) n last)
 ]
+
+-- each number of a choice is below the one after it, or n at the end, and such numbers are a choice
+below_last : (n : ℕ) (xs : List ℕ) → ((j : ℕ) → j < length xs → slice_index xs j < slice_index_or xs (j + 1) n) → (more j : ℕ) → j + 1 + more ≡ length xs → slice_index xs j < n
+below_last n xs above zero j size = omega (arith, above j (omega arith), get_or_past xs (j + 1) n (omega arith))
+below_last n xs above (suc more) j size = omega (arith, above j (omega arith), get_or_default xs (j + 1) n 0 (omega arith), below_last n xs above more (j + 1) (omega arith))
+
+pub choice_by_neighbours : {n : ℕ} {xs : List ℕ} → ((j : ℕ) → j < length xs → slice_index xs j < slice_index_or xs (j + 1) n) → IsChoice n xs
+choice_by_neighbours {n} {xs} above = record {
+  increasing = λ j within. omega (arith, above j (omega arith), get_or_default xs (j + 1) n 0 within);
+  below = All-from_get_or (λ (c : ℕ). c < n) xs 0 (λ j within. below_last n xs above (length xs - (j + 1)) j (omega arith));
+}
 
 -- they have the greatest rank below the number after them
 rank_of_run : (n : ℕ) (xs : List ℕ) (i : ℕ) → i ≤ length xs → ((j : ℕ) → j < i → slice_index xs j + 1 ≡ slice_index_or xs (j + 1) n)

@@ -8,11 +8,12 @@ use Rattle.num_integer.proofs.ForCallers.{floored_remainder_range, linear, multi
 use Rattle.uses.specs.Paging.{IsPlace, IsRangeOfPage}
 
 -- an item lies on a page where it is from the page times its size on, and before the same of the next page
-page_range_is : {page size items first end : ℤ} → first ≤ℤ end → end ≤ℤ items
+page_range_is : {page size items first end : ℤ} → pos 0 ≤ℤ first → first ≤ℤ end → end ≤ℤ items
     → ((item : ℤ) → first ≤ℤ item → item <ℤ end → (pos 0 ≤ℤ item) × ((page *ℤ size) ≤ℤ item) × (item <ℤ (page *ℤ size +ℤ size)))
     → ((item : ℤ) → pos 0 ≤ℤ item → item <ℤ items → (page *ℤ size) ≤ℤ item → item <ℤ (page *ℤ size +ℤ size) → (first ≤ℤ item) × (item <ℤ end))
     → (end ≤ℤ first → first ≡ items) → IsRangeOfPage page size items first end
-page_range_is {page} {size} ordered to_items on back empty = record {
+page_range_is {page} {size} from_zero ordered to_items on back empty = record {
+  from_zero = from_zero;
   ordered = ordered;
   to_items = to_items;
   exactly = λ item. (
@@ -33,15 +34,15 @@ rest_range {q = q} up h = floored_remainder_range up (record { quotient = q; div
 pub none_before : {page size items : ℤ} → pos 0 <ℤ size → pos 0 ≤ℤ items → page <ℤ pos 0 → IsRangeOfPage page size items items items
 none_before {page} {size} up from_zero before =
     let under = multiples_apart page (pos 0) size up before in
-    page_range_is (omega (arith, linear)) (omega (arith, linear)) (λ item h k. absurd (omega (arith, linear))) (λ item h k l m. absurd (omega (arith, products))) (λ _. refl)
+    page_range_is from_zero (omega (arith, linear)) (omega (arith, linear)) (λ item h k. absurd (omega (arith, linear))) (λ item h k l m. absurd (omega (arith, products))) (λ _. refl)
 
 -- nor on a page after that of the last item
-pub none_after : {page size items full rest : ℤ} → pos 0 <ℤ size → IsFloored items size full rest → full <ℤ page → IsRangeOfPage page size items items items
-none_after {page} {size} {full = full} up division after =
+pub none_after : {page size items full rest : ℤ} → pos 0 <ℤ size → pos 0 ≤ℤ items → IsFloored items size full rest → full <ℤ page → IsRangeOfPage page size items items items
+none_after {page} {size} {full = full} up from_zero division after =
     let below = rest_range up division in
     let equation = division.division.equation in
     let over = multiples_apart full page size up after in
-    page_range_is (omega (arith, linear)) (omega (arith, linear)) (λ item h k. absurd (omega (arith, linear))) (λ item h k l m. absurd (omega (arith, linear))) (λ _. refl)
+    page_range_is from_zero (omega (arith, linear)) (omega (arith, linear)) (λ item h k. absurd (omega (arith, linear))) (λ item h k l m. absurd (omega (arith, linear))) (λ _. refl)
 
 -- a page that has all its items
 pub record IsFullPage (page size items : ℤ) : Type 0 where
@@ -59,7 +60,7 @@ full_page {page} {size} {full = full} up division from_zero less =
     record {
       begins = begins;
       ends = omega (arith, linear);
-      range = page_range_is (omega (arith, linear)) (omega (arith, linear)) (λ item h k. (omega (arith, linear), h, k)) (λ item h k l m. (l, m)) (λ none. absurd (omega (arith, linear)));
+      range = page_range_is begins (omega (arith, linear)) (omega (arith, linear)) (λ item h k. (omega (arith, linear), h, k)) (λ item h k l m. (l, m)) (λ none. absurd (omega (arith, linear)));
     }
 
 -- the last one has the rest
@@ -77,7 +78,7 @@ last_page {page} {size} {full = full} up division from_zero low high =
     record {
       rest_up = below.0;
       begins = omega (arith, linear);
-      range = page_range_is (omega (arith, linear)) (omega (arith, linear)) (λ item h k. (omega (arith, linear), omega (arith, linear), omega (arith, linear))) (λ item h k l m. (omega (arith, linear), k)) (λ none. omega (arith, linear));
+      range = page_range_is (omega (arith, linear)) (omega (arith, linear)) (omega (arith, linear)) (λ item h k. (omega (arith, linear), omega (arith, linear), omega (arith, linear))) (λ item h k l m. (omega (arith, linear), k)) (λ none. omega (arith, linear));
     }
 
 -- a range that is not empty lies within each other of the same page

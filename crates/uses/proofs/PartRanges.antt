@@ -47,9 +47,10 @@ size_from_zero {parts} {size = size} up from_zero equation below = by_lt_z size 
     (λ fine. fine)
 
 -- it begins and ends where the items are cut
-range_at : {parts items first end : ℤ} (size longer part : ℤ) → IsEvenCut parts items (cut_at size longer) → first ≤ℤ end → end ≤ℤ items → first ≡ cut_at size longer part → end ≡ cut_at size longer (part +ℤ pos 1)
+range_at : {parts items first end : ℤ} (size longer part : ℤ) → IsEvenCut parts items (cut_at size longer) → pos 0 ≤ℤ first → first ≤ℤ end → end ≤ℤ items → first ≡ cut_at size longer part → end ≡ cut_at size longer (part +ℤ pos 1)
     → IsRangeOfPart part parts items first end
-range_at size longer part even ordered within begins ends = record {
+range_at size longer part even from_zero ordered within begins ends = record {
+  from_zero = from_zero;
   ordered = ordered;
   to_items = within;
   cut = cut_at size longer;
@@ -79,7 +80,7 @@ longer_part {parts} {items} {size} {longer} {part} from_zero division part_up wi
       begins = begins;
       larger = omega (arith, linear);
       ends = ends;
-      range = range_at size longer part (even_cut equation range.0 range.1) (omega (arith, linear)) ends (omega (arith, linear, clamps)) (omega (arith, linear, clamps));
+      range = range_at size longer part (even_cut equation range.0 range.1) (omega (arith, linear)) (omega (arith, linear)) ends (omega (arith, linear, clamps)) (omega (arith, linear, clamps));
     }
 
 -- one of the others
@@ -104,7 +105,7 @@ shorter_part {parts} {items} {size} {longer} {part} from_zero division part_up w
       later = range.0;
       size_up = size_up;
       ends = ends;
-      range = range_at size longer part (even_cut equation range.0 range.1) (omega (arith, linear)) ends (omega (arith, linear, clamps)) (omega (arith, linear, clamps));
+      range = range_at size longer part (even_cut equation range.0 range.1) (omega (arith, linear)) (omega (arith, linear)) ends (omega (arith, linear, clamps)) (omega (arith, linear, clamps));
     }
 
 -- ---- the only range

@@ -3,3 +3,4 @@ pub mod Layout
 pub mod Schedules
 pub mod Ranking
 pub mod Hashes
+pub mod Laws

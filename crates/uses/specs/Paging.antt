@@ -10,6 +10,7 @@ pub record IsPlace (item page_size page place : ℤ) : Type 0 where
 
 -- The numbers from first on and before end are exactly the items of 0..items that lie on the page. Both are items where there is none. With pages of 4 items, those of page 2 among 10 items are 8..10, and those of page 3 are 10..10.
 pub record IsRangeOfPage (page page_size items first end : ℤ) : Type 0 where
+  pub from_zero : pos 0 ≤ℤ first
   pub ordered : first ≤ℤ end
   pub to_items : end ≤ℤ items
   pub exactly : (item : ℤ) → ((first ≤ℤ item) × (item <ℤ end)) ↔ ((pos 0 ≤ℤ item) × (item <ℤ items) × ((place : ℤ) × IsPlace item page_size page place))
@@ -23,6 +24,7 @@ pub record IsEvenCut (parts items : ℤ) (cut : ℤ → ℤ) : Type 0 where
 
 -- The part begins at first and ends before end, where items are cut evenly into parts. Of 10 items in 3 parts, part 1 is 4..7.
 pub record IsRangeOfPart (part parts items first end : ℤ) : Type 0 where
+  pub from_zero : pos 0 ≤ℤ first
   pub ordered : first ≤ℤ end
   pub to_items : end ≤ℤ items
   pub cut : ℤ → ℤ

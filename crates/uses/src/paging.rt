@@ -1,11 +1,13 @@
 //! Items on pages of one size, and in parts of nearly one size.
 
-ghost use Rattle.std.specs.Prelude.{◌≡◌, ◌↔◌, ◌≤ℤ◌, ◌<ℤ◌, ◌+ℤ◌, ◌*ℤ◌, ℤ, pos};
+ghost use Rattle.std.specs.Prelude.{◌≡◌, ◌≤ℤ◌, ◌<ℤ◌, ◌*ℤ◌, ℤ, pos, IfSome};
+ghost use Rattle.num_integer.specs.Checked.{AnswersWhere};
 ghost use Rattle.num_integer.specs.Only.{IsOnly};
+ghost use Rattle.num_integer.specs.Range.{EachFits};
 ghost use Rattle.uses.specs.Paging.{IsPlace, IsRangeOfPage, IsRangeOfPart};
 
 use num_integer::operators::{difference, is_below, is_negative, product, successor, sum};
-use num_integer::{Integer, div_ceil, div_mod_floor};
+use num_integer::{Fits, Integer, checked, div_ceil, div_mod_floor};
 
 /// Returns the fewest pages that hold all items. `pages(10, 4)` is `3`, and `pages(-9, 4)` is `-2`.
 ///
@@ -37,27 +39,31 @@ pub fn place_of<T: Integer>(item: T, page_size: T) -> (T, T)
     div_mod_floor(item, page_size)
 }
 
-/// Returns the item at a place of a page, all counted from 0. `item_at(2, 2, 4)` is `10`, and
-/// `item_at(-1, 3, 4)` is `-1`.
+/// Returns the item at a place of a page, all counted from 0, or `None` if it does not fit.
+/// `item_at(2, 2, 4)` is `Some(10)`, `item_at(-1, 3, 4)` is `Some(-1)`, and `item_at(64u8, 0, 4)` is
+/// `None`.
 ///
-/// May be called where `place` is at least 0 and below `page_size`, and the item fits.
-pub fn item_at<T: Integer>(page: T, place: T, page_size: T) -> T
+/// May be called where `place` is at least 0 and below `page_size`.
+pub fn item_at<T: Fits>(page: T, place: T, page_size: T) -> Option<T>
     requires in_range { T.fits (T.value page) × T.fits (T.value place) × T.fits (T.value page_size) }
     requires place_from_zero { pos 0 ≤ℤ T.value place }
     requires place_below { T.value place <ℤ T.value page_size }
-    requires item_fits { T.fits (T.value page *ℤ T.value page_size +ℤ T.value place) }
-    ensures in_range { T.fits (T.value result) }
-    ensures place { IsPlace (T.value result) (T.value page_size) (T.value page)
-        (T.value place) }
-    ensures only { (item : ℤ) → IsPlace item (T.value page_size) (T.value page) (T.value place)
-        → item ≡ T.value result }
+    ensures place { AnswersWhere
+        (EachFits T.fits (λ item. IsPlace item (T.value page_size) (T.value page) (T.value place)))
+        (λ item. T.fits (T.value item)
+        × IsPlace (T.value item) (T.value page_size) (T.value page) (T.value place))
+        result }
+    ensures only { IfSome result (λ found. IsOnly
+        (λ item. IsPlace item (T.value page_size) (T.value page) (T.value place))
+        (T.value found)) }
 {
     if is_negative(page) {
         // The product of the page itself may be below the type.
-        let next_page = product(successor(page), page_size);
-        sum(next_page, difference(place, page_size))
+        let next_page = checked::product(successor(page), page_size)?;
+        checked::sum(next_page, difference(place, page_size))
     } else {
-        sum(product(page, page_size), place)
+        let first = checked::product(page, page_size)?;
+        checked::sum(first, place)
     }
 }
 

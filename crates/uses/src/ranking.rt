@@ -1,22 +1,59 @@
 //! The combinatorial number system: choices of some of the numbers below `n`, and their ranks.
 
 ghost use Rattle.std.specs.Prelude.{◌≡◌, ◌↔◌, ◌+◌, ◌<◌, ◌≤◌, ◌^◌, ℕ, List, length, slice_index, slice_index_or, IsFalse, IsTrue, MatchOption};
+ghost use Rattle.num_integer.specs.Checked.{AnswersWhere};
 ghost use Rattle.num_integer.specs.Coefficient.{coefficient};
 ghost use Rattle.num_integer.specs.Only.{IsOnly};
 ghost use Rattle.uses.specs.Ranking.{IsBefore, IsChoice, IsChoiceOfRank, IsFirstToRise, IsLastChoice, rank_of};
 
 use crate::halving::midpoint;
-use num_integer::{Fits, binomial};
+use num_integer::{Fits, binomial, checked};
+
+/// Returns `true` if the numbers increase and are below `n`, as [`rank`] and [`next_choice`] ask.
+/// `is_choice(&[0, 2, 3], 5)` is `true`, `is_choice(&[0, 2, 2], 5)` is `false`, and
+/// `is_choice(&[0, 2, 5], 5)` is `false`.
+pub fn is_choice(numbers: &[u64], n: u64) -> bool
+    ensures choice { IsTrue result ↔ IsChoice n numbers.now }
+    ensures rank_below { IsTrue result → rank_of numbers.now < coefficient n (length numbers.now) }
+{
+    for place in 0..numbers.len() {
+        if numbers[place] >= number_after(numbers, place, n) {
+            return false;
+        }
+    }
+    true
+}
+
+/// Returns `true` if the rank of a choice fits a `u64`. `rank_fits(&[0, 2, 3])` is `true`, and
+/// `rank_fits(&[0, 10000000000])` is `false`.
+pub fn rank_fits(choice: &[u64]) -> bool
+    ensures { IsTrue result ↔ (rank_of choice.now < 2 ^ 64) }
+{
+    checked_rank(choice).is_some()
+}
+
+/// Returns the rank of a choice, or `None` if it does not fit.
+#[tactic(auto, using(crate::proofs::Choices::rank_steps))]
+fn checked_rank(choice: &[u64]) -> Option<u64>
+    ensures { AnswersWhere (rank_of choice.now < 2 ^ 64) (λ r. r ≡ rank_of choice.now) result }
+{
+    let mut rank = 0;
+    for (i, number) in choice.iter().enumerate() {
+        let count = checked::binomial(*number, i as u64 + 1)?;
+        rank = checked::sum(rank, count)?;
+    }
+    Some(rank)
+}
 
 /// Returns the rank of a choice of numbers below `n`, in increasing order, among all choices of the
 /// same length: the number of those before it. `rank(&[0, 2, 3], 5)` is `2`.
 ///
-/// May be called where the numbers increase and are below `n`, and the number of these choices fits a
-/// `u64`.
+/// May be called where the numbers increase and are below `n`, which [`is_choice`] tests, and the rank
+/// fits a `u64`, which [`rank_fits`] tests. It fits if the number of all these choices does.
 #[tactic(auto, using(crate::proofs::Choices::rank_steps))]
 pub fn rank(choice: &[u64], n: u64) -> u64
     requires choice { IsChoice n choice.now }
-    requires ranks_fit { coefficient n (length choice.now) < 2 ^ 64 }
+    requires rank_fits { rank_of choice.now < 2 ^ 64 }
     ensures rank { result ≡ rank_of choice.now }
     ensures below { result < coefficient n (length choice.now) }
     ensures order { (other : List ℕ) → IsChoice n other → length other ≡ length choice.now

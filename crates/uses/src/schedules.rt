@@ -33,7 +33,8 @@ pub fn next_meeting<T: Modular + Fits>(now: T, a: Schedule<T>, b: Schedule<T>) -
 /// Returns the least time from `now` on at which each of the schedules comes. No product of the periods
 /// need fit. `next_meeting_of(10, &[(1, 4), (3, 6), (0, 7)])` is `CommonSolution::At(21)`.
 ///
-/// May be called where each period is above 0.
+/// May be called where each period is above 0. In Rattle, a function that passes on a slice of its own
+/// parameters asks its callers for `in_range` too.
 pub fn next_meeting_of<T: Modular + Fits>(now: T, schedules: &[Schedule<T>]) -> CommonSolution<T>
     requires now_in_range { T.fits (T.value now) }
     requires in_range { All (λ s. T.fits (T.value s.0) × T.fits (T.value s.1)) schedules.now }

@@ -1,7 +1,6 @@
 //! The tasks of the cookbook, each by a call or two.
 
 ghost use Rattle.std.specs.Prelude.{◌<◌};
-ghost use Rattle.uses.specs.Ranking.{IsChoice};
 
 use crate::tests::assertions::holds_at;
 use calendar::{Date, IsoWeek, Weekday, easter, last_weekday_of_month, months_between};
@@ -84,11 +83,19 @@ fn read(text: &str) -> Result<Ratio, ParseRatioError> {
     Ratio::from_str(text)
 }
 
+/// The number of a draw of six numbers below 49, or `None` if they do not increase.
+#[tactic(auto, unfolding(num_integer::specs::Coefficient::coefficient))]
+fn draw_number(draw: &[u64; 6]) -> Option<u64> {
+    if ranking::is_choice(draw, 49) {
+        Some(ranking::rank(draw, 49))
+    } else {
+        None
+    }
+}
+
 /// The draw of numbers below 49 after this one, in the order of the ranks.
-fn next_draw(draw: &mut [u64]) -> bool
-    requires { IsChoice 49 draw.old }
-{
-    ranking::next_choice(draw, 49)
+fn next_draw(draw: &mut [u64]) -> bool {
+    ranking::is_choice(draw, 49) && ranking::next_choice(draw, 49)
 }
 
 #[test]
@@ -104,6 +111,18 @@ fn tasks_on_numbers(rt: HostRuntime) {
     holds_at(&rt, tax(i64::MAX) == Some(1752440687002407403), &"tax");
     holds_at(&rt, inverse(3) == Some(333333336), &"inverse");
     holds_at(&rt, inverse(0).is_none(), &"inverse of 0");
+}
+
+#[test]
+fn tasks_on_draws(rt: HostRuntime) {
+    let mut draw = [0, 1, 2, 3, 4, 6];
+    holds_at(&rt, draw_number(&draw) == Some(1), &"the number of a draw");
+    holds_at(
+        &rt,
+        next_draw(&mut draw) && draw == [0, 1, 2, 3, 5, 6],
+        &"the next draw",
+    );
+    holds_at(&rt, draw_number(&[1, 1, 2, 3, 4, 5]).is_none(), &"no draw");
 }
 
 #[test]

@@ -1,33 +1,13 @@
 //! What callers learn of the calls from their contracts and the laws, each said by a contract of its own.
 
-ghost use Rattle.std.specs.Prelude.{◌≡◌, ◌<ℤ◌, ℤ, pos, IsTrue, Some};
-ghost use Rattle.num_integer.specs.Only.{IsOnly};
+ghost use Rattle.std.specs.Prelude.{◌≡◌, ◌<ℤ◌, pos, IsTrue, Some};
 ghost use Rattle.modular.specs.Congruences.{IsInverse, IsNextCommonSolution, IsNextCongruent, IsPreviousCongruent, IsQuotientModulo, IsResidueClass, Solves};
-ghost use Rattle.modular.specs.Laws.{CountOfCongruentIsOnly, InverseIsOnly, NextCommonSolutionIsOnly, NextCongruentIsOnly, PreviousCongruentIsOnly, QuotientIsOnly, ResidueIsOnly};
 ghost use Rattle.modular.specs.declared.common_solutions.CommonSolution.TheVariants.{At};
 
 use modular::{
     CommonSolution, inverse_modulo, next_common_solution, next_congruent, previous_congruent,
     quotient_modulo, residue, solutions,
 };
-
-/// A property of whole numbers. No clause can speak of every property, but one can of each `P: Property`.
-trait Property {
-    ghost holds: { ℤ → Type 0 };
-}
-
-/// The laws of numbers modulo another, each proved by its lemma.
-fn laws<P: Property>()
-    ensures residue_is_only { ResidueIsOnly }
-    ensures inverse_is_only { InverseIsOnly }
-    ensures quotient_is_only { QuotientIsOnly }
-    ensures residue_class_is_only { (first step : ℤ) → IsResidueClass P.holds first step
-        → IsOnly (λ (f, s). IsResidueClass P.holds f s) (first, step) }
-    ensures next_congruent_is_only { NextCongruentIsOnly }
-    ensures previous_congruent_is_only { PreviousCongruentIsOnly }
-    ensures count_of_congruent_is_only { CountOfCongruentIsOnly }
-    ensures next_common_solution_is_only { NextCommonSolutionIsOnly }
-{}
 
 /// The residue of a residue is the residue.
 fn residue_again(a: i64, m: i64) -> bool

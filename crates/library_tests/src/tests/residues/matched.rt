@@ -112,6 +112,16 @@ fn times_between(from: i64, to: i64, first: i64, period: i64) -> Option<i64>
     count_congruent(from, to, first, period)
 }
 
+/// How many more times of one schedule come in a range than of another.
+fn more_times(from: i64, to: i64, first: (i64, i64), second: (i64, i64)) -> Option<i64>
+    requires first { pos 0 <ℤ first.1 }
+    requires second { pos 0 <ℤ second.1 }
+{
+    let (a, m) = first;
+    let (b, n) = second;
+    Some(count_congruent(from, to, a, m)? - count_congruent(from, to, b, n)?)
+}
+
 /// The next number that solves each of signed congruences, where there is one in the type.
 fn next_of_each(from: i64, congruences: &[(i64, i64)]) -> Option<i64>
     requires in_range { All (λ c. FitsSigned w64 c.0 × FitsSigned w64 c.1) congruences.now }

@@ -1,19 +1,25 @@
 use Rattle.std.proofs.lemmas.Bool.{iff_false}
 use Rattle.modular.proofs.Congruences.{found_or_beyond}
-use Rattle.modular.proofs.Counts.{counted_by_turns, one_more_too_great}
+use Rattle.modular.proofs.Counts.{count_from_zero, counted_by_turns, one_more_too_great}
 use Rattle.modular.proofs.residue_classes.count_congruent.Goals as goal
 
-pub returns-in_err-before : goal.returns-in_err-before
-returns-in_err-before g c =
+pub returns-in_err-before-clause-count : goal.returns-in_err-before-clause-count
+returns-in_err-before-clause-count g c =
     let counted = counted_by_turns c.requires.positive c.residue-start.ensures.residue (iff_false c.is_below.ensures c.if-is_below.false) c.first_turn.ensures.first c.first_turn-2.ensures.first in
     rw c.from_residual.ensures (_, counted.last (c.are_congruent.ensures.0 c.if-are_congruent.true), one_more_too_great g.met.T.Integer.range_law counted.from_zero c.in_err-before.ensures)
 
-pub returns-in_ok-before : goal.returns-in_ok-before
-returns-in_ok-before g c =
+pub returns-in_ok-before-clause-count : goal.returns-in_ok-before-clause-count
+returns-in_ok-before-clause-count g c =
     let counted = counted_by_turns c.requires.positive c.residue-start.ensures.residue (iff_false c.is_below.ensures c.if-is_below.false) c.first_turn.ensures.first c.first_turn-2.ensures.first in
     found_or_beyond _ _ _ _ (counted.last (c.are_congruent.ensures.0 c.if-are_congruent.true)) (rw c.in_ok-before.ensures.1.1 at c.inc.ensures)
 
-pub returns-else-are_congruent : goal.returns-else-are_congruent
-returns-else-are_congruent g c =
+pub returns-else-are_congruent-clause-count : goal.returns-else-are_congruent-clause-count
+returns-else-are_congruent-clause-count g c =
     let counted = counted_by_turns c.requires.positive c.residue-start.ensures.residue (iff_false c.is_below.ensures c.if-is_below.false) c.first_turn.ensures.first c.first_turn-2.ensures.first in
     found_or_beyond _ _ _ _ (counted.other (iff_false c.are_congruent.ensures c.if-are_congruent.false)) c.difference-before.ensures
+
+pub returns-in_ok-before-clause-from_zero : goal.returns-in_ok-before-clause-from_zero
+returns-in_ok-before-clause-from_zero g c = count_from_zero g.T.Number.fits g.T.Number.value _ _ _ _ (returns-in_ok-before-clause-count g c)
+
+pub returns-else-are_congruent-clause-from_zero : goal.returns-else-are_congruent-clause-from_zero
+returns-else-are_congruent-clause-from_zero g c = count_from_zero g.T.Number.fits g.T.Number.value _ _ _ _ (returns-else-are_congruent-clause-count g c)

@@ -32,7 +32,7 @@ returns-then-is_below g c =
 
 pub returns-then-is_below-2 : goal.returns-then-is_below-2
 returns-then-is_below-2 g c =
-    let range = none_after c.requires.positive c.div_mod_floor-full_pages.ensures.floored (c.if-is_below-2.ensures.0 refl) in
+    let range = none_after c.requires.positive c.requires.from_zero c.div_mod_floor-full_pages.ensures.floored (c.if-is_below-2.ensures.0 refl) in
     record { in_range = (c.requires.in_range.2, c.requires.in_range.2); range = range; only = only_page_range range }
 
 last : (g : Over) (c : Else-is_below-2 g) → IsLastPage (g.T.Number.value c.args.page) (g.T.Number.value c.args.page_size) (g.T.Number.value c.args.items) (g.T.Number.value c.div_mod_floor-full_pages.result.1)
