@@ -212,6 +212,17 @@ fn months_later() {
     }
 }
 
+/// 29 February becomes 28 February in the years that are no leap years.
+#[test]
+fn years_later() {
+    let leap_day = date(2000, 2, 29);
+    for years in -401..=401 {
+        let year = 2000 + years;
+        let expected = date(year, 2, month_length(year, 2));
+        assert_eq!(leap_day.plus_months(12 * years), Some(expected), "{year}");
+    }
+}
+
 /// The most months that lead no further.
 #[test]
 fn whole_months() {

@@ -1,6 +1,6 @@
 //! Products and powers modulo numbers of 64 and of 128 bits, against sums alone.
 
-use cellarcove::modular::{power_modulo, product_modulo};
+use cellarcove::modular::{counted::power_modulo_counted, power_modulo, product_modulo};
 
 /// The largest prime of 128 bits.
 const PRIME: u128 = 340282366920938463463374607431768211297;
@@ -115,21 +115,23 @@ fn powers_of_128_bits() {
     }
 }
 
-/// Powers at each type, modulo odd and even numbers at its upper end.
+/// Powers at each type and their iterations, modulo odd and even numbers at its upper end.
 macro_rules! powers {
     ($($name:ident $number:ident)*) => {$(
         #[test]
         fn $name() {
             let (low, high) = ($number::MIN, $number::MAX);
-            for m in [1, high, high - 1, high / 2 + 1, 6, high - 7] {
-                for x in [low, 0, 2, high / 3, high - 1, high] {
-                    for exponent in EXPONENTS {
-                        let wide = m as u128;
-                        let below = (x % m) as i128;
-                        let rest = if below < 0 { wide - below.unsigned_abs() } else { (x % m) as u128 };
-                        let expected = power(rest, exponent, wide);
-                        assert_eq!(power_modulo(x, exponent, m) as u128, expected, "{x} {exponent} {m}");
-                    }
+            let moduli = [1, high, high - 1, high / 2 + 1, 6, high - 7];
+            let numbers = [low, 0, 2, high / 3, high - 1, high];
+            for (m, x) in moduli.into_iter().flat_map(|m| numbers.map(|x| (m, x))) {
+                let rest = x % m;
+                let rest = if rest < 0 as $number { rest + m } else { rest };
+                for exponent in EXPONENTS {
+                    let expected = power(rest as u128, exponent, m as u128) as $number;
+                    let iterations = exponent.checked_ilog2().unwrap_or(0);
+                    let found = power_modulo_counted(x, exponent, m);
+                    assert_eq!(found, (expected, iterations), "{x} {exponent} {m}");
+                    assert_eq!(power_modulo(x, exponent, m), expected, "{x} {exponent} {m}");
                 }
             }
         }
@@ -138,3 +140,4 @@ macro_rules! powers {
 
 powers! { powers_of_i8 i8 powers_of_i16 i16 powers_of_i32 i32 powers_of_i64 i64 powers_of_isize isize }
 powers! { powers_of_u8 u8 powers_of_u16 u16 powers_of_u32 u32 powers_of_u64 u64 powers_of_usize usize }
+powers! { powers_of_i128 i128 powers_of_u128 u128 }
