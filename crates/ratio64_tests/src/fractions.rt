@@ -1,4 +1,4 @@
-//! Fractions: worked values, the ends of `i64`, and each pair of fractions of small parts.
+//! Fractions: worked values, and the ends of `i64`.
 
 mod callers;
 mod errors;
@@ -9,7 +9,6 @@ mod operations;
 mod parsing;
 mod recipes;
 mod rounded;
-mod small_parts;
 mod times;
 
 use crate::assertions::holds_at;

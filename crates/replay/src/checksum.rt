@@ -15,4 +15,8 @@ impl Checksum {
             .with_word((magnitude >> 64) as u64)
             .with_word(u64::from(negative))
     }
+
+    pub(crate) fn with_number(self, n: i64) -> Checksum {
+        self.with((n < 0, u128::from(n.unsigned_abs())))
+    }
 }

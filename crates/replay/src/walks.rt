@@ -25,12 +25,12 @@ const TAKEN: u32 = u32::MAX;
 pub(crate) struct Answered(pub(crate) u32, pub(crate) Checksum);
 
 impl Answered {
-    fn none() -> Answered {
+    pub(crate) fn none() -> Answered {
         Answered(0, Checksum(0))
     }
 
     /// One more, where the checksum with it is given.
-    fn and(self, sum: Option<Checksum>) -> Answered {
+    pub(crate) fn and(self, sum: Option<Checksum>) -> Answered {
         match sum {
             Some(sum) if self.0 < TAKEN => Answered(self.0 + 1, sum),
             _ => self,
@@ -39,7 +39,7 @@ impl Answered {
 }
 
 /// The bits and the ends of a type.
-fn shape_of<T: Fits>() -> Shape {
+pub(crate) fn shape_of<T: Fits>() -> Shape {
     let (low, high) = T::ends();
     Shape::between(low, high)
 }
@@ -56,7 +56,11 @@ fn numbers(rt: &impl Abort, alloc: Global, shape: Shape, count: u32) -> Vec<Sign
 }
 
 /// Those of the numbers that the type has.
-fn values<T: Tested>(rt: &impl Abort, alloc: Global, numbers: &[SignedMagnitude]) -> Vec<T>
+pub(crate) fn values<T: Tested>(
+    rt: &impl Abort,
+    alloc: Global,
+    numbers: &[SignedMagnitude],
+) -> Vec<T>
     ensures { All (λ x. T.fits (T.value x)) result.items }
 {
     let mut values = Vec::new(alloc);

@@ -3,7 +3,7 @@
 use super::{MAX, MIN, Parts, date, parts};
 use crate::assertions::holds_at;
 use calendar::Weekday::{Friday, Monday, Sunday, Thursday};
-use calendar::{Date, Weekday, last_weekday_of_month, nth_weekday_of_month};
+use calendar::{Weekday, last_weekday_of_month, nth_weekday_of_month};
 
 /// A date, a number of months, and the date this number of months later, or `None` where its year does not fit.
 const LATER: [(Parts, i64, Option<Parts>); 20] = [
@@ -34,22 +34,6 @@ fn months_later(rt: HostRuntime) {
     for &(from, months, to) in &LATER {
         let found = parts(date(&rt, from).plus_months(months));
         holds_at(&rt, found == to, &("plus_months", from, months));
-    }
-}
-
-/// Years of twelve months: 29 February becomes 28 February in years that are no leap years.
-#[test]
-fn whole_years(rt: HostRuntime) {
-    let leap_day = date(&rt, (2000, 2, 29));
-    for years in -401..402_i16 {
-        let years = i64::from(years);
-        let year = 2000 + years;
-        let expected = Date::new(year, 2, 29).or(Date::new(year, 2, 28));
-        holds_at(
-            &rt,
-            leap_day.plus_months(12 * years) == expected,
-            &("plus_months", year),
-        );
     }
 }
 
@@ -116,24 +100,5 @@ fn places_of_weekdays(rt: HostRuntime) {
         let found = parts(last_weekday_of_month(year, month, weekday));
         let row = ("last_weekday_of_month", year, month, weekday);
         holds_at(&rt, found == in_month(year, month, day), &row);
-    }
-}
-
-/// Each month of 400 years: the last is the fifth, or the fourth where there is no fifth.
-#[test]
-fn last_by_places(rt: HostRuntime) {
-    for years in 0..400_i16 {
-        let year = 1800 + i64::from(years);
-        for month in 1..=12_u8 {
-            for weekday in [Monday, Thursday, Friday, Sunday] {
-                let fifth = nth_weekday_of_month(year, month, weekday, 5);
-                let fourth = nth_weekday_of_month(year, month, weekday, 4);
-                holds_at(
-                    &rt,
-                    last_weekday_of_month(year, month, weekday) == fifth.or(fourth),
-                    &("last_weekday_of_month", year, month),
-                );
-            }
-        }
     }
 }

@@ -3,7 +3,7 @@
 
 use crate::assertions::holds_at;
 use calendar::Weekday::{Friday, Monday, Saturday, Sunday, Thursday, Tuesday, Wednesday};
-use calendar::{Weekday, first_weekday_on_or_after, last_weekday_on_or_before, weekday_of};
+use calendar::{Weekday, first_weekday_on_or_after, last_weekday_on_or_before};
 
 const FIRST: [(i64, Weekday, Option<i64>); 11] = [
     (0, Thursday, Some(0)),
@@ -62,31 +62,6 @@ fn iso_numbers(rt: HostRuntime) {
         holds_at(&rt, is_known, &("from_iso_number", number));
         if let Some(weekday) = found {
             holds_at(&rt, weekday.iso_number() == number, &("iso_number", number));
-        }
-    }
-}
-
-/// Returns `true` if the first day from the day on that has the day of the week, and the last one up to it, are
-/// less than a week away, on their sides.
-fn are_near(day: i64, weekday: Weekday) -> Option<bool> {
-    let first = first_weekday_on_or_after(day, weekday)?;
-    let last = last_weekday_on_or_before(day, weekday)?;
-    let are_on_their_sides = last <= day && day <= first;
-    let are_within_a_week = day.abs_diff(last) < 7 && first.abs_diff(day) < 7;
-    let have_weekday = weekday_of(first) == weekday && weekday_of(last) == weekday;
-    Some(are_on_their_sides && are_within_a_week && have_weekday)
-}
-
-/// Each of 1000 days around day 0 and at both ends.
-#[test]
-fn weekdays_within_a_week(rt: HostRuntime) {
-    for from in [-500, i64::MIN + 7, i64::MAX - 1007] {
-        for place in 0..1000_i16 {
-            let day = from.wrapping_add(i64::from(place));
-            for weekday in BY_NUMBER {
-                let are_near = are_near(day, weekday) == Some(true);
-                holds_at(&rt, are_near, &("weekday_on", day, weekday));
-            }
         }
     }
 }

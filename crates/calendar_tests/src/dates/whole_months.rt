@@ -1,8 +1,8 @@
-//! The whole months from a date to another: known ones, the ends of `i64`, and each pair of some dates.
+//! The whole months from a date to another: known ones, the ends of `i64`, and the ends of months.
 
 use super::{MAX, MIN, Parts, date};
 use crate::assertions::holds_at;
-use calendar::{Date, days_in_month, months_between};
+use calendar::{days_in_month, months_between};
 
 /// Two dates, and the number of whole months from the first to the second, or `None` where it does not fit.
 const BETWEEN: [(Parts, Parts, Option<i64>); 25] = [
@@ -38,38 +38,6 @@ fn months_between_dates(rt: HostRuntime) {
     for &(from, to, months) in &BETWEEN {
         let found = months_between(&date(&rt, from), &date(&rt, to));
         holds_at(&rt, found == months, &("months_between", from, to));
-    }
-}
-
-/// Returns `true` if the whole months after a date lead no further than another, and a month more leads beyond.
-fn are_whole_months(from: &Date, to: &Date) -> Option<bool> {
-    let months = months_between(from, to)?;
-    let reached = from.plus_months(months)?;
-    let next = from.plus_months(months.wrapping_add(1))?;
-    Some(reached <= *to && *to < next)
-}
-
-/// Each pair of the 1st, 15th and the four last days of the months of three years, one of them a leap
-/// year.
-#[test]
-fn each_pair_of_three_years(rt: HostRuntime) {
-    for place in 0..36_u8 {
-        for other in 0..36_u8 {
-            let (year, month) = (1999 + i64::from(place / 12), place % 12 + 1);
-            let (other_year, other_month) = (1999 + i64::from(other / 12), other % 12 + 1);
-            for day in [1, 15, 28, 29, 30, 31] {
-                let Some(from) = Date::new(year, month, day) else {
-                    continue;
-                };
-                for other_day in [1, 15, 28, 29, 30, 31] {
-                    let Some(to) = Date::new(other_year, other_month, other_day) else {
-                        continue;
-                    };
-                    let are_whole = are_whole_months(&from, &to) == Some(true);
-                    holds_at(&rt, are_whole, &("months_between", from, to));
-                }
-            }
-        }
     }
 }
 

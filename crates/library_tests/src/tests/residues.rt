@@ -1,17 +1,13 @@
 //! Residues: worked values at native types, the ends of each of them, and a type that the library does not
 //! know.
 
-mod all_bytes;
 mod callers;
 mod cents;
 mod ciphers;
 mod congruences;
-mod congruent_bytes;
-mod long_products;
 mod matched;
 mod own_numbers;
 mod residue_ends;
-mod residue_powers;
 
 use super::answers::Call::{
     Difference, Inverse, Negation, Power, PreviousCongruent, Product, Quotient, Residue, Solutions,

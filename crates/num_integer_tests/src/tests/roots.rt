@@ -1,5 +1,4 @@
-//! Roots: worked values, the tests of the Rust crate, each number of `u8` and of `u16`, and the numbers
-//! beside powers.
+//! Roots: worked values, and the tests of the Rust crate.
 
 ghost use Rattle.std.specs.Prelude.{◌≤◌};
 
@@ -185,65 +184,5 @@ fn bit_size(rt: HostRuntime) {
     }
     for (it, bits) in UNSIGNED_BITS {
         has_bits(&rt, rt.alloc(), it, bits);
-    }
-}
-
-/// The root of degree `n` of each number of a type from 0 up: it is the same from one power to before
-/// the next.
-fn check_each_root(rt: &impl Abort, alloc: Global, it: Type, n: u32) {
-    let end = greatest(rt, alloc, it).saturating_add(1);
-    let mut power = 0i128;
-    for root in 0..end {
-        let next = root.saturating_add(1).checked_pow(n).unwrap_or(end);
-        for x in power..next.min(end) {
-            check_number(rt, alloc, (it, x, n, root));
-        }
-        if next >= end {
-            return;
-        }
-        power = next;
-    }
-}
-
-#[test]
-fn roots_of_each_number(rt: HostRuntime) {
-    for it in [U8, U16] {
-        for n in [1, 2, 3, 4, 7, 8, 16] {
-            check_each_root(&rt, rt.alloc(), it, n);
-        }
-    }
-}
-
-/// The roots of degree `n` of the power of `base` and of the numbers beside it, of those that `u64`
-/// has.
-fn check_roots_beside_power(rt: &impl Abort, alloc: Global, base: i128, n: u32) {
-    let Some(power) = base.checked_pow(n) else {
-        return;
-    };
-    let (below, above) = (power.saturating_sub(1), power.saturating_add(1));
-    for (x, root) in [
-        (below, base.saturating_sub(1)),
-        (power, base),
-        (above, base),
-    ] {
-        if x <= i128::from(u64::MAX) {
-            check_number(rt, alloc, (U64, x, n, root));
-        }
-    }
-}
-
-/// The roots beside the powers of a number and of its two neighbours, of the degrees from 3 to 10.
-fn check_roots_beside_powers(rt: &impl Abort, alloc: Global, middle: i128) {
-    for base in [middle.saturating_sub(1), middle, middle.saturating_add(1)] {
-        for n in 3..=10 {
-            check_roots_beside_power(rt, alloc, base, n);
-        }
-    }
-}
-
-#[test]
-fn roots_beside_powers(rt: HostRuntime) {
-    for place in 1..32u32 {
-        check_roots_beside_powers(&rt, rt.alloc(), 1 << place);
     }
 }

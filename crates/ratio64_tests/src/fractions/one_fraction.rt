@@ -102,37 +102,3 @@ fn signs(rt: HostRuntime) {
         holds_at(&rt, x.signum() == Ratio::from(sign), &("signum", given));
     }
 }
-
-/// Returns `true` if the signs are those of the numerator, the sign times the magnitude is the fraction, and the sum
-/// with the negation is 0.
-pub(super) fn has_sign(x: &Ratio) -> Result<bool, RatioError> {
-    let num = x.num();
-    let product = x.checked_abs()?.checked_mul(&x.signum())?;
-    let sum = x.checked_neg()?.checked_add(x)?;
-    Ok(
-        signs_of(x) == (num > 0, num < 0, num == 0, x.den() == 1)
-            && (product, sum) == (*x, Ratio::zero()),
-    )
-}
-
-/// Returns `true` if this is the power of the exponent, and that of the negated exponent is its reciprocal.
-fn has_power(x: &Ratio, exponent: i32, power: Ratio) -> bool {
-    let turned = if exponent == 0 {
-        Ok(power)
-    } else {
-        power.checked_recip()
-    };
-    x.checked_pow(exponent) == Ok(power) && x.checked_pow(exponent.wrapping_neg()) == turned
-}
-
-/// Returns `true` if each power is the one before times the fraction.
-pub(super) fn has_powers(x: &Ratio) -> Result<bool, RatioError> {
-    let mut power = Ratio::one();
-    for exponent in 0..6 {
-        if !has_power(x, exponent, power) {
-            return Ok(false);
-        }
-        power = power.checked_mul(x)?;
-    }
-    Ok(true)
-}

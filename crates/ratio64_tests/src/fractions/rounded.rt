@@ -2,7 +2,6 @@
 
 use super::{MAX, MIN, Parts, ratio};
 use crate::assertions::holds_at;
-use ratio64::Ratio;
 
 /// The parts of a fraction, and what it is rounded to down and up.
 const DOWN_AND_UP: [(Parts, (i64, i64)); 10] = [
@@ -63,22 +62,4 @@ fn rounded_numbers(rt: HostRuntime) {
         holds_at(&rt, (x.trunc(), x.round()) == expected, &("trunc", given));
         holds_at(&rt, x.fract() == ratio(&rt, rest), &("fract", given));
     }
-}
-
-/// The nearest number by magnitudes: half is added, and the quotient takes the sign. The parts are small.
-fn nearest(num: i64, den: i64) -> Option<i64> {
-    let twice = num.wrapping_abs().wrapping_mul(2).wrapping_add(den);
-    let magnitude = twice.checked_div(den.wrapping_mul(2))?;
-    Some(magnitude.wrapping_mul(num.signum()))
-}
-
-/// Returns `true` if a fraction of small parts is rounded as the quotient of its parts.
-pub(super) fn is_rounded(x: &Ratio) -> bool {
-    let (num, den) = (x.num(), x.den());
-    let sum = Ratio::from(x.trunc()).checked_add(&x.fract());
-    Some(x.floor()) == num.checked_div_euclid(den)
-        && Some(x.ceil().wrapping_neg()) == num.wrapping_neg().checked_div_euclid(den)
-        && Some(x.trunc()) == num.checked_div(den)
-        && Some(x.round()) == nearest(num, den)
-        && sum == Ok(*x)
 }

@@ -150,53 +150,6 @@ fn two_further(choice: &mut [u64], n: u64) -> bool
     next_choice(choice, n) && next_choice(choice, n)
 }
 
-/// Whether the numbers are the places of the ones of the mask.
-fn are_ones(choice: &[u64], mask: u64) -> bool {
-    let mut ones: u64 = 0;
-    for number in choice {
-        if *number < 64 {
-            ones |= 1 << *number;
-        }
-    }
-    ones == mask
-}
-
-/// Goes from the choice of a rank to the next, which is that of the mask.
-fn step_to(rt: &impl Abort, rank: u64, n: u64, choice: &mut [u64], mask: u64) {
-    fill(rt, rank, n, choice);
-    holds_at(
-        rt,
-        next_choice(choice, n) && are_ones(choice, mask),
-        &(n, rank, mask),
-    );
-}
-
-/// In the order of their ranks, the masks of choices of numbers below `n` increase.
-fn follow_masks(rt: &impl Abort, n: u64, choice: &mut [u64]) {
-    let mut masks: u64 = 0;
-    for mask in 0u64..256 {
-        if mask.count_ones() as usize == choice.len() && mask < 1 << n.min(8) {
-            if masks > 0 {
-                step_to(rt, masks.wrapping_sub(1), n, choice, mask);
-            }
-            masks = masks.wrapping_add(1);
-        }
-    }
-    fill(rt, masks.wrapping_sub(1), n, choice);
-    let last = rank(choice, n);
-    holds_at(rt, !next_choice(choice, n) && rank(choice, n) == last, &n);
-}
-
-#[test]
-fn next_choices_of_few_numbers(rt: HostRuntime) {
-    let mut numbers = [0; 8];
-    for n in 0u64..8 {
-        for k in 0..n as usize + 1 {
-            follow_masks(&rt, n, &mut numbers[..k]);
-        }
-    }
-}
-
 #[tactic(auto, unfolding(num_integer::specs::Coefficient::coefficient))]
 #[test]
 fn next_choices(rt: HostRuntime) {

@@ -1,0 +1,183 @@
+//! The calls of `modular` on few numbers of a type, each with each.
+
+ghost use Rattle.std.specs.Prelude.{◌<ℤ◌, pos};
+ghost use Rattle.std.specs.List.{All};
+
+use crate::calls::{with_value, with_values};
+use crate::checksum::Checksum;
+use crate::spread::spread_of;
+use crate::walks::{Answered, values};
+use modular::{
+    CommonSolution, Modular, chinese_remainder, count_congruent, difference_modulo, inverse_modulo,
+    negation_modulo, next_common_solution, next_congruent, power_modulo, previous_congruent,
+    product_modulo, quotient_modulo, residue, solutions, sum_modulo,
+};
+use num_integer::Fits;
+use num_integer::operators::{is_below, zero};
+use std::alloc::Global;
+use std::process::Abort;
+use test_types::types::{Tested, Type};
+
+/// A call. The last two take two moduli.
+#[derive(Clone, Copy, Debug)]
+pub(crate) enum Residues {
+    Residue,
+    Negation,
+    Sum,
+    Difference,
+    Product,
+    /// The exponent is the magnitude of the second number.
+    Power,
+    Inverse,
+    Quotient,
+    Solutions,
+    NextCongruent,
+    PreviousCongruent,
+    /// The congruent numbers between the first two have the residue of the first.
+    CountCongruent,
+    ChineseRemainder,
+    /// The next one from the second number on.
+    NextCommonSolution,
+}
+
+/// A type, a call, how many inputs have a result, and the checksum over them.
+pub(crate) type Line = (Type, Residues, u32, u64);
+
+/// How many indices give the numbers of a call with one modulus.
+const FOR_ONE_MODULUS: u32 = 36;
+
+/// How many indices give the numbers of a call with two moduli.
+const FOR_TWO_MODULI: u32 = 24;
+
+/// The checksum with the result, or `None` if there is none.
+fn with_result<T: Modular + Fits>(
+    call: Residues,
+    sum: Checksum,
+    a: T,
+    b: T,
+    m: T,
+) -> Option<Checksum>
+    requires numbers_in_range { T.fits (T.value a) × T.fits (T.value b) }
+    requires m_in_range { T.fits (T.value m) }
+    requires positive { pos 0 <ℤ T.value m }
+{
+    let number = match call {
+        Residues::Residue => residue(a, m),
+        Residues::Negation => negation_modulo(a, m),
+        Residues::Sum => sum_modulo(a, b, m),
+        Residues::Difference => difference_modulo(a, b, m),
+        Residues::Product => product_modulo(a, b, m),
+        Residues::Power => power_modulo(a, b.parts().1, m),
+        Residues::Inverse => inverse_modulo(a, m)?,
+        Residues::Quotient => quotient_modulo(a, b, m)?,
+        Residues::NextCongruent => next_congruent(a, b, m)?,
+        Residues::PreviousCongruent => previous_congruent(a, b, m)?,
+        Residues::CountCongruent => count_congruent(a, b, a, m)?,
+        _ => return Some(with_values(sum, solutions(a, b, m)?)),
+    };
+    Some(with_value(sum, number))
+}
+
+/// The checksum with the result of a call with two moduli. A solution beyond the type is counted as -0, which
+/// is no number.
+fn with_result_of_two<T: Modular + Fits>(
+    call: Residues,
+    sum: Checksum,
+    first: (T, T),
+    second: (T, T),
+) -> Option<Checksum>
+    requires numbers_in_range { T.fits (T.value first.0) × T.fits (T.value second.0) }
+    requires moduli_in_range { T.fits (T.value first.1) × T.fits (T.value second.1) }
+    requires positive { pos 0 <ℤ T.value first.1 × pos 0 <ℤ T.value second.1 }
+{
+    let ((a, m), (b, n)) = (first, second);
+    match call {
+        Residues::ChineseRemainder if m.lcm_fits(&n) => {
+            Some(with_values(sum, chinese_remainder(a, m, b, n)?))
+        }
+        Residues::NextCommonSolution => match next_common_solution(b, a, m, b, n) {
+            CommonSolution::At(t) => Some(with_value(sum, t)),
+            CommonSolution::Beyond => Some(sum.with((true, 0))),
+            CommonSolution::Never => None,
+        },
+        _ => None,
+    }
+}
+
+/// What the call makes of each two of the numbers and each modulus among them.
+fn of_one_modulus<T: Modular + Tested>(rt: &impl Abort, alloc: Global, call: Residues) -> Answered {
+    let numbers = values::<T>(rt, alloc, &spread_of::<T>(rt, alloc, FOR_ONE_MODULUS));
+    let mut answered = Answered::none();
+    for a in &numbers {
+        for b in &numbers {
+            for m in &numbers {
+                if is_below(zero(), *m) {
+                    let sum = with_value(with_values(answered.1, (*a, *b)), *m);
+                    answered = answered.and(with_result(call, sum, *a, *b, *m));
+                }
+            }
+        }
+    }
+    answered
+}
+
+/// What the call makes of a number and a modulus and each of the numbers with each modulus among them.
+fn of_first<T: Modular + Tested>(
+    call: Residues,
+    so_far: Answered,
+    numbers: &[T],
+    first: (T, T),
+) -> Answered
+    requires first_in_range { T.fits (T.value first.0) × T.fits (T.value first.1) }
+    requires positive { pos 0 <ℤ T.value first.1 }
+    requires numbers_in_range { All (λ x. T.fits (T.value x)) numbers.now }
+{
+    let mut answered = so_far;
+    for b in numbers {
+        for n in numbers {
+            if is_below(zero(), *n) {
+                let sum = with_values(with_values(answered.1, first), (*b, *n));
+                answered = answered.and(with_result_of_two(call, sum, first, (*b, *n)));
+            }
+        }
+    }
+    answered
+}
+
+/// What the call makes of each two of the numbers and each two moduli among them.
+fn of_two_moduli<T: Modular + Tested>(rt: &impl Abort, alloc: Global, call: Residues) -> Answered {
+    let numbers = values::<T>(rt, alloc, &spread_of::<T>(rt, alloc, FOR_TWO_MODULI));
+    let mut answered = Answered::none();
+    for a in &numbers {
+        for m in &numbers {
+            if is_below(zero(), *m) {
+                answered = of_first(call, answered, &numbers, (*a, *m));
+            }
+        }
+    }
+    answered
+}
+
+fn answers<T: Modular + Tested>(rt: &impl Abort, alloc: Global, call: Residues) -> Answered {
+    match call {
+        Residues::ChineseRemainder | Residues::NextCommonSolution => {
+            of_two_moduli::<T>(rt, alloc, call)
+        }
+        _ => of_one_modulus::<T>(rt, alloc, call),
+    }
+}
+
+/// Computes the lines again.
+pub(crate) fn replay(rt: &impl Abort, alloc: Global, lines: &[Line]) {
+    for (it, call, count, checksum) in lines {
+        let answered = match it {
+            Type::I16 => answers::<i16>(rt, alloc, *call),
+            Type::I64 => answers::<i64>(rt, alloc, *call),
+            Type::U64 => answers::<u64>(rt, alloc, *call),
+            Type::I128 => answers::<i128>(rt, alloc, *call),
+            _ => answers::<u128>(rt, alloc, *call),
+        };
+        let expected = Answered(*count, Checksum(*checksum));
+        assert_eq!(rt; answered, expected, "{it:?} {call:?}");
+    }
+}

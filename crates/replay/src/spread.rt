@@ -1,0 +1,59 @@
+//! Few numbers of a type, spread over those at the indices of its shape.
+
+use crate::inputs::Shape;
+use crate::walks::shape_of;
+use std::alloc::Global;
+use std::process::Abort;
+use test_types::signed_magnitude::{SignedMagnitude, to_i128};
+use test_types::types::Tested;
+
+/// The indices go up by this, so that a few of them give ends, powers of two, Fibonacci numbers and random
+/// numbers.
+const STEP: u32 = 7;
+
+/// The numbers at the first indices that the step divides.
+pub(crate) fn spread(
+    rt: &impl Abort,
+    alloc: Global,
+    shape: Shape,
+    count: u32,
+) -> Vec<SignedMagnitude> {
+    let mut numbers = Vec::new(alloc);
+    for place in 0..count {
+        if let Some(n) = shape.number(place.wrapping_mul(STEP)) {
+            numbers.push(n).expect(rt, "memory is left");
+        }
+    }
+    numbers
+}
+
+/// Those of a type.
+pub(crate) fn spread_of<T: Tested>(
+    rt: &impl Abort,
+    alloc: Global,
+    count: u32,
+) -> Vec<SignedMagnitude> {
+    spread(rt, alloc, shape_of::<T>(), count)
+}
+
+/// The number, if `i64` has it.
+fn number_of(n: SignedMagnitude) -> Option<i64> {
+    i64::try_from(to_i128(n)?).ok()
+}
+
+/// The signed numbers of so many bits, of at most 64, as numbers of `i64`.
+pub(crate) fn spread_of_bits(rt: &impl Abort, alloc: Global, bits: u32, count: u32) -> Vec<i64> {
+    let low = 1u128.wrapping_shl(bits.wrapping_sub(1));
+    let shape = Shape {
+        width: bits,
+        low,
+        high: low.wrapping_sub(1),
+    };
+    let mut numbers = Vec::new(alloc);
+    for n in &spread(rt, alloc, shape, count) {
+        if let Some(number) = number_of(*n) {
+            numbers.push(number).expect(rt, "memory is left");
+        }
+    }
+    numbers
+}
