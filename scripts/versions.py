@@ -20,6 +20,7 @@ PACKAGE = re.compile(rf'^version = "{VERSION}"$', re.M)
 PLACES = (
     ('rust/Cargo.toml', PACKAGE),
     ('rust/benches/Cargo.toml', PACKAGE),
+    ('rust/c/Cargo.toml', PACKAGE),
     ('compare/Cargo.toml', PACKAGE),
     ('bindings/python/pyproject.toml', PACKAGE),
     ('bindings/python/cellarcove_build.py', re.compile(rf"^NAME, VERSION, TAG = 'cellarcove', '{VERSION}'", re.M)),
