@@ -25,7 +25,6 @@ PLACES = (
     ('bindings/python/pyproject.toml', PACKAGE),
     ('bindings/python/cellarcove_build.py', re.compile(rf"^NAME, VERSION, TAG = 'cellarcove', '{VERSION}'", re.M)),
     ('bindings/c/cellarcove.pc', re.compile(rf'^Version: {VERSION}$', re.M)),
-    ('bindings/README.md', re.compile(rf'cellarcove-{VERSION}-py3')),
 )
 OTHER = {'rust/num-integer/Cargo.toml'}         # the version of the original
 BUILT = {'target', 'out'}                       # folders of which nothing is committed
