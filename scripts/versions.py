@@ -23,6 +23,7 @@ PLACES = (
     ('rust/c/Cargo.toml', PACKAGE),
     ('compare/Cargo.toml', PACKAGE),
     ('bindings/python/pyproject.toml', PACKAGE),
+    ('bindings/python/cellarcove/__init__.py', re.compile(rf"^__version__ = '{VERSION}'$", re.M)),
     ('bindings/python/cellarcove_build.py', re.compile(rf"^NAME, VERSION, TAG = 'cellarcove', '{VERSION}'", re.M)),
     ('bindings/c/cellarcove.pc', re.compile(rf'^Version: {VERSION}$', re.M)),
 )
