@@ -2,6 +2,8 @@
 """Takes the contracts out of the exports for C, and writes a Cargo package over the crate of plain Rust.
 
     scripts/erase_exports.py [OUT]   crates/cellarcove_c/src/*.rt and rust/by_hand/exports_head.rs  ->  OUT/src/*.rs
+    scripts/erase_exports.py --self-test
+                                     plants forms that are not known in a copy; status 1 if one is not refused
 
 OUT is rust/c where none is given. Code is erased as scripts/erase.py does it. What else changes: paths lead to the crate
 `cellarcove`; a field of a struct of that crate which has an invariant is read by its reader; a slice becomes a pointer
@@ -117,9 +119,8 @@ def head_of_package(rust):
     return (BY_HAND / 'exports_head.rs').read_text() + '\n' + modules
 
 
-def write(out):
+def write(out, crates):
     """Writes the sources below a folder."""
-    crates = REPOSITORY / 'crates'
     library, page = Library(crates), rust_docs.Page(crates)
     library.read(crates / CRATE / 'src', CRATE, (), crates / CRATE / 'src' / 'lib.rt')
     bounds = rust_bounds.Bounds(library)
@@ -135,11 +136,50 @@ def write(out):
         raise Unknown('what is left is no Rust:\n' + formatted.stderr.replace(f'{out}/', ''))
 
 
+# A form that is not known, by file, what it replaces, and what the refusal says.
+PLANTED = (
+    ('a slice of a function that C does not call', 'coefficients', 'fn reason_for_counts(n: i64, k: i64)',
+     'fn reason_for_counts(n: i64, k: &[u64])', 'a slice that is no parameter of a call for C with numbers'),
+    ('a slice of no numbers', 'coefficients', 'counts: &[u64]', 'counts: &[crate::answers::U64Answer]',
+     'a slice that is no parameter of a call for C with numbers'),
+    ('an attribute', 'roots', '#[unsafe(no_mangle)]', '#[unsafe(link_section)]', 'the attribute `unsafe`'),
+    ('another layout', 'dates', '#[repr(C)]', '#[repr(packed)]', 'the attribute `repr`'),
+    ('a macro', 'roots', '    cbrt(x)\n', '    panic!("{x}")\n', 'the macro `panic!`'),
+    ('a static', 'answers', 'pub const ANSWER', 'static ANSWER', 'an item `static`'),
+)
+
+
+def self_test():
+    """The number of planted forms that are not refused."""
+    missed = 0
+    with tempfile.TemporaryDirectory() as folder:
+        crates = pathlib.Path(folder) / 'crates'
+        for crate in (*CRATES, CRATE):
+            for part in ('src', 'specs'):
+                if (REPOSITORY / 'crates' / crate / part).is_dir():
+                    shutil.copytree(REPOSITORY / 'crates' / crate / part, crates / crate / part)
+        for form, name, old, new, refusal in PLANTED:
+            path = crates / CRATE / 'src' / f'{name}.rt'
+            text, said = path.read_text(), ''
+            path.write_text(text.replace(old, new, 1))
+            try:
+                write(pathlib.Path(folder) / 'made', crates)
+            except Unknown as unknown:
+                said = str(unknown)
+            path.write_text(text)
+            found = old in text and said.startswith(f'crates/{CRATE}/src/{name}.rt:') and said.endswith(refusal)
+            missed += not found
+            print(f'{"ok  " if found else "FAIL"} erase_exports.py refuses {form}{"" if found else ": " + said}')
+    return missed
+
+
 def main():
+    if sys.argv[1:] == ['--self-test']:
+        sys.exit(1 if self_test() else 0)
     out = pathlib.Path(sys.argv[1]) if len(sys.argv) > 1 else REPOSITORY / 'rust' / 'c'
     with tempfile.TemporaryDirectory() as made:
         try:
-            write(pathlib.Path(made))
+            write(pathlib.Path(made), REPOSITORY / 'crates')
         except Unknown as form:
             sys.exit(f'erase_exports.py: {form}')
         shutil.rmtree(out / 'src', ignore_errors=True)

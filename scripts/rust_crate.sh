@@ -164,6 +164,7 @@ fi
 
 check 'the sources are made anew' is_made_anew
 check 'forms that the bounds do not fit are refused' python3 scripts/rust_bounds.py --self-test
+check 'forms that exports do not have are refused' python3 scripts/erase_exports.py --self-test
 install_packages "${originals[@]}"
 install_packages "${dependents[@]}"
 if has_packages "${originals[@]}"; then
