@@ -1,13 +1,14 @@
 #!/usr/bin/env bash
 # Builds the archive for C, compares the header and the table of ctypes with its sources, looks at its symbols, and calls it
-# from C, C++ and Python. Prints a line for each check, a line for each compiler that the machine lacks, and a count at the end.
-# With --proved it builds the archive over the libraries that `rt ci` has just proved and left, which `rt lib` proves again.
+# from C, C++ and Python. Builds the same archive by cargo, compares what both answer, and calls that one too. Prints a line
+# for each check, a line for each compiler that the machine lacks, and a count at the end. With --proved it builds the archive over the libraries that `rt ci` has just proved and left, which `rt lib` proves again.
 #
 # usage: scripts/bindings.sh [--proved]
 set -uo pipefail
 cd "$(dirname "$0")/.."
 
-archive=$PWD/crates/cellarcove_c/out/libcellarcove_c.a
+proved=$PWD/crates/cellarcove_c/out/libcellarcove_c.a
+archive=$proved # the one that is looked at
 header=$PWD/bindings/c/cellarcove.h
 caller=$PWD/bindings/c/test.c
 libraries=${1:-}
@@ -49,7 +50,7 @@ over_proved() {
     (cd crates/cellarcove_c && "$kit/bin/rattle" build --crate-name cellarcove_c src/lib.rt --crate-type staticlib \
         --extern "std=$kit/rlibs/std.rlib" -L "dependency=$kit/rlibs" "${words[@]}" --links cellarcove_c= --jobs 1 \
         --antt-project "$kit/rattle/logic/antt-project.json" --logic-built "$kit/logic_built" \
-        --toolchain "$kit/toolchain" --backend llvm -o "$archive")
+        --toolchain "$kit/toolchain" --backend llvm -o "$proved")
 }
 
 build() {
@@ -109,23 +110,69 @@ finds_by_pkg_config() {
 }
 
 makes_a_wheel() {
-    python3 -m pip wheel --quiet --disable-pip-version-check --no-build-isolation --no-deps --no-index \
+    rm -rf "$work/wheel"
+    CELLARCOVE_ARCHIVE=$archive python3 -m pip wheel --quiet --disable-pip-version-check --no-build-isolation --no-deps --no-index \
         --wheel-dir "$work/wheel" bindings/python
 }
 
 # The wheel, unpacked, runs in an empty folder.
 passes_its_tests() {
     local tests=$PWD/bindings/python/tests/test_cellarcove.py
+    rm -rf "$work/site" "$work/empty_folder"
     python3 -m zipfile -e "$work"/wheel/*.whl "$work/site" && mkdir "$work/empty_folder" &&
         (cd "$work/empty_folder" && PYTHONPATH=$work/site PYTHONDONTWRITEBYTECODE=1 python3 "$tests")
+}
+
+# checksums ARCHIVE: a line of checksums for each call.
+checksums() {
+    PYTHONDONTWRITEBYTECODE=1 bindings/checksums.py >"$work/checksums.c" &&
+        cc -std=c11 -O2 -Wall -Wextra -Wpedantic -Werror -I bindings/c "$work/checksums.c" "$1" -o "$work/checksums" &&
+        "$work/checksums"
+}
+
+# Both archives answer the same, each call on the same arguments.
+answers_as_the_proved() {
+    checksums "$proved" >"$work/proved_sums" && checksums "$archive" >"$work/sums" &&
+        [ "$(wc -l <"$work/sums")" -eq "$(bindings/header.py --calls | wc -l)" ] && diff "$work/proved_sums" "$work/sums"
+}
+
+# An archive in which one call is another one answers otherwise.
+other_call_is_found() {
+    objcopy --redefine-sym cellarcove_div_floor_i64=cellarcove_div_ceil_i64 \
+        --redefine-sym cellarcove_div_ceil_i64=cellarcove_div_floor_i64 "$archive" "$work/other.a" &&
+        checksums "$work/other.a" >"$work/other_sums" && [ "$(diff "$work/sums" "$work/other_sums" | grep -c '^<')" -eq 2 ]
+}
+
+# The package for cargo and the crate that it needs are there.
+builds_by_cargo() {
+    has cargo "cargo's archive" || return 1
+    compgen -G '/usr/share/cargo/registry/num-traits-0.2.*' >/dev/null ||
+        { echo "cargo's archive: skipped, since there is no num-traits of Debian"; return 1; }
+}
+
+# What the archive exports, needs and keeps.
+looks_at() {
+    check 'the exported symbols' exports_its_calls
+    check 'the needed symbols' needs_division_alone
+    check 'no state' has_no_state
+}
+
+python_calls() {
+    if has python3 Python && has cc Python; then
+        if python3 -m pip --version >/dev/null 2>&1; then
+            languages=$((languages + 1))
+            check 'the wheel' makes_a_wheel
+            check 'Python' passes_its_tests
+        else
+            echo 'Python: skipped, since there is no pip'
+        fi
+    fi
 }
 
 check 'the archive' build
 check 'the header and the table of ctypes' bindings/header.py
 check 'planted slips' bindings/header.py --self-test
-check 'the exported symbols' exports_its_calls
-check 'the needed symbols' needs_division_alone
-check 'no state' has_no_state
+looks_at
 c_with gcc
 c_with clang
 if has g++ 'C++'; then
@@ -138,14 +185,19 @@ fi
 if has pkg-config pkg-config && has cc pkg-config; then
     check 'pkg-config' finds_by_pkg_config
 fi
-if has python3 Python && has cc Python; then
-    if python3 -m pip --version >/dev/null 2>&1; then
-        languages=$((languages + 1))
-        check 'the wheel' makes_a_wheel
-        check 'Python' passes_its_tests
-    else
-        echo 'Python: skipped, since there is no pip'
+python_calls
+if builds_by_cargo; then
+    archive=$work/by_cargo/libcellarcove_c.a
+    echo "the same with cargo's archive:"
+    check 'the archive' bindings/build --cargo "$work/by_cargo"
+    looks_at
+    if has cc C; then
+        check "the answers of both, $(bindings/header.py --calls | wc -l) calls" answers_as_the_proved
+        check 'a call in the place of another' other_call_is_found
     fi
+    c_with gcc
+    # fewer random numbers than above, since both answer the same
+    CELLARCOVE_TURNS=10000 python_calls
 fi
 check 'a language ran' test "$languages" -gt 0
 echo "$passed passed, $failed failed"

@@ -1,14 +1,15 @@
 #!/usr/bin/env bash
-# Checks the crate of plain Rust in rust/: its sources are those that scripts/erase.py makes, it builds without a
-# warning, its tests and num-integer's own pass, a guard that is taken out is missed, and the checksums of compare/ are
-# the same. Then the package num-integer of rust/ replaces the original below packages of other authors, and their tests
-# run. Works in a temporary folder, offline, with Debian's packages of these crates, which it installs if it may, and
-# says so. Prints a line for each check, and a count at the end. With --write it writes the sources, and checks nothing.
+# Checks the crate of plain Rust in rust/ and the package of exports in rust/c: their sources are those that
+# scripts/erase.py and scripts/erase_exports.py make, they build without a warning, the tests of the crate and those of
+# num-integer pass, a guard that is taken out is missed, and the checksums of compare/ are the same. Then the package
+# num-integer of rust/ replaces the original below packages of other authors, and their tests run. Works in a temporary
+# folder, offline, with Debian's packages of these crates, which it installs if it may, and says so. Prints a line for
+# each check, and a count at the end. With --write it writes the sources, and checks nothing.
 set -uo pipefail
 cd "$(dirname "$0")/.."
 
 if [ "${1:-}" = --write ]; then
-    exec python3 scripts/erase.py
+    python3 scripts/erase.py && exec python3 scripts/erase_exports.py
 fi
 
 registry=/usr/share/cargo/registry
@@ -52,7 +53,8 @@ has() { command -v "$1" >/dev/null; }
 
 is_made_anew() {
     python3 scripts/erase.py "$work/made" && diff -r "$work/made/src" rust/src &&
-        diff "$work/made/tests/examples.rs" rust/tests/examples.rs
+        diff "$work/made/tests/examples.rs" rust/tests/examples.rs &&
+        python3 scripts/erase_exports.py "$work/made_exports" && diff -r "$work/made_exports/src" rust/c/src
 }
 
 # has_packages NAME..: the sources of these crates are in the registry.
@@ -107,6 +109,9 @@ own_type() {
 # num_integer WORD..: builds the package num-integer with the features that the words say.
 num_integer() { (cd "$work/rust/num-integer" && RUSTFLAGS=-Dwarnings cargo build --offline "$@"); }
 
+# exports COMMAND..: runs it in the package of exports for C. Each warning is an error. scripts/bindings.sh calls them.
+exports() { (cd "$work/rust/c" && RUSTFLAGS=-Dwarnings "$@"); }
+
 # The package num-integer of rust/ is the only one of that name in the tree.
 is_replaced() {
     (cd "$work/tree" && cargo tree --offline --workspace -i num-integer) >"$work/list" &&
@@ -159,6 +164,7 @@ fi
 
 check 'the sources are made anew' is_made_anew
 check 'forms that the bounds do not fit are refused' python3 scripts/rust_bounds.py --self-test
+check 'forms that exports do not have are refused' python3 scripts/erase_exports.py --self-test
 install_packages "${originals[@]}"
 install_packages "${dependents[@]}"
 if has_packages "${originals[@]}"; then
@@ -166,7 +172,7 @@ if has_packages "${originals[@]}"; then
     printf '[source.crates-io]\nreplace-with = "debian"\n[source.debian]\ndirectory = "%s"\n' "$registry" \
         >"$work/.cargo/config.toml"
     cp -r rust compare "$work"
-    rm -rf "$work"/{rust,rust/num-integer,compare}/{target,Cargo.lock}
+    rm -rf "$work"/{rust,rust/num-integer,rust/c,compare}/{target,Cargo.lock}
     check 'the crate is built' without_warnings cargo build --offline --all-targets --all-features
     check_tests 'its tests' without_warnings cargo test --offline
     check_tests 'its tests in release' without_warnings cargo test --offline --release
@@ -174,10 +180,12 @@ if has_packages "${originals[@]}"; then
     check_tests 'a type that is not Copy, of a package that depends on this crate alone' own_type
     check 'the package num-integer without features' num_integer --no-default-features
     check 'the package num-integer with all features' num_integer --all-features
+    check 'the exports for C' exports cargo build --offline --release
     check 'its documentation' without_warnings cargo doc --offline --no-deps
     check 'the words of its contracts' has_each_word
     if has cargo-clippy; then
         check 'clippy' without_warnings cargo clippy --offline --all-targets -- -D warnings
+        check 'clippy on the exports' exports cargo clippy --offline -- -D warnings
     fi
     upstream=$(compgen -G "$registry/num-integer-*" | tail -n 1)
     check "the tests of ${upstream##*/} are taken" \

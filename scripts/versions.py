@@ -20,11 +20,12 @@ PACKAGE = re.compile(rf'^version = "{VERSION}"$', re.M)
 PLACES = (
     ('rust/Cargo.toml', PACKAGE),
     ('rust/benches/Cargo.toml', PACKAGE),
+    ('rust/c/Cargo.toml', PACKAGE),
     ('compare/Cargo.toml', PACKAGE),
     ('bindings/python/pyproject.toml', PACKAGE),
+    ('bindings/python/cellarcove/__init__.py', re.compile(rf"^__version__ = '{VERSION}'$", re.M)),
     ('bindings/python/cellarcove_build.py', re.compile(rf"^NAME, VERSION, TAG = 'cellarcove', '{VERSION}'", re.M)),
     ('bindings/c/cellarcove.pc', re.compile(rf'^Version: {VERSION}$', re.M)),
-    ('bindings/README.md', re.compile(rf'cellarcove-{VERSION}-py3')),
 )
 OTHER = {'rust/num-integer/Cargo.toml'}         # the version of the original
 BUILT = {'target', 'out'}                       # folders of which nothing is committed

@@ -1,30 +1,40 @@
-"""Builds the wheel: the package and the shared object, which `cc` links from the proved archive.
+"""Builds the wheel: the package and the shared object, which `cc` links from the archive of the calls.
 
-It needs no other package, so that `pip wheel --no-build-isolation` works offline.
+It needs no other package, so that `pip install` works offline. The archive is the one that `bindings/build` makes, or the
+one that the variable CELLARCOVE_ARCHIVE names.
 """
 
 import base64
 import hashlib
+import os
 import pathlib
+import re
 import subprocess
+import sysconfig
 import tempfile
 import zipfile
 
 HERE = pathlib.Path(__file__).resolve().parent
-ARCHIVE = HERE.parent.parent / 'crates' / 'cellarcove_c' / 'out' / 'libcellarcove_c.a'
-NAME, VERSION, TAG = 'cellarcove', '0.3.0', 'py3-none-linux_x86_64'
+NAME, VERSION, TAG = 'cellarcove', '0.3.0', 'py3-none-' + re.sub('[-.]', '_', sysconfig.get_platform())
 INFO = f'{NAME}-{VERSION}.dist-info'
+
+
+def archive_of_calls():
+    """The archive of the calls."""
+    named = os.environ.get('CELLARCOVE_ARCHIVE')
+    if named:
+        return pathlib.Path(named)
+    subprocess.run([HERE.parent / 'build'], check=True)
+    return HERE.parent / 'out' / 'libcellarcove_c.a'
 
 
 def shared_object():
     """The bytes of the shared object."""
-    if not ARCHIVE.exists():
-        raise SystemExit(f'{ARCHIVE} is not there: run `rt lib` in crates/cellarcove_c first')
     with tempfile.TemporaryDirectory() as folder:
         made = pathlib.Path(folder) / 'libcellarcove.so'
         # without the second flag libgcc would come in twice
-        subprocess.run(['cc', '-shared', '-Wl,-z,defs', '-Wl,--whole-archive', ARCHIVE, '-Wl,--no-whole-archive',
-                        '-Wl,-soname,libcellarcove.so', '-o', made], check=True)
+        subprocess.run(['cc', '-shared', '-Wl,-z,defs', '-Wl,--whole-archive', archive_of_calls(),
+                        '-Wl,--no-whole-archive', '-Wl,-soname,libcellarcove.so', '-o', made], check=True)
         return made.read_bytes()
 
 

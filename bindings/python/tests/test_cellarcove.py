@@ -1,24 +1,29 @@
 """Compares the calls with those of Python on random numbers and the ends of the types."""
 
+import copy
 import datetime
 import functools
+import inspect
 import math
+import os
 import pathlib
+import pickle
 import random
 import re
+import types
 import unittest
 from fractions import Fraction
 
 import cellarcove
-from cellarcove import Refused
-from cellarcove._library import Status
+from cellarcove import DivisionByZero, NotFitting, Refused, Status
+from cellarcove._library import CALLS
 
 I64, U64 = (-(2**63), 2**63 - 1), (0, 2**64 - 1)
 ENDS = [0, 1, 2, 3, 2**32 - 1, 2**32, 2**63 - 1, 2**63, 2**64 - 1]
 SIGNED_ENDS = [-(2**63), 1 - 2**63, -(2**32), -3, -2, -1, 0, 1, 2, 3, 2**32, 2**63 - 2, 2**63 - 1]
 PAGE = pathlib.Path(__file__).resolve().parents[2] / 'README.md'
 FIRST_DAY = datetime.date(1970, 1, 1).toordinal()
-TURNS = 100_000
+TURNS = int(os.environ.get('CELLARCOVE_TURNS', 100_000))
 random.seed(64)
 
 
@@ -56,6 +61,11 @@ class Refusals(unittest.TestCase):
             call(*arguments)
         self.assertEqual(refusal.exception.status, status)
         self.assertIn(status.name, str(refusal.exception))
+        self.assertEqual(isinstance(refusal.exception, OverflowError), status == Status.NOT_FITTING)
+        return refusal.exception
+
+    def divides_by_zero(self, status, call, *arguments):
+        self.assertIsInstance(self.refuses(status, call, *arguments), ZeroDivisionError)
 
 
 class Numbers(Refusals):
@@ -76,8 +86,9 @@ class Numbers(Refusals):
             self.agree(cellarcove.prev_multiple_of, (x, y), x // y * y if y else None)
             self.assertEqual(cellarcove.is_multiple_of(x, y), x % y == 0 if y else x == 0)
             if not y:
-                self.refuses(Status.OUTSIDE, cellarcove.div_mod_floor, x, y)
-                self.refuses(Status.OUTSIDE, cellarcove.div_rem, x, y)
+                for call in (cellarcove.div_mod_floor, cellarcove.div_rem, cellarcove.div_floor, cellarcove.div_ceil,
+                             cellarcove.mod_floor, cellarcove.next_multiple_of, cellarcove.prev_multiple_of):
+                    self.divides_by_zero(Status.OUTSIDE, call, x, y)
             elif not fits(x // y, (x, y)):
                 self.refuses(Status.NOT_FITTING, cellarcove.div_mod_floor, x, y)
                 self.refuses(Status.NOT_FITTING, cellarcove.div_rem, x, y)
@@ -90,7 +101,7 @@ class Numbers(Refusals):
         for _ in range(TURNS // 4):
             a, b, d = numbers(3)
             if not d:
-                self.refuses(Status.OUTSIDE, cellarcove.product_div_mod_floor, a, b, d)
+                self.divides_by_zero(Status.OUTSIDE, cellarcove.product_div_mod_floor, a, b, d)
             elif not fits(a * b // d, (a, b, d)):
                 self.refuses(Status.NOT_FITTING, cellarcove.product_div_mod_floor, a, b, d)
             else:
@@ -105,6 +116,24 @@ class Numbers(Refusals):
                 answer = cellarcove.extended_gcd(x, y)
                 self.assertEqual(answer.gcd, math.gcd(x, y))
                 self.assertEqual(answer.x * x + answer.y * y, answer.gcd)
+
+    def test_divisors_of_many(self):
+        """As those of `math`, of any count of numbers, with a 0 anywhere."""
+        self.assertEqual((cellarcove.gcd(), cellarcove.lcm()), (0, 1))
+        for _ in range(TURNS // 10):
+            some = numbers(random.choice((1, 3, 4, 5)))
+            common = random.choice((1, 6, 2**20))
+            some = [x * common if fits(x * common, some) else x for x in some]
+            self.agree(cellarcove.gcd, some, math.gcd(*some))
+            self.agree(cellarcove.lcm, [x % 2**12 for x in some], math.lcm(*(x % 2**12 for x in some)))
+            self.agree(cellarcove.lcm, some, math.lcm(*some))
+        self.assertEqual(cellarcove.gcd(-(2**63), 0, 6), 2)
+        self.assertEqual(cellarcove.lcm(2**63, 3, 0), 0)
+        self.refuses(Status.NOT_FITTING, cellarcove.gcd, -(2**63))
+        self.refuses(Status.NOT_FITTING, cellarcove.lcm, 2**62, -3, 1)
+        self.assertEqual(cellarcove.lcm(2**62, 3, 1), 3 * 2**62)
+        with self.assertRaises(OverflowError):
+            cellarcove.lcm(0, 2**64, 1)
 
     def test_averages_and_roots(self):
         for _ in range(TURNS // 4):
@@ -150,11 +179,22 @@ class Residues(Refusals):
         for _ in range(TURNS // 4):
             a, m = numbers(2)
             if m <= 0:
-                self.refuses(Status.BAD_MODULUS, cellarcove.inverse_modulo, a, m)
+                refusal = self.refuses(Status.BAD_MODULUS, cellarcove.inverse_modulo, a, m)
+                self.assertEqual(isinstance(refusal, ZeroDivisionError), m == 0)
             elif math.gcd(a, m) == 1:
                 self.assertEqual(cellarcove.inverse_modulo(a, m), pow(a, -1, m))
             else:
                 self.refuses(Status.NO_SOLUTION, cellarcove.inverse_modulo, a, m)
+
+    def test_modulus_zero(self):
+        """A modulus of 0 divides by 0, and a negative one does not."""
+        for call in (cellarcove.sum_modulo, cellarcove.difference_modulo, cellarcove.product_modulo,
+                     cellarcove.power_modulo, cellarcove.next_congruent):
+            self.divides_by_zero(Status.BAD_MODULUS, call, 5, 4, 0)
+            self.assertNotIsInstance(self.refuses(Status.BAD_MODULUS, call, 5, 4, -7), ZeroDivisionError)
+        for moduli in ((0, 6), (4, 0), (0, 0)):
+            self.divides_by_zero(Status.BAD_MODULUS, cellarcove.chinese_remainder, 1, moduli[0], 3, moduli[1])
+            self.divides_by_zero(Status.BAD_MODULUS, cellarcove.next_common_solution, 0, 1, moduli[0], 3, moduli[1])
 
     def test_congruences(self):
         for _ in range(TURNS // 20):
@@ -203,7 +243,10 @@ class Fractions(Refusals):
             self.assertLessEqual(near.denominator, limit)
             self.assertEqual(abs(near - a), abs(wanted - a))
         self.assertEqual(cellarcove.fraction_new(6, -4), Fraction(-3, 2))
-        self.refuses(Status.ZERO_DENOMINATOR, cellarcove.fraction_div, Fraction(1), Fraction(0))
+        self.divides_by_zero(Status.ZERO_DENOMINATOR, cellarcove.fraction_div, Fraction(1), Fraction(0))
+        self.divides_by_zero(Status.ZERO_DENOMINATOR, cellarcove.fraction_new, 1, 0)
+        limit = self.refuses(Status.OUTSIDE, cellarcove.limit_denominator, Fraction(1, 3), 0)
+        self.assertNotIsInstance(limit, ZeroDivisionError)
 
 
 class Dates(Refusals):
@@ -262,6 +305,83 @@ class Ranges(unittest.TestCase):
             cellarcove.power_modulo(3, -1, 7)
         with self.assertRaises(TypeError):
             cellarcove.gcd(1.5, 4)
+
+
+    def test_parts_of_a_date(self):
+        """Of an object that is no `datetime.date`: none is cut."""
+        for year, month, day in ((2024, 257, 1), (2024, 1, 257), (2024, -255, 1), (2**64 + 2024, 1, 1)):
+            date = types.SimpleNamespace(year=year, month=month, day=day)
+            for call in (cellarcove.day_from_date, cellarcove.iso_week, lambda date: cellarcove.plus_months(date, 0),
+                         lambda date: cellarcove.months_between(date, date)):
+                with self.assertRaises(OverflowError):
+                    call(date)
+        date = types.SimpleNamespace(year=2024, month=13, day=1)
+        with self.assertRaises(Refused):
+            cellarcove.day_from_date(date)
+
+    def test_messages(self):
+        """A message says the range as a reader of Python does, and has few digits, whatever the number."""
+        beyond = {
+            'from 0 to 2**64 - 1': lambda: cellarcove.gcd(2**64, 4),
+            'from -2**63 to 2**63 - 1': lambda: cellarcove.gcd(2**63, -4),
+            'from 0 to 2**32 - 1': lambda: cellarcove.nth_root(4, 2**32),
+            'from 1 to 9999': lambda: cellarcove.easter(12000),
+        }
+        for words, call in beyond.items():
+            with self.assertRaisesRegex(OverflowError, re.escape(words) + '$'):
+                call()
+        for size in (10**39, 10**40, 10**5001, 2**100_000):
+            for number in (size, -size):
+                for call in (cellarcove.gcd, cellarcove.sqrt, cellarcove.weekday, cellarcove.easter, cellarcove.fraction_new):
+                    with self.assertRaises(OverflowError) as raised:
+                        call(number)
+                    self.assertLessEqual(len(re.findall(r'\d', str(raised.exception))), 50)
+
+
+class Errors(unittest.TestCase):
+    def each(self):
+        """An error for each status and class."""
+        yield from (Refused(status) for status in Status if status != Status.ANSWER)
+        yield from (DivisionByZero(status) for status in (Status.OUTSIDE, Status.BAD_MODULUS, Status.ZERO_DENOMINATOR))
+        yield NotFitting(Status.NOT_FITTING)
+
+    def test_classes(self):
+        self.assertTrue(issubclass(Refused, ValueError))
+        self.assertTrue(issubclass(DivisionByZero, ZeroDivisionError) and issubclass(DivisionByZero, Refused))
+        self.assertTrue(issubclass(NotFitting, OverflowError) and issubclass(NotFitting, Refused))
+        with self.assertRaises(ValueError):
+            cellarcove.div_floor(1, 0)
+
+    def test_copies(self):
+        """A copy, and what another process gets, is the same error."""
+        for error in self.each():
+            copies = [copy.copy(error), copy.deepcopy(error)]
+            copies += [pickle.loads(pickle.dumps(error, protocol)) for protocol in range(pickle.HIGHEST_PROTOCOL + 1)]
+            for other in copies:
+                self.assertIs(type(other), type(error))
+                self.assertIs(other.status, error.status)
+                self.assertEqual((str(other), repr(other)), (str(error), repr(error)))
+
+
+class Names(unittest.TestCase):
+    def test_all(self):
+        """`__all__` has each class and call that is there, and nothing of another module."""
+        public = {name for name, value in vars(cellarcove).items()
+                  if not name.startswith('_') and getattr(value, '__module__', '').split('.')[0] == 'cellarcove'}
+        self.assertEqual(set(cellarcove.__all__), public - {'load', 'DateParts', 'FractionParts'})
+        self.assertRegex(cellarcove.__version__, r'^\d+\.\d+\.\d+$')
+
+    def test_docstrings(self):
+        """Each call says what it does, and what it raises if it has a status that is not always 0."""
+        always = {'iso_week', 'day_from_date', 'months_between'}  # of dates of `datetime`
+        always |= {'fraction_cmp', 'fraction_floor', 'fraction_round'}  # of fractions that fit
+        with_status = {re.sub('_[iu]64$', '', name) for name, (result, *_) in CALLS.items()
+                       if any(field == 'status' for field, _ in getattr(result, '_fields_', ()))}
+        for name in cellarcove.__all__:
+            call = getattr(cellarcove, name)
+            self.assertTrue(call.__doc__, name)
+            if inspect.isfunction(call) and name in with_status - always:
+                self.assertIn('Raises', call.__doc__, name)
 
 
 class Page(unittest.TestCase):

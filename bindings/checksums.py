@@ -1,0 +1,151 @@
+#!/usr/bin/env python3
+"""Writes a C program that calls each export many times, and prints a line for each: how many of the calls have an answer,
+and a checksum of all that they return. Two archives whose lines are the same answer the same.
+
+    checksums.py           the program, made from the sources of the exports
+"""
+from header import SOURCES, exported, is_call
+
+CALLS = 20_000
+
+HEAD = f'''#include <inttypes.h>
+#include <stdio.h>
+
+#include "cellarcove.h"
+
+enum {{ CALLS = {CALLS}, COUNTS = 7 }};
+
+static uint64_t state, sum, answers;
+static unsigned width; /* of the numbers of a call, or 0 if each has a width of its own */
+
+/* The next number of splitmix64. */
+static uint64_t random_bits(void) {{
+    uint64_t z = state += UINT64_C(0x9e3779b97f4a7c15);
+    z = (z ^ (z >> 30)) * UINT64_C(0xbf58476d1ce4e5b9);
+    z = (z ^ (z >> 27)) * UINT64_C(0x94d049bb133111eb);
+    return z ^ (z >> 31);
+}}
+
+/* A number of any size, at times an end of a type or beside one. */
+static uint64_t any(void) {{
+    uint64_t choice = random_bits();
+    if (choice % 16 == 0) {{
+        static const uint64_t ends[] = {{0, UINT64_C(1) << 31, UINT64_C(1) << 32, UINT64_C(1) << 63}};
+        return ends[choice / 16 % 4] + choice / 64 % 5 - 2;
+    }}
+    uint64_t number = random_bits() >> (64 - (width > 0 ? width : choice / 16 % 64 + 1));
+    return choice / 1024 % 4 == 0 ? 0 - number : number;
+}}
+
+static uint8_t any_uint8_t(void) {{
+    uint64_t choice = random_bits();
+    return (uint8_t)(choice % 8 == 0 ? choice / 8 : choice / 8 % 56);
+}}
+
+static uint32_t any_uint32_t(void) {{
+    uint64_t choice = random_bits();
+    return (uint32_t)(choice % 4 == 0 ? choice / 4 : choice / 4 % 70);
+}}
+
+static uint64_t any_uint64_t(void) {{ return any(); }}
+static int64_t any_int64_t(void) {{ return (int64_t)any(); }}
+
+static cellarcove_fraction any_cellarcove_fraction(void) {{
+    cellarcove_fraction fraction;
+    fraction.num = any_int64_t();
+    fraction.den = any_int64_t();
+    return fraction;
+}}
+
+/* Parts of a date, most of which are one. */
+static cellarcove_date any_cellarcove_date(void) {{
+    cellarcove_date date;
+    date.year = any_int64_t();
+    date.month = (uint8_t)(random_bits() % 14);
+    date.day_of_month = (uint8_t)(random_bits() % 33);
+    return date;
+}}
+
+/* Up to COUNTS numbers, and how many there are. */
+static size_t fill(uint64_t *counts) {{
+    size_t count = random_bits() % (COUNTS + 1);
+    for (size_t i = 0; i < count; i++) {{
+        counts[i] = random_bits() % 16 == 0 ? any() : random_bits() % 12;
+    }}
+    return count;
+}}
+
+static void add(uint64_t part) {{
+    sum = (sum ^ part) * UINT64_C(0x9e3779b97f4a7c15);
+    sum ^= sum >> 29;
+}}
+
+static void start(uint64_t seed) {{
+    state = seed;
+    sum = answers = 0;
+}}
+
+static void start_call(void) {{
+    uint64_t choice = random_bits();
+    width = choice % 2 == 0 ? 0 : choice / 2 % 64 + 1;
+}}
+
+static void finish(const char *name) {{
+    printf("%s: %" PRIu64 " answers, checksum %016" PRIx64 "\\n", name, answers, sum);
+}}
+'''
+
+
+def fields(kind, structs):
+    """The paths of the numbers that a result of a type has, each with a dot before it; one empty path for a number."""
+    if kind not in structs:
+        return ['']
+    parts = (field.rsplit(' ', 1) for field in structs[kind])
+    return [f'.{name}{below}' for inner, name in parts for below in fields(inner, structs)]
+
+
+def arguments(parameters):
+    """The lines that draw the arguments of a call, and their names. Each has a line, for C leaves their order open."""
+    lines, names = [], []
+    for number, parameter in enumerate(parameters):
+        kind, name = parameter.rsplit(' ', 1)
+        if name.startswith('*'):
+            lines.append('uint64_t counts[COUNTS];')
+            names.append('counts')
+        elif kind == 'size_t':
+            lines.append('size_t length = fill(counts);')
+            names.append('length')
+        else:
+            lines.append(f'{kind} x{number} = any_{kind}();')
+            names.append(f'x{number}')
+    return lines, names
+
+
+def function(name, parts, structs):
+    """The function that calls an export."""
+    lines, names = arguments(parts[1:])
+    paths = fields(parts[0], structs)
+    answered = 'result.status == CELLARCOVE_ANSWER' if '.status' in paths else '1'
+    body = ['start_call();', *lines, f'{parts[0]} result = {name}({", ".join(names)});',
+            f'answers += {answered};', *(f'add((uint64_t)result{path});' for path in paths)]
+    return f'''
+static void sum_{name}(uint64_t seed) {{
+    start(seed);
+    for (int call = 0; call < CALLS; call++) {{
+{"".join(f"        {line}{chr(10)}" for line in body)}    }}
+    finish("{name}");
+}}
+'''
+
+
+def program():
+    found = exported([path.read_text() for path in sorted(SOURCES.rglob('*.rt'))])
+    structs = {name: parts for name, parts in found.items() if isinstance(parts, list) and not is_call(parts)}
+    calls = {name: parts for name, parts in found.items() if is_call(parts)}
+    runs = ''.join(f'    sum_{name}({seed});\n' for seed, name in enumerate(calls, 1))
+    return HEAD + ''.join(function(name, parts, structs) for name, parts in calls.items()) \
+        + f'\nint main(void) {{\n{runs}    return 0;\n}}\n'
+
+
+if __name__ == '__main__':
+    print(program(), end='')
