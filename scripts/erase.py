@@ -1,7 +1,7 @@
 #!/usr/bin/env python3
 """Takes the contracts out of the libraries, and writes one Cargo crate of plain Rust.
 
-    scripts/erase.py [OUT]     crates/NAME/src/*.rt and rust/by_hand/*  ->  OUT/src/*.rs, OUT/tests/examples.rs
+    scripts/erase.py [OUT]     crates/NAME/src/*.rt and rust/by_hand/*  ->  OUT/src/*.rs
 
 OUT is rust/ where none is given. Code stays token by token, with its comments. What goes: `ghost` items, members and
 fields, clauses, `final`, `#[tactic]`, `#[cfg(test)]` items, labels that nothing names, and the traits that are of
@@ -17,7 +17,6 @@ import tempfile
 
 import rust_bounds
 import rust_docs
-import rust_examples
 import rust_guards
 from rattle_source import Unknown
 from rust_library import CRATES, ROOT, Library
@@ -92,7 +91,7 @@ class Eraser:
             return self.drop_line(item.first, item.last)
         for first, last in item.attributes:
             self.attribute(first, last)
-        rust_docs.add_proved(self, item, owner)
+        rust_docs.add_sections(self, item, owner)
         for k in range(item.first, item.word):
             if self.at(k) == 'final':
                 self.drop(k, k)
@@ -274,10 +273,8 @@ def write(out):
         shutil.copy(BY_HAND / f'{name}.rs', out / 'src')
     words = rust_docs.definitions(page, (BY_HAND / 'definitions.md').read_text())
     (out / 'src' / 'definitions.rs').write_text(words)
-    (out / 'tests').mkdir()
-    (out / 'tests' / 'examples.rs').write_text(rust_examples.examples(library))
-    files = [str(out / 'src' / 'lib.rs'), str(out / 'tests' / 'examples.rs')]
-    formatted = subprocess.run(['rustfmt', '--edition', '2021', *files], capture_output=True, text=True)
+    formatted = subprocess.run(['rustfmt', '--edition', '2021', str(out / 'src' / 'lib.rs')],
+                               capture_output=True, text=True)
     if formatted.returncode or formatted.stderr:
         raise Unknown('what is left is no Rust:\n' + formatted.stderr.replace(f'{out}/', ''))
 
@@ -290,9 +287,7 @@ def main():
         except Unknown as form:
             sys.exit(f'erase.py: {form}')
         shutil.rmtree(out / 'src', ignore_errors=True)
-        (out / 'tests').mkdir(parents=True, exist_ok=True)
         shutil.copytree(pathlib.Path(made) / 'src', out / 'src')
-        shutil.copy(pathlib.Path(made) / 'tests' / 'examples.rs', out / 'tests')
 
 
 if __name__ == '__main__':

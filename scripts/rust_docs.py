@@ -1,8 +1,9 @@
 """What is proved, as the doc comments of the Rust crate say it: a section `# Proved` of each public item with clauses, and
-the module `definitions`, which has each word that such a clause cites. The section `# Panics` before it is that of
-rust_guards.py."""
+the module `definitions`, which has each word that such a clause cites. Before it stand the sections `# Examples` of
+rust_examples.py and `# Panics` of rust_guards.py."""
 import re
 
+import rust_examples
 from antt_words import Specs, cited, imported
 from rattle_source import Unknown
 from rust_library import CRATES, ROOT
@@ -86,24 +87,35 @@ def wrapped(line, links):
     return lines + [line[:-1] + '.']
 
 
-def add_proved(eraser, item, owner):
-    """Adds the sections to the doc comment of a public item."""
-    source, library = eraser.source, eraser.library
+def place_of(eraser, item, owner):
+    """The public place of an item with a comment, or None."""
     if item.kind == 'impl':
-        public = item.of_trait and library.place_of_type(eraser.module, item.name) is not None
-    else:
-        public = library.place_of(eraser.module, item, owner) is not None
-    if not public or item.kind not in ('fn', 'struct', 'trait', 'impl'):
+        return eraser.library.place_of_type(eraser.module, item.name) if item.of_trait else None
+    return eraser.library.place_of(eraser.module, item, owner)
+
+
+def add_sections(eraser, item, owner):
+    """Adds the sections to the doc comment of a public item."""
+    source, place = eraser.source, place_of(eraser, item, owner)
+    if place is None:
         return
-    lines = eraser.guards.section(item, owner) + section(eraser, item, owner)
-    if lines:
-        docs = source.docs(item)
-        text = '\n'.join(f'/// {line}'.rstrip() for line in (lines if docs else lines[1:]))
-        if docs:
-            eraser.texts[docs[-1]] += '\n' + text
-        else:
-            first = source.code[item.first]
-            eraser.texts[first] = text + '\n' + eraser.texts[first]
+    docs = source.docs(item)
+    prose = [source.tokens[i].text[3:].removeprefix(' ') for i in docs]
+    remarks, panics = eraser.guards.sections(item, owner)
+    sections = remarks + rust_examples.section(eraser, item, place) + panics
+    if item.kind in ('fn', 'struct', 'trait', 'impl'):
+        sections += section(eraser, item, owner)
+    if not sections:
+        return
+    lines = rust_examples.without_examples(prose) if docs else []
+    lines = [linked(eraser, f'/// {line}'.rstrip()) for line in lines]
+    lines += [f'/// {line}'.rstrip() for line in (sections if docs else sections[1:])]
+    for i in docs[1:]:
+        eraser.texts[i] = ''
+        if source.tokens[i - 1].kind == 'space':
+            eraser.texts[i - 1] = ''
+    first = docs[0] if docs else source.code[item.first]
+    eraser.texts[first] = '\n'.join(lines) + ('' if docs else '\n' + eraser.texts[first])
 
 
 def linked(eraser, comment):

@@ -41,10 +41,18 @@ pub(crate) fn nearer_end<T: Integer + Copy>(n: T, k: T) -> T {
     }
 }
 
-/// Returns [`binomial`] and the number of turns of its loop. `binomial_counted(9, 4)` is `(126, 4)`,
-/// and `binomial_counted(200, 199)` is `(200, 1)`.
+/// Returns [`binomial`] and the number of turns of its loop.
 ///
 /// May be called where [`binomial`] may.
+///
+/// # Examples
+///
+/// ```
+/// use cellarcove::counted::binomial_counted;
+///
+/// assert_eq!(binomial_counted(9, 4), (126, 4));
+/// assert_eq!(binomial_counted(200, 199), (200, 1));
+/// ```
 ///
 /// # Panics
 ///
@@ -85,7 +93,6 @@ pub fn binomial_counted<T: Integer + Copy>(n: T, k: T) -> (T, u32) {
 }
 
 /// Returns the binomial coefficient of `n` and `k`, the number of ways to choose `k` of `n` things.
-/// `binomial(9, 4)` is `126`, and `binomial(2, 3)` is `0`.
 ///
 /// May be called where `Fits::binomial_fits` is true.
 ///
@@ -94,6 +101,15 @@ pub fn binomial_counted<T: Integer + Copy>(n: T, k: T) -> (T, u32) {
 /// | `u8` | `i8` | `u16` | `i16` | `u32` | `i32` | `u64` | `i64` |
 /// |---|---|---|---|---|---|---|---|
 /// | 10 | 9 | 18 | 17 | 34 | 33 | 67 | 66 |
+///
+/// # Examples
+///
+/// ```
+/// use cellarcove::binomial;
+///
+/// assert_eq!(binomial(9, 4), 126);
+/// assert_eq!(binomial(2, 3), 0);
+/// ```
 ///
 /// # Panics
 ///
@@ -118,9 +134,17 @@ pub fn binomial<T: Integer + Copy>(n: T, k: T) -> T {
 }
 
 /// Returns the number of ways to share out the sum of the counts `k` into parts of these sizes.
-/// `multinomial(&[2, 1, 2])` is `30`, and `multinomial::<u8>(&[])` is `1`.
 ///
 /// May be called where `Fits::multinomial_fits` is true.
+///
+/// # Examples
+///
+/// ```
+/// use cellarcove::multinomial;
+///
+/// assert_eq!(multinomial(&[2, 1, 2]), 30);
+/// assert_eq!(multinomial::<u8>(&[]), 1);
+/// ```
 ///
 /// # Panics
 ///

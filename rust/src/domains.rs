@@ -9,7 +9,15 @@ use num_traits::ToPrimitive;
 /// Tests whether the arguments of a call lie in its domain. Your own type implements `parts` and
 /// `ends`.
 pub trait Fits: Integer + Copy {
-    /// Returns whether the number is negative, and its magnitude. `(-5).parts()` is `(true, 5)`.
+    /// Returns whether the number is negative, and its magnitude.
+    ///
+    /// # Examples
+    ///
+    /// ```
+    /// use cellarcove::Fits;
+    ///
+    /// assert_eq!((-5).parts(), (true, 5));
+    /// ```
     ///
     /// # Proved
     ///
@@ -21,8 +29,15 @@ pub trait Fits: Integer + Copy {
     /// Words: [how to read it](crate::definitions).
     fn parts(&self) -> (bool, u128);
 
-    /// Returns the magnitude of the least number of the type, and its greatest number. `i8::ends()` is
-    /// `(128, 127)`.
+    /// Returns the magnitude of the least number of the type, and its greatest number.
+    ///
+    /// # Examples
+    ///
+    /// ```
+    /// use cellarcove::Fits;
+    ///
+    /// assert_eq!(i8::ends(), (128, 127));
+    /// ```
     ///
     /// # Proved
     ///
@@ -36,7 +51,15 @@ pub trait Fits: Integer + Copy {
 
     /// Returns `true` if `div_rem`, `div_floor`, `div_mod_floor` and `div_ceil` may be called: not for
     /// a divisor 0, and not for the least number by -1 where its negation does not fit.
-    /// `i8::MIN.quotient_fits(&2)` is `true`, and `i8::MIN.quotient_fits(&-1)` is `false`.
+    ///
+    /// # Examples
+    ///
+    /// ```
+    /// use cellarcove::Fits;
+    ///
+    /// assert!(i8::MIN.quotient_fits(&2));
+    /// assert!(!i8::MIN.quotient_fits(&-1));
+    /// ```
     ///
     /// # Proved
     ///
@@ -61,8 +84,16 @@ pub trait Fits: Integer + Copy {
     }
 
     /// Returns `true` if `next_multiple_of` may be called: not for a divisor 0, and not where the
-    /// multiple is outside the type. `250u8.next_multiple_fits(&5)` is `true`, and
-    /// `251u8.next_multiple_fits(&8)` is `false`.
+    /// multiple is outside the type.
+    ///
+    /// # Examples
+    ///
+    /// ```
+    /// use cellarcove::Fits;
+    ///
+    /// assert!(250u8.next_multiple_fits(&5));
+    /// assert!(!251u8.next_multiple_fits(&8));
+    /// ```
     ///
     /// # Proved
     ///
@@ -90,8 +121,16 @@ pub trait Fits: Integer + Copy {
     }
 
     /// Returns `true` if `prev_multiple_of` may be called: not for a divisor 0, and not where the
-    /// multiple is outside the type. `(-120i8).prev_multiple_fits(&8)` is `true`, and
-    /// `(-125i8).prev_multiple_fits(&10)` is `false`.
+    /// multiple is outside the type.
+    ///
+    /// # Examples
+    ///
+    /// ```
+    /// use cellarcove::Fits;
+    ///
+    /// assert!((-120i8).prev_multiple_fits(&8));
+    /// assert!(!(-125i8).prev_multiple_fits(&10));
+    /// ```
     ///
     /// # Proved
     ///
@@ -112,7 +151,16 @@ pub trait Fits: Integer + Copy {
     }
 
     /// Returns `true` if `gcd` may be called: not for the least number, whose negation does not fit,
-    /// with itself or with 0. `i8::MIN.gcd_fits(&64)` is `true`, and `i8::MIN.gcd_fits(&0)` is `false`.
+    /// with itself or with 0.
+    ///
+    /// # Examples
+    ///
+    /// ```
+    /// use cellarcove::Fits;
+    ///
+    /// assert!(i8::MIN.gcd_fits(&64));
+    /// assert!(!i8::MIN.gcd_fits(&0));
+    /// ```
     ///
     /// # Proved
     ///
@@ -137,7 +185,16 @@ pub trait Fits: Integer + Copy {
     }
 
     /// Returns `true` if `lcm` may be called: where an operand is 0, or where the multiple is in the
-    /// type. `15u8.lcm_fits(&17)` is `true`, and `16u8.lcm_fits(&17)` is `false`.
+    /// type.
+    ///
+    /// # Examples
+    ///
+    /// ```
+    /// use cellarcove::Fits;
+    ///
+    /// assert!(15u8.lcm_fits(&17));
+    /// assert!(!16u8.lcm_fits(&17));
+    /// ```
     ///
     /// # Proved
     ///
@@ -164,8 +221,16 @@ pub trait Fits: Integer + Copy {
     }
 
     /// Returns `true` if `binomial(self, k)` may be called: neither number is negative, and the
-    /// coefficient fits. `11u8.binomial_fits(&3)` is `true`, and `11u8.binomial_fits(&4)` is `false`.
-    /// The loop stops at the first coefficient that does not fit.
+    /// coefficient fits. The loop stops at the first coefficient that does not fit.
+    ///
+    /// # Examples
+    ///
+    /// ```
+    /// use cellarcove::Fits;
+    ///
+    /// assert!(11u8.binomial_fits(&3));
+    /// assert!(!11u8.binomial_fits(&4));
+    /// ```
     ///
     /// # Proved
     ///
@@ -186,8 +251,16 @@ pub trait Fits: Integer + Copy {
     }
 
     /// Returns `true` if `multinomial(counts)` may be called: no count is negative, and the multinomial
-    /// fits. `u8::multinomial_fits(&[254, 1])` is `true`, and `u8::multinomial_fits(&[255, 1])` is
-    /// `false`. The loops stop at the first multinomial that does not fit.
+    /// fits. The loops stop at the first multinomial that does not fit.
+    ///
+    /// # Examples
+    ///
+    /// ```
+    /// use cellarcove::Fits;
+    ///
+    /// assert!(u8::multinomial_fits(&[254, 1]));
+    /// assert!(!u8::multinomial_fits(&[255, 1]));
+    /// ```
     ///
     /// # Proved
     ///

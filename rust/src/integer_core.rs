@@ -26,10 +26,17 @@ use operators::{difference, predecessor, successor, sum};
 ///
 /// Words: [`IsRange`](crate::definitions::integer_core#isrange), [how to read it](crate::definitions).
 pub trait Integer: Sized + Num + PartialOrd + Ord + Eq {
-    /// Returns the quotient rounded toward zero, and its remainder. `(-8).div_rem(&3)` is
-    /// `(-2, -2)`.
+    /// Returns the quotient rounded toward zero, and its remainder.
     ///
     /// May be called where `Fits::quotient_fits` is true.
+    ///
+    /// # Examples
+    ///
+    /// ```
+    /// use cellarcove::Integer;
+    ///
+    /// assert_eq!((-8).div_rem(&3), (-2, -2));
+    /// ```
     ///
     /// # Panics
     ///
@@ -51,9 +58,17 @@ pub trait Integer: Sized + Num + PartialOrd + Ord + Eq {
     #[track_caller]
     fn div_rem(&self, other: &Self) -> (Self, Self);
 
-    /// Returns the quotient rounded down. `(-8).div_floor(&3)` is `-3`.
+    /// Returns the quotient rounded down.
     ///
     /// May be called where `Fits::quotient_fits` is true.
+    ///
+    /// # Examples
+    ///
+    /// ```
+    /// use cellarcove::Integer;
+    ///
+    /// assert_eq!((-8).div_floor(&3), -3);
+    /// ```
     ///
     /// # Panics
     ///
@@ -76,9 +91,16 @@ pub trait Integer: Sized + Num + PartialOrd + Ord + Eq {
     fn div_floor(&self, other: &Self) -> Self;
 
     /// Returns the remainder of the quotient rounded down, which is 0 or has the sign of `other`.
-    /// `(-8).mod_floor(&3)` is `1`.
     ///
     /// May be called where `other` is not 0.
+    ///
+    /// # Examples
+    ///
+    /// ```
+    /// use cellarcove::Integer;
+    ///
+    /// assert_eq!((-8).mod_floor(&3), 1);
+    /// ```
     ///
     /// # Panics
     ///
@@ -97,9 +119,17 @@ pub trait Integer: Sized + Num + PartialOrd + Ord + Eq {
     #[track_caller]
     fn mod_floor(&self, other: &Self) -> Self;
 
-    /// Returns the quotient rounded down, and its remainder. `(-8).div_mod_floor(&3)` is `(-3, 1)`.
+    /// Returns the quotient rounded down, and its remainder.
     ///
     /// May be called where `Fits::quotient_fits` is true.
+    ///
+    /// # Examples
+    ///
+    /// ```
+    /// use cellarcove::Integer;
+    ///
+    /// assert_eq!((-8).div_mod_floor(&3), (-3, 1));
+    /// ```
     ///
     /// # Panics
     ///
@@ -123,9 +153,17 @@ pub trait Integer: Sized + Num + PartialOrd + Ord + Eq {
         (self.div_floor(other), self.mod_floor(other))
     }
 
-    /// Returns the quotient rounded up. `8.div_ceil(&3)` is `3`.
+    /// Returns the quotient rounded up.
     ///
     /// May be called where `Fits::quotient_fits` is true.
+    ///
+    /// # Examples
+    ///
+    /// ```
+    /// use cellarcove::Integer;
+    ///
+    /// assert_eq!(8.div_ceil(&3), 3);
+    /// ```
     ///
     /// # Panics
     ///
@@ -154,10 +192,18 @@ pub trait Integer: Sized + Num + PartialOrd + Ord + Eq {
         }
     }
 
-    /// Returns the quotient rounded up, times `other`. `23.next_multiple_of(&8)` is `24`, and
-    /// `23.next_multiple_of(&-8)` is `16`.
+    /// Returns the quotient rounded up, times `other`.
     ///
     /// May be called where `Fits::next_multiple_fits` is true.
+    ///
+    /// # Examples
+    ///
+    /// ```
+    /// use cellarcove::Integer;
+    ///
+    /// assert_eq!(23.next_multiple_of(&8), 24);
+    /// assert_eq!(23.next_multiple_of(&-8), 16);
+    /// ```
     ///
     /// # Panics
     ///
@@ -189,10 +235,18 @@ pub trait Integer: Sized + Num + PartialOrd + Ord + Eq {
         }
     }
 
-    /// Returns the quotient rounded down, times `other`. `23.prev_multiple_of(&8)` is `16`, and
-    /// `23.prev_multiple_of(&-8)` is `24`.
+    /// Returns the quotient rounded down, times `other`.
     ///
     /// May be called where `Fits::prev_multiple_fits` is true.
+    ///
+    /// # Examples
+    ///
+    /// ```
+    /// use cellarcove::Integer;
+    ///
+    /// assert_eq!(23.prev_multiple_of(&8), 16);
+    /// assert_eq!(23.prev_multiple_of(&-8), 24);
+    /// ```
     ///
     /// # Panics
     ///
@@ -219,8 +273,15 @@ pub trait Integer: Sized + Num + PartialOrd + Ord + Eq {
         difference(self.clone(), self.mod_floor(other))
     }
 
-    /// Returns `true` if `other` divides `self`. `9.is_multiple_of(&3)` is `true`. Zero divides only
-    /// zero.
+    /// Returns `true` if `other` divides `self`. Zero divides only zero.
+    ///
+    /// # Examples
+    ///
+    /// ```
+    /// use cellarcove::Integer;
+    ///
+    /// assert!(9.is_multiple_of(&3));
+    /// ```
     ///
     /// # Proved
     ///
@@ -231,8 +292,15 @@ pub trait Integer: Sized + Num + PartialOrd + Ord + Eq {
     /// Words: [`Divides`](crate::definitions::integer_core#divides), [how to read it](crate::definitions).
     fn is_multiple_of(&self, other: &Self) -> bool;
 
-    /// Deprecated: use [`Integer::is_multiple_of`], which returns the same. `9.divides(&3)` is
-    /// `true`.
+    /// Deprecated: use [`Integer::is_multiple_of`], which returns the same.
+    ///
+    /// # Examples
+    ///
+    /// ```
+    /// use cellarcove::Integer;
+    ///
+    /// assert!(9.divides(&3));
+    /// ```
     ///
     /// # Proved
     ///
@@ -245,7 +313,15 @@ pub trait Integer: Sized + Num + PartialOrd + Ord + Eq {
         self.is_multiple_of(other)
     }
 
-    /// Returns `true` if the number is even. `4.is_even()` is `true`.
+    /// Returns `true` if the number is even.
+    ///
+    /// # Examples
+    ///
+    /// ```
+    /// use cellarcove::Integer;
+    ///
+    /// assert!(4.is_even());
+    /// ```
     ///
     /// # Proved
     ///
@@ -256,7 +332,15 @@ pub trait Integer: Sized + Num + PartialOrd + Ord + Eq {
     /// Words: [`IsEven`](crate::definitions::integer_core#iseven), [how to read it](crate::definitions).
     fn is_even(&self) -> bool;
 
-    /// Returns `true` if the number is odd. `3.is_odd()` is `true`.
+    /// Returns `true` if the number is odd.
+    ///
+    /// # Examples
+    ///
+    /// ```
+    /// use cellarcove::Integer;
+    ///
+    /// assert!(3.is_odd());
+    /// ```
     ///
     /// # Proved
     ///
@@ -315,10 +399,18 @@ pub trait Integer: Sized + Num + PartialOrd + Ord + Eq {
         *self = predecessor(self.clone());
     }
 
-    /// Returns the greatest common divisor, which is never negative. `56.gcd(&42)` is `14`, and
-    /// `0.gcd(&0)` is `0`.
+    /// Returns the greatest common divisor, which is never negative.
     ///
     /// May be called where `Fits::gcd_fits` is true.
+    ///
+    /// # Examples
+    ///
+    /// ```
+    /// use cellarcove::Integer;
+    ///
+    /// assert_eq!(56.gcd(&42), 14);
+    /// assert_eq!(0.gcd(&0), 0);
+    /// ```
     ///
     /// # Panics
     ///
@@ -338,10 +430,18 @@ pub trait Integer: Sized + Num + PartialOrd + Ord + Eq {
     #[track_caller]
     fn gcd(&self, other: &Self) -> Self;
 
-    /// Returns the least common multiple, which is never negative. `7.lcm(&3)` is `21`, and
-    /// `7.lcm(&0)` is `0`.
+    /// Returns the least common multiple, which is never negative.
     ///
     /// May be called where `Fits::lcm_fits` is true.
+    ///
+    /// # Examples
+    ///
+    /// ```
+    /// use cellarcove::Integer;
+    ///
+    /// assert_eq!(7.lcm(&3), 21);
+    /// assert_eq!(7.lcm(&0), 0);
+    /// ```
     ///
     /// # Panics
     ///
@@ -362,10 +462,17 @@ pub trait Integer: Sized + Num + PartialOrd + Ord + Eq {
     #[track_caller]
     fn lcm(&self, other: &Self) -> Self;
 
-    /// Returns the greatest common divisor and the least common multiple. `10.gcd_lcm(&4)` is
-    /// `(2, 20)`.
+    /// Returns the greatest common divisor and the least common multiple.
     ///
     /// May be called where `Fits::gcd_fits` and `Fits::lcm_fits` are true.
+    ///
+    /// # Examples
+    ///
+    /// ```
+    /// use cellarcove::Integer;
+    ///
+    /// assert_eq!(10.gcd_lcm(&4), (2, 20));
+    /// ```
     ///
     /// # Panics
     ///
@@ -393,13 +500,20 @@ pub trait Integer: Sized + Num + PartialOrd + Ord + Eq {
         (self.gcd(other), self.lcm(other))
     }
 
-    /// Returns the greatest common divisor `gcd` and Bezout's coefficients `x` and `y`: over the
-    /// whole numbers, `self` times `x` and `other` times `y` add up to `gcd`. `240.extended_gcd(&46)`
-    /// is `ExtendedGcd { gcd: 2, x: -9, y: 47 }`, and `5.extended_gcd(&0)` is
-    /// `ExtendedGcd { gcd: 5, x: 1, y: 0 }`.
+    /// Returns the greatest common divisor `gcd` and Bezout's coefficients `x` and `y`: over the whole
+    /// numbers, `self` times `x` and `other` times `y` add up to `gcd`.
     ///
     /// May be called where `Fits::gcd_fits` is true; at an unsigned type one operand must also divide
     /// the other.
+    ///
+    /// # Examples
+    ///
+    /// ```
+    /// use cellarcove::{gcd, ExtendedGcd, Integer};
+    ///
+    /// assert_eq!(240.extended_gcd(&46), ExtendedGcd { gcd: 2, x: -9, y: 47 });
+    /// assert_eq!(5.extended_gcd(&0), ExtendedGcd { gcd: 5, x: 1, y: 0 });
+    /// ```
     ///
     /// # Panics
     ///
@@ -427,10 +541,17 @@ pub trait Integer: Sized + Num + PartialOrd + Ord + Eq {
         extended_gcd_counted(self.clone(), other.clone()).0
     }
 
-    /// Returns [`Integer::extended_gcd`] and [`Integer::lcm`]. `10.extended_gcd_lcm(&4)` is
-    /// `(ExtendedGcd { gcd: 2, x: 1, y: -2 }, 20)`.
+    /// Returns [`Integer::extended_gcd`] and [`Integer::lcm`].
     ///
     /// May be called where `Fits::gcd_fits` and `Fits::lcm_fits` are true.
+    ///
+    /// # Examples
+    ///
+    /// ```
+    /// use cellarcove::{gcd, ExtendedGcd, Integer};
+    ///
+    /// assert_eq!(10.extended_gcd_lcm(&4), (ExtendedGcd { gcd: 2, x: 1, y: -2 }, 20));
+    /// ```
     ///
     /// # Panics
     ///
@@ -496,7 +617,15 @@ pub trait Integer: Sized + Num + PartialOrd + Ord + Eq {
     fn expect_lcm(&self, _other: &Self) {}
 }
 
-/// Returns the quotient rounded toward zero, and its remainder. `div_rem(-8, 3)` is `(-2, -2)`.
+/// Returns the quotient rounded toward zero, and its remainder.
+///
+/// # Examples
+///
+/// ```
+/// use cellarcove::div_rem;
+///
+/// assert_eq!(div_rem(-8, 3), (-2, -2));
+/// ```
 ///
 /// # Panics
 ///
@@ -518,7 +647,15 @@ pub fn div_rem<T: Integer>(x: T, y: T) -> (T, T) {
     x.div_rem(&y)
 }
 
-/// Returns the quotient rounded down. `div_floor(-8, 3)` is `-3`.
+/// Returns the quotient rounded down.
+///
+/// # Examples
+///
+/// ```
+/// use cellarcove::div_floor;
+///
+/// assert_eq!(div_floor(-8, 3), -3);
+/// ```
 ///
 /// # Panics
 ///
@@ -540,7 +677,15 @@ pub fn div_floor<T: Integer>(x: T, y: T) -> T {
     x.div_floor(&y)
 }
 
-/// Returns the remainder of the quotient rounded down. `mod_floor(-8, 3)` is `1`.
+/// Returns the remainder of the quotient rounded down.
+///
+/// # Examples
+///
+/// ```
+/// use cellarcove::mod_floor;
+///
+/// assert_eq!(mod_floor(-8, 3), 1);
+/// ```
 ///
 /// # Panics
 ///
@@ -560,7 +705,15 @@ pub fn mod_floor<T: Integer>(x: T, y: T) -> T {
     x.mod_floor(&y)
 }
 
-/// Returns the quotient rounded down, and its remainder. `div_mod_floor(-8, 3)` is `(-3, 1)`.
+/// Returns the quotient rounded down, and its remainder.
+///
+/// # Examples
+///
+/// ```
+/// use cellarcove::div_mod_floor;
+///
+/// assert_eq!(div_mod_floor(-8, 3), (-3, 1));
+/// ```
 ///
 /// # Panics
 ///
@@ -582,7 +735,15 @@ pub fn div_mod_floor<T: Integer>(x: T, y: T) -> (T, T) {
     x.div_mod_floor(&y)
 }
 
-/// Returns the quotient rounded up. `div_ceil(8, 3)` is `3`.
+/// Returns the quotient rounded up.
+///
+/// # Examples
+///
+/// ```
+/// use cellarcove::div_ceil;
+///
+/// assert_eq!(div_ceil(8, 3), 3);
+/// ```
 ///
 /// # Panics
 ///
@@ -604,7 +765,15 @@ pub fn div_ceil<T: Integer>(x: T, y: T) -> T {
     x.div_ceil(&y)
 }
 
-/// Returns the greatest common divisor. `gcd(56, 42)` is `14`.
+/// Returns the greatest common divisor.
+///
+/// # Examples
+///
+/// ```
+/// use cellarcove::gcd;
+///
+/// assert_eq!(gcd(56, 42), 14);
+/// ```
 ///
 /// # Panics
 ///
@@ -625,7 +794,15 @@ pub fn gcd<T: Integer>(x: T, y: T) -> T {
     x.gcd(&y)
 }
 
-/// Returns the least common multiple. `lcm(7, 3)` is `21`.
+/// Returns the least common multiple.
+///
+/// # Examples
+///
+/// ```
+/// use cellarcove::lcm;
+///
+/// assert_eq!(lcm(7, 3), 21);
+/// ```
 ///
 /// # Panics
 ///
@@ -646,8 +823,15 @@ pub fn lcm<T: Integer>(x: T, y: T) -> T {
     x.lcm(&y)
 }
 
-/// Returns the greatest common divisor and the least common multiple. `gcd_lcm(10, 4)` is
-/// `(2, 20)`.
+/// Returns the greatest common divisor and the least common multiple.
+///
+/// # Examples
+///
+/// ```
+/// use cellarcove::gcd_lcm;
+///
+/// assert_eq!(gcd_lcm(10, 4), (2, 20));
+/// ```
 ///
 /// # Panics
 ///

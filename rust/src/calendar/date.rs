@@ -43,7 +43,14 @@ impl Date {
 
 impl Date {
     /// Returns the date of a year, a month and a day of the month, or `None` where there is none.
-    /// `Date::new(1900, 2, 29)` is `None`.
+    ///
+    /// # Examples
+    ///
+    /// ```
+    /// use cellarcove::calendar::Date;
+    ///
+    /// assert_eq!(Date::new(1900, 2, 29), None);
+    /// ```
     ///
     /// # Proved
     ///
@@ -67,7 +74,14 @@ impl Date {
     }
 
     /// Returns the date of a day, counted from 1970-01-01, which is day 0.
-    /// `Some(Date::from_day(-1))` is `Date::new(1969, 12, 31)`.
+    ///
+    /// # Examples
+    ///
+    /// ```
+    /// use cellarcove::calendar::Date;
+    ///
+    /// assert_eq!(Some(Date::from_day(-1)), Date::new(1969, 12, 31));
+    /// ```
     ///
     /// # Proved
     ///
@@ -189,8 +203,16 @@ impl Date {
     }
 
     /// Returns the date of a day of a year, of which 1 January is 1, or `None` where the year has no
-    /// such day. `Date::from_year_day(2000, 60)` is `Date::new(2000, 2, 29)`, and
-    /// `Date::from_year_day(1900, 366)` is `None`.
+    /// such day.
+    ///
+    /// # Examples
+    ///
+    /// ```
+    /// use cellarcove::calendar::Date;
+    ///
+    /// assert_eq!(Date::from_year_day(2000, 60), Date::new(2000, 2, 29));
+    /// assert_eq!(Date::from_year_day(1900, 366), None);
+    /// ```
     ///
     /// # Proved
     ///

@@ -3,8 +3,16 @@
 use crate::calendar::Date;
 use crate::{div_floor, mod_floor};
 
-/// Returns the date of Easter Sunday of a year: the first Sunday after the Paschal full moon, by the
-/// tables of Clavius for the Gregorian calendar. `Some(easter(2024))` is `Date::new(2024, 3, 31)`.
+/// Returns the date of Easter Sunday of a year: the first Sunday after the Paschal full moon, by
+/// the tables of Clavius for the Gregorian calendar.
+///
+/// # Examples
+///
+/// ```
+/// use cellarcove::calendar::{easter, Date};
+///
+/// assert_eq!(Some(easter(2024)), Date::new(2024, 3, 31));
+/// ```
 ///
 /// # Proved
 ///

@@ -38,7 +38,14 @@ impl Date {
 
     /// Returns the date of a day of a week of ISO 8601, or `None` where the year has no such week or
     /// the year of the date does not fit an `i64`.
-    /// `Date::from_iso_week(2009, 53, Weekday::Sunday)` is `Date::new(2010, 1, 3)`.
+    ///
+    /// # Examples
+    ///
+    /// ```
+    /// use cellarcove::calendar::{Date, Weekday};
+    ///
+    /// assert_eq!(Date::from_iso_week(2009, 53, Weekday::Sunday), Date::new(2010, 1, 3));
+    /// ```
     ///
     /// # Proved
     ///
@@ -61,7 +68,15 @@ impl Date {
     }
 }
 
-/// Returns how many weeks of ISO 8601 the year has, 52 or 53. `weeks_in_year(2004)` is `53`.
+/// Returns how many weeks of ISO 8601 the year has, 52 or 53.
+///
+/// # Examples
+///
+/// ```
+/// use cellarcove::calendar::weeks_in_year;
+///
+/// assert_eq!(weeks_in_year(2004), 53);
+/// ```
 ///
 /// # Proved
 ///

@@ -3,9 +3,17 @@
 use crate::calendar::eras::{days_of_months, month_and_day};
 use crate::calendar::{days_in_year, is_leap_year};
 
-/// Returns how many days the month has, where January is 1. `days_in_month(1900, 2)` is `28`.
+/// Returns how many days the month has, where January is 1.
 ///
 /// May be called where `month` is from 1 to 12.
+///
+/// # Examples
+///
+/// ```
+/// use cellarcove::calendar::days_in_month;
+///
+/// assert_eq!(days_in_month(1900, 2), 28);
+/// ```
 ///
 /// # Panics
 ///

@@ -17,7 +17,14 @@ pub enum Weekday {
 
 impl Weekday {
     /// Returns the number of the day of the week by ISO 8601, from 1 for Monday to 7 for Sunday.
-    /// `Weekday::Sunday.iso_number()` is `7`.
+    ///
+    /// # Examples
+    ///
+    /// ```
+    /// use cellarcove::calendar::Weekday;
+    ///
+    /// assert_eq!(Weekday::Sunday.iso_number(), 7);
+    /// ```
     ///
     /// # Proved
     ///
@@ -33,7 +40,15 @@ impl Weekday {
     }
 
     /// Returns the day of the week that has the number by ISO 8601, or `None` where the number is not
-    /// from 1 to 7. `Weekday::from_iso_number(7)` is `Some(Weekday::Sunday)`.
+    /// from 1 to 7.
+    ///
+    /// # Examples
+    ///
+    /// ```
+    /// use cellarcove::calendar::Weekday;
+    ///
+    /// assert_eq!(Weekday::from_iso_number(7), Some(Weekday::Sunday));
+    /// ```
     ///
     /// # Proved
     ///
@@ -82,7 +97,14 @@ impl Date {
 }
 
 /// Returns the day of the week of a day, counted from 1970-01-01, a Thursday.
-/// `weekday_of(-1)` is `Weekday::Wednesday`.
+///
+/// # Examples
+///
+/// ```
+/// use cellarcove::calendar::{weekday_of, Weekday};
+///
+/// assert_eq!(weekday_of(-1), Weekday::Wednesday);
+/// ```
 ///
 /// # Proved
 ///

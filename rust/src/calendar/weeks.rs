@@ -4,8 +4,16 @@ use crate::calendar::months::days_in_month;
 use crate::calendar::{weekday_of, Date, Weekday};
 
 /// Returns the first day from `day` on that has the day of the week, counted from 1970-01-01, a
-/// Thursday, or `None` where it is beyond `i64`. `first_weekday_on_or_after(0, Weekday::Sunday)` is
-/// `Some(3)`, and `first_weekday_on_or_after(3, Weekday::Sunday)` is `Some(3)`.
+/// Thursday, or `None` where it is beyond `i64`.
+///
+/// # Examples
+///
+/// ```
+/// use cellarcove::calendar::{first_weekday_on_or_after, Weekday};
+///
+/// assert_eq!(first_weekday_on_or_after(0, Weekday::Sunday), Some(3));
+/// assert_eq!(first_weekday_on_or_after(3, Weekday::Sunday), Some(3));
+/// ```
 ///
 /// # Proved
 ///
@@ -22,8 +30,16 @@ pub fn first_weekday_on_or_after(day: i64, weekday: Weekday) -> Option<i64> {
 }
 
 /// Returns the last day up to `day` that has the day of the week, counted from 1970-01-01, a
-/// Thursday, or `None` where it is beyond `i64`. `last_weekday_on_or_before(4, Weekday::Sunday)` is
-/// `Some(3)`, and `last_weekday_on_or_before(3, Weekday::Sunday)` is `Some(3)`.
+/// Thursday, or `None` where it is beyond `i64`.
+///
+/// # Examples
+///
+/// ```
+/// use cellarcove::calendar::{last_weekday_on_or_before, Weekday};
+///
+/// assert_eq!(last_weekday_on_or_before(4, Weekday::Sunday), Some(3));
+/// assert_eq!(last_weekday_on_or_before(3, Weekday::Sunday), Some(3));
+/// ```
 ///
 /// # Proved
 ///
@@ -40,7 +56,15 @@ pub fn last_weekday_on_or_before(day: i64, weekday: Weekday) -> Option<i64> {
 }
 
 /// Returns the date of the `n`-th `weekday` of the month, counted from 1, or `None` where there is
-/// none. `nth_weekday_of_month(2026, 11, Weekday::Thursday, 4)` is `Date::new(2026, 11, 26)`.
+/// none.
+///
+/// # Examples
+///
+/// ```
+/// use cellarcove::calendar::{nth_weekday_of_month, Date, Weekday};
+///
+/// assert_eq!(nth_weekday_of_month(2026, 11, Weekday::Thursday, 4), Date::new(2026, 11, 26));
+/// ```
 ///
 /// # Proved
 ///
@@ -61,8 +85,16 @@ pub fn nth_weekday_of_month(year: i64, month: u8, weekday: Weekday, n: u8) -> Op
     Date::new(year, month, days + 1)
 }
 
-/// Returns the date of the last `weekday` of the month, or `None` where the month is not from 1 to 12.
-/// `last_weekday_of_month(2026, 10, Weekday::Friday)` is `Date::new(2026, 10, 30)`.
+/// Returns the date of the last `weekday` of the month, or `None` where the month is not from 1 to
+/// 12.
+///
+/// # Examples
+///
+/// ```
+/// use cellarcove::calendar::{last_weekday_of_month, Date, Weekday};
+///
+/// assert_eq!(last_weekday_of_month(2026, 10, Weekday::Friday), Date::new(2026, 10, 30));
+/// ```
 ///
 /// # Proved
 ///

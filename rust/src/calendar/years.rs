@@ -26,7 +26,15 @@ fn is_multiple(year: i64, number: u16) -> bool {
     year.is_multiple_of(&i64::from(number))
 }
 
-/// Returns how many days the year has. `days_in_year(1900)` is `365`.
+/// Returns how many days the year has.
+///
+/// # Examples
+///
+/// ```
+/// use cellarcove::calendar::days_in_year;
+///
+/// assert_eq!(days_in_year(1900), 365);
+/// ```
 ///
 /// # Proved
 ///

@@ -6,9 +6,17 @@ use crate::domains::Fits;
 use crate::integer_core::operators::{is_below, is_negative, one, quotient, successor, zero};
 use crate::rows::IterBinomial;
 
-/// Returns [`binomial`](crate::binomial), the binomial coefficient of `n` and `k`, or `None` where a
-/// number is negative or the coefficient does not fit. `binomial(11u8, 3)` is `Some(165)`, and
-/// `binomial(11u8, 4)` is `None`.
+/// Returns [`binomial`](crate::binomial), the binomial coefficient of `n` and `k`, or `None` where
+/// a number is negative or the coefficient does not fit.
+///
+/// # Examples
+///
+/// ```
+/// use cellarcove::checked::binomial;
+///
+/// assert_eq!(binomial(11u8, 3), Some(165));
+/// assert_eq!(binomial(11u8, 4), None);
+/// ```
 ///
 /// # Proved
 ///
@@ -41,8 +49,16 @@ pub fn binomial<T: Fits>(n: T, k: T) -> Option<T> {
     Some(coefficient)
 }
 
-/// Returns [`multinomial`](crate::multinomial), the multinomial of the counts, or `None` where a count
-/// is negative or the multinomial does not fit. `multinomial(&[2, 1, 2])` is `Some(30)`.
+/// Returns [`multinomial`](crate::multinomial), the multinomial of the counts, or `None` where a
+/// count is negative or the multinomial does not fit.
+///
+/// # Examples
+///
+/// ```
+/// use cellarcove::checked::multinomial;
+///
+/// assert_eq!(multinomial(&[2, 1, 2]), Some(30));
+/// ```
 ///
 /// # Proved
 ///
@@ -71,9 +87,17 @@ pub fn multinomial<T: Fits>(k: &[T]) -> Option<T> {
     Some(multinomial)
 }
 
-/// Returns [`IterBinomial::new`], the row of `n` in Pascal's triangle, or `None` where an item or the
-/// number of the items does not fit. For a negative `n` the row has no item. `row(10u8).is_some()` is
-/// `true`, and `row(11u8).is_some()` is `false`.
+/// Returns [`IterBinomial::new`], the row of `n` in Pascal's triangle, or `None` where an item or
+/// the number of the items does not fit. For a negative `n` the row has no item.
+///
+/// # Examples
+///
+/// ```
+/// use cellarcove::checked::row;
+///
+/// assert!(row(10u8).is_some());
+/// assert!(!row(11u8).is_some());
+/// ```
 ///
 /// # Proved
 ///

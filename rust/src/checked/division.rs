@@ -3,9 +3,16 @@
 use crate::domains::Fits;
 use crate::integer_core::operators::is_zero;
 
-/// Returns [`Integer::div_rem`](crate::Integer::div_rem), the quotient rounded toward zero and its remainder, or `None` for a
-/// divisor 0 and for the least number by -1 where its negation does not fit. `div_rem(-8, 3)` is
-/// `Some((-2, -2))`.
+/// Returns [`Integer::div_rem`](crate::Integer::div_rem), the quotient rounded toward zero and its remainder, or `None` for
+/// a divisor 0 and for the least number by -1 where its negation does not fit.
+///
+/// # Examples
+///
+/// ```
+/// use cellarcove::checked::div_rem;
+///
+/// assert_eq!(div_rem(-8, 3), Some((-2, -2)));
+/// ```
 ///
 /// # Proved
 ///
@@ -31,7 +38,15 @@ pub fn div_rem<T: Fits>(x: T, y: T) -> Option<(T, T)> {
 }
 
 /// Returns [`Integer::div_floor`](crate::Integer::div_floor), the quotient rounded down, or `None` where [`div_rem`] does.
-/// `div_floor(-8, 3)` is `Some(-3)`, and `div_floor(i8::MIN, -1)` is `None`.
+///
+/// # Examples
+///
+/// ```
+/// use cellarcove::checked::div_floor;
+///
+/// assert_eq!(div_floor(-8, 3), Some(-3));
+/// assert_eq!(div_floor(i8::MIN, -1), None);
+/// ```
 ///
 /// # Proved
 ///
@@ -55,8 +70,16 @@ pub fn div_floor<T: Fits>(x: T, y: T) -> Option<T> {
     }
 }
 
-/// Returns [`Integer::mod_floor`](crate::Integer::mod_floor), the remainder of the quotient rounded down, or `None` for a divisor
-/// 0. `mod_floor(-8, 3)` is `Some(1)`.
+/// Returns [`Integer::mod_floor`](crate::Integer::mod_floor), the remainder of the quotient rounded down, or `None` for a
+/// divisor 0.
+///
+/// # Examples
+///
+/// ```
+/// use cellarcove::checked::mod_floor;
+///
+/// assert_eq!(mod_floor(-8, 3), Some(1));
+/// ```
 ///
 /// # Proved
 ///
@@ -79,7 +102,15 @@ pub fn mod_floor<T: Fits>(x: T, y: T) -> Option<T> {
 }
 
 /// Returns [`Integer::div_mod_floor`](crate::Integer::div_mod_floor), the quotient rounded down and its remainder, or `None` where
-/// [`div_rem`] does. `div_mod_floor(-8, 3)` is `Some((-3, 1))`.
+/// [`div_rem`] does.
+///
+/// # Examples
+///
+/// ```
+/// use cellarcove::checked::div_mod_floor;
+///
+/// assert_eq!(div_mod_floor(-8, 3), Some((-3, 1)));
+/// ```
 ///
 /// # Proved
 ///
@@ -105,7 +136,14 @@ pub fn div_mod_floor<T: Fits>(x: T, y: T) -> Option<(T, T)> {
 }
 
 /// Returns [`Integer::div_ceil`](crate::Integer::div_ceil), the quotient rounded up, or `None` where [`div_rem`] does.
-/// `div_ceil(8, 3)` is `Some(3)`.
+///
+/// # Examples
+///
+/// ```
+/// use cellarcove::checked::div_ceil;
+///
+/// assert_eq!(div_ceil(8, 3), Some(3));
+/// ```
 ///
 /// # Proved
 ///
@@ -129,8 +167,16 @@ pub fn div_ceil<T: Fits>(x: T, y: T) -> Option<T> {
     }
 }
 
-/// Returns [`Integer::next_multiple_of`](crate::Integer::next_multiple_of), the quotient rounded up, times `y`, or `None` for a divisor 0
-/// and where the multiple does not fit. `next_multiple_of(23, 8)` is `Some(24)`.
+/// Returns [`Integer::next_multiple_of`](crate::Integer::next_multiple_of), the quotient rounded up, times `y`, or `None` for a
+/// divisor 0 and where the multiple does not fit.
+///
+/// # Examples
+///
+/// ```
+/// use cellarcove::checked::next_multiple_of;
+///
+/// assert_eq!(next_multiple_of(23, 8), Some(24));
+/// ```
 ///
 /// # Proved
 ///
@@ -153,8 +199,16 @@ pub fn next_multiple_of<T: Fits>(x: T, y: T) -> Option<T> {
     }
 }
 
-/// Returns [`Integer::prev_multiple_of`](crate::Integer::prev_multiple_of), the quotient rounded down, times `y`, or `None` for a divisor
-/// 0 and where the multiple does not fit. `prev_multiple_of(23, 8)` is `Some(16)`.
+/// Returns [`Integer::prev_multiple_of`](crate::Integer::prev_multiple_of), the quotient rounded down, times `y`, or `None` for a
+/// divisor 0 and where the multiple does not fit.
+///
+/// # Examples
+///
+/// ```
+/// use cellarcove::checked::prev_multiple_of;
+///
+/// assert_eq!(prev_multiple_of(23, 8), Some(16));
+/// ```
 ///
 /// # Proved
 ///

@@ -7,8 +7,16 @@ use crate::parts::product_is_within;
 use num_traits::Signed;
 
 /// Returns [`Integer::gcd`](crate::Integer::gcd), the greatest common divisor, or `None` for the least number, whose
-/// negation does not fit, with itself or with 0. `gcd(56, 42)` is `Some(14)`, and `gcd(i8::MIN, 0)` is
-/// `None`.
+/// negation does not fit, with itself or with 0.
+///
+/// # Examples
+///
+/// ```
+/// use cellarcove::checked::gcd;
+///
+/// assert_eq!(gcd(56, 42), Some(14));
+/// assert_eq!(gcd(i8::MIN, 0), None);
+/// ```
 ///
 /// # Proved
 ///
@@ -32,8 +40,16 @@ pub fn gcd<T: Fits>(x: T, y: T) -> Option<T> {
     }
 }
 
-/// Returns [`Integer::lcm`](crate::Integer::lcm), the least common multiple, or `None` where it does not fit. `lcm(7, 3)` is
-/// `Some(21)`, and `lcm(16u8, 17)` is `None`.
+/// Returns [`Integer::lcm`](crate::Integer::lcm), the least common multiple, or `None` where it does not fit.
+///
+/// # Examples
+///
+/// ```
+/// use cellarcove::checked::lcm;
+///
+/// assert_eq!(lcm(7, 3), Some(21));
+/// assert_eq!(lcm(16u8, 17), None);
+/// ```
 ///
 /// # Proved
 ///
@@ -55,8 +71,16 @@ pub fn lcm<T: Fits>(x: T, y: T) -> Option<T> {
     lcm_with_gcd(x, y, gcd(x, y)?)
 }
 
-/// Returns [`Integer::gcd_lcm`](crate::Integer::gcd_lcm), the greatest common divisor and the least common multiple, or `None`
-/// where one of them does not fit. `gcd_lcm(10, 4)` is `Some((2, 20))`.
+/// Returns [`Integer::gcd_lcm`](crate::Integer::gcd_lcm), the greatest common divisor and the least common multiple, or
+/// `None` where one of them does not fit.
+///
+/// # Examples
+///
+/// ```
+/// use cellarcove::checked::gcd_lcm;
+///
+/// assert_eq!(gcd_lcm(10, 4), Some((2, 20)));
+/// ```
 ///
 /// # Proved
 ///
@@ -81,10 +105,19 @@ pub fn gcd_lcm<T: Fits>(x: T, y: T) -> Option<(T, T)> {
     Some((g, lcm_with_gcd(x, y, g)?))
 }
 
-/// Returns [`Integer::extended_gcd`](crate::Integer::extended_gcd), the greatest common divisor and Bezout's coefficients, or `None`
-/// where the divisor does not fit and, at a type without negatives, where neither number divides the
-/// other. `extended_gcd(240, 46)` is `Some(ExtendedGcd { gcd: 2, x: -9, y: 47 })`, and
-/// `extended_gcd(10u8, 4)` is `None`.
+/// Returns [`Integer::extended_gcd`](crate::Integer::extended_gcd), the greatest common divisor and Bezout's coefficients, or
+/// `None` where the divisor does not fit and, at a type without negatives, where neither number
+/// divides the other.
+///
+/// # Examples
+///
+/// ```
+/// use cellarcove::ExtendedGcd;
+/// use cellarcove::checked::{extended_gcd, gcd};
+///
+/// assert_eq!(extended_gcd(240, 46), Some(ExtendedGcd { gcd: 2, x: -9, y: 47 }));
+/// assert_eq!(extended_gcd(10u8, 4), None);
+/// ```
 ///
 /// # Proved
 ///
@@ -109,8 +142,17 @@ pub fn extended_gcd<T: Fits>(x: T, y: T) -> Option<ExtendedGcd<T>> {
     }
 }
 
-/// Returns [`Integer::extended_gcd_lcm`](crate::Integer::extended_gcd_lcm), which is [`extended_gcd`] and [`lcm`], or `None` where one of
-/// the two is `None`. `extended_gcd_lcm(10, 4)` is `Some((ExtendedGcd { gcd: 2, x: 1, y: -2 }, 20))`.
+/// Returns [`Integer::extended_gcd_lcm`](crate::Integer::extended_gcd_lcm), which is [`extended_gcd`] and [`lcm`], or `None` where
+/// one of the two is `None`.
+///
+/// # Examples
+///
+/// ```
+/// use cellarcove::ExtendedGcd;
+/// use cellarcove::checked::{extended_gcd_lcm, gcd};
+///
+/// assert_eq!(extended_gcd_lcm(10, 4), Some((ExtendedGcd { gcd: 2, x: 1, y: -2 }, 20)));
+/// ```
 ///
 /// # Proved
 ///

@@ -4,8 +4,16 @@ use crate::domains::Fits;
 use crate::integer_core::operators::{self, one, zero};
 use crate::parts::{product_is_within, sum_is_within};
 
-/// Returns `a + b`, or `None` where it does not fit. `sum(200u8, 55)` is `Some(255)`, and
-/// `sum(200u8, 56)` is `None`.
+/// Returns `a + b`, or `None` where it does not fit.
+///
+/// # Examples
+///
+/// ```
+/// use cellarcove::checked::sum;
+///
+/// assert_eq!(sum(200u8, 55), Some(255));
+/// assert_eq!(sum(200u8, 56), None);
+/// ```
 ///
 /// # Proved
 ///
@@ -26,8 +34,16 @@ pub fn sum<T: Fits>(a: T, b: T) -> Option<T> {
     }
 }
 
-/// Returns `a - b`, or `None` where it does not fit. `difference(2, 3)` is `Some(-1)`, and
-/// `difference(2u8, 3)` is `None`.
+/// Returns `a - b`, or `None` where it does not fit.
+///
+/// # Examples
+///
+/// ```
+/// use cellarcove::checked::difference;
+///
+/// assert_eq!(difference(2, 3), Some(-1));
+/// assert_eq!(difference(2u8, 3), None);
+/// ```
 ///
 /// # Proved
 ///
@@ -48,8 +64,16 @@ pub fn difference<T: Fits>(a: T, b: T) -> Option<T> {
     }
 }
 
-/// Returns `a * b`, or `None` where it does not fit. `product(15u8, 17)` is `Some(255)`, and
-/// `product(16u8, 16)` is `None`.
+/// Returns `a * b`, or `None` where it does not fit.
+///
+/// # Examples
+///
+/// ```
+/// use cellarcove::checked::product;
+///
+/// assert_eq!(product(15u8, 17), Some(255));
+/// assert_eq!(product(16u8, 16), None);
+/// ```
 ///
 /// # Proved
 ///
@@ -70,8 +94,16 @@ pub fn product<T: Fits>(a: T, b: T) -> Option<T> {
     }
 }
 
-/// Returns `-a`, or `None` where it does not fit. `negated(7)` is `Some(-7)`, and `negated(7u8)` is
-/// `None`.
+/// Returns `-a`, or `None` where it does not fit.
+///
+/// # Examples
+///
+/// ```
+/// use cellarcove::checked::negated;
+///
+/// assert_eq!(negated(7), Some(-7));
+/// assert_eq!(negated(7u8), None);
+/// ```
 ///
 /// # Proved
 ///
@@ -93,7 +125,15 @@ pub fn negated<T: Fits>(a: T) -> Option<T> {
 }
 
 /// Returns `x + 1`, which [`Integer::inc`](crate::Integer::inc) stores, or `None` for the greatest number of the type.
-/// `inc(41)` is `Some(42)`, and `inc(u8::MAX)` is `None`.
+///
+/// # Examples
+///
+/// ```
+/// use cellarcove::checked::inc;
+///
+/// assert_eq!(inc(41), Some(42));
+/// assert_eq!(inc(u8::MAX), None);
+/// ```
 ///
 /// # Proved
 ///
@@ -111,7 +151,15 @@ pub fn inc<T: Fits>(x: T) -> Option<T> {
 }
 
 /// Returns `x - 1`, which [`Integer::dec`](crate::Integer::dec) stores, or `None` for the least number of the type.
-/// `dec(43)` is `Some(42)`, and `dec(0u8)` is `None`.
+///
+/// # Examples
+///
+/// ```
+/// use cellarcove::checked::dec;
+///
+/// assert_eq!(dec(43), Some(42));
+/// assert_eq!(dec(0u8), None);
+/// ```
 ///
 /// # Proved
 ///

@@ -3,9 +3,17 @@
 use crate::integer_core::operators::is_negative;
 use crate::integer_roots::Roots;
 
-/// Returns [`Roots::nth_root`], the root of degree `n` rounded toward zero, or `None` for degree 0 and
-/// for an even degree and a negative number. `nth_root(-9, 3)` is `Some(-2)`, and `nth_root(-9, 2)` is
-/// `None`.
+/// Returns [`Roots::nth_root`], the root of degree `n` rounded toward zero, or `None` for degree 0
+/// and for an even degree and a negative number.
+///
+/// # Examples
+///
+/// ```
+/// use cellarcove::checked::nth_root;
+///
+/// assert_eq!(nth_root(-9, 3), Some(-2));
+/// assert_eq!(nth_root(-9, 2), None);
+/// ```
 ///
 /// # Proved
 ///
@@ -26,8 +34,16 @@ pub fn nth_root<T: Roots + Copy>(x: T, n: u32) -> Option<T> {
     }
 }
 
-/// Returns [`Roots::sqrt`], the square root rounded down, or `None` for a negative number. `sqrt(99)` is
-/// `Some(9)`, and `sqrt(-1)` is `None`.
+/// Returns [`Roots::sqrt`], the square root rounded down, or `None` for a negative number.
+///
+/// # Examples
+///
+/// ```
+/// use cellarcove::checked::sqrt;
+///
+/// assert_eq!(sqrt(99), Some(9));
+/// assert_eq!(sqrt(-1), None);
+/// ```
 ///
 /// # Proved
 ///

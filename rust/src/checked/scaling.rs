@@ -4,10 +4,18 @@ use crate::integer_core::operators::{is_negative, is_zero};
 use crate::integer_core::NativeInteger;
 use num_traits::cast;
 
-/// Returns the quotient of `a * b` by `d`, at a built-in type of at most 64 bits, rounded down, and its
-/// remainder, or `None` for a divisor 0 and where the quotient does not fit. The product need not fit.
-/// `product_div_mod_floor(i64::MAX, 2, 3)` is `Some((6148914691236517204, 2))`, and
-/// `product_div_mod_floor(i64::MAX, 3, 2)` is `None`.
+/// Returns the quotient of `a * b` by `d`, at a built-in type of at most 64 bits, rounded down, and
+/// its remainder, or `None` for a divisor 0 and where the quotient does not fit. The product need
+/// not fit.
+///
+/// # Examples
+///
+/// ```
+/// use cellarcove::checked::product_div_mod_floor;
+///
+/// assert_eq!(product_div_mod_floor(i64::MAX, 2, 3), Some((6148914691236517204, 2)));
+/// assert_eq!(product_div_mod_floor(i64::MAX, 3, 2), None);
+/// ```
 ///
 /// # Proved
 ///

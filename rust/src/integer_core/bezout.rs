@@ -74,11 +74,19 @@ fn last_row<T: Integer + Clone>(a: T, b: T) -> (Row<T>, u32) {
     (current, turns)
 }
 
-/// Returns [`Integer::extended_gcd`] and the turns of its loop. `extended_gcd_counted(8, 13)` is
-/// `(ExtendedGcd { gcd: 1, x: 5, y: -3 }, 5)`. The bound on the turns is Lamé's (1844); 8 and 13 reach
-/// it.
+/// Returns [`Integer::extended_gcd`] and the turns of its loop. The bound on the turns is Lamé's
+/// (1844); 8 and 13 reach it.
 ///
 /// May be called where [`Integer::extended_gcd`] may.
+///
+/// # Examples
+///
+/// ```
+/// use cellarcove::{gcd, ExtendedGcd};
+/// use cellarcove::counted::extended_gcd_counted;
+///
+/// assert_eq!(extended_gcd_counted(8, 13), (ExtendedGcd { gcd: 1, x: 5, y: -3 }, 5));
+/// ```
 ///
 /// # Panics
 ///

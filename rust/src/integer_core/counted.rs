@@ -6,10 +6,17 @@ use crate::integer_core::Integer;
 /// A greatest common divisor by Stein's binary method, with the turns of its loop.
 pub trait GcdCounted: Integer {
     /// Returns [`Integer::gcd`] and the number of turns, which is at most the bit lengths of both
-    /// added, and 0 where an operand is 0 or the least number of its type. `56i64.gcd_counted(&42)` is
-    /// `(14, 1)`.
+    /// added, and 0 where an operand is 0 or the least number of its type.
     ///
     /// May be called where `Fits::gcd_fits` is true.
+    ///
+    /// # Examples
+    ///
+    /// ```
+    /// use cellarcove::counted::GcdCounted;
+    ///
+    /// assert_eq!(56i64.gcd_counted(&42), (14, 1));
+    /// ```
     ///
     /// # Panics
     ///

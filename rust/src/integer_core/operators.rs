@@ -3,7 +3,15 @@
 
 use num_traits::Num;
 
-/// Returns the number 0. `zero::<i64>()` is `0`.
+/// Returns the number 0.
+///
+/// # Examples
+///
+/// ```
+/// use cellarcove::operators::zero;
+///
+/// assert_eq!(zero::<i64>(), 0);
+/// ```
 ///
 /// # Proved
 ///
@@ -17,7 +25,15 @@ pub fn zero<T: Num>() -> T {
     T::zero()
 }
 
-/// Returns the number 1. `one::<i64>()` is `1`.
+/// Returns the number 1.
+///
+/// # Examples
+///
+/// ```
+/// use cellarcove::operators::one;
+///
+/// assert_eq!(one::<i64>(), 1);
+/// ```
 ///
 /// # Proved
 ///
@@ -31,7 +47,15 @@ pub fn one<T: Num>() -> T {
     T::one()
 }
 
-/// Returns `true` if `a` is 0. `is_zero(7)` is `false`.
+/// Returns `true` if `a` is 0.
+///
+/// # Examples
+///
+/// ```
+/// use cellarcove::operators::is_zero;
+///
+/// assert!(!is_zero(7));
+/// ```
 ///
 /// # Proved
 ///
@@ -45,7 +69,16 @@ pub fn is_zero<T: Num>(a: T) -> bool {
     a.is_zero()
 }
 
-/// Returns `true` if `a` is below `b`. `is_below(2, 3)` is `true`, and `is_below(3, 3)` is `false`.
+/// Returns `true` if `a` is below `b`.
+///
+/// # Examples
+///
+/// ```
+/// use cellarcove::operators::is_below;
+///
+/// assert!(is_below(2, 3));
+/// assert!(!is_below(3, 3));
+/// ```
 ///
 /// # Proved
 ///
@@ -59,7 +92,16 @@ pub fn is_below<T: Num + PartialOrd>(a: T, b: T) -> bool {
     a < b
 }
 
-/// Returns `true` if `a` is negative. `is_negative(-1)` is `true`, and `is_negative(0)` is `false`.
+/// Returns `true` if `a` is negative.
+///
+/// # Examples
+///
+/// ```
+/// use cellarcove::operators::is_negative;
+///
+/// assert!(is_negative(-1));
+/// assert!(!is_negative(0));
+/// ```
 ///
 /// # Proved
 ///
@@ -73,7 +115,15 @@ pub fn is_negative<T: Num + PartialOrd>(a: T) -> bool {
     is_below(a, zero())
 }
 
-/// Returns `a + b`. `sum(2, 3)` is `5`.
+/// Returns `a + b`.
+///
+/// # Examples
+///
+/// ```
+/// use cellarcove::operators::sum;
+///
+/// assert_eq!(sum(2, 3), 5);
+/// ```
 ///
 /// # Panics
 ///
@@ -93,7 +143,15 @@ pub fn sum<T: crate::integer_core::Integer>(a: T, b: T) -> T {
     a.exact_sum(b, "attempt to add with overflow")
 }
 
-/// Returns `a - b`. `difference(2, 3)` is `-1`.
+/// Returns `a - b`.
+///
+/// # Examples
+///
+/// ```
+/// use cellarcove::operators::difference;
+///
+/// assert_eq!(difference(2, 3), -1);
+/// ```
 ///
 /// # Panics
 ///
@@ -113,7 +171,15 @@ pub fn difference<T: crate::integer_core::Integer>(a: T, b: T) -> T {
     a.exact_difference(b, "attempt to subtract with overflow")
 }
 
-/// Returns `a * b`. `product(2, 3)` is `6`.
+/// Returns `a * b`.
+///
+/// # Examples
+///
+/// ```
+/// use cellarcove::operators::product;
+///
+/// assert_eq!(product(2, 3), 6);
+/// ```
 ///
 /// # Panics
 ///
@@ -133,7 +199,15 @@ pub fn product<T: crate::integer_core::Integer>(a: T, b: T) -> T {
     a.exact_product(b, "attempt to multiply with overflow")
 }
 
-/// Returns `a / b`, rounded toward zero. `quotient(-8, 3)` is `-2`.
+/// Returns `a / b`, rounded toward zero.
+///
+/// # Examples
+///
+/// ```
+/// use cellarcove::operators::quotient;
+///
+/// assert_eq!(quotient(-8, 3), -2);
+/// ```
 ///
 /// # Panics
 ///
@@ -154,7 +228,15 @@ pub fn quotient<T: Num>(a: T, b: T) -> T {
     a / b
 }
 
-/// Returns `a % b`, the remainder of [`quotient`]. `remainder(-8, 3)` is `-2`.
+/// Returns `a % b`, the remainder of [`quotient`].
+///
+/// # Examples
+///
+/// ```
+/// use cellarcove::operators::remainder;
+///
+/// assert_eq!(remainder(-8, 3), -2);
+/// ```
 ///
 /// # Panics
 ///
@@ -176,7 +258,15 @@ pub fn remainder<T: Num>(a: T, b: T) -> T {
     a % b
 }
 
-/// Returns `a + 1`. `successor(41)` is `42`.
+/// Returns `a + 1`.
+///
+/// # Examples
+///
+/// ```
+/// use cellarcove::operators::successor;
+///
+/// assert_eq!(successor(41), 42);
+/// ```
 ///
 /// # Panics
 ///
@@ -196,7 +286,15 @@ pub fn successor<T: crate::integer_core::Integer>(a: T) -> T {
     sum(a, one())
 }
 
-/// Returns `a - 1`. `predecessor(43)` is `42`.
+/// Returns `a - 1`.
+///
+/// # Examples
+///
+/// ```
+/// use cellarcove::operators::predecessor;
+///
+/// assert_eq!(predecessor(43), 42);
+/// ```
 ///
 /// # Panics
 ///
@@ -216,7 +314,15 @@ pub fn predecessor<T: crate::integer_core::Integer>(a: T) -> T {
     difference(a, one())
 }
 
-/// Returns `-a`. `negated(7)` is `-7`.
+/// Returns `-a`.
+///
+/// # Examples
+///
+/// ```
+/// use cellarcove::operators::negated;
+///
+/// assert_eq!(negated(7), -7);
+/// ```
 ///
 /// # Panics
 ///

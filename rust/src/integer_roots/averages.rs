@@ -4,7 +4,15 @@ use crate::integer_core::{Integer, NativeInteger};
 
 /// Averages of two integers. They never overflow.
 pub trait Average: Integer {
-    /// Returns the average rounded down. `(-2).average_floor(&-5)` is `-4`.
+    /// Returns the average rounded down.
+    ///
+    /// # Examples
+    ///
+    /// ```
+    /// use cellarcove::Average;
+    ///
+    /// assert_eq!((-2).average_floor(&-5), -4);
+    /// ```
     ///
     /// # Proved
     ///
@@ -17,7 +25,15 @@ pub trait Average: Integer {
     /// [how to read it](crate::definitions).
     fn average_floor(&self, other: &Self) -> Self;
 
-    /// Returns the average rounded up. `(-2).average_ceil(&-5)` is `-3`.
+    /// Returns the average rounded up.
+    ///
+    /// # Examples
+    ///
+    /// ```
+    /// use cellarcove::Average;
+    ///
+    /// assert_eq!((-2).average_ceil(&-5), -3);
+    /// ```
     ///
     /// # Proved
     ///
@@ -31,7 +47,15 @@ pub trait Average: Integer {
     fn average_ceil(&self, other: &Self) -> Self;
 }
 
-/// Returns the average rounded down, as [`Average::average_floor`]. `average_floor(3, 10)` is `6`.
+/// Returns the average rounded down, as [`Average::average_floor`].
+///
+/// # Examples
+///
+/// ```
+/// use cellarcove::average_floor;
+///
+/// assert_eq!(average_floor(3, 10), 6);
+/// ```
 ///
 /// # Proved
 ///
@@ -45,7 +69,15 @@ pub fn average_floor<T: Average>(x: T, y: T) -> T {
     x.average_floor(&y)
 }
 
-/// Returns the average rounded up, as [`Average::average_ceil`]. `average_ceil(3, 10)` is `7`.
+/// Returns the average rounded up, as [`Average::average_ceil`].
+///
+/// # Examples
+///
+/// ```
+/// use cellarcove::average_ceil;
+///
+/// assert_eq!(average_ceil(3, 10), 7);
+/// ```
 ///
 /// # Proved
 ///

@@ -9,6 +9,14 @@ pub trait SqrtCounted: Roots {
     ///
     /// May be called where `self` is not negative.
     ///
+    /// # Examples
+    ///
+    /// ```
+    /// use cellarcove::counted::SqrtCounted;
+    ///
+    /// assert_eq!(99.sqrt_counted(), (9, 2));
+    /// ```
+    ///
     /// # Panics
     ///
     /// If the number is negative.

@@ -17,9 +17,17 @@ use crate::integer_roots::magnitude_roots::{
 /// Words: [`IsWithin64Bits`](crate::definitions::integer_roots#iswithin64bits),
 /// [how to read it](crate::definitions).
 pub trait Roots: Integer {
-    /// Returns the root of degree `n`, rounded toward zero. `12345.nth_root(4)` is `10`.
+    /// Returns the root of degree `n`, rounded toward zero.
     ///
     /// May be called where `n` is not 0, and `n` is odd or `self` is not negative.
+    ///
+    /// # Examples
+    ///
+    /// ```
+    /// use cellarcove::Roots;
+    ///
+    /// assert_eq!(12345.nth_root(4), 10);
+    /// ```
     ///
     /// # Panics
     ///
@@ -37,9 +45,17 @@ pub trait Roots: Integer {
     #[track_caller]
     fn nth_root(&self, n: u32) -> Self;
 
-    /// Returns the square root, rounded down. `99.sqrt()` is `9`.
+    /// Returns the square root, rounded down.
     ///
     /// May be called where `self` is not negative.
+    ///
+    /// # Examples
+    ///
+    /// ```
+    /// use cellarcove::Roots;
+    ///
+    /// assert_eq!(99.sqrt(), 9);
+    /// ```
     ///
     /// # Panics
     ///
@@ -62,7 +78,15 @@ pub trait Roots: Integer {
         self.nth_root(2)
     }
 
-    /// Returns the cube root, rounded toward zero. `(-9).cbrt()` is `-2`.
+    /// Returns the cube root, rounded toward zero.
+    ///
+    /// # Examples
+    ///
+    /// ```
+    /// use cellarcove::Roots;
+    ///
+    /// assert_eq!((-9).cbrt(), -2);
+    /// ```
     ///
     /// # Proved
     ///
@@ -76,8 +100,16 @@ pub trait Roots: Integer {
     }
 }
 
-/// Returns the root of degree `n`, rounded toward zero. `nth_root(12345, 4)` is `10`. May be called where
-/// [`Roots::nth_root`] may.
+/// Returns the root of degree `n`, rounded toward zero. May be called where [`Roots::nth_root`]
+/// may.
+///
+/// # Examples
+///
+/// ```
+/// use cellarcove::nth_root;
+///
+/// assert_eq!(nth_root(12345, 4), 10);
+/// ```
 ///
 /// # Panics
 ///
@@ -102,7 +134,15 @@ pub fn nth_root<T: Roots>(x: T, n: u32) -> T {
     x.nth_root(n)
 }
 
-/// Returns the square root, rounded down. `sqrt(99)` is `9`. May be called where [`Roots::sqrt`] may.
+/// Returns the square root, rounded down. May be called where [`Roots::sqrt`] may.
+///
+/// # Examples
+///
+/// ```
+/// use cellarcove::sqrt;
+///
+/// assert_eq!(sqrt(99), 9);
+/// ```
 ///
 /// # Panics
 ///
@@ -125,7 +165,15 @@ pub fn sqrt<T: Roots>(x: T) -> T {
     x.sqrt()
 }
 
-/// Returns the cube root, rounded toward zero, as [`Roots::cbrt`]. `cbrt(-9)` is `-2`.
+/// Returns the cube root, rounded toward zero, as [`Roots::cbrt`].
+///
+/// # Examples
+///
+/// ```
+/// use cellarcove::cbrt;
+///
+/// assert_eq!(cbrt(-9), -2);
+/// ```
 ///
 /// # Proved
 ///

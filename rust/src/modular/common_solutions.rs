@@ -6,12 +6,20 @@ use crate::modular::residues::{difference_modulo, residue};
 use crate::operators::{difference, is_negative, product, successor, sum};
 use crate::{checked, Fits};
 
-/// Returns the numbers that are `a` modulo `m` and `b` modulo `n`, as the first that is at least 0 and
-/// the step from each to the next, or `None` where there is no such number.
-/// `chinese_remainder(1, 4, 3, 6)` is `Some((9, 12))`, and `chinese_remainder(1, 4, 2, 6)` is `None`.
+/// Returns the numbers that are `a` modulo `m` and `b` modulo `n`, as the first that is at least 0
+/// and the step from each to the next, or `None` where there is no such number.
 ///
 /// May be called where `m` and `n` are above 0 and their least common multiple fits, which
 /// `Fits::lcm_fits` tests.
+///
+/// # Examples
+///
+/// ```
+/// use cellarcove::modular::chinese_remainder;
+///
+/// assert_eq!(chinese_remainder(1, 4, 3, 6), Some((9, 12)));
+/// assert_eq!(chinese_remainder(1, 4, 2, 6), None);
+/// ```
 ///
 /// # Panics
 ///
@@ -56,11 +64,18 @@ pub enum CommonSolution<T> {
     At(T),
 }
 
-/// Returns the least number from `from` on that is `a` modulo `m` and `b` modulo `n`. The least common
-/// multiple of `m` and `n` need not fit. `next_common_solution(10, 1, 4, 3, 6)` is
-/// `CommonSolution::At(21)`.
+/// Returns the least number from `from` on that is `a` modulo `m` and `b` modulo `n`. The least
+/// common multiple of `m` and `n` need not fit.
 ///
 /// May be called where `m` and `n` are above 0.
+///
+/// # Examples
+///
+/// ```
+/// use cellarcove::modular::{next_common_solution, CommonSolution};
+///
+/// assert_eq!(next_common_solution(10, 1, 4, 3, 6), CommonSolution::At(21));
+/// ```
 ///
 /// # Panics
 ///

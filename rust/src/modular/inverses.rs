@@ -7,10 +7,18 @@ use crate::modular::residues::{negation_modulo, residue};
 use crate::operators::{is_zero, one, product, sum, zero};
 use crate::Integer;
 
-/// Returns the inverse of `a` modulo `m`, or `None` where there is none. `inverse_modulo(3u8, 7)` is
-/// `Some(5)`, and `inverse_modulo(4u8, 6)` is `None`.
+/// Returns the inverse of `a` modulo `m`, or `None` where there is none.
 ///
 /// May be called where `m` is above 0.
+///
+/// # Examples
+///
+/// ```
+/// use cellarcove::modular::inverse_modulo;
+///
+/// assert_eq!(inverse_modulo(3u8, 7), Some(5));
+/// assert_eq!(inverse_modulo(4u8, 6), None);
+/// ```
 ///
 /// # Panics
 ///
@@ -38,10 +46,19 @@ pub fn inverse_modulo<T: Integer + Copy>(a: T, m: T) -> Option<T> {
     }
 }
 
-/// Returns the number x for which `b` times x is `a` modulo `m`, or `None` where `b` has no inverse.
-/// `quotient_modulo(2, 3, 7)` is `Some(3)`, and `quotient_modulo(2, 4, 6)` is `None`.
+/// Returns the number x for which `b` times x is `a` modulo `m`, or `None` where `b` has no
+/// inverse.
 ///
 /// May be called where `m` is above 0.
+///
+/// # Examples
+///
+/// ```
+/// use cellarcove::modular::quotient_modulo;
+///
+/// assert_eq!(quotient_modulo(2, 3, 7), Some(3));
+/// assert_eq!(quotient_modulo(2, 4, 6), None);
+/// ```
 ///
 /// # Panics
 ///

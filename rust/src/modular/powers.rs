@@ -2,10 +2,19 @@
 
 use crate::modular::products::Modular;
 
-/// Returns [`power_modulo`] and the number of turns of its loop, by [`Modular::power_modulo_counted`].
-/// `power_modulo_counted(3, 4, 7)` is `(4, 2)`, and `power_modulo_counted(3, 0, 7)` is `(1, 0)`.
+/// Returns [`power_modulo`] and the number of turns of its loop, by
+/// [`Modular::power_modulo_counted`].
 ///
 /// May be called where [`power_modulo`] may.
+///
+/// # Examples
+///
+/// ```
+/// use cellarcove::modular::counted::power_modulo_counted;
+///
+/// assert_eq!(power_modulo_counted(3, 4, 7), (4, 2));
+/// assert_eq!(power_modulo_counted(3, 0, 7), (1, 0));
+/// ```
 ///
 /// # Panics
 ///
@@ -27,9 +36,17 @@ pub fn power_modulo_counted<T: Modular>(a: T, exponent: u128, m: T) -> (T, u32) 
     a.power_modulo_counted(exponent, &m)
 }
 
-/// Returns `a` to the power `exponent` modulo `m`, by squares. `power_modulo(3, 4, 7)` is `4`.
+/// Returns `a` to the power `exponent` modulo `m`, by squares.
 ///
 /// May be called where `m` is above 0.
+///
+/// # Examples
+///
+/// ```
+/// use cellarcove::modular::power_modulo;
+///
+/// assert_eq!(power_modulo(3, 4, 7), 4);
+/// ```
 ///
 /// # Panics
 ///

@@ -9,9 +9,16 @@ use crate::Integer;
 /// default bodies double and add, and square and multiply.
 pub trait Modular: Integer + Copy {
     /// Returns `self * other` modulo `modulus`. The product need not fit the type.
-    /// `4.product_modulo(&5, &7)` is `6`.
     ///
     /// May be called where `modulus` is above 0.
+    ///
+    /// # Examples
+    ///
+    /// ```
+    /// use cellarcove::modular::Modular;
+    ///
+    /// assert_eq!(4.product_modulo(&5, &7), 6);
+    /// ```
     ///
     /// # Panics
     ///
@@ -36,11 +43,19 @@ pub trait Modular: Integer + Copy {
         )
     }
 
-    /// Returns `self` to the power `exponent` modulo `modulus`, and the number of turns of its loop. At an
-    /// exponent above 0 the turns are its binary logarithm, rounded down.
-    /// `3.power_modulo_counted(4, &7)` is `(4, 2)`, and `3.power_modulo_counted(0, &7)` is `(1, 0)`.
+    /// Returns `self` to the power `exponent` modulo `modulus`, and the number of turns of its loop. At
+    /// an exponent above 0 the turns are its binary logarithm, rounded down.
     ///
     /// May be called where `modulus` is above 0.
+    ///
+    /// # Examples
+    ///
+    /// ```
+    /// use cellarcove::modular::Modular;
+    ///
+    /// assert_eq!(3.power_modulo_counted(4, &7), (4, 2));
+    /// assert_eq!(3.power_modulo_counted(0, &7), (1, 0));
+    /// ```
     ///
     /// # Panics
     ///
@@ -71,9 +86,17 @@ pub trait Modular: Integer + Copy {
     }
 }
 
-/// Returns [`Modular::product_modulo`], `a * b` modulo `m`. `product_modulo(4, 5, 7)` is `6`.
+/// Returns [`Modular::product_modulo`], `a * b` modulo `m`.
 ///
 /// May be called where `m` is above 0.
+///
+/// # Examples
+///
+/// ```
+/// use cellarcove::modular::product_modulo;
+///
+/// assert_eq!(product_modulo(4, 5, 7), 6);
+/// ```
 ///
 /// # Panics
 ///

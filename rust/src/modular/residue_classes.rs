@@ -7,11 +7,19 @@ use crate::modular::residues::{are_congruent, difference_modulo, residue};
 use crate::operators::{is_below, quotient, successor, zero};
 use crate::{checked, Fits, Integer};
 
-/// Returns the numbers x for which `a` times x is `b` modulo `m`, as the first that is at least 0 and
-/// the step from each to the next, or `None` where there is no such number. `solutions(6, 4, 10)` is
-/// `Some((4, 5))`, and `solutions(6, 3, 10)` is `None`.
+/// Returns the numbers x for which `a` times x is `b` modulo `m`, as the first that is at least 0
+/// and the step from each to the next, or `None` where there is no such number.
 ///
 /// May be called where `m` is above 0.
+///
+/// # Examples
+///
+/// ```
+/// use cellarcove::modular::solutions;
+///
+/// assert_eq!(solutions(6, 4, 10), Some((4, 5)));
+/// assert_eq!(solutions(6, 3, 10), None);
+/// ```
 ///
 /// # Panics
 ///
@@ -43,10 +51,18 @@ pub fn solutions<T: Modular>(a: T, b: T, m: T) -> Option<(T, T)> {
     Some((first, step))
 }
 
-/// Returns the least number from `from` on that is `first` modulo `step`, or `None` where it is beyond
-/// the type. `next_congruent(10, 1, 4)` is `Some(13)`.
+/// Returns the least number from `from` on that is `first` modulo `step`, or `None` where it is
+/// beyond the type.
 ///
 /// May be called where `step` is above 0.
+///
+/// # Examples
+///
+/// ```
+/// use cellarcove::modular::next_congruent;
+///
+/// assert_eq!(next_congruent(10, 1, 4), Some(13));
+/// ```
 ///
 /// # Panics
 ///
@@ -70,10 +86,18 @@ pub fn next_congruent<T: Fits>(from: T, first: T, step: T) -> Option<T> {
     checked::sum(from, difference_modulo(first, from, step))
 }
 
-/// Returns the greatest number up to `to` that is `first` modulo `step`, or `None` where it is below
-/// the type. `previous_congruent(10, 1, 4)` is `Some(9)`.
+/// Returns the greatest number up to `to` that is `first` modulo `step`, or `None` where it is
+/// below the type.
 ///
 /// May be called where `step` is above 0.
+///
+/// # Examples
+///
+/// ```
+/// use cellarcove::modular::previous_congruent;
+///
+/// assert_eq!(previous_congruent(10, 1, 4), Some(9));
+/// ```
 ///
 /// # Panics
 ///
@@ -98,10 +122,18 @@ pub fn previous_congruent<T: Fits>(to: T, first: T, step: T) -> Option<T> {
     checked::difference(to, difference_modulo(to, first, step))
 }
 
-/// Returns how many numbers of `from..=to` are `first` modulo `step`, or `None` where that is beyond
-/// the type. `count_congruent(1, 10, 1, 4)` is `Some(3)`.
+/// Returns how many numbers of `from..=to` are `first` modulo `step`, or `None` where that is
+/// beyond the type.
 ///
 /// May be called where `step` is above 0.
+///
+/// # Examples
+///
+/// ```
+/// use cellarcove::modular::count_congruent;
+///
+/// assert_eq!(count_congruent(1, 10, 1, 4), Some(3));
+/// ```
 ///
 /// # Panics
 ///

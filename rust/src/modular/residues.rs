@@ -3,9 +3,17 @@
 use crate::operators::{difference, is_below, is_zero, sum};
 use crate::{mod_floor, Integer};
 
-/// Returns `a` modulo `m`, which is at least 0. `residue(-3, 7)` is `4`.
+/// Returns `a` modulo `m`, which is at least 0.
 ///
 /// May be called where `m` is above 0.
+///
+/// # Examples
+///
+/// ```
+/// use cellarcove::modular::residue;
+///
+/// assert_eq!(residue(-3, 7), 4);
+/// ```
 ///
 /// # Panics
 ///
@@ -25,9 +33,17 @@ pub fn residue<T: Integer>(a: T, m: T) -> T {
     mod_floor(a, m)
 }
 
-/// Returns `a + b` modulo `m`. The sum need not fit the type: `sum_modulo(200u8, 100, 201)` is `99`.
+/// Returns `a + b` modulo `m`. The sum need not fit the type:
 ///
 /// May be called where `m` is above 0.
+///
+/// # Examples
+///
+/// ```
+/// use cellarcove::modular::sum_modulo;
+///
+/// assert_eq!(sum_modulo(200u8, 100, 201), 99);
+/// ```
 ///
 /// # Panics
 ///
@@ -57,9 +73,17 @@ pub(crate) fn sum_of_residues<T: Integer + Copy>(x: T, y: T, m: T) -> T {
     }
 }
 
-/// Returns `a - b` modulo `m`, which is at least 0. `difference_modulo(2, 5, 7)` is `4`.
+/// Returns `a - b` modulo `m`, which is at least 0.
 ///
 /// May be called where `m` is above 0.
+///
+/// # Examples
+///
+/// ```
+/// use cellarcove::modular::difference_modulo;
+///
+/// assert_eq!(difference_modulo(2, 5, 7), 4);
+/// ```
 ///
 /// # Panics
 ///
@@ -84,10 +108,18 @@ pub fn difference_modulo<T: Integer + Copy>(a: T, b: T, m: T) -> T {
     }
 }
 
-/// Returns `-a` modulo `m`, which is at least 0. `negation_modulo(2, 7)` is `5`, and
-/// `negation_modulo(0, 7)` is `0`.
+/// Returns `-a` modulo `m`, which is at least 0.
 ///
 /// May be called where `m` is above 0.
+///
+/// # Examples
+///
+/// ```
+/// use cellarcove::modular::negation_modulo;
+///
+/// assert_eq!(negation_modulo(2, 7), 5);
+/// assert_eq!(negation_modulo(0, 7), 0);
+/// ```
 ///
 /// # Panics
 ///

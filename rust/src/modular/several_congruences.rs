@@ -7,12 +7,19 @@ use crate::modular::residues::are_congruent;
 use crate::operators::{one, zero};
 use crate::{checked, Fits, Integer};
 
-/// Returns the least number from `from` on that is congruent to the first number of each pair, modulo
-/// the second. No product of the moduli need fit. `next_common_solution_of(10, &[(1, 4), (3, 6), (0, 7)])`
-/// is `CommonSolution::At(21)`.
+/// Returns the least number from `from` on that is congruent to the first number of each pair,
+/// modulo the second. No product of the moduli need fit.
 ///
 /// May be called where each modulus is above 0. In Rattle, a function that passes on a slice of its own
 /// parameters asks its callers for `in_range` too.
+///
+/// # Examples
+///
+/// ```
+/// use cellarcove::modular::{next_common_solution_of, CommonSolution};
+///
+/// assert_eq!(next_common_solution_of(10, &[(1, 4), (3, 6), (0, 7)]), CommonSolution::At(21));
+/// ```
 ///
 /// # Panics
 ///

@@ -28,8 +28,16 @@ pub struct Ratio {
 }
 
 impl Ratio {
-    /// Returns the fraction `num / den`, reduced. `Ratio::new(6, -4)` is `Ratio::new(-3, 2)`, and
-    /// `Ratio::new(1, 0)` is `Err(RatioError::ZeroDenominator)`.
+    /// Returns the fraction `num / den`, reduced.
+    ///
+    /// # Examples
+    ///
+    /// ```
+    /// use cellarcove::ratio64::{Ratio, RatioError};
+    ///
+    /// assert_eq!(Ratio::new(6, -4), Ratio::new(-3, 2));
+    /// assert_eq!(Ratio::new(1, 0), Err(RatioError::ZeroDenominator));
+    /// ```
     ///
     /// # Proved
     ///
@@ -207,7 +215,15 @@ impl Ratio {
     }
 }
 
-/// A whole number is never refused: `Ok(Ratio::from(5))` is `Ratio::new(5, 1)`.
+/// A whole number is never refused:
+///
+/// # Examples
+///
+/// ```
+/// use cellarcove::ratio64::Ratio;
+///
+/// assert_eq!(Ok(Ratio::from(5)), Ratio::new(5, 1));
+/// ```
 ///
 /// # Proved
 ///

@@ -57,10 +57,18 @@ impl fmt::Display for ParseRatioError {
 
 impl Error for ParseRatioError {}
 
-/// Reads the form that `Display` writes: `num/den`, or only `num`. Each part is an optional `-`, then
-/// digits. `"6/-4".parse().ok()` is `Ratio::new(-3, 2).ok()`, and `"+1"` and `"1/"` are no fractions.
-/// The fraction is reduced before its parts have to fit: `"18446744073709551614/2".parse()` is
-/// `Ok(Ratio::from(i64::MAX))`.
+/// Reads the form that `Display` writes: `num/den`, or only `num`. Each part is an optional `-`,
+/// then digits. `"6/-4".parse().ok()` is `Ratio::new(-3, 2).ok()`, and `"+1"` and `"1/"` are no
+/// fractions. The fraction is reduced before its parts have to fit:
+///
+/// # Examples
+///
+/// ```
+/// use cellarcove::ratio64::Ratio;
+///
+/// assert_eq!("6/-4".parse().ok(), Ratio::new(-3, 2).ok());
+/// assert_eq!("18446744073709551614/2".parse(), Ok(Ratio::from(i64::MAX)));
+/// ```
 ///
 /// # Proved
 ///

@@ -4,7 +4,15 @@ use crate::operators::is_below;
 use crate::{average_floor, Average, Integer};
 
 /// Returns the middle of two numbers, in either order, rounded down. It never overflows.
-/// `midpoint(2, 5)` is `3`, and `midpoint(-2, -5)` is `-4`.
+///
+/// # Examples
+///
+/// ```
+/// use cellarcove::uses::halving::midpoint;
+///
+/// assert_eq!(midpoint(2, 5), 3);
+/// assert_eq!(midpoint(-2, -5), -4);
+/// ```
 ///
 /// # Proved
 ///
@@ -19,12 +27,20 @@ pub fn midpoint<T: Average>(a: T, b: T) -> T {
     average_floor(a, b)
 }
 
-/// Returns the place of the first item of a sorted slice that is at least `least`, or the length where
-/// there is none. `lower_bound(&[1, 3, 3, 5], 3)` is `1`.
+/// Returns the place of the first item of a sorted slice that is at least `least`, or the length
+/// where there is none.
 ///
 /// May be called where `items` is sorted.
 ///
 /// If the items are not sorted, the result is some place, as that of `binary_search` of a slice is.
+///
+/// # Examples
+///
+/// ```
+/// use cellarcove::uses::halving::lower_bound;
+///
+/// assert_eq!(lower_bound(&[1, 3, 3, 5], 3), 1);
+/// ```
 ///
 /// # Proved
 ///

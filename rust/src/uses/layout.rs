@@ -4,9 +4,18 @@ use crate::operators::{difference, is_zero};
 use crate::{mod_floor, Fits, Integer};
 
 /// Returns the offset rounded up to a multiple of the alignment, or `None` where that is beyond the
-/// type. `align_up(13, 8)` is `Some(16)`, and `align_up(-13, 8)` is `Some(-8)`.
+/// type.
 ///
 /// May be called where `alignment` is above 0.
+///
+/// # Examples
+///
+/// ```
+/// use cellarcove::uses::layout::align_up;
+///
+/// assert_eq!(align_up(13, 8), Some(16));
+/// assert_eq!(align_up(-13, 8), Some(-8));
+/// ```
 ///
 /// # Panics
 ///
@@ -34,10 +43,18 @@ pub fn align_up<T: Fits>(offset: T, alignment: T) -> Option<T> {
     }
 }
 
-/// Returns how many bytes to add to reach the next aligned offset. `padding(13, 8)` is `3`, and
-/// `padding(-13, 8)` is `5`.
+/// Returns how many bytes to add to reach the next aligned offset.
 ///
 /// May be called where `alignment` is above 0.
+///
+/// # Examples
+///
+/// ```
+/// use cellarcove::uses::layout::padding;
+///
+/// assert_eq!(padding(13, 8), 3);
+/// assert_eq!(padding(-13, 8), 5);
+/// ```
 ///
 /// # Panics
 ///

@@ -3,9 +3,18 @@
 use crate::operators::{difference, is_below, is_negative, product, successor, sum};
 use crate::{checked, div_ceil, div_mod_floor, Fits, Integer};
 
-/// Returns the fewest pages that hold all items. `pages(10, 4)` is `3`, and `pages(-9, 4)` is `-2`.
+/// Returns the fewest pages that hold all items.
 ///
 /// May be called where `page_size` is above 0.
+///
+/// # Examples
+///
+/// ```
+/// use cellarcove::uses::paging::pages;
+///
+/// assert_eq!(pages(10, 4), 3);
+/// assert_eq!(pages(-9, 4), -2);
+/// ```
 ///
 /// # Panics
 ///
@@ -27,10 +36,18 @@ pub fn pages<T: Integer>(items: T, page_size: T) -> T {
     div_ceil(items, page_size)
 }
 
-/// Returns the page of an item and its place on that page, all counted from 0. `place_of(10, 4)` is
-/// `(2, 2)`, and `place_of(-1, 4)` is `(-1, 3)`.
+/// Returns the page of an item and its place on that page, all counted from 0.
 ///
 /// May be called where `page_size` is above 0.
+///
+/// # Examples
+///
+/// ```
+/// use cellarcove::uses::paging::place_of;
+///
+/// assert_eq!(place_of(10, 4), (2, 2));
+/// assert_eq!(place_of(-1, 4), (-1, 3));
+/// ```
 ///
 /// # Panics
 ///
@@ -54,10 +71,18 @@ pub fn place_of<T: Integer>(item: T, page_size: T) -> (T, T) {
 }
 
 /// Returns the item at a place of a page, all counted from 0, or `None` if it does not fit.
-/// `item_at(2, 2, 4)` is `Some(10)`, `item_at(-1, 3, 4)` is `Some(-1)`, and `item_at(64u8, 0, 4)` is
-/// `None`.
 ///
 /// May be called where `place` is at least 0 and below `page_size`.
+///
+/// # Examples
+///
+/// ```
+/// use cellarcove::uses::paging::item_at;
+///
+/// assert_eq!(item_at(2, 2, 4), Some(10));
+/// assert_eq!(item_at(-1, 3, 4), Some(-1));
+/// assert_eq!(item_at(64u8, 0, 4), None);
+/// ```
 ///
 /// # Panics
 ///
@@ -96,11 +121,19 @@ pub fn item_at<T: Fits>(page: T, place: T, page_size: T) -> Option<T> {
     }
 }
 
-/// Returns the first index of a page and one past its last, among items and pages counted from 0. They
-/// are both `items` where no item lies on the page. `range_of_page(2, 4, 10)` is `(8, 10)`, and
-/// `range_of_page(3, 4, 10)` is `(10, 10)`.
+/// Returns the first index of a page and one past its last, among items and pages counted from 0.
+/// They are both `items` where no item lies on the page.
 ///
 /// May be called where `page_size` is above 0 and `items` at least 0.
+///
+/// # Examples
+///
+/// ```
+/// use cellarcove::uses::paging::range_of_page;
+///
+/// assert_eq!(range_of_page(2, 4, 10), (8, 10));
+/// assert_eq!(range_of_page(3, 4, 10), (10, 10));
+/// ```
 ///
 /// # Panics
 ///
@@ -136,12 +169,21 @@ pub fn range_of_page<T: Integer + Copy>(page: T, page_size: T, items: T) -> (T, 
     }
 }
 
-/// Returns the first index of a part and one past its last, where items are split into parts that follow
-/// one another from 0 on. No part is larger than the one before it, nor smaller by more than 1.
-/// `range_of_part(0, 3, 10)` is `(0, 4)`, `range_of_part(1, 3, 10)` is `(4, 7)`, and
-/// `range_of_part(2, 3, 10)` is `(7, 10)`.
+/// Returns the first index of a part and one past its last, where items are split into parts that
+/// follow one another from 0 on. No part is larger than the one before it, nor smaller by more than
+/// 1.
 ///
 /// May be called where `part` is in 0..`parts` and `items` at least 0.
+///
+/// # Examples
+///
+/// ```
+/// use cellarcove::uses::paging::range_of_part;
+///
+/// assert_eq!(range_of_part(0, 3, 10), (0, 4));
+/// assert_eq!(range_of_part(1, 3, 10), (4, 7));
+/// assert_eq!(range_of_part(2, 3, 10), (7, 10));
+/// ```
 ///
 /// # Panics
 ///

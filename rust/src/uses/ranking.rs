@@ -4,8 +4,16 @@ use crate::uses::halving::midpoint;
 use crate::{binomial, checked, Fits};
 
 /// Returns `true` if the numbers increase and are below `n`, as [`rank`] and [`next_choice`] ask.
-/// `is_choice(&[0, 2, 3], 5)` is `true`, `is_choice(&[0, 2, 2], 5)` is `false`, and
-/// `is_choice(&[0, 2, 5], 5)` is `false`.
+///
+/// # Examples
+///
+/// ```
+/// use cellarcove::uses::ranking::is_choice;
+///
+/// assert!(is_choice(&[0, 2, 3], 5));
+/// assert!(!is_choice(&[0, 2, 2], 5));
+/// assert!(!is_choice(&[0, 2, 5], 5));
+/// ```
 ///
 /// # Proved
 ///
@@ -25,8 +33,16 @@ pub fn is_choice(numbers: &[u64], n: u64) -> bool {
     true
 }
 
-/// Returns `true` if the rank of a choice fits a `u64`. `rank_fits(&[0, 2, 3])` is `true`, and
-/// `rank_fits(&[0, 10000000000])` is `false`.
+/// Returns `true` if the rank of a choice fits a `u64`.
+///
+/// # Examples
+///
+/// ```
+/// use cellarcove::uses::ranking::rank_fits;
+///
+/// assert!(rank_fits(&[0, 2, 3]));
+/// assert!(!rank_fits(&[0, 10000000000]));
+/// ```
 ///
 /// # Proved
 ///
@@ -50,10 +66,18 @@ fn checked_rank(choice: &[u64]) -> Option<u64> {
 }
 
 /// Returns the rank of a choice of numbers below `n`, in increasing order, among all choices of the
-/// same length: the number of those before it. `rank(&[0, 2, 3], 5)` is `2`.
+/// same length: the number of those before it.
 ///
 /// May be called where the numbers increase and are below `n`, which [`is_choice`] tests, and the rank
 /// fits a `u64`, which [`rank_fits`] tests. It fits if the number of all these choices does.
+///
+/// # Examples
+///
+/// ```
+/// use cellarcove::uses::ranking::rank;
+///
+/// assert_eq!(rank(&[0, 2, 3], 5), 2);
+/// ```
 ///
 /// # Panics
 ///

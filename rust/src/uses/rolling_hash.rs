@@ -67,7 +67,15 @@ impl RollingHash {
     }
 
     /// Returns the sum of the bytes, each times the base to the power of the number of bytes after it,
-    /// modulo the modulus. `RollingHash::new(10, 97, 2).hash(&[1, 2, 3])` is `26`.
+    /// modulo the modulus.
+    ///
+    /// # Examples
+    ///
+    /// ```
+    /// use cellarcove::uses::rolling_hash::RollingHash;
+    ///
+    /// assert_eq!(RollingHash::new(10, 97, 2).hash(&[1, 2, 3]), 26);
+    /// ```
     ///
     /// # Proved
     ///
@@ -88,7 +96,15 @@ impl RollingHash {
     }
 
     /// Returns the hash of the window one byte further on, where `hash` is that of the window that
-    /// begins with `leaving`. `RollingHash::new(10, 97, 2).slide(26, 1, 4)` is `40`.
+    /// begins with `leaving`.
+    ///
+    /// # Examples
+    ///
+    /// ```
+    /// use cellarcove::uses::rolling_hash::RollingHash;
+    ///
+    /// assert_eq!(RollingHash::new(10, 97, 2).slide(26, 1, 4), 40);
+    /// ```
     ///
     /// # Proved
     ///

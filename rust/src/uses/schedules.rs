@@ -8,10 +8,18 @@ use crate::{Fits, Integer};
 /// A first time, and the period after which it comes again.
 pub type Schedule<T> = (T, T);
 
-/// Returns the least time from `now` on at which both come. `next_meeting(10, (1, 4), (3, 6))` is
-/// `CommonSolution::At(21)`.
+/// Returns the least time from `now` on at which both come.
 ///
 /// May be called where both periods are above 0.
+///
+/// # Examples
+///
+/// ```
+/// use cellarcove::modular::CommonSolution;
+/// use cellarcove::uses::schedules::next_meeting;
+///
+/// assert_eq!(next_meeting(10, (1, 4), (3, 6)), CommonSolution::At(21));
+/// ```
 ///
 /// # Panics
 ///
@@ -40,11 +48,20 @@ pub fn next_meeting<T: Modular + Fits>(
     next_common_solution(from, a.0, a.1, b.0, b.1)
 }
 
-/// Returns the least time from `now` on at which each of the schedules comes. No product of the periods
-/// need fit. `next_meeting_of(10, &[(1, 4), (3, 6), (0, 7)])` is `CommonSolution::At(21)`.
+/// Returns the least time from `now` on at which each of the schedules comes. No product of the
+/// periods need fit.
 ///
 /// May be called where each period is above 0. In Rattle, a function that passes on a slice of its own
 /// parameters asks its callers for `in_range` too.
+///
+/// # Examples
+///
+/// ```
+/// use cellarcove::modular::CommonSolution;
+/// use cellarcove::uses::schedules::next_meeting_of;
+///
+/// assert_eq!(next_meeting_of(10, &[(1, 4), (3, 6), (0, 7)]), CommonSolution::At(21));
+/// ```
 ///
 /// # Panics
 ///
