@@ -17,6 +17,7 @@ import tempfile
 
 import rust_bounds
 import rust_docs
+import rust_errors
 import rust_guards
 from rattle_source import Unknown
 from rust_library import CRATES, ROOT, Library
@@ -167,8 +168,7 @@ class Eraser:
 
     def parameters(self, item):
         """A parameter that only a clause names is unused in Rust."""
-        opening = self.source.angle(item.word + 2)
-        names = {self.at(k) for k in range(opening, self.source.close(opening))
+        names = {self.at(k) for k in range(*self.source.parameters(item))
                  if self.kind(k) == 'word' and self.at(k + 1) == ':' and self.at(k + 2) != ':'}
         clauses = {self.at(k) for clause in item.clauses for k in range(clause.first, clause.last)}
         body = {self.at(k) for k in range(item.open, item.last)} | self.guards.tested if item.open else names
@@ -269,6 +269,7 @@ def write(out):
         target = out / 'src' / place
         target.parent.mkdir(parents=True, exist_ok=True)
         target.write_text(head_of_root(rust) if place == 'lib.rs' else rust)
+    rust_errors.see_all_used()
     for name in MADE_BY_HAND:
         shutil.copy(BY_HAND / f'{name}.rs', out / 'src')
     words = rust_docs.definitions(page, (BY_HAND / 'definitions.md').read_text())

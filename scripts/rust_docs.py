@@ -1,8 +1,9 @@
 """What is proved, as the doc comments of the Rust crate say it: a section `# Proved` of each public item with clauses, and
 the module `definitions`, which has each word that such a clause cites. Before it stand the sections `# Examples` of
-rust_examples.py and `# Panics` of rust_guards.py."""
+rust_examples.py, `# Panics` of rust_guards.py and `# Errors` of rust_errors.py."""
 import re
 
+import rust_errors
 import rust_examples
 from antt_words import Specs, cited, imported
 from rattle_source import Unknown
@@ -103,6 +104,7 @@ def add_sections(eraser, item, owner):
     prose = [source.tokens[i].text[3:].removeprefix(' ') for i in docs]
     remarks, panics = eraser.guards.sections(item, owner)
     sections = remarks + rust_examples.section(eraser, item, place) + panics
+    sections += rust_errors.section(eraser, item, owner)
     if item.kind in ('fn', 'struct', 'trait', 'impl'):
         sections += section(eraser, item, owner)
     if not sections:

@@ -9,7 +9,7 @@ WIDTH = 96                                      # of the lines of a comment
 EXAMPLE = r'`([^`]+)` is (?:`([^`]+)`)?'
 SENTENCE = re.compile(EXAMPLE)
 # A sentence of examples alone.
-ALONE = re.compile(r'(?:(?<=[.:] )|^)`[^`]+` is `[^`]+`(?:(?:,|, and| and) `[^`]+` is `[^`]+`)*\.(?: |$)')
+ALONE = re.compile(r'(?:(?<=[.] )|^)`[^`]+` is `[^`]+`(?:(?:,|, and| and) `[^`]+` is `[^`]+`)*\.(?: |$)')
 # Sentences of this form that are no examples, each with the reason.
 NO_EXAMPLE = {
     'RollingHash::new(10, 97, 2)': 'it says for which windows the hash is',

@@ -42,6 +42,11 @@ impl fmt::Display for Date {
     }
 }
 
+/// # Errors
+///
+/// - [`DateError`](crate::calendar::DateError) if the text is not the one that `Display` writes of
+///   a date.
+///
 /// # Proved
 ///
 /// ```text

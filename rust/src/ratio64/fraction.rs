@@ -39,6 +39,12 @@ impl Ratio {
     /// assert_eq!(Ratio::new(1, 0), Err(RatioError::ZeroDenominator));
     /// ```
     ///
+    /// # Errors
+    ///
+    /// - [`RatioError::ZeroDenominator`](crate::ratio64::RatioError::ZeroDenominator) if `den` is 0;
+    /// - [`RatioError::NotFitting`](crate::ratio64::RatioError::NotFitting) if a part of the reduced
+    ///   fraction does not fit an `i64`.
+    ///
     /// # Proved
     ///
     /// ```text
@@ -112,6 +118,11 @@ impl Ratio {
 
     /// Returns the sum, or `NotFitting` where a part of it does not fit. 1/2 and 1/3 give 5/6.
     ///
+    /// # Errors
+    ///
+    /// - [`RatioError::NotFitting`](crate::ratio64::RatioError::NotFitting) if a part of the sum does
+    ///   not fit an `i64`.
+    ///
     /// # Proved
     ///
     /// ```text
@@ -129,6 +140,11 @@ impl Ratio {
     }
 
     /// Returns the difference, or `NotFitting` where a part of it does not fit. 1/2 and 1/3 give 1/6.
+    ///
+    /// # Errors
+    ///
+    /// - [`RatioError::NotFitting`](crate::ratio64::RatioError::NotFitting) if a part of the difference
+    ///   does not fit an `i64`.
     ///
     /// # Proved
     ///
@@ -148,6 +164,11 @@ impl Ratio {
 
     /// Returns the product, or `NotFitting` where a part of it does not fit. 2/3 and 3/4 give 1/2.
     ///
+    /// # Errors
+    ///
+    /// - [`RatioError::NotFitting`](crate::ratio64::RatioError::NotFitting) if a part of the product
+    ///   does not fit an `i64`.
+    ///
     /// # Proved
     ///
     /// ```text
@@ -165,6 +186,12 @@ impl Ratio {
 
     /// Returns the quotient, or `ZeroDenominator` where `other` is 0, or `NotFitting` where a part of
     /// the quotient does not fit. -1/2 and -3/4 give 2/3.
+    ///
+    /// # Errors
+    ///
+    /// - [`RatioError::ZeroDenominator`](crate::ratio64::RatioError::ZeroDenominator) if `other` is 0;
+    /// - [`RatioError::NotFitting`](crate::ratio64::RatioError::NotFitting) if a part of the quotient
+    ///   does not fit an `i64`.
     ///
     /// # Proved
     ///
@@ -184,6 +211,13 @@ impl Ratio {
 
     /// Returns the reciprocal `den / num`, or `ZeroDenominator` where the fraction is 0, or
     /// `NotFitting` where the numerator is `i64::MIN`. That of -2/3 is -3/2.
+    ///
+    /// # Errors
+    ///
+    /// - [`RatioError::ZeroDenominator`](crate::ratio64::RatioError::ZeroDenominator) if the fraction
+    ///   is 0;
+    /// - [`RatioError::NotFitting`](crate::ratio64::RatioError::NotFitting) if the numerator is
+    ///   `i64::MIN`.
     ///
     /// # Proved
     ///
@@ -215,7 +249,7 @@ impl Ratio {
     }
 }
 
-/// A whole number is never refused:
+/// A whole number is never refused: `Ok(Ratio::from(5))` is `Ratio::new(5, 1)`.
 ///
 /// # Examples
 ///

@@ -57,9 +57,10 @@ impl fmt::Display for ParseRatioError {
 
 impl Error for ParseRatioError {}
 
-/// Reads the form that `Display` writes: `num/den`, or only `num`. Each part is an optional `-`,
-/// then digits. `"6/-4".parse().ok()` is `Ratio::new(-3, 2).ok()`, and `"+1"` and `"1/"` are no
-/// fractions. The fraction is reduced before its parts have to fit:
+/// Reads the form that `Display` writes: `num/den`, or only `num`. Each part is an optional `-`, then
+/// digits. `"6/-4".parse().ok()` is `Ratio::new(-3, 2).ok()`, and `"+1"` and `"1/"` are no fractions.
+/// The fraction is reduced before its parts have to fit: `"18446744073709551614/2".parse()` is
+/// `Ok(Ratio::from(i64::MAX))`.
 ///
 /// # Examples
 ///
@@ -69,6 +70,17 @@ impl Error for ParseRatioError {}
 /// assert_eq!("6/-4".parse().ok(), Ratio::new(-3, 2).ok());
 /// assert_eq!("18446744073709551614/2".parse(), Ok(Ratio::from(i64::MAX)));
 /// ```
+///
+/// # Errors
+///
+/// - [`ParseRatioError::NotAFraction`](crate::ratio64::ParseRatioError::NotAFraction) if the text
+///   is neither a whole number nor two of them with a slash between;
+/// - [`ParseRatioError::TooLong`](crate::ratio64::ParseRatioError::TooLong) if a part has more than
+///   38 digits, without its leading zeros;
+/// - [`ParseRatioError::ZeroDenominator`](crate::ratio64::ParseRatioError::ZeroDenominator) if the
+///   denominator is 0;
+/// - [`ParseRatioError::NotFitting`](crate::ratio64::ParseRatioError::NotFitting) if a part of the
+///   reduced fraction does not fit an `i64`.
 ///
 /// # Proved
 ///

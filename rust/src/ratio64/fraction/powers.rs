@@ -8,6 +8,13 @@ impl Ratio {
     /// `ZeroDenominator` for 0 to a negative power, and `NotFitting` where a part of the power does
     /// not fit.
     ///
+    /// # Errors
+    ///
+    /// - [`RatioError::ZeroDenominator`](crate::ratio64::RatioError::ZeroDenominator) if the fraction
+    ///   is 0 and the exponent is negative;
+    /// - [`RatioError::NotFitting`](crate::ratio64::RatioError::NotFitting) if a part of the power does
+    ///   not fit an `i64`.
+    ///
     /// # Proved
     ///
     /// ```text

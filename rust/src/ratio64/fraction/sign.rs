@@ -59,6 +59,11 @@ impl Ratio {
 
     /// Returns the negation, or `NotFitting` where the numerator is `i64::MIN`. That of -3/2 is 3/2.
     ///
+    /// # Errors
+    ///
+    /// - [`RatioError::NotFitting`](crate::ratio64::RatioError::NotFitting) if the numerator is
+    ///   `i64::MIN`.
+    ///
     /// # Proved
     ///
     /// ```text
@@ -78,6 +83,11 @@ impl Ratio {
     }
 
     /// Returns the magnitude, or `NotFitting` where the numerator is `i64::MIN`. That of -3/2 is 3/2.
+    ///
+    /// # Errors
+    ///
+    /// - [`RatioError::NotFitting`](crate::ratio64::RatioError::NotFitting) if the numerator is
+    ///   `i64::MIN`.
     ///
     /// # Proved
     ///
