@@ -1,7 +1,8 @@
-"""What is proved, as the doc comments of the Rust crate say it: a section `# Proved` of each public item with clauses, and
-the module `definitions`, which has each word that such a clause cites. Before it stand the sections `# Examples` of
-rust_examples.py, `# Panics` of rust_guards.py and `# Errors` of rust_errors.py."""
+"""What is proved, as the doc comments of the Rust crate say it: a folded section `Proved` of each public item with
+clauses, and the module `definitions`, which has each word that such a clause cites. Before it stand the sections
+`# Examples` of rust_examples.py, `# Panics` of rust_guards.py and `# Errors` of rust_errors.py."""
 import re
+import textwrap
 
 import rust_errors
 import rust_examples
@@ -15,7 +16,11 @@ LIES = rf'(?:{FITS}|All \(λ x\. {FITS}\) [\w.]+|All \w+\.fits result)'
 ONLY_LIES = re.compile(rf'\w+ (?:\w+ )?\{{ {LIES}(?: × {LIES})* \}}')
 # The ghost members of an implementation that say what its calls return. The others are proofs.
 STATED = {'output', 'from_str_gives', 'from_gives', 'is_default', 'cmp', 'partial_cmp', 'next_gives'}
-WIDTH = 100                                     # of the lines of links
+# What the clauses of an item that is no function say.
+SAYS = {'struct': 'Of the source, in Rattle: it holds of each value of the type.',
+        'impl': 'Of the source, in Rattle: what the calls of the trait return.',
+        'trait': 'What the proofs use of an implementation. Of those in this crate it is proved, in Rattle.'}
+WIDTH = 96                                      # of the lines of sentences and links
 # What the pages of the module `definitions` are about.
 PAGES = {'integer_core': 'ranges, division, divisors, Bezout pairs and the turns of their loops',
          'integer_roots': 'averages, roots and the turns of their loops', 'num_integer': 'coefficients and checked calls',
@@ -71,9 +76,17 @@ def section(eraser, item, owner):
         word = eraser.page.add(name, *names[name])
         if word:
             links.append(f'[`{name}`](crate::definitions::{word.crate}#{name.lower()})')
-    head = '# Laws' if item.kind == 'trait' else '# Proved'
+    head = 'Laws' if item.kind == 'trait' else 'Proved'
     links = wrapped('Words:', links + ['[how to read it](crate::definitions)'])
-    return ['', head, '', '```text', *'\n'.join(texts).split('\n'), '```', '', *links]
+    return ['', f'<details><summary>{head}</summary>', '', *in_words(item, {text.split()[0] for text in texts}), '',
+            '```text', *'\n'.join(texts).split('\n'), '```', '', *links, '', '</details>']
+
+
+def in_words(item, words):
+    """The lines before the clauses, which begin with these words."""
+    call = 'where each `requires` holds, the call returns' if 'requires' in words else 'each call returns'
+    then = ', and then each `ensures` holds' if 'ensures' in words else ''
+    return textwrap.wrap(SAYS.get(item.kind, f'Of the source, in Rattle: {call}{then}.'), WIDTH)
 
 
 def wrapped(line, links):

@@ -4,8 +4,8 @@
 //!
 //! But for this page and a few short files, these sources are not written by hand. They are those
 //! of the proved library without their contracts: each body was proved in Rattle, which is Rust with
-//! contracts, for arguments in its domain, against the contract of the same name. The section
-//! `# Proved` of an item has that contract, and [`definitions`] has its words.
+//! contracts, for arguments in its domain, against the contract of the same name. The folded
+//! section `Proved` of an item has that contract, and [`definitions`] has its words.
 //!
 //! A type of your own is an [`Integer`] if it has an order, the operators of `Num` of [`num_traits`],
 //! which is exported here, and eight methods:

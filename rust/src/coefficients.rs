@@ -58,7 +58,10 @@ pub(crate) fn nearer_end<T: Integer + Copy>(n: T, k: T) -> T {
 ///
 /// If `n` is negative, or if `k` is negative, or if the binomial coefficient does not fit.
 ///
-/// # Proved
+/// <details><summary>Proved</summary>
+///
+/// Of the source, in Rattle: where each `requires` holds, the call returns, and then each `ensures`
+/// holds.
 ///
 /// ```text
 /// requires n_from_zero { pos 0 ≤ℤ T.value n }
@@ -72,7 +75,10 @@ pub(crate) fn nearer_end<T: Integer + Copy>(n: T, k: T) -> T {
 /// ```
 ///
 /// Words: [`coefficient_of`](crate::definitions::num_integer#coefficient_of),
-/// [`coefficient`](crate::definitions::num_integer#coefficient), [how to read it](crate::definitions).
+/// [`coefficient`](crate::definitions::num_integer#coefficient),
+/// [how to read it](crate::definitions).
+///
+/// </details>
 #[track_caller]
 pub fn binomial_counted<T: Integer + Copy>(n: T, k: T) -> (T, u32) {
     assert!(n >= T::zero(), "`n` is negative");
@@ -115,7 +121,10 @@ pub fn binomial_counted<T: Integer + Copy>(n: T, k: T) -> (T, u32) {
 ///
 /// If `n` is negative, or if `k` is negative, or if the binomial coefficient does not fit.
 ///
-/// # Proved
+/// <details><summary>Proved</summary>
+///
+/// Of the source, in Rattle: where each `requires` holds, the call returns, and then each `ensures`
+/// holds.
 ///
 /// ```text
 /// requires n_from_zero { pos 0 ≤ℤ T.value n }
@@ -125,7 +134,10 @@ pub fn binomial_counted<T: Integer + Copy>(n: T, k: T) -> (T, u32) {
 /// ```
 ///
 /// Words: [`coefficient_of`](crate::definitions::num_integer#coefficient_of),
-/// [`coefficient`](crate::definitions::num_integer#coefficient), [how to read it](crate::definitions).
+/// [`coefficient`](crate::definitions::num_integer#coefficient),
+/// [how to read it](crate::definitions).
+///
+/// </details>
 #[track_caller]
 pub fn binomial<T: Integer + Copy>(n: T, k: T) -> T {
     assert!(n >= T::zero(), "`n` is negative");
@@ -150,7 +162,10 @@ pub fn binomial<T: Integer + Copy>(n: T, k: T) -> T {
 ///
 /// If a count is negative, or if the multinomial coefficient does not fit.
 ///
-/// # Proved
+/// <details><summary>Proved</summary>
+///
+/// Of the source, in Rattle: where each `requires` holds, the call returns, and then each `ensures`
+/// holds.
 ///
 /// ```text
 /// requires counts_from_zero { All (λ x. pos 0 ≤ℤ T.value x) k.now }
@@ -161,6 +176,8 @@ pub fn binomial<T: Integer + Copy>(n: T, k: T) -> T {
 /// Words: [`EachFits`](crate::definitions::integer_core#eachfits),
 /// [`IsMultinomial`](crate::definitions::num_integer#ismultinomial),
 /// [how to read it](crate::definitions).
+///
+/// </details>
 #[track_caller]
 pub fn multinomial<T: Integer + Copy>(k: &[T]) -> T {
     assert!(

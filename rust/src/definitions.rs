@@ -1,4 +1,4 @@
-//! The words of the sections `# Proved`, as they stand in the definitions of the proved sources.
+//! The words of the folded sections `Proved` and `Laws`, as they stand in the definitions of the proved sources.
 //!
 //! A section has clauses. A `requires` is a condition on the arguments, and an `ensures` says what then holds as the call
 //! returns. A `ghost` says what holds of each value of a type, or what the call of a trait of std returns. A clause may have

@@ -19,7 +19,9 @@ pub trait Fits: Integer + Copy {
     /// assert_eq!((-5).parts(), (true, 5));
     /// ```
     ///
-    /// # Proved
+    /// <details><summary>Proved</summary>
+    ///
+    /// Of the source, in Rattle: each call returns, and then each `ensures` holds.
     ///
     /// ```text
     /// ensures negative { IsTrue result.0 ↔ (Self.value self.now <ℤ pos 0) }
@@ -27,6 +29,8 @@ pub trait Fits: Integer + Copy {
     /// ```
     ///
     /// Words: [how to read it](crate::definitions).
+    ///
+    /// </details>
     fn parts(&self) -> (bool, u128);
 
     /// Returns the magnitude of the least number of the type, and its greatest number.
@@ -39,7 +43,9 @@ pub trait Fits: Integer + Copy {
     /// assert_eq!(i8::ends(), (128, 127));
     /// ```
     ///
-    /// # Proved
+    /// <details><summary>Proved</summary>
+    ///
+    /// Of the source, in Rattle: each call returns, and then each `ensures` holds.
     ///
     /// ```text
     /// ensures low { result.0 ≡ unsigned_abs Self.low }
@@ -47,6 +53,8 @@ pub trait Fits: Integer + Copy {
     /// ```
     ///
     /// Words: [how to read it](crate::definitions).
+    ///
+    /// </details>
     fn ends() -> (u128, u128);
 
     /// Returns `true` if `div_rem`, `div_floor`, `div_mod_floor` and `div_ceil` may be called: not for
@@ -61,7 +69,9 @@ pub trait Fits: Integer + Copy {
     /// assert!(!i8::MIN.quotient_fits(&-1));
     /// ```
     ///
-    /// # Proved
+    /// <details><summary>Proved</summary>
+    ///
+    /// Of the source, in Rattle: each call returns, and then each `ensures` holds.
     ///
     /// ```text
     /// ensures domain { EachKind (λ Kind. IsTrue result ↔ ((Self.value other.now ≢ pos 0)
@@ -73,6 +83,8 @@ pub trait Fits: Integer + Copy {
     /// Words: [`EachKind`](crate::definitions::integer_core#eachkind),
     /// [`EachFits`](crate::definitions::integer_core#eachfits),
     /// [`IsQuotient`](crate::definitions::integer_core#isquotient), [how to read it](crate::definitions).
+    ///
+    /// </details>
     fn quotient_fits(&self, other: &Self) -> bool {
         if is_zero(*other) {
             false
@@ -95,7 +107,9 @@ pub trait Fits: Integer + Copy {
     /// assert!(!251u8.next_multiple_fits(&8));
     /// ```
     ///
-    /// # Proved
+    /// <details><summary>Proved</summary>
+    ///
+    /// Of the source, in Rattle: each call returns, and then each `ensures` holds.
     ///
     /// ```text
     /// ensures { IsTrue result ↔ ((Self.value other.now ≢ pos 0)
@@ -105,6 +119,8 @@ pub trait Fits: Integer + Copy {
     /// Words: [`EachFits`](crate::definitions::integer_core#eachfits),
     /// [`IsMultiple`](crate::definitions::integer_core#ismultiple),
     /// [`IsCeiled`](crate::definitions::integer_core#isceiled), [how to read it](crate::definitions).
+    ///
+    /// </details>
     fn next_multiple_fits(&self, other: &Self) -> bool {
         if is_zero(*other) {
             return false;
@@ -132,7 +148,9 @@ pub trait Fits: Integer + Copy {
     /// assert!(!(-125i8).prev_multiple_fits(&10));
     /// ```
     ///
-    /// # Proved
+    /// <details><summary>Proved</summary>
+    ///
+    /// Of the source, in Rattle: each call returns, and then each `ensures` holds.
     ///
     /// ```text
     /// ensures { IsTrue result ↔ ((Self.value other.now ≢ pos 0)
@@ -142,6 +160,8 @@ pub trait Fits: Integer + Copy {
     /// Words: [`EachFits`](crate::definitions::integer_core#eachfits),
     /// [`IsMultiple`](crate::definitions::integer_core#ismultiple),
     /// [`IsFloored`](crate::definitions::integer_core#isfloored), [how to read it](crate::definitions).
+    ///
+    /// </details>
     fn prev_multiple_fits(&self, other: &Self) -> bool {
         if is_zero(*other) {
             return false;
@@ -162,7 +182,9 @@ pub trait Fits: Integer + Copy {
     /// assert!(!i8::MIN.gcd_fits(&0));
     /// ```
     ///
-    /// # Proved
+    /// <details><summary>Proved</summary>
+    ///
+    /// Of the source, in Rattle: each call returns, and then each `ensures` holds.
     ///
     /// ```text
     /// ensures domain { IsTrue result ↔ EachFits Self.fits
@@ -173,6 +195,8 @@ pub trait Fits: Integer + Copy {
     /// Words: [`EachFits`](crate::definitions::integer_core#eachfits),
     /// [`IsGreatestCommonDivisor`](crate::definitions::integer_core#isgreatestcommondivisor),
     /// [how to read it](crate::definitions).
+    ///
+    /// </details>
     fn gcd_fits(&self, other: &Self) -> bool {
         let (_, high) = Self::ends();
         let (_, a) = self.parts();
@@ -196,7 +220,9 @@ pub trait Fits: Integer + Copy {
     /// assert!(!16u8.lcm_fits(&17));
     /// ```
     ///
-    /// # Proved
+    /// <details><summary>Proved</summary>
+    ///
+    /// Of the source, in Rattle: each call returns, and then each `ensures` holds.
     ///
     /// ```text
     /// ensures { IsTrue result ↔ EachFits Self.fits
@@ -206,6 +232,8 @@ pub trait Fits: Integer + Copy {
     /// Words: [`EachFits`](crate::definitions::integer_core#eachfits),
     /// [`IsLeastCommonMultiple`](crate::definitions::integer_core#isleastcommonmultiple),
     /// [how to read it](crate::definitions).
+    ///
+    /// </details>
     fn lcm_fits(&self, other: &Self) -> bool {
         let (_, high) = Self::ends();
         let (_, m) = self.parts();
@@ -232,7 +260,9 @@ pub trait Fits: Integer + Copy {
     /// assert!(!11u8.binomial_fits(&4));
     /// ```
     ///
-    /// # Proved
+    /// <details><summary>Proved</summary>
+    ///
+    /// Of the source, in Rattle: each call returns, and then each `ensures` holds.
     ///
     /// ```text
     /// ensures { IsTrue result ↔ ((pos 0 ≤ℤ Self.value self.now) × (pos 0 ≤ℤ Self.value k.now)
@@ -241,6 +271,8 @@ pub trait Fits: Integer + Copy {
     ///
     /// Words: [`coefficient_of`](crate::definitions::num_integer#coefficient_of),
     /// [how to read it](crate::definitions).
+    ///
+    /// </details>
     fn binomial_fits(&self, k: &Self) -> bool {
         let (n_negative, n) = self.parts();
         let (k_negative, k) = k.parts();
@@ -262,7 +294,9 @@ pub trait Fits: Integer + Copy {
     /// assert!(!u8::multinomial_fits(&[255, 1]));
     /// ```
     ///
-    /// # Proved
+    /// <details><summary>Proved</summary>
+    ///
+    /// Of the source, in Rattle: each call returns, and then each `ensures` holds.
     ///
     /// ```text
     /// ensures { IsTrue result ↔ (All (λ x. pos 0 ≤ℤ Self.value x) counts.now
@@ -272,6 +306,8 @@ pub trait Fits: Integer + Copy {
     /// Words: [`EachFits`](crate::definitions::integer_core#eachfits),
     /// [`IsMultinomial`](crate::definitions::num_integer#ismultinomial),
     /// [how to read it](crate::definitions).
+    ///
+    /// </details>
     fn multinomial_fits(counts: &[Self]) -> bool {
         let most = Self::ends().1;
         let mut running = RunningMultinomial {

@@ -17,14 +17,19 @@ use operators::{difference, predecessor, successor, sum};
 
 /// A type of whole numbers.
 ///
-/// # Laws
+/// <details><summary>Laws</summary>
+///
+/// What the proofs use of an implementation. Of those in this crate it is proved, in Rattle.
 ///
 /// ```text
 /// ghost exact_law: { Self.exact }
 /// ghost range_law: { IsRange Self.fits low high }
 /// ```
 ///
-/// Words: [`IsRange`](crate::definitions::integer_core#isrange), [how to read it](crate::definitions).
+/// Words: [`IsRange`](crate::definitions::integer_core#isrange),
+/// [how to read it](crate::definitions).
+///
+/// </details>
 pub trait Integer: Sized + Num + PartialOrd + Ord + Eq {
     /// Returns the quotient rounded toward zero, and its remainder.
     ///
@@ -42,7 +47,10 @@ pub trait Integer: Sized + Num + PartialOrd + Ord + Eq {
     ///
     /// If `other` is 0, or if the quotient does not fit.
     ///
-    /// # Proved
+    /// <details><summary>Proved</summary>
+    ///
+    /// Of the source, in Rattle: where each `requires` holds, the call returns, and then each `ensures`
+    /// holds.
     ///
     /// ```text
     /// requires nonzero { Self.value other.now ≢ pos 0 }
@@ -54,7 +62,10 @@ pub trait Integer: Sized + Num + PartialOrd + Ord + Eq {
     ///
     /// Words: [`EachFits`](crate::definitions::integer_core#eachfits),
     /// [`IsQuotient`](crate::definitions::integer_core#isquotient),
-    /// [`IsTruncated`](crate::definitions::integer_core#istruncated), [how to read it](crate::definitions).
+    /// [`IsTruncated`](crate::definitions::integer_core#istruncated),
+    /// [how to read it](crate::definitions).
+    ///
+    /// </details>
     #[track_caller]
     fn div_rem(&self, other: &Self) -> (Self, Self);
 
@@ -74,7 +85,10 @@ pub trait Integer: Sized + Num + PartialOrd + Ord + Eq {
     ///
     /// If `other` is 0, or if the quotient does not fit.
     ///
-    /// # Proved
+    /// <details><summary>Proved</summary>
+    ///
+    /// Of the source, in Rattle: where each `requires` holds, the call returns, and then each `ensures`
+    /// holds.
     ///
     /// ```text
     /// requires nonzero { Self.value other.now ≢ pos 0 }
@@ -87,6 +101,8 @@ pub trait Integer: Sized + Num + PartialOrd + Ord + Eq {
     /// Words: [`EachFits`](crate::definitions::integer_core#eachfits),
     /// [`IsQuotient`](crate::definitions::integer_core#isquotient),
     /// [`IsFloored`](crate::definitions::integer_core#isfloored), [how to read it](crate::definitions).
+    ///
+    /// </details>
     #[track_caller]
     fn div_floor(&self, other: &Self) -> Self;
 
@@ -106,7 +122,10 @@ pub trait Integer: Sized + Num + PartialOrd + Ord + Eq {
     ///
     /// If `other` is 0.
     ///
-    /// # Proved
+    /// <details><summary>Proved</summary>
+    ///
+    /// Of the source, in Rattle: where each `requires` holds, the call returns, and then each `ensures`
+    /// holds.
     ///
     /// ```text
     /// requires nonzero { Self.value other.now ≢ pos 0 }
@@ -116,6 +135,8 @@ pub trait Integer: Sized + Num + PartialOrd + Ord + Eq {
     ///
     /// Words: [`IsRemainder`](crate::definitions::integer_core#isremainder),
     /// [`IsFloored`](crate::definitions::integer_core#isfloored), [how to read it](crate::definitions).
+    ///
+    /// </details>
     #[track_caller]
     fn mod_floor(&self, other: &Self) -> Self;
 
@@ -135,7 +156,10 @@ pub trait Integer: Sized + Num + PartialOrd + Ord + Eq {
     ///
     /// If `other` is 0, or if the quotient does not fit.
     ///
-    /// # Proved
+    /// <details><summary>Proved</summary>
+    ///
+    /// Of the source, in Rattle: where each `requires` holds, the call returns, and then each `ensures`
+    /// holds.
     ///
     /// ```text
     /// requires nonzero { Self.value other.now ≢ pos 0 }
@@ -148,6 +172,8 @@ pub trait Integer: Sized + Num + PartialOrd + Ord + Eq {
     /// Words: [`EachFits`](crate::definitions::integer_core#eachfits),
     /// [`IsQuotient`](crate::definitions::integer_core#isquotient),
     /// [`IsFloored`](crate::definitions::integer_core#isfloored), [how to read it](crate::definitions).
+    ///
+    /// </details>
     #[track_caller]
     fn div_mod_floor(&self, other: &Self) -> (Self, Self) {
         (self.div_floor(other), self.mod_floor(other))
@@ -169,7 +195,10 @@ pub trait Integer: Sized + Num + PartialOrd + Ord + Eq {
     ///
     /// If `other` is 0, or if the quotient does not fit.
     ///
-    /// # Proved
+    /// <details><summary>Proved</summary>
+    ///
+    /// Of the source, in Rattle: where each `requires` holds, the call returns, and then each `ensures`
+    /// holds.
     ///
     /// ```text
     /// requires nonzero { Self.value other.now ≢ pos 0 }
@@ -182,6 +211,8 @@ pub trait Integer: Sized + Num + PartialOrd + Ord + Eq {
     /// Words: [`EachFits`](crate::definitions::integer_core#eachfits),
     /// [`IsQuotient`](crate::definitions::integer_core#isquotient),
     /// [`IsCeiled`](crate::definitions::integer_core#isceiled), [how to read it](crate::definitions).
+    ///
+    /// </details>
     #[track_caller]
     fn div_ceil(&self, other: &Self) -> Self {
         let (q, r) = self.div_mod_floor(other);
@@ -209,7 +240,10 @@ pub trait Integer: Sized + Num + PartialOrd + Ord + Eq {
     ///
     /// If `other` is 0, or if the multiple does not fit.
     ///
-    /// # Proved
+    /// <details><summary>Proved</summary>
+    ///
+    /// Of the source, in Rattle: where each `requires` holds, the call returns, and then each `ensures`
+    /// holds.
     ///
     /// ```text
     /// requires nonzero { Self.value other.now ≢ pos 0 }
@@ -222,6 +256,8 @@ pub trait Integer: Sized + Num + PartialOrd + Ord + Eq {
     /// Words: [`EachFits`](crate::definitions::integer_core#eachfits),
     /// [`IsMultiple`](crate::definitions::integer_core#ismultiple),
     /// [`IsCeiled`](crate::definitions::integer_core#isceiled), [how to read it](crate::definitions).
+    ///
+    /// </details>
     #[track_caller]
     fn next_multiple_of(&self, other: &Self) -> Self
     where
@@ -252,7 +288,10 @@ pub trait Integer: Sized + Num + PartialOrd + Ord + Eq {
     ///
     /// If `other` is 0, or if the multiple does not fit.
     ///
-    /// # Proved
+    /// <details><summary>Proved</summary>
+    ///
+    /// Of the source, in Rattle: where each `requires` holds, the call returns, and then each `ensures`
+    /// holds.
     ///
     /// ```text
     /// requires nonzero { Self.value other.now ≢ pos 0 }
@@ -265,6 +304,8 @@ pub trait Integer: Sized + Num + PartialOrd + Ord + Eq {
     /// Words: [`EachFits`](crate::definitions::integer_core#eachfits),
     /// [`IsMultiple`](crate::definitions::integer_core#ismultiple),
     /// [`IsFloored`](crate::definitions::integer_core#isfloored), [how to read it](crate::definitions).
+    ///
+    /// </details>
     #[track_caller]
     fn prev_multiple_of(&self, other: &Self) -> Self
     where
@@ -283,13 +324,18 @@ pub trait Integer: Sized + Num + PartialOrd + Ord + Eq {
     /// assert!(9.is_multiple_of(&3));
     /// ```
     ///
-    /// # Proved
+    /// <details><summary>Proved</summary>
+    ///
+    /// Of the source, in Rattle: each call returns, and then each `ensures` holds.
     ///
     /// ```text
     /// ensures { IsTrue result ↔ Divides (Self.value other.now) (Self.value self.now) }
     /// ```
     ///
-    /// Words: [`Divides`](crate::definitions::integer_core#divides), [how to read it](crate::definitions).
+    /// Words: [`Divides`](crate::definitions::integer_core#divides),
+    /// [how to read it](crate::definitions).
+    ///
+    /// </details>
     fn is_multiple_of(&self, other: &Self) -> bool;
 
     /// Deprecated: use [`Integer::is_multiple_of`], which returns the same.
@@ -302,13 +348,18 @@ pub trait Integer: Sized + Num + PartialOrd + Ord + Eq {
     /// assert!(9.divides(&3));
     /// ```
     ///
-    /// # Proved
+    /// <details><summary>Proved</summary>
+    ///
+    /// Of the source, in Rattle: each call returns, and then each `ensures` holds.
     ///
     /// ```text
     /// ensures { IsTrue result ↔ Divides (Self.value other.now) (Self.value self.now) }
     /// ```
     ///
-    /// Words: [`Divides`](crate::definitions::integer_core#divides), [how to read it](crate::definitions).
+    /// Words: [`Divides`](crate::definitions::integer_core#divides),
+    /// [how to read it](crate::definitions).
+    ///
+    /// </details>
     fn divides(&self, other: &Self) -> bool {
         self.is_multiple_of(other)
     }
@@ -323,13 +374,17 @@ pub trait Integer: Sized + Num + PartialOrd + Ord + Eq {
     /// assert!(4.is_even());
     /// ```
     ///
-    /// # Proved
+    /// <details><summary>Proved</summary>
+    ///
+    /// Of the source, in Rattle: each call returns, and then each `ensures` holds.
     ///
     /// ```text
     /// ensures { IsTrue result ↔ IsEven (Self.value self.now) }
     /// ```
     ///
     /// Words: [`IsEven`](crate::definitions::integer_core#iseven), [how to read it](crate::definitions).
+    ///
+    /// </details>
     fn is_even(&self) -> bool;
 
     /// Returns `true` if the number is odd.
@@ -342,13 +397,17 @@ pub trait Integer: Sized + Num + PartialOrd + Ord + Eq {
     /// assert!(3.is_odd());
     /// ```
     ///
-    /// # Proved
+    /// <details><summary>Proved</summary>
+    ///
+    /// Of the source, in Rattle: each call returns, and then each `ensures` holds.
     ///
     /// ```text
     /// ensures { IsTrue result ↔ ¬ (IsEven (Self.value self.now)) }
     /// ```
     ///
     /// Words: [`IsEven`](crate::definitions::integer_core#iseven), [how to read it](crate::definitions).
+    ///
+    /// </details>
     fn is_odd(&self) -> bool;
 
     /// Adds one. `x.inc()` turns an `x` of `41` into `42`.
@@ -359,7 +418,10 @@ pub trait Integer: Sized + Num + PartialOrd + Ord + Eq {
     ///
     /// If the result does not fit.
     ///
-    /// # Proved
+    /// <details><summary>Proved</summary>
+    ///
+    /// Of the source, in Rattle: where each `requires` holds, the call returns, and then each `ensures`
+    /// holds.
     ///
     /// ```text
     /// requires sum_fits { Self.fits (Self.value self.old +ℤ pos 1) }
@@ -367,6 +429,8 @@ pub trait Integer: Sized + Num + PartialOrd + Ord + Eq {
     /// ```
     ///
     /// Words: [how to read it](crate::definitions).
+    ///
+    /// </details>
     #[track_caller]
     fn inc(&mut self)
     where
@@ -383,7 +447,10 @@ pub trait Integer: Sized + Num + PartialOrd + Ord + Eq {
     ///
     /// If the result does not fit.
     ///
-    /// # Proved
+    /// <details><summary>Proved</summary>
+    ///
+    /// Of the source, in Rattle: where each `requires` holds, the call returns, and then each `ensures`
+    /// holds.
     ///
     /// ```text
     /// requires difference_fits { Self.fits (Self.value self.old -ℤ pos 1) }
@@ -391,6 +458,8 @@ pub trait Integer: Sized + Num + PartialOrd + Ord + Eq {
     /// ```
     ///
     /// Words: [how to read it](crate::definitions).
+    ///
+    /// </details>
     #[track_caller]
     fn dec(&mut self)
     where
@@ -416,7 +485,10 @@ pub trait Integer: Sized + Num + PartialOrd + Ord + Eq {
     ///
     /// If the greatest common divisor does not fit.
     ///
-    /// # Proved
+    /// <details><summary>Proved</summary>
+    ///
+    /// Of the source, in Rattle: where each `requires` holds, the call returns, and then each `ensures`
+    /// holds.
     ///
     /// ```text
     /// requires gcd_fits { GcdFits Self.fits (Self.value self.now) (Self.value other.now) }
@@ -427,6 +499,8 @@ pub trait Integer: Sized + Num + PartialOrd + Ord + Eq {
     /// Words: [`GcdFits`](crate::definitions::integer_core#gcdfits),
     /// [`IsGreatestCommonDivisor`](crate::definitions::integer_core#isgreatestcommondivisor),
     /// [how to read it](crate::definitions).
+    ///
+    /// </details>
     #[track_caller]
     fn gcd(&self, other: &Self) -> Self;
 
@@ -447,7 +521,10 @@ pub trait Integer: Sized + Num + PartialOrd + Ord + Eq {
     ///
     /// If the least common multiple does not fit.
     ///
-    /// # Proved
+    /// <details><summary>Proved</summary>
+    ///
+    /// Of the source, in Rattle: where each `requires` holds, the call returns, and then each `ensures`
+    /// holds.
     ///
     /// ```text
     /// requires lcm_fits { EachFits Self.fits
@@ -459,6 +536,8 @@ pub trait Integer: Sized + Num + PartialOrd + Ord + Eq {
     /// Words: [`EachFits`](crate::definitions::integer_core#eachfits),
     /// [`IsLeastCommonMultiple`](crate::definitions::integer_core#isleastcommonmultiple),
     /// [how to read it](crate::definitions).
+    ///
+    /// </details>
     #[track_caller]
     fn lcm(&self, other: &Self) -> Self;
 
@@ -478,7 +557,10 @@ pub trait Integer: Sized + Num + PartialOrd + Ord + Eq {
     ///
     /// If the greatest common divisor does not fit, or if the least common multiple does not fit.
     ///
-    /// # Proved
+    /// <details><summary>Proved</summary>
+    ///
+    /// Of the source, in Rattle: where each `requires` holds, the call returns, and then each `ensures`
+    /// holds.
     ///
     /// ```text
     /// requires gcd_fits { GcdFits Self.fits (Self.value self.now) (Self.value other.now) }
@@ -495,6 +577,8 @@ pub trait Integer: Sized + Num + PartialOrd + Ord + Eq {
     /// [`IsLeastCommonMultiple`](crate::definitions::integer_core#isleastcommonmultiple),
     /// [`IsGreatestCommonDivisor`](crate::definitions::integer_core#isgreatestcommondivisor),
     /// [how to read it](crate::definitions).
+    ///
+    /// </details>
     #[track_caller]
     fn gcd_lcm(&self, other: &Self) -> (Self, Self) {
         (self.gcd(other), self.lcm(other))
@@ -520,7 +604,10 @@ pub trait Integer: Sized + Num + PartialOrd + Ord + Eq {
     /// If the greatest common divisor does not fit, or if the type is unsigned and neither number
     /// divides the other.
     ///
-    /// # Proved
+    /// <details><summary>Proved</summary>
+    ///
+    /// Of the source, in Rattle: where each `requires` holds, the call returns, and then each `ensures`
+    /// holds.
     ///
     /// ```text
     /// requires gcd_fits { GcdFits Self.fits (Self.value self.now) (Self.value other.now) }
@@ -533,6 +620,8 @@ pub trait Integer: Sized + Num + PartialOrd + Ord + Eq {
     /// [`HasPair`](crate::definitions::integer_core#haspair),
     /// [`IsBezoutAnswer`](crate::definitions::integer_core#isbezoutanswer),
     /// [how to read it](crate::definitions).
+    ///
+    /// </details>
     #[track_caller]
     fn extended_gcd(&self, other: &Self) -> ExtendedGcd<Self>
     where
@@ -558,7 +647,10 @@ pub trait Integer: Sized + Num + PartialOrd + Ord + Eq {
     /// If the greatest common divisor does not fit, or if the type is unsigned and neither number
     /// divides the other, or if the least common multiple does not fit.
     ///
-    /// # Proved
+    /// <details><summary>Proved</summary>
+    ///
+    /// Of the source, in Rattle: where each `requires` holds, the call returns, and then each `ensures`
+    /// holds.
     ///
     /// ```text
     /// requires gcd_fits { GcdFits Self.fits (Self.value self.now) (Self.value other.now) }
@@ -577,6 +669,8 @@ pub trait Integer: Sized + Num + PartialOrd + Ord + Eq {
     /// [`IsLeastCommonMultiple`](crate::definitions::integer_core#isleastcommonmultiple),
     /// [`IsBezoutAnswer`](crate::definitions::integer_core#isbezoutanswer),
     /// [how to read it](crate::definitions).
+    ///
+    /// </details>
     #[track_caller]
     fn extended_gcd_lcm(&self, other: &Self) -> (ExtendedGcd<Self>, Self)
     where
@@ -631,7 +725,10 @@ pub trait Integer: Sized + Num + PartialOrd + Ord + Eq {
 ///
 /// If `y` is 0, or if the quotient does not fit.
 ///
-/// # Proved
+/// <details><summary>Proved</summary>
+///
+/// Of the source, in Rattle: where each `requires` holds, the call returns, and then each `ensures`
+/// holds.
 ///
 /// ```text
 /// requires nonzero { T.value y ≢ pos 0 }
@@ -641,7 +738,10 @@ pub trait Integer: Sized + Num + PartialOrd + Ord + Eq {
 ///
 /// Words: [`EachFits`](crate::definitions::integer_core#eachfits),
 /// [`IsQuotient`](crate::definitions::integer_core#isquotient),
-/// [`IsTruncated`](crate::definitions::integer_core#istruncated), [how to read it](crate::definitions).
+/// [`IsTruncated`](crate::definitions::integer_core#istruncated),
+/// [how to read it](crate::definitions).
+///
+/// </details>
 #[track_caller]
 pub fn div_rem<T: Integer>(x: T, y: T) -> (T, T) {
     x.div_rem(&y)
@@ -661,7 +761,10 @@ pub fn div_rem<T: Integer>(x: T, y: T) -> (T, T) {
 ///
 /// If `y` is 0, or if the quotient does not fit.
 ///
-/// # Proved
+/// <details><summary>Proved</summary>
+///
+/// Of the source, in Rattle: where each `requires` holds, the call returns, and then each `ensures`
+/// holds.
 ///
 /// ```text
 /// requires nonzero { T.value y ≢ pos 0 }
@@ -672,6 +775,8 @@ pub fn div_rem<T: Integer>(x: T, y: T) -> (T, T) {
 /// Words: [`EachFits`](crate::definitions::integer_core#eachfits),
 /// [`IsQuotient`](crate::definitions::integer_core#isquotient),
 /// [`IsFloored`](crate::definitions::integer_core#isfloored), [how to read it](crate::definitions).
+///
+/// </details>
 #[track_caller]
 pub fn div_floor<T: Integer>(x: T, y: T) -> T {
     x.div_floor(&y)
@@ -691,7 +796,10 @@ pub fn div_floor<T: Integer>(x: T, y: T) -> T {
 ///
 /// If `y` is 0.
 ///
-/// # Proved
+/// <details><summary>Proved</summary>
+///
+/// Of the source, in Rattle: where each `requires` holds, the call returns, and then each `ensures`
+/// holds.
 ///
 /// ```text
 /// requires nonzero { T.value y ≢ pos 0 }
@@ -700,6 +808,8 @@ pub fn div_floor<T: Integer>(x: T, y: T) -> T {
 ///
 /// Words: [`IsRemainder`](crate::definitions::integer_core#isremainder),
 /// [`IsFloored`](crate::definitions::integer_core#isfloored), [how to read it](crate::definitions).
+///
+/// </details>
 #[track_caller]
 pub fn mod_floor<T: Integer>(x: T, y: T) -> T {
     x.mod_floor(&y)
@@ -719,7 +829,10 @@ pub fn mod_floor<T: Integer>(x: T, y: T) -> T {
 ///
 /// If `y` is 0, or if the quotient does not fit.
 ///
-/// # Proved
+/// <details><summary>Proved</summary>
+///
+/// Of the source, in Rattle: where each `requires` holds, the call returns, and then each `ensures`
+/// holds.
 ///
 /// ```text
 /// requires nonzero { T.value y ≢ pos 0 }
@@ -730,6 +843,8 @@ pub fn mod_floor<T: Integer>(x: T, y: T) -> T {
 /// Words: [`EachFits`](crate::definitions::integer_core#eachfits),
 /// [`IsQuotient`](crate::definitions::integer_core#isquotient),
 /// [`IsFloored`](crate::definitions::integer_core#isfloored), [how to read it](crate::definitions).
+///
+/// </details>
 #[track_caller]
 pub fn div_mod_floor<T: Integer>(x: T, y: T) -> (T, T) {
     x.div_mod_floor(&y)
@@ -749,7 +864,10 @@ pub fn div_mod_floor<T: Integer>(x: T, y: T) -> (T, T) {
 ///
 /// If `y` is 0, or if the quotient does not fit.
 ///
-/// # Proved
+/// <details><summary>Proved</summary>
+///
+/// Of the source, in Rattle: where each `requires` holds, the call returns, and then each `ensures`
+/// holds.
 ///
 /// ```text
 /// requires nonzero { T.value y ≢ pos 0 }
@@ -760,6 +878,8 @@ pub fn div_mod_floor<T: Integer>(x: T, y: T) -> (T, T) {
 /// Words: [`EachFits`](crate::definitions::integer_core#eachfits),
 /// [`IsQuotient`](crate::definitions::integer_core#isquotient),
 /// [`IsCeiled`](crate::definitions::integer_core#isceiled), [how to read it](crate::definitions).
+///
+/// </details>
 #[track_caller]
 pub fn div_ceil<T: Integer>(x: T, y: T) -> T {
     x.div_ceil(&y)
@@ -779,7 +899,10 @@ pub fn div_ceil<T: Integer>(x: T, y: T) -> T {
 ///
 /// If the greatest common divisor does not fit.
 ///
-/// # Proved
+/// <details><summary>Proved</summary>
+///
+/// Of the source, in Rattle: where each `requires` holds, the call returns, and then each `ensures`
+/// holds.
 ///
 /// ```text
 /// requires gcd_fits { GcdFits T.fits (T.value x) (T.value y) }
@@ -789,6 +912,8 @@ pub fn div_ceil<T: Integer>(x: T, y: T) -> T {
 /// Words: [`GcdFits`](crate::definitions::integer_core#gcdfits),
 /// [`IsGreatestCommonDivisor`](crate::definitions::integer_core#isgreatestcommondivisor),
 /// [how to read it](crate::definitions).
+///
+/// </details>
 #[track_caller]
 pub fn gcd<T: Integer>(x: T, y: T) -> T {
     x.gcd(&y)
@@ -808,7 +933,10 @@ pub fn gcd<T: Integer>(x: T, y: T) -> T {
 ///
 /// If the least common multiple does not fit.
 ///
-/// # Proved
+/// <details><summary>Proved</summary>
+///
+/// Of the source, in Rattle: where each `requires` holds, the call returns, and then each `ensures`
+/// holds.
 ///
 /// ```text
 /// requires lcm_fits { EachFits T.fits (IsLeastCommonMultiple (T.value x) (T.value y)) }
@@ -818,6 +946,8 @@ pub fn gcd<T: Integer>(x: T, y: T) -> T {
 /// Words: [`EachFits`](crate::definitions::integer_core#eachfits),
 /// [`IsLeastCommonMultiple`](crate::definitions::integer_core#isleastcommonmultiple),
 /// [how to read it](crate::definitions).
+///
+/// </details>
 #[track_caller]
 pub fn lcm<T: Integer>(x: T, y: T) -> T {
     x.lcm(&y)
@@ -837,7 +967,10 @@ pub fn lcm<T: Integer>(x: T, y: T) -> T {
 ///
 /// If the greatest common divisor does not fit, or if the least common multiple does not fit.
 ///
-/// # Proved
+/// <details><summary>Proved</summary>
+///
+/// Of the source, in Rattle: where each `requires` holds, the call returns, and then each `ensures`
+/// holds.
 ///
 /// ```text
 /// requires gcd_fits { GcdFits T.fits (T.value x) (T.value y) }
@@ -851,6 +984,8 @@ pub fn lcm<T: Integer>(x: T, y: T) -> T {
 /// [`IsLeastCommonMultiple`](crate::definitions::integer_core#isleastcommonmultiple),
 /// [`IsGreatestCommonDivisor`](crate::definitions::integer_core#isgreatestcommondivisor),
 /// [how to read it](crate::definitions).
+///
+/// </details>
 #[track_caller]
 pub fn gcd_lcm<T: Integer>(x: T, y: T) -> (T, T) {
     x.gcd_lcm(&y)

@@ -26,7 +26,10 @@ impl<T: Integer + Copy> IterBinomial<T> {
     ///
     /// Not this call. The one that asks for an item does, if the item does not fit.
     ///
-    /// # Proved
+    /// <details><summary>Proved</summary>
+    ///
+    /// Of the source, in Rattle: where each `requires` holds, the call returns, and then each `ensures`
+    /// holds.
     ///
     /// ```text
     /// requires row_fits { RowFits T.fits (T.value n) }
@@ -35,6 +38,8 @@ impl<T: Integer + Copy> IterBinomial<T> {
     ///
     /// Words: [`RowFits`](crate::definitions::num_integer#rowfits),
     /// [`row_of`](crate::definitions::num_integer#row_of), [how to read it](crate::definitions).
+    ///
+    /// </details>
     pub fn new(n: T) -> IterBinomial<T> {
         IterBinomial {
             n,
@@ -54,13 +59,17 @@ fn item_at<T: Integer + Copy>(n: T, k: T, previous: T) -> T {
     }
 }
 
-/// # Proved
+/// <details><summary>Proved</summary>
+///
+/// Of the source, in Rattle: what the calls of the trait return.
 ///
 /// ```text
 /// ghost next_gives = { YieldsFirstBy T.value (λ s. s) }
 /// ```
 ///
 /// Words: [how to read it](crate::definitions).
+///
+/// </details>
 impl<T: Integer + Copy> Iterator for IterBinomial<T> {
     type Item = T;
 

@@ -10,13 +10,17 @@ use crate::calendar::years::{at_64_bits, year_near};
 /// A date of the proleptic Gregorian calendar, in any year of `i64`. The year before year 1 is
 /// year 0. Dates are in the order of their days.
 ///
-/// # Proved
+/// <details><summary>Proved</summary>
+///
+/// Of the source, in Rattle: it holds of each value of the type.
 ///
 /// ```text
 /// pub ghost valid: { IsDate year month day_of_month }
 /// ```
 ///
 /// Words: [`IsDate`](crate::definitions::calendar#isdate), [how to read it](crate::definitions).
+///
+/// </details>
 #[derive(Debug, Clone, Copy, PartialEq, Eq, PartialOrd, Ord, Hash)]
 pub struct Date {
     pub(in crate::calendar) year: i64,
@@ -52,7 +56,9 @@ impl Date {
     /// assert_eq!(Date::new(1900, 2, 29), None);
     /// ```
     ///
-    /// # Proved
+    /// <details><summary>Proved</summary>
+    ///
+    /// Of the source, in Rattle: each call returns, and then each `ensures` holds.
     ///
     /// ```text
     /// ensures { MatchOption result (¬ (IsDate year month day_of_month))
@@ -61,6 +67,8 @@ impl Date {
     ///
     /// Words: [`IsDate`](crate::definitions::calendar#isdate),
     /// [`HasParts`](crate::definitions::calendar#hasparts), [how to read it](crate::definitions).
+    ///
+    /// </details>
     pub fn new(year: i64, month: u8, day_of_month: u8) -> Option<Date> {
         if (1..=12).contains(&month) && (1..=days_in_month(year, month)).contains(&day_of_month) {
             Some(Date {
@@ -83,7 +91,9 @@ impl Date {
     /// assert_eq!(Some(Date::from_day(-1)), Date::new(1969, 12, 31));
     /// ```
     ///
-    /// # Proved
+    /// <details><summary>Proved</summary>
+    ///
+    /// Of the source, in Rattle: each call returns, and then each `ensures` holds.
     ///
     /// ```text
     /// ensures number { number_of result ≡ day }
@@ -92,6 +102,8 @@ impl Date {
     ///
     /// Words: [`number_of`](crate::definitions::calendar#number_of),
     /// [`IsOnly`](crate::definitions::integer_core#isonly), [how to read it](crate::definitions).
+    ///
+    /// </details>
     pub fn from_day(day: i64) -> Date {
         let (march_year, days) = march_year_of_day(day);
         let (year, month, day_of_month) = parts_from_march(march_year, days);
@@ -105,13 +117,18 @@ impl Date {
     /// Returns the day of the date, counted from 1970-01-01, or `None` where it does not fit. That of
     /// 1969-12-31 is `Some(-1)`.
     ///
-    /// # Proved
+    /// <details><summary>Proved</summary>
+    ///
+    /// Of the source, in Rattle: each call returns, and then each `ensures` holds.
     ///
     /// ```text
     /// ensures { SomeIff result (FitsSigned w64 (number_of self.now)) (number_of self.now) }
     /// ```
     ///
-    /// Words: [`number_of`](crate::definitions::calendar#number_of), [how to read it](crate::definitions).
+    /// Words: [`number_of`](crate::definitions::calendar#number_of),
+    /// [how to read it](crate::definitions).
+    ///
+    /// </details>
     pub fn day(&self) -> Option<i64> {
         at_64_bits(self.number())
     }
@@ -119,7 +136,9 @@ impl Date {
     /// Returns the date of the next day, or `None` where that is in the year after `i64::MAX`.
     /// That of 2000-02-28 is 2000-02-29.
     ///
-    /// # Proved
+    /// <details><summary>Proved</summary>
+    ///
+    /// Of the source, in Rattle: each call returns, and then each `ensures` holds.
     ///
     /// ```text
     /// ensures { MatchOption result
@@ -127,7 +146,10 @@ impl Date {
     ///     (λ date. number_of date ≡ number_of self.now +ℤ pos 1) }
     /// ```
     ///
-    /// Words: [`number_of`](crate::definitions::calendar#number_of), [how to read it](crate::definitions).
+    /// Words: [`number_of`](crate::definitions::calendar#number_of),
+    /// [how to read it](crate::definitions).
+    ///
+    /// </details>
     pub fn next(&self) -> Option<Date> {
         let (year, month) = (self.year, self.month);
         if self.day_of_month < days_in_month(year, month) {
@@ -154,7 +176,9 @@ impl Date {
     /// Returns the date of the previous day, or `None` where that is in the year before `i64::MIN`.
     /// That of 1900-03-01 is 1900-02-28.
     ///
-    /// # Proved
+    /// <details><summary>Proved</summary>
+    ///
+    /// Of the source, in Rattle: each call returns, and then each `ensures` holds.
     ///
     /// ```text
     /// ensures { MatchOption result
@@ -162,7 +186,10 @@ impl Date {
     ///     (λ date. number_of date ≡ number_of self.now -ℤ pos 1) }
     /// ```
     ///
-    /// Words: [`number_of`](crate::definitions::calendar#number_of), [how to read it](crate::definitions).
+    /// Words: [`number_of`](crate::definitions::calendar#number_of),
+    /// [how to read it](crate::definitions).
+    ///
+    /// </details>
     pub fn previous(&self) -> Option<Date> {
         let (year, month) = (self.year, self.month);
         if self.day_of_month > 1 {
@@ -188,7 +215,9 @@ impl Date {
 
     /// Returns the day of the year of the date, which is 1 on 1 January. That of 2000-12-31 is `366`.
     ///
-    /// # Proved
+    /// <details><summary>Proved</summary>
+    ///
+    /// Of the source, in Rattle: each call returns, and then each `ensures` holds.
     ///
     /// ```text
     /// ensures day { result ≡ year_day_of self.now }
@@ -198,6 +227,8 @@ impl Date {
     ///
     /// Words: [`year_day_of`](crate::definitions::calendar#year_day_of),
     /// [`days_in_year`](crate::definitions::calendar#days_in_year), [how to read it](crate::definitions).
+    ///
+    /// </details>
     pub fn day_of_year(&self) -> u16 {
         days_before_month(self.year, self.month) + u16::from(self.day_of_month)
     }
@@ -214,7 +245,9 @@ impl Date {
     /// assert_eq!(Date::from_year_day(1900, 366), None);
     /// ```
     ///
-    /// # Proved
+    /// <details><summary>Proved</summary>
+    ///
+    /// Of the source, in Rattle: each call returns, and then each `ensures` holds.
     ///
     /// ```text
     /// ensures { MatchOption result (¬ ((1 ≤ day_of_year) × (day_of_year ≤ days_in_year year)))
@@ -223,6 +256,8 @@ impl Date {
     ///
     /// Words: [`days_in_year`](crate::definitions::calendar#days_in_year),
     /// [`year_day_of`](crate::definitions::calendar#year_day_of), [how to read it](crate::definitions).
+    ///
+    /// </details>
     pub fn from_year_day(year: i64, day_of_year: u16) -> Option<Date> {
         if (1..=days_in_year(year)).contains(&day_of_year) {
             Some(Date::in_year(year, day_of_year - 1))
@@ -234,7 +269,9 @@ impl Date {
     /// Returns the date `days` days after this one, or before it where `days` is negative, or `None`
     /// where its year does not fit an `i64`. -1 day after 2000-03-01 is 2000-02-29.
     ///
-    /// # Proved
+    /// <details><summary>Proved</summary>
+    ///
+    /// Of the source, in Rattle: each call returns, and then each `ensures` holds.
     ///
     /// ```text
     /// ensures { MatchOption result
@@ -242,7 +279,10 @@ impl Date {
     ///     (λ date. number_of date ≡ number_of self.now +ℤ days) }
     /// ```
     ///
-    /// Words: [`number_of`](crate::definitions::calendar#number_of), [how to read it](crate::definitions).
+    /// Words: [`number_of`](crate::definitions::calendar#number_of),
+    /// [how to read it](crate::definitions).
+    ///
+    /// </details>
     pub fn plus_days(&self, days: i64) -> Option<Date> {
         let (era, day) = self.day_of_era();
         let (eras, rest) = eras_in_days(days);

@@ -10,7 +10,9 @@ impl Date {
     /// `None` where its year does not fit an `i64`. Its day of the month is the same, or the last one
     /// where its month is shorter. 1 month after 2000-01-31 is 2000-02-29.
     ///
-    /// # Proved
+    /// <details><summary>Proved</summary>
+    ///
+    /// Of the source, in Rattle: each call returns, and then each `ensures` holds.
     ///
     /// ```text
     /// ensures { MatchOption result
@@ -20,6 +22,8 @@ impl Date {
     ///
     /// Words: [`IsMonthsAfter`](crate::definitions::calendar#ismonthsafter),
     /// [how to read it](crate::definitions).
+    ///
+    /// </details>
     pub fn plus_months(&self, months: i64) -> Option<Date> {
         let (year, month) = month_of(self.month_number() + i128::from(months))?;
         Some(Date {
@@ -38,14 +42,19 @@ impl Date {
 /// Returns the number of days from `from` to `to`, negative where `to` is earlier, or `None` where
 /// that does not fit. From 2000-03-01 to 2000-02-28 it returns `Some(-2)`.
 ///
-/// # Proved
+/// <details><summary>Proved</summary>
+///
+/// Of the source, in Rattle: each call returns, and then each `ensures` holds.
 ///
 /// ```text
 /// ensures { SomeIff result (FitsSigned w64 (number_of to.now -ℤ number_of from.now))
 ///     (number_of to.now -ℤ number_of from.now) }
 /// ```
 ///
-/// Words: [`number_of`](crate::definitions::calendar#number_of), [how to read it](crate::definitions).
+/// Words: [`number_of`](crate::definitions::calendar#number_of),
+/// [how to read it](crate::definitions).
+///
+/// </details>
 pub fn days_between(from: &Date, to: &Date) -> Option<i64> {
     at_64_bits(to.number() - from.number())
 }
@@ -54,7 +63,9 @@ pub fn days_between(from: &Date, to: &Date) -> Option<i64> {
 /// where that does not fit: the greatest number of months after `from` that lead to a date not after
 /// `to`. From 2000-01-31 to 2000-02-29 it returns `Some(1)`.
 ///
-/// # Proved
+/// <details><summary>Proved</summary>
+///
+/// Of the source, in Rattle: each call returns, and then each `ensures` holds.
 ///
 /// ```text
 /// ensures { MatchOption result
@@ -64,6 +75,8 @@ pub fn days_between(from: &Date, to: &Date) -> Option<i64> {
 ///
 /// Words: [`IsMonthsBetween`](crate::definitions::calendar#ismonthsbetween),
 /// [how to read it](crate::definitions).
+///
+/// </details>
 pub fn months_between(from: &Date, to: &Date) -> Option<i64> {
     at_64_bits(whole_months(from, to))
 }

@@ -14,7 +14,9 @@ use crate::{div_floor, mod_floor};
 /// assert_eq!(Some(easter(2024)), Date::new(2024, 3, 31));
 /// ```
 ///
-/// # Proved
+/// <details><summary>Proved</summary>
+///
+/// Of the source, in Rattle: each call returns, and then each `ensures` holds.
 ///
 /// ```text
 /// ensures year { result.year ≡ year }
@@ -25,6 +27,8 @@ use crate::{div_floor, mod_floor};
 ///
 /// Words: [`IsEaster`](crate::definitions::calendar#iseaster),
 /// [`number_of`](crate::definitions::calendar#number_of), [how to read it](crate::definitions).
+///
+/// </details>
 pub fn easter(year: i64) -> Date {
     let full_moon = paschal_full_moon(year);
     let days = days_to_next_sunday(&day_from_march(year, full_moon));

@@ -16,7 +16,9 @@ impl Date {
     /// Returns the week of ISO 8601 that has the date, or `None` where its year is beyond `i64`. That
     /// of 2005-01-01 is week 53 of 2004.
     ///
-    /// # Proved
+    /// <details><summary>Proved</summary>
+    ///
+    /// Of the source, in Rattle: each call returns, and then each `ensures` holds.
     ///
     /// ```text
     /// ensures week { MatchOption result
@@ -28,6 +30,8 @@ impl Date {
     ///
     /// Words: [`IsInIsoWeek`](crate::definitions::calendar#isinisoweek),
     /// [`number_of`](crate::definitions::calendar#number_of), [how to read it](crate::definitions).
+    ///
+    /// </details>
     pub fn iso_week(&self) -> Option<IsoWeek> {
         let (year, days) = year_near(self.year, thursday_of_week(self))?;
         Some(IsoWeek {
@@ -47,7 +51,9 @@ impl Date {
     /// assert_eq!(Date::from_iso_week(2009, 53, Weekday::Sunday), Date::new(2010, 1, 3));
     /// ```
     ///
-    /// # Proved
+    /// <details><summary>Proved</summary>
+    ///
+    /// Of the source, in Rattle: each call returns, and then each `ensures` holds.
     ///
     /// ```text
     /// ensures { MatchOption result
@@ -58,6 +64,8 @@ impl Date {
     /// Words: [`IsDayOfIsoWeek`](crate::definitions::calendar#isdayofisoweek),
     /// [`HasDay`](crate::definitions::calendar#hasday),
     /// [`number_of`](crate::definitions::calendar#number_of), [how to read it](crate::definitions).
+    ///
+    /// </details>
     pub fn from_iso_week(year: i64, week: u8, weekday: Weekday) -> Option<Date> {
         let thursday = thursday_of_iso_week(year, week);
         if is_in_year(year, thursday) {
@@ -78,7 +86,9 @@ impl Date {
 /// assert_eq!(weeks_in_year(2004), 53);
 /// ```
 ///
-/// # Proved
+/// <details><summary>Proved</summary>
+///
+/// Of the source, in Rattle: each call returns, and then each `ensures` holds.
 ///
 /// ```text
 /// ensures weeks { HasIsoWeeks year result }
@@ -88,6 +98,8 @@ impl Date {
 ///
 /// Words: [`HasIsoWeeks`](crate::definitions::calendar#hasisoweeks),
 /// [how to read it](crate::definitions).
+///
+/// </details>
 pub fn weeks_in_year(year: i64) -> u8 {
     if is_in_year(year, thursday_of_iso_week(year, 53)) {
         53

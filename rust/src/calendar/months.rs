@@ -19,7 +19,10 @@ use crate::calendar::{days_in_year, is_leap_year};
 ///
 /// If `month` is 0, or if `month` is above 12.
 ///
-/// # Proved
+/// <details><summary>Proved</summary>
+///
+/// Of the source, in Rattle: where each `requires` holds, the call returns, and then each `ensures`
+/// holds.
 ///
 /// ```text
 /// requires from_one { 1 ≤ month }
@@ -31,6 +34,8 @@ use crate::calendar::{days_in_year, is_leap_year};
 ///
 /// Words: [`days_in_month`](crate::definitions::calendar#days_in_month),
 /// [how to read it](crate::definitions).
+///
+/// </details>
 #[track_caller]
 pub fn days_in_month(year: i64, month: u8) -> u8 {
     assert!(month >= 1, "no month has the number 0");

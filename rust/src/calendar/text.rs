@@ -9,13 +9,18 @@ use core::str::FromStr;
 #[derive(Debug, Clone, Copy, PartialEq, Eq)]
 pub struct DateError;
 
-/// # Proved
+/// <details><summary>Proved</summary>
+///
+/// Of the source, in Rattle: what the calls of the trait return.
 ///
 /// ```text
 /// ghost output = { λ _. Some error_text }
 /// ```
 ///
-/// Words: [`error_text`](crate::definitions::calendar#error_text), [how to read it](crate::definitions).
+/// Words: [`error_text`](crate::definitions::calendar#error_text),
+/// [how to read it](crate::definitions).
+///
+/// </details>
 impl fmt::Display for DateError {
     fn fmt(&self, f: &mut fmt::Formatter<'_>) -> fmt::Result {
         f.write_str("not the text of a date")
@@ -24,13 +29,17 @@ impl fmt::Display for DateError {
 
 impl Error for DateError {}
 
-/// # Proved
+/// <details><summary>Proved</summary>
+///
+/// Of the source, in Rattle: what the calls of the trait return.
 ///
 /// ```text
 /// ghost output = { λ date. Some (text_of date) }
 /// ```
 ///
 /// Words: [`text_of`](crate::definitions::calendar#text_of), [how to read it](crate::definitions).
+///
+/// </details>
 impl fmt::Display for Date {
     fn fmt(&self, f: &mut fmt::Formatter<'_>) -> fmt::Result {
         let (year, month, day) = (self.year, self.month, self.day_of_month);
@@ -47,13 +56,17 @@ impl fmt::Display for Date {
 /// - [`DateError`](crate::calendar::DateError) if the text is not the one that `Display` writes of
 ///   a date.
 ///
-/// # Proved
+/// <details><summary>Proved</summary>
+///
+/// Of the source, in Rattle: what the calls of the trait return.
 ///
 /// ```text
 /// ghost from_str_gives = { λ text result. (date : Date) → FitsSigned w64 date.year → (result ≡ Ok date) ↔ (text ≡ text_of date) }
 /// ```
 ///
 /// Words: [`text_of`](crate::definitions::calendar#text_of), [how to read it](crate::definitions).
+///
+/// </details>
 impl FromStr for Date {
     type Err = DateError;
 

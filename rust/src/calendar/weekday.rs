@@ -26,7 +26,9 @@ impl Weekday {
     /// assert_eq!(Weekday::Sunday.iso_number(), 7);
     /// ```
     ///
-    /// # Proved
+    /// <details><summary>Proved</summary>
+    ///
+    /// Of the source, in Rattle: each call returns, and then each `ensures` holds.
     ///
     /// ```text
     /// ensures number { result ≡ iso_number self }
@@ -34,7 +36,10 @@ impl Weekday {
     /// ensures to_seven { result ≤ 7 }
     /// ```
     ///
-    /// Words: [`iso_number`](crate::definitions::calendar#iso_number), [how to read it](crate::definitions).
+    /// Words: [`iso_number`](crate::definitions::calendar#iso_number),
+    /// [how to read it](crate::definitions).
+    ///
+    /// </details>
     pub fn iso_number(self) -> u8 {
         (self.days_after_sunday() + 6) % 7 + 1
     }
@@ -50,14 +55,19 @@ impl Weekday {
     /// assert_eq!(Weekday::from_iso_number(7), Some(Weekday::Sunday));
     /// ```
     ///
-    /// # Proved
+    /// <details><summary>Proved</summary>
+    ///
+    /// Of the source, in Rattle: each call returns, and then each `ensures` holds.
     ///
     /// ```text
     /// ensures { MatchOption result (¬ ((1 ≤ number) × (number ≤ 7)))
     ///     (λ weekday. iso_number weekday ≡ number) }
     /// ```
     ///
-    /// Words: [`iso_number`](crate::definitions::calendar#iso_number), [how to read it](crate::definitions).
+    /// Words: [`iso_number`](crate::definitions::calendar#iso_number),
+    /// [how to read it](crate::definitions).
+    ///
+    /// </details>
     pub fn from_iso_number(number: u8) -> Option<Weekday> {
         if (1..=7).contains(&number) {
             Some(weekday_after_sunday(u32::from(number)))
@@ -81,7 +91,9 @@ impl Weekday {
 impl Date {
     /// Returns the day of the week of the date. That of 2000-02-29 is `Tuesday`.
     ///
-    /// # Proved
+    /// <details><summary>Proved</summary>
+    ///
+    /// Of the source, in Rattle: each call returns, and then each `ensures` holds.
     ///
     /// ```text
     /// ensures { HasWeekday (number_of self.now) result }
@@ -89,6 +101,8 @@ impl Date {
     ///
     /// Words: [`HasWeekday`](crate::definitions::calendar#hasweekday),
     /// [`number_of`](crate::definitions::calendar#number_of), [how to read it](crate::definitions).
+    ///
+    /// </details>
     pub fn weekday(&self) -> Weekday {
         // Eras are whole weeks, and day 0 of each is a Tuesday.
         let (_, day) = self.day_of_era();
@@ -106,7 +120,9 @@ impl Date {
 /// assert_eq!(weekday_of(-1), Weekday::Wednesday);
 /// ```
 ///
-/// # Proved
+/// <details><summary>Proved</summary>
+///
+/// Of the source, in Rattle: each call returns, and then each `ensures` holds.
 ///
 /// ```text
 /// ensures { IsRemainder IsFloored (day +ℤ pos 4) (pos 7) (pos (weekday_number result)) }
@@ -114,7 +130,10 @@ impl Date {
 ///
 /// Words: [`IsRemainder`](crate::definitions::integer_core#isremainder),
 /// [`IsFloored`](crate::definitions::integer_core#isfloored),
-/// [`weekday_number`](crate::definitions::calendar#weekday_number), [how to read it](crate::definitions).
+/// [`weekday_number`](crate::definitions::calendar#weekday_number),
+/// [how to read it](crate::definitions).
+///
+/// </details>
 pub fn weekday_of(day: i64) -> Weekday {
     weekday_after_sunday(mod_floor(day, 7) as u32 + 4)
 }

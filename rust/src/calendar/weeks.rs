@@ -15,7 +15,9 @@ use crate::calendar::{weekday_of, Date, Weekday};
 /// assert_eq!(first_weekday_on_or_after(3, Weekday::Sunday), Some(3));
 /// ```
 ///
-/// # Proved
+/// <details><summary>Proved</summary>
+///
+/// Of the source, in Rattle: each call returns, and then each `ensures` holds.
 ///
 /// ```text
 /// ensures { MatchOption result
@@ -25,6 +27,8 @@ use crate::calendar::{weekday_of, Date, Weekday};
 ///
 /// Words: [`IsFirstWeekday`](crate::definitions::calendar#isfirstweekday),
 /// [how to read it](crate::definitions).
+///
+/// </details>
 pub fn first_weekday_on_or_after(day: i64, weekday: Weekday) -> Option<i64> {
     day.checked_add(i64::from(weekday_of(day).days_until(weekday)))
 }
@@ -41,7 +45,9 @@ pub fn first_weekday_on_or_after(day: i64, weekday: Weekday) -> Option<i64> {
 /// assert_eq!(last_weekday_on_or_before(3, Weekday::Sunday), Some(3));
 /// ```
 ///
-/// # Proved
+/// <details><summary>Proved</summary>
+///
+/// Of the source, in Rattle: each call returns, and then each `ensures` holds.
 ///
 /// ```text
 /// ensures { MatchOption result
@@ -51,6 +57,8 @@ pub fn first_weekday_on_or_after(day: i64, weekday: Weekday) -> Option<i64> {
 ///
 /// Words: [`IsLastWeekday`](crate::definitions::calendar#islastweekday),
 /// [how to read it](crate::definitions).
+///
+/// </details>
 pub fn last_weekday_on_or_before(day: i64, weekday: Weekday) -> Option<i64> {
     day.checked_sub(i64::from(weekday.days_until(weekday_of(day))))
 }
@@ -66,7 +74,9 @@ pub fn last_weekday_on_or_before(day: i64, weekday: Weekday) -> Option<i64> {
 /// assert_eq!(nth_weekday_of_month(2026, 11, Weekday::Thursday, 4), Date::new(2026, 11, 26));
 /// ```
 ///
-/// # Proved
+/// <details><summary>Proved</summary>
+///
+/// Of the source, in Rattle: each call returns, and then each `ensures` holds.
 ///
 /// ```text
 /// ensures { MatchOption result
@@ -76,6 +86,8 @@ pub fn last_weekday_on_or_before(day: i64, weekday: Weekday) -> Option<i64> {
 ///
 /// Words: [`IsNthWeekday`](crate::definitions::calendar#isnthweekday),
 /// [how to read it](crate::definitions).
+///
+/// </details>
 pub fn nth_weekday_of_month(year: i64, month: u8, weekday: Weekday, n: u8) -> Option<Date> {
     let first = Date::new(year, month, 1)?;
     if !(1..=5).contains(&n) {
@@ -96,7 +108,9 @@ pub fn nth_weekday_of_month(year: i64, month: u8, weekday: Weekday, n: u8) -> Op
 /// assert_eq!(last_weekday_of_month(2026, 10, Weekday::Friday), Date::new(2026, 10, 30));
 /// ```
 ///
-/// # Proved
+/// <details><summary>Proved</summary>
+///
+/// Of the source, in Rattle: each call returns, and then each `ensures` holds.
 ///
 /// ```text
 /// ensures { MatchOption result (¬ ((1 ≤ month) × (month ≤ 12)))
@@ -105,6 +119,8 @@ pub fn nth_weekday_of_month(year: i64, month: u8, weekday: Weekday, n: u8) -> Op
 ///
 /// Words: [`IsLastWeekdayOfMonth`](crate::definitions::calendar#islastweekdayofmonth),
 /// [how to read it](crate::definitions).
+///
+/// </details>
 pub fn last_weekday_of_month(year: i64, month: u8, weekday: Weekday) -> Option<Date> {
     if !(1..=12).contains(&month) {
         return None;

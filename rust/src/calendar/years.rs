@@ -4,7 +4,9 @@ use crate::Integer;
 
 /// Returns `true` if the year has a 29 February. 2000 and 0 have one, and 1900 and -1 do not.
 ///
-/// # Proved
+/// <details><summary>Proved</summary>
+///
+/// Of the source, in Rattle: each call returns, and then each `ensures` holds.
 ///
 /// ```text
 /// ensures { result ≡ is_leap_year year }
@@ -12,6 +14,8 @@ use crate::Integer;
 ///
 /// Words: [`is_leap_year`](crate::definitions::calendar#is_leap_year),
 /// [how to read it](crate::definitions).
+///
+/// </details>
 pub fn is_leap_year(year: i64) -> bool {
     // 25 divides a fourth year where 100 does, and 16 a hundredth year where 400 does.
     if is_multiple(year, 25) {
@@ -36,7 +40,9 @@ fn is_multiple(year: i64, number: u16) -> bool {
 /// assert_eq!(days_in_year(1900), 365);
 /// ```
 ///
-/// # Proved
+/// <details><summary>Proved</summary>
+///
+/// Of the source, in Rattle: each call returns, and then each `ensures` holds.
 ///
 /// ```text
 /// ensures days { result ≡ days_in_year year }
@@ -46,6 +52,8 @@ fn is_multiple(year: i64, number: u16) -> bool {
 ///
 /// Words: [`days_in_year`](crate::definitions::calendar#days_in_year),
 /// [how to read it](crate::definitions).
+///
+/// </details>
 pub fn days_in_year(year: i64) -> u16 {
     if is_leap_year(year) {
         366

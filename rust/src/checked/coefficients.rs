@@ -18,7 +18,9 @@ use crate::rows::IterBinomial;
 /// assert_eq!(binomial(11u8, 4), None);
 /// ```
 ///
-/// # Proved
+/// <details><summary>Proved</summary>
+///
+/// Of the source, in Rattle: each call returns, and then each `ensures` holds.
 ///
 /// ```text
 /// ensures { AnswersWhere
@@ -31,6 +33,8 @@ use crate::rows::IterBinomial;
 /// Words: [`AnswersWhere`](crate::definitions::num_integer#answerswhere),
 /// [`coefficient_of`](crate::definitions::num_integer#coefficient_of),
 /// [how to read it](crate::definitions).
+///
+/// </details>
 pub fn binomial<T: Fits>(n: T, k: T) -> Option<T> {
     if is_negative(n) || is_negative(k) {
         return None;
@@ -60,7 +64,9 @@ pub fn binomial<T: Fits>(n: T, k: T) -> Option<T> {
 /// assert_eq!(multinomial(&[2, 1, 2]), Some(30));
 /// ```
 ///
-/// # Proved
+/// <details><summary>Proved</summary>
+///
+/// Of the source, in Rattle: each call returns, and then each `ensures` holds.
 ///
 /// ```text
 /// ensures { AnswersWhere
@@ -74,6 +80,8 @@ pub fn binomial<T: Fits>(n: T, k: T) -> Option<T> {
 /// [`EachFits`](crate::definitions::integer_core#eachfits),
 /// [`IsMultinomial`](crate::definitions::num_integer#ismultinomial),
 /// [how to read it](crate::definitions).
+///
+/// </details>
 pub fn multinomial<T: Fits>(k: &[T]) -> Option<T> {
     let mut multinomial = one();
     let mut total = zero();
@@ -99,7 +107,9 @@ pub fn multinomial<T: Fits>(k: &[T]) -> Option<T> {
 /// assert!(!row(11u8).is_some());
 /// ```
 ///
-/// # Proved
+/// <details><summary>Proved</summary>
+///
+/// Of the source, in Rattle: each call returns, and then each `ensures` holds.
 ///
 /// ```text
 /// ensures { AnswersWhere
@@ -111,6 +121,8 @@ pub fn multinomial<T: Fits>(k: &[T]) -> Option<T> {
 /// Words: [`AnswersWhere`](crate::definitions::num_integer#answerswhere),
 /// [`RowFits`](crate::definitions::num_integer#rowfits),
 /// [`row_of`](crate::definitions::num_integer#row_of), [how to read it](crate::definitions).
+///
+/// </details>
 pub fn row<T: Fits>(n: T) -> Option<IterBinomial<T>> {
     if row_fits(n) {
         Some(IterBinomial::new(n))

@@ -14,7 +14,9 @@ use crate::integer_core::operators::is_zero;
 /// assert_eq!(div_rem(-8, 3), Some((-2, -2)));
 /// ```
 ///
-/// # Proved
+/// <details><summary>Proved</summary>
+///
+/// Of the source, in Rattle: each call returns, and then each `ensures` holds.
 ///
 /// ```text
 /// ensures answer { AnswersWhere
@@ -28,7 +30,10 @@ use crate::integer_core::operators::is_zero;
 /// Words: [`AnswersWhere`](crate::definitions::num_integer#answerswhere),
 /// [`EachFits`](crate::definitions::integer_core#eachfits),
 /// [`IsQuotient`](crate::definitions::integer_core#isquotient),
-/// [`IsTruncated`](crate::definitions::integer_core#istruncated), [how to read it](crate::definitions).
+/// [`IsTruncated`](crate::definitions::integer_core#istruncated),
+/// [how to read it](crate::definitions).
+///
+/// </details>
 pub fn div_rem<T: Fits>(x: T, y: T) -> Option<(T, T)> {
     if x.quotient_fits(&y) {
         Some(x.div_rem(&y))
@@ -48,7 +53,9 @@ pub fn div_rem<T: Fits>(x: T, y: T) -> Option<(T, T)> {
 /// assert_eq!(div_floor(i8::MIN, -1), None);
 /// ```
 ///
-/// # Proved
+/// <details><summary>Proved</summary>
+///
+/// Of the source, in Rattle: each call returns, and then each `ensures` holds.
 ///
 /// ```text
 /// ensures answer { AnswersWhere
@@ -62,6 +69,8 @@ pub fn div_rem<T: Fits>(x: T, y: T) -> Option<(T, T)> {
 /// [`EachFits`](crate::definitions::integer_core#eachfits),
 /// [`IsQuotient`](crate::definitions::integer_core#isquotient),
 /// [`IsFloored`](crate::definitions::integer_core#isfloored), [how to read it](crate::definitions).
+///
+/// </details>
 pub fn div_floor<T: Fits>(x: T, y: T) -> Option<T> {
     if x.quotient_fits(&y) {
         Some(x.div_floor(&y))
@@ -81,7 +90,9 @@ pub fn div_floor<T: Fits>(x: T, y: T) -> Option<T> {
 /// assert_eq!(mod_floor(-8, 3), Some(1));
 /// ```
 ///
-/// # Proved
+/// <details><summary>Proved</summary>
+///
+/// Of the source, in Rattle: each call returns, and then each `ensures` holds.
 ///
 /// ```text
 /// ensures { AnswersWhere
@@ -93,6 +104,8 @@ pub fn div_floor<T: Fits>(x: T, y: T) -> Option<T> {
 /// Words: [`AnswersWhere`](crate::definitions::num_integer#answerswhere),
 /// [`IsRemainder`](crate::definitions::integer_core#isremainder),
 /// [`IsFloored`](crate::definitions::integer_core#isfloored), [how to read it](crate::definitions).
+///
+/// </details>
 pub fn mod_floor<T: Fits>(x: T, y: T) -> Option<T> {
     if !is_zero(y) {
         Some(x.mod_floor(&y))
@@ -112,7 +125,9 @@ pub fn mod_floor<T: Fits>(x: T, y: T) -> Option<T> {
 /// assert_eq!(div_mod_floor(-8, 3), Some((-3, 1)));
 /// ```
 ///
-/// # Proved
+/// <details><summary>Proved</summary>
+///
+/// Of the source, in Rattle: each call returns, and then each `ensures` holds.
 ///
 /// ```text
 /// ensures answer { AnswersWhere
@@ -127,6 +142,8 @@ pub fn mod_floor<T: Fits>(x: T, y: T) -> Option<T> {
 /// [`EachFits`](crate::definitions::integer_core#eachfits),
 /// [`IsQuotient`](crate::definitions::integer_core#isquotient),
 /// [`IsFloored`](crate::definitions::integer_core#isfloored), [how to read it](crate::definitions).
+///
+/// </details>
 pub fn div_mod_floor<T: Fits>(x: T, y: T) -> Option<(T, T)> {
     if x.quotient_fits(&y) {
         Some(x.div_mod_floor(&y))
@@ -145,7 +162,9 @@ pub fn div_mod_floor<T: Fits>(x: T, y: T) -> Option<(T, T)> {
 /// assert_eq!(div_ceil(8, 3), Some(3));
 /// ```
 ///
-/// # Proved
+/// <details><summary>Proved</summary>
+///
+/// Of the source, in Rattle: each call returns, and then each `ensures` holds.
 ///
 /// ```text
 /// ensures answer { AnswersWhere
@@ -159,6 +178,8 @@ pub fn div_mod_floor<T: Fits>(x: T, y: T) -> Option<(T, T)> {
 /// [`EachFits`](crate::definitions::integer_core#eachfits),
 /// [`IsQuotient`](crate::definitions::integer_core#isquotient),
 /// [`IsCeiled`](crate::definitions::integer_core#isceiled), [how to read it](crate::definitions).
+///
+/// </details>
 pub fn div_ceil<T: Fits>(x: T, y: T) -> Option<T> {
     if x.quotient_fits(&y) {
         Some(x.div_ceil(&y))
@@ -178,7 +199,9 @@ pub fn div_ceil<T: Fits>(x: T, y: T) -> Option<T> {
 /// assert_eq!(next_multiple_of(23, 8), Some(24));
 /// ```
 ///
-/// # Proved
+/// <details><summary>Proved</summary>
+///
+/// Of the source, in Rattle: each call returns, and then each `ensures` holds.
 ///
 /// ```text
 /// ensures { AnswersWhere
@@ -191,6 +214,8 @@ pub fn div_ceil<T: Fits>(x: T, y: T) -> Option<T> {
 /// [`EachFits`](crate::definitions::integer_core#eachfits),
 /// [`IsMultiple`](crate::definitions::integer_core#ismultiple),
 /// [`IsCeiled`](crate::definitions::integer_core#isceiled), [how to read it](crate::definitions).
+///
+/// </details>
 pub fn next_multiple_of<T: Fits>(x: T, y: T) -> Option<T> {
     if x.next_multiple_fits(&y) {
         Some(x.next_multiple_of(&y))
@@ -210,7 +235,9 @@ pub fn next_multiple_of<T: Fits>(x: T, y: T) -> Option<T> {
 /// assert_eq!(prev_multiple_of(23, 8), Some(16));
 /// ```
 ///
-/// # Proved
+/// <details><summary>Proved</summary>
+///
+/// Of the source, in Rattle: each call returns, and then each `ensures` holds.
 ///
 /// ```text
 /// ensures { AnswersWhere
@@ -223,6 +250,8 @@ pub fn next_multiple_of<T: Fits>(x: T, y: T) -> Option<T> {
 /// [`EachFits`](crate::definitions::integer_core#eachfits),
 /// [`IsMultiple`](crate::definitions::integer_core#ismultiple),
 /// [`IsFloored`](crate::definitions::integer_core#isfloored), [how to read it](crate::definitions).
+///
+/// </details>
 pub fn prev_multiple_of<T: Fits>(x: T, y: T) -> Option<T> {
     if x.prev_multiple_fits(&y) {
         Some(x.prev_multiple_of(&y))

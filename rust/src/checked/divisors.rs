@@ -18,7 +18,9 @@ use num_traits::Signed;
 /// assert_eq!(gcd(i8::MIN, 0), None);
 /// ```
 ///
-/// # Proved
+/// <details><summary>Proved</summary>
+///
+/// Of the source, in Rattle: each call returns, and then each `ensures` holds.
 ///
 /// ```text
 /// ensures answer { AnswersWhere
@@ -32,6 +34,8 @@ use num_traits::Signed;
 /// [`GcdFits`](crate::definitions::integer_core#gcdfits),
 /// [`IsGreatestCommonDivisor`](crate::definitions::integer_core#isgreatestcommondivisor),
 /// [how to read it](crate::definitions).
+///
+/// </details>
 pub fn gcd<T: Fits>(x: T, y: T) -> Option<T> {
     if x.gcd_fits(&y) {
         Some(x.gcd(&y))
@@ -51,7 +55,9 @@ pub fn gcd<T: Fits>(x: T, y: T) -> Option<T> {
 /// assert_eq!(lcm(16u8, 17), None);
 /// ```
 ///
-/// # Proved
+/// <details><summary>Proved</summary>
+///
+/// Of the source, in Rattle: each call returns, and then each `ensures` holds.
 ///
 /// ```text
 /// ensures { AnswersWhere
@@ -64,6 +70,8 @@ pub fn gcd<T: Fits>(x: T, y: T) -> Option<T> {
 /// [`EachFits`](crate::definitions::integer_core#eachfits),
 /// [`IsLeastCommonMultiple`](crate::definitions::integer_core#isleastcommonmultiple),
 /// [how to read it](crate::definitions).
+///
+/// </details>
 pub fn lcm<T: Fits>(x: T, y: T) -> Option<T> {
     if is_zero(x) || is_zero(y) {
         return Some(zero());
@@ -82,7 +90,9 @@ pub fn lcm<T: Fits>(x: T, y: T) -> Option<T> {
 /// assert_eq!(gcd_lcm(10, 4), Some((2, 20)));
 /// ```
 ///
-/// # Proved
+/// <details><summary>Proved</summary>
+///
+/// Of the source, in Rattle: each call returns, and then each `ensures` holds.
 ///
 /// ```text
 /// ensures { AnswersWhere
@@ -100,6 +110,8 @@ pub fn lcm<T: Fits>(x: T, y: T) -> Option<T> {
 /// [`IsLeastCommonMultiple`](crate::definitions::integer_core#isleastcommonmultiple),
 /// [`IsGreatestCommonDivisor`](crate::definitions::integer_core#isgreatestcommondivisor),
 /// [how to read it](crate::definitions).
+///
+/// </details>
 pub fn gcd_lcm<T: Fits>(x: T, y: T) -> Option<(T, T)> {
     let g = gcd(x, y)?;
     Some((g, lcm_with_gcd(x, y, g)?))
@@ -119,7 +131,9 @@ pub fn gcd_lcm<T: Fits>(x: T, y: T) -> Option<(T, T)> {
 /// assert_eq!(extended_gcd(10u8, 4), None);
 /// ```
 ///
-/// # Proved
+/// <details><summary>Proved</summary>
+///
+/// Of the source, in Rattle: each call returns, and then each `ensures` holds.
 ///
 /// ```text
 /// ensures { AnswersWhere
@@ -134,6 +148,8 @@ pub fn gcd_lcm<T: Fits>(x: T, y: T) -> Option<(T, T)> {
 /// [`HasPair`](crate::definitions::integer_core#haspair),
 /// [`IsBezoutAnswer`](crate::definitions::integer_core#isbezoutanswer),
 /// [how to read it](crate::definitions).
+///
+/// </details>
 pub fn extended_gcd<T: Fits>(x: T, y: T) -> Option<ExtendedGcd<T>> {
     if x.gcd_fits(&y) && has_pair(x, y) {
         Some(x.extended_gcd(&y))
@@ -154,7 +170,9 @@ pub fn extended_gcd<T: Fits>(x: T, y: T) -> Option<ExtendedGcd<T>> {
 /// assert_eq!(extended_gcd_lcm(10, 4), Some((ExtendedGcd { gcd: 2, x: 1, y: -2 }, 20)));
 /// ```
 ///
-/// # Proved
+/// <details><summary>Proved</summary>
+///
+/// Of the source, in Rattle: each call returns, and then each `ensures` holds.
 ///
 /// ```text
 /// ensures { AnswersWhere
@@ -174,6 +192,8 @@ pub fn extended_gcd<T: Fits>(x: T, y: T) -> Option<ExtendedGcd<T>> {
 /// [`IsLeastCommonMultiple`](crate::definitions::integer_core#isleastcommonmultiple),
 /// [`IsBezoutAnswer`](crate::definitions::integer_core#isbezoutanswer),
 /// [how to read it](crate::definitions).
+///
+/// </details>
 pub fn extended_gcd_lcm<T: Fits + Signed>(x: T, y: T) -> Option<(ExtendedGcd<T>, T)> {
     let e = extended_gcd(x, y)?;
     Some((e, lcm_with_gcd(x, y, e.gcd)?))

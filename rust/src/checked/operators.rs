@@ -15,7 +15,9 @@ use crate::parts::{product_is_within, sum_is_within};
 /// assert_eq!(sum(200u8, 56), None);
 /// ```
 ///
-/// # Proved
+/// <details><summary>Proved</summary>
+///
+/// Of the source, in Rattle: each call returns, and then each `ensures` holds.
 ///
 /// ```text
 /// ensures { AnswersWhere
@@ -26,6 +28,8 @@ use crate::parts::{product_is_within, sum_is_within};
 ///
 /// Words: [`AnswersWhere`](crate::definitions::num_integer#answerswhere),
 /// [how to read it](crate::definitions).
+///
+/// </details>
 pub fn sum<T: Fits>(a: T, b: T) -> Option<T> {
     if sum_fits(a, b) {
         Some(operators::sum(a, b))
@@ -45,7 +49,9 @@ pub fn sum<T: Fits>(a: T, b: T) -> Option<T> {
 /// assert_eq!(difference(2u8, 3), None);
 /// ```
 ///
-/// # Proved
+/// <details><summary>Proved</summary>
+///
+/// Of the source, in Rattle: each call returns, and then each `ensures` holds.
 ///
 /// ```text
 /// ensures { AnswersWhere
@@ -56,6 +62,8 @@ pub fn sum<T: Fits>(a: T, b: T) -> Option<T> {
 ///
 /// Words: [`AnswersWhere`](crate::definitions::num_integer#answerswhere),
 /// [how to read it](crate::definitions).
+///
+/// </details>
 pub fn difference<T: Fits>(a: T, b: T) -> Option<T> {
     if difference_fits(a, b) {
         Some(operators::difference(a, b))
@@ -75,7 +83,9 @@ pub fn difference<T: Fits>(a: T, b: T) -> Option<T> {
 /// assert_eq!(product(16u8, 16), None);
 /// ```
 ///
-/// # Proved
+/// <details><summary>Proved</summary>
+///
+/// Of the source, in Rattle: each call returns, and then each `ensures` holds.
 ///
 /// ```text
 /// ensures { AnswersWhere
@@ -86,6 +96,8 @@ pub fn difference<T: Fits>(a: T, b: T) -> Option<T> {
 ///
 /// Words: [`AnswersWhere`](crate::definitions::num_integer#answerswhere),
 /// [how to read it](crate::definitions).
+///
+/// </details>
 pub fn product<T: Fits>(a: T, b: T) -> Option<T> {
     if product_fits(a, b) {
         Some(operators::product(a, b))
@@ -105,7 +117,9 @@ pub fn product<T: Fits>(a: T, b: T) -> Option<T> {
 /// assert_eq!(negated(7u8), None);
 /// ```
 ///
-/// # Proved
+/// <details><summary>Proved</summary>
+///
+/// Of the source, in Rattle: each call returns, and then each `ensures` holds.
 ///
 /// ```text
 /// ensures { AnswersWhere
@@ -116,6 +130,8 @@ pub fn product<T: Fits>(a: T, b: T) -> Option<T> {
 ///
 /// Words: [`AnswersWhere`](crate::definitions::num_integer#answerswhere),
 /// [how to read it](crate::definitions).
+///
+/// </details>
 pub fn negated<T: Fits>(a: T) -> Option<T> {
     if negation_fits(a) {
         Some(operators::negated(a))
@@ -135,7 +151,9 @@ pub fn negated<T: Fits>(a: T) -> Option<T> {
 /// assert_eq!(inc(u8::MAX), None);
 /// ```
 ///
-/// # Proved
+/// <details><summary>Proved</summary>
+///
+/// Of the source, in Rattle: each call returns, and then each `ensures` holds.
 ///
 /// ```text
 /// ensures { AnswersWhere
@@ -146,6 +164,8 @@ pub fn negated<T: Fits>(a: T) -> Option<T> {
 ///
 /// Words: [`AnswersWhere`](crate::definitions::num_integer#answerswhere),
 /// [how to read it](crate::definitions).
+///
+/// </details>
 pub fn inc<T: Fits>(x: T) -> Option<T> {
     sum(x, one())
 }
@@ -161,7 +181,9 @@ pub fn inc<T: Fits>(x: T) -> Option<T> {
 /// assert_eq!(dec(0u8), None);
 /// ```
 ///
-/// # Proved
+/// <details><summary>Proved</summary>
+///
+/// Of the source, in Rattle: each call returns, and then each `ensures` holds.
 ///
 /// ```text
 /// ensures { AnswersWhere
@@ -172,6 +194,8 @@ pub fn inc<T: Fits>(x: T) -> Option<T> {
 ///
 /// Words: [`AnswersWhere`](crate::definitions::num_integer#answerswhere),
 /// [how to read it](crate::definitions).
+///
+/// </details>
 pub fn dec<T: Fits>(x: T) -> Option<T> {
     difference(x, one())
 }

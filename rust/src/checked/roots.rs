@@ -15,7 +15,9 @@ use crate::integer_roots::Roots;
 /// assert_eq!(nth_root(-9, 2), None);
 /// ```
 ///
-/// # Proved
+/// <details><summary>Proved</summary>
+///
+/// Of the source, in Rattle: each call returns, and then each `ensures` holds.
 ///
 /// ```text
 /// ensures { AnswersWhere
@@ -26,6 +28,8 @@ use crate::integer_roots::Roots;
 ///
 /// Words: [`AnswersWhere`](crate::definitions::num_integer#answerswhere),
 /// [`IsRoot`](crate::definitions::integer_roots#isroot), [how to read it](crate::definitions).
+///
+/// </details>
 pub fn nth_root<T: Roots + Copy>(x: T, n: u32) -> Option<T> {
     if n != 0 && (n % 2 != 0 || !is_negative(x)) {
         Some(x.nth_root(n))
@@ -45,7 +49,9 @@ pub fn nth_root<T: Roots + Copy>(x: T, n: u32) -> Option<T> {
 /// assert_eq!(sqrt(-1), None);
 /// ```
 ///
-/// # Proved
+/// <details><summary>Proved</summary>
+///
+/// Of the source, in Rattle: each call returns, and then each `ensures` holds.
 ///
 /// ```text
 /// ensures { AnswersWhere
@@ -56,6 +62,8 @@ pub fn nth_root<T: Roots + Copy>(x: T, n: u32) -> Option<T> {
 ///
 /// Words: [`AnswersWhere`](crate::definitions::num_integer#answerswhere),
 /// [`IsRoot`](crate::definitions::integer_roots#isroot), [how to read it](crate::definitions).
+///
+/// </details>
 pub fn sqrt<T: Roots + Copy>(x: T) -> Option<T> {
     if !is_negative(x) {
         Some(x.sqrt())

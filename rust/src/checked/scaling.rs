@@ -17,7 +17,9 @@ use num_traits::cast;
 /// assert_eq!(product_div_mod_floor(i64::MAX, 3, 2), None);
 /// ```
 ///
-/// # Proved
+/// <details><summary>Proved</summary>
+///
+/// Of the source, in Rattle: each call returns, and then each `ensures` holds.
 ///
 /// ```text
 /// ensures { AnswersWhere
@@ -31,6 +33,8 @@ use num_traits::cast;
 /// [`EachFits`](crate::definitions::integer_core#eachfits),
 /// [`IsQuotient`](crate::definitions::integer_core#isquotient),
 /// [`IsFloored`](crate::definitions::integer_core#isfloored), [how to read it](crate::definitions).
+///
+/// </details>
 pub fn product_div_mod_floor<T: NativeInteger<Magnitude = u64>>(
     a: T,
     b: T,

@@ -93,7 +93,10 @@ fn last_row<T: Integer + Clone>(a: T, b: T) -> (Row<T>, u32) {
 /// If the greatest common divisor does not fit, or if the type is unsigned and neither number
 /// divides the other.
 ///
-/// # Proved
+/// <details><summary>Proved</summary>
+///
+/// Of the source, in Rattle: where each `requires` holds, the call returns, and then each `ensures`
+/// holds.
 ///
 /// ```text
 /// requires gcd_fits { GcdFits T.fits (T.value a) (T.value b) }
@@ -117,6 +120,8 @@ fn last_row<T: Integer + Clone>(a: T, b: T) -> (Row<T>, u32) {
 /// [`IsSmallPair`](crate::definitions::integer_core#issmallpair),
 /// [`AreEuclidTurns`](crate::definitions::integer_core#areeuclidturns),
 /// [`fibonacci`](crate::definitions::integer_core#fibonacci), [how to read it](crate::definitions).
+///
+/// </details>
 #[track_caller]
 pub fn extended_gcd_counted<T: Integer + Clone>(a: T, b: T) -> (ExtendedGcd<T>, u32) {
     a.expect_pair(&b);

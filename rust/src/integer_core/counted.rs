@@ -22,7 +22,10 @@ pub trait GcdCounted: Integer {
     ///
     /// If the greatest common divisor does not fit.
     ///
-    /// # Proved
+    /// <details><summary>Proved</summary>
+    ///
+    /// Of the source, in Rattle: where each `requires` holds, the call returns, and then each `ensures`
+    /// holds.
     ///
     /// ```text
     /// requires gcd_fits { GcdFits Self.fits (Self.value self.now) (Self.value other.now) }
@@ -37,7 +40,10 @@ pub trait GcdCounted: Integer {
     /// Words: [`GcdFits`](crate::definitions::integer_core#gcdfits),
     /// [`IsGreatestCommonDivisor`](crate::definitions::integer_core#isgreatestcommondivisor),
     /// [`AreGcdTurns`](crate::definitions::integer_core#aregcdturns),
-    /// [`IsBitLength`](crate::definitions::integer_core#isbitlength), [how to read it](crate::definitions).
+    /// [`IsBitLength`](crate::definitions::integer_core#isbitlength),
+    /// [how to read it](crate::definitions).
+    ///
+    /// </details>
     #[track_caller]
     fn gcd_counted(&self, other: &Self) -> (Self, u32);
 }

@@ -13,7 +13,10 @@ use num_traits::Num;
 /// assert_eq!(zero::<i64>(), 0);
 /// ```
 ///
-/// # Proved
+/// <details><summary>Proved</summary>
+///
+/// Of the source, in Rattle: where each `requires` holds, the call returns, and then each `ensures`
+/// holds.
 ///
 /// ```text
 /// requires { T.exact }
@@ -21,6 +24,8 @@ use num_traits::Num;
 /// ```
 ///
 /// Words: [how to read it](crate::definitions).
+///
+/// </details>
 pub fn zero<T: Num>() -> T {
     T::zero()
 }
@@ -35,7 +40,10 @@ pub fn zero<T: Num>() -> T {
 /// assert_eq!(one::<i64>(), 1);
 /// ```
 ///
-/// # Proved
+/// <details><summary>Proved</summary>
+///
+/// Of the source, in Rattle: where each `requires` holds, the call returns, and then each `ensures`
+/// holds.
 ///
 /// ```text
 /// requires { T.exact }
@@ -43,6 +51,8 @@ pub fn zero<T: Num>() -> T {
 /// ```
 ///
 /// Words: [how to read it](crate::definitions).
+///
+/// </details>
 pub fn one<T: Num>() -> T {
     T::one()
 }
@@ -57,7 +67,10 @@ pub fn one<T: Num>() -> T {
 /// assert!(!is_zero(7));
 /// ```
 ///
-/// # Proved
+/// <details><summary>Proved</summary>
+///
+/// Of the source, in Rattle: where each `requires` holds, the call returns, and then each `ensures`
+/// holds.
 ///
 /// ```text
 /// requires { T.exact }
@@ -65,6 +78,8 @@ pub fn one<T: Num>() -> T {
 /// ```
 ///
 /// Words: [how to read it](crate::definitions).
+///
+/// </details>
 pub fn is_zero<T: Num>(a: T) -> bool {
     a.is_zero()
 }
@@ -80,7 +95,10 @@ pub fn is_zero<T: Num>(a: T) -> bool {
 /// assert!(!is_below(3, 3));
 /// ```
 ///
-/// # Proved
+/// <details><summary>Proved</summary>
+///
+/// Of the source, in Rattle: where each `requires` holds, the call returns, and then each `ensures`
+/// holds.
 ///
 /// ```text
 /// requires { T.exact }
@@ -88,6 +106,8 @@ pub fn is_zero<T: Num>(a: T) -> bool {
 /// ```
 ///
 /// Words: [how to read it](crate::definitions).
+///
+/// </details>
 pub fn is_below<T: Num + PartialOrd>(a: T, b: T) -> bool {
     a < b
 }
@@ -103,7 +123,10 @@ pub fn is_below<T: Num + PartialOrd>(a: T, b: T) -> bool {
 /// assert!(!is_negative(0));
 /// ```
 ///
-/// # Proved
+/// <details><summary>Proved</summary>
+///
+/// Of the source, in Rattle: where each `requires` holds, the call returns, and then each `ensures`
+/// holds.
 ///
 /// ```text
 /// requires { T.exact }
@@ -111,6 +134,8 @@ pub fn is_below<T: Num + PartialOrd>(a: T, b: T) -> bool {
 /// ```
 ///
 /// Words: [how to read it](crate::definitions).
+///
+/// </details>
 pub fn is_negative<T: Num + PartialOrd>(a: T) -> bool {
     is_below(a, zero())
 }
@@ -129,7 +154,10 @@ pub fn is_negative<T: Num + PartialOrd>(a: T) -> bool {
 ///
 /// If the result does not fit.
 ///
-/// # Proved
+/// <details><summary>Proved</summary>
+///
+/// Of the source, in Rattle: where each `requires` holds, the call returns, and then each `ensures`
+/// holds.
 ///
 /// ```text
 /// requires exact { T.exact }
@@ -138,6 +166,8 @@ pub fn is_negative<T: Num + PartialOrd>(a: T) -> bool {
 /// ```
 ///
 /// Words: [how to read it](crate::definitions).
+///
+/// </details>
 #[track_caller]
 pub fn sum<T: crate::integer_core::Integer>(a: T, b: T) -> T {
     a.exact_sum(b, "attempt to add with overflow")
@@ -157,7 +187,10 @@ pub fn sum<T: crate::integer_core::Integer>(a: T, b: T) -> T {
 ///
 /// If the result does not fit.
 ///
-/// # Proved
+/// <details><summary>Proved</summary>
+///
+/// Of the source, in Rattle: where each `requires` holds, the call returns, and then each `ensures`
+/// holds.
 ///
 /// ```text
 /// requires exact { T.exact }
@@ -166,6 +199,8 @@ pub fn sum<T: crate::integer_core::Integer>(a: T, b: T) -> T {
 /// ```
 ///
 /// Words: [how to read it](crate::definitions).
+///
+/// </details>
 #[track_caller]
 pub fn difference<T: crate::integer_core::Integer>(a: T, b: T) -> T {
     a.exact_difference(b, "attempt to subtract with overflow")
@@ -185,7 +220,10 @@ pub fn difference<T: crate::integer_core::Integer>(a: T, b: T) -> T {
 ///
 /// If the result does not fit.
 ///
-/// # Proved
+/// <details><summary>Proved</summary>
+///
+/// Of the source, in Rattle: where each `requires` holds, the call returns, and then each `ensures`
+/// holds.
 ///
 /// ```text
 /// requires exact { T.exact }
@@ -194,6 +232,8 @@ pub fn difference<T: crate::integer_core::Integer>(a: T, b: T) -> T {
 /// ```
 ///
 /// Words: [how to read it](crate::definitions).
+///
+/// </details>
 #[track_caller]
 pub fn product<T: crate::integer_core::Integer>(a: T, b: T) -> T {
     a.exact_product(b, "attempt to multiply with overflow")
@@ -213,7 +253,10 @@ pub fn product<T: crate::integer_core::Integer>(a: T, b: T) -> T {
 ///
 /// If `b` is 0, or if the quotient does not fit.
 ///
-/// # Proved
+/// <details><summary>Proved</summary>
+///
+/// Of the source, in Rattle: where each `requires` holds, the call returns, and then each `ensures`
+/// holds.
 ///
 /// ```text
 /// requires exact { T.exact }
@@ -223,6 +266,8 @@ pub fn product<T: crate::integer_core::Integer>(a: T, b: T) -> T {
 /// ```
 ///
 /// Words: [how to read it](crate::definitions).
+///
+/// </details>
 #[track_caller]
 pub fn quotient<T: Num>(a: T, b: T) -> T {
     a / b
@@ -242,7 +287,10 @@ pub fn quotient<T: Num>(a: T, b: T) -> T {
 ///
 /// If `b` is 0, or if the quotient does not fit.
 ///
-/// # Proved
+/// <details><summary>Proved</summary>
+///
+/// Of the source, in Rattle: where each `requires` holds, the call returns, and then each `ensures`
+/// holds.
 ///
 /// ```text
 /// requires exact { T.exact }
@@ -253,6 +301,8 @@ pub fn quotient<T: Num>(a: T, b: T) -> T {
 /// ```
 ///
 /// Words: [how to read it](crate::definitions).
+///
+/// </details>
 #[track_caller]
 pub fn remainder<T: Num>(a: T, b: T) -> T {
     a % b
@@ -272,7 +322,10 @@ pub fn remainder<T: Num>(a: T, b: T) -> T {
 ///
 /// If the result does not fit.
 ///
-/// # Proved
+/// <details><summary>Proved</summary>
+///
+/// Of the source, in Rattle: where each `requires` holds, the call returns, and then each `ensures`
+/// holds.
 ///
 /// ```text
 /// requires exact { T.exact }
@@ -281,6 +334,8 @@ pub fn remainder<T: Num>(a: T, b: T) -> T {
 /// ```
 ///
 /// Words: [how to read it](crate::definitions).
+///
+/// </details>
 #[track_caller]
 pub fn successor<T: crate::integer_core::Integer>(a: T) -> T {
     sum(a, one())
@@ -300,7 +355,10 @@ pub fn successor<T: crate::integer_core::Integer>(a: T) -> T {
 ///
 /// If the result does not fit.
 ///
-/// # Proved
+/// <details><summary>Proved</summary>
+///
+/// Of the source, in Rattle: where each `requires` holds, the call returns, and then each `ensures`
+/// holds.
 ///
 /// ```text
 /// requires exact { T.exact }
@@ -309,6 +367,8 @@ pub fn successor<T: crate::integer_core::Integer>(a: T) -> T {
 /// ```
 ///
 /// Words: [how to read it](crate::definitions).
+///
+/// </details>
 #[track_caller]
 pub fn predecessor<T: crate::integer_core::Integer>(a: T) -> T {
     difference(a, one())
@@ -328,7 +388,10 @@ pub fn predecessor<T: crate::integer_core::Integer>(a: T) -> T {
 ///
 /// If the result does not fit.
 ///
-/// # Proved
+/// <details><summary>Proved</summary>
+///
+/// Of the source, in Rattle: where each `requires` holds, the call returns, and then each `ensures`
+/// holds.
 ///
 /// ```text
 /// requires exact { T.exact }
@@ -337,6 +400,8 @@ pub fn predecessor<T: crate::integer_core::Integer>(a: T) -> T {
 /// ```
 ///
 /// Words: [how to read it](crate::definitions).
+///
+/// </details>
 #[track_caller]
 pub fn negated<T: crate::integer_core::Integer>(a: T) -> T {
     zero::<T>().exact_difference(a, "attempt to negate with overflow")

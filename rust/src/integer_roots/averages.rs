@@ -14,7 +14,9 @@ pub trait Average: Integer {
     /// assert_eq!((-2).average_floor(&-5), -4);
     /// ```
     ///
-    /// # Proved
+    /// <details><summary>Proved</summary>
+    ///
+    /// Of the source, in Rattle: each call returns, and then each `ensures` holds.
     ///
     /// ```text
     /// ensures floor { IsAverageFloor (Self.value self.now) (Self.value other.now)
@@ -23,6 +25,8 @@ pub trait Average: Integer {
     ///
     /// Words: [`IsAverageFloor`](crate::definitions::integer_roots#isaveragefloor),
     /// [how to read it](crate::definitions).
+    ///
+    /// </details>
     fn average_floor(&self, other: &Self) -> Self;
 
     /// Returns the average rounded up.
@@ -35,7 +39,9 @@ pub trait Average: Integer {
     /// assert_eq!((-2).average_ceil(&-5), -3);
     /// ```
     ///
-    /// # Proved
+    /// <details><summary>Proved</summary>
+    ///
+    /// Of the source, in Rattle: each call returns, and then each `ensures` holds.
     ///
     /// ```text
     /// ensures ceil { IsAverageCeil (Self.value self.now) (Self.value other.now)
@@ -44,6 +50,8 @@ pub trait Average: Integer {
     ///
     /// Words: [`IsAverageCeil`](crate::definitions::integer_roots#isaverageceil),
     /// [how to read it](crate::definitions).
+    ///
+    /// </details>
     fn average_ceil(&self, other: &Self) -> Self;
 }
 
@@ -57,7 +65,9 @@ pub trait Average: Integer {
 /// assert_eq!(average_floor(3, 10), 6);
 /// ```
 ///
-/// # Proved
+/// <details><summary>Proved</summary>
+///
+/// Of the source, in Rattle: each call returns, and then each `ensures` holds.
 ///
 /// ```text
 /// ensures floor { IsAverageFloor (T.value x) (T.value y) (T.value result) }
@@ -65,6 +75,8 @@ pub trait Average: Integer {
 ///
 /// Words: [`IsAverageFloor`](crate::definitions::integer_roots#isaveragefloor),
 /// [how to read it](crate::definitions).
+///
+/// </details>
 pub fn average_floor<T: Average>(x: T, y: T) -> T {
     x.average_floor(&y)
 }
@@ -79,7 +91,9 @@ pub fn average_floor<T: Average>(x: T, y: T) -> T {
 /// assert_eq!(average_ceil(3, 10), 7);
 /// ```
 ///
-/// # Proved
+/// <details><summary>Proved</summary>
+///
+/// Of the source, in Rattle: each call returns, and then each `ensures` holds.
 ///
 /// ```text
 /// ensures ceil { IsAverageCeil (T.value x) (T.value y) (T.value result) }
@@ -87,6 +101,8 @@ pub fn average_floor<T: Average>(x: T, y: T) -> T {
 ///
 /// Words: [`IsAverageCeil`](crate::definitions::integer_roots#isaverageceil),
 /// [how to read it](crate::definitions).
+///
+/// </details>
 pub fn average_ceil<T: Average>(x: T, y: T) -> T {
     x.average_ceil(&y)
 }

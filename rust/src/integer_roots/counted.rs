@@ -21,7 +21,10 @@ pub trait SqrtCounted: Roots {
     ///
     /// If the number is negative.
     ///
-    /// # Proved
+    /// <details><summary>Proved</summary>
+    ///
+    /// Of the source, in Rattle: where each `requires` holds, the call returns, and then each `ensures`
+    /// holds.
     ///
     /// ```text
     /// requires from_zero { pos 0 ≤ℤ Self.value self.now }
@@ -33,6 +36,8 @@ pub trait SqrtCounted: Roots {
     /// Words: [`IsRoot`](crate::definitions::integer_roots#isroot),
     /// [`AreSquareRootTurns`](crate::definitions::integer_roots#aresquarerootturns),
     /// [how to read it](crate::definitions).
+    ///
+    /// </details>
     #[track_caller]
     fn sqrt_counted(&self) -> (Self, u32);
 }

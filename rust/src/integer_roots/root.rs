@@ -8,7 +8,9 @@ use crate::integer_roots::magnitude_roots::{
 
 /// Roots of an integer of at most 64 bits, rounded toward zero.
 ///
-/// # Laws
+/// <details><summary>Laws</summary>
+///
+/// What the proofs use of an implementation. Of those in this crate it is proved, in Rattle.
 ///
 /// ```text
 /// ghost width_law: { IsWithin64Bits Self.low Self.high }
@@ -16,6 +18,8 @@ use crate::integer_roots::magnitude_roots::{
 ///
 /// Words: [`IsWithin64Bits`](crate::definitions::integer_roots#iswithin64bits),
 /// [how to read it](crate::definitions).
+///
+/// </details>
 pub trait Roots: Integer {
     /// Returns the root of degree `n`, rounded toward zero.
     ///
@@ -33,7 +37,10 @@ pub trait Roots: Integer {
     ///
     /// If `n` is 0, or if `n` is even and the number is negative.
     ///
-    /// # Proved
+    /// <details><summary>Proved</summary>
+    ///
+    /// Of the source, in Rattle: where each `requires` holds, the call returns, and then each `ensures`
+    /// holds.
     ///
     /// ```text
     /// requires degree { n ≢ 0 }
@@ -42,6 +49,8 @@ pub trait Roots: Integer {
     /// ```
     ///
     /// Words: [`IsRoot`](crate::definitions::integer_roots#isroot), [how to read it](crate::definitions).
+    ///
+    /// </details>
     #[track_caller]
     fn nth_root(&self, n: u32) -> Self;
 
@@ -61,7 +70,10 @@ pub trait Roots: Integer {
     ///
     /// If the number is negative.
     ///
-    /// # Proved
+    /// <details><summary>Proved</summary>
+    ///
+    /// Of the source, in Rattle: where each `requires` holds, the call returns, and then each `ensures`
+    /// holds.
     ///
     /// ```text
     /// requires from_zero { pos 0 ≤ℤ Self.value self.now }
@@ -69,6 +81,8 @@ pub trait Roots: Integer {
     /// ```
     ///
     /// Words: [`IsRoot`](crate::definitions::integer_roots#isroot), [how to read it](crate::definitions).
+    ///
+    /// </details>
     #[track_caller]
     fn sqrt(&self) -> Self {
         assert!(
@@ -88,13 +102,17 @@ pub trait Roots: Integer {
     /// assert_eq!((-9).cbrt(), -2);
     /// ```
     ///
-    /// # Proved
+    /// <details><summary>Proved</summary>
+    ///
+    /// Of the source, in Rattle: each call returns, and then each `ensures` holds.
     ///
     /// ```text
     /// ensures root { IsRoot (Self.value self.now) 3 (Self.value result) }
     /// ```
     ///
     /// Words: [`IsRoot`](crate::definitions::integer_roots#isroot), [how to read it](crate::definitions).
+    ///
+    /// </details>
     fn cbrt(&self) -> Self {
         self.nth_root(3)
     }
@@ -115,7 +133,10 @@ pub trait Roots: Integer {
 ///
 /// If `n` is 0, or if `n` is even and the number is negative.
 ///
-/// # Proved
+/// <details><summary>Proved</summary>
+///
+/// Of the source, in Rattle: where each `requires` holds, the call returns, and then each `ensures`
+/// holds.
 ///
 /// ```text
 /// requires degree { n ≢ 0 }
@@ -124,6 +145,8 @@ pub trait Roots: Integer {
 /// ```
 ///
 /// Words: [`IsRoot`](crate::definitions::integer_roots#isroot), [how to read it](crate::definitions).
+///
+/// </details>
 #[track_caller]
 pub fn nth_root<T: Roots>(x: T, n: u32) -> T {
     assert!(n != 0, "attempt to take a root of degree 0");
@@ -148,7 +171,10 @@ pub fn nth_root<T: Roots>(x: T, n: u32) -> T {
 ///
 /// If the number is negative.
 ///
-/// # Proved
+/// <details><summary>Proved</summary>
+///
+/// Of the source, in Rattle: where each `requires` holds, the call returns, and then each `ensures`
+/// holds.
 ///
 /// ```text
 /// requires from_zero { pos 0 ≤ℤ T.value x }
@@ -156,6 +182,8 @@ pub fn nth_root<T: Roots>(x: T, n: u32) -> T {
 /// ```
 ///
 /// Words: [`IsRoot`](crate::definitions::integer_roots#isroot), [how to read it](crate::definitions).
+///
+/// </details>
 #[track_caller]
 pub fn sqrt<T: Roots>(x: T) -> T {
     assert!(
@@ -175,13 +203,17 @@ pub fn sqrt<T: Roots>(x: T) -> T {
 /// assert_eq!(cbrt(-9), -2);
 /// ```
 ///
-/// # Proved
+/// <details><summary>Proved</summary>
+///
+/// Of the source, in Rattle: each call returns, and then each `ensures` holds.
 ///
 /// ```text
 /// ensures root { IsRoot (T.value x) 3 (T.value result) }
 /// ```
 ///
 /// Words: [`IsRoot`](crate::definitions::integer_roots#isroot), [how to read it](crate::definitions).
+///
+/// </details>
 pub fn cbrt<T: Roots>(x: T) -> T {
     x.cbrt()
 }

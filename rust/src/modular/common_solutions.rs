@@ -25,7 +25,10 @@ use crate::{checked, Fits};
 ///
 /// If the modulus is not positive, or if the least common multiple does not fit.
 ///
-/// # Proved
+/// <details><summary>Proved</summary>
+///
+/// Of the source, in Rattle: where each `requires` holds, the call returns, and then each `ensures`
+/// holds.
 ///
 /// ```text
 /// requires m_positive { pos 0 <ℤ T.value m }
@@ -41,7 +44,10 @@ use crate::{checked, Fits};
 /// Words: [`EachFits`](crate::definitions::integer_core#eachfits),
 /// [`IsLeastCommonMultiple`](crate::definitions::integer_core#isleastcommonmultiple),
 /// [`SolvesBothCongruences`](crate::definitions::modular#solvesbothcongruences),
-/// [`IsResidueClass`](crate::definitions::modular#isresidueclass), [how to read it](crate::definitions).
+/// [`IsResidueClass`](crate::definitions::modular#isresidueclass),
+/// [how to read it](crate::definitions).
+///
+/// </details>
 #[track_caller]
 pub fn chinese_remainder<T: Modular>(a: T, m: T, b: T, n: T) -> Option<(T, T)> {
     assert!(m > T::zero(), "the modulus is not positive");
@@ -81,7 +87,10 @@ pub enum CommonSolution<T> {
 ///
 /// If the modulus is not positive.
 ///
-/// # Proved
+/// <details><summary>Proved</summary>
+///
+/// Of the source, in Rattle: where each `requires` holds, the call returns, and then each `ensures`
+/// holds.
 ///
 /// ```text
 /// requires m_positive { pos 0 <ℤ T.value m }
@@ -98,6 +107,8 @@ pub enum CommonSolution<T> {
 /// [`SolvesBothCongruences`](crate::definitions::modular#solvesbothcongruences),
 /// [`IsNextCommonSolution`](crate::definitions::modular#isnextcommonsolution),
 /// [how to read it](crate::definitions).
+///
+/// </details>
 #[track_caller]
 pub fn next_common_solution<T: Modular + Fits>(
     from: T,

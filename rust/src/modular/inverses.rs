@@ -24,7 +24,10 @@ use crate::Integer;
 ///
 /// If the modulus is not positive.
 ///
-/// # Proved
+/// <details><summary>Proved</summary>
+///
+/// Of the source, in Rattle: where each `requires` holds, the call returns, and then each `ensures`
+/// holds.
 ///
 /// ```text
 /// requires positive { pos 0 <ℤ T.value m }
@@ -35,6 +38,8 @@ use crate::Integer;
 ///
 /// Words: [`IsInverse`](crate::definitions::modular#isinverse),
 /// [`IsOnly`](crate::definitions::integer_core#isonly), [how to read it](crate::definitions).
+///
+/// </details>
 #[track_caller]
 pub fn inverse_modulo<T: Integer + Copy>(a: T, m: T) -> Option<T> {
     assert!(m > T::zero(), "the modulus is not positive");
@@ -64,7 +69,10 @@ pub fn inverse_modulo<T: Integer + Copy>(a: T, m: T) -> Option<T> {
 ///
 /// If the modulus is not positive.
 ///
-/// # Proved
+/// <details><summary>Proved</summary>
+///
+/// Of the source, in Rattle: where each `requires` holds, the call returns, and then each `ensures`
+/// holds.
 ///
 /// ```text
 /// requires positive { pos 0 <ℤ T.value m }
@@ -76,6 +84,8 @@ pub fn inverse_modulo<T: Integer + Copy>(a: T, m: T) -> Option<T> {
 /// Words: [`IsInverse`](crate::definitions::modular#isinverse),
 /// [`IsQuotientModulo`](crate::definitions::modular#isquotientmodulo),
 /// [`IsOnly`](crate::definitions::integer_core#isonly), [how to read it](crate::definitions).
+///
+/// </details>
 #[track_caller]
 pub fn quotient_modulo<T: Modular>(a: T, b: T, m: T) -> Option<T> {
     assert!(m > T::zero(), "the modulus is not positive");

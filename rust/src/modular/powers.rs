@@ -20,7 +20,10 @@ use crate::modular::products::Modular;
 ///
 /// If the modulus is not positive.
 ///
-/// # Proved
+/// <details><summary>Proved</summary>
+///
+/// Of the source, in Rattle: where each `requires` holds, the call returns, and then each `ensures`
+/// holds.
 ///
 /// ```text
 /// requires positive { pos 0 <ℤ T.value m }
@@ -30,6 +33,8 @@ use crate::modular::products::Modular;
 /// ```
 ///
 /// Words: [`IsResidue`](crate::definitions::modular#isresidue), [how to read it](crate::definitions).
+///
+/// </details>
 #[track_caller]
 pub fn power_modulo_counted<T: Modular>(a: T, exponent: u128, m: T) -> (T, u32) {
     assert!(m > T::zero(), "the modulus is not positive");
@@ -52,7 +57,10 @@ pub fn power_modulo_counted<T: Modular>(a: T, exponent: u128, m: T) -> (T, u32) 
 ///
 /// If the modulus is not positive.
 ///
-/// # Proved
+/// <details><summary>Proved</summary>
+///
+/// Of the source, in Rattle: where each `requires` holds, the call returns, and then each `ensures`
+/// holds.
 ///
 /// ```text
 /// requires positive { pos 0 <ℤ T.value m }
@@ -60,6 +68,8 @@ pub fn power_modulo_counted<T: Modular>(a: T, exponent: u128, m: T) -> (T, u32) 
 /// ```
 ///
 /// Words: [`IsResidue`](crate::definitions::modular#isresidue), [how to read it](crate::definitions).
+///
+/// </details>
 #[track_caller]
 pub fn power_modulo<T: Modular>(a: T, exponent: u128, m: T) -> T {
     assert!(m > T::zero(), "the modulus is not positive");

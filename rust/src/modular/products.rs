@@ -24,7 +24,10 @@ pub trait Modular: Integer + Copy {
     ///
     /// If the modulus is not positive.
     ///
-    /// # Proved
+    /// <details><summary>Proved</summary>
+    ///
+    /// Of the source, in Rattle: where each `requires` holds, the call returns, and then each `ensures`
+    /// holds.
     ///
     /// ```text
     /// requires positive { pos 0 <ℤ Self.value modulus.now }
@@ -33,6 +36,8 @@ pub trait Modular: Integer + Copy {
     /// ```
     ///
     /// Words: [`IsResidue`](crate::definitions::modular#isresidue), [how to read it](crate::definitions).
+    ///
+    /// </details>
     #[track_caller]
     fn product_modulo(&self, other: &Self, modulus: &Self) -> Self {
         assert!(*modulus > Self::zero(), "the modulus is not positive");
@@ -61,7 +66,10 @@ pub trait Modular: Integer + Copy {
     ///
     /// If the modulus is not positive.
     ///
-    /// # Proved
+    /// <details><summary>Proved</summary>
+    ///
+    /// Of the source, in Rattle: where each `requires` holds, the call returns, and then each `ensures`
+    /// holds.
     ///
     /// ```text
     /// requires positive { pos 0 <ℤ Self.value modulus.now }
@@ -73,6 +81,8 @@ pub trait Modular: Integer + Copy {
     /// ```
     ///
     /// Words: [`IsResidue`](crate::definitions::modular#isresidue), [how to read it](crate::definitions).
+    ///
+    /// </details>
     #[track_caller]
     fn power_modulo_counted(&self, exponent: u128, modulus: &Self) -> (Self, u32) {
         assert!(*modulus > Self::zero(), "the modulus is not positive");
@@ -102,7 +112,10 @@ pub trait Modular: Integer + Copy {
 ///
 /// If the modulus is not positive.
 ///
-/// # Proved
+/// <details><summary>Proved</summary>
+///
+/// Of the source, in Rattle: where each `requires` holds, the call returns, and then each `ensures`
+/// holds.
 ///
 /// ```text
 /// requires positive { pos 0 <ℤ T.value m }
@@ -110,6 +123,8 @@ pub trait Modular: Integer + Copy {
 /// ```
 ///
 /// Words: [`IsResidue`](crate::definitions::modular#isresidue), [how to read it](crate::definitions).
+///
+/// </details>
 #[track_caller]
 pub fn product_modulo<T: Modular>(a: T, b: T, m: T) -> T {
     assert!(m > T::zero(), "the modulus is not positive");

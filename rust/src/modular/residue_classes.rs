@@ -25,7 +25,10 @@ use crate::{checked, Fits, Integer};
 ///
 /// If the modulus is not positive.
 ///
-/// # Proved
+/// <details><summary>Proved</summary>
+///
+/// Of the source, in Rattle: where each `requires` holds, the call returns, and then each `ensures`
+/// holds.
 ///
 /// ```text
 /// requires positive { pos 0 <ℤ T.value m }
@@ -39,6 +42,8 @@ use crate::{checked, Fits, Integer};
 /// [`IsResidueClass`](crate::definitions::modular#isresidueclass),
 /// [`IsReducedModulus`](crate::definitions::modular#isreducedmodulus),
 /// [how to read it](crate::definitions).
+///
+/// </details>
 #[track_caller]
 pub fn solutions<T: Modular>(a: T, b: T, m: T) -> Option<(T, T)> {
     assert!(m > T::zero(), "the modulus is not positive");
@@ -68,7 +73,10 @@ pub fn solutions<T: Modular>(a: T, b: T, m: T) -> Option<(T, T)> {
 ///
 /// If the step is not positive.
 ///
-/// # Proved
+/// <details><summary>Proved</summary>
+///
+/// Of the source, in Rattle: where each `requires` holds, the call returns, and then each `ensures`
+/// holds.
 ///
 /// ```text
 /// requires positive { pos 0 <ℤ T.value step }
@@ -80,6 +88,8 @@ pub fn solutions<T: Modular>(a: T, b: T, m: T) -> Option<(T, T)> {
 ///
 /// Words: [`IsNextCongruent`](crate::definitions::modular#isnextcongruent),
 /// [how to read it](crate::definitions).
+///
+/// </details>
 #[track_caller]
 pub fn next_congruent<T: Fits>(from: T, first: T, step: T) -> Option<T> {
     assert!(step > T::zero(), "the step is not positive");
@@ -103,7 +113,10 @@ pub fn next_congruent<T: Fits>(from: T, first: T, step: T) -> Option<T> {
 ///
 /// If the step is not positive.
 ///
-/// # Proved
+/// <details><summary>Proved</summary>
+///
+/// Of the source, in Rattle: where each `requires` holds, the call returns, and then each `ensures`
+/// holds.
 ///
 /// ```text
 /// requires positive { pos 0 <ℤ T.value step }
@@ -116,6 +129,8 @@ pub fn next_congruent<T: Fits>(from: T, first: T, step: T) -> Option<T> {
 ///
 /// Words: [`IsPreviousCongruent`](crate::definitions::modular#ispreviouscongruent),
 /// [how to read it](crate::definitions).
+///
+/// </details>
 #[track_caller]
 pub fn previous_congruent<T: Fits>(to: T, first: T, step: T) -> Option<T> {
     assert!(step > T::zero(), "the step is not positive");
@@ -139,7 +154,10 @@ pub fn previous_congruent<T: Fits>(to: T, first: T, step: T) -> Option<T> {
 ///
 /// If the step is not positive.
 ///
-/// # Proved
+/// <details><summary>Proved</summary>
+///
+/// Of the source, in Rattle: where each `requires` holds, the call returns, and then each `ensures`
+/// holds.
 ///
 /// ```text
 /// requires positive { pos 0 <ℤ T.value step }
@@ -153,6 +171,8 @@ pub fn previous_congruent<T: Fits>(to: T, first: T, step: T) -> Option<T> {
 ///
 /// Words: [`IsCountOfCongruent`](crate::definitions::modular#iscountofcongruent),
 /// [how to read it](crate::definitions).
+///
+/// </details>
 #[track_caller]
 pub fn count_congruent<T: Fits>(from: T, to: T, first: T, step: T) -> Option<T> {
     assert!(step > T::zero(), "the step is not positive");

@@ -19,7 +19,10 @@ use crate::{mod_floor, Integer};
 ///
 /// If the modulus is not positive.
 ///
-/// # Proved
+/// <details><summary>Proved</summary>
+///
+/// Of the source, in Rattle: where each `requires` holds, the call returns, and then each `ensures`
+/// holds.
 ///
 /// ```text
 /// requires positive { pos 0 <ℤ T.value m }
@@ -27,6 +30,8 @@ use crate::{mod_floor, Integer};
 /// ```
 ///
 /// Words: [`IsResidue`](crate::definitions::modular#isresidue), [how to read it](crate::definitions).
+///
+/// </details>
 #[track_caller]
 pub fn residue<T: Integer>(a: T, m: T) -> T {
     assert!(m > T::zero(), "the modulus is not positive");
@@ -49,7 +54,10 @@ pub fn residue<T: Integer>(a: T, m: T) -> T {
 ///
 /// If the modulus is not positive.
 ///
-/// # Proved
+/// <details><summary>Proved</summary>
+///
+/// Of the source, in Rattle: where each `requires` holds, the call returns, and then each `ensures`
+/// holds.
 ///
 /// ```text
 /// requires positive { pos 0 <ℤ T.value m }
@@ -57,6 +65,8 @@ pub fn residue<T: Integer>(a: T, m: T) -> T {
 /// ```
 ///
 /// Words: [`IsResidue`](crate::definitions::modular#isresidue), [how to read it](crate::definitions).
+///
+/// </details>
 #[track_caller]
 pub fn sum_modulo<T: Integer + Copy>(a: T, b: T, m: T) -> T {
     assert!(m > T::zero(), "the modulus is not positive");
@@ -89,7 +99,10 @@ pub(crate) fn sum_of_residues<T: Integer + Copy>(x: T, y: T, m: T) -> T {
 ///
 /// If the modulus is not positive.
 ///
-/// # Proved
+/// <details><summary>Proved</summary>
+///
+/// Of the source, in Rattle: where each `requires` holds, the call returns, and then each `ensures`
+/// holds.
 ///
 /// ```text
 /// requires positive { pos 0 <ℤ T.value m }
@@ -97,6 +110,8 @@ pub(crate) fn sum_of_residues<T: Integer + Copy>(x: T, y: T, m: T) -> T {
 /// ```
 ///
 /// Words: [`IsResidue`](crate::definitions::modular#isresidue), [how to read it](crate::definitions).
+///
+/// </details>
 #[track_caller]
 pub fn difference_modulo<T: Integer + Copy>(a: T, b: T, m: T) -> T {
     assert!(m > T::zero(), "the modulus is not positive");
@@ -125,7 +140,10 @@ pub fn difference_modulo<T: Integer + Copy>(a: T, b: T, m: T) -> T {
 ///
 /// If the modulus is not positive.
 ///
-/// # Proved
+/// <details><summary>Proved</summary>
+///
+/// Of the source, in Rattle: where each `requires` holds, the call returns, and then each `ensures`
+/// holds.
 ///
 /// ```text
 /// requires positive { pos 0 <ℤ T.value m }
@@ -133,6 +151,8 @@ pub fn difference_modulo<T: Integer + Copy>(a: T, b: T, m: T) -> T {
 /// ```
 ///
 /// Words: [`IsResidue`](crate::definitions::modular#isresidue), [how to read it](crate::definitions).
+///
+/// </details>
 #[track_caller]
 pub fn negation_modulo<T: Integer + Copy>(a: T, m: T) -> T {
     assert!(m > T::zero(), "the modulus is not positive");

@@ -25,7 +25,10 @@ use crate::{checked, Fits, Integer};
 ///
 /// If a modulus is not positive.
 ///
-/// # Proved
+/// <details><summary>Proved</summary>
+///
+/// Of the source, in Rattle: where each `requires` holds, the call returns, and then each `ensures`
+/// holds.
 ///
 /// ```text
 /// requires in_range { All (λ c. T.fits (T.value c.0) × T.fits (T.value c.1)) congruences.now }
@@ -40,7 +43,10 @@ use crate::{checked, Fits, Integer};
 ///
 /// Words: [`MatchCommonSolution`](crate::definitions::modular#matchcommonsolution),
 /// [`SolvesEach`](crate::definitions::modular#solveseach),
-/// [`IsLeastFrom`](crate::definitions::num_integer#isleastfrom), [how to read it](crate::definitions).
+/// [`IsLeastFrom`](crate::definitions::num_integer#isleastfrom),
+/// [how to read it](crate::definitions).
+///
+/// </details>
 #[track_caller]
 pub fn next_common_solution_of<T: Modular + Fits>(
     from: T,

@@ -16,13 +16,17 @@ impl RatioError {
     /// Returns the number of the error: `1` for `ZeroDenominator`, `2` for `NotFitting`. It is the
     /// same in every version.
     ///
-    /// # Proved
+    /// <details><summary>Proved</summary>
+    ///
+    /// Of the source, in Rattle: each call returns, and then each `ensures` holds.
     ///
     /// ```text
     /// ensures { result ≡ number_of self.now }
     /// ```
     ///
     /// Words: [`number_of`](crate::definitions::ratio64#number_of), [how to read it](crate::definitions).
+    ///
+    /// </details>
     pub fn number(&self) -> u32 {
         match self {
             RatioError::ZeroDenominator => 1,
@@ -31,13 +35,18 @@ impl RatioError {
     }
 }
 
-/// # Proved
+/// <details><summary>Proved</summary>
+///
+/// Of the source, in Rattle: what the calls of the trait return.
 ///
 /// ```text
 /// ghost output = { λ e. Some (error_text e) }
 /// ```
 ///
-/// Words: [`error_text`](crate::definitions::ratio64#error_text), [how to read it](crate::definitions).
+/// Words: [`error_text`](crate::definitions::ratio64#error_text),
+/// [how to read it](crate::definitions).
+///
+/// </details>
 impl fmt::Display for RatioError {
     fn fmt(&self, f: &mut fmt::Formatter<'_>) -> fmt::Result {
         match self {

@@ -14,13 +14,17 @@ use crate::{div_ceil, div_floor};
 
 /// A fraction. Its denominator is above 0, and the greatest common divisor of its parts is 1.
 ///
-/// # Proved
+/// <details><summary>Proved</summary>
+///
+/// Of the source, in Rattle: it holds of each value of the type.
 ///
 /// ```text
 /// pub ghost reduced: { IsReduced num den }
 /// ```
 ///
 /// Words: [`IsReduced`](crate::definitions::ratio64#isreduced), [how to read it](crate::definitions).
+///
+/// </details>
 #[derive(Debug, Clone, Copy, PartialEq, Eq, Hash)]
 pub struct Ratio {
     num: i64,
@@ -45,7 +49,9 @@ impl Ratio {
     /// - [`RatioError::NotFitting`](crate::ratio64::RatioError::NotFitting) if a part of the reduced
     ///   fraction does not fit an `i64`.
     ///
-    /// # Proved
+    /// <details><summary>Proved</summary>
+    ///
+    /// Of the source, in Rattle: each call returns, and then each `ensures` holds.
     ///
     /// ```text
     /// ensures fraction { AnswersFraction num den result }
@@ -54,39 +60,51 @@ impl Ratio {
     ///
     /// Words: [`AnswersFraction`](crate::definitions::ratio64#answersfraction),
     /// [how to read it](crate::definitions).
+    ///
+    /// </details>
     pub fn new(num: i64, den: i64) -> Result<Ratio, RatioError> {
         Ratio::reduced(i128::from(num), i128::from(den))
     }
 
     /// Returns the numerator of the reduced fraction. That of 6/-4 is `-3`.
     ///
-    /// # Proved
+    /// <details><summary>Proved</summary>
+    ///
+    /// Of the source, in Rattle: each call returns, and then each `ensures` holds.
     ///
     /// ```text
     /// ensures { result ≡ num_of self.now }
     /// ```
     ///
     /// Words: [`num_of`](crate::definitions::ratio64#num_of), [how to read it](crate::definitions).
+    ///
+    /// </details>
     pub fn num(&self) -> i64 {
         self.num
     }
 
     /// Returns the denominator of the reduced fraction, which is above 0. That of 6/-4 is `2`.
     ///
-    /// # Proved
+    /// <details><summary>Proved</summary>
+    ///
+    /// Of the source, in Rattle: each call returns, and then each `ensures` holds.
     ///
     /// ```text
     /// ensures { result ≡ den_of self.now }
     /// ```
     ///
     /// Words: [`den_of`](crate::definitions::ratio64#den_of), [how to read it](crate::definitions).
+    ///
+    /// </details>
     pub fn den(&self) -> i64 {
         self.den
     }
 
     /// Returns the fraction rounded down. For -3/2 it returns `-2`.
     ///
-    /// # Proved
+    /// <details><summary>Proved</summary>
+    ///
+    /// Of the source, in Rattle: each call returns, and then each `ensures` holds.
     ///
     /// ```text
     /// ensures { IsQuotient IsFloored (num_of self.now) (den_of self.now) result }
@@ -96,13 +114,17 @@ impl Ratio {
     /// [`IsFloored`](crate::definitions::integer_core#isfloored),
     /// [`num_of`](crate::definitions::ratio64#num_of), [`den_of`](crate::definitions::ratio64#den_of),
     /// [how to read it](crate::definitions).
+    ///
+    /// </details>
     pub fn floor(&self) -> i64 {
         div_floor(self.num, self.den)
     }
 
     /// Returns the fraction rounded up. For -3/2 it returns `-1`.
     ///
-    /// # Proved
+    /// <details><summary>Proved</summary>
+    ///
+    /// Of the source, in Rattle: each call returns, and then each `ensures` holds.
     ///
     /// ```text
     /// ensures { IsQuotient IsCeiled (num_of self.now) (den_of self.now) result }
@@ -112,6 +134,8 @@ impl Ratio {
     /// [`IsCeiled`](crate::definitions::integer_core#isceiled),
     /// [`num_of`](crate::definitions::ratio64#num_of), [`den_of`](crate::definitions::ratio64#den_of),
     /// [how to read it](crate::definitions).
+    ///
+    /// </details>
     pub fn ceil(&self) -> i64 {
         div_ceil(self.num, self.den)
     }
@@ -123,7 +147,9 @@ impl Ratio {
     /// - [`RatioError::NotFitting`](crate::ratio64::RatioError::NotFitting) if a part of the sum does
     ///   not fit an `i64`.
     ///
-    /// # Proved
+    /// <details><summary>Proved</summary>
+    ///
+    /// Of the source, in Rattle: each call returns, and then each `ensures` holds.
     ///
     /// ```text
     /// ensures sum { AnswersFraction
@@ -135,6 +161,8 @@ impl Ratio {
     /// Words: [`AnswersFraction`](crate::definitions::ratio64#answersfraction),
     /// [`num_of`](crate::definitions::ratio64#num_of), [`den_of`](crate::definitions::ratio64#den_of),
     /// [how to read it](crate::definitions).
+    ///
+    /// </details>
     pub fn checked_add(&self, other: &Ratio) -> Result<Ratio, RatioError> {
         self.over_both(other, sum(self.num, self.den, other.num, other.den))
     }
@@ -146,7 +174,9 @@ impl Ratio {
     /// - [`RatioError::NotFitting`](crate::ratio64::RatioError::NotFitting) if a part of the difference
     ///   does not fit an `i64`.
     ///
-    /// # Proved
+    /// <details><summary>Proved</summary>
+    ///
+    /// Of the source, in Rattle: each call returns, and then each `ensures` holds.
     ///
     /// ```text
     /// ensures difference { AnswersFraction
@@ -158,6 +188,8 @@ impl Ratio {
     /// Words: [`AnswersFraction`](crate::definitions::ratio64#answersfraction),
     /// [`num_of`](crate::definitions::ratio64#num_of), [`den_of`](crate::definitions::ratio64#den_of),
     /// [how to read it](crate::definitions).
+    ///
+    /// </details>
     pub fn checked_sub(&self, other: &Ratio) -> Result<Ratio, RatioError> {
         self.over_both(other, difference(self.num, self.den, other.num, other.den))
     }
@@ -169,7 +201,9 @@ impl Ratio {
     /// - [`RatioError::NotFitting`](crate::ratio64::RatioError::NotFitting) if a part of the product
     ///   does not fit an `i64`.
     ///
-    /// # Proved
+    /// <details><summary>Proved</summary>
+    ///
+    /// Of the source, in Rattle: each call returns, and then each `ensures` holds.
     ///
     /// ```text
     /// ensures product { AnswersFraction (num_of self.now *ℤ num_of other.now)
@@ -180,6 +214,8 @@ impl Ratio {
     /// Words: [`AnswersFraction`](crate::definitions::ratio64#answersfraction),
     /// [`num_of`](crate::definitions::ratio64#num_of), [`den_of`](crate::definitions::ratio64#den_of),
     /// [how to read it](crate::definitions).
+    ///
+    /// </details>
     pub fn checked_mul(&self, other: &Ratio) -> Result<Ratio, RatioError> {
         self.over_both(other, product(self.num, other.num))
     }
@@ -193,7 +229,9 @@ impl Ratio {
     /// - [`RatioError::NotFitting`](crate::ratio64::RatioError::NotFitting) if a part of the quotient
     ///   does not fit an `i64`.
     ///
-    /// # Proved
+    /// <details><summary>Proved</summary>
+    ///
+    /// Of the source, in Rattle: each call returns, and then each `ensures` holds.
     ///
     /// ```text
     /// ensures quotient { AnswersFraction (num_of self.now *ℤ den_of other.now)
@@ -205,6 +243,8 @@ impl Ratio {
     /// Words: [`AnswersFraction`](crate::definitions::ratio64#answersfraction),
     /// [`num_of`](crate::definitions::ratio64#num_of), [`den_of`](crate::definitions::ratio64#den_of),
     /// [how to read it](crate::definitions).
+    ///
+    /// </details>
     pub fn checked_div(&self, other: &Ratio) -> Result<Ratio, RatioError> {
         Ratio::reduced(product(self.num, other.den), product(other.num, self.den))
     }
@@ -219,7 +259,9 @@ impl Ratio {
     /// - [`RatioError::NotFitting`](crate::ratio64::RatioError::NotFitting) if the numerator is
     ///   `i64::MIN`.
     ///
-    /// # Proved
+    /// <details><summary>Proved</summary>
+    ///
+    /// Of the source, in Rattle: each call returns, and then each `ensures` holds.
     ///
     /// ```text
     /// ensures reciprocal { AnswersFraction (den_of self.now) (num_of self.now) result }
@@ -230,6 +272,8 @@ impl Ratio {
     /// Words: [`AnswersFraction`](crate::definitions::ratio64#answersfraction),
     /// [`den_of`](crate::definitions::ratio64#den_of), [`num_of`](crate::definitions::ratio64#num_of),
     /// [how to read it](crate::definitions).
+    ///
+    /// </details>
     pub fn checked_recip(&self) -> Result<Ratio, RatioError> {
         Ratio::new(self.den, self.num)
     }
@@ -259,14 +303,18 @@ impl Ratio {
 /// assert_eq!(Ok(Ratio::from(5)), Ratio::new(5, 1));
 /// ```
 ///
-/// # Proved
+/// <details><summary>Proved</summary>
+///
+/// Of the source, in Rattle: what the calls of the trait return.
 ///
 /// ```text
 /// ghost from_gives = { λ number x. (num_of x ≡ number) × (den_of x ≡ pos 1) }
 /// ```
 ///
-/// Words: [`num_of`](crate::definitions::ratio64#num_of), [`den_of`](crate::definitions::ratio64#den_of),
-/// [how to read it](crate::definitions).
+/// Words: [`num_of`](crate::definitions::ratio64#num_of),
+/// [`den_of`](crate::definitions::ratio64#den_of), [how to read it](crate::definitions).
+///
+/// </details>
 impl From<i64> for Ratio {
     fn from(num: i64) -> Ratio {
         Ratio { num, den: 1 }

@@ -4,7 +4,9 @@ use crate::ratio64::products::product;
 use crate::ratio64::Ratio;
 use core::cmp::Ordering;
 
-/// # Proved
+/// <details><summary>Proved</summary>
+///
+/// Of the source, in Rattle: what the calls of the trait return.
 ///
 /// ```text
 /// ghost cmp = { λ x y. fraction_cmp (num_of x) (den_of x) (num_of y) (den_of y) }
@@ -13,13 +15,17 @@ use core::cmp::Ordering;
 /// Words: [`fraction_cmp`](crate::definitions::ratio64#fraction_cmp),
 /// [`num_of`](crate::definitions::ratio64#num_of), [`den_of`](crate::definitions::ratio64#den_of),
 /// [how to read it](crate::definitions).
+///
+/// </details>
 impl Ord for Ratio {
     fn cmp(&self, other: &Ratio) -> Ordering {
         product(self.num(), other.den()).cmp(&product(other.num(), self.den()))
     }
 }
 
-/// # Proved
+/// <details><summary>Proved</summary>
+///
+/// Of the source, in Rattle: what the calls of the trait return.
 ///
 /// ```text
 /// ghost partial_cmp = { as_partial_cmp
@@ -29,6 +35,8 @@ impl Ord for Ratio {
 /// Words: [`fraction_cmp`](crate::definitions::ratio64#fraction_cmp),
 /// [`num_of`](crate::definitions::ratio64#num_of), [`den_of`](crate::definitions::ratio64#den_of),
 /// [how to read it](crate::definitions).
+///
+/// </details>
 impl PartialOrd for Ratio {
     fn partial_cmp(&self, other: &Ratio) -> Option<Ordering> {
         Some(self.cmp(other))

@@ -18,13 +18,18 @@ pub enum ParseRatioError {
     NotFitting,
 }
 
-/// # Proved
+/// <details><summary>Proved</summary>
+///
+/// Of the source, in Rattle: what the calls of the trait return.
 ///
 /// ```text
 /// ghost from_gives = { λ refusal error. Err error ≡ answer_read (Err refusal) }
 /// ```
 ///
-/// Words: [`answer_read`](crate::definitions::ratio64#answer_read), [how to read it](crate::definitions).
+/// Words: [`answer_read`](crate::definitions::ratio64#answer_read),
+/// [how to read it](crate::definitions).
+///
+/// </details>
 impl From<RatioError> for ParseRatioError {
     fn from(refusal: RatioError) -> ParseRatioError {
         match refusal {
@@ -34,7 +39,9 @@ impl From<RatioError> for ParseRatioError {
     }
 }
 
-/// # Proved
+/// <details><summary>Proved</summary>
+///
+/// Of the source, in Rattle: what the calls of the trait return.
 ///
 /// ```text
 /// ghost output = { λ e. Some (parse_error_text e) }
@@ -42,6 +49,8 @@ impl From<RatioError> for ParseRatioError {
 ///
 /// Words: [`parse_error_text`](crate::definitions::ratio64#parse_error_text),
 /// [how to read it](crate::definitions).
+///
+/// </details>
 impl fmt::Display for ParseRatioError {
     fn fmt(&self, f: &mut fmt::Formatter<'_>) -> fmt::Result {
         match self {
@@ -82,7 +91,9 @@ impl Error for ParseRatioError {}
 /// - [`ParseRatioError::NotFitting`](crate::ratio64::ParseRatioError::NotFitting) if a part of the
 ///   reduced fraction does not fit an `i64`.
 ///
-/// # Proved
+/// <details><summary>Proved</summary>
+///
+/// Of the source, in Rattle: what the calls of the trait return.
 ///
 /// ```text
 /// ghost from_str_gives = { ReadsFraction }
@@ -90,6 +101,8 @@ impl Error for ParseRatioError {}
 ///
 /// Words: [`ReadsFraction`](crate::definitions::ratio64#readsfraction),
 /// [how to read it](crate::definitions).
+///
+/// </details>
 impl FromStr for Ratio {
     type Err = ParseRatioError;
 

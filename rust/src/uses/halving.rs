@@ -14,7 +14,9 @@ use crate::{average_floor, Average, Integer};
 /// assert_eq!(midpoint(-2, -5), -4);
 /// ```
 ///
-/// # Proved
+/// <details><summary>Proved</summary>
+///
+/// Of the source, in Rattle: each call returns, and then each `ensures` holds.
 ///
 /// ```text
 /// ensures no_farther { (T.value result -ℤ T.value a) ≤ℤ (T.value b -ℤ T.value result) }
@@ -23,6 +25,8 @@ use crate::{average_floor, Average, Integer};
 /// ```
 ///
 /// Words: [how to read it](crate::definitions).
+///
+/// </details>
 pub fn midpoint<T: Average>(a: T, b: T) -> T {
     average_floor(a, b)
 }
@@ -42,7 +46,10 @@ pub fn midpoint<T: Average>(a: T, b: T) -> T {
 /// assert_eq!(lower_bound(&[1, 3, 3, 5], 3), 1);
 /// ```
 ///
-/// # Proved
+/// <details><summary>Proved</summary>
+///
+/// Of the source, in Rattle: where each `requires` holds, the call returns, and then each `ensures`
+/// holds.
 ///
 /// ```text
 /// requires sorted { IsSortedByKey T.value int_cmp items.now }
@@ -53,6 +60,8 @@ pub fn midpoint<T: Average>(a: T, b: T) -> T {
 /// ```
 ///
 /// Words: [how to read it](crate::definitions).
+///
+/// </details>
 pub fn lower_bound<T: Integer + Copy>(items: &[T], least: T) -> usize {
     let mut low = 0;
     let mut high = items.len();

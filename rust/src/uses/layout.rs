@@ -21,7 +21,10 @@ use crate::{mod_floor, Fits, Integer};
 ///
 /// If the alignment is not positive.
 ///
-/// # Proved
+/// <details><summary>Proved</summary>
+///
+/// Of the source, in Rattle: where each `requires` holds, the call returns, and then each `ensures`
+/// holds.
 ///
 /// ```text
 /// requires positive { pos 0 <ℤ T.value alignment }
@@ -32,7 +35,10 @@ use crate::{mod_floor, Fits, Integer};
 ///     × IsAlignedUp (T.value offset) (T.value alignment) (T.value aligned)) }
 /// ```
 ///
-/// Words: [`IsAlignedUp`](crate::definitions::uses#isalignedup), [how to read it](crate::definitions).
+/// Words: [`IsAlignedUp`](crate::definitions::uses#isalignedup),
+/// [how to read it](crate::definitions).
+///
+/// </details>
 #[track_caller]
 pub fn align_up<T: Fits>(offset: T, alignment: T) -> Option<T> {
     assert!(alignment > T::zero(), "the alignment is not positive");
@@ -60,7 +66,10 @@ pub fn align_up<T: Fits>(offset: T, alignment: T) -> Option<T> {
 ///
 /// If the alignment is not positive.
 ///
-/// # Proved
+/// <details><summary>Proved</summary>
+///
+/// Of the source, in Rattle: where each `requires` holds, the call returns, and then each `ensures`
+/// holds.
 ///
 /// ```text
 /// requires positive { pos 0 <ℤ T.value alignment }
@@ -69,7 +78,10 @@ pub fn align_up<T: Fits>(offset: T, alignment: T) -> Option<T> {
 /// ensures aligned { Divides (T.value alignment) (T.value offset +ℤ T.value result) }
 /// ```
 ///
-/// Words: [`Divides`](crate::definitions::integer_core#divides), [how to read it](crate::definitions).
+/// Words: [`Divides`](crate::definitions::integer_core#divides),
+/// [how to read it](crate::definitions).
+///
+/// </details>
 #[track_caller]
 pub fn padding<T: Integer + Copy>(offset: T, alignment: T) -> T {
     assert!(alignment > T::zero(), "the alignment is not positive");

@@ -20,7 +20,10 @@ use crate::{checked, div_ceil, div_mod_floor, Fits, Integer};
 ///
 /// If the page size is not positive.
 ///
-/// # Proved
+/// <details><summary>Proved</summary>
+///
+/// Of the source, in Rattle: where each `requires` holds, the call returns, and then each `ensures`
+/// holds.
 ///
 /// ```text
 /// requires positive { pos 0 <ℤ T.value page_size }
@@ -30,6 +33,8 @@ use crate::{checked, div_ceil, div_mod_floor, Fits, Integer};
 /// ```
 ///
 /// Words: [how to read it](crate::definitions).
+///
+/// </details>
 #[track_caller]
 pub fn pages<T: Integer>(items: T, page_size: T) -> T {
     assert!(page_size > T::zero(), "the page size is not positive");
@@ -53,7 +58,10 @@ pub fn pages<T: Integer>(items: T, page_size: T) -> T {
 ///
 /// If the page size is not positive.
 ///
-/// # Proved
+/// <details><summary>Proved</summary>
+///
+/// Of the source, in Rattle: where each `requires` holds, the call returns, and then each `ensures`
+/// holds.
 ///
 /// ```text
 /// requires positive { pos 0 <ℤ T.value page_size }
@@ -64,6 +72,8 @@ pub fn pages<T: Integer>(items: T, page_size: T) -> T {
 /// ```
 ///
 /// Words: [`IsPlace`](crate::definitions::uses#isplace), [how to read it](crate::definitions).
+///
+/// </details>
 #[track_caller]
 pub fn place_of<T: Integer>(item: T, page_size: T) -> (T, T) {
     assert!(page_size > T::zero(), "the page size is not positive");
@@ -88,7 +98,10 @@ pub fn place_of<T: Integer>(item: T, page_size: T) -> (T, T) {
 ///
 /// If the place is negative, or if the place is not below the page size.
 ///
-/// # Proved
+/// <details><summary>Proved</summary>
+///
+/// Of the source, in Rattle: where each `requires` holds, the call returns, and then each `ensures`
+/// holds.
 ///
 /// ```text
 /// requires place_from_zero { pos 0 ≤ℤ T.value place }
@@ -105,8 +118,10 @@ pub fn place_of<T: Integer>(item: T, page_size: T) -> (T, T) {
 ///
 /// Words: [`AnswersWhere`](crate::definitions::num_integer#answerswhere),
 /// [`EachFits`](crate::definitions::integer_core#eachfits),
-/// [`IsPlace`](crate::definitions::uses#isplace), [`IsOnly`](crate::definitions::integer_core#isonly),
-/// [how to read it](crate::definitions).
+/// [`IsPlace`](crate::definitions::uses#isplace),
+/// [`IsOnly`](crate::definitions::integer_core#isonly), [how to read it](crate::definitions).
+///
+/// </details>
 #[track_caller]
 pub fn item_at<T: Fits>(page: T, place: T, page_size: T) -> Option<T> {
     assert!(place >= T::zero(), "the place is negative");
@@ -139,7 +154,10 @@ pub fn item_at<T: Fits>(page: T, place: T, page_size: T) -> Option<T> {
 ///
 /// If the page size is not positive, or if the number of items is negative.
 ///
-/// # Proved
+/// <details><summary>Proved</summary>
+///
+/// Of the source, in Rattle: where each `requires` holds, the call returns, and then each `ensures`
+/// holds.
 ///
 /// ```text
 /// requires positive { pos 0 <ℤ T.value page_size }
@@ -152,6 +170,8 @@ pub fn item_at<T: Fits>(page: T, place: T, page_size: T) -> Option<T> {
 ///
 /// Words: [`IsRangeOfPage`](crate::definitions::uses#israngeofpage),
 /// [`IsOnly`](crate::definitions::integer_core#isonly), [how to read it](crate::definitions).
+///
+/// </details>
 #[track_caller]
 pub fn range_of_page<T: Integer + Copy>(page: T, page_size: T, items: T) -> (T, T) {
     assert!(page_size > T::zero(), "the page size is not positive");
@@ -190,7 +210,10 @@ pub fn range_of_page<T: Integer + Copy>(page: T, page_size: T, items: T) -> (T, 
 /// If the part is negative, or if the part is not below the number of parts, or if the number of
 /// items is negative.
 ///
-/// # Proved
+/// <details><summary>Proved</summary>
+///
+/// Of the source, in Rattle: where each `requires` holds, the call returns, and then each `ensures`
+/// holds.
 ///
 /// ```text
 /// requires part_from_zero { pos 0 ≤ℤ T.value part }
@@ -204,6 +227,8 @@ pub fn range_of_page<T: Integer + Copy>(page: T, page_size: T, items: T) -> (T, 
 ///
 /// Words: [`IsRangeOfPart`](crate::definitions::uses#israngeofpart),
 /// [`IsOnly`](crate::definitions::integer_core#isonly), [how to read it](crate::definitions).
+///
+/// </details>
 #[track_caller]
 pub fn range_of_part<T: Integer + Copy>(part: T, parts: T, items: T) -> (T, T) {
     assert!(part >= T::zero(), "the part is negative");

@@ -6,13 +6,17 @@ use num_traits::Pow;
 
 /// Returns `true` if the number is the square of a whole number. 144 is, and neither 145 nor -144 is.
 ///
-/// # Proved
+/// <details><summary>Proved</summary>
+///
+/// Of the source, in Rattle: each call returns, and then each `ensures` holds.
 ///
 /// ```text
 /// ensures { IsTrue result ↔ ((k : ℤ) × (k *ℤ k ≡ T.value n)) }
 /// ```
 ///
 /// Words: [how to read it](crate::definitions).
+///
+/// </details>
 pub fn is_square<T: Roots + Copy>(n: T) -> bool {
     if is_negative(n) {
         return false;
@@ -30,7 +34,10 @@ pub fn is_square<T: Roots + Copy>(n: T) -> bool {
 ///
 /// If `degree` is 0.
 ///
-/// # Proved
+/// <details><summary>Proved</summary>
+///
+/// Of the source, in Rattle: where each `requires` holds, the call returns, and then each `ensures`
+/// holds.
 ///
 /// ```text
 /// requires degree { degree ≢ 0 }
@@ -38,6 +45,8 @@ pub fn is_square<T: Roots + Copy>(n: T) -> bool {
 /// ```
 ///
 /// Words: [how to read it](crate::definitions).
+///
+/// </details>
 #[track_caller]
 pub fn is_power<T: Roots + Copy + Pow<u32, Output = T>>(n: T, degree: u32) -> bool {
     assert!(degree != 0, "attempt to take a root of degree 0");
@@ -50,7 +59,9 @@ pub fn is_power<T: Roots + Copy + Pow<u32, Output = T>>(n: T, degree: u32) -> bo
 /// Returns `true` if the number is a square, a cube or a higher power of a whole number. 128 is, and
 /// 72 is not.
 ///
-/// # Proved
+/// <details><summary>Proved</summary>
+///
+/// Of the source, in Rattle: each call returns, and then each `ensures` holds.
 ///
 /// ```text
 /// ensures { IsTrue result
@@ -58,6 +69,8 @@ pub fn is_power<T: Roots + Copy + Pow<u32, Output = T>>(n: T, degree: u32) -> bo
 /// ```
 ///
 /// Words: [how to read it](crate::definitions).
+///
+/// </details>
 pub fn is_perfect_power(n: u64) -> bool {
     for degree in 2..64 {
         if is_power(n, degree) {

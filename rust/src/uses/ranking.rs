@@ -15,15 +15,21 @@ use crate::{binomial, checked, Fits};
 /// assert!(!is_choice(&[0, 2, 5], 5));
 /// ```
 ///
-/// # Proved
+/// <details><summary>Proved</summary>
+///
+/// Of the source, in Rattle: each call returns, and then each `ensures` holds.
 ///
 /// ```text
 /// ensures choice { IsTrue result ↔ IsChoice n numbers.now }
 /// ensures rank_below { IsTrue result → rank_of numbers.now < coefficient n (length numbers.now) }
 /// ```
 ///
-/// Words: [`IsChoice`](crate::definitions::uses#ischoice), [`rank_of`](crate::definitions::uses#rank_of),
-/// [`coefficient`](crate::definitions::num_integer#coefficient), [how to read it](crate::definitions).
+/// Words: [`IsChoice`](crate::definitions::uses#ischoice),
+/// [`rank_of`](crate::definitions::uses#rank_of),
+/// [`coefficient`](crate::definitions::num_integer#coefficient),
+/// [how to read it](crate::definitions).
+///
+/// </details>
 pub fn is_choice(numbers: &[u64], n: u64) -> bool {
     for place in 0..numbers.len() {
         if numbers[place] >= number_after(numbers, place, n) {
@@ -44,13 +50,17 @@ pub fn is_choice(numbers: &[u64], n: u64) -> bool {
 /// assert!(!rank_fits(&[0, 10000000000]));
 /// ```
 ///
-/// # Proved
+/// <details><summary>Proved</summary>
+///
+/// Of the source, in Rattle: each call returns, and then each `ensures` holds.
 ///
 /// ```text
 /// ensures { IsTrue result ↔ (rank_of choice.now < 2 ^ 64) }
 /// ```
 ///
 /// Words: [`rank_of`](crate::definitions::uses#rank_of), [how to read it](crate::definitions).
+///
+/// </details>
 pub fn rank_fits(choice: &[u64]) -> bool {
     checked_rank(choice).is_some()
 }
@@ -83,7 +93,10 @@ fn checked_rank(choice: &[u64]) -> Option<u64> {
 ///
 /// If the numbers do not increase, or one is not below `n`, or if the rank does not fit.
 ///
-/// # Proved
+/// <details><summary>Proved</summary>
+///
+/// Of the source, in Rattle: where each `requires` holds, the call returns, and then each `ensures`
+/// holds.
 ///
 /// ```text
 /// requires choice { IsChoice n choice.now }
@@ -94,9 +107,12 @@ fn checked_rank(choice: &[u64]) -> Option<u64> {
 ///     → IsBefore (length choice.now) other choice.now ↔ (rank_of other < result) }
 /// ```
 ///
-/// Words: [`IsChoice`](crate::definitions::uses#ischoice), [`rank_of`](crate::definitions::uses#rank_of),
+/// Words: [`IsChoice`](crate::definitions::uses#ischoice),
+/// [`rank_of`](crate::definitions::uses#rank_of),
 /// [`coefficient`](crate::definitions::num_integer#coefficient),
 /// [`IsBefore`](crate::definitions::uses#isbefore), [how to read it](crate::definitions).
+///
+/// </details>
 #[track_caller]
 pub fn rank(choice: &[u64], n: u64) -> u64 {
     assert!(
@@ -123,7 +139,10 @@ pub fn rank(choice: &[u64], n: u64) -> u64 {
 ///
 /// If there are no more than `rank` choices.
 ///
-/// # Proved
+/// <details><summary>Proved</summary>
+///
+/// Of the source, in Rattle: where each `requires` holds, the call returns, and then each `ensures`
+/// holds.
 ///
 /// ```text
 /// requires rank { rank < coefficient n (length choice.old) }
@@ -134,6 +153,8 @@ pub fn rank(choice: &[u64], n: u64) -> u64 {
 /// Words: [`coefficient`](crate::definitions::num_integer#coefficient),
 /// [`IsChoiceOfRank`](crate::definitions::uses#ischoiceofrank),
 /// [`IsOnly`](crate::definitions::integer_core#isonly), [how to read it](crate::definitions).
+///
+/// </details>
 #[track_caller]
 pub fn choice_of_rank(rank: u64, n: u64, choice: &mut [u64]) {
     assert!(
@@ -181,7 +202,10 @@ fn is_within(n: u64, k: u64, limit: u64) -> bool {
 ///
 /// If the numbers do not increase, or one is not below `n`.
 ///
-/// # Proved
+/// <details><summary>Proved</summary>
+///
+/// Of the source, in Rattle: where each `requires` holds, the call returns, and then each `ensures`
+/// holds.
 ///
 /// ```text
 /// requires choice { IsChoice n choice.old }
@@ -196,7 +220,10 @@ fn is_within(n: u64, k: u64, limit: u64) -> bool {
 /// Words: [`IsChoice`](crate::definitions::uses#ischoice),
 /// [`IsChoiceOfRank`](crate::definitions::uses#ischoiceofrank),
 /// [`rank_of`](crate::definitions::uses#rank_of),
-/// [`coefficient`](crate::definitions::num_integer#coefficient), [how to read it](crate::definitions).
+/// [`coefficient`](crate::definitions::num_integer#coefficient),
+/// [how to read it](crate::definitions).
+///
+/// </details>
 #[track_caller]
 pub fn next_choice(choice: &mut [u64], n: u64) -> bool {
     assert!(

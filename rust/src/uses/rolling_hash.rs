@@ -4,13 +4,17 @@ use crate::modular::{difference_modulo, power_modulo, product_modulo, sum_modulo
 
 /// The hash of windows of one length, modulo a number.
 ///
-/// # Proved
+/// <details><summary>Proved</summary>
+///
+/// Of the source, in Rattle: it holds of each value of the type.
 ///
 /// ```text
 /// pub ghost positive: { 0 < modulus }
 /// ```
 ///
 /// Words: [how to read it](crate::definitions).
+///
+/// </details>
 #[derive(Debug, Clone, Copy)]
 pub struct RollingHash {
     pub(in crate::uses) base: u64,
@@ -46,7 +50,10 @@ impl RollingHash {
     ///
     /// If the modulus is not positive.
     ///
-    /// # Proved
+    /// <details><summary>Proved</summary>
+    ///
+    /// Of the source, in Rattle: where each `requires` holds, the call returns, and then each `ensures`
+    /// holds.
     ///
     /// ```text
     /// requires positive { 0 < modulus }
@@ -56,6 +63,8 @@ impl RollingHash {
     /// ```
     ///
     /// Words: [how to read it](crate::definitions).
+    ///
+    /// </details>
     #[track_caller]
     pub fn new(base: u64, modulus: u64, kept: u64) -> RollingHash {
         assert!(modulus > 0, "the modulus is not positive");
@@ -77,7 +86,9 @@ impl RollingHash {
     /// assert_eq!(RollingHash::new(10, 97, 2).hash(&[1, 2, 3]), 26);
     /// ```
     ///
-    /// # Proved
+    /// <details><summary>Proved</summary>
+    ///
+    /// Of the source, in Rattle: each call returns, and then each `ensures` holds.
     ///
     /// ```text
     /// ensures { IsResidue (pos self.now.modulus)
@@ -86,6 +97,8 @@ impl RollingHash {
     ///
     /// Words: [`IsResidue`](crate::definitions::modular#isresidue),
     /// [`weighted_sum`](crate::definitions::uses#weighted_sum), [how to read it](crate::definitions).
+    ///
+    /// </details>
     pub fn hash(&self, window: &[u8]) -> u64 {
         let mut hash = 0;
         for byte in window {
@@ -106,7 +119,9 @@ impl RollingHash {
     /// assert_eq!(RollingHash::new(10, 97, 2).slide(26, 1, 4), 40);
     /// ```
     ///
-    /// # Proved
+    /// <details><summary>Proved</summary>
+    ///
+    /// Of the source, in Rattle: each call returns, and then each `ensures` holds.
     ///
     /// ```text
     /// ensures { (kept : List ℕ) → length kept ≡ self.now.kept
@@ -117,6 +132,8 @@ impl RollingHash {
     ///
     /// Words: [`IsResidue`](crate::definitions::modular#isresidue),
     /// [`weighted_sum`](crate::definitions::uses#weighted_sum), [how to read it](crate::definitions).
+    ///
+    /// </details>
     pub fn slide(&self, hash: u64, leaving: u8, entering: u8) -> u64 {
         let weight = power_modulo(self.base, u128::from(self.kept), self.modulus);
         let first = product_modulo(u64::from(leaving), weight, self.modulus);

@@ -25,7 +25,10 @@ pub type Schedule<T> = (T, T);
 ///
 /// If the period is not positive.
 ///
-/// # Proved
+/// <details><summary>Proved</summary>
+///
+/// Of the source, in Rattle: where each `requires` holds, the call returns, and then each `ensures`
+/// holds.
 ///
 /// ```text
 /// requires a_positive { pos 0 <ℤ T.value a.1 }
@@ -36,6 +39,8 @@ pub type Schedule<T> = (T, T);
 ///
 /// Words: [`IsLeastTime`](crate::definitions::uses#isleasttime),
 /// [`IsMeeting`](crate::definitions::uses#ismeeting), [how to read it](crate::definitions).
+///
+/// </details>
 #[track_caller]
 pub fn next_meeting<T: Modular + Fits>(
     now: T,
@@ -67,7 +72,10 @@ pub fn next_meeting<T: Modular + Fits>(
 ///
 /// If a period is not positive.
 ///
-/// # Proved
+/// <details><summary>Proved</summary>
+///
+/// Of the source, in Rattle: where each `requires` holds, the call returns, and then each `ensures`
+/// holds.
 ///
 /// ```text
 /// requires in_range { All (λ s. T.fits (T.value s.0) × T.fits (T.value s.1)) schedules.now }
@@ -76,7 +84,10 @@ pub fn next_meeting<T: Modular + Fits>(
 /// ```
 ///
 /// Words: [`IsLeastTime`](crate::definitions::uses#isleasttime),
-/// [`IsMeetingOfEach`](crate::definitions::uses#ismeetingofeach), [how to read it](crate::definitions).
+/// [`IsMeetingOfEach`](crate::definitions::uses#ismeetingofeach),
+/// [how to read it](crate::definitions).
+///
+/// </details>
 #[track_caller]
 pub fn next_meeting_of<T: Modular + Fits>(now: T, schedules: &[Schedule<T>]) -> CommonSolution<T> {
     assert!(

@@ -16,7 +16,10 @@ impl Ratio {
     ///
     /// If the limit is not positive.
     ///
-    /// # Proved
+    /// <details><summary>Proved</summary>
+    ///
+    /// Of the source, in Rattle: where each `requires` holds, the call returns, and then each `ensures`
+    /// holds.
     ///
     /// ```text
     /// requires { pos 0 <ℤ max }
@@ -27,6 +30,8 @@ impl Ratio {
     /// Words: [`IsNearestWithin`](crate::definitions::ratio64#isnearestwithin),
     /// [`num_of`](crate::definitions::ratio64#num_of), [`den_of`](crate::definitions::ratio64#den_of),
     /// [how to read it](crate::definitions).
+    ///
+    /// </details>
     #[track_caller]
     pub fn limit_denominator(&self, max: i64) -> Ratio {
         assert!(max > 0, "the limit is not positive");

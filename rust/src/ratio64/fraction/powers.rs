@@ -15,7 +15,9 @@ impl Ratio {
     /// - [`RatioError::NotFitting`](crate::ratio64::RatioError::NotFitting) if a part of the power does
     ///   not fit an `i64`.
     ///
-    /// # Proved
+    /// <details><summary>Proved</summary>
+    ///
+    /// Of the source, in Rattle: each call returns, and then each `ensures` holds.
     ///
     /// ```text
     /// ensures from_zero { pos 0 ≤ℤ exponent → AnswersFraction
@@ -29,6 +31,8 @@ impl Ratio {
     /// Words: [`AnswersFraction`](crate::definitions::ratio64#answersfraction),
     /// [`num_of`](crate::definitions::ratio64#num_of), [`den_of`](crate::definitions::ratio64#den_of),
     /// [how to read it](crate::definitions).
+    ///
+    /// </details>
     pub fn checked_pow(&self, exponent: i32) -> Result<Ratio, RatioError> {
         if exponent < 0 {
             self.checked_recip()?.power(exponent.unsigned_abs())

@@ -7,7 +7,9 @@ use crate::{div_rem, Integer};
 impl Ratio {
     /// Returns the fraction rounded toward 0. For -3/2 it returns `-1`.
     ///
-    /// # Proved
+    /// <details><summary>Proved</summary>
+    ///
+    /// Of the source, in Rattle: each call returns, and then each `ensures` holds.
     ///
     /// ```text
     /// ensures { IsQuotient IsTruncated (num_of self.now) (den_of self.now) result }
@@ -17,6 +19,8 @@ impl Ratio {
     /// [`IsTruncated`](crate::definitions::integer_core#istruncated),
     /// [`num_of`](crate::definitions::ratio64#num_of), [`den_of`](crate::definitions::ratio64#den_of),
     /// [how to read it](crate::definitions).
+    ///
+    /// </details>
     pub fn trunc(&self) -> i64 {
         let (whole, _) = div_rem(self.num, self.den);
         whole
@@ -25,7 +29,9 @@ impl Ratio {
     /// Returns the nearest whole number, and of two that are equally near the one farther from 0. For
     /// -3/2 it returns `-2`.
     ///
-    /// # Proved
+    /// <details><summary>Proved</summary>
+    ///
+    /// Of the source, in Rattle: each call returns, and then each `ensures` holds.
     ///
     /// ```text
     /// ensures { IsRounded (num_of self.now) (den_of self.now) result }
@@ -34,13 +40,17 @@ impl Ratio {
     /// Words: [`IsRounded`](crate::definitions::ratio64#isrounded),
     /// [`num_of`](crate::definitions::ratio64#num_of), [`den_of`](crate::definitions::ratio64#den_of),
     /// [how to read it](crate::definitions).
+    ///
+    /// </details>
     pub fn round(&self) -> i64 {
         nearest(self.num, self.den)
     }
 
     /// Returns the fraction minus [`Ratio::trunc`]. For -3/2 it returns -1/2.
     ///
-    /// # Proved
+    /// <details><summary>Proved</summary>
+    ///
+    /// Of the source, in Rattle: each call returns, and then each `ensures` holds.
     ///
     /// ```text
     /// ensures num { IsRemainder IsTruncated (num_of self.now) (den_of self.now)
@@ -52,6 +62,8 @@ impl Ratio {
     /// [`IsTruncated`](crate::definitions::integer_core#istruncated),
     /// [`num_of`](crate::definitions::ratio64#num_of), [`den_of`](crate::definitions::ratio64#den_of),
     /// [how to read it](crate::definitions).
+    ///
+    /// </details>
     pub fn fract(&self) -> Ratio {
         let (_, rest) = div_rem(self.num, self.den);
         Ratio {

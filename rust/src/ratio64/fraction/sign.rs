@@ -5,54 +5,70 @@ use crate::ratio64::{Ratio, RatioError};
 impl Ratio {
     /// Returns `true` if the fraction is 0.
     ///
-    /// # Proved
+    /// <details><summary>Proved</summary>
+    ///
+    /// Of the source, in Rattle: each call returns, and then each `ensures` holds.
     ///
     /// ```text
     /// ensures { IsTrue result ↔ (num_of self.now ≡ pos 0) }
     /// ```
     ///
     /// Words: [`num_of`](crate::definitions::ratio64#num_of), [how to read it](crate::definitions).
+    ///
+    /// </details>
     pub fn is_zero(&self) -> bool {
         self.num == 0
     }
 
     /// Returns `true` if the fraction is above 0.
     ///
-    /// # Proved
+    /// <details><summary>Proved</summary>
+    ///
+    /// Of the source, in Rattle: each call returns, and then each `ensures` holds.
     ///
     /// ```text
     /// ensures { IsTrue result ↔ (pos 0 <ℤ num_of self.now) }
     /// ```
     ///
     /// Words: [`num_of`](crate::definitions::ratio64#num_of), [how to read it](crate::definitions).
+    ///
+    /// </details>
     pub fn is_positive(&self) -> bool {
         self.num > 0
     }
 
     /// Returns `true` if the fraction is below 0.
     ///
-    /// # Proved
+    /// <details><summary>Proved</summary>
+    ///
+    /// Of the source, in Rattle: each call returns, and then each `ensures` holds.
     ///
     /// ```text
     /// ensures { IsTrue result ↔ (num_of self.now <ℤ pos 0) }
     /// ```
     ///
     /// Words: [`num_of`](crate::definitions::ratio64#num_of), [how to read it](crate::definitions).
+    ///
+    /// </details>
     pub fn is_negative(&self) -> bool {
         self.num < 0
     }
 
     /// Returns the sign: -1, 0 or 1, over 1. That of -3/2 is -1.
     ///
-    /// # Proved
+    /// <details><summary>Proved</summary>
+    ///
+    /// Of the source, in Rattle: each call returns, and then each `ensures` holds.
     ///
     /// ```text
     /// ensures num { num_of result ≡ int_signum (num_of self.now) }
     /// ensures den { den_of result ≡ pos 1 }
     /// ```
     ///
-    /// Words: [`num_of`](crate::definitions::ratio64#num_of), [`den_of`](crate::definitions::ratio64#den_of),
-    /// [how to read it](crate::definitions).
+    /// Words: [`num_of`](crate::definitions::ratio64#num_of),
+    /// [`den_of`](crate::definitions::ratio64#den_of), [how to read it](crate::definitions).
+    ///
+    /// </details>
     pub fn signum(&self) -> Ratio {
         Ratio::from(self.num.signum())
     }
@@ -64,7 +80,9 @@ impl Ratio {
     /// - [`RatioError::NotFitting`](crate::ratio64::RatioError::NotFitting) if the numerator is
     ///   `i64::MIN`.
     ///
-    /// # Proved
+    /// <details><summary>Proved</summary>
+    ///
+    /// Of the source, in Rattle: each call returns, and then each `ensures` holds.
     ///
     /// ```text
     /// ensures negation { AnswersFraction (neg_ℤ (num_of self.now)) (den_of self.now) result }
@@ -75,6 +93,8 @@ impl Ratio {
     /// Words: [`AnswersFraction`](crate::definitions::ratio64#answersfraction),
     /// [`num_of`](crate::definitions::ratio64#num_of), [`den_of`](crate::definitions::ratio64#den_of),
     /// [how to read it](crate::definitions).
+    ///
+    /// </details>
     pub fn checked_neg(&self) -> Result<Ratio, RatioError> {
         match self.num.checked_neg() {
             Some(num) => Ok(Ratio { num, den: self.den }),
@@ -89,7 +109,9 @@ impl Ratio {
     /// - [`RatioError::NotFitting`](crate::ratio64::RatioError::NotFitting) if the numerator is
     ///   `i64::MIN`.
     ///
-    /// # Proved
+    /// <details><summary>Proved</summary>
+    ///
+    /// Of the source, in Rattle: each call returns, and then each `ensures` holds.
     ///
     /// ```text
     /// ensures magnitude { AnswersFraction (pos (unsigned_abs (num_of self.now)))
@@ -101,6 +123,8 @@ impl Ratio {
     /// Words: [`AnswersFraction`](crate::definitions::ratio64#answersfraction),
     /// [`num_of`](crate::definitions::ratio64#num_of), [`den_of`](crate::definitions::ratio64#den_of),
     /// [how to read it](crate::definitions).
+    ///
+    /// </details>
     pub fn checked_abs(&self) -> Result<Ratio, RatioError> {
         match self.num.checked_abs() {
             Some(num) => Ok(Ratio { num, den: self.den }),

@@ -9,7 +9,9 @@ impl Ratio {
     /// Returns the fraction times `n`, rounded down, or `None` where that number does not fit. 2/3
     /// times 100 is 66, and 2/3 times `i64::MAX` is 6148914691236517204.
     ///
-    /// # Proved
+    /// <details><summary>Proved</summary>
+    ///
+    /// Of the source, in Rattle: each call returns, and then each `ensures` holds.
     ///
     /// ```text
     /// ensures { AnswersWhere
@@ -23,6 +25,8 @@ impl Ratio {
     /// [`IsFloored`](crate::definitions::integer_core#isfloored),
     /// [`num_of`](crate::definitions::ratio64#num_of), [`den_of`](crate::definitions::ratio64#den_of),
     /// [how to read it](crate::definitions).
+    ///
+    /// </details>
     pub fn floor_times(&self, n: i64) -> Option<i64> {
         let (num, den) = self.times(n);
         at_64_bits(div_floor(num, den))
@@ -31,7 +35,9 @@ impl Ratio {
     /// Returns the fraction times `n`, rounded up, or `None` where that number does not fit. 2/3
     /// times 100 is 67.
     ///
-    /// # Proved
+    /// <details><summary>Proved</summary>
+    ///
+    /// Of the source, in Rattle: each call returns, and then each `ensures` holds.
     ///
     /// ```text
     /// ensures { AnswersWhere
@@ -45,6 +51,8 @@ impl Ratio {
     /// [`IsCeiled`](crate::definitions::integer_core#isceiled),
     /// [`num_of`](crate::definitions::ratio64#num_of), [`den_of`](crate::definitions::ratio64#den_of),
     /// [how to read it](crate::definitions).
+    ///
+    /// </details>
     pub fn ceil_times(&self, n: i64) -> Option<i64> {
         let (num, den) = self.times(n);
         at_64_bits(div_ceil(num, den))
@@ -54,7 +62,9 @@ impl Ratio {
     /// the one farther from 0, or `None` where that number does not fit. 2/3 times 100 is 67, and 1/2
     /// times -3 is -2.
     ///
-    /// # Proved
+    /// <details><summary>Proved</summary>
+    ///
+    /// Of the source, in Rattle: each call returns, and then each `ensures` holds.
     ///
     /// ```text
     /// ensures { AnswersWhere
@@ -64,8 +74,11 @@ impl Ratio {
     ///
     /// Words: [`AnswersWhere`](crate::definitions::num_integer#answerswhere),
     /// [`EachFits`](crate::definitions::integer_core#eachfits),
-    /// [`IsRounded`](crate::definitions::ratio64#isrounded), [`num_of`](crate::definitions::ratio64#num_of),
-    /// [`den_of`](crate::definitions::ratio64#den_of), [how to read it](crate::definitions).
+    /// [`IsRounded`](crate::definitions::ratio64#isrounded),
+    /// [`num_of`](crate::definitions::ratio64#num_of), [`den_of`](crate::definitions::ratio64#den_of),
+    /// [how to read it](crate::definitions).
+    ///
+    /// </details>
     pub fn round_times(&self, n: i64) -> Option<i64> {
         let (num, den) = self.times(n);
         at_64_bits(nearest(num, den))

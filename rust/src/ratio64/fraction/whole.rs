@@ -5,30 +5,38 @@ use crate::ratio64::Ratio;
 impl Ratio {
     /// Returns the fraction 0/1.
     ///
-    /// # Proved
+    /// <details><summary>Proved</summary>
+    ///
+    /// Of the source, in Rattle: each call returns, and then each `ensures` holds.
     ///
     /// ```text
     /// ensures num { num_of result ≡ pos 0 }
     /// ensures den { den_of result ≡ pos 1 }
     /// ```
     ///
-    /// Words: [`num_of`](crate::definitions::ratio64#num_of), [`den_of`](crate::definitions::ratio64#den_of),
-    /// [how to read it](crate::definitions).
+    /// Words: [`num_of`](crate::definitions::ratio64#num_of),
+    /// [`den_of`](crate::definitions::ratio64#den_of), [how to read it](crate::definitions).
+    ///
+    /// </details>
     pub fn zero() -> Ratio {
         Ratio::from(0)
     }
 
     /// Returns the fraction 1/1.
     ///
-    /// # Proved
+    /// <details><summary>Proved</summary>
+    ///
+    /// Of the source, in Rattle: each call returns, and then each `ensures` holds.
     ///
     /// ```text
     /// ensures num { num_of result ≡ pos 1 }
     /// ensures den { den_of result ≡ pos 1 }
     /// ```
     ///
-    /// Words: [`num_of`](crate::definitions::ratio64#num_of), [`den_of`](crate::definitions::ratio64#den_of),
-    /// [how to read it](crate::definitions).
+    /// Words: [`num_of`](crate::definitions::ratio64#num_of),
+    /// [`den_of`](crate::definitions::ratio64#den_of), [how to read it](crate::definitions).
+    ///
+    /// </details>
     pub fn one() -> Ratio {
         Ratio::from(1)
     }
@@ -36,13 +44,17 @@ impl Ratio {
     /// Returns `true` if the fraction is a whole number, whose denominator is 1. 6/3 is one, and 1/2
     /// is not.
     ///
-    /// # Proved
+    /// <details><summary>Proved</summary>
+    ///
+    /// Of the source, in Rattle: each call returns, and then each `ensures` holds.
     ///
     /// ```text
     /// ensures { IsTrue result ↔ (den_of self.now ≡ pos 1) }
     /// ```
     ///
     /// Words: [`den_of`](crate::definitions::ratio64#den_of), [how to read it](crate::definitions).
+    ///
+    /// </details>
     pub fn is_integer(&self) -> bool {
         self.den == 1
     }
@@ -50,14 +62,18 @@ impl Ratio {
 
 /// The default is 0/1.
 ///
-/// # Proved
+/// <details><summary>Proved</summary>
+///
+/// Of the source, in Rattle: what the calls of the trait return.
 ///
 /// ```text
 /// ghost is_default = { λ x. (num_of x ≡ pos 0) × (den_of x ≡ pos 1) }
 /// ```
 ///
-/// Words: [`num_of`](crate::definitions::ratio64#num_of), [`den_of`](crate::definitions::ratio64#den_of),
-/// [how to read it](crate::definitions).
+/// Words: [`num_of`](crate::definitions::ratio64#num_of),
+/// [`den_of`](crate::definitions::ratio64#den_of), [how to read it](crate::definitions).
+///
+/// </details>
 impl Default for Ratio {
     fn default() -> Ratio {
         Ratio::zero()
