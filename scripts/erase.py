@@ -6,9 +6,9 @@
 OUT is rust/ where none is given. Code stays token by token, with its comments. What goes: `ghost` items, members and
 fields, clauses, `final`, `#[tactic]`, `#[cfg(test)]` items, labels that nothing names, and the traits that are of
 contracts alone. What changes: the first words of paths, the head of `fmt`, the public fields of a struct with an
-invariant, which become readers, bounds and copies (rust_bounds.py), and doc comments, which gain what is proved. What is
-added: the guards of the calls that have a domain (rust_guards.py). A form that is not known here is refused by file and
-line, and then nothing is written."""
+invariant, which become readers, bounds and copies (rust_bounds.py), and doc comments, which gain sections (rust_docs.py).
+What is added: the guards of the calls that have a domain (rust_guards.py), and `#[must_use]` of public calls that only
+return. A form that is not known here is refused by file and line, and then nothing is written."""
 import pathlib
 import shutil
 import subprocess
@@ -92,10 +92,12 @@ class Eraser:
             return self.drop_line(item.first, item.last)
         for first, last in item.attributes:
             self.attribute(first, last)
-        rust_docs.add_sections(self, item, owner)
         for k in range(item.first, item.word):
             if self.at(k) == 'final':
                 self.drop(k, k)
+        if self.only_returns(item, owner):
+            self.put_before(item.first, '#[must_use]\n')
+        rust_docs.add_sections(self, item, owner)
         self.guards.add(item, owner)
         if item.kind == 'use':
             return self.use(item)
@@ -109,6 +111,21 @@ class Eraser:
             self.items(item.items, item)
             return self.guards.members(item)
         return self.walk(item.word, item.last)
+
+    def only_returns(self, item, owner):
+        """Whether a call of the item is of no use where its result is not used: a public function that changes nothing.
+        A `Result` has the attribute itself."""
+        if item.kind != 'fn' or self.library.place_of(self.module, item, owner) is None:
+            return False
+        names = [self.at(first + 2) for first, _ in item.attributes]
+        changes = 'mut' in (self.at(k) for k in range(*self.source.parameters(item)))
+        returned = self.source.returned(item)
+        return bool(returned) and not returned.startswith('Result<') and not changes and 'must_use' not in names
+
+    def put_before(self, k, text):
+        """Writes a text before what is left from the place on."""
+        first = next(i for i in self.source.code[k:] if self.texts[i])
+        self.texts[first] = text + self.texts[first]
 
     def is_test(self, item):
         return any(self.at(first + 2) == 'cfg' and self.at(first + 4) == 'test' for first, _ in item.attributes)
@@ -164,7 +181,7 @@ class Eraser:
         self.write(field.place - 1, 'pub(crate)' if self.crate == ROOT else f'pub(in crate::{self.crate})')
         docs = ''.join(self.source.tokens[i].text + '\n' for i in self.source.docs(field))
         docs = docs or f'/// Returns the `{field.name}`.\n'
-        return f'\n{docs}pub fn {field.name}(&self) -> {field.type} {{ self.{field.name} }}\n'
+        return f'\n{docs}#[must_use]\npub fn {field.name}(&self) -> {field.type} {{ self.{field.name} }}\n'
 
     def parameters(self, item):
         """A parameter that only a clause names is unused in Rust."""
@@ -173,8 +190,7 @@ class Eraser:
         clauses = {self.at(k) for clause in item.clauses for k in range(clause.first, clause.last)}
         body = {self.at(k) for k in range(item.open, item.last)} | self.guards.tested if item.open else names
         if names & clauses - body:
-            first = self.source.code[item.first]
-            self.texts[first] = '#[allow(unused_variables)] // its contract alone names a parameter\n' + self.texts[first]
+            self.put_before(item.first, '#[allow(unused_variables)] // its contract alone names a parameter\n')
 
     # ---- code
 

@@ -129,8 +129,10 @@ def add_sections(eraser, item, owner):
         eraser.texts[i] = ''
         if source.tokens[i - 1].kind == 'space':
             eraser.texts[i - 1] = ''
-    first = docs[0] if docs else source.code[item.first]
-    eraser.texts[first] = '\n'.join(lines) + ('' if docs else '\n' + eraser.texts[first])
+    if docs:
+        eraser.texts[docs[0]] = '\n'.join(lines)
+    else:
+        eraser.put_before(item.first, '\n'.join(lines) + '\n')
 
 
 def linked(eraser, comment):

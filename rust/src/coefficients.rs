@@ -80,6 +80,7 @@ pub(crate) fn nearer_end<T: Integer + Copy>(n: T, k: T) -> T {
 ///
 /// </details>
 #[track_caller]
+#[must_use]
 pub fn binomial_counted<T: Integer + Copy>(n: T, k: T) -> (T, u32) {
     assert!(n >= T::zero(), "`n` is negative");
     assert!(k >= T::zero(), "`k` is negative");
@@ -139,6 +140,7 @@ pub fn binomial_counted<T: Integer + Copy>(n: T, k: T) -> (T, u32) {
 ///
 /// </details>
 #[track_caller]
+#[must_use]
 pub fn binomial<T: Integer + Copy>(n: T, k: T) -> T {
     assert!(n >= T::zero(), "`n` is negative");
     assert!(k >= T::zero(), "`k` is negative");
@@ -179,6 +181,7 @@ pub fn binomial<T: Integer + Copy>(n: T, k: T) -> T {
 ///
 /// </details>
 #[track_caller]
+#[must_use]
 pub fn multinomial<T: Integer + Copy>(k: &[T]) -> T {
     assert!(
         k.iter().all(|count| *count >= T::zero()),

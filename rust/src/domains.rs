@@ -31,6 +31,7 @@ pub trait Fits: Integer + Copy {
     /// Words: [how to read it](crate::definitions).
     ///
     /// </details>
+    #[must_use]
     fn parts(&self) -> (bool, u128);
 
     /// Returns the magnitude of the least number of the type, and its greatest number.
@@ -55,6 +56,7 @@ pub trait Fits: Integer + Copy {
     /// Words: [how to read it](crate::definitions).
     ///
     /// </details>
+    #[must_use]
     fn ends() -> (u128, u128);
 
     /// Returns `true` if `div_rem`, `div_floor`, `div_mod_floor` and `div_ceil` may be called: not for
@@ -85,6 +87,7 @@ pub trait Fits: Integer + Copy {
     /// [`IsQuotient`](crate::definitions::integer_core#isquotient), [how to read it](crate::definitions).
     ///
     /// </details>
+    #[must_use]
     fn quotient_fits(&self, other: &Self) -> bool {
         if is_zero(*other) {
             false
@@ -121,6 +124,7 @@ pub trait Fits: Integer + Copy {
     /// [`IsCeiled`](crate::definitions::integer_core#isceiled), [how to read it](crate::definitions).
     ///
     /// </details>
+    #[must_use]
     fn next_multiple_fits(&self, other: &Self) -> bool {
         if is_zero(*other) {
             return false;
@@ -162,6 +166,7 @@ pub trait Fits: Integer + Copy {
     /// [`IsFloored`](crate::definitions::integer_core#isfloored), [how to read it](crate::definitions).
     ///
     /// </details>
+    #[must_use]
     fn prev_multiple_fits(&self, other: &Self) -> bool {
         if is_zero(*other) {
             return false;
@@ -197,6 +202,7 @@ pub trait Fits: Integer + Copy {
     /// [how to read it](crate::definitions).
     ///
     /// </details>
+    #[must_use]
     fn gcd_fits(&self, other: &Self) -> bool {
         let (_, high) = Self::ends();
         let (_, a) = self.parts();
@@ -234,6 +240,7 @@ pub trait Fits: Integer + Copy {
     /// [how to read it](crate::definitions).
     ///
     /// </details>
+    #[must_use]
     fn lcm_fits(&self, other: &Self) -> bool {
         let (_, high) = Self::ends();
         let (_, m) = self.parts();
@@ -273,6 +280,7 @@ pub trait Fits: Integer + Copy {
     /// [how to read it](crate::definitions).
     ///
     /// </details>
+    #[must_use]
     fn binomial_fits(&self, k: &Self) -> bool {
         let (n_negative, n) = self.parts();
         let (k_negative, k) = k.parts();
@@ -308,6 +316,7 @@ pub trait Fits: Integer + Copy {
     /// [how to read it](crate::definitions).
     ///
     /// </details>
+    #[must_use]
     fn multinomial_fits(counts: &[Self]) -> bool {
         let most = Self::ends().1;
         let mut running = RunningMultinomial {

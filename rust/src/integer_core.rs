@@ -67,6 +67,7 @@ pub trait Integer: Sized + Num + PartialOrd + Ord + Eq {
     ///
     /// </details>
     #[track_caller]
+    #[must_use]
     fn div_rem(&self, other: &Self) -> (Self, Self);
 
     /// Returns the quotient rounded down.
@@ -104,6 +105,7 @@ pub trait Integer: Sized + Num + PartialOrd + Ord + Eq {
     ///
     /// </details>
     #[track_caller]
+    #[must_use]
     fn div_floor(&self, other: &Self) -> Self;
 
     /// Returns the remainder of the quotient rounded down, which is 0 or has the sign of `other`.
@@ -138,6 +140,7 @@ pub trait Integer: Sized + Num + PartialOrd + Ord + Eq {
     ///
     /// </details>
     #[track_caller]
+    #[must_use]
     fn mod_floor(&self, other: &Self) -> Self;
 
     /// Returns the quotient rounded down, and its remainder.
@@ -175,6 +178,7 @@ pub trait Integer: Sized + Num + PartialOrd + Ord + Eq {
     ///
     /// </details>
     #[track_caller]
+    #[must_use]
     fn div_mod_floor(&self, other: &Self) -> (Self, Self) {
         (self.div_floor(other), self.mod_floor(other))
     }
@@ -214,6 +218,7 @@ pub trait Integer: Sized + Num + PartialOrd + Ord + Eq {
     ///
     /// </details>
     #[track_caller]
+    #[must_use]
     fn div_ceil(&self, other: &Self) -> Self {
         let (q, r) = self.div_mod_floor(other);
         if r.is_zero() {
@@ -259,6 +264,7 @@ pub trait Integer: Sized + Num + PartialOrd + Ord + Eq {
     ///
     /// </details>
     #[track_caller]
+    #[must_use]
     fn next_multiple_of(&self, other: &Self) -> Self
     where
         Self: Clone,
@@ -307,6 +313,7 @@ pub trait Integer: Sized + Num + PartialOrd + Ord + Eq {
     ///
     /// </details>
     #[track_caller]
+    #[must_use]
     fn prev_multiple_of(&self, other: &Self) -> Self
     where
         Self: Clone,
@@ -336,6 +343,7 @@ pub trait Integer: Sized + Num + PartialOrd + Ord + Eq {
     /// [how to read it](crate::definitions).
     ///
     /// </details>
+    #[must_use]
     fn is_multiple_of(&self, other: &Self) -> bool;
 
     /// Deprecated: use [`Integer::is_multiple_of`], which returns the same.
@@ -360,6 +368,7 @@ pub trait Integer: Sized + Num + PartialOrd + Ord + Eq {
     /// [how to read it](crate::definitions).
     ///
     /// </details>
+    #[must_use]
     fn divides(&self, other: &Self) -> bool {
         self.is_multiple_of(other)
     }
@@ -385,6 +394,7 @@ pub trait Integer: Sized + Num + PartialOrd + Ord + Eq {
     /// Words: [`IsEven`](crate::definitions::integer_core#iseven), [how to read it](crate::definitions).
     ///
     /// </details>
+    #[must_use]
     fn is_even(&self) -> bool;
 
     /// Returns `true` if the number is odd.
@@ -408,6 +418,7 @@ pub trait Integer: Sized + Num + PartialOrd + Ord + Eq {
     /// Words: [`IsEven`](crate::definitions::integer_core#iseven), [how to read it](crate::definitions).
     ///
     /// </details>
+    #[must_use]
     fn is_odd(&self) -> bool;
 
     /// Adds one. `x.inc()` turns an `x` of `41` into `42`.
@@ -502,6 +513,7 @@ pub trait Integer: Sized + Num + PartialOrd + Ord + Eq {
     ///
     /// </details>
     #[track_caller]
+    #[must_use]
     fn gcd(&self, other: &Self) -> Self;
 
     /// Returns the least common multiple, which is never negative.
@@ -539,6 +551,7 @@ pub trait Integer: Sized + Num + PartialOrd + Ord + Eq {
     ///
     /// </details>
     #[track_caller]
+    #[must_use]
     fn lcm(&self, other: &Self) -> Self;
 
     /// Returns the greatest common divisor and the least common multiple.
@@ -580,6 +593,7 @@ pub trait Integer: Sized + Num + PartialOrd + Ord + Eq {
     ///
     /// </details>
     #[track_caller]
+    #[must_use]
     fn gcd_lcm(&self, other: &Self) -> (Self, Self) {
         (self.gcd(other), self.lcm(other))
     }
@@ -623,6 +637,7 @@ pub trait Integer: Sized + Num + PartialOrd + Ord + Eq {
     ///
     /// </details>
     #[track_caller]
+    #[must_use]
     fn extended_gcd(&self, other: &Self) -> ExtendedGcd<Self>
     where
         Self: Clone,
@@ -672,6 +687,7 @@ pub trait Integer: Sized + Num + PartialOrd + Ord + Eq {
     ///
     /// </details>
     #[track_caller]
+    #[must_use]
     fn extended_gcd_lcm(&self, other: &Self) -> (ExtendedGcd<Self>, Self)
     where
         Self: Clone + Signed,
@@ -743,6 +759,7 @@ pub trait Integer: Sized + Num + PartialOrd + Ord + Eq {
 ///
 /// </details>
 #[track_caller]
+#[must_use]
 pub fn div_rem<T: Integer>(x: T, y: T) -> (T, T) {
     x.div_rem(&y)
 }
@@ -778,6 +795,7 @@ pub fn div_rem<T: Integer>(x: T, y: T) -> (T, T) {
 ///
 /// </details>
 #[track_caller]
+#[must_use]
 pub fn div_floor<T: Integer>(x: T, y: T) -> T {
     x.div_floor(&y)
 }
@@ -811,6 +829,7 @@ pub fn div_floor<T: Integer>(x: T, y: T) -> T {
 ///
 /// </details>
 #[track_caller]
+#[must_use]
 pub fn mod_floor<T: Integer>(x: T, y: T) -> T {
     x.mod_floor(&y)
 }
@@ -846,6 +865,7 @@ pub fn mod_floor<T: Integer>(x: T, y: T) -> T {
 ///
 /// </details>
 #[track_caller]
+#[must_use]
 pub fn div_mod_floor<T: Integer>(x: T, y: T) -> (T, T) {
     x.div_mod_floor(&y)
 }
@@ -881,6 +901,7 @@ pub fn div_mod_floor<T: Integer>(x: T, y: T) -> (T, T) {
 ///
 /// </details>
 #[track_caller]
+#[must_use]
 pub fn div_ceil<T: Integer>(x: T, y: T) -> T {
     x.div_ceil(&y)
 }
@@ -915,6 +936,7 @@ pub fn div_ceil<T: Integer>(x: T, y: T) -> T {
 ///
 /// </details>
 #[track_caller]
+#[must_use]
 pub fn gcd<T: Integer>(x: T, y: T) -> T {
     x.gcd(&y)
 }
@@ -949,6 +971,7 @@ pub fn gcd<T: Integer>(x: T, y: T) -> T {
 ///
 /// </details>
 #[track_caller]
+#[must_use]
 pub fn lcm<T: Integer>(x: T, y: T) -> T {
     x.lcm(&y)
 }
@@ -987,6 +1010,7 @@ pub fn lcm<T: Integer>(x: T, y: T) -> T {
 ///
 /// </details>
 #[track_caller]
+#[must_use]
 pub fn gcd_lcm<T: Integer>(x: T, y: T) -> (T, T) {
     x.gcd_lcm(&y)
 }

@@ -40,6 +40,7 @@ impl<T: Integer + Copy> IterBinomial<T> {
     /// [`row_of`](crate::definitions::num_integer#row_of), [how to read it](crate::definitions).
     ///
     /// </details>
+    #[must_use]
     pub fn new(n: T) -> IterBinomial<T> {
         IterBinomial {
             n,

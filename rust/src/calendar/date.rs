@@ -30,16 +30,19 @@ pub struct Date {
 
 impl Date {
     /// Returns the `year`.
+    #[must_use]
     pub fn year(&self) -> i64 {
         self.year
     }
 
     /// Returns the `month`.
+    #[must_use]
     pub fn month(&self) -> u8 {
         self.month
     }
 
     /// Returns the `day_of_month`.
+    #[must_use]
     pub fn day_of_month(&self) -> u8 {
         self.day_of_month
     }
@@ -69,6 +72,7 @@ impl Date {
     /// [`HasParts`](crate::definitions::calendar#hasparts), [how to read it](crate::definitions).
     ///
     /// </details>
+    #[must_use]
     pub fn new(year: i64, month: u8, day_of_month: u8) -> Option<Date> {
         if (1..=12).contains(&month) && (1..=days_in_month(year, month)).contains(&day_of_month) {
             Some(Date {
@@ -104,6 +108,7 @@ impl Date {
     /// [`IsOnly`](crate::definitions::integer_core#isonly), [how to read it](crate::definitions).
     ///
     /// </details>
+    #[must_use]
     pub fn from_day(day: i64) -> Date {
         let (march_year, days) = march_year_of_day(day);
         let (year, month, day_of_month) = parts_from_march(march_year, days);
@@ -129,6 +134,7 @@ impl Date {
     /// [how to read it](crate::definitions).
     ///
     /// </details>
+    #[must_use]
     pub fn day(&self) -> Option<i64> {
         at_64_bits(self.number())
     }
@@ -150,6 +156,7 @@ impl Date {
     /// [how to read it](crate::definitions).
     ///
     /// </details>
+    #[must_use]
     pub fn next(&self) -> Option<Date> {
         let (year, month) = (self.year, self.month);
         if self.day_of_month < days_in_month(year, month) {
@@ -190,6 +197,7 @@ impl Date {
     /// [how to read it](crate::definitions).
     ///
     /// </details>
+    #[must_use]
     pub fn previous(&self) -> Option<Date> {
         let (year, month) = (self.year, self.month);
         if self.day_of_month > 1 {
@@ -229,6 +237,7 @@ impl Date {
     /// [`days_in_year`](crate::definitions::calendar#days_in_year), [how to read it](crate::definitions).
     ///
     /// </details>
+    #[must_use]
     pub fn day_of_year(&self) -> u16 {
         days_before_month(self.year, self.month) + u16::from(self.day_of_month)
     }
@@ -258,6 +267,7 @@ impl Date {
     /// [`year_day_of`](crate::definitions::calendar#year_day_of), [how to read it](crate::definitions).
     ///
     /// </details>
+    #[must_use]
     pub fn from_year_day(year: i64, day_of_year: u16) -> Option<Date> {
         if (1..=days_in_year(year)).contains(&day_of_year) {
             Some(Date::in_year(year, day_of_year - 1))
@@ -283,6 +293,7 @@ impl Date {
     /// [how to read it](crate::definitions).
     ///
     /// </details>
+    #[must_use]
     pub fn plus_days(&self, days: i64) -> Option<Date> {
         let (era, day) = self.day_of_era();
         let (eras, rest) = eras_in_days(days);

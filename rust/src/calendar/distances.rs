@@ -24,6 +24,7 @@ impl Date {
     /// [how to read it](crate::definitions).
     ///
     /// </details>
+    #[must_use]
     pub fn plus_months(&self, months: i64) -> Option<Date> {
         let (year, month) = month_of(self.month_number() + i128::from(months))?;
         Some(Date {
@@ -55,6 +56,7 @@ impl Date {
 /// [how to read it](crate::definitions).
 ///
 /// </details>
+#[must_use]
 pub fn days_between(from: &Date, to: &Date) -> Option<i64> {
     at_64_bits(to.number() - from.number())
 }
@@ -77,6 +79,7 @@ pub fn days_between(from: &Date, to: &Date) -> Option<i64> {
 /// [how to read it](crate::definitions).
 ///
 /// </details>
+#[must_use]
 pub fn months_between(from: &Date, to: &Date) -> Option<i64> {
     at_64_bits(whole_months(from, to))
 }

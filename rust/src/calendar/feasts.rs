@@ -29,6 +29,7 @@ use crate::{div_floor, mod_floor};
 /// [`number_of`](crate::definitions::calendar#number_of), [how to read it](crate::definitions).
 ///
 /// </details>
+#[must_use]
 pub fn easter(year: i64) -> Date {
     let full_moon = paschal_full_moon(year);
     let days = days_to_next_sunday(&day_from_march(year, full_moon));

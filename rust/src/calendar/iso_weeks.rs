@@ -32,6 +32,7 @@ impl Date {
     /// [`number_of`](crate::definitions::calendar#number_of), [how to read it](crate::definitions).
     ///
     /// </details>
+    #[must_use]
     pub fn iso_week(&self) -> Option<IsoWeek> {
         let (year, days) = year_near(self.year, thursday_of_week(self))?;
         Some(IsoWeek {
@@ -66,6 +67,7 @@ impl Date {
     /// [`number_of`](crate::definitions::calendar#number_of), [how to read it](crate::definitions).
     ///
     /// </details>
+    #[must_use]
     pub fn from_iso_week(year: i64, week: u8, weekday: Weekday) -> Option<Date> {
         let thursday = thursday_of_iso_week(year, week);
         if is_in_year(year, thursday) {
@@ -100,6 +102,7 @@ impl Date {
 /// [how to read it](crate::definitions).
 ///
 /// </details>
+#[must_use]
 pub fn weeks_in_year(year: i64) -> u8 {
     if is_in_year(year, thursday_of_iso_week(year, 53)) {
         53

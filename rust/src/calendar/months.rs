@@ -37,6 +37,7 @@ use crate::calendar::{days_in_year, is_leap_year};
 ///
 /// </details>
 #[track_caller]
+#[must_use]
 pub fn days_in_month(year: i64, month: u8) -> u8 {
     assert!(month >= 1, "no month has the number 0");
     assert!(month <= 12, "no month has a number above 12");

@@ -40,6 +40,7 @@ impl Weekday {
     /// [how to read it](crate::definitions).
     ///
     /// </details>
+    #[must_use]
     pub fn iso_number(self) -> u8 {
         (self.days_after_sunday() + 6) % 7 + 1
     }
@@ -68,6 +69,7 @@ impl Weekday {
     /// [how to read it](crate::definitions).
     ///
     /// </details>
+    #[must_use]
     pub fn from_iso_number(number: u8) -> Option<Weekday> {
         if (1..=7).contains(&number) {
             Some(weekday_after_sunday(u32::from(number)))
@@ -103,6 +105,7 @@ impl Date {
     /// [`number_of`](crate::definitions::calendar#number_of), [how to read it](crate::definitions).
     ///
     /// </details>
+    #[must_use]
     pub fn weekday(&self) -> Weekday {
         // Eras are whole weeks, and day 0 of each is a Tuesday.
         let (_, day) = self.day_of_era();
@@ -134,6 +137,7 @@ impl Date {
 /// [how to read it](crate::definitions).
 ///
 /// </details>
+#[must_use]
 pub fn weekday_of(day: i64) -> Weekday {
     weekday_after_sunday(mod_floor(day, 7) as u32 + 4)
 }

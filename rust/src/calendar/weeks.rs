@@ -29,6 +29,7 @@ use crate::calendar::{weekday_of, Date, Weekday};
 /// [how to read it](crate::definitions).
 ///
 /// </details>
+#[must_use]
 pub fn first_weekday_on_or_after(day: i64, weekday: Weekday) -> Option<i64> {
     day.checked_add(i64::from(weekday_of(day).days_until(weekday)))
 }
@@ -59,6 +60,7 @@ pub fn first_weekday_on_or_after(day: i64, weekday: Weekday) -> Option<i64> {
 /// [how to read it](crate::definitions).
 ///
 /// </details>
+#[must_use]
 pub fn last_weekday_on_or_before(day: i64, weekday: Weekday) -> Option<i64> {
     day.checked_sub(i64::from(weekday.days_until(weekday_of(day))))
 }
@@ -88,6 +90,7 @@ pub fn last_weekday_on_or_before(day: i64, weekday: Weekday) -> Option<i64> {
 /// [how to read it](crate::definitions).
 ///
 /// </details>
+#[must_use]
 pub fn nth_weekday_of_month(year: i64, month: u8, weekday: Weekday, n: u8) -> Option<Date> {
     let first = Date::new(year, month, 1)?;
     if !(1..=5).contains(&n) {
@@ -121,6 +124,7 @@ pub fn nth_weekday_of_month(year: i64, month: u8, weekday: Weekday, n: u8) -> Op
 /// [how to read it](crate::definitions).
 ///
 /// </details>
+#[must_use]
 pub fn last_weekday_of_month(year: i64, month: u8, weekday: Weekday) -> Option<Date> {
     if !(1..=12).contains(&month) {
         return None;

@@ -16,6 +16,7 @@ use crate::Integer;
 /// [how to read it](crate::definitions).
 ///
 /// </details>
+#[must_use]
 pub fn is_leap_year(year: i64) -> bool {
     // 25 divides a fourth year where 100 does, and 16 a hundredth year where 400 does.
     if is_multiple(year, 25) {
@@ -54,6 +55,7 @@ fn is_multiple(year: i64, number: u16) -> bool {
 /// [how to read it](crate::definitions).
 ///
 /// </details>
+#[must_use]
 pub fn days_in_year(year: i64) -> u16 {
     if is_leap_year(year) {
         366

@@ -35,6 +35,7 @@ use crate::rows::IterBinomial;
 /// [how to read it](crate::definitions).
 ///
 /// </details>
+#[must_use]
 pub fn binomial<T: Fits>(n: T, k: T) -> Option<T> {
     if is_negative(n) || is_negative(k) {
         return None;
@@ -82,6 +83,7 @@ pub fn binomial<T: Fits>(n: T, k: T) -> Option<T> {
 /// [how to read it](crate::definitions).
 ///
 /// </details>
+#[must_use]
 pub fn multinomial<T: Fits>(k: &[T]) -> Option<T> {
     let mut multinomial = one();
     let mut total = zero();
@@ -123,6 +125,7 @@ pub fn multinomial<T: Fits>(k: &[T]) -> Option<T> {
 /// [`row_of`](crate::definitions::num_integer#row_of), [how to read it](crate::definitions).
 ///
 /// </details>
+#[must_use]
 pub fn row<T: Fits>(n: T) -> Option<IterBinomial<T>> {
     if row_fits(n) {
         Some(IterBinomial::new(n))

@@ -34,6 +34,7 @@ use crate::integer_core::operators::is_zero;
 /// [how to read it](crate::definitions).
 ///
 /// </details>
+#[must_use]
 pub fn div_rem<T: Fits>(x: T, y: T) -> Option<(T, T)> {
     if x.quotient_fits(&y) {
         Some(x.div_rem(&y))
@@ -71,6 +72,7 @@ pub fn div_rem<T: Fits>(x: T, y: T) -> Option<(T, T)> {
 /// [`IsFloored`](crate::definitions::integer_core#isfloored), [how to read it](crate::definitions).
 ///
 /// </details>
+#[must_use]
 pub fn div_floor<T: Fits>(x: T, y: T) -> Option<T> {
     if x.quotient_fits(&y) {
         Some(x.div_floor(&y))
@@ -106,6 +108,7 @@ pub fn div_floor<T: Fits>(x: T, y: T) -> Option<T> {
 /// [`IsFloored`](crate::definitions::integer_core#isfloored), [how to read it](crate::definitions).
 ///
 /// </details>
+#[must_use]
 pub fn mod_floor<T: Fits>(x: T, y: T) -> Option<T> {
     if !is_zero(y) {
         Some(x.mod_floor(&y))
@@ -144,6 +147,7 @@ pub fn mod_floor<T: Fits>(x: T, y: T) -> Option<T> {
 /// [`IsFloored`](crate::definitions::integer_core#isfloored), [how to read it](crate::definitions).
 ///
 /// </details>
+#[must_use]
 pub fn div_mod_floor<T: Fits>(x: T, y: T) -> Option<(T, T)> {
     if x.quotient_fits(&y) {
         Some(x.div_mod_floor(&y))
@@ -180,6 +184,7 @@ pub fn div_mod_floor<T: Fits>(x: T, y: T) -> Option<(T, T)> {
 /// [`IsCeiled`](crate::definitions::integer_core#isceiled), [how to read it](crate::definitions).
 ///
 /// </details>
+#[must_use]
 pub fn div_ceil<T: Fits>(x: T, y: T) -> Option<T> {
     if x.quotient_fits(&y) {
         Some(x.div_ceil(&y))
@@ -216,6 +221,7 @@ pub fn div_ceil<T: Fits>(x: T, y: T) -> Option<T> {
 /// [`IsCeiled`](crate::definitions::integer_core#isceiled), [how to read it](crate::definitions).
 ///
 /// </details>
+#[must_use]
 pub fn next_multiple_of<T: Fits>(x: T, y: T) -> Option<T> {
     if x.next_multiple_fits(&y) {
         Some(x.next_multiple_of(&y))
@@ -252,6 +258,7 @@ pub fn next_multiple_of<T: Fits>(x: T, y: T) -> Option<T> {
 /// [`IsFloored`](crate::definitions::integer_core#isfloored), [how to read it](crate::definitions).
 ///
 /// </details>
+#[must_use]
 pub fn prev_multiple_of<T: Fits>(x: T, y: T) -> Option<T> {
     if x.prev_multiple_fits(&y) {
         Some(x.prev_multiple_of(&y))

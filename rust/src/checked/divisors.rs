@@ -36,6 +36,7 @@ use num_traits::Signed;
 /// [how to read it](crate::definitions).
 ///
 /// </details>
+#[must_use]
 pub fn gcd<T: Fits>(x: T, y: T) -> Option<T> {
     if x.gcd_fits(&y) {
         Some(x.gcd(&y))
@@ -72,6 +73,7 @@ pub fn gcd<T: Fits>(x: T, y: T) -> Option<T> {
 /// [how to read it](crate::definitions).
 ///
 /// </details>
+#[must_use]
 pub fn lcm<T: Fits>(x: T, y: T) -> Option<T> {
     if is_zero(x) || is_zero(y) {
         return Some(zero());
@@ -112,6 +114,7 @@ pub fn lcm<T: Fits>(x: T, y: T) -> Option<T> {
 /// [how to read it](crate::definitions).
 ///
 /// </details>
+#[must_use]
 pub fn gcd_lcm<T: Fits>(x: T, y: T) -> Option<(T, T)> {
     let g = gcd(x, y)?;
     Some((g, lcm_with_gcd(x, y, g)?))
@@ -150,6 +153,7 @@ pub fn gcd_lcm<T: Fits>(x: T, y: T) -> Option<(T, T)> {
 /// [how to read it](crate::definitions).
 ///
 /// </details>
+#[must_use]
 pub fn extended_gcd<T: Fits>(x: T, y: T) -> Option<ExtendedGcd<T>> {
     if x.gcd_fits(&y) && has_pair(x, y) {
         Some(x.extended_gcd(&y))
@@ -194,6 +198,7 @@ pub fn extended_gcd<T: Fits>(x: T, y: T) -> Option<ExtendedGcd<T>> {
 /// [how to read it](crate::definitions).
 ///
 /// </details>
+#[must_use]
 pub fn extended_gcd_lcm<T: Fits + Signed>(x: T, y: T) -> Option<(ExtendedGcd<T>, T)> {
     let e = extended_gcd(x, y)?;
     Some((e, lcm_with_gcd(x, y, e.gcd)?))

@@ -30,6 +30,7 @@ use crate::parts::{product_is_within, sum_is_within};
 /// [how to read it](crate::definitions).
 ///
 /// </details>
+#[must_use]
 pub fn sum<T: Fits>(a: T, b: T) -> Option<T> {
     if sum_fits(a, b) {
         Some(operators::sum(a, b))
@@ -64,6 +65,7 @@ pub fn sum<T: Fits>(a: T, b: T) -> Option<T> {
 /// [how to read it](crate::definitions).
 ///
 /// </details>
+#[must_use]
 pub fn difference<T: Fits>(a: T, b: T) -> Option<T> {
     if difference_fits(a, b) {
         Some(operators::difference(a, b))
@@ -98,6 +100,7 @@ pub fn difference<T: Fits>(a: T, b: T) -> Option<T> {
 /// [how to read it](crate::definitions).
 ///
 /// </details>
+#[must_use]
 pub fn product<T: Fits>(a: T, b: T) -> Option<T> {
     if product_fits(a, b) {
         Some(operators::product(a, b))
@@ -132,6 +135,7 @@ pub fn product<T: Fits>(a: T, b: T) -> Option<T> {
 /// [how to read it](crate::definitions).
 ///
 /// </details>
+#[must_use]
 pub fn negated<T: Fits>(a: T) -> Option<T> {
     if negation_fits(a) {
         Some(operators::negated(a))
@@ -166,6 +170,7 @@ pub fn negated<T: Fits>(a: T) -> Option<T> {
 /// [how to read it](crate::definitions).
 ///
 /// </details>
+#[must_use]
 pub fn inc<T: Fits>(x: T) -> Option<T> {
     sum(x, one())
 }
@@ -196,6 +201,7 @@ pub fn inc<T: Fits>(x: T) -> Option<T> {
 /// [how to read it](crate::definitions).
 ///
 /// </details>
+#[must_use]
 pub fn dec<T: Fits>(x: T) -> Option<T> {
     difference(x, one())
 }

@@ -30,6 +30,7 @@ use crate::integer_roots::Roots;
 /// [`IsRoot`](crate::definitions::integer_roots#isroot), [how to read it](crate::definitions).
 ///
 /// </details>
+#[must_use]
 pub fn nth_root<T: Roots + Copy>(x: T, n: u32) -> Option<T> {
     if n != 0 && (n % 2 != 0 || !is_negative(x)) {
         Some(x.nth_root(n))
@@ -64,6 +65,7 @@ pub fn nth_root<T: Roots + Copy>(x: T, n: u32) -> Option<T> {
 /// [`IsRoot`](crate::definitions::integer_roots#isroot), [how to read it](crate::definitions).
 ///
 /// </details>
+#[must_use]
 pub fn sqrt<T: Roots + Copy>(x: T) -> Option<T> {
     if !is_negative(x) {
         Some(x.sqrt())

@@ -35,6 +35,7 @@ use num_traits::cast;
 /// [`IsFloored`](crate::definitions::integer_core#isfloored), [how to read it](crate::definitions).
 ///
 /// </details>
+#[must_use]
 pub fn product_div_mod_floor<T: NativeInteger<Magnitude = u64>>(
     a: T,
     b: T,

@@ -123,6 +123,7 @@ fn last_row<T: Integer + Clone>(a: T, b: T) -> (Row<T>, u32) {
 ///
 /// </details>
 #[track_caller]
+#[must_use]
 pub fn extended_gcd_counted<T: Integer + Clone>(a: T, b: T) -> (ExtendedGcd<T>, u32) {
     a.expect_pair(&b);
     if b.is_zero() {

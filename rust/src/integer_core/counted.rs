@@ -45,5 +45,6 @@ pub trait GcdCounted: Integer {
     ///
     /// </details>
     #[track_caller]
+    #[must_use]
     fn gcd_counted(&self, other: &Self) -> (Self, u32);
 }

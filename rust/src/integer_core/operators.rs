@@ -26,6 +26,7 @@ use num_traits::Num;
 /// Words: [how to read it](crate::definitions).
 ///
 /// </details>
+#[must_use]
 pub fn zero<T: Num>() -> T {
     T::zero()
 }
@@ -53,6 +54,7 @@ pub fn zero<T: Num>() -> T {
 /// Words: [how to read it](crate::definitions).
 ///
 /// </details>
+#[must_use]
 pub fn one<T: Num>() -> T {
     T::one()
 }
@@ -80,6 +82,7 @@ pub fn one<T: Num>() -> T {
 /// Words: [how to read it](crate::definitions).
 ///
 /// </details>
+#[must_use]
 pub fn is_zero<T: Num>(a: T) -> bool {
     a.is_zero()
 }
@@ -108,6 +111,7 @@ pub fn is_zero<T: Num>(a: T) -> bool {
 /// Words: [how to read it](crate::definitions).
 ///
 /// </details>
+#[must_use]
 pub fn is_below<T: Num + PartialOrd>(a: T, b: T) -> bool {
     a < b
 }
@@ -136,6 +140,7 @@ pub fn is_below<T: Num + PartialOrd>(a: T, b: T) -> bool {
 /// Words: [how to read it](crate::definitions).
 ///
 /// </details>
+#[must_use]
 pub fn is_negative<T: Num + PartialOrd>(a: T) -> bool {
     is_below(a, zero())
 }
@@ -169,6 +174,7 @@ pub fn is_negative<T: Num + PartialOrd>(a: T) -> bool {
 ///
 /// </details>
 #[track_caller]
+#[must_use]
 pub fn sum<T: crate::integer_core::Integer>(a: T, b: T) -> T {
     a.exact_sum(b, "attempt to add with overflow")
 }
@@ -202,6 +208,7 @@ pub fn sum<T: crate::integer_core::Integer>(a: T, b: T) -> T {
 ///
 /// </details>
 #[track_caller]
+#[must_use]
 pub fn difference<T: crate::integer_core::Integer>(a: T, b: T) -> T {
     a.exact_difference(b, "attempt to subtract with overflow")
 }
@@ -235,6 +242,7 @@ pub fn difference<T: crate::integer_core::Integer>(a: T, b: T) -> T {
 ///
 /// </details>
 #[track_caller]
+#[must_use]
 pub fn product<T: crate::integer_core::Integer>(a: T, b: T) -> T {
     a.exact_product(b, "attempt to multiply with overflow")
 }
@@ -269,6 +277,7 @@ pub fn product<T: crate::integer_core::Integer>(a: T, b: T) -> T {
 ///
 /// </details>
 #[track_caller]
+#[must_use]
 pub fn quotient<T: Num>(a: T, b: T) -> T {
     a / b
 }
@@ -304,6 +313,7 @@ pub fn quotient<T: Num>(a: T, b: T) -> T {
 ///
 /// </details>
 #[track_caller]
+#[must_use]
 pub fn remainder<T: Num>(a: T, b: T) -> T {
     a % b
 }
@@ -337,6 +347,7 @@ pub fn remainder<T: Num>(a: T, b: T) -> T {
 ///
 /// </details>
 #[track_caller]
+#[must_use]
 pub fn successor<T: crate::integer_core::Integer>(a: T) -> T {
     sum(a, one())
 }
@@ -370,6 +381,7 @@ pub fn successor<T: crate::integer_core::Integer>(a: T) -> T {
 ///
 /// </details>
 #[track_caller]
+#[must_use]
 pub fn predecessor<T: crate::integer_core::Integer>(a: T) -> T {
     difference(a, one())
 }
@@ -403,6 +415,7 @@ pub fn predecessor<T: crate::integer_core::Integer>(a: T) -> T {
 ///
 /// </details>
 #[track_caller]
+#[must_use]
 pub fn negated<T: crate::integer_core::Integer>(a: T) -> T {
     zero::<T>().exact_difference(a, "attempt to negate with overflow")
 }

@@ -27,6 +27,7 @@ pub trait Average: Integer {
     /// [how to read it](crate::definitions).
     ///
     /// </details>
+    #[must_use]
     fn average_floor(&self, other: &Self) -> Self;
 
     /// Returns the average rounded up.
@@ -52,6 +53,7 @@ pub trait Average: Integer {
     /// [how to read it](crate::definitions).
     ///
     /// </details>
+    #[must_use]
     fn average_ceil(&self, other: &Self) -> Self;
 }
 
@@ -77,6 +79,7 @@ pub trait Average: Integer {
 /// [how to read it](crate::definitions).
 ///
 /// </details>
+#[must_use]
 pub fn average_floor<T: Average>(x: T, y: T) -> T {
     x.average_floor(&y)
 }
@@ -103,6 +106,7 @@ pub fn average_floor<T: Average>(x: T, y: T) -> T {
 /// [how to read it](crate::definitions).
 ///
 /// </details>
+#[must_use]
 pub fn average_ceil<T: Average>(x: T, y: T) -> T {
     x.average_ceil(&y)
 }

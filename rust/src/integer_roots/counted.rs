@@ -39,5 +39,6 @@ pub trait SqrtCounted: Roots {
     ///
     /// </details>
     #[track_caller]
+    #[must_use]
     fn sqrt_counted(&self) -> (Self, u32);
 }

@@ -52,6 +52,7 @@ pub trait Roots: Integer {
     ///
     /// </details>
     #[track_caller]
+    #[must_use]
     fn nth_root(&self, n: u32) -> Self;
 
     /// Returns the square root, rounded down.
@@ -84,6 +85,7 @@ pub trait Roots: Integer {
     ///
     /// </details>
     #[track_caller]
+    #[must_use]
     fn sqrt(&self) -> Self {
         assert!(
             *self >= Self::zero(),
@@ -113,6 +115,7 @@ pub trait Roots: Integer {
     /// Words: [`IsRoot`](crate::definitions::integer_roots#isroot), [how to read it](crate::definitions).
     ///
     /// </details>
+    #[must_use]
     fn cbrt(&self) -> Self {
         self.nth_root(3)
     }
@@ -148,6 +151,7 @@ pub trait Roots: Integer {
 ///
 /// </details>
 #[track_caller]
+#[must_use]
 pub fn nth_root<T: Roots>(x: T, n: u32) -> T {
     assert!(n != 0, "attempt to take a root of degree 0");
     assert!(
@@ -185,6 +189,7 @@ pub fn nth_root<T: Roots>(x: T, n: u32) -> T {
 ///
 /// </details>
 #[track_caller]
+#[must_use]
 pub fn sqrt<T: Roots>(x: T) -> T {
     assert!(
         x >= T::zero(),
@@ -214,6 +219,7 @@ pub fn sqrt<T: Roots>(x: T) -> T {
 /// Words: [`IsRoot`](crate::definitions::integer_roots#isroot), [how to read it](crate::definitions).
 ///
 /// </details>
+#[must_use]
 pub fn cbrt<T: Roots>(x: T) -> T {
     x.cbrt()
 }

@@ -49,6 +49,7 @@ use crate::{checked, Fits};
 ///
 /// </details>
 #[track_caller]
+#[must_use]
 pub fn chinese_remainder<T: Modular>(a: T, m: T, b: T, n: T) -> Option<(T, T)> {
     assert!(m > T::zero(), "the modulus is not positive");
     assert!(n > T::zero(), "the modulus is not positive");
@@ -110,6 +111,7 @@ pub enum CommonSolution<T> {
 ///
 /// </details>
 #[track_caller]
+#[must_use]
 pub fn next_common_solution<T: Modular + Fits>(
     from: T,
     a: T,

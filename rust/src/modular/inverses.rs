@@ -41,6 +41,7 @@ use crate::Integer;
 ///
 /// </details>
 #[track_caller]
+#[must_use]
 pub fn inverse_modulo<T: Integer + Copy>(a: T, m: T) -> Option<T> {
     assert!(m > T::zero(), "the modulus is not positive");
     let (gcd, x) = gcd_modulo(a, m);
@@ -87,6 +88,7 @@ pub fn inverse_modulo<T: Integer + Copy>(a: T, m: T) -> Option<T> {
 ///
 /// </details>
 #[track_caller]
+#[must_use]
 pub fn quotient_modulo<T: Modular>(a: T, b: T, m: T) -> Option<T> {
     assert!(m > T::zero(), "the modulus is not positive");
     match inverse_modulo(b, m) {

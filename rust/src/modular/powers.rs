@@ -36,6 +36,7 @@ use crate::modular::products::Modular;
 ///
 /// </details>
 #[track_caller]
+#[must_use]
 pub fn power_modulo_counted<T: Modular>(a: T, exponent: u128, m: T) -> (T, u32) {
     assert!(m > T::zero(), "the modulus is not positive");
     a.power_modulo_counted(exponent, &m)
@@ -71,6 +72,7 @@ pub fn power_modulo_counted<T: Modular>(a: T, exponent: u128, m: T) -> (T, u32) 
 ///
 /// </details>
 #[track_caller]
+#[must_use]
 pub fn power_modulo<T: Modular>(a: T, exponent: u128, m: T) -> T {
     assert!(m > T::zero(), "the modulus is not positive");
     power_modulo_counted(a, exponent, m).0

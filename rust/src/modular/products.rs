@@ -39,6 +39,7 @@ pub trait Modular: Integer + Copy {
     ///
     /// </details>
     #[track_caller]
+    #[must_use]
     fn product_modulo(&self, other: &Self, modulus: &Self) -> Self {
         assert!(*modulus > Self::zero(), "the modulus is not positive");
         product_of_residues(
@@ -84,6 +85,7 @@ pub trait Modular: Integer + Copy {
     ///
     /// </details>
     #[track_caller]
+    #[must_use]
     fn power_modulo_counted(&self, exponent: u128, modulus: &Self) -> (Self, u32) {
         assert!(*modulus > Self::zero(), "the modulus is not positive");
         let m = *modulus;
@@ -126,6 +128,7 @@ pub trait Modular: Integer + Copy {
 ///
 /// </details>
 #[track_caller]
+#[must_use]
 pub fn product_modulo<T: Modular>(a: T, b: T, m: T) -> T {
     assert!(m > T::zero(), "the modulus is not positive");
     a.product_modulo(&b, &m)

@@ -45,6 +45,7 @@ use crate::{checked, Fits, Integer};
 ///
 /// </details>
 #[track_caller]
+#[must_use]
 pub fn solutions<T: Modular>(a: T, b: T, m: T) -> Option<(T, T)> {
     assert!(m > T::zero(), "the modulus is not positive");
     let (gcd, x) = gcd_modulo(a, m);
@@ -91,6 +92,7 @@ pub fn solutions<T: Modular>(a: T, b: T, m: T) -> Option<(T, T)> {
 ///
 /// </details>
 #[track_caller]
+#[must_use]
 pub fn next_congruent<T: Fits>(from: T, first: T, step: T) -> Option<T> {
     assert!(step > T::zero(), "the step is not positive");
     checked::sum(from, difference_modulo(first, from, step))
@@ -132,6 +134,7 @@ pub fn next_congruent<T: Fits>(from: T, first: T, step: T) -> Option<T> {
 ///
 /// </details>
 #[track_caller]
+#[must_use]
 pub fn previous_congruent<T: Fits>(to: T, first: T, step: T) -> Option<T> {
     assert!(step > T::zero(), "the step is not positive");
     checked::difference(to, difference_modulo(to, first, step))
@@ -174,6 +177,7 @@ pub fn previous_congruent<T: Fits>(to: T, first: T, step: T) -> Option<T> {
 ///
 /// </details>
 #[track_caller]
+#[must_use]
 pub fn count_congruent<T: Fits>(from: T, to: T, first: T, step: T) -> Option<T> {
     assert!(step > T::zero(), "the step is not positive");
     if is_below(to, from) {

@@ -33,6 +33,7 @@ use crate::{mod_floor, Integer};
 ///
 /// </details>
 #[track_caller]
+#[must_use]
 pub fn residue<T: Integer>(a: T, m: T) -> T {
     assert!(m > T::zero(), "the modulus is not positive");
     mod_floor(a, m)
@@ -68,6 +69,7 @@ pub fn residue<T: Integer>(a: T, m: T) -> T {
 ///
 /// </details>
 #[track_caller]
+#[must_use]
 pub fn sum_modulo<T: Integer + Copy>(a: T, b: T, m: T) -> T {
     assert!(m > T::zero(), "the modulus is not positive");
     sum_of_residues(residue(a, m), residue(b, m), m)
@@ -113,6 +115,7 @@ pub(crate) fn sum_of_residues<T: Integer + Copy>(x: T, y: T, m: T) -> T {
 ///
 /// </details>
 #[track_caller]
+#[must_use]
 pub fn difference_modulo<T: Integer + Copy>(a: T, b: T, m: T) -> T {
     assert!(m > T::zero(), "the modulus is not positive");
     let (x, y) = (residue(a, m), residue(b, m));
@@ -154,6 +157,7 @@ pub fn difference_modulo<T: Integer + Copy>(a: T, b: T, m: T) -> T {
 ///
 /// </details>
 #[track_caller]
+#[must_use]
 pub fn negation_modulo<T: Integer + Copy>(a: T, m: T) -> T {
     assert!(m > T::zero(), "the modulus is not positive");
     negation_of_residue(residue(a, m), m)

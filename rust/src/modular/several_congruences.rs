@@ -48,6 +48,7 @@ use crate::{checked, Fits, Integer};
 ///
 /// </details>
 #[track_caller]
+#[must_use]
 pub fn next_common_solution_of<T: Modular + Fits>(
     from: T,
     congruences: &[(T, T)],

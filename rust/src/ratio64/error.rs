@@ -27,6 +27,7 @@ impl RatioError {
     /// Words: [`number_of`](crate::definitions::ratio64#number_of), [how to read it](crate::definitions).
     ///
     /// </details>
+    #[must_use]
     pub fn number(&self) -> u32 {
         match self {
             RatioError::ZeroDenominator => 1,

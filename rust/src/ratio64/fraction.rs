@@ -79,6 +79,7 @@ impl Ratio {
     /// Words: [`num_of`](crate::definitions::ratio64#num_of), [how to read it](crate::definitions).
     ///
     /// </details>
+    #[must_use]
     pub fn num(&self) -> i64 {
         self.num
     }
@@ -96,6 +97,7 @@ impl Ratio {
     /// Words: [`den_of`](crate::definitions::ratio64#den_of), [how to read it](crate::definitions).
     ///
     /// </details>
+    #[must_use]
     pub fn den(&self) -> i64 {
         self.den
     }
@@ -116,6 +118,7 @@ impl Ratio {
     /// [how to read it](crate::definitions).
     ///
     /// </details>
+    #[must_use]
     pub fn floor(&self) -> i64 {
         div_floor(self.num, self.den)
     }
@@ -136,6 +139,7 @@ impl Ratio {
     /// [how to read it](crate::definitions).
     ///
     /// </details>
+    #[must_use]
     pub fn ceil(&self) -> i64 {
         div_ceil(self.num, self.den)
     }

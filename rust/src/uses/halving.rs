@@ -27,6 +27,7 @@ use crate::{average_floor, Average, Integer};
 /// Words: [how to read it](crate::definitions).
 ///
 /// </details>
+#[must_use]
 pub fn midpoint<T: Average>(a: T, b: T) -> T {
     average_floor(a, b)
 }
@@ -62,6 +63,7 @@ pub fn midpoint<T: Average>(a: T, b: T) -> T {
 /// Words: [how to read it](crate::definitions).
 ///
 /// </details>
+#[must_use]
 pub fn lower_bound<T: Integer + Copy>(items: &[T], least: T) -> usize {
     let mut low = 0;
     let mut high = items.len();

@@ -40,6 +40,7 @@ use crate::{mod_floor, Fits, Integer};
 ///
 /// </details>
 #[track_caller]
+#[must_use]
 pub fn align_up<T: Fits>(offset: T, alignment: T) -> Option<T> {
     assert!(alignment > T::zero(), "the alignment is not positive");
     if offset.next_multiple_fits(&alignment) {
@@ -83,6 +84,7 @@ pub fn align_up<T: Fits>(offset: T, alignment: T) -> Option<T> {
 ///
 /// </details>
 #[track_caller]
+#[must_use]
 pub fn padding<T: Integer + Copy>(offset: T, alignment: T) -> T {
     assert!(alignment > T::zero(), "the alignment is not positive");
     let over = mod_floor(offset, alignment);

@@ -36,6 +36,7 @@ use crate::{checked, div_ceil, div_mod_floor, Fits, Integer};
 ///
 /// </details>
 #[track_caller]
+#[must_use]
 pub fn pages<T: Integer>(items: T, page_size: T) -> T {
     assert!(page_size > T::zero(), "the page size is not positive");
     div_ceil(items, page_size)
@@ -75,6 +76,7 @@ pub fn pages<T: Integer>(items: T, page_size: T) -> T {
 ///
 /// </details>
 #[track_caller]
+#[must_use]
 pub fn place_of<T: Integer>(item: T, page_size: T) -> (T, T) {
     assert!(page_size > T::zero(), "the page size is not positive");
     div_mod_floor(item, page_size)
@@ -123,6 +125,7 @@ pub fn place_of<T: Integer>(item: T, page_size: T) -> (T, T) {
 ///
 /// </details>
 #[track_caller]
+#[must_use]
 pub fn item_at<T: Fits>(page: T, place: T, page_size: T) -> Option<T> {
     assert!(place >= T::zero(), "the place is negative");
     assert!(place < page_size, "the place is not below the page size");
@@ -173,6 +176,7 @@ pub fn item_at<T: Fits>(page: T, place: T, page_size: T) -> Option<T> {
 ///
 /// </details>
 #[track_caller]
+#[must_use]
 pub fn range_of_page<T: Integer + Copy>(page: T, page_size: T, items: T) -> (T, T) {
     assert!(page_size > T::zero(), "the page size is not positive");
     assert!(items >= T::zero(), "the number of items is negative");
@@ -230,6 +234,7 @@ pub fn range_of_page<T: Integer + Copy>(page: T, page_size: T, items: T) -> (T, 
 ///
 /// </details>
 #[track_caller]
+#[must_use]
 pub fn range_of_part<T: Integer + Copy>(part: T, parts: T, items: T) -> (T, T) {
     assert!(part >= T::zero(), "the part is negative");
     assert!(part < parts, "the part is not below the number of parts");

@@ -17,6 +17,7 @@ use num_traits::Pow;
 /// Words: [how to read it](crate::definitions).
 ///
 /// </details>
+#[must_use]
 pub fn is_square<T: Roots + Copy>(n: T) -> bool {
     if is_negative(n) {
         return false;
@@ -48,6 +49,7 @@ pub fn is_square<T: Roots + Copy>(n: T) -> bool {
 ///
 /// </details>
 #[track_caller]
+#[must_use]
 pub fn is_power<T: Roots + Copy + Pow<u32, Output = T>>(n: T, degree: u32) -> bool {
     assert!(degree != 0, "attempt to take a root of degree 0");
     if degree % 2 == 0 && is_negative(n) {
@@ -71,6 +73,7 @@ pub fn is_power<T: Roots + Copy + Pow<u32, Output = T>>(n: T, degree: u32) -> bo
 /// Words: [how to read it](crate::definitions).
 ///
 /// </details>
+#[must_use]
 pub fn is_perfect_power(n: u64) -> bool {
     for degree in 2..64 {
         if is_power(n, degree) {

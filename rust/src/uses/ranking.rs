@@ -30,6 +30,7 @@ use crate::{binomial, checked, Fits};
 /// [how to read it](crate::definitions).
 ///
 /// </details>
+#[must_use]
 pub fn is_choice(numbers: &[u64], n: u64) -> bool {
     for place in 0..numbers.len() {
         if numbers[place] >= number_after(numbers, place, n) {
@@ -61,6 +62,7 @@ pub fn is_choice(numbers: &[u64], n: u64) -> bool {
 /// Words: [`rank_of`](crate::definitions::uses#rank_of), [how to read it](crate::definitions).
 ///
 /// </details>
+#[must_use]
 pub fn rank_fits(choice: &[u64]) -> bool {
     checked_rank(choice).is_some()
 }
@@ -114,6 +116,7 @@ fn checked_rank(choice: &[u64]) -> Option<u64> {
 ///
 /// </details>
 #[track_caller]
+#[must_use]
 pub fn rank(choice: &[u64], n: u64) -> u64 {
     assert!(
         crate::guards::increase_below(choice, n),

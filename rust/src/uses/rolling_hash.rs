@@ -25,16 +25,19 @@ pub struct RollingHash {
 
 impl RollingHash {
     /// Returns the `base`.
+    #[must_use]
     pub fn base(&self) -> u64 {
         self.base
     }
 
     /// Returns the `modulus`.
+    #[must_use]
     pub fn modulus(&self) -> u64 {
         self.modulus
     }
 
     /// How many bytes of a window stay when it slides.
+    #[must_use]
     pub fn kept(&self) -> u64 {
         self.kept
     }
@@ -66,6 +69,7 @@ impl RollingHash {
     ///
     /// </details>
     #[track_caller]
+    #[must_use]
     pub fn new(base: u64, modulus: u64, kept: u64) -> RollingHash {
         assert!(modulus > 0, "the modulus is not positive");
         RollingHash {
@@ -99,6 +103,7 @@ impl RollingHash {
     /// [`weighted_sum`](crate::definitions::uses#weighted_sum), [how to read it](crate::definitions).
     ///
     /// </details>
+    #[must_use]
     pub fn hash(&self, window: &[u8]) -> u64 {
         let mut hash = 0;
         for byte in window {
@@ -134,6 +139,7 @@ impl RollingHash {
     /// [`weighted_sum`](crate::definitions::uses#weighted_sum), [how to read it](crate::definitions).
     ///
     /// </details>
+    #[must_use]
     pub fn slide(&self, hash: u64, leaving: u8, entering: u8) -> u64 {
         let weight = power_modulo(self.base, u128::from(self.kept), self.modulus);
         let first = product_modulo(u64::from(leaving), weight, self.modulus);

@@ -42,6 +42,7 @@ pub type Schedule<T> = (T, T);
 ///
 /// </details>
 #[track_caller]
+#[must_use]
 pub fn next_meeting<T: Modular + Fits>(
     now: T,
     a: Schedule<T>,
@@ -89,6 +90,7 @@ pub fn next_meeting<T: Modular + Fits>(
 ///
 /// </details>
 #[track_caller]
+#[must_use]
 pub fn next_meeting_of<T: Modular + Fits>(now: T, schedules: &[Schedule<T>]) -> CommonSolution<T> {
     assert!(
         schedules.iter().all(|pair| pair.1 > T::zero()),

@@ -33,6 +33,7 @@ impl Ratio {
     ///
     /// </details>
     #[track_caller]
+    #[must_use]
     pub fn limit_denominator(&self, max: i64) -> Ratio {
         assert!(max > 0, "the limit is not positive");
         if self.den <= max {

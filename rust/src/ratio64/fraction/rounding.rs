@@ -21,6 +21,7 @@ impl Ratio {
     /// [how to read it](crate::definitions).
     ///
     /// </details>
+    #[must_use]
     pub fn trunc(&self) -> i64 {
         let (whole, _) = div_rem(self.num, self.den);
         whole
@@ -42,6 +43,7 @@ impl Ratio {
     /// [how to read it](crate::definitions).
     ///
     /// </details>
+    #[must_use]
     pub fn round(&self) -> i64 {
         nearest(self.num, self.den)
     }
@@ -64,6 +66,7 @@ impl Ratio {
     /// [how to read it](crate::definitions).
     ///
     /// </details>
+    #[must_use]
     pub fn fract(&self) -> Ratio {
         let (_, rest) = div_rem(self.num, self.den);
         Ratio {

@@ -16,6 +16,7 @@ impl Ratio {
     /// Words: [`num_of`](crate::definitions::ratio64#num_of), [how to read it](crate::definitions).
     ///
     /// </details>
+    #[must_use]
     pub fn is_zero(&self) -> bool {
         self.num == 0
     }
@@ -33,6 +34,7 @@ impl Ratio {
     /// Words: [`num_of`](crate::definitions::ratio64#num_of), [how to read it](crate::definitions).
     ///
     /// </details>
+    #[must_use]
     pub fn is_positive(&self) -> bool {
         self.num > 0
     }
@@ -50,6 +52,7 @@ impl Ratio {
     /// Words: [`num_of`](crate::definitions::ratio64#num_of), [how to read it](crate::definitions).
     ///
     /// </details>
+    #[must_use]
     pub fn is_negative(&self) -> bool {
         self.num < 0
     }
@@ -69,6 +72,7 @@ impl Ratio {
     /// [`den_of`](crate::definitions::ratio64#den_of), [how to read it](crate::definitions).
     ///
     /// </details>
+    #[must_use]
     pub fn signum(&self) -> Ratio {
         Ratio::from(self.num.signum())
     }

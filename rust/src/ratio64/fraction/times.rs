@@ -27,6 +27,7 @@ impl Ratio {
     /// [how to read it](crate::definitions).
     ///
     /// </details>
+    #[must_use]
     pub fn floor_times(&self, n: i64) -> Option<i64> {
         let (num, den) = self.times(n);
         at_64_bits(div_floor(num, den))
@@ -53,6 +54,7 @@ impl Ratio {
     /// [how to read it](crate::definitions).
     ///
     /// </details>
+    #[must_use]
     pub fn ceil_times(&self, n: i64) -> Option<i64> {
         let (num, den) = self.times(n);
         at_64_bits(div_ceil(num, den))
@@ -79,6 +81,7 @@ impl Ratio {
     /// [how to read it](crate::definitions).
     ///
     /// </details>
+    #[must_use]
     pub fn round_times(&self, n: i64) -> Option<i64> {
         let (num, den) = self.times(n);
         at_64_bits(nearest(num, den))

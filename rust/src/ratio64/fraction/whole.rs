@@ -18,6 +18,7 @@ impl Ratio {
     /// [`den_of`](crate::definitions::ratio64#den_of), [how to read it](crate::definitions).
     ///
     /// </details>
+    #[must_use]
     pub fn zero() -> Ratio {
         Ratio::from(0)
     }
@@ -37,6 +38,7 @@ impl Ratio {
     /// [`den_of`](crate::definitions::ratio64#den_of), [how to read it](crate::definitions).
     ///
     /// </details>
+    #[must_use]
     pub fn one() -> Ratio {
         Ratio::from(1)
     }
@@ -55,6 +57,7 @@ impl Ratio {
     /// Words: [`den_of`](crate::definitions::ratio64#den_of), [how to read it](crate::definitions).
     ///
     /// </details>
+    #[must_use]
     pub fn is_integer(&self) -> bool {
         self.den == 1
     }
