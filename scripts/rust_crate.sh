@@ -1,7 +1,7 @@
 #!/usr/bin/env bash
 # Checks the crate of plain Rust in rust/: its sources are those that scripts/erase.py makes, it builds without a
-# warning, its tests and num-integer's own pass, a guard that is taken out is missed, and the checksums of compare/ are
-# the same. Then the package num-integer of rust/ replaces the original below packages of other authors, and their tests
+# warning, its examples, its tests and num-integer's own pass, a guard that is taken out is missed, its package is made,
+# and the checksums of compare/ are the same. Then the package num-integer of rust/ replaces the original below packages of other authors, and their tests
 # run. Works in a temporary folder, offline, with Debian's packages of these crates, which it installs if it may, and
 # says so. Prints a line for each check, and a count at the end. With --write it writes the sources, and checks nothing.
 set -uo pipefail
@@ -103,6 +103,23 @@ own_type() {
     (cd "$work/own" && cargo test --offline --test boxed_type)
 }
 
+# The package has the texts of both licences, as the repository has them.
+has_licences() {
+    local name
+    (cd "$work/rust" && cargo package --offline --allow-dirty --list) >"$work/list" || return 1
+    for name in LICENSE-*; do
+        { cmp "$name" "rust/$name" && grep -x "$name" "$work/list"; } || { echo "the package has no $name" && return 1; }
+    done
+}
+
+# The package is made and built, and tests of it pass where it is unpacked.
+package() {
+    without_warnings cargo package --offline --allow-dirty || return 1
+    mkdir "$work/unpacked"
+    tar -xzf "$CARGO_TARGET_DIR"/package/cellarcove-*.crate -C "$work/unpacked" --strip-components 1 || return 1
+    (cd "$work/unpacked" && cargo test --offline --test own_type --test modules)
+}
+
 # num_integer WORD..: builds the package num-integer with the features that the words say.
 num_integer() { (cd "$work/rust/num-integer" && RUSTFLAGS=-Dwarnings cargo build --offline "$@"); }
 
@@ -171,6 +188,8 @@ if has_packages "${originals[@]}"; then
     check_tests 'its tests in release' without_warnings cargo test --offline --release
     check 'a guard that is taken out is missed' has_each_guard
     check_tests 'a type that is not Copy, of a package that depends on this crate alone' own_type
+    check 'the package has the texts of both licences' has_licences
+    check_tests 'the package is made, and some of its tests where it is unpacked' package
     check 'the package num-integer without features' num_integer --no-default-features
     check 'the package num-integer with all features' num_integer --all-features
     check 'its documentation' without_warnings cargo doc --offline --no-deps
