@@ -36,6 +36,16 @@ NATIVE = {sign + str(width) for sign in 'iu' for width in (8, 16, 32, 64, 128, '
 LOOPS = ('while', 'for', 'loop', '{')
 
 
+# By crate, module and item, or its field: the lint that is allowed there, and why.
+AS_PROVED = 'as it was proved'
+ALLOWED = {
+    ('integer_roots', 'square_root', 'square_root_counted'): ('clippy::manual_div_ceil', AS_PROVED),
+    ('modular', 'representatives', 'Residues.modulus'): ('dead_code', 'contracts alone read it'),
+    ('uses', 'ranking', 'first_to_rise'): ('clippy::manual_find', AS_PROVED),
+    ('uses', 'ranking', 'number_from_zero'): ('clippy::needless_range_loop', AS_PROVED),
+}
+
+
 class Eraser:
     """A file of a crate of the library."""
 
@@ -45,6 +55,7 @@ class Eraser:
         self.kind, self.at, self.refuse = module.source.kind, module.source.at, module.source.refuse
         self.words = {module.source.at(k) for k in range(len(module.source.code))}
         self.fn_clauses, self.guards = set(), rust_guards.Guards(self)
+        self.allowed = {key[2]: lint for key, lint in ALLOWED.items() if key[:2] == (self.crate, '/'.join(module.path))}
 
     def write(self, k, text):
         self.texts[self.source.code[k]] = text
@@ -97,6 +108,8 @@ class Eraser:
                 self.drop(k, k)
         if self.only_returns(item, owner):
             self.put_before(item.first, '#[must_use]\n')
+        if item.kind == 'fn':
+            self.allow(item.name, item.first)
         rust_docs.add_sections(self, item, owner)
         self.guards.add(item, owner)
         if item.kind == 'use':
@@ -121,6 +134,11 @@ class Eraser:
         changes = 'mut' in (self.at(k) for k in range(*self.source.parameters(item)))
         returned = self.source.returned(item)
         return bool(returned) and not returned.startswith('Result<') and not changes and 'must_use' not in names
+
+    def allow(self, name, k):
+        """Allows at the place what the table allows of the item or the field of this name."""
+        if name in self.allowed:
+            self.put_before(k, '#[allow({})] // {}\n'.format(*self.allowed.pop(name)))
 
     def put_before(self, k, text):
         """Writes a text before what is left from the place on."""
@@ -166,6 +184,8 @@ class Eraser:
     def struct(self, item):
         """A struct. Where a public one has an invariant, its public fields become readers of their names, since other
         code could break the invariant."""
+        for field in item.fields:
+            self.allow(f'{item.name}.{field.name}', field.first)
         ghosts = [field for field in item.fields if field.ghost]
         if ghosts and self.library.place_of(self.module, item) is not None:
             readers = ''.join(self.reader(field) for field in item.fields if field.public and not field.ghost)
@@ -258,6 +278,8 @@ class Eraser:
         """The file as Rust."""
         self.items(self.module.items)
         self.guards.finish()
+        if self.allowed:
+            raise Unknown(f'{self.source.path}: no {", ".join(self.allowed)}, which scripts/erase.py allows a lint')
         for k in range(len(self.source.code)):
             text = self.texts[self.source.code[k]]
             if text and (self.at(k) in RATTLE or self.kind(k) in ('sign', 'word') and not self.at(k).isascii()):

@@ -30,14 +30,6 @@
 //! of [`checked`] have no condition: they return `None` there.
 #![no_std]
 #![forbid(unsafe_code)]
-// Some names are those of contracts alone.
-#![allow(dead_code)]
-// Loops and quotients are written as they were proved.
-#![allow(
-    clippy::manual_div_ceil,
-    clippy::manual_find,
-    clippy::needless_range_loop
-)]
 
 pub use num_traits;
 

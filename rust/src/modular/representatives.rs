@@ -44,6 +44,7 @@ pub(crate) fn power_counted<R: Representatives>(
 /// The residues of a modulus, which stand for themselves, and how to multiply them.
 #[derive(Clone, Copy)]
 pub(crate) struct Residues<T, F> {
+    #[allow(dead_code)] // contracts alone read it
     pub modulus: T,
     pub product: F,
 }

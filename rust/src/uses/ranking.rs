@@ -246,6 +246,7 @@ pub fn next_choice(choice: &mut [u64], n: u64) -> bool {
 
 /// Returns the first place whose number can be one more and still below the number after it, or `n` at
 /// the end.
+#[allow(clippy::manual_find)] // as it was proved
 fn first_to_rise(choice: &[u64], n: u64) -> Option<usize> {
     for place in 0..choice.len() {
         if choice[place] + 1 < number_after(choice, place, n) {
@@ -261,6 +262,7 @@ fn number_after(choice: &[u64], place: usize, n: u64) -> u64 {
 }
 
 /// Writes 0, 1, 2 and so on at the places before `end`.
+#[allow(clippy::needless_range_loop)] // as it was proved
 fn number_from_zero(numbers: &mut [u64], end: usize) {
     for i in 0..end {
         numbers[i] = i as u64;
