@@ -6,7 +6,7 @@
 OUT is rust/ where none is given. Code stays token by token, with its comments. What goes: `ghost` items, members and
 fields, clauses, `final`, `#[tactic]`, `#[cfg(test)]` items, labels that nothing names, and the traits that are of
 contracts alone. What changes: the first words of paths, the head of `fmt`, the public fields of a struct with an
-invariant, which become readers, bounds and copies (rust_bounds.py), and doc comments, which gain sections (rust_docs.py).
+invariant, which become readers, bounds and copies (rust_bounds.py), and comments, which gain sections (rust_docs.py).
 What is added: the guards of the calls that have a domain (rust_guards.py), and `#[must_use]` of public calls that only
 return. A form that is not known here is refused by file and line, and then nothing is written."""
 import pathlib
@@ -297,9 +297,10 @@ def head_of_root(rust):
     """The root of the Rust crate: the head by hand, the modules, and what `num_integer` exports."""
     modules = ''.join(f'{kind} {crate};\n' for crate, kind in CRATES.items() if kind)
     by_hand = ''.join(f'mod {name};\n' for name in MADE_BY_HAND)
-    first, *lines = rust.splitlines(True)
+    made, *lines = rust.splitlines(True)
     items = ''.join(line for line in lines if not line.startswith('//!')).lstrip()
-    return first.replace(';', ' and rust/by_hand/head.rs;') + (BY_HAND / 'head.rs').read_text() + '\npub mod definitions;\n' + by_hand + modules + items
+    head = made.replace(';', ' and rust/by_hand/head.rs;') + (BY_HAND / 'head.rs').read_text()
+    return head + '\npub mod definitions;\n' + by_hand + modules + items
 
 
 def write(out):

@@ -11,7 +11,8 @@ NOT_FITTING = 'a part of the {} does not fit an `i64`'
 LEAST = 'the numerator is `i64::MIN`'
 # By crate, type and call: the errors, each by its name, or '' where the type is the error, and when it is returned.
 ERRORS = {
-    ('ratio64', 'Ratio', 'new'): {'ZeroDenominator': '`den` is 0', 'NotFitting': NOT_FITTING.format('reduced fraction')},
+    ('ratio64', 'Ratio', 'new'): {'ZeroDenominator': '`den` is 0',
+                                  'NotFitting': NOT_FITTING.format('reduced fraction')},
     ('ratio64', 'Ratio', 'checked_add'): {'NotFitting': NOT_FITTING.format('sum')},
     ('ratio64', 'Ratio', 'checked_sub'): {'NotFitting': NOT_FITTING.format('difference')},
     ('ratio64', 'Ratio', 'checked_mul'): {'NotFitting': NOT_FITTING.format('product')},

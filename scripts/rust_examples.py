@@ -1,5 +1,5 @@
-"""The sections `# Examples` of the Rust crate: of each sentence `A` is `B` in the comment of a public item one assertion,
-below the `use` lines of their names. `cargo test` runs them."""
+"""The sections `# Examples` of the Rust crate: of each sentence `A` is `B` in the comment of a public item one
+assertion, below the `use` lines of their names. `cargo test` runs them."""
 import functools
 import re
 import textwrap
@@ -58,7 +58,7 @@ def without_examples(lines):
     found = []
     for paragraph in paragraphs(lines):
         text = ' '.join(paragraph)
-        rest = ALONE.sub('', text).strip()
+        rest = text if any(re.match(r'\||- |```', line) for line in paragraph) else ALONE.sub('', text).strip()
         if rest:
             found += ['', *(paragraph if rest == text else textwrap.wrap(rest, WIDTH, break_on_hyphens=False))]
     return found[1:] or lines
