@@ -4,10 +4,8 @@ import functools
 import re
 import textwrap
 
-
 WIDTH = 96                                      # of the lines of a comment
-EXAMPLE = r'`([^`]+)` is (?:`([^`]+)`)?'
-SENTENCE = re.compile(EXAMPLE)
+SENTENCE = re.compile(r'`([^`]+)` is (?:`([^`]+)`)?')
 # A sentence of examples alone.
 ALONE = re.compile(r'(?:(?<=[.] )|^)`[^`]+` is `[^`]+`(?:(?:,|, and| and) `[^`]+` is `[^`]+`)*\.(?: |$)')
 # Sentences of this form that are no examples, each with the reason.
