@@ -1,14 +1,14 @@
 #!/usr/bin/env python3
 """Takes the contracts out of the libraries, and writes one Cargo crate of plain Rust.
 
-    scripts/erase.py [OUT]     crates/NAME/src/*.rt and rust/by_hand/*  ->  OUT/src/*.rs, OUT/tests/examples.rs
+    scripts/erase.py [OUT]     crates/NAME/src/*.rt and rust/by_hand/*  ->  OUT/src/*.rs
 
 OUT is rust/ where none is given. Code stays token by token, with its comments. What goes: `ghost` items, members and
 fields, clauses, `final`, `#[tactic]`, `#[cfg(test)]` items, labels that nothing names, and the traits that are of
 contracts alone. What changes: the first words of paths, the head of `fmt`, the public fields of a struct with an
-invariant, which become readers, bounds and copies (rust_bounds.py), and doc comments, which gain what is proved. What is
-added: the guards of the calls that have a domain (rust_guards.py). A form that is not known here is refused by file and
-line, and then nothing is written."""
+invariant, which become readers, bounds and copies (rust_bounds.py), and comments, which gain sections (rust_docs.py).
+What is added: the guards of the calls that have a domain (rust_guards.py), and `#[must_use]` of public calls that only
+return. A form that is not known here is refused by file and line, and then nothing is written."""
 import pathlib
 import shutil
 import subprocess
@@ -17,7 +17,7 @@ import tempfile
 
 import rust_bounds
 import rust_docs
-import rust_examples
+import rust_errors
 import rust_guards
 from rattle_source import Unknown
 from rust_library import CRATES, ROOT, Library
@@ -36,6 +36,16 @@ NATIVE = {sign + str(width) for sign in 'iu' for width in (8, 16, 32, 64, 128, '
 LOOPS = ('while', 'for', 'loop', '{')
 
 
+# By crate, module and item, or its field: the lint that is allowed there, and why.
+AS_PROVED = 'as it was proved'
+ALLOWED = {
+    ('integer_roots', 'square_root', 'square_root_counted'): ('clippy::manual_div_ceil', AS_PROVED),
+    ('modular', 'representatives', 'Residues.modulus'): ('dead_code', 'contracts alone read it'),
+    ('uses', 'ranking', 'first_to_rise'): ('clippy::manual_find', AS_PROVED),
+    ('uses', 'ranking', 'number_from_zero'): ('clippy::needless_range_loop', AS_PROVED),
+}
+
+
 class Eraser:
     """A file of a crate of the library."""
 
@@ -45,6 +55,7 @@ class Eraser:
         self.kind, self.at, self.refuse = module.source.kind, module.source.at, module.source.refuse
         self.words = {module.source.at(k) for k in range(len(module.source.code))}
         self.fn_clauses, self.guards = set(), rust_guards.Guards(self)
+        self.allowed = {key[2]: lint for key, lint in ALLOWED.items() if key[:2] == (self.crate, '/'.join(module.path))}
 
     def write(self, k, text):
         self.texts[self.source.code[k]] = text
@@ -92,10 +103,14 @@ class Eraser:
             return self.drop_line(item.first, item.last)
         for first, last in item.attributes:
             self.attribute(first, last)
-        rust_docs.add_proved(self, item, owner)
         for k in range(item.first, item.word):
             if self.at(k) == 'final':
                 self.drop(k, k)
+        if self.only_returns(item, owner):
+            self.put_before(item.first, '#[must_use]\n')
+        if item.kind == 'fn':
+            self.allow(item.name, item.first)
+        rust_docs.add_sections(self, item, owner)
         self.guards.add(item, owner)
         if item.kind == 'use':
             return self.use(item)
@@ -109,6 +124,26 @@ class Eraser:
             self.items(item.items, item)
             return self.guards.members(item)
         return self.walk(item.word, item.last)
+
+    def only_returns(self, item, owner):
+        """Whether a call of the item is of no use where its result is not used: a public function that changes nothing.
+        A `Result` has the attribute itself."""
+        if item.kind != 'fn' or self.library.place_of(self.module, item, owner) is None:
+            return False
+        names = [self.at(first + 2) for first, _ in item.attributes]
+        changes = 'mut' in (self.at(k) for k in range(*self.source.parameters(item)))
+        returned = self.source.returned(item)
+        return bool(returned) and not returned.startswith('Result<') and not changes and 'must_use' not in names
+
+    def allow(self, name, k):
+        """Allows at the place what the table allows of the item or the field of this name."""
+        if name in self.allowed:
+            self.put_before(k, '#[allow({})] // {}\n'.format(*self.allowed.pop(name)))
+
+    def put_before(self, k, text):
+        """Writes a text before what is left from the place on."""
+        first = next(i for i in self.source.code[k:] if self.texts[i])
+        self.texts[first] = text + self.texts[first]
 
     def is_test(self, item):
         return any(self.at(first + 2) == 'cfg' and self.at(first + 4) == 'test' for first, _ in item.attributes)
@@ -149,6 +184,8 @@ class Eraser:
     def struct(self, item):
         """A struct. Where a public one has an invariant, its public fields become readers of their names, since other
         code could break the invariant."""
+        for field in item.fields:
+            self.allow(f'{item.name}.{field.name}', field.first)
         ghosts = [field for field in item.fields if field.ghost]
         if ghosts and self.library.place_of(self.module, item) is not None:
             readers = ''.join(self.reader(field) for field in item.fields if field.public and not field.ghost)
@@ -164,18 +201,16 @@ class Eraser:
         self.write(field.place - 1, 'pub(crate)' if self.crate == ROOT else f'pub(in crate::{self.crate})')
         docs = ''.join(self.source.tokens[i].text + '\n' for i in self.source.docs(field))
         docs = docs or f'/// Returns the `{field.name}`.\n'
-        return f'\n{docs}pub fn {field.name}(&self) -> {field.type} {{ self.{field.name} }}\n'
+        return f'\n{docs}#[must_use]\npub fn {field.name}(&self) -> {field.type} {{ self.{field.name} }}\n'
 
     def parameters(self, item):
         """A parameter that only a clause names is unused in Rust."""
-        opening = self.source.angle(item.word + 2)
-        names = {self.at(k) for k in range(opening, self.source.close(opening))
+        names = {self.at(k) for k in range(*self.source.parameters(item))
                  if self.kind(k) == 'word' and self.at(k + 1) == ':' and self.at(k + 2) != ':'}
         clauses = {self.at(k) for clause in item.clauses for k in range(clause.first, clause.last)}
         body = {self.at(k) for k in range(item.open, item.last)} | self.guards.tested if item.open else names
         if names & clauses - body:
-            first = self.source.code[item.first]
-            self.texts[first] = '#[allow(unused_variables)] // its contract alone names a parameter\n' + self.texts[first]
+            self.put_before(item.first, '#[allow(unused_variables)] // its contract alone names a parameter\n')
 
     # ---- code
 
@@ -243,6 +278,8 @@ class Eraser:
         """The file as Rust."""
         self.items(self.module.items)
         self.guards.finish()
+        if self.allowed:
+            raise Unknown(f'{self.source.path}: no {", ".join(self.allowed)}, which scripts/erase.py allows a lint')
         for k in range(len(self.source.code)):
             text = self.texts[self.source.code[k]]
             if text and (self.at(k) in RATTLE or self.kind(k) in ('sign', 'word') and not self.at(k).isascii()):
@@ -251,12 +288,19 @@ class Eraser:
                        for token, text in zip(self.source.tokens, self.texts))
 
 
+def made_from(source):
+    """The first line of a file that is made."""
+    return f'// @generated by scripts/erase.py from {source}; do not edit\n'
+
+
 def head_of_root(rust):
     """The root of the Rust crate: the head by hand, the modules, and what `num_integer` exports."""
     modules = ''.join(f'{kind} {crate};\n' for crate, kind in CRATES.items() if kind)
     by_hand = ''.join(f'mod {name};\n' for name in MADE_BY_HAND)
-    items = ''.join(line for line in rust.splitlines(True) if not line.startswith('//!')).lstrip()
-    return (BY_HAND / 'head.rs').read_text() + '\npub mod definitions;\n' + by_hand + modules + items
+    made, *lines = rust.splitlines(True)
+    items = ''.join(line for line in lines if not line.startswith('//!')).lstrip()
+    head = made.replace(';', ' and rust/by_hand/head.rs;') + (BY_HAND / 'head.rs').read_text()
+    return head + '\npub mod definitions;\n' + by_hand + modules + items
 
 
 def write(out):
@@ -269,15 +313,16 @@ def write(out):
         rust, place = eraser.rust(), module.rust_file()
         target = out / 'src' / place
         target.parent.mkdir(parents=True, exist_ok=True)
+        rust = made_from(module.source.path) + rust
         target.write_text(head_of_root(rust) if place == 'lib.rs' else rust)
+    rust_errors.see_all_used()
     for name in MADE_BY_HAND:
-        shutil.copy(BY_HAND / f'{name}.rs', out / 'src')
+        by_hand = (BY_HAND / f'{name}.rs').read_text()
+        (out / 'src' / f'{name}.rs').write_text(made_from(f'rust/by_hand/{name}.rs') + by_hand)
     words = rust_docs.definitions(page, (BY_HAND / 'definitions.md').read_text())
-    (out / 'src' / 'definitions.rs').write_text(words)
-    (out / 'tests').mkdir()
-    (out / 'tests' / 'examples.rs').write_text(rust_examples.examples(library))
-    files = [str(out / 'src' / 'lib.rs'), str(out / 'tests' / 'examples.rs')]
-    formatted = subprocess.run(['rustfmt', '--edition', '2021', *files], capture_output=True, text=True)
+    (out / 'src' / 'definitions.rs').write_text(made_from('crates/*/specs and rust/by_hand/definitions.md') + words)
+    formatted = subprocess.run(['rustfmt', '--edition', '2021', str(out / 'src' / 'lib.rs')],
+                               capture_output=True, text=True)
     if formatted.returncode or formatted.stderr:
         raise Unknown('what is left is no Rust:\n' + formatted.stderr.replace(f'{out}/', ''))
 
@@ -290,9 +335,7 @@ def main():
         except Unknown as form:
             sys.exit(f'erase.py: {form}')
         shutil.rmtree(out / 'src', ignore_errors=True)
-        (out / 'tests').mkdir(parents=True, exist_ok=True)
         shutil.copytree(pathlib.Path(made) / 'src', out / 'src')
-        shutil.copy(pathlib.Path(made) / 'tests' / 'examples.rs', out / 'tests')
 
 
 if __name__ == '__main__':

@@ -145,6 +145,18 @@ class Source:
         return [i for i in range(start, stop) if self.tokens[i].kind == 'line'
                 and re.match(r'///(?!/)', self.tokens[i].text)]
 
+    def parameters(self, item):
+        """The places of the brackets around the parameters of a function."""
+        opening = self.angle(item.word + 2)
+        return opening, self.close(opening)
+
+    def returned(self, item):
+        """The type that a function returns, or an empty text."""
+        first = self.parameters(item)[1] + 1
+        if self.at(first) + self.at(first + 1) != '->':
+            return ''
+        return self.text(first + 2, self.end(first + 2, ';{', CLAUSES + ('where',)) - 1).strip()
+
     def imports(self, item):
         """The paths that a `use` imports, each with the name that it gives."""
         found, prefixes, path, k = [], [], [], item.word + 1

@@ -1,10 +1,11 @@
 #!/usr/bin/env bash
 # Checks the crate of plain Rust in rust/ and the package of exports in rust/c: their sources are those that
-# scripts/erase.py and scripts/erase_exports.py make, they build without a warning, the tests of the crate and those of
-# num-integer pass, a guard that is taken out is missed, and the checksums of compare/ are the same. Then the package
-# num-integer of rust/ replaces the original below packages of other authors, and their tests run. Works in a temporary
-# folder, offline, with Debian's packages of these crates, which it installs if it may, and says so. Prints a line for
-# each check, and a count at the end. With --write it writes the sources, and checks nothing.
+# scripts/erase.py and scripts/erase_exports.py make, they build without a warning, the examples and tests of the crate
+# and num-integer's own tests pass, a guard that is taken out is missed, its package is made, and the checksums of
+# compare/ are the same. Then the package num-integer of rust/ replaces the original below packages of other authors,
+# and their tests run. Works in a temporary folder, offline, with Debian's packages of these crates, which it installs
+# if it may, and says so. Prints a line for each check, and a count at the end. With --write it writes the sources, and
+# checks nothing.
 set -uo pipefail
 cd "$(dirname "$0")/.."
 
@@ -53,7 +54,6 @@ has() { command -v "$1" >/dev/null; }
 
 is_made_anew() {
     python3 scripts/erase.py "$work/made" && diff -r "$work/made/src" rust/src &&
-        diff "$work/made/tests/examples.rs" rust/tests/examples.rs &&
         python3 scripts/erase_exports.py "$work/made_exports" && diff -r "$work/made_exports/src" rust/c/src
 }
 
@@ -104,6 +104,23 @@ own_type() {
     touch "$work/own/src/lib.rs"
     cp rust/tests/boxed_type.rs "$work/own/tests"
     (cd "$work/own" && cargo test --offline --test boxed_type)
+}
+
+# The package has the texts of both licences, as the repository has them.
+has_licences() {
+    local name
+    (cd "$work/rust" && cargo package --offline --allow-dirty --list) >"$work/list" || return 1
+    for name in LICENSE-*; do
+        { cmp "$name" "rust/$name" && grep -x "$name" "$work/list"; } || { echo "the package has no $name" && return 1; }
+    done
+}
+
+# The package is made and built, and tests of it pass where it is unpacked.
+package() {
+    without_warnings cargo package --offline --allow-dirty || return 1
+    mkdir "$work/unpacked"
+    tar -xzf "$CARGO_TARGET_DIR"/package/cellarcove-*.crate -C "$work/unpacked" --strip-components 1 || return 1
+    (cd "$work/unpacked" && cargo test --offline --test own_type --test modules)
 }
 
 # num_integer WORD..: builds the package num-integer with the features that the words say.
@@ -178,6 +195,8 @@ if has_packages "${originals[@]}"; then
     check_tests 'its tests in release' without_warnings cargo test --offline --release
     check 'a guard that is taken out is missed' has_each_guard
     check_tests 'a type that is not Copy, of a package that depends on this crate alone' own_type
+    check 'the package has the texts of both licences' has_licences
+    check_tests 'the package is made, and some of its tests where it is unpacked' package
     check 'the package num-integer without features' num_integer --no-default-features
     check 'the package num-integer with all features' num_integer --all-features
     check 'the exports for C' exports cargo build --offline --release

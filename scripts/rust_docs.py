@@ -1,8 +1,11 @@
-"""What is proved, as the doc comments of the Rust crate say it: a section `# Proved` of each public item with clauses, and
-the module `definitions`, which has each word that such a clause cites. The section `# Panics` before it is that of
-rust_guards.py."""
+"""What is proved, as the doc comments of the Rust crate say it: a folded section `Proved` of each public item with
+clauses, and the module `definitions`, which has each word that such a clause cites. Before it stand the sections
+`# Examples` of rust_examples.py, `# Panics` of rust_guards.py and `# Errors` of rust_errors.py."""
 import re
+import textwrap
 
+import rust_errors
+import rust_examples
 from antt_words import Specs, cited, imported
 from rattle_source import Unknown
 from rust_library import CRATES, ROOT
@@ -13,7 +16,11 @@ LIES = rf'(?:{FITS}|All \(λ x\. {FITS}\) [\w.]+|All \w+\.fits result)'
 ONLY_LIES = re.compile(rf'\w+ (?:\w+ )?\{{ {LIES}(?: × {LIES})* \}}')
 # The ghost members of an implementation that say what its calls return. The others are proofs.
 STATED = {'output', 'from_str_gives', 'from_gives', 'is_default', 'cmp', 'partial_cmp', 'next_gives'}
-WIDTH = 100                                     # of the lines of links
+# What the clauses of an item that is no function say.
+SAYS = {'struct': 'Of the source, in Rattle: it holds of each value of the type.',
+        'impl': 'Of the source, in Rattle: what the calls of the trait return.',
+        'trait': 'What the proofs use of an implementation. Of those in this crate it is proved, in Rattle.'}
+WIDTH = 96                                      # of the lines of sentences and links
 # What the pages of the module `definitions` are about.
 PAGES = {'integer_core': 'ranges, division, divisors, Bezout pairs and the turns of their loops',
          'integer_roots': 'averages, roots and the turns of their loops', 'num_integer': 'coefficients and checked calls',
@@ -69,9 +76,17 @@ def section(eraser, item, owner):
         word = eraser.page.add(name, *names[name])
         if word:
             links.append(f'[`{name}`](crate::definitions::{word.crate}#{name.lower()})')
-    head = '# Laws' if item.kind == 'trait' else '# Proved'
+    head = 'Laws' if item.kind == 'trait' else 'Proved'
     links = wrapped('Words:', links + ['[how to read it](crate::definitions)'])
-    return ['', head, '', '```text', *'\n'.join(texts).split('\n'), '```', '', *links]
+    return ['', f'<details><summary>{head}</summary>', '', *in_words(item, {text.split()[0] for text in texts}), '',
+            '```text', *'\n'.join(texts).split('\n'), '```', '', *links, '', '</details>']
+
+
+def in_words(item, words):
+    """The lines before the clauses, which begin with these words."""
+    call = 'where each `requires` holds, the call returns' if 'requires' in words else 'each call returns'
+    then = ', and then each `ensures` holds' if 'ensures' in words else ''
+    return textwrap.wrap(SAYS.get(item.kind, f'Of the source, in Rattle: {call}{then}.'), WIDTH)
 
 
 def wrapped(line, links):
@@ -86,24 +101,38 @@ def wrapped(line, links):
     return lines + [line[:-1] + '.']
 
 
-def add_proved(eraser, item, owner):
-    """Adds the sections to the doc comment of a public item."""
-    source, library = eraser.source, eraser.library
+def place_of(eraser, item, owner):
+    """The public place of an item with a comment, or None."""
     if item.kind == 'impl':
-        public = item.of_trait and library.place_of_type(eraser.module, item.name) is not None
-    else:
-        public = library.place_of(eraser.module, item, owner) is not None
-    if not public or item.kind not in ('fn', 'struct', 'trait', 'impl'):
+        return eraser.library.place_of_type(eraser.module, item.name) if item.of_trait else None
+    return eraser.library.place_of(eraser.module, item, owner)
+
+
+def add_sections(eraser, item, owner):
+    """Adds the sections to the doc comment of a public item."""
+    source, place = eraser.source, place_of(eraser, item, owner)
+    if place is None:
         return
-    lines = eraser.guards.section(item, owner) + section(eraser, item, owner)
-    if lines:
-        docs = source.docs(item)
-        text = '\n'.join(f'/// {line}'.rstrip() for line in (lines if docs else lines[1:]))
-        if docs:
-            eraser.texts[docs[-1]] += '\n' + text
-        else:
-            first = source.code[item.first]
-            eraser.texts[first] = text + '\n' + eraser.texts[first]
+    docs = source.docs(item)
+    prose = [source.tokens[i].text[3:].removeprefix(' ') for i in docs]
+    remarks, panics = eraser.guards.sections(item, owner)
+    sections = remarks + rust_examples.section(eraser, item, place) + panics
+    sections += rust_errors.section(eraser, item, owner)
+    if item.kind in ('fn', 'struct', 'trait', 'impl'):
+        sections += section(eraser, item, owner)
+    if not sections:
+        return
+    lines = rust_examples.without_examples(prose) if docs else []
+    lines = [linked(eraser, f'/// {line}'.rstrip()) for line in lines]
+    lines += [f'/// {line}'.rstrip() for line in (sections if docs else sections[1:])]
+    for i in docs[1:]:
+        eraser.texts[i] = ''
+        if source.tokens[i - 1].kind == 'space':
+            eraser.texts[i - 1] = ''
+    if docs:
+        eraser.texts[docs[0]] = '\n'.join(lines)
+    else:
+        eraser.put_before(item.first, '\n'.join(lines) + '\n')
 
 
 def linked(eraser, comment):

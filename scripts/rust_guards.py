@@ -287,8 +287,8 @@ class Guards:
             test = f'assert!({test}, "{names.fill(row.reason)}");'
         return f'\n{test}'
 
-    def section(self, item, owner):
-        """The lines of the section `# Panics` of a public item."""
+    def sections(self, item, owner):
+        """The remarks on the domain of a public item, and the section `# Panics`, by lines."""
         conditions, others = [], []
         for row, names in self.met(item, owner):
             text = names.fill(row.when)
@@ -298,8 +298,8 @@ class Guards:
         panics = [f'If {", or if ".join(conditions)}.'] if conditions else []
         if any(row.way == LATER for row, _ in self.met(item, owner)):
             panics, others = panics + others, []
-        lines = ['', *wrapped(others)] if others else []
-        return lines + (['', '# Panics', '', *wrapped(panics)] if panics else [])
+        return (['', *wrapped(others)] if others else [],
+                ['', '# Panics', '', *wrapped(panics)] if panics else [])
 
     # ---- after the walk
 

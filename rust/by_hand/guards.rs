@@ -70,7 +70,7 @@ pub(crate) fn expect_pair<T: Integer + Bounded + Copy>(a: T, b: T) {
 #[track_caller]
 pub(crate) fn expect_lcm<T: Integer + CheckedMul>(m: T, n: T) {
     if m.checked_mul(&n).is_none() {
-        m.lcm(&n);
+        let _ = m.lcm(&n);
     }
 }
 

@@ -4,8 +4,8 @@
 //!
 //! But for this page and a few short files, these sources are not written by hand. They are those
 //! of the proved library without their contracts: each body was proved in Rattle, which is Rust with
-//! contracts, for arguments in its domain, against the contract of the same name. The section
-//! `# Proved` of an item has that contract, and [`definitions`] has its words.
+//! contracts, for arguments in its domain, against the contract of the same name. The folded
+//! section `Proved` of an item has that contract, and [`definitions`] has its words.
 //!
 //! A type of your own is an [`Integer`] if it has an order, the operators of `Num` of [`num_traits`],
 //! which is exported here, and eight methods:
@@ -29,9 +29,5 @@
 //! of [`checked`] have no condition: they return `None` there.
 #![no_std]
 #![forbid(unsafe_code)]
-// Some names are those of contracts alone.
-#![allow(dead_code)]
-// Loops and quotients are written as they were proved.
-#![allow(clippy::manual_div_ceil, clippy::manual_find, clippy::needless_range_loop)]
 
 pub use num_traits;
