@@ -17,7 +17,7 @@ import tempfile
 
 import rust_bounds
 import rust_docs
-from erase import BY_HAND, REPOSITORY, Eraser
+from erase import BY_HAND, REPOSITORY, Eraser, made_from
 from rattle_source import Unknown
 from rust_library import CRATES, ROOT, Library
 
@@ -119,6 +119,12 @@ def head_of_package(rust):
     return (BY_HAND / 'exports_head.rs').read_text() + '\n' + modules
 
 
+def made_of(module):
+    """The first line of a file."""
+    by_hand = '' if module.path else ' and rust/by_hand/exports_head.rs'
+    return made_from(f'{module.source.path}{by_hand}', 'erase_exports.py')
+
+
 def write(out, crates):
     """Writes the sources below a folder."""
     library, page = Library(crates), rust_docs.Page(crates)
@@ -130,7 +136,7 @@ def write(out, crates):
         rust, name = eraser.rust(), '/'.join(module.path) or 'lib'
         target = out / 'src' / f'{name}.rs'
         target.parent.mkdir(parents=True, exist_ok=True)
-        target.write_text(rust if module.path else head_of_package(rust))
+        target.write_text(made_of(module) + (rust if module.path else head_of_package(rust)))
     formatted = subprocess.run(['rustfmt', '--edition', '2021', str(out / 'src' / 'lib.rs')], capture_output=True, text=True)
     if formatted.returncode or formatted.stderr:
         raise Unknown('what is left is no Rust:\n' + formatted.stderr.replace(f'{out}/', ''))
