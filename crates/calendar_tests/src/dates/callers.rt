@@ -1,61 +1,24 @@
 //! What callers learn of the calls from their contracts and the laws, each said by a contract of its own.
 
-ghost use Rattle.std.specs.Prelude.{◌≡◌, ◌⊎◌, ◌↔◌, ◌++◌, ◌<◌, ◌≤◌, ◌<ℤ◌, ◌+ℤ◌, pos, All, FitsSigned, IfOk, IfSome, IsTrue, MatchOption, Ok, Some, if◌then◌else◌};
-ghost use Rattle.std.specs.Int.{w64};
+ghost use Rattle.std.specs.Prelude.{◌≡◌, ◌⊎◌, ◌↔◌, ◌++◌, ◌<◌, ◌≤◌, ◌<ℤ◌, ◌+ℤ◌, All, FitsSigned, IfOk, IfSome, IsTrue, MatchOption, Ok, Some, pos};
 ghost use Rattle.std.specs.Hash as written;
+ghost use Rattle.std.specs.Int.{w64};
 ghost use Rattle.std.specs.List.{fold};
 ghost use Rattle.std.specs.Option.{SomeIff};
-ghost use Rattle.num_integer.specs.Divisors.{Divides};
-ghost use Rattle.num_integer.specs.Only.{IsOnly};
 ghost use Rattle.calendar.specs.Dates.{IsMonthsAfter, number_of};
+ghost use Rattle.calendar.specs.Easter.{IsEaster};
 ghost use Rattle.calendar.specs.LeapYears.{is_leap_year};
 ghost use Rattle.calendar.specs.Months.{month_number};
-ghost use Rattle.calendar.specs.Easter.{IsEaster};
-ghost use Rattle.calendar.specs.Laws.{DateIsOnly, DateOfPartsIsOnly, DateOfYearDayIsOnly, EarlierFullMoons, EasterIsOnly, EpactOfTheFirstYear, EpactOfTheNextYear, FirstDay, FirstWeekdayIsOnly, FullMoonsDiffer, IsoDayIsOnly, IsoNumberIsOnly, IsoWeekIsOnly, IsoWeeksAreOnly, LastWeekdayIsOnly, LastWeekdayOfMonthIsOnly, LeapYearsByDivisors, LengthsOfYears, LunarCorrectionOfTwentyFiveCenturies, LunarCorrectionsFrom1800, MonthsAfterIsOnly, MonthsBetweenIsOnly, NthWeekdayIsOnly, OrderOfDates, OrderOfIsoWeeks, SolarCorrectionOfTheNextCentury, TextIsOnly, WeekdayIsOnly, WeekdaysFollow, WeeksOfAYear, YearOfDayIsOnly, YearsFollow};
 ghost use Rattle.calendar.specs.Weeks.{HasWeekday};
 ghost use Rattle.calendar.specs.declared.date.Date.{Date};
+ghost use Rattle.num_integer.specs.Divisors.{Divides};
+ghost use Rattle.num_integer.specs.Only.{IsOnly};
 
 use calendar::{
     Date, DateError, IsoWeek, Weekday, days_between, days_in_month, easter, is_leap_year,
 };
 use std::alloc::{AllocError, Global};
 use std::hash::{Hash, Hasher};
-
-/// The laws of the calendar, each proved by its lemma.
-fn laws()
-    ensures leap_years_by_divisors { LeapYearsByDivisors }
-    ensures lengths_of_years { LengthsOfYears }
-    ensures years_follow { YearsFollow }
-    ensures first_day { FirstDay }
-    ensures year_of_day_is_only { YearOfDayIsOnly }
-    ensures date_of_parts_is_only { DateOfPartsIsOnly }
-    ensures date_is_only { DateIsOnly }
-    ensures date_of_year_day_is_only { DateOfYearDayIsOnly }
-    ensures order_of_dates { OrderOfDates }
-    ensures text_is_only { TextIsOnly }
-    ensures months_after_is_only { MonthsAfterIsOnly }
-    ensures nth_weekday_is_only { NthWeekdayIsOnly }
-    ensures months_between_is_only { MonthsBetweenIsOnly }
-    ensures last_weekday_of_month_is_only { LastWeekdayOfMonthIsOnly }
-    ensures iso_number_is_only { IsoNumberIsOnly }
-    ensures weekday_is_only { WeekdayIsOnly }
-    ensures weekdays_follow { WeekdaysFollow }
-    ensures first_weekday_is_only { FirstWeekdayIsOnly }
-    ensures last_weekday_is_only { LastWeekdayIsOnly }
-    ensures iso_week_is_only { IsoWeekIsOnly }
-    ensures iso_day_is_only { IsoDayIsOnly }
-    ensures weeks_of_a_year { WeeksOfAYear }
-    ensures iso_weeks_are_only { IsoWeeksAreOnly }
-    ensures order_of_iso_weeks { OrderOfIsoWeeks }
-    ensures easter_is_only { EasterIsOnly }
-    ensures full_moons_differ { FullMoonsDiffer }
-    ensures earlier_full_moons { EarlierFullMoons }
-    ensures epact_of_the_first_year { EpactOfTheFirstYear }
-    ensures epact_of_the_next_year { EpactOfTheNextYear }
-    ensures solar_correction_of_the_next_century { SolarCorrectionOfTheNextCentury }
-    ensures lunar_corrections_from_1800 { LunarCorrectionsFrom1800 }
-    ensures lunar_correction_of_twenty_five_centuries { LunarCorrectionOfTwentyFiveCenturies }
-{}
 
 /// The date of the day of a date is the date.
 fn date_again(date: &Date) -> Option<Date>

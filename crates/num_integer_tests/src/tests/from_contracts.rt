@@ -1,13 +1,12 @@
 //! What callers learn of the calls from their contracts alone, each said by a contract of its own.
 
-ghost use Rattle.std.specs.Prelude.{◌≡◌, ◌≢◌, ◌⊎◌, ◌↔◌, ◌<◌, ◌-◌, ◌^◌, ◌<ℤ◌, ◌+ℤ◌, ◌*ℤ◌, pos, unsigned_abs, [], None, IfOk, IsTrue, FitsSigned, map, length};
+ghost use Rattle.std.specs.Prelude.{◌≡◌, ◌≢◌, ◌⊎◌, ◌↔◌, ◌<◌, ◌^◌, ◌<ℤ◌, ◌+ℤ◌, ◌*ℤ◌, FitsSigned, IfOk, IsTrue, None, [], length, map, pos, unsigned_abs};
 ghost use Rattle.std.specs.Int.{FitsUnsignedBits, w8};
 ghost use Rattle.std.specs.List.{All};
 ghost use Rattle.num_integer.specs.Bezout.{HasPair};
 ghost use Rattle.num_integer.specs.Division.{HaveSameSign, IsFloored, IsQuotient};
 ghost use Rattle.num_integer.specs.Divisors.{GcdFits, IsGreatestCommonDivisor};
 ghost use Rattle.num_integer.specs.Range.{EachFits};
-ghost use Rattle.num_integer.specs.Laws.{DivisionExists, DivisionIsOnly, QuotientIsOnly, RemainderIsOnly, MultipleIsOnly, FlooredPartsAddUp, NegationTurnsMultiples, GcdExists, GcdIsOnly, GcdIsSymmetric, GcdOfZeros, GcdFitsExactly, LcmExists, LcmIsOnly, LcmIsSymmetric, GcdTimesLcm, GcdTurnsAreOnly, BitLengthExists, BitLengthIsOnly, BezoutAnswerExists, BezoutAnswerIsOnly, EuclidTurnsAreOnly, AverageFloorIsOnly, AverageCeilIsOnly, AveragesAreNeighbours, RootIsOnly, FirstRoot, SquareRootTurnsAreOnly, CoefficientMirror, CoefficientAboveRow, FactorialFormula, MultinomialFormula, MultinomialIsOnly, MultinomialIgnoresOrder, RowLength, RowIsPalindrome, RowIsGreatestInMiddle};
 ghost use Rattle.num_integer.specs.Row.{RowFits, row_of};
 
 use num_integer::counted::extended_gcd_counted;
@@ -15,51 +14,6 @@ use num_integer::{
     ExtendedGcd, Fits, Integer, IterBinomial, div_floor, div_mod_floor, gcd, mod_floor,
 };
 use std::alloc::{AllocError, Global};
-
-/// The laws of the definitions, each proved by its lemma; `law_of_gcd_fits` has the one of a type.
-fn laws()
-    ensures division_exists { DivisionExists }
-    ensures division_is_only { DivisionIsOnly }
-    ensures quotient_is_only { QuotientIsOnly }
-    ensures remainder_is_only { RemainderIsOnly }
-    ensures multiple_is_only { MultipleIsOnly }
-    ensures floored_parts_add_up { FlooredPartsAddUp }
-    ensures negation_turns_multiples { NegationTurnsMultiples }
-    ensures gcd_exists { GcdExists }
-    ensures gcd_is_only { GcdIsOnly }
-    ensures gcd_is_symmetric { GcdIsSymmetric }
-    ensures gcd_of_zeros { GcdOfZeros }
-    ensures lcm_exists { LcmExists }
-    ensures lcm_is_only { LcmIsOnly }
-    ensures lcm_is_symmetric { LcmIsSymmetric }
-    ensures gcd_times_lcm { GcdTimesLcm }
-    ensures gcd_turns_are_only { GcdTurnsAreOnly }
-    ensures bit_length_exists { BitLengthExists }
-    ensures bit_length_is_only { BitLengthIsOnly }
-    ensures bezout_answer_exists { BezoutAnswerExists }
-    ensures bezout_answer_is_only { BezoutAnswerIsOnly }
-    ensures euclid_turns_are_only { EuclidTurnsAreOnly }
-    ensures average_floor_is_only { AverageFloorIsOnly }
-    ensures average_ceil_is_only { AverageCeilIsOnly }
-    ensures averages_are_neighbours { AveragesAreNeighbours }
-    ensures root_is_only { RootIsOnly }
-    ensures first_root { FirstRoot }
-    ensures square_root_turns_are_only { SquareRootTurnsAreOnly }
-    ensures coefficient_mirror { CoefficientMirror }
-    ensures coefficient_above_row { CoefficientAboveRow }
-    ensures factorial_formula { FactorialFormula }
-    ensures multinomial_formula { MultinomialFormula }
-    ensures multinomial_is_only { MultinomialIsOnly }
-    ensures multinomial_ignores_order { MultinomialIgnoresOrder }
-    ensures row_length { RowLength }
-    ensures row_is_palindrome { RowIsPalindrome }
-    ensures row_is_greatest_in_middle { RowIsGreatestInMiddle }
-{}
-
-/// The law of a lawful type: `GcdFits` says exactly that the divisor fits.
-fn law_of_gcd_fits<T: Integer>()
-    ensures { GcdFitsExactly T.fits }
-{}
 
 /// The condition of `gcd` says that the divisor fits, at a type without -1 too.
 fn gcd_that_fits<T: Integer>(a: T, b: T) -> T

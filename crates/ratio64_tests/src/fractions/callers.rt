@@ -1,38 +1,17 @@
 //! What callers learn of the calls from their contracts alone, each said by a contract of its own.
 
-ghost use Rattle.std.specs.Prelude.{◌≡◌, ◌≢◌, ◌↔◌, ◌++◌, ◌<ℤ◌, ◌+ℤ◌, ◌*ℤ◌, ℤ, pos, IfOk, IfSome, IsTrue, MatchOption};
+ghost use Rattle.std.specs.Prelude.{◌≡◌, ◌≢◌, ◌↔◌, ◌++◌, ◌<ℤ◌, ◌+ℤ◌, ◌*ℤ◌, IfOk, IfSome, IsTrue, MatchOption, pos, ℤ};
 ghost use Rattle.std.specs.Hash as written;
 ghost use Rattle.std.specs.List.{fold};
 ghost use Rattle.num_integer.specs.Only.{IsOnly};
-ghost use Rattle.ratio64.specs.Fraction.{AreEqual, IsExact, IsFraction, IsReduced, IsOutsideI64, fraction_cmp};
-ghost use Rattle.ratio64.specs.Laws.{AnswerIsOnly, EqualFractionsHaveOneResult, ExactResultExists, ExactResultIsOnly, NearestIsOnly, OrderAgreesWithEquality, OrderIsTotal, OrderOverOneDenominator, ProductsOfEqualFractions, RatioOfPartsIsOnly, ReadingIsOnly, ReducedPairsAreEqualWhereSame, RoundedIsOnly, SumsOfEqualFractions, TextIsReadBack};
+ghost use Rattle.ratio64.specs.Fraction.{AreEqual, IsExact, IsFraction, IsOutsideI64, IsReduced, fraction_cmp};
 ghost use Rattle.ratio64.specs.Limiting.{IsNearestWithin};
-ghost use Rattle.ratio64.specs.Ratio.{num_of, den_of};
-ghost use Rattle.ratio64.specs.declared.fraction.Ratio.{Ratio};
+ghost use Rattle.ratio64.specs.Ratio.{den_of, num_of};
 
 use num_integer::Integer;
 use ratio64::{Ratio, RatioError};
 use std::cmp::Ordering;
 use std::hash::{Hash, Hasher};
-
-/// The laws of fractions, each proved by its lemma.
-fn laws()
-    ensures exact_result_exists { ExactResultExists }
-    ensures exact_result_is_only { ExactResultIsOnly }
-    ensures equal_fractions_have_one_result { EqualFractionsHaveOneResult }
-    ensures reduced_pairs_are_equal_where_same { ReducedPairsAreEqualWhereSame }
-    ensures ratio_of_parts_is_only { RatioOfPartsIsOnly }
-    ensures answer_is_only { AnswerIsOnly }
-    ensures order_is_total { OrderIsTotal Ratio num_of den_of }
-    ensures order_agrees_with_equality { OrderAgreesWithEquality }
-    ensures order_over_one_denominator { OrderOverOneDenominator }
-    ensures rounded_is_only { RoundedIsOnly }
-    ensures nearest_is_only { NearestIsOnly }
-    ensures sums_of_equal_fractions { SumsOfEqualFractions }
-    ensures products_of_equal_fractions { ProductsOfEqualFractions }
-    ensures reading_is_only { ReadingIsOnly }
-    ensures text_is_read_back { TextIsReadBack }
-{}
 
 /// The parts of the exact result, and no others, or `None` where one of them is too wide.
 fn exact_parts(num: i64, den: i64) -> Option<(i64, i64)>

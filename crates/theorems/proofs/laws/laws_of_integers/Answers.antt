@@ -1,8 +1,8 @@
 use Rattle.num_integer.proofs.Laws as law
-use Rattle.num_integer_tests.proofs.tests.from_contracts.laws.Goals as goal
+use Rattle.theorems.proofs.laws.laws_of_integers.Goals as goal
 
 pub returns : goal.returns
-returns c = record {
+returns g c = record {
   division_exists = law.division_exists;
   division_is_only = law.division_is_only;
   quotient_is_only = law.quotient_is_only;
@@ -14,6 +14,7 @@ returns c = record {
   gcd_is_only = law.gcd_is_only;
   gcd_is_symmetric = law.gcd_is_symmetric;
   gcd_of_zeros = law.gcd_of_zeros;
+  gcd_fits_exactly = law.gcd_fits_exactly g.T.Number.fits;
   lcm_exists = law.lcm_exists;
   lcm_is_only = law.lcm_is_only;
   lcm_is_symmetric = law.lcm_is_symmetric;

@@ -1,5 +1,5 @@
 use Rattle.calendar.proofs.Laws as law
-use Rattle.calendar_tests.proofs.dates.callers.laws.Goals as goal
+use Rattle.theorems.proofs.laws.laws_of_dates.Goals as goal
 
 pub returns : goal.returns
 returns c = record {

@@ -1,6 +1,6 @@
 use Rattle.ratio64.proofs.Laws as law
 use Rattle.ratio64.specs.Ratio.{den_of, num_of}
-use Rattle.ratio64_tests.proofs.fractions.callers.laws.Goals as goal
+use Rattle.theorems.proofs.laws.laws_of_fractions.Goals as goal
 
 pub returns : goal.returns
 returns c = record {
