@@ -1,11 +1,9 @@
 //! Dates: known ones, the ends of `i64`, and leap years.
 
 mod ages;
-mod callers;
 mod days;
 mod feasts;
 mod iso_weeks;
-mod matched;
 mod months;
 mod pay_days;
 mod texts;

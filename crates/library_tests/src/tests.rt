@@ -4,6 +4,5 @@ mod answers;
 mod assertions;
 mod calls;
 mod cookbook;
-mod laws;
 mod residues;
 mod rows;

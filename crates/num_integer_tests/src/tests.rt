@@ -6,7 +6,6 @@ mod calls;
 mod coefficients;
 mod division;
 mod divisors;
-mod from_contracts;
 mod gcd_turns;
 mod multiples;
 mod own_pairs;

@@ -1,9 +1,7 @@
 //! Fractions: worked values, and the ends of `i64`.
 
-mod callers;
 mod errors;
 mod limited;
-mod matched;
 mod one_fraction;
 mod operations;
 mod parsing;

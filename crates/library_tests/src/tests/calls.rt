@@ -1,11 +1,6 @@
 //! Calls of `uses`: worked values.
 
-mod checked;
-mod lemmas;
-mod matched;
-mod plain;
 mod powers;
-mod ranges;
 mod ranking;
 mod rolling_hash;
 mod rows;

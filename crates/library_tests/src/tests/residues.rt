@@ -1,11 +1,9 @@
 //! Residues: worked values at native types, the ends of each of them, and a type that the library does not
 //! know.
 
-mod callers;
 mod cents;
 mod ciphers;
 mod congruences;
-mod matched;
 mod own_numbers;
 mod residue_ends;
 

@@ -1,7 +1,6 @@
 //! Worked ranks and choices, and the choices that follow them.
 
-ghost use Rattle.std.specs.Prelude.{◌≡◌, ◌+◌, ◌<◌, ◌^◌, IfSome, IsTrue, length};
-ghost use Rattle.num_integer.specs.Coefficient.{coefficient};
+ghost use Rattle.std.specs.Prelude.{◌≡◌, ◌<◌, IfSome};
 ghost use Rattle.uses.specs.Ranking.{IsChoice, rank_of};
 
 use crate::tests::assertions::holds_at;
@@ -66,14 +65,6 @@ fn rank_of_counted(numbers: &[u64], n: u64) -> Option<u64> {
     }
 }
 
-/// The rank of numbers that are known to be a choice, where the number of choices of their length fits.
-fn rank_of_known(numbers: &[u64], n: u64) -> u64
-    requires choice { IsChoice n numbers.now }
-    requires count_fits { coefficient n (length numbers.now) < 2 ^ 64 }
-{
-    rank(numbers, n)
-}
-
 #[test]
 fn ranks_of_read_numbers(rt: HostRuntime) {
     let mut forty = [0; 40];
@@ -97,7 +88,6 @@ fn ranks_of_read_numbers(rt: HostRuntime) {
 #[test]
 fn ranks(rt: HostRuntime) {
     assert!(rt; rank(&[0, 1, 2], 5) == 0 && rank(&[0, 2, 3], 5) == 2 && rank(&[2, 3, 4], 5) == 9);
-    assert!(rt; rank_of_known(&[0, 2, 3], 5) == 2);
     assert!(rt; rank(&[], 5) == 0 && rank(&[3], 5) == 3 && rank(&[0, 1, 2, 3, 4], 5) == 0);
 }
 
@@ -141,15 +131,6 @@ fn great_choices(rt: HostRuntime) {
     assert!(rt; most[0] == 2 && most[49] == 51 && most[97] == 99);
 }
 
-/// The choice two ranks on, where there is one.
-fn two_further(choice: &mut [u64], n: u64) -> bool
-    requires { IsChoice n choice.old }
-    ensures choice { IsChoice n choice.new }
-    ensures rank { IsTrue result → rank_of choice.new ≡ rank_of choice.old + 2 }
-{
-    next_choice(choice, n) && next_choice(choice, n)
-}
-
 #[tactic(auto, unfolding(num_integer::specs::Coefficient::coefficient))]
 #[test]
 fn next_choices(rt: HostRuntime) {
@@ -158,7 +139,8 @@ fn next_choices(rt: HostRuntime) {
     let mut last = [u64::MAX - 1];
     assert!(rt; !next_choice(&mut last, u64::MAX) && last == [u64::MAX - 1]);
     let mut wide = [0, u64::MAX - 3, u64::MAX - 2];
-    assert!(rt; two_further(&mut wide, u64::MAX) && wide == [2, u64::MAX - 3, u64::MAX - 2]);
+    assert!(rt; next_choice(&mut wide, u64::MAX) && next_choice(&mut wide, u64::MAX));
+    assert!(rt; wide == [2, u64::MAX - 3, u64::MAX - 2]);
     let mut none: [u64; 0] = [];
     assert!(rt; !next_choice(&mut none, 0));
 }

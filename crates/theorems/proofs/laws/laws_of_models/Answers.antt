@@ -1,0 +1,15 @@
+use Rattle.uses.proofs.Laws as law
+use Rattle.theorems.proofs.laws.laws_of_models.Goals as goal
+
+pub returns : goal.returns
+returns g c = record {
+  pages_are_only = law.pages_are_only;
+  parts_differ_by_one = law.parts_differ_by_one;
+  aligned_up_is_only = law.aligned_up_is_only;
+  padding_is_only = law.padding_is_only;
+  least_time_is_only = law.least_time_is_only g.T.Number.value _ _;
+  choice_of_rank_is_only = law.choice_of_rank_is_only;
+  rank_is_below = law.rank_is_below;
+  midpoint_is_only = law.midpoint_is_only;
+  lower_bound_is_only = law.lower_bound_is_only g.T.Number.value;
+}

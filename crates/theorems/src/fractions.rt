@@ -1,0 +1,422 @@
+//! Calls of `ratio64`: what a caller learns from their contracts and the laws, and results that a caller matches on or loops over.
+
+ghost use Rattle.std.specs.Prelude.{◌≡◌, ◌≢◌, ◌↔◌, ◌++◌, ◌<ℤ◌, ◌+ℤ◌, ◌*ℤ◌, ◌^◌, ◌-ℤ◌, Err, IfOk, IfSome, IsOk, IsTrue, MatchOption, neg_ℤ, pos, unsigned_abs, ℤ};
+ghost use Rattle.std.specs.Hash as written;
+ghost use Rattle.std.specs.Int.{int_pow};
+ghost use Rattle.std.specs.List.{fold};
+ghost use Rattle.num_integer.specs.Division.{IsCeiled, IsFloored, IsQuotient};
+ghost use Rattle.num_integer.specs.Only.{IsOnly};
+ghost use Rattle.ratio64.specs.Fraction.{AreEqual, IsExact, IsFraction, IsOutsideI64, IsReduced, fraction_cmp};
+ghost use Rattle.ratio64.specs.Limiting.{IsNearestWithin};
+ghost use Rattle.ratio64.specs.Ratio.{den_of, num_of};
+ghost use Rattle.ratio64.specs.Rounding.{IsRounded};
+
+use num_integer::Integer;
+use ratio64::{ParseRatioError, Ratio, RatioError};
+use std::cmp::Ordering;
+use std::hash::{Hash, Hasher};
+
+// ---- what follows from the contracts
+
+/// The parts of the exact result, and no others, or `None` where one of them is too wide.
+pub fn exact_parts(num: i64, den: i64) -> Option<(i64, i64)>
+    requires { IsFraction num den }
+    ensures parts { MatchOption result (IsOutsideI64 num den) (λ p. IsExact num den p.0 p.1) }
+    ensures only { IfSome result (λ p. IsOnly (λ (n, d). IsExact num den n d) (p.0, p.1)) }
+{
+    match Ratio::new(num, den) {
+        Ok(x) => Some((x.num(), x.den())),
+        Err(_) => None,
+    }
+}
+
+/// The parts of a sum, or `None` where one of them is too wide.
+pub fn parts_of_sum(x: &Ratio, y: &Ratio) -> Option<(i64, i64)>
+    ensures { MatchOption result
+        (IsOutsideI64 (num_of x.now *ℤ den_of y.now +ℤ num_of y.now *ℤ den_of x.now)
+        (den_of x.now *ℤ den_of y.now))
+        (λ p. IsExact (num_of x.now *ℤ den_of y.now +ℤ num_of y.now *ℤ den_of x.now)
+        (den_of x.now *ℤ den_of y.now) p.0 p.1) }
+{
+    match x.checked_add(y) {
+        Ok(sum) => Some((sum.num(), sum.den())),
+        Err(_) => None,
+    }
+}
+
+/// Whether the fraction is a whole number, also where `Ratio::new` refuses it: MIN / -1 is one.
+pub fn is_whole(num: i64, den: i64) -> bool
+    requires { IsFraction num den }
+    ensures { IsTrue result ↔ ((n d : ℤ) → IsExact num den n d → d ≡ pos 1) }
+{
+    num.is_multiple_of(&den)
+}
+
+/// One of `parts` equal parts of 1, which is never refused.
+pub fn one_of(parts: u32) -> Ratio
+    requires { parts ≢ 0 }
+    ensures { IsExact (pos 1) (pos parts) (num_of result) (den_of result) }
+{
+    Ratio::new(1, i64::from(parts)).unwrap()
+}
+
+/// The number as a fraction, which is never refused.
+pub fn whole(number: i64) -> Ratio
+    ensures num { num_of result ≡ number }
+    ensures den { den_of result ≡ pos 1 }
+{
+    Ratio::new(number, 1).unwrap()
+}
+
+/// The number as a fraction, by the conversion.
+pub fn converted(number: i64) -> Ratio
+    ensures num { num_of result ≡ number }
+    ensures den { den_of result ≡ pos 1 }
+{
+    Ratio::from(number)
+}
+
+/// Whether the fraction is 0, which is 0 over 1.
+pub fn is_zero(x: &Ratio) -> bool
+    ensures { IsTrue result ↔ ((num_of x.now ≡ pos 0) × (den_of x.now ≡ pos 1)) }
+{
+    x.num() == 0
+}
+
+/// The fraction `c / d`, made of an equal one.
+pub fn of_equal(a: i64, b: i64, c: i64, d: i64) -> Result<Ratio, RatioError>
+    requires fraction { IsFraction c d }
+    requires equal { AreEqual a b c d }
+    ensures { IfOk result (λ x. IsExact c d (num_of x) (den_of x)) }
+{
+    Ratio::new(a, b)
+}
+
+/// The sum of the fractions `a / b` and `c / d`, where both fit.
+pub fn sum_of_given(a: i64, b: i64, c: i64, d: i64) -> Result<Ratio, RatioError>
+    requires first { IsFraction a b }
+    requires second { IsFraction c d }
+    ensures { IfOk result (λ x. IsExact (a *ℤ d +ℤ c *ℤ b) (b *ℤ d) (num_of x) (den_of x)) }
+{
+    Ratio::new(a, b)?.checked_add(&Ratio::new(c, d)?)
+}
+
+/// The product of the fractions `a / b` and `c / d`, where both fit.
+pub fn product_of_given(a: i64, b: i64, c: i64, d: i64) -> Result<Ratio, RatioError>
+    requires first { IsFraction a b }
+    requires second { IsFraction c d }
+    ensures { IfOk result (λ x. IsExact (a *ℤ c) (b *ℤ d) (num_of x) (den_of x)) }
+{
+    Ratio::new(a, b)?.checked_mul(&Ratio::new(c, d)?)
+}
+
+/// Each value is reduced.
+pub fn reduced_parts(x: &Ratio) -> (i64, i64)
+    ensures { IsReduced result.0 result.1 }
+{
+    (x.num(), x.den())
+}
+
+/// Two values are equal where their fractions are.
+pub fn are_equal(x: &Ratio, y: &Ratio) -> bool
+    ensures { IsTrue result
+        ↔ AreEqual (num_of x.now) (den_of x.now) (num_of y.now) (den_of y.now) }
+{
+    x == y
+}
+
+/// Two values compare as their fractions do.
+pub fn compared(x: &Ratio, y: &Ratio) -> Ordering
+    ensures { result
+        ≡ fraction_cmp (num_of x.now) (den_of x.now) (num_of y.now) (den_of y.now) }
+{
+    x.cmp(y)
+}
+
+/// Whether three ascend, where the first is below the last.
+pub fn ascend(x: &Ratio, y: &Ratio, z: &Ratio) -> bool
+    ensures { IsTrue result → fraction_cmp (num_of x.now) (den_of x.now) (num_of z.now)
+        (den_of z.now) ≡ Ordering.Less }
+{
+    matches!((x.cmp(y), y.cmp(z)), (Ordering::Less, Ordering::Less))
+}
+
+/// On which side of the second the first lies: -1 below it, 0 at it, 1 above it.
+pub fn side(x: &Ratio, y: &Ratio) -> i64
+    ensures below { (result <ℤ pos 0)
+        ↔ ((num_of x.now *ℤ den_of y.now) <ℤ (num_of y.now *ℤ den_of x.now)) }
+    ensures level { (result ≡ pos 0)
+        ↔ (num_of x.now *ℤ den_of y.now ≡ num_of y.now *ℤ den_of x.now) }
+    ensures above { (pos 0 <ℤ result)
+        ↔ ((num_of y.now *ℤ den_of x.now) <ℤ (num_of x.now *ℤ den_of y.now)) }
+{
+    match x.cmp(y) {
+        Ordering::Less => -1,
+        Ordering::Equal => 0,
+        Ordering::Greater => 1,
+    }
+}
+
+/// Whether the first is the smaller.
+pub fn is_less(x: &Ratio, y: &Ratio) -> bool
+    ensures { IsTrue result
+        ↔ ((num_of x.now *ℤ den_of y.now) <ℤ (num_of y.now *ℤ den_of x.now)) }
+{
+    x < y
+}
+
+/// Of two fractions over one denominator the one of the lesser numerator is the lesser.
+pub fn over_one_denominator(x: &Ratio, y: &Ratio) -> Ordering
+    requires denominator { den_of x.now ≡ den_of y.now }
+    requires numerators { num_of x.now <ℤ num_of y.now }
+    ensures { result ≡ Ordering.Less }
+{
+    x.cmp(y)
+}
+
+/// The nearest fraction that is known is the one that is found.
+pub fn nearest_again(x: &Ratio, max: i64, num: i64, den: i64) -> (i64, i64)
+    requires positive { pos 0 <ℤ max }
+    requires nearest { IsNearestWithin (num_of x.now) (den_of x.now) max num den }
+    ensures { result ≡ (num, den) }
+{
+    let nearest = x.limit_denominator(max);
+    (nearest.num(), nearest.den())
+}
+
+/// Equal values change a hasher alike.
+pub fn hash_both<H: Hasher>(x: &Ratio, y: &Ratio, first: &mut H, second: &mut H)
+    requires equal { AreEqual (num_of x.now) (den_of x.now) (num_of y.now) (den_of y.now) }
+    requires same { first.old ≡ second.old }
+    ensures { first.new ≡ second.new }
+{
+    x.hash(first);
+    y.hash(second);
+}
+
+/// A hasher is given the numerator, then the denominator.
+pub fn hash_of_parts<H: Hasher>(x: &Ratio, state: &mut H)
+    ensures { state.new ≡ fold H.write state.old
+        (written.i64 (num_of x.now) ++ written.i64 (den_of x.now)) }
+{
+    x.hash(state);
+}
+
+// ---- results that a caller matches on or loops over, with no proof file
+
+/// A fraction, its parts, and its neighbours among the whole numbers.
+pub fn three_halves_below() -> Result<(i64, i64, i64, i64), RatioError> {
+    let x = Ratio::new(6, -4)?; // -3/2
+    Ok((x.num(), x.den(), x.floor(), x.ceil())) // (-3, 2, -2, -1)
+}
+
+/// The whole numbers that the fraction lies between.
+pub fn neighbours(x: &Ratio) -> (i64, i64)
+    ensures floor { IsQuotient IsFloored (num_of x.now) (den_of x.now) result.0 }
+    ensures ceil { IsQuotient IsCeiled (num_of x.now) (den_of x.now) result.1 }
+{
+    (x.floor(), x.ceil())
+}
+
+/// The sum of three fractions. `?` passes each refusal on.
+pub fn sum_of_three(x: &Ratio, y: &Ratio, z: &Ratio) -> Result<Ratio, RatioError>
+    ensures { result ≢ Err RatioError.ZeroDenominator }
+{
+    x.checked_add(y)?.checked_add(z)
+}
+
+/// Why there is no fraction, by its number, or 0.
+pub fn refusal(num: i64, den: i64) -> u32
+    ensures zero { result ≡ 1 → den ≡ pos 0 }
+    ensures outside { result ≡ 2 → IsOutsideI64 num den }
+    ensures none { result ≡ 0 → IsFraction num den }
+{
+    match Ratio::new(num, den) {
+        Ok(_) => 0,
+        Err(RatioError::ZeroDenominator) => 1,
+        Err(RatioError::NotFitting) => 2,
+    }
+}
+
+/// The parts of a difference, or `None` where one of them is too wide.
+pub fn parts_of_difference(x: &Ratio, y: &Ratio) -> Option<(i64, i64)>
+    ensures { MatchOption result
+        (IsOutsideI64 (num_of x.now *ℤ den_of y.now -ℤ num_of y.now *ℤ den_of x.now)
+        (den_of x.now *ℤ den_of y.now))
+        (λ p. IsExact (num_of x.now *ℤ den_of y.now -ℤ num_of y.now *ℤ den_of x.now)
+        (den_of x.now *ℤ den_of y.now) p.0 p.1) }
+{
+    match x.checked_sub(y) {
+        Ok(difference) => Some((difference.num(), difference.den())),
+        Err(_) => None,
+    }
+}
+
+/// The parts of a product.
+pub fn parts_of_product(x: &Ratio, y: &Ratio) -> Option<(i64, i64)>
+    ensures { MatchOption result
+        (IsOutsideI64 (num_of x.now *ℤ num_of y.now) (den_of x.now *ℤ den_of y.now))
+        (λ p. IsExact (num_of x.now *ℤ num_of y.now) (den_of x.now *ℤ den_of y.now) p.0 p.1) }
+{
+    match x.checked_mul(y) {
+        Ok(product) => Some((product.num(), product.den())),
+        Err(_) => None,
+    }
+}
+
+/// The quotient, or 0 by 0.
+pub fn quotient_or_zero(x: &Ratio, y: &Ratio) -> Result<Ratio, RatioError>
+    ensures { result ≢ Err RatioError.ZeroDenominator }
+{
+    match x.checked_div(y) {
+        Err(RatioError::ZeroDenominator) => Ok(Ratio::zero()),
+        other => other,
+    }
+}
+
+/// The negation, where it fits.
+pub fn negation(x: &Ratio) -> Option<Ratio>
+    ensures { MatchOption result (IsOutsideI64 (neg_ℤ (num_of x.now)) (den_of x.now))
+        (λ r. IsExact (neg_ℤ (num_of x.now)) (den_of x.now) (num_of r) (den_of r)) }
+{
+    match x.checked_neg() {
+        Ok(negation) => Some(negation),
+        Err(_) => None,
+    }
+}
+
+/// The magnitude, where it fits.
+pub fn magnitude(x: &Ratio) -> Option<Ratio>
+    ensures { IfSome result (λ r. IsExact (pos (unsigned_abs (num_of x.now))) (den_of x.now) (num_of r)
+        (den_of r)) }
+{
+    if let Ok(magnitude) = x.checked_abs() {
+        Some(magnitude)
+    } else {
+        None
+    }
+}
+
+/// The reciprocal, or what refuses it.
+pub fn reciprocal(x: &Ratio) -> Result<Ratio, RatioError>
+    ensures { IfOk result (λ r. IsExact (den_of x.now) (num_of x.now) (num_of r) (den_of r)) }
+{
+    let reciprocal = x.checked_recip()?;
+    Ok(reciprocal)
+}
+
+/// The square, or `None` where a part of it is too wide.
+pub fn square(x: &Ratio) -> Option<Ratio>
+    ensures { MatchOption result
+        (IsOutsideI64 (int_pow (num_of x.now) 2) (int_pow (den_of x.now) 2))
+        (λ r. IsExact (int_pow (num_of x.now) 2) (int_pow (den_of x.now) 2) (num_of r) (den_of r)) }
+{
+    match x.checked_pow(2) {
+        Ok(square) => Some(square),
+        Err(_) => None,
+    }
+}
+
+/// The sum of the fractions, where each sum on the way fits.
+pub fn total(fractions: &[Ratio]) -> Result<Ratio, RatioError>
+    ensures { result ≢ Err RatioError.ZeroDenominator }
+{
+    let mut total = Ratio::zero();
+    for fraction in fractions {
+        total = total.checked_add(fraction)?;
+    }
+    Ok(total)
+}
+
+/// The least of the fractions and a bound.
+pub fn least(fractions: &[Ratio], bound: Ratio) -> Ratio {
+    let mut least = bound;
+    for fraction in fractions {
+        if *fraction < least {
+            least = *fraction;
+        }
+    }
+    least
+}
+
+/// The fraction that a text spells, or 0 where it spells none.
+pub fn read_or_zero(text: &str) -> Result<Ratio, ParseRatioError>
+    ensures { result ≢ Err ParseRatioError.NotAFraction }
+{
+    match text.parse::<Ratio>() {
+        Err(ParseRatioError::NotAFraction) => Ok(Ratio::zero()),
+        read => read,
+    }
+}
+
+/// The sum of a fraction and one that a text spells.
+pub fn sum_with_text(x: &Ratio, text: &str) -> Result<Ratio, ParseRatioError> {
+    let read: Ratio = text.parse()?;
+    Ok(x.checked_add(&read)?)
+}
+
+// ---- calls that are not refused
+
+/// The negation of a fraction whose numerator is above MIN.
+pub fn negation_above_least(x: &Ratio) -> Ratio
+    requires { neg_ℤ (pos (2 ^ 63)) <ℤ num_of x.now }
+    ensures { IsExact (neg_ℤ (num_of x.now)) (den_of x.now) (num_of result) (den_of result) }
+{
+    match x.checked_neg() {
+        Ok(negation) => negation,
+        Err(_) => unreachable!("a numerator above MIN"),
+    }
+}
+
+/// The magnitude of a fraction whose numerator is above MIN.
+pub fn magnitude_above_least(x: &Ratio) -> Result<Ratio, RatioError>
+    requires { neg_ℤ (pos (2 ^ 63)) <ℤ num_of x.now }
+    ensures { IsOk result }
+{
+    let magnitude = x.checked_abs()?;
+    Ok(magnitude)
+}
+
+/// The reciprocal of a fraction above 0.
+pub fn reciprocal_of_positive(x: &Ratio) -> Ratio {
+    if !x.is_positive() {
+        return Ratio::zero();
+    }
+    match x.checked_recip() {
+        Ok(reciprocal) => reciprocal,
+        Err(_) => unreachable!("a numerator above 0"),
+    }
+}
+
+/// So many hundredths.
+pub fn percent(hundredths: i64) -> Ratio
+    ensures { IsExact hundredths (pos 100) (num_of result) (den_of result) }
+{
+    match Ratio::new(hundredths, 100) {
+        Ok(percent) => percent,
+        Err(_) => unreachable!("the denominator is above 0"),
+    }
+}
+
+// ---- whole numbers times a fraction
+
+/// What of an amount is a share of it, rounded down and up, or `None` where one of them does not fit.
+pub fn portion(share: &Ratio, amount: i64) -> Option<(i64, i64)>
+    ensures { IfSome result
+        (λ p. IsQuotient IsFloored (num_of share.now *ℤ amount) (den_of share.now) p.0
+        × IsQuotient IsCeiled (num_of share.now *ℤ amount) (den_of share.now) p.1) }
+{
+    match (share.floor_times(amount), share.ceil_times(amount)) {
+        (Some(least), Some(most)) => Some((least, most)),
+        _ => None,
+    }
+}
+
+/// A price with its tax, by the rate of the tax.
+pub fn with_tax(price: i64, rate: &Ratio) -> Option<i64>
+    ensures { IfSome result (λ total. (tax : ℤ)
+        × IsRounded (num_of rate.now *ℤ price) (den_of rate.now) tax × (total ≡ price +ℤ tax)) }
+{
+    let tax = rate.round_times(price)?;
+    price.checked_add(tax)
+}

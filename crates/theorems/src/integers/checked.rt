@@ -1,0 +1,116 @@
+//! Calls of `num_integer::checked` at native types, as a program writes them where it knows nothing of its numbers.
+
+ghost use Rattle.std.specs.Prelude.{◌≡◌, ◌≢◌, ◌⊎◌, ◌<◌, ◌%◌, ◌^◌, ◌<ℤ◌, ◌+ℤ◌, FitsSigned, IfSome, MatchOption, map, pos};
+ghost use Rattle.std.specs.Int.{FitsUnsignedBits, w64};
+ghost use Rattle.std.specs.List.{All};
+ghost use Rattle.num_integer.specs.Bezout.{IsBezoutAnswer};
+ghost use Rattle.num_integer.specs.Coefficient.{coefficient};
+ghost use Rattle.num_integer.specs.Division.{IsCeiled, IsFloored, IsMultiple, IsQuotient, IsRemainder};
+ghost use Rattle.num_integer.specs.Divisors.{Divides, IsGreatestCommonDivisor, IsLeastCommonMultiple};
+ghost use Rattle.num_integer.specs.Multinomial.{IsMultinomial};
+ghost use Rattle.num_integer.specs.Range.{EachFits};
+ghost use Rattle.num_integer.specs.RootOf.{IsRoot};
+ghost use Rattle.num_integer.specs.Row.{RowFits, row_of};
+
+use num_integer::{ExtendedGcd, IterBinomial, checked};
+
+/// The quotient rounded down, or `None` for a divisor 0 and for the least number by -1.
+pub fn floored_quotient(n: i64, d: i64) -> Option<i64>
+    ensures { MatchOption result
+        (¬ ((d ≢ pos 0) × EachFits (FitsSigned w64) (IsQuotient IsFloored n d)))
+        (λ q. IsQuotient IsFloored n d q) }
+{
+    match checked::div_floor(n, d) {
+        Some(q) => Some(q),
+        None => None,
+    }
+}
+
+/// The remainder that has the divisor's sign, or `None` for a divisor 0.
+pub fn floored_remainder(n: i64, d: i64) -> Option<i64>
+    ensures { MatchOption result (d ≡ pos 0) (λ r. IsRemainder IsFloored n d r) }
+{
+    checked::mod_floor(n, d)
+}
+
+/// The next multiple, or `None` for a divisor 0 and where the multiple is beyond the type.
+pub fn next_multiple(n: u64, d: u64) -> Option<u64>
+    ensures { MatchOption result
+        (¬ ((d ≢ 0) × EachFits (FitsUnsignedBits 64) (IsMultiple IsCeiled (pos n) (pos d))))
+        (λ m. IsMultiple IsCeiled (pos n) (pos d) (pos m)) }
+{
+    checked::next_multiple_of(n, d)
+}
+
+/// The least common multiple, or `None` where it is beyond the type.
+pub fn common_multiple(a: i64, b: i64) -> Option<i64>
+    ensures { MatchOption result (¬ (EachFits (FitsSigned w64) (IsLeastCommonMultiple a b)))
+        (λ l. IsLeastCommonMultiple a b l) }
+{
+    checked::lcm(a, b)
+}
+
+/// The greatest common divisor with its Bezout pair, or `None` where the divisor is beyond the type.
+pub fn bezout_pair(m: i64, n: i64) -> Option<ExtendedGcd<i64>>
+    ensures { MatchOption result (¬ (EachFits (FitsSigned w64) (IsGreatestCommonDivisor m n)))
+        (λ e. IsBezoutAnswer m n e.gcd e.x e.y) }
+{
+    checked::extended_gcd(m, n)
+}
+
+/// The same at a type without negative numbers, which has a pair where one number divides the other.
+pub fn natural_bezout_pair(a: u64, b: u64) -> Option<ExtendedGcd<u64>>
+    ensures { MatchOption result
+        (¬ (Divides (pos b) (pos a)) × ¬ (Divides (pos a) (pos b)))
+        (λ e. IsBezoutAnswer (pos a) (pos b) (pos e.gcd) (pos e.x) (pos e.y)) }
+{
+    checked::extended_gcd(a, b)
+}
+
+/// The root of a degree, or `None` for degree 0 and for an even root of a negative number.
+pub fn root(x: i64, degree: u32) -> Option<i64>
+    ensures { MatchOption result ((degree ≡ 0) ⊎ (degree % 2 ≡ 0) × (x <ℤ pos 0))
+        (λ r. IsRoot x degree r) }
+{
+    checked::nth_root(x, degree)
+}
+
+/// The choices of `k` out of `n`, or `None` where they are more than the type counts.
+pub fn choices(n: u64, k: u64) -> Option<u64>
+    ensures { MatchOption result (¬ (coefficient n k < 2 ^ 64)) (λ c. c ≡ coefficient n k) }
+{
+    checked::binomial(n, k)
+}
+
+/// The orders of things of these counts, or `None` where the type does not count them.
+pub fn orders(counts: &[u64]) -> Option<u64>
+    ensures { MatchOption result
+        (¬ (EachFits (FitsUnsignedBits 64) (IsMultinomial (map (λ x. pos x) counts.now))))
+        (λ m. IsMultinomial (map (λ x. pos x) counts.now) (pos m)) }
+{
+    checked::multinomial(counts)
+}
+
+/// The same of signed counts, or `None` where one is negative. The items of a signed slice are asked to
+/// be in the type; the prover knows this of an unsigned one.
+pub fn signed_orders(counts: &[i64]) -> Option<i64>
+    requires { All (FitsSigned w64) counts.now }
+    ensures { IfSome result (λ m. IsMultinomial (map (λ x. x) counts.now) m) }
+{
+    checked::multinomial(counts)
+}
+
+/// The row of Pascal's triangle, or `None` where the type does not hold it.
+pub fn row(n: u64) -> Option<IterBinomial<u64>>
+    ensures { MatchOption result (¬ (RowFits (FitsUnsignedBits 64) (pos n)))
+        (λ r. r ≡ row_of (pos n)) }
+{
+    checked::row(n)
+}
+
+/// The sum, or `None` where it is beyond the type.
+pub fn sum(a: i64, b: i64) -> Option<i64>
+    ensures { MatchOption result (¬ (FitsSigned w64 (a +ℤ b))) (λ s. s ≡ a +ℤ b) }
+{
+    checked::sum(a, b)
+}

@@ -1,0 +1,235 @@
+//! Calls whose result a caller matches on or loops over, each at a native type and with no proof file.
+
+ghost use Rattle.std.specs.Prelude.{◌≡◌, ◌≢◌, ◌-◌, ◌*◌, ◌<◌, ◌^◌, ◌<ℤ◌, ◌≤ℤ◌, ◌+ℤ◌, ◌-ℤ◌, ◌*ℤ◌, FitsSigned, IfSome, MatchOption, min, neg_ℤ, pos};
+ghost use Rattle.std.specs.Int.{w64};
+ghost use Rattle.num_integer.specs.Bezout.{IsBezoutAnswer};
+ghost use Rattle.num_integer.specs.Coefficient.{coefficient};
+ghost use Rattle.num_integer.specs.Division.{IsCeiled, IsFloored, IsMultiple, IsQuotient, IsRemainder, IsTruncated};
+ghost use Rattle.num_integer.specs.Divisors.{IsGreatestCommonDivisor, IsLeastCommonMultiple};
+ghost use Rattle.num_integer.specs.Range.{EachFits};
+ghost use Rattle.num_integer.specs.RootOf.{IsRoot};
+
+use num_integer::counted::{GcdCounted, SqrtCounted, binomial_counted, extended_gcd_counted};
+use num_integer::{ExtendedGcd, checked, gcd};
+
+/// The quotient toward 0 and what it leaves, which together make the number.
+pub fn shared_out(n: i64, d: i64) -> Option<(i64, i64)>
+    ensures { IfSome result (λ r. IsQuotient IsTruncated n d r.0 × (n ≡ r.0 *ℤ d +ℤ r.1)) }
+{
+    let (quotient, rest) = checked::div_rem(n, d)?;
+    Some((quotient, rest))
+}
+
+/// The pages, or none by a page of no items.
+pub fn pages(items: u32, page_size: u32) -> u32
+    ensures { page_size ≢ 0 → IsQuotient IsCeiled (pos items) (pos page_size) (pos result) }
+{
+    match checked::div_ceil(items, page_size) {
+        Some(pages) => pages,
+        None => 0,
+    }
+}
+
+/// The previous multiple, or the number itself by 0.
+pub fn rounded_down(n: u64, d: u64) -> u64
+    ensures { d ≢ 0 → IsMultiple IsFloored (pos n) (pos d) (pos result) }
+{
+    if let Some(multiple) = checked::prev_multiple_of(n, d) {
+        multiple
+    } else {
+        n
+    }
+}
+
+/// One more, up to the greatest number.
+pub fn next(x: u8) -> u8
+    ensures below { x < 255 → pos result ≡ pos x +ℤ pos 1 }
+    ensures greatest { x ≡ 255 → result ≡ 255 }
+{
+    match checked::inc(x) {
+        Some(next) => next,
+        None => x,
+    }
+}
+
+/// One less, down to the least number.
+pub fn previous(x: i64) -> i64
+    ensures above { i64.MIN <ℤ x → result ≡ x -ℤ pos 1 }
+    ensures least { x ≡ i64.MIN → result ≡ x }
+{
+    match checked::dec(x) {
+        Some(previous) => previous,
+        None => x,
+    }
+}
+
+/// The greatest common divisor with a number above 0, which is there.
+pub fn divisor_with_positive(a: i64, b: i64) -> i64
+    requires { pos 0 <ℤ b }
+    ensures { IsGreatestCommonDivisor a b result }
+{
+    let Some(divisor) = checked::gcd(a, b) else {
+        unreachable!();
+    };
+    divisor
+}
+
+/// The quotient by a number above 0, rounded down, which is there.
+pub fn floored_by_positive(n: i64, d: i64) -> i64
+    requires { pos 0 <ℤ d }
+    ensures { IsQuotient IsFloored n d result }
+{
+    match checked::div_floor(n, d) {
+        Some(quotient) => quotient,
+        None => unreachable!(),
+    }
+}
+
+/// The page of an item and its place there, which are there too.
+pub fn page_and_place(n: i64, d: i64) -> (i64, i64)
+    requires { pos 0 <ℤ d }
+    ensures { IsFloored n d result.0 result.1 }
+{
+    checked::div_mod_floor(n, d).unwrap()
+}
+
+/// The remainder of the quotient rounded down.
+pub fn place_by_positive(n: i64, d: i64) -> i64
+    requires { pos 0 <ℤ d }
+    ensures { IsRemainder IsFloored n d result }
+{
+    checked::mod_floor(n, d).unwrap()
+}
+
+/// The greatest common divisor and the least common multiple, or `None` where one is beyond the type.
+pub fn divisor_and_multiple(a: i64, b: i64) -> Option<(i64, i64)>
+    ensures { MatchOption result
+        (¬ (EachFits (FitsSigned w64) (IsGreatestCommonDivisor a b)
+        × EachFits (FitsSigned w64) (IsLeastCommonMultiple a b)))
+        (λ r. IsGreatestCommonDivisor a b r.0 × IsLeastCommonMultiple a b r.1) }
+{
+    let Some((divisor, multiple)) = checked::gcd_lcm(a, b) else {
+        return None;
+    };
+    Some((divisor, multiple))
+}
+
+/// The pair and the least common multiple, where both are in the type.
+pub fn pair_and_multiple(a: i64, b: i64) -> Option<(ExtendedGcd<i64>, i64)>
+    ensures { IfSome result (λ r. IsBezoutAnswer a b r.0.gcd r.0.x r.0.y
+        × IsLeastCommonMultiple a b r.1) }
+{
+    checked::extended_gcd_lcm(a, b)
+}
+
+/// The square root, or -1 below 0.
+pub fn root_or_less(x: i64) -> i64
+    ensures root { pos 0 ≤ℤ x → IsRoot x 2 result }
+    ensures less { x <ℤ pos 0 → result ≡ neg_ℤ (pos 1) }
+{
+    match checked::sqrt(x) {
+        Some(root) => root,
+        None => -1,
+    }
+}
+
+/// The distance down to a lesser number, and 0 to any other.
+pub fn distance_down(a: u64, b: u64) -> u64
+    ensures { result ≡ a - b }
+{
+    match checked::difference(a, b) {
+        Some(distance) => distance,
+        None => 0,
+    }
+}
+
+/// The product, or the greatest number.
+pub fn product_up_to_the_greatest(a: u32, b: u32) -> u32
+    ensures { result ≡ min (a * b) u32.MAX }
+{
+    match checked::product(a, b) {
+        Some(product) => product,
+        None => u32::MAX,
+    }
+}
+
+/// The negation, or the greatest number.
+pub fn negation_up_to_the_greatest(x: i8) -> i8
+    ensures { i8.MIN <ℤ x → result ≡ neg_ℤ x }
+{
+    if let Some(negation) = checked::negated(x) {
+        negation
+    } else {
+        i8::MAX
+    }
+}
+
+/// The sum of the numbers, where each sum on the way is in the type.
+pub fn total(numbers: &[i64]) -> Option<i64> {
+    let mut total = 0;
+    for number in numbers {
+        total = checked::sum(total, *number)?;
+    }
+    Some(total)
+}
+
+/// The least common multiple of the numbers, where it is in the type.
+pub fn natural_multiple_of_all(numbers: &[u64]) -> Option<u64> {
+    numbers
+        .iter()
+        .try_fold(1, |multiple, number| checked::lcm(multiple, *number))
+}
+
+/// The greatest common divisor of the numbers.
+pub fn natural_divisor_of_all(numbers: &[u64]) -> u64 {
+    numbers
+        .iter()
+        .fold(0, |divisor, number| gcd(divisor, *number))
+}
+
+/// The greatest common divisor and the turns.
+pub fn divisor_and_turns(a: u64, b: u64) -> (u64, u32)
+    ensures { IsGreatestCommonDivisor (pos a) (pos b) (pos result.0) }
+{
+    a.gcd_counted(&b)
+}
+
+/// The pair of a number and one above 0, and the turns.
+pub fn pair_and_turns(a: i64, b: i64) -> (ExtendedGcd<i64>, u32)
+    requires { pos 0 <ℤ b }
+    ensures { IsBezoutAnswer a b result.0.gcd result.0.x result.0.y }
+{
+    extended_gcd_counted(a, b)
+}
+
+/// The square root and the turns.
+pub fn root_and_turns(x: u64) -> (u64, u32)
+    ensures root { IsRoot (pos x) 2 (pos result.0) }
+    ensures turns { result.1 < 6 }
+{
+    x.sqrt_counted()
+}
+
+/// The choices and the turns, where the type counts them.
+pub fn choices_and_turns(n: u64, k: u64) -> (u64, u32)
+    requires { coefficient n k < 2 ^ 64 }
+    ensures choices { result.0 ≡ coefficient n k }
+    ensures turns { result.1 ≡ min k (n - k) }
+{
+    binomial_counted(n, k)
+}
+
+/// The share of an amount at a rate, rounded down, where it fits; the product need not.
+pub fn share(amount: i64, rate: i64, whole: i64) -> Option<i64>
+    ensures { IfSome result (λ q. IsQuotient IsFloored (amount *ℤ rate) whole q) }
+{
+    let (share, _) = checked::product_div_mod_floor(amount, rate, whole)?;
+    Some(share)
+}
+
+/// The same, and what is left.
+pub fn share_and_rest(amount: u64, rate: u64, whole: u64) -> Option<(u64, u64)>
+    ensures { IfSome result (λ r. pos amount *ℤ pos rate ≡ pos r.0 *ℤ pos whole +ℤ pos r.1) }
+{
+    checked::product_div_mod_floor(amount, rate, whole)
+}

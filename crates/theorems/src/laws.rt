@@ -1,0 +1,141 @@
+//! The laws of the definitions: what follows from them alone, whatever a body does. Each law of a `specs/Laws.antt` is a clause here,
+//! one function a library.
+
+ghost use Rattle.std.specs.Prelude.{ℤ};
+ghost use Rattle.num_integer.specs.Laws as integers;
+ghost use Rattle.modular.specs.Laws as residues;
+ghost use Rattle.ratio64.specs.Laws as fractions;
+ghost use Rattle.calendar.specs.Laws as dates;
+ghost use Rattle.uses.specs.Laws as models;
+ghost use Rattle.ratio64.specs.Ratio.{den_of, num_of};
+ghost use Rattle.ratio64.specs.declared.fraction.Ratio.{Ratio};
+
+use num_integer::Integer;
+
+/// A property of whole numbers. No clause can speak of every property, but one can of each `P: Property`.
+pub trait Property {
+    ghost holds: { ℤ → Type 0 };
+}
+
+/// The laws of quotients, divisors, roots and coefficients.
+pub fn laws_of_integers<T: Integer>()
+    ensures division_exists { integers.DivisionExists }
+    ensures division_is_only { integers.DivisionIsOnly }
+    ensures quotient_is_only { integers.QuotientIsOnly }
+    ensures remainder_is_only { integers.RemainderIsOnly }
+    ensures multiple_is_only { integers.MultipleIsOnly }
+    ensures floored_parts_add_up { integers.FlooredPartsAddUp }
+    ensures negation_turns_multiples { integers.NegationTurnsMultiples }
+    ensures gcd_exists { integers.GcdExists }
+    ensures gcd_is_only { integers.GcdIsOnly }
+    ensures gcd_is_symmetric { integers.GcdIsSymmetric }
+    ensures gcd_of_zeros { integers.GcdOfZeros }
+    ensures gcd_fits_exactly { integers.GcdFitsExactly T.fits }
+    ensures lcm_exists { integers.LcmExists }
+    ensures lcm_is_only { integers.LcmIsOnly }
+    ensures lcm_is_symmetric { integers.LcmIsSymmetric }
+    ensures gcd_times_lcm { integers.GcdTimesLcm }
+    ensures gcd_turns_are_only { integers.GcdTurnsAreOnly }
+    ensures bit_length_exists { integers.BitLengthExists }
+    ensures bit_length_is_only { integers.BitLengthIsOnly }
+    ensures bezout_answer_exists { integers.BezoutAnswerExists }
+    ensures bezout_answer_is_only { integers.BezoutAnswerIsOnly }
+    ensures euclid_turns_are_only { integers.EuclidTurnsAreOnly }
+    ensures average_floor_is_only { integers.AverageFloorIsOnly }
+    ensures average_ceil_is_only { integers.AverageCeilIsOnly }
+    ensures averages_are_neighbours { integers.AveragesAreNeighbours }
+    ensures root_is_only { integers.RootIsOnly }
+    ensures first_root { integers.FirstRoot }
+    ensures square_root_turns_are_only { integers.SquareRootTurnsAreOnly }
+    ensures coefficient_mirror { integers.CoefficientMirror }
+    ensures coefficient_above_row { integers.CoefficientAboveRow }
+    ensures factorial_formula { integers.FactorialFormula }
+    ensures multinomial_formula { integers.MultinomialFormula }
+    ensures multinomial_is_only { integers.MultinomialIsOnly }
+    ensures multinomial_ignores_order { integers.MultinomialIgnoresOrder }
+    ensures row_length { integers.RowLength }
+    ensures row_is_palindrome { integers.RowIsPalindrome }
+    ensures row_is_greatest_in_middle { integers.RowIsGreatestInMiddle }
+{}
+
+/// The laws of numbers modulo another.
+pub fn laws_of_residues<P: Property, T: Integer>()
+    ensures residue_is_only { residues.ResidueIsOnly }
+    ensures inverse_is_only { residues.InverseIsOnly }
+    ensures quotient_is_only { residues.QuotientIsOnly }
+    ensures residue_class_is_only { residues.ResidueClassIsOnly P.holds }
+    ensures reduced_modulus_is_only { residues.ReducedModulusIsOnly }
+    ensures next_congruent_is_only { residues.NextCongruentIsOnly }
+    ensures previous_congruent_is_only { residues.PreviousCongruentIsOnly }
+    ensures count_of_congruent_is_only { residues.CountOfCongruentIsOnly }
+    ensures next_common_solution_is_only { residues.NextCommonSolutionIsOnly }
+    ensures next_solution_of_each_is_only { residues.NextSolutionOfEachIsOnly T.value }
+{}
+
+/// The laws of fractions.
+pub fn laws_of_fractions()
+    ensures exact_result_exists { fractions.ExactResultExists }
+    ensures exact_result_is_only { fractions.ExactResultIsOnly }
+    ensures equal_fractions_have_one_result { fractions.EqualFractionsHaveOneResult }
+    ensures reduced_pairs_are_equal_where_same { fractions.ReducedPairsAreEqualWhereSame }
+    ensures ratio_of_parts_is_only { fractions.RatioOfPartsIsOnly }
+    ensures answer_is_only { fractions.AnswerIsOnly }
+    ensures order_is_total { fractions.OrderIsTotal Ratio num_of den_of }
+    ensures order_agrees_with_equality { fractions.OrderAgreesWithEquality }
+    ensures order_over_one_denominator { fractions.OrderOverOneDenominator }
+    ensures rounded_is_only { fractions.RoundedIsOnly }
+    ensures nearest_is_only { fractions.NearestIsOnly }
+    ensures sums_of_equal_fractions { fractions.SumsOfEqualFractions }
+    ensures products_of_equal_fractions { fractions.ProductsOfEqualFractions }
+    ensures reading_is_only { fractions.ReadingIsOnly }
+    ensures text_is_read_back { fractions.TextIsReadBack }
+{}
+
+/// The laws of dates, weeks and Easter.
+pub fn laws_of_dates()
+    ensures leap_years_by_divisors { dates.LeapYearsByDivisors }
+    ensures lengths_of_years { dates.LengthsOfYears }
+    ensures years_follow { dates.YearsFollow }
+    ensures first_day { dates.FirstDay }
+    ensures year_of_day_is_only { dates.YearOfDayIsOnly }
+    ensures date_of_parts_is_only { dates.DateOfPartsIsOnly }
+    ensures date_is_only { dates.DateIsOnly }
+    ensures date_of_year_day_is_only { dates.DateOfYearDayIsOnly }
+    ensures order_of_dates { dates.OrderOfDates }
+    ensures text_is_only { dates.TextIsOnly }
+    ensures months_after_is_only { dates.MonthsAfterIsOnly }
+    ensures nth_weekday_is_only { dates.NthWeekdayIsOnly }
+    ensures months_between_is_only { dates.MonthsBetweenIsOnly }
+    ensures last_weekday_of_month_is_only { dates.LastWeekdayOfMonthIsOnly }
+    ensures iso_number_is_only { dates.IsoNumberIsOnly }
+    ensures weekday_is_only { dates.WeekdayIsOnly }
+    ensures weekdays_follow { dates.WeekdaysFollow }
+    ensures first_weekday_is_only { dates.FirstWeekdayIsOnly }
+    ensures last_weekday_is_only { dates.LastWeekdayIsOnly }
+    ensures iso_week_is_only { dates.IsoWeekIsOnly }
+    ensures iso_day_is_only { dates.IsoDayIsOnly }
+    ensures weeks_of_a_year { dates.WeeksOfAYear }
+    ensures iso_weeks_are_only { dates.IsoWeeksAreOnly }
+    ensures order_of_iso_weeks { dates.OrderOfIsoWeeks }
+    ensures easter_is_only { dates.EasterIsOnly }
+    ensures full_moons_differ { dates.FullMoonsDiffer }
+    ensures earlier_full_moons { dates.EarlierFullMoons }
+    ensures epact_of_the_first_year { dates.EpactOfTheFirstYear }
+    ensures epact_of_the_next_year { dates.EpactOfTheNextYear }
+    ensures solar_correction_of_the_next_century { dates.SolarCorrectionOfTheNextCentury }
+    ensures lunar_corrections_from_1800 { dates.LunarCorrectionsFrom1800 }
+    ensures lunar_correction_of_twenty_five_centuries { dates.LunarCorrectionOfTwentyFiveCenturies }
+{}
+
+/// The laws of pages, parts, offsets, schedules, choices and halves.
+pub fn laws_of_models<P: Property, T: Integer>()
+    ensures pages_are_only { models.PagesAreOnly }
+    ensures parts_differ_by_one { models.PartsDifferByOne }
+    ensures aligned_up_is_only { models.AlignedUpIsOnly }
+    ensures padding_is_only { models.PaddingIsOnly }
+    ensures least_time_is_only { models.LeastTimeIsOnly T.value T.fits P.holds }
+    ensures choice_of_rank_is_only { models.ChoiceOfRankIsOnly }
+    ensures rank_is_below { models.RankIsBelow }
+    ensures midpoint_is_only { models.MidpointIsOnly }
+    ensures lower_bound_is_only { models.LowerBoundIsOnly T.value }
+{}

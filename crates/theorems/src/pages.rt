@@ -1,0 +1,146 @@
+//! Calls of `uses`: pages and parts, offsets, schedules and choices.
+
+ghost use Rattle.std.specs.Prelude.{◌≡◌, ◌↔◌, ◌<◌, ◌≤◌, ◌+◌, ◌*◌, ◌≤ℤ◌, ◌<ℤ◌, ◌+ℤ◌, ◌*ℤ◌, ◌^◌, FitsSigned, IfSome, IsTrue, MatchOption, length, min, pos, ℕ, ℤ};
+ghost use Rattle.std.specs.Int.{w64};
+ghost use Rattle.std.specs.List.{All};
+ghost use Rattle.num_integer.specs.Coefficient.{coefficient};
+ghost use Rattle.num_integer.specs.Least.{IsLeastFrom};
+ghost use Rattle.uses.specs.Paging.{IsPlace};
+ghost use Rattle.uses.specs.Ranking.{IsChoice, rank_of};
+ghost use Rattle.uses.specs.Schedules.{IsMeetingOfEach};
+
+use modular::CommonSolution;
+use uses::layout::align_up;
+use uses::paging::{item_at, range_of_page, range_of_part};
+use uses::ranking::{next_choice, rank};
+use uses::schedules::{Schedule, next_meeting, next_meeting_of};
+
+// ---- pages and parts
+
+/// The length of the longest of so many parts.
+pub fn longest_part(numbers: &[u8], parts: usize) -> usize {
+    let mut longest = 0;
+    for part in 0..parts {
+        let (first, end) = range_of_part(part, parts, numbers.len());
+        longest = longest.max(numbers[first..end].len());
+    }
+    longest
+}
+
+/// The first index of a page and one past its last, among so many items.
+pub fn items_of_page(page: u64, page_size: u64, items: u64) -> (u64, u64)
+    requires { 0 < page_size }
+    ensures ordered { result.0 ≤ result.1 }
+    ensures exactly { (i : ℕ) → ((result.0 ≤ i) × (i < result.1))
+        ↔ ((i < items) × ((place : ℤ) × IsPlace (pos i) (pos page_size) (pos page) place)) }
+{
+    range_of_page(page, page_size, items)
+}
+
+/// The items of a page of eight, by numbers of `i64`.
+pub fn eight_items(items: &[u8; 100], page: i64) -> &[u8] {
+    let (first, end) = range_of_page(page, 8, 100);
+    &items[first as usize..end as usize]
+}
+
+/// The greatest item of a part of seven, by numbers of `i64`.
+pub fn greatest_of_part(items: &[u8; 100], part: i64) -> u8
+    requires from_zero { pos 0 ≤ℤ part }
+    requires below { part <ℤ pos 7 }
+{
+    let (first, end) = range_of_part(part, 7, 100);
+    let mut greatest = 0;
+    for item in &items[first as usize..end as usize] {
+        greatest = greatest.max(*item);
+    }
+    greatest
+}
+
+/// The item at a place of a page of ten, or `None` if it is beyond the type.
+pub fn item_of_ten(page: i64, place: i64) -> Option<i64>
+    requires from_zero { pos 0 ≤ℤ place }
+    requires below { place <ℤ pos 10 }
+    ensures { IfSome result (λ item. item ≡ page *ℤ pos 10 +ℤ place) }
+{
+    let item = item_at(page, place, 10)?;
+    Some(item)
+}
+
+/// The item at a place of a page of sixteen, or the greatest number.
+pub fn item_up_to_the_greatest(page: u8, place: u8) -> u8
+    requires { place < 16 }
+    ensures { result ≡ min (page * 16 + place) u8.MAX }
+{
+    match item_at(page, place, 16) {
+        Some(item) => item,
+        None => u8::MAX,
+    }
+}
+
+/// The item at a place of a page of sixteen, where there are at most sixteen pages.
+pub fn item_of_few(page: u8, place: u8) -> u8
+    requires page { page < 16 }
+    requires place { place < 16 }
+    ensures { result ≡ page * 16 + place }
+{
+    item_at(page, place, 16).unwrap()
+}
+
+// ---- offsets and schedules
+
+/// The aligned offset, or the offset itself where that is beyond the type.
+pub fn aligned(offset: u32, alignment: u32) -> u32
+    requires { 0 < alignment }
+    ensures { pos offset ≤ℤ pos result }
+{
+    match align_up(offset, alignment) {
+        Some(aligned) => aligned,
+        None => offset,
+    }
+}
+
+/// How long to wait for the next meeting.
+pub fn wait(now: u32, first: Schedule<u32>, second: Schedule<u32>) -> Option<u32>
+    requires first { 0 < first.1 }
+    requires second { 0 < second.1 }
+{
+    match next_meeting(now, first, second) {
+        CommonSolution::At(time) => Some(time - now),
+        CommonSolution::Never | CommonSolution::Beyond => None,
+    }
+}
+
+/// The next day from `now` on that lies on each schedule, or `None` where no such day fits `i64`.
+pub fn next_shift(now: i64, schedules: &[Schedule<i64>]) -> Option<i64>
+    requires in_range { All (λ s. FitsSigned w64 s.0 × FitsSigned w64 s.1) schedules.now }
+    requires positive { All (λ s. pos 0 <ℤ s.1) schedules.now }
+    ensures { MatchOption result
+        ((day : ℤ) → IsLeastFrom now (IsMeetingOfEach (λ t. t) schedules.now) day
+        → ¬ (FitsSigned w64 day))
+        (λ day. IsLeastFrom now (IsMeetingOfEach (λ t. t) schedules.now) day) }
+{
+    match next_meeting_of(now, schedules) {
+        CommonSolution::At(day) => Some(day),
+        CommonSolution::Beyond => None,
+        CommonSolution::Never => None,
+    }
+}
+
+// ---- choices
+
+/// The rank of numbers that are known to be a choice, where the number of choices of their length fits.
+pub fn rank_of_known(numbers: &[u64], n: u64) -> u64
+    requires choice { IsChoice n numbers.now }
+    requires count_fits { coefficient n (length numbers.now) < 2 ^ 64 }
+{
+    rank(numbers, n)
+}
+
+/// The choice two ranks on, where there is one.
+pub fn two_further(choice: &mut [u64], n: u64) -> bool
+    requires { IsChoice n choice.old }
+    ensures choice { IsChoice n choice.new }
+    ensures rank { IsTrue result → rank_of choice.new ≡ rank_of choice.old + 2 }
+{
+    next_choice(choice, n) && next_choice(choice, n)
+}

@@ -1,0 +1,223 @@
+//! Calls of `modular`: what a caller learns from their contracts and the laws, and results that a caller matches on or loops over.
+
+ghost use Rattle.std.specs.Prelude.{◌≡◌, ◌<ℤ◌, ◌<◌, ◌≤ℤ◌, ◌+ℤ◌, FitsSigned, IfSome, IsTrue, MatchOption, Some, pos, ℤ};
+ghost use Rattle.std.specs.Int.{int_pow, w64};
+ghost use Rattle.std.specs.List.{All};
+ghost use Rattle.modular.specs.Congruences.{IsCountOfCongruent, IsInverse, IsNextCommonSolution, IsNextCongruent, IsPreviousCongruent, IsQuotientModulo, IsResidue, IsResidueClass, Solves, SolvesBothCongruences, SolvesEach};
+ghost use Rattle.modular.specs.declared.common_solutions.CommonSolution.TheVariants.{At};
+ghost use Rattle.num_integer.specs.Least.{IsLeastFrom};
+
+use modular::counted::power_modulo_counted;
+use modular::{
+    CommonSolution, chinese_remainder, count_congruent, inverse_modulo, next_common_solution,
+    next_common_solution_of, next_congruent, previous_congruent, quotient_modulo, residue,
+    solutions, sum_modulo,
+};
+use num_integer::Fits;
+
+// ---- what follows from the contracts
+
+/// The residue of a residue is the residue.
+pub fn residue_again(a: i64, m: i64) -> bool
+    requires { pos 0 <ℤ m }
+    ensures { IsTrue result }
+{
+    residue(residue(a, m), m) == residue(a, m)
+}
+
+/// The inverse that is known is the inverse that is found.
+pub fn inverse_again(a: i64, m: i64, known: i64) -> Option<i64>
+    requires positive { pos 0 <ℤ m }
+    requires inverse { IsInverse a m known }
+    ensures { result ≡ Some known }
+{
+    inverse_modulo(a, m)
+}
+
+/// The quotient by a number that has an inverse is the quotient that is found.
+pub fn quotient_again(a: i64, b: i64, m: i64, inverse: i64, known: i64) -> Option<i64>
+    requires positive { pos 0 <ℤ m }
+    requires inverse { IsInverse b m inverse }
+    requires quotient { IsQuotientModulo a b m known }
+    ensures { result ≡ Some known }
+{
+    quotient_modulo(a, b, m)
+}
+
+/// The class of the solutions is the class that is found.
+pub fn solutions_again(a: i64, b: i64, m: i64, first: i64, step: i64) -> Option<(i64, i64)>
+    requires positive { pos 0 <ℤ m }
+    requires class { IsResidueClass (Solves a b m) first step }
+    ensures { result ≡ Some (first, step) }
+{
+    solutions(a, b, m)
+}
+
+/// The next congruent number is the one that is found.
+pub fn next_congruent_again(from: i64, first: i64, step: i64, known: i64) -> Option<i64>
+    requires positive { pos 0 <ℤ step }
+    requires next { IsNextCongruent from first step known }
+    ensures { result ≡ Some known }
+{
+    next_congruent(from, first, step)
+}
+
+/// The previous congruent number is the one that is found.
+pub fn previous_congruent_again(to: i64, first: i64, step: i64, known: i64) -> Option<i64>
+    requires positive { pos 0 <ℤ step }
+    requires previous { IsPreviousCongruent to first step known }
+    ensures { result ≡ Some known }
+{
+    previous_congruent(to, first, step)
+}
+
+/// The next number that solves two congruences is the one that is found.
+pub fn next_common_solution_again(
+    from: i64,
+    a: i64,
+    m: i64,
+    b: i64,
+    n: i64,
+    known: i64,
+) -> CommonSolution<i64>
+    requires positive { (pos 0 <ℤ m) × (pos 0 <ℤ n) }
+    requires next { IsNextCommonSolution from a m b n known }
+    ensures { result ≡ At known }
+{
+    next_common_solution(from, a, m, b, n)
+}
+
+/// The hour that a clock shows some hours later.
+pub fn hour_after(hour: i64, hours: i64) -> i64
+    ensures { IsResidue (pos 24) (hour +ℤ hours) result }
+{
+    sum_modulo(hour, hours, 24)
+}
+
+// ---- results that a caller matches on or loops over, with no proof file
+
+/// The inverse, which is below the modulus, or the modulus where there is none.
+pub fn inverse_or_modulus(a: u64, m: u64) -> u64
+    requires { 0 < m }
+    ensures inverse { result < m → IsInverse (pos a) (pos m) (pos result) }
+    ensures none { result ≡ m → (x : ℤ) → ¬ (IsInverse (pos a) (pos m) x) }
+{
+    match inverse_modulo(a, m) {
+        Some(inverse) => inverse,
+        None => m,
+    }
+}
+
+/// The quotient, where the divisor has an inverse.
+pub fn quotient(a: i64, b: i64, m: i64) -> Option<i64>
+    requires { pos 0 <ℤ m }
+    ensures { MatchOption result ((x : ℤ) → ¬ (IsInverse b m x)) (λ x. IsQuotientModulo a b m x) }
+{
+    quotient_modulo(a, b, m)
+}
+
+/// The first solution and the step to the next, where there is one.
+pub fn class_of_solutions(a: i64, b: i64, m: i64) -> Option<(i64, i64)>
+    requires { pos 0 <ℤ m }
+    ensures { MatchOption result ((x : ℤ) → ¬ (Solves a b m x))
+        (λ s. IsResidueClass (Solves a b m) s.0 s.1) }
+{
+    solutions(a, b, m)
+}
+
+/// The numbers that solve both congruences, where the common multiple fits.
+pub fn both(a: i64, m: i64, b: i64, n: i64) -> Option<(i64, i64)>
+    requires m_positive { pos 0 <ℤ m }
+    requires n_positive { pos 0 <ℤ n }
+    ensures { IfSome result (λ s. IsResidueClass (SolvesBothCongruences a m b n) s.0 s.1) }
+{
+    if m.lcm_fits(&n) {
+        let (first, step) = chinese_remainder(a, m, b, n)?;
+        Some((first, step))
+    } else {
+        None
+    }
+}
+
+/// The next time from now on, or the last of the type.
+pub fn next_time(now: u64, first: u64, period: u64) -> u64
+    requires { 0 < period }
+    ensures { pos now ≤ℤ pos result }
+{
+    match next_congruent(now, first, period) {
+        Some(time) => time,
+        None => u64::MAX,
+    }
+}
+
+/// The last of the first `count` times from now on.
+pub fn last_time(now: i64, first: i64, period: i64, count: u8) -> Option<i64>
+    requires { pos 0 <ℤ period }
+{
+    let mut time = next_congruent(now, first, period)?;
+    for _ in 1..count {
+        time = next_congruent(time.checked_add(1)?, first, period)?;
+    }
+    Some(time)
+}
+
+/// The next number that solves both, where there is one in the type.
+pub fn next_of_both(from: i64, a: i64, m: i64, b: i64, n: i64) -> Option<i64>
+    requires m_positive { pos 0 <ℤ m }
+    requires n_positive { pos 0 <ℤ n }
+    ensures { IfSome result (λ t. IsNextCommonSolution from a m b n t) }
+{
+    match next_common_solution(from, a, m, b, n) {
+        CommonSolution::At(t) => Some(t),
+        CommonSolution::Beyond | CommonSolution::Never => None,
+    }
+}
+
+/// The last time up to now, or 0 where there is none.
+pub fn time_before(now: u64, first: u64, period: u64) -> u64
+    requires { 0 < period }
+    ensures { pos result ≤ℤ pos now }
+{
+    match previous_congruent(now, first, period) {
+        Some(time) => time,
+        None => 0,
+    }
+}
+
+/// How many times come in a range.
+pub fn times_between(from: i64, to: i64, first: i64, period: i64) -> Option<i64>
+    requires { pos 0 <ℤ period }
+    ensures { IfSome result (λ n. IsCountOfCongruent from to first period n) }
+{
+    count_congruent(from, to, first, period)
+}
+
+/// How many more times of one schedule come in a range than of another.
+pub fn more_times(from: i64, to: i64, first: (i64, i64), second: (i64, i64)) -> Option<i64>
+    requires first { pos 0 <ℤ first.1 }
+    requires second { pos 0 <ℤ second.1 }
+{
+    let (a, m) = first;
+    let (b, n) = second;
+    Some(count_congruent(from, to, a, m)? - count_congruent(from, to, b, n)?)
+}
+
+/// The next number that solves each of signed congruences, where there is one in the type.
+pub fn next_of_each(from: i64, congruences: &[(i64, i64)]) -> Option<i64>
+    requires in_range { All (λ c. FitsSigned w64 c.0 × FitsSigned w64 c.1) congruences.now }
+    requires positive { All (λ c. pos 0 <ℤ c.1) congruences.now }
+    ensures { IfSome result (λ t. IsLeastFrom from (SolvesEach (λ x. x) congruences.now) t) }
+{
+    match next_common_solution_of(from, congruences) {
+        CommonSolution::At(t) => Some(t),
+        CommonSolution::Beyond | CommonSolution::Never => None,
+    }
+}
+
+/// The power and the turns.
+pub fn power_and_turns(a: u64, exponent: u32, m: u64) -> (u64, u32)
+    requires { 0 < m }
+    ensures { IsResidue (pos m) (int_pow (pos a) exponent) (pos result.0) }
+{
+    power_modulo_counted(a, u128::from(exponent), m)
+}
