@@ -1,0 +1,4 @@
+//! What is proved of the whole, in front.
+#![tactic(auto)]
+
+pub mod headline;
