@@ -26,6 +26,7 @@
 
 pub mod dates;
 pub mod fractions;
+pub mod headline;
 pub mod integers;
 pub mod laws;
 pub mod pages;

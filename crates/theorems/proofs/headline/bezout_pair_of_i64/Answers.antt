@@ -1,0 +1,8 @@
+use Rattle.std.proofs.lemmas.Int.{to_z-of_z}
+use Rattle.theorems.proofs.headline.bezout_pair_of_i64.Goals as goal
+
+pub returns-clause-only : goal.returns-clause-only
+returns-clause-only c =
+    let a_fits = c.ranges.a in
+    let b_fits = c.ranges.b in
+    simp to_z-of_z at c.extended_gcd_counted.ensures.only
