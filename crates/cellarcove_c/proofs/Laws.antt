@@ -10,7 +10,9 @@ use Rattle.calendar.specs.declared.date.Date.{Date}
 use Rattle.calendar.proofs.ForCallers.{same_month}
 use Rattle.calendar.proofs.Laws.{date_is_only}
 use Rattle.calendar.proofs.Laws.{months_between_is_only as whole_months_are_only}
-use Rattle.cellarcove_c.specs.Laws.{MonthsBetweenIsOnly, MonthsLaterIsOnly, OrderNumberIsOnly, ReasonIsOnly, StandsForIsOnly}
+use Rattle.cellarcove_c.specs.Laws.{MonthsBetweenIsOnly, MonthsLaterIsOnly, OnBothIsOnly, OrderNumberIsOnly, ReasonIsOnly, StandsForIsOnly, StandsForNumberIsOnly}
+use Rattle.ratio64.specs.declared.error.RatioError.{RatioError}
+use Rattle.ratio64.specs.declared.fraction.Ratio.{Ratio}
 
 -- ---- statuses
 
@@ -25,6 +27,15 @@ reason_is_only divisor s t h k = elim (zero_or_not divisor) [
 pub stands_for_is_only : StandsForIsOnly
 stands_for_is_only (Ok x) s t a b c d h k = (h.0 ∙ sym k.0, h.1 ∙ sym k.1, h.2 ∙ sym k.2)
 stands_for_is_only (Err e) s t a b c d h k = (h.0 ∙ sym k.0, h.1 ∙ sym k.1, h.2 ∙ sym k.2)
+
+pub stands_for_number_is_only : (Says : Ratio → ℤ → Type 0) → StandsForNumberIsOnly Says
+stands_for_number_is_only Says (Ok x) s t a b only h k = (h.0 ∙ sym k.0, only x h.1 k.1)
+stands_for_number_is_only Says (Err e) s t a b only h k = (h.0 ∙ sym k.0, h.1 ∙ sym k.1)
+
+pub on_both_is_only : {A : Type 0} (Says : A → Ratio → Ratio → Type 0) (Refuses : A → RatioError → Type 0) → OnBothIsOnly Says Refuses
+on_both_is_only Says Refuses (Ok p) (Ok q) a b only same h k = only p q h k
+on_both_is_only Says Refuses (Ok p) (Err e) a b only same h k = same e h k
+on_both_is_only Says Refuses (Err e) y a b only same h k = same e h k
 
 pub order_number_is_only : OrderNumberIsOnly
 order_number_is_only Less Less same = refl

@@ -6,7 +6,7 @@ use Rattle.calendar.specs.Months.{IsDate}
 use Rattle.ratio64.specs.declared.error.RatioError.{RatioError}
 use Rattle.ratio64.specs.declared.fraction.Ratio.{Ratio}
 use Rattle.cellarcove_c.specs.Dates.{IsMonthsLater, MatchMonthsBetween}
-use Rattle.cellarcove_c.specs.Fractions.{StandsFor, order_number}
+use Rattle.cellarcove_c.specs.Fractions.{OnBoth, StandsFor, StandsForNumber, order_number}
 use Rattle.cellarcove_c.specs.Statuses.{IsReason}
 
 -- ---- statuses
@@ -20,6 +20,16 @@ ReasonIsOnly = (divisor : ℤ) (s t : ℕ) → IsReason (divisor ≡ pos 0) s �
 -- Each result has at most one status and one pair of numbers.
 abbrev pub StandsForIsOnly : Type 0
 StandsForIsOnly = (answered : Result Ratio RatioError) (s t : ℕ) (a b c d : ℤ) → StandsFor answered s a b → StandsFor answered t c d → (s ≡ t) × (a ≡ c) × (b ≡ d)
+
+-- If a property has at most one number for each fraction, each result has at most one status and one number.
+abbrev pub StandsForNumberIsOnly : (Ratio → ℤ → Type 0) → Type 0
+StandsForNumberIsOnly Says = (answered : Result Ratio RatioError) (s t : ℕ) (a b : ℤ) → ((x : Ratio) → Says x a → Says x b → a ≡ b)
+    → StandsForNumber answered s a (λ x. Says x a) → StandsForNumber answered t b (λ x. Says x b) → (s ≡ t) × (a ≡ b)
+
+-- If there is at most one value for each two fractions, and at most one for each error, there is at most one for two results.
+abbrev pub OnBothIsOnly : {A : Type 0} → (A → Ratio → Ratio → Type 0) → (A → RatioError → Type 0) → Type 0
+OnBothIsOnly {A} Says Refuses = (x y : Result Ratio RatioError) (a b : A) → ((p q : Ratio) → Says a p q → Says b p q → a ≡ b)
+    → ((e : RatioError) → Refuses a e → Refuses b e → a ≡ b) → OnBoth x y (Says a) (Refuses a) → OnBoth x y (Says b) (Refuses b) → a ≡ b
 
 -- Each number is that of at most one order.
 abbrev pub OrderNumberIsOnly : Type 0

@@ -1,11 +1,20 @@
 //! The laws of what the calls say.
 
-ghost use Rattle.cellarcove_c.specs.Laws.{MonthsBetweenIsOnly, MonthsLaterIsOnly, OrderNumberIsOnly, ReasonIsOnly, StandsForIsOnly};
+ghost use Rattle.std.specs.Prelude.{◌≡◌, ◌*ℤ◌, Err};
+ghost use Rattle.num_integer.specs.Division.{IsFloored, IsQuotient};
+ghost use Rattle.ratio64.specs.Ratio.{AnswersFraction, den_of, num_of};
+ghost use Rattle.cellarcove_c.specs.Laws.{MonthsBetweenIsOnly, MonthsLaterIsOnly, OnBothIsOnly, OrderNumberIsOnly, ReasonIsOnly, StandsForIsOnly, StandsForNumberIsOnly};
 
-/// Says the laws, each of which is proved by its lemma. No call needs it.
+/// Says the laws, each of which is proved by its lemma; those of any property at one of them. No call
+/// needs it.
 fn laws()
     ensures reason_is_only { ReasonIsOnly }
     ensures stands_for_is_only { StandsForIsOnly }
+    ensures stands_for_number_is_only { StandsForNumberIsOnly
+        (λ x number. IsQuotient IsFloored (num_of x) (den_of x) number) }
+    ensures on_both_is_only { OnBothIsOnly
+        (λ r x y. AnswersFraction (num_of x *ℤ num_of y) (den_of x *ℤ den_of y) r)
+        (λ r e. r ≡ Err e) }
     ensures order_number_is_only { OrderNumberIsOnly }
     ensures months_later_is_only { MonthsLaterIsOnly }
     ensures months_between_is_only { MonthsBetweenIsOnly }

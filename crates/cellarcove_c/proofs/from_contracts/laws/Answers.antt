@@ -5,6 +5,8 @@ pub returns : goal.returns
 returns c = record {
   reason_is_only = law.reason_is_only;
   stands_for_is_only = law.stands_for_is_only;
+  stands_for_number_is_only = law.stands_for_number_is_only _;
+  on_both_is_only = law.on_both_is_only _ _;
   order_number_is_only = law.order_number_is_only;
   months_later_is_only = law.months_later_is_only;
   months_between_is_only = law.months_between_is_only;
