@@ -27,7 +27,8 @@
 //!
 //! Most functions over any lawful type are followed by the same at native types, whose names end in
 //! `_of_i64` or `_of_u64`. That the line which the program prints is the definition's is the contract of
-//! `run` in `intcalc`: no crate can stand on a program.
+//! `run` in `intcalc`: no crate can stand on a program. Of a counted call it is proved that it returns the
+//! number of turns of the definition's loop; whether its own loop makes them is seen by reading.
 //!
 //! **How to read a clause.** `T.value x` is the whole number that `x` means, which is `x` at `i64` and
 //! `pos x` at `u64`. `T.fits z` says that the type has the number `z`. Clauses speak of whole numbers
@@ -35,21 +36,22 @@
 //! its type; at a native type each one is. The other `requires` are the domain of the call, and there is
 //! no further condition. The words are defined in `specs/` of each crate, with examples.
 
-ghost use Rattle.std.specs.Prelude.{◌≡◌, ◌≢◌, ◌↔◌, ◌+◌, ◌*◌, ◌^◌, ◌%◌, ◌<◌, ◌≤◌, ◌≤ℤ◌, ◌+ℤ◌, ◌-ℤ◌, ◌*ℤ◌, ℕ, pos, unsigned_abs, [], ◌∷◌, map, Err, IfNone, IfOk, IfSome, IsTrue, FitsSigned};
+ghost use Rattle.std.specs.Prelude.{◌≡◌, ◌≢◌, ◌↔◌, ◌+◌, ◌-◌, ◌*◌, ◌^◌, ◌%◌, ◌<◌, ◌≤◌, ◌≤ℤ◌, ◌+ℤ◌, ◌-ℤ◌, ◌*ℤ◌, ℕ, pos, unsigned_abs, [], ◌∷◌, map, Err, IfNone, IfOk, IfSome, IsTrue, FitsSigned, min};
 ghost use Rattle.std.specs.Int.{FitsUnsignedBits, w64};
 ghost use Rattle.std.specs.List.{All};
 ghost use Rattle.num_integer.specs.Averages.{IsAverageCeil, IsAverageFloor};
-ghost use Rattle.num_integer.specs.Bezout.{HasPair, IsBezoutAnswer, IsSmallPair, NeedsBoth};
+ghost use Rattle.num_integer.specs.Bezout.{AreEuclidTurns, HasPair, IsBezoutAnswer, IsSmallPair, NeedsBoth};
 ghost use Rattle.num_integer.specs.Coefficient.{coefficient, coefficient_of};
 ghost use Rattle.num_integer.specs.Division.{EachKind, IsCeiled, IsFloored, IsMultiple, IsQuotient, IsRemainder, IsTruncated};
 ghost use Rattle.num_integer.specs.Divisors.{Divides, GcdFits, IsEven, IsGreatestCommonDivisor, IsLeastCommonMultiple};
 ghost use Rattle.num_integer.specs.Fibonacci.{fibonacci};
-ghost use Rattle.num_integer.specs.GcdRuns.{IsBitLength};
+ghost use Rattle.num_integer.specs.GcdRuns.{AreGcdTurns, IsBitLength};
 ghost use Rattle.num_integer.specs.Multinomial.{IsMultinomial};
 ghost use Rattle.num_integer.specs.Only.{IsOnly};
 ghost use Rattle.num_integer.specs.Range.{EachFits};
 ghost use Rattle.num_integer.specs.RootOf.{IsRoot};
 ghost use Rattle.num_integer.specs.Row.{RowFits, row_of};
+ghost use Rattle.num_integer.specs.SquareRuns.{AreSquareRootTurns};
 ghost use Rattle.ratio64.specs.Fraction.{IsExact, IsOutsideI64, IsReduced, fraction_cmp};
 ghost use Rattle.ratio64.specs.Ratio.{AnswersFraction, den_of, num_of};
 ghost use Rattle.intcalc_core.specs.Outcome.{Outcome};
@@ -125,6 +127,7 @@ pub fn square_root_in_five_turns<T: SqrtCounted>(x: T) -> (T, u32)
     requires in_range { T.fits (T.value x) }
     requires from_zero { pos 0 ≤ℤ T.value x }
     ensures exact { IsRoot (T.value x) 2 (T.value result.0) }
+    ensures turns { AreSquareRootTurns (T.value x) result.1 }
     ensures five { result.1 ≤ 5 }
 {
     x.sqrt_counted()
@@ -134,6 +137,7 @@ pub fn square_root_in_five_turns<T: SqrtCounted>(x: T) -> (T, u32)
 pub fn square_root_in_five_turns_of_i64(x: i64) -> (i64, u32)
     requires from_zero { pos 0 ≤ℤ x }
     ensures exact { IsRoot x 2 result.0 }
+    ensures turns { AreSquareRootTurns x result.1 }
     ensures five { result.1 ≤ 5 }
 {
     x.sqrt_counted()
@@ -144,6 +148,7 @@ pub fn square_root_in_five_turns_of_u64(x: u64) -> (u64, u32)
     ensures exact { IsRoot (pos x) 2 (pos result.0) }
     ensures square { result.0 ^ 2 ≤ x }
     ensures next_square { x < (result.0 + 1) ^ 2 }
+    ensures turns { AreSquareRootTurns (pos x) result.1 }
     ensures five { result.1 ≤ 5 }
 {
     x.sqrt_counted()
@@ -198,6 +203,7 @@ pub fn bezout_pair_of_i64(a: i64, b: i64) -> ExtendedGcd<i64>
     requires gcd_fits { GcdFits (FitsSigned w64) a b }
     ensures greatest { IsGreatestCommonDivisor a b result.gcd }
     ensures certified { result.x *ℤ a +ℤ result.y *ℤ b ≡ result.gcd }
+    ensures named { IsBezoutAnswer a b result.gcd result.x result.y }
     ensures only { NeedsBoth a b
         → IsOnly (λ (x, y). IsSmallPair a b result.gcd x y) (result.x, result.y) }
 {
@@ -506,6 +512,7 @@ pub fn turns_for_gcd<T: GcdCounted>(a: T, b: T) -> (T, u32)
     requires in_range { T.fits (T.value a) × T.fits (T.value b) }
     requires gcd_fits { GcdFits T.fits (T.value a) (T.value b) }
     ensures greatest { IsGreatestCommonDivisor (T.value a) (T.value b) (T.value result.0) }
+    ensures turns { AreGcdTurns T.low (T.value a) (T.value b) result.1 }
     ensures bound { (k l : ℕ) → IsBitLength (T.value a) k → IsBitLength (T.value b) l
         → result.1 ≤ k + l }
 {
@@ -528,6 +535,7 @@ pub fn turns_for_bezout_pair<T: Integer>(a: T, b: T) -> (ExtendedGcd<T>, u32)
     requires gcd_fits { GcdFits T.fits (T.value a) (T.value b) }
     requires has_pair { HasPair T.fits (T.value a) (T.value b) }
     ensures greatest { IsGreatestCommonDivisor (T.value a) (T.value b) (T.value result.0.gcd) }
+    ensures turns { AreEuclidTurns (T.value a) (T.value b) result.1 }
     ensures bound { T.value b ≢ pos 0
         → fibonacci (result.1 + 2) * unsigned_abs (T.value result.0.gcd)
         ≤ unsigned_abs (T.value b) }
@@ -539,6 +547,7 @@ pub fn turns_for_bezout_pair<T: Integer>(a: T, b: T) -> (ExtendedGcd<T>, u32)
 pub fn turns_for_bezout_pair_of_i64(a: i64, b: i64) -> (ExtendedGcd<i64>, u32)
     requires gcd_fits { GcdFits (FitsSigned w64) a b }
     ensures greatest { IsGreatestCommonDivisor a b result.0.gcd }
+    ensures turns { AreEuclidTurns a b result.1 }
     ensures bound { b ≢ pos 0
         → fibonacci (result.1 + 2) * unsigned_abs result.0.gcd ≤ unsigned_abs b }
 {
@@ -552,6 +561,8 @@ pub fn turns_for_binomial<T: Integer>(n: T, k: T) -> (T, u32)
     requires from_zero { (pos 0 ≤ℤ T.value n) × (pos 0 ≤ℤ T.value k) }
     requires coefficient_fits { T.fits (coefficient_of (T.value n) (T.value k)) }
     ensures exact { T.value result.0 ≡ coefficient_of (T.value n) (T.value k) }
+    ensures turns { result.1
+        ≡ min (unsigned_abs (T.value k)) (unsigned_abs (T.value n) - unsigned_abs (T.value k)) }
     ensures bound { T.value k ≤ℤ T.value n
         → 2 ^ result.1 ≤ coefficient (unsigned_abs (T.value n)) (unsigned_abs (T.value k)) }
 {
@@ -562,6 +573,7 @@ pub fn turns_for_binomial<T: Integer>(n: T, k: T) -> (T, u32)
 pub fn turns_for_binomial_of_u64(n: u64, k: u64) -> (u64, u32)
     requires coefficient_fits { coefficient n k < 2 ^ 64 }
     ensures exact { result.0 ≡ coefficient n k }
+    ensures turns { result.1 ≡ min k (n - k) }
     ensures bound { k ≤ n → 2 ^ result.1 ≤ coefficient n k }
 {
     binomial_counted(n, k)
@@ -619,7 +631,8 @@ pub fn product_of_fractions(x: &Ratio, y: &Ratio) -> Result<Ratio, RatioError>
 pub fn quotient_of_fractions(x: &Ratio, y: &Ratio) -> Result<Ratio, RatioError>
     ensures exact { AnswersFraction (num_of x.now *ℤ den_of y.now)
         (num_of y.now *ℤ den_of x.now) result }
-    ensures zero_divisor { (result ≡ Err RatioError.ZeroDenominator) ↔ (num_of y.now ≡ pos 0) }
+    ensures zero_divisor { (result ≡ Err RatioError.ZeroDenominator)
+        ↔ (num_of y.now ≡ pos 0) }
 {
     x.checked_div(y)
 }
@@ -634,7 +647,8 @@ pub fn floor_and_ceil_of_fraction(x: &Ratio) -> (i64, i64)
 
 /// Fractions compare as their products across do.
 pub fn order_of_fractions(x: &Ratio, y: &Ratio) -> Ordering
-    ensures order { result ≡ fraction_cmp (num_of x.now) (den_of x.now) (num_of y.now) (den_of y.now) }
+    ensures order { result
+        ≡ fraction_cmp (num_of x.now) (den_of x.now) (num_of y.now) (den_of y.now) }
 {
     x.cmp(y)
 }
