@@ -31,7 +31,8 @@
 //! number of turns of the definition's loop; whether its own loop makes them is seen by reading.
 //!
 //! **How to read a clause.** `T.value x` is the whole number that `x` means, which is `x` at `i64` and
-//! `pos x` at `u64`. `T.fits z` says that the type has the number `z`. Clauses speak of whole numbers
+//! `pos x` at `u64`. `T.fits z` says that the type has the number `z`. A lawful type is one that implements
+//! `Integer`, for which its laws are proved; the twelve native types do. Clauses speak of whole numbers
 //! without limit, so nothing in them overflows. A clause `in_range` says that an argument is a number of
 //! its type; at a native type each one is. The other `requires` are the domain of the call, and there is
 //! no further condition. The words are defined in `specs/` of each crate, with examples.
