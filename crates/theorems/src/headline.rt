@@ -22,34 +22,38 @@
 //! | 2 to the power of the turns for a coefficient is at most the coefficient | [`turns_for_binomial`] |
 //! | a fraction is reduced | [`parts_of_fraction`] |
 //! | it is refused only if its reduced form does not fit, or its denominator is 0 | [`fraction`], [`sum_of_fractions`], [`difference_of_fractions`], [`product_of_fractions`], [`quotient_of_fractions`] |
+//! | its rounding and its order are those of the definitions | [`floor_and_ceil_of_fraction`], [`order_of_fractions`] |
 //! | a call of the program has the outcome of the definition | [`outcome`] |
 //!
-//! A function over any lawful type is followed by those at native types, whose names end in `_of_i64` or
-//! `_of_u64`. That the line which the program prints is the definition's is the contract of `run` in
-//! `intcalc`: no crate can stand on a program.
+//! Most functions over any lawful type are followed by the same at native types, whose names end in
+//! `_of_i64` or `_of_u64`. That the line which the program prints is the definition's is the contract of
+//! `run` in `intcalc`: no crate can stand on a program. Of a counted call it is proved that it returns the
+//! number of turns of the definition's loop; whether its own loop makes them is seen by reading.
 //!
 //! **How to read a clause.** `T.value x` is the whole number that `x` means, which is `x` at `i64` and
-//! `pos x` at `u64`. `T.fits z` says that the type has the number `z`. Clauses speak of whole numbers
+//! `pos x` at `u64`. `T.fits z` says that the type has the number `z`. A lawful type is one that implements
+//! `Integer`, for which its laws are proved; the twelve native types do. Clauses speak of whole numbers
 //! without limit, so nothing in them overflows. A clause `in_range` says that an argument is a number of
 //! its type; at a native type each one is. The other `requires` are the domain of the call, and there is
 //! no further condition. The words are defined in `specs/` of each crate, with examples.
 
-ghost use Rattle.std.specs.Prelude.{◌≡◌, ◌≢◌, ◌↔◌, ◌+◌, ◌*◌, ◌^◌, ◌%◌, ◌<◌, ◌≤◌, ◌≤ℤ◌, ◌+ℤ◌, ◌-ℤ◌, ◌*ℤ◌, ℕ, pos, unsigned_abs, [], ◌∷◌, map, Err, IfNone, IfOk, IfSome, IsTrue, FitsSigned};
+ghost use Rattle.std.specs.Prelude.{◌≡◌, ◌≢◌, ◌↔◌, ◌+◌, ◌-◌, ◌*◌, ◌^◌, ◌%◌, ◌<◌, ◌≤◌, ◌≤ℤ◌, ◌+ℤ◌, ◌-ℤ◌, ◌*ℤ◌, ℕ, pos, unsigned_abs, [], ◌∷◌, map, Err, IfNone, IfOk, IfSome, IsTrue, FitsSigned, min};
 ghost use Rattle.std.specs.Int.{FitsUnsignedBits, w64};
 ghost use Rattle.std.specs.List.{All};
 ghost use Rattle.num_integer.specs.Averages.{IsAverageCeil, IsAverageFloor};
-ghost use Rattle.num_integer.specs.Bezout.{HasPair, IsBezoutAnswer, IsSmallPair, NeedsBoth};
+ghost use Rattle.num_integer.specs.Bezout.{AreEuclidTurns, HasPair, IsBezoutAnswer, IsSmallPair, NeedsBoth};
 ghost use Rattle.num_integer.specs.Coefficient.{coefficient, coefficient_of};
 ghost use Rattle.num_integer.specs.Division.{EachKind, IsCeiled, IsFloored, IsMultiple, IsQuotient, IsRemainder, IsTruncated};
 ghost use Rattle.num_integer.specs.Divisors.{Divides, GcdFits, IsEven, IsGreatestCommonDivisor, IsLeastCommonMultiple};
 ghost use Rattle.num_integer.specs.Fibonacci.{fibonacci};
-ghost use Rattle.num_integer.specs.GcdRuns.{IsBitLength};
+ghost use Rattle.num_integer.specs.GcdRuns.{AreGcdTurns, IsBitLength};
 ghost use Rattle.num_integer.specs.Multinomial.{IsMultinomial};
 ghost use Rattle.num_integer.specs.Only.{IsOnly};
 ghost use Rattle.num_integer.specs.Range.{EachFits};
 ghost use Rattle.num_integer.specs.RootOf.{IsRoot};
 ghost use Rattle.num_integer.specs.Row.{RowFits, row_of};
-ghost use Rattle.ratio64.specs.Fraction.{IsExact, IsOutsideI64, IsReduced};
+ghost use Rattle.num_integer.specs.SquareRuns.{AreSquareRootTurns};
+ghost use Rattle.ratio64.specs.Fraction.{IsExact, IsOutsideI64, IsReduced, fraction_cmp};
 ghost use Rattle.ratio64.specs.Ratio.{AnswersFraction, den_of, num_of};
 ghost use Rattle.intcalc_core.specs.Outcome.{Outcome};
 
@@ -63,6 +67,7 @@ use num_integer::{
 use num_traits::Signed;
 use ratio64::{Ratio, RatioError};
 use std::alloc::{AllocError, Global};
+use std::cmp::Ordering;
 
 /// A root is exact, at every degree. For `x` at least 0 it is the `r` at least 0 whose power of degree `n`
 /// is at most `x`, while that of `r + 1` is above `x`. For a negative `x` it is minus the root of `-x`.
@@ -101,12 +106,21 @@ pub fn root_of_i64(x: i64, n: u32) -> i64
     nth_root(x, n)
 }
 
-/// A root at `u64`.
+/// A root at `u64`, where the definition is two inequalities.
 pub fn root_of_u64(x: u64, n: u32) -> u64
     requires degree { n ≢ 0 }
     ensures exact { IsRoot (pos x) n (pos result) }
+    ensures power { result ^ n ≤ x }
+    ensures next_power { x < (result + 1) ^ n }
 {
     nth_root(x, n)
+}
+
+/// A cube root at `i64`.
+pub fn cube_root_of_i64(x: i64) -> i64
+    ensures exact { IsRoot x 3 result }
+{
+    cbrt(x)
 }
 
 /// The loops of a square root make at most five turns, and the root is exact.
@@ -114,23 +128,28 @@ pub fn square_root_in_five_turns<T: SqrtCounted>(x: T) -> (T, u32)
     requires in_range { T.fits (T.value x) }
     requires from_zero { pos 0 ≤ℤ T.value x }
     ensures exact { IsRoot (T.value x) 2 (T.value result.0) }
+    ensures turns { AreSquareRootTurns (T.value x) result.1 }
     ensures five { result.1 ≤ 5 }
 {
     x.sqrt_counted()
 }
 
-/// A square root at `i64`.
-pub fn square_root_of_i64(x: i64) -> (i64, u32)
+/// A square root with its turns at `i64`.
+pub fn square_root_in_five_turns_of_i64(x: i64) -> (i64, u32)
     requires from_zero { pos 0 ≤ℤ x }
     ensures exact { IsRoot x 2 result.0 }
+    ensures turns { AreSquareRootTurns x result.1 }
     ensures five { result.1 ≤ 5 }
 {
     x.sqrt_counted()
 }
 
-/// A square root at `u64`.
-pub fn square_root_of_u64(x: u64) -> (u64, u32)
+/// A square root with its turns at `u64`.
+pub fn square_root_in_five_turns_of_u64(x: u64) -> (u64, u32)
     ensures exact { IsRoot (pos x) 2 (pos result.0) }
+    ensures square { result.0 ^ 2 ≤ x }
+    ensures next_square { x < (result.0 + 1) ^ 2 }
+    ensures turns { AreSquareRootTurns (pos x) result.1 }
     ensures five { result.1 ≤ 5 }
 {
     x.sqrt_counted()
@@ -185,6 +204,7 @@ pub fn bezout_pair_of_i64(a: i64, b: i64) -> ExtendedGcd<i64>
     requires gcd_fits { GcdFits (FitsSigned w64) a b }
     ensures greatest { IsGreatestCommonDivisor a b result.gcd }
     ensures certified { result.x *ℤ a +ℤ result.y *ℤ b ≡ result.gcd }
+    ensures named { IsBezoutAnswer a b result.gcd result.x result.y }
     ensures only { NeedsBoth a b
         → IsOnly (λ (x, y). IsSmallPair a b result.gcd x y) (result.x, result.y) }
 {
@@ -281,6 +301,16 @@ pub fn quotients<T: Integer>(n: T, d: T) -> (T, T)
     (div_floor(n, d), div_ceil(n, d))
 }
 
+/// The quotients at `i64`. Only that of the least number by -1 does not fit.
+pub fn quotients_of_i64(n: i64, d: i64) -> (i64, i64)
+    requires nonzero { d ≢ pos 0 }
+    requires quotients_fit { EachKind (λ Kind. EachFits (FitsSigned w64) (IsQuotient Kind n d)) }
+    ensures floored { IsQuotient IsFloored n d result.0 }
+    ensures ceiled { IsQuotient IsCeiled n d result.1 }
+{
+    (div_floor(n, d), div_ceil(n, d))
+}
+
 /// `mod_floor` is the remainder of the quotient rounded down, even if that quotient does not fit.
 pub fn residue<T: Integer>(n: T, d: T) -> T
     requires in_range { T.fits (T.value n) × T.fits (T.value d) }
@@ -290,14 +320,12 @@ pub fn residue<T: Integer>(n: T, d: T) -> T
     mod_floor(n, d)
 }
 
-/// The quotients at `i64`. Only that of the least number by -1 does not fit.
-pub fn quotients_of_i64(n: i64, d: i64) -> (i64, i64)
+/// The remainder at `i64`.
+pub fn residue_of_i64(n: i64, d: i64) -> i64
     requires nonzero { d ≢ pos 0 }
-    requires quotients_fit { EachKind (λ Kind. EachFits (FitsSigned w64) (IsQuotient Kind n d)) }
-    ensures floored { IsQuotient IsFloored n d result.0 }
-    ensures ceiled { IsQuotient IsCeiled n d result.1 }
+    ensures floored { IsRemainder IsFloored n d result }
 {
-    (div_floor(n, d), div_ceil(n, d))
+    mod_floor(n, d)
 }
 
 /// `prev_multiple_of` is the quotient rounded down, times the divisor, and `next_multiple_of` is the
@@ -350,11 +378,27 @@ pub fn parity<T: Integer>(n: T) -> (bool, bool)
     (n.is_even(), n.is_odd())
 }
 
+/// Parity at `i64`.
+pub fn parity_of_i64(n: i64) -> (bool, bool)
+    ensures even { IsTrue result.0 ↔ IsEven n }
+    ensures odd { IsTrue result.1 ↔ ¬ (IsEven n) }
+{
+    (n.is_even(), n.is_odd())
+}
+
 /// `inc` adds one.
 pub fn one_more<T: Integer>(n: &mut T)
     requires in_range { T.fits (T.value n.old) }
     requires sum_fits { T.fits (T.value n.old +ℤ pos 1) }
     ensures more { T.value n.new ≡ T.value n.old +ℤ pos 1 }
+{
+    n.inc();
+}
+
+/// One more at `u64`.
+pub fn one_more_of_u64(n: &mut u64)
+    requires sum_fits { n.old + 1 < 2 ^ 64 }
+    ensures more { n.new ≡ n.old + 1 }
 {
     n.inc();
 }
@@ -368,14 +412,6 @@ pub fn one_less<T: Integer>(n: &mut T)
     n.dec();
 }
 
-/// One more at `u64`.
-pub fn one_more_of_u64(n: &mut u64)
-    requires sum_fits { n.old + 1 < 2 ^ 64 }
-    ensures more { n.new ≡ n.old + 1 }
-{
-    n.inc();
-}
-
 /// A least common multiple is at least 0, both numbers divide it, and it divides every number that both
 /// divide.
 pub fn least_common_multiple<T: Integer>(a: T, b: T) -> T
@@ -386,7 +422,15 @@ pub fn least_common_multiple<T: Integer>(a: T, b: T) -> T
     lcm(a, b)
 }
 
-/// `gcd_lcm` has both.
+/// A least common multiple at `u64`.
+pub fn least_common_multiple_of_u64(a: u64, b: u64) -> u64
+    requires lcm_fits { EachFits (FitsUnsignedBits 64) (IsLeastCommonMultiple (pos a) (pos b)) }
+    ensures least { IsLeastCommonMultiple (pos a) (pos b) (pos result) }
+{
+    lcm(a, b)
+}
+
+/// `gcd_lcm` has the gcd and the lcm.
 pub fn gcd_and_lcm<T: Integer>(a: T, b: T) -> (T, T)
     requires in_range { T.fits (T.value a) × T.fits (T.value b) }
     requires gcd_fits { GcdFits T.fits (T.value a) (T.value b) }
@@ -408,14 +452,6 @@ pub fn bezout_pair_and_lcm<T: Integer + Signed>(a: T, b: T) -> (ExtendedGcd<T>, 
     ensures least { IsLeastCommonMultiple (T.value a) (T.value b) (T.value result.1) }
 {
     a.extended_gcd_lcm(&b)
-}
-
-/// A least common multiple at `u64`.
-pub fn least_common_multiple_of_u64(a: u64, b: u64) -> u64
-    requires lcm_fits { EachFits (FitsUnsignedBits 64) (IsLeastCommonMultiple (pos a) (pos b)) }
-    ensures least { IsLeastCommonMultiple (pos a) (pos b) (pos result) }
-{
-    lcm(a, b)
 }
 
 /// `average_floor` is half of the sum rounded down, and `average_ceil` is half of it rounded up, for any
@@ -477,6 +513,7 @@ pub fn turns_for_gcd<T: GcdCounted>(a: T, b: T) -> (T, u32)
     requires in_range { T.fits (T.value a) × T.fits (T.value b) }
     requires gcd_fits { GcdFits T.fits (T.value a) (T.value b) }
     ensures greatest { IsGreatestCommonDivisor (T.value a) (T.value b) (T.value result.0) }
+    ensures turns { AreGcdTurns T.low (T.value a) (T.value b) result.1 }
     ensures bound { (k l : ℕ) → IsBitLength (T.value a) k → IsBitLength (T.value b) l
         → result.1 ≤ k + l }
 {
@@ -499,6 +536,7 @@ pub fn turns_for_bezout_pair<T: Integer>(a: T, b: T) -> (ExtendedGcd<T>, u32)
     requires gcd_fits { GcdFits T.fits (T.value a) (T.value b) }
     requires has_pair { HasPair T.fits (T.value a) (T.value b) }
     ensures greatest { IsGreatestCommonDivisor (T.value a) (T.value b) (T.value result.0.gcd) }
+    ensures turns { AreEuclidTurns (T.value a) (T.value b) result.1 }
     ensures bound { T.value b ≢ pos 0
         → fibonacci (result.1 + 2) * unsigned_abs (T.value result.0.gcd)
         ≤ unsigned_abs (T.value b) }
@@ -510,6 +548,7 @@ pub fn turns_for_bezout_pair<T: Integer>(a: T, b: T) -> (ExtendedGcd<T>, u32)
 pub fn turns_for_bezout_pair_of_i64(a: i64, b: i64) -> (ExtendedGcd<i64>, u32)
     requires gcd_fits { GcdFits (FitsSigned w64) a b }
     ensures greatest { IsGreatestCommonDivisor a b result.0.gcd }
+    ensures turns { AreEuclidTurns a b result.1 }
     ensures bound { b ≢ pos 0
         → fibonacci (result.1 + 2) * unsigned_abs result.0.gcd ≤ unsigned_abs b }
 {
@@ -523,6 +562,8 @@ pub fn turns_for_binomial<T: Integer>(n: T, k: T) -> (T, u32)
     requires from_zero { (pos 0 ≤ℤ T.value n) × (pos 0 ≤ℤ T.value k) }
     requires coefficient_fits { T.fits (coefficient_of (T.value n) (T.value k)) }
     ensures exact { T.value result.0 ≡ coefficient_of (T.value n) (T.value k) }
+    ensures turns { result.1
+        ≡ min (unsigned_abs (T.value k)) (unsigned_abs (T.value n) - unsigned_abs (T.value k)) }
     ensures bound { T.value k ≤ℤ T.value n
         → 2 ^ result.1 ≤ coefficient (unsigned_abs (T.value n)) (unsigned_abs (T.value k)) }
 {
@@ -533,6 +574,7 @@ pub fn turns_for_binomial<T: Integer>(n: T, k: T) -> (T, u32)
 pub fn turns_for_binomial_of_u64(n: u64, k: u64) -> (u64, u32)
     requires coefficient_fits { coefficient n k < 2 ^ 64 }
     ensures exact { result.0 ≡ coefficient n k }
+    ensures turns { result.1 ≡ min k (n - k) }
     ensures bound { k ≤ n → 2 ^ result.1 ≤ coefficient n k }
 {
     binomial_counted(n, k)
@@ -590,9 +632,26 @@ pub fn product_of_fractions(x: &Ratio, y: &Ratio) -> Result<Ratio, RatioError>
 pub fn quotient_of_fractions(x: &Ratio, y: &Ratio) -> Result<Ratio, RatioError>
     ensures exact { AnswersFraction (num_of x.now *ℤ den_of y.now)
         (num_of y.now *ℤ den_of x.now) result }
-    ensures zero_divisor { (result ≡ Err RatioError.ZeroDenominator) ↔ (num_of y.now ≡ pos 0) }
+    ensures zero_divisor { (result ≡ Err RatioError.ZeroDenominator)
+        ↔ (num_of y.now ≡ pos 0) }
 {
     x.checked_div(y)
+}
+
+/// `floor` and `ceil` are the quotients of the parts, rounded down and up.
+pub fn floor_and_ceil_of_fraction(x: &Ratio) -> (i64, i64)
+    ensures floored { IsQuotient IsFloored (num_of x.now) (den_of x.now) result.0 }
+    ensures ceiled { IsQuotient IsCeiled (num_of x.now) (den_of x.now) result.1 }
+{
+    (x.floor(), x.ceil())
+}
+
+/// Fractions compare as their products across do.
+pub fn order_of_fractions(x: &Ratio, y: &Ratio) -> Ordering
+    ensures order { result
+        ≡ fraction_cmp (num_of x.now) (den_of x.now) (num_of y.now) (den_of y.now) }
+{
+    x.cmp(y)
 }
 
 /// The outcome of a call at a kind is that of the definition: the first refusal whose condition holds,
