@@ -18,6 +18,8 @@
 //! | `dates.rt` | `calendar`: dates and their days, weeks, months, Easter |
 //! | `pages.rt` | `uses`: pages and parts, offsets, schedules, choices |
 //!
+//! A function without `ensures` shows that its body returns for all arguments: no operation overflows, and no index is out of range.
+//!
 //! Most functions have no proof file: the search proves them from the contracts of what they call. The others have theirs in
 //! `proofs/`, under the names of the file and of the function.
 //!

@@ -10,9 +10,10 @@ ghost use Rattle.uses.specs.Ranking.{IsChoice, rank_of};
 ghost use Rattle.uses.specs.Schedules.{IsMeetingOfEach};
 
 use modular::CommonSolution;
+use num_integer::Fits;
 use uses::layout::align_up;
 use uses::paging::{item_at, range_of_page, range_of_part};
-use uses::ranking::{next_choice, rank};
+use uses::ranking::{is_choice, next_choice, rank, rank_fits};
 use uses::schedules::{Schedule, next_meeting, next_meeting_of};
 
 // ---- pages and parts
@@ -128,12 +129,61 @@ pub fn next_shift(now: i64, schedules: &[Schedule<i64>]) -> Option<i64>
 
 // ---- choices
 
+/// The rank of numbers that are read, or `None` if they are no choice or the rank does not fit.
+pub fn rank_of_read(numbers: &[u64], n: u64) -> Option<u64>
+    ensures { MatchOption result (¬ (IsChoice n numbers.now × (rank_of numbers.now < 2 ^ 64)))
+        (λ r. r ≡ rank_of numbers.now) }
+{
+    if is_choice(numbers, n) && rank_fits(numbers) {
+        Some(rank(numbers, n))
+    } else {
+        None
+    }
+}
+
+/// The rank of a choice, where the number of all choices of its length fits.
+pub fn rank_of_counted(numbers: &[u64], n: u64) -> Option<u64>
+    ensures { IfSome result (λ r. r ≡ rank_of numbers.now) }
+{
+    let k = numbers.len() as u64;
+    if is_choice(numbers, n) && n.binomial_fits(&k) {
+        Some(rank(numbers, n))
+    } else {
+        None
+    }
+}
+
 /// The rank of numbers that are known to be a choice, where the number of choices of their length fits.
 pub fn rank_of_known(numbers: &[u64], n: u64) -> u64
     requires choice { IsChoice n numbers.now }
     requires count_fits { coefficient n (length numbers.now) < 2 ^ 64 }
+    ensures { result ≡ rank_of numbers.now }
 {
     rank(numbers, n)
+}
+
+/// The number of a lottery ticket of six numbers below 49, or `None` if they do not increase.
+#[tactic(auto, unfolding(num_integer::specs::Coefficient::coefficient))]
+pub fn ticket_number(numbers: &[u64; 6]) -> Option<u64>
+    ensures { MatchOption result (¬ (IsChoice 49 numbers.now)) (λ r. r < 13983816) }
+{
+    if is_choice(numbers, 49) {
+        Some(rank(numbers, 49))
+    } else {
+        None
+    }
+}
+
+/// The number of a ticket that is read.
+#[tactic(auto, unfolding(num_integer::specs::Coefficient::coefficient))]
+pub fn number_of_read(numbers: &[u64]) -> Option<u64>
+    ensures { IfSome result (λ r. r ≡ rank_of numbers.now) }
+{
+    if numbers.len() == 6 && is_choice(numbers, 49) {
+        Some(rank(numbers, 49))
+    } else {
+        None
+    }
 }
 
 /// The choice two ranks on, where there is one.

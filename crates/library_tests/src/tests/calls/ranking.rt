@@ -1,6 +1,6 @@
 //! Worked ranks and choices, and the choices that follow them.
 
-ghost use Rattle.std.specs.Prelude.{◌≡◌, ◌<◌, IfSome};
+ghost use Rattle.std.specs.Prelude.{◌≡◌};
 ghost use Rattle.uses.specs.Ranking.{IsChoice, rank_of};
 
 use crate::tests::assertions::holds_at;
@@ -22,66 +22,17 @@ const THREE_OF_FIVE: [[u64; 3]; 10] = [
     [2, 3, 4],
 ];
 
-/// The rank of numbers that are read, or `None` if they are no choice or the rank does not fit.
-fn rank_of_read(numbers: &[u64], n: u64) -> Option<u64>
-    ensures { IfSome result (λ r. r ≡ rank_of numbers.now) }
-{
-    if is_choice(numbers, n) && rank_fits(numbers) {
-        Some(rank(numbers, n))
-    } else {
-        None
-    }
-}
-
-/// The number of a lottery ticket of six numbers below 49, or `None` if they do not increase.
-#[tactic(auto, unfolding(num_integer::specs::Coefficient::coefficient))]
-fn ticket_number(numbers: &[u64; 6]) -> Option<u64>
-    ensures { IfSome result (λ r. r < 13983816) }
-{
-    if is_choice(numbers, 49) {
-        Some(rank(numbers, 49))
-    } else {
-        None
-    }
-}
-
-/// The number of a ticket that is read.
-#[tactic(auto, unfolding(num_integer::specs::Coefficient::coefficient))]
-fn number_of_read(numbers: &[u64]) -> Option<u64> {
-    if numbers.len() == 6 && is_choice(numbers, 49) {
-        Some(rank(numbers, 49))
-    } else {
-        None
-    }
-}
-
-/// The rank of a choice, where the number of all choices of its length fits.
-fn rank_of_counted(numbers: &[u64], n: u64) -> Option<u64> {
-    let k = numbers.len() as u64;
-    if is_choice(numbers, n) && n.binomial_fits(&k) {
-        Some(rank(numbers, n))
-    } else {
-        None
-    }
-}
-
 #[test]
-fn ranks_of_read_numbers(rt: HostRuntime) {
+fn choices_and_their_ranks(rt: HostRuntime) {
     let mut forty = [0; 40];
     for (i, number) in forty.iter_mut().enumerate() {
         *number = i as u64;
     }
-    assert!(rt; rank_of_read(&forty, 80) == Some(0) && rank_of_counted(&forty, 80).is_none());
-    assert!(rt;
-        rank_of_read(&[0, 2, 3], 5) == Some(2) && rank_of_counted(&[0, 2, 3], 5) == Some(2)
-    );
-    assert!(rt; rank_of_read(&[0, 2, 2], 5).is_none() && rank_of_read(&[0, 2, 5], 5).is_none());
-    assert!(rt; rank_of_read(&[], 0) == Some(0) && rank_of_read(&[1, 0], 5).is_none());
-    assert!(rt; rank_of_read(&[u64::MAX], u64::MAX).is_none() && !rank_fits(&[0, u64::MAX]));
+    assert!(rt; is_choice(&forty, 80) && rank_fits(&forty) && !80u64.binomial_fits(&40));
+    assert!(rt; is_choice(&[0, 2, 3], 5) && is_choice(&[], 0) && is_choice(&[48], 49));
+    assert!(rt; !is_choice(&[0, 2, 2], 5) && !is_choice(&[0, 2, 5], 5) && !is_choice(&[1, 0], 5));
+    assert!(rt; !is_choice(&[u64::MAX], u64::MAX) && !rank_fits(&[0, u64::MAX]));
     assert!(rt; rank_fits(&[2, 6074001000]) && !rank_fits(&[3000000000, 6074001000]));
-    let last = [43, 44, 45, 46, 47, 48];
-    assert!(rt; ticket_number(&last) == Some(13983815) && number_of_read(&last) == Some(13983815));
-    assert!(rt; ticket_number(&[1, 2, 3, 4, 5, 49]).is_none() && number_of_read(&[1]).is_none());
 }
 
 #[tactic(auto, unfolding(num_integer::specs::Coefficient::coefficient, uses::specs::Ranking::rank_of))]
