@@ -492,7 +492,7 @@ use crate::fractions::{self, Fractions};
 use crate::models::{self, Models};
 use crate::residues::{self, Residues};
 use crate::walks::Answered;
-use test_types::types::Type::{I16, I64, I128, U64, U128};
+use own_types::types::Type::{I16, I64, I128, U64, U128};
 """
 
 

@@ -1,5 +1,5 @@
 #!/usr/bin/env python3
-"""Reads the wrong bodies of both suites, crates/NAME/must-fail/*.edit and crates/NAME/wrong-bodies/*.edit, and proves
+"""Reads the wrong bodies of both suites, crates/NAME/must-fail/*.edit and crates/NAME/must-fail-release/*.edit, and proves
 nothing. The first line of each says what is wrong. Each file that it names is there, each old text stands in that file
 exactly once where the pairs above have been applied, and its new text is another. Prints a line for each that is not so,
 and a count at the end.
@@ -10,7 +10,7 @@ import sys
 from pathlib import Path
 
 ROOT = Path(__file__).resolve().parent.parent
-SUITES = ('must-fail', 'wrong-bodies')
+SUITES = ('must-fail', 'must-fail-release')
 PARTS = ('src/', 'specs/', 'proofs/')
 
 

@@ -27,7 +27,7 @@ REPOSITORY = pathlib.Path(__file__).resolve().parent.parent
 CRATES = REPOSITORY / 'crates'
 PAGES = REPOSITORY / 'docs' / 'reference'
 TOOLCHAIN = REPOSITORY / 'rust' / 'by_hand' / 'definitions.md'
-NAMES = ('integer_core', 'integer_roots', 'num_integer', 'modular', 'ratio64', 'calendar', 'uses', 'cellarcove_c',
+NAMES = ('integer_core', 'integer_roots', 'num_integer', 'modular', 'ratio64', 'calendar', 'applied', 'cellarcove_c',
          'intcalc_core', 'intcalc')
 PROGRAMS = {'intcalc_core', 'intcalc', 'cellarcove_c'}      # nothing is exported: their public items are those of modules
 NOT_READ = {'tests', 'assertions'}                          # modules that only tests have

@@ -24,7 +24,7 @@ WIDTH = 96                                      # of the lines of sentences and 
 # What the pages of the module `definitions` are about.
 PAGES = {'integer_core': 'ranges, division, divisors, Bezout pairs and the turns of their loops',
          'integer_roots': 'averages, roots and the turns of their loops', 'num_integer': 'coefficients and checked calls',
-         'modular': 'residues and congruences', 'ratio64': 'fractions', 'calendar': 'dates', 'uses': 'the models of `uses`'}
+         'modular': 'residues and congruences', 'ratio64': 'fractions', 'calendar': 'dates', 'applied': 'the models of `applied`'}
 
 
 class Page:

@@ -167,7 +167,7 @@ CODE = {
         ('sum(total, *count)', f'T::exact_sum(total, *count, "{MULTINOMIAL}")'),
         ('product(multinomial, binomial(total, *count))',
          f'T::exact_product(multinomial, binomial(total, *count), "{MULTINOMIAL}")')),
-    ('uses', 'ranking', 'rank'): (
+    ('applied', 'ranking', 'rank'): (
         ('rank += binomial(*number, i as u64 + 1)',
          'rank = crate::guards::sum(rank, binomial(*number, i as u64 + 1), "the rank does not fit")'),),
 }
@@ -183,7 +183,7 @@ LEFT_TO_BODY = {
                      'extended_gcd_lcm', 'extended_gcd_counted', 'sum', 'difference', 'product', 'quotient',
                      'remainder', 'successor', 'predecessor', 'negated'},
     'num_integer': {'binomial', 'binomial_counted', 'multinomial', 'new'},
-    'uses': {'rank', 'lower_bound'},
+    'applied': {'rank', 'lower_bound'},
 }
 # The functions without a clause that the place of the caller goes through, on the way to a panic.
 WAY = {('integer_core', 'division', 'div_rem'), ('integer_core', 'division', 'div_mod_floor'),

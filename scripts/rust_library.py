@@ -5,7 +5,7 @@ from rattle_source import Source, Unknown
 
 ROOT = 'num_integer'                            # its modules stand at the root of the Rust crate
 CRATES = {'integer_core': 'mod', 'integer_roots': 'mod', 'num_integer': None,
-          'modular': 'pub mod', 'ratio64': 'pub mod', 'calendar': 'pub mod', 'uses': 'pub mod'}
+          'modular': 'pub mod', 'ratio64': 'pub mod', 'calendar': 'pub mod', 'applied': 'pub mod'}
 OUTSIDE = {'std', 'core', 'num_traits', 'crate', 'self', 'super'}
 
 

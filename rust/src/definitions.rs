@@ -1661,8 +1661,8 @@ pub mod calendar {
     //!
 }
 
-pub mod uses {
-    //! Words of the models of `uses`.
+pub mod applied {
+    //! Words of the models of `applied`.
     //!
     //! ## `weighted_sum`
     //!

@@ -33,6 +33,7 @@
 
 pub use num_traits;
 
+pub mod applied;
 mod bounded_coefficients;
 pub mod calendar;
 pub mod checked;
@@ -49,7 +50,6 @@ mod plain;
 pub mod ratio64;
 mod rows;
 mod shift;
-pub mod uses;
 
 pub use crate::integer_core::{
     div_ceil, div_floor, div_mod_floor, div_rem, gcd, gcd_lcm, lcm, mod_floor, operators,

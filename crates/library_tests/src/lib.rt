@@ -1,4 +1,4 @@
-//! The tests of `modular` and `uses`, callers of `num_integer`, and the tasks of the cookbook.
+//! The tests of `modular` and `applied`, callers of `num_integer`, and the tasks of the cookbook.
 #![tactic(auto)]
 
 #[cfg(test)]

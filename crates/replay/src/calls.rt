@@ -8,7 +8,7 @@ use num_integer::{
     ExtendedGcd, Fits, IterBinomial, Roots, average_ceil, average_floor, cbrt, checked,
 };
 use num_traits::Signed;
-use test_types::types::Tested;
+use own_types::types::Tested;
 
 /// A call.
 #[derive(Clone, Copy, Debug)]

@@ -1,6 +1,6 @@
 //! The checksum. `compare/src/checksum.rs` computes the same one.
 
-use test_types::signed_magnitude::SignedMagnitude;
+use own_types::signed_magnitude::SignedMagnitude;
 
 #[derive(Clone, Copy, Debug, PartialEq, Eq)]
 pub(crate) struct Checksum(pub(crate) u64);

@@ -2,7 +2,7 @@
 
 ghost use Rattle.std.specs.Prelude.{◌≤◌, ⊤, MatchOption, if◌then◌else◌};
 
-use test_types::signed_magnitude::SignedMagnitude;
+use own_types::signed_magnitude::SignedMagnitude;
 
 /// How many numbers are asked for their roots.
 pub(crate) const ROOTED: u32 = 2048;

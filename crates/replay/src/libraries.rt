@@ -6,7 +6,7 @@ use crate::fractions::{self, Fractions};
 use crate::models::{self, Models};
 use crate::residues::{self, Residues};
 use crate::walks::Answered;
-use test_types::types::Type::{I16, I64, I128, U64, U128};
+use own_types::types::Type::{I16, I64, I128, U64, U128};
 
 pub(crate) const RESIDUES: [residues::Line; 70] = [
     (I16, Residues::Residue, 11774, 13802651078066180270),

@@ -3,9 +3,9 @@
 use crate::calls::Call;
 use crate::checksum::Checksum;
 use crate::walks::{Answered, answers, rooted_answers, signed_answers, signed_rooted_answers};
+use own_types::types::Type;
 use std::alloc::Global;
 use std::process::Abort;
-use test_types::types::Type;
 
 /// A type; a call; how many inputs the Rust crate answers at the type; how many more it answers at
 /// `i128` alone, by numbers of the type; and the checksum over all of these inputs and answers.

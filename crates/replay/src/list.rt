@@ -6,7 +6,7 @@ use crate::calls::Call::{
     ModFloor, Multinomial, NextMultipleOf, NthRoot, PrevMultipleOf, Sqrt,
 };
 use crate::lines::Line;
-use test_types::types::Type::{I8, I16, I32, I64, I128, Isize, U8, U16, U32, U64, U128, Usize};
+use own_types::types::Type::{I8, I16, I32, I64, I128, Isize, U8, U16, U32, U64, U128, Usize};
 
 pub(crate) const NARROW_SIGNED: [Line; 69] = [
     Line(I8, DivRem, 65279, 0, 12532170480911359875),

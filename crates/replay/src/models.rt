@@ -1,4 +1,4 @@
-//! The calls of `uses` on few numbers of a type, and all choices of few numbers.
+//! The calls of `applied` on few numbers of a type, and all choices of few numbers.
 
 ghost use Rattle.std.specs.Prelude.{◌<ℤ◌, pos};
 
@@ -6,15 +6,15 @@ use crate::calls::{with_value, with_values};
 use crate::checksum::Checksum;
 use crate::spread::spread_of;
 use crate::walks::{Answered, values};
+use applied::halving::midpoint;
+use applied::layout::{align_up, padding};
+use applied::paging::{pages, place_of, range_of_page, range_of_part};
+use applied::ranking::{choice_of_rank, rank};
 use num_integer::operators::{is_below, is_negative, zero};
 use num_integer::{Average, Fits, binomial};
+use own_types::types::{Tested, Type};
 use std::alloc::Global;
 use std::process::Abort;
-use test_types::types::{Tested, Type};
-use uses::halving::midpoint;
-use uses::layout::{align_up, padding};
-use uses::paging::{pages, place_of, range_of_page, range_of_part};
-use uses::ranking::{choice_of_rank, rank};
 
 /// A call. Each takes a number above 0 last: the size of a page, a number of parts or an alignment.
 #[derive(Clone, Copy, Debug)]

@@ -14,9 +14,9 @@ use modular::{
 };
 use num_integer::Fits;
 use num_integer::operators::{is_below, zero};
+use own_types::types::{Tested, Type};
 use std::alloc::Global;
 use std::process::Abort;
-use test_types::types::{Tested, Type};
 
 /// A call. The last two take two moduli.
 #[derive(Clone, Copy, Debug)]

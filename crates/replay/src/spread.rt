@@ -2,10 +2,10 @@
 
 use crate::inputs::Shape;
 use crate::walks::shape_of;
+use own_types::signed_magnitude::{SignedMagnitude, to_i128};
+use own_types::types::Tested;
 use std::alloc::Global;
 use std::process::Abort;
-use test_types::signed_magnitude::{SignedMagnitude, to_i128};
-use test_types::types::Tested;
 
 /// The indices go up by this, so that a few of them give ends, powers of two, Fibonacci numbers and random
 /// numbers.

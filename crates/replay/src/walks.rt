@@ -10,10 +10,10 @@ use crate::checksum::Checksum;
 use crate::inputs::{DEGREES, LISTS, ROOTED, ROWS, Shape, counts, degree};
 use num_integer::{Fits, IterBinomial, Roots, checked};
 use num_traits::Signed;
+use own_types::signed_magnitude::SignedMagnitude;
+use own_types::types::Tested;
 use std::alloc::Global;
 use std::process::Abort;
-use test_types::signed_magnitude::SignedMagnitude;
-use test_types::types::Tested;
 
 /// How many answered inputs of a line are taken: all. To find the input at which a line is red, leave
 /// that line alone in the list and lower this: as long as that input is not taken, the test says on its

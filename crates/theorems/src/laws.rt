@@ -6,7 +6,7 @@ ghost use Rattle.num_integer.specs.Laws as integers;
 ghost use Rattle.modular.specs.Laws as residues;
 ghost use Rattle.ratio64.specs.Laws as fractions;
 ghost use Rattle.calendar.specs.Laws as dates;
-ghost use Rattle.uses.specs.Laws as models;
+ghost use Rattle.applied.specs.Laws as models;
 ghost use Rattle.ratio64.specs.Ratio.{den_of, num_of};
 ghost use Rattle.ratio64.specs.declared.fraction.Ratio.{Ratio};
 

@@ -16,7 +16,7 @@
 //! | `residues.rt` | `modular`: residues, inverses, congruences |
 //! | `fractions.rt` | `ratio64`: exact results and refusals, order, rounding |
 //! | `dates.rt` | `calendar`: dates and their days, weeks, months, Easter |
-//! | `pages.rt` | `uses`: pages and parts, offsets, schedules, choices |
+//! | `pages.rt` | `applied`: pages and parts, offsets, schedules, choices |
 //!
 //! A function without `ensures` shows that its body returns for all arguments: no operation overflows, and no index is out of range.
 //!

@@ -1,20 +1,20 @@
-//! Calls of `uses`: pages and parts, offsets, schedules and choices.
+//! Calls of `applied`: pages and parts, offsets, schedules and choices.
 
 ghost use Rattle.std.specs.Prelude.{◌≡◌, ◌↔◌, ◌<◌, ◌≤◌, ◌+◌, ◌*◌, ◌≤ℤ◌, ◌<ℤ◌, ◌+ℤ◌, ◌*ℤ◌, ◌^◌, FitsSigned, IfSome, IsTrue, MatchOption, length, min, pos, ℕ, ℤ};
 ghost use Rattle.std.specs.Int.{w64};
 ghost use Rattle.std.specs.List.{All};
 ghost use Rattle.num_integer.specs.Coefficient.{coefficient};
 ghost use Rattle.num_integer.specs.Least.{IsLeastFrom};
-ghost use Rattle.uses.specs.Paging.{IsPlace};
-ghost use Rattle.uses.specs.Ranking.{IsChoice, rank_of};
-ghost use Rattle.uses.specs.Schedules.{IsMeetingOfEach};
+ghost use Rattle.applied.specs.Paging.{IsPlace};
+ghost use Rattle.applied.specs.Ranking.{IsChoice, rank_of};
+ghost use Rattle.applied.specs.Schedules.{IsMeetingOfEach};
 
+use applied::layout::align_up;
+use applied::paging::{item_at, range_of_page, range_of_part};
+use applied::ranking::{is_choice, next_choice, rank, rank_fits};
+use applied::schedules::{Schedule, next_meeting, next_meeting_of};
 use modular::CommonSolution;
 use num_integer::Fits;
-use uses::layout::align_up;
-use uses::paging::{item_at, range_of_page, range_of_part};
-use uses::ranking::{is_choice, next_choice, rank, rank_fits};
-use uses::schedules::{Schedule, next_meeting, next_meeting_of};
 
 // ---- pages and parts
 

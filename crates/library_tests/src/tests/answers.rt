@@ -1,10 +1,14 @@
-//! What the calls of `modular` and of `uses` answer at a type, in signs and magnitudes.
+//! What the calls of `modular` and of `applied` answer at a type, in signs and magnitudes.
 //!
 //! The only calls at each type of the library are those of `ask` here: what is expected of the answers is
 //! compared as plain data.
 
 ghost use Rattle.std.specs.Prelude.{◌<ℤ◌, pos, IfSome};
 
+use applied::halving::midpoint;
+use applied::layout::{align_up, padding};
+use applied::paging::{pages, place_of, range_of_page, range_of_part};
+use applied::schedules::next_meeting;
 use modular::counted::power_modulo_counted;
 use modular::{
     CommonSolution, Modular, chinese_remainder, count_congruent, difference_modulo, inverse_modulo,
@@ -14,12 +18,8 @@ use modular::{
 use num_integer::operators::{is_below, is_negative, zero};
 use num_integer::{Average, Fits, Integer};
 use num_traits::FromPrimitive;
-use test_types::signed_magnitude::{SignedMagnitude, to_i128};
-use test_types::types::Type;
-use uses::halving::midpoint;
-use uses::layout::{align_up, padding};
-use uses::paging::{pages, place_of, range_of_page, range_of_part};
-use uses::schedules::next_meeting;
+use own_types::signed_magnitude::{SignedMagnitude, to_i128};
+use own_types::types::Type;
 
 /// A call. Each has an operand above 0: a modulus, a step, the size of a page, a number of parts or an
 /// alignment. Of two moduli it is the first, and the second follows the two numbers.

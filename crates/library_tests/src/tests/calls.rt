@@ -1,4 +1,4 @@
-//! Calls of `uses`: worked values.
+//! Calls of `applied`: worked values.
 
 mod powers;
 mod ranking;
@@ -10,8 +10,8 @@ mod search;
 use super::answers::Call::{AlignUp, Midpoint, Padding, Pages, PlaceOf, RangeOfPage, RangeOfPart};
 use super::assertions::holds_at;
 use super::rows::{Row, rows_hold};
-use test_types::types::Type::{I8, I16, I32, I64, I128, Isize, U8, U16, U32, U64, U128, Usize};
-use uses::paging::item_at;
+use applied::paging::item_at;
+use own_types::types::Type::{I8, I16, I32, I64, I128, Isize, U8, U16, U32, U64, U128, Usize};
 
 const MIN: i128 = i64::MIN as i128;
 

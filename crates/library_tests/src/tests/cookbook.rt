@@ -3,13 +3,13 @@
 ghost use Rattle.std.specs.Prelude.{◌<◌};
 
 use crate::tests::assertions::holds_at;
+use applied::schedules::next_meeting;
+use applied::{layout, paging, ranking};
 use calendar::{Date, IsoWeek, Weekday, easter, last_weekday_of_month, months_between};
 use modular::{CommonSolution, inverse_modulo};
 use num_integer::{Integer, checked};
 use ratio64::{ParseRatioError, Ratio};
 use std::str::FromStr;
-use uses::schedules::next_meeting;
-use uses::{layout, paging, ranking};
 
 /// The pages of twenty that hold all items.
 fn pages(items: u64) -> u64 {

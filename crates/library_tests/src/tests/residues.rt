@@ -12,7 +12,7 @@ use super::answers::Call::{
     Sum,
 };
 use super::rows::{Row, rows_hold};
-use test_types::types::Type::{I64, I128, U8, U64, U128};
+use own_types::types::Type::{I64, I128, U8, U64, U128};
 
 /// The greatest primes of 64 and of 128 bits.
 const P64: i128 = 18446744073709551557;

@@ -3,9 +3,9 @@
 use super::answers::{BEYOND, Call, Numbers, Operands, ask, one};
 use super::assertions::holds_at;
 use modular::CommonSolution;
+use own_types::signed_magnitude::{SignedMagnitude, signed_magnitude_of};
+use own_types::types::Type;
 use std::process::Abort;
-use test_types::signed_magnitude::{SignedMagnitude, signed_magnitude_of};
-use test_types::types::Type;
 
 /// A number in a table.
 pub(crate) trait Entry: Copy {

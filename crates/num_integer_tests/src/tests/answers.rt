@@ -18,11 +18,11 @@ use neighbours::neighbour;
 use num_integer::counted::SqrtCounted;
 use num_integer::{Fits, Roots};
 use num_traits::Signed;
+use own_types::own_types::{Marked, Negated, OneBit, Percent, Small, TwoBits};
+use own_types::signed_magnitude::SignedMagnitude;
+use own_types::types::{Tested, Type};
 use roots::{counted_root, root};
 use std::alloc::Global;
-use test_types::own_types::{Marked, Negated, OneBit, Percent, Small, TwoBits};
-use test_types::signed_magnitude::SignedMagnitude;
-use test_types::types::{Tested, Type};
 
 /// The numbers of an answer. Those that it lacks are 0.
 pub(crate) type Numbers = (

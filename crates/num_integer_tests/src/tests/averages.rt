@@ -4,10 +4,10 @@ use super::answers::two;
 use super::calls::Call::Averages;
 use super::rows::{Row, answers, check_row, check_rows};
 use super::types::{ends, greatest};
+use own_types::signed_magnitude::{SignedMagnitude, floored, left, sum};
+use own_types::types::{SIGNED, Type, UNSIGNED};
 use std::alloc::Global;
 use std::process::Abort;
-use test_types::signed_magnitude::{SignedMagnitude, floored, left, sum};
-use test_types::types::{SIGNED, Type, UNSIGNED};
 
 static OF_SAME_SIGN: [Row; 2] = [
     (&SIGNED, Averages, &[14, 16], Some(&[15, 15])),

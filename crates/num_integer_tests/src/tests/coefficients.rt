@@ -4,10 +4,10 @@ use super::answers::{answer, truth};
 use super::calls::Call::{Binomial, BinomialFits, Row as RowOf};
 use super::rows::{YES, answers, check_row, check_rows};
 use super::tables::{BINOMIALS, MULTINOMIALS};
+use own_types::types::Type;
+use own_types::types::Type::{I8, I16, I32, I64, U8, U16, U32, U64};
 use std::alloc::Global;
 use std::process::Abort;
-use test_types::types::Type;
-use test_types::types::Type::{I8, I16, I32, I64, U8, U16, U32, U64};
 
 #[test]
 fn test_binomial(rt: HostRuntime) {

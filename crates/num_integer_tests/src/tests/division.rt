@@ -3,7 +3,7 @@
 use super::calls::Call::{DivCeil, DivFloor, DivModFloor, DivRem, ModFloor, Operators};
 use super::rows::{check_row, check_rows};
 use super::tables::UNSIGNED_DIVISIONS;
-use test_types::types::SIGNED;
+use own_types::types::SIGNED;
 
 /// A dividend and a divisor, the quotient and the remainder rounded toward zero, those rounded down,
 /// and the quotient rounded up.

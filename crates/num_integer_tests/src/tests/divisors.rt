@@ -7,13 +7,13 @@ use super::rows::{answers, check_row, holds_at};
 use super::tables::{GCDS, LCMS};
 use super::types::greatest;
 use num_integer::{Fits, Integer, checked, gcd, gcd_lcm, lcm};
-use std::alloc::Global;
-use std::process::Abort;
-use test_types::signed_magnitude::{
+use own_types::signed_magnitude::{
     SignedMagnitude, euclidean_gcd, product, signed_magnitude_of, sum,
 };
-use test_types::types::Type::{I8, I16, I32, I64, U8, U16, U32, U64};
-use test_types::types::{SIGNED, Type, UNSIGNED};
+use own_types::types::Type::{I8, I16, I32, I64, U8, U16, U32, U64};
+use own_types::types::{SIGNED, Type, UNSIGNED};
+use std::alloc::Global;
+use std::process::Abort;
 
 /// Checks the answer of the two operands in either order, at each of the types.
 fn check_both_orders(

@@ -5,9 +5,9 @@ use super::calls::Call::{Divides, IsEven, IsMultipleOf, IsOdd, NextMultipleOf, P
 use super::rows::{NO, YES, check_row};
 use super::types::greatest;
 use num_integer::Integer;
+use own_types::types::{SIGNED, Type, UNSIGNED};
 use std::alloc::Global;
 use std::process::Abort;
-use test_types::types::{SIGNED, Type, UNSIGNED};
 
 /// Two operands, and the next and the previous multiple.
 static MULTIPLES: [(i128, i128, i128, i128); 8] = [

@@ -2,11 +2,11 @@
 
 use super::roots::{check_root, has_no_root};
 use super::type_ends::{has_answers, has_neighbours, has_pair_and_multiple};
+use own_types::signed_magnitude::signed_magnitude_of;
+use own_types::types::Type;
+use own_types::types::Type::{Marked, Negated, OneBit, Percent, Small, TwoBits};
 use std::alloc::Global;
 use std::process::Abort;
-use test_types::signed_magnitude::signed_magnitude_of;
-use test_types::types::Type;
-use test_types::types::Type::{Marked, Negated, OneBit, Percent, Small, TwoBits};
 
 /// The small types, and their ends.
 static SMALL_TYPES: [(Type, i128, i128); 5] = [

@@ -10,12 +10,12 @@ use super::calls::Call::{
 };
 use super::rows::answers;
 use super::types::inside;
-use std::alloc::Global;
-use std::process::Abort;
-use test_types::signed_magnitude::{
+use own_types::signed_magnitude::{
     SignedMagnitude, ceiled, floored, is_multiple, left, multiple, truncated,
 };
-use test_types::types::Type;
+use own_types::types::Type;
+use std::alloc::Global;
+use std::process::Abort;
 
 /// One magnitude by the greatest common divisor, times the other.
 fn least_multiple(a: u128, b: u128, gcd: u128) -> Option<SignedMagnitude> {

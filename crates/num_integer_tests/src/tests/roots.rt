@@ -7,11 +7,11 @@ use super::calls::Call::{Cbrt, Root, Sqrt};
 use super::rows::{answers, holds_at};
 use super::tables::ROOTS;
 use super::types::greatest;
+use own_types::signed_magnitude::{SignedMagnitude, signed_magnitude_of};
+use own_types::types::Type;
+use own_types::types::Type::{I8, I16, I32, I64, Isize, U8, U16, U32, U64, Usize};
 use std::alloc::Global;
 use std::process::Abort;
-use test_types::signed_magnitude::{SignedMagnitude, signed_magnitude_of};
-use test_types::types::Type;
-use test_types::types::Type::{I8, I16, I32, I64, Isize, U8, U16, U32, U64, Usize};
 
 /// The signed types of at most 64 bits, and the bits beside the sign.
 const SIGNED_BITS: [(Type, u32); 5] = [(I8, 7), (I16, 15), (I32, 31), (I64, 63), (Isize, 63)];

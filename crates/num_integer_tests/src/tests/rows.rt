@@ -4,11 +4,11 @@ ghost use Rattle.std.specs.Prelude.{IsTrue};
 
 use super::answers::{Numbers, answer, operand};
 use super::calls::Call;
+use own_types::signed_magnitude::{SignedMagnitude, signed_magnitude_of};
+use own_types::types::Type;
 use std::alloc::Global;
 use std::fmt::Debug;
 use std::process::Abort;
-use test_types::signed_magnitude::{SignedMagnitude, signed_magnitude_of};
-use test_types::types::Type;
 
 /// The types, a call, its operands, and the numbers of its answer, or `None` where it has none.
 pub(crate) type Row = (

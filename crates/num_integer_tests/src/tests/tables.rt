@@ -8,11 +8,11 @@ use super::calls::Call::{
     PrevMultipleOf, Product, QuotientFits, Root, Row as RowOf, Sqrt, Sum,
 };
 use super::rows::{NO, Row, YES};
-use test_types::types::Type::{
+use own_types::types::Type::{
     I8, I16, I32, I64, I128, Isize, Marked, OneBit, Percent, Small, TwoBits, U8, U16, U32, U64,
     U128,
 };
-use test_types::types::{NATIVE, SIGNED, Type, UNSIGNED};
+use own_types::types::{NATIVE, SIGNED, Type, UNSIGNED};
 
 const LEAST: i128 = -9223372036854775808;
 

@@ -14,13 +14,13 @@ use super::quotients_and_divisors::{has_divisors, has_quotients, number_inside};
 use super::roots::{check_root, has_no_root};
 use super::rows::{answers, holds_at};
 use super::types::has;
-use std::alloc::Global;
-use std::process::Abort;
-use test_types::signed_magnitude::{
+use own_types::signed_magnitude::{
     SignedMagnitude, euclidean_gcd, is_multiple, opposite, product, signed_magnitude, sum, to_i128,
 };
-use test_types::types::Type;
-use test_types::types::Type::{I8, I16, I32, I64, I128, Isize, U8, U16, U32, U64, U128, Usize};
+use own_types::types::Type;
+use own_types::types::Type::{I8, I16, I32, I64, I128, Isize, U8, U16, U32, U64, U128, Usize};
+use std::alloc::Global;
+use std::process::Abort;
 
 /// The magnitude of the least number of a type, and its greatest number.
 #[derive(Clone, Copy)]

@@ -4,10 +4,10 @@ ghost use Rattle.std.specs.Prelude.{◌≤ℤ◌, pos};
 
 use super::answers::{answer, truth};
 use super::calls::Call::{Ends, Has};
+use own_types::signed_magnitude::SignedMagnitude;
+use own_types::types::Type;
 use std::alloc::Global;
 use std::process::Abort;
-use test_types::signed_magnitude::SignedMagnitude;
-use test_types::types::Type;
 
 /// Whether the type has the number.
 pub(super) fn has(alloc: Global, it: Type, n: SignedMagnitude) -> bool {

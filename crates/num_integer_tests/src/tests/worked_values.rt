@@ -10,8 +10,8 @@ use super::tables::{
     PAIRS_OF_BITS, PERCENTS, PREVIOUS_MULTIPLES, QUOTIENTS, SHARES, SIGNED_PAIRS, SMALL_NUMBERS,
     STORED_OTHERWISE, SUMS, TURNS,
 };
-use test_types::signed_magnitude::SignedMagnitude;
-use test_types::types::Type::U128;
+use own_types::signed_magnitude::SignedMagnitude;
+use own_types::types::Type::U128;
 
 #[test]
 fn worked_values(rt: HostRuntime) {

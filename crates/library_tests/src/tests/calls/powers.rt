@@ -1,7 +1,7 @@
 //! Squares and powers.
 
 use crate::tests::assertions::holds_at;
-use uses::powers::{is_perfect_power, is_power, is_square};
+use applied::powers::{is_perfect_power, is_power, is_square};
 
 /// Whether a number is a square.
 const SQUARES: [(u64, bool); 6] = [

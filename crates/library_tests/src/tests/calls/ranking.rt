@@ -1,12 +1,12 @@
 //! Worked ranks and choices, and the choices that follow them.
 
 ghost use Rattle.std.specs.Prelude.{◌≡◌};
-ghost use Rattle.uses.specs.Ranking.{IsChoice, rank_of};
+ghost use Rattle.applied.specs.Ranking.{IsChoice, rank_of};
 
 use crate::tests::assertions::holds_at;
+use applied::ranking::{choice_of_rank, is_choice, next_choice, rank, rank_fits};
 use num_integer::{Fits, binomial};
 use std::process::Abort;
-use uses::ranking::{choice_of_rank, is_choice, next_choice, rank, rank_fits};
 
 /// The choices of three of the numbers below 5, in the order of their ranks.
 const THREE_OF_FIVE: [[u64; 3]; 10] = [
@@ -35,7 +35,7 @@ fn choices_and_their_ranks(rt: HostRuntime) {
     assert!(rt; rank_fits(&[2, 6074001000]) && !rank_fits(&[3000000000, 6074001000]));
 }
 
-#[tactic(auto, unfolding(num_integer::specs::Coefficient::coefficient, uses::specs::Ranking::rank_of))]
+#[tactic(auto, unfolding(num_integer::specs::Coefficient::coefficient, applied::specs::Ranking::rank_of))]
 #[test]
 fn ranks(rt: HostRuntime) {
     assert!(rt; rank(&[0, 1, 2], 5) == 0 && rank(&[0, 2, 3], 5) == 2 && rank(&[2, 3, 4], 5) == 9);

@@ -1,7 +1,7 @@
 //! The hash of a window that slides.
 
 use crate::tests::assertions::holds_at;
-use uses::rolling_hash::RollingHash;
+use applied::rolling_hash::RollingHash;
 
 #[test]
 fn hashes(rt: HostRuntime) {

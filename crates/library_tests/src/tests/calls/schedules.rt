@@ -3,9 +3,9 @@
 use crate::tests::answers::Call::NextMeeting;
 use crate::tests::assertions::holds_at;
 use crate::tests::rows::{Next, next_hold};
+use applied::schedules::next_meeting_of;
 use modular::CommonSolution::{At, Beyond, Never};
-use test_types::types::Type::{I8, U8};
-use uses::schedules::next_meeting_of;
+use own_types::types::Type::{I8, U8};
 
 static NEXT: [Next<i128>; 13] = [
     (I8, NextMeeting, 10, (1, 4), (3, 6), At(21)),

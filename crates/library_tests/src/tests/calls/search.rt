@@ -1,7 +1,7 @@
 //! Places in sorted lists.
 
 use crate::tests::assertions::holds_at;
-use uses::halving::lower_bound;
+use applied::halving::lower_bound;
 
 #[test]
 fn places_in_a_sorted_list(rt: HostRuntime) {

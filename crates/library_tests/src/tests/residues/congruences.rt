@@ -9,8 +9,8 @@ use crate::tests::assertions::holds_at;
 use crate::tests::rows::{Next, Row, next_hold, rows_hold};
 use modular::CommonSolution::{At, Beyond, Never};
 use modular::{CommonSolution, next_common_solution_of};
+use own_types::types::Type::{I8, I64, I128, U8, U64, U128};
 use std::process::Abort;
-use test_types::types::Type::{I8, I64, I128, U8, U64, U128};
 
 const MAX_U64: i128 = u64::MAX as i128;
 

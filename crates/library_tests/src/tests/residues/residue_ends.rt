@@ -7,9 +7,9 @@ use crate::tests::answers::Call::{
 };
 use crate::tests::answers::{BEYOND, Numbers, one};
 use crate::tests::rows::{answers, ends, number, operands};
+use own_types::signed_magnitude::{SignedMagnitude, signed_magnitude, sum};
+use own_types::types::{NATIVE, Type};
 use std::process::Abort;
-use test_types::signed_magnitude::{SignedMagnitude, signed_magnitude, sum};
-use test_types::types::{NATIVE, Type};
 
 /// A number, and a small number that is congruent to it modulo the greatest number of the type.
 type Near = (SignedMagnitude, i128);

@@ -5,8 +5,8 @@ use crate::tests::calls::Call;
 use num_integer::counted::{binomial_counted, extended_gcd_counted};
 use num_integer::{ExtendedGcd, Fits, binomial, checked, gcd, gcd_lcm, lcm};
 use num_traits::Signed;
-use test_types::signed_magnitude::SignedMagnitude;
-use test_types::types::Tested;
+use own_types::signed_magnitude::SignedMagnitude;
+use own_types::types::Tested;
 
 /// The numbers of a Bezout pair and one more, where both calls answer this pair.
 fn pair_agreed<T: Fits>(

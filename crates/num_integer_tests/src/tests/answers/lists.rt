@@ -6,9 +6,9 @@ ghost use Rattle.std.specs.List.{All};
 use super::{DIFFERENT, Numbers, agreed, truth};
 use crate::tests::calls::Call;
 use num_integer::{Integer, IterBinomial, checked};
+use own_types::signed_magnitude::SignedMagnitude;
+use own_types::types::Tested;
 use std::alloc::Global;
-use test_types::signed_magnitude::SignedMagnitude;
-use test_types::types::Tested;
 
 /// The numbers as values of the type, where it has them and memory is left.
 fn values<T: Tested>(alloc: Global, numbers: &[SignedMagnitude]) -> Option<Vec<T>>

@@ -5,7 +5,7 @@ use super::quotients::quotient;
 use super::{Numbers, agreed, one, truth, two};
 use crate::tests::calls::Call;
 use num_integer::{Fits, average_ceil, average_floor, checked};
-use test_types::types::Tested;
+use own_types::types::Tested;
 
 /// What is stored of one more or of one less.
 fn stored<T: Fits>(more: bool, x: T) -> Option<Numbers>

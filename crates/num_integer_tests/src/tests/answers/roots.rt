@@ -4,7 +4,7 @@ use super::{DIFFERENT, Numbers, agreed, counted, one};
 use crate::tests::calls::Call;
 use num_integer::counted::SqrtCounted;
 use num_integer::{Fits, Roots, cbrt, checked, nth_root, sqrt};
-use test_types::signed_magnitude::SignedMagnitude;
+use own_types::signed_magnitude::SignedMagnitude;
 
 /// The root, of the degree that a number is where the call takes one.
 pub(super) fn root<T: Roots + Fits>(call: Call, x: T, degree: SignedMagnitude) -> Option<Numbers>

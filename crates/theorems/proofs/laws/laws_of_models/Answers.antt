@@ -1,4 +1,4 @@
-use Rattle.uses.proofs.Laws as law
+use Rattle.applied.proofs.Laws as law
 use Rattle.theorems.proofs.laws.laws_of_models.Goals as goal
 
 pub returns : goal.returns

@@ -4,7 +4,7 @@ use Rattle.std.proofs.Common.{subst}
 use Rattle.std.proofs.lemmas.Int.{to_z-of_z}
 use Rattle.num_integer.specs.Least.{IsLeastFrom}
 use Rattle.num_integer.proofs.ForCallers.{least_is_only}
-use Rattle.uses.specs.Schedules.{IsMeetingOfEach}
+use Rattle.applied.specs.Schedules.{IsMeetingOfEach}
 use Rattle.theorems.proofs.pages.next_shift.Goals as goal
 
 pub returns-in-Beyond : goal.returns-in-Beyond

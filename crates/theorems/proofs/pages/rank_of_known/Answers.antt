@@ -1,5 +1,5 @@
 use Rattle.std.proofs.Common.{arith}
-use Rattle.uses.proofs.Laws.{rank_is_below}
+use Rattle.applied.proofs.Laws.{rank_is_below}
 use Rattle.theorems.proofs.pages.rank_of_known.Goals as goal
 
 pub rank-requires-clause-rank_fits : goal.rank-requires-clause-rank_fits

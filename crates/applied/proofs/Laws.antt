@@ -1,0 +1,91 @@
+-- The laws of specs/Laws.antt, a lemma each.
+use Rattle.std.specs.Prelude.{◌≡◌, ◌<◌, ◌≤◌, ◌≤ℤ◌, ◌<ℤ◌, ◌+ℤ◌, ◌-ℤ◌, ◌*ℤ◌, ℕ, ℤ, pos, List, [], ◌∷◌, length}
+use Rattle.std.specs.List.{AllWithin}
+use Rattle.std.proofs.Common.{arith, ap, inl, inr, refl, subst}
+use Rattle.std.proofs.lemmas.Bool.{cases_lt}
+use Rattle.modular.specs.Congruences.{AreCongruent}
+use Rattle.modular.specs.declared.common_solutions.CommonSolution.{CommonSolution}
+use Rattle.modular.specs.declared.common_solutions.CommonSolution.TheVariants.{Never, Beyond, At}
+use Rattle.modular.proofs.ForCallers.{congruent-equal}
+use Rattle.num_integer.specs.Least.{IsLeastFrom}
+use Rattle.num_integer.proofs.ForCallers.{Divides-difference, ceiled_quotient_least, expand, least_is_only, linear, products}
+use Rattle.applied.specs.Laws.{AlignedUpIsOnly, ChoiceOfRankIsOnly, LeastTimeIsOnly, LowerBoundIsOnly, MidpointIsOnly, PaddingIsOnly, PagesAreOnly, PartsDifferByOne, RankIsBelow}
+use Rattle.applied.specs.Schedules.{IsLeastTime}
+use Rattle.applied.proofs.Choices.{only_choice, rank_of_below}
+
+-- ---- pages and parts
+
+pub pages_are_only : PagesAreOnly
+pages_are_only = λ items size count other enough fewest other_enough other_fewest. omega (arith, linear, fewest other other_enough, other_fewest count enough)
+
+pub parts_differ_by_one : PartsDifferByOne
+parts_differ_by_one = λ parts items cut even part later from_zero ordered within.
+    let own = ceiled_quotient_least (omega (arith, linear)) (even.sizes part from_zero (omega (arith, linear))) in
+    let next = ceiled_quotient_least (omega (arith, linear)) (even.sizes later (omega (arith, linear)) within) in
+    let size : ℤ = cut (later +ℤ pos 1) -ℤ cut later in
+    let more : (size +ℤ pos 1) *ℤ parts ≡ size *ℤ parts +ℤ parts = simp expand (omega (arith, products)) in (
+      next.1 (cut (part +ℤ pos 1) -ℤ cut part) (omega (arith, linear, own.0)),
+      own.1 (size +ℤ pos 1) (omega (arith, linear, next.0)),
+    )
+
+-- ---- offsets on an alignment
+
+pub aligned_up_is_only : AlignedUpIsOnly
+aligned_up_is_only = λ offset alignment aligned h other k. omega (arith, linear, h.least other k.from_offset k.multiple, k.least aligned h.from_offset h.multiple)
+
+pub padding_is_only : PaddingIsOnly
+padding_is_only = λ offset alignment bytes other from_zero below multiple other_from_zero other_below other_multiple.
+    let apart : (offset +ℤ other) -ℤ (offset +ℤ bytes) ≡ other -ℤ bytes = omega (arith, linear) in
+    let congruent : AreCongruent alignment other bytes = record { divides = rw apart at (Divides-difference other_multiple multiple) } in
+    congruent-equal congruent other_from_zero other_below from_zero below
+
+-- ---- schedules
+
+-- a time that is not in the type is not one in the type
+not_at : (fits : ℤ → Type 0) {now t u : ℤ} {P : ℤ → Type 0} → IsLeastFrom now P t → fits t → IsLeastFrom now P u → ¬ (fits u) → ⊥
+not_at fits at_time time_fits beyond none = none (subst fits (least_is_only beyond _ at_time) time_fits)
+
+same_time : {X : Type 0} (value : X → ℤ) (fits P : ℤ → Type 0) → ((x y : X) → value x ≡ value y → x ≡ y) → (now : ℤ) (answer other : CommonSolution X) → IsLeastTime value fits now P answer → IsLeastTime value fits now P other → other ≡ answer
+same_time value fits P one now Never Never h k = refl
+same_time value fits P one now Beyond Beyond h k = refl
+same_time value fits P one now (At t) (At u) h k = ap At (one u t (least_is_only h.1 (value u) k.1))
+same_time value fits P one now Never Beyond h k = absurd (h k.0 k.1.holds)
+same_time value fits P one now Never (At u) h k = absurd (h (value u) k.1.holds)
+same_time value fits P one now Beyond Never h k = absurd (k h.0 h.1.holds)
+same_time value fits P one now (At t) Never h k = absurd (k (value t) h.1.holds)
+same_time value fits P one now Beyond (At u) h k = absurd (not_at fits k.1 k.0 h.1 h.2)
+same_time value fits P one now (At t) Beyond h k = absurd (not_at fits h.1 h.0 k.1 k.2)
+
+pub least_time_is_only : {X : Type 0} (value : X → ℤ) (fits P : ℤ → Type 0) → LeastTimeIsOnly value fits P
+least_time_is_only value fits P = λ one now answer h other k. same_time value fits P one now answer other h k
+
+-- ---- choices
+
+pub choice_of_rank_is_only : ChoiceOfRankIsOnly
+choice_of_rank_is_only = λ n k r numbers h. only_choice h
+
+pub rank_is_below : RankIsBelow
+rank_is_below = λ n numbers h. rank_of_below numbers h
+
+-- ---- halves
+
+pub midpoint_is_only : MidpointIsOnly
+midpoint_is_only = λ a b middle other no_farther one_nearer other_no_farther other_one_nearer. omega (arith, linear)
+
+-- an item before one of the places and from the other on is below the number and is not
+not_before : {X : Type 0} (value : X → ℤ) (items : List X) (least : ℤ) (place other : ℕ) → AllWithin (λ x. least ≤ℤ value x) items place (length items) → AllWithin (λ x. value x <ℤ least) items 0 other
+    → other ≤ length items → ¬ (place < other)
+not_before value [] least place other from below within = λ less. absurd (omega arith)
+not_before value (x ∷ items) least place other from below within = λ less. absurd (omega (arith, linear, from place x (omega arith) (omega arith), below place x (omega arith) less))
+
+pub lower_bound_is_only : {X : Type 0} (value : X → ℤ) → LowerBoundIsOnly value
+lower_bound_is_only value = λ items least place other within below from other_within other_below other_from.
+    let not_less = not_before value items least place other from other_below other_within in
+    let not_more = not_before value items least other place other_from below within in
+    elim (cases_lt place other) [
+      | inl less ↦ absurd (not_less less)
+      | inr more ↦ elim (cases_lt other place) [
+        | inl less ↦ absurd (not_more less)
+        | inr same ↦ omega arith
+      ]
+    ]

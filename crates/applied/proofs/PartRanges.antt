@@ -1,0 +1,138 @@
+-- Items cut into parts whose sizes differ by at most 1.
+use Rattle.std.specs.Prelude.{◌≡◌, ◌≤ℤ◌, ◌<ℤ◌, ◌+ℤ◌, ◌-ℤ◌, ◌*ℤ◌, ℕ, ℤ, pos, negsuc, zero, suc}
+use Rattle.std.specs.Int.{int_min}
+use Rattle.std.proofs.Common.{◌∙◌, ap, arith, refl, sym}
+use Rattle.std.proofs.lemmas.Int.{by_lt_z, clamps}
+use Rattle.num_integer.specs.Division.{IsCeiled, IsFloored, IsQuotient}
+use Rattle.num_integer.specs.Only.{IsOnly}
+use Rattle.num_integer.proofs.ForCallers.{ceiled_quotient_least, comm, expand, linear, multiples_apart, product_at_most, product_from_zero, products, sizes}
+use Rattle.applied.specs.Paging.{IsEvenCut, IsRangeOfPart}
+use Rattle.applied.proofs.PageRanges.{rest_range}
+
+-- ---- where the parts begin
+
+-- so many parts have the size, and one item more each of the first ones
+abbrev cut_at : ℤ → ℤ → ℤ → ℤ
+cut_at size longer part = part *ℤ size +ℤ int_min part longer
+
+ceiled_by_range : {n d q r : ℤ} → n ≡ q *ℤ d +ℤ r → r ≤ℤ pos 0 → pos 0 <ℤ (r +ℤ d) → IsCeiled n d q r
+ceiled_by_range equation to_zero above = record { division = record { equation = equation; small = omega (arith, sizes) }; sign = grind (arith, linear) }
+
+part_size : (parts items size longer part : ℤ) → items ≡ size *ℤ parts +ℤ longer → pos 0 ≤ℤ longer → longer <ℤ parts → pos 0 ≤ℤ part → part <ℤ parts
+    → IsQuotient IsCeiled (items -ℤ part) parts (cut_at size longer (part +ℤ pos 1) -ℤ cut_at size longer part)
+part_size parts items size longer part equation up below from_zero within =
+    let next : (part +ℤ pos 1) *ℤ size ≡ part *ℤ size +ℤ size = simp expand (omega (arith, products)) in
+    by_lt_z part longer
+    (λ early.
+    let one : cut_at size longer (part +ℤ pos 1) -ℤ cut_at size longer part ≡ size +ℤ pos 1 = omega (arith, linear, clamps) in
+    let more : (size +ℤ pos 1) *ℤ parts ≡ size *ℤ parts +ℤ parts = simp expand (omega (arith, products)) in
+    rw one (record { remainder = longer -ℤ part -ℤ parts; division = ceiled_by_range (omega (arith, linear)) (omega (arith, linear)) (omega (arith, linear)) }))
+    (λ late.
+    let none : cut_at size longer (part +ℤ pos 1) -ℤ cut_at size longer part ≡ size = omega (arith, linear, clamps) in
+    rw none (record { remainder = longer -ℤ part; division = ceiled_by_range (omega (arith, linear)) (omega (arith, linear)) (omega (arith, linear)) }))
+
+even_cut : {parts items size longer : ℤ} → items ≡ size *ℤ parts +ℤ longer → pos 0 ≤ℤ longer → longer <ℤ parts → IsEvenCut parts items (cut_at size longer)
+even_cut {parts} {items} {size} {longer} equation up below = record {
+  begins = omega (arith, products, clamps);
+  ends = omega (arith, linear, clamps, comm parts size);
+  sizes = λ part from_zero within. part_size parts items size longer part equation up below from_zero within;
+}
+
+-- ---- the range of a part
+
+-- no part has fewer items than none
+pub size_from_zero : {parts items size longer : ℤ} → pos 0 <ℤ parts → pos 0 ≤ℤ items → items ≡ size *ℤ parts +ℤ longer → longer <ℤ parts → pos 0 ≤ℤ size
+size_from_zero {parts} {size = size} up from_zero equation below = by_lt_z size (pos 0)
+    (λ under. absurd (omega (arith, products, multiples_apart size (pos 0) parts up under)))
+    (λ fine. fine)
+
+-- it begins and ends where the items are cut
+range_at : {parts items first end : ℤ} (size longer part : ℤ) → IsEvenCut parts items (cut_at size longer) → pos 0 ≤ℤ first → first ≤ℤ end → end ≤ℤ items → first ≡ cut_at size longer part → end ≡ cut_at size longer (part +ℤ pos 1)
+    → IsRangeOfPart part parts items first end
+range_at size longer part even from_zero ordered within begins ends = record {
+  from_zero = from_zero;
+  ordered = ordered;
+  to_items = within;
+  cut = cut_at size longer;
+  even = even;
+  begins = begins;
+  ends = ends;
+}
+
+-- one of the first parts, which have one item more
+pub record IsLongerPart (part parts items size : ℤ) : Type 0 where
+  pub begins : pos 0 ≤ℤ (part *ℤ size)
+  pub larger : pos 0 ≤ℤ size
+  pub ends : (part *ℤ size +ℤ size) ≤ℤ items
+  pub range : IsRangeOfPart part parts items (part *ℤ size) (part *ℤ size +ℤ size)
+
+pub longer_part : {parts items size longer part : ℤ} → pos 0 ≤ℤ items → IsFloored items parts size longer → pos 0 ≤ℤ part → part <ℤ parts → part <ℤ longer → IsLongerPart part parts items (size +ℤ pos 1)
+longer_part {parts} {items} {size} {longer} {part} from_zero division part_up within_parts early =
+    let range = rest_range (omega (arith, linear)) division in
+    let equation = division.division.equation in
+    let size_up = size_from_zero {size = size} (omega (arith, linear)) from_zero equation range.1 in
+    let begins = product_from_zero part (size +ℤ pos 1) part_up (omega (arith, linear)) in
+    let most = product_at_most {u = part +ℤ pos 1} {v = size} {x = parts} {y = size} (omega (arith, linear)) (omega (arith, linear)) size_up (omega (arith, linear)) in
+    let apart : part *ℤ (size +ℤ pos 1) ≡ part *ℤ size +ℤ part = simp expand (omega (arith, products)) in
+    let next : (part +ℤ pos 1) *ℤ size ≡ part *ℤ size +ℤ size = simp expand (omega (arith, products)) in
+    let ends : (part *ℤ (size +ℤ pos 1) +ℤ (size +ℤ pos 1)) ≤ℤ items = omega (arith, linear, comm parts size) in
+    record {
+      begins = begins;
+      larger = omega (arith, linear);
+      ends = ends;
+      range = range_at size longer part (even_cut equation range.0 range.1) (omega (arith, linear)) (omega (arith, linear)) ends (omega (arith, linear, clamps)) (omega (arith, linear, clamps));
+    }
+
+-- one of the others
+pub record IsShorterPart (part parts items size longer : ℤ) : Type 0 where
+  pub begins : pos 0 ≤ℤ (part *ℤ size)
+  pub later : pos 0 ≤ℤ longer
+  pub size_up : pos 0 ≤ℤ size
+  pub ends : (part *ℤ size +ℤ longer +ℤ size) ≤ℤ items
+  pub range : IsRangeOfPart part parts items (part *ℤ size +ℤ longer) (part *ℤ size +ℤ longer +ℤ size)
+
+pub shorter_part : {parts items size longer part : ℤ} → pos 0 ≤ℤ items → IsFloored items parts size longer → pos 0 ≤ℤ part → part <ℤ parts → longer ≤ℤ part → IsShorterPart part parts items size longer
+shorter_part {parts} {items} {size} {longer} {part} from_zero division part_up within_parts late =
+    let range = rest_range (omega (arith, linear)) division in
+    let equation = division.division.equation in
+    let size_up = size_from_zero {size = size} (omega (arith, linear)) from_zero equation range.1 in
+    let begins = product_from_zero part size part_up size_up in
+    let most = product_at_most {u = part +ℤ pos 1} {v = size} {x = parts} {y = size} (omega (arith, linear)) (omega (arith, linear)) size_up (omega (arith, linear)) in
+    let next : (part +ℤ pos 1) *ℤ size ≡ part *ℤ size +ℤ size = simp expand (omega (arith, products)) in
+    let ends : (part *ℤ size +ℤ longer +ℤ size) ≤ℤ items = omega (arith, linear, comm parts size) in
+    record {
+      begins = begins;
+      later = range.0;
+      size_up = size_up;
+      ends = ends;
+      range = range_at size longer part (even_cut equation range.0 range.1) (omega (arith, linear)) (omega (arith, linear)) ends (omega (arith, linear, clamps)) (omega (arith, linear, clamps));
+    }
+
+-- ---- the only range
+
+same_quotient : {n d q p : ℤ} → pos 0 <ℤ d → IsQuotient IsCeiled n d q → IsQuotient IsCeiled n d p → p ≡ q
+same_quotient {q = q} {p = p} up h k =
+    let one = ceiled_quotient_least up h in
+    let other = ceiled_quotient_least up k in
+    omega (arith, linear, one.1 p other.0, other.1 q one.0)
+
+-- each even cut cuts at the same places
+same_cut : {parts items : ℤ} {c d : ℤ → ℤ} (part : ℕ) → pos part ≤ℤ parts → IsEvenCut parts items c → IsEvenCut parts items d → d (pos part) ≡ c (pos part)
+same_cut zero within h k = k.begins ∙ sym h.begins
+same_cut {c = c} {d = d} (suc part) within h k =
+    let before = same_cut part (omega (arith, linear)) h k in
+    let sizes = same_quotient (omega (arith, linear)) (h.sizes (pos part) (omega (arith, linear)) (omega (arith, linear))) (k.sizes (pos part) (omega (arith, linear)) (omega (arith, linear))) in
+    let next : pos (suc part) ≡ pos part +ℤ pos 1 = omega (arith, linear) in
+    rw next (omega (arith, linear))
+
+same_part : {part parts items first end f e : ℤ} → pos 0 ≤ℤ part → part <ℤ parts → IsRangeOfPart part parts items first end → IsRangeOfPart part parts items f e → (f ≡ first) × (e ≡ end)
+same_part {part = pos j} from_zero within h k =
+    let next : pos j +ℤ pos 1 ≡ pos (suc j) = omega (arith, linear) in (
+      k.begins ∙ same_cut j (omega (arith, linear)) h.even k.even ∙ sym h.begins,
+      k.ends ∙ ap k.cut next ∙ same_cut (suc j) (omega (arith, linear)) h.even k.even ∙ sym (h.ends ∙ ap h.cut next),
+    )
+same_part {part = negsuc j} from_zero within h k = absurd (omega (arith, linear))
+
+-- a part has one range
+pub only_part_range : {part parts items first end : ℤ} → pos 0 ≤ℤ part → part <ℤ parts → IsRangeOfPart part parts items first end → IsOnly (λ (f, e). IsRangeOfPart part parts items f e) (first, end)
+only_part_range from_zero within h = λ (f, e) k. let same = same_part from_zero within h k in rw (same.0, same.1) refl

@@ -1,0 +1,6 @@
+use Rattle.std.proofs.Common.{arith}
+use Rattle.num_integer.proofs.ForCallers.{products}
+use Rattle.applied.proofs.halving.midpoint.Goals as goal
+
+pub returns-clause-one_nearer_at_most : goal.returns-clause-one_nearer_at_most
+returns-clause-one_nearer_at_most g c = omega (arith, products)

@@ -1,0 +1,7 @@
+use Rattle.std.specs.Prelude.{◌≢◌, ◌≤◌, ◌<◌, ℕ, ℤ, pos}
+use Rattle.std.specs.Int.{int_pow}
+use Rattle.applied.proofs.powers.is_perfect_power.Given as goal
+
+-- the number is no power of a degree that was tried
+abbrev pub invariant-loop-degree : goal.invariant-loop-degree
+invariant-loop-degree l = (d : ℕ) (k : ℤ) → 2 ≤ d → d < l.degree → int_pow k d ≢ pos l.n

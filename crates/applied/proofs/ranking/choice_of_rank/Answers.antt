@@ -1,0 +1,20 @@
+use Rattle.std.proofs.Common.{◌≡◌, ◌+◌, ◌-◌, arith}
+use Rattle.std.proofs.lemmas.Int.{ints}
+use Rattle.num_integer.specs.Coefficient.{coefficient}
+use Rattle.applied.proofs.Choices.{all_written, none_written, one_more_written, only_choice}
+use Rattle.applied.proofs.ranking.choice_of_rank.Goals as goal
+
+pub loop-i-init : goal.loop-i-init
+loop-i-init c = none_written c.requires.rank
+
+pub loop-i-preserved : goal.loop-i-preserved
+loop-i-preserved c =
+    let found = c.greatest_within-bound.ensures in
+    let part : c.binomial-rest.result ≡ coefficient c.greatest_within-bound.result (c.loop-i.i - 1 + 1) = omega (arith, ints) in
+    rw part (one_more_written (omega arith) (omega arith) found.below found.within found.greatest c.loop-i.invariant)
+
+pub returns : goal.returns
+returns c =
+    let none : c.loop-i.i ≡ 0 = omega arith in
+    let found = all_written (rw none at c.loop-i.invariant) in
+    record { choice = found; only = only_choice found }

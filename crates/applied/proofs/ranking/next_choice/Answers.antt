@@ -1,0 +1,14 @@
+use Rattle.std.proofs.Common.{refl}
+use Rattle.applied.proofs.NextChoices.{last_rank, next_choice_is, raised_is}
+use Rattle.applied.proofs.ranking.next_choice.Goals as goal
+
+pub returns-in-Some-clause-next : goal.returns-in-Some-clause-next
+returns-in-Some-clause-next c =
+    let zeroed = c.number_from_zero.ensures in
+    λ _. next_choice_is c.requires.choice c.in-Some.ensures (raised_is c.in-Some.ensures.within zeroed.length zeroed.before zeroed.after)
+
+pub returns-in-Some-clause-choice : goal.returns-in-Some-clause-choice
+returns-in-Some-clause-choice c = (returns-in-Some-clause-next c refl).choice
+
+pub returns-in-None-clause-last : goal.returns-in-None-clause-last
+returns-in-None-clause-last c = λ _. (refl, last_rank _ _ c.in-None.ensures)

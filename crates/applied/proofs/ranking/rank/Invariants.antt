@@ -1,0 +1,6 @@
+use Rattle.std.proofs.Common.{◌≡◌}
+use Rattle.applied.proofs.Choices.{rank_of_first}
+use Rattle.applied.proofs.ranking.rank.Given as goal
+
+abbrev pub invariant-loop-i : goal.invariant-loop-i
+invariant-loop-i l = l.rank ≡ rank_of_first l.i l.choice

@@ -1,0 +1,16 @@
+use Rattle.std.specs.Prelude.{pos}
+use Rattle.std.proofs.Common.{arith}
+use Rattle.std.proofs.lemmas.Int.{ints}
+use Rattle.std.proofs.lemmas.List.{take_all}
+use Rattle.applied.proofs.RollingHashes.{hash_first, hash_more}
+use Rattle.applied.proofs.rolling_hash.RollingHash.hash.Goals as goal
+
+pub loop-byte-init : goal.loop-byte-init
+loop-byte-init c = hash_first (pos c.args.self.now.base) (omega (arith, ints, c.args.self.now.positive))
+
+pub loop-byte-preserved : goal.loop-byte-preserved
+loop-byte-preserved c =
+    hash_more (pos c.args.self.now.base) c.args.window.now c.loop-byte.byte-index c.loop-byte-test.true c.loop-byte.invariant c.product_modulo-shifted.ensures.residue (rw c.from.ensures at c.sum_modulo-hash.ensures.residue)
+
+pub returns : goal.returns
+returns c = rw (take_all c.loop-byte.byte-index c.args.window.now c.loop-byte-test.false) at c.loop-byte.invariant

@@ -1,0 +1,45 @@
+use Rattle.std.proofs.Common.{◌≡◌, arith, inl, inr}
+use Rattle.std.proofs.lemmas.Bool.{cases_lt}
+use Rattle.std.proofs.lemmas.List.{get_or_read}
+use Rattle.num_integer.proofs.ForCallers.{linear}
+use Rattle.applied.proofs.schedules.latest.Goals as goal
+
+pub loop-schedule-init : goal.loop-schedule-init
+loop-schedule-init g c = record {
+  in_range = c.requires.now_in_range;
+  from_there = omega (arith, linear);
+  begun = λ i d within. absurd (omega arith);
+  least = λ u above _. above;
+}
+
+pub maximum-latest-requires : goal.maximum-latest-requires
+maximum-latest-requires g c =
+    let all = c.requires.in_range c.loop-schedule.schedule-index c.schedule-item.result c.loop-schedule-test.true in
+    record { in_range = (c.loop-schedule.invariant.in_range, (rw (← c.schedule-item.is) at all).0) }
+
+pub loop-schedule-preserved : goal.loop-schedule-preserved
+loop-schedule-preserved g c =
+    let so_far = c.loop-schedule.invariant in
+    let more = c.maximum-latest.ensures.maximum in
+    let within = c.loop-schedule-test.true in
+    record {
+      in_range = c.maximum-latest.ensures.in_range;
+      from_there = omega (arith, linear, so_far.from_there, more.from_there);
+      begun = λ i d before. elim (cases_lt i c.loop-schedule.schedule-index) [
+        | inl earlier ↦ omega (arith, linear, so_far.begun i d earlier, more.from_there)
+        | inr last ↦
+            let e : i ≡ c.loop-schedule.schedule-index = omega arith in
+            rw (e, ← get_or_read c.args.schedules.now c.loop-schedule.schedule-index c.schedule-item.result within c.schedule-item.is d) more.holds
+      ];
+      least = λ u above begun. more.least u (so_far.least u above begun) (rw (← c.schedule-item.is) at (begun c.loop-schedule.schedule-index c.schedule-item.result within));
+    }
+
+pub returns-clause-in_range : goal.returns-clause-in_range
+returns-clause-in_range g c = c.loop-schedule.invariant.in_range
+
+pub returns-clause-latest : goal.returns-clause-latest
+returns-clause-latest g c = record {
+  from_there = c.loop-schedule.invariant.from_there;
+  holds = λ i d within. c.loop-schedule.invariant.begun i d (omega arith);
+  least = c.loop-schedule.invariant.least;
+}

@@ -1,0 +1,48 @@
+//! Offsets and addresses on an alignment.
+
+ghost use Rattle.std.specs.Prelude.{◌≤ℤ◌, ◌<ℤ◌, ◌+ℤ◌, ℤ, pos, MatchOption};
+ghost use Rattle.num_integer.specs.Divisors.{Divides};
+ghost use Rattle.applied.specs.Layout.{IsAlignedUp};
+
+use num_integer::operators::{difference, is_zero};
+use num_integer::{Fits, Integer, mod_floor};
+
+/// Returns the offset rounded up to a multiple of the alignment, or `None` where that is beyond the
+/// type. `align_up(13, 8)` is `Some(16)`, and `align_up(-13, 8)` is `Some(-8)`.
+///
+/// May be called where `alignment` is above 0.
+pub fn align_up<T: Fits>(offset: T, alignment: T) -> Option<T>
+    requires in_range { T.fits (T.value offset) × T.fits (T.value alignment) }
+    requires positive { pos 0 <ℤ T.value alignment }
+    ensures { MatchOption result
+        ((aligned : ℤ) → IsAlignedUp (T.value offset) (T.value alignment) aligned
+        → ¬ (T.fits aligned))
+        (λ aligned. T.fits (T.value aligned)
+        × IsAlignedUp (T.value offset) (T.value alignment) (T.value aligned)) }
+{
+    if offset.next_multiple_fits(&alignment) {
+        Some(offset.next_multiple_of(&alignment))
+    } else {
+        None
+    }
+}
+
+/// Returns how many bytes to add to reach the next aligned offset. `padding(13, 8)` is `3`, and
+/// `padding(-13, 8)` is `5`.
+///
+/// May be called where `alignment` is above 0.
+pub fn padding<T: Integer>(offset: T, alignment: T) -> T
+    requires in_range { T.fits (T.value offset) × T.fits (T.value alignment) }
+    requires positive { pos 0 <ℤ T.value alignment }
+    ensures in_range { T.fits (T.value result) }
+    ensures from_zero { pos 0 ≤ℤ T.value result }
+    ensures below { T.value result <ℤ T.value alignment }
+    ensures aligned { Divides (T.value alignment) (T.value offset +ℤ T.value result) }
+{
+    let over = mod_floor(offset, alignment);
+    if is_zero(over) {
+        over
+    } else {
+        difference(alignment, over)
+    }
+}

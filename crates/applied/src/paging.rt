@@ -1,0 +1,124 @@
+//! Items on pages of one size, and in parts of nearly one size.
+
+ghost use Rattle.std.specs.Prelude.{◌≡◌, ◌≤ℤ◌, ◌<ℤ◌, ◌*ℤ◌, ℤ, pos, IfSome};
+ghost use Rattle.num_integer.specs.Checked.{AnswersWhere};
+ghost use Rattle.num_integer.specs.Only.{IsOnly};
+ghost use Rattle.num_integer.specs.Range.{EachFits};
+ghost use Rattle.applied.specs.Paging.{IsPlace, IsRangeOfPage, IsRangeOfPart};
+
+use num_integer::operators::{difference, is_below, is_negative, product, successor, sum};
+use num_integer::{Fits, Integer, checked, div_ceil, div_mod_floor};
+
+/// Returns the fewest pages that hold all items. `pages(10, 4)` is `3`, and `pages(-9, 4)` is `-2`.
+///
+/// May be called where `page_size` is above 0.
+pub fn pages<T: Integer>(items: T, page_size: T) -> T
+    requires in_range { T.fits (T.value items) × T.fits (T.value page_size) }
+    requires positive { pos 0 <ℤ T.value page_size }
+    ensures in_range { T.fits (T.value result) }
+    ensures enough { T.value items ≤ℤ (T.value result *ℤ T.value page_size) }
+    ensures fewest { (count : ℤ) → T.value items ≤ℤ (count *ℤ T.value page_size)
+        → T.value result ≤ℤ count }
+{
+    div_ceil(items, page_size)
+}
+
+/// Returns the page of an item and its place on that page, all counted from 0. `place_of(10, 4)` is
+/// `(2, 2)`, and `place_of(-1, 4)` is `(-1, 3)`.
+///
+/// May be called where `page_size` is above 0.
+pub fn place_of<T: Integer>(item: T, page_size: T) -> (T, T)
+    requires in_range { T.fits (T.value item) × T.fits (T.value page_size) }
+    requires positive { pos 0 <ℤ T.value page_size }
+    ensures in_range { T.fits (T.value result.0) × T.fits (T.value result.1) }
+    ensures place { IsPlace (T.value item) (T.value page_size) (T.value result.0)
+        (T.value result.1) }
+    ensures only { (page place : ℤ) → IsPlace (T.value item) (T.value page_size) page place
+        → (page ≡ T.value result.0) × (place ≡ T.value result.1) }
+{
+    div_mod_floor(item, page_size)
+}
+
+/// Returns the item at a place of a page, all counted from 0, or `None` if it does not fit.
+/// `item_at(2, 2, 4)` is `Some(10)`, `item_at(-1, 3, 4)` is `Some(-1)`, and `item_at(64u8, 0, 4)` is
+/// `None`.
+///
+/// May be called where `place` is at least 0 and below `page_size`.
+pub fn item_at<T: Fits>(page: T, place: T, page_size: T) -> Option<T>
+    requires in_range { T.fits (T.value page) × T.fits (T.value place) × T.fits (T.value page_size) }
+    requires place_from_zero { pos 0 ≤ℤ T.value place }
+    requires place_below { T.value place <ℤ T.value page_size }
+    ensures place { AnswersWhere
+        (EachFits T.fits (λ item. IsPlace item (T.value page_size) (T.value page) (T.value place)))
+        (λ item. T.fits (T.value item)
+        × IsPlace (T.value item) (T.value page_size) (T.value page) (T.value place))
+        result }
+    ensures only { IfSome result (λ found. IsOnly
+        (λ item. IsPlace item (T.value page_size) (T.value page) (T.value place))
+        (T.value found)) }
+{
+    if is_negative(page) {
+        // The product of the page itself may be below the type.
+        let next_page = checked::product(successor(page), page_size)?;
+        checked::sum(next_page, difference(place, page_size))
+    } else {
+        let first = checked::product(page, page_size)?;
+        checked::sum(first, place)
+    }
+}
+
+/// Returns the first index of a page and one past its last, among items and pages counted from 0. They
+/// are both `items` where no item lies on the page. `range_of_page(2, 4, 10)` is `(8, 10)`, and
+/// `range_of_page(3, 4, 10)` is `(10, 10)`.
+///
+/// May be called where `page_size` is above 0 and `items` at least 0.
+pub fn range_of_page<T: Integer>(page: T, page_size: T, items: T) -> (T, T)
+    requires in_range { T.fits (T.value page) × T.fits (T.value page_size) × T.fits (T.value items) }
+    requires positive { pos 0 <ℤ T.value page_size }
+    requires from_zero { pos 0 ≤ℤ T.value items }
+    ensures in_range { T.fits (T.value result.0) × T.fits (T.value result.1) }
+    ensures range { IsRangeOfPage (T.value page) (T.value page_size) (T.value items)
+        (T.value result.0) (T.value result.1) }
+    ensures only { IsOnly (λ (first, end). IsRangeOfPage (T.value page) (T.value page_size)
+        (T.value items) first end) (T.value result.0, T.value result.1) }
+{
+    let (full_pages, rest) = div_mod_floor(items, page_size);
+    if is_negative(page) {
+        (items, items)
+    } else if is_below(page, full_pages) {
+        let first = product(page, page_size);
+        (first, sum(first, page_size))
+    } else if is_below(full_pages, page) {
+        (items, items)
+    } else {
+        (difference(items, rest), items)
+    }
+}
+
+/// Returns the first index of a part and one past its last, where items are split into parts that follow
+/// one another from 0 on. No part is larger than the one before it, nor smaller by more than 1.
+/// `range_of_part(0, 3, 10)` is `(0, 4)`, `range_of_part(1, 3, 10)` is `(4, 7)`, and
+/// `range_of_part(2, 3, 10)` is `(7, 10)`.
+///
+/// May be called where `part` is in 0..`parts` and `items` at least 0.
+pub fn range_of_part<T: Integer>(part: T, parts: T, items: T) -> (T, T)
+    requires in_range { T.fits (T.value part) × T.fits (T.value parts) × T.fits (T.value items) }
+    requires part_from_zero { pos 0 ≤ℤ T.value part }
+    requires part_below { T.value part <ℤ T.value parts }
+    requires from_zero { pos 0 ≤ℤ T.value items }
+    ensures in_range { T.fits (T.value result.0) × T.fits (T.value result.1) }
+    ensures range { IsRangeOfPart (T.value part) (T.value parts) (T.value items)
+        (T.value result.0) (T.value result.1) }
+    ensures only { IsOnly (λ (first, end). IsRangeOfPart (T.value part) (T.value parts)
+        (T.value items) first end) (T.value result.0, T.value result.1) }
+{
+    let (size, longer) = div_mod_floor(items, parts);
+    if is_below(part, longer) {
+        let larger = successor(size);
+        let first = product(part, larger);
+        (first, sum(first, larger))
+    } else {
+        let first = sum(product(part, size), longer);
+        (first, sum(first, size))
+    }
+}

@@ -1,6 +1,0 @@
-use Rattle.std.proofs.Common.{arith}
-use Rattle.num_integer.proofs.ForCallers.{products}
-use Rattle.uses.proofs.halving.midpoint.Goals as goal
-
-pub returns-clause-one_nearer_at_most : goal.returns-clause-one_nearer_at_most
-returns-clause-one_nearer_at_most g c = omega (arith, products)

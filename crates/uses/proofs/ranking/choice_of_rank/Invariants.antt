@@ -1,6 +1,0 @@
-use Rattle.std.proofs.Common.{length}
-use Rattle.uses.proofs.Choices.{IsWrittenFrom}
-use Rattle.uses.proofs.ranking.choice_of_rank.Given as goal
-
-abbrev pub invariant-loop-i : goal.invariant-loop-i
-invariant-loop-i l = IsWrittenFrom l.n (length l.fn.choice) l.fn.rank l.i l.bound l.rest l.choice

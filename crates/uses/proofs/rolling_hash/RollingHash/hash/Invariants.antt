@@ -1,7 +1,0 @@
-use Rattle.std.specs.Prelude.{pos, take}
-use Rattle.modular.specs.Congruences.{IsResidue}
-use Rattle.uses.specs.Hashes.{weighted_sum}
-use Rattle.uses.proofs.rolling_hash.RollingHash.hash.Given as goal
-
-abbrev pub invariant-loop-byte : goal.invariant-loop-byte
-invariant-loop-byte l = IsResidue (pos l.self.modulus) (weighted_sum (pos l.self.base) (take l.byte-index l.window)) (pos l.hash)
