@@ -65,11 +65,11 @@ fn date(year: i64, month: u8, day: u8) -> Date {
 fn each_day() {
     let mut last: Option<Date> = None;
     for (day, year, month, day_of_month) in days(-800, 1600, FIRST) {
-        let found = Date::from_day(day);
+        let found = Date::from_day_number(day);
         let parts = (found.year(), found.month(), found.day_of_month());
         assert_eq!(parts, (year, month, day_of_month), "{day}");
         assert_eq!(
-            (found.day(), found),
+            (found.day_number(), found),
             (Some(day), date(year, month, day_of_month))
         );
         assert_eq!(
@@ -82,7 +82,7 @@ fn each_day() {
         }
         last = Some(found);
     }
-    assert_eq!(last.and_then(|date| date.day()), Some(FIRST + 4 * ERA - 1));
+    assert_eq!(last.and_then(|date| date.day_number()), Some(FIRST + 4 * ERA - 1));
 }
 
 #[test]
@@ -153,9 +153,9 @@ fn each_day_at_the_ends() {
     );
     for day in i64::MIN..i64::MIN + ERA {
         let mirrored = -1 - day;
-        assert_eq!((Date::from_day(day), first.day()), (first, Some(day)));
+        assert_eq!((Date::from_day_number(day), first.day_number()), (first, Some(day)));
         assert_eq!(
-            (Date::from_day(mirrored), last.day()),
+            (Date::from_day_number(mirrored), last.day_number()),
             (last, Some(mirrored))
         );
         first = first.next().expect("there is a next day");

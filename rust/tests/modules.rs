@@ -34,14 +34,14 @@ fn dates() {
         (date.year(), date.month(), date.day_of_month()),
         (2024, 2, 29)
     );
-    assert_eq!(date.day(), Some(19782));
+    assert_eq!(date.day_number(), Some(19782));
     assert_eq!(date.weekday(), Weekday::Thursday);
     assert_eq!(
         date.plus_months(12).map(|date| date.to_string()),
         Some("2025-02-28".to_string())
     );
     assert_eq!(easter(2000).to_string(), "2000-04-23");
-    assert_eq!(Date::from_day(i64::MAX).day(), Some(i64::MAX));
+    assert_eq!(Date::from_day_number(i64::MAX).day_number(), Some(i64::MAX));
 }
 
 #[test]

@@ -44,8 +44,8 @@ impl Date {
     }
 
     /// Returns the date of a day, counted from 1970-01-01, which is day 0.
-    /// `Some(Date::from_day(-1))` is `Date::new(1969, 12, 31)`.
-    pub fn from_day(day: i64) -> Date
+    /// `Some(Date::from_day_number(-1))` is `Date::new(1969, 12, 31)`.
+    pub fn from_day_number(day: i64) -> Date
         ensures number { number_of result ≡ day }
         ensures only { IsOnly (λ date. number_of date ≡ day) result }
     {
@@ -60,7 +60,7 @@ impl Date {
 
     /// Returns the day of the date, counted from 1970-01-01, or `None` where it does not fit. That of
     /// 1969-12-31 is `Some(-1)`.
-    pub fn day(&self) -> Option<i64>
+    pub fn day_number(&self) -> Option<i64>
         ensures { SomeIff result (FitsSigned w64 (number_of self.now)) (number_of self.now) }
     {
         at_64_bits(self.number())
@@ -158,7 +158,7 @@ impl Date {
         let (era, day) = self.day_of_era();
         let (eras, rest) = eras_in_days(days);
         // 1970-01-01 is day 865566 of era 0.
-        Date::from_day(i64::from(day + rest) - 865566).eras_later(era + eras)
+        Date::from_day_number(i64::from(day + rest) - 865566).eras_later(era + eras)
     }
 
     /// Returns the date `eras` times 400 years after this one, or `None` where its year does not fit.

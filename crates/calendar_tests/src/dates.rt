@@ -76,7 +76,7 @@ fn parts(date: Option<Date>) -> Option<Parts> {
 
 /// Returns `true` if the date is that of the day, and the day that of the date.
 fn has_day(date: &Date, day: i64) -> bool {
-    Date::from_day(day) == *date && date.day() == Some(day)
+    Date::from_day_number(day) == *date && date.day_number() == Some(day)
 }
 
 /// Returns `true` if the date is that of the day of its year, and the day that of the date.
@@ -113,7 +113,7 @@ fn leap_years(rt: HostRuntime) {
 #[test]
 fn ends(rt: HostRuntime) {
     let (first, last) = (date(&rt, (MIN, 1, 1)), date(&rt, (MAX, 12, 31)));
-    let days = (first.day(), last.day());
+    let days = (first.day_number(), last.day_number());
     let beyond = (first.previous(), last.next(), first.iso_week());
     holds_at(&rt, days == (None, None), &"day");
     holds_at(&rt, beyond == (None, None, None), &"next");

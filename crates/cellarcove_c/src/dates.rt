@@ -49,7 +49,7 @@ pub extern "C" fn cellarcove_date_from_day(day: i64) -> Date
     ensures date { IsDate result.year result.month result.day_of_month }
     ensures day { day_number result.year result.month result.day_of_month ≡ day }
 {
-    Date::of(&calendar::Date::from_day(day))
+    Date::of(&calendar::Date::from_day_number(day))
 }
 
 /// Returns the day of a date. That of 1969-12-31 is -1.
@@ -66,7 +66,7 @@ pub extern "C" fn cellarcove_day_from_date(date: Date) -> I64Answer
         × ((result.status ≡ no_date) ⊎ (result.status ≡ not_fitting)) }
 {
     match date.found() {
-        Some(found) => match found.day() {
+        Some(found) => match found.day_number() {
             Some(day) => I64Answer::some(day),
             None => I64Answer::none(NOT_FITTING),
         },

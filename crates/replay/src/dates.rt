@@ -59,7 +59,7 @@ fn with_weekday(sum: Checksum, weekday: Weekday) -> Checksum {
 /// The checksum with the date of a day, its place in the year and in the week, and its day, or `None` if one of them
 /// is not there.
 fn with_day(sum: Checksum, day: i64) -> Option<Checksum> {
-    let date = Date::from_day(day);
+    let date = Date::from_day_number(day);
     let week = date.iso_week()?;
     let of_week = Date::from_iso_week(week.year, week.week, weekday_of(day))?;
     let of_year = Date::from_year_day(date.year, date.day_of_year())?;
@@ -67,7 +67,7 @@ fn with_day(sum: Checksum, day: i64) -> Option<Checksum> {
         .with_number(i64::from(date.day_of_year()))
         .with_number(week.year)
         .with_number(i64::from(week.week))
-        .with_number(date.day()?);
+        .with_number(date.day_number()?);
     Some(with_date(
         with_date(with_weekday(sum, date.weekday()), &of_week),
         &of_year,
@@ -149,13 +149,16 @@ fn of_number(call: Dates, sum: Checksum, n: i64) -> Option<Checksum> {
 /// The checksum with what a call makes of the date of a day and of a number, which is the day of another date if
 /// the call asks two.
 fn of_two_numbers(call: Dates, sum: Checksum, day: i64, n: i64) -> Option<Checksum> {
-    let date = Date::from_day(day);
+    let date = Date::from_day_number(day);
     let sum = sum.with_number(day).with_number(n);
     match call {
         Dates::PlusDays => Some(with_date(sum, &date.plus_days(n)?)),
         Dates::PlusMonths => Some(with_date(sum, &date.plus_months(n)?)),
-        Dates::DaysBetween => Some(sum.with_number(days_between(&date, &Date::from_day(n))?)),
-        _ => Some(sum.with_number(months_between(&date, &Date::from_day(n))?)),
+        Dates::DaysBetween => Some(sum.with_number(days_between(
+            &date,
+            &Date::from_day_number(n),
+        )?)),
+        _ => Some(sum.with_number(months_between(&date, &Date::from_day_number(n))?)),
     }
 }
 

@@ -31,14 +31,14 @@ pub fn date_again(date: &Date) -> Option<Date>
     ensures { MatchOption result (¬ (FitsSigned w64 (number_of date.now)))
         (λ again. again ≡ date.now) }
 {
-    Some(Date::from_day(date.day()?))
+    Some(Date::from_day_number(date.day_number()?))
 }
 
 /// The day of the date of a day is the day.
 pub fn day_again(day: i64) -> Option<i64>
     ensures { result ≡ Some day }
 {
-    Date::from_day(day).day()
+    Date::from_day_number(day).day_number()
 }
 
 /// The day of the week some days after a date, in any year of `i64`.
@@ -226,7 +226,7 @@ pub fn is_date(year: i64, month: u8, day: u8) -> bool
 pub fn day_or_last(date: &Date) -> i64
     ensures { FitsSigned w64 (number_of date.now) → result ≡ number_of date.now }
 {
-    match date.day() {
+    match date.day_number() {
         Some(day) => day,
         None => i64::MAX,
     }

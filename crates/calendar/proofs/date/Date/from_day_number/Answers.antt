@@ -3,7 +3,7 @@ use Rattle.std.specs.Int.{w64}
 use Rattle.std.proofs.Common.{◌∙◌, arith, rules, sym}
 use Rattle.std.proofs.lemmas.Int.{ints, to_z-of_z}
 use Rattle.calendar.proofs.DateOrder.{only_date}
-use Rattle.calendar.proofs.date.Date.from_day.Goals as goal
+use Rattle.calendar.proofs.date.Date.from_day_number.Goals as goal
 
 pub returns-clause-number : goal.returns-clause-number
 returns-clause-number c =
