@@ -33,14 +33,14 @@ pub struct IsoWeekAnswer {
 /// Returns the date of a day. That of -1 is 1969-12-31.
 #[unsafe(no_mangle)]
 pub extern "C" fn cellarcove_date_from_day(day: i64) -> Date {
-    Date::of(&cellarcove::calendar::Date::from_day(day))
+    Date::of(&cellarcove::calendar::Date::from_day_number(day))
 }
 
 /// Returns the day of a date. That of 1969-12-31 is -1.
 #[unsafe(no_mangle)]
 pub extern "C" fn cellarcove_day_from_date(date: Date) -> I64Answer {
     match date.found() {
-        Some(found) => match found.day() {
+        Some(found) => match found.day_number() {
             Some(day) => I64Answer::some(day),
             None => I64Answer::none(NOT_FITTING),
         },

@@ -93,7 +93,7 @@ impl Date {
     /// ```
     /// use cellarcove::calendar::Date;
     ///
-    /// assert_eq!(Some(Date::from_day(-1)), Date::new(1969, 12, 31));
+    /// assert_eq!(Some(Date::from_day_number(-1)), Date::new(1969, 12, 31));
     /// ```
     ///
     /// <details><summary>Proved</summary>
@@ -110,7 +110,7 @@ impl Date {
     ///
     /// </details>
     #[must_use]
-    pub fn from_day(day: i64) -> Date {
+    pub fn from_day_number(day: i64) -> Date {
         let (march_year, days) = march_year_of_day(day);
         let (year, month, day_of_month) = parts_from_march(march_year, days);
         Date {
@@ -136,7 +136,7 @@ impl Date {
     ///
     /// </details>
     #[must_use]
-    pub fn day(&self) -> Option<i64> {
+    pub fn day_number(&self) -> Option<i64> {
         at_64_bits(self.number())
     }
 
@@ -299,7 +299,7 @@ impl Date {
         let (era, day) = self.day_of_era();
         let (eras, rest) = eras_in_days(days);
         // 1970-01-01 is day 865566 of era 0.
-        Date::from_day(i64::from(day + rest) - 865566).eras_later(era + eras)
+        Date::from_day_number(i64::from(day + rest) - 865566).eras_later(era + eras)
     }
 
     /// Returns the date `eras` times 400 years after this one, or `None` where its year does not fit.

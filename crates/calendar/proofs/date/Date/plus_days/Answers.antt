@@ -19,5 +19,5 @@ returns c =
     let near_fits : FitsSigned w64 (pos (day + rest) -ℤ pos 865566) = omega (arith, ints) in
     let era_fits : FitsSigned w64 era = omega (arith, ints) in
     let later_fits : FitsSigned w64 (era +ℤ eras) = omega (arith, ints, place) in
-    let near : number_of c.from_day_number.result ≡ pos (day + rest) -ℤ pos 865566 = simp (c.from.ensures, to_z-of_z) at c.from_day.ensures.number in
+    let near : number_of c.from_day_number.result ≡ pos (day + rest) -ℤ pos 865566 = simp (c.from.ensures, to_z-of_z) at c.from_day_number.ensures.number in
     later_or_none c.eras_later.result c.from_day_number.result (era +ℤ eras) (omega (arith, ints, place, near, c.day_of_era-era.ensures.number)) (simp to_z-of_z at c.eras_later.ensures)
