@@ -1,5 +1,5 @@
 #!/usr/bin/env bash
-# Compares the code on the pages with the files that the gate compiles or runs. Each block of Rust is in a .rt file, each
+# Compares the code on the pages with the files that the gate compiles or runs. Each block of Rust is in a .rt file or an example of rust/, each
 # block of a proof in an .antt file, and each line of a block of crates in crates.txt. Of a block of imports alone, each
 # name is imported so in a .rt file. Indentation does not count, and a comment `// and ..` in a block replaces lines that the
 # block leaves out. Blocks of any other kind are not read. The command of README.md is the stored run. Prints a line for each
@@ -91,10 +91,10 @@ is_stored_run() {
 
 while IFS= read -r file; do
     case "$file" in
-        *.rt) rust[$file]=$(sed 's/^ *//' "$file")$'\n' ;;
+        *.rt | *.rs) rust[$file]=$(sed 's/^ *//' "$file")$'\n' ;;
         *) proofs[$file]=$(sed 's/^ *//' "$file")$'\n' ;;
     esac
-done < <(find crates/*/src crates/*/specs crates/*/proofs -name '*.rt' -o -name '*.antt')
+done < <(find crates/*/src crates/*/specs crates/*/proofs rust/examples -name '*.rt' -o -name '*.antt' -o -name '*.rs')
 find crates/*/src -name '*.rt' -exec cat {} + | imported_names | sort -u >"$imports"
 
 for page in "${pages[@]}"; do
