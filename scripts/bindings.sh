@@ -6,29 +6,14 @@
 # usage: scripts/bindings.sh [--proved]
 set -uo pipefail
 cd "$(dirname "$0")/.."
+source scripts/lib.sh
 
 proved=$PWD/crates/cellarcove_c/out/libcellarcove_c.a
 archive=$proved # the one that is looked at
 header=$PWD/bindings/c/cellarcove.h
 caller=$PWD/bindings/c/test.c
 libraries=${1:-}
-work=$(mktemp -d)
-trap 'rm -rf "$work"' EXIT
-passed=0
-failed=0
 languages=0
-
-# check NAME COMMAND..: the command ends with 0.
-check() {
-    if "${@:2}" >"$work/said" 2>&1; then
-        passed=$((passed + 1))
-        echo "$1: passed"
-    else
-        failed=$((failed + 1))
-        echo "$1: failed"
-        tail -20 "$work/said"
-    fi
-}
 
 # has PROGRAM LANGUAGE: the program is on the machine, or a line says that the language is skipped.
 has() {
@@ -200,5 +185,4 @@ if builds_by_cargo; then
     CELLARCOVE_TURNS=10000 python_calls
 fi
 check 'a language ran' test "$languages" -gt 0
-echo "$passed passed, $failed failed"
-[ "$failed" -eq 0 ]
+finish

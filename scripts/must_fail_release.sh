@@ -7,9 +7,8 @@
 # usage: scripts/must_fail_release.sh [NAME..]
 set -uo pipefail
 cd "$(dirname "$0")/.."
+source scripts/lib.sh
 
-work=$(mktemp -d)
-trap 'rm -rf "$work"' EXIT
 cp -a . "$work/repository"
 
 # take_suite NAME: has the crate's copy try its second suite.
@@ -75,7 +74,6 @@ for name in "${names[@]}"; do
     cat "$work/$name"
     [ "$(cat "$work/$name.status")" -eq 0 ] || status=1
 done
-refused=$(cat "${names[@]/#/$work/}" | grep -cE '^(rt: )?must-fail [a-z0-9_]+/[^ ]+\.edit: refused, as it must be')
-
-echo "$refused passed, $((wanted - refused)) failed"
-[ "$status" -eq 0 ] && [ "$refused" -eq "$wanted" ]
+passed=$(cat "${names[@]/#/$work/}" | grep -cE '^(rt: )?must-fail [a-z0-9_]+/[^ ]+\.edit: refused, as it must be')
+failed=$((wanted - passed))
+finish && [ "$status" -eq 0 ]

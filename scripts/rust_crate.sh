@@ -3,9 +3,9 @@
 # scripts/erase.py and scripts/erase_exports.py make, they build without a warning, the examples and tests of the crate
 # and num-integer's own tests pass, a guard that is taken out is missed, its package is made, and the checksums of
 # compare/ are the same. Then the package num-integer of rust/ replaces the original below packages of other authors,
-# and their tests run. Works in a temporary folder, offline, with Debian's packages of these crates, which it installs
-# if it may, and says so. Prints a line for each check, and a count at the end. With --write it writes the sources, and
-# checks nothing.
+# and their tests run. Works in a temporary folder, offline, with Debian's packages of these crates, which
+# scripts/install_packages.sh installs. Prints a line for each check, and a count at the end. With --write it writes the
+# sources, and checks nothing.
 set -uo pipefail
 cd "$(dirname "$0")/.."
 
@@ -13,32 +13,11 @@ if [ "${1:-}" = --write ]; then
     python3 scripts/erase.py && exec python3 scripts/erase_exports.py
 fi
 
+source scripts/lib.sh
 registry=/usr/share/cargo/registry
 originals=(num-integer num-traits)
 dependents=(num-bigint num-rational bigdecimal num num-iter chrono)
-work=$(mktemp -d)
-trap 'rm -rf "$work"' EXIT
 export CARGO_TARGET_DIR=${CARGO_TARGET_DIR:-$work/target}
-passed=0
-failed=0
-
-# judge NAME STATUS: the check has passed where the status is 0. What it printed is shown where it has not.
-judge() {
-    if [ "$2" -eq 0 ]; then
-        passed=$((passed + 1))
-        echo "$1: passed"
-    else
-        failed=$((failed + 1))
-        echo "$1: failed"
-        tail -n 40 "$work/log"
-    fi
-}
-
-# check NAME COMMAND..: the command succeeds.
-check() {
-    "${@:2}" >"$work/log" 2>&1
-    judge "$1" $?
-}
 
 # check_tests NAME COMMAND..: the command succeeds and runs tests. The line has their number.
 check_tests() {
@@ -63,18 +42,6 @@ has_packages() {
     for name in "$@"; do
         compgen -G "$registry/$name-[0-9]*" >/dev/null || return 1
     done
-}
-
-# install_packages NAME..: installs Debian's packages of these crates, if one is missing and the user may.
-install_packages() {
-    local packages=("${@/#/librust-}")
-    packages=("${packages[@]/%/-dev}")
-    if has_packages "$@" || [ "$(id -u)" -ne 0 ]; then
-        return
-    fi
-    echo "installs ${packages[*]} and what they depend on"
-    apt-get update -qq >"$work/log" 2>&1
-    apt-get install -qq -y --no-install-recommends "${packages[@]}" >>"$work/log" 2>&1
 }
 
 # absent WORD..: says what is not checked. In the gate it is a failure.
@@ -182,8 +149,6 @@ fi
 check 'the sources are made anew' is_made_anew
 check 'forms that the bounds do not fit are refused' python3 scripts/rust_bounds.py --self-test
 check 'forms that exports do not have are refused' python3 scripts/erase_exports.py --self-test
-install_packages "${originals[@]}"
-install_packages "${dependents[@]}"
 if has_packages "${originals[@]}"; then
     mkdir "$work/.cargo"
     printf '[source.crates-io]\nreplace-with = "debian"\n[source.debian]\ndirectory = "%s"\n' "$registry" \
@@ -223,5 +188,4 @@ else
     absent 'no packages of num-integer and num-traits: only the sources are compared'
 fi
 
-echo "$passed passed, $failed failed"
-[ "$failed" -eq 0 ]
+finish
