@@ -2,6 +2,8 @@
 """Takes the contracts out of the libraries, and writes one Cargo crate of plain Rust.
 
     scripts/erase.py [OUT]     crates/NAME/src/*.rt and rust/by_hand/*  ->  OUT/src/*.rs
+    scripts/erase.py --self-test
+                               gives forms that are not known; status 1 if one is not refused by file and line
 
 OUT is rust/ where none is given. Code stays token by token, with its comments. What goes: `ghost` items, members and
 fields, clauses, `final`, `#[tactic]`, `#[cfg(test)]` items, labels that nothing names, and the traits that are of
@@ -19,8 +21,9 @@ import rust_bounds
 import rust_docs
 import rust_errors
 import rust_guards
+import samples
 from rattle_source import Unknown
-from rust_library import CRATES, ROOT, Library
+from library import CRATES, ROOT, RustLibrary
 
 REPOSITORY = pathlib.Path(__file__).resolve().parent.parent
 BY_HAND = REPOSITORY / 'rust' / 'by_hand'
@@ -305,7 +308,7 @@ def head_of_root(rust):
 
 def write(out):
     """Writes the sources below a folder."""
-    library, page = Library(REPOSITORY / 'crates'), rust_docs.Page(REPOSITORY / 'crates')
+    library, page = RustLibrary(REPOSITORY / 'crates'), rust_docs.Page(REPOSITORY / 'crates')
     bounds = rust_bounds.Bounds(library)
     for module in library.modules.values():
         eraser = Eraser(module, library, page)
@@ -327,7 +330,67 @@ def write(out):
         raise Unknown('what is left is no Rust:\n' + formatted.stderr.replace(f'{out}/', ''))
 
 
+# ---- a test of what is refused
+
+# Of a crate with this text below a first line, the line and the reason of the refusal.
+REFUSED = (
+    ('static COUNT: u64 = 1;', 2, 'an item `static`'),
+    ('extern crate alloc;', 2, 'an item `extern`'),
+    ('macro_rules! twice { () => {} }', 2, 'an item `macro_rules`'),
+    ('thread_local! { static COUNT: u64 = 1; }', 2, 'an item `macro`'),
+    ('union Both { a: u8, b: i8 }', 2, 'an item that begins with `union`'),
+    ('#![feature(never_type)]', 2, 'the attribute `feature`'),
+    ('#[repr(C)]\nstruct Pair;', 2, 'the attribute `repr`'),
+    ('fn half() {\n    #[allow(unused)]\n    let x = 1;\n}', 3, 'the attribute `allow`'),
+    ('mod inner {}', 2, 'the module `inner` within a file'),
+    ('mod absent;', 2, 'the module `absent`, which has no file'),
+    ('use alloc::vec::Vec;', 2, 'a path that begins with `alloc`'),
+    ('fn half() {\n    use alloc::vec::Vec;\n}', 3, 'a path that begins with `alloc`'),
+    ('use crate::*;', 2, '`*` in a `use`'),
+    ('fn half() {\n    println!("half")\n}', 3, 'the macro `println!`'),
+    ('pub struct Row {\n    pub items: Vec,\n    ghost valid: { first ≡ 1 },\n}', 3,
+     'a public field `items` of type `Vec` beside an invariant'),
+    ('struct Row {\n    *x: u8,\n}', 3, 'a field that begins with `*`'),
+    ('fn half(x: u64) -> u64 {\n    prove { x };\n    x\n}', 3, '`prove`, which is left over'),
+    ('fn half(x: u64) -> bool {\n    x ≤ 1\n}', 3, '`≤`, which is left over'),
+    ('fn half(x: u64) -> u64\n    requires x > 1\n{ x }', 3, '`requires` that is no clause'),
+    ('fn half(x: u64) -> u64\n    ensures { result ≡ x }\n    decreases { x }\n{ x }', 4, '`decreases` after the clauses of `half`'),
+    ('fn half(x: u64 {}', 2, '`(` without its end'),
+    ('fn half(x: u64) {\n    let text = "x;\n}', 3, 'a text without an end'),
+    ('/* half', 2, 'a comment without an end'),
+    ('pub fn half(x: u64) -> Result<u64, E> { x }', 2,
+     '`half` returns a `Result`, and scripts/rust_errors.py does not say when which error'),
+    ('/// `half(2)` is what is left.\npub fn half(x: u64) -> u64 { x }', 3, '`half(2)` is what no code says'),
+)
+# Of a crate with this text below a first line, what becomes of it.
+WRITTEN = (
+    ('#[tactic(auto)]\nfn half(x: u64) -> u64\n    requires { x ≡ 2 }\n{ x }', 'fn half(x: u64) -> u64\n    \n{ x }'),
+    ('pub fn half(x: u64) -> u64 { std::cmp::min(x, 1) }', '#[must_use]\npub fn half(x: u64) -> u64 { core::cmp::min(x, 1) }'),
+    ('#[derive(Clone, Drop)]\nstruct Row;', '#[derive(Clone)]\nstruct Row;'),
+    ("fn half() { 'outer: while true {} }", 'fn half() {  while true {} }'),
+    ("fn half() { 'outer: while true { break 'outer; } }", "fn half() { 'outer: while true { break 'outer; } }"),
+    ('use num_traits::{Num, Unsigned};', 'use num_traits::{Num};\nuse crate::shift::Unsigned;'),
+)
+
+
+def erased(text):
+    """What is made of a crate of this text below a first line, without that line."""
+    with samples.library_of({ROOT: '//! A sample.\n' + text}) as library:
+        eraser = Eraser(library.modules[ROOT, ()], library, None)
+        return eraser.rust().split('\n', 1)[1]
+
+
+def self_test():
+    """A line for each sample that is not as it should be."""
+    refused = [(text, f'crates/{ROOT}/src/lib.rt:{line}: {reason}') for text, line, reason in REFUSED]
+    wrong = list(samples.differing([*refused, *WRITTEN], erased))
+    print('\n'.join(wrong + [f'{len(REFUSED)} forms are refused, {len(WRITTEN)} are written: {len(wrong)} failed']))
+    return wrong
+
+
 def main():
+    if sys.argv[1:] == ['--self-test']:
+        sys.exit(bool(self_test()))
     out = pathlib.Path(sys.argv[1]) if len(sys.argv) > 1 else REPOSITORY / 'rust'
     with tempfile.TemporaryDirectory() as made:
         try:

@@ -19,7 +19,7 @@ import rust_bounds
 import rust_docs
 from erase import BY_HAND, REPOSITORY, Eraser, made_from
 from rattle_source import Unknown
-from rust_library import CRATES, ROOT, Library
+from library import CRATES, ROOT, RustLibrary
 
 CRATE, PACKAGE = 'cellarcove_c', 'cellarcove'
 
@@ -127,8 +127,8 @@ def made_of(module):
 
 def write(out, crates):
     """Writes the sources below a folder."""
-    library, page = Library(crates), rust_docs.Page(crates)
-    library.read(crates / CRATE / 'src', CRATE, (), crates / CRATE / 'src' / 'lib.rt')
+    library, page = RustLibrary(crates), rust_docs.Page(crates)
+    library.read(CRATE, (), crates / CRATE / 'src' / 'lib.rt')
     bounds = rust_bounds.Bounds(library)
     for module in [module for module in library.modules.values() if module.crate == CRATE and not only_laws(module)]:
         eraser = Exports(module, library, page)

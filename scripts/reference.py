@@ -19,9 +19,11 @@ import sys
 import tempfile
 import textwrap
 
-from antt_words import Specs, cited, imported
-from rattle_source import Source, Unknown
-from rust_docs import STATED
+from antt_words import Specs, cited
+from library import Library
+from prose import wrapped
+from rattle_source import Unknown
+from rust_docs import STATED, imports_of
 
 REPOSITORY = pathlib.Path(__file__).resolve().parent.parent
 CRATES = REPOSITORY / 'crates'
@@ -30,87 +32,28 @@ TOOLCHAIN = REPOSITORY / 'rust' / 'by_hand' / 'definitions.md'
 NAMES = ('integer_core', 'integer_roots', 'num_integer', 'modular', 'ratio64', 'calendar', 'applied', 'cellarcove_c',
          'intcalc_core', 'intcalc')
 PROGRAMS = {'intcalc_core', 'intcalc', 'cellarcove_c'}      # nothing is exported: their public items are those of modules
-NOT_READ = {'tests', 'assertions'}                          # modules that only tests have
 SHOWN = ('fn', 'struct', 'enum', 'trait', 'const', 'type')
 LEMMA = re.compile(r'pub ([^\s:]+) :')
 EXPORT = re.compile(r'pub use Rattle\.(\w+)\.([\w.]+)\.\{([^}]*)\}')
 
 
-class Module:
-    """A file of a crate: its source, its items and its place."""
-
-    def __init__(self, crate, path, file):
-        self.crate, self.path = crate, path
-        self.source = Source(file.relative_to(REPOSITORY), file.read_text())
-        self.items = self.source.items()
-        self.imports = imports_of(self.source, self.items)
-        self.head = [line[3:].removeprefix(' ') for line in file.read_text().split('\n') if line.startswith('//!')]
-
-    def is_test(self, item):
-        return any(self.source.at(first + 4) == 'test' for first, _ in item.attributes)
-
-    def below(self):
-        return [item for item in self.items
-                if item.kind == 'mod' and not self.is_test(item) and item.name not in NOT_READ]
-
-
-def imports_of(source, items):
-    return imported('\n'.join(source.text(item.first, item.last) for item in items if item.kind == 'ghost'))
+def head_of_file(module):
+    """The lines of the comment at the head of a file."""
+    lines = (token.text for token in module.source.tokens if token.kind == 'line' and token.text.startswith('//!'))
+    return [line[3:].removeprefix(' ') for line in lines]
 
 
 class Crate:
     """The modules of a crate, in the order in which a reader meets them."""
 
-    def __init__(self, name):
-        self.name, self.modules = name, []
-        root = next(file for file in (CRATES / name / 'src' / 'lib.rt', CRATES / name / 'src' / 'main.rt') if file.is_file())
-        self.read((), root)
-        self.at = {module.path: module for module in self.modules}
-        self.exported = self.exports()
-
-    def read(self, path, file):
-        module = Module(self.name, path, file)
-        self.modules.append(module)
-        for item in module.below():
-            place = path + (item.name,)
-            self.read(place, (CRATES / self.name / 'src').joinpath(*place).with_suffix('.rt'))
-
-    def exports(self):
-        """The public modules from which a caller imports: of each name those that have or re-export it."""
-        public, found = {()}, {}
-        for module in self.modules:
-            if module.path not in public:
-                continue
-            public |= {module.path + (item.name,) for item in module.items if item.kind == 'mod' and item.public}
-            for item in module.items:
-                if item.public and item.kind == 'use':
-                    names = [(path[-1], path) for path, _ in module.source.imports(item)]
-                else:
-                    names = [(item.name, ())] if item.public else []
-                for name, path in names:
-                    found.setdefault(name, []).append((module, path))
-        return found
-
-    def home(self, module, path):
-        """The module of the item that a path names in a module, or None where it is of another crate."""
-        at, names = module.path, list(path)
-        if names[0] in ('crate', 'self', 'super'):
-            at = {'crate': (), 'self': at, 'super': at[:-1]}[names.pop(0)]
-        while len(names) > 1 and at + (names[0],) in self.at:
-            at += (names.pop(0),)
-        here = self.at[at]
-        if len(names) != 1 or any(item.name == names[0] and item.kind in SHOWN for item in here.items):
-            return here if len(names) == 1 else None
-        uses = [path for item in here.items if item.kind == 'use' for path, name in here.source.imports(item)
-                if name == names[0]]
-        return self.home(here, uses[0]) if uses else None
+    def __init__(self, library, name):
+        self.name = name
+        self.modules = [module for module in library.modules.values() if module.crate == name]
+        self.public = {} if name in PROGRAMS else library.published(name)
 
     def place(self, module, item):
-        """The public module from which a caller imports an item, or None."""
-        for public, path in self.exported.get(item.name, ()):
-            if (self.home(public, path) if path else public) is module:
-                return public
-        return None
+        """The place of the public module from which a caller imports an item, or None."""
+        return self.public.get((module.crate, module.path, item.name))
 
     def shows(self, module, item):
         """Whether an item is public for a user of the crate."""
@@ -126,7 +69,7 @@ class Crate:
         places = {}
         for item in shown:
             if item.kind != 'impl':
-                places.setdefault(self.place(module, item).path, []).append(item.name)
+                places.setdefault(self.place(module, item), []).append(item.name)
         return [f"use {'::'.join((self.name,) + path)}::" + (names[0] if len(names) == 1 else '{' + ', '.join(names) + '}') + ';'
                 for path, names in places.items()]
 
@@ -152,10 +95,6 @@ class Page:
 
 def title_of(module):
     return f"`{'/'.join(module.path)}.rt`" if module.path else 'The root'
-
-
-def wrapped(line):
-    return textwrap.wrap(line, 100, subsequent_indent='    ', break_long_words=False)
 
 
 def dedented(source, first, last):
@@ -188,7 +127,9 @@ class Reference:
 
     def __init__(self):
         self.specs = Specs(CRATES)
-        self.crates = {name: Crate(name) for name in NAMES if (CRATES / name / 'src').is_dir()}
+        names = [name for name in NAMES if (CRATES / name / 'src').is_dir()]
+        library = Library(CRATES, names)
+        self.crates = {name: Crate(library, name) for name in names}
         self.pages = {name: Page(f'`{name}`') for name in self.crates}
         self.words, self.anchors, self.waiting, self.items = {}, {}, [], {}
 
@@ -218,23 +159,22 @@ class Reference:
     def fill_in(self):
         for page, at, keys in self.waiting:
             links = [f'[`{key[2]}`]({"" if key[0] == page else key[0] + ".md"}#{self.anchors[key]})' for key in keys]
-            self.pages[page].lines[at] = '\n'.join(textwrap.wrap('Words: ' + ', '.join(links) + '.', 110,
-                                                                   break_long_words=False, break_on_hyphens=False))
+            self.pages[page].lines[at] = '\n'.join(wrapped('Words: ' + ', '.join(links) + '.', 110))
 
     # ---- items
 
     def items_of(self, crate):
         page = self.pages[crate.name]
-        page.add(*crate.modules[0].head, '')
+        page.add(*head_of_file(crate.modules[0]), '')
         for module in crate.modules:
             shown = [item for item in module.items if crate.shows(module, item)]
             blocks = [block for item in shown for block in self.blocks(module, item)]
             if blocks:
                 page.heading(2, title_of(module))
-                page.add(*(module.head + [''] if module.path else []))
+                page.add(*(head_of_file(module) + [''] if module.path else []))
                 names = crate.imports_of(module, shown)
                 if names:
-                    page.block('rust', '\n'.join(line for name in names for line in wrapped(name)))
+                    page.block('rust', '\n'.join(line for name in names for line in wrapped(name, 100, '    ')))
                 for block in blocks:
                     self.block(page, module, *block)
 
@@ -272,7 +212,7 @@ class Reference:
             place = '.'.join(('Rattle', module.crate, 'specs', 'declared') + module.path + (name,))
             variants = f", `ghost use {place}.TheVariants.{{..}};`" * (kind == 'enum')
             page.add(f'In a clause: `ghost use {place}.{{{name}}};`{variants}', '')
-        imports = module.imports | imports_of(module.source, inner)
+        imports = imports_of(module.source, module.items) | imports_of(module.source, inner)
         self.links(module.crate, code, imports)
 
     # ---- definitions, laws and lemmas
@@ -359,13 +299,13 @@ class Reference:
         lines = ['# Modules', '', 'Each file of a crate, by the first sentence of its head.', '']
         for name, crate in self.crates.items():
             lines += [f'## `{name}`', '', '| file | what it has |', '|---|---|']
-            lines += [f"| `{'/'.join(module.path) or module.source.path.stem}.rt` | {first_sentence(module.head)} |"
+            lines += [f"| `{'/'.join(module.path) or module.source.path.stem}.rt` | {first_sentence(head_of_file(module))} |"
                       for module in crate.modules]
             lines.append('')
         return '\n'.join(lines)
 
     def index(self):
-        rows = '\n'.join(f'| [`{name}`]({name}.md) | {first_sentence(crate.modules[0].head)} |'
+        rows = '\n'.join(f'| [`{name}`]({name}.md) | {first_sentence(head_of_file(crate.modules[0]))} |'
                          for name, crate in self.crates.items())
         return '\n'.join(['# Reference', '', 'Made of the sources by `scripts/reference.py`. Nobody edits these pages.', '',
                           '| crate | what it is |', '|---|---|', rows, '',
@@ -422,9 +362,8 @@ SLIPS = (
     ('a line of a page that differs', 'docs/reference/modular.md', 'fn inverse_modulo', 'fn modular_inverse', 'modular.md'),
     ('an import that differs', 'docs/reference/num_integer.md', 'use num_integer::checked::{binomial, multinomial, row};',
      'use num_integer::{binomial, multinomial};', 'num_integer.md'),
-    ('a place told by the last module of its path', 'scripts/reference.py',
-     '(self.home(public, path) if path else public) is module', 'public is module or path and module.path[-1:] == path[-2:-1]',
-     'num_integer.md'),
+    ('an item at the place of another', 'scripts/library.py', 'public.setdefault((target.crate, target.path, target_name), place)',
+     'public.setdefault((target.crate, target.path, target_name), place[1:])', 'num_integer.md'),
 )
 
 

@@ -147,6 +147,7 @@ if ! has cargo || ! has rustfmt; then
 fi
 
 check 'the sources are made anew' is_made_anew
+check 'forms that the eraser does not know are refused' python3 scripts/erase.py --self-test
 check 'forms that the bounds do not fit are refused' python3 scripts/rust_bounds.py --self-test
 check 'forms that exports do not have are refused' python3 scripts/erase_exports.py --self-test
 if has_packages "${originals[@]}"; then

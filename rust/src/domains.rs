@@ -85,7 +85,8 @@ pub trait Fits: Integer + Copy {
     ///
     /// Words: [`EachKind`](crate::definitions::integer_core#eachkind),
     /// [`EachFits`](crate::definitions::integer_core#eachfits),
-    /// [`IsQuotient`](crate::definitions::integer_core#isquotient), [how to read it](crate::definitions).
+    /// [`IsQuotient`](crate::definitions::integer_core#isquotient),
+    /// [how to read it](crate::definitions).
     ///
     /// </details>
     #[must_use]

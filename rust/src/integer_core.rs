@@ -392,7 +392,8 @@ pub trait Integer: Sized + Num + PartialOrd + Ord + Eq {
     /// ensures { IsTrue result ↔ IsEven (Self.value self.now) }
     /// ```
     ///
-    /// Words: [`IsEven`](crate::definitions::integer_core#iseven), [how to read it](crate::definitions).
+    /// Words: [`IsEven`](crate::definitions::integer_core#iseven),
+    /// [how to read it](crate::definitions).
     ///
     /// </details>
     #[must_use]
@@ -416,7 +417,8 @@ pub trait Integer: Sized + Num + PartialOrd + Ord + Eq {
     /// ensures { IsTrue result ↔ ¬ (IsEven (Self.value self.now)) }
     /// ```
     ///
-    /// Words: [`IsEven`](crate::definitions::integer_core#iseven), [how to read it](crate::definitions).
+    /// Words: [`IsEven`](crate::definitions::integer_core#iseven),
+    /// [how to read it](crate::definitions).
     ///
     /// </details>
     #[must_use]

@@ -101,7 +101,8 @@ impl RollingHash {
     /// ```
     ///
     /// Words: [`IsResidue`](crate::definitions::modular#isresidue),
-    /// [`weighted_sum`](crate::definitions::applied#weighted_sum), [how to read it](crate::definitions).
+    /// [`weighted_sum`](crate::definitions::applied#weighted_sum),
+    /// [how to read it](crate::definitions).
     ///
     /// </details>
     #[must_use]
@@ -137,7 +138,8 @@ impl RollingHash {
     /// ```
     ///
     /// Words: [`IsResidue`](crate::definitions::modular#isresidue),
-    /// [`weighted_sum`](crate::definitions::applied#weighted_sum), [how to read it](crate::definitions).
+    /// [`weighted_sum`](crate::definitions::applied#weighted_sum),
+    /// [how to read it](crate::definitions).
     ///
     /// </details>
     #[must_use]

@@ -235,7 +235,8 @@ impl Date {
     /// ```
     ///
     /// Words: [`year_day_of`](crate::definitions::calendar#year_day_of),
-    /// [`days_in_year`](crate::definitions::calendar#days_in_year), [how to read it](crate::definitions).
+    /// [`days_in_year`](crate::definitions::calendar#days_in_year),
+    /// [how to read it](crate::definitions).
     ///
     /// </details>
     #[must_use]

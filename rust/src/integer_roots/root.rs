@@ -49,7 +49,8 @@ pub trait Roots: Integer {
     /// ensures root { IsRoot (Self.value self.now) n (Self.value result) }
     /// ```
     ///
-    /// Words: [`IsRoot`](crate::definitions::integer_roots#isroot), [how to read it](crate::definitions).
+    /// Words: [`IsRoot`](crate::definitions::integer_roots#isroot),
+    /// [how to read it](crate::definitions).
     ///
     /// </details>
     #[track_caller]
@@ -82,7 +83,8 @@ pub trait Roots: Integer {
     /// ensures root { IsRoot (Self.value self.now) 2 (Self.value result) }
     /// ```
     ///
-    /// Words: [`IsRoot`](crate::definitions::integer_roots#isroot), [how to read it](crate::definitions).
+    /// Words: [`IsRoot`](crate::definitions::integer_roots#isroot),
+    /// [how to read it](crate::definitions).
     ///
     /// </details>
     #[track_caller]
@@ -113,7 +115,8 @@ pub trait Roots: Integer {
     /// ensures root { IsRoot (Self.value self.now) 3 (Self.value result) }
     /// ```
     ///
-    /// Words: [`IsRoot`](crate::definitions::integer_roots#isroot), [how to read it](crate::definitions).
+    /// Words: [`IsRoot`](crate::definitions::integer_roots#isroot),
+    /// [how to read it](crate::definitions).
     ///
     /// </details>
     #[must_use]
@@ -148,7 +151,8 @@ pub trait Roots: Integer {
 /// ensures root { IsRoot (T.value x) n (T.value result) }
 /// ```
 ///
-/// Words: [`IsRoot`](crate::definitions::integer_roots#isroot), [how to read it](crate::definitions).
+/// Words: [`IsRoot`](crate::definitions::integer_roots#isroot),
+/// [how to read it](crate::definitions).
 ///
 /// </details>
 #[track_caller]
@@ -186,7 +190,8 @@ pub fn nth_root<T: Roots>(x: T, n: u32) -> T {
 /// ensures root { IsRoot (T.value x) 2 (T.value result) }
 /// ```
 ///
-/// Words: [`IsRoot`](crate::definitions::integer_roots#isroot), [how to read it](crate::definitions).
+/// Words: [`IsRoot`](crate::definitions::integer_roots#isroot),
+/// [how to read it](crate::definitions).
 ///
 /// </details>
 #[track_caller]
@@ -217,7 +222,8 @@ pub fn sqrt<T: Roots>(x: T) -> T {
 /// ensures root { IsRoot (T.value x) 3 (T.value result) }
 /// ```
 ///
-/// Words: [`IsRoot`](crate::definitions::integer_roots#isroot), [how to read it](crate::definitions).
+/// Words: [`IsRoot`](crate::definitions::integer_roots#isroot),
+/// [how to read it](crate::definitions).
 ///
 /// </details>
 #[must_use]

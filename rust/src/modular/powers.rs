@@ -33,7 +33,8 @@ use crate::modular::products::Modular;
 /// ensures turns { exponent ≢ 0 → (2 ^ result.1 ≤ exponent) × (exponent < 2 ^ (result.1 + 1)) }
 /// ```
 ///
-/// Words: [`IsResidue`](crate::definitions::modular#isresidue), [how to read it](crate::definitions).
+/// Words: [`IsResidue`](crate::definitions::modular#isresidue),
+/// [how to read it](crate::definitions).
 ///
 /// </details>
 #[track_caller]
@@ -69,7 +70,8 @@ pub fn power_modulo_counted<T: Modular>(a: T, exponent: u128, m: T) -> (T, u32) 
 /// ensures residue { IsResidue (T.value m) (int_pow (T.value a) exponent) (T.value result) }
 /// ```
 ///
-/// Words: [`IsResidue`](crate::definitions::modular#isresidue), [how to read it](crate::definitions).
+/// Words: [`IsResidue`](crate::definitions::modular#isresidue),
+/// [how to read it](crate::definitions).
 ///
 /// </details>
 #[track_caller]

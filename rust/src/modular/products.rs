@@ -36,7 +36,8 @@ pub trait Modular: Integer + Copy {
     ///     (Self.value self.now *ℤ Self.value other.now) (Self.value result) }
     /// ```
     ///
-    /// Words: [`IsResidue`](crate::definitions::modular#isresidue), [how to read it](crate::definitions).
+    /// Words: [`IsResidue`](crate::definitions::modular#isresidue),
+    /// [how to read it](crate::definitions).
     ///
     /// </details>
     #[track_caller]
@@ -82,7 +83,8 @@ pub trait Modular: Integer + Copy {
     ///     → (2 ^ result.1 ≤ exponent) × (exponent < 2 ^ (result.1 + 1)) }
     /// ```
     ///
-    /// Words: [`IsResidue`](crate::definitions::modular#isresidue), [how to read it](crate::definitions).
+    /// Words: [`IsResidue`](crate::definitions::modular#isresidue),
+    /// [how to read it](crate::definitions).
     ///
     /// </details>
     #[track_caller]
@@ -125,7 +127,8 @@ pub trait Modular: Integer + Copy {
 /// ensures residue { IsResidue (T.value m) (T.value a *ℤ T.value b) (T.value result) }
 /// ```
 ///
-/// Words: [`IsResidue`](crate::definitions::modular#isresidue), [how to read it](crate::definitions).
+/// Words: [`IsResidue`](crate::definitions::modular#isresidue),
+/// [how to read it](crate::definitions).
 ///
 /// </details>
 #[track_caller]

@@ -30,7 +30,8 @@ use crate::{mod_floor, Integer};
 /// ensures residue { IsResidue (T.value m) (T.value a) (T.value result) }
 /// ```
 ///
-/// Words: [`IsResidue`](crate::definitions::modular#isresidue), [how to read it](crate::definitions).
+/// Words: [`IsResidue`](crate::definitions::modular#isresidue),
+/// [how to read it](crate::definitions).
 ///
 /// </details>
 #[track_caller]
@@ -66,7 +67,8 @@ pub fn residue<T: Integer>(a: T, m: T) -> T {
 /// ensures residue { IsResidue (T.value m) (T.value a +ℤ T.value b) (T.value result) }
 /// ```
 ///
-/// Words: [`IsResidue`](crate::definitions::modular#isresidue), [how to read it](crate::definitions).
+/// Words: [`IsResidue`](crate::definitions::modular#isresidue),
+/// [how to read it](crate::definitions).
 ///
 /// </details>
 #[track_caller]
@@ -112,7 +114,8 @@ pub(crate) fn sum_of_residues<T: Integer + Copy>(x: T, y: T, m: T) -> T {
 /// ensures residue { IsResidue (T.value m) (T.value a -ℤ T.value b) (T.value result) }
 /// ```
 ///
-/// Words: [`IsResidue`](crate::definitions::modular#isresidue), [how to read it](crate::definitions).
+/// Words: [`IsResidue`](crate::definitions::modular#isresidue),
+/// [how to read it](crate::definitions).
 ///
 /// </details>
 #[track_caller]
@@ -154,7 +157,8 @@ pub fn difference_modulo<T: Integer + Copy>(a: T, b: T, m: T) -> T {
 /// ensures residue { IsResidue (T.value m) (neg_ℤ (T.value a)) (T.value result) }
 /// ```
 ///
-/// Words: [`IsResidue`](crate::definitions::modular#isresidue), [how to read it](crate::definitions).
+/// Words: [`IsResidue`](crate::definitions::modular#isresidue),
+/// [how to read it](crate::definitions).
 ///
 /// </details>
 #[track_caller]

@@ -25,7 +25,8 @@ impl RatioError {
     /// ensures { result ≡ number_of self.now }
     /// ```
     ///
-    /// Words: [`number_of`](crate::definitions::ratio64#number_of), [how to read it](crate::definitions).
+    /// Words: [`number_of`](crate::definitions::ratio64#number_of),
+    /// [how to read it](crate::definitions).
     ///
     /// </details>
     #[must_use]

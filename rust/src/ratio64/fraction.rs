@@ -23,7 +23,8 @@ use crate::{div_ceil, div_floor};
 /// pub ghost reduced: { IsReduced num den }
 /// ```
 ///
-/// Words: [`IsReduced`](crate::definitions::ratio64#isreduced), [how to read it](crate::definitions).
+/// Words: [`IsReduced`](crate::definitions::ratio64#isreduced),
+/// [how to read it](crate::definitions).
 ///
 /// </details>
 #[derive(Debug, Clone, Copy, PartialEq, Eq, Hash)]

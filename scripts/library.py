@@ -1,4 +1,4 @@
-"""The crates of Rattle that become one crate of Rust: their modules, and where each public item stands in it."""
+"""Crates of Rattle: their modules, and where a caller finds each public item, in Rattle or in the crate of plain Rust."""
 from dataclasses import dataclass, field
 
 from rattle_source import Source, Unknown
@@ -6,6 +6,7 @@ from rattle_source import Source, Unknown
 ROOT = 'num_integer'                            # its modules stand at the root of the Rust crate
 CRATES = {'integer_core': 'mod', 'integer_roots': 'mod', 'num_integer': None,
           'modular': 'pub mod', 'ratio64': 'pub mod', 'calendar': 'pub mod', 'applied': 'pub mod'}
+NOT_READ = {'tests', 'assertions'}               # modules that only tests have
 OUTSIDE = {'std', 'core', 'num_traits', 'crate', 'self', 'super'}
 
 
@@ -22,45 +23,51 @@ class Module:
         names = self.path if self.crate == ROOT else (self.crate,) + self.path
         return '/'.join(names) + '.rs' if names else 'lib.rs'
 
+    def is_test(self, item):
+        return any(self.source.at(first + 4) == 'test' for first, _ in item.attributes)
+
+    def below(self):
+        """The modules in it that are no tests."""
+        return [item for item in self.items if item.kind == 'mod' and not self.is_test(item) and item.name not in NOT_READ]
+
 
 class Library:
-    """All modules, by crate and path, and the public place of each item, by crate, path and name."""
+    """All modules of some crates, by crate and path, in the order in which a reader meets them."""
 
-    def __init__(self, folder):
-        self.modules, self.public = {}, {}
-        for crate in CRATES:
-            self.read(folder / crate / 'src', crate, (), folder / crate / 'src' / 'lib.rt')
-        self.publish(self.modules[ROOT, ()], ())
-        for crate, kind in CRATES.items():
-            if kind == 'pub mod':
-                self.publish(self.modules[crate, ()], (crate,))
+    def __init__(self, folder, crates):
+        self.folder, self.modules, self.crates = folder, {}, set(crates)
+        for crate in crates:
+            roots = [folder / crate / 'src' / name for name in ('lib.rt', 'main.rt')]
+            self.read(crate, (), next((root for root in roots if root.is_file()), roots[0]))
 
-    def read(self, folder, crate, path, file):
+    def read(self, crate, path, file):
         """Reads a file, and those of its modules."""
-        source = Source(file.relative_to(folder.parent.parent.parent), file.read_text())
+        source = Source(file.relative_to(self.folder.parent), file.read_text())
         module = self.modules[crate, path] = Module(crate, path, source, source.items())
-        for item in module.items:
-            is_test = any(source.at(first + 4) == 'test' for first, _ in item.attributes)
-            if item.kind == 'mod' and not is_test:
-                if item.open:
-                    source.refuse(item.word, f'the module `{item.name}` within a file')
-                below = folder.joinpath(*path, item.name).with_suffix('.rt')
-                if not below.is_file():
-                    source.refuse(item.word, f'the module `{item.name}`, which has no file')
-                self.read(folder, crate, path + (item.name,), below)
+        for item in module.below():
+            if item.open:
+                source.refuse(item.word, f'the module `{item.name}` within a file')
+            below = (self.folder / crate / 'src').joinpath(*path, item.name).with_suffix('.rt')
+            if not below.is_file():
+                source.refuse(item.word, f'the module `{item.name}`, which has no file')
+            self.read(crate, path + (item.name,), below)
+
+    def published(self, crate):
+        """The place of each public item in a crate, as a caller in Rattle finds it."""
+        return self.publish({}, self.modules[crate, ()], ())
 
     def knows(self, module, path):
         """Whether the first word of a path is known."""
         names = {item.name for item in module.items if item.kind in ('mod', 'enum', 'struct')}
-        return path[0] in OUTSIDE or path[0] in CRATES or path[0] in names
+        return path[0] in OUTSIDE or path[0] in self.crates or path[0] in names
 
     def find(self, module, path):
         """The module and the name to which a path leads; the module and None where it leads to a module; or None."""
         crate, at, names = module.crate, module.path, list(path)
-        if names[0] in CRATES:
+        if names[0] in self.crates:
             crate, at = names.pop(0), ()
-        elif names[0] in ('crate', 'self'):
-            at = () if names.pop(0) == 'crate' else at
+        elif names[0] in ('crate', 'self', 'super'):
+            at = {'crate': (), 'self': at, 'super': at[:-1]}[names.pop(0)]
         while names and (crate, at + (names[0],)) in self.modules:
             at += (names.pop(0),)
         here = self.modules[crate, at]
@@ -79,28 +86,41 @@ class Library:
                 return module, name
         return None
 
-    def publish(self, module, place):
-        """Notes the public items of a module that stands at this place."""
+    def publish(self, public, module, place):
+        """Notes the public items of a module that stands at this place: its own first, then those of the modules in it."""
         for item in module.items:
-            if not item.public:
-                continue
-            if item.kind == 'mod':
-                self.publish(self.modules[module.crate, module.path + (item.name,)], place + (item.name,))
-            elif item.kind == 'use':
+            if item.public and item.kind == 'use':
                 for path, name in module.source.imports(item):
-                    self.publish_use(module, path, name, place)
-            else:
-                self.public.setdefault((module.crate, module.path, item.name), place)
+                    self.publish_use(public, module, path, name, place)
+            elif item.public and item.kind != 'mod':
+                public.setdefault((module.crate, module.path, item.name), place)
+        for item in module.below():
+            if item.public:
+                self.publish(public, self.modules[module.crate, module.path + (item.name,)], place + (item.name,))
+        return public
 
-    def publish_use(self, module, path, name, place):
+    def publish_use(self, public, module, path, name, place):
+        if path[0] in OUTSIDE - {'crate', 'self', 'super'}:
+            return
         found = self.find(module, path)
         if not found:
             raise Unknown(f'{module.source.path}: the export of `{"::".join(path)}`')
         target, target_name = found
         if target_name is None:
-            self.publish(target, place + (name,))
+            self.publish(public, target, place + (name,))
         else:
-            self.public.setdefault((target.crate, target.path, target_name), place)
+            public.setdefault((target.crate, target.path, target_name), place)
+
+
+class RustLibrary(Library):
+    """The crates that become one crate of Rust, with the public place of each item in it."""
+
+    def __init__(self, folder):
+        super().__init__(folder, CRATES)
+        self.public = self.publish({}, self.modules[ROOT, ()], ())
+        for crate, kind in CRATES.items():
+            if kind == 'pub mod':
+                self.publish(self.public, self.modules[crate, ()], (crate,))
 
     def place_of(self, module, item, owner=None):
         """The public place of an item, of a member of the trait or the type `owner`, or None."""
