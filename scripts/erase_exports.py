@@ -19,7 +19,7 @@ import rust_bounds
 import rust_docs
 from erase import BY_HAND, REPOSITORY, Eraser, made_from
 from rattle_source import Unknown
-from library import CRATES, ROOT, RustLibrary
+from library import AT_ROOT, CRATES, RustLibrary
 
 CRATE, PACKAGE = 'cellarcove_c', 'cellarcove'
 
@@ -40,7 +40,7 @@ class Exports(Eraser):
         if word == 'std':
             self.write(k, 'core')
         elif word in CRATES:
-            self.write(k, PACKAGE if word == ROOT else f'{PACKAGE}::{word}')
+            self.write(k, PACKAGE if word in AT_ROOT else f'{PACKAGE}::{word}')
 
     def item(self, item, owner):
         if states_laws(item):

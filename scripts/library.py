@@ -3,9 +3,11 @@ from dataclasses import dataclass, field
 
 from rattle_source import Source, Unknown
 
-ROOT = 'num_integer'                            # its modules stand at the root of the Rust crate
-CRATES = {'integer_core': 'mod', 'integer_roots': 'mod', 'num_integer': None,
-          'modular': 'pub mod', 'ratio64': 'pub mod', 'calendar': 'pub mod', 'applied': 'pub mod'}
+ROOT = 'num_integer'                            # its root becomes that of the Rust crate
+AT_ROOT = {ROOT, 'applied'}                     # the modules of these stand at the root of the Rust crate
+# The crates of the Rust crate: how the root declares the module of each, or nothing for those whose modules stand there.
+CRATES = {'integer_core': 'mod', 'integer_roots': 'mod', 'num_integer': '',
+          'modular': 'pub mod', 'ratio64': 'pub mod', 'calendar': 'pub mod', 'applied': ''}
 NOT_READ = {'tests', 'assertions'}               # modules that only tests have
 OUTSIDE = {'std', 'core', 'num_traits', 'crate', 'self', 'super'}
 
@@ -19,9 +21,9 @@ class Module:
     items: list = field(default_factory=list)
 
     def rust_file(self):
-        """Its file below src/ of the Rust crate."""
-        names = self.path if self.crate == ROOT else (self.crate,) + self.path
-        return '/'.join(names) + '.rs' if names else 'lib.rs'
+        """Its file below src/ of the Rust crate. The root of a crate whose modules stand at the root has none."""
+        names = self.path if self.crate in AT_ROOT else (self.crate,) + self.path
+        return '/'.join(names) + '.rs' if names else 'lib.rs' if self.crate == ROOT else ''
 
     def is_test(self, item):
         return any(self.source.at(first + 4) == 'test' for first, _ in item.attributes)
@@ -119,8 +121,12 @@ class RustLibrary(Library):
         super().__init__(folder, CRATES)
         self.public = self.publish({}, self.modules[ROOT, ()], ())
         for crate, kind in CRATES.items():
-            if kind == 'pub mod':
-                self.publish(self.public, self.modules[crate, ()], (crate,))
+            if crate != ROOT and kind != 'mod':
+                self.publish(self.public, self.modules[crate, ()], () if crate in AT_ROOT else (crate,))
+        for crate in AT_ROOT - {ROOT}:
+            for item in self.modules[crate, ()].items:
+                if item.kind not in ('attribute', 'mod'):
+                    self.modules[crate, ()].source.refuse(item.word, f'`{item.name}`, which would stand at the root of the Rust crate')
 
     def place_of(self, module, item, owner=None):
         """The public place of an item, of a member of the trait or the type `owner`, or None."""

@@ -8,7 +8,7 @@ import rust_examples
 from antt_words import Specs, cited, imported
 from prose import wrapped
 from rattle_source import Unknown
-from library import CRATES, ROOT
+from library import AT_ROOT, CRATES
 
 # What a clause says that says only that values lie in their type.
 FITS = r'[A-Z]\w*\.fits \([A-Z]\w*\.value [\w.]+\)'
@@ -23,7 +23,7 @@ SAYS = {'struct': 'Of the source, in Rattle: it holds of each value of the type.
 # What the pages of the module `definitions` are about.
 PAGES = {'integer_core': 'ranges, division, divisors, Bezout pairs and the turns of their loops',
          'integer_roots': 'averages, roots and the turns of their loops', 'num_integer': 'coefficients and checked calls',
-         'modular': 'residues and congruences', 'ratio64': 'fractions', 'calendar': 'dates', 'applied': 'the models of `applied`'}
+         'modular': 'residues and congruences', 'ratio64': 'fractions', 'calendar': 'dates', 'applied': 'paging, schedules, ranking, alignment and hashing'}
 
 
 class Page:
@@ -124,7 +124,7 @@ def add_sections(eraser, item, owner):
 
 def linked(eraser, comment):
     """A comment whose links to names of the root lead there where the file does not import them."""
-    if eraser.crate != ROOT:
+    if eraser.crate not in AT_ROOT:
         comment = re.sub(r'\[`crate::', f'[`crate::{eraser.crate}::', comment)
     roots = eraser.library.names_at(())
 

@@ -1662,7 +1662,7 @@ pub mod calendar {
 }
 
 pub mod applied {
-    //! Words of the models of `applied`.
+    //! Words of paging, schedules, ranking, alignment and hashing.
     //!
     //! ## `weighted_sum`
     //!

@@ -7,6 +7,7 @@ mod division;
 mod divisors;
 mod native;
 mod native_integer;
+#[doc(hidden)]
 pub mod operators;
 mod stein;
 

@@ -33,22 +33,29 @@
 
 pub use num_traits;
 
-pub mod applied;
 mod bounded_coefficients;
 pub mod calendar;
 pub mod checked;
 mod coefficients;
 pub mod counted;
+#[cfg(doc)]
 pub mod definitions;
 mod domains;
 mod guards;
+pub mod halving;
 mod integer_core;
 mod integer_roots;
+pub mod layout;
 pub mod modular;
+pub mod paging;
 mod parts;
 mod plain;
+pub mod powers;
+pub mod ranking;
 pub mod ratio64;
+pub mod rolling_hash;
 mod rows;
+pub mod schedules;
 mod shift;
 
 pub use crate::integer_core::{

@@ -11,7 +11,7 @@ use crate::{checked, div_ceil, div_mod_floor, Fits, Integer};
 /// # Examples
 ///
 /// ```
-/// use cellarcove::applied::paging::pages;
+/// use cellarcove::paging::pages;
 ///
 /// assert_eq!(pages(10, 4), 3);
 /// assert_eq!(pages(-9, 4), -2);
@@ -50,7 +50,7 @@ pub fn pages<T: Integer>(items: T, page_size: T) -> T {
 /// # Examples
 ///
 /// ```
-/// use cellarcove::applied::paging::place_of;
+/// use cellarcove::paging::place_of;
 ///
 /// assert_eq!(place_of(10, 4), (2, 2));
 /// assert_eq!(place_of(-1, 4), (-1, 3));
@@ -90,7 +90,7 @@ pub fn place_of<T: Integer>(item: T, page_size: T) -> (T, T) {
 /// # Examples
 ///
 /// ```
-/// use cellarcove::applied::paging::item_at;
+/// use cellarcove::paging::item_at;
 ///
 /// assert_eq!(item_at(2, 2, 4), Some(10));
 /// assert_eq!(item_at(-1, 3, 4), Some(-1));
@@ -148,7 +148,7 @@ pub fn item_at<T: Fits>(page: T, place: T, page_size: T) -> Option<T> {
 /// # Examples
 ///
 /// ```
-/// use cellarcove::applied::paging::range_of_page;
+/// use cellarcove::paging::range_of_page;
 ///
 /// assert_eq!(range_of_page(2, 4, 10), (8, 10));
 /// assert_eq!(range_of_page(3, 4, 10), (10, 10));
@@ -203,7 +203,7 @@ pub fn range_of_page<T: Integer + Copy>(page: T, page_size: T, items: T) -> (T, 
 /// # Examples
 ///
 /// ```
-/// use cellarcove::applied::paging::range_of_part;
+/// use cellarcove::paging::range_of_part;
 ///
 /// assert_eq!(range_of_part(0, 3, 10), (0, 4));
 /// assert_eq!(range_of_part(1, 3, 10), (4, 7));

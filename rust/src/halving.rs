@@ -9,7 +9,7 @@ use crate::{average_floor, Average, Integer};
 /// # Examples
 ///
 /// ```
-/// use cellarcove::applied::halving::midpoint;
+/// use cellarcove::halving::midpoint;
 ///
 /// assert_eq!(midpoint(2, 5), 3);
 /// assert_eq!(midpoint(-2, -5), -4);
@@ -43,7 +43,7 @@ pub fn midpoint<T: Average>(a: T, b: T) -> T {
 /// # Examples
 ///
 /// ```
-/// use cellarcove::applied::halving::lower_bound;
+/// use cellarcove::halving::lower_bound;
 ///
 /// assert_eq!(lower_bound(&[1, 3, 3, 5], 3), 1);
 /// ```

@@ -16,8 +16,8 @@ pub type Schedule<T> = (T, T);
 /// # Examples
 ///
 /// ```
-/// use cellarcove::applied::schedules::next_meeting;
 /// use cellarcove::modular::CommonSolution;
+/// use cellarcove::schedules::next_meeting;
 ///
 /// assert_eq!(next_meeting(10, (1, 4), (3, 6)), CommonSolution::At(21));
 /// ```
@@ -64,8 +64,8 @@ pub fn next_meeting<T: Modular + Fits>(
 /// # Examples
 ///
 /// ```
-/// use cellarcove::applied::schedules::next_meeting_of;
 /// use cellarcove::modular::CommonSolution;
+/// use cellarcove::schedules::next_meeting_of;
 ///
 /// assert_eq!(next_meeting_of(10, &[(1, 4), (3, 6), (0, 7)]), CommonSolution::At(21));
 /// ```

@@ -12,7 +12,7 @@ use crate::{mod_floor, Fits, Integer};
 /// # Examples
 ///
 /// ```
-/// use cellarcove::applied::layout::align_up;
+/// use cellarcove::layout::align_up;
 ///
 /// assert_eq!(align_up(13, 8), Some(16));
 /// assert_eq!(align_up(-13, 8), Some(-8));
@@ -58,7 +58,7 @@ pub fn align_up<T: Fits>(offset: T, alignment: T) -> Option<T> {
 /// # Examples
 ///
 /// ```
-/// use cellarcove::applied::layout::padding;
+/// use cellarcove::layout::padding;
 ///
 /// assert_eq!(padding(13, 8), 3);
 /// assert_eq!(padding(-13, 8), 5);

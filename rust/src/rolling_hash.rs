@@ -18,10 +18,10 @@ use crate::modular::{difference_modulo, power_modulo, product_modulo, sum_modulo
 /// </details>
 #[derive(Debug, Clone, Copy)]
 pub struct RollingHash {
-    pub(in crate::applied) base: u64,
-    pub(in crate::applied) modulus: u64,
+    pub(crate) base: u64,
+    pub(crate) modulus: u64,
     /// How many bytes of a window stay when it slides.
-    pub(in crate::applied) kept: u64,
+    pub(crate) kept: u64,
 }
 
 impl RollingHash {
@@ -86,7 +86,7 @@ impl RollingHash {
     /// # Examples
     ///
     /// ```
-    /// use cellarcove::applied::rolling_hash::RollingHash;
+    /// use cellarcove::rolling_hash::RollingHash;
     ///
     /// assert_eq!(RollingHash::new(10, 97, 2).hash(&[1, 2, 3]), 26);
     /// ```
@@ -121,7 +121,7 @@ impl RollingHash {
     /// # Examples
     ///
     /// ```
-    /// use cellarcove::applied::rolling_hash::RollingHash;
+    /// use cellarcove::rolling_hash::RollingHash;
     ///
     /// assert_eq!(RollingHash::new(10, 97, 2).slide(26, 1, 4), 40);
     /// ```
