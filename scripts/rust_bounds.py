@@ -330,11 +330,11 @@ WRITTEN = [
 
 def written(crate, text):
     """What the rules make of a crate with this text, beside the trait in its own crate."""
-    import erase
+    import make_rust_crate
     with samples.library_of({CLONING: TRAIT, crate: text}) as library:
         rules = Bounds(library)
         for module in library.modules.values():
-            rules.write(erase.Eraser(module, library, None))
+            rules.write(make_rust_crate.Eraser(module, library, None))
         return ''.join(library.modules[crate, ()].source.texts)
 
 

@@ -430,9 +430,9 @@ REFUSED = [
 
 def erased(text):
     """What is made of a crate of this text."""
-    import erase
+    import make_rust_crate
     with samples.library_of({ROOT: text}) as library:
-        return erase.Eraser(library.modules[ROOT, ()], library, None).rust()
+        return make_rust_crate.Eraser(library.modules[ROOT, ()], library, None).rust()
 
 
 # What the self-test takes out: the forms with a test, and the changes of code that are no bound.
@@ -444,11 +444,11 @@ def forms():
 
 def make(folder):
     """Makes the sources of the crate, and notes the forms that are met."""
-    import erase
+    import make_rust_crate
     (folder / 'src').mkdir(parents=True, exist_ok=True)
     for name in ('src', 'tests'):
         shutil.rmtree(folder / name, ignore_errors=True)
-    erase.write(folder)
+    make_rust_crate.write(folder)
     tests = folder / 'tests' / 'domains'
     shutil.copytree(REPOSITORY / 'rust' / 'tests' / 'domains', tests)
     shutil.copy(REPOSITORY / 'rust' / 'Cargo.toml', folder)

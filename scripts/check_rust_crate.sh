@@ -1,18 +1,13 @@
 #!/usr/bin/env bash
 # Checks the crate of plain Rust in rust/ and the package of exports in rust/c: their sources are those that
-# scripts/erase.py and scripts/erase_exports.py make, they build without a warning, the examples and tests of the crate
+# scripts/make_rust_crate.py and scripts/make_rust_exports.py make, they build without a warning, the examples and tests of the crate
 # and num-integer's own tests pass, a guard that is taken out is missed, its package is made, and the checksums of
 # compare/ are the same. Then the package num-integer of rust/ replaces the original below packages of other authors,
 # and their tests run. Works in a temporary folder, offline, with Debian's packages of these crates, which
-# scripts/install_packages.sh installs. Prints a line for each check, and a count at the end. With --write it writes the
-# sources, and checks nothing.
+# scripts/install_packages.sh installs. Prints a line for each check, and a count at the end. scripts/make_all.sh writes
+# the sources.
 set -uo pipefail
 cd "$(dirname "$0")/.."
-
-if [ "${1:-}" = --write ]; then
-    python3 scripts/erase.py && exec python3 scripts/erase_exports.py
-fi
-
 source scripts/lib.sh
 registry=/usr/share/cargo/registry
 originals=(num-integer num-traits)
@@ -32,8 +27,8 @@ check_tests() {
 has() { command -v "$1" >/dev/null; }
 
 is_made_anew() {
-    python3 scripts/erase.py "$work/made" && diff -r "$work/made/src" rust/src &&
-        python3 scripts/erase_exports.py "$work/made_exports" && diff -r "$work/made_exports/src" rust/c/src
+    python3 scripts/make_rust_crate.py "$work/made" && diff -r "$work/made/src" rust/src &&
+        python3 scripts/make_rust_exports.py "$work/made_exports" && diff -r "$work/made_exports/src" rust/c/src
 }
 
 # has_packages NAME..: the sources of these crates are in the registry.
@@ -93,7 +88,7 @@ package() {
 # num_integer WORD..: builds the package num-integer with the features that the words say.
 num_integer() { (cd "$work/rust/num-integer" && RUSTFLAGS=-Dwarnings cargo build --offline "$@"); }
 
-# exports COMMAND..: runs it in the package of exports for C. Each warning is an error. scripts/bindings.sh calls them.
+# exports COMMAND..: runs it in the package of exports for C. Each warning is an error. scripts/check_bindings.sh calls them.
 exports() { (cd "$work/rust/c" && RUSTFLAGS=-Dwarnings "$@"); }
 
 # The package num-integer of rust/ is the only one of that name in the tree.
@@ -112,7 +107,7 @@ dependent_tests() {
 check_dependents() {
     local name words begin=$SECONDS
     check 'packages that depend on num-integer are taken' \
-        python3 scripts/rust_tree.py "$registry" "$work/rust/num-integer" "$work/tree" "${dependents[@]}"
+        python3 scripts/make_dependents.py "$registry" "$work/rust/num-integer" "$work/tree" "${dependents[@]}"
     cat "$work/log"
     check 'this crate replaces num-integer in each of them' is_replaced
     for name in "${dependents[@]}"; do
@@ -147,9 +142,9 @@ if ! has cargo || ! has rustfmt; then
 fi
 
 check 'the sources are made anew' is_made_anew
-check 'forms that the eraser does not know are refused' python3 scripts/erase.py --self-test
+check 'forms that the eraser does not know are refused' python3 scripts/make_rust_crate.py --self-test
 check 'forms that the bounds do not fit are refused' python3 scripts/rust_bounds.py --self-test
-check 'forms that exports do not have are refused' python3 scripts/erase_exports.py --self-test
+check 'forms that exports do not have are refused' python3 scripts/make_rust_exports.py --self-test
 if has_packages "${originals[@]}"; then
     mkdir "$work/.cargo"
     printf '[source.crates-io]\nreplace-with = "debian"\n[source.debian]\ndirectory = "%s"\n' "$registry" \
@@ -174,7 +169,7 @@ if has_packages "${originals[@]}"; then
     fi
     upstream=$(compgen -G "$registry/num-integer-*" | tail -n 1)
     check "the tests of ${upstream##*/} are taken" \
-        python3 scripts/upstream_tests.py "$upstream" "$work/rust" "$work/upstream"
+        python3 scripts/make_upstream_tests.py "$upstream" "$work/rust" "$work/upstream"
     cat "$work/log"
     check_tests 'those of its library' upstream_tests --lib
     check_tests 'those of averages' upstream_tests --test average

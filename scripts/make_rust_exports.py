@@ -1,11 +1,11 @@
 #!/usr/bin/env python3
 """Takes the contracts out of the exports for C, and writes a Cargo package over the crate of plain Rust.
 
-    scripts/erase_exports.py [OUT]   crates/cellarcove_c/src/*.rt and rust/by_hand/exports_head.rs  ->  OUT/src/*.rs
-    scripts/erase_exports.py --self-test
+    scripts/make_rust_exports.py [OUT]   crates/cellarcove_c/src/*.rt and rust/by_hand/exports_head.rs  ->  OUT/src/*.rs
+    scripts/make_rust_exports.py --self-test
                                      plants forms that are not known in a copy; status 1 if one is not refused
 
-OUT is rust/c where none is given. Code is erased as scripts/erase.py does it. What else changes: paths lead to the crate
+OUT is rust/c where none is given. Code is erased as scripts/make_rust_crate.py does it. What else changes: paths lead to the crate
 `cellarcove`; a field of a struct of that crate which has an invariant is read by its reader; a slice becomes a pointer
 and a length, of which the body makes the slice, in the one unsafe block; and functions that only state laws go. A form
 that is not known here is refused by file and line, and then nothing is written."""
@@ -17,7 +17,7 @@ import tempfile
 
 import rust_bounds
 import rust_docs
-from erase import BY_HAND, REPOSITORY, Eraser, made_from
+from make_rust_crate import BY_HAND, REPOSITORY, Eraser, made_from
 from rattle_source import Unknown
 from library import AT_ROOT, CRATES, RustLibrary
 
@@ -122,7 +122,7 @@ def head_of_package(rust):
 def made_of(module):
     """The first line of a file."""
     by_hand = '' if module.path else ' and rust/by_hand/exports_head.rs'
-    return made_from(f'{module.source.path}{by_hand}', 'erase_exports.py')
+    return made_from(f'{module.source.path}{by_hand}', 'make_rust_exports.py')
 
 
 def write(out, crates):
@@ -175,7 +175,7 @@ def self_test():
             path.write_text(text)
             found = old in text and said.startswith(f'crates/{CRATE}/src/{name}.rt:') and said.endswith(refusal)
             missed += not found
-            print(f'{"ok  " if found else "FAIL"} erase_exports.py refuses {form}{"" if found else ": " + said}')
+            print(f'{"ok  " if found else "FAIL"} make_rust_exports.py refuses {form}{"" if found else ": " + said}')
     return missed
 
 
@@ -187,7 +187,7 @@ def main():
         try:
             write(pathlib.Path(made), REPOSITORY / 'crates')
         except Unknown as form:
-            sys.exit(f'erase_exports.py: {form}')
+            sys.exit(f'make_rust_exports.py: {form}')
         shutil.rmtree(out / 'src', ignore_errors=True)
         out.mkdir(parents=True, exist_ok=True)
         shutil.copytree(pathlib.Path(made) / 'src', out / 'src')

@@ -3,7 +3,7 @@
 # from C, C++ and Python. Builds the same archive by cargo, compares what both answer, and calls that one too. Prints a line
 # for each check, a line for each compiler that the machine lacks, and a count at the end. With --proved it builds the archive over the libraries that `rt ci` has just proved and left, which `rt lib` proves again.
 #
-# usage: scripts/bindings.sh [--proved]
+# usage: scripts/check_bindings.sh [--proved]
 set -uo pipefail
 cd "$(dirname "$0")/.."
 source scripts/lib.sh

@@ -1,7 +1,7 @@
 #!/usr/bin/env python3
 """Makes a workspace of packages of other authors, in which a package of ours replaces num-integer.
 
-    scripts/rust_tree.py REGISTRY NUM_INTEGER OUT NAME..
+    scripts/make_dependents.py REGISTRY NUM_INTEGER OUT NAME..
 
 REGISTRY is a folder of sources, from which each package is copied. NUM_INTEGER is the folder of the package that
 replaces the one of that name, for each of them and for what they depend on. Benches, and dev-dependencies that the
@@ -51,7 +51,7 @@ def take(registry, name, out):
     """Copies a package, and says what is left out of its manifest."""
     folder = newest(registry, name)
     if folder is None:
-        sys.exit(f'rust_tree.py: no package {name} in {registry}')
+        sys.exit(f'make_dependents.py: no package {name} in {registry}')
     shutil.copytree(folder, out / name, ignore=shutil.ignore_patterns('benches', 'debian'))
     manifest = out / name / 'Cargo.toml'
     found = [(section, left_out(registry, section)) for section in sections(manifest.read_text())]

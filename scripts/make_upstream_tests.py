@@ -1,7 +1,7 @@
 #!/usr/bin/env python3
 """Makes a package of num-integer's own tests, which runs them over the crate of plain Rust.
 
-    scripts/upstream_tests.py SOURCE CRATE OUT
+    scripts/make_upstream_tests.py SOURCE CRATE OUT
 
 SOURCE is a folder of num-integer's sources, and CRATE the one of the crate. The tests of the library are what is left
 of src/lib.rs without its own items. In the package the crate has the name `num_integer`, so no test changes, with one
@@ -123,4 +123,4 @@ if __name__ == '__main__':
     try:
         main()
     except Unknown as form:
-        sys.exit(f'upstream_tests.py: {form}')
+        sys.exit(f'make_upstream_tests.py: {form}')

@@ -4,7 +4,7 @@
 # many crates side by side as there are processors. With names of crates, tries theirs alone. Prints a line for each, and a count at
 # the end. A library of which nothing was kept is proved first.
 #
-# usage: scripts/must_fail_release.sh [NAME..]
+# usage: scripts/check_must_fail_release.sh [NAME..]
 set -uo pipefail
 cd "$(dirname "$0")/.."
 source scripts/lib.sh

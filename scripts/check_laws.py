@@ -3,8 +3,8 @@
 `ensures` of a public function of crates/theorems/src/laws.rt. Those of cellarcove_c, on which no crate can stand, stand in its
 own src/from_contracts.rt. Both crates are in crates.txt.
 
-    scripts/laws.py                 a line for each law that stands in none, and a count; status 1 where there is one
-    scripts/laws.py --self-test     plants slips in a sample; status 1 where one is not found
+    scripts/check_laws.py                 a line for each law that stands in none, and a count; status 1 where there is one
+    scripts/check_laws.py --self-test     plants slips in a sample; status 1 where one is not found
 
 A law is a definition that is `Type N` itself. One with arguments is a word: it stands in a clause too, or a law cites it. A
 name counts where the file imports it from that `Laws`, or writes it after the word by which it imports the whole file, as
@@ -196,7 +196,7 @@ def self_test():
             (root / name).parent.mkdir(parents=True, exist_ok=True)
             (root / name).write_text(text)
         if missing(root) != (3, []):
-            print('FAIL laws.py: something is said of the sample', *missing(root)[1], sep='\n')
+            print('FAIL check_laws.py: something is said of the sample', *missing(root)[1], sep='\n')
             return 1
         for slip, name, old, new, law, file in SLIPS:
             text = SAMPLE[name]
@@ -205,7 +205,7 @@ def self_test():
             (root / name).write_text(text)
             found = text.count(old) == 1 and any(line.startswith(f'{file}: ') and line.endswith(f' ensures `{law}`') for line in lines)
             missed += not found
-            print(f'{"ok  " if found else "FAIL"} laws.py finds {slip}')
+            print(f'{"ok  " if found else "FAIL"} check_laws.py finds {slip}')
     return missed
 
 
@@ -215,7 +215,7 @@ def main():
             sys.exit(1 if self_test() else 0)
         count, lines = missing(REPOSITORY)
     except Unknown as form:
-        print(f'laws.py: {form}', file=sys.stderr)
+        print(f'check_laws.py: {form}', file=sys.stderr)
         sys.exit(2)
     for line in lines:
         print(line)

@@ -2,8 +2,8 @@
 """Compares the version of the repository wherever it stands: the first heading of CHANGELOG.md with the packages for Cargo
 and Python, the wheel, and the file of pkg-config. `rust/num-integer` has the version of the crate that it replaces.
 
-    scripts/versions.py             a line for each place that has another version, and a count; status 1 where there is one
-    scripts/versions.py --self-test
+    scripts/check_versions.py             a line for each place that has another version, and a count; status 1 where there is one
+    scripts/check_versions.py --self-test
                                     plants another version in each place of a copy; status 1 where one is not found
 
 A Cargo.toml or a pyproject.toml that is not listed here is refused, so no package is added without its version compared."""
@@ -66,7 +66,7 @@ def self_test():
             shutil.copy(REPOSITORY / name, copy / name)
         version, lines = differing(copy)
         if lines:
-            print('FAIL versions.py: the copy differs before anything is planted', *lines, sep='\n')
+            print('FAIL check_versions.py: the copy differs before anything is planted', *lines, sep='\n')
             return 1
         for name, pattern in (('CHANGELOG.md', HEADING),) + PLACES:
             text = (copy / name).read_text()
@@ -77,12 +77,12 @@ def self_test():
             others = len(PLACES) if name == 'CHANGELOG.md' else 1
             found = len(lines) == others and (name == 'CHANGELOG.md' or lines[0].startswith(f'{name}: 9{version},'))
             missed += not found
-            print(f'{"ok  " if found else "FAIL"} versions.py finds another version in {name}')
+            print(f'{"ok  " if found else "FAIL"} check_versions.py finds another version in {name}')
         (copy / 'rust' / 'added').mkdir()
         (copy / 'rust' / 'added' / 'Cargo.toml').write_text('[package]\n')
         found = differing(copy)[1] == ['rust/added/Cargo.toml: its version is compared with nothing']
         missed += not found
-        print(f'{"ok  " if found else "FAIL"} versions.py finds a package that is not compared')
+        print(f'{"ok  " if found else "FAIL"} check_versions.py finds a package that is not compared')
     return missed
 
 

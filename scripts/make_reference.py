@@ -1,9 +1,9 @@
 #!/usr/bin/env python3
 """Makes docs/reference of the sources: a page for each crate, with its public items, their clauses and the words they cite.
 
-    scripts/reference.py            writes the pages
-    scripts/reference.py --check    compares them with what the sources make; status 1 where a page differs
-    scripts/reference.py --self-test
+    scripts/make_reference.py            writes the pages
+    scripts/make_reference.py --check    compares them with what the sources make; status 1 where a page differs
+    scripts/make_reference.py --self-test
                                     makes the pages of a copy, and plants one slip of each kind in it; status 1 where the
                                     comparison does not name the page that then differs
 
@@ -307,7 +307,7 @@ class Reference:
     def index(self):
         rows = '\n'.join(f'| [`{name}`]({name}.md) | {first_sentence(head_of_file(crate.modules[0]))} |'
                          for name, crate in self.crates.items())
-        return '\n'.join(['# Reference', '', 'Made of the sources by `scripts/reference.py`. Nobody edits these pages.', '',
+        return '\n'.join(['# Reference', '', 'Made of the sources by `scripts/make_reference.py`. Nobody edits these pages.', '',
                           '| crate | what it is |', '|---|---|', rows, '',
                           '[modules.md](modules.md) lists the files of each crate.', '', '# How to read a clause', '',
                           *TOOLCHAIN.read_text().split('\n')[1:]])
@@ -368,7 +368,7 @@ SLIPS = (
 
 
 def run_in(copy, *words):
-    return subprocess.run([f'{copy}/scripts/reference.py', *words], capture_output=True, text=True, check=False)
+    return subprocess.run([f'{copy}/scripts/make_reference.py', *words], capture_output=True, text=True, check=False)
 
 
 def self_test():
@@ -380,7 +380,7 @@ def self_test():
             shutil.copytree(REPOSITORY / part, pathlib.Path(copy, part), ignore=shutil.ignore_patterns('out'))
         made, same = run_in(copy), run_in(copy, '--check')
         if made.returncode or same.returncode or same.stdout:
-            print('FAIL reference.py does not make the pages of the copy', made.stderr, same.stdout, same.stderr, sep='\n')
+            print('FAIL make_reference.py does not make the pages of the copy', made.stderr, same.stdout, same.stderr, sep='\n')
             return 1
         for slip, path, old, new, page in SLIPS:
             file = pathlib.Path(copy, path)
@@ -391,7 +391,7 @@ def self_test():
             found = (old in text and check.returncode == 1 and not check.stderr
                      and f'docs/reference/{page} differs' in check.stdout)
             missed += not found
-            print(f'{"ok  " if found else "FAIL"} reference.py finds {slip}')
+            print(f'{"ok  " if found else "FAIL"} make_reference.py finds {slip}')
     return missed
 
 
@@ -401,7 +401,7 @@ def main():
     try:
         made = Reference().made()
     except Unknown as form:
-        print(f'reference.py: {form}', file=sys.stderr)
+        print(f'make_reference.py: {form}', file=sys.stderr)
         sys.exit(2)
     if '--check' not in sys.argv:
         PAGES.mkdir(parents=True, exist_ok=True)
@@ -413,7 +413,7 @@ def main():
     there = {page.name: page.read_text() for page in PAGES.glob('*.md')}
     differing = sorted(name for name in made.keys() | there.keys() if made.get(name) != there.get(name))
     for name in differing:
-        print(f'docs/reference/{name} differs from the sources: run scripts/reference.py')
+        print(f'docs/reference/{name} differs from the sources: run scripts/make_reference.py')
     sys.exit(1 if differing else 0)
 
 
