@@ -17,6 +17,7 @@ import subprocess
 import sys
 import tempfile
 
+import rust_additions
 import rust_bounds
 import rust_docs
 import rust_errors
@@ -27,7 +28,6 @@ from library import AT_ROOT, CRATES, ROOT, RustLibrary
 
 REPOSITORY = pathlib.Path(__file__).resolve().parent.parent
 BY_HAND = REPOSITORY / 'rust' / 'by_hand'
-MADE_BY_HAND = ('guards', 'plain', 'shift')             # modules of the Rust crate that are by hand
 
 GHOST_TRAITS = {'Integral', 'FixedWidth', 'Model'}      # traits of contracts alone: no operation of their own
 LOCAL = {'Unsigned': 'crate::shift::Unsigned'}          # names of num_traits that the Rust crate has by hand
@@ -51,6 +51,25 @@ ALLOWED = {
 
 # By crate, module and item: what code may call and the documentation leaves out. A caller in Rust writes `a + b`.
 HIDDEN = {('integer_core', '', 'operators')}
+
+
+def diagnostic(message, note):
+    """What the compiler says of a type that does not implement a trait."""
+    return f'#[cfg_attr(has_diagnostic, diagnostic::on_unimplemented(message = "{message}", note = "{note}"))]'
+
+
+BUILT_IN = 'the twelve built-in integer types implement it'
+OWN = 'a type of your own implements it by hand'
+NO_ROOTS = 'the built-in integer types of at most 64 bits implement it: there are no roots of `i128` and `u128`'
+# By crate and name: the attributes that a struct or a trait has in the Rust crate beside its own.
+ADDED = {
+    ('integer_core', 'Integer'): diagnostic('`{Self}` does not implement `Integer` of cellarcove', f'{BUILT_IN}; {OWN}'),
+    ('integer_core', 'Native'): diagnostic('`{Self}` is no built-in integer type', f'{BUILT_IN}, and so `Integer`, whose ' + OWN[9:]),
+    ('integer_core', 'NativeInteger'): diagnostic('`{Self}` is no built-in integer type', BUILT_IN + ', and no other type can'),
+    ('integer_roots', 'Roots'): diagnostic('`{Self}` does not implement `Roots` of cellarcove', f'{NO_ROOTS}; {OWN}'),
+    ('num_integer', 'IterBinomial'): '#[derive(Clone, Debug)]',
+}
+ADDED_TO = set()                                # those that are met, noted as files are made
 
 
 class Eraser:
@@ -117,6 +136,11 @@ class Eraser:
             self.put_before(item.first, '#[must_use]\n')
         if item.kind == 'fn':
             self.allow(item.name, item.first)
+        if item.kind in ('struct', 'trait') and (self.crate, item.name) in ADDED:
+            self.put_before(item.first, ADDED[self.crate, item.name] + '\n')
+            ADDED_TO.add((self.crate, item.name))
+        if item.kind == 'impl' and item.of_trait == 'Error':
+            self.put_before(item.first, '#[cfg(has_error)]\n')
         if (self.crate, '/'.join(self.module.path), item.name) in HIDDEN and item.kind == 'mod':
             self.put_before(item.first, '#[doc(hidden)]\n')
         rust_docs.add_sections(self, item, owner)
@@ -131,8 +155,18 @@ class Eraser:
         if item.kind in ('trait', 'impl', 'mod') and item.open:
             self.walk(item.word, item.open)
             self.items(item.items, item)
-            return self.guards.members(item)
+            return self.pad(item) if item.of_trait == 'Display' else None
         return self.walk(item.word, item.last)
+
+    def pad(self, item):
+        """What an implementation of `Display` writes keeps the width and the fill of the format, unless it hands the
+        formatter on, as to the `fmt` of a part."""
+        [function] = [inner for inner in item.items if inner.kind == 'fn']
+        if any(self.at(k) == 'f' and self.at(k - 3) != 'write' and self.at(k + 2) != 'write_str'
+               for k in range(function.open, function.last)):
+            return
+        self.write(function.open, self.texts[self.source.code[function.open]] + ' crate::padded::pad(f, |f| {')
+        self.write(function.last, '}) }')
 
     def only_returns(self, item, owner):
         """Whether a call of the item is of no use where its result is not used: a public function that changes nothing.
@@ -178,6 +212,8 @@ class Eraser:
             if not self.library.knows(self.module, path):
                 self.refuse(k, f'a path that begins with `{path[0]}`')
         names = [j for j in range(k + 1, last) if self.kind(j) == 'word']
+        if [self.at(j) for j in names] == ['std', 'error', 'Error']:
+            return self.write(k, '#[cfg(has_error)]\nuse crate::errors::Error;') or self.drop(k + 1, last)
         if self.at(names[-1]) in GHOST_TRAITS and self.at(last - 1) != '}':
             return self.drop_item(item.first, last)
         for j in names:
@@ -248,6 +284,8 @@ class Eraser:
             item = source.item(k)
             self.use(item)
             return item.last + 1
+        if word == 'split_at_checked' and self.at(k - 1) == '.':
+            return self.split_at_checked(k)
         if self.is_macro(k) and word not in MACROS:
             self.refuse(k, f'the macro `{word}!`')
         if word == 'fmt' and self.at(k - 1) == 'fn' and self.at(k + 1) == '<':
@@ -259,6 +297,15 @@ class Eraser:
         else:
             self.path(k)
         return k + 1
+
+    def split_at_checked(self, k):
+        """Calls the function by hand in place of the method, which is newer than the version of Rust that the crate asks
+        for."""
+        if self.kind(k - 2) != 'word' or self.at(k - 3) == '.':
+            self.refuse(k, f'`{self.at(k)}` of what is no name')
+        self.write(k - 2, f'crate::strings::split_at_checked({self.at(k - 2)},')
+        self.drop(k - 1, k + 1)
+        return k + 2
 
     def is_macro(self, k):
         mark = self.source.code[k] + 1
@@ -302,11 +349,11 @@ def made_from(source, script='make_rust_crate.py'):
     return f'// @generated by scripts/{script} from {source}; do not edit\n'
 
 
-def head_of_root(library, rust):
+def head_of_root(library, additions, rust):
     """The root of the Rust crate: the head by hand, the modules, and what `num_integer` exports."""
     modules = ''.join(f'{kind} {crate};\n' for crate, kind in CRATES.items() if kind)
     modules += ''.join(f'pub mod {item.name};\n' for crate in AT_ROOT - {ROOT} for item in library.modules[crate, ()].below())
-    by_hand = ''.join(f'mod {name};\n' for name in MADE_BY_HAND)
+    by_hand = ''.join(f'mod {place[:-3]};\n' for place, _ in additions.modules() if '/' not in place)
     made, *lines = rust.splitlines(True)
     items = ''.join(line for line in lines if not line.startswith('//!')).lstrip()
     head = made.replace(';', ' and rust/by_hand/head.rs;') + (BY_HAND / 'head.rs').read_text()
@@ -317,23 +364,27 @@ def head_of_root(library, rust):
 def write(out):
     """Writes the sources below a folder."""
     library, page = RustLibrary(REPOSITORY / 'crates'), rust_docs.Page(REPOSITORY / 'crates')
-    bounds = rust_bounds.Bounds(library)
+    bounds, additions = rust_bounds.Bounds(library), rust_additions.Additions(BY_HAND / 'src')
+    made = {}
     for module in (module for module in library.modules.values() if module.rust_file()):
         eraser = Eraser(module, library, page)
         bounds.write(eraser)
-        rust, place = eraser.rust(), module.rust_file()
-        target = out / 'src' / place
-        if target.exists():
+        place = module.rust_file()
+        if place in made:
             raise Unknown(f'{module.source.path}: a second module for src/{place}')
-        target.parent.mkdir(parents=True, exist_ok=True)
-        rust = made_from(module.source.path) + rust
-        target.write_text(head_of_root(library, rust) if place == 'lib.rs' else rust)
+        by_hand = f' and rust/by_hand/src/{place}' if place in additions.files else ''
+        made[place] = additions.add(place, made_from(f'{module.source.path}{by_hand}') + eraser.rust())
     rust_errors.see_all_used()
-    for name in MADE_BY_HAND:
-        by_hand = (BY_HAND / f'{name}.rs').read_text()
-        (out / 'src' / f'{name}.rs').write_text(made_from(f'rust/by_hand/{name}.rs') + by_hand)
+    for crate, name in ADDED.keys() - ADDED_TO:
+        raise Unknown(f'scripts/make_rust_crate.py: crates/{crate} has no `{name}`, to which it adds attributes')
+    made['lib.rs'] = head_of_root(library, additions, made['lib.rs'])
+    for place, text in additions.modules():
+        made[place] = made_from(f'rust/by_hand/src/{place}') + text
     words = rust_docs.definitions(page, (BY_HAND / 'definitions.md').read_text())
-    (out / 'src' / 'definitions.rs').write_text(made_from('crates/*/specs and rust/by_hand/definitions.md') + words)
+    made['definitions.rs'] = made_from('crates/*/specs and rust/by_hand/definitions.md') + words
+    for place, text in made.items():
+        (out / 'src' / place).parent.mkdir(parents=True, exist_ok=True)
+        (out / 'src' / place).write_text(text)
     formatted = subprocess.run(['rustfmt', '--edition', '2021', str(out / 'src' / 'lib.rs')],
                                capture_output=True, text=True)
     if formatted.returncode or formatted.stderr:

@@ -25,7 +25,6 @@ from prose import wrapped
 from rattle_source import Source, Unknown
 
 REPOSITORY = pathlib.Path(__file__).resolve().parent.parent
-HIDDEN = REPOSITORY / 'rust' / 'by_hand' / 'hidden_methods.rs'
 
 # ---- what the clauses say
 
@@ -368,14 +367,6 @@ class Guards:
                  if not use.first <= k <= use.last)
         return any(re.search(rf'(?<![\w.:]){name}\b', text) for text in texts)
 
-    def members(self, item):
-        """Adds the hidden methods to the trait `Integer`, or to its implementation for the built-in types."""
-        trait = item.name if item.kind == 'trait' else item.of_trait
-        if self.module.crate == 'integer_core' and trait == 'Integer':
-            fragments = Source(HIDDEN, HIDDEN.read_text())
-            [block] = [block for block in fragments.items() if block.kind == item.kind]
-            self.eraser.write(item.last, fragments.text(block.open + 1, block.last))
-
 
 def parameters(source, item):
     """The names of the parameters of a function."""
@@ -451,7 +442,8 @@ def make(folder):
     make_rust_crate.write(folder)
     tests = folder / 'tests' / 'domains'
     shutil.copytree(REPOSITORY / 'rust' / 'tests' / 'domains', tests)
-    shutil.copy(REPOSITORY / 'rust' / 'Cargo.toml', folder)
+    for name in ('Cargo.toml', 'README.md', 'build.rs'):
+        shutil.copy(REPOSITORY / 'rust' / name, folder)
     main = (tests / 'main.rs').read_text()
     (tests / 'main.rs').write_text(re.sub(r'mod (?:small|slices|wide);\n', '', main))
 

@@ -31,6 +31,9 @@
 #![no_std]
 #![forbid(unsafe_code)]
 
+#[cfg(all(has_error, not(has_core_error)))]
+extern crate std;
+
 pub use num_traits;
 
 mod bounded_coefficients;
@@ -41,12 +44,14 @@ pub mod counted;
 #[cfg(doc)]
 pub mod definitions;
 mod domains;
+mod errors;
 mod guards;
 pub mod halving;
 mod integer_core;
 mod integer_roots;
 pub mod layout;
 pub mod modular;
+mod padded;
 pub mod paging;
 mod parts;
 mod plain;
@@ -57,6 +62,7 @@ pub mod rolling_hash;
 mod rows;
 pub mod schedules;
 mod shift;
+mod strings;
 
 pub use crate::integer_core::{
     div_ceil, div_floor, div_mod_floor, div_rem, gcd, gcd_lcm, lcm, mod_floor, operators,

@@ -2,7 +2,8 @@
 //! How a date is written and read: ISO 8601.
 
 use crate::calendar::Date;
-use core::error::Error;
+#[cfg(has_error)]
+use crate::errors::Error;
 use core::fmt;
 use core::str::FromStr;
 
@@ -24,10 +25,11 @@ pub struct DateError;
 /// </details>
 impl fmt::Display for DateError {
     fn fmt(&self, f: &mut fmt::Formatter<'_>) -> fmt::Result {
-        f.write_str("not the text of a date")
+        crate::padded::pad(f, |f| f.write_str("not the text of a date"))
     }
 }
 
+#[cfg(has_error)]
 impl Error for DateError {}
 
 /// <details><summary>Proved</summary>
@@ -43,12 +45,14 @@ impl Error for DateError {}
 /// </details>
 impl fmt::Display for Date {
     fn fmt(&self, f: &mut fmt::Formatter<'_>) -> fmt::Result {
-        let (year, month, day) = (self.year, self.month, self.day_of_month);
-        if (0..=9999).contains(&year) {
-            write!(f, "{year:04}-{month:02}-{day:02}")
-        } else {
-            write!(f, "{year:+05}-{month:02}-{day:02}")
-        }
+        crate::padded::pad(f, |f| {
+            let (year, month, day) = (self.year, self.month, self.day_of_month);
+            if (0..=9999).contains(&year) {
+                write!(f, "{year:04}-{month:02}-{day:02}")
+            } else {
+                write!(f, "{year:+05}-{month:02}-{day:02}")
+            }
+        })
     }
 }
 
@@ -85,7 +89,7 @@ fn read_date(text: &str) -> Option<Date> {
 
 /// Splits a number of two digits, and the hyphen before it, off the end of the text.
 fn split_number(text: &str) -> Option<(&str, u8)> {
-    let (front, last) = text.split_at_checked(text.len().checked_sub(3)?)?;
+    let (front, last) = crate::strings::split_at_checked(text, text.len().checked_sub(3)?)?;
     let [b'-', tens @ b'0'..=b'9', ones @ b'0'..=b'9'] = last.as_bytes() else {
         return None;
     };

@@ -6,6 +6,13 @@ use crate::plain::{difference, is_negative, is_zero, successor, zero};
 use num_traits::{AsPrimitive, Bounded, Num, NumCast};
 
 /// A native integer type. No other crate can name this trait.
+#[cfg_attr(
+    has_diagnostic,
+    diagnostic::on_unimplemented(
+        message = "`{Self}` is no built-in integer type",
+        note = "the twelve built-in integer types implement it, and so `Integer`, whose  your own implements it by hand"
+    )
+)]
 pub trait Native:
     Copy
     + Num

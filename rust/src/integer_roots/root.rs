@@ -21,6 +21,13 @@ use crate::integer_roots::magnitude_roots::{
 /// [how to read it](crate::definitions).
 ///
 /// </details>
+#[cfg_attr(
+    has_diagnostic,
+    diagnostic::on_unimplemented(
+        message = "`{Self}` does not implement `Roots` of cellarcove",
+        note = "the built-in integer types of at most 64 bits implement it: there are no roots of `i128` and `u128`; a type of your own implements it by hand"
+    )
+)]
 pub trait Roots: Integer {
     /// Returns the root of degree `n`, rounded toward zero.
     ///

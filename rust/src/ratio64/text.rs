@@ -17,11 +17,13 @@ use core::fmt;
 /// </details>
 impl fmt::Display for Ratio {
     fn fmt(&self, f: &mut fmt::Formatter<'_>) -> fmt::Result {
-        let (num, den) = (self.num(), self.den());
-        if den == 1 {
-            write!(f, "{num}")
-        } else {
-            write!(f, "{num}/{den}")
-        }
+        crate::padded::pad(f, |f| {
+            let (num, den) = (self.num(), self.den());
+            if den == 1 {
+                write!(f, "{num}")
+            } else {
+                write!(f, "{num}/{den}")
+            }
+        })
     }
 }
