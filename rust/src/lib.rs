@@ -61,6 +61,7 @@ pub mod ratio64;
 pub mod rolling_hash;
 mod rows;
 pub mod schedules;
+mod serde_strings;
 mod shift;
 mod strings;
 
