@@ -2,11 +2,10 @@
 implementation of `FromStr`, when it returns which error. A call that it does not have is refused by file and line, and
 so is an error of which a clause says that it never comes."""
 import re
-import textwrap
 
+from prose import wrapped
 from rattle_source import Unknown
 
-WIDTH = 96                                      # of the lines of a section
 NOT_FITTING = 'a part of the {} does not fit an `i64`'
 LEAST = 'the numerator is `i64::MIN`'
 # By crate, type and call: the errors, each by its name, or '' where the type is the error, and when it is returned.
@@ -61,8 +60,7 @@ def section(eraser, item, owner):
         called = f'{error}::{name}' if name else error
         lines.append(f'- [`{called}`]({path}::{called}) if {when};')
     lines[-1] = lines[-1][:-1] + '.'
-    return ['', '# Errors', '', *(part for line in lines for part in textwrap.wrap(
-        line, WIDTH, subsequent_indent='  ', break_on_hyphens=False, break_long_words=False))]
+    return ['', '# Errors', '', *(part for line in lines for part in wrapped(line, indent='  '))]
 
 
 def see_all_used():
