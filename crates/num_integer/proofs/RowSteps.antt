@@ -58,10 +58,6 @@ module _ {n k c : ℕ} (below : k < n) (is : c ≡ coefficient n k) where
   pub next_natural : (x : ℕ) → pos (x * (k + 1)) ≡ pos (c * (n - k)) → x ≡ coefficient n (k + 1)
   next_natural x e = ap unsigned_abs (next_only {n = pos n} {k = pos k} (omega (arith, ints)) (omega (arith, ints)) (ap pos is) (sym (difference_is n k (omega arith))) refl (pos x) e)
 
--- the two ends of a row, over the integers
-pub mirror_of : (n k : ℤ) → pos 0 ≤ℤ k → k ≤ℤ n → coefficient_of n k ≡ coefficient_of n (n -ℤ k)
-mirror_of = from_naturals (λ n k. coefficient_of n k ≡ coefficient_of n (n -ℤ k)) (λ n k within. rw (difference_is n k within) (ap pos (mirror n k within)))
-
 -- ---- an exact quotient r * a / b, cancelled by the greatest common divisor g of r and b
 
 regrouped : (r a b g q s t : ℤ) → r ≡ g *ℤ q → b ≡ g *ℤ s → a ≡ s *ℤ t → q *ℤ t *ℤ b ≡ r *ℤ a

@@ -15,7 +15,8 @@ use integer_core::operators::{difference, is_negative, is_zero, successor};
 use integer_core::{Integer, NativeInteger};
 use num_traits::ToPrimitive;
 
-/// Tests whether a call may be made with its arguments. Your own type implements `parts` and `ends`.
+/// Tests whether a call may be made with its arguments. `7.quotient_fits(&0)` is `false`, so `7.div_rem(&0)`
+/// may not be called. Your own type implements `parts` and `ends`.
 pub trait Fits: Integer {
     /// Returns whether the number is negative, and its magnitude. `(-5).parts()` is `(true, 5)`.
     fn parts(&self) -> (bool, u128)

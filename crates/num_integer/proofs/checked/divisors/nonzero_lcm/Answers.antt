@@ -34,4 +34,4 @@ returns-else-is_negative g c =
     let is = c.in_ok-product.ensures.1.1 in
     let product = g.T.Number.value c.args.x *ℤ g.T.Number.value c.quotient.result in
     let size = same_size product (rw is at (from_test c.is_negative.ensures c.if-is_negative.false)) in
-    answer_only {P = IsLeastCommonMultiple (g.T.Number.value c.args.x) (g.T.Number.value c.args.y)} own (λ l. only_lcm own) c.in_ok-product.ensures.1.0 (is ∙ size)
+    answer_only {P = IsLeastCommonMultiple (g.T.Number.value c.args.x) (g.T.Number.value c.args.y)} own (λ l. only_lcm own) c.in_ok-product.ensures.1.0 (◌∙◌ {b = product} is size)
