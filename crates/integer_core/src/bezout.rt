@@ -11,8 +11,8 @@ ghost use Rattle.integer_core.specs.Runs.{RunHasTurns};
 use crate::Integer;
 use crate::operators::{difference, is_negative, is_zero, negated, one, product, zero};
 
-/// A greatest common divisor with Bezout's coefficients: for the operands `a` and `b`, `a * x + b * y` is
-/// `gcd`. For 240 and 46, `gcd` is 2, `x` is -9 and `y` is 47.
+/// A greatest common divisor with Bezout's coefficients: for the operands `a` and `b`, `a * x + b * y`
+/// equals `gcd`. For 240 and 46, `gcd` is 2, `x` is -9 and `y` is 47.
 #[derive(Debug, Clone, Copy, PartialEq, Eq)]
 pub struct ExtendedGcd<A> {
     /// The greatest common divisor. For 240 and 46 it is 2.
@@ -23,7 +23,7 @@ pub struct ExtendedGcd<A> {
     pub y: A,
 }
 
-/// A row of the algorithm's table: for the operands `a` and `b`, `a * x + b * y` is `remainder`.
+/// A row of the algorithm's table: for the operands `a` and `b`, `a * x + b * y` equals `remainder`.
 #[derive(Clone, Copy)]
 struct Row<A> {
     remainder: A,

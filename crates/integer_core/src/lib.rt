@@ -244,7 +244,7 @@ pub trait Integer: Copy + Num + PartialOrd + Ord + Eq {
     }
 
     /// Returns the greatest common divisor `gcd` and Bezout's coefficients `x` and `y`:
-    /// computed without overflow, `self * x + other * y` is the gcd. `240.extended_gcd(&46)`
+    /// computed without overflow, `self * x + other * y` equals `gcd`. `240.extended_gcd(&46)`
     /// is `ExtendedGcd { gcd: 2, x: -9, y: 47 }`, and `5.extended_gcd(&0)` is
     /// `ExtendedGcd { gcd: 5, x: 1, y: 0 }`.
     ///
