@@ -8,6 +8,7 @@ use crate::Integer;
 pub use crate::bezout::extended_gcd_counted;
 
 /// The greatest common divisor by Stein's binary method, with the number of iterations of its loop.
+/// `5i64.gcd_counted(&3)` is `(1, 2)`.
 pub trait GcdCounted: Integer {
     /// Returns [`Integer::gcd`] and the number of iterations. `56i64.gcd_counted(&42)` is `(14, 1)`. The
     /// number is at most the sum of both bit lengths, and 0 if an operand is 0 or the smallest number of

@@ -23,7 +23,7 @@ use num_traits::{Num, Signed};
 use operators::{difference, is_zero, predecessor, successor, sum};
 
 /// A type of integers, with division, divisors and multiples specified on the integers that its values
-/// mean.
+/// mean. `12.gcd(&18)` is `6`.
 pub trait Integer: Copy + Num + PartialOrd + Ord + Eq {
     // In a contract `value x` is the integer that `x` means, and `fits z` says that the type has the
     // integer `z`. These are the smallest and the largest integer of the type.

@@ -7,7 +7,8 @@ use crate::stein::{binary_gcd, positive_gcd_lcm};
 use crate::{Integer, division, divisors};
 use num_traits::PrimInt;
 
-/// A native integer type. The trait is sealed: no other crate can implement it.
+/// A native integer type: `i8` to `i128`, `u8` to `u128`, `isize` or `usize`. The trait is sealed: no other
+/// crate can implement it.
 pub trait NativeInteger: Integer + Native + PrimInt {}
 
 impl<T: Native + PrimInt> NativeInteger for T {}

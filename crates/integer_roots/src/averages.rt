@@ -6,7 +6,7 @@ ghost use Rattle.integer_roots.specs.Averages.{IsAverageCeil, IsAverageFloor};
 use integer_core::{Integer, NativeInteger};
 use num_traits::PrimInt;
 
-/// Averages of two integers. They never overflow.
+/// Averages of two integers. They never overflow: `i64::MAX.average_ceil(&i64::MAX)` is `i64::MAX`.
 pub trait Average: Integer {
     /// Returns the average rounded down. `(-2).average_floor(&-5)` is `-4`, and `3.average_floor(&10)` is `6`.
     fn average_floor(&self, other: &Self) -> Self

@@ -7,6 +7,7 @@ ghost use Rattle.integer_roots.specs.SquareRuns.{AreSquareRootTurns};
 use crate::root::Roots;
 
 /// The square root by Newton's method, with the number of iterations of its two loops.
+/// `16i64.sqrt_counted()` is `(4, 0)`.
 pub trait SqrtCounted: Roots {
     /// Returns the square root and the number of iterations, which is at most five. `99.sqrt_counted()` is
     /// `(9, 2)`: the guesses are 8, 10 and 9.

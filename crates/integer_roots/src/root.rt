@@ -8,7 +8,7 @@ use crate::counted::SqrtCounted;
 use crate::magnitude_roots::{cube_root_by_magnitude, root_by_magnitude, square_root_by_magnitude};
 use integer_core::{Integer, NativeInteger};
 
-/// Roots of an integer of at most 64 bits, rounded toward zero.
+/// Roots of an integer of at most 64 bits, rounded toward zero. `27.cbrt()` is `3`.
 pub trait Roots: Integer {
     /// Returns the root of degree `n`, rounded toward zero. `12345.nth_root(4)` is `10`.
     ///

@@ -1,4 +1,4 @@
-use Rattle.std.proofs.Common.{arith, inl, inr, refl}
+use Rattle.std.proofs.Common.{arith}
 use Rattle.integer_core.proofs.Whole.{sizes}
 use Rattle.integer_core.proofs.stein.next_pair.Goals as goal
 
