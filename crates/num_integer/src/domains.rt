@@ -1,4 +1,4 @@
-//! Tests of the domains of the calls.
+//! Tests whether a call may be made with its arguments.
 
 ghost use Rattle.std.specs.Prelude.{◌≡◌, ◌≢◌, ◌↔◌, ◌≤ℤ◌, ◌<ℤ◌, ◌+ℤ◌, ◌-ℤ◌, ◌*ℤ◌, pos, negsuc, unsigned_abs, map, IsTrue};
 ghost use Rattle.std.specs.List.{All};
@@ -63,8 +63,10 @@ pub trait Fits: Integer {
     }
 
     /// Returns `true` if `div_rem`, `div_floor`, `div_mod_floor` and `div_ceil` may be called:
-    /// `other` is not 0, and the quotient fits, as it does unless it is that of the smallest number
-    /// by -1. `i8::MIN.quotient_fits(&2)` is `true`, and `i8::MIN.quotient_fits(&-1)` is `false`.
+    /// `other` is not 0, and the quotient fits. `i8::MIN.quotient_fits(&2)` is `true`, and
+    /// `i8::MIN.quotient_fits(&-1)` is `false`. The only quotient that may not fit is that of the
+    /// smallest number by -1.
+    ///
     /// [`checked::div_rem`](crate::checked::div_rem) and the others of these names test and divide.
     fn quotient_fits(&self, other: &Self) -> bool
         requires self_in_range { Self.fits (Self.value self.now) }
@@ -113,10 +115,11 @@ pub trait Fits: Integer {
         !is_zero(*other) && self.difference_fits(&self.mod_floor(other))
     }
 
-    /// Returns `true` if `gcd` may be called: the result fits, as it does unless it is that of the
-    /// smallest number of a signed type and itself or 0. `i8::MIN.gcd_fits(&64)` is `true`, and
-    /// `i8::MIN.gcd_fits(&0)` is `false`. [`checked::gcd`](crate::checked::gcd) tests and computes
-    /// the gcd.
+    /// Returns `true` if `gcd` may be called: the result fits. `i8::MIN.gcd_fits(&64)` is `true`, and
+    /// `i8::MIN.gcd_fits(&0)` is `false`. The only gcd that may not fit is that of the smallest number
+    /// and itself or 0.
+    ///
+    /// [`checked::gcd`](crate::checked::gcd) tests and computes the gcd.
     fn gcd_fits(&self, other: &Self) -> bool
         requires self_in_range { Self.fits (Self.value self.now) }
         requires other_in_range { Self.fits (Self.value other.now) }

@@ -10,8 +10,8 @@ use crate::domains::Fits;
 use integer_core::operators::is_zero;
 
 /// Returns [`Integer::div_rem`], the quotient rounded toward zero and its remainder, or `None` if `y` is 0
-/// or the quotient does not fit, as that of the smallest number by -1 in a signed type. `div_rem(-8, 3)`
-/// is `Some((-2, -2))`, and `div_rem(i8::MIN, -1)` is `None`.
+/// or the quotient does not fit. `div_rem(-8, 3)` is `Some((-2, -2))`, and `div_rem(i8::MIN, -1)` is
+/// `None`. The only quotient that may not fit is that of the smallest number by -1.
 pub fn div_rem<T: Fits>(x: T, y: T) -> Option<(T, T)>
     requires x_in_range { T.fits (T.value x) }
     requires y_in_range { T.fits (T.value y) }

@@ -13,9 +13,9 @@ use integer_core::ExtendedGcd;
 use integer_core::operators::{is_negative, is_zero, quotient, zero};
 use num_traits::Signed;
 
-/// Returns [`Integer::gcd`], the greatest common divisor, or `None` if it does not fit, as that of the
-/// smallest number of a signed type and itself or 0. `gcd(56, 42)` is `Some(14)`, and `gcd(i8::MIN, 0)`
-/// is `None`.
+/// Returns [`Integer::gcd`], the greatest common divisor, or `None` if it does not fit. `gcd(56, 42)` is
+/// `Some(14)`, and `gcd(i8::MIN, 0)` is `None`. The only gcd that may not fit is that of the smallest
+/// number and itself or 0.
 pub fn gcd<T: Fits>(x: T, y: T) -> Option<T>
     requires x_in_range { T.fits (T.value x) }
     requires y_in_range { T.fits (T.value y) }
