@@ -154,6 +154,7 @@ fi
 check 'the sources are made anew' is_made_anew
 check 'forms that the eraser does not know are refused' python3 scripts/make_rust_crate.py --self-test
 check 'forms that the bounds do not fit are refused' python3 scripts/rust_bounds.py --self-test
+check 'operators are written for calls' python3 scripts/rust_operators.py --self-test
 check 'forms that exports do not have are refused' python3 scripts/make_rust_exports.py --self-test
 if has_packages "${originals[@]}"; then
     mkdir "$work/.cargo"
