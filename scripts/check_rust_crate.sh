@@ -152,6 +152,7 @@ if ! has cargo || ! has rustfmt; then
 fi
 
 check 'the sources are made anew' is_made_anew
+check 'its public items are those of rust/api.txt' python3 scripts/make_api.py --check
 check 'forms that the eraser does not know are refused' python3 scripts/make_rust_crate.py --self-test
 check 'forms that the bounds do not fit are refused' python3 scripts/rust_bounds.py --self-test
 check 'operators are written for calls' python3 scripts/rust_operators.py --self-test

@@ -109,6 +109,9 @@ pub fn binomial_counted<T: Integer + Copy>(n: T, k: T) -> (T, u32) {
 /// |---|---|---|---|---|---|---|---|
 /// | 10 | 9 | 18 | 17 | 34 | 33 | 67 | 66 |
 ///
+/// [`checked::binomial`](crate::checked::binomial) is the same call, which returns `None` outside
+/// the domain.
+///
 /// # Examples
 ///
 /// ```
@@ -150,6 +153,9 @@ pub fn binomial<T: Integer + Copy>(n: T, k: T) -> T {
 /// Returns the number of ways to share out the sum of the counts `k` into parts of these sizes.
 ///
 /// May be called where `Fits::multinomial_fits` is true.
+///
+/// [`checked::multinomial`](crate::checked::multinomial) is the same call, which returns `None`
+/// outside the domain.
 ///
 /// # Examples
 ///
