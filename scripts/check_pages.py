@@ -3,6 +3,7 @@
 
     scripts/check_pages.py                    a line for each block, and a count; status 1 if a block is in no file
     scripts/check_pages.py --run PROGRAM      a line for each command of a session, which the program has to print as the page shows
+    scripts/check_pages.py --examples FOLDER  the same of the sessions at the heads of rust/examples/*.rs, whose programs are there
     scripts/check_pages.py --self-test        plants slips in samples; status 1 if one is not found
 
 Each block of Rust is in a `.rt` file or an example of rust/, each block of a proof in an `.antt` file, and each line of a block of crates in
@@ -22,7 +23,7 @@ PAGES = ('README.md', 'docs/*.md', 'crates/*/CALLING.md', 'crates/*/README.md')
 SESSIONS = ('README.md', 'docs/INTCALC.md')
 KINDS = {'rust', 'antt', 'crates', 'console'}
 IMPORT = re.compile(r'(?:pub )?((?:ghost )?use .*);')
-COMMAND = re.compile(r'intcalc(?: [^;|&]*)?|echo \$\?')
+COMMAND = re.compile(r'(?:intcalc|cargo run --example \w+)(?: [^;|&]*)?|echo \$\?')
 
 
 @dataclass
@@ -148,10 +149,12 @@ def steps(block):
 
 
 def run(program, command, status):
-    """What a command prints, and its status. A page has only calls of the program and `echo $?`."""
+    """What a command prints, and its status. A page has only calls of the program, or of the examples in a folder of
+    programs, and `echo $?`."""
     if not COMMAND.fullmatch(command):
         return None, 1
-    shell = f'intcalc() {{ "$PROGRAM" "$@"; }}; (exit {status}); {command}'
+    calls = 'intcalc() { "$PROGRAM" "$@"; }; cargo() { "$PROGRAM/$3" "${@:4}"; }'
+    shell = f'{calls}; (exit {status}); {command}'
     ended = subprocess.run(['bash', '-c', shell], env={**os.environ, 'PROGRAM': str(program)}, stdin=subprocess.DEVNULL,
                            stdout=subprocess.PIPE, stderr=subprocess.STDOUT, check=False)
     return ended.stdout.decode(errors='replace'), ended.returncode
@@ -165,6 +168,13 @@ def sessions(program, named):
             for number, command, lines in steps(block) if block.kind == 'console' else ():
                 printed, status = run(program, command, status)
                 yield f'{name}:{number}: {command}', printed == ''.join(line + '\n' for line in lines)
+
+
+def heads_of_examples():
+    """The comments at the heads of the examples in Rust, each with its place."""
+    for file in sorted((REPOSITORY / 'rust' / 'examples').glob('*.rs')):
+        lines = (line[3:].removeprefix(' ') for line in file.read_text().split('\n') if line.startswith('//!'))
+        yield file.relative_to(REPOSITORY).as_posix(), '\n'.join(lines)
 
 
 # ---- a test of the comparison
@@ -205,9 +215,11 @@ def main():
         wrong = list(self_test())
         print('\n'.join(wrong + [f'check_pages.py: {len(QUOTED) + len(RUN)} samples, {len(wrong)} failed']))
         sys.exit(bool(wrong))
-    words = ('passed', 'failed') if sys.argv[1:2] == ['--run'] else ('quoted', 'in no file')
+    words = ('passed', 'failed') if sys.argv[1:2] in (['--run'], ['--examples']) else ('quoted', 'in no file')
     if sys.argv[1:2] == ['--run']:
         found = sessions(pathlib.Path(sys.argv[2]).resolve(), [(name, (REPOSITORY / name).read_text()) for name in SESSIONS])
+    elif sys.argv[1:2] == ['--examples']:
+        found = sessions(pathlib.Path(sys.argv[2]).resolve(), heads_of_examples())
     else:
         found = compare()
     counts = [0, 0]

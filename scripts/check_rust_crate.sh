@@ -10,7 +10,7 @@ set -uo pipefail
 cd "$(dirname "$0")/.."
 source scripts/lib.sh
 registry=/usr/share/cargo/registry
-originals=(num-integer num-traits)
+originals=(num-integer num-traits serde serde_json)
 dependents=(num-bigint num-rational bigdecimal num num-iter chrono)
 export CARGO_TARGET_DIR=${CARGO_TARGET_DIR:-$work/target}
 
@@ -47,6 +47,16 @@ absent() {
 
 # without_warnings COMMAND..: runs it in the copy of rust/. Each warning is an error.
 without_warnings() { (cd "$work/rust" && RUSTFLAGS=-Dwarnings RUSTDOCFLAGS=-Dwarnings "$@"); }
+
+# The examples of the documentation, in a copy of edition 2024, which builds them as one program.
+documented_examples() {
+    cp -r "$work/rust" "$work/documented"
+    sed -i 's/^edition = .*/edition = "2024"/; /^rust-version = /d' "$work/documented/Cargo.toml"
+    (cd "$work/documented" && cargo test --offline --all-features --doc)
+}
+
+# Those of rust/examples were built with all targets.
+example_programs() { scripts/check_pages.py --examples "$CARGO_TARGET_DIR/debug/examples"; }
 
 # Each link of the documentation to a word of a contract leads to that word.
 has_each_word() {
@@ -146,8 +156,10 @@ if ! has cargo || ! has rustfmt; then
 fi
 
 check 'the sources are made anew' is_made_anew
+check 'its public items are those of rust/api.txt' python3 scripts/make_api.py --check
 check 'forms that the eraser does not know are refused' python3 scripts/make_rust_crate.py --self-test
 check 'forms that the bounds do not fit are refused' python3 scripts/rust_bounds.py --self-test
+check 'operators are written for calls' python3 scripts/rust_operators.py --self-test
 check 'forms that exports do not have are refused' python3 scripts/make_rust_exports.py --self-test
 if has_packages "${originals[@]}"; then
     mkdir "$work/.cargo"
@@ -156,8 +168,10 @@ if has_packages "${originals[@]}"; then
     cp -r rust compare "$work"
     rm -rf "$work"/{rust,rust/num-integer,rust/c,compare}/{target,Cargo.lock}
     check 'the crate is built' without_warnings cargo build --offline --all-targets --all-features
-    check_tests 'its tests' without_warnings cargo test --offline
-    check_tests 'its tests in release' without_warnings cargo test --offline --release
+    check_tests 'its tests' without_warnings cargo test --offline --all-features --tests
+    check_tests 'its tests in release' without_warnings cargo test --offline --all-features --release --tests
+    check_tests 'the examples of its documentation and its page' documented_examples
+    check 'the example programs print what their heads show' example_programs
     check 'a guard that is taken out is missed' has_each_guard
     check_tests 'a type that is not Copy, of a package that depends on this crate alone' own_type
     check 'the package has the texts of both licences' has_licences
@@ -165,10 +179,10 @@ if has_packages "${originals[@]}"; then
     check 'the package num-integer without features' num_integer --no-default-features
     check 'the package num-integer with all features' num_integer --all-features
     check 'the exports for C' exports cargo build --offline --release
-    check 'its documentation' without_warnings cargo doc --offline --no-deps
+    check 'its documentation' without_warnings cargo doc --offline --no-deps --all-features
     check 'the words of its contracts' has_each_word
     if has cargo-clippy; then
-        check 'clippy' without_warnings cargo clippy --offline --all-targets -- -D warnings
+        check 'clippy' without_warnings cargo clippy --offline --all-targets --all-features -- -D warnings
         check 'clippy on the exports' exports cargo clippy --offline -- -D warnings
     fi
     upstream=$(compgen -G "$registry/num-integer-*" | tail -n 1)
@@ -187,7 +201,7 @@ if has_packages "${originals[@]}"; then
         absent "no packages of ${dependents[*]}: their tests are not run"
     fi
 else
-    absent 'no packages of num-integer and num-traits: only the sources are compared'
+    absent "no packages of ${originals[*]}: only the sources are compared"
 fi
 
 finish

@@ -25,21 +25,24 @@ class Module:
         names = self.path if self.crate in AT_ROOT else (self.crate,) + self.path
         return '/'.join(names) + '.rs' if names else 'lib.rs' if self.crate == ROOT else ''
 
-    def is_test(self, item):
-        return any(self.source.at(first + 4) == 'test' for first, _ in item.attributes)
+    def is_left_out(self, item):
+        """Whether an item is there for tests or for the documentation alone, or hidden from it."""
+        words = [[self.source.at(k) for k in (first + 2, first + 4)] for first, _ in item.attributes]
+        return any(word in words for word in (['cfg', 'test'], ['cfg', 'doc'], ['doc', 'hidden']))
 
     def below(self):
-        """The modules in it that are no tests."""
-        return [item for item in self.items if item.kind == 'mod' and not self.is_test(item) and item.name not in NOT_READ]
+        """The modules in it that code can name outside tests."""
+        return [item for item in self.items if item.kind == 'mod' and not self.is_left_out(item) and item.name not in NOT_READ]
 
 
 class Library:
     """All modules of some crates, by crate and path, in the order in which a reader meets them."""
+    SUFFIX = '.rt'
 
     def __init__(self, folder, crates):
         self.folder, self.modules, self.crates = folder, {}, set(crates)
         for crate in crates:
-            roots = [folder / crate / 'src' / name for name in ('lib.rt', 'main.rt')]
+            roots = [(folder / crate / 'src' / name).with_suffix(self.SUFFIX) for name in ('lib', 'main')]
             self.read(crate, (), next((root for root in roots if root.is_file()), roots[0]))
 
     def read(self, crate, path, file):
@@ -49,7 +52,7 @@ class Library:
         for item in module.below():
             if item.open:
                 source.refuse(item.word, f'the module `{item.name}` within a file')
-            below = (self.folder / crate / 'src').joinpath(*path, item.name).with_suffix('.rt')
+            below = (self.folder / crate / 'src').joinpath(*path, item.name).with_suffix(self.SUFFIX)
             if not below.is_file():
                 source.refuse(item.word, f'the module `{item.name}`, which has no file')
             self.read(crate, path + (item.name,), below)

@@ -95,6 +95,25 @@ def place_of(eraser, item, owner):
     return eraser.library.place_of(eraser.module, item, owner)
 
 
+def twin(eraser, item, owner, place):
+    """The sentence that leads from a call that panics outside its domain to the one of `checked`, or back, if there is one and
+    the comment does not name it."""
+    public, name = eraser.library.public, item.name
+    if item.kind != 'fn' or owner is not None and (owner.kind != 'trait' or place != ()):
+        return []
+    checked = place[-1:] == ('checked',)
+    other = place[:-1] if checked else (*place, 'checked')
+    path = '::'.join((*other, name))
+    if not any(there == other and found == name for (_, _, found), there in public.items()):
+        if not checked or ((), 'Integer') not in rust_examples.methods(eraser.library).get(name, ()):
+            return []
+        path = f'Integer::{name}'
+    if f'`{path}`' in rust_examples.comment_of(eraser.source, item) or f'{path}`]' in rust_examples.comment_of(eraser.source, item):
+        return []
+    does = 'panics' if checked else 'returns `None`'
+    return ['', *wrapped(f'[`{path}`](crate::{path}) is the same call, which {does} outside the domain.')]
+
+
 def add_sections(eraser, item, owner):
     """Adds the sections to the doc comment of a public item."""
     source, place = eraser.source, place_of(eraser, item, owner)
@@ -103,7 +122,7 @@ def add_sections(eraser, item, owner):
     docs = source.docs(item)
     prose = [source.tokens[i].text[3:].removeprefix(' ') for i in docs]
     remarks, panics = eraser.guards.sections(item, owner)
-    sections = remarks + rust_examples.section(eraser, item, place) + panics
+    sections = remarks + twin(eraser, item, owner, place) + rust_examples.section(eraser, item, place) + panics
     sections += rust_errors.section(eraser, item, owner)
     if item.kind in ('fn', 'struct', 'trait', 'impl'):
         sections += section(eraser, item, owner)

@@ -2,26 +2,25 @@
 //! Binomials and multinomials.
 
 use crate::integer_core::Integer;
-use crate::plain::{difference, is_below, one, quotient, remainder, successor, zero};
 
 /// Returns the factors `r / g` and `a / (b / g)` of `r * a / b`, where `g` is the gcd of `r` and `b`,
 /// computed as that of `b` and the remainder of `r`. Where `g` is `b` or 1, one division gives both.
 /// After <https://blog.plover.com/math/choose-2.html>.
 pub(crate) fn factors<T: Integer + Copy>(r: T, a: T, b: T) -> (T, T) {
-    let g = remainder(r, b).gcd(&b);
-    if !is_below(g, b) {
-        (quotient(r, b), a)
-    } else if is_below(one(), g) {
-        (quotient(r, g), quotient(a, quotient(b, g)))
+    let g = (r % b).gcd(&b);
+    if g >= b {
+        (r / b, a)
+    } else if T::one() < g {
+        (r / g, a / (b / g))
     } else {
-        (r, quotient(a, b))
+        (r, a / b)
     }
 }
 
 /// Returns two factors of the coefficient of `n` and `k + 1`, where `c` is that of `n` and `k`: it is
 /// `c * (n - k) / (k + 1)`.
 pub(crate) fn next_factors<T: Integer + Copy>(c: T, n: T, k: T) -> (T, T) {
-    factors(c, difference(n, k), successor(k))
+    factors(c, n - k, k + T::one())
 }
 
 /// Returns the coefficient of `n` and `k + 1`, where `c` is that of `n` and `k`. No intermediate value
@@ -34,8 +33,8 @@ pub(crate) fn next_coefficient<T: Integer + Copy>(c: T, n: T, k: T) -> T {
 
 /// Returns the lesser of `k` and `n - k`.
 pub(crate) fn nearer_end<T: Integer + Copy>(n: T, k: T) -> T {
-    let rest = difference(n, k);
-    if is_below(rest, k) {
+    let rest = n - k;
+    if rest < k {
         rest
     } else {
         k
@@ -85,16 +84,16 @@ pub(crate) fn nearer_end<T: Integer + Copy>(n: T, k: T) -> T {
 pub fn binomial_counted<T: Integer + Copy>(n: T, k: T) -> (T, u32) {
     assert!(n >= T::zero(), "`n` is negative");
     assert!(k >= T::zero(), "`k` is negative");
-    if is_below(n, k) {
-        return (zero(), 0);
+    if n < k {
+        return (T::zero(), 0);
     }
     let last = nearer_end(n, k);
-    let mut coefficient = one();
-    let mut place = zero();
+    let mut coefficient = T::one();
+    let mut place = T::zero();
     let mut turns = 0;
-    while is_below(place, last) {
+    while place < last {
         coefficient = next_coefficient(coefficient, n, place);
-        place = successor(place);
+        place = place + T::one();
         turns += 1;
     }
     (coefficient, turns)
@@ -109,6 +108,9 @@ pub fn binomial_counted<T: Integer + Copy>(n: T, k: T) -> (T, u32) {
 /// | `u8` | `i8` | `u16` | `i16` | `u32` | `i32` | `u64` | `i64` |
 /// |---|---|---|---|---|---|---|---|
 /// | 10 | 9 | 18 | 17 | 34 | 33 | 67 | 66 |
+///
+/// [`checked::binomial`](crate::checked::binomial) is the same call, which returns `None` outside
+/// the domain.
 ///
 /// # Examples
 ///
@@ -152,6 +154,9 @@ pub fn binomial<T: Integer + Copy>(n: T, k: T) -> T {
 ///
 /// May be called where `Fits::multinomial_fits` is true.
 ///
+/// [`checked::multinomial`](crate::checked::multinomial) is the same call, which returns `None`
+/// outside the domain.
+///
 /// # Examples
 ///
 /// ```
@@ -188,8 +193,8 @@ pub fn multinomial<T: Integer + Copy>(k: &[T]) -> T {
         k.iter().all(|count| *count >= T::zero()),
         "a count is negative"
     );
-    let mut multinomial = one();
-    let mut total = zero();
+    let mut multinomial = T::one();
+    let mut total = T::zero();
     for count in k {
         total = T::exact_sum(total, *count, "the multinomial coefficient does not fit");
         multinomial = T::exact_product(

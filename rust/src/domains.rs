@@ -2,7 +2,7 @@
 //! Tests of the domains of the calls.
 
 use crate::bounded_coefficients::{coefficient_within, RunningMultinomial};
-use crate::integer_core::operators::{difference, is_negative, is_zero, successor};
+use crate::integer_core::operators::{difference, successor};
 use crate::integer_core::{Integer, NativeInteger};
 use crate::parts::sum_is_within;
 use num_traits::ToPrimitive;
@@ -91,7 +91,7 @@ pub trait Fits: Integer + Copy {
     /// </details>
     #[must_use]
     fn quotient_fits(&self, other: &Self) -> bool {
-        if is_zero(*other) {
+        if other.is_zero() {
             false
         } else if is_minus_one(*other) {
             self.parts().1 <= Self::ends().1
@@ -128,11 +128,11 @@ pub trait Fits: Integer + Copy {
     /// </details>
     #[must_use]
     fn next_multiple_fits(&self, other: &Self) -> bool {
-        if is_zero(*other) {
+        if other.is_zero() {
             return false;
         }
         let remainder = self.mod_floor(other);
-        if is_zero(remainder) {
+        if remainder.is_zero() {
             return true;
         }
         sum_is_within(
@@ -170,7 +170,7 @@ pub trait Fits: Integer + Copy {
     /// </details>
     #[must_use]
     fn prev_multiple_fits(&self, other: &Self) -> bool {
-        if is_zero(*other) {
+        if other.is_zero() {
             return false;
         }
         let (negative, remainder) = self.mod_floor(other).parts();
@@ -341,7 +341,7 @@ pub trait Fits: Integer + Copy {
 
 impl<T: NativeInteger> Fits for T {
     fn parts(&self) -> (bool, u128) {
-        (is_negative(*self), wide(*self))
+        (*self < T::zero(), wide(*self))
     }
 
     fn ends() -> (u128, u128) {
@@ -349,15 +349,15 @@ impl<T: NativeInteger> Fits for T {
     }
 
     fn next_multiple_fits(&self, other: &T) -> bool {
-        if is_zero(*other) {
+        if other.is_zero() {
             return false;
         }
         let remainder = self.mod_floor(other);
-        is_zero(remainder) || sum_fits(*self, difference(*other, remainder))
+        remainder.is_zero() || sum_fits(*self, difference(*other, remainder))
     }
 
     fn prev_multiple_fits(&self, other: &T) -> bool {
-        !is_zero(*other) && difference_fits(*self, self.mod_floor(other))
+        !other.is_zero() && difference_fits(*self, self.mod_floor(other))
     }
 }
 
@@ -373,7 +373,7 @@ fn difference_fits<T: NativeInteger>(a: T, b: T) -> bool {
 
 /// Returns `true` if this is -1, the only divisor whose quotient may not fit.
 fn is_minus_one<T: Integer + Copy>(x: T) -> bool {
-    is_negative(x) && is_zero(successor(x))
+    x < T::zero() && successor(x).is_zero()
 }
 
 /// Returns the magnitude, as a number of 128 bits.

@@ -44,6 +44,9 @@ pub trait Integer: Sized + Num + PartialOrd + Ord + Eq {
     ///
     /// May be called where `Fits::quotient_fits` is true.
     ///
+    /// [`checked::div_rem`](crate::checked::div_rem) is the same call, which returns `None` outside the
+    /// domain.
+    ///
     /// # Examples
     ///
     /// ```
@@ -83,6 +86,9 @@ pub trait Integer: Sized + Num + PartialOrd + Ord + Eq {
     ///
     /// May be called where `Fits::quotient_fits` is true.
     ///
+    /// [`checked::div_floor`](crate::checked::div_floor) is the same call, which returns `None` outside
+    /// the domain.
+    ///
     /// # Examples
     ///
     /// ```
@@ -121,6 +127,9 @@ pub trait Integer: Sized + Num + PartialOrd + Ord + Eq {
     ///
     /// May be called where `other` is not 0.
     ///
+    /// [`checked::mod_floor`](crate::checked::mod_floor) is the same call, which returns `None` outside
+    /// the domain.
+    ///
     /// # Examples
     ///
     /// ```
@@ -155,6 +164,9 @@ pub trait Integer: Sized + Num + PartialOrd + Ord + Eq {
     /// Returns the quotient rounded down, and its remainder.
     ///
     /// May be called where `Fits::quotient_fits` is true.
+    ///
+    /// [`checked::div_mod_floor`](crate::checked::div_mod_floor) is the same call, which returns `None`
+    /// outside the domain.
     ///
     /// # Examples
     ///
@@ -195,6 +207,9 @@ pub trait Integer: Sized + Num + PartialOrd + Ord + Eq {
     /// Returns the quotient rounded up.
     ///
     /// May be called where `Fits::quotient_fits` is true.
+    ///
+    /// [`checked::div_ceil`](crate::checked::div_ceil) is the same call, which returns `None` outside
+    /// the domain.
     ///
     /// # Examples
     ///
@@ -240,6 +255,9 @@ pub trait Integer: Sized + Num + PartialOrd + Ord + Eq {
     /// Returns the quotient rounded up, times `other`.
     ///
     /// May be called where `Fits::next_multiple_fits` is true.
+    ///
+    /// [`checked::next_multiple_of`](crate::checked::next_multiple_of) is the same call, which returns
+    /// `None` outside the domain.
     ///
     /// # Examples
     ///
@@ -289,6 +307,9 @@ pub trait Integer: Sized + Num + PartialOrd + Ord + Eq {
     /// Returns the quotient rounded down, times `other`.
     ///
     /// May be called where `Fits::prev_multiple_fits` is true.
+    ///
+    /// [`checked::prev_multiple_of`](crate::checked::prev_multiple_of) is the same call, which returns
+    /// `None` outside the domain.
     ///
     /// # Examples
     ///
@@ -494,6 +515,8 @@ pub trait Integer: Sized + Num + PartialOrd + Ord + Eq {
     ///
     /// May be called where `Fits::gcd_fits` is true.
     ///
+    /// [`checked::gcd`](crate::checked::gcd) is the same call, which returns `None` outside the domain.
+    ///
     /// # Examples
     ///
     /// ```
@@ -530,6 +553,8 @@ pub trait Integer: Sized + Num + PartialOrd + Ord + Eq {
     /// Returns the least common multiple, which is never negative.
     ///
     /// May be called where `Fits::lcm_fits` is true.
+    ///
+    /// [`checked::lcm`](crate::checked::lcm) is the same call, which returns `None` outside the domain.
     ///
     /// # Examples
     ///
@@ -568,6 +593,9 @@ pub trait Integer: Sized + Num + PartialOrd + Ord + Eq {
     /// Returns the greatest common divisor and the least common multiple.
     ///
     /// May be called where `Fits::gcd_fits` and `Fits::lcm_fits` are true.
+    ///
+    /// [`checked::gcd_lcm`](crate::checked::gcd_lcm) is the same call, which returns `None` outside the
+    /// domain.
     ///
     /// # Examples
     ///
@@ -615,6 +643,9 @@ pub trait Integer: Sized + Num + PartialOrd + Ord + Eq {
     /// May be called where `Fits::gcd_fits` is true; at an unsigned type one operand must also divide
     /// the other.
     ///
+    /// [`checked::extended_gcd`](crate::checked::extended_gcd) is the same call, which returns `None`
+    /// outside the domain.
+    ///
     /// # Examples
     ///
     /// ```
@@ -659,6 +690,9 @@ pub trait Integer: Sized + Num + PartialOrd + Ord + Eq {
     /// Returns [`Integer::extended_gcd`] and [`Integer::lcm`].
     ///
     /// May be called where `Fits::gcd_fits` and `Fits::lcm_fits` are true.
+    ///
+    /// [`checked::extended_gcd_lcm`](crate::checked::extended_gcd_lcm) is the same call, which returns
+    /// `None` outside the domain.
     ///
     /// # Examples
     ///
@@ -740,6 +774,9 @@ pub trait Integer: Sized + Num + PartialOrd + Ord + Eq {
 
 /// Returns the quotient rounded toward zero, and its remainder.
 ///
+/// [`checked::div_rem`](crate::checked::div_rem) is the same call, which returns `None` outside the
+/// domain.
+///
 /// # Examples
 ///
 /// ```
@@ -777,6 +814,9 @@ pub fn div_rem<T: Integer>(x: T, y: T) -> (T, T) {
 
 /// Returns the quotient rounded down.
 ///
+/// [`checked::div_floor`](crate::checked::div_floor) is the same call, which returns `None` outside
+/// the domain.
+///
 /// # Examples
 ///
 /// ```
@@ -813,6 +853,9 @@ pub fn div_floor<T: Integer>(x: T, y: T) -> T {
 
 /// Returns the remainder of the quotient rounded down.
 ///
+/// [`checked::mod_floor`](crate::checked::mod_floor) is the same call, which returns `None` outside
+/// the domain.
+///
 /// # Examples
 ///
 /// ```
@@ -846,6 +889,9 @@ pub fn mod_floor<T: Integer>(x: T, y: T) -> T {
 }
 
 /// Returns the quotient rounded down, and its remainder.
+///
+/// [`checked::div_mod_floor`](crate::checked::div_mod_floor) is the same call, which returns `None`
+/// outside the domain.
 ///
 /// # Examples
 ///
@@ -883,6 +929,9 @@ pub fn div_mod_floor<T: Integer>(x: T, y: T) -> (T, T) {
 
 /// Returns the quotient rounded up.
 ///
+/// [`checked::div_ceil`](crate::checked::div_ceil) is the same call, which returns `None` outside
+/// the domain.
+///
 /// # Examples
 ///
 /// ```
@@ -919,6 +968,8 @@ pub fn div_ceil<T: Integer>(x: T, y: T) -> T {
 
 /// Returns the greatest common divisor.
 ///
+/// [`checked::gcd`](crate::checked::gcd) is the same call, which returns `None` outside the domain.
+///
 /// # Examples
 ///
 /// ```
@@ -954,6 +1005,8 @@ pub fn gcd<T: Integer>(x: T, y: T) -> T {
 
 /// Returns the least common multiple.
 ///
+/// [`checked::lcm`](crate::checked::lcm) is the same call, which returns `None` outside the domain.
+///
 /// # Examples
 ///
 /// ```
@@ -988,6 +1041,9 @@ pub fn lcm<T: Integer>(x: T, y: T) -> T {
 }
 
 /// Returns the greatest common divisor and the least common multiple.
+///
+/// [`checked::gcd_lcm`](crate::checked::gcd_lcm) is the same call, which returns `None` outside the
+/// domain.
 ///
 /// # Examples
 ///

@@ -2,7 +2,7 @@
 //! Rows of Pascal's triangle.
 
 use crate::coefficients::next_coefficient;
-use crate::integer_core::operators::{is_below, is_zero, one, predecessor, successor, zero};
+use crate::integer_core::operators::{predecessor, successor};
 use crate::integer_core::Integer;
 use core::iter::FusedIterator;
 
@@ -47,8 +47,8 @@ impl<T: Integer + Copy> IterBinomial<T> {
     pub fn new(n: T) -> IterBinomial<T> {
         IterBinomial {
             n,
-            k: zero(),
-            item: one(),
+            k: T::zero(),
+            item: T::one(),
         }
     }
 }
@@ -56,8 +56,8 @@ impl<T: Integer + Copy> IterBinomial<T> {
 /// Returns the `k`-th item of the row of `n`, where `previous` is the item before it. The first is 1.
 #[track_caller]
 fn item_at<T: Integer + Copy>(n: T, k: T, previous: T) -> T {
-    if is_zero(k) {
-        one()
+    if k.is_zero() {
+        T::one()
     } else {
         next_coefficient(previous, n, predecessor(k))
     }
@@ -79,7 +79,7 @@ impl<T: Integer + Copy> Iterator for IterBinomial<T> {
 
     #[track_caller]
     fn next(&mut self) -> Option<T> {
-        if is_below(self.n, self.k) {
+        if self.n < self.k {
             return None;
         }
         self.item = item_at(self.n, self.k, self.item);

@@ -3,7 +3,7 @@
 
 pub use crate::modular::CommonSolution;
 use crate::modular::{next_common_solution, next_common_solution_of, Modular};
-use crate::operators::is_below;
+
 use crate::{Fits, Integer};
 
 /// A first time, and the period after which it comes again.
@@ -111,7 +111,7 @@ fn latest<T: Integer + Copy>(now: T, schedules: &[Schedule<T>]) -> T {
 
 /// Returns the greater of two numbers.
 fn maximum<T: Integer + Copy>(x: T, y: T) -> T {
-    if is_below(x, y) {
+    if x < y {
         y
     } else {
         x

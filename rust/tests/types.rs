@@ -23,6 +23,7 @@ fn reason<T>(call: impl FnOnce() -> T + UnwindSafe) -> String {
 }
 
 #[test]
+#[allow(clippy::op_ref)] // those of references too
 fn each_operator_is_its_checked_call() {
     let parts = [-7, -2, -1, 0, 1, 3, 4, 9];
     for (a, b) in parts

@@ -4,7 +4,7 @@
 use crate::checked::operators::{inc, product, sum};
 use crate::coefficients::{nearer_end, next_factors};
 use crate::domains::Fits;
-use crate::integer_core::operators::{is_below, is_negative, one, quotient, successor, zero};
+use crate::integer_core::operators::successor;
 use crate::rows::IterBinomial;
 
 /// Returns [`binomial`](crate::binomial), the binomial coefficient of `n` and `k`, or `None` where
@@ -38,16 +38,16 @@ use crate::rows::IterBinomial;
 /// </details>
 #[must_use]
 pub fn binomial<T: Fits>(n: T, k: T) -> Option<T> {
-    if is_negative(n) || is_negative(k) {
+    if n < T::zero() || k < T::zero() {
         return None;
     }
-    if is_below(n, k) {
-        return Some(zero());
+    if n < k {
+        return Some(T::zero());
     }
     let last = nearer_end(n, k);
-    let mut coefficient = one();
-    let mut place = zero();
-    while is_below(place, last) {
+    let mut coefficient = T::one();
+    let mut place = T::zero();
+    while place < last {
         let (x, y) = next_factors(coefficient, n, place);
         coefficient = product(x, y)?;
         place = successor(place);
@@ -86,10 +86,10 @@ pub fn binomial<T: Fits>(n: T, k: T) -> Option<T> {
 /// </details>
 #[must_use]
 pub fn multinomial<T: Fits>(k: &[T]) -> Option<T> {
-    let mut multinomial = one();
-    let mut total = zero();
+    let mut multinomial = T::one();
+    let mut total = T::zero();
     for count in k {
-        if is_negative(*count) {
+        if *count < T::zero() {
             return None;
         }
         total = sum(total, *count)?;
@@ -137,14 +137,14 @@ pub fn row<T: Fits>(n: T) -> Option<IterBinomial<T>> {
 
 /// Returns `true` if the row of `n` fits: the number of its items and the coefficient in its middle do.
 fn row_fits<T: Fits>(n: T) -> bool {
-    is_negative(n) || inc(n).is_some() && binomial(n, half(n)).is_some()
+    n < T::zero() || inc(n).is_some() && binomial(n, half(n)).is_some()
 }
 
 /// Returns half of `n`, rounded down. A type without the number 2 has none above 1.
 fn half<T: Fits>(n: T) -> T {
-    if is_below(one(), n) {
-        quotient(n, successor(one()))
+    if T::one() < n {
+        n / successor(T::one())
     } else {
-        zero()
+        T::zero()
     }
 }

@@ -2,7 +2,6 @@
 //! Division, without a condition.
 
 use crate::domains::Fits;
-use crate::integer_core::operators::is_zero;
 
 /// Returns [`Integer::div_rem`](crate::Integer::div_rem), the quotient rounded toward zero and its remainder, or `None` for
 /// a divisor 0 and for the least number by -1 where its negation does not fit.
@@ -111,7 +110,7 @@ pub fn div_floor<T: Fits>(x: T, y: T) -> Option<T> {
 /// </details>
 #[must_use]
 pub fn mod_floor<T: Fits>(x: T, y: T) -> Option<T> {
-    if !is_zero(y) {
+    if !y.is_zero() {
         Some(x.mod_floor(&y))
     } else {
         None

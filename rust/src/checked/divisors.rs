@@ -2,7 +2,7 @@
 //! Common divisors and multiples, without a condition.
 
 use crate::domains::Fits;
-use crate::integer_core::operators::{is_negative, is_zero, negated, product, quotient, zero};
+use crate::integer_core::operators::{negated, product};
 use crate::integer_core::ExtendedGcd;
 use crate::parts::product_is_within;
 use num_traits::Signed;
@@ -76,8 +76,8 @@ pub fn gcd<T: Fits>(x: T, y: T) -> Option<T> {
 /// </details>
 #[must_use]
 pub fn lcm<T: Fits>(x: T, y: T) -> Option<T> {
-    if is_zero(x) || is_zero(y) {
-        return Some(zero());
+    if x.is_zero() || y.is_zero() {
+        return Some(T::zero());
     }
     lcm_with_gcd(x, y, gcd(x, y)?)
 }
@@ -208,10 +208,10 @@ pub fn extended_gcd_lcm<T: Fits + Signed>(x: T, y: T) -> Option<(ExtendedGcd<T>,
 /// Returns the least common multiple of two numbers with the greatest common divisor `g`, or `None`
 /// where it does not fit.
 fn lcm_with_gcd<T: Fits>(x: T, y: T, g: T) -> Option<T> {
-    if is_zero(y) {
-        Some(zero())
+    if y.is_zero() {
+        Some(T::zero())
     } else {
-        product_magnitude(x, quotient(y, g))
+        product_magnitude(x, y / g)
     }
 }
 
@@ -221,7 +221,7 @@ fn product_magnitude<T: Fits>(a: T, b: T) -> Option<T> {
         return None;
     }
     let product = product(a, b);
-    Some(if is_negative(product) {
+    Some(if product < T::zero() {
         negated(product)
     } else {
         product

@@ -2,7 +2,7 @@
 //! Sums, differences and products, without a condition.
 
 use crate::domains::Fits;
-use crate::integer_core::operators::{self, one, zero};
+use crate::integer_core::operators::{self};
 use crate::parts::{product_is_within, sum_is_within};
 
 /// Returns `a + b`, or `None` where it does not fit.
@@ -173,7 +173,7 @@ pub fn negated<T: Fits>(a: T) -> Option<T> {
 /// </details>
 #[must_use]
 pub fn inc<T: Fits>(x: T) -> Option<T> {
-    sum(x, one())
+    sum(x, T::one())
 }
 
 /// Returns `x - 1`, which [`Integer::dec`](crate::Integer::dec) stores, or `None` for the least number of the type.
@@ -204,7 +204,7 @@ pub fn inc<T: Fits>(x: T) -> Option<T> {
 /// </details>
 #[must_use]
 pub fn dec<T: Fits>(x: T) -> Option<T> {
-    difference(x, one())
+    difference(x, T::one())
 }
 
 /// Returns `true` if `a + b` fits.
@@ -220,7 +220,7 @@ fn difference_fits<T: Fits>(a: T, b: T) -> bool {
 
 /// Returns `true` if `-a` fits.
 fn negation_fits<T: Fits>(a: T) -> bool {
-    difference_fits(zero(), a)
+    difference_fits(T::zero(), a)
 }
 
 /// Returns `true` if `a * b` fits.

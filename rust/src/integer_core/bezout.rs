@@ -3,7 +3,6 @@
 //! 4.5.2, algorithm X). The loop here stops one row earlier.
 
 use crate::integer_core::Integer;
-use crate::plain::{difference, negated, one, product, zero};
 
 /// A greatest common divisor with Bezout's coefficients: the first operand times `x` and the
 /// second times `y` add up to `gcd`. For 240 and 46, `gcd` is 2, `x` is -9 and `y` is 47.
@@ -31,8 +30,8 @@ impl<T: Integer> Row<T> {
     fn of_first(a: T) -> Row<T> {
         Row {
             remainder: a,
-            x: one(),
-            y: zero(),
+            x: T::one(),
+            y: T::zero(),
         }
     }
 
@@ -40,9 +39,9 @@ impl<T: Integer> Row<T> {
     fn normalized(self) -> ExtendedGcd<T> {
         if self.remainder < T::zero() {
             ExtendedGcd {
-                gcd: negated(self.remainder),
-                x: negated(self.x),
-                y: negated(self.y),
+                gcd: T::zero() - self.remainder,
+                x: T::zero() - self.x,
+                y: T::zero() - self.y,
             }
         } else {
             ExtendedGcd {
@@ -60,14 +59,14 @@ fn last_row<T: Integer + Clone>(a: T, b: T) -> (Row<T>, u32) {
     let mut previous = Row::of_first(a);
     let mut current = Row {
         remainder: b,
-        x: zero(),
-        y: one(),
+        x: T::zero(),
+        y: T::one(),
     };
     let mut turns = 0;
     while !previous.remainder.is_multiple_of(&current.remainder) {
         let (quotient, remainder) = previous.remainder.div_rem(&current.remainder);
-        let x = difference(previous.x, product(quotient.clone(), current.x.clone()));
-        let y = difference(previous.y, product(quotient, current.y.clone()));
+        let x = previous.x - quotient.clone() * current.x.clone();
+        let y = previous.y - quotient * current.y.clone();
         previous = current;
         current = Row { remainder, x, y };
         turns += 1;

@@ -2,7 +2,6 @@
 //! What the native integer types share.
 
 use crate::integer_core::stein::Magnitude;
-use crate::plain::{difference, is_negative, is_zero, successor, zero};
 use num_traits::{AsPrimitive, Bounded, Num, NumCast};
 
 /// A native integer type. No other crate can name this trait.
@@ -29,12 +28,12 @@ pub trait Native:
 
     /// Returns `true` if this is -1, the only divisor whose quotient may not fit.
     fn is_minus_one(&self) -> bool {
-        is_negative(*self) && is_zero(distance_below_minus_one(*self))
+        *self < Self::zero() && distance_below_minus_one(*self).is_zero()
     }
 
     /// Returns the distance of the number from 0.
     fn magnitude(self) -> Self::Magnitude {
-        if is_negative(self) {
+        if self < Self::zero() {
             as_magnitude(distance_below_minus_one(self)).successor()
         } else {
             as_magnitude(self)
@@ -49,7 +48,7 @@ pub trait Native:
 
 /// Returns the distance of a negative number from -1.
 fn distance_below_minus_one<T: Native>(x: T) -> T {
-    difference(zero(), successor(x))
+    T::zero() - (x + T::one())
 }
 
 /// Returns a number at least 0 as a magnitude.

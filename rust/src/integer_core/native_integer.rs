@@ -3,7 +3,7 @@
 
 use crate::integer_core::counted::GcdCounted;
 use crate::integer_core::native::Native;
-use crate::integer_core::operators::{is_zero, zero};
+
 use crate::integer_core::stein::{binary_gcd, Magnitude};
 use crate::integer_core::{division, divisors, Integer};
 use num_traits::PrimInt;
@@ -31,7 +31,7 @@ impl<T: Native> Integer for T {
 
     fn mod_floor(&self, other: &T) -> T {
         if other.is_minus_one() {
-            zero()
+            T::zero()
         } else {
             division::div_mod_floor(*self, *other).1
         }
@@ -58,8 +58,8 @@ impl<T: Native> Integer for T {
     }
 
     fn lcm(&self, other: &T) -> T {
-        if is_zero(*self) || is_zero(*other) {
-            return zero();
+        if self.is_zero() || other.is_zero() {
+            return T::zero();
         }
         crate::guards::number(
             T::Magnitude::positive_lcm(self.magnitude(), other.magnitude()),

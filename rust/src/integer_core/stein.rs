@@ -3,7 +3,7 @@
 //! volume 2, section 4.5.2, algorithm B).
 
 use crate::integer_core::native::Native;
-use crate::plain::{difference, is_below, is_zero, one, quotient, successor};
+use crate::plain::successor;
 use crate::shift::Unsigned;
 use num_traits::{cast, PrimInt, ToPrimitive};
 
@@ -14,7 +14,7 @@ fn is_same<M: PrimInt + Unsigned>(m: M, n: M) -> bool {
 
 /// Returns `true` if the first magnitude is below the second.
 fn is_smaller<M: PrimInt + Unsigned>(m: M, n: M) -> bool {
-    is_below(m, n)
+    m < n
 }
 
 /// Returns `x` with all factors 2 taken out, and their number.
@@ -43,7 +43,7 @@ fn shared_bits<M: PrimInt + Unsigned>(x: M, y: M) -> u32 {
 
 /// Returns the difference of `x` and the lesser `y`, with all factors 2 taken out.
 fn odd_difference<M: PrimInt + Unsigned>(x: M, y: M) -> M {
-    difference(x, y) >> shared_bits(x, y)
+    (x - y) >> shared_bits(x, y)
 }
 
 /// Returns the pair after a turn of the loop. The lesser number comes second, whichever place it had,
@@ -110,7 +110,7 @@ fn positive_gcd<M: PrimInt + Unsigned>(a: M, b: M) -> (M, u32) {
 /// Returns the greatest common divisor of two numbers above 0, one of which is a power of two: the
 /// power of two that both share.
 fn shared_power_of_two<M: PrimInt + Unsigned>(a: M, b: M) -> M {
-    with_twos(one(), odd_parts(a, b).2)
+    with_twos(M::one(), odd_parts(a, b).2)
 }
 
 /// Returns the least common multiple of two numbers above 0.
@@ -118,7 +118,7 @@ fn shared_power_of_two<M: PrimInt + Unsigned>(a: M, b: M) -> M {
 fn positive_lcm<M: PrimInt + Unsigned>(a: M, b: M) -> M {
     crate::guards::product(
         a,
-        quotient(b, positive_gcd(a, b).0),
+        b / positive_gcd(a, b).0,
         "the least common multiple does not fit",
     )
 }
@@ -190,9 +190,9 @@ fn is_least<T: Native>(x: T) -> bool {
 /// two.
 fn gcd_of_magnitudes<T: Native>(a: T, b: T) -> (T::Magnitude, u32) {
     let (m, n) = (a.magnitude(), b.magnitude());
-    if is_zero(a) {
+    if a.is_zero() {
         (n, 0)
-    } else if is_zero(b) {
+    } else if b.is_zero() {
         (m, 0)
     } else if is_least(a) || is_least(b) {
         (T::Magnitude::shared_power_of_two(m, n), 0)

@@ -33,6 +33,9 @@ pub trait Roots: Integer {
     ///
     /// May be called where `n` is not 0, and `n` is odd or `self` is not negative.
     ///
+    /// [`checked::nth_root`](crate::checked::nth_root) is the same call, which returns `None` outside
+    /// the domain.
+    ///
     /// # Examples
     ///
     /// ```
@@ -67,6 +70,9 @@ pub trait Roots: Integer {
     /// Returns the square root, rounded down.
     ///
     /// May be called where `self` is not negative.
+    ///
+    /// [`checked::sqrt`](crate::checked::sqrt) is the same call, which returns `None` outside the
+    /// domain.
     ///
     /// # Examples
     ///
@@ -135,6 +141,9 @@ pub trait Roots: Integer {
 /// Returns the root of degree `n`, rounded toward zero. May be called where [`Roots::nth_root`]
 /// may.
 ///
+/// [`checked::nth_root`](crate::checked::nth_root) is the same call, which returns `None` outside
+/// the domain.
+///
 /// # Examples
 ///
 /// ```
@@ -174,6 +183,9 @@ pub fn nth_root<T: Roots>(x: T, n: u32) -> T {
 }
 
 /// Returns the square root, rounded down. May be called where [`Roots::sqrt`] may.
+///
+/// [`checked::sqrt`](crate::checked::sqrt) is the same call, which returns `None` outside the
+/// domain.
 ///
 /// # Examples
 ///

@@ -4,7 +4,7 @@
 use crate::modular::products::Modular;
 use crate::modular::residue_classes::{first_turn, next_congruent, solutions};
 use crate::modular::residues::{difference_modulo, residue};
-use crate::operators::{difference, is_negative, product, successor, sum};
+use crate::operators::{difference, product, successor, sum};
 use crate::{checked, Fits};
 
 /// Returns the numbers that are `a` modulo `m` and `b` modulo `n`, as the first that is at least 0
@@ -142,7 +142,7 @@ fn next_in_class<T: Fits>(from: T, start: T, m: T, turn: T, step: T) -> Option<T
 
 /// Returns `start` plus `turns` times `m`, or `None` where that does not fit.
 fn after_turns<T: Fits>(start: T, m: T, turns: T) -> Option<T> {
-    if is_negative(turns) {
+    if turns < T::zero() {
         let size = product(m, successor(turns));
         Some(sum(size, difference(start, m)))
     } else {

@@ -5,7 +5,7 @@
 
 use crate::modular::products::Modular;
 use crate::modular::residues::{negation_modulo, residue};
-use crate::operators::{is_zero, one, product, sum, zero};
+use crate::operators::{product, sum};
 use crate::Integer;
 
 /// Returns the inverse of `a` modulo `m`, or `None` where there is none.
@@ -46,7 +46,7 @@ use crate::Integer;
 pub fn inverse_modulo<T: Integer + Copy>(a: T, m: T) -> Option<T> {
     assert!(m > T::zero(), "the modulus is not positive");
     let (gcd, x) = gcd_modulo(a, m);
-    if gcd == one() {
+    if gcd == T::one() {
         Some(x)
     } else {
         None
@@ -104,10 +104,10 @@ pub fn quotient_modulo<T: Modular>(a: T, b: T, m: T) -> Option<T> {
 pub(crate) fn gcd_modulo<T: Integer + Copy>(a: T, m: T) -> (T, T) {
     let mut previous = m;
     let mut current = residue(a, m);
-    let mut previous_size = zero();
-    let mut size = one();
+    let mut previous_size = T::zero();
+    let mut size = T::one();
     let mut negative = false;
-    while !is_zero(current) {
+    while !current.is_zero() {
         let (quotient, remainder) = previous.div_rem(&current);
         let next = sum(previous_size, product(quotient, size));
         previous = current;

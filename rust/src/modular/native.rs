@@ -5,7 +5,7 @@ use crate::modular::products::Modular;
 use crate::modular::residues::{negation_of_residue, residue};
 use crate::modular::wide_powers::power_of_wide;
 use crate::modular::wide_products::product_of_wide;
-use crate::operators::is_negative;
+
 use crate::{Fits, NativeInteger};
 use num_traits::cast;
 
@@ -14,7 +14,7 @@ impl<T: NativeInteger> Modular for T {
         assert!(*modulus > Self::zero(), "the modulus is not positive");
         let (x, y, m) = (self.parts().1, other.parts().1, modulus.parts().1);
         let rest = of_magnitude(product_of_wide(x, y, m));
-        if is_negative(*self) != is_negative(*other) {
+        if (*self < T::zero()) != (*other < T::zero()) {
             negation_of_residue(rest, *modulus)
         } else {
             rest

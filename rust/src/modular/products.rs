@@ -3,7 +3,7 @@
 
 use crate::modular::representatives::{power_counted, Residues};
 use crate::modular::residues::{residue, sum_of_residues};
-use crate::operators::{is_below, is_zero, one, successor, zero};
+use crate::operators::successor;
 use crate::Integer;
 
 /// Products and powers modulo a number above 0. An empty implementation gives them to your own type: its
@@ -97,7 +97,12 @@ pub trait Modular: Integer + Copy {
             modulus: m,
             product,
         };
-        power_counted(&residues, residue(one(), m), residue(*self, m), exponent)
+        power_counted(
+            &residues,
+            residue(Self::one(), m),
+            residue(*self, m),
+            exponent,
+        )
     }
 }
 
@@ -140,18 +145,18 @@ pub fn product_modulo<T: Modular>(a: T, b: T, m: T) -> T {
 
 /// Returns the product of two residues, by doubling along the binary digits of `y`.
 pub(crate) fn product_of_residues<T: Integer + Copy>(x: T, y: T, m: T) -> T {
-    let mut total = zero();
+    let mut total = T::zero();
     let mut addend = x;
     let mut rest = y;
-    while is_below(one(), rest) {
-        let (half, digit) = rest.div_rem(&successor(one()));
-        if !is_zero(digit) {
+    while T::one() < rest {
+        let (half, digit) = rest.div_rem(&successor(T::one()));
+        if !digit.is_zero() {
             total = sum_of_residues(total, addend, m);
         }
         addend = sum_of_residues(addend, addend, m);
         rest = half;
     }
-    if is_zero(rest) {
+    if rest.is_zero() {
         total
     } else {
         sum_of_residues(total, addend, m)

@@ -5,7 +5,7 @@
 use crate::modular::inverses::gcd_modulo;
 use crate::modular::products::Modular;
 use crate::modular::residues::{are_congruent, difference_modulo, residue};
-use crate::operators::{is_below, quotient, successor, zero};
+use crate::operators::successor;
 use crate::{checked, Fits, Integer};
 
 /// Returns the numbers x for which `a` times x is `b` modulo `m`, as the first that is at least 0
@@ -53,8 +53,8 @@ pub fn solutions<T: Modular>(a: T, b: T, m: T) -> Option<(T, T)> {
     if !b.is_multiple_of(&gcd) {
         return None;
     }
-    let step = quotient(m, gcd);
-    let first = quotient(b, gcd).product_modulo(&x, &step);
+    let step = m / gcd;
+    let first = (b / gcd).product_modulo(&x, &step);
     Some((first, step))
 }
 
@@ -181,8 +181,8 @@ pub fn previous_congruent<T: Fits>(to: T, first: T, step: T) -> Option<T> {
 #[must_use]
 pub fn count_congruent<T: Fits>(from: T, to: T, first: T, step: T) -> Option<T> {
     assert!(step > T::zero(), "the step is not positive");
-    if is_below(to, from) {
-        return Some(zero());
+    if to < from {
+        return Some(T::zero());
     }
     let start = residue(first, step);
     let before = checked::difference(first_turn(to, start, step), first_turn(from, start, step));
@@ -196,7 +196,7 @@ pub fn count_congruent<T: Fits>(from: T, to: T, first: T, step: T) -> Option<T> 
 /// Returns the least number of turns of `m` that lead from `start` to `from` or beyond.
 pub(crate) fn first_turn<T: Integer>(from: T, start: T, m: T) -> T {
     let (turn, rest) = from.div_mod_floor(&m);
-    if is_below(start, rest) {
+    if start < rest {
         successor(turn)
     } else {
         turn

@@ -5,7 +5,7 @@ use crate::modular::common_solutions::{chinese_remainder, next_common_solution, 
 use crate::modular::products::Modular;
 use crate::modular::residue_classes::next_congruent;
 use crate::modular::residues::are_congruent;
-use crate::operators::{one, zero};
+
 use crate::{checked, Fits, Integer};
 
 /// Returns the least number from `from` on that is congruent to the first number of each pair,
@@ -73,8 +73,8 @@ pub fn next_common_solution_of<T: Modular + Fits>(
 /// Returns the least solution from `from` on, or `None` where no solution from there on is in the type.
 /// Keeps the class of the numbers that solve the congruences so far, while its step is in the type.
 fn least_solution<T: Modular + Fits>(from: T, congruences: &[(T, T)]) -> Option<T> {
-    let mut first: T = zero();
-    let mut step: T = one();
+    let mut first: T = T::zero();
+    let mut step: T = T::one();
     for congruence in congruences {
         let (a, m) = *congruence;
         if !step.lcm_fits(&m) {
