@@ -1,6 +1,6 @@
 //! Tests whether a call may be made with its arguments.
 
-ghost use Rattle.std.specs.Prelude.{◌≡◌, ◌≢◌, ◌↔◌, ◌≤ℤ◌, ◌<ℤ◌, ◌+ℤ◌, ◌-ℤ◌, ◌*ℤ◌, pos, negsuc, unsigned_abs, map, IsTrue};
+ghost use Rattle.std.specs.Prelude.{◌≡◌, ◌≢◌, ◌↔◌, ◌≤ℤ◌, ◌<ℤ◌, ◌+ℤ◌, ◌-ℤ◌, ◌*ℤ◌, pos, unsigned_abs, map, IsTrue};
 ghost use Rattle.std.specs.List.{All};
 ghost use Rattle.integer_core.specs.Bezout.{HasPair};
 ghost use Rattle.integer_core.specs.Division.{EachKind, IsCeiled, IsFloored, IsMultiple, IsQuotient};
@@ -11,7 +11,7 @@ ghost use Rattle.num_integer.specs.Multinomial.{IsMultinomial};
 
 use crate::bounded_coefficients::{RunningMultinomial, coefficient_within};
 use crate::sign_magnitude::{product_is_within, sum_is_within};
-use integer_core::operators::{difference, is_negative, is_zero, successor};
+use integer_core::operators::{difference, is_minus_one, is_negative, is_zero};
 use integer_core::{Integer, NativeInteger};
 use num_traits::ToPrimitive;
 
@@ -238,14 +238,6 @@ impl<T: NativeInteger> Fits for T {
     fn product_fits(&self, other: &T) -> bool {
         self.checked_mul(other).is_some()
     }
-}
-
-/// Returns `true` if `x` is -1, the only divisor by which a quotient overflows.
-fn is_minus_one<T: Integer>(x: T) -> bool
-    requires { T.fits (T.value x) }
-    ensures { IsTrue result ↔ (T.value x ≡ negsuc 0) }
-{
-    is_negative(x) && is_zero(successor(x))
 }
 
 /// Returns the magnitude of `x` in 128 bits.
