@@ -1,5 +1,19 @@
-//! The tests of `modular` and `applied`, callers of `num_integer`, and the tasks of the cookbook.
+//! The tests of `ratio64`, `modular`, `calendar` and `applied`, and the tasks of the cookbook.
 #![tactic(auto)]
 
 #[cfg(test)]
-mod tests;
+mod answers;
+#[cfg(test)]
+mod assertions;
+#[cfg(test)]
+mod cookbook;
+#[cfg(test)]
+mod dates;
+#[cfg(test)]
+mod fractions;
+#[cfg(test)]
+mod models;
+#[cfg(test)]
+mod residues;
+#[cfg(test)]
+mod rows;

@@ -2,7 +2,7 @@
 
 ghost use Rattle.std.specs.Prelude.{IfSome};
 
-use crate::own_types::{Form, Own, Percent};
+use crate::{Form, Own, Percent};
 use crate::signed_magnitude::{SignedMagnitude, to_i128};
 use num_integer::counted::GcdCounted;
 use num_integer::{Average, Fits};

@@ -16,9 +16,18 @@ use own_types::types::{NATIVE, SIGNED, Type, UNSIGNED};
 
 const LEAST: i128 = -9223372036854775808;
 
+const MOST: i128 = 9223372036854775807;
+
 const HALF: i128 = 4611686018427387904;
 
 const TOP: i128 = 18446744073709551615;
+
+const MIN: i128 = i128::MIN;
+
+const MAX: i128 = i128::MAX;
+
+/// The largest square of 64 bits.
+const SQUARE: i128 = 18446744065119617025;
 
 /// The least odd number of more than 64 bits.
 const WIDE: i128 = 18446744073709551617;
@@ -33,12 +42,7 @@ const FROM_16_BITS: [Type; 6] = [U16, I16, U32, I32, U64, I64];
 pub(super) static SUMS: [Row; 18] = [
     (&[I8], Ends, &[], Some(&[128, 127])),
     (&[U8], Ends, &[], Some(&[0, 255])),
-    (
-        &[I64],
-        Ends,
-        &[],
-        Some(&[9223372036854775808, 9223372036854775807]),
-    ),
+    (&[I64], Ends, &[], Some(&[2 * HALF, MOST])),
     (&[U64], Ends, &[], Some(&[0, 18446744073709551615])),
     (&[I8], Parts, &[-128], Some(&[-128])),
     (&[I8], Parts, &[0], Some(&[0])),
@@ -82,7 +86,7 @@ pub(super) static QUOTIENTS: [Row; 17] = [
     (&[I8], ModFloor, &[-128, -1], Some(&[0])),
     (&[I64], DivFloor, &[LEAST, -1], None),
     (&[I64], ModFloor, &[LEAST, -1], Some(&[0])),
-    (&[I128], ModFloor, &[i128::MIN, -1], Some(&[0])),
+    (&[I128], ModFloor, &[MIN, -1], Some(&[0])),
     (&[I64], DivFloor, &[1, 0], None),
     (&[I64], DivRem, &[7, 0], None),
     (&[I64], DivRem, &[7, 2], Some(&[3, 1])),
@@ -102,12 +106,7 @@ pub(super) static MULTIPLES: [Row; 17] = [
     (&[I8], NextMultipleOf, &[127, 8], None),
     (&[I8], PrevMultipleOf, &[127, 8], Some(&[120])),
     (&[I8], NextMultipleOf, &[-128, -1], Some(&[-128])),
-    (
-        &[I128],
-        PrevMultipleOf,
-        &[i128::MIN, -1],
-        Some(&[i128::MIN]),
-    ),
+    (&[I128], PrevMultipleOf, &[MIN, -1], Some(&[MIN])),
     (&[I8], NextMultipleFits, &[120, 8], YES),
     (&[I8], NextMultipleFits, &[-128, -1], YES),
     (&[I8], NextMultipleFits, &[-126, -3], YES),
@@ -188,12 +187,7 @@ pub(super) static SIGNED_PAIRS: [Row; 14] = [
     (&[Isize], Bezout, &[8, 9], Some(&[1, -1, 1, 2])),
     (&[I8], Bezout, &[-128, 127], Some(&[1, -1, -1, 1])),
     (&[I8], Bezout, &[-128, 1], Some(&[1, 0, 1, 0])),
-    (
-        &[I128],
-        Bezout,
-        &[i128::MIN, i128::MAX],
-        Some(&[1, -1, -1, 1]),
-    ),
+    (&[I128], Bezout, &[MIN, MAX], Some(&[1, -1, -1, 1])),
 ];
 
 /// Bezout pairs of the types with no sign, operands with no pair, and a pair with a multiple.
@@ -229,7 +223,7 @@ pub(super) static DIVISOR_TURNS: [Row; 16] = [
     (&[I64], CountedGcd, &[3, LEAST], Some(&[1, 0])),
     (&[I8], CountedGcd, &[-128, 42], Some(&[2, 0])),
     (&[I8], CountedGcd, &[-128, -64], Some(&[64, 0])),
-    (&[I128], CountedGcd, &[i128::MIN, i128::MAX], Some(&[1, 0])),
+    (&[I128], CountedGcd, &[MIN, MAX], Some(&[1, 0])),
 ];
 
 /// Coefficients, and their turns.
@@ -417,28 +411,13 @@ pub(super) static STORED_OTHERWISE: [Row; 8] = [
 /// Square roots and their turns, and numbers with no root.
 pub(super) static TURNS: [Row; 16] = [
     (&[U64], CountedRoot, &[TOP], Some(&[4294967295, 1])),
-    (
-        &[U64],
-        CountedRoot,
-        &[18446744065119617025],
-        Some(&[4294967295, 1]),
-    ),
-    (
-        &[U64],
-        CountedRoot,
-        &[18446744065119617024],
-        Some(&[4294967294, 2]),
-    ),
+    (&[U64], CountedRoot, &[SQUARE], Some(&[4294967295, 1])),
+    (&[U64], CountedRoot, &[SQUARE - 1], Some(&[4294967294, 2])),
     (&[U64], CountedRoot, &[99], Some(&[9, 2])),
     (&[U64], CountedRoot, &[16], Some(&[4, 0])),
     (&[U64], CountedRoot, &[8], Some(&[2, 2])),
     (&[U64], CountedRoot, &[3], Some(&[1, 0])),
-    (
-        &[I64],
-        CountedRoot,
-        &[9223372036854775807],
-        Some(&[3037000499, 4]),
-    ),
+    (&[I64], CountedRoot, &[MOST], Some(&[3037000499, 4])),
     (&[I64], CountedRoot, &[4], Some(&[2, 0])),
     (&[U8], CountedRoot, &[255], Some(&[15, 1])),
     (&[I8], Sqrt, &[-9], None),
