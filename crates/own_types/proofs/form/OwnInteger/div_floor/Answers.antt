@@ -1,5 +1,5 @@
 use Rattle.num_integer.specs.Division.{IsFloored, IsQuotient}
-use Rattle.own_types.proofs.Forms.{fits_64_bits, held_fits_form}
+use Rattle.own_types.proofs.HeldNumbers.{fits_64_bits, held_fits_form}
 use Rattle.own_types.proofs.form.OwnInteger.div_floor.Goals as goal
 
 pub div_floor-requires-clause-quotient_fits : goal.div_floor-requires-clause-quotient_fits

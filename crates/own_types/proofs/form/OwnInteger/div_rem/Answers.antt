@@ -1,5 +1,5 @@
 use Rattle.num_integer.specs.Division.{IsQuotient, IsTruncated}
-use Rattle.own_types.proofs.Forms.{fits_64_bits, held_fits_form}
+use Rattle.own_types.proofs.HeldNumbers.{fits_64_bits, held_fits_form}
 use Rattle.own_types.proofs.form.OwnInteger.div_rem.Goals as goal
 
 pub div_rem-q-requires-clause-quotient_fits : goal.div_rem-q-requires-clause-quotient_fits

@@ -1,6 +1,6 @@
 use Rattle.num_integer.specs.Divisors.{IsGreatestCommonDivisor}
 use Rattle.num_integer.proofs.ForCallers.{gcd_fits_is}
-use Rattle.own_types.proofs.Forms.{fits_64_bits, held_fits_form}
+use Rattle.own_types.proofs.HeldNumbers.{fits_64_bits, held_fits_form}
 use Rattle.own_types.proofs.form.OwnInteger.gcd.Goals as goal
 
 pub gcd-requires-clause-gcd_fits : goal.gcd-requires-clause-gcd_fits

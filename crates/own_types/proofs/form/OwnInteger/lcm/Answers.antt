@@ -1,5 +1,5 @@
 use Rattle.num_integer.specs.Divisors.{IsLeastCommonMultiple}
-use Rattle.own_types.proofs.Forms.{fits_64_bits, held_fits_form}
+use Rattle.own_types.proofs.HeldNumbers.{fits_64_bits, held_fits_form}
 use Rattle.own_types.proofs.form.OwnInteger.lcm.Goals as goal
 
 pub lcm-requires-clause-lcm_fits : goal.lcm-requires-clause-lcm_fits

@@ -1,5 +1,5 @@
 use Rattle.std.proofs.Common.{◌∙◌}
-use Rattle.own_types.proofs.Forms.{product_fits_form, product_held}
+use Rattle.own_types.proofs.HeldNumbers.{product_fits_form, product_held}
 use Rattle.own_types.proofs.form.OwnMul.mul.Goals as goal
 
 pub answer-requires : goal.answer-requires
