@@ -2,8 +2,6 @@
 #![tactic(auto)]
 
 #[cfg(test)]
-mod answers;
-#[cfg(test)]
 mod assertions;
 #[cfg(test)]
 mod cookbook;
@@ -15,5 +13,3 @@ mod fractions;
 mod models;
 #[cfg(test)]
 mod residues;
-#[cfg(test)]
-mod rows;
