@@ -2,7 +2,6 @@
 
 ghost use Rattle.std.specs.Prelude.{◌<◌};
 
-use crate::assertions::holds_at;
 use applied::schedules::next_meeting;
 use applied::{layout, paging, ranking};
 use calendar::{Date, IsoWeek, Weekday, easter, last_weekday_of_month, months_between};
@@ -101,72 +100,50 @@ fn next_draw(draw: &mut [u64]) -> bool {
 #[test]
 fn tasks_on_numbers(rt: HostRuntime) {
     let items = [0; 41];
-    holds_at(&rt, pages(41) == 3, &"pages");
-    holds_at(&rt, items_of(2, &items).len() == 1, &"page 2");
-    holds_at(&rt, items_of(3, &items).is_empty(), &"page 3");
-    holds_at(&rt, shares(1000, 3) == (333, 1), &"shares");
-    holds_at(&rt, aligned(13) == Some(16), &"aligned");
-    holds_at(&rt, aligned(u64::MAX).is_none(), &"aligned at the end");
-    holds_at(&rt, both_buses(10) == CommonSolution::At(21), &"both buses");
-    holds_at(&rt, tax(i64::MAX) == Some(1752440687002407403), &"tax");
-    holds_at(&rt, inverse(3) == Some(333333336), &"inverse");
-    holds_at(&rt, inverse(0).is_none(), &"inverse of 0");
+    assert!(rt; pages(41) == 3 && items_of(2, &items).len() == 1 && items_of(3, &items).is_empty());
+    assert!(rt; shares(1000, 3) == (333, 1));
+    assert!(rt; aligned(13) == Some(16) && aligned(u64::MAX).is_none());
+    assert!(rt; both_buses(10) == CommonSolution::At(21));
+    assert!(rt; tax(i64::MAX) == Some(1752440687002407403));
+    assert!(rt; inverse(3) == Some(333333336) && inverse(0).is_none());
 }
 
 #[test]
 fn tasks_on_draws(rt: HostRuntime) {
     let mut draw = [0, 1, 2, 3, 4, 6];
-    holds_at(&rt, draw_number(&draw) == Some(1), &"the number of a draw");
-    holds_at(
-        &rt,
-        next_draw(&mut draw) && draw == [0, 1, 2, 3, 5, 6],
-        &"the next draw",
-    );
-    holds_at(&rt, draw_number(&[1, 1, 2, 3, 4, 5]).is_none(), &"no draw");
+    assert!(rt; draw_number(&draw) == Some(1) && draw_number(&[1, 1, 2, 3, 4, 5]).is_none());
+    assert!(rt; next_draw(&mut draw) && draw == [0, 1, 2, 3, 5, 6]);
 }
 
 #[test]
 fn tasks_on_fractions(rt: HostRuntime) {
     match (Ratio::new(314159, 100000), read("6/-4")) {
         (Ok(pi), Ok(x)) => {
-            let simple_pi = simple(&pi);
-            holds_at(
-                &rt,
-                (simple_pi.num(), simple_pi.den()) == (22, 7),
-                &"simple",
-            );
-            holds_at(&rt, (x.num(), x.den()) == (-3, 2), &"read");
+            let simple = simple(&pi);
+            assert!(rt; (simple.num(), simple.den()) == (22, 7) && (x.num(), x.den()) == (-3, 2));
         }
         _ => panic!(rt; "they are fractions"),
     }
-    holds_at(&rt, read("1/0").is_err(), &"read");
-    holds_at(&rt, read("1.5").is_err(), &"read");
+    assert!(rt; read("1/0").is_err() && read("1.5").is_err());
 }
 
 #[test]
 fn tasks_on_dates(rt: HostRuntime) {
-    let friday = pay_day(2026, 11);
-    holds_at(&rt, friday == Date::new(2026, 11, 27), &"pay day");
-    holds_at(&rt, pay_day(2026, 13).is_none(), &"pay day");
-    holds_at(
-        &rt,
-        easter_monday(2027) == Date::new(2027, 3, 29),
-        &"easter monday",
-    );
+    assert!(rt; pay_day(2026, 11) == Date::new(2026, 11, 27) && pay_day(2026, 13).is_none());
+    assert!(rt; easter_monday(2027) == Date::new(2027, 3, 29));
     if let Some(invoice) = Date::new(2026, 1, 31) {
-        holds_at(&rt, due(&invoice) == Date::new(2026, 2, 28), &"due");
+        assert!(rt; due(&invoice) == Date::new(2026, 2, 28));
     }
     if let (Some(start), Some(end), Some(day)) = (
         Date::new(2000, 1, 31),
         Date::new(2000, 2, 29),
         Date::new(2027, 1, 1),
     ) {
-        holds_at(&rt, due(&start) == Some(end), &"due");
-        holds_at(&rt, age_in_months(&start, &end) == Some(1), &"age");
         let week = IsoWeek {
             year: 2026,
             week: 53,
         };
-        holds_at(&rt, week_of(&day) == Some(week), &"week");
+        assert!(rt; due(&start) == Some(end) && age_in_months(&start, &end) == Some(1));
+        assert!(rt; week_of(&day) == Some(week));
     }
 }

@@ -1,119 +1,104 @@
-//! Dates: known ones, the ends of `i64`, and leap years.
+//! The strings of dates: known ones, the ends of `i64`, and strings that no date has.
 
-mod days;
-mod feasts;
-mod iso_weeks;
-mod months;
-mod texts;
-mod weeks;
-mod whole_months;
+ghost use Rattle.std.specs.Prelude.{IfErr, Some};
+ghost use Rattle.anyhow.specs.Error.{HasMessage};
+ghost use Rattle.calendar.specs.Text.{error_text};
 
 use crate::assertions::holds_at;
-use calendar::Weekday::{Friday, Monday, Saturday, Sunday, Thursday, Tuesday, Wednesday};
-use calendar::{Date, Weekday, is_leap_year, weekday_of};
+use anyhow::Result;
+use calendar::{Date, DateError};
+use std::alloc::{AllocError, Global};
 use std::process::Abort;
-
-const MIN: i64 = i64::MIN;
-
-const MAX: i64 = i64::MAX;
 
 /// A year, a month and a day of the month.
 type Parts = (i64, u8, u8);
-
-/// The parts of a date, the day, the day of the year, and the day of the week.
-const DATES: [(Parts, i64, u16, Weekday); 25] = [
-    ((1970, 1, 1), 0, 1, Thursday),
-    ((1969, 12, 31), -1, 365, Wednesday),
-    ((2000, 2, 29), 11016, 60, Tuesday),
-    ((2000, 3, 1), 11017, 61, Wednesday),
-    ((2000, 12, 31), 11322, 366, Sunday),
-    ((1900, 2, 28), -25509, 59, Wednesday),
-    ((1900, 3, 1), -25508, 60, Thursday),
-    ((1600, 2, 29), -135081, 60, Tuesday),
-    ((1582, 10, 15), -141427, 288, Friday),
-    ((1582, 10, 4), -141438, 277, Monday),
-    ((1, 1, 1), -719162, 1, Monday),
-    ((0, 12, 31), -719163, 366, Sunday),
-    ((0, 2, 29), -719469, 60, Tuesday),
-    ((0, 1, 1), -719528, 1, Saturday),
-    ((-1, 12, 31), -719529, 365, Friday),
-    ((-4, 2, 29), -720930, 60, Thursday),
-    ((9999, 12, 31), 2932896, 365, Friday),
-    ((-25252734927764585, 6, 7), MIN, 158, Wednesday),
-    ((-25252734927764585, 12, 31), MIN + 207, 365, Sunday),
-    ((-25252734927764584, 1, 1), MIN + 208, 1, Monday),
-    ((-25252734927764185, 6, 6), MIN + 146096, 157, Tuesday),
-    ((25252734927768124, 7, 28), MAX - 146096, 210, Friday),
-    ((25252734927768524, 1, 1), MAX - 208, 1, Saturday),
-    ((25252734927768524, 1, 2), MAX - 207, 2, Sunday),
-    ((25252734927768524, 7, 27), MAX, 209, Thursday),
-];
-
-/// Years, and whether they are leap years.
-const YEARS: [(i64, bool); 8] = [
-    (2000, true),
-    (0, true),
-    (-4, true),
-    (2024, true),
-    (1900, false),
-    (-1, false),
-    (2023, false),
-    (-100, false),
-];
 
 /// The date of a year, a month and a day of the month.
 fn date(rt: &impl Abort, (year, month, day_of_month): Parts) -> Date {
     Date::new(year, month, day_of_month).expect(rt, "there is such a date")
 }
 
-/// The year, the month and the day of the month of a date.
-fn parts(date: Option<Date>) -> Option<Parts> {
-    let date = date?;
-    Some((date.year, date.month, date.day_of_month))
+/// The parts of a date, and its string.
+const TEXTS: [(Parts, &str); 12] = [
+    ((2026, 11, 23), "2026-11-23"),
+    ((1970, 1, 1), "1970-01-01"),
+    ((9999, 12, 31), "9999-12-31"),
+    ((10000, 1, 1), "+10000-01-01"),
+    ((123456, 2, 3), "+123456-02-03"),
+    ((7, 10, 9), "0007-10-09"),
+    ((0, 2, 29), "0000-02-29"),
+    ((-1, 12, 31), "-0001-12-31"),
+    ((-9999, 1, 1), "-9999-01-01"),
+    ((-10000, 1, 1), "-10000-01-01"),
+    ((i64::MAX, 12, 31), "+9223372036854775807-12-31"),
+    ((i64::MIN, 1, 1), "-9223372036854775808-01-01"),
+];
+
+/// Strings that no date has.
+const NO_TEXTS: [&str; 24] = [
+    "",
+    "-",
+    "11-23",
+    "2026",
+    "2026-11",
+    "2026-11-2",
+    "2026-1-23",
+    "2026-11-23 ",
+    " 2026-11-23",
+    "2026/11/23",
+    "20261123",
+    "2026-11-31",
+    "1900-02-29",
+    "2026-00-01",
+    "2026-13-01",
+    "226-11-23",
+    "02026-11-23",
+    "+2026-11-23",
+    "10000-01-01",
+    "-0000-01-01",
+    "-1-12-31",
+    "+9223372036854775808-12-31",
+    "2026-1é-3",
+    "２026-11-23",
+];
+
+/// Returns `true` if the text is that of the date, and read as the date.
+fn is_text_of(date: &Date, text: &str, alloc: Global) -> Result<bool, AllocError> {
+    let printed = date.to_string(alloc)?;
+    Ok(printed.as_str() == text && text.parse() == Ok(*date))
 }
 
-/// Returns `true` if the date is that of the day, and the day that of the date.
-fn has_day(date: &Date, day: i64) -> bool {
-    Date::from_day_number(day) == *date && date.day_number() == Some(day)
-}
-
-/// Returns `true` if the date is that of the day of its year, and the day that of the date.
-fn has_day_of_year(date: &Date, day: u16) -> bool {
-    Date::from_year_day(date.year, day) == Some(*date) && date.day_of_year() == day
+/// Returns `true` if the text is read as no date.
+fn is_no_text(text: &str) -> bool {
+    text.parse::<Date>().is_err()
 }
 
 #[test]
-fn known_dates(rt: HostRuntime) {
-    for &(parts, day, day_of_year, weekday) in &DATES {
-        let date = date(&rt, parts);
-        let weekdays = (weekday_of(day), date.weekday());
-        holds_at(&rt, has_day(&date, day), &("day", day));
-        holds_at(&rt, has_day_of_year(&date, day_of_year), &("year_day", day));
-        holds_at(&rt, weekdays == (weekday, weekday), &("weekday", day));
+fn texts_of_dates(rt: HostRuntime) {
+    for &(parts, text) in &TEXTS {
+        let is_text = is_text_of(&date(&rt, parts), text, rt.alloc());
+        holds_at(&rt, is_text == Ok(true), &("fmt", text));
     }
-    for (month, day) in [(2, 30), (4, 31), (0, 1), (13, 1), (1, 0), (1, 32)] {
-        let date = Date::new(2000, month, day);
-        holds_at(&rt, date == None, &("Date::new", month, day));
+    for &text in &NO_TEXTS {
+        holds_at(&rt, is_no_text(text), &("parse", text));
     }
 }
 
-#[test]
-fn leap_years(rt: HostRuntime) {
-    for &(year, leap) in &YEARS {
-        let has_leap_day = Date::new(year, 2, 29).is_some();
-        let has_366_days = Date::from_year_day(year, 366).is_some();
-        let found = (is_leap_year(year), has_leap_day, has_366_days);
-        holds_at(&rt, found == (leap, leap, leap), &("is_leap_year", year));
-    }
+/// The year of a date that a text spells, as a program reads it: the error is any error.
+fn year_of_text(text: &str) -> Result<i64>
+    ensures { IfErr result (λ error. HasMessage (Some error_text) error) }
+{
+    let date: Date = text.parse()?;
+    Ok(date.year)
 }
 
-/// The first and the last date, beyond the days of `i64`.
 #[test]
-fn ends(rt: HostRuntime) {
-    let (first, last) = (date(&rt, (MIN, 1, 1)), date(&rt, (MAX, 12, 31)));
-    let days = (first.day_number(), last.day_number());
-    let beyond = (first.previous(), last.next(), first.iso_week());
-    holds_at(&rt, days == (None, None), &"day");
-    holds_at(&rt, beyond == (None, None, None), &"next");
-    holds_at(&rt, first.weekday() == Sunday, &"weekday");
+fn text_of_the_error(rt: HostRuntime) {
+    let printed = DateError.to_string(rt.alloc());
+    let printed = printed.expect(&rt, "there is memory");
+    holds_at(&rt, printed.as_str() == "not the text of a date", &"fmt");
+    for (text, year) in [("2026-11-23", Some(2026)), ("2026-11-31", None)] {
+        let found = year_of_text(text).ok();
+        holds_at(&rt, found == year, &("year_of_text", text));
+    }
 }

@@ -12,19 +12,11 @@ use modular::CommonSolution::{At, Beyond, Never};
 
 #[test]
 fn items_at_their_places(rt: HostRuntime) {
-    holds_at(&rt, item_at(2u8, 2, 4) == Some(10), &"item_at");
-    holds_at(&rt, item_at(15u8, 15, 16) == Some(255), &"item_at");
-    holds_at(&rt, item_at(64u8, 0, 4).is_none(), &"item_at");
-    holds_at(&rt, item_at(25u8, 6, 10).is_none(), &"item_at");
-    holds_at(&rt, item_at(-1i64, 3, 4) == Some(-1), &"item_at below 0");
-    holds_at(
-        &rt,
-        item_at(-2i8, 99, 100) == Some(-101),
-        &"item_at below 0",
-    );
-    holds_at(&rt, item_at(-13i8, 2, 10) == Some(-128), &"item_at below 0");
-    holds_at(&rt, item_at(-13i8, 1, 10).is_none(), &"item_at below 0");
-    holds_at(&rt, item_at(-128i8, 126, 127).is_none(), &"item_at below 0");
+    assert!(rt; item_at(2u8, 2, 4) == Some(10) && item_at(15u8, 15, 16) == Some(255));
+    assert!(rt; item_at(64u8, 0, 4).is_none() && item_at(25u8, 6, 10).is_none());
+    assert!(rt; item_at(-1i64, 3, 4) == Some(-1) && item_at(-2i8, 99, 100) == Some(-101));
+    assert!(rt; item_at(-13i8, 2, 10) == Some(-128) && item_at(-13i8, 1, 10).is_none());
+    assert!(rt; item_at(-128i8, 126, 127).is_none());
 }
 
 #[test]

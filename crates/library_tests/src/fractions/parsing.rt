@@ -60,31 +60,9 @@ const READ: [(&str, Result<Parts, ParseRatioError>); 35] = [
 ];
 
 /// Texts that are no fractions.
-const OTHERS: [&str; 24] = [
-    "",
-    "/",
-    "1/",
-    "/1",
-    "-",
-    "-/1",
-    "1/-",
-    " 1",
-    "1 ",
-    "1 /2",
-    "1/ 2",
-    "+1",
-    "1/+2",
-    "--1",
-    "1/--2",
-    "1//2",
-    "1/2/3",
-    "1/2/",
-    "1.5",
-    "0x1",
-    "a",
-    "1/b",
-    "\u{661}",
-    "1\u{2044}2",
+const OTHERS: [&str; 22] = [
+    "", "/", "1/", "/1", "-", "-/1", "1/-", " 1", "1 ", "1 /2", "1/ 2", "+1", "1/+2", "--1",
+    "1/--2", "1//2", "1/2/3", "1/2/", "1.5", "0x1", "a", "1/b",
 ];
 
 /// The parts of a fraction, and its text.
@@ -109,6 +87,9 @@ fn texts_read(rt: HostRuntime) {
         holds_at(&rt, read(text) == expected, &("parse", text));
     }
     for &text in &OTHERS {
+        holds_at(&rt, read(text) == Err(NotAFraction), &("parse", text));
+    }
+    for text in ["\u{661}", "1\u{2044}2"] {
         holds_at(&rt, read(text) == Err(NotAFraction), &("parse", text));
     }
 }
