@@ -1,4 +1,5 @@
-//! An assertion that shows the row at which it fails.
+//! An assertion that shows the row at which it fails. `num_integer_tests` has the same one in `rows.rt`: no library can have it,
+//! since `Abort` is rejected outside tests.
 
 ghost use Rattle.std.specs.Prelude.{IsTrue};
 

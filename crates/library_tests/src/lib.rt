@@ -1,4 +1,5 @@
-//! The tests of `ratio64`, `modular`, `calendar` and `applied`, and the tasks of the cookbook.
+//! The tests of `ratio64`, of an own type in `modular`, of `applied` and of the strings of dates, and the tasks of the cookbook.
+//! The worked values of `modular`, `applied` and `calendar` are in `rust/tests`.
 #![tactic(auto)]
 
 #[cfg(test)]

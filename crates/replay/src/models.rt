@@ -38,7 +38,10 @@ impl<T: Tested> OfThree<T> for Models {
         match self {
             Models::Pages => Some(with_value(sum, pages(a, m))),
             Models::PlaceOf => Some(with_values(sum, place_of(a, m))),
-            Models::RangeOfPage if !is_negative(b) => Some(with_values(sum, range_of_page(a, m, b))),
+            Models::RangeOfPage if !is_negative(b) => Some(with_values(
+                sum,
+                range_of_page(a, m, b),
+            )),
             Models::RangeOfPart if !is_negative(a) && is_below(a, m) && !is_negative(b) => {
                 Some(with_values(sum, range_of_part(a, m, b)))
             }
