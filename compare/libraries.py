@@ -484,7 +484,7 @@ def ranked_choices():
 
 
 HEAD = """\
-//! What Python answers, as `compare/libraries.py` printed it.
+//! What Python returns, as `compare/libraries.py` printed it.
 
 use crate::checksum::Checksum;
 use crate::dates::{self, Dates};

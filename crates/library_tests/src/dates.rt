@@ -62,13 +62,13 @@ const NO_TEXTS: [&str; 24] = [
     "２026-11-23",
 ];
 
-/// Returns `true` if the text is that of the date, and read as the date.
+/// Returns `true` if the string is that of the date, and is read as the date.
 fn is_text_of(date: &Date, text: &str, alloc: Global) -> Result<bool, AllocError> {
     let printed = date.to_string(alloc)?;
     Ok(printed.as_str() == text && text.parse() == Ok(*date))
 }
 
-/// Returns `true` if the text is read as no date.
+/// Returns `true` if the string is read as no date.
 fn is_no_text(text: &str) -> bool {
     text.parse::<Date>().is_err()
 }
@@ -84,7 +84,7 @@ fn texts_of_dates(rt: HostRuntime) {
     }
 }
 
-/// The year of a date that a text spells, as a program reads it: the error is any error.
+/// The year of a date in a string, as a program reads it: the error is any error.
 fn year_of_text(text: &str) -> Result<i64>
     ensures { IfErr result (λ error. HasMessage (Some error_text) error) }
 {

@@ -86,7 +86,7 @@ fn ratio(rt: &impl Abort, (num, den): Parts) -> Ratio {
     Ratio::new(num, den).expect(rt, "the reduced parts fit")
 }
 
-/// The parts of an answer.
+/// The parts of a result.
 fn parts(answer: Result<Ratio, RatioError>) -> Result<Parts, RatioError> {
     let x = answer?;
     Ok((x.num(), x.den()))

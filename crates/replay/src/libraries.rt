@@ -1,4 +1,4 @@
-//! What Python answers, as `compare/libraries.py` printed it.
+//! What Python returns, as `compare/libraries.py` printed it.
 
 use crate::checksum::Checksum;
 use crate::dates::{self, Dates};

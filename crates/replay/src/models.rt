@@ -14,7 +14,7 @@ use own_types::types::{Tested, Type};
 use std::alloc::Global;
 use std::process::Abort;
 
-/// A call. Each takes a number above 0 last: the size of a page, a number of parts or an alignment.
+/// A call. Each takes a positive number last: the size of a page, a number of parts or an alignment.
 #[derive(Clone, Copy, Debug)]
 pub(crate) enum Models {
     Pages,
@@ -103,7 +103,7 @@ fn all_choices(rt: &impl Abort, so_far: Answered, n: u64, choice: &mut [u64]) ->
     answered
 }
 
-/// All choices of the numbers below each number up to the greatest.
+/// All choices of the numbers below each number up to the largest.
 pub(crate) fn ranked_choices(rt: &impl Abort) -> Answered {
     let mut numbers = [0; CHOSEN_BELOW as usize];
     let mut answered = Answered::none();

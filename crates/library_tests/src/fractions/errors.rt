@@ -1,4 +1,4 @@
-//! The texts of the errors, and callers that return them as an `anyhow::Error` by `?`, with no proof file.
+//! The strings of the errors, and callers that return them as an `anyhow::Error` by `?`, with no proof file.
 
 ghost use Rattle.std.specs.Prelude.{IfOk};
 ghost use Rattle.ratio64.specs.Fraction.{IsExact};
@@ -17,13 +17,13 @@ fn fraction_of(num: i64, den: i64) -> anyhow::Result<Ratio>
     Ok(fraction)
 }
 
-/// The quotient of two fractions that texts spell.
+/// The quotient of the fractions in two strings.
 fn quotient_of_texts(num: &str, den: &str) -> anyhow::Result<Ratio> {
     let (num, den) = (num.parse::<Ratio>()?, den.parse::<Ratio>()?);
     Ok(num.checked_div(&den)?)
 }
 
-/// A refusal, the same one of a text, its number, and what both print.
+/// An error, the same one of a string, its number, and what both print.
 const REFUSALS: [(RatioError, ParseRatioError, u32, &str); 2] = [
     (
         RatioError::ZeroDenominator,
@@ -39,7 +39,7 @@ const REFUSALS: [(RatioError, ParseRatioError, u32, &str); 2] = [
     ),
 ];
 
-/// The refusals of a text alone.
+/// The errors of a string alone.
 const PARSE_TEXTS: [(ParseRatioError, &str); 2] = [
     (ParseRatioError::NotAFraction, "the text is not a fraction"),
     (
@@ -48,7 +48,7 @@ const PARSE_TEXTS: [(ParseRatioError, &str); 2] = [
     ),
 ];
 
-/// Two texts, and the text of the error of their quotient.
+/// Two strings, and the string of the error of their quotient.
 const REFUSED: [((&str, &str), &str); 4] = [
     (("1/2", "0"), "the denominator is 0"),
     (("1/0", "1"), "the denominator is 0"),
@@ -80,7 +80,7 @@ fn texts_of_errors(rt: HostRuntime) {
     }
 }
 
-/// Returns `true` if the quotient of two texts is refused by this text.
+/// Returns `true` if the quotient of two strings is an error with this string.
 fn is_refused(num: &str, den: &str, text: &str, alloc: Global) -> Result<bool, AllocError> {
     match quotient_of_texts(num, den) {
         Ok(_) => Ok(false),

@@ -5,7 +5,7 @@ use crate::assertions::holds_at;
 use ratio64::RatioError::{NotFitting, ZeroDenominator};
 use ratio64::{Ratio, RatioError};
 
-/// The parts of a fraction, and of its negation, its magnitude and its reciprocal, or `None` where one is refused.
+/// The parts of a fraction, and of its negation, its magnitude and its reciprocal, or `None` for an error.
 const TURNED: [(Parts, [Option<Parts>; 3]); 8] = [
     ((0, 1), [Some((0, 1)), Some((0, 1)), None]),
     ((-3, 2), [Some((3, 2)), Some((3, 2)), Some((-2, 3))]),
@@ -17,7 +17,7 @@ const TURNED: [(Parts, [Option<Parts>; 3]); 8] = [
     ((MIN, MAX), [None, None, None]),
 ];
 
-/// The reciprocal of 0 alone is refused for its denominator.
+/// Only the reciprocal of 0 is an error for its denominator.
 #[test]
 fn turned_fractions(rt: HostRuntime) {
     for &(given, [negated, absolute, inverted]) in &TURNED {
@@ -70,7 +70,7 @@ fn powers(rt: HostRuntime) {
     }
 }
 
-/// The parts of a fraction, its sign, and whether it is above 0, below 0, 0, and a whole number.
+/// The parts of a fraction, its sign, and whether it is positive, negative, 0, and an integer.
 const SIGNS: [(Parts, i64, (bool, bool, bool, bool)); 10] = [
     ((MIN, 1), -1, (false, true, false, true)),
     ((MIN, MAX), -1, (false, true, false, false)),
@@ -84,7 +84,7 @@ const SIGNS: [(Parts, i64, (bool, bool, bool, bool)); 10] = [
     ((MAX, 1), 1, (true, false, false, true)),
 ];
 
-/// Whether a fraction is above 0, below 0, 0, and a whole number.
+/// Whether a fraction is positive, negative, 0, and an integer.
 fn signs_of(x: &Ratio) -> (bool, bool, bool, bool) {
     (
         x.is_positive(),

@@ -5,7 +5,7 @@ use crate::assertions::holds_at;
 use ratio64::RatioError::{NotFitting, ZeroDenominator};
 use ratio64::{Ratio, RatioError};
 
-/// The sign of an operation, the parts of its operands, and those of its answer.
+/// The sign of an operation, the parts of its operands, and those of its result.
 const ANSWERS: [(char, Parts, Parts, Result<Parts, RatioError>); 24] = [
     ('+', (1, 6), (1, 3), Ok((1, 2))),
     ('+', (1, 2), (-1, 2), Ok((0, 1))),
@@ -38,7 +38,7 @@ const ANSWERS: [(char, Parts, Parts, Result<Parts, RatioError>); 24] = [
     ('/', (0, 1), (MIN, 1), Ok((0, 1))),
 ];
 
-/// The answer of the operation of a sign.
+/// The result of the operation of a sign.
 fn answer(sign: char, x: &Ratio, y: &Ratio) -> Result<Ratio, RatioError> {
     match sign {
         '+' => x.checked_add(y),

@@ -1,11 +1,11 @@
-//! Texts that are read, those that are not, and each printed fraction read back.
+//! Strings that are read, strings that are not, and each printed fraction read back.
 
 use super::{MAX, MIN, Parts, ratio};
 use crate::assertions::holds_at;
 use ratio64::ParseRatioError::{NotAFraction, NotFitting, TooLong, ZeroDenominator};
 use ratio64::{ParseRatioError, Ratio};
 
-/// A text, and the parts of the fraction that it is read as. The last rows have parts of 37, 38, 39 and 40 digits.
+/// A string, and the parts of the fraction that it is read as. The last rows have parts of 37, 38, 39 and 40 digits.
 const READ: [(&str, Result<Parts, ParseRatioError>); 35] = [
     ("3", Ok((3, 1))),
     ("-3/2", Ok((-3, 2))),
@@ -59,13 +59,13 @@ const READ: [(&str, Result<Parts, ParseRatioError>); 35] = [
     ),
 ];
 
-/// Texts that are no fractions.
+/// Strings that are no fractions.
 const OTHERS: [&str; 22] = [
     "", "/", "1/", "/1", "-", "-/1", "1/-", " 1", "1 ", "1 /2", "1/ 2", "+1", "1/+2", "--1",
     "1/--2", "1//2", "1/2/3", "1/2/", "1.5", "0x1", "a", "1/b",
 ];
 
-/// The parts of a fraction, and its text.
+/// The parts of a fraction, and its string.
 const TEXTS: [(Parts, &str); 6] = [
     ((6, -4), "-3/2"),
     ((12, 4), "3"),
@@ -75,7 +75,7 @@ const TEXTS: [(Parts, &str); 6] = [
     ((MIN, 1), "-9223372036854775808"),
 ];
 
-/// The parts of the fraction that the text is read as.
+/// The parts of the fraction that the string is read as.
 fn read(text: &str) -> Result<Parts, ParseRatioError> {
     let x: Ratio = text.parse()?;
     Ok((x.num(), x.den()))
