@@ -177,6 +177,8 @@ CODE = {
         ('rank += binomial(*number, i as u64 + 1)',
          'rank = crate::guards::sum(rank, binomial(*number, i as u64 + 1), "the rank does not fit")'),),
 }
+# The changes of code that are no guard: bounds, and an operator whose result fits.
+NO_GUARD = {'Native', 'Magnitude', 'is_minus_one'}
 # The modules that import plain operators: what they add, subtract and multiply fits wherever the division or the test
 # before it passed.
 PLAIN = {('integer_core', 'bezout'), ('integer_core', 'division'), ('integer_core', 'divisors'),
@@ -435,7 +437,7 @@ def erased(text):
 # What the self-test takes out: the forms with a test, and the changes of code that are no bound.
 def forms():
     changed = [key[2] for key, changes in CODE.items()
-               if any(new != INTEGER for _, new in changes) and key[2] != 'Native']
+               if any(new != INTEGER for _, new in changes) and key[2] not in NO_GUARD]
     return [row.name for row in ROWS if row.test] + changed
 
 
