@@ -5,6 +5,7 @@ use Rattle.std.proofs.lemmas.Int.{by_lt_z}
 use Rattle.num_integer.specs.Checked.{AnswersWhere}
 use Rattle.num_integer.proofs.ForCallers.{expand, linear, sizes, small_multiple_is_zero}
 use Rattle.modular.specs.Below.{Has}
+use Rattle.modular.specs.CommonSolutions.{MatchWhere}
 use Rattle.modular.specs.Congruences.{AreCongruent, IsNextCongruent, IsPreviousCongruent, IsResidue}
 use Rattle.modular.proofs.Congruences.{congruent-sym, congruent-trans, congruent_by}
 
@@ -43,3 +44,8 @@ pub found_or_beyond : {X : Type 0} (fits : ℤ → Type 0) (value : X → ℤ) (
     → MatchOption found ((t : ℤ) × Is t × ¬ (fits t)) (Has fits value Is)
 found_or_beyond fits value Is (Some t) is h = (h.1.0, subst Is (sym h.1.1) is)
 found_or_beyond fits value Is None is h = (_, is, h)
+
+-- what a call says in its domain
+pub match_where : {A Domain : Type 0} (N : Type 0) (P : A → Type 0) (found : Option A) → Domain → MatchOption found N P → MatchWhere Domain found N P
+match_where N P (Some x) holds h = (holds, h)
+match_where N P None holds h = λ _. h

@@ -75,7 +75,7 @@ module _ (m i : ℕ) (inverse : m * i % 2 ^ 64 ≡ 1) where
   joined_low : (x y : ℕ) → AreCongruent (pos (2 ^ 64)) (joined m i x y) (pos y)
   joined_low x y = joined_at_unit (pos m *ℤ pos i) (represented m i x) (pos y) unit
 
-  -- a number that stands for z by its odd part, and has its low bits
+  -- the pair of z: the form of z modulo the odd factor, and its low bits
   pub joined_is : (x y : ℕ) {z : ℤ} → AreCongruent (pos m) z (represented m i x) → AreCongruent (pos (2 ^ 64)) z (pos y) → AreCongruent (pos (m * 2 ^ 64)) z (joined m i x y)
   joined_is x y odd low = congruent-both (pos i) unit (congruent-trans odd (congruent-sym (joined_odd x y))) (congruent-trans low (congruent-sym (joined_low x y)))
 
@@ -113,7 +113,7 @@ module _ (m i : ℕ) (inverse : m * i % 2 ^ 64 ≡ 1) where
       let small : r ≤ 2 ^ 64 = omega (arith, mul-le-mul_left m up) in
       rw power (joined_residue x y k r _ (omega arith) (mod_below _ (2 ^ k) up) h (quotient_low m i r y up (omega arith) small (low_divides k (omega arith)) unit))
 
-  -- the residue of a power, where x stands for the base
+  -- the residue of a power, from the pair of the base
   pub power_residue : (a e k : ℕ) {n r : ℕ} {base power : ℤ} → m * 2 ^ k ≡ n → k ≤ 64 → AreCongruent (pos (m * 2 ^ 64)) (pos a) base → AreCongruent (pos (m * 2 ^ 64)) (int_pow base e) power
       → IsResidue (pos (m * 2 ^ k)) power (pos r) → IsResidue (pos n) (int_pow (pos a) e) (pos r)
   power_residue a e k {n} {r} {base} {power} n_is few at_base at_power h =

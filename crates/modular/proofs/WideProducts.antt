@@ -29,7 +29,7 @@ product_by_signs false true u v = mul-neg (pos u) (pos v)
 pub product_of_magnitudes : (s t : Bool) (u v : ℕ) {a b : ℤ} → IsTrue s ↔ (a <ℤ pos 0) → IsTrue t ↔ (b <ℤ pos 0) → u ≡ unsigned_abs a → v ≡ unsigned_abs b → signed (not (beq s t)) (u * v) ≡ a *ℤ b
 product_of_magnitudes s t u v a_sign b_sign a_size b_size = rw (signed_is a_sign a_size, signed_is b_sign b_size) at (sym (product_by_signs s t u v))
 
--- a residue modulo a number above 0, by its magnitude
+-- a residue modulo a positive number, by its magnitude
 pub residue_by_magnitude : {m z : ℤ} {w p : ℕ} → pos 0 <ℤ m → w ≡ unsigned_abs m → IsResidue (pos w) z (pos p) → IsResidue m z (pos p)
 residue_by_magnitude {m} {w = w} up size h = let m_is : pos w ≡ m = omega (arith, sizes) in rw m_is at h
 
