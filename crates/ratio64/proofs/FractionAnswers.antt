@@ -1,5 +1,5 @@
 -- The answers to a fraction: its exact result, or a refusal.
-use Rattle.std.specs.Prelude.{◌≡◌, ◌≢◌, ◌↔◌, ◌*ℤ◌, ℤ, pos, Result, Ok, Err, FitsSigned}
+use Rattle.std.specs.Prelude.{◌≡◌, ◌≢◌, ◌↔◌, ◌*ℤ◌, ℤ, pos, Result, Ok, Err, FitsSigned, IsOk}
 use Rattle.std.specs.Int.{w64}
 use Rattle.std.proofs.Common.{ap, arith, inl, inr, refl, subst, sym, ◌∙◌}
 use mathlib.Core.HLevel.{is_prop→PathP}
@@ -54,3 +54,17 @@ zero_factor {c} {b} nonzero = (λ e. cancel b c (pos 0) nonzero (comm b c ∙ e 
 -- so what is over a product is refused for its first factor alone
 pub zero_exactly : {a b c : ℤ} {r : Result Ratio RatioError} → b ≢ pos 0 → AnswersFraction a (c *ℤ b) r → (r ≡ Err ZeroDenominator) ↔ (c ≡ pos 0)
 zero_exactly nonzero h = (λ e. (zero_factor nonzero).0 (h.zero_denominator.0 e), λ none. h.zero_denominator.1 ((zero_factor nonzero).1 none))
+
+-- `Ok`: both parts fit
+pub ok_is_inside : {a b : ℤ} {x : Ratio} → AnswersFraction a b (Ok x) → ¬ (IsOutsideI64 a b)
+ok_is_inside h far = let e = h.not_fitting.1 far in absurd cc
+
+-- `Err`, of a fraction: one of them does not
+pub err_is_outside : {a b : ℤ} (e : RatioError) → b ≢ pos 0 → AnswersFraction a b (Err e) → IsOutsideI64 a b
+err_is_outside ZeroDenominator fraction h = absurd (fraction (h.zero_denominator.0 refl))
+err_is_outside NotFitting fraction h = h.not_fitting.0 refl
+
+-- a fraction whose parts fit is not refused
+pub answer_is_ok : {a b : ℤ} {r : Result Ratio RatioError} → b ≢ pos 0 → ¬ (IsOutsideI64 a b) → AnswersFraction a b r → IsOk r
+answer_is_ok {r = Ok x} fraction inside h = refl
+answer_is_ok {r = Err e} fraction inside h = absurd (inside (err_is_outside e fraction h))

@@ -1,5 +1,5 @@
 -- Quotients by a number above 0, and the nearest whole number.
-use Rattle.std.specs.Prelude.{◌≡◌, ◌<◌, ◌*◌, ◌<ℤ◌, ◌≤ℤ◌, ◌+ℤ◌, ◌-ℤ◌, ◌*ℤ◌, ℤ, pos, negsuc, unsigned_abs, FitsSigned, MatchOption, Option, Some, None}
+use Rattle.std.specs.Prelude.{◌≡◌, ◌<◌, ◌≤◌, ◌*◌, ◌<ℤ◌, ◌≤ℤ◌, ◌+ℤ◌, ◌-ℤ◌, ◌*ℤ◌, ℤ, pos, negsuc, unsigned_abs, FitsSigned, MatchOption, Option, Some, None}
 use Rattle.std.specs.Int.{Width, w64}
 use Rattle.std.proofs.Common.{ap, arith, subst, sym}
 use Rattle.std.proofs.lemmas.Int.{by_lt_z, ints}
@@ -57,6 +57,11 @@ module _ {n d q r : ℤ} (up : pos 0 <ℤ d) (h : IsDivision n d q r) where
   quotient_fits w fits = by_lt_z n (pos 0)
       (λ n_down. let q_down = quotient_down n_down in down_fits w q n fits q_down.0 q_down.1)
       (λ n_up. let q_up = quotient_up n_up in up_fits w q n fits q_up.0 q_up.1)
+
+  pub quotient_size : unsigned_abs q ≤ unsigned_abs n
+  quotient_size = by_lt_z n (pos 0)
+      (λ n_down. let q_down = quotient_down n_down in omega (arith, sizes))
+      (λ n_up. let q_up = quotient_up n_up in omega (arith, sizes))
 
 -- ---- the nearest number
 

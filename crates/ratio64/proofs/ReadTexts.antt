@@ -14,8 +14,9 @@ use Rattle.std.proofs.lemmas.Grind.{common_steps}
 use Rattle.std.proofs.lemmas.Str.Parse.{IsNumeralModel, numerals_by_value, not_in_digits}
 use Rattle.std.proofs.lemmas.Str.Pattern.{IsSplitOnceResult, split_after, split_parts}
 use borrow.Author.Tests.{ne_eqb}
-use Rattle.ratio64.proofs.ForCallers.{err_is_outside, exact_is_inside, only_exact_result, positive_is_nonzero, reduced_is_exact}
-use Rattle.ratio64.proofs.FractionAnswers.{only_of_parts}
+use Rattle.ratio64.proofs.ExactResults.{only_exact_result, reduced_is_exact}
+use Rattle.ratio64.specs.ReducedPairs.{positive_is_nonzero}
+use Rattle.ratio64.proofs.FractionAnswers.{err_is_outside, exact_is_inside, only_of_parts}
 use Rattle.ratio64.specs.Laws.{TextIsReadBack}
 use Rattle.ratio64.specs.Ratio.{AnswersFraction, den_of, num_of, text_of}
 use Rattle.ratio64.specs.RatioText.{AnswersSpelled, HasLongPart, ReadsFraction, SpellsFraction, SpellsWhole, answer_read, unsigned_part, whole_of}

@@ -2,7 +2,10 @@
 use Rattle.std.specs.Prelude.{◌≡◌, ◌⊎◌, ◌<◌, ℤ, ℕ, pos, Result, Ok, Err, FitsSigned}
 use Rattle.std.specs.Int.{int_pow, w64}
 use Rattle.std.proofs.Common.{inl, inr, refl, subst, sym}
-use Rattle.ratio64.proofs.ForCallers.{AreEqual-sym, equal_fractions_answered_alike, exact_answer, positive_is_nonzero, reduced_is_exact}
+use Rattle.ratio64.proofs.EqualFractions.{equal_fractions_answered_alike}
+use Rattle.ratio64.proofs.ExactResults.{reduced_is_exact}
+use Rattle.ratio64.proofs.FractionAnswers.{exact_answer}
+use Rattle.ratio64.specs.ReducedPairs.{AreEqual-sym, positive_is_nonzero}
 use Rattle.ratio64.proofs.FractionPowers.{base_fits, equal_powers, power_nonzero, power_of_zero_is, power_reduced}
 use Rattle.ratio64.specs.Fraction.{IsExact, IsOutsideI64, IsReduced}
 use Rattle.ratio64.specs.Ratio.{AnswersFraction, num_of, den_of}
