@@ -1,4 +1,4 @@
--- The answer of a call on two fractions, by their exact results.
+-- The result of a call on two fractions, by their exact results.
 use Rattle.std.specs.Prelude.{◌≡◌, ◌≢◌, ◌+ℤ◌, ◌*ℤ◌, ℤ, pos, Result, Ok, Err, MatchResult, FitsSigned}
 use Rattle.std.specs.Int.{w64, w128}
 use Rattle.std.proofs.Common.{ap, inl, inr, refl, to_z, of_z, ◌∙◌}
@@ -18,7 +18,7 @@ use Rattle.intcalc_core.specs.declared.calls.Refusal.TheVariants.{NotFitting}
 
 -- ---- the fractions that are given
 
--- what is refused for them is refused whatever is asked
+-- an error of the operands is the error of each call on them
 refused_given : {a b c d m n : ℤ} {r : Result Answer Refusal} → NeedsParts a b c d (λ _. ⊥) r → NeedsParts a b c d (AnswersExact m n) r
 refused_given (inl h) = inl h
 refused_given (inr (fit, inl h)) = inr (fit, inl h)
@@ -56,15 +56,15 @@ module _ {a b c d : ℤ} {x y : Ratio} {r : Result Answer Refusal} (answer : Res
   unfolding Inside
   product_outcome h fits = inr (given.0, asked answer given.1 given.2 (denominators given.1 given.2) (product_of_exact_results given.1.exact given.2.exact h) is)
 
--- those that were refused
-module _ {a b c d : ℤ} {r : Result Answer Refusal} (given : NeedsParts a b c d (λ _. ⊥) r) where
-  pub sum_refused : (fits : ℤ → Type 0) → OutcomeIn fits (RatioAdd a b c d) r
+-- those that gave an error
+module _ {a b c d : ℤ} {r : Result Answer Refusal} (given : NeedsParts a b c d (λ _. ⊥) r) (fits : ℤ → Type 0) where
+  pub sum_refused : OutcomeIn fits (RatioAdd a b c d) r
   unfolding Inside
-  sum_refused fits = refused_given given
+  sum_refused = refused_given given
 
-  pub product_refused : (fits : ℤ → Type 0) → OutcomeIn fits (RatioMul a b c d) r
+  pub product_refused : OutcomeIn fits (RatioMul a b c d) r
   unfolding Inside
-  product_refused fits = refused_given given
+  product_refused = refused_given given
 
 -- ---- operands that were narrowed to x, y, z and w
 

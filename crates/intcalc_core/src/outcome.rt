@@ -62,7 +62,7 @@ fn evaluate_at<T: Operand + TryFrom<i128, Error = TryFromIntError>>(
         Call::Cbrt(x) => rows::cbrt::<T>(narrow(*x)?),
         Call::NthRoot(x, n) => rows::nth_root::<T>(narrow(*x)?, narrow(*n)?),
         Call::Binomial(n, k) => rows::binomial::<T>(narrow_both(*n, *k)?),
-        Call::RatioAdd(a, b, c, d) => fractions::ratio_add(*a, *b, *c, *d),
-        Call::RatioMul(a, b, c, d) => fractions::ratio_mul(*a, *b, *c, *d),
+        Call::RatioAdd(a, b, c, d) => fractions::ratio_add::<T>(*a, *b, *c, *d),
+        Call::RatioMul(a, b, c, d) => fractions::ratio_mul::<T>(*a, *b, *c, *d),
     }
 }

@@ -35,12 +35,12 @@ equal_sums a b c d e f g h x y =
           ∙ sym (dist (e *ℤ h) (g *ℤ f) (b *ℤ d));
     }
 
--- ---- answers
+-- ---- results
 
 pub equal_outside : {a b c d : ℤ} → IsFraction c d → AreEqual a b c d → IsOutsideI64 a b → IsOutsideI64 c d
 equal_outside fraction equal far = record { num = far.num; den = far.den; exact = same_result fraction equal far.exact; outside = far.outside }
 
--- the exact result in an answer is that of each equal fraction
+-- the exact result of a fraction is that of each equal fraction
 pub equal_exact : {a b c d : ℤ} (r : Result Ratio RatioError) → IsFraction c d → AreEqual a b c d → IfOk r (λ x. IsExact a b (num_of x) (den_of x)) → IfOk r (λ x. IsExact c d (num_of x) (den_of x))
 equal_exact (Ok x) fraction equal exact = same_result fraction equal exact
 equal_exact (Err e) fraction equal exact = tt
@@ -63,7 +63,7 @@ module _ {a b c d m n p q : ℤ} (x : IsExact a b m n) (y : IsExact c d p q) whe
   denominators : n *ℤ q ≢ pos 0
   denominators = nonzero_product (positive_is_nonzero x.reduced.positive) (positive_is_nonzero y.reduced.positive)
 
-  -- their sum answers that of the fractions
+  -- their sum has the result of the sum of the fractions
   pub sum_of_exact_results : {r : Result Ratio RatioError} → AnswersFraction (m *ℤ q +ℤ p *ℤ n) (n *ℤ q) r → AnswersFraction (a *ℤ d +ℤ c *ℤ b) (b *ℤ d) r
   sum_of_exact_results = equal_fractions_answered_alike denominators (nonzero_product x.fraction y.fraction) (equal_sums m n p q a b c d (AreEqual-sym x.equal) (AreEqual-sym y.equal))
 

@@ -40,7 +40,7 @@ coprime_parts {a} {b} {g} {s} {p} {q} nonzero x h e f = record {
 equal_parts : {a b p q : ℤ} (s : ℤ) → a ≡ s *ℤ p → b ≡ s *ℤ q → AreEqual a b p q
 equal_parts s e f = record { cross = rw (e, f) (simp expand) }
 
--- b by a number of its sign is above 0
+-- b by a number of its sign is positive
 positive_quotient : (b g s q : ℤ) → b ≢ pos 0 → pos 0 ≤ℤ g → IsSigned b g s → b ≡ s *ℤ q → pos 0 <ℤ q
 positive_quotient b g s q nonzero up h e = elim h.sign [
   | inl below ↦ grind (arith, products)
@@ -64,7 +64,7 @@ exact_quotients {a} {b} {g} {s} fraction x h =
       equal = equal_parts s left right;
     }
 
--- where the gcd is at most 1, and the denominator not below 0, the parts are their own
+-- if the gcd is at most 1 and the denominator is not negative, the parts are the exact result
 pub coprime_is_exact : {a b g : ℤ} → IsFraction a b → pos 0 ≤ℤ b → IsGreatestCommonDivisor a b g → g ≤ℤ pos 1 → IsExact a b a b
 coprime_is_exact {a} {b} {g} fraction up x small =
     let nonzero = gcd-nonzero x fraction in
@@ -120,14 +120,14 @@ whole_is_exact n = reduced_is_exact (record {
 pub zero_is_over_one : {n d : ℤ} → IsReduced n d → n ≡ pos 0 → d ≡ pos 1
 zero_is_over_one {n} {d} x none = (same_pair x (whole_is_exact (pos 0)).reduced (record { cross = rw none (omega (arith, products)) })).1
 
--- the denominator divides the numerator exactly where it is 1
+-- the denominator divides the numerator exactly if it is 1
 pub whole_exactly : {n d : ℤ} → IsReduced n d → Divides d n ↔ (d ≡ pos 1)
 whole_exactly {n} {d} x = (
   λ h. omega (arith, linear, x.positive, divisor_at_most (omega (arith, linear)) (x.lowest.greatest d h (Divides-refl d))),
   λ one. rw one (one_divides n),
 )
 
--- ---- whole numbers
+-- ---- integers
 
 -- a multiple of the denominator has the quotient over 1 as its exact result
 pub quotient_is_exact : {a b : ℤ} → IsFraction a b → (h : Divides b a) → IsExact a b h.factor (pos 1)

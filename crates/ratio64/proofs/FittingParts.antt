@@ -1,4 +1,4 @@
--- The size of an exact result, and which answers are no errors.
+-- The size of an exact result, and which results are no errors.
 use Rattle.std.specs.Prelude.{◌≡◌, ◌≢◌, ◌⊎◌, ◌<◌, ◌≤◌, ◌^◌, ◌*◌, ◌<ℤ◌, ◌≤ℤ◌, ◌*ℤ◌, ℤ, pos, negsuc, neg_ℤ, unsigned_abs, Result, Ok, Err, FitsSigned, IfErr}
 use Rattle.std.specs.Int.{w64}
 use Rattle.std.proofs.Common.{arith, ap, inl, inr, ◌∙◌}
@@ -44,7 +44,7 @@ small_parts_inside a_small b_small far =
       | inr outside ↦ outside (fits_signed_from_abs w64 far.den (omega arith))
     ]
 
--- where the denominator is above 0, the parts that fit are enough, MIN among them
+-- if the denominator is positive, it is enough that both parts fit, also MIN
 pub positive_denominator_inside : {a b : ℤ} → FitsSigned w64 a → FitsSigned w64 b → pos 0 <ℤ b → ¬ (IsOutsideI64 a b)
 positive_denominator_inside {a} {b} a_fits b_fits up far =
     let s = common_factor far.exact in
@@ -68,7 +68,7 @@ small_or_least : (z : ℤ) → FitsSigned w64 z → (unsigned_abs z < 2 ^ 63) �
 small_or_least (pos n) fits = inl (let low = fits.sfits in omega arith)
 small_or_least (negsuc n) fits = let low = fits.sfits in grind (arith, ints)
 
--- a numerator above 0 is refused over 0 and MIN alone
+-- a positive numerator gives an error only over 0 and MIN
 pub positive_over_other : {a b : ℤ} (r : Result Ratio RatioError) → FitsSigned w64 a → FitsSigned w64 b → pos 0 <ℤ a → AnswersFraction a b r
     → IfErr r (λ _. (b ≡ pos 0) ⊎ (b ≡ neg_ℤ (pos (2 ^ 63))))
 positive_over_other (Ok x) a_fits b_fits up h = tt

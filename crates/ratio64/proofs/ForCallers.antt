@@ -1,5 +1,5 @@
 -- Lemmas for the proofs of callers, in addition to the laws.
--- ---- what an answer says
+-- ---- what a result says
 
 pub use Rattle.ratio64.proofs.FractionAnswers.{answer_is_ok, err_is_outside, exact_answer, exact_is_inside, ok_is_inside, zero_exactly, zero_factor}
 pub use Rattle.ratio64.proofs.FittingParts.{positive_is_answered, positive_over_other}

@@ -19,7 +19,7 @@ pub power_of_product : (x y : ℤ) (k : ℕ) → int_pow (x *ℤ y) k ≡ int_po
 power_of_product x y zero = rw (int_pow-zero (x *ℤ y), int_pow-zero x, int_pow-zero y) (omega (arith, products))
 power_of_product x y (suc k) = rw (int_pow-suc (x *ℤ y) k, int_pow-suc x k, int_pow-suc y k, power_of_product x y k) (exchanged x y (int_pow x k) (int_pow y k))
 
--- it is not 0 where the number is not
+-- it is not 0 if the number is not
 pub power_nonzero : (x : ℤ) (k : ℕ) → x ≢ pos 0 → int_pow x k ≢ pos 0
 power_nonzero x k nonzero none =
     let some : 0 < unsigned_abs x = omega (arith, sizes) in
@@ -34,7 +34,7 @@ power_positive : (x : ℤ) (k : ℕ) → pos 0 <ℤ x → pos 0 <ℤ int_pow x k
 power_positive (pos n) k up = omega (arith, ints, one-le-pow k n (omega (arith, ints)))
 power_positive (negsuc n) k up = absurd (omega (arith, ints))
 
--- where it fits, so does the number
+-- if it fits, so does the number
 at_most_power : (n k : ℕ) → 0 < k → n ≤ n ^ k
 at_most_power zero k up = omega arith
 at_most_power (suc n) zero up = absurd (omega arith)

@@ -1,4 +1,4 @@
--- A whole number and the nearer neighbour of the rest.
+-- An integer and the nearer neighbour of the rest.
 use Rattle.std.specs.Prelude.{◌≡◌, ◌<◌, ◌≤◌, ◌+◌, ◌*◌, ◌^◌, ◌<ℤ◌, ◌≤ℤ◌, ◌+ℤ◌, ◌-ℤ◌, ◌*ℤ◌, ℤ, ℕ, pos, neg_ℤ, unsigned_abs, FitsSigned}
 use Rattle.std.specs.Int.{w64}
 use Rattle.std.proofs.Common.{arith, ap, sym, ◌∙◌, inl, inr, subst}
@@ -17,7 +17,7 @@ use Rattle.ratio64.proofs.ReducedParts.{remainder_reduced}
 
 -- ---- a denominator up to the limit
 
--- a fraction that is equal to a reduced one has its denominator or a greater one
+-- a fraction that is equal to a reduced one has at least its denominator
 least_denominator : {n d v : ℤ} (u : ℤ) → IsReduced n d → pos 0 <ℤ v → n *ℤ v ≡ u *ℤ d → d ≤ℤ v
 least_denominator {n} {d} {v} u x up e = divisor_at_most up (coprime_divides x.lowest (record { factor = u; product = e ∙ comm u d }))
 
@@ -54,9 +54,9 @@ lowest_natural {n} {d} x a b up e =
     let at_most : pos d ≤ℤ pos b = least_denominator {n = pos n} {d = pos d} {v = pos b} (pos a) x (omega (arith, ints)) (ap pos e) in
     omega (arith, ints)
 
--- ---- the whole number added
+-- ---- the integer added
 
--- m/D is the whole number w and n/d more, where D is d
+-- m/D is the integer w and n/d more, and D is d
 pub record IsSplit (m bottom w : ℤ) (n d : ℕ) : Type 0 where
   pub den : pos d ≡ bottom
   pub equation : m ≡ w *ℤ pos d +ℤ pos n
@@ -141,7 +141,7 @@ part_down w b a w_down b_up most =
     let order = comm w b in
     omega (arith, products)
 
--- ---- the nearer neighbour, with the whole number added
+-- ---- the nearer neighbour, with the integer added
 
 module _ {n d max : ℕ} {x y z : Neighbour} {m bottom w : ℤ} (split : IsSplit m bottom w n d) (h : AreNeighbours n d max x y) (none : max < x.den + y.den) (near : IsNearer x y z) where
   abbrev lower : ℤ

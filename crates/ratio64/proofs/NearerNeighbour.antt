@@ -40,7 +40,7 @@ pub record AreBeside (n : ℤ) (d max : ℕ) (a : ℤ) (b g : ℕ) (c : ℤ) (e 
   pub none_between : max < b + e
 
 -- a fraction whose denominator is v lies at or past a neighbour of the denominator b and the gap g, by i over both
--- denominators; its own gap is z
+-- denominators; its gap is z
 record LiesPast (d v g b z : ℕ) (i : ℤ) : Type 0 where
   over : ℕ
   is : i ≡ pos over
@@ -109,7 +109,7 @@ far_tie {d} {v} {h} {e} {z} g b d_up b_up v_up near p tie =
 
 -- ---- equal fractions
 
--- where u/v is equal to a neighbour of the denominator b, v is at least b
+-- if u/v is equal to a neighbour of the denominator b, v is at least b
 at_least : (j b v : ℤ) → pos 0 <ℤ b → pos 0 <ℤ v → j *ℤ b ≡ neg_ℤ v → b ≤ℤ v
 at_least j b v b_up up e = by_lt_z j (pos 0)
     (λ under.
@@ -139,7 +139,7 @@ module _ {d v g b h e z : ℕ} {i j : ℤ} (b_up : 0 < b) (e_up : 0 < e) (near :
     | inr p ↦ far_side g b e_up near p
   ]
 
-  -- where it is as near, it is equal to one of the two, and has no smaller denominator
+  -- if it is as near, it is equal to one of the two, and has no smaller denominator
   as_near : 0 < d → 0 < v → i *ℤ pos e +ℤ j *ℤ pos b ≡ neg_ℤ (pos v) → g * v ≡ z * b
       → ((i ≡ pos 0) × (pos b ≤ℤ pos v)) ⊎ ((j ≡ pos 0) × (g * e ≡ h * b) × (pos e ≤ℤ pos v))
   as_near d_up v_up sum tie = elim side [

@@ -47,7 +47,7 @@ long_or_short a b = elim (cases_lt (unsigned_abs a) (10 ^ 38)) [
   | inr long ↦ inl (inl long)
 ]
 
--- that of the fraction that it spells
+-- that of the fraction that it writes
 only_spelled : {a b : ℤ} {r s : Result Ratio ParseRatioError} → AnswersSpelled a b r → AnswersSpelled a b s → r ≡ s
 only_spelled {a} {b} h k = elim (long_or_short a b) [
   | inl long ↦ h.too_long.1 long ∙ sym (k.too_long.1 long)
@@ -57,7 +57,7 @@ only_spelled {a} {b} h k = elim (long_or_short a b) [
       own.1 ∙ ap answer_read (only_answer a b own.0 other.0 own.2 other.2) ∙ sym other.1
 ]
 
--- or `NotAFraction`, where two results could differ for no other reason
+-- or `NotAFraction`, since two results can differ for no other reason
 pub only_reading : ReadingIsOnly
 only_reading text r s h k = same_read r s (λ other.
     let none : (a b : ℤ) → ¬ (SpellsFraction text a b) = λ a b spelled. other (only_spelled (h.answer a b spelled) (k.answer a b spelled)) in

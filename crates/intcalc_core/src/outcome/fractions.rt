@@ -1,6 +1,6 @@
 //! Sums and products of fractions.
 
-ghost use Rattle.std.specs.Prelude.{◌≡◌, ℤ, Ok, Err, MatchResult};
+ghost use Rattle.std.specs.Prelude.{◌≡◌, Ok, Err, MatchResult};
 ghost use Rattle.ratio64.specs.Fraction.{IsFraction, IsOutsideI64};
 ghost use Rattle.ratio64.specs.Ratio.{num_of, den_of};
 ghost use Rattle.intcalc_core.specs.declared.calls.Answer.TheVariants as answers;
@@ -11,19 +11,20 @@ ghost use Rattle.intcalc_core.specs.Outcome.{NeedsFractions, NeedsParts, Outcome
 
 use crate::calls::{Answer, Refusal};
 use crate::outcome::operand::{narrow, needs};
+use num_integer::Integer;
 use ratio64::{Ratio, RatioError};
 
-/// Returns the numerator and the denominator of `a / b + c / d`.
-pub(crate) fn ratio_add(a: i128, b: i128, c: i128, d: i128) -> Result<Answer, Refusal>
-    ensures { (fits : ℤ → Type 0) → OutcomeIn fits (calls.RatioAdd a b c d) result }
+/// Returns the numerator and the denominator of `a / b + c / d`, which are `i64` at each type `T`.
+pub(crate) fn ratio_add<T: Integer>(a: i128, b: i128, c: i128, d: i128) -> Result<Answer, Refusal>
+    ensures { OutcomeIn T.fits (calls.RatioAdd a b c d) result }
 {
     let (x, y) = operands(a, b, c, d)?;
     parts(x.checked_add(&y))
 }
 
-/// Returns the numerator and the denominator of `a / b * c / d`.
-pub(crate) fn ratio_mul(a: i128, b: i128, c: i128, d: i128) -> Result<Answer, Refusal>
-    ensures { (fits : ℤ → Type 0) → OutcomeIn fits (calls.RatioMul a b c d) result }
+/// Returns the numerator and the denominator of `a / b * c / d`, which are `i64` at each type `T`.
+pub(crate) fn ratio_mul<T: Integer>(a: i128, b: i128, c: i128, d: i128) -> Result<Answer, Refusal>
+    ensures { OutcomeIn T.fits (calls.RatioMul a b c d) result }
 {
     let (x, y) = operands(a, b, c, d)?;
     parts(x.checked_mul(&y))
