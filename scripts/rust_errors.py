@@ -20,6 +20,10 @@ ERRORS = {
     ('ratio64', 'Ratio', 'checked_recip'): {'ZeroDenominator': 'the fraction is 0', 'NotFitting': LEAST},
     ('ratio64', 'Ratio', 'checked_pow'): {'ZeroDenominator': 'the fraction is 0 and the exponent is negative',
                                           'NotFitting': NOT_FITTING.format('power')},
+    ('ratio64', 'Ratio', 'checked_times'): {'ZeroDenominator': '`d` is 0', 'NotFitting': NOT_FITTING.format('product')},
+    ('ratio64', 'Ratio', 'floor_to'): {'NotFitting': NOT_FITTING.format('result')},
+    ('ratio64', 'Ratio', 'ceil_to'): {'NotFitting': NOT_FITTING.format('result')},
+    ('ratio64', 'Ratio', 'round_to'): {'NotFitting': NOT_FITTING.format('result')},
     ('ratio64', 'Ratio', 'checked_neg'): {'NotFitting': LEAST},
     ('ratio64', 'Ratio', 'checked_abs'): {'NotFitting': LEAST},
     ('ratio64', 'Ratio', 'from_str'): {

@@ -43,7 +43,7 @@ RESULT = rf'(?:{ANY} [-+*]ℤ (?:{ANY}|pos 1)|neg_ℤ \({ANY}\))'
 # What a parameter is called where it has to be above 0, where it may not be negative, and where it ends another.
 POSITIVE = {'m': 'the modulus', 'n': 'the modulus', 'modulus': 'the modulus', 'step': 'the step', 'max': 'the limit',
             'a.1': 'the period', 'b.1': 'the period', 'page_size': 'the page size', 'alignment': 'the alignment',
-            'congruences': 'a modulus', 'schedules': 'a period'}
+            'congruences': 'a modulus', 'schedules': 'a period', 'parts': 'the number of parts'}
 FROM_ZERO = {'n': '`n`', 'k': '`k`', 'items': 'the number of items', 'part': 'the part', 'place': 'the place'}
 ENDS = {'page_size': 'the page size', 'parts': 'the number of parts', 'n': '`n`'}
 
@@ -106,7 +106,7 @@ ROWS = (
         'Not this call. The one that asks for an item does, if the item does not fit.'),
     Row('positive', rf'pos 0 <ℤ {value("x")}', TESTED, '{x.name} is not positive', '{x.value} > {x.zero}',
         '{x.name} is not positive', names=POSITIVE),
-    Row('positive limit', r'pos 0 <ℤ (?P<x>max)|0 < (?P<y>modulus)', TESTED, '{x.name} is not positive', '{x} > 0',
+    Row('positive limit', r'pos 0 <ℤ (?P<x>max|parts)|0 < (?P<y>modulus)', TESTED, '{x.name} is not positive', '{x} > 0',
         '{x.name} is not positive', names=POSITIVE),
     Row('all positive', r'All \(λ (?P<p>\w)\. pos 0 <ℤ (?P<x_type>[A-Z]\w*)\.value (?P=p)\.1\) (?P<x>[\w.]+)', TESTED,
         '{x.name} is not positive', '{x}.iter().all(|pair| pair.1 > {x.zero})', '{x.name} is not positive',
