@@ -8,10 +8,12 @@ use own_types::signed_magnitude::signed_magnitude_of;
 use own_types::types::Tested;
 use std::process::Abort;
 
-/// The number as one of the type.
-fn marked(rt: &impl Abort, number: i64) -> Marked {
+/// The number as a value of the type.
+fn value<T: Tested>(rt: &impl Abort, number: i64) -> T
+    ensures { T.fits (T.value result) }
+{
     let number = signed_magnitude_of(number.into());
-    Marked::from_signed_magnitude(number).expect(rt, "the type has the number")
+    T::from_signed_magnitude(number).expect(rt, "the type has the number")
 }
 
 /// The residue of a number by a positive modulus.
@@ -21,7 +23,7 @@ fn residue_of(z: i128, m: i64) -> i128 {
 
 /// Checks the sum, the difference and the product of two numbers.
 fn check_operations(rt: &impl Abort, a: i64, b: i64, m: i64) {
-    let (x, y, n) = (marked(rt, a), marked(rt, b), marked(rt, m));
+    let (x, y, n): (Marked, Marked, Marked) = (value(rt, a), value(rt, b), value(rt, m));
     if is_below(zero(), n) {
         for (found, expected) in [
             (sum_modulo(x, y, n), a.wrapping_add(b)),
@@ -51,7 +53,7 @@ fn only_inverse(a: i64, m: i64) -> Option<i64> {
 
 /// Checks the powers and the inverse of a number.
 fn check_powers(rt: &impl Abort, a: i64, m: i64) {
-    let (x, n) = (marked(rt, a), marked(rt, m));
+    let (x, n): (Marked, Marked) = (value(rt, a), value(rt, m));
     if is_below(zero(), n) {
         for degree in [0, 1, 2, 13, 18] {
             let power = i128::from(power_modulo(x, degree.into(), n).number());

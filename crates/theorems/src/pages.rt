@@ -71,15 +71,16 @@ pub fn aligned(offset: u32, alignment: u32) -> u32
     }
 }
 
-/// How long to wait for the next meeting.
-pub fn wait(now: u32, first: Schedule<u32>, second: Schedule<u32>) -> Option<u32>
+/// The time of the next meeting, and how long to wait for it.
+pub fn wait(now: u32, first: Schedule<u32>, second: Schedule<u32>) -> Option<(u32, u32)>
     requires first { 0 < first.1 }
     requires second { 0 < second.1 }
-    ensures { IfSome result (λ time. IsLeastFrom (pos now)
-        (IsMeeting (pos first.0) (pos first.1) (pos second.0) (pos second.1)) (pos now +ℤ pos time)) }
+    ensures next { IfSome result (λ r. IsLeastFrom (pos now)
+        (IsMeeting (pos first.0) (pos first.1) (pos second.0) (pos second.1)) (pos r.0)) }
+    ensures wait { IfSome result (λ r. now + r.1 ≡ r.0) }
 {
     match next_meeting(now, first, second) {
-        CommonSolution::At(time) => Some(time - now),
+        CommonSolution::At(time) => Some((time, time - now)),
         CommonSolution::Never | CommonSolution::Beyond => None,
     }
 }

@@ -1,6 +1,6 @@
 //! Calls of `modular`: what a caller learns from their contracts and the laws, and results that a caller matches on or loops over.
 
-ghost use Rattle.std.specs.Prelude.{◌≡◌, ◌+◌, ◌*◌, ◌%◌, ◌<◌, ◌<ℤ◌, ◌≤ℤ◌, ◌+ℤ◌, ◌-ℤ◌, FitsSigned, IfSome, IsTrue, MatchOption, Some, pos, ℕ, ℤ};
+ghost use Rattle.std.specs.Prelude.{◌≡◌, ◌+◌, ◌*◌, ◌%◌, ◌<◌, ◌<ℤ◌, ◌≤ℤ◌, ◌+ℤ◌, FitsSigned, IfSome, IsTrue, MatchOption, Some, pos, ℕ, ℤ};
 ghost use Rattle.std.specs.Int.{int_pow, w64};
 ghost use Rattle.std.specs.List.{All};
 ghost use Rattle.modular.specs.Congruences.{IsCountOfCongruent, IsInverse, IsNextCommonSolution, IsNextCongruent, IsPreviousCongruent, IsQuotientModulo, IsResidue, IsResidueClass, Solves, SolvesBothCongruences, SolvesEach};
@@ -179,18 +179,6 @@ pub fn times_between(from: i64, to: i64, first: i64, period: i64) -> Option<i64>
     ensures { IfSome result (λ n. IsCountOfCongruent from to first period n) }
 {
     count_congruent(from, to, first, period)
-}
-
-/// How many more times of one schedule come in a range than of another.
-pub fn more_times(from: i64, to: i64, first: (i64, i64), second: (i64, i64)) -> Option<i64>
-    requires first { pos 0 <ℤ first.1 }
-    requires second { pos 0 <ℤ second.1 }
-    ensures { IfSome result (λ more. (m n : ℤ) × IsCountOfCongruent from to first.0 first.1 m
-        × IsCountOfCongruent from to second.0 second.1 n × (more ≡ m -ℤ n)) }
-{
-    let (a, m) = first;
-    let (b, n) = second;
-    Some(count_congruent(from, to, a, m)? - count_congruent(from, to, b, n)?)
 }
 
 /// The next number that solves each of signed congruences, where there is one in the type.
