@@ -1,11 +1,11 @@
 -- The weeks of a year, and their days.
-use Rattle.std.specs.Prelude.{◌≡◌, ◌↔◌, ◌+◌, ◌-◌, ◌%◌, ◌≤◌, ◌-ℤ◌, ◌*ℤ◌, ℕ, ℤ, pos, FitsSigned}
+use Rattle.std.specs.Prelude.{◌≡◌, ◌↔◌, ◌+◌, ◌-◌, ◌≤◌, ◌-ℤ◌, ◌*ℤ◌, ℕ, ℤ, pos, FitsSigned}
 use Rattle.std.specs.Int.{w64}
-use Rattle.std.proofs.Common.{◌∙◌, ap, arith, subst, sym}
+use Rattle.std.proofs.Common.{◌∙◌, arith, subst, sym}
 use Rattle.std.proofs.lemmas.Int.{ints}
 use Rattle.calendar.specs.Dates.{number_of}
 use Rattle.calendar.specs.IsoWeeks.{HasIsoWeeks, IsDayOfIsoWeek, IsInIsoWeek}
-use Rattle.calendar.specs.Weekday.{weekday_number}
+use Rattle.calendar.specs.Weekday.{iso_number}
 use Rattle.calendar.specs.Years.{HasDay}
 use Rattle.calendar.specs.declared.date.Date.{Date}
 use Rattle.calendar.specs.declared.weekday.Weekday.{Weekday}
@@ -70,16 +70,16 @@ in_its_year date =
     record { from = omega (arith, ints); before = omega (arith, ints, years_follow date.year) }
 
 -- a week of the year that has no date in a year that fits has its day beyond
-pub is_beyond : {year : ℤ} {week number : ℕ} (weekday : Weekday) → weekday_number weekday ≡ number
+pub is_beyond : {year : ℤ} {week number : ℕ} (weekday : Weekday) → iso_number weekday ≡ number
     → ((day y : ℤ) → IsDayOfIsoWeek day year week weekday → HasDay y day → ¬ (FitsSigned w64 y)) → HasIsoWeek year week → IsDayBeyond year week number
 is_beyond weekday same beyond h =
     let (day, own) = day_in_week h weekday in
     record { day = day; day_of_week = weekday; number = same; of_week = own; beyond = λ y k. beyond day y own k }
 
 -- and one that has a date has not
-pub not_beyond : {year : ℤ} {week number : ℕ} (weekday : Weekday) (date : Date) → weekday_number weekday ≡ number → IsDayOfIsoWeek (number_of date) year week weekday
+pub not_beyond : {year : ℤ} {week number : ℕ} (weekday : Weekday) (date : Date) → iso_number weekday ≡ number → IsDayOfIsoWeek (number_of date) year week weekday
     → FitsSigned w64 date.year → ¬ (IsDayBeyond year week number)
 not_beyond {year} {week} weekday date same own fits = λ h.
-    let weekday_is = iso_number_is_only h.day_of_week weekday (ap (λ (n : ℕ). (n + 6) % 7 + 1) (h.number ∙ sym same)) in
+    let weekday_is = iso_number_is_only h.day_of_week weekday (h.number ∙ sym same) in
     let day = iso_day_is_only h.day (number_of date) year week weekday (subst (λ (d : Weekday). IsDayOfIsoWeek h.day year week d) weekday_is h.of_week) own in
     h.beyond date.year (subst (λ (t : ℤ). HasDay date.year t) (sym day) (in_its_year date)) fits

@@ -1,10 +1,10 @@
 -- Dates by their year, month and day of the month.
 use Rattle.std.specs.Int.{w64}
 use Rattle.std.specs.Prelude.{◌≡◌, ◌+ℤ◌, ℕ, ℤ, min, FitsSigned, MatchOption, Option}
-use Rattle.calendar.specs.Dates.{HasParts, IsMonthsBetween}
+use Rattle.calendar.specs.Dates.{HasParts, IsLastWeekdayOfMonth, IsMonthsBetween, IsNthWeekday}
 use Rattle.calendar.specs.IsoWeeks.{IsDayOfIsoWeek, IsInIsoWeek}
 use Rattle.calendar.specs.Months.{days_in_month, month_number}
-use Rattle.calendar.specs.Weekday.{weekday_number}
+use Rattle.calendar.specs.Weekday.{iso_number}
 use Rattle.calendar.specs.Years.{HasDay}
 use Rattle.calendar.specs.declared.date.Date.{Date}
 use Rattle.calendar.specs.declared.weekday.Weekday.{Weekday}
@@ -27,11 +27,29 @@ pub record HasIsoWeek (year : ℤ) (week : ℕ) : Type 0 where
   pub day : ℤ
   pub in_week : IsInIsoWeek day year week
 
--- The week has a day of the week of this number, and no year of an `i64` has that day.
--- Examples: 9223372036854775807, 53 and 0; not 9223372036854775807, 53 and 4, which is the last day of that year.
+-- The week has a day of the week of this ISO number, and no year of an `i64` has that day.
+-- Examples: 9223372036854775807, 53 and 7; not 9223372036854775807, 53 and 4, which is the last day of that year.
 pub record IsDayBeyond (year : ℤ) (week weekday : ℕ) : Type 0 where
   pub day : ℤ
   pub day_of_week : Weekday
-  pub number : weekday_number day_of_week ≡ weekday
+  pub number : iso_number day_of_week ≡ weekday
   pub of_week : IsDayOfIsoWeek day year week day_of_week
   pub beyond : (y : ℤ) → HasDay y day → ¬ (FitsSigned w64 y)
+
+-- The date is the n-th of the month whose day of the week has this ISO number.
+-- Examples: 2026, 11, 4 and 4: 2026-11-26; none for 2026, 11, 4 and 5.
+pub record IsNthOfIsoNumber (year : ℤ) (month weekday n : ℕ) (y : ℤ) (m d : ℕ) : Type 0 where
+  pub day_of_week : Weekday
+  pub number : iso_number day_of_week ≡ weekday
+  pub date : Date
+  pub parts : HasParts date y m d
+  pub is_nth : IsNthWeekday year month day_of_week n date
+
+-- The date is the last of the month whose day of the week has this ISO number.
+-- Examples: 2026, 10 and 5: 2026-10-30; not 2026-10-23.
+pub record IsLastOfIsoNumber (year : ℤ) (month weekday : ℕ) (y : ℤ) (m d : ℕ) : Type 0 where
+  pub day_of_week : Weekday
+  pub number : iso_number day_of_week ≡ weekday
+  pub date : Date
+  pub parts : HasParts date y m d
+  pub is_last : IsLastWeekdayOfMonth year month day_of_week date

@@ -1,30 +1,30 @@
-//! Answers with a status.
+//! Results with a status.
 
 ghost use Rattle.std.specs.Prelude.{◌≡◌, ◌≢◌, pos};
 ghost use Rattle.cellarcove_c.specs.Statuses.{answer_of};
 
-/// There is an answer.
+/// There is a result.
 pub const ANSWER: u32 = 0;
 
-/// The denominator of a fraction is 0.
+/// The denominator of a fraction is 0, or a divisor of fractions is.
 pub const ZERO_DENOMINATOR: u32 = 1;
 
-/// The answer does not fit its type.
+/// The result does not fit its type, or a part of a fraction, once reduced, does not.
 pub const NOT_FITTING: u32 = 2;
 
-/// Nothing is defined for the arguments.
+/// Nothing is defined for the arguments, such as a quotient by 0.
 pub const OUTSIDE: u32 = 3;
 
 /// No number solves the congruences.
 pub const NO_SOLUTION: u32 = 4;
 
-/// A modulus is not above 0.
+/// A modulus is not positive.
 pub const BAD_MODULUS: u32 = 5;
 
 /// There is no such date.
 pub const NO_DATE: u32 = 6;
 
-/// A status, and a number, which is the answer where the status is [`ANSWER`] and else 0.
+/// A status, and a number.
 #[repr(C)]
 #[derive(Clone, Copy)]
 pub struct I64Answer {
@@ -32,7 +32,7 @@ pub struct I64Answer {
     pub value: i64,
 }
 
-/// A status, and a number, which is the answer where the status is [`ANSWER`] and else 0.
+/// A status, and a number.
 #[repr(C)]
 #[derive(Clone, Copy)]
 pub struct U64Answer {
@@ -41,7 +41,7 @@ pub struct U64Answer {
 }
 
 impl I64Answer {
-    /// Returns the answer of a call of `num_integer::checked`, or a refusal for a reason.
+    /// Returns the result of a call of `num_integer::checked`, or a rejection for a reason.
     pub(crate) fn of(option: Option<i64>, reason: u32) -> I64Answer
         requires { reason ≢ 0 }
         ensures answer { answer_of result.status result.value ≡ option }
@@ -53,7 +53,7 @@ impl I64Answer {
         }
     }
 
-    /// Returns an answer.
+    /// Returns a result.
     pub(crate) fn some(value: i64) -> I64Answer
         ensures { result ≡ record { status = 0; value = value } }
     {
@@ -63,7 +63,7 @@ impl I64Answer {
         }
     }
 
-    /// Returns a refusal.
+    /// Returns a rejection.
     pub(crate) fn none(status: u32) -> I64Answer
         ensures { result ≡ record { status = status; value = pos 0 } }
     {
@@ -72,7 +72,7 @@ impl I64Answer {
 }
 
 impl U64Answer {
-    /// Returns the answer of a call of `num_integer::checked`, or a refusal for a reason.
+    /// Returns the result of a call of `num_integer::checked`, or a rejection for a reason.
     pub(crate) fn of(option: Option<u64>, reason: u32) -> U64Answer
         requires { reason ≢ 0 }
         ensures answer { answer_of result.status result.value ≡ option }
@@ -84,7 +84,7 @@ impl U64Answer {
         }
     }
 
-    /// Returns an answer.
+    /// Returns a result.
     pub(crate) fn some(value: u64) -> U64Answer
         ensures { result ≡ record { status = 0; value = value } }
     {
@@ -94,7 +94,7 @@ impl U64Answer {
         }
     }
 
-    /// Returns a refusal.
+    /// Returns a rejection.
     pub(crate) fn none(status: u32) -> U64Answer
         ensures { result ≡ record { status = status; value = 0 } }
     {

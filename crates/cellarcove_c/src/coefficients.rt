@@ -1,4 +1,4 @@
-//! Coefficients.
+//! Binomial and multinomial coefficients.
 
 ghost use Rattle.std.specs.Prelude.{◌≡◌, ◌≢◌, ◌⊎◌, ◌<ℤ◌, ◌≤ℤ◌, pos, map, FitsSigned};
 ghost use Rattle.std.specs.Int.{FitsUnsignedBits, w64};
@@ -11,7 +11,10 @@ ghost use Rattle.cellarcove_c.specs.Statuses.{IsReason, answer_of, not_fitting};
 use crate::answers::{I64Answer, NOT_FITTING, OUTSIDE, U64Answer};
 use num_integer::checked;
 
-/// Returns the binomial coefficient of `n` and `k`. That of 11 and 3 is 165.
+/// Returns how many ways there are to choose `k` of `n`, the binomial coefficient. That of 11 and 3 is
+/// 165, and that of 3 and 11 is 0.
+///
+/// `OUTSIDE` if a number is negative. `NOT_FITTING` if the coefficient does not fit.
 #[unsafe(no_mangle)]
 pub extern "C" fn cellarcove_binomial_i64(n: i64, k: i64) -> I64Answer
     ensures answer { AnswersWhere
@@ -24,7 +27,10 @@ pub extern "C" fn cellarcove_binomial_i64(n: i64, k: i64) -> I64Answer
     I64Answer::of(checked::binomial(n, k), reason_for_counts(n, k))
 }
 
-/// Returns the binomial coefficient of `n` and `k`. That of 11 and 3 is 165.
+/// Returns how many ways there are to choose `k` of `n`, the binomial coefficient. That of 11 and 3 is
+/// 165, and that of 3 and 11 is 0.
+///
+/// `NOT_FITTING` if the coefficient does not fit.
 #[unsafe(no_mangle)]
 pub extern "C" fn cellarcove_binomial_u64(n: u64, k: u64) -> U64Answer
     ensures answer { AnswersWhere
@@ -36,7 +42,10 @@ pub extern "C" fn cellarcove_binomial_u64(n: u64, k: u64) -> U64Answer
     U64Answer::of(checked::binomial(n, k), NOT_FITTING)
 }
 
-/// Returns the multinomial of the counts. That of 2, 1 and 2 is 30.
+/// Returns how many ways there are to order things of several kinds, the multinomial of their counts.
+/// That of 2, 1 and 2 is 30, and that of no counts is 1.
+///
+/// `NOT_FITTING` if the coefficient does not fit.
 #[unsafe(no_mangle)]
 pub extern "C" fn cellarcove_multinomial_u64(counts: &[u64]) -> U64Answer
     ensures answer { AnswersWhere

@@ -1,23 +1,22 @@
 //! Dates of the proleptic Gregorian calendar, and days counted from 1970-01-01, which is day 0.
 
-ghost use Rattle.std.specs.Prelude.{◌≡◌, ◌≢◌, ◌⊎◌, ◌↔◌, ◌<◌, ◌≤◌, ◌+ℤ◌, ℕ, ℤ, pos, FitsSigned, MatchOption};
+ghost use Rattle.std.specs.Prelude.{◌≡◌, ◌≢◌, ◌⊎◌, ◌↔◌, ◌≤◌, ℕ, ℤ, pos, FitsSigned, MatchOption};
 ghost use Rattle.std.specs.Int.{w64};
 ghost use Rattle.calendar.specs.Dates.{HasParts, number_of};
 ghost use Rattle.calendar.specs.Easter.{IsEaster};
 ghost use Rattle.calendar.specs.IsoWeeks.{IsDayOfIsoWeek, IsInIsoWeek};
 ghost use Rattle.calendar.specs.Months.{IsDate};
-ghost use Rattle.calendar.specs.Weekday.{weekday_number};
+ghost use Rattle.calendar.specs.Weekday.{iso_number};
 ghost use Rattle.calendar.specs.Years.{day_number};
 ghost use Rattle.calendar.specs.declared.weekday.Weekday.{Weekday};
 ghost use Rattle.num_integer.specs.Checked.{AnswersWhere};
-ghost use Rattle.num_integer.specs.Division.{IsFloored, IsRemainder};
 ghost use Rattle.cellarcove_c.specs.Dates.{HasIsoWeek, IsDayBeyond, IsMonthsLater, MatchMonthsBetween};
 ghost use Rattle.cellarcove_c.specs.Statuses.{answer_of, no_date, not_fitting, outside};
 
 use crate::answers::{ANSWER, I64Answer, NO_DATE, NOT_FITTING, OUTSIDE};
-use calendar::{Weekday, easter, months_between, weekday_of, weeks_in_year};
+use calendar::{Weekday, easter, months_between, weeks_in_year};
 
-/// A date, where there is one of its year, month and day of the month.
+/// A year, a month and a day of the month. The year before year 1 is year 0. January is month 1.
 #[repr(C)]
 #[derive(Clone, Copy)]
 pub struct Date {
@@ -34,7 +33,7 @@ pub struct DateAnswer {
     pub date: Date,
 }
 
-/// A status, and a week of ISO 8601.
+/// A status, and a week of ISO 8601 with its year, which is that of its Thursday.
 #[repr(C)]
 #[derive(Clone, Copy)]
 pub struct IsoWeekAnswer {
@@ -43,7 +42,7 @@ pub struct IsoWeekAnswer {
     pub year: i64,
 }
 
-/// Returns the date of a day. That of -1 is 1969-12-31.
+/// Returns the date of a day, counted from 1970-01-01, which is day 0. That of -1 is 1969-12-31.
 #[unsafe(no_mangle)]
 pub extern "C" fn cellarcove_date_from_day(day: i64) -> Date
     ensures date { IsDate result.year result.month result.day_of_month }
@@ -52,7 +51,9 @@ pub extern "C" fn cellarcove_date_from_day(day: i64) -> Date
     Date::of(&calendar::Date::from_day_number(day))
 }
 
-/// Returns the day of a date. That of 1969-12-31 is -1.
+/// Returns the day of a date, counted from 1970-01-01, which is day 0. That of 1969-12-31 is -1.
+///
+/// `NO_DATE` if there is no such date. `NOT_FITTING` if its day does not fit.
 #[unsafe(no_mangle)]
 pub extern "C" fn cellarcove_day_from_date(date: Date) -> I64Answer
     ensures answer { AnswersWhere
@@ -74,17 +75,10 @@ pub extern "C" fn cellarcove_day_from_date(date: Date) -> I64Answer
     }
 }
 
-/// Returns the day of the week of a day, from 0 for Sunday to 6 for Saturday. That of 0 is 4.
-#[unsafe(no_mangle)]
-pub extern "C" fn cellarcove_weekday(day: i64) -> u8
-    ensures { IsRemainder IsFloored (day +ℤ pos 4) (pos 7) (pos result) }
-{
-    number_of_weekday(weekday_of(day))
-}
-
-/// Returns the date `months` months after a date, or before it where `months` is negative. Its day of
-/// the month is the same, or the last one where its month is shorter. That of 2000-01-31 and 1 is
-/// 2000-02-29.
+/// Returns the date `months` months after a date, or before it if `months` is negative. Its day of the
+/// month is the same, or the last one if its month is shorter. That of 2000-01-31 and 1 is 2000-02-29.
+///
+/// `NO_DATE` if there is no such date. `NOT_FITTING` if the year of the result does not fit.
 #[unsafe(no_mangle)]
 pub extern "C" fn cellarcove_plus_months(date: Date, months: i64) -> DateAnswer
     ensures answer { result.status ≡ 0
@@ -110,7 +104,10 @@ pub extern "C" fn cellarcove_plus_months(date: Date, months: i64) -> DateAnswer
     }
 }
 
-/// Returns the whole months from one date to another. From 2000-01-31 to 2000-02-29 it is 1.
+/// Returns the largest number of months that leads from one date to a date not after another, negative
+/// if the other is earlier. From 2000-01-31 to 2000-02-29 it is 1.
+///
+/// `NO_DATE` if a date does not exist. `NOT_FITTING` if the number does not fit.
 #[unsafe(no_mangle)]
 pub extern "C" fn cellarcove_months_between(from: Date, to: Date) -> I64Answer
     ensures answer { IsDate from.year from.month from.day_of_month
@@ -135,7 +132,9 @@ pub extern "C" fn cellarcove_months_between(from: Date, to: Date) -> I64Answer
     }
 }
 
-/// Returns the week of ISO 8601 that has a date. That of 2005-01-01 is week 53 of 2004.
+/// Returns the week of ISO 8601 that has a date, and its year. That of 2005-01-01 is week 53 of 2004.
+///
+/// `NO_DATE` if there is no such date. `NOT_FITTING` if the year of the week does not fit.
 #[unsafe(no_mangle)]
 pub extern "C" fn cellarcove_iso_week(date: Date) -> IsoWeekAnswer
     ensures answer { result.status ≡ 0
@@ -161,22 +160,26 @@ pub extern "C" fn cellarcove_iso_week(date: Date) -> IsoWeekAnswer
     }
 }
 
-/// Returns the date of a day of a week of ISO 8601, from 0 for Sunday to 6 for Saturday. That of 2009,
-/// 53 and 0 is 2010-01-03.
+/// Returns the date of a day of a week of ISO 8601. The days of the week are from 1 for Monday to 7 for
+/// Sunday. That of 2009, 53 and 7 is 2010-01-03.
+///
+/// `OUTSIDE` if `weekday` is not from 1 to 7, whatever the week. `NO_DATE` if the year has no such
+/// week. `NOT_FITTING` if the year of the date does not fit.
 #[unsafe(no_mangle)]
 pub extern "C" fn cellarcove_date_from_iso_week(year: i64, week: u8, weekday: u8) -> DateAnswer
     ensures answer { result.status ≡ 0
         → IsDate result.date.year result.date.month result.date.day_of_month
-        × ((w : Weekday) × (weekday_number w ≡ weekday) × IsDayOfIsoWeek
+        × ((w : Weekday) × (iso_number w ≡ weekday) × IsDayOfIsoWeek
         (day_number result.date.year result.date.month result.date.day_of_month) year week w) }
-    ensures outside { (result.status ≡ outside) ↔ (7 ≤ weekday) }
-    ensures no_date { (result.status ≡ no_date) ↔ ((weekday < 7) × (¬ (HasIsoWeek year week))) }
+    ensures outside { (result.status ≡ outside) ↔ (¬ ((1 ≤ weekday) × (weekday ≤ 7))) }
+    ensures no_date { (result.status ≡ no_date)
+        ↔ (((1 ≤ weekday) × (weekday ≤ 7)) × (¬ (HasIsoWeek year week))) }
     ensures not_fitting { (result.status ≡ not_fitting) ↔ IsDayBeyond year week weekday }
     ensures refusal { result.status ≢ 0
         → (result.date ≡ record { year = pos 0; month = 0; day_of_month = 0 })
         × ((result.status ≡ outside) ⊎ ((result.status ≡ no_date) ⊎ (result.status ≡ not_fitting))) }
 {
-    match weekday_of_number(weekday) {
+    match Weekday::from_iso_number(weekday) {
         Some(weekday) => match calendar::Date::from_iso_week(year, week, weekday) {
             Some(found) => DateAnswer::some(&found),
             None => DateAnswer::none(reason_for_week(year, week)),
@@ -209,8 +212,8 @@ impl Date {
         }
     }
 
-    /// Returns the date of the calendar, or `None` where there is none.
-    fn found(self) -> Option<calendar::Date>
+    /// Returns the date of the calendar, or `None` if there is no such date.
+    pub(crate) fn found(self) -> Option<calendar::Date>
         ensures { MatchOption result (¬ (IsDate self.year self.month self.day_of_month))
             (λ date. IsDate self.year self.month self.day_of_month
             × HasParts date self.year self.month self.day_of_month
@@ -221,8 +224,8 @@ impl Date {
 }
 
 impl DateAnswer {
-    /// Returns an answer.
-    fn some(date: &calendar::Date) -> DateAnswer
+    /// Returns a result.
+    pub(crate) fn some(date: &calendar::Date) -> DateAnswer
         ensures status { result.status ≡ 0 }
         ensures parts { HasParts date.now result.date.year result.date.month result.date.day_of_month }
         ensures date { IsDate result.date.year result.date.month result.date.day_of_month }
@@ -235,8 +238,8 @@ impl DateAnswer {
         }
     }
 
-    /// Returns a refusal.
-    fn none(status: u32) -> DateAnswer
+    /// Returns a rejection.
+    pub(crate) fn none(status: u32) -> DateAnswer
         ensures { result ≡ record {
           status = status;
           date = record { year = pos 0; month = 0; day_of_month = 0 };
@@ -254,7 +257,7 @@ impl DateAnswer {
 }
 
 impl IsoWeekAnswer {
-    /// Returns a refusal.
+    /// Returns a rejection.
     fn none(status: u32) -> IsoWeekAnswer
         ensures { result ≡ record { status = status; week = 0; year = pos 0 } }
     {
@@ -277,36 +280,5 @@ fn reason_for_week(year: i64, week: u8) -> u32
         NOT_FITTING
     } else {
         NO_DATE
-    }
-}
-
-/// Returns the number of a day of the week, which is 0 for Sunday.
-fn number_of_weekday(weekday: Weekday) -> u8
-    ensures { result ≡ weekday_number weekday }
-{
-    match weekday {
-        Weekday::Sunday => 0,
-        Weekday::Monday => 1,
-        Weekday::Tuesday => 2,
-        Weekday::Wednesday => 3,
-        Weekday::Thursday => 4,
-        Weekday::Friday => 5,
-        Weekday::Saturday => 6,
-    }
-}
-
-/// Returns the day of the week of a number.
-fn weekday_of_number(number: u8) -> Option<Weekday>
-    ensures { MatchOption result (7 ≤ number) (λ weekday. weekday_number weekday ≡ number) }
-{
-    match number {
-        0 => Some(Weekday::Sunday),
-        1 => Some(Weekday::Monday),
-        2 => Some(Weekday::Tuesday),
-        3 => Some(Weekday::Wednesday),
-        4 => Some(Weekday::Thursday),
-        5 => Some(Weekday::Friday),
-        6 => Some(Weekday::Saturday),
-        _ => None,
     }
 }

@@ -1,4 +1,4 @@
-//! Division.
+//! Division, rounded toward 0, down or up.
 
 ghost use Rattle.std.specs.Prelude.{◌≡◌, ◌≢◌, ◌↔◌, ◌*ℤ◌, pos, FitsSigned, IsTrue};
 ghost use Rattle.std.specs.Int.{FitsUnsignedBits, w64};
@@ -29,7 +29,10 @@ pub struct U64Division {
     pub remainder: u64,
 }
 
-/// Returns the quotient rounded toward 0, and its remainder. Those of -8 by 3 are -2 and -2.
+/// Returns the quotient rounded toward 0, and its remainder, as `/` and `%` of C. Those of -8 by 3 are
+/// -2 and -2.
+///
+/// `OUTSIDE` if `y` is 0. `NOT_FITTING` if the quotient does not fit.
 #[unsafe(no_mangle)]
 pub extern "C" fn cellarcove_div_rem_i64(x: i64, y: i64) -> I64Division
     ensures answer { AnswersWhere
@@ -43,6 +46,8 @@ pub extern "C" fn cellarcove_div_rem_i64(x: i64, y: i64) -> I64Division
 }
 
 /// Returns the quotient rounded toward 0, and its remainder. Those of 8 by 3 are 2 and 2.
+///
+/// `OUTSIDE` if `y` is 0.
 #[unsafe(no_mangle)]
 pub extern "C" fn cellarcove_div_rem_u64(x: u64, y: u64) -> U64Division
     ensures answer { AnswersWhere
@@ -56,6 +61,8 @@ pub extern "C" fn cellarcove_div_rem_u64(x: u64, y: u64) -> U64Division
 }
 
 /// Returns the quotient rounded down. That of -8 by 3 is -3.
+///
+/// `OUTSIDE` if `y` is 0. `NOT_FITTING` if the quotient does not fit.
 #[unsafe(no_mangle)]
 pub extern "C" fn cellarcove_div_floor_i64(x: i64, y: i64) -> I64Answer
     ensures answer { AnswersWhere
@@ -67,6 +74,8 @@ pub extern "C" fn cellarcove_div_floor_i64(x: i64, y: i64) -> I64Answer
 }
 
 /// Returns the quotient rounded down. That of 8 by 3 is 2.
+///
+/// `OUTSIDE` if `y` is 0.
 #[unsafe(no_mangle)]
 pub extern "C" fn cellarcove_div_floor_u64(x: u64, y: u64) -> U64Answer
     ensures answer { AnswersWhere
@@ -79,6 +88,8 @@ pub extern "C" fn cellarcove_div_floor_u64(x: u64, y: u64) -> U64Answer
 }
 
 /// Returns the quotient rounded up. That of 8 by 3 is 3.
+///
+/// `OUTSIDE` if `y` is 0. `NOT_FITTING` if the quotient does not fit.
 #[unsafe(no_mangle)]
 pub extern "C" fn cellarcove_div_ceil_i64(x: i64, y: i64) -> I64Answer
     ensures answer { AnswersWhere
@@ -90,6 +101,8 @@ pub extern "C" fn cellarcove_div_ceil_i64(x: i64, y: i64) -> I64Answer
 }
 
 /// Returns the quotient rounded up. That of 8 by 3 is 3.
+///
+/// `OUTSIDE` if `y` is 0.
 #[unsafe(no_mangle)]
 pub extern "C" fn cellarcove_div_ceil_u64(x: u64, y: u64) -> U64Answer
     ensures answer { AnswersWhere
@@ -101,7 +114,10 @@ pub extern "C" fn cellarcove_div_ceil_u64(x: u64, y: u64) -> U64Answer
     U64Answer::of(checked::div_ceil(x, y), OUTSIDE)
 }
 
-/// Returns the remainder of the quotient rounded down. That of -8 by 3 is 1.
+/// Returns the remainder of the quotient rounded down, which is 0 or has the sign of `y`. That of -8 by
+/// 3 is 1. It always fits.
+///
+/// `OUTSIDE` if `y` is 0.
 #[unsafe(no_mangle)]
 pub extern "C" fn cellarcove_mod_floor_i64(x: i64, y: i64) -> I64Answer
     ensures answer { AnswersWhere (y ≢ pos 0) (IsRemainder IsFloored x y)
@@ -112,6 +128,8 @@ pub extern "C" fn cellarcove_mod_floor_i64(x: i64, y: i64) -> I64Answer
 }
 
 /// Returns the remainder of the quotient rounded down. That of 8 by 3 is 2.
+///
+/// `OUTSIDE` if `y` is 0.
 #[unsafe(no_mangle)]
 pub extern "C" fn cellarcove_mod_floor_u64(x: u64, y: u64) -> U64Answer
     ensures answer { AnswersWhere (pos y ≢ pos 0)
@@ -123,6 +141,8 @@ pub extern "C" fn cellarcove_mod_floor_u64(x: u64, y: u64) -> U64Answer
 }
 
 /// Returns the quotient rounded down, and its remainder. Those of -8 by 3 are -3 and 1.
+///
+/// `OUTSIDE` if `y` is 0. `NOT_FITTING` if the quotient does not fit.
 #[unsafe(no_mangle)]
 pub extern "C" fn cellarcove_div_mod_floor_i64(x: i64, y: i64) -> I64Division
     ensures answer { AnswersWhere
@@ -136,6 +156,8 @@ pub extern "C" fn cellarcove_div_mod_floor_i64(x: i64, y: i64) -> I64Division
 }
 
 /// Returns the quotient rounded down, and its remainder. Those of 8 by 3 are 2 and 2.
+///
+/// `OUTSIDE` if `y` is 0.
 #[unsafe(no_mangle)]
 pub extern "C" fn cellarcove_div_mod_floor_u64(x: u64, y: u64) -> U64Division
     ensures answer { AnswersWhere
@@ -148,8 +170,10 @@ pub extern "C" fn cellarcove_div_mod_floor_u64(x: u64, y: u64) -> U64Division
     U64Division::of(checked::div_mod_floor(x, y), OUTSIDE)
 }
 
-/// Returns the quotient of `a * b` by `d`, rounded down, and its remainder. The product need not fit. Those
-/// for -7, 3 and 2 are -11 and 1.
+/// Returns the quotient of `a * b` by `d`, rounded down, and its remainder. The product need not fit.
+/// Those for -7, 3 and 2 are -11 and 1.
+///
+/// `OUTSIDE` if `d` is 0. `NOT_FITTING` if the quotient does not fit.
 #[unsafe(no_mangle)]
 pub extern "C" fn cellarcove_product_div_mod_floor_i64(a: i64, b: i64, d: i64) -> I64Division
     ensures answer { AnswersWhere
@@ -165,8 +189,10 @@ pub extern "C" fn cellarcove_product_div_mod_floor_i64(a: i64, b: i64, d: i64) -
     )
 }
 
-/// Returns the quotient of `a * b` by `d`, rounded down, and its remainder. The product need not
-/// fit. Those for 7, 3 and 2 are 10 and 1.
+/// Returns the quotient of `a * b` by `d`, rounded down, and its remainder. The product need not fit.
+/// Those for 7, 3 and 2 are 10 and 1.
+///
+/// `OUTSIDE` if `d` is 0. `NOT_FITTING` if the quotient does not fit.
 #[unsafe(no_mangle)]
 pub extern "C" fn cellarcove_product_div_mod_floor_u64(a: u64, b: u64, d: u64) -> U64Division
     ensures answer { AnswersWhere
@@ -182,7 +208,10 @@ pub extern "C" fn cellarcove_product_div_mod_floor_u64(a: u64, b: u64, d: u64) -
     )
 }
 
-/// Returns the quotient rounded up, times `y`. For 23 and 8 it is 24.
+/// Returns the quotient rounded up, times `y`: if `y` is positive, the smallest multiple of it that is
+/// at least `x`. For 23 and 8 it is 24.
+///
+/// `OUTSIDE` if `y` is 0. `NOT_FITTING` if the multiple does not fit.
 #[unsafe(no_mangle)]
 pub extern "C" fn cellarcove_next_multiple_of_i64(x: i64, y: i64) -> I64Answer
     ensures answer { AnswersWhere
@@ -193,7 +222,9 @@ pub extern "C" fn cellarcove_next_multiple_of_i64(x: i64, y: i64) -> I64Answer
     I64Answer::of(checked::next_multiple_of(x, y), reason_for_divisor(y))
 }
 
-/// Returns the quotient rounded up, times `y`. For 23 and 8 it is 24.
+/// Returns the smallest multiple of `y` that is at least `x`. For 23 and 8 it is 24.
+///
+/// `OUTSIDE` if `y` is 0. `NOT_FITTING` if the multiple does not fit.
 #[unsafe(no_mangle)]
 pub extern "C" fn cellarcove_next_multiple_of_u64(x: u64, y: u64) -> U64Answer
     ensures answer { AnswersWhere
@@ -208,7 +239,10 @@ pub extern "C" fn cellarcove_next_multiple_of_u64(x: u64, y: u64) -> U64Answer
     )
 }
 
-/// Returns the quotient rounded down, times `y`. For 23 and 8 it is 16.
+/// Returns the quotient rounded down, times `y`: if `y` is positive, the largest multiple of it that is
+/// at most `x`. For 23 and 8 it is 16.
+///
+/// `OUTSIDE` if `y` is 0. `NOT_FITTING` if the multiple does not fit.
 #[unsafe(no_mangle)]
 pub extern "C" fn cellarcove_prev_multiple_of_i64(x: i64, y: i64) -> I64Answer
     ensures answer { AnswersWhere
@@ -219,7 +253,9 @@ pub extern "C" fn cellarcove_prev_multiple_of_i64(x: i64, y: i64) -> I64Answer
     I64Answer::of(checked::prev_multiple_of(x, y), reason_for_divisor(y))
 }
 
-/// Returns the quotient rounded down, times `y`. For 23 and 8 it is 16.
+/// Returns the largest multiple of `y` that is at most `x`. For 23 and 8 it is 16.
+///
+/// `OUTSIDE` if `y` is 0.
 #[unsafe(no_mangle)]
 pub extern "C" fn cellarcove_prev_multiple_of_u64(x: u64, y: u64) -> U64Answer
     ensures answer { AnswersWhere
@@ -248,7 +284,7 @@ pub extern "C" fn cellarcove_is_multiple_of_u64(x: u64, y: u64) -> bool
 }
 
 impl I64Division {
-    /// Returns the answer of a call of `num_integer::checked`, or a refusal for a reason.
+    /// Returns the result of a call of `num_integer::checked`, or a rejection for a reason.
     fn of(option: Option<(i64, i64)>, reason: u32) -> I64Division
         requires { reason ≢ 0 }
         ensures answer { answer_of result.status (result.quotient, result.remainder) ≡ option }
@@ -271,7 +307,7 @@ impl I64Division {
 }
 
 impl U64Division {
-    /// Returns the answer of a call of `num_integer::checked`, or a refusal for a reason.
+    /// Returns the result of a call of `num_integer::checked`, or a rejection for a reason.
     fn of(option: Option<(u64, u64)>, reason: u32) -> U64Division
         requires { reason ≢ 0 }
         ensures answer { answer_of result.status (result.quotient, result.remainder) ≡ option }

@@ -11,7 +11,7 @@ ghost use Rattle.cellarcove_c.specs.Statuses.{answer_of, not_fitting};
 use crate::answers::{ANSWER, I64Answer, NOT_FITTING, U64Answer};
 use num_integer::{ExtendedGcd, checked};
 
-/// A status, and the greatest common divisor with Bezout's coefficients.
+/// A status, and the greatest common divisor with its coefficients.
 #[repr(C)]
 #[derive(Clone, Copy)]
 pub struct I64Bezout {
@@ -21,7 +21,27 @@ pub struct I64Bezout {
     pub y: i64,
 }
 
-/// Returns the greatest common divisor. That of -56 and 42 is 14.
+/// A status, and the greatest common divisor with the least common multiple.
+#[repr(C)]
+#[derive(Clone, Copy)]
+pub struct I64GcdLcm {
+    pub status: u32,
+    pub gcd: i64,
+    pub lcm: i64,
+}
+
+/// A status, and the greatest common divisor with the least common multiple.
+#[repr(C)]
+#[derive(Clone, Copy)]
+pub struct U64GcdLcm {
+    pub status: u32,
+    pub gcd: u64,
+    pub lcm: u64,
+}
+
+/// Returns the greatest common divisor, which is not negative. That of -56 and 42 is 14.
+///
+/// `NOT_FITTING` if it is 2^63.
 #[unsafe(no_mangle)]
 pub extern "C" fn cellarcove_gcd_i64(x: i64, y: i64) -> I64Answer
     ensures answer { AnswersWhere (GcdFits (FitsSigned w64) x y) (IsGreatestCommonDivisor x y)
@@ -31,7 +51,7 @@ pub extern "C" fn cellarcove_gcd_i64(x: i64, y: i64) -> I64Answer
     I64Answer::of(checked::gcd(x, y), NOT_FITTING)
 }
 
-/// Returns the greatest common divisor. That of 56 and 42 is 14.
+/// Returns the greatest common divisor, which always fits. That of 56 and 42 is 14.
 #[unsafe(no_mangle)]
 pub extern "C" fn cellarcove_gcd_u64(x: u64, y: u64) -> U64Answer
     ensures answer { AnswersWhere (GcdFits (FitsUnsignedBits 64) (pos x) (pos y))
@@ -43,7 +63,9 @@ pub extern "C" fn cellarcove_gcd_u64(x: u64, y: u64) -> U64Answer
     U64Answer::of(checked::gcd(x, y), NOT_FITTING)
 }
 
-/// Returns the least common multiple. That of 4 and 6 is 12.
+/// Returns the least common multiple, which is not negative. That of -4 and 6 is 12.
+///
+/// `NOT_FITTING` if the multiple does not fit.
 #[unsafe(no_mangle)]
 pub extern "C" fn cellarcove_lcm_i64(x: i64, y: i64) -> I64Answer
     ensures answer { AnswersWhere (EachFits (FitsSigned w64) (IsLeastCommonMultiple x y))
@@ -54,6 +76,8 @@ pub extern "C" fn cellarcove_lcm_i64(x: i64, y: i64) -> I64Answer
 }
 
 /// Returns the least common multiple. That of 4 and 6 is 12.
+///
+/// `NOT_FITTING` if the multiple does not fit.
 #[unsafe(no_mangle)]
 pub extern "C" fn cellarcove_lcm_u64(x: u64, y: u64) -> U64Answer
     ensures answer { AnswersWhere
@@ -65,8 +89,64 @@ pub extern "C" fn cellarcove_lcm_u64(x: u64, y: u64) -> U64Answer
     U64Answer::of(checked::lcm(x, y), NOT_FITTING)
 }
 
-/// Returns the greatest common divisor and Bezout's coefficients: `x` times the first number and `y`
-/// times the second add up to it. For 240 and 46 they are 2, -9 and 47.
+/// Returns the greatest common divisor and the least common multiple. Those of -10 and 4 are 2 and 20.
+///
+/// `NOT_FITTING` if one of the two does not fit.
+#[unsafe(no_mangle)]
+pub extern "C" fn cellarcove_gcd_lcm_i64(x: i64, y: i64) -> I64GcdLcm
+    ensures answer { AnswersWhere
+        (GcdFits (FitsSigned w64) x y × EachFits (FitsSigned w64) (IsLeastCommonMultiple x y))
+        (λ (g, l). IsGreatestCommonDivisor x y g × IsLeastCommonMultiple x y l)
+        (answer_of result.status (result.gcd, result.lcm)) }
+    ensures refusal { result.status ≢ 0
+        → result ≡ record { status = not_fitting; gcd = pos 0; lcm = pos 0 } }
+{
+    match checked::gcd_lcm(x, y) {
+        Some((gcd, lcm)) => I64GcdLcm {
+            status: ANSWER,
+            gcd,
+            lcm,
+        },
+        None => I64GcdLcm {
+            status: NOT_FITTING,
+            gcd: 0,
+            lcm: 0,
+        },
+    }
+}
+
+/// Returns the greatest common divisor and the least common multiple. Those of 10 and 4 are 2 and 20.
+///
+/// `NOT_FITTING` if one of the two does not fit.
+#[unsafe(no_mangle)]
+pub extern "C" fn cellarcove_gcd_lcm_u64(x: u64, y: u64) -> U64GcdLcm
+    ensures answer { AnswersWhere
+        (GcdFits (FitsUnsignedBits 64) (pos x) (pos y)
+        × EachFits (FitsUnsignedBits 64) (IsLeastCommonMultiple (pos x) (pos y)))
+        (λ (g, l). IsGreatestCommonDivisor (pos x) (pos y) (pos g)
+        × IsLeastCommonMultiple (pos x) (pos y) (pos l))
+        (answer_of result.status (result.gcd, result.lcm)) }
+    ensures refusal { result.status ≢ 0 → result ≡ record { status = not_fitting; gcd = 0; lcm = 0 } }
+{
+    match checked::gcd_lcm(x, y) {
+        Some((gcd, lcm)) => U64GcdLcm {
+            status: ANSWER,
+            gcd,
+            lcm,
+        },
+        None => U64GcdLcm {
+            status: NOT_FITTING,
+            gcd: 0,
+            lcm: 0,
+        },
+    }
+}
+
+/// Returns the greatest common divisor, and small coefficients `x` and `y`: `x` times the first number
+/// and `y` times the second add up to it. For 240 and 46 they are 2, -9 and 47. In C the two products
+/// may overflow.
+///
+/// `NOT_FITTING` if the divisor is 2^63.
 #[unsafe(no_mangle)]
 pub extern "C" fn cellarcove_extended_gcd_i64(x: i64, y: i64) -> I64Bezout
     ensures answer { AnswersWhere
@@ -83,7 +163,7 @@ pub extern "C" fn cellarcove_extended_gcd_i64(x: i64, y: i64) -> I64Bezout
 }
 
 impl I64Bezout {
-    /// Returns an answer.
+    /// Returns a result.
     fn some(e: ExtendedGcd<i64>) -> I64Bezout
         ensures { result ≡ record { status = 0; gcd = e.gcd; x = e.x; y = e.y } }
     {
@@ -95,7 +175,7 @@ impl I64Bezout {
         }
     }
 
-    /// Returns the refusal.
+    /// Returns the rejection.
     fn none() -> I64Bezout
         ensures { result ≡ record { status = not_fitting; gcd = pos 0; x = pos 0; y = pos 0 } }
     {

@@ -1,27 +1,23 @@
 //! Exact fractions. A fraction that is passed is reduced first, and a part of it that does not fit
-//! then is refused.
+//! then is rejected. If both fractions are rejected, the status is that of the first.
 
-ghost use Rattle.std.specs.Prelude.{◌≡◌, ◌≢◌, ◌<ℤ◌, ◌≤ℤ◌, ◌+ℤ◌, ◌-ℤ◌, ◌*ℤ◌, pos, FitsSigned, Result, Err, MatchResult};
+ghost use Rattle.std.specs.Prelude.{◌≡◌, ◌<ℤ◌, ◌≤ℤ◌, ◌+ℤ◌, ◌-ℤ◌, ◌*ℤ◌, pos, Result, Err, MatchResult};
 ghost use Rattle.std.specs.declared.cmp.Ordering.{Ordering};
-ghost use Rattle.std.specs.Int.{w64};
-ghost use Rattle.num_integer.specs.Checked.{AnswersWhere};
-ghost use Rattle.num_integer.specs.Division.{IsFloored, IsQuotient};
-ghost use Rattle.num_integer.specs.Range.{EachFits};
 ghost use Rattle.ratio64.specs.Fraction.{fraction_cmp};
 ghost use Rattle.ratio64.specs.Limiting.{IsNearestWithin};
 ghost use Rattle.ratio64.specs.Ratio.{AnswersFraction, den_of, num_of};
 ghost use Rattle.ratio64.specs.RatioError.{number_of};
-ghost use Rattle.ratio64.specs.Rounding.{IsRounded};
 ghost use Rattle.ratio64.specs.declared.error.RatioError.{RatioError};
 ghost use Rattle.ratio64.specs.declared.fraction.Ratio.{Ratio};
-ghost use Rattle.cellarcove_c.specs.Fractions.{OnBoth, StandsFor, StandsForNumber, order_number};
-ghost use Rattle.cellarcove_c.specs.Statuses.{answer_of, not_fitting, outside};
+ghost use Rattle.cellarcove_c.specs.Fractions.{OnBoth, StandsFor, order_number};
+ghost use Rattle.cellarcove_c.specs.Statuses.{outside};
 
-use crate::answers::{ANSWER, I64Answer, NOT_FITTING, OUTSIDE};
+use crate::answers::{ANSWER, OUTSIDE};
 use ratio64::{Ratio, RatioError};
 use std::cmp::Ordering;
 
-/// The parts of a fraction.
+/// The parts of a fraction. As an argument it need not be reduced; as a result it is, and `den` is
+/// positive.
 #[repr(C)]
 #[derive(Clone, Copy)]
 pub struct Fraction {
@@ -46,6 +42,8 @@ pub struct OrderAnswer {
 }
 
 /// Returns the fraction `num / den`, reduced. That of 6 and -4 is -3/2.
+///
+/// `ZERO_DENOMINATOR` if `den` is 0. `NOT_FITTING` if a part of the reduced fraction does not fit.
 #[unsafe(no_mangle)]
 pub extern "C" fn cellarcove_fraction_new(num: i64, den: i64) -> FractionAnswer
     ensures { (r : Result Ratio RatioError) × AnswersFraction num den r
@@ -55,6 +53,9 @@ pub extern "C" fn cellarcove_fraction_new(num: i64, den: i64) -> FractionAnswer
 }
 
 /// Returns the sum. That of 1/2 and 1/3 is 5/6.
+///
+/// `ZERO_DENOMINATOR` if a denominator is 0. `NOT_FITTING` if a part of an argument, reduced, does not
+/// fit, or a part of the result.
 #[unsafe(no_mangle)]
 pub extern "C" fn cellarcove_fraction_add(a: Fraction, b: Fraction) -> FractionAnswer
     ensures { (p q r : Result Ratio RatioError) × AnswersFraction a.num a.den p
@@ -69,6 +70,9 @@ pub extern "C" fn cellarcove_fraction_add(a: Fraction, b: Fraction) -> FractionA
 }
 
 /// Returns the difference. That of 1/2 and 1/3 is 1/6.
+///
+/// `ZERO_DENOMINATOR` if a denominator is 0. `NOT_FITTING` if a part of an argument, reduced, does not
+/// fit, or a part of the result.
 #[unsafe(no_mangle)]
 pub extern "C" fn cellarcove_fraction_sub(a: Fraction, b: Fraction) -> FractionAnswer
     ensures { (p q r : Result Ratio RatioError) × AnswersFraction a.num a.den p
@@ -83,6 +87,9 @@ pub extern "C" fn cellarcove_fraction_sub(a: Fraction, b: Fraction) -> FractionA
 }
 
 /// Returns the product. That of 2/3 and 3/4 is 1/2.
+///
+/// `ZERO_DENOMINATOR` if a denominator is 0. `NOT_FITTING` if a part of an argument, reduced, does not
+/// fit, or a part of the result.
 #[unsafe(no_mangle)]
 pub extern "C" fn cellarcove_fraction_mul(a: Fraction, b: Fraction) -> FractionAnswer
     ensures { (p q r : Result Ratio RatioError) × AnswersFraction a.num a.den p
@@ -97,6 +104,9 @@ pub extern "C" fn cellarcove_fraction_mul(a: Fraction, b: Fraction) -> FractionA
 }
 
 /// Returns the quotient. That of -1/2 and -3/4 is 2/3.
+///
+/// `ZERO_DENOMINATOR` if a denominator is 0, and if `b` is 0. `NOT_FITTING` if a part of an argument,
+/// reduced, does not fit, or a part of the result.
 #[unsafe(no_mangle)]
 pub extern "C" fn cellarcove_fraction_div(a: Fraction, b: Fraction) -> FractionAnswer
     ensures { (p q r : Result Ratio RatioError) × AnswersFraction a.num a.den p
@@ -110,7 +120,10 @@ pub extern "C" fn cellarcove_fraction_div(a: Fraction, b: Fraction) -> FractionA
     FractionAnswer::of(quotient(a.reduced(), b.reduced()))
 }
 
-/// Returns -1, 0 or 1 where `a` is below, equal to or above `b`. For 1/2 and 1/3 it is 1.
+/// Returns -1, 0 or 1 if `a` is less than, equal to or greater than `b`. For 1/2 and 1/3 it is 1.
+///
+/// `ZERO_DENOMINATOR` if a denominator is 0. `NOT_FITTING` if a part of an argument, reduced, does not
+/// fit.
 #[unsafe(no_mangle)]
 pub extern "C" fn cellarcove_fraction_cmp(a: Fraction, b: Fraction) -> OrderAnswer
     ensures { (p q : Result Ratio RatioError) × AnswersFraction a.num a.den p
@@ -123,56 +136,10 @@ pub extern "C" fn cellarcove_fraction_cmp(a: Fraction, b: Fraction) -> OrderAnsw
     order(a.reduced(), b.reduced())
 }
 
-/// Returns the fraction rounded down. That of -3/2 is -2.
-#[unsafe(no_mangle)]
-pub extern "C" fn cellarcove_fraction_floor(a: Fraction) -> I64Answer
-    ensures { (p : Result Ratio RatioError) × AnswersFraction a.num a.den p
-        × StandsForNumber p result.status result.value
-        (λ x. IsQuotient IsFloored (num_of x) (den_of x) result.value) }
-{
-    match a.reduced() {
-        Ok(x) => I64Answer::some(x.floor()),
-        Err(error) => I64Answer::none(error.number()),
-    }
-}
-
-/// Returns the nearest whole number, and of two that are equally near the one farther from 0. That of
-/// -3/2 is -2.
-#[unsafe(no_mangle)]
-pub extern "C" fn cellarcove_fraction_round(a: Fraction) -> I64Answer
-    ensures { (p : Result Ratio RatioError) × AnswersFraction a.num a.den p
-        × StandsForNumber p result.status result.value
-        (λ x. IsRounded (num_of x) (den_of x) result.value) }
-{
-    match a.reduced() {
-        Ok(x) => I64Answer::some(x.round()),
-        Err(error) => I64Answer::none(error.number()),
-    }
-}
-
-/// Returns the fraction times `n`, rounded down. That of 2/3 and 100 is 66.
-#[unsafe(no_mangle)]
-pub extern "C" fn cellarcove_fraction_floor_times(a: Fraction, n: i64) -> I64Answer
-    ensures { (p : Result Ratio RatioError) × AnswersFraction a.num a.den p
-        × MatchResult p
-        (λ x. AnswersWhere
-        (EachFits (FitsSigned w64) (IsQuotient IsFloored (num_of x *ℤ n) (den_of x)))
-        (IsQuotient IsFloored (num_of x *ℤ n) (den_of x))
-        (answer_of result.status result.value)
-        × (result.status ≢ 0 → result ≡ record { status = not_fitting; value = pos 0 }))
-        (λ e. result ≡ record { status = number_of e; value = pos 0 }) }
-{
-    match a.reduced() {
-        Ok(x) => match x.floor_times(n) {
-            Some(whole) => I64Answer::some(whole),
-            None => I64Answer::none(NOT_FITTING),
-        },
-        Err(error) => I64Answer::none(error.number()),
-    }
-}
-
-/// Returns the nearest fraction whose denominator is at most `max`, which is above 0. That of 3/10 and
-/// 5 is 1/3.
+/// Returns the nearest fraction whose denominator is at most `max`. That of 3/10 and 5 is 1/3.
+///
+/// `OUTSIDE` if `max` is not positive, whatever `a` is. `ZERO_DENOMINATOR` if the denominator is 0.
+/// `NOT_FITTING` if a part of the reduced fraction does not fit.
 #[unsafe(no_mangle)]
 pub extern "C" fn cellarcove_fraction_limit_denominator(a: Fraction, max: i64) -> FractionAnswer
     ensures outside { max ≤ℤ pos 0
@@ -194,7 +161,7 @@ pub extern "C" fn cellarcove_fraction_limit_denominator(a: Fraction, max: i64) -
 
 impl Fraction {
     /// Returns the reduced fraction.
-    fn reduced(self) -> Result<Ratio, RatioError>
+    pub(crate) fn reduced(self) -> Result<Ratio, RatioError>
         ensures { AnswersFraction self.num self.den result }
     {
         Ratio::new(self.num, self.den)
@@ -202,7 +169,7 @@ impl Fraction {
 }
 
 impl FractionAnswer {
-    /// Returns a result as an answer.
+    /// Returns a result of `ratio64`.
     fn of(answered: Result<Ratio, RatioError>) -> FractionAnswer
         ensures { StandsFor answered result.status result.value.num result.value.den }
     {
@@ -212,7 +179,7 @@ impl FractionAnswer {
         }
     }
 
-    /// Returns an answer.
+    /// Returns a result.
     fn some(ratio: &Ratio) -> FractionAnswer
         ensures { result ≡ record {
           status = 0;
@@ -228,7 +195,7 @@ impl FractionAnswer {
         }
     }
 
-    /// Returns a refusal.
+    /// Returns a rejection.
     fn none(status: u32) -> FractionAnswer
         ensures { result ≡ record { status = status; value = record { num = pos 0; den = pos 0 } } }
     {
@@ -240,7 +207,7 @@ impl FractionAnswer {
 }
 
 impl OrderAnswer {
-    /// Returns a refusal.
+    /// Returns a rejection.
     fn none(error: RatioError) -> OrderAnswer
         ensures { result ≡ record { status = number_of error; order = pos 0 } }
     {

@@ -1,13 +1,19 @@
-//! The library for C. Each function is one call of the library, for any arguments: where the call has
-//! no answer, the status says why, and every other field is 0.
+//! The library for C. Each function is one call of the library, for any arguments: if the call has no
+//! result, the status says why, and every other field is 0.
 #![tactic(auto)]
 
 mod answers;
 mod coefficients;
+mod congruences;
 mod dates;
+mod distances;
 mod division;
 mod divisors;
 mod fractions;
 mod from_contracts;
 mod modulo;
+mod operators;
 mod roots;
+mod rounding;
+mod weekdays;
+mod years;

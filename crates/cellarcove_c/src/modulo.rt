@@ -1,4 +1,4 @@
-//! Arithmetic modulo a number, and numbers that are congruent to others.
+//! Arithmetic modulo a number, and numbers that solve one or two congruences.
 
 ghost use Rattle.std.specs.Prelude.{◌≡◌, ◌≢◌, ◌⊎◌, ◌↔◌, ◌<ℤ◌, ◌≤ℤ◌, ◌+ℤ◌, ◌-ℤ◌, ◌*ℤ◌, ℤ, pos, FitsSigned, MatchOption};
 ghost use Rattle.std.specs.Int.{FitsUnsignedBits, int_pow, w64};
@@ -16,8 +16,7 @@ use modular::{
 };
 use num_integer::Fits;
 
-/// A status, and a class of solutions: the first that is at least 0, and the step from each to the
-/// next.
+/// A status, and solutions: the first that is not negative, and the step from each to the next.
 #[repr(C)]
 #[derive(Clone, Copy)]
 pub struct I64Solutions {
@@ -26,8 +25,7 @@ pub struct I64Solutions {
     pub step: i64,
 }
 
-/// A status, and a class of solutions: the first that is at least 0, and the step from each to the
-/// next.
+/// A status, and solutions: the first that is not negative, and the step from each to the next.
 #[repr(C)]
 #[derive(Clone, Copy)]
 pub struct U64Solutions {
@@ -36,7 +34,9 @@ pub struct U64Solutions {
     pub step: u64,
 }
 
-/// Returns `a + b` modulo `m`, which is at least 0. For 5, 4 and 7 it is 2.
+/// Returns `a + b` modulo `m`, from 0 to `m` - 1. For 5, 4 and 7 it is 2.
+///
+/// `BAD_MODULUS` if `m` is not positive.
 #[unsafe(no_mangle)]
 pub extern "C" fn cellarcove_sum_modulo_i64(a: i64, b: i64, m: i64) -> I64Answer
     ensures answer { AnswersWhere (pos 0 <ℤ m) (IsResidue m (a +ℤ b))
@@ -50,7 +50,9 @@ pub extern "C" fn cellarcove_sum_modulo_i64(a: i64, b: i64, m: i64) -> I64Answer
     }
 }
 
-/// Returns `a + b` modulo `m`. For 5, 4 and 7 it is 2.
+/// Returns `a + b` modulo `m`, from 0 to `m` - 1. For 5, 4 and 7 it is 2.
+///
+/// `BAD_MODULUS` if `m` is 0.
 #[unsafe(no_mangle)]
 pub extern "C" fn cellarcove_sum_modulo_u64(a: u64, b: u64, m: u64) -> U64Answer
     ensures answer { AnswersWhere (pos 0 <ℤ pos m) (λ r. IsResidue (pos m) (pos a +ℤ pos b) (pos r))
@@ -64,7 +66,9 @@ pub extern "C" fn cellarcove_sum_modulo_u64(a: u64, b: u64, m: u64) -> U64Answer
     }
 }
 
-/// Returns `a - b` modulo `m`, which is at least 0. For 2, 5 and 7 it is 4.
+/// Returns `a - b` modulo `m`, from 0 to `m` - 1. For 2, 5 and 7 it is 4.
+///
+/// `BAD_MODULUS` if `m` is not positive.
 #[unsafe(no_mangle)]
 pub extern "C" fn cellarcove_difference_modulo_i64(a: i64, b: i64, m: i64) -> I64Answer
     ensures answer { AnswersWhere (pos 0 <ℤ m) (IsResidue m (a -ℤ b))
@@ -78,7 +82,9 @@ pub extern "C" fn cellarcove_difference_modulo_i64(a: i64, b: i64, m: i64) -> I6
     }
 }
 
-/// Returns `a - b` modulo `m`, which is at least 0. For 2, 5 and 7 it is 4.
+/// Returns `a - b` modulo `m`, from 0 to `m` - 1. For 2, 5 and 7 it is 4.
+///
+/// `BAD_MODULUS` if `m` is 0.
 #[unsafe(no_mangle)]
 pub extern "C" fn cellarcove_difference_modulo_u64(a: u64, b: u64, m: u64) -> U64Answer
     ensures answer { AnswersWhere (pos 0 <ℤ pos m) (λ r. IsResidue (pos m) (pos a -ℤ pos b) (pos r))
@@ -92,7 +98,9 @@ pub extern "C" fn cellarcove_difference_modulo_u64(a: u64, b: u64, m: u64) -> U6
     }
 }
 
-/// Returns `a * b` modulo `m`, which is at least 0. For 4, 5 and 7 it is 6.
+/// Returns `a * b` modulo `m`, from 0 to `m` - 1. For 4, 5 and 7 it is 6.
+///
+/// `BAD_MODULUS` if `m` is not positive.
 #[unsafe(no_mangle)]
 pub extern "C" fn cellarcove_product_modulo_i64(a: i64, b: i64, m: i64) -> I64Answer
     ensures answer { AnswersWhere (pos 0 <ℤ m) (IsResidue m (a *ℤ b))
@@ -106,7 +114,9 @@ pub extern "C" fn cellarcove_product_modulo_i64(a: i64, b: i64, m: i64) -> I64An
     }
 }
 
-/// Returns `a * b` modulo `m`. For 4, 5 and 7 it is 6.
+/// Returns `a * b` modulo `m`, from 0 to `m` - 1. For 4, 5 and 7 it is 6.
+///
+/// `BAD_MODULUS` if `m` is 0.
 #[unsafe(no_mangle)]
 pub extern "C" fn cellarcove_product_modulo_u64(a: u64, b: u64, m: u64) -> U64Answer
     ensures answer { AnswersWhere (pos 0 <ℤ pos m) (λ r. IsResidue (pos m) (pos a *ℤ pos b) (pos r))
@@ -120,7 +130,9 @@ pub extern "C" fn cellarcove_product_modulo_u64(a: u64, b: u64, m: u64) -> U64An
     }
 }
 
-/// Returns `a` to the power `exponent` modulo `m`, which is at least 0. For 3, 4 and 7 it is 4.
+/// Returns `a` to the power `exponent` modulo `m`, from 0 to `m` - 1. For 3, 4 and 7 it is 4.
+///
+/// `BAD_MODULUS` if `m` is not positive.
 #[unsafe(no_mangle)]
 pub extern "C" fn cellarcove_power_modulo_i64(a: i64, exponent: u64, m: i64) -> I64Answer
     ensures answer { AnswersWhere (pos 0 <ℤ m) (IsResidue m (int_pow a exponent))
@@ -134,7 +146,9 @@ pub extern "C" fn cellarcove_power_modulo_i64(a: i64, exponent: u64, m: i64) -> 
     }
 }
 
-/// Returns `a` to the power `exponent` modulo `m`. For 3, 4 and 7 it is 4.
+/// Returns `a` to the power `exponent` modulo `m`, from 0 to `m` - 1. For 3, 4 and 7 it is 4.
+///
+/// `BAD_MODULUS` if `m` is 0.
 #[unsafe(no_mangle)]
 pub extern "C" fn cellarcove_power_modulo_u64(a: u64, exponent: u64, m: u64) -> U64Answer
     ensures answer { AnswersWhere (pos 0 <ℤ pos m)
@@ -149,7 +163,9 @@ pub extern "C" fn cellarcove_power_modulo_u64(a: u64, exponent: u64, m: u64) -> 
     }
 }
 
-/// Returns the inverse of `a` modulo `m`. That of 3 modulo 7 is 5, and 4 has none modulo 6.
+/// Returns the number that times `a` is 1 modulo `m`, from 0 to `m` - 1. For 3 and 7 it is 5.
+///
+/// `BAD_MODULUS` if `m` is not positive. `NO_SOLUTION` if there is no inverse.
 #[unsafe(no_mangle)]
 pub extern "C" fn cellarcove_inverse_modulo_i64(a: i64, m: i64) -> I64Answer
     ensures answer { (pos 0 <ℤ m) → MatchOption (answer_of result.status result.value)
@@ -168,7 +184,9 @@ pub extern "C" fn cellarcove_inverse_modulo_i64(a: i64, m: i64) -> I64Answer
     }
 }
 
-/// Returns the inverse of `a` modulo `m`. That of 3 modulo 7 is 5, and 4 has none modulo 6.
+/// Returns the number that times `a` is 1 modulo `m`, from 0 to `m` - 1. For 3 and 7 it is 5.
+///
+/// `BAD_MODULUS` if `m` is 0. `NO_SOLUTION` if there is no inverse.
 #[unsafe(no_mangle)]
 pub extern "C" fn cellarcove_inverse_modulo_u64(a: u64, m: u64) -> U64Answer
     ensures answer { (pos 0 <ℤ pos m) → MatchOption (answer_of result.status result.value)
@@ -187,8 +205,11 @@ pub extern "C" fn cellarcove_inverse_modulo_u64(a: u64, m: u64) -> U64Answer
     }
 }
 
-/// Returns the numbers that are `a` modulo `m` and `b` modulo `n`. For 1, 4, 3 and 6 they are 9
-/// and those in steps of 12 from it.
+/// Returns the numbers that are `a` modulo `m` and `b` modulo `n`. For 1, 4, 3 and 6 they are 9 and
+/// those in steps of 12 from it.
+///
+/// `BAD_MODULUS` if `m` or `n` is not positive. `NO_SOLUTION` if there is no such number. `NOT_FITTING`
+/// if there is one, and the step does not fit.
 #[unsafe(no_mangle)]
 pub extern "C" fn cellarcove_chinese_remainder_i64(a: i64, m: i64, b: i64, n: i64) -> I64Solutions
     ensures answer { (pos 0 <ℤ m) → (pos 0 <ℤ n)
@@ -198,25 +219,31 @@ pub extern "C" fn cellarcove_chinese_remainder_i64(a: i64, m: i64, b: i64, n: i6
         (λ (first, step). IsResidueClass (SolvesBothCongruences a m b n) first step) }
     ensures bad_modulus { (result.status ≡ bad_modulus) ↔ ((m ≤ℤ pos 0) ⊎ (n ≤ℤ pos 0)) }
     ensures not_fitting { (result.status ≡ not_fitting) ↔ ((pos 0 <ℤ m) × (pos 0 <ℤ n)
-        × (¬ (EachFits (FitsSigned w64) (IsLeastCommonMultiple m n)))) }
+        × (¬ (EachFits (FitsSigned w64) (IsLeastCommonMultiple m n)))
+        × ((x : ℤ) × SolvesBothCongruences a m b n x)) }
+    ensures no_solution { (result.status ≡ no_solution) ↔ ((pos 0 <ℤ m) × (pos 0 <ℤ n)
+        × ((x : ℤ) → ¬ (SolvesBothCongruences a m b n x))) }
     ensures refusal { result.status ≢ 0 → (result.first ≡ pos 0) × (result.step ≡ pos 0)
         × ((result.status ≡ bad_modulus)
         ⊎ ((result.status ≡ not_fitting) ⊎ (result.status ≡ no_solution))) }
 {
     if m <= 0 || n <= 0 {
         I64Solutions::none(BAD_MODULUS)
-    } else if !m.lcm_fits(&n) {
-        I64Solutions::none(NOT_FITTING)
-    } else {
+    } else if m.lcm_fits(&n) {
         match chinese_remainder(a, m, b, n) {
             Some((first, step)) => I64Solutions::some(first, step),
             None => I64Solutions::none(NO_SOLUTION),
         }
+    } else {
+        I64Solutions::none(reason_for_congruences(a, m, b, n))
     }
 }
 
 /// Returns the numbers that are `a` modulo `m` and `b` modulo `n`. For 1, 4, 3 and 6 they are 9 and
 /// those in steps of 12 from it.
+///
+/// `BAD_MODULUS` if `m` or `n` is 0. `NO_SOLUTION` if there is no such number. `NOT_FITTING` if there
+/// is one, and the step does not fit.
 #[unsafe(no_mangle)]
 pub extern "C" fn cellarcove_chinese_remainder_u64(a: u64, m: u64, b: u64, n: u64) -> U64Solutions
     ensures answer { (pos 0 <ℤ pos m) → (pos 0 <ℤ pos n)
@@ -227,25 +254,29 @@ pub extern "C" fn cellarcove_chinese_remainder_u64(a: u64, m: u64, b: u64, n: u6
         (pos first) (pos step)) }
     ensures bad_modulus { (result.status ≡ bad_modulus) ↔ ((pos m ≤ℤ pos 0) ⊎ (pos n ≤ℤ pos 0)) }
     ensures not_fitting { (result.status ≡ not_fitting) ↔ ((pos 0 <ℤ pos m) × (pos 0 <ℤ pos n)
-        × (¬ (EachFits (FitsUnsignedBits 64) (IsLeastCommonMultiple (pos m) (pos n))))) }
+        × (¬ (EachFits (FitsUnsignedBits 64) (IsLeastCommonMultiple (pos m) (pos n))))
+        × ((x : ℤ) × SolvesBothCongruences (pos a) (pos m) (pos b) (pos n) x)) }
+    ensures no_solution { (result.status ≡ no_solution) ↔ ((pos 0 <ℤ pos m) × (pos 0 <ℤ pos n)
+        × ((x : ℤ) → ¬ (SolvesBothCongruences (pos a) (pos m) (pos b) (pos n) x))) }
     ensures refusal { result.status ≢ 0 → (result.first ≡ 0) × (result.step ≡ 0)
         × ((result.status ≡ bad_modulus)
         ⊎ ((result.status ≡ not_fitting) ⊎ (result.status ≡ no_solution))) }
 {
     if m == 0 || n == 0 {
         U64Solutions::none(BAD_MODULUS)
-    } else if !m.lcm_fits(&n) {
-        U64Solutions::none(NOT_FITTING)
-    } else {
+    } else if m.lcm_fits(&n) {
         match chinese_remainder(a, m, b, n) {
             Some((first, step)) => U64Solutions::some(first, step),
             None => U64Solutions::none(NO_SOLUTION),
         }
+    } else {
+        U64Solutions::none(reason_for_unsigned_congruences(a, m, b, n))
     }
 }
 
-/// Returns the least number from `from` on that is `first` modulo `step`. For 10, 1 and 4 it is
-/// 13.
+/// Returns the smallest number from `from` on that is `first` modulo `step`. For 10, 1 and 4 it is 13.
+///
+/// `BAD_MODULUS` if `step` is not positive. `NOT_FITTING` if the number does not fit.
 #[unsafe(no_mangle)]
 pub extern "C" fn cellarcove_next_congruent_i64(from: i64, first: i64, step: i64) -> I64Answer
     ensures answer { (pos 0 <ℤ step) → MatchOption (answer_of result.status result.value)
@@ -265,7 +296,9 @@ pub extern "C" fn cellarcove_next_congruent_i64(from: i64, first: i64, step: i64
     }
 }
 
-/// Returns the least number from `from` on that is `first` modulo `step`. For 10, 1 and 4 it is 13.
+/// Returns the smallest number from `from` on that is `first` modulo `step`. For 10, 1 and 4 it is 13.
+///
+/// `BAD_MODULUS` if `step` is 0. `NOT_FITTING` if the number does not fit.
 #[unsafe(no_mangle)]
 pub extern "C" fn cellarcove_next_congruent_u64(from: u64, first: u64, step: u64) -> U64Answer
     ensures answer { (pos 0 <ℤ pos step) → MatchOption (answer_of result.status result.value)
@@ -285,8 +318,11 @@ pub extern "C" fn cellarcove_next_congruent_u64(from: u64, first: u64, step: u64
     }
 }
 
-/// Returns the least number from `from` on that is `a` modulo `m` and `b` modulo `n`. The least
+/// Returns the smallest number from `from` on that is `a` modulo `m` and `b` modulo `n`. The least
 /// common multiple of `m` and `n` need not fit. For 10, 1, 4, 3 and 6 it is 21.
+///
+/// `BAD_MODULUS` if `m` or `n` is not positive. `NO_SOLUTION` if there is no such number. `NOT_FITTING`
+/// if it does not fit.
 #[unsafe(no_mangle)]
 pub extern "C" fn cellarcove_next_common_solution_i64(
     from: i64,
@@ -315,8 +351,11 @@ pub extern "C" fn cellarcove_next_common_solution_i64(
     }
 }
 
-/// Returns the least number from `from` on that is `a` modulo `m` and `b` modulo `n`. The least
+/// Returns the smallest number from `from` on that is `a` modulo `m` and `b` modulo `n`. The least
 /// common multiple of `m` and `n` need not fit. For 10, 1, 4, 3 and 6 it is 21.
+///
+/// `BAD_MODULUS` if `m` or `n` is 0. `NO_SOLUTION` if there is no such number. `NOT_FITTING` if it does
+/// not fit.
 #[unsafe(no_mangle)]
 pub extern "C" fn cellarcove_next_common_solution_u64(
     from: u64,
@@ -347,8 +386,8 @@ pub extern "C" fn cellarcove_next_common_solution_u64(
 }
 
 impl I64Solutions {
-    /// Returns an answer.
-    fn some(first: i64, step: i64) -> I64Solutions
+    /// Returns a result.
+    pub(crate) fn some(first: i64, step: i64) -> I64Solutions
         ensures { result ≡ record { status = 0; first = first; step = step } }
     {
         I64Solutions {
@@ -358,8 +397,8 @@ impl I64Solutions {
         }
     }
 
-    /// Returns a refusal.
-    fn none(status: u32) -> I64Solutions
+    /// Returns a rejection.
+    pub(crate) fn none(status: u32) -> I64Solutions
         ensures { result ≡ record { status = status; first = pos 0; step = pos 0 } }
     {
         I64Solutions {
@@ -371,8 +410,8 @@ impl I64Solutions {
 }
 
 impl U64Solutions {
-    /// Returns an answer.
-    fn some(first: u64, step: u64) -> U64Solutions
+    /// Returns a result.
+    pub(crate) fn some(first: u64, step: u64) -> U64Solutions
         ensures { result ≡ record { status = 0; first = first; step = step } }
     {
         U64Solutions {
@@ -382,8 +421,8 @@ impl U64Solutions {
         }
     }
 
-    /// Returns a refusal.
-    fn none(status: u32) -> U64Solutions
+    /// Returns a rejection.
+    pub(crate) fn none(status: u32) -> U64Solutions
         ensures { result ≡ record { status = status; first = 0; step = 0 } }
     {
         U64Solutions {
@@ -391,5 +430,37 @@ impl U64Solutions {
             first: 0,
             step: 0,
         }
+    }
+}
+
+/// Returns why two congruences have no class of solutions, if the least common multiple of their moduli
+/// does not fit.
+fn reason_for_congruences(a: i64, m: i64, b: i64, n: i64) -> u32
+    requires m_positive { pos 0 <ℤ m }
+    requires n_positive { pos 0 <ℤ n }
+    ensures not_fitting { (result ≡ not_fitting) ↔ ((x : ℤ) × SolvesBothCongruences a m b n x) }
+    ensures no_solution { (result ≡ no_solution)
+        ↔ ((x : ℤ) → ¬ (SolvesBothCongruences a m b n x)) }
+    ensures refusal { (result ≡ not_fitting) ⊎ (result ≡ no_solution) }
+{
+    match next_common_solution(0, a, m, b, n) {
+        CommonSolution::Never => NO_SOLUTION,
+        _ => NOT_FITTING,
+    }
+}
+
+/// Returns why two congruences have no class of solutions, if the least common multiple of their moduli
+/// does not fit.
+fn reason_for_unsigned_congruences(a: u64, m: u64, b: u64, n: u64) -> u32
+    requires m_positive { pos 0 <ℤ pos m }
+    requires n_positive { pos 0 <ℤ pos n }
+    ensures not_fitting { (result ≡ not_fitting) ↔ ((x : ℤ) × SolvesBothCongruences (pos a) (pos m) (pos b) (pos n) x) }
+    ensures no_solution { (result ≡ no_solution)
+        ↔ ((x : ℤ) → ¬ (SolvesBothCongruences (pos a) (pos m) (pos b) (pos n) x)) }
+    ensures refusal { (result ≡ not_fitting) ⊎ (result ≡ no_solution) }
+{
+    match next_common_solution(0, a, m, b, n) {
+        CommonSolution::Never => NO_SOLUTION,
+        _ => NOT_FITTING,
     }
 }

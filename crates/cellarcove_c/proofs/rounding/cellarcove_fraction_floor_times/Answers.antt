@@ -1,7 +1,7 @@
 use Rattle.std.proofs.Common.{refl}
 use Rattle.std.specs.Int.{w64}
 use Rattle.std.proofs.lemmas.Int.{to_z-of_z}
-use Rattle.cellarcove_c.proofs.fractions.cellarcove_fraction_floor_times.Goals as goal
+use Rattle.cellarcove_c.proofs.rounding.cellarcove_fraction_floor_times.Goals as goal
 
 pub returns-in-None : goal.returns-in-None
 returns-in-None c =

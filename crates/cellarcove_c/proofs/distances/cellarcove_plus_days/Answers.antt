@@ -1,0 +1,8 @@
+use Rattle.std.specs.Int.{w64}
+use Rattle.std.proofs.lemmas.Int.{to_z-of_z}
+use Rattle.cellarcove_c.proofs.distances.cellarcove_plus_days.Goals as goal
+
+pub returns-in-None-plus_days-clause-not_fitting : goal.returns-in-None-plus_days-clause-not_fitting
+returns-in-None-plus_days-clause-not_fitting c = λ _ year month day valid later.
+    c.in-None-plus_days.ensures (record { year = year; month = month; day_of_month = day; valid = valid })
+    (rw (c.in-Some.ensures.2, to_z-of_z w64 c.args.days c.ranges.days) later)

@@ -1,0 +1,139 @@
+//! Fractions rounded to integers. A fraction that is passed is reduced first.
+
+ghost use Rattle.std.specs.Prelude.{◌≡◌, ◌≢◌, ◌*ℤ◌, pos, FitsSigned, Result, MatchResult};
+ghost use Rattle.std.specs.Int.{w64};
+ghost use Rattle.num_integer.specs.Checked.{AnswersWhere};
+ghost use Rattle.num_integer.specs.Division.{IsCeiled, IsFloored, IsQuotient};
+ghost use Rattle.num_integer.specs.Range.{EachFits};
+ghost use Rattle.ratio64.specs.Ratio.{AnswersFraction, den_of, num_of};
+ghost use Rattle.ratio64.specs.RatioError.{number_of};
+ghost use Rattle.ratio64.specs.Rounding.{IsRounded};
+ghost use Rattle.ratio64.specs.declared.error.RatioError.{RatioError};
+ghost use Rattle.ratio64.specs.declared.fraction.Ratio.{Ratio};
+ghost use Rattle.cellarcove_c.specs.Fractions.{StandsForNumber};
+ghost use Rattle.cellarcove_c.specs.Statuses.{answer_of, not_fitting};
+
+use crate::answers::{I64Answer, NOT_FITTING};
+use crate::fractions::Fraction;
+
+/// Returns the fraction rounded down. That of -3/2 is -2.
+///
+/// `ZERO_DENOMINATOR` if the denominator is 0. `NOT_FITTING` if a part of the reduced fraction does not
+/// fit.
+#[unsafe(no_mangle)]
+pub extern "C" fn cellarcove_fraction_floor(a: Fraction) -> I64Answer
+    ensures { (p : Result Ratio RatioError) × AnswersFraction a.num a.den p
+        × StandsForNumber p result.status result.value
+        (λ x. IsQuotient IsFloored (num_of x) (den_of x) result.value) }
+{
+    match a.reduced() {
+        Ok(x) => I64Answer::some(x.floor()),
+        Err(error) => I64Answer::none(error.number()),
+    }
+}
+
+/// Returns the fraction rounded up. That of -3/2 is -1.
+///
+/// `ZERO_DENOMINATOR` if the denominator is 0. `NOT_FITTING` if a part of the reduced fraction does not
+/// fit.
+#[unsafe(no_mangle)]
+pub extern "C" fn cellarcove_fraction_ceil(a: Fraction) -> I64Answer
+    ensures { (p : Result Ratio RatioError) × AnswersFraction a.num a.den p
+        × StandsForNumber p result.status result.value
+        (λ x. IsQuotient IsCeiled (num_of x) (den_of x) result.value) }
+{
+    match a.reduced() {
+        Ok(x) => I64Answer::some(x.ceil()),
+        Err(error) => I64Answer::none(error.number()),
+    }
+}
+
+/// Returns the nearest integer, and of two that are equally near the one farther from 0. That of -3/2
+/// is -2.
+///
+/// `ZERO_DENOMINATOR` if the denominator is 0. `NOT_FITTING` if a part of the reduced fraction does not
+/// fit.
+#[unsafe(no_mangle)]
+pub extern "C" fn cellarcove_fraction_round(a: Fraction) -> I64Answer
+    ensures { (p : Result Ratio RatioError) × AnswersFraction a.num a.den p
+        × StandsForNumber p result.status result.value
+        (λ x. IsRounded (num_of x) (den_of x) result.value) }
+{
+    match a.reduced() {
+        Ok(x) => I64Answer::some(x.round()),
+        Err(error) => I64Answer::none(error.number()),
+    }
+}
+
+/// Returns the fraction times `n`, rounded down. That of 2/3 and 100 is 66.
+///
+/// `ZERO_DENOMINATOR` if the denominator is 0. `NOT_FITTING` if a part of the reduced fraction does not
+/// fit, or the result.
+#[unsafe(no_mangle)]
+pub extern "C" fn cellarcove_fraction_floor_times(a: Fraction, n: i64) -> I64Answer
+    ensures { (p : Result Ratio RatioError) × AnswersFraction a.num a.den p
+        × MatchResult p
+        (λ x. AnswersWhere
+        (EachFits (FitsSigned w64) (IsQuotient IsFloored (num_of x *ℤ n) (den_of x)))
+        (IsQuotient IsFloored (num_of x *ℤ n) (den_of x))
+        (answer_of result.status result.value)
+        × (result.status ≢ 0 → result ≡ record { status = not_fitting; value = pos 0 }))
+        (λ e. result ≡ record { status = number_of e; value = pos 0 }) }
+{
+    match a.reduced() {
+        Ok(x) => match x.floor_times(n) {
+            Some(whole) => I64Answer::some(whole),
+            None => I64Answer::none(NOT_FITTING),
+        },
+        Err(error) => I64Answer::none(error.number()),
+    }
+}
+
+/// Returns the fraction times `n`, rounded up. That of 2/3 and 100 is 67.
+///
+/// `ZERO_DENOMINATOR` if the denominator is 0. `NOT_FITTING` if a part of the reduced fraction does not
+/// fit, or the result.
+#[unsafe(no_mangle)]
+pub extern "C" fn cellarcove_fraction_ceil_times(a: Fraction, n: i64) -> I64Answer
+    ensures { (p : Result Ratio RatioError) × AnswersFraction a.num a.den p
+        × MatchResult p
+        (λ x. AnswersWhere
+        (EachFits (FitsSigned w64) (IsQuotient IsCeiled (num_of x *ℤ n) (den_of x)))
+        (IsQuotient IsCeiled (num_of x *ℤ n) (den_of x))
+        (answer_of result.status result.value)
+        × (result.status ≢ 0 → result ≡ record { status = not_fitting; value = pos 0 }))
+        (λ e. result ≡ record { status = number_of e; value = pos 0 }) }
+{
+    match a.reduced() {
+        Ok(x) => match x.ceil_times(n) {
+            Some(whole) => I64Answer::some(whole),
+            None => I64Answer::none(NOT_FITTING),
+        },
+        Err(error) => I64Answer::none(error.number()),
+    }
+}
+
+/// Returns the integer nearest to the fraction times `n`, and of two that are equally near the one
+/// farther from 0. That of 1/2 and -3 is -2.
+///
+/// `ZERO_DENOMINATOR` if the denominator is 0. `NOT_FITTING` if a part of the reduced fraction does not
+/// fit, or the result.
+#[unsafe(no_mangle)]
+pub extern "C" fn cellarcove_fraction_round_times(a: Fraction, n: i64) -> I64Answer
+    ensures { (p : Result Ratio RatioError) × AnswersFraction a.num a.den p
+        × MatchResult p
+        (λ x. AnswersWhere
+        (EachFits (FitsSigned w64) (IsRounded (num_of x *ℤ n) (den_of x)))
+        (IsRounded (num_of x *ℤ n) (den_of x))
+        (answer_of result.status result.value)
+        × (result.status ≢ 0 → result ≡ record { status = not_fitting; value = pos 0 }))
+        (λ e. result ≡ record { status = number_of e; value = pos 0 }) }
+{
+    match a.reduced() {
+        Ok(x) => match x.round_times(n) {
+            Some(whole) => I64Answer::some(whole),
+            None => I64Answer::none(NOT_FITTING),
+        },
+        Err(error) => I64Answer::none(error.number()),
+    }
+}

@@ -1,0 +1,60 @@
+//! Years, their months and weeks, and their days.
+
+ghost use Rattle.std.specs.Prelude.{◌≡◌, ◌≢◌, ◌+◌, ◌≤◌};
+ghost use Rattle.calendar.specs.IsoWeeks.{HasIsoWeeks};
+ghost use Rattle.calendar.specs.LeapYears.{is_leap_year};
+ghost use Rattle.calendar.specs.Months.{IsDate, days_before_month, days_in_month};
+ghost use Rattle.num_integer.specs.Checked.{AnswersWhere};
+ghost use Rattle.cellarcove_c.specs.Statuses.{answer_of, no_date};
+
+use crate::answers::{NO_DATE, U64Answer};
+use crate::dates::Date;
+use calendar::{days_in_month, is_leap_year, weeks_in_year};
+
+/// Returns `true` if the year has a 29 February. 2000 and 0 have one, and 1900 and -1 do not.
+#[unsafe(no_mangle)]
+pub extern "C" fn cellarcove_is_leap_year(year: i64) -> bool
+    ensures { result ≡ is_leap_year year }
+{
+    is_leap_year(year)
+}
+
+/// Returns how many weeks of ISO 8601 the year has: 52 or 53. 2020 has 53.
+#[unsafe(no_mangle)]
+pub extern "C" fn cellarcove_weeks_in_year(year: i64) -> u8
+    ensures { HasIsoWeeks year result }
+{
+    weeks_in_year(year)
+}
+
+/// Returns how many days the month has; January is 1. February 1900 has 28.
+///
+/// `NO_DATE` if `month` is not from 1 to 12.
+#[unsafe(no_mangle)]
+pub extern "C" fn cellarcove_days_in_month(year: i64, month: u8) -> U64Answer
+    ensures answer { AnswersWhere ((1 ≤ month) × (month ≤ 12))
+        (λ days. days ≡ days_in_month year month) (answer_of result.status result.value) }
+    ensures refusal { result.status ≢ 0 → result ≡ record { status = no_date; value = 0 } }
+{
+    if (1..=12).contains(&month) {
+        U64Answer::some(u64::from(days_in_month(year, month)))
+    } else {
+        U64Answer::none(NO_DATE)
+    }
+}
+
+/// Returns the day of the year of a date; 1 January is 1. That of 2000-12-31 is 366.
+///
+/// `NO_DATE` if there is no such date.
+#[unsafe(no_mangle)]
+pub extern "C" fn cellarcove_day_of_year(date: Date) -> U64Answer
+    ensures answer { AnswersWhere (IsDate date.year date.month date.day_of_month)
+        (λ day. day ≡ days_before_month date.year date.month + date.day_of_month)
+        (answer_of result.status result.value) }
+    ensures refusal { result.status ≢ 0 → result ≡ record { status = no_date; value = 0 } }
+{
+    match date.found() {
+        Some(found) => U64Answer::some(u64::from(found.day_of_year())),
+        None => U64Answer::none(NO_DATE),
+    }
+}
