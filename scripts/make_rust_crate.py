@@ -23,6 +23,7 @@ import rust_docs
 import rust_errors
 import rust_guards
 import rust_operators
+import rust_style
 import samples
 from rattle_source import Unknown
 from library import AT_ROOT, CRATES, ROOT, RustLibrary
@@ -385,6 +386,7 @@ def write(out):
     made['lib.rs'] = head_of_root(library, others, made['lib.rs'])
     for place, text in others.items():
         made[place] = made_from(f'rust/by_hand/src/{place}') + text
+    made = rust_style.with_style(made)
     words = rust_docs.definitions(page, (BY_HAND / 'definitions.md').read_text())
     made['definitions.rs'] = made_from('crates/*/specs and rust/by_hand/definitions.md') + words
     for place, text in made.items():

@@ -40,10 +40,10 @@ pub(crate) struct RunningMultinomial {
 
 impl RunningMultinomial {
     /// Returns the same with one more count, or `None` where the multinomial is then above `most`.
-    pub(crate) fn with_count(self, count: u128, most: u128) -> Option<RunningMultinomial> {
+    pub(crate) fn with_count(self, count: u128, most: u128) -> Option<Self> {
         let total = self.total.checked_add(count)?;
         let ways = coefficient_within(total, count, most / self.multinomial)?;
-        Some(RunningMultinomial {
+        Some(Self {
             total,
             multinomial: self.multinomial * ways,
         })

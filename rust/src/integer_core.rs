@@ -743,6 +743,7 @@ pub trait Integer: Sized + Num + PartialOrd + Ord + Eq {
     #[doc(hidden)]
     #[inline]
     #[track_caller]
+    #[must_use]
     fn exact_sum(self, other: Self, _reason: &'static str) -> Self {
         self + other
     }
@@ -750,6 +751,7 @@ pub trait Integer: Sized + Num + PartialOrd + Ord + Eq {
     #[doc(hidden)]
     #[inline]
     #[track_caller]
+    #[must_use]
     fn exact_difference(self, other: Self, _reason: &'static str) -> Self {
         self - other
     }
@@ -757,6 +759,7 @@ pub trait Integer: Sized + Num + PartialOrd + Ord + Eq {
     #[doc(hidden)]
     #[inline]
     #[track_caller]
+    #[must_use]
     fn exact_product(self, other: Self, _reason: &'static str) -> Self {
         self * other
     }

@@ -27,19 +27,19 @@ pub struct RollingHash {
 impl RollingHash {
     /// Returns the `base`.
     #[must_use]
-    pub fn base(&self) -> u64 {
+    pub const fn base(&self) -> u64 {
         self.base
     }
 
     /// Returns the `modulus`.
     #[must_use]
-    pub fn modulus(&self) -> u64 {
+    pub const fn modulus(&self) -> u64 {
         self.modulus
     }
 
     /// How many bytes of a window stay when it slides.
     #[must_use]
-    pub fn kept(&self) -> u64 {
+    pub const fn kept(&self) -> u64 {
         self.kept
     }
 }
@@ -71,9 +71,9 @@ impl RollingHash {
     /// </details>
     #[track_caller]
     #[must_use]
-    pub fn new(base: u64, modulus: u64, kept: u64) -> RollingHash {
+    pub fn new(base: u64, modulus: u64, kept: u64) -> Self {
         assert!(modulus > 0, "the modulus is not positive");
-        RollingHash {
+        Self {
             base,
             modulus,
             kept,

@@ -44,8 +44,8 @@ impl<T: Integer + Copy> IterBinomial<T> {
     ///
     /// </details>
     #[must_use]
-    pub fn new(n: T) -> IterBinomial<T> {
-        IterBinomial {
+    pub fn new(n: T) -> Self {
+        Self {
             n,
             k: T::zero(),
             item: T::one(),

@@ -26,9 +26,9 @@ impl Date {
     ///
     /// </details>
     #[must_use]
-    pub fn plus_months(&self, months: i64) -> Option<Date> {
+    pub fn plus_months(&self, months: i64) -> Option<Self> {
         let (year, month) = month_of(self.month_number() + i128::from(months))?;
-        Some(Date {
+        Some(Self {
             year,
             month,
             day_of_month: self.day_of_month.min(days_in_month(year, month)),

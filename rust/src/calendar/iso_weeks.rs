@@ -69,10 +69,10 @@ impl Date {
     ///
     /// </details>
     #[must_use]
-    pub fn from_iso_week(year: i64, week: u8, weekday: Weekday) -> Option<Date> {
+    pub fn from_iso_week(year: i64, week: u8, weekday: Weekday) -> Option<Self> {
         let thursday = thursday_of_iso_week(year, week);
         if is_in_year(year, thursday) {
-            Date::near(year, day_of_week(thursday, weekday))
+            Self::near(year, day_of_week(thursday, weekday))
         } else {
             None
         }

@@ -75,7 +75,7 @@ impl fmt::Display for Date {
 impl FromStr for Date {
     type Err = DateError;
 
-    fn from_str(text: &str) -> Result<Date, DateError> {
+    fn from_str(text: &str) -> Result<Self, DateError> {
         read_date(text).ok_or(DateError)
     }
 }

@@ -71,7 +71,7 @@ impl Weekday {
     ///
     /// </details>
     #[must_use]
-    pub fn from_iso_number(number: u8) -> Option<Weekday> {
+    pub fn from_iso_number(number: u8) -> Option<Self> {
         if (1..=7).contains(&number) {
             Some(weekday_after_sunday(u32::from(number)))
         } else {
@@ -86,7 +86,7 @@ impl Weekday {
 
     /// Returns the number of days from this day of the week to the next day that has the other, which
     /// is 0 where they are the same.
-    pub(crate) fn days_until(self, other: Weekday) -> u8 {
+    pub(crate) fn days_until(self, other: Self) -> u8 {
         (other.days_after_sunday() + 7 - self.days_after_sunday()) % 7
     }
 }

@@ -27,8 +27,8 @@ struct Row<A> {
 
 impl<T: Integer> Row<T> {
     /// The first operand as a row.
-    fn of_first(a: T) -> Row<T> {
-        Row {
+    fn of_first(a: T) -> Self {
+        Self {
             remainder: a,
             x: T::one(),
             y: T::zero(),

@@ -142,40 +142,40 @@ pub trait Magnitude: Copy + ToPrimitive {
 
 impl Magnitude for u64 {
     #[inline]
-    fn successor(self) -> u64 {
+    fn successor(self) -> Self {
         successor(self)
     }
 
-    fn positive_gcd(a: u64, b: u64) -> (u64, u32) {
+    fn positive_gcd(a: Self, b: Self) -> (Self, u32) {
         positive_gcd(a, b)
     }
 
-    fn shared_power_of_two(a: u64, b: u64) -> u64 {
+    fn shared_power_of_two(a: Self, b: Self) -> Self {
         shared_power_of_two(a, b)
     }
 
     #[track_caller]
-    fn positive_lcm(a: u64, b: u64) -> u64 {
+    fn positive_lcm(a: Self, b: Self) -> Self {
         positive_lcm(a, b)
     }
 }
 
 impl Magnitude for u128 {
     #[inline]
-    fn successor(self) -> u128 {
+    fn successor(self) -> Self {
         successor(self)
     }
 
-    fn positive_gcd(a: u128, b: u128) -> (u128, u32) {
+    fn positive_gcd(a: Self, b: Self) -> (Self, u32) {
         positive_gcd(a, b)
     }
 
-    fn shared_power_of_two(a: u128, b: u128) -> u128 {
+    fn shared_power_of_two(a: Self, b: Self) -> Self {
         shared_power_of_two(a, b)
     }
 
     #[track_caller]
-    fn positive_lcm(a: u128, b: u128) -> u128 {
+    fn positive_lcm(a: Self, b: Self) -> Self {
         positive_lcm(a, b)
     }
 }

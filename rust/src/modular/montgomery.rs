@@ -13,8 +13,8 @@ pub(crate) struct Montgomery {
 
 impl Montgomery {
     /// Returns the form of an odd modulus.
-    pub(crate) fn new(m: u64) -> Montgomery {
-        Montgomery {
+    pub(crate) fn new(m: u64) -> Self {
+        Self {
             modulus: m,
             inverse: word_inverse(m),
         }

@@ -23,9 +23,9 @@ struct SplitModulus {
 
 impl SplitModulus {
     /// Returns the form of a modulus.
-    fn new(m: u64) -> SplitModulus {
+    fn new(m: u64) -> Self {
         let twos = m.trailing_zeros();
-        SplitModulus {
+        Self {
             odd: Montgomery::new(m >> twos),
             twos,
         }

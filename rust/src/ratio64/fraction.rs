@@ -64,8 +64,8 @@ impl Ratio {
     /// [how to read it](crate::definitions).
     ///
     /// </details>
-    pub fn new(num: i64, den: i64) -> Result<Ratio, RatioError> {
-        Ratio::reduced(i128::from(num), i128::from(den))
+    pub fn new(num: i64, den: i64) -> Result<Self, RatioError> {
+        Self::reduced(i128::from(num), i128::from(den))
     }
 
     /// Returns the numerator of the reduced fraction. That of 6/-4 is `-3`.
@@ -82,7 +82,7 @@ impl Ratio {
     ///
     /// </details>
     #[must_use]
-    pub fn num(&self) -> i64 {
+    pub const fn num(&self) -> i64 {
         self.num
     }
 
@@ -100,7 +100,7 @@ impl Ratio {
     ///
     /// </details>
     #[must_use]
-    pub fn den(&self) -> i64 {
+    pub const fn den(&self) -> i64 {
         self.den
     }
 
@@ -169,7 +169,7 @@ impl Ratio {
     /// [how to read it](crate::definitions).
     ///
     /// </details>
-    pub fn checked_add(&self, other: &Ratio) -> Result<Ratio, RatioError> {
+    pub fn checked_add(&self, other: &Self) -> Result<Self, RatioError> {
         self.over_both(other, sum(self.num, self.den, other.num, other.den))
     }
 
@@ -196,7 +196,7 @@ impl Ratio {
     /// [how to read it](crate::definitions).
     ///
     /// </details>
-    pub fn checked_sub(&self, other: &Ratio) -> Result<Ratio, RatioError> {
+    pub fn checked_sub(&self, other: &Self) -> Result<Self, RatioError> {
         self.over_both(other, difference(self.num, self.den, other.num, other.den))
     }
 
@@ -222,7 +222,7 @@ impl Ratio {
     /// [how to read it](crate::definitions).
     ///
     /// </details>
-    pub fn checked_mul(&self, other: &Ratio) -> Result<Ratio, RatioError> {
+    pub fn checked_mul(&self, other: &Self) -> Result<Self, RatioError> {
         self.over_both(other, product(self.num, other.num))
     }
 
@@ -251,8 +251,8 @@ impl Ratio {
     /// [how to read it](crate::definitions).
     ///
     /// </details>
-    pub fn checked_div(&self, other: &Ratio) -> Result<Ratio, RatioError> {
-        Ratio::reduced(product(self.num, other.den), product(other.num, self.den))
+    pub fn checked_div(&self, other: &Self) -> Result<Self, RatioError> {
+        Self::reduced(product(self.num, other.den), product(other.num, self.den))
     }
 
     /// Returns the reciprocal `den / num`, or `ZeroDenominator` where the fraction is 0, or
@@ -280,22 +280,22 @@ impl Ratio {
     /// [how to read it](crate::definitions).
     ///
     /// </details>
-    pub fn checked_recip(&self) -> Result<Ratio, RatioError> {
-        Ratio::new(self.den, self.num)
+    pub fn checked_recip(&self) -> Result<Self, RatioError> {
+        Self::new(self.den, self.num)
     }
 
     /// Returns the fraction of `num` over the product of the two denominators.
-    fn over_both(&self, other: &Ratio, num: i128) -> Result<Ratio, RatioError> {
-        Ratio::reduced(num, product(self.den, other.den))
+    fn over_both(&self, other: &Self, num: i128) -> Result<Self, RatioError> {
+        Self::reduced(num, product(self.den, other.den))
     }
 
     /// Returns the fraction `num / den`, with both parts divided by their greatest common divisor.
-    pub(crate) fn reduced(num: i128, den: i128) -> Result<Ratio, RatioError> {
+    pub(crate) fn reduced(num: i128, den: i128) -> Result<Self, RatioError> {
         if den == 0 {
             return Err(RatioError::ZeroDenominator);
         }
         let (num, den) = lowest_terms(num, den)?;
-        Ok(Ratio { num, den })
+        Ok(Self { num, den })
     }
 
     /// Returns the numerator: another name of [`Ratio::num`].
@@ -308,7 +308,7 @@ impl Ratio {
     /// assert_eq!(Ratio::new(6, -4).map(|ratio| ratio.numer()), Ok(-3));
     /// ```
     #[must_use]
-    pub fn numer(&self) -> i64 {
+    pub const fn numer(&self) -> i64 {
         self.num
     }
 
@@ -322,7 +322,7 @@ impl Ratio {
     /// assert_eq!(Ratio::new(6, -4).map(|ratio| ratio.denom()), Ok(2));
     /// ```
     #[must_use]
-    pub fn denom(&self) -> i64 {
+    pub const fn denom(&self) -> i64 {
         self.den
     }
 }
@@ -350,7 +350,7 @@ impl Ratio {
 ///
 /// </details>
 impl From<i64> for Ratio {
-    fn from(num: i64) -> Ratio {
-        Ratio { num, den: 1 }
+    fn from(num: i64) -> Self {
+        Self { num, den: 1 }
     }
 }

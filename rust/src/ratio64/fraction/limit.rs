@@ -35,7 +35,7 @@ impl Ratio {
     /// </details>
     #[track_caller]
     #[must_use]
-    pub fn limit_denominator(&self, max: i64) -> Ratio {
+    pub fn limit_denominator(&self, max: i64) -> Self {
         assert!(max > 0, "the limit is not positive");
         if self.den <= max {
             return *self;
@@ -48,7 +48,7 @@ impl Ratio {
         );
         let (below, above) = neighbours(part, den, limit);
         let nearest = nearer(below, above);
-        Ratio {
+        Self {
             num: numerator(whole, nearest),
             den: nearest.den as i64,
         }

@@ -34,7 +34,7 @@ impl Ratio {
     /// [how to read it](crate::definitions).
     ///
     /// </details>
-    pub fn checked_pow(&self, exponent: i32) -> Result<Ratio, RatioError> {
+    pub fn checked_pow(&self, exponent: i32) -> Result<Self, RatioError> {
         if exponent < 0 {
             self.checked_recip()?.power(exponent.unsigned_abs())
         } else {
@@ -43,10 +43,10 @@ impl Ratio {
     }
 
     /// Returns the power of a degree that is at least 0. The power of a reduced fraction is reduced.
-    fn power(&self, degree: u32) -> Result<Ratio, RatioError> {
+    fn power(&self, degree: u32) -> Result<Self, RatioError> {
         let num = checked_power(self.num, degree)?;
         let den = checked_power(self.den, degree)?;
-        Ok(Ratio { num, den })
+        Ok(Self { num, den })
     }
 }
 

@@ -68,9 +68,9 @@ impl Ratio {
     ///
     /// </details>
     #[must_use]
-    pub fn fract(&self) -> Ratio {
+    pub fn fract(&self) -> Self {
         let (_, rest) = div_rem(self.num, self.den);
-        Ratio {
+        Self {
             num: rest,
             den: self.den,
         }
