@@ -45,8 +45,8 @@ impl RollingHash {
 }
 
 impl RollingHash {
-    /// Returns the hash of windows that have one byte more than `kept`. `RollingHash::new(10, 97, 2)`
-    /// is that of windows of three bytes.
+    /// Returns the hash of windows that have one byte more than `kept`. `RollingHash::new(10, 97,
+    /// 2)` is that of windows of three bytes.
     ///
     /// May be called where `modulus` is above 0.
     ///
@@ -56,8 +56,8 @@ impl RollingHash {
     ///
     /// <details><summary>Proved</summary>
     ///
-    /// Of the source, in Rattle: where each `requires` holds, the call returns, and then each `ensures`
-    /// holds.
+    /// Of the source, in Rattle: where each `requires` holds, the call returns, and then each
+    /// `ensures` holds.
     ///
     /// ```text
     /// requires positive { 0 < modulus }
@@ -80,8 +80,8 @@ impl RollingHash {
         }
     }
 
-    /// Returns the sum of the bytes, each times the base to the power of the number of bytes after it,
-    /// modulo the modulus.
+    /// Returns the sum of the bytes, each times the base to the power of the number of bytes after
+    /// it, modulo the modulus.
     ///
     /// # Examples
     ///
@@ -132,7 +132,8 @@ impl RollingHash {
     ///
     /// ```text
     /// ensures { (kept : List ℕ) → length kept ≡ self.now.kept
-    ///     → IsResidue (pos self.now.modulus) (weighted_sum (pos self.now.base) (leaving ∷ kept)) (pos hash)
+    ///         → IsResidue (pos self.now.modulus) (weighted_sum (pos self.now.base) (leaving ∷
+    ///         kept)) (pos hash)
     ///     → IsResidue (pos self.now.modulus)
     ///     (weighted_sum (pos self.now.base) (kept ++ entering ∷ [])) (pos result) }
     /// ```

@@ -120,8 +120,8 @@ impl Date {
         }
     }
 
-    /// Returns the day of the date, counted from 1970-01-01, or `None` where it does not fit. That of
-    /// 1969-12-31 is `Some(-1)`.
+    /// Returns the day of the date, counted from 1970-01-01, or `None` where it does not fit. That
+    /// of 1969-12-31 is `Some(-1)`.
     ///
     /// <details><summary>Proved</summary>
     ///
@@ -222,7 +222,8 @@ impl Date {
         }
     }
 
-    /// Returns the day of the year of the date, which is 1 on 1 January. That of 2000-12-31 is `366`.
+    /// Returns the day of the year of the date, which is 1 on 1 January. That of 2000-12-31 is
+    /// `366`.
     ///
     /// <details><summary>Proved</summary>
     ///
@@ -244,8 +245,8 @@ impl Date {
         days_before_month(self.year, self.month) + u16::from(self.day_of_month)
     }
 
-    /// Returns the date of a day of a year, of which 1 January is 1, or `None` where the year has no
-    /// such day.
+    /// Returns the date of a day of a year, of which 1 January is 1, or `None` where the year has
+    /// no such day.
     ///
     /// # Examples
     ///
@@ -266,7 +267,8 @@ impl Date {
     /// ```
     ///
     /// Words: [`days_in_year`](crate::definitions::calendar#days_in_year),
-    /// [`year_day_of`](crate::definitions::calendar#year_day_of), [how to read it](crate::definitions).
+    /// [`year_day_of`](crate::definitions::calendar#year_day_of),
+    /// [how to read it](crate::definitions).
     ///
     /// </details>
     #[must_use]
@@ -278,8 +280,8 @@ impl Date {
         }
     }
 
-    /// Returns the date `days` days after this one, or before it where `days` is negative, or `None`
-    /// where its year does not fit an `i64`. -1 day after 2000-03-01 is 2000-02-29.
+    /// Returns the date `days` days after this one, or before it where `days` is negative, or
+    /// `None` where its year does not fit an `i64`. -1 day after 2000-03-01 is 2000-02-29.
     ///
     /// <details><summary>Proved</summary>
     ///
@@ -287,7 +289,8 @@ impl Date {
     ///
     /// ```text
     /// ensures { MatchOption result
-    ///     ((date : Date) → number_of date ≡ number_of self.now +ℤ days → ¬ (FitsSigned w64 date.year))
+    ///         ((date : Date) → number_of date ≡ number_of self.now +ℤ days → ¬ (FitsSigned w64
+    ///         date.year))
     ///     (λ date. number_of date ≡ number_of self.now +ℤ days) }
     /// ```
     ///
@@ -303,7 +306,8 @@ impl Date {
         Self::from_day_number(i64::from(day + rest) - 865566).eras_later(era + eras)
     }
 
-    /// Returns the date `eras` times 400 years after this one, or `None` where its year does not fit.
+    /// Returns the date `eras` times 400 years after this one, or `None` where its year does not
+    /// fit.
     fn eras_later(&self, eras: i64) -> Option<Self> {
         Some(Self {
             year: at_64_bits(i128::from(self.year) + 400 * i128::from(eras))?,
@@ -318,8 +322,8 @@ impl Date {
         146097 * i128::from(era) + i128::from(day) - 865566
     }
 
-    /// Returns the era of the year of the date, and the day of the date counted from 1 March of the year
-    /// 400 years before the era, which is 1.
+    /// Returns the era of the year of the date, and the day of the date counted from 1 March of the
+    /// year 400 years before the era, which is 1.
     pub(crate) fn day_of_era(&self) -> (i64, u32) {
         let (era, year) = era_of_year(self.year);
         let month = days_to_month(year, self.month);
@@ -336,8 +340,8 @@ impl Date {
         }
     }
 
-    /// Returns the date `days` days after 1 January of a year, or `None` where its year is beyond `i64`.
-    /// It is in the year or in the one before or after it.
+    /// Returns the date `days` days after 1 January of a year, or `None` where its year is beyond
+    /// `i64`. It is in the year or in the one before or after it.
     pub(crate) fn near(year: i64, days: i64) -> Option<Self> {
         let (year, days) = year_near(year, days)?;
         Some(Self::in_year(year, days))

@@ -46,8 +46,8 @@ fn odd_difference<M: PrimInt + Unsigned>(x: M, y: M) -> M {
     (x - y) >> shared_bits(x, y)
 }
 
-/// Returns the pair after a turn of the loop. The lesser number comes second, whichever place it had,
-/// so both arms are the same computation.
+/// Returns the pair after a turn of the loop. The lesser number comes second, whichever place it
+/// had, so both arms are the same computation.
 fn next_pair<M: PrimInt + Unsigned>(m: M, n: M) -> (M, M) {
     if is_smaller(n, m) {
         (odd_difference(m, n), n)
@@ -82,8 +82,8 @@ fn differ_beyond_64_bits<M: PrimInt + Unsigned>(m: M, n: M) -> bool {
     !is_same(m, n) && at_64_bits(m, n).is_none()
 }
 
-/// Returns the greatest common divisor of two odd numbers, and the turns of the loop, which goes on at
-/// 64 bits as soon as both numbers fit.
+/// Returns the greatest common divisor of two odd numbers, and the turns of the loop, which goes on
+/// at 64 bits as soon as both numbers fit.
 fn narrowing_gcd<M: PrimInt + Unsigned>(a: M, b: M) -> (M, u32) {
     let (mut m, mut n) = (a, b);
     let mut turns = 0;

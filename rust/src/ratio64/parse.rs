@@ -67,10 +67,10 @@ impl fmt::Display for ParseRatioError {
 #[cfg(has_error)]
 impl Error for ParseRatioError {}
 
-/// Reads the form that `Display` writes: `num/den`, or only `num`. Each part is an optional `-`, then
-/// digits. `"6/-4".parse().ok()` is `Ratio::new(-3, 2).ok()`, and `"+1"` and `"1/"` are no fractions.
-/// The fraction is reduced before its parts have to fit: `"18446744073709551614/2".parse()` is
-/// `Ok(Ratio::from(i64::MAX))`.
+/// Reads the form that `Display` writes: `num/den`, or only `num`. Each part is an optional `-`,
+/// then digits. `"6/-4".parse().ok()` is `Ratio::new(-3, 2).ok()`, and `"+1"` and `"1/"` are no
+/// fractions. The fraction is reduced before its parts have to fit:
+/// `"18446744073709551614/2".parse()` is `Ok(Ratio::from(i64::MAX))`.
 ///
 /// # Examples
 ///

@@ -78,7 +78,8 @@ impl Ratio {
         Self::from(self.num.signum())
     }
 
-    /// Returns the negation, or `NotFitting` where the numerator is `i64::MIN`. That of -3/2 is 3/2.
+    /// Returns the negation, or `NotFitting` where the numerator is `i64::MIN`. That of -3/2 is
+    /// 3/2.
     ///
     /// # Errors
     ///
@@ -96,8 +97,8 @@ impl Ratio {
     /// ```
     ///
     /// Words: [`AnswersFraction`](crate::definitions::ratio64#answersfraction),
-    /// [`num_of`](crate::definitions::ratio64#num_of), [`den_of`](crate::definitions::ratio64#den_of),
-    /// [how to read it](crate::definitions).
+    /// [`num_of`](crate::definitions::ratio64#num_of),
+    /// [`den_of`](crate::definitions::ratio64#den_of), [how to read it](crate::definitions).
     ///
     /// </details>
     pub fn checked_neg(&self) -> Result<Self, RatioError> {
@@ -107,7 +108,8 @@ impl Ratio {
         }
     }
 
-    /// Returns the magnitude, or `NotFitting` where the numerator is `i64::MIN`. That of -3/2 is 3/2.
+    /// Returns the magnitude, or `NotFitting` where the numerator is `i64::MIN`. That of -3/2 is
+    /// 3/2.
     ///
     /// # Errors
     ///
@@ -126,8 +128,8 @@ impl Ratio {
     /// ```
     ///
     /// Words: [`AnswersFraction`](crate::definitions::ratio64#answersfraction),
-    /// [`num_of`](crate::definitions::ratio64#num_of), [`den_of`](crate::definitions::ratio64#den_of),
-    /// [how to read it](crate::definitions).
+    /// [`num_of`](crate::definitions::ratio64#num_of),
+    /// [`den_of`](crate::definitions::ratio64#den_of), [how to read it](crate::definitions).
     ///
     /// </details>
     pub fn checked_abs(&self) -> Result<Self, RatioError> {

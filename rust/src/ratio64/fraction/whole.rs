@@ -44,8 +44,8 @@ impl Ratio {
         Self::from(1)
     }
 
-    /// Returns `true` if the fraction is a whole number, whose denominator is 1. 6/3 is one, and 1/2
-    /// is not.
+    /// Returns `true` if the fraction is a whole number, whose denominator is 1. 6/3 is one, and
+    /// 1/2 is not.
     ///
     /// <details><summary>Proved</summary>
     ///
