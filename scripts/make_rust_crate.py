@@ -23,9 +23,11 @@ import rust_docs
 import rust_errors
 import rust_guards
 import rust_operators
+import rust_style
 import samples
 from rattle_source import Unknown
 from library import AT_ROOT, CRATES, ROOT, RustLibrary
+from prose import within_columns
 
 REPOSITORY = pathlib.Path(__file__).resolve().parent.parent
 BY_HAND = REPOSITORY / 'rust' / 'by_hand'
@@ -357,7 +359,7 @@ def head_of_root(library, others, rust):
     by_hand = ''.join(f'mod {place[:-3]};\n' for place in others if '/' not in place)
     made, *lines = rust.splitlines(True)
     items = ''.join(line for line in lines if not line.startswith('//!')).lstrip()
-    head = made.replace(';', ' and rust/by_hand/head.rs;') + (BY_HAND / 'head.rs').read_text()
+    head = made + '// It also has what rust/by_hand/head.rs adds.\n' + (BY_HAND / 'head.rs').read_text()
     # Only the documentation has the module of definitions: no code can name it.
     return head + '\n#[cfg(doc)]\npub mod definitions;\n' + by_hand + modules + items
 
@@ -374,8 +376,8 @@ def write(out):
         if place in made:
             raise Unknown(f'{module.source.path}: a second module for src/{place}')
         rust = rust_operators.with_operators(f'rust/src/{place}', eraser.rust())
-        by_hand = f' and rust/by_hand/src/{place}' if place in additions.files else ''
-        made[place] = additions.add(place, made_from(f'{module.source.path}{by_hand}') + rust)
+        by_hand = f'// It also has what rust/by_hand/src/{place} adds.\n' if place in additions.files else ''
+        made[place] = additions.add(place, made_from(module.source.path) + by_hand + rust)
     rust_errors.see_all_used()
     for crate, name in ADDED.keys() - ADDED_TO:
         raise Unknown(f'scripts/make_rust_crate.py: crates/{crate} has no `{name}`, to which it adds attributes')
@@ -385,6 +387,7 @@ def write(out):
     made['lib.rs'] = head_of_root(library, others, made['lib.rs'])
     for place, text in others.items():
         made[place] = made_from(f'rust/by_hand/src/{place}') + text
+    made = rust_style.with_style(made)
     words = rust_docs.definitions(page, (BY_HAND / 'definitions.md').read_text())
     made['definitions.rs'] = made_from('crates/*/specs and rust/by_hand/definitions.md') + words
     for place, text in made.items():
@@ -394,6 +397,8 @@ def write(out):
                                capture_output=True, text=True)
     if formatted.returncode or formatted.stderr:
         raise Unknown('what is left is no Rust:\n' + formatted.stderr.replace(f'{out}/', ''))
+    for place in made:
+        (out / 'src' / place).write_text(within_columns((out / 'src' / place).read_text()))
 
 
 # ---- a test of what is refused

@@ -17,9 +17,10 @@ import tempfile
 
 import rust_bounds
 import rust_docs
-from make_rust_crate import BY_HAND, REPOSITORY, Eraser, made_from
-from rattle_source import Unknown
 from library import AT_ROOT, CRATES, RustLibrary
+from make_rust_crate import BY_HAND, REPOSITORY, Eraser, made_from
+from prose import within_columns
+from rattle_source import Unknown
 
 CRATE, PACKAGE = 'cellarcove_c', 'cellarcove'
 
@@ -140,6 +141,8 @@ def write(out, crates):
     formatted = subprocess.run(['rustfmt', '--edition', '2021', str(out / 'src' / 'lib.rs')], capture_output=True, text=True)
     if formatted.returncode or formatted.stderr:
         raise Unknown('what is left is no Rust:\n' + formatted.stderr.replace(f'{out}/', ''))
+    for file in (out / 'src').rglob('*.rs'):
+        file.write_text(within_columns(file.read_text()))
 
 
 # A form that is not known, by file, what it replaces, and what the refusal says.

@@ -3,8 +3,8 @@
 
 use crate::coefficients::factors;
 
-/// Returns the coefficient of `n` and `k + 1`, where `c` is that of `n` and `k`, or `None` where it is
-/// above `most`.
+/// Returns the coefficient of `n` and `k + 1`, where `c` is that of `n` and `k`, or `None` where it
+/// is above `most`.
 fn next_within(c: u128, n: u128, k: u128, most: u128) -> Option<u128> {
     let (x, y) = factors(c, n - k, k + 1);
     let next = x.checked_mul(y)?;
@@ -15,8 +15,8 @@ fn next_within(c: u128, n: u128, k: u128, most: u128) -> Option<u128> {
     }
 }
 
-/// Returns the coefficient of `n` and `k`, or `None` where it is above `most`. The loop stops at the
-/// first coefficient that is above `most`.
+/// Returns the coefficient of `n` and `k`, or `None` where it is above `most`. The loop stops at
+/// the first coefficient that is above `most`.
 pub(crate) fn coefficient_within(n: u128, k: u128, most: u128) -> Option<u128> {
     if k > n {
         return Some(0);
@@ -40,10 +40,10 @@ pub(crate) struct RunningMultinomial {
 
 impl RunningMultinomial {
     /// Returns the same with one more count, or `None` where the multinomial is then above `most`.
-    pub(crate) fn with_count(self, count: u128, most: u128) -> Option<RunningMultinomial> {
+    pub(crate) fn with_count(self, count: u128, most: u128) -> Option<Self> {
         let total = self.total.checked_add(count)?;
         let ways = coefficient_within(total, count, most / self.multinomial)?;
-        Some(RunningMultinomial {
+        Some(Self {
             total,
             multinomial: self.multinomial * ways,
         })

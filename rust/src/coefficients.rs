@@ -3,9 +3,9 @@
 
 use crate::integer_core::Integer;
 
-/// Returns the factors `r / g` and `a / (b / g)` of `r * a / b`, where `g` is the gcd of `r` and `b`,
-/// computed as that of `b` and the remainder of `r`. Where `g` is `b` or 1, one division gives both.
-/// After <https://blog.plover.com/math/choose-2.html>.
+/// Returns the factors `r / g` and `a / (b / g)` of `r * a / b`, where `g` is the gcd of `r` and
+/// `b`, computed as that of `b` and the remainder of `r`. Where `g` is `b` or 1, one division gives
+/// both. After <https://blog.plover.com/math/choose-2.html>.
 pub(crate) fn factors<T: Integer + Copy>(r: T, a: T, b: T) -> (T, T) {
     let g = (r % b).gcd(&b);
     if g >= b {
@@ -17,14 +17,14 @@ pub(crate) fn factors<T: Integer + Copy>(r: T, a: T, b: T) -> (T, T) {
     }
 }
 
-/// Returns two factors of the coefficient of `n` and `k + 1`, where `c` is that of `n` and `k`: it is
-/// `c * (n - k) / (k + 1)`.
+/// Returns two factors of the coefficient of `n` and `k + 1`, where `c` is that of `n` and `k`: it
+/// is `c * (n - k) / (k + 1)`.
 pub(crate) fn next_factors<T: Integer + Copy>(c: T, n: T, k: T) -> (T, T) {
     factors(c, n - k, k + T::one())
 }
 
-/// Returns the coefficient of `n` and `k + 1`, where `c` is that of `n` and `k`. No intermediate value
-/// exceeds it.
+/// Returns the coefficient of `n` and `k + 1`, where `c` is that of `n` and `k`. No intermediate
+/// value exceeds it.
 #[track_caller]
 pub(crate) fn next_coefficient<T: Integer + Copy>(c: T, n: T, k: T) -> T {
     let (x, y) = next_factors(c, n, k);

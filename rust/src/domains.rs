@@ -60,8 +60,8 @@ pub trait Fits: Integer + Copy {
     #[must_use]
     fn ends() -> (u128, u128);
 
-    /// Returns `true` if `div_rem`, `div_floor`, `div_mod_floor` and `div_ceil` may be called: not for
-    /// a divisor 0, and not for the least number by -1 where its negation does not fit.
+    /// Returns `true` if `div_rem`, `div_floor`, `div_mod_floor` and `div_ceil` may be called: not
+    /// for a divisor 0, and not for the least number by -1 where its negation does not fit.
     ///
     /// # Examples
     ///
@@ -118,12 +118,14 @@ pub trait Fits: Integer + Copy {
     ///
     /// ```text
     /// ensures { IsTrue result ↔ ((Self.value other.now ≢ pos 0)
-    ///     × EachFits Self.fits (IsMultiple IsCeiled (Self.value self.now) (Self.value other.now))) }
+    ///         × EachFits Self.fits (IsMultiple IsCeiled (Self.value self.now) (Self.value
+    ///         other.now))) }
     /// ```
     ///
     /// Words: [`EachFits`](crate::definitions::integer_core#eachfits),
     /// [`IsMultiple`](crate::definitions::integer_core#ismultiple),
-    /// [`IsCeiled`](crate::definitions::integer_core#isceiled), [how to read it](crate::definitions).
+    /// [`IsCeiled`](crate::definitions::integer_core#isceiled),
+    /// [how to read it](crate::definitions).
     ///
     /// </details>
     #[must_use]
@@ -160,12 +162,14 @@ pub trait Fits: Integer + Copy {
     ///
     /// ```text
     /// ensures { IsTrue result ↔ ((Self.value other.now ≢ pos 0)
-    ///     × EachFits Self.fits (IsMultiple IsFloored (Self.value self.now) (Self.value other.now))) }
+    ///         × EachFits Self.fits (IsMultiple IsFloored (Self.value self.now) (Self.value
+    ///         other.now))) }
     /// ```
     ///
     /// Words: [`EachFits`](crate::definitions::integer_core#eachfits),
     /// [`IsMultiple`](crate::definitions::integer_core#ismultiple),
-    /// [`IsFloored`](crate::definitions::integer_core#isfloored), [how to read it](crate::definitions).
+    /// [`IsFloored`](crate::definitions::integer_core#isfloored),
+    /// [how to read it](crate::definitions).
     ///
     /// </details>
     #[must_use]
@@ -177,8 +181,8 @@ pub trait Fits: Integer + Copy {
         sum_is_within(self.parts(), (!negative, remainder), Self::ends())
     }
 
-    /// Returns `true` if `gcd` may be called: not for the least number, whose negation does not fit,
-    /// with itself or with 0.
+    /// Returns `true` if `gcd` may be called: not for the least number, whose negation does not
+    /// fit, with itself or with 0.
     ///
     /// # Examples
     ///
@@ -216,8 +220,8 @@ pub trait Fits: Integer + Copy {
         }
     }
 
-    /// Returns `true` if `lcm` may be called: where an operand is 0, or where the multiple is in the
-    /// type.
+    /// Returns `true` if `lcm` may be called: where an operand is 0, or where the multiple is in
+    /// the type.
     ///
     /// # Examples
     ///
@@ -292,8 +296,8 @@ pub trait Fits: Integer + Copy {
         coefficient_within(n, k, Self::ends().1).is_some()
     }
 
-    /// Returns `true` if `multinomial(counts)` may be called: no count is negative, and the multinomial
-    /// fits. The loops stop at the first multinomial that does not fit.
+    /// Returns `true` if `multinomial(counts)` may be called: no count is negative, and the
+    /// multinomial fits. The loops stop at the first multinomial that does not fit.
     ///
     /// # Examples
     ///

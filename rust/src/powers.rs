@@ -5,7 +5,8 @@ use crate::operators::product;
 use crate::{nth_root, sqrt, Roots};
 use num_traits::Pow;
 
-/// Returns `true` if the number is the square of a whole number. 144 is, and neither 145 nor -144 is.
+/// Returns `true` if the number is the square of a whole number. 144 is, and neither 145 nor -144
+/// is.
 ///
 /// <details><summary>Proved</summary>
 ///
@@ -27,8 +28,8 @@ pub fn is_square<T: Roots + Copy>(n: T) -> bool {
     product(root, root) == n
 }
 
-/// Returns `true` if the number is the power of this degree of a whole number. 243 and -243 are powers
-/// of degree 5.
+/// Returns `true` if the number is the power of this degree of a whole number. 243 and -243 are
+/// powers of degree 5.
 ///
 /// May be called where `degree` is not 0.
 ///
@@ -59,8 +60,8 @@ pub fn is_power<T: Roots + Copy + Pow<u32, Output = T>>(n: T, degree: u32) -> bo
     nth_root(n, degree).pow(degree) == n
 }
 
-/// Returns `true` if the number is a square, a cube or a higher power of a whole number. 128 is, and
-/// 72 is not.
+/// Returns `true` if the number is a square, a cube or a higher power of a whole number. 128 is,
+/// and 72 is not.
 ///
 /// <details><summary>Proved</summary>
 ///

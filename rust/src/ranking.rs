@@ -81,8 +81,8 @@ fn checked_rank(choice: &[u64]) -> Option<u64> {
 /// Returns the rank of a choice of numbers below `n`, in increasing order, among all choices of the
 /// same length: the number of those before it.
 ///
-/// May be called where the numbers increase and are below `n`, which [`is_choice`] tests, and the rank
-/// fits a `u64`, which [`rank_fits`] tests. It fits if the number of all these choices does.
+/// May be called where the numbers increase and are below `n`, which [`is_choice`] tests, and the
+/// rank fits a `u64`, which [`rank_fits`] tests. It fits if the number of all these choices does.
 ///
 /// # Examples
 ///
@@ -175,8 +175,8 @@ pub fn choice_of_rank(rank: u64, n: u64, choice: &mut [u64]) {
     }
 }
 
-/// Returns the greatest number whose coefficient over the place is at most the limit. It searches by
-/// halves below the bound.
+/// Returns the greatest number whose coefficient over the place is at most the limit. It searches
+/// by halves below the bound.
 fn greatest_within(limit: u64, place: u64, bound: u64) -> u64 {
     let mut low = 0;
     let mut high = bound;
@@ -196,9 +196,9 @@ fn is_within(n: u64, k: u64, limit: u64) -> bool {
     n.binomial_fits(&k) && binomial(n, k) <= limit
 }
 
-/// Replaces a choice of numbers below `n`, in increasing order, by the one of the next rank, and returns
-/// `true`, or returns `false` where it is the last. From `[0, 1, 4]` and `n` 5 it is `[0, 2, 4]`, and
-/// `[2, 3, 4]` is the last.
+/// Replaces a choice of numbers below `n`, in increasing order, by the one of the next rank, and
+/// returns `true`, or returns `false` where it is the last. From `[0, 1, 4]` and `n` 5 it is `[0,
+/// 2, 4]`, and `[2, 3, 4]` is the last.
 ///
 /// May be called where the numbers increase and are below `n`.
 ///
@@ -244,8 +244,8 @@ pub fn next_choice(choice: &mut [u64], n: u64) -> bool {
     }
 }
 
-/// Returns the first place whose number can be one more and still below the number after it, or `n` at
-/// the end.
+/// Returns the first place whose number can be one more and still below the number after it, or `n`
+/// at the end.
 #[allow(clippy::manual_find)] // as it was proved
 fn first_to_rise(choice: &[u64], n: u64) -> Option<usize> {
     for place in 0..choice.len() {

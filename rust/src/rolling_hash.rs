@@ -27,26 +27,26 @@ pub struct RollingHash {
 impl RollingHash {
     /// Returns the `base`.
     #[must_use]
-    pub fn base(&self) -> u64 {
+    pub const fn base(&self) -> u64 {
         self.base
     }
 
     /// Returns the `modulus`.
     #[must_use]
-    pub fn modulus(&self) -> u64 {
+    pub const fn modulus(&self) -> u64 {
         self.modulus
     }
 
     /// How many bytes of a window stay when it slides.
     #[must_use]
-    pub fn kept(&self) -> u64 {
+    pub const fn kept(&self) -> u64 {
         self.kept
     }
 }
 
 impl RollingHash {
-    /// Returns the hash of windows that have one byte more than `kept`. `RollingHash::new(10, 97, 2)`
-    /// is that of windows of three bytes.
+    /// Returns the hash of windows that have one byte more than `kept`. `RollingHash::new(10, 97,
+    /// 2)` is that of windows of three bytes.
     ///
     /// May be called where `modulus` is above 0.
     ///
@@ -56,8 +56,8 @@ impl RollingHash {
     ///
     /// <details><summary>Proved</summary>
     ///
-    /// Of the source, in Rattle: where each `requires` holds, the call returns, and then each `ensures`
-    /// holds.
+    /// Of the source, in Rattle: where each `requires` holds, the call returns, and then each
+    /// `ensures` holds.
     ///
     /// ```text
     /// requires positive { 0 < modulus }
@@ -71,17 +71,17 @@ impl RollingHash {
     /// </details>
     #[track_caller]
     #[must_use]
-    pub fn new(base: u64, modulus: u64, kept: u64) -> RollingHash {
+    pub fn new(base: u64, modulus: u64, kept: u64) -> Self {
         assert!(modulus > 0, "the modulus is not positive");
-        RollingHash {
+        Self {
             base,
             modulus,
             kept,
         }
     }
 
-    /// Returns the sum of the bytes, each times the base to the power of the number of bytes after it,
-    /// modulo the modulus.
+    /// Returns the sum of the bytes, each times the base to the power of the number of bytes after
+    /// it, modulo the modulus.
     ///
     /// # Examples
     ///
@@ -132,7 +132,8 @@ impl RollingHash {
     ///
     /// ```text
     /// ensures { (kept : List ℕ) → length kept ≡ self.now.kept
-    ///     → IsResidue (pos self.now.modulus) (weighted_sum (pos self.now.base) (leaving ∷ kept)) (pos hash)
+    ///         → IsResidue (pos self.now.modulus) (weighted_sum (pos self.now.base) (leaving ∷
+    ///         kept)) (pos hash)
     ///     → IsResidue (pos self.now.modulus)
     ///     (weighted_sum (pos self.now.base) (kept ++ entering ∷ [])) (pos result) }
     /// ```

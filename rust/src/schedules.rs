@@ -58,8 +58,8 @@ pub fn next_meeting<T: Modular + Fits>(
 /// Returns the least time from `now` on at which each of the schedules comes. No product of the
 /// periods need fit.
 ///
-/// May be called where each period is above 0. In Rattle, a function that passes on a slice of its own
-/// parameters asks its callers for `in_range` too.
+/// May be called where each period is above 0. In Rattle, a function that passes on a slice of its
+/// own parameters asks its callers for `in_range` too.
 ///
 /// # Examples
 ///
@@ -82,7 +82,8 @@ pub fn next_meeting<T: Modular + Fits>(
 /// ```text
 /// requires in_range { All (λ s. T.fits (T.value s.0) × T.fits (T.value s.1)) schedules.now }
 /// requires positive { All (λ s. pos 0 <ℤ T.value s.1) schedules.now }
-/// ensures { IsLeastTime T.value T.fits (T.value now) (IsMeetingOfEach T.value schedules.now) result }
+/// ensures { IsLeastTime T.value T.fits (T.value now) (IsMeetingOfEach T.value schedules.now)
+///     result }
 /// ```
 ///
 /// Words: [`IsLeastTime`](crate::definitions::applied#isleasttime),

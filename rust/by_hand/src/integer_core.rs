@@ -4,6 +4,7 @@ trait Integer {
     #[doc(hidden)]
     #[inline]
     #[track_caller]
+    #[must_use]
     fn exact_sum(self, other: Self, _reason: &'static str) -> Self {
         self + other
     }
@@ -11,6 +12,7 @@ trait Integer {
     #[doc(hidden)]
     #[inline]
     #[track_caller]
+    #[must_use]
     fn exact_difference(self, other: Self, _reason: &'static str) -> Self {
         self - other
     }
@@ -18,6 +20,7 @@ trait Integer {
     #[doc(hidden)]
     #[inline]
     #[track_caller]
+    #[must_use]
     fn exact_product(self, other: Self, _reason: &'static str) -> Self {
         self * other
     }

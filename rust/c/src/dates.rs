@@ -54,9 +54,9 @@ pub extern "C" fn cellarcove_weekday(day: i64) -> u8 {
     number_of_weekday(weekday_of(day))
 }
 
-/// Returns the date `months` months after a date, or before it where `months` is negative. Its day of
-/// the month is the same, or the last one where its month is shorter. That of 2000-01-31 and 1 is
-/// 2000-02-29.
+/// Returns the date `months` months after a date, or before it where `months` is negative. Its day
+/// of the month is the same, or the last one where its month is shorter. That of 2000-01-31 and 1
+/// is 2000-02-29.
 #[unsafe(no_mangle)]
 pub extern "C" fn cellarcove_plus_months(date: Date, months: i64) -> DateAnswer {
     match date.found() {
@@ -99,8 +99,8 @@ pub extern "C" fn cellarcove_iso_week(date: Date) -> IsoWeekAnswer {
     }
 }
 
-/// Returns the date of a day of a week of ISO 8601, from 0 for Sunday to 6 for Saturday. That of 2009,
-/// 53 and 0 is 2010-01-03.
+/// Returns the date of a day of a week of ISO 8601, from 0 for Sunday to 6 for Saturday. That of
+/// 2009, 53 and 0 is 2010-01-03.
 #[unsafe(no_mangle)]
 pub extern "C" fn cellarcove_date_from_iso_week(year: i64, week: u8, weekday: u8) -> DateAnswer {
     match weekday_of_number(weekday) {
@@ -167,8 +167,8 @@ impl IsoWeekAnswer {
     }
 }
 
-/// Returns why there is no date of a day of a week: the year has no such week, or the day is in a year
-/// that does not fit.
+/// Returns why there is no date of a day of a week: the year has no such week, or the day is in a
+/// year that does not fit.
 fn reason_for_week(year: i64, week: u8) -> u32 {
     if (1..=weeks_in_year(year)).contains(&week) {
         NOT_FITTING

@@ -82,8 +82,8 @@ pub extern "C" fn cellarcove_div_mod_floor_u64(x: u64, y: u64) -> U64Division {
     U64Division::of(checked::div_mod_floor(x, y), OUTSIDE)
 }
 
-/// Returns the quotient of `a * b` by `d`, rounded down, and its remainder. The product need not fit. Those
-/// for -7, 3 and 2 are -11 and 1.
+/// Returns the quotient of `a * b` by `d`, rounded down, and its remainder. The product need not
+/// fit. Those for -7, 3 and 2 are -11 and 1.
 #[unsafe(no_mangle)]
 pub extern "C" fn cellarcove_product_div_mod_floor_i64(a: i64, b: i64, d: i64) -> I64Division {
     I64Division::of(

@@ -38,8 +38,8 @@ pub extern "C" fn cellarcove_lcm_u64(x: u64, y: u64) -> U64Answer {
     U64Answer::of(checked::lcm(x, y), NOT_FITTING)
 }
 
-/// Returns the greatest common divisor and Bezout's coefficients: `x` times the first number and `y`
-/// times the second add up to it. For 240 and 46 they are 2, -9 and 47.
+/// Returns the greatest common divisor and Bezout's coefficients: `x` times the first number and
+/// `y` times the second add up to it. For 240 and 46 they are 2, -9 and 47.
 #[unsafe(no_mangle)]
 pub extern "C" fn cellarcove_extended_gcd_i64(x: i64, y: i64) -> I64Bezout {
     match checked::extended_gcd(x, y) {

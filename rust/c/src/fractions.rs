@@ -75,8 +75,8 @@ pub extern "C" fn cellarcove_fraction_floor(a: Fraction) -> I64Answer {
     }
 }
 
-/// Returns the nearest whole number, and of two that are equally near the one farther from 0. That of
-/// -3/2 is -2.
+/// Returns the nearest whole number, and of two that are equally near the one farther from 0. That
+/// of -3/2 is -2.
 #[unsafe(no_mangle)]
 pub extern "C" fn cellarcove_fraction_round(a: Fraction) -> I64Answer {
     match a.reduced() {
@@ -97,8 +97,8 @@ pub extern "C" fn cellarcove_fraction_floor_times(a: Fraction, n: i64) -> I64Ans
     }
 }
 
-/// Returns the nearest fraction whose denominator is at most `max`, which is above 0. That of 3/10 and
-/// 5 is 1/3.
+/// Returns the nearest fraction whose denominator is at most `max`, which is above 0. That of 3/10
+/// and 5 is 1/3.
 #[unsafe(no_mangle)]
 pub extern "C" fn cellarcove_fraction_limit_denominator(a: Fraction, max: i64) -> FractionAnswer {
     if max <= 0 {

@@ -32,19 +32,19 @@ pub struct Date {
 impl Date {
     /// Returns the `year`.
     #[must_use]
-    pub fn year(&self) -> i64 {
+    pub const fn year(&self) -> i64 {
         self.year
     }
 
     /// Returns the `month`.
     #[must_use]
-    pub fn month(&self) -> u8 {
+    pub const fn month(&self) -> u8 {
         self.month
     }
 
     /// Returns the `day_of_month`.
     #[must_use]
-    pub fn day_of_month(&self) -> u8 {
+    pub const fn day_of_month(&self) -> u8 {
         self.day_of_month
     }
 }
@@ -74,9 +74,9 @@ impl Date {
     ///
     /// </details>
     #[must_use]
-    pub fn new(year: i64, month: u8, day_of_month: u8) -> Option<Date> {
+    pub fn new(year: i64, month: u8, day_of_month: u8) -> Option<Self> {
         if (1..=12).contains(&month) && (1..=days_in_month(year, month)).contains(&day_of_month) {
-            Some(Date {
+            Some(Self {
                 year,
                 month,
                 day_of_month,
@@ -110,18 +110,18 @@ impl Date {
     ///
     /// </details>
     #[must_use]
-    pub fn from_day_number(day: i64) -> Date {
+    pub fn from_day_number(day: i64) -> Self {
         let (march_year, days) = march_year_of_day(day);
         let (year, month, day_of_month) = parts_from_march(march_year, days);
-        Date {
+        Self {
             year,
             month,
             day_of_month,
         }
     }
 
-    /// Returns the day of the date, counted from 1970-01-01, or `None` where it does not fit. That of
-    /// 1969-12-31 is `Some(-1)`.
+    /// Returns the day of the date, counted from 1970-01-01, or `None` where it does not fit. That
+    /// of 1969-12-31 is `Some(-1)`.
     ///
     /// <details><summary>Proved</summary>
     ///
@@ -158,22 +158,22 @@ impl Date {
     ///
     /// </details>
     #[must_use]
-    pub fn next(&self) -> Option<Date> {
+    pub fn next(&self) -> Option<Self> {
         let (year, month) = (self.year, self.month);
         if self.day_of_month < days_in_month(year, month) {
-            Some(Date {
+            Some(Self {
                 year,
                 month,
                 day_of_month: self.day_of_month + 1,
             })
         } else if month < 12 {
-            Some(Date {
+            Some(Self {
                 year,
                 month: month + 1,
                 day_of_month: 1,
             })
         } else {
-            Some(Date {
+            Some(Self {
                 year: year.checked_add(1)?,
                 month: 1,
                 day_of_month: 1,
@@ -199,22 +199,22 @@ impl Date {
     ///
     /// </details>
     #[must_use]
-    pub fn previous(&self) -> Option<Date> {
+    pub fn previous(&self) -> Option<Self> {
         let (year, month) = (self.year, self.month);
         if self.day_of_month > 1 {
-            Some(Date {
+            Some(Self {
                 year,
                 month,
                 day_of_month: self.day_of_month - 1,
             })
         } else if month > 1 {
-            Some(Date {
+            Some(Self {
                 year,
                 month: month - 1,
                 day_of_month: days_in_month(year, month - 1),
             })
         } else {
-            Some(Date {
+            Some(Self {
                 year: year.checked_sub(1)?,
                 month: 12,
                 day_of_month: 31,
@@ -222,7 +222,8 @@ impl Date {
         }
     }
 
-    /// Returns the day of the year of the date, which is 1 on 1 January. That of 2000-12-31 is `366`.
+    /// Returns the day of the year of the date, which is 1 on 1 January. That of 2000-12-31 is
+    /// `366`.
     ///
     /// <details><summary>Proved</summary>
     ///
@@ -244,8 +245,8 @@ impl Date {
         days_before_month(self.year, self.month) + u16::from(self.day_of_month)
     }
 
-    /// Returns the date of a day of a year, of which 1 January is 1, or `None` where the year has no
-    /// such day.
+    /// Returns the date of a day of a year, of which 1 January is 1, or `None` where the year has
+    /// no such day.
     ///
     /// # Examples
     ///
@@ -266,20 +267,21 @@ impl Date {
     /// ```
     ///
     /// Words: [`days_in_year`](crate::definitions::calendar#days_in_year),
-    /// [`year_day_of`](crate::definitions::calendar#year_day_of), [how to read it](crate::definitions).
+    /// [`year_day_of`](crate::definitions::calendar#year_day_of),
+    /// [how to read it](crate::definitions).
     ///
     /// </details>
     #[must_use]
-    pub fn from_year_day(year: i64, day_of_year: u16) -> Option<Date> {
+    pub fn from_year_day(year: i64, day_of_year: u16) -> Option<Self> {
         if (1..=days_in_year(year)).contains(&day_of_year) {
-            Some(Date::in_year(year, day_of_year - 1))
+            Some(Self::in_year(year, day_of_year - 1))
         } else {
             None
         }
     }
 
-    /// Returns the date `days` days after this one, or before it where `days` is negative, or `None`
-    /// where its year does not fit an `i64`. -1 day after 2000-03-01 is 2000-02-29.
+    /// Returns the date `days` days after this one, or before it where `days` is negative, or
+    /// `None` where its year does not fit an `i64`. -1 day after 2000-03-01 is 2000-02-29.
     ///
     /// <details><summary>Proved</summary>
     ///
@@ -287,7 +289,8 @@ impl Date {
     ///
     /// ```text
     /// ensures { MatchOption result
-    ///     ((date : Date) → number_of date ≡ number_of self.now +ℤ days → ¬ (FitsSigned w64 date.year))
+    ///         ((date : Date) → number_of date ≡ number_of self.now +ℤ days → ¬ (FitsSigned w64
+    ///         date.year))
     ///     (λ date. number_of date ≡ number_of self.now +ℤ days) }
     /// ```
     ///
@@ -296,16 +299,17 @@ impl Date {
     ///
     /// </details>
     #[must_use]
-    pub fn plus_days(&self, days: i64) -> Option<Date> {
+    pub fn plus_days(&self, days: i64) -> Option<Self> {
         let (era, day) = self.day_of_era();
         let (eras, rest) = eras_in_days(days);
         // 1970-01-01 is day 865566 of era 0.
-        Date::from_day_number(i64::from(day + rest) - 865566).eras_later(era + eras)
+        Self::from_day_number(i64::from(day + rest) - 865566).eras_later(era + eras)
     }
 
-    /// Returns the date `eras` times 400 years after this one, or `None` where its year does not fit.
-    fn eras_later(&self, eras: i64) -> Option<Date> {
-        Some(Date {
+    /// Returns the date `eras` times 400 years after this one, or `None` where its year does not
+    /// fit.
+    fn eras_later(&self, eras: i64) -> Option<Self> {
+        Some(Self {
             year: at_64_bits(i128::from(self.year) + 400 * i128::from(eras))?,
             month: self.month,
             day_of_month: self.day_of_month,
@@ -318,8 +322,8 @@ impl Date {
         146097 * i128::from(era) + i128::from(day) - 865566
     }
 
-    /// Returns the era of the year of the date, and the day of the date counted from 1 March of the year
-    /// 400 years before the era, which is 1.
+    /// Returns the era of the year of the date, and the day of the date counted from 1 March of the
+    /// year 400 years before the era, which is 1.
     pub(crate) fn day_of_era(&self) -> (i64, u32) {
         let (era, year) = era_of_year(self.year);
         let month = days_to_month(year, self.month);
@@ -327,19 +331,19 @@ impl Date {
     }
 
     /// Returns the date in a year that has `days` days of the year before it.
-    pub(crate) fn in_year(year: i64, days: u16) -> Date {
+    pub(crate) fn in_year(year: i64, days: u16) -> Self {
         let (month, day_of_month) = month_and_day_in_year(year, days);
-        Date {
+        Self {
             year,
             month,
             day_of_month,
         }
     }
 
-    /// Returns the date `days` days after 1 January of a year, or `None` where its year is beyond `i64`.
-    /// It is in the year or in the one before or after it.
-    pub(crate) fn near(year: i64, days: i64) -> Option<Date> {
+    /// Returns the date `days` days after 1 January of a year, or `None` where its year is beyond
+    /// `i64`. It is in the year or in the one before or after it.
+    pub(crate) fn near(year: i64, days: i64) -> Option<Self> {
         let (year, days) = year_near(year, days)?;
-        Some(Date::in_year(year, days))
+        Some(Self::in_year(year, days))
     }
 }

@@ -4,7 +4,8 @@
 use crate::calendar::{days_between, Date};
 use core::iter::FusedIterator;
 
-/// An iterator over the dates from one on, to the one before another. [`Date::days_until`] makes it.
+/// An iterator over the dates from one on, to the one before another. [`Date::days_until`] makes
+/// it.
 #[derive(Debug, Clone)]
 pub struct Days {
     next: Date,
@@ -12,8 +13,8 @@ pub struct Days {
 }
 
 impl Date {
-    /// Returns an iterator over the dates from this one on, to the one before `end`. It is empty if `end`
-    /// is not later than this date.
+    /// Returns an iterator over the dates from this one on, to the one before `end`. It is empty if
+    /// `end` is not later than this date.
     ///
     /// # Examples
     ///
@@ -25,7 +26,7 @@ impl Date {
     /// assert_eq!(days, ["2024-02-28", "2024-02-29"]);
     /// ```
     #[must_use]
-    pub fn days_until(self, end: Date) -> Days {
+    pub const fn days_until(self, end: Self) -> Days {
         Days { next: self, end }
     }
 }

@@ -8,8 +8,8 @@ use crate::div_mod_floor;
 
 impl Date {
     /// Returns the date `months` months after this one, or before it where `months` is negative, or
-    /// `None` where its year does not fit an `i64`. Its day of the month is the same, or the last one
-    /// where its month is shorter. 1 month after 2000-01-31 is 2000-02-29.
+    /// `None` where its year does not fit an `i64`. Its day of the month is the same, or the last
+    /// one where its month is shorter. 1 month after 2000-01-31 is 2000-02-29.
     ///
     /// <details><summary>Proved</summary>
     ///
@@ -26,9 +26,9 @@ impl Date {
     ///
     /// </details>
     #[must_use]
-    pub fn plus_months(&self, months: i64) -> Option<Date> {
+    pub fn plus_months(&self, months: i64) -> Option<Self> {
         let (year, month) = month_of(self.month_number() + i128::from(months))?;
-        Some(Date {
+        Some(Self {
             year,
             month,
             day_of_month: self.day_of_month.min(days_in_month(year, month)),
@@ -62,9 +62,9 @@ pub fn days_between(from: &Date, to: &Date) -> Option<i64> {
     at_64_bits(to.number() - from.number())
 }
 
-/// Returns the number of whole months from `from` to `to`, negative where `to` is earlier, or `None`
-/// where that does not fit: the greatest number of months after `from` that lead to a date not after
-/// `to`. From 2000-01-31 to 2000-02-29 it returns `Some(1)`.
+/// Returns the number of whole months from `from` to `to`, negative where `to` is earlier, or
+/// `None` where that does not fit: the greatest number of months after `from` that lead to a date
+/// not after `to`. From 2000-01-31 to 2000-02-29 it returns `Some(1)`.
 ///
 /// <details><summary>Proved</summary>
 ///
@@ -95,14 +95,14 @@ fn whole_months(from: &Date, to: &Date) -> i128 {
     }
 }
 
-/// Returns `true` if the day of the month of `from`, or the last day of the month of `to` where that
-/// month is shorter, comes after the day of the month of `to`.
+/// Returns `true` if the day of the month of `from`, or the last day of the month of `to` where
+/// that month is shorter, comes after the day of the month of `to`.
 fn ends_in_part_of_month(from: &Date, to: &Date) -> bool {
     to.day_of_month < from.day_of_month.min(days_in_month(to.year, to.month))
 }
 
-/// Returns the year and the month of a month counted from January of year 0, or `None` where the year
-/// does not fit.
+/// Returns the year and the month of a month counted from January of year 0, or `None` where the
+/// year does not fit.
 fn month_of(number: i128) -> Option<(i64, u8)> {
     let (year, month) = div_mod_floor(number, 12);
     Some((at_64_bits(year)?, month as u8 + 1))

@@ -14,8 +14,8 @@ pub struct IsoWeek {
 }
 
 impl Date {
-    /// Returns the week of ISO 8601 that has the date, or `None` where its year is beyond `i64`. That
-    /// of 2005-01-01 is week 53 of 2004.
+    /// Returns the week of ISO 8601 that has the date, or `None` where its year is beyond `i64`.
+    /// That of 2005-01-01 is week 53 of 2004.
     ///
     /// <details><summary>Proved</summary>
     ///
@@ -23,7 +23,8 @@ impl Date {
     ///
     /// ```text
     /// ensures week { MatchOption result
-    ///     ((year : ℤ) (week : ℕ) → IsInIsoWeek (number_of self.now) year week → ¬ (FitsSigned w64 year))
+    ///         ((year : ℤ) (week : ℕ) → IsInIsoWeek (number_of self.now) year week → ¬ (FitsSigned
+    ///         w64 year))
     ///     (λ found. IsInIsoWeek (number_of self.now) found.year found.week) }
     /// ensures from_one { IfSome result (λ found. 1 ≤ found.week) }
     /// ensures to_53 { IfSome result (λ found. found.week ≤ 53) }
@@ -42,8 +43,8 @@ impl Date {
         })
     }
 
-    /// Returns the date of a day of a week of ISO 8601, or `None` where the year has no such week or
-    /// the year of the date does not fit an `i64`.
+    /// Returns the date of a day of a week of ISO 8601, or `None` where the year has no such week
+    /// or the year of the date does not fit an `i64`.
     ///
     /// # Examples
     ///
@@ -59,7 +60,8 @@ impl Date {
     ///
     /// ```text
     /// ensures { MatchOption result
-    ///     ((day y : ℤ) → IsDayOfIsoWeek day year week weekday → HasDay y day → ¬ (FitsSigned w64 y))
+    ///         ((day y : ℤ) → IsDayOfIsoWeek day year week weekday → HasDay y day → ¬ (FitsSigned
+    ///         w64 y))
     ///     (λ date. IsDayOfIsoWeek (number_of date) year week weekday) }
     /// ```
     ///
@@ -69,10 +71,10 @@ impl Date {
     ///
     /// </details>
     #[must_use]
-    pub fn from_iso_week(year: i64, week: u8, weekday: Weekday) -> Option<Date> {
+    pub fn from_iso_week(year: i64, week: u8, weekday: Weekday) -> Option<Self> {
         let thursday = thursday_of_iso_week(year, week);
         if is_in_year(year, thursday) {
-            Date::near(year, day_of_week(thursday, weekday))
+            Self::near(year, day_of_week(thursday, weekday))
         } else {
             None
         }
@@ -112,8 +114,8 @@ pub fn weeks_in_year(year: i64) -> u8 {
     }
 }
 
-/// Returns the number of days from 1 January of the year of the date to the Thursday of its week. It
-/// is negative where that Thursday is earlier.
+/// Returns the number of days from 1 January of the year of the date to the Thursday of its week.
+/// It is negative where that Thursday is earlier.
 fn thursday_of_week(date: &Date) -> i64 {
     i64::from(date.day_of_year()) + 2 - days_since_monday(date)
 }
@@ -124,13 +126,14 @@ fn days_since_monday(date: &Date) -> i64 {
     i64::from((day + 1) % 7)
 }
 
-/// Returns the number of days from 1 January to the Thursday of the week, also where the year is too
-/// short for it.
+/// Returns the number of days from 1 January to the Thursday of the week, also where the year is
+/// too short for it.
 fn thursday_of_iso_week(year: i64, week: u8) -> i64 {
     first_thursday(year) + 7 * (i64::from(week) - 1)
 }
 
-/// Returns the number of days from 1 January to the first Thursday of the year. Day 0 is a Thursday.
+/// Returns the number of days from 1 January to the first Thursday of the year. Day 0 is a
+/// Thursday.
 fn first_thursday(year: i64) -> i64 {
     // 1 March of the first year of an era is a Wednesday.
     let (_, place) = era_of_year(year);

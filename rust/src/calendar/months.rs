@@ -64,7 +64,8 @@ pub(crate) fn days_before_month(year: i64, month: u8) -> u16 {
     }
 }
 
-/// Returns the month and the day of the month of the day that has `days` days of the year before it.
+/// Returns the month and the day of the month of the day that has `days` days of the year before
+/// it.
 pub(crate) fn month_and_day_in_year(year: i64, days: u16) -> (u8, u8) {
     // 1 January is 306 days after the last 1 March.
     let march = days_before_month(year, 3);

@@ -66,7 +66,8 @@ impl fmt::Display for Date {
 /// Of the source, in Rattle: what the calls of the trait return.
 ///
 /// ```text
-/// ghost from_str_gives = { λ text result. (date : Date) → FitsSigned w64 date.year → (result ≡ Ok date) ↔ (text ≡ text_of date) }
+/// ghost from_str_gives = { λ text result. (date : Date) → FitsSigned w64 date.year → (result ≡ Ok
+///     date) ↔ (text ≡ text_of date) }
 /// ```
 ///
 /// Words: [`text_of`](crate::definitions::calendar#text_of), [how to read it](crate::definitions).
@@ -75,7 +76,7 @@ impl fmt::Display for Date {
 impl FromStr for Date {
     type Err = DateError;
 
-    fn from_str(text: &str) -> Result<Date, DateError> {
+    fn from_str(text: &str) -> Result<Self, DateError> {
         read_date(text).ok_or(DateError)
     }
 }
@@ -107,7 +108,8 @@ fn read_year(text: &str) -> Option<i64> {
     }
 }
 
-/// Returns the number from `least` to `most` that has the text, with zeros in front up to four digits.
+/// Returns the number from `least` to `most` that has the text, with zeros in front up to four
+/// digits.
 fn read_number(digits: &str, least: u64, most: u64) -> Option<u64> {
     if !is_shortest(digits.as_bytes()) {
         return None;
@@ -122,7 +124,8 @@ fn read_number(digits: &str, least: u64, most: u64) -> Option<u64> {
     }
 }
 
-/// Returns `true` if the text begins with a digit, and has four bytes, or more with no zero in front.
+/// Returns `true` if the text begins with a digit, and has four bytes, or more with no zero in
+/// front.
 fn is_shortest(digits: &[u8]) -> bool {
     matches!(
         digits,

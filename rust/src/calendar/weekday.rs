@@ -46,8 +46,8 @@ impl Weekday {
         (self.days_after_sunday() + 6) % 7 + 1
     }
 
-    /// Returns the day of the week that has the number by ISO 8601, or `None` where the number is not
-    /// from 1 to 7.
+    /// Returns the day of the week that has the number by ISO 8601, or `None` where the number is
+    /// not from 1 to 7.
     ///
     /// # Examples
     ///
@@ -71,7 +71,7 @@ impl Weekday {
     ///
     /// </details>
     #[must_use]
-    pub fn from_iso_number(number: u8) -> Option<Weekday> {
+    pub fn from_iso_number(number: u8) -> Option<Self> {
         if (1..=7).contains(&number) {
             Some(weekday_after_sunday(u32::from(number)))
         } else {
@@ -84,9 +84,9 @@ impl Weekday {
         self as u8
     }
 
-    /// Returns the number of days from this day of the week to the next day that has the other, which
-    /// is 0 where they are the same.
-    pub(crate) fn days_until(self, other: Weekday) -> u8 {
+    /// Returns the number of days from this day of the week to the next day that has the other,
+    /// which is 0 where they are the same.
+    pub(crate) fn days_until(self, other: Self) -> u8 {
         (other.days_after_sunday() + 7 - self.days_after_sunday()) % 7
     }
 }

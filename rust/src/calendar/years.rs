@@ -75,8 +75,8 @@ pub(crate) fn is_in_year(year: i64, days: i64) -> bool {
     0 <= days && (days < 365 || days < length_of(year))
 }
 
-/// Returns the year of the day `days` days after 1 January of a year, and how many days of that year
-/// lie before the day, or `None` where it is beyond `i64`.
+/// Returns the year of the day `days` days after 1 January of a year, and how many days of that
+/// year lie before the day, or `None` where it is beyond `i64`.
 pub(crate) fn year_near(year: i64, days: i64) -> Option<(i64, u16)> {
     if is_in_year(year, days) {
         Some((year, days as u16))

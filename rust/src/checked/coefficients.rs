@@ -135,7 +135,8 @@ pub fn row<T: Fits>(n: T) -> Option<IterBinomial<T>> {
     }
 }
 
-/// Returns `true` if the row of `n` fits: the number of its items and the coefficient in its middle do.
+/// Returns `true` if the row of `n` fits: the number of its items and the coefficient in its middle
+/// do.
 fn row_fits<T: Fits>(n: T) -> bool {
     n < T::zero() || inc(n).is_some() && binomial(n, half(n)).is_some()
 }

@@ -3,8 +3,9 @@
 
 use crate::domains::Fits;
 
-/// Returns [`Integer::div_rem`](crate::Integer::div_rem), the quotient rounded toward zero and its remainder, or `None` for
-/// a divisor 0 and for the least number by -1 where its negation does not fit.
+/// Returns [`Integer::div_rem`](crate::Integer::div_rem), the quotient rounded toward zero and its
+/// remainder, or `None` for a divisor 0 and for the least number by -1 where its negation does not
+/// fit.
 ///
 /// # Examples
 ///
@@ -43,7 +44,8 @@ pub fn div_rem<T: Fits>(x: T, y: T) -> Option<(T, T)> {
     }
 }
 
-/// Returns [`Integer::div_floor`](crate::Integer::div_floor), the quotient rounded down, or `None` where [`div_rem`] does.
+/// Returns [`Integer::div_floor`](crate::Integer::div_floor), the quotient rounded down, or `None`
+/// where [`div_rem`] does.
 ///
 /// # Examples
 ///
@@ -81,8 +83,8 @@ pub fn div_floor<T: Fits>(x: T, y: T) -> Option<T> {
     }
 }
 
-/// Returns [`Integer::mod_floor`](crate::Integer::mod_floor), the remainder of the quotient rounded down, or `None` for a
-/// divisor 0.
+/// Returns [`Integer::mod_floor`](crate::Integer::mod_floor), the remainder of the quotient rounded
+/// down, or `None` for a divisor 0.
 ///
 /// # Examples
 ///
@@ -117,8 +119,8 @@ pub fn mod_floor<T: Fits>(x: T, y: T) -> Option<T> {
     }
 }
 
-/// Returns [`Integer::div_mod_floor`](crate::Integer::div_mod_floor), the quotient rounded down and its remainder, or `None` where
-/// [`div_rem`] does.
+/// Returns [`Integer::div_mod_floor`](crate::Integer::div_mod_floor), the quotient rounded down and
+/// its remainder, or `None` where [`div_rem`] does.
 ///
 /// # Examples
 ///
@@ -156,7 +158,8 @@ pub fn div_mod_floor<T: Fits>(x: T, y: T) -> Option<(T, T)> {
     }
 }
 
-/// Returns [`Integer::div_ceil`](crate::Integer::div_ceil), the quotient rounded up, or `None` where [`div_rem`] does.
+/// Returns [`Integer::div_ceil`](crate::Integer::div_ceil), the quotient rounded up, or `None`
+/// where [`div_rem`] does.
 ///
 /// # Examples
 ///
@@ -193,8 +196,8 @@ pub fn div_ceil<T: Fits>(x: T, y: T) -> Option<T> {
     }
 }
 
-/// Returns [`Integer::next_multiple_of`](crate::Integer::next_multiple_of), the quotient rounded up, times `y`, or `None` for a
-/// divisor 0 and where the multiple does not fit.
+/// Returns [`Integer::next_multiple_of`](crate::Integer::next_multiple_of), the quotient rounded
+/// up, times `y`, or `None` for a divisor 0 and where the multiple does not fit.
 ///
 /// # Examples
 ///
@@ -230,8 +233,8 @@ pub fn next_multiple_of<T: Fits>(x: T, y: T) -> Option<T> {
     }
 }
 
-/// Returns [`Integer::prev_multiple_of`](crate::Integer::prev_multiple_of), the quotient rounded down, times `y`, or `None` for a
-/// divisor 0 and where the multiple does not fit.
+/// Returns [`Integer::prev_multiple_of`](crate::Integer::prev_multiple_of), the quotient rounded
+/// down, times `y`, or `None` for a divisor 0 and where the multiple does not fit.
 ///
 /// # Examples
 ///

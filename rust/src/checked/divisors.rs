@@ -7,8 +7,8 @@ use crate::integer_core::ExtendedGcd;
 use crate::parts::product_is_within;
 use num_traits::Signed;
 
-/// Returns [`Integer::gcd`](crate::Integer::gcd), the greatest common divisor, or `None` for the least number, whose
-/// negation does not fit, with itself or with 0.
+/// Returns [`Integer::gcd`](crate::Integer::gcd), the greatest common divisor, or `None` for the
+/// least number, whose negation does not fit, with itself or with 0.
 ///
 /// # Examples
 ///
@@ -46,7 +46,8 @@ pub fn gcd<T: Fits>(x: T, y: T) -> Option<T> {
     }
 }
 
-/// Returns [`Integer::lcm`](crate::Integer::lcm), the least common multiple, or `None` where it does not fit.
+/// Returns [`Integer::lcm`](crate::Integer::lcm), the least common multiple, or `None` where it
+/// does not fit.
 ///
 /// # Examples
 ///
@@ -82,8 +83,8 @@ pub fn lcm<T: Fits>(x: T, y: T) -> Option<T> {
     lcm_with_gcd(x, y, gcd(x, y)?)
 }
 
-/// Returns [`Integer::gcd_lcm`](crate::Integer::gcd_lcm), the greatest common divisor and the least common multiple, or
-/// `None` where one of them does not fit.
+/// Returns [`Integer::gcd_lcm`](crate::Integer::gcd_lcm), the greatest common divisor and the least
+/// common multiple, or `None` where one of them does not fit.
 ///
 /// # Examples
 ///
@@ -121,9 +122,9 @@ pub fn gcd_lcm<T: Fits>(x: T, y: T) -> Option<(T, T)> {
     Some((g, lcm_with_gcd(x, y, g)?))
 }
 
-/// Returns [`Integer::extended_gcd`](crate::Integer::extended_gcd), the greatest common divisor and Bezout's coefficients, or
-/// `None` where the divisor does not fit and, at a type without negatives, where neither number
-/// divides the other.
+/// Returns [`Integer::extended_gcd`](crate::Integer::extended_gcd), the greatest common divisor and
+/// Bezout's coefficients, or `None` where the divisor does not fit and, at a type without
+/// negatives, where neither number divides the other.
 ///
 /// # Examples
 ///
@@ -163,8 +164,8 @@ pub fn extended_gcd<T: Fits>(x: T, y: T) -> Option<ExtendedGcd<T>> {
     }
 }
 
-/// Returns [`Integer::extended_gcd_lcm`](crate::Integer::extended_gcd_lcm), which is [`extended_gcd`] and [`lcm`], or `None` where
-/// one of the two is `None`.
+/// Returns [`Integer::extended_gcd_lcm`](crate::Integer::extended_gcd_lcm), which is
+/// [`extended_gcd`] and [`lcm`], or `None` where one of the two is `None`.
 ///
 /// # Examples
 ///
@@ -235,8 +236,8 @@ fn product_magnitude_fits<T: Fits>(a: T, b: T) -> bool {
     product_is_within((false, m), (false, n), T::ends())
 }
 
-/// Returns `true` if the type has a pair of coefficients: a type without negatives has one where one
-/// number divides the other.
+/// Returns `true` if the type has a pair of coefficients: a type without negatives has one where
+/// one number divides the other.
 fn has_pair<T: Fits>(x: T, y: T) -> bool {
     T::ends().0 != 0 || x.is_multiple_of(&y) || y.is_multiple_of(&x)
 }

@@ -145,7 +145,8 @@ pub fn negated<T: Fits>(a: T) -> Option<T> {
     }
 }
 
-/// Returns `x + 1`, which [`Integer::inc`](crate::Integer::inc) stores, or `None` for the greatest number of the type.
+/// Returns `x + 1`, which [`Integer::inc`](crate::Integer::inc) stores, or `None` for the greatest
+/// number of the type.
 ///
 /// # Examples
 ///
@@ -176,7 +177,8 @@ pub fn inc<T: Fits>(x: T) -> Option<T> {
     sum(x, T::one())
 }
 
-/// Returns `x - 1`, which [`Integer::dec`](crate::Integer::dec) stores, or `None` for the least number of the type.
+/// Returns `x - 1`, which [`Integer::dec`](crate::Integer::dec) stores, or `None` for the least
+/// number of the type.
 ///
 /// # Examples
 ///

@@ -24,7 +24,8 @@ use num_traits::cast;
 ///
 /// ```text
 /// ensures { AnswersWhere
-///     ((T.value d ≢ pos 0) × EachFits T.fits (IsQuotient IsFloored (T.value a *ℤ T.value b) (T.value d)))
+///         ((T.value d ≢ pos 0) × EachFits T.fits (IsQuotient IsFloored (T.value a *ℤ T.value b)
+///         (T.value d)))
 ///     (λ r. T.fits (T.value r.0) × T.fits (T.value r.1)
 ///     × IsFloored (T.value a *ℤ T.value b) (T.value d) (T.value r.0) (T.value r.1))
 ///     result }
@@ -54,8 +55,8 @@ pub fn product_div_mod_floor<T: NativeInteger<Magnitude = u64>>(
     Some((quotient, rest))
 }
 
-/// Returns the magnitudes of the floored quotient and of its remainder by `d`, of the number with this
-/// sign and this magnitude. The quotient has the same sign.
+/// Returns the magnitudes of the floored quotient and of its remainder by `d`, of the number with
+/// this sign and this magnitude. The quotient has the same sign.
 fn floored(negative: bool, magnitude: u128, d: u128) -> (u128, u128) {
     let (quotient, rest) = (magnitude / d, magnitude % d);
     if negative && rest != 0 {

@@ -27,8 +27,8 @@ struct Row<A> {
 
 impl<T: Integer> Row<T> {
     /// The first operand as a row.
-    fn of_first(a: T) -> Row<T> {
-        Row {
+    fn of_first(a: T) -> Self {
+        Self {
             remainder: a,
             x: T::one(),
             y: T::zero(),
@@ -53,8 +53,8 @@ impl<T: Integer> Row<T> {
     }
 }
 
-/// Returns the row whose remainder is the greatest common divisor up to its sign, and the turns that
-/// lead to it. The loop never makes the row of remainder 0, whose coefficients need not fit.
+/// Returns the row whose remainder is the greatest common divisor up to its sign, and the turns
+/// that lead to it. The loop never makes the row of remainder 0, whose coefficients need not fit.
 fn last_row<T: Integer + Clone>(a: T, b: T) -> (Row<T>, u32) {
     let mut previous = Row::of_first(a);
     let mut current = Row {

@@ -25,8 +25,8 @@ pub trait GcdCounted: Integer {
     ///
     /// <details><summary>Proved</summary>
     ///
-    /// Of the source, in Rattle: where each `requires` holds, the call returns, and then each `ensures`
-    /// holds.
+    /// Of the source, in Rattle: where each `requires` holds, the call returns, and then each
+    /// `ensures` holds.
     ///
     /// ```text
     /// requires gcd_fits { GcdFits Self.fits (Self.value self.now) (Self.value other.now) }

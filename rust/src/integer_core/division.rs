@@ -20,8 +20,8 @@ pub(crate) fn div_mod_floor<T: Native>(n: T, d: T) -> (T, T) {
     }
 }
 
-/// Returns `true` if the quotient rounded toward zero, of this remainder, is above the exact one. The
-/// two tests are one number, and no branch.
+/// Returns `true` if the quotient rounded toward zero, of this remainder, is above the exact one.
+/// The two tests are one number, and no branch.
 fn is_above_floor<T: Native>(r: T, d: T) -> bool {
     !r.is_zero() & ((r < T::zero()) != (d < T::zero()))
 }

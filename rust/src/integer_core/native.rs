@@ -93,11 +93,11 @@ impl Native for u32 {
 }
 
 impl Native for u64 {
-    type Magnitude = u64;
+    type Magnitude = Self;
 }
 
 impl Native for u128 {
-    type Magnitude = u128;
+    type Magnitude = Self;
 }
 
 impl Native for usize {

@@ -46,8 +46,8 @@ fn odd_difference<M: PrimInt + Unsigned>(x: M, y: M) -> M {
     (x - y) >> shared_bits(x, y)
 }
 
-/// Returns the pair after a turn of the loop. The lesser number comes second, whichever place it had,
-/// so both arms are the same computation.
+/// Returns the pair after a turn of the loop. The lesser number comes second, whichever place it
+/// had, so both arms are the same computation.
 fn next_pair<M: PrimInt + Unsigned>(m: M, n: M) -> (M, M) {
     if is_smaller(n, m) {
         (odd_difference(m, n), n)
@@ -82,8 +82,8 @@ fn differ_beyond_64_bits<M: PrimInt + Unsigned>(m: M, n: M) -> bool {
     !is_same(m, n) && at_64_bits(m, n).is_none()
 }
 
-/// Returns the greatest common divisor of two odd numbers, and the turns of the loop, which goes on at
-/// 64 bits as soon as both numbers fit.
+/// Returns the greatest common divisor of two odd numbers, and the turns of the loop, which goes on
+/// at 64 bits as soon as both numbers fit.
 fn narrowing_gcd<M: PrimInt + Unsigned>(a: M, b: M) -> (M, u32) {
     let (mut m, mut n) = (a, b);
     let mut turns = 0;
@@ -142,40 +142,40 @@ pub trait Magnitude: Copy + ToPrimitive {
 
 impl Magnitude for u64 {
     #[inline]
-    fn successor(self) -> u64 {
+    fn successor(self) -> Self {
         successor(self)
     }
 
-    fn positive_gcd(a: u64, b: u64) -> (u64, u32) {
+    fn positive_gcd(a: Self, b: Self) -> (Self, u32) {
         positive_gcd(a, b)
     }
 
-    fn shared_power_of_two(a: u64, b: u64) -> u64 {
+    fn shared_power_of_two(a: Self, b: Self) -> Self {
         shared_power_of_two(a, b)
     }
 
     #[track_caller]
-    fn positive_lcm(a: u64, b: u64) -> u64 {
+    fn positive_lcm(a: Self, b: Self) -> Self {
         positive_lcm(a, b)
     }
 }
 
 impl Magnitude for u128 {
     #[inline]
-    fn successor(self) -> u128 {
+    fn successor(self) -> Self {
         successor(self)
     }
 
-    fn positive_gcd(a: u128, b: u128) -> (u128, u32) {
+    fn positive_gcd(a: Self, b: Self) -> (Self, u32) {
         positive_gcd(a, b)
     }
 
-    fn shared_power_of_two(a: u128, b: u128) -> u128 {
+    fn shared_power_of_two(a: Self, b: Self) -> Self {
         shared_power_of_two(a, b)
     }
 
     #[track_caller]
-    fn positive_lcm(a: u128, b: u128) -> u128 {
+    fn positive_lcm(a: Self, b: Self) -> Self {
         positive_lcm(a, b)
     }
 }

@@ -5,8 +5,8 @@ use crate::integer_roots::root::Roots;
 
 /// A square root by Newton's method, with the turns of its two loops.
 pub trait SqrtCounted: Roots {
-    /// Returns the square root and the number of turns, which is at most five. `99.sqrt_counted()` is
-    /// `(9, 2)`: the guesses are 8, 10 and 9.
+    /// Returns the square root and the number of turns, which is at most five. `99.sqrt_counted()`
+    /// is `(9, 2)`: the guesses are 8, 10 and 9.
     ///
     /// May be called where `self` is not negative.
     ///
@@ -24,8 +24,8 @@ pub trait SqrtCounted: Roots {
     ///
     /// <details><summary>Proved</summary>
     ///
-    /// Of the source, in Rattle: where each `requires` holds, the call returns, and then each `ensures`
-    /// holds.
+    /// Of the source, in Rattle: where each `requires` holds, the call returns, and then each
+    /// `ensures` holds.
     ///
     /// ```text
     /// requires from_zero { pos 0 ≤ℤ Self.value self.now }

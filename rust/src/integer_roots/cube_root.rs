@@ -23,7 +23,8 @@ fn wide_cube_root(a: u64) -> u64 {
     }
 }
 
-/// Returns the cube root of `a`, by Newton's method. The first guess is a power of two near the root.
+/// Returns the cube root of `a`, by Newton's method. The first guess is a power of two near the
+/// root.
 fn cube_root_by_newton(a: u64) -> u64 {
     let step = move |x: u64| -> u64 { (a / (x * x) + 2 * x) / 3 };
     newton(1 << a.ilog2().div_ceil(3), step).0

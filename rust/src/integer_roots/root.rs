@@ -33,8 +33,8 @@ pub trait Roots: Integer {
     ///
     /// May be called where `n` is not 0, and `n` is odd or `self` is not negative.
     ///
-    /// [`checked::nth_root`](crate::checked::nth_root) is the same call, which returns `None` outside
-    /// the domain.
+    /// [`checked::nth_root`](crate::checked::nth_root) is the same call, which returns `None`
+    /// outside the domain.
     ///
     /// # Examples
     ///
@@ -50,8 +50,8 @@ pub trait Roots: Integer {
     ///
     /// <details><summary>Proved</summary>
     ///
-    /// Of the source, in Rattle: where each `requires` holds, the call returns, and then each `ensures`
-    /// holds.
+    /// Of the source, in Rattle: where each `requires` holds, the call returns, and then each
+    /// `ensures` holds.
     ///
     /// ```text
     /// requires degree { n ≢ 0 }
@@ -88,8 +88,8 @@ pub trait Roots: Integer {
     ///
     /// <details><summary>Proved</summary>
     ///
-    /// Of the source, in Rattle: where each `requires` holds, the call returns, and then each `ensures`
-    /// holds.
+    /// Of the source, in Rattle: where each `requires` holds, the call returns, and then each
+    /// `ensures` holds.
     ///
     /// ```text
     /// requires from_zero { pos 0 ≤ℤ Self.value self.now }

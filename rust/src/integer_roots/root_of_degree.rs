@@ -18,8 +18,8 @@ pub(crate) fn root_of_degree(a: u64, n: u32) -> u64 {
     newton(1 << top.div_ceil(n), step).0
 }
 
-/// Returns the quotient of `a` by the power of `x` of degree `k`, or 0 where the power does not fit. It
-/// divides by a power of two with a shift.
+/// Returns the quotient of `a` by the power of `x` of degree `k`, or 0 where the power does not
+/// fit. It divides by a power of two with a shift.
 fn quotient_by_power(a: u64, x: u64, k: u32) -> u64 {
     let top = x.ilog2();
     if top * k >= u64::BITS {

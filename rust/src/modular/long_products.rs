@@ -5,8 +5,8 @@
 /// One more than the greatest digit.
 pub(crate) const BASE: u128 = 18446744073709551616;
 
-/// Returns the product of two residues modulo `m`. It first multiplies the modulus by a power of two,
-/// which makes its first digit large, so that each digit of the quotient is guessed well.
+/// Returns the product of two residues modulo `m`. It first multiplies the modulus by a power of
+/// two, which makes its first digit large, so that each digit of the quotient is guessed well.
 pub(crate) fn long_product(x: u128, y: u128, m: u128) -> u128 {
     let places = places_of(m);
     scaled_product(times_power(x, places), y, times_power(m, places)) >> places
@@ -54,8 +54,8 @@ fn next_rest(rest: u128, digit: u128, m: u128) -> u128 {
     }
 }
 
-/// Returns the next digit of a quotient by a number of two digits, and what it leaves of `rest` by the
-/// first digit of that number alone.
+/// Returns the next digit of a quotient by a number of two digits, and what it leaves of `rest` by
+/// the first digit of that number alone.
 fn quotient_digit(rest: u128, digit: u128, high: u128, low: u128) -> (u128, u128) {
     let mut quotient = (rest / high).min(BASE - 1);
     let mut over = rest - quotient * high;

@@ -6,8 +6,8 @@ use crate::modular::residues::{residue, sum_of_residues};
 use crate::operators::successor;
 use crate::Integer;
 
-/// Products and powers modulo a number above 0. An empty implementation gives them to your own type: its
-/// default bodies double and add, and square and multiply.
+/// Products and powers modulo a number above 0. An empty implementation gives them to your own
+/// type: its default bodies double and add, and square and multiply.
 pub trait Modular: Integer + Copy {
     /// Returns `self * other` modulo `modulus`. The product need not fit the type.
     ///
@@ -27,8 +27,8 @@ pub trait Modular: Integer + Copy {
     ///
     /// <details><summary>Proved</summary>
     ///
-    /// Of the source, in Rattle: where each `requires` holds, the call returns, and then each `ensures`
-    /// holds.
+    /// Of the source, in Rattle: where each `requires` holds, the call returns, and then each
+    /// `ensures` holds.
     ///
     /// ```text
     /// requires positive { pos 0 <ℤ Self.value modulus.now }
@@ -51,8 +51,8 @@ pub trait Modular: Integer + Copy {
         )
     }
 
-    /// Returns `self` to the power `exponent` modulo `modulus`, and the number of turns of its loop. At
-    /// an exponent above 0 the turns are its binary logarithm, rounded down.
+    /// Returns `self` to the power `exponent` modulo `modulus`, and the number of turns of its
+    /// loop. At an exponent above 0 the turns are its binary logarithm, rounded down.
     ///
     /// May be called where `modulus` is above 0.
     ///
@@ -71,8 +71,8 @@ pub trait Modular: Integer + Copy {
     ///
     /// <details><summary>Proved</summary>
     ///
-    /// Of the source, in Rattle: where each `requires` holds, the call returns, and then each `ensures`
-    /// holds.
+    /// Of the source, in Rattle: where each `requires` holds, the call returns, and then each
+    /// `ensures` holds.
     ///
     /// ```text
     /// requires positive { pos 0 <ℤ Self.value modulus.now }

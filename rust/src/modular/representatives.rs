@@ -20,8 +20,8 @@ pub(crate) trait Representatives {
     }
 }
 
-/// Returns what stands for the power of what `base` stands for, and the number of turns, one for each
-/// binary digit of the exponent after the first. `one` stands for 1.
+/// Returns what stands for the power of what `base` stands for, and the number of turns, one for
+/// each binary digit of the exponent after the first. `one` stands for 1.
 pub(crate) fn power_counted<R: Representatives>(
     form: &R,
     one: R::Number,

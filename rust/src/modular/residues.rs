@@ -41,7 +41,8 @@ pub fn residue<T: Integer>(a: T, m: T) -> T {
     mod_floor(a, m)
 }
 
-/// Returns `a + b` modulo `m`. The sum need not fit the type: `sum_modulo(200u8, 100, 201)` is `99`.
+/// Returns `a + b` modulo `m`. The sum need not fit the type: `sum_modulo(200u8, 100, 201)` is
+/// `99`.
 ///
 /// May be called where `m` is above 0.
 ///

@@ -11,8 +11,8 @@ use crate::{checked, Fits, Integer};
 /// Returns the least number from `from` on that is congruent to the first number of each pair,
 /// modulo the second. No product of the moduli need fit.
 ///
-/// May be called where each modulus is above 0. In Rattle, a function that passes on a slice of its own
-/// parameters asks its callers for `in_range` too.
+/// May be called where each modulus is above 0. In Rattle, a function that passes on a slice of its
+/// own parameters asks its callers for `in_range` too.
 ///
 /// # Examples
 ///
@@ -70,8 +70,9 @@ pub fn next_common_solution_of<T: Modular + Fits>(
     }
 }
 
-/// Returns the least solution from `from` on, or `None` where no solution from there on is in the type.
-/// Keeps the class of the numbers that solve the congruences so far, while its step is in the type.
+/// Returns the least solution from `from` on, or `None` where no solution from there on is in the
+/// type. Keeps the class of the numbers that solve the congruences so far, while its step is in the
+/// type.
 fn least_solution<T: Modular + Fits>(from: T, congruences: &[(T, T)]) -> Option<T> {
     let mut first: T = T::zero();
     let mut step: T = T::one();
@@ -85,8 +86,8 @@ fn least_solution<T: Modular + Fits>(from: T, congruences: &[(T, T)]) -> Option<
     next_congruent(from, first, step)
 }
 
-/// Returns [`least_solution`], where each solution solves these two congruences. As the least common
-/// multiple of their moduli is beyond the type, at most two numbers of the type solve both.
+/// Returns [`least_solution`], where each solution solves these two congruences. As the least
+/// common multiple of their moduli is beyond the type, at most two numbers of the type solve both.
 fn least_candidate<T: Modular + Fits>(
     from: T,
     first: (T, T),
@@ -129,8 +130,8 @@ fn agree_in_pairs<T: Integer + Copy>(congruences: &[(T, T)]) -> bool {
     true
 }
 
-/// Returns `true` if `a` is equal to the first number of each pair, modulo the greatest common divisor
-/// of `m` and the second.
+/// Returns `true` if `a` is equal to the first number of each pair, modulo the greatest common
+/// divisor of `m` and the second.
 fn agrees_with_each<T: Integer + Copy>(a: T, m: T, others: &[(T, T)]) -> bool {
     for other in others {
         let (b, n) = *other;

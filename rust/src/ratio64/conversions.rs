@@ -6,8 +6,8 @@ use crate::errors::Error;
 use crate::ratio64::Ratio;
 use core::fmt;
 
-/// A fraction that is no integer of the wanted type: its denominator is not 1, or its numerator does
-/// not fit.
+/// A fraction that is no integer of the wanted type: its denominator is not 1, or its numerator
+/// does not fit.
 #[derive(Debug, Clone, Copy, PartialEq, Eq)]
 pub struct TryFromRatioError(());
 

@@ -31,10 +31,10 @@ impl RatioError {
     ///
     /// </details>
     #[must_use]
-    pub fn number(&self) -> u32 {
+    pub const fn number(&self) -> u32 {
         match self {
-            RatioError::ZeroDenominator => 1,
-            RatioError::NotFitting => 2,
+            Self::ZeroDenominator => 1,
+            Self::NotFitting => 2,
         }
     }
 }
@@ -54,8 +54,8 @@ impl RatioError {
 impl fmt::Display for RatioError {
     fn fmt(&self, f: &mut fmt::Formatter<'_>) -> fmt::Result {
         crate::padded::pad(f, |f| match self {
-            RatioError::ZeroDenominator => write!(f, "the denominator is 0"),
-            RatioError::NotFitting => {
+            Self::ZeroDenominator => write!(f, "the denominator is 0"),
+            Self::NotFitting => {
                 write!(f, "a part of the reduced fraction does not fit in 64 bits")
             }
         })

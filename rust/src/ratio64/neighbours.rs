@@ -10,7 +10,8 @@ pub(crate) struct Neighbour {
 }
 
 /// Returns the neighbours of `num / den`: the greatest fraction below it and the least one above it
-/// whose denominators are at most `max`. The larger gap falls at each turn, as in Euclid's algorithm.
+/// whose denominators are at most `max`. The larger gap falls at each turn, as in Euclid's
+/// algorithm.
 pub(crate) fn neighbours(num: u64, den: u64, max: u64) -> (Neighbour, Neighbour) {
     let mut below = Neighbour {
         num: 0,
@@ -32,8 +33,8 @@ pub(crate) fn neighbours(num: u64, den: u64, max: u64) -> (Neighbour, Neighbour)
     (below, above)
 }
 
-/// Returns the closest fraction that follows from a neighbour by steps toward the other one, in which
-/// the parts of the other one are added.
+/// Returns the closest fraction that follows from a neighbour by steps toward the other one, in
+/// which the parts of the other one are added.
 fn closer(side: Neighbour, other: Neighbour, max: u64) -> Neighbour {
     let steps = ((side.gap - 1) / other.gap).min((max - side.den) / other.den);
     Neighbour {
@@ -43,8 +44,8 @@ fn closer(side: Neighbour, other: Neighbour, max: u64) -> Neighbour {
     }
 }
 
-/// Returns the nearer of the two neighbours, and of two that are equally near the one of the smaller
-/// denominator, or else the lower one.
+/// Returns the nearer of the two neighbours, and of two that are equally near the one of the
+/// smaller denominator, or else the lower one.
 pub(crate) fn nearer(below: Neighbour, above: Neighbour) -> Neighbour {
     let below_gap = below.gap * above.den;
     let above_gap = above.gap * below.den;

@@ -19,7 +19,7 @@ use core::cmp::Ordering;
 ///
 /// </details>
 impl Ord for Ratio {
-    fn cmp(&self, other: &Ratio) -> Ordering {
+    fn cmp(&self, other: &Self) -> Ordering {
         product(self.num(), other.den()).cmp(&product(other.num(), self.den()))
     }
 }
@@ -39,7 +39,7 @@ impl Ord for Ratio {
 ///
 /// </details>
 impl PartialOrd for Ratio {
-    fn partial_cmp(&self, other: &Ratio) -> Option<Ordering> {
+    fn partial_cmp(&self, other: &Self) -> Option<Ordering> {
         Some(self.cmp(other))
     }
 }

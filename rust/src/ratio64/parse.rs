@@ -33,10 +33,10 @@ pub enum ParseRatioError {
 ///
 /// </details>
 impl From<RatioError> for ParseRatioError {
-    fn from(refusal: RatioError) -> ParseRatioError {
+    fn from(refusal: RatioError) -> Self {
         match refusal {
-            RatioError::ZeroDenominator => ParseRatioError::ZeroDenominator,
-            RatioError::NotFitting => ParseRatioError::NotFitting,
+            RatioError::ZeroDenominator => Self::ZeroDenominator,
+            RatioError::NotFitting => Self::NotFitting,
         }
     }
 }
@@ -56,12 +56,10 @@ impl From<RatioError> for ParseRatioError {
 impl fmt::Display for ParseRatioError {
     fn fmt(&self, f: &mut fmt::Formatter<'_>) -> fmt::Result {
         match self {
-            ParseRatioError::NotAFraction => write!(f, "the text is not a fraction"),
-            ParseRatioError::TooLong => {
-                write!(f, "a part has more than 38 digits, leading zeros aside")
-            }
-            ParseRatioError::ZeroDenominator => RatioError::ZeroDenominator.fmt(f),
-            ParseRatioError::NotFitting => RatioError::NotFitting.fmt(f),
+            Self::NotAFraction => write!(f, "the text is not a fraction"),
+            Self::TooLong => write!(f, "a part has more than 38 digits, leading zeros aside"),
+            Self::ZeroDenominator => RatioError::ZeroDenominator.fmt(f),
+            Self::NotFitting => RatioError::NotFitting.fmt(f),
         }
     }
 }
@@ -69,10 +67,10 @@ impl fmt::Display for ParseRatioError {
 #[cfg(has_error)]
 impl Error for ParseRatioError {}
 
-/// Reads the form that `Display` writes: `num/den`, or only `num`. Each part is an optional `-`, then
-/// digits. `"6/-4".parse().ok()` is `Ratio::new(-3, 2).ok()`, and `"+1"` and `"1/"` are no fractions.
-/// The fraction is reduced before its parts have to fit: `"18446744073709551614/2".parse()` is
-/// `Ok(Ratio::from(i64::MAX))`.
+/// Reads the form that `Display` writes: `num/den`, or only `num`. Each part is an optional `-`,
+/// then digits. `"6/-4".parse().ok()` is `Ratio::new(-3, 2).ok()`, and `"+1"` and `"1/"` are no
+/// fractions. The fraction is reduced before its parts have to fit:
+/// `"18446744073709551614/2".parse()` is `Ok(Ratio::from(i64::MAX))`.
 ///
 /// # Examples
 ///
@@ -109,7 +107,7 @@ impl Error for ParseRatioError {}
 impl FromStr for Ratio {
     type Err = ParseRatioError;
 
-    fn from_str(text: &str) -> Result<Ratio, ParseRatioError> {
+    fn from_str(text: &str) -> Result<Self, ParseRatioError> {
         let (num, den) = text.split_once('/').unwrap_or((text, "1"));
         if !is_whole_number(num) || !is_whole_number(den) {
             return Err(ParseRatioError::NotAFraction);

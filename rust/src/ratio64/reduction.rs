@@ -5,8 +5,8 @@ use crate::operators::negated;
 use crate::ratio64::RatioError;
 use crate::{gcd, Integer};
 
-/// Returns the parts of the reduced fraction that is equal to `num / den`, or `NotFitting` where they
-/// do not fit. Parts that have 64 bits are divided in 64 bits.
+/// Returns the parts of the reduced fraction that is equal to `num / den`, or `NotFitting` where
+/// they do not fit. Parts that have 64 bits are divided in 64 bits.
 pub(crate) fn lowest_terms(num: i128, den: i128) -> Result<(i64, i64), RatioError> {
     match (narrow(num), narrow(den)) {
         (Some(num), Some(den)) => Ok(reduced_terms(num, den)),

@@ -24,7 +24,7 @@ impl Date {
     /// assert_eq!(days, ["2024-02-28", "2024-02-29"]);
     /// ```
     #[must_use]
-    pub fn days_until(self, end: Date) -> Days {
+    pub const fn days_until(self, end: Date) -> Days {
         Days { next: self, end }
     }
 }

@@ -7,9 +7,9 @@ use crate::ratio64::products::product;
 use crate::ratio64::Ratio;
 
 impl Ratio {
-    /// Returns the nearest fraction whose denominator is at most `max`. Of those that are equally near
-    /// it returns the one of the smallest denominator, and of two whole numbers the lower. 3/10
-    /// limited to 5 is 1/3, and 3/2 limited to 1 is 1/1.
+    /// Returns the nearest fraction whose denominator is at most `max`. Of those that are equally
+    /// near it returns the one of the smallest denominator, and of two whole numbers the lower.
+    /// 3/10 limited to 5 is 1/3, and 3/2 limited to 1 is 1/1.
     ///
     /// May be called where `max` is above 0.
     ///
@@ -19,8 +19,8 @@ impl Ratio {
     ///
     /// <details><summary>Proved</summary>
     ///
-    /// Of the source, in Rattle: where each `requires` holds, the call returns, and then each `ensures`
-    /// holds.
+    /// Of the source, in Rattle: where each `requires` holds, the call returns, and then each
+    /// `ensures` holds.
     ///
     /// ```text
     /// requires { pos 0 <ℤ max }
@@ -29,13 +29,13 @@ impl Ratio {
     /// ```
     ///
     /// Words: [`IsNearestWithin`](crate::definitions::ratio64#isnearestwithin),
-    /// [`num_of`](crate::definitions::ratio64#num_of), [`den_of`](crate::definitions::ratio64#den_of),
-    /// [how to read it](crate::definitions).
+    /// [`num_of`](crate::definitions::ratio64#num_of),
+    /// [`den_of`](crate::definitions::ratio64#den_of), [how to read it](crate::definitions).
     ///
     /// </details>
     #[track_caller]
     #[must_use]
-    pub fn limit_denominator(&self, max: i64) -> Ratio {
+    pub fn limit_denominator(&self, max: i64) -> Self {
         assert!(max > 0, "the limit is not positive");
         if self.den <= max {
             return *self;
@@ -48,7 +48,7 @@ impl Ratio {
         );
         let (below, above) = neighbours(part, den, limit);
         let nearest = nearer(below, above);
-        Ratio {
+        Self {
             num: numerator(whole, nearest),
             den: nearest.den as i64,
         }

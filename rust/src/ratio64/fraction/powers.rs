@@ -4,17 +4,17 @@
 use crate::ratio64::{Ratio, RatioError};
 
 impl Ratio {
-    /// Returns the power, which for a negative exponent is that of the reciprocal. 2/3 to the power 2
-    /// is 4/9, and to the power -1 it is 3/2. Each fraction to the power 0 is 1. Returns
+    /// Returns the power, which for a negative exponent is that of the reciprocal. 2/3 to the power
+    /// 2 is 4/9, and to the power -1 it is 3/2. Each fraction to the power 0 is 1. Returns
     /// `ZeroDenominator` for 0 to a negative power, and `NotFitting` where a part of the power does
     /// not fit.
     ///
     /// # Errors
     ///
-    /// - [`RatioError::ZeroDenominator`](crate::ratio64::RatioError::ZeroDenominator) if the fraction
-    ///   is 0 and the exponent is negative;
-    /// - [`RatioError::NotFitting`](crate::ratio64::RatioError::NotFitting) if a part of the power does
-    ///   not fit an `i64`.
+    /// - [`RatioError::ZeroDenominator`](crate::ratio64::RatioError::ZeroDenominator) if the
+    ///   fraction is 0 and the exponent is negative;
+    /// - [`RatioError::NotFitting`](crate::ratio64::RatioError::NotFitting) if a part of the power
+    ///   does not fit an `i64`.
     ///
     /// <details><summary>Proved</summary>
     ///
@@ -30,11 +30,11 @@ impl Ratio {
     /// ```
     ///
     /// Words: [`AnswersFraction`](crate::definitions::ratio64#answersfraction),
-    /// [`num_of`](crate::definitions::ratio64#num_of), [`den_of`](crate::definitions::ratio64#den_of),
-    /// [how to read it](crate::definitions).
+    /// [`num_of`](crate::definitions::ratio64#num_of),
+    /// [`den_of`](crate::definitions::ratio64#den_of), [how to read it](crate::definitions).
     ///
     /// </details>
-    pub fn checked_pow(&self, exponent: i32) -> Result<Ratio, RatioError> {
+    pub fn checked_pow(&self, exponent: i32) -> Result<Self, RatioError> {
         if exponent < 0 {
             self.checked_recip()?.power(exponent.unsigned_abs())
         } else {
@@ -42,11 +42,12 @@ impl Ratio {
         }
     }
 
-    /// Returns the power of a degree that is at least 0. The power of a reduced fraction is reduced.
-    fn power(&self, degree: u32) -> Result<Ratio, RatioError> {
+    /// Returns the power of a degree that is at least 0. The power of a reduced fraction is
+    /// reduced.
+    fn power(&self, degree: u32) -> Result<Self, RatioError> {
         let num = checked_power(self.num, degree)?;
         let den = checked_power(self.den, degree)?;
-        Ok(Ratio { num, den })
+        Ok(Self { num, den })
     }
 }
 

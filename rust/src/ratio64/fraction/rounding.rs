@@ -18,8 +18,8 @@ impl Ratio {
     ///
     /// Words: [`IsQuotient`](crate::definitions::integer_core#isquotient),
     /// [`IsTruncated`](crate::definitions::integer_core#istruncated),
-    /// [`num_of`](crate::definitions::ratio64#num_of), [`den_of`](crate::definitions::ratio64#den_of),
-    /// [how to read it](crate::definitions).
+    /// [`num_of`](crate::definitions::ratio64#num_of),
+    /// [`den_of`](crate::definitions::ratio64#den_of), [how to read it](crate::definitions).
     ///
     /// </details>
     #[must_use]
@@ -28,8 +28,8 @@ impl Ratio {
         whole
     }
 
-    /// Returns the nearest whole number, and of two that are equally near the one farther from 0. For
-    /// -3/2 it returns `-2`.
+    /// Returns the nearest whole number, and of two that are equally near the one farther from 0.
+    /// For -3/2 it returns `-2`.
     ///
     /// <details><summary>Proved</summary>
     ///
@@ -40,8 +40,8 @@ impl Ratio {
     /// ```
     ///
     /// Words: [`IsRounded`](crate::definitions::ratio64#isrounded),
-    /// [`num_of`](crate::definitions::ratio64#num_of), [`den_of`](crate::definitions::ratio64#den_of),
-    /// [how to read it](crate::definitions).
+    /// [`num_of`](crate::definitions::ratio64#num_of),
+    /// [`den_of`](crate::definitions::ratio64#den_of), [how to read it](crate::definitions).
     ///
     /// </details>
     #[must_use]
@@ -63,22 +63,22 @@ impl Ratio {
     ///
     /// Words: [`IsRemainder`](crate::definitions::integer_core#isremainder),
     /// [`IsTruncated`](crate::definitions::integer_core#istruncated),
-    /// [`num_of`](crate::definitions::ratio64#num_of), [`den_of`](crate::definitions::ratio64#den_of),
-    /// [how to read it](crate::definitions).
+    /// [`num_of`](crate::definitions::ratio64#num_of),
+    /// [`den_of`](crate::definitions::ratio64#den_of), [how to read it](crate::definitions).
     ///
     /// </details>
     #[must_use]
-    pub fn fract(&self) -> Ratio {
+    pub fn fract(&self) -> Self {
         let (_, rest) = div_rem(self.num, self.den);
-        Ratio {
+        Self {
             num: rest,
             den: self.den,
         }
     }
 }
 
-/// Returns the whole number nearest to `num / den`, and of two that are equally near the one farther
-/// from 0.
+/// Returns the whole number nearest to `num / den`, and of two that are equally near the one
+/// farther from 0.
 ///
 /// May be called where `den` is above 0.
 pub(crate) fn nearest<T: Integer + Copy>(num: T, den: T) -> T {

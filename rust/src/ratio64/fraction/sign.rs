@@ -18,7 +18,7 @@ impl Ratio {
     ///
     /// </details>
     #[must_use]
-    pub fn is_zero(&self) -> bool {
+    pub const fn is_zero(&self) -> bool {
         self.num == 0
     }
 
@@ -36,7 +36,7 @@ impl Ratio {
     ///
     /// </details>
     #[must_use]
-    pub fn is_positive(&self) -> bool {
+    pub const fn is_positive(&self) -> bool {
         self.num > 0
     }
 
@@ -54,7 +54,7 @@ impl Ratio {
     ///
     /// </details>
     #[must_use]
-    pub fn is_negative(&self) -> bool {
+    pub const fn is_negative(&self) -> bool {
         self.num < 0
     }
 
@@ -74,11 +74,12 @@ impl Ratio {
     ///
     /// </details>
     #[must_use]
-    pub fn signum(&self) -> Ratio {
-        Ratio::from(self.num.signum())
+    pub fn signum(&self) -> Self {
+        Self::from(self.num.signum())
     }
 
-    /// Returns the negation, or `NotFitting` where the numerator is `i64::MIN`. That of -3/2 is 3/2.
+    /// Returns the negation, or `NotFitting` where the numerator is `i64::MIN`. That of -3/2 is
+    /// 3/2.
     ///
     /// # Errors
     ///
@@ -96,18 +97,19 @@ impl Ratio {
     /// ```
     ///
     /// Words: [`AnswersFraction`](crate::definitions::ratio64#answersfraction),
-    /// [`num_of`](crate::definitions::ratio64#num_of), [`den_of`](crate::definitions::ratio64#den_of),
-    /// [how to read it](crate::definitions).
+    /// [`num_of`](crate::definitions::ratio64#num_of),
+    /// [`den_of`](crate::definitions::ratio64#den_of), [how to read it](crate::definitions).
     ///
     /// </details>
-    pub fn checked_neg(&self) -> Result<Ratio, RatioError> {
+    pub fn checked_neg(&self) -> Result<Self, RatioError> {
         match self.num.checked_neg() {
-            Some(num) => Ok(Ratio { num, den: self.den }),
+            Some(num) => Ok(Self { num, den: self.den }),
             None => Err(RatioError::NotFitting),
         }
     }
 
-    /// Returns the magnitude, or `NotFitting` where the numerator is `i64::MIN`. That of -3/2 is 3/2.
+    /// Returns the magnitude, or `NotFitting` where the numerator is `i64::MIN`. That of -3/2 is
+    /// 3/2.
     ///
     /// # Errors
     ///
@@ -126,13 +128,13 @@ impl Ratio {
     /// ```
     ///
     /// Words: [`AnswersFraction`](crate::definitions::ratio64#answersfraction),
-    /// [`num_of`](crate::definitions::ratio64#num_of), [`den_of`](crate::definitions::ratio64#den_of),
-    /// [how to read it](crate::definitions).
+    /// [`num_of`](crate::definitions::ratio64#num_of),
+    /// [`den_of`](crate::definitions::ratio64#den_of), [how to read it](crate::definitions).
     ///
     /// </details>
-    pub fn checked_abs(&self) -> Result<Ratio, RatioError> {
+    pub fn checked_abs(&self) -> Result<Self, RatioError> {
         match self.num.checked_abs() {
-            Some(num) => Ok(Ratio { num, den: self.den }),
+            Some(num) => Ok(Self { num, den: self.den }),
             None => Err(RatioError::NotFitting),
         }
     }

@@ -16,7 +16,8 @@ impl Ratio {
     ///
     /// ```text
     /// ensures { AnswersWhere
-    ///     (EachFits (FitsSigned w64) (IsQuotient IsFloored (num_of self.now *ℤ n) (den_of self.now)))
+    ///         (EachFits (FitsSigned w64) (IsQuotient IsFloored (num_of self.now *ℤ n) (den_of
+    ///         self.now)))
     ///     (IsQuotient IsFloored (num_of self.now *ℤ n) (den_of self.now)) result }
     /// ```
     ///
@@ -24,8 +25,8 @@ impl Ratio {
     /// [`EachFits`](crate::definitions::integer_core#eachfits),
     /// [`IsQuotient`](crate::definitions::integer_core#isquotient),
     /// [`IsFloored`](crate::definitions::integer_core#isfloored),
-    /// [`num_of`](crate::definitions::ratio64#num_of), [`den_of`](crate::definitions::ratio64#den_of),
-    /// [how to read it](crate::definitions).
+    /// [`num_of`](crate::definitions::ratio64#num_of),
+    /// [`den_of`](crate::definitions::ratio64#den_of), [how to read it](crate::definitions).
     ///
     /// </details>
     #[must_use]
@@ -43,7 +44,8 @@ impl Ratio {
     ///
     /// ```text
     /// ensures { AnswersWhere
-    ///     (EachFits (FitsSigned w64) (IsQuotient IsCeiled (num_of self.now *ℤ n) (den_of self.now)))
+    ///         (EachFits (FitsSigned w64) (IsQuotient IsCeiled (num_of self.now *ℤ n) (den_of
+    ///         self.now)))
     ///     (IsQuotient IsCeiled (num_of self.now *ℤ n) (den_of self.now)) result }
     /// ```
     ///
@@ -51,8 +53,8 @@ impl Ratio {
     /// [`EachFits`](crate::definitions::integer_core#eachfits),
     /// [`IsQuotient`](crate::definitions::integer_core#isquotient),
     /// [`IsCeiled`](crate::definitions::integer_core#isceiled),
-    /// [`num_of`](crate::definitions::ratio64#num_of), [`den_of`](crate::definitions::ratio64#den_of),
-    /// [how to read it](crate::definitions).
+    /// [`num_of`](crate::definitions::ratio64#num_of),
+    /// [`den_of`](crate::definitions::ratio64#den_of), [how to read it](crate::definitions).
     ///
     /// </details>
     #[must_use]
@@ -62,8 +64,8 @@ impl Ratio {
     }
 
     /// Returns the whole number nearest to the fraction times `n`, and of two that are equally near
-    /// the one farther from 0, or `None` where that number does not fit. 2/3 times 100 is 67, and 1/2
-    /// times -3 is -2.
+    /// the one farther from 0, or `None` where that number does not fit. 2/3 times 100 is 67, and
+    /// 1/2 times -3 is -2.
     ///
     /// <details><summary>Proved</summary>
     ///
@@ -78,8 +80,8 @@ impl Ratio {
     /// Words: [`AnswersWhere`](crate::definitions::num_integer#answerswhere),
     /// [`EachFits`](crate::definitions::integer_core#eachfits),
     /// [`IsRounded`](crate::definitions::ratio64#isrounded),
-    /// [`num_of`](crate::definitions::ratio64#num_of), [`den_of`](crate::definitions::ratio64#den_of),
-    /// [how to read it](crate::definitions).
+    /// [`num_of`](crate::definitions::ratio64#num_of),
+    /// [`den_of`](crate::definitions::ratio64#den_of), [how to read it](crate::definitions).
     ///
     /// </details>
     #[must_use]

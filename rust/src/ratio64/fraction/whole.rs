@@ -20,8 +20,8 @@ impl Ratio {
     ///
     /// </details>
     #[must_use]
-    pub fn zero() -> Ratio {
-        Ratio::from(0)
+    pub fn zero() -> Self {
+        Self::from(0)
     }
 
     /// Returns the fraction 1/1.
@@ -40,12 +40,12 @@ impl Ratio {
     ///
     /// </details>
     #[must_use]
-    pub fn one() -> Ratio {
-        Ratio::from(1)
+    pub fn one() -> Self {
+        Self::from(1)
     }
 
-    /// Returns `true` if the fraction is a whole number, whose denominator is 1. 6/3 is one, and 1/2
-    /// is not.
+    /// Returns `true` if the fraction is a whole number, whose denominator is 1. 6/3 is one, and
+    /// 1/2 is not.
     ///
     /// <details><summary>Proved</summary>
     ///
@@ -59,7 +59,7 @@ impl Ratio {
     ///
     /// </details>
     #[must_use]
-    pub fn is_integer(&self) -> bool {
+    pub const fn is_integer(&self) -> bool {
         self.den == 1
     }
 }
@@ -79,7 +79,7 @@ impl Ratio {
 ///
 /// </details>
 impl Default for Ratio {
-    fn default() -> Ratio {
-        Ratio::zero()
+    fn default() -> Self {
+        Self::zero()
     }
 }
