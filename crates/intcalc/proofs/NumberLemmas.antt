@@ -31,9 +31,9 @@ same_part word h = elim (cases_Bool (starts_with_minus word)) [
 ]
 
 -- so `parse` reads its value
-read_as : {E : Type 0} {word : List ℕ} (r : Result ℤ E) → ParsesSigned w128 10 word r → is_number_word word ≡ true → OkIff r (FitsSigned w128 (whole_of word)) (whole_of word)
-read_as {word = word} (Ok n) h is = let same = rw (same_part word (numeral word is)) at h in (same.0.1, same.1)
-read_as {word = word} (Err e) h is = let same = rw (same_part word (numeral word is)) at h in λ fits. same (numeral word is, fits)
+read_as : {E : Type 0} (word : List ℕ) (r : Result ℤ E) → ParsesSigned w128 10 word r → is_number_word word ≡ true → OkIff r (FitsSigned w128 (whole_of word)) (whole_of word)
+read_as word (Ok n) h is = let same = rw (same_part word (numeral word is)) at h in (same.0.1, same.1)
+read_as word (Err e) h is = let same = rw (same_part word (numeral word is)) at h in λ fits. same (numeral word is, fits)
 
 -- ---- the nearer end of `i128`
 
@@ -51,20 +51,20 @@ below (suc n) far = elim (cases_lt n (2 ^ 127)) [ inl small ↦ absurd (far (rec
 -- ---- what `read_number` returns
 
 pub read_ok : {E : Type 0} (word : List ℕ) (r : Result ℤ E) (n : ℤ) → ParsesSigned w128 10 word r → r ≡ Ok n → is_number_word word ≡ true → Some n ≡ spelled_number word
-read_ok word (Ok m) n h is d =
-    let read = read_as (Ok m) h d in
-    let same : n ≡ whole_of word = cc in
+read_ok {E} word (Ok m) n h is d =
+    let read = read_as {E = E} word (Ok m) h d in
+    let same : n ≡ whole_of word = cc (is, read.1) in
     rw d (ap Some (same ∙ sym (inside (whole_of word) read.0)))
 read_ok word (Err e) n h is d = cc
 
 pub read_low : {E : Type 0} (word : List ℕ) (r : Result ℤ E) (e : E) → ParsesSigned w128 10 word r → r ≡ Err e → is_number_word word ≡ true → starts_with_minus word ≡ true → Some (negsuc (2 ^ 127 - 1)) ≡ spelled_number word
 read_low word (Ok n) e h is d minus = cc
-read_low word (Err x) e h is d minus =
-    let far = rw minus at (read_as (Err x) h d) in
+read_low {E} word (Err x) e h is d minus =
+    let far = rw minus at (read_as {E = E} word (Err x) h d) in
     rw d (rw minus (ap Some (sym (below _ far))))
 
 pub read_high : {E : Type 0} (word : List ℕ) (r : Result ℤ E) (e : E) → ParsesSigned w128 10 word r → r ≡ Err e → is_number_word word ≡ true → starts_with_minus word ≡ false → Some (pos (2 ^ 127 - 1)) ≡ spelled_number word
 read_high word (Ok n) e h is d plain = cc
-read_high word (Err x) e h is d plain =
-    let far = rw plain at (read_as (Err x) h d) in
+read_high {E} word (Err x) e h is d plain =
+    let far = rw plain at (read_as {E = E} word (Err x) h d) in
     rw d (rw plain (ap Some (sym (above _ far))))
