@@ -3,7 +3,7 @@
 use super::answers::two;
 use super::calls::Call::Averages;
 use super::rows::{Row, answers, check_row, check_rows};
-use super::types::{Ends, ends, greatest};
+use super::types::{Ends, ends_of, greatest};
 use own_types::types::{SIGNED, Type, UNSIGNED};
 use std::alloc::Global;
 use std::process::Abort;
@@ -26,7 +26,7 @@ static OF_DIFFERENT_SIGN: [Row; 2] = [
 /// Checks the averages of numbers right below the greatest of each of the types.
 fn check_below_the_top(rt: &impl Abort, alloc: Global, types: &[Type]) {
     for it in types {
-        let Ends(_, high) = ends(rt, alloc, *it);
+        let Ends(_, high) = ends_of(rt, alloc, *it);
         let first = (false, high.saturating_sub(1));
         let second = (false, high.saturating_sub(2));
         let third = (false, high.saturating_sub(3));

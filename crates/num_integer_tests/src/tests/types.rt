@@ -21,7 +21,7 @@ impl Ends {
 }
 
 /// The ends of the type.
-pub(super) fn ends(rt: &impl Abort, alloc: Global, it: Type) -> Ends {
+pub(super) fn ends_of(rt: &impl Abort, alloc: Global, it: Type) -> Ends {
     match answer(alloc, it, Call::Ends, &[]) {
         Some(((_, low), (_, high), _, _)) => Ends(low, high),
         None => panic!(rt; "a type has ends"),
@@ -32,6 +32,6 @@ pub(super) fn ends(rt: &impl Abort, alloc: Global, it: Type) -> Ends {
 pub(super) fn greatest(rt: &impl Abort, alloc: Global, it: Type) -> i128
     ensures { pos 0 ≤ℤ result }
 {
-    let Ends(_, high) = ends(rt, alloc, it);
+    let Ends(_, high) = ends_of(rt, alloc, it);
     i128::try_from(high).expect(rt, "the type has no larger number")
 }
