@@ -95,7 +95,7 @@ fn known_dates() {
     }
     for (month, day) in [(2, 30), (4, 31), (0, 1), (13, 1), (1, 0), (1, 32)] {
         let date = Date::new(2000, month, day);
-        holds_at(date == None, &("Date::new", month, day));
+        holds_at(date.is_none(), &("Date::new", month, day));
     }
 }
 
@@ -221,7 +221,7 @@ fn known_weeks() {
     }
     for &(year, week, weekday) in &NO_WEEKS {
         let date = Date::from_iso_week(year, week, weekday);
-        holds_at(date == None, &("from_iso_week", year, week, weekday));
+        holds_at(date.is_none(), &("from_iso_week", year, week, weekday));
     }
 }
 

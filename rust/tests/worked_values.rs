@@ -373,7 +373,9 @@ fn meetings() {
 }
 
 /// Where to begin, three congruences, and the next number that solves each.
-const NEXT_OF_THREE: [(i8, [(i8, i8); 3], CommonSolution<i8>); 8] = [
+type Row = (i8, [(i8, i8); 3], CommonSolution<i8>);
+
+const NEXT_OF_THREE: [Row; 8] = [
     (-128, [(0, 11), (0, 13), (0, 7)], At(0)),
     (0, [(0, 11), (0, 13), (0, 7)], At(0)),
     (1, [(0, 11), (0, 13), (0, 7)], Beyond),
