@@ -6,7 +6,7 @@
     scripts/check_pages.py --examples FOLDER  the same of the sessions at the heads of rust/examples/*.rs, whose programs are there
     scripts/check_pages.py --self-test        plants slips in samples; status 1 if one is not found
 
-Each block of Rust is in a `.rt` file, each block of a proof in an `.antt` file, and each line of a block of crates in
+Each block of Rust is in a `.rt` file or an example of rust/, each block of a proof in an `.antt` file, and each line of a block of crates in
 crates.txt. Of a block of imports alone, each name is imported so in a `.rt` file. Indentation does not count, and a comment
 `// and ..` in a block replaces lines that the block leaves out. Blocks of any other kind are not read. The command of
 README.md is the stored run. A session is a block of `console`: each command in it prints the lines below it and nothing else."""
@@ -111,7 +111,8 @@ def files():
     """The files of the repository that the gate compiles."""
     def read(folders, suffix):
         return [file.read_text() for folder in folders for file in sorted(REPOSITORY.glob(f'crates/*/{folder}/**/*{suffix}'))]
-    return Files(read(('src',), '.rt'), read(('src', 'specs', 'proofs'), '.antt'), (REPOSITORY / 'crates.txt').read_text())
+    examples = [file.read_text() for file in sorted(REPOSITORY.glob('rust/examples/*.rs'))]
+    return Files(read(('src',), '.rt') + examples, read(('src', 'specs', 'proofs'), '.antt'), (REPOSITORY / 'crates.txt').read_text())
 
 
 def has_stored_run():

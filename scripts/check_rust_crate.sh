@@ -140,6 +140,10 @@ sums() {
         awk '{ print $1, $2, $3 + $4, $5 }'
 }
 
+front_page() {
+    (cd "$work/compare" && cargo test --offline --test front_page "$@")
+}
+
 checksums() {
     (cd "$work/compare" && cargo run --release --offline --features cellarcove >"$work/list") || return 1
     [ "$(sums "$work/list" | wc -l)" -gt 0 ] && diff <(sums crates/replay/src/list.rt) <(sums "$work/list")
@@ -189,6 +193,8 @@ if has_packages "${originals[@]}"; then
     check_tests 'those of its library' upstream_tests --lib
     check_tests 'those of averages' upstream_tests --test average
     check_tests 'those of roots' upstream_tests --test roots
+    check_tests 'what num-integer returns on the front page' front_page
+    check_tests 'and without overflow checks' front_page --release --config profile.release.overflow-checks=false
     check "the checksums of compare, $(sums crates/replay/src/list.rt | wc -l) lines" checksums
     if has_packages "${dependents[@]}"; then
         check_dependents

@@ -1,5 +1,6 @@
 #!/usr/bin/env bash
-# Writes every file that is made: plain Rust, its list of public items and the exports in rust/, the reference, and what Python computes for `replay`.
+# Writes every file that is made: plain Rust, its list of public items and the exports in rust/, the reference, the numbers on
+# README, and what Python computes for `replay`.
 # .gitattributes lists these files.
 #
 # usage: scripts/make_all.sh
@@ -13,3 +14,4 @@ made=$(mktemp)
 trap 'rm -f "$made"' EXIT
 python3 compare/libraries.py >"$made"
 cat "$made" >crates/replay/src/libraries.rt
+scripts/make_numbers.py --write >"$made"

@@ -7,10 +7,11 @@
                                     makes the pages of a copy, and plants one slip of each kind in it; status 1 where the
                                     comparison does not name the page that then differs
 
-A page has, in the order of the modules, each public item with its doc comment, its signature and its clauses as they
-stand, without its body; then each definition of `specs/` that a public clause or such a definition cites; then the laws,
-and the lemmas of `proofs/ForCallers.antt`. A word that a clause cites has a link. A form that is not known is refused by
-file and line; then nothing is written, and the status is 2."""
+A page has each public item that a user of the crate can import, by the path of its import, with its doc comment, its
+signature and its clauses, without its body. Clauses that only say that numbers lie in their types are one line. Then come
+each definition of `specs/` that a public clause or such a definition cites, the laws, and the lemmas of
+`proofs/ForCallers.antt`. A word that a clause cites has a link. The index has each function. A form that is not known is
+rejected by file and line; then nothing is written, and the status is 2."""
 import pathlib
 import re
 import shutil
@@ -23,17 +24,20 @@ from antt_words import Specs, cited
 from library import Library
 from prose import wrapped
 from rattle_source import Unknown
-from rust_docs import STATED, imports_of
+from rust_docs import STATED, imports_of, says_more
 
 REPOSITORY = pathlib.Path(__file__).resolve().parent.parent
 CRATES = REPOSITORY / 'crates'
 PAGES = REPOSITORY / 'docs' / 'reference'
 TOOLCHAIN = REPOSITORY / 'rust' / 'by_hand' / 'definitions.md'
-NAMES = ('integer_core', 'integer_roots', 'num_integer', 'modular', 'ratio64', 'calendar', 'applied', 'cellarcove_c',
-         'intcalc_core', 'intcalc')
-PROGRAMS = {'intcalc_core', 'intcalc', 'cellarcove_c'}      # nothing is exported: their public items are those of modules
+NAMES = ('integer_core', 'integer_roots', 'num_integer', 'modular', 'ratio64', 'calendar', 'applied', 'cellarcove_c')
+# All public items of these are those of num_integer, on whose page they are.
+BELOW = {'integer_core': 'num_integer', 'integer_roots': 'num_integer'}
+BY_FILE = {'cellarcove_c'}                      # nothing is exported: its public items are those of its files
+PROGRAM = ('intcalc_core', 'intcalc')           # on the page of files alone
+IN_RANGE = 'Clauses that only say that arguments and results are in the range of their types are left out.'
 SHOWN = ('fn', 'struct', 'enum', 'trait', 'const', 'type')
-LEMMA = re.compile(r'pub ([^\s:]+) :')
+LEMMA = re.compile(r'(?:abbrev |unfoldable )?pub (?:ruleset ([^\s:]+) =|([^\s:]+) :)')
 EXPORT = re.compile(r'pub use Rattle\.(\w+)\.([\w.]+)\.\{([^}]*)\}')
 
 
@@ -44,34 +48,50 @@ def head_of_file(module):
 
 
 class Crate:
-    """The modules of a crate, in the order in which a reader meets them."""
+    """What the page of a crate shows: its public items by the module from which a caller imports them."""
 
     def __init__(self, library, name):
-        self.name = name
+        self.name, self.library = name, library
         self.modules = [module for module in library.modules.values() if module.crate == name]
-        self.public = {} if name in PROGRAMS else library.published(name)
+        self.public = {} if name in BY_FILE else library.published(name)
 
     def place(self, module, item):
         """The place of the public module from which a caller imports an item, or None."""
-        return self.public.get((module.crate, module.path, item.name))
+        if self.name in BY_FILE:
+            return module.path if module.crate == self.name and item.public and item.kind in SHOWN else None
+        return self.public.get((module.crate, module.path, item.name)) if item.public and item.kind in SHOWN else None
 
-    def shows(self, module, item):
-        """Whether an item is public for a user of the crate."""
-        if item.kind == 'impl':
-            return any(self.shows(place, other) for place in self.modules for other in place.items
-                       if other.name == item.name and other.kind in ('struct', 'enum', 'trait'))
-        return item.kind in SHOWN and item.public and (self.name in PROGRAMS or self.place(module, item) is not None)
+    def place_of_impl(self, module, item):
+        """The place of the type of an implementation."""
+        return next((self.place(place, other) for place in self.library.modules.values() if place.crate == module.crate
+                     for other in place.items if other.name == item.name and other.kind in ('struct', 'enum', 'trait')), None)
 
-    def imports_of(self, module, shown):
-        """The line by which a caller imports the items of a module."""
-        if self.name in PROGRAMS:
-            return []
+    def sections(self):
+        """Each place with its items, each item with its module; the root first."""
         places = {}
-        for item in shown:
-            if item.kind != 'impl':
-                places.setdefault(self.place(module, item), []).append(item.name)
-        return [f"use {'::'.join((self.name,) + path)}::" + (names[0] if len(names) == 1 else '{' + ', '.join(names) + '}') + ';'
-                for path, names in places.items()]
+        if self.name not in BELOW:
+            for module in self.library.modules.values():
+                for item in module.items:
+                    place = self.place_of_impl(module, item) if item.kind == 'impl' else self.place(module, item)
+                    if place is not None:
+                        places.setdefault(place, []).append((module, item))
+        return sorted(places.items())
+
+    def imports(self, place, shown):
+        """The line by which a caller imports the items of a place."""
+        if self.name in BY_FILE:
+            return ''
+        names = sorted({item.name for _, item in shown if item.kind != 'impl'})
+        listed = names[0] if len(names) == 1 else '{' + ', '.join(names) + '}'
+        return f"use {'::'.join((self.name,) + place)}::{listed};"
+
+    def head(self, place, shown):
+        """The head of the file of a place. That of the root is the head of the page."""
+        if not place:
+            return []
+        files = [module for module in self.library.modules.values() if module.path == place]
+        own = [module for module in files if module.crate == self.name] or [module for module, _ in shown if module.path == place]
+        return head_of_file(own[0]) if own else []
 
 
 class Page:
@@ -93,10 +113,6 @@ class Page:
         self.add(f'```{kind}', *text.split('\n'), '```', '')
 
 
-def title_of(module):
-    return f"`{'/'.join(module.path)}.rt`" if module.path else 'The root'
-
-
 def dedented(source, first, last):
     """The text of code from a place to another, without the indentation of its first line."""
     text = source.text(first, last)
@@ -105,11 +121,22 @@ def dedented(source, first, last):
     return textwrap.dedent(margin + text)
 
 
+def without_ranges(source, item, text):
+    """The text of an item without the clauses that only say that numbers lie in their types."""
+    ranges = [source.text(clause.first, clause.last).rstrip(';') for clause in item.clauses]
+    ranges = [textwrap.dedent(clause) for clause in ranges if not says_more(clause)]
+    for clause in ranges:
+        lines = r'\n\s*'.join(re.escape(line.strip()) for line in clause.split('\n'))
+        text = re.sub(r'\n *' + lines, '', text, count=1)
+    return text
+
+
 def head_of(source, item):
     """The signature and the clauses of an item, without its body."""
     first = item.attributes[-1][1] + 1 if item.attributes else item.first
     if item.kind == 'fn':
-        return dedented(source, first, item.open - 1 if item.open else item.last).rstrip(';').rstrip()
+        head = dedented(source, first, item.open - 1 if item.open else item.last).rstrip(';').rstrip()
+        return without_ranges(source, item, head)
     if item.kind in ('trait', 'impl'):
         return dedented(source, first, item.open - 1)
     return dedented(source, item.first, item.last)
@@ -129,9 +156,10 @@ class Reference:
         self.specs = Specs(CRATES)
         names = [name for name in NAMES if (CRATES / name / 'src').is_dir()]
         library = Library(CRATES, names)
+        self.program = Library(CRATES, [name for name in PROGRAM if (CRATES / name / 'src').is_dir()])
         self.crates = {name: Crate(library, name) for name in names}
         self.pages = {name: Page(f'`{name}`') for name in self.crates}
-        self.words, self.anchors, self.waiting, self.items = {}, {}, [], {}
+        self.words, self.anchors, self.waiting, self.calls = {}, {}, [], []
 
     # ---- words
 
@@ -165,21 +193,25 @@ class Reference:
 
     def items_of(self, crate):
         page = self.pages[crate.name]
-        page.add(*head_of_file(crate.modules[0]), '')
-        for module in crate.modules:
-            shown = [item for item in module.items if crate.shows(module, item)]
-            blocks = [block for item in shown for block in self.blocks(module, item)]
-            if blocks:
-                page.heading(2, title_of(module))
-                page.add(*(head_of_file(module) + [''] if module.path else []))
-                names = crate.imports_of(module, shown)
-                if names:
-                    page.block('rust', '\n'.join(line for name in names for line in wrapped(name, 100, '    ')))
-                for block in blocks:
-                    self.block(page, module, *block)
+        page.add(*head_of_file(crate.modules[0]), '', IN_RANGE, '')
+        if crate.name in BELOW:
+            upper = BELOW[crate.name]
+            page.add(f'Its public items are those of [`{upper}`]({upper}.md). This page has its definitions and lemmas.', '')
+        for place, shown in crate.sections():
+            if crate.name in BY_FILE:
+                page.heading(2, f"`{'/'.join(place)}.rt`" if place else 'The root')
+            else:
+                page.heading(2, f"`{'::'.join((crate.name,) + place)}`")
+            page.add(*crate.head(place, shown), '')
+            if crate.name not in BY_FILE:
+                page.block('rust', '\n'.join(wrapped(crate.imports(place, shown), 100, '    ')))
+            for module, item in shown:
+                for block in self.blocks(module, item):
+                    self.block(page, crate, place, module, *block)
 
     def blocks(self, module, item):
-        """What the page shows of an item: pairs of a title, its doc comment, its code and the items whose imports count."""
+        """What the page shows of an item: a title, its doc comment, its code, the items whose imports count, its kind and
+        its name."""
         source = module.source
         if item.kind in ('trait', 'impl'):
             ghosts = [source.text(inner.first, inner.last) for inner in item.items
@@ -192,9 +224,9 @@ class Reference:
                     body = '\n\n'.join(textwrap.indent(textwrap.dedent('    ' + ghost), '    ') for ghost in ghosts)
                     head += ' {\n' + body + '\n}'
                 title = f'trait `{item.name}`' if item.kind == 'trait' else f'`{item.of_trait}` for `{item.name}`'
-                yield title, doc_of(source, item), head, item.items
+                yield title, doc_of(source, item), head, item.items, item.kind, item.name
             for inner in methods:
-                yield f'`{item.name}::{inner.name}`', doc_of(source, inner), head_of(source, inner), item.items
+                yield f'`{item.name}::{inner.name}`', doc_of(source, inner), head_of(source, inner), item.items, 'fn', inner.name
         else:
             yield f'`{item.name}`', doc_of(source, item), head_of(source, item), [], item.kind, item.name
 
@@ -204,16 +236,19 @@ class Reference:
             return True
         return bool(inner.clauses) if item.of_trait else inner.public
 
-    def block(self, page, module, title, doc, code, inner, kind='', name=''):
-        page.heading(3, title)
+    def block(self, page, crate, place, module, title, doc, code, inner, kind, name):
+        anchor = page.heading(3, title)
         page.add(*doc, '')
         page.block('rust', code)
         if kind in ('struct', 'enum'):
-            place = '.'.join(('Rattle', module.crate, 'specs', 'declared') + module.path + (name,))
-            variants = f", `ghost use {place}.TheVariants.{{..}};`" * (kind == 'enum')
-            page.add(f'In a clause: `ghost use {place}.{{{name}}};`{variants}', '')
+            declared = '.'.join(('Rattle', module.crate, 'specs', 'declared') + module.path + (name,))
+            variants = f", `ghost use {declared}.TheVariants.{{..}};`" * (kind == 'enum')
+            page.add(f'In a clause: `ghost use {declared}.{{{name}}};`{variants}', '')
+        if kind == 'fn':
+            path = '::'.join((crate.name,) + (() if crate.name in BY_FILE else place))
+            self.calls.append((title.strip('`').split('::')[-1], title.strip('`'), path, f'{crate.name}.md#{anchor}', first_sentence(doc)))
         imports = imports_of(module.source, module.items) | imports_of(module.source, inner)
-        self.links(module.crate, code, imports)
+        self.links(crate.name, code, imports)
 
     # ---- definitions, laws and lemmas
 
@@ -271,9 +306,10 @@ class Reference:
                 self.lemma(page, name, lemma)
 
     def lemma(self, page, name, lemma):
-        if lemma is None:                       # a ruleset, which states nothing
+        if lemma is None:
             return
         comment, text = lemma
+        page.heading(4, f'`{name}`')
         if comment:
             page.add(sentence(comment), '')
         page.block('text', text)
@@ -291,23 +327,32 @@ class Reference:
         for name in self.crates:
             self.lemmas_of(name)
         pages = {f'{name}.md': '\n'.join(page.lines) for name, page in self.pages.items()}
-        pages['README.md'] = self.index()
+        pages['README.md'] = self.front()
+        pages['index.md'] = self.index()
         pages['modules.md'] = self.modules()
         return {name: re.sub(r'\n{3,}', '\n\n', text).rstrip('\n') + '\n' for name, text in pages.items()}
 
     def modules(self):
         lines = ['# Modules', '', 'Each file of a crate, by the first sentence of its head.', '']
-        for name, crate in self.crates.items():
-            lines += [f'## `{name}`', '', '| file | what it has |', '|---|---|']
+        shown = list(self.crates.values()) + [Crate(self.program, name) for name in self.program.crates]
+        for crate in sorted(shown, key=lambda crate: (NAMES + PROGRAM).index(crate.name)):
+            lines += [f'## `{crate.name}`', '', '| file | what it has |', '|---|---|']
             lines += [f"| `{'/'.join(module.path) or module.source.path.stem}.rt` | {first_sentence(head_of_file(module))} |"
                       for module in crate.modules]
             lines.append('')
         return '\n'.join(lines)
 
     def index(self):
+        rows = [f'| [`{title}`]({link}) | `{path}` | {said} |' for _, title, path, link, said in sorted(self.calls)
+                if not link.startswith('cellarcove_c.md')]
+        return '\n'.join(['# All functions', '', 'By name. The exports for C are on [their page](cellarcove_c.md).', '',
+                          '| function | import from | what it does |', '|---|---|---|', *rows])
+
+    def front(self):
         rows = '\n'.join(f'| [`{name}`]({name}.md) | {first_sentence(head_of_file(crate.modules[0]))} |'
                          for name, crate in self.crates.items())
         return '\n'.join(['# Reference', '', 'Made of the sources by `scripts/make_reference.py`. Nobody edits these pages.', '',
+                          '[All functions](index.md), by name. [How to read a contract](../CONTRACTS.md), in five minutes.', '',
                           '| crate | what it is |', '|---|---|', rows, '',
                           '[modules.md](modules.md) lists the files of each crate.', '', '# How to read a clause', '',
                           *TOOLCHAIN.read_text().split('\n')[1:]])
@@ -320,33 +365,40 @@ def sentence(comment):
     return comment[0].upper() + comment[1:] if first.isalpha() and len(first) > 1 or first == 'a' else comment
 
 
-def first_sentence(head):
-    return re.split(r'(?<=\.)\s', ' '.join(head).strip())[0]
+def first_sentence(lines):
+    """The first sentence of the lines, or of their first paragraph."""
+    text = ' '.join(lines).strip() if '' not in lines else ' '.join(lines[:lines.index('')]).strip()
+    return re.split(r'(?<=\.)\s', text)[0].replace('|', '\\|')
 
 
 def lemmas(file):
-    """The lemmas of a file, each with its comment and its statement."""
-    found = {}
-    for paragraph in re.split(r'\n\s*\n', file.read_text()):
-        found |= lemmas_in(paragraph)
-    return found
+    """The lemmas and rulesets of a file, each with its comment and its statement. A statement within modules has their
+    heads before it, which say what it takes first."""
+    return lemmas_in(file.read_text())
 
 
-def lemmas_in(paragraph):
-    found, comment, lines = {}, [], paragraph.split('\n')
+def lemmas_in(text):
+    found, comment, modules, lines = {}, [], [], text.split('\n')
     for i, line in enumerate(lines):
-        if line.startswith('-- '):
-            comment = comment + [line[3:]] if not line.startswith('-- ---- ') else []
-        match = LEMMA.match(line)
-        if match:
-            name = match.group(1)
-            stated = [line.removeprefix('pub ')]
-            for more in lines[i + 1:]:
-                if not more.startswith(' '):
-                    break
-                stated.append(more)
-            found[name] = (' '.join(comment), '\n'.join(stated))
+        margin = len(line) - len(line.lstrip(' '))
+        if not line.strip():
             comment = []
+            continue
+        modules = [(depth, head) for depth, head in modules if depth < margin]
+        if line.lstrip(' ').startswith('-- '):
+            comment = comment + [line.lstrip(' ')[3:]] if not line.lstrip(' ').startswith('-- ---- ') else []
+            continue
+        match = LEMMA.match(line.lstrip(' '))
+        if match:
+            stated = [re.sub(r'\bpub ', '', line.lstrip(' '), count=1)]
+            for more in lines[i + 1:]:
+                if len(more) - len(more.lstrip(' ')) <= margin:
+                    break
+                stated.append(more[margin:])
+            found[match.group(1) or match.group(2)] = (' '.join(comment), '\n'.join([head for _, head in modules] + stated))
+        elif line.lstrip(' ').startswith('module _ '):
+            modules.append((margin, line.strip()))
+        comment = []
     return found
 
 
@@ -360,8 +412,8 @@ SLIPS = (
      'pub natural_gcd_positive : {n m d : ℕ} → 0 < m', 'pub natural_gcd_positive : {n m d : ℕ} → 0 < n', 'num_integer.md'),
     ('a doc comment that differs', 'crates/calendar/src/feasts.rt', '/// Returns', '/// Computes', 'calendar.md'),
     ('a line of a page that differs', 'docs/reference/modular.md', 'fn inverse_modulo', 'fn modular_inverse', 'modular.md'),
-    ('an import that differs', 'docs/reference/num_integer.md', 'use num_integer::checked::{binomial, multinomial, row};',
-     'use num_integer::{binomial, multinomial};', 'num_integer.md'),
+    ('an import that differs', 'docs/reference/num_integer.md', 'use num_integer::{Average,', 'use integer_core::{Average,',
+     'num_integer.md'),
     ('an item at the place of another', 'scripts/library.py', 'public.setdefault((target.crate, target.path, target_name), place)',
      'public.setdefault((target.crate, target.path, target_name), place[1:])', 'num_integer.md'),
 )
