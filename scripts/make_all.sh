@@ -1,6 +1,6 @@
 #!/usr/bin/env bash
-# Writes every file that is made: plain Rust, its list of public items and the exports in rust/, the reference, the
-# numbers on README, and what Python computes for `replay`.
+# Writes every file that is made: plain Rust, its list of public items and the exports in rust/, the reference, the numbers on
+# README, and what Python computes for `replay`.
 # .gitattributes lists these files.
 #
 # usage: scripts/make_all.sh
