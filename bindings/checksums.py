@@ -1,10 +1,13 @@
 #!/usr/bin/env python3
-"""Writes a C program that calls each export many times, and prints a line for each: how many of the calls have an answer,
-and a checksum of all that they return. Two archives whose lines are the same answer the same.
+"""Writes a C program that calls each export many times, and prints a line for each: how many of the calls have a result,
+and a checksum of all that they return. Two archives whose lines are the same return the same. The program fails if a call
+returns a status that its comment does not name, or a rejection whose other fields are not 0.
 
     checksums.py           the program, made from the sources of the exports
 """
-from header import SOURCES, exported, is_call
+import re
+
+from exports import EXPORTS, c_parameters, c_type
 
 CALLS = 20_000
 
@@ -15,7 +18,8 @@ HEAD = f'''#include <inttypes.h>
 
 enum {{ CALLS = {CALLS}, COUNTS = 7 }};
 
-static uint64_t state, sum, answers;
+static uint64_t state, sum, results;
+static int wrong;
 static unsigned width; /* of the numbers of a call, or 0 if each has a width of its own */
 
 /* The next number of splitmix64. */
@@ -82,7 +86,7 @@ static void add(uint64_t part) {{
 
 static void start(uint64_t seed) {{
     state = seed;
-    sum = answers = 0;
+    sum = results = 0;
 }}
 
 static void start_call(void) {{
@@ -91,17 +95,18 @@ static void start_call(void) {{
 }}
 
 static void finish(const char *name) {{
-    printf("%s: %" PRIu64 " answers, checksum %016" PRIx64 "\\n", name, answers, sum);
+    printf("%s: %" PRIu64 " results, checksum %016" PRIx64 "\\n", name, results, sum);
+}}
+
+/* A status is one of those of the call, and the numbers of a rejection are 0. */
+static void look(const char *name, uint32_t status, unsigned allowed, bool zero) {{
+    results += status == 0;
+    if ((allowed >> status & 1) == 0 || (status != 0 && !zero)) {{
+        printf("%s: status %" PRIu32 "\\n", name, status);
+        wrong = 1;
+    }}
 }}
 '''
-
-
-def fields(kind, structs):
-    """The paths of the numbers that a result of a type has, each with a dot before it; one empty path for a number."""
-    if kind not in structs:
-        return ['']
-    parts = (field.rsplit(' ', 1) for field in structs[kind])
-    return [f'.{name}{below}' for inner, name in parts for below in fields(inner, structs)]
 
 
 def arguments(parameters):
@@ -121,30 +126,33 @@ def arguments(parameters):
     return lines, names
 
 
-def function(name, parts, structs):
+def function(call):
     """The function that calls an export."""
-    lines, names = arguments(parts[1:])
-    paths = fields(parts[0], structs)
-    answered = 'result.status == CELLARCOVE_ANSWER' if '.status' in paths else '1'
-    body = ['start_call();', *lines, f'{parts[0]} result = {name}({", ".join(names)});',
-            f'answers += {answered};', *(f'add((uint64_t)result{path});' for path in paths)]
+    lines, names = arguments(list(c_parameters(call)))
+    paths = [path for path, _ in EXPORTS().leaves(call.result)]
+    numbers = {status.name: status.number for status in EXPORTS().statuses}
+    body = ['start_call();', *lines, f'{c_type(call.result)} result = {call.symbol}({", ".join(names)});']
+    if EXPORTS().has_status(call):
+        allowed = {0, *(numbers[re.match('`([A-Z_]+)`', sentence).group(1)] for sentence in call.statuses)}
+        zero = ' && '.join(f'result{path} == 0' for path in paths)
+        body += [f'look("{call.symbol}", result.status, {sum(1 << status for status in allowed)}u, {zero});', 'add(result.status);']
+    else:
+        body.append('results++;')
+    body += [f'add((uint64_t)result{path});' for path in paths]
     return f'''
-static void sum_{name}(uint64_t seed) {{
+static void sum_{call.symbol}(uint64_t seed) {{
     start(seed);
     for (int call = 0; call < CALLS; call++) {{
 {"".join(f"        {line}{chr(10)}" for line in body)}    }}
-    finish("{name}");
+    finish("{call.symbol}");
 }}
 '''
 
 
 def program():
-    found = exported([path.read_text() for path in sorted(SOURCES.rglob('*.rt'))])
-    structs = {name: parts for name, parts in found.items() if isinstance(parts, list) and not is_call(parts)}
-    calls = {name: parts for name, parts in found.items() if is_call(parts)}
-    runs = ''.join(f'    sum_{name}({seed});\n' for seed, name in enumerate(calls, 1))
-    return HEAD + ''.join(function(name, parts, structs) for name, parts in calls.items()) \
-        + f'\nint main(void) {{\n{runs}    return 0;\n}}\n'
+    calls = EXPORTS().calls
+    runs = ''.join(f'    sum_{call.symbol}({seed});\n' for seed, call in enumerate(calls, 1))
+    return HEAD + ''.join(map(function, calls)) + f'\nint main(void) {{\n{runs}    return wrong;\n}}\n'
 
 
 if __name__ == '__main__':

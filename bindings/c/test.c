@@ -1,8 +1,9 @@
-/* Each call once or more: an answer, and each status that it has. What the answers are is proved; this tries that
+/* Each call once or more: a result, and each status that it has. What the results are is proved; this tries that
  * they reach C, field by field. */
 #include "cellarcove.h"
 
 #include <stdio.h>
+#include <string.h>
 
 static int failed = 0;
 static int passed = 0;
@@ -27,11 +28,34 @@ static void layout(void) {
     CHECK(sizeof(cellarcove_i64_answer) == 16 && sizeof(cellarcove_u64_answer) == 16);
     CHECK(sizeof(cellarcove_i64_division) == 24 && sizeof(cellarcove_u64_division) == 24);
     CHECK(sizeof(cellarcove_i64_solutions) == 24 && sizeof(cellarcove_u64_solutions) == 24);
+    CHECK(sizeof(cellarcove_i64_gcd_lcm) == 24 && sizeof(cellarcove_u64_gcd_lcm) == 24);
     CHECK(sizeof(cellarcove_i64_bezout) == 32);
     CHECK(sizeof(cellarcove_fraction) == 16 && sizeof(cellarcove_fraction_answer) == 24);
     CHECK(sizeof(cellarcove_order_answer) == 8);
     CHECK(sizeof(cellarcove_date) == 16 && sizeof(cellarcove_date_answer) == 24);
     CHECK(sizeof(cellarcove_iso_week_answer) == 16);
+}
+
+static void words(void) {
+    CHECK(strcmp(cellarcove_status_text(CELLARCOVE_NO_DATE), "there is no such date") == 0);
+    CHECK(strcmp(cellarcove_status_text(7), "no status") == 0);
+    CHECK(strcmp(cellarcove_built_by(), "rattle") == 0 || strcmp(cellarcove_built_by(), "cargo") == 0);
+    CHECK(strcmp(CELLARCOVE_VERSION, "0.1") > 0);
+}
+
+static void operators(void) {
+    ANSWERS(cellarcove_checked_sum_i64(INT64_MAX, INT64_MIN), -1);
+    REFUSES(cellarcove_checked_sum_i64(INT64_MAX, 1), CELLARCOVE_NOT_FITTING);
+    ANSWERS(cellarcove_checked_sum_u64(UINT64_MAX, 0), UINT64_MAX);
+    REFUSES(cellarcove_checked_sum_u64(UINT64_MAX, 1), CELLARCOVE_NOT_FITTING);
+    ANSWERS(cellarcove_checked_difference_i64(2, 3), -1);
+    REFUSES(cellarcove_checked_difference_i64(0, INT64_MIN), CELLARCOVE_NOT_FITTING);
+    ANSWERS(cellarcove_checked_difference_u64(3, 2), 1);
+    REFUSES(cellarcove_checked_difference_u64(2, 3), CELLARCOVE_NOT_FITTING);
+    ANSWERS(cellarcove_checked_product_i64(INT64_MIN, 1), INT64_MIN);
+    REFUSES(cellarcove_checked_product_i64(INT64_MIN, -1), CELLARCOVE_NOT_FITTING);
+    ANSWERS(cellarcove_checked_product_u64(UINT32_MAX, UINT32_MAX), UINT64_C(18446744065119617025));
+    REFUSES(cellarcove_checked_product_u64(UINT64_MAX, 2), CELLARCOVE_NOT_FITTING);
 }
 
 static void division(void) {
@@ -96,6 +120,14 @@ static void divisors(void) {
     REFUSES(cellarcove_lcm_i64(INT64_MAX, 2), CELLARCOVE_NOT_FITTING);
     ANSWERS(cellarcove_lcm_u64(4, 6), 12);
     REFUSES(cellarcove_lcm_u64(UINT64_MAX, 2), CELLARCOVE_NOT_FITTING);
+    cellarcove_i64_gcd_lcm both = cellarcove_gcd_lcm_i64(-10, 4);
+    CHECK(both.status == CELLARCOVE_ANSWER && both.gcd == 2 && both.lcm == 20);
+    both = cellarcove_gcd_lcm_i64(INT64_MAX, 2);
+    CHECK(both.status == CELLARCOVE_NOT_FITTING && both.gcd == 0 && both.lcm == 0);
+    cellarcove_u64_gcd_lcm pair = cellarcove_gcd_lcm_u64(UINT64_MAX, UINT64_MAX);
+    CHECK(pair.status == CELLARCOVE_ANSWER && pair.gcd == UINT64_MAX && pair.lcm == UINT64_MAX);
+    pair = cellarcove_gcd_lcm_u64(UINT64_MAX, 2);
+    CHECK(pair.status == CELLARCOVE_NOT_FITTING && pair.gcd == 0 && pair.lcm == 0);
     cellarcove_i64_bezout e = cellarcove_extended_gcd_i64(240, 46);
     CHECK(e.status == CELLARCOVE_ANSWER && e.gcd == 2 && e.x == -9 && e.y == 47);
     e = cellarcove_extended_gcd_i64(INT64_MIN, INT64_MIN);
@@ -127,6 +159,7 @@ static void coefficients(void) {
     ANSWERS(cellarcove_multinomial_u64(counts, 3), 30);
     REFUSES(cellarcove_multinomial_u64(many, 2), CELLARCOVE_NOT_FITTING);
     ANSWERS(cellarcove_multinomial_u64(counts, 0), 1);
+    ANSWERS(cellarcove_multinomial_u64(NULL, 0), 1);
 }
 
 static void residues(void) {
@@ -154,10 +187,39 @@ static void congruences(void) {
     CHECK(s.status == CELLARCOVE_NO_SOLUTION && s.first == 0 && s.step == 0);
     s = cellarcove_chinese_remainder_i64(1, INT64_MAX, 0, INT64_MAX - 1);
     CHECK(s.status == CELLARCOVE_NOT_FITTING && s.first == 0 && s.step == 0);
+    /* there is no solution, and the step would not fit */
+    s = cellarcove_chinese_remainder_i64(1, INT64_C(1) << 62, 2, INT64_MAX - 1);
+    CHECK(s.status == CELLARCOVE_NO_SOLUTION && s.first == 0 && s.step == 0);
     s = cellarcove_chinese_remainder_i64(1, 4, 3, 0);
     CHECK(s.status == CELLARCOVE_BAD_MODULUS && s.first == 0 && s.step == 0);
     cellarcove_u64_solutions t = cellarcove_chinese_remainder_u64(1, 4, 3, 6);
     CHECK(t.status == CELLARCOVE_ANSWER && t.first == 9 && t.step == 12);
+    t = cellarcove_chinese_remainder_u64(1, UINT64_C(1) << 63, 2, UINT64_MAX - 1);
+    CHECK(t.status == CELLARCOVE_NO_SOLUTION && t.first == 0 && t.step == 0);
+    t = cellarcove_chinese_remainder_u64(1, UINT64_MAX, 0, UINT64_MAX - 1);
+    CHECK(t.status == CELLARCOVE_NOT_FITTING && t.first == 0 && t.step == 0);
+    s = cellarcove_solutions_i64(6, 4, 10);
+    CHECK(s.status == CELLARCOVE_ANSWER && s.first == 4 && s.step == 5);
+    s = cellarcove_solutions_i64(6, 3, 10);
+    CHECK(s.status == CELLARCOVE_NO_SOLUTION && s.first == 0 && s.step == 0);
+    s = cellarcove_solutions_i64(6, 4, -10);
+    CHECK(s.status == CELLARCOVE_BAD_MODULUS && s.first == 0 && s.step == 0);
+    t = cellarcove_solutions_u64(6, 4, 10);
+    CHECK(t.status == CELLARCOVE_ANSWER && t.first == 4 && t.step == 5);
+    ANSWERS(cellarcove_quotient_modulo_i64(2, 3, 7), 3);
+    REFUSES(cellarcove_quotient_modulo_i64(2, 4, 6), CELLARCOVE_NO_SOLUTION);
+    REFUSES(cellarcove_quotient_modulo_i64(2, 4, 0), CELLARCOVE_BAD_MODULUS);
+    ANSWERS(cellarcove_quotient_modulo_u64(2, 3, 7), 3);
+    ANSWERS(cellarcove_previous_congruent_i64(-10, 1, 4), -11);
+    REFUSES(cellarcove_previous_congruent_i64(INT64_MIN, 1, 4), CELLARCOVE_NOT_FITTING);
+    REFUSES(cellarcove_previous_congruent_i64(0, 1, 0), CELLARCOVE_BAD_MODULUS);
+    ANSWERS(cellarcove_previous_congruent_u64(10, 1, 4), 9);
+    REFUSES(cellarcove_previous_congruent_u64(0, 1, 4), CELLARCOVE_NOT_FITTING);
+    ANSWERS(cellarcove_count_congruent_i64(1, 10, 1, 4), 3);
+    REFUSES(cellarcove_count_congruent_i64(INT64_MIN, INT64_MAX, 0, 1), CELLARCOVE_NOT_FITTING);
+    REFUSES(cellarcove_count_congruent_i64(1, 10, 1, -4), CELLARCOVE_BAD_MODULUS);
+    ANSWERS(cellarcove_count_congruent_u64(10, 1, 1, 4), 0);
+    REFUSES(cellarcove_count_congruent_u64(0, UINT64_MAX, 0, 1), CELLARCOVE_NOT_FITTING);
     ANSWERS(cellarcove_next_congruent_i64(-10, 1, 4), -7);
     REFUSES(cellarcove_next_congruent_i64(INT64_MAX, 1, 4), CELLARCOVE_NOT_FITTING);
     REFUSES(cellarcove_next_congruent_i64(10, 1, 0), CELLARCOVE_BAD_MODULUS);
@@ -206,6 +268,12 @@ static void fractions(void) {
     REFUSES(cellarcove_fraction_floor(none), CELLARCOVE_ZERO_DENOMINATOR);
     ANSWERS(cellarcove_fraction_floor_times(fraction(2, 3), 100), 66);
     REFUSES(cellarcove_fraction_floor_times(fraction(3, 2), INT64_MAX), CELLARCOVE_NOT_FITTING);
+    ANSWERS(cellarcove_fraction_ceil(fraction(-3, 2)), -1);
+    REFUSES(cellarcove_fraction_ceil(none), CELLARCOVE_ZERO_DENOMINATOR);
+    ANSWERS(cellarcove_fraction_ceil_times(fraction(2, 3), 100), 67);
+    REFUSES(cellarcove_fraction_ceil_times(fraction(3, 2), INT64_MAX), CELLARCOVE_NOT_FITTING);
+    ANSWERS(cellarcove_fraction_round_times(fraction(1, 2), -3), -2);
+    REFUSES(cellarcove_fraction_round_times(large, 1), CELLARCOVE_NOT_FITTING);
     ANSWERS(cellarcove_fraction_round(fraction(-3, 2)), -2);
     REFUSES(cellarcove_fraction_round(large), CELLARCOVE_NOT_FITTING);
 }
@@ -225,7 +293,8 @@ static void dates(void) {
     ANSWERS(cellarcove_day_from_date(date(2000, 2, 29)), 11016);
     REFUSES(cellarcove_day_from_date(none), CELLARCOVE_NO_DATE);
     REFUSES(cellarcove_day_from_date(far), CELLARCOVE_NOT_FITTING);
-    CHECK(cellarcove_weekday(0) == 4 && cellarcove_weekday(INT64_MIN) < 7);
+    CHECK(cellarcove_weekday(0) == 4 && cellarcove_weekday(3) == 7 && cellarcove_weekday(4) == 1);
+    CHECK(cellarcove_weekday(INT64_MIN) == 3);
     cellarcove_date_answer later = cellarcove_plus_months(end, 1);
     CHECK(later.status == CELLARCOVE_ANSWER && is_date(later.date, 2000, 2, 29));
     later = cellarcove_plus_months(none, 1);
@@ -239,30 +308,61 @@ static void dates(void) {
     CHECK(week.status == CELLARCOVE_ANSWER && week.week == 53 && week.year == 2004);
     week = cellarcove_iso_week(none);
     CHECK(week.status == CELLARCOVE_NO_DATE && week.week == 0 && week.year == 0);
-    cellarcove_date_answer day = cellarcove_date_from_iso_week(2009, 53, 0);
+    cellarcove_date_answer day = cellarcove_date_from_iso_week(2009, 53, 7);
     CHECK(day.status == CELLARCOVE_ANSWER && is_date(day.date, 2010, 1, 3));
-    day = cellarcove_date_from_iso_week(2010, 53, 0);
+    day = cellarcove_date_from_iso_week(2010, 53, 7);
     CHECK(day.status == CELLARCOVE_NO_DATE && is_date(day.date, 0, 0, 0));
-    day = cellarcove_date_from_iso_week(2009, 0, 0);
+    day = cellarcove_date_from_iso_week(2009, 0, 7);
     CHECK(day.status == CELLARCOVE_NO_DATE && is_date(day.date, 0, 0, 0));
-    day = cellarcove_date_from_iso_week(2009, 53, 7);
+    day = cellarcove_date_from_iso_week(2009, 53, 8);
     CHECK(day.status == CELLARCOVE_OUTSIDE && is_date(day.date, 0, 0, 0));
-    day = cellarcove_date_from_iso_week(2009, 99, 7);
+    day = cellarcove_date_from_iso_week(2009, 99, 0);
     CHECK(day.status == CELLARCOVE_OUTSIDE && is_date(day.date, 0, 0, 0));
     CHECK(is_date(cellarcove_easter(2024), 2024, 3, 31));
 }
 
+static void days_and_years(void) {
+    cellarcove_date none = {1900, 2, 29}, far = {INT64_MAX, 12, 31};
+    cellarcove_date_answer day = cellarcove_plus_days(date(2000, 3, 1), -1);
+    CHECK(day.status == CELLARCOVE_ANSWER && is_date(day.date, 2000, 2, 29));
+    day = cellarcove_plus_days(far, 1);
+    CHECK(day.status == CELLARCOVE_NOT_FITTING && is_date(day.date, 0, 0, 0));
+    day = cellarcove_plus_days(none, 1);
+    CHECK(day.status == CELLARCOVE_NO_DATE && is_date(day.date, 0, 0, 0));
+    ANSWERS(cellarcove_days_between(date(2000, 3, 1), date(2000, 2, 28)), -2);
+    REFUSES(cellarcove_days_between(date(2000, 3, 1), far), CELLARCOVE_NOT_FITTING);
+    REFUSES(cellarcove_days_between(none, far), CELLARCOVE_NO_DATE);
+    day = cellarcove_nth_weekday_of_month(2026, 11, 4, 4);
+    CHECK(day.status == CELLARCOVE_ANSWER && is_date(day.date, 2026, 11, 26));
+    day = cellarcove_nth_weekday_of_month(2026, 11, 4, 5);
+    CHECK(day.status == CELLARCOVE_NO_DATE && is_date(day.date, 0, 0, 0));
+    day = cellarcove_nth_weekday_of_month(2026, 13, 8, 1);
+    CHECK(day.status == CELLARCOVE_OUTSIDE && is_date(day.date, 0, 0, 0));
+    day = cellarcove_last_weekday_of_month(2026, 10, 5);
+    CHECK(day.status == CELLARCOVE_ANSWER && is_date(day.date, 2026, 10, 30));
+    day = cellarcove_last_weekday_of_month(2026, 13, 5);
+    CHECK(day.status == CELLARCOVE_NO_DATE && is_date(day.date, 0, 0, 0));
+    day = cellarcove_last_weekday_of_month(2026, 13, 0);
+    CHECK(day.status == CELLARCOVE_OUTSIDE && is_date(day.date, 0, 0, 0));
+    CHECK(cellarcove_is_leap_year(2000) && cellarcove_is_leap_year(-4) && !cellarcove_is_leap_year(1900));
+    CHECK(cellarcove_weeks_in_year(2020) == 53 && cellarcove_weeks_in_year(2021) == 52);
+    ANSWERS(cellarcove_days_in_month(1900, 2), 28);
+    REFUSES(cellarcove_days_in_month(1900, 0), CELLARCOVE_NO_DATE);
+    ANSWERS(cellarcove_day_of_year(date(2000, 12, 31)), 366);
+    REFUSES(cellarcove_day_of_year(none), CELLARCOVE_NO_DATE);
+}
+
 /* The week of the last day of all, a Thursday, and that of the first day but one, a Monday. */
 static void last_and_first_week(void) {
-    for (uint8_t weekday = 0; weekday < 7; weekday++) {
-        bool fits = 1 <= weekday && weekday <= 4;
+    for (uint8_t weekday = 1; weekday <= 7; weekday++) {
+        bool fits = weekday <= 4;
         cellarcove_date_answer day = cellarcove_date_from_iso_week(INT64_MAX, 53, weekday);
         CHECK(day.status == (fits ? CELLARCOVE_ANSWER : CELLARCOVE_NOT_FITTING));
         CHECK(fits ? is_date(day.date, INT64_MAX, 12, 27 + weekday) : is_date(day.date, 0, 0, 0));
         day = cellarcove_date_from_iso_week(INT64_MAX, 54, weekday);
         CHECK(day.status == CELLARCOVE_NO_DATE && is_date(day.date, 0, 0, 0));
         day = cellarcove_date_from_iso_week(INT64_MIN, 1, weekday);
-        CHECK(day.status == CELLARCOVE_ANSWER && is_date(day.date, INT64_MIN, 1, weekday == 0 ? 8 : 1 + weekday));
+        CHECK(day.status == CELLARCOVE_ANSWER && is_date(day.date, INT64_MIN, 1, 1 + weekday));
         day = cellarcove_date_from_iso_week(INT64_MIN, 0, weekday);
         CHECK(day.status == CELLARCOVE_NO_DATE && is_date(day.date, 0, 0, 0));
     }
@@ -270,6 +370,8 @@ static void last_and_first_week(void) {
 
 int main(void) {
     layout();
+    words();
+    operators();
     division();
     divisors();
     roots();
@@ -278,7 +380,8 @@ int main(void) {
     congruences();
     fractions();
     dates();
+    days_and_years();
     last_and_first_week();
-    printf("%d answers right, %d wrong\n", passed, failed);
+    printf("%d results right, %d wrong\n", passed, failed);
     return failed != 0;
 }

@@ -1,22 +1,28 @@
 """Compares the calls with those of Python on random numbers and the ends of the types."""
 
+import array
+import calendar
 import copy
 import datetime
 import functools
-import inspect
 import math
 import os
 import pathlib
 import pickle
 import random
 import re
+import threading
 import types
 import unittest
 from fractions import Fraction
 
 import cellarcove
-from cellarcove import DivisionByZero, NotFitting, Refused, Status
-from cellarcove._library import CALLS
+from cellarcove import Date, DivisionByZero, NotFitting, Refused, Status
+
+try:
+    import numpy
+except ImportError:
+    numpy = None
 
 I64, U64 = (-(2**63), 2**63 - 1), (0, 2**64 - 1)
 ENDS = [0, 1, 2, 3, 2**32 - 1, 2**32, 2**63 - 1, 2**63, 2**64 - 1]
@@ -225,26 +231,18 @@ class Fractions(Refusals):
 
     def test_fractions(self):
         for _ in range(TURNS // 10):
-            a, b = self.some(), self.some()
-            self.agree(cellarcove.fraction_add, a + b, a, b)
-            self.agree(cellarcove.fraction_sub, a - b, a, b)
-            self.agree(cellarcove.fraction_mul, a * b, a, b)
-            if b:
-                self.agree(cellarcove.fraction_div, a / b, a, b)
-            self.assertEqual(cellarcove.fraction_cmp(a, b), (a > b) - (a < b))
-            self.assertEqual(cellarcove.fraction_floor(a), math.floor(a))
+            a = self.some()
             away = math.floor(abs(a) + Fraction(1, 2))
             self.assertEqual(cellarcove.fraction_round(a), away if a >= 0 else -away)
             factor = random.randint(-(2**20), 2**20)
-            product = Fraction(math.floor(a * factor))
-            self.agree(lambda x: cellarcove.fraction_floor_times(x, factor), product, a)
+            away = math.floor(abs(a * factor) + Fraction(1, 2))
+            self.agree(lambda x: cellarcove.fraction_round_times(x, factor), Fraction(away if a * factor >= 0 else -away), a)
             limit = random.randint(1, 1000)
             near, wanted = cellarcove.limit_denominator(a, limit), a.limit_denominator(limit)
             self.assertLessEqual(near.denominator, limit)
             self.assertEqual(abs(near - a), abs(wanted - a))
-        self.assertEqual(cellarcove.fraction_new(6, -4), Fraction(-3, 2))
-        self.divides_by_zero(Status.ZERO_DENOMINATOR, cellarcove.fraction_div, Fraction(1), Fraction(0))
-        self.divides_by_zero(Status.ZERO_DENOMINATOR, cellarcove.fraction_new, 1, 0)
+        self.assertEqual(cellarcove.fraction_round(7), 7)
+        self.divides_by_zero(Status.ZERO_DENOMINATOR, cellarcove.fraction_round, (1, 0))
         limit = self.refuses(Status.OUTSIDE, cellarcove.limit_denominator, Fraction(1, 3), 0)
         self.assertNotIsInstance(limit, ZeroDivisionError)
 
@@ -254,45 +252,87 @@ class Dates(Refusals):
         for _ in range(TURNS // 4):
             date = datetime.date.fromordinal(random.randint(1, datetime.date.max.toordinal()))
             day = date.toordinal() - FIRST_DAY
-            self.assertEqual(cellarcove.date_from_day(day), date)
+            self.assertEqual(cellarcove.date_from_day(day).to_date(), date)
             self.assertEqual(cellarcove.day_from_date(date), day)
-            self.assertEqual(cellarcove.weekday(day), date.isoweekday() % 7)
+            self.assertEqual(cellarcove.weekday(day), date.isoweekday())
             year, week, weekday = date.isocalendar()
             self.assertEqual(cellarcove.iso_week(date), (year, week))
-            self.assertEqual(cellarcove.date_from_iso_week(year, week, weekday % 7), date)
+            self.assertEqual(cellarcove.date_from_iso_week(year, week, weekday), Date.from_date(date))
+            self.assertEqual(cellarcove.day_of_year(date), date.timetuple().tm_yday)
+            other = datetime.date.fromordinal(random.randint(1, datetime.date.max.toordinal()))
+            self.assertEqual(cellarcove.days_between(date, other), (other - date).days)
+            self.assertEqual(cellarcove.plus_days(date, (other - date).days).to_date(), other)
+
+    def test_weekdays_of_months(self):
+        for year in (1900, 2000, 2026, 2028):
+            self.assertEqual(cellarcove.is_leap_year(year), calendar.isleap(year))
+            for month in range(1, 13):
+                self.assertEqual(cellarcove.days_in_month(year, month), calendar.monthrange(year, month)[1])
+                for weekday in range(1, 8):
+                    days = [day for day in calendar.Calendar().itermonthdates(year, month)
+                            if day.month == month and day.isoweekday() == weekday]
+                    self.assertEqual(cellarcove.last_weekday_of_month(year, month, weekday).to_date(), days[-1])
+                    for n in range(1, len(days) + 1):
+                        self.assertEqual(cellarcove.nth_weekday_of_month(year, month, weekday, n).to_date(), days[n - 1])
+                    self.refuses(Status.NO_DATE, cellarcove.nth_weekday_of_month, year, month, weekday, len(days) + 1)
+        self.refuses(Status.OUTSIDE, cellarcove.last_weekday_of_month, 2026, 13, 0)
+        self.refuses(Status.NO_DATE, cellarcove.days_in_month, 2026, 13)
+        self.assertEqual([cellarcove.weeks_in_year(year) for year in (2020, 2021)], [53, 52])
+
+    def test_class(self):
+        """A date of any year, in the order of the days, which can be pickled."""
+        far = Date(2**63 - 1, 12, 31)
+        self.assertEqual((far.isoweekday(), far.weekday()), (4, 3))
+        self.assertEqual((str(Date(2000, 2, 29)), str(Date(-5, 1, 1)), str(Date(12000, 1, 1))), ('2000-02-29', '-0005-01-01', '+12000-01-01'))
+        self.assertLess(Date(-1, 12, 31), Date(0, 1, 1))
+        for date in (far, Date(2000, 2, 29)):
+            for other in (pickle.loads(pickle.dumps(date)), copy.copy(date), copy.deepcopy(date)):
+                self.assertIs(type(other), Date)
+                self.assertEqual(other, date)
+        for year, month, day in ((1900, 2, 29), (2000, 0, 1), (2000, 13, 1), (2000, 1, 0), (2000, 1, 2**70), (2000, 2**70, 1)):
+            with self.assertRaises(Refused):
+                Date(year, month, day)
+        for call in (far.to_date, lambda: Date(2**63, 1, 1), lambda: Date(2**63, 13, 1)):
+            with self.assertRaises(OverflowError):
+                call()
+        for _ in range(1000):
+            date = datetime.date.fromordinal(random.randint(1, datetime.date.max.toordinal()))
+            same = Date.from_date(date)
+            self.assertEqual((same.to_date(), same.weekday(), same.isoweekday()), (date, date.weekday(), date.isoweekday()))
+            self.assertEqual(same.isoformat(), date.isoformat())
 
     def test_last_and_first_week(self):
         """The last day of all is the Thursday of its week, and the first but one a Monday."""
-        for weekday in (0, 5, 6):
+        for weekday in (5, 6, 7):
             self.refuses(Status.NOT_FITTING, cellarcove.date_from_iso_week, I64[1], 53, weekday)
-        for weekday in range(7):
+        for weekday in range(1, 8):
             self.refuses(Status.NO_DATE, cellarcove.date_from_iso_week, I64[1], 54, weekday)
             self.refuses(Status.NO_DATE, cellarcove.date_from_iso_week, I64[0], 0, weekday)
-            with self.assertRaises(OverflowError):
-                cellarcove.date_from_iso_week(I64[0], 1, weekday)
-        self.refuses(Status.NO_DATE, cellarcove.date_from_iso_week, 2010, 53, 0)
-        self.refuses(Status.OUTSIDE, cellarcove.date_from_iso_week, 2009, 99, 7)
+            self.assertEqual(cellarcove.date_from_iso_week(I64[0], 1, weekday), (I64[0], 1, weekday + 1))
+        self.refuses(Status.NO_DATE, cellarcove.date_from_iso_week, 2010, 53, 7)
+        for weekday in (0, 8, 255):
+            self.refuses(Status.OUTSIDE, cellarcove.date_from_iso_week, 2009, 99, weekday)
 
     def test_months(self):
         for _ in range(TURNS // 20):
             date = datetime.date(random.randint(1000, 9000), random.randint(1, 12), random.randint(1, 28))
             months = random.randint(-10000, 10000)
             years, month = divmod(date.month - 1 + months, 12)
-            self.assertEqual(cellarcove.plus_months(date, months), date.replace(date.year + years, month + 1))
+            self.assertEqual(cellarcove.plus_months(date, months).to_date(), date.replace(date.year + years, month + 1))
             self.assertEqual(cellarcove.months_between(date, date.replace(date.year + years, month + 1)), months)
-        self.assertEqual(cellarcove.plus_months(datetime.date(2000, 1, 31), 1), datetime.date(2000, 2, 29))
+        self.assertEqual(cellarcove.plus_months(datetime.date(2000, 1, 31), 1), Date(2000, 2, 29))
         self.assertEqual(cellarcove.months_between(datetime.date(2000, 1, 31), datetime.date(2000, 2, 29)), 1)
-        with self.assertRaises(OverflowError):
-            cellarcove.plus_months(datetime.date.max, 1)
+        self.assertEqual(cellarcove.plus_months(datetime.date.max, 1), (10000, 1, 31))
+        self.refuses(Status.NOT_FITTING, cellarcove.plus_months, Date(I64[1], 12, 31), 1)
 
     def test_easter(self):
         days = [datetime.date(2023, 4, 9), datetime.date(2024, 3, 31), datetime.date(2025, 4, 20), datetime.date(2038, 4, 25)]
-        self.assertEqual([cellarcove.easter(day.year) for day in days], days)
+        self.assertEqual([cellarcove.easter(day.year).to_date() for day in days], days)
+        self.assertEqual(cellarcove.easter(12000).year, 12000)
 
 
 class Ranges(unittest.TestCase):
     def test_ranges(self):
-        # ctypes alone would keep the low 64 bits
         for arguments in ((2**64 + 6, 4), (-1, 2**63), (-(2**63) - 1, 4)):
             with self.assertRaises(OverflowError):
                 cellarcove.gcd(*arguments)
@@ -300,7 +340,7 @@ class Ranges(unittest.TestCase):
             with self.assertRaises(OverflowError):
                 call(2**32)
         with self.assertRaises(OverflowError):
-            cellarcove.fraction_add(Fraction(2**63), Fraction(1))
+            cellarcove.fraction_round(Fraction(2**63))
         with self.assertRaises(OverflowError):
             cellarcove.power_modulo(3, -1, 7)
         with self.assertRaises(TypeError):
@@ -325,14 +365,14 @@ class Ranges(unittest.TestCase):
             'from 0 to 2**64 - 1': lambda: cellarcove.gcd(2**64, 4),
             'from -2**63 to 2**63 - 1': lambda: cellarcove.gcd(2**63, -4),
             'from 0 to 2**32 - 1': lambda: cellarcove.nth_root(4, 2**32),
-            'from 1 to 9999': lambda: cellarcove.easter(12000),
+            'from 1 to 9999': lambda: cellarcove.easter(12000).to_date(),
         }
         for words, call in beyond.items():
             with self.assertRaisesRegex(OverflowError, re.escape(words) + '$'):
                 call()
         for size in (10**39, 10**40, 10**5001, 2**100_000):
             for number in (size, -size):
-                for call in (cellarcove.gcd, cellarcove.sqrt, cellarcove.weekday, cellarcove.easter, cellarcove.fraction_new):
+                for call in (cellarcove.gcd, cellarcove.sqrt, cellarcove.weekday, cellarcove.easter, cellarcove.fraction_round):
                     with self.assertRaises(OverflowError) as raised:
                         call(number)
                     self.assertLessEqual(len(re.findall(r'\d', str(raised.exception))), 50)
@@ -363,25 +403,207 @@ class Errors(unittest.TestCase):
                 self.assertEqual((str(other), repr(other)), (str(error), repr(error)))
 
 
+class Arrays(unittest.TestCase):
+    """Each call over arrays gives what it gives for each number alone."""
+
+    def columns(self, how_many, count, signed=True):
+        low, high = I64 if signed else U64
+        ends = SIGNED_ENDS if signed else ENDS
+        numbers = [[random.choice(ends) if random.random() < 0.2 else random.randint(low, high) >> random.randrange(60)
+                    for _ in range(count)] for _ in range(how_many)]
+        return [array.array('q' if signed else 'Q', column) for column in numbers]
+
+    def alone(self, call, signed, *arguments):
+        """The result for one element, by the form for the numbers of the arrays."""
+        try:
+            result = call(*arguments)
+        except Refused as refusal:
+            return None, refusal.status
+        beyond = signed and any(number > I64[1] for number in (result if isinstance(result, tuple) else (result,)))
+        return (None, Status.NOT_FITTING) if beyond else (result, 0)
+
+    def agree(self, call, *columns):
+        """The elements that are rejected leave the others right."""
+        *results, statuses = call(*columns)
+        self.assertEqual([len(column) for column in results], [len(statuses)] * len(results))
+        rejected, signed = 0, columns[0].typecode == 'q'
+        for place, arguments in enumerate(zip(*columns)):
+            wanted, status = self.alone(call, signed, *arguments)
+            self.assertEqual(statuses[place], status, (call.__name__, arguments))
+            got = tuple(column[place] for column in results)
+            if status:
+                rejected += 1
+                self.assertEqual(got, (0,) * len(results))
+            else:
+                self.assertEqual(got, wanted if isinstance(wanted, tuple) else (wanted,))
+        return rejected
+
+    def test_signed(self):
+        x, y, z = self.columns(3, 400)
+        rejected = sum(self.agree(call, x, y) for call in (
+            cellarcove.div_floor, cellarcove.div_rem, cellarcove.gcd, cellarcove.lcm, cellarcove.gcd_lcm,
+            cellarcove.extended_gcd, cellarcove.inverse_modulo, cellarcove.checked_sum, cellarcove.checked_product))
+        rejected += sum(self.agree(call, x, y, z) for call in (
+            cellarcove.sum_modulo, cellarcove.product_modulo, cellarcove.solutions, cellarcove.next_congruent))
+        self.assertGreater(rejected, 1000)
+
+    def test_unsigned(self):
+        x, y, z = self.columns(3, 400, signed=False)
+        for call in (cellarcove.div_floor, cellarcove.gcd, cellarcove.lcm, cellarcove.binomial, cellarcove.checked_difference):
+            self.agree(call, x, y)
+        self.agree(cellarcove.power_modulo, x, y, z)
+        self.agree(cellarcove.sqrt, x)
+        self.agree(cellarcove.nth_root, x, array.array('I', [random.randrange(70) for _ in x]))
+        self.assertEqual(list(cellarcove.average_floor(x, y)), [(a + b) // 2 for a, b in zip(x, y)])
+        self.assertEqual(list(cellarcove.is_multiple_of(x, y)), [cellarcove.is_multiple_of(a, b) for a, b in zip(x, y)])
+        self.assertEqual(cellarcove.multinomial(array.array('Q', [2, 1, 2])), 30)
+        self.assertEqual(cellarcove.multinomial(array.array('Q')), 1)
+
+    def test_numbers_beside_arrays(self):
+        values, statuses = cellarcove.gcd(array.array('q', [12, -2**63, 0, 7]), 0)
+        self.assertEqual((list(values), list(statuses)), ([12, 0, 0, 7], [0, 2, 0, 0]))
+        values, statuses = cellarcove.power_modulo(3, array.array('Q', [4, 5]), 7)
+        self.assertEqual((list(values), list(statuses), values.typecode), ([4, 5], [0, 0], 'Q'))
+        values, statuses = cellarcove.power_modulo(-3, array.array('Q', [3]), 7)
+        self.assertEqual((list(values), values.typecode), ([1], 'q'))
+        with self.assertRaises(OverflowError):
+            cellarcove.gcd(array.array('q', [1]), 2**63)
+        with self.assertRaises(OverflowError):
+            cellarcove.gcd(array.array('Q', [1]), -1)
+        with self.assertRaises(TypeError):
+            cellarcove.gcd(array.array('q', [1]), 'x')
+
+    def test_dates(self):
+        days = array.array('q', [random.randint(-10**6, 10**6) for _ in range(300)])
+        years, months, of_months = cellarcove.date_from_day(days)
+        self.assertEqual(list(zip(years, months, of_months)), [cellarcove.date_from_day(day) for day in days])
+        back, statuses = cellarcove.day_from_date((years, months, of_months))
+        self.assertEqual((back, any(statuses)), (days, False))
+        distances, _ = cellarcove.days_between(datetime.date(1970, 1, 1), (years, months, of_months))
+        self.assertEqual(distances, days)
+        weeks = cellarcove.iso_week((years, months, of_months))
+        self.assertEqual(list(zip(weeks[0], weeks[1])), [cellarcove.iso_week(date) for date in zip(years, months, of_months)])
+        _, statuses = cellarcove.day_from_date((2000, months, 30))
+        self.assertEqual(list(statuses), [6 * (month == 2) for month in months])
+
+    def test_fractions(self):
+        nums, dens = array.array('q', [1, 3, -(2**63), 1]), array.array('q', [2, -2, -1, 0])
+        values, statuses = cellarcove.fraction_round((nums, dens))
+        self.assertEqual((list(values), list(statuses)), ([1, -2, 0, 0], [0, 0, 2, 1]))
+        near = cellarcove.limit_denominator((nums, dens), 5)
+        self.assertEqual([list(column) for column in near], [[1, -3, 0, 0], [2, 2, 0, 0], [0, 0, 2, 1]])
+
+    def test_outputs(self):
+        x, values, statuses = array.array('q', [12, 18]), array.array('q', [0, 0]), bytearray(2)
+        self.assertIs(cellarcove.gcd(x, 8, out=(values, statuses))[0], values)
+        self.assertEqual((list(values), list(statuses)), ([4, 2], [0, 0]))
+        cellarcove.gcd(x, 8, out=(x, statuses))
+        self.assertEqual(list(x), [4, 2])
+        average = array.array('q', [0, 0])
+        self.assertIs(cellarcove.average_floor(x, 0, out=(average,)), average)
+
+    def test_bad_outputs(self):
+        """A buffer of another length, item or dimension, or one that cannot be written: nothing is written."""
+        x, y = array.array('q', [12, 18]), array.array('q', [8, 8])
+        values, statuses = array.array('q', [5, 5]), array.array('B', [5, 5])
+        bad = [
+            lambda: cellarcove.gcd(x, array.array('q', [8]), out=(values, statuses)),
+            lambda: cellarcove.gcd(x, array.array('Q', [8, 8]), out=(values, statuses)),
+            lambda: cellarcove.gcd(x, array.array('i', [8, 8]), out=(values, statuses)),
+            lambda: cellarcove.gcd(x, array.array('d', [8, 8]), out=(values, statuses)),
+            lambda: cellarcove.gcd(x, b'abcdefgh', out=(values, statuses)),
+            lambda: cellarcove.gcd(x, y, out=(values, bytes(2))),
+            lambda: cellarcove.gcd(x, y, out=(bytes(16), statuses)),
+            lambda: cellarcove.gcd(x, y, out=(memoryview(values).toreadonly(), statuses)),
+            lambda: cellarcove.gcd(x, y, out=(array.array('q', [0]), statuses)),
+            lambda: cellarcove.gcd(x, y, out=(values, array.array('B', [0]))),
+            lambda: cellarcove.gcd(x, y, out=(array.array('Q', [0, 0]), statuses)),
+            lambda: cellarcove.gcd(x, y, out=(values,)),
+            lambda: cellarcove.gcd(x, y, out=(values, values)),
+            lambda: cellarcove.gcd(x, y, out=[values, statuses]),
+            lambda: cellarcove.gcd(x, y, out=(values, 7)),
+            lambda: cellarcove.gcd(memoryview(x)[::-1], y, out=(values, statuses)),
+            lambda: cellarcove.gcd(memoryview(x).cast('B').cast('q', [1, 2]), y, out=(values, statuses)),
+            lambda: cellarcove.average_floor(x, y, out=(memoryview(bytearray(24)).cast('q')[1:], statuses)),
+        ]
+        for number, call in enumerate(bad):
+            with self.assertRaises(ValueError, msg=number):
+                call()
+            self.assertEqual((list(values), list(statuses), list(x)), ([5, 5], [5, 5], [12, 18]), number)
+        room = array.array('q', [1, 2, 3])
+        with self.assertRaises(ValueError):
+            cellarcove.average_floor(memoryview(room)[:2], 0, out=(memoryview(room)[1:],))
+        for call in (lambda: cellarcove.gcd(1, 2, out=(values, statuses)), lambda: cellarcove.gcd(x, y, put=1), lambda: cellarcove.div_floor(x),
+                     lambda: cellarcove.div_floor(x, y, x=1), lambda: cellarcove.day_from_date((x, 1))):
+            self.assertRaises((TypeError, ValueError), call)
+
+    def test_threads(self):
+        """Calls of several threads at a time, over arrays and over numbers."""
+        x, y, z = self.columns(3, 2000, signed=False)
+        wanted, failed = cellarcove.power_modulo(x, y, z), []
+
+        def run():
+            for _ in range(20):
+                if cellarcove.power_modulo(x, y, z) != wanted or cellarcove.gcd(12, 18) != 6:
+                    failed.append(1)
+        threads = [threading.Thread(target=run) for _ in range(8)]
+        for thread in threads:
+            thread.start()
+        for thread in threads:
+            thread.join()
+        self.assertEqual(failed, [])
+
+    @unittest.skipIf(numpy is None, 'there is no numpy')
+    def test_numpy(self):
+        x = numpy.array([2**62, -2**63, 12, 0], dtype=numpy.int64)
+        values, statuses = cellarcove.lcm(x, 3)
+        self.assertEqual((list(values), list(statuses)), ([0, 0, 12, 0], [2, 2, 0, 0]))
+        out = numpy.empty(4, numpy.int64), numpy.empty(4, numpy.uint8)
+        self.assertIs(cellarcove.gcd(x, numpy.int64(8), out=out)[0], out[0])
+        self.assertEqual(out[0].tolist(), [8, 8, 4, 8])
+        self.assertEqual(cellarcove.gcd(numpy.int64(12), numpy.uint64(18)), 6)
+        for bad in (x[::2], x.reshape(2, 2), x.astype(float), x.astype(numpy.int32), x.astype('>i8')):
+            with self.assertRaises(ValueError):
+                cellarcove.gcd(bad, 8)
+
+
 class Names(unittest.TestCase):
     def test_all(self):
         """`__all__` has each class and call that is there, and nothing of another module."""
         public = {name for name, value in vars(cellarcove).items()
-                  if not name.startswith('_') and getattr(value, '__module__', '').split('.')[0] == 'cellarcove'}
-        self.assertEqual(set(cellarcove.__all__), public - {'load', 'DateParts', 'FractionParts'})
+                  if not name.startswith('_') and (getattr(value, '__module__', '') or '').split('.')[0] == 'cellarcove'}
+        self.assertEqual(set(cellarcove.__all__), public | {'BUILT_BY'})
         self.assertRegex(cellarcove.__version__, r'^\d+\.\d+\.\d+$')
+        self.assertIn(cellarcove.BUILT_BY, ('rattle', 'cargo'))
+        self.assertEqual(cellarcove.__version__, cellarcove._calls.VERSION)
 
     def test_docstrings(self):
-        """Each call says what it does, and what it raises if it has a status that is not always 0."""
-        always = {'iso_week', 'day_from_date', 'months_between'}  # of dates of `datetime`
-        always |= {'fraction_cmp', 'fraction_floor', 'fraction_round'}  # of fractions that fit
-        with_status = {re.sub('_[iu]64$', '', name) for name, (result, *_) in CALLS.items()
-                       if any(field == 'status' for field, _ in getattr(result, '_fields_', ()))}
+        """Each call says what it does."""
+        for name in cellarcove.__all__:
+            self.assertTrue(getattr(cellarcove, name).__doc__, name)
+
+    def test_keywords(self):
+        self.assertEqual(cellarcove.div_floor(y=3, x=-8), -3)
+        self.assertEqual(cellarcove.next_congruent(start=10, first=1, step=4), 13)
+        for arguments in ({'x': 1}, {'x': 1, 'y': 2, 'z': 3}):
+            self.assertRaises(TypeError, functools.partial(cellarcove.div_floor, **arguments))
+        self.assertRaises(TypeError, lambda: cellarcove.div_floor(1, 2, y=3))
+        self.assertRaises(TypeError, lambda: cellarcove.div_floor(1, 2, 3))
+
+    def test_any_argument(self):
+        """An argument of any type is an error of Python, and never a crash."""
+        odd = [None, 1.5, 'x', b'', b'12345678', [], (), (1, 2), (1, 2, 3), {}, object(), array.array('d', [1.0]), memoryview(b'x'),
+               Fraction(1, 3), datetime.date(2000, 1, 1), types.SimpleNamespace(year=None, month=1, day=1), float('nan'), 2**64, -(2**63) - 1, True]
         for name in cellarcove.__all__:
             call = getattr(cellarcove, name)
-            self.assertTrue(call.__doc__, name)
-            if inspect.isfunction(call) and name in with_status - always:
-                self.assertIn('Raises', call.__doc__, name)
+            if not callable(call) or isinstance(call, type):
+                continue
+            for first in odd:
+                for others in ((), (first,), (first, 1), (first, 1, 1), (1, first, 1, 1), (first, 1, 1, 1, first), (1,) * 9):
+                    try:
+                        call(first, *others)
+                    except (TypeError, ValueError, AttributeError, OverflowError, ZeroDivisionError):
+                        pass
 
 
 class Page(unittest.TestCase):

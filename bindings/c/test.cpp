@@ -1,0 +1,96 @@
+// The header for C++: each template with both signs, each class with its operators, and what it rejects.
+#include "cellarcove.hpp"
+
+#include <cstdio>
+#include <sstream>
+#include <vector>
+
+static int failed = 0;
+static int passed = 0;
+
+#define CHECK(...)                                                    \
+    do {                                                              \
+        if (__VA_ARGS__) {                                            \
+            passed++;                                                 \
+        } else {                                                      \
+            failed++;                                                 \
+            std::printf("FAIL line %d: %s\n", __LINE__, #__VA_ARGS__); \
+        }                                                             \
+    } while (0)
+
+using cellarcove::date;
+using cellarcove::fraction;
+using cellarcove::status;
+
+static void numbers() {
+    CHECK(*cellarcove::gcd(-56, 42) == 14);
+    CHECK(*cellarcove::gcd(UINT64_MAX, 0U) == UINT64_MAX);
+    CHECK(cellarcove::gcd(INT64_MIN, 0) == status::not_fitting);
+    static_assert(std::is_same_v<decltype(cellarcove::gcd(1U, 2U)), cellarcove::result<std::uint64_t>>);
+    static_assert(std::is_same_v<decltype(cellarcove::gcd(short(1), 2L)), cellarcove::result<std::int64_t>>);
+    CHECK(cellarcove::div_floor(-8, 3).value_or(0) == -3);
+    CHECK(!cellarcove::div_floor(1, 0) && cellarcove::div_floor(1, 0).error() == status::outside);
+    CHECK(!cellarcove::div_floor(1, 0).optional());
+    auto both = cellarcove::div_rem(-8, 3);
+    CHECK(both->quotient == -2 && both->remainder == -2);
+    CHECK(*cellarcove::gcd_lcm(10U, 4U) == cellarcove::gcd_and_lcm<std::uint64_t>{2, 20});
+    CHECK(*cellarcove::extended_gcd(240, 46) == cellarcove::bezout{2, -9, 47});
+    CHECK(*cellarcove::power_modulo(-3, 3, 7) == 1 && *cellarcove::power_modulo(3U, 4, 7U) == 4);
+    CHECK(*cellarcove::nth_root(-9, 3) == -2 && cellarcove::nth_root(-9, 2) == status::outside);
+    CHECK(cellarcove::average_floor(-2, -5) == -4 && cellarcove::average_floor(UINT64_MAX, UINT64_MAX) == UINT64_MAX);
+    CHECK(cellarcove::is_multiple_of(-9, 3) && !cellarcove::is_multiple_of(8U, 3U));
+    auto solved = cellarcove::chinese_remainder(1, 4, 3, 6);
+    CHECK(solved->first == 9 && solved->step == 12);
+    CHECK(cellarcove::chinese_remainder(1, 4, 2, 6) == status::no_solution);
+    CHECK(*cellarcove::multinomial(std::vector<std::uint64_t>{2, 1, 2}) == 30);
+    CHECK(*cellarcove::multinomial(std::vector<std::uint64_t>{}) == 1);
+    CHECK(*cellarcove::checked_product(1 << 20, 1 << 20).and_then([](std::int64_t x) { return cellarcove::checked_sum(x, 1); })
+        == (INT64_C(1) << 40) + 1);
+    CHECK(cellarcove::checked_product(INT64_MAX, 2).and_then([](std::int64_t x) { return cellarcove::checked_sum(x, 1); })
+        == status::not_fitting);
+    bool thrown = false;
+    try {
+        (void)cellarcove::sqrt(-1).value();
+    } catch (const std::bad_optional_access &) {
+        thrown = true;
+    }
+    CHECK(thrown);
+}
+
+static void fractions() {
+    auto half = *fraction::make(1, 2), third = *fraction::make(-1, -3);
+    CHECK(*(half + third) == *fraction::make(5, 6) && *(half - third) == *fraction::make(1, 6));
+    CHECK(*(half * third) == *fraction::make(1, 6) && *(half / third) == *fraction::make(3, 2));
+    CHECK(third < half && half > third && third <= half && half >= half && half != third);
+    CHECK(*(half + 1) == *fraction::make(3, 2) && fraction(7).num() == 7 && fraction().den() == 1);
+    CHECK(half / 0 == status::zero_denominator && fraction::make(1, 0) == status::zero_denominator);
+    CHECK(fraction::make(INT64_MIN, -1) == status::not_fitting);
+    CHECK(*cellarcove::fraction_floor(*fraction::make(-3, 2)) == -2 && *cellarcove::fraction_ceil(*fraction::make(-3, 2)) == -1);
+    CHECK(*cellarcove::fraction_limit_denominator(*fraction::make(3, 10), 5) == third);
+    std::ostringstream out;
+    out << *fraction::make(6, -4);
+    CHECK(out.str() == "-3/2");
+}
+
+static void dates() {
+    auto end = *date::make(2000, 1, 31), leap = *date::make(2000, 2, 29), far = *date::make(INT64_MAX, 12, 31);
+    CHECK(date::make(1900, 2, 29) == status::no_date);
+    CHECK(*cellarcove::plus_months(end, 1) == leap && *(leap - end) == 29 && *(end + 29) == leap);
+    CHECK(end < leap && leap > end && end <= leap && far >= leap && end != leap);
+    CHECK(far + 1 == status::not_fitting);
+    CHECK(cellarcove::easter(2024) == *date::make(2024, 3, 31) && cellarcove::date_from_day(-1) == *date::make(1969, 12, 31));
+    CHECK(cellarcove::weekday(0) == 4);
+    CHECK(*cellarcove::iso_week(*date::make(2005, 1, 1)) == cellarcove::week_of_year{53, 2004});
+    std::ostringstream out;
+    out << leap << ' ' << *date::make(-1, 12, 3);
+    CHECK(out.str() == "2000-02-29 -1-12-03");
+}
+
+int main() {
+    CHECK(std::string(cellarcove::text(status::no_date)) == "there is no such date");
+    numbers();
+    fractions();
+    dates();
+    std::printf("%d results right, %d wrong\n", passed, failed);
+    return failed != 0;
+}

@@ -1,0 +1,329 @@
+"""What Python knows of the exports: the table of calls in C, and the stubs."""
+import re
+import textwrap
+
+from exports import EXPORTS, c_type
+
+# The operators of `fractions.Fraction` and the calls of `math` do the same.
+LEFT_OUT = {'fraction_new', 'fraction_add', 'fraction_sub', 'fraction_mul', 'fraction_div', 'fraction_cmp', 'fraction_floor',
+            'fraction_ceil', 'fraction_floor_times', 'fraction_ceil_times'}
+RENAMED = {'fraction_limit_denominator': 'limit_denominator'}
+ALIASES = {'comb': 'binomial', 'isqrt': 'sqrt'}
+PARAMETERS = {'from': 'start', 'to': 'end', 'max': 'max_denominator'}
+OF_MANY = ('gcd', 'lcm')  # which take any count of numbers
+
+LETTERS = {'i64': 'q', 'u64': 'Q', 'u32': 'I', 'u8': 'B', 'i32': 'i', 'bool': '?'}
+TYPES = {'q': 'int64_t', 'Q': 'uint64_t', 'I': 'uint32_t', 'B': 'uint8_t', 'i': 'int32_t', '?': 'uint8_t'}
+OBJECTS = {'i64': 'PyLong_FromLongLong', 'u64': 'PyLong_FromUnsignedLongLong', 'u8': 'PyLong_FromLong', 'i32': 'PyLong_FromLong',
+           'bool': 'PyBool_FromLong'}
+# The class of a result, and the scalar result of the stubs.
+CLASSES = {'Bezout': ('class_gcd', 'ExtendedGcd'), 'Solutions': ('class_solutions', 'Solutions'), 'IsoWeek': ('class_week', 'IsoWeek')}
+SHAPES = {'Fraction': 'f', 'Date': 'd'}
+
+
+def public_calls():
+    """The calls of Python: the name, and the forms."""
+    return [(RENAMED.get(name, name), forms) for name, forms in EXPORTS().forms().items() if name not in LEFT_OUT]
+
+
+def parameter_names(call):
+    return [PARAMETERS.get(parameter.name, parameter.name) for parameter in call.parameters]
+
+
+def cells(call):
+    """The types of the numbers that a call takes."""
+    return [leaf for parameter in call.parameters for _, leaf in EXPORTS().leaves(parameter.kind)]
+
+
+def results(call):
+    """The paths and types of the numbers that it returns. A week of ISO 8601 has its year first."""
+    found = EXPORTS().leaves(call.result)
+    return sorted(found, key=lambda leaf: leaf[0] != '.year') if call.result.startswith('IsoWeek') else found
+
+
+def divides(call):
+    """Whether each number is a divisor, whose 0 is the reason of a status."""
+    reasons = ' '.join(call.statuses)
+    divisors = {'y', 'd'} if call.module == 'division' else set()
+    divisors |= {'m', 'n', 'step'} if '`BAD_MODULUS`' in reasons else set()
+    return [parameter.name in divisors for parameter in call.parameters for _ in EXPORTS().leaves(parameter.kind)]
+
+
+def arguments(call, number):
+    """The arguments in C, made of the numbers of the cells."""
+    place, made = 0, []
+    for parameter in call.parameters:
+        leaves = EXPORTS().leaves(parameter.kind)
+        values = [number(place + k, leaf) for k, (_, leaf) in enumerate(leaves)]
+        place += len(leaves)
+        made.append(values[0] if len(leaves) == 1 else f'({c_type(parameter.kind)}){{{", ".join(values)}}}')
+    return ', '.join(made)
+
+
+def object_of(call):
+    """The result in Python of the result `r` in C."""
+    found = results(call)
+    if found[0][0].startswith('.value.num') or call.result == 'Fraction':
+        return 'fraction_of(r.value)'
+    if call.result == 'DateAnswer':
+        return 'date_of(r.date)'
+    if call.result == 'Date':
+        return 'date_of(r)'
+    items = [f'{OBJECTS[kind]}(r{path})' for path, kind in found]
+    if len(items) == 1:
+        return items[0]
+    group = next((name for end, (name, _) in CLASSES.items() if end in call.result), 'NULL')
+    return f'tuple_of({group}, {len(items)}, (PyObject *[]){{{", ".join(items)}}})'
+
+
+def form_text(call):
+    """The functions of a form, and its entry."""
+    has_status = EXPORTS().has_status(call)
+    taken = arguments(call, lambda k, kind: f'({TYPES[LETTERS[kind]]})a[{k}].{"i" if kind[0] == "i" else "u"}')
+    many = arguments(call, lambda k, kind: f'AT({TYPES[LETTERS[kind]]}, {k})')
+    name = call.symbol.removeprefix('cellarcove_')
+    found = results(call)
+    letters = ''.join(LETTERS[kind] for _, kind in found) + ('B' if has_status else '')
+    stores = [f'TO({TYPES[LETTERS[kind]]}, {k}) = r{path};' for k, (path, kind) in enumerate(found)]
+    if has_status:
+        stores.append(f'TO(uint8_t, {len(found)}) = (uint8_t)r.status;')
+    refused = '''    if (r.status != CELLARCOVE_ANSWER) {
+        *status = r.status;
+        return NULL;
+    }
+''' if has_status else '    (void)status;\n'
+    return f'''static PyObject *one_{name}(const cell *a, uint32_t *status) {{
+    {c_type(call.result)} r = {call.symbol}({taken});
+{refused}    return {object_of(call)};
+}}
+
+static void many_{name}(Py_ssize_t count, char *const *in, const Py_ssize_t *steps, char *const *out) {{
+    for (Py_ssize_t k = 0; k < count; k++) {{
+        {c_type(call.result)} r = {call.symbol}({many});
+''' + ''.join(f'        {store}\n' for store in stores) + f'''    }}
+}}
+
+static const form form_{name} = {{"{''.join(LETTERS[kind] for kind in cells(call))}", "{letters}", {'true' if has_status else 'false'}, one_{name}, many_{name}}};
+
+'''
+
+
+def bools(values):
+    return f'(const bool[]){{{", ".join("true" if value else "false" for value in values)}}}'
+
+
+def signature(name, forms):
+    if name in OF_MANY:
+        return f'{name}($module, /, *numbers, out=None)'
+    if forms[0].has_slice:
+        return f'{name}($module, {", ".join(parameter_names(forms[0]))}, /)'
+    return f'{name}($module, /, {", ".join(parameter_names(forms[0]))}, *, out=None)'
+
+
+RAISED = {'NOT_FITTING': '`NotFitting`', 'ZERO_DENOMINATOR': '`DivisionByZero`'}
+
+
+def raised(call):
+    """What a docstring says of the errors."""
+    by_zero = {'OUTSIDE': '`DivisionByZero`'} if call.module == 'division' else {}
+    return ' '.join(re.sub('^`([A-Z_]+)`', lambda status: 'Raises ' + (RAISED | by_zero).get(status.group(1), f'`Refused` with `{status.group(1)}`'), sentence)
+                    for sentence in call.statuses)
+
+
+def docstring(name, forms):
+    """What a call does, its errors, and its arrays."""
+    call = forms[0]
+    text = re.sub('^Returns `true` if', 'Whether', call.doc)
+    text = re.sub('^Returns (.)', lambda found: found.group(1).upper(), text)
+    for old, new in PARAMETERS.items():
+        text = text.replace(f'`{old}`', f'`{new}`')
+    errors = raised(call)
+    for old, new in PARAMETERS.items():
+        errors = errors.replace(f'`{old}`', f'`{new}`')
+    parts = [text] + [errors] * bool(errors)
+    if name in OF_MANY:
+        parts.append('It takes any count of numbers.')
+    return '\n\n'.join('\n'.join(textwrap.wrap(part, 88)) for part in parts)
+
+
+def quoted(text):
+    return '\n    '.join('"' + line.replace('\\', '\\\\').replace('"', '\\"') + '\\n"' for line in text.split('\n'))
+
+
+def call_text(name, forms):
+    """The entry of a call, and its function."""
+    call, two = forms[0], len(forms) == 2
+    follows = [two and a != b for a, b in zip(cells(forms[0]), cells(forms[-1]))]
+    named = {form.form: f'&form_{form.symbol.removeprefix("cellarcove_")}' for form in forms}
+    forms_text = f'NULL, {named["i64"]}, {named["u64"]}' if two else f'&form_{call.symbol.removeprefix("cellarcove_")}, NULL, NULL'
+    shapes = ''.join(SHAPES.get(parameter.kind, 'n') for parameter in call.parameters)
+    names = ', '.join(f'"{parameter}"' for parameter in parameter_names(call))
+    of_many = '''    if (count != 2 || names != NULL) {
+        return of_any_count(&call_NAME, args, count, names);
+    }
+'''.replace('NAME', name) if name in OF_MANY else ''
+    return f'''static const call call_{name} = {{"{name}", {len(call.parameters)}, {{{names}}}, "{shapes}",
+    {bools(divides(call))}, {bools(follows)}, {forms_text}}};
+
+static PyObject *py_{name}(PyObject *module, PyObject *const *args, Py_ssize_t count, PyObject *names) {{
+    (void)module;
+{of_many}    return run(&call_{name}, args, count, names);
+}}
+
+'''
+
+
+def slice_text(name, call):
+    """The function of a call with one slice of unsigned numbers."""
+    assert [parameter.kind for parameter in call.parameters] == ['&[u64]'] and call.result == 'U64Answer', call
+    return f'''static PyObject *py_{name}(PyObject *module, PyObject *object) {{
+    (void)module;
+    Py_buffer view;
+    uint64_t *numbers;
+    Py_ssize_t count;
+    if (numbers_of(object, "{name}", &view, &numbers, &count) != 0) {{
+        return NULL;
+    }}
+    cellarcove_u64_answer r;
+    Py_BEGIN_ALLOW_THREADS
+    r = {call.symbol}(numbers != NULL ? numbers : view.buf, (size_t)count);
+    Py_END_ALLOW_THREADS
+    if (numbers != NULL) {{
+        PyMem_Free(numbers);
+    }} else {{
+        PyBuffer_Release(&view);
+    }}
+    return r.status == CELLARCOVE_ANSWER ? PyLong_FromUnsignedLongLong(r.value) : refused(r.status, false);
+}}
+
+'''
+
+
+def method(name, forms):
+    doc = quoted(signature(name, forms) + '\n--\n\n' + docstring(name, forms))
+    if forms[0].has_slice:
+        return f'    {{"{name}", py_{name}, METH_O,\n    {doc}}},\n'
+    return f'    {{"{name}", (PyCFunction)(void (*)(void))py_{name}, METH_FASTCALL | METH_KEYWORDS,\n    {doc}}},\n'
+
+
+def calls_c():
+    """The table of calls."""
+    text = '''/* @generated by bindings/make_bindings.py from crates/cellarcove_c. */
+#include "driver.h"
+
+/* The numbers of the call of this number, and its results. */
+#define AT(type, place) (*(const type *)(const void *)(in[place] + k * steps[place]))
+#define TO(type, place) (((type *)(void *)out[place])[k])
+
+'''
+    for name, forms in public_calls():
+        if forms[0].has_slice:
+            text += slice_text(name, forms[0])
+        else:
+            text += ''.join(map(form_text, forms)) + call_text(name, forms)
+    named = public_calls()
+    methods = ''.join(method(name, forms) for name, forms in named)
+    methods += ''.join(method(alias, dict(named)[name]).replace(f'py_{alias}', f'py_{name}') for alias, name in ALIASES.items())
+    return text + f'''static PyMethodDef methods[] = {{
+{methods}    {{"_install", install, METH_O, NULL}},
+    {{NULL, NULL, 0, NULL}},
+}};
+
+static struct PyModuleDef definition = {{.m_base = PyModuleDef_HEAD_INIT, .m_name = "cellarcove._calls", .m_size = -1, .m_methods = methods}};
+
+PyMODINIT_FUNC PyInit__calls(void) {{
+    PyObject *module = PyModule_Create(&definition);
+    if (module != NULL && (intern_names() != 0 || add_words(module, methods) != 0)) {{
+        Py_CLEAR(module);
+    }}
+    return module;
+}}
+'''
+
+
+# ---- stubs
+
+PYTHON = {'Fraction': 'Fractional', 'Date': 'Dated'}
+NUMBER, ARRAY = 'SupportsIndex', 'Array'
+
+
+def scalar_result(call):
+    found = results(call)
+    if call.result.startswith('Fraction'):
+        return 'Fraction'
+    if call.result.startswith('Date'):
+        return 'Date'
+    if call.result == 'bool':
+        return 'bool'
+    if len(found) == 1:
+        return 'int'
+    return next((name for end, (_, name) in CLASSES.items() if end in call.result), f'tuple[{", ".join(["int"] * len(found))}]')
+
+
+def array_result(call):
+    arrays = ['array[int]'] * (len(results(call)) + EXPORTS().has_status(call))
+    return arrays[0] if len(arrays) == 1 else f'tuple[{", ".join(arrays)}]'
+
+
+def array_types(kind, chosen):
+    """The type of a parameter of which one number is an array, or may be one."""
+    leaves = len(EXPORTS().leaves(kind))
+    each = f'{ARRAY} | {NUMBER}'
+    if leaves == 1:
+        return ARRAY if chosen else each
+    if not chosen:
+        return f'{PYTHON[kind]} | tuple[{", ".join([each] * leaves)}]'
+    return ' | '.join(f'tuple[{", ".join([NUMBER] * first + [ARRAY] + [each] * (leaves - first - 1))}]' for first in range(leaves))
+
+
+def stub(name, forms):
+    call = forms[0]
+    names = parameter_names(call)
+    doc = ''
+    if call.has_slice:
+        return f'def {name}({names[0]}: Array | Iterable[SupportsIndex], /) -> int: ...\n'
+    if name in OF_MANY:
+        return f'''@overload
+def {name}(x: {ARRAY}, y: {ARRAY} | {NUMBER}, *, out: Outputs = ...) -> {array_result(call)}: ...
+@overload
+def {name}(x: {NUMBER}, y: {ARRAY}, *, out: Outputs = ...) -> {array_result(call)}: ...
+@overload
+def {name}(*numbers: {NUMBER}) -> int: ...
+'''
+    overloads = []
+    for first in range(len(names)):
+        kinds = [PYTHON.get(parameter.kind, NUMBER) if k < first else array_types(parameter.kind, k == first)
+                 for k, parameter in enumerate(call.parameters)]
+        overloads.append((', '.join(f'{parameter}: {kind}' for parameter, kind in zip(names, kinds)) + ', *, out: Outputs = ...', array_result(call)))
+    overloads.append((', '.join(f'{parameter}: {PYTHON.get(kind.kind, NUMBER)}' for parameter, kind in zip(names, call.parameters)), scalar_result(call)))
+    return doc + ''.join(f'@overload\ndef {name}({taken}) -> {result}: ...\n' for taken, result in overloads)
+
+
+def stubs():
+    """The types of the calls for Python."""
+    named = public_calls()
+    public = sorted([name for name, _ in named] + list(ALIASES))
+    return f'''# @generated by bindings/make_bindings.py from crates/cellarcove_c.
+from array import array
+from collections.abc import Iterable
+from fractions import Fraction
+from typing import Any, Protocol, SupportsIndex, overload
+
+from . import Date, ExtendedGcd, IsoWeek, Solutions, SupportsDate, SupportsFraction
+
+class SupportsArray(Protocol):
+    def __array__(self, *args: Any, **kwargs: Any) -> Any: ...
+
+Array = array[int] | memoryview | bytearray | bytes | SupportsArray
+Outputs = tuple[Array, ...] | None
+Fractional = SupportsFraction | tuple[SupportsIndex, SupportsIndex]
+Dated = SupportsDate | tuple[SupportsIndex, SupportsIndex, SupportsIndex]
+
+VERSION: str
+BUILT_BY: str
+
+''' + ''.join(stub(name, forms) for name, forms in named) \
+        + ''.join(f'{alias} = {name}\n' for alias, name in ALIASES.items()) \
+        + 'def _install(classes: dict[str, Any], /) -> None: ...\n' \
+        + '__all__ = [\n' + ''.join(f'    {line}\n' for line in textwrap.wrap(', '.join(map(repr, public)) + ',', 110)) + ']\n'
+

@@ -1,0 +1,657 @@
+/* Runs the calls of calls.c, for numbers and for arrays. calls.c has a table of them and includes this file.
+ *
+ * A parameter is a number, a fraction or a date; its numbers are cells. A call has a form for signed numbers, one for
+ * unsigned ones, or one form alone. */
+#define Py_LIMITED_API 0x03090000
+#define PY_SSIZE_T_CLEAN
+#include <Python.h>
+#include <stdbool.h>
+#include <string.h>
+
+#include "cellarcove.h"
+
+/* The stable ABI names these from 3.10 and 3.11 on. They are the same in 3.9. */
+#ifndef METH_FASTCALL
+#define METH_FASTCALL 0x0080
+#endif
+#ifndef PyBUF_SIMPLE
+typedef struct {
+    void *buf;
+    PyObject *obj;
+    Py_ssize_t len, itemsize;
+    int readonly, ndim;
+    char *format;
+    Py_ssize_t *shape, *strides, *suboffsets;
+    void *internal;
+} Py_buffer;
+PyAPI_FUNC(int) PyObject_CheckBuffer(PyObject *object);
+PyAPI_FUNC(int) PyObject_GetBuffer(PyObject *object, Py_buffer *view, int flags);
+PyAPI_FUNC(void) PyBuffer_Release(Py_buffer *view);
+#define PyBUF_WRITABLE 0x0001
+#define PyBUF_FORMAT 0x0004
+#define PyBUF_ND 0x0008
+#endif
+
+enum { MAX_PARAMETERS = 6, MAX_CELLS = 6, MAX_RESULTS = 4 };
+
+/* The number of a cell. */
+typedef union {
+    int64_t i;
+    uint64_t u;
+} cell;
+
+/* A form of a call. The types of its cells and of its results have the letters of `array`, and '?' is a bool. The last
+ * result is the status, if it has one. */
+typedef struct {
+    const char *cells, *results;
+    bool has_status;
+    /* the result for the numbers, or NULL and the status */
+    PyObject *(*one)(const cell *cells, uint32_t *status);
+    /* the results for numbers that lie so many bytes apart */
+    void (*many)(Py_ssize_t count, char *const *in, const Py_ssize_t *steps, char *const *out);
+} form;
+
+/* A call. */
+typedef struct {
+    const char *name;
+    Py_ssize_t count;
+    const char *names[MAX_PARAMETERS];
+    const char *shapes;         /* of the parameters: a number, a fraction or a date */
+    const bool *divides;        /* whether the call divides by the number of a cell */
+    const bool *follows;        /* whether a cell has the type of the form */
+    const form *only, *forms_i64, *forms_u64;
+} call;
+
+/* What the package installs. */
+static PyObject *refusal, *out_of_range, *of_many, *new_fraction, *new_tuple, *new_array;
+static PyObject *class_date, *class_gcd, *class_solutions, *class_week;
+static PyObject *name_numerator, *name_denominator, *name_year, *name_month, *name_day, *name_out;
+
+static Py_ssize_t size_of(char kind) {
+    return kind == 'q' || kind == 'Q' ? 8 : kind == 'i' || kind == 'I' ? 4 : 1;
+}
+
+static char letter(char kind) { return kind == '?' ? 'B' : kind; }
+
+/* ---- results ---- */
+
+/* An object of a class whose base is a tuple, or a tuple, of items that are given away. */
+static PyObject *tuple_of(PyObject *class, Py_ssize_t count, PyObject **items) {
+    PyObject *tuple = PyTuple_New(count), *result = NULL;
+    for (Py_ssize_t k = 0; k < count; k++) {
+        if (items[k] == NULL || tuple == NULL) {
+            Py_CLEAR(tuple);
+            Py_XDECREF(items[k]);
+        } else {
+            PyTuple_SetItem(tuple, k, items[k]);
+        }
+    }
+    if (tuple == NULL || class == NULL) {
+        return tuple;
+    }
+    result = PyObject_CallFunctionObjArgs(new_tuple, class, tuple, NULL);
+    Py_DECREF(tuple);
+    return result;
+}
+
+static PyObject *date_of(cellarcove_date date) {
+    PyObject *items[] = {PyLong_FromLongLong(date.year), PyLong_FromLong(date.month), PyLong_FromLong(date.day_of_month)};
+    return tuple_of(class_date, 3, items);
+}
+
+static PyObject *fraction_of(cellarcove_fraction fraction) {
+    PyObject *num = PyLong_FromLongLong(fraction.num), *den = PyLong_FromLongLong(fraction.den), *result = NULL;
+    if (num != NULL && den != NULL) {
+        result = PyObject_CallFunctionObjArgs(new_fraction, num, den, NULL);
+    }
+    Py_XDECREF(num);
+    Py_XDECREF(den);
+    return result;
+}
+
+/* ---- parameters ---- */
+
+/* Raises that a number is out of the range of a type. */
+static int beyond(PyObject *number, char kind) {
+    PyObject *error = PyObject_CallFunction(out_of_range, "OC", number, (int)kind);
+    if (error != NULL) {
+        PyErr_SetObject((PyObject *)Py_TYPE(error), error);
+        Py_DECREF(error);
+    }
+    return -1;
+}
+
+/* Reads an integer into a cell. It is 1 if the number is above 2**63 - 1, and 2 if it fits no 64 bits. */
+static int integer(PyObject *object, cell *to) {
+    int overflow;
+    PyObject *number = PyLong_Check(object) ? (Py_INCREF(object), object) : PyNumber_Index(object);
+    if (number == NULL) {
+        return -1;
+    }
+    long long value = PyLong_AsLongLongAndOverflow(number, &overflow);
+    int said = 0;
+    if (overflow == 0) {
+        to->i = value;
+        said = value == -1 && PyErr_Occurred() ? -1 : 0;
+    } else if (overflow < 0) {
+        said = 2;
+    } else {
+        unsigned long long large = PyLong_AsUnsignedLongLong(number);
+        said = 1;
+        if (large == (unsigned long long)-1 && PyErr_Occurred()) {
+            PyErr_Clear();
+            said = 2;
+        }
+        to->u = large;
+    }
+    Py_DECREF(number);
+    return said;
+}
+
+static bool fits(const cell *number, int said, char kind) {
+    switch (kind) {
+    case 'q': return said == 0;
+    case 'Q': return said == 1 || (said == 0 && number->i >= 0);
+    case 'I': return said == 0 && 0 <= number->i && number->i <= UINT32_MAX;
+    default: return said == 0 && 0 <= number->i && number->i <= UINT8_MAX;
+    }
+}
+
+/* Whether an integer is negative. It is -1 if the object is no integer. */
+static int is_negative(PyObject *object) {
+    PyObject *number = PyNumber_Index(object), *zero = PyLong_FromLong(0);
+    int result = number == NULL || zero == NULL ? -1 : PyObject_RichCompareBool(number, zero, Py_LT);
+    Py_XDECREF(number);
+    Py_XDECREF(zero);
+    return result;
+}
+
+/* Whether an object is an array, and no number. Those of numpy are both. */
+static bool is_array(PyObject *object) {
+    if (PyLong_Check(object) || !PyObject_CheckBuffer(object)) {
+        return false;
+    }
+    Py_buffer view;
+    if (PyObject_GetBuffer(object, &view, PyBUF_ND) != 0) {
+        PyErr_Clear();
+        return true; /* an array that is not contiguous, which is told later */
+    }
+    bool result = view.ndim > 0;
+    PyBuffer_Release(&view);
+    return result;
+}
+
+/* The arguments of a call in the order of its parameters. They are borrowed. */
+static int bind(const call *c, PyObject *const *args, Py_ssize_t count, PyObject *names, PyObject **bound, PyObject **out) {
+    Py_ssize_t keywords = names == NULL ? 0 : PyTuple_Size(names);
+    if (count > c->count) {
+        PyErr_Format(PyExc_TypeError, "%s() takes %zd arguments and was given %zd", c->name, c->count, count);
+        return -1;
+    }
+    for (Py_ssize_t p = 0; p < c->count; p++) {
+        bound[p] = p < count ? args[p] : NULL;
+    }
+    for (Py_ssize_t k = 0; k < keywords; k++) {
+        PyObject *name = PyTuple_GetItem(names, k);
+        Py_ssize_t p = 0;
+        while (p < c->count && PyUnicode_CompareWithASCIIString(name, c->names[p]) != 0) {
+            p++;
+        }
+        if (p < c->count && bound[p] == NULL) {
+            bound[p] = args[count + k];
+        } else if (p == c->count && PyUnicode_Compare(name, name_out) == 0) {
+            *out = args[count + k] == Py_None ? NULL : args[count + k];
+        } else {
+            PyErr_Format(PyExc_TypeError, p < c->count ? "%s() was given %U twice" : "%s() has no parameter %U", c->name, name);
+            return -1;
+        }
+    }
+    for (Py_ssize_t p = 0; p < c->count; p++) {
+        if (bound[p] == NULL) {
+            PyErr_Format(PyExc_TypeError, "%s() was given no %s", c->name, c->names[p]);
+            return -1;
+        }
+    }
+    return 0;
+}
+
+/* The parts of a fraction or a date: those of a tuple, or the attributes of another object. They are owned. */
+static int parts(PyObject *object, char shape, PyObject **cells) {
+    PyObject *const names[2][3] = {{name_numerator, name_denominator, NULL}, {name_year, name_month, name_day}};
+    Py_ssize_t count = shape == 'f' ? 2 : 3;
+    bool is_tuple = PyTuple_Check(object);
+    if (is_tuple && PyTuple_Size(object) != count) {
+        PyErr_Format(PyExc_ValueError, "a %s has %zd parts, and the tuple has %zd", shape == 'f' ? "fraction" : "date", count,
+                     PyTuple_Size(object));
+        return -1;
+    }
+    for (Py_ssize_t k = 0; k < count; k++) {
+        cells[k] = is_tuple ? PyTuple_GetItem(object, k) : PyObject_GetAttr(object, names[shape != 'f'][k]);
+        if (cells[k] == NULL) {
+            while (k-- > 0) {
+                Py_DECREF(cells[k]);
+            }
+            return -1;
+        }
+        if (is_tuple) {
+            Py_INCREF(cells[k]);
+        }
+    }
+    return 0;
+}
+
+/* ---- numbers ---- */
+
+/* Raises the error for a status. */
+static PyObject *refused(uint32_t status, bool by_zero) {
+    PyObject *error = PyObject_CallFunction(refusal, "IO", (unsigned)status, by_zero ? Py_True : Py_False);
+    if (error != NULL) {
+        PyErr_SetObject((PyObject *)Py_TYPE(error), error);
+        Py_DECREF(error);
+    }
+    return NULL;
+}
+
+static PyObject *run_one(const call *c, PyObject **objects, Py_ssize_t count) {
+    cell cells[MAX_CELLS];
+    int said[MAX_CELLS];
+    bool negative = false, large = false;
+    for (Py_ssize_t k = 0; k < count; k++) {
+        said[k] = integer(objects[k], &cells[k]);
+        if (said[k] < 0) {
+            return NULL;
+        }
+        if (c->follows[k]) {
+            negative |= said[k] == 2 ? is_negative(objects[k]) != 0 : said[k] == 0 && cells[k].i < 0;
+            large |= said[k] != 0;
+        }
+    }
+    const form *f = c->only != NULL ? c->only : negative ? c->forms_i64 : c->forms_u64;
+    for (Py_ssize_t k = 0; k < count; k++) {
+        if (!fits(&cells[k], said[k], f->cells[k])) {
+            beyond(objects[k], f->cells[k]);
+            return NULL;
+        }
+    }
+    uint32_t status = 0;
+    PyObject *result = f->one(cells, &status);
+    if (status != 0) {
+        bool by_zero = false;
+        for (Py_ssize_t k = 0; k < count; k++) {
+            by_zero |= c->divides[k] && cells[k].u == 0;
+        }
+        return refused(status, by_zero);
+    }
+    return result;
+}
+
+/* ---- arrays ---- */
+
+/* The numbers of a cell for many calls: those of an array, or one number. */
+typedef struct {
+    Py_buffer view;
+    bool is_array;
+    cell number;
+    int said;
+} column;
+
+/* Whether the items of an array have a type. */
+static bool has_items(const Py_buffer *view, char kind) {
+    const char *format = view->format == NULL ? "B" : view->format;
+    const uint16_t one = 1;
+    bool little = *(const uint8_t *)&one == 1;
+    if (*format == '@' || *format == '=' || *format == (little ? '<' : '>')) {
+        format++;
+    }
+    const char *letters = kind == 'q' || kind == 'i' ? "bhilqn" : "BHILQN";
+    return view->itemsize == size_of(kind) && *format != 0 && format[1] == 0 && strchr(letters, *format) != NULL;
+}
+
+static int wrong(const char *what, const char *name) {
+    PyErr_Format(PyExc_ValueError, "%s: %s", name, what);
+    return -1;
+}
+
+static const char *words_of(char kind) {
+    switch (kind) {
+    case 'q': return "the items of the array are not int64";
+    case 'Q': return "the items of the array are not uint64";
+    case 'I': return "the items of the array are not uint32";
+    case 'i': return "the items of the array are not int32";
+    default: return "the items of the array are not uint8";
+    }
+}
+
+/* Takes the buffer of an array. */
+static int take(PyObject *object, Py_buffer *view, int flags, const char *name) {
+    if (PyObject_GetBuffer(object, view, flags | PyBUF_FORMAT | PyBUF_ND) != 0) {
+        if (!PyErr_ExceptionMatches(PyExc_MemoryError)) {
+            PyErr_Clear();
+            wrong(flags & PyBUF_WRITABLE ? "an output is an array that can be written, and contiguous" : "the array is not contiguous", name);
+        }
+        return -1;
+    }
+    if (view->ndim != 1) {
+        PyBuffer_Release(view);
+        return wrong("the array has not one dimension", name);
+    }
+    return 0;
+}
+
+/* Reads the cells, and finds the form and the length. It is NULL after an error. */
+static const form *read_columns(const call *c, PyObject **objects, Py_ssize_t count, column *columns, Py_ssize_t *length) {
+    bool has_signed = false, has_unsigned = false, negative = false;
+    *length = -1;
+    for (Py_ssize_t k = 0; k < count; k++) {
+        columns[k].is_array = false;
+    }
+    for (Py_ssize_t k = 0; k < count; k++) {
+        column *to = &columns[k];
+        if (!is_array(objects[k])) {
+            to->said = integer(objects[k], &to->number);
+            if (to->said < 0) {
+                return NULL;
+            }
+            negative |= c->follows[k] && (to->said == 2 ? is_negative(objects[k]) != 0 : to->said == 0 && to->number.i < 0);
+            continue;
+        }
+        if (take(objects[k], &to->view, 0, c->name) != 0) {
+            return NULL;
+        }
+        to->is_array = true;
+        Py_ssize_t items = to->view.shape[0];
+        if (*length >= 0 && items != *length) {
+            wrong("the arrays have different lengths", c->name);
+            return NULL;
+        }
+        *length = items;
+        if (c->follows[k]) {
+            has_signed |= has_items(&to->view, 'q');
+            has_unsigned |= has_items(&to->view, 'Q');
+        }
+    }
+    if (has_signed && has_unsigned) {
+        wrong("the arrays are int64 and uint64", c->name);
+        return NULL;
+    }
+    const form *f = c->only != NULL ? c->only : has_signed || (!has_unsigned && negative) ? c->forms_i64 : c->forms_u64;
+    for (Py_ssize_t k = 0; k < count; k++) {
+        if (columns[k].is_array && !has_items(&columns[k].view, f->cells[k])) {
+            wrong(c->follows[k] ? "the items of the array are neither int64 nor uint64" : words_of(f->cells[k]), c->name);
+            return NULL;
+        }
+        if (!columns[k].is_array && !fits(&columns[k].number, columns[k].said, f->cells[k])) {
+            beyond(objects[k], f->cells[k]);
+            return NULL;
+        }
+    }
+    return f;
+}
+
+/* A number of a cell in memory, as the items of an array are. */
+static void store(cell *number, char kind) {
+    uint32_t narrow = (uint32_t)number->u;
+    uint8_t byte = (uint8_t)number->u;
+    if (kind == 'I') {
+        memcpy(number, &narrow, sizeof narrow);
+    } else if (kind == 'B') {
+        memcpy(number, &byte, sizeof byte);
+    }
+}
+
+/* Whether the items of two arrays share memory, unless each shares it with the other's item of the same number. */
+static bool overlap(const Py_buffer *a, const Py_buffer *b) {
+    const char *x = a->buf, *y = b->buf;
+    return x < y + b->len && y < x + a->len && (x != y || a->itemsize != b->itemsize);
+}
+
+/* New arrays for the results. */
+static PyObject *new_outputs(const form *f, Py_ssize_t length) {
+    Py_ssize_t results = (Py_ssize_t)strlen(f->results);
+    PyObject *outputs = PyTuple_New(results);
+    for (Py_ssize_t k = 0; outputs != NULL && k < results; k++) {
+        PyObject *array = NULL, *zeros = PyObject_CallFunction((PyObject *)&PyBytes_Type, "n", length * size_of(f->results[k]));
+        if (zeros != NULL) {
+            array = PyObject_CallFunction(new_array, "CO", (int)letter(f->results[k]), zeros);
+            Py_DECREF(zeros);
+        }
+        if (array == NULL) {
+            Py_CLEAR(outputs);
+        } else {
+            PyTuple_SetItem(outputs, k, array);
+        }
+    }
+    return outputs;
+}
+
+/* Takes the buffers of the outputs, of which `taken` are to be released. */
+static int take_outputs(const call *c, const form *f, PyObject *outputs, const column *columns, Py_ssize_t cells, Py_ssize_t length,
+                        Py_buffer *views, Py_ssize_t *taken) {
+    Py_ssize_t results = (Py_ssize_t)strlen(f->results);
+    if (!PyTuple_Check(outputs) || PyTuple_Size(outputs) != results) {
+        PyErr_Format(PyExc_ValueError, "%s: out is no tuple of %zd arrays", c->name, results);
+        return -1;
+    }
+    for (Py_ssize_t k = 0; k < results; k++) {
+        if (take(PyTuple_GetItem(outputs, k), &views[k], PyBUF_WRITABLE, c->name) != 0) {
+            return -1;
+        }
+        *taken = k + 1;
+        if (views[k].shape[0] != length) {
+            return wrong("an output has another length than the arrays", c->name);
+        }
+        if (!has_items(&views[k], letter(f->results[k]))) {
+            return wrong(words_of(letter(f->results[k])), c->name);
+        }
+        for (Py_ssize_t other = 0; other < k; other++) {
+            if (overlap(&views[k], &views[other]) || (length > 0 && views[k].buf == views[other].buf)) {
+                return wrong("two outputs share memory", c->name);
+            }
+        }
+        for (Py_ssize_t other = 0; other < cells; other++) {
+            if (columns[other].is_array && overlap(&views[k], &columns[other].view)) {
+                return wrong("an output shares memory with another item of an array", c->name);
+            }
+        }
+    }
+    return 0;
+}
+
+static PyObject *run_many(const call *c, PyObject **objects, Py_ssize_t count, PyObject *out) {
+    column columns[MAX_CELLS];
+    Py_buffer views[MAX_RESULTS];
+    char *in[MAX_CELLS], *to[MAX_RESULTS];
+    Py_ssize_t steps[MAX_CELLS], length, taken = 0;
+    PyObject *outputs = NULL;
+    bool done = false;
+    const form *f = read_columns(c, objects, count, columns, &length);
+    if (f != NULL) {
+        outputs = out == NULL ? new_outputs(f, length) : (Py_INCREF(out), out);
+    }
+    if (outputs != NULL && take_outputs(c, f, outputs, columns, count, length, views, &taken) == 0) {
+        for (Py_ssize_t k = 0; k < count; k++) {
+            if (!columns[k].is_array) {
+                store(&columns[k].number, f->cells[k]);
+            }
+            in[k] = columns[k].is_array ? columns[k].view.buf : (char *)&columns[k].number;
+            steps[k] = columns[k].is_array ? columns[k].view.itemsize : 0;
+        }
+        for (Py_ssize_t k = 0; k < taken; k++) {
+            to[k] = views[k].buf;
+        }
+        Py_BEGIN_ALLOW_THREADS
+        f->many(length, in, steps, to);
+        Py_END_ALLOW_THREADS
+        done = true;
+    }
+    for (Py_ssize_t k = 0; k < count; k++) {
+        if (columns[k].is_array) {
+            PyBuffer_Release(&columns[k].view);
+        }
+    }
+    for (Py_ssize_t k = 0; k < taken; k++) {
+        PyBuffer_Release(&views[k]);
+    }
+    if (!done) {
+        Py_XDECREF(outputs);
+        return NULL;
+    }
+    if (PyTuple_Size(outputs) == 1) {
+        PyObject *single = PyTuple_GetItem(outputs, 0);
+        Py_INCREF(single);
+        Py_DECREF(outputs);
+        return single;
+    }
+    return outputs;
+}
+
+/* ---- calls ---- */
+
+static PyObject *run(const call *c, PyObject *const *args, Py_ssize_t count, PyObject *names) {
+    PyObject *bound[MAX_PARAMETERS], *objects[MAX_CELLS], *out = NULL, *result = NULL;
+    Py_ssize_t cells = 0;
+    bool arrays = false;
+    if (names == NULL && count == c->count) {
+        memcpy(bound, args, (size_t)count * sizeof *bound);
+    } else if (bind(c, args, count, names, bound, &out) != 0) {
+        return NULL;
+    }
+    for (Py_ssize_t p = 0; p < c->count; p++) {
+        if (c->shapes[p] == 'n') {
+            objects[cells] = bound[p];
+            Py_INCREF(bound[p]);
+            cells += 1;
+        } else if (parts(bound[p], c->shapes[p], &objects[cells]) != 0) {
+            goto end;
+        } else {
+            cells += c->shapes[p] == 'f' ? 2 : 3;
+        }
+    }
+    for (Py_ssize_t k = 0; k < cells; k++) {
+        arrays |= !PyLong_Check(objects[k]) && is_array(objects[k]);
+    }
+    if (arrays) {
+        result = run_many(c, objects, cells, out);
+    } else if (out != NULL) {
+        PyErr_Format(PyExc_TypeError, "%s() has an output and no array", c->name);
+    } else {
+        result = run_one(c, objects, cells);
+    }
+end:
+    while (cells > 0) {
+        Py_DECREF(objects[--cells]);
+    }
+    return result;
+}
+
+/* A call of two numbers with another count of them: the package takes two by two. With an output it is one of arrays. */
+static PyObject *of_any_count(const call *c, PyObject *const *args, Py_ssize_t count, PyObject *names) {
+    if (names != NULL) {
+        return run(c, args, count, names);
+    }
+    PyObject *numbers = PyTuple_New(count), *result = NULL;
+    for (Py_ssize_t k = 0; numbers != NULL && k < count; k++) {
+        Py_INCREF(args[k]);
+        PyTuple_SetItem(numbers, k, args[k]);
+    }
+    if (numbers != NULL) {
+        result = PyObject_CallFunction(of_many, "sO", c->name, numbers);
+        Py_DECREF(numbers);
+    }
+    return result;
+}
+
+/* The numbers of a buffer, or of another iterable. Those of a buffer are not copied. */
+static int numbers_of(PyObject *object, const char *name, Py_buffer *view, uint64_t **numbers, Py_ssize_t *count) {
+    *numbers = NULL;
+    if (is_array(object)) {
+        if (take(object, view, 0, name) != 0) {
+            return -1;
+        }
+        if (!has_items(view, 'Q')) {
+            PyBuffer_Release(view);
+            return wrong(words_of('Q'), name);
+        }
+        *count = view->shape[0];
+        return 0;
+    }
+    PyObject *list = PySequence_List(object);
+    if (list == NULL) {
+        return -1;
+    }
+    *count = PyList_Size(list);
+    *numbers = PyMem_Malloc(((size_t)*count + 1) * sizeof **numbers);
+    if (*numbers == NULL) {
+        PyErr_NoMemory();
+    }
+    for (Py_ssize_t k = 0; *numbers != NULL && k < *count; k++) {
+        cell number;
+        PyObject *item = PyList_GetItem(list, k);
+        int said = item == NULL ? -1 : integer(item, &number);
+        if (said < 0 || (!fits(&number, said, 'Q') && beyond(item, 'Q') != 0)) {
+            PyMem_Free(*numbers);
+            *numbers = NULL;
+        } else {
+            (*numbers)[k] = number.u;
+        }
+    }
+    Py_DECREF(list);
+    return *numbers == NULL ? -1 : 0;
+}
+
+/* ---- the module ---- */
+
+static int keep(PyObject *from, const char *name, PyObject **to) {
+    PyObject *object = PyDict_GetItemString(from, name);
+    if (object == NULL) {
+        PyErr_Format(PyExc_KeyError, "%s", name);
+        return -1;
+    }
+    Py_INCREF(object);
+    Py_XDECREF(*to);
+    *to = object;
+    return 0;
+}
+
+/* Installs the classes of the package, from a dictionary. */
+static PyObject *install(PyObject *module, PyObject *from) {
+    (void)module;
+    if (!PyDict_Check(from)) {
+        PyErr_SetString(PyExc_TypeError, "no dictionary");
+        return NULL;
+    }
+    if (keep(from, "refusal", &refusal) || keep(from, "out_of_range", &out_of_range) || keep(from, "of_many", &of_many) ||
+        keep(from, "Fraction", &new_fraction) || keep(from, "new_tuple", &new_tuple) || keep(from, "array", &new_array) ||
+        keep(from, "Date", &class_date) || keep(from, "ExtendedGcd", &class_gcd) || keep(from, "Solutions", &class_solutions) ||
+        keep(from, "IsoWeek", &class_week)) {
+        return NULL;
+    }
+    Py_RETURN_NONE;
+}
+
+/* Adds the version, the compiler of the calls, and the list of the calls, whose names begin with no underscore. */
+static int add_words(PyObject *module, const PyMethodDef *methods) {
+    PyObject *all = PyList_New(0);
+    for (; all != NULL && methods->ml_name != NULL; methods++) {
+        PyObject *name = methods->ml_name[0] == '_' ? NULL : PyUnicode_FromString(methods->ml_name);
+        if (name != NULL && PyList_Append(all, name) != 0) {
+            Py_CLEAR(all);
+        }
+        Py_XDECREF(name);
+    }
+    if (all == NULL || PyErr_Occurred() || PyModule_AddObject(module, "__all__", all) != 0) {
+        Py_XDECREF(all);
+        return -1;
+    }
+    return PyModule_AddStringConstant(module, "VERSION", CELLARCOVE_VERSION) || PyModule_AddStringConstant(module, "BUILT_BY", cellarcove_built_by());
+}
+
+static int intern_names(void) {
+    name_numerator = PyUnicode_InternFromString("numerator");
+    name_denominator = PyUnicode_InternFromString("denominator");
+    name_year = PyUnicode_InternFromString("year");
+    name_month = PyUnicode_InternFromString("month");
+    name_day = PyUnicode_InternFromString("day");
+    name_out = PyUnicode_InternFromString("out");
+    return name_numerator && name_denominator && name_year && name_month && name_day && name_out ? 0 : -1;
+}
