@@ -4,7 +4,7 @@
 use core::ops::{Shl, Shr};
 
 /// An unsigned number that is shifted by a `u32`.
-pub(crate) trait Unsigned:
+pub trait Unsigned:
     num_traits::Unsigned + Shl<u32, Output = Self> + Shr<u32, Output = Self>
 {
 }

@@ -2,9 +2,9 @@
 //! Dates of the proleptic Gregorian calendar, and days counted from 1970-01-01, which is day 0.
 
 use crate::answers::{I64Answer, ANSWER, NOT_FITTING, NO_DATE, OUTSIDE};
-use cellarcove::calendar::{easter, months_between, weekday_of, weeks_in_year, Weekday};
+use cellarcove::calendar::{easter, months_between, weeks_in_year, Weekday};
 
-/// A date, where there is one of its year, month and day of the month.
+/// A year, a month and a day of the month. The year before year 1 is year 0. January is month 1.
 #[repr(C)]
 #[derive(Clone, Copy)]
 pub struct Date {
@@ -21,7 +21,7 @@ pub struct DateAnswer {
     pub date: Date,
 }
 
-/// A status, and a week of ISO 8601.
+/// A status, and a week of ISO 8601 with its year, which is that of its Thursday.
 #[repr(C)]
 #[derive(Clone, Copy)]
 pub struct IsoWeekAnswer {
@@ -30,13 +30,15 @@ pub struct IsoWeekAnswer {
     pub year: i64,
 }
 
-/// Returns the date of a day. That of -1 is 1969-12-31.
+/// Returns the date of a day, counted from 1970-01-01, which is day 0. That of -1 is 1969-12-31.
 #[unsafe(no_mangle)]
 pub extern "C" fn cellarcove_date_from_day(day: i64) -> Date {
     Date::of(&cellarcove::calendar::Date::from_day_number(day))
 }
 
-/// Returns the day of a date. That of 1969-12-31 is -1.
+/// Returns the day of a date, counted from 1970-01-01, which is day 0. That of 1969-12-31 is -1.
+///
+/// `NO_DATE` if there is no such date. `NOT_FITTING` if its day does not fit.
 #[unsafe(no_mangle)]
 pub extern "C" fn cellarcove_day_from_date(date: Date) -> I64Answer {
     match date.found() {
@@ -48,15 +50,11 @@ pub extern "C" fn cellarcove_day_from_date(date: Date) -> I64Answer {
     }
 }
 
-/// Returns the day of the week of a day, from 0 for Sunday to 6 for Saturday. That of 0 is 4.
-#[unsafe(no_mangle)]
-pub extern "C" fn cellarcove_weekday(day: i64) -> u8 {
-    number_of_weekday(weekday_of(day))
-}
-
-/// Returns the date `months` months after a date, or before it where `months` is negative. Its day
-/// of the month is the same, or the last one where its month is shorter. That of 2000-01-31 and 1
-/// is 2000-02-29.
+/// Returns the date `months` months after a date, or before it if `months` is negative. Its day of
+/// the month is the same, or the last one if its month is shorter. That of 2000-01-31 and 1 is
+/// 2000-02-29.
+///
+/// `NO_DATE` if there is no such date. `NOT_FITTING` if the year of the result does not fit.
 #[unsafe(no_mangle)]
 pub extern "C" fn cellarcove_plus_months(date: Date, months: i64) -> DateAnswer {
     match date.found() {
@@ -68,7 +66,10 @@ pub extern "C" fn cellarcove_plus_months(date: Date, months: i64) -> DateAnswer 
     }
 }
 
-/// Returns the whole months from one date to another. From 2000-01-31 to 2000-02-29 it is 1.
+/// Returns the largest number of months that leads from one date to a date not after another,
+/// negative if the other is earlier. From 2000-01-31 to 2000-02-29 it is 1.
+///
+/// `NO_DATE` if a date does not exist. `NOT_FITTING` if the number does not fit.
 #[unsafe(no_mangle)]
 pub extern "C" fn cellarcove_months_between(from: Date, to: Date) -> I64Answer {
     match from.found() {
@@ -83,7 +84,10 @@ pub extern "C" fn cellarcove_months_between(from: Date, to: Date) -> I64Answer {
     }
 }
 
-/// Returns the week of ISO 8601 that has a date. That of 2005-01-01 is week 53 of 2004.
+/// Returns the week of ISO 8601 that has a date, and its year. That of 2005-01-01 is week 53 of
+/// 2004.
+///
+/// `NO_DATE` if there is no such date. `NOT_FITTING` if the year of the week does not fit.
 #[unsafe(no_mangle)]
 pub extern "C" fn cellarcove_iso_week(date: Date) -> IsoWeekAnswer {
     match date.found() {
@@ -99,11 +103,14 @@ pub extern "C" fn cellarcove_iso_week(date: Date) -> IsoWeekAnswer {
     }
 }
 
-/// Returns the date of a day of a week of ISO 8601, from 0 for Sunday to 6 for Saturday. That of
-/// 2009, 53 and 0 is 2010-01-03.
+/// Returns the date of a day of a week of ISO 8601. The days of the week are from 1 for Monday to 7
+/// for Sunday. That of 2009, 53 and 7 is 2010-01-03.
+///
+/// `OUTSIDE` if `weekday` is not from 1 to 7, whatever the week. `NO_DATE` if the year has no such
+/// week. `NOT_FITTING` if the year of the date does not fit.
 #[unsafe(no_mangle)]
 pub extern "C" fn cellarcove_date_from_iso_week(year: i64, week: u8, weekday: u8) -> DateAnswer {
-    match weekday_of_number(weekday) {
+    match Weekday::from_iso_number(weekday) {
         Some(weekday) => match cellarcove::calendar::Date::from_iso_week(year, week, weekday) {
             Some(found) => DateAnswer::some(&found),
             None => DateAnswer::none(reason_for_week(year, week)),
@@ -128,23 +135,23 @@ impl Date {
         }
     }
 
-    /// Returns the date of the calendar, or `None` where there is none.
-    fn found(self) -> Option<cellarcove::calendar::Date> {
+    /// Returns the date of the calendar, or `None` if there is no such date.
+    pub(crate) fn found(self) -> Option<cellarcove::calendar::Date> {
         cellarcove::calendar::Date::new(self.year, self.month, self.day_of_month)
     }
 }
 
 impl DateAnswer {
-    /// Returns an answer.
-    fn some(date: &cellarcove::calendar::Date) -> DateAnswer {
+    /// Returns a result.
+    pub(crate) fn some(date: &cellarcove::calendar::Date) -> DateAnswer {
         DateAnswer {
             status: ANSWER,
             date: Date::of(date),
         }
     }
 
-    /// Returns a refusal.
-    fn none(status: u32) -> DateAnswer {
+    /// Returns a rejection.
+    pub(crate) fn none(status: u32) -> DateAnswer {
         DateAnswer {
             status,
             date: Date {
@@ -157,7 +164,7 @@ impl DateAnswer {
 }
 
 impl IsoWeekAnswer {
-    /// Returns a refusal.
+    /// Returns a rejection.
     fn none(status: u32) -> IsoWeekAnswer {
         IsoWeekAnswer {
             status,
@@ -174,32 +181,5 @@ fn reason_for_week(year: i64, week: u8) -> u32 {
         NOT_FITTING
     } else {
         NO_DATE
-    }
-}
-
-/// Returns the number of a day of the week, which is 0 for Sunday.
-fn number_of_weekday(weekday: Weekday) -> u8 {
-    match weekday {
-        Weekday::Sunday => 0,
-        Weekday::Monday => 1,
-        Weekday::Tuesday => 2,
-        Weekday::Wednesday => 3,
-        Weekday::Thursday => 4,
-        Weekday::Friday => 5,
-        Weekday::Saturday => 6,
-    }
-}
-
-/// Returns the day of the week of a number.
-fn weekday_of_number(number: u8) -> Option<Weekday> {
-    match number {
-        0 => Some(Weekday::Sunday),
-        1 => Some(Weekday::Monday),
-        2 => Some(Weekday::Tuesday),
-        3 => Some(Weekday::Wednesday),
-        4 => Some(Weekday::Thursday),
-        5 => Some(Weekday::Friday),
-        6 => Some(Weekday::Saturday),
-        _ => None,
     }
 }

@@ -4,7 +4,7 @@
 use crate::answers::{I64Answer, U64Answer, ANSWER, NOT_FITTING};
 use cellarcove::{checked, ExtendedGcd};
 
-/// A status, and the greatest common divisor with Bezout's coefficients.
+/// A status, and the greatest common divisor with its coefficients.
 #[repr(C)]
 #[derive(Clone, Copy)]
 pub struct I64Bezout {
@@ -14,32 +14,99 @@ pub struct I64Bezout {
     pub y: i64,
 }
 
-/// Returns the greatest common divisor. That of -56 and 42 is 14.
+/// A status, and the greatest common divisor with the least common multiple.
+#[repr(C)]
+#[derive(Clone, Copy)]
+pub struct I64GcdLcm {
+    pub status: u32,
+    pub gcd: i64,
+    pub lcm: i64,
+}
+
+/// A status, and the greatest common divisor with the least common multiple.
+#[repr(C)]
+#[derive(Clone, Copy)]
+pub struct U64GcdLcm {
+    pub status: u32,
+    pub gcd: u64,
+    pub lcm: u64,
+}
+
+/// Returns the greatest common divisor, which is not negative. That of -56 and 42 is 14.
+///
+/// `NOT_FITTING` if it is 2^63.
 #[unsafe(no_mangle)]
 pub extern "C" fn cellarcove_gcd_i64(x: i64, y: i64) -> I64Answer {
     I64Answer::of(checked::gcd(x, y), NOT_FITTING)
 }
 
-/// Returns the greatest common divisor. That of 56 and 42 is 14.
+/// Returns the greatest common divisor, which always fits. That of 56 and 42 is 14.
 #[unsafe(no_mangle)]
 pub extern "C" fn cellarcove_gcd_u64(x: u64, y: u64) -> U64Answer {
     U64Answer::of(checked::gcd(x, y), NOT_FITTING)
 }
 
-/// Returns the least common multiple. That of 4 and 6 is 12.
+/// Returns the least common multiple, which is not negative. That of -4 and 6 is 12.
+///
+/// `NOT_FITTING` if the multiple does not fit.
 #[unsafe(no_mangle)]
 pub extern "C" fn cellarcove_lcm_i64(x: i64, y: i64) -> I64Answer {
     I64Answer::of(checked::lcm(x, y), NOT_FITTING)
 }
 
 /// Returns the least common multiple. That of 4 and 6 is 12.
+///
+/// `NOT_FITTING` if the multiple does not fit.
 #[unsafe(no_mangle)]
 pub extern "C" fn cellarcove_lcm_u64(x: u64, y: u64) -> U64Answer {
     U64Answer::of(checked::lcm(x, y), NOT_FITTING)
 }
 
-/// Returns the greatest common divisor and Bezout's coefficients: `x` times the first number and
-/// `y` times the second add up to it. For 240 and 46 they are 2, -9 and 47.
+/// Returns the greatest common divisor and the least common multiple. Those of -10 and 4 are 2 and
+/// 20.
+///
+/// `NOT_FITTING` if one of the two does not fit.
+#[unsafe(no_mangle)]
+pub extern "C" fn cellarcove_gcd_lcm_i64(x: i64, y: i64) -> I64GcdLcm {
+    match checked::gcd_lcm(x, y) {
+        Some((gcd, lcm)) => I64GcdLcm {
+            status: ANSWER,
+            gcd,
+            lcm,
+        },
+        None => I64GcdLcm {
+            status: NOT_FITTING,
+            gcd: 0,
+            lcm: 0,
+        },
+    }
+}
+
+/// Returns the greatest common divisor and the least common multiple. Those of 10 and 4 are 2 and
+/// 20.
+///
+/// `NOT_FITTING` if one of the two does not fit.
+#[unsafe(no_mangle)]
+pub extern "C" fn cellarcove_gcd_lcm_u64(x: u64, y: u64) -> U64GcdLcm {
+    match checked::gcd_lcm(x, y) {
+        Some((gcd, lcm)) => U64GcdLcm {
+            status: ANSWER,
+            gcd,
+            lcm,
+        },
+        None => U64GcdLcm {
+            status: NOT_FITTING,
+            gcd: 0,
+            lcm: 0,
+        },
+    }
+}
+
+/// Returns the greatest common divisor, and small coefficients `x` and `y`: `x` times the first
+/// number and `y` times the second add up to it. For 240 and 46 they are 2, -9 and 47. In C the two
+/// products may overflow.
+///
+/// `NOT_FITTING` if the divisor is 2^63.
 #[unsafe(no_mangle)]
 pub extern "C" fn cellarcove_extended_gcd_i64(x: i64, y: i64) -> I64Bezout {
     match checked::extended_gcd(x, y) {
@@ -49,7 +116,7 @@ pub extern "C" fn cellarcove_extended_gcd_i64(x: i64, y: i64) -> I64Bezout {
 }
 
 impl I64Bezout {
-    /// Returns an answer.
+    /// Returns a result.
     fn some(e: ExtendedGcd<i64>) -> I64Bezout {
         I64Bezout {
             status: ANSWER,
@@ -59,7 +126,7 @@ impl I64Bezout {
         }
     }
 
-    /// Returns the refusal.
+    /// Returns the rejection.
     fn none() -> I64Bezout {
         I64Bezout {
             status: NOT_FITTING,

@@ -20,9 +20,15 @@ fn panic(_: &core::panic::PanicInfo) -> ! {
 
 mod answers;
 mod coefficients;
+mod congruences;
 mod dates;
+mod distances;
 mod division;
 mod divisors;
 mod fractions;
 mod modulo;
+mod operators;
 mod roots;
+mod rounding;
+mod weekdays;
+mod years;

@@ -29,12 +29,14 @@ pub extern "C" fn cellarcove_average_ceil_u64(x: u64, y: u64) -> u64 {
 }
 
 /// Returns the square root rounded down. That of 99 is 9.
+///
+/// `OUTSIDE` if `x` is negative.
 #[unsafe(no_mangle)]
 pub extern "C" fn cellarcove_sqrt_i64(x: i64) -> I64Answer {
     I64Answer::of(checked::sqrt(x), OUTSIDE)
 }
 
-/// Returns the square root rounded down. That of 99 is 9.
+/// Returns the square root rounded down, which always fits. That of 99 is 9.
 #[unsafe(no_mangle)]
 pub extern "C" fn cellarcove_sqrt_u64(x: u64) -> U64Answer {
     U64Answer::of(checked::sqrt(x), OUTSIDE)
@@ -53,12 +55,16 @@ pub extern "C" fn cellarcove_cbrt_u64(x: u64) -> u64 {
 }
 
 /// Returns the root of a degree, rounded toward 0. That of -9 of degree 3 is -2.
+///
+/// `OUTSIDE` if `degree` is 0, and if it is even and `x` is negative.
 #[unsafe(no_mangle)]
 pub extern "C" fn cellarcove_nth_root_i64(x: i64, degree: u32) -> I64Answer {
     I64Answer::of(checked::nth_root(x, degree), OUTSIDE)
 }
 
 /// Returns the root of a degree, rounded down. That of 9 of degree 3 is 2.
+///
+/// `OUTSIDE` if `degree` is 0.
 #[unsafe(no_mangle)]
 pub extern "C" fn cellarcove_nth_root_u64(x: u64, degree: u32) -> U64Answer {
     U64Answer::of(checked::nth_root(x, degree), OUTSIDE)
