@@ -154,7 +154,10 @@ CODE = {
     ('integer_core', 'native', 'Native'): (
         ('Copy + Num +', 'Copy + Num + num_traits::NumCast + num_traits::CheckedAdd + num_traits::CheckedSub '
          '+ num_traits::CheckedMul +'),),
-    ('integer_core', 'operators', 'is_minus_one'): (('successor(a)', 'crate::plain::successor(a)'),),
+    ('integer_core', 'native', 'magnitude'): (
+        ('successor(difference(zero(), successor(self)).as_())',
+         '<Self::Magnitude as num_traits::One>::one() + (Self::zero() - (self + Self::one())).as_()'),),
+    ('integer_core', 'operators', 'is_minus_one'): (('successor(a)', 'a + one()'),),
     ('integer_core', 'native_integer', 'lcm'): (
         ('T::from_magnitude(positive_gcd_lcm(self.magnitude(), other.magnitude()).1)',
          f'crate::guards::number(positive_gcd_lcm(self.magnitude(), other.magnitude()).1, "{LCM}")'),),
@@ -178,7 +181,7 @@ CODE = {
          'rank = crate::guards::sum(rank, binomial(*number, i as u64 + 1), "the rank does not fit")'),),
 }
 # The changes of code that are no guard: bounds, and an operator whose result fits.
-NO_GUARD = {'Native', 'Magnitude', 'is_minus_one'}
+NO_GUARD = {'Native', 'Magnitude', 'magnitude', 'is_minus_one'}
 # The modules that import plain operators: what they add, subtract and multiply fits wherever the division or the test
 # before it passed.
 PLAIN = {('integer_core', 'bezout'), ('integer_core', 'division'), ('integer_core', 'divisors'),

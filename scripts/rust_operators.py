@@ -191,17 +191,24 @@ def imported(texts):
 
 
 def without_unused(text, names):
-    """The text of `plain` with the functions of these names alone, or nothing if it has none."""
+    """The text of `plain` with the functions of these names and the exports of these names alone, or nothing if it has none."""
     source = Source('rust/by_hand/src/plain.rs', text)
     operators = Operators(source)
-    for item in source.items():
+    items = source.items()
+    has_function = any(item.kind == 'fn' and item.name in names for item in items)
+    exports = set()
+    for item in items:
         if item.kind == 'fn' and item.name not in names:
             operators.replace(item.first, item.last, '')
         elif item.kind == 'use' and source.at(item.word - 1) == ')':
             for _, name in source.imports(item):
                 if name not in names:
                     operators.drop_name(item, name)
-    return ''.join(source.texts) if any(item.kind == 'fn' and item.name in names for item in source.items()) else ''
+                else:
+                    exports.add(name)
+        elif item.kind == 'use' and not has_function:
+            operators.replace(item.first, item.last, '')
+    return ''.join(source.texts) if has_function or exports else ''
 
 
 def with_operators(path, text):

@@ -26,6 +26,7 @@ pub mod layout;
 pub mod modular;
 mod padded;
 pub mod paging;
+mod plain;
 pub mod powers;
 pub mod ranking;
 pub mod ratio64;

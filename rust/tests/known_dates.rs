@@ -6,7 +6,7 @@ use cellarcove::calendar::Weekday::{
 use cellarcove::calendar::{
     days_between, days_in_month, days_in_year, easter, first_weekday_on_or_after, is_leap_year,
     last_weekday_of_month, last_weekday_on_or_before, months_between, nth_weekday_of_month,
-    weekday_of, weeks_in_year, Date, IsoWeek, Weekday,
+    weekday_of, weeks_in_year, years_between, Date, IsoWeek, Weekday, WeekdayError,
 };
 use std::fmt::Debug;
 
@@ -225,6 +225,74 @@ fn known_weeks() {
     }
 }
 
+/// Years and weeks, and whether the year has the week.
+const HAS_WEEK: [(i64, u8, bool); 10] = [
+    (2004, 53, true),
+    (2005, 53, false),
+    (2005, 52, true),
+    (2005, 1, true),
+    (2005, 0, false),
+    (2004, 54, false),
+    (MIN, 1, true),
+    (MIN, 53, false),
+    (MAX, 53, true),
+    (MAX, 255, false),
+];
+
+#[test]
+fn weeks_by_number() {
+    for &(year, week, is_there) in &HAS_WEEK {
+        let expected = is_there.then_some(IsoWeek { year, week });
+        let is_known = IsoWeek::new(year, week) == expected;
+        holds_at(is_known, &("IsoWeek::new", year, week));
+    }
+    for &(parts, (year, week, weekday)) in &WEEKS {
+        let found = IsoWeek { year, week }.date_on(weekday);
+        holds_at(found == Some(date(parts)), &("date_on", parts));
+    }
+    for &(year, week, weekday) in &NO_WEEKS {
+        let found = IsoWeek { year, week }.date_on(weekday);
+        holds_at(found.is_none(), &("date_on", year, week, weekday));
+    }
+}
+
+/// Years and weeks, with the string of the week.
+const STRINGS_OF_WEEKS: [(i64, u8, &str); 7] = [
+    (2004, 53, "2004-W53"),
+    (1970, 1, "1970-W01"),
+    (0, 52, "0000-W52"),
+    (-1, 2, "-0001-W02"),
+    (10000, 10, "+10000-W10"),
+    (MAX, 53, "+9223372036854775807-W53"),
+    (MIN, 1, "-9223372036854775808-W01"),
+];
+
+const NAMES: [(Weekday, &str); 7] = [
+    (Sunday, "Sunday"),
+    (Monday, "Monday"),
+    (Tuesday, "Tuesday"),
+    (Wednesday, "Wednesday"),
+    (Thursday, "Thursday"),
+    (Friday, "Friday"),
+    (Saturday, "Saturday"),
+];
+
+#[test]
+fn strings_of_weeks() {
+    for &(year, week, string) in &STRINGS_OF_WEEKS {
+        let printed = IsoWeek { year, week }.to_string();
+        holds_at(printed == string, &("to_string", string));
+    }
+    for &(weekday, name) in &NAMES {
+        let is_read = name.parse() == Ok(weekday);
+        holds_at(is_read && weekday.to_string() == name, &("parse", name));
+    }
+    for name in ["", "Sun", "sunday", "Sunday ", "SUNDAY"] {
+        let is_error = name.parse::<Weekday>() == Err(WeekdayError);
+        holds_at(is_error, &("parse", name));
+    }
+}
+
 /// The weeks and the days of some years.
 const WEEKS_OF_YEARS: [((u8, u16), &[i64]); 4] = [
     ((53, 366), &[2004, 2020]),
@@ -436,6 +504,28 @@ fn months_between_dates() {
     for &(from, to, months) in &MONTHS_BETWEEN {
         let found = months_between(&date(from), &date(to));
         holds_at(found == months, &("months_between", from, to));
+    }
+}
+
+/// Two dates, and the number of whole years from the first to the second, or `None` if it does not fit.
+const YEARS_BETWEEN: [(Parts, Parts, Option<i64>); 10] = [
+    ((2000, 2, 29), (2001, 2, 28), Some(1)),
+    ((2000, 2, 29), (2001, 2, 27), Some(0)),
+    ((2000, 3, 1), (2001, 2, 28), Some(0)),
+    ((2000, 3, 1), (2000, 2, 29), Some(-1)),
+    ((2000, 3, 1), (1999, 3, 1), Some(-1)),
+    ((MIN, 1, 1), (-1, 1, 1), Some(MAX)),
+    ((MIN, 1, 2), (0, 1, 1), Some(MAX)),
+    ((MIN, 1, 1), (0, 1, 1), None),
+    ((0, 1, 1), (MIN, 1, 1), Some(MIN)),
+    ((MAX, 12, 31), (MIN, 1, 1), None),
+];
+
+#[test]
+fn years_between_dates() {
+    for &(from, to, years) in &YEARS_BETWEEN {
+        let found = years_between(&date(from), &date(to));
+        holds_at(found == years, &("years_between", from, to));
     }
 }
 

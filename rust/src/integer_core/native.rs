@@ -29,7 +29,8 @@ pub trait Native:
     /// Returns the absolute value.
     fn magnitude(self) -> Self::Magnitude {
         if self < Self::zero() {
-            (Self::zero() - (self + Self::one())).as_() + Self::one()
+            <Self::Magnitude as num_traits::One>::one()
+                + (Self::zero() - (self + Self::one())).as_()
         } else {
             self.as_()
         }
