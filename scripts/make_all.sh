@@ -1,5 +1,6 @@
 #!/usr/bin/env bash
-# Writes every file that is made: plain Rust, its list of public items and the exports in rust/, the reference, the numbers on
+# Writes every file that is made: plain Rust, its list of public items and the exports in rust/, what C, C++ and Python know of
+# the exports, the reference, the numbers on
 # README, and what Python computes for `replay`.
 # .gitattributes lists these files.
 #
@@ -8,6 +9,7 @@ set -euo pipefail
 cd "$(dirname "$0")/.."
 scripts/make_rust_crate.py
 scripts/make_rust_exports.py
+bindings/make_bindings.py
 scripts/make_api.py
 scripts/make_reference.py
 made=$(mktemp)
