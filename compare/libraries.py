@@ -146,8 +146,8 @@ ONE_MODULUS = {
     "Inverse": lambda a, b, m, shape: quotient(1, a, m),
     "Quotient": lambda a, b, m, shape: quotient(a, b, m),
     "Solutions": lambda a, b, m, shape: solutions(a, b, m),
-    "NextCongruent": lambda a, b, m, shape: shape.fitting(a + (b - a) % m),
-    "PreviousCongruent": lambda a, b, m, shape: shape.fitting(a - (a - b) % m),
+    "Next": lambda a, b, m, shape: shape.fitting(a + (b - a) % m),
+    "Previous": lambda a, b, m, shape: shape.fitting(a - (a - b) % m),
     "CountCongruent": lambda a, b, m, shape: shape.fitting(count_congruent(a, b, a, m)),
 }
 
@@ -204,7 +204,7 @@ def residue_lines():
         for call, function in ONE_MODULUS.items():
             yield name, call, of_one_modulus(shape, function)
         yield name, "ChineseRemainder", of_two_moduli(shape, chinese_remainder)
-        yield name, "NextCommonSolution", of_two_moduli(shape, next_common_solution)
+        yield name, "NextSolution", of_two_moduli(shape, next_common_solution)
 
 
 # The calls of ratio64.
@@ -484,7 +484,7 @@ def ranked_choices():
 
 
 HEAD = """\
-//! What Python answers, as `compare/libraries.py` printed it.
+//! What Python returns, as `compare/libraries.py` printed it.
 
 use crate::checksum::Checksum;
 use crate::dates::{self, Dates};

@@ -8,13 +8,12 @@ Rust it is none, so that big integers have the trait. Code copies a value that i
 or that it takes from behind a reference. In `integer_core` such a copy becomes a clone, a test of 0 borrows, and the
 function has the bound `Clone`. Above it the function, the implementation, the struct or the trait has the bound `Copy`.
 What uses such code has the bound too; all else has none. What these rules do not fit is refused by file and line."""
-import pathlib
 import sys
-import tempfile
 from dataclasses import dataclass, field
 
-from rattle_source import Item, Unknown
-from rust_library import CRATES, Library, Module
+import samples
+from library import Module
+from rattle_source import Item
 from rust_values import TESTS, Body
 
 INTEGER = 'Integer'
@@ -329,49 +328,33 @@ WRITTEN = [
 ]
 
 
-def written(folder, crate, text):
+def written(crate, text):
     """What the rules make of a crate with this text, beside the trait in its own crate."""
-    import erase
-    for name in CRATES:
-        (folder / name / 'src').mkdir(parents=True, exist_ok=True)
-        (folder / name / 'src' / 'lib.rt').write_text(text if name == crate else TRAIT if name == CLONING else '')
-    library = Library(folder)
-    rules = Bounds(library)
-    for module in library.modules.values():
-        rules.write(erase.Eraser(module, library, None))
-    return ''.join(library.modules[crate, ()].source.texts)
+    import make_rust_crate
+    with samples.library_of({CLONING: TRAIT, crate: text}) as library:
+        rules = Bounds(library)
+        for module in library.modules.values():
+            rules.write(make_rust_crate.Eraser(module, library, None))
+        return ''.join(library.modules[crate, ()].source.texts)
 
 
-def refusal(folder, crate, text):
-    try:
-        return written(folder, crate, text)
-    except Unknown as form:
-        return str(form)
+def last_line(crate, line):
+    """What becomes of the last line of a crate that has the trait above it, if it is that of the trait."""
+    first = TRAIT if crate == CLONING else ''
+    return written(crate, f'{first}\n{line}').split('\n')[-1]
 
 
-def self_test(folder):
-    """The lines of the test that are not as they should be."""
-    for crate, line, reason in REFUSED:
-        first = TRAIT if crate == CLONING else ''
-        said = refusal(folder, crate, f'{first}\n{line}')
-        if said != f'crates/{crate}/src/lib.rt:2: {reason}':
-            yield f'{line}\n    gives {said}'
-    for line, reason in REFUSED_TRAITS:
-        said = refusal(folder, CLONING, line)
-        if said != f'crates/{CLONING}/src/lib.rt:1: {reason}':
-            yield f'{line}\n    gives {said}'
-    for crate, line, expected in WRITTEN:
-        first = TRAIT if crate == CLONING else ''
-        said = refusal(folder, crate, f'{first}\n{line}').split('\n', 1)[-1]
-        if said != expected:
-            yield f'{line}\n    gives {said}'
+def self_test():
+    """A line for each sample that is not as it should be."""
+    refused = [(crate, line, f'crates/{crate}/src/lib.rt:2: {reason}') for crate, line, reason in REFUSED]
+    refused += [(CLONING, text, f'crates/{CLONING}/src/lib.rt:1: {reason}') for text, reason in REFUSED_TRAITS]
+    return [*samples.differing(refused[:len(REFUSED)] + WRITTEN, last_line), *samples.differing(refused[len(REFUSED):], written)]
 
 
 def main():
     if sys.argv[1:] != ['--self-test']:
         sys.exit('usage: scripts/rust_bounds.py --self-test')
-    with tempfile.TemporaryDirectory() as made:
-        wrong = list(self_test(pathlib.Path(made) / 'crates'))
+    wrong = self_test()
     print('\n'.join(wrong + [f'{len(REFUSED) + len(REFUSED_TRAITS)} forms are refused, {len(WRITTEN)} are written']))
     sys.exit(bool(wrong))
 

@@ -2,13 +2,13 @@
 clauses, and the module `definitions`, which has each word that such a clause cites. Before it stand the sections
 `# Examples` of rust_examples.py, `# Panics` of rust_guards.py and `# Errors` of rust_errors.py."""
 import re
-import textwrap
 
 import rust_errors
 import rust_examples
 from antt_words import Specs, cited, imported
+from prose import wrapped
 from rattle_source import Unknown
-from rust_library import CRATES, ROOT
+from library import AT_ROOT, CRATES
 
 # What a clause says that says only that values lie in their type.
 FITS = r'[A-Z]\w*\.fits \([A-Z]\w*\.value [\w.]+\)'
@@ -20,11 +20,10 @@ STATED = {'output', 'from_str_gives', 'from_gives', 'is_default', 'cmp', 'partia
 SAYS = {'struct': 'Of the source, in Rattle: it holds of each value of the type.',
         'impl': 'Of the source, in Rattle: what the calls of the trait return.',
         'trait': 'What the proofs use of an implementation. Of those in this crate it is proved, in Rattle.'}
-WIDTH = 96                                      # of the lines of sentences and links
 # What the pages of the module `definitions` are about.
 PAGES = {'integer_core': 'ranges, division, divisors, Bezout pairs and the turns of their loops',
          'integer_roots': 'averages, roots and the turns of their loops', 'num_integer': 'coefficients and checked calls',
-         'modular': 'residues and congruences', 'ratio64': 'fractions', 'calendar': 'dates', 'applied': 'the models of `applied`'}
+         'modular': 'residues and congruences', 'ratio64': 'fractions', 'calendar': 'dates', 'applied': 'paging, schedules, ranking, alignment and hashing'}
 
 
 class Page:
@@ -77,7 +76,7 @@ def section(eraser, item, owner):
         if word:
             links.append(f'[`{name}`](crate::definitions::{word.crate}#{name.lower()})')
     head = 'Laws' if item.kind == 'trait' else 'Proved'
-    links = wrapped('Words:', links + ['[how to read it](crate::definitions)'])
+    links = wrapped('Words: ' + ', '.join(links + ['[how to read it](crate::definitions)']) + '.')
     return ['', f'<details><summary>{head}</summary>', '', *in_words(item, {text.split()[0] for text in texts}), '',
             '```text', *'\n'.join(texts).split('\n'), '```', '', *links, '', '</details>']
 
@@ -86,19 +85,7 @@ def in_words(item, words):
     """The lines before the clauses, which begin with these words."""
     call = 'where each `requires` holds, the call returns' if 'requires' in words else 'each call returns'
     then = ', and then each `ensures` holds' if 'ensures' in words else ''
-    return textwrap.wrap(SAYS.get(item.kind, f'Of the source, in Rattle: {call}{then}.'), WIDTH)
-
-
-def wrapped(line, links):
-    """The lines of a sentence of links."""
-    lines = []
-    for link in links:
-        if len(line) + len(link) > WIDTH:
-            lines.append(line)
-            line = link + ','
-        else:
-            line += f' {link},'
-    return lines + [line[:-1] + '.']
+    return wrapped(SAYS.get(item.kind, f'Of the source, in Rattle: {call}{then}.'))
 
 
 def place_of(eraser, item, owner):
@@ -106,6 +93,25 @@ def place_of(eraser, item, owner):
     if item.kind == 'impl':
         return eraser.library.place_of_type(eraser.module, item.name) if item.of_trait else None
     return eraser.library.place_of(eraser.module, item, owner)
+
+
+def twin(eraser, item, owner, place):
+    """The sentence that leads from a call that panics outside its domain to the one of `checked`, or back, if there is one and
+    the comment does not name it."""
+    public, name = eraser.library.public, item.name
+    if item.kind != 'fn' or owner is not None and (owner.kind != 'trait' or place != ()):
+        return []
+    checked = place[-1:] == ('checked',)
+    other = place[:-1] if checked else (*place, 'checked')
+    path = '::'.join((*other, name))
+    if not any(there == other and found == name for (_, _, found), there in public.items()):
+        if not checked or ((), 'Integer') not in rust_examples.methods(eraser.library).get(name, ()):
+            return []
+        path = f'Integer::{name}'
+    if f'`{path}`' in rust_examples.comment_of(eraser.source, item) or f'{path}`]' in rust_examples.comment_of(eraser.source, item):
+        return []
+    does = 'panics' if checked else 'returns `None`'
+    return ['', *wrapped(f'[`{path}`](crate::{path}) is the same call, which {does} outside the domain.')]
 
 
 def add_sections(eraser, item, owner):
@@ -116,7 +122,7 @@ def add_sections(eraser, item, owner):
     docs = source.docs(item)
     prose = [source.tokens[i].text[3:].removeprefix(' ') for i in docs]
     remarks, panics = eraser.guards.sections(item, owner)
-    sections = remarks + rust_examples.section(eraser, item, place) + panics
+    sections = remarks + twin(eraser, item, owner, place) + rust_examples.section(eraser, item, place) + panics
     sections += rust_errors.section(eraser, item, owner)
     if item.kind in ('fn', 'struct', 'trait', 'impl'):
         sections += section(eraser, item, owner)
@@ -137,7 +143,7 @@ def add_sections(eraser, item, owner):
 
 def linked(eraser, comment):
     """A comment whose links to names of the root lead there where the file does not import them."""
-    if eraser.crate != ROOT:
+    if eraser.crate not in AT_ROOT:
         comment = re.sub(r'\[`crate::', f'[`crate::{eraser.crate}::', comment)
     roots = eraser.library.names_at(())
 

@@ -2,11 +2,10 @@
 implementation of `FromStr`, when it returns which error. A call that it does not have is refused by file and line, and
 so is an error of which a clause says that it never comes."""
 import re
-import textwrap
 
+from prose import wrapped
 from rattle_source import Unknown
 
-WIDTH = 96                                      # of the lines of a section
 NOT_FITTING = 'a part of the {} does not fit an `i64`'
 LEAST = 'the numerator is `i64::MIN`'
 # By crate, type and call: the errors, each by its name, or '' where the type is the error, and when it is returned.
@@ -21,6 +20,10 @@ ERRORS = {
     ('ratio64', 'Ratio', 'checked_recip'): {'ZeroDenominator': 'the fraction is 0', 'NotFitting': LEAST},
     ('ratio64', 'Ratio', 'checked_pow'): {'ZeroDenominator': 'the fraction is 0 and the exponent is negative',
                                           'NotFitting': NOT_FITTING.format('power')},
+    ('ratio64', 'Ratio', 'checked_times'): {'ZeroDenominator': '`d` is 0', 'NotFitting': NOT_FITTING.format('product')},
+    ('ratio64', 'Ratio', 'floor_to'): {'NotFitting': NOT_FITTING.format('result')},
+    ('ratio64', 'Ratio', 'ceil_to'): {'NotFitting': NOT_FITTING.format('result')},
+    ('ratio64', 'Ratio', 'round_to'): {'NotFitting': NOT_FITTING.format('result')},
     ('ratio64', 'Ratio', 'checked_neg'): {'NotFitting': LEAST},
     ('ratio64', 'Ratio', 'checked_abs'): {'NotFitting': LEAST},
     ('ratio64', 'Ratio', 'from_str'): {
@@ -29,6 +32,7 @@ ERRORS = {
         'ZeroDenominator': 'the denominator is 0',
         'NotFitting': NOT_FITTING.format('reduced fraction')},
     ('calendar', 'Date', 'from_str'): {'': 'the text is not the one that `Display` writes of a date'},
+    ('calendar', 'Weekday', 'from_str'): {'': 'the string is not the English name of a day of the week'},
 }
 USED = set()                    # the rows that are met, noted as files are made
 
@@ -61,8 +65,7 @@ def section(eraser, item, owner):
         called = f'{error}::{name}' if name else error
         lines.append(f'- [`{called}`]({path}::{called}) if {when};')
     lines[-1] = lines[-1][:-1] + '.'
-    return ['', '# Errors', '', *(part for line in lines for part in textwrap.wrap(
-        line, WIDTH, subsequent_indent='  ', break_on_hyphens=False, break_long_words=False))]
+    return ['', '# Errors', '', *(part for line in lines for part in wrapped(line, indent='  '))]
 
 
 def see_all_used():

@@ -2,9 +2,9 @@
 assertion, below the `use` lines of their names. `cargo test` runs them."""
 import functools
 import re
-import textwrap
 
-WIDTH = 96                                      # of the lines of a comment
+from prose import WIDTH, wrapped
+
 SENTENCE = re.compile(r'`([^`]+)` is (?:`([^`]+)`)?')
 # A sentence of examples alone.
 ALONE = re.compile(r'(?:(?<=[.] )|^)`[^`]+` is `[^`]+`(?:(?:,|, and| and) `[^`]+` is `[^`]+`)*\.(?: |$)')
@@ -58,7 +58,7 @@ def without_examples(lines):
         text = ' '.join(paragraph)
         rest = text if any(re.match(r'\||- |```', line) for line in paragraph) else ALONE.sub('', text).strip()
         if rest:
-            found += ['', *(paragraph if rest == text else textwrap.wrap(rest, WIDTH, break_on_hyphens=False))]
+            found += ['', *(paragraph if rest == text else wrapped(rest))]
     return found[1:] or lines
 
 

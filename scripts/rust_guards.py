@@ -17,14 +17,14 @@ import shutil
 import subprocess
 import sys
 import tempfile
-import textwrap
 from dataclasses import dataclass
 
+import samples
+from library import ROOT
+from prose import wrapped
 from rattle_source import Source, Unknown
 
 REPOSITORY = pathlib.Path(__file__).resolve().parent.parent
-WIDTH = 96                                      # of the lines of a section
-HIDDEN = REPOSITORY / 'rust' / 'by_hand' / 'hidden_methods.rs'
 
 # ---- what the clauses say
 
@@ -43,7 +43,7 @@ RESULT = rf'(?:{ANY} [-+*]ℤ (?:{ANY}|pos 1)|neg_ℤ \({ANY}\))'
 # What a parameter is called where it has to be above 0, where it may not be negative, and where it ends another.
 POSITIVE = {'m': 'the modulus', 'n': 'the modulus', 'modulus': 'the modulus', 'step': 'the step', 'max': 'the limit',
             'a.1': 'the period', 'b.1': 'the period', 'page_size': 'the page size', 'alignment': 'the alignment',
-            'congruences': 'a modulus', 'schedules': 'a period'}
+            'congruences': 'a modulus', 'schedules': 'a period', 'parts': 'the number of parts'}
 FROM_ZERO = {'n': '`n`', 'k': '`k`', 'items': 'the number of items', 'part': 'the part', 'place': 'the place'}
 ENDS = {'page_size': 'the page size', 'parts': 'the number of parts', 'n': '`n`'}
 
@@ -106,7 +106,7 @@ ROWS = (
         'Not this call. The one that asks for an item does, if the item does not fit.'),
     Row('positive', rf'pos 0 <ℤ {value("x")}', TESTED, '{x.name} is not positive', '{x.value} > {x.zero}',
         '{x.name} is not positive', names=POSITIVE),
-    Row('positive limit', r'pos 0 <ℤ (?P<x>max)|0 < (?P<y>modulus)', TESTED, '{x.name} is not positive', '{x} > 0',
+    Row('positive limit', r'pos 0 <ℤ (?P<x>max|parts)|0 < (?P<y>modulus)', TESTED, '{x.name} is not positive', '{x} > 0',
         '{x.name} is not positive', names=POSITIVE),
     Row('all positive', r'All \(λ (?P<p>\w)\. pos 0 <ℤ (?P<x_type>[A-Z]\w*)\.value (?P=p)\.1\) (?P<x>[\w.]+)', TESTED,
         '{x.name} is not positive', '{x}.iter().all(|pair| pair.1 > {x.zero})', '{x.name} is not positive',
@@ -152,13 +152,19 @@ CODE = {
         ('<T: Num>', INTEGER),
         ('difference(zero(), a)', f'zero::<T>().exact_difference(a, "{WRAPS.format("negate")}")')),
     ('integer_core', 'native', 'Native'): (
-        ('Copy + Num +', 'Copy + Num + num_traits::CheckedAdd + num_traits::CheckedSub + num_traits::CheckedMul +'),),
+        ('Copy + Num +', 'Copy + Num + num_traits::NumCast + num_traits::CheckedAdd + num_traits::CheckedSub '
+         '+ num_traits::CheckedMul +'),),
+    ('integer_core', 'operators', 'is_minus_one'): (('successor(a)', 'crate::plain::successor(a)'),),
     ('integer_core', 'native_integer', 'lcm'): (
-        ('T::from_magnitude(T::Magnitude::positive_lcm(self.magnitude(), other.magnitude()))',
-         f'crate::guards::number(T::Magnitude::positive_lcm(self.magnitude(), other.magnitude()), "{LCM}")'),),
-    ('integer_core', 'stein', 'positive_lcm'): (
-        ('product(a, quotient(b, positive_gcd(a, b).0))',
-         f'crate::guards::product(a, quotient(b, positive_gcd(a, b).0), "{LCM}")'),),
+        ('T::from_magnitude(positive_gcd_lcm(self.magnitude(), other.magnitude()).1)',
+         f'crate::guards::number(positive_gcd_lcm(self.magnitude(), other.magnitude()).1, "{LCM}")'),),
+    ('integer_core', 'native_integer', 'gcd_lcm'): (
+        ('(T::from_magnitude(gcd), T::from_magnitude(lcm))',
+         f'(crate::guards::number(gcd, "{GCD}"), crate::guards::number(lcm, "{LCM}"))'),),
+    ('integer_core', 'stein', 'Magnitude'): (
+        ('Copy + Unsigned +', 'Copy + Unsigned + num_traits::CheckedMul +'),),
+    ('integer_core', 'stein', 'positive_gcd_lcm'): (
+        ('product(a, quotient(b, gcd))', f'crate::guards::product(a, quotient(b, gcd), "{LCM}")'),),
     ('integer_core', 'stein', 'binary_gcd'): (
         ('T::from_magnitude(gcd)', f'crate::guards::number(gcd, "{GCD}")'),),
     ('num_integer', 'coefficients', 'next_coefficient'): (
@@ -171,6 +177,8 @@ CODE = {
         ('rank += binomial(*number, i as u64 + 1)',
          'rank = crate::guards::sum(rank, binomial(*number, i as u64 + 1), "the rank does not fit")'),),
 }
+# The changes of code that are no guard: bounds, and an operator whose result fits.
+NO_GUARD = {'Native', 'Magnitude', 'is_minus_one'}
 # The modules that import plain operators: what they add, subtract and multiply fits wherever the division or the test
 # before it passed.
 PLAIN = {('integer_core', 'bezout'), ('integer_core', 'division'), ('integer_core', 'divisors'),
@@ -187,7 +195,7 @@ LEFT_TO_BODY = {
 }
 # The functions without a clause that the place of the caller goes through, on the way to a panic.
 WAY = {('integer_core', 'division', 'div_rem'), ('integer_core', 'division', 'div_mod_floor'),
-       ('integer_core', 'stein', 'binary_gcd'), ('integer_core', 'stein', 'positive_lcm'),
+       ('integer_core', 'stein', 'binary_gcd'), ('integer_core', 'stein', 'positive_gcd_lcm'),
        ('num_integer', 'coefficients', 'next_coefficient'), ('num_integer', 'rows', 'item_at'),
        ('num_integer', 'rows', 'next')}
 
@@ -195,8 +203,8 @@ MET = {}                        # how many clauses have each form, noted as file
 LEFT_OUT = ''                   # the form or the function whose guards the self-test leaves out
 
 
-def wrapped(texts):
-    return [line for text in texts for line in textwrap.wrap(text, WIDTH)]
+def lines_of(texts):
+    return [line for text in texts for line in wrapped(text)]
 
 
 def fold(text):
@@ -298,8 +306,8 @@ class Guards:
         panics = [f'If {", or if ".join(conditions)}.'] if conditions else []
         if any(row.way == LATER for row, _ in self.met(item, owner)):
             panics, others = panics + others, []
-        return (['', *wrapped(others)] if others else [],
-                ['', '# Panics', '', *wrapped(panics)] if panics else [])
+        return (['', *lines_of(others)] if others else [],
+                ['', '# Panics', '', *lines_of(panics)] if panics else [])
 
     # ---- after the walk
 
@@ -367,14 +375,6 @@ class Guards:
                  if not use.first <= k <= use.last)
         return any(re.search(rf'(?<![\w.:]){name}\b', text) for text in texts)
 
-    def members(self, item):
-        """Adds the hidden methods to the trait `Integer`, or to its implementation for the built-in types."""
-        trait = item.name if item.kind == 'trait' else item.of_trait
-        if self.module.crate == 'integer_core' and trait == 'Integer':
-            fragments = Source(HIDDEN, HIDDEN.read_text())
-            [block] = [block for block in fragments.items() if block.kind == item.kind]
-            self.eraser.write(item.last, fragments.text(block.open + 1, block.last))
-
 
 def parameters(source, item):
     """The names of the parameters of a function."""
@@ -417,55 +417,41 @@ class Names:
 # A function with a condition that nothing guards, and what is said of it.
 REFUSED = [
     ('pub fn half(x: u64) -> u64\n    requires even { x % 2 ≡ 0 }\n{ x / 2 }',
-     '2: a condition of `half` that no row of scripts/rust_guards.py guards: `x % 2 ≡ 0`'),
+     'crates/num_integer/src/lib.rt:2: a condition of `half` that no row of scripts/rust_guards.py guards: `x % 2 ≡ 0`'),
     ('pub fn inverse<T: Integer>(x: T) -> T\n    requires { pos 0 <ℤ T.value x }\n{ x }',
-     '2: `x`, which scripts/rust_guards.py has no words for'),
+     'crates/num_integer/src/lib.rt:2: `x`, which scripts/rust_guards.py has no words for'),
     ('pub fn rest<T: Integer>(x: T, y: T) -> T\n    requires { T.value y ≢ pos 0 }\n{ x }',
-     '2: a condition of `rest` that scripts/rust_guards.py leaves to its body: `T.value y ≢ pos 0`'),
+     'crates/num_integer/src/lib.rt:2: a condition of `rest` that scripts/rust_guards.py leaves to its body: `T.value y ≢ pos 0`'),
     ('pub trait Half { fn half(&self) -> Self\n    requires { IsEven (Self.value self.now) }; }',
-     '2: a condition of `half` that no row of scripts/rust_guards.py guards: `IsEven (Self.value self.now)`'),
+     'crates/num_integer/src/lib.rt:2: a condition of `half` that no row of scripts/rust_guards.py guards: `IsEven (Self.value self.now)`'),
 ]
 
 
-def refusal(folder, text):
-    """What is said of a crate of this text."""
-    import erase
-    from rust_library import CRATES, ROOT, Library
-    for crate in CRATES:
-        (folder / crate / 'src').mkdir(parents=True, exist_ok=True)
-        (folder / crate / 'src' / 'lib.rt').write_text(text if crate == ROOT else '')
-    library = Library(folder)
-    try:
-        return erase.Eraser(library.modules[ROOT, ()], library, None).rust()
-    except Unknown as form:
-        return str(form)
-
-
-def not_refused(folder):
-    """The functions of `REFUSED` of which something else is said."""
-    for text, reason in REFUSED:
-        said = refusal(folder, text)
-        if not said.endswith(f'num_integer/src/lib.rt:{reason}'):
-            yield f'{text}\n    gives {said}'
+def erased(text):
+    """What is made of a crate of this text."""
+    import make_rust_crate
+    with samples.library_of({ROOT: text}) as library:
+        return make_rust_crate.Eraser(library.modules[ROOT, ()], library, None).rust()
 
 
 # What the self-test takes out: the forms with a test, and the changes of code that are no bound.
 def forms():
     changed = [key[2] for key, changes in CODE.items()
-               if any(new != INTEGER for _, new in changes) and key[2] != 'Native']
+               if any(new != INTEGER for _, new in changes) and key[2] not in NO_GUARD]
     return [row.name for row in ROWS if row.test] + changed
 
 
 def make(folder):
     """Makes the sources of the crate, and notes the forms that are met."""
-    import erase
+    import make_rust_crate
     (folder / 'src').mkdir(parents=True, exist_ok=True)
     for name in ('src', 'tests'):
         shutil.rmtree(folder / name, ignore_errors=True)
-    erase.write(folder)
+    make_rust_crate.write(folder)
     tests = folder / 'tests' / 'domains'
     shutil.copytree(REPOSITORY / 'rust' / 'tests' / 'domains', tests)
-    shutil.copy(REPOSITORY / 'rust' / 'Cargo.toml', folder)
+    for name in ('Cargo.toml', 'README.md', 'build.rs'):
+        shutil.copy(REPOSITORY / 'rust' / name, folder)
     main = (tests / 'main.rs').read_text()
     (tests / 'main.rs').write_text(re.sub(r'mod (?:small|slices|wide);\n', '', main))
 
@@ -481,7 +467,7 @@ def fails(folder):
 def self_test(folder, names):
     """The forms whose guards nobody misses."""
     global LEFT_OUT
-    wrong = list(not_refused(folder.parent / 'crates'))
+    wrong = list(samples.differing(REFUSED, erased))
     if wrong:
         raise Unknown('\n'.join(wrong))
     print(f'{len(REFUSED)} conditions without a guard are refused', flush=True)

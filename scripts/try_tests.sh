@@ -6,12 +6,9 @@
 # usage: scripts/try_tests.sh [NAME..]
 set -uo pipefail
 cd "$(dirname "$0")/.."
+source scripts/lib.sh
 
 seconds=600
-work=$(mktemp -d)
-trap 'rm -rf "$work"' EXIT
-passed=0
-failed=0
 
 names=("$@")
 if [ ${#names[@]} -eq 0 ]; then

@@ -4,8 +4,8 @@ use cellarcove::calendar::{easter, Date, Weekday};
 use cellarcove::counted::{extended_gcd_counted, GcdCounted, SqrtCounted};
 use cellarcove::modular::{chinese_remainder, counted, inverse_modulo, product_modulo, residue};
 use cellarcove::ratio64::{ParseRatioError, Ratio, RatioError};
-use cellarcove::applied::schedules::{next_meeting, CommonSolution};
-use cellarcove::applied::{halving, layout, paging, powers, ranking, rolling_hash::RollingHash};
+use cellarcove::schedules::{next_meeting, CommonSolution};
+use cellarcove::{halving, layout, paging, powers, ranking, rolling_hash::RollingHash};
 use cellarcove::{binomial, operators, Integer, Roots};
 use std::panic::catch_unwind;
 

@@ -1,5 +1,16 @@
-//! The tests of `modular` and `applied`, callers of `num_integer`, and the tasks of the cookbook.
+//! The tests of `ratio64`, of an own type in `modular`, of `applied` and of the strings of dates, and the tasks of the cookbook.
+//! The worked values of `modular`, `applied` and `calendar` are in `rust/tests`.
 #![tactic(auto)]
 
 #[cfg(test)]
-mod tests;
+mod assertions;
+#[cfg(test)]
+mod cookbook;
+#[cfg(test)]
+mod dates;
+#[cfg(test)]
+mod fractions;
+#[cfg(test)]
+mod models;
+#[cfg(test)]
+mod residues;

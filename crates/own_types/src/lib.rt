@@ -1,7 +1,30 @@
 //! What the crates of tests share: lawful types that the library does not know, the names of all types,
-//! and whole numbers by sign and magnitude, computed apart from the library.
+//! and integers by sign and magnitude, computed apart from the library.
+//!
+//! `Percent` is written out in full, as an example of what a lawful type costs. The five others share all but the way in
+//! which they store a number.
 #![tactic(auto)]
 
-pub mod own_types;
+pub mod form;
+pub mod forms;
+pub mod percent;
 pub mod signed_magnitude;
 pub mod types;
+
+pub use form::{Form, Own};
+pub use percent::Percent;
+
+/// From -7 to 7.
+pub type Small = Own<forms::SmallForm>;
+
+/// From -7 to 7, stored negated.
+pub type Negated = Own<forms::NegatedForm>;
+
+/// From -100 to 100, beside a byte that no number depends on.
+pub type Marked = Own<forms::MarkedForm>;
+
+/// 0 and 1, with no 2.
+pub type OneBit = Own<forms::OneBitForm>;
+
+/// From 0 to 3.
+pub type TwoBits = Own<forms::TwoBitsForm>;

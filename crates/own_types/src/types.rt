@@ -2,8 +2,8 @@
 
 ghost use Rattle.std.specs.Prelude.{IfSome};
 
-use crate::own_types::{Form, Own, Percent};
 use crate::signed_magnitude::{SignedMagnitude, to_i128};
+use crate::{Form, Own, Percent};
 use num_integer::counted::GcdCounted;
 use num_integer::{Average, Fits};
 use num_traits::FromPrimitive;

@@ -1,4 +1,4 @@
-//! The calls. Each adds its answer to a checksum, where it has one.
+//! The calls. Each adds its result to a checksum, if it has one.
 
 ghost use Rattle.std.specs.List.{All};
 
@@ -40,14 +40,14 @@ pub(crate) enum Call {
 
 /// A call of two operands at a type.
 pub(crate) trait OfPair<T: Tested> {
-    /// The checksum with the answer, or `None` where the call is not made.
+    /// The checksum with the result, or `None` if the call is not made.
     fn with_answer(&self, sum: Checksum, x: T, y: T) -> Option<Checksum>
         requires x_in_range { T.fits (T.value x) }
         requires y_in_range { T.fits (T.value y) };
 }
 
-/// The calls of two operands that each type has. Where the divisor is 0, version 0.1.44 of the Rust
-/// crate refuses `is_multiple_of` and `divides`.
+/// The calls of two operands that each type has. If the divisor is 0, version 0.1.44 of the Rust
+/// crate panics in `is_multiple_of` and `divides`.
 impl<T: Tested> OfPair<T> for Call {
     fn with_answer(&self, sum: Checksum, x: T, y: T) -> Option<Checksum> {
         Some(match self {
@@ -94,8 +94,8 @@ fn with_truth(sum: Checksum, holds: bool) -> Checksum {
     sum.with((false, u128::from(holds)))
 }
 
-/// Whether numbers of these magnitudes are asked for their pair: where the Rust crate refuses a pair, its
-/// answer comes from `i128`.
+/// Whether numbers of these magnitudes are asked for their pair: if the Rust crate panics at a pair, its
+/// result comes from `i128`.
 fn has_asked_pair(a: u128, b: u128) -> bool {
     a.leading_zeros() > 0 && b.leading_zeros() > 0
 }
@@ -119,7 +119,7 @@ impl<T: Signed + Tested> OfPair<T> for BezoutAndMultiple {
     }
 }
 
-/// The checksum with the degree, where it counts, and the root, or `None` where the number has none.
+/// The checksum with the degree, if it counts, and the root, or `None` if the number has none.
 pub(crate) fn with_root<T: Roots + Fits>(
     call: Call,
     sum: Checksum,
@@ -139,7 +139,7 @@ pub(crate) fn with_root<T: Roots + Fits>(
     }
 }
 
-/// The checksum with the counts and their multinomial, or `None` where it does not fit.
+/// The checksum with the counts and their multinomial, or `None` if it does not fit.
 pub(crate) fn with_multinomial<T: Fits>(sum: Checksum, counts: &[T]) -> Option<Checksum>
     requires { All (λ x. T.fits (T.value x)) counts.now }
 {

@@ -41,7 +41,7 @@ const FOR_ONE: u32 = 52;
 /// How many indices give the parts of a fraction that a call takes with another.
 const FOR_TWO: u32 = 16;
 
-/// The fractions of each two of the numbers, where there is one.
+/// The fractions of each two of the numbers, if there is one.
 fn fractions_of(rt: &impl Abort, alloc: Global, numbers: &[i64]) -> Vec<Ratio> {
     let mut fractions = Vec::new(alloc);
     for num in numbers {
@@ -59,7 +59,7 @@ fn with_fraction(sum: Checksum, x: &Ratio) -> Checksum {
     sum.with_number(x.num()).with_number(x.den())
 }
 
-/// The checksum with the fraction or the refusal, which is counted as a negative number that no part is.
+/// The checksum with the fraction or the error, which is counted as a negative number that no part is.
 fn with_answer(sum: Checksum, answer: Result<Ratio, RatioError>) -> Checksum {
     match answer {
         Ok(x) => with_fraction(sum, &x),

@@ -39,7 +39,7 @@ pub(crate) fn counts(first: SignedMagnitude, index: u32) -> [SignedMagnitude; 3]
 /// The rows of Pascal's triangle stay below this.
 pub(crate) const ROWS: u32 = 140;
 
-/// A type's number of bits, the magnitude of its least number, and its greatest number.
+/// A type's number of bits, the magnitude of its smallest number, and its largest number.
 #[derive(Clone, Copy)]
 pub struct Shape {
     pub width: u32,
@@ -48,8 +48,8 @@ pub struct Shape {
 }
 
 impl Shape {
-    /// The type of the numbers from minus `low` to `high`. The least number of `i128` is left out: where the
-    /// Rust crate refuses a call of it, no wider type has the answer.
+    /// The type of the numbers from minus `low` to `high`. The smallest number of `i128` is left out: if the
+    /// Rust crate panics in a call of it, no wider type has the result.
     pub(crate) fn between(low: u128, high: u128) -> Shape {
         let bits = 128u32.wrapping_sub(high.leading_zeros());
         Shape {
@@ -59,13 +59,13 @@ impl Shape {
         }
     }
 
-    /// How many indices are gone through where numbers are paired with one another. At 8 bits they give
+    /// How many indices are gone through when numbers are paired with one another. At 8 bits they give
     /// each number of the type once.
     pub(crate) fn paired(self) -> u32 {
         if self.width == 8 { 512 } else { 384 }
     }
 
-    /// The number at an index, where it lies in the type. At other widths than 8 bits the first indices
+    /// The number at an index, if it lies in the type. At other widths than 8 bits the first indices
     /// give edges, the next Fibonacci numbers, and all further ones random numbers.
     pub fn number(self, index: u32) -> Option<SignedMagnitude>
         ensures { MatchOption result ⊤ (λ n. n.1 ≤ (if n.0 then self.low else self.high)) }

@@ -7,8 +7,8 @@ use own_types::types::Type;
 use std::alloc::Global;
 use std::process::Abort;
 
-/// A type; a call; how many inputs the Rust crate answers at the type; how many more it answers at
-/// `i128` alone, by numbers of the type; and the checksum over all of these inputs and answers.
+/// A type; a call; how many inputs have a result of the Rust crate at the type; how many more have one at
+/// `i128` alone, by numbers of the type; and the checksum over all of these inputs and results.
 pub(crate) struct Line(
     pub(crate) Type,
     pub(crate) Call,
@@ -26,7 +26,7 @@ pub(crate) fn replay(rt: &impl Abort, alloc: Global, lines: &[Line]) {
     }
 }
 
-/// What the call answers at the type.
+/// What the call returns at the type.
 fn answers_at(rt: &impl Abort, alloc: Global, it: Type, call: Call) -> Answered {
     match it {
         Type::I8 => signed_rooted_answers::<i8>(rt, alloc, call),
@@ -39,7 +39,7 @@ fn answers_at(rt: &impl Abort, alloc: Global, it: Type, call: Call) -> Answered 
     }
 }
 
-/// What the call answers at a type with no sign.
+/// What the call returns at a type without a sign.
 fn answers_at_unsigned(rt: &impl Abort, alloc: Global, it: Type, call: Call) -> Answered {
     match it {
         Type::U8 => rooted_answers::<u8>(rt, alloc, call),

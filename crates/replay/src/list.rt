@@ -1,4 +1,4 @@
-//! What the Rust crate `num-integer` answered, as the program in `compare/` printed it.
+//! What the Rust crate `num-integer` returned, as the program in `compare/` printed it.
 
 use crate::calls::Call::{
     AverageCeil, AverageFloor, Binomial, Cbrt, DivCeil, DivFloor, DivModFloor, DivRem, Divides,

@@ -1,22 +1,20 @@
 //! The calls of `applied` on few numbers of a type, and all choices of few numbers.
 
-ghost use Rattle.std.specs.Prelude.{◌<ℤ◌, pos};
-
 use crate::calls::{with_value, with_values};
 use crate::checksum::Checksum;
-use crate::spread::spread_of;
-use crate::walks::{Answered, values};
+use crate::spread::{OfThree, each_three};
+use crate::walks::Answered;
 use applied::halving::midpoint;
 use applied::layout::{align_up, padding};
 use applied::paging::{pages, place_of, range_of_page, range_of_part};
 use applied::ranking::{choice_of_rank, rank};
-use num_integer::operators::{is_below, is_negative, zero};
-use num_integer::{Average, Fits, binomial};
+use num_integer::operators::{is_below, is_negative};
+use num_integer::{Fits, binomial};
 use own_types::types::{Tested, Type};
 use std::alloc::Global;
 use std::process::Abort;
 
-/// A call. Each takes a number above 0 last: the size of a page, a number of parts or an alignment.
+/// A call. Each takes a positive number last: the size of a page, a number of parts or an alignment.
 #[derive(Clone, Copy, Debug)]
 pub(crate) enum Models {
     Pages,
@@ -31,55 +29,36 @@ pub(crate) enum Models {
 /// A type, a call, how many inputs have a result, and the checksum over them.
 pub(crate) type Line = (Type, Models, u32, u64);
 
-/// How many indices give the numbers.
-const NUMBERS: u32 = 36;
-
 /// All choices of the numbers below this are ranked, and of those below each smaller number.
 const CHOSEN_BELOW: u64 = 14;
 
-/// The checksum with the result, or `None` if the call is not made or its result does not fit.
-fn with_result<T: Average + Fits>(call: Models, sum: Checksum, a: T, b: T, m: T) -> Option<Checksum>
-    requires numbers_in_range { T.fits (T.value a) × T.fits (T.value b) }
-    requires m_in_range { T.fits (T.value m) }
-    requires positive { pos 0 <ℤ T.value m }
-{
-    match call {
-        Models::Pages => Some(with_value(sum, pages(a, m))),
-        Models::PlaceOf => Some(with_values(sum, place_of(a, m))),
-        Models::RangeOfPage if !is_negative(b) => Some(with_values(sum, range_of_page(a, m, b))),
-        Models::RangeOfPart if !is_negative(a) && is_below(a, m) && !is_negative(b) => {
-            Some(with_values(sum, range_of_part(a, m, b)))
-        }
-        Models::AlignUp => Some(with_value(sum, align_up(a, m)?)),
-        Models::Padding => Some(with_value(sum, padding(a, m))),
-        Models::Midpoint => Some(with_value(sum, midpoint(a, b))),
-        _ => None,
-    }
-}
-
-/// What the call makes of each two of the numbers and each of them above 0.
-fn answers<T: Tested>(rt: &impl Abort, alloc: Global, call: Models) -> Answered {
-    let numbers = values::<T>(rt, alloc, &spread_of::<T>(rt, alloc, NUMBERS));
-    let mut answered = Answered::none();
-    for a in &numbers {
-        for b in &numbers {
-            for m in &numbers {
-                if is_below(zero(), *m) {
-                    let sum = with_value(with_values(answered.1, (*a, *b)), *m);
-                    answered = answered.and(with_result(call, sum, *a, *b, *m));
-                }
+/// A call that is not made, or whose result does not fit, has none.
+impl<T: Tested> OfThree<T> for Models {
+    fn with_result(&self, sum: Checksum, a: T, b: T, m: T) -> Option<Checksum> {
+        match self {
+            Models::Pages => Some(with_value(sum, pages(a, m))),
+            Models::PlaceOf => Some(with_values(sum, place_of(a, m))),
+            Models::RangeOfPage if !is_negative(b) => Some(with_values(
+                sum,
+                range_of_page(a, m, b),
+            )),
+            Models::RangeOfPart if !is_negative(a) && is_below(a, m) && !is_negative(b) => {
+                Some(with_values(sum, range_of_part(a, m, b)))
             }
+            Models::AlignUp => Some(with_value(sum, align_up(a, m)?)),
+            Models::Padding => Some(with_value(sum, padding(a, m))),
+            Models::Midpoint => Some(with_value(sum, midpoint(a, b))),
+            _ => None,
         }
     }
-    answered
 }
 
 /// Computes the lines again.
 pub(crate) fn replay(rt: &impl Abort, alloc: Global, lines: &[Line]) {
     for (it, call, count, checksum) in lines {
         let answered = match it {
-            Type::I64 => answers::<i64>(rt, alloc, *call),
-            _ => answers::<u64>(rt, alloc, *call),
+            Type::I64 => each_three::<i64, Models>(rt, alloc, call),
+            _ => each_three::<u64, Models>(rt, alloc, call),
         };
         let expected = Answered(*count, Checksum(*checksum));
         assert_eq!(rt; answered, expected, "{it:?} {call:?}");
@@ -124,7 +103,7 @@ fn all_choices(rt: &impl Abort, so_far: Answered, n: u64, choice: &mut [u64]) ->
     answered
 }
 
-/// All choices of the numbers below each number up to the greatest.
+/// All choices of the numbers below each number up to the largest.
 pub(crate) fn ranked_choices(rt: &impl Abort) -> Answered {
     let mut numbers = [0; CHOSEN_BELOW as usize];
     let mut answered = Answered::none();

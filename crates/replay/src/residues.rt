@@ -5,7 +5,7 @@ ghost use Rattle.std.specs.List.{All};
 
 use crate::calls::{with_value, with_values};
 use crate::checksum::Checksum;
-use crate::spread::spread_of;
+use crate::spread::{OfThree, each_three, spread_of};
 use crate::walks::{Answered, values};
 use modular::{
     CommonSolution, Modular, chinese_remainder, count_congruent, difference_modulo, inverse_modulo,
@@ -31,51 +31,41 @@ pub(crate) enum Residues {
     Inverse,
     Quotient,
     Solutions,
-    NextCongruent,
-    PreviousCongruent,
+    /// The next congruent number.
+    Next,
+    /// The previous congruent number.
+    Previous,
     /// The congruent numbers between the first two have the residue of the first.
     CountCongruent,
     ChineseRemainder,
-    /// The next one from the second number on.
-    NextCommonSolution,
+    /// The next number from the second on that solves both congruences.
+    NextSolution,
 }
 
 /// A type, a call, how many inputs have a result, and the checksum over them.
 pub(crate) type Line = (Type, Residues, u32, u64);
 
-/// How many indices give the numbers of a call with one modulus.
-const FOR_ONE_MODULUS: u32 = 36;
-
 /// How many indices give the numbers of a call with two moduli.
 const FOR_TWO_MODULI: u32 = 24;
 
-/// The checksum with the result, or `None` if there is none.
-fn with_result<T: Modular + Fits>(
-    call: Residues,
-    sum: Checksum,
-    a: T,
-    b: T,
-    m: T,
-) -> Option<Checksum>
-    requires numbers_in_range { T.fits (T.value a) × T.fits (T.value b) }
-    requires m_in_range { T.fits (T.value m) }
-    requires positive { pos 0 <ℤ T.value m }
-{
-    let number = match call {
-        Residues::Residue => residue(a, m),
-        Residues::Negation => negation_modulo(a, m),
-        Residues::Sum => sum_modulo(a, b, m),
-        Residues::Difference => difference_modulo(a, b, m),
-        Residues::Product => product_modulo(a, b, m),
-        Residues::Power => power_modulo(a, b.parts().1, m),
-        Residues::Inverse => inverse_modulo(a, m)?,
-        Residues::Quotient => quotient_modulo(a, b, m)?,
-        Residues::NextCongruent => next_congruent(a, b, m)?,
-        Residues::PreviousCongruent => previous_congruent(a, b, m)?,
-        Residues::CountCongruent => count_congruent(a, b, a, m)?,
-        _ => return Some(with_values(sum, solutions(a, b, m)?)),
-    };
-    Some(with_value(sum, number))
+impl<T: Modular + Tested> OfThree<T> for Residues {
+    fn with_result(&self, sum: Checksum, a: T, b: T, m: T) -> Option<Checksum> {
+        let number = match self {
+            Residues::Residue => residue(a, m),
+            Residues::Negation => negation_modulo(a, m),
+            Residues::Sum => sum_modulo(a, b, m),
+            Residues::Difference => difference_modulo(a, b, m),
+            Residues::Product => product_modulo(a, b, m),
+            Residues::Power => power_modulo(a, b.parts().1, m),
+            Residues::Inverse => inverse_modulo(a, m)?,
+            Residues::Quotient => quotient_modulo(a, b, m)?,
+            Residues::Next => next_congruent(a, b, m)?,
+            Residues::Previous => previous_congruent(a, b, m)?,
+            Residues::CountCongruent => count_congruent(a, b, a, m)?,
+            _ => return Some(with_values(sum, solutions(a, b, m)?)),
+        };
+        Some(with_value(sum, number))
+    }
 }
 
 /// The checksum with the result of a call with two moduli. A solution beyond the type is counted as -0, which
@@ -95,30 +85,13 @@ fn with_result_of_two<T: Modular + Fits>(
         Residues::ChineseRemainder if m.lcm_fits(&n) => {
             Some(with_values(sum, chinese_remainder(a, m, b, n)?))
         }
-        Residues::NextCommonSolution => match next_common_solution(b, a, m, b, n) {
+        Residues::NextSolution => match next_common_solution(b, a, m, b, n) {
             CommonSolution::At(t) => Some(with_value(sum, t)),
             CommonSolution::Beyond => Some(sum.with((true, 0))),
             CommonSolution::Never => None,
         },
         _ => None,
     }
-}
-
-/// What the call makes of each two of the numbers and each modulus among them.
-fn of_one_modulus<T: Modular + Tested>(rt: &impl Abort, alloc: Global, call: Residues) -> Answered {
-    let numbers = values::<T>(rt, alloc, &spread_of::<T>(rt, alloc, FOR_ONE_MODULUS));
-    let mut answered = Answered::none();
-    for a in &numbers {
-        for b in &numbers {
-            for m in &numbers {
-                if is_below(zero(), *m) {
-                    let sum = with_value(with_values(answered.1, (*a, *b)), *m);
-                    answered = answered.and(with_result(call, sum, *a, *b, *m));
-                }
-            }
-        }
-    }
-    answered
 }
 
 /// What the call makes of a number and a modulus and each of the numbers with each modulus among them.
@@ -160,10 +133,10 @@ fn of_two_moduli<T: Modular + Tested>(rt: &impl Abort, alloc: Global, call: Resi
 
 fn answers<T: Modular + Tested>(rt: &impl Abort, alloc: Global, call: Residues) -> Answered {
     match call {
-        Residues::ChineseRemainder | Residues::NextCommonSolution => {
+        Residues::ChineseRemainder | Residues::NextSolution => {
             of_two_moduli::<T>(rt, alloc, call)
         }
-        _ => of_one_modulus::<T>(rt, alloc, call),
+        _ => each_three::<T, Residues>(rt, alloc, &call),
     }
 }
 

@@ -1,7 +1,12 @@
-//! Few numbers of a type, spread over those at the indices of its shape.
+//! Few numbers of a type, spread over those at the indices of its shape, and the calls of three of them.
 
+ghost use Rattle.std.specs.Prelude.{◌<ℤ◌, pos};
+
+use crate::calls::{with_value, with_values};
+use crate::checksum::Checksum;
 use crate::inputs::Shape;
-use crate::walks::shape_of;
+use crate::walks::{Answered, shape_of, values};
+use num_integer::operators::{is_below, zero};
 use own_types::signed_magnitude::{SignedMagnitude, to_i128};
 use own_types::types::Tested;
 use std::alloc::Global;
@@ -56,4 +61,37 @@ pub(crate) fn spread_of_bits(rt: &impl Abort, alloc: Global, bits: u32, count: u
         }
     }
     numbers
+}
+
+/// A call of two numbers and a positive one at a type.
+pub(crate) trait OfThree<T: Tested> {
+    /// The checksum with the result, or `None` if there is none.
+    fn with_result(&self, sum: Checksum, a: T, b: T, m: T) -> Option<Checksum>
+        requires numbers_in_range { T.fits (T.value a) × T.fits (T.value b) }
+        requires m_in_range { T.fits (T.value m) }
+        requires positive { pos 0 <ℤ T.value m };
+}
+
+/// How many indices give the numbers of such a call.
+const NUMBERS: u32 = 36;
+
+/// What the call makes of each two of the numbers and each positive one among them.
+pub(crate) fn each_three<T: Tested, C: OfThree<T>>(
+    rt: &impl Abort,
+    alloc: Global,
+    call: &C,
+) -> Answered {
+    let numbers = values::<T>(rt, alloc, &spread_of::<T>(rt, alloc, NUMBERS));
+    let mut answered = Answered::none();
+    for a in &numbers {
+        for b in &numbers {
+            for m in &numbers {
+                if is_below(zero(), *m) {
+                    let sum = with_value(with_values(answered.1, (*a, *b)), *m);
+                    answered = answered.and(call.with_result(sum, *a, *b, *m));
+                }
+            }
+        }
+    }
+    answered
 }

@@ -15,12 +15,12 @@ use own_types::types::Tested;
 use std::alloc::Global;
 use std::process::Abort;
 
-/// How many answered inputs of a line are taken: all. To find the input at which a line is red, leave
+/// How many inputs of a line that have a result are taken: all. To find the input at which a line is red, leave
 /// that line alone in the list and lower this: as long as that input is not taken, the test says on its
 /// left what `cargo run -- inputs I64 Gcd`, in `compare/`, prints at that count.
 const TAKEN: u32 = u32::MAX;
 
-/// How many inputs were answered, and the checksum over them and their answers.
+/// How many inputs have a result, and the checksum over them and their results.
 #[derive(Clone, Copy, Debug, PartialEq, Eq)]
 pub(crate) struct Answered(pub(crate) u32, pub(crate) Checksum);
 
@@ -29,7 +29,7 @@ impl Answered {
         Answered(0, Checksum(0))
     }
 
-    /// One more, where the checksum with it is given.
+    /// One more, if the checksum with it is given.
     pub(crate) fn and(self, sum: Option<Checksum>) -> Answered {
         match sum {
             Some(sum) if self.0 < TAKEN => Answered(self.0 + 1, sum),
@@ -80,7 +80,7 @@ fn values_at<T: Tested>(rt: &impl Abort, alloc: Global, count: u32) -> Vec<T>
     values(rt, alloc, &numbers)
 }
 
-/// What the call answers of each two of the numbers.
+/// What the call returns of each two of the numbers.
 fn pairs<T: Tested, C: OfPair<T>>(rt: &impl Abort, alloc: Global, call: &C) -> Answered {
     let numbers = values_at::<T>(rt, alloc, shape_of::<T>().paired());
     let mut answered = Answered::none();
@@ -135,14 +135,14 @@ fn rows<T: Tested>() -> Answered {
     answered
 }
 
-/// The row of a number, where the type has both.
+/// The row of a number, if the type has both.
 fn row_of<T: Tested>(n: SignedMagnitude) -> Option<IterBinomial<T>>
     ensures { IfSome result (λ items. All T.fits items) }
 {
     checked::row(T::from_signed_magnitude(n)?)
 }
 
-/// What a call that each type has answers.
+/// What a call that each type has returns.
 pub(crate) fn answers<T: Tested>(rt: &impl Abort, alloc: Global, call: Call) -> Answered {
     match call {
         Call::Multinomial => multinomials::<T>(rt, alloc),
@@ -151,7 +151,7 @@ pub(crate) fn answers<T: Tested>(rt: &impl Abort, alloc: Global, call: Call) -> 
     }
 }
 
-/// What a call answers at a type with roots.
+/// What a call returns at a type with roots.
 pub(crate) fn rooted_answers<T: Roots + Tested>(
     rt: &impl Abort,
     alloc: Global,
@@ -163,7 +163,7 @@ pub(crate) fn rooted_answers<T: Roots + Tested>(
     }
 }
 
-/// What a call answers at a type with a sign.
+/// What a call returns at a type with a sign.
 pub(crate) fn signed_answers<T: Signed + Tested>(
     rt: &impl Abort,
     alloc: Global,
@@ -175,7 +175,7 @@ pub(crate) fn signed_answers<T: Signed + Tested>(
     }
 }
 
-/// What a call answers at a type with a sign and roots.
+/// What a call returns at a type with a sign and roots.
 pub(crate) fn signed_rooted_answers<T: Signed + Roots + Tested>(
     rt: &impl Abort,
     alloc: Global,

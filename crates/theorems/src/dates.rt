@@ -1,11 +1,11 @@
 //! Calls of `calendar`: what a caller learns from their contracts and the laws, and results that a caller matches on or loops over.
 
-ghost use Rattle.std.specs.Prelude.{◌≡◌, ◌⊎◌, ◌↔◌, ◌++◌, ◌<◌, ◌≤◌, ◌<ℤ◌, ◌+ℤ◌, ◌≤ℤ◌, ◌-ℤ◌, All, FitsSigned, IfOk, IfSome, IsTrue, MatchOption, Ok, Some, if◌then◌else◌, pos};
+ghost use Rattle.std.specs.Prelude.{◌≡◌, ◌⊎◌, ◌↔◌, ◌++◌, ◌<◌, ◌≤◌, ◌<ℤ◌, ◌+ℤ◌, ◌≤ℤ◌, ◌-ℤ◌, All, FitsSigned, IfOk, IfSome, IsTrue, MatchOption, Ok, Some, if◌then◌else◌, pos, ℤ};
 ghost use Rattle.std.specs.Hash as written;
 ghost use Rattle.std.specs.Int.{w64};
 ghost use Rattle.std.specs.List.{fold};
 ghost use Rattle.std.specs.Option.{SomeIff};
-ghost use Rattle.calendar.specs.Dates.{HasMonths, IsLastWeekdayOfMonth, IsMonthsAfter, number_of};
+ghost use Rattle.calendar.specs.Dates.{HasMonths, IsLastWeekdayOfMonth, IsMonthsAfter, IsMonthsBetween, IsNthWeekday, number_of};
 ghost use Rattle.calendar.specs.Easter.{IsEaster};
 ghost use Rattle.calendar.specs.IsoWeeks.{IsDayOfIsoWeek, IsInIsoWeek};
 ghost use Rattle.calendar.specs.LeapYears.{is_leap_year};
@@ -13,6 +13,7 @@ ghost use Rattle.calendar.specs.Months.{IsDate, days_in_month, month_number};
 ghost use Rattle.calendar.specs.Weekday.{iso_number};
 ghost use Rattle.calendar.specs.Weeks.{HasWeekday};
 ghost use Rattle.calendar.specs.declared.date.Date.{Date};
+ghost use Rattle.calendar.specs.declared.weekday.Weekday.TheVariants.{Friday};
 ghost use Rattle.num_integer.specs.Divisors.{Divides};
 ghost use Rattle.num_integer.specs.Only.{IsOnly};
 
@@ -268,15 +269,6 @@ pub fn yesterday(date: &Date) -> Option<Date>
     }
 }
 
-/// The date some days later, by steps.
-pub fn stepped(date: Date, days: u16) -> Option<Date> {
-    let mut stepped = date;
-    for _ in 0..days {
-        stepped = stepped.next()?;
-    }
-    Some(stepped)
-}
-
 /// The date a week later.
 pub fn week_later(date: &Date) -> Option<Date>
     ensures { IfSome result (λ d. number_of d ≡ number_of date.now +ℤ pos 7) }
@@ -360,12 +352,6 @@ pub fn is_at_weekend(day: i64) -> bool
     }
 }
 
-/// The year of a date that a text spells.
-pub fn year_of_text(text: &str) -> Result<i64, DateError> {
-    let date: Date = text.parse()?;
-    Ok(date.year)
-}
-
 /// Thanksgiving, the fourth Thursday of November.
 pub fn thanksgiving(year: i64) -> Option<Date>
     ensures { IfSome result (λ date. HasWeekday (number_of date) Weekday.Thursday) }
@@ -396,11 +382,6 @@ pub fn last_day_of_month(year: i64, month: u8) -> Date
     }
 }
 
-/// The rent of the month of a date, by a table of the months of 28, 29, 30 and 31 days.
-pub fn rent(rents: &[u32; 4], date: &Date) -> u32 {
-    rents[usize::from(days_in_month(date.year, date.month)) - 28]
-}
-
 /// The days of two years, added.
 pub fn days_of_two_years(year: i64) -> Option<u16>
     ensures { IfSome result (λ days. 730 ≤ days × days ≤ 732) }
@@ -417,6 +398,42 @@ pub fn age_in_months(birth: &Date, today: &Date) -> Option<i64>
         Some(months) => Some(months),
         None => None,
     }
+}
+
+/// The whole months from one date to another, below 0 where the second is earlier, or `None` where they
+/// do not fit `i64`.
+pub fn months_old(birth: Date, today: Date) -> Option<i64>
+    ensures { MatchOption result
+        ((months : ℤ) × IsMonthsBetween birth today months × ¬ (FitsSigned w64 months))
+        (λ months. IsMonthsBetween birth today months) }
+{
+    months_between(&birth, &today)
+}
+
+/// The same months: a date one month more after the birth is after today.
+pub fn whole_months_old(birth: &Date, today: &Date) -> Option<i64>
+    ensures { IfSome result (λ months. (date : Date)
+        → IsMonthsAfter birth.now (months +ℤ pos 1) date → number_of today.now <ℤ number_of date) }
+{
+    Some(months_between(birth, today)?)
+}
+
+/// The last Friday of a month, which each month has.
+pub fn pay_day_of_month(year: i64, month: u8) -> Date
+    requires from_one { 1 ≤ month }
+    requires to_twelve { month ≤ 12 }
+    ensures { IsLastWeekdayOfMonth year month Friday result }
+{
+    last_weekday_of_month(year, month, Weekday::Friday).unwrap()
+}
+
+/// The second Friday of a month, which each month has.
+pub fn advance_day(year: i64, month: u8) -> Date
+    requires from_one { 1 ≤ month }
+    requires to_twelve { month ≤ 12 }
+    ensures { IsNthWeekday year month Friday 2 result }
+{
+    nth_weekday_of_month(year, month, Weekday::Friday, 2).unwrap()
 }
 
 /// The last Friday of a month.
@@ -450,11 +467,6 @@ pub fn weekday_or_monday(number: u8) -> Weekday
     }
 }
 
-/// The place of a day of the week in a row of seven from Monday on.
-pub fn place_in_row(row: &[u32; 7], weekday: Weekday) -> u32 {
-    row[usize::from(weekday.iso_number()) - 1]
-}
-
 /// The weeks of the year after a week.
 pub fn weeks_left(week: &IsoWeek) -> u8
     ensures { result ≤ 53 }
@@ -463,6 +475,8 @@ pub fn weeks_left(week: &IsoWeek) -> u8
 }
 
 /// The days of the year after a date.
-pub fn days_left(date: &Date) -> u16 {
+pub fn days_left(date: &Date) -> u16
+    ensures { result < 366 }
+{
     days_in_year(date.year) - date.day_of_year()
 }

@@ -1,20 +1,25 @@
 //! Calls of `ratio64`: what a caller learns from their contracts and the laws, and results that a caller matches on or loops over.
 
-ghost use Rattle.std.specs.Prelude.{◌≡◌, ◌≢◌, ◌↔◌, ◌++◌, ◌<ℤ◌, ◌+ℤ◌, ◌*ℤ◌, ◌^◌, ◌-ℤ◌, Err, IfOk, IfSome, IsOk, IsTrue, MatchOption, neg_ℤ, pos, unsigned_abs, ℤ};
+ghost use Rattle.std.specs.Prelude.{◌≡◌, ◌≢◌, ◌↔◌, ◌++◌, ◌<◌, ◌<ℤ◌, ◌+ℤ◌, ◌*ℤ◌, ◌^◌, ◌-ℤ◌, Err, IfOk, IfSome, IsOk, IsTrue, MatchOption, Ok, neg_ℤ, pos, unsigned_abs, ℤ};
 ghost use Rattle.std.specs.Hash as written;
 ghost use Rattle.std.specs.Int.{int_pow};
 ghost use Rattle.std.specs.List.{fold};
 ghost use Rattle.num_integer.specs.Division.{IsCeiled, IsFloored, IsQuotient};
+ghost use Rattle.num_integer.specs.Divisors.{IsGreatestCommonDivisor};
 ghost use Rattle.num_integer.specs.Only.{IsOnly};
 ghost use Rattle.ratio64.specs.Fraction.{AreEqual, IsExact, IsFraction, IsOutsideI64, IsReduced, fraction_cmp};
 ghost use Rattle.ratio64.specs.Limiting.{IsNearestWithin};
-ghost use Rattle.ratio64.specs.Ratio.{den_of, num_of};
+ghost use Rattle.ratio64.specs.Ratio.{AnswersFraction, den_of, num_of};
 ghost use Rattle.ratio64.specs.Rounding.{IsRounded};
 
 use num_integer::Integer;
 use ratio64::{ParseRatioError, Ratio, RatioError};
+use std::alloc::{AllocError, Global};
 use std::cmp::Ordering;
 use std::hash::{Hash, Hasher};
+
+/// What is read of a string.
+type ParseResult = Result<Ratio, ParseRatioError>;
 
 // ---- what follows from the contracts
 
@@ -202,10 +207,23 @@ pub fn hash_of_parts<H: Hasher>(x: &Ratio, state: &mut H)
     x.hash(state);
 }
 
+/// The parts of a fraction, and what is read of its string, which is that fraction.
+pub fn read_back(alloc: Global, x: &Ratio) -> Result<(i64, i64, ParseResult), AllocError>
+    ensures { IfOk result (λ r. r.2 ≡ Ok x.now) }
+{
+    let (num, den) = (x.num(), x.den());
+    let text = x.to_string(alloc)?;
+    Ok((num, den, text.as_str().parse()))
+}
+
 // ---- results that a caller matches on or loops over, with no proof file
 
-/// A fraction, its parts, and its neighbours among the whole numbers.
-pub fn three_halves_below() -> Result<(i64, i64, i64, i64), RatioError> {
+/// A fraction, its parts, and its neighbours among the integers.
+pub fn three_halves_below() -> Result<(i64, i64, i64, i64), RatioError>
+    ensures parts { IfOk result (λ r. IsExact (pos 6) (neg_ℤ (pos 4)) r.0 r.1) }
+    ensures floor { IfOk result (λ r. IsQuotient IsFloored r.0 r.1 r.2) }
+    ensures ceil { IfOk result (λ r. IsQuotient IsCeiled r.0 r.1 r.3) }
+{
     let x = Ratio::new(6, -4)?; // -3/2
     Ok((x.num(), x.den(), x.floor(), x.ceil())) // (-3, 2, -2, -1)
 }
@@ -328,17 +346,6 @@ pub fn total(fractions: &[Ratio]) -> Result<Ratio, RatioError>
     Ok(total)
 }
 
-/// The least of the fractions and a bound.
-pub fn least(fractions: &[Ratio], bound: Ratio) -> Ratio {
-    let mut least = bound;
-    for fraction in fractions {
-        if *fraction < least {
-            least = *fraction;
-        }
-    }
-    least
-}
-
 /// The fraction that a text spells, or 0 where it spells none.
 pub fn read_or_zero(text: &str) -> Result<Ratio, ParseRatioError>
     ensures { result ≢ Err ParseRatioError.NotAFraction }
@@ -347,12 +354,6 @@ pub fn read_or_zero(text: &str) -> Result<Ratio, ParseRatioError>
         Err(ParseRatioError::NotAFraction) => Ok(Ratio::zero()),
         read => read,
     }
-}
-
-/// The sum of a fraction and one that a text spells.
-pub fn sum_with_text(x: &Ratio, text: &str) -> Result<Ratio, ParseRatioError> {
-    let read: Ratio = text.parse()?;
-    Ok(x.checked_add(&read)?)
 }
 
 // ---- calls that are not refused
@@ -378,7 +379,9 @@ pub fn magnitude_above_least(x: &Ratio) -> Result<Ratio, RatioError>
 }
 
 /// The reciprocal of a fraction above 0.
-pub fn reciprocal_of_positive(x: &Ratio) -> Ratio {
+pub fn reciprocal_of_positive(x: &Ratio) -> Ratio
+    ensures { pos 0 <ℤ num_of x.now → IsExact (den_of x.now) (num_of x.now) (num_of result) (den_of result) }
+{
     if !x.is_positive() {
         return Ratio::zero();
     }
@@ -396,6 +399,24 @@ pub fn percent(hundredths: i64) -> Ratio
         Ok(percent) => percent,
         Err(_) => unreachable!("the denominator is above 0"),
     }
+}
+
+/// The amount for so many persons of a recipe for `servings`, exact, or the error if it does not fit.
+pub fn scale(amount: Ratio, persons: i64, servings: i64) -> Result<Ratio, RatioError>
+    requires { pos 0 <ℤ servings }
+    ensures { AnswersFraction (num_of amount *ℤ persons) (den_of amount *ℤ servings) result }
+{
+    let share = Ratio::new(persons, servings).unwrap();
+    amount.checked_mul(&share)
+}
+
+/// The resolution of a screen in lowest terms.
+pub fn reduced_resolution(width: u32, height: u32) -> Ratio
+    requires { 0 < height }
+    ensures same_ratio { num_of result *ℤ pos height ≡ pos width *ℤ den_of result }
+    ensures lowest { IsGreatestCommonDivisor (num_of result) (den_of result) (pos 1) }
+{
+    Ratio::new(i64::from(width), i64::from(height)).unwrap()
 }
 
 // ---- whole numbers times a fraction

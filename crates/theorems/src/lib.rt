@@ -11,14 +11,12 @@
 //! | `laws.rt` | what follows from the definitions alone: one result at most, symmetry, formulas, bounds |
 //! | `integers/plain.rt` | calls of `num_integer` whose condition a plain fact on the arguments meets |
 //! | `integers/checked.rt` | calls of `num_integer::checked`, and exactly when each returns `None` |
-//! | `integers/matched.rt` | results that a caller of `num_integer` matches on or loops over |
+//! | `integers/matched.rt` | results that a caller of `num_integer` matches on |
 //! | `integers/generic.rt` | calls at each type of integers, and rows of Pascal's triangle |
 //! | `residues.rt` | `modular`: residues, inverses, congruences |
 //! | `fractions.rt` | `ratio64`: exact results and refusals, order, rounding |
 //! | `dates.rt` | `calendar`: dates and their days, weeks, months, Easter |
 //! | `pages.rt` | `applied`: pages and parts, offsets, schedules, choices |
-//!
-//! A function without `ensures` shows that its body returns for all arguments: no operation overflows, and no index is out of range.
 //!
 //! Most functions have no proof file: the search proves them from the contracts of what they call. The others have theirs in
 //! `proofs/`, under the names of the file and of the function.

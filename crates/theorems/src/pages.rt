@@ -7,26 +7,16 @@ ghost use Rattle.num_integer.specs.Coefficient.{coefficient};
 ghost use Rattle.num_integer.specs.Least.{IsLeastFrom};
 ghost use Rattle.applied.specs.Paging.{IsPlace};
 ghost use Rattle.applied.specs.Ranking.{IsChoice, rank_of};
-ghost use Rattle.applied.specs.Schedules.{IsMeetingOfEach};
+ghost use Rattle.applied.specs.Schedules.{IsMeeting, IsMeetingOfEach};
 
 use applied::layout::align_up;
-use applied::paging::{item_at, range_of_page, range_of_part};
+use applied::paging::{item_at, range_of_page};
 use applied::ranking::{is_choice, next_choice, rank, rank_fits};
 use applied::schedules::{Schedule, next_meeting, next_meeting_of};
 use modular::CommonSolution;
 use num_integer::Fits;
 
 // ---- pages and parts
-
-/// The length of the longest of so many parts.
-pub fn longest_part(numbers: &[u8], parts: usize) -> usize {
-    let mut longest = 0;
-    for part in 0..parts {
-        let (first, end) = range_of_part(part, parts, numbers.len());
-        longest = longest.max(numbers[first..end].len());
-    }
-    longest
-}
 
 /// The first index of a page and one past its last, among so many items.
 pub fn items_of_page(page: u64, page_size: u64, items: u64) -> (u64, u64)
@@ -36,25 +26,6 @@ pub fn items_of_page(page: u64, page_size: u64, items: u64) -> (u64, u64)
         ↔ ((i < items) × ((place : ℤ) × IsPlace (pos i) (pos page_size) (pos page) place)) }
 {
     range_of_page(page, page_size, items)
-}
-
-/// The items of a page of eight, by numbers of `i64`.
-pub fn eight_items(items: &[u8; 100], page: i64) -> &[u8] {
-    let (first, end) = range_of_page(page, 8, 100);
-    &items[first as usize..end as usize]
-}
-
-/// The greatest item of a part of seven, by numbers of `i64`.
-pub fn greatest_of_part(items: &[u8; 100], part: i64) -> u8
-    requires from_zero { pos 0 ≤ℤ part }
-    requires below { part <ℤ pos 7 }
-{
-    let (first, end) = range_of_part(part, 7, 100);
-    let mut greatest = 0;
-    for item in &items[first as usize..end as usize] {
-        greatest = greatest.max(*item);
-    }
-    greatest
 }
 
 /// The item at a place of a page of ten, or `None` if it is beyond the type.
@@ -100,13 +71,16 @@ pub fn aligned(offset: u32, alignment: u32) -> u32
     }
 }
 
-/// How long to wait for the next meeting.
-pub fn wait(now: u32, first: Schedule<u32>, second: Schedule<u32>) -> Option<u32>
+/// The time of the next meeting, and how long to wait for it.
+pub fn wait(now: u32, first: Schedule<u32>, second: Schedule<u32>) -> Option<(u32, u32)>
     requires first { 0 < first.1 }
     requires second { 0 < second.1 }
+    ensures next { IfSome result (λ r. IsLeastFrom (pos now)
+        (IsMeeting (pos first.0) (pos first.1) (pos second.0) (pos second.1)) (pos r.0)) }
+    ensures wait { IfSome result (λ r. now + r.1 ≡ r.0) }
 {
     match next_meeting(now, first, second) {
-        CommonSolution::At(time) => Some(time - now),
+        CommonSolution::At(time) => Some((time, time - now)),
         CommonSolution::Never | CommonSolution::Beyond => None,
     }
 }

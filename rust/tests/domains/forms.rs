@@ -6,7 +6,7 @@ use cellarcove::calendar::days_in_month;
 use cellarcove::counted::{binomial_counted, extended_gcd_counted, GcdCounted, SqrtCounted};
 use cellarcove::modular::{self, Modular};
 use cellarcove::ratio64::Ratio;
-use cellarcove::applied::{
+use cellarcove::{
     halving, layout, paging, powers, ranking, rolling_hash::RollingHash, schedules,
 };
 use cellarcove::{binomial, multinomial, operators, Integer, IterBinomial, Roots};

@@ -3,7 +3,7 @@
 use crate::{check, exact};
 use cellarcove::counted::{binomial_counted, extended_gcd_counted, GcdCounted, SqrtCounted};
 use cellarcove::modular::{self, Modular};
-use cellarcove::applied::{halving, layout, paging, powers, schedules};
+use cellarcove::{halving, layout, paging, powers, schedules};
 use cellarcove::{operators, Average, Integer, IterBinomial, Roots};
 
 /// A number of the type, or `None` where it does not fit.

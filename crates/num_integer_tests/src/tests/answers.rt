@@ -18,9 +18,9 @@ use neighbours::neighbour;
 use num_integer::counted::SqrtCounted;
 use num_integer::{Fits, Roots};
 use num_traits::Signed;
-use own_types::own_types::{Marked, Negated, OneBit, Percent, Small, TwoBits};
 use own_types::signed_magnitude::SignedMagnitude;
 use own_types::types::{Tested, Type};
+use own_types::{Marked, Negated, OneBit, Percent, Small, TwoBits};
 use roots::{counted_root, root};
 use std::alloc::Global;
 

@@ -1,10 +1,9 @@
-//! Averages: the tests of the Rust crate, and the halves of both numbers added up.
+//! Averages: the tests of the Rust crate.
 
 use super::answers::two;
 use super::calls::Call::Averages;
 use super::rows::{Row, answers, check_row, check_rows};
-use super::types::{ends, greatest};
-use own_types::signed_magnitude::{SignedMagnitude, floored, left, sum};
+use super::types::{Ends, ends, greatest};
 use own_types::types::{SIGNED, Type, UNSIGNED};
 use std::alloc::Global;
 use std::process::Abort;
@@ -27,7 +26,7 @@ static OF_DIFFERENT_SIGN: [Row; 2] = [
 /// Checks the averages of numbers right below the greatest of each of the types.
 fn check_below_the_top(rt: &impl Abort, alloc: Global, types: &[Type]) {
     for it in types {
-        let (_, high) = ends(rt, alloc, *it);
+        let Ends(_, high) = ends(rt, alloc, *it);
         let first = (false, high.saturating_sub(1));
         let second = (false, high.saturating_sub(2));
         let third = (false, high.saturating_sub(3));
@@ -67,16 +66,4 @@ fn check_ends(rt: &impl Abort, alloc: Global) {
 fn different_sign(rt: HostRuntime) {
     check_rows(&rt, rt.alloc(), &OF_DIFFERENT_SIGN);
     check_ends(&rt, rt.alloc());
-}
-
-/// Half of the sum, rounded down and rounded up: the halves rounded down, and what they leave.
-pub(super) fn halves_of_sum(
-    a: SignedMagnitude,
-    b: SignedMagnitude,
-) -> Option<(SignedMagnitude, SignedMagnitude)> {
-    let two = (false, 2);
-    let (half, other) = (floored(a, two), floored(b, two));
-    let (_, over) = sum(left(a, half, two)?, left(b, other, two)?)?;
-    let floor = sum(sum(half?, other?)?, (false, over / 2))?;
-    Some((floor, sum(floor, (false, over % 2))?))
 }

@@ -7,9 +7,7 @@ use super::rows::{answers, check_row, holds_at};
 use super::tables::{GCDS, LCMS};
 use super::types::greatest;
 use num_integer::{Fits, Integer, checked, gcd, gcd_lcm, lcm};
-use own_types::signed_magnitude::{
-    SignedMagnitude, euclidean_gcd, product, signed_magnitude_of, sum,
-};
+use own_types::signed_magnitude::{euclidean_gcd, signed_magnitude_of};
 use own_types::types::Type::{I8, I16, I32, I64, U8, U16, U32, U64};
 use own_types::types::{SIGNED, Type, UNSIGNED};
 use std::alloc::Global;
@@ -130,16 +128,6 @@ fn test_gcd_lcm(rt: HostRuntime) {
             check_both_are_each(&rt, a, b);
         }
     }
-}
-
-/// The first operand times `x` and the second times `y`, added up.
-pub(super) fn combined(
-    a: SignedMagnitude,
-    b: SignedMagnitude,
-    x: SignedMagnitude,
-    y: SignedMagnitude,
-) -> Option<SignedMagnitude> {
-    sum(product(a, x)?, product(b, y)?)
 }
 
 /// The first operand times `x` and the second times `y`, added up in `i32`.

@@ -4,7 +4,7 @@ use super::rows::holds_at;
 use num_integer::counted::{binomial_counted, extended_gcd_counted};
 use num_integer::{ExtendedGcd, Fits, Integer, binomial, checked, div_ceil};
 use num_traits::{Num, Signed};
-use own_types::own_types::{Marked, Negated, Percent, Small};
+use own_types::{Marked, Negated, Percent, Small};
 
 #[test]
 fn division_of_percents(rt: HostRuntime) {

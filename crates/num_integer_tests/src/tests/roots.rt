@@ -1,7 +1,5 @@
 //! Roots: worked values, and the tests of the Rust crate.
 
-ghost use Rattle.std.specs.Prelude.{◌≤◌};
-
 use super::answers::{answer, one};
 use super::calls::Call::{Cbrt, Root, Sqrt};
 use super::rows::{answers, holds_at};
@@ -83,87 +81,82 @@ pub(super) fn has_no_root(
     }
 }
 
-/// The roots of small numbers, of numbers near the top, and of the top shifted either way.
-fn check_roots_from_zero(rt: &impl Abort, alloc: Global, it: Type, bits: u32, n: u32)
-    requires { bits ≤ 64 }
-{
+/// Checks the roots of small numbers, of numbers near the top, and of the top shifted either way.
+fn check_roots_from_zero(rt: &impl Abort, alloc: Global, (it, bits): (Type, u32), n: u32) {
     let greatest = greatest(rt, alloc, it);
     for step in 0..128u8 {
         check_root(rt, alloc, it, i128::from(step), n);
         check_root(rt, alloc, it, greatest - i128::from(step), n);
     }
-    for shift in 0..=bits {
-        check_root(rt, alloc, it, (greatest << shift) & greatest, n);
-        check_root(rt, alloc, it, greatest >> shift, n);
+    for shift in 0..=64u32 {
+        if shift <= bits {
+            check_root(rt, alloc, it, (greatest << shift) & greatest, n);
+            check_root(rt, alloc, it, greatest >> shift, n);
+        }
     }
 }
 
-/// The same of negative numbers, where the degree is odd.
-fn check_roots_below_zero(rt: &impl Abort, alloc: Global, it: Type, bits: u32, n: u32)
-    requires { bits ≤ 64 }
-{
+/// Checks the same of negative numbers, if the degree is odd.
+fn check_roots_below_zero(rt: &impl Abort, alloc: Global, (it, bits): (Type, u32), n: u32) {
+    if n.is_multiple_of(2) {
+        return;
+    }
     let least = -greatest(rt, alloc, it) - 1;
     for step in 0..128u8 {
         check_root(rt, alloc, it, -i128::from(step), n);
         check_root(rt, alloc, it, least + i128::from(step), n);
     }
     check_root(rt, alloc, it, least + 128, n);
-    for shift in 0..=bits {
-        check_root(rt, alloc, it, -1 << shift, n);
-        check_root(rt, alloc, it, least >> shift, n);
-    }
-}
-
-/// Checks the roots from 0 up, of the degrees from the first to before the end, at each of the types.
-fn check_from_zero(rt: &impl Abort, alloc: Global, types: &[(Type, u32)], first: u32, end: u32) {
-    for (it, bits) in types {
-        holds_at(rt, *bits <= 64, bits);
-        for n in first..end {
-            check_roots_from_zero(rt, alloc, *it, *bits, n);
+    for shift in 0..=64u32 {
+        if shift <= bits {
+            check_root(rt, alloc, it, -1 << shift, n);
+            check_root(rt, alloc, it, least >> shift, n);
         }
     }
 }
 
-/// Checks the roots below 0, of the odd ones of the degrees from the first to before the end.
-fn check_below_zero(rt: &impl Abort, alloc: Global, (it, bits): (Type, u32), first: u32, end: u32) {
-    holds_at(rt, bits <= 64, &bits);
-    for n in first..end {
-        if !n.is_multiple_of(2) {
-            check_roots_below_zero(rt, alloc, it, bits, n);
-        }
+/// Checks the roots of a degree from 0 up, at each type.
+fn check_each(rt: &impl Abort, alloc: Global, n: u32) {
+    for typed in SIGNED_BITS {
+        check_roots_from_zero(rt, alloc, typed, n);
+    }
+    for typed in UNSIGNED_BITS {
+        check_roots_from_zero(rt, alloc, typed, n);
     }
 }
 
 #[test]
 fn sqrt(rt: HostRuntime) {
-    check_from_zero(&rt, rt.alloc(), &SIGNED_BITS, 2, 3);
-    check_from_zero(&rt, rt.alloc(), &UNSIGNED_BITS, 2, 3);
+    check_each(&rt, rt.alloc(), 2);
 }
 
 #[test]
 fn cbrt(rt: HostRuntime) {
-    check_from_zero(&rt, rt.alloc(), &SIGNED_BITS, 3, 4);
-    check_from_zero(&rt, rt.alloc(), &UNSIGNED_BITS, 3, 4);
+    check_each(&rt, rt.alloc(), 3);
 }
 
 #[test]
 fn cbrt_neg(rt: HostRuntime) {
-    for (it, bits) in SIGNED_BITS {
-        check_below_zero(&rt, rt.alloc(), (it, bits), 3, 4);
+    for typed in SIGNED_BITS {
+        check_roots_below_zero(&rt, rt.alloc(), typed, 3);
     }
 }
 
 #[test]
 fn nth_root(rt: HostRuntime) {
-    for (it, bits) in SIGNED_BITS {
-        check_from_zero(&rt, rt.alloc(), &[(it, bits)], 4, bits);
+    for typed in SIGNED_BITS {
+        for n in 4..typed.1 {
+            check_roots_from_zero(&rt, rt.alloc(), typed, n);
+        }
     }
 }
 
 #[test]
 fn nth_root_neg(rt: HostRuntime) {
-    for (it, bits) in SIGNED_BITS {
-        check_below_zero(&rt, rt.alloc(), (it, bits), 5, bits);
+    for typed in SIGNED_BITS {
+        for n in 5..typed.1 {
+            check_roots_below_zero(&rt, rt.alloc(), typed, n);
+        }
     }
 }
 

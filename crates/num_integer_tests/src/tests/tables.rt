@@ -7,18 +7,29 @@ use super::calls::Call::{
     MultinomialFits, Negated, NextMultipleFits, NextMultipleOf, Parts, PrevMultipleFits,
     PrevMultipleOf, Product, QuotientFits, Root, Row as RowOf, Sqrt, Sum,
 };
-use super::rows::{NO, Row, YES};
+use super::rows::{NO, Row, YES, check_rows};
 use own_types::types::Type::{
     I8, I16, I32, I64, I128, Isize, Marked, OneBit, Percent, Small, TwoBits, U8, U16, U32, U64,
     U128,
 };
 use own_types::types::{NATIVE, SIGNED, Type, UNSIGNED};
+use std::alloc::Global;
+use std::process::Abort;
 
 const LEAST: i128 = -9223372036854775808;
+
+const MOST: i128 = 9223372036854775807;
 
 const HALF: i128 = 4611686018427387904;
 
 const TOP: i128 = 18446744073709551615;
+
+const MIN: i128 = i128::MIN;
+
+const MAX: i128 = i128::MAX;
+
+/// The largest square of 64 bits.
+const SQUARE: i128 = 18446744065119617025;
 
 /// The least odd number of more than 64 bits.
 const WIDE: i128 = 18446744073709551617;
@@ -29,16 +40,37 @@ const FROM_32_BITS: [Type; 4] = [U32, I32, U64, I64];
 /// The types whose numbers have 16 bits or more, and at most 64.
 const FROM_16_BITS: [Type; 6] = [U16, I16, U32, I32, U64, I64];
 
+/// Checks each table of worked values.
+pub(super) fn check_worked_values(rt: &impl Abort, alloc: Global) {
+    check_rows(rt, alloc, &SUMS);
+    check_rows(rt, alloc, &NEIGHBOURS);
+    check_rows(rt, alloc, &QUOTIENTS);
+    check_rows(rt, alloc, &MULTIPLES);
+    check_rows(rt, alloc, &PREVIOUS_MULTIPLES);
+    check_rows(rt, alloc, &DIVISORS);
+    check_rows(rt, alloc, &FITTING_DIVISORS);
+    check_rows(rt, alloc, &SIGNED_PAIRS);
+    check_rows(rt, alloc, &PAIRS);
+    check_rows(rt, alloc, &DIVISOR_TURNS);
+    check_rows(rt, alloc, &COEFFICIENTS);
+    check_rows(rt, alloc, &FITTING_COEFFICIENTS);
+    check_rows(rt, alloc, &SHARES);
+    check_rows(rt, alloc, &FITTING_SHARES);
+    check_rows(rt, alloc, &PERCENTS);
+    check_rows(rt, alloc, &FITTING_PERCENTS);
+    check_rows(rt, alloc, &SMALL_NUMBERS);
+    check_rows(rt, alloc, &FITTING_SMALL_NUMBERS);
+    check_rows(rt, alloc, &BITS);
+    check_rows(rt, alloc, &PAIRS_OF_BITS);
+    check_rows(rt, alloc, &STORED_OTHERWISE);
+    check_rows(rt, alloc, &TURNS);
+}
+
 /// Ends, signs and magnitudes, sums and products.
-pub(super) static SUMS: [Row; 18] = [
+static SUMS: [Row; 18] = [
     (&[I8], Ends, &[], Some(&[128, 127])),
     (&[U8], Ends, &[], Some(&[0, 255])),
-    (
-        &[I64],
-        Ends,
-        &[],
-        Some(&[9223372036854775808, 9223372036854775807]),
-    ),
+    (&[I64], Ends, &[], Some(&[2 * HALF, MOST])),
     (&[U64], Ends, &[], Some(&[0, 18446744073709551615])),
     (&[I8], Parts, &[-128], Some(&[-128])),
     (&[I8], Parts, &[0], Some(&[0])),
@@ -57,7 +89,7 @@ pub(super) static SUMS: [Row; 18] = [
 ];
 
 /// The other sign, one more and one less, parity, and averages.
-pub(super) static NEIGHBOURS: [Row; 15] = [
+static NEIGHBOURS: [Row; 15] = [
     (&[I8], Negated, &[-128], None),
     (&[I8], Negated, &[-127], Some(&[127])),
     (&[U8], Negated, &[1], None),
@@ -77,12 +109,12 @@ pub(super) static NEIGHBOURS: [Row; 15] = [
 
 /// Quotients and remainders. Only the least number by -1 has a quotient outside the type, and its remainder is in
 /// the type.
-pub(super) static QUOTIENTS: [Row; 17] = [
+static QUOTIENTS: [Row; 17] = [
     (&[I8], DivFloor, &[-128, -1], None),
     (&[I8], ModFloor, &[-128, -1], Some(&[0])),
     (&[I64], DivFloor, &[LEAST, -1], None),
     (&[I64], ModFloor, &[LEAST, -1], Some(&[0])),
-    (&[I128], ModFloor, &[i128::MIN, -1], Some(&[0])),
+    (&[I128], ModFloor, &[MIN, -1], Some(&[0])),
     (&[I64], DivFloor, &[1, 0], None),
     (&[I64], DivRem, &[7, 0], None),
     (&[I64], DivRem, &[7, 2], Some(&[3, 1])),
@@ -98,16 +130,11 @@ pub(super) static QUOTIENTS: [Row; 17] = [
 ];
 
 /// The next and the previous multiple, and whether a number is a multiple.
-pub(super) static MULTIPLES: [Row; 17] = [
+static MULTIPLES: [Row; 17] = [
     (&[I8], NextMultipleOf, &[127, 8], None),
     (&[I8], PrevMultipleOf, &[127, 8], Some(&[120])),
     (&[I8], NextMultipleOf, &[-128, -1], Some(&[-128])),
-    (
-        &[I128],
-        PrevMultipleOf,
-        &[i128::MIN, -1],
-        Some(&[i128::MIN]),
-    ),
+    (&[I128], PrevMultipleOf, &[MIN, -1], Some(&[MIN])),
     (&[I8], NextMultipleFits, &[120, 8], YES),
     (&[I8], NextMultipleFits, &[-128, -1], YES),
     (&[I8], NextMultipleFits, &[-126, -3], YES),
@@ -124,7 +151,7 @@ pub(super) static MULTIPLES: [Row; 17] = [
 ];
 
 /// Where the previous multiple fits.
-pub(super) static PREVIOUS_MULTIPLES: [Row; 6] = [
+static PREVIOUS_MULTIPLES: [Row; 6] = [
     (&[I8], PrevMultipleFits, &[127, 8], YES),
     (&[I8], PrevMultipleFits, &[-128, -1], YES),
     (&[U8], PrevMultipleFits, &[255, 2], YES),
@@ -135,7 +162,7 @@ pub(super) static PREVIOUS_MULTIPLES: [Row; 6] = [
 
 /// Divisors and multiples. The greatest common divisor of the least number with itself or with 0 is outside the
 /// type.
-pub(super) static DIVISORS: [Row; 17] = [
+static DIVISORS: [Row; 17] = [
     (&[I64], Gcd, &[LEAST, -HALF], Some(&[HALF])),
     (&[I64], Gcd, &[-HALF, LEAST], Some(&[HALF])),
     (&[I64], Gcd, &[LEAST, 3], Some(&[1])),
@@ -156,7 +183,7 @@ pub(super) static DIVISORS: [Row; 17] = [
 ];
 
 /// Where divisors and multiples fit.
-pub(super) static FITTING_DIVISORS: [Row; 14] = [
+static FITTING_DIVISORS: [Row; 14] = [
     (&[I8], GcdFits, &[-128, 64], YES),
     (&[I8], GcdFits, &[-128, 127], YES),
     (&[I8], GcdFits, &[-128, -128], NO),
@@ -174,7 +201,7 @@ pub(super) static FITTING_DIVISORS: [Row; 14] = [
 ];
 
 /// Bezout pairs of the types with a sign.
-pub(super) static SIGNED_PAIRS: [Row; 14] = [
+static SIGNED_PAIRS: [Row; 14] = [
     (&[I64], Bezout, &[240, 46], Some(&[2, -9, 47, 4])),
     (&[I64], Bezout, &[46, 240], Some(&[2, 47, -9, 5])),
     (&[I8], Bezout, &[10, 4], Some(&[2, 1, -2, 1])),
@@ -188,16 +215,11 @@ pub(super) static SIGNED_PAIRS: [Row; 14] = [
     (&[Isize], Bezout, &[8, 9], Some(&[1, -1, 1, 2])),
     (&[I8], Bezout, &[-128, 127], Some(&[1, -1, -1, 1])),
     (&[I8], Bezout, &[-128, 1], Some(&[1, 0, 1, 0])),
-    (
-        &[I128],
-        Bezout,
-        &[i128::MIN, i128::MAX],
-        Some(&[1, -1, -1, 1]),
-    ),
+    (&[I128], Bezout, &[MIN, MAX], Some(&[1, -1, -1, 1])),
 ];
 
 /// Bezout pairs of the types with no sign, operands with no pair, and a pair with a multiple.
-pub(super) static PAIRS: [Row; 12] = [
+static PAIRS: [Row; 12] = [
     (&[U8], Bezout, &[4, 12], Some(&[4, 1, 0, 1])),
     (&[U64], Bezout, &[0, 7], Some(&[7, 0, 1, 0])),
     (&[U64], Bezout, &[4, 12], Some(&[4, 1, 0, 1])),
@@ -213,7 +235,7 @@ pub(super) static PAIRS: [Row; 12] = [
 ];
 
 /// Divisors and their turns. The least number takes no turn with another.
-pub(super) static DIVISOR_TURNS: [Row; 16] = [
+static DIVISOR_TURNS: [Row; 16] = [
     (&[U64], CountedGcd, &[0, 0], Some(&[0, 0])),
     (&[U64], CountedGcd, &[5, 3], Some(&[1, 2])),
     (&[U64], CountedGcd, &[3, 5], Some(&[1, 2])),
@@ -229,11 +251,11 @@ pub(super) static DIVISOR_TURNS: [Row; 16] = [
     (&[I64], CountedGcd, &[3, LEAST], Some(&[1, 0])),
     (&[I8], CountedGcd, &[-128, 42], Some(&[2, 0])),
     (&[I8], CountedGcd, &[-128, -64], Some(&[64, 0])),
-    (&[I128], CountedGcd, &[i128::MIN, i128::MAX], Some(&[1, 0])),
+    (&[I128], CountedGcd, &[MIN, MAX], Some(&[1, 0])),
 ];
 
 /// Coefficients, and their turns.
-pub(super) static COEFFICIENTS: [Row; 15] = [
+static COEFFICIENTS: [Row; 15] = [
     (&[U64], Binomial, &[67, 33], Some(&[14226520737620288370])),
     (&[U64], Binomial, &[TOP, 1], Some(&[TOP])),
     (&[U64], Binomial, &[TOP, TOP - 1], Some(&[TOP])),
@@ -252,7 +274,7 @@ pub(super) static COEFFICIENTS: [Row; 15] = [
 ];
 
 /// Where coefficients fit.
-pub(super) static FITTING_COEFFICIENTS: [Row; 13] = [
+static FITTING_COEFFICIENTS: [Row; 13] = [
     (&[U8], BinomialFits, &[10, 5], YES),
     (&[U8], BinomialFits, &[11, 3], YES),
     (&[U8], BinomialFits, &[255, 1], YES),
@@ -269,7 +291,7 @@ pub(super) static FITTING_COEFFICIENTS: [Row; 13] = [
 ];
 
 /// Multinomials and rows.
-pub(super) static SHARES: [Row; 11] = [
+static SHARES: [Row; 11] = [
     (&[U8], Multinomial, &[2, 2, 2], Some(&[90])),
     (&[U8], Multinomial, &[3, 2, 2], Some(&[210])),
     (&[U8], Multinomial, &[], Some(&[1])),
@@ -289,7 +311,7 @@ pub(super) static SHARES: [Row; 11] = [
 ];
 
 /// Where multinomials fit.
-pub(super) static FITTING_SHARES: [Row; 12] = [
+static FITTING_SHARES: [Row; 12] = [
     (&[U8], MultinomialFits, &[], YES),
     (&[U8], MultinomialFits, &[255], YES),
     (&[U8], MultinomialFits, &[255, 0], YES),
@@ -305,7 +327,7 @@ pub(super) static FITTING_SHARES: [Row; 12] = [
 ];
 
 /// Percents.
-pub(super) static PERCENTS: [Row; 17] = [
+static PERCENTS: [Row; 17] = [
     (&[Percent], Ends, &[], Some(&[0, 100])),
     (&[Percent], DivCeil, &[100, 3], Some(&[34])),
     (&[Percent], NextMultipleOf, &[97, 10], Some(&[100])),
@@ -326,7 +348,7 @@ pub(super) static PERCENTS: [Row; 17] = [
 ];
 
 /// Where the answers are percents.
-pub(super) static FITTING_PERCENTS: [Row; 9] = [
+static FITTING_PERCENTS: [Row; 9] = [
     (&[Percent], QuotientFits, &[100, 3], YES),
     (&[Percent], NextMultipleFits, &[97, 10], YES),
     (&[Percent], NextMultipleFits, &[100, 3], NO),
@@ -339,7 +361,7 @@ pub(super) static FITTING_PERCENTS: [Row; 9] = [
 ];
 
 /// Small numbers.
-pub(super) static SMALL_NUMBERS: [Row; 13] = [
+static SMALL_NUMBERS: [Row; 13] = [
     (&[Small], BezoutAndMultiple, &[-6, 3], Some(&[3, 0, 1, 6])),
     (&[Small], DivCeil, &[-7, 2], Some(&[-3])),
     (&[Small], DivFloor, &[-7, -1], Some(&[7])),
@@ -356,7 +378,7 @@ pub(super) static SMALL_NUMBERS: [Row; 13] = [
 ];
 
 /// Where the answers are small numbers.
-pub(super) static FITTING_SMALL_NUMBERS: [Row; 12] = [
+static FITTING_SMALL_NUMBERS: [Row; 12] = [
     (&[Small], GcdFits, &[-6, 3], YES),
     (&[Small], LcmFits, &[-6, 3], YES),
     (&[Small], QuotientFits, &[-7, 2], YES),
@@ -373,7 +395,7 @@ pub(super) static FITTING_SMALL_NUMBERS: [Row; 12] = [
 
 /// Numbers of one bit and of two. Each coefficient of 3 is one of 0 to 3, as each of 1 is one bit, but their
 /// numbers of items are not.
-pub(super) static BITS: [Row; 10] = [
+static BITS: [Row; 10] = [
     (&[TwoBits], RowOf, &[0, 1], YES),
     (&[TwoBits], RowOf, &[1, 1, 1], YES),
     (&[TwoBits], RowOf, &[2, 1, 2, 1], YES),
@@ -387,7 +409,7 @@ pub(super) static BITS: [Row; 10] = [
 ];
 
 /// The other calls of numbers of one bit and of two.
-pub(super) static PAIRS_OF_BITS: [Row; 12] = [
+static PAIRS_OF_BITS: [Row; 12] = [
     (&[OneBit], Ends, &[], Some(&[0, 1])),
     (&[TwoBits], Ends, &[], Some(&[0, 3])),
     (&[OneBit], Bezout, &[1, 1], Some(&[1, 0, 1, 0])),
@@ -403,7 +425,7 @@ pub(super) static PAIRS_OF_BITS: [Row; 12] = [
 ];
 
 /// Numbers that are stored negated, or beside a byte.
-pub(super) static STORED_OTHERWISE: [Row; 8] = [
+static STORED_OTHERWISE: [Row; 8] = [
     (&[Small, Type::Negated], Ends, &[], Some(&[7, 7])),
     (&[Marked], Ends, &[], Some(&[100, 100])),
     (&[Small, Type::Negated], Parts, &[-7], Some(&[-7])),
@@ -415,30 +437,15 @@ pub(super) static STORED_OTHERWISE: [Row; 8] = [
 ];
 
 /// Square roots and their turns, and numbers with no root.
-pub(super) static TURNS: [Row; 16] = [
+static TURNS: [Row; 16] = [
     (&[U64], CountedRoot, &[TOP], Some(&[4294967295, 1])),
-    (
-        &[U64],
-        CountedRoot,
-        &[18446744065119617025],
-        Some(&[4294967295, 1]),
-    ),
-    (
-        &[U64],
-        CountedRoot,
-        &[18446744065119617024],
-        Some(&[4294967294, 2]),
-    ),
+    (&[U64], CountedRoot, &[SQUARE], Some(&[4294967295, 1])),
+    (&[U64], CountedRoot, &[SQUARE - 1], Some(&[4294967294, 2])),
     (&[U64], CountedRoot, &[99], Some(&[9, 2])),
     (&[U64], CountedRoot, &[16], Some(&[4, 0])),
     (&[U64], CountedRoot, &[8], Some(&[2, 2])),
     (&[U64], CountedRoot, &[3], Some(&[1, 0])),
-    (
-        &[I64],
-        CountedRoot,
-        &[9223372036854775807],
-        Some(&[3037000499, 4]),
-    ),
+    (&[I64], CountedRoot, &[MOST], Some(&[3037000499, 4])),
     (&[I64], CountedRoot, &[4], Some(&[2, 0])),
     (&[U8], CountedRoot, &[255], Some(&[15, 1])),
     (&[I8], Sqrt, &[-9], None),

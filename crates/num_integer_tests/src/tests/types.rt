@@ -2,40 +2,36 @@
 
 ghost use Rattle.std.specs.Prelude.{◌≤ℤ◌, pos};
 
-use super::answers::{answer, truth};
-use super::calls::Call::{Ends, Has};
+use super::answers::answer;
+use super::calls::Call;
 use own_types::signed_magnitude::SignedMagnitude;
 use own_types::types::Type;
 use std::alloc::Global;
 use std::process::Abort;
 
-/// Whether the type has the number.
-pub(super) fn has(alloc: Global, it: Type, n: SignedMagnitude) -> bool {
-    answer(alloc, it, Has, &[n]) == Some(truth(true))
+/// The magnitude of the smallest number of a type, and its largest number.
+#[derive(Clone, Copy)]
+pub(super) struct Ends(pub(super) u128, pub(super) u128);
+
+impl Ends {
+    /// Whether the number lies between the ends.
+    pub(super) fn has(self, (negative, magnitude): SignedMagnitude) -> bool {
+        magnitude <= if negative { self.0 } else { self.1 }
+    }
 }
 
-/// The number, where one is given and the type has it.
-pub(super) fn inside(
-    alloc: Global,
-    it: Type,
-    n: Option<SignedMagnitude>,
-) -> Option<SignedMagnitude> {
-    let n = n?;
-    if has(alloc, it, n) { Some(n) } else { None }
-}
-
-/// The magnitude of the least number of the type, and its greatest number.
-pub(super) fn ends(rt: &impl Abort, alloc: Global, it: Type) -> (u128, u128) {
-    match answer(alloc, it, Ends, &[]) {
-        Some(((_, low), (_, high), _, _)) => (low, high),
+/// The ends of the type.
+pub(super) fn ends(rt: &impl Abort, alloc: Global, it: Type) -> Ends {
+    match answer(alloc, it, Call::Ends, &[]) {
+        Some(((_, low), (_, high), _, _)) => Ends(low, high),
         None => panic!(rt; "a type has ends"),
     }
 }
 
-/// The greatest number of a type whose numbers `i128` has.
+/// The largest number of a type whose numbers `i128` has.
 pub(super) fn greatest(rt: &impl Abort, alloc: Global, it: Type) -> i128
     ensures { pos 0 ≤ℤ result }
 {
-    let (_, high) = ends(rt, alloc, it);
-    i128::try_from(high).expect(rt, "the type has no greater number")
+    let Ends(_, high) = ends(rt, alloc, it);
+    i128::try_from(high).expect(rt, "the type has no larger number")
 }

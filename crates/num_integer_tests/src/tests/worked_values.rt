@@ -3,41 +3,14 @@
 use super::answers::{Numbers, after_turns, one, truth, two};
 use super::calls::Call;
 use super::calls::Call::{Averages, BinomialFits, CountedGcd, Gcd, Lcm, LcmFits, MultinomialFits};
-use super::rows::{answers, check_rows};
-use super::tables::{
-    BITS, COEFFICIENTS, DIVISOR_TURNS, DIVISORS, FITTING_COEFFICIENTS, FITTING_DIVISORS,
-    FITTING_PERCENTS, FITTING_SHARES, FITTING_SMALL_NUMBERS, MULTIPLES, NEIGHBOURS, PAIRS,
-    PAIRS_OF_BITS, PERCENTS, PREVIOUS_MULTIPLES, QUOTIENTS, SHARES, SIGNED_PAIRS, SMALL_NUMBERS,
-    STORED_OTHERWISE, SUMS, TURNS,
-};
+use super::rows::answers;
+use super::tables::check_worked_values;
 use own_types::signed_magnitude::SignedMagnitude;
 use own_types::types::Type::U128;
 
 #[test]
 fn worked_values(rt: HostRuntime) {
-    let alloc = rt.alloc();
-    check_rows(&rt, alloc, &SUMS);
-    check_rows(&rt, alloc, &NEIGHBOURS);
-    check_rows(&rt, alloc, &QUOTIENTS);
-    check_rows(&rt, alloc, &MULTIPLES);
-    check_rows(&rt, alloc, &PREVIOUS_MULTIPLES);
-    check_rows(&rt, alloc, &DIVISORS);
-    check_rows(&rt, alloc, &FITTING_DIVISORS);
-    check_rows(&rt, alloc, &SIGNED_PAIRS);
-    check_rows(&rt, alloc, &PAIRS);
-    check_rows(&rt, alloc, &DIVISOR_TURNS);
-    check_rows(&rt, alloc, &COEFFICIENTS);
-    check_rows(&rt, alloc, &FITTING_COEFFICIENTS);
-    check_rows(&rt, alloc, &SHARES);
-    check_rows(&rt, alloc, &FITTING_SHARES);
-    check_rows(&rt, alloc, &PERCENTS);
-    check_rows(&rt, alloc, &FITTING_PERCENTS);
-    check_rows(&rt, alloc, &SMALL_NUMBERS);
-    check_rows(&rt, alloc, &FITTING_SMALL_NUMBERS);
-    check_rows(&rt, alloc, &BITS);
-    check_rows(&rt, alloc, &PAIRS_OF_BITS);
-    check_rows(&rt, alloc, &STORED_OTHERWISE);
-    check_rows(&rt, alloc, &TURNS);
+    check_worked_values(&rt, rt.alloc());
 }
 
 const GREATEST: SignedMagnitude = (false, u128::MAX);

@@ -1,8 +1,7 @@
 //! Calls at each type of integers, and rows of Pascal's triangle.
 
-ghost use Rattle.std.specs.Prelude.{◌≡◌, ◌≢◌, ◌⊎◌, ◌↔◌, ◌<◌, ◌^◌, ◌<ℤ◌, ◌+ℤ◌, ◌*ℤ◌, FitsSigned, IfOk, IsTrue, None, [], length, map, pos, unsigned_abs};
+ghost use Rattle.std.specs.Prelude.{◌≡◌, ◌≢◌, ◌⊎◌, ◌↔◌, ◌<◌, ◌^◌, ◌<ℤ◌, ◌+ℤ◌, ◌*ℤ◌, FitsSigned, IfOk, IfSome, IsTrue, None, [], length, map, pos, unsigned_abs};
 ghost use Rattle.std.specs.Int.{FitsUnsignedBits, w8};
-ghost use Rattle.std.specs.List.{All};
 ghost use Rattle.num_integer.specs.Bezout.{HasPair};
 ghost use Rattle.num_integer.specs.Division.{HaveSameSign, IsFloored, IsQuotient};
 ghost use Rattle.num_integer.specs.Divisors.{GcdFits, IsGreatestCommonDivisor};
@@ -149,10 +148,25 @@ pub fn none_for_good<T: Integer>(rest: &mut IterBinomial<T>) -> (Option<T>, Opti
     (rest.next(), rest.next())
 }
 
-/// Whether the next item is even.
-pub fn next_is_even<T: Integer>(rest: &mut IterBinomial<T>) -> Option<bool>
-    requires { All T.fits rest.old }
+/// The first item of a row above a limit.
+pub fn first_above(n: u8, limit: u8) -> Option<u8>
+    requires { RowFits (FitsUnsignedBits 8) (pos n) }
+    ensures { IfSome result (λ item. limit < item) }
 {
-    let item = rest.next()?;
-    Some(item.is_even())
+    let mut row = IterBinomial::new(n);
+    while let Some(item) = row.next() {
+        if limit < item {
+            return Some(item);
+        }
+    }
+    None
+}
+
+/// The largest item of a row, at each type.
+pub fn greatest_item<T: Integer>(n: T) -> Option<T>
+    requires in_range { T.fits (T.value n) }
+    requires row_fits { RowFits T.fits (T.value n) }
+    ensures { IfSome result (λ item. T.fits (T.value item)) }
+{
+    IterBinomial::new(n).max()
 }

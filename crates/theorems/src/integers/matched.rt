@@ -1,4 +1,4 @@
-//! Calls whose result a caller matches on or loops over, each at a native type and with no proof file.
+//! Calls whose result a caller matches on, each at a native type and with no proof file.
 
 ghost use Rattle.std.specs.Prelude.{◌≡◌, ◌≢◌, ◌-◌, ◌*◌, ◌<◌, ◌^◌, ◌<ℤ◌, ◌≤ℤ◌, ◌+ℤ◌, ◌-ℤ◌, ◌*ℤ◌, FitsSigned, IfSome, MatchOption, min, neg_ℤ, pos};
 ghost use Rattle.std.specs.Int.{w64};
@@ -10,7 +10,7 @@ ghost use Rattle.num_integer.specs.Range.{EachFits};
 ghost use Rattle.num_integer.specs.RootOf.{IsRoot};
 
 use num_integer::counted::{GcdCounted, SqrtCounted, binomial_counted, extended_gcd_counted};
-use num_integer::{ExtendedGcd, checked, gcd};
+use num_integer::{ExtendedGcd, checked};
 
 /// The quotient toward 0 and what it leaves, which together make the number.
 pub fn shared_out(n: i64, d: i64) -> Option<(i64, i64)>
@@ -162,29 +162,6 @@ pub fn negation_up_to_the_greatest(x: i8) -> i8
     } else {
         i8::MAX
     }
-}
-
-/// The sum of the numbers, where each sum on the way is in the type.
-pub fn total(numbers: &[i64]) -> Option<i64> {
-    let mut total = 0;
-    for number in numbers {
-        total = checked::sum(total, *number)?;
-    }
-    Some(total)
-}
-
-/// The least common multiple of the numbers, where it is in the type.
-pub fn natural_multiple_of_all(numbers: &[u64]) -> Option<u64> {
-    numbers
-        .iter()
-        .try_fold(1, |multiple, number| checked::lcm(multiple, *number))
-}
-
-/// The greatest common divisor of the numbers.
-pub fn natural_divisor_of_all(numbers: &[u64]) -> u64 {
-    numbers
-        .iter()
-        .fold(0, |divisor, number| gcd(divisor, *number))
 }
 
 /// The greatest common divisor and the turns.

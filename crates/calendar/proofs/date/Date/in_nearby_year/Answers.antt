@@ -1,0 +1,21 @@
+use Rattle.std.specs.Prelude.{FitsSigned}
+use Rattle.std.specs.Int.{w64}
+use Rattle.std.proofs.Common.{arith, rules}
+use Rattle.std.proofs.lemmas.Int.{ints, to_z-of_z}
+use Rattle.calendar.proofs.date.Date.in_nearby_year.Goals as goal
+
+pub returns-in_err-year : goal.returns-in_err-year
+returns-in_err-year c =
+    let year = c.ranges.year in
+    let days = c.ranges.days in
+    rw c.from_residual.ensures (simp to_z-of_z at c.in_err-year.ensures)
+
+pub returns : goal.returns
+returns c =
+    let year = c.ranges.year in
+    let days = c.ranges.days in
+    let own : FitsSigned w64 c.in_ok-year.year = search rules in
+    let (within, place) = simp to_z-of_z at c.in_ok-year.ensures in
+    let same = simp to_z-of_z at c.in_year.ensures.year in
+    let day = rw same at c.in_year.ensures.day in
+    rw same (omega (arith, ints, place, day))

@@ -1,0 +1,49 @@
+use Rattle.std.specs.Prelude.{◌≡◌, ◌+ℤ◌, ◌-ℤ◌, ◌≤ℤ◌, pos, FitsSigned}
+use Rattle.std.specs.Int.{w64}
+use Rattle.std.proofs.Common.{arith}
+use Rattle.std.proofs.lemmas.Int.{by_lt_z, ints, to_z-of_z}
+use Rattle.calendar.specs.Years.{days_in_year}
+use Rattle.calendar.proofs.IsoWeeks.{earlier, later}
+use Rattle.calendar.proofs.YearLengths.{length_range, next_first_day}
+use Rattle.calendar.proofs.years.nearby_year.Goals as goal
+
+pub returns-in_err-before : goal.returns-in_err-before
+returns-in_err-before c =
+    let year = c.ranges.year in
+    let beyond = simp to_z-of_z at c.in_err-before.ensures in
+    rw c.from_residual.ensures (λ y h fits. let less = earlier {year = c.args.year} h (omega (arith, ints)) in beyond (omega (arith, ints)))
+
+pub returns-in_err-after : goal.returns-in_err-after
+returns-in_err-after c =
+    let year = c.ranges.year in
+    let days = c.ranges.days in
+    let out = simp to_z-of_z at c.if-is_in_year.ensures in
+    let over : pos (days_in_year c.args.year) ≤ℤ c.args.days = by_lt_z c.args.days (pos (days_in_year c.args.year)) (λ less. let clash = out.1 (omega (arith, ints), less) in (cc)) (λ far. far) in
+    let beyond = simp to_z-of_z at c.in_err-after.ensures in
+    rw c.from_residual-in_err-after.ensures (λ y h fits. let more = later {year = c.args.year} h (omega (arith, ints, next_first_day c.args.year)) in beyond (omega (arith, ints)))
+
+pub returns-in_ok-before : goal.returns-in_ok-before
+returns-in_ok-before c =
+    let year = c.ranges.year in
+    let step = simp to_z-of_z at c.in_ok-before.ensures in
+    let same : c.in_ok-before.before +ℤ pos 1 ≡ c.args.year = omega (arith, ints, step.1) in
+    let before : FitsSigned w64 c.in_ok-before.before = omega (arith, ints, step.1, step.0) in
+    let length = simp to_z-of_z at c.length_of.ensures.value in
+    let length_fits : FitsSigned w64 c.length_of.result = omega (arith, ints) in
+    let sum : FitsSigned w64 (c.args.days +ℤ c.length_of.result) = omega (arith, ints) in
+    let next = rw same at (next_first_day c.in_ok-before.before) in
+    simp to_z-of_z (omega (arith, ints, length), omega (arith, ints, next, length))
+
+pub returns-in_ok-after : goal.returns-in_ok-after
+returns-in_ok-after c =
+    let year = c.ranges.year in
+    let days = c.ranges.days in
+    let step = simp to_z-of_z at c.in_ok-after.ensures in
+    let fits = step.0 in
+    let out = simp to_z-of_z at c.if-is_in_year.ensures in
+    let over : pos (days_in_year c.args.year) ≤ℤ c.args.days = by_lt_z c.args.days (pos (days_in_year c.args.year)) (λ less. let clash = out.1 (omega (arith, ints), less) in (cc)) (λ far. far) in
+    let after : FitsSigned w64 c.in_ok-after.after = omega (arith, ints, step.1, step.0) in
+    let length = simp to_z-of_z at c.length_of-else-days-lt0.ensures.value in
+    let length_fits : FitsSigned w64 c.length_of-else-days-lt0.result = omega (arith, ints) in
+    let rest : FitsSigned w64 (c.args.days -ℤ c.length_of-else-days-lt0.result) = omega (arith, ints) in
+    rw step.1 (simp to_z-of_z (omega (arith, ints, length_range (c.args.year +ℤ pos 1)), omega (arith, ints, next_first_day c.args.year, length)))

@@ -1,0 +1,193 @@
+-- Rows: from one coefficient to the next, and the rest of a row.
+use Rattle.std.specs.List.{All}
+use Rattle.std.specs.Prelude.{◌≤ℤ◌, ◌<ℤ◌, ◌+ℤ◌, ◌-ℤ◌, ◌*ℤ◌, ℤ, pos, negsuc, unsigned_abs, ◌≢◌, int_div, int_rem, ◌≡◌, ◌+◌, ◌-◌, ◌/◌, ◌<◌, ◌≤◌, ℕ, suc, List, [], ◌∷◌, length, drop, get_or, reverse}
+use Rattle.std.proofs.Common.{refl, sym, ◌*◌, ap, ◌∙◌, arith, min}
+use Rattle.std.proofs.lemmas.Int.{ints}
+use Rattle.std.proofs.lemmas.List.{at_drop_more, drop_all, get_or-reverse, length-reverse}
+use Rattle.std.proofs.lemmas.List.Elements.{All-from_get_or, All-nil}
+use Rattle.std.proofs.lemmas.List.FromFn.{fill_by_all, get_or-map-range_with_len, length-map-range_with_len}
+use borrow.Author.Differences.{abs_is}
+use Rattle.integer_core.proofs.CommonDivisors.{gcd-nonzero, gcd-positive, gcd-remainder, gcd-swap, gcd-times}
+use Rattle.integer_core.proofs.Divisibility.{cancel, Divides-cancel, exact_quotient}
+use Rattle.integer_core.proofs.EuclidTurns.{divisor_size}
+use Rattle.integer_core.proofs.Quotients.{truncated_is}
+use Rattle.integer_core.proofs.Whole.{comm, expand, linear, products}
+use Rattle.integer_core.specs.Divisors.{Divides, IsGreatestCommonDivisor}
+use Rattle.integer_core.specs.Range.{IsRange}
+use Rattle.num_integer.proofs.FittingAnswers.{fits_below}
+use Rattle.num_integer.proofs.OrderedProducts.{factor_positive}
+use Rattle.num_integer.proofs.Pascal.{mirror, next_in_row, nearer_same, rises}
+use Rattle.num_integer.specs.Coefficient.{coefficient, coefficient_of}
+use Rattle.num_integer.specs.Laws.{RowIsGreatestInMiddle, RowIsPalindrome, RowLength}
+use Rattle.num_integer.specs.Row.{IsPlaceInRow, RowFits, row_of}
+
+-- ---- from one coefficient of a row to the next, over the integers
+
+-- what holds of natural numbers with k at most n holds of integers
+pub from_naturals : (P : ℤ → ℤ → Type 0) → ((n k : ℕ) → k ≤ n → P (pos n) (pos k)) → (n k : ℤ) → pos 0 ≤ℤ k → k ≤ℤ n → P n k
+from_naturals P own (pos n) (pos k) up within = own n k (omega (arith, ints))
+from_naturals P own n (negsuc k) up within = absurd (omega (arith, ints))
+from_naturals P own (negsuc n) (pos k) up within = absurd (omega (arith, ints))
+
+difference_is : (n k : ℕ) → k ≤ n → pos n -ℤ pos k ≡ pos (n - k)
+difference_is n k within = omega (arith, ints)
+
+-- the next coefficient, multiplied across
+across : (n k : ℕ) → k ≤ n → coefficient n k * (n - k) ≡ (k + 1) * coefficient n (k + 1)
+across n k within = let e : suc k ≡ k + 1 = omega arith in rw (← e) (omega (arith, next_in_row n k within))
+
+next_across : (n k : ℤ) → pos 0 ≤ℤ k → k ≤ℤ n → coefficient_of n k *ℤ (n -ℤ k) ≡ (k +ℤ pos 1) *ℤ coefficient_of n (k +ℤ pos 1)
+next_across = from_naturals (λ n k. coefficient_of n k *ℤ (n -ℤ k) ≡ (k +ℤ pos 1) *ℤ coefficient_of n (k +ℤ pos 1)) (λ n k within. rw (difference_is n k within) (ap pos (across n k within)))
+
+-- k + 1 divides the coefficient of k times n - k, and only the next coefficient is the quotient
+module _ {n k c a b : ℤ} (up : pos 0 ≤ℤ k) (below : k <ℤ n) (is : c ≡ coefficient_of n k) (rest : a ≡ n -ℤ k) (next : b ≡ k +ℤ pos 1) where
+  product_is : c *ℤ a ≡ b *ℤ coefficient_of n (k +ℤ pos 1)
+  product_is = rw (is, rest, next) (next_across n k up (omega (arith, ints)))
+
+  pub next_divides : Divides b (c *ℤ a)
+  next_divides = record { factor = coefficient_of n (k +ℤ pos 1); product = product_is }
+
+  pub next_only : (x : ℤ) → x *ℤ b ≡ c *ℤ a → x ≡ coefficient_of n (k +ℤ pos 1)
+  next_only x e = cancel b x (coefficient_of n (k +ℤ pos 1)) (λ z. absurd (omega (arith, ints))) (comm b x ∙ e ∙ product_is)
+
+-- the same over natural numbers
+module _ {n k c : ℕ} (below : k < n) (is : c ≡ coefficient n k) where
+  pub next_natural_divides : Divides (pos (k + 1)) (pos (c * (n - k)))
+  next_natural_divides = next_divides {n = pos n} {k = pos k} (omega (arith, ints)) (omega (arith, ints)) (ap pos is) (sym (difference_is n k (omega arith))) refl
+
+  pub next_natural : (x : ℕ) → pos (x * (k + 1)) ≡ pos (c * (n - k)) → x ≡ coefficient n (k + 1)
+  next_natural x e = ap unsigned_abs (next_only {n = pos n} {k = pos k} (omega (arith, ints)) (omega (arith, ints)) (ap pos is) (sym (difference_is n k (omega arith))) refl (pos x) e)
+
+-- ---- an exact quotient r * a / b, cancelled by the greatest common divisor g of r and b
+
+regrouped : (r a b g q s t : ℤ) → r ≡ g *ℤ q → b ≡ g *ℤ s → a ≡ s *ℤ t → q *ℤ t *ℤ b ≡ r *ℤ a
+regrouped r a b g q s t e f h = rw (e, f, h) (simp expand)
+
+-- that divisor, of the remainder of `%` and of b
+pub through_remainder : {r b g rest : ℤ} → pos 0 <ℤ b → rest ≡ int_rem r b → IsGreatestCommonDivisor rest b g → IsGreatestCommonDivisor r b g
+through_remainder {r} {b} b_above is greatest = gcd-remainder (truncated_is r b (λ e. omega (arith, linear))).division (gcd-swap (rw is at greatest))
+
+module _ {r b g : ℤ} (b_above : pos 0 <ℤ b) (greatest : IsGreatestCommonDivisor r b g) where
+  nonzero : g ≢ pos 0
+  nonzero = gcd-nonzero greatest (λ e. absurd (omega (arith, linear)))
+
+  pub g_above : pos 0 <ℤ g
+  g_above = gcd-positive greatest (λ e. absurd (omega (arith, linear)))
+
+  pub g_below : g ≤ℤ b
+  g_below = omega (arith, linear, abs_is, greatest.from_zero, divisor_size greatest.divides_right (λ e. absurd (omega (arith, linear))))
+
+  -- the cofactor of g in b
+  pub rest_above : {s : ℤ} → s ≡ int_div b g → pos 0 <ℤ s
+  rest_above is = rw is (factor_positive b_above g_above (exact_quotient nonzero greatest.divides_right))
+
+  -- if g is b
+  pub cancelled_whole : (a : ℤ) → b ≤ℤ g → int_div r b *ℤ a *ℤ b ≡ r *ℤ a
+  cancelled_whole a large =
+      let same : g ≡ b = omega (arith, linear, g_below) in
+      let divides : Divides b r = rw same at greatest.divides_left in
+      regrouped r a b b (int_div r b) (pos 1) a (exact_quotient (rw same at nonzero) divides) (omega (arith, products)) (omega (arith, products))
+
+  module _ {a : ℤ} (a_up : pos 0 ≤ℤ a) (whole : Divides b (r *ℤ a)) where
+    rest_divides : {s : ℤ} → b ≡ g *ℤ s → Divides s a
+    rest_divides is =
+        let multiple : Divides b (a *ℤ b) = record { factor = a; product = comm a b } in
+        let times : Divides b (g *ℤ a) = rw (comm g a) ((gcd-times a a_up greatest).greatest b (rw (comm a r) whole) multiple) in
+        Divides-cancel g nonzero (rw (← is) times)
+
+    cancelled_by : (q s : ℤ) → r ≡ g *ℤ q → b ≡ g *ℤ s → q *ℤ int_div a s *ℤ b ≡ r *ℤ a
+    cancelled_by q s of_r of_b =
+        let s_nonzero : s ≢ pos 0 = λ e. absurd (omega (arith, linear, factor_positive b_above g_above of_b)) in
+        regrouped r a b g q s _ of_r of_b (exact_quotient s_nonzero (rest_divides of_b))
+
+    pub cancelled : int_div r g *ℤ int_div a (int_div b g) *ℤ b ≡ r *ℤ a
+    cancelled = cancelled_by _ _ (exact_quotient nonzero greatest.divides_left) (exact_quotient nonzero greatest.divides_right)
+
+    -- if g is 1
+    pub cancelled_one : g ≤ℤ pos 1 → r *ℤ int_div a b *ℤ b ≡ r *ℤ a
+    cancelled_one small =
+        let one : g ≡ pos 1 = omega (arith, linear, g_above) in
+        cancelled_by r b (rw one (omega (arith, products))) (rw one (omega (arith, products)))
+
+-- ---- how the rest of a row shrinks
+
+-- the number of items
+length-row : (n : ℕ) → length (row_of (pos n)) ≡ n + 1
+unfolding row_of
+length-row n = length-map-range_with_len (λ k. pos (coefficient n k)) 0 (n + 1)
+
+-- the k-th item
+row_at : (n k : ℕ) (d : ℤ) → k ≤ n → get_or (row_of (pos n)) k d ≡ pos (coefficient n k)
+unfolding row_of
+row_at n k d h = get_or-map-range_with_len (λ k. pos (coefficient n k)) 0 (n + 1) k k d (omega arith) (omega arith)
+
+-- what is left begins with the k-th item
+pub rest_next : (n k : ℤ) → pos 0 ≤ℤ k → k ≤ℤ n → drop (unsigned_abs k) (row_of n) ≡ coefficient_of n k ∷ drop (unsigned_abs (k +ℤ pos 1)) (row_of n)
+rest_next = from_naturals (λ n k. drop (unsigned_abs k) (row_of n) ≡ coefficient_of n k ∷ drop (unsigned_abs (k +ℤ pos 1)) (row_of n)) (λ n k within.
+    at_drop_more (λ (xs : List ℤ). xs) (row_of (pos n)) k (pos 0) (omega (arith, length-row n)) ∙ rw (row_at n k (pos 0) within) refl)
+
+-- past n no item is left
+pub rest_none : (n k : ℤ) → pos 0 ≤ℤ k → n <ℤ k → drop (unsigned_abs k) (row_of n) ≡ []
+unfolding row_of
+rest_none (pos n) (pos k) up above = drop_all k (row_of (pos n)) (omega (arith, ints, length-row n))
+rest_none (pos n) (negsuc k) up above = absurd (omega (arith, ints))
+rest_none (negsuc n) k up above = drop_all (unsigned_abs k) (row_of (negsuc n)) (omega (arith, ints))
+
+-- ---- the shape of a row
+
+-- no item of the row is larger than the one in its middle
+below_middle : (n m : ℕ) → m ≤ n → coefficient n m ≤ coefficient n (n / 2)
+below_middle n m h =
+    let half : n / 2 + n / 2 ≤ n = omega arith in
+    let least : min m (n - m) ≤ n / 2 = omega arith in
+    rw (← nearer_same n m _ h refl) (rises n (min m (n - m)) (n / 2) least half)
+
+-- what holds of each coefficient holds of the items
+each_item : (P : ℤ → Type 0) (n : ℕ) → ((k : ℕ) → k ≤ n → P (pos (coefficient n k))) → All P (row_of (pos n))
+each_item P n each = All-from_get_or P (row_of (pos n)) (pos 0) (λ k h.
+    let within : k ≤ n = omega (arith, length-row n) in
+    rw (row_at n k (pos 0) within) (each k within))
+
+pub greatest_in_middle : RowIsGreatestInMiddle
+unfolding row_of
+greatest_in_middle (pos n) = each_item (λ (item : ℤ). item ≤ℤ pos (coefficient n (n / 2))) n (λ k h. omega (arith, ints, below_middle n k h))
+greatest_in_middle (negsuc n) = All-nil (λ (item : ℤ). item ≤ℤ pos (coefficient (suc n) (suc n / 2)))
+
+-- a row is symmetric
+pub backwards : RowIsPalindrome
+unfolding row_of
+backwards (pos n) =
+    let long : length (reverse (row_of (pos n))) ≡ n + 1 = length-reverse (row_of (pos n)) ∙ length-row n in
+    fill_by_all (λ k. pos (coefficient n k)) (reverse (row_of (pos n))) (n + 1) (pos 0) long (λ k h.
+    let within : k ≤ n = omega arith in
+    let at : length (row_of (pos n)) - 1 - k ≡ n - k = omega (arith, length-row n) in
+    get_or-reverse (row_of (pos n)) k (pos 0) (omega (arith, length-row n)) ∙ rw (at, row_at n (n - k) (pos 0) (omega arith)) (ap pos (sym (mirror n k within))))
+backwards (negsuc n) = refl
+
+-- each item of a row that fits is in range
+pub row_in_range : {fits : ℤ → Type 0} {low high : ℤ} (n : ℤ) → IsRange fits low high → RowFits fits n → All fits (row_of n)
+unfolding row_of
+row_in_range {fits} (pos n) range row = each_item fits n (λ k h. fits_below range (row (omega (arith, ints))).1 (omega (arith, ints)) (omega (arith, ints, below_middle n k h)))
+row_in_range {fits} (negsuc n) range row = All-nil fits
+
+-- ---- the steps of an iterator over the row of n
+
+-- a new iterator begins at the first item
+pub place_first : {fits : ℤ → Type 0} {n k item : ℤ} → fits n → RowFits fits n → fits k → k ≡ pos 0 → fits item → IsPlaceInRow fits n k item
+place_first n_fits row k_fits none item_fits =
+    record { n_in_range = n_fits; k_in_range = k_fits; k_from_zero = omega (arith, ints); row_fits = row; item_in_range = item_fits; item_is = λ above. absurd (omega (arith, ints)) }
+
+-- neither the next item nor the next place leaves the type
+module _ {fits : ℤ → Type 0} {low high n k item : ℤ} (range : IsRange fits low high) (place : IsPlaceInRow fits n k item) (within : k ≤ℤ n) where
+  pub item_fits : fits (coefficient_of n k)
+  item_fits =
+      let up = place.k_from_zero in
+      fits_below range (place.row_fits (omega (arith, ints))).1 (omega (arith, ints)) (omega (arith, ints, below_middle (unsigned_abs n) (unsigned_abs k) (omega (arith, ints))))
+
+  pub place_fits : fits (k +ℤ pos 1)
+  place_fits = let up = place.k_from_zero in fits_below range (place.row_fits (omega (arith, ints))).0 (omega (arith, ints)) (omega (arith, ints))
+
+-- a row has one item more than n
+pub one_item_more : RowLength
+one_item_more (pos n) up = ap pos (length-row n)
+one_item_more (negsuc n) up = absurd (omega (arith, ints))

@@ -1,0 +1,12 @@
+use Rattle.std.specs.Prelude.{◌<◌, length}
+use Rattle.std.proofs.Common.{rules}
+use Rattle.std.proofs.lemmas.Grind.{common_steps}
+use Rattle.std.proofs.Common.{arith}
+use Rattle.ratio64.specs.RatioText.{unsigned_part}
+use Rattle.ratio64.proofs.ReadTexts.{tells_numeral}
+use Rattle.ratio64.proofs.parse.is_integer.Goals as goal
+
+pub returns-then-not-is_empty : goal.returns-then-not-is_empty
+returns-then-not-is_empty c =
+    let some : 0 < length (unsigned_part c.args.text.now) = grind (arith, common_steps) in
+    search (rules, tells_numeral (unsigned_part c.args.text.now) some)

@@ -1,0 +1,5 @@
+//! The module by hand.
+
+mod days;
+
+pub use days::Days;

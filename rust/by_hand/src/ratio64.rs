@@ -1,0 +1,6 @@
+//! The modules by hand.
+
+mod arithmetic;
+mod conversions;
+
+pub use conversions::TryFromRatioError;

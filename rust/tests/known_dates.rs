@@ -1,0 +1,481 @@
+//! Known dates, weeks, months and feasts, and the ends of `i64`.
+
+use cellarcove::calendar::Weekday::{
+    Friday, Monday, Saturday, Sunday, Thursday, Tuesday, Wednesday,
+};
+use cellarcove::calendar::{
+    days_between, days_in_month, days_in_year, easter, first_weekday_on_or_after, is_leap_year,
+    last_weekday_of_month, last_weekday_on_or_before, months_between, nth_weekday_of_month,
+    weekday_of, weeks_in_year, Date, IsoWeek, Weekday,
+};
+use std::fmt::Debug;
+
+/// Asserts that the check holds, and shows the row if it does not.
+fn holds_at(holds: bool, row: &impl Debug) {
+    assert!(holds, "at {row:?}");
+}
+
+const MIN: i64 = i64::MIN;
+
+const MAX: i64 = i64::MAX;
+
+/// A year, a month and a day of the month.
+type Parts = (i64, u8, u8);
+
+/// The parts of a date, the day, the day of the year, and the day of the week.
+const DATES: [(Parts, i64, u16, Weekday); 25] = [
+    ((1970, 1, 1), 0, 1, Thursday),
+    ((1969, 12, 31), -1, 365, Wednesday),
+    ((2000, 2, 29), 11016, 60, Tuesday),
+    ((2000, 3, 1), 11017, 61, Wednesday),
+    ((2000, 12, 31), 11322, 366, Sunday),
+    ((1900, 2, 28), -25509, 59, Wednesday),
+    ((1900, 3, 1), -25508, 60, Thursday),
+    ((1600, 2, 29), -135081, 60, Tuesday),
+    ((1582, 10, 15), -141427, 288, Friday),
+    ((1582, 10, 4), -141438, 277, Monday),
+    ((1, 1, 1), -719162, 1, Monday),
+    ((0, 12, 31), -719163, 366, Sunday),
+    ((0, 2, 29), -719469, 60, Tuesday),
+    ((0, 1, 1), -719528, 1, Saturday),
+    ((-1, 12, 31), -719529, 365, Friday),
+    ((-4, 2, 29), -720930, 60, Thursday),
+    ((9999, 12, 31), 2932896, 365, Friday),
+    ((-25252734927764585, 6, 7), MIN, 158, Wednesday),
+    ((-25252734927764585, 12, 31), MIN + 207, 365, Sunday),
+    ((-25252734927764584, 1, 1), MIN + 208, 1, Monday),
+    ((-25252734927764185, 6, 6), MIN + 146096, 157, Tuesday),
+    ((25252734927768124, 7, 28), MAX - 146096, 210, Friday),
+    ((25252734927768524, 1, 1), MAX - 208, 1, Saturday),
+    ((25252734927768524, 1, 2), MAX - 207, 2, Sunday),
+    ((25252734927768524, 7, 27), MAX, 209, Thursday),
+];
+
+/// Years, and whether they are leap years.
+const YEARS: [(i64, bool); 8] = [
+    (2000, true),
+    (0, true),
+    (-4, true),
+    (2024, true),
+    (1900, false),
+    (-1, false),
+    (2023, false),
+    (-100, false),
+];
+
+/// The date of a year, a month and a day of the month.
+fn date((year, month, day_of_month): Parts) -> Date {
+    Date::new(year, month, day_of_month).expect("there is such a date")
+}
+
+/// The year, the month and the day of the month of a date.
+fn parts(date: Option<Date>) -> Option<Parts> {
+    let date = date?;
+    Some((date.year(), date.month(), date.day_of_month()))
+}
+
+/// Returns `true` if the date is that of the day, and the day that of the date.
+fn has_day(date: &Date, day: i64) -> bool {
+    Date::from_day_number(day) == *date && date.day_number() == Some(day)
+}
+
+/// Returns `true` if the date is that of the day of its year, and the day that of the date.
+fn has_day_of_year(date: &Date, day: u16) -> bool {
+    Date::from_year_day(date.year(), day) == Some(*date) && date.day_of_year() == day
+}
+
+#[test]
+fn known_dates() {
+    for &(parts, day, day_of_year, weekday) in &DATES {
+        let date = date(parts);
+        let weekdays = (weekday_of(day), date.weekday());
+        holds_at(has_day(&date, day), &("day", day));
+        holds_at(has_day_of_year(&date, day_of_year), &("year_day", day));
+        holds_at(weekdays == (weekday, weekday), &("weekday", day));
+    }
+    for (month, day) in [(2, 30), (4, 31), (0, 1), (13, 1), (1, 0), (1, 32)] {
+        let date = Date::new(2000, month, day);
+        holds_at(date == None, &("Date::new", month, day));
+    }
+}
+
+#[test]
+fn leap_years() {
+    for &(year, leap) in &YEARS {
+        let has_leap_day = Date::new(year, 2, 29).is_some();
+        let has_366_days = Date::from_year_day(year, 366).is_some();
+        let found = (is_leap_year(year), has_leap_day, has_366_days);
+        holds_at(found == (leap, leap, leap), &("is_leap_year", year));
+    }
+}
+
+/// The first and the last date, beyond the days of `i64`.
+#[test]
+fn ends() {
+    let (first, last) = (date((MIN, 1, 1)), date((MAX, 12, 31)));
+    let days = (first.day_number(), last.day_number());
+    let beyond = (first.previous(), last.next(), first.iso_week());
+    holds_at(days == (None, None), &"day");
+    holds_at(beyond == (None, None, None), &"next");
+    holds_at(first.weekday() == Sunday, &"weekday");
+}
+
+/// The years of the first and the last day of `i64`.
+const FIRST_YEAR: i64 = -25252734927764585;
+
+const LAST_YEAR: i64 = 25252734927768524;
+
+/// A date, a number of days, and the date this number of days later, or `None` where its year does not fit.
+const DAYS_LATER: [(Parts, i64, Option<Parts>); 22] = [
+    ((2000, 3, 1), -1, Some((2000, 2, 29))),
+    ((2000, 2, 28), 366, Some((2001, 2, 28))),
+    ((0, 1, 1), MAX, Some((25252734927766554, 7, 27))),
+    ((0, 1, 1), MIN, Some((-25252734927766555, 6, 6))),
+    ((FIRST_YEAR, 6, 7), -1, Some((FIRST_YEAR, 6, 6))),
+    ((FIRST_YEAR, 6, 7), MAX, Some((1969, 12, 31))),
+    ((FIRST_YEAR, 6, 7), MIN, Some((-50505469855531140, 11, 9))),
+    ((LAST_YEAR, 7, 27), 1, Some((LAST_YEAR, 7, 28))),
+    ((LAST_YEAR, 7, 27), MIN, Some((1969, 12, 31))),
+    ((LAST_YEAR, 7, 27), MAX, Some((50505469855535079, 2, 20))),
+    ((MAX, 1, 1), 0, Some((MAX, 1, 1))),
+    ((MAX, 1, 1), 364, Some((MAX, 12, 31))),
+    ((MAX, 12, 31), MIN, Some((9198119301927009253, 6, 4))),
+    ((MIN, 1, 1), 0, Some((MIN, 1, 1))),
+    ((MIN, 12, 31), -365, Some((MIN, 1, 1))),
+    ((MIN, 1, 1), MAX, Some((-9198119301927009254, 7, 28))),
+    ((MAX, 1, 1), 365, None),
+    ((MAX, 12, 31), 1, None),
+    ((MAX, 1, 1), MAX, None),
+    ((MIN, 12, 31), -366, None),
+    ((MIN, 1, 1), -1, None),
+    ((MIN, 12, 31), MIN, None),
+];
+
+/// Two dates, and the days from the first to the second.
+const DAYS_BETWEEN: [(Parts, Parts, Option<i64>); 3] = [
+    ((FIRST_YEAR, 6, 7), (LAST_YEAR, 7, 27), None),
+    ((LAST_YEAR, 7, 27), (LAST_YEAR, 7, 27), Some(0)),
+    ((MAX, 12, 31), (MAX, 1, 1), Some(-364)),
+];
+
+#[test]
+fn days_later() {
+    for &(from, days, to) in &DAYS_LATER {
+        let found = parts(date(from).plus_days(days));
+        holds_at(found == to, &("plus_days", from, days));
+    }
+    for &(from, to, days) in &DAYS_BETWEEN {
+        let found = days_between(&date(from), &date(to));
+        holds_at(found == days, &("days_between", from, to));
+    }
+}
+
+/// Returns `true` if the date is that of the week and of the day of the week, and both those of the date.
+fn has_week(date: &Date, week: IsoWeek, weekday: Weekday) -> bool {
+    Date::from_iso_week(week.year, week.week, weekday) == Some(*date)
+        && date.iso_week() == Some(week)
+        && date.weekday() == weekday
+}
+
+/// The parts of a date, and the year, the week and the day of the week.
+const WEEKS: [(Parts, (i64, u8, Weekday)); 19] = [
+    ((2005, 1, 1), (2004, 53, Saturday)),
+    ((2005, 1, 2), (2004, 53, Sunday)),
+    ((2005, 12, 31), (2005, 52, Saturday)),
+    ((2006, 1, 1), (2005, 52, Sunday)),
+    ((2007, 1, 1), (2007, 1, Monday)),
+    ((2007, 12, 31), (2008, 1, Monday)),
+    ((2008, 1, 1), (2008, 1, Tuesday)),
+    ((2008, 12, 29), (2009, 1, Monday)),
+    ((2010, 1, 3), (2009, 53, Sunday)),
+    ((2010, 1, 1), (2009, 53, Friday)),
+    ((2014, 1, 1), (2014, 1, Wednesday)),
+    ((2026, 1, 1), (2026, 1, Thursday)),
+    ((1970, 1, 1), (1970, 1, Thursday)),
+    ((0, 1, 1), (-1, 52, Saturday)),
+    ((MIN, 1, 2), (MIN, 1, Monday)),
+    ((MIN, 1, 8), (MIN, 1, Sunday)),
+    ((MAX, 12, 27), (MAX, 52, Sunday)),
+    ((MAX, 12, 28), (MAX, 53, Monday)),
+    ((MAX, 12, 31), (MAX, 53, Thursday)),
+];
+
+/// Years, weeks and days of the week that no date has, and those of dates beyond the ends.
+const NO_WEEKS: [(i64, u8, Weekday); 9] = [
+    (2005, 53, Monday),
+    (2005, 0, Monday),
+    (2004, 54, Monday),
+    (2004, 255, Monday),
+    (MAX, 53, Friday),
+    (MAX, 53, Saturday),
+    (MAX, 53, Sunday),
+    (MIN, 0, Sunday),
+    (MIN, 53, Monday),
+];
+
+#[test]
+fn known_weeks() {
+    for &(parts, (year, week, weekday)) in &WEEKS {
+        let is_known = has_week(&date(parts), IsoWeek { year, week }, weekday);
+        holds_at(is_known, &("iso_week", parts));
+    }
+    for &(year, week, weekday) in &NO_WEEKS {
+        let date = Date::from_iso_week(year, week, weekday);
+        holds_at(date == None, &("from_iso_week", year, week, weekday));
+    }
+}
+
+/// The weeks and the days of some years.
+const WEEKS_OF_YEARS: [((u8, u16), &[i64]); 4] = [
+    ((53, 366), &[2004, 2020]),
+    ((53, 365), &[2009, 2015, MAX]),
+    ((52, 366), &[2024, 0, MIN]),
+    ((52, 365), &[2005, 1900]),
+];
+
+#[test]
+fn weeks_of_years() {
+    for &(expected, years) in &WEEKS_OF_YEARS {
+        for &year in years {
+            let found = (weeks_in_year(year), days_in_year(year));
+            holds_at(found == expected, &("weeks_in_year", year));
+        }
+    }
+}
+
+/// A date, a number of months, and the date this number of months later, or `None` where its year does not fit.
+const MONTHS_LATER: [(Parts, i64, Option<Parts>); 20] = [
+    ((2000, 1, 31), 0, Some((2000, 1, 31))),
+    ((2000, 1, 31), 1, Some((2000, 2, 29))),
+    ((1999, 1, 31), 1, Some((1999, 2, 28))),
+    ((1900, 1, 29), 1, Some((1900, 2, 28))),
+    ((2000, 1, 29), 2, Some((2000, 3, 29))),
+    ((2000, 3, 31), -1, Some((2000, 2, 29))),
+    ((2000, 12, 31), 2, Some((2001, 2, 28))),
+    ((2000, 1, 15), -1, Some((1999, 12, 15))),
+    ((2026, 5, 31), -6, Some((2025, 11, 30))),
+    ((0, 1, 1), -1, Some((-1, 12, 1))),
+    ((1, 3, 31), -13, Some((0, 2, 29))),
+    ((0, 1, 1), MAX, Some((768614336404564650, 8, 1))),
+    ((0, 1, 1), MIN, Some((-768614336404564651, 5, 1))),
+    ((MAX, 1, 31), 11, Some((MAX, 12, 31))),
+    ((MIN, 12, 31), -11, Some((MIN, 1, 31))),
+    ((MIN, 3, 31), -1, Some((MIN, 2, 29))),
+    ((MIN, 1, 1), -1, None),
+    ((MAX, 12, 31), 1, None),
+    ((MIN, 1, 1), MIN, None),
+    ((MAX, 12, 31), MAX, None),
+];
+
+#[test]
+fn months_later() {
+    for &(from, months, to) in &MONTHS_LATER {
+        let found = parts(date(from).plus_months(months));
+        holds_at(found == to, &("plus_months", from, months));
+    }
+}
+
+/// A year, a month, a day of the week, its place in the month, and the day of the month, or `None` where there is
+/// no such day. The calendar repeats after 400 years, so the weekdays of the first and the last year are those of
+/// 2192 and 2207.
+const PLACES: [(i64, u8, Weekday, u8, Option<u8>); 24] = [
+    (2020, 11, Thursday, 4, Some(26)),
+    (2021, 11, Thursday, 4, Some(25)),
+    (2022, 11, Thursday, 4, Some(24)),
+    (2023, 11, Thursday, 4, Some(23)),
+    (2024, 11, Thursday, 4, Some(28)),
+    (2025, 11, Thursday, 4, Some(27)),
+    (2026, 11, Thursday, 4, Some(26)),
+    (1970, 1, Monday, 1, Some(5)),
+    (1970, 1, Monday, 2, Some(12)),
+    (1970, 1, Monday, 3, Some(19)),
+    (1970, 1, Monday, 4, Some(26)),
+    (2026, 1, Friday, 5, Some(30)),
+    (2024, 2, Thursday, 5, Some(29)),
+    (2021, 2, Sunday, 4, Some(28)),
+    (MAX, 12, Thursday, 5, Some(31)),
+    (MIN, 1, Sunday, 1, Some(1)),
+    (2026, 11, Friday, 5, None),
+    (2024, 2, Friday, 5, None),
+    (1970, 1, Monday, 5, None),
+    (2026, 11, Thursday, 0, None),
+    (2026, 11, Thursday, 6, None),
+    (2026, 11, Thursday, u8::MAX, None),
+    (2026, 0, Thursday, 1, None),
+    (2026, 13, Thursday, 1, None),
+];
+
+/// A year, a month, a day of the week, and the last day of the month that has it.
+const LAST_OF_MONTH: [(i64, u8, Weekday, Option<u8>); 13] = [
+    (2026, 10, Friday, Some(30)),
+    (2026, 11, Thursday, Some(26)),
+    (2024, 2, Thursday, Some(29)),
+    (2024, 2, Friday, Some(23)),
+    (2021, 2, Sunday, Some(28)),
+    (2021, 2, Monday, Some(22)),
+    (1970, 1, Monday, Some(26)),
+    (1970, 1, Friday, Some(30)),
+    (MAX, 12, Thursday, Some(31)),
+    (MIN, 1, Sunday, Some(29)),
+    (2026, 0, Friday, None),
+    (2026, 13, Friday, None),
+    (2026, u8::MAX, Friday, None),
+];
+
+/// The parts of the day of a month.
+fn in_month(year: i64, month: u8, day: Option<u8>) -> Option<Parts> {
+    Some((year, month, day?))
+}
+
+#[test]
+fn places_of_weekdays() {
+    for &(year, month, weekday, n, day) in &PLACES {
+        let found = parts(nth_weekday_of_month(year, month, weekday, n));
+        let row = ("nth_weekday_of_month", year, month, weekday, n);
+        holds_at(found == in_month(year, month, day), &row);
+    }
+    for &(year, month, weekday, day) in &LAST_OF_MONTH {
+        let found = parts(last_weekday_of_month(year, month, weekday));
+        let row = ("last_weekday_of_month", year, month, weekday);
+        holds_at(found == in_month(year, month, day), &row);
+    }
+}
+
+const FIRST_FROM: [(i64, Weekday, Option<i64>); 11] = [
+    (0, Thursday, Some(0)),
+    (0, Friday, Some(1)),
+    (0, Wednesday, Some(6)),
+    (1, Thursday, Some(7)),
+    (-1, Thursday, Some(0)),
+    (-7, Thursday, Some(-7)),
+    (3, Sunday, Some(3)),
+    (20779, Thursday, Some(20783)),
+    (i64::MAX, Thursday, Some(i64::MAX)),
+    (i64::MIN, Monday, Some(i64::MIN + 5)),
+    (i64::MAX, Friday, None),
+];
+
+const LAST_UP_TO: [(i64, Weekday, Option<i64>); 14] = [
+    (0, Thursday, Some(0)),
+    (0, Friday, Some(-6)),
+    (0, Wednesday, Some(-1)),
+    (-1, Thursday, Some(-7)),
+    (3, Sunday, Some(3)),
+    (4, Sunday, Some(3)),
+    (2, Sunday, Some(-4)),
+    (20783, Monday, Some(20780)),
+    (i64::MIN, Wednesday, Some(i64::MIN)),
+    (i64::MAX, Thursday, Some(i64::MAX)),
+    (i64::MAX, Friday, Some(i64::MAX - 6)),
+    (i64::MIN, Tuesday, None),
+    (i64::MIN + 5, Tuesday, None),
+    (i64::MIN + 1, Thursday, Some(i64::MIN + 1)),
+];
+
+#[test]
+fn first_and_last_weekdays() {
+    for &(day, weekday, first) in &FIRST_FROM {
+        let found = first_weekday_on_or_after(day, weekday);
+        holds_at(found == first, &("first_weekday", day, weekday));
+    }
+    for &(day, weekday, last) in &LAST_UP_TO {
+        let found = last_weekday_on_or_before(day, weekday);
+        holds_at(found == last, &("last_weekday", day, weekday));
+    }
+}
+
+/// The days of the week in the order of their numbers by ISO 8601.
+const BY_NUMBER: [Weekday; 7] = [
+    Monday, Tuesday, Wednesday, Thursday, Friday, Saturday, Sunday,
+];
+
+#[test]
+fn iso_numbers() {
+    for number in 0..=u8::MAX {
+        let place = usize::from(number.wrapping_sub(1));
+        let found = Weekday::from_iso_number(number);
+        let is_known = found == BY_NUMBER.get(place).copied();
+        holds_at(is_known, &("from_iso_number", number));
+        if let Some(weekday) = found {
+            holds_at(weekday.iso_number() == number, &("iso_number", number));
+        }
+    }
+}
+
+/// Two dates, and the number of whole months from the first to the second, or `None` where it does not fit.
+const MONTHS_BETWEEN: [(Parts, Parts, Option<i64>); 25] = [
+    ((2000, 1, 31), (2000, 2, 29), Some(1)),
+    ((2000, 1, 31), (2000, 2, 28), Some(0)),
+    ((2000, 1, 31), (2000, 1, 31), Some(0)),
+    ((2000, 1, 31), (2000, 3, 30), Some(1)),
+    ((2000, 1, 31), (2000, 3, 31), Some(2)),
+    ((2000, 2, 29), (2001, 2, 28), Some(12)),
+    ((2000, 2, 29), (2001, 2, 27), Some(11)),
+    ((2000, 2, 29), (2004, 2, 29), Some(48)),
+    ((2000, 3, 1), (2000, 2, 29), Some(-1)),
+    ((2000, 3, 1), (2000, 2, 1), Some(-1)),
+    ((2000, 3, 1), (2000, 1, 31), Some(-2)),
+    ((2000, 3, 31), (2000, 2, 29), Some(-1)),
+    ((2000, 3, 31), (2000, 2, 28), Some(-2)),
+    ((-1, 12, 31), (0, 1, 30), Some(0)),
+    ((0, 1, 1), (768614336404564650, 8, 1), Some(MAX)),
+    ((0, 1, 2), (768614336404564650, 9, 1), Some(MAX)),
+    ((0, 1, 1), (-768614336404564651, 5, 1), Some(MIN)),
+    ((MAX, 1, 31), (MAX, 12, 31), Some(11)),
+    ((0, 1, 1), (768614336404564650, 9, 1), None),
+    ((0, 1, 1), (-768614336404564651, 4, 30), None),
+    ((MIN, 1, 1), (MAX, 12, 31), None),
+    ((MAX, 12, 31), (MIN, 1, 1), None),
+    ((MIN, 1, 1), (MIN, 1, 1), Some(0)),
+    ((MAX, 12, 30), (MAX, 12, 31), Some(0)),
+    ((MAX, 12, 31), (MAX, 12, 30), Some(-1)),
+];
+
+#[test]
+fn months_between_dates() {
+    for &(from, to, months) in &MONTHS_BETWEEN {
+        let found = months_between(&date(from), &date(to));
+        holds_at(found == months, &("months_between", from, to));
+    }
+}
+
+/// The end of each month is a whole number of months after the last day of any longer month.
+#[test]
+fn ends_of_months() {
+    let from = date((1999, 12, 31));
+    for months in 1..=48_u8 {
+        let place = 11 + months;
+        let (year, month) = (1999 + i64::from(place / 12), place % 12 + 1);
+        let last = date((year, month, days_in_month(year, month)));
+        let before = last.previous().expect("there is a day before");
+        let found = (months_between(&from, &before), months_between(&from, &last));
+        let expected = (Some(i64::from(months) - 1), Some(i64::from(months)));
+        holds_at(found == expected, &("months_between", months));
+    }
+}
+
+/// The digits of the year, the month and the day of the month.
+const EASTERS: [i64; 49] = [
+    15830410, 17000411, 18000413, 18180322, 18860425, 19000415, 19430425, 19540418, 19610402,
+    19810419, 20000423, 20010415, 20020331, 20030420, 20040411, 20050327, 20060416, 20070408,
+    20080323, 20090412, 20100404, 20110424, 20120408, 20130331, 20140420, 20150405, 20160327,
+    20170416, 20180401, 20190421, 20200412, 20210404, 20220417, 20230409, 20240331, 20250420,
+    20260405, 20270328, 20280416, 20290401, 20300421, 20380425, 22850322, 23530322, 31650418,
+    32600418, 47630407, 75150425, 76100425,
+];
+
+#[test]
+fn known_easters() {
+    for &digits in &EASTERS {
+        let found = easter(digits / 10000);
+        let (month, day) = (i64::from(found.month()), i64::from(found.day_of_month()));
+        let expected = (digits / 100 % 100, digits % 100);
+        holds_at((month, day) == expected, &("easter", digits));
+    }
+    for year in [MIN, MAX, -1, 0] {
+        let found = easter(year);
+        let is_sunday = found.year() == year && found.weekday() == Sunday;
+        let is_in_spring = found.month() == 3 || found.month() == 4;
+        holds_at(is_sunday && is_in_spring, &("easter", year));
+    }
+}

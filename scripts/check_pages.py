@@ -1,0 +1,234 @@
+#!/usr/bin/env python3
+"""Compares the code on the pages with the files that the gate compiles or runs.
+
+    scripts/check_pages.py                    a line for each block, and a count; status 1 if a block is in no file
+    scripts/check_pages.py --run PROGRAM      a line for each command of a session, which the program has to print as the page shows
+    scripts/check_pages.py --examples FOLDER  the same of the sessions at the heads of rust/examples/*.rs, whose programs are there
+    scripts/check_pages.py --self-test        plants slips in samples; status 1 if one is not found
+
+Each block of Rust is in a `.rt` file or an example of rust/, each block of a proof in an `.antt` file, and each line of a block of crates in
+crates.txt. Of a block of imports alone, each name is imported so in a `.rt` file. Indentation does not count, and a comment
+`// and ..` in a block replaces lines that the block leaves out. Blocks of any other kind are not read. The command of
+README.md is the stored run. A session is a block of `console`: each command in it prints the lines below it and nothing else."""
+import os
+import pathlib
+import re
+import subprocess
+import sys
+import tempfile
+from dataclasses import dataclass
+
+REPOSITORY = pathlib.Path(__file__).resolve().parent.parent
+PAGES = ('README.md', 'docs/*.md', 'crates/*/CALLING.md', 'crates/*/README.md')
+SESSIONS = ('README.md', 'docs/INTCALC.md')
+KINDS = {'rust', 'antt', 'crates', 'console'}
+IMPORT = re.compile(r'(?:pub )?((?:ghost )?use .*);')
+COMMAND = re.compile(r'(?:intcalc|cargo run --example \w+)(?: [^;|&]*)?|echo \$\?')
+
+
+@dataclass
+class Block:
+    """A block of a page, with the number of the line that begins it."""
+    page: str
+    line: int
+    kind: str
+    lines: list
+
+
+def blocks(page, text):
+    """The blocks of a page of the kinds that are read."""
+    block = None
+    for number, line in enumerate(text.split('\n'), 1):
+        line = line.lstrip(' ')
+        if block is None:
+            if line.startswith('```') and line[3:] in KINDS:
+                block = Block(page, number, line[3:], [])
+        elif line == '```':
+            yield block
+            block = None
+        else:
+            block.lines.append(line)
+    if block is not None:
+        yield block
+
+
+# ---- blocks that quote a file
+
+def unindented(text):
+    return '\n'.join(line.lstrip(' ') for line in text.split('\n'))
+
+
+def imported_names(lines):
+    """Of the imports that stand on a line, each name with its path before it."""
+    for line in lines:
+        match = IMPORT.fullmatch(line.lstrip(' '))
+        if match:
+            path, _, names = match.group(1).partition('{')
+            yield from (path + name.strip() for name in names.rstrip('}').split(',')) if names else (path,)
+
+
+def pieces(lines):
+    """The texts between the comments that replace lines."""
+    found = ['']
+    for line in lines:
+        if line.startswith('// and '):
+            found.append('')
+        else:
+            found[-1] += line + '\n'
+    return found
+
+
+def contains(text, wanted):
+    """Whether the text has the pieces, in this order, each from the beginning of a line."""
+    at = 0
+    text = '\n' + text
+    for piece in wanted:
+        found = text.find('\n' + piece, at)
+        if found < 0:
+            return False
+        at = found + len(piece)
+    return True
+
+
+class Files:
+    """What the blocks quote."""
+
+    def __init__(self, rust, proofs, crates):
+        self.texts = {'rust': [unindented(text) for text in rust], 'antt': [unindented(text) for text in proofs]}
+        self.imports = {name for text in self.texts['rust'] for name in imported_names(text.split('\n'))}
+        self.crates = set(crates.split('\n'))
+
+    def has(self, block):
+        if block.kind == 'crates':
+            return self.crates.issuperset(block.lines)
+        if block.kind == 'rust' and all(IMPORT.fullmatch(line) or not line for line in block.lines):
+            return self.imports.issuperset(imported_names(block.lines))
+        wanted = pieces(block.lines)
+        return any(contains(text, wanted) for text in self.texts[block.kind])
+
+
+def files():
+    """The files of the repository that the gate compiles."""
+    def read(folders, suffix):
+        return [file.read_text() for folder in folders for file in sorted(REPOSITORY.glob(f'crates/*/{folder}/**/*{suffix}'))]
+    examples = [file.read_text() for file in sorted(REPOSITORY.glob('rust/examples/*.rs'))]
+    return Files(read(('src',), '.rt') + examples, read(('src', 'specs', 'proofs'), '.antt'), (REPOSITORY / 'crates.txt').read_text())
+
+
+def has_stored_run():
+    """Whether README.md has the command of the stored run, and what it prints."""
+    text, program = (REPOSITORY / 'README.md').read_text(), REPOSITORY / 'crates' / 'intcalc'
+    words, printed = (program / 'args').read_text().split(), (program / 'stdout').read_text().rstrip('\n')
+    return f"rt run -- {' '.join(words)})" in text and f'prints `{printed}`' in text
+
+
+def compare():
+    """Each block with whether a file has it."""
+    there = files()
+    for page in (page for pattern in PAGES for page in sorted(REPOSITORY.glob(pattern))):
+        name = page.relative_to(REPOSITORY).as_posix()
+        for block in blocks(name, page.read_text()):
+            if block.kind != 'console':
+                yield f'{name}:{block.line}', there.has(block)
+    yield 'README.md: the stored run', has_stored_run()
+
+
+# ---- sessions with the program
+
+def steps(block):
+    """The commands of a session, each with the number of its line and the lines that it prints."""
+    found = []
+    for number, line in enumerate(block.lines, block.line + 1):
+        if line.startswith('$ '):
+            found.append((number, line[2:], []))
+        elif found:
+            found[-1][2].append(line)
+        else:
+            found.append((number, '', [line]))
+    return found
+
+
+def run(program, command, status):
+    """What a command prints, and its status. A page has only calls of the program, or of the examples in a folder of
+    programs, and `echo $?`."""
+    if not COMMAND.fullmatch(command):
+        return None, 1
+    calls = 'intcalc() { "$PROGRAM" "$@"; }; cargo() { "$PROGRAM/$3" "${@:4}"; }'
+    shell = f'{calls}; (exit {status}); {command}'
+    ended = subprocess.run(['bash', '-c', shell], env={**os.environ, 'PROGRAM': str(program)}, stdin=subprocess.DEVNULL,
+                           stdout=subprocess.PIPE, stderr=subprocess.STDOUT, check=False)
+    return ended.stdout.decode(errors='replace'), ended.returncode
+
+
+def sessions(program, named):
+    """Each command of the sessions of the pages, with whether it prints what the page shows."""
+    for name, text in named:
+        for block in blocks(name, text):
+            status = 0
+            for number, command, lines in steps(block) if block.kind == 'console' else ():
+                printed, status = run(program, command, status)
+                yield f'{name}:{number}: {command}', printed == ''.join(line + '\n' for line in lines)
+
+
+def heads_of_examples():
+    """The comments at the heads of the examples in Rust, each with its place."""
+    for file in sorted((REPOSITORY / 'rust' / 'examples').glob('*.rs')):
+        lines = (line[3:].removeprefix(' ') for line in file.read_text().split('\n') if line.startswith('//!'))
+        yield file.relative_to(REPOSITORY).as_posix(), '\n'.join(lines)
+
+
+# ---- a test of the comparison
+
+RUST = 'pub fn half(x: u64) -> u64\n    requires { 0 < x }\n{\n    use std::cmp::{max, min};\n    x / 2\n}\n'
+PROOF = 'pub half : ℕ → ℕ\nhalf n = n / 2\n'
+QUOTED = (
+    ('rust', 'pub fn half(x: u64) -> u64\n{\n    x / 2\n}', False), ('rust', 'pub fn half(x: u64) -> u64\n// and its clause\nx / 2', True),
+    ('rust', 'fn half(x: u64) -> u64', False), ('rust', 'x / 2\n// and more\n}', True), ('rust', 'x / 2\n// and more\npub fn half', False),
+    ('rust', 'use std::cmp::min;', True), ('rust', 'use std::cmp::{min};', True), ('rust', 'use std::cmp::{min, minmax};', False),
+    ('antt', 'half n = n / 2', True), ('antt', 'half n = n / 3', False), ('antt', 'pub fn half(x: u64) -> u64', False),
+    ('crates', 'half: std', True), ('crates', 'half: core', False), ('text', 'half n = n / 3', None),
+)
+# Of a program that prints `seven` and ends with status 3.
+RUN = (('$ intcalc\nseven', True), ('$ intcalc\neight', False), ('$ intcalc\n', False), ('$ intcalc\nseven\n$ echo $?\n3', True),
+       ('$ intcalc\nseven\n$ echo $?\n0', False), ('$ ls\n', False), ('seven', False))
+
+
+def self_test():
+    """The slips that are not found, and what is found that is no slip."""
+    there = Files([RUST], [PROOF], 'half: std\n')
+    for kind, text, wanted in QUOTED:
+        found = [there.has(block) for block in blocks('sample', f'```{kind}\n{text}\n```\n')]
+        if found != ([] if wanted is None else [wanted]):
+            yield f'a block of {kind} is found: {found}\n{text}'
+    with tempfile.TemporaryDirectory() as folder:
+        program = pathlib.Path(folder) / 'program'
+        program.write_text('#!/bin/sh\necho seven\nexit 3\n')
+        program.chmod(0o755)
+        for text, wanted in RUN:
+            found = [passed for _, passed in sessions(program, [('sample', f'```console\n{text}\n```\n')])]
+            if all(found) != wanted or not found:
+                yield f'a session is found: {found}\n{text}'
+
+
+def main():
+    if sys.argv[1:] == ['--self-test']:
+        wrong = list(self_test())
+        print('\n'.join(wrong + [f'check_pages.py: {len(QUOTED) + len(RUN)} samples, {len(wrong)} failed']))
+        sys.exit(bool(wrong))
+    words = ('passed', 'failed') if sys.argv[1:2] in (['--run'], ['--examples']) else ('quoted', 'in no file')
+    if sys.argv[1:2] == ['--run']:
+        found = sessions(pathlib.Path(sys.argv[2]).resolve(), [(name, (REPOSITORY / name).read_text()) for name in SESSIONS])
+    elif sys.argv[1:2] == ['--examples']:
+        found = sessions(pathlib.Path(sys.argv[2]).resolve(), heads_of_examples())
+    else:
+        found = compare()
+    counts = [0, 0]
+    for place, passed in found:
+        counts[not passed] += 1
+        print(f'{place}: {words[not passed]}')
+    print(f'{counts[0]} passed, {counts[1]} failed')
+    sys.exit(counts[1] > 0 or counts[0] == 0)
+
+
+if __name__ == '__main__':
+    main()

@@ -1,0 +1,46 @@
+# What the scripts that check have in common. Each sources it from the root of the repository. A check prints a line, and
+# `finish` the count.
+
+passed=0
+failed=0
+work=$(mktemp -d) # for files; it goes when the script ends
+trap 'rm -rf "$work"' EXIT
+
+# judge NAME STATUS: the check has passed if the status is 0. If not, the end of what it printed into $work/log is shown.
+judge() {
+    if [ "$2" -eq 0 ]; then
+        passed=$((passed + 1))
+        echo "$1: passed"
+    else
+        failed=$((failed + 1))
+        echo "$1: failed"
+        [ ! -e "$work/log" ] || tail -n 40 "$work/log"
+    fi
+}
+
+# check NAME COMMAND..: the command succeeds.
+check() {
+    local status=0
+    "${@:2}" >"$work/log" 2>&1 || status=$?
+    judge "$1" "$status"
+}
+
+# finish: prints the count. Its status is 0 if there were checks and none failed.
+finish() {
+    echo "$passed passed, $failed failed"
+    [ "$failed" -eq 0 ] && [ "$passed" -gt 0 ]
+}
+
+# crates_of NAME: the crate and those below it, one a line.
+crates_of() {
+    local below
+    echo "$1"
+    for below in $(sed -nE "s/^$1( staticlib)?: //p" crates.txt); do
+        [ ! -d "crates/$below" ] || crates_of "$below"
+    done
+}
+
+# is_current FILE NAME: the file is there, and no source of the crate or of those below it is newer.
+is_current() {
+    [ -e "$1" ] && [ -z "$(find $(crates_of "$2" | sort -u | sed 's|.*|crates/&/src|') -newer "$1" -print -quit)" ]
+}

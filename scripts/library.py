@@ -1,0 +1,150 @@
+"""Crates of Rattle: their modules, and where a caller finds each public item, in Rattle or in the crate of plain Rust."""
+from dataclasses import dataclass, field
+
+from rattle_source import Source, Unknown
+
+ROOT = 'num_integer'                            # its root becomes that of the Rust crate
+AT_ROOT = {ROOT, 'applied'}                     # the modules of these stand at the root of the Rust crate
+# The crates of the Rust crate: how the root declares the module of each, or nothing for those whose modules stand there.
+CRATES = {'integer_core': 'mod', 'integer_roots': 'mod', 'num_integer': '',
+          'modular': 'pub mod', 'ratio64': 'pub mod', 'calendar': 'pub mod', 'applied': ''}
+NOT_READ = {'tests', 'assertions'}               # modules that only tests have
+OUTSIDE = {'std', 'core', 'num_traits', 'crate', 'self', 'super'}
+
+
+@dataclass
+class Module:
+    """A file, whose path has the names of its modules below the root of its crate."""
+    crate: str
+    path: tuple
+    source: Source
+    items: list = field(default_factory=list)
+
+    def rust_file(self):
+        """Its file below src/ of the Rust crate. The root of a crate whose modules stand at the root has none."""
+        names = self.path if self.crate in AT_ROOT else (self.crate,) + self.path
+        return '/'.join(names) + '.rs' if names else 'lib.rs' if self.crate == ROOT else ''
+
+    def is_left_out(self, item):
+        """Whether an item is there for tests or for the documentation alone, or hidden from it."""
+        words = [[self.source.at(k) for k in (first + 2, first + 4)] for first, _ in item.attributes]
+        return any(word in words for word in (['cfg', 'test'], ['cfg', 'doc'], ['doc', 'hidden']))
+
+    def below(self):
+        """The modules in it that code can name outside tests."""
+        return [item for item in self.items if item.kind == 'mod' and not self.is_left_out(item) and item.name not in NOT_READ]
+
+
+class Library:
+    """All modules of some crates, by crate and path, in the order in which a reader meets them."""
+    SUFFIX = '.rt'
+
+    def __init__(self, folder, crates):
+        self.folder, self.modules, self.crates = folder, {}, set(crates)
+        for crate in crates:
+            roots = [(folder / crate / 'src' / name).with_suffix(self.SUFFIX) for name in ('lib', 'main')]
+            self.read(crate, (), next((root for root in roots if root.is_file()), roots[0]))
+
+    def read(self, crate, path, file):
+        """Reads a file, and those of its modules."""
+        source = Source(file.relative_to(self.folder.parent), file.read_text())
+        module = self.modules[crate, path] = Module(crate, path, source, source.items())
+        for item in module.below():
+            if item.open:
+                source.refuse(item.word, f'the module `{item.name}` within a file')
+            below = (self.folder / crate / 'src').joinpath(*path, item.name).with_suffix(self.SUFFIX)
+            if not below.is_file():
+                source.refuse(item.word, f'the module `{item.name}`, which has no file')
+            self.read(crate, path + (item.name,), below)
+
+    def published(self, crate):
+        """The place of each public item in a crate, as a caller in Rattle finds it."""
+        return self.publish({}, self.modules[crate, ()], ())
+
+    def knows(self, module, path):
+        """Whether the first word of a path is known."""
+        names = {item.name for item in module.items if item.kind in ('mod', 'enum', 'struct')}
+        return path[0] in OUTSIDE or path[0] in self.crates or path[0] in names
+
+    def find(self, module, path):
+        """The module and the name to which a path leads; the module and None where it leads to a module; or None."""
+        crate, at, names = module.crate, module.path, list(path)
+        if names[0] in self.crates:
+            crate, at = names.pop(0), ()
+        elif names[0] in ('crate', 'self', 'super'):
+            at = {'crate': (), 'self': at, 'super': at[:-1]}[names.pop(0)]
+        while names and (crate, at + (names[0],)) in self.modules:
+            at += (names.pop(0),)
+        here = self.modules[crate, at]
+        if not names:
+            return here, None
+        return self.find_name(here, names[0]) if len(names) == 1 else None
+
+    def find_name(self, module, name):
+        """The module that has an item that this one has or exports, and the item's name there; or None."""
+        for item in module.items:
+            if item.kind == 'use' and item.public:
+                for path, given in module.source.imports(item):
+                    if given == name:
+                        return self.find(module, path)
+            elif item.name == name and item.kind not in ('impl', 'ghost', 'use', 'attribute'):
+                return module, name
+        return None
+
+    def publish(self, public, module, place):
+        """Notes the public items of a module that stands at this place: its own first, then those of the modules in it."""
+        for item in module.items:
+            if item.public and item.kind == 'use':
+                for path, name in module.source.imports(item):
+                    self.publish_use(public, module, path, name, place)
+            elif item.public and item.kind != 'mod':
+                public.setdefault((module.crate, module.path, item.name), place)
+        for item in module.below():
+            if item.public:
+                self.publish(public, self.modules[module.crate, module.path + (item.name,)], place + (item.name,))
+        return public
+
+    def publish_use(self, public, module, path, name, place):
+        if path[0] in OUTSIDE - {'crate', 'self', 'super'}:
+            return
+        found = self.find(module, path)
+        if not found:
+            raise Unknown(f'{module.source.path}: the export of `{"::".join(path)}`')
+        target, target_name = found
+        if target_name is None:
+            self.publish(public, target, place + (name,))
+        else:
+            public.setdefault((target.crate, target.path, target_name), place)
+
+
+class RustLibrary(Library):
+    """The crates that become one crate of Rust, with the public place of each item in it."""
+
+    def __init__(self, folder):
+        super().__init__(folder, CRATES)
+        self.public = self.publish({}, self.modules[ROOT, ()], ())
+        for crate, kind in CRATES.items():
+            if crate != ROOT and kind != 'mod':
+                self.publish(self.public, self.modules[crate, ()], () if crate in AT_ROOT else (crate,))
+        for crate in AT_ROOT - {ROOT}:
+            for item in self.modules[crate, ()].items:
+                if item.kind not in ('attribute', 'mod'):
+                    self.modules[crate, ()].source.refuse(item.word, f'`{item.name}`, which would stand at the root of the Rust crate')
+
+    def place_of(self, module, item, owner=None):
+        """The public place of an item, of a member of the trait or the type `owner`, or None."""
+        if owner is None or owner.kind == 'trait':
+            top = owner or item
+            return self.public.get((module.crate, module.path, top.name)) if top.public else None
+        if owner.of_trait or not item.public:
+            return None
+        return self.place_of_type(module, owner.name)
+
+    def place_of_type(self, module, name):
+        """The public place of a type that the module's crate has."""
+        places = [place for (crate, _, found), place in self.public.items() if crate == module.crate and found == name]
+        return places[0] if places else None
+
+    def names_at(self, place):
+        """The names of types and traits at a public place."""
+        return sorted(name for (_, _, name), there in self.public.items() if there == place and name[0].isupper())

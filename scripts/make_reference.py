@@ -1,0 +1,473 @@
+#!/usr/bin/env python3
+"""Makes docs/reference of the sources: a page for each crate, with its public items, their clauses and the words they cite.
+
+    scripts/make_reference.py            writes the pages
+    scripts/make_reference.py --check    compares them with what the sources make; status 1 where a page differs
+    scripts/make_reference.py --self-test
+                                    makes the pages of a copy, and plants one slip of each kind in it; status 1 where the
+                                    comparison does not name the page that then differs
+
+A page has each public item that a user of the crate can import, by the path of its import, with its doc comment, its
+signature and its clauses, without its body. Clauses that only say that numbers lie in their types are one line. Then come
+each definition of `specs/` that a public clause or such a definition cites, the laws, and the lemmas of
+`proofs/ForCallers.antt`. A word that a clause cites has a link. The index has each function. A form that is not known is
+rejected by file and line; then nothing is written, and the status is 2."""
+import pathlib
+import re
+import shutil
+import subprocess
+import sys
+import tempfile
+import textwrap
+
+from antt_words import Specs, cited
+from library import Library
+from prose import wrapped
+from rattle_source import Unknown
+from rust_docs import STATED, imports_of, says_more
+
+REPOSITORY = pathlib.Path(__file__).resolve().parent.parent
+CRATES = REPOSITORY / 'crates'
+PAGES = REPOSITORY / 'docs' / 'reference'
+TOOLCHAIN = REPOSITORY / 'rust' / 'by_hand' / 'definitions.md'
+NAMES = ('integer_core', 'integer_roots', 'num_integer', 'modular', 'ratio64', 'calendar', 'applied', 'cellarcove_c')
+# All public items of these are those of num_integer, on whose page they are.
+BELOW = {'integer_core': 'num_integer', 'integer_roots': 'num_integer'}
+BY_FILE = {'cellarcove_c'}                      # nothing is exported: its public items are those of its files
+PROGRAM = ('intcalc_core', 'intcalc')           # on the page of files alone
+IN_RANGE = 'Clauses that only say that arguments and results are in the range of their types are left out.'
+SHOWN = ('fn', 'struct', 'enum', 'trait', 'const', 'type')
+LEMMA = re.compile(r'(?:abbrev |unfoldable )?pub (?:ruleset ([^\s:]+) =|([^\s:]+) :)')
+EXPORT = re.compile(r'pub use Rattle\.(\w+)\.([\w.]+)\.\{([^}]*)\}')
+
+
+def head_of_file(module):
+    """The lines of the comment at the head of a file."""
+    lines = (token.text for token in module.source.tokens if token.kind == 'line' and token.text.startswith('//!'))
+    return [line[3:].removeprefix(' ') for line in lines]
+
+
+class Crate:
+    """What the page of a crate shows: its public items by the module from which a caller imports them."""
+
+    def __init__(self, library, name):
+        self.name, self.library = name, library
+        self.modules = [module for module in library.modules.values() if module.crate == name]
+        self.public = {} if name in BY_FILE else library.published(name)
+
+    def place(self, module, item):
+        """The place of the public module from which a caller imports an item, or None."""
+        if self.name in BY_FILE:
+            return module.path if module.crate == self.name and item.public and item.kind in SHOWN else None
+        return self.public.get((module.crate, module.path, item.name)) if item.public and item.kind in SHOWN else None
+
+    def place_of_impl(self, module, item):
+        """The place of the type of an implementation."""
+        return next((self.place(place, other) for place in self.library.modules.values() if place.crate == module.crate
+                     for other in place.items if other.name == item.name and other.kind in ('struct', 'enum', 'trait')), None)
+
+    def sections(self):
+        """Each place with its items, each item with its module; the root first."""
+        places = {}
+        if self.name not in BELOW:
+            for module in self.library.modules.values():
+                for item in module.items:
+                    place = self.place_of_impl(module, item) if item.kind == 'impl' else self.place(module, item)
+                    if place is not None:
+                        places.setdefault(place, []).append((module, item))
+        return sorted(places.items())
+
+    def imports(self, place, shown):
+        """The line by which a caller imports the items of a place."""
+        if self.name in BY_FILE:
+            return ''
+        names = sorted({item.name for _, item in shown if item.kind != 'impl'})
+        listed = names[0] if len(names) == 1 else '{' + ', '.join(names) + '}'
+        return f"use {'::'.join((self.name,) + place)}::{listed};"
+
+    def head(self, place, shown):
+        """The head of the file of a place. That of the root is the head of the page."""
+        if not place:
+            return []
+        files = [module for module in self.library.modules.values() if module.path == place]
+        own = [module for module in files if module.crate == self.name] or [module for module, _ in shown if module.path == place]
+        return head_of_file(own[0]) if own else []
+
+
+class Page:
+    """The page of a crate as it grows. Headings get the anchors that the browser of the repository gives them."""
+
+    def __init__(self, title):
+        self.lines, self.slugs = [f'# {title}', ''], {}
+
+    def heading(self, level, text):
+        slug = re.sub(r'[^\w\- ]', '', text.lower()).replace(' ', '-')
+        count = self.slugs[slug] = self.slugs.get(slug, -1) + 1
+        self.lines += ['#' * level + ' ' + text, '']
+        return f'{slug}-{count}' if count else slug
+
+    def add(self, *lines):
+        self.lines += lines
+
+    def block(self, kind, text):
+        self.add(f'```{kind}', *text.split('\n'), '```', '')
+
+
+def dedented(source, first, last):
+    """The text of code from a place to another, without the indentation of its first line."""
+    text = source.text(first, last)
+    start = source.code[first] - 1
+    margin = source.tokens[start].text.rpartition('\n')[2] if start >= 0 and source.tokens[start].kind == 'space' else ''
+    return textwrap.dedent(margin + text)
+
+
+def without_ranges(source, item, text):
+    """The text of an item without the clauses that only say that numbers lie in their types."""
+    ranges = [source.text(clause.first, clause.last).rstrip(';') for clause in item.clauses]
+    ranges = [textwrap.dedent(clause) for clause in ranges if not says_more(clause)]
+    for clause in ranges:
+        lines = r'\n\s*'.join(re.escape(line.strip()) for line in clause.split('\n'))
+        text = re.sub(r'\n *' + lines, '', text, count=1)
+    return text
+
+
+def head_of(source, item):
+    """The signature and the clauses of an item, without its body."""
+    first = item.attributes[-1][1] + 1 if item.attributes else item.first
+    if item.kind == 'fn':
+        head = dedented(source, first, item.open - 1 if item.open else item.last).rstrip(';').rstrip()
+        return without_ranges(source, item, head)
+    if item.kind in ('trait', 'impl'):
+        return dedented(source, first, item.open - 1)
+    return dedented(source, item.first, item.last)
+
+
+def doc_of(source, item):
+    """The doc comment of an item. Its links are those of the documentation of the Rust crate, so here they are names."""
+    text = '\n'.join(source.tokens[i].text[3:].removeprefix(' ') for i in source.docs(item))
+    text = re.sub(r'\[(`[^`]+`)\](?:\([^)]*\))?', r'\1', text)
+    return text.replace('`crate::', '`').split('\n')
+
+
+class Reference:
+    """All pages: the items first, which name the words that the definitions are then made of."""
+
+    def __init__(self):
+        self.specs = Specs(CRATES)
+        names = [name for name in NAMES if (CRATES / name / 'src').is_dir()]
+        library = Library(CRATES, names)
+        self.program = Library(CRATES, [name for name in PROGRAM if (CRATES / name / 'src').is_dir()])
+        self.crates = {name: Crate(library, name) for name in names}
+        self.pages = {name: Page(f'`{name}`') for name in self.crates}
+        self.words, self.anchors, self.waiting, self.calls = {}, {}, [], []
+
+    # ---- words
+
+    def need(self, name, crate, path):
+        """Notes a word, and the words of its definition. Returns its key, or None for one of the toolchain."""
+        if crate not in self.crates:
+            return None
+        word = self.specs.find(crate, path, name)
+        if word is None:
+            return None
+        key = (word.crate, word.file, word.name)
+        if key not in self.words:
+            self.words[key] = word
+            for below in self.specs.below(word):
+                self.need(*below)
+        return key
+
+    def links(self, page, text, imports):
+        """Adds the line of links to the words of a text, which is filled in when the anchors are known."""
+        keys = [key for key in (self.need(name, *imports[name]) for name in cited(text, imports)) if key]
+        if keys:
+            self.waiting.append((page, len(self.pages[page].lines), keys))
+            self.pages[page].add('', '')
+
+    def fill_in(self):
+        for page, at, keys in self.waiting:
+            links = [f'[`{key[2]}`]({"" if key[0] == page else key[0] + ".md"}#{self.anchors[key]})' for key in keys]
+            self.pages[page].lines[at] = '\n'.join(wrapped('Words: ' + ', '.join(links) + '.', 110))
+
+    # ---- items
+
+    def items_of(self, crate):
+        page = self.pages[crate.name]
+        page.add(*head_of_file(crate.modules[0]), '', IN_RANGE, '')
+        if crate.name in BELOW:
+            upper = BELOW[crate.name]
+            page.add(f'Its public items are those of [`{upper}`]({upper}.md). This page has its definitions and lemmas.', '')
+        for place, shown in crate.sections():
+            if crate.name in BY_FILE:
+                page.heading(2, f"`{'/'.join(place)}.rt`" if place else 'The root')
+            else:
+                page.heading(2, f"`{'::'.join((crate.name,) + place)}`")
+            page.add(*crate.head(place, shown), '')
+            if crate.name not in BY_FILE:
+                page.block('rust', '\n'.join(wrapped(crate.imports(place, shown), 100, '    ')))
+            for module, item in shown:
+                for block in self.blocks(module, item):
+                    self.block(page, crate, place, module, *block)
+
+    def blocks(self, module, item):
+        """What the page shows of an item: a title, its doc comment, its code, the items whose imports count, its kind and
+        its name."""
+        source = module.source
+        if item.kind in ('trait', 'impl'):
+            ghosts = [source.text(inner.first, inner.last) for inner in item.items
+                      if inner.kind == 'ghost' and inner.name != 'use' and (item.kind == 'trait' or inner.name in STATED)]
+            methods = [inner for inner in item.items if inner.kind == 'fn' and self.has_part(item, inner)]
+            stated = item.kind == 'trait' or ghosts or (item.of_trait and methods)
+            if stated:
+                head = head_of(source, item) + ' { .. }' * (not ghosts)
+                if ghosts:
+                    body = '\n\n'.join(textwrap.indent(textwrap.dedent('    ' + ghost), '    ') for ghost in ghosts)
+                    head += ' {\n' + body + '\n}'
+                title = f'trait `{item.name}`' if item.kind == 'trait' else f'`{item.of_trait}` for `{item.name}`'
+                yield title, doc_of(source, item), head, item.items, item.kind, item.name
+            for inner in methods:
+                yield f'`{item.name}::{inner.name}`', doc_of(source, inner), head_of(source, inner), item.items, 'fn', inner.name
+        else:
+            yield f'`{item.name}`', doc_of(source, item), head_of(source, item), [], item.kind, item.name
+
+    def has_part(self, item, inner):
+        """Whether a page shows a method: each of a trait, each public one of a type, each with a clause of an `impl`."""
+        if item.kind == 'trait':
+            return True
+        return bool(inner.clauses) if item.of_trait else inner.public
+
+    def block(self, page, crate, place, module, title, doc, code, inner, kind, name):
+        anchor = page.heading(3, title)
+        page.add(*doc, '')
+        page.block('rust', code)
+        if kind in ('struct', 'enum'):
+            declared = '.'.join(('Rattle', module.crate, 'specs', 'declared') + module.path + (name,))
+            variants = f", `ghost use {declared}.TheVariants.{{..}};`" * (kind == 'enum')
+            page.add(f'In a clause: `ghost use {declared}.{{{name}}};`{variants}', '')
+        if kind == 'fn':
+            path = '::'.join((crate.name,) + (() if crate.name in BY_FILE else place))
+            self.calls.append((title.strip('`').split('::')[-1], title.strip('`'), path, f'{crate.name}.md#{anchor}', first_sentence(doc)))
+        imports = imports_of(module.source, module.items) | imports_of(module.source, inner)
+        self.links(crate.name, code, imports)
+
+    # ---- definitions, laws and lemmas
+
+    def definitions_of(self, crate):
+        page = self.pages[crate]
+        files = list(dict.fromkeys(key[1] for key in self.words if key[0] == crate))
+        for file in sorted(files, key=lambda file: (file == 'Laws', file)):
+            words = self.specs.read(crate, file)[0]
+            if file == 'Laws':
+                page.heading(2, f'Laws: `Rattle.{crate}.specs.Laws`')
+                page.add('Each law has a proof of its name in small letters in `proofs/Laws.antt`, which a proof may cite.', '')
+            else:
+                page.heading(2, f'Definitions: `Rattle.{crate}.specs.{file}`')
+            page.add(*self.comment_of(crate, file), '')
+            for name, word in words.items():
+                if (crate, file, name) in self.words:
+                    self.anchors[crate, file, name] = page.heading(3, f'`{name}`')
+                    page.add(sentence(word.comment), '') if word.comment else None
+                    page.block('text', word.text)
+                    names = {other: (crate, 'specs.' + file) for other in words} | self.specs.read(crate, file)[1]
+                    names.pop(name, None)
+                    self.links(crate, word.text, names)
+
+    def comment_of(self, crate, file):
+        first = (CRATES / crate / 'specs' / f'{file}.antt').read_text().split('\n\n')[0].split('\n')
+        lines = []
+        for line in first:
+            if not line.startswith('-- '):
+                break
+            lines.append(line[3:])
+        return lines
+
+    def laws_of(self, crate):
+        file = CRATES / crate / 'specs' / 'Laws.antt'
+        if file.is_file():
+            for name in self.specs.read(crate, 'Laws')[0]:
+                self.need(name, crate, 'specs.Laws')
+
+    def lemmas_of(self, crate):
+        file = CRATES / crate / 'proofs' / 'ForCallers.antt'
+        if not file.is_file():
+            return
+        page = self.pages[crate]
+        page.heading(2, f'Lemmas for callers: `Rattle.{crate}.proofs.ForCallers`')
+        page.add('Lemmas that the proof of a caller may cite, beside the laws.', '')
+        text = file.read_text()
+        for paragraph in re.split(r'\n\s*\n', text):
+            if paragraph.startswith('-- ---- '):
+                page.add(f'**{paragraph.split(chr(10))[0][8:].capitalize()}**', '')
+            for other, path, names in EXPORT.findall(paragraph):
+                found = lemmas((CRATES / other).joinpath(*path.split('.')).with_suffix('.antt'))
+                for name in (name.strip() for name in names.split(',')):
+                    self.lemma(page, name, found.get(name))
+            for name, lemma in lemmas_in(paragraph).items():
+                self.lemma(page, name, lemma)
+
+    def lemma(self, page, name, lemma):
+        if lemma is None:
+            return
+        comment, text = lemma
+        page.heading(4, f'`{name}`')
+        if comment:
+            page.add(sentence(comment), '')
+        page.block('text', text)
+
+    # ---- the pages
+
+    def made(self):
+        for crate in self.crates.values():
+            self.items_of(crate)
+        for name in self.crates:
+            self.laws_of(name)
+        for name in self.crates:
+            self.definitions_of(name)
+        self.fill_in()
+        for name in self.crates:
+            self.lemmas_of(name)
+        pages = {f'{name}.md': '\n'.join(page.lines) for name, page in self.pages.items()}
+        pages['README.md'] = self.front()
+        pages['index.md'] = self.index()
+        pages['modules.md'] = self.modules()
+        return {name: re.sub(r'\n{3,}', '\n\n', text).rstrip('\n') + '\n' for name, text in pages.items()}
+
+    def modules(self):
+        lines = ['# Modules', '', 'Each file of a crate, by the first sentence of its head.', '']
+        shown = list(self.crates.values()) + [Crate(self.program, name) for name in self.program.crates]
+        for crate in sorted(shown, key=lambda crate: (NAMES + PROGRAM).index(crate.name)):
+            lines += [f'## `{crate.name}`', '', '| file | what it has |', '|---|---|']
+            lines += [f"| `{'/'.join(module.path) or module.source.path.stem}.rt` | {first_sentence(head_of_file(module))} |"
+                      for module in crate.modules]
+            lines.append('')
+        return '\n'.join(lines)
+
+    def index(self):
+        rows = [f'| [`{title}`]({link}) | `{path}` | {said} |' for _, title, path, link, said in sorted(self.calls)
+                if not link.startswith('cellarcove_c.md')]
+        return '\n'.join(['# All functions', '', 'By name. The exports for C are on [their page](cellarcove_c.md).', '',
+                          '| function | import from | what it does |', '|---|---|---|', *rows])
+
+    def front(self):
+        rows = '\n'.join(f'| [`{name}`]({name}.md) | {first_sentence(head_of_file(crate.modules[0]))} |'
+                         for name, crate in self.crates.items())
+        return '\n'.join(['# Reference', '', 'Made of the sources by `scripts/make_reference.py`. Nobody edits these pages.', '',
+                          '[All functions](index.md), by name. [How to read a contract](../CONTRACTS.md), in five minutes.', '',
+                          '| crate | what it is |', '|---|---|', rows, '',
+                          '[modules.md](modules.md) lists the files of each crate.', '', '# How to read a clause', '',
+                          *TOOLCHAIN.read_text().split('\n')[1:]])
+
+
+def sentence(comment):
+    """A comment as a sentence: it begins with a capital, where that is no name, and ends with a full stop."""
+    comment = comment if comment[-1] in '.:?!' else comment + '.'
+    first = comment.split()[0]
+    return comment[0].upper() + comment[1:] if first.isalpha() and len(first) > 1 or first == 'a' else comment
+
+
+def first_sentence(lines):
+    """The first sentence of the lines, or of their first paragraph."""
+    text = ' '.join(lines).strip() if '' not in lines else ' '.join(lines[:lines.index('')]).strip()
+    return re.split(r'(?<=\.)\s', text)[0].replace('|', '\\|')
+
+
+def lemmas(file):
+    """The lemmas and rulesets of a file, each with its comment and its statement. A statement within modules has their
+    heads before it, which say what it takes first."""
+    return lemmas_in(file.read_text())
+
+
+def lemmas_in(text):
+    found, comment, modules, lines = {}, [], [], text.split('\n')
+    for i, line in enumerate(lines):
+        margin = len(line) - len(line.lstrip(' '))
+        if not line.strip():
+            comment = []
+            continue
+        modules = [(depth, head) for depth, head in modules if depth < margin]
+        if line.lstrip(' ').startswith('-- '):
+            comment = comment + [line.lstrip(' ')[3:]] if not line.lstrip(' ').startswith('-- ---- ') else []
+            continue
+        match = LEMMA.match(line.lstrip(' '))
+        if match:
+            stated = [re.sub(r'\bpub ', '', line.lstrip(' '), count=1)]
+            for more in lines[i + 1:]:
+                if len(more) - len(more.lstrip(' ')) <= margin:
+                    break
+                stated.append(more[margin:])
+            found[match.group(1) or match.group(2)] = (' '.join(comment), '\n'.join([head for _, head in modules] + stated))
+        elif line.lstrip(' ').startswith('module _ '):
+            modules.append((margin, line.strip()))
+        comment = []
+    return found
+
+
+# What is planted: a slip, its file, an old text that stands in it, a new one, and the page that then differs.
+SLIPS = (
+    ('a clause that differs', 'crates/ratio64/src/fraction.rt', 'IfErr result (λ _. den ≤ℤ pos 0)',
+     'IfErr result (λ _. den <ℤ pos 0)', 'ratio64.md'),
+    ('a definition that differs', 'crates/integer_core/specs/Divisors.antt', 'pub divides_left : Divides g a',
+     'pub divides_left : Divides a g', 'integer_core.md'),
+    ('a lemma for callers that differs', 'crates/num_integer/proofs/Coprimes.antt',
+     'pub natural_gcd_positive : {n m d : ℕ} → 0 < m', 'pub natural_gcd_positive : {n m d : ℕ} → 0 < n', 'num_integer.md'),
+    ('a doc comment that differs', 'crates/calendar/src/feasts.rt', '/// Returns', '/// Computes', 'calendar.md'),
+    ('a line of a page that differs', 'docs/reference/modular.md', 'fn inverse_modulo', 'fn modular_inverse', 'modular.md'),
+    ('an import that differs', 'docs/reference/num_integer.md', 'use num_integer::{Average,', 'use integer_core::{Average,',
+     'num_integer.md'),
+    ('an item at the place of another', 'scripts/library.py', 'public.setdefault((target.crate, target.path, target_name), place)',
+     'public.setdefault((target.crate, target.path, target_name), place[1:])', 'num_integer.md'),
+)
+
+
+def run_in(copy, *words):
+    return subprocess.run([f'{copy}/scripts/make_reference.py', *words], capture_output=True, text=True, check=False)
+
+
+def self_test():
+    """The number of slips that the comparison does not find in a copy whose pages were those of its sources. A crash or a
+    form that is refused finds nothing."""
+    missed = 0
+    with tempfile.TemporaryDirectory() as copy:
+        for part in ('crates', 'docs/reference', 'rust/by_hand', 'scripts'):
+            shutil.copytree(REPOSITORY / part, pathlib.Path(copy, part), ignore=shutil.ignore_patterns('out'))
+        made, same = run_in(copy), run_in(copy, '--check')
+        if made.returncode or same.returncode or same.stdout:
+            print('FAIL make_reference.py does not make the pages of the copy', made.stderr, same.stdout, same.stderr, sep='\n')
+            return 1
+        for slip, path, old, new, page in SLIPS:
+            file = pathlib.Path(copy, path)
+            text = file.read_text()
+            file.write_text(text.replace(old, new, 1))
+            check = run_in(copy, '--check')
+            file.write_text(text)
+            found = (old in text and check.returncode == 1 and not check.stderr
+                     and f'docs/reference/{page} differs' in check.stdout)
+            missed += not found
+            print(f'{"ok  " if found else "FAIL"} make_reference.py finds {slip}')
+    return missed
+
+
+def main():
+    if '--self-test' in sys.argv:
+        sys.exit(1 if self_test() else 0)
+    try:
+        made = Reference().made()
+    except Unknown as form:
+        print(f'make_reference.py: {form}', file=sys.stderr)
+        sys.exit(2)
+    if '--check' not in sys.argv:
+        PAGES.mkdir(parents=True, exist_ok=True)
+        for page in PAGES.glob('*.md'):
+            page.unlink()
+        for name, text in made.items():
+            (PAGES / name).write_text(text)
+        return
+    there = {page.name: page.read_text() for page in PAGES.glob('*.md')}
+    differing = sorted(name for name in made.keys() | there.keys() if made.get(name) != there.get(name))
+    for name in differing:
+        print(f'docs/reference/{name} differs from the sources: run scripts/make_reference.py')
+    sys.exit(1 if differing else 0)
+
+
+if __name__ == '__main__':
+    main()
