@@ -121,15 +121,17 @@ static int beyond(PyObject *number, char kind) {
     return -1;
 }
 
+/* Whether an object is an `int`. */
+static bool is_int(PyObject *object) { return Py_TYPE(object) == &PyLong_Type || PyLong_Check(object); }
+
 /* Reads an integer into a cell. It is 1 if the number is above 2**63 - 1, and 2 if it fits no 64 bits. */
 static int integer(PyObject *object, cell *to) {
-    int overflow;
-    PyObject *number = PyLong_Check(object) ? (Py_INCREF(object), object) : PyNumber_Index(object);
+    int overflow, said;
+    PyObject *number = is_int(object) ? (Py_INCREF(object), object) : PyNumber_Index(object);
     if (number == NULL) {
         return -1;
     }
     long long value = PyLong_AsLongLongAndOverflow(number, &overflow);
-    int said = 0;
     if (overflow == 0) {
         to->i = value;
         said = value == -1 && PyErr_Occurred() ? -1 : 0;
@@ -168,7 +170,7 @@ static int is_negative(PyObject *object) {
 
 /* Whether an object is an array, and no number. Those of numpy are both. */
 static bool is_array(PyObject *object) {
-    if (PyLong_Check(object) || !PyObject_CheckBuffer(object)) {
+    if (is_int(object) || !PyObject_CheckBuffer(object)) {
         return false;
     }
     Py_buffer view;
@@ -255,7 +257,7 @@ static PyObject *refused(uint32_t status, bool by_zero) {
 static PyObject *run_one(const call *c, PyObject **objects, Py_ssize_t count) {
     cell cells[MAX_CELLS];
     int said[MAX_CELLS];
-    bool negative = false, large = false;
+    bool negative = false;
     for (Py_ssize_t k = 0; k < count; k++) {
         said[k] = integer(objects[k], &cells[k]);
         if (said[k] < 0) {
@@ -263,7 +265,6 @@ static PyObject *run_one(const call *c, PyObject **objects, Py_ssize_t count) {
         }
         if (c->follows[k]) {
             negative |= said[k] == 2 ? is_negative(objects[k]) != 0 : said[k] == 0 && cells[k].i < 0;
-            large |= said[k] != 0;
         }
     }
     const form *f = c->only != NULL ? c->only : negative ? c->forms_i64 : c->forms_u64;
@@ -528,7 +529,7 @@ static PyObject *run(const call *c, PyObject *const *args, Py_ssize_t count, PyO
         }
     }
     for (Py_ssize_t k = 0; k < cells; k++) {
-        arrays |= !PyLong_Check(objects[k]) && is_array(objects[k]);
+        arrays |= !is_int(objects[k]) && is_array(objects[k]);
     }
     if (arrays) {
         result = run_many(c, objects, cells, out);
