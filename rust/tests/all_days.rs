@@ -82,7 +82,10 @@ fn each_day() {
         }
         last = Some(found);
     }
-    assert_eq!(last.and_then(|date| date.day_number()), Some(FIRST + 4 * ERA - 1));
+    assert_eq!(
+        last.and_then(|date| date.day_number()),
+        Some(FIRST + 4 * ERA - 1)
+    );
 }
 
 #[test]
@@ -153,7 +156,10 @@ fn each_day_at_the_ends() {
     );
     for day in i64::MIN..i64::MIN + ERA {
         let mirrored = -1 - day;
-        assert_eq!((Date::from_day_number(day), first.day_number()), (first, Some(day)));
+        assert_eq!(
+            (Date::from_day_number(day), first.day_number()),
+            (first, Some(day))
+        );
         assert_eq!(
             (Date::from_day_number(mirrored), last.day_number()),
             (last, Some(mirrored))

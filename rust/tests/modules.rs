@@ -5,8 +5,8 @@ use cellarcove::counted::{extended_gcd_counted, GcdCounted, SqrtCounted};
 use cellarcove::modular::{chinese_remainder, counted, inverse_modulo, product_modulo, residue};
 use cellarcove::ratio64::{ParseRatioError, Ratio, RatioError};
 use cellarcove::schedules::{next_meeting, CommonSolution};
-use cellarcove::{halving, layout, paging, powers, ranking, rolling_hash::RollingHash};
 use cellarcove::{binomial, operators, Integer, Roots};
+use cellarcove::{halving, layout, paging, powers, ranking, rolling_hash::RollingHash};
 use std::panic::catch_unwind;
 
 #[test]
