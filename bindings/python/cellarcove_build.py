@@ -26,7 +26,8 @@ EXTENSION = '_calls.abi3.so'
 VENDOR = HERE / 'vendor'
 ROOT = VENDOR if VENDOR.is_dir() else HERE.parents[1]
 LICENCES = ('LICENSE-APACHE', 'LICENSE-MIT')
-VENDORED = ('bindings/build', 'bindings/c/cellarcove.h', 'rust/Cargo.toml', 'rust/src', 'rust/c/Cargo.toml', 'rust/c/src', *LICENCES)
+VENDORED = ('bindings/build', 'bindings/c/cellarcove.h', *sorted(f'rust/{path.name}' for path in (ROOT / 'rust').glob('*.*') if path.is_file()),
+            'rust/src', 'rust/c/Cargo.toml', 'rust/c/src', *LICENCES)
 
 
 def archive_of_calls():
