@@ -43,7 +43,7 @@ small_alone {a} {b} {g} {x} {y} greatest divides nonzero h =
 
 -- ---- the answer
 
--- where b is 0
+-- if b is 0
 pub answer_for_zero : {a b : ℤ} → b ≡ pos 0 → IsBezoutAnswer a b (sign a *ℤ a) (sign a *ℤ pos 1) (sign a *ℤ pos 0)
 answer_for_zero {a} {b} none = record {
   greatest = rw (sign_size a, none) (gcd-zero a);
@@ -77,7 +77,7 @@ answer_of_loop {a} {b} {r} nonzero greatest at_once after_turns =
       both = λ needs. small needs.not_second;
     }
 
--- where it needs both operands, no other pair is as small
+-- if it needs both operands, no other pair is as small
 pub only_answer : {a b g x y : ℤ} → IsBezoutAnswer a b g x y → NeedsBoth a b → IsOnly (λ (z, w). IsSmallPair a b g z w) (x, y)
 only_answer {b = b} h needs =
     let nonzero : b ≢ pos 0 = λ none. needs.not_first (inl none) in

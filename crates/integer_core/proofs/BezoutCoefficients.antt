@@ -46,7 +46,7 @@ module _ {m current previous x previous_x q r : ℤ} (weighed : IsWeighed m curr
       half : (z : ℤ) → unsigned_abs (z *ℤ current) ≤ unsigned_abs m → 2 * unsigned_abs z ≤ unsigned_abs m
       half z small = omega (arith, unsigned_abs-mul z current, mul-le-mul_left (unsigned_abs z) two)
 
--- at the end, where the current remainder divides the previous one, so is the coefficient times it
+-- at the end, when the current remainder divides the previous one, so is the coefficient times it
 pub last_half : {m current previous x previous_x : ℤ} → IsWeighed m current previous x previous_x → Divides current previous
     → unsigned_abs current < unsigned_abs previous → 2 * unsigned_abs x * unsigned_abs current ≤ unsigned_abs m
 last_half {previous = previous} {x = x} h ends less =

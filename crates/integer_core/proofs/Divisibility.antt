@@ -1,4 +1,4 @@
--- Divisors of whole numbers.
+-- Divisors of integers.
 use Rattle.std.specs.Prelude.{◌≡◌, ◌≢◌, ◌/◌, ◌≤ℤ◌, ◌+ℤ◌, ◌-ℤ◌, ◌*ℤ◌, ℤ, pos, negsuc, neg_ℤ, unsigned_abs, int_div}
 use Rattle.std.proofs.Common.{arith, sym, ◌∙◌, ap}
 use Rattle.std.proofs.lemmas.Int.{ints, unsigned_abs-mul}
@@ -29,7 +29,7 @@ zero_divides h = omega (arith, products)
 pub Divides-minus_one : (v : ℤ) → Divides (negsuc 0) v
 Divides-minus_one v = record { factor = neg_ℤ v; product = omega (arith, products) }
 
--- two numbers at least 0 that divide each other
+-- two non-negative numbers that divide each other
 pub Divides-antisym : {u v : ℤ} → pos 0 ≤ℤ u → pos 0 ≤ℤ v → Divides u v → Divides v u → u ≡ v
 Divides-antisym up up' h k = let same = dvd_antisymm (to_natural h) (to_natural k) in omega (arith, sizes)
 
@@ -62,7 +62,7 @@ divides_number {q = q} x h k = record { factor = q *ℤ h.factor +ℤ k.factor; 
 pub divides_remainder : {g n d q r : ℤ} → IsDivision n d q r → Divides g n → Divides g d → Divides g r
 divides_remainder {q = q} x h k = record { factor = h.factor -ℤ q *ℤ k.factor; product = rest_is x ∙ simp (h.product, k.product, expand) (omega (arith, linear)) }
 
--- a number leaves no remainder exactly where the divisor divides it
+-- a number leaves no remainder exactly if the divisor divides it
 pub exact_from_divides : {n d q r : ℤ} → IsDivision n d q r → Divides d n → r ≡ pos 0
 exact_from_divides {n} {d} {q} {r} x h =
     let k = divides_remainder x h (Divides-refl d) in

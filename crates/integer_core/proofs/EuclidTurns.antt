@@ -26,14 +26,14 @@ truncated_size {n} {d} {q} {r} h =
     let division = h.division in
     omega (arith, linear, abs_is, h.sign, unsigned_abs-mul q d, multiple_size (unsigned_abs q) (unsigned_abs d))
 
--- where d does not divide n, something is left
+-- if d does not divide n, the remainder is not 0
 pub inexact : {n d q r : ℤ} → IsTruncated n d q r → ¬ (Divides d n) → r ≢ pos 0
 inexact h goes_on exact = goes_on (divides_from_exact h.division exact)
 
 pub one_divides : (n : ℤ) → Divides (pos 1) n
 one_divides n = record { factor = n; product = omega (arith, products) }
 
--- where d does not divide n, it is not 1 or -1
+-- if d does not divide n, it is not 1 or -1
 pub not_one : {n d : ℤ} → ¬ (Divides d n) → d ≢ pos 0 → 2 ≤ unsigned_abs d
 not_one {n} {d} goes_on nonzero = lt_of_not-le (λ less.
     let one : unsigned_abs d ≡ 1 = omega (arith, linear, abs_is) in

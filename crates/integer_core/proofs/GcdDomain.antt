@@ -1,4 +1,4 @@
--- In a type without negatives each greatest common divisor fits.
+-- In a type without negative numbers each greatest common divisor fits.
 use Rattle.std.specs.Prelude.{◌≡◌, ◌↔◌, ℤ, pos, negsuc}
 use Rattle.std.proofs.Common.{arith, inl, inr}
 use Rattle.integer_core.proofs.CommonDivisors.{only_gcd, gcd-zero}

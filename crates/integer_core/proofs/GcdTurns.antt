@@ -10,7 +10,7 @@ use Rattle.integer_core.proofs.Runs.{only_turns}
 use Rattle.integer_core.proofs.Whole.{linear}
 use Rattle.integer_core.specs.GcdRuns.{AreGcdTurns, GcdEnds, IsBitLength, IsGcdTurn, IsOddPart, IsZeroOrLeast, MakesGcdRun, OddPair}
 use Rattle.integer_core.specs.Only.{IsOnly}
-use Rattle.integer_core.specs.Runs.{Makes}
+use Rattle.integer_core.specs.Runs.{RunHasTurns}
 
 -- ---- the turns are the only ones
 
@@ -21,7 +21,7 @@ odd_part_divides {n} {k} {m} h i =
 only_odd_part : {n m : ℕ} → IsOddPart n m → IsOnly (IsOddPart n) m
 only_odd_part h k i = dvd_antisymm (odd_part_divides i h) (odd_part_divides h i)
 
--- a state goes on by the one difference that is above 0
+-- a state goes on by the one difference that is positive
 only_gcd_turn : (s t : OddPair) → IsGcdTurn s t → IsOnly (IsGcdTurn s) t
 only_gcd_turn s t h u i =
     let same : (u.m ≡ t.m) × (u.n ≡ t.n) = elim h [
@@ -42,7 +42,7 @@ no_gcd_turn s t ends h = grind arith
 only_gcd_run : {a b n : ℕ} → MakesGcdRun a b n → IsOnly (MakesGcdRun a b) n
 only_gcd_run h m i =
     let first : i.first ≡ h.first = λ k. record { m = only_odd_part h.left i.first.m i.left k; n = only_odd_part h.right i.first.n i.right k } in
-    only_turns only_gcd_turn no_gcd_turn h.run m (subst (λ (s : OddPair). Makes IsGcdTurn GcdEnds s m) first i.run)
+    only_turns only_gcd_turn no_gcd_turn h.run m (subst (λ (s : OddPair). RunHasTurns IsGcdTurn GcdEnds s m) first i.run)
 
 zero_or_least : (low x : ℤ) → IsZeroOrLeast low x ⊎ (¬ (IsZeroOrLeast low x))
 zero_or_least low x = grind (arith, linear)

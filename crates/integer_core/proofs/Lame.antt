@@ -5,7 +5,7 @@ use Rattle.std.proofs.Math.Nat.{lt_of_not-le, pow-succ'}
 use Rattle.integer_core.specs.Bezout.{Remainders, IsEuclidTurn, EuclidEnds}
 use Rattle.integer_core.specs.Divisors.{Divides}
 use Rattle.integer_core.specs.Fibonacci.{fibonacci}
-use Rattle.integer_core.specs.Runs.{IsRun, Makes}
+use Rattle.integer_core.specs.Runs.{IsRun, RunHasTurns}
 use Rattle.integer_core.proofs.EuclidTurns.{truncated_size, divisor_size, twice, inexact, multiple_size, one_divides}
 use Rattle.integer_core.proofs.Divisibility.{divides_remainder}
 use Rattle.integer_core.proofs.Whole.{linear}
@@ -34,7 +34,7 @@ large (t ∷ rest) s g nonzero run left right =
     }
 
 -- n turns from (b, a) take a b of at least F(n + 2) times the gcd
-pub lame : {a b : ℤ} {n : ℕ} (g : ℕ) → b ≢ pos 0 → Makes IsEuclidTurn EuclidEnds (record { current = b; previous = a }) n
+pub lame : {a b : ℤ} {n : ℕ} (g : ℕ) → b ≢ pos 0 → RunHasTurns IsEuclidTurn EuclidEnds (record { current = b; previous = a }) n
     → Divides (pos g) a → Divides (pos g) b → fibonacci (suc (suc n)) * g ≤ unsigned_abs b
 lame {b = b} g nonzero makes left right =
     subst (λ (n : ℕ). fibonacci (suc (suc n)) * g ≤ unsigned_abs b) makes.turns (large makes.rest _ g nonzero makes.run right left).lower
@@ -52,7 +52,7 @@ fibonacci_doubled (suc k) zero h = absurd (omega arith)
 fibonacci_doubled (suc k) (suc zero) h = absurd (omega arith)
 fibonacci_doubled (suc k) (suc (suc n)) h = rw pow-succ' (omega (arith, fibonacci_doubled k n (omega arith)))
 
-pub few_turns : {a b : ℤ} {n : ℕ} (k : ℕ) → b ≢ pos 0 → Makes IsEuclidTurn EuclidEnds (record { current = b; previous = a }) n
+pub few_turns : {a b : ℤ} {n : ℕ} (k : ℕ) → b ≢ pos 0 → RunHasTurns IsEuclidTurn EuclidEnds (record { current = b; previous = a }) n
     → unsigned_abs b < 2 ^ k → n < k + k
 few_turns {n = n} k nonzero makes small = lt_of_not-le (λ more.
     omega (arith, fibonacci_doubled k n more, lame 1 nonzero makes (one_divides _) (one_divides _)))

@@ -10,7 +10,7 @@ use Rattle.integer_core.proofs.CommonDivisors.{gcd-times}
 use Rattle.integer_core.proofs.Divisibility.{from_natural, to_natural}
 use Rattle.integer_core.specs.Divisors.{IsGreatestCommonDivisor}
 
--- the gcd of whole numbers is that of their magnitudes
+-- the gcd of integers is that of their magnitudes
 pub gcd_of_sizes : (a b : ℤ) {g : ℕ} → IsGcd (unsigned_abs a) (unsigned_abs b) g → IsGreatestCommonDivisor a b (pos g)
 gcd_of_sizes a b h = record {
   from_zero = omega (arith, ints);
@@ -50,7 +50,7 @@ odd_divisor d n h odd = omega (
       omega (arith, mod-eq-zero_of_dvd 2 (dvd_trans 2 (dvd_of_mod-eq-zero 2 even) h))),
 )
 
--- factors of two on one side do not matter where the other is odd
+-- factors of two on one side do not matter if the other is odd
 pub gcd_strip : {m n g : ℕ} (k : ℕ) → n % 2 ≡ 1 → IsGcd m n g → IsGcd (m * 2 ^ k) n g
 gcd_strip {m} {n} {g} k odd h = (dvd-mul_right_of_dvd g h.0 (2 ^ k), h.1, λ d p q. h.2 d (odd_divides d m k (odd_divisor d n q odd) p) q)
 

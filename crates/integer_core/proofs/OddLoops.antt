@@ -1,11 +1,9 @@
 -- What both loops on two odd numbers keep, at each step of them.
 use Rattle.std.specs.Prelude.{◌≡◌, ◌+◌, ◌%◌, ◌^◌, ◌<◌, ℕ}
-use Rattle.std.specs.Int.{Width}
 use Rattle.std.proofs.Common.{arith, refl, List, [], ◌∷◌, map, inl, inr, sym, ◌∙◌}
 use Rattle.std.proofs.lemmas.List.{length-map}
-use Rattle.num_traits.specs.Laws.{bit_len}
 use Rattle.integer_core.specs.GcdRuns.{exchanged, GcdEnds, IsGcdTurn, IsOddGcd, IsOrderedTurn, OddPair}
-use Rattle.integer_core.specs.Runs.{IsRun, Makes}
+use Rattle.integer_core.specs.Runs.{IsRun, RunHasTurns}
 use Rattle.integer_core.proofs.OddParts.{Turning, turning_ends, turning_small, turning_turn, turns_fit}
 use Rattle.integer_core.proofs.Runs.{Reaches, reaches_first, reaches_instead, reaches_last, reaches_turn}
 use Rattle.integer_core.proofs.SteinSteps.{gcd_of_same}
@@ -21,7 +19,7 @@ exchanged_run : (s : OddPair) (rest : List OddPair) → IsRun IsGcdTurn GcdEnds 
 exchanged_run s [] h = sym h
 exchanged_run s (t ∷ rest) h = (exchanged_turn s t h.0, exchanged_run t rest h.1)
 
-exchanged_makes : {s : OddPair} {n : ℕ} → Makes IsGcdTurn GcdEnds s n → Makes IsGcdTurn GcdEnds (exchanged s) n
+exchanged_makes : {s : OddPair} {n : ℕ} → RunHasTurns IsGcdTurn GcdEnds s n → RunHasTurns IsGcdTurn GcdEnds (exchanged s) n
 exchanged_makes {s} h = record {
   rest = map exchanged h.rest;
   run = exchanged_run s h.rest h.run;
@@ -72,5 +70,5 @@ module _ {a b : ℕ} where
     }
 
     -- a turn more can be counted
-    pub loop_counts : (w : Width) → a < 2 ^ bit_len w → b < 2 ^ bit_len w → t + 1 < 2 ^ 32
-    loop_counts w a_fits b_fits = turns_fit w t (turning_ends v.kept) a_fits b_fits
+    pub loop_counts : a < 2 ^ 128 → b < 2 ^ 128 → t + 1 < 2 ^ 32
+    loop_counts a_fits b_fits = turns_fit t (turning_ends v.kept) a_fits b_fits

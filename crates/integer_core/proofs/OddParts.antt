@@ -2,8 +2,9 @@
 use Rattle.std.proofs.Common.{◌≡◌, ℕ, zero, suc, ◌+◌, ◌-◌, ◌*◌, ◌/◌, ◌%◌, ◌^◌, ◌<◌, ◌≤◌, inl, inr, refl, sym, ◌∙◌, ap, arith, mul-one, div-one, add-one, mul-le-mul_right, mul-pos, pow_mono, pow_pos, pow-add, le-mul_of_pos_right}
 use Rattle.std.proofs.Math.Nat.{pow-succ', div-div-eq-div-mul, lt_of_not-le}
 use lib.Count.{count_trailing_zeros, under}
-use Rattle.std.specs.Int.{IsGcd, Width}
-use Rattle.num_traits.specs.Ints.{pow-bit_len}
+use Rattle.std.specs.Int.{IsGcd, Width, w8, w16, w32, w64, w128, trailing_zeros}
+use Rattle.std.proofs.lemmas.Nat.Bits.{bit_at-trailing_zeros}
+use mir.Val.{bits}
 use Rattle.num_traits.specs.Laws.{bit_len}
 use Rattle.std.proofs.lemmas.Nat.{mul-lt}
 use Rattle.std.proofs.lemmas.Nat.Gcd.{IsGcd-from_sub, IsGcd-swap}
@@ -23,6 +24,26 @@ pub shift_back : (k n : ℕ) → n / 2 ^ count_trailing_zeros k n * 2 ^ count_tr
 unfolding count_trailing_zeros
 shift_back zero n = mul-one (n / 1) ∙ div-one n
 shift_back (suc k) n = back_under n (n % 2) (count_trailing_zeros k (n / 2)) refl (shift_back k (n / 2))
+
+pub width : (w : Width) → bits w ≡ bit_len w
+width w8 = refl
+width w16 = refl
+width w32 = refl
+width w64 = refl
+width w128 = refl
+
+pub twos_few : (w : Width) {n : ℕ} → 0 < n → n < 2 ^ bit_len w → trailing_zeros w n < bit_len w
+twos_few w positive fits = rw (width w) at ((bit_at-trailing_zeros w _ positive (rw (width w) fits)).0)
+
+-- a shift by the trailing zeros leaves the odd part
+pub odd_part_by_shift : (w : Width) {n k : ℕ} → 0 < n → n < 2 ^ bit_len w → k ≡ trailing_zeros w n → (n / 2 ^ k % 2 ≡ 1) × (n ≡ n / 2 ^ k * 2 ^ k)
+odd_part_by_shift w {n} positive fits twos = rw twos ((bit_at-trailing_zeros w n positive (rw (width w) fits)).1, sym (shift_back (bits w) n))
+
+-- a shift that keeps its number in the range
+pub shift_few : (m k bits : ℕ) → 0 < m → m * 2 ^ k < 2 ^ bits → k < bits
+shift_few m k bits positive fits = lt_of_not-le (λ many.
+    let wide = pow_mono {i = bits} {j = k} many in
+    omega (arith, mul-le-mul_right {m = 1} {n = m} (2 ^ k) positive))
 
 -- an even number has at least one factor 2
 times_half : (n m k : ℕ) → m % 2 ≡ 1 → n ≡ m * 2 ^ k → n % 2 ≡ 0 → 2 * m ≤ n
@@ -89,6 +110,6 @@ few_turns {a} {b} {t} k l least a_fits b_fits = omega (
       omega (arith, least, mul-lt a b (2 ^ k) (2 ^ l) a_fits b_fits, pow-add 2 k l)),
 )
 
--- at each width, and so a turn more can be counted
-pub turns_fit : (w : Width) (t : ℕ) {a b : ℕ} → 2 ^ t ≤ a * b → a < 2 ^ bit_len w → b < 2 ^ bit_len w → t + 1 < 2 ^ 32
-turns_fit w t least a_fits b_fits = let wide = pow-bit_len w in omega (arith, few_turns 128 128 least (omega arith) (omega arith))
+-- numbers of 128 bits take so few turns that one more can be counted
+pub turns_fit : (t : ℕ) {a b : ℕ} → 2 ^ t ≤ a * b → a < 2 ^ 128 → b < 2 ^ 128 → t + 1 < 2 ^ 32
+turns_fit t least a_fits b_fits = omega (arith, few_turns 128 128 least a_fits b_fits)

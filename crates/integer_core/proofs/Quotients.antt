@@ -1,4 +1,4 @@
--- Quotients and remainders by their definition: they exist, they are the only ones, and where they fit.
+-- Quotients and remainders by their definition: they exist, they are the only ones, and when they fit.
 use Rattle.std.specs.Prelude.{◌≡◌, ◌≢◌, ◌⊎◌, ◌<◌, ◌≤◌, ◌+◌, ◌*◌, ◌+ℤ◌, ◌-ℤ◌, ◌*ℤ◌, ℤ, pos, negsuc, neg_ℤ, unsigned_abs, suc, int_div, int_rem}
 use Rattle.std.proofs.Common.{arith, ◌∙◌, inl, inr, subst}
 use Rattle.std.proofs.lemmas.Int.{ints, unsigned_abs-mul, quot-rem, rem_below}
@@ -98,7 +98,7 @@ ceiled_exists n d nonzero =
 pub division_exists : EachKind (λ Kind. (n d : ℤ) → d ≢ pos 0 → (q r : ℤ) × Kind n d q r)
 division_exists = (λ n d nonzero. (_, _, truncated_is n d nonzero), floored_exists, ceiled_exists)
 
--- ---- where they fit
+-- ---- when they fit
 
 module _ {fits : ℤ → Type 0} {low high n d : ℤ} (range : IsRange fits low high) (n_fits : fits n) (d_fits : fits d) where
   -- any quotient by 2 or more in magnitude fits
@@ -123,7 +123,7 @@ module _ {fits : ℤ → Type 0} {low high n d : ℤ} (range : IsRange fits low 
     | inr far ↦ far_quotient_fits (omega (arith, sizes)) division
   ]
 
-  -- so a quotient fits where the exact quotient does
+  -- so a quotient fits if the exact quotient does
   exact_or_fits : {q r : ℤ} → IsDivision n d q r → (r ≡ pos 0 → fits q) → fits q
   exact_or_fits {r = r} division where_exact = elim (zero_or_not r) [ inl exact ↦ where_exact exact | inr inexact ↦ inexact_quotient_fits division inexact ]
 

@@ -1,7 +1,7 @@
 -- What fits, by the range of a type.
-use Rattle.std.specs.Prelude.{◌≡◌, ◌⊎◌, ℕ, ℤ, pos, unsigned_abs}
+use Rattle.std.specs.Prelude.{◌≡◌, ◌⊎◌, ◌≤ℤ◌, ◌<ℤ◌, ◌+ℤ◌, ◌-ℤ◌, ℕ, ℤ, pos, unsigned_abs}
 use Rattle.std.specs.Int.{Width}
-use Rattle.std.proofs.Common.{arith, subst}
+use Rattle.std.proofs.Common.{◌∙◌, arith, subst}
 use Rattle.integer_core.proofs.Whole.{linear, sizes}
 use Rattle.integer_core.specs.Between.{Between}
 use Rattle.integer_core.specs.Divisors.{IsLeastCommonMultiple}
@@ -12,13 +12,28 @@ use Rattle.integer_core.specs.Range.{IsRange, EachFits}
 abbrev pub LiesWithin : ℤ → ℤ → Type 0
 LiesWithin n z = Between (pos 0) n z ⊎ Between n (pos 0) z
 
--- what lies between 0 and a number that fits
+-- a number between 0 and a number that fits
 pub within_fits : {fits : ℤ → Type 0} {low high n z : ℤ} → IsRange fits low high → fits n → LiesWithin n z → fits z
 within_fits {n = n} {z = z} range n_fits within = (range.between z).1 (omega (arith, linear, (range.between n).0 n_fits))
 
--- an lcm that fits is a magnitude
-pub lcm_is_magnitude : {w : Width} {number : ℕ → ℤ} {fits wide : ℤ → Type 0} {low high a b l : ℤ} → IsNative w number fits low high wide → EachFits fits (IsLeastCommonMultiple a b)
-    → IsLeastCommonMultiple a b l → wide l
-lcm_is_magnitude {wide = wide} {l = l} native each h =
-    let same : pos (unsigned_abs l) ≡ l = omega (arith, sizes) in
-    subst wide same (native.magnitude l (each l h))
+-- the distance of a negative number from -1
+pub distance_fits : {fits : ℤ → Type 0} {low high x : ℤ} → IsRange fits low high → fits x → x <ℤ pos 0 → fits (pos 0 -ℤ (x +ℤ pos 1))
+distance_fits {x = x} range x_fits negative = (range.between _).1 (omega (arith, linear, range.low_end, (range.between x).0 x_fits))
+
+module _ {w : Width} {number : ℕ → ℤ} {fits wide : ℤ → Type 0} {low high : ℤ} (native : IsNative w number fits low high wide) where
+  -- a number of the type that is not negative is a magnitude
+  natural_is_magnitude : {z : ℤ} → pos 0 ≤ℤ z → fits z → wide z
+  natural_is_magnitude {z} up z_fits =
+      let same : pos (unsigned_abs z) ≡ z = omega (arith, sizes) in
+      subst wide same (native.magnitude z z_fits)
+
+  -- an lcm that fits is a magnitude
+  pub lcm_is_magnitude : {a b l : ℤ} → EachFits fits (IsLeastCommonMultiple a b) → IsLeastCommonMultiple a b l → wide l
+  lcm_is_magnitude each h = natural_is_magnitude h.from_zero (each _ h)
+
+  -- the magnitude of a negative number x is one more than its distance d from -1, which a cast turns into m
+  pub magnitude_by_distance : {wrap : ℤ → ℤ} {x d m : ℤ} → ((z : ℤ) → wide z → wrap z ≡ z) → d ≡ (pos 0 -ℤ (x +ℤ pos 1)) → fits d → x <ℤ pos 0 → m ≡ wrap d
+      → (m +ℤ pos 1) ≡ pos (unsigned_abs x)
+  magnitude_by_distance {d = d} wraps d_is d_fits negative m_is =
+      let same = m_is ∙ wraps d (natural_is_magnitude (omega (arith, linear, d_is)) d_fits) in
+      omega (arith, sizes, same, d_is)

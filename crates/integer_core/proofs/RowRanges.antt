@@ -18,7 +18,7 @@ use Rattle.integer_core.specs.Division.{IsTruncated}
 use Rattle.integer_core.specs.Divisors.{Divides}
 use Rattle.integer_core.specs.Range.{IsRange}
 
--- a coefficient fits, and its negative too where the type has negatives
+-- a coefficient fits, and so does its negation if the type has negative numbers
 pub record IsCoefficient (fits : ℤ → Type 0) (high z : ℤ) : Type 0 where
   pub in_range : fits z
   pub small : unsigned_abs z ≤ unsigned_abs high
@@ -44,7 +44,7 @@ module _ {fits : ℤ → Type 0} {low high : ℤ} (range : IsRange fits low high
   pub first_fits : {a : ℤ} → fits a → CoefficientsFit fits high (of_first a)
   first_fits a_fits = record { remainder = a_fits; x = one_fits; y = zero_fits }
 
-  -- at most half of a number, where the type has negatives
+  -- at most half of a number, if the type has negative numbers
   half_fits : {n z : ℤ} → low ≢ pos 0 → fits n → 2 * unsigned_abs z ≤ unsigned_abs n → IsCoefficient fits high z
   half_fits {n} signed n_fits half =
       let n_in = (range.between n).0 n_fits in

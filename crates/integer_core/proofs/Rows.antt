@@ -14,7 +14,7 @@ use Rattle.integer_core.specs.Bezout.{EuclidEnds, IsEuclidTurn, IsSmallPair}
 use Rattle.integer_core.specs.Division.{IsTruncated}
 use Rattle.integer_core.specs.Divisors.{Divides, IsGreatestCommonDivisor}
 
--- a row of the code, in whole numbers
+-- a row of the code, in integers
 pub record Row : Type 0 where
   pub remainder : ℤ
   pub x : ℤ
@@ -75,7 +75,7 @@ module _ {a b : ℤ} {current previous : Row} {t : ℕ} (h : Rows a b current pr
     });
   }
 
-  -- at the end, where the current remainder divides the previous one
+  -- at the end, when the current remainder divides the previous one
   pub last_gcd : Divides current.remainder previous.remainder → IsGreatestCommonDivisor a b (pos (unsigned_abs current.remainder))
   last_gcd ends = h.greatest _ (gcd-divisor ends)
 
@@ -92,7 +92,7 @@ module _ {a b : ℤ} {current previous : Row} {t : ℕ} (h : Rows a b current pr
     }
   ]
 
--- the rows where the loop ends
+-- the rows at which the loop ends
 pub record LastRows (a b : ℤ) : Type 0 where
   pub current : Row
   pub previous : Row

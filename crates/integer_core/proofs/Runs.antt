@@ -1,11 +1,11 @@
 -- The runs of a loop: its invariant on them, and that each is the only one from its first state.
 use Rattle.std.proofs.Common.{◌≡◌, ℕ, ◌+◌, List, [], ◌∷◌, length, refl, subst, arith}
 use Rattle.integer_core.specs.Only.{IsOnly}
-use Rattle.integer_core.specs.Runs.{IsRun, Makes}
+use Rattle.integer_core.specs.Runs.{IsRun, RunHasTurns}
 
 -- n turns lead from the first state to s: whatever makes m turns from s makes n more from the first
 pub record Reaches {S : Type 0} (turn : S → S → Type 0) (ends : S → Type 0) (first s : S) (n : ℕ) : Type 0 where
-  pub onward : (m k : ℕ) → k ≡ n + m → Makes turn ends s m → Makes turn ends first k
+  pub onward : (m k : ℕ) → k ≡ n + m → RunHasTurns turn ends s m → RunHasTurns turn ends first k
 
 module _ {S : Type 0} {turn : S → S → Type 0} {ends : S → Type 0} where
   pub reaches_first : {first : S} → Reaches turn ends first first 0
@@ -17,14 +17,14 @@ module _ {S : Type 0} {turn : S → S → Type 0} {ends : S → Type 0} where
   }
 
   -- a second state reached that each run from s can begin with instead
-  pub reaches_instead : {first s t : S} {n : ℕ} → Reaches turn ends first s n → ((m : ℕ) → Makes turn ends t m → Makes turn ends s m)
+  pub reaches_instead : {first s t : S} {n : ℕ} → Reaches turn ends first s n → ((m : ℕ) → RunHasTurns turn ends t m → RunHasTurns turn ends s m)
       → Reaches turn ends first t n
   reaches_instead h instead = record { onward = λ m k e i. h.onward m k e (instead m i) }
 
-  pub reaches_last : {first s : S} {n : ℕ} → Reaches turn ends first s n → ends s → Makes turn ends first n
+  pub reaches_last : {first s : S} {n : ℕ} → Reaches turn ends first s n → ends s → RunHasTurns turn ends first n
   reaches_last {n = n} h is_end = h.onward 0 n (omega arith) (record { rest = []; run = is_end; turns = refl })
 
-  -- where a state has at most one turn, and an end none, a state makes one number of turns alone
+  -- if each state has at most one turn, and an end has no turn, every run from a state has the same number of turns
   module _ (one_turn : (s t : S) → turn s t → IsOnly (turn s) t) (no_turn : (s t : S) → ends s → ¬ (turn s t)) where
     one_length : (s : S) (xs ys : List S) → IsRun turn ends (s ∷ xs) → IsRun turn ends (s ∷ ys) → length xs ≡ length ys
     one_length s [] [] h i = refl
@@ -33,5 +33,5 @@ module _ {S : Type 0} {turn : S → S → Type 0} {ends : S → Type 0} where
     one_length s (t ∷ xs) (u ∷ ys) h i =
         omega (arith, one_length t xs ys h.1 (subst (λ (v : S). IsRun turn ends (v ∷ ys)) (one_turn s t h.0 u i.0) i.1))
 
-    pub only_turns : {first : S} {n : ℕ} → Makes turn ends first n → IsOnly (Makes turn ends first) n
+    pub only_turns : {first : S} {n : ℕ} → RunHasTurns turn ends first n → IsOnly (RunHasTurns turn ends first) n
     only_turns {first} h m i = omega (arith, one_length first h.rest i.rest h.run i.run, h.turns, i.turns)

@@ -1,21 +1,20 @@
 -- The last bits that two numbers share: their difference has as many factors 2.
 use Rattle.std.specs.Prelude.{bit_xor}
-use Rattle.std.proofs.Common.{◌≡◌, ℕ, ◌+◌, ◌-◌, ◌*◌, ◌/◌, ◌%◌, ◌^◌, ◌<◌, sym, ◌∙◌, ap, arith, pow_pos, mul-le-mul_right}
+use Rattle.std.proofs.Common.{◌≡◌, ℕ, ◌+◌, ◌-◌, ◌*◌, ◌/◌, ◌%◌, ◌^◌, ◌<◌, refl, sym, ◌∙◌, ap, arith, pow_pos, mul-le-mul_right}
 use Rattle.std.specs.Int.{Width, trailing_zeros}
 use Rattle.std.specs.Int.Bits.{xor_add_and}
-use Rattle.std.proofs.lemmas.Nat.{xor_mod, and_le_l, and_le_r, div-add-mod'}
-use Rattle.std.proofs.lemmas.Nat.Bits.{bit_at_xor, bit_at-trailing_zeros}
+use Rattle.std.proofs.lemmas.Nat.{xor_lt, xor_mod, and_le_l, and_le_r, div-add-mod'}
+use Rattle.std.proofs.lemmas.Nat.Bits.{bit_at_xor}
 use Rattle.std.proofs.Math.Nat.{lt_of_not-le, mul-mod_left, mul-div_cancel}
 use Rattle.num_traits.specs.Laws.{bit_len}
 use Rattle.integer_core.specs.GcdRuns.{IsOddPart}
-use Rattle.integer_core.proofs.OddParts.{shift_back}
-use Rattle.integer_core.proofs.SteinSteps.{width}
+use Rattle.integer_core.proofs.OddParts.{odd_part_by_shift, shift_back, twos_few}
 use mir.Val.{bits}
 
 all_shared : (a b : ℕ) → bit_xor a b ≡ 0 → a ≡ b
 all_shared a b none = omega (arith, none, xor_add_and a b, and_le_l a b, and_le_r a b)
 
-pub apart : {m n : ℕ} → n < m → 0 < bit_xor m n
+apart : {m n : ℕ} → n < m → 0 < bit_xor m n
 apart {m} {n} less = lt_of_not-le (λ none. omega (arith, all_shared m n (omega arith)))
 
 -- by the quotients and remainders of a power of two p
@@ -30,12 +29,14 @@ difference_by {m} {n} {p} positive less same odd =
     let quotient : (m - n) / p ≡ a - b = ap (λ (x : ℕ). x / p) times ∙ mul-div_cancel (a - b) positive in
     (rw quotient (omega arith), rw quotient times)
 
-pub difference_shifted : (w : Width) {m n : ℕ} → n < m → bit_xor m n < 2 ^ bit_len w → IsOddPart (m - n) ((m - n) / 2 ^ trailing_zeros w (bit_xor m n))
-difference_shifted w {m} {n} less fits =
+-- so a shift by the number of the last bits that m and n share leaves the odd part of their difference
+pub difference_by_shift : (w : Width) {m n k : ℕ} → m < 2 ^ bit_len w → n < 2 ^ bit_len w → n < m → k ≡ trailing_zeros w (bit_xor m n)
+    → (k < bit_len w) × IsOddPart (m - n) ((m - n) / 2 ^ k)
+difference_by_shift w {m} {n} {k} m_fits n_fits less twos =
     let x : ℕ = bit_xor m n in
-    let k : ℕ = trailing_zeros w x in
-    let none : x % 2 ^ k ≡ 0 = ap (λ (y : ℕ). y % 2 ^ k) (sym (shift_back (bits w) x)) ∙ mul-mod_left (x / 2 ^ k) (2 ^ k) in
+    let fits = xor_lt _ _ _ m_fits n_fits in
+    let none : x % 2 ^ k ≡ 0 = rw twos (ap (λ (y : ℕ). y % 2 ^ trailing_zeros w x) (sym (shift_back (bits w) x)) ∙ mul-mod_left (x / 2 ^ trailing_zeros w x) (2 ^ trailing_zeros w x)) in
     let shared = all_shared (m % 2 ^ k) (n % 2 ^ k) (sym (xor_mod m n k) ∙ none) in
-    let first = sym (bit_at_xor m n k) ∙ (bit_at-trailing_zeros w x (apart less) (rw (width w) fits)).1 in
+    let first = sym (bit_at_xor m n k) ∙ rw twos (odd_part_by_shift w (apart less) fits refl).0 in
     let parts = difference_by (pow_pos k) less shared first in
-    record { odd = parts.0; twos = k; product = parts.1 }
+    (rw twos (twos_few w (apart less) fits), record { odd = parts.0; twos = k; product = parts.1 })

@@ -1,11 +1,11 @@
--- The ring of the whole numbers, for `omega` and `simp`.
+-- The ring of the integers, for `omega` and `simp`.
 use Rattle.std.specs.Prelude.{◌≡◌, ◌+◌, ◌*◌, ◌<ℤ◌, ◌≤ℤ◌, ◌+ℤ◌, ◌*ℤ◌, ℤ, pos, neg_ℤ}
 use Rattle.std.proofs.Common.{arith, ap, mul-pos}
 use Rattle.std.proofs.lemmas.Int.{ints}
 use borrow.Author.Differences.{up, down, same_in, same_out, sum_is_lem, neg_is, product_is, abs_is, lt_out, le_out, below_in, at_most_in, Apart-out}
 pub use Rattle.std.proofs.Math.IntN.{*ℤ_comm as comm}
 
--- linear arithmetic of whole numbers
+-- linear arithmetic of integers
 pub ruleset linear = (same_out, Apart-out, lt_out, le_out, below_in, at_most_in, same_in, sum_is_lem, neg_is)
 
 -- what a test says
@@ -15,7 +15,7 @@ from_not_less h = grind (arith, linear)
 -- that, with magnitudes
 pub ruleset sizes = (linear, abs_is)
 
--- that, where a product is known by its factors
+-- that, with products known by their factors
 pub ruleset products = (linear, product_is)
 
 up-mul : (a b : ℤ) → up (a *ℤ b) ≡ up a * up b + down a * down b
@@ -49,7 +49,7 @@ mul-neg a b = grind (arith, products)
 -- multiplied out, for `simp`
 pub ruleset expand = (dist, dist-left, neg-mul, mul-neg, assoc, comm, left_comm)
 
--- a product of two numbers above 0
+-- a product of two positive numbers
 pub product_positive : (a b : ℤ) → pos 0 <ℤ a → pos 0 <ℤ b → pos 0 <ℤ (a *ℤ b)
 product_positive a b a_up b_up = grind (arith, ints, mul-pos)
 

@@ -1,10 +1,10 @@
--- The gcd of a and b with Bezout's pair x, y, for which x·a + y·b is the gcd, and the loop that finds them.
+-- The gcd of a and b with Bezout's coefficients x and y, for which x·a + y·b is the gcd, and the loop that finds them.
 use Rattle.std.specs.Prelude.{◌≡◌, ◌≢◌, ◌⊎◌, ◌≤◌, ◌*◌, ◌+ℤ◌, ◌-ℤ◌, ◌*ℤ◌, ℤ, ℕ, pos, negsuc, unsigned_abs}
 use Rattle.integer_core.specs.Division.{IsQuotient, IsTruncated}
 use Rattle.integer_core.specs.Divisors.{Divides, IsGreatestCommonDivisor}
-use Rattle.integer_core.specs.Runs.{Makes}
+use Rattle.integer_core.specs.Runs.{RunHasTurns}
 
--- The sign of a number is -1 below 0, and else 1.
+-- The sign of a negative number is -1, and of any other 1.
 -- Examples: -5: -1; 0: 1; 5: 1.
 abbrev pub sign : ℤ → ℤ
 sign (pos n) = pos 1
@@ -34,9 +34,9 @@ pub record IsSmallPair (a b g x y : ℤ) : Type 0 where
   pub x_small : 2 * unsigned_abs x * unsigned_abs g ≤ unsigned_abs b
   pub y_small : 2 * unsigned_abs y * unsigned_abs g ≤ unsigned_abs a
 
--- g is the greatest common divisor of a and b, and x·a + y·b is g, by the first case that holds: where b is not 0 and
--- divides a, x is 0 and y the sign of b; where b is 0 or a divides b, x is the sign of a and y is 0; else the pair is
--- small.
+-- g is the greatest common divisor of a and b, and x·a + y·b is g, by the first case that holds: if b is not 0 and
+-- divides a, x is 0 and y is the sign of b; if b is 0 or a divides b, x is the sign of a and y is 0; otherwise the pair
+-- is small.
 -- Examples: 12 and 4: 4, 0, 1; 0 and 0: 0, 1, 0; 240 and 46: 2, -9, 47.
 pub record IsBezoutAnswer (a b g x y : ℤ) : Type 0 where
   pub greatest : IsGreatestCommonDivisor a b g
@@ -45,7 +45,7 @@ pub record IsBezoutAnswer (a b g x y : ℤ) : Type 0 where
   pub first_divides : ¬ (SecondDividesFirst a b) → FirstDividesSecond a b → (x ≡ sign a) × (y ≡ pos 0)
   pub both : NeedsBoth a b → IsSmallPair a b g x y
 
--- In a type without negatives, which has no -1, one operand divides the other.
+-- If the type has no -1, and so no negative number, one operand divides the other.
 -- Examples: u8: 4 and 12; not 10 and 4; i8: 10 and 4, as every pair.
 abbrev pub HasPair : (ℤ → Type 0) → ℤ → ℤ → Type 0
 HasPair fits a b = ¬ (fits (negsuc 0)) → Divides a b ⊎ Divides b a
@@ -56,13 +56,13 @@ pub record Remainders : Type 0 where
   pub current : ℤ
   pub previous : ℤ
 
--- No turn follows where the current remainder divides the previous one.
+-- The loop ends if the current remainder divides the previous one.
 -- Examples: 2 and 4; 4 and 12; not 46 and 240.
 abbrev pub EuclidEnds : Remainders → Type 0
 EuclidEnds s = Divides s.current s.previous
 
--- Where the current remainder does not divide the previous one, a turn goes on to previous - q·current, with the
--- truncated quotient q of the two.
+-- If the current remainder does not divide the previous one, a turn replaces the two by previous - q·current and
+-- current, with the truncated quotient q of the two.
 -- Examples: 46 and 240 to 10 and 46; 10 and 46 to 6 and 10; none from 2 and 4.
 pub record IsEuclidTurn (s t : Remainders) : Type 0 where
   pub goes_on : ¬ (EuclidEnds s)
@@ -71,9 +71,9 @@ pub record IsEuclidTurn (s t : Remainders) : Type 0 where
   pub current : t.current ≡ s.previous -ℤ quotient *ℤ s.current
   pub previous : t.previous ≡ s.current
 
--- n is 0 where b is 0, and else the number of turns of the run that begins with b as the current and a as the previous
--- remainder.
+-- n is 0 if b is 0, and otherwise the number of turns of the run that begins with the current remainder b and the
+-- previous one a.
 -- Examples: 240 and 46: 4; 12 and 4: 0; 8 and 13: 5.
 pub record AreEuclidTurns (a b : ℤ) (n : ℕ) : Type 0 where
   pub of_zero : b ≡ pos 0 → n ≡ 0
-  pub of_nonzero : b ≢ pos 0 → Makes IsEuclidTurn EuclidEnds (record { current = b; previous = a }) n
+  pub of_nonzero : b ≢ pos 0 → RunHasTurns IsEuclidTurn EuclidEnds (record { current = b; previous = a }) n

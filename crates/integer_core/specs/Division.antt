@@ -1,18 +1,18 @@
--- Division of whole numbers: three kinds of quotient and remainder, by equation and inequalities.
+-- Division of integers: three kinds of quotient and remainder, by equation and inequalities.
 use Rattle.std.specs.Prelude.{◌≡◌, ◌⊎◌, ◌<◌, ◌<ℤ◌, ◌+ℤ◌, ◌*ℤ◌, ℤ, pos, unsigned_abs}
 
--- n is q times d and r more, and the magnitude of r is below that of d.
+-- n is q times d plus r, and the magnitude of r is below that of d.
 -- Examples: 8 by 3: 2 and 2; 8 by 3: 3 and -1 too; by 0: none, since no magnitude is below 0.
 pub record IsDivision (n d q r : ℤ) : Type 0 where
   pub equation : n ≡ q *ℤ d +ℤ r
   pub small : unsigned_abs r < unsigned_abs d
 
--- Both numbers are above 0, or both are below.
+-- Both numbers are positive, or both are negative.
 -- Examples: 2 and 8; -2 and -8; not 0 and 8.
 abbrev pub HaveSameSign : ℤ → ℤ → Type 0
 HaveSameSign r z = ((pos 0 <ℤ r) × (pos 0 <ℤ z)) ⊎ ((r <ℤ pos 0) × (z <ℤ pos 0))
 
--- One number is above 0, and the other is below.
+-- One number is positive, and the other is negative.
 -- Examples: -1 and 3; 2 and -3; not 0 and 3.
 abbrev pub HaveOppositeSigns : ℤ → ℤ → Type 0
 HaveOppositeSigns r z = ((pos 0 <ℤ r) × (z <ℤ pos 0)) ⊎ ((r <ℤ pos 0) × (pos 0 <ℤ z))
@@ -29,7 +29,7 @@ pub record IsFloored (n d q r : ℤ) : Type 0 where
   pub division : IsDivision n d q r
   pub sign : (r ≡ pos 0) ⊎ HaveSameSign r d
 
--- q is n by d rounded up: the remainder r is 0 or has the sign opposite to that of d.
+-- q is n by d rounded up: the remainder r is 0 or has the sign that d has not.
 -- Examples: 8 by 3: 3, -1; -8 by 3: -2, -2; 8 by -3: -2, 2.
 pub record IsCeiled (n d q r : ℤ) : Type 0 where
   pub division : IsDivision n d q r
@@ -47,7 +47,7 @@ pub record IsRemainder (Kind : ℤ → ℤ → ℤ → ℤ → Type 0) (n d r : 
   pub quotient : ℤ
   pub division : Kind n d quotient r
 
--- m is the quotient of n by d of this kind, times d: the next multiple where it is ceiled, the previous one where it is
+-- m is the quotient of n by d of this kind, times d: the next multiple if the kind is ceiled, the previous one if it is
 -- floored.
 -- Examples: ceiled, 23 by 8: 24; 23 by -8: 16; floored, 23 by -8: 24.
 pub record IsMultiple (Kind : ℤ → ℤ → ℤ → ℤ → Type 0) (n d m : ℤ) : Type 0 where

@@ -1,8 +1,8 @@
--- Divisors, common divisors and common multiples of whole numbers, by divisibility alone.
+-- Divisors, common divisors and common multiples of integers, by divisibility alone.
 use Rattle.std.specs.Prelude.{◌≡◌, ◌≤ℤ◌, ◌*ℤ◌, ℤ, pos, negsuc}
 use Rattle.integer_core.specs.Range.{EachFits}
 
--- v is u times some whole number, so 0 divides 0 alone.
+-- v is u times some integer, so 0 divides only 0.
 -- Examples: 3 divides 9; 9 does not divide 3; 0 divides 0 and nothing else.
 pub record Divides (u v : ℤ) : Type 0 where
   pub factor : ℤ
@@ -29,8 +29,8 @@ pub record IsLeastCommonMultiple (a b l : ℤ) : Type 0 where
   pub right_divides : Divides b l
   pub least : (m : ℤ) → Divides a m → Divides b m → Divides l m
 
--- The greatest common divisor fits, asked only of a type that has -1: any other type has the gcd of any two of its
--- numbers.
+-- The greatest common divisor fits. Only a type that has -1 has to meet this: any other type has the gcd of any two of
+-- its numbers.
 -- Examples: u8: 0 and 255, as every pair; i8: -128 and 64; not -128 and 0.
 abbrev pub GcdFits : (ℤ → Type 0) → ℤ → ℤ → Type 0
 GcdFits fits a b = fits (negsuc 0) → EachFits fits (IsGreatestCommonDivisor a b)

@@ -9,7 +9,7 @@ use Rattle.std.proofs.lemmas.Nat.Bits.{bit_at_above}
 use Rattle.num_traits.specs.Laws.{bit_len}
 use mir.Val.{bits, hbits}
 
--- The number of the bits n, of a type of width w, is n, less weight where the highest bit is set.
+-- The bits n of a type of width w mean the number n, or n - weight if the highest bit is set.
 -- Examples: i8: weight 256, the bits 255: -1; the bits 127: 127; u8: weight 0, the bits 255: 255.
 pub record IsTwosComplement (w : Width) (number : ℕ → ℤ) : Type 0 where
   pub weight : ℕ

@@ -1,18 +1,18 @@
 //! The extended Euclidean algorithm (Knuth, The Art of Computer Programming, volume 2, section
-//! 4.5.2, algorithm X). The loop here stops one row earlier.
+//! 4.5.2, algorithm X). The loop here stops one iteration earlier.
 
 ghost use Rattle.std.specs.Prelude.{◌≡◌, ◌≢◌, ◌≤◌, ◌+◌, ◌*◌, ◌*ℤ◌, pos, unsigned_abs};
 ghost use Rattle.integer_core.specs.Bezout.{AreEuclidTurns, EuclidEnds, HasPair, IsBezoutAnswer, IsEuclidTurn, IsSmallPair, NeedsBoth, sign};
 ghost use Rattle.integer_core.specs.Divisors.{Divides, GcdFits, IsGreatestCommonDivisor};
 ghost use Rattle.integer_core.specs.Fibonacci.{fibonacci};
 ghost use Rattle.integer_core.specs.Only.{IsOnly};
-ghost use Rattle.integer_core.specs.Runs.{Makes};
+ghost use Rattle.integer_core.specs.Runs.{RunHasTurns};
 
 use crate::Integer;
 use crate::operators::{difference, is_negative, is_zero, negated, one, product, zero};
 
-/// A greatest common divisor with Bezout's coefficients: the first operand times `x` and the
-/// second times `y` add up to `gcd`. For 240 and 46, `gcd` is 2, `x` is -9 and `y` is 47.
+/// A greatest common divisor with Bezout's coefficients: for the operands `a` and `b`, `a * x + b * y`
+/// equals `gcd`. For 240 and 46, `gcd` is 2, `x` is -9 and `y` is 47.
 #[derive(Debug, Clone, Copy, PartialEq, Eq)]
 pub struct ExtendedGcd<A> {
     /// The greatest common divisor. For 240 and 46 it is 2.
@@ -23,8 +23,7 @@ pub struct ExtendedGcd<A> {
     pub y: A,
 }
 
-/// A row of the algorithm: the first operand times `x` and the second times `y` add up to
-/// `remainder`.
+/// A row of the algorithm's table: for the operands `a` and `b`, `a * x + b * y` equals `remainder`.
 #[derive(Clone, Copy)]
 struct Row<A> {
     remainder: A,
@@ -33,7 +32,7 @@ struct Row<A> {
 }
 
 impl<T: Integer> Row<T> {
-    /// The first operand as a row.
+    /// Returns the first operand as a row.
     fn of_first(a: T) -> Row<T>
         ensures remainder { T.value result.remainder ≡ T.value a }
         ensures x { T.value result.x ≡ pos 1 }
@@ -46,7 +45,7 @@ impl<T: Integer> Row<T> {
         }
     }
 
-    /// Returns the row as a result. Where the remainder is negative, it negates all three numbers.
+    /// Returns the row as a result, and negates all three numbers if the remainder is negative.
     fn normalized(self) -> ExtendedGcd<T>
         requires gcd_fits { T.fits (sign (T.value self.remainder) *ℤ T.value self.remainder) }
         requires x_fits { T.fits (sign (T.value self.remainder) *ℤ T.value self.x) }
@@ -74,11 +73,10 @@ impl<T: Integer> Row<T> {
     }
 }
 
-/// Returns the row whose remainder is the greatest common divisor up to its sign, and the turns that
-/// lead to it. The loop never makes the row of remainder 0, whose coefficients need not fit.
+/// Returns the row whose remainder is the greatest common divisor up to its sign, and the number of
+/// iterations. The loop never computes the row with the remainder 0, whose coefficients need not fit.
 fn last_row<T: Integer>(a: T, b: T) -> (Row<T>, u32)
-    requires a_in_range { T.fits (T.value a) }
-    requires b_in_range { T.fits (T.value b) }
+    requires in_range { T.fits (T.value a) × T.fits (T.value b) }
     requires nonzero { T.value b ≢ pos 0 }
     requires has_pair { HasPair T.fits (T.value a) (T.value b) }
     ensures x_fits { T.fits (sign (T.value result.0.remainder) *ℤ T.value result.0.x) }
@@ -91,7 +89,7 @@ fn last_row<T: Integer>(a: T, b: T) -> (Row<T>, u32)
     ensures after_turns { ¬ (Divides (T.value b) (T.value a))
         → IsSmallPair (T.value a) (T.value b)
         (T.value result.0.remainder) (T.value result.0.x) (T.value result.0.y) }
-    ensures turns { Makes IsEuclidTurn EuclidEnds
+    ensures turns { RunHasTurns IsEuclidTurn EuclidEnds
         (record { current = T.value b; previous = T.value a }) result.1 }
 {
     let mut previous = Row::of_first(a);
@@ -112,11 +110,11 @@ fn last_row<T: Integer>(a: T, b: T) -> (Row<T>, u32)
     (current, turns)
 }
 
-/// Returns [`Integer::extended_gcd`] and the turns of its loop. `extended_gcd_counted(8, 13)` is
-/// `(ExtendedGcd { gcd: 1, x: 5, y: -3 }, 5)`. The bound on the turns is Lamé's (1844); 8 and 13 reach
+/// Returns [`Integer::extended_gcd`] and the number of iterations of its loop. `extended_gcd_counted(8, 13)` is
+/// `(ExtendedGcd { gcd: 1, x: 5, y: -3 }, 5)`. The bound on the iterations is Lamé's (1844); 8 and 13 reach
 /// it.
 ///
-/// May be called where [`Integer::extended_gcd`] may.
+/// May be called if [`Integer::extended_gcd`] may.
 pub fn extended_gcd_counted<T: Integer>(a: T, b: T) -> (ExtendedGcd<T>, u32)
     requires a_in_range { T.fits (T.value a) }
     requires b_in_range { T.fits (T.value b) }

@@ -1,4 +1,4 @@
-//! Calls that return the result of the plain call and the number of turns of its loop.
+//! Calls that also return the number of iterations of their loop.
 
 ghost use Rattle.std.specs.Prelude.{◌+◌, ◌≤◌, ℕ};
 ghost use Rattle.integer_core.specs.Divisors.{GcdFits, IsGreatestCommonDivisor};
@@ -7,13 +7,14 @@ ghost use Rattle.integer_core.specs.GcdRuns.{AreGcdTurns, IsBitLength};
 use crate::Integer;
 pub use crate::bezout::extended_gcd_counted;
 
-/// A greatest common divisor by Stein's binary method, with the turns of its loop.
+/// The greatest common divisor by Stein's binary method, with the number of iterations of its loop.
+/// `5i64.gcd_counted(&3)` is `(1, 2)`.
 pub trait GcdCounted: Integer {
-    /// Returns [`Integer::gcd`] and the number of turns, which is at most the bit lengths of both
-    /// added, and 0 where an operand is 0 or the least number of its type. `56i64.gcd_counted(&42)` is
-    /// `(14, 1)`.
+    /// Returns [`Integer::gcd`] and the number of iterations. `56i64.gcd_counted(&42)` is `(14, 1)`. The
+    /// number is at most the sum of both bit lengths, and 0 if an operand is 0 or the smallest number of
+    /// its type.
     ///
-    /// May be called where `Fits::gcd_fits` is true.
+    /// May be called if [`Fits::gcd_fits`] is true.
     fn gcd_counted(&self, other: &Self) -> (Self, u32)
         requires self_in_range { Self.fits (Self.value self.now) }
         requires other_in_range { Self.fits (Self.value other.now) }

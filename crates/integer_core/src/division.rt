@@ -6,11 +6,12 @@ ghost use Rattle.integer_core.specs.Range.{EachFits};
 
 use crate::native::Native;
 use crate::operators::{is_negative, is_zero, predecessor, quotient, remainder, sum};
+use num_traits::Num;
 
 /// Returns the quotient rounded toward zero, and its remainder.
-pub(crate) fn div_rem<T: Native>(n: T, d: T) -> (T, T)
-    requires n_in_range { T.fits (T.value n) }
-    requires d_in_range { T.fits (T.value d) }
+pub(crate) fn div_rem<T: Copy + Num>(n: T, d: T) -> (T, T)
+    requires exact { T.exact }
+    requires in_range { T.fits (T.value n) × T.fits (T.value d) }
     requires nonzero { T.value d ≢ pos 0 }
     requires quotient_fits { EachFits T.fits (IsQuotient IsTruncated (T.value n) (T.value d)) }
     ensures in_range { T.fits (T.value result.0) × T.fits (T.value result.1) }
@@ -21,24 +22,24 @@ pub(crate) fn div_rem<T: Native>(n: T, d: T) -> (T, T)
 
 /// Returns the quotient rounded down, and its remainder.
 pub(crate) fn div_mod_floor<T: Native>(n: T, d: T) -> (T, T)
-    requires n_in_range { T.fits (T.value n) }
-    requires d_in_range { T.fits (T.value d) }
+    requires in_range { T.fits (T.value n) × T.fits (T.value d) }
     requires nonzero { T.value d ≢ pos 0 }
     requires quotient_fits { EachFits T.fits (IsQuotient IsFloored (T.value n) (T.value d)) }
     ensures in_range { T.fits (T.value result.0) × T.fits (T.value result.1) }
     ensures floored { IsFloored (T.value n) (T.value d) (T.value result.0) (T.value result.1) }
 {
     let (q, r) = div_rem(n, d);
-    if is_above_floor(r, d) {
+    if is_rounded_up(r, d) {
         (predecessor(q), sum(r, d))
     } else {
         (q, r)
     }
 }
 
-/// Returns `true` if the quotient rounded toward zero, of this remainder, is above the exact one. The
-/// two tests are one number, and no branch.
-fn is_above_floor<T: Native>(r: T, d: T) -> bool
+/// Returns `true` if rounding toward zero, which leaves the remainder `r` by `d`, rounds the quotient up.
+/// `&` evaluates both tests, so there is no branch.
+fn is_rounded_up<T: Copy + Num + PartialOrd>(r: T, d: T) -> bool
+    requires { T.exact }
     ensures { IsTrue result ↔ ((T.value r ≢ pos 0)
         × (((T.value r <ℤ pos 0) × (pos 0 ≤ℤ T.value d)) ⊎ ((pos 0 ≤ℤ T.value r) × (T.value d <ℤ pos 0)))) }
 {

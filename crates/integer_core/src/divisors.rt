@@ -4,24 +4,23 @@ ghost use Rattle.std.specs.Prelude.{◌↔◌, IsTrue};
 ghost use Rattle.integer_core.specs.Divisors.{Divides, IsEven};
 
 use crate::native::Native;
-use crate::operators::{is_zero, one, remainder, sum};
+use crate::operators::{is_minus_one, is_zero, one, remainder, sum};
 
 /// Returns `true` if `d` divides `n`.
 pub(crate) fn is_multiple_of<T: Native>(n: T, d: T) -> bool
-    requires n_in_range { T.fits (T.value n) }
-    requires d_in_range { T.fits (T.value d) }
+    requires in_range { T.fits (T.value n) × T.fits (T.value d) }
     ensures { IsTrue result ↔ Divides (T.value d) (T.value n) }
 {
     if is_zero(d) {
         is_zero(n)
-    } else if d.is_minus_one() {
+    } else if is_minus_one(d) {
         true
     } else {
         is_zero(remainder(n, d))
     }
 }
 
-/// Returns `true` if 2 divides `n`.
+/// Returns `true` if `n` is even.
 pub(crate) fn is_even<T: Native>(n: T) -> bool
     requires { T.fits (T.value n) }
     ensures { IsTrue result ↔ IsEven (T.value n) }

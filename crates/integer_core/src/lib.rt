@@ -22,10 +22,11 @@ pub use native_integer::NativeInteger;
 use num_traits::{Num, Signed};
 use operators::{difference, is_zero, predecessor, successor, sum};
 
-/// A type of whole numbers.
+/// A type of integers, with division, divisors and multiples specified on the integers that its values
+/// mean. `12.gcd(&18)` is `6`.
 pub trait Integer: Copy + Num + PartialOrd + Ord + Eq {
-    // A contract writes `value x` for the number that the value `x` means, and `fits z` where the type
-    // has the number `z`. The least and the greatest number of the type.
+    // In a contract `value x` is the integer that `x` means, and `fits z` says that the type has the
+    // integer `z`. These are the smallest and the largest integer of the type.
     ghost low: { ℤ };
 
     ghost high: { ℤ };
@@ -33,7 +34,7 @@ pub trait Integer: Copy + Num + PartialOrd + Ord + Eq {
     /// Returns the quotient rounded toward zero, and its remainder. `(-8).div_rem(&3)` is
     /// `(-2, -2)`.
     ///
-    /// May be called where `Fits::quotient_fits` is true.
+    /// May be called if [`Fits::quotient_fits`] is true; [`checked::div_rem`] has no condition.
     fn div_rem(&self, other: &Self) -> (Self, Self)
         requires self_in_range { Self.fits (Self.value self.now) }
         requires other_in_range { Self.fits (Self.value other.now) }
@@ -46,7 +47,7 @@ pub trait Integer: Copy + Num + PartialOrd + Ord + Eq {
 
     /// Returns the quotient rounded down. `(-8).div_floor(&3)` is `-3`.
     ///
-    /// May be called where `Fits::quotient_fits` is true.
+    /// May be called if [`Fits::quotient_fits`] is true; [`checked::div_floor`] has no condition.
     fn div_floor(&self, other: &Self) -> Self
         requires self_in_range { Self.fits (Self.value self.now) }
         requires other_in_range { Self.fits (Self.value other.now) }
@@ -60,7 +61,7 @@ pub trait Integer: Copy + Num + PartialOrd + Ord + Eq {
     /// Returns the remainder of the quotient rounded down, which is 0 or has the sign of `other`.
     /// `(-8).mod_floor(&3)` is `1`.
     ///
-    /// May be called where `other` is not 0.
+    /// May be called if `other` is not 0; [`checked::mod_floor`] has no condition.
     fn mod_floor(&self, other: &Self) -> Self
         requires self_in_range { Self.fits (Self.value self.now) }
         requires other_in_range { Self.fits (Self.value other.now) }
@@ -71,7 +72,7 @@ pub trait Integer: Copy + Num + PartialOrd + Ord + Eq {
 
     /// Returns the quotient rounded down, and its remainder. `(-8).div_mod_floor(&3)` is `(-3, 1)`.
     ///
-    /// May be called where `Fits::quotient_fits` is true.
+    /// May be called if [`Fits::quotient_fits`] is true; [`checked::div_mod_floor`] has no condition.
     fn div_mod_floor(&self, other: &Self) -> (Self, Self)
         requires self_in_range { Self.fits (Self.value self.now) }
         requires other_in_range { Self.fits (Self.value other.now) }
@@ -87,7 +88,7 @@ pub trait Integer: Copy + Num + PartialOrd + Ord + Eq {
 
     /// Returns the quotient rounded up. `8.div_ceil(&3)` is `3`.
     ///
-    /// May be called where `Fits::quotient_fits` is true.
+    /// May be called if [`Fits::quotient_fits`] is true; [`checked::div_ceil`] has no condition.
     fn div_ceil(&self, other: &Self) -> Self
         requires self_in_range { Self.fits (Self.value self.now) }
         requires other_in_range { Self.fits (Self.value other.now) }
@@ -105,7 +106,8 @@ pub trait Integer: Copy + Num + PartialOrd + Ord + Eq {
     /// Returns the quotient rounded up, times `other`. `23.next_multiple_of(&8)` is `24`, and
     /// `23.next_multiple_of(&-8)` is `16`.
     ///
-    /// May be called where `Fits::next_multiple_fits` is true.
+    /// May be called if [`Fits::next_multiple_fits`] is true; [`checked::next_multiple_of`] has no
+    /// condition.
     fn next_multiple_of(&self, other: &Self) -> Self
         requires self_in_range { Self.fits (Self.value self.now) }
         requires other_in_range { Self.fits (Self.value other.now) }
@@ -127,7 +129,8 @@ pub trait Integer: Copy + Num + PartialOrd + Ord + Eq {
     /// Returns the quotient rounded down, times `other`. `23.prev_multiple_of(&8)` is `16`, and
     /// `23.prev_multiple_of(&-8)` is `24`.
     ///
-    /// May be called where `Fits::prev_multiple_fits` is true.
+    /// May be called if [`Fits::prev_multiple_fits`] is true; [`checked::prev_multiple_of`] has no
+    /// condition.
     #[tactic(auto, using(crate::proofs::Multiples::previous))]
     fn prev_multiple_of(&self, other: &Self) -> Self
         requires self_in_range { Self.fits (Self.value self.now) }
@@ -142,8 +145,8 @@ pub trait Integer: Copy + Num + PartialOrd + Ord + Eq {
         difference(*self, self.mod_floor(other))
     }
 
-    /// Returns `true` if `other` divides `self`. `9.is_multiple_of(&3)` is `true`. Zero divides only
-    /// zero.
+    /// Returns `true` if `other` divides `self`. `9.is_multiple_of(&3)` is `true`. Only 0
+    /// is a multiple of 0.
     fn is_multiple_of(&self, other: &Self) -> bool
         requires self_in_range { Self.fits (Self.value self.now) }
         requires other_in_range { Self.fits (Self.value other.now) }
@@ -171,7 +174,8 @@ pub trait Integer: Copy + Num + PartialOrd + Ord + Eq {
 
     /// Adds one. `x.inc()` turns an `x` of `41` into `42`.
     ///
-    /// May be called below the greatest number of the type. The call `checked::inc` has no condition.
+    /// May be called if `self` is below the largest number of the type; [`checked::inc`] has no
+    /// condition.
     fn inc(&mut self)
         requires in_range { Self.fits (Self.value self.old) }
         requires sum_fits { Self.fits (Self.value self.old +ℤ pos 1) }
@@ -183,7 +187,8 @@ pub trait Integer: Copy + Num + PartialOrd + Ord + Eq {
 
     /// Subtracts one. `x.dec()` turns an `x` of `43` into `42`.
     ///
-    /// May be called above the least number of the type. The call `checked::dec` has no condition.
+    /// May be called if `self` is above the smallest number of the type; [`checked::dec`] has no
+    /// condition.
     fn dec(&mut self)
         requires in_range { Self.fits (Self.value self.old) }
         requires difference_fits { Self.fits (Self.value self.old -ℤ pos 1) }
@@ -196,7 +201,7 @@ pub trait Integer: Copy + Num + PartialOrd + Ord + Eq {
     /// Returns the greatest common divisor, which is never negative. `56.gcd(&42)` is `14`, and
     /// `0.gcd(&0)` is `0`.
     ///
-    /// May be called where `Fits::gcd_fits` is true.
+    /// May be called if [`Fits::gcd_fits`] is true; [`checked::gcd`] has no condition.
     fn gcd(&self, other: &Self) -> Self
         requires self_in_range { Self.fits (Self.value self.now) }
         requires other_in_range { Self.fits (Self.value other.now) }
@@ -208,7 +213,7 @@ pub trait Integer: Copy + Num + PartialOrd + Ord + Eq {
     /// Returns the least common multiple, which is never negative. `7.lcm(&3)` is `21`, and
     /// `7.lcm(&0)` is `0`.
     ///
-    /// May be called where `Fits::lcm_fits` is true.
+    /// May be called if [`Fits::lcm_fits`] is true; [`checked::lcm`] has no condition.
     fn lcm(&self, other: &Self) -> Self
         requires self_in_range { Self.fits (Self.value self.now) }
         requires other_in_range { Self.fits (Self.value other.now) }
@@ -221,7 +226,8 @@ pub trait Integer: Copy + Num + PartialOrd + Ord + Eq {
     /// Returns the greatest common divisor and the least common multiple. `10.gcd_lcm(&4)` is
     /// `(2, 20)`.
     ///
-    /// May be called where `Fits::gcd_fits` and `Fits::lcm_fits` are true.
+    /// May be called if [`Fits::gcd_fits`] and [`Fits::lcm_fits`] are true; [`checked::gcd_lcm`] has no
+    /// condition.
     fn gcd_lcm(&self, other: &Self) -> (Self, Self)
         requires self_in_range { Self.fits (Self.value self.now) }
         requires other_in_range { Self.fits (Self.value other.now) }
@@ -237,13 +243,13 @@ pub trait Integer: Copy + Num + PartialOrd + Ord + Eq {
         (self.gcd(other), self.lcm(other))
     }
 
-    /// Returns the greatest common divisor `gcd` and Bezout's coefficients `x` and `y`: over the
-    /// whole numbers, `self` times `x` and `other` times `y` add up to `gcd`. `240.extended_gcd(&46)`
+    /// Returns the greatest common divisor `gcd` and Bezout's coefficients `x` and `y`:
+    /// computed without overflow, `self * x + other * y` equals `gcd`. `240.extended_gcd(&46)`
     /// is `ExtendedGcd { gcd: 2, x: -9, y: 47 }`, and `5.extended_gcd(&0)` is
     /// `ExtendedGcd { gcd: 5, x: 1, y: 0 }`.
     ///
-    /// May be called where `Fits::gcd_fits` is true; at an unsigned type one operand must also divide
-    /// the other.
+    /// May be called if [`Fits::gcd_fits`] is true; at an unsigned type one operand must also divide
+    /// the other. [`checked::extended_gcd`] has no condition.
     final fn extended_gcd(&self, other: &Self) -> ExtendedGcd<Self>
         requires self_in_range { Self.fits (Self.value self.now) }
         requires other_in_range { Self.fits (Self.value other.now) }
@@ -260,7 +266,8 @@ pub trait Integer: Copy + Num + PartialOrd + Ord + Eq {
     /// Returns [`Integer::extended_gcd`] and [`Integer::lcm`]. `10.extended_gcd_lcm(&4)` is
     /// `(ExtendedGcd { gcd: 2, x: 1, y: -2 }, 20)`.
     ///
-    /// May be called where `Fits::gcd_fits` and `Fits::lcm_fits` are true.
+    /// May be called if [`Fits::gcd_fits`] and [`Fits::lcm_fits`] are true;
+    /// [`checked::extended_gcd_lcm`] has no condition.
     final fn extended_gcd_lcm(&self, other: &Self) -> (ExtendedGcd<Self>, Self)
     where
         Self: Signed,
@@ -280,14 +287,16 @@ pub trait Integer: Copy + Num + PartialOrd + Ord + Eq {
         (self.extended_gcd(other), self.lcm(other))
     }
 
-    // Each operator is exact wherever its result fits.
+    // Each operator is exact if its result fits.
     ghost exact_law: { Self.exact };
 
-    // A number fits exactly where it lies from `low` to `high`.
+    // The integers of the type are those from `low` to `high`.
     ghost range_law: { IsRange Self.fits low high };
 }
 
 /// Returns the quotient rounded toward zero, and its remainder. `div_rem(-8, 3)` is `(-2, -2)`.
+///
+/// May be called if [`Integer::div_rem`] may; [`checked::div_rem`] has no condition.
 pub fn div_rem<T: Integer>(x: T, y: T) -> (T, T)
     requires x_in_range { T.fits (T.value x) }
     requires y_in_range { T.fits (T.value y) }
@@ -300,6 +309,8 @@ pub fn div_rem<T: Integer>(x: T, y: T) -> (T, T)
 }
 
 /// Returns the quotient rounded down. `div_floor(-8, 3)` is `-3`.
+///
+/// May be called if [`Integer::div_floor`] may; [`checked::div_floor`] has no condition.
 pub fn div_floor<T: Integer>(x: T, y: T) -> T
     requires x_in_range { T.fits (T.value x) }
     requires y_in_range { T.fits (T.value y) }
@@ -312,6 +323,8 @@ pub fn div_floor<T: Integer>(x: T, y: T) -> T
 }
 
 /// Returns the remainder of the quotient rounded down. `mod_floor(-8, 3)` is `1`.
+///
+/// May be called if [`Integer::mod_floor`] may; [`checked::mod_floor`] has no condition.
 pub fn mod_floor<T: Integer>(x: T, y: T) -> T
     requires x_in_range { T.fits (T.value x) }
     requires y_in_range { T.fits (T.value y) }
@@ -323,6 +336,8 @@ pub fn mod_floor<T: Integer>(x: T, y: T) -> T
 }
 
 /// Returns the quotient rounded down, and its remainder. `div_mod_floor(-8, 3)` is `(-3, 1)`.
+///
+/// May be called if [`Integer::div_mod_floor`] may; [`checked::div_mod_floor`] has no condition.
 pub fn div_mod_floor<T: Integer>(x: T, y: T) -> (T, T)
     requires x_in_range { T.fits (T.value x) }
     requires y_in_range { T.fits (T.value y) }
@@ -335,6 +350,8 @@ pub fn div_mod_floor<T: Integer>(x: T, y: T) -> (T, T)
 }
 
 /// Returns the quotient rounded up. `div_ceil(8, 3)` is `3`.
+///
+/// May be called if [`Integer::div_ceil`] may; [`checked::div_ceil`] has no condition.
 pub fn div_ceil<T: Integer>(x: T, y: T) -> T
     requires x_in_range { T.fits (T.value x) }
     requires y_in_range { T.fits (T.value y) }
@@ -347,6 +364,8 @@ pub fn div_ceil<T: Integer>(x: T, y: T) -> T
 }
 
 /// Returns the greatest common divisor. `gcd(56, 42)` is `14`.
+///
+/// May be called if [`Integer::gcd`] may; [`checked::gcd`] has no condition.
 pub fn gcd<T: Integer>(x: T, y: T) -> T
     requires x_in_range { T.fits (T.value x) }
     requires y_in_range { T.fits (T.value y) }
@@ -358,6 +377,8 @@ pub fn gcd<T: Integer>(x: T, y: T) -> T
 }
 
 /// Returns the least common multiple. `lcm(7, 3)` is `21`.
+///
+/// May be called if [`Integer::lcm`] may; [`checked::lcm`] has no condition.
 pub fn lcm<T: Integer>(x: T, y: T) -> T
     requires x_in_range { T.fits (T.value x) }
     requires y_in_range { T.fits (T.value y) }
@@ -370,6 +391,8 @@ pub fn lcm<T: Integer>(x: T, y: T) -> T
 
 /// Returns the greatest common divisor and the least common multiple. `gcd_lcm(10, 4)` is
 /// `(2, 20)`.
+///
+/// May be called if [`Integer::gcd_lcm`] may; [`checked::gcd_lcm`] has no condition.
 pub fn gcd_lcm<T: Integer>(x: T, y: T) -> (T, T)
     requires x_in_range { T.fits (T.value x) }
     requires y_in_range { T.fits (T.value y) }

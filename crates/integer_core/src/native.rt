@@ -1,72 +1,43 @@
-//! What the native integer types share.
+//! The sealed trait of the native integer types: their range and their magnitudes.
 
-ghost use Rattle.std.specs.Prelude.{◌≡◌, ◌↔◌, ◌≤ℤ◌, ◌<ℤ◌, ◌+ℤ◌, ◌-ℤ◌, pos, negsuc, unsigned_abs, IsTrue};
+ghost use Rattle.std.specs.Prelude.{◌≡◌, pos, unsigned_abs};
 ghost use Rattle.std.specs.Int.{w8, w16, w32, w64, w128};
 ghost use Rattle.std.proofs.Common.{lit≤};
 ghost use Rattle.integer_core.specs.NativeRanges.{IsNative, signed_native, unsigned_native};
 
-use crate::operators::{difference, is_negative, is_zero, successor, zero};
+use crate::operators::{difference, is_negative, successor, zero};
 use crate::stein::Magnitude;
-use num_traits::{AsPrimitive, Bounded, FixedWidth, Num, NumCast};
+use num_traits::{AsPrimitive, Bounded, FixedWidth, Num};
 
 /// A native integer type. No other crate can name this trait.
-pub trait Native: Copy + Num + NumCast + Ord + Bounded + FixedWidth + AsPrimitive<Self::Magnitude> {
+pub trait Native: Copy + Num + Ord + Bounded + FixedWidth + AsPrimitive<Self::Magnitude> {
     /// The type of the magnitudes.
     type Magnitude: Magnitude + AsPrimitive<Self>;
 
     ghost native_law: { IsNative Self.width (λ n. Self.value (Self.of_bits n)) Self.fits Self.low
         Self.high Self.Magnitude.fits };
 
-    /// Returns `true` if this is -1, the only divisor whose quotient may not fit.
-    final fn is_minus_one(&self) -> bool
-        requires { Self.fits (Self.value self.now) }
-        ensures { IsTrue result ↔ (Self.value self.now ≡ negsuc 0) }
-    {
-        is_negative(*self) && is_zero(distance_below_minus_one(*self))
-    }
-
-    /// Returns the distance of the number from 0.
+    /// Returns the absolute value.
     final fn magnitude(self) -> Self::Magnitude
         requires { Self.fits (Self.value self) }
         ensures in_range { Self.Magnitude.fits (Self.Magnitude.value result) }
         ensures value { Self.Magnitude.value result ≡ pos (unsigned_abs (Self.value self)) }
     {
         if is_negative(self) {
-            as_magnitude(distance_below_minus_one(self)).successor()
+            successor(difference(zero(), successor(self)).as_())
         } else {
-            as_magnitude(self)
+            self.as_()
         }
     }
 
-    /// Returns the number at least 0 that has this magnitude.
+    /// Returns the non-negative number with this magnitude.
     final fn from_magnitude(magnitude: Self::Magnitude) -> Self
         requires { Self.fits (Self.Magnitude.value magnitude) }
         ensures in_range { Self.fits (Self.value result) }
         ensures value { Self.value result ≡ Self.Magnitude.value magnitude }
     {
-        <Self as NumCast>::from(magnitude).unwrap()
+        magnitude.as_()
     }
-}
-
-/// Returns the distance of a negative number from -1.
-fn distance_below_minus_one<T: Native>(x: T) -> T
-    requires in_range { T.fits (T.value x) }
-    requires negative { T.value x <ℤ pos 0 }
-    ensures in_range { T.fits (T.value result) }
-    ensures from_zero { pos 0 ≤ℤ T.value result }
-    ensures value { T.value result ≡ pos 0 -ℤ (T.value x +ℤ pos 1) }
-{
-    difference(zero(), successor(x))
-}
-
-/// Returns a number at least 0 as a magnitude.
-fn as_magnitude<T: Native>(x: T) -> T::Magnitude
-    requires in_range { T.fits (T.value x) }
-    requires from_zero { pos 0 ≤ℤ T.value x }
-    ensures in_range { T.Magnitude.fits (T.Magnitude.value result) }
-    ensures value { T.Magnitude.value result ≡ T.value x }
-{
-    x.as_()
 }
 
 impl Native for i8 {

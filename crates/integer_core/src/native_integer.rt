@@ -2,12 +2,13 @@
 
 use crate::counted::GcdCounted;
 use crate::native::Native;
-use crate::operators::{is_zero, zero};
-use crate::stein::{Magnitude, binary_gcd};
+use crate::operators::{is_minus_one, is_zero, zero};
+use crate::stein::{binary_gcd, positive_gcd_lcm};
 use crate::{Integer, division, divisors};
 use num_traits::PrimInt;
 
-/// A native integer type. The trait is sealed: no other crate can implement it.
+/// A native integer type: `i8` to `i128`, `u8` to `u128`, `isize` or `usize`. The trait is sealed: no other
+/// crate can implement it.
 pub trait NativeInteger: Integer + Native + PrimInt {}
 
 impl<T: Native + PrimInt> NativeInteger for T {}
@@ -30,7 +31,7 @@ impl<T: Native> Integer for T {
     }
 
     fn mod_floor(&self, other: &T) -> T {
-        if other.is_minus_one() {
+        if is_minus_one(*other) {
             zero()
         } else {
             division::div_mod_floor(*self, *other).1
@@ -61,7 +62,15 @@ impl<T: Native> Integer for T {
         if is_zero(*self) || is_zero(*other) {
             return zero();
         }
-        T::from_magnitude(T::Magnitude::positive_lcm(self.magnitude(), other.magnitude()))
+        T::from_magnitude(positive_gcd_lcm(self.magnitude(), other.magnitude()).1)
+    }
+
+    fn gcd_lcm(&self, other: &T) -> (T, T) {
+        if is_zero(*self) || is_zero(*other) {
+            return (self.gcd(other), zero());
+        }
+        let (gcd, lcm) = positive_gcd_lcm(self.magnitude(), other.magnitude());
+        (T::from_magnitude(gcd), T::from_magnitude(lcm))
     }
 }
 

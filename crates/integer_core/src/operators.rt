@@ -1,11 +1,11 @@
-//! The numbers 0 and 1, the operators and three tests, over the numbers that the values mean. Each
-//! integer type has exact operators, so the condition `exact` asks nothing of a caller.
+//! Zero, one, the operators and four tests, specified on integers. Every integer type is `exact`, so
+//! callers never have to prove it.
 
-ghost use Rattle.std.specs.Prelude.{◌≡◌, ◌≢◌, ◌↔◌, ◌<ℤ◌, ◌+ℤ◌, ◌-ℤ◌, ◌*ℤ◌, pos, neg_ℤ, int_rem, int_div, IsTrue};
+ghost use Rattle.std.specs.Prelude.{◌≡◌, ◌≢◌, ◌↔◌, ◌<ℤ◌, ◌+ℤ◌, ◌-ℤ◌, ◌*ℤ◌, pos, negsuc, neg_ℤ, int_rem, int_div, IsTrue};
 
 use num_traits::Num;
 
-/// Returns the number 0. `zero::<i64>()` is `0`.
+/// Returns 0. `zero::<i64>()` is `0`.
 pub fn zero<T: Num>() -> T
     requires { T.exact }
     ensures in_range { T.fits (T.value result) }
@@ -14,7 +14,7 @@ pub fn zero<T: Num>() -> T
     T::zero()
 }
 
-/// Returns the number 1. `one::<i64>()` is `1`.
+/// Returns 1. `one::<i64>()` is `1`.
 pub fn one<T: Num>() -> T
     requires { T.exact }
     ensures in_range { T.fits (T.value result) }
@@ -45,6 +45,16 @@ pub fn is_negative<T: Num + PartialOrd>(a: T) -> bool
     ensures { IsTrue result ↔ (T.value a <ℤ pos 0) }
 {
     is_below(a, zero())
+}
+
+/// Returns `true` if `a` is -1, the only divisor whose quotient may not fit. `is_minus_one(-1)` is
+/// `true`.
+pub fn is_minus_one<T: Copy + Num + PartialOrd>(a: T) -> bool
+    requires exact { T.exact }
+    requires in_range { T.fits (T.value a) }
+    ensures { IsTrue result ↔ (T.value a ≡ negsuc 0) }
+{
+    is_negative(a) && is_zero(successor(a))
 }
 
 /// Returns `a + b`. `sum(2, 3)` is `5`.

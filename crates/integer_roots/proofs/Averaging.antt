@@ -3,12 +3,11 @@ use Rattle.std.specs.Prelude.{◌≡◌, ◌*◌, ◌+◌, ◌+ℤ◌, ◌-ℤ�
 use Rattle.std.specs.Int.{Width, bit_at, int_shr, FitsUnsignedBits}
 use Rattle.std.specs.Int.Bits.{xor_add_and, or_add_and}
 use Rattle.std.proofs.Common.{arith, subst, sym, ap, ◌∙◌, lt_of_le_of_lt}
-use Rattle.std.proofs.lemmas.Int.{ints}
+use Rattle.std.proofs.lemmas.Int.{ints, by_lt_z}
 use Rattle.std.proofs.lemmas.Nat.Bits.{bit_at_and, bit_at_or, bit_at_xor, bit_at-lt}
 use Rattle.std.proofs.lemmas.Nat.{and_le_l, or_lt, xor_lt}
 use Rattle.num_traits.specs.Laws.{bit_len, wrap_unsigned}
 use Rattle.num_traits.specs.Ints.{unsigned-wrap_fits}
-use Rattle.integer_core.specs.Range.{IsRange}
 use Rattle.integer_core.specs.TwosComplement.{IsTwosComplement}
 use Rattle.integer_core.proofs.Whole.{products}
 use Rattle.integer_roots.specs.Averages.{IsAverageFloor, IsAverageCeil}
@@ -19,7 +18,7 @@ record AreShared (a b both either one : ℤ) : Type 0 where
   pub by_both : a +ℤ b ≡ both +ℤ both +ℤ one
   pub by_either : either ≡ both +ℤ one
 
--- the number of the bits n, less this weight where the highest is set
+-- the number of the bits n, minus this weight if the highest is set
 abbrev weighted : ℕ → ℕ → ℕ → ℤ
 weighted h weight n = pos n -ℤ pos (weight * bit_at n h)
 
@@ -37,15 +36,22 @@ shifted_half : (x : ℤ) → ((pos 2 *ℤ int_shr x 1) ≤ℤ x) × (x <ℤ (pos
 shifted_half (pos n) = omega (arith, ints)
 shifted_half (negsuc n) = omega (arith, ints)
 
+-- a number that is half of a + b, to the nearest half, lies between a and b
+amid_fits : {fits : ℤ → Type 0} {a b : ℤ} → ((x y z : ℤ) → fits x → fits z → x ≤ℤ y → y ≤ℤ z → fits y) → fits a → fits b
+    → (z : ℤ) → (pos 2 *ℤ z) ≤ℤ (a +ℤ b +ℤ pos 1) → (a +ℤ b -ℤ pos 1) ≤ℤ (pos 2 *ℤ z) → fits z
+amid_fits {a = a} {b = b} between a_fits b_fits z below above = by_lt_z a b
+    (λ less. between a z b a_fits b_fits (omega (arith, products)) (omega (arith, products)))
+    (λ more. between b z a b_fits a_fits (omega (arith, products)) (omega (arith, products)))
+
 -- the averages of a and b by the bits m and n of a type in two's complement: they fit, since they lie between the two
 pub record AreAverages (fits : ℤ → Type 0) (a b both either half : ℤ) : Type 0 where
   pub floor : IsAverageFloor a b (both +ℤ half) × fits (both +ℤ half)
   pub ceil : IsAverageCeil a b (either -ℤ half) × fits (either -ℤ half)
 
-pub averages : {w : Width} {number : ℕ → ℤ} {fits : ℤ → Type 0} {low high a b : ℤ} {m n : ℕ} → IsRange fits low high → IsTwosComplement w number
-    → fits a → fits b → number m ≡ a → number n ≡ b → pos m ≡ wrap_unsigned (bit_len w) a → pos n ≡ wrap_unsigned (bit_len w) b
+pub averages : {w : Width} {number : ℕ → ℤ} {fits : ℤ → Type 0} {a b : ℤ} {m n : ℕ} → ((x y z : ℤ) → fits x → fits z → x ≤ℤ y → y ≤ℤ z → fits y)
+    → IsTwosComplement w number → fits a → fits b → number m ≡ a → number n ≡ b → pos m ≡ wrap_unsigned (bit_len w) a → pos n ≡ wrap_unsigned (bit_len w) b
     → AreAverages fits a b (number (bit_and m n)) (number (bit_or m n)) (int_shr (number (bit_xor m n)) 1)
-averages {w} {number} {a = a} {b = b} {m = m} {n = n} range complement a_fits b_fits a_is b_is a_bits b_bits =
+averages {w} {number} {fits} {a = a} {b = b} {m = m} {n = n} between complement a_fits b_fits a_is b_is a_bits b_bits =
     let m_small = subst (FitsUnsignedBits (bit_len w)) (sym a_bits) (unsigned-wrap_fits (bit_len w) a) in
     let n_small = subst (FitsUnsignedBits (bit_len w)) (sym b_bits) (unsigned-wrap_fits (bit_len w) b) in
     let shares : AreShared a b (number (bit_and m n)) (number (bit_or m n)) (number (bit_xor m n)) = rw (
@@ -56,9 +62,11 @@ averages {w} {number} {a = a} {b = b} {m = m} {n = n} range complement a_fits b_
       complement.is _ (xor_lt (bit_len w) m n m_small n_small),
     ) (shared (hbits w) complement.weight m n) in
     let half = shifted_half (number (bit_xor m n)) in
-    let a_in = (range.between a).0 a_fits in
-    let b_in = (range.between b).0 b_fits in
+    let amid : (z : ℤ) → (pos 2 *ℤ z) ≤ℤ (a +ℤ b +ℤ pos 1) → (a +ℤ b -ℤ pos 1) ≤ℤ (pos 2 *ℤ z) → fits z = amid_fits between a_fits b_fits in
     record {
-      floor = (omega (arith, products, shares.by_both), (range.between _).1 (omega (arith, products, shares.by_both)));
-      ceil = (omega (arith, products, shares.by_both, shares.by_either), (range.between _).1 (omega (arith, products, shares.by_both, shares.by_either)));
+      floor = (omega (arith, products, shares.by_both), amid _ (omega (arith, products, shares.by_both)) (omega (arith, products, shares.by_both)));
+      ceil = (
+        omega (arith, products, shares.by_both, shares.by_either),
+        amid _ (omega (arith, products, shares.by_both, shares.by_either)) (omega (arith, products, shares.by_both, shares.by_either)),
+      );
     }

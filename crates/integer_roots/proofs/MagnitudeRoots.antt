@@ -1,4 +1,4 @@
--- Roots of whole numbers by the roots of their magnitudes.
+-- Roots of integers by the roots of their magnitudes.
 use Rattle.std.specs.Prelude.{◌≡◌, ◌≢◌, ◌<ℤ◌, ◌≤ℤ◌, ℤ, pos, negsuc, neg_ℤ, unsigned_abs}
 use Rattle.std.proofs.Common.{ℕ, zero, suc, ◌+◌, ◌^◌, ◌<◌, ◌≤◌, arith, refl, mul-le-mul_right}
 use Rattle.std.proofs.lemmas.Int.{ints, by_lt_z}
@@ -12,7 +12,7 @@ use Rattle.integer_roots.proofs.Powers.{power_one, power_two, floor_root}
 first_floor_root : (a : ℕ) → IsFloorRoot (pos a) 1 (pos a)
 first_floor_root a = floor_root (omega (arith, power_one a)) (omega (arith, power_one (a + 1)))
 
--- each number is its own first root
+-- the root of degree 1 of a number is the number
 pub first_root : (x : ℤ) → IsRoot x 1 x
 first_root (pos a) = record { from_zero = λ h. first_floor_root a; below_zero = λ h. absurd (omega (arith, ints)) }
 first_root (negsuc a) = record { from_zero = λ h. absurd (omega (arith, ints)); below_zero = λ h. (refl, first_floor_root (suc a)) }
@@ -31,7 +31,7 @@ root_fits {x = x} {r = pos m} {n = n} range x_fits degree is floor =
     below_fits range x_fits
     (λ h. omega (arith, power_two m, mul-le-mul_right m h, pow-le-pow_right {n = m} (omega arith) {i = 2} {j = n} degree))
 
--- and so does its negation, where the type has a number below 0
+-- and so does its negation, if the type has a negative number
 pub negation_fits : {fits : ℤ → Type 0} {low high x m : ℤ} → IsRange fits low high → fits x → x <ℤ pos 0 → pos 0 ≤ℤ m → fits m
     → fits (neg_ℤ m)
 negation_fits {x = x} {m = m} range x_fits below up m_fits =

@@ -14,7 +14,7 @@ cross p q r t h k =
     let e : t ≡ r + (t - r) = omega arith in
     rw e (omega (arith, mul-le-mul_right (t - r) h))
 
--- of x and y and their powers, the sum of products is greatest where each meets its own
+-- of x and y and their powers, the sum of products is largest if each meets its own
 cross_powers : (x y m : ℕ) → x * y ^ m + y * x ^ m ≤ x * x ^ m + y * y ^ m
 cross_powers x y m = elim (cases_lt x y) [
   | inl h ↦ omega (arith, cross x y (x ^ m) (y ^ m) (omega arith) (pow-le-pow_left (omega arith) m))

@@ -28,7 +28,7 @@ root_is_only_one {x} h s k = by_lt_z x (pos 0)
     (λ below. omega (arith, linear, floor_root_is_only_one (h.below_zero below).1 _ (k.below_zero below).1))
     (λ up. floor_root_is_only_one (h.from_zero up) _ (k.from_zero up))
 
--- a state has one turn at most, and none where the run ends
+-- a state has at most one turn, and no turn if the run ends at it
 one_turn : (a : ℕ) (s t : Guess) → IsNewtonTurn a s t → IsOnly (IsNewtonTurn a s) t
 one_turn a (Rising x) (Rising y) h (Rising z) k = cc (h.1, k.1)
 one_turn a (Rising x) (Rising y) h (Falling z) k = absurd (omega arith)

@@ -68,13 +68,13 @@ module _ {power square rest whole : ℕ} (v : IsPowerLeft power square rest whol
   pub last_left : rest ≡ 1 → power * square ≡ whole
   last_left one = rw (one, power_one) at v.left
 
--- a base is below another where its power is, and the place of a number's highest bit is at least that of each power of two up to it
+-- a base is below another if its power is, and the place of a number's highest bit is at least that of each power of two up to it
 pub base_below : (x y n : ℕ) → x ^ n < y ^ n → x < y
 base_below x y n less = lt_of_not-le (λ h. omega (arith, pow-le-pow_left h n))
 
 pub highest_bit : (a k top : ℕ) → 2 ^ k ≤ a → a < 2 ^ (top + 1) → k ≤ top
 highest_bit a k top le lt = omega (arith, lt_of_not-le {n = top + 1} {m = k} (λ h. omega (arith, pow_mono h)))
 
--- the floor root of a number at least 0, by powers in ℕ
+-- the floor root of a non-negative number, by powers in ℕ
 pub floor_root : {a r n : ℕ} → r ^ n ≤ a → a < (r + 1) ^ n → IsFloorRoot (pos a) n (pos r)
 floor_root le lt = record { from_zero = omega (arith, ints); power_le = omega (arith, ints); next_power_gt = omega (arith, ints) }

@@ -1,5 +1,5 @@
--- The guesses of the two loops of a root of any degree by Newton's method, in whole numbers: they stay above 1 and
--- small, and the one where the loops end is the root.
+-- The guesses of the two loops of a root of any degree by Newton's method, in integers: they stay above 1 and
+-- small, and the one at which the loops end is the root.
 use Rattle.std.specs.Prelude.{pos}
 use Rattle.std.proofs.Common.{◌≡◌, ℕ, zero, suc, ◌+◌, ◌-◌, ◌*◌, ◌/◌, ◌%◌, ◌^◌, ◌<◌, ◌≤◌, arith, mul-le-mul_left, mul-le-mul_right, div-mul-le_self, pow_mono, pow_pos}
 use Rattle.std.proofs.Math.Nat.{pow-succ', pow-le-pow_left, pow-le-pow_right}
@@ -91,7 +91,7 @@ module _ {step : ℕ → ℕ → Type 0} {a n limit first : ℕ} (known : IsStar
   above_root (goes_over {x} {y} reached is down) = newton_settled (stepped x y is (in_range reached).above_one) down
   above_root (falls {x} {y} reached is down) = newton_above (stepped x y is (in_range reached).above_one)
 
-  -- so the guess where they end is the root
+  -- so the guess at which they end is the root
   pub ended_at_root : {x turns : ℕ} → IsReached step first (Falling x) turns → (next : ℕ) × step x next × (x ≤ next) → IsFloorRoot (pos a) n (pos x)
   ended_at_root {x = x} reached (next, is, up) =
       floor_root (newton_stays (stepped x next is (in_range reached).above_one) up) (above_root reached)

@@ -102,7 +102,7 @@ near_at_first {first = first} s =
       bound = omega arith;
     }
 
--- where the step does not rise, a run from a falling guess is one from the same guess, rising
+-- if the step does not rise, a run from a falling guess is one from the same guess, rising
 settled_run : (a x : ℕ) (rest : List Guess) → square_step a x ≤ x
     → IsRun (IsNewtonTurn a) (NewtonEnds a) (Falling x ∷ rest) → IsRun (IsNewtonTurn a) (NewtonEnds a) (Rising x ∷ rest)
 settled_run a x [] le run = omega arith
@@ -135,7 +135,7 @@ module _ {a first : ℕ} (known : IsSquareStart a first) where
   near_root (goes_over reached is down) = near_root reached
   near_root (falls {x} {y} reached is down) = near_after_turn a x y _ (positive reached) (near_root reached) is known.start.limited (λ h. down)
 
-  -- where they end, their turns are those of the run
+  -- at their end, their turns are those of the run
   pub turns_of_run : {x turns : ℕ} → IsReached (IsSquareStep a) first (Falling x) turns → (next : ℕ) × IsSquareStep a x next × (x ≤ next)
       → AreSquareRootTurns (pos a) turns
   turns_of_run reached (next, is, up) = record {

@@ -2,7 +2,7 @@
 use Rattle.std.specs.Prelude.{ℕ, ◌+◌, ◌-◌, ◌*◌, ◌/◌, ◌^◌, ◌<◌, ◌≤◌}
 use Rattle.integer_roots.specs.SquareRuns.{Guess, Rising, Falling}
 
--- The number that is guessed, in either loop.
+-- The number that a guess of either loop holds.
 -- Examples: of Rising 8: 8; of Falling 9: 9.
 abbrev pub guess_of : Guess → ℕ
 guess_of (Rising x) = x

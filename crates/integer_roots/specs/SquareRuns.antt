@@ -1,13 +1,13 @@
 -- The two loops of a square root by Newton's method, as runs of guesses.
 use Rattle.std.specs.Prelude.{◌≡◌, ℕ, ℤ, ◌+◌, ◌/◌, ◌^◌, ◌<◌, ◌≤◌, ◌<ℤ◌, ◌≤ℤ◌, pos, unsigned_abs}
-use Rattle.integer_core.specs.Runs.{Makes}
+use Rattle.integer_core.specs.Runs.{RunHasTurns}
 
 -- Newton's step for the square root of a from the guess x is (a / x + x) / 2, both quotients rounded down.
 -- Examples: 99 from 8: 10; 99 from 10: 9; 16 from 4: 4.
 abbrev pub square_step : ℕ → ℕ → ℕ
 square_step a x = (a / x + x) / 2
 
--- A guess is a number with its loop: in the first loop guesses rise, and in the second they fall.
+-- A guess is a number and the loop that makes it: guesses rise in the first loop, and fall in the second.
 -- Examples: of 99: Rising 8, Rising 10 and Falling 9.
 pub data Guess : Type 0 where
   Rising : ℕ → Guess
@@ -21,7 +21,7 @@ IsNewtonTurn a (Rising x) (Falling y) = (y < x) × (y ≡ square_step a x)
 IsNewtonTurn a (Falling x) (Falling y) = (y < x) × (y ≡ square_step a x)
 IsNewtonTurn a (Falling x) (Rising y) = ⊥
 
--- No turn follows where the step from a rising guess stays, or that from a falling guess does not fall.
+-- The loops end at a rising guess whose step is the same guess, and at a falling guess whose step is not smaller.
 -- Examples: of 99: Falling 9; of 16: Rising 4; not of 99: Rising 8.
 abbrev pub NewtonEnds : ℕ → Guess → Type 0
 NewtonEnds a (Rising x) = square_step a x ≡ x
@@ -33,7 +33,7 @@ pub record IsHighestBit (a top : ℕ) : Type 0 where
   pub power_le : 2 ^ top ≤ a
   pub next_power_gt : a < 2 ^ (top + 1)
 
--- The first guess is 2 to the power of half of top + 1, where the half is rounded down.
+-- The first guess is 2 to the power of half of top + 1, rounded down.
 -- Examples: 6: 8; 5: 8; 4: 4.
 abbrev pub first_guess : ℕ → ℕ
 first_guess top = 2 ^ ((top + 1) / 2)
@@ -43,9 +43,9 @@ first_guess top = 2 ^ ((top + 1) / 2)
 pub record MakesNewtonRun (a n : ℕ) : Type 0 where
   pub top : ℕ
   pub highest : IsHighestBit a top
-  pub run : Makes (IsNewtonTurn a) (NewtonEnds a) (Rising (first_guess top)) n
+  pub run : RunHasTurns (IsNewtonTurn a) (NewtonEnds a) (Rising (first_guess top)) n
 
--- The number of turns is 0 for x below 4, and else that of the run of the two loops.
+-- The number of turns is 0 for x below 4, and otherwise that of the run of the two loops.
 -- Examples: 99: 2; 15: 1; 3: 0.
 pub record AreSquareRootTurns (x : ℤ) (turns : ℕ) : Type 0 where
   pub below_four : x <ℤ pos 4 → turns ≡ 0

@@ -1,12 +1,14 @@
-//! Averages, and those of the twelve native types by the bits of both numbers.
+//! Averages. Those of the native types are computed from the bits of both numbers.
 
+ghost use Rattle.integer_core.specs.TwosComplement.{IsTwosComplement};
 ghost use Rattle.integer_roots.specs.Averages.{IsAverageCeil, IsAverageFloor};
 
 use integer_core::{Integer, NativeInteger};
+use num_traits::PrimInt;
 
-/// Averages of two integers. They never overflow.
+/// Averages of two integers. They never overflow: `i64::MAX.average_ceil(&i64::MAX)` is `i64::MAX`.
 pub trait Average: Integer {
-    /// Returns the average rounded down. `(-2).average_floor(&-5)` is `-4`.
+    /// Returns the average rounded down. `(-2).average_floor(&-5)` is `-4`, and `3.average_floor(&10)` is `6`.
     fn average_floor(&self, other: &Self) -> Self
         requires self_in_range { Self.fits (Self.value self.now) }
         requires other_in_range { Self.fits (Self.value other.now) }
@@ -53,11 +55,11 @@ impl<T: NativeInteger> Average for T {
     }
 }
 
-/// Returns the averages rounded down and up. The first is the bits that both have and half of those
-/// that one alone has; the second is the bits that either has, less that half.
-fn both_averages<T: NativeInteger>(a: T, b: T) -> (T, T)
-    requires a_in_range { T.fits (T.value a) }
-    requires b_in_range { T.fits (T.value b) }
+/// Returns the averages rounded down and up. The first is the sum of the bits that both numbers have and
+/// half of those that only one has; the second is the bits that either has, minus that half.
+fn both_averages<T: PrimInt>(a: T, b: T) -> (T, T)
+    requires complement { IsTwosComplement T.width (λ n. T.value (T.of_bits n)) }
+    requires in_range { T.fits (T.value a) × T.fits (T.value b) }
     ensures in_range { T.fits (T.value result.0) × T.fits (T.value result.1) }
     ensures floor { IsAverageFloor (T.value a) (T.value b) (T.value result.0) }
     ensures ceil { IsAverageCeil (T.value a) (T.value b) (T.value result.1) }

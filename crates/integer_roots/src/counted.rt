@@ -1,4 +1,4 @@
-//! Roots, with the turns of their loops.
+//! Square roots that also return the number of iterations of their loops.
 
 ghost use Rattle.std.specs.Prelude.{◌≤◌, ◌≤ℤ◌, pos};
 ghost use Rattle.integer_roots.specs.RootOf.{IsRoot};
@@ -6,12 +6,13 @@ ghost use Rattle.integer_roots.specs.SquareRuns.{AreSquareRootTurns};
 
 use crate::root::Roots;
 
-/// A square root by Newton's method, with the turns of its two loops.
+/// The square root by Newton's method, with the number of iterations of its two loops.
+/// `16i64.sqrt_counted()` is `(4, 0)`.
 pub trait SqrtCounted: Roots {
-    /// Returns the square root and the number of turns, which is at most five. `99.sqrt_counted()` is
+    /// Returns the square root and the number of iterations, which is at most five. `99.sqrt_counted()` is
     /// `(9, 2)`: the guesses are 8, 10 and 9.
     ///
-    /// May be called where `self` is not negative.
+    /// May be called if `self` is not negative.
     fn sqrt_counted(&self) -> (Self, u32)
         requires in_range { Self.fits (Self.value self.now) }
         requires from_zero { pos 0 ≤ℤ Self.value self.now }

@@ -1,4 +1,4 @@
-//! Cube roots: by binary digits up to 32 bits, by Newton's method above.
+//! Cube roots: by binary digits up to 32 bits, and by Newton's method for larger numbers.
 
 ghost use Rattle.std.specs.Prelude.{◌≡◌, ◌≤◌, ◌<◌, ◌^◌, pos};
 ghost use Rattle.integer_roots.specs.RootOf.{IsFloorRoot};
@@ -45,7 +45,7 @@ fn cube_root_by_newton(a: u64) -> u64
     newton(1 << a.ilog2().div_ceil(3), step).0
 }
 
-/// Returns the cube root of `a`, a number of `bits` bits. It computes a digit for each three bits,
+/// Returns the cube root of `a`, a number of `bits` bits. Each three bits of `a` give a digit of the root,
 /// the highest first.
 fn cube_root_by_digits(a: u32, bits: u32) -> u32
     requires narrow { bits ≤ 32 }

@@ -1,4 +1,4 @@
-//! The roots of the native types, by the roots of their magnitudes.
+//! The roots of the native types, computed from the roots of their magnitudes.
 
 ghost use Rattle.std.specs.Prelude.{◌≡◌, ◌≢◌, ◌%◌, ◌≤◌, ◌≤ℤ◌, ◌<ℤ◌, neg_ℤ, pos};
 ghost use Rattle.num_traits.specs.Laws.{bit_len};
@@ -10,8 +10,9 @@ use crate::root_of_degree::root_of_degree;
 use crate::square_root::square_root_counted;
 use integer_core::NativeInteger;
 use integer_core::operators::{is_negative, negated, zero};
+use num_traits::PrimInt;
 
-/// Returns the square root, and the turns of its loops.
+/// Returns the square root, and the number of iterations of its loops.
 pub(crate) fn square_root_by_magnitude<T: NativeInteger<Magnitude = u64>>(x: T) -> (T, u32)
     requires in_range { T.fits (T.value x) }
     requires from_zero { pos 0 ≤ℤ T.value x }
@@ -34,7 +35,7 @@ pub(crate) fn cube_root_by_magnitude<T: NativeInteger<Magnitude = u64>>(x: T) ->
 }
 
 /// Returns the number of bits of the type.
-fn bits<T: NativeInteger>() -> u32
+fn bits<T: PrimInt>() -> u32
     ensures { result ≡ bit_len T.width }
 {
     zero::<T>().leading_zeros()

@@ -1,12 +1,12 @@
-//! Newton's method on whole numbers, at 64 bits.
+//! Newton's method on integers of 64 bits.
 
 ghost use Rattle.std.specs.Prelude.{ℕ, ◌<◌, ◌≤◌, ◌^◌};
 ghost use Rattle.integer_roots.specs.SquareRuns.{Guess, Falling};
 ghost use Rattle.integer_roots.specs.NewtonRuns.{guess_of, IsReached};
 
-/// Returns the guess where both loops end, and their turns. The first loop steps while the step
-/// rises, the second while it falls. Both end: each guess of the first is above the one before,
-/// within 64 bits, and each guess of the second is below the one before.
+/// Returns the guess at which both loops end, and the number of iterations. The first loop iterates while
+/// the next guess is larger, the second while it is smaller. Both end: in the first each guess is larger
+/// than the one before, and has at most 64 bits; in the second each is smaller.
 #[tactic(auto, using(crate::proofs::RootGuesses::newton_turns))]
 pub(crate) fn newton<F: Fn(u64) -> u64>(first: u64, step: F) -> (u64, u32)
     requires { (guess : Guess) (n : ℕ) → IsReached (F.post step) first guess n

@@ -1,4 +1,4 @@
-//! Roots, and those of the native types of at most 64 bits.
+//! The trait of roots, its free functions, and its implementation for the native types of at most 64 bits.
 
 ghost use Rattle.std.specs.Prelude.{◌≡◌, ◌≢◌, ◌%◌, ◌≤ℤ◌, pos};
 ghost use Rattle.integer_roots.specs.RootOf.{IsRoot, IsWithin64Bits};
@@ -8,11 +8,11 @@ use crate::counted::SqrtCounted;
 use crate::magnitude_roots::{cube_root_by_magnitude, root_by_magnitude, square_root_by_magnitude};
 use integer_core::{Integer, NativeInteger};
 
-/// Roots of an integer of at most 64 bits, rounded toward zero.
+/// Roots of an integer of at most 64 bits, rounded toward zero. `27.cbrt()` is `3`.
 pub trait Roots: Integer {
     /// Returns the root of degree `n`, rounded toward zero. `12345.nth_root(4)` is `10`.
     ///
-    /// May be called where `n` is not 0, and `n` is odd or `self` is not negative.
+    /// May be called if `n` is not 0, and `n` is odd or `self` is not negative; [`checked::nth_root`] has no condition.
     fn nth_root(&self, n: u32) -> Self
         requires in_range { Self.fits (Self.value self.now) }
         requires degree { n ≢ 0 }
@@ -22,7 +22,7 @@ pub trait Roots: Integer {
 
     /// Returns the square root, rounded down. `99.sqrt()` is `9`.
     ///
-    /// May be called where `self` is not negative.
+    /// May be called if `self` is not negative; [`checked::sqrt`] has no condition.
     fn sqrt(&self) -> Self
         requires in_range { Self.fits (Self.value self.now) }
         requires from_zero { pos 0 ≤ℤ Self.value self.now }
@@ -45,8 +45,9 @@ pub trait Roots: Integer {
     ghost width_law: { IsWithin64Bits Self.low Self.high };
 }
 
-/// Returns the root of degree `n`, rounded toward zero. `nth_root(12345, 4)` is `10`. May be called where
-/// [`Roots::nth_root`] may.
+/// Returns the root of degree `n`, rounded toward zero. `nth_root(12345, 4)` is `10`.
+///
+/// May be called if [`Roots::nth_root`] may; [`checked::nth_root`] has no condition.
 pub fn nth_root<T: Roots>(x: T, n: u32) -> T
     requires x_in_range { T.fits (T.value x) }
     requires degree { n ≢ 0 }
@@ -57,7 +58,9 @@ pub fn nth_root<T: Roots>(x: T, n: u32) -> T
     x.nth_root(n)
 }
 
-/// Returns the square root, rounded down. `sqrt(99)` is `9`. May be called where [`Roots::sqrt`] may.
+/// Returns the square root, rounded down. `sqrt(99)` is `9`.
+///
+/// May be called if [`Roots::sqrt`] may; [`checked::sqrt`] has no condition.
 pub fn sqrt<T: Roots>(x: T) -> T
     requires x_in_range { T.fits (T.value x) }
     requires from_zero { pos 0 ≤ℤ T.value x }

@@ -1,4 +1,4 @@
-//! Roots of any degree from 3 up by Newton's method, and powers by squares, of numbers of 64 bits.
+//! Roots of degree 3 or more by Newton's method, and powers by squaring, of numbers of 64 bits.
 
 ghost use Rattle.std.specs.Prelude.{◌≡◌, ◌/◌, ◌^◌, ◌≤◌, ◌<◌, pos, ◌*◌};
 ghost use Rattle.integer_roots.specs.RootOf.{IsFloorRoot};
@@ -29,8 +29,8 @@ pub(crate) fn root_of_degree(a: u64, n: u32) -> u64
     newton(1 << top.div_ceil(n), step).0
 }
 
-/// Returns the quotient of `a` by the power of `x` of degree `k`, or 0 where the power does not fit. It
-/// divides by a power of two with a shift.
+/// Returns the quotient of `a` by the power of `x` of degree `k`, or 0 if the power does not fit. If
+/// `x` is a power of two, it shifts.
 fn quotient_by_power(a: u64, x: u64, k: u32) -> u64
     requires positive { 0 < x }
     requires degree { 0 < k }
@@ -50,7 +50,7 @@ fn quotient_by_power(a: u64, x: u64, k: u32) -> u64
     }
 }
 
-/// Returns the power of `x` of degree `k`, or `None` where it does not fit.
+/// Returns the power of `x` of degree `k`, or `None` if it does not fit.
 fn checked_power(x: u64, k: u32) -> Option<u64>
     requires positive { 0 < x }
     requires degree { 0 < k }
@@ -67,7 +67,7 @@ fn checked_power(x: u64, k: u32) -> Option<u64>
     checked_product(power, square)
 }
 
-/// Returns the product, or `None` where it does not fit.
+/// Returns the product, or `None` if it does not fit.
 fn checked_product(a: u64, b: u64) -> Option<u64>
     ensures { SomeIff result (a * b < 2 ^ 64) (a * b) }
 {

@@ -6,8 +6,8 @@ ghost use Rattle.integer_roots.specs.RootOf.{IsFloorRoot};
 
 use crate::newton::newton;
 
-/// Returns the square root of `a`, and the turns of the two loops. The first guess is a power of two
-/// near the root. Where it is below the root, the first loop steps up; the second steps down.
+/// Returns the square root of `a`, and the number of iterations of the two loops. The first guess is a
+/// power of two near the root. If it is below the root, the first loop steps up; the second steps down.
 pub(crate) fn square_root_counted(a: u64) -> (u64, u32)
     ensures root { IsFloorRoot (pos a) 2 (pos result.0) }
     ensures turns { AreSquareRootTurns (pos a) result.1 }

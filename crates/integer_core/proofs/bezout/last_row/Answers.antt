@@ -11,7 +11,7 @@ pub rows-init : goal.rows-init
 rows-init g c =
     let first = c.of_first-previous.ensures in
     rw (first.remainder, first.x, first.y, c.zero.ensures.value, c.one.ensures.value)
-    (rows_fit_first g.met.T.Integer.range_law c.requires.a_in_range c.requires.b_in_range c.requires.nonzero c.requires.has_pair)
+    (rows_fit_first g.met.T.Integer.range_law c.requires.in_range.0 c.requires.in_range.1 c.requires.nonzero c.requires.has_pair)
 
 pub div_rem-requires-clause-quotient_fits : goal.div_rem-requires-clause-quotient_fits
 div_rem-requires-clause-quotient_fits g c q h =

@@ -8,7 +8,7 @@ use Rattle.integer_core.proofs.divisors.is_multiple_of.Goals as goal
 pub remainder-requires-clause-quotient_fits : goal.remainder-requires-clause-quotient_fits
 remainder-requires-clause-quotient_fits g c =
     let division = (truncated_is _ _ (iff_false c.is_zero.ensures c.if-is_zero.false)).division in
-    other_quotient_fits g.met.T.Native.native_law.range c.requires.n_in_range c.requires.d_in_range (grind (arith, linear)) division
+    other_quotient_fits g.met.T.Native.native_law.range c.requires.in_range.0 c.requires.in_range.1 (grind (arith, linear)) division
 
 pub returns-then-is_zero : goal.returns-then-is_zero
 returns-then-is_zero g c = rw (c.is_zero.ensures.0 c.if-is_zero.true) (λ t. rw (c.is_zero-then-is_zero.ensures.0 t) (Divides-zero _), λ h. c.is_zero-then-is_zero.ensures.1 (zero_divides h))

@@ -1,11 +1,21 @@
+use Rattle.std.proofs.Common.{inl, inr}
 use Rattle.integer_core.proofs.GcdDomain.{gcd_fits_is}
+use Rattle.integer_core.proofs.SteinSteps.{counted_by_magnitudes, power_of_smallest}
 use Rattle.integer_core.proofs.stein.binary_gcd.Goals as goal
+
+pub gcd_of_magnitudes-gcd-requires-clause-power : goal.gcd_of_magnitudes-gcd-requires-clause-power
+gcd_of_magnitudes-gcd-requires-clause-power g c smallest m_nonzero n_nonzero = elim (c.has_smallest.ensures.0 smallest) [
+  | inl low ↦ inl (power_of_smallest g.met.T.Native.native_law.least low c.magnitude.ensures.value m_nonzero)
+  | inr low ↦ inr (power_of_smallest g.met.T.Native.native_law.least low c.magnitude-2.ensures.value n_nonzero)
+]
 
 pub from_magnitude-requires : goal.from_magnitude-requires
 from_magnitude-requires g c =
-    (gcd_fits_is g.met.T.Native.native_law.range c.requires.a_in_range c.requires.b_in_range).0 c.requires.gcd_fits _ c.gcd_of_magnitudes-gcd.ensures.greatest
+    let counted = c.gcd_of_magnitudes-gcd.ensures in
+    let all = counted_by_magnitudes c.magnitude.ensures.value c.magnitude-2.ensures.value c.has_smallest.ensures counted.greatest counted.at_once counted.by_turns counted.bound in
+    (gcd_fits_is g.met.T.Native.native_law.range c.requires.in_range.0 c.requires.in_range.1).0 c.requires.gcd_fits _ all.greatest
 
 pub returns-clause-gcd : goal.returns-clause-gcd
 returns-clause-gcd g c =
-    let e = c.gcd_of_magnitudes-gcd.ensures in
-    rw c.from_magnitude.ensures.value (record { greatest = e.greatest; turns = e.turns; bound = e.bound })
+    let counted = c.gcd_of_magnitudes-gcd.ensures in
+    rw c.from_magnitude.ensures.value (counted_by_magnitudes c.magnitude.ensures.value c.magnitude-2.ensures.value c.has_smallest.ensures counted.greatest counted.at_once counted.by_turns counted.bound)

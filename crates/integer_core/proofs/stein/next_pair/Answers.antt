@@ -1,6 +1,9 @@
-use Rattle.std.proofs.Common.{inl, refl}
+use Rattle.std.proofs.Common.{arith}
+use Rattle.integer_core.proofs.Whole.{sizes}
 use Rattle.integer_core.proofs.stein.next_pair.Goals as goal
 
-pub returns-then-is_smaller-clause-turn : goal.returns-then-is_smaller-clause-turn
-returns-then-is_smaller-clause-turn g c =
-    inl (record { above = c.is_smaller.ensures.0 c.if-is_smaller.true; m = c.odd_difference.ensures.odd_part; n = refl })
+pub odd_difference-requires-clause-below : goal.odd_difference-requires-clause-below
+odd_difference-requires-clause-below g c =
+    let m_up = g.met.M.Unsigned.unsigned_law c.args.m in
+    let n_up = g.met.M.Unsigned.unsigned_law c.args.n in
+    omega (arith, sizes, c.is_below.ensures.0 c.if-is_below.true)

@@ -1,4 +1,3 @@
-use Rattle.std.specs.Int.{w64}
 use Rattle.std.proofs.Common.{arith}
 use Rattle.integer_core.proofs.OddParts.{turning_falls}
 use Rattle.integer_core.proofs.OddLoops.{loop_begins, loop_counts, loop_ends, loop_goes_on}
@@ -8,7 +7,7 @@ pub turns-init : goal.turns-init
 turns-init c = loop_begins (c.ranges.a.fits, c.ranges.b.fits) c.requires.a_odd c.requires.b_odd
 
 pub overflow_add-turns : goal.overflow_add-turns
-overflow_add-turns c = omega (arith, loop_counts c.turns.invariant w64 c.ranges.a.fits c.ranges.b.fits)
+overflow_add-turns c = omega (arith, loop_counts c.turns.invariant (omega (arith, c.ranges.a.fits)) (omega (arith, c.ranges.b.fits)))
 
 pub turns-smaller : goal.turns-smaller
 turns-smaller c = turning_falls c.turns.invariant.kept c.next_pair.ensures.turn

@@ -3,8 +3,8 @@ use Rattle.integer_core.proofs.OddParts.{few_turns, odd_part_le}
 use Rattle.integer_core.proofs.SteinSteps.{gcd_positive}
 use Rattle.integer_core.proofs.stein.positive_gcd.Goals as goal
 
-pub with_twos-requires : goal.with_twos-requires
-with_twos-requires g c =
+pub times_power_of_two-requires : goal.times_power_of_two-requires
+times_power_of_two-requires g c =
     let parts = c.odd_parts-m.ensures in
     let odd = c.narrowing_gcd-odd.ensures.odd_gcd.greatest in
     record { positive = gcd_positive parts.left.odd odd; product_fits = (parts.gcd _ odd).1 }
@@ -14,7 +14,7 @@ returns-clause-gcd g c =
     let parts = c.odd_parts-m.ensures in
     let odd = c.narrowing_gcd-odd.ensures.odd_gcd in
     record {
-      greatest = rw c.with_twos.ensures.value (parts.gcd _ odd.greatest).0;
+      greatest = rw c.times_power_of_two.ensures.value (parts.gcd _ odd.greatest).0;
       run = record { first = _; left = parts.left; right = parts.right; run = odd.run };
       bound = λ k l a_fits b_fits. few_turns k l odd.few (omega (arith, odd_part_le parts.left)) (omega (arith, odd_part_le parts.right));
     }

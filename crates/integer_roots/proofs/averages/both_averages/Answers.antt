@@ -13,11 +13,11 @@ are_averages g c =
     let either = laws.bitor_law c.args.a c.args.b c.bitor-either.result c.bitor-either.ensures in
     let one = laws.bitxor_law c.args.a c.args.b c.bitxor.result c.bitxor.ensures in
     let half = laws.shr_law c.bitxor.result 1 c.shr-half.result c.shr-half.ensures in
-    let a_fits = c.requires.a_in_range in
-    let b_fits = c.requires.b_in_range in
+    let a_fits = c.requires.in_range.0 in
+    let b_fits = c.requires.in_range.1 in
     let a_is = ap g.T.Number.value (fixed.value_round_trip_law _ a_fits) in
     let b_is = ap g.T.Number.value (fixed.value_round_trip_law _ b_fits) in
-    rw (half, one, both, either) (averages g.met.T.Integer.range_law g.met.T.Native.native_law.complement a_fits b_fits a_is b_is (fixed.bits_of_law _ a_fits) (fixed.bits_of_law _ b_fits))
+    rw (half, one, both, either) (averages (λ x y z. g.T.Number.between_law x y z g.met.T.Integral.exact_law) c.requires.complement a_fits b_fits a_is b_is (fixed.bits_of_law _ a_fits) (fixed.bits_of_law _ b_fits))
 
 pub add-requires : goal.add-requires
 add-requires g c = g.met.T.Zero.can_add_law _ _ (λ _. (are_averages g c).floor.1)

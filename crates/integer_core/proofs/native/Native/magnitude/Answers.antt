@@ -1,10 +1,26 @@
-use Rattle.std.proofs.Common.{arith, subst}
-use Rattle.integer_core.proofs.Whole.{sizes}
+use Rattle.std.proofs.Common.{◌∙◌, arith, subst, sym}
+use Rattle.integer_core.proofs.Ranges.{distance_fits, magnitude_by_distance, within_fits}
+use Rattle.integer_core.proofs.Whole.{linear}
 use Rattle.integer_core.proofs.native.Native.magnitude.Goals as goal
 
-pub successor-requires : goal.successor-requires
-successor-requires g c =
-    record { sum_fits = subst g.Self.Magnitude.Number.fits (grind (arith, sizes)) (g.met.Self.Native.native_law.magnitude _ c.requires) }
+pub successor-requires-clause-sum_fits : goal.successor-requires-clause-sum_fits
+successor-requires-clause-sum_fits g c = within_fits g.met.Self.Native.native_law.range c.requires (grind (arith, linear))
+
+pub difference-requires-clause-difference_fits : goal.difference-requires-clause-difference_fits
+difference-requires-clause-difference_fits g c =
+    rw (c.zero.ensures.value, c.successor.ensures.value) (distance_fits g.met.Self.Native.native_law.range c.requires (c.is_negative.ensures.0 c.if-is_negative.true))
+
+pub successor-requires-then-is_negative-clause-sum_fits : goal.successor-requires-then-is_negative-clause-sum_fits
+successor-requires-then-is_negative-clause-sum_fits g c =
+    let native = g.met.Self.Native.native_law in
+    let distance = rw (c.zero.ensures.value, c.successor.ensures.value) at c.difference.ensures.value in
+    let cast = c.as_.ensures.value g.met.Self.Integral.exact_law g.met.Self.Magnitude.Integral.exact_law in
+    let is = magnitude_by_distance native (λ z. g.met.Self.Magnitude.Integral.wrap_law z) distance c.difference.ensures.in_range (c.is_negative.ensures.0 c.if-is_negative.true) cast in
+    subst g.Self.Magnitude.Number.fits (sym is) (native.magnitude _ c.requires)
 
 pub returns-then-is_negative-clause-value : goal.returns-then-is_negative-clause-value
-returns-then-is_negative-clause-value g c = grind (arith, sizes)
+returns-then-is_negative-clause-value g c =
+    let native = g.met.Self.Native.native_law in
+    let distance = rw (c.zero.ensures.value, c.successor.ensures.value) at c.difference.ensures.value in
+    let cast = c.as_.ensures.value g.met.Self.Integral.exact_law g.met.Self.Magnitude.Integral.exact_law in
+    c.successor-then-is_negative.ensures.value ∙ magnitude_by_distance native (λ z. g.met.Self.Magnitude.Integral.wrap_law z) distance c.difference.ensures.in_range (c.is_negative.ensures.0 c.if-is_negative.true) cast
