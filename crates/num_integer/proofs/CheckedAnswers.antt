@@ -1,5 +1,5 @@
--- What returns an answer exactly in the domain of a call.
-use Rattle.std.specs.Prelude.{◌≡◌, ◌≢◌, ◌⊎◌, ◌↔◌, ◌≤ℤ◌, ◌<ℤ◌, ◌*ℤ◌, ℕ, ℤ, pos, neg_ℤ, unsigned_abs, int_div, Option, Some, None, Bool, IsTrue}
+-- Calls that return a result exactly in their domain.
+use Rattle.std.specs.Prelude.{◌≡◌, ◌≢◌, ◌⊎◌, ◌↔◌, ◌≤ℤ◌, ◌<ℤ◌, ◌-ℤ◌, ◌*ℤ◌, ℤ, pos, neg_ℤ, unsigned_abs, int_div, Option, Some, None}
 use Rattle.std.proofs.Common.{arith, inl, inr, subst, sym, ap, ◌∙◌}
 use Rattle.std.proofs.lemmas.Int.{unsigned_abs-mul}
 use Rattle.integer_core.proofs.CommonDivisors.{gcd-mul-lcm, gcd-nonzero, lcm-zero, lcm_exists, only_lcm}
@@ -8,24 +8,27 @@ use Rattle.integer_core.proofs.Whole.{linear, left_comm, sizes}
 use Rattle.integer_core.specs.Divisors.{IsGreatestCommonDivisor, IsLeastCommonMultiple}
 use Rattle.integer_core.specs.Range.{EachFits, IsRange}
 use Rattle.num_integer.proofs.DivisorSizes.{divisor_at_most, lcm-positive}
-use Rattle.num_integer.proofs.FittingAnswers.{each_fits, fits_below, test_inside}
+use Rattle.num_integer.proofs.FittingAnswers.{each_fits, fits_below}
 use Rattle.num_integer.proofs.OrderedProducts.{product_from_zero}
 use Rattle.num_integer.specs.Checked.{AnswersWhere}
-use Rattle.num_integer.specs.Parts.{IsWithin}
 
--- the same domain and answer in other words
+-- the same domain and result in other words
 answers_as : {D E X : Type 0} {A B : X → Type 0} (r : Option X) → D ↔ E → ((x : X) → A x → B x) → AnswersWhere D A r → AnswersWhere E B r
 answers_as (Some x) same each h = (same.0 h.0, each x h.1)
 answers_as None same each none = λ e. none (same.1 e)
 
--- where a relation has one number alone, what returns that number where it fits returns it in the domain of the relation
+-- if a relation has one number alone, a call that returns that number if it fits returns it in the domain of the relation
 pub answers_only : (fits P : ℤ → Type 0) {X : Type 0} (value : X → ℤ) {z : ℤ} (r : Option X) → P z → ((y : ℤ) → P y → z ≡ y)
     → AnswersWhere (fits z) (λ x. fits (value x) × (value x ≡ z)) r → AnswersWhere (EachFits fits P) (λ x. fits (value x) × P (value x)) r
 answers_only fits P value r own only = answers_as r (each_fits {fits = fits} {P = P} own only (λ f. f, λ f. f)) (λ x is. (is.0, subst P (sym is.1) own))
 
+-- the same of a result that is that number
+pub answer_only : {fits P : ℤ → Type 0} {z w : ℤ} → P z → ((y : ℤ) → P y → z ≡ y) → fits w → w ≡ z → EachFits fits P × (fits w × P w)
+answer_only {fits} {P} own only w_fits is = (λ y h. subst fits (is ∙ only y h) w_fits, (w_fits, subst P (sym is) own))
+
 -- ---- products by their magnitudes
 
--- where the magnitude of a product fits, the product does
+-- if the magnitude of a product fits, the product does
 pub product_fits_by_size : {fits : ℤ → Type 0} {low high : ℤ} (a b : ℤ) → IsRange fits low high → fits a → fits b → fits (pos (unsigned_abs (a *ℤ b))) → fits (a *ℤ b)
 product_fits_by_size {low = low} a b range a_fits b_fits size_fits =
     let a_in = (range.between a).0 a_fits in
@@ -37,24 +40,27 @@ product_fits_by_size {low = low} a b range a_fits b_fits size_fits =
     ] in
     (range.between (a *ℤ b)).1 (least, omega (arith, sizes))
 
--- a number below 0 negated is its magnitude
+-- the negation of a negative number is its magnitude
 pub negated_is : (z : ℤ) → z <ℤ pos 0 → neg_ℤ z ≡ pos (unsigned_abs z)
 negated_is z below = omega (arith, sizes)
 
--- the test of the magnitude of a product
-pub test_of_size : {fits : ℤ → Type 0} {low high : ℤ} (a b : ℤ) {least most m n : ℕ} {answer : Bool} → IsRange fits low high → least ≡ unsigned_abs low → pos most ≡ high → m ≡ unsigned_abs a → n ≡ unsigned_abs b
-    → IsTrue answer ↔ IsWithin least most (pos m *ℤ pos n) → IsTrue answer ↔ fits (pos (unsigned_abs (a *ℤ b)))
-test_of_size a b range bottom top left right test = test_inside range bottom top (rw (unsigned_abs-mul a b, ← left, ← right) test)
+-- a number that is not negative is its magnitude
+pub same_size : (z : ℤ) → pos 0 ≤ℤ z → z ≡ pos (unsigned_abs z)
+same_size z up = omega (arith, sizes)
+
+-- 0 minus a number is its negation
+pub zero_minus : (z : ℤ) → pos 0 -ℤ z ≡ neg_ℤ z
+zero_minus z = omega (arith, linear)
 
 -- ---- least common multiples
 
--- with 0 it is 0
+-- the least common multiple with 0 is 0
 pub zero_lcm : (fits : ℤ → Type 0) {a b z : ℤ} → (a ≡ pos 0) ⊎ (b ≡ pos 0) → fits z → z ≡ pos 0 → EachFits fits (IsLeastCommonMultiple a b) × (fits z × IsLeastCommonMultiple a b z)
 zero_lcm fits {a} {b} with_zero z_fits is =
-    let own = subst (IsLeastCommonMultiple a b) (sym is) (lcm-zero with_zero) in
-    (λ y h. subst fits (only_lcm own h) z_fits, (z_fits, own))
+    let own = lcm-zero with_zero in
+    answer_only {P = IsLeastCommonMultiple a b} own (λ y. only_lcm own) z_fits is
 
--- else it is a number times the other divided by their greatest common divisor
+-- else it is the magnitude of one number times the other divided by their greatest common divisor
 pub lcm_by_gcd : {a b g q : ℤ} → b ≢ pos 0 → IsGreatestCommonDivisor a b g → q ≡ int_div b g → IsLeastCommonMultiple a b (pos (unsigned_abs (a *ℤ q)))
 lcm_by_gcd {a} {b} {g} {q} nonzero greatest is =
     let own = lcm_exists a b in
@@ -65,7 +71,7 @@ lcm_by_gcd {a} {b} {g} {q} nonzero greatest is =
     rw (exact, left_comm a g q, unsigned_abs-mul g (a *ℤ q)) (ap (λ (n : ℤ). n *ℤ pos (unsigned_abs (a *ℤ q))) size) in
     subst (IsLeastCommonMultiple a b) (cancel g _ _ g_nonzero (gcd-mul-lcm greatest own.1 ∙ product)) own.1
 
--- where it fits, the greatest common divisor does
+-- if it fits, the greatest common divisor does
 pub gcd_fits_with_lcm : {fits : ℤ → Type 0} {low high a b : ℤ} → IsRange fits low high → a ≢ pos 0 → b ≢ pos 0 → EachFits fits (IsLeastCommonMultiple a b) → EachFits fits (IsGreatestCommonDivisor a b)
 gcd_fits_with_lcm {a = a} {b = b} range a_nonzero b_nonzero each g greatest =
     let own = lcm_exists a b in

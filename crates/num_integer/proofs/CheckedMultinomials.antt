@@ -39,14 +39,14 @@ module _ {X : Type 0} {fits : ℤ → Type 0} {low high : ℤ} {value : X → �
       pub none_past_product : {t' c : ℤ} → t' ≡ t +ℤ value x → c ≡ coefficient_of t' (value x) → ¬ (fits (m *ℤ c)) → ¬ (HasFittingMultinomial fits value counts)
       none_past_product total ways past = none_past (λ h. past (rw (ways, total) h))
 
-      -- a coefficient that does not
+      -- a coefficient on the way that does not fit
       pub none_past_coefficient : ¬ (fits (coefficient_of (t +ℤ value x) (value x))) → ¬ (HasFittingMultinomial fits value counts)
       none_past_coefficient past = none_past (λ h.
           let c : ℕ = coefficient (unsigned_abs (t +ℤ value x)) (unsigned_abs (value x)) in
           let below : c ≤ unsigned_abs (m *ℤ pos c) = omega (arith, unsigned_abs-mul m (pos c), le-mul_of_pos_right c before.so_far.shared.positive) in
           past (fits_below range h (omega (arith, ints)) (omega (arith, ints, next_up))))
 
-      -- a sum that does not
+      -- a sum on the way that does not fit
       pub none_past_sum : All (λ (y : X). fits (value y)) counts → ¬ (fits (t +ℤ value x)) → ¬ (HasFittingMultinomial fits value counts)
       none_past_sum in_range past = none_past (λ h.
           let t_in = (range.between t).0 before.so_far.total_in_range in

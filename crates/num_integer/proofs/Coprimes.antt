@@ -14,7 +14,7 @@ use Rattle.num_integer.proofs.DivisorSizes.{divisor_at_most}
 pub Divides-difference : {d u v : ℤ} → Divides d u → Divides d v → Divides d (u -ℤ v)
 Divides-difference h k = record { factor = h.factor -ℤ k.factor; product = rw (h.product, k.product) (simp expand (omega (arith, linear))) }
 
--- the gcd is 1 exactly where no common divisor is above 1
+-- the gcd is 1 exactly if no common divisor is larger than 1
 pub coprime_exactly : {a b g : ℤ} → IsGreatestCommonDivisor a b g → (g ≡ pos 1) ↔ ((d : ℤ) → Divides d a → Divides d b → d ≤ℤ pos 1)
 coprime_exactly {a} {b} {g} h = (
   λ one d left right. divisor_at_most (omega (arith, ints)) (rw one at (h.greatest d left right)),
@@ -35,17 +35,17 @@ divided_by_gcd {g} {x} {y} nonzero h =
     let same : g *ℤ k.0 ≡ g = only_gcd (gcd-times g h.from_zero k.1) h in
     subst (λ (t : ℤ). IsGreatestCommonDivisor x y t) (cancel g k.0 (pos 1) nonzero (same ∙ sym (mul-one g))) k.1
 
--- the gcd of natural numbers, of which the second is not 0, is above 0
+-- the gcd of natural numbers, of which the second is not 0, is positive
 pub natural_gcd_positive : {n m d : ℕ} → 0 < m → IsGreatestCommonDivisor (pos n) (pos m) (pos d) → 0 < d
 natural_gcd_positive up h = omega (arith, ints, gcd-positive h (λ e. omega (arith, ints)))
 
--- a divisor above 0 of a natural number times the quotient by it is that number
+-- a positive divisor of a natural number times the quotient by it is that number
 pub natural_exact_quotient : {n d : ℕ} → 0 < d → Divides (pos d) (pos n) → d * (n / d) ≡ n
 natural_exact_quotient {n} {d} up h =
     let exact : pos n ≡ pos d *ℤ pos (n / d) = exact_quotient (λ e. omega (arith, ints)) h in
     sym (omega (arith, ints, exact))
 
--- natural numbers divided by their gcd, where it is above 0, have the gcd 1
+-- natural numbers divided by their gcd have the gcd 1 if it is positive
 pub natural_quotients_coprime : {n m d : ℕ} → 0 < d → IsGreatestCommonDivisor (pos n) (pos m) (pos d) → IsGreatestCommonDivisor (pos (n / d)) (pos (m / d)) (pos 1)
 natural_quotients_coprime {n} {m} {d} up h =
     let left = natural_exact_quotient up h.divides_left in

@@ -23,7 +23,7 @@ ceiled_quotient_range h =
     let equation = h.division.division.equation in
     (omega (arith, linear), omega (arith, linear))
 
--- a divisor of a whole number leaves no remainder of its magnitude
+-- the remainder of the magnitude of an integer by a divisor is 0
 pub divides_by_magnitude : (z : ℤ) (d : ℕ) → 0 < d → Divides (pos d) z ↔ (unsigned_abs z % d ≡ 0)
 divides_by_magnitude (pos n) d up = divides_is_natural up
 divides_by_magnitude (negsuc n) d up =

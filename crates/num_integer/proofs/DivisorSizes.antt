@@ -1,4 +1,4 @@
--- How great divisors and multiples are.
+-- How large divisors and multiples are.
 use Rattle.std.specs.Prelude.{◌≡◌, ◌≢◌, ◌<◌, ◌≤◌, ◌≤ℤ◌, ◌<ℤ◌, ◌*ℤ◌, ℤ, ℕ, pos, unsigned_abs}
 use Rattle.std.proofs.Common.{arith, ◌∙◌, inl, inr, refl}
 use Rattle.std.proofs.lemmas.Int.{ints}
@@ -11,15 +11,15 @@ use Rattle.integer_core.proofs.Quotients.{zero_or_not}
 use Rattle.integer_core.proofs.Ranges.{within_fits}
 use Rattle.integer_core.proofs.Whole.{comm, linear, products, sizes}
 
--- a divisor of a number above 0 is at most that number
+-- a divisor of a positive number is at most that number
 pub divisor_at_most : {u v : ℤ} → pos 0 <ℤ v → Divides u v → u ≤ℤ v
 divisor_at_most up h = let size = divisor_size h (λ none. omega (arith, linear)) in omega (arith, sizes)
 
--- a gcd with a number above 0 fits
+-- a gcd with a positive number fits
 pub gcd_with_positive_fits : {fits : ℤ → Type 0} {low high a b g : ℤ} → IsRange fits low high → fits b → pos 0 <ℤ b → IsGreatestCommonDivisor a b g → fits g
 gcd_with_positive_fits range b_fits up h = within_fits range b_fits (inl (h.from_zero, divisor_at_most up h.divides_right))
 
--- a gcd is no greater than a number that both are not above, by magnitudes
+-- a gcd is at most a number that both are at most, by magnitudes
 pub gcd_at_most : {a b g : ℤ} (most : ℕ) → unsigned_abs a ≤ most → unsigned_abs b ≤ most → IsGreatestCommonDivisor a b g → unsigned_abs g ≤ most
 gcd_at_most {a} {b} most left right h = elim (zero_or_not a) [
   | inl none ↦ let same = only_gcd (rw none at h) (gcd-swap (gcd-zero b)) in omega (arith, ints)
@@ -46,7 +46,7 @@ lcm_at_most_product {a} {b} {l} h = elim (zero_or_not a) [
   ]
 ]
 
--- the least common multiple of numbers that are not 0 is above 0
+-- the least common multiple of numbers that are not 0 is positive
 pub lcm-positive : {a b l : ℤ} → IsLeastCommonMultiple a b l → a ≢ pos 0 → b ≢ pos 0 → pos 0 <ℤ l
 lcm-positive {a} {b} {l} h a_nonzero b_nonzero =
     let x = h.least (a *ℤ b) (record { factor = b; product = refl }) (record { factor = a; product = comm a b }) in

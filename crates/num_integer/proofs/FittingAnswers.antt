@@ -1,4 +1,4 @@
--- Where the results of calls fit, in the words of the tests of `Fits`.
+-- When the results of calls fit, in the words of the tests of `Fits`.
 use Rattle.std.specs.Prelude.{◌≡◌, ◌≢◌, ◌↔◌, ◌≤◌, ◌<◌, ◌^◌, ◌≤ℤ◌, ℕ, ℤ, pos, IsTrue, nat_le, ◌⊎◌, ◌<ℤ◌, negsuc, neg_ℤ, unsigned_abs, Bool, true, false, not, ◌*◌, ◌/◌, min, max}
 use Rattle.std.proofs.Common.{arith, inl, inr, subst, refl, sym, ap, ◌∙◌}
 use Rattle.std.proofs.Math.Nat.{pow-le-pow_right}
@@ -21,22 +21,22 @@ use Rattle.num_integer.specs.Parts.{IsWithin, signed}
 
 -- ---- what fits a lawful type
 
--- a number at least 0 fits exactly where it is at most the greatest
+-- a number that is not negative fits exactly if it is at most the largest
 pub fits_up : {fits : ℤ → Type 0} {low high : ℤ} {most z : ℕ} → IsRange fits low high → pos most ≡ high → z ≤ most ↔ fits (pos z)
 fits_up {z = z} range top = (λ h. (range.between (pos z)).1 (omega (arith, linear), omega (arith, ints)), λ h. omega (arith, ints, (range.between (pos z)).0 h))
 
 pub test_up : {fits : ℤ → Type 0} {low high : ℤ} {most z : ℕ} → IsRange fits low high → pos most ≡ high → IsTrue (nat_le z most) ↔ fits (pos z)
 test_up range top = (λ t. (fits_up range top).0 (leb-true _ _ t), λ f. le-leb _ _ ((fits_up range top).1 f))
 
--- what a test of order means where it is false
+-- what it means that a test of order is false
 pub from_test : {answer : Bool} {a b : ℤ} → IsTrue answer ↔ (a <ℤ b) → answer ≡ false → b ≤ℤ a
 from_test test e = from_not_less (iff_false test e)
 
--- a number at least 0 and at most one that fits
+-- a number that is not negative and at most one that fits
 pub fits_below : {fits : ℤ → Type 0} {low high x y : ℤ} → IsRange fits low high → fits y → pos 0 ≤ℤ x → x ≤ℤ y → fits x
 fits_below range h up below = within_fits range h (inl (up, below))
 
--- where a relation has one number alone, each number of it fits exactly where that one does
+-- if a relation has one number alone, each number of it fits exactly if that one does
 pub each_fits : {fits P : ℤ → Type 0} {x : ℤ} {A : Type 0} → P x → ((y : ℤ) → P y → x ≡ y) → A ↔ fits x → A ↔ EachFits fits P
 each_fits {fits} own only test = (λ t y h. subst fits (only y h) (test.0 t), λ each. test.1 (each _ own))
 
@@ -51,7 +51,7 @@ few_bits t c range h power = elim (cases_lt t 128) [
   | inr many ↦ absurd (omega (arith, ints, (range.between (pos c)).0 h, pow-le-pow_right {n = 2} (omega arith) many))
 ]
 
--- by a number above 0 each quotient fits
+-- by a positive number each quotient fits
 pub quotients_by_positive : {fits : ℤ → Type 0} {low high n d : ℤ} {answer : Bool} → IsRange fits low high → fits n → fits d
     → EachKind (λ Kind. IsTrue answer ↔ ((d ≢ pos 0) × EachFits fits (IsQuotient Kind n d))) → pos 0 <ℤ d → IsTrue answer
 quotients_by_positive range n_fits d_fits test up =
@@ -88,7 +88,7 @@ ceiled = record { division = λ h. h.division; only = only_ceiled; exact = λ h.
 pub each_kind : {P : (ℤ → ℤ → ℤ → ℤ → Type 0) → Type 0} → ((Kind : ℤ → ℤ → ℤ → ℤ → Type 0) → IsKind Kind → P Kind) → EachKind P
 each_kind each = (each IsTruncated truncated, each IsFloored floored, each IsCeiled ceiled)
 
--- ---- where the quotient of a division fits, of any kind
+-- ---- when the quotient of a division fits, of any kind
 
 module _ {fits : ℤ → Type 0} {low high n d : ℤ} {Kind : ℤ → ℤ → ℤ → ℤ → Type 0} (kind : IsKind Kind) (range : IsRange fits low high) (n_fits : fits n) (d_fits : fits d) where
   pub by_minus_one : (magnitude top : ℕ) → d ≡ negsuc 0 → magnitude ≡ unsigned_abs n → pos top ≡ high → IsTrue (nat_le magnitude top) ↔ ((d ≢ pos 0) × EachFits fits (IsQuotient Kind n d))
@@ -106,9 +106,9 @@ module _ {fits : ℤ → Type 0} {low high n d : ℤ} {Kind : ℤ → ℤ → �
   pub by_other : d ≢ pos 0 → d ≢ negsuc 0 → IsTrue true ↔ ((d ≢ pos 0) × EachFits fits (IsQuotient Kind n d))
   by_other nonzero other = (λ _. (nonzero, λ q h. other_quotient_fits range n_fits d_fits other (kind.division h.division)), λ _. refl)
 
--- ---- where the next and the previous multiple fit
+-- ---- when the next and the previous multiple fit
 
--- a number is that of its parts
+-- a number is that of its sign and magnitude
 pub signed_is : {negative : Bool} {magnitude : ℕ} {z : ℤ} → IsTrue negative ↔ (z <ℤ pos 0) → magnitude ≡ unsigned_abs z → signed negative magnitude ≡ z
 signed_is {negative = true} sign size = let below = sign.0 refl in omega (arith, linear, abs_is)
 signed_is {negative = false} sign size = let up = from_test sign refl in omega (arith, linear, abs_is)
@@ -118,7 +118,7 @@ signed-not true magnitude e = omega (arith, linear)
 signed-not false magnitude e = omega (arith, linear)
 
 module _ {fits : ℤ → Type 0} {low high : ℤ} {least most : ℕ} (range : IsRange fits low high) (bottom : least ≡ unsigned_abs low) (top : pos most ≡ high) where
-  -- a number fits where it lies between the ends
+  -- a number fits exactly if it lies between the ends
   inside : (z : ℤ) → IsWithin least most z ↔ fits z
   inside z = (
     λ h. (range.between z).1 (omega (arith, linear, abs_is), omega (arith, linear)),
@@ -136,14 +136,14 @@ module _ {fits : ℤ → Type 0} {low high : ℤ} {least most : ℕ} (range : Is
       → IsTrue answer ↔ IsWithin least most (of (signed s m) (signed t n)) → IsTrue answer ↔ fits (of a b)
   test_of_both of s m t n test = test_inside (rw (signed_is s m, signed_is t n) at test)
 
--- where the multiple is a known number
+-- if the multiple is a known number
 pub multiple_domain : {fits : ℤ → Type 0} {Kind : ℤ → ℤ → ℤ → ℤ → Type 0} {n d m : ℤ} {answer : Bool} → IsKind Kind → d ≢ pos 0 → IsMultiple Kind n d m → IsTrue answer ↔ fits m
     → IsTrue answer ↔ ((d ≢ pos 0) × EachFits fits (IsMultiple Kind n d))
 multiple_domain kind nonzero own test = each_fits_by nonzero own (λ k h. sym (only_multiple (λ q r p s. kind.only) own k h)) test
 
--- ---- where the greatest common divisor and the least common multiple fit
+-- ---- when the greatest common divisor and the least common multiple fit
 
--- where m and n are the magnitudes of a and b
+-- m and n are the magnitudes of a and b
 module _ {fits : ℤ → Type 0} {low high a b : ℤ} {most m n : ℕ} (range : IsRange fits low high) (top : pos most ≡ high) (left : m ≡ unsigned_abs a) (right : n ≡ unsigned_abs b) where
   -- with 0 the gcd is the other magnitude
   pub gcd_of_zero : {g : ℕ} → (m ≡ 0) ⊎ ((m ≢ 0) × (n ≡ 0)) → g ≡ max m n → IsTrue (nat_le g most) ↔ EachFits fits (IsGreatestCommonDivisor a b)
@@ -154,7 +154,7 @@ module _ {fits : ℤ → Type 0} {low high a b : ℤ} {most m n : ℕ} (range : 
       ] in
       each_fits own (λ h. only_gcd own) (test_up range top)
 
-  -- otherwise it is no greater than either
+  -- else it is at most either
   pub gcd_of_nonzero : {least : ℕ} → fits a → fits b → m ≢ 0 → n ≢ 0 → least ≡ min m n → IsTrue (nat_le least most) ↔ EachFits fits (IsGreatestCommonDivisor a b)
   gcd_of_nonzero {least} a_fits b_fits m_nonzero n_nonzero is = (
     λ t g greatest.

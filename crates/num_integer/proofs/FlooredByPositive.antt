@@ -1,4 +1,4 @@
--- Quotients, remainders and multiples by a number above 0.
+-- Quotients, remainders and multiples by a positive number.
 use Rattle.std.specs.Prelude.{◌≡◌, ◌≢◌, ◌↔◌, ◌≤ℤ◌, ◌<ℤ◌, ◌+ℤ◌, ◌-ℤ◌, ◌*ℤ◌, ℤ, ℕ, pos, unsigned_abs, int_div, Bool, IsTrue}
 use Rattle.std.proofs.Common.{arith, ◌∙◌, subst}
 use Rattle.std.proofs.lemmas.Int.{by_lt_z}
@@ -34,7 +34,7 @@ rest_leads_to_multiple {n} {d} {r} h = record { factor = h.quotient +ℤ pos 1; 
 pub ceiled_remainder_range : {n d q r : ℤ} → pos 0 <ℤ d → IsCeiled n d q r → (r ≤ℤ pos 0) × (pos 0 <ℤ (r +ℤ d))
 ceiled_remainder_range up h = (omega (arith, sizes, h.sign, h.division.small), omega (arith, sizes, h.sign, h.division.small))
 
--- a ceiled quotient is the least number whose multiple is not below the dividend
+-- a ceiled quotient is the smallest number whose multiple is not below the dividend
 pub ceiled_quotient_least : {n d q : ℤ} → pos 0 <ℤ d → IsQuotient IsCeiled n d q → (n ≤ℤ (q *ℤ d)) × ((m : ℤ) → n ≤ℤ (m *ℤ d) → q ≤ℤ m)
 ceiled_quotient_least {n} {d} {q} up h =
     let range = ceiled_remainder_range up h.division in
@@ -45,7 +45,7 @@ ceiled_quotient_least {n} {d} {q} up h =
           (λ fine. fine),
     )
 
--- the next multiple is the least one from the number on
+-- the next multiple is the smallest one that is at least the number
 pub next_multiple_least : {n d m : ℤ} → pos 0 <ℤ d → IsMultiple IsCeiled n d m
     → (n ≤ℤ m) × (m <ℤ (n +ℤ d)) × Divides d m × ((u : ℤ) → n ≤ℤ u → Divides d u → m ≤ℤ u)
 next_multiple_least {n} {d} {m} up h =
@@ -67,7 +67,7 @@ next_multiple_least {n} {d} {m} up h =
           (λ fine. fine),
     )
 
--- where that multiple does not fit, no least multiple from the number on does
+-- if that multiple does not fit, no smallest multiple that is at least the number does
 pub least_multiple_beyond : (fits : ℤ → Type 0) {n d : ℤ} → pos 0 <ℤ d → ¬ ((d ≢ pos 0) × EachFits fits (IsMultiple IsCeiled n d))
     → (u : ℤ) → n ≤ℤ u → Divides d u → ((v : ℤ) → n ≤ℤ v → Divides d v → u ≤ℤ v) → ¬ (fits u)
 least_multiple_beyond fits up none u above divides least u_fits = none (
@@ -78,7 +78,7 @@ least_multiple_beyond fits up none u above divides least u_fits = none (
       subst fits same u_fits,
 )
 
--- such a quotient fits
+-- the quotient by a positive number fits
 pub positive_quotient_fits : {fits : ℤ → Type 0} {low high n d q r : ℤ} → IsRange fits low high → fits n → fits d → pos 0 <ℤ d → IsDivision n d q r → fits q
 positive_quotient_fits range n_fits d_fits up division = other_quotient_fits range n_fits d_fits (λ e. omega (arith, linear)) division
 
@@ -86,7 +86,7 @@ positive_quotient_fits range n_fits d_fits up division = other_quotient_fits ran
 pub operator_quotient_fits : {fits : ℤ → Type 0} {low high : ℤ} (n d : ℤ) → IsRange fits low high → fits n → fits d → pos 0 <ℤ d → fits (int_div n d)
 operator_quotient_fits n d range n_fits d_fits up = positive_quotient_fits range n_fits d_fits up (truncated_is n d (λ e. omega (arith, linear))).division
 
--- a sum with a number at least 0 fits exactly where it is at most the greatest number, by signs and magnitudes
+-- a sum with a number that is not negative fits exactly if it is at most the largest number, by signs and magnitudes
 pub sum_fits_exactly : {fits : ℤ → Type 0} {low high a b : ℤ} {negative answer : Bool} {m n h : ℕ} → IsRange fits low high → fits a → pos 0 ≤ℤ b → IsTrue negative ↔ (a <ℤ pos 0) → m ≡ unsigned_abs a
     → n ≡ unsigned_abs b → pos h ≡ high → IsTrue answer ↔ ((signed negative m +ℤ pos n) ≤ℤ pos h) → IsTrue answer ↔ fits (a +ℤ b)
 sum_fits_exactly {high = high} {a = a} {b = b} {answer = answer} {n = n} range a_fits up negative a_size b_size top test =

@@ -15,13 +15,13 @@ pub use Rattle.integer_core.proofs.Whole.{comm, dist, dist-left, expand, from_no
 pub use Rattle.num_integer.proofs.FittingAnswers.{signed_is}
 pub use Rattle.num_integer.proofs.IntegerPowers.{even_or_odd, even_power, int_pow-suc, int_pow-zero, odd_power, power_of_square, power_size}
 pub use Rattle.num_integer.proofs.Pascal.{coefficient-pos, coefficient-zero, none_above}
--- ---- least and greatest numbers
+-- ---- smallest and largest numbers
 
 pub use Rattle.num_integer.proofs.Least.{greatest_is_only, least_is_only}
--- ---- products in order
+-- ---- inequalities between products
 
 pub use Rattle.num_integer.proofs.OrderedProducts.{product_from_zero, multiples_apart, product_at_most, factor_positive}
--- ---- quotients, remainders and multiples by a number above 0
+-- ---- quotients, remainders and multiples by a positive number
 
 pub use Rattle.num_integer.proofs.FlooredByPositive.{floored_remainder_range, floored_by_range, only_pair_by_range, rest_leads_to_multiple, ceiled_remainder_range, ceiled_quotient_least, next_multiple_least, least_multiple_beyond, positive_quotient_fits, operator_quotient_fits, sum_fits_exactly}
 -- ---- sizes of divisors and multiples

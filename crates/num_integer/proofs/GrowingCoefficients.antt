@@ -17,7 +17,7 @@ more_things : (n j k : ℕ) → coefficient n k ≤ coefficient (j + n) k
 more_things n zero k = rw zero-add (le_refl _)
 more_things n (suc j) k = rw suc-add (le_trans (more_things n j k) (one_thing_more (j + n) k))
 
--- out of more things there are no fewer choices
+-- more things have at least as many choices
 pub coefficient_grows : (n m k : ℕ) → n ≤ m → coefficient n k ≤ coefficient m k
 coefficient_grows n m k h =
     let same : (m - n) + n ≡ m = omega arith in

@@ -1,4 +1,4 @@
--- Powers of whole numbers: their signs, one degree more, and the double degree.
+-- Powers of integers: their signs, one degree more, and the double degree.
 use Rattle.std.specs.Prelude.{◌≡◌, ◌⊎◌, ◌+◌, ◌%◌, ◌^◌, ◌*ℤ◌, ℤ, ℕ, pos, negsuc, neg_ℤ, zero, suc, unsigned_abs}
 use Rattle.std.specs.Int.{int_pow}
 use Rattle.std.proofs.Common.{arith, ap, ◌∙◌, inl, inr, refl, sym}

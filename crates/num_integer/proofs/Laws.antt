@@ -16,7 +16,7 @@ use Rattle.integer_roots.proofs.MagnitudeRoots as magnitude_roots
 use Rattle.num_integer.proofs.FittingAnswers.{each_kind}
 use Rattle.num_integer.proofs.Pascal.{divides_factorials, mirror, none_above}
 use Rattle.num_integer.proofs.Multinomials.{in_any_order, is_multinomial, only_multinomial}
-use Rattle.num_integer.proofs.Steps.{backwards, greatest_in_middle, one_item_more}
+use Rattle.num_integer.proofs.RowSteps.{backwards, greatest_in_middle, one_item_more}
 use Rattle.num_integer.specs.Laws as law
 
 -- ---- division and multiples

@@ -1,14 +1,14 @@
--- The least number with a property from another on, and the greatest up to another, are the only ones.
+-- The smallest number with a property that is at least another, and the largest that is at most another, are the only ones.
 use Rattle.std.specs.Prelude.{ℤ}
 use Rattle.std.proofs.Common.{arith}
 use Rattle.integer_core.proofs.Whole.{linear}
 use Rattle.integer_core.specs.Only.{IsOnly}
 use Rattle.num_integer.specs.Least.{IsGreatestTo, IsLeastFrom}
 
--- The least number from another on that has a property is the only one.
+-- The smallest number with a property that is at least another is the only one.
 pub least_is_only : {from t : ℤ} {Has : ℤ → Type 0} → IsLeastFrom from Has t → IsOnly (IsLeastFrom from Has) t
 least_is_only h u k = omega (arith, linear, h.least u k.from_there k.holds, k.least _ h.from_there h.holds)
 
--- The greatest number up to another that has a property is the only one.
+-- The largest number with a property that is at most another is the only one.
 pub greatest_is_only : {to t : ℤ} {Has : ℤ → Type 0} → IsGreatestTo to Has t → IsOnly (IsGreatestTo to Has) t
 greatest_is_only h u k = omega (arith, linear, h.greatest u k.to_there k.holds, k.greatest _ h.to_there h.holds)

@@ -1,11 +1,11 @@
 pub mod Pascal
 pub mod FittingAnswers
 pub mod IntegerPowers
-pub mod Steps
+pub mod RowSteps
 pub mod CheckedAnswers
 pub mod Multinomials
 pub mod CheckedMultinomials
-pub mod ScaledQuotients
+pub mod FlooredProducts
 pub mod Laws
 pub mod Least
 pub mod OrderedProducts

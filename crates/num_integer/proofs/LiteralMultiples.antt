@@ -38,7 +38,7 @@ lcm_is {a} {b} h = elim (zero_or_not b) [
   | inr nonzero ↦ only_lcm h (lcm-computed {q = pos (unsigned_abs b / euclid (suc (unsigned_abs b)) (unsigned_abs a) (unsigned_abs b))} refl refl nonzero (euclid_is (suc (unsigned_abs b)) (unsigned_abs a) (unsigned_abs b) (omega arith)) refl refl)
 ]
 
--- the lcm of two literals fits where the computed one does
+-- the lcm of two literals fits if the computed one does
 pub literal_lcm_fits : (bits : ℕ) {a b l : ℤ} → IsLeastCommonMultiple a b l → IsTrue (nat_lt (lcm_number (unsigned_abs a) (unsigned_abs b)) (2 ^ bits)) → FitsUnsignedBits bits l
 literal_lcm_fits bits h test = subst (FitsUnsignedBits bits) (sym (lcm_is h)) (ltb-true _ _ test)
 

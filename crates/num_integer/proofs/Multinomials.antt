@@ -27,7 +27,7 @@ use Rattle.num_integer.specs.Multinomial.{IsMultinomial, coefficients_from, prod
 abbrev pub product_of : List ℤ → ℕ
 product_of counts = product (coefficients_from 0 (map unsigned_abs counts))
 
--- products of coefficients and of factorials are above 0
+-- products of coefficients and of factorials are positive
 coefficients-pos : (before : ℕ) (counts : List ℕ) → 0 < product (coefficients_from before counts)
 unfolding coefficients_from
 coefficients-pos before [] = omega arith
@@ -56,7 +56,7 @@ is_multinomial counts =
     let same : product_of counts * product (map factorial (map unsigned_abs counts)) ≡ factorial (sum (map unsigned_abs counts)) = omega (arith, rw zero-add at (shared_out 0 (map unsigned_abs counts))) in
     record { factorials = ap pos same }
 
--- and nothing else is
+-- and no other number is
 pub only_multinomial : {counts : List ℤ} {m : ℤ} → IsMultinomial counts m → m ≡ pos (product_of counts)
 only_multinomial {counts} {m} h =
     let n : ℤ = pos (product_of counts) in
@@ -64,7 +64,7 @@ only_multinomial {counts} {m} h =
     cancel (pos factorials) m n (λ z. absurd (omega (arith, ints, factorials-pos (map unsigned_abs counts))))
     (comm (pos factorials) m ∙ h.factorials ∙ sym (is_multinomial counts).factorials ∙ comm n (pos factorials))
 
--- a sum of two counts that passes a bound has a coefficient that does
+-- if the sum of two counts exceeds a bound, their coefficient does
 pub past_top : (t x m top : ℕ) → t < top → x < top → top ≤ t + x → 0 < m → top ≤ m * coefficient (t + x) x
 past_top t x m top t_below x_below past positive =
     omega (arith, not_below_top (t + x) x (omega arith) (omega arith), le-mul_of_pos_right (coefficient (t + x) x) positive)
@@ -89,11 +89,11 @@ module _ {X : Type 0} {value : X → ℤ} {counts : List X} where
       let next = rw (← at, ← size) at first in
       record { positive = mul-pos h.positive (coefficient-pos (t + k) k (omega arith)); rest = omega (arith, h.rest) }
 
-  -- on the way m does not pass the multinomial
+  -- on the way m does not exceed the multinomial
   pub shared_below : {i t m : ℕ} → IsSharedSoFar value counts i t m → m ≤ product_of (map value counts)
   shared_below {i} {t} {m} h = omega (arith, h.rest, le-mul_of_pos_right m (coefficients-pos t (map unsigned_abs (map value (drop i counts)))))
 
-  -- and at the end it is that
+  -- and at the end it is the multinomial
   pub shared_last : {i t m : ℕ} → IsSharedSoFar value counts i t m → length counts ≤ i → m ≡ product_of (map value counts)
   unfolding coefficients_from
   shared_last {i} {t} {m} h done =
@@ -153,9 +153,9 @@ module _ {X : Type 0} {fits : ℤ → Type 0} {low high : ℤ} {value : X → �
   multinomial_last h done =
       subst (IsMultinomial (map value counts)) (omega (arith, ints, h.from_zero, shared_last h.shared done)) (is_multinomial (map value counts))
 
--- ---- where a coefficient fits, and where a multinomial
+-- ---- when a coefficient fits, and when a multinomial does
 
--- whether a coefficient within the greatest number was found
+-- whether a coefficient that is at most the largest number was found
 pub test_of : {fits : ℤ → Type 0} {low high : ℤ} {r : Bool} (found : Option ℕ) (c most : ℕ) → IsRange fits low high → pos most ≡ high → r ≡ is_some found
     → MatchOption found (most < c) (λ n. (n ≡ c) × (n ≤ most)) → IsTrue r ↔ fits (pos c)
 test_of (Some n) c most range top is h = ((λ _. (fits_up range top).0 (omega arith)), λ _. is)
@@ -167,7 +167,7 @@ test_of None c most range top is h = ((λ t. absurd (cc)), λ f. let below = (fi
 abbrev pub HasFittingMultinomial : {X : Type 0} → (ℤ → Type 0) → (X → ℤ) → List X → Type 0
 HasFittingMultinomial {X} fits value counts = All (λ (x : X). pos 0 ≤ℤ value x) counts × EachFits fits (IsMultinomial (map value counts))
 
--- the counts before the i-th are not negative, and their sum is at most the greatest number
+-- the counts before the i-th are not negative, and their sum is at most the largest number
 pub record IsWithinSoFar {X : Type 0} (value : X → ℤ) (counts : List X) (i total m most : ℕ) : Type 0 where
   pub shared : IsSharedSoFar value counts i total m
   pub within : m ≤ most
@@ -187,7 +187,7 @@ module _ {X : Type 0} {fits : ℤ → Type 0} {low high : ℤ} {value : X → �
       from_zero = AllWithin-more (λ (y : X). pos 0 ≤ℤ value y) counts 0 i before.from_zero (at_read counts (λ (y : X). pos 0 ≤ℤ value y) i x inside at up);
     }
 
-    -- a multinomial that passes the greatest number does not fit
+    -- a multinomial that exceeds the largest number does not fit
     pub none_past : most < m * coefficient (t + k) k → IsTrue false ↔ HasFittingMultinomial fits value counts
     none_past past = (
       λ t. absurd (cc),
@@ -218,7 +218,7 @@ factorials-set [] i y d h = absurd (omega arith)
 factorials-set (x ∷ xs) zero y d h = omega arith
 factorials-set (x ∷ xs) (suc i) y d h = let e = ap (λ (t : ℕ). factorial x * t) (factorials-set xs i y d (omega arith)) in omega arith
 
--- two numbers in each other's place
+-- two numbers exchanged
 swap_keeps_factorials : (l : List ℕ) (i j : ℕ) → i < length l → j < length l → product (map factorial (swap l i j)) ≡ product (map factorial l)
 swap_keeps_factorials l i j p q =
     let a : ℕ = get_or l i 0 in

@@ -29,11 +29,11 @@ remainder_is_natural {n} {d} up h = ap unsigned_abs (only_floored h.division (na
 pub division_is_natural : {n d q r : ℕ} → 0 < d → IsFloored (pos n) (pos d) (pos q) (pos r) → (q ≡ n / d) × (r ≡ n % d)
 division_is_natural {n} {d} up h = let same = only_floored h (natural_division n d up) in (ap unsigned_abs same.0, ap unsigned_abs same.1)
 
--- such a quotient fits
+-- the quotient by a positive number fits
 pub natural_quotient_fits : (bits : ℕ) {n d : ℕ} → n < 2 ^ bits → 0 < d → EachFits (FitsUnsignedBits bits) (IsQuotient IsFloored (pos n) (pos d))
 natural_quotient_fits bits {n} {d} small up q h = rw (only_floored h.division (natural_division n d up)).0 (omega (arith, div-le_self n d))
 
--- a divisor leaves no remainder
+-- the remainder by a divisor is 0
 pub divides_is_natural : {d n : ℕ} → 0 < d → Divides (pos d) (pos n) ↔ (n % d ≡ 0)
 divides_is_natural {d} {n} up = (
   λ h.

@@ -1,10 +1,10 @@
--- Products of whole numbers, in order.
+-- Inequalities between products of integers.
 use Rattle.std.specs.Prelude.{◌≡◌, ◌≤ℤ◌, ◌<ℤ◌, ◌+ℤ◌, ◌-ℤ◌, ◌*ℤ◌, ℤ, pos}
 use Rattle.std.proofs.Common.{arith}
 use Rattle.std.proofs.lemmas.Int.{by_lt_z}
 use Rattle.integer_core.proofs.Whole.{expand, linear, products}
 
--- products of numbers at least 0
+-- products of numbers that are not negative
 pub product_from_zero : (k d : ℤ) → pos 0 ≤ℤ k → pos 0 ≤ℤ d → pos 0 ≤ℤ (k *ℤ d)
 product_from_zero k d up from_zero = grind (arith, products)
 
@@ -23,7 +23,7 @@ product_at_most {u} {v} {x} {y} u_up u_at_most v_up v_at_most =
     let j = simp expand at second in
     omega (arith, products)
 
--- a factor of a number above 0, where the other factor is above 0
+-- a factor of a positive number is positive if the other factor is
 pub factor_positive : {g s m : ℤ} → pos 0 <ℤ m → pos 0 <ℤ g → m ≡ g *ℤ s → pos 0 <ℤ s
 factor_positive {g} {s} {m} up g_up e = by_lt_z (pos 0) s (λ fine. fine)
     (λ under.

@@ -4,19 +4,19 @@ use Rattle.std.proofs.lemmas.Bool.{cases_lt}
 use Rattle.std.proofs.Math.Nat.{eq_of_mul-eq-mul_left, le_of_mul-le-mul_left, mul-pos, pow-succ'}
 use Rattle.num_integer.specs.Coefficient.{coefficient, factorial}
 
--- one way to choose nothing
+-- there is one way to choose no things
 pub coefficient-zero : (n : ℕ) → coefficient n 0 ≡ 1
 unfolding coefficient
 coefficient-zero n = refl
 
--- no way to choose more than there are
+-- there is no way to choose more things than there are
 pub none_above : (n k : ℕ) → n < k → coefficient n k ≡ 0
 unfolding coefficient
 none_above n zero h = absurd (omega arith)
 none_above zero (suc k) h = refl
 none_above (suc n) (suc k) h = omega (arith, none_above n k (omega arith), none_above n (suc k) (omega arith))
 
--- a way to choose no more than there are
+-- there is a way to choose at most as many as there are
 pub coefficient-pos : (n k : ℕ) → k ≤ n → 0 < coefficient n k
 unfolding coefficient
 coefficient-pos n zero h = omega arith
@@ -36,7 +36,7 @@ pub next_in_row : (n k : ℕ) → k ≤ n → suc k * coefficient n (suc k) ≡ 
 unfolding coefficient
 next_in_row n k h = let e : (n - k) + suc k ≡ suc n = omega arith in omega (arith, absorb n k, ap (λ (m : ℕ). m * coefficient n k) e)
 
--- before the middle the next coefficient is no less
+-- before the middle the next coefficient is at least as large
 grows : (n k : ℕ) → suc (k + k) ≤ n → coefficient n k ≤ coefficient n (suc k)
 grows n k h =
     let f : suc k * coefficient n k ≤ (n - k) * coefficient n k = mul-le-mul_right (coefficient n k) (omega arith) in
@@ -72,36 +72,36 @@ divides_factorials n k h =
     let e : k + (n - k) ≡ n = omega arith in
     subst (λ (m : ℕ). factorial k * factorial (n - k) * coefficient m k ≡ factorial m) e (factorials_by_sum k (n - k))
 
--- a factorial is above 0
+-- a factorial is positive
 pub factorial-pos : (n : ℕ) → 0 < factorial n
 unfolding factorial
 factorial-pos zero = omega arith
 factorial-pos (suc n) = omega (arith, mul-le-mul_right (suc n) (factorial-pos n))
 
--- to choose k is to choose the n - k others
+-- to choose k of n things is to leave n - k of them
 pub mirror : (n k : ℕ) → k ≤ n → coefficient n k ≡ coefficient n (n - k)
 mirror n k h =
     let e : n - (n - k) ≡ k = omega arith in
     let other = rw e at (divides_factorials n (n - k) (omega arith)) in
     eq_of_mul-eq-mul_left (factorial k * factorial (n - k)) (mul-pos (factorial-pos k) (factorial-pos (n - k))) _ _ (omega (arith, divides_factorials n k h))
 
--- the lesser of k and n - k has the coefficient of k
+-- the smaller of k and n - k has the coefficient of k
 pub nearer_same : (n k m : ℕ) → k ≤ n → m ≡ min k (n - k) → coefficient n m ≡ coefficient n k
 nearer_same n k m h is = elim (cases_lt (n - k) k) [
   | inl far ↦ let e : m ≡ n - k = omega arith in rw e (sym (mirror n k h))
   | inr near ↦ let e : m ≡ k = omega arith in rw e refl
 ]
 
--- on the way to it no coefficient is greater
+-- no coefficient on the way to it is larger
 pub below_answer : (n k m : ℕ) → k ≤ n → m ≤ min k (n - k) → coefficient n m ≤ coefficient n k
 below_answer n k m h l = rw (← nearer_same n k _ h refl) (rises n m (min k (n - k)) l (omega arith))
 
--- so between its ends a row has no item below n
+-- so between the ends of a row each item is at least n
 pub not_below_top : (n k : ℕ) → 0 < k → k < n → n ≤ coefficient n k
 not_below_top n k some inside =
     let first = rw (coefficient-zero n) at (next_in_row n 0 (omega arith)) in omega (arith, below_answer n k 1 (omega arith) (omega arith))
 
--- and the answer is at least that power of two
+-- and the result is at least that power of two
 pub power_below_answer : (n k m : ℕ) → k ≤ n → m ≤ min k (n - k) → 2 ^ m ≤ coefficient n k
 power_below_answer n k m h l = le_trans (power_below n m (omega arith)) (below_answer n k m h l)
 

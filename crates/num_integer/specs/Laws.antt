@@ -17,7 +17,7 @@ use Rattle.num_integer.specs.Row.{middle_of, row_of}
 
 -- ---- division and multiples
 
--- by each divisor but 0 there is a quotient and a remainder of each kind
+-- by each divisor except 0 there is a quotient and a remainder of each kind
 abbrev pub DivisionExists : Type 0
 DivisionExists = EachKind (λ Kind. (n d : ℤ) → d ≢ pos 0 → (q r : ℤ) × Kind n d q r)
 
@@ -29,11 +29,11 @@ DivisionIsOnly = EachKind (λ Kind. (n d q r : ℤ) → Kind n d q r → IsOnly 
 abbrev pub QuotientIsOnly : Type 0
 QuotientIsOnly = EachKind (λ Kind. (n d q : ℤ) → IsQuotient Kind n d q → IsOnly (IsQuotient Kind n d) q)
 
--- and so is the remainder alone
+-- and the remainder alone is the only one
 abbrev pub RemainderIsOnly : Type 0
 RemainderIsOnly = EachKind (λ Kind. (n d r : ℤ) → IsRemainder Kind n d r → IsOnly (IsRemainder Kind n d) r)
 
--- and the quotient times the divisor
+-- and the quotient times the divisor is the only one
 abbrev pub MultipleIsOnly : Type 0
 MultipleIsOnly = EachKind (λ Kind. (n d m : ℤ) → IsMultiple Kind n d m → IsOnly (IsMultiple Kind n d) m)
 
@@ -80,7 +80,7 @@ LcmIsSymmetric = (a b l : ℤ) → IsLeastCommonMultiple a b l → IsLeastCommon
 abbrev pub GcdTimesLcm : Type 0
 GcdTimesLcm = (a b g l : ℤ) → IsGreatestCommonDivisor a b g → IsLeastCommonMultiple a b l → g *ℤ l ≡ pos (unsigned_abs (a *ℤ b))
 
--- the turns of Stein's loop are the only ones
+-- two numbers have one number of turns of Stein's loop
 abbrev pub GcdTurnsAreOnly : Type 0
 GcdTurnsAreOnly = (low a b : ℤ) (n : ℕ) → AreGcdTurns low a b n → IsOnly (AreGcdTurns low a b) n
 
@@ -101,7 +101,7 @@ BezoutAnswerExists = (a b : ℤ) → (g x y : ℤ) × IsBezoutAnswer a b g x y
 abbrev pub BezoutAnswerIsOnly : Type 0
 BezoutAnswerIsOnly = (a b g x y : ℤ) → IsBezoutAnswer a b g x y → IsOnly (λ (h, z, w). IsBezoutAnswer a b h z w) (g, x, y)
 
--- the turns of Euclid's loop are the only ones
+-- two numbers have one number of turns of Euclid's loop
 abbrev pub EuclidTurnsAreOnly : Type 0
 EuclidTurnsAreOnly = (a b : ℤ) (n : ℕ) → AreEuclidTurns a b n → IsOnly (AreEuclidTurns a b) n
 
@@ -124,17 +124,17 @@ RootIsOnly = (x : ℤ) (n : ℕ) (r : ℤ) → IsRoot x n r → IsOnly (IsRoot x
 abbrev pub FirstRoot : Type 0
 FirstRoot = (x : ℤ) → IsRoot x 1 x
 
--- the turns for a square root are the only ones
+-- a number has one number of turns for its square root
 abbrev pub SquareRootTurnsAreOnly : Type 0
 SquareRootTurnsAreOnly = (x : ℤ) (n : ℕ) → AreSquareRootTurns x n → IsOnly (AreSquareRootTurns x) n
 
 -- ---- coefficients
 
--- each choice of k of n things is a choice of the n - k others
+-- to choose k of n things is to leave n - k of them
 abbrev pub CoefficientMirror : Type 0
 CoefficientMirror = (n k : ℕ) → k ≤ n → coefficient n k ≡ coefficient n (n - k)
 
--- there is no choice of more than n of n things
+-- more than n of n things cannot be chosen
 abbrev pub CoefficientAboveRow : Type 0
 CoefficientAboveRow = (n k : ℕ) → n < k → coefficient n k ≡ 0
 
@@ -153,17 +153,18 @@ MultinomialIsOnly = (counts : List ℤ) (m : ℤ) → IsMultinomial counts m →
 abbrev pub MultinomialIgnoresOrder : Type 0
 MultinomialIgnoresOrder = (counts others : List ℤ) → IsPermutation counts others → (m : ℤ) → IsMultinomial counts m → IsMultinomial others m
 
--- the row of n has n + 1 items, where n is not negative
+-- the row of n has n + 1 items if n is not negative
 abbrev pub RowLength : Type 0
 RowLength = (n : ℤ) → pos 0 ≤ℤ n → pos (length (row_of n)) ≡ n +ℤ pos 1
 
--- the list is the same read from its end
+-- The list is the same from its end.
+-- Examples: 1, 2, 1; no items; not: 1, 2.
 abbrev pub IsPalindrome : List ℤ → Type 0
 IsPalindrome items = reverse items ≡ items
 
 abbrev pub RowIsPalindrome : Type 0
 RowIsPalindrome = (n : ℤ) → IsPalindrome (row_of n)
 
--- no item of a row is above the one in its middle
+-- no item of a row is larger than the one in its middle
 abbrev pub RowIsGreatestInMiddle : Type 0
 RowIsGreatestInMiddle = (n : ℤ) → All (λ item. item ≤ℤ middle_of n) (row_of n)

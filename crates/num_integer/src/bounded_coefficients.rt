@@ -1,4 +1,4 @@
-//! Coefficients of natural numbers up to a bound. Each call stops as soon as it passes the bound.
+//! Coefficients of natural numbers up to a bound. Each call stops as soon as it exceeds the bound.
 
 ghost use Rattle.std.specs.Prelude.{◌≡◌, ◌+◌, ◌*◌, ◌<◌, ◌≤◌};
 ghost use Rattle.std.specs.Option.{MatchOption};
@@ -6,9 +6,8 @@ ghost use Rattle.num_integer.specs.Coefficient.{coefficient};
 
 use crate::coefficients::factors;
 
-/// Returns the coefficient of `n` and `k + 1`, where `c` is that of `n` and `k`, or `None` where it is
-/// above `most`.
-#[tactic(auto, using(crate::proofs::Steps::next_natural, crate::proofs::Steps::next_natural_divides))]
+/// Returns the coefficient of `n` and `k + 1` if it is at most `most`. `c` is that of `n` and `k`.
+#[tactic(auto, using(crate::proofs::RowSteps::next_natural, crate::proofs::RowSteps::next_natural_divides))]
 fn next_within(c: u128, n: u128, k: u128, most: u128) -> Option<u128>
     requires k_below { k < n }
     requires current { c ≡ coefficient n k }
@@ -20,8 +19,8 @@ fn next_within(c: u128, n: u128, k: u128, most: u128) -> Option<u128>
     if next <= most { Some(next) } else { None }
 }
 
-/// Returns the coefficient of `n` and `k`, or `None` where it is above `most`. The loop stops at the
-/// first coefficient that is above `most`.
+/// Returns the coefficient of `n` and `k` if it is at most `most`. The loop stops at the first
+/// coefficient that exceeds `most`.
 #[tactic(auto, using(crate::proofs::Pascal::row_steps))]
 pub(crate) fn coefficient_within(n: u128, k: u128, most: u128) -> Option<u128>
     requires { 0 < most }
@@ -41,7 +40,7 @@ pub(crate) fn coefficient_within(n: u128, k: u128, most: u128) -> Option<u128>
     Some(coefficient)
 }
 
-/// The sum of counts, and their multinomial.
+/// The sum of the counts so far, and their multinomial.
 #[derive(Clone, Copy)]
 pub(crate) struct RunningMultinomial {
     pub(crate) total: u128,
@@ -49,7 +48,7 @@ pub(crate) struct RunningMultinomial {
 }
 
 impl RunningMultinomial {
-    /// Returns the same with one more count, or `None` where the multinomial is then above `most`.
+    /// Adds a count. Returns `None` if the multinomial then exceeds `most`.
     pub(crate) fn with_count(self, count: u128, most: u128) -> Option<RunningMultinomial>
         requires positive { 0 < self.multinomial }
         requires within { self.multinomial ≤ most }

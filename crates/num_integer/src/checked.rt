@@ -1,6 +1,5 @@
-//! The calls that have a condition, without the condition: each returns `Some` of the answer in the
-//! domain of the plain call of its name, and `None` everywhere else. `product_div_mod_floor` has no
-//! plain call: it returns `Some` if the divisor is not 0 and the quotient fits.
+//! The calls that have a condition, without it. Each returns `Some` of the result if the plain call of
+//! the same name may be made, and else `None`. Only `product_div_mod_floor` has no plain call.
 
 mod coefficients;
 mod division;

@@ -1,4 +1,4 @@
-//! Binomials and multinomials.
+//! Binomial and multinomial coefficients.
 
 ghost use Rattle.std.specs.Prelude.{◌≡◌, ◌-◌, ◌^◌, ◌≤◌, ◌≤ℤ◌, ◌<ℤ◌, ◌+ℤ◌, ◌*ℤ◌, pos, unsigned_abs, min, map};
 ghost use Rattle.std.specs.List.{All};
@@ -12,13 +12,11 @@ use integer_core::operators::{
     difference, is_below, one, product, quotient, remainder, successor, sum, zero,
 };
 
-/// Returns the factors `r / g` and `a / (b / g)` of `r * a / b`, where `g` is the gcd of `r` and `b`,
-/// computed as that of `b` and the remainder of `r`. Where `g` is `b` or 1, one division gives both.
-/// After <https://blog.plover.com/math/choose-2.html>.
+/// Splits `r * a / b`, which is an integer, into the factors `r / g` and `a / (b / g)`. `g` is the
+/// gcd of `r` and `b`, computed as that of `r % b` and `b`. If `g` is `b` or 1, one division gives
+/// both factors. After <https://blog.plover.com/math/choose-2.html>.
 pub(crate) fn factors<T: Integer>(r: T, a: T, b: T) -> (T, T)
-    requires r_in_range { T.fits (T.value r) }
-    requires a_in_range { T.fits (T.value a) }
-    requires b_in_range { T.fits (T.value b) }
+    requires in_range { T.fits (T.value r) × T.fits (T.value a) × T.fits (T.value b) }
     requires a_from_zero { pos 0 ≤ℤ T.value a }
     requires b_positive { pos 0 <ℤ T.value b }
     requires whole { Divides (T.value b) (T.value r *ℤ T.value a) }
@@ -36,12 +34,10 @@ pub(crate) fn factors<T: Integer>(r: T, a: T, b: T) -> (T, T)
     }
 }
 
-/// Returns two factors of the coefficient of `n` and `k + 1`, where `c` is that of `n` and `k`: it is
-/// `c * (n - k) / (k + 1)`.
+/// Returns two factors of the coefficient of `n` and `k + 1`, which is `c * (n - k) / (k + 1)`. `c`
+/// is the coefficient of `n` and `k`.
 pub(crate) fn next_factors<T: Integer>(c: T, n: T, k: T) -> (T, T)
-    requires c_in_range { T.fits (T.value c) }
-    requires n_in_range { T.fits (T.value n) }
-    requires k_in_range { T.fits (T.value k) }
+    requires in_range { T.fits (T.value c) × T.fits (T.value n) × T.fits (T.value k) }
     requires k_from_zero { pos 0 ≤ℤ T.value k }
     requires k_below { T.value k <ℤ T.value n }
     requires current { T.value c ≡ coefficient_of (T.value n) (T.value k) }
@@ -52,12 +48,10 @@ pub(crate) fn next_factors<T: Integer>(c: T, n: T, k: T) -> (T, T)
     factors(c, difference(n, k), successor(k))
 }
 
-/// Returns the coefficient of `n` and `k + 1`, where `c` is that of `n` and `k`. No intermediate value
-/// exceeds it.
+/// Returns the coefficient of `n` and `k + 1`. `c` is that of `n` and `k`. No intermediate value
+/// exceeds the result.
 pub(crate) fn next_coefficient<T: Integer>(c: T, n: T, k: T) -> T
-    requires c_in_range { T.fits (T.value c) }
-    requires n_in_range { T.fits (T.value n) }
-    requires k_in_range { T.fits (T.value k) }
+    requires in_range { T.fits (T.value c) × T.fits (T.value n) × T.fits (T.value k) }
     requires k_from_zero { pos 0 ≤ℤ T.value k }
     requires k_below { T.value k <ℤ T.value n }
     requires current { T.value c ≡ coefficient_of (T.value n) (T.value k) }
@@ -69,10 +63,9 @@ pub(crate) fn next_coefficient<T: Integer>(c: T, n: T, k: T) -> T
     product(x, y)
 }
 
-/// Returns the lesser of `k` and `n - k`.
+/// Returns the smaller of `k` and `n - k`.
 pub(crate) fn nearer_end<T: Integer>(n: T, k: T) -> T
-    requires n_in_range { T.fits (T.value n) }
-    requires k_in_range { T.fits (T.value k) }
+    requires in_range { T.fits (T.value n) × T.fits (T.value k) }
     requires k_from_zero { pos 0 ≤ℤ T.value k }
     requires k_within { T.value k ≤ℤ T.value n }
     ensures in_range { T.fits (T.value result) }
@@ -86,7 +79,7 @@ pub(crate) fn nearer_end<T: Integer>(n: T, k: T) -> T
 /// Returns [`binomial`] and the number of turns of its loop. `binomial_counted(9, 4)` is `(126, 4)`,
 /// and `binomial_counted(200, 199)` is `(200, 1)`.
 ///
-/// May be called where [`binomial`] may.
+/// May be called if [`binomial`] may be.
 #[tactic(auto, using(crate::proofs::Pascal::row_steps))]
 pub fn binomial_counted<T: Integer>(n: T, k: T) -> (T, u32)
     requires n_in_range { T.fits (T.value n) }
@@ -119,9 +112,12 @@ pub fn binomial_counted<T: Integer>(n: T, k: T) -> (T, u32)
 /// Returns the binomial coefficient of `n` and `k`, the number of ways to choose `k` of `n` things.
 /// `binomial(9, 4)` is `126`, and `binomial(2, 3)` is `0`.
 ///
-/// May be called where `Fits::binomial_fits` is true.
+/// May be called if `Fits::binomial_fits` returns true. Else use
+/// [`checked::binomial`](crate::checked::binomial), which returns `None` if the coefficient does not
+/// fit.
 ///
-/// Each coefficient of `n` fits up to this `n`, and above it those near the middle do not:
+/// This is the largest `n` of which every coefficient fits. For a larger `n`, those near the middle
+/// overflow:
 ///
 /// | `u8` | `i8` | `u16` | `i16` | `u32` | `i32` | `u64` | `i64` |
 /// |---|---|---|---|---|---|---|---|
@@ -138,10 +134,12 @@ pub fn binomial<T: Integer>(n: T, k: T) -> T
     binomial_counted(n, k).0
 }
 
-/// Returns the number of ways to share out the sum of the counts `k` into parts of these sizes.
-/// `multinomial(&[2, 1, 2])` is `30`, and `multinomial::<u8>(&[])` is `1`.
+/// Returns the multinomial coefficient of the counts `k`, the number of ways to divide their sum into
+/// parts of these sizes. `multinomial(&[2, 1, 2])` is `30`, and `multinomial::<u8>(&[])` is `1`.
 ///
-/// May be called where `Fits::multinomial_fits` is true.
+/// May be called if `Fits::multinomial_fits` returns true. Else use
+/// [`checked::multinomial`](crate::checked::multinomial), which returns `None` if the multinomial
+/// does not fit.
 #[tactic(auto, using(crate::proofs::Multinomials::multinomial_first))]
 pub fn multinomial<T: Integer>(k: &[T]) -> T
     requires counts_in_range { All (λ x. T.fits (T.value x)) k.now }

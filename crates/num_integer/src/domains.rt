@@ -1,7 +1,8 @@
-//! Tests of the domains of the calls.
+//! Tests whether a call may be made with its arguments.
 
-ghost use Rattle.std.specs.Prelude.{◌≡◌, ◌≢◌, ◌↔◌, ◌≤ℤ◌, ◌<ℤ◌, ◌+ℤ◌, ◌-ℤ◌, pos, negsuc, unsigned_abs, map, IsTrue};
+ghost use Rattle.std.specs.Prelude.{◌≡◌, ◌≢◌, ◌↔◌, ◌≤ℤ◌, ◌<ℤ◌, ◌+ℤ◌, ◌-ℤ◌, ◌*ℤ◌, pos, negsuc, unsigned_abs, map, IsTrue};
 ghost use Rattle.std.specs.List.{All};
+ghost use Rattle.integer_core.specs.Bezout.{HasPair};
 ghost use Rattle.integer_core.specs.Division.{EachKind, IsCeiled, IsFloored, IsMultiple, IsQuotient};
 ghost use Rattle.integer_core.specs.Divisors.{IsGreatestCommonDivisor, IsLeastCommonMultiple};
 ghost use Rattle.integer_core.specs.Range.{EachFits};
@@ -9,13 +10,13 @@ ghost use Rattle.num_integer.specs.Coefficient.{coefficient_of};
 ghost use Rattle.num_integer.specs.Multinomial.{IsMultinomial};
 
 use crate::bounded_coefficients::{RunningMultinomial, coefficient_within};
-use crate::parts::sum_is_within;
+use crate::sign_magnitude::{product_is_within, sum_is_within};
 use integer_core::operators::{difference, is_negative, is_zero, successor};
 use integer_core::{Integer, NativeInteger};
 use num_traits::ToPrimitive;
 
-/// Tests whether the arguments of a call lie in its domain. Your own type implements `parts` and
-/// `ends`.
+/// Tests whether a call may be made with its arguments. `7.quotient_fits(&0)` is `false`, so `7.div_rem(&0)`
+/// may not be called. Your own type implements `parts` and `ends`.
 pub trait Fits: Integer {
     /// Returns whether the number is negative, and its magnitude. `(-5).parts()` is `(true, 5)`.
     fn parts(&self) -> (bool, u128)
@@ -23,15 +24,50 @@ pub trait Fits: Integer {
         ensures negative { IsTrue result.0 ↔ (Self.value self.now <ℤ pos 0) }
         ensures magnitude { result.1 ≡ unsigned_abs (Self.value self.now) };
 
-    /// Returns the magnitude of the least number of the type, and its greatest number. `i8::ends()` is
-    /// `(128, 127)`.
+    /// Returns the magnitude of the smallest number of the type, and its largest number. `i8::ends()`
+    /// is `(128, 127)`.
     fn ends() -> (u128, u128)
         ensures low { result.0 ≡ unsigned_abs Self.low }
         ensures high { pos result.1 ≡ Self.high };
 
-    /// Returns `true` if `div_rem`, `div_floor`, `div_mod_floor` and `div_ceil` may be called: not for
-    /// a divisor 0, and not for the least number by -1 where its negation does not fit.
-    /// `i8::MIN.quotient_fits(&2)` is `true`, and `i8::MIN.quotient_fits(&-1)` is `false`.
+    /// Returns `true` if the sum fits. `200u8.sum_fits(&55)` is `true`, and `200u8.sum_fits(&56)` is
+    /// `false`. [`checked::sum`](crate::checked::sum) tests and adds.
+    #[tactic(auto, using(crate::proofs::FittingAnswers::parts_inside))]
+    fn sum_fits(&self, other: &Self) -> bool
+        requires in_range { Self.fits (Self.value self.now) × Self.fits (Self.value other.now) }
+        ensures { IsTrue result ↔ Self.fits (Self.value self.now +ℤ Self.value other.now) }
+    {
+        sum_is_within(self.parts(), other.parts(), Self::ends())
+    }
+
+    /// Returns `true` if the difference fits. `3u8.difference_fits(&3)` is `true`, and
+    /// `2u8.difference_fits(&3)` is `false`. [`checked::difference`](crate::checked::difference)
+    /// tests and subtracts.
+    #[tactic(auto, using(crate::proofs::FittingAnswers::parts_inside))]
+    fn difference_fits(&self, other: &Self) -> bool
+        requires in_range { Self.fits (Self.value self.now) × Self.fits (Self.value other.now) }
+        ensures { IsTrue result ↔ Self.fits (Self.value self.now -ℤ Self.value other.now) }
+    {
+        let (negative, magnitude) = other.parts();
+        sum_is_within(self.parts(), (!negative, magnitude), Self::ends())
+    }
+
+    /// Returns `true` if the product fits. `15u8.product_fits(&17)` is `true`, and
+    /// `16u8.product_fits(&16)` is `false`. [`checked::product`](crate::checked::product) tests and
+    /// multiplies.
+    fn product_fits(&self, other: &Self) -> bool
+        requires in_range { Self.fits (Self.value self.now) × Self.fits (Self.value other.now) }
+        ensures { IsTrue result ↔ Self.fits (Self.value self.now *ℤ Self.value other.now) }
+    {
+        product_is_within(self.parts(), other.parts(), Self::ends())
+    }
+
+    /// Returns `true` if `div_rem`, `div_floor`, `div_mod_floor` and `div_ceil` may be called:
+    /// `other` is not 0, and the quotient fits. `i8::MIN.quotient_fits(&2)` is `true`, and
+    /// `i8::MIN.quotient_fits(&-1)` is `false`. The only quotient that may not fit is that of the
+    /// smallest number by -1.
+    ///
+    /// [`checked::div_rem`](crate::checked::div_rem) and the others of these names test and divide.
     fn quotient_fits(&self, other: &Self) -> bool
         requires self_in_range { Self.fits (Self.value self.now) }
         requires other_in_range { Self.fits (Self.value other.now) }
@@ -49,9 +85,10 @@ pub trait Fits: Integer {
         }
     }
 
-    /// Returns `true` if `next_multiple_of` may be called: not for a divisor 0, and not where the
-    /// multiple is outside the type. `250u8.next_multiple_fits(&5)` is `true`, and
-    /// `251u8.next_multiple_fits(&8)` is `false`.
+    /// Returns `true` if `next_multiple_of` may be called: `other` is not 0, and the multiple fits.
+    /// `250u8.next_multiple_fits(&5)` is `true`, and `251u8.next_multiple_fits(&8)` is `false`.
+    /// [`checked::next_multiple_of`](crate::checked::next_multiple_of) tests and returns the
+    /// multiple.
     fn next_multiple_fits(&self, other: &Self) -> bool
         requires self_in_range { Self.fits (Self.value self.now) }
         requires other_in_range { Self.fits (Self.value other.now) }
@@ -62,35 +99,27 @@ pub trait Fits: Integer {
             return false;
         }
         let remainder = self.mod_floor(other);
-        if is_zero(remainder) {
-            return true;
-        }
-        sum_is_within(
-            self.parts(),
-            difference(*other, remainder).parts(),
-            Self::ends(),
-        )
+        is_zero(remainder) || self.sum_fits(&difference(*other, remainder))
     }
 
-    /// Returns `true` if `prev_multiple_of` may be called: not for a divisor 0, and not where the
-    /// multiple is outside the type. `(-120i8).prev_multiple_fits(&8)` is `true`, and
-    /// `(-125i8).prev_multiple_fits(&10)` is `false`.
-    #[tactic(auto, using(crate::proofs::FittingAnswers::parts_inside))]
+    /// Returns `true` if `prev_multiple_of` may be called: `other` is not 0, and the multiple fits.
+    /// `(-120i8).prev_multiple_fits(&8)` is `true`, and `(-125i8).prev_multiple_fits(&10)` is
+    /// `false`. [`checked::prev_multiple_of`](crate::checked::prev_multiple_of) tests and returns the
+    /// multiple.
     fn prev_multiple_fits(&self, other: &Self) -> bool
         requires self_in_range { Self.fits (Self.value self.now) }
         requires other_in_range { Self.fits (Self.value other.now) }
         ensures { IsTrue result ↔ ((Self.value other.now ≢ pos 0)
             × EachFits Self.fits (IsMultiple IsFloored (Self.value self.now) (Self.value other.now))) }
     {
-        if is_zero(*other) {
-            return false;
-        }
-        let (negative, remainder) = self.mod_floor(other).parts();
-        sum_is_within(self.parts(), (!negative, remainder), Self::ends())
+        !is_zero(*other) && self.difference_fits(&self.mod_floor(other))
     }
 
-    /// Returns `true` if `gcd` may be called: not for the least number, whose negation does not fit,
-    /// with itself or with 0. `i8::MIN.gcd_fits(&64)` is `true`, and `i8::MIN.gcd_fits(&0)` is `false`.
+    /// Returns `true` if `gcd` may be called: the result fits. `i8::MIN.gcd_fits(&64)` is `true`, and
+    /// `i8::MIN.gcd_fits(&0)` is `false`. The only gcd that may not fit is that of the smallest number
+    /// and itself or 0.
+    ///
+    /// [`checked::gcd`](crate::checked::gcd) tests and computes the gcd.
     fn gcd_fits(&self, other: &Self) -> bool
         requires self_in_range { Self.fits (Self.value self.now) }
         requires other_in_range { Self.fits (Self.value other.now) }
@@ -108,8 +137,9 @@ pub trait Fits: Integer {
         }
     }
 
-    /// Returns `true` if `lcm` may be called: where an operand is 0, or where the multiple is in the
-    /// type. `15u8.lcm_fits(&17)` is `true`, and `16u8.lcm_fits(&17)` is `false`.
+    /// Returns `true` if `lcm` may be called: the result fits. `15u8.lcm_fits(&17)` is `true`, and
+    /// `16u8.lcm_fits(&17)` is `false`. [`checked::lcm`](crate::checked::lcm) tests and computes the
+    /// lcm, with one gcd for both.
     fn lcm_fits(&self, other: &Self) -> bool
         requires self_in_range { Self.fits (Self.value self.now) }
         requires other_in_range { Self.fits (Self.value other.now) }
@@ -129,9 +159,22 @@ pub trait Fits: Integer {
         }
     }
 
+    /// Returns `true` if Bezout's coefficients of the two numbers fit: always in a type with negative
+    /// numbers, and in an unsigned type if one of the two divides the other. `12u8.pair_fits(&4)` is
+    /// `true`, and `10u8.pair_fits(&4)` is `false`. `extended_gcd` may be called if this and
+    /// [`Fits::gcd_fits`] return true. [`checked::extended_gcd`](crate::checked::extended_gcd) tests
+    /// both.
+    final fn pair_fits(&self, other: &Self) -> bool
+        requires in_range { Self.fits (Self.value self.now) × Self.fits (Self.value other.now) }
+        ensures { IsTrue result ↔ HasPair Self.fits (Self.value self.now) (Self.value other.now) }
+    {
+        Self::ends().0 != 0 || self.is_multiple_of(other) || other.is_multiple_of(self)
+    }
+
     /// Returns `true` if `binomial(self, k)` may be called: neither number is negative, and the
     /// coefficient fits. `11u8.binomial_fits(&3)` is `true`, and `11u8.binomial_fits(&4)` is `false`.
     /// The loop stops at the first coefficient that does not fit.
+    /// [`checked::binomial`](crate::checked::binomial) tests and computes the coefficient.
     fn binomial_fits(&self, k: &Self) -> bool
         requires self_in_range { Self.fits (Self.value self.now) }
         requires k_in_range { Self.fits (Self.value k.now) }
@@ -146,9 +189,11 @@ pub trait Fits: Integer {
         coefficient_within(n, k, Self::ends().1).is_some()
     }
 
-    /// Returns `true` if `multinomial(counts)` may be called: no count is negative, and the multinomial
-    /// fits. `u8::multinomial_fits(&[254, 1])` is `true`, and `u8::multinomial_fits(&[255, 1])` is
-    /// `false`. The loops stop at the first multinomial that does not fit.
+    /// Returns `true` if `multinomial(counts)` may be called: no count is negative, and the
+    /// multinomial fits. `u8::multinomial_fits(&[254, 1])` is `true`, and
+    /// `u8::multinomial_fits(&[255, 1])` is `false`. The loops stop at the first multinomial that
+    /// does not fit. [`checked::multinomial`](crate::checked::multinomial) tests and computes the
+    /// multinomial.
     fn multinomial_fits(counts: &[Self]) -> bool
         requires in_range { All (λ x. Self.fits (Self.value x)) counts.now }
         ensures { IsTrue result ↔ (All (λ x. pos 0 ≤ℤ Self.value x) counts.now
@@ -182,34 +227,20 @@ impl<T: NativeInteger> Fits for T {
         (wide(T::min_value()), wide(T::max_value()))
     }
 
-    fn next_multiple_fits(&self, other: &T) -> bool {
-        if is_zero(*other) {
-            return false;
-        }
-        let remainder = self.mod_floor(other);
-        is_zero(remainder) || sum_fits(*self, difference(*other, remainder))
+    fn sum_fits(&self, other: &T) -> bool {
+        self.checked_add(other).is_some()
     }
 
-    fn prev_multiple_fits(&self, other: &T) -> bool {
-        !is_zero(*other) && difference_fits(*self, self.mod_floor(other))
+    fn difference_fits(&self, other: &T) -> bool {
+        self.checked_sub(other).is_some()
+    }
+
+    fn product_fits(&self, other: &T) -> bool {
+        self.checked_mul(other).is_some()
     }
 }
 
-/// Returns `true` if `a + b` fits.
-fn sum_fits<T: NativeInteger>(a: T, b: T) -> bool
-    ensures { IsTrue result ↔ T.fits (T.value a +ℤ T.value b) }
-{
-    a.checked_add(&b).is_some()
-}
-
-/// Returns `true` if `a - b` fits.
-fn difference_fits<T: NativeInteger>(a: T, b: T) -> bool
-    ensures { IsTrue result ↔ T.fits (T.value a -ℤ T.value b) }
-{
-    a.checked_sub(&b).is_some()
-}
-
-/// Returns `true` if this is -1, the only divisor whose quotient may not fit.
+/// Returns `true` if `x` is -1, the only divisor by which a quotient overflows.
 fn is_minus_one<T: Integer>(x: T) -> bool
     requires { T.fits (T.value x) }
     ensures { IsTrue result ↔ (T.value x ≡ negsuc 0) }
@@ -217,7 +248,7 @@ fn is_minus_one<T: Integer>(x: T) -> bool
     is_negative(x) && is_zero(successor(x))
 }
 
-/// Returns the magnitude, as a number of 128 bits.
+/// Returns the magnitude of `x` in 128 bits.
 fn wide<T: NativeInteger>(x: T) -> u128
     requires { T.fits (T.value x) }
     ensures { result ≡ unsigned_abs (T.value x) }

@@ -1,4 +1,4 @@
-//! Integer division, divisors, roots and coefficients for every lawful type, after the Rust crate
+//! Integer division, divisors, roots and coefficients for every lawful integer type, after the Rust crate
 //! `num-integer`.
 #![tactic(auto)]
 
@@ -7,8 +7,8 @@ pub mod checked;
 mod coefficients;
 pub mod counted;
 mod domains;
-mod parts;
 mod rows;
+mod sign_magnitude;
 
 pub use coefficients::{binomial, multinomial};
 pub use domains::Fits;

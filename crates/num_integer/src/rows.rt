@@ -11,12 +11,13 @@ use integer_core::Integer;
 use integer_core::operators::{is_below, is_zero, one, predecessor, successor, zero};
 use std::marker::Model;
 
-/// An iterator over the coefficients of `n` and each number from `0` to `n`, in order. For a
-/// negative `n` it has no item.
+/// An iterator over a row of Pascal's triangle: the coefficients of `n` and each number from `0` to
+/// `n`, in order. The row of a negative `n` is empty.
 ///
-/// The items of `IterBinomial::new(3u8)` are `1`, `3`, `3` and `1`.
+/// The items of `IterBinomial::new(3u8)` are `1`, `3`, `3` and `1`:
+/// `IterBinomial::new(3u8).nth(1)` is `Some(3)`, and `IterBinomial::new(3u8).count()` is `4`.
 ///
-/// The greatest `n` whose row fits is 10 for `u8`, 9 for `i8`, 18 for `u16`, 17 for `i16`, 34 for
+/// The largest `n` whose row fits is 10 for `u8`, 9 for `i8`, 18 for `u16`, 17 for `i16`, 34 for
 /// `u32`, 33 for `i32`, 67 for `u64` and 66 for `i64`.
 #[derive(Drop)]
 pub struct IterBinomial<T: Integer> {
@@ -34,9 +35,10 @@ impl<T: Integer> Model for IterBinomial<T> {
 }
 
 impl<T: Integer> IterBinomial<T> {
-    /// Returns the row of `n`. `IterBinomial::new(3u8)` gives `1`, `3`, `3`, `1`, and then `None`.
+    /// Returns the row of `n`. `IterBinomial::new(3u8)` gives `1`, `3`, `3`, `1`, and then `None`, so
+    /// `IterBinomial::new(3u8).last()` is `Some(1)`.
     ///
-    /// May be called where `checked::row` returns `Some`.
+    /// May be called if [`checked::row`](crate::checked::row) returns `Some`.
     pub fn new(n: T) -> IterBinomial<T>
         requires in_range { T.fits (T.value n) }
         requires row_fits { RowFits T.fits (T.value n) }
@@ -51,11 +53,9 @@ impl<T: Integer> IterBinomial<T> {
     }
 }
 
-/// Returns the `k`-th item of the row of `n`, where `previous` is the item before it. The first is 1.
+/// Returns the `k`-th item of the row of `n`, counted from 0. `previous` is the item before it.
 fn item_at<T: Integer>(n: T, k: T, previous: T) -> T
-    requires n_in_range { T.fits (T.value n) }
-    requires k_in_range { T.fits (T.value k) }
-    requires previous_in_range { T.fits (T.value previous) }
+    requires in_range { T.fits (T.value n) × T.fits (T.value k) × T.fits (T.value previous) }
     requires k_from_zero { pos 0 ≤ℤ T.value k }
     requires k_within { T.value k ≤ℤ T.value n }
     requires previous_is { pos 0 <ℤ T.value k
@@ -78,7 +78,7 @@ impl<T: Integer> Iterator for IterBinomial<T> {
 
     ghost remaining = { item_count (λ s. s) };
 
-    #[tactic(auto, using(crate::proofs::Steps::rest_none))]
+    #[tactic(auto, using(crate::proofs::RowSteps::rest_none))]
     fn next(&mut self) -> Option<T> {
         if is_below(self.n, self.k) {
             return None;

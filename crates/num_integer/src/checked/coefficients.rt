@@ -1,4 +1,4 @@
-//! Coefficients, without a condition.
+//! Checked coefficients.
 
 ghost use Rattle.std.specs.Prelude.{◌≡◌, ◌↔◌, ◌/◌, ◌≤ℤ◌, pos, unsigned_abs, map, IsTrue};
 ghost use Rattle.std.specs.List.{All};
@@ -14,8 +14,8 @@ use crate::domains::Fits;
 use crate::rows::IterBinomial;
 use integer_core::operators::{is_below, is_negative, one, quotient, successor, zero};
 
-/// Returns [`binomial`](crate::binomial), the binomial coefficient of `n` and `k`, or `None` where a
-/// number is negative or the coefficient does not fit. `binomial(11u8, 3)` is `Some(165)`, and
+/// Returns [`binomial`](crate::binomial), the binomial coefficient of `n` and `k`, or `None` if a number
+/// is negative or the coefficient does not fit. `binomial(11u8, 3)` is `Some(165)`, and
 /// `binomial(11u8, 4)` is `None`.
 #[tactic(auto, using(crate::proofs::Pascal::row_steps))]
 pub fn binomial<T: Fits>(n: T, k: T) -> Option<T>
@@ -44,8 +44,9 @@ pub fn binomial<T: Fits>(n: T, k: T) -> Option<T>
     Some(coefficient)
 }
 
-/// Returns [`multinomial`](crate::multinomial), the multinomial of the counts, or `None` where a count
-/// is negative or the multinomial does not fit. `multinomial(&[2, 1, 2])` is `Some(30)`.
+/// Returns [`multinomial`](crate::multinomial), the multinomial coefficient of the counts, or `None` if a
+/// count is negative or the multinomial does not fit. `multinomial(&[2, 1, 2])` is `Some(30)`, and
+/// `multinomial(&[255u8, 1])` is `None`.
 pub fn multinomial<T: Fits>(k: &[T]) -> Option<T>
     requires counts_in_range { All (λ x. T.fits (T.value x)) k.now }
     ensures { AnswersWhere
@@ -66,9 +67,9 @@ pub fn multinomial<T: Fits>(k: &[T]) -> Option<T>
     Some(multinomial)
 }
 
-/// Returns [`IterBinomial::new`], the row of `n` in Pascal's triangle, or `None` where an item or the
-/// number of the items does not fit. For a negative `n` the row has no item. `row(10u8).is_some()` is
-/// `true`, and `row(11u8).is_some()` is `false`.
+/// Returns [`IterBinomial::new`], the row of `n` in Pascal's triangle, or `None` if an item or the number
+/// of the items does not fit. The row of a negative `n` is empty. `row(10u8).is_some()` is `true`, and
+/// `row(11u8).is_some()` is `false`.
 pub fn row<T: Fits>(n: T) -> Option<IterBinomial<T>>
     requires { T.fits (T.value n) }
     ensures { AnswersWhere
@@ -83,7 +84,8 @@ pub fn row<T: Fits>(n: T) -> Option<IterBinomial<T>>
     }
 }
 
-/// Returns `true` if the row of `n` fits: the number of its items and the coefficient in its middle do.
+/// Returns `true` if the number of the items of the row of `n` fits, and its largest item, the one in the
+/// middle.
 fn row_fits<T: Fits>(n: T) -> bool
     requires { T.fits (T.value n) }
     ensures { IsTrue result ↔ RowFits T.fits (T.value n) }
@@ -91,7 +93,7 @@ fn row_fits<T: Fits>(n: T) -> bool
     is_negative(n) || inc(n).is_some() && binomial(n, half(n)).is_some()
 }
 
-/// Returns half of `n`, rounded down. A type without the number 2 has none above 1.
+/// Returns `n / 2`. A type that does not have the number 2 has no number above 1, so it never divides.
 fn half<T: Fits>(n: T) -> T
     requires in_range { T.fits (T.value n) }
     requires from_zero { pos 0 ≤ℤ T.value n }

@@ -1,4 +1,4 @@
-//! Division, without a condition.
+//! Checked division.
 
 ghost use Rattle.std.specs.Prelude.{◌≢◌, ◌<ℤ◌, pos};
 ghost use Rattle.std.specs.Option.{IsSome};
@@ -9,9 +9,9 @@ ghost use Rattle.num_integer.specs.Checked.{AnswersWhere};
 use crate::domains::Fits;
 use integer_core::operators::is_zero;
 
-/// Returns [`Integer::div_rem`], the quotient rounded toward zero and its remainder, or `None` for a
-/// divisor 0 and for the least number by -1 where its negation does not fit. `div_rem(-8, 3)` is
-/// `Some((-2, -2))`.
+/// Returns [`Integer::div_rem`], the quotient rounded toward zero and its remainder, or `None` if `y` is 0
+/// or the quotient does not fit. `div_rem(-8, 3)` is `Some((-2, -2))`, and `div_rem(i8::MIN, -1)` is
+/// `None`. The only quotient that may not fit is that of the smallest number by -1.
 pub fn div_rem<T: Fits>(x: T, y: T) -> Option<(T, T)>
     requires x_in_range { T.fits (T.value x) }
     requires y_in_range { T.fits (T.value y) }
@@ -29,7 +29,7 @@ pub fn div_rem<T: Fits>(x: T, y: T) -> Option<(T, T)>
     }
 }
 
-/// Returns [`Integer::div_floor`], the quotient rounded down, or `None` where [`div_rem`] does.
+/// Returns [`Integer::div_floor`], the quotient rounded down, or `None` if [`div_rem`] does.
 /// `div_floor(-8, 3)` is `Some(-3)`, and `div_floor(i8::MIN, -1)` is `None`.
 pub fn div_floor<T: Fits>(x: T, y: T) -> Option<T>
     requires x_in_range { T.fits (T.value x) }
@@ -47,8 +47,8 @@ pub fn div_floor<T: Fits>(x: T, y: T) -> Option<T>
     }
 }
 
-/// Returns [`Integer::mod_floor`], the remainder of the quotient rounded down, or `None` for a divisor
-/// 0. `mod_floor(-8, 3)` is `Some(1)`.
+/// Returns [`Integer::mod_floor`], the remainder of the quotient rounded down, or `None` if `y` is 0.
+/// `mod_floor(-8, 3)` is `Some(1)`, and `mod_floor(8, 0)` is `None`.
 pub fn mod_floor<T: Fits>(x: T, y: T) -> Option<T>
     requires x_in_range { T.fits (T.value x) }
     requires y_in_range { T.fits (T.value y) }
@@ -64,8 +64,9 @@ pub fn mod_floor<T: Fits>(x: T, y: T) -> Option<T>
     }
 }
 
-/// Returns [`Integer::div_mod_floor`], the quotient rounded down and its remainder, or `None` where
-/// [`div_rem`] does. `div_mod_floor(-8, 3)` is `Some((-3, 1))`.
+/// Returns [`Integer::div_mod_floor`], the quotient rounded down and its remainder, or `None` if
+/// [`div_rem`] does. `div_mod_floor(-8, 3)` is `Some((-3, 1))`, and `div_mod_floor(i8::MIN, -1)` is
+/// `None`.
 pub fn div_mod_floor<T: Fits>(x: T, y: T) -> Option<(T, T)>
     requires x_in_range { T.fits (T.value x) }
     requires y_in_range { T.fits (T.value y) }
@@ -83,8 +84,8 @@ pub fn div_mod_floor<T: Fits>(x: T, y: T) -> Option<(T, T)>
     }
 }
 
-/// Returns [`Integer::div_ceil`], the quotient rounded up, or `None` where [`div_rem`] does.
-/// `div_ceil(8, 3)` is `Some(3)`.
+/// Returns [`Integer::div_ceil`], the quotient rounded up, or `None` if [`div_rem`] does. `div_ceil(8, 3)`
+/// is `Some(3)`, and `div_ceil(8, 0)` is `None`.
 pub fn div_ceil<T: Fits>(x: T, y: T) -> Option<T>
     requires x_in_range { T.fits (T.value x) }
     requires y_in_range { T.fits (T.value y) }
@@ -101,8 +102,9 @@ pub fn div_ceil<T: Fits>(x: T, y: T) -> Option<T>
     }
 }
 
-/// Returns [`Integer::next_multiple_of`], the quotient rounded up, times `y`, or `None` for a divisor 0
-/// and where the multiple does not fit. `next_multiple_of(23, 8)` is `Some(24)`.
+/// Returns [`Integer::next_multiple_of`], the quotient rounded up, times `y`, or `None` if `y` is 0 or the
+/// multiple does not fit. `next_multiple_of(23, 8)` is `Some(24)`, and `next_multiple_of(251u8, 8)` is
+/// `None`.
 pub fn next_multiple_of<T: Fits>(x: T, y: T) -> Option<T>
     requires x_in_range { T.fits (T.value x) }
     requires y_in_range { T.fits (T.value y) }
@@ -118,8 +120,9 @@ pub fn next_multiple_of<T: Fits>(x: T, y: T) -> Option<T>
     }
 }
 
-/// Returns [`Integer::prev_multiple_of`], the quotient rounded down, times `y`, or `None` for a divisor
-/// 0 and where the multiple does not fit. `prev_multiple_of(23, 8)` is `Some(16)`.
+/// Returns [`Integer::prev_multiple_of`], the quotient rounded down, times `y`, or `None` if `y` is 0 or
+/// the multiple does not fit. `prev_multiple_of(23, 8)` is `Some(16)`, and `prev_multiple_of(-125i8, 10)`
+/// is `None`.
 pub fn prev_multiple_of<T: Fits>(x: T, y: T) -> Option<T>
     requires x_in_range { T.fits (T.value x) }
     requires y_in_range { T.fits (T.value y) }

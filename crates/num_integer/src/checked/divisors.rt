@@ -1,21 +1,21 @@
-//! Common divisors and multiples, without a condition.
+//! Checked common divisors and multiples.
 
-ghost use Rattle.std.specs.Prelude.{◌≡◌, ◌↔◌, ◌<ℤ◌, ◌*ℤ◌, pos, unsigned_abs, IsTrue};
+ghost use Rattle.std.specs.Prelude.{◌≢◌, ◌<ℤ◌, pos};
 ghost use Rattle.std.specs.Option.{IsSome};
 ghost use Rattle.integer_core.specs.Bezout.{HasPair, IsBezoutAnswer};
 ghost use Rattle.integer_core.specs.Divisors.{GcdFits, IsGreatestCommonDivisor, IsLeastCommonMultiple};
 ghost use Rattle.integer_core.specs.Range.{EachFits};
-ghost use Rattle.num_integer.specs.Checked.{AnswersWhere};
+ghost use Rattle.num_integer.specs.Checked.{AnswersWhere, Has};
 
+use crate::checked::operators::{negated, product};
 use crate::domains::Fits;
-use crate::parts::product_is_within;
 use integer_core::ExtendedGcd;
-use integer_core::operators::{is_negative, is_zero, negated, product, quotient, zero};
+use integer_core::operators::{is_negative, is_zero, quotient, zero};
 use num_traits::Signed;
 
-/// Returns [`Integer::gcd`], the greatest common divisor, or `None` for the least number, whose
-/// negation does not fit, with itself or with 0. `gcd(56, 42)` is `Some(14)`, and `gcd(i8::MIN, 0)` is
-/// `None`.
+/// Returns [`Integer::gcd`], the greatest common divisor, or `None` if it does not fit. `gcd(56, 42)` is
+/// `Some(14)`, and `gcd(i8::MIN, 0)` is `None`. The only gcd that may not fit is that of the smallest
+/// number and itself or 0.
 pub fn gcd<T: Fits>(x: T, y: T) -> Option<T>
     requires x_in_range { T.fits (T.value x) }
     requires y_in_range { T.fits (T.value y) }
@@ -32,7 +32,7 @@ pub fn gcd<T: Fits>(x: T, y: T) -> Option<T>
     }
 }
 
-/// Returns [`Integer::lcm`], the least common multiple, or `None` where it does not fit. `lcm(7, 3)` is
+/// Returns [`Integer::lcm`], the least common multiple, or `None` if it does not fit. `lcm(7, 3)` is
 /// `Some(21)`, and `lcm(16u8, 17)` is `None`.
 pub fn lcm<T: Fits>(x: T, y: T) -> Option<T>
     requires x_in_range { T.fits (T.value x) }
@@ -45,11 +45,11 @@ pub fn lcm<T: Fits>(x: T, y: T) -> Option<T>
     if is_zero(x) || is_zero(y) {
         return Some(zero());
     }
-    lcm_with_gcd(x, y, gcd(x, y)?)
+    nonzero_lcm(x, y, gcd(x, y)?)
 }
 
-/// Returns [`Integer::gcd_lcm`], the greatest common divisor and the least common multiple, or `None`
-/// where one of them does not fit. `gcd_lcm(10, 4)` is `Some((2, 20))`.
+/// Returns [`Integer::gcd_lcm`], the greatest common divisor and the least common multiple, or `None` if
+/// one of them does not fit. `gcd_lcm(10, 4)` is `Some((2, 20))`, and `gcd_lcm(16u8, 17)` is `None`.
 pub fn gcd_lcm<T: Fits>(x: T, y: T) -> Option<(T, T)>
     requires x_in_range { T.fits (T.value x) }
     requires y_in_range { T.fits (T.value y) }
@@ -65,9 +65,9 @@ pub fn gcd_lcm<T: Fits>(x: T, y: T) -> Option<(T, T)>
     Some((g, lcm_with_gcd(x, y, g)?))
 }
 
-/// Returns [`Integer::extended_gcd`], the greatest common divisor and Bezout's coefficients, or `None`
-/// where the divisor does not fit and, at a type without negatives, where neither number divides the
-/// other. `extended_gcd(240, 46)` is `Some(ExtendedGcd { gcd: 2, x: -9, y: 47 })`, and
+/// Returns [`Integer::extended_gcd`], the greatest common divisor and Bezout's coefficients, or `None` if
+/// the divisor does not fit. In an unsigned type it is also `None` if neither number divides the other.
+/// `extended_gcd(240, 46)` is `Some(ExtendedGcd { gcd: 2, x: -9, y: 47 })`, and
 /// `extended_gcd(10u8, 4)` is `None`.
 pub fn extended_gcd<T: Fits>(x: T, y: T) -> Option<ExtendedGcd<T>>
     requires x_in_range { T.fits (T.value x) }
@@ -78,15 +78,16 @@ pub fn extended_gcd<T: Fits>(x: T, y: T) -> Option<ExtendedGcd<T>>
         × IsBezoutAnswer (T.value x) (T.value y) (T.value e.gcd) (T.value e.x) (T.value e.y))
         result }
 {
-    if x.gcd_fits(&y) && has_pair(x, y) {
+    if x.gcd_fits(&y) && x.pair_fits(&y) {
         Some(x.extended_gcd(&y))
     } else {
         None
     }
 }
 
-/// Returns [`Integer::extended_gcd_lcm`], which is [`extended_gcd`] and [`lcm`], or `None` where one of
-/// the two is `None`. `extended_gcd_lcm(10, 4)` is `Some((ExtendedGcd { gcd: 2, x: 1, y: -2 }, 20))`.
+/// Returns [`Integer::extended_gcd_lcm`], the results of [`extended_gcd`] and [`lcm`], or `None` if one
+/// of the two is `None`. `extended_gcd_lcm(10, 4)` is
+/// `Some((ExtendedGcd { gcd: 2, x: 1, y: -2 }, 20))`, and `extended_gcd_lcm(99i8, 100)` is `None`.
 pub fn extended_gcd_lcm<T: Fits + Signed>(x: T, y: T) -> Option<(ExtendedGcd<T>, T)>
     requires x_in_range { T.fits (T.value x) }
     requires y_in_range { T.fits (T.value y) }
@@ -103,62 +104,37 @@ pub fn extended_gcd_lcm<T: Fits + Signed>(x: T, y: T) -> Option<(ExtendedGcd<T>,
     Some((e, lcm_with_gcd(x, y, e.gcd)?))
 }
 
-/// Returns the least common multiple of two numbers with the greatest common divisor `g`, or `None`
-/// where it does not fit.
+/// Returns the least common multiple of `x` and `y`, or `None` if it does not fit. `g` is their greatest
+/// common divisor.
 fn lcm_with_gcd<T: Fits>(x: T, y: T, g: T) -> Option<T>
-    requires x_in_range { T.fits (T.value x) }
-    requires y_in_range { T.fits (T.value y) }
-    requires g_in_range { T.fits (T.value g) }
+    requires in_range { T.fits (T.value x) × T.fits (T.value y) × T.fits (T.value g) }
     requires greatest { IsGreatestCommonDivisor (T.value x) (T.value y) (T.value g) }
     ensures { AnswersWhere
         (EachFits T.fits (IsLeastCommonMultiple (T.value x) (T.value y)))
-        (λ l. T.fits (T.value l) × IsLeastCommonMultiple (T.value x) (T.value y) (T.value l))
+        (Has T.fits T.value (IsLeastCommonMultiple (T.value x) (T.value y)))
         result }
 {
     if is_zero(y) {
         Some(zero())
     } else {
-        product_magnitude(x, quotient(y, g))
+        nonzero_lcm(x, y, g)
     }
 }
 
-/// Returns the magnitude of `a * b`, or `None` where it does not fit.
-fn product_magnitude<T: Fits>(a: T, b: T) -> Option<T>
-    requires a_in_range { T.fits (T.value a) }
-    requires b_in_range { T.fits (T.value b) }
+/// Returns [`lcm_with_gcd`] for a `y` that is not 0: the magnitude of `x * (y / g)`.
+fn nonzero_lcm<T: Fits>(x: T, y: T, g: T) -> Option<T>
+    requires in_range { T.fits (T.value x) × T.fits (T.value y) × T.fits (T.value g) }
+    requires nonzero { T.value y ≢ pos 0 }
+    requires greatest { IsGreatestCommonDivisor (T.value x) (T.value y) (T.value g) }
     ensures { AnswersWhere
-        (T.fits (pos (unsigned_abs (T.value a *ℤ T.value b))))
-        (λ m. T.fits (T.value m) × (T.value m ≡ pos (unsigned_abs (T.value a *ℤ T.value b))))
+        (EachFits T.fits (IsLeastCommonMultiple (T.value x) (T.value y)))
+        (Has T.fits T.value (IsLeastCommonMultiple (T.value x) (T.value y)))
         result }
 {
-    if !product_magnitude_fits(a, b) {
-        return None;
-    }
-    let product = product(a, b);
-    Some(if is_negative(product) {
+    let product = product(x, quotient(y, g))?;
+    if is_negative(product) {
         negated(product)
     } else {
-        product
-    })
-}
-
-/// Returns `true` if the magnitude of `a * b` fits.
-fn product_magnitude_fits<T: Fits>(a: T, b: T) -> bool
-    requires a_in_range { T.fits (T.value a) }
-    requires b_in_range { T.fits (T.value b) }
-    ensures { IsTrue result ↔ T.fits (pos (unsigned_abs (T.value a *ℤ T.value b))) }
-{
-    let (_, m) = a.parts();
-    let (_, n) = b.parts();
-    product_is_within((false, m), (false, n), T::ends())
-}
-
-/// Returns `true` if the type has a pair of coefficients: a type without negatives has one where one
-/// number divides the other.
-fn has_pair<T: Fits>(x: T, y: T) -> bool
-    requires x_in_range { T.fits (T.value x) }
-    requires y_in_range { T.fits (T.value y) }
-    ensures { IsTrue result ↔ HasPair T.fits (T.value x) (T.value y) }
-{
-    T::ends().0 != 0 || x.is_multiple_of(&y) || y.is_multiple_of(&x)
+        Some(product)
+    }
 }

@@ -1,13 +1,12 @@
-//! Sums, differences and products, without a condition.
+//! Checked sums, differences and products. At a native type each is the checked operator of the type.
 
-ghost use Rattle.std.specs.Prelude.{◌≡◌, ◌↔◌, ◌+ℤ◌, ◌-ℤ◌, ◌*ℤ◌, pos, neg_ℤ, IsTrue};
+ghost use Rattle.std.specs.Prelude.{◌≡◌, ◌+ℤ◌, ◌-ℤ◌, ◌*ℤ◌, pos, neg_ℤ};
 ghost use Rattle.num_integer.specs.Checked.{AnswersWhere};
 
 use crate::domains::Fits;
-use crate::parts::{product_is_within, sum_is_within};
 use integer_core::operators::{self, one, zero};
 
-/// Returns `a + b`, or `None` where it does not fit. `sum(200u8, 55)` is `Some(255)`, and
+/// Returns `a + b`, or `None` if it does not fit. `sum(200u8, 55)` is `Some(255)`, and
 /// `sum(200u8, 56)` is `None`.
 pub fn sum<T: Fits>(a: T, b: T) -> Option<T>
     requires a_in_range { T.fits (T.value a) }
@@ -17,14 +16,14 @@ pub fn sum<T: Fits>(a: T, b: T) -> Option<T>
         (λ r. T.fits (T.value r) × (T.value r ≡ T.value a +ℤ T.value b))
         result }
 {
-    if sum_fits(a, b) {
+    if a.sum_fits(&b) {
         Some(operators::sum(a, b))
     } else {
         None
     }
 }
 
-/// Returns `a - b`, or `None` where it does not fit. `difference(2, 3)` is `Some(-1)`, and
+/// Returns `a - b`, or `None` if it does not fit. `difference(2, 3)` is `Some(-1)`, and
 /// `difference(2u8, 3)` is `None`.
 pub fn difference<T: Fits>(a: T, b: T) -> Option<T>
     requires a_in_range { T.fits (T.value a) }
@@ -34,14 +33,14 @@ pub fn difference<T: Fits>(a: T, b: T) -> Option<T>
         (λ r. T.fits (T.value r) × (T.value r ≡ T.value a -ℤ T.value b))
         result }
 {
-    if difference_fits(a, b) {
+    if a.difference_fits(&b) {
         Some(operators::difference(a, b))
     } else {
         None
     }
 }
 
-/// Returns `a * b`, or `None` where it does not fit. `product(15u8, 17)` is `Some(255)`, and
+/// Returns `a * b`, or `None` if it does not fit. `product(15u8, 17)` is `Some(255)`, and
 /// `product(16u8, 16)` is `None`.
 pub fn product<T: Fits>(a: T, b: T) -> Option<T>
     requires a_in_range { T.fits (T.value a) }
@@ -51,14 +50,14 @@ pub fn product<T: Fits>(a: T, b: T) -> Option<T>
         (λ r. T.fits (T.value r) × (T.value r ≡ T.value a *ℤ T.value b))
         result }
 {
-    if product_fits(a, b) {
+    if a.product_fits(&b) {
         Some(operators::product(a, b))
     } else {
         None
     }
 }
 
-/// Returns `-a`, or `None` where it does not fit. `negated(7)` is `Some(-7)`, and `negated(7u8)` is
+/// Returns `-a`, or `None` if it does not fit. `negated(7)` is `Some(-7)`, and `negated(7u8)` is
 /// `None`.
 pub fn negated<T: Fits>(a: T) -> Option<T>
     requires { T.fits (T.value a) }
@@ -67,14 +66,10 @@ pub fn negated<T: Fits>(a: T) -> Option<T>
         (λ r. T.fits (T.value r) × (T.value r ≡ neg_ℤ (T.value a)))
         result }
 {
-    if negation_fits(a) {
-        Some(operators::negated(a))
-    } else {
-        None
-    }
+    difference(zero(), a)
 }
 
-/// Returns `x + 1`, which [`Integer::inc`] stores, or `None` for the greatest number of the type.
+/// Returns `x + 1`, which [`Integer::inc`] stores, or `None` for the largest number of the type.
 /// `inc(41)` is `Some(42)`, and `inc(u8::MAX)` is `None`.
 pub fn inc<T: Fits>(x: T) -> Option<T>
     requires { T.fits (T.value x) }
@@ -86,7 +81,7 @@ pub fn inc<T: Fits>(x: T) -> Option<T>
     sum(x, one())
 }
 
-/// Returns `x - 1`, which [`Integer::dec`] stores, or `None` for the least number of the type.
+/// Returns `x - 1`, which [`Integer::dec`] stores, or `None` for the smallest number of the type.
 /// `dec(43)` is `Some(42)`, and `dec(0u8)` is `None`.
 pub fn dec<T: Fits>(x: T) -> Option<T>
     requires { T.fits (T.value x) }
@@ -96,40 +91,4 @@ pub fn dec<T: Fits>(x: T) -> Option<T>
         result }
 {
     difference(x, one())
-}
-
-/// Returns `true` if `a + b` fits.
-fn sum_fits<T: Fits>(a: T, b: T) -> bool
-    requires a_in_range { T.fits (T.value a) }
-    requires b_in_range { T.fits (T.value b) }
-    ensures { IsTrue result ↔ T.fits (T.value a +ℤ T.value b) }
-{
-    sum_is_within(a.parts(), b.parts(), T::ends())
-}
-
-/// Returns `true` if `a - b` fits.
-fn difference_fits<T: Fits>(a: T, b: T) -> bool
-    requires a_in_range { T.fits (T.value a) }
-    requires b_in_range { T.fits (T.value b) }
-    ensures { IsTrue result ↔ T.fits (T.value a -ℤ T.value b) }
-{
-    let (negative, magnitude) = b.parts();
-    sum_is_within(a.parts(), (!negative, magnitude), T::ends())
-}
-
-/// Returns `true` if `-a` fits.
-fn negation_fits<T: Fits>(a: T) -> bool
-    requires { T.fits (T.value a) }
-    ensures { IsTrue result ↔ T.fits (neg_ℤ (T.value a)) }
-{
-    difference_fits(zero(), a)
-}
-
-/// Returns `true` if `a * b` fits.
-fn product_fits<T: Fits>(a: T, b: T) -> bool
-    requires a_in_range { T.fits (T.value a) }
-    requires b_in_range { T.fits (T.value b) }
-    ensures { IsTrue result ↔ T.fits (T.value a *ℤ T.value b) }
-{
-    product_is_within(a.parts(), b.parts(), T::ends())
 }

@@ -1,4 +1,4 @@
-//! Roots, without a condition.
+//! Checked roots.
 
 ghost use Rattle.std.specs.Prelude.{◌≢◌, ◌≡◌, ◌%◌, ◌≤ℤ◌, pos};
 ghost use Rattle.integer_roots.specs.RootOf.{IsRoot};
@@ -7,9 +7,8 @@ ghost use Rattle.num_integer.specs.Checked.{AnswersWhere};
 use integer_core::operators::is_negative;
 use integer_roots::Roots;
 
-/// Returns [`Roots::nth_root`], the root of degree `n` rounded toward zero, or `None` for degree 0 and
-/// for an even degree and a negative number. `nth_root(-9, 3)` is `Some(-2)`, and `nth_root(-9, 2)` is
-/// `None`.
+/// Returns [`Roots::nth_root`], the root of degree `n` rounded toward zero, or `None` if `n` is 0, or if
+/// `n` is even and `x` is negative. `nth_root(-9, 3)` is `Some(-2)`, and `nth_root(-9, 2)` is `None`.
 pub fn nth_root<T: Roots>(x: T, n: u32) -> Option<T>
     requires { T.fits (T.value x) }
     ensures { AnswersWhere
@@ -24,7 +23,7 @@ pub fn nth_root<T: Roots>(x: T, n: u32) -> Option<T>
     }
 }
 
-/// Returns [`Roots::sqrt`], the square root rounded down, or `None` for a negative number. `sqrt(99)` is
+/// Returns [`Roots::sqrt`], the square root rounded down, or `None` if `x` is negative. `sqrt(99)` is
 /// `Some(9)`, and `sqrt(-1)` is `None`.
 pub fn sqrt<T: Roots>(x: T) -> Option<T>
     requires { T.fits (T.value x) }

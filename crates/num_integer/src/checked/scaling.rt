@@ -1,17 +1,17 @@
-//! A product divided by a number, without a condition.
+//! The checked quotient of a product.
 
 ghost use Rattle.std.specs.Prelude.{◌≡◌, ◌≢◌, ◌<◌, ◌*ℤ◌, pos};
 ghost use Rattle.integer_core.specs.Division.{IsFloored, IsQuotient};
 ghost use Rattle.integer_core.specs.Range.{EachFits};
-ghost use Rattle.num_integer.specs.Checked.{AnswersWhere};
+ghost use Rattle.num_integer.specs.Checked.{AnswersWhere, Has};
 ghost use Rattle.num_integer.specs.Parts.{signed};
 
 use integer_core::NativeInteger;
 use integer_core::operators::{is_negative, is_zero};
 use num_traits::cast;
 
-/// Returns the quotient of `a * b` by `d`, at a built-in type of at most 64 bits, rounded down, and its
-/// remainder, or `None` for a divisor 0 and where the quotient does not fit. The product need not fit.
+/// Returns the quotient of `a * b` by `d`, rounded down, and its remainder, or `None` if `d` is 0 or the
+/// quotient does not fit. The product need not fit. The type is a native one of at most 64 bits.
 /// `product_div_mod_floor(i64::MAX, 2, 3)` is `Some((6148914691236517204, 2))`, and
 /// `product_div_mod_floor(i64::MAX, 3, 2)` is `None`.
 pub fn product_div_mod_floor<T: NativeInteger<Magnitude = u64>>(a: T, b: T, d: T) -> Option<(T, T)>
@@ -27,17 +27,31 @@ pub fn product_div_mod_floor<T: NativeInteger<Magnitude = u64>>(a: T, b: T, d: T
     if is_zero(d) {
         return None;
     }
-    let under = is_negative(d);
-    let negative = is_negative(a) != (is_negative(b) != under);
-    let product = u128::from(a.magnitude()) * u128::from(b.magnitude());
-    let (quotient, rest) = floored(negative, product, u128::from(d.magnitude()));
-    let quotient = number_of(negative, quotient)?;
-    let rest = number_of(under, rest)?;
+    let (quotient, rest) = floored_product(
+        (is_negative(a), a.magnitude()),
+        (is_negative(b), b.magnitude()),
+        (is_negative(d), d.magnitude()),
+    );
+    let quotient = number_of(quotient)?;
+    let rest = number_of(rest)?;
     Some((quotient, rest))
 }
 
-/// Returns the magnitudes of the floored quotient and of its remainder by `d`, of the number with this
-/// sign and this magnitude. The quotient has the same sign.
+/// Returns the quotient of `a * b` by `d`, rounded down, and its remainder. Each number is its sign and
+/// its magnitude.
+fn floored_product(a: (bool, u64), b: (bool, u64), d: (bool, u64)) -> ((bool, u128), (bool, u128))
+    requires { 0 < d.1 }
+    ensures { IsFloored (signed a.0 a.1 *ℤ signed b.0 b.1) (signed d.0 d.1)
+        (signed result.0.0 result.0.1) (signed result.1.0 result.1.1) }
+{
+    let negative = a.0 != (b.0 != d.0);
+    let product = u128::from(a.1) * u128::from(b.1);
+    let (quotient, rest) = floored(negative, product, u128::from(d.1));
+    ((negative, quotient), (d.0, rest))
+}
+
+/// Returns the magnitudes of the quotient by `d`, rounded down, and of its remainder, of the number with
+/// this sign and this magnitude. The quotient has the same sign.
 fn floored(negative: bool, magnitude: u128, d: u128) -> (u128, u128)
     requires { 0 < d }
     ensures { IsFloored (signed negative magnitude) (pos d) (signed negative result.0) (pos result.1) }
@@ -50,13 +64,13 @@ fn floored(negative: bool, magnitude: u128, d: u128) -> (u128, u128)
     }
 }
 
-/// Returns the number with this sign and this magnitude, or `None` where it does not fit.
-fn number_of<T: NativeInteger<Magnitude = u64>>(negative: bool, magnitude: u128) -> Option<T>
+/// Returns the number with this sign and this magnitude, or `None` if it does not fit.
+fn number_of<T: NativeInteger<Magnitude = u64>>(number: (bool, u128)) -> Option<T>
     ensures { AnswersWhere
-        (T.fits (signed negative magnitude))
-        (λ z. T.fits (T.value z) × (T.value z ≡ signed negative magnitude))
+        (T.fits (signed number.0 number.1))
+        (Has T.fits T.value (λ z. z ≡ signed number.0 number.1))
         result }
 {
-    let magnitude = i128::try_from(magnitude).ok()?;
-    cast::<i128, T>(if negative { -magnitude } else { magnitude })
+    let magnitude = i128::try_from(number.1).ok()?;
+    cast::<i128, T>(if number.0 { -magnitude } else { magnitude })
 }

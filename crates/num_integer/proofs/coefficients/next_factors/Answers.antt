@@ -1,4 +1,4 @@
-use Rattle.num_integer.proofs.Steps.{next_divides, next_only}
+use Rattle.num_integer.proofs.RowSteps.{next_divides, next_only}
 use Rattle.num_integer.proofs.coefficients.next_factors.Goals as goal
 
 pub factors-requires-clause-whole : goal.factors-requires-clause-whole

@@ -1,7 +1,26 @@
-use Rattle.std.specs.Prelude.{pos}
-use Rattle.std.proofs.Common.{ap, sym, ◌∙◌}
+use Rattle.std.specs.Prelude.{◌≡◌, ◌≢◌, ◌≤ℤ◌, ◌<ℤ◌, ◌+ℤ◌, ◌-ℤ◌, ℤ, pos}
+use Rattle.std.proofs.Common.{arith, ap, sym, ◌∙◌}
+use Rattle.std.proofs.lemmas.Bool.{iff_false}
+use Rattle.integer_core.proofs.Whole.{linear}
 use Rattle.num_integer.proofs.Pascal.{coefficient-zero}
 use Rattle.num_integer.proofs.rows.item_at.Goals as goal
 
+-- the place after the one before is the place
+back : (k : ℤ) → k -ℤ pos 1 +ℤ pos 1 ≡ k
+back k = omega (arith, linear)
+
+positive : (k : ℤ) → pos 0 ≤ℤ k → k ≢ pos 0 → pos 0 <ℤ k
+positive k up nonzero = omega (arith, linear)
+
+pub next_coefficient-requires-clause-current : goal.next_coefficient-requires-clause-current
+next_coefficient-requires-clause-current g c =
+    rw c.predecessor.ensures.value (c.requires.previous_is (positive _ c.requires.k_from_zero (iff_false c.is_zero.ensures c.if-is_zero.false)))
+
+pub next_coefficient-requires-clause-next_fits : goal.next_coefficient-requires-clause-next_fits
+next_coefficient-requires-clause-next_fits g c = rw (c.predecessor.ensures.value, back (g.T.Number.value c.args.k)) c.requires.item_fits
+
 pub returns-then-is_zero-clause-item : goal.returns-then-is_zero-clause-item
 returns-then-is_zero-clause-item g c = c.one.ensures.value ∙ ap pos (sym (rw (c.is_zero.ensures.0 c.if-is_zero.true) (coefficient-zero _)))
+
+pub returns-else-is_zero-clause-item : goal.returns-else-is_zero-clause-item
+returns-else-is_zero-clause-item g c = rw (c.predecessor.ensures.value, back (g.T.Number.value c.args.k)) at c.next_coefficient.ensures.next

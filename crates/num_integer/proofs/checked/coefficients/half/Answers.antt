@@ -4,7 +4,7 @@ use Rattle.std.proofs.lemmas.Int.{ints}
 use Rattle.num_integer.proofs.FlooredByPositive.{operator_quotient_fits}
 use Rattle.num_integer.proofs.checked.coefficients.half.Goals as goal
 
--- half of a number at least 0
+-- half of a number that is not negative
 half_is : (n : ℤ) → pos 0 ≤ℤ n → int_div n (pos 2) ≡ pos (unsigned_abs n / 2)
 half_is (pos n) up = refl
 half_is (negsuc n) up = absurd (omega (arith, ints))

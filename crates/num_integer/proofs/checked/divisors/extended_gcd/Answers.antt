@@ -2,18 +2,18 @@ use Rattle.std.proofs.Common.{refl}
 use Rattle.std.proofs.lemmas.Bool.{iff_false}
 use Rattle.num_integer.proofs.FittingAnswers.{gcd_domain}
 use Rattle.num_integer.proofs.checked.divisors.extended_gcd.Goals as goal
-use Rattle.num_integer.proofs.checked.divisors.extended_gcd.Goals.{else-gcd_fits-via-then-gcd_fits+else-has_pair, else-gcd_fits-via-else-gcd_fits}
+use Rattle.num_integer.proofs.checked.divisors.extended_gcd.Goals.{else-gcd_fits-via-then-gcd_fits+else-pair_fits, else-gcd_fits-via-else-gcd_fits}
 
-pub returns-then-has_pair : goal.returns-then-has_pair
-returns-then-has_pair g c =
+pub returns-then-pair_fits : goal.returns-then-pair_fits
+returns-then-pair_fits g c =
     let in_range = c.extended_gcd.ensures.in_range in
     let test = gcd_domain g.met.T.Integer.range_law c.requires.x_in_range c.requires.y_in_range c.if-gcd_fits.ensures.domain in
-    ((test.0 refl, c.if-has_pair.ensures.0 refl), (in_range.0, in_range.1, in_range.2, c.extended_gcd.ensures.answer))
+    ((test.0 refl, c.if-pair_fits.ensures.0 refl), (in_range.0, in_range.1, in_range.2, c.extended_gcd.ensures.answer))
 
 pub returns-else-gcd_fits : goal.returns-else-gcd_fits
 returns-else-gcd_fits g c =
     let test = gcd_domain g.met.T.Integer.range_law c.requires.x_in_range c.requires.y_in_range c.gcd_fits.ensures.domain in
     λ domain. elim c.else-gcd_fits.branch [
-      | else-gcd_fits-via-then-gcd_fits+else-has_pair w ↦ iff_false w.has_pair.ensures w.if-has_pair.false domain.1
+      | else-gcd_fits-via-then-gcd_fits+else-pair_fits w ↦ iff_false w.pair_fits.ensures w.if-pair_fits.false domain.1
       | else-gcd_fits-via-else-gcd_fits w ↦ iff_false test w.if-gcd_fits.false domain.0
     ]

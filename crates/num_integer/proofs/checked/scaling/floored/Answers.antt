@@ -1,4 +1,4 @@
-use Rattle.num_integer.proofs.ScaledQuotients.{exact_floored, natural_floored}
+use Rattle.num_integer.proofs.FlooredProducts.{exact_floored, natural_floored}
 use Rattle.num_integer.proofs.checked.scaling.floored.Goals.{else-negative-via-then-negative+else-rest-ne0, else-negative-via-else-negative}
 use Rattle.num_integer.proofs.checked.scaling.floored.Goals as goal
 

@@ -1,39 +1,38 @@
-use Rattle.std.specs.Prelude.{◌≡◌, ◌*ℤ◌, not}
+use Rattle.std.specs.Prelude.{◌≡◌, ◌*ℤ◌}
 use Rattle.std.proofs.Common.{arith, subst}
-use Rattle.std.proofs.Math.Bool.{beq}
 use Rattle.std.proofs.lemmas.Int.{ints}
 use Rattle.std.proofs.lemmas.Bool.{iff_false}
 use Rattle.integer_core.proofs.Quotients.{only_floored}
 use Rattle.integer_core.specs.Division.{IsFloored}
 use Rattle.num_integer.proofs.FittingAnswers.{signed_is}
-use Rattle.num_integer.proofs.ScaledQuotients.{division_by_magnitudes, rest_fits}
+use Rattle.num_integer.proofs.FlooredProducts.{rest_fits}
 use Rattle.num_integer.specs.Parts.{signed}
 use Rattle.num_integer.proofs.checked.scaling.product_div_mod_floor.Given.{Over}
-use Rattle.num_integer.proofs.checked.scaling.product_div_mod_floor.Goals.{After-floored-quotient}
+use Rattle.num_integer.proofs.checked.scaling.product_div_mod_floor.Goals.{After-floored_product}
 use Rattle.num_integer.proofs.checked.scaling.product_div_mod_floor.Goals as goal
 
--- the quotient and the remainder that are made of the magnitudes
-division : (g : Over) (c : After-floored-quotient g) → IsFloored (g.T.Number.value c.args.a *ℤ g.T.Number.value c.args.b) (g.T.Number.value c.args.d)
-    (signed (not (beq c.is_negative.result (not (beq c.is_negative-2.result c.is_negative-under.result)))) c.floored-quotient.result.0) (signed c.is_negative-under.result c.floored-quotient.result.1)
+-- the division of the numbers themselves
+division : (g : Over) (c : After-floored_product g) → IsFloored (g.T.Number.value c.args.a *ℤ g.T.Number.value c.args.b) (g.T.Number.value c.args.d)
+    (signed c.floored_product.result.0.0 c.floored_product.result.0.1) (signed c.floored_product.result.1.0 c.floored_product.result.1.1)
 division g c =
-    let a : signed c.is_negative.result c.from.result ≡ g.T.Number.value c.args.a = signed_is c.is_negative.ensures (omega (arith, ints, c.magnitude.ensures.value)) in
-    let b : signed c.is_negative-2.result c.from-2.result ≡ g.T.Number.value c.args.b = signed_is c.is_negative-2.ensures (omega (arith, ints, c.magnitude-2.ensures.value)) in
-    let d : signed c.is_negative-under.result c.from-3.result ≡ g.T.Number.value c.args.d = signed_is c.is_negative-under.ensures (omega (arith, ints, c.magnitude-3.ensures.value)) in
-    rw (a, b, d) at (division_by_magnitudes c.is_negative.result c.is_negative-2.result c.is_negative-under.result c.from.result c.from-2.result c.from-3.result c.floored-quotient.ensures)
+    let a : signed c.is_negative.result c.magnitude.result ≡ g.T.Number.value c.args.a = signed_is c.is_negative.ensures (omega (arith, ints, c.magnitude.ensures.value)) in
+    let b : signed c.is_negative-2.result c.magnitude-2.result ≡ g.T.Number.value c.args.b = signed_is c.is_negative-2.ensures (omega (arith, ints, c.magnitude-2.ensures.value)) in
+    let d : signed c.is_negative-3.result c.magnitude-3.result ≡ g.T.Number.value c.args.d = signed_is c.is_negative-3.ensures (omega (arith, ints, c.magnitude-3.ensures.value)) in
+    rw (a, b, d) at c.floored_product.ensures
 
 pub returns-in_err-quotient : goal.returns-in_err-quotient
 returns-in_err-quotient g c =
-    let own = division g (goal.at.returns-in_err-quotient g c).After-floored-quotient in
+    let own = division g (goal.at.returns-in_err-quotient g c).After-floored_product in
     rw c.from_residual.ensures (λ domain. c.in_err-quotient.ensures (domain.1 _ record { remainder = _; division = own }))
 
 pub returns-in_err-rest : goal.returns-in_err-rest
 returns-in_err-rest g c =
-    let own = division g (goal.at.returns-in_err-rest g c).After-floored-quotient in
+    let own = division g (goal.at.returns-in_err-rest g c).After-floored_product in
     absurd (c.in_err-rest.ensures (rest_fits g.met.T.Integer.range_law c.requires.d_in_range own))
 
 pub returns : goal.returns
 returns g c =
-    let own = division g (goal.at.returns g c).After-floored-quotient in
+    let own = division g (goal.at.returns g c).After-floored_product in
     let q = c.in_ok-quotient.ensures in
     let r = c.in_ok-rest.ensures in (
       (iff_false c.is_zero.ensures c.if-is_zero.false, λ p h. subst g.T.Number.fits (only_floored own h.division).0 q.0),

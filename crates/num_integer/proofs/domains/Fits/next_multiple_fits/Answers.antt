@@ -1,25 +1,17 @@
-use Rattle.std.proofs.Common.{refl}
 use Rattle.std.proofs.lemmas.Bool.{iff_false}
 use Rattle.integer_core.proofs.Multiples.{gap_fits, next_above, next_exact}
-use Rattle.num_integer.proofs.FittingAnswers.{ceiled, multiple_domain, parts_inside, signed_is, test_inside}
+use Rattle.num_integer.proofs.FittingAnswers.{ceiled, multiple_domain}
 use Rattle.num_integer.proofs.domains.Fits.next_multiple_fits.Goals as goal
-
-pub returns-then-is_zero-2 : goal.returns-then-is_zero-2
-returns-then-is_zero-2 g c =
-    multiple_domain ceiled (iff_false c.is_zero.ensures c.if-is_zero.false)
-    (next_exact c.mod_floor-remainder.ensures.floored.division (c.is_zero-2.ensures.0 c.if-is_zero-2.true)) (λ _. c.requires.self_in_range, λ _. refl)
 
 pub difference-requires-clause-difference_fits : goal.difference-requires-clause-difference_fits
 difference-requires-clause-difference_fits g c = gap_fits g.met.Self.Integer.range_law c.requires.other_in_range c.mod_floor-remainder.ensures.floored.division
 
-pub sum_is_within-requires-clause-within : goal.sum_is_within-requires-clause-within
-sum_is_within-requires-clause-within g c =
-    parts_inside g.met.Self.Integer.range_law c.ends.ensures.low c.ends.ensures.high c.parts.ensures.negative c.parts.ensures.magnitude c.requires.self_in_range
+pub returns-then-is_zero-2 : goal.returns-then-is_zero-2
+returns-then-is_zero-2 g c =
+    multiple_domain ceiled (iff_false c.is_zero.ensures c.if-is_zero.false)
+    (next_exact c.mod_floor-remainder.ensures.floored.division (c.is_zero-2.ensures.0 c.if-is_zero-2.true)) (λ _. c.requires.self_in_range, λ _. c.if-is_zero-2.true)
 
-pub returns : goal.returns
-returns g c =
-    let n = c.parts.ensures in
-    let gap = c.parts-2.ensures in
-    let test = rw (signed_is n.negative n.magnitude, signed_is gap.negative gap.magnitude, c.difference.ensures.value) at c.sum_is_within.ensures in
+pub returns-else-is_zero-2 : goal.returns-else-is_zero-2
+returns-else-is_zero-2 g c =
     multiple_domain ceiled (iff_false c.is_zero.ensures c.if-is_zero.false) (next_above c.mod_floor-remainder.ensures.floored.division (iff_false c.is_zero-2.ensures c.if-is_zero-2.false))
-    (test_inside g.met.Self.Integer.range_law c.ends.ensures.low c.ends.ensures.high test)
+    (rw c.difference.ensures.value at c.sum_fits.ensures)

@@ -1,5 +1,5 @@
 use Rattle.std.proofs.lemmas.List.Elements.{All-drop}
-use Rattle.num_integer.proofs.Steps.{place_first, row_in_range}
+use Rattle.num_integer.proofs.RowSteps.{place_first, row_in_range}
 use Rattle.num_integer.proofs.rows.IterBinomial.new.Goals as goal
 
 pub invariant_of-result : goal.invariant_of-result

@@ -1,6 +1,6 @@
 use Rattle.std.proofs.Common.{arith, ap, length, sym, ◌∙◌}
 use Rattle.num_integer.proofs.FittingAnswers.{from_test}
-use Rattle.num_integer.proofs.Steps.{item_fits, place_fits, rest_next, rest_none}
+use Rattle.num_integer.proofs.RowSteps.{item_fits, place_fits, rest_next, rest_none}
 use Rattle.num_integer.proofs.rows.IterBinomialIterator.next.Goals as goal
 
 pub item_at-self-inside-requires-clause-item_fits : goal.item_at-self-inside-requires-clause-item_fits

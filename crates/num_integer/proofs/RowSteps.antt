@@ -1,4 +1,4 @@
--- Rows: from one coefficient to the next, and what is left of a row.
+-- Rows: from one coefficient to the next, and the rest of a row.
 use Rattle.std.specs.List.{All}
 use Rattle.std.specs.Prelude.{◌≤ℤ◌, ◌<ℤ◌, ◌+ℤ◌, ◌-ℤ◌, ◌*ℤ◌, ℤ, pos, negsuc, unsigned_abs, ◌≢◌, int_div, int_rem, ◌≡◌, ◌+◌, ◌-◌, ◌/◌, ◌<◌, ◌≤◌, ℕ, suc, List, [], ◌∷◌, length, drop, get_or, reverse}
 use Rattle.std.proofs.Common.{refl, sym, ◌*◌, ap, ◌∙◌, arith, min}
@@ -21,9 +21,9 @@ use Rattle.num_integer.specs.Coefficient.{coefficient, coefficient_of}
 use Rattle.num_integer.specs.Laws.{RowIsGreatestInMiddle, RowIsPalindrome, RowLength}
 use Rattle.num_integer.specs.Row.{IsPlaceInRow, RowFits, row_of}
 
--- ---- from one coefficient of a row to the next, over whole numbers
+-- ---- from one coefficient of a row to the next, over the integers
 
--- what holds of natural numbers with k up to n holds of whole ones
+-- what holds of natural numbers with k at most n holds of integers
 pub from_naturals : (P : ℤ → ℤ → Type 0) → ((n k : ℕ) → k ≤ n → P (pos n) (pos k)) → (n k : ℤ) → pos 0 ≤ℤ k → k ≤ℤ n → P n k
 from_naturals P own (pos n) (pos k) up within = own n k (omega (arith, ints))
 from_naturals P own n (negsuc k) up within = absurd (omega (arith, ints))
@@ -58,11 +58,7 @@ module _ {n k c : ℕ} (below : k < n) (is : c ≡ coefficient n k) where
   pub next_natural : (x : ℕ) → pos (x * (k + 1)) ≡ pos (c * (n - k)) → x ≡ coefficient n (k + 1)
   next_natural x e = ap unsigned_abs (next_only {n = pos n} {k = pos k} (omega (arith, ints)) (omega (arith, ints)) (ap pos is) (sym (difference_is n k (omega arith))) refl (pos x) e)
 
--- the two ends of a row, over whole numbers
-pub mirror_of : (n k : ℤ) → pos 0 ≤ℤ k → k ≤ℤ n → coefficient_of n k ≡ coefficient_of n (n -ℤ k)
-mirror_of = from_naturals (λ n k. coefficient_of n k ≡ coefficient_of n (n -ℤ k)) (λ n k within. rw (difference_is n k within) (ap pos (mirror n k within)))
-
--- ---- a whole quotient r * a / b, cancelled by the greatest common divisor g of r and b
+-- ---- an exact quotient r * a / b, cancelled by the greatest common divisor g of r and b
 
 regrouped : (r a b g q s t : ℤ) → r ≡ g *ℤ q → b ≡ g *ℤ s → a ≡ s *ℤ t → q *ℤ t *ℤ b ≡ r *ℤ a
 regrouped r a b g q s t e f h = rw (e, f, h) (simp expand)
@@ -85,7 +81,7 @@ module _ {r b g : ℤ} (b_above : pos 0 <ℤ b) (greatest : IsGreatestCommonDivi
   pub rest_above : {s : ℤ} → s ≡ int_div b g → pos 0 <ℤ s
   rest_above is = rw is (factor_positive b_above g_above (exact_quotient nonzero greatest.divides_right))
 
-  -- where g is b
+  -- if g is b
   pub cancelled_whole : (a : ℤ) → b ≤ℤ g → int_div r b *ℤ a *ℤ b ≡ r *ℤ a
   cancelled_whole a large =
       let same : g ≡ b = omega (arith, linear, g_below) in
@@ -107,7 +103,7 @@ module _ {r b g : ℤ} (b_above : pos 0 <ℤ b) (greatest : IsGreatestCommonDivi
     pub cancelled : int_div r g *ℤ int_div a (int_div b g) *ℤ b ≡ r *ℤ a
     cancelled = cancelled_by _ _ (exact_quotient nonzero greatest.divides_left) (exact_quotient nonzero greatest.divides_right)
 
-    -- where g is 1
+    -- if g is 1
     pub cancelled_one : g ≤ℤ pos 1 → r *ℤ int_div a b *ℤ b ≡ r *ℤ a
     cancelled_one small =
         let one : g ≡ pos 1 = omega (arith, linear, g_above) in
@@ -130,7 +126,7 @@ pub rest_next : (n k : ℤ) → pos 0 ≤ℤ k → k ≤ℤ n → drop (unsigned
 rest_next = from_naturals (λ n k. drop (unsigned_abs k) (row_of n) ≡ coefficient_of n k ∷ drop (unsigned_abs (k +ℤ pos 1)) (row_of n)) (λ n k within.
     at_drop_more (λ (xs : List ℤ). xs) (row_of (pos n)) k (pos 0) (omega (arith, length-row n)) ∙ rw (row_at n k (pos 0) within) refl)
 
--- past n nothing is left
+-- past n no item is left
 pub rest_none : (n k : ℤ) → pos 0 ≤ℤ k → n <ℤ k → drop (unsigned_abs k) (row_of n) ≡ []
 unfolding row_of
 rest_none (pos n) (pos k) up above = drop_all k (row_of (pos n)) (omega (arith, ints, length-row n))
@@ -139,7 +135,7 @@ rest_none (negsuc n) k up above = drop_all (unsigned_abs k) (row_of (negsuc n)) 
 
 -- ---- the shape of a row
 
--- no item of the row is above the one in its middle
+-- no item of the row is larger than the one in its middle
 below_middle : (n m : ℕ) → m ≤ n → coefficient n m ≤ coefficient n (n / 2)
 below_middle n m h =
     let half : n / 2 + n / 2 ≤ n = omega arith in

@@ -4,8 +4,8 @@ use Rattle.std.proofs.Common.{arith}
 use Rattle.std.proofs.lemmas.Bool.{le-leb, leb-true}
 use Rattle.integer_core.proofs.Whole.{linear, products}
 use Rattle.num_integer.specs.Parts.{IsWithin, signed}
-use Rattle.num_integer.proofs.parts.product_is_within.Goals as goal
-use Rattle.num_integer.proofs.parts.product_is_within.Goals.{then-a-b, else-a-b}
+use Rattle.num_integer.proofs.sign_magnitude.product_is_within.Goals as goal
+use Rattle.num_integer.proofs.sign_magnitude.product_is_within.Goals.{then-a-b, else-a-b}
 
 -- the sign of a product
 product_is : (s t : Bool) (m n : ℕ) → signed s m *ℤ signed t n ≡ signed (not (beq s t)) (m * n)

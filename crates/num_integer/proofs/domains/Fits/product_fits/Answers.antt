@@ -1,7 +1,7 @@
 use Rattle.std.specs.Prelude.{◌*ℤ◌}
 use Rattle.num_integer.proofs.FittingAnswers.{test_of_both}
-use Rattle.num_integer.proofs.checked.operators.product_fits.Goals as goal
+use Rattle.num_integer.proofs.domains.Fits.product_fits.Goals as goal
 
 pub returns : goal.returns
-returns g c = test_of_both g.met.T.Integer.range_law c.ends.ensures.low c.ends.ensures.high (λ a b. a *ℤ b)
+returns g c = test_of_both g.met.Self.Integer.range_law c.ends.ensures.low c.ends.ensures.high (λ a b. a *ℤ b)
     c.parts.ensures.negative c.parts.ensures.magnitude c.parts-2.ensures.negative c.parts-2.ensures.magnitude c.product_is_within.ensures

@@ -14,14 +14,14 @@ use Rattle.num_integer.specs.Parts.{signed}
 pub natural_floored : (m d : ℕ) → 0 < d → IsFloored (pos m) (pos d) (pos (m / d)) (pos (m % d))
 natural_floored m d up = floored_by_range (omega (arith, ints, div-add-mod m d)) (omega (arith, ints)) (omega (arith, ints, mod-lt m up))
 
--- without a remainder, those of a number of either sign are
+-- without a remainder, those of a number of either sign are floored
 pub exact_floored : (negative : Bool) (m d : ℕ) → 0 < d → m % d ≡ 0 → IsFloored (signed negative m) (pos d) (signed negative (m / d)) (pos (m % d))
 exact_floored false m d up none = natural_floored m d up
 exact_floored true m d up none = let h = (natural_floored m d up).division.equation in floored_by_range (grind (arith, products, none, h)) (omega (arith, ints)) (omega (arith, ints, none))
 
 -- both numbers negated have the same quotient, and the remainder negated
-turned_floored : {n d q r : ℤ} → IsFloored n d q r → IsFloored (neg_ℤ n) (neg_ℤ d) q (neg_ℤ r)
-turned_floored h = grind (arith, products, sizes)
+negated_floored : {n d q r : ℤ} → IsFloored n d q r → IsFloored (neg_ℤ n) (neg_ℤ d) q (neg_ℤ r)
+negated_floored h = grind (arith, products, sizes)
 
 -- a product, by the signs of three numbers and the magnitudes of the first two
 product_over : (s t : Bool) (m n : ℕ) → signed s m *ℤ signed t n ≡ signed (not (beq s (not (beq t false)))) (m * n)
@@ -36,14 +36,14 @@ product_under true true m n = grind (arith, products)
 product_under true false m n = grind (arith, products)
 product_under false true m n = grind (arith, products)
 
--- the floored division of a product, from that of the magnitudes, whose sign the divisor has turned
+-- the floored division of a product, from that of the magnitudes, whose sign is negated if the divisor is negative
 pub division_by_magnitudes : (s t u : Bool) (m n e : ℕ) {q : ℤ} {r : ℕ} → IsFloored (signed (not (beq s (not (beq t u)))) (m * n)) (pos e) q (pos r)
     → IsFloored (signed s m *ℤ signed t n) (signed u e) q (signed u r)
 division_by_magnitudes s t false m n e h = rw (product_over s t m n) h
 division_by_magnitudes s t true m n e h =
     let under = sym (product_under s t m n) in
     let back : neg_ℤ (neg_ℤ (signed s m *ℤ signed t n)) ≡ signed s m *ℤ signed t n = omega (arith, linear) in
-    rw back at (turned_floored (rw under at h))
+    rw back at (negated_floored (rw under at h))
 
 -- the remainder by a divisor that fits does too
 pub rest_fits : {fits : ℤ → Type 0} {low high n d q r : ℤ} → IsRange fits low high → fits d → IsFloored n d q r → fits r
