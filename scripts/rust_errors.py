@@ -28,6 +28,7 @@ ERRORS = {
         'ZeroDenominator': 'the denominator is 0',
         'NotFitting': NOT_FITTING.format('reduced fraction')},
     ('calendar', 'Date', 'from_str'): {'': 'the text is not the one that `Display` writes of a date'},
+    ('calendar', 'Weekday', 'from_str'): {'': 'the string is not the English name of a day of the week'},
 }
 USED = set()                    # the rows that are met, noted as files are made
 

@@ -1,11 +1,11 @@
 -- Powers of whole numbers and their roots.
-use Rattle.std.specs.Prelude.{◌≡◌, ◌≢◌, ◌⊎◌, ◌*◌, ◌^◌, ◌≤◌, ◌<◌, ◌≤ℤ◌, ◌*ℤ◌, ℕ, ℤ, pos, negsuc, neg_ℤ, suc, zero, unsigned_abs}
+use Rattle.std.specs.Prelude.{◌≡◌, ◌≢◌, ◌⊎◌, ◌^◌, ◌≤◌, ◌<◌, ◌≤ℤ◌, ◌*ℤ◌, ℕ, ℤ, pos, negsuc, neg_ℤ, suc, zero, unsigned_abs}
 use Rattle.std.specs.Int.{int_pow}
 use Rattle.std.proofs.Common.{arith, ap, inl, inr, refl, subst, sym, pow_mono, ◌∙◌}
 use Rattle.std.proofs.Math.Nat.{pow-le-pow_left}
 use Rattle.std.proofs.lemmas.Int.{by_lt_z, ints}
 use Rattle.num_integer.specs.RootOf.{IsFloorRoot, IsRoot}
-use Rattle.num_integer.proofs.ForCallers.{even_power, exact_power_root, linear, odd_power, power_of_one, power_of_power, power_of_zero, power_size}
+use Rattle.num_integer.proofs.ForCallers.{even_power, exact_power_root, linear, odd_power, power_of_one, power_of_zero, power_size}
 
 pub square_from_zero : (k : ℤ) → pos 0 ≤ℤ (k *ℤ k)
 square_from_zero (pos k) = omega (arith, ints)
@@ -43,12 +43,6 @@ power_of_root_of_power {x} {r} {n} k nonzero e h =
     (λ up.
     let base = exact_power_root {k = unsigned_abs k} {n = n} nonzero (subst (λ (t : ℤ). IsRoot t n r) (omega (arith, ints)) h) in
     rw base (omega (arith, ints)))
-
--- ---- powers of composite degrees
-
--- a natural number that is a power of degree i * j is one of degree j, so prime degrees are enough
-pub power_of_factor : (k : ℤ) (i j n : ℕ) → int_pow k (i * j) ≡ pos n → int_pow (pos (unsigned_abs k ^ i)) j ≡ pos n
-power_of_factor k i j n e = ap pos (power_of_power (unsigned_abs k) i j ∙ sym (power_size k (i * j)) ∙ ap unsigned_abs e)
 
 -- ---- powers of high degrees
 

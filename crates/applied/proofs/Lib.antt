@@ -3,7 +3,7 @@ pub mod NextChoices
 pub mod ExactPowers
 pub mod Meetings
 pub mod RollingHashes
-pub mod Places
+pub mod ItemPlaces
 pub mod PageRanges
 pub mod PartRanges
 pub mod Laws

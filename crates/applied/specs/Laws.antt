@@ -12,51 +12,51 @@ use Rattle.applied.specs.Schedules.{IsLeastTime}
 
 -- ---- pages and parts
 
--- one number of pages is the fewest that hold all items
+-- Only one number of pages is the smallest that holds all items.
 abbrev pub PagesAreOnly : Type 0
 PagesAreOnly = (items size count other : ℤ) → items ≤ℤ (count *ℤ size) → ((n : ℤ) → items ≤ℤ (n *ℤ size) → count ≤ℤ n)
     → items ≤ℤ (other *ℤ size) → ((n : ℤ) → items ≤ℤ (n *ℤ size) → other ≤ℤ n) → other ≡ count
 
--- of two parts the later one is not larger, nor smaller by more than 1
+-- A later part is as large as an earlier one, or smaller by 1.
 abbrev pub PartsDifferByOne : Type 0
 PartsDifferByOne = (parts items : ℤ) (cut : ℤ → ℤ) → IsEvenCut parts items cut → (part later : ℤ) → pos 0 ≤ℤ part → part ≤ℤ later → later <ℤ parts
     → ((cut (later +ℤ pos 1) -ℤ cut later) ≤ℤ (cut (part +ℤ pos 1) -ℤ cut part)) × ((cut (part +ℤ pos 1) -ℤ cut part) ≤ℤ (cut (later +ℤ pos 1) -ℤ cut later +ℤ pos 1))
 
 -- ---- offsets on an alignment
 
--- each offset has one next aligned offset at most
+-- Each offset has at most one next aligned offset.
 abbrev pub AlignedUpIsOnly : Type 0
 AlignedUpIsOnly = (offset alignment aligned : ℤ) → IsAlignedUp offset alignment aligned → IsOnly (IsAlignedUp offset alignment) aligned
 
--- one number of bytes below the alignment leads to an aligned offset
+-- Only one number of bytes below the alignment leads to an aligned offset.
 abbrev pub PaddingIsOnly : Type 0
 PaddingIsOnly = (offset alignment bytes other : ℤ) → pos 0 ≤ℤ bytes → bytes <ℤ alignment → Divides alignment (offset +ℤ bytes)
     → pos 0 ≤ℤ other → other <ℤ alignment → Divides alignment (offset +ℤ other) → other ≡ bytes
 
 -- ---- schedules
 
--- where each number has one value, one answer says when a time with the property comes next
+-- If different numbers have different values, at most one answer says when a time with the property comes next.
 abbrev pub LeastTimeIsOnly : {X : Type 0} → (X → ℤ) → (ℤ → Type 0) → (ℤ → Type 0) → Type 0
 LeastTimeIsOnly {X} value fits P = ((x y : X) → value x ≡ value y → x ≡ y) → (now : ℤ) (answer : CommonSolution X) → IsLeastTime value fits now P answer → IsOnly (IsLeastTime value fits now P) answer
 
 -- ---- choices
 
--- choices of one size and rank are the same
+-- At most one choice has a length and a rank.
 abbrev pub ChoiceOfRankIsOnly : Type 0
 ChoiceOfRankIsOnly = (n k r : ℕ) (numbers : List ℕ) → IsChoiceOfRank n k r numbers → IsOnly (IsChoiceOfRank n k r) numbers
 
--- the rank of a choice is below the number of choices of its length
+-- The rank of a choice is below the number of choices of its length.
 abbrev pub RankIsBelow : Type 0
 RankIsBelow = (n : ℕ) (numbers : List ℕ) → IsChoice n numbers → rank_of numbers < coefficient n (length numbers)
 
 -- ---- halves
 
--- one number is no farther from the first of two than from the second, and nearer by 1 at most
+-- Only one number is as near to the first of two numbers as to the second, or nearer by 1.
 abbrev pub MidpointIsOnly : Type 0
 MidpointIsOnly = (a b middle other : ℤ) → (middle -ℤ a) ≤ℤ (b -ℤ middle) → (b -ℤ middle) ≤ℤ (middle -ℤ a +ℤ pos 1)
     → (other -ℤ a) ≤ℤ (b -ℤ other) → (b -ℤ other) ≤ℤ (other -ℤ a +ℤ pos 1) → other ≡ middle
 
--- one place parts the items that are below a number from those that are not
+-- Only one place separates the items that are below a number from the others.
 abbrev pub LowerBoundIsOnly : {X : Type 0} → (X → ℤ) → Type 0
 LowerBoundIsOnly {X} value = (items : List X) (least : ℤ) (place other : ℕ)
     → place ≤ length items → AllWithin (λ x. value x <ℤ least) items 0 place → AllWithin (λ x. least ≤ℤ value x) items place (length items)

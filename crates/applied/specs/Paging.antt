@@ -1,14 +1,16 @@
--- Items on pages of one size, and in parts of nearly one size.
+-- Items on pages of equal size, and in parts of nearly equal size. Items, pages, places and parts are counted from 0.
 use Rattle.std.specs.Prelude.{◌≡◌, ◌↔◌, ◌≤ℤ◌, ◌<ℤ◌, ◌+ℤ◌, ◌-ℤ◌, ◌*ℤ◌, ℤ, pos}
 use Rattle.num_integer.specs.Division.{IsCeiled, IsQuotient}
 
--- The item lies at this place of this page, all counted from 0. With pages of 4 items, item 10 lies at place 2 of page 2, and item -1 at place 3 of page -1.
+-- The item is at this place on this page.
+-- Examples: pages of 4 items: 10: page 2, place 2; 0: page 0, place 0; -1: page -1, place 3.
 pub record IsPlace (item page_size page place : ℤ) : Type 0 where
   pub equation : item ≡ page *ℤ page_size +ℤ place
   pub from_zero : pos 0 ≤ℤ place
   pub below : place <ℤ page_size
 
--- The numbers from first on and before end are exactly the items of 0..items that lie on the page. Both are items where there is none. With pages of 4 items, those of page 2 among 10 items are 8..10, and those of page 3 are 10..10.
+-- The items of the page are exactly those from `first` to before `end`. If it has no item, `first` and `end` are `items`.
+-- Examples: 10 items, pages of 4: page 0: 0 and 4; page 2: 8 and 10; pages 3 and -1: 10 and 10.
 pub record IsRangeOfPage (page page_size items first end : ℤ) : Type 0 where
   pub from_zero : pos 0 ≤ℤ first
   pub ordered : first ≤ℤ end
@@ -16,13 +18,15 @@ pub record IsRangeOfPage (page page_size items first end : ℤ) : Type 0 where
   pub exactly : (item : ℤ) → ((first ≤ℤ item) × (item <ℤ end)) ↔ ((pos 0 ≤ℤ item) × (item <ℤ items) × ((place : ℤ) × IsPlace item page_size page place))
   pub empty : end ≤ℤ first → first ≡ items
 
--- A function cuts items into parts: it is 0 at 0, items at parts, and the size of each part is (items - part) / parts, rounded up. So no part is larger than the one before it, nor smaller by more than 1. 10 items are cut into 3 parts at 0, 4, 7 and 10.
+-- The function `cut` gives the item at which each part begins. The size of a part is (items - part) / parts, rounded up, so it is as large as the part before it, or smaller by 1.
+-- Examples: 10 items, 3 parts: 0, 4, 7, 10; 2 items, 3 parts: 0, 1, 2, 2.
 pub record IsEvenCut (parts items : ℤ) (cut : ℤ → ℤ) : Type 0 where
   pub begins : cut (pos 0) ≡ pos 0
   pub ends : cut parts ≡ items
   pub sizes : (part : ℤ) → pos 0 ≤ℤ part → part <ℤ parts → IsQuotient IsCeiled (items -ℤ part) parts (cut (part +ℤ pos 1) -ℤ cut part)
 
--- The part begins at first and ends before end, where items are cut evenly into parts. Of 10 items in 3 parts, part 1 is 4..7.
+-- The part begins at `first` and ends before `end`, if the items are cut evenly into parts.
+-- Examples: 10 items, 3 parts: part 0: 0 and 4; part 1: 4 and 7; part 2: 7 and 10.
 pub record IsRangeOfPart (part parts items first end : ℤ) : Type 0 where
   pub from_zero : pos 0 ≤ℤ first
   pub ordered : first ≤ℤ end

@@ -1,4 +1,4 @@
-//! The middle of two numbers, and the search by halves.
+//! The midpoint of two numbers, and binary search.
 
 ghost use Rattle.std.specs.Prelude.{◌≤◌, ◌≤ℤ◌, ◌<ℤ◌, ◌+ℤ◌, ◌-ℤ◌, pos, length, IsSortedByKey};
 ghost use Rattle.std.specs.List.{AllWithin};
@@ -7,7 +7,7 @@ ghost use Rattle.std.specs.Ordering.{int_cmp};
 use num_integer::operators::is_below;
 use num_integer::{Average, Integer, average_floor};
 
-/// Returns the middle of two numbers, in either order, rounded down. It never overflows.
+/// Returns the midpoint of two numbers in either order, rounded down. It never overflows.
 /// `midpoint(2, 5)` is `3`, and `midpoint(-2, -5)` is `-4`.
 pub fn midpoint<T: Average>(a: T, b: T) -> T
     requires in_range { T.fits (T.value a) × T.fits (T.value b) }
@@ -19,10 +19,10 @@ pub fn midpoint<T: Average>(a: T, b: T) -> T
     average_floor(a, b)
 }
 
-/// Returns the place of the first item of a sorted slice that is at least `least`, or the length where
-/// there is none. `lower_bound(&[1, 3, 3, 5], 3)` is `1`.
+/// Returns the index of the first item of a sorted slice that is not less than `least`, or the length of the
+/// slice if there is no such item. `lower_bound(&[1, 3, 3, 5], 3)` is `1`, and `lower_bound(&[1, 3], 4)` is `2`.
 ///
-/// May be called where `items` is sorted.
+/// May be called if `items` is sorted.
 pub fn lower_bound<T: Integer>(items: &[T], least: T) -> usize
     requires sorted { IsSortedByKey T.value int_cmp items.now }
     ensures to_length { result ≤ length items.now }

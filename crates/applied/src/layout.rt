@@ -7,10 +7,10 @@ ghost use Rattle.applied.specs.Layout.{IsAlignedUp};
 use num_integer::operators::{difference, is_zero};
 use num_integer::{Fits, Integer, mod_floor};
 
-/// Returns the offset rounded up to a multiple of the alignment, or `None` where that is beyond the
-/// type. `align_up(13, 8)` is `Some(16)`, and `align_up(-13, 8)` is `Some(-8)`.
+/// Returns the offset rounded up to a multiple of the alignment, or `None` if that does not fit.
+/// `align_up(13, 8)` is `Some(16)`, `align_up(-13, 8)` is `Some(-8)`, and `align_up(250u8, 8)` is `None`.
 ///
-/// May be called where `alignment` is above 0.
+/// May be called if `alignment` is positive.
 pub fn align_up<T: Fits>(offset: T, alignment: T) -> Option<T>
     requires in_range { T.fits (T.value offset) × T.fits (T.value alignment) }
     requires positive { pos 0 <ℤ T.value alignment }
@@ -27,10 +27,10 @@ pub fn align_up<T: Fits>(offset: T, alignment: T) -> Option<T>
     }
 }
 
-/// Returns how many bytes to add to reach the next aligned offset. `padding(13, 8)` is `3`, and
-/// `padding(-13, 8)` is `5`.
+/// Returns how many bytes to add to the offset to align it. `padding(13, 8)` is `3`, and `padding(-13, 8)` is
+/// `5`.
 ///
-/// May be called where `alignment` is above 0.
+/// May be called if `alignment` is positive.
 pub fn padding<T: Integer>(offset: T, alignment: T) -> T
     requires in_range { T.fits (T.value offset) × T.fits (T.value alignment) }
     requires positive { pos 0 <ℤ T.value alignment }

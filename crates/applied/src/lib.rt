@@ -1,4 +1,4 @@
-//! What people build on integer division: paging, layout, schedules, ranking, the search by halves,
+//! What people build on integer division: paging, memory layout, schedules, ranking, binary search, perfect
 //! powers and a rolling hash.
 #![tactic(auto)]
 

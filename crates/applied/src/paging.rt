@@ -1,4 +1,4 @@
-//! Items on pages of one size, and in parts of nearly one size.
+//! Items on pages of equal size, and in parts of nearly equal size.
 
 ghost use Rattle.std.specs.Prelude.{◌≡◌, ◌≤ℤ◌, ◌<ℤ◌, ◌*ℤ◌, ℤ, pos, IfSome};
 ghost use Rattle.num_integer.specs.Checked.{AnswersWhere};
@@ -9,9 +9,10 @@ ghost use Rattle.applied.specs.Paging.{IsPlace, IsRangeOfPage, IsRangeOfPart};
 use num_integer::operators::{difference, is_below, is_negative, product, successor, sum};
 use num_integer::{Fits, Integer, checked, div_ceil, div_mod_floor};
 
-/// Returns the fewest pages that hold all items. `pages(10, 4)` is `3`, and `pages(-9, 4)` is `-2`.
+/// Returns the smallest number of pages that hold all items. `pages(10, 4)` is `3`, and `pages(-9, 4)` is
+/// `-2`.
 ///
-/// May be called where `page_size` is above 0.
+/// May be called if `page_size` is positive.
 pub fn pages<T: Integer>(items: T, page_size: T) -> T
     requires in_range { T.fits (T.value items) × T.fits (T.value page_size) }
     requires positive { pos 0 <ℤ T.value page_size }
@@ -23,10 +24,10 @@ pub fn pages<T: Integer>(items: T, page_size: T) -> T
     div_ceil(items, page_size)
 }
 
-/// Returns the page of an item and its place on that page, all counted from 0. `place_of(10, 4)` is
-/// `(2, 2)`, and `place_of(-1, 4)` is `(-1, 3)`.
+/// Returns the page of an item and the place of the item on that page, all counted from 0.
+/// `place_of(10, 4)` is `(2, 2)`, and `place_of(-1, 4)` is `(-1, 3)`.
 ///
-/// May be called where `page_size` is above 0.
+/// May be called if `page_size` is positive.
 pub fn place_of<T: Integer>(item: T, page_size: T) -> (T, T)
     requires in_range { T.fits (T.value item) × T.fits (T.value page_size) }
     requires positive { pos 0 <ℤ T.value page_size }
@@ -39,11 +40,11 @@ pub fn place_of<T: Integer>(item: T, page_size: T) -> (T, T)
     div_mod_floor(item, page_size)
 }
 
-/// Returns the item at a place of a page, all counted from 0, or `None` if it does not fit.
+/// Returns the item at a place on a page, all counted from 0, or `None` if it does not fit.
 /// `item_at(2, 2, 4)` is `Some(10)`, `item_at(-1, 3, 4)` is `Some(-1)`, and `item_at(64u8, 0, 4)` is
 /// `None`.
 ///
-/// May be called where `place` is at least 0 and below `page_size`.
+/// May be called if `place` is at least 0 and below `page_size`.
 pub fn item_at<T: Fits>(page: T, place: T, page_size: T) -> Option<T>
     requires in_range { T.fits (T.value page) × T.fits (T.value place) × T.fits (T.value page_size) }
     requires place_from_zero { pos 0 ≤ℤ T.value place }
@@ -58,7 +59,7 @@ pub fn item_at<T: Fits>(page: T, place: T, page_size: T) -> Option<T>
         (T.value found)) }
 {
     if is_negative(page) {
-        // The product of the page itself may be below the type.
+        // The first item of the page may not fit, even if this one does.
         let next_page = checked::product(successor(page), page_size)?;
         checked::sum(next_page, difference(place, page_size))
     } else {
@@ -67,11 +68,11 @@ pub fn item_at<T: Fits>(page: T, place: T, page_size: T) -> Option<T>
     }
 }
 
-/// Returns the first index of a page and one past its last, among items and pages counted from 0. They
-/// are both `items` where no item lies on the page. `range_of_page(2, 4, 10)` is `(8, 10)`, and
+/// Returns the first item of a page and the end, which is one past its last item. Items and pages are counted
+/// from 0. Both results are `items` if no item is on the page. `range_of_page(2, 4, 10)` is `(8, 10)`, and
 /// `range_of_page(3, 4, 10)` is `(10, 10)`.
 ///
-/// May be called where `page_size` is above 0 and `items` at least 0.
+/// May be called if `page_size` is positive and `items` is at least 0.
 pub fn range_of_page<T: Integer>(page: T, page_size: T, items: T) -> (T, T)
     requires in_range { T.fits (T.value page) × T.fits (T.value page_size) × T.fits (T.value items) }
     requires positive { pos 0 <ℤ T.value page_size }
@@ -95,12 +96,12 @@ pub fn range_of_page<T: Integer>(page: T, page_size: T, items: T) -> (T, T)
     }
 }
 
-/// Returns the first index of a part and one past its last, where items are split into parts that follow
-/// one another from 0 on. No part is larger than the one before it, nor smaller by more than 1.
-/// `range_of_part(0, 3, 10)` is `(0, 4)`, `range_of_part(1, 3, 10)` is `(4, 7)`, and
+/// Returns the first item of a part and the end, which is one past its last item, if `items` items are split
+/// into `parts` parts. Items and parts are counted from 0. Each part is as large as the part before it, or
+/// smaller by 1. `range_of_part(0, 3, 10)` is `(0, 4)`, `range_of_part(1, 3, 10)` is `(4, 7)`, and
 /// `range_of_part(2, 3, 10)` is `(7, 10)`.
 ///
-/// May be called where `part` is in 0..`parts` and `items` at least 0.
+/// May be called if `part` is at least 0 and below `parts`, and `items` is at least 0.
 pub fn range_of_part<T: Integer>(part: T, parts: T, items: T) -> (T, T)
     requires in_range { T.fits (T.value part) × T.fits (T.value parts) × T.fits (T.value items) }
     requires part_from_zero { pos 0 ≤ℤ T.value part }

@@ -1,4 +1,4 @@
-//! Squares and powers.
+//! Tests of squares and of other powers of integers.
 
 ghost use Rattle.std.specs.Prelude.{◌≡◌, ◌≢◌, ◌↔◌, ◌≤◌, ◌*ℤ◌, ℕ, ℤ, pos, IsTrue};
 ghost use Rattle.std.specs.Int.{int_pow};
@@ -7,7 +7,8 @@ use num_integer::operators::{is_negative, product};
 use num_integer::{Roots, nth_root, sqrt};
 use num_traits::Pow;
 
-/// Returns `true` if the number is the square of a whole number. 144 is, and neither 145 nor -144 is.
+/// Returns `true` if the number is the square of an integer. `is_square(144)` is `true`, `is_square(145)` is
+/// `false`, and `is_square(-144)` is `false`.
 #[tactic(auto, using(crate::proofs::ExactPowers::square_from_zero))]
 pub fn is_square<T: Roots>(n: T) -> bool
     requires in_range { T.fits (T.value n) }
@@ -20,10 +21,10 @@ pub fn is_square<T: Roots>(n: T) -> bool
     product(root, root) == n
 }
 
-/// Returns `true` if the number is the power of this degree of a whole number. 243 and -243 are powers
-/// of degree 5.
+/// Returns `true` if some integer to the power of `degree` is the number. `is_power(-243, 5)` is `true`, and
+/// `is_power(244, 5)` is `false`.
 ///
-/// May be called where `degree` is not 0.
+/// May be called if `degree` is not 0.
 pub fn is_power<T: Roots + Pow<u32, Output = T>>(n: T, degree: u32) -> bool
     requires in_range { T.fits (T.value n) }
     requires degree { degree ≢ 0 }
@@ -35,8 +36,8 @@ pub fn is_power<T: Roots + Pow<u32, Output = T>>(n: T, degree: u32) -> bool
     nth_root(n, degree).pow(degree) == n
 }
 
-/// Returns `true` if the number is a square, a cube or a higher power of a whole number. 128 is, and
-/// 72 is not.
+/// Returns `true` if the number is a square, a cube or a higher power of an integer.
+/// `is_perfect_power(128)` is `true`, and `is_perfect_power(72)` is `false`.
 pub fn is_perfect_power(n: u64) -> bool
     ensures { IsTrue result
         ↔ ((k : ℤ) × ((degree : ℕ) × (2 ≤ degree) × (int_pow k degree ≡ pos n))) }

@@ -1,4 +1,5 @@
-//! The combinatorial number system: choices of some of the numbers below `n`, and their ranks.
+//! The combinatorial number system: a choice is a list of increasing numbers below `n`, and its rank is how
+//! many choices of the same length come before it.
 
 ghost use Rattle.std.specs.Prelude.{◌≡◌, ◌↔◌, ◌+◌, ◌<◌, ◌≤◌, ◌^◌, ℕ, List, length, slice_index, slice_index_or, IsFalse, IsTrue, MatchOption};
 ghost use Rattle.num_integer.specs.Checked.{AnswersWhere};
@@ -9,7 +10,7 @@ ghost use Rattle.applied.specs.Ranking.{IsBefore, IsChoice, IsChoiceOfRank, IsFi
 use crate::halving::midpoint;
 use num_integer::{Fits, binomial, checked};
 
-/// Returns `true` if the numbers increase and are below `n`, as [`rank`] and [`next_choice`] ask.
+/// Returns `true` if the numbers increase and are below `n`, which [`rank`] and [`next_choice`] require.
 /// `is_choice(&[0, 2, 3], 5)` is `true`, `is_choice(&[0, 2, 2], 5)` is `false`, and
 /// `is_choice(&[0, 2, 5], 5)` is `false`.
 pub fn is_choice(numbers: &[u64], n: u64) -> bool
@@ -45,11 +46,11 @@ fn checked_rank(choice: &[u64]) -> Option<u64>
     Some(rank)
 }
 
-/// Returns the rank of a choice of numbers below `n`, in increasing order, among all choices of the
-/// same length: the number of those before it. `rank(&[0, 2, 3], 5)` is `2`.
+/// Returns the rank of a choice of numbers below `n`: how many choices of the same length come before it. They
+/// are ordered by their last number, then by the one before it, and so on. `rank(&[0, 2, 3], 5)` is `2`.
 ///
-/// May be called where the numbers increase and are below `n`, which [`is_choice`] tests, and the rank
-/// fits a `u64`, which [`rank_fits`] tests. It fits if the number of all these choices does.
+/// May be called if the numbers increase and are below `n`, which [`is_choice`] tests, and the rank fits a
+/// `u64`, which [`rank_fits`] tests. It fits if the number of all these choices does.
 #[tactic(auto, using(crate::proofs::Choices::rank_steps))]
 pub fn rank(choice: &[u64], n: u64) -> u64
     requires choice { IsChoice n choice.now }
@@ -66,10 +67,10 @@ pub fn rank(choice: &[u64], n: u64) -> u64
     rank
 }
 
-/// Fills the slice with the choice of numbers below `n` that has the rank, in increasing order. For
-/// rank 2, `n` 5 and three places it is `[0, 2, 3]`.
+/// Fills the slice with the choice of numbers below `n` that has the rank.
+/// `{ let mut choice = [0; 3]; choice_of_rank(2, 5, &mut choice); choice }` is `[0, 2, 3]`.
 ///
-/// May be called where `rank` is below the number of these choices.
+/// May be called if `rank` is below the number of these choices.
 pub fn choice_of_rank(rank: u64, n: u64, choice: &mut [u64])
     requires rank { rank < coefficient n (length choice.old) }
     ensures choice { IsChoiceOfRank n (length choice.old) rank choice.new }
@@ -85,8 +86,8 @@ pub fn choice_of_rank(rank: u64, n: u64, choice: &mut [u64])
     }
 }
 
-/// Returns the greatest number whose coefficient over the place is at most the limit. It searches by
-/// halves below the bound.
+/// Returns the largest number whose binomial coefficient over `place` is at most `limit`, by binary search
+/// below `bound`.
 #[tactic(auto, using(num_integer::proofs::ForCallers::none_above))]
 fn greatest_within(limit: u64, place: u64, bound: u64) -> u64
     requires place { 0 < place }
@@ -108,18 +109,19 @@ fn greatest_within(limit: u64, place: u64, bound: u64) -> u64
     low
 }
 
-/// Returns `true` if the coefficient of `n` and `k`, which may not fit, is at most the limit.
+/// Returns `true` if the binomial coefficient of `n` and `k` is at most `limit`. It may not fit a `u64`.
 fn is_within(n: u64, k: u64, limit: u64) -> bool
     ensures { IsTrue result ↔ (coefficient n k ≤ limit) }
 {
     n.binomial_fits(&k) && binomial(n, k) <= limit
 }
 
-/// Replaces a choice of numbers below `n`, in increasing order, by the one of the next rank, and returns
-/// `true`, or returns `false` where it is the last. From `[0, 1, 4]` and `n` 5 it is `[0, 2, 4]`, and
-/// `[2, 3, 4]` is the last.
+/// Replaces a choice of numbers below `n` by the choice of the next rank and returns `true`, or returns `false`
+/// if the choice is the last.
+/// `{ let mut choice = [0, 1, 4]; (next_choice(&mut choice, 5), choice) }` is `(true, [0, 2, 4])`, and
+/// `next_choice(&mut [2, 3, 4], 5)` is `false`.
 ///
-/// May be called where the numbers increase and are below `n`.
+/// May be called if the numbers increase and are below `n`, which [`is_choice`] tests.
 pub fn next_choice(choice: &mut [u64], n: u64) -> bool
     requires choice { IsChoice n choice.old }
     ensures choice { IsChoice n choice.new }
@@ -139,8 +141,8 @@ pub fn next_choice(choice: &mut [u64], n: u64) -> bool
     }
 }
 
-/// Returns the first place whose number can be one more and still below the number after it, or `n` at
-/// the end.
+/// Returns the first place whose number can be increased by 1 and stay below the number after it, or below `n`
+/// at the last place.
 fn first_to_rise(choice: &[u64], n: u64) -> Option<usize>
     requires choice { IsChoice n choice.now }
     ensures { MatchOption result (IsLastChoice n choice.now)
@@ -154,7 +156,7 @@ fn first_to_rise(choice: &[u64], n: u64) -> Option<usize>
     None
 }
 
-/// Returns the number after a place, or `n` after the last one.
+/// Returns the number after `place`, or `n` if it is the last place.
 fn number_after(choice: &[u64], place: usize, n: u64) -> u64
     requires { place < length choice.now }
     ensures { result ≡ slice_index_or choice.now (place + 1) n }

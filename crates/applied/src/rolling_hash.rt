@@ -1,4 +1,4 @@
-//! A hash of the bytes of a window that slides over a text, as Rabin and Karp search with it.
+//! The rolling hash of the Rabin-Karp search: the hash of a window that slides over bytes.
 
 ghost use Rattle.std.specs.Prelude.{◌≡◌, ◌<◌, ◌∷◌, ◌++◌, ℕ, List, [], length, pos};
 ghost use Rattle.modular.specs.Congruences.{IsResidue};
@@ -6,21 +6,23 @@ ghost use Rattle.applied.specs.Hashes.{weighted_sum};
 
 use modular::{difference_modulo, power_modulo, product_modulo, sum_modulo};
 
-/// The hash of windows of one length, modulo a number.
+/// A polynomial hash of windows of one length, modulo `modulus`.
+///
+/// `RollingHash::new(10, 97, 2).hash(&[1, 2, 3])` is `26`.
 #[derive(Debug, Clone, Copy)]
 pub struct RollingHash {
     pub base: u64,
     pub modulus: u64,
-    /// How many bytes of a window stay when it slides.
+    /// How many bytes stay in the window when it slides: its length minus 1.
     pub kept: u64,
     pub ghost positive: { 0 < modulus },
 }
 
 impl RollingHash {
-    /// Returns the hash of windows that have one byte more than `kept`. `RollingHash::new(10, 97, 2)`
-    /// is that of windows of three bytes.
+    /// Returns the hash function of windows of `kept + 1` bytes. `RollingHash::new(10, 97, 1).hash(&[4, 2])` is
+    /// `42`.
     ///
-    /// May be called where `modulus` is above 0.
+    /// May be called if `modulus` is positive.
     pub fn new(base: u64, modulus: u64, kept: u64) -> RollingHash
         requires positive { 0 < modulus }
         ensures base { result.base ≡ base }
@@ -34,8 +36,8 @@ impl RollingHash {
         }
     }
 
-    /// Returns the sum of the bytes, each times the base to the power of the number of bytes after it,
-    /// modulo the modulus. `RollingHash::new(10, 97, 2).hash(&[1, 2, 3])` is `26`.
+    /// Returns the hash of the window: the sum of its bytes, each times `base` to the power of the number of
+    /// bytes after it, modulo `modulus`. `RollingHash::new(10, 97, 2).hash(&[1, 2, 3])` is `26`.
     pub fn hash(&self, window: &[u8]) -> u64
         ensures { IsResidue (pos self.now.modulus)
             (weighted_sum (pos self.now.base) window.now) (pos result) }
@@ -48,8 +50,8 @@ impl RollingHash {
         hash
     }
 
-    /// Returns the hash of the window one byte further on, where `hash` is that of the window that
-    /// begins with `leaving`. `RollingHash::new(10, 97, 2).slide(26, 1, 4)` is `40`.
+    /// Returns the hash of the window one byte further on. `hash` is that of the window before, which begins
+    /// with `leaving`, and the window ends with `entering`. `RollingHash::new(10, 97, 2).slide(26, 1, 4)` is `40`.
     pub fn slide(&self, hash: u64, leaving: u8, entering: u8) -> u64
         ensures { (kept : List ℕ) → length kept ≡ self.now.kept
             → IsResidue (pos self.now.modulus) (weighted_sum (pos self.now.base) (leaving ∷ kept)) (pos hash)

@@ -1,4 +1,4 @@
-//! Times that come again each period.
+//! Times that recur after a period.
 
 ghost use Rattle.std.specs.Prelude.{◌≤ℤ◌, ◌<ℤ◌, pos};
 ghost use Rattle.std.specs.List.{All};
@@ -10,13 +10,14 @@ use modular::{Modular, next_common_solution, next_common_solution_of};
 use num_integer::operators::is_below;
 use num_integer::{Fits, Integer};
 
-/// A first time, and the period after which it comes again.
+/// A first time, and the period after which it recurs. The times of the schedule `(3, 6)` are 3, 9, 15 and so
+/// on: `next_meeting(4, (3, 6), (0, 1))` is `CommonSolution::At(9)`.
 pub type Schedule<T> = (T, T);
 
-/// Returns the least time from `now` on at which both come. `next_meeting(10, (1, 4), (3, 6))` is
-/// `CommonSolution::At(21)`.
+/// Returns the first time, not before `now`, that is in both schedules. `next_meeting(10, (1, 4), (3, 6))` is
+/// `CommonSolution::At(21)`, and `next_meeting(0, (0, 2), (1, 2))` is `CommonSolution::Never`.
 ///
-/// May be called where both periods are above 0.
+/// May be called if both periods are positive.
 pub fn next_meeting<T: Modular + Fits>(now: T, a: Schedule<T>, b: Schedule<T>) -> CommonSolution<T>
     requires now_in_range { T.fits (T.value now) }
     requires a_in_range { T.fits (T.value a.0) × T.fits (T.value a.1) }
@@ -30,10 +31,10 @@ pub fn next_meeting<T: Modular + Fits>(now: T, a: Schedule<T>, b: Schedule<T>) -
     next_common_solution(from, a.0, a.1, b.0, b.1)
 }
 
-/// Returns the least time from `now` on at which each of the schedules comes. No product of the periods
-/// need fit. `next_meeting_of(10, &[(1, 4), (3, 6), (0, 7)])` is `CommonSolution::At(21)`.
+/// Returns the first time, not before `now`, that is in all schedules. The product of the periods may not fit.
+/// `next_meeting_of(10, &[(1, 4), (3, 6), (0, 7)])` is `CommonSolution::At(21)`.
 ///
-/// May be called where each period is above 0. In Rattle, a function that passes on a slice of its own
+/// May be called if each period is positive. In Rattle, a function that passes on a slice of its own
 /// parameters asks its callers for `in_range` too.
 pub fn next_meeting_of<T: Modular + Fits>(now: T, schedules: &[Schedule<T>]) -> CommonSolution<T>
     requires now_in_range { T.fits (T.value now) }
@@ -44,7 +45,7 @@ pub fn next_meeting_of<T: Modular + Fits>(now: T, schedules: &[Schedule<T>]) -> 
     next_common_solution_of(latest(now, schedules), schedules)
 }
 
-/// Returns the least time from `now` on that is not before the first time of any schedule.
+/// Returns the later of `now` and the latest first time of the schedules.
 fn latest<T: Integer>(now: T, schedules: &[Schedule<T>]) -> T
     requires now_in_range { T.fits (T.value now) }
     requires in_range { All (λ s. T.fits (T.value s.0) × T.fits (T.value s.1)) schedules.now }
@@ -58,7 +59,7 @@ fn latest<T: Integer>(now: T, schedules: &[Schedule<T>]) -> T
     latest
 }
 
-/// Returns the greater of two numbers.
+/// Returns the larger of two numbers.
 fn maximum<T: Integer>(x: T, y: T) -> T
     requires in_range { T.fits (T.value x) × T.fits (T.value y) }
     ensures in_range { T.fits (T.value result) }

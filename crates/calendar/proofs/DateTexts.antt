@@ -11,7 +11,8 @@ use Rattle.calendar.specs.Dates.{HasParts}
 use Rattle.calendar.specs.Laws.{TextIsOnly}
 use Rattle.calendar.specs.Months.{IsDate}
 use Rattle.calendar.specs.declared.date.Date.{Date}
-use Rattle.calendar.specs.Text.{padded, text_of, with_number, year_text}
+use Rattle.calendar.specs.declared.iso_weeks.IsoWeek.{IsoWeek}
+use Rattle.calendar.specs.Text.{padded, text_of, week_text, with_number, year_text}
 use Rattle.calendar.proofs.DateOrder.{of_parts}
 use Rattle.calendar.proofs.MonthLengths.{month_length_range}
 use Rattle.calendar.proofs.PaddedNumbers.{two_places}
@@ -111,3 +112,6 @@ signed_year (negsuc n) h = sign_padded true (suc n) ∙ sym (before n)
 pub joined : (date : Date) (year month day : List ℕ) → year ≡ year_text date.year → month ≡ padded 2 date.month → day ≡ padded 2 date.day_of_month
     → year ++ (45 ∷ (month ++ (45 ∷ day))) ≡ text_of date
 joined date year month day y m d = rw (y, m, d) (simp append_assoc)
+
+pub joined_week : (week : IsoWeek) (year number : List ℕ) → year ≡ year_text week.year → number ≡ padded 2 week.week → year ++ (45 ∷ 87 ∷ number) ≡ week_text week
+joined_week week year number y n = rw (y, n) (simp append_assoc)

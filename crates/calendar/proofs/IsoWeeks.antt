@@ -8,7 +8,7 @@ use Rattle.num_integer.proofs.ForCallers.{floored_by_range, floored_remainder_ra
 use Rattle.num_integer.specs.Division.{IsFloored, IsRemainder}
 use Rattle.calendar.specs.declared.date.Date.{Date}
 use Rattle.calendar.specs.Dates.{number_of}
-use Rattle.calendar.specs.IsoWeeks.{HasIsoWeeks, IsDayOfIsoWeek, IsInIsoWeek, IsThursdayOfWeek}
+use Rattle.calendar.specs.IsoWeeks.{HasIsoWeek, HasIsoWeeks, IsDayOfIsoWeek, IsInIsoWeek, IsThursdayOfWeek}
 use Rattle.calendar.specs.Laws.{IsoDayIsOnly, IsoWeekIsOnly, IsoWeeksAreOnly, OrderOfIsoWeeks, WeeksOfAYear, YearOfDayIsOnly}
 use Rattle.calendar.specs.Years.{HasDay, days_in_year, first_day}
 use Rattle.calendar.specs.Weekday.{weekday_number}
@@ -125,6 +125,10 @@ pub day_or_none : (o : Option Date) {day year : ℤ} {week : ℕ} (weekday : Wee
     → MatchOption o ((d y : ℤ) → IsDayOfIsoWeek d year week weekday → HasDay y d → ¬ (FitsSigned w64 y)) (λ date. IsDayOfIsoWeek (number_of date) year week weekday)
 day_or_none None weekday own beyond = λ d y k h fits. beyond y (subst (λ (t : ℤ). HasDay y t) (one_day _ _ _ _ weekday k own) h) fits
 day_or_none (Some date) {year = year} {week = week} weekday own near = subst (λ (t : ℤ). IsDayOfIsoWeek t year week weekday) (sym near) own
+
+-- a Thursday in the year has a week of the year
+pub has_week : {year place : ℤ} {week : ℕ} → HasWeekday (first_day year +ℤ place) Thursday → (pos 7 *ℤ (pos week -ℤ pos 1)) ≤ℤ place → place <ℤ (pos 7 *ℤ pos week) → (pos 0 ≤ℤ place) × (place <ℤ pos (days_in_year year)) → HasIsoWeek year week
+has_week h from before inside = record { day = _; in_week = (day_of_week Thursday h from before inside.0 inside.1).in_week }
 
 -- a Thursday outside the year has no week of the year
 pub no_day : {day year place : ℤ} {week : ℕ} → HasWeekday (first_day year +ℤ place) Thursday → (pos 7 *ℤ (pos week -ℤ pos 1)) ≤ℤ place → place <ℤ (pos 7 *ℤ pos week) → IsInIsoWeek day year week → (pos 0 ≤ℤ place) × (place <ℤ pos (days_in_year year))

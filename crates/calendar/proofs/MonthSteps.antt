@@ -1,10 +1,11 @@
 -- Dates some months apart.
-use Rattle.std.specs.Prelude.{◌≡◌, ◌<◌, ◌≤◌, ◌+◌, ◌-◌, ◌/◌, ◌%◌, ◌≤ℤ◌, ◌<ℤ◌, ◌+ℤ◌, ◌-ℤ◌, ℕ, ℤ, pos, negsuc, min}
+use Rattle.std.specs.Prelude.{◌≡◌, ◌<◌, ◌≤◌, ◌+◌, ◌-◌, ◌/◌, ◌%◌, ◌≤ℤ◌, ◌<ℤ◌, ◌+ℤ◌, ◌-ℤ◌, ◌*ℤ◌, ℕ, ℤ, pos, negsuc, min}
 use Rattle.std.proofs.Common.{◌∙◌, arith, inl, inr, refl, sym}
 use Rattle.std.proofs.lemmas.Bool.{cases_lt}
 use Rattle.std.proofs.lemmas.Int.{by_lt_z, ints}
-use Rattle.num_integer.proofs.ForCallers.{linear}
-use Rattle.calendar.specs.Dates.{IsMonthsAfter, IsMonthsBetween, number_of}
+use Rattle.num_integer.proofs.ForCallers.{floored_quotient_range, linear}
+use Rattle.num_integer.specs.Division.{IsFloored, IsQuotient}
+use Rattle.calendar.specs.Dates.{IsMonthsAfter, IsMonthsBetween, IsYearsBetween, number_of}
 use Rattle.calendar.specs.Laws.{MonthsAfterIsOnly, MonthsBetweenIsOnly}
 use Rattle.calendar.specs.Months.{days_in_month, month_number}
 use Rattle.calendar.specs.declared.date.Date.{Date}
@@ -100,3 +101,13 @@ pub next_month_is_later : {from to date : Date} {months : ℤ} → IsMonthsBetwe
 next_month_is_later {from} {to} {date} {months} h k =
     let sooner : number_of date ≤ℤ number_of to → ⊥ = λ rest. omega (arith, ints, h.greatest (months +ℤ pos 1) (record { date = date; is_after = k; not_later = rest })) in
     grind (arith, linear)
+
+-- whole years are a twelfth of the whole months, rounded down
+pub whole_years : {from to : Date} {months years : ℤ} → IsMonthsBetween from to months → IsQuotient IsFloored months (pos 12) years → IsYearsBetween from to years
+whole_years {from} {to} {months} {years} h quotient =
+    let (low, high) = floored_quotient_range quotient in
+    let (date, is_after) = months_after_exists from (pos 12 *ℤ years) in
+    record {
+      holds = record { date = date; is_after = is_after; not_later = omega (arith, linear, months_in_order {m = pos 12 *ℤ years} (omega (arith, ints)) is_after h.holds.is_after, h.holds.not_later) };
+      greatest = λ more k. omega (arith, ints, h.greatest (pos 12 *ℤ more) k);
+    }

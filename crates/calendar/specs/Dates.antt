@@ -1,5 +1,5 @@
--- What is said of dates. Their years are whole numbers without limit.
-use Rattle.std.specs.Prelude.{◌≡◌, ◌⊎◌, ◌<◌, ◌≤◌, ◌<ℤ◌, ◌≤ℤ◌, ◌+◌, ◌*◌, ◌+ℤ◌, ℕ, ℤ, min}
+-- Definitions about dates. A year may be any integer.
+use Rattle.std.specs.Prelude.{◌≡◌, ◌⊎◌, ◌<◌, ◌≤◌, ◌<ℤ◌, ◌≤ℤ◌, ◌+◌, ◌*◌, ◌+ℤ◌, ◌*ℤ◌, ℕ, ℤ, pos, min}
 use Rattle.calendar.specs.Months.{days_before_month, days_in_month, month_number}
 use Rattle.calendar.specs.Weeks.{HasWeekday}
 use Rattle.calendar.specs.Years.{day_number}
@@ -8,7 +8,7 @@ use Rattle.calendar.specs.declared.weekday.Weekday.{Weekday}
 
 -- ---- one date
 
--- This is the day of the date, counted from 1970-01-01.
+-- This is the number of days from 1970-01-01 to the date.
 -- Examples: 1970-01-01: 0; 2000-03-01: 11017; 1969-12-31: -1.
 abbrev pub number_of : Date → ℤ
 number_of date = day_number date.year date.month date.day_of_month
@@ -25,35 +25,41 @@ pub record HasParts (date : Date) (year : ℤ) (month day : ℕ) : Type 0 where
   pub month_is : date.month ≡ month
   pub day_is : date.day_of_month ≡ day
 
--- The first date has the lesser year; or the same year and the lesser month; or the same year and month, and the lesser day.
+-- The first date has the smaller year; or the same year and the smaller month; or the same year and month, and the smaller day.
 -- Examples: 1999-12-31 before 2000-01-01; 2000-02-28 before 2000-02-29; no date before itself.
 abbrev pub IsEarlier : Date → Date → Type 0
 IsEarlier a b = (a.year <ℤ b.year) ⊎ ((a.year ≡ b.year) × ((a.month < b.month) ⊎ ((a.month ≡ b.month) × (a.day_of_month < b.day_of_month))))
 
 -- ---- dates some months apart
 
--- The date lies in the month that is `months` after that of `from`, on the same day of the month, or on the last where there is no such day.
+-- The date is in the month that is `months` months after that of `from`, on the same day of the month, or on the last day if the month is shorter.
 -- Examples: from 2000-01-31: 0: 2000-01-31; 1: 2000-02-29; -2: 1999-11-30; not 2000-02-28 at 1.
 pub record IsMonthsAfter (from : Date) (months : ℤ) (date : Date) : Type 0 where
   pub month_is : month_number date.year date.month ≡ month_number from.year from.month +ℤ months
   pub day_is : date.day_of_month ≡ min from.day_of_month (days_in_month date.year date.month)
 
--- The date that is `months` after `from` is not after `to`.
+-- The date `months` months after `from` is not after `to`.
 -- Examples: from 2000-01-31 to 2000-03-30: 1, which is 2000-02-29; -7; not 2, which is 2000-03-31.
 pub record HasMonths (from to : Date) (months : ℤ) : Type 0 where
   pub date : Date
   pub is_after : IsMonthsAfter from months date
   pub not_later : number_of date ≤ℤ number_of to
 
--- The date that is `months` after `from` is not after `to`, and no greater number of months leads to such a date.
+-- The date `months` months after `from` is not after `to`, and no larger number of months leads to such a date.
 -- Examples: 2000-01-31 to 2000-02-29: 1; 2000-02-29 to 2001-02-28: 12; 2000-03-01 to 2000-02-29: -1.
 pub record IsMonthsBetween (from to : Date) (months : ℤ) : Type 0 where
   pub holds : HasMonths from to months
   pub greatest : (more : ℤ) → HasMonths from to more → more ≤ℤ months
 
+-- The date `years` times 12 months after `from` is not after `to`, and no larger number of years leads to such a date.
+-- Examples: 2000-02-29 to 2001-02-28: 1; 2000-03-01 to 2001-02-28: 0; 2000-03-01 to 2000-02-29: -1.
+pub record IsYearsBetween (from to : Date) (years : ℤ) : Type 0 where
+  pub holds : HasMonths from to (pos 12 *ℤ years)
+  pub greatest : (more : ℤ) → HasMonths from to (pos 12 *ℤ more) → more ≤ℤ years
+
 -- ---- dates of a month that have a day of the week
 
--- The date has this year, this month and this day of the week, and its day of the month is above 7·(n - 1) and at most 7·n.
+-- The date has this year, this month and this day of the week, and its day of the month is greater than 7·(n - 1) and at most 7·n.
 -- Examples: 2026, 11, Thursday: 1: 2026-11-05; 4: 2026-11-26; none at 0 or 5.
 pub record IsNthWeekday (year : ℤ) (month : ℕ) (weekday : Weekday) (n : ℕ) (date : Date) : Type 0 where
   pub year_is : date.year ≡ year

@@ -5,17 +5,17 @@ use Rattle.calendar.specs.Weeks.{IsFirstWeekday}
 use Rattle.calendar.specs.Years.{day_number}
 use Rattle.calendar.specs.declared.weekday.Weekday.TheVariants.{Sunday}
 
--- This is the golden number of the year, less 1: its place in the moon's cycle of 19 years.
+-- This is the golden number of the year minus 1: its place in the moon's cycle of 19 years.
 -- Examples: 2024: 10; 1900: 0; -1: 18.
 abbrev pub IsGolden : ℤ → ℕ → Type 0
 IsGolden year golden = IsRemainder IsFloored year (pos 19) (pos golden)
 
--- This is the century of the year, counted from the years 0 to 99.
+-- This is the century of the year. The years 0 to 99 are in century 0.
 -- Examples: 2024: 20; 1999: 19; -1: -1.
 abbrev pub IsCentury : ℤ → ℤ → Type 0
 IsCentury year century = IsQuotient IsFloored year (pos 100) century
 
--- These are the leap days that hundredth years drop: all but those of each four hundredth.
+-- These are the leap days that the calendar has dropped: those of multiples of 100 that are no multiples of 400.
 -- Examples: 20: 15; 19: 15; 18: 14.
 pub record IsSolarCorrection (century days : ℤ) : Type 0 where
   pub leap_centuries : ℤ
@@ -36,7 +36,7 @@ pub record IsEpact (century : ℤ) (golden epact : ℕ) : Type 0 where
   pub lunar_is : IsLunarCorrection century lunar
   pub epact_is : IsRemainder IsFloored (pos 11 *ℤ pos golden +ℤ pos 8 -ℤ solar +ℤ lunar) (pos 30) (pos epact)
 
--- The table has the full moon a day earlier: at epact 24, and at 25 where the golden number is above 11.
+-- The table has the full moon a day earlier: at epact 24, and at 25 if the golden number is above 11.
 -- Examples: 24 and 5: true; 25 and 16: true; 25 and 5: false.
 abbrev pub is_day_earlier : ℕ → ℕ → Bool
 is_day_earlier epact golden = nat_eq epact 24 || (nat_eq epact 25 && nat_lt 10 golden)

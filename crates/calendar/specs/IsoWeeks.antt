@@ -21,6 +21,12 @@ pub record IsInIsoWeek (day year : ℤ) (week : ℕ) : Type 0 where
   pub from : (pos 7 *ℤ (pos week -ℤ pos 1)) ≤ℤ (thursday -ℤ first_day year)
   pub before : (thursday -ℤ first_day year) <ℤ (pos 7 *ℤ pos week)
 
+-- The year has this week: some day is in it.
+-- Examples: 2004 and 53; 2005 and 52; not 2005 and 53; not 2005 and 0.
+pub record HasIsoWeek (year : ℤ) (week : ℕ) : Type 0 where
+  pub day : ℤ
+  pub in_week : IsInIsoWeek day year week
+
 -- The day is in this week of the year, and is this day of the week.
 -- Examples: 3: 1970, 1, Sunday; not 3: 1970, 2, Sunday.
 pub record IsDayOfIsoWeek (day year : ℤ) (week : ℕ) (weekday : Weekday) : Type 0 where

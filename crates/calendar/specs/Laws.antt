@@ -54,7 +54,7 @@ DateOfYearDayIsOnly = (a b : Date) → a.year ≡ b.year → year_day_of a ≡ y
 abbrev pub OrderOfDates : Type 0
 OrderOfDates = (a b : Date) → IsEarlier a b ↔ (number_of a <ℤ number_of b)
 
--- Each text is that of at most one date.
+-- Each string is that of at most one date.
 abbrev pub TextIsOnly : Type 0
 TextIsOnly = (a b : Date) → FitsSigned w64 a.year → FitsSigned w64 b.year → text_of a ≡ text_of b → a ≡ b
 
@@ -138,11 +138,11 @@ EarlierFullMoons = (century : ℤ) (golden epact : ℕ) → golden < 19 → IsEp
 abbrev pub EpactOfTheFirstYear : Type 0
 EpactOfTheFirstYear = IsEpact (pos 15) 0 1 × IsEpact (pos 16) 0 1
 
--- The epact of the next golden number is 11 greater, modulo 30.
+-- The epact of the next golden number is 11 more, modulo 30.
 abbrev pub EpactOfTheNextYear : Type 0
 EpactOfTheNextYear = (century : ℤ) (golden epact : ℕ) → IsEpact century golden epact → IsEpact century (golden + 1) ((epact + 11) % 30)
 
--- The solar correction is the same in the next century where 4 divides that century, and else 1 greater.
+-- The solar correction is the same in the next century if 4 divides that century, and otherwise 1 more.
 abbrev pub SolarCorrectionOfTheNextCentury : Type 0
 SolarCorrectionOfTheNextCentury = (century days : ℤ) → IsSolarCorrection century days
     → (Divides (pos 4) (century +ℤ pos 1) → IsSolarCorrection (century +ℤ pos 1) days)

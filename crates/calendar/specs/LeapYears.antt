@@ -1,4 +1,4 @@
--- The leap years of the proleptic Gregorian calendar, which has the rules of today in every year. The year before year 1 is year 0.
+-- The leap years of the proleptic Gregorian calendar, which applies the rules of today to every year. The year before year 1 is year 0.
 use Rattle.std.specs.Prelude.{◌%◌, ℕ, ℤ, unsigned_abs, Bool, not, ◌&&◌, ◌||◌, nat_eq}
 
 -- The number divides the year, by the remainder of its magnitude.
@@ -6,7 +6,7 @@ use Rattle.std.specs.Prelude.{◌%◌, ℕ, ℤ, unsigned_abs, Bool, not, ◌&&�
 unfoldable pub is_multiple : ℤ → ℕ → Bool
 is_multiple year number = nat_eq (unsigned_abs year % number) 0
 
--- The year has a 29 February: it is each fourth year but no hundredth, unless it is a four hundredth.
+-- The year has a 29 February: it is a multiple of 4 but not of 100, or it is a multiple of 400.
 -- Examples: 2000: true; 1900: false; -4: true.
 unfoldable pub is_leap_year : ℤ → Bool
 is_leap_year year = is_multiple year 4 && (not (is_multiple year 100) || is_multiple year 400)

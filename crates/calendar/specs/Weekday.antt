@@ -1,5 +1,5 @@
--- The numbers of the days of the week.
-use Rattle.std.specs.Prelude.{◌+◌, ◌%◌, ℕ}
+-- The numbers and the names of the days of the week.
+use Rattle.std.specs.Prelude.{◌+◌, ◌%◌, ℕ, List, codes}
 use Rattle.calendar.specs.declared.weekday.Weekday.{Weekday}
 use Rattle.calendar.specs.declared.weekday.Weekday.TheVariants.{Sunday, Monday, Tuesday, Wednesday, Thursday, Friday, Saturday}
 
@@ -18,3 +18,19 @@ weekday_number Saturday = 6
 -- Examples: Monday: 1; Thursday: 4; Sunday: 7.
 abbrev pub iso_number : Weekday → ℕ
 iso_number weekday = (weekday_number weekday + 6) % 7 + 1
+
+-- This is the English name of the day of the week.
+-- Examples: Monday: `Monday`; Sunday: `Sunday`.
+abbrev pub weekday_name : Weekday → List ℕ
+weekday_name Sunday = codes "Sunday"
+weekday_name Monday = codes "Monday"
+weekday_name Tuesday = codes "Tuesday"
+weekday_name Wednesday = codes "Wednesday"
+weekday_name Thursday = codes "Thursday"
+weekday_name Friday = codes "Friday"
+weekday_name Saturday = codes "Saturday"
+
+-- This is the string of the error of a string that is not the name of a day of the week.
+-- Examples: the only one is `not the name of a day of the week`.
+abbrev pub weekday_error_text : List ℕ
+weekday_error_text = codes "not the name of a day of the week"

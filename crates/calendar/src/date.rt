@@ -1,14 +1,25 @@
-//! Dates and their days.
+//! Dates and the numbers of their days.
+//!
+//! Other methods of `Date` are in the files of their subjects: `weekday` in `weekday.rt`, `iso_week` and
+//! `from_iso_week` in `iso_weeks.rt`, `plus_months` in `distances.rt`. `text.rt` prints and parses a date.
 
 ghost use Rattle.calendar.specs.Months.{IsDate};
 
 use crate::days_in_year;
-use crate::eras::{days_to_month, era_of_year, eras_in_days, march_year_of_day, parts_from_march};
+use crate::eras::{
+    DAYS_PER_ERA, YEARS_PER_ERA, days_to_month, era_of_year, eras_in_days, march_year_of_day,
+    parts_from_march,
+};
 use crate::months::{days_before_month, days_in_month, month_and_day_in_year};
-use crate::years::{at_64_bits, year_near};
+use crate::years::{at_64_bits, nearby_year};
 
-/// A date of the proleptic Gregorian calendar, in any year of `i64`. The year before year 1 is
-/// year 0. Dates are in the order of their days.
+/// The day of era 0 that is 1970-01-01, as [`Date::day_of_era`] counts days.
+const EPOCH_IN_ERA_0: i64 = 865566;
+
+/// A date of the proleptic Gregorian calendar, in any year of `i64`. The year before year 1 is year 0.
+/// An earlier date is less than a later one.
+///
+/// `Date::new(2000, 2, 29) < Date::new(2000, 3, 1)` is `true`.
 #[derive(Debug, Clone, Copy, PartialEq, Eq, PartialOrd, Ord, Hash)]
 pub struct Date {
     pub year: i64,
@@ -26,7 +37,7 @@ impl Date {
     ghost use Rattle.calendar.specs.Years.{HasDay, days_in_year, first_day};
     ghost use Rattle.calendar.specs.declared.date.Date.{Date};
 
-    /// Returns the date of a year, a month and a day of the month, or `None` where there is none.
+    /// Returns the date of a year, a month and a day of the month, or `None` if there is no such date.
     /// `Date::new(1900, 2, 29)` is `None`.
     pub fn new(year: i64, month: u8, day_of_month: u8) -> Option<Date>
         ensures { MatchOption result (¬ (IsDate year month day_of_month))
@@ -58,16 +69,16 @@ impl Date {
         }
     }
 
-    /// Returns the day of the date, counted from 1970-01-01, or `None` where it does not fit. That of
-    /// 1969-12-31 is `Some(-1)`.
+    /// Returns the number of days from 1970-01-01 to the date, which is negative for an earlier date,
+    /// or `None` if it does not fit an `i64`. `Date::new(1969, 12, 31).unwrap().day_number()` is `Some(-1)`.
     pub fn day_number(&self) -> Option<i64>
         ensures { SomeIff result (FitsSigned w64 (number_of self.now)) (number_of self.now) }
     {
-        at_64_bits(self.number())
+        at_64_bits(self.wide_day_number())
     }
 
-    /// Returns the date of the next day, or `None` where that is in the year after `i64::MAX`.
-    /// That of 2000-02-28 is 2000-02-29.
+    /// Returns the next date, or `None` if it is in the year after `i64::MAX`.
+    /// `Date::new(2000, 2, 28).unwrap().next()` is `Date::new(2000, 2, 29)`.
     #[tactic(auto, using(crate::proofs::DateOrder::month_ends))]
     pub fn next(&self) -> Option<Date>
         ensures { MatchOption result
@@ -96,8 +107,8 @@ impl Date {
         }
     }
 
-    /// Returns the date of the previous day, or `None` where that is in the year before `i64::MIN`.
-    /// That of 1900-03-01 is 1900-02-28.
+    /// Returns the previous date, or `None` if it is in the year before `i64::MIN`.
+    /// `Date::new(1900, 3, 1).unwrap().previous()` is `Date::new(1900, 2, 28)`.
     pub fn previous(&self) -> Option<Date>
         ensures { MatchOption result
             ((self.now.year ≡ i64.MIN) × (self.now.month ≡ 1) × (self.now.day_of_month ≡ 1))
@@ -125,7 +136,8 @@ impl Date {
         }
     }
 
-    /// Returns the day of the year of the date, which is 1 on 1 January. That of 2000-12-31 is `366`.
+    /// Returns the day of the year, which is 1 on 1 January.
+    /// `Date::new(2000, 12, 31).unwrap().day_of_year()` is `366`.
     pub fn day_of_year(&self) -> u16
         ensures day { result ≡ year_day_of self.now }
         ensures from_one { 1 ≤ result }
@@ -134,8 +146,8 @@ impl Date {
         days_before_month(self.year, self.month) + u16::from(self.day_of_month)
     }
 
-    /// Returns the date of a day of a year, of which 1 January is 1, or `None` where the year has no
-    /// such day. `Date::from_year_day(2000, 60)` is `Date::new(2000, 2, 29)`, and
+    /// Returns the date of a day of a year, counted from 1 January, which is day 1, or `None` if the year has
+    /// no such day. `Date::from_year_day(2000, 60)` is `Date::new(2000, 2, 29)`, and
     /// `Date::from_year_day(1900, 366)` is `None`.
     pub fn from_year_day(year: i64, day_of_year: u16) -> Option<Date>
         ensures { MatchOption result (¬ ((1 ≤ day_of_year) × (day_of_year ≤ days_in_year year)))
@@ -148,8 +160,9 @@ impl Date {
         }
     }
 
-    /// Returns the date `days` days after this one, or before it where `days` is negative, or `None`
-    /// where its year does not fit an `i64`. -1 day after 2000-03-01 is 2000-02-29.
+    /// Returns the date `days` days after this one, or before it if `days` is negative, or `None` if its
+    /// year does not fit an `i64`. `Date::new(2000, 3, 1).unwrap().plus_days(-1)` is
+    /// `Date::new(2000, 2, 29)`.
     pub fn plus_days(&self, days: i64) -> Option<Date>
         ensures { MatchOption result
             ((date : Date) → number_of date ≡ number_of self.now +ℤ days → ¬ (FitsSigned w64 date.year))
@@ -157,33 +170,32 @@ impl Date {
     {
         let (era, day) = self.day_of_era();
         let (eras, rest) = eras_in_days(days);
-        // 1970-01-01 is day 865566 of era 0.
-        Date::from_day_number(i64::from(day + rest) - 865566).eras_later(era + eras)
+        Date::from_day_number(i64::from(day + rest) - EPOCH_IN_ERA_0).eras_later(era + eras)
     }
 
-    /// Returns the date `eras` times 400 years after this one, or `None` where its year does not fit.
+    /// Returns the date `eras` times 400 years after this one, or `None` if its year does not fit.
     fn eras_later(&self, eras: i64) -> Option<Date>
         ensures { MatchOption result (¬ (FitsSigned w64 (self.now.year +ℤ pos 400 *ℤ eras)))
             (λ date. HasParts date (self.now.year +ℤ pos 400 *ℤ eras) self.now.month self.now.day_of_month) }
     {
         Some(Date {
-            year: at_64_bits(i128::from(self.year) + 400 * i128::from(eras))?,
+            year: at_64_bits(i128::from(self.year) + i128::from(YEARS_PER_ERA) * i128::from(eras))?,
             month: self.month,
             day_of_month: self.day_of_month,
         })
     }
 
-    /// Returns the day of the date, which need not fit an `i64`.
-    pub(crate) fn number(&self) -> i128
+    /// Returns the number of the day, which may not fit an `i64`.
+    pub(crate) fn wide_day_number(&self) -> i128
         ensures value { result ≡ number_of self.now }
         ensures small { unsigned_abs result < 2 ^ 73 }
     {
         let (era, day) = self.day_of_era();
-        146097 * i128::from(era) + i128::from(day) - 865566
+        i128::from(DAYS_PER_ERA) * i128::from(era) + i128::from(day) - i128::from(EPOCH_IN_ERA_0)
     }
 
-    /// Returns the era of the year of the date, and the day of the date counted from 1 March of the year
-    /// 400 years before the era, which is 1.
+    /// Returns the era of the year, and the day of that era: day 1 is 1 March, 400 years before the era
+    /// begins.
     pub(crate) fn day_of_era(&self) -> (i64, u32)
         ensures number { number_of self.now ≡ pos 146097 *ℤ result.0 +ℤ pos result.1 -ℤ pos 865566 }
         ensures small { unsigned_abs result.0 < 2 ^ 55 }
@@ -194,7 +206,7 @@ impl Date {
         (era, month + u32::from(self.day_of_month))
     }
 
-    /// Returns the date in a year that has `days` days of the year before it.
+    /// Returns the date `days` days after 1 January of the same year.
     pub(crate) fn in_year(year: i64, days: u16) -> Date
         requires { days < days_in_year year }
         ensures year { result.year ≡ year }
@@ -208,16 +220,16 @@ impl Date {
         }
     }
 
-    /// Returns the date `days` days after 1 January of a year, or `None` where its year is beyond `i64`.
-    /// It is in the year or in the one before or after it.
-    pub(crate) fn near(year: i64, days: i64) -> Option<Date>
+    /// Returns the date `days` days after 1 January of a year, or `None` if its year does not fit an `i64`.
+    /// The date is in that year, the year before or the year after.
+    pub(crate) fn in_nearby_year(year: i64, days: i64) -> Option<Date>
         requires from { pos 0 ≤ℤ (days +ℤ pos 6) }
         requires below { days <ℤ pos 372 }
         ensures { MatchOption result
             ((y : ℤ) → HasDay y (first_day year +ℤ days) → ¬ (FitsSigned w64 y))
             (λ date. number_of date ≡ first_day year +ℤ days) }
     {
-        let (year, days) = year_near(year, days)?;
+        let (year, days) = nearby_year(year, days)?;
         Some(Date::in_year(year, days))
     }
 }

@@ -1,21 +1,21 @@
-//! Dates some months apart, and the days and the months from a date to another.
+//! The date some months after another, and the days and months from one date to another.
 
 ghost use Rattle.std.specs.Prelude.{◌≡◌, ◌↔◌, ◌<◌, ◌≤◌, ◌^◌, ◌-ℤ◌, ℕ, ℤ, min, unsigned_abs, FitsSigned, IsTrue, MatchOption};
 ghost use Rattle.std.specs.Int.{w64};
 ghost use Rattle.std.specs.Option.{SomeIff};
-ghost use Rattle.calendar.specs.Dates.{IsMonthsAfter, IsMonthsBetween, number_of};
+ghost use Rattle.calendar.specs.Dates.{IsMonthsAfter, IsMonthsBetween, IsYearsBetween, number_of};
 ghost use Rattle.calendar.specs.Months.{days_in_month, month_number};
 ghost use Rattle.calendar.specs.declared.date.Date.{Date};
 
 use crate::Date;
 use crate::months::days_in_month;
 use crate::years::at_64_bits;
-use num_integer::div_mod_floor;
+use num_integer::{div_floor, div_mod_floor};
 
 impl Date {
-    /// Returns the date `months` months after this one, or before it where `months` is negative, or
-    /// `None` where its year does not fit an `i64`. Its day of the month is the same, or the last one
-    /// where its month is shorter. 1 month after 2000-01-31 is 2000-02-29.
+    /// Returns the date `months` months after this one, or before it if `months` is negative, or `None` if
+    /// its year does not fit an `i64`. The day of the month stays, or becomes the last day if the month is
+    /// shorter. `Date::new(2000, 1, 31).unwrap().plus_months(1)` is `Date::new(2000, 2, 29)`.
     #[tactic(auto, using(crate::proofs::YearLengths::year_steps))]
     pub fn plus_months(&self, months: i64) -> Option<Date>
         ensures { MatchOption result
@@ -30,7 +30,7 @@ impl Date {
         })
     }
 
-    /// Returns the month of the date, counted from January of year 0.
+    /// Returns the number of the month, counted from January of year 0.
     fn month_number(&self) -> i128
         ensures value { result ≡ month_number self.now.year self.now.month }
         ensures small { unsigned_abs result < 2 ^ 68 }
@@ -39,18 +39,19 @@ impl Date {
     }
 }
 
-/// Returns the number of days from `from` to `to`, negative where `to` is earlier, or `None` where
-/// that does not fit. From 2000-03-01 to 2000-02-28 it returns `Some(-2)`.
+/// Returns the number of days from `from` to `to`, which is negative if `to` is earlier, or `None` if it
+/// does not fit. `days_between(&Date::from_day_number(5), &Date::from_day_number(3))` is `Some(-2)`.
 pub fn days_between(from: &Date, to: &Date) -> Option<i64>
     ensures { SomeIff result (FitsSigned w64 (number_of to.now -ℤ number_of from.now))
         (number_of to.now -ℤ number_of from.now) }
 {
-    at_64_bits(to.number() - from.number())
+    at_64_bits(to.wide_day_number() - from.wide_day_number())
 }
 
-/// Returns the number of whole months from `from` to `to`, negative where `to` is earlier, or `None`
-/// where that does not fit: the greatest number of months after `from` that lead to a date not after
-/// `to`. From 2000-01-31 to 2000-02-29 it returns `Some(1)`.
+/// Returns the number of whole months from `from` to `to`, which is negative if `to` is earlier, or `None`
+/// if it does not fit. It is the largest number of months after which `from` has become a date not later
+/// than `to`.
+/// `months_between(&Date::new(2000, 1, 31).unwrap(), &Date::new(2000, 2, 29).unwrap())` is `Some(1)`.
 pub fn months_between(from: &Date, to: &Date) -> Option<i64>
     ensures { MatchOption result
         ((months : ℤ) × IsMonthsBetween from.now to.now months × ¬ (FitsSigned w64 months))
@@ -59,7 +60,19 @@ pub fn months_between(from: &Date, to: &Date) -> Option<i64>
     at_64_bits(whole_months(from, to))
 }
 
-/// Returns the number of whole months from `from` to `to`, which need not fit an `i64`.
+/// Returns the number of whole years from `from` to `to`, which is negative if `to` is earlier, or `None`
+/// if it does not fit. It is the largest number of years after which `from` has become a date not later
+/// than `to`. In a common year 29 February becomes 28 February.
+/// `years_between(&Date::new(2000, 2, 29).unwrap(), &Date::new(2025, 2, 28).unwrap())` is `Some(25)`.
+pub fn years_between(from: &Date, to: &Date) -> Option<i64>
+    ensures { MatchOption result
+        ((years : ℤ) × IsYearsBetween from.now to.now years × ¬ (FitsSigned w64 years))
+        (λ years. IsYearsBetween from.now to.now years) }
+{
+    at_64_bits(div_floor(whole_months(from, to), 12))
+}
+
+/// Returns the number of whole months from `from` to `to`, which may not fit an `i64`.
 fn whole_months(from: &Date, to: &Date) -> i128
     ensures { IsMonthsBetween from.now to.now result }
 {
@@ -71,8 +84,8 @@ fn whole_months(from: &Date, to: &Date) -> i128
     }
 }
 
-/// Returns `true` if the day of the month of `from`, or the last day of the month of `to` where that
-/// month is shorter, comes after the day of the month of `to`.
+/// Returns `true` if the day of the month of `from` comes after that of `to`. If the month of `to` is too
+/// short for the day of `from`, the last day of that month counts instead.
 #[tactic(auto, using(crate::proofs::YearLengths::year_steps))]
 fn ends_in_part_of_month(from: &Date, to: &Date) -> bool
     ensures { IsTrue result
@@ -81,8 +94,8 @@ fn ends_in_part_of_month(from: &Date, to: &Date) -> bool
     to.day_of_month < from.day_of_month.min(days_in_month(to.year, to.month))
 }
 
-/// Returns the year and the month of a month counted from January of year 0, or `None` where the year
-/// does not fit.
+/// Returns the year and the month of a month that is counted from January of year 0, or `None` if the
+/// year does not fit.
 fn month_of(number: i128) -> Option<(i64, u8)>
     ensures { MatchOption result
         ((year : ℤ) (month : ℕ) → 1 ≤ month → month ≤ 12 → month_number year month ≡ number → ¬ (FitsSigned w64 year))

@@ -1,5 +1,5 @@
-//! Eras of 400 years, which have 146097 days each, and in them years that begin on 1 March, so that a
-//! leap day is the last of its year.
+//! Eras of 400 years, after which the calendar repeats. An era has 146097 days. The years of this file
+//! begin on 1 March, so a leap day is the last day of its year.
 
 ghost use Rattle.std.specs.Prelude.{◌≡◌, ◌+◌, ◌<◌, ◌≤◌, ◌+ℤ◌, ◌-ℤ◌, ◌*ℤ◌, ℤ, pos, FitsSigned};
 ghost use Rattle.std.specs.Int.{w64};
@@ -8,23 +8,45 @@ ghost use Rattle.calendar.specs.Years.{day_number, days_in_year};
 
 use num_integer::div_mod_floor;
 
-/// Returns the era of a year, and the number of years of the era before it.
+/// The years of an era.
+pub(crate) const YEARS_PER_ERA: u32 = 400;
+
+/// The days of an era.
+pub(crate) const DAYS_PER_ERA: u32 = 146097;
+
+/// The quarters of a day in a century, on average.
+const QUARTERS_PER_CENTURY: u32 = 146097;
+
+/// The quarters of a day in a year of a century, on average.
+const QUARTERS_PER_YEAR: u32 = 1461;
+
+/// The days from 1 March to the end of the year.
+pub(crate) const DAYS_FROM_MARCH: u32 = 306;
+
+/// The 1 March from which the days since 1970-01-01 are counted: the last one that begins an era and is
+/// not after 1970-01-01.
+const MARCH_YEAR_BEFORE_EPOCH: i64 = 1600;
+
+/// The days from that 1 March to 1970-01-01.
+const DAYS_TO_EPOCH: u32 = 135080;
+
+/// Returns the era of a year, and how many years of the era come before the year.
 pub(crate) fn era_of_year(year: i64) -> (i64, u32)
     ensures place { year ≡ pos 400 *ℤ result.0 +ℤ pos result.1 }
     ensures below { result.1 < 400 }
 {
-    groups_and_rest(year, 400)
+    groups_and_rest(year, YEARS_PER_ERA)
 }
 
-/// Returns the number of whole eras in so many days, rounded down, and the number of days that are left.
+/// Returns how many whole eras there are in `days`, rounded down, and the days that are left.
 pub(crate) fn eras_in_days(days: i64) -> (i64, u32)
     ensures place { days ≡ pos 146097 *ℤ result.0 +ℤ pos result.1 }
     ensures below { result.1 < 146097 }
 {
-    groups_and_rest(days, 146097)
+    groups_and_rest(days, DAYS_PER_ERA)
 }
 
-/// Returns the number of whole groups of a size in `n`, rounded down, and the number that is left.
+/// Returns the quotient of `n` by `size`, rounded down, and the remainder.
 fn groups_and_rest(n: i64, size: u32) -> (i64, u32)
     requires { 0 < size }
     ensures place { n ≡ pos size *ℤ result.0 +ℤ pos result.1 }
@@ -34,8 +56,8 @@ fn groups_and_rest(n: i64, size: u32) -> (i64, u32)
     (groups, rest as u32)
 }
 
-/// Returns the number of days from 1 March of the year 400 years before an era to the first of a month
-/// of a year of the era.
+/// Returns the days from 1 March, 400 years before the era begins, to the first of `month` in `year` of
+/// the era.
 pub(crate) fn days_to_month(year: u32, month: u8) -> u32
     requires of_era { year < 400 }
     requires from_one { 1 ≤ month }
@@ -45,14 +67,13 @@ pub(crate) fn days_to_month(year: u32, month: u8) -> u32
     ensures small { result < 300000 }
 {
     if month <= 2 {
-        days_of_years(year + 399) + 306 + 31 * (u32::from(month) - 1)
+        days_of_years(year + 399) + DAYS_FROM_MARCH + 31 * (u32::from(month) - 1)
     } else {
         days_of_years(year + 400) + days_of_months(month)
     }
 }
 
-/// Returns the number of days from 1 March of the first year of an era to the 1 March that is `years`
-/// years later.
+/// Returns the days from 1 March of the first year of an era to 1 March, `years` years later.
 #[tactic(auto, using(crate::proofs::MarchYears::march_steps))]
 fn days_of_years(years: u32) -> u32
     requires { years < 800 }
@@ -61,10 +82,10 @@ fn days_of_years(years: u32) -> u32
     ensures small { result < 292195 }
 {
     let centuries = years / 100;
-    1461 * years / 4 - centuries + centuries / 4
+    QUARTERS_PER_YEAR * years / 4 - centuries + centuries / 4
 }
 
-/// Returns the number of days from 1 March to the first of a later month of the year.
+/// Returns the days from 1 March to the first of `month` in the same year.
 #[tactic(auto, using(crate::proofs::MarchYears::month_steps))]
 pub(crate) fn days_of_months(month: u8) -> u32
     requires from { 3 ≤ month }
@@ -72,7 +93,7 @@ pub(crate) fn days_of_months(month: u8) -> u32
     ensures days { (year : ℤ) → days_before_month year month ≡ days_before_month year 3 + result }
     ensures small { result ≤ 275 }
 {
-    // Each five months from March on have 153 days, and 979 / 32 is close to 153 / 5.
+    // From March on, five months have 153 days, and 979 / 32 is close to 153 / 5.
     (979 * u32::from(month) - 2919) / 32
 }
 
@@ -85,7 +106,7 @@ pub(crate) fn month_and_day(days: u32) -> (u8, u8)
     ensures next_year { (year : ℤ) → 306 ≤ days → days < days_before_month year 3 + 306
         → IsDate year result.0 result.1 × (days_before_month year result.0 + result.1 + 305 ≡ days) }
 {
-    // 65536 / 2141 is close to 153 / 5 too.
+    // 65536 / 2141 is also close to 153 / 5.
     let scaled = 2141 * days + 197913;
     let month = (scaled / 65536) as u8;
     (
@@ -94,7 +115,7 @@ pub(crate) fn month_and_day(days: u32) -> (u8, u8)
     )
 }
 
-/// Returns the year, the month and the day of the month of the day `days` days after 1 March of a year.
+/// Returns the year, the month and the day of the month `days` days after 1 March of `year`.
 #[tactic(auto, using(crate::proofs::MarchYears::month_steps))]
 pub(crate) fn parts_from_march(year: i64, days: u32) -> (i64, u8, u8)
     requires within { days < days_in_year (year +ℤ pos 1) }
@@ -110,21 +131,22 @@ pub(crate) fn parts_from_march(year: i64, days: u32) -> (i64, u8, u8)
     )
 }
 
-/// Returns the year that has the day between its 1 March and the next, and the number of days from the
-/// first of the two.
+/// Returns the year whose 1 March is the last one that is not after the day, and the days from there.
 pub(crate) fn march_year_of_day(day: i64) -> (i64, u32)
     ensures day { day_number result.0 3 1 +ℤ pos result.1 ≡ day }
     ensures within { result.1 < days_in_year (result.0 +ℤ pos 1) }
     ensures next_fits { FitsSigned w64 (result.0 +ℤ pos 1) }
 {
     let (era, days) = eras_in_days(day);
-    // 1970-01-01, which is day 0, is 135080 days after 1600-03-01.
-    let (years, rest) = march_year(days + 135080);
-    (400 * era + (i64::from(years) + 1600), rest)
+    let (years, rest) = march_year(days + DAYS_TO_EPOCH);
+    (
+        i64::from(YEARS_PER_ERA) * era + (i64::from(years) + MARCH_YEAR_BEFORE_EPOCH),
+        rest,
+    )
 }
 
-/// Returns the number of whole years, from 1 March of the first year of an era on, in so many days, and
-/// the number of days that are left.
+/// Returns how many whole years there are in the `days` days from 1 March of the first year of an era, and
+/// the days that are left.
 fn march_year(days: u32) -> (u32, u32)
     requires { days < 300000 }
     ensures day { (era : ℤ) → day_number (pos 400 *ℤ era +ℤ pos result.0) 3 1 +ℤ pos result.1
@@ -132,11 +154,10 @@ fn march_year(days: u32) -> (u32, u32)
     ensures within { (era : ℤ) → result.1 < days_in_year (pos 400 *ℤ era +ℤ pos result.0 +ℤ pos 1) }
     ensures small { result.0 < 900 }
 {
-    // A century has 146097 quarters of a day on average, and a year of a century 1461.
     let quarters = 4 * days + 3;
-    let of_century = quarters % 146097 / 4 * 4 + 3;
+    let of_century = quarters % QUARTERS_PER_CENTURY / 4 * 4 + 3;
     (
-        100 * (quarters / 146097) + of_century / 1461,
-        of_century % 1461 / 4,
+        100 * (quarters / QUARTERS_PER_CENTURY) + of_century / QUARTERS_PER_YEAR,
+        of_century % QUARTERS_PER_YEAR / 4,
     )
 }

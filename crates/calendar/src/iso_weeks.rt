@@ -4,27 +4,58 @@ ghost use Rattle.std.specs.Prelude.{◌≡◌, ◌↔◌, ◌+◌, ◌%◌, ◌<
 ghost use Rattle.std.specs.Int.{w64};
 ghost use Rattle.num_integer.specs.Division.{IsFloored, IsRemainder};
 ghost use Rattle.calendar.specs.Dates.{number_of};
-ghost use Rattle.calendar.specs.IsoWeeks.{HasIsoWeeks, IsDayOfIsoWeek, IsInIsoWeek, IsThursdayOfWeek};
+ghost use Rattle.calendar.specs.IsoWeeks.{HasIsoWeek, HasIsoWeeks, IsDayOfIsoWeek, IsInIsoWeek, IsThursdayOfWeek};
 ghost use Rattle.calendar.specs.Years.{HasDay, days_in_year, first_day};
 ghost use Rattle.calendar.specs.Weekday.{weekday_number};
 ghost use Rattle.calendar.specs.Weeks.{HasWeekday};
 ghost use Rattle.calendar.specs.declared.weekday.Weekday.TheVariants.{Thursday};
 
 use crate::eras::{days_to_month, era_of_year};
-use crate::years::{is_in_year, year_near};
+use crate::years::{is_in_year, nearby_year};
 use crate::{Date, Weekday};
 
-/// A week of ISO 8601, from Monday to Sunday. Its year is the one that has its Thursday, and week 1
-/// has the first Thursday of the year. Weeks are in the order of their days.
+/// A week of ISO 8601, from Monday to Sunday. Its year is the year of its Thursday, and week 1 has the
+/// first Thursday of the year. An earlier week is less than a later one.
+///
+/// `Date::from_day_number(4).iso_week()` is `Some(IsoWeek { year: 1970, week: 2 })`.
 #[derive(Debug, Clone, Copy, PartialEq, Eq, PartialOrd, Ord, Hash)]
 pub struct IsoWeek {
     pub year: i64,
     pub week: u8,
 }
 
+impl IsoWeek {
+    /// Returns a week of a year, or `None` if the year has no such week. `IsoWeek::new(2004, 53)` is
+    /// `Some(IsoWeek { year: 2004, week: 53 })`, and `IsoWeek::new(2005, 53)` is `None`.
+    #[tactic(auto, using(crate::proofs::YearLengths::year_steps))]
+    pub fn new(year: i64, week: u8) -> Option<IsoWeek>
+        ensures { MatchOption result (¬ (HasIsoWeek year week))
+            (λ found. HasIsoWeek year week × (found.year ≡ year) × (found.week ≡ week)) }
+    {
+        if is_in_year(year, thursday_of_iso_week(year, week)) {
+            Some(IsoWeek { year, week })
+        } else {
+            None
+        }
+    }
+
+    /// Returns the date of a day of the week, or `None` if the year has no such week or the year of the date
+    /// does not fit an `i64`. `IsoWeek { year: 2009, week: 53 }.date_on(Weekday::Sunday)` is
+    /// `Date::new(2010, 1, 3)`.
+    #[tactic(auto, using(crate::proofs::YearLengths::year_steps))]
+    pub fn date_on(&self, weekday: Weekday) -> Option<Date>
+        ensures { MatchOption result
+            ((day y : ℤ) → IsDayOfIsoWeek day self.now.year self.now.week weekday → HasDay y day
+            → ¬ (FitsSigned w64 y))
+            (λ date. IsDayOfIsoWeek (number_of date) self.now.year self.now.week weekday) }
+    {
+        Date::from_iso_week(self.year, self.week, weekday)
+    }
+}
+
 impl Date {
-    /// Returns the week of ISO 8601 that has the date, or `None` where its year is beyond `i64`. That
-    /// of 2005-01-01 is week 53 of 2004.
+    /// Returns the week of ISO 8601 that has the date, or `None` if the year of the week does not fit an
+    /// `i64`. `Date::new(2005, 1, 1).unwrap().iso_week()` is `Some(IsoWeek { year: 2004, week: 53 })`.
     #[tactic(auto, using(crate::proofs::YearLengths::year_steps))]
     pub fn iso_week(&self) -> Option<IsoWeek>
         ensures week { MatchOption result
@@ -33,15 +64,15 @@ impl Date {
         ensures from_one { IfSome result (λ found. 1 ≤ found.week) }
         ensures to_53 { IfSome result (λ found. found.week ≤ 53) }
     {
-        let (year, days) = year_near(self.year, thursday_of_week(self))?;
+        let (year, days) = nearby_year(self.year, thursday_of_week(self))?;
         Some(IsoWeek {
             year,
             week: (days / 7 + 1) as u8,
         })
     }
 
-    /// Returns the date of a day of a week of ISO 8601, or `None` where the year has no such week or
-    /// the year of the date does not fit an `i64`.
+    /// Returns the date of a day of a week of ISO 8601, or `None` if the year has no such week or the year
+    /// of the date does not fit an `i64`.
     /// `Date::from_iso_week(2009, 53, Weekday::Sunday)` is `Date::new(2010, 1, 3)`.
     #[tactic(auto, using(crate::proofs::YearLengths::year_steps))]
     pub fn from_iso_week(year: i64, week: u8, weekday: Weekday) -> Option<Date>
@@ -51,14 +82,14 @@ impl Date {
     {
         let thursday = thursday_of_iso_week(year, week);
         if is_in_year(year, thursday) {
-            Date::near(year, day_of_week(thursday, weekday))
+            Date::in_nearby_year(year, day_of_week(thursday, weekday))
         } else {
             None
         }
     }
 }
 
-/// Returns how many weeks of ISO 8601 the year has, 52 or 53. `weeks_in_year(2004)` is `53`.
+/// Returns how many weeks of ISO 8601 the year has: 52 or 53. `weeks_in_year(2004)` is `53`.
 pub fn weeks_in_year(year: i64) -> u8
     ensures weeks { HasIsoWeeks year result }
     ensures from_52 { 52 ≤ result }
@@ -71,8 +102,8 @@ pub fn weeks_in_year(year: i64) -> u8
     }
 }
 
-/// Returns the number of days from 1 January of the year of the date to the Thursday of its week. It
-/// is negative where that Thursday is earlier.
+/// Returns the number of days from 1 January of the year of the date to the Thursday of its week, which
+/// is negative if that Thursday is in the year before.
 #[tactic(auto, using(crate::proofs::YearLengths::length_range))]
 fn thursday_of_week(date: &Date) -> i64
     ensures of_week { IsThursdayOfWeek (number_of date.now) (first_day date.now.year +ℤ result) }
@@ -82,7 +113,7 @@ fn thursday_of_week(date: &Date) -> i64
     i64::from(date.day_of_year()) + 2 - days_since_monday(date)
 }
 
-/// Returns the number of days from the last Monday to the date.
+/// Returns the number of days from the Monday of its week to the date.
 fn days_since_monday(date: &Date) -> i64
     ensures value { IsRemainder IsFloored (number_of date.now +ℤ pos 3) (pos 7) result }
     ensures from { pos 0 ≤ℤ result }
@@ -92,8 +123,8 @@ fn days_since_monday(date: &Date) -> i64
     i64::from((day + 1) % 7)
 }
 
-/// Returns the number of days from 1 January to the Thursday of the week, also where the year is too
-/// short for it.
+/// Returns the number of days from 1 January to the Thursday of the week, even if the year is too short to
+/// have it.
 fn thursday_of_iso_week(year: i64, week: u8) -> i64
     ensures weekday { HasWeekday (first_day year +ℤ result) Thursday }
     ensures from { (pos 7 *ℤ (pos week -ℤ pos 1)) ≤ℤ result }
@@ -102,7 +133,8 @@ fn thursday_of_iso_week(year: i64, week: u8) -> i64
     first_thursday(year) + 7 * (i64::from(week) - 1)
 }
 
-/// Returns the number of days from 1 January to the first Thursday of the year. Day 0 is a Thursday.
+/// Returns the number of days from 1 January to the first Thursday of the year. 1970-01-01, which is day 0,
+/// is a Thursday.
 fn first_thursday(year: i64) -> i64
     ensures { IsRemainder IsFloored (pos 0 -ℤ first_day year) (pos 7) result }
 {
@@ -112,14 +144,14 @@ fn first_thursday(year: i64) -> i64
     6 - i64::from((january + 5) % 7)
 }
 
-/// Returns the number of days from a Monday to the day of the week.
+/// Returns the number of days from a Monday to `weekday` of the same week.
 fn days_after_monday(weekday: Weekday) -> i64
     ensures { result ≡ pos ((weekday_number weekday + 6) % 7) }
 {
     i64::from((weekday.days_after_sunday() + 6) % 7)
 }
 
-/// Returns the day of the week that has the Thursday.
+/// Returns the day, counted from 1 January, of `weekday` in the week of that Thursday.
 fn day_of_week(thursday: i64, weekday: Weekday) -> i64
     requires from { pos 0 ≤ℤ thursday }
     requires below { thursday <ℤ pos 366 }

@@ -13,12 +13,12 @@ mod weeks;
 mod years;
 
 pub use date::Date;
-pub use distances::{days_between, months_between};
+pub use distances::{days_between, months_between, years_between};
 pub use feasts::easter;
 pub use iso_weeks::{IsoWeek, weeks_in_year};
 pub use months::days_in_month;
 pub use text::DateError;
-pub use weekday::{Weekday, weekday_of};
+pub use weekday::{Weekday, WeekdayError, weekday_of};
 pub use weeks::{
     first_weekday_on_or_after, last_weekday_of_month, last_weekday_on_or_before,
     nth_weekday_of_month,

@@ -1,15 +1,15 @@
-//! Months: their lengths, and their days in a year.
+//! The lengths of the months, and the days of the year at which they begin.
 
 ghost use Rattle.std.specs.Prelude.{◌≡◌, ◌+◌, ◌<◌, ◌≤◌};
 ghost use Rattle.calendar.specs.Months.{IsDate, days_before_month, days_in_month};
 ghost use Rattle.calendar.specs.Years.{days_in_year};
 
-use crate::eras::{days_of_months, month_and_day};
+use crate::eras::{DAYS_FROM_MARCH, days_of_months, month_and_day};
 use crate::{days_in_year, is_leap_year};
 
-/// Returns how many days the month has, where January is 1. `days_in_month(1900, 2)` is `28`.
+/// Returns how many days the month has. `days_in_month(1900, 2)` is `28`.
 ///
-/// May be called where `month` is from 1 to 12.
+/// May be called if `month` is from 1 (January) to 12.
 pub fn days_in_month(year: i64, month: u8) -> u8
     requires from_one { 1 ≤ month }
     requires to_twelve { month ≤ 12 }
@@ -20,12 +20,12 @@ pub fn days_in_month(year: i64, month: u8) -> u8
     if month == 2 {
         if is_leap_year(year) { 29 } else { 28 }
     } else {
-        // The odd months have 31 days up to July, and the even ones from August on.
+        // Up to July the odd months have 31 days, and from August on the even ones.
         30 + (month + month / 8) % 2
     }
 }
 
-/// Returns how many days of the year lie before the month.
+/// Returns how many days of the year come before the month.
 #[tactic(auto, using(crate::proofs::MarchYears::month_steps))]
 pub(crate) fn days_before_month(year: i64, month: u8) -> u16
     requires from_one { 1 ≤ month }
@@ -35,22 +35,20 @@ pub(crate) fn days_before_month(year: i64, month: u8) -> u16
     if month <= 2 {
         31 * (u16::from(month) - 1)
     } else {
-        // From 1 March on each year has 306 days.
-        days_in_year(year) - 306 + days_of_months(month) as u16
+        days_in_year(year) - DAYS_FROM_MARCH as u16 + days_of_months(month) as u16
     }
 }
 
-/// Returns the month and the day of the month of the day that has `days` days of the year before it.
+/// Returns the month and the day of the month `days` days after 1 January of `year`.
 #[tactic(auto, using(crate::proofs::MarchYears::month_steps))]
 pub(crate) fn month_and_day_in_year(year: i64, days: u16) -> (u8, u8)
     requires { days < days_in_year year }
     ensures date { IsDate year result.0 result.1 }
     ensures day { days_before_month year result.0 + result.1 ≡ days + 1 }
 {
-    // 1 January is 306 days after the last 1 March.
     let march = days_before_month(year, 3);
     let from_march = if days < march {
-        days + 306
+        days + DAYS_FROM_MARCH as u16
     } else {
         days - march
     };

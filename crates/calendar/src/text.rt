@@ -1,16 +1,16 @@
-//! How a date is written and read: ISO 8601.
+//! Prints and parses dates, and prints weeks, in the formats of ISO 8601.
 
 ghost use Rattle.std.specs.Prelude.{◌≡◌, ◌≢◌, ◌↔◌, ◌<◌, ◌≤◌, ℕ, ℤ, List, FitsSigned, IfSome, IsTrue, MatchOption, Some, Ok};
 ghost use Rattle.std.specs.Int.{w64};
-ghost use Rattle.calendar.specs.Text.{IsShortest, error_text, padded, text_of, with_number, year_text};
+ghost use Rattle.calendar.specs.Text.{IsShortest, error_text, padded, text_of, week_text, with_number, year_text};
 ghost use Rattle.calendar.specs.declared.date.Date.{Date};
 
-use crate::Date;
+use crate::{Date, IsoWeek};
 use std::error::Error;
 use std::fmt;
 use std::str::FromStr;
 
-/// A text that is not the text of a date.
+/// The error of a string that is not a date. `"1900-02-29".parse::<Date>()` is `Err(DateError)`.
 #[derive(Debug, Clone, Copy, PartialEq, Eq)]
 pub struct DateError;
 
@@ -24,6 +24,9 @@ impl fmt::Display for DateError {
 
 impl Error for DateError {}
 
+/// Prints the date in the format of ISO 8601. A year outside 0 to 9999 has a sign.
+/// `Date::new(2026, 11, 23).unwrap().to_string()` is `"2026-11-23"`, and
+/// `Date::new(10000, 1, 1).unwrap().to_string()` is `"+10000-01-01"`.
 impl fmt::Display for Date {
     ghost output = { λ date. Some (text_of date) };
 
@@ -37,6 +40,23 @@ impl fmt::Display for Date {
     }
 }
 
+/// Prints the week in the format of ISO 8601. `IsoWeek { year: 2004, week: 53 }.to_string()` is
+/// `"2004-W53"`.
+impl fmt::Display for IsoWeek {
+    ghost output = { λ week. Some (week_text week) };
+
+    fn fmt<W: fmt::Write>(&self, f: &mut fmt::Formatter<W>) -> fmt::Result {
+        let (year, week) = (self.year, self.week);
+        if (0..=9999).contains(&year) {
+            write!(f, "{year:04}-W{week:02}")
+        } else {
+            write!(f, "{year:+05}-W{week:02}")
+        }
+    }
+}
+
+/// Parses exactly what `Display` prints. `"2026-11-23".parse::<Date>().ok()` is `Date::new(2026, 11, 23)`, and
+/// `"2026-1-1".parse::<Date>()` is `Err(DateError)`.
 impl FromStr for Date {
     type Err = DateError;
 
@@ -47,7 +67,7 @@ impl FromStr for Date {
     }
 }
 
-/// Returns the date that has the text.
+/// Returns the date that the string is printed of.
 fn read_date(text: &str) -> Option<Date>
     ensures { (date : Date) → FitsSigned w64 date.year → (result ≡ Some date) ↔ (text.now ≡ text_of date) }
 {
@@ -56,7 +76,7 @@ fn read_date(text: &str) -> Option<Date>
     Date::new(read_year(year)?, month, day)
 }
 
-/// Splits a number of two digits, and the hyphen before it, off the end of the text.
+/// Splits a hyphen and two digits off the end of the string, and returns the rest and the number.
 fn split_number(text: &str) -> Option<(&str, u8)>
     ensures { MatchOption result ((front : List ℕ) (n : ℕ) → n < 100 → text.now ≢ with_number front n)
         (λ parts. (parts.1 < 100) × (text.now ≡ with_number parts.0.now parts.1)) }
@@ -68,7 +88,7 @@ fn split_number(text: &str) -> Option<(&str, u8)>
     Some((front, 10 * (*tens - b'0') + (*ones - b'0')))
 }
 
-/// Returns the year that has the text.
+/// Returns the year that the string is printed of.
 fn read_year(text: &str) -> Option<i64>
     ensures { (year : ℤ) → FitsSigned w64 year → (result ≡ Some year) ↔ (text.now ≡ year_text year) }
 {
@@ -81,7 +101,7 @@ fn read_year(text: &str) -> Option<i64>
     }
 }
 
-/// Returns the number from `least` to `most` that has the text, with zeros in front up to four digits.
+/// Returns the number that the digits are, if it is from `least` to `most`. Zeros in front fill up four digits.
 fn read_number(digits: &str, least: u64, most: u64) -> Option<u64>
     ensures range { IfSome result (λ n. (least ≤ n) × (n ≤ most)) }
     ensures number { (n : ℕ) → (result ≡ Some n) ↔ ((least ≤ n) × (n ≤ most) × (digits.now ≡ padded 4 n)) }
@@ -99,7 +119,7 @@ fn read_number(digits: &str, least: u64, most: u64) -> Option<u64>
     }
 }
 
-/// Returns `true` if the text begins with a digit, and has four bytes, or more with no zero in front.
+/// Returns `true` if the string has four bytes, or more without a leading zero, and begins with a digit.
 fn is_shortest(digits: &[u8]) -> bool
     ensures { IsTrue result ↔ IsShortest digits.now }
 {

@@ -1,15 +1,21 @@
-//! Days of the week, and their numbers.
+//! The days of the week, their numbers and their names.
 
-ghost use Rattle.std.specs.Prelude.{◌≡◌, ◌+◌, ◌%◌, ◌<◌, ◌≤◌, ◌+ℤ◌, pos, MatchOption};
+ghost use Rattle.std.specs.Prelude.{◌≡◌, ◌≢◌, ◌+◌, ◌%◌, ◌<◌, ◌≤◌, ◌+ℤ◌, pos, IfErr, IfOk, MatchOption, Some};
+ghost use Rattle.std.specs.Fmt.{padded};
 ghost use Rattle.num_integer.specs.Division.{IsFloored, IsRemainder};
 ghost use Rattle.calendar.specs.Dates.{number_of};
-ghost use Rattle.calendar.specs.Weekday.{iso_number, weekday_number};
+ghost use Rattle.calendar.specs.Weekday.{iso_number, weekday_error_text, weekday_name, weekday_number};
 ghost use Rattle.calendar.specs.Weeks.{HasWeekday};
 
 use crate::Date;
 use num_integer::mod_floor;
+use std::error::Error;
+use std::fmt;
+use std::str::FromStr;
 
 /// A day of the week. It has no order, since weeks begin on different days in different places.
+///
+/// `Date::from_day_number(0).weekday()` is `Weekday::Thursday`.
 #[derive(Debug, Clone, Copy, PartialEq, Eq, Hash)]
 pub enum Weekday {
     Sunday,
@@ -22,7 +28,7 @@ pub enum Weekday {
 }
 
 impl Weekday {
-    /// Returns the number of the day of the week by ISO 8601, from 1 for Monday to 7 for Sunday.
+    /// Returns the number of the day of the week in ISO 8601, from 1 for Monday to 7 for Sunday.
     /// `Weekday::Sunday.iso_number()` is `7`.
     pub fn iso_number(self) -> u8
         ensures number { result ≡ iso_number self }
@@ -32,8 +38,8 @@ impl Weekday {
         (self.days_after_sunday() + 6) % 7 + 1
     }
 
-    /// Returns the day of the week that has the number by ISO 8601, or `None` where the number is not
-    /// from 1 to 7. `Weekday::from_iso_number(7)` is `Some(Weekday::Sunday)`.
+    /// Returns the day of the week by its number in ISO 8601, or `None` if the number is not from 1 to 7.
+    /// `Weekday::from_iso_number(7)` is `Some(Weekday::Sunday)`.
     pub fn from_iso_number(number: u8) -> Option<Weekday>
         ensures { MatchOption result (¬ ((1 ≤ number) × (number ≤ 7)))
             (λ weekday. iso_number weekday ≡ number) }
@@ -45,7 +51,22 @@ impl Weekday {
         }
     }
 
-    /// Returns how many days after a Sunday the day of the week is.
+    /// Returns the English name.
+    fn name(self) -> &'static str
+        ensures { result.now ≡ weekday_name self }
+    {
+        match self {
+            Weekday::Sunday => "Sunday",
+            Weekday::Monday => "Monday",
+            Weekday::Tuesday => "Tuesday",
+            Weekday::Wednesday => "Wednesday",
+            Weekday::Thursday => "Thursday",
+            Weekday::Friday => "Friday",
+            Weekday::Saturday => "Saturday",
+        }
+    }
+
+    /// Returns the number of days from a Sunday to this day of the week.
     pub(crate) fn days_after_sunday(self) -> u8
         ensures value { result ≡ weekday_number self }
         ensures small { result < 7 }
@@ -53,8 +74,8 @@ impl Weekday {
         self as u8
     }
 
-    /// Returns the number of days from this day of the week to the next day that has the other, which
-    /// is 0 where they are the same.
+    /// Returns the number of days from this day of the week to the next `other`, which is 0 if they are the
+    /// same.
     pub(crate) fn days_until(self, other: Weekday) -> u8
         ensures value { weekday_number other ≡ (weekday_number self + result) % 7 }
         ensures small { result < 7 }
@@ -63,18 +84,65 @@ impl Weekday {
     }
 }
 
+/// The error of a string that is not the name of a day of the week. `"Mon".parse::<Weekday>()` is
+/// `Err(WeekdayError)`.
+#[derive(Debug, Clone, Copy, PartialEq, Eq)]
+pub struct WeekdayError;
+
+impl fmt::Display for WeekdayError {
+    ghost output = { λ _. Some weekday_error_text };
+
+    fn fmt<W: fmt::Write>(&self, f: &mut fmt::Formatter<W>) -> fmt::Result {
+        f.write_str("not the name of a day of the week")
+    }
+}
+
+impl Error for WeekdayError {}
+
+/// Prints the English name. `Weekday::Monday.to_string()` is `"Monday"`.
+impl fmt::Display for Weekday {
+    ghost output = { λ weekday. Some (weekday_name weekday) };
+
+    ghost styled_output = { λ weekday spec. Some (padded spec (weekday_name weekday)) };
+
+    fn fmt<W: fmt::Write>(&self, f: &mut fmt::Formatter<W>) -> fmt::Result {
+        f.pad(self.name())
+    }
+}
+
+/// Parses exactly the names that `Display` prints. `"Monday".parse::<Weekday>()` is
+/// `Ok(Weekday::Monday)`.
+impl FromStr for Weekday {
+    type Err = WeekdayError;
+
+    ghost from_str_gives = { λ text result. IfOk result (λ weekday. text ≡ weekday_name weekday) × IfErr result (λ _. (weekday : _) → text ≢ weekday_name weekday) };
+
+    fn from_str(text: &str) -> Result<Weekday, WeekdayError> {
+        match text {
+            "Sunday" => Ok(Weekday::Sunday),
+            "Monday" => Ok(Weekday::Monday),
+            "Tuesday" => Ok(Weekday::Tuesday),
+            "Wednesday" => Ok(Weekday::Wednesday),
+            "Thursday" => Ok(Weekday::Thursday),
+            "Friday" => Ok(Weekday::Friday),
+            "Saturday" => Ok(Weekday::Saturday),
+            _ => Err(WeekdayError),
+        }
+    }
+}
+
 impl Date {
-    /// Returns the day of the week of the date. That of 2000-02-29 is `Tuesday`.
+    /// Returns the day of the week. `Date::new(2000, 2, 29).unwrap().weekday()` is `Weekday::Tuesday`.
     pub fn weekday(&self) -> Weekday
         ensures { HasWeekday (number_of self.now) result }
     {
-        // Eras are whole weeks, and day 0 of each is a Tuesday.
+        // An era is a whole number of weeks, and its day 0 is a Tuesday.
         let (_, day) = self.day_of_era();
         weekday_after_sunday(day + 2)
     }
 }
 
-/// Returns the day of the week of a day, counted from 1970-01-01, a Thursday.
+/// Returns the day of the week of a day, counted from 1970-01-01, which is a Thursday.
 /// `weekday_of(-1)` is `Weekday::Wednesday`.
 pub fn weekday_of(day: i64) -> Weekday
     ensures { IsRemainder IsFloored (day +ℤ pos 4) (pos 7) (pos (weekday_number result)) }
@@ -82,7 +150,7 @@ pub fn weekday_of(day: i64) -> Weekday
     weekday_after_sunday(mod_floor(day, 7) as u32 + 4)
 }
 
-/// Returns the day of the week of a day `days` days after a Sunday.
+/// Returns the day of the week `days` days after a Sunday.
 fn weekday_after_sunday(days: u32) -> Weekday
     ensures { weekday_number result ≡ days % 7 }
 {

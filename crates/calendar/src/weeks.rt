@@ -1,4 +1,4 @@
-//! Days that have a given day of the week, from another on and in a month.
+//! The first or last day with a given day of the week, near another day or in a month.
 
 ghost use Rattle.std.specs.Prelude.{◌≤◌, ℤ, FitsSigned, MatchOption};
 ghost use Rattle.std.specs.Int.{w64};
@@ -9,8 +9,8 @@ ghost use Rattle.calendar.specs.declared.date.Date.{Date};
 use crate::months::days_in_month;
 use crate::{Date, Weekday, weekday_of};
 
-/// Returns the first day from `day` on that has the day of the week, counted from 1970-01-01, a
-/// Thursday, or `None` where it is beyond `i64`. `first_weekday_on_or_after(0, Weekday::Sunday)` is
+/// Returns the first `weekday` that is not before `day`, or `None` if it does not fit an `i64`. Days are
+/// counted from 1970-01-01, which is a Thursday. `first_weekday_on_or_after(0, Weekday::Sunday)` is
 /// `Some(3)`, and `first_weekday_on_or_after(3, Weekday::Sunday)` is `Some(3)`.
 pub fn first_weekday_on_or_after(day: i64, weekday: Weekday) -> Option<i64>
     ensures { MatchOption result
@@ -20,8 +20,8 @@ pub fn first_weekday_on_or_after(day: i64, weekday: Weekday) -> Option<i64>
     day.checked_add(i64::from(weekday_of(day).days_until(weekday)))
 }
 
-/// Returns the last day up to `day` that has the day of the week, counted from 1970-01-01, a
-/// Thursday, or `None` where it is beyond `i64`. `last_weekday_on_or_before(4, Weekday::Sunday)` is
+/// Returns the last `weekday` that is not after `day`, or `None` if it does not fit an `i64`. Days are
+/// counted from 1970-01-01, which is a Thursday. `last_weekday_on_or_before(4, Weekday::Sunday)` is
 /// `Some(3)`, and `last_weekday_on_or_before(3, Weekday::Sunday)` is `Some(3)`.
 pub fn last_weekday_on_or_before(day: i64, weekday: Weekday) -> Option<i64>
     ensures { MatchOption result
@@ -31,8 +31,8 @@ pub fn last_weekday_on_or_before(day: i64, weekday: Weekday) -> Option<i64>
     day.checked_sub(i64::from(weekday.days_until(weekday_of(day))))
 }
 
-/// Returns the date of the `n`-th `weekday` of the month, counted from 1, or `None` where there is
-/// none. `nth_weekday_of_month(2026, 11, Weekday::Thursday, 4)` is `Date::new(2026, 11, 26)`.
+/// Returns the date of the `n`-th `weekday` of the month, counted from 1, or `None` if there is no such
+/// day. `nth_weekday_of_month(2026, 11, Weekday::Thursday, 4)` is `Date::new(2026, 11, 26)`.
 pub fn nth_weekday_of_month(year: i64, month: u8, weekday: Weekday, n: u8) -> Option<Date>
     ensures { MatchOption result
         ((date : Date) → ¬ (IsNthWeekday year month weekday n date))
@@ -46,7 +46,7 @@ pub fn nth_weekday_of_month(year: i64, month: u8, weekday: Weekday, n: u8) -> Op
     Date::new(year, month, days + 1)
 }
 
-/// Returns the date of the last `weekday` of the month, or `None` where the month is not from 1 to 12.
+/// Returns the date of the last `weekday` of the month, or `None` if `month` is not from 1 to 12.
 /// `last_weekday_of_month(2026, 10, Weekday::Friday)` is `Date::new(2026, 10, 30)`.
 pub fn last_weekday_of_month(year: i64, month: u8, weekday: Weekday) -> Option<Date>
     ensures { MatchOption result (¬ ((1 ≤ month) × (month ≤ 12)))

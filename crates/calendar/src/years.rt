@@ -1,4 +1,4 @@
-//! Years: leap years, their lengths, and the year of a day.
+//! Leap years, the lengths of years, and the year of a day.
 
 ghost use Rattle.std.specs.Prelude.{◌≡◌, ◌↔◌, ◌<◌, ◌≤◌, ◌≤ℤ◌, ◌<ℤ◌, ◌+ℤ◌, ℤ, pos, FitsSigned, IsTrue, MatchOption};
 ghost use Rattle.std.specs.Int.{w64};
@@ -8,12 +8,13 @@ ghost use Rattle.calendar.specs.Years.{HasDay, days_in_year, first_day};
 
 use num_integer::Integer;
 
-/// Returns `true` if the year has a 29 February. 2000 and 0 have one, and 1900 and -1 do not.
+/// Returns `true` if the year has a 29 February. `is_leap_year(2000)` is `true`, `is_leap_year(1900)` is
+/// `false`, and `is_leap_year(0)` is `true`.
 #[tactic(auto, using(crate::proofs::YearLengths::multiples), unfolding(crate::specs::LeapYears::is_leap_year, crate::specs::LeapYears::is_multiple))]
 pub fn is_leap_year(year: i64) -> bool
     ensures { result ≡ is_leap_year year }
 {
-    // 25 divides a fourth year where 100 does, and 16 a hundredth year where 400 does.
+    // A multiple of 4 is a multiple of 100 if 25 divides it, and a multiple of 100 one of 400 if 16 does.
     if is_multiple(year, 25) {
         is_multiple(year, 16)
     } else {
@@ -21,7 +22,7 @@ pub fn is_leap_year(year: i64) -> bool
     }
 }
 
-/// Returns `true` if the year is a multiple of the number.
+/// Returns `true` if the year is a multiple of `number`.
 #[tactic(auto, using(crate::proofs::YearLengths::multiples), unfolding(crate::specs::LeapYears::is_multiple))]
 fn is_multiple(year: i64, number: u16) -> bool
     requires { 0 < number }
@@ -40,7 +41,7 @@ pub fn days_in_year(year: i64) -> u16
     if is_leap_year(year) { 366 } else { 365 }
 }
 
-/// Returns the number of days of the year.
+/// Returns how many days the year has, as an `i64`.
 #[tactic(auto, using(crate::proofs::YearLengths::length_range))]
 fn length_of(year: i64) -> i64
     ensures value { result ≡ pos (days_in_year year) }
@@ -50,7 +51,7 @@ fn length_of(year: i64) -> i64
     i64::from(days_in_year(year))
 }
 
-/// Returns `true` if the day `days` days after 1 January of the year is in the year.
+/// Returns `true` if the day `days` days after 1 January of the year is in the same year.
 #[tactic(auto, using(crate::proofs::YearLengths::length_range))]
 pub(crate) fn is_in_year(year: i64, days: i64) -> bool
     ensures { IsTrue result ↔ ((pos 0 ≤ℤ days) × (days <ℤ pos (days_in_year year))) }
@@ -58,9 +59,9 @@ pub(crate) fn is_in_year(year: i64, days: i64) -> bool
     0 <= days && (days < 365 || days < length_of(year))
 }
 
-/// Returns the year of the day `days` days after 1 January of a year, and how many days of that year
-/// lie before the day, or `None` where it is beyond `i64`.
-pub(crate) fn year_near(year: i64, days: i64) -> Option<(i64, u16)>
+/// Returns the year of the day `days` days after 1 January of a year, and the days from its 1 January to
+/// that day, or `None` if that year does not fit an `i64`.
+pub(crate) fn nearby_year(year: i64, days: i64) -> Option<(i64, u16)>
     requires from { pos 0 ≤ℤ (days +ℤ pos 6) }
     requires below { days <ℤ pos 372 }
     ensures { MatchOption result
@@ -79,7 +80,7 @@ pub(crate) fn year_near(year: i64, days: i64) -> Option<(i64, u16)>
     }
 }
 
-/// Returns the number as an `i64`, or `None` where it does not fit.
+/// Returns the number as an `i64`, or `None` if it does not fit.
 pub(crate) fn at_64_bits(number: i128) -> Option<i64>
     ensures { SomeIff result (FitsSigned w64 number) number }
 {

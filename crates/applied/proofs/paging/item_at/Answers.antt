@@ -1,7 +1,7 @@
 use Rattle.std.proofs.Common.{arith, inr}
 use Rattle.std.proofs.lemmas.Bool.{iff_false}
 use Rattle.num_integer.proofs.ForCallers.{from_not_less, linear, within_fits}
-use Rattle.applied.proofs.Places.{end_fits, item_answer, item_before, no_item, page_fits, rest_fits}
+use Rattle.applied.proofs.ItemPlaces.{end_fits, item_answer, item_before, no_item, page_fits, rest_fits}
 use Rattle.applied.proofs.paging.item_at.Goals as goal
 
 pub successor-requires-clause-sum_fits : goal.successor-requires-clause-sum_fits

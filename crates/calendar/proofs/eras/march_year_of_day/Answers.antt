@@ -24,7 +24,7 @@ placed c =
 pub overflow_add-result-2 : goal.overflow_add-result-2
 overflow_add-result-2 c =
     let (place, (era, scaled, years, shifted, whole, next)) = placed (goal.at.overflow_add-result-2 c).After-march_year-years in
-    simp (c.from.ensures, to_z-of_z) whole
+    simp (c.from.ensures, c.from-2.ensures, to_z-of_z) whole
 
 pub returns : goal.returns
 returns c =
@@ -33,4 +33,4 @@ returns c =
     let same : pos 400 *ℤ (era +ℤ pos 4) +ℤ pos c.march_year-years.result.0 ≡ pos 400 *ℤ era +ℤ (pos c.march_year-years.result.0 +ℤ pos 1600) = omega (arith, ints) in
     let march = rw same at (c.march_year-years.ensures.day (era +ℤ pos 4)) in
     let part = rw same at (c.march_year-years.ensures.within (era +ℤ pos 4)) in
-    simp (c.from.ensures, to_z-of_z) (record { day = omega (arith, ints, march, place); within = part; next_fits = next })
+    simp (c.from.ensures, c.from-2.ensures, to_z-of_z) (record { day = omega (arith, ints, march, place); within = part; next_fits = next })

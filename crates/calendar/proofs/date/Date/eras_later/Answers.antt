@@ -14,12 +14,12 @@ returns-in_err-at_64_bits c =
     let own : FitsSigned w64 c.args.self.now.year = search rules in
     let eras = c.ranges.eras in
     let (year, more, years, sum) = wide c.args.self.now.year c.args.eras own (search rules) in
-    rw c.from_residual.ensures (simp (c.from.ensures, c.from-2.ensures, to_z-of_z) at c.in_err-at_64_bits.ensures)
+    rw c.from_residual.ensures (simp (c.from.ensures, c.from-2.ensures, c.from-3.ensures, to_z-of_z) at c.in_err-at_64_bits.ensures)
 
 pub invariant_of-result : goal.invariant_of-result
 invariant_of-result c =
     let own : FitsSigned w64 c.args.self.now.year = search rules in
     let eras = c.ranges.eras in
     let (year, more, years, sum) = wide c.args.self.now.year c.args.eras own (search rules) in
-    let (fits, is) = simp (c.from.ensures, c.from-2.ensures, to_z-of_z) at c.in_ok-at_64_bits.ensures in
+    let (fits, is) = simp (c.from.ensures, c.from-2.ensures, c.from-3.ensures, to_z-of_z) at c.in_ok-at_64_bits.ensures in
     record { valid = rw is (simp to_z-of_z (date_later c.args.eras c.args.self.now.valid)) }

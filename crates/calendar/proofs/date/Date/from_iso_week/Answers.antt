@@ -26,8 +26,8 @@ returns-then-is_in_year c =
     let day = simp to_z-of_z at c.day_of_week.ensures.value in
     let day_fits : FitsSigned w64 c.day_of_week.result = few_days c.day_of_week.ensures.from c.day_of_week.ensures.below in
     let same = placed (first_day c.args.year) c.thursday_of_iso_week-thursday.result ((weekday_number c.args.weekday + 6) % 7) day in
-    let near = simp to_z-of_z at c.near.ensures in
-    day_or_none c.near.result c.args.weekday (subst (λ (t : ℤ). IsDayOfIsoWeek t c.args.year c.args.week c.args.weekday) same found) near
+    let near = simp to_z-of_z at c.in_nearby_year.ensures in
+    day_or_none c.in_nearby_year.result c.args.weekday (subst (λ (t : ℤ). IsDayOfIsoWeek t c.args.year c.args.week c.args.weekday) same found) near
 
 pub returns-else-is_in_year : goal.returns-else-is_in_year
 returns-else-is_in_year c = λ day y k h y_fits.

@@ -5,7 +5,7 @@ use Rattle.std.proofs.lemmas.Int.{by_lt_z, ints, to_z-of_z}
 use Rattle.calendar.specs.Years.{days_in_year}
 use Rattle.calendar.proofs.IsoWeeks.{earlier, later}
 use Rattle.calendar.proofs.YearLengths.{length_range, next_first_day}
-use Rattle.calendar.proofs.years.year_near.Goals as goal
+use Rattle.calendar.proofs.years.nearby_year.Goals as goal
 
 pub returns-in_err-before : goal.returns-in_err-before
 returns-in_err-before c =

@@ -2,7 +2,7 @@ use Rattle.std.specs.Prelude.{pos, ◌+ℤ◌, ◌*ℤ◌, ◌-ℤ◌, FitsSigne
 use Rattle.std.specs.Int.{w64, w128}
 use Rattle.std.proofs.Common.{arith, sym}
 use Rattle.std.proofs.lemmas.Int.{ints, to_z-of_z}
-use Rattle.calendar.proofs.date.Date.number.Goals as goal
+use Rattle.calendar.proofs.date.Date.wide_day_number.Goals as goal
 
 pub returns-clause-value : goal.returns-clause-value
 returns-clause-value c =
@@ -14,7 +14,7 @@ returns-clause-value c =
     let product : FitsSigned w128 (pos 146097 *ℤ era) = omega (arith, ints) in
     let sum : FitsSigned w128 (pos 146097 *ℤ era +ℤ pos day) = omega (arith, ints) in
     let whole : FitsSigned w128 (pos 146097 *ℤ era +ℤ pos day -ℤ pos 865566) = omega (arith, ints) in
-    simp (c.from.ensures, c.from-2.ensures, to_z-of_z) (sym c.day_of_era-era.ensures.number)
+    simp (c.from.ensures, c.from-2.ensures, c.from-3.ensures, c.from-4.ensures, to_z-of_z) (sym c.day_of_era-era.ensures.number)
 
 pub returns-clause-small : goal.returns-clause-small
 returns-clause-small c =
