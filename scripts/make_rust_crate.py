@@ -46,7 +46,7 @@ LOOPS = ('while', 'for', 'loop', '{')
 AS_PROVED = 'as it was proved'
 ALLOWED = {
     ('integer_roots', 'square_root', 'square_root_counted'): ('clippy::manual_div_ceil', AS_PROVED),
-    ('modular', 'representatives', 'Residues.modulus'): ('dead_code', 'contracts alone read it'),
+    ('modular', 'exponentiation', 'Residues.modulus'): ('dead_code', 'contracts alone read it'),
     ('applied', 'ranking', 'first_to_rise'): ('clippy::manual_find', AS_PROVED),
     ('applied', 'ranking', 'number_from_zero'): ('clippy::needless_range_loop', AS_PROVED),
 }

@@ -1,20 +1,22 @@
--- Several congruences: those of which each two agree have a common solution, and all their solutions are congruent.
+-- Several congruences: if every two of them agree, they have a common solution, and all their solutions are congruent.
 use Rattle.std.specs.Prelude.{◌≡◌, ◌<◌, ◌≤◌, ◌+◌, ◌≤ℤ◌, ◌<ℤ◌, ◌+ℤ◌, ◌-ℤ◌, ◌*ℤ◌, ℤ, ℕ, pos, neg_ℤ, unsigned_abs, List, [], ◌∷◌, length, Option, Some, None, MatchOption}
 use Rattle.std.specs.List.{All}
 use Rattle.std.proofs.Common.{arith, ◌∙◌, ap, get_or, refl, subst, sym, take}
 use Rattle.std.proofs.lemmas.List.Elements.{All-cons, All-head, All-nil, All-tail}
 use Rattle.num_integer.specs.Range.{IsRange}
 use Rattle.num_integer.specs.Divisors.{Divides, IsGreatestCommonDivisor, IsLeastCommonMultiple}
+use Rattle.num_integer.specs.Least.{IsLeastFrom}
 use Rattle.num_integer.proofs.ForCallers.{Divides-cancel, Divides-sum, Divides-times, Divides-trans, comm, expand, gcd-nonzero, gcd-times, lcm-positive, linear, only_gcd, product_from_zero, products, sizes}
 use Rattle.num_integer.proofs.Laws.{bezout_answer_exists, division_exists, gcd_exists, gcd_times_lcm, lcm_exists}
 use Rattle.modular.specs.declared.common_solutions.CommonSolution.{CommonSolution}
 use Rattle.modular.specs.declared.common_solutions.CommonSolution.TheVariants.{Never, Beyond, At}
 use Rattle.modular.specs.CommonSolutions.{MatchCommonSolution}
 use Rattle.modular.specs.Agreement.{Agree, AgreeInPairs, AgreesWithEach}
+use Rattle.modular.specs.Below.{Has}
 use Rattle.modular.specs.Congruences.{AreCongruent, IsNextCongruent, IsResidueClass, SolvesBothCongruences, SolvesEach}
-use Rattle.num_integer.specs.Least.{IsLeastFrom}
 use Rattle.modular.proofs.ListedItems.{all_items, at_item, one_item_more}
-use Rattle.modular.proofs.Congruences.{congruent-divisor, congruent-refl, congruent-sym, congruent-trans, next_congruent_is, remainder_is_residue}
+use Rattle.modular.proofs.Congruences.{congruent-divisor, congruent-refl, congruent-sym, congruent-trans, congruent_by, remainder_is_residue}
+use Rattle.modular.proofs.NextCongruent.{next_congruent_is}
 
 -- ---- two congruences that agree
 
@@ -51,15 +53,15 @@ solution_of_two {a} {m} {b} {n} h =
     let gap = near.product ∙ ap (λ (t : ℤ). t *ℤ near.factor) (sym bezout.3.equation) ∙ split in (
       a -ℤ m *ℤ (bezout.1 *ℤ near.factor),
       record {
-        first = record { divides = record { factor = neg_ℤ (bezout.1 *ℤ near.factor); product = simp expand (omega (arith, linear)) } };
-        second = record { divides = record { factor = bezout.2 *ℤ near.factor; product = omega (arith, linear) } };
+        first = congruent_by (neg_ℤ (bezout.1 *ℤ near.factor)) (simp expand (omega (arith, linear)));
+        second = congruent_by (bezout.2 *ℤ near.factor) (omega (arith, linear));
       },
     )
 
 pub solved_agree : {a m b n x : ℤ} → AreCongruent m x a → AreCongruent n x b → Agree a m b n
 solved_agree h k = record { congruent = λ g common. congruent-trans (congruent-sym (congruent-divisor common.divides_left h)) (congruent-divisor common.divides_right k) }
 
--- numbers equal modulo the gcd agree
+-- numbers that are congruent modulo the gcd agree
 pub agree_at_gcd : {a m b n g : ℤ} → IsGreatestCommonDivisor m n g → AreCongruent g a b → Agree a m b n
 agree_at_gcd h near = record { congruent = λ k other. rw (only_gcd h other) at near }
 
@@ -77,6 +79,22 @@ merged_agree {m = m} {n = n} {k = k} m_up n_up both least left right =
       };
     }
 
+-- ---- the solutions, from one of them
+
+-- the numbers with the property are those that are x modulo `period`
+pub record HasPeriod (Is : ℤ → Type 0) (x period : ℤ) : Type 0 where
+  pub positive : pos 0 <ℤ period
+  pub every : (y : ℤ) → Is y → AreCongruent period y x
+  pub no_other : (y : ℤ) → AreCongruent period y x → Is y
+
+-- from each number on there is a least one of them
+pub least_of_period : {Is : ℤ → Type 0} {x period : ℤ} (from : ℤ) → HasPeriod Is x period → (t : ℤ) × IsLeastFrom from Is t
+least_of_period {x = x} {period = period} from h =
+    let up = h.positive in
+    let division = division_exists.1 (x -ℤ from) period (λ e. omega (arith, linear)) in
+    let next = next_congruent_is (remainder_is_residue up (record { quotient = division.0; division = division.2 })) in
+    (from +ℤ division.1, record { from_there = next.from_there; holds = h.no_other _ next.holds; least = λ u far is. next.least u far (h.every u is) })
+
 -- ---- several congruences
 
 module _ {X : Type 0} (value : X → ℤ) where
@@ -92,18 +110,18 @@ module _ {X : Type 0} (value : X → ℤ) where
   abbrev pub SolvesAt : ℤ → X × X → Type 0
   SolvesAt x c = AreCongruent (value c.1) x (value c.0)
 
-  -- what is asked of all pairs, of the one at an index
+  -- what is required of all pairs, of the one at an index
   pub pair_at : (fits : ℤ → Type 0) (pairs : List (X × X)) (i : ℕ) {x : X × X} → x ≡ get_or pairs i x → i < length pairs → All (IsInRange fits) pairs → All IsPositive pairs → IsInRange fits x × IsPositive x
   pair_at fits pairs i is within in_range positive = (at_item (IsInRange fits) pairs i is within in_range, at_item IsPositive pairs i is within positive)
 
   pub common_with : (cs : List (X × X)) {a m : ℤ} → pos 0 <ℤ m → All IsPositive cs → AgreesWithEach value a m cs → AgreeInPairs value cs → (x : ℤ) × AreCongruent m x a × SolvesEach value cs x
   common_with [] {a} {m} up positive agrees pairs = (a, congruent-refl a, All-nil (SolvesAt a))
   common_with (c ∷ cs) {a} {m} up positive agrees pairs =
-      let own = All-head IsPositive c cs positive in
+      let c_up = All-head IsPositive c cs positive in
       let both = solution_of_two (All-head (AgreesAt a m) c cs agrees) in
       let least = lcm_exists m (value c.1) in
       let l_up = lcm-positive least.1 (λ e. omega (arith, linear)) (λ e. omega (arith, linear)) in
-      let merged : AgreesWithEach value both.0 least.0 cs = λ k d within. merged_agree up own both.1 least.1 (All-tail (AgreesAt a m) c cs agrees k d within) (pairs.0 k d within) in
+      let merged : AgreesWithEach value both.0 least.0 cs = λ k d within. merged_agree up c_up both.1 least.1 (All-tail (AgreesAt a m) c cs agrees k d within) (pairs.0 k d within) in
       let rest = common_with cs {a = both.0} {m = least.0} l_up (All-tail IsPositive c cs positive) merged pairs.1 in (
         rest.0,
         congruent-trans (congruent-divisor least.1.left_divides rest.1) both.1.first,
@@ -118,69 +136,41 @@ module _ {X : Type 0} (value : X → ℤ) where
 
   pub first_agrees : {c : X × X} {cs rest : List (X × X)} {x : ℤ} → rest ≡ c ∷ cs → SolvesEach value rest x → AgreesWithEach value (value c.0) (value c.1) cs
   first_agrees {c} {cs} {x = x} split each =
-      let own = subst (All (SolvesAt x)) split each in
-      λ k d within. solved_agree (All-head (SolvesAt x) c cs own) (All-tail (SolvesAt x) c cs own k d within)
+      let solved = subst (All (SolvesAt x)) split each in
+      λ k d within. solved_agree (All-head (SolvesAt x) c cs solved) (All-tail (SolvesAt x) c cs solved k d within)
 
   pub no_pairs : (cs : List (X × X)) → length cs ≡ 0 → AgreeInPairs value cs
   no_pairs [] none = tt
   no_pairs (c ∷ cs) none = absurd (omega arith)
 
+  pub period_of_solutions : {x : ℤ} (cs : List (X × X)) → All IsPositive cs → SolvesEach value cs x → (l : ℤ) × HasPeriod (SolvesEach value cs) x l
+  period_of_solutions {x} [] positive each =
+      (pos 1, record { positive = omega (arith, linear); every = λ y h. congruent_by (y -ℤ x) (omega (arith, products)); no_other = λ y h. All-nil (SolvesAt y) })
+  period_of_solutions {x} (c ∷ cs) positive each =
+      let up = All-head IsPositive c cs positive in
+      let here = All-head (SolvesAt x) c cs each in
+      let rest = period_of_solutions cs (All-tail IsPositive c cs positive) (All-tail (SolvesAt x) c cs each) in
+      let least = lcm_exists (value c.1) rest.0 in
+      let rest_up = rest.1.positive in (
+        least.0,
+        record {
+          positive = lcm-positive least.1 (λ e. omega (arith, linear)) (λ e. omega (arith, linear));
+          every = λ y h. record { divides = least.1.least _ (congruent-trans (All-head (SolvesAt y) c cs h) (congruent-sym here)).divides (rest.1.every y (All-tail (SolvesAt y) c cs h)).divides };
+          no_other = λ y h. All-cons (SolvesAt y) c cs (congruent-trans (congruent-divisor least.1.left_divides h) here) (rest.1.no_other y (congruent-divisor least.1.right_divides h));
+        },
+      )
+
+  -- where some number solves each congruence, there is a least one, beyond the type where none in the type does
+  pub least_beyond : {fits : ℤ → Type 0} {from : ℤ} (cs : List (X × X)) → All IsPositive cs → (x : ℤ) × SolvesEach value cs x
+      → ((t : ℤ) → from ≤ℤ t → SolvesEach value cs t → ¬ (fits t)) → (t : ℤ) × IsLeastFrom from (SolvesEach value cs) t × ¬ (fits t)
+  least_beyond {from = from} cs positive solution none =
+      let t = least_of_period from (period_of_solutions cs positive solution.1).1 in
+      (t.0, t.1, none t.0 t.1.from_there t.1.holds)
+
 -- a search that found nothing
 pub nothing_found : {A N : Type 0} (P : A → Type 0) (found : Option A) → ((x : A) → found ≡ Some x → ⊥) → MatchOption found N P → N
 nothing_found P None other none = none
 nothing_found P (Some x) other h = absurd (other x refl)
-
--- ---- the solutions, from one of them
-
--- the numbers with the property are those that are x modulo `period`
-pub record HasPeriod (Has : ℤ → Type 0) (x period : ℤ) : Type 0 where
-  pub positive : pos 0 <ℤ period
-  pub every : (y : ℤ) → Has y → AreCongruent period y x
-  pub no_other : (y : ℤ) → AreCongruent period y x → Has y
-
-pub period_of_solutions : {X : Type 0} (value : X → ℤ) {x : ℤ} (cs : List (X × X)) → All (λ c. pos 0 <ℤ value c.1) cs → SolvesEach value cs x → (l : ℤ) × HasPeriod (SolvesEach value cs) x l
-period_of_solutions value {x} [] positive each = (
-  pos 1,
-  record {
-    positive = omega (arith, linear);
-    every = λ y h. record { divides = record { factor = y -ℤ x; product = omega (arith, products) } };
-    no_other = λ y h. All-nil (λ c. AreCongruent (value c.1) y (value c.0));
-  },
-)
-period_of_solutions {X} value {x} (c ∷ cs) positive each =
-    let up = All-head (λ c. pos 0 <ℤ value c.1) c cs positive in
-    let own = All-head (λ c. AreCongruent (value c.1) x (value c.0)) c cs each in
-    let rest = period_of_solutions value cs (All-tail (λ c. pos 0 <ℤ value c.1) c cs positive) (All-tail (λ c. AreCongruent (value c.1) x (value c.0)) c cs each) in
-    let least = lcm_exists (value c.1) rest.0 in
-    let rest_up = rest.1.positive in (
-      least.0,
-      record {
-        positive = lcm-positive least.1 (λ e. omega (arith, linear)) (λ e. omega (arith, linear));
-        every = λ y h. record {
-          divides = least.1.least _
-              (congruent-trans (All-head (λ c. AreCongruent (value c.1) y (value c.0)) c cs h) (congruent-sym own)).divides
-              (rest.1.every y (All-tail (λ c. AreCongruent (value c.1) y (value c.0)) c cs h)).divides;
-        };
-        no_other = λ y h. All-cons (λ c. AreCongruent (value c.1) y (value c.0)) c cs
-            (congruent-trans (congruent-divisor least.1.left_divides h) own)
-            (rest.1.no_other y (congruent-divisor least.1.right_divides h));
-      },
-    )
-
--- from each number on there is a least one of them
-pub least_of_period : {Has : ℤ → Type 0} {x period : ℤ} (from : ℤ) → HasPeriod Has x period → (t : ℤ) × IsLeastFrom from Has t
-least_of_period {Has} {x} {period} from h =
-    let up = h.positive in
-    let division = division_exists.1 (x -ℤ from) period (λ e. omega (arith, linear)) in
-    let next = next_congruent_is (remainder_is_residue up (record { quotient = division.0; division = division.2 })) in
-    (from +ℤ division.1, record { from_there = next.from_there; holds = h.no_other _ next.holds; least = λ u far has. next.least u far (h.every u has) })
-
--- so where some number solves each congruence, there is a least one, beyond the type where none in the type does
-pub least_beyond : {X : Type 0} (value : X → ℤ) {fits : ℤ → Type 0} {from : ℤ} (cs : List (X × X)) → All (λ c. pos 0 <ℤ value c.1) cs → (x : ℤ) × SolvesEach value cs x
-    → ((t : ℤ) → from ≤ℤ t → SolvesEach value cs t → ¬ (fits t)) → (t : ℤ) × IsLeastFrom from (SolvesEach value cs) t × ¬ (fits t)
-least_beyond value {from = from} cs positive solution none =
-    let t = least_of_period from (period_of_solutions value cs positive solution.1).1 in
-    (t.0, t.1, none t.0 t.1.from_there t.1.holds)
 
 -- ---- candidates for the least solution: the numbers of the type that solve two of the congruences
 
@@ -198,19 +188,16 @@ module _ {Each Both : ℤ → Type 0} {from next : ℤ} (narrows : (x : ℤ) →
       let most = h.least x (passed x far has) (narrows x has) in
       omega (arith, linear)
 
-  -- none after the last number of the type, and none after a candidate beyond the type
+  -- none after the last number of the type
   pub none_after_last : {fits : ℤ → Type 0} {low high t : ℤ} → IsRange fits low high → fits t → IsLeastFrom next Both t → ¬ (Each t) → ¬ (fits (t +ℤ pos 1)) → (x : ℤ) → from ≤ℤ x → Each x → ¬ (fits x)
   none_after_last range t_fits h none last = λ x far has x_fits. last (between_fits range t_fits x_fits (omega (arith, linear)) (candidate_passed h none x far has))
 
-  pub none_after_beyond : {fits : ℤ → Type 0} {low high t : ℤ} → IsRange fits low high → fits next → IsLeastFrom next Both t → ¬ (fits t) → (x : ℤ) → from ≤ℤ x → Each x → ¬ (fits x)
-  none_after_beyond range next_fits h none = λ x far has x_fits. none (between_fits range next_fits x_fits h.from_there (h.least x (passed x far has) (narrows x has)))
-
-  -- so none where the next number that solves two of them is not in the type
+  -- none where the next number that solves two of them is not in the type
   pub none_at_end : {X : Type 0} (value : X → ℤ) {fits : ℤ → Type 0} {low high : ℤ} (found : CommonSolution X) → IsRange fits low high → fits next → ((t : X) → found ≡ At t → ⊥)
       → MatchCommonSolution found ((x : ℤ) → ¬ (Both x)) ((t : ℤ) × IsLeastFrom next Both t × ¬ (fits t)) (λ t. fits (value t) × IsLeastFrom next Both (value t))
       → (x : ℤ) → from ≤ℤ x → Each x → ¬ (fits x)
   none_at_end value Never range next_fits other h = λ x far has _. h x (narrows x has)
-  none_at_end value Beyond range next_fits other h = none_after_beyond range next_fits h.1 h.2
+  none_at_end value Beyond range next_fits other h = λ x far has x_fits. h.2 (between_fits range next_fits x_fits h.1.from_there (h.1.least x (passed x far has) (narrows x has)))
   none_at_end value (At t) range next_fits other h = λ _ _ _ _. other t refl
 
 -- each candidate is nearer to the last number of the type
@@ -228,7 +215,7 @@ pub record Narrowed {X : Type 0} (value : X → ℤ) (congruences : List (X × X
 pub narrowed_first : {X : Type 0} (value : X → ℤ) (congruences : List (X × X)) {first step : ℤ} → step ≡ pos 1 → Narrowed value congruences 0 first step
 narrowed_first value congruences {first} {step} one = record {
   positive = omega (arith, linear);
-  every = λ x each. record { divides = record { factor = x -ℤ first; product = rw one (omega (arith, products)) } };
+  every = λ x each. congruent_by (x -ℤ first) (rw one (omega (arith, products)));
   no_other = λ x near k d within. absurd (omega arith);
 }
 
@@ -245,12 +232,12 @@ module _ {X : Type 0} {value : X → ℤ} {congruences : List (X × X)} {i : ℕ
         one_item_more (SolvesAt value x) congruences i is within (h.no_other x both.first) both.second;
   }
 
-  pub least_of_class : {A : Type 0} (own : A → ℤ) {fits : ℤ → Type 0} {low high from : ℤ} (found : Option A) → IsRange fits low high → fits from → length congruences ≤ i
-      → MatchOption found ((t : ℤ) × IsNextCongruent from first step t × ¬ (fits t)) (λ t. fits (own t) × IsNextCongruent from first step (own t))
-      → MatchOption found ((t : ℤ) → from ≤ℤ t → SolvesEach value congruences t → ¬ (fits t)) (λ t. fits (own t) × IsLeastFrom from (SolvesEach value congruences) (own t))
-  least_of_class own (Some t) range from_fits past next = (
+  pub least_of_class : {A : Type 0} (number : A → ℤ) {fits : ℤ → Type 0} {low high from : ℤ} (found : Option A) → IsRange fits low high → fits from → length congruences ≤ i
+      → MatchOption found ((t : ℤ) × IsNextCongruent from first step t × ¬ (fits t)) (Has fits number (IsNextCongruent from first step))
+      → MatchOption found ((t : ℤ) → from ≤ℤ t → SolvesEach value congruences t → ¬ (fits t)) (Has fits number (IsLeastFrom from (SolvesEach value congruences)))
+  least_of_class number (Some t) range from_fits past next = (
     next.0,
-    record { from_there = next.1.from_there; holds = all_items (SolvesAt value (own t)) congruences i past (h.no_other _ next.1.holds); least = λ u far each. next.1.least u far (h.every u each) },
+    record { from_there = next.1.from_there; holds = all_items (SolvesAt value (number t)) congruences i past (h.no_other _ next.1.holds); least = λ u far each. next.1.least u far (h.every u each) },
   )
-  least_of_class own None range from_fits past next = λ t far each t_fits.
+  least_of_class number None range from_fits past next = λ t far each t_fits.
       next.2 (between_fits range from_fits t_fits next.1.from_there (next.1.least t far (h.every t each)))

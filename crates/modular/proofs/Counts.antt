@@ -1,28 +1,29 @@
--- How many congruent numbers lie between two others.
+-- How many congruent numbers a range has.
 use Rattle.std.specs.Prelude.{◌≡◌, ◌≤ℤ◌, ◌<ℤ◌, ◌+ℤ◌, ◌-ℤ◌, ◌*ℤ◌, ℤ, ℕ, zero, suc, pos, unsigned_abs, [], ◌∷◌, Option, Some, None, IfSome, MatchOption}
 use Rattle.std.proofs.Common.{arith, ◌∙◌, ap, inl, refl, subst, sym}
 use Rattle.std.proofs.lemmas.Int.{by_lt_z, ints}
 use Rattle.num_integer.specs.Range.{IsRange}
 use Rattle.num_integer.proofs.ForCallers.{expand, from_not_less, linear, product_from_zero, products, sizes, within_fits}
-use Rattle.modular.proofs.CommonSolutions.{turns_ordered}
-use Rattle.modular.proofs.Congruences.{congruent-sym, congruent-trans, next_within_step}
-use Rattle.modular.specs.Turns.{IsFirstTurn}
+use Rattle.modular.proofs.CommonSolutions.{times_ordered}
+use Rattle.modular.proofs.Congruences.{congruent-sym, congruent-trans, congruent_by}
+use Rattle.modular.proofs.NextCongruent.{next_within_step}
+use Rattle.modular.specs.Times.{IsTimesToReach}
 use Rattle.modular.specs.Counts.{IsCountFrom}
 use Rattle.modular.specs.Congruences.{AreCongruent, IsCountOfCongruent, IsNextCongruent, IsResidue}
 
 -- a congruent number and a step
 step_further : {step t first : ℤ} → AreCongruent step t first → AreCongruent step (t +ℤ step) first
-step_further {step} {t} h = congruent-trans (record { divides = record { factor = pos 1; product = omega (arith, products) } }) h
+step_further {step} {t} h = congruent-trans (congruent_by (pos 1) (omega (arith, products))) h
 
--- the first turn leads to the next congruent number
-pub next_by_turns : {from start first step k : ℤ} → pos 0 <ℤ step → AreCongruent step first start → IsFirstTurn from start step k → IsNextCongruent from first step (start +ℤ step *ℤ k)
-next_by_turns {from} {start} {first} {step} {k} up at_start h = record {
+-- the least number of steps that reaches `from` leads to the next congruent number
+pub next_by_times : {from start first step k : ℤ} → pos 0 <ℤ step → AreCongruent step first start → IsTimesToReach from start step k → IsNextCongruent from first step (start +ℤ step *ℤ k)
+next_by_times {from} {start} {first} {step} {k} up at_start h = record {
   from_there = h.from_there;
-  holds = congruent-trans (record { divides = record { factor = k; product = omega (arith, linear) } }) (congruent-sym at_start);
+  holds = congruent-trans (congruent_by k (omega (arith, linear))) (congruent-sym at_start);
   least = λ u far near.
-      let turns = (congruent-trans near at_start).divides in
-      let is : step *ℤ turns.factor ≡ u -ℤ start = sym turns.product in
-      let ordered = turns_ordered {m = step} k turns.factor up (h.least turns.factor (omega (arith, linear))) in
+      let times = (congruent-trans near at_start).divides in
+      let is : step *ℤ times.factor ≡ u -ℤ start = sym times.product in
+      let ordered = times_ordered {m = step} k times.factor up (h.least times.factor (omega (arith, linear))) in
       omega (arith, linear);
 }
 
@@ -31,7 +32,7 @@ one_more_step step n =
     let one : pos (suc n) ≡ pos n +ℤ pos 1 = omega (arith, ints) in
     rw one (simp expand (omega (arith, products)))
 
--- the next congruent number, where it lies in the range, and those after it
+-- the next congruent number, where it is in the range, and those after it
 one_number_more : {from to first step t : ℤ} {n : ℕ} → IsNextCongruent from first step t → t ≤ℤ to → IsCountOfCongruent (t +ℤ pos 1) to first step (pos n) → IsCountOfCongruent from to first step (pos (suc n))
 one_number_more {t = t} at_start within rest = record {
   items = t ∷ rest.items;
@@ -60,11 +61,11 @@ count_of_steps {to} {first} {step} {u} (suc n) {from} {t} up at_start at_end is 
     let within : t ≤ℤ to = by_lt_z to t (λ less. absurd (omega (arith, linear, at_end.least t (omega (arith, linear)) at_start.holds))) (λ fine. fine) in
     one_number_more at_start within (count_of_steps n up next at_end onward)
 
--- the turns that lead to both ends of a range: one number more where its last one is congruent
-pub record IsCountedByTurns (from to first step turns : ℤ) : Type 0 where
-  pub from_zero : pos 0 ≤ℤ turns
-  pub last : AreCongruent step to first → IsCountOfCongruent from to first step (turns +ℤ pos 1)
-  pub other : ¬ (AreCongruent step to first) → IsCountOfCongruent from to first step turns
+-- the steps between those that reach both ends of a range: one number more where its last one is congruent
+pub record IsCountedByTimes (from to first step times : ℤ) : Type 0 where
+  pub from_zero : pos 0 ≤ℤ times
+  pub last : AreCongruent step to first → IsCountOfCongruent from to first step (times +ℤ pos 1)
+  pub other : ¬ (AreCongruent step to first) → IsCountOfCongruent from to first step times
 
 counted_steps : {from to first step t u count : ℤ} → pos 0 <ℤ step → IsNextCongruent from first step t → IsNextCongruent (to +ℤ pos 1) first step u → pos 0 ≤ℤ count → u ≡ t +ℤ step *ℤ count
     → IsCountOfCongruent from to first step count
@@ -72,13 +73,13 @@ counted_steps {from} {to} {first} {step} {t} {u} {count} up at_start at_end from
     let size : pos (unsigned_abs count) ≡ count = omega (arith, sizes) in
     subst (IsCountOfCongruent from to first step) size (count_of_steps (unsigned_abs count) up at_start at_end (is ∙ ap (λ (n : ℤ). t +ℤ step *ℤ n) (sym size)))
 
-pub counted_by_turns : {from to first start step j k : ℤ} → pos 0 <ℤ step → IsResidue step first start → ¬ (to <ℤ from) → IsFirstTurn to start step k → IsFirstTurn from start step j
-    → IsCountedByTurns from to first step (k -ℤ j)
-counted_by_turns {from} {to} {first} {start} {step} {j} {k} up at_start ordered at_end at_from =
+pub counted_by_times : {from to first start step j k : ℤ} → pos 0 <ℤ step → IsResidue step first start → ¬ (to <ℤ from) → IsTimesToReach to start step k → IsTimesToReach from start step j
+    → IsCountedByTimes from to first step (k -ℤ j)
+counted_by_times {from} {to} {first} {start} {step} {j} {k} up at_start ordered at_end at_from =
     let range : from ≤ℤ to = from_not_less ordered in
-    let turns = at_from.least k (omega (arith, linear, at_end.from_there)) in
-    let own = next_by_turns up at_start.congruent at_from in
-    let last = next_by_turns up at_start.congruent at_end in
+    let times = at_from.least k (omega (arith, linear, at_end.from_there)) in
+    let own = next_by_times up at_start.congruent at_from in
+    let last = next_by_times up at_start.congruent at_end in
     let apart : start +ℤ step *ℤ k ≡ (start +ℤ step *ℤ j) +ℤ step *ℤ (k -ℤ j) = simp expand (omega (arith, products)) in
     let more : step *ℤ (k -ℤ j +ℤ pos 1) ≡ step *ℤ (k -ℤ j) +ℤ step = simp expand (omega (arith, products)) in
     record {
@@ -94,11 +95,11 @@ counted_by_turns {from} {to} {first} {start} {step} {j} {k} up at_start ordered 
           counted_steps up own (record { from_there = by_lt_z to (start +ℤ step *ℤ k) (λ less. omega (arith, linear)) (λ fine. absurd (apart_from (omega (arith, linear)))); holds = last.holds; least = λ x beyond near. last.least x (omega (arith, linear)) near }) (omega (arith, linear)) apart;
     }
 
--- where the turns do not fit, neither does one more
-pub one_more_too_great : {fits : ℤ → Type 0} {low high turns : ℤ} → IsRange fits low high → pos 0 ≤ℤ turns → ¬ (fits turns) → ¬ (fits (turns +ℤ pos 1))
-one_more_too_great range from_zero none more_fits = none (within_fits range more_fits (inl (from_zero, omega (arith, linear))))
+-- where a number of steps does not fit, neither does one more
+pub one_more_too_large : {fits : ℤ → Type 0} {low high times : ℤ} → IsRange fits low high → pos 0 ≤ℤ times → ¬ (fits times) → ¬ (fits (times +ℤ pos 1))
+one_more_too_large range from_zero none more_fits = none (within_fits range more_fits (inl (from_zero, omega (arith, linear))))
 
--- no count is below 0
+-- no count is negative
 pub count_from_zero : {X : Type 0} (fits : ℤ → Type 0) (value : X → ℤ) (N : Type 0) (from : ℤ) (Has : ℤ → Type 0) (r : Option X) → MatchOption r N (λ n. fits (value n) × IsCountFrom from Has (value n)) → IfSome r (λ n. pos 0 ≤ℤ value n)
 count_from_zero fits value N from Has (Some n) h = omega (arith, ints, h.1.counted)
 count_from_zero fits value N from Has None h = tt

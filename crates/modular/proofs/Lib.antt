@@ -1,12 +1,14 @@
 pub mod Congruences
+pub mod TwoCongruences
+pub mod NextCongruent
 pub mod BelowModulus
 pub mod DoublingTurns
 pub mod PowerTurns
 pub mod WideProducts
-pub mod WordInverses
-pub mod WordProducts
+pub mod MontgomeryInverses
+pub mod MontgomeryProducts
 pub mod SplitModuli
-pub mod EuclidRows
+pub mod EuclidDivisions
 pub mod LinearCongruences
 pub mod LongDivision
 pub mod CommonSolutions

@@ -10,12 +10,12 @@ use Rattle.std.proofs.lemmas.Nat.Bits.{bit_at-trailing_zeros}
 use Rattle.num_integer.specs.Divisors.{Divides}
 use Rattle.num_integer.proofs.ForCallers.{Divides-times, expand, linear, products, shift_back}
 use Rattle.modular.specs.Congruences.{AreCongruent, IsResidue}
-use Rattle.modular.specs.Words.{joined, represented}
-use Rattle.modular.proofs.Congruences.{congruent-divisor, congruent-product, congruent-refl, congruent-sum, congruent-sym, congruent-trans, residue_of_congruent}
+use Rattle.modular.specs.MontgomeryForms.{joined, represented}
+use Rattle.modular.proofs.Congruences.{congruent-divisor, congruent-product, congruent-refl, congruent-sum, congruent-sym, congruent-trans, congruent_by, residue_of_congruent}
 use Rattle.modular.proofs.PowerTurns.{congruent-power}
 use Rattle.modular.proofs.BelowModulus.{congruent-rest, natural_residue}
 use Rattle.modular.proofs.WideProducts.{wrapped_difference}
-use Rattle.modular.proofs.WordInverses.{inverse_congruent, low_divides}
+use Rattle.modular.proofs.MontgomeryInverses.{inverse_congruent, low_divides}
 
 -- ---- the odd part of a modulus, and its factors 2
 
@@ -42,13 +42,13 @@ both_at m i w c u v z unit left right =
 
 -- where m has an inverse modulo w, numbers congruent modulo both are congruent modulo the product
 congruent-both : {m w x y : ℤ} (i : ℤ) → AreCongruent w (m *ℤ i) (pos 1) → AreCongruent m x y → AreCongruent w x y → AreCongruent (m *ℤ w) x y
-congruent-both {m} {w} {x} {y} i unit h k = record { divides = record { factor = _; product = both_at m i w _ _ _ (x -ℤ y) unit.divides.product h.divides.product k.divides.product } }
+congruent-both {m} {w} {x} {y} i unit h k = congruent_by _ (both_at m i w _ _ _ (x -ℤ y) unit.divides.product h.divides.product k.divides.product)
 
-odd_turn : (m i r y : ℤ) → (r +ℤ (m *ℤ i) *ℤ (y -ℤ r)) -ℤ r ≡ m *ℤ (i *ℤ (y -ℤ r))
-odd_turn m i r y = simp expand (omega (arith, linear))
+joined_apart : (m i r y : ℤ) → (r +ℤ (m *ℤ i) *ℤ (y -ℤ r)) -ℤ r ≡ m *ℤ (i *ℤ (y -ℤ r))
+joined_apart m i r y = simp expand (omega (arith, linear))
 
-low_turn : (p r y : ℤ) {w : ℤ} → AreCongruent w p (pos 1) → AreCongruent w (r +ℤ p *ℤ (y -ℤ r)) y
-low_turn p r y {w} unit =
+joined_at_unit : (p r y : ℤ) {w : ℤ} → AreCongruent w p (pos 1) → AreCongruent w (r +ℤ p *ℤ (y -ℤ r)) y
+joined_at_unit p r y {w} unit =
     let whole : r +ℤ pos 1 *ℤ (y -ℤ r) ≡ y = omega (arith, products) in
     subst (λ (t : ℤ). AreCongruent w (r +ℤ p *ℤ (y -ℤ r)) t) whole (congruent-sum (congruent-refl r) (congruent-product unit (congruent-refl (y -ℤ r))))
 
@@ -59,9 +59,9 @@ quotient_low m i r y {d} {w} d_up w_up small divides unit =
     let gap = congruent-rest (y + (w - r)) w_up (wrapped_difference y small) in
     let product = congruent-rest ((y + (w - r)) % w * i) w_up (congruent-product gap (congruent-refl (pos i))) in
     let quotient = congruent-rest ((y + (w - r)) % w * i % w) d_up (congruent-divisor divides product) in
-    let turn : pos m *ℤ ((pos y -ℤ pos r) *ℤ pos i) ≡ (pos m *ℤ pos i) *ℤ (pos y -ℤ pos r) = simp expand in
+    let apart : pos m *ℤ ((pos y -ℤ pos r) *ℤ pos i) ≡ (pos m *ℤ pos i) *ℤ (pos y -ℤ pos r) = simp expand in
     let sum = congruent-sum (congruent-refl (pos r)) (congruent-product (congruent-refl (pos m)) quotient) in
-    congruent-trans (rw turn at sum) (congruent-divisor divides (low_turn (pos m *ℤ pos i) (pos r) (pos y) unit))
+    congruent-trans (rw apart at sum) (congruent-divisor divides (joined_at_unit (pos m *ℤ pos i) (pos r) (pos y) unit))
 
 -- ---- joined numbers, where i is the inverse of m
 
@@ -70,14 +70,18 @@ module _ (m i : ℕ) (inverse : m * i % 2 ^ 64 ≡ 1) where
   unit = inverse_congruent m i (omega arith) inverse
 
   joined_odd : (x y : ℕ) → AreCongruent (pos m) (joined m i x y) (represented m i x)
-  joined_odd x y = record { divides = record { factor = pos i *ℤ (pos y -ℤ represented m i x); product = odd_turn (pos m) (pos i) (represented m i x) (pos y) } }
+  joined_odd x y = congruent_by (pos i *ℤ (pos y -ℤ represented m i x)) (joined_apart (pos m) (pos i) (represented m i x) (pos y))
 
   joined_low : (x y : ℕ) → AreCongruent (pos (2 ^ 64)) (joined m i x y) (pos y)
-  joined_low x y = low_turn (pos m *ℤ pos i) (represented m i x) (pos y) unit
+  joined_low x y = joined_at_unit (pos m *ℤ pos i) (represented m i x) (pos y) unit
 
-  -- a number that stands for z by its odd part, and has its low bits
+  -- the pair of z: the form of z modulo the odd factor, and its low bits
   pub joined_is : (x y : ℕ) {z : ℤ} → AreCongruent (pos m) z (represented m i x) → AreCongruent (pos (2 ^ 64)) z (pos y) → AreCongruent (pos (m * 2 ^ 64)) z (joined m i x y)
   joined_is x y odd low = congruent-both (pos i) unit (congruent-trans odd (congruent-sym (joined_odd x y))) (congruent-trans low (congruent-sym (joined_low x y)))
+
+  -- the pair of a number that fits in 64 bits
+  pub joined_of : (x y : ℕ) → AreCongruent (pos m) (pos y) (represented m i x) → AreCongruent (pos (m * 2 ^ 64)) (pos y) (joined m i x y)
+  joined_of x y odd = joined_is x y odd (congruent-refl (pos y))
 
   -- the product of two
   pub joined_product : (x y u v r : ℕ) → AreCongruent (pos m) (represented m i x *ℤ represented m i u) (represented m i r)
@@ -92,7 +96,7 @@ module _ (m i : ℕ) (inverse : m * i % 2 ^ 64 ≡ 1) where
   joined_residue x y k r q few small h low =
       let below = h.below.below in
       let most = mul-le-mul_left m small in
-      let odd : AreCongruent (pos m) (pos r) (pos r +ℤ pos m *ℤ pos q) = congruent-sym (record { divides = record { factor = pos q; product = omega (arith, linear) } }) in
+      let odd : AreCongruent (pos m) (pos r) (pos r +ℤ pos m *ℤ pos q) = congruent-sym (congruent_by (pos q) (omega (arith, linear))) in
       record {
         below = record { from_zero = omega (arith, ints); below = omega (arith, ints) };
         congruent = congruent-both (pos i) (congruent-divisor (low_divides k few) unit) (congruent-trans (joined_odd x y) (congruent-trans h.congruent odd))
@@ -109,7 +113,7 @@ module _ (m i : ℕ) (inverse : m * i % 2 ^ 64 ≡ 1) where
       let small : r ≤ 2 ^ 64 = omega (arith, mul-le-mul_left m up) in
       rw power (joined_residue x y k r _ (omega arith) (mod_below _ (2 ^ k) up) h (quotient_low m i r y up (omega arith) small (low_divides k (omega arith)) unit))
 
-  -- the residue of a power, where x stands for the base
+  -- the residue of a power, from the pair of the base
   pub power_residue : (a e k : ℕ) {n r : ℕ} {base power : ℤ} → m * 2 ^ k ≡ n → k ≤ 64 → AreCongruent (pos (m * 2 ^ 64)) (pos a) base → AreCongruent (pos (m * 2 ^ 64)) (int_pow base e) power
       → IsResidue (pos (m * 2 ^ k)) power (pos r) → IsResidue (pos n) (int_pow (pos a) e) (pos r)
   power_residue a e k {n} {r} {base} {power} n_is few at_base at_power h =

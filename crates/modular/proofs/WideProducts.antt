@@ -4,7 +4,7 @@ use Rattle.std.specs.Int.{int_pow}
 use Rattle.std.proofs.Common.{arith, ap, sym}
 use Rattle.std.proofs.lemmas.Int.{ints}
 use Rattle.std.proofs.Math.Bool.{beq}
-use Rattle.modular.proofs.Congruences.{congruent-product, residue_of_congruent}
+use Rattle.modular.proofs.Congruences.{congruent-product, congruent_by, residue_of_congruent}
 use Rattle.modular.proofs.BelowModulus.{natural_residue}
 use Rattle.modular.proofs.PowerTurns.{congruent-power}
 use Rattle.num_integer.proofs.ForCallers.{expand, mul-neg, products, signed_is, sizes}
@@ -13,7 +13,7 @@ use Rattle.modular.specs.Congruences.{AreCongruent, IsResidue}
 
 -- a wrapping difference
 pub wrapped_difference : (x : ℕ) {u w : ℕ} → u ≤ w → AreCongruent (pos w) (pos (x + (w - u))) (pos x -ℤ pos u)
-wrapped_difference x small = record { divides = record { factor = pos 1; product = omega (arith, ints) } }
+wrapped_difference x small = congruent_by (pos 1) (omega (arith, ints))
 
 -- a number from 0 on is its magnitude
 size_is : {x : ℤ} {v : ℕ} → pos 0 ≤ℤ x → v ≡ unsigned_abs x → pos v ≡ x
@@ -29,7 +29,7 @@ product_by_signs false true u v = mul-neg (pos u) (pos v)
 pub product_of_magnitudes : (s t : Bool) (u v : ℕ) {a b : ℤ} → IsTrue s ↔ (a <ℤ pos 0) → IsTrue t ↔ (b <ℤ pos 0) → u ≡ unsigned_abs a → v ≡ unsigned_abs b → signed (not (beq s t)) (u * v) ≡ a *ℤ b
 product_of_magnitudes s t u v a_sign b_sign a_size b_size = rw (signed_is a_sign a_size, signed_is b_sign b_size) at (sym (product_by_signs s t u v))
 
--- a residue modulo a number above 0, by its magnitude
+-- a residue modulo a positive number, by its magnitude
 pub residue_by_magnitude : {m z : ℤ} {w p : ℕ} → pos 0 <ℤ m → w ≡ unsigned_abs m → IsResidue (pos w) z (pos p) → IsResidue m z (pos p)
 residue_by_magnitude {m} {w = w} up size h = let m_is : pos w ≡ m = omega (arith, sizes) in rw m_is at h
 
@@ -41,5 +41,5 @@ power_of_magnitudes u e up at_a m_size x_size h =
     residue_of_congruent (congruent-power e at_a.congruent) (residue_by_magnitude up m_size (rw power at h))
 
 -- the product of two numbers' remainders
-pub product_of_rests : (x y : ℕ) {m r : ℕ} → 0 < m → IsResidue (pos m) (pos (x % m) *ℤ pos (y % m)) (pos r) → IsResidue (pos m) (pos x *ℤ pos y) (pos r)
-product_of_rests x y up h = residue_of_congruent (congruent-product (natural_residue x up).congruent (natural_residue y up).congruent) h
+pub product_of_remainders : (x y : ℕ) {m r : ℕ} → 0 < m → IsResidue (pos m) (pos (x % m) *ℤ pos (y % m)) (pos r) → IsResidue (pos m) (pos x *ℤ pos y) (pos r)
+product_of_remainders x y up h = residue_of_congruent (congruent-product (natural_residue x up).congruent (natural_residue y up).congruent) h

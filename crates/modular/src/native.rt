@@ -4,8 +4,7 @@ ghost use Rattle.std.specs.Prelude.{◌≡◌, pos};
 
 use crate::products::Modular;
 use crate::residues::{negation_of_residue, residue};
-use crate::wide_powers::power_of_wide;
-use crate::wide_products::product_of_wide;
+use crate::wide_residues::{power_of_wide, product_of_wide};
 use num_integer::operators::is_negative;
 use num_integer::{Fits, NativeInteger};
 use num_traits::cast;
@@ -31,7 +30,7 @@ impl<T: NativeInteger> Modular for T {
     }
 }
 
-/// Returns the number of the type with this magnitude, which is at least 0.
+/// Converts a magnitude to the type.
 fn of_magnitude<T: NativeInteger>(x: u128) -> T
     requires { T.fits (pos x) }
     ensures in_range { T.fits (T.value result) }

@@ -1,22 +1,23 @@
-//! Products of residues, where no product has to fit.
+//! Products and powers modulo a positive number. No product has to fit the type.
 
 ghost use Rattle.std.specs.Prelude.{◌≡◌, ◌≢◌, ◌+◌, ◌^◌, ◌<◌, ◌≤◌, ◌<ℤ◌, ◌*ℤ◌, pos};
 ghost use Rattle.std.specs.Int.{int_pow};
 ghost use Rattle.modular.specs.Congruences.{IsResidue};
 ghost use Rattle.modular.specs.Below.{LiesBelow};
 
-use crate::representatives::{Residues, power_counted};
+use crate::exponentiation::{Residues, power_counted};
 use crate::residues::{residue, sum_of_residues};
 use num_integer::Integer;
 use num_integer::operators::{is_below, is_zero, one, successor, zero};
 
-/// Products and powers modulo a number above 0. An empty implementation gives them to your own type: its
-/// default bodies double and add, and square and multiply.
+/// Products and powers modulo a positive number. The native types have it. Your own type gets it by
+/// `impl Modular for Mine {}`: the default product doubles and adds, and the default power squares and multiplies.
+/// `4.product_modulo(&5, &7)` is `6`.
 pub trait Modular: Integer {
     /// Returns `self * other` modulo `modulus`. The product need not fit the type.
     /// `4.product_modulo(&5, &7)` is `6`.
     ///
-    /// May be called where `modulus` is above 0.
+    /// `modulus` must be positive.
     fn product_modulo(&self, other: &Self, modulus: &Self) -> Self
         requires self_in_range { Self.fits (Self.value self.now) }
         requires other_in_range { Self.fits (Self.value other.now) }
@@ -26,18 +27,18 @@ pub trait Modular: Integer {
         ensures residue { IsResidue (Self.value modulus.now)
             (Self.value self.now *ℤ Self.value other.now) (Self.value result) }
     {
-        product_of_residues(
+        product_by_doubling(
             residue(*self, *modulus),
             residue(*other, *modulus),
             *modulus,
         )
     }
 
-    /// Returns `self` to the power `exponent` modulo `modulus`, and the number of turns of its loop. At an
-    /// exponent above 0 the turns are its binary logarithm, rounded down.
+    /// Returns `self` to the power `exponent` modulo `modulus`, and the number of turns of its loop. If the exponent is
+    /// positive, the turns are its binary logarithm, rounded down.
     /// `3.power_modulo_counted(4, &7)` is `(4, 2)`, and `3.power_modulo_counted(0, &7)` is `(1, 0)`.
     ///
-    /// May be called where `modulus` is above 0.
+    /// `modulus` must be positive.
     #[tactic(auto, using(crate::proofs::PowerTurns::residue_of_power))]
     fn power_modulo_counted(&self, exponent: u128, modulus: &Self) -> (Self, u32)
         requires self_in_range { Self.fits (Self.value self.now) }
@@ -65,9 +66,10 @@ pub trait Modular: Integer {
     }
 }
 
-/// Returns [`Modular::product_modulo`], `a * b` modulo `m`. `product_modulo(4, 5, 7)` is `6`.
+/// Returns `a * b` modulo `m`, by [`Modular::product_modulo`]. The product need not fit the type.
+/// `product_modulo(4, 5, 7)` is `6`, and `product_modulo(200u8, 200, 201)` is `1`.
 ///
-/// May be called where `m` is above 0.
+/// `m` must be positive.
 pub fn product_modulo<T: Modular>(a: T, b: T, m: T) -> T
     requires a_in_range { T.fits (T.value a) }
     requires b_in_range { T.fits (T.value b) }
@@ -79,10 +81,39 @@ pub fn product_modulo<T: Modular>(a: T, b: T, m: T) -> T
     a.product_modulo(&b, &m)
 }
 
-/// Returns the product of two residues, by doubling along the binary digits of `y`.
-pub(crate) fn product_of_residues<T: Integer>(x: T, y: T, m: T) -> T
-    requires y_in_range { T.fits (T.value y) }
+/// Returns `a` to the power `exponent` modulo `m`, by squaring. `power_modulo(3, 4, 7)` is `4`, and
+/// `power_modulo(3, 0, 7)` is `1`.
+///
+/// `m` must be positive.
+pub fn power_modulo<T: Modular>(a: T, exponent: u128, m: T) -> T
+    requires a_in_range { T.fits (T.value a) }
     requires m_in_range { T.fits (T.value m) }
+    requires positive { pos 0 <ℤ T.value m }
+    ensures in_range { T.fits (T.value result) }
+    ensures residue { IsResidue (T.value m) (int_pow (T.value a) exponent) (T.value result) }
+{
+    power_modulo_counted(a, exponent, m).0
+}
+
+/// Returns [`power_modulo`] and the number of turns of its loop, by [`Modular::power_modulo_counted`].
+/// `power_modulo_counted(3, 4, 7)` is `(4, 2)`, and `power_modulo_counted(3, 0, 7)` is `(1, 0)`.
+///
+/// `m` must be positive.
+pub fn power_modulo_counted<T: Modular>(a: T, exponent: u128, m: T) -> (T, u32)
+    requires a_in_range { T.fits (T.value a) }
+    requires m_in_range { T.fits (T.value m) }
+    requires positive { pos 0 <ℤ T.value m }
+    ensures in_range { T.fits (T.value result.0) }
+    ensures residue { IsResidue (T.value m) (int_pow (T.value a) exponent) (T.value result.0) }
+    ensures no_turn { exponent ≡ 0 → result.1 ≡ 0 }
+    ensures turns { exponent ≢ 0 → (2 ^ result.1 ≤ exponent) × (exponent < 2 ^ (result.1 + 1)) }
+{
+    a.power_modulo_counted(exponent, &m)
+}
+
+/// Returns the product of two residues: it doubles `x` along the binary digits of `y`, and adds at each digit 1.
+fn product_by_doubling<T: Integer>(x: T, y: T, m: T) -> T
+    requires in_range { T.fits (T.value y) × T.fits (T.value m) }
     requires x_below { LiesBelow (T.value m) (T.value x) }
     requires y_below { LiesBelow (T.value m) (T.value y) }
     ensures in_range { T.fits (T.value result) }

@@ -1,8 +1,9 @@
-//! The next number that solves several congruences at once, whether it fits the type or not.
+//! The next number that solves several congruences at once, even if no product of the moduli fits.
 
 ghost use Rattle.std.specs.Prelude.{◌↔◌, ◌<ℤ◌, ◌≤ℤ◌, ℤ, pos, IsTrue, MatchOption};
 ghost use Rattle.std.specs.List.{All};
 ghost use Rattle.modular.specs.Agreement.{AgreesWithEach};
+ghost use Rattle.modular.specs.Below.{Has};
 ghost use Rattle.modular.specs.CommonSolutions.{MatchCommonSolution};
 ghost use Rattle.modular.specs.Congruences.{SolvesBothCongruences, SolvesEach};
 ghost use Rattle.num_integer.specs.Least.{IsLeastFrom};
@@ -14,12 +15,12 @@ use crate::residues::are_congruent;
 use num_integer::operators::{one, zero};
 use num_integer::{Fits, Integer, checked};
 
-/// Returns the least number from `from` on that is congruent to the first number of each pair, modulo
-/// the second. No product of the moduli need fit. `next_common_solution_of(10, &[(1, 4), (3, 6), (0, 7)])`
-/// is `CommonSolution::At(21)`.
+/// Returns the smallest number from `from` on that is congruent to the first number of each pair, modulo the second.
+/// No product of the moduli has to fit. `next_common_solution_of(10, &[(1, 4), (3, 6), (0, 7)])` is
+/// `CommonSolution::At(21)`.
 ///
-/// May be called where each modulus is above 0. In Rattle, a function that passes on a slice of its own
-/// parameters asks its callers for `in_range` too.
+/// Each modulus must be positive. In Rattle, a function that passes on a slice of its own parameters asks its callers
+/// for `in_range` too.
 pub fn next_common_solution_of<T: Modular + Fits>(
     from: T,
     congruences: &[(T, T)],
@@ -46,16 +47,15 @@ pub fn next_common_solution_of<T: Modular + Fits>(
     }
 }
 
-/// Returns the least solution from `from` on, or `None` where no solution from there on is in the type.
-/// Keeps the class of the numbers that solve the congruences so far, while its step is in the type.
+/// Returns the smallest solution from `from` on, or `None` if the type has none from there on. It combines the
+/// congruences one by one into a residue class, until the step of the class no longer fits.
 fn least_solution<T: Modular + Fits>(from: T, congruences: &[(T, T)]) -> Option<T>
     requires from_in_range { T.fits (T.value from) }
     requires in_range { All (λ c. T.fits (T.value c.0) × T.fits (T.value c.1)) congruences.now }
     requires positive { All (λ c. pos 0 <ℤ T.value c.1) congruences.now }
     ensures { MatchOption result
         ((t : ℤ) → T.value from ≤ℤ t → SolvesEach T.value congruences.now t → ¬ (T.fits t))
-        (λ t. T.fits (T.value t)
-        × IsLeastFrom (T.value from) (SolvesEach T.value congruences.now) (T.value t)) }
+        (Has T.fits T.value (IsLeastFrom (T.value from) (SolvesEach T.value congruences.now))) }
 {
     let mut first: T = zero();
     let mut step: T = one();
@@ -69,17 +69,16 @@ fn least_solution<T: Modular + Fits>(from: T, congruences: &[(T, T)]) -> Option<
     next_congruent(from, first, step)
 }
 
-/// Returns [`least_solution`], where each solution solves these two congruences. As the least common
-/// multiple of their moduli is beyond the type, at most two numbers of the type solve both.
+/// Returns [`least_solution`] if each solution solves these two congruences. Their step does not fit, so at most two
+/// numbers of the type solve both.
 fn least_candidate<T: Modular + Fits>(
     from: T,
     first: (T, T),
     second: (T, T),
     congruences: &[(T, T)],
 ) -> Option<T>
-    requires from_in_range { T.fits (T.value from) }
-    requires first_in_range { T.fits (T.value first.0) × T.fits (T.value first.1) }
-    requires second_in_range { T.fits (T.value second.0) × T.fits (T.value second.1) }
+    requires pairs_in_range { T.fits (T.value from) × T.fits (T.value first.0) × T.fits (T.value first.1)
+        × T.fits (T.value second.0) × T.fits (T.value second.1) }
     requires first_positive { pos 0 <ℤ T.value first.1 }
     requires second_positive { pos 0 <ℤ T.value second.1 }
     requires in_range { All (λ c. T.fits (T.value c.0) × T.fits (T.value c.1)) congruences.now }
@@ -88,8 +87,7 @@ fn least_candidate<T: Modular + Fits>(
         → SolvesBothCongruences (T.value first.0) (T.value first.1) (T.value second.0) (T.value second.1) x }
     ensures { MatchOption result
         ((t : ℤ) → T.value from ≤ℤ t → SolvesEach T.value congruences.now t → ¬ (T.fits t))
-        (λ t. T.fits (T.value t)
-        × IsLeastFrom (T.value from) (SolvesEach T.value congruences.now) (T.value t)) }
+        (Has T.fits T.value (IsLeastFrom (T.value from) (SolvesEach T.value congruences.now))) }
 {
     let (a, m) = first;
     let (b, n) = second;
@@ -119,7 +117,7 @@ fn solves_each<T: Integer>(x: T, congruences: &[(T, T)]) -> bool
     true
 }
 
-/// Returns `true` if each two of the congruences agree, and so all have a common solution.
+/// Returns `true` if every two of the congruences agree. Then they have a common solution.
 fn agree_in_pairs<T: Integer>(congruences: &[(T, T)]) -> bool
     requires in_range { All (λ c. T.fits (T.value c.0) × T.fits (T.value c.1)) congruences.now }
     requires positive { All (λ c. pos 0 <ℤ T.value c.1) congruences.now }
@@ -136,11 +134,10 @@ fn agree_in_pairs<T: Integer>(congruences: &[(T, T)]) -> bool
     true
 }
 
-/// Returns `true` if `a` is equal to the first number of each pair, modulo the greatest common divisor
-/// of `m` and the second.
+/// Returns `true` if `a` is congruent to the first number of each pair, modulo the greatest common divisor of `m` and
+/// the second.
 fn agrees_with_each<T: Integer>(a: T, m: T, others: &[(T, T)]) -> bool
-    requires a_in_range { T.fits (T.value a) }
-    requires m_in_range { T.fits (T.value m) }
+    requires number_in_range { T.fits (T.value a) × T.fits (T.value m) }
     requires m_positive { pos 0 <ℤ T.value m }
     requires in_range { All (λ c. T.fits (T.value c.0) × T.fits (T.value c.1)) others.now }
     requires positive { All (λ c. pos 0 <ℤ T.value c.1) others.now }

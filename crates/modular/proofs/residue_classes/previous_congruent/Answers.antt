@@ -1,4 +1,4 @@
-use Rattle.modular.proofs.Congruences.{found_or_beyond, previous_congruent_is}
+use Rattle.modular.proofs.NextCongruent.{found_or_beyond, previous_congruent_is}
 use Rattle.modular.proofs.residue_classes.previous_congruent.Goals as goal
 
 pub returns : goal.returns

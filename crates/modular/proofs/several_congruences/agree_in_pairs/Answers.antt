@@ -13,10 +13,9 @@ agrees_with_each-requires g c =
     let value = g.T.Number.value in
     let kept = c.pairs.invariant in
     let split = c.in-Some.ensures.cases.0 in
-    let own = All-head (IsInRange value g.T.Number.fits) _ _ (All-same (IsInRange value g.T.Number.fits) _ _ (sym split) kept.in_range) in
+    let head = All-head (IsInRange value g.T.Number.fits) _ _ (All-same (IsInRange value g.T.Number.fits) _ _ (sym split) kept.in_range) in
     record {
-      a_in_range = own.0;
-      m_in_range = own.1;
+      number_in_range = head;
       m_positive = All-head (IsPositive value) _ _ (All-same (IsPositive value) _ _ (sym split) kept.positive);
       in_range = All-rest (IsInRange value g.T.Number.fits) _ _ _ split kept.in_range;
       positive = All-rest (IsPositive value) _ _ _ split kept.positive;

@@ -6,7 +6,7 @@ use Rattle.modular.proofs.several_congruences.solves_each.Goals as goal
 pub are_congruent-requires : goal.are_congruent-requires
 are_congruent-requires g c =
     let pair = pair_at g.T.Number.value g.T.Number.fits _ _ c.congruence-item.is c.loop-congruence-test.true c.requires.in_range c.requires.positive in
-    record { a_in_range = c.requires.x_in_range; b_in_range = pair.0.0; m_in_range = pair.0.1; positive = pair.1 }
+    record { in_range = (c.requires.x_in_range, pair.0.0, pair.0.1); positive = pair.1 }
 
 pub loop-congruence-preserved : goal.loop-congruence-preserved
 loop-congruence-preserved g c =

@@ -1,0 +1,51 @@
+-- The next congruent number and the previous one, and a number that fits the type or is beyond it.
+use Rattle.std.specs.Prelude.{◌≡◌, ◌≤ℤ◌, ◌<ℤ◌, ◌+ℤ◌, ◌-ℤ◌, ℤ, pos, neg_ℤ, Option, Some, None, MatchOption}
+use Rattle.std.proofs.Common.{arith, subst, sym}
+use Rattle.std.proofs.lemmas.Int.{by_lt_z}
+use Rattle.num_integer.specs.Checked.{AnswersWhere}
+use Rattle.num_integer.proofs.ForCallers.{expand, linear, sizes, small_multiple_is_zero}
+use Rattle.modular.specs.Below.{Has}
+use Rattle.modular.specs.CommonSolutions.{MatchWhere}
+use Rattle.modular.specs.Congruences.{AreCongruent, IsNextCongruent, IsPreviousCongruent, IsResidue}
+use Rattle.modular.proofs.Congruences.{congruent-sym, congruent-trans, congruent_by}
+
+-- of two congruent numbers, one that is less than a step further is not the larger
+not_larger : {step from t u : ℤ} → AreCongruent step t u → from ≤ℤ u → t <ℤ (from +ℤ step) → t ≤ℤ u
+not_larger {step} {from} {t} {u} h u_from t_below = by_lt_z u t
+    (λ less. let none = small_multiple_is_zero h.divides (omega (arith, sizes)) in absurd (omega (arith, linear)))
+    (λ fine. fine)
+
+-- a number less than a step further is the next one
+pub next_within_step : {from first step t : ℤ} → AreCongruent step t first → from ≤ℤ t → t <ℤ (from +ℤ step) → IsNextCongruent from first step t
+next_within_step near t_from t_below = record { from_there = t_from; holds = near; least = λ u u_from h. not_larger (congruent-trans near (congruent-sym h)) u_from t_below }
+
+-- it comes after the residue of the difference
+pub next_congruent_is : {from first step w : ℤ} → IsResidue step (first -ℤ from) w → IsNextCongruent from first step (from +ℤ w)
+next_congruent_is {from} {first} {step} {w} wait =
+    let from_zero = wait.below.from_zero in
+    let below = wait.below.below in
+    let near : AreCongruent step (from +ℤ w) first = congruent_by (neg_ℤ wait.congruent.divides.factor) (simp expand (omega (arith, linear, wait.congruent.divides.product))) in
+    next_within_step near (omega (arith, linear)) (omega (arith, linear))
+
+-- the previous one comes before the residue of the other difference
+pub previous_congruent_is : {to first step w : ℤ} → IsResidue step (to -ℤ first) w → IsPreviousCongruent to first step (to -ℤ w)
+previous_congruent_is {to} {first} {step} {w} wait =
+    let from_zero = wait.below.from_zero in
+    let below = wait.below.below in
+    let near : AreCongruent step (to -ℤ w) first = congruent_by wait.congruent.divides.factor (omega (arith, linear, wait.congruent.divides.product)) in
+    record {
+      to_there = omega (arith, linear);
+      holds = near;
+      greatest = λ u u_to h. not_larger {from = to -ℤ step +ℤ pos 1} (congruent-trans h (congruent-sym near)) (omega (arith, linear)) (omega (arith, linear));
+    }
+
+-- a number with the property fits the type or is beyond it
+pub found_or_beyond : {X : Type 0} (fits : ℤ → Type 0) (value : X → ℤ) (Is : ℤ → Type 0) {z : ℤ} (found : Option X) → Is z → AnswersWhere (fits z) (λ t. fits (value t) × (value t ≡ z)) found
+    → MatchOption found ((t : ℤ) × Is t × ¬ (fits t)) (Has fits value Is)
+found_or_beyond fits value Is (Some t) is h = (h.1.0, subst Is (sym h.1.1) is)
+found_or_beyond fits value Is None is h = (_, is, h)
+
+-- what a call says in its domain
+pub match_where : {A Domain : Type 0} (N : Type 0) (P : A → Type 0) (found : Option A) → Domain → MatchOption found N P → MatchWhere Domain found N P
+match_where N P (Some x) holds h = (holds, h)
+match_where N P None holds h = λ _. h

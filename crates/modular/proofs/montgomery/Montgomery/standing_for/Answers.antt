@@ -1,8 +1,0 @@
-use Rattle.std.proofs.Common.{◌*◌, ◌^◌, arith}
-use Rattle.std.proofs.lemmas.Nat.{mod_below}
-use Rattle.modular.proofs.montgomery.Montgomery.standing_for.Goals as goal
-
-pub overflow_cast-result : goal.overflow_cast-result
-overflow_cast-result c =
-    let up = c.args.self.now.positive in
-    omega (arith, mod_below (c.from.result * 2 ^ 64) c.from-2.result (omega arith))

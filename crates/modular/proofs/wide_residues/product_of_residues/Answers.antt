@@ -1,0 +1,7 @@
+use Rattle.std.proofs.Common.{arith}
+use Rattle.std.proofs.lemmas.Int.{ints}
+use Rattle.modular.proofs.BelowModulus.{natural_residue}
+use Rattle.modular.proofs.wide_residues.product_of_residues.Goals as goal
+
+pub returns-then-m-le-U64_VALUES : goal.returns-then-m-le-U64_VALUES
+returns-then-m-le-U64_VALUES c = natural_residue _ (omega (arith, ints))

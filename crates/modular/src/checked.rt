@@ -1,0 +1,220 @@
+//! The calls of this crate at every modulus: each is `None` if the modulus is not positive, and has no other condition.
+//! `checked::sum_modulo(5, 4, 7)` is `Some(2)`, and `checked::sum_modulo(5, 4, 0)` is `None`.
+
+ghost use Rattle.std.specs.Prelude.{◌<ℤ◌, ◌+ℤ◌, ◌-ℤ◌, ◌*ℤ◌, ℤ, neg_ℤ, pos, MatchOption};
+ghost use Rattle.std.specs.Int.{int_pow};
+ghost use Rattle.modular.specs.Below.{Has};
+ghost use Rattle.modular.specs.CommonSolutions.{MatchCommonSolution, MatchWhere};
+ghost use Rattle.modular.specs.Congruences.{IsCountOfCongruent, IsInverse, IsNextCommonSolution, IsNextCongruent, IsPreviousCongruent, IsQuotientModulo, IsReducedModulus, IsResidue, IsResidueClass, Solves, SolvesBothCongruences};
+ghost use Rattle.num_integer.specs.Checked.{AnswersWhere};
+
+use crate::common_solutions::CommonSolution;
+use crate::products::Modular;
+use num_integer::operators::{is_below, zero};
+use num_integer::{Fits, Integer};
+
+/// Returns [`residue`](crate::residue), or `None` if `m` is not positive. `residue(-3, 7)` is `Some(4)`, and
+/// `residue(-3, 0)` is `None`.
+pub fn residue<T: Integer>(a: T, m: T) -> Option<T>
+    requires in_range { T.fits (T.value a) × T.fits (T.value m) }
+    ensures { AnswersWhere (pos 0 <ℤ T.value m)
+        (Has T.fits T.value (IsResidue (T.value m) (T.value a))) result }
+{
+    if is_below(zero(), m) {
+        Some(crate::residue(a, m))
+    } else {
+        None
+    }
+}
+
+/// Returns [`sum_modulo`](crate::sum_modulo), or `None` if `m` is not positive. `sum_modulo(5, 4, 7)` is `Some(2)`, and
+/// `sum_modulo(5, 4, -7)` is `None`.
+pub fn sum_modulo<T: Integer>(a: T, b: T, m: T) -> Option<T>
+    requires in_range { T.fits (T.value a) × T.fits (T.value b) × T.fits (T.value m) }
+    ensures { AnswersWhere (pos 0 <ℤ T.value m)
+        (Has T.fits T.value (IsResidue (T.value m) (T.value a +ℤ T.value b))) result }
+{
+    if is_below(zero(), m) {
+        Some(crate::sum_modulo(a, b, m))
+    } else {
+        None
+    }
+}
+
+/// Returns [`difference_modulo`](crate::difference_modulo), or `None` if `m` is not positive.
+/// `difference_modulo(2, 5, 7)` is `Some(4)`, and `difference_modulo(2, 5, 0)` is `None`.
+pub fn difference_modulo<T: Integer>(a: T, b: T, m: T) -> Option<T>
+    requires in_range { T.fits (T.value a) × T.fits (T.value b) × T.fits (T.value m) }
+    ensures { AnswersWhere (pos 0 <ℤ T.value m)
+        (Has T.fits T.value (IsResidue (T.value m) (T.value a -ℤ T.value b))) result }
+{
+    if is_below(zero(), m) {
+        Some(crate::difference_modulo(a, b, m))
+    } else {
+        None
+    }
+}
+
+/// Returns [`negation_modulo`](crate::negation_modulo), or `None` if `m` is not positive. `negation_modulo(2, 7)` is
+/// `Some(5)`, and `negation_modulo(2, 0)` is `None`.
+pub fn negation_modulo<T: Integer>(a: T, m: T) -> Option<T>
+    requires in_range { T.fits (T.value a) × T.fits (T.value m) }
+    ensures { AnswersWhere (pos 0 <ℤ T.value m)
+        (Has T.fits T.value (IsResidue (T.value m) (neg_ℤ (T.value a)))) result }
+{
+    if is_below(zero(), m) {
+        Some(crate::negation_modulo(a, m))
+    } else {
+        None
+    }
+}
+
+/// Returns [`product_modulo`](crate::product_modulo), or `None` if `m` is not positive. `product_modulo(4, 5, 7)` is
+/// `Some(6)`, and `product_modulo(4, 5, 0)` is `None`.
+pub fn product_modulo<T: Modular>(a: T, b: T, m: T) -> Option<T>
+    requires in_range { T.fits (T.value a) × T.fits (T.value b) × T.fits (T.value m) }
+    ensures { AnswersWhere (pos 0 <ℤ T.value m)
+        (Has T.fits T.value (IsResidue (T.value m) (T.value a *ℤ T.value b))) result }
+{
+    if is_below(zero(), m) {
+        Some(crate::product_modulo(a, b, m))
+    } else {
+        None
+    }
+}
+
+/// Returns [`power_modulo`](crate::power_modulo), or `None` if `m` is not positive. `power_modulo(3, 4, 7)` is
+/// `Some(4)`, and `power_modulo(3, 4, 0)` is `None`.
+pub fn power_modulo<T: Modular>(a: T, exponent: u128, m: T) -> Option<T>
+    requires in_range { T.fits (T.value a) × T.fits (T.value m) }
+    ensures { AnswersWhere (pos 0 <ℤ T.value m)
+        (Has T.fits T.value (IsResidue (T.value m) (int_pow (T.value a) exponent))) result }
+{
+    if is_below(zero(), m) {
+        Some(crate::power_modulo(a, exponent, m))
+    } else {
+        None
+    }
+}
+
+/// Returns [`inverse_modulo`](crate::inverse_modulo), or `None` if `m` is not positive or there is no inverse.
+/// `inverse_modulo(3, 7)` is `Some(5)`, and `inverse_modulo(3, 0)` is `None`.
+pub fn inverse_modulo<T: Integer>(a: T, m: T) -> Option<T>
+    requires in_range { T.fits (T.value a) × T.fits (T.value m) }
+    ensures { MatchOption result ((x : ℤ) → ¬ (IsInverse (T.value a) (T.value m) x))
+        (Has T.fits T.value (IsInverse (T.value a) (T.value m))) }
+{
+    if is_below(zero(), m) {
+        crate::inverse_modulo(a, m)
+    } else {
+        None
+    }
+}
+
+/// Returns [`quotient_modulo`](crate::quotient_modulo), or `None` if `m` is not positive or `b` has no inverse.
+/// `quotient_modulo(2, 3, 7)` is `Some(3)`, and `quotient_modulo(2, 3, 0)` is `None`.
+pub fn quotient_modulo<T: Modular>(a: T, b: T, m: T) -> Option<T>
+    requires in_range { T.fits (T.value a) × T.fits (T.value b) × T.fits (T.value m) }
+    ensures { MatchOption result ((x : ℤ) → ¬ (IsInverse (T.value b) (T.value m) x))
+        (Has T.fits T.value (IsQuotientModulo (T.value a) (T.value b) (T.value m))) }
+{
+    if is_below(zero(), m) {
+        crate::quotient_modulo(a, b, m)
+    } else {
+        None
+    }
+}
+
+/// Returns [`solutions`](crate::solutions), or `None` if `m` is not positive or there is no solution.
+/// `solutions(6, 4, 10)` is `Some((4, 5))`, and `solutions(6, 4, 0)` is `None`.
+pub fn solutions<T: Modular>(a: T, b: T, m: T) -> Option<(T, T)>
+    requires in_range { T.fits (T.value a) × T.fits (T.value b) × T.fits (T.value m) }
+    ensures { MatchWhere (pos 0 <ℤ T.value m) result
+        ((x : ℤ) → ¬ (Solves (T.value a) (T.value b) (T.value m) x))
+        (λ s. T.fits (T.value s.0) × T.fits (T.value s.1)
+        × IsResidueClass (Solves (T.value a) (T.value b) (T.value m)) (T.value s.0) (T.value s.1)
+        × IsReducedModulus (T.value a) (T.value m) (T.value s.1)) }
+{
+    if is_below(zero(), m) {
+        crate::solutions(a, b, m)
+    } else {
+        None
+    }
+}
+
+/// Returns [`next_congruent`](crate::next_congruent), or `None` if `step` is not positive or the number does not fit.
+/// `next_congruent(10, 1, 4)` is `Some(13)`, and `next_congruent(10, 1, 0)` is `None`.
+pub fn next_congruent<T: Fits>(from: T, first: T, step: T) -> Option<T>
+    requires in_range { T.fits (T.value from) × T.fits (T.value first) × T.fits (T.value step) }
+    ensures { MatchWhere (pos 0 <ℤ T.value step) result
+        ((t : ℤ) × IsNextCongruent (T.value from) (T.value first) (T.value step) t × ¬ (T.fits t))
+        (Has T.fits T.value (IsNextCongruent (T.value from) (T.value first) (T.value step))) }
+{
+    if is_below(zero(), step) {
+        crate::next_congruent(from, first, step)
+    } else {
+        None
+    }
+}
+
+/// Returns [`previous_congruent`](crate::previous_congruent), or `None` if `step` is not positive or the number does not
+/// fit. `previous_congruent(10, 1, 4)` is `Some(9)`, and `previous_congruent(10, 1, 0)` is `None`.
+pub fn previous_congruent<T: Fits>(to: T, first: T, step: T) -> Option<T>
+    requires in_range { T.fits (T.value to) × T.fits (T.value first) × T.fits (T.value step) }
+    ensures { MatchWhere (pos 0 <ℤ T.value step) result
+        ((t : ℤ) × IsPreviousCongruent (T.value to) (T.value first) (T.value step) t
+        × ¬ (T.fits t))
+        (Has T.fits T.value (IsPreviousCongruent (T.value to) (T.value first) (T.value step))) }
+{
+    if is_below(zero(), step) {
+        crate::previous_congruent(to, first, step)
+    } else {
+        None
+    }
+}
+
+/// Returns [`count_congruent`](crate::count_congruent), or `None` if `step` is not positive or the count does not fit.
+/// `count_congruent(1, 10, 1, 4)` is `Some(3)`, and `count_congruent(1, 10, 1, 0)` is `None`.
+pub fn count_congruent<T: Fits>(from: T, to: T, first: T, step: T) -> Option<T>
+    requires in_range { T.fits (T.value from) × T.fits (T.value to) × T.fits (T.value first)
+        × T.fits (T.value step) }
+    ensures { MatchWhere (pos 0 <ℤ T.value step) result
+        ((n : ℤ) × IsCountOfCongruent (T.value from) (T.value to) (T.value first) (T.value step) n
+        × ¬ (T.fits n))
+        (Has T.fits T.value (IsCountOfCongruent (T.value from) (T.value to) (T.value first)
+        (T.value step))) }
+{
+    if is_below(zero(), step) {
+        crate::count_congruent(from, to, first, step)
+    } else {
+        None
+    }
+}
+
+/// Returns [`next_common_solution`](crate::next_common_solution), or `None` if a modulus is not positive.
+/// `next_common_solution(10, 1, 4, 3, 6)` is `Some(CommonSolution::At(21))`, and
+/// `next_common_solution(10, 1, 0, 3, 6)` is `None`.
+pub fn next_common_solution<T: Modular + Fits>(
+    from: T,
+    a: T,
+    m: T,
+    b: T,
+    n: T,
+) -> Option<CommonSolution<T>>
+    requires in_range { T.fits (T.value from) × T.fits (T.value a) × T.fits (T.value m)
+        × T.fits (T.value b) × T.fits (T.value n) }
+    ensures { AnswersWhere ((pos 0 <ℤ T.value m) × (pos 0 <ℤ T.value n))
+        (λ s. MatchCommonSolution s
+        ((x : ℤ) → ¬ (SolvesBothCongruences (T.value a) (T.value m) (T.value b) (T.value n) x))
+        ((t : ℤ) × IsNextCommonSolution (T.value from) (T.value a) (T.value m) (T.value b)
+        (T.value n) t × ¬ (T.fits t))
+        (Has T.fits T.value (IsNextCommonSolution (T.value from) (T.value a) (T.value m)
+        (T.value b) (T.value n))))
+        result }
+{
+    if is_below(zero(), m) && is_below(zero(), n) {
+        Some(crate::next_common_solution(from, a, m, b, n))
+    } else {
+        None
+    }
+}
