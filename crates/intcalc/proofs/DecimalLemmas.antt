@@ -4,7 +4,7 @@ use Rattle.std.specs.Fmt.{decimal}
 use Rattle.std.proofs.lemmas.Fmt.{decimal_by_steps_wide, length-decimal-le_wide}
 use Rattle.std.proofs.lemmas.List.{drop-set}
 
--- where digits are left, there is room in front of those that are written
+-- if digits are left, there is room in front of those that are written
 pub room : (text : List ℕ) (n rest at : ℕ) → length text ≡ 39 → n < 2 ^ 128 → rest < 2 ^ 128 → decimal rest ++ drop at text ≡ decimal n → 0 < at
 room text n rest zero size n_fits rest_fits e =
     let some : 0 < length (decimal rest) = decimal_by_steps_wide (λ _ ds. 0 < length ds) (λ _ _. omega arith) (λ n ds _ _. omega (arith, length-append ds ((48 + n % 10) ∷ []))) rest (omega arith) in

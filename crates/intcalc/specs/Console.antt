@@ -7,12 +7,12 @@ use Rattle.intcalc.specs.declared.sink.Console.{Console}
 abbrev pub writer_of : {W : Type 0} → Console W → W
 writer_of console = console.out
 
--- A console has failed where its writer has.
--- Examples: new: false; after a `put` that its writer refused: true.
+-- A console has failed if its writer has.
+-- Examples: new: false; after a `put` at which its writer failed: true.
 abbrev pub has_failed : {W : Type 0} → Console W → Bool
 has_failed console = console.failed
 
--- A console is finished where `finish` was called, with nothing put since.
+-- A console is finished if `finish` was called, with nothing put since.
 -- Examples: new: false; after `put`: false; after `finish`: true.
 abbrev pub is_finished : {W : Type 0} → Console W → Bool
 is_finished console = console.finished

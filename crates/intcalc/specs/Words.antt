@@ -45,16 +45,16 @@ pub record Spell (word : List ℕ) (numbers : List (List ℕ)) (call : Call) : T
   pub name : word ≡ word_of_call call
   pub operands : map spelled_number numbers ≡ map Some (operands_of call)
 
--- The words are that of the kind, and then those that spell the call.
--- Examples: `i64 gcd 4 6`: `I64`, `Gcd(4, 6)`; `u8 sqrt 9`: `U8`, `Sqrt(9)`; `gcd 4 6`: neither.
+-- The words are that of the kind, then that of the call and its operands.
+-- Examples: `i64 gcd 4 6`: `I64`, `Gcd(4, 6)`; `u8 sqrt 9`: `U8`, `Sqrt(9)`; not `gcd 4 6`.
 pub record AskFor (words : List (List ℕ)) (kind : Kind) (call : Call) : Type 0 where
   pub word : List ℕ
   pub numbers : List (List ℕ)
   pub parts : words ≡ word_of_kind kind ∷ word ∷ numbers
   pub spelled : Spell word numbers call
 
--- The request is the kind and the call that the words ask for, and none where they ask for none.
--- Examples: `i64 gcd 1 2`: `I64`, `Gcd(1, 2)`; none for `i64 gcd 1`; none for no words.
+-- The request is the kind and the call that the words ask for, or `None` if they ask for no call.
+-- Examples: `i64 gcd 1 2`: `I64`, `Gcd(1, 2)`; `i64 gcd 1`: `None`; no words: `None`.
 abbrev pub IsRequest : List (List ℕ) → Option (Kind × Call) → Type 0
 IsRequest words request = MatchOption request
     ((kind : Kind) (call : Call) → ¬ (AskFor words kind call))

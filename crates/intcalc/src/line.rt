@@ -1,4 +1,4 @@
-//! A line of text in a buffer of fixed size.
+//! A line in a buffer of fixed size.
 
 ghost use Rattle.std.specs.Prelude.{◌≡◌, ◌+◌, ◌≤◌, ◌<◌, ◌++◌, ℕ, List, [], take, length};
 ghost use Rattle.std.specs.Fmt.{decimal, signed_decimal};
@@ -54,6 +54,7 @@ impl Line {
         self.len = end;
     }
 
+    /// Adds the number in decimal.
     fn push_unsigned(&mut self, n: u128)
         requires { length self.old + WIDTH ≤ CAPACITY }
         ensures text { self.new ≡ self.old ++ decimal n }
@@ -64,6 +65,7 @@ impl Line {
         self.push(&digits[start..]);
     }
 
+    /// Adds the number in decimal, after a `-` if it is negative.
     fn push_number(&mut self, n: i128)
         requires { length self.old + WIDTH + 1 ≤ CAPACITY }
         ensures text { self.new ≡ self.old ++ signed_decimal n }
@@ -75,6 +77,7 @@ impl Line {
         self.push_unsigned(n.unsigned_abs());
     }
 
+    /// Adds a space and the number.
     fn push_next(&mut self, n: i128)
         requires { length self.old + WIDTH + 2 ≤ CAPACITY }
         ensures text { self.new ≡ self.old ++ next_number n }
@@ -84,7 +87,7 @@ impl Line {
         self.push_number(n);
     }
 
-    /// Adds the numbers of the answer, or `true` or `false`.
+    /// Adds the numbers of the answer, or `true` or `false`. Of `Answer::Two(-3, 1)` it adds `-3 1`.
     pub fn push_answer(&mut self, answer: Answer)
         requires { self.old ≡ [] }
         ensures text { self.new ≡ text_of_answer answer }
@@ -106,7 +109,7 @@ impl Line {
         }
     }
 
-    /// Adds `refused`, the number and the name.
+    /// Adds `refused`, the number and the name, as `refused 2 ZeroDivisor`.
     pub fn push_refusal(&mut self, refusal: Refusal)
         requires { self.old ≡ [] }
         ensures text { self.new ≡ text_of_refusal refusal }

@@ -1,8 +1,8 @@
 //! `intcalc <type> <call> <operand> ..` makes one call of `num_integer` or `ratio64`, and prints the
 //! answer on a line.
 //!
-//! The status is 0 for an answer, 1 for a refusal, 2 for words that ask for no call, 3 for memory that
-//! was refused, and 4 for a line that did not go out.
+//! The status is 0 for an answer, 1 for a refusal, 2 for words that ask for no call, 3 if there was no
+//! memory, and 4 if the line could not be written.
 #![tactic(auto)]
 
 ghost use Rattle.std.specs.Prelude.{◌≡◌, ◌≢◌, ◌<◌, ◌≤◌, ◌↔◌, ℕ, List, codes, false, IsTrue, IfOk, OnErr};
@@ -28,7 +28,7 @@ use std::io::ErrorKind;
 use std::process::ExitCode;
 use std::{env, io};
 
-// Passes the words to `run`, without the name of the program.
+/// Passes the words to `run`, without the name of the program.
 fn run_args<S: Sink>(alloc: Global, args: Args, out: &mut S) -> Result<u8, AllocError>
     ensures failed { IfOk result (λ status. (status ≡ 4) ↔ IsTrue (S.has_failed out.new)) }
     ensures untouched { OnErr result (out.new ≡ out.old) }
@@ -42,7 +42,7 @@ fn run_args<S: Sink>(alloc: Global, args: Args, out: &mut S) -> Result<u8, Alloc
     Ok(run(&words, out))
 }
 
-// Puts the line that memory was refused, and returns its status.
+/// Puts the line `no memory`, and returns its status.
 fn put_no_memory<S: Sink>(out: &mut S) -> u8
     ensures status { result ≡ 3 }
     ensures line { S.has_failed out.new ≡ false
@@ -53,8 +53,8 @@ fn put_no_memory<S: Sink>(out: &mut S) -> u8
     3
 }
 
-// Puts the line for the arguments, and returns the exit code of the program: the status of the line,
-// 3 where memory was refused, and 4 where the sink has failed.
+/// Puts the line for the arguments, and returns the exit code of the program: the status of the line,
+/// 3 if there was no memory, and 4 if the sink has failed.
 fn run_program<S: Sink>(alloc: Global, args: io::Result<Args>, out: &mut S) -> ExitCode
     ensures line { exit_status result < 3 → (line : List ℕ)
         × IsLine (words_read args) line (exit_status result)

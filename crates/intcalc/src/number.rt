@@ -3,21 +3,23 @@
 ghost use Rattle.std.specs.Prelude.{◌≡◌};
 ghost use Rattle.std.specs.Char.{is_ascii_digit};
 ghost use Rattle.std.specs.List.{list_all};
-ghost use Rattle.intcalc.specs.Number.{spelled_number, begins_with_minus, unsigned_part, is_digits};
+ghost use Rattle.intcalc_core.specs.RatioText.{unsigned_part};
+ghost use Rattle.intcalc.specs.Number.{is_number_word, spelled_number};
 
-fn is_negative(word: &[u8]) -> bool
-    ensures { result ≡ begins_with_minus word.now }
+/// Returns whether a word is an optional `-`, then one or more digits, and nothing else.
+fn is_integer(word: &str) -> bool
+    ensures { result ≡ is_number_word word.now }
 {
-    matches!(word, [b'-', ..])
+    let digits = without_minus(word.as_bytes());
+    !digits.is_empty() && has_only_digits(digits)
 }
 
-// Returns the word without its sign.
-fn without_sign(word: &[u8]) -> &[u8]
-    ensures { result.now ≡ unsigned_part word.now }
+fn without_minus(text: &[u8]) -> &[u8]
+    ensures { result.now ≡ unsigned_part text.now }
 {
-    match word {
+    match text {
         [b'-', digits @ ..] => digits,
-        _ => word,
+        _ => text,
     }
 }
 
@@ -27,25 +29,18 @@ fn has_only_digits(text: &[u8]) -> bool
     text.iter().all(|byte| byte.is_ascii_digit())
 }
 
-fn is_unsigned_number(text: &[u8]) -> bool
-    ensures { result ≡ is_digits text.now }
-{
-    !text.is_empty() && has_only_digits(text)
-}
-
-/// Returns the number that a word spells: an optional `-`, then one or more ASCII digits. `-007` is -7,
-/// and `+7` is no number. A number outside `i128` gives the nearer end of `i128`, which lies outside
-/// every kind.
+/// Returns the number of a word, or `None` if the word is not an integer. `read_number("-007")` is
+/// `Some(-7)`, and `read_number("+7")` is `None`. A number outside `i128` gives the nearer end of
+/// `i128`, which lies outside every kind.
 pub fn read_number(word: &str) -> Option<i128>
     ensures { result ≡ spelled_number word.now }
 {
-    let bytes = word.as_bytes();
-    if !is_unsigned_number(without_sign(bytes)) {
+    if !is_integer(word) {
         return None;
     }
     match word.parse::<i128>() {
         Ok(n) => Some(n),
-        Err(_) if is_negative(bytes) => Some(i128::MIN),
+        Err(_) if matches!(word.as_bytes(), [b'-', ..]) => Some(i128::MIN),
         Err(_) => Some(i128::MAX),
     }
 }

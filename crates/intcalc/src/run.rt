@@ -11,7 +11,7 @@ use crate::sink::{Sink, put_all};
 use crate::words::read_words;
 use intcalc_core::{Call, Kind, evaluate};
 
-// Returns the text for a request, without the line feed, and the status.
+/// Returns the line for a request, without the line feed, and the status.
 fn reply(request: Option<(Kind, Call)>) -> (Line, u8)
     ensures text { IsReply request result.0 result.1 }
     ensures room { length result.0 < CAPACITY }
@@ -44,7 +44,7 @@ pub fn line_for(words: &[&str]) -> (Line, u8)
     (line, status)
 }
 
-/// Puts a line, finishes, and returns `true` if both went well.
+/// Puts a line and finishes. Returns whether both succeeded.
 pub fn put_line<S: Sink>(out: &mut S, line: &[u8]) -> bool
     ensures failed { (result ≡ false) ↔ IsTrue (S.has_failed out.new) }
     ensures added { OnTrue result (Appends (S.contents out.old) (S.contents out.new) line.now) }
@@ -54,7 +54,7 @@ pub fn put_line<S: Sink>(out: &mut S, line: &[u8]) -> bool
 }
 
 /// Puts the line that the words ask for, and returns the status: 0 for an answer, 1 for a refusal,
-/// 2 for words that ask for no call, and 4 where the sink has failed. For the words `i64`, `gcd`, `4`,
+/// 2 for words that ask for no call, and 4 if the sink has failed. For the words `i64`, `gcd`, `4`,
 /// `6` it puts `2` and a line feed, and returns 0.
 pub fn run<S: Sink>(words: &[&str], out: &mut S) -> u8
     ensures failed { (result ≡ 4) ↔ IsTrue (S.has_failed out.new) }

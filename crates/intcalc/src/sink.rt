@@ -9,7 +9,7 @@ use std::io::Write;
 
 /// A place for bytes, which may fail. A failed sink stays failed.
 pub trait Sink {
-    // The bytes so far, where the sink shows them.
+    // The bytes so far, if the sink shows them.
     ghost contents: { Self → Option (List ℕ) };
 
     // Whether the sink has failed.
@@ -18,8 +18,8 @@ pub trait Sink {
     // Whether the sink has finished, with nothing put since.
     ghost is_finished: { Self → Bool };
 
-    /// Adds the first `n` of the bytes and returns `Some(n)`, or returns `None` where the sink has
-    /// failed. After `finish` it may be called again; the sink is then unfinished.
+    /// Adds the first `n` of the bytes and returns `Some(n)`, or returns `None` if the sink has failed.
+    /// After `finish` it may be called again; the sink is then unfinished.
     fn put(&mut self, bytes: &[u8]) -> Option<usize>
         ensures bound { IfSome result (λ n. n ≤ length bytes.now) }
         ensures progress { 0 < length bytes.now → IfSome result (λ n. 0 < n) }
@@ -29,7 +29,7 @@ pub trait Sink {
         ensures for_good { IsTrue (has_failed self.old) → IsTrue (has_failed self.new) }
         ensures unfinished { is_finished self.new ≡ false };
 
-    /// Flushes the sink, and returns `false` where the sink has failed.
+    /// Flushes the sink, and returns `false` if the sink has failed.
     fn finish(&mut self) -> bool
         ensures kept { OnTrue result (Keeps (contents self.old) (contents self.new)) }
         ensures failed { (result ≡ false) ↔ IsTrue (has_failed self.new) }
@@ -37,8 +37,8 @@ pub trait Sink {
         ensures finished { is_finished self.new ≡ result };
 }
 
-/// A sink over a writer. It fails at the first fault of the writer, and at the first write of one or
-/// more bytes that takes none.
+/// A sink over a writer. It fails at the first error of the writer, and at the first write of one or
+/// more bytes that takes no byte.
 #[derive(Drop)]
 pub struct Console<W> {
     out: W,
@@ -81,7 +81,7 @@ impl<W: Write> Sink for Console<W> {
 
     ghost is_finished = { λ console. console.finished };
 
-    // Where it returns `None`, a writer that shows its bytes took none.
+    // If it returns `None`, a writer that shows its bytes took no byte.
     fn put(&mut self, bytes: &[u8]) -> Option<usize>
         ensures bound { IfSome result (λ n. n ≤ length bytes.now) }
         ensures progress { 0 < length bytes.now → IfSome result (λ n. 0 < n) }
@@ -113,7 +113,7 @@ impl<W: Write> Sink for Console<W> {
     }
 }
 
-/// Puts all of the bytes, or returns `None` where the sink has failed. Without bytes it makes no `put`.
+/// Puts all of the bytes, or returns `None` if the sink has failed. Without bytes it makes no `put`.
 pub fn put_all<S: Sink>(out: &mut S, bytes: &[u8]) -> Option<()>
     ensures added { MatchOption result (IsTrue (S.has_failed out.new))
         (λ _. Appends (S.contents out.old) (S.contents out.new) bytes.now) }

@@ -1,4 +1,4 @@
--- The answer of a call on two fractions, by their exact results.
+-- The result of a call on two fractions, by their exact results.
 use Rattle.std.specs.Prelude.{◌≡◌, ◌≢◌, ◌+ℤ◌, ◌*ℤ◌, ℤ, pos, Result, Ok, Err, MatchResult, FitsSigned}
 use Rattle.std.specs.Int.{w64, w128}
 use Rattle.std.proofs.Common.{ap, inl, inr, refl, to_z, of_z, ◌∙◌}
@@ -9,17 +9,16 @@ use Rattle.ratio64.specs.Ratio.{AnswersFraction, num_of, den_of}
 use Rattle.ratio64.specs.declared.fraction.Ratio.{Ratio}
 use Rattle.ratio64.specs.declared.error.RatioError.{RatioError}
 use Rattle.intcalc_core.specs.Fractions.{IsRatioOf}
-use Rattle.intcalc_core.specs.Outcome.{AnswersExact, FitsKind, Inside, NeedsFractions, NeedsParts, OutcomeIn, PartsFit}
+use Rattle.intcalc_core.specs.Outcome.{AnswersExact, Inside, NeedsFractions, NeedsParts, OutcomeIn, PartsFit}
 use Rattle.intcalc_core.specs.declared.calls.Answer.{Answer}
 use Rattle.intcalc_core.specs.declared.calls.Answer.TheVariants.{Two}
 use Rattle.intcalc_core.specs.declared.calls.Call.TheVariants.{RatioAdd, RatioMul}
-use Rattle.intcalc_core.specs.declared.calls.Kind.TheVariants.{I64}
 use Rattle.intcalc_core.specs.declared.calls.Refusal.{Refusal}
 use Rattle.intcalc_core.specs.declared.calls.Refusal.TheVariants.{NotFitting}
 
 -- ---- the fractions that are given
 
--- what is refused for them is refused whatever is asked
+-- an error of the operands is the error of each call on them
 refused_given : {a b c d m n : ℤ} {r : Result Answer Refusal} → NeedsParts a b c d (λ _. ⊥) r → NeedsParts a b c d (AnswersExact m n) r
 refused_given (inl h) = inl h
 refused_given (inr (fit, inl h)) = inr (fit, inl h)
@@ -49,21 +48,21 @@ denominators x y = nonzero_product x.exact.fraction y.exact.fraction
 
 -- the fractions that were given, and their parts
 module _ {a b c d : ℤ} {x y : Ratio} {r : Result Answer Refusal} (answer : Result Ratio RatioError) (given : PartsFit a b c d × IsRatioOf a b x × IsRatioOf c d y) (is : MatchResult answer (λ z. r ≡ Ok (Two (num_of z) (den_of z))) (λ _. r ≡ Err NotFitting)) where
-  pub sum_outcome : AnswersFraction (num_of x *ℤ den_of y +ℤ num_of y *ℤ den_of x) (den_of x *ℤ den_of y) answer → OutcomeIn (FitsKind I64) (RatioAdd a b c d) r
+  pub sum_outcome : AnswersFraction (num_of x *ℤ den_of y +ℤ num_of y *ℤ den_of x) (den_of x *ℤ den_of y) answer → (fits : ℤ → Type 0) → OutcomeIn fits (RatioAdd a b c d) r
   unfolding Inside
-  sum_outcome h = inr (given.0, asked answer given.1 given.2 (denominators given.1 given.2) (sum_of_exact_results given.1.exact given.2.exact h) is)
+  sum_outcome h fits = inr (given.0, asked answer given.1 given.2 (denominators given.1 given.2) (sum_of_exact_results given.1.exact given.2.exact h) is)
 
-  pub product_outcome : AnswersFraction (num_of x *ℤ num_of y) (den_of x *ℤ den_of y) answer → OutcomeIn (FitsKind I64) (RatioMul a b c d) r
+  pub product_outcome : AnswersFraction (num_of x *ℤ num_of y) (den_of x *ℤ den_of y) answer → (fits : ℤ → Type 0) → OutcomeIn fits (RatioMul a b c d) r
   unfolding Inside
-  product_outcome h = inr (given.0, asked answer given.1 given.2 (denominators given.1 given.2) (product_of_exact_results given.1.exact given.2.exact h) is)
+  product_outcome h fits = inr (given.0, asked answer given.1 given.2 (denominators given.1 given.2) (product_of_exact_results given.1.exact given.2.exact h) is)
 
--- those that were refused
-module _ {a b c d : ℤ} {r : Result Answer Refusal} (given : NeedsParts a b c d (λ _. ⊥) r) where
-  pub sum_refused : OutcomeIn (FitsKind I64) (RatioAdd a b c d) r
+-- those that gave an error
+module _ {a b c d : ℤ} {r : Result Answer Refusal} (given : NeedsParts a b c d (λ _. ⊥) r) (fits : ℤ → Type 0) where
+  pub sum_refused : OutcomeIn fits (RatioAdd a b c d) r
   unfolding Inside
   sum_refused = refused_given given
 
-  pub product_refused : OutcomeIn (FitsKind I64) (RatioMul a b c d) r
+  pub product_refused : OutcomeIn fits (RatioMul a b c d) r
   unfolding Inside
   product_refused = refused_given given
 

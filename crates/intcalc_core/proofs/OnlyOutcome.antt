@@ -20,7 +20,7 @@ use Rattle.intcalc_core.specs.Outcome.{AnswersOne, AnswersTwo, AnswersThree, Ans
 use Rattle.ratio64.specs.Fraction.{IsExact}
 use Rattle.ratio64.proofs.Laws.{exact_result_is_only}
 
--- where the rest of a row leaves one result, so does the row
+-- if the rest of a condition leaves one result, so does the condition
 only_needs : {P R S : Type 0} {refusal : Refusal} {r s : Result Answer Refusal} → (R → S → s ≡ r) → (¬ P × (r ≡ Err refusal)) ⊎ (P × R) → (¬ P × (s ≡ Err refusal)) ⊎ (P × S) → s ≡ r
 only_needs only (inl h) (inl k) = cc
 only_needs only (inl h) (inr k) = absurd (h.0 k.0)

@@ -1,4 +1,4 @@
--- The outcome of each call at each kind, and the order of the refusals.
+-- The result of each call at each kind, and the order of the refusals.
 use Rattle.std.specs.Prelude.{◌≡◌, ◌≢◌, ◌⊎◌, ◌↔◌, ◌%◌, ◌≤ℤ◌, ◌+ℤ◌, ◌*ℤ◌, ℤ, pos, unsigned_abs, Bool, IsTrue, List, [], ◌∷◌, ⊤, Result, Ok, Err, MatchResult, FitsSigned}
 use Rattle.std.specs.Int.{w8, w64, FitsUnsignedBits}
 use Rattle.num_integer.specs.Averages.{IsAverageFloor, IsAverageCeil}
@@ -27,13 +27,13 @@ FitsKind U8 = FitsUnsignedBits 8
 FitsKind I64 = λ n. FitsSigned w64 n
 FitsKind U64 = FitsUnsignedBits 64
 
--- A conversion returns the value that means a number where the type has it, and fails where it does not.
+-- A conversion returns the value that means a number if the type has one, and otherwise fails.
 -- Examples: to `i8`: 127; -128; not 128.
 abbrev pub Narrows : {T E : Type 0} → (T → ℤ) → (ℤ → Type 0) → (ℤ → Result T E → Type 0) → Type 0
 Narrows {T} {E} value fits gives = (n : ℤ) (r : Result T E) → gives n r
     → MatchResult r (λ x. (value x ≡ n) × fits n) (λ _. ¬ (fits n))
 
--- The result is the refusal where the condition does not hold, and what the rest says where it holds.
+-- The result is what the rest says if the condition holds, and otherwise the refusal.
 -- Examples: that 0 is not 0, `ZeroDivisor`: `ZeroDivisor`; that 3 is not 0: the rest.
 abbrev pub Needs : Type 0 → Refusal → (Result Answer Refusal → Type 0) → Result Answer Refusal → Type 0
 Needs P refusal rest r = (¬ P × (r ≡ Err refusal)) ⊎ (P × rest r)
@@ -69,12 +69,12 @@ pub record AnswersWhether (P : Type 0) (r : Result Answer Refusal) : Type 0 wher
   pub is : r ≡ Ok (Truth truth)
   pub tells : IsTrue truth ↔ P
 
--- The result is `ZeroDivisor` where the divisor is 0, and what the rest says elsewhere.
+-- The result is `ZeroDivisor` if the divisor is 0, and otherwise what the rest says.
 -- Examples: 0: `ZeroDivisor`; 3: the rest; -1: the rest.
 abbrev pub NeedsDivisor : ℤ → (Result Answer Refusal → Type 0) → Result Answer Refusal → Type 0
 NeedsDivisor d = Needs (d ≢ pos 0) ZeroDivisor
 
--- The result is `NotFitting` where a number with the property does not fit, and what the rest says elsewhere.
+-- The result is `NotFitting` if a number with the property does not fit, and otherwise what the rest says.
 -- Examples: in `i8`, the quotient of -128 by -1: `NotFitting`; of -128 by 2: the rest; of 7 by 2: the rest.
 abbrev pub NeedsFitting : (ℤ → Type 0) → (ℤ → Type 0) → (Result Answer Refusal → Type 0) → Result Answer Refusal → Type 0
 NeedsFitting fits P = Needs (EachFits fits P) NotFitting
@@ -85,7 +85,7 @@ pub record AreGcdAndLcm (a b g l : ℤ) : Type 0 where
   pub greatest : IsGreatestCommonDivisor a b g
   pub least : IsLeastCommonMultiple a b l
 
--- The number has a root of the degree: it is not negative where the degree is even.
+-- The number has a root of the degree: if the degree is even, it is not negative.
 -- Examples: -8 at 3; 4 at 2; not -4 at 2.
 abbrev pub HasRoot : ℤ → ℤ → Type 0
 HasRoot x n = unsigned_abs n % 2 ≡ 0 → pos 0 ≤ℤ x
@@ -95,23 +95,23 @@ HasRoot x n = unsigned_abs n % 2 ≡ 0 → pos 0 ≤ℤ x
 abbrev pub AreCounts : ℤ → ℤ → Type 0
 AreCounts n k = (pos 0 ≤ℤ n) × (pos 0 ≤ℤ k)
 
--- The result is `NotFitting` where a part of the exact result of a/b lies outside `i64`, and what the rest says elsewhere.
+-- The result is `NotFitting` if a part of the exact result of a/b does not fit in `i64`, and otherwise what the rest says.
 -- Examples: 1/MIN: `NotFitting`; MIN/2: the rest; 6/-4: the rest.
 abbrev pub NeedsInsideI64 : ℤ → ℤ → (Result Answer Refusal → Type 0) → Result Answer Refusal → Type 0
 NeedsInsideI64 a b = Needs (¬ (IsOutsideI64 a b)) NotFitting
 
--- The result is `NotFitting` where a part of the exact result of a/b lies outside `i64`, and its two parts elsewhere.
+-- The result is `NotFitting` if a part of the exact result of a/b does not fit in `i64`, and otherwise its two parts.
 -- Examples: 5/6: 5 and 6; 6/-4: -3 and 2; 1/MIN: `NotFitting`.
 abbrev pub AnswersExact : ℤ → ℤ → Result Answer Refusal → Type 0
 AnswersExact a b = NeedsInsideI64 a b (AnswersTwo (IsExact a b))
 
--- The result is `ZeroDivisor` where b or d is 0, then `NotFitting` where a part of the exact result of a/b or of c/d lies
--- outside `i64`, and what the rest says elsewhere.
+-- The result is `ZeroDivisor` if b or d is 0, then `NotFitting` if a part of the exact result of a/b or of c/d does not fit
+-- in `i64`, and otherwise what the rest says.
 -- Examples: 1/2 and 1/3: the rest; 1/MIN and 0/1: `NotFitting`; 1/MIN and 1/0: `ZeroDivisor`.
 abbrev pub NeedsFractions : (a b c d : ℤ) → (Result Answer Refusal → Type 0) → Result Answer Refusal → Type 0
 NeedsFractions a b c d rest = NeedsDivisor b (NeedsDivisor d (NeedsInsideI64 a b (NeedsInsideI64 c d rest)))
 
--- The row of a call, at operands of the type, has the refusals in their order, and then the answer.
+-- The result of a call whose operands fit: the first refusal whose condition holds, and otherwise the answer.
 -- Examples: `DivFloor` 7 by 0: `ZeroDivisor`; in `i8` -128 by -1: `NotFitting`; 7 by 2: 3.
 unfoldable pub Inside : (ℤ → Type 0) → Call → Result Answer Refusal → Type 0
 Inside fits (DivRem n d) =
@@ -160,22 +160,22 @@ Inside fits (RatioMul a b c d) =
     NeedsFractions a b c d (AnswersExact (a *ℤ c) (b *ℤ d))
 
 -- Each of the numbers fits.
--- Examples: in `u8`: 0 and 255; none; not 0 and 256.
+-- Examples: in `u8`: 0 and 255; no number at all; not 0 and 256.
 abbrev pub AllFit : (ℤ → Type 0) → List ℤ → Type 0
 AllFit fits [] = ⊤
 AllFit fits (n ∷ ns) = fits n × AllFit fits ns
 
--- The parts of two fractions lie in `i64`.
+-- The parts of two fractions fit in `i64`.
 -- Examples: 1, 2, 1 and 3; MIN, 1, 0 and 1; not 2^63, 1, 0 and 1.
 abbrev pub PartsFit : (a b c d : ℤ) → Type 0
 PartsFit a b c d = AllFit (FitsKind I64) (a ∷ b ∷ c ∷ d ∷ [])
 
--- The result is `OutOfType` where a part lies outside `i64`, and else what `NeedsFractions` says.
+-- The result is `OutOfType` if a part does not fit in `i64`, and otherwise what `NeedsFractions` says.
 -- Examples: 2^63/0 and 1/2: `OutOfType`; 1/0 and 1/2: `ZeroDivisor`; 1/2 and 1/3: the rest.
 abbrev pub NeedsParts : (a b c d : ℤ) → (Result Answer Refusal → Type 0) → Result Answer Refusal → Type 0
 NeedsParts a b c d rest = Needs (PartsFit a b c d) OutOfType (NeedsFractions a b c d rest)
 
--- The operands lie in the type, a degree lies in `u32`, and parts of fractions lie in `i64`.
+-- The operands fit in the type, a degree fits in `u32`, and parts of fractions fit in `i64`.
 -- Examples: in `i8`: `Gcd(-128, 127)`; `NthRoot(127, 200)`; not `Gcd(128, 1)`.
 abbrev pub OperandsFit : (ℤ → Type 0) → Call → Type 0
 OperandsFit fits (NthRoot x n) = fits x × FitsUnsignedBits 32 n
@@ -183,7 +183,7 @@ OperandsFit fits (RatioAdd a b c d) = PartsFit a b c d
 OperandsFit fits (RatioMul a b c d) = PartsFit a b c d
 OperandsFit fits call = AllFit fits (operands_of call)
 
--- In a type the call is refused where an operand lies outside it, and else by its row.
+-- The result of a call at a type: `OutOfType` if an operand does not fit, and otherwise what `Inside` says.
 -- Examples: in `i8`, `DivFloor` 128 by 0: `OutOfType`; 7 by 0: `ZeroDivisor`; 7 by 2: 3.
 abbrev pub OutcomeIn : (ℤ → Type 0) → Call → Result Answer Refusal → Type 0
 OutcomeIn fits call = Needs (OperandsFit fits call) OutOfType (Inside fits call)
@@ -195,14 +195,7 @@ IsMadeAt kind (RatioAdd a b c d) = kind ≡ I64
 IsMadeAt kind (RatioMul a b c d) = kind ≡ I64
 IsMadeAt kind call = ⊤
 
--- The call is none on fractions.
--- Examples: `Gcd(4, 6)`; `Sqrt(9)`; not `RatioAdd(1, 2, 1, 3)`.
-abbrev pub IsOnNumbers : Call → Type 0
-IsOnNumbers (RatioAdd a b c d) = ⊥
-IsOnNumbers (RatioMul a b c d) = ⊥
-IsOnNumbers call = ⊤
-
--- The outcome is `OutOfType` where the call is not made at the kind, and else that in the type of the kind.
+-- The result of a call at a kind: `OutOfType` if the kind does not have the call, and otherwise its result at the type.
 -- Examples: `i64` 7 by 0: `ZeroDivisor`; `i64` MIN by -1, `div_floor`: `NotFitting`; -8 by 3, `div_mod_floor`: -3 and 1.
 abbrev pub Outcome : Kind → Call → Result Answer Refusal → Type 0
 Outcome kind call = Needs (IsMadeAt kind call) OutOfType (OutcomeIn (FitsKind kind) call)

@@ -3,7 +3,7 @@ use Rattle.std.specs.Prelude.{ℕ, List, codes}
 use Rattle.intcalc_core.specs.declared.calls.Refusal.{Refusal}
 use Rattle.intcalc_core.specs.declared.calls.Refusal.TheVariants.{OutOfType, ZeroDivisor, ZeroDegree, NegativeRoot, NegativeCount, NotFitting, NoPair}
 
--- The number of a refusal is printed after `refused`, and is the same in every version.
+-- The number of a refusal is printed after `refused`, and no version changes it.
 -- Examples: `OutOfType`: 1; `ZeroDivisor`: 2; `NoPair`: 7.
 abbrev pub number_of : Refusal → ℕ
 number_of OutOfType = 1

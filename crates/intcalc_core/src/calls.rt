@@ -1,4 +1,4 @@
-//! The kinds, the calls, the answers and the refusals.
+//! The kinds, the calls, the answers and the refusals. A refusal is the reason why a call has no answer.
 
 ghost use Rattle.std.specs.Prelude.{◌≡◌};
 ghost use Rattle.intcalc_core.specs.Refusal.{number_of, name_of};
@@ -12,8 +12,8 @@ pub enum Kind {
     U64,
 }
 
-/// A call with its operands. `evaluate` refuses an operand outside the kind, a degree outside `u32`, and
-/// parts of fractions outside `i64`.
+/// A call with its operands. The operands fit in the kind, a degree fits in `u32`, and the parts of
+/// fractions fit in `i64`; otherwise `evaluate` returns `OutOfType`.
 #[derive(Debug, Clone, Copy, PartialEq, Eq)]
 pub enum Call {
     DivRem(i128, i128),
@@ -40,7 +40,7 @@ pub enum Call {
     RatioMul(i128, i128, i128, i128),
 }
 
-/// The numbers of an answer, or a truth value.
+/// One to three numbers, or a truth value.
 #[derive(Debug, Clone, Copy, PartialEq, Eq)]
 pub enum Answer {
     One(i128),
@@ -52,8 +52,8 @@ pub enum Answer {
 /// Why a call has no answer.
 #[derive(Debug, Clone, Copy, PartialEq, Eq)]
 pub enum Refusal {
-    /// An operand other than a degree lies outside the kind, a degree lies outside `u32`, or a call on
-    /// fractions is made at a kind other than `i64`.
+    /// An operand other than a degree does not fit in the kind, a degree does not fit in `u32`, or a call
+    /// on fractions is made at a kind other than `i64`.
     OutOfType,
     /// The divisor, or a denominator, is 0.
     ZeroDivisor,
@@ -63,15 +63,16 @@ pub enum Refusal {
     NegativeRoot,
     /// A count is negative.
     NegativeCount,
-    /// The quotient, multiple, divisor or coefficient lies outside the kind, or a part of a reduced
-    /// fraction lies outside `i64`.
+    /// The quotient, multiple, divisor or coefficient does not fit in the kind, or a part of a fraction
+    /// in lowest terms does not fit in `i64`.
     NotFitting,
     /// The kind is unsigned, and neither operand divides the other.
     NoPair,
 }
 
 impl Refusal {
-    /// Returns the number that is printed, which is the same in every version. `OutOfType` has 1.
+    /// Returns the number that `intcalc` prints, which no version changes.
+    /// `Refusal::OutOfType.number()` is `1`.
     pub fn number(&self) -> u32
         ensures { result ≡ number_of self.now }
     {
@@ -86,7 +87,7 @@ impl Refusal {
         }
     }
 
-    /// Returns the name that is printed. `OutOfType` has `"OutOfType"`.
+    /// Returns the name that `intcalc` prints. `Refusal::OutOfType.name()` is `"OutOfType"`.
     pub fn name(&self) -> &'static str
         ensures { result.now ≡ name_of self.now }
     {

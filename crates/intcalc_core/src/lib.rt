@@ -1,4 +1,4 @@
-//! One call of `num_integer` or `ratio64` at the type of a kind: its answer, or why it is refused.
+//! One call of `num_integer` or `ratio64` at the type of a kind: its answer, or the reason why it has no answer.
 #![tactic(auto)]
 
 mod calls;

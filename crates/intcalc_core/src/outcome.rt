@@ -1,6 +1,7 @@
 //! The outcome of a call at a kind.
 
-ghost use Rattle.intcalc_core.specs.Outcome.{FitsKind, IsOnNumbers, Narrows, Outcome, OutcomeIn};
+ghost use Rattle.std.specs.Prelude.{◌↔◌, IsTrue};
+ghost use Rattle.intcalc_core.specs.Outcome.{IsMadeAt, Narrows, Outcome, OutcomeIn};
 
 mod fractions;
 mod operand;
@@ -10,43 +11,36 @@ use crate::calls::{Answer, Call, Kind, Refusal};
 use operand::{Operand, narrow, narrow_both, needs};
 use std::num::TryFromIntError;
 
-/// Returns the answer of the call at the kind, or why it is refused.
-/// `evaluate(Kind::I64, Call::DivModFloor(-8, 3))` is `Ok(Answer::Two(-3, 1))`.
+/// Returns the answer of the call at the kind, or the reason why it has no answer.
+/// `evaluate(Kind::I64, Call::DivModFloor(-8, 3))` is `Ok(Answer::Two(-3, 1))`, and
+/// `evaluate(Kind::U8, Call::Gcd(256, 0))` is `Err(Refusal::OutOfType)`.
 pub fn evaluate(kind: Kind, call: Call) -> Result<Answer, Refusal>
     ensures { Outcome kind call result }
 {
-    match call {
-        Call::RatioAdd(a, b, c, d) => {
-            needs(matches!(kind, Kind::I64), Refusal::OutOfType)?;
-            fractions::ratio_add(a, b, c, d)
-        }
-        Call::RatioMul(a, b, c, d) => {
-            needs(matches!(kind, Kind::I64), Refusal::OutOfType)?;
-            fractions::ratio_mul(a, b, c, d)
-        }
-        _ => evaluate_numbers(kind, &call),
-    }
-}
-
-/// Returns the answer of a call on numbers.
-fn evaluate_numbers(kind: Kind, call: &Call) -> Result<Answer, Refusal>
-    requires numbers { IsOnNumbers call.now }
-    ensures { OutcomeIn (FitsKind kind) call.now result }
-{
+    needs(is_made_at(kind, &call), Refusal::OutOfType)?;
     match kind {
-        Kind::I8 => evaluate_at::<i8>(call),
-        Kind::U8 => evaluate_at::<u8>(call),
-        Kind::I64 => evaluate_at::<i64>(call),
-        Kind::U64 => evaluate_at::<u64>(call),
+        Kind::I8 => evaluate_at::<i8>(&call),
+        Kind::U8 => evaluate_at::<u8>(&call),
+        Kind::I64 => evaluate_at::<i64>(&call),
+        Kind::U64 => evaluate_at::<u64>(&call),
     }
 }
 
-/// Returns the answer of a call on numbers at the type of a kind.
+/// Returns whether the call exists at the kind: a call on fractions exists only at `i64`.
+fn is_made_at(kind: Kind, call: &Call) -> bool
+    ensures { IsTrue result ↔ IsMadeAt kind call.now }
+{
+    match call {
+        Call::RatioAdd(..) | Call::RatioMul(..) => matches!(kind, Kind::I64),
+        _ => true,
+    }
+}
+
+/// Returns the answer of a call at the type of a kind. The parts of fractions are `i64` at every kind.
 fn evaluate_at<T: Operand + TryFrom<i128, Error = TryFromIntError>>(
     call: &Call,
 ) -> Result<Answer, Refusal>
-    requires numbers { IsOnNumbers call.now }
-    requires narrows { Narrows T.value T.fits T.try_from_gives }
+    requires { Narrows T.value T.fits T.try_from_gives }
     ensures { OutcomeIn T.fits call.now result }
 {
     match call {
@@ -68,6 +62,7 @@ fn evaluate_at<T: Operand + TryFrom<i128, Error = TryFromIntError>>(
         Call::Cbrt(x) => rows::cbrt::<T>(narrow(*x)?),
         Call::NthRoot(x, n) => rows::nth_root::<T>(narrow(*x)?, narrow(*n)?),
         Call::Binomial(n, k) => rows::binomial::<T>(narrow_both(*n, *k)?),
-        Call::RatioAdd(..) | Call::RatioMul(..) => unreachable!("a call on fractions"),
+        Call::RatioAdd(a, b, c, d) => fractions::ratio_add::<T>(*a, *b, *c, *d),
+        Call::RatioMul(a, b, c, d) => fractions::ratio_mul::<T>(*a, *b, *c, *d),
     }
 }

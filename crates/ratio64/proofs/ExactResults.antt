@@ -1,12 +1,12 @@
 -- The exact result of a fraction: its parts by the gcd with the sign of the denominator.
-use Rattle.std.specs.Prelude.{◌≡◌, ◌≢◌, ◌⊎◌, ◌<ℤ◌, ◌≤ℤ◌, ◌*ℤ◌, ℤ, pos, negsuc, neg_ℤ, int_div}
-use Rattle.std.proofs.Common.{arith, refl, inl, inr, subst, ◌∙◌}
+use Rattle.std.specs.Prelude.{◌≡◌, ◌≢◌, ◌⊎◌, ◌↔◌, ◌<ℤ◌, ◌≤ℤ◌, ◌*ℤ◌, ℤ, pos, negsuc, neg_ℤ, int_div}
+use Rattle.std.proofs.Common.{arith, refl, inl, inr, subst, sym, ◌∙◌}
 use Rattle.std.proofs.lemmas.Int.{ints}
-use Rattle.num_integer.proofs.ForCallers.{Divides-cancel, Divides-times, Divides-trans, cancel, exact_quotient, expand, gcd-nonzero, linear, mul-one, products}
+use Rattle.num_integer.proofs.ForCallers.{Divides-cancel, Divides-refl, Divides-times, Divides-trans, cancel, comm, divisor_at_most, exact_quotient, expand, gcd-nonzero, linear, mul-one, one_divides, products}
 use Rattle.num_integer.proofs.Laws.{gcd_exists}
 use Rattle.num_integer.specs.Divisors.{Divides, IsGreatestCommonDivisor}
-use Rattle.ratio64.specs.Fraction.{AreEqual, IsExact, IsFraction}
-use Rattle.ratio64.specs.ReducedPairs.{same_pair}
+use Rattle.ratio64.specs.Fraction.{AreEqual, IsExact, IsFraction, IsReduced}
+use Rattle.ratio64.specs.ReducedPairs.{positive_is_nonzero, same_pair}
 
 -- ---- it exists
 
@@ -40,7 +40,7 @@ coprime_parts {a} {b} {g} {s} {p} {q} nonzero x h e f = record {
 equal_parts : {a b p q : ℤ} (s : ℤ) → a ≡ s *ℤ p → b ≡ s *ℤ q → AreEqual a b p q
 equal_parts s e f = record { cross = rw (e, f) (simp expand) }
 
--- b by a number of its sign is above 0
+-- b by a number of its sign is positive
 positive_quotient : (b g s q : ℤ) → b ≢ pos 0 → pos 0 ≤ℤ g → IsSigned b g s → b ≡ s *ℤ q → pos 0 <ℤ q
 positive_quotient b g s q nonzero up h e = elim h.sign [
   | inl below ↦ grind (arith, products)
@@ -64,7 +64,7 @@ exact_quotients {a} {b} {g} {s} fraction x h =
       equal = equal_parts s left right;
     }
 
--- where the gcd is at most 1, and the denominator not below 0, the parts are their own
+-- if the gcd is at most 1 and the denominator is not negative, the parts are the exact result
 pub coprime_is_exact : {a b g : ℤ} → IsFraction a b → pos 0 ≤ℤ b → IsGreatestCommonDivisor a b g → g ≤ℤ pos 1 → IsExact a b a b
 coprime_is_exact {a} {b} {g} fraction up x small =
     let nonzero = gcd-nonzero x fraction in
@@ -98,3 +98,45 @@ only_exact_result x y = same_pair x.reduced y.reduced (equal_through x.fraction 
 -- equal fractions have the same
 pub same_result : {a b c d p q : ℤ} → IsFraction c d → AreEqual a b c d → IsExact a b p q → IsExact c d p q
 same_result fraction e x = record { fraction = fraction; reduced = x.reduced; equal = equal_through x.fraction e x.equal }
+
+-- ---- fractions that are reduced already
+
+pub reduced_is_exact : {n d : ℤ} → IsReduced n d → IsExact n d n d
+reduced_is_exact x = record { fraction = positive_is_nonzero x.positive; reduced = x; equal = record { cross = refl } }
+
+-- a number over 1
+pub whole_is_exact : (n : ℤ) → IsExact n (pos 1) n (pos 1)
+whole_is_exact n = reduced_is_exact (record {
+  positive = omega (arith, ints);
+  lowest = record {
+    from_zero = omega (arith, ints);
+    divides_left = record { factor = n; product = sym (comm (pos 1) n ∙ mul-one n) };
+    divides_right = record { factor = pos 1; product = omega (arith, ints) };
+    greatest = λ d left right. right;
+  };
+})
+
+-- a fraction whose numerator is 0 is 0/1
+pub zero_is_over_one : {n d : ℤ} → IsReduced n d → n ≡ pos 0 → d ≡ pos 1
+zero_is_over_one {n} {d} x none = (same_pair x (whole_is_exact (pos 0)).reduced (record { cross = rw none (omega (arith, products)) })).1
+
+-- the denominator divides the numerator exactly if it is 1
+pub whole_exactly : {n d : ℤ} → IsReduced n d → Divides d n ↔ (d ≡ pos 1)
+whole_exactly {n} {d} x = (
+  λ h. omega (arith, linear, x.positive, divisor_at_most (omega (arith, linear)) (x.lowest.greatest d h (Divides-refl d))),
+  λ one. rw one (one_divides n),
+)
+
+-- ---- integers
+
+-- a multiple of the denominator has the quotient over 1 as its exact result
+pub quotient_is_exact : {a b : ℤ} → IsFraction a b → (h : Divides b a) → IsExact a b h.factor (pos 1)
+quotient_is_exact {a} {b} fraction h = record {
+  fraction = fraction;
+  reduced = (whole_is_exact h.factor).reduced;
+  equal = record { cross = mul-one a ∙ h.product ∙ comm b h.factor };
+}
+
+-- a fraction whose exact result has the denominator 1 is a multiple of its denominator
+pub whole_is_multiple : {a b n d : ℤ} → IsExact a b n d → d ≡ pos 1 → Divides b a
+whole_is_multiple {a} {b} {n} h one = record { factor = n; product = sym (mul-one a) ∙ rw one at h.equal.cross ∙ comm n b }

@@ -1,5 +1,5 @@
--- The answers to a fraction: its exact result, or a refusal.
-use Rattle.std.specs.Prelude.{◌≡◌, ◌≢◌, ◌↔◌, ◌*ℤ◌, ℤ, pos, Result, Ok, Err, FitsSigned}
+-- What a call returns for a fraction: its exact result, or an error.
+use Rattle.std.specs.Prelude.{◌≡◌, ◌≢◌, ◌↔◌, ◌*ℤ◌, ℤ, pos, Result, Ok, Err, FitsSigned, IsOk}
 use Rattle.std.specs.Int.{w64}
 use Rattle.std.proofs.Common.{ap, arith, inl, inr, refl, subst, sym, ◌∙◌}
 use mathlib.Core.HLevel.{is_prop→PathP}
@@ -19,7 +19,7 @@ use Rattle.ratio64.specs.declared.error.RatioError.TheVariants.{ZeroDenominator,
 pub only_of_parts : RatioOfPartsIsOnly
 only_of_parts x y p q = λ i. record { num = p i; den = q i; reduced = is_prop→PathP (λ i. IsReduced (p i) (q i)) (λ i. IsReduced-prop (p i) (q i)) x.reduced y.reduced i }
 
--- so the exact result is one, and each refusal is told by its condition
+-- so the exact result is one, and each error is told by its condition
 pub only_answer : AnswerIsOnly
 only_answer a b (Ok x) (Ok y) h k =
     let same = only_exact_result h.exact k.exact in
@@ -31,7 +31,7 @@ only_answer a b (Err NotFitting) s h k = sym (k.not_fitting.1 (h.not_fitting.0 r
 
 -- ---- what they say
 
--- where the parts of the exact result fit, none lies outside
+-- if the parts of the exact result fit, it is not outside
 pub exact_is_inside : {a b n d : ℤ} → IsExact a b n d → FitsSigned w64 n → FitsSigned w64 d → ¬ (IsOutsideI64 a b)
 exact_is_inside exact num_fits den_fits far =
     let same = only_exact_result exact far.exact in
@@ -47,10 +47,24 @@ exact_answer x exact num_fits den_fits = record {
   not_fitting = (λ e. absurd cc, λ far. absurd (exact_is_inside exact num_fits den_fits far));
 }
 
--- a product is 0 exactly where its first factor is, if its second is not
+-- a product whose second factor is not 0 is 0 exactly if its first factor is
 pub zero_factor : {c b : ℤ} → b ≢ pos 0 → (c *ℤ b ≡ pos 0) ↔ (c ≡ pos 0)
 zero_factor {c} {b} nonzero = (λ e. cancel b c (pos 0) nonzero (comm b c ∙ e ∙ omega (arith, products)), λ none. rw none (omega (arith, products)))
 
--- so what is over a product is refused for its first factor alone
+-- so over a product only the first factor gives `ZeroDenominator`
 pub zero_exactly : {a b c : ℤ} {r : Result Ratio RatioError} → b ≢ pos 0 → AnswersFraction a (c *ℤ b) r → (r ≡ Err ZeroDenominator) ↔ (c ≡ pos 0)
 zero_exactly nonzero h = (λ e. (zero_factor nonzero).0 (h.zero_denominator.0 e), λ none. h.zero_denominator.1 ((zero_factor nonzero).1 none))
+
+-- `Ok`: both parts fit
+pub ok_is_inside : {a b : ℤ} {x : Ratio} → AnswersFraction a b (Ok x) → ¬ (IsOutsideI64 a b)
+ok_is_inside h far = let e = h.not_fitting.1 far in absurd cc
+
+-- `Err`, of a fraction: one of them does not
+pub err_is_outside : {a b : ℤ} (e : RatioError) → b ≢ pos 0 → AnswersFraction a b (Err e) → IsOutsideI64 a b
+err_is_outside ZeroDenominator fraction h = absurd (fraction (h.zero_denominator.0 refl))
+err_is_outside NotFitting fraction h = h.not_fitting.0 refl
+
+-- a fraction whose parts fit gives no error
+pub answer_is_ok : {a b : ℤ} {r : Result Ratio RatioError} → b ≢ pos 0 → ¬ (IsOutsideI64 a b) → AnswersFraction a b r → IsOk r
+answer_is_ok {r = Ok x} fraction inside h = refl
+answer_is_ok {r = Err e} fraction inside h = absurd (inside (err_is_outside e fraction h))

@@ -1,54 +1,25 @@
 -- Powers of reduced pairs are reduced, and those of equal fractions equal.
-use Rattle.std.specs.Prelude.{◌≡◌, ◌≢◌, ◌<◌, ◌≤◌, ◌*◌, ◌^◌, ◌%◌, ◌==◌, ◌<ℤ◌, ◌*ℤ◌, ℤ, ℕ, Bool, pos, negsuc, neg_ℤ, zero, suc, unsigned_abs, FitsSigned}
+use Rattle.std.specs.Prelude.{◌≡◌, ◌≢◌, ◌<◌, ◌≤◌, ◌^◌, ◌<ℤ◌, ◌*ℤ◌, ℤ, ℕ, pos, negsuc, zero, suc, unsigned_abs, FitsSigned}
 use Rattle.std.specs.Int.{int_pow, w64}
-use Rattle.std.proofs.Common.{arith, ap, refl, sym, ◌∙◌, true, false, cond, zero-mul}
-use Rattle.std.proofs.Math.Nat.{one-le-pow, pow-zero, pow-succ', mul-le-mul_left}
+use Rattle.std.proofs.Common.{arith, ap, sym, ◌∙◌, zero-mul}
+use Rattle.std.proofs.Math.Nat.{one-le-pow, pow-succ', mul-le-mul_left}
 use Rattle.std.proofs.lemmas.Int.{ints}
-use Rattle.std.proofs.lemmas.Nat.{mul-pow}
-use Rattle.num_integer.proofs.ForCallers.{Divides-trans, comm, coprime_divides, mul-neg, one_divides, power_size, products, sizes}
+use Rattle.num_integer.proofs.ForCallers.{Divides-trans, coprime_divides, expand, int_pow-suc, int_pow-zero, one_divides, power_size, products, sizes}
 use Rattle.num_integer.specs.Divisors.{IsGreatestCommonDivisor}
 use Rattle.ratio64.specs.Fraction.{AreEqual, IsReduced}
-use Rattle.ratio64.proofs.ReducedParts.{negated_coprime}
+use Rattle.ratio64.proofs.WideSums.{part_size}
 
--- ---- powers of whole numbers
+-- ---- powers of integers
 
--- a negative base at even and at odd degrees
-abbrev pub with_sign : Bool → ℤ → ℤ
-with_sign even u = cond even u (neg_ℤ u)
-
-times_signed : (even : Bool) (u v : ℤ) → u *ℤ with_sign even v ≡ with_sign even (u *ℤ v)
-times_signed true u v = refl
-times_signed false u v = mul-neg u v
-
-both_signed : (even : Bool) (u v : ℤ) → with_sign even u *ℤ with_sign even v ≡ u *ℤ v
-both_signed true u v = refl
-both_signed false u v = grind (arith, products)
-
-signed_zero : (even : Bool) → pos 0 ≡ with_sign even (pos 0)
-signed_zero true = refl
-signed_zero false = refl
-
-power_of_negation : (m k : ℕ) → int_pow (neg_ℤ (pos m)) k ≡ with_sign (k % 2 == 0) (pos (m ^ k))
-power_of_negation (suc m) k = refl
-power_of_negation zero zero = refl
-power_of_negation zero (suc k) = let none : 0 ^ suc k ≡ 0 = pow-succ' 0 k ∙ zero-mul (0 ^ k) in rw none (signed_zero (suc k % 2 == 0))
-
-times_negative : (m n k : ℕ) → int_pow (pos m *ℤ negsuc n) k ≡ int_pow (pos m) k *ℤ int_pow (negsuc n) k
-times_negative m n k =
-    let product : pos m *ℤ negsuc n ≡ neg_ℤ (pos (m * suc n)) = mul-neg (pos m) (pos (suc n)) in
-    ap (λ (t : ℤ). int_pow t k) product
-    ∙ power_of_negation (m * suc n) k
-    ∙ ap (λ (t : ℕ). with_sign (k % 2 == 0) (pos t)) (mul-pow m (suc n) k)
-    ∙ sym (times_signed (k % 2 == 0) (pos (m ^ k)) (pos (suc n ^ k)))
+exchanged : (x y p q : ℤ) → (x *ℤ y) *ℤ (p *ℤ q) ≡ (x *ℤ p) *ℤ (y *ℤ q)
+exchanged x y p q = simp expand
 
 -- the power of a product
 pub power_of_product : (x y : ℤ) (k : ℕ) → int_pow (x *ℤ y) k ≡ int_pow x k *ℤ int_pow y k
-power_of_product (pos m) (pos n) k = ap pos (mul-pow m n k)
-power_of_product (pos m) (negsuc n) k = times_negative m n k
-power_of_product (negsuc m) (pos n) k = ap (λ (t : ℤ). int_pow t k) (comm (negsuc m) (pos n)) ∙ times_negative n m k ∙ comm (int_pow (pos n) k) (int_pow (negsuc m) k)
-power_of_product (negsuc m) (negsuc n) k = ap pos (mul-pow (suc m) (suc n) k) ∙ sym (both_signed (k % 2 == 0) (pos (suc m ^ k)) (pos (suc n ^ k)))
+power_of_product x y zero = rw (int_pow-zero (x *ℤ y), int_pow-zero x, int_pow-zero y) (omega (arith, products))
+power_of_product x y (suc k) = rw (int_pow-suc (x *ℤ y) k, int_pow-suc x k, int_pow-suc y k, power_of_product x y k) (exchanged x y (int_pow x k) (int_pow y k))
 
--- it is not 0 where the number is not
+-- it is not 0 if the number is not
 pub power_nonzero : (x : ℤ) (k : ℕ) → x ≢ pos 0 → int_pow x k ≢ pos 0
 power_nonzero x k nonzero none =
     let some : 0 < unsigned_abs x = omega (arith, sizes) in
@@ -63,12 +34,7 @@ power_positive : (x : ℤ) (k : ℕ) → pos 0 <ℤ x → pos 0 <ℤ int_pow x k
 power_positive (pos n) k up = omega (arith, ints, one-le-pow k n (omega (arith, ints)))
 power_positive (negsuc n) k up = absurd (omega (arith, ints))
 
--- where it fits, so does the number
-signed_fits : (even : Bool) (n m : ℕ) → suc n ≤ m → FitsSigned w64 (with_sign even (pos m)) → FitsSigned w64 (negsuc n)
-signed_fits true n m h fits = let low = fits.sfits in record { sfits = omega (arith, ints) }
-signed_fits false n zero h fits = absurd (omega arith)
-signed_fits false n (suc m) h fits = let low = fits.sfits in record { sfits = omega (arith, ints) }
-
+-- if it fits, so does the number
 at_most_power : (n k : ℕ) → 0 < k → n ≤ n ^ k
 at_most_power zero k up = omega arith
 at_most_power (suc n) zero up = absurd (omega arith)
@@ -76,7 +42,7 @@ at_most_power (suc n) (suc k) up = rw (pow-succ' (suc n) k) (omega (arith, mul-l
 
 pub base_fits : (x : ℤ) (k : ℕ) → 0 < k → FitsSigned w64 (int_pow x k) → FitsSigned w64 x
 base_fits (pos n) k up fits = let low = fits.sfits in record { sfits = omega (arith, at_most_power n k up) }
-base_fits (negsuc n) k up fits = signed_fits (k % 2 == 0) n (suc n ^ k) (at_most_power (suc n) k up) fits
+base_fits (negsuc n) k up fits = record { sfits = omega (arith, at_most_power (suc n) k up, power_size (negsuc n) k, part_size (int_pow (negsuc n) k) fits) }
 
 -- ---- powers of fractions
 
@@ -91,17 +57,9 @@ coprime_product {a} {b} {c} x y = record {
       y.greatest e (coprime_divides apart left) right;
 }
 
-natural_coprime : (n k : ℕ) {c : ℤ} → IsGreatestCommonDivisor (pos n) c (pos 1) → IsGreatestCommonDivisor (pos (n ^ k)) c (pos 1)
-natural_coprime n zero {c} x = rw (pow-zero n) (record { from_zero = x.from_zero; divides_left = one_divides _; divides_right = one_divides c; greatest = λ e left right. left })
-natural_coprime n (suc k) x = rw (pow-succ' n k) (coprime_product x (natural_coprime n k x))
-
-signed_coprime : (even : Bool) {u c : ℤ} → IsGreatestCommonDivisor u c (pos 1) → IsGreatestCommonDivisor (with_sign even u) c (pos 1)
-signed_coprime true x = x
-signed_coprime false x = negated_coprime x
-
 power_coprime : (x : ℤ) (k : ℕ) {c : ℤ} → IsGreatestCommonDivisor x c (pos 1) → IsGreatestCommonDivisor (int_pow x k) c (pos 1)
-power_coprime (pos n) k h = natural_coprime n k h
-power_coprime (negsuc n) k h = signed_coprime (k % 2 == 0) (natural_coprime (suc n) k (negated_coprime h))
+power_coprime x zero {c} h = rw (int_pow-zero x) (record { from_zero = h.from_zero; divides_left = one_divides _; divides_right = one_divides c; greatest = λ e left right. left })
+power_coprime x (suc k) h = rw (int_pow-suc x k) (coprime_product h (power_coprime x k h))
 
 gcd_swapped : {a b : ℤ} → IsGreatestCommonDivisor a b (pos 1) → IsGreatestCommonDivisor b a (pos 1)
 gcd_swapped x = record { from_zero = x.from_zero; divides_left = x.divides_right; divides_right = x.divides_left; greatest = λ e left right. x.greatest e right left }

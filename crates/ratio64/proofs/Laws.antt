@@ -52,7 +52,7 @@ rounded_is_only = numbers.only_rounded
 
 -- ---- small denominators
 
--- two nearest fractions tie, so neither denominator is the greater, and then neither numerator
+-- two nearest fractions tie, so neither denominator is the larger, and then neither numerator
 pub nearest_is_only : NearestIsOnly
 nearest_is_only = λ n d max num den x (u, v) y.
     let near = x.nearest u v y.positive y.bounded in
@@ -71,7 +71,7 @@ sums_of_equal_fractions = equal.equal_sums
 pub products_of_equal_fractions : ProductsOfEqualFractions
 products_of_equal_fractions = equal.equal_products
 
--- ---- texts
+-- ---- strings
 
 pub reading_is_only : ReadingIsOnly
 reading_is_only = readings.only_reading

@@ -1,6 +1,8 @@
 pub mod ExactResults
 pub mod ForCallers
 pub mod FractionAnswers
+pub mod FittingParts
+pub mod Comparisons
 pub mod Laws
 pub mod ReadTexts
 pub mod OnlyReadings

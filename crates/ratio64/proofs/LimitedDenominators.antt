@@ -1,4 +1,4 @@
--- A whole number and the nearer neighbour of the rest.
+-- An integer and the nearer neighbour of the rest.
 use Rattle.std.specs.Prelude.{◌≡◌, ◌<◌, ◌≤◌, ◌+◌, ◌*◌, ◌^◌, ◌<ℤ◌, ◌≤ℤ◌, ◌+ℤ◌, ◌-ℤ◌, ◌*ℤ◌, ℤ, ℕ, pos, neg_ℤ, unsigned_abs, FitsSigned}
 use Rattle.std.specs.Int.{w64}
 use Rattle.std.proofs.Common.{arith, ap, sym, ◌∙◌, inl, inr, subst}
@@ -17,7 +17,7 @@ use Rattle.ratio64.proofs.ReducedParts.{remainder_reduced}
 
 -- ---- a denominator up to the limit
 
--- a fraction that is equal to a reduced one has its denominator or a greater one
+-- a fraction that is equal to a reduced one has at least its denominator
 least_denominator : {n d v : ℤ} (u : ℤ) → IsReduced n d → pos 0 <ℤ v → n *ℤ v ≡ u *ℤ d → d ≤ℤ v
 least_denominator {n} {d} {v} u x up e = divisor_at_most up (coprime_divides x.lowest (record { factor = u; product = e ∙ comm u d }))
 
@@ -54,9 +54,9 @@ lowest_natural {n} {d} x a b up e =
     let at_most : pos d ≤ℤ pos b = least_denominator {n = pos n} {d = pos d} {v = pos b} (pos a) x (omega (arith, ints)) (ap pos e) in
     omega (arith, ints)
 
--- ---- the whole number added
+-- ---- the integer added
 
--- m/D is the whole number w and n/d more, where D is d
+-- m/D is the integer w and n/d more, and D is d
 pub record IsSplit (m bottom w : ℤ) (n d : ℕ) : Type 0 where
   pub den : pos d ≡ bottom
   pub equation : m ≡ w *ℤ pos d +ℤ pos n
@@ -85,15 +85,9 @@ nearer_bounded h s = elim s.is [
   | inr k ↦ rw k.0 h.bounded.1
 ]
 
-whole_below : (w d n a b g m : ℤ) → m ≡ w *ℤ d +ℤ n → n *ℤ b ≡ a *ℤ d +ℤ g → m *ℤ b ≡ (w *ℤ b +ℤ a) *ℤ d +ℤ g
-whole_below w d n a b g m e h =
-    let each = simp expand at h in
-    rw e (simp expand (omega (arith, linear)))
-
-whole_above : (w d n a b g m : ℤ) → m ≡ w *ℤ d +ℤ n → a *ℤ d ≡ n *ℤ b +ℤ g → (w *ℤ b +ℤ a) *ℤ d ≡ m *ℤ b +ℤ g
-whole_above w d n a b g m e h =
-    let each = simp expand at h in
-    rw e (simp expand (omega (arith, linear)))
+-- what is left by a neighbour stays the same
+whole_left : (w d n a b m : ℤ) → m ≡ w *ℤ d +ℤ n → m *ℤ b -ℤ (w *ℤ b +ℤ a) *ℤ d ≡ n *ℤ b -ℤ a *ℤ d
+whole_left w d n a b m e = rw e (simp expand (omega (arith, linear)))
 
 whole_adjacent : (w a b c e : ℤ) → c *ℤ b ≡ a *ℤ e +ℤ pos 1 → (w *ℤ e +ℤ c) *ℤ b ≡ (w *ℤ b +ℤ a) *ℤ e +ℤ pos 1
 whole_adjacent w a b c e h =
@@ -102,8 +96,9 @@ whole_adjacent w a b c e h =
 
 -- ---- it is reduced
 
-bezout_reduced : (x y a b : ℤ) → pos 0 <ℤ b → x *ℤ a +ℤ y *ℤ b ≡ pos 1 → IsReduced a b
-bezout_reduced x y a b up one = record {
+-- numbers of which a combination is 1
+reduced_by : (x y a b : ℤ) → pos 0 <ℤ b → x *ℤ a +ℤ y *ℤ b ≡ pos 1 → IsReduced a b
+reduced_by x y a b up one = record {
   positive = up;
   lowest = record {
     from_zero = omega (arith, linear);
@@ -113,56 +108,40 @@ bezout_reduced x y a b up one = record {
   };
 }
 
-pair_below : (a b c e : ℤ) → c *ℤ b ≡ a *ℤ e +ℤ pos 1 → neg_ℤ e *ℤ a +ℤ c *ℤ b ≡ pos 1
-pair_below a b c e h =
-    let each = simp expand at h in
-    simp expand (omega (arith, linear))
-
-pair_above : (a b c e : ℤ) → c *ℤ b ≡ a *ℤ e +ℤ pos 1 → b *ℤ c +ℤ neg_ℤ a *ℤ e ≡ pos 1
-pair_above a b c e h =
-    let each = simp expand at h in
-    simp expand (omega (arith, linear))
-
 -- ---- it fits
 
 -- the numerators by the gaps make that of the fraction
 nums_make_num : (n d a b g c e h : ℤ) → n *ℤ b ≡ a *ℤ d +ℤ g → c *ℤ d ≡ n *ℤ e +ℤ h → c *ℤ b ≡ a *ℤ e +ℤ pos 1 → g *ℤ c +ℤ h *ℤ a ≡ n
 nums_make_num n d a b g c e h below above adjacent =
-    let first = ap (λ (t : ℤ). t *ℤ c) below in
-    let second = ap (λ (t : ℤ). t *ℤ a) above in
-    let third : n *ℤ (c *ℤ b) ≡ n *ℤ (a *ℤ e) +ℤ n = ap (λ (t : ℤ). n *ℤ t) adjacent ∙ comm n (a *ℤ e +ℤ pos 1) ∙ dist (a *ℤ e) (pos 1) n ∙ ap (λ (t : ℤ). (a *ℤ e) *ℤ n +ℤ t) (comm (pos 1) n ∙ mul-one n) ∙ ap (λ (t : ℤ). t +ℤ n) (comm (a *ℤ e) n) in
-    let i = simp expand at first in
-    let j = simp expand at second in
-    let k = simp expand at third in
-    simp expand (omega (arith, linear))
+    let i = simp expand at (ap (λ (t : ℤ). t *ℤ c) below) in
+    let j = simp expand at (ap (λ (t : ℤ). t *ℤ a) above) in
+    let k = simp expand at (ap (λ (t : ℤ). n *ℤ t) adjacent) in
+    simp expand (omega (arith, products))
 
--- so each lies from 0 to that, on either side of 0
-parts_up : (g h a c n : ℤ) → pos 0 <ℤ g → pos 0 <ℤ h → pos 0 ≤ℤ a → pos 0 ≤ℤ c → g *ℤ c +ℤ h *ℤ a ≡ n → (a ≤ℤ n) × (c ≤ℤ n)
-parts_up g h a c n g_up h_up a_up c_up e =
-    let first = product_from_zero (g -ℤ pos 1) c (omega (arith, linear)) c_up in
-    let second = product_from_zero (h -ℤ pos 1) a (omega (arith, linear)) a_up in
-    let i = simp expand at first in
-    let j = simp expand at second in
-    (omega (arith, products), omega (arith, products))
+-- so each of two on one side of 0 lies from 0 to that
+both_fit : (g h a c n : ℤ) → FitsSigned w64 n → pos 0 <ℤ g → pos 0 <ℤ h → pos 0 ≤ℤ a → pos 0 ≤ℤ c → g *ℤ c +ℤ h *ℤ a ≡ n → FitsSigned w64 a × FitsSigned w64 c
+both_fit g h a c n fits g_up h_up a_up c_up e =
+    let i = simp expand at (product_from_zero (g -ℤ pos 1) c (omega (arith, linear)) c_up) in
+    let j = simp expand at (product_from_zero (h -ℤ pos 1) a (omega (arith, linear)) a_up) in
+    (up_fits w64 a n fits a_up (omega (arith, products)), up_fits w64 c n fits c_up (omega (arith, products)))
 
-parts_down : (g h a c n : ℤ) → pos 0 <ℤ g → pos 0 <ℤ h → a ≤ℤ pos 0 → c ≤ℤ pos 0 → g *ℤ c +ℤ h *ℤ a ≡ n → (n ≤ℤ a) × (n ≤ℤ c)
-parts_down g h a c n g_up h_up a_down c_down e =
-    let turned : g *ℤ neg_ℤ c +ℤ h *ℤ neg_ℤ a ≡ neg_ℤ n = rw (mul-neg g c, mul-neg h a) (omega (arith, linear)) in
-    let both = parts_up g h (neg_ℤ a) (neg_ℤ c) (neg_ℤ n) g_up h_up (omega (arith, linear)) (omega (arith, linear)) turned in
-    (omega (arith, linear, both.0), omega (arith, linear, both.1))
+both_fit_below : (g h a c n : ℤ) → FitsSigned w64 n → pos 0 <ℤ g → pos 0 <ℤ h → a ≤ℤ pos 0 → c ≤ℤ pos 0 → g *ℤ c +ℤ h *ℤ a ≡ n → FitsSigned w64 a × FitsSigned w64 c
+both_fit_below g h a c n fits g_up h_up a_down c_down e =
+    let i = simp expand at (product_from_zero (g -ℤ pos 1) (neg_ℤ c) (omega (arith, linear)) (omega (arith, linear))) in
+    let j = simp expand at (product_from_zero (h -ℤ pos 1) (neg_ℤ a) (omega (arith, linear)) (omega (arith, linear))) in
+    (down_fits w64 a n fits a_down (omega (arith, products)), down_fits w64 c n fits c_down (omega (arith, products)))
 
--- a whole number at least 0, or below 0, and a part up to 1
+-- an integer and a part from 0 to 1 lie on one side of 0
 part_up : (w b a : ℤ) → pos 0 ≤ℤ w → pos 0 ≤ℤ b → pos 0 ≤ℤ a → pos 0 ≤ℤ (w *ℤ b +ℤ a)
 part_up w b a w_up b_up a_up = let product = product_from_zero w b w_up b_up in omega (arith, linear)
 
 part_down : (w b a : ℤ) → w <ℤ pos 0 → pos 0 ≤ℤ b → a ≤ℤ b → (w *ℤ b +ℤ a) ≤ℤ pos 0
 part_down w b a w_down b_up most =
-    let product = product_from_zero (neg_ℤ w -ℤ pos 1) b (omega (arith, linear)) b_up in
-    let each = simp expand at product in
+    let each = simp expand at (product_from_zero (neg_ℤ w -ℤ pos 1) b (omega (arith, linear)) b_up) in
     let order = comm w b in
     omega (arith, products)
 
--- ---- the nearer neighbour, with the whole number added
+-- ---- the nearer neighbour, with the integer added
 
 module _ {n d max : ℕ} {x y z : Neighbour} {m bottom w : ℤ} (split : IsSplit m bottom w n d) (h : AreNeighbours n d max x y) (none : max < x.den + y.den) (near : IsNearer x y z) where
   abbrev lower : ℤ
@@ -173,8 +152,8 @@ module _ {n d max : ℕ} {x y z : Neighbour} {m bottom w : ℤ} (split : IsSplit
 
   beside : AreBeside m d max lower x.den x.gap upper y.den y.gap
   beside = record {
-    from_below = whole_below w (pos d) (pos n) (pos x.num) (pos x.den) (pos x.gap) m split.equation (ap pos h.from_below);
-    from_above = whole_above w (pos d) (pos n) (pos y.num) (pos y.den) (pos y.gap) m split.equation (ap pos h.from_above);
+    from_below = omega (arith, linear, whole_left w (pos d) (pos n) (pos x.num) (pos x.den) m split.equation, ap pos h.from_below);
+    from_above = omega (arith, linear, whole_left w (pos d) (pos n) (pos y.num) (pos y.den) m split.equation, ap pos h.from_above);
     adjacent = whole_adjacent w (pos x.num) (pos x.den) (pos y.num) (pos y.den) (ap pos h.adjacent);
     positive = (split.up, h.dens.0, h.dens.1, h.gaps.0, h.gaps.1);
     bounded = h.bounded;
@@ -191,32 +170,27 @@ module _ {n d max : ℕ} {x y z : Neighbour} {m bottom w : ℤ} (split : IsSplit
   -- it is reduced
   pub nearer_is_reduced : IsReduced (w *ℤ pos z.den +ℤ pos z.num) (pos z.den)
   nearer_is_reduced =
+      let one = simp expand at beside.adjacent in
       let x_up = h.dens.0 in
       let y_up = h.dens.1 in
       elim near.is [
-        | inl k ↦ rw k.0 (bezout_reduced (neg_ℤ (pos y.den)) upper lower (pos x.den) (omega (arith, ints)) (pair_below lower (pos x.den) upper (pos y.den) beside.adjacent))
-        | inr k ↦ rw k.0 (bezout_reduced (pos x.den) (neg_ℤ lower) upper (pos y.den) (omega (arith, ints)) (pair_above lower (pos x.den) upper (pos y.den) beside.adjacent))
+        | inl k ↦ rw k.0 (reduced_by (neg_ℤ (pos y.den)) upper lower (pos x.den) (omega (arith, ints)) (simp expand (omega (arith, linear))))
+        | inr k ↦ rw k.0 (reduced_by (pos x.den) (neg_ℤ lower) upper (pos y.den) (omega (arith, ints)) (simp expand (omega (arith, linear))))
       ]
 
   -- it fits
   pub nearer_fits : FitsSigned w64 m → FitsSigned w64 (w *ℤ pos z.den +ℤ pos z.num)
   nearer_fits fits =
-      let sum : pos x.gap *ℤ upper +ℤ pos y.gap *ℤ lower ≡ m = nums_make_num m (pos d) lower (pos x.den) (pos x.gap) upper (pos y.den) (pos y.gap) beside.from_below beside.from_above beside.adjacent in
-      let x_gap : pos 0 <ℤ pos x.gap = let some = h.gaps.0 in omega (arith, ints) in
-      let y_gap : pos 0 <ℤ pos y.gap = let some = h.gaps.1 in omega (arith, ints) in
-      let x_num : pos x.num ≤ℤ pos x.den = let some = h.nums.0 in omega (arith, ints) in
-      let y_num : pos y.num ≤ℤ pos y.den = let some = h.nums.1 in omega (arith, ints) in
-      let both : FitsSigned w64 lower × FitsSigned w64 upper = by_lt_z w (pos 0)
-      (λ down.
-      let l = part_down w (pos x.den) (pos x.num) down (omega (arith, ints)) x_num in
-      let u = part_down w (pos y.den) (pos y.num) down (omega (arith, ints)) y_num in
-      let least = parts_down (pos x.gap) (pos y.gap) lower upper m x_gap y_gap l u sum in
-      (down_fits w64 lower m fits l least.0, down_fits w64 upper m fits u least.1))
-      (λ over.
-      let l = part_up w (pos x.den) (pos x.num) over (omega (arith, ints)) (omega (arith, ints)) in
-      let u = part_up w (pos y.den) (pos y.num) over (omega (arith, ints)) (omega (arith, ints)) in
-      let most = parts_up (pos x.gap) (pos y.gap) lower upper m x_gap y_gap l u sum in
-      (up_fits w64 lower m fits l most.0, up_fits w64 upper m fits u most.1)) in
+      let sum = nums_make_num m (pos d) lower (pos x.den) (pos x.gap) upper (pos y.den) (pos y.gap) beside.from_below beside.from_above beside.adjacent in
+      let x_gap : pos 0 <ℤ pos x.gap = omega (arith, ints, h.gaps.0) in
+      let y_gap : pos 0 <ℤ pos y.gap = omega (arith, ints, h.gaps.1) in
+      let both = by_lt_z w (pos 0)
+      (λ down. both_fit_below (pos x.gap) (pos y.gap) lower upper m fits x_gap y_gap
+      (part_down w (pos x.den) (pos x.num) down (omega (arith, ints)) (omega (arith, ints, h.nums.0)))
+      (part_down w (pos y.den) (pos y.num) down (omega (arith, ints)) (omega (arith, ints, h.nums.1))) sum)
+      (λ over. both_fit (pos x.gap) (pos y.gap) lower upper m fits x_gap y_gap
+      (part_up w (pos x.den) (pos x.num) over (omega (arith, ints)) (omega (arith, ints)))
+      (part_up w (pos y.den) (pos y.num) over (omega (arith, ints)) (omega (arith, ints))) sum) in
       elim near.is [
         | inl k ↦ rw k.0 both.0
         | inr k ↦ rw k.0 both.1

@@ -40,7 +40,7 @@ pub record AreBeside (n : ℤ) (d max : ℕ) (a : ℤ) (b g : ℕ) (c : ℤ) (e 
   pub none_between : max < b + e
 
 -- a fraction whose denominator is v lies at or past a neighbour of the denominator b and the gap g, by i over both
--- denominators; its own gap is z
+-- denominators; its gap is z
 record LiesPast (d v g b z : ℕ) (i : ℤ) : Type 0 where
   over : ℕ
   is : i ≡ pos over
@@ -109,7 +109,7 @@ far_tie {d} {v} {h} {e} {z} g b d_up b_up v_up near p tie =
 
 -- ---- equal fractions
 
--- where u/v is equal to a neighbour of the denominator b, v is at least b
+-- if u/v is equal to a neighbour of the denominator b, v is at least b
 at_least : (j b v : ℤ) → pos 0 <ℤ b → pos 0 <ℤ v → j *ℤ b ≡ neg_ℤ v → b ≤ℤ v
 at_least j b v b_up up e = by_lt_z j (pos 0)
     (λ under.
@@ -117,16 +117,6 @@ at_least j b v b_up up e = by_lt_z j (pos 0)
     let none : pos 0 *ℤ b ≡ pos 0 = omega (arith, products) in
     omega (arith, linear))
     (λ over. let product = product_from_zero j b over (omega (arith, linear)) in absurd (omega (arith, linear)))
-
-level_below : (i j b e v : ℤ) → pos 0 <ℤ b → pos 0 <ℤ v → i *ℤ e +ℤ j *ℤ b ≡ neg_ℤ v → i ≡ pos 0 → b ≤ℤ v
-level_below i j b e v b_up up sum zero_i =
-    let none : i *ℤ e ≡ pos 0 = rw zero_i (omega (arith, products)) in
-    at_least j b v b_up up (omega (arith, linear))
-
-level_above : (i j b e v : ℤ) → pos 0 <ℤ e → pos 0 <ℤ v → i *ℤ e +ℤ j *ℤ b ≡ neg_ℤ v → j ≡ pos 0 → e ≤ℤ v
-level_above i j b e v e_up up sum zero_j =
-    let none : j *ℤ b ≡ pos 0 = rw zero_j (omega (arith, products)) in
-    at_least i e v e_up up (omega (arith, linear))
 
 -- over the same denominator the numerators are equal
 same_num : (a u b : ℤ) → pos 0 <ℤ b → a *ℤ b -ℤ u *ℤ b ≡ pos 0 → a ≡ u
@@ -139,6 +129,29 @@ lower_num : (a c b : ℤ) → pos 0 <ℤ b → c *ℤ b ≡ a *ℤ b +ℤ pos 1 
 lower_num a c b up e = by_lt_z c a
     (λ less. let apart = multiples_apart c a b up less in absurd (omega (arith, linear)))
     (λ fine. fine)
+
+-- ---- the nearer of two neighbours, and a fraction past it or past the other one
+
+module _ {d v g b h e z : ℕ} {i j : ℤ} (b_up : 0 < b) (e_up : 0 < e) (near : g * e ≤ h * b) (side : LiesPast d v g b z i ⊎ LiesPast d v h e z j) where
+  no_nearer : g * v ≤ z * b
+  no_nearer = elim side [
+    | inl p ↦ near_side p
+    | inr p ↦ far_side g b e_up near p
+  ]
+
+  -- if it is as near, it is equal to one of the two, and has no smaller denominator
+  as_near : 0 < d → 0 < v → i *ℤ pos e +ℤ j *ℤ pos b ≡ neg_ℤ (pos v) → g * v ≡ z * b
+      → ((i ≡ pos 0) × (pos b ≤ℤ pos v)) ⊎ ((j ≡ pos 0) × (g * e ≡ h * b) × (pos e ≤ℤ pos v))
+  as_near d_up v_up sum tie = elim side [
+    | inl p ↦
+        let level = near_tie d_up p tie in
+        let none : i *ℤ pos e ≡ pos 0 = rw level (omega (arith, products)) in
+        inl (level, at_least j (pos b) (pos v) (natural_up b_up) (natural_up v_up) (omega (arith, linear)))
+    | inr p ↦
+        let level = far_tie g b d_up b_up v_up near p tie in
+        let none : j *ℤ pos b ≡ pos 0 = rw level.0 (omega (arith, products)) in
+        inr (level.0, level.1, at_least i (pos e) (pos v) (natural_up e_up) (natural_up v_up) (omega (arith, linear)))
+  ]
 
 -- ---- the nearest
 
@@ -189,70 +202,44 @@ module _ {n : ℤ} {d max : ℕ} {a : ℤ} {b g : ℕ} {c : ℤ} {e h : ℕ} (be
       let above = past_above n (pos d) c (pos e) u (pos v) (pos h) beside.from_above in
       by_lt_z (a *ℤ pos v -ℤ u *ℤ pos b) (pos 0)
       (λ under.
-      let over = some_past {i = a *ℤ pos v -ℤ u *ℤ pos b} {j = u *ℤ pos e -ℤ c *ℤ pos v} {b = pos b} {e = pos e} {v = pos v}
-      b_up e_up (natural_less v b e (omega arith)) (past_both u v) under in
+      let over = some_past {i = a *ℤ pos v -ℤ u *ℤ pos b} {j = u *ℤ pos e -ℤ c *ℤ pos v} {b = pos b} {e = pos e} {v = pos v} b_up e_up (natural_less v b e (omega arith)) (past_both u v) under in
       inr (rw (distance_symmetric (n *ℤ pos v) (u *ℤ pos d)) (past d v h e _ _ above over)))
       (λ over. inl (past d v g b _ _ below over))
 
-  near_below : (u : ℤ) (v : ℕ) → g * e ≤ h * b → 0 < v → v ≤ max
-      → g * v ≤ gap n (pos d) u (pos v) * b
-  near_below u v near up most = elim (one_past u v up most) [
-    | inl p ↦ near_side p
-    | inr p ↦ far_side g b beside.positive.2 near p
+  other_past : (u : ℤ) (v : ℕ) → 0 < v → v ≤ max
+      → LiesPast d v h e (gap n (pos d) u (pos v)) (u *ℤ pos e -ℤ c *ℤ pos v)
+      ⊎ LiesPast d v g b (gap n (pos d) u (pos v)) (a *ℤ pos v -ℤ u *ℤ pos b)
+  other_past u v up most = elim (one_past u v up most) [
+    | inl p ↦ inr p
+    | inr p ↦ inl p
   ]
 
-  near_above : (u : ℤ) (v : ℕ) → h * b ≤ g * e → 0 < v → v ≤ max
-      → h * v ≤ gap n (pos d) u (pos v) * e
-  near_above u v near up most = elim (one_past u v up most) [
-    | inl p ↦ far_side h e beside.positive.1 near p
-    | inr p ↦ near_side p
-  ]
-
-  tie_below : (u : ℤ) (v : ℕ) → g * e ≤ h * b → (g * e ≡ h * b → b ≤ e) → 0 < v → v ≤ max
-      → g * v ≡ gap n (pos d) u (pos v) * b → (pos b ≤ℤ pos v) × (pos v ≡ pos b → a ≤ℤ u)
-  tie_below u v near smaller up most tie =
-      elim (one_past u v up most) [
-        | inl p ↦
-            let level = near_tie beside.positive.0 p tie in
-            (level_below _ (u *ℤ pos e -ℤ c *ℤ pos v) (pos b) (pos e) (pos v) b_up (natural_up up) (past_both u v) level, λ same. let own = rw same at level in let equal = same_num a u (pos b) b_up own in omega (arith, linear))
-        | inr p ↦
-            let level = far_tie g b beside.positive.0 beside.positive.1 up near p tie in
-            let least = level_above (a *ℤ pos v -ℤ u *ℤ pos b) _ (pos b) (pos e) (pos v) e_up (natural_up up) (past_both u v) level.0 in
-            let less = smaller level.1 in
+  pub nearest_below : g * e ≤ h * b → (g * e ≡ h * b → b ≤ e) → IsNearestWithin n (pos d) (pos max) a (pos b)
+  nearest_below near smaller = nearest_by beside.positive.1 beside.bounded.0 (own_gap_below n a d b g beside.from_below)
+      (λ u v up most. no_nearer beside.positive.1 beside.positive.2 near (one_past u v up most))
+      (λ u v up most tie. elim (as_near beside.positive.1 beside.positive.2 near (one_past u v up most) beside.positive.0 up (past_both u v) tie) [
+        | inl own ↦ (own.1, λ same. let equal = same_num a u (pos b) b_up (rw same at own.0) in omega (arith, linear))
+        | inr other ↦
+            let less = smaller other.1 in
             let low : pos b ≤ℤ pos e = omega (arith, ints) in (
-              omega (arith, linear),
+              omega (arith, linear, other.2),
               λ same.
-                  let one : pos e ≡ pos b = omega (arith, linear) in
-                  let own = rw (same, one) at level.0 in
-                  let equal = same_num u c (pos b) b_up own in
+                  let one : pos e ≡ pos b = omega (arith, linear, other.2) in
+                  let equal = same_num u c (pos b) b_up (rw (same, one) at other.0) in
                   let order = lower_num a c (pos b) b_up (rw one at beside.adjacent) in
                   omega (arith, linear),
             )
-      ]
+      ])
 
-  tie_above : (u : ℤ) (v : ℕ) → h * b ≤ g * e → (h * b ≡ g * e → e < b) → 0 < v → v ≤ max
-      → h * v ≡ gap n (pos d) u (pos v) * e → (pos e ≤ℤ pos v) × (pos v ≡ pos e → c ≤ℤ u)
-  tie_above u v near smaller up most tie =
-      elim (one_past u v up most) [
-        | inl p ↦
-            let level = far_tie h e beside.positive.0 beside.positive.2 up near p tie in
-            let least = level_below _ (u *ℤ pos e -ℤ c *ℤ pos v) (pos b) (pos e) (pos v) b_up (natural_up up) (past_both u v) level.0 in
-            let less = smaller level.1 in
-            let low : pos e <ℤ pos b = omega (arith, ints) in
-            (omega (arith, linear), λ same. absurd (omega (arith, linear)))
-        | inr p ↦
-            let level = near_tie beside.positive.0 p tie in
-            (level_above (a *ℤ pos v -ℤ u *ℤ pos b) _ (pos b) (pos e) (pos v) e_up (natural_up up) (past_both u v) level, λ same. let own = rw same at level in let equal = same_num u c (pos e) e_up own in omega (arith, linear))
-      ]
-
-  pub nearest_below : g * e ≤ h * b → (g * e ≡ h * b → b ≤ e)
-      → IsNearestWithin n (pos d) (pos max) a (pos b)
-  nearest_below near smaller = nearest_by beside.positive.1 beside.bounded.0 (own_gap_below n a d b g beside.from_below)
-      (λ u v up most. near_below u v near up most)
-      (λ u v up most same. tie_below u v near smaller up most same)
-
-  pub nearest_above : h * b ≤ g * e → (h * b ≡ g * e → e < b)
-      → IsNearestWithin n (pos d) (pos max) c (pos e)
+  pub nearest_above : h * b ≤ g * e → (h * b ≡ g * e → e < b) → IsNearestWithin n (pos d) (pos max) c (pos e)
   nearest_above near smaller = nearest_by beside.positive.2 beside.bounded.1 (own_gap_above n c d e h beside.from_above)
-      (λ u v up most. near_above u v near up most)
-      (λ u v up most same. tie_above u v near smaller up most same)
+      (λ u v up most. no_nearer beside.positive.2 beside.positive.1 near (other_past u v up most))
+      (λ u v up most tie.
+      let sum : (u *ℤ pos e -ℤ c *ℤ pos v) *ℤ pos b +ℤ (a *ℤ pos v -ℤ u *ℤ pos b) *ℤ pos e ≡ neg_ℤ (pos v) = let both = past_both u v in omega (arith, linear) in
+      elim (as_near beside.positive.2 beside.positive.1 near (other_past u v up most) beside.positive.0 up sum tie) [
+        | inl own ↦ (own.1, λ same. let equal = same_num u c (pos e) e_up (rw same at own.0) in omega (arith, linear))
+        | inr lower ↦
+            let less = smaller lower.1 in
+            let low : pos e <ℤ pos b = omega (arith, ints) in
+            (omega (arith, linear, lower.2), λ same. absurd (omega (arith, linear, lower.2)))
+      ])

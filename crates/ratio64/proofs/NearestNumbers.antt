@@ -1,5 +1,5 @@
--- Quotients by a number above 0, and the nearest whole number.
-use Rattle.std.specs.Prelude.{◌≡◌, ◌<◌, ◌*◌, ◌<ℤ◌, ◌≤ℤ◌, ◌+ℤ◌, ◌-ℤ◌, ◌*ℤ◌, ℤ, pos, negsuc, unsigned_abs, FitsSigned, MatchOption, Option, Some, None}
+-- Quotients by a positive number, and the nearest integer.
+use Rattle.std.specs.Prelude.{◌≡◌, ◌<◌, ◌≤◌, ◌*◌, ◌<ℤ◌, ◌≤ℤ◌, ◌+ℤ◌, ◌-ℤ◌, ◌*ℤ◌, ℤ, pos, negsuc, unsigned_abs, FitsSigned, MatchOption, Option, Some, None}
 use Rattle.std.specs.Int.{Width, w64}
 use Rattle.std.proofs.Common.{ap, arith, subst, sym}
 use Rattle.std.proofs.lemmas.Int.{by_lt_z, ints}
@@ -11,7 +11,7 @@ use Rattle.num_integer.specs.Range.{EachFits}
 use Rattle.ratio64.specs.Laws.{RoundedIsOnly}
 use Rattle.ratio64.specs.Rounding.{IsRounded}
 
--- ---- a quotient by a number above 0 fits where the dividend does
+-- ---- a quotient by a positive number fits if the dividend does
 
 pub up_fits : (w : Width) (q n : ℤ) → FitsSigned w n → pos 0 ≤ℤ q → q ≤ℤ n → FitsSigned w q
 up_fits w (pos x) (pos n) fits up most = let low = fits.sfits in record { sfits = omega (arith, ints) }
@@ -58,20 +58,25 @@ module _ {n d q r : ℤ} (up : pos 0 <ℤ d) (h : IsDivision n d q r) where
       (λ n_down. let q_down = quotient_down n_down in down_fits w q n fits q_down.0 q_down.1)
       (λ n_up. let q_up = quotient_up n_up in up_fits w q n fits q_up.0 q_up.1)
 
+  pub quotient_size : unsigned_abs q ≤ unsigned_abs n
+  quotient_size = by_lt_z n (pos 0)
+      (λ n_down. let q_down = quotient_down n_down in omega (arith, sizes))
+      (λ n_up. let q_up = quotient_up n_up in omega (arith, sizes))
+
 -- ---- the nearest number
 
 -- it is the quotient of a division
 pub rounded_division : {n d r : ℤ} → pos 0 <ℤ d → IsRounded n d r → IsDivision n d r (n -ℤ r *ℤ d)
 rounded_division {n} {d} {r} up h = let near = h.nearest in record { equation = omega (arith, linear); small = omega (arith, sizes) }
 
--- it is the quotient toward 0 where less than half is left
+-- if less than half is left, it is the quotient toward 0
 pub rounded_toward : {n d q r : ℤ} → IsTruncated n d q r → 2 * unsigned_abs r < unsigned_abs d → IsRounded n d q
 rounded_toward {n} {d} {q} {r} h small =
     let equation = h.division.equation in
     let left : n -ℤ q *ℤ d ≡ r = omega (arith, linear) in
     record { nearest = rw left (omega arith); tie = rw left (λ e. absurd (omega arith)) }
 
--- where half or more is left, it is the next number away from 0
+-- if half or more is left, it is the next integer away from 0
 pub rounded_above : {n d q r : ℤ} → pos 0 <ℤ d → IsTruncated n d q r → pos 0 ≤ℤ n → d ≤ℤ (r +ℤ r) → IsRounded n d (q +ℤ pos 1)
 rounded_above {n} {d} {q} {r} up h n_up large =
     let equation = h.division.equation in
@@ -108,9 +113,9 @@ only_rounded n d r up x s y = by_lt_z r s
     (λ less. absurd (rounded_apart up y x less))
     (λ most. omega (arith, linear)))
 
--- ---- a whole number that is narrowed to 64 bits
+-- ---- an integer that is narrowed to 64 bits
 
--- it answers where it is the only number with a property
+-- the result of the only number with a property
 pub narrowed_answer : {P : ℤ → Type 0} {z : ℤ} (r : Option ℤ) → P z → IsOnly P z → MatchOption r (¬ (FitsSigned w64 z)) (λ q. (q ≡ z) × FitsSigned w64 z)
     → AnswersWhere (EachFits (FitsSigned w64) P) P r
 narrowed_answer None own only none = λ each. none (each _ own)
@@ -120,7 +125,7 @@ narrowed_answer (Some q) own only is = (λ y h. subst (FitsSigned w64) (sym (onl
 pub quotient_is_only : {Kind : ℤ → ℤ → ℤ → ℤ → Type 0} {n d q : ℤ} → ((n d q r : ℤ) → Kind n d q r → IsOnly (λ (p, s). Kind n d p s) (q, r)) → IsQuotient Kind n d q → IsOnly (IsQuotient Kind n d) q
 quotient_is_only only h p k = ap (λ (t : ℤ × ℤ). t.0) (only _ _ _ _ h.division (p, k.remainder) k.division)
 
--- so it answers where it is the quotient of a kind
+-- and of the quotient of a kind
 pub narrowed_quotient : {Kind : ℤ → ℤ → ℤ → ℤ → Type 0} {n d q : ℤ} (r : Option ℤ) → ((n d q r : ℤ) → Kind n d q r → IsOnly (λ (p, s). Kind n d p s) (q, r)) → IsQuotient Kind n d q
     → MatchOption r (¬ (FitsSigned w64 q)) (λ p. (p ≡ q) × FitsSigned w64 q) → AnswersWhere (EachFits (FitsSigned w64) (IsQuotient Kind n d)) (IsQuotient Kind n d) r
 narrowed_quotient r only own is = narrowed_answer r own (quotient_is_only only own) is

@@ -4,7 +4,7 @@ use Rattle.std.proofs.lemmas.Nat.{mul-lt}
 use Rattle.ratio64.specs.declared.neighbours.Neighbour.{Neighbour}
 use Rattle.ratio64.specs.Neighbours.{AreNeighbours, IsCloser}
 
--- where no equal fraction has a smaller denominator, 0/1 and 1/1 are neighbours
+-- if no equal fraction has a smaller denominator, 0/1 and 1/1 are neighbours
 pub first_neighbours : {n d max : ℕ} → 0 < max → max < d → n < d → ((a b : ℕ) → 0 < b → n * b ≡ a * d → d ≤ b)
     → AreNeighbours n d max (record { num = 0; den = 1; gap = n }) (record { num = 1; den = 1; gap = d - n })
 first_neighbours {n} {d} {max} up above proper lowest =

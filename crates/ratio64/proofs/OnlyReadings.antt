@@ -1,5 +1,5 @@
--- Each text is read as one result.
-use Rattle.std.specs.Prelude.{◌≡◌, ◌⊎◌, ◌∷◌, [], ◌^◌, ℕ, ℤ, List, get_or, pos, unsigned_abs, Result, Ok, Err}
+-- Each string is read as one result.
+use Rattle.std.specs.Prelude.{◌≡◌, ◌⊎◌, ◌^◌, ℤ, unsigned_abs, Result, Ok, Err}
 use Rattle.std.proofs.Common.{ap, arith, inl, inr, refl, sym, ◌∙◌}
 use Rattle.std.proofs.lemmas.Bool.{cases_lt}
 use Rattle.std.proofs.lemmas.Int.{by_lt_z}
@@ -15,33 +15,6 @@ use Rattle.ratio64.specs.declared.parse.ParseRatioError.TheVariants.{NotAFractio
 
 -- ---- results that cannot differ are the same
 
-abbrev num_read : Result Ratio ParseRatioError → ℤ
-num_read (Ok x) = num_of x
-num_read (Err e) = pos 0
-
-abbrev den_read : Result Ratio ParseRatioError → ℤ
-den_read (Ok x) = den_of x
-den_read (Err e) = pos 0
-
-abbrev place_of : ParseRatioError → ℕ
-place_of NotAFraction = 0
-place_of TooLong = 1
-place_of ZeroDenominator = 2
-place_of NotFitting = 3
-
-abbrev error_place : Result Ratio ParseRatioError → ℤ
-error_place (Ok x) = pos 0
-error_place (Err e) = pos (place_of e)
-
-abbrev errors : List ParseRatioError
-errors = NotAFraction ∷ TooLong ∷ ZeroDenominator ∷ NotFitting ∷ []
-
-by_place : (e : ParseRatioError) → get_or errors (place_of e) NotAFraction ≡ e
-by_place NotAFraction = refl
-by_place TooLong = refl
-by_place ZeroDenominator = refl
-by_place NotFitting = refl
-
 same_number : (a b : ℤ) → ¬ (¬ (a ≡ b)) → a ≡ b
 same_number a b h = by_lt_z a b
     (λ less. absurd (h (λ e. omega (arith, linear, e))))
@@ -49,17 +22,21 @@ same_number a b h = by_lt_z a b
     (λ less. absurd (h (λ e. omega (arith, linear, e))))
     (λ most. omega (arith, linear)))
 
+same_error : (e f : ParseRatioError) → ¬ (¬ (e ≡ f)) → e ≡ f
+same_error NotAFraction NotAFraction h = refl
+same_error TooLong TooLong h = refl
+same_error ZeroDenominator ZeroDenominator h = refl
+same_error NotFitting NotFitting h = refl
+same_error _ _ h = absurd (h (λ e. absurd cc))
+
 same_read : (r s : Result Ratio ParseRatioError) → ¬ (¬ (r ≡ s)) → r ≡ s
 same_read (Ok x) (Ok y) h = ap Ok (only_of_parts x y
-    (same_number (num_of x) (num_of y) (λ other. h (λ e. other (ap num_read e))))
-    (same_number (den_of x) (den_of y) (λ other. h (λ e. other (ap den_read e)))))
-same_read (Ok x) (Err e) h = absurd (h (λ same. absurd cc))
-same_read (Err e) (Ok x) h = absurd (h (λ same. absurd cc))
-same_read (Err e) (Err f) h =
-    let place = same_number (pos (place_of e)) (pos (place_of f)) (λ other. h (λ same. other (ap error_place same))) in
-    ap Err (sym (by_place e) ∙ ap (λ (z : ℤ). get_or errors (unsigned_abs z) NotAFraction) place ∙ by_place f)
+    (same_number (num_of x) (num_of y) (λ other. h (λ e. let same : x ≡ y = cc in other (ap num_of same))))
+    (same_number (den_of x) (den_of y) (λ other. h (λ e. let same : x ≡ y = cc in other (ap den_of same)))))
+same_read (Err e) (Err f) h = ap Err (same_error e f (λ other. h (λ same. let one : e ≡ f = cc in other one)))
+same_read _ _ h = absurd (h (λ same. absurd cc))
 
--- ---- a text has one result
+-- ---- a string has one result
 
 long_or_short : (a b : ℤ) → HasLongPart a b ⊎ ¬ (HasLongPart a b)
 long_or_short a b = elim (cases_lt (unsigned_abs a) (10 ^ 38)) [
@@ -70,7 +47,7 @@ long_or_short a b = elim (cases_lt (unsigned_abs a) (10 ^ 38)) [
   | inr long ↦ inl (inl long)
 ]
 
--- that of the fraction that it spells
+-- that of the fraction that it writes
 only_spelled : {a b : ℤ} {r s : Result Ratio ParseRatioError} → AnswersSpelled a b r → AnswersSpelled a b s → r ≡ s
 only_spelled {a} {b} h k = elim (long_or_short a b) [
   | inl long ↦ h.too_long.1 long ∙ sym (k.too_long.1 long)
@@ -80,7 +57,7 @@ only_spelled {a} {b} h k = elim (long_or_short a b) [
       own.1 ∙ ap answer_read (only_answer a b own.0 other.0 own.2 other.2) ∙ sym other.1
 ]
 
--- or `NotAFraction`, where two results could differ for no other reason
+-- or `NotAFraction`, since two results can differ for no other reason
 pub only_reading : ReadingIsOnly
 only_reading text r s h k = same_read r s (λ other.
     let none : (a b : ℤ) → ¬ (SpellsFraction text a b) = λ a b spelled. other (only_spelled (h.answer a b spelled) (k.answer a b spelled)) in

@@ -1,4 +1,4 @@
--- The texts of fractions, cut at the slash, and what they are read as.
+-- The strings of fractions, cut at the slash, and what they are read as.
 use Rattle.std.specs.Prelude.{◌≡◌, ◌≢◌, ◌⊎◌, ◌↔◌, ◌++◌, ◌∷◌, [], ◌<◌, ◌==◌, ℕ, suc, zero, List, codes, length, ℤ, Option, Some, None, Result, Err, FitsSigned, IsTrue, true, false, pos, negsuc, unwrap_or, ◌^◌, Ok, unsigned_abs}
 use Rattle.std.specs.Char.{is_ascii_digit}
 use Rattle.std.specs.List.{list_all}
@@ -14,8 +14,9 @@ use Rattle.std.proofs.lemmas.Grind.{common_steps}
 use Rattle.std.proofs.lemmas.Str.Parse.{IsNumeralModel, numerals_by_value, not_in_digits}
 use Rattle.std.proofs.lemmas.Str.Pattern.{IsSplitOnceResult, split_after, split_parts}
 use borrow.Author.Tests.{ne_eqb}
-use Rattle.ratio64.proofs.ForCallers.{err_is_outside, exact_is_inside, only_exact_result, positive_is_nonzero, reduced_is_exact}
-use Rattle.ratio64.proofs.FractionAnswers.{only_of_parts}
+use Rattle.ratio64.proofs.ExactResults.{only_exact_result, reduced_is_exact}
+use Rattle.ratio64.specs.ReducedPairs.{positive_is_nonzero}
+use Rattle.ratio64.proofs.FractionAnswers.{err_is_outside, exact_is_inside, only_of_parts}
 use Rattle.ratio64.specs.Laws.{TextIsReadBack}
 use Rattle.ratio64.specs.Ratio.{AnswersFraction, den_of, num_of, text_of}
 use Rattle.ratio64.specs.RatioText.{AnswersSpelled, HasLongPart, ReadsFraction, SpellsFraction, SpellsWhole, answer_read, unsigned_part, whole_of}
@@ -51,7 +52,7 @@ no_slash (c ∷ cs) h i inside = elim (cases_Bool (c == 45)) [
 
 -- ---- the cut at the first slash
 
--- the text is num/den, or num alone, where den is 1
+-- the string is num/den, or only num if den is 1
 abbrev pub AreParts : List ℕ → List ℕ → List ℕ → Type 0
 AreParts text num den = (text ≡ num ++ codes "/" ++ den) ⊎ ((text ≡ num) × (den ≡ codes "1"))
 
@@ -61,11 +62,11 @@ no_slash_inside text h front back e =
     let here : get_or text (length front) 0 ≡ 47 = grind (arith, common_steps) in
     no_slash text h (length front) inside here
 
--- a text with a slash, by what is on its two sides
+-- a string with a slash, by what is on its two sides
 at_slash : {text : List ℕ} (num den : List ℕ) → text ≡ num ++ codes "/" ++ den → text ≡ num ++ (47 ∷ den)
 at_slash num den e = e ∙ append_assoc num (codes "/") den
 
--- what `split_once` cuts at the slash, or the whole text and `1`
+-- what `split_once` cuts at the slash, or the string and `1`
 module _ {text : List ℕ} (t one : Bor (List ℕ)) (same : t.now ≡ text) (is_one : one.now ≡ codes "1") where
   cut : (r : Option (Bor (List ℕ) × Bor (List ℕ))) → IsSplitOnceResult 47 text r → AreParts text (unwrap_or r (t, one)).0.now (unwrap_or r (t, one)).1.now
   cut None h = inr (sym same, is_one)
@@ -84,7 +85,7 @@ module _ {text : List ℕ} (t one : Bor (List ℕ)) (same : t.now ≡ text) (is_
         absurd (no_slash_inside num digits x.0.now x.1.now whole)
   ]
 
--- parts that the text is cut into, and no others where the first spells a number
+-- the parts that the string is cut into, which are the only ones if the first is an integer
 pub record AreCut (text num den : List ℕ) : Type 0 where
   pub parts : AreParts text num den
   pub only : (n d : List ℕ) → IsNumeral 10 (unsigned_part n) → AreParts text n d → (num ≡ n) × (den ≡ d)
@@ -92,7 +93,7 @@ pub record AreCut (text num den : List ℕ) : Type 0 where
 pub split_cuts : {text : List ℕ} {x : Bor (List ℕ) × Bor (List ℕ)} (t one : Bor (List ℕ)) (r : Option (Bor (List ℕ) × Bor (List ℕ))) → t.now ≡ text → one.now ≡ codes "1" → x ≡ unwrap_or r (t, one) → IsSplitOnceResult 47 text r → AreCut text x.0.now x.1.now
 split_cuts t one r same is_one is h = rw is (record { parts = cut t one same is_one r h; only = λ n d. only_cut t one same is_one r n d h })
 
--- ---- what the text is read as
+-- ---- what the string is read as
 
 pub short_parts : (a b : ℤ) → unsigned_abs a < 10 ^ 38 → unsigned_abs b < 10 ^ 38 → ¬ (HasLongPart a b)
 short_parts a b left right h = elim h [ inl long ↦ absurd (omega arith) | inr long ↦ absurd (omega arith) ]
@@ -102,7 +103,7 @@ never_long (Ok x) e = cc
 never_long (Err ZeroDenominator) e = cc
 never_long (Err NotFitting) e = cc
 
--- no fraction, where a part spells no number
+-- no fraction, if a part is no integer
 pub other_text : {text num den : List ℕ} → AreCut text num den → ¬ (IsNumeral 10 (unsigned_part num) × IsNumeral 10 (unsigned_part den)) → ReadsFraction text (Err NotAFraction)
 other_text {text} {num} {den} cuts unspelled =
     let none : (a b : ℤ) → ¬ (SpellsFraction text a b) = λ a b s.
@@ -110,7 +111,7 @@ other_text {text} {num} {den} cuts unspelled =
     unspelled (subst (λ ds. IsNumeral 10 (unsigned_part ds)) (sym same.0) s.num_spelled.digits, subst (λ ds. IsNumeral 10 (unsigned_part ds)) (sym same.1) s.den_spelled.digits) in
     record { not_a_fraction = (λ e. none, λ _. refl); answer = λ a b s. absurd (none a b s) }
 
--- the fraction of the two numbers, where both parts spell one
+-- the fraction of the two parts, if both are integers
 pub spelled_text : {text num den : List ℕ} {result : Result Ratio ParseRatioError} → AreCut text num den → IsNumeral 10 (unsigned_part num) → IsNumeral 10 (unsigned_part den)
     → AnswersSpelled (whole_of num) (whole_of den) result → result ≢ Err NotAFraction → ReadsFraction text result
 spelled_text {num = num} {den = den} {result = result} cuts left right answer spelled = record {
@@ -129,7 +130,7 @@ spelled_text {num = num} {den = den} {result = result} cuts left right answer sp
       rw (s.num_spelled.value, s.den_spelled.value, ← same.0, ← same.1) answer;
 }
 
--- numbers of at most 38 digits, by what their fraction answers
+-- integers of at most 38 digits, by the result of their fraction
 pub spelled_fraction : {a b : ℤ} {result : Result Ratio ParseRatioError} (r : Result Ratio RatioError) → unsigned_abs a < 10 ^ 38 → unsigned_abs b < 10 ^ 38 → AnswersFraction a b r → result ≡ answer_read r → AnswersSpelled a b result
 spelled_fraction {a} {b} r left right h is = record {
   too_long = (λ e. absurd (never_long r (sym is ∙ e)), λ long. absurd (short_parts a b left right long));
@@ -158,7 +159,7 @@ number_spelled (negsuc n) fits =
     let h = decimal_is_IsNumeral (suc n) (let low = fits.sfits in omega arith) in
     record { digits = h.0; value = rw h.1 refl }
 
--- the text of a fraction spells it
+-- the string of a fraction writes it
 pub text_spelled : (x : Ratio) → FitsSigned w64 (num_of x) → FitsSigned w64 (den_of x) → SpellsFraction (text_of x) (num_of x) (den_of x)
 text_spelled x num_fits den_fits = elim (cases_Bool (int_eq (den_of x) (pos 1))) [
   | inl whole ↦

@@ -1,8 +1,11 @@
--- The answers to fractions whose parts are reduced, and to powers of a negative degree.
+-- What calls return for fractions in lowest terms, and for powers of a negative degree.
 use Rattle.std.specs.Prelude.{◌≡◌, ◌⊎◌, ◌<◌, ℤ, ℕ, pos, Result, Ok, Err, FitsSigned}
 use Rattle.std.specs.Int.{int_pow, w64}
 use Rattle.std.proofs.Common.{inl, inr, refl, subst, sym}
-use Rattle.ratio64.proofs.ForCallers.{AreEqual-sym, equal_fractions_answered_alike, exact_answer, positive_is_nonzero, reduced_is_exact}
+use Rattle.ratio64.proofs.EqualFractions.{equal_fractions_answered_alike}
+use Rattle.ratio64.proofs.ExactResults.{reduced_is_exact}
+use Rattle.ratio64.proofs.FractionAnswers.{exact_answer}
+use Rattle.ratio64.specs.ReducedPairs.{AreEqual-sym, positive_is_nonzero}
 use Rattle.ratio64.proofs.FractionPowers.{base_fits, equal_powers, power_nonzero, power_of_zero_is, power_reduced}
 use Rattle.ratio64.specs.Fraction.{IsExact, IsOutsideI64, IsReduced}
 use Rattle.ratio64.specs.Ratio.{AnswersFraction, num_of, den_of}
@@ -51,11 +54,11 @@ outside_powers k up far = record {
   ];
 }
 
--- where a fraction has no exact result that fits, its powers have none
+-- if the exact result of a fraction does not fit, those of its powers do not
 pub powers_refused : {a b : ℤ} (e : RatioError) (k : ℕ) → 0 < k → AnswersFraction a b (Err e) → AnswersFraction (int_pow a k) (int_pow b k) (Err e)
 powers_refused {b = b} ZeroDenominator k up h = zero_answer (power_of_zero_is b k up (h.zero_denominator.0 refl))
 powers_refused NotFitting k up h = outside_answer (outside_powers k up (h.not_fitting.0 refl))
 
--- the powers of its exact result answer its powers
+-- the powers of its exact result have the results of its powers
 pub powers_of_exact : {a b n d : ℤ} {r : Result Ratio RatioError} (k : ℕ) → IsExact a b n d → AnswersFraction (int_pow n k) (int_pow d k) r → AnswersFraction (int_pow a k) (int_pow b k) r
 powers_of_exact {b = b} {d = d} k x h = equal_fractions_answered_alike (power_nonzero d k (positive_is_nonzero x.reduced.positive)) (power_nonzero b k x.fraction) (AreEqual-sym (equal_powers k x.equal)) h

@@ -29,7 +29,7 @@ pub magnitude_reduced : (n : ℤ) {d : ℤ} → IsReduced n d → IsReduced (pos
 magnitude_reduced (pos n) x = x
 magnitude_reduced (negsuc n) x = negated_reduced x
 
--- a magnitude fits exactly where the negation does
+-- a magnitude fits exactly if the negation does
 pub magnitude_fits : (n : ℤ) → FitsSigned w64 n → FitsSigned w64 (neg_ℤ n) → FitsSigned w64 (pos (unsigned_abs n))
 magnitude_fits (pos n) fits negation_fits = fits
 magnitude_fits (negsuc n) fits negation_fits = negation_fits

@@ -25,7 +25,7 @@ fits_wide fits = record { sfits = let low = fits.sfits in omega arith }
 
 -- ---- the product of two parts
 
-part_size : (a : ℤ) → FitsSigned w64 a → unsigned_abs a ≤ 2 ^ 63
+pub part_size : (a : ℤ) → FitsSigned w64 a → unsigned_abs a ≤ 2 ^ 63
 part_size (pos a) fits = let low = fits.sfits in omega arith
 part_size (negsuc a) fits = let low = fits.sfits in omega arith
 

@@ -1,4 +1,4 @@
--- Fractions num/den of whole numbers, and the one reduced pair that is equal to each.
+-- Fractions num/den of integers, and the one reduced pair that is equal to each.
 use Rattle.std.specs.Prelude.{◌≡◌, ◌≢◌, ◌⊎◌, ◌<ℤ◌, ◌*ℤ◌, ℤ, pos, FitsSigned}
 use Rattle.std.specs.Int.{w64}
 use Rattle.std.specs.Ordering.{int_cmp}
@@ -15,20 +15,20 @@ IsFraction num den = den ≢ pos 0
 pub record AreEqual (a b c d : ℤ) : Type 0 where
   pub cross : a *ℤ d ≡ c *ℤ b
 
--- The denominator is above 0, and the greatest common divisor of the two parts is 1.
+-- The denominator is positive, and the greatest common divisor of the two parts is 1.
 -- Examples: -3 and 2; 0 and 1; not 3 and -2.
 pub record IsReduced (num den : ℤ) : Type 0 where
   pub positive : pos 0 <ℤ den
   pub lowest : IsGreatestCommonDivisor num den (pos 1)
 
 -- The exact result of the fraction a/b is num/den, the reduced pair that is equal to it.
--- Examples: 6/-4: -3/2; 0/-9: 0/1; none of 1/0.
+-- Examples: 6/-4: -3/2; 0/-9: 0/1; 1/0 has no exact result.
 pub record IsExact (a b num den : ℤ) : Type 0 where
   pub fraction : IsFraction a b
   pub reduced : IsReduced num den
   pub equal : AreEqual a b num den
 
--- A part of the exact result of a/b lies outside `i64`.
+-- A part of the exact result of a/b does not fit in `i64`.
 -- Examples: 1/MIN, whose denominator is 2^63; MIN/-1; not MIN/2.
 pub record IsOutsideI64 (a b : ℤ) : Type 0 where
   pub num : ℤ
@@ -36,7 +36,7 @@ pub record IsOutsideI64 (a b : ℤ) : Type 0 where
   pub exact : IsExact a b num den
   pub outside : (¬ (FitsSigned w64 num)) ⊎ (¬ (FitsSigned w64 den))
 
--- The fractions a/b and c/d compare as a·d and c·b do, where b and d are above 0.
+-- The fractions a/b and c/d compare as a·d and c·b do, if b and d are positive.
 -- Examples: 1/3 and 1/2: `Less`; 2/4 and 1/2: `Equal`; -1/MAX and MIN/1: `Greater`.
 abbrev pub fraction_cmp : ℤ → ℤ → ℤ → ℤ → Ordering
 fraction_cmp a b c d = int_cmp (a *ℤ d) (c *ℤ b)

@@ -12,7 +12,7 @@ use Rattle.ratio64.specs.Fraction.{IsReduced, fraction_cmp}
 use Rattle.ratio64.specs.Laws.{OrderAgreesWithEquality, OrderIsTotal}
 use Rattle.ratio64.specs.ReducedPairs.{same_pair}
 
--- ---- numbers compare as they do times a number above 0
+-- ---- numbers compare as they do times a positive number
 
 times_lt : (k x y : ℤ) → pos 0 <ℤ k → x <ℤ y → (k *ℤ x) <ℤ (k *ℤ y)
 times_lt k x y up h = omega (arith, linear, comm k x, comm k y, multiples_apart x y k up h)
@@ -64,7 +64,7 @@ order_agrees_with_equality a b c d =
     let cross = cross_Decides a b c d in
     (λ h. record { cross = cross.0 (ap is_eq h) }, λ e. (Equal-is (fraction_cmp a b c d)).0 (cross.1 e.cross))
 
--- two reduced pairs have the same parts exactly where the order has them equal
+-- two reduced pairs have the same parts exactly if the order has them equal
 pub ties_of_reduced : {a b c d : ℤ} → IsReduced a b → IsReduced c d → (int_eq a c && int_eq b d) ≡ is_eq (fraction_cmp a b c d)
 ties_of_reduced {a} {b} {c} {d} x y =
     let cross = cross_Decides a b c d in

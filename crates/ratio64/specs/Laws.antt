@@ -27,7 +27,7 @@ ExactResultIsOnly = (a b num den : ℤ) → IsExact a b num den → IsOnly (λ (
 abbrev pub EqualFractionsHaveOneResult : Type 0
 EqualFractionsHaveOneResult = (a b c d num den : ℤ) → IsFraction c d → AreEqual a b c d → IsExact a b num den → IsExact c d num den
 
--- Reduced pairs are equal fractions exactly where they are the same pair.
+-- Reduced pairs are equal fractions exactly if they are the same pair.
 abbrev pub ReducedPairsAreEqualWhereSame : Type 0
 ReducedPairsAreEqualWhereSame = (a b c d : ℤ) → IsReduced a b → IsReduced c d → AreEqual a b c d ↔ ((a ≡ c) × (b ≡ d))
 
@@ -35,27 +35,27 @@ ReducedPairsAreEqualWhereSame = (a b c d : ℤ) → IsReduced a b → IsReduced 
 abbrev pub RatioOfPartsIsOnly : Type 0
 RatioOfPartsIsOnly = (x y : Ratio) → num_of x ≡ num_of y → den_of x ≡ den_of y → x ≡ y
 
--- Each fraction has only one answer.
+-- A call that computes a fraction has only one result.
 abbrev pub AnswerIsOnly : Type 0
 AnswerIsOnly = (a b : ℤ) (r s : Result Ratio RatioError) → AnswersFraction a b r → AnswersFraction a b s → r ≡ s
 
 -- ---- the order
 
--- Fractions whose denominators are above 0 are in a total order.
+-- Fractions whose denominators are positive are in a total order.
 abbrev pub OrderIsTotal : (K : Type 0) → (K → ℤ) → (K → ℤ) → Type 0
 OrderIsTotal K num den = ((x : K) → pos 0 <ℤ den x) → IsTotalOrder (λ x y. fraction_cmp (num x) (den x) (num y) (den y))
 
--- Two fractions compare equal in that order exactly where they are equal.
+-- Two fractions compare equal in that order exactly if they are equal.
 abbrev pub OrderAgreesWithEquality : Type 0
 OrderAgreesWithEquality = (a b c d : ℤ) → (fraction_cmp a b c d ≡ Equal) ↔ AreEqual a b c d
 
--- Of two fractions over one denominator above 0 the one of the lesser numerator is the lesser.
+-- Of two fractions over one positive denominator the one with the smaller numerator is the smaller.
 abbrev pub OrderOverOneDenominator : Type 0
 OrderOverOneDenominator = (a c d : ℤ) → pos 0 <ℤ d → a <ℤ c → fraction_cmp a d c d ≡ Less
 
 -- ---- rounding
 
--- Each fraction has only one nearest whole number.
+-- Each fraction has only one nearest integer.
 abbrev pub RoundedIsOnly : Type 0
 RoundedIsOnly = (n d r : ℤ) → pos 0 <ℤ d → IsRounded n d r → IsOnly (IsRounded n d) r
 
@@ -77,9 +77,9 @@ abbrev pub ProductsOfEqualFractions : Type 0
 ProductsOfEqualFractions = (a b c d e f g h : ℤ) → AreEqual a b e f → AreEqual c d g h
     → AreEqual (a *ℤ c) (b *ℤ d) (e *ℤ g) (f *ℤ h)
 
--- ---- texts
+-- ---- strings
 
--- Each text is read as only one result.
+-- Each string is read as only one result.
 abbrev pub ReadingIsOnly : Type 0
 ReadingIsOnly = (text : List ℕ) (r s : Result Ratio ParseRatioError) → ReadsFraction text r → ReadsFraction text s → r ≡ s
 

@@ -13,7 +13,7 @@ pub record AreNeighbours (n d max : ℕ) (below above : Neighbour) : Type 0 wher
   pub nums : (below.num ≤ below.den) × (above.num ≤ above.den)
   pub bounded : (below.den ≤ max) × (above.den ≤ max)
 
--- The parts of the other neighbour are added to those of a side one or more times, and its gap falls and stays above 0.
+-- The parts of the other neighbour are added to those of a side one or more times, and its gap falls and stays positive.
 -- Examples: of 3/10, 1/1 toward 0/1: 1/2; 1/3; not 1/4.
 pub record IsCloser (max : ℕ) (side other result : Neighbour) : Type 0 where
   pub steps : ℕ

@@ -1,15 +1,15 @@
--- The numbers and the texts of the errors.
+-- The numbers and the strings of the errors.
 use Rattle.std.specs.Prelude.{ℕ, List, codes}
 use Rattle.ratio64.specs.declared.error.RatioError.{RatioError}
 use Rattle.ratio64.specs.declared.error.RatioError.TheVariants.{ZeroDenominator, NotFitting}
 
--- The number of an error is the same in every version.
+-- The number of an error, which no version changes.
 -- Examples: `ZeroDenominator`: 1; `NotFitting`: 2.
 abbrev pub number_of : RatioError → ℕ
 number_of ZeroDenominator = 1
 number_of NotFitting = 2
 
--- The text of an error is what `Display` writes of it.
+-- The string of an error is what `Display` prints.
 -- Examples: `ZeroDenominator`: `the denominator is 0`.
 abbrev pub error_text : RatioError → List ℕ
 error_text ZeroDenominator = codes "the denominator is 0"

@@ -1,4 +1,4 @@
-//! Why a call returns no fraction.
+//! The error of the calls that make a fraction.
 
 ghost use Rattle.std.specs.Prelude.{◌≡◌, Some};
 ghost use Rattle.ratio64.specs.RatioError.{error_text, number_of};
@@ -6,18 +6,18 @@ ghost use Rattle.ratio64.specs.RatioError.{error_text, number_of};
 use std::error::Error;
 use std::fmt;
 
-/// Why a call returns no fraction.
+/// Why a call returns no fraction. `Ratio::new(1, 0)` is `Err(RatioError::ZeroDenominator)`.
 #[derive(Debug, Clone, Copy, PartialEq, Eq)]
 pub enum RatioError {
     /// The denominator is 0.
     ZeroDenominator,
-    /// A part of the reduced fraction lies outside `i64`.
+    /// In lowest terms, the numerator or the denominator does not fit in `i64`.
     NotFitting,
 }
 
 impl RatioError {
-    /// Returns the number of the error: `1` for `ZeroDenominator`, `2` for `NotFitting`. It is the
-    /// same in every version.
+    /// Returns the number of the error, which no version changes.
+    /// `RatioError::ZeroDenominator.number()` is `1`, and `RatioError::NotFitting.number()` is `2`.
     pub fn number(&self) -> u32
         ensures { result ≡ number_of self.now }
     {
@@ -28,6 +28,7 @@ impl RatioError {
     }
 }
 
+/// `RatioError::ZeroDenominator.to_string()` is `"the denominator is 0"`.
 impl fmt::Display for RatioError {
     ghost output = { λ e. Some (error_text e) };
 

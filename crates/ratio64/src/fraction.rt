@@ -1,6 +1,6 @@
-//! A fraction, which is always reduced, and the calls that make one.
+//! The type of fractions, its arithmetic, and its string.
 
-ghost use Rattle.std.specs.Prelude.{◌≡◌, ◌≢◌, ◌⊎◌, ◌↔◌, ◌<◌, ◌^◌, ◌≤ℤ◌, ◌+ℤ◌, ◌-ℤ◌, ◌*ℤ◌, pos, neg_ℤ, unsigned_abs, Err, IfErr};
+ghost use Rattle.std.specs.Prelude.{◌≡◌, ◌≢◌, ◌⊎◌, ◌↔◌, ◌<◌, ◌^◌, ◌<ℤ◌, ◌≤ℤ◌, ◌+ℤ◌, ◌-ℤ◌, ◌*ℤ◌, pos, neg_ℤ, unsigned_abs, Err, IfErr, IfOk};
 ghost use Rattle.num_integer.specs.Division.{IsCeiled, IsFloored, IsQuotient};
 ghost use Rattle.ratio64.specs.Fraction.{IsReduced};
 ghost use Rattle.ratio64.specs.ReducedPairs.{IsReduced-prop};
@@ -10,14 +10,15 @@ mod powers;
 mod rounding;
 mod sign;
 mod times;
-mod whole;
 
 use crate::RatioError;
-use crate::products::{difference, product, sum};
-use crate::reduction::lowest_terms;
+use crate::reduction::{lowest_terms, numerator_of_difference, numerator_of_sum, product};
 use num_integer::{div_ceil, div_floor};
+use std::fmt;
 
-/// A fraction. Its denominator is above 0, and the greatest common divisor of its parts is 1.
+/// A fraction in lowest terms: its denominator is positive, and the greatest common divisor of its
+/// parts is 1. So fractions of the same number are the same value: `Ratio::new(2, 4)` is
+/// `Ratio::new(1, 2)`.
 #[derive(Debug, Clone, Copy, PartialEq, Eq, Hash)]
 pub struct Ratio {
     num: i64,
@@ -28,74 +29,98 @@ pub struct Ratio {
 impl Ratio {
     ghost use Rattle.ratio64.specs.Ratio.{AnswersFraction, num_of, den_of};
 
-    /// Returns the fraction `num / den`, reduced. `Ratio::new(6, -4)` is `Ratio::new(-3, 2)`, and
-    /// `Ratio::new(1, 0)` is `Err(RatioError::ZeroDenominator)`.
+    /// Returns `num / den` in lowest terms. `Ratio::new(6, -4)` is `Ratio::new(-3, 2)`, and
+    /// `Ratio::new(1, 0)` is `Err(RatioError::ZeroDenominator)`. A positive denominator never gives an
+    /// error.
     pub fn new(num: i64, den: i64) -> Result<Ratio, RatioError>
         ensures fraction { AnswersFraction num den result }
         ensures refused { IfErr result (λ _. den ≤ℤ pos 0) }
+        ensures positive { IfOk result (λ x. pos 0 <ℤ den_of x) }
     {
         Ratio::reduced(i128::from(num), i128::from(den))
     }
 
-    /// Returns the numerator of the reduced fraction. That of 6/-4 is `-3`.
+    /// Returns 0. `Ok(Ratio::zero())` is `Ratio::new(0, 1)`.
+    pub fn zero() -> Ratio
+        ensures num { num_of result ≡ pos 0 }
+        ensures den { den_of result ≡ pos 1 }
+    {
+        Ratio::from(0)
+    }
+
+    /// Returns 1. `Ok(Ratio::one())` is `Ratio::new(1, 1)`.
+    pub fn one() -> Ratio
+        ensures num { num_of result ≡ pos 1 }
+        ensures den { den_of result ≡ pos 1 }
+    {
+        Ratio::from(1)
+    }
+
+    /// Returns the numerator. `Ratio::new(6, -4).unwrap().num()` is `-3`.
     pub fn num(&self) -> i64
         ensures { result ≡ num_of self.now }
     {
         self.num
     }
 
-    /// Returns the denominator of the reduced fraction, which is above 0. That of 6/-4 is `2`.
+    /// Returns the denominator, which is positive. `Ratio::new(6, -4).unwrap().den()` is `2`.
     pub fn den(&self) -> i64
         ensures { result ≡ den_of self.now }
     {
         self.den
     }
 
-    /// Returns the fraction rounded down. For -3/2 it returns `-2`.
+    /// Returns the fraction rounded down. `Ratio::new(-3, 2).unwrap().floor()` is `-2`.
     pub fn floor(&self) -> i64
         ensures { IsQuotient IsFloored (num_of self.now) (den_of self.now) result }
     {
         div_floor(self.num, self.den)
     }
 
-    /// Returns the fraction rounded up. For -3/2 it returns `-1`.
+    /// Returns the fraction rounded up. `Ratio::new(-3, 2).unwrap().ceil()` is `-1`.
     pub fn ceil(&self) -> i64
         ensures { IsQuotient IsCeiled (num_of self.now) (den_of self.now) result }
     {
         div_ceil(self.num, self.den)
     }
 
-    /// Returns the sum, or `NotFitting` where a part of it does not fit. 1/2 and 1/3 give 5/6.
+    /// Returns the sum, or `NotFitting` if a part of it does not fit.
+    /// `Ratio::from(2).checked_add(&Ratio::new(1, 3).unwrap())` is `Ratio::new(7, 3)`.
     pub fn checked_add(&self, other: &Ratio) -> Result<Ratio, RatioError>
         ensures sum { AnswersFraction
             (num_of self.now *ℤ den_of other.now +ℤ num_of other.now *ℤ den_of self.now)
             (den_of self.now *ℤ den_of other.now) result }
         ensures never_zero { result ≢ Err RatioError.ZeroDenominator }
     {
-        self.over_both(other, sum(self.num, self.den, other.num, other.den))
+        let num = numerator_of_sum(self.num, self.den, other.num, other.den);
+        self.over_product_of_denominators(other, num)
     }
 
-    /// Returns the difference, or `NotFitting` where a part of it does not fit. 1/2 and 1/3 give 1/6.
+    /// Returns the difference, or `NotFitting` if a part of it does not fit.
+    /// `Ratio::from(2).checked_sub(&Ratio::new(1, 3).unwrap())` is `Ratio::new(5, 3)`.
     pub fn checked_sub(&self, other: &Ratio) -> Result<Ratio, RatioError>
         ensures difference { AnswersFraction
             (num_of self.now *ℤ den_of other.now -ℤ num_of other.now *ℤ den_of self.now)
             (den_of self.now *ℤ den_of other.now) result }
         ensures never_zero { result ≢ Err RatioError.ZeroDenominator }
     {
-        self.over_both(other, difference(self.num, self.den, other.num, other.den))
+        let num = numerator_of_difference(self.num, self.den, other.num, other.den);
+        self.over_product_of_denominators(other, num)
     }
 
-    /// Returns the product, or `NotFitting` where a part of it does not fit. 2/3 and 3/4 give 1/2.
+    /// Returns the product, or `NotFitting` if a part of it does not fit.
+    /// `Ratio::from(2).checked_mul(&Ratio::new(3, 4).unwrap())` is `Ratio::new(3, 2)`.
     pub fn checked_mul(&self, other: &Ratio) -> Result<Ratio, RatioError>
         ensures product { AnswersFraction (num_of self.now *ℤ num_of other.now)
             (den_of self.now *ℤ den_of other.now) result }
         ensures never_zero { result ≢ Err RatioError.ZeroDenominator }
     {
-        self.over_both(other, product(self.num, other.num))
+        self.over_product_of_denominators(other, product(self.num, other.num))
     }
 
-    /// Returns the quotient, or `ZeroDenominator` where `other` is 0, or `NotFitting` where a part of
-    /// the quotient does not fit. -1/2 and -3/4 give 2/3.
+    /// Returns the quotient, or `ZeroDenominator` if `other` is 0, or `NotFitting` if a part of the
+    /// quotient does not fit. `Ratio::from(2).checked_div(&Ratio::new(-3, 4).unwrap())` is
+    /// `Ratio::new(-8, 3)`.
     pub fn checked_div(&self, other: &Ratio) -> Result<Ratio, RatioError>
         ensures quotient { AnswersFraction (num_of self.now *ℤ den_of other.now)
             (num_of other.now *ℤ den_of self.now) result }
@@ -105,8 +130,9 @@ impl Ratio {
         Ratio::reduced(product(self.num, other.den), product(other.num, self.den))
     }
 
-    /// Returns the reciprocal `den / num`, or `ZeroDenominator` where the fraction is 0, or
-    /// `NotFitting` where the numerator is `i64::MIN`. That of -2/3 is -3/2.
+    /// Returns the reciprocal `den / num`, or `ZeroDenominator` if the fraction is 0, or `NotFitting`
+    /// if the numerator is `i64::MIN`. `Ratio::new(-2, 3).unwrap().checked_recip()` is
+    /// `Ratio::new(-3, 2)`.
     pub fn checked_recip(&self) -> Result<Ratio, RatioError>
         ensures reciprocal { AnswersFraction (den_of self.now) (num_of self.now) result }
         ensures refused { IfErr result
@@ -115,8 +141,8 @@ impl Ratio {
         Ratio::new(self.den, self.num)
     }
 
-    /// Returns the fraction of `num` over the product of the two denominators.
-    fn over_both(&self, other: &Ratio, num: i128) -> Result<Ratio, RatioError>
+    /// Returns `num` over the product of the two denominators.
+    fn over_product_of_denominators(&self, other: &Ratio, num: i128) -> Result<Ratio, RatioError>
         requires { unsigned_abs num < 2 ^ 127 }
         ensures fraction { AnswersFraction num (den_of self.now *ℤ den_of other.now) result }
         ensures never_zero { result ≢ Err RatioError.ZeroDenominator }
@@ -124,7 +150,7 @@ impl Ratio {
         Ratio::reduced(num, product(self.den, other.den))
     }
 
-    /// Returns the fraction `num / den`, with both parts divided by their greatest common divisor.
+    /// Returns `num / den` in lowest terms.
     pub(crate) fn reduced(num: i128, den: i128) -> Result<Ratio, RatioError>
         requires num_below { unsigned_abs num < 2 ^ 127 }
         requires den_below { unsigned_abs den < 2 ^ 127 }
@@ -138,7 +164,8 @@ impl Ratio {
     }
 }
 
-/// A whole number is never refused: `Ok(Ratio::from(5))` is `Ratio::new(5, 1)`.
+/// An integer as a fraction over 1, which never gives an error. `Ok(Ratio::from(5))` is
+/// `Ratio::new(5, 1)`.
 impl From<i64> for Ratio {
     ghost use Rattle.ratio64.specs.Ratio.{num_of, den_of};
 
@@ -146,5 +173,34 @@ impl From<i64> for Ratio {
 
     fn from(num: i64) -> Ratio {
         Ratio { num, den: 1 }
+    }
+}
+
+/// The default is 0: `Ratio::default()` is `Ratio::zero()`.
+impl Default for Ratio {
+    ghost use Rattle.ratio64.specs.Ratio.{num_of, den_of};
+
+    ghost is_default = { λ x. (num_of x ≡ pos 0) × (den_of x ≡ pos 1) };
+
+    fn default() -> Ratio {
+        Ratio::zero()
+    }
+}
+
+/// Prints `num/den`, and only `num` if the denominator is 1.
+/// `Ratio::new(6, -4).unwrap().to_string()` is `"-3/2"`.
+impl fmt::Display for Ratio {
+    ghost use Rattle.std.specs.Prelude.{Some};
+    ghost use Rattle.ratio64.specs.Ratio.{text_of};
+
+    ghost output = { λ x. Some (text_of x) };
+
+    fn fmt<W: fmt::Write>(&self, f: &mut fmt::Formatter<W>) -> fmt::Result {
+        let (num, den) = (self.num(), self.den());
+        if den == 1 {
+            write!(f, "{num}")
+        } else {
+            write!(f, "{num}/{den}")
+        }
     }
 }

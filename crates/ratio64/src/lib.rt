@@ -1,4 +1,4 @@
-//! Exact fractions whose parts are 64-bit numbers, always reduced.
+//! Exact fractions of 64-bit integers, always in lowest terms.
 #![tactic(auto)]
 
 mod error;
@@ -6,9 +6,7 @@ mod fraction;
 mod neighbours;
 mod order;
 mod parse;
-mod products;
 mod reduction;
-mod text;
 
 pub use error::RatioError;
 pub use fraction::Ratio;

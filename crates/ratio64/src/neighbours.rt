@@ -1,9 +1,9 @@
-//! The two neighbours of a fraction among those of small denominators, and the nearer of the two.
+//! The two neighbours of a fraction among those with small denominators, and the nearer of the two.
 
 ghost use Rattle.std.specs.Prelude.{◌≡◌, ◌+◌, ◌*◌, ◌^◌, ◌<◌, ◌≤◌, ℕ};
 ghost use Rattle.ratio64.specs.Neighbours.{AreNeighbours, IsCloser, IsNearer};
 
-/// A fraction beside another one. Its gap is the difference of the two times both denominators.
+/// A fraction beside another one. Its gap is the distance of the two, times both denominators.
 #[derive(Clone, Copy)]
 pub(crate) struct Neighbour {
     pub(crate) num: u64,
@@ -11,7 +11,7 @@ pub(crate) struct Neighbour {
     pub(crate) gap: u64,
 }
 
-/// Returns the neighbours of `num / den`: the greatest fraction below it and the least one above it
+/// Returns the neighbours of `num / den`: the largest fraction below it and the smallest one above it
 /// whose denominators are at most `max`. The larger gap falls at each turn, as in Euclid's algorithm.
 pub(crate) fn neighbours(num: u64, den: u64, max: u64) -> (Neighbour, Neighbour)
     requires positive { 0 < max }
@@ -42,8 +42,8 @@ pub(crate) fn neighbours(num: u64, den: u64, max: u64) -> (Neighbour, Neighbour)
     (below, above)
 }
 
-/// Returns the closest fraction that follows from a neighbour by steps toward the other one, in which
-/// the parts of the other one are added.
+/// Moves a neighbour toward the other one as far as it may go: each step adds the parts of the other
+/// one.
 fn closer(side: Neighbour, other: Neighbour, max: u64) -> Neighbour
     requires gap { 0 < other.gap × other.gap < side.gap }
     requires den { 0 < other.den × side.den + other.den ≤ max }
@@ -58,8 +58,8 @@ fn closer(side: Neighbour, other: Neighbour, max: u64) -> Neighbour
     }
 }
 
-/// Returns the nearer of the two neighbours, and of two that are equally near the one of the smaller
-/// denominator, or else the lower one.
+/// Returns the nearer of the two neighbours. If both are equally near, it returns the one with the
+/// smaller denominator, and if these are equal too, the lower one.
 pub(crate) fn nearer(below: Neighbour, above: Neighbour) -> Neighbour
     requires { below.gap * above.den + above.gap * below.den < 2 ^ 64 }
     ensures { IsNearer below above result }

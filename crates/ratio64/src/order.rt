@@ -1,9 +1,10 @@
 //! The order of fractions.
 
 use crate::Ratio;
-use crate::products::product;
+use crate::reduction::product;
 use std::cmp::Ordering;
 
+/// Fractions compare as numbers. `Ratio::zero().max(Ratio::one())` is `Ratio::one()`.
 impl Ord for Ratio {
     ghost use Rattle.std.specs.Prelude.{refl};
     ghost use Rattle.ratio64.specs.Fraction.{fraction_cmp};

@@ -1,4 +1,4 @@
-//! Reads a fraction from a text.
+//! Reads a fraction from a string.
 
 ghost use Rattle.std.specs.Prelude.{◌≡◌, ◌≢◌, ◌≤◌, ◌<◌, ◌^◌, ◌↔◌, IsTrue, MatchResult, Err, unsigned_abs};
 ghost use Rattle.std.specs.Char.{is_ascii_digit};
@@ -11,32 +11,35 @@ use std::error::Error;
 use std::fmt;
 use std::str::FromStr;
 
-/// Why a text is read as no fraction.
+/// Why a string is not a fraction. `"1/".parse::<Ratio>()` is `Err(ParseRatioError::NotAFraction)`.
 #[derive(Debug, Clone, Copy, PartialEq, Eq)]
 pub enum ParseRatioError {
-    /// The text is neither a whole number nor two of them with a slash between.
+    /// The string is neither an integer nor two integers with a slash between them.
     NotAFraction,
-    /// A part has more than 38 digits, without its leading zeros.
+    /// A part has more than 38 digits, leading zeros aside.
     TooLong,
     /// The denominator is 0.
     ZeroDenominator,
-    /// A part of the reduced fraction lies outside `i64`.
+    /// In lowest terms, the numerator or the denominator does not fit in `i64`.
     NotFitting,
 }
 
+/// The same error: `ParseRatioError::from(RatioError::ZeroDenominator)` is
+/// `ParseRatioError::ZeroDenominator`.
 impl From<RatioError> for ParseRatioError {
     ghost use Rattle.ratio64.specs.RatioText.{answer_read};
 
     ghost from_gives = { λ refusal error. Err error ≡ answer_read (Err refusal) };
 
-    fn from(refusal: RatioError) -> ParseRatioError {
-        match refusal {
+    fn from(error: RatioError) -> ParseRatioError {
+        match error {
             RatioError::ZeroDenominator => ParseRatioError::ZeroDenominator,
             RatioError::NotFitting => ParseRatioError::NotFitting,
         }
     }
 }
 
+/// `ParseRatioError::NotAFraction.to_string()` is `"the text is not a fraction"`.
 impl fmt::Display for ParseRatioError {
     ghost use Rattle.std.specs.Prelude.{Some};
     ghost use Rattle.ratio64.specs.RatioText.{parse_error_text};
@@ -58,10 +61,10 @@ impl fmt::Display for ParseRatioError {
 
 impl Error for ParseRatioError {}
 
-/// Reads the form that `Display` writes: `num/den`, or only `num`. Each part is an optional `-`, then
-/// digits. `"6/-4".parse().ok()` is `Ratio::new(-3, 2).ok()`, and `"+1"` and `"1/"` are no fractions.
-/// The fraction is reduced before its parts have to fit: `"18446744073709551614/2".parse()` is
-/// `Ok(Ratio::from(i64::MAX))`.
+/// Reads `num/den`, or only `num`, as `Display` prints it. Each part is an optional `-`, then digits.
+/// `"6/-4".parse().ok()` is `Ratio::new(-3, 2).ok()`, and `"+1".parse::<Ratio>()` is
+/// `Err(ParseRatioError::NotAFraction)`. Only the parts in lowest terms have to fit:
+/// `"18446744073709551614/2".parse()` is `Ok(Ratio::from(i64::MAX))`.
 impl FromStr for Ratio {
     type Err = ParseRatioError;
 
@@ -71,24 +74,31 @@ impl FromStr for Ratio {
 
     fn from_str(text: &str) -> Result<Ratio, ParseRatioError> {
         let (num, den) = text.split_once('/').unwrap_or((text, "1"));
-        if !is_whole_number(num) || !is_whole_number(den) {
+        if !is_integer(num) || !is_integer(den) {
             return Err(ParseRatioError::NotAFraction);
         }
         fraction_of(num, den)
     }
 }
 
-/// Returns the fraction of the two numbers that the texts spell.
+/// Returns the fraction of two integers.
 fn fraction_of(num: &str, den: &str) -> Result<Ratio, ParseRatioError>
     requires num { IsNumeral 10 (unsigned_part num.now) }
     requires den { IsNumeral 10 (unsigned_part den.now) }
     ensures fraction { AnswersSpelled (whole_of num.now) (whole_of den.now) result }
     ensures spelled { result ≢ Err ParseRatioError.NotAFraction }
 {
-    Ok(Ratio::reduced(whole_number(num)?, whole_number(den)?)?)
+    Ok(Ratio::reduced(integer(num)?, integer(den)?)?)
 }
 
-/// Returns the text without a leading `-`.
+/// Returns whether the string is an optional `-`, then one or more digits, and nothing else.
+fn is_integer(text: &str) -> bool
+    ensures { IsTrue result ↔ IsNumeral 10 (unsigned_part text.now) }
+{
+    let digits = without_minus(text.as_bytes());
+    !digits.is_empty() && has_only_digits(digits)
+}
+
 fn without_minus(text: &[u8]) -> &[u8]
     ensures { result.now ≡ unsigned_part text.now }
 {
@@ -98,27 +108,17 @@ fn without_minus(text: &[u8]) -> &[u8]
     }
 }
 
-/// Returns `true` if the text is an optional `-`, then one or more digits, and nothing else.
-fn is_whole_number(text: &str) -> bool
-    ensures { IsTrue result ↔ IsNumeral 10 (unsigned_part text.now) }
-{
-    let digits = without_minus(text.as_bytes());
-    !digits.is_empty() && has_only_digits(digits)
-}
-
-/// Returns `true` if each byte is a digit.
 fn has_only_digits(text: &[u8]) -> bool
     ensures { result ≡ list_all is_ascii_digit text.now }
 {
     text.iter().all(|byte| byte.is_ascii_digit())
 }
 
-/// 10^38, the least number of 39 digits.
+/// 10^38, the smallest number of 39 digits.
 const LEAST_TOO_LONG: u128 = 100_000_000_000_000_000_000_000_000_000_000_000_000;
 
-/// Returns the number that the text spells, or `TooLong` where it has more than 38 digits without
-/// its leading zeros.
-fn whole_number(text: &str) -> Result<i128, ParseRatioError>
+/// Returns the integer, or `TooLong` if it has more than 38 digits, leading zeros aside.
+fn integer(text: &str) -> Result<i128, ParseRatioError>
     requires { IsNumeral 10 (unsigned_part text.now) }
     ensures { MatchResult result
         (λ number. (number ≡ whole_of text.now) × (unsigned_abs number < 10 ^ 38))

@@ -1,6 +1,6 @@
-//! The lowest terms of a fraction of wide parts.
+//! Parts of fractions in `i128`: products, and lowest terms.
 
-ghost use Rattle.std.specs.Prelude.{◌≡◌, ◌↔◌, ◌<◌, ◌≤◌, ◌^◌, ◌<ℤ◌, ℤ, pos, unsigned_abs, FitsSigned, IsTrue, MatchOption, MatchResult};
+ghost use Rattle.std.specs.Prelude.{◌≡◌, ◌↔◌, ◌<◌, ◌≤◌, ◌^◌, ◌<ℤ◌, ◌+ℤ◌, ◌-ℤ◌, ◌*ℤ◌, ℤ, pos, unsigned_abs, FitsSigned, IsTrue, MatchOption, MatchResult};
 ghost use Rattle.std.specs.Int.{w64};
 ghost use Rattle.ratio64.specs.Fraction.{AreEqual, IsFraction, IsExact, IsOutsideI64};
 
@@ -8,8 +8,38 @@ use crate::RatioError;
 use num_integer::operators::{is_below, is_negative, is_zero, negated, one, quotient};
 use num_integer::{Integer, gcd};
 
-/// Returns the parts of the reduced fraction that is equal to `num / den`, or `NotFitting` where they
-/// do not fit. Parts that have 64 bits are divided in 64 bits.
+/// Returns the product of two parts.
+pub(crate) fn product(a: i64, b: i64) -> i128
+    ensures value { result ≡ a *ℤ b }
+    ensures below { unsigned_abs result < 2 ^ 127 }
+    ensures below_of_positive { pos 0 <ℤ b → unsigned_abs result < 2 ^ 126 }
+{
+    i128::from(a) * i128::from(b)
+}
+
+/// Returns the numerator of the sum of `a / b` and `c / d` over the product of their denominators.
+pub(crate) fn numerator_of_sum(a: i64, b: i64, c: i64, d: i64) -> i128
+    requires b_positive { pos 0 <ℤ b }
+    requires d_positive { pos 0 <ℤ d }
+    ensures value { result ≡ a *ℤ d +ℤ c *ℤ b }
+    ensures below { unsigned_abs result < 2 ^ 127 }
+{
+    product(a, d) + product(c, b)
+}
+
+/// Returns the numerator of the difference of `a / b` and `c / d` over the product of their
+/// denominators.
+pub(crate) fn numerator_of_difference(a: i64, b: i64, c: i64, d: i64) -> i128
+    requires b_positive { pos 0 <ℤ b }
+    requires d_positive { pos 0 <ℤ d }
+    ensures value { result ≡ a *ℤ d -ℤ c *ℤ b }
+    ensures below { unsigned_abs result < 2 ^ 127 }
+{
+    product(a, d) - product(c, b)
+}
+
+/// Returns the lowest terms of `num / den`, or `NotFitting` if they do not fit. Parts that have 64 bits
+/// are divided in 64 bits.
 pub(crate) fn lowest_terms(num: i128, den: i128) -> Result<(i64, i64), RatioError>
     requires num_below { unsigned_abs num < 2 ^ 127 }
     requires den_below { unsigned_abs den < 2 ^ 127 }
@@ -17,19 +47,28 @@ pub(crate) fn lowest_terms(num: i128, den: i128) -> Result<(i64, i64), RatioErro
     ensures { MatchResult result (λ (n, d). IsExact num den n d)
         (λ e. (e ≡ RatioError.NotFitting) × IsOutsideI64 num den) }
 {
-    match (narrow(num), narrow(den)) {
-        (Some(num), Some(den)) => Ok(reduced_terms(num, den)),
+    match (narrowed(num), narrowed(den)) {
+        (Some(num), Some(den)) if num != i64::MIN && den != i64::MIN => Ok(reduced_terms(num, den)),
         _ => {
             let (num, den) = reduced_terms(num, den);
-            Ok((part(num)?, part(den)?))
+            let num = narrowed(num).ok_or(RatioError::NotFitting)?;
+            let den = narrowed(den).ok_or(RatioError::NotFitting)?;
+            Ok((num, den))
         }
     }
 }
 
-/// Returns both parts divided by their greatest common divisor, with a denominator above 0. Two
+/// Returns the number in 64 bits, or `None` if it does not fit.
+pub(crate) fn narrowed(number: i128) -> Option<i64>
+    ensures { MatchOption result (¬ (FitsSigned w64 number)) (λ n. (n ≡ number) × FitsSigned w64 number) }
+{
+    i64::try_from(number).ok()
+}
+
+/// Returns both parts divided by their greatest common divisor, with a positive denominator. Two
 /// fractions need no divisor: 0 over any number is 0/1, and a number over itself is 1/1.
 ///
-/// May be called where each number of no greater magnitude than a part fits.
+/// May be called if each number of at most the magnitude of a part fits.
 fn reduced_terms<T: Integer>(num: T, den: T) -> (T, T)
     requires num_sizes { (z : ℤ) → unsigned_abs z ≤ unsigned_abs (T.value num) → T.fits z }
     requires den_sizes { (z : ℤ) → unsigned_abs z ≤ unsigned_abs (T.value den) → T.fits z }
@@ -43,7 +82,7 @@ fn reduced_terms<T: Integer>(num: T, den: T) -> (T, T)
     if is_same(num, den) {
         return (one(), one());
     }
-    let (num, den) = above_zero(num, den);
+    let (num, den) = with_positive_denominator(num, den);
     let common = gcd(num, den);
     if is_below(one(), common) {
         (quotient(num, common), quotient(den, common))
@@ -52,10 +91,10 @@ fn reduced_terms<T: Integer>(num: T, den: T) -> (T, T)
     }
 }
 
-/// Returns the parts of the equal fraction of the same size whose denominator is above 0.
+/// Returns both parts, negated if the denominator is negative.
 ///
-/// May be called where [`reduced_terms`] may.
-fn above_zero<T: Integer>(num: T, den: T) -> (T, T)
+/// May be called if [`reduced_terms`] may.
+fn with_positive_denominator<T: Integer>(num: T, den: T) -> (T, T)
     requires num_sizes { (z : ℤ) → unsigned_abs z ≤ unsigned_abs (T.value num) → T.fits z }
     requires den_sizes { (z : ℤ) → unsigned_abs z ≤ unsigned_abs (T.value den) → T.fits z }
     requires fraction { IsFraction (T.value num) (T.value den) }
@@ -75,23 +114,4 @@ fn is_same<T: Integer>(a: T, b: T) -> bool
     ensures { IsTrue result ↔ (T.value a ≡ T.value b) }
 {
     a == b
-}
-
-/// Returns the number in 64 bits, where its negation has no more.
-fn narrow(number: i128) -> Option<i64>
-    ensures { MatchOption result (2 ^ 63 ≤ unsigned_abs number)
-        (λ n. (n ≡ number) × (unsigned_abs number < 2 ^ 63)) }
-{
-    match i64::try_from(number) {
-        Ok(n) if n != i64::MIN => Some(n),
-        _ => None,
-    }
-}
-
-/// Returns the number as a part of a fraction, or `NotFitting` where it does not fit.
-fn part(number: i128) -> Result<i64, RatioError>
-    ensures { MatchResult result (λ n. (n ≡ number) × FitsSigned w64 number)
-        (λ e. (e ≡ RatioError.NotFitting) × (¬ (FitsSigned w64 number))) }
-{
-    i64::try_from(number).or(Err(RatioError::NotFitting))
 }

@@ -1,7 +1,6 @@
-//! Operands at the type of a kind, and refusals.
+//! Operands at the type of a kind, and the errors of tests.
 
 ghost use Rattle.std.specs.Prelude.{◌≡◌, ◌↔◌, ◌≤ℤ◌, pos, false, IsTrue, MatchResult};
-ghost use Rattle.num_integer.specs.Bezout.{HasPair};
 ghost use Rattle.intcalc_core.specs.declared.calls.Answer.TheVariants as answers;
 ghost use Rattle.intcalc_core.specs.declared.calls.Refusal.TheVariants as refusals;
 ghost use Rattle.intcalc_core.specs.Outcome.{Narrows};
@@ -15,7 +14,7 @@ pub(crate) trait Operand: Average + Fits + Roots {}
 
 impl<T: Average + Fits + Roots> Operand for T {}
 
-/// Returns the value that means `n`, or `OutOfType` where `n` lies outside the type.
+/// Returns the value of the type that means `n`, or `OutOfType` if it has no such value.
 pub(crate) fn narrow<T: Integer + TryFrom<i128, Error = TryFromIntError>>(
     n: i128,
 ) -> Result<T, Refusal>
@@ -26,7 +25,7 @@ pub(crate) fn narrow<T: Integer + TryFrom<i128, Error = TryFromIntError>>(
     T::try_from(n).or(Err(Refusal::OutOfType))
 }
 
-/// Returns the values that mean `a` and `b`, or `OutOfType` where one of them lies outside the type.
+/// Returns the values that mean `a` and `b`, or `OutOfType` if the type has no such value of one of them.
 pub(crate) fn narrow_both<T: Integer + TryFrom<i128, Error = TryFromIntError>>(
     a: i128,
     b: i128,
@@ -49,6 +48,7 @@ pub(crate) fn widen<T: Operand>(x: T) -> i128
     if negative { -magnitude } else { magnitude }
 }
 
+/// Returns the answer of two numbers.
 pub(crate) fn two<T: Operand>(pair: (T, T)) -> Answer
     requires first_in_range { T.fits (T.value pair.0) }
     requires second_in_range { T.fits (T.value pair.1) }
@@ -57,6 +57,7 @@ pub(crate) fn two<T: Operand>(pair: (T, T)) -> Answer
     Answer::Two(widen(pair.0), widen(pair.1))
 }
 
+/// Returns the answer of three numbers.
 pub(crate) fn three<T: Operand>(x: T, y: T, z: T) -> Answer
     requires x_in_range { T.fits (T.value x) }
     requires y_in_range { T.fits (T.value y) }
@@ -66,25 +67,17 @@ pub(crate) fn three<T: Operand>(x: T, y: T, z: T) -> Answer
     Answer::Three(widen(x), widen(y), widen(z))
 }
 
-/// Returns the refusal where the condition does not hold.
+/// Returns the refusal as an error unless the condition holds.
 pub(crate) fn needs(holds: bool, refusal: Refusal) -> Result<(), Refusal>
     ensures { MatchResult result (λ _. IsTrue holds) (λ r. (r ≡ refusal) × (holds ≡ false)) }
 {
     if holds { Ok(()) } else { Err(refusal) }
 }
 
+/// Returns whether the number is not negative.
 pub(crate) fn is_from_zero<T: Operand>(x: T) -> bool
     requires in_range { T.fits (T.value x) }
     ensures { IsTrue result ↔ (pos 0 ≤ℤ T.value x) }
 {
     !x.parts().0
-}
-
-/// Returns `true` if the type has negative numbers, or if one of the two divides the other.
-pub(crate) fn has_pair<T: Operand>(a: T, b: T) -> bool
-    requires a_in_range { T.fits (T.value a) }
-    requires b_in_range { T.fits (T.value b) }
-    ensures { IsTrue result ↔ HasPair T.fits (T.value a) (T.value b) }
-{
-    T::ends().0 != 0 || a.is_multiple_of(&b) || b.is_multiple_of(&a)
 }

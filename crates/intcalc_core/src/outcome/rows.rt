@@ -1,5 +1,5 @@
-//! The rows of the table `Inside`, except those of fractions: one function for each call. It tests what
-//! the call needs, in the order of the table, and then makes the call of the library.
+//! One function for each call on integers, as the table `Inside` lists them: it tests what the call
+//! needs, in the order of the table, and then makes the call of the library.
 #![tactic(auto, unfolding(crate::specs::Outcome::Inside))]
 
 ghost use Rattle.std.specs.Prelude.{pos};
@@ -7,7 +7,8 @@ ghost use Rattle.intcalc_core.specs.declared.calls.Call.TheVariants as calls;
 ghost use Rattle.intcalc_core.specs.Outcome.{Inside};
 
 use crate::calls::{Answer, Refusal};
-use crate::outcome::operand::{Operand, has_pair, is_from_zero, needs, three, two, widen};
+use crate::outcome::operand::{Operand, is_from_zero, needs, three, two, widen};
+use num_integer::checked;
 use num_integer::operators::is_zero;
 
 pub(crate) fn div_rem<T: Operand>(pair: (T, T)) -> Result<Answer, Refusal>
@@ -121,9 +122,10 @@ pub(crate) fn extended_gcd<T: Operand>(pair: (T, T)) -> Result<Answer, Refusal>
 {
     let (a, b) = pair;
     needs(a.gcd_fits(&b), Refusal::NotFitting)?;
-    needs(has_pair(a, b), Refusal::NoPair)?;
-    let bezout = a.extended_gcd(&b);
-    Ok(three(bezout.gcd, bezout.x, bezout.y))
+    match checked::extended_gcd(a, b) {
+        Some(bezout) => Ok(three(bezout.gcd, bezout.x, bezout.y)),
+        None => Err(Refusal::NoPair),
+    }
 }
 
 pub(crate) fn average_floor<T: Operand>(pair: (T, T)) -> Result<Answer, Refusal>

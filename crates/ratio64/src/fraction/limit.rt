@@ -1,4 +1,4 @@
-//! The nearest fraction of a bounded denominator.
+//! The nearest fraction with a small denominator.
 
 ghost use Rattle.std.specs.Int.{w64};
 ghost use Rattle.std.specs.Prelude.{◌≡◌, ◌^◌, ◌<◌, ◌<ℤ◌, ◌+ℤ◌, ◌*ℤ◌, pos, FitsSigned};
@@ -7,15 +7,16 @@ ghost use Rattle.ratio64.specs.Ratio.{num_of, den_of};
 
 use crate::Ratio;
 use crate::neighbours::{Neighbour, nearer, neighbours};
-use crate::products::product;
+use crate::reduction::product;
 use num_integer::div_mod_floor;
 
 impl Ratio {
-    /// Returns the nearest fraction whose denominator is at most `max`. Of those that are equally near
-    /// it returns the one of the smallest denominator, and of two whole numbers the lower. 3/10
-    /// limited to 5 is 1/3, and 3/2 limited to 1 is 1/1.
+    /// Returns the nearest fraction whose denominator is at most `max`. Of those equally near it
+    /// returns the one with the smallest denominator, and of two integers the smaller.
+    /// `Ok(Ratio::new(3, 10).unwrap().limit_denominator(5))` is `Ratio::new(1, 3)`, and
+    /// `Ratio::new(3, 2).unwrap().limit_denominator(1)` is `Ratio::from(1)`.
     ///
-    /// May be called where `max` is above 0.
+    /// May be called if `max` is positive.
     pub fn limit_denominator(&self, max: i64) -> Ratio
         requires { pos 0 <ℤ max }
         ensures { IsNearestWithin (num_of self.now) (den_of self.now) max (num_of result)
@@ -39,7 +40,7 @@ impl Ratio {
     }
 }
 
-/// Returns the numerator of the sum of a whole number and a part, over the denominator of the part.
+/// Returns the numerator of the sum of an integer and a fraction, over the denominator of the fraction.
 fn numerator(whole: i64, part: Neighbour) -> i64
     requires den { part.den < 2 ^ 63 }
     requires fits { FitsSigned w64 (whole *ℤ pos part.den +ℤ pos part.num) }

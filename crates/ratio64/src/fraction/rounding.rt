@@ -1,6 +1,6 @@
-//! Rounding to whole numbers.
+//! Rounding to integers.
 
-ghost use Rattle.std.specs.Prelude.{◌≡◌, ◌<ℤ◌, ℤ, pos};
+ghost use Rattle.std.specs.Prelude.{◌≡◌, ◌↔◌, ◌<ℤ◌, ℤ, pos, IsTrue};
 ghost use Rattle.num_integer.specs.Division.{IsDivision, IsQuotient, IsRemainder, IsTruncated};
 ghost use Rattle.ratio64.specs.Ratio.{num_of, den_of};
 ghost use Rattle.ratio64.specs.Rounding.{IsRounded};
@@ -12,7 +12,15 @@ use num_integer::operators::{
 use num_integer::{Integer, div_rem};
 
 impl Ratio {
-    /// Returns the fraction rounded toward 0. For -3/2 it returns `-1`.
+    /// Returns whether the fraction is an integer. `Ratio::new(6, 3).unwrap().is_integer()` is `true`,
+    /// and `Ratio::new(1, 2).unwrap().is_integer()` is `false`.
+    pub fn is_integer(&self) -> bool
+        ensures { IsTrue result ↔ (den_of self.now ≡ pos 1) }
+    {
+        self.den == 1
+    }
+
+    /// Returns the fraction rounded toward 0. `Ratio::new(-3, 2).unwrap().trunc()` is `-1`.
     pub fn trunc(&self) -> i64
         ensures { IsQuotient IsTruncated (num_of self.now) (den_of self.now) result }
     {
@@ -20,15 +28,16 @@ impl Ratio {
         whole
     }
 
-    /// Returns the nearest whole number, and of two that are equally near the one farther from 0. For
-    /// -3/2 it returns `-2`.
+    /// Returns the nearest integer, and of two equally near the one farther from 0.
+    /// `Ratio::new(-3, 2).unwrap().round()` is `-2`.
     pub fn round(&self) -> i64
         ensures { IsRounded (num_of self.now) (den_of self.now) result }
     {
         nearest(self.num, self.den)
     }
 
-    /// Returns the fraction minus [`Ratio::trunc`]. For -3/2 it returns -1/2.
+    /// Returns the fraction minus [`Ratio::trunc`]. `Ok(Ratio::new(-3, 2).unwrap().fract())` is
+    /// `Ratio::new(-1, 2)`.
     pub fn fract(&self) -> Ratio
         ensures num { IsRemainder IsTruncated (num_of self.now) (den_of self.now)
             (num_of result) }
@@ -42,10 +51,9 @@ impl Ratio {
     }
 }
 
-/// Returns the whole number nearest to `num / den`, and of two that are equally near the one farther
-/// from 0.
+/// Returns the integer nearest to `num / den`, and of two equally near the one farther from 0.
 ///
-/// May be called where `den` is above 0.
+/// May be called if `den` is positive.
 pub(crate) fn nearest<T: Integer>(num: T, den: T) -> T
     requires in_range { T.fits (T.value num) × T.fits (T.value den) }
     requires positive { pos 0 <ℤ T.value den }

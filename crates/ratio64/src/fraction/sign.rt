@@ -7,28 +7,30 @@ ghost use Rattle.ratio64.specs.Ratio.{AnswersFraction, num_of, den_of};
 use crate::{Ratio, RatioError};
 
 impl Ratio {
-    /// Returns `true` if the fraction is 0.
+    /// Returns whether the fraction is 0. `Ratio::zero().is_zero()` is `true`.
     pub fn is_zero(&self) -> bool
         ensures { IsTrue result ↔ (num_of self.now ≡ pos 0) }
     {
         self.num == 0
     }
 
-    /// Returns `true` if the fraction is above 0.
+    /// Returns whether the fraction is positive. `Ratio::one().is_positive()` is `true`, and
+    /// `Ratio::zero().is_positive()` is `false`.
     pub fn is_positive(&self) -> bool
         ensures { IsTrue result ↔ (pos 0 <ℤ num_of self.now) }
     {
         self.num > 0
     }
 
-    /// Returns `true` if the fraction is below 0.
+    /// Returns whether the fraction is negative. `Ratio::from(-1).is_negative()` is `true`, and
+    /// `Ratio::zero().is_negative()` is `false`.
     pub fn is_negative(&self) -> bool
         ensures { IsTrue result ↔ (num_of self.now <ℤ pos 0) }
     {
         self.num < 0
     }
 
-    /// Returns the sign: -1, 0 or 1, over 1. That of -3/2 is -1.
+    /// Returns the sign: -1, 0 or 1. `Ratio::new(-3, 2).unwrap().signum()` is `Ratio::from(-1)`.
     pub fn signum(&self) -> Ratio
         ensures num { num_of result ≡ int_signum (num_of self.now) }
         ensures den { den_of result ≡ pos 1 }
@@ -36,7 +38,8 @@ impl Ratio {
         Ratio::from(self.num.signum())
     }
 
-    /// Returns the negation, or `NotFitting` where the numerator is `i64::MIN`. That of -3/2 is 3/2.
+    /// Returns the negation, or `NotFitting` if the numerator is `i64::MIN`.
+    /// `Ratio::new(-3, 2).unwrap().checked_neg()` is `Ratio::new(3, 2)`.
     pub fn checked_neg(&self) -> Result<Ratio, RatioError>
         ensures negation { AnswersFraction (neg_ℤ (num_of self.now)) (den_of self.now) result }
         ensures never_zero { result ≢ Err RatioError.ZeroDenominator }
@@ -48,7 +51,8 @@ impl Ratio {
         }
     }
 
-    /// Returns the magnitude, or `NotFitting` where the numerator is `i64::MIN`. That of -3/2 is 3/2.
+    /// Returns the magnitude, or `NotFitting` if the numerator is `i64::MIN`.
+    /// `Ratio::new(-3, 2).unwrap().checked_abs()` is `Ratio::new(3, 2)`.
     pub fn checked_abs(&self) -> Result<Ratio, RatioError>
         ensures magnitude { AnswersFraction (pos (unsigned_abs (num_of self.now)))
             (den_of self.now) result }

@@ -1,67 +1,125 @@
-//! Whole numbers times a fraction, rounded.
+//! A fraction times an integer or another fraction, and a fraction rounded to a number of parts.
 
-ghost use Rattle.std.specs.Prelude.{◌≡◌, ◌*ℤ◌, ℤ, FitsSigned, MatchOption};
+ghost use Rattle.std.specs.Prelude.{◌≡◌, ◌≢◌, ◌↔◌, ◌<◌, ◌^◌, ◌<ℤ◌, ◌*ℤ◌, ℤ, pos, unsigned_abs, Err, FitsSigned};
 ghost use Rattle.std.specs.Int.{w64, w128};
 ghost use Rattle.num_integer.specs.Checked.{AnswersWhere};
 ghost use Rattle.num_integer.specs.Division.{IsCeiled, IsDivision, IsFloored, IsQuotient};
 ghost use Rattle.num_integer.specs.Range.{EachFits};
-ghost use Rattle.ratio64.specs.Ratio.{num_of, den_of};
-ghost use Rattle.ratio64.specs.Rounding.{IsRounded};
+ghost use Rattle.ratio64.specs.Ratio.{AnswersFraction, num_of, den_of};
+ghost use Rattle.ratio64.specs.Rounding.{AnswersInParts, IsRounded};
 
-use crate::Ratio;
 use crate::fraction::rounding::nearest;
-use crate::products::product;
+use crate::reduction::{narrowed, product};
+use crate::{Ratio, RatioError};
 use num_integer::{div_ceil, div_floor};
 
 impl Ratio {
-    /// Returns the fraction times `n`, rounded down, or `None` where that number does not fit. 2/3
-    /// times 100 is 66, and 2/3 times `i64::MAX` is 6148914691236517204.
+    /// Returns the fraction times `n`, rounded down, or `None` if that number does not fit.
+    /// `Ratio::new(2, 3).unwrap().floor_times(100)` is `Some(66)`. The exact product need not fit:
+    /// `Ratio::new(2, 3).unwrap().floor_times(i64::MAX)` is `Some(6148914691236517204)`.
     pub fn floor_times(&self, n: i64) -> Option<i64>
         ensures { AnswersWhere
             (EachFits (FitsSigned w64) (IsQuotient IsFloored (num_of self.now *ℤ n) (den_of self.now)))
             (IsQuotient IsFloored (num_of self.now *ℤ n) (den_of self.now)) result }
     {
         let (num, den) = self.times(n);
-        at_64_bits(div_floor(num, den))
+        narrowed(div_floor(num, den))
     }
 
-    /// Returns the fraction times `n`, rounded up, or `None` where that number does not fit. 2/3
-    /// times 100 is 67.
+    /// Returns the fraction times `n`, rounded up, or `None` if that number does not fit.
+    /// `Ratio::new(2, 3).unwrap().ceil_times(100)` is `Some(67)`.
     pub fn ceil_times(&self, n: i64) -> Option<i64>
         ensures { AnswersWhere
             (EachFits (FitsSigned w64) (IsQuotient IsCeiled (num_of self.now *ℤ n) (den_of self.now)))
             (IsQuotient IsCeiled (num_of self.now *ℤ n) (den_of self.now)) result }
     {
         let (num, den) = self.times(n);
-        at_64_bits(div_ceil(num, den))
+        narrowed(div_ceil(num, den))
     }
 
-    /// Returns the whole number nearest to the fraction times `n`, and of two that are equally near
-    /// the one farther from 0, or `None` where that number does not fit. 2/3 times 100 is 67, and 1/2
-    /// times -3 is -2.
+    /// Returns the fraction times `n`, rounded to the nearest integer and a half away from 0, or `None`
+    /// if that integer does not fit. `Ratio::new(2, 3).unwrap().round_times(100)` is `Some(67)`, and
+    /// `Ratio::new(1, 2).unwrap().round_times(-3)` is `Some(-2)`.
     pub fn round_times(&self, n: i64) -> Option<i64>
         ensures { AnswersWhere
             (EachFits (FitsSigned w64) (IsRounded (num_of self.now *ℤ n) (den_of self.now)))
             (IsRounded (num_of self.now *ℤ n) (den_of self.now)) result }
     {
         let (num, den) = self.times(n);
-        at_64_bits(nearest(num, den))
+        narrowed(nearest(num, den))
     }
 
-    /// Returns the parts of the fraction times `n`, which are not reduced.
+    /// Returns the fraction times `n / d`, or `ZeroDenominator` if `d` is 0, or `NotFitting` if a part of
+    /// the product does not fit. `Ratio::new(2, 3).unwrap().checked_times(9, 4)` is `Ratio::new(3, 2)`.
+    pub fn checked_times(&self, n: i64, d: i64) -> Result<Ratio, RatioError>
+        ensures product { AnswersFraction (num_of self.now *ℤ n) (d *ℤ den_of self.now) result }
+        ensures zero_denominator { (result ≡ Err RatioError.ZeroDenominator) ↔ (d ≡ pos 0) }
+    {
+        Ratio::reduced(product(self.num, n), product(d, self.den))
+    }
+
+    /// Returns the largest multiple of `1 / parts` that is at most the fraction, or `NotFitting` if a part
+    /// of it does not fit. In quarters, `Ratio::new(5, 3).unwrap().floor_to(4)` is `Ratio::new(3, 2)`.
+    ///
+    /// May be called if `parts` is positive.
+    pub fn floor_to(&self, parts: i64) -> Result<Ratio, RatioError>
+        requires { pos 0 <ℤ parts }
+        ensures floored { AnswersInParts
+            (IsQuotient IsFloored (num_of self.now *ℤ parts) (den_of self.now)) parts result }
+        ensures never_zero { result ≢ Err RatioError.ZeroDenominator }
+    {
+        let (num, den) = self.times(parts);
+        in_parts(div_floor(num, den), parts)
+    }
+
+    /// Returns the smallest multiple of `1 / parts` that is at least the fraction, or `NotFitting` if a
+    /// part of it does not fit. In quarters, `Ratio::new(5, 3).unwrap().ceil_to(4)` is `Ratio::new(7, 4)`.
+    ///
+    /// May be called if `parts` is positive.
+    pub fn ceil_to(&self, parts: i64) -> Result<Ratio, RatioError>
+        requires { pos 0 <ℤ parts }
+        ensures ceiled { AnswersInParts
+            (IsQuotient IsCeiled (num_of self.now *ℤ parts) (den_of self.now)) parts result }
+        ensures never_zero { result ≢ Err RatioError.ZeroDenominator }
+    {
+        let (num, den) = self.times(parts);
+        in_parts(div_ceil(num, den), parts)
+    }
+
+    /// Returns the nearest multiple of `1 / parts`, and of two equally near the one farther from 0, or
+    /// `NotFitting` if a part of it does not fit. In hundredths, `Ratio::new(5, 3).unwrap().round_to(100)`
+    /// is `Ratio::new(167, 100)`.
+    ///
+    /// May be called if `parts` is positive.
+    pub fn round_to(&self, parts: i64) -> Result<Ratio, RatioError>
+        requires { pos 0 <ℤ parts }
+        ensures rounded { AnswersInParts
+            (IsRounded (num_of self.now *ℤ parts) (den_of self.now)) parts result }
+        ensures never_zero { result ≢ Err RatioError.ZeroDenominator }
+    {
+        let (num, den) = self.times(parts);
+        in_parts(nearest(num, den), parts)
+    }
+
+    /// Returns the parts of the fraction times `n`, which are not in lowest terms.
     fn times(&self, n: i64) -> (i128, i128)
         ensures num { result.0 ≡ num_of self.now *ℤ n }
         ensures den { result.1 ≡ den_of self.now }
         ensures quotients_fit { (q r : ℤ) → IsDivision (num_of self.now *ℤ n) (den_of self.now) q r
             → FitsSigned w128 q }
+        ensures quotients_below { (q r : ℤ) → IsDivision (num_of self.now *ℤ n) (den_of self.now) q r
+            → unsigned_abs q < 2 ^ 127 }
     {
         (product(self.num, n), i128::from(self.den))
     }
 }
 
-/// Returns the number in 64 bits, or `None` where it does not fit.
-fn at_64_bits(number: i128) -> Option<i64>
-    ensures { MatchOption result (¬ (FitsSigned w64 number)) (λ n. (n ≡ number) × FitsSigned w64 number) }
+/// Returns `number / parts`.
+fn in_parts(number: i128, parts: i64) -> Result<Ratio, RatioError>
+    requires below { unsigned_abs number < 2 ^ 127 }
+    requires positive { pos 0 <ℤ parts }
+    ensures fraction { AnswersFraction number parts result }
+    ensures never_zero { result ≢ Err RatioError.ZeroDenominator }
 {
-    i64::try_from(number).ok()
+    Ratio::reduced(number, i128::from(parts))
 }

@@ -2,7 +2,7 @@ use Rattle.std.proofs.Common.{◌≡◌, ◌<◌, List, ℕ, false, length, ◌+
 use Rattle.std.specs.Io.KnownBytes.{Appends}
 use Rattle.intcalc.proofs.sink.put_all.Given as goal
 
--- what is added so far, and what is left; where some is added, the sink has not finished since
+-- what is added so far, and what is left; if some is added, the sink has not finished since
 abbrev pub invariant-loop-rest : goal.invariant-loop-rest
 invariant-loop-rest g l =
     let contents = g.S.Sink.contents in

@@ -2,8 +2,8 @@ use Rattle.std.specs.Prelude.{pos}
 use Rattle.std.proofs.Common.{arith, inr, refl}
 use Rattle.num_integer.proofs.FittingAnswers.{from_test}
 use Rattle.num_integer.proofs.ForCallers.{divisor_size, linear, products}
-use Rattle.ratio64.proofs.ExactResults.{coprime_is_exact, exact_quotients, same_result}
-use Rattle.ratio64.proofs.ForCallers.{positive_is_nonzero, whole_is_exact}
+use Rattle.ratio64.proofs.ExactResults.{coprime_is_exact, exact_quotients, same_result, whole_is_exact}
+use Rattle.ratio64.specs.ReducedPairs.{positive_is_nonzero}
 use Rattle.ratio64.proofs.reduction.reduced_terms.Goals as goal
 
 pub returns-then-is_zero-clause-exact : goal.returns-then-is_zero-clause-exact
@@ -17,18 +17,18 @@ returns-then-is_same-clause-exact g c =
 
 pub gcd-common-requires-clause-gcd_fits : goal.gcd-common-requires-clause-gcd_fits
 gcd-common-requires-clause-gcd_fits g c =
-    let turned = c.above_zero-num.ensures in
+    let turned = c.with_positive_denominator-num.ensures in
     λ _ z h. c.requires.den_sizes z (rw turned.sizes.1 at (divisor_size h.divides_right (positive_is_nonzero turned.positive)))
 
 pub returns-then-is_below-clause-exact : goal.returns-then-is_below-clause-exact
 returns-then-is_below-clause-exact g c =
-    let turned = c.above_zero-num.ensures in
+    let turned = c.with_positive_denominator-num.ensures in
     let own = exact_quotients (positive_is_nonzero turned.positive) c.gcd-common.ensures.greatest (record { sign = inr (omega (arith, linear, turned.positive), refl) }) in
     rw (c.quotient.ensures.value, c.quotient-then-is_below.ensures.value) (same_result c.requires.fraction turned.equal own)
 
 pub returns-else-is_below-clause-exact : goal.returns-else-is_below-clause-exact
 returns-else-is_below-clause-exact g c =
-    let turned = c.above_zero-num.ensures in
+    let turned = c.with_positive_denominator-num.ensures in
     let small = from_test c.is_below.ensures c.if-is_below.false in
     let own = coprime_is_exact (positive_is_nonzero turned.positive) (omega (arith, linear, turned.positive)) c.gcd-common.ensures.greatest (omega (arith, linear, small, c.one-2.ensures.value)) in
     same_result c.requires.fraction turned.equal own

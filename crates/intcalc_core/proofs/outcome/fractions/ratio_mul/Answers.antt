@@ -5,12 +5,12 @@ use Rattle.intcalc_core.proofs.FractionLemmas.{product_outcome, product_refused}
 use Rattle.intcalc_core.proofs.outcome.fractions.ratio_mul.Goals as goal
 
 pub returns-in_err-x : goal.returns-in_err-x
-returns-in_err-x c =
+returns-in_err-x g c =
     let given = rw (to_z-of_z w128 _ c.ranges.a, to_z-of_z w128 _ c.ranges.b, to_z-of_z w128 _ c.ranges.c, to_z-of_z w128 _ c.ranges.d) at c.in_err-x.ensures in
     let refused = err_from_is_err_and c.from_residual.result c.from_residual.ensures.1 in
-    rw (refused.1, refused.2) (product_refused given)
+    rw (refused.1, refused.2) (product_refused given g.T.Number.fits)
 
 pub returns : goal.returns
-returns c =
+returns g c =
     let given = rw (to_z-of_z w128 _ c.ranges.a, to_z-of_z w128 _ c.ranges.b, to_z-of_z w128 _ c.ranges.c, to_z-of_z w128 _ c.ranges.d) at c.in_ok-x.ensures in
-    product_outcome c.checked_mul.result given c.parts.ensures c.checked_mul.ensures.product
+    product_outcome c.checked_mul.result given c.parts.ensures c.checked_mul.ensures.product g.T.Number.fits

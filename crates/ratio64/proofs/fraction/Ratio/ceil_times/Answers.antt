@@ -7,4 +7,4 @@ use Rattle.ratio64.proofs.fraction.Ratio.ceil_times.Goals as goal
 pub returns : goal.returns
 returns c =
     let wide = c.div_ceil.ensures.in_range in
-    narrowed_quotient {q = c.div_ceil.result} c.at_64_bits.result division_is_only.2 (search rules) (simp to_z-of_z at c.at_64_bits.ensures)
+    narrowed_quotient {q = c.div_ceil.result} c.narrowed.result division_is_only.2 (search rules) (simp to_z-of_z at c.narrowed.ensures)

@@ -1,5 +1,5 @@
 use Rattle.std.proofs.Common.{rules}
-use Rattle.ratio64.proofs.ForCallers.{positive_over_other}
+use Rattle.ratio64.proofs.FittingParts.{positive_over_other}
 use Rattle.ratio64.proofs.fraction.Ratio.checked_recip.Goals as goal
 
 pub returns-clause-refused : goal.returns-clause-refused

@@ -13,4 +13,4 @@ div_floor-requires-clause-quotient_fits c =
 pub returns : goal.returns
 returns c =
     let wide = c.div_floor.ensures.in_range in
-    narrowed_quotient {q = c.div_floor.result} c.at_64_bits.result division_is_only.1 (search rules) (simp to_z-of_z at c.at_64_bits.ensures)
+    narrowed_quotient {q = c.div_floor.result} c.narrowed.result division_is_only.1 (search rules) (simp to_z-of_z at c.narrowed.ensures)

@@ -7,7 +7,7 @@ use Rattle.ratio64.specs.Ratio.{num_of, den_of}
 use Rattle.ratio64.proofs.fraction.Ratio.limit_denominator.Goals as goal
 use Rattle.ratio64.proofs.fraction.Ratio.limit_denominator.Goals.{After-nearer-nearest, After-numerator, After-unsigned_abs-limit}
 
--- the fraction is the whole number and the part
+-- the fraction is the integer and the part
 split : (c : After-unsigned_abs-limit) → IsSplit (num_of c.args.self.now) (den_of c.args.self.now) c.div_mod_floor-whole.result.0 c.unsigned_abs-part.result c.unsigned_abs-den.result
 split c =
     let num : FitsSigned w64 c.args.self.now.num = search rules in

@@ -11,4 +11,4 @@ returns c =
     let x = c.args.self.now in
     let wide = c.nearest.ensures.in_range in
     let own : IsRounded (num_of x *ℤ c.args.n) (den_of x) c.nearest.result = search rules in
-    narrowed_answer c.at_64_bits.result own (only_rounded _ _ _ x.reduced.positive own) (simp to_z-of_z at c.at_64_bits.ensures)
+    narrowed_answer c.narrowed.result own (only_rounded _ _ _ x.reduced.positive own) (simp to_z-of_z at c.narrowed.ensures)

@@ -1,4 +1,4 @@
-use Rattle.ratio64.proofs.ForCallers.{whole_is_exact}
+use Rattle.ratio64.proofs.ExactResults.{whole_is_exact}
 use Rattle.ratio64.proofs.fraction.RatioFromI64.from.Goals as goal
 
 pub invariant_of-result : goal.invariant_of-result

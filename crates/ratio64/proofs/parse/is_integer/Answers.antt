@@ -4,7 +4,7 @@ use Rattle.std.proofs.lemmas.Grind.{common_steps}
 use Rattle.std.proofs.Common.{arith}
 use Rattle.ratio64.specs.RatioText.{unsigned_part}
 use Rattle.ratio64.proofs.ReadTexts.{tells_numeral}
-use Rattle.ratio64.proofs.parse.is_whole_number.Goals as goal
+use Rattle.ratio64.proofs.parse.is_integer.Goals as goal
 
 pub returns-then-not-is_empty : goal.returns-then-not-is_empty
 returns-then-not-is_empty c =

@@ -3,7 +3,7 @@ use Rattle.std.proofs.Common.{rules}
 use Rattle.ratio64.proofs.FractionAnswers.{zero_exactly}
 use Rattle.ratio64.specs.Ratio.{AnswersFraction, den_of}
 use Rattle.ratio64.specs.ReducedPairs.{positive_is_nonzero}
-use Rattle.ratio64.proofs.fraction.Ratio.over_both.Goals as goal
+use Rattle.ratio64.proofs.fraction.Ratio.over_product_of_denominators.Goals as goal
 
 pub returns-clause-never_zero : goal.returns-clause-never_zero
 returns-clause-never_zero c =

@@ -1,5 +1,5 @@
 use Rattle.ratio64.proofs.WideSums.{product_below, product_by_positive, wide_product}
-use Rattle.ratio64.proofs.products.product.Goals as goal
+use Rattle.ratio64.proofs.reduction.product.Goals as goal
 
 pub returns-clause-value : goal.returns-clause-value
 returns-clause-value c = wide_product c.ranges.a c.ranges.b c.from.ensures c.from-2.ensures

@@ -1,0 +1,81 @@
+-- The size of an exact result, and which results are no errors.
+use Rattle.std.specs.Prelude.{◌≡◌, ◌≢◌, ◌⊎◌, ◌<◌, ◌≤◌, ◌^◌, ◌*◌, ◌<ℤ◌, ◌≤ℤ◌, ◌*ℤ◌, ℤ, pos, negsuc, neg_ℤ, unsigned_abs, Result, Ok, Err, FitsSigned, IfErr}
+use Rattle.std.specs.Int.{w64}
+use Rattle.std.proofs.Common.{arith, ap, inl, inr, ◌∙◌}
+use Rattle.std.proofs.Math.Nat.{mul-le-mul_left}
+use Rattle.std.proofs.lemmas.Int.{by_lt_z, ints, fits_signed_from_abs, unsigned_abs-mul}
+use Rattle.num_integer.proofs.ForCallers.{cancel, comm, expand, factor_positive, linear, products, sizes, zero_or_not}
+use Rattle.num_integer.specs.Division.{IsDivision}
+use Rattle.ratio64.specs.Fraction.{IsExact, IsOutsideI64}
+use Rattle.ratio64.specs.Ratio.{AnswersFraction}
+use Rattle.ratio64.specs.ReducedPairs.{AreEqual-sym, denominator_divides, positive_is_nonzero}
+use Rattle.ratio64.specs.declared.fraction.Ratio.{Ratio}
+use Rattle.ratio64.specs.declared.error.RatioError.{RatioError}
+use Rattle.ratio64.proofs.FractionAnswers.{err_is_outside}
+use Rattle.ratio64.proofs.NearestNumbers.{quotient_fits}
+
+-- both parts of a fraction are those of its exact result times one number
+pub common_factor : {a b n d : ℤ} → IsExact a b n d → (s : ℤ) × (a ≡ n *ℤ s) × (b ≡ d *ℤ s)
+common_factor {a} {b} {n} {d} h =
+    let x = denominator_divides h.reduced (AreEqual-sym h.equal) in
+    let cross = h.equal.cross in
+    let e : b ≡ d *ℤ x.factor = x.product in
+    let left : d *ℤ a ≡ d *ℤ (n *ℤ x.factor) = comm d a ∙ cross ∙ ap (λ (t : ℤ). n *ℤ t) e ∙ simp expand in
+    (x.factor, cancel d a (n *ℤ x.factor) (positive_is_nonzero h.reduced.positive) left, e)
+
+factor_at_most : (x y s : ℤ) → s ≢ pos 0 → x ≡ y *ℤ s → unsigned_abs y ≤ unsigned_abs x
+factor_at_most x y s nonzero e =
+    let size : unsigned_abs x ≡ unsigned_abs y * unsigned_abs s = ap unsigned_abs e ∙ unsigned_abs-mul y s in
+    let some : 1 ≤ unsigned_abs s = omega (arith, sizes) in
+    omega (arith, mul-le-mul_left (unsigned_abs y) some)
+
+-- they are no wider than those of the fraction
+pub exact_parts_at_most : {a b n d : ℤ} → IsExact a b n d → (unsigned_abs n ≤ unsigned_abs a) × (unsigned_abs d ≤ unsigned_abs b)
+exact_parts_at_most {a} {b} {n} {d} h =
+    let s = common_factor h in
+    let nonzero : s.0 ≢ pos 0 = λ none. h.fraction (rw none at s.2 ∙ omega (arith, products)) in
+    (factor_at_most a n s.0 nonzero s.1, factor_at_most b d s.0 nonzero s.2)
+
+pub small_parts_inside : {a b : ℤ} → unsigned_abs a < 2 ^ 63 → unsigned_abs b < 2 ^ 63 → ¬ (IsOutsideI64 a b)
+small_parts_inside a_small b_small far =
+    let size = exact_parts_at_most far.exact in
+    elim far.outside [
+      | inl outside ↦ outside (fits_signed_from_abs w64 far.num (omega arith))
+      | inr outside ↦ outside (fits_signed_from_abs w64 far.den (omega arith))
+    ]
+
+-- if the denominator is positive, it is enough that both parts fit, also MIN
+pub positive_denominator_inside : {a b : ℤ} → FitsSigned w64 a → FitsSigned w64 b → pos 0 <ℤ b → ¬ (IsOutsideI64 a b)
+positive_denominator_inside {a} {b} a_fits b_fits up far =
+    let s = common_factor far.exact in
+    let s_up = factor_positive up far.exact.reduced.positive s.2 in
+    elim far.outside [
+      | inl outside ↦ outside (quotient_fits s_up (exact_division s_up s.1) w64 a_fits)
+      | inr outside ↦ outside (quotient_fits s_up (exact_division s_up s.2) w64 b_fits)
+    ]
+  where
+    exact_division : {n q t : ℤ} → pos 0 <ℤ t → n ≡ q *ℤ t → IsDivision n t q (pos 0)
+    exact_division t_up e = record { equation = omega (arith, linear); small = omega (arith, sizes) }
+
+pub positive_is_answered : {a b : ℤ} (r : Result Ratio RatioError) → FitsSigned w64 a → FitsSigned w64 b → AnswersFraction a b r → IfErr r (λ _. b ≤ℤ pos 0)
+positive_is_answered (Ok x) a_fits b_fits h = tt
+positive_is_answered {b = b} (Err e) a_fits b_fits h = by_lt_z (pos 0) b
+    (λ up. absurd (positive_denominator_inside a_fits b_fits up (err_is_outside e (positive_is_nonzero up) h)))
+    (λ fine. fine)
+
+-- a number that fits is MIN, or its negation fits too
+small_or_least : (z : ℤ) → FitsSigned w64 z → (unsigned_abs z < 2 ^ 63) ⊎ (z ≡ neg_ℤ (pos (2 ^ 63)))
+small_or_least (pos n) fits = inl (let low = fits.sfits in omega arith)
+small_or_least (negsuc n) fits = let low = fits.sfits in grind (arith, ints)
+
+-- a positive numerator gives an error only over 0 and MIN
+pub positive_over_other : {a b : ℤ} (r : Result Ratio RatioError) → FitsSigned w64 a → FitsSigned w64 b → pos 0 <ℤ a → AnswersFraction a b r
+    → IfErr r (λ _. (b ≡ pos 0) ⊎ (b ≡ neg_ℤ (pos (2 ^ 63))))
+positive_over_other (Ok x) a_fits b_fits up h = tt
+positive_over_other {a} {b} (Err e) a_fits b_fits up h = elim (zero_or_not b) [
+  | inl none ↦ inl none
+  | inr nonzero ↦ inr (elim (small_or_least b b_fits) [
+    | inl small ↦ absurd (small_parts_inside (elim (small_or_least a a_fits) [ inl fine ↦ fine | inr least ↦ absurd (omega (arith, ints)) ]) small (err_is_outside e nonzero h))
+    | inr least ↦ least
+  ])
+]
