@@ -41,7 +41,7 @@ RANGE = rf'{FITS} \({ANY}\)'
 RESULT = rf'(?:{ANY} [-+*]ℤ (?:{ANY}|pos 1)|neg_ℤ \({ANY}\))'
 
 # What a parameter is called where it has to be above 0, where it may not be negative, and where it ends another.
-POSITIVE = {'m': 'the modulus', 'n': 'the modulus', 'modulus': 'the modulus', 'step': 'the step', 'max': 'the limit',
+POSITIVE = {'m': 'the modulus', 'n': 'the modulus', 'modulus': 'the modulus', 'step': 'the step', 'max': 'the limit', 'parts': 'the number of parts',
             'a.1': 'the period', 'b.1': 'the period', 'page_size': 'the page size', 'alignment': 'the alignment',
             'congruences': 'a modulus', 'schedules': 'a period'}
 FROM_ZERO = {'n': '`n`', 'k': '`k`', 'items': 'the number of items', 'part': 'the part', 'place': 'the place'}
@@ -106,7 +106,7 @@ ROWS = (
         'Not this call. The one that asks for an item does, if the item does not fit.'),
     Row('positive', rf'pos 0 <ℤ {value("x")}', TESTED, '{x.name} is not positive', '{x.value} > {x.zero}',
         '{x.name} is not positive', names=POSITIVE),
-    Row('positive limit', r'pos 0 <ℤ (?P<x>max)|0 < (?P<y>modulus)', TESTED, '{x.name} is not positive', '{x} > 0',
+    Row('positive limit', r'pos 0 <ℤ (?P<x>max|parts)|0 < (?P<y>modulus)', TESTED, '{x.name} is not positive', '{x} > 0',
         '{x.name} is not positive', names=POSITIVE),
     Row('all positive', r'All \(λ (?P<p>\w)\. pos 0 <ℤ (?P<x_type>[A-Z]\w*)\.value (?P=p)\.1\) (?P<x>[\w.]+)', TESTED,
         '{x.name} is not positive', '{x}.iter().all(|pair| pair.1 > {x.zero})', '{x.name} is not positive',
@@ -152,13 +152,17 @@ CODE = {
         ('<T: Num>', INTEGER),
         ('difference(zero(), a)', f'zero::<T>().exact_difference(a, "{WRAPS.format("negate")}")')),
     ('integer_core', 'native', 'Native'): (
-        ('Copy + Num +', 'Copy + Num + num_traits::CheckedAdd + num_traits::CheckedSub + num_traits::CheckedMul +'),),
+        ('Copy + Num +', 'Copy + Num + num_traits::NumCast + num_traits::CheckedAdd + num_traits::CheckedSub '
+         '+ num_traits::CheckedMul +'),),
     ('integer_core', 'native_integer', 'lcm'): (
-        ('T::from_magnitude(T::Magnitude::positive_lcm(self.magnitude(), other.magnitude()))',
-         f'crate::guards::number(T::Magnitude::positive_lcm(self.magnitude(), other.magnitude()), "{LCM}")'),),
-    ('integer_core', 'stein', 'positive_lcm'): (
-        ('product(a, quotient(b, positive_gcd(a, b).0))',
-         f'crate::guards::product(a, quotient(b, positive_gcd(a, b).0), "{LCM}")'),),
+        ('T::from_magnitude(positive_gcd_lcm(self.magnitude(), other.magnitude()).1)',
+         f'crate::guards::number(positive_gcd_lcm(self.magnitude(), other.magnitude()).1, "{LCM}")'),),
+    ('integer_core', 'native_integer', 'gcd_lcm'): (
+        ('(T::from_magnitude(gcd), T::from_magnitude(lcm))',
+         f'(crate::guards::number(gcd, "{GCD}"), crate::guards::number(lcm, "{LCM}"))'),),
+    ('integer_core', 'stein', 'Magnitude'): (('Copy + Unsigned +', 'Copy + Unsigned + num_traits::CheckedMul +'),),
+    ('integer_core', 'stein', 'positive_gcd_lcm'): (
+        ('product(a, quotient(b, gcd))', f'crate::guards::product(a, quotient(b, gcd), "{LCM}")'),),
     ('integer_core', 'stein', 'binary_gcd'): (
         ('T::from_magnitude(gcd)', f'crate::guards::number(gcd, "{GCD}")'),),
     ('num_integer', 'coefficients', 'next_coefficient'): (
@@ -187,7 +191,7 @@ LEFT_TO_BODY = {
 }
 # The functions without a clause that the place of the caller goes through, on the way to a panic.
 WAY = {('integer_core', 'division', 'div_rem'), ('integer_core', 'division', 'div_mod_floor'),
-       ('integer_core', 'stein', 'binary_gcd'), ('integer_core', 'stein', 'positive_lcm'),
+       ('integer_core', 'stein', 'binary_gcd'), ('integer_core', 'stein', 'positive_gcd_lcm'),
        ('num_integer', 'coefficients', 'next_coefficient'), ('num_integer', 'rows', 'item_at'),
        ('num_integer', 'rows', 'next')}
 
@@ -429,7 +433,7 @@ def erased(text):
 # What the self-test takes out: the forms with a test, and the changes of code that are no bound.
 def forms():
     changed = [key[2] for key, changes in CODE.items()
-               if any(new != INTEGER for _, new in changes) and key[2] != 'Native']
+               if any(new != INTEGER for _, new in changes) and key[2] not in ('Native', 'Magnitude')]
     return [row.name for row in ROWS if row.test] + changed
 
 

@@ -15,12 +15,12 @@ mod years;
 
 pub use date::Date;
 pub use days::Days;
-pub use distances::{days_between, months_between};
+pub use distances::{days_between, months_between, years_between};
 pub use feasts::easter;
 pub use iso_weeks::{weeks_in_year, IsoWeek};
 pub use months::days_in_month;
 pub use text::DateError;
-pub use weekday::{weekday_of, Weekday};
+pub use weekday::{weekday_of, Weekday, WeekdayError};
 pub use weeks::{
     first_weekday_on_or_after, last_weekday_of_month, last_weekday_on_or_before,
     nth_weekday_of_month,

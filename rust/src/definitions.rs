@@ -75,7 +75,7 @@ pub mod integer_core {
     //!
     //! ## `sign`
     //!
-    //! The sign of a number is -1 below 0, and else 1. Examples: -5: -1; 0: 1; 5: 1.
+    //! The sign of a negative number is -1, and of any other 1. Examples: -5: -1; 0: 1; 5: 1.
     //!
     //! ```text
     //! abbrev pub sign : ℤ → ℤ
@@ -131,9 +131,9 @@ pub mod integer_core {
     //! ## `IsBezoutAnswer`
     //!
     //! g is the greatest common divisor of a and b, and x·a + y·b is g, by the first case that
-    //! holds: where b is not 0 and divides a, x is 0 and y the sign of b; where b is 0 or a divides
-    //! b, x is the sign of a and y is 0; else the pair is small. Examples: 12 and 4: 4, 0, 1; 0 and
-    //! 0: 0, 1, 0; 240 and 46: 2, -9, 47.
+    //! holds: if b is not 0 and divides a, x is 0 and y is the sign of b; if b is 0 or a divides b,
+    //! x is the sign of a and y is 0; otherwise the pair is small. Examples: 12 and 4: 4, 0, 1; 0
+    //! and 0: 0, 1, 0; 240 and 46: 2, -9, 47.
     //!
     //! ```text
     //! pub record IsBezoutAnswer (a b g x y : ℤ) : Type 0 where
@@ -147,8 +147,8 @@ pub mod integer_core {
     //!
     //! ## `HasPair`
     //!
-    //! In a type without negatives, which has no -1, one operand divides the other. Examples: u8: 4
-    //! and 12; not 10 and 4; i8: 10 and 4, as every pair.
+    //! If the type has no -1, and so no negative number, one operand divides the other. Examples:
+    //! u8: 4 and 12; not 10 and 4; i8: 10 and 4, as every pair.
     //!
     //! ```text
     //! abbrev pub HasPair : (ℤ → Type 0) → ℤ → ℤ → Type 0
@@ -168,8 +168,8 @@ pub mod integer_core {
     //!
     //! ## `EuclidEnds`
     //!
-    //! No turn follows where the current remainder divides the previous one. Examples: 2 and 4; 4
-    //! and 12; not 46 and 240.
+    //! The loop ends if the current remainder divides the previous one. Examples: 2 and 4; 4 and
+    //! 12; not 46 and 240.
     //!
     //! ```text
     //! abbrev pub EuclidEnds : Remainders → Type 0
@@ -178,9 +178,9 @@ pub mod integer_core {
     //!
     //! ## `IsEuclidTurn`
     //!
-    //! Where the current remainder does not divide the previous one, a turn goes on to previous -
-    //! q·current, with the truncated quotient q of the two. Examples: 46 and 240 to 10 and 46; 10
-    //! and 46 to 6 and 10; none from 2 and 4.
+    //! If the current remainder does not divide the previous one, a turn replaces the two by
+    //! previous - q·current and current, with the truncated quotient q of the two. Examples: 46 and
+    //! 240 to 10 and 46; 10 and 46 to 6 and 10; none from 2 and 4.
     //!
     //! ```text
     //! pub record IsEuclidTurn (s t : Remainders) : Type 0 where
@@ -193,20 +193,20 @@ pub mod integer_core {
     //!
     //! ## `AreEuclidTurns`
     //!
-    //! n is 0 where b is 0, and else the number of turns of the run that begins with b as the
-    //! current and a as the previous remainder. Examples: 240 and 46: 4; 12 and 4: 0; 8 and 13: 5.
+    //! n is 0 if b is 0, and otherwise the number of turns of the run that begins with the current
+    //! remainder b and the previous one a. Examples: 240 and 46: 4; 12 and 4: 0; 8 and 13: 5.
     //!
     //! ```text
     //! pub record AreEuclidTurns (a b : ℤ) (n : ℕ) : Type 0 where
     //!   pub of_zero : b ≡ pos 0 → n ≡ 0
-    //!     pub of_nonzero : b ≢ pos 0 → Makes IsEuclidTurn EuclidEnds (record { current = b;
+    //!     pub of_nonzero : b ≢ pos 0 → RunHasTurns IsEuclidTurn EuclidEnds (record { current = b;
     //!       previous = a }) n
     //! ```
     //!
     //! ## `IsDivision`
     //!
-    //! n is q times d and r more, and the magnitude of r is below that of d. Examples: 8 by 3: 2
-    //! and 2; 8 by 3: 3 and -1 too; by 0: none, since no magnitude is below 0.
+    //! n is q times d plus r, and the magnitude of r is below that of d. Examples: 8 by 3: 2 and 2;
+    //! 8 by 3: 3 and -1 too; by 0: none, since no magnitude is below 0.
     //!
     //! ```text
     //! pub record IsDivision (n d q r : ℤ) : Type 0 where
@@ -216,7 +216,7 @@ pub mod integer_core {
     //!
     //! ## `HaveSameSign`
     //!
-    //! Both numbers are above 0, or both are below. Examples: 2 and 8; -2 and -8; not 0 and 8.
+    //! Both numbers are positive, or both are negative. Examples: 2 and 8; -2 and -8; not 0 and 8.
     //!
     //! ```text
     //! abbrev pub HaveSameSign : ℤ → ℤ → Type 0
@@ -225,7 +225,8 @@ pub mod integer_core {
     //!
     //! ## `HaveOppositeSigns`
     //!
-    //! One number is above 0, and the other is below. Examples: -1 and 3; 2 and -3; not 0 and 3.
+    //! One number is positive, and the other is negative. Examples: -1 and 3; 2 and -3; not 0 and
+    //! 3.
     //!
     //! ```text
     //! abbrev pub HaveOppositeSigns : ℤ → ℤ → Type 0
@@ -256,8 +257,8 @@ pub mod integer_core {
     //!
     //! ## `IsCeiled`
     //!
-    //! q is n by d rounded up: the remainder r is 0 or has the sign opposite to that of d.
-    //! Examples: 8 by 3: 3, -1; -8 by 3: -2, -2; 8 by -3: -2, 2.
+    //! q is n by d rounded up: the remainder r is 0 or has the sign that d has not. Examples: 8 by
+    //! 3: 3, -1; -8 by 3: -2, -2; 8 by -3: -2, 2.
     //!
     //! ```text
     //! pub record IsCeiled (n d q r : ℤ) : Type 0 where
@@ -289,8 +290,8 @@ pub mod integer_core {
     //!
     //! ## `IsMultiple`
     //!
-    //! m is the quotient of n by d of this kind, times d: the next multiple where it is ceiled, the
-    //! previous one where it is floored. Examples: ceiled, 23 by 8: 24; 23 by -8: 16; floored, 23
+    //! m is the quotient of n by d of this kind, times d: the next multiple if the kind is ceiled,
+    //! the previous one if it is floored. Examples: ceiled, 23 by 8: 24; 23 by -8: 16; floored, 23
     //! by -8: 24.
     //!
     //! ```text
@@ -312,8 +313,8 @@ pub mod integer_core {
     //!
     //! ## `Divides`
     //!
-    //! v is u times some whole number, so 0 divides 0 alone. Examples: 3 divides 9; 9 does not
-    //! divide 3; 0 divides 0 and nothing else.
+    //! v is u times some integer, so 0 divides only 0. Examples: 3 divides 9; 9 does not divide 3;
+    //! 0 divides 0 and nothing else.
     //!
     //! ```text
     //! pub record Divides (u v : ℤ) : Type 0 where
@@ -358,9 +359,9 @@ pub mod integer_core {
     //!
     //! ## `GcdFits`
     //!
-    //! The greatest common divisor fits, asked only of a type that has -1: any other type has the
-    //! gcd of any two of its numbers. Examples: u8: 0 and 255, as every pair; i8: -128 and 64; not
-    //! -128 and 0.
+    //! The greatest common divisor fits. Only a type that has -1 has to meet this: any other type
+    //! has the gcd of any two of its numbers. Examples: u8: 0 and 255, as every pair; i8: -128 and
+    //! 64; not -128 and 0.
     //!
     //! ```text
     //! abbrev pub GcdFits : (ℤ → Type 0) → ℤ → ℤ → Type 0
@@ -381,7 +382,7 @@ pub mod integer_core {
     //!
     //! ## `IsOddPart`
     //!
-    //! m is n with all factors 2 taken out. Examples: 12: 3; 7: 7; 0 has none.
+    //! m is n with all factors 2 taken out. Examples: 12: 3; 7: 7; none of 0.
     //!
     //! ```text
     //! pub record IsOddPart (n m : ℕ) : Type 0 where
@@ -403,7 +404,7 @@ pub mod integer_core {
     //!
     //! ## `GcdEnds`
     //!
-    //! No turn follows where the two numbers are equal. Examples: 7, 7; 1, 1; not 5, 3.
+    //! The loop ends if the two numbers are equal. Examples: 7, 7; 1, 1; not 5, 3.
     //!
     //! ```text
     //! abbrev pub GcdEnds : OddPair → Type 0
@@ -412,7 +413,7 @@ pub mod integer_core {
     //!
     //! ## `IsLeftTurn`
     //!
-    //! The first number is above the second, and becomes their difference with all factors 2 taken
+    //! The first number is the larger one, and becomes their difference with all factors 2 taken
     //! out. Examples: 5, 3 to 1, 3; 21, 7 to 7, 7; none from 3, 5.
     //!
     //! ```text
@@ -424,7 +425,7 @@ pub mod integer_core {
     //!
     //! ## `IsRightTurn`
     //!
-    //! The second number is above the first, and becomes their difference with all factors 2 taken
+    //! The second number is the larger one, and becomes their difference with all factors 2 taken
     //! out. Examples: 3, 5 to 3, 1; 7, 21 to 7, 7; none from 5, 3.
     //!
     //! ```text
@@ -454,12 +455,12 @@ pub mod integer_core {
     //!   pub first : OddPair
     //!   pub left : IsOddPart a first.m
     //!   pub right : IsOddPart b first.n
-    //!   pub run : Makes IsGcdTurn GcdEnds first n
+    //!   pub run : RunHasTurns IsGcdTurn GcdEnds first n
     //! ```
     //!
     //! ## `IsZeroOrLeast`
     //!
-    //! x is 0, or low, the least number of a type. Examples: of i8: 0; -128; not 1.
+    //! x is 0, or low, the smallest number of a type. Examples: of i8: 0; -128; not 1.
     //!
     //! ```text
     //! abbrev pub IsZeroOrLeast : ℤ → ℤ → Type 0
@@ -468,8 +469,8 @@ pub mod integer_core {
     //!
     //! ## `AreGcdTurns`
     //!
-    //! n is 0 where a or b is 0 or low, and else the number of turns of the run from the magnitudes
-    //! of a and b. Examples: 56 and 42: 1; 5 and 3: 2; i64 MIN and 3: 0.
+    //! n is 0 if a or b is 0 or low, and otherwise the number of turns of the run from the
+    //! magnitudes of a and b. Examples: 56 and 42: 1; 5 and 3: 2; i64 MIN and 3: 0.
     //!
     //! ```text
     //! pub record AreGcdTurns (low a b : ℤ) (n : ℕ) : Type 0 where
@@ -480,8 +481,8 @@ pub mod integer_core {
     //!
     //! ## `IsBitLength`
     //!
-    //! l is the least number for which the magnitude of v is below 2 to the power l. Examples: 0:
-    //! 0; 7 and -7: 3; 8: 4.
+    //! l is the smallest number for which the magnitude of v is below 2 to the power l. Examples:
+    //! 0: 0; 7 and -7: 3; 8: 4.
     //!
     //! ```text
     //! pub record IsBitLength (v : ℤ) (l : ℕ) : Type 0 where
@@ -501,9 +502,9 @@ pub mod integer_core {
     //!
     //! ## `IsRange`
     //!
-    //! A number fits a type exactly where it lies from low to high; low is 0, -high or -high - 1,
-    //! and high is at least 1, below 2^128, and below 2^127 where low is negative. Examples: i8:
-    //! -128 to 127; u64: 0 to 18446744073709551615; your own type: -7 to 7.
+    //! The numbers that fit the type are those from low to high; low is 0, -high or -high - 1, and
+    //! high is at least 1, below 2^128, and below 2^127 if low is negative. Examples: i8: -128 to
+    //! 127; u64: 0 to 18446744073709551615; your own type: -7 to 7.
     //!
     //! ```text
     //! pub record IsRange (fits : ℤ → Type 0) (low high : ℤ) : Type 0 where
@@ -516,8 +517,9 @@ pub mod integer_core {
     //!
     //! ## `EachFits`
     //!
-    //! Each number with the property P fits. Examples: in i8: being a quotient of -128 by 2; being
-    //! a quotient of 1 by 0, which no number is; not: being a quotient of -128 by -1, which 128 is.
+    //! Each number with the property P fits. Examples in i8: 'is a quotient of -128 by 2'; 'is a
+    //! quotient of 1 by 0', since there is none; not 'is a quotient of -128 by -1', since 128 is
+    //! one.
     //!
     //! ```text
     //! abbrev pub EachFits : (ℤ → Type 0) → (ℤ → Type 0) → Type 0
@@ -526,8 +528,9 @@ pub mod integer_core {
     //!
     //! ## `IsRun`
     //!
-    //! Each state is a turn of the one before, and no turn follows the last. Examples: of Euclid's
-    //! loop from 46 and 240: five states; from 4 and 12: one state; the empty list is no run.
+    //! Each state follows from the one before by a turn, and the loop ends at the last. Examples:
+    //! of Euclid's loop from 46 and 240: five states; from 4 and 12: one state; the empty list is
+    //! no run.
     //!
     //! ```text
     //! abbrev pub IsRun : {S : Type 0} → (S → S → Type 0) → (S → Type 0) → List S → Type 0
@@ -536,14 +539,14 @@ pub mod integer_core {
     //! IsRun turn ends (s ∷ (t ∷ rest)) = turn s t × IsRun turn ends (t ∷ rest)
     //! ```
     //!
-    //! ## `Makes`
+    //! ## `RunHasTurns`
     //!
-    //! A run that begins with the first state has n turns, one fewer than states. Examples: from 46
-    //! and 240: 4; from 4 and 12: 0; from 13 and 8: 5.
+    //! The run that begins with the first state has n turns, one fewer than it has states.
+    //! Examples: from 46 and 240: 4; from 4 and 12: 0; from 13 and 8: 5.
     //!
     //! ```text
-    //! pub record Makes {S : Type 0} (turn : S → S → Type 0) (ends : S → Type 0) (first : S) (n :
-    //!     ℕ) : Type 0 where
+    //! pub record RunHasTurns {S : Type 0} (turn : S → S → Type 0) (ends : S → Type 0) (first : S)
+    //!     (n : ℕ) : Type 0 where
     //!   pub rest : List S
     //!   pub run : IsRun turn ends (first ∷ rest)
     //!   pub turns : length rest ≡ n
@@ -556,8 +559,8 @@ pub mod integer_roots {
     //!
     //! ## `IsAverageFloor`
     //!
-    //! f is the average of a and b rounded down: a + b lies from twice f to below twice f and 2
-    //! more. Examples: 3 and 10: 6; -2 and -5: -4; 4 and 4: 4.
+    //! f is the average of a and b rounded down: a + b is at least 2·f and below 2·f + 2. Examples:
+    //! 3 and 10: 6; -2 and -5: -4; 4 and 4: 4.
     //!
     //! ```text
     //! pub record IsAverageFloor (a b f : ℤ) : Type 0 where
@@ -567,8 +570,8 @@ pub mod integer_roots {
     //!
     //! ## `IsAverageCeil`
     //!
-    //! c is the average of a and b rounded up: a + b lies from above twice c and 2 less to twice c.
-    //! Examples: 3 and 10: 7; -2 and -5: -3; 4 and 4: 4.
+    //! c is the average of a and b rounded up: a + b is above 2·c - 2 and at most 2·c. Examples: 3
+    //! and 10: 7; -2 and -5: -3; 4 and 4: 4.
     //!
     //! ```text
     //! pub record IsAverageCeil (a b c : ℤ) : Type 0 where
@@ -578,7 +581,7 @@ pub mod integer_roots {
     //!
     //! ## `IsFloorRoot`
     //!
-    //! r is at least 0, its power of degree n is at most x, and the power of r + 1 is above x.
+    //! r is not negative, its power of degree n is at most x, and the power of r + 1 is above x.
     //! Examples: 99 at degree 2: 9; 12345 at 4: 10; 7 at 3: 1.
     //!
     //! ```text
@@ -590,8 +593,8 @@ pub mod integer_roots {
     //!
     //! ## `IsRoot`
     //!
-    //! r is the floor root of x at least 0; of a negative x, which has a root only at odd degrees,
-    //! r is minus the floor root of -x. Examples: -9 at 3: -2; -128 at 7: -2; none of -1 at 2.
+    //! If x is not negative, r is its floor root; if x is negative, the degree is odd and r is
+    //! minus the floor root of -x. Examples: -9 at 3: -2; -128 at 7: -2; none of -1 at 2.
     //!
     //! ```text
     //! pub record IsRoot (x : ℤ) (n : ℕ) (r : ℤ) : Type 0 where
@@ -601,7 +604,7 @@ pub mod integer_roots {
     //!
     //! ## `IsWithin64Bits`
     //!
-    //! The range of a type has at most 64 bits: high is below 2^64, and below 2^63 where low is
+    //! The range of a type has at most 64 bits: high is below 2^64, and below 2^63 if low is
     //! negative. Examples: the range of u64; that of i8; not that of i128.
     //!
     //! ```text
@@ -621,8 +624,8 @@ pub mod integer_roots {
     //!
     //! ## `Guess`
     //!
-    //! A guess is a number with its loop: in the first loop guesses rise, and in the second they
-    //! fall. Examples: of 99: Rising 8, Rising 10 and Falling 9.
+    //! A guess is a number and the loop that makes it: guesses rise in the first loop, and fall in
+    //! the second. Examples: of 99: Rising 8, Rising 10 and Falling 9.
     //!
     //! ```text
     //! pub data Guess : Type 0 where
@@ -646,8 +649,8 @@ pub mod integer_roots {
     //!
     //! ## `NewtonEnds`
     //!
-    //! No turn follows where the step from a rising guess stays, or that from a falling guess does
-    //! not fall. Examples: of 99: Falling 9; of 16: Rising 4; not of 99: Rising 8.
+    //! The loops end at a rising guess whose step is the same guess, and at a falling guess whose
+    //! step is not smaller. Examples: of 99: Falling 9; of 16: Rising 4; not of 99: Rising 8.
     //!
     //! ```text
     //! abbrev pub NewtonEnds : ℕ → Guess → Type 0
@@ -667,8 +670,8 @@ pub mod integer_roots {
     //!
     //! ## `first_guess`
     //!
-    //! The first guess is 2 to the power of half of top + 1, where the half is rounded down.
-    //! Examples: 6: 8; 5: 8; 4: 4.
+    //! The first guess is 2 to the power of half of top + 1, rounded down. Examples: 6: 8; 5: 8; 4:
+    //! 4.
     //!
     //! ```text
     //! abbrev pub first_guess : ℕ → ℕ
@@ -684,13 +687,13 @@ pub mod integer_roots {
     //! pub record MakesNewtonRun (a n : ℕ) : Type 0 where
     //!   pub top : ℕ
     //!   pub highest : IsHighestBit a top
-    //!   pub run : Makes (IsNewtonTurn a) (NewtonEnds a) (Rising (first_guess top)) n
+    //!   pub run : RunHasTurns (IsNewtonTurn a) (NewtonEnds a) (Rising (first_guess top)) n
     //! ```
     //!
     //! ## `AreSquareRootTurns`
     //!
-    //! The number of turns is 0 for x below 4, and else that of the run of the two loops. Examples:
-    //! 99: 2; 15: 1; 3: 0.
+    //! The number of turns is 0 for x below 4, and otherwise that of the run of the two loops.
+    //! Examples: 99: 2; 15: 1; 3: 0.
     //!
     //! ```text
     //! pub record AreSquareRootTurns (x : ℤ) (turns : ℕ) : Type 0 where
@@ -705,7 +708,9 @@ pub mod num_integer {
     //!
     //! ## `AnswersWhere`
     //!
-    //! `Some` of the answer in the domain, and `None` outside it
+    //! The result is `Some` of a value with the property in the domain, and `None` outside it.
+    //! Examples: in the domain `y ≢ 0`, of the property 'is 7 / y': for y = 2 the result is `Some`
+    //! of 3, and for y = 0 it is `None`.
     //!
     //! ```text
     //! abbrev pub AnswersWhere : {A : Type 0} → Type 0 → (A → Type 0) → Option A → Type 0
@@ -714,7 +719,8 @@ pub mod num_integer {
     //!
     //! ## `coefficient`
     //!
-    //! the binomial coefficient of n and k, by Pascal's rule
+    //! The binomial coefficient of n and k, by Pascal's rule. Examples: that of 4 and 2 is 6; that
+    //! of 4 and 0 is 1; that of 2 and 3 is 0.
     //!
     //! ```text
     //! unfoldable pub coefficient : ℕ → ℕ → ℕ
@@ -725,7 +731,7 @@ pub mod num_integer {
     //!
     //! ## `coefficient_of`
     //!
-    //! the coefficient of two whole numbers at least 0
+    //! The coefficient of two integers that are not negative. Examples: that of 4 and 2 is 6.
     //!
     //! ```text
     //! abbrev pub coefficient_of : ℤ → ℤ → ℤ
@@ -734,7 +740,7 @@ pub mod num_integer {
     //!
     //! ## `factorial`
     //!
-    //! the product of the numbers from 1 to n
+    //! The product of the numbers from 1 to n. Examples: that of 4 is 24; that of 0 is 1.
     //!
     //! ```text
     //! unfoldable pub factorial : ℕ → ℕ
@@ -744,8 +750,8 @@ pub mod num_integer {
     //!
     //! ## `IsLeastFrom`
     //!
-    //! t is the least number from `from` on that has the property. Examples: being even: from 7: 8;
-    //! from 8: 8; being at most 5: from 6: none.
+    //! t is the smallest number with the property that is at least `from`. Examples: of the even
+    //! numbers: from 7: 8; from 8: 8; of the numbers at most 5: from 6: no number.
     //!
     //! ```text
     //! pub record IsLeastFrom (from : ℤ) (Has : ℤ → Type 0) (t : ℤ) : Type 0 where
@@ -756,8 +762,8 @@ pub mod num_integer {
     //!
     //! ## `IsGreatestTo`
     //!
-    //! t is the greatest number up to `to` that has the property. Examples: being even: to 7: 6; to
-    //! 6: 6; being at least 5: to 4: none.
+    //! t is the largest number with the property that is at most `to`. Examples: of the even
+    //! numbers: to 7: 6; to 6: 6; of the numbers at least 5: to 4: no number.
     //!
     //! ```text
     //! pub record IsGreatestTo (to : ℤ) (Has : ℤ → Type 0) (t : ℤ) : Type 0 where
@@ -768,7 +774,7 @@ pub mod num_integer {
     //!
     //! ## `product`
     //!
-    //! the product of a list
+    //! The product of a list. Examples: that of 2, 3 and 4 is 24; that of no numbers is 1.
     //!
     //! ```text
     //! abbrev pub product : List ℕ → ℕ
@@ -778,7 +784,8 @@ pub mod num_integer {
     //!
     //! ## `IsMultinomial`
     //!
-    //! m times the factorials of the counts is the factorial of their sum
+    //! m is the multinomial coefficient of the counts: m times the factorials of the counts is the
+    //! factorial of their sum. Examples: of 2, 1 and 2: 30; of 5: 1; of no counts: 1.
     //!
     //! ```text
     //! pub record IsMultinomial (counts : List ℤ) (m : ℤ) : Type 0 where
@@ -788,7 +795,8 @@ pub mod num_integer {
     //!
     //! ## `row_of`
     //!
-    //! the coefficients of n and each number from 0 to n, in order; no item for a negative n
+    //! The coefficients of n and each number from 0 to n, in order. The row of a negative n is
+    //! empty. Examples: of 3: 1, 3, 3, 1; of 0: 1; of -1: no item.
     //!
     //! ```text
     //! unfoldable pub row_of : ℤ → List ℤ
@@ -798,7 +806,8 @@ pub mod num_integer {
     //!
     //! ## `middle_of`
     //!
-    //! the coefficient in the middle of the row
+    //! The coefficient in the middle of the row of n, the largest of the row. Examples: of 4: 6; of
+    //! 3: 3.
     //!
     //! ```text
     //! abbrev pub middle_of : ℤ → ℤ
@@ -807,7 +816,8 @@ pub mod num_integer {
     //!
     //! ## `RowFits`
     //!
-    //! for an n that is not negative, n + 1 and the greatest item fit
+    //! If n is not negative, n + 1 and the largest item fit. Examples in u8: 10, whose largest item
+    //! is 252, and every negative n; not: 11, whose largest item is 462.
     //!
     //! ```text
     //! abbrev pub RowFits : (ℤ → Type 0) → ℤ → Type 0
@@ -821,7 +831,8 @@ pub mod modular {
     //!
     //! ## `LiesBelow`
     //!
-    //! x lies in 0..m
+    //! x is in 0..m: at least 0, and less than m. Examples: m 7: 0 and 6; not: 7, nor -1; m 0:
+    //! none.
     //!
     //! ```text
     //! pub record LiesBelow (m x : ℤ) : Type 0 where
@@ -829,9 +840,21 @@ pub mod modular {
     //!   pub below : x <ℤ m
     //! ```
     //!
+    //! ## `Has`
+    //!
+    //! The number that t means fits the type, and has the property. Examples: at i8, with the
+    //! property of being a residue modulo 200 of 456: 56; not: a residue of 356, which is 156 and
+    //! does not fit.
+    //!
+    //! ```text
+    //! abbrev pub Has : {T : Type 0} → (ℤ → Type 0) → (T → ℤ) → (ℤ → Type 0) → T → Type 0
+    //! Has fits value P t = fits (value t) × P (value t)
+    //! ```
+    //!
     //! ## `MatchCommonSolution`
     //!
-    //! the first fact holds at `Never`, the second at `Beyond`, and the third of the number at `At`
+    //! The first fact holds at `Never`, the second at `Beyond`, and the third at `At`, of its
+    //! number. Examples: at `At(21)` with the third fact 'being odd': 21 is odd.
     //!
     //! ```text
     //! abbrev pub MatchCommonSolution : {T : Type 0} → CommonSolution T → Type 0 → Type 0 → (T →
@@ -841,9 +864,22 @@ pub mod modular {
     //! MatchCommonSolution (At t) never beyond at = at t
     //! ```
     //!
+    //! ## `MatchWhere`
+    //!
+    //! What holds at `None` and of the number at `Some`, where the domain holds. Where it does not,
+    //! the result is `None`. Examples: at `None` with the domain 0 < 7: the first fact; at `None`
+    //! with the domain 0 < 0: nothing.
+    //!
+    //! ```text
+    //! abbrev pub MatchWhere : {A : Type 0} → Type 0 → Option A → Type 0 → (A → Type 0) → Type 0
+    //! MatchWhere domain result none some = MatchOption result (domain → none) (λ r. domain × some
+    //!     r)
+    //! ```
+    //!
     //! ## `AreCongruent`
     //!
-    //! x and y are equal modulo m: m divides their difference
+    //! x and y are congruent modulo m: m divides their difference. Examples: modulo 7: 16 and 2; -3
+    //! and 4; modulo 0: only equal numbers.
     //!
     //! ```text
     //! pub record AreCongruent (m x y : ℤ) : Type 0 where
@@ -852,7 +888,8 @@ pub mod modular {
     //!
     //! ## `IsResidue`
     //!
-    //! r lies in 0..m, and is x modulo m
+    //! r is the residue of x modulo m: it is in 0..m, and congruent to x. Examples: of 16 modulo 7:
+    //! 2; of -3 modulo 7: 4.
     //!
     //! ```text
     //! pub record IsResidue (m x r : ℤ) : Type 0 where
@@ -862,7 +899,8 @@ pub mod modular {
     //!
     //! ## `IsInverse`
     //!
-    //! x lies in 0..m, and a times x is 1 modulo m
+    //! x is the inverse of a modulo m: it is in 0..m, and a times x is 1 modulo m. Examples: of 3
+    //! modulo 7: 5; of 4 modulo 6: none.
     //!
     //! ```text
     //! pub record IsInverse (a m x : ℤ) : Type 0 where
@@ -872,7 +910,8 @@ pub mod modular {
     //!
     //! ## `IsQuotientModulo`
     //!
-    //! x lies in 0..m, and b times x is a modulo m
+    //! x is a quotient of a by b modulo m: it is in 0..m, and b times x is a modulo m. Examples: of
+    //! 2 by 3 modulo 7: 3; of 2 by 4 modulo 6: 2 and 5; of 1 by 4 modulo 6: none.
     //!
     //! ```text
     //! pub record IsQuotientModulo (a b m x : ℤ) : Type 0 where
@@ -882,7 +921,7 @@ pub mod modular {
     //!
     //! ## `Solves`
     //!
-    //! a times x is b modulo m
+    //! x solves the congruence: a times x is b modulo m. Examples: a 6, b 4, m 10: 4, 9 and -1.
     //!
     //! ```text
     //! abbrev pub Solves : ℤ → ℤ → ℤ → ℤ → Type 0
@@ -891,8 +930,9 @@ pub mod modular {
     //!
     //! ## `IsResidueClass`
     //!
-    //! the numbers with the property are first, which lies in 0..step, and those any number of
-    //! steps from it, up or down
+    //! The numbers with the property are first, which is in 0..step, and those any number of steps
+    //! from it, up or down. Examples: being odd: first 1, step 2; being 9 modulo 12: first 9, step
+    //! 12.
     //!
     //! ```text
     //! pub record IsResidueClass (Is : ℤ → Type 0) (first step : ℤ) : Type 0 where
@@ -903,8 +943,8 @@ pub mod modular {
     //!
     //! ## `IsReducedModulus`
     //!
-    //! reduced is m divided by its gcd with a: the step from one solution of a·x = b modulo m to
-    //! the next
+    //! reduced is m divided by its greatest common divisor with a: the step from one solution of
+    //! a·x = b modulo m to the next. Examples: a 6, m 10: 5.
     //!
     //! ```text
     //! pub record IsReducedModulus (a m reduced : ℤ) : Type 0 where
@@ -915,7 +955,7 @@ pub mod modular {
     //!
     //! ## `SolvesBothCongruences`
     //!
-    //! x is a modulo m and b modulo n
+    //! x is a modulo m and b modulo n. Examples: 1 modulo 4 and 3 modulo 6: 9, 21 and -3.
     //!
     //! ```text
     //! pub record SolvesBothCongruences (a m b n x : ℤ) : Type 0 where
@@ -925,7 +965,8 @@ pub mod modular {
     //!
     //! ## `IsNextCongruent`
     //!
-    //! t is the least number from `from` on that is first modulo step
+    //! t is the smallest number from `from` on that is first modulo step. Examples: from 10, first
+    //! 1, step 4: 13.
     //!
     //! ```text
     //! abbrev pub IsNextCongruent : ℤ → ℤ → ℤ → ℤ → Type 0
@@ -934,7 +975,8 @@ pub mod modular {
     //!
     //! ## `IsPreviousCongruent`
     //!
-    //! t is the greatest number up to `to` that is first modulo step
+    //! t is the largest number up to `to` that is first modulo step. Examples: to 10, first 1, step
+    //! 4: 9.
     //!
     //! ```text
     //! abbrev pub IsPreviousCongruent : ℤ → ℤ → ℤ → ℤ → Type 0
@@ -943,7 +985,8 @@ pub mod modular {
     //!
     //! ## `IsCongruentTo`
     //!
-    //! x is at most `to`, and first modulo step
+    //! x is at most `to`, and first modulo step. Examples: to 10, first 1, step 4: 9, 5 and -3;
+    //! not: 13.
     //!
     //! ```text
     //! pub record IsCongruentTo (to first step x : ℤ) : Type 0 where
@@ -953,7 +996,8 @@ pub mod modular {
     //!
     //! ## `IsCountOfCongruent`
     //!
-    //! count is how many numbers of from..=to are first modulo step
+    //! count is how many numbers of from..=to are first modulo step. Examples: from 1, to 10, first
+    //! 1, step 4: 3, which are 1, 5 and 9.
     //!
     //! ```text
     //! abbrev pub IsCountOfCongruent : ℤ → ℤ → ℤ → ℤ → ℤ → Type 0
@@ -963,7 +1007,8 @@ pub mod modular {
     //!
     //! ## `IsNextCommonSolution`
     //!
-    //! t is the least number from `from` on that is a modulo m and b modulo n
+    //! t is the smallest number from `from` on that is a modulo m and b modulo n. Examples: from
+    //! 10, 1 modulo 4 and 3 modulo 6: 21.
     //!
     //! ```text
     //! abbrev pub IsNextCommonSolution : ℤ → ℤ → ℤ → ℤ → ℤ → ℤ → Type 0
@@ -972,7 +1017,8 @@ pub mod modular {
     //!
     //! ## `SolvesEach`
     //!
-    //! x is congruent to the first number of each pair, modulo the second
+    //! x is congruent to the first number of each pair, modulo the second. Examples: [(1, 4), (3,
+    //! 6), (0, 7)]: 21; the empty list: every number.
     //!
     //! ```text
     //! abbrev pub SolvesEach : {X : Type 0} → (X → ℤ) → List (X × X) → ℤ → Type 0
@@ -1029,8 +1075,8 @@ pub mod ratio64 {
     //!
     //! ## `IsReduced`
     //!
-    //! The denominator is above 0, and the greatest common divisor of the two parts is 1. Examples:
-    //! -3 and 2; 0 and 1; not 3 and -2.
+    //! The denominator is positive, and the greatest common divisor of the two parts is 1.
+    //! Examples: -3 and 2; 0 and 1; not 3 and -2.
     //!
     //! ```text
     //! pub record IsReduced (num den : ℤ) : Type 0 where
@@ -1041,7 +1087,7 @@ pub mod ratio64 {
     //! ## `IsExact`
     //!
     //! The exact result of the fraction a/b is num/den, the reduced pair that is equal to it.
-    //! Examples: 6/-4: -3/2; 0/-9: 0/1; none of 1/0.
+    //! Examples: 6/-4: -3/2; 0/-9: 0/1; 1/0 has no exact result.
     //!
     //! ```text
     //! pub record IsExact (a b num den : ℤ) : Type 0 where
@@ -1052,8 +1098,8 @@ pub mod ratio64 {
     //!
     //! ## `IsOutsideI64`
     //!
-    //! A part of the exact result of a/b lies outside `i64`. Examples: 1/MIN, whose denominator is
-    //! 2^63; MIN/-1; not MIN/2.
+    //! A part of the exact result of a/b does not fit in `i64`. Examples: 1/MIN, whose denominator
+    //! is 2^63; MIN/-1; not MIN/2.
     //!
     //! ```text
     //! pub record IsOutsideI64 (a b : ℤ) : Type 0 where
@@ -1065,8 +1111,8 @@ pub mod ratio64 {
     //!
     //! ## `fraction_cmp`
     //!
-    //! The fractions a/b and c/d compare as a·d and c·b do, where b and d are above 0. Examples:
-    //! 1/3 and 1/2: `Less`; 2/4 and 1/2: `Equal`; -1/MAX and MIN/1: `Greater`.
+    //! The fractions a/b and c/d compare as a·d and c·b do, if b and d are positive. Examples: 1/3
+    //! and 1/2: `Less`; 2/4 and 1/2: `Equal`; -1/MAX and MIN/1: `Greater`.
     //!
     //! ```text
     //! abbrev pub fraction_cmp : ℤ → ℤ → ℤ → ℤ → Ordering
@@ -1111,7 +1157,7 @@ pub mod ratio64 {
     //!
     //! ## `den_of`
     //!
-    //! The denominator of a `Ratio` is its second part, which is above 0. Examples: of -3/2: 2; of
+    //! The denominator of a `Ratio` is its second part, which is positive. Examples: of -3/2: 2; of
     //! 0/1: 1; of 3/1: 1.
     //!
     //! ```text
@@ -1121,8 +1167,8 @@ pub mod ratio64 {
     //!
     //! ## `AnswersFraction`
     //!
-    //! The answer of a call whose result is a/b is its exact result, or the refusal whose condition
-    //! holds. Examples: 6/-4: -3/2; 1/0: `ZeroDenominator`; 1/MIN: `NotFitting`.
+    //! A call that computes a/b returns its exact result, or the error whose condition holds.
+    //! Examples: 6/-4: -3/2; 1/0: `ZeroDenominator`; 1/MIN: `NotFitting`.
     //!
     //! ```text
     //! pub record AnswersFraction (a b : ℤ) (result : Result Ratio RatioError) : Type 0 where
@@ -1133,7 +1179,7 @@ pub mod ratio64 {
     //!
     //! ## `text_of`
     //!
-    //! The text of a fraction is its numerator, and its denominator after a slash where that is not
+    //! The string of a fraction is its numerator, then a slash and its denominator if that is not
     //! 1. Examples: `-3/2`; `3`; `0`.
     //!
     //! ```text
@@ -1144,7 +1190,7 @@ pub mod ratio64 {
     //!
     //! ## `number_of`
     //!
-    //! The number of an error is the same in every version. Examples: `ZeroDenominator`: 1;
+    //! The number of an error, which no version changes. Examples: `ZeroDenominator`: 1;
     //! `NotFitting`: 2.
     //!
     //! ```text
@@ -1155,7 +1201,7 @@ pub mod ratio64 {
     //!
     //! ## `error_text`
     //!
-    //! The text of an error is what `Display` writes of it. Examples: `ZeroDenominator`: `the
+    //! The string of an error is what `Display` prints. Examples: `ZeroDenominator`: `the
     //! denominator is 0`.
     //!
     //! ```text
@@ -1166,8 +1212,8 @@ pub mod ratio64 {
     //!
     //! ## `unsigned_part`
     //!
-    //! The unsigned part of a text is the text without a leading `-`. Examples: of `-007`: `007`;
-    //! of `12`: `12`; of `-0`: `0`.
+    //! The unsigned part of a string is the string without a leading `-`. Examples: of `-007`:
+    //! `007`; of `12`: `12`; of `-0`: `0`.
     //!
     //! ```text
     //! abbrev pub unsigned_part : List ℕ → List ℕ
@@ -1176,7 +1222,7 @@ pub mod ratio64 {
     //!
     //! ## `whole_of`
     //!
-    //! The number of a text is the one that its digits write in decimal, negated after a `-`.
+    //! The integer of a string is the one that its digits write in decimal, negated after a `-`.
     //! Examples: of `-007`: -7; of `12`: 12; of `-0`: 0.
     //!
     //! ```text
@@ -1188,8 +1234,8 @@ pub mod ratio64 {
     //!
     //! ## `SpellsWhole`
     //!
-    //! The text is an optional `-`, then one digit or more, and nothing else, and writes the
-    //! number. Examples: `-007`: -7; `-0`: 0; none of `+1`.
+    //! The string is an optional `-`, then one or more digits, and nothing else, and writes the
+    //! integer. Examples: `-007`: -7; `-0`: 0; `+1` writes no integer.
     //!
     //! ```text
     //! pub record SpellsWhole (text : List ℕ) (number : ℤ) : Type 0 where
@@ -1199,8 +1245,8 @@ pub mod ratio64 {
     //!
     //! ## `SpellsFraction`
     //!
-    //! The text is `a/b`, or `a` alone where b is 1. Examples: `6/-4`: 6 and -4; `3`: 3 and 1; none
-    //! of `1/`.
+    //! The string is `a/b`, or only `a` if b is 1. Examples: `6/-4`: 6 and -4; `3`: 3 and 1; `1/`
+    //! writes no fraction.
     //!
     //! ```text
     //! pub record SpellsFraction (text : List ℕ) (a b : ℤ) : Type 0 where
@@ -1223,8 +1269,8 @@ pub mod ratio64 {
     //!
     //! ## `answer_read`
     //!
-    //! The answer of a fraction is read with its refusal under the same name. Examples: of `Ok` of
-    //! 1/2: `Ok` of 1/2; of `Err(NotFitting)`: `Err(NotFitting)`.
+    //! The result of a fraction, with the error of reading that has the same name. Examples: of
+    //! `Ok` of 1/2: `Ok` of 1/2; of `Err(NotFitting)`: `Err(NotFitting)`.
     //!
     //! ```text
     //! abbrev pub answer_read : Result Ratio RatioError → Result Ratio ParseRatioError
@@ -1235,8 +1281,8 @@ pub mod ratio64 {
     //!
     //! ## `parse_error_text`
     //!
-    //! The text of an error is what `Display` writes of it. Examples: `NotAFraction`: `the text is
-    //! not a fraction`; `ZeroDenominator`: `the denominator is 0`.
+    //! The string of an error is what `Display` prints. Examples: `NotAFraction`: `the text is not
+    //! a fraction`; `ZeroDenominator`: `the denominator is 0`.
     //!
     //! ```text
     //! abbrev pub parse_error_text : ParseRatioError → List ℕ
@@ -1248,8 +1294,8 @@ pub mod ratio64 {
     //!
     //! ## `AnswersSpelled`
     //!
-    //! The fraction a/b is read as `TooLong` where it has a long part, and else as what it answers.
-    //! Examples: 1/10^38: `TooLong`; 2^64/2: `NotFitting`; 1/0: `ZeroDenominator`.
+    //! The fraction a/b is read as `TooLong` if it has a long part, and otherwise as the result of
+    //! the fraction. Examples: 1/10^38: `TooLong`; 2^64/2: `NotFitting`; 1/0: `ZeroDenominator`.
     //!
     //! ```text
     //! pub record AnswersSpelled (a b : ℤ) (result : Result Ratio ParseRatioError) : Type 0 where
@@ -1260,8 +1306,8 @@ pub mod ratio64 {
     //!
     //! ## `ReadsFraction`
     //!
-    //! A text is read as `NotAFraction` where it spells none, and else as what the fraction that it
-    //! spells is read as. Examples: `6/-4`: -3/2; `1/`: `NotAFraction`; `18446744073709551614/2`:
+    //! A string is read as `NotAFraction` if it writes no fraction, and otherwise as the fraction
+    //! that it writes. Examples: `6/-4`: -3/2; `1/`: `NotAFraction`; `18446744073709551614/2`:
     //! MAX/1.
     //!
     //! ```text
@@ -1274,14 +1320,27 @@ pub mod ratio64 {
     //!
     //! ## `IsRounded`
     //!
-    //! The whole number nearest to n/d is r, and of two that are equally near the one farther from
-    //! 0. Examples: 7 and 3: 2; 3 and 2: 2; -3 and 2: -2.
+    //! The integer nearest to n/d is r, and of two equally near the one farther from 0. Examples: 7
+    //! and 3: 2; 3 and 2: 2; -3 and 2: -2.
     //!
     //! ```text
     //! pub record IsRounded (n d r : ℤ) : Type 0 where
     //!   pub nearest : 2 * unsigned_abs (n -ℤ r *ℤ d) ≤ unsigned_abs d
     //!     pub tie : 2 * unsigned_abs (n -ℤ r *ℤ d) ≡ unsigned_abs d → unsigned_abs n <
     //!       unsigned_abs (r *ℤ d)
+    //! ```
+    //!
+    //! ## `AnswersInParts`
+    //!
+    //! The result is that of number/parts, for a number with the property. Examples: in quarters,
+    //! of the floor of 4 · 5/3: 6/4, so 3/2; of its ceiling: 7/4.
+    //!
+    //! ```text
+    //! pub record AnswersInParts (P : ℤ → Type 0) (parts : ℤ) (result : Result Ratio RatioError) :
+    //!     Type 0 where
+    //!   pub number : ℤ
+    //!   pub is : P number
+    //!   pub fraction : AnswersFraction number parts result
     //! ```
     //!
 }
@@ -1291,7 +1350,7 @@ pub mod calendar {
     //!
     //! ## `number_of`
     //!
-    //! This is the day of the date, counted from 1970-01-01. Examples: 1970-01-01: 0; 2000-03-01:
+    //! This is the number of days from 1970-01-01 to the date. Examples: 1970-01-01: 0; 2000-03-01:
     //! 11017; 1969-12-31: -1.
     //!
     //! ```text
@@ -1323,9 +1382,9 @@ pub mod calendar {
     //!
     //! ## `IsMonthsAfter`
     //!
-    //! The date lies in the month that is `months` after that of `from`, on the same day of the
-    //! month, or on the last where there is no such day. Examples: from 2000-01-31: 0: 2000-01-31;
-    //! 1: 2000-02-29; -2: 1999-11-30; not 2000-02-28 at 1.
+    //! The date is in the month that is `months` months after that of `from`, on the same day of
+    //! the month, or on the last day if the month is shorter. Examples: from 2000-01-31: 0:
+    //! 2000-01-31; 1: 2000-02-29; -2: 1999-11-30; not 2000-02-28 at 1.
     //!
     //! ```text
     //! pub record IsMonthsAfter (from : Date) (months : ℤ) (date : Date) : Type 0 where
@@ -1337,7 +1396,7 @@ pub mod calendar {
     //!
     //! ## `HasMonths`
     //!
-    //! The date that is `months` after `from` is not after `to`. Examples: from 2000-01-31 to
+    //! The date `months` months after `from` is not after `to`. Examples: from 2000-01-31 to
     //! 2000-03-30: 1, which is 2000-02-29; -7; not 2, which is 2000-03-31.
     //!
     //! ```text
@@ -1349,7 +1408,7 @@ pub mod calendar {
     //!
     //! ## `IsMonthsBetween`
     //!
-    //! The date that is `months` after `from` is not after `to`, and no greater number of months
+    //! The date `months` months after `from` is not after `to`, and no larger number of months
     //! leads to such a date. Examples: 2000-01-31 to 2000-02-29: 1; 2000-02-29 to 2001-02-28: 12;
     //! 2000-03-01 to 2000-02-29: -1.
     //!
@@ -1359,11 +1418,23 @@ pub mod calendar {
     //!   pub greatest : (more : ℤ) → HasMonths from to more → more ≤ℤ months
     //! ```
     //!
+    //! ## `IsYearsBetween`
+    //!
+    //! The date `years` times 12 months after `from` is not after `to`, and no larger number of
+    //! years leads to such a date. Examples: 2000-02-29 to 2001-02-28: 1; 2000-03-01 to 2001-02-28:
+    //! 0; 2000-03-01 to 2000-02-29: -1.
+    //!
+    //! ```text
+    //! pub record IsYearsBetween (from to : Date) (years : ℤ) : Type 0 where
+    //!   pub holds : HasMonths from to (pos 12 *ℤ years)
+    //!   pub greatest : (more : ℤ) → HasMonths from to (pos 12 *ℤ more) → more ≤ℤ years
+    //! ```
+    //!
     //! ## `IsNthWeekday`
     //!
     //! The date has this year, this month and this day of the week, and its day of the month is
-    //! above 7·(n - 1) and at most 7·n. Examples: 2026, 11, Thursday: 1: 2026-11-05; 4: 2026-11-26;
-    //! none at 0 or 5.
+    //! greater than 7·(n - 1) and at most 7·n. Examples: 2026, 11, Thursday: 1: 2026-11-05; 4:
+    //! 2026-11-26; none at 0 or 5.
     //!
     //! ```text
     //! pub record IsNthWeekday (year : ℤ) (month : ℕ) (weekday : Weekday) (n : ℕ) (date : Date) :
@@ -1404,7 +1475,7 @@ pub mod calendar {
     //!
     //! ## `IsGolden`
     //!
-    //! This is the golden number of the year, less 1: its place in the moon's cycle of 19 years.
+    //! This is the golden number of the year minus 1: its place in the moon's cycle of 19 years.
     //! Examples: 2024: 10; 1900: 0; -1: 18.
     //!
     //! ```text
@@ -1414,8 +1485,8 @@ pub mod calendar {
     //!
     //! ## `IsCentury`
     //!
-    //! This is the century of the year, counted from the years 0 to 99. Examples: 2024: 20; 1999:
-    //! 19; -1: -1.
+    //! This is the century of the year. The years 0 to 99 are in century 0. Examples: 2024: 20;
+    //! 1999: 19; -1: -1.
     //!
     //! ```text
     //! abbrev pub IsCentury : ℤ → ℤ → Type 0
@@ -1424,8 +1495,8 @@ pub mod calendar {
     //!
     //! ## `IsSolarCorrection`
     //!
-    //! These are the leap days that hundredth years drop: all but those of each four hundredth.
-    //! Examples: 20: 15; 19: 15; 18: 14.
+    //! These are the leap days that the calendar has dropped: those of multiples of 100 that are no
+    //! multiples of 400. Examples: 20: 15; 19: 15; 18: 14.
     //!
     //! ```text
     //! pub record IsSolarCorrection (century days : ℤ) : Type 0 where
@@ -1462,7 +1533,7 @@ pub mod calendar {
     //!
     //! ## `is_day_earlier`
     //!
-    //! The table has the full moon a day earlier: at epact 24, and at 25 where the golden number is
+    //! The table has the full moon a day earlier: at epact 24, and at 25 if the golden number is
     //! above 11. Examples: 24 and 5: true; 25 and 16: true; 25 and 5: false.
     //!
     //! ```text
@@ -1536,6 +1607,17 @@ pub mod calendar {
     //!   pub before : (thursday -ℤ first_day year) <ℤ (pos 7 *ℤ pos week)
     //! ```
     //!
+    //! ## `HasIsoWeek`
+    //!
+    //! The year has this week: some day is in it. Examples: 2004 and 53; 2005 and 52; not 2005 and
+    //! 53; not 2005 and 0.
+    //!
+    //! ```text
+    //! pub record HasIsoWeek (year : ℤ) (week : ℕ) : Type 0 where
+    //!   pub day : ℤ
+    //!   pub in_week : IsInIsoWeek day year week
+    //! ```
+    //!
     //! ## `IsDayOfIsoWeek`
     //!
     //! The day is in this week of the year, and is this day of the week. Examples: 3: 1970, 1,
@@ -1571,8 +1653,8 @@ pub mod calendar {
     //!
     //! ## `is_leap_year`
     //!
-    //! The year has a 29 February: it is each fourth year but no hundredth, unless it is a four
-    //! hundredth. Examples: 2000: true; 1900: false; -4: true.
+    //! The year has a 29 February: it is a multiple of 4 but not of 100, or it is a multiple of
+    //! 400. Examples: 2000: true; 1900: false; -4: true.
     //!
     //! ```text
     //! unfoldable pub is_leap_year : ℤ → Bool
@@ -1655,8 +1737,8 @@ pub mod calendar {
     //!
     //! ## `year_text`
     //!
-    //! This is the magnitude of the year with at least four digits, after a minus below 0 and a
-    //! plus above 9999. Examples: 2026: `2026`; -1: `-0001`; 10000: `+10000`.
+    //! This is the magnitude of the year with at least four digits, after a minus if it is below 0,
+    //! and after a plus if it is above 9999. Examples: 2026: `2026`; -1: `-0001`; 10000: `+10000`.
     //!
     //! ```text
     //! unfoldable pub year_text : ℤ → List ℕ
@@ -1666,8 +1748,8 @@ pub mod calendar {
     //!
     //! ## `with_number`
     //!
-    //! This is the text, then a hyphen, and the number with at least two digits. Examples: `2026`
-    //! and 9: `2026-09`; `2026-09` and 31: `2026-09-31`; an empty text and 7: `-07`.
+    //! This is the string, then a hyphen, and the number with at least two digits. Examples: `2026`
+    //! and 9: `2026-09`; `2026-09` and 31: `2026-09-31`; the empty string and 7: `-07`.
     //!
     //! ```text
     //! abbrev pub with_number : List ℕ → ℕ → List ℕ
@@ -1676,7 +1758,7 @@ pub mod calendar {
     //!
     //! ## `text_of`
     //!
-    //! This is the text of the year, then that of the month and the day. Examples: `2026-11-23`;
+    //! This is the string of the year, then those of the month and the day. Examples: `2026-11-23`;
     //! `-0001-12-31`; `+10000-01-01`.
     //!
     //! ```text
@@ -1684,10 +1766,20 @@ pub mod calendar {
     //! text_of date = with_number (with_number (year_text date.year) date.month) date.day_of_month
     //! ```
     //!
+    //! ## `week_text`
+    //!
+    //! This is the string of the year, then `-W` and the number of the week with at least two
+    //! digits. Examples: 2004 and 53: `2004-W53`; -1 and 2: `-0001-W02`.
+    //!
+    //! ```text
+    //! abbrev pub week_text : IsoWeek → List ℕ
+    //! week_text week = year_text week.year ++ codes "-W" ++ padded 2 week.week
+    //! ```
+    //!
     //! ## `error_text`
     //!
-    //! This is the text of the error of a text that no date has. Examples: the only one is `not the
-    //! text of a date`.
+    //! This is the string of the error of a string that is not a date. Examples: the only one is
+    //! `not the text of a date`.
     //!
     //! ```text
     //! abbrev pub error_text : List ℕ
@@ -1720,6 +1812,32 @@ pub mod calendar {
     //! iso_number weekday = (weekday_number weekday + 6) % 7 + 1
     //! ```
     //!
+    //! ## `weekday_name`
+    //!
+    //! This is the English name of the day of the week. Examples: Monday: `Monday`; Sunday:
+    //! `Sunday`.
+    //!
+    //! ```text
+    //! abbrev pub weekday_name : Weekday → List ℕ
+    //! weekday_name Sunday = codes "Sunday"
+    //! weekday_name Monday = codes "Monday"
+    //! weekday_name Tuesday = codes "Tuesday"
+    //! weekday_name Wednesday = codes "Wednesday"
+    //! weekday_name Thursday = codes "Thursday"
+    //! weekday_name Friday = codes "Friday"
+    //! weekday_name Saturday = codes "Saturday"
+    //! ```
+    //!
+    //! ## `weekday_error_text`
+    //!
+    //! This is the string of the error of a string that is not the name of a day of the week.
+    //! Examples: the only one is `not the name of a day of the week`.
+    //!
+    //! ```text
+    //! abbrev pub weekday_error_text : List ℕ
+    //! weekday_error_text = codes "not the name of a day of the week"
+    //! ```
+    //!
     //! ## `HasWeekday`
     //!
     //! The floored remainder of the day and 4 by 7 is the number of the day of the week: day 0 is a
@@ -1733,8 +1851,8 @@ pub mod calendar {
     //!
     //! ## `IsFirstWeekday`
     //!
-    //! The day is the least from `from` on that has the day of the week. Examples: Sunday: from 0:
-    //! 3; from 3: 3; from 4: 10.
+    //! The day is the first, not before `from`, that has the day of the week. Examples: Sunday:
+    //! from 0: 3; from 3: 3; from 4: 10.
     //!
     //! ```text
     //! abbrev pub IsFirstWeekday : ℤ → Weekday → ℤ → Type 0
@@ -1743,8 +1861,8 @@ pub mod calendar {
     //!
     //! ## `IsLastWeekday`
     //!
-    //! The day is the greatest up to `to` that has the day of the week. Examples: Sunday: to 4: 3;
-    //! to 3: 3; to 2: -4.
+    //! The day is the last, not after `to`, that has the day of the week. Examples: Sunday: to 4:
+    //! 3; to 3: 3; to 2: -4.
     //!
     //! ```text
     //! abbrev pub IsLastWeekday : ℤ → Weekday → ℤ → Type 0
@@ -1830,7 +1948,8 @@ pub mod applied {
     //!
     //! ## `weighted_sum`
     //!
-    //! the sum of the bytes, each times the base to the power of how many bytes come after it
+    //! This is the sum of the bytes, each times the base to the power of the number of bytes after
+    //! it. Examples: base 10: 1, 2, 3: 123; no bytes: 0; base 0: 1, 2, 3: 3.
     //!
     //! ```text
     //! abbrev pub weighted_sum : ℤ → List ℕ → ℤ
@@ -1841,7 +1960,8 @@ pub mod applied {
     //!
     //! ## `IsAlignedUp`
     //!
-    //! the least multiple of the alignment from the offset on
+    //! The number is the smallest multiple of the alignment that is not below the offset. Examples:
+    //! 13 and 8: 16; 16 and 8: 16; -13 and 8: -8.
     //!
     //! ```text
     //! pub record IsAlignedUp (offset alignment aligned : ℤ) : Type 0 where
@@ -1852,8 +1972,8 @@ pub mod applied {
     //!
     //! ## `IsPlace`
     //!
-    //! The item lies at this place of this page, all counted from 0. With pages of 4 items, item 10
-    //! lies at place 2 of page 2, and item -1 at place 3 of page -1.
+    //! The item is at this place on this page. Examples: pages of 4 items: 10: page 2, place 2; 0:
+    //! page 0, place 0; -1: page -1, place 3.
     //!
     //! ```text
     //! pub record IsPlace (item page_size page place : ℤ) : Type 0 where
@@ -1864,9 +1984,9 @@ pub mod applied {
     //!
     //! ## `IsRangeOfPage`
     //!
-    //! The numbers from first on and before end are exactly the items of 0..items that lie on the
-    //! page. Both are items where there is none. With pages of 4 items, those of page 2 among 10
-    //! items are 8..10, and those of page 3 are 10..10.
+    //! The items of the page are exactly those from `first` to before `end`. If it has no item,
+    //! `first` and `end` are `items`. Examples: 10 items, pages of 4: page 0: 0 and 4; page 2: 8
+    //! and 10; pages 3 and -1: 10 and 10.
     //!
     //! ```text
     //! pub record IsRangeOfPage (page page_size items first end : ℤ) : Type 0 where
@@ -1880,9 +2000,9 @@ pub mod applied {
     //!
     //! ## `IsEvenCut`
     //!
-    //! A function cuts items into parts: it is 0 at 0, items at parts, and the size of each part is
-    //! (items - part) / parts, rounded up. So no part is larger than the one before it, nor smaller
-    //! by more than 1. 10 items are cut into 3 parts at 0, 4, 7 and 10.
+    //! The function `cut` gives the item at which each part begins. The size of a part is (items -
+    //! part) / parts, rounded up, so it is as large as the part before it, or smaller by 1.
+    //! Examples: 10 items, 3 parts: 0, 4, 7, 10; 2 items, 3 parts: 0, 1, 2, 2.
     //!
     //! ```text
     //! pub record IsEvenCut (parts items : ℤ) (cut : ℤ → ℤ) : Type 0 where
@@ -1894,8 +2014,8 @@ pub mod applied {
     //!
     //! ## `IsRangeOfPart`
     //!
-    //! The part begins at first and ends before end, where items are cut evenly into parts. Of 10
-    //! items in 3 parts, part 1 is 4..7.
+    //! The part begins at `first` and ends before `end`, if the items are cut evenly into parts.
+    //! Examples: 10 items, 3 parts: part 0: 0 and 4; part 1: 4 and 7; part 2: 7 and 10.
     //!
     //! ```text
     //! pub record IsRangeOfPart (part parts items first end : ℤ) : Type 0 where
@@ -1910,7 +2030,8 @@ pub mod applied {
     //!
     //! ## `IsChoice`
     //!
-    //! each number is below n, and above the one before it
+    //! Each number is below n, and above the number before it. Examples: n 5: 0, 2, 3; the empty
+    //! list; not 0, 2, 2; not 0, 2, 5.
     //!
     //! ```text
     //! pub record IsChoice (n : ℕ) (numbers : List ℕ) : Type 0 where
@@ -1920,7 +2041,8 @@ pub mod applied {
     //!
     //! ## `rank_of`
     //!
-    //! the sum of the coefficients of the numbers, each over its place counted from 1
+    //! This is the sum of the binomial coefficients of the numbers, each over its place counted
+    //! from 1. Examples: 0, 1, 2: 0; 0, 2, 3: 0 + 1 + 1 = 2; the empty list: 0.
     //!
     //! ```text
     //! unfoldable pub rank_of : List ℕ → ℕ
@@ -1930,7 +2052,8 @@ pub mod applied {
     //!
     //! ## `IsChoiceOfRank`
     //!
-    //! a choice of k of the numbers below n, of rank r
+    //! The list is a choice of k numbers below n, and its rank is r. Examples: n 5, k 3: rank 0: 0,
+    //! 1, 2; rank 2: 0, 2, 3; rank 9: 2, 3, 4.
     //!
     //! ```text
     //! pub record IsChoiceOfRank (n k r : ℕ) (numbers : List ℕ) : Type 0 where
@@ -1941,8 +2064,9 @@ pub mod applied {
     //!
     //! ## `IsBefore`
     //!
-    //! colexicographic order: at the last of the k places where the two differ, the first has the
-    //! lesser number
+    //! The first list comes before the second in colexicographic order: at the last of the k places
+    //! at which they differ, it has the smaller number. Examples: k 3: 0, 1, 3 before 0, 2, 3; 1,
+    //! 2, 3 before 0, 1, 4; no list before itself.
     //!
     //! ```text
     //! pub record IsBefore (k : ℕ) (first second : List ℕ) : Type 0 where
@@ -1955,8 +2079,8 @@ pub mod applied {
     //!
     //! ## `IsTime`
     //!
-    //! The time t is the first time, or some periods after it. With the first time 3 and the period
-    //! 6, the times are 3, 9, 15 and so on.
+    //! The time t is the first time, or whole periods after it. Examples: first 3, period 6: 3; 9;
+    //! 15; not -3; not 4.
     //!
     //! ```text
     //! pub record IsTime (first period t : ℤ) : Type 0 where
@@ -1966,8 +2090,8 @@ pub mod applied {
     //!
     //! ## `IsMeeting`
     //!
-    //! The time t is one of both schedules, whose first times are a and b, and whose periods p and
-    //! q. From 1 by 4 and from 3 by 6 meet at 9, 21, 33 and so on.
+    //! The time t is in both schedules: the first times are a and b, and the periods p and q.
+    //! Examples: 1 and 4, 3 and 6: 9; 21; 33; not 3.
     //!
     //! ```text
     //! pub record IsMeeting (a p b q t : ℤ) : Type 0 where
@@ -1977,8 +2101,8 @@ pub mod applied {
     //!
     //! ## `IsMeetingOfEach`
     //!
-    //! The time t is one of each schedule of the list, which are pairs of a first time and a
-    //! period.
+    //! The time t is in each schedule of the list. A schedule is a pair of a first time and a
+    //! period. Examples: (1, 4), (3, 6), (0, 7): 21; 105; not 9. The empty list: each time.
     //!
     //! ```text
     //! abbrev pub IsMeetingOfEach : {X : Type 0} → (X → ℤ) → List (X × X) → ℤ → Type 0
@@ -1987,8 +2111,10 @@ pub mod applied {
     //!
     //! ## `IsLeastTime`
     //!
-    //! The answer is the least time from `now` on that has P: `At` it where it is in the type,
-    //! `Beyond` where it is not, and `Never` where no time has P.
+    //! The answer is the first time, not before `now`, that has P: `At` that time if it fits,
+    //! `Beyond` if it does not, and `Never` if no time has P. Examples: now 10, P the meetings of
+    //! (1, 4) and (3, 6): `At(21)`; in i8 from 126 on: `Beyond`; P the meetings of (0, 2) and (1,
+    //! 2): `Never`.
     //!
     //! ```text
     //! abbrev pub IsLeastTime : {X : Type 0} → (X → ℤ) → (ℤ → Type 0) → ℤ → (ℤ → Type 0) →

@@ -18,7 +18,16 @@ pub use native_integer::NativeInteger;
 use num_traits::{Num, Signed};
 use operators::{difference, predecessor, successor, sum};
 
-/// A type of whole numbers.
+/// A type of integers, with division, divisors and multiples specified on the integers that its
+/// values mean.
+///
+/// # Examples
+///
+/// ```
+/// use cellarcove::Integer;
+///
+/// assert_eq!(12.gcd(&18), 6);
+/// ```
 ///
 /// <details><summary>Laws</summary>
 ///
@@ -43,10 +52,8 @@ use operators::{difference, predecessor, successor, sum};
 pub trait Integer: Sized + Num + PartialOrd + Ord + Eq {
     /// Returns the quotient rounded toward zero, and its remainder.
     ///
-    /// May be called where `Fits::quotient_fits` is true.
-    ///
-    /// [`checked::div_rem`](crate::checked::div_rem) is the same call, which returns `None` outside
-    /// the domain.
+    /// May be called if [`Fits::quotient_fits`](crate::Fits::quotient_fits) is true;
+    /// [`checked::div_rem`] has no condition.
     ///
     /// # Examples
     ///
@@ -85,10 +92,8 @@ pub trait Integer: Sized + Num + PartialOrd + Ord + Eq {
 
     /// Returns the quotient rounded down.
     ///
-    /// May be called where `Fits::quotient_fits` is true.
-    ///
-    /// [`checked::div_floor`](crate::checked::div_floor) is the same call, which returns `None`
-    /// outside the domain.
+    /// May be called if [`Fits::quotient_fits`](crate::Fits::quotient_fits) is true;
+    /// [`checked::div_floor`] has no condition.
     ///
     /// # Examples
     ///
@@ -127,10 +132,7 @@ pub trait Integer: Sized + Num + PartialOrd + Ord + Eq {
 
     /// Returns the remainder of the quotient rounded down, which is 0 or has the sign of `other`.
     ///
-    /// May be called where `other` is not 0.
-    ///
-    /// [`checked::mod_floor`](crate::checked::mod_floor) is the same call, which returns `None`
-    /// outside the domain.
+    /// May be called if `other` is not 0; [`checked::mod_floor`] has no condition.
     ///
     /// # Examples
     ///
@@ -166,10 +168,8 @@ pub trait Integer: Sized + Num + PartialOrd + Ord + Eq {
 
     /// Returns the quotient rounded down, and its remainder.
     ///
-    /// May be called where `Fits::quotient_fits` is true.
-    ///
-    /// [`checked::div_mod_floor`](crate::checked::div_mod_floor) is the same call, which returns
-    /// `None` outside the domain.
+    /// May be called if [`Fits::quotient_fits`](crate::Fits::quotient_fits) is true;
+    /// [`checked::div_mod_floor`] has no condition.
     ///
     /// # Examples
     ///
@@ -210,10 +210,8 @@ pub trait Integer: Sized + Num + PartialOrd + Ord + Eq {
 
     /// Returns the quotient rounded up.
     ///
-    /// May be called where `Fits::quotient_fits` is true.
-    ///
-    /// [`checked::div_ceil`](crate::checked::div_ceil) is the same call, which returns `None`
-    /// outside the domain.
+    /// May be called if [`Fits::quotient_fits`](crate::Fits::quotient_fits) is true;
+    /// [`checked::div_ceil`] has no condition.
     ///
     /// # Examples
     ///
@@ -259,10 +257,8 @@ pub trait Integer: Sized + Num + PartialOrd + Ord + Eq {
 
     /// Returns the quotient rounded up, times `other`.
     ///
-    /// May be called where `Fits::next_multiple_fits` is true.
-    ///
-    /// [`checked::next_multiple_of`](crate::checked::next_multiple_of) is the same call, which
-    /// returns `None` outside the domain.
+    /// May be called if [`Fits::next_multiple_fits`](crate::Fits::next_multiple_fits) is true;
+    /// [`checked::next_multiple_of`] has no condition.
     ///
     /// # Examples
     ///
@@ -312,10 +308,8 @@ pub trait Integer: Sized + Num + PartialOrd + Ord + Eq {
 
     /// Returns the quotient rounded down, times `other`.
     ///
-    /// May be called where `Fits::prev_multiple_fits` is true.
-    ///
-    /// [`checked::prev_multiple_of`](crate::checked::prev_multiple_of) is the same call, which
-    /// returns `None` outside the domain.
+    /// May be called if [`Fits::prev_multiple_fits`](crate::Fits::prev_multiple_fits) is true;
+    /// [`checked::prev_multiple_of`] has no condition.
     ///
     /// # Examples
     ///
@@ -358,7 +352,7 @@ pub trait Integer: Sized + Num + PartialOrd + Ord + Eq {
         difference(self.clone(), self.mod_floor(other))
     }
 
-    /// Returns `true` if `other` divides `self`. Zero divides only zero.
+    /// Returns `true` if `other` divides `self`. Only 0 is a multiple of 0.
     ///
     /// # Examples
     ///
@@ -462,7 +456,7 @@ pub trait Integer: Sized + Num + PartialOrd + Ord + Eq {
 
     /// Adds one. `x.inc()` turns an `x` of `41` into `42`.
     ///
-    /// May be called below the greatest number of the type. The call `checked::inc` has no
+    /// May be called if `self` is below the largest number of the type; [`checked::inc`] has no
     /// condition.
     ///
     /// # Panics
@@ -492,7 +486,8 @@ pub trait Integer: Sized + Num + PartialOrd + Ord + Eq {
 
     /// Subtracts one. `x.dec()` turns an `x` of `43` into `42`.
     ///
-    /// May be called above the least number of the type. The call `checked::dec` has no condition.
+    /// May be called if `self` is above the smallest number of the type; [`checked::dec`] has no
+    /// condition.
     ///
     /// # Panics
     ///
@@ -521,10 +516,8 @@ pub trait Integer: Sized + Num + PartialOrd + Ord + Eq {
 
     /// Returns the greatest common divisor, which is never negative.
     ///
-    /// May be called where `Fits::gcd_fits` is true.
-    ///
-    /// [`checked::gcd`](crate::checked::gcd) is the same call, which returns `None` outside the
-    /// domain.
+    /// May be called if [`Fits::gcd_fits`](crate::Fits::gcd_fits) is true; [`checked::gcd`] has no
+    /// condition.
     ///
     /// # Examples
     ///
@@ -561,10 +554,8 @@ pub trait Integer: Sized + Num + PartialOrd + Ord + Eq {
 
     /// Returns the least common multiple, which is never negative.
     ///
-    /// May be called where `Fits::lcm_fits` is true.
-    ///
-    /// [`checked::lcm`](crate::checked::lcm) is the same call, which returns `None` outside the
-    /// domain.
+    /// May be called if [`Fits::lcm_fits`](crate::Fits::lcm_fits) is true; [`checked::lcm`] has no
+    /// condition.
     ///
     /// # Examples
     ///
@@ -602,10 +593,8 @@ pub trait Integer: Sized + Num + PartialOrd + Ord + Eq {
 
     /// Returns the greatest common divisor and the least common multiple.
     ///
-    /// May be called where `Fits::gcd_fits` and `Fits::lcm_fits` are true.
-    ///
-    /// [`checked::gcd_lcm`](crate::checked::gcd_lcm) is the same call, which returns `None` outside
-    /// the domain.
+    /// May be called if [`Fits::gcd_fits`](crate::Fits::gcd_fits) and
+    /// [`Fits::lcm_fits`](crate::Fits::lcm_fits) are true; [`checked::gcd_lcm`] has no condition.
     ///
     /// # Examples
     ///
@@ -647,14 +636,11 @@ pub trait Integer: Sized + Num + PartialOrd + Ord + Eq {
         (self.gcd(other), self.lcm(other))
     }
 
-    /// Returns the greatest common divisor `gcd` and Bezout's coefficients `x` and `y`: over the
-    /// whole numbers, `self` times `x` and `other` times `y` add up to `gcd`.
+    /// Returns the greatest common divisor `gcd` and Bezout's coefficients `x` and `y`: computed
+    /// without overflow, `self * x + other * y` equals `gcd`.
     ///
-    /// May be called where `Fits::gcd_fits` is true; at an unsigned type one operand must also
-    /// divide the other.
-    ///
-    /// [`checked::extended_gcd`](crate::checked::extended_gcd) is the same call, which returns
-    /// `None` outside the domain.
+    /// May be called if [`Fits::gcd_fits`](crate::Fits::gcd_fits) is true; at an unsigned type one
+    /// operand must also divide the other. [`checked::extended_gcd`] has no condition.
     ///
     /// # Examples
     ///
@@ -699,10 +685,9 @@ pub trait Integer: Sized + Num + PartialOrd + Ord + Eq {
 
     /// Returns [`Integer::extended_gcd`] and [`Integer::lcm`].
     ///
-    /// May be called where `Fits::gcd_fits` and `Fits::lcm_fits` are true.
-    ///
-    /// [`checked::extended_gcd_lcm`](crate::checked::extended_gcd_lcm) is the same call, which
-    /// returns `None` outside the domain.
+    /// May be called if [`Fits::gcd_fits`](crate::Fits::gcd_fits) and
+    /// [`Fits::lcm_fits`](crate::Fits::lcm_fits) are true; [`checked::extended_gcd_lcm`] has no
+    /// condition.
     ///
     /// # Examples
     ///
@@ -787,8 +772,7 @@ pub trait Integer: Sized + Num + PartialOrd + Ord + Eq {
 
 /// Returns the quotient rounded toward zero, and its remainder.
 ///
-/// [`checked::div_rem`](crate::checked::div_rem) is the same call, which returns `None` outside the
-/// domain.
+/// May be called if [`Integer::div_rem`] may; [`checked::div_rem`] has no condition.
 ///
 /// # Examples
 ///
@@ -827,8 +811,7 @@ pub fn div_rem<T: Integer>(x: T, y: T) -> (T, T) {
 
 /// Returns the quotient rounded down.
 ///
-/// [`checked::div_floor`](crate::checked::div_floor) is the same call, which returns `None` outside
-/// the domain.
+/// May be called if [`Integer::div_floor`] may; [`checked::div_floor`] has no condition.
 ///
 /// # Examples
 ///
@@ -866,8 +849,7 @@ pub fn div_floor<T: Integer>(x: T, y: T) -> T {
 
 /// Returns the remainder of the quotient rounded down.
 ///
-/// [`checked::mod_floor`](crate::checked::mod_floor) is the same call, which returns `None` outside
-/// the domain.
+/// May be called if [`Integer::mod_floor`] may; [`checked::mod_floor`] has no condition.
 ///
 /// # Examples
 ///
@@ -903,8 +885,7 @@ pub fn mod_floor<T: Integer>(x: T, y: T) -> T {
 
 /// Returns the quotient rounded down, and its remainder.
 ///
-/// [`checked::div_mod_floor`](crate::checked::div_mod_floor) is the same call, which returns `None`
-/// outside the domain.
+/// May be called if [`Integer::div_mod_floor`] may; [`checked::div_mod_floor`] has no condition.
 ///
 /// # Examples
 ///
@@ -942,8 +923,7 @@ pub fn div_mod_floor<T: Integer>(x: T, y: T) -> (T, T) {
 
 /// Returns the quotient rounded up.
 ///
-/// [`checked::div_ceil`](crate::checked::div_ceil) is the same call, which returns `None` outside
-/// the domain.
+/// May be called if [`Integer::div_ceil`] may; [`checked::div_ceil`] has no condition.
 ///
 /// # Examples
 ///
@@ -981,7 +961,7 @@ pub fn div_ceil<T: Integer>(x: T, y: T) -> T {
 
 /// Returns the greatest common divisor.
 ///
-/// [`checked::gcd`](crate::checked::gcd) is the same call, which returns `None` outside the domain.
+/// May be called if [`Integer::gcd`] may; [`checked::gcd`] has no condition.
 ///
 /// # Examples
 ///
@@ -1018,7 +998,7 @@ pub fn gcd<T: Integer>(x: T, y: T) -> T {
 
 /// Returns the least common multiple.
 ///
-/// [`checked::lcm`](crate::checked::lcm) is the same call, which returns `None` outside the domain.
+/// May be called if [`Integer::lcm`] may; [`checked::lcm`] has no condition.
 ///
 /// # Examples
 ///
@@ -1055,8 +1035,7 @@ pub fn lcm<T: Integer>(x: T, y: T) -> T {
 
 /// Returns the greatest common divisor and the least common multiple.
 ///
-/// [`checked::gcd_lcm`](crate::checked::gcd_lcm) is the same call, which returns `None` outside the
-/// domain.
+/// May be called if [`Integer::gcd_lcm`] may; [`checked::gcd_lcm`] has no condition.
 ///
 /// # Examples
 ///

@@ -4,10 +4,9 @@
 use crate::operators::difference;
 use crate::{mod_floor, Fits, Integer};
 
-/// Returns the offset rounded up to a multiple of the alignment, or `None` where that is beyond the
-/// type.
+/// Returns the offset rounded up to a multiple of the alignment, or `None` if that does not fit.
 ///
-/// May be called where `alignment` is above 0.
+/// May be called if `alignment` is positive.
 ///
 /// # Examples
 ///
@@ -16,6 +15,7 @@ use crate::{mod_floor, Fits, Integer};
 ///
 /// assert_eq!(align_up(13, 8), Some(16));
 /// assert_eq!(align_up(-13, 8), Some(-8));
+/// assert_eq!(align_up(250u8, 8), None);
 /// ```
 ///
 /// # Panics
@@ -51,9 +51,9 @@ pub fn align_up<T: Fits>(offset: T, alignment: T) -> Option<T> {
     }
 }
 
-/// Returns how many bytes to add to reach the next aligned offset.
+/// Returns how many bytes to add to the offset to align it.
 ///
-/// May be called where `alignment` is above 0.
+/// May be called if `alignment` is positive.
 ///
 /// # Examples
 ///

@@ -26,8 +26,6 @@ pub mod layout;
 pub mod modular;
 mod padded;
 pub mod paging;
-mod parts;
-mod plain;
 pub mod powers;
 pub mod ranking;
 pub mod ratio64;
@@ -36,6 +34,7 @@ mod rows;
 pub mod schedules;
 mod serde_strings;
 mod shift;
+mod sign_magnitude;
 mod strings;
 
 pub use crate::integer_core::{

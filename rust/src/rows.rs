@@ -7,13 +7,23 @@ use crate::integer_core::operators::{predecessor, successor};
 use crate::integer_core::Integer;
 use core::iter::FusedIterator;
 
-/// An iterator over the coefficients of `n` and each number from `0` to `n`, in order. For a
-/// negative `n` it has no item.
+/// An iterator over a row of Pascal's triangle: the coefficients of `n` and each number from `0` to
+/// `n`, in order. The row of a negative `n` is empty.
 ///
-/// The items of `IterBinomial::new(3u8)` are `1`, `3`, `3` and `1`.
+/// The items of `IterBinomial::new(3u8)` are `1`, `3`, `3` and `1`:
+/// `IterBinomial::new(3u8).nth(1)` is `Some(3)`, and `IterBinomial::new(3u8).count()` is `4`.
 ///
-/// The greatest `n` whose row fits is 10 for `u8`, 9 for `i8`, 18 for `u16`, 17 for `i16`, 34 for
+/// The largest `n` whose row fits is 10 for `u8`, 9 for `i8`, 18 for `u16`, 17 for `i16`, 34 for
 /// `u32`, 33 for `i32`, 67 for `u64` and 66 for `i64`.
+///
+/// # Examples
+///
+/// ```
+/// use cellarcove::IterBinomial;
+///
+/// assert_eq!(IterBinomial::new(3u8).nth(1), Some(3));
+/// assert_eq!(IterBinomial::new(3u8).count(), 4);
+/// ```
 #[derive(Clone, Debug)]
 pub struct IterBinomial<T: Integer + Copy> {
     n: T,
@@ -22,9 +32,18 @@ pub struct IterBinomial<T: Integer + Copy> {
 }
 
 impl<T: Integer + Copy> IterBinomial<T> {
-    /// Returns the row of `n`. `IterBinomial::new(3u8)` gives `1`, `3`, `3`, `1`, and then `None`.
+    /// Returns the row of `n`. `IterBinomial::new(3u8)` gives `1`, `3`, `3`, `1`, and then `None`,
+    /// so `IterBinomial::new(3u8).last()` is `Some(1)`.
     ///
-    /// May be called where `checked::row` returns `Some`.
+    /// May be called if [`checked::row`](crate::checked::row) returns `Some`.
+    ///
+    /// # Examples
+    ///
+    /// ```
+    /// use cellarcove::IterBinomial;
+    ///
+    /// assert_eq!(IterBinomial::new(3u8).last(), Some(1));
+    /// ```
     ///
     /// # Panics
     ///
@@ -54,8 +73,7 @@ impl<T: Integer + Copy> IterBinomial<T> {
     }
 }
 
-/// Returns the `k`-th item of the row of `n`, where `previous` is the item before it. The first is
-/// 1.
+/// Returns the `k`-th item of the row of `n`, counted from 0. `previous` is the item before it.
 #[track_caller]
 fn item_at<T: Integer + Copy>(n: T, k: T, previous: T) -> T {
     if k.is_zero() {

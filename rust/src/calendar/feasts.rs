@@ -4,8 +4,8 @@
 use crate::calendar::Date;
 use crate::{div_floor, mod_floor};
 
-/// Returns the date of Easter Sunday of a year: the first Sunday after the Paschal full moon, by
-/// the tables of Clavius for the Gregorian calendar.
+/// Returns the date of Easter Sunday: the first Sunday after the Paschal full moon, by the tables
+/// of Clavius for the Gregorian calendar.
 ///
 /// # Examples
 ///
@@ -37,7 +37,7 @@ pub fn easter(year: i64) -> Date {
     day_from_march(year, full_moon + days)
 }
 
-/// Returns the date of a day counted from 1 March, of which 32 is 1 April.
+/// Returns the date of a day that is counted from 1 March, which is day 1. Day 32 is 1 April.
 fn day_from_march(year: i64, day: u8) -> Date {
     if day <= 31 {
         Date {
@@ -54,12 +54,12 @@ fn day_from_march(year: i64, day: u8) -> Date {
     }
 }
 
-/// Returns the number of days from the date to the next Sunday. It is 7 on a Sunday.
+/// Returns the number of days from the date to the next Sunday, which is 7 on a Sunday.
 fn days_to_next_sunday(date: &Date) -> u8 {
     7 - date.weekday().days_after_sunday()
 }
 
-/// Returns the day of the Paschal full moon, counted from 1 March.
+/// Returns the day of the Paschal full moon, counted from 1 March, which is day 1.
 fn paschal_full_moon(year: i64) -> u8 {
     let golden = golden_of(year);
     21 + days_to_full_moon(epact_of(century_of(year), golden), golden)
@@ -75,33 +75,33 @@ fn days_to_full_moon(epact: u8, golden: u8) -> u8 {
     }
 }
 
-/// Returns the epact of a golden number in a century.
+/// Returns the epact, the age of the moon on 1 January, in years of this century and golden number.
 fn epact_of(century: i64, golden: u8) -> u8 {
     let (solar, lunar) = (solar_correction(century), lunar_correction(century));
     mod_floor(epact_sum(golden, solar, lunar), 30) as u8
 }
 
-/// Returns the number whose remainder by 30 is the epact.
+/// Returns the number that leaves the epact as its remainder by 30.
 fn epact_sum(golden: u8, solar: i64, lunar: i64) -> i64 {
     11 * i64::from(golden) + 8 - solar + lunar
 }
 
-/// Returns the number of leap days that hundredth years have dropped.
+/// Returns how many leap days the calendar has dropped in multiples of 100.
 fn solar_correction(century: i64) -> i64 {
     century - div_floor(century, 4)
 }
 
-/// Returns the number of days that the moon has gained on its cycle of 19 years.
+/// Returns how many days the moon has gained on its cycle of 19 years.
 fn lunar_correction(century: i64) -> i64 {
     div_floor(8 * century + 13, 25)
 }
 
-/// Returns the century of a year, of which 0 has the years 0 to 99.
+/// Returns the century of a year. The years 0 to 99 are in century 0.
 fn century_of(year: i64) -> i64 {
     div_floor(year, 100)
 }
 
-/// Returns the golden number of a year, less 1.
+/// Returns the golden number of a year minus 1.
 fn golden_of(year: i64) -> u8 {
     mod_floor(year, 19) as u8
 }

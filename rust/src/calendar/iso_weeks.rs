@@ -2,20 +2,103 @@
 //! The weeks of ISO 8601, from Monday to Sunday.
 
 use crate::calendar::eras::{days_to_month, era_of_year};
-use crate::calendar::years::{is_in_year, year_near};
+use crate::calendar::years::{is_in_year, nearby_year};
 use crate::calendar::{Date, Weekday};
 
-/// A week of ISO 8601, from Monday to Sunday. Its year is the one that has its Thursday, and week 1
-/// has the first Thursday of the year. Weeks are in the order of their days.
+/// A week of ISO 8601, from Monday to Sunday. Its year is the year of its Thursday, and week 1 has
+/// the first Thursday of the year. An earlier week is less than a later one.
+///
+/// # Examples
+///
+/// ```
+/// use cellarcove::calendar::{Date, IsoWeek};
+///
+/// assert_eq!(Date::from_day_number(4).iso_week(), Some(IsoWeek { year: 1970, week: 2 }));
+/// ```
 #[derive(Debug, Clone, Copy, PartialEq, Eq, PartialOrd, Ord, Hash)]
 pub struct IsoWeek {
     pub year: i64,
     pub week: u8,
 }
 
+impl IsoWeek {
+    /// Returns a week of a year, or `None` if the year has no such week.
+    ///
+    /// # Examples
+    ///
+    /// ```
+    /// use cellarcove::calendar::IsoWeek;
+    ///
+    /// assert_eq!(IsoWeek::new(2004, 53), Some(IsoWeek { year: 2004, week: 53 }));
+    /// assert_eq!(IsoWeek::new(2005, 53), None);
+    /// ```
+    ///
+    /// <details><summary>Proved</summary>
+    ///
+    /// Of the source, in Rattle: each call returns, and then each `ensures` holds.
+    ///
+    /// ```text
+    /// ensures { MatchOption result (¬ (HasIsoWeek year week))
+    ///     (λ found. HasIsoWeek year week × (found.year ≡ year) × (found.week ≡ week)) }
+    /// ```
+    ///
+    /// Words: [`HasIsoWeek`](crate::definitions::calendar#hasisoweek),
+    /// [how to read it](crate::definitions).
+    ///
+    /// </details>
+    #[must_use]
+    pub fn new(year: i64, week: u8) -> Option<Self> {
+        if is_in_year(year, thursday_of_iso_week(year, week)) {
+            Some(Self { year, week })
+        } else {
+            None
+        }
+    }
+
+    /// Returns the date of a day of the week, or `None` if the year has no such week or the year of
+    /// the date does not fit an `i64`.
+    ///
+    /// # Examples
+    ///
+    /// ```
+    /// use cellarcove::calendar::{Date, IsoWeek, Weekday};
+    ///
+    /// assert_eq!(IsoWeek { year: 2009, week: 53 }.date_on(Weekday::Sunday), Date::new(2010, 1, 3));
+    /// ```
+    ///
+    /// <details><summary>Proved</summary>
+    ///
+    /// Of the source, in Rattle: each call returns, and then each `ensures` holds.
+    ///
+    /// ```text
+    /// ensures { MatchOption result
+    ///     ((day y : ℤ) → IsDayOfIsoWeek day self.now.year self.now.week weekday → HasDay y day
+    ///     → ¬ (FitsSigned w64 y))
+    ///     (λ date. IsDayOfIsoWeek (number_of date) self.now.year self.now.week weekday) }
+    /// ```
+    ///
+    /// Words: [`IsDayOfIsoWeek`](crate::definitions::calendar#isdayofisoweek),
+    /// [`HasDay`](crate::definitions::calendar#hasday),
+    /// [`number_of`](crate::definitions::calendar#number_of), [how to read it](crate::definitions).
+    ///
+    /// </details>
+    #[must_use]
+    pub fn date_on(&self, weekday: Weekday) -> Option<Date> {
+        Date::from_iso_week(self.year, self.week, weekday)
+    }
+}
+
 impl Date {
-    /// Returns the week of ISO 8601 that has the date, or `None` where its year is beyond `i64`.
-    /// That of 2005-01-01 is week 53 of 2004.
+    /// Returns the week of ISO 8601 that has the date, or `None` if the year of the week does not
+    /// fit an `i64`.
+    ///
+    /// # Examples
+    ///
+    /// ```
+    /// use cellarcove::calendar::{Date, IsoWeek};
+    ///
+    /// assert_eq!(Date::new(2005, 1, 1).unwrap().iso_week(), Some(IsoWeek { year: 2004, week: 53 }));
+    /// ```
     ///
     /// <details><summary>Proved</summary>
     ///
@@ -36,15 +119,15 @@ impl Date {
     /// </details>
     #[must_use]
     pub fn iso_week(&self) -> Option<IsoWeek> {
-        let (year, days) = year_near(self.year, thursday_of_week(self))?;
+        let (year, days) = nearby_year(self.year, thursday_of_week(self))?;
         Some(IsoWeek {
             year,
             week: (days / 7 + 1) as u8,
         })
     }
 
-    /// Returns the date of a day of a week of ISO 8601, or `None` where the year has no such week
-    /// or the year of the date does not fit an `i64`.
+    /// Returns the date of a day of a week of ISO 8601, or `None` if the year has no such week or
+    /// the year of the date does not fit an `i64`.
     ///
     /// # Examples
     ///
@@ -74,14 +157,14 @@ impl Date {
     pub fn from_iso_week(year: i64, week: u8, weekday: Weekday) -> Option<Self> {
         let thursday = thursday_of_iso_week(year, week);
         if is_in_year(year, thursday) {
-            Self::near(year, day_of_week(thursday, weekday))
+            Self::in_nearby_year(year, day_of_week(thursday, weekday))
         } else {
             None
         }
     }
 }
 
-/// Returns how many weeks of ISO 8601 the year has, 52 or 53.
+/// Returns how many weeks of ISO 8601 the year has: 52 or 53.
 ///
 /// # Examples
 ///
@@ -114,26 +197,26 @@ pub fn weeks_in_year(year: i64) -> u8 {
     }
 }
 
-/// Returns the number of days from 1 January of the year of the date to the Thursday of its week.
-/// It is negative where that Thursday is earlier.
+/// Returns the number of days from 1 January of the year of the date to the Thursday of its week,
+/// which is negative if that Thursday is in the year before.
 fn thursday_of_week(date: &Date) -> i64 {
     i64::from(date.day_of_year()) + 2 - days_since_monday(date)
 }
 
-/// Returns the number of days from the last Monday to the date.
+/// Returns the number of days from the Monday of its week to the date.
 fn days_since_monday(date: &Date) -> i64 {
     let (_, day) = date.day_of_era();
     i64::from((day + 1) % 7)
 }
 
-/// Returns the number of days from 1 January to the Thursday of the week, also where the year is
-/// too short for it.
+/// Returns the number of days from 1 January to the Thursday of the week, even if the year is too
+/// short to have it.
 fn thursday_of_iso_week(year: i64, week: u8) -> i64 {
     first_thursday(year) + 7 * (i64::from(week) - 1)
 }
 
-/// Returns the number of days from 1 January to the first Thursday of the year. Day 0 is a
-/// Thursday.
+/// Returns the number of days from 1 January to the first Thursday of the year. 1970-01-01, which
+/// is day 0, is a Thursday.
 fn first_thursday(year: i64) -> i64 {
     // 1 March of the first year of an era is a Wednesday.
     let (_, place) = era_of_year(year);
@@ -141,12 +224,12 @@ fn first_thursday(year: i64) -> i64 {
     6 - i64::from((january + 5) % 7)
 }
 
-/// Returns the number of days from a Monday to the day of the week.
+/// Returns the number of days from a Monday to `weekday` of the same week.
 fn days_after_monday(weekday: Weekday) -> i64 {
     i64::from((weekday.days_after_sunday() + 6) % 7)
 }
 
-/// Returns the day of the week that has the Thursday.
+/// Returns the day, counted from 1 January, of `weekday` in the week of that Thursday.
 fn day_of_week(thursday: i64, weekday: Weekday) -> i64 {
     thursday - 3 + days_after_monday(weekday)
 }

@@ -3,9 +3,11 @@
 
 use crate::integer_core::native::Native;
 
+use num_traits::Num;
+
 /// Returns the quotient rounded toward zero, and its remainder.
 #[track_caller]
-pub(crate) fn div_rem<T: Native>(n: T, d: T) -> (T, T) {
+pub(crate) fn div_rem<T: Copy + Num>(n: T, d: T) -> (T, T) {
     (n / d, n % d)
 }
 
@@ -13,15 +15,15 @@ pub(crate) fn div_rem<T: Native>(n: T, d: T) -> (T, T) {
 #[track_caller]
 pub(crate) fn div_mod_floor<T: Native>(n: T, d: T) -> (T, T) {
     let (q, r) = div_rem(n, d);
-    if is_above_floor(r, d) {
+    if is_rounded_up(r, d) {
         (q - T::one(), r + d)
     } else {
         (q, r)
     }
 }
 
-/// Returns `true` if the quotient rounded toward zero, of this remainder, is above the exact one.
-/// The two tests are one number, and no branch.
-fn is_above_floor<T: Native>(r: T, d: T) -> bool {
+/// Returns `true` if rounding toward zero, which leaves the remainder `r` by `d`, rounds the
+/// quotient up. `&` evaluates both tests, so there is no branch.
+fn is_rounded_up<T: Copy + Num + PartialOrd>(r: T, d: T) -> bool {
     !r.is_zero() & ((r < T::zero()) != (d < T::zero()))
 }

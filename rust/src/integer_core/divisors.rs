@@ -2,19 +2,20 @@
 //! Divisors and multiples of the native types.
 
 use crate::integer_core::native::Native;
+use crate::plain::is_minus_one;
 
 /// Returns `true` if `d` divides `n`.
 pub(crate) fn is_multiple_of<T: Native>(n: T, d: T) -> bool {
     if d.is_zero() {
         n.is_zero()
-    } else if d.is_minus_one() {
+    } else if is_minus_one(d) {
         true
     } else {
         (n % d).is_zero()
     }
 }
 
-/// Returns `true` if 2 divides `n`.
+/// Returns `true` if `n` is even.
 pub(crate) fn is_even<T: Native>(n: T) -> bool {
     is_multiple_of(n, T::one() + T::one())
 }

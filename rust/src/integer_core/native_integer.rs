@@ -4,12 +4,13 @@
 
 use crate::integer_core::counted::GcdCounted;
 use crate::integer_core::native::Native;
-
-use crate::integer_core::stein::{binary_gcd, Magnitude};
+use crate::integer_core::operators::is_minus_one;
+use crate::integer_core::stein::{binary_gcd, positive_gcd_lcm};
 use crate::integer_core::{division, divisors, Integer};
 use num_traits::PrimInt;
 
-/// A native integer type. The trait is sealed: no other crate can implement it.
+/// A native integer type: `i8` to `i128`, `u8` to `u128`, `isize` or `usize`. The trait is sealed:
+/// no other crate can implement it.
 #[cfg_attr(
     has_diagnostic,
     diagnostic::on_unimplemented(
@@ -31,7 +32,7 @@ impl<T: Native> Integer for T {
     }
 
     fn mod_floor(&self, other: &T) -> T {
-        if other.is_minus_one() {
+        if is_minus_one(*other) {
             T::zero()
         } else {
             division::div_mod_floor(*self, *other).1
@@ -63,8 +64,19 @@ impl<T: Native> Integer for T {
             return T::zero();
         }
         crate::guards::number(
-            T::Magnitude::positive_lcm(self.magnitude(), other.magnitude()),
+            positive_gcd_lcm(self.magnitude(), other.magnitude()).1,
             "the least common multiple does not fit",
+        )
+    }
+
+    fn gcd_lcm(&self, other: &T) -> (T, T) {
+        if self.is_zero() || other.is_zero() {
+            return (self.gcd(other), T::zero());
+        }
+        let (gcd, lcm) = positive_gcd_lcm(self.magnitude(), other.magnitude());
+        (
+            crate::guards::number(gcd, "the greatest common divisor does not fit"),
+            crate::guards::number(lcm, "the least common multiple does not fit"),
         )
     }
 

@@ -3,60 +3,95 @@
 //! volume 2, section 4.5.2, algorithm B).
 
 use crate::integer_core::native::Native;
-use crate::plain::successor;
+
 use crate::shift::Unsigned;
-use num_traits::{cast, PrimInt, ToPrimitive};
+use num_traits::{Bounded, ToPrimitive};
 
-/// Returns `true` if the magnitudes are the same.
-fn is_same<M: PrimInt + Unsigned>(m: M, n: M) -> bool {
-    m == n
+/// A type of magnitudes, `u64` or `u128`, with the operations on bits that Stein's method needs.
+pub trait Magnitude: Copy + Unsigned + num_traits::CheckedMul + PartialOrd + ToPrimitive {
+    /// Returns the number without its factors 2, and how many they are. `12.odd_part()` is `(3,
+    /// 2)`.
+    fn odd_part(self) -> (Self, u32);
+
+    /// Returns the number times 2 to the power `twos`. `3.times_power_of_two(2)` is `12`.
+    fn times_power_of_two(self, twos: u32) -> Self;
+
+    /// Returns the difference of the number and a smaller one, without its factors 2. The factors
+    /// are counted in the bits that differ, so that the count does not wait for the subtraction.
+    /// `21.odd_difference(9)` is `3`.
+    fn odd_difference(self, smaller: Self) -> Self;
+
+    /// Returns the number as a `u64`, or `None` if it does not fit.
+    fn to_64_bits(self) -> Option<u64>;
+
+    /// Returns a `u64` as a number of this type.
+    fn from_64_bits(x: u64) -> Self;
 }
 
-/// Returns `true` if the first magnitude is below the second.
-fn is_smaller<M: PrimInt + Unsigned>(m: M, n: M) -> bool {
-    m < n
-}
+impl Magnitude for u64 {
+    fn odd_part(self) -> (Self, u32) {
+        let twos = self.trailing_zeros();
+        (self >> twos, twos)
+    }
 
-/// Returns `x` with all factors 2 taken out, and their number.
-fn without_twos<M: PrimInt + Unsigned>(x: M) -> (M, u32) {
-    let twos = x.trailing_zeros();
-    (x >> twos, twos)
-}
+    fn times_power_of_two(self, twos: u32) -> Self {
+        self << twos
+    }
 
-/// Returns `x` times 2 to the power `twos`.
-fn with_twos<M: PrimInt + Unsigned>(x: M, twos: u32) -> M {
-    x << twos
-}
+    fn odd_difference(self, smaller: Self) -> Self {
+        (self - smaller) >> (self ^ smaller).trailing_zeros()
+    }
 
-/// Returns both numbers with all factors 2 taken out, and the number of those that both have.
-fn odd_parts<M: PrimInt + Unsigned>(a: M, b: M) -> (M, M, u32) {
-    let (m, twos_of_a) = without_twos(a);
-    let (n, twos_of_b) = without_twos(b);
-    (m, n, twos_of_a.min(twos_of_b))
-}
+    fn to_64_bits(self) -> Option<Self> {
+        Some(self)
+    }
 
-/// Returns the number of last bits that `x` and the lesser `y` share. Their difference has as many
-/// factors 2, which are counted before the difference is computed.
-fn shared_bits<M: PrimInt + Unsigned>(x: M, y: M) -> u32 {
-    (x ^ y).trailing_zeros()
-}
-
-/// Returns the difference of `x` and the lesser `y`, with all factors 2 taken out.
-fn odd_difference<M: PrimInt + Unsigned>(x: M, y: M) -> M {
-    (x - y) >> shared_bits(x, y)
-}
-
-/// Returns the pair after a turn of the loop. The lesser number comes second, whichever place it
-/// had, so both arms are the same computation.
-fn next_pair<M: PrimInt + Unsigned>(m: M, n: M) -> (M, M) {
-    if is_smaller(n, m) {
-        (odd_difference(m, n), n)
-    } else {
-        (odd_difference(n, m), m)
+    fn from_64_bits(x: Self) -> Self {
+        x
     }
 }
 
-/// Returns the greatest common divisor of two odd numbers, and the turns of the loop.
+impl Magnitude for u128 {
+    fn odd_part(self) -> (Self, u32) {
+        let twos = self.trailing_zeros();
+        (self >> twos, twos)
+    }
+
+    fn times_power_of_two(self, twos: u32) -> Self {
+        self << twos
+    }
+
+    fn odd_difference(self, smaller: Self) -> Self {
+        (self - smaller) >> (self ^ smaller).trailing_zeros()
+    }
+
+    fn to_64_bits(self) -> Option<u64> {
+        u64::try_from(self).ok()
+    }
+
+    fn from_64_bits(x: u64) -> Self {
+        Self::from(x)
+    }
+}
+
+/// Returns the odd parts of both numbers, and the number of factors 2 that they share.
+fn odd_parts<M: Magnitude>(a: M, b: M) -> (M, M, u32) {
+    let (m, twos_of_a) = a.odd_part();
+    let (n, twos_of_b) = b.odd_part();
+    (m, n, twos_of_a.min(twos_of_b))
+}
+
+/// Returns the pair after an iteration of the loop. The smaller number comes second, whichever
+/// place it had, so both arms are the same computation.
+fn next_pair<M: Magnitude>(m: M, n: M) -> (M, M) {
+    if n < m {
+        (m.odd_difference(n), n)
+    } else {
+        (n.odd_difference(m), m)
+    }
+}
+
+/// Returns the greatest common divisor of two odd numbers, and the number of iterations.
 fn odd_gcd(a: u64, b: u64) -> (u64, u32) {
     let (mut m, mut n) = (a, b);
     let mut turns = 0;
@@ -67,24 +102,19 @@ fn odd_gcd(a: u64, b: u64) -> (u64, u32) {
     (m, turns)
 }
 
-/// Returns both numbers at 64 bits, or `None` where one does not fit.
-fn at_64_bits<M: PrimInt + Unsigned>(m: M, n: M) -> Option<(u64, u64)> {
-    Some((m.to_u64()?, n.to_u64()?))
-}
-
-/// Returns a number of 64 bits as a magnitude.
-fn from_64_bits<M: PrimInt + Unsigned>(x: u64) -> M {
-    cast::<u64, M>(x).unwrap()
+/// Returns both numbers as `u64`, or `None` if one of them does not fit.
+fn at_64_bits<M: Magnitude>(m: M, n: M) -> Option<(u64, u64)> {
+    Some((m.to_64_bits()?, n.to_64_bits()?))
 }
 
 /// Returns `true` if the numbers differ and one of them has more than 64 bits.
-fn differ_beyond_64_bits<M: PrimInt + Unsigned>(m: M, n: M) -> bool {
-    !is_same(m, n) && at_64_bits(m, n).is_none()
+fn differ_beyond_64_bits<M: Magnitude>(m: M, n: M) -> bool {
+    m != n && at_64_bits(m, n).is_none()
 }
 
-/// Returns the greatest common divisor of two odd numbers, and the turns of the loop, which goes on
-/// at 64 bits as soon as both numbers fit.
-fn narrowing_gcd<M: PrimInt + Unsigned>(a: M, b: M) -> (M, u32) {
+/// Returns the greatest common divisor of two odd numbers, and the number of iterations. The loop
+/// goes on in `u64` as soon as both numbers fit.
+fn narrowing_gcd<M: Magnitude>(a: M, b: M) -> (M, u32) {
     let (mut m, mut n) = (a, b);
     let mut turns = 0;
     while differ_beyond_64_bits(m, n) {
@@ -94,119 +124,62 @@ fn narrowing_gcd<M: PrimInt + Unsigned>(a: M, b: M) -> (M, u32) {
     match at_64_bits(m, n) {
         Some((x, y)) => {
             let (gcd, rest) = odd_gcd(x, y);
-            (from_64_bits(gcd), turns + rest)
+            (M::from_64_bits(gcd), turns + rest)
         }
         None => (m, turns),
     }
 }
 
-/// Returns the greatest common divisor of two numbers above 0, and the turns of the loop.
-fn positive_gcd<M: PrimInt + Unsigned>(a: M, b: M) -> (M, u32) {
+/// Returns the greatest common divisor of two positive numbers, and the number of iterations.
+fn positive_gcd<M: Magnitude>(a: M, b: M) -> (M, u32) {
     let (m, n, twos) = odd_parts(a, b);
     let (odd, turns) = narrowing_gcd(m, n);
-    (with_twos(odd, twos), turns)
+    (odd.times_power_of_two(twos), turns)
 }
 
-/// Returns the greatest common divisor of two numbers above 0, one of which is a power of two: the
+/// Returns the greatest common divisor of two positive numbers, one of which is a power of two: the
 /// power of two that both share.
-fn shared_power_of_two<M: PrimInt + Unsigned>(a: M, b: M) -> M {
-    with_twos(M::one(), odd_parts(a, b).2)
+fn shared_power_of_two<M: Magnitude>(a: M, b: M) -> M {
+    M::from_64_bits(1).times_power_of_two(odd_parts(a, b).2)
 }
 
-/// Returns the least common multiple of two numbers above 0.
+/// Returns the greatest common divisor and the least common multiple of two positive numbers.
 #[track_caller]
-fn positive_lcm<M: PrimInt + Unsigned>(a: M, b: M) -> M {
-    crate::guards::product(
-        a,
-        b / positive_gcd(a, b).0,
-        "the least common multiple does not fit",
+pub(crate) fn positive_gcd_lcm<M: Magnitude>(a: M, b: M) -> (M, M) {
+    let gcd = positive_gcd(a, b).0;
+    (
+        gcd,
+        crate::guards::product(a, b / gcd, "the least common multiple does not fit"),
     )
 }
 
-/// A type of magnitudes, with what is computed of two numbers above 0.
-pub trait Magnitude: Copy + ToPrimitive {
-    /// Returns the next number.
-    fn successor(self) -> Self;
-
-    /// Returns the greatest common divisor, and the turns of the loop.
-    fn positive_gcd(a: Self, b: Self) -> (Self, u32);
-
-    /// Returns the greatest common divisor where one of the two is a power of two: the power of two
-    /// that both share.
-    fn shared_power_of_two(a: Self, b: Self) -> Self;
-
-    /// Returns the least common multiple.
-    #[track_caller]
-    fn positive_lcm(a: Self, b: Self) -> Self;
-}
-
-impl Magnitude for u64 {
-    #[inline]
-    fn successor(self) -> Self {
-        successor(self)
-    }
-
-    fn positive_gcd(a: Self, b: Self) -> (Self, u32) {
-        positive_gcd(a, b)
-    }
-
-    fn shared_power_of_two(a: Self, b: Self) -> Self {
-        shared_power_of_two(a, b)
-    }
-
-    #[track_caller]
-    fn positive_lcm(a: Self, b: Self) -> Self {
-        positive_lcm(a, b)
-    }
-}
-
-impl Magnitude for u128 {
-    #[inline]
-    fn successor(self) -> Self {
-        successor(self)
-    }
-
-    fn positive_gcd(a: Self, b: Self) -> (Self, u32) {
-        positive_gcd(a, b)
-    }
-
-    fn shared_power_of_two(a: Self, b: Self) -> Self {
-        shared_power_of_two(a, b)
-    }
-
-    #[track_caller]
-    fn positive_lcm(a: Self, b: Self) -> Self {
-        positive_lcm(a, b)
-    }
-}
-
-/// Returns `true` if this is the least number of its type.
-fn is_least<T: Native>(x: T) -> bool {
-    x == T::min_value()
-}
-
-/// Returns the greatest common divisor of the magnitudes, and the turns of the loop. The loop makes
-/// no turn for 0, nor for the least number of a type with negatives, whose magnitude is a power of
-/// two.
-fn gcd_of_magnitudes<T: Native>(a: T, b: T) -> (T::Magnitude, u32) {
-    let (m, n) = (a.magnitude(), b.magnitude());
-    if a.is_zero() {
+/// Returns the greatest common divisor of two magnitudes, and the number of iterations. The loop is
+/// not entered if one of them is 0, nor if `has_power` says that one is a power of two.
+fn gcd_of_magnitudes<M: Magnitude>(m: M, n: M, has_power: bool) -> (M, u32) {
+    if m.is_zero() {
         (n, 0)
-    } else if b.is_zero() {
+    } else if n.is_zero() {
         (m, 0)
-    } else if is_least(a) || is_least(b) {
-        (T::Magnitude::shared_power_of_two(m, n), 0)
+    } else if has_power {
+        (shared_power_of_two(m, n), 0)
     } else {
-        T::Magnitude::positive_gcd(m, n)
+        positive_gcd(m, n)
     }
 }
 
-/// Returns the greatest common divisor, and the turns of its loop.
+/// Returns the greatest common divisor, and the number of iterations of its loop. The magnitude of
+/// the smallest number of a type with negatives is a power of two, and that of a type without them
+/// is 0.
 #[track_caller]
 pub(crate) fn binary_gcd<T: Native>(a: T, b: T) -> (T, u32) {
-    let (gcd, turns) = gcd_of_magnitudes(a, b);
+    let (gcd, turns) = gcd_of_magnitudes(a.magnitude(), b.magnitude(), has_smallest(a, b));
     (
         crate::guards::number(gcd, "the greatest common divisor does not fit"),
         turns,
     )
+}
+
+/// Returns `true` if one of the numbers is the smallest of its type.
+fn has_smallest<T: Copy + PartialEq + Bounded>(a: T, b: T) -> bool {
+    a == T::min_value() || b == T::min_value()
 }

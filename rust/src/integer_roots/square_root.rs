@@ -3,8 +3,9 @@
 
 use crate::integer_roots::newton::newton;
 
-/// Returns the square root of `a`, and the turns of the two loops. The first guess is a power of
-/// two near the root. Where it is below the root, the first loop steps up; the second steps down.
+/// Returns the square root of `a`, and the number of iterations of the two loops. The first guess
+/// is a power of two near the root. If it is below the root, the first loop steps up; the second
+/// steps down.
 #[allow(clippy::manual_div_ceil)] // as it was proved
 pub(crate) fn square_root_counted(a: u64) -> (u64, u32) {
     if a < 4 {

@@ -3,8 +3,7 @@
 
 use crate::modular::products::Modular;
 use crate::modular::residues::{negation_of_residue, residue};
-use crate::modular::wide_powers::power_of_wide;
-use crate::modular::wide_products::product_of_wide;
+use crate::modular::wide_residues::{power_of_wide, product_of_wide};
 
 use crate::{Fits, NativeInteger};
 use num_traits::cast;
@@ -32,7 +31,7 @@ impl<T: NativeInteger> Modular for T {
     }
 }
 
-/// Returns the number of the type with this magnitude, which is at least 0.
+/// Converts a magnitude to the type.
 fn of_magnitude<T: NativeInteger>(x: u128) -> T {
     cast::<u128, T>(x).unwrap()
 }

@@ -4,9 +4,12 @@
 use crate::operators::{difference, sum};
 use crate::{mod_floor, Integer};
 
-/// Returns `a` modulo `m`, which is at least 0.
+/// Returns the residue of `a` modulo `m`, which is in 0..m even if `a` is negative.
 ///
-/// May be called where `m` is above 0.
+/// `m` must be positive.
+///
+/// [`modular::checked::residue`](crate::modular::checked::residue) is the same call, which returns
+/// `None` outside the domain.
 ///
 /// # Examples
 ///
@@ -41,16 +44,19 @@ pub fn residue<T: Integer>(a: T, m: T) -> T {
     mod_floor(a, m)
 }
 
-/// Returns `a + b` modulo `m`. The sum need not fit the type: `sum_modulo(200u8, 100, 201)` is
-/// `99`.
+/// Returns `a + b` modulo `m`. The sum need not fit the type.
 ///
-/// May be called where `m` is above 0.
+/// `m` must be positive.
+///
+/// [`modular::checked::sum_modulo`](crate::modular::checked::sum_modulo) is the same call, which
+/// returns `None` outside the domain.
 ///
 /// # Examples
 ///
 /// ```
 /// use cellarcove::modular::sum_modulo;
 ///
+/// assert_eq!(sum_modulo(5, 4, 7), 2);
 /// assert_eq!(sum_modulo(200u8, 100, 201), 99);
 /// ```
 ///
@@ -79,7 +85,7 @@ pub fn sum_modulo<T: Integer + Copy>(a: T, b: T, m: T) -> T {
     sum_of_residues(residue(a, m), residue(b, m), m)
 }
 
-/// Returns [`sum_modulo`] of two residues.
+/// Returns the sum of two residues modulo `m`.
 pub(crate) fn sum_of_residues<T: Integer + Copy>(x: T, y: T, m: T) -> T {
     let room = difference(m, y);
     if x < room {
@@ -89,9 +95,12 @@ pub(crate) fn sum_of_residues<T: Integer + Copy>(x: T, y: T, m: T) -> T {
     }
 }
 
-/// Returns `a - b` modulo `m`, which is at least 0.
+/// Returns `a - b` modulo `m`, which is in 0..m. The difference need not fit the type.
 ///
-/// May be called where `m` is above 0.
+/// `m` must be positive.
+///
+/// [`modular::checked::difference_modulo`](crate::modular::checked::difference_modulo) is the same
+/// call, which returns `None` outside the domain.
 ///
 /// # Examples
 ///
@@ -99,6 +108,7 @@ pub(crate) fn sum_of_residues<T: Integer + Copy>(x: T, y: T, m: T) -> T {
 /// use cellarcove::modular::difference_modulo;
 ///
 /// assert_eq!(difference_modulo(2, 5, 7), 4);
+/// assert_eq!(difference_modulo(2u8, 5, 7), 4);
 /// ```
 ///
 /// # Panics
@@ -123,17 +133,15 @@ pub(crate) fn sum_of_residues<T: Integer + Copy>(x: T, y: T, m: T) -> T {
 #[must_use]
 pub fn difference_modulo<T: Integer + Copy>(a: T, b: T, m: T) -> T {
     assert!(m > T::zero(), "the modulus is not positive");
-    let (x, y) = (residue(a, m), residue(b, m));
-    if x < y {
-        difference(m, difference(y, x))
-    } else {
-        difference(x, y)
-    }
+    sum_of_residues(residue(a, m), negation_modulo(b, m), m)
 }
 
-/// Returns `-a` modulo `m`, which is at least 0.
+/// Returns `-a` modulo `m`, which is in 0..m.
 ///
-/// May be called where `m` is above 0.
+/// `m` must be positive.
+///
+/// [`modular::checked::negation_modulo`](crate::modular::checked::negation_modulo) is the same
+/// call, which returns `None` outside the domain.
 ///
 /// # Examples
 ///
@@ -169,7 +177,7 @@ pub fn negation_modulo<T: Integer + Copy>(a: T, m: T) -> T {
     negation_of_residue(residue(a, m), m)
 }
 
-/// Returns [`negation_modulo`] of a residue.
+/// Returns the negation of a residue modulo `m`.
 pub(crate) fn negation_of_residue<T: Integer + Copy>(x: T, m: T) -> T {
     if x.is_zero() {
         x
@@ -178,7 +186,7 @@ pub(crate) fn negation_of_residue<T: Integer + Copy>(x: T, m: T) -> T {
     }
 }
 
-/// Returns `true` if `a` and `b` are equal modulo `m`.
+/// Returns `true` if `a` and `b` are congruent modulo `m`.
 pub(crate) fn are_congruent<T: Integer + Copy>(a: T, b: T, m: T) -> bool {
     difference_modulo(a, b, m).is_zero()
 }

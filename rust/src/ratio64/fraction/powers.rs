@@ -4,10 +4,19 @@
 use crate::ratio64::{Ratio, RatioError};
 
 impl Ratio {
-    /// Returns the power, which for a negative exponent is that of the reciprocal. 2/3 to the power
-    /// 2 is 4/9, and to the power -1 it is 3/2. Each fraction to the power 0 is 1. Returns
-    /// `ZeroDenominator` for 0 to a negative power, and `NotFitting` where a part of the power does
+    /// Returns the power, which for a negative exponent is that of the reciprocal. Returns
+    /// `ZeroDenominator` for 0 to a negative power, and `NotFitting` if a part of the power does
     /// not fit.
+    ///
+    /// # Examples
+    ///
+    /// ```
+    /// use cellarcove::ratio64::Ratio;
+    ///
+    /// assert_eq!(Ratio::new(2, 3).unwrap().checked_pow(2), Ratio::new(4, 9));
+    /// assert_eq!(Ratio::new(2, 3).unwrap().checked_pow(-1), Ratio::new(3, 2));
+    /// assert_eq!(Ratio::zero().checked_pow(0), Ok(Ratio::one()));
+    /// ```
     ///
     /// # Errors
     ///
@@ -42,16 +51,11 @@ impl Ratio {
         }
     }
 
-    /// Returns the power of a degree that is at least 0. The power of a reduced fraction is
-    /// reduced.
+    /// Returns the power of a degree that is not negative. The powers of two coprime parts are
+    /// coprime.
     fn power(&self, degree: u32) -> Result<Self, RatioError> {
-        let num = checked_power(self.num, degree)?;
-        let den = checked_power(self.den, degree)?;
+        let num = self.num.checked_pow(degree).ok_or(RatioError::NotFitting)?;
+        let den = self.den.checked_pow(degree).ok_or(RatioError::NotFitting)?;
         Ok(Self { num, den })
     }
-}
-
-/// Returns the power of a part, or `NotFitting` where it does not fit.
-fn checked_power(part: i64, degree: u32) -> Result<i64, RatioError> {
-    part.checked_pow(degree).ok_or(RatioError::NotFitting)
 }

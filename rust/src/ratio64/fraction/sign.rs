@@ -4,7 +4,15 @@
 use crate::ratio64::{Ratio, RatioError};
 
 impl Ratio {
-    /// Returns `true` if the fraction is 0.
+    /// Returns whether the fraction is 0.
+    ///
+    /// # Examples
+    ///
+    /// ```
+    /// use cellarcove::ratio64::Ratio;
+    ///
+    /// assert!(Ratio::zero().is_zero());
+    /// ```
     ///
     /// <details><summary>Proved</summary>
     ///
@@ -22,7 +30,16 @@ impl Ratio {
         self.num == 0
     }
 
-    /// Returns `true` if the fraction is above 0.
+    /// Returns whether the fraction is positive.
+    ///
+    /// # Examples
+    ///
+    /// ```
+    /// use cellarcove::ratio64::Ratio;
+    ///
+    /// assert!(Ratio::one().is_positive());
+    /// assert!(!Ratio::zero().is_positive());
+    /// ```
     ///
     /// <details><summary>Proved</summary>
     ///
@@ -40,7 +57,16 @@ impl Ratio {
         self.num > 0
     }
 
-    /// Returns `true` if the fraction is below 0.
+    /// Returns whether the fraction is negative.
+    ///
+    /// # Examples
+    ///
+    /// ```
+    /// use cellarcove::ratio64::Ratio;
+    ///
+    /// assert!(Ratio::from(-1).is_negative());
+    /// assert!(!Ratio::zero().is_negative());
+    /// ```
     ///
     /// <details><summary>Proved</summary>
     ///
@@ -58,7 +84,15 @@ impl Ratio {
         self.num < 0
     }
 
-    /// Returns the sign: -1, 0 or 1, over 1. That of -3/2 is -1.
+    /// Returns the sign: -1, 0 or 1.
+    ///
+    /// # Examples
+    ///
+    /// ```
+    /// use cellarcove::ratio64::Ratio;
+    ///
+    /// assert_eq!(Ratio::new(-3, 2).unwrap().signum(), Ratio::from(-1));
+    /// ```
     ///
     /// <details><summary>Proved</summary>
     ///
@@ -78,8 +112,15 @@ impl Ratio {
         Self::from(self.num.signum())
     }
 
-    /// Returns the negation, or `NotFitting` where the numerator is `i64::MIN`. That of -3/2 is
-    /// 3/2.
+    /// Returns the negation, or `NotFitting` if the numerator is `i64::MIN`.
+    ///
+    /// # Examples
+    ///
+    /// ```
+    /// use cellarcove::ratio64::Ratio;
+    ///
+    /// assert_eq!(Ratio::new(-3, 2).unwrap().checked_neg(), Ratio::new(3, 2));
+    /// ```
     ///
     /// # Errors
     ///
@@ -108,8 +149,15 @@ impl Ratio {
         }
     }
 
-    /// Returns the magnitude, or `NotFitting` where the numerator is `i64::MIN`. That of -3/2 is
-    /// 3/2.
+    /// Returns the magnitude, or `NotFitting` if the numerator is `i64::MIN`.
+    ///
+    /// # Examples
+    ///
+    /// ```
+    /// use cellarcove::ratio64::Ratio;
+    ///
+    /// assert_eq!(Ratio::new(-3, 2).unwrap().checked_abs(), Ratio::new(3, 2));
+    /// ```
     ///
     /// # Errors
     ///
