@@ -8,7 +8,7 @@ own src/from_contracts.rt. Both crates are in crates.txt.
 
 A law is a definition that is `Type N` itself. One with arguments is a word: it stands in a clause too, or a law cites it. A
 name counts where the file imports it from that `Laws`, or writes it after the word by which it imports the whole file, as
-`dates.FirstDay`. A form that is not known is refused by file and line; then the status is 2."""
+`dates.FirstDay`. A form that is not known is rejected by file and line; then the status is 2."""
 import pathlib
 import re
 import sys

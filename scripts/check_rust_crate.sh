@@ -157,11 +157,11 @@ fi
 
 check 'the sources are made anew' is_made_anew
 check 'its public items are those of rust/api.txt' python3 scripts/make_api.py --check
-check 'forms that the eraser does not know are refused' python3 scripts/make_rust_crate.py --self-test
-check 'forms that the bounds do not fit are refused' python3 scripts/rust_bounds.py --self-test
+check 'forms that the eraser does not know are rejected' python3 scripts/make_rust_crate.py --self-test
+check 'forms that the bounds do not fit are rejected' python3 scripts/rust_bounds.py --self-test
 check 'operators are written for calls' python3 scripts/rust_operators.py --self-test
 check 'the style is written' python3 scripts/rust_style.py --self-test
-check 'forms that exports do not have are refused' python3 scripts/make_rust_exports.py --self-test
+check 'forms that exports do not have are rejected' python3 scripts/make_rust_exports.py --self-test
 if has_packages "${originals[@]}"; then
     mkdir "$work/.cargo"
     printf '[source.crates-io]\nreplace-with = "debian"\n[source.debian]\ndirectory = "%s"\n' "$registry" \

@@ -6,7 +6,7 @@ and Python, the wheel, and the file of pkg-config. `rust/num-integer` has the ve
     scripts/check_versions.py --self-test
                                     plants another version in each place of a copy; status 1 where one is not found
 
-A Cargo.toml or a pyproject.toml that is not listed here is refused, so no package is added without its version compared."""
+A Cargo.toml or a pyproject.toml that is not listed here is rejected, so no package is added without its version compared."""
 import pathlib
 import re
 import shutil

@@ -425,7 +425,7 @@ def run_in(copy, *words):
 
 def self_test():
     """The number of slips that the comparison does not find in a copy whose pages were those of its sources. A crash or a
-    form that is refused finds nothing."""
+    form that is rejected finds nothing."""
     missed = 0
     with tempfile.TemporaryDirectory() as copy:
         for part in ('crates', 'docs/reference', 'rust/by_hand', 'scripts'):

@@ -3,14 +3,14 @@
 
     scripts/make_rust_crate.py [OUT]     crates/NAME/src/*.rt and rust/by_hand/*  ->  OUT/src/*.rs
     scripts/make_rust_crate.py --self-test
-                               gives forms that are not known; status 1 if one is not refused by file and line
+                               gives forms that are not known; status 1 if one is not rejected by file and line
 
 OUT is rust/ where none is given. Code stays token by token, with its comments. What goes: `ghost` items, members and
 fields, clauses, `final`, `#[tactic]`, `#[cfg(test)]` items, labels that nothing names, and the traits that are of
 contracts alone. What changes: the first words of paths, the head of `fmt`, the public fields of a struct with an
 invariant, which become readers, bounds and copies (rust_bounds.py), and comments, which gain sections (rust_docs.py).
 What is added: the guards of the calls that have a domain (rust_guards.py), and `#[must_use]` of public calls that only
-return. A form that is not known here is refused by file and line, and then nothing is written."""
+return. A form that is not known here is rejected by file and line, and then nothing is written."""
 import pathlib
 import shutil
 import subprocess
@@ -401,7 +401,7 @@ def write(out):
         (out / 'src' / place).write_text(within_columns((out / 'src' / place).read_text()))
 
 
-# ---- a test of what is refused
+# ---- a test of what is rejected
 
 # Of a crate with this text below a first line, the line and the reason of the refusal.
 REFUSED = (
@@ -455,7 +455,7 @@ def self_test():
     """A line for each sample that is not as it should be."""
     refused = [(text, f'crates/{ROOT}/src/lib.rt:{line}: {reason}') for text, line, reason in REFUSED]
     wrong = list(samples.differing([*refused, *WRITTEN], erased))
-    print('\n'.join(wrong + [f'{len(REFUSED)} forms are refused, {len(WRITTEN)} are written: {len(wrong)} failed']))
+    print('\n'.join(wrong + [f'{len(REFUSED)} forms are rejected, {len(WRITTEN)} are written: {len(wrong)} failed']))
     return wrong
 
 

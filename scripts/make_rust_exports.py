@@ -3,12 +3,12 @@
 
     scripts/make_rust_exports.py [OUT]   crates/cellarcove_c/src/*.rt and rust/by_hand/exports_head.rs  ->  OUT/src/*.rs
     scripts/make_rust_exports.py --self-test
-                                     plants forms that are not known in a copy; status 1 if one is not refused
+                                     plants forms that are not known in a copy; status 1 if one is not rejected
 
 OUT is rust/c where none is given. Code is erased as scripts/make_rust_crate.py does it. What else changes: paths lead to the crate
 `cellarcove`; a field of a struct of that crate which has an invariant is read by its reader; a slice becomes a pointer
 and a length, of which the body makes the slice, in the one unsafe block; and functions that only state laws go. A form
-that is not known here is refused by file and line, and then nothing is written."""
+that is not known here is rejected by file and line, and then nothing is written."""
 import pathlib
 import shutil
 import subprocess
@@ -159,7 +159,7 @@ PLANTED = (
 
 
 def self_test():
-    """The number of planted forms that are not refused."""
+    """The number of planted forms that are not rejected."""
     missed = 0
     with tempfile.TemporaryDirectory() as folder:
         crates = pathlib.Path(folder) / 'crates'
@@ -178,7 +178,7 @@ def self_test():
             path.write_text(text)
             found = old in text and said.startswith(f'crates/{CRATE}/src/{name}.rt:') and said.endswith(refusal)
             missed += not found
-            print(f'{"ok  " if found else "FAIL"} make_rust_exports.py refuses {form}{"" if found else ": " + said}')
+            print(f'{"ok  " if found else "FAIL"} make_rust_exports.py rejects {form}{"" if found else ": " + said}')
     return missed
 
 

@@ -1,6 +1,6 @@
 """Reads the sources of Rattle, `.rt`, by tokens: comments, texts, brackets, items, and the clauses that items have.
 
-It reads Rust too, of which Rattle is a subset with contracts. A form that it does not know it refuses by file and
+It reads Rust too, of which Rattle is a subset with contracts. A form that it does not know it rejects by file and
 line."""
 import re
 from dataclasses import dataclass, field

@@ -7,7 +7,7 @@ In the sources `Copy` is a supertrait of `Integer`, since no method of a trait c
 Rust it is none, so that big integers have the trait. Code copies a value that it names again after it has handed it on,
 or that it takes from behind a reference. In `integer_core` such a copy becomes a clone, a test of 0 borrows, and the
 function has the bound `Clone`. Above it the function, the implementation, the struct or the trait has the bound `Copy`.
-What uses such code has the bound too; all else has none. What these rules do not fit is refused by file and line."""
+What uses such code has the bound too; all else has none. What these rules do not fit is rejected by file and line."""
 import sys
 from dataclasses import dataclass, field
 
@@ -281,7 +281,7 @@ class Bounds:
 # ---- a test of the rules
 
 TRAIT = 'pub trait Integer: Copy + Num {}'
-# Of a crate with this line below `TRAIT`, what is refused at that line.
+# Of a crate with this line below `TRAIT`, what is rejected at that line.
 REFUSED = [
     ('integer_core', 'fn first<T: Integer>(items: &[T]) -> T { items[0] }', 'a copy of an item of `items`'),
     ('integer_core', 'fn is_one<T: Integer>(x: T) -> bool { is_zero(predecessor(x)) }', '`is_zero` of what is no name'),
@@ -295,7 +295,7 @@ REFUSED = [
     ('modular', 'fn is_odd(x: impl Integer) -> bool { x.is_odd() }',
      'the bound `Integer`, which does not stand in `<>` after `is_odd`'),
 ]
-# What is refused of the trait itself.
+# What is rejected of the trait itself.
 REFUSED_TRAITS = [
     ('pub trait Integer: Num {}', '`Integer` whose first supertrait is not `Copy`'),
     ('pub trait Integer: Copy + Num { fn div_ceil(&self, other: &Self) -> Self { sum(*self, *other) } }',
@@ -355,7 +355,7 @@ def main():
     if sys.argv[1:] != ['--self-test']:
         sys.exit('usage: scripts/rust_bounds.py --self-test')
     wrong = self_test()
-    print('\n'.join(wrong + [f'{len(REFUSED) + len(REFUSED_TRAITS)} forms are refused, {len(WRITTEN)} are written']))
+    print('\n'.join(wrong + [f'{len(REFUSED) + len(REFUSED_TRAITS)} forms are rejected, {len(WRITTEN)} are written']))
     sys.exit(bool(wrong))
 
 

@@ -1,5 +1,5 @@
 """The sections `# Errors` of the Rust crate. `ERRORS` says of each public call that returns a `Result`, and of each
-implementation of `FromStr`, when it returns which error. A call that it does not have is refused by file and line, and
+implementation of `FromStr`, when it returns which error. A call that it does not have is rejected by file and line, and
 so is an error of which a clause says that it never comes."""
 import re
 
@@ -70,6 +70,6 @@ def section(eraser, item, owner):
 
 
 def see_all_used():
-    """Refuses a row that no call has. Call it after the files have been made."""
+    """Rejects a row that no call has. Call it after the files have been made."""
     for crate, kind, name in ERRORS.keys() - USED:
         raise Unknown(f'scripts/rust_errors.py: crates/{crate} has no public `{kind}::{name}` that returns a `Result`')

@@ -25,7 +25,7 @@ def comment_of(source, item):
 
 
 def sentences(source, item):
-    """The pairs A, B of an item's comment. A call that is said to be what is no code is refused."""
+    """The pairs A, B of an item's comment. A call that is said to be what is no code is rejected."""
     found = []
     for match in SENTENCE.finditer(comment_of(source, item)):
         call, answer = match.groups()

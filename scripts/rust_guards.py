@@ -2,13 +2,13 @@
 """What a call of the Rust crate does outside its domain: it panics, with the reason and the place of the caller.
 
 `ROWS` has each form of a clause `requires` of a public function, with the test that a body gets for it or the reason
-why it needs none, and with the sentence below `# Panics`. A clause of another form is refused by file and line. `CODE`
+why it needs none, and with the sentence below `# Panics`. A clause of another form is rejected by file and line. `CODE`
 has the few bodies that get operators which check, and `PLAIN` the modules whose loops cannot overflow.
 
     scripts/rust_guards.py --self-test [FORM..]
     scripts/rust_guards.py --list
 
-The self-test sees that a condition of no known form is refused. Then it takes the guards of each form, and each change
+The self-test sees that a condition of no known form is rejected. Then it takes the guards of each form, and each change
 of code, out of a copy of rust/, and the tests rust/tests/domains/forms.rs have to fail in release. FORM is a form, or
 the name of a function whose code is changed. The list has the forms, and how many clauses have each."""
 import pathlib
@@ -466,7 +466,7 @@ def self_test(folder, names):
     wrong = list(samples.differing(REFUSED, erased))
     if wrong:
         raise Unknown('\n'.join(wrong))
-    print(f'{len(REFUSED)} conditions without a guard are refused', flush=True)
+    print(f'{len(REFUSED)} conditions without a guard are rejected', flush=True)
     make(folder)
     if fails(folder):
         raise Unknown('the tests fail with every guard in its place')
