@@ -148,6 +148,7 @@ CODE = {
     ('integer_core', 'operators', 'product'): exact('product', 'multiply'),
     ('integer_core', 'operators', 'successor'): (('<T: Num>', INTEGER),),
     ('integer_core', 'operators', 'predecessor'): (('<T: Num>', INTEGER),),
+    ('integer_core', 'operators', 'is_minus_one'): (('is_zero(successor(a))', 'is_zero(a + one())'),),
     ('integer_core', 'operators', 'negated'): (
         ('<T: Num>', INTEGER),
         ('difference(zero(), a)', f'zero::<T>().exact_difference(a, "{WRAPS.format("negate")}")')),
@@ -433,7 +434,7 @@ def erased(text):
 # What the self-test takes out: the forms with a test, and the changes of code that are no bound.
 def forms():
     changed = [key[2] for key, changes in CODE.items()
-               if any(new != INTEGER for _, new in changes) and key[2] not in ('Native', 'Magnitude')]
+               if any(new != INTEGER for _, new in changes) and key[2] not in ('Native', 'Magnitude', 'is_minus_one')]
     return [row.name for row in ROWS if row.test] + changed
 
 

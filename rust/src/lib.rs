@@ -26,6 +26,7 @@ pub mod layout;
 pub mod modular;
 mod padded;
 pub mod paging;
+mod plain;
 pub mod powers;
 pub mod ranking;
 pub mod ratio64;
@@ -33,7 +34,6 @@ pub mod rolling_hash;
 mod rows;
 pub mod schedules;
 mod serde_strings;
-mod shift;
 mod sign_magnitude;
 mod strings;
 

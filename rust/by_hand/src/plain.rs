@@ -2,7 +2,7 @@
 //! those of the type, without a test.
 
 pub(crate) use crate::integer_core::operators::{
-    is_below, is_negative, is_zero, one, quotient, remainder, zero,
+    is_below, is_minus_one, is_negative, is_zero, one, quotient, remainder, zero,
 };
 use num_traits::Num;
 

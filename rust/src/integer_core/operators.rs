@@ -171,7 +171,7 @@ pub fn is_negative<T: Num + PartialOrd>(a: T) -> bool {
 /// </details>
 #[must_use]
 pub fn is_minus_one<T: Copy + Num + PartialOrd>(a: T) -> bool {
-    is_negative(a) && is_zero(successor(a))
+    is_negative(a) && is_zero(a + one())
 }
 
 /// Returns `a + b`.
