@@ -33,7 +33,6 @@ REPOSITORY = pathlib.Path(__file__).resolve().parent.parent
 BY_HAND = REPOSITORY / 'rust' / 'by_hand'
 
 GHOST_TRAITS = {'Integral', 'FixedWidth', 'Model'}      # traits of contracts alone: no operation of their own
-LOCAL = {'Unsigned': 'crate::shift::Unsigned'}          # names of num_traits that the Rust crate has by hand
 DROPPED = {'tactic', 'cycle'}                           # attributes of proofs
 KEPT = {'derive', 'must_use', 'inline', 'cold', 'non_exhaustive', 'default', 'deprecated'}
 MACROS = {'matches', 'unreachable', 'write'}
@@ -209,8 +208,8 @@ class Eraser:
                     self.drop_from_list(k)
 
     def use(self, item):
-        """A use: without the ghost traits, and with the names that are by hand."""
-        k, last, by_hand = item.word, item.last, ''
+        """A use, without the ghost traits."""
+        k, last = item.word, item.last
         for path, _ in self.source.imports(item):
             if not self.library.knows(self.module, path):
                 self.refuse(k, f'a path that begins with `{path[0]}`')
@@ -220,14 +219,11 @@ class Eraser:
         if self.at(names[-1]) in GHOST_TRAITS and self.at(last - 1) != '}':
             return self.drop_item(item.first, last)
         for j in names:
-            if self.at(j) in LOCAL and self.at(k + 1) == 'num_traits':
-                by_hand += f'\nuse {LOCAL[self.at(j)]};'
-                self.drop_from_list(j)
-            elif self.at(j) in GHOST_TRAITS:
+            if self.at(j) in GHOST_TRAITS:
                 self.drop_from_list(j)
             else:
                 self.path(j)
-        return self.write(last, ';' + by_hand)
+        return None
 
     def struct(self, item):
         """A struct. Where a public one has an invariant, its public fields become readers of their names, since other
@@ -440,7 +436,7 @@ WRITTEN = (
     ('#[derive(Clone, Drop)]\nstruct Row;', '#[derive(Clone)]\nstruct Row;'),
     ("fn half() { 'outer: while true {} }", 'fn half() {  while true {} }'),
     ("fn half() { 'outer: while true { break 'outer; } }", "fn half() { 'outer: while true { break 'outer; } }"),
-    ('use num_traits::{Num, Unsigned};', 'use num_traits::{Num};\nuse crate::shift::Unsigned;'),
+    ('use num_traits::{Num, FixedWidth};', 'use num_traits::{Num};'),
 )
 
 

@@ -144,11 +144,17 @@ def add_sections(eraser, item, owner):
 def linked(eraser, comment):
     """A comment whose links to names of the root lead there where the file does not import them."""
     if eraser.crate not in AT_ROOT:
-        comment = re.sub(r'\[`crate::', f'[`crate::{eraser.crate}::', comment)
+        comment = re.sub(r'(\[`|\]\()crate::', rf'\1crate::{eraser.crate}::', comment)
     roots = eraser.library.names_at(())
+    found = {(*place, name) for (_, _, name), place in eraser.library.public.items()}
+    bases = [()] if eraser.crate in AT_ROOT else [(eraser.crate,), ()]
 
     def link(match):
-        name = match.group(1).split('::')[0]
+        words = tuple(match.group(1).split('::'))
+        name = words[0]
+        for base in bases if len(words) > 1 else ():
+            if (*base, *words) in found:
+                return f'[`{match.group(1)}`]({"::".join(("crate", *base, *words))})'
         away = name in roots and name not in eraser.words
         return f'[`{match.group(1)}`](crate::{match.group(1)})' if away else match.group()
 

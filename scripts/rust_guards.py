@@ -41,9 +41,9 @@ RANGE = rf'{FITS} \({ANY}\)'
 RESULT = rf'(?:{ANY} [-+*]ℤ (?:{ANY}|pos 1)|neg_ℤ \({ANY}\))'
 
 # What a parameter is called where it has to be above 0, where it may not be negative, and where it ends another.
-POSITIVE = {'m': 'the modulus', 'n': 'the modulus', 'modulus': 'the modulus', 'step': 'the step', 'max': 'the limit',
+POSITIVE = {'m': 'the modulus', 'n': 'the modulus', 'modulus': 'the modulus', 'step': 'the step', 'max': 'the limit', 'parts': 'the number of parts',
             'a.1': 'the period', 'b.1': 'the period', 'page_size': 'the page size', 'alignment': 'the alignment',
-            'congruences': 'a modulus', 'schedules': 'a period', 'parts': 'the number of parts'}
+            'congruences': 'a modulus', 'schedules': 'a period'}
 FROM_ZERO = {'n': '`n`', 'k': '`k`', 'items': 'the number of items', 'part': 'the part', 'place': 'the place'}
 ENDS = {'page_size': 'the page size', 'parts': 'the number of parts', 'n': '`n`'}
 
@@ -148,24 +148,20 @@ CODE = {
     ('integer_core', 'operators', 'product'): exact('product', 'multiply'),
     ('integer_core', 'operators', 'successor'): (('<T: Num>', INTEGER),),
     ('integer_core', 'operators', 'predecessor'): (('<T: Num>', INTEGER),),
+    ('integer_core', 'operators', 'is_minus_one'): (('is_zero(successor(a))', 'is_zero(a + one())'),),
     ('integer_core', 'operators', 'negated'): (
         ('<T: Num>', INTEGER),
         ('difference(zero(), a)', f'zero::<T>().exact_difference(a, "{WRAPS.format("negate")}")')),
     ('integer_core', 'native', 'Native'): (
         ('Copy + Num +', 'Copy + Num + num_traits::NumCast + num_traits::CheckedAdd + num_traits::CheckedSub '
          '+ num_traits::CheckedMul +'),),
-    ('integer_core', 'native', 'magnitude'): (
-        ('successor(difference(zero(), successor(self)).as_())',
-         '<Self::Magnitude as num_traits::One>::one() + (Self::zero() - (self + Self::one())).as_()'),),
-    ('integer_core', 'operators', 'is_minus_one'): (('successor(a)', 'a + one()'),),
     ('integer_core', 'native_integer', 'lcm'): (
         ('T::from_magnitude(positive_gcd_lcm(self.magnitude(), other.magnitude()).1)',
          f'crate::guards::number(positive_gcd_lcm(self.magnitude(), other.magnitude()).1, "{LCM}")'),),
     ('integer_core', 'native_integer', 'gcd_lcm'): (
         ('(T::from_magnitude(gcd), T::from_magnitude(lcm))',
          f'(crate::guards::number(gcd, "{GCD}"), crate::guards::number(lcm, "{LCM}"))'),),
-    ('integer_core', 'stein', 'Magnitude'): (
-        ('Copy + Unsigned +', 'Copy + Unsigned + num_traits::CheckedMul +'),),
+    ('integer_core', 'stein', 'Magnitude'): (('Copy + Unsigned +', 'Copy + Unsigned + num_traits::CheckedMul +'),),
     ('integer_core', 'stein', 'positive_gcd_lcm'): (
         ('product(a, quotient(b, gcd))', f'crate::guards::product(a, quotient(b, gcd), "{LCM}")'),),
     ('integer_core', 'stein', 'binary_gcd'): (
@@ -180,8 +176,6 @@ CODE = {
         ('rank += binomial(*number, i as u64 + 1)',
          'rank = crate::guards::sum(rank, binomial(*number, i as u64 + 1), "the rank does not fit")'),),
 }
-# The changes of code that are no guard: bounds, and an operator whose result fits.
-NO_GUARD = {'Native', 'Magnitude', 'magnitude', 'is_minus_one'}
 # The modules that import plain operators: what they add, subtract and multiply fits wherever the division or the test
 # before it passed.
 PLAIN = {('integer_core', 'bezout'), ('integer_core', 'division'), ('integer_core', 'divisors'),
@@ -440,7 +434,7 @@ def erased(text):
 # What the self-test takes out: the forms with a test, and the changes of code that are no bound.
 def forms():
     changed = [key[2] for key, changes in CODE.items()
-               if any(new != INTEGER for _, new in changes) and key[2] not in NO_GUARD]
+               if any(new != INTEGER for _, new in changes) and key[2] not in ('Native', 'Magnitude', 'is_minus_one')]
     return [row.name for row in ROWS if row.test] + changed
 
 

@@ -17,6 +17,8 @@ ANYWHERE = {'zero', 'one', 'is_zero', 'is_negative', 'is_below', 'quotient', 're
 IN_PLAIN = {'sum', 'difference', 'product', 'successor', 'predecessor', 'negated'}
 FOLDERS = {('crate', 'plain'), ('crate', 'operators'), ('crate', 'integer_core', 'operators')}
 OWNER = 'rust/src/integer_core.rs'              # the file that has the module `operators`
+# Functions that call them at another type than the one in scope.
+EXCEPT = {('rust/src/integer_core/native.rs', 'magnitude')}
 # Of each call its operator and its strength: a product binds tighter than a sum, and a sum tighter than a comparison.
 BINARY = {'sum': ('+', 2), 'difference': ('-', 2), 'product': ('*', 3), 'quotient': ('/', 3), 'remainder': ('%', 3),
           'is_below': ('<', 1)}
@@ -71,7 +73,7 @@ class Operators:
             if item.kind in ('impl', 'fn', 'trait'):
                 inner = (*names, *self.parameters(item), *(['Self'] if item.kind == 'trait' else []))
                 self.write(item.items, inner)
-                if item.kind == 'fn' and item.open is not None and len(inner) == 1:
+                if item.kind == 'fn' and item.open is not None and len(inner) == 1 and (self.source.path, item.name) not in EXCEPT:
                     self.body(item, inner[0])
 
     def parameters(self, item):
@@ -191,24 +193,17 @@ def imported(texts):
 
 
 def without_unused(text, names):
-    """The text of `plain` with the functions of these names and the exports of these names alone, or nothing if it has none."""
+    """The text of `plain` with the functions of these names alone, or nothing if it has none."""
     source = Source('rust/by_hand/src/plain.rs', text)
     operators = Operators(source)
-    items = source.items()
-    has_function = any(item.kind == 'fn' and item.name in names for item in items)
-    exports = set()
-    for item in items:
+    for item in source.items():
         if item.kind == 'fn' and item.name not in names:
             operators.replace(item.first, item.last, '')
         elif item.kind == 'use' and source.at(item.word - 1) == ')':
             for _, name in source.imports(item):
                 if name not in names:
                     operators.drop_name(item, name)
-                else:
-                    exports.add(name)
-        elif item.kind == 'use' and not has_function:
-            operators.replace(item.first, item.last, '')
-    return ''.join(source.texts) if has_function or exports else ''
+    return ''.join(source.texts) if names else ''
 
 
 def with_operators(path, text):

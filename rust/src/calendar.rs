@@ -20,6 +20,7 @@ pub use feasts::easter;
 pub use iso_weeks::{weeks_in_year, IsoWeek};
 pub use months::days_in_month;
 pub use text::DateError;
+pub use week_strings::IsoWeekError;
 pub use weekday::{weekday_of, Weekday, WeekdayError};
 pub use weeks::{
     first_weekday_on_or_after, last_weekday_of_month, last_weekday_on_or_before,
@@ -28,3 +29,5 @@ pub use weeks::{
 pub use years::{days_in_year, is_leap_year};
 
 mod days;
+
+mod week_strings;

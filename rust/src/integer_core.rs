@@ -53,7 +53,7 @@ pub trait Integer: Sized + Num + PartialOrd + Ord + Eq {
     /// Returns the quotient rounded toward zero, and its remainder.
     ///
     /// May be called if [`Fits::quotient_fits`](crate::Fits::quotient_fits) is true;
-    /// [`checked::div_rem`] has no condition.
+    /// [`checked::div_rem`](crate::checked::div_rem) has no condition.
     ///
     /// # Examples
     ///
@@ -93,7 +93,7 @@ pub trait Integer: Sized + Num + PartialOrd + Ord + Eq {
     /// Returns the quotient rounded down.
     ///
     /// May be called if [`Fits::quotient_fits`](crate::Fits::quotient_fits) is true;
-    /// [`checked::div_floor`] has no condition.
+    /// [`checked::div_floor`](crate::checked::div_floor) has no condition.
     ///
     /// # Examples
     ///
@@ -132,7 +132,8 @@ pub trait Integer: Sized + Num + PartialOrd + Ord + Eq {
 
     /// Returns the remainder of the quotient rounded down, which is 0 or has the sign of `other`.
     ///
-    /// May be called if `other` is not 0; [`checked::mod_floor`] has no condition.
+    /// May be called if `other` is not 0; [`checked::mod_floor`](crate::checked::mod_floor) has no
+    /// condition.
     ///
     /// # Examples
     ///
@@ -169,7 +170,7 @@ pub trait Integer: Sized + Num + PartialOrd + Ord + Eq {
     /// Returns the quotient rounded down, and its remainder.
     ///
     /// May be called if [`Fits::quotient_fits`](crate::Fits::quotient_fits) is true;
-    /// [`checked::div_mod_floor`] has no condition.
+    /// [`checked::div_mod_floor`](crate::checked::div_mod_floor) has no condition.
     ///
     /// # Examples
     ///
@@ -211,7 +212,7 @@ pub trait Integer: Sized + Num + PartialOrd + Ord + Eq {
     /// Returns the quotient rounded up.
     ///
     /// May be called if [`Fits::quotient_fits`](crate::Fits::quotient_fits) is true;
-    /// [`checked::div_ceil`] has no condition.
+    /// [`checked::div_ceil`](crate::checked::div_ceil) has no condition.
     ///
     /// # Examples
     ///
@@ -258,7 +259,7 @@ pub trait Integer: Sized + Num + PartialOrd + Ord + Eq {
     /// Returns the quotient rounded up, times `other`.
     ///
     /// May be called if [`Fits::next_multiple_fits`](crate::Fits::next_multiple_fits) is true;
-    /// [`checked::next_multiple_of`] has no condition.
+    /// [`checked::next_multiple_of`](crate::checked::next_multiple_of) has no condition.
     ///
     /// # Examples
     ///
@@ -309,7 +310,7 @@ pub trait Integer: Sized + Num + PartialOrd + Ord + Eq {
     /// Returns the quotient rounded down, times `other`.
     ///
     /// May be called if [`Fits::prev_multiple_fits`](crate::Fits::prev_multiple_fits) is true;
-    /// [`checked::prev_multiple_of`] has no condition.
+    /// [`checked::prev_multiple_of`](crate::checked::prev_multiple_of) has no condition.
     ///
     /// # Examples
     ///
@@ -456,8 +457,8 @@ pub trait Integer: Sized + Num + PartialOrd + Ord + Eq {
 
     /// Adds one. `x.inc()` turns an `x` of `41` into `42`.
     ///
-    /// May be called if `self` is below the largest number of the type; [`checked::inc`] has no
-    /// condition.
+    /// May be called if `self` is below the largest number of the type;
+    /// [`checked::inc`](crate::checked::inc) has no condition.
     ///
     /// # Panics
     ///
@@ -486,8 +487,8 @@ pub trait Integer: Sized + Num + PartialOrd + Ord + Eq {
 
     /// Subtracts one. `x.dec()` turns an `x` of `43` into `42`.
     ///
-    /// May be called if `self` is above the smallest number of the type; [`checked::dec`] has no
-    /// condition.
+    /// May be called if `self` is above the smallest number of the type;
+    /// [`checked::dec`](crate::checked::dec) has no condition.
     ///
     /// # Panics
     ///
@@ -516,8 +517,8 @@ pub trait Integer: Sized + Num + PartialOrd + Ord + Eq {
 
     /// Returns the greatest common divisor, which is never negative.
     ///
-    /// May be called if [`Fits::gcd_fits`](crate::Fits::gcd_fits) is true; [`checked::gcd`] has no
-    /// condition.
+    /// May be called if [`Fits::gcd_fits`](crate::Fits::gcd_fits) is true;
+    /// [`checked::gcd`](crate::checked::gcd) has no condition.
     ///
     /// # Examples
     ///
@@ -554,8 +555,8 @@ pub trait Integer: Sized + Num + PartialOrd + Ord + Eq {
 
     /// Returns the least common multiple, which is never negative.
     ///
-    /// May be called if [`Fits::lcm_fits`](crate::Fits::lcm_fits) is true; [`checked::lcm`] has no
-    /// condition.
+    /// May be called if [`Fits::lcm_fits`](crate::Fits::lcm_fits) is true;
+    /// [`checked::lcm`](crate::checked::lcm) has no condition.
     ///
     /// # Examples
     ///
@@ -594,7 +595,8 @@ pub trait Integer: Sized + Num + PartialOrd + Ord + Eq {
     /// Returns the greatest common divisor and the least common multiple.
     ///
     /// May be called if [`Fits::gcd_fits`](crate::Fits::gcd_fits) and
-    /// [`Fits::lcm_fits`](crate::Fits::lcm_fits) are true; [`checked::gcd_lcm`] has no condition.
+    /// [`Fits::lcm_fits`](crate::Fits::lcm_fits) are true;
+    /// [`checked::gcd_lcm`](crate::checked::gcd_lcm) has no condition.
     ///
     /// # Examples
     ///
@@ -640,7 +642,8 @@ pub trait Integer: Sized + Num + PartialOrd + Ord + Eq {
     /// without overflow, `self * x + other * y` equals `gcd`.
     ///
     /// May be called if [`Fits::gcd_fits`](crate::Fits::gcd_fits) is true; at an unsigned type one
-    /// operand must also divide the other. [`checked::extended_gcd`] has no condition.
+    /// operand must also divide the other. [`checked::extended_gcd`](crate::checked::extended_gcd)
+    /// has no condition.
     ///
     /// # Examples
     ///
@@ -686,8 +689,8 @@ pub trait Integer: Sized + Num + PartialOrd + Ord + Eq {
     /// Returns [`Integer::extended_gcd`] and [`Integer::lcm`].
     ///
     /// May be called if [`Fits::gcd_fits`](crate::Fits::gcd_fits) and
-    /// [`Fits::lcm_fits`](crate::Fits::lcm_fits) are true; [`checked::extended_gcd_lcm`] has no
-    /// condition.
+    /// [`Fits::lcm_fits`](crate::Fits::lcm_fits) are true;
+    /// [`checked::extended_gcd_lcm`](crate::checked::extended_gcd_lcm) has no condition.
     ///
     /// # Examples
     ///
@@ -772,7 +775,8 @@ pub trait Integer: Sized + Num + PartialOrd + Ord + Eq {
 
 /// Returns the quotient rounded toward zero, and its remainder.
 ///
-/// May be called if [`Integer::div_rem`] may; [`checked::div_rem`] has no condition.
+/// May be called if [`Integer::div_rem`] may; [`checked::div_rem`](crate::checked::div_rem) has no
+/// condition.
 ///
 /// # Examples
 ///
@@ -811,7 +815,8 @@ pub fn div_rem<T: Integer>(x: T, y: T) -> (T, T) {
 
 /// Returns the quotient rounded down.
 ///
-/// May be called if [`Integer::div_floor`] may; [`checked::div_floor`] has no condition.
+/// May be called if [`Integer::div_floor`] may; [`checked::div_floor`](crate::checked::div_floor)
+/// has no condition.
 ///
 /// # Examples
 ///
@@ -849,7 +854,8 @@ pub fn div_floor<T: Integer>(x: T, y: T) -> T {
 
 /// Returns the remainder of the quotient rounded down.
 ///
-/// May be called if [`Integer::mod_floor`] may; [`checked::mod_floor`] has no condition.
+/// May be called if [`Integer::mod_floor`] may; [`checked::mod_floor`](crate::checked::mod_floor)
+/// has no condition.
 ///
 /// # Examples
 ///
@@ -885,7 +891,8 @@ pub fn mod_floor<T: Integer>(x: T, y: T) -> T {
 
 /// Returns the quotient rounded down, and its remainder.
 ///
-/// May be called if [`Integer::div_mod_floor`] may; [`checked::div_mod_floor`] has no condition.
+/// May be called if [`Integer::div_mod_floor`] may;
+/// [`checked::div_mod_floor`](crate::checked::div_mod_floor) has no condition.
 ///
 /// # Examples
 ///
@@ -923,7 +930,8 @@ pub fn div_mod_floor<T: Integer>(x: T, y: T) -> (T, T) {
 
 /// Returns the quotient rounded up.
 ///
-/// May be called if [`Integer::div_ceil`] may; [`checked::div_ceil`] has no condition.
+/// May be called if [`Integer::div_ceil`] may; [`checked::div_ceil`](crate::checked::div_ceil) has
+/// no condition.
 ///
 /// # Examples
 ///
@@ -961,7 +969,7 @@ pub fn div_ceil<T: Integer>(x: T, y: T) -> T {
 
 /// Returns the greatest common divisor.
 ///
-/// May be called if [`Integer::gcd`] may; [`checked::gcd`] has no condition.
+/// May be called if [`Integer::gcd`] may; [`checked::gcd`](crate::checked::gcd) has no condition.
 ///
 /// # Examples
 ///
@@ -998,7 +1006,7 @@ pub fn gcd<T: Integer>(x: T, y: T) -> T {
 
 /// Returns the least common multiple.
 ///
-/// May be called if [`Integer::lcm`] may; [`checked::lcm`] has no condition.
+/// May be called if [`Integer::lcm`] may; [`checked::lcm`](crate::checked::lcm) has no condition.
 ///
 /// # Examples
 ///
@@ -1035,7 +1043,8 @@ pub fn lcm<T: Integer>(x: T, y: T) -> T {
 
 /// Returns the greatest common divisor and the least common multiple.
 ///
-/// May be called if [`Integer::gcd_lcm`] may; [`checked::gcd_lcm`] has no condition.
+/// May be called if [`Integer::gcd_lcm`] may; [`checked::gcd_lcm`](crate::checked::gcd_lcm) has no
+/// condition.
 ///
 /// # Examples
 ///

@@ -34,7 +34,6 @@ pub mod rolling_hash;
 mod rows;
 pub mod schedules;
 mod serde_strings;
-mod shift;
 mod sign_magnitude;
 mod strings;
 

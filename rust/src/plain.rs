@@ -2,4 +2,15 @@
 //! The operators of loops whose results fit wherever the call that runs them got so far. They are
 //! those of the type, without a test.
 
-pub(crate) use crate::integer_core::operators::is_minus_one;
+pub(crate) use crate::integer_core::operators::{is_minus_one, is_negative, zero};
+use num_traits::Num;
+
+#[inline]
+pub(crate) fn difference<T: Num>(a: T, b: T) -> T {
+    a - b
+}
+
+#[inline]
+pub(crate) fn successor<T: Num>(a: T) -> T {
+    a + T::one()
+}

@@ -2,7 +2,7 @@
 //! The types that `serde` writes and reads as their strings.
 #![cfg(feature = "serde")]
 
-use crate::calendar::Date;
+use crate::calendar::{Date, IsoWeek, Weekday};
 use crate::ratio64::Ratio;
 use core::fmt;
 use core::marker::PhantomData;
@@ -49,3 +49,5 @@ macro_rules! as_string {
 
 as_string!(Ratio, "a fraction, as \"3/4\"");
 as_string!(Date, "a date, as \"2024-02-29\"");
+as_string!(IsoWeek, "a week, as \"2026-W48\"");
+as_string!(Weekday, "a day of the week, as \"Monday\"");

@@ -1,7 +1,7 @@
 //! `serde` writes and reads values as their strings, and an invalid string is an error.
 #![cfg(feature = "serde")]
 
-use cellarcove::calendar::Date;
+use cellarcove::calendar::{Date, IsoWeek, Weekday};
 use cellarcove::ratio64::Ratio;
 use serde_json::{from_str, to_string};
 
@@ -49,5 +49,39 @@ fn dates() {
         "{}",
     ] {
         assert!(from_str::<Date>(invalid).is_err(), "{invalid}");
+    }
+}
+
+#[test]
+fn weeks_and_days_of_the_week() {
+    for (year, week) in [(2004, 53), (0, 1), (-44, 10), (12345, 52)] {
+        let week = IsoWeek::new(year, week).unwrap();
+        assert_eq!(to_string(&week).unwrap(), format!("\"{week}\""));
+        assert_eq!(
+            from_str::<IsoWeek>(&to_string(&week).unwrap()).unwrap(),
+            week
+        );
+    }
+    for invalid in [
+        "\"2005-W53\"",
+        "\"2004-W00\"",
+        "\"2004-W5\"",
+        "\"+2004-W05\"",
+        "\"2004W05\"",
+        "5",
+        "\"\"",
+    ] {
+        assert!(from_str::<IsoWeek>(invalid).is_err(), "{invalid}");
+    }
+    for number in 1..=7 {
+        let weekday = Weekday::from_iso_number(number).unwrap();
+        assert_eq!(
+            from_str::<Weekday>(&to_string(&weekday).unwrap()).unwrap(),
+            weekday
+        );
+    }
+    assert_eq!(to_string(&Weekday::Friday).unwrap(), "\"Friday\"");
+    for invalid in ["\"friday\"", "\"Fri\"", "5", "\"\""] {
+        assert!(from_str::<Weekday>(invalid).is_err(), "{invalid}");
     }
 }

@@ -2,6 +2,7 @@
 //! The sealed trait of the native integer types: their range and their magnitudes.
 
 use crate::integer_core::stein::Magnitude;
+use crate::plain::{difference, is_negative, successor, zero};
 use num_traits::{AsPrimitive, Bounded, Num};
 
 /// A native integer type. No other crate can name this trait.
@@ -28,9 +29,8 @@ pub trait Native:
 
     /// Returns the absolute value.
     fn magnitude(self) -> Self::Magnitude {
-        if self < Self::zero() {
-            <Self::Magnitude as num_traits::One>::one()
-                + (Self::zero() - (self + Self::one())).as_()
+        if is_negative(self) {
+            successor(difference(zero(), successor(self)).as_())
         } else {
             self.as_()
         }

@@ -4,8 +4,7 @@
 
 use crate::integer_core::native::Native;
 
-use crate::shift::Unsigned;
-use num_traits::{Bounded, ToPrimitive};
+use num_traits::{Bounded, ToPrimitive, Unsigned};
 
 /// A type of magnitudes, `u64` or `u128`, with the operations on bits that Stein's method needs.
 pub trait Magnitude: Copy + Unsigned + num_traits::CheckedMul + PartialOrd + ToPrimitive {

@@ -41,7 +41,7 @@ pub trait Roots: Integer {
     /// Returns the root of degree `n`, rounded toward zero.
     ///
     /// May be called if `n` is not 0, and `n` is odd or `self` is not negative;
-    /// [`checked::nth_root`] has no condition.
+    /// [`checked::nth_root`](crate::checked::nth_root) has no condition.
     ///
     /// # Examples
     ///
@@ -76,7 +76,8 @@ pub trait Roots: Integer {
 
     /// Returns the square root, rounded down.
     ///
-    /// May be called if `self` is not negative; [`checked::sqrt`] has no condition.
+    /// May be called if `self` is not negative; [`checked::sqrt`](crate::checked::sqrt) has no
+    /// condition.
     ///
     /// # Examples
     ///
@@ -144,7 +145,8 @@ pub trait Roots: Integer {
 
 /// Returns the root of degree `n`, rounded toward zero.
 ///
-/// May be called if [`Roots::nth_root`] may; [`checked::nth_root`] has no condition.
+/// May be called if [`Roots::nth_root`] may; [`checked::nth_root`](crate::checked::nth_root) has no
+/// condition.
 ///
 /// # Examples
 ///
@@ -186,7 +188,7 @@ pub fn nth_root<T: Roots>(x: T, n: u32) -> T {
 
 /// Returns the square root, rounded down.
 ///
-/// May be called if [`Roots::sqrt`] may; [`checked::sqrt`] has no condition.
+/// May be called if [`Roots::sqrt`] may; [`checked::sqrt`](crate::checked::sqrt) has no condition.
 ///
 /// # Examples
 ///

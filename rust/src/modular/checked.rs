@@ -8,7 +8,7 @@ use crate::modular::products::Modular;
 
 use crate::{Fits, Integer};
 
-/// Returns [`residue`](crate::residue), or `None` if `m` is not positive.
+/// Returns [`residue`](crate::modular::residue), or `None` if `m` is not positive.
 ///
 /// [`modular::residue`](crate::modular::residue) is the same call, which panics outside the domain.
 ///
@@ -44,7 +44,7 @@ pub fn residue<T: Integer + Copy>(a: T, m: T) -> Option<T> {
     }
 }
 
-/// Returns [`sum_modulo`](crate::sum_modulo), or `None` if `m` is not positive.
+/// Returns [`sum_modulo`](crate::modular::sum_modulo), or `None` if `m` is not positive.
 ///
 /// [`modular::sum_modulo`](crate::modular::sum_modulo) is the same call, which panics outside the
 /// domain.
@@ -81,7 +81,8 @@ pub fn sum_modulo<T: Integer + Copy>(a: T, b: T, m: T) -> Option<T> {
     }
 }
 
-/// Returns [`difference_modulo`](crate::difference_modulo), or `None` if `m` is not positive.
+/// Returns [`difference_modulo`](crate::modular::difference_modulo), or `None` if `m` is not
+/// positive.
 ///
 /// [`modular::difference_modulo`](crate::modular::difference_modulo) is the same call, which panics
 /// outside the domain.
@@ -118,7 +119,7 @@ pub fn difference_modulo<T: Integer + Copy>(a: T, b: T, m: T) -> Option<T> {
     }
 }
 
-/// Returns [`negation_modulo`](crate::negation_modulo), or `None` if `m` is not positive.
+/// Returns [`negation_modulo`](crate::modular::negation_modulo), or `None` if `m` is not positive.
 ///
 /// [`modular::negation_modulo`](crate::modular::negation_modulo) is the same call, which panics
 /// outside the domain.
@@ -155,7 +156,7 @@ pub fn negation_modulo<T: Integer + Copy>(a: T, m: T) -> Option<T> {
     }
 }
 
-/// Returns [`product_modulo`](crate::product_modulo), or `None` if `m` is not positive.
+/// Returns [`product_modulo`](crate::modular::product_modulo), or `None` if `m` is not positive.
 ///
 /// [`modular::product_modulo`](crate::modular::product_modulo) is the same call, which panics
 /// outside the domain.
@@ -192,7 +193,7 @@ pub fn product_modulo<T: Modular>(a: T, b: T, m: T) -> Option<T> {
     }
 }
 
-/// Returns [`power_modulo`](crate::power_modulo), or `None` if `m` is not positive.
+/// Returns [`power_modulo`](crate::modular::power_modulo), or `None` if `m` is not positive.
 ///
 /// [`modular::power_modulo`](crate::modular::power_modulo) is the same call, which panics outside
 /// the domain.
@@ -229,8 +230,8 @@ pub fn power_modulo<T: Modular>(a: T, exponent: u128, m: T) -> Option<T> {
     }
 }
 
-/// Returns [`inverse_modulo`](crate::inverse_modulo), or `None` if `m` is not positive or there is
-/// no inverse.
+/// Returns [`inverse_modulo`](crate::modular::inverse_modulo), or `None` if `m` is not positive or
+/// there is no inverse.
 ///
 /// [`modular::inverse_modulo`](crate::modular::inverse_modulo) is the same call, which panics
 /// outside the domain.
@@ -266,8 +267,8 @@ pub fn inverse_modulo<T: Integer + Copy>(a: T, m: T) -> Option<T> {
     }
 }
 
-/// Returns [`quotient_modulo`](crate::quotient_modulo), or `None` if `m` is not positive or `b` has
-/// no inverse.
+/// Returns [`quotient_modulo`](crate::modular::quotient_modulo), or `None` if `m` is not positive
+/// or `b` has no inverse.
 ///
 /// [`modular::quotient_modulo`](crate::modular::quotient_modulo) is the same call, which panics
 /// outside the domain.
@@ -305,8 +306,8 @@ pub fn quotient_modulo<T: Modular>(a: T, b: T, m: T) -> Option<T> {
     }
 }
 
-/// Returns [`solutions`](crate::solutions), or `None` if `m` is not positive or there is no
-/// solution.
+/// Returns [`solutions`](crate::modular::solutions), or `None` if `m` is not positive or there is
+/// no solution.
 ///
 /// [`modular::solutions`](crate::modular::solutions) is the same call, which panics outside the
 /// domain.
@@ -348,8 +349,8 @@ pub fn solutions<T: Modular>(a: T, b: T, m: T) -> Option<(T, T)> {
     }
 }
 
-/// Returns [`next_congruent`](crate::next_congruent), or `None` if `step` is not positive or the
-/// number does not fit.
+/// Returns [`next_congruent`](crate::modular::next_congruent), or `None` if `step` is not positive
+/// or the number does not fit.
 ///
 /// [`modular::next_congruent`](crate::modular::next_congruent) is the same call, which panics
 /// outside the domain.
@@ -387,8 +388,8 @@ pub fn next_congruent<T: Fits>(from: T, first: T, step: T) -> Option<T> {
     }
 }
 
-/// Returns [`previous_congruent`](crate::previous_congruent), or `None` if `step` is not positive
-/// or the number does not fit.
+/// Returns [`previous_congruent`](crate::modular::previous_congruent), or `None` if `step` is not
+/// positive or the number does not fit.
 ///
 /// [`modular::previous_congruent`](crate::modular::previous_congruent) is the same call, which
 /// panics outside the domain.
@@ -427,8 +428,8 @@ pub fn previous_congruent<T: Fits>(to: T, first: T, step: T) -> Option<T> {
     }
 }
 
-/// Returns [`count_congruent`](crate::count_congruent), or `None` if `step` is not positive or the
-/// count does not fit.
+/// Returns [`count_congruent`](crate::modular::count_congruent), or `None` if `step` is not
+/// positive or the count does not fit.
 ///
 /// [`modular::count_congruent`](crate::modular::count_congruent) is the same call, which panics
 /// outside the domain.
@@ -468,8 +469,8 @@ pub fn count_congruent<T: Fits>(from: T, to: T, first: T, step: T) -> Option<T> 
     }
 }
 
-/// Returns [`next_common_solution`](crate::next_common_solution), or `None` if a modulus is not
-/// positive.
+/// Returns [`next_common_solution`](crate::modular::next_common_solution), or `None` if a modulus
+/// is not positive.
 ///
 /// [`modular::next_common_solution`](crate::modular::next_common_solution) is the same call, which
 /// panics outside the domain.

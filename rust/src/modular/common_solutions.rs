@@ -64,7 +64,7 @@ pub fn chinese_remainder<T: Modular>(a: T, m: T, b: T, n: T) -> Option<(T, T)> {
 }
 
 /// The result of [`next_common_solution`] and
-/// [`next_common_solution_of`](crate::next_common_solution_of).
+/// [`next_common_solution_of`](crate::modular::next_common_solution_of).
 ///
 /// # Examples
 ///

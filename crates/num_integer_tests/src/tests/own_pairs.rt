@@ -60,10 +60,16 @@ fn pairs_with_a_multiple(rt: HostRuntime) {
 
 #[test]
 fn roots_of_each_percent(rt: HostRuntime) {
-    for x in 0..=100 {
-        has_no_root(&rt, rt.alloc(), Percent, signed_magnitude_of(x), 0);
+    for x in 0..=100u8 {
+        has_no_root(
+            &rt,
+            rt.alloc(),
+            Percent,
+            signed_magnitude_of(i128::from(x)),
+            0,
+        );
         for degree in 1..=8 {
-            check_root(&rt, rt.alloc(), Percent, x, degree);
+            check_root(&rt, rt.alloc(), Percent, i128::from(x), degree);
         }
     }
 }

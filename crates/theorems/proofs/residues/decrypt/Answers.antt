@@ -8,11 +8,11 @@ use Rattle.theorems.proofs.residues.decrypt.Goals as goal
 pub unreachable-requires : goal.unreachable-requires
 unreachable-requires c =
     let low : c.args.key.factor < 256 = search rules in
-    c.in-None.ensures (pos (c.args.key.factor ^ 63 % 256)) (rw c.from-3.ensures (odd_has_inverse c.args.key.factor low c.args.key.odd))
+    c.in-None.ensures.answer (pos (c.args.key.factor ^ 63 % 256)) (rw c.from-3.ensures (odd_has_inverse c.args.key.factor low c.args.key.odd))
 
 pub returns-clause-only : goal.returns-clause-only
 returns-clause-only c = λ x x_low is.
     let low : c.args.byte < 256 = search rules in
     let moved : IsResidue (pos 256) (pos c.args.byte -ℤ pos c.args.key.shift) (pos c.difference_modulo-moved.result) = rw (← c.from.ensures, ← c.from-2.ensures) c.difference_modulo-moved.ensures.residue in
     let product : AreCongruent (pos 256) (pos c.from-3.result *ℤ pos x) (pos c.difference_modulo-moved.result) = rw c.from-3.ensures ((is_decrypted c.args.key.factor c.args.key.shift x low moved).1 is) in
-    ap unsigned_abs (c.in-Some.ensures.2 (pos x) (record { below = record { from_zero = omega (arith, ints); below = omega (arith, ints) }; product = product }))
+    ap unsigned_abs (c.in-Some.ensures.answer.2 (pos x) (record { below = record { from_zero = omega (arith, ints); below = omega (arith, ints) }; product = product }))
