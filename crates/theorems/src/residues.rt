@@ -31,7 +31,10 @@ pub fn inverse_again(a: i64, m: i64, known: i64) -> Option<i64>
     requires inverse { IsInverse a m known }
     ensures { result ≡ Some known }
 {
-    inverse_modulo(a, m)
+    match inverse_modulo(a, m) {
+        Some(found) => Some(found),
+        None => None,
+    }
 }
 
 /// The quotient by a number that has an inverse is the quotient that is found.
@@ -41,7 +44,10 @@ pub fn quotient_again(a: i64, b: i64, m: i64, inverse: i64, known: i64) -> Optio
     requires quotient { IsQuotientModulo a b m known }
     ensures { result ≡ Some known }
 {
-    quotient_modulo(a, b, m)
+    match quotient_modulo(a, b, m) {
+        Some(found) => Some(found),
+        None => None,
+    }
 }
 
 /// The class of the solutions is the class that is found.
