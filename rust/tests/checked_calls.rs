@@ -4,6 +4,7 @@
 use cellarcove::modular::{self, checked as residues, CommonSolution};
 use cellarcove::ratio64::{Ratio, RatioError};
 use cellarcove::{checked, Fits};
+use std::panic::catch_unwind;
 
 const NUMBERS: [i8; 9] = [i8::MIN, -7, -1, 0, 1, 2, 5, 100, i8::MAX];
 
@@ -149,7 +150,11 @@ fn roundings_at_the_ends() {
 }
 
 #[test]
-#[should_panic(expected = "the number of parts is not positive")]
 fn no_parts() {
-    let _ = Ratio::from(1).floor_to(0);
+    for parts in [0, -1, i64::MIN] {
+        let half = Ratio::new(1, 2).unwrap();
+        assert!(catch_unwind(|| half.floor_to(parts)).is_err(), "{parts}");
+        assert!(catch_unwind(|| half.ceil_to(parts)).is_err(), "{parts}");
+        assert!(catch_unwind(|| half.round_to(parts)).is_err(), "{parts}");
+    }
 }
