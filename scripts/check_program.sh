@@ -86,7 +86,7 @@ without_request() { REFUSED_REQUEST=$1 LD_PRELOAD=$work/refused_request.so "$pro
 # docs/TESTING.md gives this number of requests.
 requests_are_documented() {
     local numbers=(no one two three four five six seven eight nine ten eleven twelve)
-    tr -s '\n ' ' ' <docs/TESTING.md | grep -q "each of its ${numbers[requests]} requests for memory refused"
+    tr -s '\n ' ' ' <docs/TESTING.md | grep -q "each of its ${numbers[requests]} requests for memory is denied"
 }
 
 # `rt try --fail-alloc N` refuses one request too, and needs no built program.
