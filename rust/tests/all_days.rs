@@ -3,8 +3,8 @@
 
 use cellarcove::calendar::{
     days_between, days_in_month, days_in_year, easter, first_weekday_on_or_after, is_leap_year,
-    last_weekday_of_month, last_weekday_on_or_before, months_between, nth_weekday_of_month,
-    weekday_of, weeks_in_year, Date, IsoWeek, Weekday,
+    last_weekday_of_month, last_weekday_on_or_before, months_between, next_last_weekday,
+    nth_weekday_of_month, weekday_of, weeks_in_year, Date, IsoWeek, Weekday,
 };
 
 /// The days of 400 years.
@@ -185,6 +185,33 @@ fn weekdays_of_months() {
                 let at = usize::from(place).checked_sub(1).and_then(|i| found.get(i));
                 let nth = nth_weekday_of_month(year, month, weekday, place);
                 assert_eq!(nth, at.copied(), "{year}-{month} {weekday:?} {place}");
+            }
+        }
+    }
+}
+
+/// The days that are the last of a day of the week in the months of 400 years, in order.
+fn last_days(weekday: Weekday) -> Vec<i64> {
+    let last = |(year, month, first)| {
+        let length = i64::from(month_length(year, month));
+        (first..first + length).rfind(|day| weekday_at(*day) == weekday)
+    };
+    months(1600, 400, -135140).filter_map(last).collect()
+}
+
+#[test]
+fn next_last_weekdays() {
+    for weekday in WEEKDAYS {
+        let last = last_days(weekday);
+        for pair in last.windows(2) {
+            let next = Some(Date::from_day_number(pair[1]));
+            for day in pair[0]..pair[1] {
+                let after = Date::from_day_number(day);
+                assert_eq!(
+                    next_last_weekday(&after, weekday),
+                    next,
+                    "{day} {weekday:?}"
+                );
             }
         }
     }

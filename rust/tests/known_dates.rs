@@ -5,8 +5,9 @@ use cellarcove::calendar::Weekday::{
 };
 use cellarcove::calendar::{
     days_between, days_in_month, days_in_year, easter, first_weekday_on_or_after, is_leap_year,
-    last_weekday_of_month, last_weekday_on_or_before, months_between, nth_weekday_of_month,
-    weekday_of, weeks_in_year, years_between, Date, IsoWeek, Weekday, WeekdayError,
+    last_weekday_of_month, last_weekday_on_or_before, months_between, next_last_weekday,
+    nth_weekday_of_month, weekday_of, weeks_in_year, years_between, Date, IsoWeek, Weekday,
+    WeekdayError,
 };
 use std::fmt::Debug;
 
@@ -393,6 +394,28 @@ const LAST_OF_MONTH: [(i64, u8, Weekday, Option<u8>); 13] = [
 /// The parts of the day of a month.
 fn in_month(year: i64, month: u8, day: Option<u8>) -> Option<Parts> {
     Some((year, month, day?))
+}
+
+/// A date, a day of the week, and the next date that is the last such day of its month.
+const NEXT_LAST: [(Parts, Weekday, Option<Parts>); 10] = [
+    ((2026, 10, 30), Friday, Some((2026, 11, 27))),
+    ((2026, 10, 29), Friday, Some((2026, 10, 30))),
+    ((2026, 11, 28), Friday, Some((2026, 12, 25))),
+    ((2026, 12, 31), Friday, Some((2027, 1, 29))),
+    ((2024, 1, 31), Thursday, Some((2024, 2, 29))),
+    ((2024, 2, 29), Thursday, Some((2024, 3, 28))),
+    ((MAX, 12, 26), Sunday, Some((MAX, 12, 27))),
+    ((MAX, 12, 27), Sunday, None),
+    ((MAX, 12, 31), Friday, None),
+    ((MIN, 1, 1), Monday, Some((MIN, 1, 30))),
+];
+
+#[test]
+fn next_last_weekdays() {
+    for &(after, weekday, next) in &NEXT_LAST {
+        let found = parts(next_last_weekday(&date(after), weekday));
+        holds_at(found == next, &("next_last_weekday", after, weekday));
+    }
 }
 
 #[test]

@@ -14,6 +14,11 @@ pub use Rattle.calendar.proofs.WeekdayPlaces.{week_later, weeks_apart}
 pub use Rattle.calendar.proofs.WeekdayPlaces.{same_day, weekday_within}
 -- Each month has a first, a second, a third and a fourth of each day of the week.
 pub use Rattle.calendar.proofs.MonthWeekdays.{nth_weekday_exists}
+-- Each month has a last of each day of the week, and that of a later month is later.
+pub use Rattle.calendar.proofs.MonthWeekdays.{last_weekday_exists}
+pub use Rattle.calendar.proofs.NextLastWeekdays.{last_weekdays_in_order}
+-- After each date comes a date that is the last of a day of the week in its month.
+pub use Rattle.calendar.proofs.NextLastWeekdays.{next_last_weekday_exists}
 -- The day of a date in its year is from 1 to the length of the year.
 pub use Rattle.calendar.proofs.DateOrder.{year_day_range}
 -- A year has 365 or 366 days.

@@ -22,6 +22,7 @@ pub use Rattle.calendar.proofs.MonthSteps.{only_months_after as months_after_is_
 pub use Rattle.calendar.proofs.MonthSteps.{only_months_between as months_between_is_only}
 pub use Rattle.calendar.proofs.MonthWeekdays.{only_nth_weekday as nth_weekday_is_only}
 pub use Rattle.calendar.proofs.MonthWeekdays.{only_last_of_month as last_weekday_of_month_is_only}
+pub use Rattle.calendar.proofs.NextLastWeekdays.{only_next_last as next_last_weekday_is_only}
 -- ---- weeks
 
 pub use Rattle.calendar.proofs.WeekdayPlaces.{only_iso_number as iso_number_is_only, only_weekday as weekday_is_only}

@@ -11,6 +11,7 @@ pub mod DateTexts
 pub mod WeekdayPlaces
 pub mod MonthSteps
 pub mod MonthWeekdays
+pub mod NextLastWeekdays
 pub mod IsoWeeks
 pub mod EasterSundays
 pub mod ForCallers

@@ -57,21 +57,43 @@ nth_weekday_exists year month weekday n from to n_from n_to =
 
 -- ---- the last of them
 
--- the last is less than a week before the end of the month
+-- such a day less than a week before the end of the month is the last
+in_last_week : {year : ℤ} {month : ℕ} {weekday : Weekday} (date : Date) (length n : ℕ) → HasParts date year month (length - n) → length ≡ days_in_month year month → HasWeekday (number_of date) weekday → n < 7
+    → IsLastWeekdayOfMonth year month weekday date
+in_last_week {weekday = weekday} date length n parts is has_weekday small = record {
+  of_month = record { year_is = parts.year_is; month_is = parts.month_is; has_weekday = has_weekday };
+  last = λ other k.
+      let apart = in_month other date (record { year_is = k.year_is; month_is = k.month_is; day_is = refl }) parts in
+      let to = rw (k.year_is, k.month_is) at other.valid.day_to_last in
+      by_lt_z (number_of date) (number_of other)
+      (λ more. absurd (omega (arith, ints, same_day weekday has_weekday k.has_weekday (omega (arith, ints)) (omega (arith, ints)))))
+      (λ fine. fine);
+}
+
+-- it is so many days before the last day of the month
+before_end : {year : ℤ} {month : ℕ} (date : Date) (length n : ℕ) → HasParts date year month (length - n) → number_of date ≡ day_number year month length -ℤ pos n
+before_end date length n parts = rw (parts.year_is, parts.month_is, parts.day_is) (omega (arith, ints, date.valid.day_from_one, parts.day_is))
+
+-- found by the day of the week of the last day of the month
 pub last_of_month : {year : ℤ} {month : ℕ} {weekday own : Weekday} (date : Date) (length n : ℕ) → HasParts date year month (length - n) → length ≡ days_in_month year month → HasWeekday (day_number year month length) own
     → weekday_number own ≡ (weekday_number weekday + n) % 7 → n < 7 → IsLastWeekdayOfMonth year month weekday date
-last_of_month {year} {month} {weekday} date length n parts is h turned small =
-    let place : number_of date ≡ day_number year month length -ℤ pos n = rw (parts.year_is, parts.month_is, parts.day_is) (omega (arith, ints, date.valid.day_from_one, parts.day_is)) in
-    let has_weekday = rw (sym place) at (days_earlier n h turned) in
-    record {
-      of_month = record { year_is = parts.year_is; month_is = parts.month_is; has_weekday = has_weekday };
-      last = λ other k.
-          let apart = in_month other date (record { year_is = k.year_is; month_is = k.month_is; day_is = refl }) parts in
-          let to = rw (k.year_is, k.month_is) at other.valid.day_to_last in
-          by_lt_z (number_of date) (number_of other)
-          (λ more. absurd (omega (arith, ints, same_day weekday has_weekday k.has_weekday (omega (arith, ints)) (omega (arith, ints)))))
-          (λ fine. fine);
-    }
+last_of_month date length n parts is h turned small = in_last_week date length n parts is (rw (sym (before_end date length n parts)) at (days_earlier n h turned)) small
+
+-- Each month has a last of each day of the week.
+pub last_weekday_exists : (year : ℤ) (month : ℕ) (weekday : Weekday) → 1 ≤ month → month ≤ 12 → (date : Date) × IsLastWeekdayOfMonth year month weekday date
+last_weekday_exists year month weekday from to =
+    let (least, most) = month_length_range year month from to in
+    let length : ℕ = days_in_month year month in
+    let (days, small, has_weekday) = weekday_within (day_number year month length -ℤ pos 6) weekday in
+    let date : Date = record {
+      year = year;
+      month = month;
+      day_of_month = length - (6 - days);
+      valid = record { month_from_one = from; month_to_twelve = to; day_from_one = omega arith; day_to_last = omega arith };
+    } in
+    let parts : HasParts date year month (length - (6 - days)) = record { year_is = refl; month_is = refl; day_is = refl } in
+    let place : day_number year month length -ℤ pos 6 +ℤ pos days ≡ number_of date = omega (arith, ints, before_end date length (6 - days) parts) in
+    (date, in_last_week date length (6 - days) parts refl (rw place at has_weekday) (omega arith))
 
 pub only_last_of_month : LastWeekdayOfMonthIsOnly
 only_last_of_month year month weekday a b h k = only_date a b (omega (arith, ints, h.last b k.of_month, k.last a h.of_month))

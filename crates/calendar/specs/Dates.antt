@@ -80,3 +80,10 @@ pub record IsWeekdayOfMonth (year : ℤ) (month : ℕ) (weekday : Weekday) (date
 pub record IsLastWeekdayOfMonth (year : ℤ) (month : ℕ) (weekday : Weekday) (date : Date) : Type 0 where
   pub of_month : IsWeekdayOfMonth year month weekday date
   pub last : (other : Date) → IsWeekdayOfMonth year month weekday other → number_of other ≤ℤ number_of date
+
+-- The date is the first after `after` that is the last such day of the week in its month.
+-- Examples: Friday: after 2026-10-30: 2026-11-27; after 2026-11-26: 2026-11-27; after 2026-11-27: 2026-12-25.
+pub record IsNextLastWeekday (after : Date) (weekday : Weekday) (date : Date) : Type 0 where
+  pub later : number_of after <ℤ number_of date
+  pub last : IsLastWeekdayOfMonth date.year date.month weekday date
+  pub first : (other : Date) → number_of after <ℤ number_of other → IsLastWeekdayOfMonth other.year other.month weekday other → number_of date ≤ℤ number_of other

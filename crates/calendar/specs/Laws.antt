@@ -2,7 +2,7 @@
 use Rattle.std.specs.Prelude.{◌≡◌, ◌⊎◌, ◌↔◌, ◌<◌, ◌≤◌, ◌+◌, ◌*◌, ◌%◌, ◌<ℤ◌, ◌+ℤ◌, ℕ, ℤ, pos, FitsSigned, IsTrue, if◌then◌else◌}
 use Rattle.std.specs.Int.{w64}
 use Rattle.num_integer.specs.Divisors.{Divides}
-use Rattle.calendar.specs.Dates.{HasParts, IsEarlier, IsLastWeekdayOfMonth, IsMonthsAfter, IsMonthsBetween, IsNthWeekday, number_of, year_day_of}
+use Rattle.calendar.specs.Dates.{HasParts, IsEarlier, IsLastWeekdayOfMonth, IsMonthsAfter, IsMonthsBetween, IsNextLastWeekday, IsNthWeekday, number_of, year_day_of}
 use Rattle.calendar.specs.IsoWeeks.{HasIsoWeeks, IsDayOfIsoWeek, IsInIsoWeek}
 use Rattle.calendar.specs.LeapYears.{is_leap_year}
 use Rattle.calendar.specs.Years.{HasDay, day_number, days_in_year, first_day}
@@ -75,6 +75,10 @@ MonthsBetweenIsOnly = (from to : Date) (a b : ℤ) → IsMonthsBetween from to a
 -- Each month has at most one last day of each day of the week.
 abbrev pub LastWeekdayOfMonthIsOnly : Type 0
 LastWeekdayOfMonthIsOnly = (year : ℤ) (month : ℕ) (weekday : Weekday) (a b : Date) → IsLastWeekdayOfMonth year month weekday a → IsLastWeekdayOfMonth year month weekday b → a ≡ b
+
+-- After each date at most one date is the next that is the last of a day of the week in its month.
+abbrev pub NextLastWeekdayIsOnly : Type 0
+NextLastWeekdayIsOnly = (after : Date) (weekday : Weekday) (a b : Date) → IsNextLastWeekday after weekday a → IsNextLastWeekday after weekday b → a ≡ b
 
 -- ---- weeks
 

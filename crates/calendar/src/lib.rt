@@ -21,6 +21,6 @@ pub use text::DateError;
 pub use weekday::{Weekday, WeekdayError, weekday_of};
 pub use weeks::{
     first_weekday_on_or_after, last_weekday_of_month, last_weekday_on_or_before,
-    nth_weekday_of_month,
+    next_last_weekday, nth_weekday_of_month,
 };
 pub use years::{days_in_year, is_leap_year};

@@ -2,7 +2,7 @@
 
 ghost use Rattle.std.specs.Prelude.{◌≤◌, ℤ, FitsSigned, MatchOption};
 ghost use Rattle.std.specs.Int.{w64};
-ghost use Rattle.calendar.specs.Dates.{IsLastWeekdayOfMonth, IsNthWeekday};
+ghost use Rattle.calendar.specs.Dates.{IsLastWeekdayOfMonth, IsNextLastWeekday, IsNthWeekday};
 ghost use Rattle.calendar.specs.Weeks.{IsFirstWeekday, IsLastWeekday};
 ghost use Rattle.calendar.specs.declared.date.Date.{Date};
 
@@ -52,17 +52,42 @@ pub fn last_weekday_of_month(year: i64, month: u8, weekday: Weekday) -> Option<D
     ensures { MatchOption result (¬ ((1 ≤ month) × (month ≤ 12)))
         (λ date. IsLastWeekdayOfMonth year month weekday date) }
 {
-    if !(1..=12).contains(&month) {
-        return None;
+    if (1..=12).contains(&month) {
+        Some(last_weekday(year, month, weekday))
+    } else {
+        None
     }
+}
+
+/// Returns the first date after another that is the last `weekday` of its month, or `None` if its year does
+/// not fit an `i64`.
+/// `next_last_weekday(&Date::new(2026, 10, 30).unwrap(), Weekday::Friday)` is `Date::new(2026, 11, 27)`.
+pub fn next_last_weekday(after: &Date, weekday: Weekday) -> Option<Date>
+    ensures { MatchOption result
+        ((date : Date) → IsNextLastWeekday after.now weekday date → ¬ (FitsSigned w64 date.year))
+        (λ date. IsNextLastWeekday after.now weekday date) }
+{
+    let of_this_month = last_weekday(after.year, after.month, weekday);
+    if after.day_of_month < of_this_month.day_of_month {
+        return Some(of_this_month);
+    }
+    let next_month = after.plus_months(1)?;
+    Some(last_weekday(next_month.year, next_month.month, weekday))
+}
+
+/// Returns the date of the last `weekday` of the month.
+fn last_weekday(year: i64, month: u8, weekday: Weekday) -> Date
+    requires month { (1 ≤ month) × (month ≤ 12) }
+    ensures { IsLastWeekdayOfMonth year month weekday result }
+{
     let last = Date {
         year,
         month,
         day_of_month: days_in_month(year, month),
     };
-    Some(Date {
+    Date {
         year,
         month,
         day_of_month: last.day_of_month - weekday.days_until(last.weekday()),
-    })
+    }
 }

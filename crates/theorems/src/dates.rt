@@ -5,7 +5,7 @@ ghost use Rattle.std.specs.Hash as written;
 ghost use Rattle.std.specs.Int.{w64};
 ghost use Rattle.std.specs.List.{fold};
 ghost use Rattle.std.specs.Option.{SomeIff};
-ghost use Rattle.calendar.specs.Dates.{HasMonths, IsLastWeekdayOfMonth, IsMonthsAfter, IsMonthsBetween, IsNthWeekday, number_of};
+ghost use Rattle.calendar.specs.Dates.{HasMonths, IsLastWeekdayOfMonth, IsMonthsAfter, IsMonthsBetween, IsNextLastWeekday, IsNthWeekday, number_of};
 ghost use Rattle.calendar.specs.Easter.{IsEaster};
 ghost use Rattle.calendar.specs.IsoWeeks.{IsDayOfIsoWeek, IsInIsoWeek};
 ghost use Rattle.calendar.specs.LeapYears.{is_leap_year};
@@ -20,7 +20,7 @@ ghost use Rattle.num_integer.specs.Only.{IsOnly};
 use calendar::{
     Date, DateError, IsoWeek, Weekday, days_between, days_in_month, days_in_year, easter,
     first_weekday_on_or_after, is_leap_year, last_weekday_of_month, last_weekday_on_or_before,
-    months_between, nth_weekday_of_month, weekday_of, weeks_in_year,
+    months_between, next_last_weekday, nth_weekday_of_month, weekday_of, weeks_in_year,
 };
 use std::alloc::{AllocError, Global};
 use std::hash::{Hash, Hasher};
@@ -425,6 +425,23 @@ pub fn pay_day_of_month(year: i64, month: u8) -> Date
     ensures { IsLastWeekdayOfMonth year month Friday result }
 {
     last_weekday_of_month(year, month, Weekday::Friday).unwrap()
+}
+
+/// The first pay day after a date. Pay day is the last Friday of each month.
+pub fn next_pay_day(date: &Date) -> Option<Date>
+    ensures { MatchOption result
+        ((next : Date) → IsNextLastWeekday date.now Friday next → ¬ (FitsSigned w64 next.year))
+        (λ next. IsNextLastWeekday date.now Friday next) }
+{
+    next_last_weekday(date, Weekday::Friday)
+}
+
+/// How many days are left to the next pay day: at least one.
+pub fn days_to_pay_day(date: &Date) -> Option<i64>
+    ensures { IfSome result (λ days. pos 0 <ℤ days) }
+{
+    let next = next_last_weekday(date, Weekday::Friday)?;
+    days_between(date, &next)
 }
 
 /// The second Friday of a month, which each month has.

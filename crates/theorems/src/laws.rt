@@ -107,6 +107,7 @@ pub fn laws_of_dates()
     ensures nth_weekday_is_only { dates.NthWeekdayIsOnly }
     ensures months_between_is_only { dates.MonthsBetweenIsOnly }
     ensures last_weekday_of_month_is_only { dates.LastWeekdayOfMonthIsOnly }
+    ensures next_last_weekday_is_only { dates.NextLastWeekdayIsOnly }
     ensures iso_number_is_only { dates.IsoNumberIsOnly }
     ensures weekday_is_only { dates.WeekdayIsOnly }
     ensures weekdays_follow { dates.WeekdaysFollow }

@@ -17,6 +17,7 @@ returns c = record {
   nth_weekday_is_only = law.nth_weekday_is_only;
   months_between_is_only = law.months_between_is_only;
   last_weekday_of_month_is_only = law.last_weekday_of_month_is_only;
+  next_last_weekday_is_only = law.next_last_weekday_is_only;
   iso_number_is_only = law.iso_number_is_only;
   weekday_is_only = law.weekday_is_only;
   weekdays_follow = law.weekdays_follow;

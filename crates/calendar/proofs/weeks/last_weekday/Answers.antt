@@ -1,7 +1,7 @@
 use Rattle.std.proofs.Common.{refl}
 use Rattle.std.proofs.lemmas.Int.{to_z-of_z}
 use Rattle.calendar.proofs.MonthWeekdays.{last_of_month}
-use Rattle.calendar.proofs.weeks.last_weekday_of_month.Goals as goal
+use Rattle.calendar.proofs.weeks.last_weekday.Goals as goal
 
 pub returns : goal.returns
 returns c =
