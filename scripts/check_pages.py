@@ -1,12 +1,13 @@
 #!/usr/bin/env python3
-"""Compares the code on the pages with the files that the gate compiles or runs.
+"""Compares the code on the pages with the files that the gate compiles or runs, and follows their links.
 
-    scripts/check_pages.py                    a line for each block, and a count; status 1 if a block is in no file
+    scripts/check_pages.py                    a line for each block and for each page with its links, and a count; status 1 if a block
+                                              is in no file, or if a link leads to no file or to no heading
     scripts/check_pages.py --run PROGRAM      a line for each command of a session, which the program has to print as the page shows
     scripts/check_pages.py --examples FOLDER  the same of the sessions at the heads of rust/examples/*.rs, whose programs are there
     scripts/check_pages.py --self-test        plants slips in samples; status 1 if one is not found
 
-Each block of Rust is in a `.rt` file or an example of rust/, each block of a proof in an `.antt` file, and each line of a block of crates in
+Each block of Rust is in a `.rt` file, or an example or a test of rust/, each block of a proof in an `.antt` file, and each line of a block of crates in
 crates.txt. Of a block of imports alone, each name is imported so in a `.rt` file. Indentation does not count, and a comment
 `// and ..` in a block replaces lines that the block leaves out. Blocks of any other kind are not read. The command of
 README.md is the stored run. A session is a block of `console`: each command in it prints the lines below it and nothing else."""
@@ -20,9 +21,13 @@ from dataclasses import dataclass
 
 REPOSITORY = pathlib.Path(__file__).resolve().parent.parent
 PAGES = ('README.md', 'docs/*.md', 'crates/*/CALLING.md', 'crates/*/README.md')
+LINKED = PAGES + ('CHANGELOG.md', 'CONTRIBUTING.md', 'bindings/*.md', 'compare/*.md', 'rust/*.md', 'rust/num-integer/*.md', 'docs/reference/*.md')
 SESSIONS = ('README.md', 'docs/INTCALC.md')
 KINDS = {'rust', 'antt', 'crates', 'console'}
 IMPORT = re.compile(r'(?:pub )?((?:ghost )?use .*);')
+CODE = re.compile(r'^ *```.*?^ *```$|`[^`\n]*`', re.M | re.S)
+LINK = re.compile(r'\]\(([^()\s]+)\)')
+HEADING = re.compile(r'#{1,6} (.*)')
 COMMAND = re.compile(r'(?:intcalc|cargo run --example \w+)(?: [^;|&]*)?|echo \$\?')
 
 
@@ -111,8 +116,8 @@ def files():
     """The files of the repository that the gate compiles."""
     def read(folders, suffix):
         return [file.read_text() for folder in folders for file in sorted(REPOSITORY.glob(f'crates/*/{folder}/**/*{suffix}'))]
-    examples = [file.read_text() for file in sorted(REPOSITORY.glob('rust/examples/*.rs'))]
-    return Files(read(('src',), '.rt') + examples, read(('src', 'specs', 'proofs'), '.antt'), (REPOSITORY / 'crates.txt').read_text())
+    plain = [file.read_text() for folder in ('examples', 'tests') for file in sorted(REPOSITORY.glob(f'rust/{folder}/*.rs'))]
+    return Files(read(('src',), '.rt') + plain, read(('src', 'specs', 'proofs'), '.antt'), (REPOSITORY / 'crates.txt').read_text())
 
 
 def has_stored_run():
@@ -120,6 +125,42 @@ def has_stored_run():
     text, program = (REPOSITORY / 'README.md').read_text(), REPOSITORY / 'crates' / 'intcalc'
     words, printed = (program / 'args').read_text().split(), (program / 'stdout').read_text().rstrip('\n')
     return f"rt run -- {' '.join(words)})" in text and f'prints `{printed}`' in text
+
+
+# ---- links
+
+def anchors(text):
+    """The anchors of a page, as the browser of the repository makes them of its headings."""
+    found, counts = set(), {}
+    for line in re.sub(r'^ *```.*?^ *```$', '', text, flags=re.M | re.S).split('\n'):
+        heading = HEADING.fullmatch(line)
+        if heading:
+            slug = re.sub(r'[^\w\- ]', '', heading.group(1).lower()).replace(' ', '-')
+            counts[slug] = counts.get(slug, -1) + 1
+            found.add(f'{slug}-{counts[slug]}' if counts[slug] else slug)
+    return found
+
+
+def broken_links(page, text, anchors_of):
+    """The links of a page that lead to no file of the repository, or to no heading of a page."""
+    for link in LINK.findall(CODE.sub('', text)):
+        name, _, anchor = link.partition('#')
+        target = (page.parent / name).resolve() if name else page.resolve()
+        if '://' not in link and (not target.exists() or anchor and anchor not in anchors_of(target)):
+            yield link
+
+
+def follow_links():
+    """Each page with whether all of its links lead somewhere, and else the links that do not."""
+    known = {}
+
+    def anchors_of(page):
+        if page not in known:
+            known[page] = anchors(page.read_text()) if page.suffix == '.md' else set()
+        return known[page]
+    for page in sorted({page for pattern in LINKED for page in REPOSITORY.glob(pattern)}):
+        broken = list(broken_links(page, page.read_text(), anchors_of))
+        yield ' '.join([page.relative_to(REPOSITORY).as_posix(), *broken]), not broken
 
 
 def compare():
@@ -193,8 +234,24 @@ RUN = (('$ intcalc\nseven', True), ('$ intcalc\neight', False), ('$ intcalc\n', 
        ('$ intcalc\nseven\n$ echo $?\n0', False), ('$ ls\n', False), ('seven', False))
 
 
+# Of a page `sample.md` with the headings `One` and `A, b`, twice.
+LINKS = (('[a](sample.md)', True), ('[a](sample.md#one)', True), ('[a](#a-b-1)', True), ('[a](#a-b-2)', False), ('[a](other.md)', False),
+         ('[a](sample.md#two)', False), ('`[a](other.md)`', True), ('[a](https://example.org/)', True))
+
+
+def links_self_test():
+    """The links that are followed wrongly."""
+    with tempfile.TemporaryDirectory() as folder:
+        page = pathlib.Path(folder).resolve() / 'sample.md'
+        for link, wanted in LINKS:
+            page.write_text(f'# One\n\n## A, b\n\n## A, b\n\n```sh\n# Two\n```\n\n{link}\n')
+            if any(broken_links(page, page.read_text(), lambda there: anchors(there.read_text()))) == wanted:
+                yield f'a link is followed wrongly: {link}'
+
+
 def self_test():
     """The slips that are not found, and what is found that is no slip."""
+    yield from links_self_test()
     there = Files([RUST], [PROOF], 'half: std\n')
     for kind, text, wanted in QUOTED:
         found = [there.has(block) for block in blocks('sample', f'```{kind}\n{text}\n```\n')]
@@ -213,19 +270,21 @@ def self_test():
 def main():
     if sys.argv[1:] == ['--self-test']:
         wrong = list(self_test())
-        print('\n'.join(wrong + [f'check_pages.py: {len(QUOTED) + len(RUN)} samples, {len(wrong)} failed']))
+        print('\n'.join(wrong + [f'check_pages.py: {len(QUOTED) + len(RUN) + len(LINKS)} samples, {len(wrong)} failed']))
         sys.exit(bool(wrong))
     words = ('passed', 'failed') if sys.argv[1:2] in (['--run'], ['--examples']) else ('quoted', 'in no file')
     if sys.argv[1:2] == ['--run']:
-        found = sessions(pathlib.Path(sys.argv[2]).resolve(), [(name, (REPOSITORY / name).read_text()) for name in SESSIONS])
+        pages = [(name, (REPOSITORY / name).read_text()) for name in SESSIONS]
+        found = ((place, words[not passed], passed) for place, passed in sessions(pathlib.Path(sys.argv[2]).resolve(), pages))
     elif sys.argv[1:2] == ['--examples']:
-        found = sessions(pathlib.Path(sys.argv[2]).resolve(), heads_of_examples())
+        found = ((place, words[not passed], passed) for place, passed in sessions(pathlib.Path(sys.argv[2]).resolve(), heads_of_examples()))
     else:
-        found = compare()
+        found = [(place, words[not passed], passed) for place, passed in compare()]
+        found += [(f'links of {place}', ('lead somewhere', 'lead nowhere')[not passed], passed) for place, passed in follow_links()]
     counts = [0, 0]
-    for place, passed in found:
+    for place, said, passed in found:
         counts[not passed] += 1
-        print(f'{place}: {words[not passed]}')
+        print(f'{place}: {said}')
     print(f'{counts[0]} passed, {counts[1]} failed')
     sys.exit(counts[1] > 0 or counts[0] == 0)
 
