@@ -175,7 +175,7 @@ notes() {
     sed 's/^/- /' "$work/said"
     [ "$quick" = no ] || printf -- '- the second suite of seeded bugs, and most tests of the package for cargo: left out\n'
     printf '\n## Changes\n'
-    sed -n "/^## $version\$/,/^## /p" CHANGELOG.md | sed '/^## /d'
+    sed -n "/^## $version\$/,/^## /p" "$work/one/clone/CHANGELOG.md" | sed '/^## /d'
 }
 
 # tried NAME COMMAND..: a check whose line is for the notes too.
