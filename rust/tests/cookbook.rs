@@ -1,7 +1,7 @@
 //! The tasks of docs/COOKBOOK.md, with their results.
 
 use cellarcove::calendar::{easter, last_weekday_of_month, months_between, Date, IsoWeek, Weekday};
-use cellarcove::modular::{inverse_modulo, CommonSolution};
+use cellarcove::modular::{inverse_modulo, residue, CommonSolution};
 use cellarcove::ratio64::{ParseRatioError, Ratio};
 use cellarcove::schedules::next_meeting;
 use cellarcove::{checked, layout, paging, ranking, Integer};
@@ -77,6 +77,26 @@ fn next_draw(draw: &mut [u64]) -> bool {
     ranking::is_choice(draw, 49) && ranking::next_choice(draw, 49)
 }
 
+fn resolution(width: u32, height: u32) -> Ratio {
+    Ratio::new(i64::from(width), i64::from(height)).unwrap()
+}
+
+fn encrypted(factor: u8, shift: u8, byte: u8) -> u8 {
+    residue(u32::from(factor) * u32::from(byte) + u32::from(shift), 256) as u8
+}
+
+fn part_by_weight(cents: u64, weight: u64, total: u64) -> u64 {
+    (u128::from(cents) * u128::from(weight) / u128::from(total)) as u64
+}
+
+fn total_of(amounts: &[u64]) -> Option<u64> {
+    let mut total = 0;
+    for amount in amounts {
+        total = checked::sum(total, *amount)?;
+    }
+    Some(total)
+}
+
 fn date(text: &str) -> Date {
     text.parse().unwrap()
 }
@@ -92,12 +112,17 @@ fn tasks_on_numbers() {
     assert_eq!(both_buses(10), CommonSolution::At(21));
     assert_eq!(tax(i64::MAX), Some(1752440687002407403));
     assert_eq!((inverse(3), inverse(0)), (Some(333333336), None));
+    assert_eq!(encrypted(5, 8, 200), 240);
+    assert_eq!(part_by_weight(u64::MAX, 1, 3), 6148914691236517205);
+    assert_eq!(total_of(&[2, 3, 5]), Some(10));
+    assert_eq!(total_of(&[u64::MAX, 1]), None);
 }
 
 #[test]
 fn tasks_on_fractions() {
     let pi = Ratio::new(314159, 100000).unwrap();
     assert_eq!(simple(&pi), Ratio::new(22, 7).unwrap());
+    assert_eq!(resolution(1920, 1080).to_string(), "16/9");
     assert_eq!(read("6/-4"), Ok(Ratio::new(-3, 2).unwrap()));
     assert_eq!(read("1/0"), Err(ParseRatioError::ZeroDenominator));
     assert_eq!(read("1.5"), Err(ParseRatioError::NotAFraction));
