@@ -1,8 +1,10 @@
 #!/usr/bin/env python3
-"""Compares the code on the pages with the files that the gate compiles or runs, and follows their links.
+"""Compares the code on the pages with the files that the gate compiles or runs, follows their links, and looks for each message of
+the Rust crate in docs/ERRORS.md.
 
-    scripts/check_pages.py                    a line for each block and for each page with its links, and a count; status 1 if a block
-                                              is in no file, or if a link leads to no file or to no heading
+    scripts/check_pages.py                    a line for each block, for each page with its links, and for each message, and a count;
+                                              status 1 if a block is in no file, if a link leads to no file or to no heading, or if a
+                                              message is not on the page
     scripts/check_pages.py --run PROGRAM      a line for each command of a session, which the program has to print as the page shows
     scripts/check_pages.py --examples FOLDER  the same of the sessions at the heads of rust/examples/*.rs, whose programs are there
     scripts/check_pages.py --self-test        plants slips in samples; status 1 if one is not found
@@ -11,6 +13,7 @@ Each block of Rust is in a `.rt` file, or an example or a test of rust/, each bl
 crates.txt. Of a block of imports alone, each name is imported so in a `.rt` file. Indentation does not count, and a comment
 `// and ..` in a block replaces lines that the block leaves out. Blocks of any other kind are not read. The command of
 README.md is the stored run. A session is a block of `console`: each command in it prints the lines below it and nothing else."""
+import itertools
 import os
 import pathlib
 import re
@@ -28,6 +31,7 @@ IMPORT = re.compile(r'(?:pub )?((?:ghost )?use .*);')
 CODE = re.compile(r'^ *```.*?^ *```$|`[^`\n]*`', re.M | re.S)
 LINK = re.compile(r'\]\(([^()\s]+)\)')
 HEADING = re.compile(r'#{1,6} (.*)')
+MESSAGE = re.compile(r'(?:assert!\([^;]*?,|panic!\(|expect\(|write_str\(|\.pad\()\s*"((?:[^"\\]|\\.)*)"')
 COMMAND = re.compile(r'(?:intcalc|cargo run --example \w+)(?: [^;|&]*)?|echo \$\?')
 
 
@@ -163,6 +167,20 @@ def follow_links():
         yield ' '.join([page.relative_to(REPOSITORY).as_posix(), *broken]), not broken
 
 
+# ---- messages
+
+def messages_in(code):
+    """The messages of the panics and the errors in the text of a file of Rust, except those that are put together."""
+    return {message for message in MESSAGE.findall(re.sub(r'^ *//.*$', '', code, flags=re.M)) if '{' not in message}
+
+
+def messages():
+    """Each message of the Rust crate, with whether docs/ERRORS.md has it."""
+    page = ' '.join((REPOSITORY / 'docs/ERRORS.md').read_text().split())
+    found = set().union(*(messages_in(file.read_text()) for file in REPOSITORY.glob('rust/src/**/*.rs')))
+    return ((message, f'"{message}"' in page) for message in sorted(found))
+
+
 def compare():
     """Each block with whether a file has it."""
     there = files()
@@ -249,9 +267,21 @@ def links_self_test():
                 yield f'a link is followed wrongly: {link}'
 
 
+CODE_WITH_MESSAGES = """    /// panic!("of a comment")
+    assert!(x < 1 && y.is_some(), "the first");
+    let z = x.checked_add(1).expect("the second"); f.pad("the third"); panic!("{reason}");
+    assert!(
+        x < 2,
+        "the fourth"
+    );
+"""
+
+
 def self_test():
     """The slips that are not found, and what is found that is no slip."""
     yield from links_self_test()
+    if messages_in(CODE_WITH_MESSAGES) != {'the first', 'the second', 'the third', 'the fourth'}:
+        yield f'messages are found: {messages_in(CODE_WITH_MESSAGES)}'
     there = Files([RUST], [PROOF], 'half: std\n')
     for kind, text, wanted in QUOTED:
         found = [there.has(block) for block in blocks('sample', f'```{kind}\n{text}\n```\n')]
@@ -267,24 +297,28 @@ def self_test():
                 yield f'a session is found: {found}\n{text}'
 
 
+def said(found, passed_word, failed_word):
+    """The line of each place, with whether it passed."""
+    return ((f'{place}: {passed_word if passed else failed_word}', passed) for place, passed in found)
+
+
 def main():
     if sys.argv[1:] == ['--self-test']:
         wrong = list(self_test())
-        print('\n'.join(wrong + [f'check_pages.py: {len(QUOTED) + len(RUN) + len(LINKS)} samples, {len(wrong)} failed']))
+        print('\n'.join(wrong + [f'check_pages.py: {len(QUOTED) + len(RUN) + len(LINKS) + 1} samples, {len(wrong)} failed']))
         sys.exit(bool(wrong))
-    words = ('passed', 'failed') if sys.argv[1:2] in (['--run'], ['--examples']) else ('quoted', 'in no file')
     if sys.argv[1:2] == ['--run']:
         pages = [(name, (REPOSITORY / name).read_text()) for name in SESSIONS]
-        found = ((place, words[not passed], passed) for place, passed in sessions(pathlib.Path(sys.argv[2]).resolve(), pages))
+        found = said(sessions(pathlib.Path(sys.argv[2]).resolve(), pages), 'passed', 'failed')
     elif sys.argv[1:2] == ['--examples']:
-        found = ((place, words[not passed], passed) for place, passed in sessions(pathlib.Path(sys.argv[2]).resolve(), heads_of_examples()))
+        found = said(sessions(pathlib.Path(sys.argv[2]).resolve(), heads_of_examples()), 'passed', 'failed')
     else:
-        found = [(place, words[not passed], passed) for place, passed in compare()]
-        found += [(f'links of {place}', ('lead somewhere', 'lead nowhere')[not passed], passed) for place, passed in follow_links()]
+        found = itertools.chain(said(compare(), 'quoted', 'in no file'), said(follow_links(), 'its links lead somewhere', 'leads nowhere'),
+                                said(messages(), 'on docs/ERRORS.md', 'not on docs/ERRORS.md'))
     counts = [0, 0]
-    for place, said, passed in found:
+    for line, passed in found:
         counts[not passed] += 1
-        print(f'{place}: {said}')
+        print(line)
     print(f'{counts[0]} passed, {counts[1]} failed')
     sys.exit(counts[1] > 0 or counts[0] == 0)
 
