@@ -24,7 +24,8 @@ from dataclasses import dataclass
 
 REPOSITORY = pathlib.Path(__file__).resolve().parent.parent
 PAGES = ('README.md', 'docs/*.md', 'crates/*/CALLING.md', 'crates/*/README.md')
-LINKED = PAGES + ('CHANGELOG.md', 'CONTRIBUTING.md', 'bindings/*.md', 'compare/*.md', 'rust/*.md', 'rust/num-integer/*.md', 'docs/reference/*.md')
+LINKED = PAGES + ('CHANGELOG.md', 'CONTRIBUTING.md', 'bindings/*.md', 'bindings/python/*.md', 'compare/*.md', 'rust/*.md',
+                  'rust/num-integer/*.md', 'docs/reference/*.md')
 SESSIONS = ('README.md', 'docs/INTCALC.md')
 KINDS = {'rust', 'antt', 'crates', 'console'}
 IMPORT = re.compile(r'(?:pub )?((?:ghost )?use .*);')
