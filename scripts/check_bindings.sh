@@ -103,15 +103,15 @@ cpp_with() {
     has "$1" "C++ with $1" || return 0
     languages=$((languages + 1))
     check "C++ with $1" runs test.cpp "$1" -std=c++17 -Wconversion -O1 -x c++
-    check "the example of the page in C++ with $1" page_holds cpp "$1" -std=c++17
+    check "the example of the page in C++ with $1" page_holds bindings/README.md cpp "$1" -std=c++17
     check "the header for C in C++ with $1" runs test.c "$1" -std=c++17 -O0 -x c++
 }
 
-# The example of the page for a language is compiled, and prints what its comments say.
+# page_holds PAGE LANGUAGE COMPILER FLAG..: the example of a page is compiled, and prints what its comments say.
 page_holds() {
-    sed -n "/^\`\`\`$1$/,/^\`\`\`$/p" bindings/README.md | grep -v '^```' >"$work/page.$1" &&
-        "${@:2}" -Wall -Wextra -Wpedantic -Werror -I bindings/c "$work/page.$1" "$archive" -o "$work/page" &&
-        "$work/page" | diff - <(sed -n -e 's|.*/\* \(.*\) \*/|\1|p' -e 's|.*[^:]// ||p' "$work/page.$1")
+    sed -n "/^\`\`\`$2$/,/^\`\`\`$/p" "$1" | grep -v '^```' >"$work/page.$2" &&
+        "${@:3}" -Wall -Wextra -Wpedantic -Werror -I bindings/c "$work/page.$2" "$archive" -o "$work/page" &&
+        "$work/page" | diff - <(sed -n -e 's|.*/\* \(.*\) \*/|\1|p' -e 's|.*[^:]// ||p' "$work/page.$2")
 }
 
 # It is installed, below two folders of libraries, and found there, also after its folder has moved.
@@ -255,7 +255,8 @@ elif builds_by_cargo; then
 fi
 if has cc C; then
     check 'a call in the place of another' other_call_is_found
-    check 'the example of the page' page_holds c cc -std=c11
+    check 'the example of the page' page_holds bindings/README.md c cc -std=c11
+    check 'the example of the cookbook' page_holds docs/COOKBOOK.md c cc -std=c11
     check 'the installed library' installs
 fi
 c_with clang

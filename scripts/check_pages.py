@@ -1,15 +1,19 @@
 #!/usr/bin/env python3
-"""Compares the code on the pages with the files that the gate compiles or runs.
+"""Compares the code on the pages with the files that the gate compiles or runs, follows their links, and looks for each message of
+the Rust crate in docs/ERRORS.md.
 
-    scripts/check_pages.py                    a line for each block, and a count; status 1 if a block is in no file
+    scripts/check_pages.py                    a line for each block, for each page with its links, and for each message, and a count;
+                                              status 1 if a block is in no file, if a link leads to no file or to no heading, or if a
+                                              message is not on the page
     scripts/check_pages.py --run PROGRAM      a line for each command of a session, which the program has to print as the page shows
     scripts/check_pages.py --examples FOLDER  the same of the sessions at the heads of rust/examples/*.rs, whose programs are there
     scripts/check_pages.py --self-test        plants slips in samples; status 1 if one is not found
 
-Each block of Rust is in a `.rt` file or an example of rust/, each block of a proof in an `.antt` file, and each line of a block of crates in
+Each block of Rust is in a `.rt` file, or an example or a test of rust/, each block of a proof in an `.antt` file, and each line of a block of crates in
 crates.txt. Of a block of imports alone, each name is imported so in a `.rt` file. Indentation does not count, and a comment
 `// and ..` in a block replaces lines that the block leaves out. Blocks of any other kind are not read. The command of
 README.md is the stored run. A session is a block of `console`: each command in it prints the lines below it and nothing else."""
+import itertools
 import os
 import pathlib
 import re
@@ -20,9 +24,15 @@ from dataclasses import dataclass
 
 REPOSITORY = pathlib.Path(__file__).resolve().parent.parent
 PAGES = ('README.md', 'docs/*.md', 'crates/*/CALLING.md', 'crates/*/README.md')
+LINKED = PAGES + ('CHANGELOG.md', 'CONTRIBUTING.md', 'bindings/*.md', 'bindings/python/*.md', 'compare/*.md', 'rust/*.md',
+                  'rust/num-integer/*.md', 'docs/reference/*.md')
 SESSIONS = ('README.md', 'docs/INTCALC.md')
 KINDS = {'rust', 'antt', 'crates', 'console'}
 IMPORT = re.compile(r'(?:pub )?((?:ghost )?use .*);')
+CODE = re.compile(r'^ *```.*?^ *```$|`[^`\n]*`', re.M | re.S)
+LINK = re.compile(r'\]\(([^()\s]+)\)')
+HEADING = re.compile(r'#{1,6} (.*)')
+MESSAGE = re.compile(r'(?:assert!\([^;]*?,|panic!\(|expect\(|write_str\(|\.pad\()\s*"((?:[^"\\]|\\.)*)"')
 COMMAND = re.compile(r'(?:intcalc|cargo run --example \w+)(?: [^;|&]*)?|echo \$\?')
 
 
@@ -111,8 +121,8 @@ def files():
     """The files of the repository that the gate compiles."""
     def read(folders, suffix):
         return [file.read_text() for folder in folders for file in sorted(REPOSITORY.glob(f'crates/*/{folder}/**/*{suffix}'))]
-    examples = [file.read_text() for file in sorted(REPOSITORY.glob('rust/examples/*.rs'))]
-    return Files(read(('src',), '.rt') + examples, read(('src', 'specs', 'proofs'), '.antt'), (REPOSITORY / 'crates.txt').read_text())
+    plain = [file.read_text() for folder in ('examples', 'tests') for file in sorted(REPOSITORY.glob(f'rust/{folder}/*.rs'))]
+    return Files(read(('src',), '.rt') + plain, read(('src', 'specs', 'proofs'), '.antt'), (REPOSITORY / 'crates.txt').read_text())
 
 
 def has_stored_run():
@@ -120,6 +130,56 @@ def has_stored_run():
     text, program = (REPOSITORY / 'README.md').read_text(), REPOSITORY / 'crates' / 'intcalc'
     words, printed = (program / 'args').read_text().split(), (program / 'stdout').read_text().rstrip('\n')
     return f"rt run -- {' '.join(words)})" in text and f'prints `{printed}`' in text
+
+
+# ---- links
+
+def anchors(text):
+    """The anchors of a page, as the browser of the repository makes them of its headings."""
+    found, counts = set(), {}
+    for line in re.sub(r'^ *```.*?^ *```$', '', text, flags=re.M | re.S).split('\n'):
+        heading = HEADING.fullmatch(line)
+        if heading:
+            slug = re.sub(r'[^\w\- ]', '', heading.group(1).lower()).replace(' ', '-')
+            counts[slug] = counts.get(slug, -1) + 1
+            found.add(f'{slug}-{counts[slug]}' if counts[slug] else slug)
+    return found
+
+
+def broken_links(page, text, anchors_of):
+    """The links of a page that lead to no file of the repository, or to no heading of a page."""
+    for link in LINK.findall(CODE.sub('', text)):
+        name, _, anchor = link.partition('#')
+        target = (page.parent / name).resolve() if name else page.resolve()
+        if '://' not in link and (not target.exists() or anchor and anchor not in anchors_of(target)):
+            yield link
+
+
+def follow_links():
+    """Each page with whether all of its links lead somewhere, and else the links that do not."""
+    known = {}
+
+    def anchors_of(page):
+        if page not in known:
+            known[page] = anchors(page.read_text()) if page.suffix == '.md' else set()
+        return known[page]
+    for page in sorted({page for pattern in LINKED for page in REPOSITORY.glob(pattern)}):
+        broken = list(broken_links(page, page.read_text(), anchors_of))
+        yield ' '.join([page.relative_to(REPOSITORY).as_posix(), *broken]), not broken
+
+
+# ---- messages
+
+def messages_in(code):
+    """The messages of the panics and the errors in the text of a file of Rust, except those that are put together."""
+    return {message for message in MESSAGE.findall(re.sub(r'^ *//.*$', '', code, flags=re.M)) if '{' not in message}
+
+
+def messages():
+    """Each message of the Rust crate, with whether docs/ERRORS.md has it."""
+    page = ' '.join((REPOSITORY / 'docs/ERRORS.md').read_text().split())
+    found = set().union(*(messages_in(file.read_text()) for file in REPOSITORY.glob('rust/src/**/*.rs')))
+    return ((message, f'"{message}"' in page) for message in sorted(found))
 
 
 def compare():
@@ -193,8 +253,36 @@ RUN = (('$ intcalc\nseven', True), ('$ intcalc\neight', False), ('$ intcalc\n', 
        ('$ intcalc\nseven\n$ echo $?\n0', False), ('$ ls\n', False), ('seven', False))
 
 
+# Of a page `sample.md` with the headings `One` and `A, b`, twice.
+LINKS = (('[a](sample.md)', True), ('[a](sample.md#one)', True), ('[a](#a-b-1)', True), ('[a](#a-b-2)', False), ('[a](other.md)', False),
+         ('[a](sample.md#two)', False), ('`[a](other.md)`', True), ('[a](https://example.org/)', True))
+
+
+def links_self_test():
+    """The links that are followed wrongly."""
+    with tempfile.TemporaryDirectory() as folder:
+        page = pathlib.Path(folder).resolve() / 'sample.md'
+        for link, wanted in LINKS:
+            page.write_text(f'# One\n\n## A, b\n\n## A, b\n\n```sh\n# Two\n```\n\n{link}\n')
+            if any(broken_links(page, page.read_text(), lambda there: anchors(there.read_text()))) == wanted:
+                yield f'a link is followed wrongly: {link}'
+
+
+CODE_WITH_MESSAGES = """    /// panic!("of a comment")
+    assert!(x < 1 && y.is_some(), "the first");
+    let z = x.checked_add(1).expect("the second"); f.pad("the third"); panic!("{reason}");
+    assert!(
+        x < 2,
+        "the fourth"
+    );
+"""
+
+
 def self_test():
     """The slips that are not found, and what is found that is no slip."""
+    yield from links_self_test()
+    if messages_in(CODE_WITH_MESSAGES) != {'the first', 'the second', 'the third', 'the fourth'}:
+        yield f'messages are found: {messages_in(CODE_WITH_MESSAGES)}'
     there = Files([RUST], [PROOF], 'half: std\n')
     for kind, text, wanted in QUOTED:
         found = [there.has(block) for block in blocks('sample', f'```{kind}\n{text}\n```\n')]
@@ -210,22 +298,28 @@ def self_test():
                 yield f'a session is found: {found}\n{text}'
 
 
+def said(found, passed_word, failed_word):
+    """The line of each place, with whether it passed."""
+    return ((f'{place}: {passed_word if passed else failed_word}', passed) for place, passed in found)
+
+
 def main():
     if sys.argv[1:] == ['--self-test']:
         wrong = list(self_test())
-        print('\n'.join(wrong + [f'check_pages.py: {len(QUOTED) + len(RUN)} samples, {len(wrong)} failed']))
+        print('\n'.join(wrong + [f'check_pages.py: {len(QUOTED) + len(RUN) + len(LINKS) + 1} samples, {len(wrong)} failed']))
         sys.exit(bool(wrong))
-    words = ('passed', 'failed') if sys.argv[1:2] in (['--run'], ['--examples']) else ('quoted', 'in no file')
     if sys.argv[1:2] == ['--run']:
-        found = sessions(pathlib.Path(sys.argv[2]).resolve(), [(name, (REPOSITORY / name).read_text()) for name in SESSIONS])
+        pages = [(name, (REPOSITORY / name).read_text()) for name in SESSIONS]
+        found = said(sessions(pathlib.Path(sys.argv[2]).resolve(), pages), 'passed', 'failed')
     elif sys.argv[1:2] == ['--examples']:
-        found = sessions(pathlib.Path(sys.argv[2]).resolve(), heads_of_examples())
+        found = said(sessions(pathlib.Path(sys.argv[2]).resolve(), heads_of_examples()), 'passed', 'failed')
     else:
-        found = compare()
+        found = itertools.chain(said(compare(), 'quoted', 'in no file'), said(follow_links(), 'its links lead somewhere', 'leads nowhere'),
+                                said(messages(), 'on docs/ERRORS.md', 'not on docs/ERRORS.md'))
     counts = [0, 0]
-    for place, passed in found:
+    for line, passed in found:
         counts[not passed] += 1
-        print(f'{place}: {words[not passed]}')
+        print(line)
     print(f'{counts[0]} passed, {counts[1]} failed')
     sys.exit(counts[1] > 0 or counts[0] == 0)
 

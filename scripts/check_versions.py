@@ -1,6 +1,7 @@
 #!/usr/bin/env python3
 """Compares the version of the repository wherever it stands: the first heading of CHANGELOG.md with the packages for Cargo
-and Python, the wheel, and the file of pkg-config. `rust/num-integer` has the version of the crate that it replaces.
+and Python, the wheel, and the file of pkg-config. `rust/num-integer` has the version of the crate that it replaces, and depends on this
+one.
 
     scripts/check_versions.py             a line for each place that has another version, and a count; status 1 where there is one
     scripts/check_versions.py --self-test
@@ -21,13 +22,13 @@ PLACES = (
     ('rust/Cargo.toml', PACKAGE),
     ('rust/benches/Cargo.toml', PACKAGE),
     ('rust/c/Cargo.toml', PACKAGE),
+    ('rust/num-integer/Cargo.toml', re.compile(rf'^cellarcove = {{ path = "\.\.", version = "{VERSION}"', re.M)),
     ('compare/Cargo.toml', PACKAGE),
     ('bindings/python/pyproject.toml', PACKAGE),
     ('bindings/python/cellarcove/__init__.py', re.compile(rf"^__version__ = '{VERSION}'$", re.M)),
     ('bindings/python/cellarcove_build.py', re.compile(rf"^NAME, VERSION, TAG = 'cellarcove', '{VERSION}'", re.M)),
     ('bindings/c/cellarcove.pc', re.compile(rf'^Version: {VERSION}$', re.M)),
 )
-OTHER = {'rust/num-integer/Cargo.toml'}         # the version of the original
 BUILT = {'target', 'out'}                       # folders of which nothing is committed
 
 
@@ -51,7 +52,7 @@ def differing(root):
         found = pattern.findall((root / name).read_text()) if (root / name).is_file() else []
         if found != [version]:
             lines.append(f'{name}: {", ".join(found) or "no version"}, where CHANGELOG.md has {version}')
-    for name in sorted(packages(root) - {name for name, _ in PLACES} - OTHER):
+    for name in sorted(packages(root) - {name for name, _ in PLACES}):
         lines.append(f'{name}: its version is compared with nothing')
     return version, lines
 

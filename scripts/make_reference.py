@@ -30,10 +30,11 @@ REPOSITORY = pathlib.Path(__file__).resolve().parent.parent
 CRATES = REPOSITORY / 'crates'
 PAGES = REPOSITORY / 'docs' / 'reference'
 TOOLCHAIN = REPOSITORY / 'rust' / 'by_hand' / 'definitions.md'
-NAMES = ('integer_core', 'integer_roots', 'num_integer', 'modular', 'ratio64', 'calendar', 'applied', 'cellarcove_c')
+NAMES = ('theorems', 'integer_core', 'integer_roots', 'num_integer', 'modular', 'ratio64', 'calendar', 'applied', 'cellarcove_c')
 # All public items of these are those of num_integer, on whose page they are.
 BELOW = {'integer_core': 'num_integer', 'integer_roots': 'num_integer'}
-BY_FILE = {'cellarcove_c'}                      # nothing is exported: its public items are those of its files
+BY_FILE = {'cellarcove_c', 'theorems'}          # nobody imports them: their public items are those of their files
+FIRST = (('headline',), ('laws',))              # the files of `theorems` with which its page begins
 PROGRAM = ('intcalc_core', 'intcalc')           # on the page of files alone
 IN_RANGE = 'Clauses that only say that arguments and results are in the range of their types are left out.'
 SHOWN = ('fn', 'struct', 'enum', 'trait', 'const', 'type')
@@ -67,7 +68,7 @@ class Crate:
                      for other in place.items if other.name == item.name and other.kind in ('struct', 'enum', 'trait')), None)
 
     def sections(self):
-        """Each place with its items, each item with its module; the root first."""
+        """Each place with its items, each item with its module; the root first, or the files of FIRST."""
         places = {}
         if self.name not in BELOW:
             for module in self.library.modules.values():
@@ -75,7 +76,7 @@ class Crate:
                     place = self.place_of_impl(module, item) if item.kind == 'impl' else self.place(module, item)
                     if place is not None:
                         places.setdefault(place, []).append((module, item))
-        return sorted(places.items())
+        return sorted(places.items(), key=lambda place: (FIRST.index(place[0]) if place[0] in FIRST else len(FIRST), place[0]))
 
     def imports(self, place, shown):
         """The line by which a caller imports the items of a place."""
@@ -344,8 +345,8 @@ class Reference:
 
     def index(self):
         rows = [f'| [`{title}`]({link}) | `{path}` | {said} |' for _, title, path, link, said in sorted(self.calls)
-                if not link.startswith('cellarcove_c.md')]
-        return '\n'.join(['# All functions', '', 'By name. The exports for C are on [their page](cellarcove_c.md).', '',
+                if link.split('.md')[0] not in BY_FILE]
+        return '\n'.join(['# All functions', '', 'By name. The exports for C are on [their page](cellarcove_c.md), and the functions that state\nwhat is proved on [that of `theorems`](theorems.md).', '',
                           '| function | import from | what it does |', '|---|---|---|', *rows])
 
     def front(self):
@@ -412,6 +413,7 @@ SLIPS = (
      'pub natural_gcd_positive : {n m d : ℕ} → 0 < m', 'pub natural_gcd_positive : {n m d : ℕ} → 0 < n', 'num_integer.md'),
     ('a doc comment that differs', 'crates/calendar/src/feasts.rt', '/// Returns', '/// Computes', 'calendar.md'),
     ('a line of a page that differs', 'docs/reference/modular.md', 'fn inverse_modulo', 'fn modular_inverse', 'modular.md'),
+    ('a theorem that differs', 'crates/theorems/src/dates.rt', 'ensures { result ≡ Some day }', 'ensures { result ≡ None }', 'theorems.md'),
     ('an import that differs', 'docs/reference/num_integer.md', 'use num_integer::{Average,', 'use integer_core::{Average,',
      'num_integer.md'),
     ('an item at the place of another', 'scripts/library.py', 'public.setdefault((target.crate, target.path, target_name), place)',

@@ -6,6 +6,7 @@ one that the variable CELLARCOVE_ARCHIVE names. A source distribution has a copy
 """
 
 import base64
+import gzip
 import hashlib
 import io
 import os
@@ -137,9 +138,11 @@ def build_sdist(sdist_directory, config_settings=None):
     def plain(entry):
         entry.uid = entry.gid = entry.mtime = 0
         entry.uname = entry.gname = ''
+        entry.mode = 0o755 if entry.mode & 0o100 else 0o644
         wanted = '__pycache__' not in entry.name and not entry.name.endswith('.so')
         return entry if wanted else None
-    with tarfile.open(pathlib.Path(sdist_directory) / f'{top}.tar.gz', 'w:gz', format=tarfile.PAX_FORMAT) as archive:
+    with gzip.GzipFile(pathlib.Path(sdist_directory) / f'{top}.tar.gz', 'wb', mtime=0) as packed, \
+            tarfile.open(fileobj=packed, mode='w', format=tarfile.PAX_FORMAT) as archive:
         for name in (NAME, 'src', 'tests', 'README.md', 'cellarcove_build.py', 'pyproject.toml'):
             archive.add(HERE / name, f'{top}/{name}', filter=plain)
         for name in VENDORED:

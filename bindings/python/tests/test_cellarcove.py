@@ -27,7 +27,8 @@ except ImportError:
 I64, U64 = (-(2**63), 2**63 - 1), (0, 2**64 - 1)
 ENDS = [0, 1, 2, 3, 2**32 - 1, 2**32, 2**63 - 1, 2**63, 2**64 - 1]
 SIGNED_ENDS = [-(2**63), 1 - 2**63, -(2**32), -3, -2, -1, 0, 1, 2, 3, 2**32, 2**63 - 2, 2**63 - 1]
-PAGE = pathlib.Path(__file__).resolve().parents[2] / 'README.md'
+BINDINGS = pathlib.Path(__file__).resolve().parents[2]
+PAGES = (BINDINGS / 'README.md', BINDINGS / 'python/README.md', BINDINGS.parent / 'docs/COOKBOOK.md')
 FIRST_DAY = datetime.date(1970, 1, 1).toordinal()
 TURNS = int(os.environ.get('CELLARCOVE_TURNS', 100_000))
 random.seed(64)
@@ -608,9 +609,15 @@ class Names(unittest.TestCase):
 
 class Page(unittest.TestCase):
     def test_examples(self):
-        """Each example of the page does what its comment says."""
+        """Each example of the pages does what its comment says."""
+        for page in PAGES:
+            for block in re.findall('```python\n(.*?)```', page.read_text(), re.S):
+                with self.subTest(page=page.name):
+                    self.holds(block)
+
+    def holds(self, block):
         names = {}
-        for line in re.search('```python\n(.*?)```', PAGE.read_text(), re.S).group(1).splitlines():
+        for line in block.splitlines():
             code, _, said = (part.strip() for part in line.partition('#'))
             if not said:
                 exec(code, names)
