@@ -22,22 +22,7 @@ has() {
 }
 
 # over_proved: builds the archive over the libraries that `rt ci` has left.
-over_proved() {
-    local kit name words=()
-    kit=$(dirname "$(rt doc)")
-    for name in integer_core integer_roots num_integer calendar modular ratio64; do
-        [ -d "crates/$name/out/rlib/$name.rlib" ] || return 1
-        words+=(-L "dependency=$PWD/crates/$name/out/rlib")
-    done
-    for name in num_integer calendar modular ratio64; do
-        words+=(--extern "$name=$PWD/crates/$name/out/rlib/$name.rlib")
-    done
-    mkdir -p crates/cellarcove_c/out
-    (cd crates/cellarcove_c && "$kit/bin/rattle" build --crate-name cellarcove_c src/lib.rt --crate-type staticlib \
-        --extern "std=$kit/rlibs/std.rlib" -L "dependency=$kit/rlibs" "${words[@]}" --links cellarcove_c= --jobs 1 \
-        --antt-project "$kit/rattle/logic/antt-project.json" --logic-built "$kit/logic_built" \
-        --toolchain "$kit/toolchain" --backend llvm -o "$proved")
-}
+over_proved() { mkdir -p crates/cellarcove_c/out && calls_over_proved "$proved"; }
 
 build() {
     { [ "$libraries" = --proved ] && over_proved || (cd crates/cellarcove_c && rt lib); } && bindings/build --rattle "$work/by_rattle"
@@ -156,6 +141,39 @@ passes_its_tests() {
         (cd "$work/empty_folder" && PYTHONPATH=$work/site PYTHONDONTWRITEBYTECODE=1 "$@" "$tests")
 }
 
+# with_package SCRIPT WORD..: the script runs with the package of the wheel, in an empty folder.
+with_package() { (cd "$work/empty_folder" && PYTHONPATH=$work/site PYTHONDONTWRITEBYTECODE=1 python3 "$@"); }
+
+# counted NAME COMMAND..: the command succeeds. The line has the last one that it printed.
+counted() {
+    local status=0
+    "${@:2}" >"$work/log" 2>&1 || status=$?
+    judge "$1, $(tail -n 1 "$work/log")" "$status"
+}
+
+# All exports return what Python computes, for random arguments.
+fuzz() {
+    cc -shared "$(dirname "$archive")/cellarcove_c.o" -o "$work/all_calls.so" &&
+        with_package "$PWD/bindings/fuzz.py" --self-test &&
+        with_package "$PWD/bindings/fuzz.py" --seed "$1" --minutes "$2" --library "$work/all_calls.so"
+}
+
+# The wheel has what its name and its list say.
+describes_its_wheel() { with_package "$PWD/bindings/python/tests/test_wheel.py" "$work"/wheel/*.whl; }
+
+# An editable install leads to the sources, and has the licences.
+installs_editable() {
+    local tree=$work/editable
+    rm -rf "$tree" && mkdir -p "$tree/bindings" && cp LICENSE-* "$tree" && cp -r bindings/c bindings/python "$tree/bindings" &&
+        python3 -m venv "$tree/environment" &&
+        CELLARCOVE_ARCHIVE=$archive "$tree/environment/bin/python" -m pip install --quiet --disable-pip-version-check \
+            --no-build-isolation --no-deps --no-index --editable "$tree/bindings/python" &&
+        (cd "$work/empty_folder" && "$tree/environment/bin/python" -c "
+import importlib.metadata, pathlib, cellarcove
+assert pathlib.Path(cellarcove.__file__).is_relative_to('$tree/bindings/python') and cellarcove.gcd(12, 18) == 6
+assert {'LICENSE-APACHE', 'LICENSE-MIT'} <= {file.name for file in importlib.metadata.files('cellarcove')}")
+}
+
 # So does one that is built with the sanitizers.
 passes_with_sanitizers() {
     CFLAGS='-O1 -g -fsanitize=address,undefined -fno-sanitize-recover' CC=gcc makes_a_wheel &&
@@ -223,6 +241,8 @@ python_calls() {
             languages=$((languages + 1))
             check 'the wheel' makes_a_wheel
             check 'Python' passes_its_tests python3
+            check 'the files and the tags of the wheel' describes_its_wheel
+            counted 'random calls' fuzz 1 0.05
         else
             echo 'Python: skipped, since there is no pip'
         fi
@@ -262,6 +282,12 @@ fi
 c_with clang
 cpp_with g++
 cpp_with clang++
+if has python3 Python && has cc Python && [ -d "$work/site" ]; then
+    counted "CPython's own tests" with_package "$PWD/bindings/python/tests/cpython_tests.py"
+    if python3 -m venv --help >/dev/null 2>&1 && python3 -c 'import ensurepip' 2>/dev/null; then
+        check 'an editable install' installs_editable
+    fi
+fi
 if has python3 Python && sanitizes gcc; then
     check 'Python with the sanitizers of gcc' passes_with_sanitizers
 fi

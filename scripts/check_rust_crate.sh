@@ -161,6 +161,8 @@ check 'forms that the eraser does not know are rejected' python3 scripts/make_ru
 check 'forms that the bounds do not fit are rejected' python3 scripts/rust_bounds.py --self-test
 check 'operators are written for calls' python3 scripts/rust_operators.py --self-test
 check 'the style is written' python3 scripts/rust_style.py --self-test
+check 'each public item has an example, its errors, and a test of its domain' python3 scripts/check_rust_docs.py
+check 'sections that are taken out are missed' python3 scripts/check_rust_docs.py --self-test
 check 'forms that exports do not have are rejected' python3 scripts/make_rust_exports.py --self-test
 if has_packages "${originals[@]}"; then
     mkdir "$work/.cargo"

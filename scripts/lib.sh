@@ -44,3 +44,22 @@ crates_of() {
 is_current() {
     [ -e "$1" ] && [ -z "$(find $(crates_of "$2" | sort -u | sed 's|.*|crates/&/src|') -newer "$1" -print -quit)" ]
 }
+
+# calls_over_proved FILE [WORD..]: Rattle's compiler makes the archive of the calls for C, over the libraries that `rt ci` has proved and
+# left. The words are for the compiler.
+calls_over_proved() {
+    local kit name crate=cellarcove_c file=$1 words=()
+    kit=$(dirname "$(rt doc)")
+    for name in $(crates_of "$crate" | sort -u); do
+        [ "$name" = "$crate" ] && continue
+        [ -d "crates/$name/out/rlib/$name.rlib" ] || return 1
+        words+=(-L "dependency=$PWD/crates/$name/out/rlib")
+    done
+    for name in $(sed -n "s/^$crate staticlib: //p" crates.txt); do
+        words+=(--extern "$name=$PWD/crates/$name/out/rlib/$name.rlib")
+    done
+    (cd "crates/$crate" && "$kit/bin/rattle" build --crate-name "$crate" src/lib.rt --crate-type staticlib \
+        --extern "std=$kit/rlibs/std.rlib" -L "dependency=$kit/rlibs" "${words[@]}" --links "$crate=" --jobs 1 \
+        --antt-project "$kit/rattle/logic/antt-project.json" --logic-built "$kit/logic_built" \
+        --toolchain "$kit/toolchain" --backend llvm "${@:2}" -o "$file")
+}

@@ -12,6 +12,7 @@ invariant, which become readers, bounds and copies (rust_bounds.py), and comment
 What is added: the guards of the calls that have a domain (rust_guards.py), and `#[must_use]` of public calls that only
 return. A form that is not known here is rejected by file and line, and then nothing is written."""
 import pathlib
+import re
 import shutil
 import subprocess
 import sys
@@ -21,6 +22,7 @@ import rust_additions
 import rust_bounds
 import rust_docs
 import rust_errors
+import rust_examples
 import rust_guards
 import rust_operators
 import rust_style
@@ -53,22 +55,27 @@ ALLOWED = {
 
 # By crate, module and item: what code may call and the documentation leaves out. A caller in Rust writes `a + b`.
 HIDDEN = {('integer_core', '', 'operators')}
+# By crate, module and trait: a trait that no other crate can name, but which a public trait has above it. Its `final` functions stand
+# in a trait of this name, which no public trait has above it, so no other crate can call them. rust/by_hand exports it to the crate.
+APART = {('integer_core', 'native', 'Native'): 'Magnitudes'}
 
 
-def diagnostic(message, note):
+def diagnostic(message, *notes):
     """What the compiler says of a type that does not implement a trait."""
-    return f'#[cfg_attr(has_diagnostic, diagnostic::on_unimplemented(message = "{message}", note = "{note}"))]'
+    words = ', '.join([f'message = "{message}"', *(f'note = "{note}"' for note in notes)])
+    return f'#[cfg_attr(has_diagnostic, diagnostic::on_unimplemented({words}))]'
 
 
 BUILT_IN = 'the twelve built-in integer types implement it'
 OWN = 'a type of your own implements it by hand'
-NO_ROOTS = 'the built-in integer types of at most 64 bits implement it: there are no roots of `i128` and `u128`'
 # By crate and name: the attributes that a struct or a trait has in the Rust crate beside its own.
 ADDED = {
-    ('integer_core', 'Integer'): diagnostic('`{Self}` does not implement `Integer` of cellarcove', f'{BUILT_IN}; {OWN}'),
-    ('integer_core', 'Native'): diagnostic('`{Self}` is no built-in integer type', f'{BUILT_IN}, and so `Integer`, whose ' + OWN[9:]),
+    ('integer_core', 'Integer'): diagnostic('`{Self}` does not implement `Integer` of cellarcove', BUILT_IN, OWN),
+    ('integer_core', 'Native'): diagnostic('`{Self}` is no built-in integer type', BUILT_IN, 'a type of your own implements `Integer` by hand'),
     ('integer_core', 'NativeInteger'): diagnostic('`{Self}` is no built-in integer type', BUILT_IN + ', and no other type can'),
-    ('integer_roots', 'Roots'): diagnostic('`{Self}` does not implement `Roots` of cellarcove', f'{NO_ROOTS}; {OWN}'),
+    ('integer_roots', 'Roots'): diagnostic('`{Self}` does not implement `Roots` of cellarcove',
+                                           'the built-in integer types of at most 64 bits implement it',
+                                           'there are no roots of `i128` and `u128`', OWN),
     ('num_integer', 'IterBinomial'): '#[derive(Clone, Debug)]',
 }
 ADDED_TO = set()                                # those that are met, noted as files are made
@@ -143,7 +150,7 @@ class Eraser:
             ADDED_TO.add((self.crate, item.name))
         if item.kind == 'impl' and item.of_trait == 'Error':
             self.put_before(item.first, '#[cfg(has_error)]\n')
-        if (self.crate, '/'.join(self.module.path), item.name) in HIDDEN and item.kind == 'mod':
+        if self.key(item) in HIDDEN and item.kind == 'mod':
             self.put_before(item.first, '#[doc(hidden)]\n')
         rust_docs.add_sections(self, item, owner)
         self.guards.add(item, owner)
@@ -157,8 +164,38 @@ class Eraser:
         if item.kind in ('trait', 'impl', 'mod') and item.open:
             self.walk(item.word, item.open)
             self.items(item.items, item)
+            if self.key(item) in APART and item.kind == 'trait':
+                self.put_apart(item)
             return self.pad(item) if item.of_trait == 'Display' else None
         return self.walk(item.word, item.last)
+
+    def key(self, item):
+        return self.crate, '/'.join(self.module.path), item.name
+
+    def put_apart(self, item):
+        """Ends a trait before its functions, and begins the trait that has them."""
+        functions = [inner for inner in item.items if inner.kind == 'fn']
+        for inner in item.items[item.items.index(functions[0]):]:
+            if inner.kind != 'fn' or all(self.at(k) != 'final' for k in range(inner.first, inner.word)):
+                self.refuse(inner.word, f'`{inner.name}`, which is no `final` function, after one that stands apart')
+        name = APART[self.key(item)]
+        first = (self.source.docs(functions[0]) or [self.source.code[functions[0].first]])[0]
+        self.texts[first] = (f'}}\n\n/// What this crate alone calls of a `{item.name}`.\npub(crate) trait {name}: {item.name} {{\n'
+                             + self.texts[first])
+        self.write(item.last, f'}}\n\nimpl<T: {item.name}> {name} for T {{}}')
+
+    def import_apart(self):
+        """Imports the traits whose functions stand apart and are called in the file."""
+        code = ''.join(self.texts[i] for i in self.source.code)
+        for (crate, path, trait), name in APART.items():
+            module = self.library.modules.get((crate, tuple(path.split('/'))))
+            if module is None or module is self.module:
+                continue
+            [item] = [item for item in module.items if item.kind == 'trait' and item.name == trait]
+            names = '|'.join(inner.name for inner in item.items if inner.kind == 'fn')
+            if re.search(rf'(?:\.|::)(?:{names})\(', code):
+                use = next(item for item in self.module.items if item.kind == 'use')
+                self.put_before(use.first, f'use crate::{crate}::{name};\n')
 
     def pad(self, item):
         """What an implementation of `Display` writes keeps the width and the fill of the format, unless it hands the
@@ -232,19 +269,20 @@ class Eraser:
             self.allow(f'{item.name}.{field.name}', field.first)
         ghosts = [field for field in item.fields if field.ghost]
         if ghosts and self.library.place_of(self.module, item) is not None:
-            readers = ''.join(self.reader(field) for field in item.fields if field.public and not field.ghost)
+            readers = ''.join(self.reader(item, field) for field in item.fields if field.public and not field.ghost)
             if readers:
                 self.write(item.last, f'}}\n\nimpl {item.name} {{{readers}}}')
         for field in ghosts:
             self.drop_item(field.first, field.last + (self.at(field.last + 1) == ','))
 
-    def reader(self, field):
+    def reader(self, owner, field):
         """Makes a public field private to its crate, and returns its reader."""
         if field.type not in NATIVE:
             self.refuse(field.place, f'a public field `{field.name}` of type `{field.type}` beside an invariant')
         self.write(field.place - 1, 'pub(crate)' if self.crate in AT_ROOT else f'pub(in crate::{self.crate})')
         docs = ''.join(self.source.tokens[i].text + '\n' for i in self.source.docs(field))
         docs = docs or f'/// Returns the `{field.name}`.\n'
+        docs += ''.join(f'/// {line}'.rstrip() + '\n' for line in rust_examples.section_of_reader(self, owner, field))
         return f'\n{docs}#[must_use]\npub fn {field.name}(&self) -> {field.type} {{ self.{field.name} }}\n'
 
     def parameters(self, item):
@@ -333,6 +371,7 @@ class Eraser:
         """The file as Rust."""
         self.items(self.module.items)
         self.guards.finish()
+        self.import_apart()
         if self.allowed:
             raise Unknown(f'{self.source.path}: no {", ".join(self.allowed)}, which scripts/make_rust_crate.py allows a lint')
         for k in range(len(self.source.code)):
@@ -375,6 +414,7 @@ def write(out):
         by_hand = f'// It also has what rust/by_hand/src/{place} adds.\n' if place in additions.files else ''
         made[place] = additions.add(place, made_from(module.source.path) + by_hand + rust)
     rust_errors.see_all_used()
+    rust_examples.see_all_used()
     for crate, name in ADDED.keys() - ADDED_TO:
         raise Unknown(f'scripts/make_rust_crate.py: crates/{crate} has no `{name}`, to which it adds attributes')
     others = dict(additions.modules())

@@ -122,7 +122,7 @@ def add_sections(eraser, item, owner):
     docs = source.docs(item)
     prose = [source.tokens[i].text[3:].removeprefix(' ') for i in docs]
     remarks, panics = eraser.guards.sections(item, owner)
-    sections = remarks + twin(eraser, item, owner, place) + rust_examples.section(eraser, item, place) + panics
+    sections = remarks + twin(eraser, item, owner, place) + rust_examples.section(eraser, item, owner, place) + panics
     sections += rust_errors.section(eraser, item, owner)
     if item.kind in ('fn', 'struct', 'trait', 'impl'):
         sections += section(eraser, item, owner)

@@ -17,11 +17,6 @@ ERRORS = {
     ('ratio64', 'Ratio', 'checked_mul'): {'NotFitting': NOT_FITTING.format('product')},
     ('ratio64', 'Ratio', 'checked_div'): {'ZeroDenominator': '`other` is 0',
                                           'NotFitting': NOT_FITTING.format('quotient')},
-    ('ratio64', 'Ratio', 'checked_times'): {'ZeroDenominator': '`d` is 0',
-                                            'NotFitting': NOT_FITTING.format('product')},
-    ('ratio64', 'Ratio', 'floor_to'): {'NotFitting': NOT_FITTING.format('multiple')},
-    ('ratio64', 'Ratio', 'ceil_to'): {'NotFitting': NOT_FITTING.format('multiple')},
-    ('ratio64', 'Ratio', 'round_to'): {'NotFitting': NOT_FITTING.format('multiple')},
     ('ratio64', 'Ratio', 'checked_recip'): {'ZeroDenominator': 'the fraction is 0', 'NotFitting': LEAST},
     ('ratio64', 'Ratio', 'checked_pow'): {'ZeroDenominator': 'the fraction is 0 and the exponent is negative',
                                           'NotFitting': NOT_FITTING.format('power')},
@@ -32,11 +27,11 @@ ERRORS = {
     ('ratio64', 'Ratio', 'checked_neg'): {'NotFitting': LEAST},
     ('ratio64', 'Ratio', 'checked_abs'): {'NotFitting': LEAST},
     ('ratio64', 'Ratio', 'from_str'): {
-        'NotAFraction': 'the text is neither a whole number nor two of them with a slash between',
+        'NotAFraction': 'the string is neither a whole number nor two of them with a slash between',
         'TooLong': 'a part has more than 38 digits, without its leading zeros',
         'ZeroDenominator': 'the denominator is 0',
         'NotFitting': NOT_FITTING.format('reduced fraction')},
-    ('calendar', 'Date', 'from_str'): {'': 'the text is not the one that `Display` writes of a date'},
+    ('calendar', 'Date', 'from_str'): {'': 'the string is not the one that `Display` writes of a date'},
     ('calendar', 'Weekday', 'from_str'): {'': 'the string is not the English name of a day of the week'},
 }
 USED = set()                    # the rows that are met, noted as files are made

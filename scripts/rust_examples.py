@@ -1,10 +1,12 @@
 """The sections `# Examples` of the Rust crate: of each sentence `A` is `B` in the comment of a public item one
-assertion, below the `use` lines of their names. `cargo test` runs them."""
+assertion, below the `use` lines of their names. `CODE` has the examples that are no such sentence. `cargo test` runs them."""
 import functools
 import re
 
 from prose import WIDTH, wrapped
+from rattle_source import Unknown
 
+INDENT = 4                                      # of the members of a trait or a type
 SENTENCE = re.compile(r'`([^`]+)` is (?:`([^`]+)`)?')
 # A sentence of examples alone.
 ALONE = re.compile(r'(?:(?<=[.] )|^)`[^`]+` is `[^`]+`(?:(?:,|, and| and) `[^`]+` is `[^`]+`)*\.(?: |$)')
@@ -12,6 +14,24 @@ ALONE = re.compile(r'(?:(?<=[.] )|^)`[^`]+` is `[^`]+`(?:(?:,|, and| and) `[^`]+
 NO_EXAMPLE = {
     'RollingHash::new(10, 97, 2)': 'it says for which windows the hash is',
 }
+# By crate, type or trait, and name: the lines of an example that is no sentence.
+LEAP_DAY = 'Date::new(2024, 2, 29).unwrap()'
+HASH = 'RollingHash::new(10, 97, 2)'
+CODE = {
+    ('integer_core', 'Integer', 'inc'): ('let mut x = 5;', 'x.inc();', 'assert_eq!(x, 6);'),
+    ('integer_core', 'Integer', 'dec'): ('let mut x = 5;', 'x.dec();', 'assert_eq!(x, 4);'),
+    ('integer_core', '', 'ExtendedGcd'): ('let found = 240.extended_gcd(&46);', 'assert_eq!((found.gcd, found.x, found.y), (2, -9, 47));'),
+    ('integer_core', '', 'NativeInteger'): (
+        'fn is_power_of_two<T: NativeInteger>(x: T) -> bool {', '    x > T::zero() && x.count_ones() == 1', '}', '',
+        'assert!(is_power_of_two(64u8) && !is_power_of_two(i8::MIN));'),
+    ('calendar', 'Date', 'year'): (f'assert_eq!({LEAP_DAY}.year(), 2024);',),
+    ('calendar', 'Date', 'month'): (f'assert_eq!({LEAP_DAY}.month(), 2);',),
+    ('calendar', 'Date', 'day_of_month'): (f'assert_eq!({LEAP_DAY}.day_of_month(), 29);',),
+    ('applied', 'RollingHash', 'base'): (f'assert_eq!({HASH}.base(), 10);',),
+    ('applied', 'RollingHash', 'modulus'): (f'assert_eq!({HASH}.modulus(), 97);',),
+    ('applied', 'RollingHash', 'kept'): (f'assert_eq!({HASH}.kept(), 2);',),
+}
+USED = set()                    # the rows that are met, noted as files are made
 TEXT = r'"(?:[^"\\]|\\.)*"'
 NATIVE = r'\b[iu](?:8|16|32|64|128|size)'
 # Names that stand alone or begin a path, and names of methods.
@@ -116,15 +136,39 @@ def assertion(call, answer):
     if answer in ('true', 'false') and not re.search(r' [<>=&|]', call):
         return [f'assert!({"" if answer == "true" else "!"}{call});']
     line = f'assert_eq!({call}, {answer});'
-    return [line] if len(line) < WIDTH else ['assert_eq!(', f'    {call},', f'    {answer}', ');']
+    return [line] if len(line) <= WIDTH - INDENT else ['assert_eq!(', f'    {call},', f'    {answer}', ');']
 
 
-def section(eraser, item, place):
+def code_of(crate, owner, name):
+    """The lines of the example that is no sentence, if there is one."""
+    if (crate, owner, name) in CODE:
+        USED.add((crate, owner, name))
+    return list(CODE.get((crate, owner, name), ()))
+
+
+def block(library, code, body, place):
+    """The lines of a section with this body. The code has the names to import."""
+    head = imports(library, code, place)
+    return ['', '# Examples', '', '```', *head, *([''] if head else []), *body, '```']
+
+
+def section(eraser, item, owner, place):
     """The lines of the section of an item at a public place."""
     pairs = sentences(eraser.source, item)
-    if not pairs:
+    more = code_of(eraser.crate, owner.name if owner else '', item.name)
+    if not pairs and not more:
         return []
-    code = '\n'.join(f'{call}\n{answer}' for call, answer in pairs)
-    head = imports(eraser.library, code, place)
-    body = [line for pair in pairs for line in assertion(*pair)]
-    return ['', '# Examples', '', '```', *head, *([''] if head else []), *body, '```']
+    code = '\n'.join([*(f'{call}\n{answer}' for call, answer in pairs), *more])
+    return block(eraser.library, code, [line for pair in pairs for line in assertion(*pair)] + more, place)
+
+
+def section_of_reader(eraser, owner, field):
+    """The lines of the section of the reader of a field."""
+    code = code_of(eraser.crate, owner.name, field.name)
+    return block(eraser.library, '\n'.join(code), code, eraser.library.place_of_type(eraser.module, owner.name)) if code else []
+
+
+def see_all_used():
+    """Rejects a row of which no public item is met. Call it after the files have been made."""
+    for crate, owner, name in sorted(CODE.keys() - USED):
+        raise Unknown(f'scripts/rust_examples.py: crates/{crate} has no public `{owner or "item"}::{name}`, of which it has an example')

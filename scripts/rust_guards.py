@@ -36,6 +36,15 @@ def value(name):
     return rf'(?P<{name}_type>[A-Z]\w*)\.value (?P<{name}>[\w.]+)'
 
 
+LCM, GCD = 'the least common multiple does not fit', 'the greatest common divisor does not fit'
+PAIR = 'no pair of coefficients fits the unsigned type'
+
+
+def reason(text):
+    """The reason that a hidden method of `Integer` takes. No other crate can make one."""
+    return f'crate::guards::Reason("{text}")'
+
+
 ANY = r'[A-Z]\w*\.value [\w.]+'
 RANGE = rf'{FITS} \({ANY}\)'
 RESULT = rf'(?:{ANY} [-+*]ℤ (?:{ANY}|pos 1)|neg_ℤ \({ANY}\))'
@@ -84,9 +93,9 @@ ROWS = (
     Row('result', rf'{FITS} \({RESULT}\)', ARITHMETIC, 'the result does not fit'),
     Row('gcd', rf'GcdFits {FITS} \({ANY}\) \({ANY}\)', KERNEL, 'the greatest common divisor does not fit'),
     Row('lcm', rf'EachFits {FITS} \(IsLeastCommonMultiple \({value("x")}\) \({value("y")}\)\)', KERNEL,
-        'the least common multiple does not fit', test='{x}.expect_lcm(&{y});', within=('chinese_remainder',)),
+        'the least common multiple does not fit', test=f'{{x}}.expect_lcm(&{{y}}, {reason(LCM)});', within=('chinese_remainder',)),
     Row('pair', rf'HasPair {FITS} \({value("x")}\) \({value("y")}\)', KERNEL,
-        'the type is unsigned and neither number divides the other', test='{x}.expect_pair(&{y});',
+        'the type is unsigned and neither number divides the other', test=f'{{x}}.expect_pair(&{{y}}, {reason(PAIR)});',
         within=('extended_gcd_counted',)),
     Row('degree', r'(?P<x>n|degree) ≢ 0', TESTED, '`{x}` is 0', '{x} != 0', 'attempt to take a root of degree 0'),
     Row('even root', rf'(?P<x>n) % 2 ≡ 0 → pos 0 ≤ℤ {value("y")}', TESTED,
@@ -130,7 +139,6 @@ ROWS = (
 # ---- the bodies that are not those of the sources
 
 WRAPS = 'attempt to {} with overflow'
-LCM, GCD = 'the least common multiple does not fit', 'the greatest common divisor does not fit'
 BINOMIAL, MULTINOMIAL = 'the binomial coefficient does not fit', 'the multinomial coefficient does not fit'
 INTEGER = '<T: crate::integer_core::Integer>'
 
@@ -138,7 +146,7 @@ INTEGER = '<T: crate::integer_core::Integer>'
 def exact(call, verb):
     """The operators of a type of integers in place of those of numbers."""
     sign = {'sum': '+', 'difference': '-', 'product': '*'}[call]
-    return ('<T: Num>', INTEGER), (f'a {sign} b', f'a.exact_{call}(b, "{WRAPS.format(verb)}")')
+    return ('<T: Num>', INTEGER), (f'a {sign} b', f'a.exact_{call}(b, {reason(WRAPS.format(verb))})')
 
 
 # By crate, module and item: code of the source, and what the Rust crate has in its place.
@@ -151,7 +159,7 @@ CODE = {
     ('integer_core', 'operators', 'is_minus_one'): (('is_zero(successor(a))', 'is_zero(a + one())'),),
     ('integer_core', 'operators', 'negated'): (
         ('<T: Num>', INTEGER),
-        ('difference(zero(), a)', f'zero::<T>().exact_difference(a, "{WRAPS.format("negate")}")')),
+        ('difference(zero(), a)', f'zero::<T>().exact_difference(a, {reason(WRAPS.format("negate"))})')),
     ('integer_core', 'native', 'Native'): (
         ('Copy + Num +', 'Copy + Num + num_traits::NumCast + num_traits::CheckedAdd + num_traits::CheckedSub '
          '+ num_traits::CheckedMul +'),),
@@ -167,11 +175,11 @@ CODE = {
     ('integer_core', 'stein', 'binary_gcd'): (
         ('T::from_magnitude(gcd)', f'crate::guards::number(gcd, "{GCD}")'),),
     ('num_integer', 'coefficients', 'next_coefficient'): (
-        ('product(x, y)', f'x.exact_product(y, "{BINOMIAL}")'),),
+        ('product(x, y)', f'x.exact_product(y, {reason(BINOMIAL)})'),),
     ('num_integer', 'coefficients', 'multinomial'): (
-        ('sum(total, *count)', f'T::exact_sum(total, *count, "{MULTINOMIAL}")'),
+        ('sum(total, *count)', f'T::exact_sum(total, *count, {reason(MULTINOMIAL)})'),
         ('product(multinomial, binomial(total, *count))',
-         f'T::exact_product(multinomial, binomial(total, *count), "{MULTINOMIAL}")')),
+         f'T::exact_product(multinomial, binomial(total, *count), {reason(MULTINOMIAL)})')),
     ('applied', 'ranking', 'rank'): (
         ('rank += binomial(*number, i as u64 + 1)',
          'rank = crate::guards::sum(rank, binomial(*number, i as u64 + 1), "the rank does not fit")'),),

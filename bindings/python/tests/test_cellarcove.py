@@ -11,6 +11,9 @@ import pathlib
 import pickle
 import random
 import re
+import subprocess
+import sys
+import textwrap
 import threading
 import types
 import unittest
@@ -347,7 +350,6 @@ class Ranges(unittest.TestCase):
         with self.assertRaises(TypeError):
             cellarcove.gcd(1.5, 4)
 
-
     def test_parts_of_a_date(self):
         """Of an object that is no `datetime.date`: none is cut."""
         for year, month, day in ((2024, 257, 1), (2024, 1, 257), (2024, -255, 1), (2**64 + 2024, 1, 1)):
@@ -566,6 +568,55 @@ class Arrays(unittest.TestCase):
         for bad in (x[::2], x.reshape(2, 2), x.astype(float), x.astype(numpy.int32), x.astype('>i8')):
             with self.assertRaises(ValueError):
                 cellarcove.gcd(bad, 8)
+
+
+class Shutdown(unittest.TestCase):
+    """The end of a program, and a module that is imported again."""
+
+    def ends(self, code):
+        ran = subprocess.run([sys.executable, '-c', textwrap.dedent(code)], capture_output=True, text=True, timeout=120)
+        self.assertEqual((ran.returncode, ran.stderr), (0, ''))
+
+    def test_running_thread(self):
+        """A thread that runs calls when the program ends."""
+        self.ends('''
+            import array, threading, time, cellarcove
+            numbers = array.array('Q', range(10**5))
+            def run():
+                while True:
+                    cellarcove.power_modulo(numbers, 2**60, 10**9 + 7)
+            threading.Thread(target=run, daemon=True).start()
+            time.sleep(0.2)
+        ''')
+
+    def test_late_calls(self):
+        """Calls at exit, and of an object that goes with the modules."""
+        self.ends('''
+            import atexit, cellarcove
+            def fails(call=cellarcove.lcm):
+                try:
+                    call(2**63, 3)
+                except OverflowError:
+                    pass
+            class Late:
+                def __del__(self, fails=fails, call=cellarcove.gcd):
+                    call(12, 18)
+                    fails()
+            atexit.register(fails)
+            cellarcove.late = late = Late()
+        ''')
+
+    def test_import_again(self):
+        """The calls raise the errors of the package that was imported last."""
+        self.ends('''
+            import sys, cellarcove
+            del sys.modules['cellarcove'], sys.modules['cellarcove._calls']
+            import cellarcove as again
+            try:
+                again.lcm(2**63, 3)
+            except again.NotFitting:
+                assert again.easter(2024) == again.Date(2024, 3, 31)
+        ''')
 
 
 class Names(unittest.TestCase):

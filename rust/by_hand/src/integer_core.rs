@@ -1,11 +1,15 @@
-//! Hidden methods of `Integer`. At a type of one's own its operators decide if a result does not fit.
+//! Hidden methods of `Integer`. At a type of one's own its operators decide if a result does not
+//! fit. No other crate can make a `Reason`, so no other crate calls them.
+
+use crate::guards::Reason;
+pub(crate) use native::Magnitudes;
 
 trait Integer {
     #[doc(hidden)]
     #[inline]
     #[track_caller]
     #[must_use]
-    fn exact_sum(self, other: Self, _reason: &'static str) -> Self {
+    fn exact_sum(self, other: Self, _reason: Reason) -> Self {
         self + other
     }
 
@@ -13,7 +17,7 @@ trait Integer {
     #[inline]
     #[track_caller]
     #[must_use]
-    fn exact_difference(self, other: Self, _reason: &'static str) -> Self {
+    fn exact_difference(self, other: Self, _reason: Reason) -> Self {
         self - other
     }
 
@@ -21,17 +25,17 @@ trait Integer {
     #[inline]
     #[track_caller]
     #[must_use]
-    fn exact_product(self, other: Self, _reason: &'static str) -> Self {
+    fn exact_product(self, other: Self, _reason: Reason) -> Self {
         self * other
     }
 
     #[doc(hidden)]
     #[inline]
     #[track_caller]
-    fn expect_pair(&self, _other: &Self) {}
+    fn expect_pair(&self, _other: &Self, _reason: Reason) {}
 
     #[doc(hidden)]
     #[inline]
     #[track_caller]
-    fn expect_lcm(&self, _other: &Self) {}
+    fn expect_lcm(&self, _other: &Self, _reason: Reason) {}
 }

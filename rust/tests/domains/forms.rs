@@ -279,6 +279,7 @@ fn models() {
         "no month has a number above 12",
     );
     let (limit, great_rank) = ("the limit is not positive", "the rank does not fit");
+    let number_of_parts = "the number of parts is not positive";
     panics! {
         PERIOD {
             schedules::next_meeting(0, (1, -2), (1, 3));
@@ -325,6 +326,11 @@ fn models() {
         limit {
             Ratio::default().limit_denominator(0);
             Ratio::from(5).limit_denominator(-1);
+        }
+        number_of_parts {
+            Ratio::from(5).floor_to(0);
+            Ratio::from(5).ceil_to(-1);
+            Ratio::from(5).round_to(i64::MIN);
         }
     }
     // The one call that is not tested: the place of a number in a slice that does not increase is some place.

@@ -150,6 +150,28 @@ fn limits() {
 }
 
 #[test]
+fn multiples_of_parts() {
+    for (num, den) in [(0, 1), (5, 3), (-5, 3), (7, 2), (-7, 2), (9, 4)] {
+        let ratio = Ratio::new(num, den).expect("the fraction is one");
+        for parts in [i64::MIN, -100, -1, 0, 1, 2, 3, 4, 5, 60, 1000] {
+            let (product, divisor) = (i128::from(num) * i128::from(parts), i128::from(den));
+            let below = exact::floor(product, divisor);
+            let above = exact::ceil(product, divisor);
+            let halves = exact::floor(2 * product.abs() + divisor, 2 * divisor);
+            let answer = |multiple: i128| {
+                let multiple = i64::try_from(multiple).ok().filter(|_| parts > 0)?;
+                Some(Ratio::new(multiple, parts))
+            };
+            let args = (num, den, parts);
+            check("floor_to", args, answer(below), || ratio.floor_to(parts));
+            check("ceil_to", args, answer(above), || ratio.ceil_to(parts));
+            let nearest = halves * product.signum();
+            check("round_to", args, answer(nearest), || ratio.round_to(parts));
+        }
+    }
+}
+
+#[test]
 fn windows() {
     for modulus in [0, 1, 2, 97, u64::MAX] {
         check(

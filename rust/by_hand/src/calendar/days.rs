@@ -3,7 +3,17 @@
 use crate::calendar::{days_between, Date};
 use core::iter::FusedIterator;
 
-/// An iterator over the dates from one on, to the one before another. [`Date::days_until`] makes it.
+/// An iterator over the dates from one on, to the one before another. [`Date::days_until`] makes
+/// it.
+///
+/// # Examples
+///
+/// ```
+/// use cellarcove::calendar::Date;
+///
+/// let (from, end) = (Date::new(2024, 2, 1).unwrap(), Date::new(2024, 3, 1).unwrap());
+/// assert_eq!(from.days_until(end).count(), 29);
+/// ```
 #[derive(Debug, Clone)]
 pub struct Days {
     next: Date,
@@ -11,8 +21,8 @@ pub struct Days {
 }
 
 impl Date {
-    /// Returns an iterator over the dates from this one on, to the one before `end`. It is empty if `end`
-    /// is not later than this date.
+    /// Returns an iterator over the dates from this one on, to the one before `end`. It is empty if
+    /// `end` is not later than this date.
     ///
     /// # Examples
     ///

@@ -1,0 +1,249 @@
+#!/usr/bin/env python3
+"""Calls all exports on random numbers, and compares what they return with the integers, the fractions and the dates of Python
+(by_python.py). The package `cellarcove` makes the calls, as it is installed: over arrays, with and without outputs, and of one
+number. Of those that it lacks the shared library makes them, if it is given.
+
+    fuzz.py [--seed N] [--minutes M] [--library libcellarcove_c.so]
+    fuzz.py --self-test
+
+It prints each call that is wrong, and at the end how many calls it made of how many exports. Its status is 1 if a call was
+wrong, or if by_python.py does not say what an export returns. The self-test wants of some calls what another returns, and each has
+to be found."""
+import argparse
+import array
+import ctypes
+import random
+import sys
+import time
+from fractions import Fraction
+
+import cellarcove
+
+from by_python import I64, PROPERTIES, RESULTS, U64
+from exports import EXPORTS
+from make_python import LETTERS, cells, public_calls, results
+
+COUNT = 200                                     # elements of an array
+ONE_BY_ONE = 8                                  # of them, which are called alone too
+RANGES = {'i64': I64, 'u64': U64, 'u32': (0, 2**32 - 1), 'u8': (0, 255)}
+MOST_SHOWN = 20
+C_TYPES = {'i64': ctypes.c_int64, 'u64': ctypes.c_uint64, 'u32': ctypes.c_uint32, 'i32': ctypes.c_int32, 'u8': ctypes.c_uint8,
+           'bool': ctypes.c_bool}
+
+
+class Wrong(Exception):
+    """A call returns something else than it should."""
+
+
+# ---- arguments
+
+def number(kind, width):
+    """A number of a type: most have as many bits as the width, and some are small, or beside an end of the type."""
+    low, high = RANGES[kind]
+    choice = random.random()
+    if choice < 0.25 or kind in ('u8', 'u32'):
+        found = random.randrange(-3 if low else 0, 70) if choice < 0.9 else random.randint(low, high)
+    elif choice < 0.4:
+        found = random.choice((low, high, 0, 2**31, 2**32, 2**63)) + random.randint(-2, 2)
+    else:
+        found = random.getrandbits(width) * random.choice((1, 1, -1))
+    return found if low <= found <= high else random.randint(low, high)
+
+
+def columns(call):
+    """Arrays of random numbers, one for each cell of a call."""
+    width = random.randint(1, 64)
+    return [array.array(LETTERS[kind], [number(kind, random.choice((width, 64))) for _ in range(COUNT)]) for kind in cells(call)]
+
+
+def grouped(call, numbers):
+    """The arguments that are made of the numbers of the cells: a number, or a tuple of those of a fraction or a date."""
+    place, found = 0, []
+    for parameter in call.parameters:
+        count = len(EXPORTS().leaves(parameter.kind))
+        found.append(numbers[place] if count == 1 else tuple(numbers[place:place + count]))
+        place += count
+    return found
+
+
+# ---- results
+
+def plain(result):
+    """The numbers of a result."""
+    if isinstance(result, Fraction):
+        return result.numerator, result.denominator
+    return tuple(result) if isinstance(result, tuple) else (int(result),)
+
+
+def judge(call, bounds, arguments, status, values):
+    """Raises if a call of these arguments does not return what it should. `values` is None if an error has the status."""
+    if call.name in PROPERTIES:
+        right = PROPERTIES[call.name](bounds, *arguments, status, values)
+        wanted = 'what it should be'
+    else:
+        wanted = RESULTS[call.name](bounds, *arguments)
+        right = status == wanted if isinstance(wanted, int) else status == 0 and values == wanted
+    if status and values is not None and any(values):
+        right, wanted = False, f'status {status} and zeros'
+    if not right:
+        raise Wrong(f'{call.symbol}{tuple(arguments)} is {values} with status {status}, and not {wanted}')
+
+
+def of_arrays(name, call):
+    """Calls of arrays."""
+    taken, outputs = columns(call), None
+    has_status = EXPORTS().has_status(call)
+    if random.random() < 0.3:
+        letters = [LETTERS[kind].replace('?', 'B') for _, kind in results(call)] + ['B'] * has_status
+        outputs = tuple(array.array(letter, [77]) * COUNT for letter in letters)
+    returned = getattr(cellarcove, name)(*grouped(call, taken), **({'out': outputs} if outputs else {}))
+    found = returned if isinstance(returned, tuple) else (returned,)
+    statuses = found[-1] if has_status else [0] * COUNT
+    bounds = RANGES.get(call.form, I64)
+    for numbers, status, values in zip(zip(*taken), statuses, zip(*found[:len(found) - has_status])):
+        judge(call, bounds, grouped(call, numbers), status, values)
+    return COUNT, taken
+
+
+def alone(name, forms, numbers):
+    """A call of numbers that are no arrays, by the form that fits them."""
+    arguments = grouped(forms[0], numbers)
+    two = len(forms) == 2
+    follows = [value for value, kinds in zip(numbers, zip(*map(cells, forms))) if two and kinds[0] != kinds[1]]
+    call = next(form for form in forms if not two or (form.form == 'i64') == any(value < 0 for value in follows))
+    if not all(RANGES[kind][0] <= value <= RANGES[kind][1] for value, kind in zip(numbers, cells(call))):
+        return 0
+    try:
+        status, values = 0, plain(getattr(cellarcove, name)(*arguments))
+    except cellarcove.Refused as refused:
+        status, values = int(refused.status), None
+    judge(call, RANGES.get(call.form, I64), arguments, status, values)
+    return 1
+
+
+def of_slice(name, forms):
+    """A call of a list of numbers, or of an array of them."""
+    call, width = random.choice(forms), random.randint(1, 64)
+    kind, common = call.parameters[0].kind[2:-1], random.choice((1, 1, 6, 2**20))
+    numbers = [number(kind, width) if random.random() < 0.2 else random.randrange(12) * common for _ in range(random.randrange(8))]
+    given = array.array(LETTERS[kind], numbers)
+    if random.random() < 0.5:
+        given = random.choice((numbers, iter(numbers)))
+        call = forms[-1] if min(numbers, default=0) >= 0 else call
+    try:
+        status, values = 0, plain(getattr(cellarcove, name)(given))
+    except cellarcove.Refused as refused:
+        status, values = int(refused.status), None
+    judge(call, RANGES[call.parameters[0].kind[2:-1]], [numbers], status, values)
+    return 1
+
+
+def of_package(name, forms):
+    """Some calls of the package, and how many."""
+    if forms[0].has_slice:
+        return sum(of_slice(name, forms) for _ in range(COUNT // 10))
+    done = 0
+    for call in forms:
+        count, taken = of_arrays(name, call)
+        done += count + sum(alone(name, forms, numbers) for numbers in list(zip(*taken))[:ONE_BY_ONE])
+    return done
+
+
+# ---- the calls that the package lacks
+
+def structure(kind):
+    """The type of a value in C."""
+    if kind in C_TYPES:
+        return C_TYPES[kind]
+    fields = [(field.name, structure(field.kind)) for field in EXPORTS().structs[kind].fields]
+    return type(kind, (ctypes.Structure,), {'_fields_': fields})
+
+
+def leaf(value, path):
+    for name in path.split('.')[1:]:
+        value = getattr(value, name)
+    return int(value)
+
+
+def of_library(call, kinds, function):
+    """Calls of a shared library."""
+    for _ in range(COUNT // 4):
+        width = random.randint(1, 64)
+        arguments = grouped(call, [number(kind, width) for kind in cells(call)])
+        result = function(*(kind(*value) if isinstance(value, tuple) else value for kind, value in zip(kinds, arguments)))
+        values = tuple(leaf(result, path) for path, _ in results(call))
+        judge(call, RANGES.get(call.form, I64), arguments, result.status, values)
+    return COUNT // 4
+
+
+def lacking(library):
+    """What calls the exports that the package lacks."""
+    known = {form.symbol for _, forms in public_calls() for form in forms}
+    for call in EXPORTS().calls:
+        if call.symbol not in known:
+            function, kinds = getattr(library, call.symbol), [structure(parameter.kind) for parameter in call.parameters]
+            function.argtypes, function.restype = kinds, structure(call.result)
+            yield lambda call=call, kinds=kinds, function=function: of_library(call, kinds, function)
+
+
+# ---- the run
+
+# Pairs of calls that differ at few arguments.
+EXCHANGED = (('div_floor', 'div_ceil'), ('average_floor', 'average_ceil'), ('gcd', 'lcm'), ('sum_modulo', 'difference_modulo'),
+             ('next_congruent', 'previous_congruent'), ('fraction_round', 'fraction_floor'), ('sqrt', 'cbrt'))
+
+
+def self_test():
+    """The number of exchanged calls that are not found."""
+    missed = 0
+    for name, other in EXCHANGED:
+        right, RESULTS[name] = RESULTS[name], RESULTS[other]
+        runner = [lambda name=name: of_package(name, dict(public_calls())[name])]
+        missed += run(1, 0, runner)[1] == 0
+        RESULTS[name] = right
+    print(f'{len(EXCHANGED)} exchanged calls: {missed} are not found')
+    return missed
+
+
+def run(seed, minutes, runners, shown=0):
+    """How many calls were made, and how many runs were wrong, of which the first are shown."""
+    random.seed(seed)
+    done, wrong, end = 0, 0, time.monotonic() + 60 * minutes
+    while True:
+        for runner in runners:
+            try:
+                done += runner()
+            except Wrong as error:
+                wrong += 1
+                if wrong <= shown:
+                    print(error)
+        if time.monotonic() >= end:
+            return done, wrong
+
+
+def main():
+    parser = argparse.ArgumentParser(description=__doc__, formatter_class=argparse.RawDescriptionHelpFormatter)
+    parser.add_argument('--seed', type=int, default=1)
+    parser.add_argument('--minutes', type=float, default=1)
+    parser.add_argument('--library')
+    parser.add_argument('--self-test', action='store_true')
+    options = parser.parse_args()
+    if options.self_test:
+        sys.exit(self_test() > 0)
+    unknown = sorted({call.name for call in EXPORTS().calls} - RESULTS.keys() - PROPERTIES.keys())
+    if unknown:
+        sys.exit(f'bindings/by_python.py does not say what these return: {", ".join(unknown)}')
+    runners = [lambda name=name, forms=forms: of_package(name, forms) for name, forms in public_calls()]
+    exports = sum(len(forms) for _, forms in public_calls())
+    if options.library:
+        others = list(lacking(ctypes.CDLL(options.library)))
+        runners, exports = runners + others, exports + len(others)
+    begin = time.monotonic()
+    done, wrong = run(options.seed, options.minutes, runners, MOST_SHOWN)
+    spent = (time.monotonic() - begin) / 60
+    print(f'seed {options.seed}: {done:,} calls of {exports} exports in {spent:.1f} minutes, {done / spent:,.0f} a minute; {wrong} runs are wrong')
+    sys.exit(wrong > 0)
+
+
+if __name__ == '__main__':
+    main()
