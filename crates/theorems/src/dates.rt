@@ -58,7 +58,7 @@ pub fn is_before(first: &Date, second: &Date) -> bool
     first < second
 }
 
-/// Dates are equal exactly where their days are.
+/// Dates are equal exactly if their days are.
 pub fn are_equal(first: &Date, second: &Date) -> bool
     ensures { IsTrue result ↔ (number_of first.now ≡ number_of second.now) }
 {
@@ -257,7 +257,7 @@ pub fn tomorrow(date: &Date) -> Date
     }
 }
 
-/// The previous date, where the year is not the least.
+/// The previous date, if the year is not the smallest.
 pub fn yesterday(date: &Date) -> Option<Date>
     ensures { MatchOption result (date.now.year ≡ i64.MIN)
         (λ d. number_of d ≡ number_of date.now -ℤ pos 1) }
@@ -289,7 +289,7 @@ pub fn month_later(date: &Date) -> Option<Date>
     }
 }
 
-/// The days between, or 0 where they do not fit.
+/// The number of days between, or 0 if it does not fit.
 pub fn nights(from: &Date, to: &Date) -> i64
     ensures { FitsSigned w64 (number_of to.now -ℤ number_of from.now)
         → result ≡ number_of to.now -ℤ number_of from.now }
@@ -320,7 +320,7 @@ pub fn labor_day(year: i64) -> Option<Date>
     }
 }
 
-/// The week of a date and its year, where the type has it.
+/// The week of a date and its year, if the year fits.
 pub fn week_of(date: &Date) -> Option<(i64, u8)>
     ensures { IfSome result (λ r. IsInIsoWeek (number_of date.now) r.0 r.1) }
 {
@@ -390,7 +390,7 @@ pub fn days_of_two_years(year: i64) -> Option<u16>
     Some(days_in_year(year) + days_in_year(next))
 }
 
-/// The age in months, where it fits.
+/// The age in months, if it fits.
 pub fn age_in_months(birth: &Date, today: &Date) -> Option<i64>
     ensures { IfSome result (λ months. HasMonths birth.now today.now months) }
 {
@@ -400,8 +400,8 @@ pub fn age_in_months(birth: &Date, today: &Date) -> Option<i64>
     }
 }
 
-/// The whole months from one date to another, below 0 where the second is earlier, or `None` where they
-/// do not fit `i64`.
+/// The whole months from one date to another, negative if the second is earlier, or `None` if they do not
+/// fit `i64`.
 pub fn months_old(birth: Date, today: Date) -> Option<i64>
     ensures { MatchOption result
         ((months : ℤ) × IsMonthsBetween birth today months × ¬ (FitsSigned w64 months))

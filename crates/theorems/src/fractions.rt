@@ -23,7 +23,7 @@ type ParseResult = Result<Ratio, ParseRatioError>;
 
 // ---- what follows from the contracts
 
-/// The parts of the exact result, and no others, or `None` where one of them is too wide.
+/// The parts of the exact result, and no others, or `None` if one of them does not fit.
 pub fn exact_parts(num: i64, den: i64) -> Option<(i64, i64)>
     requires { IsFraction num den }
     ensures parts { MatchOption result (IsOutsideI64 num den) (λ p. IsExact num den p.0 p.1) }
@@ -35,7 +35,7 @@ pub fn exact_parts(num: i64, den: i64) -> Option<(i64, i64)>
     }
 }
 
-/// The parts of a sum, or `None` where one of them is too wide.
+/// The parts of a sum, or `None` if one of them does not fit.
 pub fn parts_of_sum(x: &Ratio, y: &Ratio) -> Option<(i64, i64)>
     ensures { MatchOption result
         (IsOutsideI64 (num_of x.now *ℤ den_of y.now +ℤ num_of y.now *ℤ den_of x.now)
@@ -49,7 +49,7 @@ pub fn parts_of_sum(x: &Ratio, y: &Ratio) -> Option<(i64, i64)>
     }
 }
 
-/// Whether the fraction is a whole number, also where `Ratio::new` refuses it: MIN / -1 is one.
+/// Whether the fraction is an integer, also if `Ratio::new` returns an error for it: MIN / -1 is one.
 pub fn is_whole(num: i64, den: i64) -> bool
     requires { IsFraction num den }
     ensures { IsTrue result ↔ ((n d : ℤ) → IsExact num den n d → d ≡ pos 1) }
@@ -57,7 +57,7 @@ pub fn is_whole(num: i64, den: i64) -> bool
     num.is_multiple_of(&den)
 }
 
-/// One of `parts` equal parts of 1, which is never refused.
+/// One of `parts` equal parts of 1. It always fits.
 pub fn one_of(parts: u32) -> Ratio
     requires { parts ≢ 0 }
     ensures { IsExact (pos 1) (pos parts) (num_of result) (den_of result) }
@@ -65,7 +65,7 @@ pub fn one_of(parts: u32) -> Ratio
     Ratio::new(1, i64::from(parts)).unwrap()
 }
 
-/// The number as a fraction, which is never refused.
+/// The number as a fraction. It always fits.
 pub fn whole(number: i64) -> Ratio
     ensures num { num_of result ≡ number }
     ensures den { den_of result ≡ pos 1 }
@@ -97,7 +97,7 @@ pub fn of_equal(a: i64, b: i64, c: i64, d: i64) -> Result<Ratio, RatioError>
     Ratio::new(a, b)
 }
 
-/// The sum of the fractions `a / b` and `c / d`, where both fit.
+/// The sum of the fractions `a / b` and `c / d`, if both fit.
 pub fn sum_of_given(a: i64, b: i64, c: i64, d: i64) -> Result<Ratio, RatioError>
     requires first { IsFraction a b }
     requires second { IsFraction c d }
@@ -106,7 +106,7 @@ pub fn sum_of_given(a: i64, b: i64, c: i64, d: i64) -> Result<Ratio, RatioError>
     Ratio::new(a, b)?.checked_add(&Ratio::new(c, d)?)
 }
 
-/// The product of the fractions `a / b` and `c / d`, where both fit.
+/// The product of the fractions `a / b` and `c / d`, if both fit.
 pub fn product_of_given(a: i64, b: i64, c: i64, d: i64) -> Result<Ratio, RatioError>
     requires first { IsFraction a b }
     requires second { IsFraction c d }
@@ -122,7 +122,7 @@ pub fn reduced_parts(x: &Ratio) -> (i64, i64)
     (x.num(), x.den())
 }
 
-/// Two values are equal where their fractions are.
+/// Two values are equal if their fractions are.
 pub fn are_equal(x: &Ratio, y: &Ratio) -> bool
     ensures { IsTrue result
         ↔ AreEqual (num_of x.now) (den_of x.now) (num_of y.now) (den_of y.now) }
@@ -138,7 +138,7 @@ pub fn compared(x: &Ratio, y: &Ratio) -> Ordering
     x.cmp(y)
 }
 
-/// Whether three ascend, where the first is below the last.
+/// Whether three numbers ascend, if the first is below the last.
 pub fn ascend(x: &Ratio, y: &Ratio, z: &Ratio) -> bool
     ensures { IsTrue result → fraction_cmp (num_of x.now) (den_of x.now) (num_of z.now)
         (den_of z.now) ≡ Ordering.Less }
@@ -256,7 +256,7 @@ pub fn refusal(num: i64, den: i64) -> u32
     }
 }
 
-/// The parts of a difference, or `None` where one of them is too wide.
+/// The parts of a difference, or `None` if one of them does not fit.
 pub fn parts_of_difference(x: &Ratio, y: &Ratio) -> Option<(i64, i64)>
     ensures { MatchOption result
         (IsOutsideI64 (num_of x.now *ℤ den_of y.now -ℤ num_of y.now *ℤ den_of x.now)
@@ -292,7 +292,7 @@ pub fn quotient_or_zero(x: &Ratio, y: &Ratio) -> Result<Ratio, RatioError>
     }
 }
 
-/// The negation, where it fits.
+/// The negation, if it fits.
 pub fn negation(x: &Ratio) -> Option<Ratio>
     ensures { MatchOption result (IsOutsideI64 (neg_ℤ (num_of x.now)) (den_of x.now))
         (λ r. IsExact (neg_ℤ (num_of x.now)) (den_of x.now) (num_of r) (den_of r)) }
@@ -303,7 +303,7 @@ pub fn negation(x: &Ratio) -> Option<Ratio>
     }
 }
 
-/// The magnitude, where it fits.
+/// The magnitude, if it fits.
 pub fn magnitude(x: &Ratio) -> Option<Ratio>
     ensures { IfSome result (λ r. IsExact (pos (unsigned_abs (num_of x.now))) (den_of x.now) (num_of r)
         (den_of r)) }
@@ -315,7 +315,7 @@ pub fn magnitude(x: &Ratio) -> Option<Ratio>
     }
 }
 
-/// The reciprocal, or what refuses it.
+/// The reciprocal, or its error.
 pub fn reciprocal(x: &Ratio) -> Result<Ratio, RatioError>
     ensures { IfOk result (λ r. IsExact (den_of x.now) (num_of x.now) (num_of r) (den_of r)) }
 {
@@ -323,7 +323,7 @@ pub fn reciprocal(x: &Ratio) -> Result<Ratio, RatioError>
     Ok(reciprocal)
 }
 
-/// The square, or `None` where a part of it is too wide.
+/// The square, or `None` if a part of it does not fit.
 pub fn square(x: &Ratio) -> Option<Ratio>
     ensures { MatchOption result
         (IsOutsideI64 (int_pow (num_of x.now) 2) (int_pow (den_of x.now) 2))
@@ -335,7 +335,7 @@ pub fn square(x: &Ratio) -> Option<Ratio>
     }
 }
 
-/// The sum of the fractions, where each sum on the way fits.
+/// The sum of the fractions, if each sum on the way fits.
 pub fn total(fractions: &[Ratio]) -> Result<Ratio, RatioError>
     ensures { result ≢ Err RatioError.ZeroDenominator }
 {
@@ -346,7 +346,7 @@ pub fn total(fractions: &[Ratio]) -> Result<Ratio, RatioError>
     Ok(total)
 }
 
-/// The fraction that a text spells, or 0 where it spells none.
+/// The fraction that a string spells, or 0 if it spells no fraction.
 pub fn read_or_zero(text: &str) -> Result<Ratio, ParseRatioError>
     ensures { result ≢ Err ParseRatioError.NotAFraction }
 {
@@ -356,7 +356,7 @@ pub fn read_or_zero(text: &str) -> Result<Ratio, ParseRatioError>
     }
 }
 
-// ---- calls that are not refused
+// ---- calls that return no error
 
 /// The negation of a fraction whose numerator is above MIN.
 pub fn negation_above_least(x: &Ratio) -> Ratio
@@ -378,7 +378,7 @@ pub fn magnitude_above_least(x: &Ratio) -> Result<Ratio, RatioError>
     Ok(magnitude)
 }
 
-/// The reciprocal of a fraction above 0.
+/// The reciprocal of a positive fraction.
 pub fn reciprocal_of_positive(x: &Ratio) -> Ratio
     ensures { pos 0 <ℤ num_of x.now → IsExact (den_of x.now) (num_of x.now) (num_of result) (den_of result) }
 {
@@ -421,7 +421,7 @@ pub fn reduced_resolution(width: u32, height: u32) -> Ratio
 
 // ---- whole numbers times a fraction
 
-/// What of an amount is a share of it, rounded down and up, or `None` where one of them does not fit.
+/// A share of an amount, rounded down and up, or `None` if one of the two does not fit.
 pub fn portion(share: &Ratio, amount: i64) -> Option<(i64, i64)>
     ensures { IfSome result
         (λ p. IsQuotient IsFloored (num_of share.now *ℤ amount) (den_of share.now) p.0

@@ -1,5 +1,5 @@
 //! The promises of the whole. Each function here states one: its clauses are the promise in full, and its
-//! body makes the call that keeps it. The prover has checked each for every argument.
+//! code makes the call that keeps it. The prover has checked each for every argument.
 //!
 //! | promise | function |
 //! |---|---|
@@ -21,7 +21,7 @@
 //! | the loop of a pair makes at most as many turns as Lamé's theorem says | [`turns_for_bezout_pair`] |
 //! | 2 to the power of the turns for a coefficient is at most the coefficient | [`turns_for_binomial`] |
 //! | a fraction is reduced | [`parts_of_fraction`] |
-//! | it is refused only if its reduced form does not fit, or its denominator is 0 | [`fraction`], [`sum_of_fractions`], [`difference_of_fractions`], [`product_of_fractions`], [`quotient_of_fractions`] |
+//! | it is an error only if its reduced form does not fit, or its denominator is 0 | [`fraction`], [`sum_of_fractions`], [`difference_of_fractions`], [`product_of_fractions`], [`quotient_of_fractions`] |
 //! | its rounding and its order are those of the definitions | [`floor_and_ceil_of_fraction`], [`order_of_fractions`] |
 //! | a call of the program has the outcome of the definition | [`outcome`] |
 //!
@@ -69,7 +69,7 @@ use ratio64::{Ratio, RatioError};
 use std::alloc::{AllocError, Global};
 use std::cmp::Ordering;
 
-/// A root is exact, at every degree. For `x` at least 0 it is the `r` at least 0 whose power of degree `n`
+/// A root is exact, at every degree. If `x` is not negative, it is the `r`, not negative, whose power of degree `n`
 /// is at most `x`, while that of `r + 1` is above `x`. For a negative `x` it is minus the root of `-x`.
 pub fn root<T: Roots>(x: T, n: u32) -> T
     requires in_range { T.fits (T.value x) }
@@ -301,7 +301,7 @@ pub fn quotients<T: Integer>(n: T, d: T) -> (T, T)
     (div_floor(n, d), div_ceil(n, d))
 }
 
-/// The quotients at `i64`. Only that of the least number by -1 does not fit.
+/// The quotients at `i64`. Only that of the smallest number by -1 does not fit.
 pub fn quotients_of_i64(n: i64, d: i64) -> (i64, i64)
     requires nonzero { d ≢ pos 0 }
     requires quotients_fit { EachKind (λ Kind. EachFits (FitsSigned w64) (IsQuotient Kind n d)) }
@@ -580,7 +580,7 @@ pub fn turns_for_binomial_of_u64(n: u64, k: u64) -> (u64, u32)
     binomial_counted(n, k)
 }
 
-/// A fraction is reduced: its denominator is above 0, and the gcd of its parts is 1.
+/// A fraction is reduced: its denominator is positive, and the gcd of its parts is 1.
 pub fn parts_of_fraction(x: &Ratio) -> (i64, i64)
     ensures num { result.0 ≡ num_of x.now }
     ensures den { result.1 ≡ den_of x.now }
@@ -589,8 +589,8 @@ pub fn parts_of_fraction(x: &Ratio) -> (i64, i64)
     (x.num(), x.den())
 }
 
-/// `Ratio::new` gives the reduced fraction that is equal to `num / den`. It refuses a denominator 0, and
-/// else only a fraction that has a part outside `i64` once it is reduced.
+/// `Ratio::new` gives the reduced fraction that is equal to `num / den`. It returns an error for a
+/// denominator 0, and for a fraction that has a part outside `i64` once it is reduced.
 pub fn fraction(num: i64, den: i64) -> Result<Ratio, RatioError>
     ensures exact { IfOk result (λ x. IsExact num den (num_of x) (den_of x)) }
     ensures zero_denominator { (result ≡ Err RatioError.ZeroDenominator) ↔ (den ≡ pos 0) }
@@ -599,7 +599,7 @@ pub fn fraction(num: i64, den: i64) -> Result<Ratio, RatioError>
     Ratio::new(num, den)
 }
 
-/// A sum is the exact result, and is refused only if a part of that lies outside `i64`.
+/// A sum is the exact result, and an error only if a part of that does not fit `i64`.
 pub fn sum_of_fractions(x: &Ratio, y: &Ratio) -> Result<Ratio, RatioError>
     ensures exact { AnswersFraction
         (num_of x.now *ℤ den_of y.now +ℤ num_of y.now *ℤ den_of x.now)
@@ -628,7 +628,7 @@ pub fn product_of_fractions(x: &Ratio, y: &Ratio) -> Result<Ratio, RatioError>
     x.checked_mul(y)
 }
 
-/// So is a quotient, which is refused for a divisor 0 too.
+/// So is a quotient, which is an error for a divisor 0 too.
 pub fn quotient_of_fractions(x: &Ratio, y: &Ratio) -> Result<Ratio, RatioError>
     ensures exact { AnswersFraction (num_of x.now *ℤ den_of y.now)
         (num_of y.now *ℤ den_of x.now) result }
@@ -655,7 +655,7 @@ pub fn order_of_fractions(x: &Ratio, y: &Ratio) -> Ordering
 }
 
 /// The outcome of a call at a kind is that of the definition: the first refusal whose condition holds,
-/// and if none holds, the numbers of the answer.
+/// or else the numbers of the result.
 pub fn outcome(kind: Kind, call: Call) -> Result<Answer, Refusal>
     ensures defined { Outcome kind call result }
 {

@@ -1,4 +1,4 @@
-//! The laws of the definitions: what follows from them alone, whatever a body does. Each law of a `specs/Laws.antt` is a clause here,
+//! The laws of the definitions: what follows from them alone, whatever an implementation does. Each law of a `specs/Laws.antt` is a clause here,
 //! one function a library.
 
 ghost use Rattle.std.specs.Prelude.{ℤ};

@@ -1,7 +1,7 @@
 //! What is proved of the libraries: each public function states a theorem.
 //!
 //! The theorem is the contract. Where the clauses of `requires` hold, a call returns, and the clauses of `ensures` hold of what
-//! it returns. The gate proves each body against its contract, for every argument. So the body shows how the call is written, and
+//! it returns. The gate proves each function for every argument. So its code shows how the call is written, and
 //! the clauses say what the caller then knows. A clause is about whole numbers: the number of `a` is `pos a` at `u64`, `a` at
 //! `i64`, and `T.value a` at a type parameter. `rt lemma WORD` prints the definition of each word.
 //!

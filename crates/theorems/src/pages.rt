@@ -38,7 +38,7 @@ pub fn item_of_ten(page: i64, place: i64) -> Option<i64>
     Some(item)
 }
 
-/// The item at a place of a page of sixteen, or the greatest number.
+/// The item at a place of a page of sixteen, or the largest number if it does not fit.
 pub fn item_up_to_the_greatest(page: u8, place: u8) -> u8
     requires { place < 16 }
     ensures { result ≡ min (page * 16 + place) u8.MAX }
@@ -49,7 +49,7 @@ pub fn item_up_to_the_greatest(page: u8, place: u8) -> u8
     }
 }
 
-/// The item at a place of a page of sixteen, where there are at most sixteen pages.
+/// The item at a place of a page of sixteen, if there are at most sixteen pages.
 pub fn item_of_few(page: u8, place: u8) -> u8
     requires page { page < 16 }
     requires place { place < 16 }
@@ -60,7 +60,7 @@ pub fn item_of_few(page: u8, place: u8) -> u8
 
 // ---- offsets and schedules
 
-/// The aligned offset, or the offset itself where that is beyond the type.
+/// The aligned offset, or the offset itself if the aligned one does not fit.
 pub fn aligned(offset: u32, alignment: u32) -> u32
     requires { 0 < alignment }
     ensures { pos offset ≤ℤ pos result }
@@ -85,7 +85,7 @@ pub fn wait(now: u32, first: Schedule<u32>, second: Schedule<u32>) -> Option<(u3
     }
 }
 
-/// The next day from `now` on that lies on each schedule, or `None` where no such day fits `i64`.
+/// The next day from `now` on that is on each schedule, or `None` if no such day fits `i64`.
 pub fn next_shift(now: i64, schedules: &[Schedule<i64>]) -> Option<i64>
     requires in_range { All (λ s. FitsSigned w64 s.0 × FitsSigned w64 s.1) schedules.now }
     requires positive { All (λ s. pos 0 <ℤ s.1) schedules.now }
@@ -115,7 +115,7 @@ pub fn rank_of_read(numbers: &[u64], n: u64) -> Option<u64>
     }
 }
 
-/// The rank of a choice, where the number of all choices of its length fits.
+/// The rank of a choice, if the number of all choices of its length fits.
 pub fn rank_of_counted(numbers: &[u64], n: u64) -> Option<u64>
     ensures { IfSome result (λ r. r ≡ rank_of numbers.now) }
 {
@@ -127,7 +127,7 @@ pub fn rank_of_counted(numbers: &[u64], n: u64) -> Option<u64>
     }
 }
 
-/// The rank of numbers that are known to be a choice, where the number of choices of their length fits.
+/// The rank of numbers that are known to be a choice, if the number of choices of their length fits.
 pub fn rank_of_known(numbers: &[u64], n: u64) -> u64
     requires choice { IsChoice n numbers.now }
     requires count_fits { coefficient n (length numbers.now) < 2 ^ 64 }
@@ -160,7 +160,7 @@ pub fn number_of_read(numbers: &[u64]) -> Option<u64>
     }
 }
 
-/// The choice two ranks on, where there is one.
+/// The choice two ranks on, if there is one.
 pub fn two_further(choice: &mut [u64], n: u64) -> bool
     requires { IsChoice n choice.old }
     ensures choice { IsChoice n choice.new }

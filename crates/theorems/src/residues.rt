@@ -102,7 +102,7 @@ pub fn hour_after(hour: i64, hours: i64) -> i64
 
 // ---- results that a caller matches on or loops over, with no proof file
 
-/// The inverse, which is below the modulus, or the modulus where there is none.
+/// The inverse, which is below the modulus, or the modulus if there is no inverse.
 pub fn inverse_or_modulus(a: u64, m: u64) -> u64
     requires { 0 < m }
     ensures inverse { result < m → IsInverse (pos a) (pos m) (pos result) }
@@ -114,7 +114,7 @@ pub fn inverse_or_modulus(a: u64, m: u64) -> u64
     }
 }
 
-/// The quotient, where the divisor has an inverse.
+/// The quotient, if the divisor has an inverse.
 pub fn quotient(a: i64, b: i64, m: i64) -> Option<i64>
     requires { pos 0 <ℤ m }
     ensures { MatchOption result ((x : ℤ) → ¬ (IsInverse b m x)) (λ x. IsQuotientModulo a b m x) }
@@ -122,7 +122,7 @@ pub fn quotient(a: i64, b: i64, m: i64) -> Option<i64>
     quotient_modulo(a, b, m)
 }
 
-/// The first solution and the step to the next, where there is one.
+/// The first solution and the step to the next, if there is one.
 pub fn class_of_solutions(a: i64, b: i64, m: i64) -> Option<(i64, i64)>
     requires { pos 0 <ℤ m }
     ensures { MatchOption result ((x : ℤ) → ¬ (Solves a b m x))
@@ -131,7 +131,7 @@ pub fn class_of_solutions(a: i64, b: i64, m: i64) -> Option<(i64, i64)>
     solutions(a, b, m)
 }
 
-/// The numbers that solve both congruences, where the common multiple fits.
+/// The numbers that solve both congruences, if the common multiple fits.
 pub fn both(a: i64, m: i64, b: i64, n: i64) -> Option<(i64, i64)>
     requires m_positive { pos 0 <ℤ m }
     requires n_positive { pos 0 <ℤ n }
@@ -156,7 +156,7 @@ pub fn next_time(now: u64, first: u64, period: u64) -> u64
     }
 }
 
-/// The next number that solves both, where there is one in the type.
+/// The next number that solves both, if the type has one.
 pub fn next_of_both(from: i64, a: i64, m: i64, b: i64, n: i64) -> Option<i64>
     requires m_positive { pos 0 <ℤ m }
     requires n_positive { pos 0 <ℤ n }
@@ -168,7 +168,7 @@ pub fn next_of_both(from: i64, a: i64, m: i64, b: i64, n: i64) -> Option<i64>
     }
 }
 
-/// The last time up to now, or 0 where there is none.
+/// The last time up to now, or 0 if there is no such time.
 pub fn time_before(now: u64, first: u64, period: u64) -> u64
     requires { 0 < period }
     ensures { pos result ≤ℤ pos now }
@@ -187,7 +187,7 @@ pub fn times_between(from: i64, to: i64, first: i64, period: i64) -> Option<i64>
     count_congruent(from, to, first, period)
 }
 
-/// The next number that solves each of signed congruences, where there is one in the type.
+/// The next number that solves each of signed congruences, if the type has one.
 pub fn next_of_each(from: i64, congruences: &[(i64, i64)]) -> Option<i64>
     requires in_range { All (λ c. FitsSigned w64 c.0 × FitsSigned w64 c.1) congruences.now }
     requires positive { All (λ c. pos 0 <ℤ c.1) congruences.now }

@@ -1,4 +1,4 @@
-//! Calls of `num_integer::checked` at native types, as a program writes them where it knows nothing of its numbers.
+//! Calls of `num_integer::checked` at native types, as a program writes them if it knows nothing of its numbers.
 
 ghost use Rattle.std.specs.Prelude.{◌≡◌, ◌≢◌, ◌⊎◌, ◌<◌, ◌%◌, ◌^◌, ◌<ℤ◌, ◌+ℤ◌, FitsSigned, IfSome, MatchOption, map, pos};
 ghost use Rattle.std.specs.Int.{FitsUnsignedBits, w64};
@@ -14,7 +14,7 @@ ghost use Rattle.num_integer.specs.Row.{RowFits, row_of};
 
 use num_integer::{ExtendedGcd, IterBinomial, checked};
 
-/// The quotient rounded down, or `None` for a divisor 0 and for the least number by -1.
+/// The quotient rounded down, or `None` for a divisor 0 and for the smallest number by -1.
 pub fn floored_quotient(n: i64, d: i64) -> Option<i64>
     ensures { MatchOption result
         (¬ ((d ≢ pos 0) × EachFits (FitsSigned w64) (IsQuotient IsFloored n d)))
@@ -33,7 +33,7 @@ pub fn floored_remainder(n: i64, d: i64) -> Option<i64>
     checked::mod_floor(n, d)
 }
 
-/// The next multiple, or `None` for a divisor 0 and where the multiple is beyond the type.
+/// The next multiple, or `None` for a divisor 0 and if the multiple does not fit.
 pub fn next_multiple(n: u64, d: u64) -> Option<u64>
     ensures { MatchOption result
         (¬ ((d ≢ 0) × EachFits (FitsUnsignedBits 64) (IsMultiple IsCeiled (pos n) (pos d))))
@@ -58,7 +58,7 @@ pub fn bezout_pair(m: i64, n: i64) -> Option<ExtendedGcd<i64>>
     checked::extended_gcd(m, n)
 }
 
-/// The same at a type without negative numbers, which has a pair where one number divides the other.
+/// The same at an unsigned type, which has a pair if one number divides the other.
 pub fn natural_bezout_pair(a: u64, b: u64) -> Option<ExtendedGcd<u64>>
     ensures { MatchOption result
         (¬ (Divides (pos b) (pos a)) × ¬ (Divides (pos a) (pos b)))
@@ -75,14 +75,14 @@ pub fn root(x: i64, degree: u32) -> Option<i64>
     checked::nth_root(x, degree)
 }
 
-/// The choices of `k` out of `n`, or `None` where they are more than the type counts.
+/// The number of choices of `k` out of `n`, or `None` if it does not fit.
 pub fn choices(n: u64, k: u64) -> Option<u64>
     ensures { MatchOption result (¬ (coefficient n k < 2 ^ 64)) (λ c. c ≡ coefficient n k) }
 {
     checked::binomial(n, k)
 }
 
-/// The orders of things of these counts, or `None` where the type does not count them.
+/// The number of orders of things of these counts, or `None` if it does not fit.
 pub fn orders(counts: &[u64]) -> Option<u64>
     ensures { MatchOption result
         (¬ (EachFits (FitsUnsignedBits 64) (IsMultinomial (map (λ x. pos x) counts.now))))
@@ -91,8 +91,8 @@ pub fn orders(counts: &[u64]) -> Option<u64>
     checked::multinomial(counts)
 }
 
-/// The same of signed counts, or `None` where one is negative. The items of a signed slice are asked to
-/// be in the type; the prover knows this of an unsigned one.
+/// The same of signed counts, or `None` if one is negative. The items of a signed slice are required
+/// to be in range. The prover knows this of an unsigned one.
 pub fn signed_orders(counts: &[i64]) -> Option<i64>
     requires { All (FitsSigned w64) counts.now }
     ensures { IfSome result (λ m. IsMultinomial (map (λ x. x) counts.now) m) }
@@ -100,7 +100,7 @@ pub fn signed_orders(counts: &[i64]) -> Option<i64>
     checked::multinomial(counts)
 }
 
-/// The row of Pascal's triangle, or `None` where the type does not hold it.
+/// The row of Pascal's triangle, or `None` if an item does not fit.
 pub fn row(n: u64) -> Option<IterBinomial<u64>>
     ensures { MatchOption result (¬ (RowFits (FitsUnsignedBits 64) (pos n)))
         (λ r. r ≡ row_of (pos n)) }
@@ -108,7 +108,7 @@ pub fn row(n: u64) -> Option<IterBinomial<u64>>
     checked::row(n)
 }
 
-/// The sum, or `None` where it is beyond the type.
+/// The sum, or `None` if it does not fit.
 pub fn sum(a: i64, b: i64) -> Option<i64>
     ensures { MatchOption result (¬ (FitsSigned w64 (a +ℤ b))) (λ s. s ≡ a +ℤ b) }
 {

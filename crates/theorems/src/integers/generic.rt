@@ -46,7 +46,7 @@ pub fn floored_parts<T: Integer>(n: T, d: T) -> (T, T)
     (div_floor(n, d), mod_floor(n, d))
 }
 
-/// By a number above 0 each gcd and each quotient fits.
+/// Each gcd with a positive number and each quotient by one fits.
 pub fn by_positive(a: i64, b: i64) -> (bool, bool)
     requires { pos 0 <ℤ b }
     ensures gcd { IsTrue result.0 }
@@ -77,7 +77,7 @@ pub fn floored_twice<T: Integer>(n: T, d: T) -> (T, T)
     (div_floor(n, d), div_mod_floor(n, d).0)
 }
 
-/// The Bezout pair is the same with its turns.
+/// The call that counts the turns returns the same Bezout pair.
 pub fn pair_with_turns<T: Integer>(a: T, b: T) -> (ExtendedGcd<T>, ExtendedGcd<T>)
     requires a_in_range { T.fits (T.value a) }
     requires b_in_range { T.fits (T.value b) }
@@ -138,7 +138,7 @@ pub fn signed_row(alloc: Global, n: i8) -> Result<Vec<i8>, AllocError>
     row(alloc, n)
 }
 
-/// Once the list is empty, `next` answers `None` for good.
+/// Once the list is empty, `next` always returns `None`.
 pub fn none_for_good<T: Integer>(rest: &mut IterBinomial<T>) -> (Option<T>, Option<T>)
     requires { rest.old ≡ [] }
     ensures first { result.0 ≡ None }

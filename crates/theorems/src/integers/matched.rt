@@ -41,7 +41,7 @@ pub fn rounded_down(n: u64, d: u64) -> u64
     }
 }
 
-/// One more, up to the greatest number.
+/// One more, or the number itself if it is the largest.
 pub fn next(x: u8) -> u8
     ensures below { x < 255 → pos result ≡ pos x +ℤ pos 1 }
     ensures greatest { x ≡ 255 → result ≡ 255 }
@@ -52,7 +52,7 @@ pub fn next(x: u8) -> u8
     }
 }
 
-/// One less, down to the least number.
+/// One less, or the number itself if it is the smallest.
 pub fn previous(x: i64) -> i64
     ensures above { i64.MIN <ℤ x → result ≡ x -ℤ pos 1 }
     ensures least { x ≡ i64.MIN → result ≡ x }
@@ -63,7 +63,7 @@ pub fn previous(x: i64) -> i64
     }
 }
 
-/// The greatest common divisor with a number above 0, which is there.
+/// The greatest common divisor with a positive number. It always fits.
 pub fn divisor_with_positive(a: i64, b: i64) -> i64
     requires { pos 0 <ℤ b }
     ensures { IsGreatestCommonDivisor a b result }
@@ -74,7 +74,7 @@ pub fn divisor_with_positive(a: i64, b: i64) -> i64
     divisor
 }
 
-/// The quotient by a number above 0, rounded down, which is there.
+/// The quotient by a positive number, rounded down. It always fits.
 pub fn floored_by_positive(n: i64, d: i64) -> i64
     requires { pos 0 <ℤ d }
     ensures { IsQuotient IsFloored n d result }
@@ -85,7 +85,7 @@ pub fn floored_by_positive(n: i64, d: i64) -> i64
     }
 }
 
-/// The page of an item and its place there, which are there too.
+/// The page of an item and its place on the page. They always fit.
 pub fn page_and_place(n: i64, d: i64) -> (i64, i64)
     requires { pos 0 <ℤ d }
     ensures { IsFloored n d result.0 result.1 }
@@ -122,7 +122,7 @@ pub fn pair_and_multiple(a: i64, b: i64) -> Option<(ExtendedGcd<i64>, i64)>
     checked::extended_gcd_lcm(a, b)
 }
 
-/// The square root, or -1 below 0.
+/// The square root, or -1 if the number is negative.
 pub fn root_or_less(x: i64) -> i64
     ensures root { pos 0 ≤ℤ x → IsRoot x 2 result }
     ensures less { x <ℤ pos 0 → result ≡ neg_ℤ (pos 1) }
@@ -133,7 +133,7 @@ pub fn root_or_less(x: i64) -> i64
     }
 }
 
-/// The distance down to a lesser number, and 0 to any other.
+/// The distance down to a smaller number, and 0 to any other.
 pub fn distance_down(a: u64, b: u64) -> u64
     ensures { result ≡ a - b }
 {
@@ -143,7 +143,7 @@ pub fn distance_down(a: u64, b: u64) -> u64
     }
 }
 
-/// The product, or the greatest number.
+/// The product, or the largest number if it does not fit.
 pub fn product_up_to_the_greatest(a: u32, b: u32) -> u32
     ensures { result ≡ min (a * b) u32.MAX }
 {
@@ -153,7 +153,7 @@ pub fn product_up_to_the_greatest(a: u32, b: u32) -> u32
     }
 }
 
-/// The negation, or the greatest number.
+/// The negation, or the largest number if it does not fit.
 pub fn negation_up_to_the_greatest(x: i8) -> i8
     ensures { i8.MIN <ℤ x → result ≡ neg_ℤ x }
 {
@@ -171,7 +171,7 @@ pub fn divisor_and_turns(a: u64, b: u64) -> (u64, u32)
     a.gcd_counted(&b)
 }
 
-/// The pair of a number and one above 0, and the turns.
+/// The pair of a number and a positive one, and the turns.
 pub fn pair_and_turns(a: i64, b: i64) -> (ExtendedGcd<i64>, u32)
     requires { pos 0 <ℤ b }
     ensures { IsBezoutAnswer a b result.0.gcd result.0.x result.0.y }
@@ -187,7 +187,7 @@ pub fn root_and_turns(x: u64) -> (u64, u32)
     x.sqrt_counted()
 }
 
-/// The choices and the turns, where the type counts them.
+/// The number of choices and the turns, if the number fits.
 pub fn choices_and_turns(n: u64, k: u64) -> (u64, u32)
     requires { coefficient n k < 2 ^ 64 }
     ensures choices { result.0 ≡ coefficient n k }
@@ -196,7 +196,7 @@ pub fn choices_and_turns(n: u64, k: u64) -> (u64, u32)
     binomial_counted(n, k)
 }
 
-/// The share of an amount at a rate, rounded down, where it fits; the product need not.
+/// The share of an amount at a rate, rounded down, if it fits. The product need not fit.
 pub fn share(amount: i64, rate: i64, whole: i64) -> Option<i64>
     ensures { IfSome result (λ q. IsQuotient IsFloored (amount *ℤ rate) whole q) }
 {

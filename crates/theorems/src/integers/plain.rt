@@ -12,7 +12,7 @@ ghost use Rattle.num_integer.specs.Row.{row_of};
 
 use num_integer::{ExtendedGcd, Fits, Integer, IterBinomial, Roots, binomial, checked, lcm};
 
-/// By a number above 0 each quotient fits.
+/// Each quotient by a positive number fits.
 pub fn quotient_by_positive(n: i64, d: i64) -> i64
     requires { pos 0 <ℤ d }
     ensures { IsQuotient IsFloored n d result }
@@ -43,7 +43,7 @@ pub fn previous_multiple(n: u64, d: u64) -> u64
     n.prev_multiple_of(&d)
 }
 
-/// The divisor that a number has in common with a number above 0 fits.
+/// The greatest common divisor of a number and a positive number fits.
 pub fn common_divisor_with_positive(m: i64, n: i64) -> i64
     requires { pos 0 <ℤ n }
     ensures { IsGreatestCommonDivisor m n result }
@@ -58,7 +58,7 @@ pub fn natural_common_divisor(a: u64, b: u64) -> u64
     a.gcd(&b)
 }
 
-/// Beside a number above 0 the pair of coefficients is there too.
+/// A number and a positive number have a Bezout pair.
 pub fn pair_with_positive(m: i64, n: i64) -> ExtendedGcd<i64>
     requires { pos 0 <ℤ n }
     ensures { IsBezoutAnswer m n result.gcd result.x result.y }
@@ -89,7 +89,7 @@ pub fn common_multiple_in_twice_the_bits(m: u32, n: u32) -> u64
     u64::from(m).lcm(&u64::from(n))
 }
 
-/// A multiple of two literals fits where the one that the prover computes does.
+/// The least common multiple of two literals fits if the one that the prover computes fits.
 pub fn common_multiple_of_literals() -> u8
     ensures { IsLeastCommonMultiple (pos 200) (pos 50) (pos result) }
 {
@@ -199,7 +199,7 @@ pub fn moon_sum(year: i64) -> i64
     19 * golden + century + leap + 15
 }
 
-/// The side of the greatest square of at most `tiles` tiles.
+/// The side of the largest square of at most `tiles` tiles.
 #[tactic(auto, using(num_integer::proofs::ForCallers::root_by_squares))]
 pub fn side_of_square(tiles: u64) -> u64
     ensures enough { result * result ≤ tiles }
@@ -208,7 +208,7 @@ pub fn side_of_square(tiles: u64) -> u64
     tiles.sqrt()
 }
 
-/// The greatest tile that fills both sides of a room, none of which is above 100.
+/// The side of the largest tile that fills both sides of a room. Each side is at most 100.
 pub fn tile(width: u64, length: u64) -> u64
     requires width { width ≤ 100 }
     requires length { length ≤ 100 }
@@ -217,8 +217,8 @@ pub fn tile(width: u64, length: u64) -> u64
     width.gcd(&length)
 }
 
-/// After how many turns of each two gears are where they began, or `None` where their number is beyond the
-/// type.
+/// After how many turns of each two gears are where they began, or `None` if the common multiple of their teeth
+/// does not fit.
 pub fn turns(a: u32, b: u32) -> Option<(u32, u32)>
     requires a { 0 < a }
     requires b { 0 < b }
