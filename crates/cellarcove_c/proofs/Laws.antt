@@ -1,5 +1,5 @@
 -- The laws of specs/Laws.antt, a lemma each.
-use Rattle.std.specs.Prelude.{◌≡◌, ℕ, ℤ, FitsSigned, Some, None, Ok, Err}
+use Rattle.std.specs.Prelude.{◌≡◌, ℕ, ℤ, zero, suc, FitsSigned, Some, None, Ok, Err}
 use Rattle.std.specs.Int.{w64}
 use Rattle.std.specs.declared.cmp.Ordering.TheVariants.{Equal, Greater, Less}
 use Rattle.std.proofs.Common.{◌∙◌, ap, arith, inl, inr, refl, subst, sym}
@@ -10,7 +10,7 @@ use Rattle.calendar.specs.declared.date.Date.{Date}
 use Rattle.calendar.proofs.ForCallers.{same_month}
 use Rattle.calendar.proofs.Laws.{date_is_only}
 use Rattle.calendar.proofs.Laws.{months_between_is_only as whole_months_are_only}
-use Rattle.cellarcove_c.specs.Laws.{MonthsBetweenIsOnly, MonthsLaterIsOnly, OnBothIsOnly, OrderNumberIsOnly, ReasonIsOnly, StandsForIsOnly, StandsForNumberIsOnly}
+use Rattle.cellarcove_c.specs.Laws.{AnswersIsOnly, MonthsBetweenIsOnly, MonthsLaterIsOnly, OnBothIsOnly, OrderNumberIsOnly, ReasonIsOnly, StandsForIsOnly, StandsForNumberIsOnly}
 use Rattle.ratio64.specs.declared.error.RatioError.{RatioError}
 use Rattle.ratio64.specs.declared.fraction.Ratio.{Ratio}
 
@@ -18,9 +18,18 @@ use Rattle.ratio64.specs.declared.fraction.Ratio.{Ratio}
 
 pub reason_is_only : ReasonIsOnly
 reason_is_only divisor s t h k = elim (zero_or_not divisor) [
-  | inl zero ↦ h.0.1 zero ∙ sym (k.0.1 zero)
+  | inl none ↦ h.0.1 none ∙ sym (k.0.1 none)
   | inr other ↦ h.1.1 other ∙ sym (k.1.1 other)
 ]
+
+pub answers_is_only : {A : Type 0} (domain : Type 0) (Is : A → Type 0) (Reason : ℕ → Type 0) → AnswersIsOnly domain Is Reason
+answers_is_only domain Is Reason zeros zero zero a b only one h k = (refl, only a b h.answer.1 k.answer.1)
+answers_is_only domain Is Reason zeros zero (suc t) a b only one h k = absurd (k.answer h.answer.0)
+answers_is_only domain Is Reason zeros (suc s) zero a b only one h k = absurd (h.answer k.answer.0)
+answers_is_only domain Is Reason zeros (suc s) (suc t) a b only one h k =
+    let first = h.refusal (λ same. absurd (omega (arith, same))) in
+    let second = k.refusal (λ same. absurd (omega (arith, same))) in
+    (one (suc s) (suc t) first.1 second.1, first.0 ∙ sym second.0)
 
 -- ---- fractions
 

@@ -1,13 +1,29 @@
 -- Dates by their year, month and day of the month.
 use Rattle.std.specs.Int.{w64}
-use Rattle.std.specs.Prelude.{◌≡◌, ◌+ℤ◌, ℕ, ℤ, min, FitsSigned, MatchOption, Option}
+use Rattle.std.specs.Prelude.{◌≡◌, ◌+ℤ◌, ℕ, ℤ, pos, min, FitsSigned, MatchOption, Option}
 use Rattle.calendar.specs.Dates.{HasParts, IsLastWeekdayOfMonth, IsMonthsBetween, IsNthWeekday}
 use Rattle.calendar.specs.IsoWeeks.{IsDayOfIsoWeek, IsInIsoWeek}
-use Rattle.calendar.specs.Months.{days_in_month, month_number}
+use Rattle.calendar.specs.Months.{IsDate, days_in_month, month_number}
 use Rattle.calendar.specs.Weekday.{iso_number}
-use Rattle.calendar.specs.Years.{HasDay}
+use Rattle.calendar.specs.Years.{HasDay, day_number}
 use Rattle.calendar.specs.declared.date.Date.{Date}
 use Rattle.calendar.specs.declared.weekday.Weekday.{Weekday}
+use Rattle.cellarcove_c.specs.declared.dates.Date.{Date as Parts}
+
+-- There is such a date.
+-- Examples: 2000-02-29; not 1900-02-29; not 2000-13-01.
+abbrev pub Exists : Parts → Type 0
+Exists date = IsDate date.year date.month date.day_of_month
+
+-- The day of a date, counted from 1970-01-01, which is day 0.
+-- Examples: of 1970-01-02: 1; of 1969-12-31: -1.
+abbrev pub day_of : Parts → ℤ
+day_of date = day_number date.year date.month date.day_of_month
+
+-- The zeros in place of a date.
+-- Examples: year 0, month 0, day of the month 0.
+abbrev pub zero_date : Parts
+zero_date = record { year = pos 0; month = 0; day_of_month = 0 }
 
 -- A date lies in the month that is `months` after that of another, on the same day of the month, or on the last where there is
 -- no such day.

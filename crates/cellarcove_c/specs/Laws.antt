@@ -5,6 +5,7 @@ use Rattle.std.specs.declared.cmp.Ordering.{Ordering}
 use Rattle.calendar.specs.Months.{IsDate}
 use Rattle.ratio64.specs.declared.error.RatioError.{RatioError}
 use Rattle.ratio64.specs.declared.fraction.Ratio.{Ratio}
+use Rattle.cellarcove_c.specs.Answers.{Answers}
 use Rattle.cellarcove_c.specs.Dates.{IsMonthsLater, MatchMonthsBetween}
 use Rattle.cellarcove_c.specs.Fractions.{OnBoth, StandsFor, StandsForNumber, order_number}
 use Rattle.cellarcove_c.specs.Statuses.{IsReason}
@@ -14,6 +15,11 @@ use Rattle.cellarcove_c.specs.Statuses.{IsReason}
 -- Each divisor has at most one status that says why there is no quotient.
 abbrev pub ReasonIsOnly : Type 0
 ReasonIsOnly = (divisor : ℤ) (s t : ℕ) → IsReason (divisor ≡ pos 0) s → IsReason (divisor ≡ pos 0) t → s ≡ t
+
+-- If the property has at most one value and there is at most one reason, a call has at most one status and one value.
+abbrev pub AnswersIsOnly : {A : Type 0} → Type 0 → (A → Type 0) → (ℕ → Type 0) → Type 0
+AnswersIsOnly {A} domain Is Reason = (zeros : A) (s t : ℕ) (a b : A) → ((x y : A) → Is x → Is y → x ≡ y) → ((p q : ℕ) → Reason p → Reason q → p ≡ q)
+    → Answers domain Is Reason zeros s a → Answers domain Is Reason zeros t b → (s ≡ t) × (a ≡ b)
 
 -- ---- fractions
 

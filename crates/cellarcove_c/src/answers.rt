@@ -1,7 +1,8 @@
 //! Results with a status.
 
 ghost use Rattle.std.specs.Prelude.{◌≡◌, ◌≢◌, pos};
-ghost use Rattle.cellarcove_c.specs.Statuses.{answer_of};
+ghost use Rattle.cellarcove_c.specs.Answers.{Refuses};
+ghost use Rattle.cellarcove_c.specs.Statuses.{Only, answer_of};
 
 /// There is a result.
 pub const ANSWER: u32 = 0;
@@ -45,7 +46,7 @@ impl I64Answer {
     pub(crate) fn of(option: Option<i64>, reason: u32) -> I64Answer
         requires { reason ≢ 0 }
         ensures answer { answer_of result.status result.value ≡ option }
-        ensures refusal { result.status ≢ 0 → result ≡ record { status = reason; value = pos 0 } }
+        ensures refusal { Refuses (Only reason) (pos 0) result.status result.value }
     {
         match option {
             Some(value) => I64Answer::some(value),
@@ -76,7 +77,7 @@ impl U64Answer {
     pub(crate) fn of(option: Option<u64>, reason: u32) -> U64Answer
         requires { reason ≢ 0 }
         ensures answer { answer_of result.status result.value ≡ option }
-        ensures refusal { result.status ≢ 0 → result ≡ record { status = reason; value = 0 } }
+        ensures refusal { Refuses (Only reason) 0 result.status result.value }
     {
         match option {
             Some(value) => U64Answer::some(value),

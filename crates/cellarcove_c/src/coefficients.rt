@@ -2,11 +2,10 @@
 
 ghost use Rattle.std.specs.Prelude.{◌≡◌, ◌≢◌, ◌⊎◌, ◌<ℤ◌, ◌≤ℤ◌, pos, map, FitsSigned};
 ghost use Rattle.std.specs.Int.{FitsUnsignedBits, w64};
-ghost use Rattle.num_integer.specs.Checked.{AnswersWhere};
 ghost use Rattle.num_integer.specs.Coefficient.{coefficient_of};
 ghost use Rattle.num_integer.specs.Multinomial.{IsMultinomial};
-ghost use Rattle.num_integer.specs.Range.{EachFits};
-ghost use Rattle.cellarcove_c.specs.Statuses.{IsReason, answer_of, not_fitting};
+ghost use Rattle.cellarcove_c.specs.Answers.{I64Answers, U64Answers, U64Fitting};
+ghost use Rattle.cellarcove_c.specs.Statuses.{IsReason, Only, not_fitting};
 
 use crate::answers::{I64Answer, NOT_FITTING, OUTSIDE, U64Answer};
 use num_integer::checked;
@@ -17,12 +16,9 @@ use num_integer::checked;
 /// `OUTSIDE` if a number is negative. `NOT_FITTING` if the coefficient does not fit.
 #[unsafe(no_mangle)]
 pub extern "C" fn cellarcove_binomial_i64(n: i64, k: i64) -> I64Answer
-    ensures answer { AnswersWhere
+    ensures { I64Answers
         ((pos 0 ≤ℤ n) × (pos 0 ≤ℤ k) × FitsSigned w64 (coefficient_of n k))
-        (λ c. c ≡ coefficient_of n k)
-        (answer_of result.status result.value) }
-    ensures refusal { result.status ≢ 0 → (result.value ≡ pos 0)
-        × IsReason ((n <ℤ pos 0) ⊎ (k <ℤ pos 0)) result.status }
+        (λ c. c ≡ coefficient_of n k) (IsReason ((n <ℤ pos 0) ⊎ (k <ℤ pos 0))) result }
 {
     I64Answer::of(checked::binomial(n, k), reason_for_counts(n, k))
 }
@@ -33,11 +29,9 @@ pub extern "C" fn cellarcove_binomial_i64(n: i64, k: i64) -> I64Answer
 /// `NOT_FITTING` if the coefficient does not fit.
 #[unsafe(no_mangle)]
 pub extern "C" fn cellarcove_binomial_u64(n: u64, k: u64) -> U64Answer
-    ensures answer { AnswersWhere
+    ensures { U64Answers
         ((pos 0 ≤ℤ pos n) × (pos 0 ≤ℤ pos k) × FitsUnsignedBits 64 (coefficient_of (pos n) (pos k)))
-        (λ c. pos c ≡ coefficient_of (pos n) (pos k))
-        (answer_of result.status result.value) }
-    ensures refusal { result.status ≢ 0 → result ≡ record { status = not_fitting; value = 0 } }
+        (λ c. c ≡ coefficient_of (pos n) (pos k)) (Only not_fitting) result }
 {
     U64Answer::of(checked::binomial(n, k), NOT_FITTING)
 }
@@ -48,11 +42,7 @@ pub extern "C" fn cellarcove_binomial_u64(n: u64, k: u64) -> U64Answer
 /// `NOT_FITTING` if the coefficient does not fit.
 #[unsafe(no_mangle)]
 pub extern "C" fn cellarcove_multinomial_u64(counts: &[u64]) -> U64Answer
-    ensures answer { AnswersWhere
-        (EachFits (FitsUnsignedBits 64) (IsMultinomial (map (λ x. pos x) counts.now)))
-        (λ m. IsMultinomial (map (λ x. pos x) counts.now) (pos m))
-        (answer_of result.status result.value) }
-    ensures refusal { result.status ≢ 0 → result ≡ record { status = not_fitting; value = 0 } }
+    ensures { U64Fitting (IsMultinomial (map (λ x. pos x) counts.now)) result }
 {
     U64Answer::of(checked::multinomial(counts), NOT_FITTING)
 }

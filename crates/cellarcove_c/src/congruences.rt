@@ -1,54 +1,37 @@
-//! Quotients modulo a number, linear congruences, and the congruent numbers up to another or between
-//! two.
+//! Numbers that solve one or two congruences, and congruent numbers from one on, up to another or
+//! between two.
 
-ghost use Rattle.std.specs.Prelude.{◌≡◌, ◌≢◌, ◌⊎◌, ◌↔◌, ◌<ℤ◌, ◌≤ℤ◌, ℤ, pos, FitsSigned, MatchOption};
+ghost use Rattle.std.specs.Prelude.{◌≡◌, ◌⊎◌, ◌↔◌, ◌<ℤ◌, ◌≤ℤ◌, ℕ, ℤ, pos, FitsSigned, MatchOption};
 ghost use Rattle.std.specs.Int.{FitsUnsignedBits, w64};
-ghost use Rattle.modular.specs.Congruences.{IsCountOfCongruent, IsInverse, IsPreviousCongruent, IsQuotientModulo, IsReducedModulus, IsResidueClass, Solves};
-ghost use Rattle.cellarcove_c.specs.Statuses.{answer_of, bad_modulus, no_solution, not_fitting};
+ghost use Rattle.modular.specs.CommonSolutions.{MatchCommonSolution};
+ghost use Rattle.modular.specs.Congruences.{IsCountOfCongruent, IsNextCommonSolution, IsNextCongruent, IsPreviousCongruent, IsReducedModulus, IsResidueClass, Solves, SolvesBothCongruences};
+ghost use Rattle.num_integer.specs.Divisors.{IsLeastCommonMultiple};
+ghost use Rattle.num_integer.specs.Range.{EachFits};
+ghost use Rattle.cellarcove_c.specs.Answers.{Refuses};
+ghost use Rattle.cellarcove_c.specs.Congruences.{AnswersModulo, I64Congruent, IsBeyond, IsNever, IsReasonOfCongruences, U64Congruent};
+ghost use Rattle.cellarcove_c.specs.Statuses.{Either, answer_of, bad_modulus, common_solution_of, no_solution, not_fitting};
 
-use crate::answers::{BAD_MODULUS, I64Answer, NO_SOLUTION, NOT_FITTING, U64Answer};
-use crate::modulo::{I64Solutions, U64Solutions};
-use modular::{count_congruent, previous_congruent, quotient_modulo, solutions};
+use crate::answers::{ANSWER, BAD_MODULUS, I64Answer, NO_SOLUTION, NOT_FITTING, U64Answer};
+use crate::modulo::{reason_for_modulus, reason_for_unsigned_modulus};
+use modular::{CommonSolution, checked, chinese_remainder, next_common_solution, solutions};
+use num_integer::Fits;
 
-/// Returns the number that times `b` is `a` modulo `m`, from 0 to `m` - 1. For 2, 3 and 7 it is 3.
-///
-/// `BAD_MODULUS` if `m` is not positive. `NO_SOLUTION` if `b` has no inverse modulo `m`.
-#[unsafe(no_mangle)]
-pub extern "C" fn cellarcove_quotient_modulo_i64(a: i64, b: i64, m: i64) -> I64Answer
-    ensures answer { (pos 0 <ℤ m) → MatchOption (answer_of result.status result.value)
-        ((x : ℤ) → ¬ (IsInverse b m x)) (IsQuotientModulo a b m) }
-    ensures bad_modulus { (result.status ≡ bad_modulus) ↔ (m ≤ℤ pos 0) }
-    ensures refusal { result.status ≢ 0 → (result.value ≡ pos 0)
-        × ((result.status ≡ bad_modulus) ⊎ (result.status ≡ no_solution)) }
-{
-    if m <= 0 {
-        return I64Answer::none(BAD_MODULUS);
-    }
-    match quotient_modulo(a, b, m) {
-        Some(quotient) => I64Answer::some(quotient),
-        None => I64Answer::none(NO_SOLUTION),
-    }
+/// A status, and solutions: the first that is not negative, and the step from each to the next.
+#[repr(C)]
+#[derive(Clone, Copy)]
+pub struct I64Solutions {
+    pub status: u32,
+    pub first: i64,
+    pub step: i64,
 }
 
-/// Returns the number that times `b` is `a` modulo `m`, from 0 to `m` - 1. For 2, 3 and 7 it is 3.
-///
-/// `BAD_MODULUS` if `m` is 0. `NO_SOLUTION` if `b` has no inverse modulo `m`.
-#[unsafe(no_mangle)]
-pub extern "C" fn cellarcove_quotient_modulo_u64(a: u64, b: u64, m: u64) -> U64Answer
-    ensures answer { (pos 0 <ℤ pos m) → MatchOption (answer_of result.status result.value)
-        ((x : ℤ) → ¬ (IsInverse (pos b) (pos m) x))
-        (λ x. IsQuotientModulo (pos a) (pos b) (pos m) (pos x)) }
-    ensures bad_modulus { (result.status ≡ bad_modulus) ↔ (pos m ≤ℤ pos 0) }
-    ensures refusal { result.status ≢ 0 → (result.value ≡ 0)
-        × ((result.status ≡ bad_modulus) ⊎ (result.status ≡ no_solution)) }
-{
-    if m == 0 {
-        return U64Answer::none(BAD_MODULUS);
-    }
-    match quotient_modulo(a, b, m) {
-        Some(quotient) => U64Answer::some(quotient),
-        None => U64Answer::none(NO_SOLUTION),
-    }
+/// A status, and solutions: the first that is not negative, and the step from each to the next.
+#[repr(C)]
+#[derive(Clone, Copy)]
+pub struct U64Solutions {
+    pub status: u32,
+    pub first: u64,
+    pub step: u64,
 }
 
 /// Returns the numbers that times `a` are `b` modulo `m`. For 6, 4 and 10 they are 4 and those in steps
@@ -57,12 +40,9 @@ pub extern "C" fn cellarcove_quotient_modulo_u64(a: u64, b: u64, m: u64) -> U64A
 /// `BAD_MODULUS` if `m` is not positive. `NO_SOLUTION` if there is no such number.
 #[unsafe(no_mangle)]
 pub extern "C" fn cellarcove_solutions_i64(a: i64, b: i64, m: i64) -> I64Solutions
-    ensures answer { (pos 0 <ℤ m) → MatchOption (answer_of result.status (result.first, result.step))
-        ((x : ℤ) → ¬ (Solves a b m x))
-        (λ (first, step). IsResidueClass (Solves a b m) first step × IsReducedModulus a m step) }
-    ensures bad_modulus { (result.status ≡ bad_modulus) ↔ (m ≤ℤ pos 0) }
-    ensures refusal { result.status ≢ 0 → (result.first ≡ pos 0) × (result.step ≡ pos 0)
-        × ((result.status ≡ bad_modulus) ⊎ (result.status ≡ no_solution)) }
+    ensures { AnswersModulo {A = ℤ × ℤ} m no_solution (IsNever (Solves a b m))
+        (λ (first, step). IsResidueClass (Solves a b m) first step × IsReducedModulus a m step)
+        (pos 0, pos 0) result.status (result.first, result.step) }
 {
     if m <= 0 {
         return I64Solutions::none(BAD_MODULUS);
@@ -79,14 +59,11 @@ pub extern "C" fn cellarcove_solutions_i64(a: i64, b: i64, m: i64) -> I64Solutio
 /// `BAD_MODULUS` if `m` is 0. `NO_SOLUTION` if there is no such number.
 #[unsafe(no_mangle)]
 pub extern "C" fn cellarcove_solutions_u64(a: u64, b: u64, m: u64) -> U64Solutions
-    ensures answer { (pos 0 <ℤ pos m)
-        → MatchOption (answer_of result.status (result.first, result.step))
-        ((x : ℤ) → ¬ (Solves (pos a) (pos b) (pos m) x))
+    ensures { AnswersModulo {A = ℕ × ℕ} (pos m) no_solution
+        (IsNever (Solves (pos a) (pos b) (pos m)))
         (λ (first, step). IsResidueClass (Solves (pos a) (pos b) (pos m)) (pos first) (pos step)
-        × IsReducedModulus (pos a) (pos m) (pos step)) }
-    ensures bad_modulus { (result.status ≡ bad_modulus) ↔ (pos m ≤ℤ pos 0) }
-    ensures refusal { result.status ≢ 0 → (result.first ≡ 0) × (result.step ≡ 0)
-        × ((result.status ≡ bad_modulus) ⊎ (result.status ≡ no_solution)) }
+        × IsReducedModulus (pos a) (pos m) (pos step))
+        (0, 0) result.status (result.first, result.step) }
 {
     if m == 0 {
         return U64Solutions::none(BAD_MODULUS);
@@ -97,25 +74,110 @@ pub extern "C" fn cellarcove_solutions_u64(a: u64, b: u64, m: u64) -> U64Solutio
     }
 }
 
+/// Returns the numbers that are `a` modulo `m` and `b` modulo `n`. For 1, 4, 3 and 6 they are 9 and
+/// those in steps of 12 from it.
+///
+/// `BAD_MODULUS` if `m` or `n` is not positive. `NO_SOLUTION` if there is no such number. `NOT_FITTING`
+/// if there is one, and the step does not fit.
+#[unsafe(no_mangle)]
+pub extern "C" fn cellarcove_chinese_remainder_i64(a: i64, m: i64, b: i64, n: i64) -> I64Solutions
+    ensures answer { (pos 0 <ℤ m) → (pos 0 <ℤ n)
+        → EachFits (FitsSigned w64) (IsLeastCommonMultiple m n)
+        → MatchOption (answer_of result.status (result.first, result.step))
+        (IsNever (SolvesBothCongruences a m b n))
+        (λ (first, step). IsResidueClass (SolvesBothCongruences a m b n) first step) }
+    ensures bad_modulus { (result.status ≡ bad_modulus) ↔ ((m ≤ℤ pos 0) ⊎ (n ≤ℤ pos 0)) }
+    ensures not_fitting { (result.status ≡ not_fitting) ↔ ((pos 0 <ℤ m) × (pos 0 <ℤ n)
+        × (¬ (EachFits (FitsSigned w64) (IsLeastCommonMultiple m n)))
+        × ((x : ℤ) × SolvesBothCongruences a m b n x)) }
+    ensures no_solution { (result.status ≡ no_solution) ↔ ((pos 0 <ℤ m) × (pos 0 <ℤ n)
+        × IsNever (SolvesBothCongruences a m b n)) }
+    ensures refusal { Refuses {A = ℤ × ℤ} IsReasonOfCongruences (pos 0, pos 0)
+        result.status (result.first, result.step) }
+{
+    if m <= 0 || n <= 0 {
+        I64Solutions::none(BAD_MODULUS)
+    } else if m.lcm_fits(&n) {
+        match chinese_remainder(a, m, b, n) {
+            Some((first, step)) => I64Solutions::some(first, step),
+            None => I64Solutions::none(NO_SOLUTION),
+        }
+    } else {
+        I64Solutions::none(reason_for_congruences(a, m, b, n))
+    }
+}
+
+/// Returns the numbers that are `a` modulo `m` and `b` modulo `n`. For 1, 4, 3 and 6 they are 9 and
+/// those in steps of 12 from it.
+///
+/// `BAD_MODULUS` if `m` or `n` is 0. `NO_SOLUTION` if there is no such number. `NOT_FITTING` if there
+/// is one, and the step does not fit.
+#[unsafe(no_mangle)]
+pub extern "C" fn cellarcove_chinese_remainder_u64(a: u64, m: u64, b: u64, n: u64) -> U64Solutions
+    ensures answer { (pos 0 <ℤ pos m) → (pos 0 <ℤ pos n)
+        → EachFits (FitsUnsignedBits 64) (IsLeastCommonMultiple (pos m) (pos n))
+        → MatchOption (answer_of result.status (result.first, result.step))
+        (IsNever (SolvesBothCongruences (pos a) (pos m) (pos b) (pos n)))
+        (λ (first, step). IsResidueClass (SolvesBothCongruences (pos a) (pos m) (pos b) (pos n))
+        (pos first) (pos step)) }
+    ensures bad_modulus { (result.status ≡ bad_modulus) ↔ ((pos m ≤ℤ pos 0) ⊎ (pos n ≤ℤ pos 0)) }
+    ensures not_fitting { (result.status ≡ not_fitting) ↔ ((pos 0 <ℤ pos m) × (pos 0 <ℤ pos n)
+        × (¬ (EachFits (FitsUnsignedBits 64) (IsLeastCommonMultiple (pos m) (pos n))))
+        × ((x : ℤ) × SolvesBothCongruences (pos a) (pos m) (pos b) (pos n) x)) }
+    ensures no_solution { (result.status ≡ no_solution) ↔ ((pos 0 <ℤ pos m) × (pos 0 <ℤ pos n)
+        × IsNever (SolvesBothCongruences (pos a) (pos m) (pos b) (pos n))) }
+    ensures refusal { Refuses {A = ℕ × ℕ} IsReasonOfCongruences (0, 0) result.status
+        (result.first, result.step) }
+{
+    if m == 0 || n == 0 {
+        U64Solutions::none(BAD_MODULUS)
+    } else if m.lcm_fits(&n) {
+        match chinese_remainder(a, m, b, n) {
+            Some((first, step)) => U64Solutions::some(first, step),
+            None => U64Solutions::none(NO_SOLUTION),
+        }
+    } else {
+        U64Solutions::none(reason_for_unsigned_congruences(a, m, b, n))
+    }
+}
+
+/// Returns the smallest number from `from` on that is `first` modulo `step`. For 10, 1 and 4 it is 13.
+///
+/// `BAD_MODULUS` if `step` is not positive. `NOT_FITTING` if the number does not fit.
+#[unsafe(no_mangle)]
+pub extern "C" fn cellarcove_next_congruent_i64(from: i64, first: i64, step: i64) -> I64Answer
+    ensures { I64Congruent step (IsNextCongruent from first step) result }
+{
+    I64Answer::of(
+        checked::next_congruent(from, first, step),
+        reason_for_modulus(step, NOT_FITTING),
+    )
+}
+
+/// Returns the smallest number from `from` on that is `first` modulo `step`. For 10, 1 and 4 it is 13.
+///
+/// `BAD_MODULUS` if `step` is 0. `NOT_FITTING` if the number does not fit.
+#[unsafe(no_mangle)]
+pub extern "C" fn cellarcove_next_congruent_u64(from: u64, first: u64, step: u64) -> U64Answer
+    ensures { U64Congruent (pos step) (IsNextCongruent (pos from) (pos first) (pos step)) result }
+{
+    U64Answer::of(
+        checked::next_congruent(from, first, step),
+        reason_for_unsigned_modulus(step, NOT_FITTING),
+    )
+}
+
 /// Returns the largest number up to `to` that is `first` modulo `step`. For 10, 1 and 4 it is 9.
 ///
 /// `BAD_MODULUS` if `step` is not positive. `NOT_FITTING` if the number does not fit.
 #[unsafe(no_mangle)]
 pub extern "C" fn cellarcove_previous_congruent_i64(to: i64, first: i64, step: i64) -> I64Answer
-    ensures answer { (pos 0 <ℤ step) → MatchOption (answer_of result.status result.value)
-        ((t : ℤ) × IsPreviousCongruent to first step t × ¬ (FitsSigned w64 t))
-        (IsPreviousCongruent to first step) }
-    ensures bad_modulus { (result.status ≡ bad_modulus) ↔ (step ≤ℤ pos 0) }
-    ensures refusal { result.status ≢ 0 → (result.value ≡ pos 0)
-        × ((result.status ≡ bad_modulus) ⊎ (result.status ≡ not_fitting)) }
+    ensures { I64Congruent step (IsPreviousCongruent to first step) result }
 {
-    if step <= 0 {
-        return I64Answer::none(BAD_MODULUS);
-    }
-    match previous_congruent(to, first, step) {
-        Some(previous) => I64Answer::some(previous),
-        None => I64Answer::none(NOT_FITTING),
-    }
+    I64Answer::of(
+        checked::previous_congruent(to, first, step),
+        reason_for_modulus(step, NOT_FITTING),
+    )
 }
 
 /// Returns the largest number up to `to` that is `first` modulo `step`. For 10, 1 and 4 it is 9.
@@ -123,20 +185,12 @@ pub extern "C" fn cellarcove_previous_congruent_i64(to: i64, first: i64, step: i
 /// `BAD_MODULUS` if `step` is 0. `NOT_FITTING` if the number is negative.
 #[unsafe(no_mangle)]
 pub extern "C" fn cellarcove_previous_congruent_u64(to: u64, first: u64, step: u64) -> U64Answer
-    ensures answer { (pos 0 <ℤ pos step) → MatchOption (answer_of result.status result.value)
-        ((t : ℤ) × IsPreviousCongruent (pos to) (pos first) (pos step) t × ¬ (FitsUnsignedBits 64 t))
-        (λ t. IsPreviousCongruent (pos to) (pos first) (pos step) (pos t)) }
-    ensures bad_modulus { (result.status ≡ bad_modulus) ↔ (pos step ≤ℤ pos 0) }
-    ensures refusal { result.status ≢ 0 → (result.value ≡ 0)
-        × ((result.status ≡ bad_modulus) ⊎ (result.status ≡ not_fitting)) }
+    ensures { U64Congruent (pos step) (IsPreviousCongruent (pos to) (pos first) (pos step)) result }
 {
-    if step == 0 {
-        return U64Answer::none(BAD_MODULUS);
-    }
-    match previous_congruent(to, first, step) {
-        Some(previous) => U64Answer::some(previous),
-        None => U64Answer::none(NOT_FITTING),
-    }
+    U64Answer::of(
+        checked::previous_congruent(to, first, step),
+        reason_for_unsigned_modulus(step, NOT_FITTING),
+    )
 }
 
 /// Returns how many numbers from `from` to `to` are `first` modulo `step`. For 1, 10, 1 and 4 it is 3.
@@ -149,20 +203,12 @@ pub extern "C" fn cellarcove_count_congruent_i64(
     first: i64,
     step: i64,
 ) -> I64Answer
-    ensures answer { (pos 0 <ℤ step) → MatchOption (answer_of result.status result.value)
-        ((n : ℤ) × IsCountOfCongruent from to first step n × ¬ (FitsSigned w64 n))
-        (IsCountOfCongruent from to first step) }
-    ensures bad_modulus { (result.status ≡ bad_modulus) ↔ (step ≤ℤ pos 0) }
-    ensures refusal { result.status ≢ 0 → (result.value ≡ pos 0)
-        × ((result.status ≡ bad_modulus) ⊎ (result.status ≡ not_fitting)) }
+    ensures { I64Congruent step (IsCountOfCongruent from to first step) result }
 {
-    if step <= 0 {
-        return I64Answer::none(BAD_MODULUS);
-    }
-    match count_congruent(from, to, first, step) {
-        Some(count) => I64Answer::some(count),
-        None => I64Answer::none(NOT_FITTING),
-    }
+    I64Answer::of(
+        checked::count_congruent(from, to, first, step),
+        reason_for_modulus(step, NOT_FITTING),
+    )
 }
 
 /// Returns how many numbers from `from` to `to` are `first` modulo `step`. For 1, 10, 1 and 4 it is 3.
@@ -175,19 +221,154 @@ pub extern "C" fn cellarcove_count_congruent_u64(
     first: u64,
     step: u64,
 ) -> U64Answer
-    ensures answer { (pos 0 <ℤ pos step) → MatchOption (answer_of result.status result.value)
-        ((n : ℤ) × IsCountOfCongruent (pos from) (pos to) (pos first) (pos step) n
-        × ¬ (FitsUnsignedBits 64 n))
-        (λ n. IsCountOfCongruent (pos from) (pos to) (pos first) (pos step) (pos n)) }
-    ensures bad_modulus { (result.status ≡ bad_modulus) ↔ (pos step ≤ℤ pos 0) }
-    ensures refusal { result.status ≢ 0 → (result.value ≡ 0)
-        × ((result.status ≡ bad_modulus) ⊎ (result.status ≡ not_fitting)) }
+    ensures { U64Congruent (pos step)
+        (IsCountOfCongruent (pos from) (pos to) (pos first) (pos step)) result }
 {
-    if step == 0 {
+    U64Answer::of(
+        checked::count_congruent(from, to, first, step),
+        reason_for_unsigned_modulus(step, NOT_FITTING),
+    )
+}
+
+/// Returns the smallest number from `from` on that is `a` modulo `m` and `b` modulo `n`. The least
+/// common multiple of `m` and `n` need not fit. For 10, 1, 4, 3 and 6 it is 21.
+///
+/// `BAD_MODULUS` if `m` or `n` is not positive. `NO_SOLUTION` if there is no such number. `NOT_FITTING`
+/// if it does not fit.
+#[unsafe(no_mangle)]
+pub extern "C" fn cellarcove_next_common_solution_i64(
+    from: i64,
+    a: i64,
+    m: i64,
+    b: i64,
+    n: i64,
+) -> I64Answer
+    ensures answer { (pos 0 <ℤ m) → (pos 0 <ℤ n)
+        → MatchCommonSolution (common_solution_of result.status result.value)
+        (IsNever (SolvesBothCongruences a m b n))
+        (IsBeyond (FitsSigned w64) (IsNextCommonSolution from a m b n))
+        (IsNextCommonSolution from a m b n) }
+    ensures bad_modulus { (result.status ≡ bad_modulus) ↔ ((m ≤ℤ pos 0) ⊎ (n ≤ℤ pos 0)) }
+    ensures refusal { Refuses IsReasonOfCongruences (pos 0) result.status result.value }
+{
+    if m <= 0 || n <= 0 {
+        return I64Answer::none(BAD_MODULUS);
+    }
+    match next_common_solution(from, a, m, b, n) {
+        CommonSolution::At(solution) => I64Answer::some(solution),
+        CommonSolution::Beyond => I64Answer::none(NOT_FITTING),
+        CommonSolution::Never => I64Answer::none(NO_SOLUTION),
+    }
+}
+
+/// Returns the smallest number from `from` on that is `a` modulo `m` and `b` modulo `n`. The least
+/// common multiple of `m` and `n` need not fit. For 10, 1, 4, 3 and 6 it is 21.
+///
+/// `BAD_MODULUS` if `m` or `n` is 0. `NO_SOLUTION` if there is no such number. `NOT_FITTING` if it does
+/// not fit.
+#[unsafe(no_mangle)]
+pub extern "C" fn cellarcove_next_common_solution_u64(
+    from: u64,
+    a: u64,
+    m: u64,
+    b: u64,
+    n: u64,
+) -> U64Answer
+    ensures answer { (pos 0 <ℤ pos m) → (pos 0 <ℤ pos n)
+        → MatchCommonSolution (common_solution_of result.status result.value)
+        (IsNever (SolvesBothCongruences (pos a) (pos m) (pos b) (pos n)))
+        (IsBeyond (FitsUnsignedBits 64)
+        (IsNextCommonSolution (pos from) (pos a) (pos m) (pos b) (pos n)))
+        (λ t. IsNextCommonSolution (pos from) (pos a) (pos m) (pos b) (pos n) (pos t)) }
+    ensures bad_modulus { (result.status ≡ bad_modulus) ↔ ((pos m ≤ℤ pos 0) ⊎ (pos n ≤ℤ pos 0)) }
+    ensures refusal { Refuses IsReasonOfCongruences 0 result.status result.value }
+{
+    if m == 0 || n == 0 {
         return U64Answer::none(BAD_MODULUS);
     }
-    match count_congruent(from, to, first, step) {
-        Some(count) => U64Answer::some(count),
-        None => U64Answer::none(NOT_FITTING),
+    match next_common_solution(from, a, m, b, n) {
+        CommonSolution::At(solution) => U64Answer::some(solution),
+        CommonSolution::Beyond => U64Answer::none(NOT_FITTING),
+        CommonSolution::Never => U64Answer::none(NO_SOLUTION),
+    }
+}
+
+impl I64Solutions {
+    /// Returns a result.
+    pub(crate) fn some(first: i64, step: i64) -> I64Solutions
+        ensures { result ≡ record { status = 0; first = first; step = step } }
+    {
+        I64Solutions {
+            status: ANSWER,
+            first,
+            step,
+        }
+    }
+
+    /// Returns a rejection.
+    pub(crate) fn none(status: u32) -> I64Solutions
+        ensures { result ≡ record { status = status; first = pos 0; step = pos 0 } }
+    {
+        I64Solutions {
+            status,
+            first: 0,
+            step: 0,
+        }
+    }
+}
+
+impl U64Solutions {
+    /// Returns a result.
+    pub(crate) fn some(first: u64, step: u64) -> U64Solutions
+        ensures { result ≡ record { status = 0; first = first; step = step } }
+    {
+        U64Solutions {
+            status: ANSWER,
+            first,
+            step,
+        }
+    }
+
+    /// Returns a rejection.
+    pub(crate) fn none(status: u32) -> U64Solutions
+        ensures { result ≡ record { status = status; first = 0; step = 0 } }
+    {
+        U64Solutions {
+            status,
+            first: 0,
+            step: 0,
+        }
+    }
+}
+
+/// Returns why two congruences have no class of solutions, if the least common multiple of their moduli
+/// does not fit.
+fn reason_for_congruences(a: i64, m: i64, b: i64, n: i64) -> u32
+    requires m_positive { pos 0 <ℤ m }
+    requires n_positive { pos 0 <ℤ n }
+    ensures not_fitting { (result ≡ not_fitting) ↔ ((x : ℤ) × SolvesBothCongruences a m b n x) }
+    ensures no_solution { (result ≡ no_solution) ↔ IsNever (SolvesBothCongruences a m b n) }
+    ensures refusal { Either not_fitting no_solution result }
+{
+    match next_common_solution(0, a, m, b, n) {
+        CommonSolution::Never => NO_SOLUTION,
+        _ => NOT_FITTING,
+    }
+}
+
+/// Returns why two congruences have no class of solutions, if the least common multiple of their moduli
+/// does not fit.
+fn reason_for_unsigned_congruences(a: u64, m: u64, b: u64, n: u64) -> u32
+    requires m_positive { pos 0 <ℤ pos m }
+    requires n_positive { pos 0 <ℤ pos n }
+    ensures not_fitting { (result ≡ not_fitting)
+        ↔ ((x : ℤ) × SolvesBothCongruences (pos a) (pos m) (pos b) (pos n) x) }
+    ensures no_solution { (result ≡ no_solution)
+        ↔ IsNever (SolvesBothCongruences (pos a) (pos m) (pos b) (pos n)) }
+    ensures refusal { Either not_fitting no_solution result }
+{
+    match next_common_solution(0, a, m, b, n) {
+        CommonSolution::Never => NO_SOLUTION,
+        _ => NOT_FITTING,
     }
 }

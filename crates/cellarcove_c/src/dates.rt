@@ -1,6 +1,6 @@
 //! Dates of the proleptic Gregorian calendar, and days counted from 1970-01-01, which is day 0.
 
-ghost use Rattle.std.specs.Prelude.{◌≡◌, ◌≢◌, ◌⊎◌, ◌↔◌, ◌≤◌, ℕ, ℤ, pos, FitsSigned, MatchOption};
+ghost use Rattle.std.specs.Prelude.{◌≡◌, ◌⊎◌, ◌↔◌, ◌≤◌, ◌+ℤ◌, ◌-ℤ◌, ℕ, ℤ, pos, FitsSigned, MatchOption};
 ghost use Rattle.std.specs.Int.{w64};
 ghost use Rattle.calendar.specs.Dates.{HasParts, number_of};
 ghost use Rattle.calendar.specs.Easter.{IsEaster};
@@ -10,11 +10,12 @@ ghost use Rattle.calendar.specs.Weekday.{iso_number};
 ghost use Rattle.calendar.specs.Years.{day_number};
 ghost use Rattle.calendar.specs.declared.weekday.Weekday.{Weekday};
 ghost use Rattle.num_integer.specs.Checked.{AnswersWhere};
-ghost use Rattle.cellarcove_c.specs.Dates.{HasIsoWeek, IsDayBeyond, IsMonthsLater, MatchMonthsBetween};
-ghost use Rattle.cellarcove_c.specs.Statuses.{answer_of, no_date, not_fitting, outside};
+ghost use Rattle.cellarcove_c.specs.Answers.{Refuses};
+ghost use Rattle.cellarcove_c.specs.Dates.{Exists, HasIsoWeek, IsDayBeyond, IsMonthsLater, MatchMonthsBetween, day_of, zero_date};
+ghost use Rattle.cellarcove_c.specs.Statuses.{Either, answer_of, no_date, not_fitting, outside};
 
 use crate::answers::{ANSWER, I64Answer, NO_DATE, NOT_FITTING, OUTSIDE};
-use calendar::{Weekday, easter, months_between, weeks_in_year};
+use calendar::{Weekday, days_between, easter, months_between, weeks_in_year};
 
 /// A year, a month and a day of the month. The year before year 1 is year 0. January is month 1.
 #[repr(C)]
@@ -45,8 +46,8 @@ pub struct IsoWeekAnswer {
 /// Returns the date of a day, counted from 1970-01-01, which is day 0. That of -1 is 1969-12-31.
 #[unsafe(no_mangle)]
 pub extern "C" fn cellarcove_date_from_day(day: i64) -> Date
-    ensures date { IsDate result.year result.month result.day_of_month }
-    ensures day { day_number result.year result.month result.day_of_month ≡ day }
+    ensures date { Exists result }
+    ensures day { day_of result ≡ day }
 {
     Date::of(&calendar::Date::from_day_number(day))
 }
@@ -56,20 +57,62 @@ pub extern "C" fn cellarcove_date_from_day(day: i64) -> Date
 /// `NO_DATE` if there is no such date. `NOT_FITTING` if its day does not fit.
 #[unsafe(no_mangle)]
 pub extern "C" fn cellarcove_day_from_date(date: Date) -> I64Answer
-    ensures answer { AnswersWhere
-        (IsDate date.year date.month date.day_of_month
-        × FitsSigned w64 (day_number date.year date.month date.day_of_month))
-        (λ day. day ≡ day_number date.year date.month date.day_of_month)
-        (answer_of result.status result.value) }
-    ensures no_date { (result.status ≡ no_date)
-        ↔ (¬ (IsDate date.year date.month date.day_of_month)) }
-    ensures refusal { result.status ≢ 0 → (result.value ≡ pos 0)
-        × ((result.status ≡ no_date) ⊎ (result.status ≡ not_fitting)) }
+    ensures answer { AnswersWhere (Exists date × FitsSigned w64 (day_of date))
+        (λ day. day ≡ day_of date) (answer_of result.status result.value) }
+    ensures no_date { (result.status ≡ no_date) ↔ (¬ (Exists date)) }
+    ensures refusal { Refuses (Either no_date not_fitting) (pos 0) result.status result.value }
 {
     match date.found() {
         Some(found) => match found.day_number() {
             Some(day) => I64Answer::some(day),
             None => I64Answer::none(NOT_FITTING),
+        },
+        None => I64Answer::none(NO_DATE),
+    }
+}
+
+/// Returns the date `days` days after a date, or before it if `days` is negative. That of 2000-03-01
+/// and -1 is 2000-02-29.
+///
+/// `NO_DATE` if there is no such date. `NOT_FITTING` if the year of the result does not fit.
+#[unsafe(no_mangle)]
+pub extern "C" fn cellarcove_plus_days(date: Date, days: i64) -> DateAnswer
+    ensures answer { result.status ≡ 0
+        → Exists result.date × (day_of result.date ≡ day_of date +ℤ days) }
+    ensures no_date { (result.status ≡ no_date) ↔ (¬ (Exists date)) }
+    ensures not_fitting { result.status ≡ not_fitting → (year : ℤ) (month day : ℕ)
+        → IsDate year month day → day_number year month day ≡ day_of date +ℤ days
+        → ¬ (FitsSigned w64 year) }
+    ensures refusal { Refuses (Either no_date not_fitting) zero_date result.status result.date }
+{
+    match date.found() {
+        Some(found) => match found.plus_days(days) {
+            Some(later) => DateAnswer::some(&later),
+            None => DateAnswer::none(NOT_FITTING),
+        },
+        None => DateAnswer::none(NO_DATE),
+    }
+}
+
+/// Returns the number of days from one date to another, negative if the other is earlier. From
+/// 2000-03-01 to 2000-02-28 it is -2.
+///
+/// `NO_DATE` if there is no such date. `NOT_FITTING` if the number does not fit.
+#[unsafe(no_mangle)]
+pub extern "C" fn cellarcove_days_between(from: Date, to: Date) -> I64Answer
+    ensures answer { Exists from → Exists to
+        → AnswersWhere (FitsSigned w64 (day_of to -ℤ day_of from))
+        (λ days. days ≡ day_of to -ℤ day_of from) (answer_of result.status result.value) }
+    ensures no_date { (result.status ≡ no_date) ↔ ((¬ (Exists from)) ⊎ (¬ (Exists to))) }
+    ensures refusal { Refuses (Either no_date not_fitting) (pos 0) result.status result.value }
+{
+    match from.found() {
+        Some(first) => match to.found() {
+            Some(last) => match days_between(&first, &last) {
+                Some(days) => I64Answer::some(days),
+                None => I64Answer::none(NOT_FITTING),
+            },
+            None => I64Answer::none(NO_DATE),
         },
         None => I64Answer::none(NO_DATE),
     }
@@ -81,19 +124,15 @@ pub extern "C" fn cellarcove_day_from_date(date: Date) -> I64Answer
 /// `NO_DATE` if there is no such date. `NOT_FITTING` if the year of the result does not fit.
 #[unsafe(no_mangle)]
 pub extern "C" fn cellarcove_plus_months(date: Date, months: i64) -> DateAnswer
-    ensures answer { result.status ≡ 0
-        → IsDate result.date.year result.date.month result.date.day_of_month
+    ensures answer { result.status ≡ 0 → Exists result.date
         × IsMonthsLater date.year date.month date.day_of_month months result.date.year
         result.date.month result.date.day_of_month }
-    ensures no_date { (result.status ≡ no_date)
-        ↔ (¬ (IsDate date.year date.month date.day_of_month)) }
-    ensures not_fitting { result.status ≡ not_fitting → (year : ℤ) (month day : ℕ)
-        → IsDate year month day
+    ensures no_date { (result.status ≡ no_date) ↔ (¬ (Exists date)) }
+    ensures not_fitting { result.status ≡ not_fitting
+        → (year : ℤ) (month day : ℕ) → IsDate year month day
         → IsMonthsLater date.year date.month date.day_of_month months year month day
         → ¬ (FitsSigned w64 year) }
-    ensures refusal { result.status ≢ 0
-        → (result.date ≡ record { year = pos 0; month = 0; day_of_month = 0 })
-        × ((result.status ≡ no_date) ⊎ (result.status ≡ not_fitting)) }
+    ensures refusal { Refuses (Either no_date not_fitting) zero_date result.status result.date }
 {
     match date.found() {
         Some(found) => match found.plus_months(months) {
@@ -110,15 +149,11 @@ pub extern "C" fn cellarcove_plus_months(date: Date, months: i64) -> DateAnswer
 /// `NO_DATE` if a date does not exist. `NOT_FITTING` if the number does not fit.
 #[unsafe(no_mangle)]
 pub extern "C" fn cellarcove_months_between(from: Date, to: Date) -> I64Answer
-    ensures answer { IsDate from.year from.month from.day_of_month
-        → IsDate to.year to.month to.day_of_month
+    ensures answer { Exists from → Exists to
         → MatchMonthsBetween from.year from.month from.day_of_month to.year to.month to.day_of_month
         (answer_of result.status result.value) }
-    ensures no_date { (result.status ≡ no_date)
-        ↔ ((¬ (IsDate from.year from.month from.day_of_month))
-        ⊎ (¬ (IsDate to.year to.month to.day_of_month))) }
-    ensures refusal { result.status ≢ 0 → (result.value ≡ pos 0)
-        × ((result.status ≡ no_date) ⊎ (result.status ≡ not_fitting)) }
+    ensures no_date { (result.status ≡ no_date) ↔ ((¬ (Exists from)) ⊎ (¬ (Exists to))) }
+    ensures refusal { Refuses (Either no_date not_fitting) (pos 0) result.status result.value }
 {
     match from.found() {
         Some(first) => match to.found() {
@@ -137,15 +172,12 @@ pub extern "C" fn cellarcove_months_between(from: Date, to: Date) -> I64Answer
 /// `NO_DATE` if there is no such date. `NOT_FITTING` if the year of the week does not fit.
 #[unsafe(no_mangle)]
 pub extern "C" fn cellarcove_iso_week(date: Date) -> IsoWeekAnswer
-    ensures answer { result.status ≡ 0
-        → IsInIsoWeek (day_number date.year date.month date.day_of_month) result.year result.week }
-    ensures no_date { (result.status ≡ no_date)
-        ↔ (¬ (IsDate date.year date.month date.day_of_month)) }
+    ensures answer { result.status ≡ 0 → IsInIsoWeek (day_of date) result.year result.week }
+    ensures no_date { (result.status ≡ no_date) ↔ (¬ (Exists date)) }
     ensures not_fitting { result.status ≡ not_fitting → (year : ℤ) (week : ℕ)
-        → IsInIsoWeek (day_number date.year date.month date.day_of_month) year week
-        → ¬ (FitsSigned w64 year) }
-    ensures refusal { result.status ≢ 0 → (result.year ≡ pos 0) × (result.week ≡ 0)
-        × ((result.status ≡ no_date) ⊎ (result.status ≡ not_fitting)) }
+        → IsInIsoWeek (day_of date) year week → ¬ (FitsSigned w64 year) }
+    ensures refusal { Refuses {A = ℤ × ℕ} (Either no_date not_fitting) (pos 0, 0)
+        result.status (result.year, result.week) }
 {
     match date.found() {
         Some(found) => match found.iso_week() {
@@ -167,17 +199,14 @@ pub extern "C" fn cellarcove_iso_week(date: Date) -> IsoWeekAnswer
 /// week. `NOT_FITTING` if the year of the date does not fit.
 #[unsafe(no_mangle)]
 pub extern "C" fn cellarcove_date_from_iso_week(year: i64, week: u8, weekday: u8) -> DateAnswer
-    ensures answer { result.status ≡ 0
-        → IsDate result.date.year result.date.month result.date.day_of_month
-        × ((w : Weekday) × (iso_number w ≡ weekday) × IsDayOfIsoWeek
-        (day_number result.date.year result.date.month result.date.day_of_month) year week w) }
+    ensures answer { result.status ≡ 0 → Exists result.date × ((w : Weekday)
+        × (iso_number w ≡ weekday) × IsDayOfIsoWeek (day_of result.date) year week w) }
     ensures outside { (result.status ≡ outside) ↔ (¬ ((1 ≤ weekday) × (weekday ≤ 7))) }
     ensures no_date { (result.status ≡ no_date)
         ↔ (((1 ≤ weekday) × (weekday ≤ 7)) × (¬ (HasIsoWeek year week))) }
     ensures not_fitting { (result.status ≡ not_fitting) ↔ IsDayBeyond year week weekday }
-    ensures refusal { result.status ≢ 0
-        → (result.date ≡ record { year = pos 0; month = 0; day_of_month = 0 })
-        × ((result.status ≡ outside) ⊎ ((result.status ≡ no_date) ⊎ (result.status ≡ not_fitting))) }
+    ensures refusal { Refuses (λ s. (s ≡ outside) ⊎ Either no_date not_fitting s) zero_date
+        result.status result.date }
 {
     match Weekday::from_iso_number(weekday) {
         Some(weekday) => match calendar::Date::from_iso_week(year, week, weekday) {
@@ -192,8 +221,8 @@ pub extern "C" fn cellarcove_date_from_iso_week(year: i64, week: u8, weekday: u8
 #[unsafe(no_mangle)]
 pub extern "C" fn cellarcove_easter(year: i64) -> Date
     ensures year { result.year ≡ year }
-    ensures date { IsDate result.year result.month result.day_of_month }
-    ensures easter { IsEaster year (day_number result.year result.month result.day_of_month) }
+    ensures date { Exists result }
+    ensures easter { IsEaster year (day_of result) }
 {
     Date::of(&easter(year))
 }
@@ -202,8 +231,8 @@ impl Date {
     /// Returns the date of a date of the calendar.
     fn of(date: &calendar::Date) -> Date
         ensures parts { HasParts date.now result.year result.month result.day_of_month }
-        ensures date { IsDate result.year result.month result.day_of_month }
-        ensures number { day_number result.year result.month result.day_of_month ≡ number_of date.now }
+        ensures date { Exists result }
+        ensures number { day_of result ≡ number_of date.now }
     {
         Date {
             year: date.year,
@@ -214,10 +243,9 @@ impl Date {
 
     /// Returns the date of the calendar, or `None` if there is no such date.
     pub(crate) fn found(self) -> Option<calendar::Date>
-        ensures { MatchOption result (¬ (IsDate self.year self.month self.day_of_month))
-            (λ date. IsDate self.year self.month self.day_of_month
+        ensures { MatchOption result (¬ (Exists self)) (λ date. Exists self
             × HasParts date self.year self.month self.day_of_month
-            × (number_of date ≡ day_number self.year self.month self.day_of_month)) }
+            × (number_of date ≡ day_of self)) }
     {
         calendar::Date::new(self.year, self.month, self.day_of_month)
     }
@@ -228,9 +256,8 @@ impl DateAnswer {
     pub(crate) fn some(date: &calendar::Date) -> DateAnswer
         ensures status { result.status ≡ 0 }
         ensures parts { HasParts date.now result.date.year result.date.month result.date.day_of_month }
-        ensures date { IsDate result.date.year result.date.month result.date.day_of_month }
-        ensures number { day_number result.date.year result.date.month result.date.day_of_month
-            ≡ number_of date.now }
+        ensures date { Exists result.date }
+        ensures number { day_of result.date ≡ number_of date.now }
     {
         DateAnswer {
             status: ANSWER,
@@ -240,10 +267,7 @@ impl DateAnswer {
 
     /// Returns a rejection.
     pub(crate) fn none(status: u32) -> DateAnswer
-        ensures { result ≡ record {
-          status = status;
-          date = record { year = pos 0; month = 0; day_of_month = 0 };
-        } }
+        ensures { result ≡ record { status = status; date = zero_date } }
     {
         DateAnswer {
             status,
@@ -274,7 +298,7 @@ impl IsoWeekAnswer {
 fn reason_for_week(year: i64, week: u8) -> u32
     ensures no_date { (result ≡ no_date) ↔ (¬ (HasIsoWeek year week)) }
     ensures not_fitting { (result ≡ not_fitting) ↔ HasIsoWeek year week }
-    ensures refusal { (result ≡ no_date) ⊎ (result ≡ not_fitting) }
+    ensures refusal { Either no_date not_fitting result }
 {
     if (1..=weeks_in_year(year)).contains(&week) {
         NOT_FITTING

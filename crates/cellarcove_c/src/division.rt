@@ -1,12 +1,11 @@
 //! Division, rounded toward 0, down or up.
 
-ghost use Rattle.std.specs.Prelude.{◌≡◌, ◌≢◌, ◌↔◌, ◌*ℤ◌, pos, FitsSigned, IsTrue};
-ghost use Rattle.std.specs.Int.{FitsUnsignedBits, w64};
-ghost use Rattle.num_integer.specs.Checked.{AnswersWhere};
+ghost use Rattle.std.specs.Prelude.{◌≡◌, ◌≢◌, ◌↔◌, ◌*ℤ◌, ℕ, ℤ, pos, IsTrue};
 ghost use Rattle.num_integer.specs.Division.{IsCeiled, IsFloored, IsMultiple, IsQuotient, IsRemainder, IsTruncated};
 ghost use Rattle.num_integer.specs.Divisors.{Divides};
-ghost use Rattle.num_integer.specs.Range.{EachFits};
-ghost use Rattle.cellarcove_c.specs.Statuses.{IsReason, answer_of, outside};
+ghost use Rattle.cellarcove_c.specs.Answers.{I64Answers, Refuses, U64Answers};
+ghost use Rattle.cellarcove_c.specs.Quotients.{I64Quotient, I64Quotients, U64Quotient, U64Quotients};
+ghost use Rattle.cellarcove_c.specs.Statuses.{IsReason, Only, answer_of, outside};
 
 use crate::answers::{ANSWER, I64Answer, NOT_FITTING, OUTSIDE, U64Answer};
 use num_integer::{Integer, checked};
@@ -35,12 +34,7 @@ pub struct U64Division {
 /// `OUTSIDE` if `y` is 0. `NOT_FITTING` if the quotient does not fit.
 #[unsafe(no_mangle)]
 pub extern "C" fn cellarcove_div_rem_i64(x: i64, y: i64) -> I64Division
-    ensures answer { AnswersWhere
-        ((y ≢ pos 0) × EachFits (FitsSigned w64) (IsQuotient IsTruncated x y))
-        (λ (q, r). IsTruncated x y q r)
-        (answer_of result.status (result.quotient, result.remainder)) }
-    ensures refusal { result.status ≢ 0 → (result.quotient ≡ pos 0) × (result.remainder ≡ pos 0)
-        × IsReason (y ≡ pos 0) result.status }
+    ensures { I64Quotients IsTruncated x y result }
 {
     I64Division::of(checked::div_rem(x, y), reason_for_divisor(y))
 }
@@ -50,12 +44,7 @@ pub extern "C" fn cellarcove_div_rem_i64(x: i64, y: i64) -> I64Division
 /// `OUTSIDE` if `y` is 0.
 #[unsafe(no_mangle)]
 pub extern "C" fn cellarcove_div_rem_u64(x: u64, y: u64) -> U64Division
-    ensures answer { AnswersWhere
-        ((pos y ≢ pos 0) × EachFits (FitsUnsignedBits 64) (IsQuotient IsTruncated (pos x) (pos y)))
-        (λ (q, r). IsTruncated (pos x) (pos y) (pos q) (pos r))
-        (answer_of result.status (result.quotient, result.remainder)) }
-    ensures refusal { result.status ≢ 0
-        → result ≡ record { status = outside; quotient = 0; remainder = 0 } }
+    ensures { U64Quotients IsTruncated (pos x) (pos y) (Only outside) result }
 {
     U64Division::of(checked::div_rem(x, y), OUTSIDE)
 }
@@ -65,10 +54,7 @@ pub extern "C" fn cellarcove_div_rem_u64(x: u64, y: u64) -> U64Division
 /// `OUTSIDE` if `y` is 0. `NOT_FITTING` if the quotient does not fit.
 #[unsafe(no_mangle)]
 pub extern "C" fn cellarcove_div_floor_i64(x: i64, y: i64) -> I64Answer
-    ensures answer { AnswersWhere
-        ((y ≢ pos 0) × EachFits (FitsSigned w64) (IsQuotient IsFloored x y)) (IsQuotient IsFloored x y)
-        (answer_of result.status result.value) }
-    ensures refusal { result.status ≢ 0 → (result.value ≡ pos 0) × IsReason (y ≡ pos 0) result.status }
+    ensures { I64Quotient y (IsQuotient IsFloored x y) result }
 {
     I64Answer::of(checked::div_floor(x, y), reason_for_divisor(y))
 }
@@ -78,11 +64,7 @@ pub extern "C" fn cellarcove_div_floor_i64(x: i64, y: i64) -> I64Answer
 /// `OUTSIDE` if `y` is 0.
 #[unsafe(no_mangle)]
 pub extern "C" fn cellarcove_div_floor_u64(x: u64, y: u64) -> U64Answer
-    ensures answer { AnswersWhere
-        ((pos y ≢ pos 0) × EachFits (FitsUnsignedBits 64) (IsQuotient IsFloored (pos x) (pos y)))
-        (λ q. IsQuotient IsFloored (pos x) (pos y) (pos q))
-        (answer_of result.status result.value) }
-    ensures refusal { result.status ≢ 0 → result ≡ record { status = outside; value = 0 } }
+    ensures { U64Quotient (pos y) (IsQuotient IsFloored (pos x) (pos y)) (Only outside) result }
 {
     U64Answer::of(checked::div_floor(x, y), OUTSIDE)
 }
@@ -92,10 +74,7 @@ pub extern "C" fn cellarcove_div_floor_u64(x: u64, y: u64) -> U64Answer
 /// `OUTSIDE` if `y` is 0. `NOT_FITTING` if the quotient does not fit.
 #[unsafe(no_mangle)]
 pub extern "C" fn cellarcove_div_ceil_i64(x: i64, y: i64) -> I64Answer
-    ensures answer { AnswersWhere
-        ((y ≢ pos 0) × EachFits (FitsSigned w64) (IsQuotient IsCeiled x y)) (IsQuotient IsCeiled x y)
-        (answer_of result.status result.value) }
-    ensures refusal { result.status ≢ 0 → (result.value ≡ pos 0) × IsReason (y ≡ pos 0) result.status }
+    ensures { I64Quotient y (IsQuotient IsCeiled x y) result }
 {
     I64Answer::of(checked::div_ceil(x, y), reason_for_divisor(y))
 }
@@ -105,11 +84,7 @@ pub extern "C" fn cellarcove_div_ceil_i64(x: i64, y: i64) -> I64Answer
 /// `OUTSIDE` if `y` is 0.
 #[unsafe(no_mangle)]
 pub extern "C" fn cellarcove_div_ceil_u64(x: u64, y: u64) -> U64Answer
-    ensures answer { AnswersWhere
-        ((pos y ≢ pos 0) × EachFits (FitsUnsignedBits 64) (IsQuotient IsCeiled (pos x) (pos y)))
-        (λ q. IsQuotient IsCeiled (pos x) (pos y) (pos q))
-        (answer_of result.status result.value) }
-    ensures refusal { result.status ≢ 0 → result ≡ record { status = outside; value = 0 } }
+    ensures { U64Quotient (pos y) (IsQuotient IsCeiled (pos x) (pos y)) (Only outside) result }
 {
     U64Answer::of(checked::div_ceil(x, y), OUTSIDE)
 }
@@ -120,9 +95,7 @@ pub extern "C" fn cellarcove_div_ceil_u64(x: u64, y: u64) -> U64Answer
 /// `OUTSIDE` if `y` is 0.
 #[unsafe(no_mangle)]
 pub extern "C" fn cellarcove_mod_floor_i64(x: i64, y: i64) -> I64Answer
-    ensures answer { AnswersWhere (y ≢ pos 0) (IsRemainder IsFloored x y)
-        (answer_of result.status result.value) }
-    ensures refusal { result.status ≢ 0 → result ≡ record { status = outside; value = pos 0 } }
+    ensures { I64Answers (y ≢ pos 0) (IsRemainder IsFloored x y) (Only outside) result }
 {
     I64Answer::of(checked::mod_floor(x, y), OUTSIDE)
 }
@@ -132,10 +105,8 @@ pub extern "C" fn cellarcove_mod_floor_i64(x: i64, y: i64) -> I64Answer
 /// `OUTSIDE` if `y` is 0.
 #[unsafe(no_mangle)]
 pub extern "C" fn cellarcove_mod_floor_u64(x: u64, y: u64) -> U64Answer
-    ensures answer { AnswersWhere (pos y ≢ pos 0)
-        (λ r. IsRemainder IsFloored (pos x) (pos y) (pos r))
-        (answer_of result.status result.value) }
-    ensures refusal { result.status ≢ 0 → result ≡ record { status = outside; value = 0 } }
+    ensures { U64Answers (pos y ≢ pos 0) (IsRemainder IsFloored (pos x) (pos y)) (Only outside)
+        result }
 {
     U64Answer::of(checked::mod_floor(x, y), OUTSIDE)
 }
@@ -145,12 +116,7 @@ pub extern "C" fn cellarcove_mod_floor_u64(x: u64, y: u64) -> U64Answer
 /// `OUTSIDE` if `y` is 0. `NOT_FITTING` if the quotient does not fit.
 #[unsafe(no_mangle)]
 pub extern "C" fn cellarcove_div_mod_floor_i64(x: i64, y: i64) -> I64Division
-    ensures answer { AnswersWhere
-        ((y ≢ pos 0) × EachFits (FitsSigned w64) (IsQuotient IsFloored x y))
-        (λ (q, r). IsFloored x y q r)
-        (answer_of result.status (result.quotient, result.remainder)) }
-    ensures refusal { result.status ≢ 0 → (result.quotient ≡ pos 0) × (result.remainder ≡ pos 0)
-        × IsReason (y ≡ pos 0) result.status }
+    ensures { I64Quotients IsFloored x y result }
 {
     I64Division::of(checked::div_mod_floor(x, y), reason_for_divisor(y))
 }
@@ -160,12 +126,7 @@ pub extern "C" fn cellarcove_div_mod_floor_i64(x: i64, y: i64) -> I64Division
 /// `OUTSIDE` if `y` is 0.
 #[unsafe(no_mangle)]
 pub extern "C" fn cellarcove_div_mod_floor_u64(x: u64, y: u64) -> U64Division
-    ensures answer { AnswersWhere
-        ((pos y ≢ pos 0) × EachFits (FitsUnsignedBits 64) (IsQuotient IsFloored (pos x) (pos y)))
-        (λ (q, r). IsFloored (pos x) (pos y) (pos q) (pos r))
-        (answer_of result.status (result.quotient, result.remainder)) }
-    ensures refusal { result.status ≢ 0
-        → result ≡ record { status = outside; quotient = 0; remainder = 0 } }
+    ensures { U64Quotients IsFloored (pos x) (pos y) (Only outside) result }
 {
     U64Division::of(checked::div_mod_floor(x, y), OUTSIDE)
 }
@@ -176,12 +137,7 @@ pub extern "C" fn cellarcove_div_mod_floor_u64(x: u64, y: u64) -> U64Division
 /// `OUTSIDE` if `d` is 0. `NOT_FITTING` if the quotient does not fit.
 #[unsafe(no_mangle)]
 pub extern "C" fn cellarcove_product_div_mod_floor_i64(a: i64, b: i64, d: i64) -> I64Division
-    ensures answer { AnswersWhere
-        ((d ≢ pos 0) × EachFits (FitsSigned w64) (IsQuotient IsFloored (a *ℤ b) d))
-        (λ (q, r). IsFloored (a *ℤ b) d q r)
-        (answer_of result.status (result.quotient, result.remainder)) }
-    ensures refusal { result.status ≢ 0 → (result.quotient ≡ pos 0) × (result.remainder ≡ pos 0)
-        × IsReason (d ≡ pos 0) result.status }
+    ensures { I64Quotients IsFloored (a *ℤ b) d result }
 {
     I64Division::of(
         checked::product_div_mod_floor(a, b, d),
@@ -195,12 +151,7 @@ pub extern "C" fn cellarcove_product_div_mod_floor_i64(a: i64, b: i64, d: i64) -
 /// `OUTSIDE` if `d` is 0. `NOT_FITTING` if the quotient does not fit.
 #[unsafe(no_mangle)]
 pub extern "C" fn cellarcove_product_div_mod_floor_u64(a: u64, b: u64, d: u64) -> U64Division
-    ensures answer { AnswersWhere
-        ((pos d ≢ pos 0) × EachFits (FitsUnsignedBits 64) (IsQuotient IsFloored (pos a *ℤ pos b) (pos d)))
-        (λ (q, r). IsFloored (pos a *ℤ pos b) (pos d) (pos q) (pos r))
-        (answer_of result.status (result.quotient, result.remainder)) }
-    ensures refusal { result.status ≢ 0 → (result.quotient ≡ 0) × (result.remainder ≡ 0)
-        × IsReason (pos d ≡ pos 0) result.status }
+    ensures { U64Quotients IsFloored (pos a *ℤ pos b) (pos d) (IsReason (pos d ≡ pos 0)) result }
 {
     U64Division::of(
         checked::product_div_mod_floor(a, b, d),
@@ -214,10 +165,7 @@ pub extern "C" fn cellarcove_product_div_mod_floor_u64(a: u64, b: u64, d: u64) -
 /// `OUTSIDE` if `y` is 0. `NOT_FITTING` if the multiple does not fit.
 #[unsafe(no_mangle)]
 pub extern "C" fn cellarcove_next_multiple_of_i64(x: i64, y: i64) -> I64Answer
-    ensures answer { AnswersWhere
-        ((y ≢ pos 0) × EachFits (FitsSigned w64) (IsMultiple IsCeiled x y)) (IsMultiple IsCeiled x y)
-        (answer_of result.status result.value) }
-    ensures refusal { result.status ≢ 0 → (result.value ≡ pos 0) × IsReason (y ≡ pos 0) result.status }
+    ensures { I64Quotient y (IsMultiple IsCeiled x y) result }
 {
     I64Answer::of(checked::next_multiple_of(x, y), reason_for_divisor(y))
 }
@@ -227,11 +175,8 @@ pub extern "C" fn cellarcove_next_multiple_of_i64(x: i64, y: i64) -> I64Answer
 /// `OUTSIDE` if `y` is 0. `NOT_FITTING` if the multiple does not fit.
 #[unsafe(no_mangle)]
 pub extern "C" fn cellarcove_next_multiple_of_u64(x: u64, y: u64) -> U64Answer
-    ensures answer { AnswersWhere
-        ((pos y ≢ pos 0) × EachFits (FitsUnsignedBits 64) (IsMultiple IsCeiled (pos x) (pos y)))
-        (λ m. IsMultiple IsCeiled (pos x) (pos y) (pos m))
-        (answer_of result.status result.value) }
-    ensures refusal { result.status ≢ 0 → (result.value ≡ 0) × IsReason (pos y ≡ pos 0) result.status }
+    ensures { U64Quotient (pos y) (IsMultiple IsCeiled (pos x) (pos y)) (IsReason (pos y ≡ pos 0))
+        result }
 {
     U64Answer::of(
         checked::next_multiple_of(x, y),
@@ -245,10 +190,7 @@ pub extern "C" fn cellarcove_next_multiple_of_u64(x: u64, y: u64) -> U64Answer
 /// `OUTSIDE` if `y` is 0. `NOT_FITTING` if the multiple does not fit.
 #[unsafe(no_mangle)]
 pub extern "C" fn cellarcove_prev_multiple_of_i64(x: i64, y: i64) -> I64Answer
-    ensures answer { AnswersWhere
-        ((y ≢ pos 0) × EachFits (FitsSigned w64) (IsMultiple IsFloored x y)) (IsMultiple IsFloored x y)
-        (answer_of result.status result.value) }
-    ensures refusal { result.status ≢ 0 → (result.value ≡ pos 0) × IsReason (y ≡ pos 0) result.status }
+    ensures { I64Quotient y (IsMultiple IsFloored x y) result }
 {
     I64Answer::of(checked::prev_multiple_of(x, y), reason_for_divisor(y))
 }
@@ -258,11 +200,7 @@ pub extern "C" fn cellarcove_prev_multiple_of_i64(x: i64, y: i64) -> I64Answer
 /// `OUTSIDE` if `y` is 0.
 #[unsafe(no_mangle)]
 pub extern "C" fn cellarcove_prev_multiple_of_u64(x: u64, y: u64) -> U64Answer
-    ensures answer { AnswersWhere
-        ((pos y ≢ pos 0) × EachFits (FitsUnsignedBits 64) (IsMultiple IsFloored (pos x) (pos y)))
-        (λ m. IsMultiple IsFloored (pos x) (pos y) (pos m))
-        (answer_of result.status result.value) }
-    ensures refusal { result.status ≢ 0 → result ≡ record { status = outside; value = 0 } }
+    ensures { U64Quotient (pos y) (IsMultiple IsFloored (pos x) (pos y)) (Only outside) result }
 {
     U64Answer::of(checked::prev_multiple_of(x, y), OUTSIDE)
 }
@@ -288,8 +226,8 @@ impl I64Division {
     fn of(option: Option<(i64, i64)>, reason: u32) -> I64Division
         requires { reason ≢ 0 }
         ensures answer { answer_of result.status (result.quotient, result.remainder) ≡ option }
-        ensures refusal { result.status ≢ 0
-            → result ≡ record { status = reason; quotient = pos 0; remainder = pos 0 } }
+        ensures refusal { Refuses {A = ℤ × ℤ} (Only reason) (pos 0, pos 0)
+            result.status (result.quotient, result.remainder) }
     {
         match option {
             Some((quotient, remainder)) => I64Division {
@@ -311,8 +249,8 @@ impl U64Division {
     fn of(option: Option<(u64, u64)>, reason: u32) -> U64Division
         requires { reason ≢ 0 }
         ensures answer { answer_of result.status (result.quotient, result.remainder) ≡ option }
-        ensures refusal { result.status ≢ 0
-            → result ≡ record { status = reason; quotient = 0; remainder = 0 } }
+        ensures refusal { Refuses {A = ℕ × ℕ} (Only reason) (0, 0) result.status
+            (result.quotient, result.remainder) }
     {
         match option {
             Some((quotient, remainder)) => U64Division {

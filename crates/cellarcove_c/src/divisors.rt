@@ -1,12 +1,12 @@
 //! Common divisors and multiples.
 
-ghost use Rattle.std.specs.Prelude.{◌≡◌, ◌≢◌, pos, FitsSigned};
+ghost use Rattle.std.specs.Prelude.{◌≡◌, ℕ, ℤ, pos, FitsSigned};
 ghost use Rattle.std.specs.Int.{FitsUnsignedBits, w64};
 ghost use Rattle.num_integer.specs.Bezout.{HasPair, IsBezoutAnswer};
-ghost use Rattle.num_integer.specs.Checked.{AnswersWhere};
 ghost use Rattle.num_integer.specs.Divisors.{GcdFits, IsGreatestCommonDivisor, IsLeastCommonMultiple};
 ghost use Rattle.num_integer.specs.Range.{EachFits};
-ghost use Rattle.cellarcove_c.specs.Statuses.{answer_of, not_fitting};
+ghost use Rattle.cellarcove_c.specs.Answers.{Answers, I64Answers, I64Fitting, U64Answers, U64Fitting};
+ghost use Rattle.cellarcove_c.specs.Statuses.{Only, not_fitting};
 
 use crate::answers::{ANSWER, I64Answer, NOT_FITTING, U64Answer};
 use num_integer::{ExtendedGcd, checked};
@@ -44,9 +44,8 @@ pub struct U64GcdLcm {
 /// `NOT_FITTING` if it is 2^63.
 #[unsafe(no_mangle)]
 pub extern "C" fn cellarcove_gcd_i64(x: i64, y: i64) -> I64Answer
-    ensures answer { AnswersWhere (GcdFits (FitsSigned w64) x y) (IsGreatestCommonDivisor x y)
-        (answer_of result.status result.value) }
-    ensures refusal { result.status ≢ 0 → result ≡ record { status = not_fitting; value = pos 0 } }
+    ensures { I64Answers (GcdFits (FitsSigned w64) x y) (IsGreatestCommonDivisor x y)
+        (Only not_fitting) result }
 {
     I64Answer::of(checked::gcd(x, y), NOT_FITTING)
 }
@@ -54,11 +53,9 @@ pub extern "C" fn cellarcove_gcd_i64(x: i64, y: i64) -> I64Answer
 /// Returns the greatest common divisor, which always fits. That of 56 and 42 is 14.
 #[unsafe(no_mangle)]
 pub extern "C" fn cellarcove_gcd_u64(x: u64, y: u64) -> U64Answer
-    ensures answer { AnswersWhere (GcdFits (FitsUnsignedBits 64) (pos x) (pos y))
-        (λ g. IsGreatestCommonDivisor (pos x) (pos y) (pos g))
-        (answer_of result.status result.value) }
+    ensures answer { U64Answers (GcdFits (FitsUnsignedBits 64) (pos x) (pos y))
+        (IsGreatestCommonDivisor (pos x) (pos y)) (Only not_fitting) result }
     ensures always { result.status ≡ 0 }
-    ensures refusal { result.status ≢ 0 → result ≡ record { status = not_fitting; value = 0 } }
 {
     U64Answer::of(checked::gcd(x, y), NOT_FITTING)
 }
@@ -68,9 +65,7 @@ pub extern "C" fn cellarcove_gcd_u64(x: u64, y: u64) -> U64Answer
 /// `NOT_FITTING` if the multiple does not fit.
 #[unsafe(no_mangle)]
 pub extern "C" fn cellarcove_lcm_i64(x: i64, y: i64) -> I64Answer
-    ensures answer { AnswersWhere (EachFits (FitsSigned w64) (IsLeastCommonMultiple x y))
-        (IsLeastCommonMultiple x y) (answer_of result.status result.value) }
-    ensures refusal { result.status ≢ 0 → result ≡ record { status = not_fitting; value = pos 0 } }
+    ensures { I64Fitting (IsLeastCommonMultiple x y) result }
 {
     I64Answer::of(checked::lcm(x, y), NOT_FITTING)
 }
@@ -80,11 +75,7 @@ pub extern "C" fn cellarcove_lcm_i64(x: i64, y: i64) -> I64Answer
 /// `NOT_FITTING` if the multiple does not fit.
 #[unsafe(no_mangle)]
 pub extern "C" fn cellarcove_lcm_u64(x: u64, y: u64) -> U64Answer
-    ensures answer { AnswersWhere
-        (EachFits (FitsUnsignedBits 64) (IsLeastCommonMultiple (pos x) (pos y)))
-        (λ l. IsLeastCommonMultiple (pos x) (pos y) (pos l))
-        (answer_of result.status result.value) }
-    ensures refusal { result.status ≢ 0 → result ≡ record { status = not_fitting; value = 0 } }
+    ensures { U64Fitting (IsLeastCommonMultiple (pos x) (pos y)) result }
 {
     U64Answer::of(checked::lcm(x, y), NOT_FITTING)
 }
@@ -94,12 +85,10 @@ pub extern "C" fn cellarcove_lcm_u64(x: u64, y: u64) -> U64Answer
 /// `NOT_FITTING` if one of the two does not fit.
 #[unsafe(no_mangle)]
 pub extern "C" fn cellarcove_gcd_lcm_i64(x: i64, y: i64) -> I64GcdLcm
-    ensures answer { AnswersWhere
+    ensures { Answers {A = ℤ × ℤ}
         (GcdFits (FitsSigned w64) x y × EachFits (FitsSigned w64) (IsLeastCommonMultiple x y))
         (λ (g, l). IsGreatestCommonDivisor x y g × IsLeastCommonMultiple x y l)
-        (answer_of result.status (result.gcd, result.lcm)) }
-    ensures refusal { result.status ≢ 0
-        → result ≡ record { status = not_fitting; gcd = pos 0; lcm = pos 0 } }
+        (Only not_fitting) (pos 0, pos 0) result.status (result.gcd, result.lcm) }
 {
     match checked::gcd_lcm(x, y) {
         Some((gcd, lcm)) => I64GcdLcm {
@@ -120,13 +109,12 @@ pub extern "C" fn cellarcove_gcd_lcm_i64(x: i64, y: i64) -> I64GcdLcm
 /// `NOT_FITTING` if one of the two does not fit.
 #[unsafe(no_mangle)]
 pub extern "C" fn cellarcove_gcd_lcm_u64(x: u64, y: u64) -> U64GcdLcm
-    ensures answer { AnswersWhere
+    ensures { Answers {A = ℕ × ℕ}
         (GcdFits (FitsUnsignedBits 64) (pos x) (pos y)
         × EachFits (FitsUnsignedBits 64) (IsLeastCommonMultiple (pos x) (pos y)))
         (λ (g, l). IsGreatestCommonDivisor (pos x) (pos y) (pos g)
         × IsLeastCommonMultiple (pos x) (pos y) (pos l))
-        (answer_of result.status (result.gcd, result.lcm)) }
-    ensures refusal { result.status ≢ 0 → result ≡ record { status = not_fitting; gcd = 0; lcm = 0 } }
+        (Only not_fitting) (0, 0) result.status (result.gcd, result.lcm) }
 {
     match checked::gcd_lcm(x, y) {
         Some((gcd, lcm)) => U64GcdLcm {
@@ -149,12 +137,10 @@ pub extern "C" fn cellarcove_gcd_lcm_u64(x: u64, y: u64) -> U64GcdLcm
 /// `NOT_FITTING` if the divisor is 2^63.
 #[unsafe(no_mangle)]
 pub extern "C" fn cellarcove_extended_gcd_i64(x: i64, y: i64) -> I64Bezout
-    ensures answer { AnswersWhere
+    ensures { Answers {A = ℤ × ℤ × ℤ}
         (GcdFits (FitsSigned w64) x y × HasPair (FitsSigned w64) x y)
         (λ (g, u, v). IsBezoutAnswer x y g u v)
-        (answer_of result.status (result.gcd, result.x, result.y)) }
-    ensures refusal { result.status ≢ 0
-        → result ≡ record { status = not_fitting; gcd = pos 0; x = pos 0; y = pos 0 } }
+        (Only not_fitting) (pos 0, pos 0, pos 0) result.status (result.gcd, result.x, result.y) }
 {
     match checked::extended_gcd(x, y) {
         Some(e) => I64Bezout::some(e),

@@ -1,15 +1,14 @@
 //! Exact fractions. A fraction that is passed is reduced first, and a part of it that does not fit
 //! then is rejected. If both fractions are rejected, the status is that of the first.
 
-ghost use Rattle.std.specs.Prelude.{◌≡◌, ◌<ℤ◌, ◌≤ℤ◌, ◌+ℤ◌, ◌-ℤ◌, ◌*ℤ◌, pos, Result, Err, MatchResult};
-ghost use Rattle.std.specs.declared.cmp.Ordering.{Ordering};
+ghost use Rattle.std.specs.Prelude.{◌≡◌, ◌<ℤ◌, ◌≤ℤ◌, pos, Result, MatchResult};
 ghost use Rattle.ratio64.specs.Fraction.{fraction_cmp};
 ghost use Rattle.ratio64.specs.Limiting.{IsNearestWithin};
 ghost use Rattle.ratio64.specs.Ratio.{AnswersFraction, den_of, num_of};
 ghost use Rattle.ratio64.specs.RatioError.{number_of};
 ghost use Rattle.ratio64.specs.declared.error.RatioError.{RatioError};
 ghost use Rattle.ratio64.specs.declared.fraction.Ratio.{Ratio};
-ghost use Rattle.cellarcove_c.specs.Fractions.{OnBoth, StandsFor, order_number};
+ghost use Rattle.cellarcove_c.specs.Fractions.{AnswersOfTwo, IsDifferenceOf, IsProductOf, IsQuotientOf, IsSumOf, OnBoth, StandsFor, order_number};
 ghost use Rattle.cellarcove_c.specs.Statuses.{outside};
 
 use crate::answers::{ANSWER, OUTSIDE};
@@ -58,13 +57,7 @@ pub extern "C" fn cellarcove_fraction_new(num: i64, den: i64) -> FractionAnswer
 /// fit, or a part of the result.
 #[unsafe(no_mangle)]
 pub extern "C" fn cellarcove_fraction_add(a: Fraction, b: Fraction) -> FractionAnswer
-    ensures { (p q r : Result Ratio RatioError) × AnswersFraction a.num a.den p
-        × AnswersFraction b.num b.den q
-        × OnBoth p q
-        (λ x y. AnswersFraction (num_of x *ℤ den_of y +ℤ num_of y *ℤ den_of x)
-        (den_of x *ℤ den_of y) r)
-        (λ e. r ≡ Err e)
-        × StandsFor r result.status result.value.num result.value.den }
+    ensures { AnswersOfTwo IsSumOf a b result }
 {
     FractionAnswer::of(sum(a.reduced(), b.reduced()))
 }
@@ -75,13 +68,7 @@ pub extern "C" fn cellarcove_fraction_add(a: Fraction, b: Fraction) -> FractionA
 /// fit, or a part of the result.
 #[unsafe(no_mangle)]
 pub extern "C" fn cellarcove_fraction_sub(a: Fraction, b: Fraction) -> FractionAnswer
-    ensures { (p q r : Result Ratio RatioError) × AnswersFraction a.num a.den p
-        × AnswersFraction b.num b.den q
-        × OnBoth p q
-        (λ x y. AnswersFraction (num_of x *ℤ den_of y -ℤ num_of y *ℤ den_of x)
-        (den_of x *ℤ den_of y) r)
-        (λ e. r ≡ Err e)
-        × StandsFor r result.status result.value.num result.value.den }
+    ensures { AnswersOfTwo IsDifferenceOf a b result }
 {
     FractionAnswer::of(difference(a.reduced(), b.reduced()))
 }
@@ -92,13 +79,7 @@ pub extern "C" fn cellarcove_fraction_sub(a: Fraction, b: Fraction) -> FractionA
 /// fit, or a part of the result.
 #[unsafe(no_mangle)]
 pub extern "C" fn cellarcove_fraction_mul(a: Fraction, b: Fraction) -> FractionAnswer
-    ensures { (p q r : Result Ratio RatioError) × AnswersFraction a.num a.den p
-        × AnswersFraction b.num b.den q
-        × OnBoth p q
-        (λ x y. AnswersFraction (num_of x *ℤ num_of y)
-        (den_of x *ℤ den_of y) r)
-        (λ e. r ≡ Err e)
-        × StandsFor r result.status result.value.num result.value.den }
+    ensures { AnswersOfTwo IsProductOf a b result }
 {
     FractionAnswer::of(product(a.reduced(), b.reduced()))
 }
@@ -109,13 +90,7 @@ pub extern "C" fn cellarcove_fraction_mul(a: Fraction, b: Fraction) -> FractionA
 /// reduced, does not fit, or a part of the result.
 #[unsafe(no_mangle)]
 pub extern "C" fn cellarcove_fraction_div(a: Fraction, b: Fraction) -> FractionAnswer
-    ensures { (p q r : Result Ratio RatioError) × AnswersFraction a.num a.den p
-        × AnswersFraction b.num b.den q
-        × OnBoth p q
-        (λ x y. AnswersFraction (num_of x *ℤ den_of y)
-        (num_of y *ℤ den_of x) r)
-        (λ e. r ≡ Err e)
-        × StandsFor r result.status result.value.num result.value.den }
+    ensures { AnswersOfTwo IsQuotientOf a b result }
 {
     FractionAnswer::of(quotient(a.reduced(), b.reduced()))
 }
@@ -220,10 +195,7 @@ impl OrderAnswer {
 
 /// Returns the sum of two fractions, or the first error.
 fn sum(a: Result<Ratio, RatioError>, b: Result<Ratio, RatioError>) -> Result<Ratio, RatioError>
-    ensures { OnBoth a b
-        (λ x y. AnswersFraction (num_of x *ℤ den_of y +ℤ num_of y *ℤ den_of x)
-        (den_of x *ℤ den_of y) result)
-        (λ e. result ≡ Err e) }
+    ensures { IsSumOf a b result }
 {
     a?.checked_add(&b?)
 }
@@ -233,30 +205,21 @@ fn difference(
     a: Result<Ratio, RatioError>,
     b: Result<Ratio, RatioError>,
 ) -> Result<Ratio, RatioError>
-    ensures { OnBoth a b
-        (λ x y. AnswersFraction (num_of x *ℤ den_of y -ℤ num_of y *ℤ den_of x)
-        (den_of x *ℤ den_of y) result)
-        (λ e. result ≡ Err e) }
+    ensures { IsDifferenceOf a b result }
 {
     a?.checked_sub(&b?)
 }
 
 /// Returns the product of two fractions, or the first error.
 fn product(a: Result<Ratio, RatioError>, b: Result<Ratio, RatioError>) -> Result<Ratio, RatioError>
-    ensures { OnBoth a b
-        (λ x y. AnswersFraction (num_of x *ℤ num_of y)
-        (den_of x *ℤ den_of y) result)
-        (λ e. result ≡ Err e) }
+    ensures { IsProductOf a b result }
 {
     a?.checked_mul(&b?)
 }
 
 /// Returns the quotient of two fractions, or the first error.
 fn quotient(a: Result<Ratio, RatioError>, b: Result<Ratio, RatioError>) -> Result<Ratio, RatioError>
-    ensures { OnBoth a b
-        (λ x y. AnswersFraction (num_of x *ℤ den_of y)
-        (num_of y *ℤ den_of x) result)
-        (λ e. result ≡ Err e) }
+    ensures { IsQuotientOf a b result }
 {
     a?.checked_div(&b?)
 }

@@ -6,7 +6,6 @@ mod answers;
 mod coefficients;
 mod congruences;
 mod dates;
-mod distances;
 mod division;
 mod divisors;
 mod fractions;

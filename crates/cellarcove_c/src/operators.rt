@@ -1,9 +1,7 @@
 //! Sums, differences and products that do not overflow.
 
-ghost use Rattle.std.specs.Prelude.{◌≡◌, ◌≢◌, ◌+ℤ◌, ◌-ℤ◌, ◌*ℤ◌, pos, FitsSigned};
-ghost use Rattle.std.specs.Int.{FitsUnsignedBits, w64};
-ghost use Rattle.num_integer.specs.Checked.{AnswersWhere};
-ghost use Rattle.cellarcove_c.specs.Statuses.{answer_of, not_fitting};
+ghost use Rattle.std.specs.Prelude.{◌+ℤ◌, ◌-ℤ◌, ◌*ℤ◌, pos};
+ghost use Rattle.cellarcove_c.specs.Answers.{I64Number, U64Number};
 
 use crate::answers::{I64Answer, NOT_FITTING, U64Answer};
 use num_integer::checked;
@@ -13,9 +11,7 @@ use num_integer::checked;
 /// `NOT_FITTING` if the sum does not fit.
 #[unsafe(no_mangle)]
 pub extern "C" fn cellarcove_checked_sum_i64(a: i64, b: i64) -> I64Answer
-    ensures answer { AnswersWhere (FitsSigned w64 (a +ℤ b)) (λ r. r ≡ a +ℤ b)
-        (answer_of result.status result.value) }
-    ensures refusal { result.status ≢ 0 → result ≡ record { status = not_fitting; value = pos 0 } }
+    ensures { I64Number (a +ℤ b) result }
 {
     I64Answer::of(checked::sum(a, b), NOT_FITTING)
 }
@@ -25,9 +21,7 @@ pub extern "C" fn cellarcove_checked_sum_i64(a: i64, b: i64) -> I64Answer
 /// `NOT_FITTING` if the sum does not fit.
 #[unsafe(no_mangle)]
 pub extern "C" fn cellarcove_checked_sum_u64(a: u64, b: u64) -> U64Answer
-    ensures answer { AnswersWhere (FitsUnsignedBits 64 (pos a +ℤ pos b)) (λ r. pos r ≡ pos a +ℤ pos b)
-        (answer_of result.status result.value) }
-    ensures refusal { result.status ≢ 0 → result ≡ record { status = not_fitting; value = 0 } }
+    ensures { U64Number (pos a +ℤ pos b) result }
 {
     U64Answer::of(checked::sum(a, b), NOT_FITTING)
 }
@@ -37,9 +31,7 @@ pub extern "C" fn cellarcove_checked_sum_u64(a: u64, b: u64) -> U64Answer
 /// `NOT_FITTING` if the difference does not fit.
 #[unsafe(no_mangle)]
 pub extern "C" fn cellarcove_checked_difference_i64(a: i64, b: i64) -> I64Answer
-    ensures answer { AnswersWhere (FitsSigned w64 (a -ℤ b)) (λ r. r ≡ a -ℤ b)
-        (answer_of result.status result.value) }
-    ensures refusal { result.status ≢ 0 → result ≡ record { status = not_fitting; value = pos 0 } }
+    ensures { I64Number (a -ℤ b) result }
 {
     I64Answer::of(checked::difference(a, b), NOT_FITTING)
 }
@@ -49,9 +41,7 @@ pub extern "C" fn cellarcove_checked_difference_i64(a: i64, b: i64) -> I64Answer
 /// `NOT_FITTING` if the difference is negative.
 #[unsafe(no_mangle)]
 pub extern "C" fn cellarcove_checked_difference_u64(a: u64, b: u64) -> U64Answer
-    ensures answer { AnswersWhere (FitsUnsignedBits 64 (pos a -ℤ pos b)) (λ r. pos r ≡ pos a -ℤ pos b)
-        (answer_of result.status result.value) }
-    ensures refusal { result.status ≢ 0 → result ≡ record { status = not_fitting; value = 0 } }
+    ensures { U64Number (pos a -ℤ pos b) result }
 {
     U64Answer::of(checked::difference(a, b), NOT_FITTING)
 }
@@ -61,9 +51,7 @@ pub extern "C" fn cellarcove_checked_difference_u64(a: u64, b: u64) -> U64Answer
 /// `NOT_FITTING` if the product does not fit.
 #[unsafe(no_mangle)]
 pub extern "C" fn cellarcove_checked_product_i64(a: i64, b: i64) -> I64Answer
-    ensures answer { AnswersWhere (FitsSigned w64 (a *ℤ b)) (λ r. r ≡ a *ℤ b)
-        (answer_of result.status result.value) }
-    ensures refusal { result.status ≢ 0 → result ≡ record { status = not_fitting; value = pos 0 } }
+    ensures { I64Number (a *ℤ b) result }
 {
     I64Answer::of(checked::product(a, b), NOT_FITTING)
 }
@@ -73,9 +61,7 @@ pub extern "C" fn cellarcove_checked_product_i64(a: i64, b: i64) -> I64Answer
 /// `NOT_FITTING` if the product does not fit.
 #[unsafe(no_mangle)]
 pub extern "C" fn cellarcove_checked_product_u64(a: u64, b: u64) -> U64Answer
-    ensures answer { AnswersWhere (FitsUnsignedBits 64 (pos a *ℤ pos b)) (λ r. pos r ≡ pos a *ℤ pos b)
-        (answer_of result.status result.value) }
-    ensures refusal { result.status ≢ 0 → result ≡ record { status = not_fitting; value = 0 } }
+    ensures { U64Number (pos a *ℤ pos b) result }
 {
     U64Answer::of(checked::product(a, b), NOT_FITTING)
 }

@@ -2,9 +2,9 @@
 
 ghost use Rattle.std.specs.Prelude.{◌≡◌, ◌≢◌, ◌%◌, ◌≤ℤ◌, pos};
 ghost use Rattle.num_integer.specs.Averages.{IsAverageCeil, IsAverageFloor};
-ghost use Rattle.num_integer.specs.Checked.{AnswersWhere};
 ghost use Rattle.num_integer.specs.RootOf.{IsRoot};
-ghost use Rattle.cellarcove_c.specs.Statuses.{answer_of, outside};
+ghost use Rattle.cellarcove_c.specs.Answers.{I64Answers, U64Answers};
+ghost use Rattle.cellarcove_c.specs.Statuses.{Only, outside};
 
 use crate::answers::{I64Answer, OUTSIDE, U64Answer};
 use num_integer::{average_ceil, average_floor, cbrt, checked};
@@ -46,9 +46,7 @@ pub extern "C" fn cellarcove_average_ceil_u64(x: u64, y: u64) -> u64
 /// `OUTSIDE` if `x` is negative.
 #[unsafe(no_mangle)]
 pub extern "C" fn cellarcove_sqrt_i64(x: i64) -> I64Answer
-    ensures answer { AnswersWhere (pos 0 ≤ℤ x) (IsRoot x 2)
-        (answer_of result.status result.value) }
-    ensures refusal { result.status ≢ 0 → result ≡ record { status = outside; value = pos 0 } }
+    ensures { I64Answers (pos 0 ≤ℤ x) (IsRoot x 2) (Only outside) result }
 {
     I64Answer::of(checked::sqrt(x), OUTSIDE)
 }
@@ -56,10 +54,8 @@ pub extern "C" fn cellarcove_sqrt_i64(x: i64) -> I64Answer
 /// Returns the square root rounded down, which always fits. That of 99 is 9.
 #[unsafe(no_mangle)]
 pub extern "C" fn cellarcove_sqrt_u64(x: u64) -> U64Answer
-    ensures answer { AnswersWhere (pos 0 ≤ℤ pos x) (λ r. IsRoot (pos x) 2 (pos r))
-        (answer_of result.status result.value) }
+    ensures answer { U64Answers (pos 0 ≤ℤ pos x) (IsRoot (pos x) 2) (Only outside) result }
     ensures always { result.status ≡ 0 }
-    ensures refusal { result.status ≢ 0 → result ≡ record { status = outside; value = 0 } }
 {
     U64Answer::of(checked::sqrt(x), OUTSIDE)
 }
@@ -85,9 +81,8 @@ pub extern "C" fn cellarcove_cbrt_u64(x: u64) -> u64
 /// `OUTSIDE` if `degree` is 0, and if it is even and `x` is negative.
 #[unsafe(no_mangle)]
 pub extern "C" fn cellarcove_nth_root_i64(x: i64, degree: u32) -> I64Answer
-    ensures answer { AnswersWhere ((degree ≢ 0) × (degree % 2 ≡ 0 → pos 0 ≤ℤ x)) (IsRoot x degree)
-        (answer_of result.status result.value) }
-    ensures refusal { result.status ≢ 0 → result ≡ record { status = outside; value = pos 0 } }
+    ensures { I64Answers ((degree ≢ 0) × (degree % 2 ≡ 0 → pos 0 ≤ℤ x)) (IsRoot x degree)
+        (Only outside) result }
 {
     I64Answer::of(checked::nth_root(x, degree), OUTSIDE)
 }
@@ -97,10 +92,8 @@ pub extern "C" fn cellarcove_nth_root_i64(x: i64, degree: u32) -> I64Answer
 /// `OUTSIDE` if `degree` is 0.
 #[unsafe(no_mangle)]
 pub extern "C" fn cellarcove_nth_root_u64(x: u64, degree: u32) -> U64Answer
-    ensures answer { AnswersWhere ((degree ≢ 0) × (degree % 2 ≡ 0 → pos 0 ≤ℤ pos x))
-        (λ r. IsRoot (pos x) degree (pos r))
-        (answer_of result.status result.value) }
-    ensures refusal { result.status ≢ 0 → result ≡ record { status = outside; value = 0 } }
+    ensures { U64Answers ((degree ≢ 0) × (degree % 2 ≡ 0 → pos 0 ≤ℤ pos x)) (IsRoot (pos x) degree)
+        (Only outside) result }
 {
     U64Answer::of(checked::nth_root(x, degree), OUTSIDE)
 }

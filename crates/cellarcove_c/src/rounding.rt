@@ -1,17 +1,8 @@
 //! Fractions rounded to integers. A fraction that is passed is reduced first.
 
-ghost use Rattle.std.specs.Prelude.{◌≡◌, ◌≢◌, ◌*ℤ◌, pos, FitsSigned, Result, MatchResult};
-ghost use Rattle.std.specs.Int.{w64};
-ghost use Rattle.num_integer.specs.Checked.{AnswersWhere};
 ghost use Rattle.num_integer.specs.Division.{IsCeiled, IsFloored, IsQuotient};
-ghost use Rattle.num_integer.specs.Range.{EachFits};
-ghost use Rattle.ratio64.specs.Ratio.{AnswersFraction, den_of, num_of};
-ghost use Rattle.ratio64.specs.RatioError.{number_of};
 ghost use Rattle.ratio64.specs.Rounding.{IsRounded};
-ghost use Rattle.ratio64.specs.declared.error.RatioError.{RatioError};
-ghost use Rattle.ratio64.specs.declared.fraction.Ratio.{Ratio};
-ghost use Rattle.cellarcove_c.specs.Fractions.{StandsForNumber};
-ghost use Rattle.cellarcove_c.specs.Statuses.{answer_of, not_fitting};
+ghost use Rattle.cellarcove_c.specs.Fractions.{AnswersRounded, AnswersRoundedTimes};
 
 use crate::answers::{I64Answer, NOT_FITTING};
 use crate::fractions::Fraction;
@@ -22,9 +13,7 @@ use crate::fractions::Fraction;
 /// fit.
 #[unsafe(no_mangle)]
 pub extern "C" fn cellarcove_fraction_floor(a: Fraction) -> I64Answer
-    ensures { (p : Result Ratio RatioError) × AnswersFraction a.num a.den p
-        × StandsForNumber p result.status result.value
-        (λ x. IsQuotient IsFloored (num_of x) (den_of x) result.value) }
+    ensures { AnswersRounded (IsQuotient IsFloored) a result }
 {
     match a.reduced() {
         Ok(x) => I64Answer::some(x.floor()),
@@ -38,9 +27,7 @@ pub extern "C" fn cellarcove_fraction_floor(a: Fraction) -> I64Answer
 /// fit.
 #[unsafe(no_mangle)]
 pub extern "C" fn cellarcove_fraction_ceil(a: Fraction) -> I64Answer
-    ensures { (p : Result Ratio RatioError) × AnswersFraction a.num a.den p
-        × StandsForNumber p result.status result.value
-        (λ x. IsQuotient IsCeiled (num_of x) (den_of x) result.value) }
+    ensures { AnswersRounded (IsQuotient IsCeiled) a result }
 {
     match a.reduced() {
         Ok(x) => I64Answer::some(x.ceil()),
@@ -55,9 +42,7 @@ pub extern "C" fn cellarcove_fraction_ceil(a: Fraction) -> I64Answer
 /// fit.
 #[unsafe(no_mangle)]
 pub extern "C" fn cellarcove_fraction_round(a: Fraction) -> I64Answer
-    ensures { (p : Result Ratio RatioError) × AnswersFraction a.num a.den p
-        × StandsForNumber p result.status result.value
-        (λ x. IsRounded (num_of x) (den_of x) result.value) }
+    ensures { AnswersRounded IsRounded a result }
 {
     match a.reduced() {
         Ok(x) => I64Answer::some(x.round()),
@@ -71,14 +56,7 @@ pub extern "C" fn cellarcove_fraction_round(a: Fraction) -> I64Answer
 /// fit, or the result.
 #[unsafe(no_mangle)]
 pub extern "C" fn cellarcove_fraction_floor_times(a: Fraction, n: i64) -> I64Answer
-    ensures { (p : Result Ratio RatioError) × AnswersFraction a.num a.den p
-        × MatchResult p
-        (λ x. AnswersWhere
-        (EachFits (FitsSigned w64) (IsQuotient IsFloored (num_of x *ℤ n) (den_of x)))
-        (IsQuotient IsFloored (num_of x *ℤ n) (den_of x))
-        (answer_of result.status result.value)
-        × (result.status ≢ 0 → result ≡ record { status = not_fitting; value = pos 0 }))
-        (λ e. result ≡ record { status = number_of e; value = pos 0 }) }
+    ensures { AnswersRoundedTimes (IsQuotient IsFloored) a n result }
 {
     match a.reduced() {
         Ok(x) => match x.floor_times(n) {
@@ -95,14 +73,7 @@ pub extern "C" fn cellarcove_fraction_floor_times(a: Fraction, n: i64) -> I64Ans
 /// fit, or the result.
 #[unsafe(no_mangle)]
 pub extern "C" fn cellarcove_fraction_ceil_times(a: Fraction, n: i64) -> I64Answer
-    ensures { (p : Result Ratio RatioError) × AnswersFraction a.num a.den p
-        × MatchResult p
-        (λ x. AnswersWhere
-        (EachFits (FitsSigned w64) (IsQuotient IsCeiled (num_of x *ℤ n) (den_of x)))
-        (IsQuotient IsCeiled (num_of x *ℤ n) (den_of x))
-        (answer_of result.status result.value)
-        × (result.status ≢ 0 → result ≡ record { status = not_fitting; value = pos 0 }))
-        (λ e. result ≡ record { status = number_of e; value = pos 0 }) }
+    ensures { AnswersRoundedTimes (IsQuotient IsCeiled) a n result }
 {
     match a.reduced() {
         Ok(x) => match x.ceil_times(n) {
@@ -120,14 +91,7 @@ pub extern "C" fn cellarcove_fraction_ceil_times(a: Fraction, n: i64) -> I64Answ
 /// fit, or the result.
 #[unsafe(no_mangle)]
 pub extern "C" fn cellarcove_fraction_round_times(a: Fraction, n: i64) -> I64Answer
-    ensures { (p : Result Ratio RatioError) × AnswersFraction a.num a.den p
-        × MatchResult p
-        (λ x. AnswersWhere
-        (EachFits (FitsSigned w64) (IsRounded (num_of x *ℤ n) (den_of x)))
-        (IsRounded (num_of x *ℤ n) (den_of x))
-        (answer_of result.status result.value)
-        × (result.status ≢ 0 → result ≡ record { status = not_fitting; value = pos 0 }))
-        (λ e. result ≡ record { status = number_of e; value = pos 0 }) }
+    ensures { AnswersRoundedTimes IsRounded a n result }
 {
     match a.reduced() {
         Ok(x) => match x.round_times(n) {

@@ -1,11 +1,12 @@
 //! Days of the week, which have the numbers of ISO 8601, from 1 for Monday to 7 for Sunday.
 
-ghost use Rattle.std.specs.Prelude.{◌≡◌, ◌≢◌, ◌⊎◌, ◌↔◌, ◌≤◌, ℕ, ℤ, pos};
+ghost use Rattle.std.specs.Prelude.{◌≡◌, ◌↔◌, ◌≤◌, ℕ, ℤ};
 ghost use Rattle.calendar.specs.Weekday.{iso_number};
 ghost use Rattle.calendar.specs.Weeks.{HasWeekday};
 ghost use Rattle.calendar.specs.declared.weekday.Weekday.{Weekday};
-ghost use Rattle.cellarcove_c.specs.Dates.{IsLastOfIsoNumber, IsNthOfIsoNumber};
-ghost use Rattle.cellarcove_c.specs.Statuses.{no_date, outside};
+ghost use Rattle.cellarcove_c.specs.Answers.{Refuses};
+ghost use Rattle.cellarcove_c.specs.Dates.{IsLastOfIsoNumber, IsNthOfIsoNumber, zero_date};
+ghost use Rattle.cellarcove_c.specs.Statuses.{Either, no_date, outside};
 
 use crate::answers::{NO_DATE, OUTSIDE};
 use crate::dates::DateAnswer;
@@ -37,9 +38,7 @@ pub extern "C" fn cellarcove_nth_weekday_of_month(
     ensures outside { (result.status ≡ outside) ↔ (¬ ((1 ≤ weekday) × (weekday ≤ 7))) }
     ensures no_date { result.status ≡ no_date → (y : ℤ) (m d : ℕ)
         → ¬ (IsNthOfIsoNumber year month weekday n y m d) }
-    ensures refusal { result.status ≢ 0
-        → (result.date ≡ record { year = pos 0; month = 0; day_of_month = 0 })
-        × ((result.status ≡ outside) ⊎ (result.status ≡ no_date)) }
+    ensures refusal { Refuses (Either outside no_date) zero_date result.status result.date }
 {
     match Weekday::from_iso_number(weekday) {
         Some(weekday) => match nth_weekday_of_month(year, month, weekday, n) {
@@ -62,9 +61,7 @@ pub extern "C" fn cellarcove_last_weekday_of_month(year: i64, month: u8, weekday
     ensures outside { (result.status ≡ outside) ↔ (¬ ((1 ≤ weekday) × (weekday ≤ 7))) }
     ensures no_date { (result.status ≡ no_date)
         ↔ (((1 ≤ weekday) × (weekday ≤ 7)) × (¬ ((1 ≤ month) × (month ≤ 12)))) }
-    ensures refusal { result.status ≢ 0
-        → (result.date ≡ record { year = pos 0; month = 0; day_of_month = 0 })
-        × ((result.status ≡ outside) ⊎ (result.status ≡ no_date)) }
+    ensures refusal { Refuses (Either outside no_date) zero_date result.status result.date }
 {
     match Weekday::from_iso_number(weekday) {
         Some(weekday) => match last_weekday_of_month(year, month, weekday) {

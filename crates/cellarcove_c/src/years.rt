@@ -1,11 +1,12 @@
 //! Years, their months and weeks, and their days.
 
-ghost use Rattle.std.specs.Prelude.{◌≡◌, ◌≢◌, ◌+◌, ◌≤◌};
+ghost use Rattle.std.specs.Prelude.{◌≡◌, ◌+◌, ◌≤◌};
 ghost use Rattle.calendar.specs.IsoWeeks.{HasIsoWeeks};
 ghost use Rattle.calendar.specs.LeapYears.{is_leap_year};
-ghost use Rattle.calendar.specs.Months.{IsDate, days_before_month, days_in_month};
-ghost use Rattle.num_integer.specs.Checked.{AnswersWhere};
-ghost use Rattle.cellarcove_c.specs.Statuses.{answer_of, no_date};
+ghost use Rattle.calendar.specs.Months.{days_before_month, days_in_month};
+ghost use Rattle.cellarcove_c.specs.Answers.{Answers};
+ghost use Rattle.cellarcove_c.specs.Dates.{Exists};
+ghost use Rattle.cellarcove_c.specs.Statuses.{Only, no_date};
 
 use crate::answers::{NO_DATE, U64Answer};
 use crate::dates::Date;
@@ -32,9 +33,8 @@ pub extern "C" fn cellarcove_weeks_in_year(year: i64) -> u8
 /// `NO_DATE` if `month` is not from 1 to 12.
 #[unsafe(no_mangle)]
 pub extern "C" fn cellarcove_days_in_month(year: i64, month: u8) -> U64Answer
-    ensures answer { AnswersWhere ((1 ≤ month) × (month ≤ 12))
-        (λ days. days ≡ days_in_month year month) (answer_of result.status result.value) }
-    ensures refusal { result.status ≢ 0 → result ≡ record { status = no_date; value = 0 } }
+    ensures { Answers ((1 ≤ month) × (month ≤ 12)) (λ days. days ≡ days_in_month year month)
+        (Only no_date) 0 result.status result.value }
 {
     if (1..=12).contains(&month) {
         U64Answer::some(u64::from(days_in_month(year, month)))
@@ -48,10 +48,9 @@ pub extern "C" fn cellarcove_days_in_month(year: i64, month: u8) -> U64Answer
 /// `NO_DATE` if there is no such date.
 #[unsafe(no_mangle)]
 pub extern "C" fn cellarcove_day_of_year(date: Date) -> U64Answer
-    ensures answer { AnswersWhere (IsDate date.year date.month date.day_of_month)
+    ensures { Answers (Exists date)
         (λ day. day ≡ days_before_month date.year date.month + date.day_of_month)
-        (answer_of result.status result.value) }
-    ensures refusal { result.status ≢ 0 → result ≡ record { status = no_date; value = 0 } }
+        (Only no_date) 0 result.status result.value }
 {
     match date.found() {
         Some(found) => U64Answer::some(u64::from(found.day_of_year())),

@@ -1,8 +1,9 @@
 use Rattle.std.specs.Int.{w64}
+use Rattle.std.proofs.Common.{refl}
 use Rattle.std.proofs.lemmas.Int.{to_z-of_z}
 use Rattle.cellarcove_c.proofs.divisors.cellarcove_extended_gcd_i64.Goals as goal
 
-pub returns-in-Some-clause-answer : goal.returns-in-Some-clause-answer
-returns-in-Some-clause-answer c =
+pub returns-in-Some : goal.returns-in-Some
+returns-in-Some c =
     let own = rw (to_z-of_z w64 c.args.x c.ranges.x, to_z-of_z w64 c.args.y c.ranges.y) at c.in-Some.ensures in
-    rw c.some.ensures (own.0, own.1.3)
+    rw c.some.ensures (record { answer = (own.0, own.1.3); refusal = λ other. absurd (other refl) })

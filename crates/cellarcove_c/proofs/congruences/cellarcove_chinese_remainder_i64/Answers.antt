@@ -4,7 +4,7 @@ use Rattle.std.proofs.Common.{arith, rules}
 use Rattle.std.proofs.lemmas.Bool.{iff_false}
 use Rattle.std.proofs.lemmas.Int.{to_z-of_z}
 use Rattle.cellarcove_c.proofs.CommonSolutions.{class_has}
-use Rattle.cellarcove_c.proofs.modulo.cellarcove_chinese_remainder_i64.Goals as goal
+use Rattle.cellarcove_c.proofs.congruences.cellarcove_chinese_remainder_i64.Goals as goal
 
 pub returns-in-Some-clause-not_fitting : goal.returns-in-Some-clause-not_fitting
 returns-in-Some-clause-not_fitting c =

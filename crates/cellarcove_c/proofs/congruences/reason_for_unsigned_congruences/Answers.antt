@@ -3,7 +3,7 @@ use Rattle.std.specs.Int.{FitsUnsignedBits}
 use Rattle.std.proofs.Common.{arith, inl, refl}
 use Rattle.modular.specs.Congruences.{SolvesBothCongruences}
 use Rattle.cellarcove_c.proofs.CommonSolutions.{solved}
-use Rattle.cellarcove_c.proofs.modulo.reason_for_unsigned_congruences.Goals as goal
+use Rattle.cellarcove_c.proofs.congruences.reason_for_unsigned_congruences.Goals as goal
 
 pub returns-in_default : goal.returns-in_default
 returns-in_default c =

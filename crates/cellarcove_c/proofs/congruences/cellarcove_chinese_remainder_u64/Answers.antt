@@ -1,6 +1,6 @@
 use Rattle.std.proofs.Common.{arith}
 use Rattle.cellarcove_c.proofs.CommonSolutions.{class_has}
-use Rattle.cellarcove_c.proofs.modulo.cellarcove_chinese_remainder_u64.Goals as goal
+use Rattle.cellarcove_c.proofs.congruences.cellarcove_chinese_remainder_u64.Goals as goal
 
 pub returns-in-Some-clause-no_solution : goal.returns-in-Some-clause-no_solution
 returns-in-Some-clause-no_solution c =

@@ -1,6 +1,6 @@
 use Rattle.std.specs.Int.{w64}
 use Rattle.std.proofs.lemmas.Int.{to_z-of_z}
-use Rattle.cellarcove_c.proofs.distances.cellarcove_plus_days.Goals as goal
+use Rattle.cellarcove_c.proofs.dates.cellarcove_plus_days.Goals as goal
 
 pub returns-in-None-plus_days-clause-not_fitting : goal.returns-in-None-plus_days-clause-not_fitting
 returns-in-None-plus_days-clause-not_fitting c = λ _ year month day valid later.
