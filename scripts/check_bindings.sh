@@ -25,11 +25,11 @@ has() {
 over_proved() {
     local kit name words=()
     kit=$(dirname "$(rt doc)")
-    for name in integer_core integer_roots num_integer calendar modular ratio64; do
+    for name in integer_core integer_roots num_integer calendar modular ratio64 applied; do
         [ -d "crates/$name/out/rlib/$name.rlib" ] || return 1
         words+=(-L "dependency=$PWD/crates/$name/out/rlib")
     done
-    for name in num_integer calendar modular ratio64; do
+    for name in num_integer calendar modular ratio64 applied; do
         words+=(--extern "$name=$PWD/crates/$name/out/rlib/$name.rlib")
     done
     mkdir -p crates/cellarcove_c/out
