@@ -85,6 +85,10 @@ ROWS = (
     Row('gcd', rf'GcdFits {FITS} \({ANY}\) \({ANY}\)', KERNEL, 'the greatest common divisor does not fit'),
     Row('lcm', rf'EachFits {FITS} \(IsLeastCommonMultiple \({value("x")}\) \({value("y")}\)\)', KERNEL,
         'the least common multiple does not fit', test='{x}.expect_lcm(&{y});', within=('chinese_remainder',)),
+    Row('gcd of a list', rf'GcdOfFits {FITS} \(map [A-Z]\w*\.value [\w.]+\)', KERNEL,
+        'the greatest common divisor does not fit'),
+    Row('lcm of a list', rf'EachFits {FITS} \(IsLeastCommonMultipleOf \(map [A-Z]\w*\.value [\w.]+\)\)', KERNEL,
+        'the least common multiple does not fit'),
     Row('pair', rf'HasPair {FITS} \({value("x")}\) \({value("y")}\)', KERNEL,
         'the type is unsigned and neither number divides the other', test='{x}.expect_pair(&{y});',
         within=('extended_gcd_counted',)),
@@ -172,6 +176,8 @@ CODE = {
         ('sum(total, *count)', f'T::exact_sum(total, *count, "{MULTINOMIAL}")'),
         ('product(multinomial, binomial(total, *count))',
          f'T::exact_product(multinomial, binomial(total, *count), "{MULTINOMIAL}")')),
+    ('applied', 'lists', 'gcd_of'): (('unwrap()', f'expect("{GCD}")'),),
+    ('applied', 'lists', 'lcm_of'): (('unwrap()', f'expect("{LCM}")'),),
     ('applied', 'ranking', 'rank'): (
         ('rank += binomial(*number, i as u64 + 1)',
          'rank = crate::guards::sum(rank, binomial(*number, i as u64 + 1), "the rank does not fit")'),),
@@ -188,7 +194,7 @@ LEFT_TO_BODY = {
                      'extended_gcd_lcm', 'extended_gcd_counted', 'sum', 'difference', 'product', 'quotient',
                      'remainder', 'successor', 'predecessor', 'negated'},
     'num_integer': {'binomial', 'binomial_counted', 'multinomial', 'new'},
-    'applied': {'rank', 'lower_bound'},
+    'applied': {'gcd_of', 'lcm_of', 'rank', 'lower_bound'},
 }
 # The functions without a clause that the place of the caller goes through, on the way to a panic.
 WAY = {('integer_core', 'division', 'div_rem'), ('integer_core', 'division', 'div_mod_floor'),

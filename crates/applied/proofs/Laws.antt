@@ -9,9 +9,12 @@ use Rattle.modular.specs.declared.common_solutions.CommonSolution.TheVariants.{N
 use Rattle.modular.proofs.ForCallers.{congruent-equal}
 use Rattle.num_integer.specs.Least.{IsLeastFrom}
 use Rattle.num_integer.proofs.ForCallers.{Divides-difference, ceiled_quotient_least, expand, least_is_only, linear, products}
-use Rattle.applied.specs.Laws.{AlignedUpIsOnly, ChoiceOfRankIsOnly, LeastTimeIsOnly, LowerBoundIsOnly, MidpointIsOnly, PaddingIsOnly, PagesAreOnly, PartsDifferByOne, RankIsBelow}
+use Rattle.applied.specs.Laws.{AlignedUpIsOnly, ChoiceOfRankIsOnly, GcdOfExists, GcdOfFitsExactly, GcdOfIsOnly, LcmOfExists, LcmOfIsOnly, LeastTimeIsOnly, LowerBoundIsOnly, MidpointIsOnly, PaddingIsOnly, PagesAreOnly, PartsDifferByOne, RankIsBelow, ReducedPairExists, ReducedPairIsOnly}
 use Rattle.applied.specs.Schedules.{IsLeastTime}
 use Rattle.applied.proofs.Choices.{only_choice, rank_of_below}
+use Rattle.applied.proofs.ListDivisors as divisors
+use Rattle.applied.proofs.ListMultiples as multiples
+use Rattle.applied.proofs.ReducedPairs as pairs
 
 -- ---- pages and parts
 
@@ -89,3 +92,26 @@ lower_bound_is_only value = λ items least place other within below from other_w
         | inr same ↦ omega arith
       ]
     ]
+
+-- ---- pairs and lists
+
+pub reduced_pair_exists : ReducedPairExists
+reduced_pair_exists = pairs.reduced_pair_exists
+
+pub reduced_pair_is_only : ReducedPairIsOnly
+reduced_pair_is_only = λ a b x y h. pairs.only_reduced_pair h
+
+pub gcd_of_exists : GcdOfExists
+gcd_of_exists = divisors.gcd_of_exists
+
+pub gcd_of_is_only : GcdOfIsOnly
+gcd_of_is_only = λ numbers g h other k. divisors.only_gcd_of k h
+
+pub gcd_of_fits_exactly : (fits : ℤ → Type 0) → GcdOfFitsExactly fits
+gcd_of_fits_exactly fits = λ low high numbers range each. divisors.gcd_of_fits_is range numbers each
+
+pub lcm_of_exists : LcmOfExists
+lcm_of_exists = multiples.lcm_of_exists
+
+pub lcm_of_is_only : LcmOfIsOnly
+lcm_of_is_only = λ numbers l h other k. multiples.only_lcm_of k h

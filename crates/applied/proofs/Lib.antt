@@ -6,4 +6,9 @@ pub mod RollingHashes
 pub mod ItemPlaces
 pub mod PageRanges
 pub mod PartRanges
+pub mod SignedDivisors
+pub mod ReducedPairs
+pub mod ListDivisors
+pub mod ListMultiples
 pub mod Laws
+pub mod ForCallers

@@ -1,13 +1,16 @@
 -- The laws of the calls. Each is proved in proofs/Laws.antt, by a lemma of its name in small letters.
-use Rattle.std.specs.Prelude.{◌≡◌, ◌<◌, ◌≤◌, ◌≤ℤ◌, ◌<ℤ◌, ◌+ℤ◌, ◌-ℤ◌, ◌*ℤ◌, ℕ, ℤ, pos, List, length}
-use Rattle.std.specs.List.{AllWithin}
+use Rattle.std.specs.Prelude.{◌≡◌, ◌≢◌, ◌⊎◌, ◌↔◌, ◌<◌, ◌≤◌, ◌≤ℤ◌, ◌<ℤ◌, ◌+ℤ◌, ◌-ℤ◌, ◌*ℤ◌, ℕ, ℤ, pos, List, length}
+use Rattle.std.specs.List.{All, AllWithin}
 use Rattle.modular.specs.declared.common_solutions.CommonSolution.{CommonSolution}
 use Rattle.num_integer.specs.Coefficient.{coefficient}
 use Rattle.num_integer.specs.Divisors.{Divides}
 use Rattle.num_integer.specs.Only.{IsOnly}
+use Rattle.num_integer.specs.Range.{EachFits, IsRange}
 use Rattle.applied.specs.Layout.{IsAlignedUp}
+use Rattle.applied.specs.Lists.{GcdOfFits, IsGreatestCommonDivisorOf, IsLeastCommonMultipleOf}
 use Rattle.applied.specs.Paging.{IsEvenCut}
 use Rattle.applied.specs.Ranking.{IsChoice, IsChoiceOfRank, rank_of}
+use Rattle.applied.specs.ReducedPairs.{IsReducedPair}
 use Rattle.applied.specs.Schedules.{IsLeastTime}
 
 -- ---- pages and parts
@@ -61,3 +64,30 @@ abbrev pub LowerBoundIsOnly : {X : Type 0} → (X → ℤ) → Type 0
 LowerBoundIsOnly {X} value = (items : List X) (least : ℤ) (place other : ℕ)
     → place ≤ length items → AllWithin (λ x. value x <ℤ least) items 0 place → AllWithin (λ x. least ≤ℤ value x) items place (length items)
     → other ≤ length items → AllWithin (λ x. value x <ℤ least) items 0 other → AllWithin (λ x. least ≤ℤ value x) items other (length items) → other ≡ place
+
+-- ---- pairs and lists
+
+-- Each pair of numbers has a reduced pair, and only one.
+abbrev pub ReducedPairExists : Type 0
+ReducedPairExists = (a b : ℤ) → (x y : ℤ) × IsReducedPair a b x y
+
+abbrev pub ReducedPairIsOnly : Type 0
+ReducedPairIsOnly = (a b x y : ℤ) → IsReducedPair a b x y → IsOnly (λ (u, v). IsReducedPair a b u v) (x, y)
+
+-- Each list has a greatest common divisor, and only one.
+abbrev pub GcdOfExists : Type 0
+GcdOfExists = (numbers : List ℤ) → (g : ℤ) × IsGreatestCommonDivisorOf numbers g
+
+abbrev pub GcdOfIsOnly : Type 0
+GcdOfIsOnly = (numbers : List ℤ) (g : ℤ) → IsGreatestCommonDivisorOf numbers g → IsOnly (IsGreatestCommonDivisorOf numbers) g
+
+-- For numbers of a type, the condition `GcdOfFits` says exactly that their greatest common divisor fits.
+abbrev pub GcdOfFitsExactly : (ℤ → Type 0) → Type 0
+GcdOfFitsExactly fits = (low high : ℤ) (numbers : List ℤ) → IsRange fits low high → All fits numbers → GcdOfFits fits numbers ↔ EachFits fits (IsGreatestCommonDivisorOf numbers)
+
+-- Each list has a least common multiple, and only one.
+abbrev pub LcmOfExists : Type 0
+LcmOfExists = (numbers : List ℤ) → (l : ℤ) × IsLeastCommonMultipleOf numbers l
+
+abbrev pub LcmOfIsOnly : Type 0
+LcmOfIsOnly = (numbers : List ℤ) (l : ℤ) → IsLeastCommonMultipleOf numbers l → IsOnly (IsLeastCommonMultipleOf numbers) l

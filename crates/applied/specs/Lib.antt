@@ -3,4 +3,6 @@ pub mod Layout
 pub mod Schedules
 pub mod Ranking
 pub mod Hashes
+pub mod Lists
+pub mod ReducedPairs
 pub mod Laws

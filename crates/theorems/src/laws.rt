@@ -138,4 +138,11 @@ pub fn laws_of_models<P: Property, T: Integer>()
     ensures rank_is_below { models.RankIsBelow }
     ensures midpoint_is_only { models.MidpointIsOnly }
     ensures lower_bound_is_only { models.LowerBoundIsOnly T.value }
+    ensures reduced_pair_exists { models.ReducedPairExists }
+    ensures reduced_pair_is_only { models.ReducedPairIsOnly }
+    ensures gcd_of_exists { models.GcdOfExists }
+    ensures gcd_of_is_only { models.GcdOfIsOnly }
+    ensures gcd_of_fits_exactly { models.GcdOfFitsExactly T.fits }
+    ensures lcm_of_exists { models.LcmOfExists }
+    ensures lcm_of_is_only { models.LcmOfIsOnly }
 {}

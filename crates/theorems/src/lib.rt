@@ -17,6 +17,7 @@
 //! | `fractions.rt` | `ratio64`: exact results and refusals, order, rounding |
 //! | `dates.rt` | `calendar`: dates and their days, weeks, months, Easter |
 //! | `pages.rt` | `applied`: pages and parts, offsets, schedules, choices |
+//! | `lists.rt` | `applied`: divisors and multiples of lists, coprime numbers, reduced pairs |
 //!
 //! Most functions have no proof file: the search proves them from the contracts of what they call. The others have theirs in
 //! `proofs/`, under the names of the file and of the function.
@@ -29,5 +30,6 @@ pub mod fractions;
 pub mod headline;
 pub mod integers;
 pub mod laws;
+pub mod lists;
 pub mod pages;
 pub mod residues;

@@ -7,7 +7,7 @@ use cellarcove::counted::{binomial_counted, extended_gcd_counted, GcdCounted, Sq
 use cellarcove::modular::{self, Modular};
 use cellarcove::ratio64::Ratio;
 use cellarcove::{
-    halving, layout, paging, powers, ranking, rolling_hash::RollingHash, schedules,
+    halving, layout, lists, paging, powers, ranking, rolling_hash::RollingHash, schedules,
 };
 use cellarcove::{binomial, multinomial, operators, Integer, IterBinomial, Roots};
 use std::time::{Duration, Instant};
@@ -110,6 +110,8 @@ fn divisors() {
             i64::MIN.extended_gcd(&0);
             extended_gcd_counted(0, i128::MIN);
             i16::MIN.extended_gcd_lcm(&i16::MIN);
+            lists::gcd_of(&[0, i8::MIN]);
+            lists::gcd_of(&[i128::MIN]);
         }
         LCM {
             (1u64 << 63).lcm(&3);
@@ -126,6 +128,8 @@ fn divisors() {
             i64::MAX.extended_gcd_lcm(&(i64::MAX - 1));
             modular::chinese_remainder(1u8, 100, 3, 101);
             modular::chinese_remainder(1i64, i64::MAX, 3, i64::MAX - 1);
+            lists::lcm_of(&[16u8, 17]);
+            lists::lcm_of(&[i64::MIN]);
         }
         PAIR {
             10u8.extended_gcd(&4);

@@ -12,4 +12,11 @@ returns g c = record {
   rank_is_below = law.rank_is_below;
   midpoint_is_only = law.midpoint_is_only;
   lower_bound_is_only = law.lower_bound_is_only g.T.Number.value;
+  reduced_pair_exists = law.reduced_pair_exists;
+  reduced_pair_is_only = law.reduced_pair_is_only;
+  gcd_of_exists = law.gcd_of_exists;
+  gcd_of_is_only = law.gcd_of_is_only;
+  gcd_of_fits_exactly = law.gcd_of_fits_exactly g.T.Number.fits;
+  lcm_of_exists = law.lcm_of_exists;
+  lcm_of_is_only = law.lcm_of_is_only;
 }

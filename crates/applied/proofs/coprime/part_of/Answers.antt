@@ -1,0 +1,21 @@
+use Rattle.std.proofs.lemmas.Bool.{iff_false}
+use Rattle.num_integer.proofs.ForCallers.{from_not_less}
+use Rattle.applied.proofs.SignedDivisors.{operator_fits, part_by_negative, part_by_negative_fits, part_by_positive}
+use Rattle.applied.proofs.coprime.part_of.Goals as goal
+
+pub quotient-part-requires-clause-quotient_fits : goal.quotient-part-requires-clause-quotient_fits
+quotient-part-requires-clause-quotient_fits g c =
+    operator_fits c.requires.nonzero c.requires.divides g.met.T.Integer.range_law c.requires.in_range.0 c.requires.in_range.1 c.requires.other
+
+pub negated-requires-clause-negation_fits : goal.negated-requires-clause-negation_fits
+negated-requires-clause-negation_fits g c =
+    rw c.quotient-part.ensures.value
+    (part_by_negative_fits c.requires.nonzero c.requires.divides g.met.T.Integer.range_law c.requires.in_range.0 (c.is_negative.ensures.0 c.if-is_negative.true))
+
+pub returns-then-is_negative-clause-part : goal.returns-then-is_negative-clause-part
+returns-then-is_negative-clause-part g c =
+    rw (c.negated.ensures.value, c.quotient-part.ensures.value) (part_by_negative c.requires.nonzero c.requires.divides (c.is_negative.ensures.0 c.if-is_negative.true))
+
+pub returns-else-is_negative-clause-part : goal.returns-else-is_negative-clause-part
+returns-else-is_negative-clause-part g c =
+    rw c.quotient-part.ensures.value (part_by_positive c.requires.nonzero c.requires.divides (from_not_less (iff_false c.is_negative.ensures c.if-is_negative.false)))

@@ -1,0 +1,15 @@
+use Rattle.std.proofs.Common.{arith}
+use Rattle.std.proofs.lemmas.Bool.{iff_false}
+use Rattle.num_integer.proofs.ForCallers.{from_not_less, sizes}
+use Rattle.applied.proofs.ListDivisors.{checked_gcd_of, gcd_of_answer}
+use Rattle.applied.proofs.lists.checked.gcd_of.Goals as goal
+
+pub returns-then-is_negative : goal.returns-then-is_negative
+returns-then-is_negative g c =
+    checked_gcd_of g.T.Number.value g.met.T.Integer.range_law c.signed_gcd_of-divisor.ensures.in_range (c.is_negative.ensures.0 c.if-is_negative.true)
+    c.signed_gcd_of-divisor.ensures.magnitude c.negated.result c.negated.ensures
+
+pub returns-else-is_negative : goal.returns-else-is_negative
+returns-else-is_negative g c =
+    let up = from_not_less (iff_false c.is_negative.ensures c.if-is_negative.false) in
+    gcd_of_answer g.T.Number.fits c.signed_gcd_of-divisor.ensures.magnitude (omega (arith, sizes)) c.signed_gcd_of-divisor.ensures.in_range

@@ -1,0 +1,39 @@
+//! The greatest common divisor and the least common multiple of a list of integers.
+
+ghost use Rattle.std.specs.Prelude.{map};
+ghost use Rattle.std.specs.List.{All};
+ghost use Rattle.num_integer.specs.Range.{EachFits};
+ghost use Rattle.applied.specs.Lists.{GcdOfFits, IsGreatestCommonDivisorOf, IsLeastCommonMultipleOf};
+
+pub mod checked;
+
+use num_integer::Fits;
+
+/// Returns the greatest common divisor of the numbers, the largest that divides each of them.
+/// `gcd_of(&[12, 18, 8])` is `2`, `gcd_of(&[-4, 0])` is `4`, and `gcd_of::<i64>(&[])` is `0`.
+///
+/// May be called if the result fits. Else use [`checked::gcd_of`](crate::lists::checked::gcd_of), which returns
+/// `None` if it does not fit. In an unsigned type it always fits.
+pub fn gcd_of<T: Fits>(numbers: &[T]) -> T
+    requires in_range { All (λ x. T.fits (T.value x)) numbers.now }
+    requires gcd_fits { GcdOfFits T.fits (map T.value numbers.now) }
+    ensures in_range { T.fits (T.value result) }
+    ensures greatest { IsGreatestCommonDivisorOf (map T.value numbers.now) (T.value result) }
+{
+    checked::gcd_of(numbers).unwrap()
+}
+
+/// Returns the least common multiple of the numbers, the smallest positive number that each of them divides, or
+/// 0 if one of them is 0. `lcm_of(&[4, 6, 10])` is `60`, `lcm_of(&[-4, 0])` is `0`, and `lcm_of::<i64>(&[])` is
+/// `1`.
+///
+/// May be called if the result fits. Else use [`checked::lcm_of`](crate::lists::checked::lcm_of), which returns
+/// `None` if it does not fit.
+pub fn lcm_of<T: Fits>(numbers: &[T]) -> T
+    requires in_range { All (λ x. T.fits (T.value x)) numbers.now }
+    requires lcm_fits { EachFits T.fits (IsLeastCommonMultipleOf (map T.value numbers.now)) }
+    ensures in_range { T.fits (T.value result) }
+    ensures least { IsLeastCommonMultipleOf (map T.value numbers.now) (T.value result) }
+{
+    checked::lcm_of(numbers).unwrap()
+}

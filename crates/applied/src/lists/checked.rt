@@ -1,0 +1,79 @@
+//! The greatest common divisor and the least common multiple of a list, or `None` if it does not fit.
+
+ghost use Rattle.std.specs.Prelude.{◌≡◌, ◌≢◌, ◌<◌, ℕ, pos, unsigned_abs, length, map, IsFalse, IsTrue};
+ghost use Rattle.std.specs.List.{All, HoldsAt};
+ghost use Rattle.num_integer.specs.Checked.{AnswersWhere};
+ghost use Rattle.num_integer.specs.Range.{EachFits};
+ghost use Rattle.applied.specs.Lists.{GcdOfFits, IsGreatestCommonDivisorOf, IsLeastCommonMultipleOf};
+
+use crate::coprime::common_divisor;
+use num_integer::operators::{is_negative, is_zero, one, zero};
+use num_integer::{Fits, checked};
+
+/// Returns [`gcd_of`](crate::lists::gcd_of), the greatest common divisor of the numbers, or `None` if it does
+/// not fit. `gcd_of(&[12, 18, 8])` is `Some(2)`, and `gcd_of(&[i8::MIN, 0])` is `None`. The only one that may
+/// not fit is that of a list in which each number is 0 or the smallest of the type.
+pub fn gcd_of<T: Fits>(numbers: &[T]) -> Option<T>
+    requires in_range { All (λ x. T.fits (T.value x)) numbers.now }
+    ensures { AnswersWhere
+        (GcdOfFits T.fits (map T.value numbers.now))
+        (λ g. T.fits (T.value g) × IsGreatestCommonDivisorOf (map T.value numbers.now) (T.value g))
+        result }
+{
+    let divisor = signed_gcd_of(numbers);
+    if is_negative(divisor) {
+        checked::negated(divisor)
+    } else {
+        Some(divisor)
+    }
+}
+
+/// Returns a number whose magnitude is the greatest common divisor. That of the first numbers may not fit, even
+/// if that of all of them does, so the loop keeps it up to its sign.
+fn signed_gcd_of<T: Fits>(numbers: &[T]) -> T
+    requires { All (λ x. T.fits (T.value x)) numbers.now }
+    ensures in_range { T.fits (T.value result) }
+    ensures magnitude { IsGreatestCommonDivisorOf (map T.value numbers.now)
+        (pos (unsigned_abs (T.value result))) }
+{
+    let mut divisor = zero();
+    for number in numbers {
+        divisor = common_divisor(divisor, *number);
+    }
+    divisor
+}
+
+/// Returns [`lcm_of`](crate::lists::lcm_of), the least common multiple of the numbers, or `None` if it does not
+/// fit. `lcm_of(&[4, 6, 10])` is `Some(60)`, `lcm_of(&[16u8, 17])` is `None`, and `lcm_of(&[16u8, 17, 0])` is
+/// `Some(0)`.
+pub fn lcm_of<T: Fits>(numbers: &[T]) -> Option<T>
+    requires in_range { All (λ x. T.fits (T.value x)) numbers.now }
+    ensures { AnswersWhere
+        (EachFits T.fits (IsLeastCommonMultipleOf (map T.value numbers.now)))
+        (λ l. T.fits (T.value l) × IsLeastCommonMultipleOf (map T.value numbers.now) (T.value l))
+        result }
+{
+    if has_zero(numbers) {
+        return Some(zero());
+    }
+    // Each multiple on the way divides the last one, which is not 0. So it fits if the last one does.
+    let mut multiple = one();
+    for number in numbers {
+        multiple = checked::lcm(multiple, *number)?;
+    }
+    Some(multiple)
+}
+
+/// Returns `true` if one of the numbers is 0.
+fn has_zero<T: Fits>(numbers: &[T]) -> bool
+    ensures zero { IsTrue result
+        → (k : ℕ) × (k < length numbers.now) × HoldsAt (λ x. T.value x ≡ pos 0) numbers.now k }
+    ensures none { IsFalse result → All (λ x. T.value x ≢ pos 0) numbers.now }
+{
+    for number in numbers {
+        if is_zero(*number) {
+            return true;
+        }
+    }
+    false
+}

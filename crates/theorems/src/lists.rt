@@ -1,0 +1,102 @@
+//! Calls of `applied`: divisors and multiples of lists, coprime numbers and reduced pairs.
+
+ghost use Rattle.std.specs.Prelude.{◌≡◌, ◌≢◌, ◌↔◌, ◌<◌, ◌*◌, ◌*ℤ◌, FitsSigned, IfSome, IsTrue, MatchOption, map, pos};
+ghost use Rattle.std.specs.Int.{FitsUnsignedBits, w64};
+ghost use Rattle.std.specs.List.{All};
+ghost use Rattle.num_integer.specs.Divisors.{IsGreatestCommonDivisor};
+ghost use Rattle.num_integer.specs.Range.{EachFits};
+ghost use Rattle.applied.specs.Lists.{IsGreatestCommonDivisorOf, IsLeastCommonMultipleOf};
+
+use applied::coprime::{is_coprime, reduced};
+use applied::lists::{checked, gcd_of};
+use num_integer::Fits;
+
+// ---- lists
+
+/// The time after which all periods meet again, or `None` if it does not fit.
+pub fn common_period(periods: &[u64]) -> Option<u64>
+    ensures { MatchOption result
+        (¬ (EachFits (FitsUnsignedBits 64) (IsLeastCommonMultipleOf (map (λ x. pos x) periods.now))))
+        (λ period. IsLeastCommonMultipleOf (map (λ x. pos x) periods.now) (pos period)) }
+{
+    checked::lcm_of(periods)
+}
+
+/// The common denominator of signed denominators, or `None` if it does not fit.
+pub fn common_denominator(denominators: &[i64]) -> Option<i64>
+    requires { All (FitsSigned w64) denominators.now }
+    ensures { IfSome result (λ l. IsLeastCommonMultipleOf (map (λ x. x) denominators.now) l) }
+{
+    checked::lcm_of(denominators)
+}
+
+/// The largest tile that covers each of the lengths exactly. At an unsigned type it always fits.
+pub fn largest_tile(lengths: &[u32]) -> u32
+    ensures { IsGreatestCommonDivisorOf (map (λ x. pos x) lengths.now) (pos result) }
+{
+    gcd_of(lengths)
+}
+
+/// The common divisor of signed numbers, or `None` if it does not fit.
+pub fn common_divisor(numbers: &[i64]) -> Option<i64>
+    requires { All (FitsSigned w64) numbers.now }
+    ensures { MatchOption result
+        (¬ (EachFits (FitsSigned w64) (IsGreatestCommonDivisorOf (map (λ x. x) numbers.now))))
+        (λ g. IsGreatestCommonDivisorOf (map (λ x. x) numbers.now) g) }
+{
+    checked::gcd_of(numbers)
+}
+
+/// The gcd and the lcm of a list, at any type.
+pub fn divisor_and_multiple<T: Fits>(numbers: &[T]) -> Option<(T, T)>
+    requires in_range { All (λ x. T.fits (T.value x)) numbers.now }
+    ensures { IfSome result (λ r. IsGreatestCommonDivisorOf (map T.value numbers.now) (T.value r.0)
+        × IsLeastCommonMultipleOf (map T.value numbers.now) (T.value r.1)) }
+{
+    let divisor = checked::gcd_of(numbers)?;
+    let multiple = checked::lcm_of(numbers)?;
+    Some((divisor, multiple))
+}
+
+// ---- pairs
+
+/// The width and the height in lowest terms, as 16 and 9 for 1920 and 1080.
+pub fn aspect_ratio(width: u32, height: u32) -> (u32, u32)
+    requires { 0 < height }
+    ensures coprime { IsGreatestCommonDivisor (pos result.0) (pos result.1) (pos 1) }
+    ensures ratio { width * result.1 ≡ height * result.0 }
+{
+    reduced(width, height)
+}
+
+/// The parts of a slope, of which one may be negative or 0.
+pub fn slope(rise: i64, run: i64) -> (i64, i64)
+    requires { run ≢ pos 0 }
+    ensures coprime { IsGreatestCommonDivisor result.0 result.1 (pos 1) }
+    ensures ratio { rise *ℤ result.1 ≡ run *ℤ result.0 }
+{
+    reduced(rise, run)
+}
+
+/// Whether two 128-bit numbers are coprime.
+pub fn are_coprime(a: u128, b: u128) -> bool
+    ensures { IsTrue result ↔ IsGreatestCommonDivisor (pos a) (pos b) (pos 1) }
+{
+    is_coprime(a, b)
+}
+
+/// Whether two signed bytes are. The gcd of -128 and 0 does not fit, and is not 1.
+pub fn small_are_coprime(a: i8, b: i8) -> bool
+    ensures { IsTrue result ↔ IsGreatestCommonDivisor a b (pos 1) }
+{
+    is_coprime(a, b)
+}
+
+/// The same at any type.
+pub fn any_are_coprime<T: Fits>(a: T, b: T) -> bool
+    requires a_in_range { T.fits (T.value a) }
+    requires b_in_range { T.fits (T.value b) }
+    ensures { IsTrue result ↔ IsGreatestCommonDivisor (T.value a) (T.value b) (pos 1) }
+{
+    is_coprime(a, b)
+}
