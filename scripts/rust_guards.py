@@ -184,8 +184,8 @@ CODE = {
         ('sum(total, *count)', f'T::exact_sum(total, *count, {reason(MULTINOMIAL)})'),
         ('product(multinomial, binomial(total, *count))',
          f'T::exact_product(multinomial, binomial(total, *count), {reason(MULTINOMIAL)})')),
-    ('applied', 'lists', 'gcd_of'): (('unwrap()', f'expect({reason(GCD)})'),),
-    ('applied', 'lists', 'lcm_of'): (('unwrap()', f'expect({reason(LCM)})'),),
+    ('applied', 'lists', 'gcd_of'): (('unwrap()', f'expect("{GCD}")'),),
+    ('applied', 'lists', 'lcm_of'): (('unwrap()', f'expect("{LCM}")'),),
     ('applied', 'ranking', 'rank'): (
         ('rank += binomial(*number, i as u64 + 1)',
          'rank = crate::guards::sum(rank, binomial(*number, i as u64 + 1), "the rank does not fit")'),),

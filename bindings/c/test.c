@@ -134,6 +134,18 @@ static void divisors(void) {
     CHECK(e.status == CELLARCOVE_NOT_FITTING && e.gcd == 0 && e.x == 0 && e.y == 0);
 }
 
+static void powers(void) {
+    CHECK(cellarcove_is_square_i64(144) && !cellarcove_is_square_i64(145) && !cellarcove_is_square_i64(-144));
+    CHECK(cellarcove_is_square_i64(0) && !cellarcove_is_square_i64(INT64_MIN));
+    CHECK(cellarcove_is_square_u64(UINT64_C(18446744065119617025)) && !cellarcove_is_square_u64(UINT64_MAX));
+    CHECK(cellarcove_is_power_i64(-243, 5) && !cellarcove_is_power_i64(244, 5) && !cellarcove_is_power_i64(-16, 2));
+    CHECK(cellarcove_is_power_i64(1, 0) && !cellarcove_is_power_i64(0, 0) && cellarcove_is_power_i64(INT64_MIN, 63));
+    CHECK(cellarcove_is_power_u64(UINT64_C(1) << 63, 63) && !cellarcove_is_power_u64(2, UINT32_MAX));
+    CHECK(cellarcove_is_power_u64(1, 0) && !cellarcove_is_power_u64(2, 0));
+    CHECK(cellarcove_is_perfect_power_u64(128) && !cellarcove_is_perfect_power_u64(72));
+    CHECK(cellarcove_is_perfect_power_u64(0) && cellarcove_is_perfect_power_u64(1) && !cellarcove_is_perfect_power_u64(2));
+}
+
 static void roots(void) {
     CHECK(cellarcove_average_floor_i64(-2, -5) == -4 && cellarcove_average_ceil_i64(-2, -5) == -3);
     CHECK(cellarcove_average_floor_u64(UINT64_MAX, UINT64_MAX) == UINT64_MAX);
@@ -375,6 +387,7 @@ int main(void) {
     division();
     divisors();
     roots();
+    powers();
     coefficients();
     residues();
     congruences();

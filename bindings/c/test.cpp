@@ -44,6 +44,8 @@ static void numbers() {
     CHECK(cellarcove::chinese_remainder(1, 4, 2, 6) == status::no_solution);
     CHECK(*cellarcove::multinomial(std::vector<std::uint64_t>{2, 1, 2}) == 30);
     CHECK(*cellarcove::multinomial(std::vector<std::uint64_t>{}) == 1);
+    CHECK(cellarcove::is_square(144) && cellarcove::is_power(-243, 5) && !cellarcove::is_power(244U, 5));
+    CHECK(cellarcove::is_perfect_power(128));
     CHECK(*cellarcove::checked_product(1 << 20, 1 << 20).and_then([](std::int64_t x) { return cellarcove::checked_sum(x, 1); })
         == (INT64_C(1) << 40) + 1);
     CHECK(cellarcove::checked_product(INT64_MAX, 2).and_then([](std::int64_t x) { return cellarcove::checked_sum(x, 1); })

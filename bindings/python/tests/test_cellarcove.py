@@ -145,6 +145,19 @@ class Numbers(Refusals):
         with self.assertRaises(OverflowError):
             cellarcove.lcm(0, 2**64, 1)
 
+    def test_powers(self):
+        exact = {degree: {k**degree for k in range(-20, 21)} for degree in range(7)}
+        for x in range(-70, 70):
+            self.assertEqual(cellarcove.is_square(x), x in exact[2])
+            for degree in range(7):
+                self.assertEqual(cellarcove.is_power(x, degree), x in exact[degree], (x, degree))
+        for x in range(400):
+            self.assertEqual(cellarcove.is_perfect_power(x), any(k**degree == x for k in range(21) for degree in range(2, 9)), x)
+        for root in (3037000499, 2**32 - 1):
+            self.assertTrue(cellarcove.is_square(root**2))
+            self.assertFalse(cellarcove.is_square(root**2 - 1))
+        self.assertEqual(list(cellarcove.is_square(array.array('q', [-4, 4, 5]))), [False, True, False])
+
     def test_averages_and_roots(self):
         for _ in range(TURNS // 4):
             x, y = numbers(2)

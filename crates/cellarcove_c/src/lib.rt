@@ -12,6 +12,7 @@ mod fractions;
 mod from_contracts;
 mod modulo;
 mod operators;
+mod powers;
 mod roots;
 mod rounding;
 mod weekdays;

@@ -1,0 +1,12 @@
+-- Powers of degree 0.
+use Rattle.std.specs.Prelude.{◌≡◌, ◌↔◌, ℕ, ℤ, pos}
+use Rattle.std.specs.Int.{int_pow}
+use Rattle.std.proofs.Common.{◌∙◌, sym}
+use Rattle.num_integer.proofs.ForCallers.{int_pow-zero}
+
+-- 1 is one, and no other number
+pub is_zeroth_power : (x : ℤ) (degree : ℕ) → degree ≡ 0 → (x ≡ pos 1) ↔ ((k : ℤ) × (int_pow k degree ≡ x))
+is_zeroth_power x degree zeroth = (
+  λ one. (pos 0, rw zeroth (int_pow-zero (pos 0) ∙ sym one)),
+  λ (k, power). let one : int_pow k degree ≡ pos 1 = rw zeroth (int_pow-zero k) in sym power ∙ one,
+)
