@@ -56,15 +56,15 @@ def gcd_lcm(bounds, x, y):
 
 
 def is_bezout(bounds, x, y, status, values):
-    """Whether the result of extended_gcd is one: the equation holds, and the coefficients are small."""
+    """Whether the result of extended_gcd is one: the equation holds, and the coefficients are small. Of 0 and 0 they are 1 and 0."""
     gcd = math.gcd(x, y)
     if gcd > bounds[1] or values is None:
         return gcd > bounds[1] and status == NOT_FITTING
     found, p, q = values
     if y and x % y == 0:
         small = (p, q) == (0, 1 if y > 0 else -1)
-    elif x == 0 or y % x == 0:
-        small = (p, q) == ((x > 0) - (x < 0), 0)
+    elif y == 0 or (x and y % x == 0):
+        small = (p, q) == (-1 if x < 0 else 1, 0)
     else:
         small = 2 * abs(p) * gcd <= abs(y) and 2 * abs(q) * gcd <= abs(x)
     return status == 0 and found == gcd == p * x + q * y and small
