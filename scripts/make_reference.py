@@ -10,7 +10,8 @@
 A page has each public item that a user of the crate can import, by the path of its import, with its doc comment, its
 signature and its clauses, without its body. Clauses that only say that numbers lie in their types are one line. Then come
 each definition of `specs/` that a public clause or such a definition cites, the laws, and the lemmas of
-`proofs/ForCallers.antt`. A word that a clause cites has a link. The index has each function. A form that is not known is
+`proofs/ForCallers.antt`, in the groups of that file. A word that a clause cites has a link. The index has each function, and
+`imports.md` the module of each word. A form that is not known is
 rejected by file and line; then nothing is written, and the status is 2."""
 import pathlib
 import re
@@ -20,7 +21,7 @@ import sys
 import tempfile
 import textwrap
 
-from antt_words import Specs, cited
+from antt_words import Specs, cited, imported
 from library import Library
 from prose import wrapped
 from rattle_source import Unknown
@@ -35,10 +36,16 @@ NAMES = ('theorems', 'integer_core', 'integer_roots', 'num_integer', 'modular', 
 BELOW = {'integer_core': 'num_integer', 'integer_roots': 'num_integer'}
 BY_FILE = {'cellarcove_c', 'theorems'}          # nobody imports them: their public items are those of their files
 FIRST = (('headline',), ('laws',))              # the files of `theorems` with which its page begins
+CALLERS = 'theorems'                            # what its clauses and proofs import of the toolchain is on the page of imports
 PROGRAM = ('intcalc_core', 'intcalc')           # on the page of files alone
 IN_RANGE = 'Clauses that only say that arguments and results are in the range of their types are left out.'
+IMPORTS = ('The module of each word: import it in a clause by `ghost use MODULE.{WORD};`, and in a proof by `use MODULE.{WORD}`. '
+           'A module of `proofs` is for proofs alone. '
+           'The words are the definitions of the libraries, the rulesets, and what the callers of `crates/theorems` import of '
+           'the toolchain. `→`, `×`, `¬`, `⊥` and the tactics need no import. `rt check --fix-imports` adds missing imports.')
 SHOWN = ('fn', 'struct', 'enum', 'trait', 'const', 'type')
 LEMMA = re.compile(r'(?:abbrev |unfoldable )?pub (?:ruleset ([^\s:]+) =|([^\s:]+) :)')
+RENAMED = re.compile(r'^pub use [\w.]+\.\{(\S+) as (\S+)\}')
 EXPORT = re.compile(r'pub use Rattle\.(\w+)\.([\w.]+)\.\{([^}]*)\}')
 
 
@@ -160,7 +167,7 @@ class Reference:
         self.program = Library(CRATES, [name for name in PROGRAM if (CRATES / name / 'src').is_dir()])
         self.crates = {name: Crate(library, name) for name in names}
         self.pages = {name: Page(f'`{name}`') for name in self.crates}
-        self.words, self.anchors, self.waiting, self.calls = {}, {}, [], []
+        self.words, self.anchors, self.waiting, self.calls, self.rulesets = {}, {}, [], [], []
 
     # ---- words
 
@@ -295,25 +302,28 @@ class Reference:
         page = self.pages[crate]
         page.heading(2, f'Lemmas for callers: `Rattle.{crate}.proofs.ForCallers`')
         page.add('Lemmas that the proof of a caller may cite, beside the laws.', '')
-        text = file.read_text()
-        for paragraph in re.split(r'\n\s*\n', text):
-            if paragraph.startswith('-- ---- '):
-                page.add(f'**{paragraph.split(chr(10))[0][8:].capitalize()}**', '')
-            for other, path, names in EXPORT.findall(paragraph):
+        for title, said, text in groups(file.read_text()):
+            if title:
+                page.heading(3, title[0].upper() + title[1:])
+                page.add(*said, '')
+            for other, path, names in EXPORT.findall(text):
                 found = lemmas((CRATES / other).joinpath(*path.split('.')).with_suffix('.antt'))
                 for name in (name.strip() for name in names.split(',')):
-                    self.lemma(page, name, found.get(name))
-            for name, lemma in lemmas_in(paragraph).items():
+                    if name not in found:
+                        raise Unknown(f'{file}: {path} has no `{name}` that is known')
+                    anchor = self.lemma(page, name, found[name])
+                    if found[name][1].startswith('ruleset '):
+                        self.rulesets.append((crate, name, anchor))
+            for name, lemma in lemmas_in(text).items():
                 self.lemma(page, name, lemma)
 
     def lemma(self, page, name, lemma):
-        if lemma is None:
-            return
         comment, text = lemma
-        page.heading(4, f'`{name}`')
+        anchor = page.heading(4, f'`{name}`')
         if comment:
             page.add(sentence(comment), '')
         page.block('text', text)
+        return anchor
 
     # ---- the pages
 
@@ -331,6 +341,7 @@ class Reference:
         pages['README.md'] = self.front()
         pages['index.md'] = self.index()
         pages['modules.md'] = self.modules()
+        pages['imports.md'] = self.imports()
         return {name: re.sub(r'\n{3,}', '\n\n', text).rstrip('\n') + '\n' for name, text in pages.items()}
 
     def modules(self):
@@ -342,6 +353,27 @@ class Reference:
                       for module in crate.modules]
             lines.append('')
         return '\n'.join(lines)
+
+    def imports(self):
+        """The page that has the module of each definition, and of each word of the toolchain that a caller imports."""
+        rows = {(name, f'Rattle.{self.upper(crate, file)}.specs.{file}', f'[`{name}`]({crate}.md#{self.anchors[crate, file, name]})')
+                for crate, file, name in self.words if file != 'Laws' and crate not in BY_FILE}
+        rows |= {(name, f'Rattle.{crate}.proofs.ForCallers', f'[`{name}`]({crate}.md#{anchor})')
+                 for crate, name, anchor in self.rulesets}
+        toolchain = {}
+        for path in (*(CRATES / CALLERS).glob('src/**/*.rt'), *(CRATES / CALLERS).glob('proofs/**/*.antt')):
+            for name, (crate, module) in imported(path.read_text()).items():
+                if crate == 'std' and ' as ' not in name:
+                    toolchain[name] = min(toolchain.get(name, module), module, key=nearest)
+        rows |= {(name, f'Rattle.std.{module}', f'`{name}`') for name, module in toolchain.items()}
+        rows = [f'| {shown} | `{module}` |' for name, module, shown in
+                sorted(rows, key=lambda row: (row[0][0] != '◌', row[0].lower(), row))]
+        return '\n'.join(['# Imports', '', *wrapped(IMPORTS, 110), '', '| word | module |', '|---|---|', *rows])
+
+    def upper(self, crate, file):
+        """The crate from which a caller imports a file of definitions."""
+        lib = CRATES / BELOW.get(crate, crate) / 'specs' / 'Lib.antt'
+        return BELOW[crate] if f'Rattle.{crate}.specs.{file}\n' in lib.read_text() else crate
 
     def index(self):
         rows = [f'| [`{title}`]({link}) | `{path}` | {said} |' for _, title, path, link, said in sorted(self.calls)
@@ -355,14 +387,19 @@ class Reference:
         return '\n'.join(['# Reference', '', 'Made of the sources by `scripts/make_reference.py`. Nobody edits these pages.', '',
                           '[All functions](index.md), by name. [How to read a contract](../CONTRACTS.md), in five minutes.', '',
                           '| crate | what it is |', '|---|---|', rows, '',
-                          '[modules.md](modules.md) lists the files of each crate.', '', '# How to read a clause', '',
+                          '[imports.md](imports.md) has the module of each word. [modules.md](modules.md) lists the files of each crate.', '', '# How to read a clause', '',
                           *TOOLCHAIN.read_text().split('\n')[1:]])
+
+
+def nearest(module):
+    """The order of the modules that have a word of the toolchain: first that of most words, and last those for proofs alone."""
+    return module != 'specs.Prelude', module.startswith('proofs.'), module
 
 
 def sentence(comment):
     """A comment as a sentence: it begins with a capital, where that is no name, and ends with a full stop."""
     comment = comment if comment[-1] in '.:?!' else comment + '.'
-    first = comment.split()[0]
+    first = comment.split()[0].rstrip(',;')
     return comment[0].upper() + comment[1:] if first.isalpha() and len(first) > 1 or first == 'a' else comment
 
 
@@ -370,6 +407,21 @@ def first_sentence(lines):
     """The first sentence of the lines, or of their first paragraph."""
     text = ' '.join(lines).strip() if '' not in lines else ' '.join(lines[:lines.index('')]).strip()
     return re.split(r'(?<=\.)\s', text)[0].replace('|', '\\|')
+
+
+def groups(text):
+    """The groups of a file of lemmas for callers: the title of each, the lines that say more of it, and its exports. A line
+    that is indented is code."""
+    parts = re.split(r'^-- ---- (.*)\n((?:--.*\n)*)', text, flags=re.M)
+    yield '', [], parts[0]
+    for title, comment, exports in zip(parts[1::3], parts[2::3], parts[3::3]):
+        said, code = [], False
+        for line in (line[3:] for line in comment.splitlines()):
+            if line and line.startswith('    ') != code:
+                said.append('```' if code else '```text')
+                code = not code
+            said.append(line[4:] if code else line)
+        yield title, said + ['```'] * code, exports
 
 
 def lemmas(file):
@@ -396,9 +448,13 @@ def lemmas_in(text):
                 if len(more) - len(more.lstrip(' ')) <= margin:
                     break
                 stated.append(more[margin:])
-            found[match.group(1) or match.group(2)] = (' '.join(comment), '\n'.join([head for _, head in modules] + stated))
+            indent = '    ' * bool(modules)
+            found[match.group(1) or match.group(2)] = (
+                ' '.join(comment), '\n'.join([head for _, head in modules] + [indent + line for line in stated]))
         elif line.lstrip(' ').startswith('module _ '):
             modules.append((margin, line.strip()))
+        for name, other in RENAMED.findall(line):
+            found[other] = (' '.join(comment), f'{other} = {name}')
         comment = []
     return found
 
@@ -416,6 +472,7 @@ SLIPS = (
     ('a theorem that differs', 'crates/theorems/src/dates.rt', 'ensures { result ≡ Some day }', 'ensures { result ≡ None }', 'theorems.md'),
     ('an import that differs', 'docs/reference/num_integer.md', 'use num_integer::{Average,', 'use integer_core::{Average,',
      'num_integer.md'),
+    ('a module of a word that differs', 'docs/reference/imports.md', '`Rattle.std.specs.Int`', '`Rattle.std.specs.Ints`', 'imports.md'),
     ('an item at the place of another', 'scripts/library.py', 'public.setdefault((target.crate, target.path, target_name), place)',
      'public.setdefault((target.crate, target.path, target_name), place[1:])', 'num_integer.md'),
 )

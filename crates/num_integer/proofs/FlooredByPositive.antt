@@ -34,6 +34,13 @@ rest_leads_to_multiple {n} {d} {r} h = record { factor = h.quotient +ℤ pos 1; 
 pub ceiled_remainder_range : {n d q r : ℤ} → pos 0 <ℤ d → IsCeiled n d q r → (r ≤ℤ pos 0) × (pos 0 <ℤ (r +ℤ d))
 ceiled_remainder_range up h = (omega (arith, sizes, h.sign, h.division.small), omega (arith, sizes, h.sign, h.division.small))
 
+-- a remainder from above the divisor's negation to 0 is that of the quotient rounded up
+pub ceiled_by_range : {n d q r : ℤ} → n ≡ q *ℤ d +ℤ r → r ≤ℤ pos 0 → pos 0 <ℤ (r +ℤ d) → IsCeiled n d q r
+ceiled_by_range equation to_zero above = record {
+  division = record { equation = equation; small = omega (arith, sizes) };
+  sign = grind (arith, linear);
+}
+
 -- a ceiled quotient is the smallest number whose multiple is not below the dividend
 pub ceiled_quotient_least : {n d q : ℤ} → pos 0 <ℤ d → IsQuotient IsCeiled n d q → (n ≤ℤ (q *ℤ d)) × ((m : ℤ) → n ≤ℤ (m *ℤ d) → q ≤ℤ m)
 ceiled_quotient_least {n} {d} {q} up h =

@@ -11,19 +11,34 @@ pub use Rattle.integer_core.proofs.Ranges.{within_fits}
 pub use Rattle.integer_roots.proofs.OnlyAnswers.{root_is_only_one}
 pub use Rattle.integer_roots.proofs.Powers.{power_of_one, power_of_power, power_of_zero}
 pub use Rattle.integer_roots.proofs.MagnitudeRoots.{first_root, root_in_range}
-pub use Rattle.integer_core.proofs.Whole.{comm, dist, dist-left, expand, from_not_less, linear, mul-neg, mul-one, product_positive, products, sizes}
+pub use Rattle.integer_core.proofs.Whole.{from_not_less, product_positive}
 pub use Rattle.num_integer.proofs.FittingAnswers.{signed_is}
 pub use Rattle.num_integer.proofs.IntegerPowers.{even_or_odd, even_power, int_pow-suc, int_pow-zero, odd_power, power_of_square, power_size}
 pub use Rattle.num_integer.proofs.Pascal.{coefficient-pos, coefficient-zero, none_above}
+-- ---- rulesets, for `omega`, `grind` and `simp`
+-- `omega (arith, linear)` proves equations and inequalities of integers that are linear. `sizes` is `linear` with magnitudes,
+-- and `products` is `linear` with products. `simp expand` multiplies out both sides of an equation. `comm` says that a · b is b · a.
+--
+-- To prove an equation of products, multiply out what you know, and then the goal:
+--
+--     times : (a b d q r : ℤ) → a ≡ q *ℤ b +ℤ r → a *ℤ d ≡ q *ℤ (b *ℤ d) +ℤ r *ℤ d
+--     times a b d q r e =
+--         let each = simp expand at (ap (λ (t : ℤ). t *ℤ d) e) in
+--         simp expand (omega (arith, linear))
+
+pub use Rattle.integer_core.proofs.Whole.{expand, linear, products, sizes, comm, dist, dist-left, mul-neg, mul-one}
 -- ---- smallest and largest numbers
 
 pub use Rattle.num_integer.proofs.Least.{greatest_is_only, least_is_only}
+-- ---- the numbers 0 and 1
+
+pub use Rattle.num_integer.proofs.ZeroAndOne.{zero_fits, one_fits}
 -- ---- inequalities between products
 
 pub use Rattle.num_integer.proofs.OrderedProducts.{product_from_zero, multiples_apart, product_at_most, factor_positive}
 -- ---- quotients, remainders and multiples by a positive number
 
-pub use Rattle.num_integer.proofs.FlooredByPositive.{floored_remainder_range, floored_by_range, only_pair_by_range, rest_leads_to_multiple, ceiled_remainder_range, ceiled_quotient_least, next_multiple_least, least_multiple_beyond, positive_quotient_fits, operator_quotient_fits, sum_fits_exactly}
+pub use Rattle.num_integer.proofs.FlooredByPositive.{floored_remainder_range, floored_by_range, only_pair_by_range, rest_leads_to_multiple, ceiled_remainder_range, ceiled_by_range, ceiled_quotient_least, next_multiple_least, least_multiple_beyond, positive_quotient_fits, operator_quotient_fits, sum_fits_exactly}
 -- ---- sizes of divisors and multiples
 
 pub use Rattle.num_integer.proofs.DivisorSizes.{divisor_at_most, gcd_with_positive_fits, gcd_at_most, small_multiple_is_zero, lcm_at_most_product, lcm-positive}
@@ -38,7 +53,7 @@ pub use Rattle.num_integer.proofs.ExactRoots.{root_by_squares, exact_power_root,
 pub use Rattle.num_integer.proofs.GrowingCoefficients.{pascal, coefficient_grows}
 -- ---- the operators of the natural numbers
 
-pub use Rattle.num_integer.proofs.NaturalDivision.{quotient_is_natural, remainder_is_natural, division_is_natural, natural_quotient_fits, divides_is_natural, least_turns}
+pub use Rattle.num_integer.proofs.NaturalDivision.{quotient_is_natural, remainder_is_natural, division_is_natural, natural_quotient_fits, divides_is_natural, least_turns, quotients_grow, near}
 -- ---- literals
 
 pub use Rattle.num_integer.proofs.LiteralMultiples.{euclid, lcm_number, literal_lcm_fits, literal_lcm_fits_signed}

@@ -8,6 +8,7 @@ pub mod CheckedMultinomials
 pub mod FlooredProducts
 pub mod Laws
 pub mod Least
+pub mod ZeroAndOne
 pub mod OrderedProducts
 pub mod FlooredByPositive
 pub mod DivisorSizes

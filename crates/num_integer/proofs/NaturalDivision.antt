@@ -1,9 +1,9 @@
 -- Division of natural numbers, as `/` and `%` say it.
-use Rattle.std.specs.Prelude.{◌≡◌, ◌↔◌, ◌<◌, ◌≤◌, ◌+◌, ◌*◌, ◌/◌, ◌%◌, ◌^◌, ◌≤ℤ◌, ◌<ℤ◌, ◌+ℤ◌, ◌*ℤ◌, ℤ, ℕ, pos, unsigned_abs}
+use Rattle.std.specs.Prelude.{◌≡◌, ◌↔◌, ◌<◌, ◌≤◌, ◌+◌, ◌-◌, ◌*◌, ◌/◌, ◌%◌, ◌^◌, ◌≤ℤ◌, ◌<ℤ◌, ◌+ℤ◌, ◌*ℤ◌, ℤ, ℕ, pos, unsigned_abs}
 use Rattle.std.specs.Int.{FitsUnsignedBits}
 use Rattle.std.proofs.Common.{arith, ◌∙◌, ap}
 use Rattle.std.proofs.lemmas.Int.{ints}
-use Rattle.std.proofs.lemmas.Nat.{div_below, le-div, mul-lt}
+use Rattle.std.proofs.lemmas.Nat.{div-add-mod', div_below, le-div, mul-lt}
 use Rattle.std.proofs.Math.Nat.{div-le_self}
 use Rattle.integer_core.specs.Division.{IsFloored, IsQuotient, IsRemainder}
 use Rattle.integer_core.specs.Range.{EachFits}
@@ -56,3 +56,20 @@ least_turns {a} {b} {l} a_up b_up h =
           let down : pos l ≤ℤ pos (x * a) = divisor_at_most (omega (arith, ints, mul-lt 0 0 x a x_up a_up)) (h.least _ left right) in
           (omega (arith, ints, div_below l a (x + 1) a_up (omega (arith, ints))), omega (arith, ints, div_below l b (y + 1) b_up (omega (arith, ints)))),
     )
+
+-- ---- quotients by one divisor
+
+-- The quotient of a larger number by the same divisor is at least as large.
+pub quotients_grow : {m n : ℕ} (d : ℕ) → 0 < d → m ≤ n → m / d ≤ n / d
+quotients_grow {m} {n} d up grow = le-div (m / d) n d up (omega (arith, div-add-mod' m d))
+
+difference_near : (p q m n w r s d : ℕ) → p ≤ q → p * d + r ≡ m → q * d + s ≡ n → m + w ≡ n → r < d → s < d → ((q - p) * d < w + d) × (w < (q - p) * d + d)
+difference_near p q m n w r s d grow before after more r_small s_small =
+    let back : (q - p) + p ≡ q = omega arith in
+    let gap : ((q - p) + p) * d ≡ q * d = ap (λ (t : ℕ). t * d) back in
+    (omega arith, omega arith)
+
+-- If n is w more than m, the difference of their quotients by d is off w / d by less than 1.
+pub near : (m w d : ℕ) {n : ℕ} → 0 < d → m + w ≡ n → ((n / d - m / d) * d < w + d) × (w < (n / d - m / d) * d + d)
+near m w d {n} up more =
+    difference_near (m / d) (n / d) m n w (m % d) (n % d) d (quotients_grow d up (omega arith)) (div-add-mod' m d) (div-add-mod' n d) more (omega arith) (omega arith)

@@ -1,6 +1,7 @@
 //! The checked quotient of a product.
 
-ghost use Rattle.std.specs.Prelude.{◌≡◌, ◌≢◌, ◌<◌, ◌*ℤ◌, pos};
+ghost use Rattle.std.specs.Prelude.{◌≡◌, ◌≢◌, ◌<◌, ◌<ℤ◌, ◌≤ℤ◌, ◌*ℤ◌, pos};
+ghost use Rattle.std.specs.Option.{IsSome};
 ghost use Rattle.integer_core.specs.Division.{IsFloored, IsQuotient};
 ghost use Rattle.integer_core.specs.Range.{EachFits};
 ghost use Rattle.num_integer.specs.Checked.{AnswersWhere, Has};
@@ -13,16 +14,19 @@ use num_traits::cast;
 /// Returns the quotient of `a * b` by `d`, rounded down, and its remainder, or `None` if `d` is 0 or the
 /// quotient does not fit. The product need not fit. The type is a native one of at most 64 bits.
 /// `product_div_mod_floor(i64::MAX, 2, 3)` is `Some((6148914691236517204, 2))`, and
-/// `product_div_mod_floor(i64::MAX, 3, 2)` is `None`.
+/// `product_div_mod_floor(i64::MAX, 3, 2)` is `None`. A part of a number is never `None`: if `a` and `b` are at
+/// least 0, and `b` is at most `d`, which is positive, the quotient is at most `a`.
 pub fn product_div_mod_floor<T: NativeInteger<Magnitude = u64>>(a: T, b: T, d: T) -> Option<(T, T)>
     requires a_in_range { T.fits (T.value a) }
     requires b_in_range { T.fits (T.value b) }
     requires d_in_range { T.fits (T.value d) }
-    ensures { AnswersWhere
+    ensures answer { AnswersWhere
         ((T.value d ≢ pos 0) × EachFits T.fits (IsQuotient IsFloored (T.value a *ℤ T.value b) (T.value d)))
         (λ r. T.fits (T.value r.0) × T.fits (T.value r.1)
         × IsFloored (T.value a *ℤ T.value b) (T.value d) (T.value r.0) (T.value r.1))
         result }
+    ensures within { pos 0 ≤ℤ T.value a → pos 0 ≤ℤ T.value b → T.value b ≤ℤ T.value d
+        → pos 0 <ℤ T.value d → IsSome result }
 {
     if is_zero(d) {
         return None;
