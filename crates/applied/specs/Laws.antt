@@ -67,17 +67,19 @@ LowerBoundIsOnly {X} value = (items : List X) (least : ℤ) (place other : ℕ)
 
 -- ---- pairs and lists
 
--- Each pair of numbers has a reduced pair, and only one.
+-- Each pair of numbers has a reduced pair.
 abbrev pub ReducedPairExists : Type 0
 ReducedPairExists = (a b : ℤ) → (x y : ℤ) × IsReducedPair a b x y
 
+-- Each pair of numbers has at most one reduced pair.
 abbrev pub ReducedPairIsOnly : Type 0
 ReducedPairIsOnly = (a b x y : ℤ) → IsReducedPair a b x y → IsOnly (λ (u, v). IsReducedPair a b u v) (x, y)
 
--- Each list has a greatest common divisor, and only one.
+-- Each list has a greatest common divisor.
 abbrev pub GcdOfExists : Type 0
 GcdOfExists = (numbers : List ℤ) → (g : ℤ) × IsGreatestCommonDivisorOf numbers g
 
+-- Each list has at most one greatest common divisor.
 abbrev pub GcdOfIsOnly : Type 0
 GcdOfIsOnly = (numbers : List ℤ) (g : ℤ) → IsGreatestCommonDivisorOf numbers g → IsOnly (IsGreatestCommonDivisorOf numbers) g
 
@@ -85,9 +87,10 @@ GcdOfIsOnly = (numbers : List ℤ) (g : ℤ) → IsGreatestCommonDivisorOf numbe
 abbrev pub GcdOfFitsExactly : (ℤ → Type 0) → Type 0
 GcdOfFitsExactly fits = (low high : ℤ) (numbers : List ℤ) → IsRange fits low high → All fits numbers → GcdOfFits fits numbers ↔ EachFits fits (IsGreatestCommonDivisorOf numbers)
 
--- Each list has a least common multiple, and only one.
+-- Each list has a least common multiple.
 abbrev pub LcmOfExists : Type 0
 LcmOfExists = (numbers : List ℤ) → (l : ℤ) × IsLeastCommonMultipleOf numbers l
 
+-- Each list has at most one least common multiple.
 abbrev pub LcmOfIsOnly : Type 0
 LcmOfIsOnly = (numbers : List ℤ) (l : ℤ) → IsLeastCommonMultipleOf numbers l → IsOnly (IsLeastCommonMultipleOf numbers) l

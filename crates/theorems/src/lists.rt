@@ -8,8 +8,8 @@ ghost use Rattle.num_integer.specs.Range.{EachFits};
 ghost use Rattle.applied.specs.Lists.{IsGreatestCommonDivisorOf, IsLeastCommonMultipleOf};
 
 use applied::coprime::{is_coprime, reduced};
-use applied::lists::{checked, gcd_of};
-use num_integer::Fits;
+use applied::lists::{checked, gcd_of, lcm_of};
+use num_integer::{Fits, Integer};
 
 // ---- lists
 
@@ -20,6 +20,25 @@ pub fn common_period(periods: &[u64]) -> Option<u64>
         (λ period. IsLeastCommonMultipleOf (map (λ x. pos x) periods.now) (pos period)) }
 {
     checked::lcm_of(periods)
+}
+
+/// The same if it is known to fit.
+pub fn period_that_fits(periods: &[u64]) -> u64
+    requires { EachFits (FitsUnsignedBits 64) (IsLeastCommonMultipleOf (map (λ x. pos x) periods.now)) }
+    ensures { IsLeastCommonMultipleOf (map (λ x. pos x) periods.now) (pos result) }
+{
+    lcm_of(periods)
+}
+
+/// The same by a loop, and lemmas for callers. It is `None` too if a multiple on the way does not fit and a 0 comes later.
+pub fn period_by_a_loop(periods: &[u64]) -> Option<u64>
+    ensures { IfSome result (λ period. IsLeastCommonMultipleOf (map (λ x. pos x) periods.now) (pos period)) }
+{
+    let mut period = 1;
+    for next in periods {
+        period = num_integer::checked::lcm(period, *next)?;
+    }
+    Some(period)
 }
 
 /// The common denominator of signed denominators, or `None` if it does not fit.
@@ -67,6 +86,16 @@ pub fn aspect_ratio(width: u32, height: u32) -> (u32, u32)
     ensures ratio { width * result.1 ≡ height * result.0 }
 {
     reduced(width, height)
+}
+
+/// The same by two divisions, and a lemma for callers.
+pub fn aspect_ratio_by_division(width: u32, height: u32) -> (u32, u32)
+    requires { 0 < height }
+    ensures coprime { IsGreatestCommonDivisor (pos result.0) (pos result.1) (pos 1) }
+    ensures ratio { width * result.1 ≡ height * result.0 }
+{
+    let common = width.gcd(&height);
+    (width / common, height / common)
 }
 
 /// The parts of a slope, of which one may be negative or 0.
