@@ -3,7 +3,7 @@ use Rattle.std.specs.Prelude.{◌≡◌, ◌↔◌, ◌+◌, ◌-◌, ◌≤◌,
 use Rattle.std.specs.Int.{w64}
 use Rattle.std.proofs.Common.{◌∙◌, arith, subst, sym}
 use Rattle.std.proofs.lemmas.Int.{ints}
-use Rattle.calendar.specs.Dates.{number_of}
+use Rattle.calendar.specs.Dates.{HasParts, number_of}
 use Rattle.calendar.specs.IsoWeeks.{HasIsoWeeks, IsDayOfIsoWeek, IsInIsoWeek}
 use Rattle.calendar.specs.Weekday.{iso_number}
 use Rattle.calendar.specs.Years.{HasDay}
@@ -11,7 +11,7 @@ use Rattle.calendar.specs.declared.date.Date.{Date}
 use Rattle.calendar.specs.declared.weekday.Weekday.{Weekday}
 use Rattle.calendar.proofs.ForCallers.{weekday_within, weeks_apart, year_day_range}
 use Rattle.calendar.proofs.Laws.{iso_day_is_only, iso_number_is_only, weeks_of_a_year, years_follow}
-use Rattle.cellarcove_c.specs.Dates.{HasIsoWeek, IsDayBeyond}
+use Rattle.cellarcove_c.specs.Dates.{HasIsoWeek, IsDayBeyond, IsOfIsoNumber}
 
 -- ---- weeks
 
@@ -83,3 +83,10 @@ not_beyond {year} {week} weekday date same own fits = λ h.
     let weekday_is = iso_number_is_only h.day_of_week weekday (h.number ∙ sym same) in
     let day = iso_day_is_only h.day (number_of date) year week weekday (subst (λ (d : Weekday). IsDayOfIsoWeek h.day year week d) weekday_is h.of_week) own in
     h.beyond date.year (subst (λ (t : ℤ). HasDay date.year t) (sym day) (in_its_year date)) fits
+
+-- ---- days of the week by their number
+
+-- a date with a property of its day of the week, by the number of that day
+pub of_iso_number : {weekday : ℕ} {Is : Weekday → Date → Type 0} {year : ℤ} {month day : ℕ} (w : Weekday) (date : Date) → iso_number w ≡ weekday → HasParts date year month day
+    → Is w date → IsOfIsoNumber weekday Is year month day
+of_iso_number w date number parts holds = record { day_of_week = w; number = number; date = date; parts = parts; holds = holds }

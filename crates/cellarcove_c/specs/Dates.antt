@@ -52,20 +52,21 @@ pub record IsDayBeyond (year : ℤ) (week weekday : ℕ) : Type 0 where
   pub of_week : IsDayOfIsoWeek day year week day_of_week
   pub beyond : (y : ℤ) → HasDay y day → ¬ (FitsSigned w64 y)
 
--- The date is the n-th of the month whose day of the week has this ISO number.
--- Examples: 2026, 11, 4 and 4: 2026-11-26; none for 2026, 11, 4 and 5.
-pub record IsNthOfIsoNumber (year : ℤ) (month weekday n : ℕ) (y : ℤ) (m d : ℕ) : Type 0 where
+-- The parts are those of a date with a property of its day of the week, which has this ISO number.
+-- Examples: 2026, 10 and 30 with 5 and 'is the last Friday of 2026-10'; not 2026, 10 and 30 with 6.
+pub record IsOfIsoNumber (weekday : ℕ) (Is : Weekday → Date → Type 0) (year : ℤ) (month day : ℕ) : Type 0 where
   pub day_of_week : Weekday
   pub number : iso_number day_of_week ≡ weekday
   pub date : Date
-  pub parts : HasParts date y m d
-  pub is_nth : IsNthWeekday year month day_of_week n date
+  pub parts : HasParts date year month day
+  pub holds : Is day_of_week date
+
+-- The date is the n-th of the month whose day of the week has this ISO number.
+-- Examples: 2026, 11, 4 and 4: 2026-11-26; none for 2026, 11, 4 and 5.
+abbrev pub IsNthOfIsoNumber : ℤ → ℕ → ℕ → ℕ → ℤ → ℕ → ℕ → Type 0
+IsNthOfIsoNumber year month weekday n y m d = IsOfIsoNumber weekday (λ w date. IsNthWeekday year month w n date) y m d
 
 -- The date is the last of the month whose day of the week has this ISO number.
 -- Examples: 2026, 10 and 5: 2026-10-30; not 2026-10-23.
-pub record IsLastOfIsoNumber (year : ℤ) (month weekday : ℕ) (y : ℤ) (m d : ℕ) : Type 0 where
-  pub day_of_week : Weekday
-  pub number : iso_number day_of_week ≡ weekday
-  pub date : Date
-  pub parts : HasParts date y m d
-  pub is_last : IsLastWeekdayOfMonth year month day_of_week date
+abbrev pub IsLastOfIsoNumber : ℤ → ℕ → ℕ → ℤ → ℕ → ℕ → Type 0
+IsLastOfIsoNumber year month weekday y m d = IsOfIsoNumber weekday (λ w date. IsLastWeekdayOfMonth year month w date) y m d

@@ -1,12 +1,9 @@
 use Rattle.std.specs.Int.{w64}
 use Rattle.std.proofs.lemmas.Int.{to_z-of_z}
+use Rattle.cellarcove_c.proofs.IsoWeeks.{of_iso_number}
 use Rattle.cellarcove_c.proofs.weekdays.cellarcove_last_weekday_of_month.Goals as goal
 
 pub returns-in-Some-last_weekday_of_month-clause-answer : goal.returns-in-Some-last_weekday_of_month-clause-answer
-returns-in-Some-last_weekday_of_month-clause-answer c = λ _. record {
-  day_of_week = c.in-Some.weekday;
-  number = c.in-Some.ensures;
-  date = c.in-Some-last_weekday_of_month.date;
-  parts = c.some.ensures.parts;
-  is_last = rw (to_z-of_z w64 c.args.year c.ranges.year) at c.in-Some-last_weekday_of_month.ensures;
-}
+returns-in-Some-last_weekday_of_month-clause-answer c = λ _.
+    let holds = rw (to_z-of_z w64 c.args.year c.ranges.year) at c.in-Some-last_weekday_of_month.ensures in
+    of_iso_number c.in-Some.weekday c.in-Some-last_weekday_of_month.date c.in-Some.ensures c.some.ensures.parts holds
