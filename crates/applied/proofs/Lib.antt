@@ -6,4 +6,6 @@ pub mod RollingHashes
 pub mod ItemPlaces
 pub mod PageRanges
 pub mod PartRanges
+pub mod WeightedShares
+pub mod SignedShares
 pub mod Laws
