@@ -10,5 +10,7 @@ pub mod SignedDivisors
 pub mod ReducedPairs
 pub mod ListDivisors
 pub mod ListMultiples
+pub mod WeightedShares
+pub mod SignedShares
 pub mod Laws
 pub mod ForCallers

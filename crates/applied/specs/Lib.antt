@@ -5,4 +5,5 @@ pub mod Ranking
 pub mod Hashes
 pub mod Lists
 pub mod ReducedPairs
+pub mod Shares
 pub mod Laws

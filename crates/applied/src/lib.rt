@@ -11,3 +11,4 @@ pub mod powers;
 pub mod ranking;
 pub mod rolling_hash;
 pub mod schedules;
+pub mod shares;

@@ -3,8 +3,10 @@
 ghost use Rattle.std.specs.Prelude.{◌<◌};
 
 use applied::schedules::next_meeting;
-use applied::{layout, paging, ranking};
-use calendar::{Date, IsoWeek, Weekday, easter, last_weekday_of_month, months_between};
+use applied::{layout, paging, ranking, shares};
+use calendar::{
+    Date, IsoWeek, Weekday, easter, last_weekday_of_month, months_between, next_last_weekday,
+};
 use modular::{CommonSolution, inverse_modulo};
 use num_integer::{Integer, checked};
 use ratio64::{ParseRatioError, Ratio};
@@ -28,6 +30,13 @@ fn shares(cents: u64, people: u64) -> (u64, u64)
     cents.div_mod_floor(&people)
 }
 
+/// The budgets of three teams of five, three and two people.
+fn budgets(cents: u64) -> [u64; 3] {
+    let mut budgets = [0; 3];
+    shares::shares(cents, &[5, 3, 2], &mut budgets);
+    budgets
+}
+
 /// The next place of a record of eight bytes.
 fn aligned(offset: u64) -> Option<u64> {
     layout::align_up(offset, 8)
@@ -41,6 +50,11 @@ fn both_buses(now: u64) -> CommonSolution<u64> {
 /// The last Friday of a month.
 fn pay_day(year: i64, month: u8) -> Option<Date> {
     last_weekday_of_month(year, month, Weekday::Friday)
+}
+
+/// The first last Friday of a month after a date.
+fn next_pay_day(date: &Date) -> Option<Date> {
+    next_last_weekday(date, Weekday::Friday)
 }
 
 /// The same day of the next month, or its last day.
@@ -102,6 +116,7 @@ fn tasks_on_numbers(rt: HostRuntime) {
     let items = [0; 41];
     assert!(rt; pages(41) == 3 && items_of(2, &items).len() == 1 && items_of(3, &items).is_empty());
     assert!(rt; shares(1000, 3) == (333, 1));
+    assert!(rt; budgets(1001) == [501, 300, 200]);
     assert!(rt; aligned(13) == Some(16) && aligned(u64::MAX).is_none());
     assert!(rt; both_buses(10) == CommonSolution::At(21));
     assert!(rt; tax(i64::MAX) == Some(1752440687002407403));
@@ -131,6 +146,9 @@ fn tasks_on_fractions(rt: HostRuntime) {
 fn tasks_on_dates(rt: HostRuntime) {
     assert!(rt; pay_day(2026, 11) == Date::new(2026, 11, 27) && pay_day(2026, 13).is_none());
     assert!(rt; easter_monday(2027) == Date::new(2027, 3, 29));
+    if let Some(paid) = Date::new(2026, 10, 30) {
+        assert!(rt; next_pay_day(&paid) == Date::new(2026, 11, 27));
+    }
     if let Some(invoice) = Date::new(2026, 1, 31) {
         assert!(rt; due(&invoice) == Date::new(2026, 2, 28));
     }

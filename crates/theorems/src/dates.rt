@@ -441,7 +441,8 @@ pub fn days_to_pay_day(date: &Date) -> Option<i64>
     ensures { IfSome result (λ days. pos 0 <ℤ days) }
 {
     let next = next_last_weekday(date, Weekday::Friday)?;
-    days_between(date, &next)
+    let days = days_between(date, &next)?;
+    Some(days)
 }
 
 /// The second Friday of a month, which each month has.

@@ -1,6 +1,6 @@
-//! Calls of `applied`: pages and parts, offsets, schedules and choices.
+//! Calls of `applied`: pages and parts, shares, offsets, schedules and choices.
 
-ghost use Rattle.std.specs.Prelude.{◌≡◌, ◌↔◌, ◌<◌, ◌≤◌, ◌+◌, ◌*◌, ◌≤ℤ◌, ◌<ℤ◌, ◌+ℤ◌, ◌*ℤ◌, ◌^◌, FitsSigned, IfSome, IsTrue, MatchOption, length, min, pos, ℕ, ℤ};
+ghost use Rattle.std.specs.Prelude.{◌≡◌, ◌↔◌, ◌<◌, ◌≤◌, ◌+◌, ◌*◌, ◌≤ℤ◌, ◌<ℤ◌, ◌+ℤ◌, ◌*ℤ◌, ◌^◌, EachIndex, FitsSigned, IfSome, IsFalse, IsTrue, MatchOption, length, min, pos, slice_index, sum, ℕ, ℤ};
 ghost use Rattle.std.specs.Int.{w64};
 ghost use Rattle.std.specs.List.{All};
 ghost use Rattle.num_integer.specs.Coefficient.{coefficient};
@@ -8,11 +8,13 @@ ghost use Rattle.num_integer.specs.Least.{IsLeastFrom};
 ghost use Rattle.applied.specs.Paging.{IsPlace};
 ghost use Rattle.applied.specs.Ranking.{IsChoice, rank_of};
 ghost use Rattle.applied.specs.Schedules.{IsMeeting, IsMeetingOfEach};
+ghost use Rattle.applied.specs.Shares.{IsNearShare};
 
 use applied::layout::align_up;
 use applied::paging::{item_at, range_of_page};
 use applied::ranking::{is_choice, next_choice, rank, rank_fits};
 use applied::schedules::{Schedule, next_meeting, next_meeting_of};
+use applied::shares::shares;
 use modular::CommonSolution;
 use num_integer::Fits;
 
@@ -56,6 +58,37 @@ pub fn item_of_few(page: u8, place: u8) -> u8
     ensures { result ≡ page * 16 + place }
 {
     item_at(page, place, 16).unwrap()
+}
+
+// ---- shares
+
+/// A bill, split by weights: what is paid is the bill, and each part differs by less than 1 from its exact share.
+pub fn split_by_weights(cents: u64, weights: &[u64], parts: &mut [u64])
+    requires some { 0 < sum weights.now }
+    requires one_each { length parts.old ≡ length weights.now }
+    ensures whole { sum parts.new ≡ cents }
+    ensures near { EachIndex weights.now (λ i. IsNearShare cents (slice_index weights.now i)
+        (sum weights.now) (slice_index parts.new i)) }
+{
+    shares(cents, weights, parts);
+}
+
+/// The budgets of three teams of five, three and two people.
+pub fn budgets(cents: u64) -> [u64; 3]
+    ensures { sum result ≡ cents }
+{
+    let mut budgets = [0; 3];
+    shares(cents, &[5, 3, 2], &mut budgets);
+    budgets
+}
+
+/// A bill, split by weights that are read, or `false` if nobody pays.
+pub fn split_by_read(cents: u64, weights: &[u64], parts: &mut [u64]) -> bool
+    requires { length parts.old ≡ length weights.now }
+    ensures whole { IsTrue result → sum parts.new ≡ cents }
+    ensures nobody { IsFalse result → sum weights.now ≡ 0 }
+{
+    shares(cents, weights, parts)
 }
 
 // ---- offsets and schedules

@@ -1,0 +1,25 @@
+use Rattle.std.proofs.Common.{arith, ℕ}
+use Rattle.std.proofs.lemmas.List.Sums.{get_or-le-sum_by}
+use Rattle.applied.proofs.WeightedShares.{all_shared, none_shared, one_more_shared, shares_are_near, shares_are_only, shares_are_whole}
+use Rattle.applied.proofs.shares.shares.Goals as goal
+
+pub loop-i-init : goal.loop-i-init
+loop-i-init c = none_shared (omega arith) (omega arith)
+
+pub next_share-share-requires-clause-within : goal.next_share-share-requires-clause-within
+next_share-share-requires-clause-within c = rw c.total_of-total.ensures (get_or-le-sum_by (λ (x : ℕ). x) c.args.weights.now c.loop-i.i 0 c.loop-i-test.true)
+
+pub loop-i-preserved : goal.loop-i-preserved
+loop-i-preserved c = one_more_shared c.next_share-share.result.0 c.loop-i-test.true c.next_share-share.ensures.share c.next_share-share.ensures.below c.loop-i.invariant
+
+pub returns-clause-shares : goal.returns-clause-shares
+returns-clause-shares c = λ _. all_shared c.total_of-total.ensures (omega arith) c.loop-i.invariant
+
+pub returns-clause-only : goal.returns-clause-only
+returns-clause-only c = λ _. shares_are_only (all_shared c.total_of-total.ensures (omega arith) c.loop-i.invariant)
+
+pub returns-clause-whole : goal.returns-clause-whole
+returns-clause-whole c = λ _. shares_are_whole (omega arith) (all_shared c.total_of-total.ensures (omega arith) c.loop-i.invariant)
+
+pub returns-clause-near : goal.returns-clause-near
+returns-clause-near c = λ _. shares_are_near (all_shared c.total_of-total.ensures (omega arith) c.loop-i.invariant)

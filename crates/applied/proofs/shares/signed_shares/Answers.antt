@@ -1,0 +1,43 @@
+use Rattle.std.specs.Prelude.{FitsSigned}
+use Rattle.std.specs.Int.{w64}
+use Rattle.std.proofs.Common.{arith, rules, ℕ}
+use Rattle.std.proofs.lemmas.Int.{ints, to_z-of_z}
+use Rattle.std.proofs.lemmas.List.Sums.{get_or-le-sum_by}
+use Rattle.applied.proofs.SignedShares.{all_signed, none_signed, one_more_signed, signed_shares_are_only, signed_shares_are_whole}
+use Rattle.applied.proofs.shares.signed_shares.Goals as goal
+
+pub loop-i-init : goal.loop-i-init
+loop-i-init c = none_signed (omega arith) (omega arith)
+
+pub next_share-share-requires-clause-within : goal.next_share-share-requires-clause-within
+next_share-share-requires-clause-within c = rw c.total_of-total.ensures (get_or-le-sum_by (λ (x : ℕ). x) c.args.weights.now c.loop-i.i 0 c.loop-i-test.true)
+
+pub loop-i-preserved : goal.loop-i-preserved
+loop-i-preserved c =
+    let amount = c.ranges.amount in
+    let share : FitsSigned w64 c.with_sign_of.result = search rules in
+    let written = to_z-of_z w64 c.with_sign_of.result share in
+    one_more_signed _ c.loop-i-test.true
+    (rw (written, c.with_sign_of.ensures.magnitude, ← c.unsigned_abs.ensures.value) c.next_share-share.ensures.share)
+    c.next_share-share.ensures.below
+    (λ sign. omega (arith, ints))
+    (λ sign. omega (arith, ints))
+    c.loop-i.invariant
+
+pub returns-clause-shares : goal.returns-clause-shares
+returns-clause-shares c =
+    let amount = c.ranges.amount in
+    let shared = simp to_z-of_z at c.loop-i.invariant in
+    λ _. all_signed c.total_of-total.ensures (omega arith) shared
+
+pub returns-clause-only : goal.returns-clause-only
+returns-clause-only c =
+    let amount = c.ranges.amount in
+    let shared = simp to_z-of_z at c.loop-i.invariant in
+    λ _. signed_shares_are_only (all_signed c.total_of-total.ensures (omega arith) shared)
+
+pub returns-clause-whole : goal.returns-clause-whole
+returns-clause-whole c =
+    let amount = c.ranges.amount in
+    let shared = simp to_z-of_z at c.loop-i.invariant in
+    λ _. signed_shares_are_whole (omega arith) (all_signed c.total_of-total.ensures (omega arith) shared)

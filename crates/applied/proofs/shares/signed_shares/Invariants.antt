@@ -1,0 +1,5 @@
+use Rattle.applied.proofs.SignedShares.{AreSignedTo}
+use Rattle.applied.proofs.shares.signed_shares.Given as goal
+
+abbrev pub invariant-loop-i : goal.invariant-loop-i
+invariant-loop-i l = AreSignedTo l.amount l.weights l.total l.i l.ahead l.shares

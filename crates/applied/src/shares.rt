@@ -1,0 +1,103 @@
+//! An amount divided in proportion to weights.
+
+ghost use Rattle.std.specs.Prelude.{◌≡◌, ◌↔◌, ◌<◌, ◌≤◌, ◌+◌, ◌*◌, ◌≤ℤ◌, pos, EachIndex, IsFalse, IsTrue, length, slice_index, sum, unsigned_abs};
+ghost use Rattle.num_integer.specs.Only.{IsOnly};
+ghost use Rattle.applied.specs.Shares.{AreShares, AreSignedShares, IsNearShare, signed_sum};
+
+/// Fills `shares` with the shares of the amount that are in proportion to the weights and returns `true`. Together
+/// they are the amount, and each differs by less than 1 from its exact share. The first shares together are
+/// their exact share rounded up, so the first of equal weights get the larger shares. Returns `false` and
+/// writes nothing if the weights are all 0, or if there is not one share for each weight.
+/// `{ let mut parts = [0; 3]; (shares(100, &[1, 1, 1], &mut parts), parts) }` is `(true, [34, 33, 33])`,
+/// and `shares(100, &[0, 0], &mut [7, 7])` is `false`.
+pub fn shares(amount: u64, weights: &[u64], shares: &mut [u64]) -> bool
+    ensures possible { IsTrue result
+        ↔ ((length shares.old ≡ length weights.now) × (0 < sum weights.now)) }
+    ensures shares { IsTrue result → AreShares amount weights.now shares.new }
+    ensures only { IsTrue result → IsOnly (AreShares amount weights.now) shares.new }
+    ensures whole { IsTrue result → sum shares.new ≡ amount }
+    ensures near { IsTrue result → EachIndex weights.now (λ i. IsNearShare amount
+        (slice_index weights.now i) (sum weights.now) (slice_index shares.new i)) }
+    ensures unchanged { IsFalse result → shares.new ≡ shares.old }
+{
+    let total = total_of(weights);
+    if shares.len() != weights.len() || total == 0 {
+        return false;
+    }
+    let mut ahead = 0;
+    for (i, weight) in weights.iter().enumerate() {
+        let (share, next) = next_share(amount, *weight, total, ahead);
+        shares[i] = share;
+        ahead = next;
+    }
+    true
+}
+
+/// Fills `shares` with the shares of a signed amount and returns `true`: those of its magnitude, as [`shares`]
+/// writes them, each with the sign of the amount. So a negative amount takes back what the positive one gave.
+/// Returns `false` and writes nothing if the weights are all 0, or if there is not one share for each weight.
+/// `{ let mut parts = [0; 3]; (signed_shares(-100, &[1, 1, 1], &mut parts), parts) }` is
+/// `(true, [-34, -33, -33])`.
+pub fn signed_shares(amount: i64, weights: &[u64], shares: &mut [i64]) -> bool
+    ensures possible { IsTrue result
+        ↔ ((length shares.old ≡ length weights.now) × (0 < sum weights.now)) }
+    ensures shares { IsTrue result → AreSignedShares amount weights.now shares.new }
+    ensures only { IsTrue result → IsOnly (AreSignedShares amount weights.now) shares.new }
+    ensures whole { IsTrue result → signed_sum shares.new ≡ amount }
+    ensures unchanged { IsFalse result → shares.new ≡ shares.old }
+{
+    let total = total_of(weights);
+    if shares.len() != weights.len() || total == 0 {
+        return false;
+    }
+    let mut ahead = 0;
+    for (i, weight) in weights.iter().enumerate() {
+        let (share, next) = next_share(amount.unsigned_abs(), *weight, total, ahead);
+        shares[i] = with_sign_of(amount, share);
+        ahead = next;
+    }
+    true
+}
+
+/// Returns the sum of the weights.
+fn total_of(weights: &[u64]) -> u128
+    ensures { result ≡ sum weights.now }
+{
+    let mut total = 0;
+    for weight in weights {
+        total += u128::from(*weight);
+    }
+    total
+}
+
+/// Returns the share of a weight, and how far the shares up to it are ahead of their exact share, in parts of
+/// 1 / `total`. `ahead` is how far those before it are.
+fn next_share(amount: u64, weight: u64, total: u128, ahead: u128) -> (u64, u128)
+    requires within { weight ≤ total }
+    requires below { ahead < total }
+    ensures within { result.0 ≤ amount }
+    ensures share { result.0 * total + ahead ≡ amount * weight + result.1 }
+    ensures below { result.1 < total }
+{
+    let exact = u128::from(amount) * u128::from(weight);
+    let (share, rest) = (exact / total, exact % total);
+    if rest <= ahead {
+        (share as u64, ahead - rest)
+    } else {
+        (share as u64 + 1, total - (rest - ahead))
+    }
+}
+
+/// Returns the magnitude with the sign of the amount.
+fn with_sign_of(amount: i64, magnitude: u64) -> i64
+    requires { magnitude ≤ unsigned_abs amount }
+    ensures magnitude { unsigned_abs result ≡ magnitude }
+    ensures from_zero { pos 0 ≤ℤ amount → pos 0 ≤ℤ result }
+    ensures to_zero { amount ≤ℤ pos 0 → result ≤ℤ pos 0 }
+{
+    if amount < 0 {
+        (-i128::from(magnitude)) as i64
+    } else {
+        magnitude as i64
+    }
+}
