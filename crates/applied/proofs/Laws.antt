@@ -8,8 +8,9 @@ use Rattle.modular.specs.declared.common_solutions.CommonSolution.{CommonSolutio
 use Rattle.modular.specs.declared.common_solutions.CommonSolution.TheVariants.{Never, Beyond, At}
 use Rattle.modular.proofs.ForCallers.{congruent-equal}
 use Rattle.num_integer.specs.Least.{IsLeastFrom}
-use Rattle.num_integer.proofs.ForCallers.{Divides-difference, ceiled_quotient_least, expand, least_is_only, linear, products}
-use Rattle.applied.specs.Laws.{AlignedUpIsOnly, ChoiceOfRankIsOnly, GcdOfExists, GcdOfFitsExactly, GcdOfIsOnly, LcmOfExists, LcmOfIsOnly, LeastTimeIsOnly, LowerBoundIsOnly, MidpointIsOnly, PaddingIsOnly, PagesAreOnly, PartsDifferByOne, RankIsBelow, ReducedPairExists, ReducedPairIsOnly}
+use Rattle.num_integer.proofs.ForCallers.{Divides-difference, ceiled_quotient_least, expand, floored_by_range, floored_remainder_range, least_is_only, linear, only_pair_by_range, products}
+use Rattle.applied.specs.Laws.{AlignedUpIsOnly, ChoiceOfRankIsOnly, GcdOfExists, GcdOfFitsExactly, GcdOfIsOnly, LcmOfExists, LcmOfIsOnly, LeastTimeIsOnly, LowerBoundIsOnly, MidpointIsOnly, PaddingIsOnly, PagesAreOnly, PartsDifferByOne, PlaceExists, PlaceIsOnly, RankIsBelow, ReducedPairExists, ReducedPairIsOnly}
+use Rattle.num_integer.proofs.Laws.{division_exists}
 use Rattle.applied.specs.Schedules.{IsLeastTime}
 use Rattle.applied.proofs.Choices.{only_choice, rank_of_below}
 use Rattle.applied.proofs.ListDivisors as divisors
@@ -20,6 +21,17 @@ use Rattle.applied.proofs.ReducedPairs as pairs
 
 pub pages_are_only : PagesAreOnly
 pages_are_only = λ items size count other enough fewest other_enough other_fewest. omega (arith, linear, fewest other other_enough, other_fewest count enough)
+
+pub place_exists : PlaceExists
+place_exists = λ item page_size up.
+    let division = division_exists.1 item page_size (λ e. omega (arith, linear)) in
+    let range = floored_remainder_range up (record { quotient = division.0; division = division.2 }) in
+    (division.0, division.1, record { equation = division.2.division.equation; from_zero = range.0; below = range.1 })
+
+pub place_is_only : PlaceIsOnly
+place_is_only = λ item page_size page place h. λ (p, q) k.
+    let same = only_pair_by_range (floored_by_range h.equation h.from_zero h.below) k.equation k.from_zero k.below in
+    rw (same.0, same.1) refl
 
 pub parts_differ_by_one : PartsDifferByOne
 parts_differ_by_one = λ parts items cut even part later from_zero ordered within.

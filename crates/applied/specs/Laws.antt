@@ -8,7 +8,7 @@ use Rattle.num_integer.specs.Only.{IsOnly}
 use Rattle.num_integer.specs.Range.{EachFits, IsRange}
 use Rattle.applied.specs.Layout.{IsAlignedUp}
 use Rattle.applied.specs.Lists.{GcdOfFits, IsGreatestCommonDivisorOf, IsLeastCommonMultipleOf}
-use Rattle.applied.specs.Paging.{IsEvenCut}
+use Rattle.applied.specs.Paging.{IsEvenCut, IsPlace}
 use Rattle.applied.specs.Ranking.{IsChoice, IsChoiceOfRank, rank_of}
 use Rattle.applied.specs.ReducedPairs.{IsReducedPair}
 use Rattle.applied.specs.Schedules.{IsLeastTime}
@@ -19,6 +19,14 @@ use Rattle.applied.specs.Schedules.{IsLeastTime}
 abbrev pub PagesAreOnly : Type 0
 PagesAreOnly = (items size count other : ℤ) → items ≤ℤ (count *ℤ size) → ((n : ℤ) → items ≤ℤ (n *ℤ size) → count ≤ℤ n)
     → items ≤ℤ (other *ℤ size) → ((n : ℤ) → items ≤ℤ (n *ℤ size) → other ≤ℤ n) → other ≡ count
+
+-- Each item is on a page.
+abbrev pub PlaceExists : Type 0
+PlaceExists = (item page_size : ℤ) → pos 0 <ℤ page_size → (page place : ℤ) × IsPlace item page_size page place
+
+-- Each item is on only one page, at only one place.
+abbrev pub PlaceIsOnly : Type 0
+PlaceIsOnly = (item page_size page place : ℤ) → IsPlace item page_size page place → IsOnly (λ (p, q). IsPlace item page_size p q) (page, place)
 
 -- A later part is as large as an earlier one, or smaller by 1.
 abbrev pub PartsDifferByOne : Type 0

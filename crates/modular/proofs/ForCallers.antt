@@ -3,6 +3,7 @@ pub use Rattle.modular.proofs.Congruences.{congruent-difference, congruent-divis
 pub use Rattle.modular.proofs.Congruences.{remainder_is_residue, residue_of_congruent, residue_of_product}
 pub use Rattle.modular.proofs.TwoCongruences.{lcm_by_reduced_modulus, next_of_class_and, none_of_class_and}
 pub use Rattle.modular.proofs.BelowModulus.{congruent_is_natural, natural_residue, residue_fits, residue_is_natural, residue_of_sum}
-pub use Rattle.modular.proofs.LinearCongruences.{inverse_exists}
+pub use Rattle.modular.proofs.CoprimeModuli.{coprime_product, odd_coprime}
+pub use Rattle.modular.proofs.LinearCongruences.{inverse_exists, solved_by_inverse}
 pub use Rattle.modular.proofs.PowerTurns.{congruent-power}
 pub use Rattle.modular.proofs.Agreements.{agreeing_have_solution, solved_agree}

@@ -1,4 +1,5 @@
 pub mod Congruences
+pub mod CoprimeModuli
 pub mod TwoCongruences
 pub mod NextCongruent
 pub mod BelowModulus

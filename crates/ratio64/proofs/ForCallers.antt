@@ -3,6 +3,9 @@
 
 pub use Rattle.ratio64.proofs.FractionAnswers.{answer_is_ok, err_is_outside, exact_answer, exact_is_inside, ok_is_inside, zero_exactly, zero_factor}
 pub use Rattle.ratio64.proofs.FittingParts.{positive_is_answered, positive_over_other}
+-- ---- a value after `unwrap`, `?` and `.ok()?`
+
+pub use Rattle.ratio64.proofs.UsedResults.{at_ok, at_some, some_is_exact, none_is_outside}
 -- ---- the size of an exact result
 
 pub use Rattle.ratio64.proofs.FittingParts.{common_factor, exact_parts_at_most, positive_denominator_inside, small_parts_inside}
@@ -19,6 +22,9 @@ pub use Rattle.ratio64.proofs.Comparisons.{equal_exactly, greater_exactly, less_
 -- ---- equal fractions, their sums and products
 
 pub use Rattle.ratio64.proofs.EqualFractions.{equal_exact, equal_fractions_answered_alike, equal_outside, nonzero_product, product_of_exact_results, sum_of_exact_results}
+-- ---- equal fractions, rounded
+
+pub use Rattle.ratio64.proofs.EqualQuotients.{equal_times, equal_floored, equal_ceiled, equal_rounded}
 -- ---- powers
 
 pub use Rattle.ratio64.proofs.FractionPowers.{base_fits, equal_powers, power_nonzero, power_of_product, power_reduced}

@@ -8,7 +8,9 @@ pub mod ReadTexts
 pub mod OnlyReadings
 pub mod WideSums
 pub mod EqualFractions
+pub mod EqualQuotients
 pub mod FractionPowers
+pub mod UsedResults
 pub mod ReducedAnswers
 pub mod ReducedParts
 pub mod NearestNumbers

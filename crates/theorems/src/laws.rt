@@ -131,6 +131,8 @@ pub fn laws_of_dates()
 /// The laws of pages, parts, offsets, schedules, choices and halves.
 pub fn laws_of_models<P: Property, T: Integer>()
     ensures pages_are_only { models.PagesAreOnly }
+    ensures place_exists { models.PlaceExists }
+    ensures place_is_only { models.PlaceIsOnly }
     ensures parts_differ_by_one { models.PartsDifferByOne }
     ensures aligned_up_is_only { models.AlignedUpIsOnly }
     ensures padding_is_only { models.PaddingIsOnly }

@@ -18,6 +18,7 @@
 //! | `dates.rt` | `calendar`: dates and their days, weeks, months, Easter |
 //! | `pages.rt` | `applied`: pages and parts, offsets, schedules, choices |
 //! | `lists.rt` | `applied`: divisors and multiples of lists, coprime numbers, reduced pairs |
+//! | `tasks.rt` | everyday tasks: a resolution, pages, a cipher, a recipe |
 //!
 //! Most functions have no proof file: the search proves them from the contracts of what they call. The others have theirs in
 //! `proofs/`, under the names of the file and of the function.
@@ -33,3 +34,4 @@ pub mod laws;
 pub mod lists;
 pub mod pages;
 pub mod residues;
+pub mod tasks;

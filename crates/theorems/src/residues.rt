@@ -1,6 +1,6 @@
 //! Calls of `modular`: what a caller learns from their contracts and the laws, and results that a caller matches on or loops over.
 
-ghost use Rattle.std.specs.Prelude.{◌≡◌, ◌+◌, ◌*◌, ◌%◌, ◌<◌, ◌<ℤ◌, ◌≤ℤ◌, ◌+ℤ◌, FitsSigned, IfSome, IsTrue, MatchOption, Some, pos, ℕ, ℤ};
+ghost use Rattle.std.specs.Prelude.{◌≡◌, ◌<◌, ◌<ℤ◌, ◌≤ℤ◌, ◌+ℤ◌, FitsSigned, IfSome, IsTrue, MatchOption, Some, pos, ℤ};
 ghost use Rattle.std.specs.Int.{int_pow, w64};
 ghost use Rattle.std.specs.List.{All};
 ghost use Rattle.modular.specs.Congruences.{IsCountOfCongruent, IsInverse, IsNextCommonSolution, IsNextCongruent, IsPreviousCongruent, IsQuotientModulo, IsResidue, IsResidueClass, Solves, SolvesBothCongruences, SolvesEach};
@@ -9,9 +9,9 @@ ghost use Rattle.num_integer.specs.Least.{IsLeastFrom};
 
 use modular::counted::power_modulo_counted;
 use modular::{
-    CommonSolution, chinese_remainder, count_congruent, difference_modulo, inverse_modulo,
-    next_common_solution, next_common_solution_of, next_congruent, previous_congruent,
-    quotient_modulo, residue, solutions, sum_modulo,
+    CommonSolution, chinese_remainder, count_congruent, inverse_modulo, next_common_solution,
+    next_common_solution_of, next_congruent, previous_congruent, quotient_modulo, residue,
+    solutions, sum_modulo,
 };
 use num_integer::Fits;
 
@@ -205,40 +205,4 @@ pub fn power_and_turns(a: u64, exponent: u32, m: u64) -> (u64, u32)
     ensures { IsResidue (pos m) (int_pow (pos a) exponent) (pos result.0) }
 {
     power_modulo_counted(a, u128::from(exponent), m)
-}
-
-// ---- an affine cipher over bytes
-
-/// A key, whose factor is odd.
-#[derive(Debug, Clone, Copy, PartialEq, Eq)]
-pub struct Key {
-    pub factor: u8,
-    pub shift: u8,
-    ghost odd: { factor % 2 ≡ 1 },
-}
-
-/// The byte encrypted.
-pub fn encrypt(key: Key, byte: u8) -> u8
-    ensures { result ≡ (key.factor * byte + key.shift) % 256 }
-{
-    key.factor.wrapping_mul(byte).wrapping_add(key.shift)
-}
-
-/// The byte that the key encrypts to this one, and no other.
-pub fn decrypt(key: Key, byte: u8) -> u8
-    ensures encrypted { (key.factor * result + key.shift) % 256 ≡ byte }
-    ensures only { (x : ℕ) → x < 256 → (key.factor * x + key.shift) % 256 ≡ byte → x ≡ result }
-{
-    let moved = difference_modulo(u16::from(byte), u16::from(key.shift), 256);
-    match quotient_modulo(moved, u16::from(key.factor), 256) {
-        Some(original) => original as u8,
-        None => unreachable!("the factor is odd"),
-    }
-}
-
-/// The byte encrypted and decrypted again, which is the byte.
-pub fn round_trip(key: Key, byte: u8) -> u8
-    ensures { result ≡ byte }
-{
-    decrypt(key, encrypt(key, byte))
 }

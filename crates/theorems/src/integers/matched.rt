@@ -1,6 +1,6 @@
 //! Calls whose result a caller matches on, each at a native type and with no proof file.
 
-ghost use Rattle.std.specs.Prelude.{◌≡◌, ◌≢◌, ◌-◌, ◌*◌, ◌<◌, ◌^◌, ◌<ℤ◌, ◌≤ℤ◌, ◌+ℤ◌, ◌-ℤ◌, ◌*ℤ◌, FitsSigned, IfSome, MatchOption, min, neg_ℤ, pos};
+ghost use Rattle.std.specs.Prelude.{◌≡◌, ◌≢◌, ◌-◌, ◌*◌, ◌<◌, ◌≤◌, ◌^◌, ◌<ℤ◌, ◌≤ℤ◌, ◌+ℤ◌, ◌-ℤ◌, ◌*ℤ◌, FitsSigned, IfSome, MatchOption, min, neg_ℤ, pos};
 ghost use Rattle.std.specs.Int.{w64};
 ghost use Rattle.num_integer.specs.Bezout.{IsBezoutAnswer};
 ghost use Rattle.num_integer.specs.Coefficient.{coefficient};
@@ -209,4 +209,28 @@ pub fn share_and_rest(amount: u64, rate: u64, whole: u64) -> Option<(u64, u64)>
     ensures { IfSome result (λ r. pos amount *ℤ pos rate ≡ pos r.0 *ℤ pos whole +ℤ pos r.1) }
 {
     checked::product_div_mod_floor(amount, rate, whole)
+}
+
+/// A part of an amount, rounded down, which is there.
+pub fn part_of(amount: i64, part: i64, whole: i64) -> i64
+    requires amount { pos 0 ≤ℤ amount }
+    requires part { pos 0 ≤ℤ part }
+    requires within { part ≤ℤ whole }
+    requires positive { pos 0 <ℤ whole }
+    ensures { IsQuotient IsFloored (amount *ℤ part) whole result }
+{
+    let (part, _) = checked::product_div_mod_floor(amount, part, whole).unwrap();
+    part
+}
+
+/// The same at an unsigned type, by a match.
+pub fn natural_part_of(amount: u64, part: u64, whole: u64) -> u64
+    requires within { part ≤ whole }
+    requires positive { 0 < whole }
+    ensures { IsQuotient IsFloored (pos (amount * part)) (pos whole) (pos result) }
+{
+    match checked::product_div_mod_floor(amount, part, whole) {
+        Some((part, _)) => part,
+        None => unreachable!("the part fits"),
+    }
 }

@@ -4,6 +4,8 @@ use Rattle.theorems.proofs.laws.laws_of_models.Goals as goal
 pub returns : goal.returns
 returns g c = record {
   pages_are_only = law.pages_are_only;
+  place_exists = law.place_exists;
+  place_is_only = law.place_is_only;
   parts_differ_by_one = law.parts_differ_by_one;
   aligned_up_is_only = law.aligned_up_is_only;
   padding_is_only = law.padding_is_only;

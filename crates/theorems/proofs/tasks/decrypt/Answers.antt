@@ -1,14 +1,15 @@
-use Rattle.std.specs.Prelude.{◌<◌, ◌%◌, ◌^◌, ◌-ℤ◌, ◌*ℤ◌, pos, unsigned_abs}
+use Rattle.std.specs.Prelude.{◌≡◌, ◌<◌, ◌-ℤ◌, ◌*ℤ◌, pos, unsigned_abs, true, false}
 use Rattle.std.proofs.Common.{ap, arith, rules}
 use Rattle.std.proofs.lemmas.Int.{ints}
 use Rattle.modular.specs.Congruences.{AreCongruent, IsResidue}
-use Rattle.theorems.proofs.AffineCiphers.{is_decrypted, odd_has_inverse}
-use Rattle.theorems.proofs.residues.decrypt.Goals as goal
+use Rattle.modular.proofs.ForCallers.{odd_coprime}
+use Rattle.theorems.proofs.AffineCiphers.{is_decrypted}
+use Rattle.theorems.proofs.tasks.decrypt.Goals as goal
 
 pub unreachable-requires : goal.unreachable-requires
 unreachable-requires c =
-    let low : c.args.key.factor < 256 = search rules in
-    c.in-None.ensures.answer (pos (c.args.key.factor ^ 63 % 256)) (rw c.from-3.ensures (odd_has_inverse c.args.key.factor low c.args.key.odd))
+    let some : false ≡ true = c.in-None.ensures.coprime (rw c.from-3.ensures (odd_coprime c.args.key.factor 8 c.args.key.odd)) in
+    cc
 
 pub returns-clause-only : goal.returns-clause-only
 returns-clause-only c = λ x x_low is.

@@ -1,0 +1,157 @@
+//! Everyday tasks, each by a call or two, with the clauses that its user would write.
+
+ghost use Rattle.std.specs.Prelude.{◌≡◌, ◌↔◌, ◌+◌, ◌*◌, ◌/◌, ◌%◌, ◌<◌, ◌≤◌, ◌^◌, ◌<ℤ◌, ◌*ℤ◌, Err, MatchOption, pos, sum, ℕ};
+ghost use Rattle.num_integer.specs.Division.{IsCeiled, IsQuotient};
+ghost use Rattle.num_integer.specs.Divisors.{IsGreatestCommonDivisor};
+ghost use Rattle.applied.specs.Paging.{IsRangeOfPage};
+ghost use Rattle.modular.specs.Congruences.{IsResidue};
+ghost use Rattle.ratio64.specs.Fraction.{IsOutsideI64};
+ghost use Rattle.ratio64.specs.Ratio.{den_of, num_of};
+ghost use Rattle.ratio64.specs.Rounding.{AnswersInParts};
+ghost use Rattle.ratio64.specs.declared.error.RatioError.{RatioError};
+
+use applied::paging::range_of_page;
+use modular::{difference_modulo, quotient_modulo, residue};
+use num_integer::{Integer, checked};
+use ratio64::{Ratio, RatioError};
+
+// ---- the resolution of a screen
+
+/// A width and a height in lowest terms. `resolution(1920, 1080)` is `(16, 9)`.
+pub fn resolution(width: u64, height: u64) -> (u64, u64)
+    requires { 0 < height }
+    ensures lowest { IsGreatestCommonDivisor (pos result.0) (pos result.1) (pos 1) }
+    ensures same_ratio { width * result.1 ≡ height * result.0 }
+{
+    let divisor = width.gcd(&height);
+    (width / divisor, height / divisor)
+}
+
+// ---- pages of items
+
+/// The page of an item and its place there, all counted from 0. `page_and_place(10, 4)` is `(2, 2)`.
+#[tactic(auto, using(num_integer::proofs::ForCallers::division_is_natural))]
+pub fn page_and_place(item: usize, size: usize) -> (usize, usize)
+    requires { 0 < size }
+    ensures page { result.0 ≡ item / size }
+    ensures place { result.1 ≡ item % size }
+{
+    item.div_mod_floor(&size)
+}
+
+/// The page alone.
+pub fn page_of(item: usize, size: usize) -> usize
+    requires { 0 < size }
+    ensures { result ≡ item / size }
+{
+    item.div_floor(&size)
+}
+
+/// The first item of a page and one past its last, or `None` if a page has no items. Exactly the items
+/// on the page are in this range. `indices_on_page(2, 4, 10)` is `Some((8, 10))`.
+pub fn indices_on_page(page: usize, size: usize, items: usize) -> Option<(usize, usize)>
+    ensures { MatchOption result (size ≡ 0) (λ r. (r.0 ≤ r.1) × (r.1 ≤ items)
+        × ((item : ℕ) → item < items → ((r.0 ≤ item) × (item < r.1)) ↔ (item / size ≡ page))) }
+{
+    if size == 0 {
+        return None;
+    }
+    let first = page.saturating_mul(size).min(items);
+    let end = first.saturating_add(size).min(items);
+    Some((first, end))
+}
+
+/// The same by a call of the library, in its words.
+pub fn items_on_page(page: usize, size: usize, items: usize) -> Option<(usize, usize)>
+    ensures { MatchOption result (size ≡ 0)
+        (λ r. IsRangeOfPage (pos page) (pos size) (pos items) (pos r.0) (pos r.1)) }
+{
+    if size == 0 {
+        return None;
+    }
+    Some(range_of_page(page, size, items))
+}
+
+// ---- an affine cipher over bytes
+
+/// A key, whose factor is odd.
+#[derive(Debug, Clone, Copy, PartialEq, Eq)]
+pub struct Key {
+    pub factor: u8,
+    pub shift: u8,
+    ghost odd: { factor % 2 ≡ 1 },
+}
+
+/// The byte encrypted.
+pub fn encrypt(key: Key, byte: u8) -> u8
+    ensures { result ≡ (key.factor * byte + key.shift) % 256 }
+{
+    key.factor.wrapping_mul(byte).wrapping_add(key.shift)
+}
+
+/// The same by one residue, of a number that is computed in a wider type.
+pub fn encrypt_in_wider_type(key: Key, byte: u8) -> u8
+    ensures { IsResidue (pos 256) (pos (key.factor * byte + key.shift)) (pos result) }
+{
+    residue(
+        u32::from(key.factor) * u32::from(byte) + u32::from(key.shift),
+        256,
+    ) as u8
+}
+
+/// The byte that the key encrypts to this one, and no other.
+pub fn decrypt(key: Key, byte: u8) -> u8
+    ensures encrypted { (key.factor * result + key.shift) % 256 ≡ byte }
+    ensures only { (x : ℕ) → x < 256 → (key.factor * x + key.shift) % 256 ≡ byte → x ≡ result }
+{
+    let moved = difference_modulo(u16::from(byte), u16::from(key.shift), 256);
+    match quotient_modulo(moved, u16::from(key.factor), 256) {
+        Some(original) => original as u8,
+        None => unreachable!("the factor is odd"),
+    }
+}
+
+/// The byte encrypted and decrypted again, which is the byte.
+pub fn round_trip(key: Key, byte: u8) -> u8
+    ensures { result ≡ byte }
+{
+    decrypt(key, encrypt(key, byte))
+}
+
+// ---- amounts of money
+
+/// The part of an amount by its weight, rounded down. The product is computed in a wider type.
+pub fn part_by_weight(cents: u64, weight: u64, total: u64) -> u64
+    requires positive { 0 < total }
+    requires within { weight ≤ total }
+    ensures { result ≡ cents * weight / total }
+{
+    (u128::from(cents) * u128::from(weight) / u128::from(total)) as u64
+}
+
+/// The sum of the amounts, or `None` if it does not fit. The sum of the first amounts is not larger, so it
+/// fits where the whole sum does.
+pub fn total_of(amounts: &[u64]) -> Option<u64>
+    ensures { MatchOption result (¬ (sum amounts.now < 2 ^ 64)) (λ total. total ≡ sum amounts.now) }
+{
+    let mut total = 0;
+    for amount in amounts {
+        total = checked::sum(total, *amount)?;
+    }
+    Some(total)
+}
+
+// ---- a recipe in quarters
+
+/// The amount for so many servings of a recipe for `serves`, rounded up to quarters, or the error if it
+/// does not fit. Of 5/3 cups for 4, it is 5/2 cups for 6.
+pub fn scaled(amount: &Ratio, servings: i64, serves: i64) -> Result<Ratio, RatioError>
+    requires { pos 0 <ℤ serves }
+    ensures outside { IsOutsideI64 (num_of amount.now *ℤ servings) (serves *ℤ den_of amount.now)
+        → result ≡ Err RatioError.NotFitting }
+    ensures inside { ¬ (IsOutsideI64 (num_of amount.now *ℤ servings) (serves *ℤ den_of amount.now))
+        → AnswersInParts (IsQuotient IsCeiled (num_of amount.now *ℤ servings *ℤ pos 4)
+        (serves *ℤ den_of amount.now)) (pos 4) result }
+{
+    amount.checked_times(servings, serves)?.ceil_to(4)
+}
