@@ -7,7 +7,7 @@
 
 OUT is rust/c where none is given. Code is erased as scripts/make_rust_crate.py does it. What else changes: paths lead to the crate
 `cellarcove`; a field of a struct of that crate which has an invariant is read by its reader; a slice becomes a pointer
-and a length, of which the body makes the slice, in the one unsafe block; and functions that only state laws go. A form
+and a length, of which the body makes the slice, in an unsafe block; and functions that only state laws go. A form
 that is not known here is rejected by file and line, and then nothing is written."""
 import pathlib
 import shutil

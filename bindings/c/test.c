@@ -134,6 +134,18 @@ static void divisors(void) {
     CHECK(e.status == CELLARCOVE_NOT_FITTING && e.gcd == 0 && e.x == 0 && e.y == 0);
 }
 
+static void lists(void) {
+    uint64_t some[] = {4, 6, 10}, large[] = {UINT64_MAX, 2, 0};
+    ANSWERS(cellarcove_gcd_of_u64(some, 3), 2);
+    ANSWERS(cellarcove_gcd_of_u64(large, 1), UINT64_MAX);
+    ANSWERS(cellarcove_gcd_of_u64(NULL, 0), 0);
+    ANSWERS(cellarcove_lcm_of_u64(some, 3), 60);
+    REFUSES(cellarcove_lcm_of_u64(large, 2), CELLARCOVE_NOT_FITTING);
+    /* the multiple of the first two does not fit */
+    ANSWERS(cellarcove_lcm_of_u64(large, 3), 0);
+    ANSWERS(cellarcove_lcm_of_u64(NULL, 0), 1);
+}
+
 static void powers(void) {
     CHECK(cellarcove_is_square_i64(144) && !cellarcove_is_square_i64(145) && !cellarcove_is_square_i64(-144));
     CHECK(cellarcove_is_square_i64(0) && !cellarcove_is_square_i64(INT64_MIN));
@@ -386,6 +398,7 @@ int main(void) {
     operators();
     division();
     divisors();
+    lists();
     roots();
     powers();
     coefficients();

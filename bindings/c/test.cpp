@@ -44,6 +44,9 @@ static void numbers() {
     CHECK(cellarcove::chinese_remainder(1, 4, 2, 6) == status::no_solution);
     CHECK(*cellarcove::multinomial(std::vector<std::uint64_t>{2, 1, 2}) == 30);
     CHECK(*cellarcove::multinomial(std::vector<std::uint64_t>{}) == 1);
+    CHECK(*cellarcove::gcd_of(std::vector<std::uint64_t>{12, 18, 8}) == 2);
+    CHECK(*cellarcove::lcm_of(std::vector<std::uint64_t>{4, 6, 10}) == 60);
+    CHECK(cellarcove::lcm_of(std::vector<std::uint64_t>{UINT64_MAX, 2}) == status::not_fitting);
     CHECK(cellarcove::is_square(144) && cellarcove::is_power(-243, 5) && !cellarcove::is_power(244U, 5));
     CHECK(cellarcove::is_perfect_power(128));
     CHECK(*cellarcove::checked_product(1 << 20, 1 << 20).and_then([](std::int64_t x) { return cellarcove::checked_sum(x, 1); })

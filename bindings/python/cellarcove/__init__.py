@@ -1,9 +1,9 @@
 """Proved integer arithmetic, fractions and dates.
 
-If all numbers of a call are at least 0, they lie below 2**64, and otherwise from -2**63 to 2**63 - 1. `extended_gcd`, the
-parts of fractions, and days, months and years are always from -2**63 to 2**63 - 1; `multinomial` and exponents are always
-from 0 to 2**64 - 1, and degrees from 0 to 2**32 - 1. A number out of its range raises `OverflowError`, and what is no
-integer raises `TypeError`.
+If all numbers of a call are at least 0, they lie below 2**64, and otherwise from -2**63 to 2**63 - 1. `extended_gcd`,
+the parts of fractions, and days, months and years are always from -2**63 to 2**63 - 1; those of `multinomial`,
+`gcd_of`, `lcm_of` and `is_perfect_power`, and exponents, are always from 0 to 2**64 - 1, and degrees from 0 to
+2**32 - 1. A number out of its range raises `OverflowError`, and what is no integer raises `TypeError`.
 
 If a call has no result, it raises `Refused`, a `ValueError` that has the status. If the reason is that a divisor, a modulus
 or a denominator is 0, it is `DivisionByZero`, which is a `ZeroDivisionError` too. If the reason is that the result does not
@@ -199,18 +199,14 @@ def _out_of_range(number: SupportsIndex, kind: str) -> OverflowError:
 
 
 def _of_many(name: str, numbers: Iterable[SupportsIndex]) -> int:
-    # a divisor or a multiple of any count of numbers, as that of the first two and of the others
+    # a divisor or a multiple of any count of numbers: that of their magnitudes
     integers = [operator.index(number) for number in numbers]
     kind = 'q' if any(number < 0 for number in integers) else 'Q'
     low, high = (-(2**63), 2**63) if kind == 'q' else (0, 2**64)
     for number in integers:
         if not low <= number < high:
             raise _out_of_range(number, kind)
-    if name == 'lcm' and 0 in integers:
-        return 0
-    magnitude = 0 if name == 'gcd' else 1
-    for number in integers:
-        magnitude = gcd(magnitude, abs(number)) if name == 'gcd' else lcm(magnitude, abs(number))
+    magnitude = (gcd_of if name == 'gcd' else lcm_of)([abs(number) for number in integers])
     if magnitude >= high:
         raise NotFitting(Status.NOT_FITTING)
     return magnitude

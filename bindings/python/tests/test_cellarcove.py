@@ -145,8 +145,22 @@ class Numbers(Refusals):
         with self.assertRaises(OverflowError):
             cellarcove.lcm(0, 2**64, 1)
 
+    def test_divisors_of_lists(self):
+        """As those of any count of numbers, from an iterable or an array."""
+        for _ in range(TURNS // 20):
+            some = [abs(x) for x in numbers(random.randrange(1, 6))]
+            self.agree(lambda *given: cellarcove.gcd_of(given), some, math.gcd(*some))
+            self.agree(lambda *given: cellarcove.lcm_of(given), some, math.lcm(*some))
+        self.assertEqual(cellarcove.gcd_of(x for x in (12, 18, 8)), 2)
+        self.assertEqual(cellarcove.lcm_of(array.array('Q', [4, 6, 10])), 60)
+        self.assertEqual(cellarcove.lcm_of(array.array('Q', [2**64 - 1, 2, 0])), 0)
+        self.assertEqual((cellarcove.gcd_of([]), cellarcove.lcm_of(array.array('Q'))), (0, 1))
+        self.refuses(Status.NOT_FITTING, cellarcove.lcm_of, [2**63, 3])
+        with self.assertRaises(OverflowError):
+            cellarcove.gcd_of([1, -1])
+
     def test_powers(self):
-        exact = {degree: {k**degree for k in range(-20, 21)} for degree in range(7)}
+        exact = {degree: {k**degree for k in range(-70, 70)} for degree in range(7)}
         for x in range(-70, 70):
             self.assertEqual(cellarcove.is_square(x), x in exact[2])
             for degree in range(7):

@@ -10,6 +10,7 @@ mod division;
 mod divisors;
 mod fractions;
 mod from_contracts;
+mod lists;
 mod modulo;
 mod operators;
 mod powers;
