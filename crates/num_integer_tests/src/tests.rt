@@ -1,15 +1,14 @@
 //! Worked values, and the tests of the Rust crate `num-integer`.
 
-mod answers;
 mod averages;
 mod calls;
 mod coefficients;
 mod division;
 mod divisors;
-mod expected;
 mod multiples;
 mod own_pairs;
 mod own_values;
+mod results;
 mod roots;
 mod rows;
 mod scaling;

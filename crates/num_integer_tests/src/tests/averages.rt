@@ -1,9 +1,9 @@
 //! Averages: the tests of the Rust crate.
 
-use super::answers::two;
 use super::calls::Call::Averages;
-use super::rows::{Row, answers, check_row, check_rows};
-use super::types::{Ends, ends_of, greatest};
+use super::results::two;
+use super::rows::{Row, check_row, check_rows, returns};
+use super::types::{Ends, ends_of, largest};
 use own_types::types::{SIGNED, Type, UNSIGNED};
 use std::alloc::Global;
 use std::process::Abort;
@@ -23,7 +23,7 @@ static OF_DIFFERENT_SIGN: [Row; 2] = [
     (&SIGNED, Averages, &[14, -5], Some(&[4, 5])),
 ];
 
-/// Checks the averages of numbers right below the greatest of each of the types.
+/// Checks the averages of numbers just below the largest of each of the types.
 fn check_below_the_top(rt: &impl Abort, alloc: Global, types: &[Type]) {
     for it in types {
         let Ends(_, high) = ends_of(rt, alloc, *it);
@@ -31,9 +31,9 @@ fn check_below_the_top(rt: &impl Abort, alloc: Global, types: &[Type]) {
         let second = (false, high.saturating_sub(2));
         let third = (false, high.saturating_sub(3));
         let expected = Some(two(second, second));
-        answers(rt, alloc, (*it, Averages), &[third, first], expected);
+        returns(rt, alloc, (*it, Averages), &[third, first], expected);
         let expected = Some(two(third, second));
-        answers(rt, alloc, (*it, Averages), &[third, second], expected);
+        returns(rt, alloc, (*it, Averages), &[third, second], expected);
     }
 }
 
@@ -56,8 +56,8 @@ fn overflow(rt: HostRuntime) {
 /// Checks the averages of both ends of each signed type.
 fn check_ends(rt: &impl Abort, alloc: Global) {
     for it in SIGNED {
-        let greatest = greatest(rt, alloc, it);
-        let ends = [-greatest - 1, greatest];
+        let largest = largest(rt, alloc, it);
+        let ends = [-largest - 1, largest];
         check_row(rt, alloc, (&[it], Averages), &ends, Some(&[-1, 0]));
     }
 }

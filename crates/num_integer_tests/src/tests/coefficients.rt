@@ -1,8 +1,8 @@
 //! Coefficients, multinomials and rows: the tests of the Rust crate.
 
-use super::answers::{answer, truth};
 use super::calls::Call::{Binomial, BinomialFits, Row as RowOf};
-use super::rows::{YES, answers, check_row, check_rows};
+use super::results::{result, truth};
+use super::rows::{YES, check_row, check_rows, returns};
 use super::tables::{BINOMIALS, MULTINOMIALS};
 use own_types::types::Type;
 use own_types::types::Type::{I8, I16, I32, I64, U8, U16, U32, U64};
@@ -14,30 +14,30 @@ fn test_binomial(rt: HostRuntime) {
     check_rows(&rt, rt.alloc(), &BINOMIALS);
 }
 
-/// The number has a row, and it is the greatest: the next row has a coefficient that does not fit.
-fn check_greatest_row(rt: &impl Abort, alloc: Global, it: Type, n: u128) {
+/// The row of the number fits, and the next row has a coefficient that does not.
+fn check_largest_row(rt: &impl Abort, alloc: Global, it: Type, n: u128) {
     let mut row = Vec::new(alloc);
     row.push((false, n)).expect(rt, "memory is left");
     for k in 0..=n {
-        match answer(alloc, it, Binomial, &[(false, n), (false, k)]) {
-            Some((item, _, _, _)) => row.push(item).expect(rt, "memory is left"),
+        match result(alloc, it, Binomial, &[(false, n), (false, k)]) {
+            Some(numbers) => row.push(numbers[0]).expect(rt, "memory is left"),
             None => panic!(rt; "the coefficient fits"),
         }
     }
-    answers(rt, alloc, (it, RowOf), &row, Some(truth(true)));
+    returns(rt, alloc, (it, RowOf), &row, Some(truth(true)));
     let above = (false, n.saturating_add(1));
-    answers(
+    returns(
         rt,
         alloc,
         (it, Binomial),
         &[above, (false, above.1 / 2)],
         None,
     );
-    answers(rt, alloc, (it, RowOf), &[above], None);
+    returns(rt, alloc, (it, RowOf), &[above], None);
 }
 
-/// The greatest number with a row, at each of the types.
-const GREATEST_ROWS: [(Type, u128); 8] = [
+/// The largest number whose row fits, at each of the types.
+const LARGEST_ROWS: [(Type, u128); 8] = [
     (U8, 10),
     (I8, 9),
     (U16, 18),
@@ -48,27 +48,26 @@ const GREATEST_ROWS: [(Type, u128); 8] = [
     (I64, 66),
 ];
 
-/// The greatest coefficient of a row is that in its middle: the middle of the greatest row fits, and that of the
-/// next does not.
+/// The largest coefficient of a row is in its middle: that of the largest row fits, and that of the next row does not.
 fn check_middles(rt: &impl Abort, alloc: Global, it: Type, n: u128) {
     for (n, fits) in [(n, true), (n.saturating_add(1), false)] {
         let middle = [(false, n), (false, n / 2)];
-        answers(rt, alloc, (it, BinomialFits), &middle, Some(truth(fits)));
+        returns(rt, alloc, (it, BinomialFits), &middle, Some(truth(fits)));
     }
 }
 
 #[test]
-fn middles_of_greatest_rows(rt: HostRuntime) {
-    for (it, n) in &GREATEST_ROWS {
+fn middles_of_largest_rows(rt: HostRuntime) {
+    for (it, n) in &LARGEST_ROWS {
         check_middles(&rt, rt.alloc(), *it, *n);
     }
 }
 
 #[test]
 fn test_iter_binomial(rt: HostRuntime) {
-    for (it, n) in &GREATEST_ROWS {
+    for (it, n) in &LARGEST_ROWS {
         check_row(&rt, rt.alloc(), (&[*it], RowOf), &[3, 1, 3, 3, 1], YES);
-        check_greatest_row(&rt, rt.alloc(), *it, *n);
+        check_largest_row(&rt, rt.alloc(), *it, *n);
     }
 }
 

@@ -1,11 +1,11 @@
 //! Greatest common divisors, least common multiples and Bezout pairs.
 
-use super::answers::one;
 use super::calls::Call;
 use super::calls::Call::{Gcd, Lcm};
-use super::rows::{answers, check_row, holds_at};
+use super::results::one;
+use super::rows::{check_row, holds_at, returns};
 use super::tables::{GCDS, LCMS};
-use super::types::greatest;
+use super::types::largest;
 use num_integer::{Fits, Integer, checked, gcd, gcd_lcm, lcm};
 use own_types::signed_magnitude::{euclidean_gcd, signed_magnitude_of};
 use own_types::types::Type::{I8, I16, I32, I64, U8, U16, U32, U64};
@@ -13,21 +13,21 @@ use own_types::types::{SIGNED, Type, UNSIGNED};
 use std::alloc::Global;
 use std::process::Abort;
 
-/// Checks the answer of the two operands in either order, at each of the types.
+/// Checks the result of the two operands in either order, at each of the types.
 fn check_both_orders(
     rt: &impl Abort,
     alloc: Global,
     asked: (&[Type], Call),
-    (a, b, answer): (i128, i128, i128),
+    (a, b, found): (i128, i128, i128),
 ) {
-    check_row(rt, alloc, asked, &[a, b], Some(&[answer]));
-    check_row(rt, alloc, asked, &[b, a], Some(&[answer]));
+    check_row(rt, alloc, asked, &[a, b], Some(&[found]));
+    check_row(rt, alloc, asked, &[b, a], Some(&[found]));
 }
 
-/// Checks the rows at each signed type, and at each unsigned type where no operand is negative.
+/// Checks the rows at each signed type, and if no operand is negative, at each unsigned type.
 fn check_each(rt: &impl Abort, alloc: Global, call: Call, rows: &[([i128; 2], i128)]) {
-    for ([a, b], answer) in rows {
-        let row = (*a, *b, *answer);
+    for ([a, b], found) in rows {
+        let row = (*a, *b, *found);
         check_both_orders(rt, alloc, (&SIGNED, call), row);
         if *a >= 0 && *b >= 0 {
             check_both_orders(rt, alloc, (&UNSIGNED, call), row);
@@ -46,13 +46,13 @@ fn test_lcm(rt: HostRuntime) {
     check_both_orders(&rt, rt.alloc(), (&UNSIGNED, Lcm), (15, 17, 255));
 }
 
-/// Each pair of the numbers from the lower to the higher has the divisor of `euclidean_gcd`.
+/// Checks each pair of the numbers from the lower to the higher against `euclidean_gcd`.
 fn check_by_euclid(rt: &impl Abort, alloc: Global, it: Type, (low, high): (i128, i128)) {
     for a in low..=high {
         for b in low..=high {
             let (a, b) = (signed_magnitude_of(a), signed_magnitude_of(b));
             let (gcd, _) = euclidean_gcd(a.1, b.1);
-            answers(rt, alloc, (it, Gcd), &[a, b], Some(one((false, gcd))));
+            returns(rt, alloc, (it, Gcd), &[a, b], Some(one((false, gcd))));
         }
     }
 }
@@ -71,19 +71,19 @@ fn test_gcd_cmp_with_euclidean_unsigned(rt: HostRuntime) {
     }
 }
 
-/// What the least number has in common with the greatest, with a power of 2, and with 42.
+/// The divisor of the smallest number with the largest, with a power of 2, and with 42.
 #[test]
 fn test_gcd_min_val(rt: HostRuntime) {
     for it in SIGNED {
-        let greatest = greatest(&rt, rt.alloc(), it);
-        let (least, power) = (-greatest - 1, greatest / 2 + 1);
-        for (number, gcd) in [(greatest, 1), (power, power), (42, 2)] {
-            check_both_orders(&rt, rt.alloc(), (&[it], Gcd), (least, number, gcd));
+        let largest = largest(&rt, rt.alloc(), it);
+        let (smallest, power) = (-largest - 1, largest / 2 + 1);
+        for (number, gcd) in [(largest, 1), (power, power), (42, 2)] {
+            check_both_orders(&rt, rt.alloc(), (&[it], Gcd), (smallest, number, gcd));
         }
     }
 }
 
-/// The product of the operands is outside the type, and their least common multiple is in it.
+/// Two operands whose product overflows, and their least common multiple, which fits.
 static MULTIPLES_THAT_FIT: [(Type, (i128, i128, i128)); 9] = [
     (I64, (46656000000000000, 600, 46656000000000000)),
     (I8, (0x40, 4, 0x40)),
@@ -112,7 +112,7 @@ fn gcd_fits_for_each_pair_of_bytes(rt: HostRuntime) {
     }
 }
 
-/// Of two numbers of `i32`, `gcd_lcm` answers what `gcd` and `lcm` do.
+/// Checks that `gcd_lcm` returns what `gcd` and `lcm` return.
 fn check_both_are_each(rt: &impl Abort, a: i32, b: i32) {
     holds_at(rt, a.gcd_fits(&b), &("gcd_fits", a, b));
     holds_at(rt, a.lcm_fits(&b), &("lcm_fits", a, b));
@@ -135,8 +135,7 @@ fn combined_in_32_bits(a: i32, b: i32, x: i32, y: i32) -> Option<i32> {
     a.checked_mul(x)?.checked_add(b.checked_mul(y)?)
 }
 
-/// The answer of `extended_gcd_lcm`: its divisor is that of `gcd`, its multiple that of `lcm`, and its pair
-/// gives the divisor.
+/// Checks that `extended_gcd_lcm` returns the results of `gcd` and `lcm`, and a pair that gives the divisor.
 fn check_pair_with_lcm(rt: &impl Abort, a: i32, b: i32) {
     holds_at(rt, a.gcd_fits(&b), &("gcd_fits", a, b));
     holds_at(rt, a.lcm_fits(&b), &("lcm_fits", a, b));

@@ -3,7 +3,7 @@
 use super::calls::Call;
 use super::calls::Call::{Divides, IsEven, IsMultipleOf, IsOdd, NextMultipleOf, PrevMultipleOf};
 use super::rows::{NO, YES, check_row};
-use super::types::greatest;
+use super::types::largest;
 use num_integer::Integer;
 use own_types::types::{SIGNED, Type, UNSIGNED};
 use std::alloc::Global;
@@ -44,8 +44,8 @@ fn multiples_on_both_sides(rt: HostRuntime) {
 #[test]
 fn test_multiple_of_one_limits(rt: HostRuntime) {
     for it in SIGNED {
-        let greatest = greatest(&rt, rt.alloc(), it);
-        for n in [-greatest - 1, greatest] {
+        let largest = largest(&rt, rt.alloc(), it);
+        for n in [-largest - 1, largest] {
             check_multiples(&rt, rt.alloc(), &[it], (n, 1, n, n));
             check_multiples(&rt, rt.alloc(), &[it], (n, -1, n, n));
         }

@@ -1,20 +1,93 @@
-//! Each call on pairs of numbers of each own type, against computation on signs and magnitudes.
+//! Each call on pairs of numbers of each own type, against the same call at `i64`: it returns the same, if each number of
+//! the result is in the type, and else the operands are outside its domain.
 
+use super::calls::Call;
+use super::results::{Numbers, result, truth};
 use super::roots::{check_root, has_no_root};
-use super::type_ends::{check_bezout_and_multiple, check_calls};
+use super::rows::returns;
 use super::types::Ends;
-use own_types::signed_magnitude::signed_magnitude_of;
+use own_types::signed_magnitude::{SignedMagnitude, signed_magnitude_of};
 use own_types::types::Type;
-use own_types::types::Type::{Marked, Negated, OneBit, Percent, Small, TwoBits};
+use own_types::types::Type::{I64, Marked, OneBit, Percent, Small, TwoBits};
 use std::alloc::Global;
 use std::process::Abort;
+
+/// The calls on one number and on two that no test of a domain belongs to.
+static CALLS: [Call; 19] = [
+    Call::Parts,
+    Call::IsEven,
+    Call::IsOdd,
+    Call::Inc,
+    Call::Dec,
+    Call::Negated,
+    Call::Sum,
+    Call::Difference,
+    Call::Product,
+    Call::Averages,
+    Call::ModFloor,
+    Call::DivRem,
+    Call::Operators,
+    Call::DivModFloor,
+    Call::IsMultipleOf,
+    Call::Divides,
+    Call::GcdLcm,
+    Call::CountedBinomial,
+    Call::Bezout,
+];
+
+/// A call, and the test of its domain.
+static TESTED: [(Call, Call); 8] = [
+    (Call::DivFloor, Call::QuotientFits),
+    (Call::DivCeil, Call::QuotientFits),
+    (Call::NextMultipleOf, Call::NextMultipleFits),
+    (Call::PrevMultipleOf, Call::PrevMultipleFits),
+    (Call::Gcd, Call::GcdFits),
+    (Call::Lcm, Call::LcmFits),
+    (Call::Binomial, Call::BinomialFits),
+    (Call::Multinomial, Call::MultinomialFits),
+];
+
+impl Ends {
+    /// The numbers, if each lies between the ends.
+    fn all(self, [a, b, c, d]: Numbers) -> Option<Numbers> {
+        if self.has(a) && self.has(b) && self.has(c) && self.has(d) {
+            Some([a, b, c, d])
+        } else {
+            None
+        }
+    }
+
+    /// The result of the call at the type with these ends.
+    fn expected(self, alloc: Global, call: Call, operands: &[SignedMagnitude]) -> Option<Numbers> {
+        self.all(result(alloc, I64, call, operands)?)
+    }
+}
+
+/// Checks each of the calls on two numbers of a type.
+fn check_calls(
+    rt: &impl Abort,
+    alloc: Global,
+    (it, ends): (Type, Ends),
+    operands: &[SignedMagnitude],
+) {
+    for call in &CALLS {
+        let expected = ends.expected(alloc, *call, operands);
+        returns(rt, alloc, (it, *call), operands, expected);
+    }
+    for (call, test) in &TESTED {
+        let expected = ends.expected(alloc, *call, operands);
+        returns(rt, alloc, (it, *call), operands, expected);
+        let fits = Some(truth(expected.is_some()));
+        returns(rt, alloc, (it, *test), operands, fits);
+    }
+}
 
 /// Checks the pairs of a first number and each number from the lower to the higher end.
 fn check_pairs(rt: &impl Abort, alloc: Global, (it, low, high): (Type, u8, u8), a: i128) {
     let ends = Ends(u128::from(low), u128::from(high));
     let a = signed_magnitude_of(a);
     for b in -i128::from(low)..=i128::from(high) {
-        check_calls(rt, alloc, (it, ends), [a, signed_magnitude_of(b)]);
+        check_calls(rt, alloc, (it, ends), &[a, signed_magnitude_of(b)]);
     }
 }
 
@@ -22,7 +95,7 @@ fn check_pairs(rt: &impl Abort, alloc: Global, (it, low, high): (Type, u8, u8), 
 const SMALL_TYPES: [(Type, u8, u8); 5] = [
     (Percent, 0, 100),
     (Small, 7, 7),
-    (Negated, 7, 7),
+    (Type::Negated, 7, 7),
     (OneBit, 0, 1),
     (TwoBits, 0, 3),
 ];
@@ -48,11 +121,19 @@ fn pairs_beside_a_byte(rt: HostRuntime) {
 
 #[test]
 fn pairs_with_a_multiple(rt: HostRuntime) {
-    for (it, high) in [(Small, 7), (Negated, 7), (Marked, 100)] {
-        for a in -high..=high {
-            for b in -high..=high {
+    for (it, high) in [(Small, 7u8), (Type::Negated, 7), (Marked, 100)] {
+        let ends = Ends(u128::from(high), u128::from(high));
+        for a in -i128::from(high)..=i128::from(high) {
+            for b in -i128::from(high)..=i128::from(high) {
                 let operands = [signed_magnitude_of(a), signed_magnitude_of(b)];
-                check_bezout_and_multiple(&rt, rt.alloc(), it, operands);
+                let expected = ends.expected(rt.alloc(), Call::BezoutAndMultiple, &operands);
+                returns(
+                    &rt,
+                    rt.alloc(),
+                    (it, Call::BezoutAndMultiple),
+                    &operands,
+                    expected,
+                );
             }
         }
     }
@@ -61,13 +142,8 @@ fn pairs_with_a_multiple(rt: HostRuntime) {
 #[test]
 fn roots_of_each_percent(rt: HostRuntime) {
     for x in 0..=100u8 {
-        has_no_root(
-            &rt,
-            rt.alloc(),
-            Percent,
-            signed_magnitude_of(i128::from(x)),
-            0,
-        );
+        let number = signed_magnitude_of(i128::from(x));
+        has_no_root(&rt, rt.alloc(), Percent, number, 0);
         for degree in 1..=8 {
             check_root(&rt, rt.alloc(), Percent, i128::from(x), degree);
         }

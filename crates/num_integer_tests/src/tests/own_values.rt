@@ -1,4 +1,4 @@
-//! What the own types do beside the calls, and the bytes that tell how much work a call was.
+//! Values of the own types, and the bytes that count the operations of a call.
 
 use super::rows::holds_at;
 use num_integer::counted::{binomial_counted, extended_gcd_counted};
@@ -21,20 +21,20 @@ fn texts(rt: HostRuntime) {
 
 #[test]
 fn signs_of_small_numbers(rt: HostRuntime) {
-    let (least, seven) = (Small::new(-7), Small::new(7));
-    assert!(rt; least.abs() == seven && least.abs() == -least);
-    assert!(rt; least.signum().number() == -1 && least.is_negative() && seven.is_positive());
+    let (smallest, seven) = (Small::new(-7), Small::new(7));
+    assert!(rt; smallest.abs() == seven && smallest.abs() == -smallest);
+    assert!(rt; smallest.signum().number() == -1 && smallest.is_negative() && seven.is_positive());
     assert!(rt; seven.abs_sub(&Small::new(3)).number() == 4);
 }
 
-/// What `Negated` stores is ordered the other way round.
+/// The stored numbers of `Negated` are in reverse order.
 #[test]
 fn numbers_stored_negated(rt: HostRuntime) {
-    let (least, greatest) = (Negated::new(-7), Negated::new(7));
-    assert!(rt; least < greatest && least.abs() == greatest);
+    let (smallest, largest) = (Negated::new(-7), Negated::new(7));
+    assert!(rt; smallest < largest && smallest.abs() == largest);
 }
 
-/// Two values of one number are equal, whatever is stored next to it.
+/// Two values of one number are equal, whatever their bytes are.
 #[test]
 fn numbers_beside_a_byte(rt: HostRuntime) {
     let (plain, marked) = (Marked::new(5), Marked::new(5).with_mark(9));
@@ -46,7 +46,7 @@ fn numbers_beside_a_byte(rt: HostRuntime) {
     assert!(rt; common == plain && common.mark() == 10);
 }
 
-/// The answers of each call for a Bezout pair, and the turns.
+/// The results of the three calls for a Bezout pair, and the turns.
 fn pairs<T: Fits>(a: T, b: T) -> Option<([ExtendedGcd<T>; 3], u32)>
     requires a_in_range { T.fits (T.value a) }
     requires b_in_range { T.fits (T.value b) }
@@ -56,7 +56,7 @@ fn pairs<T: Fits>(a: T, b: T) -> Option<([ExtendedGcd<T>; 3], u32)>
     Some(([pair, a.extended_gcd(&b), counted], turns))
 }
 
-/// The answers of each call for a coefficient, and the turns.
+/// The results of the three calls for a coefficient, and the turns.
 fn coefficients<T: Fits>(n: T, k: T) -> Option<([T; 3], u32)>
     requires n_in_range { T.fits (T.value n) }
     requires k_in_range { T.fits (T.value k) }
@@ -66,12 +66,11 @@ fn coefficients<T: Fits>(n: T, k: T) -> Option<([T; 3], u32)>
     Some(([coefficient, binomial(n, k), counted], turns))
 }
 
-/// A body that made more turns than it counts, or that subtracted where it should divide, would
-/// leave a greater byte.
+/// An implementation that makes more turns than it counts, or that subtracts in place of a division, leaves a larger byte.
 #[test]
 fn bytes_tell_the_work(rt: HostRuntime) {
-    let answer = pairs(Marked::new(99), Marked::new(2));
-    let (pairs, turns) = answer.expect(&rt, "the pair fits");
+    let found = pairs(Marked::new(99), Marked::new(2));
+    let (pairs, turns) = found.expect(&rt, "the pair fits");
     holds_at(&rt, turns == 1, &turns);
     for ExtendedGcd { gcd, x, y } in pairs {
         let mark = gcd.mark().max(x.mark()).max(y.mark());
@@ -82,8 +81,8 @@ fn bytes_tell_the_work(rt: HostRuntime) {
             &numbers,
         );
     }
-    let answer = coefficients(Marked::new(100), Marked::new(99));
-    let (coefficients, turns) = answer.expect(&rt, "the coefficient fits");
+    let found = coefficients(Marked::new(100), Marked::new(99));
+    let (coefficients, turns) = found.expect(&rt, "the coefficient fits");
     holds_at(&rt, turns == 1, &turns);
     for it in coefficients {
         holds_at(

@@ -1,10 +1,10 @@
 //! Roots: worked values, and the tests of the Rust crate.
 
-use super::answers::{answer, one};
 use super::calls::Call::{Cbrt, Root, Sqrt};
-use super::rows::{answers, holds_at};
+use super::results::{one, result};
+use super::rows::{holds_at, returns};
 use super::tables::ROOTS;
-use super::types::greatest;
+use super::types::largest;
 use own_types::signed_magnitude::{SignedMagnitude, signed_magnitude_of};
 use own_types::types::Type;
 use own_types::types::Type::{I8, I16, I32, I64, Isize, U8, U16, U32, U64, Usize};
@@ -27,10 +27,10 @@ fn has_root(
     root: SignedMagnitude,
 ) {
     let operands = [x, (false, u128::from(degree))];
-    answers(rt, alloc, (it, Root), &operands, Some(one(root)));
+    returns(rt, alloc, (it, Root), &operands, Some(one(root)));
     match degree {
-        2 => answers(rt, alloc, (it, Sqrt), &[x], Some(one(root))),
-        3 => answers(rt, alloc, (it, Cbrt), &[x], Some(one(root))),
+        2 => returns(rt, alloc, (it, Sqrt), &[x], Some(one(root))),
+        3 => returns(rt, alloc, (it, Cbrt), &[x], Some(one(root))),
         _ => {}
     }
 }
@@ -48,16 +48,15 @@ fn worked_roots(rt: HostRuntime) {
     }
 }
 
-/// The root has the sign of the number, and of those whose power is no farther from 0 than the
-/// number it is the farthest from 0.
+/// Checks that the root has the sign of the number, and the largest magnitude whose power is at most that of the number.
 pub(super) fn check_root(rt: &impl Abort, alloc: Global, it: Type, x: i128, n: u32) {
     let operand = signed_magnitude_of(x);
-    let root = answer(alloc, it, Root, &[operand, (false, u128::from(n))]);
-    let ((negative, magnitude), _, _, _) = root.expect(rt, "the number has a root");
+    let root = result(alloc, it, Root, &[operand, (false, u128::from(n))]);
+    let [(negative, magnitude), ..] = root.expect(rt, "the number has a root");
     has_root(rt, alloc, it, operand, n, (negative, magnitude));
     let power = magnitude
         .checked_pow(n)
-        .expect(rt, "the power is no farther from 0");
+        .expect(rt, "the power is at most the number");
     let next = magnitude
         .saturating_add(1)
         .checked_pow(n)
@@ -66,7 +65,7 @@ pub(super) fn check_root(rt: &impl Abort, alloc: Global, it: Type, x: i128, n: u
     holds_at(rt, is_root, &("nth_root", x, n));
 }
 
-/// The number has no root of this degree.
+/// Checks that the call has no root of this degree in its domain.
 pub(super) fn has_no_root(
     rt: &impl Abort,
     alloc: Global,
@@ -75,23 +74,52 @@ pub(super) fn has_no_root(
     degree: u32,
 ) {
     let operands = [x, (false, u128::from(degree))];
-    answers(rt, alloc, (it, Root), &operands, None);
+    returns(rt, alloc, (it, Root), &operands, None);
     if degree == 2 {
-        answers(rt, alloc, (it, Sqrt), &[x], None);
+        returns(rt, alloc, (it, Sqrt), &[x], None);
     }
 }
 
-/// Checks the roots of small numbers, of numbers near the top, and of the top shifted either way.
+/// Checks the roots of small numbers, of numbers near the largest one, and of the largest one shifted either way.
 fn check_roots_from_zero(rt: &impl Abort, alloc: Global, (it, bits): (Type, u32), n: u32) {
-    let greatest = greatest(rt, alloc, it);
+    let largest = largest(rt, alloc, it);
     for step in 0..128u8 {
         check_root(rt, alloc, it, i128::from(step), n);
-        check_root(rt, alloc, it, greatest - i128::from(step), n);
+        check_root(rt, alloc, it, largest - i128::from(step), n);
     }
     for shift in 0..=64u32 {
         if shift <= bits {
-            check_root(rt, alloc, it, (greatest << shift) & greatest, n);
-            check_root(rt, alloc, it, greatest >> shift, n);
+            check_root(rt, alloc, it, (largest << shift) & largest, n);
+            check_root(rt, alloc, it, largest >> shift, n);
+        }
+    }
+}
+
+/// Degrees up to the bits of a type, and far above.
+const DEGREES: [u32; 12] = [0, 1, 2, 3, 4, 5, 31, 32, 63, 64, 4294967294, 4294967295];
+
+/// Checks the root of each of the degrees.
+fn check_degrees(rt: &impl Abort, alloc: Global, it: Type, x: i128) {
+    for degree in DEGREES {
+        if degree == 0 || x < 0 && degree % 2 == 0 {
+            has_no_root(rt, alloc, it, signed_magnitude_of(x), degree);
+        } else {
+            check_root(rt, alloc, it, x, degree);
+        }
+    }
+}
+
+#[test]
+fn roots_at_the_ends(rt: HostRuntime) {
+    for (it, _) in SIGNED_BITS {
+        let largest = largest(&rt, rt.alloc(), it);
+        for x in [-largest - 1, -1, 0, 1, largest] {
+            check_degrees(&rt, rt.alloc(), it, x);
+        }
+    }
+    for (it, _) in UNSIGNED_BITS {
+        for x in [0, 1, largest(&rt, rt.alloc(), it)] {
+            check_degrees(&rt, rt.alloc(), it, x);
         }
     }
 }
@@ -101,21 +129,21 @@ fn check_roots_below_zero(rt: &impl Abort, alloc: Global, (it, bits): (Type, u32
     if n.is_multiple_of(2) {
         return;
     }
-    let least = -greatest(rt, alloc, it) - 1;
+    let smallest = -largest(rt, alloc, it) - 1;
     for step in 0..128u8 {
         check_root(rt, alloc, it, -i128::from(step), n);
-        check_root(rt, alloc, it, least + i128::from(step), n);
+        check_root(rt, alloc, it, smallest + i128::from(step), n);
     }
-    check_root(rt, alloc, it, least + 128, n);
+    check_root(rt, alloc, it, smallest + 128, n);
     for shift in 0..=64u32 {
         if shift <= bits {
             check_root(rt, alloc, it, -1 << shift, n);
-            check_root(rt, alloc, it, least >> shift, n);
+            check_root(rt, alloc, it, smallest >> shift, n);
         }
     }
 }
 
-/// Checks the roots of a degree from 0 up, at each type.
+/// Checks the roots of a degree of numbers that are not negative, at each type.
 fn check_each(rt: &impl Abort, alloc: Global, n: u32) {
     for typed in SIGNED_BITS {
         check_roots_from_zero(rt, alloc, typed, n);
@@ -160,9 +188,9 @@ fn nth_root_neg(rt: HostRuntime) {
     }
 }
 
-/// The root of degree `n` of the greatest number of `n` bits is 1, and of degree `n - 1` it is 2.
+/// Checks that the root of degree `n` of the largest number of `n` bits is 1, and of degree `n - 1` it is 2.
 fn has_bits(rt: &impl Abort, alloc: Global, it: Type, n: u32) {
-    let number = greatest(rt, alloc, it);
+    let number = largest(rt, alloc, it);
     check_number(rt, alloc, (it, number, n.saturating_sub(1), 2));
     check_number(rt, alloc, (it, number, n, 1));
 }
@@ -171,9 +199,9 @@ fn has_bits(rt: &impl Abort, alloc: Global, it: Type, n: u32) {
 fn bit_size(rt: HostRuntime) {
     for (it, bits) in SIGNED_BITS {
         has_bits(&rt, rt.alloc(), it, bits);
-        let greatest = greatest(&rt, rt.alloc(), it);
-        check_number(&rt, rt.alloc(), (it, -greatest - 1, bits, -2));
-        check_number(&rt, rt.alloc(), (it, -greatest, bits, -1));
+        let largest = largest(&rt, rt.alloc(), it);
+        check_number(&rt, rt.alloc(), (it, -largest - 1, bits, -2));
+        check_number(&rt, rt.alloc(), (it, -largest, bits, -1));
     }
     for (it, bits) in UNSIGNED_BITS {
         has_bits(&rt, rt.alloc(), it, bits);

@@ -1,16 +1,16 @@
-//! Rows of tables: a call at some types, its operands and its answer.
+//! Rows of tables: a call at some types, its operands and its result.
 
 ghost use Rattle.std.specs.Prelude.{IsTrue};
 
-use super::answers::{Numbers, answer, operand};
 use super::calls::Call;
+use super::results::{Numbers, operand, result};
 use own_types::signed_magnitude::{SignedMagnitude, signed_magnitude_of};
 use own_types::types::Type;
 use std::alloc::Global;
 use std::fmt::Debug;
 use std::process::Abort;
 
-/// The types, a call, its operands, and the numbers of its answer, or `None` where it has none.
+/// The types, a call, its operands, and the numbers of its result, or `None` outside its domain.
 pub(crate) type Row = (
     &'static [Type],
     Call,
@@ -18,10 +18,10 @@ pub(crate) type Row = (
     Option<&'static [i128]>,
 );
 
-/// The answer of what holds.
+/// The result of a test that holds.
 pub(crate) const YES: Option<&[i128]> = Some(&[1]);
 
-/// The answer of what does not hold.
+/// The result of a test that does not hold.
 pub(crate) const NO: Option<&[i128]> = Some(&[0]);
 
 /// Asserts that the check holds, with a message that shows the row: the call and its operands. A message of
@@ -32,15 +32,15 @@ pub(crate) fn holds_at(rt: &impl Abort, holds: bool, row: &impl Debug)
     assert!(rt; holds, "at {row:?}");
 }
 
-/// Asserts that the call answers this at the type, where `None` stands for no answer.
-pub(crate) fn answers(
+/// Asserts that the call returns these numbers at the type, or that the operands are outside its domain.
+pub(crate) fn returns(
     rt: &impl Abort,
     alloc: Global,
     (it, call): (Type, Call),
     operands: &[SignedMagnitude],
     expected: Option<Numbers>,
 ) {
-    let same = answer(alloc, it, call, operands) == expected;
+    let same = result(alloc, it, call, operands) == expected;
     holds_at(rt, same, &(it, call, operands, expected));
 }
 
@@ -54,17 +54,17 @@ fn signed_magnitudes(rt: &impl Abort, alloc: Global, numbers: &[i128]) -> Vec<Si
     list
 }
 
-/// The numbers of an answer.
+/// The numbers of a result.
 fn numbers(list: &[SignedMagnitude]) -> Numbers {
-    (
+    [
         operand(list, 0),
         operand(list, 1),
         operand(list, 2),
         operand(list, 3),
-    )
+    ]
 }
 
-/// Checks the answer of the call at each of the types.
+/// Checks the result of the call at each of the types.
 pub(crate) fn check_row(
     rt: &impl Abort,
     alloc: Global,
@@ -78,7 +78,7 @@ pub(crate) fn check_row(
         None => None,
     };
     for it in types {
-        answers(rt, alloc, (*it, call), &operands, expected);
+        returns(rt, alloc, (*it, call), &operands, expected);
     }
 }
 

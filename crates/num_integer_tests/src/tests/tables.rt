@@ -3,14 +3,14 @@
 use super::calls::Call::{
     Averages, Bezout, BezoutAndMultiple, Binomial, BinomialFits, Cbrt, CountedBinomial, CountedGcd,
     CountedRoot, Dec, Difference, DivCeil, DivFloor, DivModFloor, DivRem, Divides, Ends, Gcd,
-    GcdFits, GcdLcm, Inc, IsEven, IsMultipleOf, Lcm, LcmFits, ModFloor, Multinomial,
+    GcdFits, GcdLcm, Has, Inc, IsEven, IsMultipleOf, Lcm, LcmFits, ModFloor, Multinomial,
     MultinomialFits, Negated, NextMultipleFits, NextMultipleOf, Parts, PrevMultipleFits,
     PrevMultipleOf, Product, QuotientFits, Root, Row as RowOf, Sqrt, Sum,
 };
 use super::rows::{NO, Row, YES, check_rows};
 use own_types::types::Type::{
     I8, I16, I32, I64, I128, Isize, Marked, OneBit, Percent, Small, TwoBits, U8, U16, U32, U64,
-    U128,
+    U128, Usize,
 };
 use own_types::types::{NATIVE, SIGNED, Type, UNSIGNED};
 use std::alloc::Global;
@@ -31,7 +31,7 @@ const MAX: i128 = i128::MAX;
 /// The largest square of 64 bits.
 const SQUARE: i128 = 18446744065119617025;
 
-/// The least odd number of more than 64 bits.
+/// The smallest odd number of more than 64 bits.
 const WIDE: i128 = 18446744073709551617;
 
 /// The types whose numbers have 32 or 64 bits.
@@ -64,6 +64,8 @@ pub(super) fn check_worked_values(rt: &impl Abort, alloc: Global) {
     check_rows(rt, alloc, &PAIRS_OF_BITS);
     check_rows(rt, alloc, &STORED_OTHERWISE);
     check_rows(rt, alloc, &TURNS);
+    check_rows(rt, alloc, &TURNS_AT_THE_ENDS);
+    check_rows(rt, alloc, &ENDS);
 }
 
 /// Ends, signs and magnitudes, sums and products.
@@ -107,8 +109,8 @@ static NEIGHBOURS: [Row; 15] = [
     (&[U8], Averages, &[255, 2], Some(&[128, 129])),
 ];
 
-/// Quotients and remainders. Only the least number by -1 has a quotient outside the type, and its remainder is in
-/// the type.
+/// Quotients and remainders. Only the smallest number by -1 has a quotient that is out of range, and its remainder
+/// fits.
 static QUOTIENTS: [Row; 17] = [
     (&[I8], DivFloor, &[-128, -1], None),
     (&[I8], ModFloor, &[-128, -1], Some(&[0])),
@@ -160,8 +162,8 @@ static PREVIOUS_MULTIPLES: [Row; 6] = [
     (&[I8], PrevMultipleFits, &[0, 0], NO),
 ];
 
-/// Divisors and multiples. The greatest common divisor of the least number with itself or with 0 is outside the
-/// type.
+/// Divisors and multiples. The greatest common divisor of the smallest number with itself or with 0 is out of
+/// range.
 static DIVISORS: [Row; 17] = [
     (&[I64], Gcd, &[LEAST, -HALF], Some(&[HALF])),
     (&[I64], Gcd, &[-HALF, LEAST], Some(&[HALF])),
@@ -218,7 +220,7 @@ static SIGNED_PAIRS: [Row; 14] = [
     (&[I128], Bezout, &[MIN, MAX], Some(&[1, -1, -1, 1])),
 ];
 
-/// Bezout pairs of the types with no sign, operands with no pair, and a pair with a multiple.
+/// Bezout pairs of the unsigned types, operands with no pair, and a pair with a multiple.
 static PAIRS: [Row; 12] = [
     (&[U8], Bezout, &[4, 12], Some(&[4, 1, 0, 1])),
     (&[U64], Bezout, &[0, 7], Some(&[7, 0, 1, 0])),
@@ -234,7 +236,7 @@ static PAIRS: [Row; 12] = [
     (&[I32], BezoutAndMultiple, &[10, 4], Some(&[2, 1, -2, 20])),
 ];
 
-/// Divisors and their turns. The least number takes no turn with another.
+/// Divisors and their turns. The smallest number makes no turn with another.
 static DIVISOR_TURNS: [Row; 16] = [
     (&[U64], CountedGcd, &[0, 0], Some(&[0, 0])),
     (&[U64], CountedGcd, &[5, 3], Some(&[1, 2])),
@@ -347,7 +349,7 @@ static PERCENTS: [Row; 17] = [
     (&[Percent], Averages, &[100, 99], Some(&[99, 100])),
 ];
 
-/// Where the answers are percents.
+/// Where the results of percents fit.
 static FITTING_PERCENTS: [Row; 9] = [
     (&[Percent], QuotientFits, &[100, 3], YES),
     (&[Percent], NextMultipleFits, &[97, 10], YES),
@@ -377,7 +379,7 @@ static SMALL_NUMBERS: [Row; 13] = [
     (&[Small], DivModFloor, &[-7, 2], Some(&[-4, 1])),
 ];
 
-/// Where the answers are small numbers.
+/// Where the results of small numbers fit.
 static FITTING_SMALL_NUMBERS: [Row; 12] = [
     (&[Small], GcdFits, &[-6, 3], YES),
     (&[Small], LcmFits, &[-6, 3], YES),
@@ -454,6 +456,46 @@ static TURNS: [Row; 16] = [
     (&[I8], Root, &[9, 0], None),
     (&[I8], Root, &[-9, 0], None),
     (&[U8], Root, &[0, 0], None),
+];
+
+/// The types whose square roots are counted.
+const COUNTED: [Type; 10] = [I8, I16, I32, I64, Isize, U8, U16, U32, U64, Usize];
+
+/// Square roots and their turns at the ends of the types.
+static TURNS_AT_THE_ENDS: [Row; 13] = [
+    (&COUNTED, CountedRoot, &[0], Some(&[0, 0])),
+    (&COUNTED, CountedRoot, &[1], Some(&[1, 0])),
+    (&[I8], CountedRoot, &[127], Some(&[11, 1])),
+    (&[I16], CountedRoot, &[32767], Some(&[181, 2])),
+    (&[I32], CountedRoot, &[2147483647], Some(&[46340, 4])),
+    (&[Isize], CountedRoot, &[MOST], Some(&[3037000499, 4])),
+    (&[U16], CountedRoot, &[65535], Some(&[255, 1])),
+    (&[U32], CountedRoot, &[4294967295], Some(&[65535, 1])),
+    (&[Usize], CountedRoot, &[TOP], Some(&[4294967295, 1])),
+    (&[I8, I16, I32, I64, Isize], CountedRoot, &[-1], None),
+    (&[I8], CountedRoot, &[-128], None),
+    (&[I64, Isize], CountedRoot, &[LEAST], None),
+    (&[I64, Isize], CountedRoot, &[LEAST + 1], None),
+];
+
+/// The ends of the types that the table of sums leaves out, and numbers outside the types.
+static ENDS: [Row; 16] = [
+    (&[I16], Ends, &[], Some(&[32768, 32767])),
+    (&[I32], Ends, &[], Some(&[2147483648, 2147483647])),
+    (&[Isize], Ends, &[], Some(&[2 * HALF, MOST])),
+    (&[U16], Ends, &[], Some(&[0, 65535])),
+    (&[U32], Ends, &[], Some(&[0, 4294967295])),
+    (&[Usize], Ends, &[], Some(&[0, TOP])),
+    (&UNSIGNED, Has, &[-1], NO),
+    (&[I8], Has, &[-129], NO),
+    (&[I8], Has, &[128], NO),
+    (&[U8], Has, &[256], NO),
+    (&NATIVE, RowOf, &[0, 1], YES),
+    (&NATIVE, RowOf, &[1, 1, 1], YES),
+    (&NATIVE, RowOf, &[2, 1, 2, 1], YES),
+    (&SIGNED, RowOf, &[-1], YES),
+    (&[I8], RowOf, &[-128], YES),
+    (&[I8], RowOf, &[127], None),
 ];
 
 /// Numbers, a degree, and their root.

@@ -1,262 +1,236 @@
-//! Each call at the ends of each type, one number in from them, and at 0, 1, 2, -1 and -2, against computation on signs and
-//! magnitudes.
+//! The calls on the smallest and the largest number of each type, with each other and with 0, 1 and -1.
+//!
+//! The tables are those of a signed type of 101 bits, computed with Python's integers. A number near an end of it, or near
+//! half of its largest number, is at another type the number as near to the end of that type, or to half of it.
 
-use super::answers::{after_turns, answer, truth, two};
 use super::calls::Call;
-use super::calls::Call::{
-    Averages, Bezout, BezoutAndMultiple, Binomial, BinomialFits, CountedBinomial, CountedGcd,
-    CountedRoot, Dec, Difference, DivCeil, DivFloor, DivModFloor, DivRem, Divides, Ends as EndsOf,
-    Gcd, GcdFits, GcdLcm, Has, Inc, IsEven, IsMultipleOf, IsOdd, Lcm, LcmFits, ModFloor,
-    Multinomial, MultinomialFits, Negated, NextMultipleFits, NextMultipleOf, Operators, Parts,
-    PrevMultipleFits, PrevMultipleOf, Product, QuotientFits, Row as RowOf, Sum,
-};
-use super::expected::expected;
-use super::roots::{check_root, has_no_root};
-use super::rows::{answers, holds_at};
-use super::types::Ends;
-use own_types::signed_magnitude::{
-    SignedMagnitude, euclidean_gcd, is_multiple, product, signed_magnitude, sum, to_i128,
-};
-use own_types::types::Type;
-use own_types::types::Type::{I8, I16, I32, I64, I128, Isize, U8, U16, U32, U64, U128, Usize};
+use super::results::Numbers;
+use super::rows::returns;
+use super::types::{Ends, ends_of};
+use own_types::signed_magnitude::{SignedMagnitude, signed_magnitude};
+use own_types::types::{NATIVE, Type};
 use std::alloc::Global;
 use std::process::Abort;
 
-/// The ends of each type, as powers of two.
-const ENDS: [(Type, Ends); 12] = [
-    (I8, Ends(1 << 7, (1 << 7) - 1)),
-    (I16, Ends(1 << 15, (1 << 15) - 1)),
-    (I32, Ends(1 << 31, (1 << 31) - 1)),
-    (I64, Ends(1 << 63, (1 << 63) - 1)),
-    (I128, Ends(1 << 127, (1 << 127) - 1)),
-    (Isize, Ends(1 << 63, (1 << 63) - 1)),
-    (U8, Ends(0, (1 << 8) - 1)),
-    (U16, Ends(0, (1 << 16) - 1)),
-    (U32, Ends(0, (1 << 32) - 1)),
-    (U64, Ends(0, (1 << 64) - 1)),
-    (U128, Ends(0, u128::MAX)),
-    (Usize, Ends(0, (1 << 64) - 1)),
+const MIN: i128 = -(1 << 100);
+
+const MAX: i128 = (1 << 100) - 1;
+
+const HALF: i128 = (1 << 99) - 1;
+
+/// As many as `MAX` has bits, but one.
+const TURNS: i128 = 1 << 97;
+
+/// Outside the domain, or out of range.
+const OUT: i128 = i128::MAX;
+
+/// A number, one more, one less, the other sign, 1 if it is even, and 1 if it is odd.
+static NUMBERS: [(i128, [i128; 5]); 5] = [
+    (MIN, [MIN + 1, OUT, OUT, 1, 0]),
+    (-1, [0, -2, 1, 0, 1]),
+    (0, [1, -1, 0, 1, 0]),
+    (1, [2, 0, -1, 0, 1]),
+    (MAX, [OUT, MAX - 1, MIN + 1, 0, 1]),
 ];
 
-/// The calls of one operand and of two that every type has and whose domain no test tells.
-const CALLS: [Call; 18] = [
-    Parts,
-    IsEven,
-    IsOdd,
-    Inc,
-    Dec,
-    Negated,
-    Sum,
-    Difference,
-    Product,
-    Averages,
-    ModFloor,
-    DivRem,
-    Operators,
-    DivModFloor,
-    IsMultipleOf,
-    Divides,
-    GcdLcm,
-    CountedBinomial,
+/// Two numbers, their sum, difference and product, and their averages.
+static SUMS: [([i128; 2], [i128; 5]); 15] = [
+    ([MIN, 0], [MIN, MIN, 0, -HALF - 1, -HALF - 1]),
+    ([MIN, 1], [MIN + 1, OUT, MIN, -HALF - 1, -HALF]),
+    ([MIN, -1], [OUT, MIN + 1, OUT, -HALF - 2, -HALF - 1]),
+    ([MIN, MIN], [OUT, 0, OUT, MIN, MIN]),
+    ([MIN, MAX], [-1, OUT, OUT, -1, 0]),
+    ([MAX, MIN], [-1, OUT, OUT, -1, 0]),
+    ([MAX, -1], [MAX - 1, OUT, MIN + 1, HALF, HALF]),
+    ([0, MIN], [MIN, OUT, 0, -HALF - 1, -HALF - 1]),
+    ([-1, MIN], [OUT, MAX, OUT, -HALF - 2, -HALF - 1]),
+    ([MAX, 0], [MAX, MAX, 0, HALF, HALF + 1]),
+    ([MAX, 1], [OUT, MAX - 1, MAX, HALF + 1, HALF + 1]),
+    ([MAX, 2], [OUT, MAX - 2, OUT, HALF + 1, HALF + 2]),
+    ([MAX, MAX], [OUT, 0, OUT, MAX, MAX]),
+    ([MAX, MAX - 1], [OUT, 1, OUT, MAX - 1, MAX]),
+    ([0, MAX], [MAX, MIN + 1, 0, HALF, HALF + 1]),
 ];
 
-/// A call, and the test of its domain.
-const TESTED: [(Call, Call); 8] = [
-    (DivFloor, QuotientFits),
-    (DivCeil, QuotientFits),
-    (NextMultipleOf, NextMultipleFits),
-    (PrevMultipleOf, PrevMultipleFits),
-    (Gcd, GcdFits),
-    (Lcm, LcmFits),
-    (Binomial, BinomialFits),
-    (Multinomial, MultinomialFits),
+/// Two numbers, the quotient and the remainder by `/` and `%`, those rounded down, the quotient rounded up, the next and the
+/// previous multiple, and 1 if the first number is a multiple of the second.
+static DIVISIONS: [([i128; 2], [i128; 8]); 18] = [
+    ([MIN, 0], [OUT, OUT, OUT, OUT, OUT, OUT, OUT, 0]),
+    ([MIN, 1], [MIN, 0, MIN, 0, MIN, MIN, MIN, 1]),
+    ([MIN, -1], [OUT, OUT, OUT, 0, OUT, MIN, MIN, 1]),
+    ([MIN, MIN], [1, 0, 1, 0, 1, MIN, MIN, 1]),
+    ([MIN, MAX], [-1, -1, -2, MAX - 1, -1, MIN + 1, OUT, 0]),
+    ([MAX, MIN], [0, MAX, -1, -1, 0, 0, OUT, 0]),
+    ([MAX, -1], [MIN + 1, 0, MIN + 1, 0, MIN + 1, MAX, MAX, 1]),
+    ([0, MIN], [0, 0, 0, 0, 0, 0, 0, 1]),
+    ([1, MIN], [0, 1, -1, MIN + 1, 0, 0, OUT, 0]),
+    ([-1, MIN], [0, -1, 0, -1, 1, MIN, 0, 0]),
+    ([-1, MAX], [0, -1, -1, MAX - 1, 0, 0, MIN + 1, 0]),
+    ([MAX, 0], [OUT, OUT, OUT, OUT, OUT, OUT, OUT, 0]),
+    ([MAX, 1], [MAX, 0, MAX, 0, MAX, MAX, MAX, 1]),
+    ([MAX, 2], [HALF, 1, HALF, 1, HALF + 1, OUT, MAX - 1, 0]),
+    ([MAX, MAX], [1, 0, 1, 0, 1, MAX, MAX, 1]),
+    ([MAX, MAX - 1], [1, 1, 1, 1, 2, OUT, MAX - 1, 0]),
+    ([0, MAX], [0, 0, 0, 0, 0, 0, 0, 1]),
+    ([1, MAX], [0, 1, 0, 1, 1, MAX, 0, 0]),
 ];
 
-/// Checks each call that every type has on two numbers of a type.
-pub(super) fn check_calls(
-    rt: &impl Abort,
-    alloc: Global,
-    (it, ends): (Type, Ends),
-    [a, b]: [SignedMagnitude; 2],
-) {
-    for call in CALLS {
-        answers(rt, alloc, (it, call), &[a, b], expected(ends, call, a, b));
+/// Two numbers, the gcd, the lcm, the turns of Stein's loop, the Bezout pair and its turns, the coefficient and its turns, and
+/// the multinomial.
+static DIVISORS: [([i128; 2], [i128; 9]); 18] = [
+    ([MIN, 0], [OUT, 0, 0, OUT, OUT, OUT, OUT, OUT, OUT]),
+    ([MIN, 1], [1, OUT, 0, 0, 1, 0, OUT, OUT, OUT]),
+    ([MIN, -1], [1, OUT, 0, 0, -1, 0, OUT, OUT, OUT]),
+    ([MIN, MIN], [OUT, OUT, 0, OUT, OUT, OUT, OUT, OUT, OUT]),
+    ([MIN, MAX], [1, OUT, 0, -1, -1, 1, OUT, OUT, OUT]),
+    ([MAX, MIN], [1, OUT, 0, -1, -1, 2, OUT, OUT, OUT]),
+    ([MAX, -1], [1, MAX, TURNS, 0, -1, 0, OUT, OUT, OUT]),
+    ([0, MIN], [OUT, 0, 0, OUT, OUT, OUT, OUT, OUT, OUT]),
+    ([1, MIN], [1, OUT, 0, 1, 0, 1, OUT, OUT, OUT]),
+    ([-1, MIN], [1, OUT, 0, -1, 0, 1, OUT, OUT, OUT]),
+    ([-1, MAX], [1, MAX, TURNS, -1, 0, 1, OUT, OUT, OUT]),
+    ([MAX, 0], [MAX, 0, 0, 1, 0, 0, 1, 0, 1]),
+    ([MAX, 1], [1, MAX, TURNS, 0, 1, 0, MAX, 1, OUT]),
+    ([MAX, 2], [1, OUT, TURNS, 1, -HALF, 1, OUT, OUT, OUT]),
+    ([MAX, MAX], [MAX, MAX, 0, 0, 1, 0, 1, 0, OUT]),
+    ([MAX, MAX - 1], [1, OUT, TURNS, 1, -1, 1, MAX, 1, OUT]),
+    ([0, MAX], [MAX, 0, 0, 0, 1, 0, 0, 0, 1]),
+    ([1, MAX], [1, MAX, TURNS, 1, 0, 1, 0, 0, OUT]),
+];
+
+impl Ends {
+    /// The number that is `n` in the tables, if the type has it.
+    fn at(self, n: i128) -> Option<SignedMagnitude> {
+        let (in_tables, here) = match n.unsigned_abs() >> 97 {
+            0 => (0, 0),
+            1 => (TURNS, u128::from(self.1.count_ones()).saturating_sub(1)),
+            3 | 4 => (HALF, self.1 / 2),
+            7 | 8 => (MAX, self.1),
+            _ => return None,
+        };
+        let magnitude = here.checked_add_signed(n.wrapping_abs().wrapping_sub(in_tables))?;
+        let number = signed_magnitude(n < 0, magnitude);
+        if self.has(number) { Some(number) } else { None }
     }
-    for (call, test) in TESTED {
-        let expected = expected(ends, call, a, b);
-        answers(rt, alloc, (it, call), &[a, b], expected);
-        let fits = Some(truth(expected.is_some()));
-        answers(rt, alloc, (it, test), &[a, b], fits);
+
+    /// The numbers of a result, if the type has each of them.
+    fn all_at(self, [a, b, c, d]: [i128; 4]) -> Option<Numbers> {
+        Some([self.at(a)?, self.at(b)?, self.at(c)?, self.at(d)?])
     }
-    check_bezout(rt, alloc, (it, ends), [a, b]);
 }
 
-/// Checks the Bezout pair of two numbers. There is one if the greatest common divisor fits and, in a type without
-/// negative numbers, if one of the two divides the other.
-fn check_bezout(
-    rt: &impl Abort,
-    alloc: Global,
-    (it, ends): (Type, Ends),
-    [a, b]: [SignedMagnitude; 2],
-) {
-    let (gcd, remainders) = euclidean_gcd(b.1, a.1);
-    let has_pair = ends.has((true, 1)) || is_multiple(a, b) || is_multiple(b, a);
-    let domain = has_pair && ends.has((false, gcd));
-    let turns = (false, u128::from(remainders.saturating_sub(1)));
-    let holds = match answer(alloc, it, Bezout, &[a, b]) {
-        None => !domain,
-        Some((divisor, x, y, counted)) => {
-            domain && divisor == (false, gcd) && counted == turns && is_pair(a, b, gcd, (x, y))
-        }
-    };
-    holds_at(rt, holds, &(it, Bezout, a, b));
+/// Whether the number fits, as the numbers of a result.
+fn fits(n: i128) -> [i128; 4] {
+    [if n == OUT { 0 } else { 1 }, 0, 0, 0]
 }
 
-/// Whether this is the pair of two numbers: it gives their greatest common divisor. One operand that divides the other is
-/// taken alone, the second before the first, and of all other pairs this is the smallest.
-fn is_pair(
-    a: SignedMagnitude,
-    b: SignedMagnitude,
-    gcd: u128,
-    (x, y): (SignedMagnitude, SignedMagnitude),
-) -> bool {
-    combined(a, b, x, y) == Some((false, gcd))
-        && if b.1 != 0 && is_multiple(a, b) {
-            x.1 == 0 && y == (b.0, 1)
-        } else if is_multiple(b, a) {
-            x == (a.0, 1) && y.1 == 0
-        } else {
-            x.1.saturating_mul(gcd) <= b.1 / 2 && y.1.saturating_mul(gcd) <= a.1 / 2
-        }
-}
-
-/// The first operand times `x`, and the second times `y`, added.
-fn combined(
-    a: SignedMagnitude,
-    b: SignedMagnitude,
-    x: SignedMagnitude,
-    y: SignedMagnitude,
-) -> Option<SignedMagnitude> {
-    sum(product(a, x)?, product(b, y)?)
-}
-
-/// Checks the pair with the least common multiple: both at once are what each is alone.
-pub(super) fn check_bezout_and_multiple(
+/// Checks the numbers of each call on two numbers of the tables, if the type has both.
+fn check_pair(
     rt: &impl Abort,
     alloc: Global,
     it: Type,
-    operands: [SignedMagnitude; 2],
+    [a, b]: [i128; 2],
+    calls: &[(Call, [i128; 4])],
 ) {
-    let pair = answer(alloc, it, Bezout, &operands);
-    let multiple = answer(alloc, it, Lcm, &operands);
-    let expected = match (pair, multiple) {
-        (Some((gcd, x, y, _)), Some((lcm, _, _, _))) => Some((gcd, x, y, lcm)),
-        _ => None,
-    };
-    answers(rt, alloc, (it, BezoutAndMultiple), &operands, expected);
-}
-
-/// Checks the row of a number below 3. That of a number at the upper end does not fit.
-fn check_row(rt: &impl Abort, alloc: Global, it: Type, n: SignedMagnitude) {
-    let (one, two) = ((false, 1), (false, 2));
-    let (row, fits) = ((it, RowOf), Some(truth(true)));
-    match n {
-        (true, _) => answers(rt, alloc, row, &[n], fits),
-        (false, 0) => answers(rt, alloc, row, &[n, one], fits),
-        (false, 1) => answers(rt, alloc, row, &[n, one, one], fits),
-        (false, 2) => answers(rt, alloc, row, &[n, one, two, one], fits),
-        _ => answers(rt, alloc, row, &[n], None),
-    }
-}
-
-/// Degrees up to the bits of a type, and far above.
-const DEGREES: [u32; 16] = [
-    0, 1, 2, 3, 4, 5, 7, 8, 31, 32, 62, 63, 64, 65, 4294967294, 4294967295,
-];
-
-/// Checks the root of each of the degrees, and the turns of the square root.
-fn check_roots(rt: &impl Abort, alloc: Global, it: Type, n: SignedMagnitude) {
-    let number = to_i128(n).expect(rt, "it has at most 64 bits");
-    for degree in DEGREES {
-        if degree == 0 || n.0 && degree % 2 == 0 {
-            has_no_root(rt, alloc, it, n, degree);
-        } else {
-            check_root(rt, alloc, it, number, degree);
+    let ends = ends_of(rt, alloc, it);
+    if let (Some(a), Some(b)) = (ends.at(a), ends.at(b)) {
+        for (call, numbers) in calls {
+            returns(rt, alloc, (it, *call), &[a, b], ends.all_at(*numbers));
         }
     }
-    let (root, turns) = square_root_turns(n.1).expect(rt, "it has at most 64 bits");
-    let counted = after_turns((false, root), turns);
-    let expected = if n.0 { None } else { Some(counted) };
-    answers(rt, alloc, (it, CountedRoot), &[n], expected);
 }
 
-/// The square root and the turns: the guesses rise from a power of two, and then fall to the root.
-fn square_root_turns(a: u128) -> Option<(u128, u32)> {
-    if a < 4 {
-        return Some((a.min(1), 0));
+fn check_numbers(rt: &impl Abort, alloc: Global, it: Type) {
+    for (n, row) in &NUMBERS {
+        let [more, less, negated, even, odd] = *row;
+        let calls = [
+            (Call::Parts, [*n, 0, 0, 0]),
+            (Call::Inc, [more, 0, 0, 0]),
+            (Call::Dec, [less, 0, 0, 0]),
+            (Call::Negated, [negated, 0, 0, 0]),
+            (Call::IsEven, [even, 0, 0, 0]),
+            (Call::IsOdd, [odd, 0, 0, 0]),
+        ];
+        check_pair(rt, alloc, it, [*n, 0], &calls);
     }
-    let mut guess = 1u128.checked_shl(a.ilog2().div_ceil(2))?;
-    let mut turns: u32 = 0;
-    for falling in [false, true] {
-        for _ in 0..=5 {
-            let next = a.checked_div(guess)?.checked_add(guess)? / 2;
-            if next != guess && falling == (next < guess) {
-                guess = next;
-                turns = turns.saturating_add(1);
-            }
-        }
-    }
-    Some((guess, turns))
 }
 
-/// Checks the calls at a number near the ends, and with each of the others, if the type has them.
-fn check_number(
-    rt: &impl Abort,
-    alloc: Global,
-    (it, ends): (Type, Ends),
-    n: SignedMagnitude,
-    others: &[SignedMagnitude],
-) {
-    answers(rt, alloc, (it, Has), &[n], Some(truth(ends.has(n))));
-    if !ends.has(n) {
-        return;
+fn check_sums(rt: &impl Abort, alloc: Global, it: Type) {
+    for (operands, row) in &SUMS {
+        let [sum, difference, product, floor, ceil] = *row;
+        let calls = [
+            (Call::Sum, [sum, 0, 0, 0]),
+            (Call::Difference, [difference, 0, 0, 0]),
+            (Call::Product, [product, 0, 0, 0]),
+            (Call::Averages, [floor, ceil, 0, 0]),
+        ];
+        check_pair(rt, alloc, it, *operands, &calls);
     }
-    check_row(rt, alloc, it, n);
-    if ends.1 <= u128::from(u64::MAX) {
-        check_roots(rt, alloc, it, n);
+}
+
+fn check_divisions(rt: &impl Abort, alloc: Global, it: Type) {
+    for (operands, row) in &DIVISIONS {
+        let [q, r, floor, left, ceil, next, previous, is_multiple] = *row;
+        let calls = [
+            (Call::DivRem, [q, r, 0, 0]),
+            (Call::Operators, [q, r, 0, 0]),
+            (Call::DivFloor, [floor, 0, 0, 0]),
+            (Call::ModFloor, [left, 0, 0, 0]),
+            (Call::DivModFloor, [floor, left, 0, 0]),
+            (Call::DivCeil, [ceil, 0, 0, 0]),
+            (Call::QuotientFits, fits(floor)),
+            (Call::NextMultipleOf, [next, 0, 0, 0]),
+            (Call::NextMultipleFits, fits(next)),
+            (Call::PrevMultipleOf, [previous, 0, 0, 0]),
+            (Call::PrevMultipleFits, fits(previous)),
+            (Call::IsMultipleOf, [is_multiple, 0, 0, 0]),
+            (Call::Divides, [is_multiple, 0, 0, 0]),
+        ];
+        check_pair(rt, alloc, it, *operands, &calls);
     }
-    for other in others {
-        if ends.has(*other) {
-            check_calls(rt, alloc, (it, ends), [n, *other]);
-            let turns = expected(ends, CountedGcd, n, *other);
-            answers(rt, alloc, (it, CountedGcd), &[n, *other], turns);
-            if ends.0 > 0 {
-                check_bezout_and_multiple(rt, alloc, it, [n, *other]);
-            }
+}
+
+fn check_divisors(rt: &impl Abort, alloc: Global, it: Type) {
+    for (operands, row) in &DIVISORS {
+        let [
+            gcd,
+            lcm,
+            halvings,
+            x,
+            y,
+            turns,
+            binomial,
+            steps,
+            multinomial,
+        ] = *row;
+        let calls = [
+            (Call::Gcd, [gcd, 0, 0, 0]),
+            (Call::GcdFits, fits(gcd)),
+            (Call::Lcm, [lcm, 0, 0, 0]),
+            (Call::LcmFits, fits(lcm)),
+            (Call::GcdLcm, [gcd, lcm, 0, 0]),
+            (Call::CountedGcd, [gcd, halvings, 0, 0]),
+            (Call::Bezout, [gcd, x, y, turns]),
+            (Call::Binomial, [binomial, 0, 0, 0]),
+            (Call::BinomialFits, fits(binomial)),
+            (Call::CountedBinomial, [binomial, steps, 0, 0]),
+            (Call::Multinomial, [multinomial, 0, 0, 0]),
+            (Call::MultinomialFits, fits(multinomial)),
+        ];
+        check_pair(rt, alloc, it, *operands, &calls);
+        if ends_of(rt, alloc, it).0 > 0 {
+            let calls = [(Call::BezoutAndMultiple, [gcd, x, y, lcm])];
+            check_pair(rt, alloc, it, *operands, &calls);
         }
     }
 }
 
 #[test]
 fn ends_of_each_type(rt: HostRuntime) {
-    for (it, ends) in &ENDS {
-        let Ends(low, high) = *ends;
-        let expected = two((false, low), (false, high));
-        answers(&rt, rt.alloc(), (*it, EndsOf), &[], Some(expected));
-        // In a type without negative numbers the first four are 0 or no numbers of the type.
-        let numbers = [
-            signed_magnitude(true, low),
-            signed_magnitude(true, low.saturating_sub(1)),
-            (true, 2),
-            (true, 1),
-            (false, 0),
-            (false, 1),
-            (false, 2),
-            (false, high.saturating_sub(1)),
-            (false, high),
-        ];
-        for n in numbers {
-            check_number(&rt, rt.alloc(), (*it, *ends), n, &numbers);
-        }
+    for it in NATIVE {
+        check_numbers(&rt, rt.alloc(), it);
+        check_sums(&rt, rt.alloc(), it);
+        check_divisions(&rt, rt.alloc(), it);
+        check_divisors(&rt, rt.alloc(), it);
     }
 }

@@ -2,8 +2,8 @@
 
 ghost use Rattle.std.specs.Prelude.{◌≤ℤ◌, pos};
 
-use super::answers::answer;
 use super::calls::Call;
+use super::results::result;
 use own_types::signed_magnitude::SignedMagnitude;
 use own_types::types::Type;
 use std::alloc::Global;
@@ -22,14 +22,14 @@ impl Ends {
 
 /// The ends of the type.
 pub(super) fn ends_of(rt: &impl Abort, alloc: Global, it: Type) -> Ends {
-    match answer(alloc, it, Call::Ends, &[]) {
-        Some(((_, low), (_, high), _, _)) => Ends(low, high),
+    match result(alloc, it, Call::Ends, &[]) {
+        Some(numbers) => Ends(numbers[0].1, numbers[1].1),
         None => panic!(rt; "a type has ends"),
     }
 }
 
 /// The largest number of a type whose numbers `i128` has.
-pub(super) fn greatest(rt: &impl Abort, alloc: Global, it: Type) -> i128
+pub(super) fn largest(rt: &impl Abort, alloc: Global, it: Type) -> i128
     ensures { pos 0 ≤ℤ result }
 {
     let Ends(_, high) = ends_of(rt, alloc, it);

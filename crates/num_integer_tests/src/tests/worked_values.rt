@@ -1,19 +1,21 @@
 //! Worked values, and where the domains of the calls end.
 
-use super::answers::{Numbers, after_turns, one, truth, two};
 use super::calls::Call;
-use super::calls::Call::{Averages, BinomialFits, CountedGcd, Gcd, Lcm, LcmFits, MultinomialFits};
-use super::rows::answers;
+use super::calls::Call::{
+    Averages, BinomialFits, CountedGcd, Ends, Gcd, Lcm, LcmFits, MultinomialFits,
+};
+use super::results::{Numbers, one, truth, two};
+use super::rows::returns;
 use super::tables::check_worked_values;
 use own_types::signed_magnitude::SignedMagnitude;
-use own_types::types::Type::U128;
+use own_types::types::Type::{I128, U128};
 
 #[test]
 fn worked_values(rt: HostRuntime) {
     check_worked_values(&rt, rt.alloc());
 }
 
-const GREATEST: SignedMagnitude = (false, u128::MAX);
+const LARGEST: SignedMagnitude = (false, u128::MAX);
 
 const HALF: SignedMagnitude = (false, u128::MAX / 2);
 
@@ -25,35 +27,38 @@ const ONE: SignedMagnitude = (false, 1);
 
 const TWO: SignedMagnitude = (false, 2);
 
-/// Half of the greatest number would take about 2^127 turns, if the tests did not stop.
+/// Half of the largest number would take some 2^127 turns if the tests of the domain did not stop.
 #[test]
 fn domains_of_128_bits(rt: HostRuntime) {
     let rows: [(Call, &[SignedMagnitude], bool); 9] = [
-        (LcmFits, &[GREATEST, TWO], false),
-        (BinomialFits, &[GREATEST, ONE], true),
-        (BinomialFits, &[GREATEST, TWO], false),
-        (BinomialFits, &[GREATEST, NEXT], true),
-        (BinomialFits, &[GREATEST, HALF], false),
+        (LcmFits, &[LARGEST, TWO], false),
+        (BinomialFits, &[LARGEST, ONE], true),
+        (BinomialFits, &[LARGEST, TWO], false),
+        (BinomialFits, &[LARGEST, NEXT], true),
+        (BinomialFits, &[LARGEST, HALF], false),
         (MultinomialFits, &[HALF, HALF], false),
-        (MultinomialFits, &[GREATEST, GREATEST], false),
-        (MultinomialFits, &[GREATEST, ONE], false),
+        (MultinomialFits, &[LARGEST, LARGEST], false),
+        (MultinomialFits, &[LARGEST, ONE], false),
         (MultinomialFits, &[NEXT, ZERO, ONE], true),
     ];
     for (call, operands, fits) in rows {
-        answers(&rt, rt.alloc(), (U128, call), operands, Some(truth(fits)));
+        returns(&rt, rt.alloc(), (U128, call), operands, Some(truth(fits)));
     }
 }
 
-/// Answers about the greatest number of `u128`, which no row of a table can hold.
+/// Results at the largest number of `u128`, which no row of a table can hold.
 #[test]
-fn answers_of_128_bits(rt: HostRuntime) {
-    let rows: [(Call, [SignedMagnitude; 2], Numbers); 4] = [
-        (Gcd, [GREATEST, ONE], one(ONE)),
-        (CountedGcd, [GREATEST, ONE], after_turns(ONE, 127)),
-        (Lcm, [GREATEST, GREATEST], one(GREATEST)),
-        (Averages, [GREATEST, GREATEST], two(GREATEST, GREATEST)),
+fn results_of_128_bits(rt: HostRuntime) {
+    let ends = two((false, 1 << 127), HALF);
+    returns(&rt, rt.alloc(), (I128, Ends), &[], Some(ends));
+    let rows: [(Call, [SignedMagnitude; 2], Numbers); 5] = [
+        (Ends, [ZERO, ZERO], two(ZERO, LARGEST)),
+        (Gcd, [LARGEST, ONE], one(ONE)),
+        (CountedGcd, [LARGEST, ONE], two(ONE, (false, 127))),
+        (Lcm, [LARGEST, LARGEST], one(LARGEST)),
+        (Averages, [LARGEST, LARGEST], two(LARGEST, LARGEST)),
     ];
     for (call, operands, expected) in rows {
-        answers(&rt, rt.alloc(), (U128, call), &operands, Some(expected));
+        returns(&rt, rt.alloc(), (U128, call), &operands, Some(expected));
     }
 }
