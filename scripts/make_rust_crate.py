@@ -55,6 +55,8 @@ ALLOWED = {
 
 # By crate, module and item: what code may call and the documentation leaves out. A caller in Rust writes `a + b`.
 HIDDEN = {('integer_core', '', 'operators')}
+# By crate, module and item: public modules that no other crate can name, for others export what they have.
+WITHIN = {('integer_core', '', 'counted'), ('integer_roots', '', 'counted')}
 # By crate, module and trait: a trait that no other crate can name, but which a public trait has above it. Its `final` functions stand
 # in a trait of this name, which no public trait has above it, so no other crate can call them. rust/by_hand exports it to the crate.
 APART = {('integer_core', 'native', 'Native'): 'Magnitudes'}
@@ -152,6 +154,8 @@ class Eraser:
             self.put_before(item.first, '#[cfg(has_error)]\n')
         if self.key(item) in HIDDEN and item.kind == 'mod':
             self.put_before(item.first, '#[doc(hidden)]\n')
+        if self.key(item) in WITHIN and item.kind == 'mod':
+            self.write(item.word - 1, 'pub(crate)')
         rust_docs.add_sections(self, item, owner)
         self.guards.add(item, owner)
         if item.kind == 'use':

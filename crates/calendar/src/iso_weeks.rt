@@ -20,7 +20,9 @@ use crate::{Date, Weekday};
 /// `Date::from_day_number(4).iso_week()` is `Some(IsoWeek { year: 1970, week: 2 })`.
 #[derive(Debug, Clone, Copy, PartialEq, Eq, PartialOrd, Ord, Hash)]
 pub struct IsoWeek {
+    /// The year of the Thursday of the week.
     pub year: i64,
+    /// The number of the week in its year, from 1 to 52 or 53.
     pub week: u8,
 }
 

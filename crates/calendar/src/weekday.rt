@@ -18,12 +18,19 @@ use std::str::FromStr;
 /// `Date::from_day_number(0).weekday()` is `Weekday::Thursday`.
 #[derive(Debug, Clone, Copy, PartialEq, Eq, Hash)]
 pub enum Weekday {
+    /// Day 7 of a week of ISO 8601.
     Sunday,
+    /// Day 1 of a week of ISO 8601.
     Monday,
+    /// Day 2 of a week of ISO 8601.
     Tuesday,
+    /// Day 3 of a week of ISO 8601.
     Wednesday,
+    /// Day 4 of a week of ISO 8601.
     Thursday,
+    /// Day 5 of a week of ISO 8601.
     Friday,
+    /// Day 6 of a week of ISO 8601.
     Saturday,
 }
 

@@ -46,7 +46,7 @@ use num_traits::{Bounded, CheckedAdd, CheckedMul, CheckedSub, NumCast, ToPrimiti
 ///
 /// assert_eq!((leading_zeros(1u8), same::<i8>(5)), (7, 5));
 /// ```
-#[derive(Clone, Copy)]
+#[derive(Clone, Copy, Debug)]
 pub struct Reason(pub(crate) &'static str);
 
 /// Panics with the reason. The place that the panic names is that of the first call of the crate.

@@ -86,28 +86,28 @@ impl Neg for &Ratio {
 
 /// Panics if a sum on the way does not fit. The sum of no fractions is 0.
 impl Sum for Ratio {
-    fn sum<I: Iterator<Item = Ratio>>(fractions: I) -> Ratio {
+    fn sum<I: Iterator<Item = Self>>(fractions: I) -> Ratio {
         fractions.fold(Ratio::zero(), Add::add)
     }
 }
 
 /// Panics if a sum on the way does not fit. The sum of no fractions is 0.
 impl<'a> Sum<&'a Ratio> for Ratio {
-    fn sum<I: Iterator<Item = &'a Ratio>>(fractions: I) -> Ratio {
+    fn sum<I: Iterator<Item = &'a Self>>(fractions: I) -> Ratio {
         fractions.fold(Ratio::zero(), Add::add)
     }
 }
 
 /// Panics if a product on the way does not fit. The product of no fractions is 1.
 impl Product for Ratio {
-    fn product<I: Iterator<Item = Ratio>>(fractions: I) -> Ratio {
+    fn product<I: Iterator<Item = Self>>(fractions: I) -> Ratio {
         fractions.fold(Ratio::one(), Mul::mul)
     }
 }
 
 /// Panics if a product on the way does not fit. The product of no fractions is 1.
 impl<'a> Product<&'a Ratio> for Ratio {
-    fn product<I: Iterator<Item = &'a Ratio>>(fractions: I) -> Ratio {
+    fn product<I: Iterator<Item = &'a Self>>(fractions: I) -> Ratio {
         fractions.fold(Ratio::one(), Mul::mul)
     }
 }
