@@ -10,7 +10,7 @@ use Rattle.integer_core.proofs.Quotients.{zero_or_not}
 use Rattle.integer_core.proofs.Whole.{expand, linear, mul-one}
 use Rattle.num_integer.proofs.DivisorSizes.{divisor_at_most}
 
--- a difference of two multiples
+-- a difference of two multiples of d is a multiple of d
 pub Divides-difference : {d u v : ℤ} → Divides d u → Divides d v → Divides d (u -ℤ v)
 Divides-difference h k = record { factor = h.factor -ℤ k.factor; product = rw (h.product, k.product) (simp expand (omega (arith, linear))) }
 

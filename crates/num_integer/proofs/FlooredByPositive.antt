@@ -15,14 +15,14 @@ use Rattle.num_integer.proofs.OrderedProducts.{multiples_apart}
 pub floored_remainder_range : {n d r : ℤ} → pos 0 <ℤ d → IsRemainder IsFloored n d r → (pos 0 ≤ℤ r) × (r <ℤ d)
 floored_remainder_range up h = (omega (arith, sizes, h.division.sign, h.division.division.small), omega (arith, sizes, h.division.sign, h.division.division.small))
 
--- and is the only number there that is a multiple of the divisor away
+-- a remainder from 0 to below the divisor is that of the quotient rounded down
 pub floored_by_range : {n d q r : ℤ} → n ≡ q *ℤ d +ℤ r → pos 0 ≤ℤ r → r <ℤ d → IsFloored n d q r
 floored_by_range equation from_zero below = record {
   division = record { equation = equation; small = omega (arith, sizes) };
   sign = grind (arith, linear);
 }
 
--- so the pair of a floored quotient and remainder is the only one whose remainder lies there
+-- the pair of a floored quotient and remainder is the only one whose remainder lies from 0 to below the divisor
 pub only_pair_by_range : {n d q r p s : ℤ} → IsFloored n d q r → n ≡ p *ℤ d +ℤ s → pos 0 ≤ℤ s → s <ℤ d → (p ≡ q) × (s ≡ r)
 only_pair_by_range h equation from_zero below = only_floored (floored_by_range equation from_zero below) h
 
@@ -89,7 +89,7 @@ least_multiple_beyond fits up none u above divides least u_fits = none (
 pub positive_quotient_fits : {fits : ℤ → Type 0} {low high n d q r : ℤ} → IsRange fits low high → fits n → fits d → pos 0 <ℤ d → IsDivision n d q r → fits q
 positive_quotient_fits range n_fits d_fits up division = other_quotient_fits range n_fits d_fits (λ e. omega (arith, linear)) division
 
--- as that of `/` does
+-- the quotient of `/` by a positive number fits
 pub operator_quotient_fits : {fits : ℤ → Type 0} {low high : ℤ} (n d : ℤ) → IsRange fits low high → fits n → fits d → pos 0 <ℤ d → fits (int_div n d)
 operator_quotient_fits n d range n_fits d_fits up = positive_quotient_fits range n_fits d_fits up (truncated_is n d (λ e. omega (arith, linear))).division
 

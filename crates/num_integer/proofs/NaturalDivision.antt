@@ -19,13 +19,15 @@ multiple_alone d k = omega (arith, products)
 pub natural_division : (n d : ℕ) → 0 < d → IsFloored (pos n) (pos d) (pos (n / d)) (pos (n % d))
 natural_division n d up = floored_by_range (omega (arith, ints)) (omega (arith, ints)) (omega (arith, ints))
 
--- a floored quotient and remainder are those of `/` and `%`
+-- a floored quotient of natural numbers is that of `/`
 pub quotient_is_natural : {n d q : ℕ} → 0 < d → IsQuotient IsFloored (pos n) (pos d) (pos q) → q ≡ n / d
 quotient_is_natural {n} {d} up h = ap unsigned_abs (only_floored h.division (natural_division n d up)).0
 
+-- a floored remainder of natural numbers is that of `%`
 pub remainder_is_natural : {n d r : ℕ} → 0 < d → IsRemainder IsFloored (pos n) (pos d) (pos r) → r ≡ n % d
 remainder_is_natural {n} {d} up h = ap unsigned_abs (only_floored h.division (natural_division n d up)).1
 
+-- a floored quotient and remainder of natural numbers are those of `/` and `%`
 pub division_is_natural : {n d q r : ℕ} → 0 < d → IsFloored (pos n) (pos d) (pos q) (pos r) → (q ≡ n / d) × (r ≡ n % d)
 division_is_natural {n} {d} up h = let same = only_floored h (natural_division n d up) in (ap unsigned_abs same.0, ap unsigned_abs same.1)
 
@@ -33,7 +35,7 @@ division_is_natural {n} {d} up h = let same = only_floored h (natural_division n
 pub natural_quotient_fits : (bits : ℕ) {n d : ℕ} → n < 2 ^ bits → 0 < d → EachFits (FitsUnsignedBits bits) (IsQuotient IsFloored (pos n) (pos d))
 natural_quotient_fits bits {n} {d} small up q h = rw (only_floored h.division (natural_division n d up)).0 (omega (arith, div-le_self n d))
 
--- the remainder by a divisor is 0
+-- d divides n exactly if the remainder of `%` is 0
 pub divides_is_natural : {d n : ℕ} → 0 < d → Divides (pos d) (pos n) ↔ (n % d ≡ 0)
 divides_is_natural {d} {n} up = (
   λ h.
