@@ -1,12 +1,15 @@
 -- Equal fractions have the same quotients, and the same nearest integer.
-use Rattle.std.specs.Prelude.{◌≡◌, ◌<◌, ◌≤◌, ◌*◌, ◌<ℤ◌, ◌≤ℤ◌, ◌+ℤ◌, ◌-ℤ◌, ◌*ℤ◌, ℕ, ℤ, pos, neg_ℤ, unsigned_abs}
+use Rattle.std.specs.Prelude.{◌≡◌, ◌<◌, ◌≤◌, ◌*◌, ◌<ℤ◌, ◌≤ℤ◌, ◌+ℤ◌, ◌-ℤ◌, ◌*ℤ◌, ℕ, ℤ, pos, neg_ℤ, unsigned_abs, Result}
 use Rattle.std.proofs.Common.{arith, ap, inl, inr, le_of_mul-le-mul_right, mul-le-mul_left, refl, sym, ◌∙◌}
 use Rattle.std.proofs.lemmas.Bool.{cases_lt}
 use Rattle.std.proofs.lemmas.Int.{unsigned_abs-mul}
 use Rattle.num_integer.proofs.ForCallers.{ceiled_by_range, ceiled_remainder_range, expand, factor_positive, floored_by_range, floored_remainder_range, from_not_less, linear, mul-neg, product_positive, sizes}
 use Rattle.num_integer.specs.Division.{IsCeiled, IsFloored, IsQuotient}
-use Rattle.ratio64.specs.Fraction.{AreEqual}
-use Rattle.ratio64.specs.Rounding.{IsRounded}
+use Rattle.ratio64.specs.Fraction.{AreEqual, IsExact}
+use Rattle.ratio64.specs.ReducedPairs.{AreEqual-sym}
+use Rattle.ratio64.specs.Rounding.{AnswersInParts, IsRounded}
+use Rattle.ratio64.specs.declared.fraction.Ratio.{Ratio}
+use Rattle.ratio64.specs.declared.error.RatioError.{RatioError}
 
 -- Both fractions times the same number are equal.
 pub equal_times : {a b c d : ℤ} (k : ℤ) → AreEqual a b c d → AreEqual (a *ℤ k) b (c *ℤ k) d
@@ -116,3 +119,20 @@ equal_rounded {a} {b} {c} {d} {r} b_up d_up equal h =
           let level : unsigned_abs b ≤ 2 * unsigned_abs (a -ℤ r *ℤ b) = halves_together _ _ _ _ d_size rests e in
           smaller_together _ _ _ _ _ _ d_size (magnitudes a d c b equal.cross) (magnitudes (r *ℤ b) d (r *ℤ d) b products) (h.tie (omega arith));
     }
+
+-- ---- in parts
+
+-- To round an exact result down to parts is to round the fraction.
+pub floored_in_parts : {a b num den parts : ℤ} {r : Result Ratio RatioError} → pos 0 <ℤ b → IsExact a b num den → AnswersInParts (IsQuotient IsFloored (num *ℤ parts) den) parts r
+    → AnswersInParts (IsQuotient IsFloored (a *ℤ parts) b) parts r
+floored_in_parts b_up exact h = record { number = h.number; is = equal_floored exact.reduced.positive b_up (equal_times _ (AreEqual-sym exact.equal)) h.is; fraction = h.fraction }
+
+-- To round an exact result up to parts is to round the fraction.
+pub ceiled_in_parts : {a b num den parts : ℤ} {r : Result Ratio RatioError} → pos 0 <ℤ b → IsExact a b num den → AnswersInParts (IsQuotient IsCeiled (num *ℤ parts) den) parts r
+    → AnswersInParts (IsQuotient IsCeiled (a *ℤ parts) b) parts r
+ceiled_in_parts b_up exact h = record { number = h.number; is = equal_ceiled exact.reduced.positive b_up (equal_times _ (AreEqual-sym exact.equal)) h.is; fraction = h.fraction }
+
+-- To round an exact result to the nearest part is to round the fraction.
+pub rounded_in_parts : {a b num den parts : ℤ} {r : Result Ratio RatioError} → pos 0 <ℤ b → IsExact a b num den → AnswersInParts (IsRounded (num *ℤ parts) den) parts r
+    → AnswersInParts (IsRounded (a *ℤ parts) b) parts r
+rounded_in_parts b_up exact h = record { number = h.number; is = equal_rounded exact.reduced.positive b_up (equal_times _ (AreEqual-sym exact.equal)) h.is; fraction = h.fraction }

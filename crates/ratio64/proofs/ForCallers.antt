@@ -24,7 +24,7 @@ pub use Rattle.ratio64.proofs.Comparisons.{equal_exactly, greater_exactly, less_
 pub use Rattle.ratio64.proofs.EqualFractions.{equal_exact, equal_fractions_answered_alike, equal_outside, nonzero_product, product_of_exact_results, sum_of_exact_results}
 -- ---- equal fractions, rounded
 
-pub use Rattle.ratio64.proofs.EqualQuotients.{equal_times, equal_floored, equal_ceiled, equal_rounded}
+pub use Rattle.ratio64.proofs.EqualQuotients.{equal_times, equal_floored, equal_ceiled, equal_rounded, floored_in_parts, ceiled_in_parts, rounded_in_parts}
 -- ---- powers
 
 pub use Rattle.ratio64.proofs.FractionPowers.{base_fits, equal_powers, power_nonzero, power_of_product, power_reduced}

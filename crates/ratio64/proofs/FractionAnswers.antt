@@ -40,6 +40,7 @@ exact_is_inside exact num_fits den_fits far =
       | inr outside ↦ outside (subst (FitsSigned w64) same.1 den_fits)
     ]
 
+-- what a call returns if both parts of the exact result fit
 pub exact_answer : {a b : ℤ} (x : Ratio) → IsExact a b (num_of x) (den_of x) → FitsSigned w64 (num_of x) → FitsSigned w64 (den_of x) → AnswersFraction a b (Ok x)
 exact_answer x exact num_fits den_fits = record {
   exact = exact;
@@ -51,15 +52,15 @@ exact_answer x exact num_fits den_fits = record {
 pub zero_factor : {c b : ℤ} → b ≢ pos 0 → (c *ℤ b ≡ pos 0) ↔ (c ≡ pos 0)
 zero_factor {c} {b} nonzero = (λ e. cancel b c (pos 0) nonzero (comm b c ∙ e ∙ omega (arith, products)), λ none. rw none (omega (arith, products)))
 
--- so over a product only the first factor gives `ZeroDenominator`
+-- if the denominator is a product whose second factor is not 0, the error is `ZeroDenominator` exactly if the first is
 pub zero_exactly : {a b c : ℤ} {r : Result Ratio RatioError} → b ≢ pos 0 → AnswersFraction a (c *ℤ b) r → (r ≡ Err ZeroDenominator) ↔ (c ≡ pos 0)
 zero_exactly nonzero h = (λ e. (zero_factor nonzero).0 (h.zero_denominator.0 e), λ none. h.zero_denominator.1 ((zero_factor nonzero).1 none))
 
--- `Ok`: both parts fit
+-- if a call returns `Ok`, both parts of the exact result fit
 pub ok_is_inside : {a b : ℤ} {x : Ratio} → AnswersFraction a b (Ok x) → ¬ (IsOutsideI64 a b)
 ok_is_inside h far = let e = h.not_fitting.1 far in absurd cc
 
--- `Err`, of a fraction: one of them does not
+-- if a call returns an error and the denominator is not 0, a part of the exact result does not fit
 pub err_is_outside : {a b : ℤ} (e : RatioError) → b ≢ pos 0 → AnswersFraction a b (Err e) → IsOutsideI64 a b
 err_is_outside ZeroDenominator fraction h = absurd (fraction (h.zero_denominator.0 refl))
 err_is_outside NotFitting fraction h = h.not_fitting.0 refl

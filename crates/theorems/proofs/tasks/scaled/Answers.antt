@@ -1,6 +1,6 @@
 use Rattle.std.proofs.lemmas.Int.{to_z-of_z}
 use Rattle.num_integer.proofs.ForCallers.{product_positive}
-use Rattle.ratio64.proofs.ForCallers.{AreEqual-sym, equal_ceiled, equal_times, err_is_outside, ok_is_inside, positive_is_nonzero}
+use Rattle.ratio64.proofs.ForCallers.{ceiled_in_parts, err_is_outside, ok_is_inside, positive_is_nonzero}
 use Rattle.theorems.proofs.tasks.scaled.Goals as goal
 
 pub returns-in_err-checked_times-clause-inside : goal.returns-in_err-checked_times-clause-inside
@@ -16,13 +16,5 @@ returns c =
     let servings = c.ranges.servings in
     let serves = c.ranges.serves in
     let product = simp to_z-of_z at c.in_ok-checked_times.ensures.product in
-    let rounded = c.ceil_to.ensures.ceiled in
     let up = product_positive _ _ c.requires c.args.amount.now.reduced.positive in
-    record {
-      outside = λ far. absurd (ok_is_inside product far);
-      inside = λ _. record {
-        number = rounded.number;
-        is = equal_ceiled product.exact.reduced.positive up (equal_times _ (AreEqual-sym product.exact.equal)) rounded.is;
-        fraction = rounded.fraction;
-      };
-    }
+    record { outside = λ far. absurd (ok_is_inside product far); inside = λ _. ceiled_in_parts up product.exact c.ceil_to.ensures.ceiled }
