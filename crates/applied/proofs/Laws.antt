@@ -10,8 +10,12 @@ use Rattle.modular.proofs.ForCallers.{congruent-equal}
 use Rattle.num_integer.specs.Least.{IsLeastFrom}
 use Rattle.num_integer.proofs.ForCallers.{Divides-difference, ceiled_quotient_least, expand, least_is_only, linear, products}
 use Rattle.applied.specs.Laws.{AlignedUpIsOnly, ChoiceOfRankIsOnly, LeastTimeIsOnly, LowerBoundIsOnly, MidpointIsOnly, PaddingIsOnly, PagesAreOnly, PartsDifferByOne, RankIsBelow}
+use Rattle.applied.specs.Laws.{FallingByCoefficient, FallingFormula, LogarithmIsOnly, NearestEvenQuotientIsOnly, NearestQuotientExists, NearestQuotientFitsExactly, NearestQuotientIsOnly, NoIntegerIsNearer}
 use Rattle.applied.specs.Schedules.{IsLeastTime}
 use Rattle.applied.proofs.Choices.{only_choice, rank_of_below}
+use Rattle.applied.proofs.FallingFactorials as counting
+use Rattle.applied.proofs.Logarithms.{only_logarithm}
+use Rattle.applied.proofs.NearestQuotients.{even_exists, even_fits_is, nearest_exists, nearest_fits_is, no_nearer, only_nearest, only_nearest_even}
 
 -- ---- pages and parts
 
@@ -89,3 +93,34 @@ lower_bound_is_only value = λ items least place other within below from other_w
         | inr same ↦ omega arith
       ]
     ]
+
+-- ---- nearest quotients
+
+pub nearest_quotient_exists : NearestQuotientExists
+nearest_quotient_exists = λ n d nonzero. (nearest_exists n d nonzero, even_exists n d nonzero)
+
+pub no_integer_is_nearer : NoIntegerIsNearer
+no_integer_is_nearer = λ n d q kinds m. elim kinds [
+  | inl h ↦ no_nearer m h.division.division h.division.nearest
+  | inr h ↦ no_nearer m h.division.division h.division.nearest
+]
+
+pub nearest_quotient_is_only : NearestQuotientIsOnly
+nearest_quotient_is_only = λ n d q h other k. only_nearest h.division k.division
+
+pub nearest_even_quotient_is_only : NearestEvenQuotientIsOnly
+nearest_even_quotient_is_only = λ n d q h other k. only_nearest_even h.division k.division
+
+pub nearest_quotient_fits_exactly : (fits : ℤ → Type 0) → NearestQuotientFitsExactly fits
+nearest_quotient_fits_exactly fits = λ low high n d range n_fits d_fits. (nearest_fits_is range n_fits d_fits, even_fits_is range n_fits d_fits)
+
+-- ---- logarithms and factorials
+
+pub logarithm_is_only : LogarithmIsOnly
+logarithm_is_only = λ base n k up h other l. only_logarithm up h l
+
+pub falling_formula : FallingFormula
+falling_formula = counting.falling_formula
+
+pub falling_by_coefficient : FallingByCoefficient
+falling_by_coefficient = counting.falling_by_coefficient

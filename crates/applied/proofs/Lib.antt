@@ -6,4 +6,7 @@ pub mod RollingHashes
 pub mod ItemPlaces
 pub mod PageRanges
 pub mod PartRanges
+pub mod NearestQuotients
+pub mod Logarithms
+pub mod FallingFactorials
 pub mod Laws

@@ -3,4 +3,7 @@ pub mod Layout
 pub mod Schedules
 pub mod Ranking
 pub mod Hashes
+pub mod Rounding
+pub mod Powers
+pub mod Counting
 pub mod Laws

@@ -127,7 +127,7 @@ pub fn laws_of_dates()
     ensures lunar_correction_of_twenty_five_centuries { dates.LunarCorrectionOfTwentyFiveCenturies }
 {}
 
-/// The laws of pages, parts, offsets, schedules, choices and halves.
+/// The laws of pages, parts, offsets, schedules, choices, halves, nearest quotients, logarithms and factorials.
 pub fn laws_of_models<P: Property, T: Integer>()
     ensures pages_are_only { models.PagesAreOnly }
     ensures parts_differ_by_one { models.PartsDifferByOne }
@@ -138,4 +138,12 @@ pub fn laws_of_models<P: Property, T: Integer>()
     ensures rank_is_below { models.RankIsBelow }
     ensures midpoint_is_only { models.MidpointIsOnly }
     ensures lower_bound_is_only { models.LowerBoundIsOnly T.value }
+    ensures nearest_quotient_exists { models.NearestQuotientExists }
+    ensures no_integer_is_nearer { models.NoIntegerIsNearer }
+    ensures nearest_quotient_is_only { models.NearestQuotientIsOnly }
+    ensures nearest_even_quotient_is_only { models.NearestEvenQuotientIsOnly }
+    ensures nearest_quotient_fits_exactly { models.NearestQuotientFitsExactly T.fits }
+    ensures logarithm_is_only { models.LogarithmIsOnly }
+    ensures falling_formula { models.FallingFormula }
+    ensures falling_by_coefficient { models.FallingByCoefficient }
 {}

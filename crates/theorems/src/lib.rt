@@ -17,6 +17,7 @@
 //! | `fractions.rt` | `ratio64`: exact results and refusals, order, rounding |
 //! | `dates.rt` | `calendar`: dates and their days, weeks, months, Easter |
 //! | `pages.rt` | `applied`: pages and parts, offsets, schedules, choices |
+//! | `rounding.rt` | `applied`: nearest quotients, roots and what is left, logarithms, factorials |
 //!
 //! Most functions have no proof file: the search proves them from the contracts of what they call. The others have theirs in
 //! `proofs/`, under the names of the file and of the function.
@@ -31,3 +32,4 @@ pub mod integers;
 pub mod laws;
 pub mod pages;
 pub mod residues;
+pub mod rounding;

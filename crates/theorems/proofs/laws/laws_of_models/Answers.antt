@@ -12,4 +12,12 @@ returns g c = record {
   rank_is_below = law.rank_is_below;
   midpoint_is_only = law.midpoint_is_only;
   lower_bound_is_only = law.lower_bound_is_only g.T.Number.value;
+  nearest_quotient_exists = law.nearest_quotient_exists;
+  no_integer_is_nearer = law.no_integer_is_nearer;
+  nearest_quotient_is_only = law.nearest_quotient_is_only;
+  nearest_even_quotient_is_only = law.nearest_even_quotient_is_only;
+  nearest_quotient_fits_exactly = law.nearest_quotient_fits_exactly g.T.Number.fits;
+  logarithm_is_only = law.logarithm_is_only;
+  falling_formula = law.falling_formula;
+  falling_by_coefficient = law.falling_by_coefficient;
 }
