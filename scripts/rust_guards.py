@@ -50,7 +50,7 @@ RANGE = rf'{FITS} \({ANY}\)'
 RESULT = rf'(?:{ANY} [-+*]ℤ (?:{ANY}|pos 1)|neg_ℤ \({ANY}\))'
 
 # What a parameter is called where it has to be above 0, where it may not be negative, and where it ends another.
-POSITIVE = {'m': 'the modulus', 'n': 'the modulus', 'modulus': 'the modulus', 'step': 'the step', 'max': 'the limit', 'parts': 'the number of parts',
+POSITIVE = {'m': 'the modulus', 'n': 'the modulus', 'modulus': 'the modulus', 'step': 'the step', 'max': 'the limit', 'parts': 'the number of parts', 'number': 'the number',
             'a.1': 'the period', 'b.1': 'the period', 'page_size': 'the page size', 'alignment': 'the alignment',
             'congruences': 'a modulus', 'schedules': 'a period'}
 FROM_ZERO = {'n': '`n`', 'k': '`k`', 'items': 'the number of items', 'part': 'the part', 'place': 'the place'}
@@ -69,7 +69,7 @@ DOCUMENTED = 'documented'       # no test: it would take longer than the call
 @dataclass(frozen=True)
 class Row:
     """A form of a clause. In the texts `{x}` is a parameter that the form names, as Rust has it, `{x.value}` its value
-    where the function has a reference, `{x.zero}` the zero of its type, and `{x.name}` what it is called. `when` is the
+    where the function has a reference, `{x.zero}` the zero of its type, `{x.one}` its one, and `{x.name}` what it is called. `when` is the
     condition below `# Panics`. A test is written where `within` is None or names the function."""
     name: str
     form: str
@@ -115,10 +115,13 @@ ROWS = (
         'the binomial coefficient does not fit'),
     Row('multinomial', rf'EachFits {FITS} \(IsMultinomial \(map [A-Z]\w*\.value [\w.]+\)\)', ARITHMETIC,
         'the multinomial coefficient does not fit'),
+    Row('factorial', rf'{FITS} \((?:factorial_of \({ANY}\)|falling_of \({ANY}\) \({ANY}\))\)', ARITHMETIC,
+        'the factorial does not fit'),
     Row('row', rf'RowFits {FITS} \({ANY}\)', LATER,
         'Not this call. The one that asks for an item does, if the item does not fit.'),
     Row('positive', rf'pos 0 <ℤ {value("x")}', TESTED, '{x.name} is not positive', '{x.value} > {x.zero}',
         '{x.name} is not positive', names=POSITIVE),
+    Row('base', rf'pos 1 <ℤ {value("x")}', TESTED, '`{x}` is below 2', '{x.value} > {x.one}', 'the base is below 2'),
     Row('positive limit', r'pos 0 <ℤ (?P<x>max|parts)|0 < (?P<y>modulus)', TESTED, '{x.name} is not positive', '{x} > 0',
         '{x.name} is not positive', names=POSITIVE),
     Row('all positive', r'All \(λ (?P<p>\w)\. pos 0 <ℤ (?P<x_type>[A-Z]\w*)\.value (?P=p)\.1\) (?P<x>[\w.]+)', TESTED,
@@ -186,6 +189,8 @@ CODE = {
          f'T::exact_product(multinomial, binomial(total, *count), {reason(MULTINOMIAL)})')),
     ('applied', 'lists', 'gcd_of'): (('unwrap()', f'expect("{GCD}")'),),
     ('applied', 'lists', 'lcm_of'): (('unwrap()', f'expect("{LCM}")'),),
+    ('applied', 'counting', 'product_above'): (
+        ('product(ways, factor)', 'ways.exact_product(factor, ' + reason("the factorial does not fit") + ')'),),
     ('applied', 'ranking', 'rank'): (
         ('rank += binomial(*number, i as u64 + 1)',
          'rank = crate::guards::sum(rank, binomial(*number, i as u64 + 1), "the rank does not fit")'),),
@@ -202,13 +207,13 @@ LEFT_TO_BODY = {
                      'extended_gcd_lcm', 'extended_gcd_counted', 'sum', 'difference', 'product', 'quotient',
                      'remainder', 'successor', 'predecessor', 'negated'},
     'num_integer': {'binomial', 'binomial_counted', 'multinomial', 'new'},
-    'applied': {'gcd_of', 'lcm_of', 'rank', 'lower_bound'},
+    'applied': {'gcd_of', 'lcm_of', 'rank', 'lower_bound', 'div_round', 'div_round_even', 'factorial', 'falling'},
 }
 # The functions without a clause that the place of the caller goes through, on the way to a panic.
 WAY = {('integer_core', 'division', 'div_rem'), ('integer_core', 'division', 'div_mod_floor'),
        ('integer_core', 'stein', 'binary_gcd'), ('integer_core', 'stein', 'positive_gcd_lcm'),
        ('num_integer', 'coefficients', 'next_coefficient'), ('num_integer', 'rows', 'item_at'),
-       ('num_integer', 'rows', 'next')}
+       ('num_integer', 'rows', 'next'), ('applied', 'counting', 'product_above')}
 
 MET = {}                        # how many clauses have each form, noted as files are made
 LEFT_OUT = ''                   # the form or the function whose guards the self-test leaves out
@@ -413,8 +418,8 @@ class Names:
     def one(self, match):
         key, _, part = match.group(1).partition('.')
         name = self.name(key)
-        if part == 'zero':
-            return self.found[key + '_type'] + '::zero()'
+        if part in ('zero', 'one'):
+            return f'{self.found[key + "_type"]}::{part}()'
         if part in ('name', 'from', 'end'):
             return self.called(key, {'name': self.row.names, 'from': FROM_ZERO, 'end': ENDS}[part])
         return '*' + name if part == 'value' and name != self.found[key] else name

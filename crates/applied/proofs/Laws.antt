@@ -9,13 +9,16 @@ use Rattle.modular.specs.declared.common_solutions.CommonSolution.TheVariants.{N
 use Rattle.modular.proofs.ForCallers.{congruent-equal}
 use Rattle.num_integer.specs.Least.{IsLeastFrom}
 use Rattle.num_integer.proofs.ForCallers.{Divides-difference, ceiled_quotient_least, expand, floored_by_range, floored_remainder_range, least_is_only, linear, only_pair_by_range, products}
-use Rattle.applied.specs.Laws.{AlignedUpIsOnly, ChoiceOfRankIsOnly, GcdOfExists, GcdOfFitsExactly, GcdOfIsOnly, LcmOfExists, LcmOfIsOnly, LeastTimeIsOnly, LowerBoundIsOnly, MidpointIsOnly, PaddingIsOnly, PagesAreOnly, PartsDifferByOne, PlaceExists, PlaceIsOnly, RankIsBelow, ReducedPairExists, ReducedPairIsOnly}
+use Rattle.applied.specs.Laws.{AlignedUpIsOnly, ChoiceOfRankIsOnly, GcdOfExists, GcdOfFitsExactly, GcdOfIsOnly, LcmOfExists, LcmOfIsOnly, LeastTimeIsOnly, LowerBoundIsOnly, MidpointIsOnly, PaddingIsOnly, PagesAreOnly, PartsDifferByOne, PlaceExists, PlaceIsOnly, RankIsBelow, ReducedPairExists, ReducedPairIsOnly, FallingByCoefficient, FallingFormula, LogarithmIsOnly, NearestEvenQuotientIsOnly, NearestQuotientExists, NearestQuotientFitsExactly, NearestQuotientIsOnly, NoIntegerIsNearer}
 use Rattle.num_integer.proofs.Laws.{division_exists}
 use Rattle.applied.specs.Schedules.{IsLeastTime}
 use Rattle.applied.proofs.Choices.{only_choice, rank_of_below}
 use Rattle.applied.proofs.ListDivisors as divisors
 use Rattle.applied.proofs.ListMultiples as multiples
 use Rattle.applied.proofs.ReducedPairs as pairs
+use Rattle.applied.proofs.FallingFactorials as counting
+use Rattle.applied.proofs.Logarithms.{only_logarithm}
+use Rattle.applied.proofs.NearestQuotients.{even_exists, even_fits_is, nearest_exists, nearest_fits_is, no_nearer, only_nearest, only_nearest_even}
 
 -- ---- pages and parts
 
@@ -127,3 +130,34 @@ lcm_of_exists = multiples.lcm_of_exists
 
 pub lcm_of_is_only : LcmOfIsOnly
 lcm_of_is_only = λ numbers l h other k. multiples.only_lcm_of k h
+
+-- ---- nearest quotients
+
+pub nearest_quotient_exists : NearestQuotientExists
+nearest_quotient_exists = λ n d nonzero. (nearest_exists n d nonzero, even_exists n d nonzero)
+
+pub no_integer_is_nearer : NoIntegerIsNearer
+no_integer_is_nearer = λ n d q kinds m. elim kinds [
+  | inl h ↦ no_nearer m h.division.division h.division.nearest
+  | inr h ↦ no_nearer m h.division.division h.division.nearest
+]
+
+pub nearest_quotient_is_only : NearestQuotientIsOnly
+nearest_quotient_is_only = λ n d q h other k. only_nearest h.division k.division
+
+pub nearest_even_quotient_is_only : NearestEvenQuotientIsOnly
+nearest_even_quotient_is_only = λ n d q h other k. only_nearest_even h.division k.division
+
+pub nearest_quotient_fits_exactly : (fits : ℤ → Type 0) → NearestQuotientFitsExactly fits
+nearest_quotient_fits_exactly fits = λ low high n d range n_fits d_fits. (nearest_fits_is range n_fits d_fits, even_fits_is range n_fits d_fits)
+
+-- ---- logarithms and factorials
+
+pub logarithm_is_only : LogarithmIsOnly
+logarithm_is_only = λ base n k up h other l. only_logarithm up h l
+
+pub falling_formula : FallingFormula
+falling_formula = counting.falling_formula
+
+pub falling_by_coefficient : FallingByCoefficient
+falling_by_coefficient = counting.falling_by_coefficient

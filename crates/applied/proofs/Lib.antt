@@ -12,5 +12,8 @@ pub mod ListDivisors
 pub mod ListMultiples
 pub mod WeightedShares
 pub mod SignedShares
+pub mod NearestQuotients
+pub mod Logarithms
+pub mod FallingFactorials
 pub mod Laws
 pub mod ForCallers

@@ -6,4 +6,7 @@ pub mod Hashes
 pub mod Lists
 pub mod ReducedPairs
 pub mod Shares
+pub mod Rounding
+pub mod Powers
+pub mod Counting
 pub mod Laws

@@ -1,8 +1,9 @@
-//! What people build on integer division: paging, memory layout, schedules, ranking, binary search, perfect
-//! powers, a rolling hash, coprime numbers, and divisors and multiples of lists.
+//! What people build on integer division: rounding, paging, memory layout, schedules, ranking, shares, binary search,
+//! powers, factorials, a rolling hash, coprime numbers, and divisors and multiples of lists.
 #![tactic(auto)]
 
 pub mod coprime;
+pub mod counting;
 pub mod halving;
 pub mod layout;
 pub mod lists;
@@ -10,5 +11,6 @@ pub mod paging;
 pub mod powers;
 pub mod ranking;
 pub mod rolling_hash;
+pub mod rounding;
 pub mod schedules;
 pub mod shares;

@@ -1,10 +1,14 @@
-//! Tests of squares and of other powers of integers.
+//! Squares and other powers of integers: tests of them, the root with what is left, and the integer logarithm.
 
-ghost use Rattle.std.specs.Prelude.{◌≡◌, ◌≢◌, ◌↔◌, ◌≤◌, ◌*ℤ◌, ℕ, ℤ, pos, IsTrue};
+ghost use Rattle.std.specs.Prelude.{◌≡◌, ◌≢◌, ◌↔◌, ◌<◌, ◌≤◌, ◌≤ℤ◌, ◌<ℤ◌, ◌+ℤ◌, ◌*ℤ◌, ℕ, ℤ, pos, IsTrue};
 ghost use Rattle.std.specs.Int.{int_pow};
+ghost use Rattle.num_integer.specs.RootOf.{IsRoot};
+ghost use Rattle.applied.specs.Powers.{IsLogarithm};
 
-use num_integer::operators::{is_negative, product};
-use num_integer::{Roots, nth_root, sqrt};
+pub mod checked;
+
+use num_integer::operators::{difference, is_below, is_negative, product, quotient};
+use num_integer::{Integer, Roots, nth_root, sqrt};
 use num_traits::Pow;
 
 /// Returns `true` if the number is the square of an integer. `is_square(144)` is `true`, `is_square(145)` is
@@ -48,4 +52,41 @@ pub fn is_perfect_power(n: u64) -> bool
         }
     }
     false
+}
+
+/// Returns the square root, rounded down, and what is left: the number minus the square of the root.
+/// `sqrt_rem(99)` is `(9, 18)`, and `sqrt_rem(81)` is `(9, 0)`.
+///
+/// May be called if `n` is not negative; [`checked::sqrt_rem`] has no condition.
+pub fn sqrt_rem<T: Roots>(n: T) -> (T, T)
+    requires in_range { T.fits (T.value n) }
+    requires from_zero { pos 0 ≤ℤ T.value n }
+    ensures in_range { T.fits (T.value result.0) × T.fits (T.value result.1) }
+    ensures root { IsRoot (T.value n) 2 (T.value result.0) }
+    ensures sum { T.value n ≡ T.value result.0 *ℤ T.value result.0 +ℤ T.value result.1 }
+    ensures rest_from_zero { pos 0 ≤ℤ T.value result.1 }
+    ensures rest_at_most { T.value result.1 ≤ℤ (T.value result.0 +ℤ T.value result.0) }
+{
+    let root = sqrt(n);
+    (root, difference(n, product(root, root)))
+}
+
+/// Returns the integer logarithm of `number` to the base: the largest degree of a power of the base that is at
+/// most the number. `ilog(1000, 10)` is `3`, `ilog(999, 10)` is `2`, and `ilog(255u8, 2)` is `7`.
+///
+/// May be called if `number` is at least 1 and `base` at least 2; [`checked::ilog`] has no condition.
+pub fn ilog<T: Integer>(number: T, base: T) -> u32
+    requires in_range { T.fits (T.value number) × T.fits (T.value base) }
+    requires positive { pos 0 <ℤ T.value number }
+    requires base { pos 1 <ℤ T.value base }
+    ensures logarithm { IsLogarithm (T.value base) (T.value number) result }
+    ensures few { result < 128 }
+{
+    let mut rest = number;
+    let mut degree = 0;
+    while !is_below(rest, base) {
+        rest = quotient(rest, base);
+        degree += 1;
+    }
+    degree
 }

@@ -128,7 +128,7 @@ pub fn laws_of_dates()
     ensures lunar_correction_of_twenty_five_centuries { dates.LunarCorrectionOfTwentyFiveCenturies }
 {}
 
-/// The laws of pages, parts, offsets, schedules, choices and halves.
+/// The laws of pages, parts, offsets, schedules, choices, halves, nearest quotients, logarithms and factorials.
 pub fn laws_of_models<P: Property, T: Integer>()
     ensures pages_are_only { models.PagesAreOnly }
     ensures place_exists { models.PlaceExists }
@@ -148,4 +148,12 @@ pub fn laws_of_models<P: Property, T: Integer>()
     ensures gcd_of_fits_exactly { models.GcdOfFitsExactly T.fits }
     ensures lcm_of_exists { models.LcmOfExists }
     ensures lcm_of_is_only { models.LcmOfIsOnly }
+    ensures nearest_quotient_exists { models.NearestQuotientExists }
+    ensures no_integer_is_nearer { models.NoIntegerIsNearer }
+    ensures nearest_quotient_is_only { models.NearestQuotientIsOnly }
+    ensures nearest_even_quotient_is_only { models.NearestEvenQuotientIsOnly }
+    ensures nearest_quotient_fits_exactly { models.NearestQuotientFitsExactly T.fits }
+    ensures logarithm_is_only { models.LogarithmIsOnly }
+    ensures falling_formula { models.FallingFormula }
+    ensures falling_by_coefficient { models.FallingByCoefficient }
 {}

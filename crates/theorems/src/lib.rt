@@ -19,6 +19,7 @@
 //! | `pages.rt` | `applied`: pages and parts, offsets, schedules, choices |
 //! | `lists.rt` | `applied`: divisors and multiples of lists, coprime numbers, reduced pairs |
 //! | `tasks.rt` | everyday tasks: a resolution, pages, a cipher, a recipe |
+//! | `rounding.rt` | `applied`: nearest quotients, roots and what is left, logarithms, factorials |
 //!
 //! Most functions have no proof file: the search proves them from the contracts of what they call. The others have theirs in
 //! `proofs/`, under the names of the file and of the function.
@@ -35,3 +36,4 @@ pub mod lists;
 pub mod pages;
 pub mod residues;
 pub mod tasks;
+pub mod rounding;

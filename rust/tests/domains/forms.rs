@@ -7,7 +7,8 @@ use cellarcove::counted::{binomial_counted, extended_gcd_counted, GcdCounted, Sq
 use cellarcove::modular::{self, Modular};
 use cellarcove::ratio64::Ratio;
 use cellarcove::{
-    halving, layout, lists, paging, powers, ranking, rolling_hash::RollingHash, schedules,
+    counting, halving, layout, lists, paging, powers, ranking, rolling_hash::RollingHash,
+    rounding, schedules,
 };
 use cellarcove::{binomial, multinomial, operators, Integer, IterBinomial, Roots};
 use std::time::{Duration, Instant};
@@ -61,6 +62,8 @@ fn division() {
             cellarcove::div_mod_floor(7, 0);
             cellarcove::div_ceil(7, 0);
             operators::quotient(7, 0);
+            rounding::div_round(7, 0);
+            rounding::div_round_even(7u64, 0);
         }
         DIVIDE_OVER {
             least.div_rem(&-1);
@@ -72,6 +75,8 @@ fn division() {
             cellarcove::div_mod_floor(least, -1);
             cellarcove::div_ceil(least, -1);
             operators::quotient(least, -1);
+            rounding::div_round(least, -1);
+            rounding::div_round_even(i8::MIN, -1);
         }
         REMAINDER { operators::remainder(7, 0); }
         REMAINDER_OVER { operators::remainder(least, -1); }
@@ -157,6 +162,37 @@ fn roots() {
             cellarcove::nth_root(9u64, 0);
             (-9).nth_root(0);
             powers::is_power(9, 0);
+        }
+    }
+}
+
+/// Roots with what is left, logarithms and factorials.
+#[test]
+fn powers_and_factorials() {
+    let (n, k) = ("`n` is negative", "`k` is negative");
+    let (number, base) = ("the number is not positive", "the base is below 2");
+    let factorial = "the factorial does not fit";
+    panics! {
+        n {
+            powers::sqrt_rem(-1);
+            counting::factorial(-5);
+            counting::falling(-5i8, 2);
+        }
+        k { counting::falling(5, -2); }
+        number {
+            powers::ilog(0, 10);
+            powers::ilog(-5i8, 10);
+        }
+        base {
+            powers::ilog(5, 0);
+            powers::ilog(5u8, 1);
+        }
+        factorial {
+            counting::factorial(6u8);
+            counting::factorial(21u64);
+            counting::factorial(u64::MAX);
+            counting::falling(8u8, 3);
+            counting::falling(u128::MAX, 2);
         }
     }
 }

@@ -21,4 +21,12 @@ returns g c = record {
   gcd_of_fits_exactly = law.gcd_of_fits_exactly g.T.Number.fits;
   lcm_of_exists = law.lcm_of_exists;
   lcm_of_is_only = law.lcm_of_is_only;
+  nearest_quotient_exists = law.nearest_quotient_exists;
+  no_integer_is_nearer = law.no_integer_is_nearer;
+  nearest_quotient_is_only = law.nearest_quotient_is_only;
+  nearest_even_quotient_is_only = law.nearest_even_quotient_is_only;
+  nearest_quotient_fits_exactly = law.nearest_quotient_fits_exactly g.T.Number.fits;
+  logarithm_is_only = law.logarithm_is_only;
+  falling_formula = law.falling_formula;
+  falling_by_coefficient = law.falling_by_coefficient;
 }

@@ -1,0 +1,28 @@
+use Rattle.std.proofs.Common.{arith, inl}
+use Rattle.num_integer.proofs.ForCallers.{linear, within_fits}
+use Rattle.applied.proofs.Logarithms.{square_rest}
+use Rattle.applied.proofs.powers.sqrt_rem.Goals as goal
+
+pub product-requires-clause-product_fits : goal.product-requires-clause-product_fits
+product-requires-clause-product_fits g c =
+    let square = square_rest c.requires.from_zero c.sqrt-root.ensures.root in
+    within_fits g.met.T.Integer.range_law c.requires.in_range (inl (square.0, square.1))
+
+pub difference-requires-clause-difference_fits : goal.difference-requires-clause-difference_fits
+difference-requires-clause-difference_fits g c =
+    let square = square_rest c.requires.from_zero c.sqrt-root.ensures.root in
+    let product = c.product.ensures.value in
+    within_fits g.met.T.Integer.range_law c.requires.in_range (inl (omega (arith, linear), omega (arith, linear)))
+
+pub returns-clause-sum : goal.returns-clause-sum
+returns-clause-sum g c = omega (arith, linear, c.product.ensures.value, c.difference.ensures.value)
+
+pub returns-clause-rest_from_zero : goal.returns-clause-rest_from_zero
+returns-clause-rest_from_zero g c =
+    let square = square_rest c.requires.from_zero c.sqrt-root.ensures.root in
+    omega (arith, linear, square.1, c.product.ensures.value, c.difference.ensures.value)
+
+pub returns-clause-rest_at_most : goal.returns-clause-rest_at_most
+returns-clause-rest_at_most g c =
+    let square = square_rest c.requires.from_zero c.sqrt-root.ensures.root in
+    omega (arith, linear, square.2, c.product.ensures.value, c.difference.ensures.value)

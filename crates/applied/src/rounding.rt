@@ -1,0 +1,83 @@
+//! Quotients rounded to the nearest integer.
+
+ghost use Rattle.std.specs.Prelude.{◌≡◌, ◌≢◌, ◌⊎◌, ◌↔◌, ◌<◌, ◌*◌, ◌≤ℤ◌, pos, unsigned_abs, IsTrue};
+ghost use Rattle.num_integer.specs.Division.{IsFloored, IsQuotient};
+ghost use Rattle.num_integer.specs.Range.{EachFits};
+ghost use Rattle.applied.specs.Rounding.{IsNearest, IsNearestEven};
+
+pub mod checked;
+
+use num_integer::operators::{difference, is_below, is_negative, successor};
+use num_integer::{Integer, div_mod_floor};
+
+/// Returns the quotient rounded to the nearest integer, and a half away from zero. `div_round(8, 3)` is `3`,
+/// `div_round(5, 2)` is `3`, and `div_round(-5, 2)` is `-3`.
+///
+/// May be called if `Fits::quotient_fits` is true; [`checked::div_round`] has no condition.
+pub fn div_round<T: Integer>(x: T, y: T) -> T
+    requires x_in_range { T.fits (T.value x) }
+    requires y_in_range { T.fits (T.value y) }
+    requires nonzero { T.value y ≢ pos 0 }
+    requires quotient_fits { EachFits T.fits (IsQuotient IsFloored (T.value x) (T.value y)) }
+    ensures in_range { T.fits (T.value result) }
+    ensures nearest { IsQuotient IsNearest (T.value x) (T.value y) (T.value result) }
+{
+    let (below, rest) = div_mod_floor(x, y);
+    if rounds_down(rest, y, is_negative(below)) {
+        below
+    } else {
+        successor(below)
+    }
+}
+
+/// Returns the quotient rounded to the nearest integer, and a half to the even one. `div_round_even(8, 3)` is
+/// `3`, `div_round_even(5, 2)` is `2`, and `div_round_even(7, 2)` is `4`.
+///
+/// May be called if `Fits::quotient_fits` is true; [`checked::div_round_even`] has no condition.
+pub fn div_round_even<T: Integer>(x: T, y: T) -> T
+    requires x_in_range { T.fits (T.value x) }
+    requires y_in_range { T.fits (T.value y) }
+    requires nonzero { T.value y ≢ pos 0 }
+    requires quotient_fits { EachFits T.fits (IsQuotient IsFloored (T.value x) (T.value y)) }
+    ensures in_range { T.fits (T.value result) }
+    ensures nearest { IsQuotient IsNearestEven (T.value x) (T.value y) (T.value result) }
+{
+    let (below, rest) = div_mod_floor(x, y);
+    if rounds_down(rest, y, below.is_even()) {
+        below
+    } else {
+        successor(below)
+    }
+}
+
+/// Returns `true` if the remainder of a quotient rounded down is less than half of the divisor, or half of it
+/// and `half_down` is `true`.
+fn rounds_down<T: Integer>(rest: T, divisor: T, half_down: bool) -> bool
+    requires in_range { T.fits (T.value rest) × T.fits (T.value divisor) }
+    requires within { ((pos 0 ≤ℤ T.value rest) × (T.value rest ≤ℤ T.value divisor))
+        ⊎ ((T.value divisor ≤ℤ T.value rest) × (T.value rest ≤ℤ pos 0)) }
+    ensures { IsTrue result
+        ↔ ((2 * unsigned_abs (T.value rest) < unsigned_abs (T.value divisor))
+        ⊎ ((2 * unsigned_abs (T.value rest) ≡ unsigned_abs (T.value divisor)) × IsTrue half_down)) }
+{
+    // What is missing to the divisor always fits. Twice the remainder may not.
+    let missing = difference(divisor, rest);
+    if half_down {
+        !is_smaller(missing, rest)
+    } else {
+        is_smaller(rest, missing)
+    }
+}
+
+/// Returns `true` if the magnitude of `a` is below that of `b`. Neither is negative, or neither is positive.
+fn is_smaller<T: Integer>(a: T, b: T) -> bool
+    requires same_side { ((pos 0 ≤ℤ T.value a) × (pos 0 ≤ℤ T.value b))
+        ⊎ ((T.value a ≤ℤ pos 0) × (T.value b ≤ℤ pos 0)) }
+    ensures { IsTrue result ↔ (unsigned_abs (T.value a) < unsigned_abs (T.value b)) }
+{
+    if is_negative(a) || is_negative(b) {
+        is_below(b, a)
+    } else {
+        is_below(a, b)
+    }
+}

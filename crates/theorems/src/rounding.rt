@@ -1,0 +1,110 @@
+//! Calls of `applied` on single numbers: nearest quotients, roots and what is left, logarithms, factorials.
+
+ghost use Rattle.std.specs.Prelude.{◌≡◌, ◌≢◌, ◌<◌, ◌≤◌, ◌+◌, ◌-◌, ◌*◌, ◌^◌, ◌<ℤ◌, IfSome, MatchOption, pos};
+ghost use Rattle.num_integer.specs.Coefficient.{factorial};
+ghost use Rattle.num_integer.specs.Division.{IsQuotient};
+ghost use Rattle.applied.specs.Counting.{falling};
+ghost use Rattle.applied.specs.Powers.{IsLogarithm};
+ghost use Rattle.applied.specs.Rounding.{IsNearest, IsNearestEven};
+
+use applied::counting::{self, falling};
+use applied::powers::{self, ilog, sqrt_rem};
+use applied::rounding::{self, div_round, div_round_even};
+use num_integer::Fits;
+
+// ---- nearest quotients
+
+/// The price of one piece in whole cents, of a price for several pieces.
+pub fn price_of_piece(cents: i64, pieces: i64) -> i64
+    requires { pos 0 <ℤ pieces }
+    ensures { IsQuotient IsNearest cents pieces result }
+{
+    div_round(cents, pieces)
+}
+
+/// An amount in thousandths, in hundredths.
+pub fn hundredths(thousandths: i64) -> i64
+    ensures { IsQuotient IsNearest thousandths (pos 10) result }
+{
+    div_round(thousandths, 10)
+}
+
+/// The mean of some values. The halves that it rounds up and those that it rounds down are equally many in the long run.
+pub fn mean(total: i64, count: i64) -> i64
+    requires { pos 0 <ℤ count }
+    ensures { IsQuotient IsNearestEven total count result }
+{
+    div_round_even(total, count)
+}
+
+/// The mean of natural numbers.
+pub fn natural_mean(total: u64, count: u64) -> u64
+    requires { count ≢ 0 }
+    ensures { IsQuotient IsNearestEven (pos total) (pos count) (pos result) }
+{
+    div_round_even(total, count)
+}
+
+/// The nearest quotient of numbers that are read, or `None` where there is none or it does not fit.
+pub fn nearest_of_read(total: i64, count: i64) -> Option<i64>
+    ensures { IfSome result (λ q. IsQuotient IsNearest total count q) }
+{
+    if total.quotient_fits(&count) {
+        Some(div_round(total, count))
+    } else {
+        None
+    }
+}
+
+/// The same by the call that tests.
+pub fn nearest_checked(total: i64, count: i64) -> Option<i64>
+    ensures { IfSome result (λ q. (count ≢ pos 0) × IsQuotient IsNearest total count q) }
+{
+    let quotient = rounding::checked::div_round(total, count)?;
+    Some(quotient)
+}
+
+// ---- roots and logarithms
+
+/// The side of the largest square of tiles, and the tiles that are left.
+pub fn square_of_tiles(tiles: u64) -> (u64, u64)
+    ensures all { result.0 * result.0 + result.1 ≡ tiles }
+    ensures largest { result.1 ≤ 2 * result.0 }
+{
+    sqrt_rem(tiles)
+}
+
+/// The number of the decimal digits of a positive number.
+pub fn digits(number: u64) -> u32
+    requires { 0 < number }
+    ensures { IsLogarithm (pos 10) (pos number) (result - 1) }
+{
+    ilog(number, 10) + 1
+}
+
+/// The levels of a binary tree of some nodes, or 0 for no node.
+pub fn levels(nodes: u64) -> u32
+    ensures { 0 < nodes → IsLogarithm (pos 2) (pos nodes) (result - 1) }
+{
+    match powers::checked::ilog(nodes, 2) {
+        Some(degree) => degree + 1,
+        None => 0,
+    }
+}
+
+// ---- permutations
+
+/// The ways in which three of eight runners can win the medals.
+#[tactic(auto, unfolding(applied::specs::Counting::falling))]
+pub fn podiums_of_eight() -> u64
+    ensures { result ≡ 336 }
+{
+    falling(8, 3)
+}
+
+/// The ways in which books stand on a shelf, or `None` where they are too many for `u64`.
+pub fn orders_of(books: u64) -> Option<u64>
+    ensures { MatchOption result (2 ^ 64 ≤ factorial books) (λ ways. ways ≡ factorial books) }
+{
+    counting::checked::factorial(books)
+}

@@ -1,0 +1,199 @@
+//! Rounded quotients of all pairs of bytes, roots with what is left, logarithms and factorials, against a separate
+//! computation in wider types.
+
+use cellarcove::counting::{self, factorial, falling};
+use cellarcove::powers::{self, ilog, sqrt_rem};
+use cellarcove::rounding::{self, div_round, div_round_even};
+use std::ops::RangeInclusive;
+
+/// The integers nearest to `n / d`, in increasing order: two if a half is left, and else one.
+fn nearest(n: i32, d: i32) -> Vec<i32> {
+    let around = n / d - 1..=n / d + 1;
+    let distance = |q: &i32| (n - q * d).abs();
+    let least = around.clone().map(|q| distance(&q)).min();
+    around.filter(|q| Some(distance(q)) == least).collect()
+}
+
+/// Of the nearest integers the one that is farthest from zero.
+fn away(n: i32, d: i32) -> i32 {
+    nearest(n, d).into_iter().max_by_key(|q| q.abs()).unwrap()
+}
+
+/// Of the nearest integers the even one, if there are two.
+fn even(n: i32, d: i32) -> i32 {
+    match nearest(n, d)[..] {
+        [one] => one,
+        [low, high] => {
+            if low % 2 == 0 {
+                low
+            } else {
+                high
+            }
+        }
+        _ => unreachable!("{n} {d}"),
+    }
+}
+
+macro_rules! all_pairs {
+    ($($name:ident $number:ident)*) => {$(
+        #[test]
+        fn $name() {
+            let numbers = || $number::MIN..=$number::MAX;
+            for (x, y) in numbers().flat_map(|x| numbers().map(move |y| (x, y))) {
+                let fit = |q: i32| $number::try_from(q).ok();
+                let (n, d) = (i32::from(x), i32::from(y));
+                let wanted = if d == 0 { None } else { fit(away(n, d)) };
+                assert_eq!(rounding::checked::div_round(x, y), wanted, "{x} {y}");
+                let wanted_even = if d == 0 { None } else { fit(even(n, d)) };
+                assert_eq!(rounding::checked::div_round_even(x, y), wanted_even, "{x} {y}");
+                if wanted.is_some() {
+                    assert_eq!(Some(div_round(x, y)), wanted, "{x} {y}");
+                    assert_eq!(Some(div_round_even(x, y)), wanted_even, "{x} {y}");
+                }
+            }
+        }
+    )*};
+}
+
+all_pairs! { pairs_of_i8 i8 pairs_of_u8 u8 }
+
+#[test]
+fn quotients_at_the_ends() {
+    assert_eq!(div_round(u64::MAX, 2), 1 << 63);
+    assert_eq!(div_round_even(u64::MAX, 2), 1 << 63);
+    assert_eq!(div_round_even(u64::MAX - 2, 2), (1 << 63) - 2);
+    assert_eq!(div_round(i64::MIN, i64::MAX), -1);
+    assert_eq!(div_round(i64::MAX, i64::MIN), -1);
+    assert_eq!(div_round(u128::MAX, u128::MAX - 1), 1);
+    assert_eq!(div_round(i128::MIN, 2), i128::MIN / 2);
+    assert_eq!(div_round((1i128 << 126) + 1, i128::MAX), 1);
+    assert_eq!(div_round((1i128 << 126) - 1, i128::MAX), 0);
+    assert_eq!(rounding::checked::div_round(i64::MIN, -1), None);
+    assert_eq!(rounding::checked::div_round_even(i128::MIN, -1), None);
+    assert_eq!(rounding::checked::div_round_even(7u128, 0), None);
+}
+
+#[test]
+fn squares_and_what_is_left() {
+    let few = 0..=70_000u64;
+    let ends = [
+        u64::MAX,
+        u64::MAX - 1,
+        (u64::from(u32::MAX)).pow(2),
+        (u64::from(u32::MAX)).pow(2) - 1,
+    ];
+    for n in few.chain(ends) {
+        let (root, rest) = sqrt_rem(n);
+        assert_eq!(root * root + rest, n, "{n}");
+        assert!(rest <= 2 * root, "{n}");
+        assert_eq!(powers::checked::sqrt_rem(n), Some((root, rest)), "{n}");
+    }
+    assert_eq!(sqrt_rem(99), (9, 18));
+    assert_eq!(sqrt_rem(i8::MAX), (11, 6));
+    assert_eq!(powers::checked::sqrt_rem(-1i64), None);
+    assert_eq!(powers::checked::sqrt_rem(i8::MIN), None);
+}
+
+/// The degree of the last power of the base that is at most the number.
+fn degree(number: i128, base: i128) -> u32 {
+    (0..).find(|degree| base.pow(degree + 1) > number).unwrap()
+}
+
+#[test]
+fn logarithms() {
+    let bases = |high: i128| {
+        (2..=40)
+            .chain([high - 1, high])
+            .filter(move |base| *base <= high)
+    };
+    for (number, base) in (1..=255).flat_map(|number| bases(255).map(move |base| (number, base))) {
+        let wanted = degree(number, base);
+        assert_eq!(ilog(number as u8, base as u8), wanted, "{number} {base}");
+        assert_eq!(
+            powers::checked::ilog(number, base),
+            Some(wanted),
+            "{number} {base}"
+        );
+    }
+    for number in i8::MIN..=i8::MAX {
+        for base in i8::MIN..=i8::MAX {
+            let wanted = (number >= 1 && base >= 2).then(|| degree(number.into(), base.into()));
+            assert_eq!(
+                powers::checked::ilog(number, base),
+                wanted,
+                "{number} {base}"
+            );
+        }
+    }
+    assert_eq!(ilog(u64::MAX, 2), 63);
+    assert_eq!(ilog(u128::MAX, 2), 127);
+    assert_eq!(ilog(10u64.pow(19), 10), 19);
+    assert_eq!(ilog(10u64.pow(19) - 1, 10), 18);
+    assert_eq!(ilog(i64::MAX, i64::MAX), 1);
+    assert_eq!(ilog(i64::MAX - 1, i64::MAX), 0);
+}
+
+/// The product of the numbers of the range, or `None` if it does not fit in 128 bits.
+fn product(numbers: RangeInclusive<u128>) -> Option<u128> {
+    numbers
+        .into_iter()
+        .try_fold(1u128, |product, number| product.checked_mul(number))
+}
+
+#[test]
+fn factorials() {
+    for n in 0..=200u8 {
+        let wanted = product(1..=n.into());
+        let fit = wanted.and_then(|f| u64::try_from(f).ok());
+        assert_eq!(counting::checked::factorial(u64::from(n)), fit, "{n}");
+        assert_eq!(counting::checked::factorial(u128::from(n)), wanted, "{n}");
+        assert_eq!(
+            counting::checked::factorial(n),
+            wanted.and_then(|f| u8::try_from(f).ok()),
+            "{n}"
+        );
+        if let Some(fit) = fit {
+            assert_eq!(factorial(u64::from(n)), fit, "{n}");
+        }
+    }
+    assert_eq!(counting::checked::factorial(u64::MAX), None);
+    assert_eq!(counting::checked::factorial(-1), None);
+    assert_eq!(factorial(20i64), 2432902008176640000);
+    assert_eq!(factorial(34u128), 295232799039604140847618609643520000000);
+}
+
+#[test]
+fn falling_factorials() {
+    for (n, k) in (0..=40u128).flat_map(|n| (0..=45).map(move |k| (n, k))) {
+        let wanted = if k > n {
+            Some(0)
+        } else {
+            product(n - k + 1..=n)
+        };
+        let fit = wanted.and_then(|f| u64::try_from(f).ok());
+        assert_eq!(
+            counting::checked::falling(n as u64, k as u64),
+            fit,
+            "{n} {k}"
+        );
+        if let Some(fit) = fit {
+            assert_eq!(falling(n as u64, k as u64), fit, "{n} {k}");
+        }
+    }
+    for (n, k) in (i8::MIN..=i8::MAX).flat_map(|n| (i8::MIN..=i8::MAX).map(move |k| (n, k))) {
+        let natural = u128::try_from(n).ok().zip(u128::try_from(k).ok());
+        let wanted = natural.and_then(|(n, k)| {
+            if k > n {
+                Some(0)
+            } else {
+                product(n - k + 1..=n)
+            }
+        });
+        let fit = wanted.and_then(|f| i8::try_from(f).ok());
+        assert_eq!(counting::checked::falling(n, k), fit, "{n} {k}");
+    }
+    assert_eq!(falling(u64::MAX, 1), u64::MAX);
+    assert_eq!(falling(u64::MAX, 0), 1);
+    assert_eq!(counting::checked::falling(u64::MAX, u64::MAX - 1), None);
+    assert_eq!(counting::checked::falling(u64::MAX, 2), None);
+}
