@@ -436,13 +436,14 @@ pub fn next_pay_day(date: &Date) -> Option<Date>
     next_last_weekday(date, Weekday::Friday)
 }
 
-/// How many days are left to the next pay day: at least one.
-pub fn days_to_pay_day(date: &Date) -> Option<i64>
-    ensures { IfSome result (λ days. pos 0 <ℤ days) }
+/// The first pay day after a date, or the date itself at the end. It is not earlier than the date.
+pub fn pay_day_or_same(date: &Date) -> Date
+    ensures { number_of date.now ≤ℤ number_of result }
 {
-    let next = next_last_weekday(date, Weekday::Friday)?;
-    let days = days_between(date, &next)?;
-    Some(days)
+    match next_last_weekday(date, Weekday::Friday) {
+        Some(next) => next,
+        None => *date,
+    }
 }
 
 /// The second Friday of a month, which each month has.
