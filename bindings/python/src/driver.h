@@ -614,9 +614,16 @@ static int keep(PyObject *from, const char *name, PyObject **to) {
     return 0;
 }
 
-/* Installs the classes of the package, from a dictionary. */
+/* Installs the classes of the package, from a dictionary. They are those of one interpreter, and a second one in the same
+ * process could not do without its own. */
 static PyObject *install(PyObject *module, PyObject *from) {
+    static PyInterpreterState *owner;
     (void)module;
+    if (owner != NULL && owner != PyInterpreterState_Get()) {
+        PyErr_SetString(PyExc_ImportError, "another interpreter of this process has imported cellarcove");
+        return NULL;
+    }
+    owner = PyInterpreterState_Get();
     if (!PyDict_Check(from)) {
         PyErr_SetString(PyExc_TypeError, "no dictionary");
         return NULL;

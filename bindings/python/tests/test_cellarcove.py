@@ -633,6 +633,27 @@ class Shutdown(unittest.TestCase):
             cellarcove.late = late = Late()
         ''')
 
+    def test_second_interpreter(self):
+        """Another interpreter of the process cannot import the package, and the first one goes on."""
+        self.ends('''
+            import cellarcove
+            try:
+                import _xxsubinterpreters as interpreters
+            except ImportError:
+                import _interpreters as interpreters
+            other = interpreters.create()
+            try:
+                failed = interpreters.run_string(other, 'import cellarcove')
+            except Exception as error:
+                failed = error
+            assert 'ImportError' in str(failed), failed
+            interpreters.destroy(other)
+            try:
+                cellarcove.lcm(2**63, 3)
+            except cellarcove.NotFitting:
+                assert cellarcove.easter(2024) == cellarcove.Date(2024, 3, 31)
+        ''')
+
     def test_import_again(self):
         """The calls raise the errors of the package that was imported last."""
         self.ends('''
