@@ -15,7 +15,7 @@ VERSION = re.search(r'^version = "(.*)"', (HERE.parent / 'rust' / 'c' / 'Cargo.t
 NUMBERS = {f'{sign}{bits}': f'{"u" if sign == "u" else ""}int{bits}_t' for sign in 'iu' for bits in (8, 16, 32, 64)}
 NUMBERS |= {'usize': 'size_t', 'bool': 'bool'}
 # The order of the modules in the header. One that is not here comes last.
-ORDER = ('operators', 'division', 'divisors', 'lists', 'roots', 'powers', 'coefficients', 'modulo', 'congruences', 'fractions',
+ORDER = ('operators', 'division', 'divisors', 'lists', 'roots', 'powers', 'coefficients', 'ranking', 'modulo', 'congruences', 'fractions',
          'rounding', 'dates', 'weekdays', 'years')
 
 DOC = r'((?:^[ ]*///[^\n]*\n)*)'

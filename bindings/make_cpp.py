@@ -58,15 +58,19 @@ def plain_function(call):
 
 
 def slice_function(call):
-    name = call.parameters[0].name
-    return f'''{comment(call)}[[nodiscard]] inline {of(call)[0]} {call.name}(const std::uint64_t *{name}, std::size_t length) {{
-    auto r = {call.symbol}({name}, length);
+    """The functions of a call with one slice, and numbers after it."""
+    (name, _), *others = call.parameters
+    taken = ''.join(f', {PLAIN[kind]} {other}' for other, kind in others)
+    passed = ''.join(f', {other}' for other, _ in others)
+    return f'''{comment(call)}[[nodiscard]] inline {of(call)[0]} {call.name}(const std::uint64_t *{name}, std::size_t length{taken}) {{
+    auto r = {call.symbol}({name}, length{passed});
     return {of(call)[1]};
 }}
 
 /// The same for a container of `std::uint64_t` in one piece.
-template <class Numbers> [[nodiscard]] auto {call.name}(const Numbers &{name}) -> decltype({call.name}({name}.data(), {name}.size())) {{
-    return {call.name}({name}.data(), {name}.size());
+template <class Numbers>
+[[nodiscard]] auto {call.name}(const Numbers &{name}{taken}) -> decltype({call.name}({name}.data(), {name}.size(){passed})) {{
+    return {call.name}({name}.data(), {name}.size(){passed});
 }}
 '''
 

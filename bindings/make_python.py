@@ -174,11 +174,20 @@ static PyObject *py_{name}(PyObject *module, PyObject *const *args, Py_ssize_t c
 
 
 def slice_text(name, call):
-    """The function of a call with one slice of unsigned numbers."""
-    assert [parameter.kind for parameter in call.parameters] == ['&[u64]'] and call.result == 'U64Answer', call
-    return f'''static PyObject *py_{name}(PyObject *module, PyObject *object) {{
+    """The function of a call with one slice of unsigned numbers, and unsigned numbers after it."""
+    first, *others = (parameter.kind for parameter in call.parameters)
+    assert first == '&[u64]' and set(others) <= {'u64'} and call.result == 'U64Answer', call
+    count = len(others)
+    head = f'PyObject *const *args, Py_ssize_t given) {{\n    PyObject *object = given == {count + 1} ? args[0] : NULL;' if others else 'PyObject *object) {'
+    taken = f'''    cell others[{count}];
+    if (others_of("{name}", args, given, {count}, others) != 0) {{
+        return NULL;
+    }}
+''' if others else ''
+    passed = ''.join(f', others[{k}].u' for k in range(count))
+    return f'''static PyObject *py_{name}(PyObject *module, {head}
     (void)module;
-    Py_buffer view;
+{taken}    Py_buffer view;
     uint64_t *numbers;
     Py_ssize_t count;
     if (numbers_of(object, "{name}", &view, &numbers, &count) != 0) {{
@@ -186,7 +195,7 @@ def slice_text(name, call):
     }}
     cellarcove_u64_answer r;
     Py_BEGIN_ALLOW_THREADS
-    r = {call.symbol}(numbers != NULL ? numbers : view.buf, (size_t)count);
+    r = {call.symbol}(numbers != NULL ? numbers : view.buf, (size_t)count{passed});
     Py_END_ALLOW_THREADS
     if (numbers != NULL) {{
         PyMem_Free(numbers);
@@ -201,8 +210,10 @@ def slice_text(name, call):
 
 def method(name, forms):
     doc = quoted(signature(name, forms) + '\n--\n\n' + docstring(name, forms))
-    if forms[0].has_slice:
+    if forms[0].has_slice and len(forms[0].parameters) == 1:
         return f'    {{"{name}", py_{name}, METH_O,\n    {doc}}},\n'
+    if forms[0].has_slice:
+        return f'    {{"{name}", (PyCFunction)(void (*)(void))py_{name}, METH_FASTCALL,\n    {doc}}},\n'
     return f'    {{"{name}", (PyCFunction)(void (*)(void))py_{name}, METH_FASTCALL | METH_KEYWORDS,\n    {doc}}},\n'
 
 
@@ -281,7 +292,8 @@ def stub(name, forms):
     names = parameter_names(call)
     doc = ''
     if call.has_slice:
-        return f'def {name}({names[0]}: Array | Iterable[SupportsIndex], /) -> int: ...\n'
+        others = ''.join(f', {other}: {NUMBER}' for other in names[1:])
+        return f'def {name}({names[0]}: Array | Iterable[SupportsIndex]{others}, /) -> int: ...\n'
     if name in OF_MANY:
         return f'''@overload
 def {name}(x: {ARRAY}, y: {ARRAY} | {NUMBER}, *, out: Outputs = ...) -> {array_result(call)}: ...

@@ -184,6 +184,12 @@ static void coefficients(void) {
     REFUSES(cellarcove_multinomial_u64(many, 2), CELLARCOVE_NOT_FITTING);
     ANSWERS(cellarcove_multinomial_u64(counts, 0), 1);
     ANSWERS(cellarcove_multinomial_u64(NULL, 0), 1);
+    uint64_t choice[] = {0, 2, 3}, equal[] = {0, 2, 2}, wide[] = {0, UINT64_C(10000000000)};
+    ANSWERS(cellarcove_rank_u64(choice, 3, 5), 2);
+    REFUSES(cellarcove_rank_u64(choice, 3, 3), CELLARCOVE_OUTSIDE);
+    REFUSES(cellarcove_rank_u64(equal, 3, 5), CELLARCOVE_OUTSIDE);
+    REFUSES(cellarcove_rank_u64(wide, 2, UINT64_MAX), CELLARCOVE_NOT_FITTING);
+    ANSWERS(cellarcove_rank_u64(NULL, 0, 0), 0);
 }
 
 static void residues(void) {

@@ -44,6 +44,7 @@ static void numbers() {
     CHECK(cellarcove::chinese_remainder(1, 4, 2, 6) == status::no_solution);
     CHECK(*cellarcove::multinomial(std::vector<std::uint64_t>{2, 1, 2}) == 30);
     CHECK(*cellarcove::multinomial(std::vector<std::uint64_t>{}) == 1);
+    CHECK(*cellarcove::rank(std::vector<std::uint64_t>{0, 2, 3}, 5) == 2);
     CHECK(*cellarcove::gcd_of(std::vector<std::uint64_t>{12, 18, 8}) == 2);
     CHECK(*cellarcove::lcm_of(std::vector<std::uint64_t>{4, 6, 10}) == 60);
     CHECK(cellarcove::lcm_of(std::vector<std::uint64_t>{UINT64_MAX, 2}) == status::not_fitting);

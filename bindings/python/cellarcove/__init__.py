@@ -2,7 +2,7 @@
 
 If all numbers of a call are at least 0, they lie below 2**64, and otherwise from -2**63 to 2**63 - 1. `extended_gcd`,
 the parts of fractions, and days, months and years are always from -2**63 to 2**63 - 1; those of `multinomial`,
-`gcd_of`, `lcm_of` and `is_perfect_power`, and exponents, are always from 0 to 2**64 - 1, and degrees from 0 to
+`gcd_of`, `lcm_of`, `rank` and `is_perfect_power`, and exponents, are always from 0 to 2**64 - 1, and degrees from 0 to
 2**32 - 1. A number out of its range raises `OverflowError`, and what is no integer raises `TypeError`.
 
 If a call has no result, it raises `Refused`, a `ValueError` that has the status. If the reason is that a divisor, a modulus

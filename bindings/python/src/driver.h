@@ -600,6 +600,21 @@ static int numbers_of(PyObject *object, const char *name, Py_buffer *view, uint6
     return *numbers == NULL ? -1 : 0;
 }
 
+/* The unsigned numbers after the list of a call. */
+static int others_of(const char *name, PyObject *const *args, Py_ssize_t given, Py_ssize_t count, cell *others) {
+    if (given != count + 1) {
+        PyErr_Format(PyExc_TypeError, "%s() takes %zd arguments, and %zd were given", name, count + 1, given);
+        return -1;
+    }
+    for (Py_ssize_t k = 0; k < count; k++) {
+        int said = integer(args[k + 1], &others[k]);
+        if (said < 0 || (!fits(&others[k], said, 'Q') && beyond(args[k + 1], 'Q') != 0)) {
+            return -1;
+        }
+    }
+    return 0;
+}
+
 /* ---- the module ---- */
 
 static int keep(PyObject *from, const char *name, PyObject **to) {

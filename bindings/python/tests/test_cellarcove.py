@@ -5,6 +5,7 @@ import calendar
 import copy
 import datetime
 import functools
+import itertools
 import math
 import os
 import pathlib
@@ -158,6 +159,20 @@ class Numbers(Refusals):
         self.refuses(Status.NOT_FITTING, cellarcove.lcm_of, [2**63, 3])
         with self.assertRaises(OverflowError):
             cellarcove.gcd_of([1, -1])
+
+    def test_ranks(self):
+        for n in range(8):
+            for count in range(n + 1):
+                choices = sorted(itertools.combinations(range(n), count), key=lambda choice: choice[::-1])
+                for rank, choice in enumerate(choices):
+                    self.assertEqual(cellarcove.rank(choice, n), rank)
+        self.assertEqual(cellarcove.rank(array.array('Q', [0, 2, 3]), 5), 2)
+        self.refuses(Status.OUTSIDE, cellarcove.rank, [0, 2, 2], 5)
+        self.refuses(Status.OUTSIDE, cellarcove.rank, [0, 2, 5], 5)
+        self.refuses(Status.NOT_FITTING, cellarcove.rank, [0, 10**10], 2**64 - 1)
+        for given, error in ((([1],), TypeError), (([1], -1), OverflowError), (([1], 'x'), TypeError), (([-1], 1), OverflowError)):
+            with self.assertRaises(error):
+                cellarcove.rank(*given)
 
     def test_powers(self):
         exact = {degree: {k**degree for k in range(-70, 70)} for degree in range(7)}

@@ -14,6 +14,7 @@ mod lists;
 mod modulo;
 mod operators;
 mod powers;
+mod ranking;
 mod roots;
 mod rounding;
 mod weekdays;

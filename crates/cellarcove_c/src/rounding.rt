@@ -59,10 +59,7 @@ pub extern "C" fn cellarcove_fraction_floor_times(a: Fraction, n: i64) -> I64Ans
     ensures { AnswersRoundedTimes (IsQuotient IsFloored) a n result }
 {
     match a.reduced() {
-        Ok(x) => match x.floor_times(n) {
-            Some(whole) => I64Answer::some(whole),
-            None => I64Answer::none(NOT_FITTING),
-        },
+        Ok(x) => I64Answer::of(x.floor_times(n), NOT_FITTING),
         Err(error) => I64Answer::none(error.number()),
     }
 }
@@ -76,10 +73,7 @@ pub extern "C" fn cellarcove_fraction_ceil_times(a: Fraction, n: i64) -> I64Answ
     ensures { AnswersRoundedTimes (IsQuotient IsCeiled) a n result }
 {
     match a.reduced() {
-        Ok(x) => match x.ceil_times(n) {
-            Some(whole) => I64Answer::some(whole),
-            None => I64Answer::none(NOT_FITTING),
-        },
+        Ok(x) => I64Answer::of(x.ceil_times(n), NOT_FITTING),
         Err(error) => I64Answer::none(error.number()),
     }
 }
@@ -94,10 +88,7 @@ pub extern "C" fn cellarcove_fraction_round_times(a: Fraction, n: i64) -> I64Ans
     ensures { AnswersRoundedTimes IsRounded a n result }
 {
     match a.reduced() {
-        Ok(x) => match x.round_times(n) {
-            Some(whole) => I64Answer::some(whole),
-            None => I64Answer::none(NOT_FITTING),
-        },
+        Ok(x) => I64Answer::of(x.round_times(n), NOT_FITTING),
         Err(error) => I64Answer::none(error.number()),
     }
 }
