@@ -289,6 +289,18 @@ CELLARCOVE_CONST cellarcove_u64_gcd_lcm cellarcove_gcd_lcm_u64(uint64_t x, uint6
  *  if the divisor is 2^63. */
 CELLARCOVE_CONST cellarcove_i64_bezout cellarcove_extended_gcd_i64(int64_t x, int64_t y);
 
+/* ---- Common divisors and multiples of lists ---- */
+
+/** The greatest common divisor of the numbers, which always fits. That of 12, 18 and 8 is 2, and that of no
+ *  numbers is 0. numbers points to numbers_len numbers, aligned, which do not change during the call; it may be
+ *  null if numbers_len is 0. The status is always CELLARCOVE_ANSWER. */
+CELLARCOVE_PURE cellarcove_u64_answer cellarcove_gcd_of_u64(const uint64_t *numbers, size_t numbers_len);
+
+/** The least common multiple of the numbers. That of 4, 6 and 10 is 60, that of numbers of which one is 0 is 0,
+ *  and that of no numbers is 1. numbers points to numbers_len numbers, aligned, which do not change during the
+ *  call; it may be null if numbers_len is 0. CELLARCOVE_NOT_FITTING if the multiple does not fit. */
+CELLARCOVE_PURE cellarcove_u64_answer cellarcove_lcm_of_u64(const uint64_t *numbers, size_t numbers_len);
+
 /* ---- Averages and roots ---- */
 
 /** The average rounded down. That of 3 and 10 is 6. */
@@ -322,6 +334,25 @@ CELLARCOVE_CONST cellarcove_i64_answer cellarcove_nth_root_i64(int64_t x, uint32
 /** The root of a degree, rounded down. That of 9 of degree 3 is 2. CELLARCOVE_OUTSIDE if degree is 0. */
 CELLARCOVE_CONST cellarcove_u64_answer cellarcove_nth_root_u64(uint64_t x, uint32_t degree);
 
+/* ---- Tests of squares and of other powers of integers ---- */
+
+/** Whether x is the square of an integer. 144 is one, and -144 is not. */
+CELLARCOVE_CONST bool cellarcove_is_square_i64(int64_t x);
+
+/** Whether x is the square of an integer. 144 is one, and 145 is not. */
+CELLARCOVE_CONST bool cellarcove_is_square_u64(uint64_t x);
+
+/** Whether x is an integer to the power degree. For -243 and 5 it is true, and for 244 and 5 it is false; for the
+ *  degree 0 it is true at 1 alone. */
+CELLARCOVE_CONST bool cellarcove_is_power_i64(int64_t x, uint32_t degree);
+
+/** Whether x is an integer to the power degree. For 243 and 5 it is true, and for 244 and 5 it is false; for the
+ *  degree 0 it is true at 1 alone. */
+CELLARCOVE_CONST bool cellarcove_is_power_u64(uint64_t x, uint32_t degree);
+
+/** Whether x is a square, a cube or a higher power of an integer. 128 is one, and 72 is not. */
+CELLARCOVE_CONST bool cellarcove_is_perfect_power_u64(uint64_t x);
+
 /* ---- Binomial and multinomial coefficients ---- */
 
 /** How many ways there are to choose k of n, the binomial coefficient. That of 11 and 3 is 165, and that of 3 and
@@ -337,7 +368,16 @@ CELLARCOVE_CONST cellarcove_u64_answer cellarcove_binomial_u64(uint64_t n, uint6
  *  call; it may be null if counts_len is 0. CELLARCOVE_NOT_FITTING if the coefficient does not fit. */
 CELLARCOVE_PURE cellarcove_u64_answer cellarcove_multinomial_u64(const uint64_t *counts, size_t counts_len);
 
-/* ---- Arithmetic modulo a number, and numbers that solve one or two congruences ---- */
+/* ---- Choices of numbers, and their ranks ---- */
+
+/** The rank of a choice of numbers below n: how many choices of as many numbers come before it. They are ordered
+ *  by their last number, then by the one before it, and so on. For 0, 2 and 3, and 5, it is 2. choice points to
+ *  choice_len numbers, aligned, which do not change during the call; it may be null if choice_len is 0.
+ *  CELLARCOVE_OUTSIDE if the numbers do not increase or are not all below n. CELLARCOVE_NOT_FITTING if the rank
+ *  does not fit. */
+CELLARCOVE_PURE cellarcove_u64_answer cellarcove_rank_u64(const uint64_t *choice, size_t choice_len, uint64_t n);
+
+/* ---- Arithmetic modulo a number ---- */
 
 /** a + b modulo m, from 0 to m - 1. For 5, 4 and 7 it is 2. CELLARCOVE_BAD_MODULUS if m is not positive. */
 CELLARCOVE_CONST cellarcove_i64_answer cellarcove_sum_modulo_i64(int64_t a, int64_t b, int64_t m);
@@ -372,6 +412,25 @@ CELLARCOVE_CONST cellarcove_i64_answer cellarcove_inverse_modulo_i64(int64_t a, 
  *  CELLARCOVE_NO_SOLUTION if there is no inverse. */
 CELLARCOVE_CONST cellarcove_u64_answer cellarcove_inverse_modulo_u64(uint64_t a, uint64_t m);
 
+/** The number that times b is a modulo m, from 0 to m - 1. For 2, 3 and 7 it is 3. CELLARCOVE_BAD_MODULUS if m is
+ *  not positive. CELLARCOVE_NO_SOLUTION if b has no inverse modulo m. */
+CELLARCOVE_CONST cellarcove_i64_answer cellarcove_quotient_modulo_i64(int64_t a, int64_t b, int64_t m);
+
+/** The number that times b is a modulo m, from 0 to m - 1. For 2, 3 and 7 it is 3. CELLARCOVE_BAD_MODULUS if m is
+ *  0. CELLARCOVE_NO_SOLUTION if b has no inverse modulo m. */
+CELLARCOVE_CONST cellarcove_u64_answer cellarcove_quotient_modulo_u64(uint64_t a, uint64_t b, uint64_t m);
+
+/* ---- Numbers that solve one or two congruences, and congruent numbers from one on, up to another or between
+ * two ---- */
+
+/** The numbers that times a are b modulo m. For 6, 4 and 10 they are 4 and those in steps of 5 from it.
+ *  CELLARCOVE_BAD_MODULUS if m is not positive. CELLARCOVE_NO_SOLUTION if there is no such number. */
+CELLARCOVE_CONST cellarcove_i64_solutions cellarcove_solutions_i64(int64_t a, int64_t b, int64_t m);
+
+/** The numbers that times a are b modulo m. For 6, 4 and 10 they are 4 and those in steps of 5 from it.
+ *  CELLARCOVE_BAD_MODULUS if m is 0. CELLARCOVE_NO_SOLUTION if there is no such number. */
+CELLARCOVE_CONST cellarcove_u64_solutions cellarcove_solutions_u64(uint64_t a, uint64_t b, uint64_t m);
+
 /** The numbers that are a modulo m and b modulo n. For 1, 4, 3 and 6 they are 9 and those in steps of 12 from it.
  *  CELLARCOVE_BAD_MODULUS if m or n is not positive. CELLARCOVE_NO_SOLUTION if there is no such number.
  *  CELLARCOVE_NOT_FITTING if there is one, and the step does not fit. */
@@ -392,36 +451,6 @@ CELLARCOVE_CONST cellarcove_i64_answer cellarcove_next_congruent_i64(int64_t fro
  *  step is 0. CELLARCOVE_NOT_FITTING if the number does not fit. */
 CELLARCOVE_CONST cellarcove_u64_answer cellarcove_next_congruent_u64(uint64_t from, uint64_t first, uint64_t step);
 
-/** The smallest number from from on that is a modulo m and b modulo n. The least common multiple of m and n need
- *  not fit. For 10, 1, 4, 3 and 6 it is 21. CELLARCOVE_BAD_MODULUS if m or n is not positive.
- *  CELLARCOVE_NO_SOLUTION if there is no such number. CELLARCOVE_NOT_FITTING if it does not fit. */
-CELLARCOVE_CONST cellarcove_i64_answer cellarcove_next_common_solution_i64(int64_t from, int64_t a, int64_t m,
-    int64_t b, int64_t n);
-
-/** The smallest number from from on that is a modulo m and b modulo n. The least common multiple of m and n need
- *  not fit. For 10, 1, 4, 3 and 6 it is 21. CELLARCOVE_BAD_MODULUS if m or n is 0. CELLARCOVE_NO_SOLUTION if there
- *  is no such number. CELLARCOVE_NOT_FITTING if it does not fit. */
-CELLARCOVE_CONST cellarcove_u64_answer cellarcove_next_common_solution_u64(uint64_t from, uint64_t a, uint64_t m,
-    uint64_t b, uint64_t n);
-
-/* ---- Quotients modulo a number, linear congruences, and the congruent numbers up to another or between two ---- */
-
-/** The number that times b is a modulo m, from 0 to m - 1. For 2, 3 and 7 it is 3. CELLARCOVE_BAD_MODULUS if m is
- *  not positive. CELLARCOVE_NO_SOLUTION if b has no inverse modulo m. */
-CELLARCOVE_CONST cellarcove_i64_answer cellarcove_quotient_modulo_i64(int64_t a, int64_t b, int64_t m);
-
-/** The number that times b is a modulo m, from 0 to m - 1. For 2, 3 and 7 it is 3. CELLARCOVE_BAD_MODULUS if m is
- *  0. CELLARCOVE_NO_SOLUTION if b has no inverse modulo m. */
-CELLARCOVE_CONST cellarcove_u64_answer cellarcove_quotient_modulo_u64(uint64_t a, uint64_t b, uint64_t m);
-
-/** The numbers that times a are b modulo m. For 6, 4 and 10 they are 4 and those in steps of 5 from it.
- *  CELLARCOVE_BAD_MODULUS if m is not positive. CELLARCOVE_NO_SOLUTION if there is no such number. */
-CELLARCOVE_CONST cellarcove_i64_solutions cellarcove_solutions_i64(int64_t a, int64_t b, int64_t m);
-
-/** The numbers that times a are b modulo m. For 6, 4 and 10 they are 4 and those in steps of 5 from it.
- *  CELLARCOVE_BAD_MODULUS if m is 0. CELLARCOVE_NO_SOLUTION if there is no such number. */
-CELLARCOVE_CONST cellarcove_u64_solutions cellarcove_solutions_u64(uint64_t a, uint64_t b, uint64_t m);
-
 /** The largest number up to to that is first modulo step. For 10, 1 and 4 it is 9. CELLARCOVE_BAD_MODULUS if step
  *  is not positive. CELLARCOVE_NOT_FITTING if the number does not fit. */
 CELLARCOVE_CONST cellarcove_i64_answer cellarcove_previous_congruent_i64(int64_t to, int64_t first, int64_t step);
@@ -439,6 +468,18 @@ CELLARCOVE_CONST cellarcove_i64_answer cellarcove_count_congruent_i64(int64_t fr
  *  step is 0. CELLARCOVE_NOT_FITTING if the count does not fit. */
 CELLARCOVE_CONST cellarcove_u64_answer cellarcove_count_congruent_u64(uint64_t from, uint64_t to, uint64_t first,
     uint64_t step);
+
+/** The smallest number from from on that is a modulo m and b modulo n. The least common multiple of m and n need
+ *  not fit. For 10, 1, 4, 3 and 6 it is 21. CELLARCOVE_BAD_MODULUS if m or n is not positive.
+ *  CELLARCOVE_NO_SOLUTION if there is no such number. CELLARCOVE_NOT_FITTING if it does not fit. */
+CELLARCOVE_CONST cellarcove_i64_answer cellarcove_next_common_solution_i64(int64_t from, int64_t a, int64_t m,
+    int64_t b, int64_t n);
+
+/** The smallest number from from on that is a modulo m and b modulo n. The least common multiple of m and n need
+ *  not fit. For 10, 1, 4, 3 and 6 it is 21. CELLARCOVE_BAD_MODULUS if m or n is 0. CELLARCOVE_NO_SOLUTION if there
+ *  is no such number. CELLARCOVE_NOT_FITTING if it does not fit. */
+CELLARCOVE_CONST cellarcove_u64_answer cellarcove_next_common_solution_u64(uint64_t from, uint64_t a, uint64_t m,
+    uint64_t b, uint64_t n);
 
 /* ---- Exact fractions. A fraction that is passed is reduced first, and a part of it that does not fit then is
  * rejected. If both fractions are rejected, the status is that of the first ---- */
@@ -509,6 +550,14 @@ CELLARCOVE_CONST cellarcove_date cellarcove_date_from_day(int64_t day);
  *  there is no such date. CELLARCOVE_NOT_FITTING if its day does not fit. */
 CELLARCOVE_CONST cellarcove_i64_answer cellarcove_day_from_date(cellarcove_date date);
 
+/** The date days days after a date, or before it if days is negative. That of 2000-03-01 and -1 is 2000-02-29.
+ *  CELLARCOVE_NO_DATE if there is no such date. CELLARCOVE_NOT_FITTING if the year of the result does not fit. */
+CELLARCOVE_CONST cellarcove_date_answer cellarcove_plus_days(cellarcove_date date, int64_t days);
+
+/** The number of days from one date to another, negative if the other is earlier. From 2000-03-01 to 2000-02-28 it
+ *  is -2. CELLARCOVE_NO_DATE if there is no such date. CELLARCOVE_NOT_FITTING if the number does not fit. */
+CELLARCOVE_CONST cellarcove_i64_answer cellarcove_days_between(cellarcove_date from, cellarcove_date to);
+
 /** The date months months after a date, or before it if months is negative. Its day of the month is the same, or
  *  the last one if its month is shorter. That of 2000-01-31 and 1 is 2000-02-29. CELLARCOVE_NO_DATE if there is no
  *  such date. CELLARCOVE_NOT_FITTING if the year of the result does not fit. */
@@ -530,16 +579,6 @@ CELLARCOVE_CONST cellarcove_date_answer cellarcove_date_from_iso_week(int64_t ye
 
 /** The date of Easter Sunday of a year, by the rules of today. That of 2024 is 2024-03-31. */
 CELLARCOVE_CONST cellarcove_date cellarcove_easter(int64_t year);
-
-/* ---- Dates some days apart ---- */
-
-/** The date days days after a date, or before it if days is negative. That of 2000-03-01 and -1 is 2000-02-29.
- *  CELLARCOVE_NO_DATE if there is no such date. CELLARCOVE_NOT_FITTING if the year of the result does not fit. */
-CELLARCOVE_CONST cellarcove_date_answer cellarcove_plus_days(cellarcove_date date, int64_t days);
-
-/** The number of days from one date to another, negative if the other is earlier. From 2000-03-01 to 2000-02-28 it
- *  is -2. CELLARCOVE_NO_DATE if there is no such date. CELLARCOVE_NOT_FITTING if the number does not fit. */
-CELLARCOVE_CONST cellarcove_i64_answer cellarcove_days_between(cellarcove_date from, cellarcove_date to);
 
 /* ---- Days of the week, which have the numbers of ISO 8601, from 1 for Monday to 7 for Sunday ---- */
 

@@ -345,6 +345,32 @@ template <class N0, class N1> [[nodiscard]] auto gcd_lcm(N0 x, N1 y) {
     return r.status == CELLARCOVE_ANSWER ? result<bezout>(bezout{r.gcd, r.x, r.y}) : result<bezout>(static_cast<status>(r.status));
 }
 
+/// The greatest common divisor of the numbers, which always fits. That of 12, 18 and 8 is 2, and that of no numbers
+/// is 0.
+[[nodiscard]] inline result<std::uint64_t> gcd_of(const std::uint64_t *numbers, std::size_t length) {
+    auto r = cellarcove_gcd_of_u64(numbers, length);
+    return r.status == CELLARCOVE_ANSWER ? result<std::uint64_t>(r.value) : result<std::uint64_t>(static_cast<status>(r.status));
+}
+
+/// The same for a container of `std::uint64_t` in one piece.
+template <class Numbers>
+[[nodiscard]] auto gcd_of(const Numbers &numbers) -> decltype(gcd_of(numbers.data(), numbers.size())) {
+    return gcd_of(numbers.data(), numbers.size());
+}
+
+/// The least common multiple of the numbers. That of 4, 6 and 10 is 60, that of numbers of which one is 0 is 0, and
+/// that of no numbers is 1. status::not_fitting if the multiple does not fit.
+[[nodiscard]] inline result<std::uint64_t> lcm_of(const std::uint64_t *numbers, std::size_t length) {
+    auto r = cellarcove_lcm_of_u64(numbers, length);
+    return r.status == CELLARCOVE_ANSWER ? result<std::uint64_t>(r.value) : result<std::uint64_t>(static_cast<status>(r.status));
+}
+
+/// The same for a container of `std::uint64_t` in one piece.
+template <class Numbers>
+[[nodiscard]] auto lcm_of(const Numbers &numbers) -> decltype(lcm_of(numbers.data(), numbers.size())) {
+    return lcm_of(numbers.data(), numbers.size());
+}
+
 /// The average rounded down. That of 3 and 10 is 6.
 template <class N0, class N1> [[nodiscard]] auto average_floor(N0 x, N1 y) {
     if constexpr (detail::is_signed<N0, N1>()) {
@@ -401,6 +427,35 @@ template <class N0> [[nodiscard]] auto nth_root(N0 x, std::uint32_t degree) {
     }
 }
 
+/// Whether x is the square of an integer. 144 is one, and -144 is not.
+template <class N0> [[nodiscard]] auto is_square(N0 x) {
+    if constexpr (detail::is_signed<N0>()) {
+        auto r = cellarcove_is_square_i64(static_cast<std::int64_t>(x));
+        return r;
+    } else {
+        auto r = cellarcove_is_square_u64(static_cast<std::uint64_t>(x));
+        return r;
+    }
+}
+
+/// Whether x is an integer to the power degree. For -243 and 5 it is true, and for 244 and 5 it is false; for the
+/// degree 0 it is true at 1 alone.
+template <class N0> [[nodiscard]] auto is_power(N0 x, std::uint32_t degree) {
+    if constexpr (detail::is_signed<N0>()) {
+        auto r = cellarcove_is_power_i64(static_cast<std::int64_t>(x), degree);
+        return r;
+    } else {
+        auto r = cellarcove_is_power_u64(static_cast<std::uint64_t>(x), degree);
+        return r;
+    }
+}
+
+/// Whether x is a square, a cube or a higher power of an integer. 128 is one, and 72 is not.
+[[nodiscard]] inline bool is_perfect_power(std::uint64_t x) {
+    auto r = cellarcove_is_perfect_power_u64(x);
+    return r;
+}
+
 /// How many ways there are to choose k of n, the binomial coefficient. That of 11 and 3 is 165, and that of 3 and 11
 /// is 0. status::outside if a number is negative. status::not_fitting if the coefficient does not fit.
 template <class N0, class N1> [[nodiscard]] auto binomial(N0 n, N1 k) {
@@ -421,8 +476,23 @@ template <class N0, class N1> [[nodiscard]] auto binomial(N0 n, N1 k) {
 }
 
 /// The same for a container of `std::uint64_t` in one piece.
-template <class Numbers> [[nodiscard]] auto multinomial(const Numbers &counts) -> decltype(multinomial(counts.data(), counts.size())) {
+template <class Numbers>
+[[nodiscard]] auto multinomial(const Numbers &counts) -> decltype(multinomial(counts.data(), counts.size())) {
     return multinomial(counts.data(), counts.size());
+}
+
+/// The rank of a choice of numbers below n: how many choices of as many numbers come before it. They are ordered by
+/// their last number, then by the one before it, and so on. For 0, 2 and 3, and 5, it is 2. status::outside if the
+/// numbers do not increase or are not all below n. status::not_fitting if the rank does not fit.
+[[nodiscard]] inline result<std::uint64_t> rank(const std::uint64_t *choice, std::size_t length, std::uint64_t n) {
+    auto r = cellarcove_rank_u64(choice, length, n);
+    return r.status == CELLARCOVE_ANSWER ? result<std::uint64_t>(r.value) : result<std::uint64_t>(static_cast<status>(r.status));
+}
+
+/// The same for a container of `std::uint64_t` in one piece.
+template <class Numbers>
+[[nodiscard]] auto rank(const Numbers &choice, std::uint64_t n) -> decltype(rank(choice.data(), choice.size(), n)) {
+    return rank(choice.data(), choice.size(), n);
 }
 
 /// a + b modulo m, from 0 to m - 1. For 5, 4 and 7 it is 2. status::bad_modulus if m is not positive.
@@ -482,6 +552,30 @@ template <class N0, class N1> [[nodiscard]] auto inverse_modulo(N0 a, N1 m) {
     }
 }
 
+/// The number that times b is a modulo m, from 0 to m - 1. For 2, 3 and 7 it is 3. status::bad_modulus if m is not
+/// positive. status::no_solution if b has no inverse modulo m.
+template <class N0, class N1, class N2> [[nodiscard]] auto quotient_modulo(N0 a, N1 b, N2 m) {
+    if constexpr (detail::is_signed<N0, N1, N2>()) {
+        auto r = cellarcove_quotient_modulo_i64(static_cast<std::int64_t>(a), static_cast<std::int64_t>(b), static_cast<std::int64_t>(m));
+        return r.status == CELLARCOVE_ANSWER ? result<std::int64_t>(r.value) : result<std::int64_t>(static_cast<status>(r.status));
+    } else {
+        auto r = cellarcove_quotient_modulo_u64(static_cast<std::uint64_t>(a), static_cast<std::uint64_t>(b), static_cast<std::uint64_t>(m));
+        return r.status == CELLARCOVE_ANSWER ? result<std::uint64_t>(r.value) : result<std::uint64_t>(static_cast<status>(r.status));
+    }
+}
+
+/// The numbers that times a are b modulo m. For 6, 4 and 10 they are 4 and those in steps of 5 from it.
+/// status::bad_modulus if m is not positive. status::no_solution if there is no such number.
+template <class N0, class N1, class N2> [[nodiscard]] auto solutions(N0 a, N1 b, N2 m) {
+    if constexpr (detail::is_signed<N0, N1, N2>()) {
+        auto r = cellarcove_solutions_i64(static_cast<std::int64_t>(a), static_cast<std::int64_t>(b), static_cast<std::int64_t>(m));
+        return r.status == CELLARCOVE_ANSWER ? result<solution_class<std::int64_t>>(solution_class<std::int64_t>{r.first, r.step}) : result<solution_class<std::int64_t>>(static_cast<status>(r.status));
+    } else {
+        auto r = cellarcove_solutions_u64(static_cast<std::uint64_t>(a), static_cast<std::uint64_t>(b), static_cast<std::uint64_t>(m));
+        return r.status == CELLARCOVE_ANSWER ? result<solution_class<std::uint64_t>>(solution_class<std::uint64_t>{r.first, r.step}) : result<solution_class<std::uint64_t>>(static_cast<status>(r.status));
+    }
+}
+
 /// The numbers that are a modulo m and b modulo n. For 1, 4, 3 and 6 they are 9 and those in steps of 12 from it.
 /// status::bad_modulus if m or n is not positive. status::no_solution if there is no such number. status::not_fitting
 /// if there is one, and the step does not fit.
@@ -507,43 +601,6 @@ template <class N0, class N1, class N2> [[nodiscard]] auto next_congruent(N0 fro
     }
 }
 
-/// The smallest number from from on that is a modulo m and b modulo n. The least common multiple of m and n need not
-/// fit. For 10, 1, 4, 3 and 6 it is 21. status::bad_modulus if m or n is not positive. status::no_solution if there
-/// is no such number. status::not_fitting if it does not fit.
-template <class N0, class N1, class N2, class N3, class N4> [[nodiscard]] auto next_common_solution(N0 from, N1 a, N2 m, N3 b, N4 n) {
-    if constexpr (detail::is_signed<N0, N1, N2, N3, N4>()) {
-        auto r = cellarcove_next_common_solution_i64(static_cast<std::int64_t>(from), static_cast<std::int64_t>(a), static_cast<std::int64_t>(m), static_cast<std::int64_t>(b), static_cast<std::int64_t>(n));
-        return r.status == CELLARCOVE_ANSWER ? result<std::int64_t>(r.value) : result<std::int64_t>(static_cast<status>(r.status));
-    } else {
-        auto r = cellarcove_next_common_solution_u64(static_cast<std::uint64_t>(from), static_cast<std::uint64_t>(a), static_cast<std::uint64_t>(m), static_cast<std::uint64_t>(b), static_cast<std::uint64_t>(n));
-        return r.status == CELLARCOVE_ANSWER ? result<std::uint64_t>(r.value) : result<std::uint64_t>(static_cast<status>(r.status));
-    }
-}
-
-/// The number that times b is a modulo m, from 0 to m - 1. For 2, 3 and 7 it is 3. status::bad_modulus if m is not
-/// positive. status::no_solution if b has no inverse modulo m.
-template <class N0, class N1, class N2> [[nodiscard]] auto quotient_modulo(N0 a, N1 b, N2 m) {
-    if constexpr (detail::is_signed<N0, N1, N2>()) {
-        auto r = cellarcove_quotient_modulo_i64(static_cast<std::int64_t>(a), static_cast<std::int64_t>(b), static_cast<std::int64_t>(m));
-        return r.status == CELLARCOVE_ANSWER ? result<std::int64_t>(r.value) : result<std::int64_t>(static_cast<status>(r.status));
-    } else {
-        auto r = cellarcove_quotient_modulo_u64(static_cast<std::uint64_t>(a), static_cast<std::uint64_t>(b), static_cast<std::uint64_t>(m));
-        return r.status == CELLARCOVE_ANSWER ? result<std::uint64_t>(r.value) : result<std::uint64_t>(static_cast<status>(r.status));
-    }
-}
-
-/// The numbers that times a are b modulo m. For 6, 4 and 10 they are 4 and those in steps of 5 from it.
-/// status::bad_modulus if m is not positive. status::no_solution if there is no such number.
-template <class N0, class N1, class N2> [[nodiscard]] auto solutions(N0 a, N1 b, N2 m) {
-    if constexpr (detail::is_signed<N0, N1, N2>()) {
-        auto r = cellarcove_solutions_i64(static_cast<std::int64_t>(a), static_cast<std::int64_t>(b), static_cast<std::int64_t>(m));
-        return r.status == CELLARCOVE_ANSWER ? result<solution_class<std::int64_t>>(solution_class<std::int64_t>{r.first, r.step}) : result<solution_class<std::int64_t>>(static_cast<status>(r.status));
-    } else {
-        auto r = cellarcove_solutions_u64(static_cast<std::uint64_t>(a), static_cast<std::uint64_t>(b), static_cast<std::uint64_t>(m));
-        return r.status == CELLARCOVE_ANSWER ? result<solution_class<std::uint64_t>>(solution_class<std::uint64_t>{r.first, r.step}) : result<solution_class<std::uint64_t>>(static_cast<status>(r.status));
-    }
-}
-
 /// The largest number up to to that is first modulo step. For 10, 1 and 4 it is 9. status::bad_modulus if step is not
 /// positive. status::not_fitting if the number does not fit.
 template <class N0, class N1, class N2> [[nodiscard]] auto previous_congruent(N0 to, N1 first, N2 step) {
@@ -564,6 +621,19 @@ template <class N0, class N1, class N2, class N3> [[nodiscard]] auto count_congr
         return r.status == CELLARCOVE_ANSWER ? result<std::int64_t>(r.value) : result<std::int64_t>(static_cast<status>(r.status));
     } else {
         auto r = cellarcove_count_congruent_u64(static_cast<std::uint64_t>(from), static_cast<std::uint64_t>(to), static_cast<std::uint64_t>(first), static_cast<std::uint64_t>(step));
+        return r.status == CELLARCOVE_ANSWER ? result<std::uint64_t>(r.value) : result<std::uint64_t>(static_cast<status>(r.status));
+    }
+}
+
+/// The smallest number from from on that is a modulo m and b modulo n. The least common multiple of m and n need not
+/// fit. For 10, 1, 4, 3 and 6 it is 21. status::bad_modulus if m or n is not positive. status::no_solution if there
+/// is no such number. status::not_fitting if it does not fit.
+template <class N0, class N1, class N2, class N3, class N4> [[nodiscard]] auto next_common_solution(N0 from, N1 a, N2 m, N3 b, N4 n) {
+    if constexpr (detail::is_signed<N0, N1, N2, N3, N4>()) {
+        auto r = cellarcove_next_common_solution_i64(static_cast<std::int64_t>(from), static_cast<std::int64_t>(a), static_cast<std::int64_t>(m), static_cast<std::int64_t>(b), static_cast<std::int64_t>(n));
+        return r.status == CELLARCOVE_ANSWER ? result<std::int64_t>(r.value) : result<std::int64_t>(static_cast<status>(r.status));
+    } else {
+        auto r = cellarcove_next_common_solution_u64(static_cast<std::uint64_t>(from), static_cast<std::uint64_t>(a), static_cast<std::uint64_t>(m), static_cast<std::uint64_t>(b), static_cast<std::uint64_t>(n));
         return r.status == CELLARCOVE_ANSWER ? result<std::uint64_t>(r.value) : result<std::uint64_t>(static_cast<status>(r.status));
     }
 }
@@ -668,6 +738,20 @@ template <class N0, class N1, class N2, class N3> [[nodiscard]] auto count_congr
     return r.status == CELLARCOVE_ANSWER ? result<std::int64_t>(r.value) : result<std::int64_t>(static_cast<status>(r.status));
 }
 
+/// The date days days after a date, or before it if days is negative. That of 2000-03-01 and -1 is 2000-02-29.
+/// status::no_date if there is no such date. status::not_fitting if the year of the result does not fit.
+[[nodiscard]] inline result<date> plus_days(const date &of, std::int64_t days) {
+    auto r = cellarcove_plus_days(of.to_c(), days);
+    return r.status == CELLARCOVE_ANSWER ? result<date>(date::from_c(r.date)) : result<date>(static_cast<status>(r.status));
+}
+
+/// The number of days from one date to another, negative if the other is earlier. From 2000-03-01 to 2000-02-28 it is
+/// -2. status::no_date if there is no such date. status::not_fitting if the number does not fit.
+[[nodiscard]] inline result<std::int64_t> days_between(const date &from, const date &to) {
+    auto r = cellarcove_days_between(from.to_c(), to.to_c());
+    return r.status == CELLARCOVE_ANSWER ? result<std::int64_t>(r.value) : result<std::int64_t>(static_cast<status>(r.status));
+}
+
 /// The date months months after a date, or before it if months is negative. Its day of the month is the same, or the
 /// last one if its month is shorter. That of 2000-01-31 and 1 is 2000-02-29. status::no_date if there is no such
 /// date. status::not_fitting if the year of the result does not fit.
@@ -703,20 +787,6 @@ template <class N0, class N1, class N2, class N3> [[nodiscard]] auto count_congr
 [[nodiscard]] inline date easter(std::int64_t year) {
     auto r = cellarcove_easter(year);
     return date::from_c(r);
-}
-
-/// The date days days after a date, or before it if days is negative. That of 2000-03-01 and -1 is 2000-02-29.
-/// status::no_date if there is no such date. status::not_fitting if the year of the result does not fit.
-[[nodiscard]] inline result<date> plus_days(const date &of, std::int64_t days) {
-    auto r = cellarcove_plus_days(of.to_c(), days);
-    return r.status == CELLARCOVE_ANSWER ? result<date>(date::from_c(r.date)) : result<date>(static_cast<status>(r.status));
-}
-
-/// The number of days from one date to another, negative if the other is earlier. From 2000-03-01 to 2000-02-28 it is
-/// -2. status::no_date if there is no such date. status::not_fitting if the number does not fit.
-[[nodiscard]] inline result<std::int64_t> days_between(const date &from, const date &to) {
-    auto r = cellarcove_days_between(from.to_c(), to.to_c());
-    return r.status == CELLARCOVE_ANSWER ? result<std::int64_t>(r.value) : result<std::int64_t>(static_cast<status>(r.status));
 }
 
 /// The day of the week of a day, from 1 for Monday to 7 for Sunday. That of 0 is 4.

@@ -23,7 +23,7 @@ pub use text::DateError;
 pub use week_strings::IsoWeekError;
 pub use weekday::{weekday_of, Weekday, WeekdayError};
 pub use weeks::{
-    first_weekday_on_or_after, last_weekday_of_month, last_weekday_on_or_before,
+    first_weekday_on_or_after, last_weekday_of_month, last_weekday_on_or_before, next_last_weekday,
     nth_weekday_of_month,
 };
 pub use years::{days_in_year, is_leap_year};

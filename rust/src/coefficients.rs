@@ -28,7 +28,10 @@ pub(crate) fn next_factors<T: Integer + Copy>(c: T, n: T, k: T) -> (T, T) {
 #[track_caller]
 pub(crate) fn next_coefficient<T: Integer + Copy>(c: T, n: T, k: T) -> T {
     let (x, y) = next_factors(c, n, k);
-    x.exact_product(y, "the binomial coefficient does not fit")
+    x.exact_product(
+        y,
+        crate::guards::Reason("the binomial coefficient does not fit"),
+    )
 }
 
 /// Returns the smaller of `k` and `n - k`.
@@ -196,11 +199,15 @@ pub fn multinomial<T: Integer + Copy>(k: &[T]) -> T {
     let mut multinomial = T::one();
     let mut total = T::zero();
     for count in k {
-        total = T::exact_sum(total, *count, "the multinomial coefficient does not fit");
+        total = T::exact_sum(
+            total,
+            *count,
+            crate::guards::Reason("the multinomial coefficient does not fit"),
+        );
         multinomial = T::exact_product(
             multinomial,
             binomial(total, *count),
-            "the multinomial coefficient does not fit",
+            crate::guards::Reason("the multinomial coefficient does not fit"),
         );
     }
     multinomial

@@ -3,72 +3,84 @@
 //! proved sources.
 //!
 //! A section has clauses. A `requires` is a condition on the arguments, and an `ensures` says what
-//! then holds as the call returns. A `ghost` says what holds of each value of a type, or what the
-//! call of a trait of std returns. A clause may have a name before its braces, as `floored`. In the
+//! holds when the call returns. A `ghost` says what holds of each value of a type, or what the call
+//! of a trait of std returns. A clause may have a name before its braces, as `floored`. In the
 //! documentation of the Rust crate, clauses that only say that numbers lie in their type are left
 //! out.
 //!
-//! Below a section are links to the words that it cites. A `record` holds where each of its lines
+//! Below a section are links to the words that it cites. A `record` holds if each of its lines
 //! does; a line such as `quotient : ℤ` says that there is such a number. Any other word is a
 //! function, given by its equations, or by its cases.
 //!
 //! # Values
 //!
-//! Numbers in a clause are whole numbers without limit, or natural numbers. They neither wrap nor
+//! Numbers in a clause are integers of any size, or natural numbers. They neither wrap nor
 //! overflow.
 //!
-//! | form | meaning |
-//! |---|---|
-//! | `T.value x` | the whole number that the value `x` of the type `T` means; a value of a signed type stands for itself |
-//! | `T.fits z` | the type has the number `z` |
-//! | `T.low`, `T.high` | the least and the greatest number of the type |
-//! | `T.exact` | each operator of the type is exact wherever its result fits, as those of the native types are |
-//! | `result`, `result.0` | what the call returns, and the first part of it |
-//! | `x.now` | what a reference `x` points to; a slice is the list of its items, and a text that of its bytes |
-//! | `x.old`, `x.new` | what a `&mut` points to as the call begins, and as it returns; an iterator is the list of its items |
-//! | `i64.MIN`, `i64.MAX`, `w64` | the ends of `i64`; the width of 64 bits |
-//! | `num_of x`, `date.year` | parts of a fraction and of a date |
+//! - `T.value x`: the integer that the value `x` of the type `T` means; a value of a signed type is
+//!   itself an integer
+//! - `T.fits z`: the type has the number `z`
+//! - `T.low`, `T.high`: the smallest and the largest number of the type
+//! - `T.exact`: each operator of the type is exact if its result fits, as those of the built-in
+//!   types are
+//! - `result`, `result.0`: what the call returns, and its first part
+//! - `x.now`: what a reference `x` points to; a slice is the list of its items, and a string that
+//!   of its bytes
+//! - `x.old`, `x.new`: what a `&mut` points to when the call begins, and when it returns; an
+//!   iterator is the list of its items
+//! - `i64.MIN`, `i64.MAX`, `w64`: the ends of `i64`; the width of 64 bits
+//! - `num_of x`, `date.year`: parts of a fraction and of a date
 //!
 //! # Signs
 //!
-//! | sign | meaning |
-//! |---|---|
-//! | `A × B`, `A ⊎ B`, `¬ A`, `A → B`, `A ↔ B` | both; one of the two; not; the second where the first holds; each where the other does |
-//! | `(z : ℤ) → A`, `(z : ℤ) × A` | for each whole number z; for some whole number z |
-//! | `λ x. A` | the fact or the value A, of x; `(λ x. A) y` is A of y |
-//! | `≡`, `≢` | is equal; is not |
-//! | `+`, `-`, `*`, `/`, `%`, `^`, `<`, `≤` | of natural numbers: a difference below 0 is 0, and a quotient is rounded down |
-//! | `+ℤ`, `-ℤ`, `*ℤ`, `<ℤ`, `≤ℤ` | of whole numbers |
-//! | `==`, `&&`, `\|\|`, `not`, `if .. then .. else ..` | of truth values |
-//! | `[]`, `x ∷ xs`, `xs ++ ys` | the empty list; a list from its first item; one list after another |
-//! | `⊤`, `⊥` | what always holds; what never does |
+//! - `A × B`, `A ⊎ B`, `¬ A`, `A → B`, `A ↔ B`: both; one of the two; not; the second if the first
+//!   holds; each if the other does
+//! - `(z : ℤ) → A`, `(z : ℤ) × A`: for each integer z; for some integer z
+//! - `λ x. A`: the fact or the value A, of x; `(λ x. A) y` is A of y
+//! - `≡`, `≢`: is equal; is not
+//! - `+`, `-`, `*`, `/`, `%`, `^`, `<`, `≤`: of natural numbers: a difference below 0 is 0, and a
+//!   quotient is rounded down
+//! - `+ℤ`, `-ℤ`, `*ℤ`, `<ℤ`, `≤ℤ`: of integers
+//! - `==`, `&&`, `||`, `not`, `if .. then .. else ..`: of truth values
+//! - `[]`, `x ∷ xs`, `xs ++ ys`: the empty list; a list from its first item; one list after another
+//! - `⊤`, `⊥`: what always holds; what never does
 //!
 //! # Words of the toolchain
 //!
-//! | word | meaning |
-//! |---|---|
-//! | `ℕ`, `ℤ`, `Bool`, `List A`, `Option A`, `Result A E`, `Ordering` | natural numbers, whole numbers, truth values, lists, and the enums of std, with `Some`, `None`, `Ok`, `Err` |
-//! | `zero`, `suc n` | 0; n + 1 |
-//! | `pos n`, `negsuc n` | the natural number n as a whole number; the whole number -n - 1, so that `negsuc 0` is -1 |
-//! | `neg_ℤ z`, `unsigned_abs z` | -z; the distance of z from 0, a natural number |
-//! | `int_div a b`, `int_rem a b` | the quotient rounded toward 0; its remainder |
-//! | `int_pow z n`, `int_signum z` | z to the power n; -1, 0 or 1 |
-//! | `int_cmp a b`, `int_eq a b`, `as_partial_cmp c` | how two whole numbers compare; whether they are equal; the comparison c, in `Some` |
-//! | `nat_eq a b`, `nat_lt a b`, `min a b` | whether two natural numbers are equal; whether the first is below; the lesser one |
-//! | `IsTrue b`, `IsFalse b` | b is true; b is false |
-//! | `FitsSigned w64 z` | z lies in `i64` |
-//! | `IsSome r`, `IfSome r P` | r is `Some`; where it is, P holds of its value |
-//! | `MatchOption r A P` | A where r is `None`, and P of the value where it is `Some` |
-//! | `SomeIff r A v` | r is `Some` of v where A holds, and `None` where it does not |
-//! | `IfOk r P`, `IfErr r P` | where r is `Ok`, P holds of its value; where it is `Err`, P holds of the error |
-//! | `All P xs`, `AllWithin P xs i j` | P holds of each item; of each from the place i to before the place j |
-//! | `length xs`, `map f xs`, `sum xs`, `sum_by f xs` | the number of the items; f of each; their sum; the sum of f of each |
-//! | `take n xs`, `drop n xs`, `slice_index xs i` | the first n items; the others; the item at the place i |
-//! | `replicate n x`, `range_with_len a n`, `enumerate_from n xs` | n times x; the n numbers from a on; the items, each after its place, counted from n |
-//! | `IsSortedByKey f c xs`, `IsStrictlyIncreasing xs` | each item is at least the one before, by the order c of f of each; each number is above the one before |
-//! | `YieldsFirstBy f rest s r t` | `next` takes the first of the items `rest s` off, and returns it in `r`: `rest t` are the others |
-//! | `codes "a"`, `decimal n`, `signed_decimal z` | the bytes of a text; of a number |
-//! | `starts_with_minus t`, `IsNumeral 10 t`, `digits_value 10 t` | the text begins with `-`; it has one digit or more, and nothing else; the number that its digits write |
+//! - `ℕ`, `ℤ`, `Bool`, `List A`, `Option A`, `Result A E`, `Ordering`: natural numbers, integers,
+//!   truth values, lists, and the enums of std
+//! - `zero`, `suc n`: 0; n + 1
+//! - `pos n`, `negsuc n`: the natural number n as an integer; the integer -n - 1, so that `negsuc
+//!   0` is -1
+//! - `neg_ℤ z`, `unsigned_abs z`: -z; the distance of z from 0, a natural number
+//! - `int_div a b`, `int_rem a b`: the quotient rounded toward 0; its remainder
+//! - `int_pow z n`, `int_signum z`: z to the power n; -1, 0 or 1
+//! - `int_cmp a b`, `int_eq a b`, `as_partial_cmp c`: how two integers compare; whether they are
+//!   equal; the comparison c, in `Some`
+//! - `nat_eq a b`, `nat_lt a b`, `min a b`: of natural numbers: whether they are equal; whether the
+//!   first is below; the smaller one
+//! - `IsTrue b`, `IsFalse b`: b is true; b is false
+//! - `FitsSigned w64 z`: z lies in `i64`
+//! - `IsSome r`, `IfSome r P`: r is `Some`; if it is, P holds of its value
+//! - `MatchOption r A P`: A if r is `None`, and P of the value if it is `Some`
+//! - `SomeIff r A v`: r is `Some` of v if A holds, and `None` if it does not
+//! - `IfOk r P`, `IfErr r P`: if r is `Ok`, P holds of its value; if it is `Err`, P holds of the
+//!   error
+//! - `All P xs`, `AllWithin P xs i j`, `EachIndex xs P`: P holds of each item; of each from the
+//!   place i to before the place j; of the place of each item
+//! - `length xs`, `map f xs`, `sum xs`, `sum_by f xs`: the number of the items; f of each; their
+//!   sum; the sum of f of each
+//! - `take n xs`, `drop n xs`, `slice_index xs i`: the first n items; the others; the item at the
+//!   place i
+//! - `replicate n x`, `range_with_len a n`, `enumerate_from n xs`: n times x; the n numbers from a
+//!   on; the items, each after its place, counted from n
+//! - `IsSortedByKey f c xs`, `IsStrictlyIncreasing xs`: each item is at least the one before, by
+//!   the order c of f of each; each number is above the one before
+//! - `YieldsFirstBy f rest s r t`: `next` takes the first of the items `rest s` off, and returns it
+//!   in `r`: `rest t` are the others
+//! - `codes "a"`, `decimal n`, `signed_decimal z`: the bytes of a string; of a number
+//! - `starts_with_minus t`, `IsNumeral 10 t`, `digits_value 10 t`: the string begins with `-`; it
+//!   has digits alone, at least one; the number that its digits write
 
 pub mod integer_core {
     //! Words of ranges, division, divisors, Bezout pairs and the turns of their loops.
@@ -1473,6 +1485,20 @@ pub mod calendar {
     //!       ≤ℤ number_of date
     //! ```
     //!
+    //! ## `IsNextLastWeekday`
+    //!
+    //! The date is the first after `after` that is the last such day of the week in its month.
+    //! Examples: Friday: after 2026-10-30: 2026-11-27; after 2026-11-26: 2026-11-27; after
+    //! 2026-11-27: 2026-12-25.
+    //!
+    //! ```text
+    //! pub record IsNextLastWeekday (after : Date) (weekday : Weekday) (date : Date) : Type 0 where
+    //!   pub later : number_of after <ℤ number_of date
+    //!   pub last : IsLastWeekdayOfMonth date.year date.month weekday date
+    //!     pub first : (other : Date) → number_of after <ℤ number_of other → IsLastWeekdayOfMonth
+    //!       other.year other.month weekday other → number_of date ≤ℤ number_of other
+    //! ```
+    //!
     //! ## `IsGolden`
     //!
     //! This is the golden number of the year minus 1: its place in the moon's cycle of 19 years.
@@ -1946,6 +1972,37 @@ pub mod calendar {
 pub mod applied {
     //! Words of paging, schedules, ranking, alignment and hashing.
     //!
+    //! ## `falling`
+    //!
+    //! The falling factorial, the product n · (n - 1) · .. of k factors: in how many ways k of n
+    //! things stand in a row. Examples: of 5 and 2: 20; of 5 and 5: 120; of 5 and 0: 1; of 2 and 3:
+    //! 0.
+    //!
+    //! ```text
+    //! unfoldable pub falling : ℕ → ℕ → ℕ
+    //! falling n zero = 1
+    //! falling zero (suc k) = 0
+    //! falling (suc n) (suc k) = suc n * falling n k
+    //! ```
+    //!
+    //! ## `falling_of`
+    //!
+    //! The falling factorial of two integers that are not negative. Examples: of 5 and 2: 20.
+    //!
+    //! ```text
+    //! abbrev pub falling_of : ℤ → ℤ → ℤ
+    //! falling_of n k = pos (falling (unsigned_abs n) (unsigned_abs k))
+    //! ```
+    //!
+    //! ## `factorial_of`
+    //!
+    //! The factorial of an integer that is not negative. Examples: of 4: 24; of 0: 1.
+    //!
+    //! ```text
+    //! abbrev pub factorial_of : ℤ → ℤ
+    //! factorial_of n = pos (factorial (unsigned_abs n))
+    //! ```
+    //!
     //! ## `weighted_sum`
     //!
     //! This is the sum of the bytes, each times the base to the power of the number of bytes after
@@ -1968,6 +2025,41 @@ pub mod applied {
     //!   pub from_offset : offset ≤ℤ aligned
     //!   pub multiple : Divides alignment aligned
     //!   pub least : (other : ℤ) → offset ≤ℤ other → Divides alignment other → aligned ≤ℤ other
+    //! ```
+    //!
+    //! ## `IsGreatestCommonDivisorOf`
+    //!
+    //! g is at least 0, divides each number of the list, and each number that divides all of them
+    //! divides g. Examples: 12, 18, 8: 2; -4: 4; 0, 5: 5; the empty list: 0.
+    //!
+    //! ```text
+    //! pub record IsGreatestCommonDivisorOf (numbers : List ℤ) (g : ℤ) : Type 0 where
+    //!   pub from_zero : pos 0 ≤ℤ g
+    //!   pub divides_each : All (λ x. Divides g x) numbers
+    //!   pub greatest : (d : ℤ) → All (λ x. Divides d x) numbers → Divides d g
+    //! ```
+    //!
+    //! ## `IsLeastCommonMultipleOf`
+    //!
+    //! l is at least 0, each number of the list divides it, and it divides each number that all of
+    //! them divide. Examples: 4, 6, 10: 60; -4: 4; 0, 5: 0; the empty list: 1.
+    //!
+    //! ```text
+    //! pub record IsLeastCommonMultipleOf (numbers : List ℤ) (l : ℤ) : Type 0 where
+    //!   pub from_zero : pos 0 ≤ℤ l
+    //!   pub each_divides : All (λ x. Divides x l) numbers
+    //!   pub least : (m : ℤ) → All (λ x. Divides x m) numbers → Divides l m
+    //! ```
+    //!
+    //! ## `GcdOfFits`
+    //!
+    //! The greatest common divisor of the list fits. Only a type that has -1 has to meet this: any
+    //! other type has the gcd of any of its numbers. Examples: u8: 255, 0, as each list; i8: -128,
+    //! 0, 6; not -128, 0.
+    //!
+    //! ```text
+    //! abbrev pub GcdOfFits : (ℤ → Type 0) → List ℤ → Type 0
+    //! GcdOfFits fits numbers = fits (negsuc 0) → EachFits fits (IsGreatestCommonDivisorOf numbers)
     //! ```
     //!
     //! ## `IsPlace`
@@ -2028,6 +2120,18 @@ pub mod applied {
     //!   pub ends : end ≡ cut (part +ℤ pos 1)
     //! ```
     //!
+    //! ## `IsLogarithm`
+    //!
+    //! k is the logarithm of n to the base, rounded down: the power of the base of degree k is at
+    //! most n, and the next one is above n. Examples: of 1000 to the base 10: 3; of 999: 2; of 1:
+    //! 0; none of 0.
+    //!
+    //! ```text
+    //! pub record IsLogarithm (base n : ℤ) (k : ℕ) : Type 0 where
+    //!   pub power_le : int_pow base k ≤ℤ n
+    //!   pub next_power_gt : n <ℤ int_pow base (k + 1)
+    //! ```
+    //!
     //! ## `IsChoice`
     //!
     //! Each number is below n, and above the number before it. Examples: n 5: 0, 2, 3; the empty
@@ -2077,6 +2181,57 @@ pub mod applied {
     //!       slice_index second later
     //! ```
     //!
+    //! ## `HasSignOf`
+    //!
+    //! x is positive exactly if a is, and negative exactly if a is. Examples: 12 and 3; -5 and -1;
+    //! 0 and 0; not 0 and 1.
+    //!
+    //! ```text
+    //! pub record HasSignOf (a x : ℤ) : Type 0 where
+    //!   pub positive : (pos 0 <ℤ x) ↔ (pos 0 <ℤ a)
+    //!   pub negative : (x <ℤ pos 0) ↔ (a <ℤ pos 0)
+    //! ```
+    //!
+    //! ## `IsReducedPair`
+    //!
+    //! x and y are in the ratio of a and b, and have their signs. If a or b is not 0, x and y are
+    //! coprime. Examples: 1920 and 1080: 16 and 9; -6 and 4: -3 and 2; 0 and -5: 0 and -1; 0 and 0:
+    //! 0 and 0.
+    //!
+    //! ```text
+    //! pub record IsReducedPair (a b x y : ℤ) : Type 0 where
+    //!   pub ratio : a *ℤ y ≡ b *ℤ x
+    //!   pub first_sign : HasSignOf a x
+    //!   pub second_sign : HasSignOf b y
+    //!   pub coprime : (a ≢ pos 0) ⊎ (b ≢ pos 0) → IsGreatestCommonDivisor x y (pos 1)
+    //! ```
+    //!
+    //! ## `IsNearest`
+    //!
+    //! q is the integer nearest to n by d, and of two equally near the one farther from 0: what is
+    //! left, r, is at most half of d. Examples: 7 by 3: 2, 1; 8 by 3: 3, -1; 5 by 2: 3, -1; -5 by
+    //! 2: -3, 1.
+    //!
+    //! ```text
+    //! pub record IsNearest (n d q r : ℤ) : Type 0 where
+    //!   pub division : IsDivision n d q r
+    //!   pub nearest : 2 * unsigned_abs r ≤ unsigned_abs d
+    //!   pub tie : 2 * unsigned_abs r ≡ unsigned_abs d → unsigned_abs n < unsigned_abs (q *ℤ d)
+    //! ```
+    //!
+    //! ## `IsNearestEven`
+    //!
+    //! q is the integer nearest to n by d, and of two equally near the even one: what is left, r,
+    //! is at most half of d. Examples: 7 by 3: 2, 1; 8 by 3: 3, -1; 5 by 2: 2, 1; -5 by 2: -2, -1;
+    //! 7 by 2: 4, -1.
+    //!
+    //! ```text
+    //! pub record IsNearestEven (n d q r : ℤ) : Type 0 where
+    //!   pub division : IsDivision n d q r
+    //!   pub nearest : 2 * unsigned_abs r ≤ unsigned_abs d
+    //!   pub tie : 2 * unsigned_abs r ≡ unsigned_abs d → IsEven q
+    //! ```
+    //!
     //! ## `IsTime`
     //!
     //! The time t is the first time, or whole periods after it. Examples: first 3, period 6: 3; 9;
@@ -2122,6 +2277,56 @@ pub mod applied {
     //! IsLeastTime value fits now P answer = MatchCommonSolution answer ((t : ℤ) → ¬ (P t)) ((t :
     //!     ℤ) × IsLeastFrom now P t × ¬ (fits t)) (λ t. fits (value t) × IsLeastFrom now P (value
     //!     t))
+    //! ```
+    //!
+    //! ## `AreShares`
+    //!
+    //! The shares of the first k weights together are their exact share, amount · (sum of these
+    //! weights) / (sum of all weights), rounded up, for each k. Examples: amount 100: weights 1, 1,
+    //! 1: 34, 33, 33; weights 1, 2: 34, 66; weights 0, 3: 0, 100; no shares for weights 0, 0.
+    //!
+    //! ```text
+    //! pub record AreShares (amount : ℕ) (weights shares : List ℕ) : Type 0 where
+    //!   pub one_each : length shares ≡ length weights
+    //!     pub enough : (k : ℕ) → k ≤ length weights → amount * sum (take k weights) ≤ sum (take k
+    //!       shares) * sum weights
+    //!     pub fewest : (k : ℕ) → k ≤ length weights → sum (take k shares) * sum weights < amount *
+    //!       sum (take k weights) + sum weights
+    //! ```
+    //!
+    //! ## `IsNearShare`
+    //!
+    //! The share differs by less than 1 from the exact share, amount · weight / total. Examples:
+    //! amount 100, weight 1, total 3: 33; 34; not 32; not 35. Amount 100, weight 1, total 4: 25;
+    //! not 26.
+    //!
+    //! ```text
+    //! pub record IsNearShare (amount weight total share : ℕ) : Type 0 where
+    //!   pub not_above : share * total < amount * weight + total
+    //!   pub not_below : amount * weight < share * total + total
+    //! ```
+    //!
+    //! ## `signed_sum`
+    //!
+    //! This is the sum of signed numbers. Examples: -34, -33, -33: -100; 5, -7: -2; no numbers: 0.
+    //!
+    //! ```text
+    //! abbrev pub signed_sum : List ℤ → ℤ
+    //! signed_sum [] = pos 0
+    //! signed_sum (number ∷ numbers) = number +ℤ signed_sum numbers
+    //! ```
+    //!
+    //! ## `AreSignedShares`
+    //!
+    //! The magnitudes are the shares of the magnitude of the amount, and no share has the opposite
+    //! sign. Examples: weights 1, 1, 1: amount -100: -34, -33, -33; amount 100: 34, 33, 33; amount
+    //! 0: 0, 0, 0.
+    //!
+    //! ```text
+    //! pub record AreSignedShares (amount : ℤ) (weights : List ℕ) (shares : List ℤ) : Type 0 where
+    //!   pub magnitudes : AreShares (unsigned_abs amount) weights (map unsigned_abs shares)
+    //!   pub from_zero : pos 0 ≤ℤ amount → All (λ share. pos 0 ≤ℤ share) shares
+    //!   pub to_zero : amount ≤ℤ pos 0 → All (λ share. share ≤ℤ pos 0) shares
     //! ```
     //!
 }

@@ -3,6 +3,7 @@
 
 use crate::bounded_coefficients::{coefficient_within, RunningMultinomial};
 use crate::integer_core::operators::{difference, is_minus_one};
+use crate::integer_core::Magnitudes;
 use crate::integer_core::{Integer, NativeInteger};
 use crate::sign_magnitude::{product_is_within, sum_is_within};
 use num_traits::ToPrimitive;

@@ -5,6 +5,51 @@
 use crate::{checked, Integer};
 use num_traits::{Bounded, CheckedAdd, CheckedMul, CheckedSub, NumCast, ToPrimitive};
 
+/// Why a hidden method of `Integer` panics. No other crate can make one or name the type, so no
+/// other crate calls these methods.
+///
+/// ```compile_fail
+/// use cellarcove::Integer;
+///
+/// 1u8.exact_sum(2, "the sum does not fit");
+/// ```
+///
+/// Nor does it call what the crate has of a built-in type beside the public traits:
+///
+/// ```compile_fail
+/// fn magnitude<T: cellarcove::NativeInteger>(x: T) -> T::Magnitude {
+///     x.magnitude()
+/// }
+/// ```
+///
+/// ```compile_fail
+/// fn from_magnitude<T: cellarcove::NativeInteger>(magnitude: T::Magnitude) -> T {
+///     T::from_magnitude(magnitude)
+/// }
+/// ```
+///
+/// ```compile_fail
+/// fn twos<T: cellarcove::NativeInteger>(magnitude: T::Magnitude) -> u32 {
+///     magnitude.odd_part().1
+/// }
+/// ```
+///
+/// These it can:
+///
+/// ```
+/// fn leading_zeros<T: cellarcove::NativeInteger>(x: T) -> u32 {
+///     x.leading_zeros()
+/// }
+///
+/// fn same<T: cellarcove::NativeInteger>(magnitude: T::Magnitude) -> T::Magnitude {
+///     magnitude
+/// }
+///
+/// assert_eq!((leading_zeros(1u8), same::<i8>(5)), (7, 5));
+/// ```
+#[derive(Clone, Copy, Debug)]
+pub struct Reason(pub(crate) &'static str);
+
 /// Panics with the reason. The place that the panic names is that of the first call of the crate.
 #[cold]
 #[inline(never)]
@@ -53,7 +98,7 @@ pub(crate) fn number<M: ToPrimitive, T: NumCast>(magnitude: M, reason: &'static 
 /// Tests that the greatest common divisor fits, and that the type has a pair of coefficients.
 #[inline]
 #[track_caller]
-pub(crate) fn expect_pair<T: Integer + Bounded + Copy>(a: T, b: T) {
+pub(crate) fn expect_pair<T: Integer + Bounded + Copy>(a: T, b: T, reason: Reason) {
     let (zero, least) = (T::zero(), T::min_value());
     if least < zero {
         let is_end = |x: T| x == zero || x == least;
@@ -61,7 +106,7 @@ pub(crate) fn expect_pair<T: Integer + Bounded + Copy>(a: T, b: T) {
             refuse("the greatest common divisor does not fit");
         }
     } else if !a.is_multiple_of(&b) && !b.is_multiple_of(&a) {
-        refuse("no pair of coefficients fits the unsigned type");
+        refuse(reason.0);
     }
 }
 

@@ -3,7 +3,7 @@
 //! Integer division for every lawful integer type, after the Rust crate `num-integer`.
 
 mod bezout;
-pub mod counted;
+pub(crate) mod counted;
 mod division;
 mod divisors;
 mod native;
@@ -12,8 +12,10 @@ mod native_integer;
 pub mod operators;
 mod stein;
 
+use crate::guards::Reason;
 use bezout::extended_gcd_counted;
 pub use bezout::ExtendedGcd;
+pub(crate) use native::Magnitudes;
 pub use native_integer::NativeInteger;
 use num_traits::{Num, Signed};
 use operators::{difference, predecessor, successor, sum};
@@ -46,7 +48,8 @@ use operators::{difference, predecessor, successor, sum};
     has_diagnostic,
     diagnostic::on_unimplemented(
         message = "`{Self}` does not implement `Integer` of cellarcove",
-        note = "the twelve built-in integer types implement it; a type of your own implements it by hand"
+        note = "the twelve built-in integer types implement it",
+        note = "a type of your own implements it by hand"
     )
 )]
 pub trait Integer: Sized + Num + PartialOrd + Ord + Eq {
@@ -460,6 +463,16 @@ pub trait Integer: Sized + Num + PartialOrd + Ord + Eq {
     /// May be called if `self` is below the largest number of the type;
     /// [`checked::inc`](crate::checked::inc) has no condition.
     ///
+    /// # Examples
+    ///
+    /// ```
+    /// use cellarcove::Integer;
+    ///
+    /// let mut x = 5;
+    /// x.inc();
+    /// assert_eq!(x, 6);
+    /// ```
+    ///
     /// # Panics
     ///
     /// If the result does not fit.
@@ -489,6 +502,16 @@ pub trait Integer: Sized + Num + PartialOrd + Ord + Eq {
     ///
     /// May be called if `self` is above the smallest number of the type;
     /// [`checked::dec`](crate::checked::dec) has no condition.
+    ///
+    /// # Examples
+    ///
+    /// ```
+    /// use cellarcove::Integer;
+    ///
+    /// let mut x = 5;
+    /// x.dec();
+    /// assert_eq!(x, 4);
+    /// ```
     ///
     /// # Panics
     ///
@@ -742,7 +765,7 @@ pub trait Integer: Sized + Num + PartialOrd + Ord + Eq {
     #[inline]
     #[track_caller]
     #[must_use]
-    fn exact_sum(self, other: Self, _reason: &'static str) -> Self {
+    fn exact_sum(self, other: Self, _reason: Reason) -> Self {
         self + other
     }
 
@@ -750,7 +773,7 @@ pub trait Integer: Sized + Num + PartialOrd + Ord + Eq {
     #[inline]
     #[track_caller]
     #[must_use]
-    fn exact_difference(self, other: Self, _reason: &'static str) -> Self {
+    fn exact_difference(self, other: Self, _reason: Reason) -> Self {
         self - other
     }
 
@@ -758,19 +781,19 @@ pub trait Integer: Sized + Num + PartialOrd + Ord + Eq {
     #[inline]
     #[track_caller]
     #[must_use]
-    fn exact_product(self, other: Self, _reason: &'static str) -> Self {
+    fn exact_product(self, other: Self, _reason: Reason) -> Self {
         self * other
     }
 
     #[doc(hidden)]
     #[inline]
     #[track_caller]
-    fn expect_pair(&self, _other: &Self) {}
+    fn expect_pair(&self, _other: &Self, _reason: Reason) {}
 
     #[doc(hidden)]
     #[inline]
     #[track_caller]
-    fn expect_lcm(&self, _other: &Self) {}
+    fn expect_lcm(&self, _other: &Self, _reason: Reason) {}
 }
 
 /// Returns the quotient rounded toward zero, and its remainder.

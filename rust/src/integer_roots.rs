@@ -2,7 +2,7 @@
 //! Averages and roots of every lawful integer type, after the Rust crate `num-integer`.
 
 mod averages;
-pub mod counted;
+pub(crate) mod counted;
 mod cube_root;
 mod magnitude_roots;
 mod newton;

@@ -145,7 +145,10 @@ pub fn rank(choice: &[u64], n: u64) -> u64 {
 /// ```
 /// use cellarcove::ranking::choice_of_rank;
 ///
-/// assert_eq!({ let mut choice = [0; 3]; choice_of_rank(2, 5, &mut choice); choice }, [0, 2, 3]);
+/// assert_eq!(
+///     { let mut choice = [0; 3]; choice_of_rank(2, 5, &mut choice); choice },
+///     [0, 2, 3]
+/// );
 /// ```
 ///
 /// # Panics

@@ -34,18 +34,42 @@ pub struct RollingHash {
 
 impl RollingHash {
     /// Returns the `base`.
+    ///
+    /// # Examples
+    ///
+    /// ```
+    /// use cellarcove::rolling_hash::RollingHash;
+    ///
+    /// assert_eq!(RollingHash::new(10, 97, 2).base(), 10);
+    /// ```
     #[must_use]
     pub const fn base(&self) -> u64 {
         self.base
     }
 
     /// Returns the `modulus`.
+    ///
+    /// # Examples
+    ///
+    /// ```
+    /// use cellarcove::rolling_hash::RollingHash;
+    ///
+    /// assert_eq!(RollingHash::new(10, 97, 2).modulus(), 97);
+    /// ```
     #[must_use]
     pub const fn modulus(&self) -> u64 {
         self.modulus
     }
 
     /// How many bytes stay in the window when it slides: its length minus 1.
+    ///
+    /// # Examples
+    ///
+    /// ```
+    /// use cellarcove::rolling_hash::RollingHash;
+    ///
+    /// assert_eq!(RollingHash::new(10, 97, 2).kept(), 2);
+    /// ```
     #[must_use]
     pub const fn kept(&self) -> u64 {
         self.kept

@@ -730,6 +730,46 @@ static PyObject *py_extended_gcd(PyObject *module, PyObject *const *args, Py_ssi
     return run(&call_extended_gcd, args, count, names);
 }
 
+static PyObject *py_gcd_of(PyObject *module, PyObject *object) {
+    (void)module;
+    Py_buffer view;
+    uint64_t *numbers;
+    Py_ssize_t count;
+    if (numbers_of(object, "gcd_of", &view, &numbers, &count) != 0) {
+        return NULL;
+    }
+    cellarcove_u64_answer r;
+    Py_BEGIN_ALLOW_THREADS
+    r = cellarcove_gcd_of_u64(numbers != NULL ? numbers : view.buf, (size_t)count);
+    Py_END_ALLOW_THREADS
+    if (numbers != NULL) {
+        PyMem_Free(numbers);
+    } else {
+        PyBuffer_Release(&view);
+    }
+    return r.status == CELLARCOVE_ANSWER ? PyLong_FromUnsignedLongLong(r.value) : refused(r.status, false);
+}
+
+static PyObject *py_lcm_of(PyObject *module, PyObject *object) {
+    (void)module;
+    Py_buffer view;
+    uint64_t *numbers;
+    Py_ssize_t count;
+    if (numbers_of(object, "lcm_of", &view, &numbers, &count) != 0) {
+        return NULL;
+    }
+    cellarcove_u64_answer r;
+    Py_BEGIN_ALLOW_THREADS
+    r = cellarcove_lcm_of_u64(numbers != NULL ? numbers : view.buf, (size_t)count);
+    Py_END_ALLOW_THREADS
+    if (numbers != NULL) {
+        PyMem_Free(numbers);
+    } else {
+        PyBuffer_Release(&view);
+    }
+    return r.status == CELLARCOVE_ANSWER ? PyLong_FromUnsignedLongLong(r.value) : refused(r.status, false);
+}
+
 static PyObject *one_average_floor_i64(const cell *a, uint32_t *status) {
     int64_t r = cellarcove_average_floor_i64((int64_t)a[0].i, (int64_t)a[1].i);
     (void)status;
@@ -936,6 +976,105 @@ static PyObject *py_nth_root(PyObject *module, PyObject *const *args, Py_ssize_t
     return run(&call_nth_root, args, count, names);
 }
 
+static PyObject *one_is_square_i64(const cell *a, uint32_t *status) {
+    bool r = cellarcove_is_square_i64((int64_t)a[0].i);
+    (void)status;
+    return PyBool_FromLong(r);
+}
+
+static void many_is_square_i64(Py_ssize_t count, char *const *in, const Py_ssize_t *steps, char *const *out) {
+    for (Py_ssize_t k = 0; k < count; k++) {
+        bool r = cellarcove_is_square_i64(AT(int64_t, 0));
+        TO(uint8_t, 0) = r;
+    }
+}
+
+static const form form_is_square_i64 = {"q", "?", false, one_is_square_i64, many_is_square_i64};
+
+static PyObject *one_is_square_u64(const cell *a, uint32_t *status) {
+    bool r = cellarcove_is_square_u64((uint64_t)a[0].u);
+    (void)status;
+    return PyBool_FromLong(r);
+}
+
+static void many_is_square_u64(Py_ssize_t count, char *const *in, const Py_ssize_t *steps, char *const *out) {
+    for (Py_ssize_t k = 0; k < count; k++) {
+        bool r = cellarcove_is_square_u64(AT(uint64_t, 0));
+        TO(uint8_t, 0) = r;
+    }
+}
+
+static const form form_is_square_u64 = {"Q", "?", false, one_is_square_u64, many_is_square_u64};
+
+static const call call_is_square = {"is_square", 1, {"x"}, "n",
+    (const bool[]){false}, (const bool[]){true}, NULL, &form_is_square_i64, &form_is_square_u64};
+
+static PyObject *py_is_square(PyObject *module, PyObject *const *args, Py_ssize_t count, PyObject *names) {
+    (void)module;
+    return run(&call_is_square, args, count, names);
+}
+
+static PyObject *one_is_power_i64(const cell *a, uint32_t *status) {
+    bool r = cellarcove_is_power_i64((int64_t)a[0].i, (uint32_t)a[1].u);
+    (void)status;
+    return PyBool_FromLong(r);
+}
+
+static void many_is_power_i64(Py_ssize_t count, char *const *in, const Py_ssize_t *steps, char *const *out) {
+    for (Py_ssize_t k = 0; k < count; k++) {
+        bool r = cellarcove_is_power_i64(AT(int64_t, 0), AT(uint32_t, 1));
+        TO(uint8_t, 0) = r;
+    }
+}
+
+static const form form_is_power_i64 = {"qI", "?", false, one_is_power_i64, many_is_power_i64};
+
+static PyObject *one_is_power_u64(const cell *a, uint32_t *status) {
+    bool r = cellarcove_is_power_u64((uint64_t)a[0].u, (uint32_t)a[1].u);
+    (void)status;
+    return PyBool_FromLong(r);
+}
+
+static void many_is_power_u64(Py_ssize_t count, char *const *in, const Py_ssize_t *steps, char *const *out) {
+    for (Py_ssize_t k = 0; k < count; k++) {
+        bool r = cellarcove_is_power_u64(AT(uint64_t, 0), AT(uint32_t, 1));
+        TO(uint8_t, 0) = r;
+    }
+}
+
+static const form form_is_power_u64 = {"QI", "?", false, one_is_power_u64, many_is_power_u64};
+
+static const call call_is_power = {"is_power", 2, {"x", "degree"}, "nn",
+    (const bool[]){false, false}, (const bool[]){true, false}, NULL, &form_is_power_i64, &form_is_power_u64};
+
+static PyObject *py_is_power(PyObject *module, PyObject *const *args, Py_ssize_t count, PyObject *names) {
+    (void)module;
+    return run(&call_is_power, args, count, names);
+}
+
+static PyObject *one_is_perfect_power_u64(const cell *a, uint32_t *status) {
+    bool r = cellarcove_is_perfect_power_u64((uint64_t)a[0].u);
+    (void)status;
+    return PyBool_FromLong(r);
+}
+
+static void many_is_perfect_power_u64(Py_ssize_t count, char *const *in, const Py_ssize_t *steps, char *const *out) {
+    for (Py_ssize_t k = 0; k < count; k++) {
+        bool r = cellarcove_is_perfect_power_u64(AT(uint64_t, 0));
+        TO(uint8_t, 0) = r;
+    }
+}
+
+static const form form_is_perfect_power_u64 = {"Q", "?", false, one_is_perfect_power_u64, many_is_perfect_power_u64};
+
+static const call call_is_perfect_power = {"is_perfect_power", 1, {"x"}, "n",
+    (const bool[]){false}, (const bool[]){false}, &form_is_perfect_power_u64, NULL, NULL};
+
+static PyObject *py_is_perfect_power(PyObject *module, PyObject *const *args, Py_ssize_t count, PyObject *names) {
+    (void)module;
+    return run(&call_is_perfect_power, args, count, names);
+}
+
 static PyObject *one_binomial_i64(const cell *a, uint32_t *status) {
     cellarcove_i64_answer r = cellarcove_binomial_i64((int64_t)a[0].i, (int64_t)a[1].i);
     if (r.status != CELLARCOVE_ANSWER) {
@@ -993,6 +1132,31 @@ static PyObject *py_multinomial(PyObject *module, PyObject *object) {
     cellarcove_u64_answer r;
     Py_BEGIN_ALLOW_THREADS
     r = cellarcove_multinomial_u64(numbers != NULL ? numbers : view.buf, (size_t)count);
+    Py_END_ALLOW_THREADS
+    if (numbers != NULL) {
+        PyMem_Free(numbers);
+    } else {
+        PyBuffer_Release(&view);
+    }
+    return r.status == CELLARCOVE_ANSWER ? PyLong_FromUnsignedLongLong(r.value) : refused(r.status, false);
+}
+
+static PyObject *py_rank(PyObject *module, PyObject *const *args, Py_ssize_t given) {
+    PyObject *object = given == 2 ? args[0] : NULL;
+    (void)module;
+    cell others[1];
+    if (others_of("rank", args, given, 1, others) != 0) {
+        return NULL;
+    }
+    Py_buffer view;
+    uint64_t *numbers;
+    Py_ssize_t count;
+    if (numbers_of(object, "rank", &view, &numbers, &count) != 0) {
+        return NULL;
+    }
+    cellarcove_u64_answer r;
+    Py_BEGIN_ALLOW_THREADS
+    r = cellarcove_rank_u64(numbers != NULL ? numbers : view.buf, (size_t)count, others[0].u);
     Py_END_ALLOW_THREADS
     if (numbers != NULL) {
         PyMem_Free(numbers);
@@ -1232,146 +1396,6 @@ static PyObject *py_inverse_modulo(PyObject *module, PyObject *const *args, Py_s
     return run(&call_inverse_modulo, args, count, names);
 }
 
-static PyObject *one_chinese_remainder_i64(const cell *a, uint32_t *status) {
-    cellarcove_i64_solutions r = cellarcove_chinese_remainder_i64((int64_t)a[0].i, (int64_t)a[1].i, (int64_t)a[2].i, (int64_t)a[3].i);
-    if (r.status != CELLARCOVE_ANSWER) {
-        *status = r.status;
-        return NULL;
-    }
-    return tuple_of(class_solutions, 2, (PyObject *[]){PyLong_FromLongLong(r.first), PyLong_FromLongLong(r.step)});
-}
-
-static void many_chinese_remainder_i64(Py_ssize_t count, char *const *in, const Py_ssize_t *steps, char *const *out) {
-    for (Py_ssize_t k = 0; k < count; k++) {
-        cellarcove_i64_solutions r = cellarcove_chinese_remainder_i64(AT(int64_t, 0), AT(int64_t, 1), AT(int64_t, 2), AT(int64_t, 3));
-        TO(int64_t, 0) = r.first;
-        TO(int64_t, 1) = r.step;
-        TO(uint8_t, 2) = (uint8_t)r.status;
-    }
-}
-
-static const form form_chinese_remainder_i64 = {"qqqq", "qqB", true, one_chinese_remainder_i64, many_chinese_remainder_i64};
-
-static PyObject *one_chinese_remainder_u64(const cell *a, uint32_t *status) {
-    cellarcove_u64_solutions r = cellarcove_chinese_remainder_u64((uint64_t)a[0].u, (uint64_t)a[1].u, (uint64_t)a[2].u, (uint64_t)a[3].u);
-    if (r.status != CELLARCOVE_ANSWER) {
-        *status = r.status;
-        return NULL;
-    }
-    return tuple_of(class_solutions, 2, (PyObject *[]){PyLong_FromUnsignedLongLong(r.first), PyLong_FromUnsignedLongLong(r.step)});
-}
-
-static void many_chinese_remainder_u64(Py_ssize_t count, char *const *in, const Py_ssize_t *steps, char *const *out) {
-    for (Py_ssize_t k = 0; k < count; k++) {
-        cellarcove_u64_solutions r = cellarcove_chinese_remainder_u64(AT(uint64_t, 0), AT(uint64_t, 1), AT(uint64_t, 2), AT(uint64_t, 3));
-        TO(uint64_t, 0) = r.first;
-        TO(uint64_t, 1) = r.step;
-        TO(uint8_t, 2) = (uint8_t)r.status;
-    }
-}
-
-static const form form_chinese_remainder_u64 = {"QQQQ", "QQB", true, one_chinese_remainder_u64, many_chinese_remainder_u64};
-
-static const call call_chinese_remainder = {"chinese_remainder", 4, {"a", "m", "b", "n"}, "nnnn",
-    (const bool[]){false, true, false, true}, (const bool[]){true, true, true, true}, NULL, &form_chinese_remainder_i64, &form_chinese_remainder_u64};
-
-static PyObject *py_chinese_remainder(PyObject *module, PyObject *const *args, Py_ssize_t count, PyObject *names) {
-    (void)module;
-    return run(&call_chinese_remainder, args, count, names);
-}
-
-static PyObject *one_next_congruent_i64(const cell *a, uint32_t *status) {
-    cellarcove_i64_answer r = cellarcove_next_congruent_i64((int64_t)a[0].i, (int64_t)a[1].i, (int64_t)a[2].i);
-    if (r.status != CELLARCOVE_ANSWER) {
-        *status = r.status;
-        return NULL;
-    }
-    return PyLong_FromLongLong(r.value);
-}
-
-static void many_next_congruent_i64(Py_ssize_t count, char *const *in, const Py_ssize_t *steps, char *const *out) {
-    for (Py_ssize_t k = 0; k < count; k++) {
-        cellarcove_i64_answer r = cellarcove_next_congruent_i64(AT(int64_t, 0), AT(int64_t, 1), AT(int64_t, 2));
-        TO(int64_t, 0) = r.value;
-        TO(uint8_t, 1) = (uint8_t)r.status;
-    }
-}
-
-static const form form_next_congruent_i64 = {"qqq", "qB", true, one_next_congruent_i64, many_next_congruent_i64};
-
-static PyObject *one_next_congruent_u64(const cell *a, uint32_t *status) {
-    cellarcove_u64_answer r = cellarcove_next_congruent_u64((uint64_t)a[0].u, (uint64_t)a[1].u, (uint64_t)a[2].u);
-    if (r.status != CELLARCOVE_ANSWER) {
-        *status = r.status;
-        return NULL;
-    }
-    return PyLong_FromUnsignedLongLong(r.value);
-}
-
-static void many_next_congruent_u64(Py_ssize_t count, char *const *in, const Py_ssize_t *steps, char *const *out) {
-    for (Py_ssize_t k = 0; k < count; k++) {
-        cellarcove_u64_answer r = cellarcove_next_congruent_u64(AT(uint64_t, 0), AT(uint64_t, 1), AT(uint64_t, 2));
-        TO(uint64_t, 0) = r.value;
-        TO(uint8_t, 1) = (uint8_t)r.status;
-    }
-}
-
-static const form form_next_congruent_u64 = {"QQQ", "QB", true, one_next_congruent_u64, many_next_congruent_u64};
-
-static const call call_next_congruent = {"next_congruent", 3, {"start", "first", "step"}, "nnn",
-    (const bool[]){false, false, true}, (const bool[]){true, true, true}, NULL, &form_next_congruent_i64, &form_next_congruent_u64};
-
-static PyObject *py_next_congruent(PyObject *module, PyObject *const *args, Py_ssize_t count, PyObject *names) {
-    (void)module;
-    return run(&call_next_congruent, args, count, names);
-}
-
-static PyObject *one_next_common_solution_i64(const cell *a, uint32_t *status) {
-    cellarcove_i64_answer r = cellarcove_next_common_solution_i64((int64_t)a[0].i, (int64_t)a[1].i, (int64_t)a[2].i, (int64_t)a[3].i, (int64_t)a[4].i);
-    if (r.status != CELLARCOVE_ANSWER) {
-        *status = r.status;
-        return NULL;
-    }
-    return PyLong_FromLongLong(r.value);
-}
-
-static void many_next_common_solution_i64(Py_ssize_t count, char *const *in, const Py_ssize_t *steps, char *const *out) {
-    for (Py_ssize_t k = 0; k < count; k++) {
-        cellarcove_i64_answer r = cellarcove_next_common_solution_i64(AT(int64_t, 0), AT(int64_t, 1), AT(int64_t, 2), AT(int64_t, 3), AT(int64_t, 4));
-        TO(int64_t, 0) = r.value;
-        TO(uint8_t, 1) = (uint8_t)r.status;
-    }
-}
-
-static const form form_next_common_solution_i64 = {"qqqqq", "qB", true, one_next_common_solution_i64, many_next_common_solution_i64};
-
-static PyObject *one_next_common_solution_u64(const cell *a, uint32_t *status) {
-    cellarcove_u64_answer r = cellarcove_next_common_solution_u64((uint64_t)a[0].u, (uint64_t)a[1].u, (uint64_t)a[2].u, (uint64_t)a[3].u, (uint64_t)a[4].u);
-    if (r.status != CELLARCOVE_ANSWER) {
-        *status = r.status;
-        return NULL;
-    }
-    return PyLong_FromUnsignedLongLong(r.value);
-}
-
-static void many_next_common_solution_u64(Py_ssize_t count, char *const *in, const Py_ssize_t *steps, char *const *out) {
-    for (Py_ssize_t k = 0; k < count; k++) {
-        cellarcove_u64_answer r = cellarcove_next_common_solution_u64(AT(uint64_t, 0), AT(uint64_t, 1), AT(uint64_t, 2), AT(uint64_t, 3), AT(uint64_t, 4));
-        TO(uint64_t, 0) = r.value;
-        TO(uint8_t, 1) = (uint8_t)r.status;
-    }
-}
-
-static const form form_next_common_solution_u64 = {"QQQQQ", "QB", true, one_next_common_solution_u64, many_next_common_solution_u64};
-
-static const call call_next_common_solution = {"next_common_solution", 5, {"start", "a", "m", "b", "n"}, "nnnnn",
-    (const bool[]){false, false, true, false, true}, (const bool[]){true, true, true, true, true}, NULL, &form_next_common_solution_i64, &form_next_common_solution_u64};
-
-static PyObject *py_next_common_solution(PyObject *module, PyObject *const *args, Py_ssize_t count, PyObject *names) {
-    (void)module;
-    return run(&call_next_common_solution, args, count, names);
-}
-
 static PyObject *one_quotient_modulo_i64(const cell *a, uint32_t *status) {
     cellarcove_i64_answer r = cellarcove_quotient_modulo_i64((int64_t)a[0].i, (int64_t)a[1].i, (int64_t)a[2].i);
     if (r.status != CELLARCOVE_ANSWER) {
@@ -1466,6 +1490,100 @@ static PyObject *py_solutions(PyObject *module, PyObject *const *args, Py_ssize_
     return run(&call_solutions, args, count, names);
 }
 
+static PyObject *one_chinese_remainder_i64(const cell *a, uint32_t *status) {
+    cellarcove_i64_solutions r = cellarcove_chinese_remainder_i64((int64_t)a[0].i, (int64_t)a[1].i, (int64_t)a[2].i, (int64_t)a[3].i);
+    if (r.status != CELLARCOVE_ANSWER) {
+        *status = r.status;
+        return NULL;
+    }
+    return tuple_of(class_solutions, 2, (PyObject *[]){PyLong_FromLongLong(r.first), PyLong_FromLongLong(r.step)});
+}
+
+static void many_chinese_remainder_i64(Py_ssize_t count, char *const *in, const Py_ssize_t *steps, char *const *out) {
+    for (Py_ssize_t k = 0; k < count; k++) {
+        cellarcove_i64_solutions r = cellarcove_chinese_remainder_i64(AT(int64_t, 0), AT(int64_t, 1), AT(int64_t, 2), AT(int64_t, 3));
+        TO(int64_t, 0) = r.first;
+        TO(int64_t, 1) = r.step;
+        TO(uint8_t, 2) = (uint8_t)r.status;
+    }
+}
+
+static const form form_chinese_remainder_i64 = {"qqqq", "qqB", true, one_chinese_remainder_i64, many_chinese_remainder_i64};
+
+static PyObject *one_chinese_remainder_u64(const cell *a, uint32_t *status) {
+    cellarcove_u64_solutions r = cellarcove_chinese_remainder_u64((uint64_t)a[0].u, (uint64_t)a[1].u, (uint64_t)a[2].u, (uint64_t)a[3].u);
+    if (r.status != CELLARCOVE_ANSWER) {
+        *status = r.status;
+        return NULL;
+    }
+    return tuple_of(class_solutions, 2, (PyObject *[]){PyLong_FromUnsignedLongLong(r.first), PyLong_FromUnsignedLongLong(r.step)});
+}
+
+static void many_chinese_remainder_u64(Py_ssize_t count, char *const *in, const Py_ssize_t *steps, char *const *out) {
+    for (Py_ssize_t k = 0; k < count; k++) {
+        cellarcove_u64_solutions r = cellarcove_chinese_remainder_u64(AT(uint64_t, 0), AT(uint64_t, 1), AT(uint64_t, 2), AT(uint64_t, 3));
+        TO(uint64_t, 0) = r.first;
+        TO(uint64_t, 1) = r.step;
+        TO(uint8_t, 2) = (uint8_t)r.status;
+    }
+}
+
+static const form form_chinese_remainder_u64 = {"QQQQ", "QQB", true, one_chinese_remainder_u64, many_chinese_remainder_u64};
+
+static const call call_chinese_remainder = {"chinese_remainder", 4, {"a", "m", "b", "n"}, "nnnn",
+    (const bool[]){false, true, false, true}, (const bool[]){true, true, true, true}, NULL, &form_chinese_remainder_i64, &form_chinese_remainder_u64};
+
+static PyObject *py_chinese_remainder(PyObject *module, PyObject *const *args, Py_ssize_t count, PyObject *names) {
+    (void)module;
+    return run(&call_chinese_remainder, args, count, names);
+}
+
+static PyObject *one_next_congruent_i64(const cell *a, uint32_t *status) {
+    cellarcove_i64_answer r = cellarcove_next_congruent_i64((int64_t)a[0].i, (int64_t)a[1].i, (int64_t)a[2].i);
+    if (r.status != CELLARCOVE_ANSWER) {
+        *status = r.status;
+        return NULL;
+    }
+    return PyLong_FromLongLong(r.value);
+}
+
+static void many_next_congruent_i64(Py_ssize_t count, char *const *in, const Py_ssize_t *steps, char *const *out) {
+    for (Py_ssize_t k = 0; k < count; k++) {
+        cellarcove_i64_answer r = cellarcove_next_congruent_i64(AT(int64_t, 0), AT(int64_t, 1), AT(int64_t, 2));
+        TO(int64_t, 0) = r.value;
+        TO(uint8_t, 1) = (uint8_t)r.status;
+    }
+}
+
+static const form form_next_congruent_i64 = {"qqq", "qB", true, one_next_congruent_i64, many_next_congruent_i64};
+
+static PyObject *one_next_congruent_u64(const cell *a, uint32_t *status) {
+    cellarcove_u64_answer r = cellarcove_next_congruent_u64((uint64_t)a[0].u, (uint64_t)a[1].u, (uint64_t)a[2].u);
+    if (r.status != CELLARCOVE_ANSWER) {
+        *status = r.status;
+        return NULL;
+    }
+    return PyLong_FromUnsignedLongLong(r.value);
+}
+
+static void many_next_congruent_u64(Py_ssize_t count, char *const *in, const Py_ssize_t *steps, char *const *out) {
+    for (Py_ssize_t k = 0; k < count; k++) {
+        cellarcove_u64_answer r = cellarcove_next_congruent_u64(AT(uint64_t, 0), AT(uint64_t, 1), AT(uint64_t, 2));
+        TO(uint64_t, 0) = r.value;
+        TO(uint8_t, 1) = (uint8_t)r.status;
+    }
+}
+
+static const form form_next_congruent_u64 = {"QQQ", "QB", true, one_next_congruent_u64, many_next_congruent_u64};
+
+static const call call_next_congruent = {"next_congruent", 3, {"start", "first", "step"}, "nnn",
+    (const bool[]){false, false, true}, (const bool[]){true, true, true}, NULL, &form_next_congruent_i64, &form_next_congruent_u64};
+
+static PyObject *py_next_congruent(PyObject *module, PyObject *const *args, Py_ssize_t count, PyObject *names) {
+    (void)module;
+    return run(&call_next_congruent, args, count, names);
+}
+
 static PyObject *one_previous_congruent_i64(const cell *a, uint32_t *status) {
     cellarcove_i64_answer r = cellarcove_previous_congruent_i64((int64_t)a[0].i, (int64_t)a[1].i, (int64_t)a[2].i);
     if (r.status != CELLARCOVE_ANSWER) {
@@ -1556,6 +1674,52 @@ static const call call_count_congruent = {"count_congruent", 4, {"start", "end",
 static PyObject *py_count_congruent(PyObject *module, PyObject *const *args, Py_ssize_t count, PyObject *names) {
     (void)module;
     return run(&call_count_congruent, args, count, names);
+}
+
+static PyObject *one_next_common_solution_i64(const cell *a, uint32_t *status) {
+    cellarcove_i64_answer r = cellarcove_next_common_solution_i64((int64_t)a[0].i, (int64_t)a[1].i, (int64_t)a[2].i, (int64_t)a[3].i, (int64_t)a[4].i);
+    if (r.status != CELLARCOVE_ANSWER) {
+        *status = r.status;
+        return NULL;
+    }
+    return PyLong_FromLongLong(r.value);
+}
+
+static void many_next_common_solution_i64(Py_ssize_t count, char *const *in, const Py_ssize_t *steps, char *const *out) {
+    for (Py_ssize_t k = 0; k < count; k++) {
+        cellarcove_i64_answer r = cellarcove_next_common_solution_i64(AT(int64_t, 0), AT(int64_t, 1), AT(int64_t, 2), AT(int64_t, 3), AT(int64_t, 4));
+        TO(int64_t, 0) = r.value;
+        TO(uint8_t, 1) = (uint8_t)r.status;
+    }
+}
+
+static const form form_next_common_solution_i64 = {"qqqqq", "qB", true, one_next_common_solution_i64, many_next_common_solution_i64};
+
+static PyObject *one_next_common_solution_u64(const cell *a, uint32_t *status) {
+    cellarcove_u64_answer r = cellarcove_next_common_solution_u64((uint64_t)a[0].u, (uint64_t)a[1].u, (uint64_t)a[2].u, (uint64_t)a[3].u, (uint64_t)a[4].u);
+    if (r.status != CELLARCOVE_ANSWER) {
+        *status = r.status;
+        return NULL;
+    }
+    return PyLong_FromUnsignedLongLong(r.value);
+}
+
+static void many_next_common_solution_u64(Py_ssize_t count, char *const *in, const Py_ssize_t *steps, char *const *out) {
+    for (Py_ssize_t k = 0; k < count; k++) {
+        cellarcove_u64_answer r = cellarcove_next_common_solution_u64(AT(uint64_t, 0), AT(uint64_t, 1), AT(uint64_t, 2), AT(uint64_t, 3), AT(uint64_t, 4));
+        TO(uint64_t, 0) = r.value;
+        TO(uint8_t, 1) = (uint8_t)r.status;
+    }
+}
+
+static const form form_next_common_solution_u64 = {"QQQQQ", "QB", true, one_next_common_solution_u64, many_next_common_solution_u64};
+
+static const call call_next_common_solution = {"next_common_solution", 5, {"start", "a", "m", "b", "n"}, "nnnnn",
+    (const bool[]){false, false, true, false, true}, (const bool[]){true, true, true, true, true}, NULL, &form_next_common_solution_i64, &form_next_common_solution_u64};
+
+static PyObject *py_next_common_solution(PyObject *module, PyObject *const *args, Py_ssize_t count, PyObject *names) {
+    (void)module;
+    return run(&call_next_common_solution, args, count, names);
 }
 
 static PyObject *one_fraction_limit_denominator(const cell *a, uint32_t *status) {
@@ -1690,6 +1854,62 @@ static const call call_day_from_date = {"day_from_date", 1, {"date"}, "d",
 static PyObject *py_day_from_date(PyObject *module, PyObject *const *args, Py_ssize_t count, PyObject *names) {
     (void)module;
     return run(&call_day_from_date, args, count, names);
+}
+
+static PyObject *one_plus_days(const cell *a, uint32_t *status) {
+    cellarcove_date_answer r = cellarcove_plus_days((cellarcove_date){(int64_t)a[0].i, (uint8_t)a[1].u, (uint8_t)a[2].u}, (int64_t)a[3].i);
+    if (r.status != CELLARCOVE_ANSWER) {
+        *status = r.status;
+        return NULL;
+    }
+    return date_of(r.date);
+}
+
+static void many_plus_days(Py_ssize_t count, char *const *in, const Py_ssize_t *steps, char *const *out) {
+    for (Py_ssize_t k = 0; k < count; k++) {
+        cellarcove_date_answer r = cellarcove_plus_days((cellarcove_date){AT(int64_t, 0), AT(uint8_t, 1), AT(uint8_t, 2)}, AT(int64_t, 3));
+        TO(int64_t, 0) = r.date.year;
+        TO(uint8_t, 1) = r.date.month;
+        TO(uint8_t, 2) = r.date.day_of_month;
+        TO(uint8_t, 3) = (uint8_t)r.status;
+    }
+}
+
+static const form form_plus_days = {"qBBq", "qBBB", true, one_plus_days, many_plus_days};
+
+static const call call_plus_days = {"plus_days", 2, {"date", "days"}, "dn",
+    (const bool[]){false, false, false, false}, (const bool[]){false, false, false, false}, &form_plus_days, NULL, NULL};
+
+static PyObject *py_plus_days(PyObject *module, PyObject *const *args, Py_ssize_t count, PyObject *names) {
+    (void)module;
+    return run(&call_plus_days, args, count, names);
+}
+
+static PyObject *one_days_between(const cell *a, uint32_t *status) {
+    cellarcove_i64_answer r = cellarcove_days_between((cellarcove_date){(int64_t)a[0].i, (uint8_t)a[1].u, (uint8_t)a[2].u}, (cellarcove_date){(int64_t)a[3].i, (uint8_t)a[4].u, (uint8_t)a[5].u});
+    if (r.status != CELLARCOVE_ANSWER) {
+        *status = r.status;
+        return NULL;
+    }
+    return PyLong_FromLongLong(r.value);
+}
+
+static void many_days_between(Py_ssize_t count, char *const *in, const Py_ssize_t *steps, char *const *out) {
+    for (Py_ssize_t k = 0; k < count; k++) {
+        cellarcove_i64_answer r = cellarcove_days_between((cellarcove_date){AT(int64_t, 0), AT(uint8_t, 1), AT(uint8_t, 2)}, (cellarcove_date){AT(int64_t, 3), AT(uint8_t, 4), AT(uint8_t, 5)});
+        TO(int64_t, 0) = r.value;
+        TO(uint8_t, 1) = (uint8_t)r.status;
+    }
+}
+
+static const form form_days_between = {"qBBqBB", "qB", true, one_days_between, many_days_between};
+
+static const call call_days_between = {"days_between", 2, {"start", "end"}, "dd",
+    (const bool[]){false, false, false, false, false, false}, (const bool[]){false, false, false, false, false, false}, &form_days_between, NULL, NULL};
+
+static PyObject *py_days_between(PyObject *module, PyObject *const *args, Py_ssize_t count, PyObject *names) {
+    (void)module;
+    return run(&call_days_between, args, count, names);
 }
 
 static PyObject *one_plus_months(const cell *a, uint32_t *status) {
@@ -1828,62 +2048,6 @@ static const call call_easter = {"easter", 1, {"year"}, "n",
 static PyObject *py_easter(PyObject *module, PyObject *const *args, Py_ssize_t count, PyObject *names) {
     (void)module;
     return run(&call_easter, args, count, names);
-}
-
-static PyObject *one_plus_days(const cell *a, uint32_t *status) {
-    cellarcove_date_answer r = cellarcove_plus_days((cellarcove_date){(int64_t)a[0].i, (uint8_t)a[1].u, (uint8_t)a[2].u}, (int64_t)a[3].i);
-    if (r.status != CELLARCOVE_ANSWER) {
-        *status = r.status;
-        return NULL;
-    }
-    return date_of(r.date);
-}
-
-static void many_plus_days(Py_ssize_t count, char *const *in, const Py_ssize_t *steps, char *const *out) {
-    for (Py_ssize_t k = 0; k < count; k++) {
-        cellarcove_date_answer r = cellarcove_plus_days((cellarcove_date){AT(int64_t, 0), AT(uint8_t, 1), AT(uint8_t, 2)}, AT(int64_t, 3));
-        TO(int64_t, 0) = r.date.year;
-        TO(uint8_t, 1) = r.date.month;
-        TO(uint8_t, 2) = r.date.day_of_month;
-        TO(uint8_t, 3) = (uint8_t)r.status;
-    }
-}
-
-static const form form_plus_days = {"qBBq", "qBBB", true, one_plus_days, many_plus_days};
-
-static const call call_plus_days = {"plus_days", 2, {"date", "days"}, "dn",
-    (const bool[]){false, false, false, false}, (const bool[]){false, false, false, false}, &form_plus_days, NULL, NULL};
-
-static PyObject *py_plus_days(PyObject *module, PyObject *const *args, Py_ssize_t count, PyObject *names) {
-    (void)module;
-    return run(&call_plus_days, args, count, names);
-}
-
-static PyObject *one_days_between(const cell *a, uint32_t *status) {
-    cellarcove_i64_answer r = cellarcove_days_between((cellarcove_date){(int64_t)a[0].i, (uint8_t)a[1].u, (uint8_t)a[2].u}, (cellarcove_date){(int64_t)a[3].i, (uint8_t)a[4].u, (uint8_t)a[5].u});
-    if (r.status != CELLARCOVE_ANSWER) {
-        *status = r.status;
-        return NULL;
-    }
-    return PyLong_FromLongLong(r.value);
-}
-
-static void many_days_between(Py_ssize_t count, char *const *in, const Py_ssize_t *steps, char *const *out) {
-    for (Py_ssize_t k = 0; k < count; k++) {
-        cellarcove_i64_answer r = cellarcove_days_between((cellarcove_date){AT(int64_t, 0), AT(uint8_t, 1), AT(uint8_t, 2)}, (cellarcove_date){AT(int64_t, 3), AT(uint8_t, 4), AT(uint8_t, 5)});
-        TO(int64_t, 0) = r.value;
-        TO(uint8_t, 1) = (uint8_t)r.status;
-    }
-}
-
-static const form form_days_between = {"qBBqBB", "qB", true, one_days_between, many_days_between};
-
-static const call call_days_between = {"days_between", 2, {"start", "end"}, "dd",
-    (const bool[]){false, false, false, false, false, false}, (const bool[]){false, false, false, false, false, false}, &form_days_between, NULL, NULL};
-
-static PyObject *py_days_between(PyObject *module, PyObject *const *args, Py_ssize_t count, PyObject *names) {
-    (void)module;
-    return run(&call_days_between, args, count, names);
 }
 
 static PyObject *one_weekday(const cell *a, uint32_t *status) {
@@ -2190,6 +2354,20 @@ static PyMethodDef methods[] = {
     "the two products may overflow.\n"
     "\n"
     "Raises `NotFitting` if the divisor is 2^63.\n"},
+    {"gcd_of", py_gcd_of, METH_O,
+    "gcd_of($module, numbers, /)\n"
+    "--\n"
+    "\n"
+    "The greatest common divisor of the numbers, which always fits. That of 12, 18 and 8 is\n"
+    "2, and that of no numbers is 0.\n"},
+    {"lcm_of", py_lcm_of, METH_O,
+    "lcm_of($module, numbers, /)\n"
+    "--\n"
+    "\n"
+    "The least common multiple of the numbers. That of 4, 6 and 10 is 60, that of numbers of\n"
+    "which one is 0 is 0, and that of no numbers is 1.\n"
+    "\n"
+    "Raises `NotFitting` if the multiple does not fit.\n"},
     {"average_floor", (PyCFunction)(void (*)(void))py_average_floor, METH_FASTCALL | METH_KEYWORDS,
     "average_floor($module, /, x, y, *, out=None)\n"
     "--\n"
@@ -2219,6 +2397,23 @@ static PyMethodDef methods[] = {
     "The root of a degree, rounded toward 0. That of -9 of degree 3 is -2.\n"
     "\n"
     "Raises `Refused` with `OUTSIDE` if `degree` is 0, and if it is even and `x` is negative.\n"},
+    {"is_square", (PyCFunction)(void (*)(void))py_is_square, METH_FASTCALL | METH_KEYWORDS,
+    "is_square($module, /, x, *, out=None)\n"
+    "--\n"
+    "\n"
+    "Whether `x` is the square of an integer. 144 is one, and -144 is not.\n"},
+    {"is_power", (PyCFunction)(void (*)(void))py_is_power, METH_FASTCALL | METH_KEYWORDS,
+    "is_power($module, /, x, degree, *, out=None)\n"
+    "--\n"
+    "\n"
+    "Whether `x` is an integer to the power `degree`. For -243 and 5 it is `true`, and for\n"
+    "244 and 5 it is `false`; for the degree 0 it is `true` at 1 alone.\n"},
+    {"is_perfect_power", (PyCFunction)(void (*)(void))py_is_perfect_power, METH_FASTCALL | METH_KEYWORDS,
+    "is_perfect_power($module, /, x, *, out=None)\n"
+    "--\n"
+    "\n"
+    "Whether `x` is a square, a cube or a higher power of an integer. 128 is one, and 72 is\n"
+    "not.\n"},
     {"binomial", (PyCFunction)(void (*)(void))py_binomial, METH_FASTCALL | METH_KEYWORDS,
     "binomial($module, /, n, k, *, out=None)\n"
     "--\n"
@@ -2236,6 +2431,16 @@ static PyMethodDef methods[] = {
     "counts. That of 2, 1 and 2 is 30, and that of no counts is 1.\n"
     "\n"
     "Raises `NotFitting` if the coefficient does not fit.\n"},
+    {"rank", (PyCFunction)(void (*)(void))py_rank, METH_FASTCALL,
+    "rank($module, choice, n, /)\n"
+    "--\n"
+    "\n"
+    "The rank of a choice of numbers below `n`: how many choices of as many numbers come\n"
+    "before it. They are ordered by their last number, then by the one before it, and so on.\n"
+    "For 0, 2 and 3, and 5, it is 2.\n"
+    "\n"
+    "Raises `Refused` with `OUTSIDE` if the numbers do not increase or are not all below `n`.\n"
+    "Raises `NotFitting` if the rank does not fit.\n"},
     {"sum_modulo", (PyCFunction)(void (*)(void))py_sum_modulo, METH_FASTCALL | METH_KEYWORDS,
     "sum_modulo($module, /, a, b, m, *, out=None)\n"
     "--\n"
@@ -2272,6 +2477,23 @@ static PyMethodDef methods[] = {
     "\n"
     "Raises `Refused` with `BAD_MODULUS` if `m` is not positive. Raises `Refused` with\n"
     "`NO_SOLUTION` if there is no inverse.\n"},
+    {"quotient_modulo", (PyCFunction)(void (*)(void))py_quotient_modulo, METH_FASTCALL | METH_KEYWORDS,
+    "quotient_modulo($module, /, a, b, m, *, out=None)\n"
+    "--\n"
+    "\n"
+    "The number that times `b` is `a` modulo `m`, from 0 to `m` - 1. For 2, 3 and 7 it is 3.\n"
+    "\n"
+    "Raises `Refused` with `BAD_MODULUS` if `m` is not positive. Raises `Refused` with\n"
+    "`NO_SOLUTION` if `b` has no inverse modulo `m`.\n"},
+    {"solutions", (PyCFunction)(void (*)(void))py_solutions, METH_FASTCALL | METH_KEYWORDS,
+    "solutions($module, /, a, b, m, *, out=None)\n"
+    "--\n"
+    "\n"
+    "The numbers that times `a` are `b` modulo `m`. For 6, 4 and 10 they are 4 and those in\n"
+    "steps of 5 from it.\n"
+    "\n"
+    "Raises `Refused` with `BAD_MODULUS` if `m` is not positive. Raises `Refused` with\n"
+    "`NO_SOLUTION` if there is no such number.\n"},
     {"chinese_remainder", (PyCFunction)(void (*)(void))py_chinese_remainder, METH_FASTCALL | METH_KEYWORDS,
     "chinese_remainder($module, /, a, m, b, n, *, out=None)\n"
     "--\n"
@@ -2291,32 +2513,6 @@ static PyMethodDef methods[] = {
     "\n"
     "Raises `Refused` with `BAD_MODULUS` if `step` is not positive. Raises `NotFitting` if\n"
     "the number does not fit.\n"},
-    {"next_common_solution", (PyCFunction)(void (*)(void))py_next_common_solution, METH_FASTCALL | METH_KEYWORDS,
-    "next_common_solution($module, /, start, a, m, b, n, *, out=None)\n"
-    "--\n"
-    "\n"
-    "The smallest number from `start` on that is `a` modulo `m` and `b` modulo `n`. The least\n"
-    "common multiple of `m` and `n` need not fit. For 10, 1, 4, 3 and 6 it is 21.\n"
-    "\n"
-    "Raises `Refused` with `BAD_MODULUS` if `m` or `n` is not positive. Raises `Refused` with\n"
-    "`NO_SOLUTION` if there is no such number. Raises `NotFitting` if it does not fit.\n"},
-    {"quotient_modulo", (PyCFunction)(void (*)(void))py_quotient_modulo, METH_FASTCALL | METH_KEYWORDS,
-    "quotient_modulo($module, /, a, b, m, *, out=None)\n"
-    "--\n"
-    "\n"
-    "The number that times `b` is `a` modulo `m`, from 0 to `m` - 1. For 2, 3 and 7 it is 3.\n"
-    "\n"
-    "Raises `Refused` with `BAD_MODULUS` if `m` is not positive. Raises `Refused` with\n"
-    "`NO_SOLUTION` if `b` has no inverse modulo `m`.\n"},
-    {"solutions", (PyCFunction)(void (*)(void))py_solutions, METH_FASTCALL | METH_KEYWORDS,
-    "solutions($module, /, a, b, m, *, out=None)\n"
-    "--\n"
-    "\n"
-    "The numbers that times `a` are `b` modulo `m`. For 6, 4 and 10 they are 4 and those in\n"
-    "steps of 5 from it.\n"
-    "\n"
-    "Raises `Refused` with `BAD_MODULUS` if `m` is not positive. Raises `Refused` with\n"
-    "`NO_SOLUTION` if there is no such number.\n"},
     {"previous_congruent", (PyCFunction)(void (*)(void))py_previous_congruent, METH_FASTCALL | METH_KEYWORDS,
     "previous_congruent($module, /, end, first, step, *, out=None)\n"
     "--\n"
@@ -2334,6 +2530,15 @@ static PyMethodDef methods[] = {
     "\n"
     "Raises `Refused` with `BAD_MODULUS` if `step` is not positive. Raises `NotFitting` if\n"
     "the count does not fit.\n"},
+    {"next_common_solution", (PyCFunction)(void (*)(void))py_next_common_solution, METH_FASTCALL | METH_KEYWORDS,
+    "next_common_solution($module, /, start, a, m, b, n, *, out=None)\n"
+    "--\n"
+    "\n"
+    "The smallest number from `start` on that is `a` modulo `m` and `b` modulo `n`. The least\n"
+    "common multiple of `m` and `n` need not fit. For 10, 1, 4, 3 and 6 it is 21.\n"
+    "\n"
+    "Raises `Refused` with `BAD_MODULUS` if `m` or `n` is not positive. Raises `Refused` with\n"
+    "`NO_SOLUTION` if there is no such number. Raises `NotFitting` if it does not fit.\n"},
     {"limit_denominator", (PyCFunction)(void (*)(void))py_limit_denominator, METH_FASTCALL | METH_KEYWORDS,
     "limit_denominator($module, /, a, max_denominator, *, out=None)\n"
     "--\n"
@@ -2375,6 +2580,24 @@ static PyMethodDef methods[] = {
     "\n"
     "Raises `Refused` with `NO_DATE` if there is no such date. Raises `NotFitting` if its day\n"
     "does not fit.\n"},
+    {"plus_days", (PyCFunction)(void (*)(void))py_plus_days, METH_FASTCALL | METH_KEYWORDS,
+    "plus_days($module, /, date, days, *, out=None)\n"
+    "--\n"
+    "\n"
+    "The date `days` days after a date, or before it if `days` is negative. That of\n"
+    "2000-03-01 and -1 is 2000-02-29.\n"
+    "\n"
+    "Raises `Refused` with `NO_DATE` if there is no such date. Raises `NotFitting` if the\n"
+    "year of the result does not fit.\n"},
+    {"days_between", (PyCFunction)(void (*)(void))py_days_between, METH_FASTCALL | METH_KEYWORDS,
+    "days_between($module, /, start, end, *, out=None)\n"
+    "--\n"
+    "\n"
+    "The number of days from one date to another, negative if the other is earlier. From\n"
+    "2000-03-01 to 2000-02-28 it is -2.\n"
+    "\n"
+    "Raises `Refused` with `NO_DATE` if there is no such date. Raises `NotFitting` if the\n"
+    "number does not fit.\n"},
     {"plus_months", (PyCFunction)(void (*)(void))py_plus_months, METH_FASTCALL | METH_KEYWORDS,
     "plus_months($module, /, date, months, *, out=None)\n"
     "--\n"
@@ -2418,24 +2641,6 @@ static PyMethodDef methods[] = {
     "--\n"
     "\n"
     "The date of Easter Sunday of a year, by the rules of today. That of 2024 is 2024-03-31.\n"},
-    {"plus_days", (PyCFunction)(void (*)(void))py_plus_days, METH_FASTCALL | METH_KEYWORDS,
-    "plus_days($module, /, date, days, *, out=None)\n"
-    "--\n"
-    "\n"
-    "The date `days` days after a date, or before it if `days` is negative. That of\n"
-    "2000-03-01 and -1 is 2000-02-29.\n"
-    "\n"
-    "Raises `Refused` with `NO_DATE` if there is no such date. Raises `NotFitting` if the\n"
-    "year of the result does not fit.\n"},
-    {"days_between", (PyCFunction)(void (*)(void))py_days_between, METH_FASTCALL | METH_KEYWORDS,
-    "days_between($module, /, start, end, *, out=None)\n"
-    "--\n"
-    "\n"
-    "The number of days from one date to another, negative if the other is earlier. From\n"
-    "2000-03-01 to 2000-02-28 it is -2.\n"
-    "\n"
-    "Raises `Refused` with `NO_DATE` if there is no such date. Raises `NotFitting` if the\n"
-    "number does not fit.\n"},
     {"weekday", (PyCFunction)(void (*)(void))py_weekday, METH_FASTCALL | METH_KEYWORDS,
     "weekday($module, /, day, *, out=None)\n"
     "--\n"

@@ -2,7 +2,7 @@
 //! Dates of the proleptic Gregorian calendar, and days counted from 1970-01-01, which is day 0.
 
 use crate::answers::{I64Answer, ANSWER, NOT_FITTING, NO_DATE, OUTSIDE};
-use cellarcove::calendar::{easter, months_between, weeks_in_year, Weekday};
+use cellarcove::calendar::{days_between, easter, months_between, weeks_in_year, Weekday};
 
 /// A year, a month and a day of the month. The year before year 1 is year 0. January is month 1.
 #[repr(C)]
@@ -45,6 +45,39 @@ pub extern "C" fn cellarcove_day_from_date(date: Date) -> I64Answer {
         Some(found) => match found.day_number() {
             Some(day) => I64Answer::some(day),
             None => I64Answer::none(NOT_FITTING),
+        },
+        None => I64Answer::none(NO_DATE),
+    }
+}
+
+/// Returns the date `days` days after a date, or before it if `days` is negative. That of
+/// 2000-03-01 and -1 is 2000-02-29.
+///
+/// `NO_DATE` if there is no such date. `NOT_FITTING` if the year of the result does not fit.
+#[unsafe(no_mangle)]
+pub extern "C" fn cellarcove_plus_days(date: Date, days: i64) -> DateAnswer {
+    match date.found() {
+        Some(found) => match found.plus_days(days) {
+            Some(later) => DateAnswer::some(&later),
+            None => DateAnswer::none(NOT_FITTING),
+        },
+        None => DateAnswer::none(NO_DATE),
+    }
+}
+
+/// Returns the number of days from one date to another, negative if the other is earlier. From
+/// 2000-03-01 to 2000-02-28 it is -2.
+///
+/// `NO_DATE` if there is no such date. `NOT_FITTING` if the number does not fit.
+#[unsafe(no_mangle)]
+pub extern "C" fn cellarcove_days_between(from: Date, to: Date) -> I64Answer {
+    match from.found() {
+        Some(first) => match to.found() {
+            Some(last) => match days_between(&first, &last) {
+                Some(days) => I64Answer::some(days),
+                None => I64Answer::none(NOT_FITTING),
+            },
+            None => I64Answer::none(NO_DATE),
         },
         None => I64Answer::none(NO_DATE),
     }

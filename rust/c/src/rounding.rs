@@ -48,10 +48,7 @@ pub extern "C" fn cellarcove_fraction_round(a: Fraction) -> I64Answer {
 #[unsafe(no_mangle)]
 pub extern "C" fn cellarcove_fraction_floor_times(a: Fraction, n: i64) -> I64Answer {
     match a.reduced() {
-        Ok(x) => match x.floor_times(n) {
-            Some(whole) => I64Answer::some(whole),
-            None => I64Answer::none(NOT_FITTING),
-        },
+        Ok(x) => I64Answer::of(x.floor_times(n), NOT_FITTING),
         Err(error) => I64Answer::none(error.number()),
     }
 }
@@ -63,10 +60,7 @@ pub extern "C" fn cellarcove_fraction_floor_times(a: Fraction, n: i64) -> I64Ans
 #[unsafe(no_mangle)]
 pub extern "C" fn cellarcove_fraction_ceil_times(a: Fraction, n: i64) -> I64Answer {
     match a.reduced() {
-        Ok(x) => match x.ceil_times(n) {
-            Some(whole) => I64Answer::some(whole),
-            None => I64Answer::none(NOT_FITTING),
-        },
+        Ok(x) => I64Answer::of(x.ceil_times(n), NOT_FITTING),
         Err(error) => I64Answer::none(error.number()),
     }
 }
@@ -79,10 +73,7 @@ pub extern "C" fn cellarcove_fraction_ceil_times(a: Fraction, n: i64) -> I64Answ
 #[unsafe(no_mangle)]
 pub extern "C" fn cellarcove_fraction_round_times(a: Fraction, n: i64) -> I64Answer {
     match a.reduced() {
-        Ok(x) => match x.round_times(n) {
-            Some(whole) => I64Answer::some(whole),
-            None => I64Answer::none(NOT_FITTING),
-        },
+        Ok(x) => I64Answer::of(x.round_times(n), NOT_FITTING),
         Err(error) => I64Answer::none(error.number()),
     }
 }

@@ -47,18 +47,42 @@ pub struct Date {
 
 impl Date {
     /// Returns the `year`.
+    ///
+    /// # Examples
+    ///
+    /// ```
+    /// use cellarcove::calendar::Date;
+    ///
+    /// assert_eq!(Date::new(2024, 2, 29).unwrap().year(), 2024);
+    /// ```
     #[must_use]
     pub const fn year(&self) -> i64 {
         self.year
     }
 
     /// Returns the `month`.
+    ///
+    /// # Examples
+    ///
+    /// ```
+    /// use cellarcove::calendar::Date;
+    ///
+    /// assert_eq!(Date::new(2024, 2, 29).unwrap().month(), 2);
+    /// ```
     #[must_use]
     pub const fn month(&self) -> u8 {
         self.month
     }
 
     /// Returns the `day_of_month`.
+    ///
+    /// # Examples
+    ///
+    /// ```
+    /// use cellarcove::calendar::Date;
+    ///
+    /// assert_eq!(Date::new(2024, 2, 29).unwrap().day_of_month(), 29);
+    /// ```
     #[must_use]
     pub const fn day_of_month(&self) -> u8 {
         self.day_of_month

@@ -6,6 +6,15 @@ use core::iter::FusedIterator;
 
 /// An iterator over the dates from one on, to the one before another. [`Date::days_until`] makes
 /// it.
+///
+/// # Examples
+///
+/// ```
+/// use cellarcove::calendar::Date;
+///
+/// let (from, end) = (Date::new(2024, 2, 1).unwrap(), Date::new(2024, 3, 1).unwrap());
+/// assert_eq!(from.days_until(end).count(), 29);
+/// ```
 #[derive(Debug, Clone)]
 pub struct Days {
     next: Date,

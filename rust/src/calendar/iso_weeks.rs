@@ -17,7 +17,9 @@ use crate::calendar::{Date, Weekday};
 /// ```
 #[derive(Debug, Clone, Copy, PartialEq, Eq, PartialOrd, Ord, Hash)]
 pub struct IsoWeek {
+    /// The year of the Thursday of the week.
     pub year: i64,
+    /// The number of the week in its year, from 1 to 52 or 53.
     pub week: u8,
 }
 
@@ -63,7 +65,10 @@ impl IsoWeek {
     /// ```
     /// use cellarcove::calendar::{Date, IsoWeek, Weekday};
     ///
-    /// assert_eq!(IsoWeek { year: 2009, week: 53 }.date_on(Weekday::Sunday), Date::new(2010, 1, 3));
+    /// assert_eq!(
+    ///     IsoWeek { year: 2009, week: 53 }.date_on(Weekday::Sunday),
+    ///     Date::new(2010, 1, 3)
+    /// );
     /// ```
     ///
     /// <details><summary>Proved</summary>
@@ -97,7 +102,10 @@ impl Date {
     /// ```
     /// use cellarcove::calendar::{Date, IsoWeek};
     ///
-    /// assert_eq!(Date::new(2005, 1, 1).unwrap().iso_week(), Some(IsoWeek { year: 2004, week: 53 }));
+    /// assert_eq!(
+    ///     Date::new(2005, 1, 1).unwrap().iso_week(),
+    ///     Some(IsoWeek { year: 2004, week: 53 })
+    /// );
     /// ```
     ///
     /// <details><summary>Proved</summary>

@@ -123,8 +123,8 @@ impl fmt::Display for IsoWeek {
 ///
 /// # Errors
 ///
-/// - [`DateError`](crate::calendar::DateError) if the text is not the one that `Display` writes of
-///   a date.
+/// - [`DateError`](crate::calendar::DateError) if the string is not the one that `Display` writes
+///   of a date.
 ///
 /// <details><summary>Proved</summary>
 ///

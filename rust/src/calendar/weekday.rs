@@ -19,12 +19,19 @@ use core::str::FromStr;
 /// ```
 #[derive(Debug, Clone, Copy, PartialEq, Eq, Hash)]
 pub enum Weekday {
+    /// Day 7 of a week of ISO 8601.
     Sunday,
+    /// Day 1 of a week of ISO 8601.
     Monday,
+    /// Day 2 of a week of ISO 8601.
     Tuesday,
+    /// Day 3 of a week of ISO 8601.
     Wednesday,
+    /// Day 4 of a week of ISO 8601.
     Thursday,
+    /// Day 5 of a week of ISO 8601.
     Friday,
+    /// Day 6 of a week of ISO 8601.
     Saturday,
 }
 

@@ -126,17 +126,61 @@ pub fn nth_weekday_of_month(year: i64, month: u8, weekday: Weekday, n: u8) -> Op
 /// </details>
 #[must_use]
 pub fn last_weekday_of_month(year: i64, month: u8, weekday: Weekday) -> Option<Date> {
-    if !(1..=12).contains(&month) {
-        return None;
+    if (1..=12).contains(&month) {
+        Some(last_weekday(year, month, weekday))
+    } else {
+        None
     }
+}
+
+/// Returns the first date after another that is the last `weekday` of its month, or `None` if its
+/// year does not fit an `i64`.
+///
+/// # Examples
+///
+/// ```
+/// use cellarcove::calendar::{next_last_weekday, Date, Weekday};
+///
+/// assert_eq!(
+///     next_last_weekday(&Date::new(2026, 10, 30).unwrap(), Weekday::Friday),
+///     Date::new(2026, 11, 27)
+/// );
+/// ```
+///
+/// <details><summary>Proved</summary>
+///
+/// Of the source, in Rattle: each call returns, and then each `ensures` holds.
+///
+/// ```text
+/// ensures { MatchOption result
+///     ((date : Date) → IsNextLastWeekday after.now weekday date → ¬ (FitsSigned w64 date.year))
+///     (λ date. IsNextLastWeekday after.now weekday date) }
+/// ```
+///
+/// Words: [`IsNextLastWeekday`](crate::definitions::calendar#isnextlastweekday),
+/// [how to read it](crate::definitions).
+///
+/// </details>
+#[must_use]
+pub fn next_last_weekday(after: &Date, weekday: Weekday) -> Option<Date> {
+    let of_this_month = last_weekday(after.year, after.month, weekday);
+    if after.day_of_month < of_this_month.day_of_month {
+        return Some(of_this_month);
+    }
+    let next_month = after.plus_months(1)?;
+    Some(last_weekday(next_month.year, next_month.month, weekday))
+}
+
+/// Returns the date of the last `weekday` of the month.
+fn last_weekday(year: i64, month: u8, weekday: Weekday) -> Date {
     let last = Date {
         year,
         month,
         day_of_month: days_in_month(year, month),
     };
-    Some(Date {
+    Date {
         year,
         month,
         day_of_month: last.day_of_month - weekday.days_until(last.weekday()),
-    })
+    }
 }

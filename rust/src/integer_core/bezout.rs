@@ -6,6 +6,15 @@ use crate::integer_core::Integer;
 
 /// A greatest common divisor with Bezout's coefficients: for the operands `a` and `b`, `a * x + b *
 /// y` equals `gcd`. For 240 and 46, `gcd` is 2, `x` is -9 and `y` is 47.
+///
+/// # Examples
+///
+/// ```
+/// use cellarcove::Integer;
+///
+/// let found = 240.extended_gcd(&46);
+/// assert_eq!((found.gcd, found.x, found.y), (2, -9, 47));
+/// ```
 #[derive(Debug, Clone, Copy, PartialEq, Eq)]
 pub struct ExtendedGcd<A> {
     /// The greatest common divisor. For 240 and 46 it is 2.
@@ -126,7 +135,10 @@ fn last_row<T: Integer + Clone>(a: T, b: T) -> (Row<T>, u32) {
 #[track_caller]
 #[must_use]
 pub fn extended_gcd_counted<T: Integer + Clone>(a: T, b: T) -> (ExtendedGcd<T>, u32) {
-    a.expect_pair(&b);
+    a.expect_pair(
+        &b,
+        crate::guards::Reason("no pair of coefficients fits the unsigned type"),
+    );
     if b.is_zero() {
         (Row::of_first(a).normalized(), 0)
     } else {

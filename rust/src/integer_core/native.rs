@@ -10,7 +10,8 @@ use num_traits::{AsPrimitive, Bounded, Num};
     has_diagnostic,
     diagnostic::on_unimplemented(
         message = "`{Self}` is no built-in integer type",
-        note = "the twelve built-in integer types implement it, and so `Integer`, whose  your own implements it by hand"
+        note = "the twelve built-in integer types implement it",
+        note = "a type of your own implements `Integer` by hand"
     )
 )]
 pub trait Native:
@@ -26,7 +27,10 @@ pub trait Native:
 {
     /// The type of the magnitudes.
     type Magnitude: Magnitude + AsPrimitive<Self>;
+}
 
+/// What this crate alone calls of a `Native`.
+pub(crate) trait Magnitudes: Native {
     /// Returns the absolute value.
     fn magnitude(self) -> Self::Magnitude {
         if is_negative(self) {
@@ -41,6 +45,8 @@ pub trait Native:
         magnitude.as_()
     }
 }
+
+impl<T: Native> Magnitudes for T {}
 
 impl Native for i8 {
     type Magnitude = u64;

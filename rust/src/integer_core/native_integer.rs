@@ -2,15 +2,29 @@
 // It also has what rust/by_hand/src/integer_core/native_integer.rs adds.
 //! `Integer` and `GcdCounted` for the native types.
 
+use crate::guards::Reason;
 use crate::integer_core::counted::GcdCounted;
 use crate::integer_core::native::Native;
 use crate::integer_core::operators::is_minus_one;
 use crate::integer_core::stein::{binary_gcd, positive_gcd_lcm};
+use crate::integer_core::Magnitudes;
 use crate::integer_core::{division, divisors, Integer};
 use num_traits::PrimInt;
 
 /// A native integer type: `i8` to `i128`, `u8` to `u128`, `isize` or `usize`. The trait is sealed:
 /// no other crate can implement it.
+///
+/// # Examples
+///
+/// ```
+/// use cellarcove::NativeInteger;
+///
+/// fn is_power_of_two<T: NativeInteger>(x: T) -> bool {
+///     x > T::zero() && x.count_ones() == 1
+/// }
+///
+/// assert!(is_power_of_two(64u8) && !is_power_of_two(i8::MIN));
+/// ```
 #[cfg_attr(
     has_diagnostic,
     diagnostic::on_unimplemented(
@@ -81,27 +95,27 @@ impl<T: Native> Integer for T {
     }
 
     #[inline]
-    fn exact_sum(self, other: T, reason: &'static str) -> T {
-        crate::guards::sum(self, other, reason)
+    fn exact_sum(self, other: T, reason: Reason) -> T {
+        crate::guards::sum(self, other, reason.0)
     }
 
     #[inline]
-    fn exact_difference(self, other: T, reason: &'static str) -> T {
-        crate::guards::difference(self, other, reason)
+    fn exact_difference(self, other: T, reason: Reason) -> T {
+        crate::guards::difference(self, other, reason.0)
     }
 
     #[inline]
-    fn exact_product(self, other: T, reason: &'static str) -> T {
-        crate::guards::product(self, other, reason)
+    fn exact_product(self, other: T, reason: Reason) -> T {
+        crate::guards::product(self, other, reason.0)
     }
 
     #[inline]
-    fn expect_pair(&self, other: &T) {
-        crate::guards::expect_pair(*self, *other);
+    fn expect_pair(&self, other: &T, reason: Reason) {
+        crate::guards::expect_pair(*self, *other, reason);
     }
 
     #[inline]
-    fn expect_lcm(&self, other: &T) {
+    fn expect_lcm(&self, other: &T, _reason: Reason) {
         crate::guards::expect_lcm(*self, *other);
     }
 }

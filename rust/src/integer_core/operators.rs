@@ -205,7 +205,7 @@ pub fn is_minus_one<T: Copy + Num + PartialOrd>(a: T) -> bool {
 #[track_caller]
 #[must_use]
 pub fn sum<T: crate::integer_core::Integer>(a: T, b: T) -> T {
-    a.exact_sum(b, "attempt to add with overflow")
+    a.exact_sum(b, crate::guards::Reason("attempt to add with overflow"))
 }
 
 /// Returns `a - b`.
@@ -239,7 +239,10 @@ pub fn sum<T: crate::integer_core::Integer>(a: T, b: T) -> T {
 #[track_caller]
 #[must_use]
 pub fn difference<T: crate::integer_core::Integer>(a: T, b: T) -> T {
-    a.exact_difference(b, "attempt to subtract with overflow")
+    a.exact_difference(
+        b,
+        crate::guards::Reason("attempt to subtract with overflow"),
+    )
 }
 
 /// Returns `a * b`.
@@ -273,7 +276,10 @@ pub fn difference<T: crate::integer_core::Integer>(a: T, b: T) -> T {
 #[track_caller]
 #[must_use]
 pub fn product<T: crate::integer_core::Integer>(a: T, b: T) -> T {
-    a.exact_product(b, "attempt to multiply with overflow")
+    a.exact_product(
+        b,
+        crate::guards::Reason("attempt to multiply with overflow"),
+    )
 }
 
 /// Returns `a / b`, rounded toward zero.
@@ -446,5 +452,5 @@ pub fn predecessor<T: crate::integer_core::Integer>(a: T) -> T {
 #[track_caller]
 #[must_use]
 pub fn negated<T: crate::integer_core::Integer>(a: T) -> T {
-    zero::<T>().exact_difference(a, "attempt to negate with overflow")
+    zero::<T>().exact_difference(a, crate::guards::Reason("attempt to negate with overflow"))
 }

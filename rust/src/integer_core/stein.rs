@@ -3,6 +3,7 @@
 //! volume 2, section 4.5.2, algorithm B).
 
 use crate::integer_core::native::Native;
+use crate::integer_core::Magnitudes;
 
 use num_traits::{Bounded, ToPrimitive, Unsigned};
 

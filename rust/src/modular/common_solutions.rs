@@ -56,7 +56,10 @@ use crate::{checked, Fits};
 pub fn chinese_remainder<T: Modular>(a: T, m: T, b: T, n: T) -> Option<(T, T)> {
     assert!(m > T::zero(), "the modulus is not positive");
     assert!(n > T::zero(), "the modulus is not positive");
-    m.expect_lcm(&n);
+    m.expect_lcm(
+        &n,
+        crate::guards::Reason("the least common multiple does not fit"),
+    );
     let start = residue(a, m);
     let gap = difference_modulo(b, start, n);
     let (times, step) = solutions(m, gap, n)?;

@@ -19,7 +19,8 @@ fn expect(result: Result<Ratio, RatioError>, reason: &'static str) -> Ratio {
 
 /// An operator and its assigning form, of fractions and of references to them.
 macro_rules! operator {
-    ($Operator:ident $method:ident $Assign:ident $assign:ident $checked:ident $reason:literal $docs:literal) => {
+    ($Operator:ident $method:ident $Assign:ident $assign:ident $checked:ident
+        $reason:literal $docs:literal) => {
         operator!(@by_value $Operator $method $checked $reason $docs Ratio, Ratio);
         operator!(@by_value $Operator $method $checked $reason $docs Ratio, &Ratio);
         operator!(@by_value $Operator $method $checked $reason $docs &Ratio, Ratio);
@@ -39,7 +40,8 @@ macro_rules! operator {
             }
         }
     };
-    (@by_value $Operator:ident $method:ident $checked:ident $reason:literal $docs:literal $A:ty, $B:ty) => {
+    (@by_value $Operator:ident $method:ident $checked:ident
+        $reason:literal $docs:literal $A:ty, $B:ty) => {
         #[doc = $docs]
         impl $Operator<$B> for $A {
             type Output = Ratio;
@@ -53,13 +55,13 @@ macro_rules! operator {
 }
 
 operator!(Add add AddAssign add_assign checked_add "the sum of the fractions does not fit"
-    "Panics if [`Ratio::checked_add`] returns an error: a part of the sum does not fit an `i64`.");
+    "Panics if [`Ratio::checked_add`] returns an error: a part of the sum does not fit.");
 operator!(Sub sub SubAssign sub_assign checked_sub "the difference of the fractions does not fit"
-    "Panics if [`Ratio::checked_sub`] returns an error: a part of the difference does not fit an `i64`.");
+    "Panics if [`Ratio::checked_sub`] returns an error: a part of the difference does not fit.");
 operator!(Mul mul MulAssign mul_assign checked_mul "the product of the fractions does not fit"
-    "Panics if [`Ratio::checked_mul`] returns an error: a part of the product does not fit an `i64`.");
+    "Panics if [`Ratio::checked_mul`] returns an error: a part of the product does not fit.");
 operator!(Div div DivAssign div_assign checked_div "the quotient of the fractions does not fit"
-    "Panics if [`Ratio::checked_div`] returns an error: the divisor is 0, or a part of the quotient does not fit an `i64`.");
+    "Panics if [`Ratio::checked_div`] returns an error: the divisor is 0, or a part does not fit.");
 
 /// Panics if [`Ratio::checked_neg`] returns an error: the numerator is `i64::MIN`.
 impl Neg for Ratio {

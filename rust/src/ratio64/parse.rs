@@ -115,7 +115,7 @@ impl Error for ParseRatioError {}
 ///
 /// # Errors
 ///
-/// - [`ParseRatioError::NotAFraction`](crate::ratio64::ParseRatioError::NotAFraction) if the text
+/// - [`ParseRatioError::NotAFraction`](crate::ratio64::ParseRatioError::NotAFraction) if the string
 ///   is neither a whole number nor two of them with a slash between;
 /// - [`ParseRatioError::TooLong`](crate::ratio64::ParseRatioError::TooLong) if a part has more than
 ///   38 digits, without its leading zeros;
