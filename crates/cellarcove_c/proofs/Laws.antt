@@ -1,5 +1,5 @@
 -- The laws of specs/Laws.antt, a lemma each.
-use Rattle.std.specs.Prelude.{◌≡◌, ℕ, ℤ, zero, suc, FitsSigned, Some, None, Ok, Err}
+use Rattle.std.specs.Prelude.{◌≡◌, ◌↔◌, ◌<ℤ◌, ◌≤ℤ◌, ℕ, ℤ, zero, suc, pos, negsuc, FitsSigned, Some, None, Ok, Err}
 use Rattle.std.specs.Int.{w64}
 use Rattle.std.specs.declared.cmp.Ordering.TheVariants.{Equal, Greater, Less}
 use Rattle.std.proofs.Common.{◌∙◌, ap, arith, inl, inr, refl, subst, sym}
@@ -10,7 +10,8 @@ use Rattle.calendar.specs.declared.date.Date.{Date}
 use Rattle.calendar.proofs.ForCallers.{same_month}
 use Rattle.calendar.proofs.Laws.{date_is_only}
 use Rattle.calendar.proofs.Laws.{months_between_is_only as whole_months_are_only}
-use Rattle.cellarcove_c.specs.Laws.{AnswersIsOnly, MonthsBetweenIsOnly, MonthsLaterIsOnly, OnBothIsOnly, OrderNumberIsOnly, ReasonIsOnly, StandsForIsOnly, StandsForNumberIsOnly}
+use Rattle.cellarcove_c.specs.Statuses.{Either, bad_modulus}
+use Rattle.cellarcove_c.specs.Laws.{AnswersIsOnly, AnswersModuloIsOnly, MonthsBetweenIsOnly, MonthsLaterIsOnly, OnBothIsOnly, OrderNumberIsOnly, ReasonIsOnly, StandsForIsOnly, StandsForNumberIsOnly}
 use Rattle.ratio64.specs.declared.error.RatioError.{RatioError}
 use Rattle.ratio64.specs.declared.fraction.Ratio.{Ratio}
 
@@ -30,6 +31,34 @@ answers_is_only domain Is Reason zeros (suc s) (suc t) a b only one h k =
     let first = h.refusal (λ same. absurd (omega (arith, same))) in
     let second = k.refusal (λ same. absurd (omega (arith, same))) in
     (one (suc s) (suc t) first.1 second.1, first.0 ∙ sym second.0)
+
+-- what is not at most 0 is positive
+positive_of : (m : ℤ) → ¬ (m ≤ℤ pos 0) → pos 0 <ℤ m
+positive_of (pos zero) h = absurd (h (omega (arith, ints)))
+positive_of (pos (suc n)) h = omega (arith, ints)
+positive_of (negsuc n) h = absurd (h (omega (arith, ints)))
+
+-- two statuses of one modulus are the same
+same_reason : {modulus : ℤ} {reason s t : ℕ} → (s ≡ bad_modulus) ↔ (modulus ≤ℤ pos 0) → (t ≡ bad_modulus) ↔ (modulus ≤ℤ pos 0)
+    → Either bad_modulus reason s → Either bad_modulus reason t → s ≡ t
+same_reason h k (inl p) other = p ∙ sym (k.1 (h.0 p))
+same_reason h k (inr p) (inl q) = h.1 (k.0 q) ∙ sym q
+same_reason h k (inr p) (inr q) = p ∙ sym q
+
+pub answers_modulo_is_only : {A : Type 0} (modulus : ℤ) (reason : ℕ) (without : Type 0) (Is : A → Type 0) → AnswersModuloIsOnly modulus reason without Is
+answers_modulo_is_only modulus reason without Is zeros zero zero a b only never h k =
+    let positive = positive_of modulus (λ low. absurd (omega (arith, h.modulus_is_bad.1 low))) in
+    (refl, only a b (h.answer positive) (k.answer positive))
+answers_modulo_is_only modulus reason without Is zeros zero (suc t) a b only never h k =
+    let positive = positive_of modulus (λ low. absurd (omega (arith, h.modulus_is_bad.1 low))) in
+    absurd (never (k.answer positive) a (h.answer positive))
+answers_modulo_is_only modulus reason without Is zeros (suc s) zero a b only never h k =
+    let positive = positive_of modulus (λ low. absurd (omega (arith, k.modulus_is_bad.1 low))) in
+    absurd (never (h.answer positive) b (k.answer positive))
+answers_modulo_is_only modulus reason without Is zeros (suc s) (suc t) a b only never h k =
+    let first = h.refusal (λ same. absurd (omega (arith, same))) in
+    let second = k.refusal (λ same. absurd (omega (arith, same))) in
+    (same_reason {modulus = modulus} {reason = reason} h.modulus_is_bad k.modulus_is_bad first.1 second.1, first.0 ∙ sym second.0)
 
 -- ---- fractions
 

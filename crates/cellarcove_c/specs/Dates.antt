@@ -25,13 +25,15 @@ day_of date = day_number date.year date.month date.day_of_month
 abbrev pub zero_date : Parts
 zero_date = record { year = pos 0; month = 0; day_of_month = 0 }
 
--- A date lies in the month that is `months` after that of another, on the same day of the month, or on the last where there is
--- no such day.
+-- A date is in the month that is `months` after that of another, on the same day of the month, or on the last if there is no such
+-- day.
+-- Examples: from 2000-01-31, 1 month: 2000-02-29; not 2000-03-02.
 pub record IsMonthsLater (from_year : ℤ) (from_month from_day : ℕ) (months year : ℤ) (month day : ℕ) : Type 0 where
   pub month_is : month_number year month ≡ month_number from_year from_month +ℤ months
   pub day_is : day ≡ min from_day (days_in_month year month)
 
--- An answer is the whole months from one date to another, or there is none and they do not fit.
+-- A result is the number of whole months from one date to another, or `None` if it does not fit.
+-- Examples: from 2000-01-31 to 2000-02-29: `Some(1)`.
 abbrev pub MatchMonthsBetween : ℤ → ℕ → ℕ → ℤ → ℕ → ℕ → Option ℤ → Type 0
 MatchMonthsBetween year month day to_year to_month to_day answer = (from to : Date) × HasParts from year month day
     × HasParts to to_year to_month to_day × MatchOption answer

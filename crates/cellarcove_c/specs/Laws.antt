@@ -6,6 +6,7 @@ use Rattle.calendar.specs.Months.{IsDate}
 use Rattle.ratio64.specs.declared.error.RatioError.{RatioError}
 use Rattle.ratio64.specs.declared.fraction.Ratio.{Ratio}
 use Rattle.cellarcove_c.specs.Answers.{Answers}
+use Rattle.cellarcove_c.specs.Congruences.{AnswersModulo}
 use Rattle.cellarcove_c.specs.Dates.{IsMonthsLater, MatchMonthsBetween}
 use Rattle.cellarcove_c.specs.Fractions.{OnBoth, StandsFor, StandsForNumber, order_number}
 use Rattle.cellarcove_c.specs.Statuses.{IsReason}
@@ -20,6 +21,12 @@ ReasonIsOnly = (divisor : ℤ) (s t : ℕ) → IsReason (divisor ≡ pos 0) s �
 abbrev pub AnswersIsOnly : {A : Type 0} → Type 0 → (A → Type 0) → (ℕ → Type 0) → Type 0
 AnswersIsOnly {A} domain Is Reason = (zeros : A) (s t : ℕ) (a b : A) → ((x y : A) → Is x → Is y → x ≡ y) → ((p q : ℕ) → Reason p → Reason q → p ≡ q)
     → Answers domain Is Reason zeros s a → Answers domain Is Reason zeros t b → (s ≡ t) × (a ≡ b)
+
+-- If the property has at most one value, and none where the fact `without` holds, a call modulo a number has at most one status
+-- and one value.
+abbrev pub AnswersModuloIsOnly : {A : Type 0} → ℤ → ℕ → Type 0 → (A → Type 0) → Type 0
+AnswersModuloIsOnly {A} modulus reason without Is = (zeros : A) (s t : ℕ) (a b : A) → ((x y : A) → Is x → Is y → x ≡ y) → (without → (x : A) → ¬ (Is x))
+    → AnswersModulo modulus reason without Is zeros s a → AnswersModulo modulus reason without Is zeros t b → (s ≡ t) × (a ≡ b)
 
 -- ---- fractions
 

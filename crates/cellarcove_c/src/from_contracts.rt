@@ -1,17 +1,21 @@
 //! The laws of what the calls say.
 
 ghost use Rattle.std.specs.Prelude.{◌≡◌, ◌≤ℤ◌, ◌*ℤ◌, pos, Err};
+ghost use Rattle.modular.specs.Congruences.{IsInverse};
 ghost use Rattle.num_integer.specs.Division.{IsFloored, IsQuotient};
 ghost use Rattle.num_integer.specs.RootOf.{IsRoot};
 ghost use Rattle.ratio64.specs.Ratio.{AnswersFraction, den_of, num_of};
-ghost use Rattle.cellarcove_c.specs.Laws.{AnswersIsOnly, MonthsBetweenIsOnly, MonthsLaterIsOnly, OnBothIsOnly, OrderNumberIsOnly, ReasonIsOnly, StandsForIsOnly, StandsForNumberIsOnly};
-ghost use Rattle.cellarcove_c.specs.Statuses.{Only, outside};
+ghost use Rattle.cellarcove_c.specs.Congruences.{IsNever};
+ghost use Rattle.cellarcove_c.specs.Laws.{AnswersIsOnly, AnswersModuloIsOnly, MonthsBetweenIsOnly, MonthsLaterIsOnly, OnBothIsOnly, OrderNumberIsOnly, ReasonIsOnly, StandsForIsOnly, StandsForNumberIsOnly};
+ghost use Rattle.cellarcove_c.specs.Statuses.{Only, no_solution, outside};
 
 /// Says the laws, each of which is proved by its lemma; those of any property at one of them. No call
 /// needs it.
 fn laws()
     ensures reason_is_only { ReasonIsOnly }
     ensures answers_is_only { AnswersIsOnly (pos 0 ≤ℤ pos 99) (IsRoot (pos 99) 2) (Only outside) }
+    ensures answers_modulo_is_only { AnswersModuloIsOnly (pos 7) no_solution
+        (IsNever (IsInverse (pos 3) (pos 7))) (IsInverse (pos 3) (pos 7)) }
     ensures stands_for_is_only { StandsForIsOnly }
     ensures stands_for_number_is_only { StandsForNumberIsOnly
         (λ x number. IsQuotient IsFloored (num_of x) (den_of x) number) }
