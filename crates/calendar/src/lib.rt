@@ -20,7 +20,7 @@ pub use months::days_in_month;
 pub use text::DateError;
 pub use weekday::{Weekday, WeekdayError, weekday_of};
 pub use weeks::{
-    first_weekday_on_or_after, last_weekday_of_month, last_weekday_on_or_before,
-    next_last_weekday, nth_weekday_of_month,
+    first_weekday_on_or_after, last_weekday_of_month, last_weekday_on_or_before, next_last_weekday,
+    nth_weekday_of_month,
 };
 pub use years::{days_in_year, is_leap_year};
