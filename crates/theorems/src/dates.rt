@@ -5,7 +5,7 @@ ghost use Rattle.std.specs.Hash as written;
 ghost use Rattle.std.specs.Int.{w64};
 ghost use Rattle.std.specs.List.{fold};
 ghost use Rattle.std.specs.Option.{SomeIff};
-ghost use Rattle.calendar.specs.Dates.{HasMonths, IsLastWeekdayOfMonth, IsMonthsAfter, IsMonthsBetween, IsNextLastWeekday, IsNthWeekday, number_of};
+ghost use Rattle.calendar.specs.Dates.{HasMonths, IsEarlier, IsLastWeekdayOfMonth, IsMonthsAfter, IsMonthsBetween, IsNextLastWeekday, IsNthWeekday, number_of};
 ghost use Rattle.calendar.specs.Easter.{IsEaster};
 ghost use Rattle.calendar.specs.IsoWeeks.{IsDayOfIsoWeek, IsInIsoWeek};
 ghost use Rattle.calendar.specs.LeapYears.{is_leap_year};
@@ -51,11 +51,19 @@ pub fn weekday_later(date: &Date, days: i64) -> Option<Weekday>
     Some(date.plus_days(days)?.weekday())
 }
 
-/// Dates are in the order of their days.
+/// Dates are in the order of their years, months and days of the month.
+pub fn is_earlier(first: &Date, second: &Date) -> bool
+    ensures { IsTrue result ↔ IsEarlier first.now second.now }
+{
+    first < second
+}
+
+/// Dates are in the order of their days, by the law of that order.
+#[tactic(auto, using(calendar::proofs::Laws::order_of_dates))]
 pub fn is_before(first: &Date, second: &Date) -> bool
     ensures { IsTrue result ↔ (number_of first.now <ℤ number_of second.now) }
 {
-    first < second
+    is_earlier(first, second)
 }
 
 /// Dates are equal exactly if their days are.
