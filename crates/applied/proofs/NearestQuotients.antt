@@ -156,40 +156,52 @@ module _ {n d q r : ℤ} (h : IsFloored n d q r) where
       (λ up. let side = sides.0 (omega (arith, sizes)) in omega (arith, sizes))
 
   pub nearest_down : (A : Type 0) → IsDown A d r → (A → q <ℤ pos 0) → IsQuotient IsNearest n d q
-  nearest_down A down below = record { remainder = r; division = record {
-    division = h.division;
-    nearest = down_near A d r down;
-    tie = λ half. elim down [ inl less ↦ absurd (omega arith) | inr is ↦ half_below (below is.1) half ];
-  } }
+  nearest_down A down below = record {
+    remainder = r;
+    division = record {
+      division = h.division;
+      nearest = down_near A d r down;
+      tie = λ half. elim down [ inl less ↦ absurd (omega arith) | inr is ↦ half_below (below is.1) half ];
+    };
+  }
 
   pub nearest_up : (A : Type 0) → ¬ (IsDown A d r) → (¬ A → pos 0 ≤ℤ q) → IsQuotient IsNearest n d (q +ℤ pos 1)
   nearest_up A none above =
       let is = not_down A d r none in
       let next = next_near is.0 in
       let size = next.1 in
-      record { remainder = r -ℤ d; division = record {
-        division = next.0;
-        nearest = omega (arith, is.0);
-        tie = λ half. let same : 2 * unsigned_abs r ≡ unsigned_abs d = omega arith in half_above (above (is.1 same)) same;
-      } }
+      record {
+        remainder = r -ℤ d;
+        division = record {
+          division = next.0;
+          nearest = omega (arith, is.0);
+          tie = λ half. let same : 2 * unsigned_abs r ≡ unsigned_abs d = omega arith in half_above (above (is.1 same)) same;
+        };
+      }
 
   pub even_down : (A : Type 0) → IsDown A d r → (A → IsEven q) → IsQuotient IsNearestEven n d q
-  even_down A down even = record { remainder = r; division = record {
-    division = h.division;
-    nearest = down_near A d r down;
-    tie = λ half. elim down [ inl less ↦ absurd (omega arith) | inr is ↦ even is.1 ];
-  } }
+  even_down A down even = record {
+    remainder = r;
+    division = record {
+      division = h.division;
+      nearest = down_near A d r down;
+      tie = λ half. elim down [ inl less ↦ absurd (omega arith) | inr is ↦ even is.1 ];
+    };
+  }
 
   pub even_up : (A : Type 0) → ¬ (IsDown A d r) → (IsEven q → A) → IsQuotient IsNearestEven n d (q +ℤ pos 1)
   even_up A none even =
       let is = not_down A d r none in
       let next = next_near is.0 in
       let size = next.1 in
-      record { remainder = r -ℤ d; division = record {
-        division = next.0;
-        nearest = omega (arith, is.0);
-        tie = λ half. let same : 2 * unsigned_abs r ≡ unsigned_abs d = omega arith in next_even q (λ is_even. is.1 same (even is_even));
-      } }
+      record {
+        remainder = r -ℤ d;
+        division = record {
+          division = next.0;
+          nearest = omega (arith, is.0);
+          tie = λ half. let same : 2 * unsigned_abs r ≡ unsigned_abs d = omega arith in next_even q (λ is_even. is.1 same (even is_even));
+        };
+      }
 
 -- ---- the only ones
 

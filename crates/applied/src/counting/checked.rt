@@ -4,9 +4,9 @@ ghost use Rattle.std.specs.Prelude.{◌≡◌, ◌≤ℤ◌, ◌-ℤ◌, pos};
 ghost use Rattle.num_integer.specs.Checked.{AnswersWhere};
 ghost use Rattle.applied.specs.Counting.{factorial_of, falling_of};
 
-use num_integer::operators::{difference, is_below, is_negative, one, successor, zero};
 use num_integer::Fits;
 use num_integer::checked::product;
+use num_integer::operators::{difference, is_below, is_negative, one, successor, zero};
 
 /// Returns [`factorial`](crate::counting::factorial), the product of the numbers from 1 to `n`, or `None` if `n`
 /// is negative or the factorial does not fit. `factorial(5u8)` is `Some(120)`, and `factorial(6u8)` is `None`.
