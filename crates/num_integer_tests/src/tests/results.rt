@@ -79,6 +79,18 @@ fn counted<T: Fits>(x: T, y: (T, u32)) -> Numbers
     if_same(x == y.0, two(x.parts(), (false, u128::from(y.1))))
 }
 
+/// The quotient and the remainder by `/` and `%`, if the quotient fits.
+fn operators<T: Fits>(n: T, d: T) -> Option<(T, T)>
+    requires n_in_range { T.fits (T.value n) }
+    requires d_in_range { T.fits (T.value d) }
+{
+    if n.quotient_fits(&d) {
+        Some((n / d, n % d))
+    } else {
+        None
+    }
+}
+
 /// The greatest common divisor with its pair, and the turns.
 fn bezout<T: Fits>(a: T, b: T) -> Option<Numbers>
     requires in_range { T.fits (T.value a) × T.fits (T.value b) }
@@ -125,10 +137,7 @@ fn of_division<T: Fits>(call: Call, n: T, d: T) -> Option<Numbers>
 {
     Some(match call {
         Call::DivRem => both_agreed(checked::div_rem(n, d)?, div_rem(n, d)),
-        Call::Operators => {
-            let both = checked::div_rem(n, d)?;
-            both_agreed(both, (n / d, n % d))
-        }
+        Call::Operators => both_agreed(checked::div_rem(n, d)?, operators(n, d)?),
         Call::DivFloor => agreed(checked::div_floor(n, d)?, div_floor(n, d)),
         Call::ModFloor => agreed(checked::mod_floor(n, d)?, mod_floor(n, d)),
         Call::DivModFloor => both_agreed(checked::div_mod_floor(n, d)?, div_mod_floor(n, d)),
