@@ -52,7 +52,7 @@ fn pay_day(year: i64, month: u8) -> Option<Date> {
     last_weekday_of_month(year, month, Weekday::Friday)
 }
 
-/// The first last Friday of a month after a date.
+/// The first date after another that is the last Friday of its month.
 fn next_pay_day(date: &Date) -> Option<Date> {
     next_last_weekday(date, Weekday::Friday)
 }

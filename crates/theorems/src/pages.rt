@@ -8,13 +8,13 @@ ghost use Rattle.num_integer.specs.Least.{IsLeastFrom};
 ghost use Rattle.applied.specs.Paging.{IsPlace};
 ghost use Rattle.applied.specs.Ranking.{IsChoice, rank_of};
 ghost use Rattle.applied.specs.Schedules.{IsMeeting, IsMeetingOfEach};
-ghost use Rattle.applied.specs.Shares.{IsNearShare};
+ghost use Rattle.applied.specs.Shares.{IsNearShare, signed_sum};
 
 use applied::layout::align_up;
 use applied::paging::{item_at, range_of_page};
 use applied::ranking::{is_choice, next_choice, rank, rank_fits};
 use applied::schedules::{Schedule, next_meeting, next_meeting_of};
-use applied::shares::shares;
+use applied::shares::{shares, signed_shares};
 use modular::CommonSolution;
 use num_integer::Fits;
 
@@ -89,6 +89,15 @@ pub fn split_by_read(cents: u64, weights: &[u64], parts: &mut [u64]) -> bool
     ensures nobody { IsFalse result → sum weights.now ≡ 0 }
 {
     shares(cents, weights, parts)
+}
+
+/// A refund, split by weights, or `false` if nobody is to get it.
+pub fn refund_by_weights(cents: i64, weights: &[u64], parts: &mut [i64]) -> bool
+    requires { length parts.old ≡ length weights.now }
+    ensures whole { IsTrue result → signed_sum parts.new ≡ cents }
+    ensures nobody { IsFalse result → sum weights.now ≡ 0 }
+{
+    signed_shares(cents, weights, parts)
 }
 
 // ---- offsets and schedules
