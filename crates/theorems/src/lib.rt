@@ -18,8 +18,8 @@
 //! | `dates.rt` | `calendar`: dates and their days, weeks, months, Easter |
 //! | `pages.rt` | `applied`: pages and parts, offsets, schedules, choices |
 //! | `lists.rt` | `applied`: divisors and multiples of lists, coprime numbers, reduced pairs |
-//! | `tasks.rt` | everyday tasks: a resolution, pages, a cipher, a recipe |
 //! | `rounding.rt` | `applied`: nearest quotients, roots and what is left, logarithms, factorials |
+//! | `tasks.rt` | everyday tasks: pages of items, a cipher, amounts of money, a recipe |
 //!
 //! Most functions have no proof file: the search proves them from the contracts of what they call. The others have theirs in
 //! `proofs/`, under the names of the file and of the function.
@@ -35,5 +35,5 @@ pub mod laws;
 pub mod lists;
 pub mod pages;
 pub mod residues;
-pub mod tasks;
 pub mod rounding;
+pub mod tasks;
