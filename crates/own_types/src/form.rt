@@ -42,7 +42,7 @@ pub trait Form: Copy {
         requires { Between Self.low Self.high number }
         ensures { Self.meaning result ≡ number };
 
-    /// The number, stored as the answer of a call on the two.
+    /// The number, stored as the result of a call on the two.
     fn answer(&self, _other: &Self, number: i64) -> Self
         requires { Between Self.low Self.high number }
         ensures { Self.meaning result ≡ number }
@@ -50,7 +50,7 @@ pub trait Form: Copy {
         Self::store(number)
     }
 
-    /// The magnitude of the least number, and the greatest number.
+    /// The magnitude of the smallest number, and the largest number.
     fn ends() -> (u128, u128)
         ensures low { result.0 ≡ unsigned_abs Self.low }
         ensures high { pos result.1 ≡ Self.high };
@@ -93,7 +93,7 @@ impl<F: Form> Own<F> {
         self.form.number()
     }
 
-    /// The answer of a call on the two.
+    /// The result of a call on the two.
     fn answer(&self, other: &Own<F>, number: i64) -> Own<F>
         requires { Between F.low F.high number }
         ensures value { F.meaning result.form ≡ number }
@@ -352,7 +352,7 @@ impl<F: Form> Fits for Own<F> {
 
 impl<F: Form> Modular for Own<F> {}
 
-/// A form of numbers that go as far below 0 as above.
+/// A form whose smallest number is minus the largest.
 pub trait SignedForm: Form {
     ghost sign_law: { Self.low ≡ neg_ℤ Self.high };
 }

@@ -119,8 +119,8 @@ impl SignedForm for NegatedForm {
     ghost sign_law = { refl };
 }
 
-/// From -100 to 100, beside a byte that no number depends on: the greatest of the bytes of a
-/// call's operands and 1 more, as far as it goes.
+/// From -100 to 100, with a byte that no number depends on. The byte of a result is 1 more than the larger byte
+/// of the operands, and at most 255.
 #[derive(Clone, Copy)]
 pub struct MarkedForm {
     number: i8,
@@ -129,7 +129,7 @@ pub struct MarkedForm {
 }
 
 impl Own<MarkedForm> {
-    /// The same number beside this byte.
+    /// The same number with this byte.
     pub fn with_mark(self, mark: u8) -> Own<MarkedForm>
         ensures { result.form.number ≡ self.form.number }
     {

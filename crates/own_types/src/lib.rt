@@ -1,5 +1,5 @@
 //! What the crates of tests share: lawful types that the library does not know, the names of all types,
-//! and integers by sign and magnitude, computed apart from the library.
+//! and integers by sign and magnitude.
 //!
 //! `Percent` is written out in full, as an example of what a lawful type costs. The five others share all but the way in
 //! which they store a number.
@@ -20,7 +20,7 @@ pub type Small = Own<forms::SmallForm>;
 /// From -7 to 7, stored negated.
 pub type Negated = Own<forms::NegatedForm>;
 
-/// From -100 to 100, beside a byte that no number depends on.
+/// From -100 to 100, with a byte that no number depends on.
 pub type Marked = Own<forms::MarkedForm>;
 
 /// 0 and 1, with no 2.

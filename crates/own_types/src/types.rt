@@ -8,7 +8,7 @@ use num_integer::counted::GcdCounted;
 use num_integer::{Average, Fits};
 use num_traits::FromPrimitive;
 
-/// A type of whole numbers.
+/// A type of integers.
 #[derive(Clone, Copy, Debug)]
 pub enum Type {
     I8,
@@ -33,25 +33,25 @@ pub enum Type {
 
 use Type::{I8, I16, I32, I64, I128, Isize, U8, U16, U32, U64, U128, Usize};
 
-/// The types of the library with a sign.
+/// The signed native types.
 pub const SIGNED: [Type; 6] = [I8, I16, I32, I64, I128, Isize];
 
-/// The types of the library with no sign.
+/// The unsigned native types.
 pub const UNSIGNED: [Type; 6] = [U8, U16, U32, U64, U128, Usize];
 
-/// The types of the library.
+/// The native types.
 pub const NATIVE: [Type; 12] = [
     I8, I16, I32, I64, I128, Isize, U8, U16, U32, U64, U128, Usize,
 ];
 
 /// A type whose values the tests make of numbers.
 pub trait Tested: Average + Fits {
-    /// The number of this sign and magnitude as a value of the type, where the type has it.
+    /// The number of this sign and magnitude as a value of the type, if the type has it.
     fn from_signed_magnitude(n: SignedMagnitude) -> Option<Self>
         ensures { IfSome result (λ x. Self.fits (Self.value x)) };
 
-    /// The greatest common divisor and the turns of its loop, where the divisor fits and the type has
-    /// the call that counts them.
+    /// The greatest common divisor and the turns of its loop, if the divisor fits and the type has the
+    /// call that counts them.
     fn gcd_and_turns(&self, _other: &Self) -> Option<(Self, u32)>
         requires self_in_range { Self.fits (Self.value self.now) }
         requires other_in_range { Self.fits (Self.value _other.now) }

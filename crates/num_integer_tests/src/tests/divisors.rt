@@ -51,7 +51,7 @@ fn check_by_euclid(rt: &impl Abort, alloc: Global, it: Type, (low, high): (i128,
     for a in low..=high {
         for b in low..=high {
             let (a, b) = (signed_magnitude_of(a), signed_magnitude_of(b));
-            let (gcd, _) = euclidean_gcd(a.1, b.1);
+            let gcd = euclidean_gcd(a.1, b.1);
             returns(rt, alloc, (it, Gcd), &[a, b], Some(one((false, gcd))));
         }
     }
