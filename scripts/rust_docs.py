@@ -23,7 +23,7 @@ SAYS = {'struct': 'Of the source, in Rattle: it holds of each value of the type.
 # What the pages of the module `definitions` are about.
 PAGES = {'integer_core': 'ranges, division, divisors, Bezout pairs and the turns of their loops',
          'integer_roots': 'averages, roots and the turns of their loops', 'num_integer': 'coefficients and checked calls',
-         'modular': 'residues and congruences', 'ratio64': 'fractions', 'calendar': 'dates', 'applied': 'paging, schedules, ranking, alignment and hashing'}
+         'modular': 'residues and congruences', 'ratio64': 'fractions', 'calendar': 'dates', 'applied': 'lists, rounding, shares, factorials, paging, schedules, ranking, alignment and hashing'}
 
 
 class Page:

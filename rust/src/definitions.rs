@@ -1970,7 +1970,8 @@ pub mod calendar {
 }
 
 pub mod applied {
-    //! Words of paging, schedules, ranking, alignment and hashing.
+    //! Words of lists, rounding, shares, factorials, paging, schedules, ranking, alignment and
+    //! hashing.
     //!
     //! ## `falling`
     //!
