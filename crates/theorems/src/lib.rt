@@ -17,7 +17,7 @@
 //! | `fractions.rt` | `ratio64`: exact results and refusals, order, rounding |
 //! | `dates.rt` | `calendar`: dates and their days, weeks, months, Easter |
 //! | `pages.rt` | `applied`: pages and parts, offsets, schedules, choices |
-//! | `tasks.rt` | everyday tasks: a resolution, pages, a cipher, a recipe |
+//! | `tasks.rt` | everyday tasks: pages of items, a cipher, amounts of money, a recipe |
 //!
 //! Most functions have no proof file: the search proves them from the contracts of what they call. The others have theirs in
 //! `proofs/`, under the names of the file and of the function.

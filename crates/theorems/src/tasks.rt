@@ -2,7 +2,6 @@
 
 ghost use Rattle.std.specs.Prelude.{◌≡◌, ◌↔◌, ◌+◌, ◌*◌, ◌/◌, ◌%◌, ◌<◌, ◌≤◌, ◌^◌, ◌<ℤ◌, ◌*ℤ◌, Err, MatchOption, pos, sum, ℕ};
 ghost use Rattle.num_integer.specs.Division.{IsCeiled, IsQuotient};
-ghost use Rattle.num_integer.specs.Divisors.{IsGreatestCommonDivisor};
 ghost use Rattle.applied.specs.Paging.{IsRangeOfPage};
 ghost use Rattle.modular.specs.Congruences.{IsResidue};
 ghost use Rattle.ratio64.specs.Fraction.{IsOutsideI64};
@@ -14,18 +13,6 @@ use applied::paging::range_of_page;
 use modular::{difference_modulo, quotient_modulo, residue};
 use num_integer::{Integer, checked};
 use ratio64::{Ratio, RatioError};
-
-// ---- the resolution of a screen
-
-/// A width and a height in lowest terms. `resolution(1920, 1080)` is `(16, 9)`.
-pub fn resolution(width: u64, height: u64) -> (u64, u64)
-    requires { 0 < height }
-    ensures lowest { IsGreatestCommonDivisor (pos result.0) (pos result.1) (pos 1) }
-    ensures same_ratio { width * result.1 ≡ height * result.0 }
-{
-    let divisor = width.gcd(&height);
-    (width / divisor, height / divisor)
-}
 
 // ---- pages of items
 
