@@ -1,11 +1,11 @@
 //! The tasks of the cookbook, each by a call or two.
 
-ghost use Rattle.std.specs.Prelude.{◌<◌};
+ghost use Rattle.std.specs.Prelude.{◌<◌, ◌≤◌};
 
 use applied::schedules::next_meeting;
 use applied::{layout, paging, ranking};
 use calendar::{Date, IsoWeek, Weekday, easter, last_weekday_of_month, months_between};
-use modular::{CommonSolution, inverse_modulo};
+use modular::{CommonSolution, inverse_modulo, residue};
 use num_integer::{Integer, checked};
 use ratio64::{ParseRatioError, Ratio};
 use std::str::FromStr;
@@ -67,6 +67,35 @@ fn tax(cents: i64) -> Option<i64> {
     Some(tax)
 }
 
+/// A resolution in lowest terms.
+fn resolution(width: u32, height: u32) -> Ratio
+    requires { 0 < height }
+{
+    Ratio::new(i64::from(width), i64::from(height)).unwrap()
+}
+
+/// A byte times `factor` plus `shift`, modulo 256.
+fn encrypted(factor: u8, shift: u8, byte: u8) -> u8 {
+    residue(u32::from(factor) * u32::from(byte) + u32::from(shift), 256) as u8
+}
+
+/// The part of an amount by its weight, rounded down.
+fn part_by_weight(cents: u64, weight: u64, total: u64) -> u64
+    requires positive { 0 < total }
+    requires within { weight ≤ total }
+{
+    (u128::from(cents) * u128::from(weight) / u128::from(total)) as u64
+}
+
+/// The sum of the amounts, or `None` if it does not fit.
+fn total_of(amounts: &[u64]) -> Option<u64> {
+    let mut total = 0;
+    for amount in amounts {
+        total = checked::sum(total, *amount)?;
+    }
+    Some(total)
+}
+
 /// The nearest fraction of a denominator up to 10.
 fn simple(x: &Ratio) -> Ratio {
     x.limit_denominator(10)
@@ -106,6 +135,9 @@ fn tasks_on_numbers(rt: HostRuntime) {
     assert!(rt; both_buses(10) == CommonSolution::At(21));
     assert!(rt; tax(i64::MAX) == Some(1752440687002407403));
     assert!(rt; inverse(3) == Some(333333336) && inverse(0).is_none());
+    assert!(rt; encrypted(5, 8, 200) == 240);
+    assert!(rt; part_by_weight(u64::MAX, 1, 3) == 6148914691236517205);
+    assert!(rt; total_of(&[2, 3, 5]) == Some(10) && total_of(&[u64::MAX, 1]).is_none());
 }
 
 #[test]
@@ -125,6 +157,8 @@ fn tasks_on_fractions(rt: HostRuntime) {
         _ => panic!(rt; "they are fractions"),
     }
     assert!(rt; read("1/0").is_err() && read("1.5").is_err());
+    let screen = resolution(1920, 1080);
+    assert!(rt; (screen.num(), screen.den()) == (16, 9));
 }
 
 #[test]
