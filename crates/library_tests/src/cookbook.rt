@@ -101,15 +101,6 @@ fn part_by_weight(cents: u64, weight: u64, total: u64) -> u64
     (u128::from(cents) * u128::from(weight) / u128::from(total)) as u64
 }
 
-/// The sum of the amounts, or `None` if it does not fit.
-fn total_of(amounts: &[u64]) -> Option<u64> {
-    let mut total = 0;
-    for amount in amounts {
-        total = checked::sum(total, *amount)?;
-    }
-    Some(total)
-}
-
 /// The nearest fraction of a denominator up to 10.
 fn simple(x: &Ratio) -> Ratio {
     x.limit_denominator(10)
@@ -152,7 +143,6 @@ fn tasks_on_numbers(rt: HostRuntime) {
     assert!(rt; inverse(3) == Some(333333336) && inverse(0).is_none());
     assert!(rt; encrypted(5, 8, 200) == 240);
     assert!(rt; part_by_weight(u64::MAX, 1, 3) == 6148914691236517205);
-    assert!(rt; total_of(&[2, 3, 5]) == Some(10) && total_of(&[u64::MAX, 1]).is_none());
 }
 
 #[test]

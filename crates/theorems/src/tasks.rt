@@ -16,9 +16,9 @@ use ratio64::{Ratio, RatioError};
 
 // ---- pages of items
 
-/// The page of an item and its place there, all counted from 0. `page_and_place(10, 4)` is `(2, 2)`.
+/// The page of an item and its place there, all counted from 0. `page_with_place(10, 4)` is `(2, 2)`.
 #[tactic(auto, using(num_integer::proofs::ForCallers::division_is_natural))]
-pub fn page_and_place(item: usize, size: usize) -> (usize, usize)
+pub fn page_with_place(item: usize, size: usize) -> (usize, usize)
     requires { 0 < size }
     ensures page { result.0 ≡ item / size }
     ensures place { result.1 ≡ item % size }
