@@ -123,6 +123,13 @@ def multinomial(bounds, counts):
     return fitting(bounds, ways)
 
 
+def rank(bounds, choice, n):
+    """The number of the choices of so many numbers below n that come before it: the largest number that differs is smaller."""
+    if any(low >= high for low, high in zip(choice, [*choice[1:], n])):
+        return OUTSIDE
+    return fitting(bounds, sum(coefficient(number, place) for place, number in enumerate(choice, 1)))
+
+
 # ---- residues and congruences
 
 def modulo(make):
@@ -374,6 +381,7 @@ RESULTS = {
     'is_perfect_power': lambda _, x: (int(any(is_power(x, degree) for degree in range(2, 65))),),
     'binomial': binomial,
     'multinomial': multinomial,
+    'rank': rank,
     'sum_modulo': modulo(lambda a, b, m: a + b),
     'difference_modulo': modulo(lambda a, b, m: a - b),
     'product_modulo': modulo(lambda a, b, m: a * b),

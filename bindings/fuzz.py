@@ -122,19 +122,22 @@ def alone(name, forms, numbers):
 
 
 def of_slice(name, forms):
-    """A call of a list of numbers, or of an array of them."""
+    """A call of a list of numbers, or of an array of them, and of the numbers after it."""
     call, width = random.choice(forms), random.randint(1, 64)
     kind, common = call.parameters[0].kind[2:-1], random.choice((1, 1, 6, 2**20))
     numbers = [number(kind, width) if random.random() < 0.2 else random.randrange(12) * common for _ in range(random.randrange(8))]
+    others = [number(parameter.kind, width) for parameter in call.parameters[1:]]
+    if others and random.random() < 0.7:
+        numbers = sorted(set(numbers))
     given = array.array(LETTERS[kind], numbers)
     if random.random() < 0.5:
         given = random.choice((numbers, iter(numbers)))
         call = forms[-1] if min(numbers, default=0) >= 0 else call
     try:
-        status, values = 0, plain(getattr(cellarcove, name)(given))
+        status, values = 0, plain(getattr(cellarcove, name)(given, *others))
     except cellarcove.Refused as refused:
         status, values = int(refused.status), None
-    judge(call, RANGES[call.parameters[0].kind[2:-1]], [numbers], status, values)
+    judge(call, RANGES[call.parameters[0].kind[2:-1]], [numbers, *others], status, values)
     return 1
 
 
