@@ -145,6 +145,9 @@ def linked(eraser, comment):
     """A comment whose links to names of the root lead there where the file does not import them."""
     if eraser.crate not in AT_ROOT:
         comment = re.sub(r'(\[`|\]\()crate::', rf'\1crate::{eraser.crate}::', comment)
+    # rustdoc rejects a target to which the label leads by itself
+    here = '::'.join(('crate', *(() if eraser.crate in AT_ROOT else (eraser.crate,)), *eraser.module.path))
+    comment = re.sub(rf'(\[`(\w+(?:::\w+)+)`\])\({here}::\2\)', r'\1', comment)
     roots = eraser.library.names_at(())
     found = {(*place, name) for (_, _, name), place in eraser.library.public.items()}
     bases = [()] if eraser.crate in AT_ROOT else [(eraser.crate,), ()]

@@ -7,8 +7,8 @@ use crate::Fits;
 
 /// Returns the greatest common divisor of the numbers, the largest that divides each of them.
 ///
-/// May be called if the result fits. Else use [`checked::gcd_of`](crate::lists::checked::gcd_of),
-/// which returns `None` if it does not fit. In an unsigned type it always fits.
+/// May be called if the result fits. Else use [`checked::gcd_of`], which returns
+/// `None` if it does not fit. In an unsigned type it always fits.
 ///
 /// [`lists::checked::gcd_of`](crate::lists::checked::gcd_of) is the same call, which returns `None`
 /// outside the domain.
@@ -51,8 +51,8 @@ pub fn gcd_of<T: Fits>(numbers: &[T]) -> T {
 /// Returns the least common multiple of the numbers, the smallest positive number that each of them
 /// divides, or 0 if one of them is 0.
 ///
-/// May be called if the result fits. Else use [`checked::lcm_of`](crate::lists::checked::lcm_of),
-/// which returns `None` if it does not fit.
+/// May be called if the result fits. Else use [`checked::lcm_of`], which returns
+/// `None` if it does not fit.
 ///
 /// [`lists::checked::lcm_of`](crate::lists::checked::lcm_of) is the same call, which returns `None`
 /// outside the domain.
