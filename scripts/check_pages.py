@@ -32,7 +32,8 @@ IMPORT = re.compile(r'(?:pub )?((?:ghost )?use .*);')
 CODE = re.compile(r'^ *```.*?^ *```$|`[^`\n]*`', re.M | re.S)
 LINK = re.compile(r'\]\(([^()\s]+)\)')
 HEADING = re.compile(r'#{1,6} (.*)')
-MESSAGE = re.compile(r'(?:assert!\([^;]*?,|panic!\(|expect\(|write_str\(|\.pad\()\s*"((?:[^"\\]|\\.)*)"')
+MESSAGE = re.compile(r'[a-z`].* .*')
+NO_CODE = re.compile(r'^ *//.*$|#!?\[(?:[^\[\]]|\[[^\[\]]*\])*\]', re.M)
 COMMAND = re.compile(r'(?:intcalc|cargo run --example \w+)(?: [^;|&]*)?|echo \$\?')
 
 
@@ -171,8 +172,10 @@ def follow_links():
 # ---- messages
 
 def messages_in(code):
-    """The messages of the panics and the errors in the text of a file of Rust, except those that are put together."""
-    return {message for message in MESSAGE.findall(re.sub(r'^ *//.*$', '', code, flags=re.M)) if '{' not in message}
+    """The messages of the panics and the errors in the text of a file of Rust, except those that are put together: each string of
+    several words that begins with a small letter."""
+    strings = re.findall(r'"((?:[^"\\]|\\.)*)"', NO_CODE.sub('', code))
+    return {string for string in strings if MESSAGE.fullmatch(string) and not set('{\\') & set(string)}
 
 
 def messages():
@@ -269,19 +272,22 @@ def links_self_test():
 
 
 CODE_WITH_MESSAGES = """    /// panic!("of a comment")
+    #[cfg_attr(x, note = "of [`T`] at compile time")]
     assert!(x < 1 && y.is_some(), "the first");
     let z = x.checked_add(1).expect("the second"); f.pad("the third"); panic!("{reason}");
     assert!(
         x < 2,
         "the fourth"
     );
+    operator!(Add checked_add "the fifth" "Panics if it does not fit."); Reason("`n` is the sixth");
+    f.write_str("a date, as \\"2024-02-29\\""); f.pad("serde");
 """
 
 
 def self_test():
     """The slips that are not found, and what is found that is no slip."""
     yield from links_self_test()
-    if messages_in(CODE_WITH_MESSAGES) != {'the first', 'the second', 'the third', 'the fourth'}:
+    if messages_in(CODE_WITH_MESSAGES) != {'the first', 'the second', 'the third', 'the fourth', 'the fifth', '`n` is the sixth'}:
         yield f'messages are found: {messages_in(CODE_WITH_MESSAGES)}'
     there = Files([RUST], [PROOF], 'half: std\n')
     for kind, text, wanted in QUOTED:

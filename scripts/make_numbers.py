@@ -45,11 +45,11 @@ def results(name):
 def table():
     rows = (
         ('lines of code, proved', lines('src', '.rt')),
-        ('lines of definitions: what you read to believe the contracts', lines('specs', '.antt')),
-        ('lines of proof, which you need not read', lines('proofs', '.antt')),
-        ('functions of `theorems`, each with what is proved of it', theorems()),
-        ('seeded bugs that the prover rejects, in each run of CI', seeded('must-fail')),
-        ('more of them, tried before a release', seeded('must-fail-release')),
+        ('lines of definitions, which say what the contracts mean', lines('specs', '.antt')),
+        ('lines of proof', lines('proofs', '.antt')),
+        ('functions of `theorems`', theorems()),
+        ('seeded bugs that the prover rejects in each run', seeded('must-fail')),
+        ('more of them before a release', seeded('must-fail-release')),
         ('results compared with `num-integer`', results('list.rt')),
         ('results compared with Python', results('libraries.rt')),
     )
