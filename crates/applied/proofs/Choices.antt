@@ -41,7 +41,7 @@ rank_of_first_at_most : (xs : List ℕ) (i : ℕ) → rank_of_first i xs ≤ ran
 unfolding rank_of_first rank_of
 rank_of_first_at_most xs i = sum_by-take-le term_of (enumerate_from 1 xs) i
 
--- it is below the number of choices of i numbers below m, where the last of them is below m
+-- it is below the number of choices of i numbers below m, if the last of them is below m
 rank_of_first_below : (xs : List ℕ) (i m : ℕ) → IsStrictlyIncreasing xs → i ≤ length xs → ((j : ℕ) → suc j ≡ i → slice_index xs j < m) → rank_of_first i xs < coefficient m i
 rank_of_first_below xs zero m up within last = omega (arith, coefficient-zero m, rank_of_none xs)
 rank_of_first_below xs (suc i) m up within last =
@@ -122,7 +122,7 @@ same_after_write {xs} {ys} {i} {c} within h =
       h.same i (omega arith) (omega arith) ∙ get_or-set_same ys i c 0 within,
     )
 
--- what is left after the greatest coefficient is below the one before it
+-- what is left after the largest coefficient is below the one before it
 rest_below : (c i rest : ℕ) → coefficient c (i + 1) ≤ rest → rest < coefficient (c + 1) (i + 1) → rest - coefficient c (i + 1) < coefficient c i
 rest_below c i rest part greatest =
     let rule : coefficient (c + 1) (i + 1) ≡ coefficient c i + coefficient c (i + 1) = rw (add-one c, add-one i) (pascal c i) in
@@ -159,7 +159,7 @@ still_before {xs} {ys} {i} same h = record {
   ];
 }
 
--- of two choices one is before the other, where they are not the same
+-- of two choices one is before the other, if they are not the same
 compare : (k : ℕ) (xs ys : List ℕ) → ((j : ℕ) → j < k → slice_index xs j ≡ slice_index ys j) ⊎ (IsBefore k xs ys ⊎ IsBefore k ys xs)
 compare zero xs ys = inl (λ j h. absurd (omega arith))
 compare (suc i) xs ys = elim (cases_lt (slice_index xs i) (slice_index ys i)) [
@@ -207,7 +207,7 @@ before_less {xs} {ys} {k} up xs_size ys_size h =
     let ys_whole : rank_of_first k ys ≡ rank_of ys = rw ys_size at (rank_of_all ys) in
     omega arith
 
--- a choice is before another exactly where its rank is less
+-- a choice is before another exactly if its rank is less
 pub before_exactly : {n : ℕ} {xs ys : List ℕ} → IsChoice n xs → IsChoice n ys → length xs ≡ length ys → IsBefore (length ys) xs ys ↔ (rank_of xs < rank_of ys)
 before_exactly {n} {xs} {ys} x y size = (
   before_less x.increasing size refl,

@@ -107,7 +107,7 @@ falling_of_none n k up less = ap pos (falling_none (unsigned_abs n) (unsigned_ab
 
 -- ---- the loop
 
--- The product of the numbers above low up to factor, where the last of them is to be high.
+-- The product of the numbers above low up to factor. The last of them is to be high.
 pub record IsProductSoFar (fits : ℤ → Type 0) (low factor high product : ℤ) : Type 0 where
   pub factor_in_range : fits factor
   pub product_in_range : fits product
@@ -158,9 +158,9 @@ module _ {fits : ℤ → Type 0} {low high : ℤ} where
       let same : factor ≡ high = omega (arith, linear) in
       rw same at h.is
 
--- ---- answers
+-- ---- results
 
--- an answer in other words
+-- a result in other words
 pub answers_is : {A domain other : Type 0} {P Q : A → Type 0} (r : Option A) → domain ↔ other → ((x : A) → P x → Q x) → AnswersWhere domain P r → AnswersWhere other Q r
 answers_is None same each h = λ o. h (same.1 o)
 answers_is (Some x) same each h = (same.0 h.0, each x h.1)

@@ -85,7 +85,7 @@ module _ {fits : ℤ → Type 0} {low high : ℤ} (range : IsRange fits low high
     λ h _. h,
   )
 
-  -- ---- the answer of `gcd_of`
+  -- ---- the result of `gcd_of`
 
   -- a divisor that is negative
   pub gcd_of_unfit : {numbers : List ℤ} {d : ℤ} → fits d → d <ℤ pos 0 → IsGreatestCommonDivisorOf numbers (pos (unsigned_abs d)) → ¬ (fits (neg_ℤ d)) → ¬ (GcdOfFits fits numbers)

@@ -31,7 +31,7 @@ next_of_each_is value schedules from next = record {
   least = λ u above h. next.least u (from.least u above (λ i d within. (h i d within).from_first)) (λ i d within. (h i d within).congruent);
 }
 
--- ---- the answers
+-- ---- the results
 
 pub meeting_of_solution : {X : Type 0} (value : X → ℤ) (fits : ℤ → Type 0) {now a b start from : ℤ} (p q : ℤ) (m : CommonSolution X) → IsLeastFrom a (λ z. b ≤ℤ z) start → IsLeastFrom now (λ z. start ≤ℤ z) from
     → MatchCommonSolution m ((t : ℤ) → ¬ (SolvesBothCongruences a p b q t)) ((t : ℤ) × IsNextCommonSolution from a p b q t × ¬ (fits t)) (λ t. fits (value t) × IsNextCommonSolution from a p b q (value t))

@@ -7,7 +7,7 @@ use Rattle.num_integer.specs.Only.{IsOnly}
 use Rattle.num_integer.proofs.ForCallers.{floored_remainder_range, linear, multiples_apart, product_from_zero, products}
 use Rattle.applied.specs.Paging.{IsRangeOfPage}
 
--- an item lies on a page where it is from the page times its size on, and before the same of the next page
+-- an item lies on a page if it is from the page times its size on, and before the same of the next page
 page_range_is : {page size items first end : ℤ} → pos 0 ≤ℤ first → first ≤ℤ end → end ≤ℤ items
     → ((item : ℤ) → first ≤ℤ item → item <ℤ end → (pos 0 ≤ℤ item) × ((page *ℤ size) ≤ℤ item) × (item <ℤ (page *ℤ size +ℤ size)))
     → ((item : ℤ) → pos 0 ≤ℤ item → item <ℤ items → (page *ℤ size) ≤ℤ item → item <ℤ (page *ℤ size +ℤ size) → (first ≤ℤ item) × (item <ℤ end))
