@@ -8,7 +8,7 @@ use Rattle.modular.specs.declared.common_solutions.CommonSolution.{CommonSolutio
 use Rattle.modular.specs.declared.common_solutions.CommonSolution.TheVariants.{Never, Beyond, At}
 use Rattle.modular.proofs.ForCallers.{congruent-equal}
 use Rattle.num_integer.specs.Least.{IsLeastFrom}
-use Rattle.num_integer.proofs.ForCallers.{Divides-difference, ceiled_quotient_least, expand, floored_by_range, floored_remainder_range, least_is_only, linear, only_pair_by_range, products}
+use Rattle.num_integer.proofs.ForCallers.{Divides-difference, ceiled_quotient_least, expand, floored_by_range, floored_range, least_is_only, linear, only_pair_by_range, products}
 use Rattle.applied.specs.Laws.{AlignedUpIsOnly, ChoiceOfRankIsOnly, GcdOfExists, GcdOfFitsExactly, GcdOfIsOnly, LcmOfExists, LcmOfIsOnly, LeastTimeIsOnly, LowerBoundIsOnly, MidpointIsOnly, PaddingIsOnly, PagesAreOnly, PartsDifferByOne, PlaceExists, PlaceIsOnly, RankIsBelow, ReducedPairExists, ReducedPairIsOnly, FallingByCoefficient, FallingFormula, LogarithmIsOnly, NearestEvenQuotientIsOnly, NearestQuotientExists, NearestQuotientFitsExactly, NearestQuotientIsOnly, NoIntegerIsNearer}
 use Rattle.num_integer.proofs.Laws.{division_exists}
 use Rattle.applied.specs.Schedules.{IsLeastTime}
@@ -28,7 +28,7 @@ pages_are_only = λ items size count other enough fewest other_enough other_fewe
 pub place_exists : PlaceExists
 place_exists = λ item page_size up.
     let division = division_exists.1 item page_size (λ e. omega (arith, linear)) in
-    let range = floored_remainder_range up (record { quotient = division.0; division = division.2 }) in
+    let range = floored_range up division.2 in
     (division.0, division.1, record { equation = division.2.division.equation; from_zero = range.0; below = range.1 })
 
 pub place_is_only : PlaceIsOnly

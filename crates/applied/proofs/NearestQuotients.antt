@@ -73,15 +73,6 @@ missing_within d r (inl up) = inl (omega (arith, linear, up.1), omega (arith, li
 missing_within d r (inr down) = inr (omega (arith, linear, down.1), omega (arith, linear, down.0))
 
 module _ {n d q r : ℤ} (h : IsFloored n d q r) where
-  -- the remainder lies between 0 and the divisor
-  pub rest_within : LiesWithin d r
-  rest_within =
-      let small = h.division.small in
-      let sign = h.sign in
-      by_lt_z d (pos 0)
-      (λ down. inr (omega (arith, sizes), omega (arith, sizes)))
-      (λ up. inl (omega (arith, sizes), omega (arith, sizes)))
-
   -- the next quotient, if the quotient rounded down is not the nearer one
   next_near : (A : Type 0) → ¬ (IsDown A d r) → IsDivision n d (q +ℤ pos 1) (r -ℤ d) × (2 * unsigned_abs (r -ℤ d) ≤ unsigned_abs d) × (2 * unsigned_abs (r -ℤ d) ≡ unsigned_abs d → (2 * unsigned_abs r ≡ unsigned_abs d) × (¬ A))
   next_near A none =

@@ -1,10 +1,11 @@
 use Rattle.std.specs.Prelude.{IsTrue}
 use Rattle.std.proofs.lemmas.Bool.{iff_false}
-use Rattle.applied.proofs.NearestQuotients.{next_fits, rest_within}
+use Rattle.num_integer.proofs.ForCallers.{floored_remainder_within}
+use Rattle.applied.proofs.NearestQuotients.{next_fits}
 use Rattle.applied.proofs.rounding.nearer.Goals as goal
 
 pub rounds_down-requires-clause-within : goal.rounds_down-requires-clause-within
-rounds_down-requires-clause-within g c = rest_within c.requires.floored.2
+rounds_down-requires-clause-within g c = floored_remainder_within c.requires.floored.2
 
 pub successor-requires-clause-sum_fits : goal.successor-requires-clause-sum_fits
 successor-requires-clause-sum_fits g c =
