@@ -98,14 +98,8 @@ no_first {xs} none = record { increasing = λ j h. absurd (omega arith); below =
 first_with_next : {xs : List ℕ} {i c bound rest : ℕ} → i < length xs → slice_index xs i ≡ c → c < bound → coefficient c (i + 1) ≤ rest
     → IsFirst xs i c (rest - coefficient c (i + 1)) → IsFirst xs (i + 1) bound rest
 first_with_next {xs} {i} {c} {bound} {rest} within at below part h = record {
-  increasing = λ j k. elim (cases_lt (j + 1) i) [
-    | inl before ↦ h.increasing j before
-    | inr last ↦ let e : j + 1 ≡ i = omega arith in rw (e, at) (h.below j (omega arith))
-  ];
-  below = λ j k. elim (cases_lt j i) [
-    | inl before ↦ omega (arith, h.below j before)
-    | inr last ↦ let e : j ≡ i = omega arith in rw (e, at) below
-  ];
+  increasing = λ j k. grind (arith, h.increasing j, h.below j);
+  below = λ j k. grind (arith, h.below j);
   rank = rw (next_rank xs i within, h.rank, at) (omega arith);
 }
 
@@ -153,10 +147,7 @@ still_before {xs} {ys} {i} same h = record {
   place = h.place;
   within = omega (arith, h.within);
   lesser = h.lesser;
-  same_after = λ l after k. elim (cases_lt l i) [
-    | inl before ↦ h.same_after l after before
-    | inr last ↦ let e : l ≡ i = omega arith in rw e same
-  ];
+  same_after = λ l after k. grind (arith, h.same_after l after);
 }
 
 -- of two choices one is before the other, if they are not the same

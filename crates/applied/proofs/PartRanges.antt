@@ -5,18 +5,14 @@ use Rattle.std.proofs.Common.{◌∙◌, ap, arith, refl, sym}
 use Rattle.std.proofs.lemmas.Int.{by_lt_z, clamps}
 use Rattle.num_integer.specs.Division.{IsCeiled, IsFloored, IsQuotient}
 use Rattle.num_integer.specs.Only.{IsOnly}
-use Rattle.num_integer.proofs.ForCallers.{ceiled_quotient_least, comm, expand, linear, multiples_apart, product_at_most, product_from_zero, products, sizes}
+use Rattle.num_integer.proofs.ForCallers.{ceiled_by_range, ceiled_quotient_least, comm, expand, floored_range, linear, multiples_apart, product_at_most, product_from_zero, products}
 use Rattle.applied.specs.Paging.{IsEvenCut, IsRangeOfPart}
-use Rattle.applied.proofs.PageRanges.{rest_range}
 
 -- ---- where the parts begin
 
 -- so many parts have the size, and one item more each of the first ones
 abbrev cut_at : ℤ → ℤ → ℤ → ℤ
 cut_at size longer part = part *ℤ size +ℤ int_min part longer
-
-ceiled_by_range : {n d q r : ℤ} → n ≡ q *ℤ d +ℤ r → r ≤ℤ pos 0 → pos 0 <ℤ (r +ℤ d) → IsCeiled n d q r
-ceiled_by_range equation to_zero above = record { division = record { equation = equation; small = omega (arith, sizes) }; sign = grind (arith, linear) }
 
 part_size : (parts items size longer part : ℤ) → items ≡ size *ℤ parts +ℤ longer → pos 0 ≤ℤ longer → longer <ℤ parts → pos 0 ≤ℤ part → part <ℤ parts
     → IsQuotient IsCeiled (items -ℤ part) parts (cut_at size longer (part +ℤ pos 1) -ℤ cut_at size longer part)
@@ -68,7 +64,7 @@ pub record IsLongerPart (part parts items size : ℤ) : Type 0 where
 
 pub longer_part : {parts items size longer part : ℤ} → pos 0 ≤ℤ items → IsFloored items parts size longer → pos 0 ≤ℤ part → part <ℤ parts → part <ℤ longer → IsLongerPart part parts items (size +ℤ pos 1)
 longer_part {parts} {items} {size} {longer} {part} from_zero division part_up within_parts early =
-    let range = rest_range (omega (arith, linear)) division in
+    let range = floored_range (omega (arith, linear)) division in
     let equation = division.division.equation in
     let size_up = size_from_zero {size = size} (omega (arith, linear)) from_zero equation range.1 in
     let begins = product_from_zero part (size +ℤ pos 1) part_up (omega (arith, linear)) in
@@ -93,7 +89,7 @@ pub record IsShorterPart (part parts items size longer : ℤ) : Type 0 where
 
 pub shorter_part : {parts items size longer part : ℤ} → pos 0 ≤ℤ items → IsFloored items parts size longer → pos 0 ≤ℤ part → part <ℤ parts → longer ≤ℤ part → IsShorterPart part parts items size longer
 shorter_part {parts} {items} {size} {longer} {part} from_zero division part_up within_parts late =
-    let range = rest_range (omega (arith, linear)) division in
+    let range = floored_range (omega (arith, linear)) division in
     let equation = division.division.equation in
     let size_up = size_from_zero {size = size} (omega (arith, linear)) from_zero equation range.1 in
     let begins = product_from_zero part size part_up size_up in
