@@ -19,13 +19,7 @@ pub rest_fits : {fits : ℤ → Type 0} {low high p q s : ℤ} → IsRange fits 
 rest_fits {p = p} {q = q} {s = s} range page_fits size_fits before from_zero below =
     let page = (range.between p).0 page_fits in
     let size = (range.between s).0 size_fits in
-    (range.between (q -ℤ s)).1 (elim range.low_end [
-      | inl none ↦ absurd (omega (arith, linear))
-      | inr signed ↦ elim signed [
-        | inl even ↦ omega (arith, linear)
-        | inr odd ↦ omega (arith, linear)
-      ]
-    ])
+    (range.between (q -ℤ s)).1 (omega (arith, linear, range.low_end))
 
 -- if the item fits, so does the end of its page, before page 0
 pub end_fits : {fits : ℤ → Type 0} {low high p q s : ℤ} → IsRange fits low high → fits (p *ℤ s +ℤ q) → p <ℤ pos 0 → pos 0 ≤ℤ q → q <ℤ s → fits ((p +ℤ pos 1) *ℤ s)

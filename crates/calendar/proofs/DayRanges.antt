@@ -1,8 +1,8 @@
 -- The days from one date to another: the first of them and the others, and how many they are.
-use Rattle.std.specs.Prelude.{◌≡◌, ◌≤◌, ◌<ℤ◌, ◌≤ℤ◌, ◌+ℤ◌, ◌-ℤ◌, ℕ, zero, suc, ℤ, pos, [], ◌∷◌, length, unsigned_abs}
+use Rattle.std.specs.Prelude.{◌≡◌, ◌≤◌, ◌<ℤ◌, ◌≤ℤ◌, ◌+ℤ◌, ◌-ℤ◌, ℕ, zero, suc, ℤ, pos, List, [], ◌∷◌, length, unsigned_abs}
 use Rattle.std.specs.Int.{int_max}
 use Rattle.std.proofs.Common.{ap, arith, inl, inr, refl}
-use Rattle.std.proofs.lemmas.Int.{clamps}
+use Rattle.std.proofs.lemmas.Int.{by_lt_z, clamps, ints}
 use Rattle.num_integer.proofs.ForCallers.{linear, sizes}
 use Rattle.calendar.specs.declared.date.Date.{Date}
 use Rattle.calendar.specs.Dates.{day_numbers, number_of, numbers_from}
@@ -20,6 +20,17 @@ unfolding numbers_from
 next_left first end before =
     let more : unsigned_abs (int_max (pos 0) (end -ℤ first)) ≡ suc (unsigned_abs (int_max (pos 0) (end -ℤ (first +ℤ pos 1)))) = omega (arith, sizes, clamps) in
     rw more refl
+
+-- A list of days that begins with a day begins with the first, which is before the end, and goes on with the days from the next one on. No list of days is empty before the end.
+pub first_of_days : {first end day : ℤ} {others : List ℤ} → day_numbers first end ≡ day ∷ others → (first <ℤ end) × (day ≡ first) × (others ≡ day_numbers (first +ℤ pos 1) end)
+first_of_days {first} {end} is = by_lt_z first end
+    (λ before. let own = next_left first end before in (before, cc, cc))
+    (λ past. let none = none_left first end past in absurd cc)
+
+pub no_days : {first end : ℤ} → day_numbers first end ≡ [] → end ≤ℤ first
+no_days {first} {end} is = by_lt_z first end (λ before. let own = next_left first end before in absurd cc) (λ past. past)
+
+pub ruleset range_steps = (ints, first_of_days, no_days)
 
 length-numbers : (count : ℕ) (first : ℤ) → length (numbers_from count first) ≡ count
 unfolding numbers_from
