@@ -16,14 +16,14 @@ use Rattle.applied.specs.Rounding.{IsDown, IsNearer, IsNearest, IsNearestEven, L
 below_sides : (q d : ℤ) → q <ℤ pos 0 → (pos 0 <ℤ d → (q *ℤ d +ℤ d) ≤ℤ pos 0) × (d <ℤ pos 0 → pos 0 ≤ℤ (q *ℤ d +ℤ d))
 below_sides q d below = (
   λ up. omega (arith, products, multiples_apart q (pos 0) d up below),
-  λ down. omega (arith, products, multiples_apart q (pos 0) (neg_ℤ d) (omega (arith, linear)) below),
+  λ down. let none : pos 0 *ℤ neg_ℤ d ≡ pos 0 = omega (arith, products) in omega (arith, linear, mul-neg q d, multiples_apart q (pos 0) (neg_ℤ d) (omega (arith, linear)) below),
 )
 
 -- the product with another number lies on the side of the divisor
 up_sides : (q d : ℤ) → pos 0 ≤ℤ q → (pos 0 <ℤ d → pos 0 ≤ℤ (q *ℤ d)) × (d <ℤ pos 0 → (q *ℤ d) ≤ℤ pos 0)
 up_sides q d q_up = (
   λ up. product_from_zero q d q_up (omega (arith, linear)),
-  λ down. omega (arith, products, product_from_zero q (neg_ℤ d) q_up (omega (arith, linear))),
+  λ down. omega (arith, linear, mul-neg q d, product_from_zero q (neg_ℤ d) q_up (omega (arith, linear))),
 )
 
 next_product : (q d : ℤ) → (q +ℤ pos 1) *ℤ d ≡ q *ℤ d +ℤ d

@@ -1,6 +1,7 @@
 //! The days from one date to another.
 
-ghost use Rattle.std.specs.Prelude.{◌≡◌, ◌↔◌, ◌<ℤ◌, ℤ, List, IsTrue};
+ghost use Rattle.std.specs.Prelude.{◌≡◌, ◌↔◌, ◌<ℤ◌, ℤ, List, FitsSigned, IsTrue};
+ghost use Rattle.std.specs.Int.{w64};
 ghost use Rattle.std.specs.Iterator.{YieldsFirstBy, item_count};
 ghost use Rattle.calendar.specs.Dates.{day_numbers, number_of};
 
@@ -19,6 +20,8 @@ impl Model for Days {
     ghost Value = { List ℤ };
 
     ghost view = { λ s. day_numbers (number_of s.next) (number_of s.end) };
+
+    ghost invariant = { λ s. FitsSigned w64 s.end.year };
 }
 
 impl Date {
