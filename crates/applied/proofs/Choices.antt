@@ -41,7 +41,7 @@ rank_of_first_at_most : (xs : List ℕ) (i : ℕ) → rank_of_first i xs ≤ ran
 unfolding rank_of_first rank_of
 rank_of_first_at_most xs i = sum_by-take-le term_of (enumerate_from 1 xs) i
 
--- it is below the number of choices of i numbers below m, where the last of them is below m
+-- it is below the number of choices of i numbers below m, if the last of them is below m
 rank_of_first_below : (xs : List ℕ) (i m : ℕ) → IsStrictlyIncreasing xs → i ≤ length xs → ((j : ℕ) → suc j ≡ i → slice_index xs j < m) → rank_of_first i xs < coefficient m i
 rank_of_first_below xs zero m up within last = omega (arith, coefficient-zero m, rank_of_none xs)
 rank_of_first_below xs (suc i) m up within last =
@@ -98,14 +98,8 @@ no_first {xs} none = record { increasing = λ j h. absurd (omega arith); below =
 first_with_next : {xs : List ℕ} {i c bound rest : ℕ} → i < length xs → slice_index xs i ≡ c → c < bound → coefficient c (i + 1) ≤ rest
     → IsFirst xs i c (rest - coefficient c (i + 1)) → IsFirst xs (i + 1) bound rest
 first_with_next {xs} {i} {c} {bound} {rest} within at below part h = record {
-  increasing = λ j k. elim (cases_lt (j + 1) i) [
-    | inl before ↦ h.increasing j before
-    | inr last ↦ let e : j + 1 ≡ i = omega arith in rw (e, at) (h.below j (omega arith))
-  ];
-  below = λ j k. elim (cases_lt j i) [
-    | inl before ↦ omega (arith, h.below j before)
-    | inr last ↦ let e : j ≡ i = omega arith in rw (e, at) below
-  ];
+  increasing = λ j k. grind (arith, h.increasing j, h.below j);
+  below = λ j k. grind (arith, h.below j);
   rank = rw (next_rank xs i within, h.rank, at) (omega arith);
 }
 
@@ -122,7 +116,7 @@ same_after_write {xs} {ys} {i} {c} within h =
       h.same i (omega arith) (omega arith) ∙ get_or-set_same ys i c 0 within,
     )
 
--- what is left after the greatest coefficient is below the one before it
+-- what is left after the largest coefficient is below the one before it
 rest_below : (c i rest : ℕ) → coefficient c (i + 1) ≤ rest → rest < coefficient (c + 1) (i + 1) → rest - coefficient c (i + 1) < coefficient c i
 rest_below c i rest part greatest =
     let rule : coefficient (c + 1) (i + 1) ≡ coefficient c i + coefficient c (i + 1) = rw (add-one c, add-one i) (pascal c i) in
@@ -153,13 +147,10 @@ still_before {xs} {ys} {i} same h = record {
   place = h.place;
   within = omega (arith, h.within);
   lesser = h.lesser;
-  same_after = λ l after k. elim (cases_lt l i) [
-    | inl before ↦ h.same_after l after before
-    | inr last ↦ let e : l ≡ i = omega arith in rw e same
-  ];
+  same_after = λ l after k. grind (arith, h.same_after l after);
 }
 
--- of two choices one is before the other, where they are not the same
+-- of two choices one is before the other, if they are not the same
 compare : (k : ℕ) (xs ys : List ℕ) → ((j : ℕ) → j < k → slice_index xs j ≡ slice_index ys j) ⊎ (IsBefore k xs ys ⊎ IsBefore k ys xs)
 compare zero xs ys = inl (λ j h. absurd (omega arith))
 compare (suc i) xs ys = elim (cases_lt (slice_index xs i) (slice_index ys i)) [
@@ -207,7 +198,7 @@ before_less {xs} {ys} {k} up xs_size ys_size h =
     let ys_whole : rank_of_first k ys ≡ rank_of ys = rw ys_size at (rank_of_all ys) in
     omega arith
 
--- a choice is before another exactly where its rank is less
+-- a choice is before another exactly if its rank is less
 pub before_exactly : {n : ℕ} {xs ys : List ℕ} → IsChoice n xs → IsChoice n ys → length xs ≡ length ys → IsBefore (length ys) xs ys ↔ (rank_of xs < rank_of ys)
 before_exactly {n} {xs} {ys} x y size = (
   before_less x.increasing size refl,

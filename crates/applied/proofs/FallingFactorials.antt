@@ -1,13 +1,12 @@
 -- Falling factorials as products of the numbers above one number up to another.
-use Rattle.std.specs.Prelude.{◌≡◌, ◌↔◌, ◌<◌, ◌≤◌, ◌+◌, ◌-◌, ◌*◌, ◌≤ℤ◌, ◌<ℤ◌, ◌+ℤ◌, ◌-ℤ◌, ◌*ℤ◌, ℕ, ℤ, zero, suc, pos, unsigned_abs, Option, Some, None}
-use Rattle.std.proofs.Common.{arith, ap, inl, inr, mul-pos, refl, subst, sym, ◌∙◌}
+use Rattle.std.specs.Prelude.{◌≡◌, ◌<◌, ◌≤◌, ◌+◌, ◌-◌, ◌*◌, ◌≤ℤ◌, ◌<ℤ◌, ◌+ℤ◌, ◌-ℤ◌, ◌*ℤ◌, ℕ, ℤ, zero, suc, pos, unsigned_abs}
+use Rattle.std.proofs.Common.{arith, ap, inl, inr, refl, subst, sym, ◌∙◌}
 use Rattle.std.proofs.Math.Nat.{eq_of_mul-eq-mul_left}
 use Rattle.std.proofs.lemmas.Bool.{cases_lt}
 use Rattle.std.proofs.lemmas.Int.{ints}
-use Rattle.num_integer.specs.Checked.{AnswersWhere}
-use Rattle.num_integer.specs.Coefficient.{coefficient, factorial}
+use Rattle.num_integer.specs.Coefficient.{factorial}
 use Rattle.num_integer.specs.Range.{IsRange}
-use Rattle.num_integer.proofs.ForCallers.{linear, none_above, sizes, within_fits}
+use Rattle.num_integer.proofs.ForCallers.{factorial-pos, linear, none_above, sizes, within_fits}
 use Rattle.num_integer.proofs.Laws.{factorial_formula}
 use Rattle.applied.specs.Counting.{factorial_of, falling, falling_of}
 use Rattle.applied.specs.Laws.{FallingByCoefficient, FallingFormula}
@@ -45,11 +44,6 @@ falling_grows a j (suc d) =
     let e : a + j + suc d ≡ suc (a + j + d) = omega arith in
     let f : j + suc d ≡ suc (j + d) = omega arith in
     rw (e, f, falling-suc (a + j + d) (j + d)) (omega (arith, falling_grows a j d))
-
-factorial-pos : (n : ℕ) → 0 < factorial n
-unfolding factorial
-factorial-pos zero = omega arith
-factorial-pos (suc n) = mul-pos (omega arith) (factorial-pos n)
 
 pub falling_formula : FallingFormula
 unfolding factorial
@@ -107,7 +101,7 @@ falling_of_none n k up less = ap pos (falling_none (unsigned_abs n) (unsigned_ab
 
 -- ---- the loop
 
--- The product of the numbers above low up to factor, where the last of them is to be high.
+-- The product of the numbers above low up to factor. The last of them is to be high.
 pub record IsProductSoFar (fits : ℤ → Type 0) (low factor high product : ℤ) : Type 0 where
   pub factor_in_range : fits factor
   pub product_in_range : fits product
@@ -157,10 +151,3 @@ module _ {fits : ℤ → Type 0} {low high : ℤ} where
       let to_high = h.to_high in
       let same : factor ≡ high = omega (arith, linear) in
       rw same at h.is
-
--- ---- answers
-
--- an answer in other words
-pub answers_is : {A domain other : Type 0} {P Q : A → Type 0} (r : Option A) → domain ↔ other → ((x : A) → P x → Q x) → AnswersWhere domain P r → AnswersWhere other Q r
-answers_is None same each h = λ o. h (same.1 o)
-answers_is (Some x) same each h = (same.0 h.0, each x h.1)

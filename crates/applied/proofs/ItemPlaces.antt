@@ -19,15 +19,9 @@ pub rest_fits : {fits : ℤ → Type 0} {low high p q s : ℤ} → IsRange fits 
 rest_fits {p = p} {q = q} {s = s} range page_fits size_fits before from_zero below =
     let page = (range.between p).0 page_fits in
     let size = (range.between s).0 size_fits in
-    (range.between (q -ℤ s)).1 (elim range.low_end [
-      | inl none ↦ absurd (omega (arith, linear))
-      | inr signed ↦ elim signed [
-        | inl even ↦ omega (arith, linear)
-        | inr odd ↦ omega (arith, linear)
-      ]
-    ])
+    (range.between (q -ℤ s)).1 (omega (arith, linear, range.low_end))
 
--- where the item fits, so does the end of its page, before page 0
+-- if the item fits, so does the end of its page, before page 0
 pub end_fits : {fits : ℤ → Type 0} {low high p q s : ℤ} → IsRange fits low high → fits (p *ℤ s +ℤ q) → p <ℤ pos 0 → pos 0 ≤ℤ q → q <ℤ s → fits ((p +ℤ pos 1) *ℤ s)
 end_fits {p = p} {q = q} {s = s} range item_fits before from_zero below =
     let pages = simp expand at (product_from_zero (pos 0 -ℤ (p +ℤ pos 1)) s (omega (arith, linear)) (omega (arith, linear))) in
@@ -43,7 +37,7 @@ page_fits {p = p} {s = s} range item_fits from_page_zero from_zero below =
 own_item : {p q s : ℤ} → pos 0 ≤ℤ q → q <ℤ s → IsPlace (p *ℤ s +ℤ q) s p q
 own_item from_zero below = record { equation = refl; from_zero = from_zero; below = below }
 
--- what a call ensures that returns the item where it fits
+-- what a call ensures that returns the item if it fits
 pub record IsItemAnswer {X : Type 0} (fits : ℤ → Type 0) (value : X → ℤ) (p q s : ℤ) (r : Option X) : Type 0 where
   pub place : AnswersWhere (EachFits fits (λ item. IsPlace item s p q)) (λ item. fits (value item) × IsPlace (value item) s p q) r
   pub only : IfSome r (λ found. IsOnly (λ item. IsPlace item s p q) (value found))
@@ -59,6 +53,6 @@ item_answer fits value {p} {q} {s} r from_zero below h =
     let place = answers_only fits (λ item. IsPlace item s p q) value r (own_item from_zero below) (λ y k. sym k.equation) h in
     record { place = place; only = only_item fits value p q s r place }
 
--- where the item does not fit, there is none
+-- if the item does not fit, the result is `None`
 pub no_item : {X : Type 0} (fits : ℤ → Type 0) (value : X → ℤ) {p q s : ℤ} → pos 0 ≤ℤ q → q <ℤ s → ¬ (fits (p *ℤ s +ℤ q)) → IsItemAnswer fits value p q s None
 no_item fits value from_zero below none = item_answer fits value None from_zero below none

@@ -2,21 +2,19 @@
 use Rattle.std.specs.Prelude.{◌≡◌, ◌<◌, ◌≤◌, ◌≤ℤ◌, ◌<ℤ◌, ◌+ℤ◌, ◌-ℤ◌, ◌*ℤ◌, ℕ, ℤ, pos, List, [], ◌∷◌, length}
 use Rattle.std.specs.List.{AllWithin}
 use Rattle.std.proofs.Common.{arith, ap, inl, inr, refl, subst}
-use Rattle.std.proofs.lemmas.Bool.{cases_lt}
 use Rattle.modular.specs.Congruences.{AreCongruent}
 use Rattle.modular.specs.declared.common_solutions.CommonSolution.{CommonSolution}
 use Rattle.modular.specs.declared.common_solutions.CommonSolution.TheVariants.{Never, Beyond, At}
 use Rattle.modular.proofs.ForCallers.{congruent-equal}
 use Rattle.num_integer.specs.Least.{IsLeastFrom}
-use Rattle.num_integer.proofs.ForCallers.{Divides-difference, ceiled_quotient_least, expand, floored_by_range, floored_remainder_range, least_is_only, linear, only_pair_by_range, products}
-use Rattle.applied.specs.Laws.{AlignedUpIsOnly, ChoiceOfRankIsOnly, GcdOfExists, GcdOfFitsExactly, GcdOfIsOnly, LcmOfExists, LcmOfIsOnly, LeastTimeIsOnly, LowerBoundIsOnly, MidpointIsOnly, PaddingIsOnly, PagesAreOnly, PartsDifferByOne, PlaceExists, PlaceIsOnly, RankIsBelow, ReducedPairExists, ReducedPairIsOnly, FallingByCoefficient, FallingFormula, LogarithmIsOnly, NearestEvenQuotientIsOnly, NearestQuotientExists, NearestQuotientFitsExactly, NearestQuotientIsOnly, NoIntegerIsNearer}
+use Rattle.num_integer.proofs.ForCallers.{Divides-difference, ceiled_quotient_least, expand, floored_by_range, floored_range, least_is_only, linear, only_pair_by_range, products}
+use Rattle.applied.specs.Laws.{AlignedUpIsOnly, ChoiceOfRankIsOnly, GcdOfFitsExactly, GcdOfIsOnly, LcmOfIsOnly, LeastTimeIsOnly, LowerBoundIsOnly, MidpointIsOnly, PaddingIsOnly, PagesAreOnly, PartsDifferByOne, PlaceExists, PlaceIsOnly, RankIsBelow, ReducedPairIsOnly, LogarithmIsOnly, NearestEvenQuotientIsOnly, NearestQuotientExists, NearestQuotientFitsExactly, NearestQuotientIsOnly, NoIntegerIsNearer}
 use Rattle.num_integer.proofs.Laws.{division_exists}
 use Rattle.applied.specs.Schedules.{IsLeastTime}
 use Rattle.applied.proofs.Choices.{only_choice, rank_of_below}
 use Rattle.applied.proofs.ListDivisors as divisors
 use Rattle.applied.proofs.ListMultiples as multiples
 use Rattle.applied.proofs.ReducedPairs as pairs
-use Rattle.applied.proofs.FallingFactorials as counting
 use Rattle.applied.proofs.Logarithms.{only_logarithm}
 use Rattle.applied.proofs.NearestQuotients.{even_exists, even_fits_is, nearest_exists, nearest_fits_is, no_nearer, only_nearest, only_nearest_even}
 
@@ -28,7 +26,7 @@ pages_are_only = λ items size count other enough fewest other_enough other_fewe
 pub place_exists : PlaceExists
 place_exists = λ item page_size up.
     let division = division_exists.1 item page_size (λ e. omega (arith, linear)) in
-    let range = floored_remainder_range up (record { quotient = division.0; division = division.2 }) in
+    let range = floored_range up division.2 in
     (division.0, division.1, record { equation = division.2.division.equation; from_zero = range.0; below = range.1 })
 
 pub place_is_only : PlaceIsOnly
@@ -100,33 +98,22 @@ pub lower_bound_is_only : {X : Type 0} (value : X → ℤ) → LowerBoundIsOnly 
 lower_bound_is_only value = λ items least place other within below from other_within other_below other_from.
     let not_less = not_before value items least place other from other_below other_within in
     let not_more = not_before value items least other place other_from below within in
-    elim (cases_lt place other) [
-      | inl less ↦ absurd (not_less less)
-      | inr more ↦ elim (cases_lt other place) [
-        | inl less ↦ absurd (not_more less)
-        | inr same ↦ omega arith
-      ]
-    ]
+    grind arith
 
 -- ---- pairs and lists
 
-pub reduced_pair_exists : ReducedPairExists
-reduced_pair_exists = pairs.reduced_pair_exists
+pub use Rattle.applied.proofs.ReducedPairs.{reduced_pair_exists}
+pub use Rattle.applied.proofs.ListDivisors.{gcd_of_exists}
+pub use Rattle.applied.proofs.ListMultiples.{lcm_of_exists}
 
 pub reduced_pair_is_only : ReducedPairIsOnly
 reduced_pair_is_only = λ a b x y h. pairs.only_reduced_pair h
-
-pub gcd_of_exists : GcdOfExists
-gcd_of_exists = divisors.gcd_of_exists
 
 pub gcd_of_is_only : GcdOfIsOnly
 gcd_of_is_only = λ numbers g h other k. divisors.only_gcd_of k h
 
 pub gcd_of_fits_exactly : (fits : ℤ → Type 0) → GcdOfFitsExactly fits
 gcd_of_fits_exactly fits = λ low high numbers range each. divisors.gcd_of_fits_is range numbers each
-
-pub lcm_of_exists : LcmOfExists
-lcm_of_exists = multiples.lcm_of_exists
 
 pub lcm_of_is_only : LcmOfIsOnly
 lcm_of_is_only = λ numbers l h other k. multiples.only_lcm_of k h
@@ -153,11 +140,7 @@ nearest_quotient_fits_exactly fits = λ low high n d range n_fits d_fits. (neare
 
 -- ---- logarithms and factorials
 
+pub use Rattle.applied.proofs.FallingFactorials.{falling_by_coefficient, falling_formula}
+
 pub logarithm_is_only : LogarithmIsOnly
 logarithm_is_only = λ base n k up h other l. only_logarithm up h l
-
-pub falling_formula : FallingFormula
-falling_formula = counting.falling_formula
-
-pub falling_by_coefficient : FallingByCoefficient
-falling_by_coefficient = counting.falling_by_coefficient

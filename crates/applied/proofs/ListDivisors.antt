@@ -1,14 +1,14 @@
 -- Greatest common divisors of lists.
-use Rattle.std.specs.Prelude.{◌≡◌, ◌⊎◌, ◌↔◌, ◌<◌, ◌≤◌, ◌+◌, ◌<ℤ◌, ℕ, ℤ, pos, negsuc, neg_ℤ, unsigned_abs, List, [], ◌∷◌, ◌++◌, length, get_or, map, take, Option, None, Some}
+use Rattle.std.specs.Prelude.{◌≡◌, ◌↔◌, ◌<◌, ◌+◌, ◌<ℤ◌, ℕ, ℤ, pos, negsuc, neg_ℤ, unsigned_abs, List, [], ◌∷◌, ◌++◌, length, get_or, map, take, Option, Some}
 use Rattle.std.specs.List.{All}
 use Rattle.std.proofs.Common.{◌∙◌, arith, inl, inr, refl, subst, sym}
 use Rattle.std.proofs.lemmas.Int.{ints}
-use Rattle.std.proofs.lemmas.List.{map_more, take_all}
+use Rattle.std.proofs.lemmas.List.{map_more}
 use Rattle.std.proofs.lemmas.List.Elements.{All-cons, All-head, All-nil, All-pop, All-push, All-tail, All-weaker}
 use Rattle.num_integer.specs.Checked.{AnswersWhere}
 use Rattle.num_integer.specs.Divisors.{Divides, IsGreatestCommonDivisor}
 use Rattle.num_integer.specs.Range.{EachFits, IsRange}
-use Rattle.num_integer.proofs.ForCallers.{Divides-antisym, Divides-trans, Divides-zero, gcd_fits_is, linear, sizes, within_fits, zero_or_not}
+use Rattle.num_integer.proofs.ForCallers.{Divides-antisym, Divides-trans, Divides-zero, answers_as, gcd_fits_is, linear, no_minus_one, sizes, within_fits, zero_fits, zero_or_not}
 use Rattle.num_integer.proofs.Laws.{gcd_exists}
 use Rattle.applied.specs.Lists.{GcdOfFits, IsGreatestCommonDivisorOf}
 use Rattle.applied.proofs.SignedDivisors.{gcd_with_magnitude}
@@ -64,34 +64,22 @@ gcd_of_exists (x ∷ numbers) =
 module _ {fits : ℤ → Type 0} {low high : ℤ} (range : IsRange fits low high) where
   -- in a type without -1 each list has one that fits
   fitting_gcd_of : ¬ (fits (negsuc 0)) → (numbers : List ℤ) → All fits numbers → (g : ℤ) × IsGreatestCommonDivisorOf numbers g × fits g
-  fitting_gcd_of none [] each = (pos 0, gcd_of_none, (range.between (pos 0)).1 (omega (arith, linear, range.low_end, range.positive)))
+  fitting_gcd_of none [] each = (pos 0, gcd_of_none, zero_fits range)
   fitting_gcd_of none (x ∷ numbers) each =
       let rest = fitting_gcd_of none numbers (All-tail fits x numbers each) in
       let both = gcd_exists x rest.0 in
       (both.0, gcd_of_cons rest.1 both.1, (gcd_fits_is range (All-head fits x numbers each) rest.2).0 (λ minus_one. absurd (none minus_one)) both.0 both.1)
 
-  has_minus_one_or_not : fits (negsuc 0) ⊎ (¬ (fits (negsuc 0)))
-  has_minus_one_or_not = elim (zero_or_not low) [
-    | inl none ↦ inr (λ minus_one. omega (arith, linear, (range.between (negsuc 0)).0 minus_one))
-    | inr signed ↦ inl ((range.between (negsuc 0)).1 (omega (arith, linear, range.low_end, range.positive)))
-  ]
-
   pub gcd_of_fits_is : (numbers : List ℤ) → All fits numbers → GcdOfFits fits numbers ↔ EachFits fits (IsGreatestCommonDivisorOf numbers)
   gcd_of_fits_is numbers each = (
-    λ h. elim has_minus_one_or_not [
-      | inl minus_one ↦ h minus_one
-      | inr none ↦ let own = fitting_gcd_of none numbers each in λ z is. subst fits (only_gcd_of own.1 is) own.2
+    λ h. elim (zero_or_not low) [
+      | inl none ↦ let own = fitting_gcd_of (no_minus_one range none) numbers each in λ z is. subst fits (only_gcd_of own.1 is) own.2
+      | inr signed ↦ h ((range.between (negsuc 0)).1 (omega (arith, linear, range.low_end, range.positive)))
     ],
     λ h _. h,
   )
 
-  -- ---- the answer of `gcd_of`
-
-  -- a divisor that is negative
-  pub gcd_of_unfit : {numbers : List ℤ} {d : ℤ} → fits d → d <ℤ pos 0 → IsGreatestCommonDivisorOf numbers (pos (unsigned_abs d)) → ¬ (fits (neg_ℤ d)) → ¬ (GcdOfFits fits numbers)
-  gcd_of_unfit {numbers} {d} d_fits below is none h =
-      let same : pos (unsigned_abs d) ≡ neg_ℤ d = omega (arith, sizes) in
-      none (subst fits same (h (within_fits range d_fits (inr (omega (arith, linear), omega (arith, linear)))) _ is))
+-- ---- the result of `gcd_of`
 
 pub gcd_of_answer : (fits : ℤ → Type 0) {numbers : List ℤ} {m g : ℤ} → IsGreatestCommonDivisorOf numbers m → g ≡ m → fits g → GcdOfFits fits numbers × (fits g × IsGreatestCommonDivisorOf numbers g)
 gcd_of_answer fits {numbers} is same g_fits =
@@ -102,19 +90,13 @@ gcd_of_answer fits {numbers} is same g_fits =
 pub checked_gcd_of : {X : Type 0} (value : X → ℤ) {fits : ℤ → Type 0} {low high : ℤ} {numbers : List ℤ} {d : ℤ} → IsRange fits low high → fits d → d <ℤ pos 0 → IsGreatestCommonDivisorOf numbers (pos (unsigned_abs d))
     → (r : Option X) → AnswersWhere (fits (neg_ℤ d)) (λ x. fits (value x) × (value x ≡ neg_ℤ d)) r
     → AnswersWhere (GcdOfFits fits numbers) (λ x. fits (value x) × IsGreatestCommonDivisorOf numbers (value x)) r
-checked_gcd_of value range d_fits below is None none = gcd_of_unfit range d_fits below is none
-checked_gcd_of value {fits} {d = d} range d_fits below is (Some x) found =
-    let same : value x ≡ pos (unsigned_abs d) = found.1.1 ∙ omega (arith, sizes) in
-    gcd_of_answer fits is same found.1.0
+checked_gcd_of value {fits} {numbers = numbers} {d = d} range d_fits below is r =
+    let same : pos (unsigned_abs d) ≡ neg_ℤ d = omega (arith, sizes) in
+    let own = subst (IsGreatestCommonDivisorOf numbers) same is in
+    let minus_one : fits (negsuc 0) = within_fits range d_fits (inr (omega (arith, linear), omega (arith, linear))) in
+    answers_as r (λ negated_fits _ z other. subst fits (only_gcd_of own other) negated_fits, λ each. each minus_one (neg_ℤ d) own) (λ x found. (found.0, subst (IsGreatestCommonDivisorOf numbers) (sym found.1) own))
 
--- ---- the loop
-
-module _ {X : Type 0} (value : X → ℤ) (numbers : List X) where
-  -- the magnitude of d is the gcd of the first i numbers, and that of r with the next one
-  pub gcd_of_next : (i : ℕ) (d r : ℤ) {x : X} → IsGreatestCommonDivisorOf (map value (take i numbers)) (pos (unsigned_abs d)) → i < length numbers → x ≡ get_or numbers i x
-      → IsGreatestCommonDivisor d (value x) (pos (unsigned_abs r)) → IsGreatestCommonDivisorOf (map value (take (i + 1) numbers)) (pos (unsigned_abs r))
-  gcd_of_next i d r {x = x} before within at both =
-      rw (map_more value numbers i x within, ← at) (gcd_of_more before (gcd_with_magnitude both))
-
-  pub gcd_of_last : (i : ℕ) {g : ℤ} → length numbers ≤ i → IsGreatestCommonDivisorOf (map value (take i numbers)) g → IsGreatestCommonDivisorOf (map value numbers) g
-  gcd_of_last i done h = rw (take_all i numbers done) at h
+-- if the magnitude of d is the gcd of the first i numbers, one number more has that of r
+pub gcd_of_next : {X : Type 0} (value : X → ℤ) (numbers : List X) (i : ℕ) (d r : ℤ) {x : X} → IsGreatestCommonDivisorOf (map value (take i numbers)) (pos (unsigned_abs d)) → i < length numbers → x ≡ get_or numbers i x
+    → IsGreatestCommonDivisor d (value x) (pos (unsigned_abs r)) → IsGreatestCommonDivisorOf (map value (take (i + 1) numbers)) (pos (unsigned_abs r))
+gcd_of_next value numbers i d r {x = x} before within at both = rw (map_more value numbers i x within, ← at) (gcd_of_more before (gcd_with_magnitude both))

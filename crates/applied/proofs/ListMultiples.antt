@@ -1,14 +1,13 @@
 -- Least common multiples of lists.
-use Rattle.std.specs.Prelude.{◌≡◌, ◌≢◌, ◌<◌, ◌≤◌, ◌+◌, ◌<ℤ◌, ℕ, ℤ, pos, List, [], ◌∷◌, ◌++◌, length, get_or, map, take, drop}
+use Rattle.std.specs.Prelude.{◌≡◌, ◌≢◌, ◌<◌, ◌+◌, ◌<ℤ◌, ℕ, ℤ, pos, List, [], ◌∷◌, ◌++◌, length, get_or, map, take, drop}
 use Rattle.std.specs.List.{All, HoldsAt}
-use Rattle.std.proofs.Common.{◌∙◌, ap, arith, subst, sym}
+use Rattle.std.proofs.Common.{◌∙◌, ap, arith, refl, subst, sym}
 use Rattle.std.proofs.lemmas.Int.{ints}
-use Rattle.std.proofs.lemmas.List.{get_or-map, length-map, map-append, map_more, take_all, take-append-drop}
-use Rattle.std.proofs.lemmas.List.Elements.{All-cons, All-head, All-map, All-nil, All-push, All-tail, All-weaker}
+use Rattle.std.proofs.lemmas.List.{get_or-map, length-map, map-append, map_more, take-append-drop, take_at}
+use Rattle.std.proofs.lemmas.List.Elements.{All-cons, All-head, All-map, All-nil, All-push, All-tail, All-take, All-weaker}
 use Rattle.num_integer.specs.Divisors.{Divides, IsLeastCommonMultiple}
 use Rattle.num_integer.specs.Range.{EachFits, IsRange}
-use Rattle.num_integer.proofs.ForCallers.{Divides-antisym, Divides-trans, Divides-zero, divisor_at_most, lcm-positive, linear, one_divides, zero_divides}
-use Rattle.num_integer.proofs.FittingAnswers.{fits_below}
+use Rattle.num_integer.proofs.ForCallers.{Divides-antisym, Divides-trans, Divides-zero, answer_only, divisor_at_most, fits_below, lcm-positive, linear, one_divides, zero_divides}
 use Rattle.num_integer.proofs.Laws.{lcm_exists}
 use Rattle.applied.specs.Lists.{IsLeastCommonMultipleOf}
 use Rattle.applied.proofs.ListDivisors.{split_last}
@@ -42,14 +41,9 @@ lcm_of_cons {numbers} {x} {l} {m} after both = record {
   least = λ n each. both.least n (All-head (λ y. Divides y n) x numbers each) (after.least n (All-tail (λ y. Divides y n) x numbers each));
 }
 
--- what holds of each number of a list holds of the first ones
-all_first : (P : ℤ → Type 0) (first rest : List ℤ) → All P (first ++ rest) → All P first
-all_first P [] rest each = All-nil P
-all_first P (x ∷ first) rest each = All-cons P x first (All-head P x (first ++ rest) each) (all_first P first rest (All-tail P x (first ++ rest) each))
-
 -- the lcm of the first numbers of a list divides that of the list
 pub prefix_divides : {first : List ℤ} (rest : List ℤ) {m l : ℤ} → IsLeastCommonMultipleOf first m → IsLeastCommonMultipleOf (first ++ rest) l → Divides m l
-prefix_divides {first} rest {m} {l} h k = h.least l (all_first (λ x. Divides x l) first rest k.each_divides)
+prefix_divides {first} rest {m} {l} h k = h.least l (subst (All (λ x. Divides x l)) (take_at first rest (length first) refl) (All-take (λ x. Divides x l) (length first) (first ++ rest) k.each_divides))
 
 -- ---- each list has one
 
@@ -95,7 +89,7 @@ first_fits range first rest nonzero each m h =
     fits_below range (each whole.0 whole.1) h.from_zero (divisor_at_most whole.2 (prefix_divides rest h whole.1))
 
 pub lcm_of_answer : (fits : ℤ → Type 0) {numbers : List ℤ} {l : ℤ} → fits l → IsLeastCommonMultipleOf numbers l → EachFits fits (IsLeastCommonMultipleOf numbers) × (fits l × IsLeastCommonMultipleOf numbers l)
-lcm_of_answer fits l_fits own = (λ z other. subst fits (only_lcm_of own other) l_fits, (l_fits, own))
+lcm_of_answer fits {numbers} l_fits own = answer_only {P = IsLeastCommonMultipleOf numbers} own (λ y. only_lcm_of own) l_fits refl
 
 -- ---- the loop
 
@@ -103,9 +97,6 @@ module _ {X : Type 0} (value : X → ℤ) (numbers : List X) where
   pub lcm_of_next : (i : ℕ) {l m : ℤ} {x : X} → IsLeastCommonMultipleOf (map value (take i numbers)) l → i < length numbers → x ≡ get_or numbers i x
       → IsLeastCommonMultiple l (value x) m → IsLeastCommonMultipleOf (map value (take (i + 1) numbers)) m
   lcm_of_next i {x = x} before within at both = rw (map_more value numbers i x within, ← at) (lcm_of_more before both)
-
-  pub lcm_of_last : (i : ℕ) {l : ℤ} → length numbers ≤ i → IsLeastCommonMultipleOf (map value (take i numbers)) l → IsLeastCommonMultipleOf (map value numbers) l
-  lcm_of_last i done h = rw (take_all i numbers done) at h
 
   -- a multiple on the way that does not fit
   pub lcm_of_unfit : {fits : ℤ → Type 0} {low high : ℤ} (i : ℕ) {l : ℤ} {x : X} → IsRange fits low high → All (λ y. value y ≢ pos 0) numbers

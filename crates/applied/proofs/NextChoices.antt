@@ -30,7 +30,7 @@ choice_by_neighbours {n} {xs} above = record {
   below = All-from_get_or (λ (c : ℕ). c < n) xs 0 (λ j within. below_last n xs above (length xs - (j + 1)) j (omega arith));
 }
 
--- they have the greatest rank below the number after them
+-- they have the largest rank below the number after them
 rank_of_run : (n : ℕ) (xs : List ℕ) (i : ℕ) → i ≤ length xs → ((j : ℕ) → j < i → slice_index xs j + 1 ≡ slice_index_or xs (j + 1) n)
     → rank_of_first i xs + 1 ≡ coefficient (slice_index_or xs i n) i
 rank_of_run n xs zero within run = omega (arith, rank_of_none xs, coefficient-zero (slice_index_or xs zero n))

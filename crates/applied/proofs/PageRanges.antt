@@ -4,10 +4,10 @@ use Rattle.std.proofs.Common.{arith, refl}
 use Rattle.std.proofs.lemmas.Int.{by_lt_z}
 use Rattle.num_integer.specs.Division.{IsFloored}
 use Rattle.num_integer.specs.Only.{IsOnly}
-use Rattle.num_integer.proofs.ForCallers.{floored_remainder_range, linear, multiples_apart, product_from_zero, products}
+use Rattle.num_integer.proofs.ForCallers.{floored_range, linear, multiples_apart, product_from_zero, products}
 use Rattle.applied.specs.Paging.{IsRangeOfPage}
 
--- an item lies on a page where it is from the page times its size on, and before the same of the next page
+-- an item lies on a page if it is from the page times its size on, and before the same of the next page
 page_range_is : {page size items first end : ℤ} → pos 0 ≤ℤ first → first ≤ℤ end → end ≤ℤ items
     → ((item : ℤ) → first ≤ℤ item → item <ℤ end → (pos 0 ≤ℤ item) × ((page *ℤ size) ≤ℤ item) × (item <ℤ (page *ℤ size +ℤ size)))
     → ((item : ℤ) → pos 0 ≤ℤ item → item <ℤ items → (page *ℤ size) ≤ℤ item → item <ℤ (page *ℤ size +ℤ size) → (first ≤ℤ item) × (item <ℤ end))
@@ -27,9 +27,6 @@ page_range_is {page} {size} from_zero ordered to_items on back empty = record {
   empty = empty;
 }
 
-pub rest_range : {n d q r : ℤ} → pos 0 <ℤ d → IsFloored n d q r → (pos 0 ≤ℤ r) × (r <ℤ d)
-rest_range {q = q} up h = floored_remainder_range up (record { quotient = q; division = h })
-
 -- before page 0 there is no item
 pub none_before : {page size items : ℤ} → pos 0 <ℤ size → pos 0 ≤ℤ items → page <ℤ pos 0 → IsRangeOfPage page size items items items
 none_before {page} {size} up from_zero before =
@@ -39,7 +36,7 @@ none_before {page} {size} up from_zero before =
 -- nor on a page after that of the last item
 pub none_after : {page size items full rest : ℤ} → pos 0 <ℤ size → pos 0 ≤ℤ items → IsFloored items size full rest → full <ℤ page → IsRangeOfPage page size items items items
 none_after {page} {size} {full = full} up from_zero division after =
-    let below = rest_range up division in
+    let below = floored_range up division in
     let equation = division.division.equation in
     let over = multiples_apart full page size up after in
     page_range_is from_zero (omega (arith, linear)) (omega (arith, linear)) (λ item h k. absurd (omega (arith, linear))) (λ item h k l m. absurd (omega (arith, linear))) (λ _. refl)
@@ -53,7 +50,7 @@ pub record IsFullPage (page size items : ℤ) : Type 0 where
 -- each page before the last does
 pub full_page : {page size items full rest : ℤ} → pos 0 <ℤ size → IsFloored items size full rest → pos 0 ≤ℤ page → page <ℤ full → IsFullPage page size items
 full_page {page} {size} {full = full} up division from_zero less =
-    let below = rest_range up division in
+    let below = floored_range up division in
     let equation = division.division.equation in
     let begins = product_from_zero page size from_zero (omega (arith, linear)) in
     let apart = multiples_apart page full size up less in
@@ -71,7 +68,7 @@ pub record IsLastPage (page size items rest : ℤ) : Type 0 where
 
 pub last_page : {page size items full rest : ℤ} → pos 0 <ℤ size → IsFloored items size full rest → pos 0 ≤ℤ page → full ≤ℤ page → page ≤ℤ full → IsLastPage page size items rest
 last_page {page} {size} {full = full} up division from_zero low high =
-    let below = rest_range up division in
+    let below = floored_range up division in
     let same : full ≡ page = omega (arith, linear) in
     let equation = rw same at division.division.equation in
     let begins = product_from_zero page size from_zero (omega (arith, linear)) in

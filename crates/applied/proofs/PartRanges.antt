@@ -1,22 +1,19 @@
 -- Items cut into parts whose sizes differ by at most 1.
 use Rattle.std.specs.Prelude.{◌≡◌, ◌≤ℤ◌, ◌<ℤ◌, ◌+ℤ◌, ◌-ℤ◌, ◌*ℤ◌, ℕ, ℤ, pos, negsuc, zero, suc}
-use Rattle.std.specs.Int.{int_min}
 use Rattle.std.proofs.Common.{◌∙◌, ap, arith, refl, sym}
 use Rattle.std.proofs.lemmas.Int.{by_lt_z, clamps}
 use Rattle.num_integer.specs.Division.{IsCeiled, IsFloored, IsQuotient}
 use Rattle.num_integer.specs.Only.{IsOnly}
-use Rattle.num_integer.proofs.ForCallers.{ceiled_quotient_least, comm, expand, linear, multiples_apart, product_at_most, product_from_zero, products, sizes}
-use Rattle.applied.specs.Paging.{IsEvenCut, IsRangeOfPart}
-use Rattle.applied.proofs.PageRanges.{rest_range}
+use Rattle.num_integer.proofs.ForCallers.{ceiled_by_range, ceiled_quotient_least, comm, expand, floored_range, linear, multiples_apart, product_at_most, product_from_zero, products}
+use Rattle.applied.specs.Paging.{IsEvenCut, IsRangeOfPart, cut_at}
 
 -- ---- where the parts begin
 
--- so many parts have the size, and one item more each of the first ones
-abbrev cut_at : ℤ → ℤ → ℤ → ℤ
-cut_at size longer part = part *ℤ size +ℤ int_min part longer
+pub cut_early : {size longer part : ℤ} → part <ℤ longer → cut_at size longer part ≡ part *ℤ size +ℤ part
+cut_early early = omega (arith, linear, clamps)
 
-ceiled_by_range : {n d q r : ℤ} → n ≡ q *ℤ d +ℤ r → r ≤ℤ pos 0 → pos 0 <ℤ (r +ℤ d) → IsCeiled n d q r
-ceiled_by_range equation to_zero above = record { division = record { equation = equation; small = omega (arith, sizes) }; sign = grind (arith, linear) }
+pub cut_late : {size longer part : ℤ} → longer ≤ℤ part → cut_at size longer part ≡ part *ℤ size +ℤ longer
+cut_late late = omega (arith, linear, clamps)
 
 part_size : (parts items size longer part : ℤ) → items ≡ size *ℤ parts +ℤ longer → pos 0 ≤ℤ longer → longer <ℤ parts → pos 0 ≤ℤ part → part <ℤ parts
     → IsQuotient IsCeiled (items -ℤ part) parts (cut_at size longer (part +ℤ pos 1) -ℤ cut_at size longer part)
@@ -46,66 +43,35 @@ size_from_zero {parts} {size = size} up from_zero equation below = by_lt_z size 
     (λ under. absurd (omega (arith, products, multiples_apart size (pos 0) parts up under)))
     (λ fine. fine)
 
--- it begins and ends where the items are cut
-range_at : {parts items first end : ℤ} (size longer part : ℤ) → IsEvenCut parts items (cut_at size longer) → pos 0 ≤ℤ first → first ≤ℤ end → end ≤ℤ items → first ≡ cut_at size longer part → end ≡ cut_at size longer (part +ℤ pos 1)
-    → IsRangeOfPart part parts items first end
-range_at size longer part even from_zero ordered within begins ends = record {
-  from_zero = from_zero;
-  ordered = ordered;
-  to_items = within;
-  cut = cut_at size longer;
-  even = even;
-  begins = begins;
-  ends = ends;
-}
-
--- one of the first parts, which have one item more
-pub record IsLongerPart (part parts items size : ℤ) : Type 0 where
-  pub begins : pos 0 ≤ℤ (part *ℤ size)
-  pub larger : pos 0 ≤ℤ size
-  pub ends : (part *ℤ size +ℤ size) ≤ℤ items
-  pub range : IsRangeOfPart part parts items (part *ℤ size) (part *ℤ size +ℤ size)
-
-pub longer_part : {parts items size longer part : ℤ} → pos 0 ≤ℤ items → IsFloored items parts size longer → pos 0 ≤ℤ part → part <ℤ parts → part <ℤ longer → IsLongerPart part parts items (size +ℤ pos 1)
-longer_part {parts} {items} {size} {longer} {part} from_zero division part_up within_parts early =
-    let range = rest_range (omega (arith, linear)) division in
+-- each part begins within the items
+pub cut_within : {parts items size longer part : ℤ} → pos 0 <ℤ parts → pos 0 ≤ℤ items → IsFloored items parts size longer → pos 0 ≤ℤ part → part ≤ℤ parts
+    → (pos 0 ≤ℤ (part *ℤ size)) × ((part *ℤ size) ≤ℤ cut_at size longer part) × (cut_at size longer part ≤ℤ items)
+cut_within {parts} {items} {size} {longer} {part} up from_zero division part_up within =
+    let range = floored_range up division in
     let equation = division.division.equation in
-    let size_up = size_from_zero {size = size} (omega (arith, linear)) from_zero equation range.1 in
-    let begins = product_from_zero part (size +ℤ pos 1) part_up (omega (arith, linear)) in
-    let most = product_at_most {u = part +ℤ pos 1} {v = size} {x = parts} {y = size} (omega (arith, linear)) (omega (arith, linear)) size_up (omega (arith, linear)) in
-    let apart : part *ℤ (size +ℤ pos 1) ≡ part *ℤ size +ℤ part = simp expand (omega (arith, products)) in
-    let next : (part +ℤ pos 1) *ℤ size ≡ part *ℤ size +ℤ size = simp expand (omega (arith, products)) in
-    let ends : (part *ℤ (size +ℤ pos 1) +ℤ (size +ℤ pos 1)) ≤ℤ items = omega (arith, linear, comm parts size) in
-    record {
-      begins = begins;
-      larger = omega (arith, linear);
-      ends = ends;
-      range = range_at size longer part (even_cut equation range.0 range.1) (omega (arith, linear)) (omega (arith, linear)) ends (omega (arith, linear, clamps)) (omega (arith, linear, clamps));
-    }
-
--- one of the others
-pub record IsShorterPart (part parts items size longer : ℤ) : Type 0 where
-  pub begins : pos 0 ≤ℤ (part *ℤ size)
-  pub later : pos 0 ≤ℤ longer
-  pub size_up : pos 0 ≤ℤ size
-  pub ends : (part *ℤ size +ℤ longer +ℤ size) ≤ℤ items
-  pub range : IsRangeOfPart part parts items (part *ℤ size +ℤ longer) (part *ℤ size +ℤ longer +ℤ size)
-
-pub shorter_part : {parts items size longer part : ℤ} → pos 0 ≤ℤ items → IsFloored items parts size longer → pos 0 ≤ℤ part → part <ℤ parts → longer ≤ℤ part → IsShorterPart part parts items size longer
-shorter_part {parts} {items} {size} {longer} {part} from_zero division part_up within_parts late =
-    let range = rest_range (omega (arith, linear)) division in
-    let equation = division.division.equation in
-    let size_up = size_from_zero {size = size} (omega (arith, linear)) from_zero equation range.1 in
+    let size_up = size_from_zero {size = size} up from_zero equation range.1 in
     let begins = product_from_zero part size part_up size_up in
-    let most = product_at_most {u = part +ℤ pos 1} {v = size} {x = parts} {y = size} (omega (arith, linear)) (omega (arith, linear)) size_up (omega (arith, linear)) in
+    let most = product_at_most {u = part} {v = size} {x = parts} {y = size} part_up within size_up (omega (arith, linear)) in
+    (begins, omega (arith, linear, clamps), omega (arith, linear, clamps, comm parts size))
+
+pub part_range : {parts items size longer part : ℤ} → pos 0 ≤ℤ items → IsFloored items parts size longer → pos 0 ≤ℤ part → part <ℤ parts
+    → IsRangeOfPart part parts items (cut_at size longer part) (cut_at size longer (part +ℤ pos 1))
+part_range {parts} {items} {size} {longer} {part} from_zero division part_up within =
+    let up : pos 0 <ℤ parts = omega (arith, linear) in
+    let range = floored_range up division in
+    let equation = division.division.equation in
+    let size_up = size_from_zero {size = size} up from_zero equation range.1 in
+    let first = cut_within up from_zero division part_up (omega (arith, linear)) in
+    let end = cut_within {part = part +ℤ pos 1} up from_zero division (omega (arith, linear)) (omega (arith, linear)) in
     let next : (part +ℤ pos 1) *ℤ size ≡ part *ℤ size +ℤ size = simp expand (omega (arith, products)) in
-    let ends : (part *ℤ size +ℤ longer +ℤ size) ≤ℤ items = omega (arith, linear, comm parts size) in
     record {
-      begins = begins;
-      later = range.0;
-      size_up = size_up;
-      ends = ends;
-      range = range_at size longer part (even_cut equation range.0 range.1) (omega (arith, linear)) (omega (arith, linear)) ends (omega (arith, linear, clamps)) (omega (arith, linear, clamps));
+      from_zero = omega (arith, linear, first.0, first.1);
+      ordered = omega (arith, linear, clamps);
+      to_items = end.2;
+      cut = cut_at size longer;
+      even = even_cut equation range.0 range.1;
+      begins = refl;
+      ends = refl;
     }
 
 -- ---- the only range

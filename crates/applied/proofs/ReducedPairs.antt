@@ -4,8 +4,8 @@ use Rattle.std.proofs.Common.{◌∙◌, ap, arith, inl, inr, refl, sym}
 use Rattle.std.proofs.lemmas.Int.{by_lt_z}
 use Rattle.num_integer.specs.Divisors.{IsGreatestCommonDivisor}
 use Rattle.num_integer.specs.Only.{IsOnly}
-use Rattle.num_integer.proofs.ForCallers.{cancel, comm, divided_by_gcd, expand, factor_positive, gcd-times, linear, mul-neg, mul-one, natural_exact_quotient, natural_gcd_positive, natural_quotients_coprime, only_gcd, product_positive, products, zero_divides, zero_or_not}
-use Rattle.num_integer.proofs.Laws.{gcd_exists, gcd_is_symmetric}
+use Rattle.num_integer.proofs.ForCallers.{cancel, comm, divided_by_gcd, expand, factor_positive, gcd-swap, gcd-times, linear, mul-neg, mul-one, neg-mul, natural_exact_quotient, natural_gcd_positive, natural_quotients_coprime, only_gcd, product_positive, products, zero_divides, zero_or_not}
+use Rattle.num_integer.proofs.Laws.{gcd_exists}
 use Rattle.applied.specs.ReducedPairs.{HasSignOf, IsReducedPair}
 
 -- ---- the pair that `reduced` returns
@@ -63,12 +63,6 @@ reduced_pair_exists a b =
 
 -- ---- the only one
 
-neg-mul : (x y : ℤ) → neg_ℤ x *ℤ y ≡ neg_ℤ (x *ℤ y)
-neg-mul x y = comm (neg_ℤ x) y ∙ mul-neg y x ∙ ap neg_ℤ (comm y x)
-
-neg-neg : (z : ℤ) → neg_ℤ (neg_ℤ z) ≡ z
-neg-neg z = omega (arith, linear)
-
 -- the first number is the gcd times its part
 factor_of_first : {a b g x y : ℤ} → (a ≢ pos 0) ⊎ (b ≢ pos 0) → IsReducedPair a b x y → IsGreatestCommonDivisor a b g → a ≡ g *ℤ x
 factor_of_first {a} {b} {g} {x} {y} other h is = by_lt_z (pos 0) a
@@ -83,25 +77,25 @@ factor_of_first {a} {b} {g} {x} {y} other h is = by_lt_z (pos 0) a
     let shared : IsGreatestCommonDivisor (neg_ℤ a *ℤ x) (neg_ℤ a *ℤ y) (neg_ℤ a *ℤ pos 1) = gcd-times (neg_ℤ a) (omega (arith, linear)) (h.coprime other) in
     let same : neg_ℤ a *ℤ pos 1 ≡ neg_ℤ x *ℤ g = only_gcd shared (rw (neg-mul x a, neg-mul x b, comm x a, comm x b, ← h.ratio, ← neg-mul a x, ← neg-mul a y) at own) in
     let opposite : neg_ℤ (neg_ℤ a *ℤ pos 1) ≡ a = omega (arith, products) in
-    sym opposite ∙ ap neg_ℤ (same ∙ neg-mul x g) ∙ neg-neg (x *ℤ g) ∙ comm x g)
+    let spread = same ∙ neg-mul x g in omega (arith, linear, comm x g))
     (λ not_down.
     let none : a ≡ pos 0 = omega (arith, linear) in
     let x_none = zero_of_zero h.first_sign none in
     none ∙ rw x_none (omega (arith, products))))
 
 swapped : {a b x y : ℤ} → IsReducedPair a b x y → IsReducedPair b a y x
-swapped {a} {b} h = record {
+swapped h = record {
   ratio = sym h.ratio;
   first_sign = h.second_sign;
   second_sign = h.first_sign;
-  coprime = λ other. gcd_is_symmetric _ _ _ (h.coprime (elim other [ inl b_other ↦ inr b_other | inr a_other ↦ inl a_other ]));
+  coprime = λ other. gcd-swap (h.coprime (elim other [ inl b_other ↦ inr b_other | inr a_other ↦ inl a_other ]));
 }
 
 same_pair : {a b x y u v : ℤ} → IsReducedPair a b x y → IsReducedPair a b u v → (u ≡ x) × (v ≡ y)
 same_pair {a} {b} {x} {y} {u} {v} h k =
     let both : (a ≢ pos 0) ⊎ (b ≢ pos 0) → (u ≡ x) × (v ≡ y) = λ other.
     let own = gcd_exists a b in
-    let swap = gcd_is_symmetric a b own.0 own.1 in
+    let swap = gcd-swap own.1 in
     let back : (b ≢ pos 0) ⊎ (a ≢ pos 0) = elim other [ inl a_other ↦ inr a_other | inr b_other ↦ inl b_other ] in
     let nonzero : own.0 ≢ pos 0 = λ none. elim other [
       | inl a_other ↦ a_other (zero_divides (rw none at own.1.divides_left))

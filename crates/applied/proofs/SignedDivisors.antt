@@ -2,21 +2,13 @@
 use Rattle.std.specs.Prelude.{◌≡◌, ◌≢◌, ◌≤ℤ◌, ◌<ℤ◌, ◌-ℤ◌, ◌*ℤ◌, ℤ, pos, negsuc, neg_ℤ, unsigned_abs, int_div}
 use Rattle.std.proofs.Common.{◌∙◌, arith, inl, inr, refl, subst, sym}
 use Rattle.std.proofs.lemmas.Bool.{cases_lt}
-use Rattle.std.proofs.lemmas.Int.{by_lt_z, ints}
+use Rattle.std.proofs.lemmas.Int.{by_lt_z}
 use Rattle.num_integer.specs.Divisors.{Divides, IsGreatestCommonDivisor}
 use Rattle.num_integer.specs.Range.{EachFits, IsRange}
-use Rattle.num_integer.proofs.ForCallers.{Divides-refl, Divides-trans, Divides-zero, divisor_size, exact_quotient, expand, linear, only_gcd, other_quotient_fits, product_at_most, products, sizes, truncated_is, within_fits}
+use Rattle.num_integer.proofs.ForCallers.{Divides-trans, divides_magnitude, divisor_size, exact_quotient, expand, gcd-swap, gcd-zero, linear, magnitude_divides, one_fits, only_gcd, other_quotient_fits, product_from_zero, products, sizes, truncated_is, within_fits}
 use Rattle.num_integer.proofs.Laws.{gcd_exists}
 
 -- ---- magnitudes
-
-pub magnitude_divides : (d : ℤ) → Divides (pos (unsigned_abs d)) d
-magnitude_divides (pos d) = Divides-refl (pos d)
-magnitude_divides (negsuc d) = record { factor = negsuc 0; product = omega (arith, ints) }
-
-pub divides_magnitude : (d : ℤ) → Divides d (pos (unsigned_abs d))
-divides_magnitude (pos d) = Divides-refl (pos d)
-divides_magnitude (negsuc d) = record { factor = negsuc 0; product = omega (arith, ints) }
 
 pub magnitude_positive : (d : ℤ) → d ≢ pos 0 → pos 0 <ℤ pos (unsigned_abs d)
 magnitude_positive d nonzero = omega (arith, sizes)
@@ -24,10 +16,6 @@ magnitude_positive d nonzero = omega (arith, sizes)
 -- a number other than -1 is 1 exactly if its magnitude is
 pub one_by_magnitude : (d : ℤ) → d ≢ negsuc 0 → pos (unsigned_abs d) ≡ pos 1 → d ≡ pos 1
 one_by_magnitude d other is = omega (arith, sizes)
-
--- numbers whose common divisor is 1 up to its sign are coprime
-pub coprime_by_one : {a b d : ℤ} → d ≡ pos 1 → IsGreatestCommonDivisor a b (pos (unsigned_abs d)) → IsGreatestCommonDivisor a b (pos 1)
-coprime_by_one one is = rw one at is
 
 -- the first number may be its magnitude
 pub gcd_with_magnitude : {a b g : ℤ} → IsGreatestCommonDivisor a b g → IsGreatestCommonDivisor (pos (unsigned_abs a)) b g
@@ -40,17 +28,9 @@ gcd_with_magnitude {a} h = record {
 
 -- ---- the divisor that `common_divisor` returns
 
-one_fits : {fits : ℤ → Type 0} {low high : ℤ} → IsRange fits low high → fits (pos 1)
-one_fits range = (range.between (pos 1)).1 (omega (arith, linear, range.low_end, range.positive))
-
 -- with 0 it is the magnitude of the other number
 pub gcd_of_zero_and : {a : ℤ} (b : ℤ) → a ≡ pos 0 → IsGreatestCommonDivisor a b (pos (unsigned_abs b))
-gcd_of_zero_and b none = record {
-  from_zero = omega (arith, ints);
-  divides_left = rw none (Divides-zero _);
-  divides_right = magnitude_divides b;
-  greatest = λ d _ right. Divides-trans right (divides_magnitude b);
-}
+gcd_of_zero_and b none = rw none (gcd-swap (gcd-zero b))
 
 module _ {fits : ℤ → Type 0} {low high a b : ℤ} (range : IsRange fits low high) (none : ¬ (EachFits fits (IsGreatestCommonDivisor a b))) where
   -- if the divisor does not fit, it is the magnitude of each of the two numbers that is not 0
@@ -78,13 +58,8 @@ module _ {fits : ℤ → Type 0} {low high a b : ℤ} (range : IsRange fits low 
 -- each part of a number fits
 part_fits : {fits : ℤ → Type 0} {low high n g part : ℤ} → IsRange fits low high → fits n → pos 0 <ℤ g → n ≡ g *ℤ part → fits part
 part_fits {g = g} {part = part} range n_fits up is = by_lt_z part (pos 0)
-    (λ down.
-    let most = product_at_most {u = pos 1} {v = pos 0 -ℤ part} {x = g} {y = pos 0 -ℤ part} (omega (arith, linear)) (omega (arith, linear)) (omega (arith, linear)) (omega (arith, linear)) in
-    let spread = simp expand at most in
-    within_fits range n_fits (inr (omega (arith, products), omega (arith, linear))))
-    (λ not_down.
-    let most = product_at_most {u = pos 1} {v = part} {x = g} {y = part} (omega (arith, linear)) (omega (arith, linear)) not_down (omega (arith, linear)) in
-    within_fits range n_fits (inl (not_down, omega (arith, products))))
+    (λ down. let more = simp expand at (product_from_zero (g -ℤ pos 1) (pos 0 -ℤ part) (omega (arith, linear)) (omega (arith, linear))) in within_fits range n_fits (inr (omega (arith, products), omega (arith, linear))))
+    (λ fine. let more = simp expand at (product_from_zero (g -ℤ pos 1) part (omega (arith, linear)) fine) in within_fits range n_fits (inl (fine, omega (arith, products))))
 
 module _ {n d : ℤ} (nonzero : d ≢ pos 0) (divides : Divides (pos (unsigned_abs d)) n) where
   -- the quotient is exact

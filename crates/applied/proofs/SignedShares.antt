@@ -14,14 +14,12 @@ use Rattle.applied.proofs.WeightedShares.{AreSharedTo, all_shared, none_shared, 
 -- the first i shares have the sign of the amount, and their magnitudes are those of its magnitude
 pub record AreSignedTo (amount : ℤ) (weights : List ℕ) (total i ahead : ℕ) (shares : List ℤ) : Type 0 where
   pub magnitudes : AreSharedTo (unsigned_abs amount) weights total i ahead (map unsigned_abs shares)
-  pub from_zero : pos 0 ≤ℤ amount → (k : ℕ) (d : ℤ) → k < i → pos 0 ≤ℤ get_or shares k d
-  pub to_zero : amount ≤ℤ pos 0 → (k : ℕ) (d : ℤ) → k < i → get_or shares k d ≤ℤ pos 0
+  pub signs : (k : ℕ) (d : ℤ) → k < i → (pos 0 ≤ℤ amount → pos 0 ≤ℤ get_or shares k d) × (amount ≤ℤ pos 0 → get_or shares k d ≤ℤ pos 0)
 
 pub none_signed : {amount : ℤ} {total : ℕ} {weights : List ℕ} {shares : List ℤ} → length shares ≡ length weights → 0 < total → AreSignedTo amount weights total 0 0 shares
 none_signed {shares = shares} size up = record {
   magnitudes = none_shared (length-map shares unsigned_abs ∙ size) up;
-  from_zero = λ sign k d none. absurd (omega arith);
-  to_zero = λ sign k d none. absurd (omega arith);
+  signs = λ k d none. absurd (omega arith);
 }
 
 pub one_more_signed : {amount : ℤ} {total i ahead next : ℕ} {weights : List ℕ} {shares : List ℤ} (share : ℤ) → i < length weights
@@ -32,13 +30,9 @@ one_more_signed {amount} {total} {i} {ahead} {next} {weights} {shares} share wit
     let room : i < length shares = omega (arith, h.magnitudes.one_each, length-map shares unsigned_abs) in
     record {
       magnitudes = rw (map-set unsigned_abs shares i share) (one_more_shared (unsigned_abs share) within is below h.magnitudes);
-      from_zero = λ sign k d upto. elim (cases_lt k i) [
-        | inl earlier ↦ rw (get_or-set_other shares i k share d (omega arith)) (h.from_zero sign k d earlier)
-        | inr last ↦ let e : k ≡ i = omega arith in rw (e, get_or-set_same shares i share d room) (up sign)
-      ];
-      to_zero = λ sign k d upto. elim (cases_lt k i) [
-        | inl earlier ↦ rw (get_or-set_other shares i k share d (omega arith)) (h.to_zero sign k d earlier)
-        | inr last ↦ let e : k ≡ i = omega arith in rw (e, get_or-set_same shares i share d room) (down sign)
+      signs = λ k d upto. elim (cases_lt k i) [
+        | inl earlier ↦ rw (get_or-set_other shares i k share d (omega arith)) (h.signs k d earlier)
+        | inr last ↦ let e : k ≡ i = omega arith in rw (e, get_or-set_same shares i share d room) (up, down)
       ];
     }
 
@@ -47,40 +41,29 @@ all_signed {shares = shares} is end h =
     let size = length-map shares unsigned_abs in
     record {
       magnitudes = all_shared is end h.magnitudes;
-      from_zero = λ sign k d within. h.from_zero sign k d (omega (arith, size, h.magnitudes.one_each));
-      to_zero = λ sign k d within. h.to_zero sign k d (omega (arith, size, h.magnitudes.one_each));
+      from_zero = λ sign k d within. (h.signs k d (omega (arith, size, h.magnitudes.one_each))).0 sign;
+      to_zero = λ sign k d within. (h.signs k d (omega (arith, size, h.magnitudes.one_each))).1 sign;
     }
 
 -- the sum of numbers of one sign, by their magnitudes
-sum_from_zero : (numbers : List ℤ) → All (λ x. pos 0 ≤ℤ x) numbers → signed_sum numbers ≡ pos (sum (map unsigned_abs numbers))
-sum_from_zero [] h = refl
-sum_from_zero (x ∷ xs) h =
-    let rest = sum_from_zero xs (λ k d within. h (suc k) d (omega arith)) in
-    let first : pos 0 ≤ℤ x = h 0 (pos 0) (omega arith) in
+sum_of_sign : (numbers : List ℤ) → (All (λ x. pos 0 ≤ℤ x) numbers → signed_sum numbers ≡ pos (sum (map unsigned_abs numbers)))
+    × (All (λ x. x ≤ℤ pos 0) numbers → signed_sum numbers ≡ pos 0 -ℤ pos (sum (map unsigned_abs numbers)))
+sum_of_sign [] = (λ _. refl, λ _. refl)
+sum_of_sign (x ∷ xs) =
+    let rest = sum_of_sign xs in
     let more = sum_by-cons (λ (n : ℕ). n) (unsigned_abs x) (map unsigned_abs xs) in
-    rw more (omega (arith, ints, rest))
-
-sum_to_zero : (numbers : List ℤ) → All (λ x. x ≤ℤ pos 0) numbers → signed_sum numbers ≡ pos 0 -ℤ pos (sum (map unsigned_abs numbers))
-sum_to_zero [] h = refl
-sum_to_zero (x ∷ xs) h =
-    let rest = sum_to_zero xs (λ k d within. h (suc k) d (omega arith)) in
-    let first : x ≤ℤ pos 0 = h 0 (pos 0) (omega arith) in
-    let more = sum_by-cons (λ (n : ℕ). n) (unsigned_abs x) (map unsigned_abs xs) in
-    rw more (omega (arith, ints, rest))
+    rw more (
+      λ h. let first : pos 0 ≤ℤ x = h 0 (pos 0) (omega arith) in omega (arith, ints, rest.0 (λ k d within. h (suc k) d (omega arith))),
+      λ h. let first : x ≤ℤ pos 0 = h 0 (pos 0) (omega arith) in omega (arith, ints, rest.1 (λ k d within. h (suc k) d (omega arith))),
+    )
 
 -- Together they are the amount.
 pub signed_shares_are_whole : {amount : ℤ} {weights : List ℕ} {shares : List ℤ} → 0 < sum weights → AreSignedShares amount weights shares → signed_sum shares ≡ amount
 signed_shares_are_whole {amount} {weights} {shares} some h =
     let whole = shares_are_whole some h.magnitudes in
     by_lt_z amount (pos 0)
-    (λ less. omega (arith, ints, sum_to_zero shares (h.to_zero (omega (arith, ints)))))
-    (λ rest. omega (arith, ints, sum_from_zero shares (h.from_zero rest)))
-
-same_signed : (x y : ℤ) → unsigned_abs x ≡ unsigned_abs y → pos 0 ≤ℤ x → pos 0 ≤ℤ y → x ≡ y
-same_signed x y e h k = omega (arith, ints)
-
-same_negative : (x y : ℤ) → unsigned_abs x ≡ unsigned_abs y → x ≤ℤ pos 0 → y ≤ℤ pos 0 → x ≡ y
-same_negative x y e h k = omega (arith, ints)
+    (λ less. omega (arith, ints, (sum_of_sign shares).1 (h.to_zero (omega (arith, ints)))))
+    (λ rest. omega (arith, ints, (sum_of_sign shares).0 (h.from_zero rest)))
 
 -- An amount has one list of signed shares.
 pub signed_shares_are_only : {amount : ℤ} {weights : List ℕ} {shares : List ℤ} → AreSignedShares amount weights shares → IsOnly (AreSignedShares amount weights) shares
@@ -91,5 +74,5 @@ signed_shares_are_only {amount} {weights} {shares} h = λ other k.
     let magnitude : unsigned_abs (get_or other i (pos 0)) ≡ unsigned_abs (get_or shares i (pos 0)) =
     sym (get_or-map unsigned_abs other i (pos 0) 0 within) ∙ ap (λ (xs : List ℕ). get_or xs i 0) same ∙ get_or-map unsigned_abs shares i (pos 0) 0 (omega arith) in
     by_lt_z amount (pos 0)
-    (λ less. same_negative (get_or other i (pos 0)) (get_or shares i (pos 0)) magnitude (k.to_zero (omega (arith, ints)) i (pos 0) within) (h.to_zero (omega (arith, ints)) i (pos 0) (omega arith)))
-    (λ rest. same_signed (get_or other i (pos 0)) (get_or shares i (pos 0)) magnitude (k.from_zero rest i (pos 0) within) (h.from_zero rest i (pos 0) (omega arith))))
+    (λ less. omega (arith, ints, magnitude, k.to_zero (omega (arith, ints)) i (pos 0) within, h.to_zero (omega (arith, ints)) i (pos 0) (omega arith)))
+    (λ rest. omega (arith, ints, magnitude, k.from_zero rest i (pos 0) within, h.from_zero rest i (pos 0) (omega arith))))

@@ -15,16 +15,14 @@ pub record AreSharedTo (amount : ℕ) (weights : List ℕ) (total i ahead : ℕ)
   pub one_each : length shares ≡ length weights
   pub below : ahead < total
   pub place : sum (take i shares) * total ≡ amount * sum (take i weights) + ahead
-  pub enough : (k : ℕ) → k ≤ i → amount * sum (take k weights) ≤ sum (take k shares) * total
-  pub fewest : (k : ℕ) → k ≤ i → sum (take k shares) * total < amount * sum (take k weights) + total
+  pub near : (k : ℕ) → k ≤ i → (amount * sum (take k weights) ≤ sum (take k shares) * total) × (sum (take k shares) * total < amount * sum (take k weights) + total)
 
 pub none_shared : {amount total : ℕ} {weights shares : List ℕ} → length shares ≡ length weights → 0 < total → AreSharedTo amount weights total 0 0 shares
 none_shared {amount} {total} {weights} {shares} size up = record {
   one_each = size;
   below = up;
   place = omega arith;
-  enough = λ k none. let e : k ≡ 0 = omega arith in rw e (omega arith);
-  fewest = λ k none. let e : k ≡ 0 = omega arith in rw e (omega arith);
+  near = λ k none. let e : k ≡ 0 = omega arith in rw e (omega arith, omega arith);
 }
 
 pub one_more_shared : {amount total i ahead next : ℕ} {weights shares : List ℕ} (share : ℕ) → i < length weights → share * total + ahead ≡ amount * slice_index weights i + next → next < total
@@ -39,21 +37,17 @@ one_more_shared {amount} {total} {i} {ahead} {next} {weights} {shares} share wit
       one_each = length-set shares i share ∙ h.one_each;
       below = below;
       place = place;
-      enough = λ k upto. elim (cases_lt k (i + 1)) [
-        | inl earlier ↦ rw (take-set-le k shares i share (omega arith)) (h.enough k (omega arith))
-        | inr last ↦ let e : k ≡ i + 1 = omega arith in rw e (omega (arith, place))
-      ];
-      fewest = λ k upto. elim (cases_lt k (i + 1)) [
-        | inl earlier ↦ rw (take-set-le k shares i share (omega arith)) (h.fewest k (omega arith))
-        | inr last ↦ let e : k ≡ i + 1 = omega arith in rw e (omega (arith, place))
+      near = λ k upto. elim (cases_lt k (i + 1)) [
+        | inl earlier ↦ rw (take-set-le k shares i share (omega arith)) (h.near k (omega arith))
+        | inr last ↦ let e : k ≡ i + 1 = omega arith in rw e (omega (arith, place), omega (arith, place))
       ];
     }
 
 pub all_shared : {amount total i ahead : ℕ} {weights shares : List ℕ} → total ≡ sum weights → length weights ≤ i → AreSharedTo amount weights total i ahead shares → AreShares amount weights shares
 all_shared is end h = record {
   one_each = h.one_each;
-  enough = λ k within. rw (sym is) (h.enough k (omega arith));
-  fewest = λ k within. rw (sym is) (h.fewest k (omega arith));
+  enough = λ k within. rw (sym is) (h.near k (omega arith)).0;
+  fewest = λ k within. rw (sym is) (h.near k (omega arith)).1;
 }
 
 -- ---- what shares have

@@ -50,7 +50,7 @@ PaddingIsOnly = (offset alignment bytes other : ℤ) → pos 0 ≤ℤ bytes → 
 
 -- ---- schedules
 
--- If different numbers have different values, at most one answer says when a time with the property comes next.
+-- If different numbers have different values, at most one result says when a time with the property comes next.
 abbrev pub LeastTimeIsOnly : {X : Type 0} → (X → ℤ) → (ℤ → Type 0) → (ℤ → Type 0) → Type 0
 LeastTimeIsOnly {X} value fits P = ((x y : X) → value x ≡ value y → x ≡ y) → (now : ℤ) (answer : CommonSolution X) → IsLeastTime value fits now P answer → IsOnly (IsLeastTime value fits now P) answer
 

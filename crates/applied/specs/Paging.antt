@@ -1,5 +1,6 @@
 -- Items on pages of equal size, and in parts of nearly equal size. Items, pages, places and parts are counted from 0.
 use Rattle.std.specs.Prelude.{◌≡◌, ◌↔◌, ◌≤ℤ◌, ◌<ℤ◌, ◌+ℤ◌, ◌-ℤ◌, ◌*ℤ◌, ℤ, pos}
+use Rattle.std.specs.Int.{int_min}
 use Rattle.num_integer.specs.Division.{IsCeiled, IsQuotient}
 
 -- The item is at this place on this page.
@@ -24,6 +25,11 @@ pub record IsEvenCut (parts items : ℤ) (cut : ℤ → ℤ) : Type 0 where
   pub begins : cut (pos 0) ≡ pos 0
   pub ends : cut parts ≡ items
   pub sizes : (part : ℤ) → pos 0 ≤ℤ part → part <ℤ parts → IsQuotient IsCeiled (items -ℤ part) parts (cut (part +ℤ pos 1) -ℤ cut part)
+
+-- The item at which a part begins, if each part has `size` items, and each of the first `longer` parts one more.
+-- Examples: size 3, longer 1: part 0: 0; part 1: 4; part 2: 7.
+abbrev pub cut_at : ℤ → ℤ → ℤ → ℤ
+cut_at size longer part = part *ℤ size +ℤ int_min part longer
 
 -- The part begins at `first` and ends before `end`, if the items are cut evenly into parts.
 -- Examples: 10 items, 3 parts: part 0: 0 and 4; part 1: 4 and 7; part 2: 7 and 10.

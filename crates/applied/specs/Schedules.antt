@@ -28,7 +28,7 @@ IsMeetingOfEach value schedules t = All (λ s. IsTime (value s.0) (value s.1) t)
 abbrev pub HaveBegun : {X : Type 0} → (X → ℤ) → List (X × X) → ℤ → Type 0
 HaveBegun value schedules t = All (λ s. value s.0 ≤ℤ t) schedules
 
--- The answer is the first time, not before `now`, that has P: `At` that time if it fits, `Beyond` if it does not, and `Never` if no time has P.
+-- The result is the first time, not before `now`, that has P: `At` that time if it fits, `Beyond` if it does not, and `Never` if no time has P.
 -- Examples: now 10, P the meetings of (1, 4) and (3, 6): `At(21)`; in i8 from 126 on: `Beyond`; P the meetings of (0, 2) and (1, 2): `Never`.
 abbrev pub IsLeastTime : {X : Type 0} → (X → ℤ) → (ℤ → Type 0) → ℤ → (ℤ → Type 0) → CommonSolution X → Type 0
 IsLeastTime value fits now P answer = MatchCommonSolution answer ((t : ℤ) → ¬ (P t)) ((t : ℤ) × IsLeastFrom now P t × ¬ (fits t)) (λ t. fits (value t) × IsLeastFrom now P (value t))

@@ -4,7 +4,7 @@ ghost use Rattle.std.specs.Prelude.{◌≡◌, ◌≤ℤ◌, ◌<ℤ◌, ◌*ℤ
 ghost use Rattle.num_integer.specs.Checked.{AnswersWhere};
 ghost use Rattle.num_integer.specs.Only.{IsOnly};
 ghost use Rattle.num_integer.specs.Range.{EachFits};
-ghost use Rattle.applied.specs.Paging.{IsPlace, IsRangeOfPage, IsRangeOfPart};
+ghost use Rattle.applied.specs.Paging.{IsPlace, IsRangeOfPage, IsRangeOfPart, cut_at};
 
 use num_integer::operators::{difference, is_below, is_negative, product, successor, sum};
 use num_integer::{Fits, Integer, checked, div_ceil, div_mod_floor};
@@ -114,12 +114,23 @@ pub fn range_of_part<T: Integer>(part: T, parts: T, items: T) -> (T, T)
         (T.value items) first end) (T.value result.0, T.value result.1) }
 {
     let (size, longer) = div_mod_floor(items, parts);
+    let first = start_of(part, size, longer);
+    (first, start_of(successor(part), size, longer))
+}
+
+/// Returns the item at which a part begins, if each part has `size` items, and each of the first `longer` parts
+/// one more.
+fn start_of<T: Integer>(part: T, size: T, longer: T) -> T
+    requires in_range { T.fits (T.value part) × T.fits (T.value size) × T.fits (T.value longer) }
+    requires product_fits { T.fits (T.value part *ℤ T.value size) }
+    requires start_fits { T.fits (cut_at (T.value size) (T.value longer) (T.value part)) }
+    ensures in_range { T.fits (T.value result) }
+    ensures start { T.value result ≡ cut_at (T.value size) (T.value longer) (T.value part) }
+{
+    let items = product(part, size);
     if is_below(part, longer) {
-        let larger = successor(size);
-        let first = product(part, larger);
-        (first, sum(first, larger))
+        sum(items, part)
     } else {
-        let first = sum(product(part, size), longer);
-        (first, sum(first, size))
+        sum(items, longer)
     }
 }

@@ -1,9 +1,9 @@
 //! Quotients rounded to the nearest integer.
 
-ghost use Rattle.std.specs.Prelude.{◌≡◌, ◌≢◌, ◌⊎◌, ◌↔◌, ◌<◌, ◌*◌, ◌≤ℤ◌, pos, unsigned_abs, IsTrue};
+ghost use Rattle.std.specs.Prelude.{◌≢◌, ◌⊎◌, ◌↔◌, ◌<◌, ◌≤ℤ◌, ℤ, pos, unsigned_abs, IsTrue};
 ghost use Rattle.num_integer.specs.Division.{IsFloored, IsQuotient};
 ghost use Rattle.num_integer.specs.Range.{EachFits};
-ghost use Rattle.applied.specs.Rounding.{IsNearest, IsNearestEven};
+ghost use Rattle.applied.specs.Rounding.{IsDown, IsNearer, IsNearest, IsNearestEven, LiesWithin};
 
 pub mod checked;
 
@@ -23,11 +23,7 @@ pub fn div_round<T: Integer>(x: T, y: T) -> T
     ensures nearest { IsQuotient IsNearest (T.value x) (T.value y) (T.value result) }
 {
     let (below, rest) = div_mod_floor(x, y);
-    if rounds_down(rest, y, is_negative(below)) {
-        below
-    } else {
-        successor(below)
-    }
+    nearer(below, rest, y, is_negative(below))
 }
 
 /// Returns the quotient rounded to the nearest integer, and a half to the even one. `div_round_even(8, 3)` is
@@ -43,7 +39,20 @@ pub fn div_round_even<T: Integer>(x: T, y: T) -> T
     ensures nearest { IsQuotient IsNearestEven (T.value x) (T.value y) (T.value result) }
 {
     let (below, rest) = div_mod_floor(x, y);
-    if rounds_down(rest, y, below.is_even()) {
+    nearer(below, rest, y, below.is_even())
+}
+
+/// Returns the quotient rounded down, or the next number if the remainder is more than half of the divisor. If it
+/// is half of the divisor, returns the quotient rounded down if `half_down` is `true`.
+fn nearer<T: Integer>(below: T, rest: T, divisor: T, half_down: bool) -> T
+    requires in_range { T.fits (T.value below) × T.fits (T.value rest) × T.fits (T.value divisor) }
+    requires floored { (n : ℤ) × T.fits n
+        × IsFloored n (T.value divisor) (T.value below) (T.value rest) }
+    ensures in_range { T.fits (T.value result) }
+    ensures nearer { IsNearer (IsTrue half_down) (T.value divisor) (T.value below) (T.value rest)
+        (T.value result) }
+{
+    if rounds_down(rest, divisor, half_down) {
         below
     } else {
         successor(below)
@@ -54,11 +63,8 @@ pub fn div_round_even<T: Integer>(x: T, y: T) -> T
 /// and `half_down` is `true`.
 fn rounds_down<T: Integer>(rest: T, divisor: T, half_down: bool) -> bool
     requires in_range { T.fits (T.value rest) × T.fits (T.value divisor) }
-    requires within { ((pos 0 ≤ℤ T.value rest) × (T.value rest ≤ℤ T.value divisor))
-        ⊎ ((T.value divisor ≤ℤ T.value rest) × (T.value rest ≤ℤ pos 0)) }
-    ensures { IsTrue result
-        ↔ ((2 * unsigned_abs (T.value rest) < unsigned_abs (T.value divisor))
-        ⊎ ((2 * unsigned_abs (T.value rest) ≡ unsigned_abs (T.value divisor)) × IsTrue half_down)) }
+    requires within { LiesWithin (T.value divisor) (T.value rest) }
+    ensures { IsTrue result ↔ IsDown (IsTrue half_down) (T.value divisor) (T.value rest) }
 {
     // What is missing to the divisor always fits. Twice the remainder may not.
     let missing = difference(divisor, rest);

@@ -70,7 +70,7 @@ earlier_is_less a b (inr (same, inl months)) =
     rw (sym same) (omega (arith, ints, a.valid.day_to_last, b.valid.day_from_one))
 earlier_is_less a b (inr (same, inr (month, days))) = rw (same, month) (omega (arith, ints))
 
--- of two dates one is earlier, where they are not the same
+-- of two dates one is earlier, if they are not the same
 compared : (x y : ℤ) (m n d e : ℕ) → ((x <ℤ y) ⊎ ((x ≡ y) × ((m < n) ⊎ ((m ≡ n) × (d < e))))) ⊎ (((y <ℤ x) ⊎ ((y ≡ x) × ((n < m) ⊎ ((n ≡ m) × (e < d))))) ⊎ ((x ≡ y) × (m ≡ n) × (d ≡ e)))
 compared x y m n d e = grind (arith, linear)
 

@@ -77,7 +77,7 @@ only_text a b a_fits b_fits e =
     let (year, month) = only_number (with_number (year_text a.year) a.month) _ _ _ _ a_month b_month refl front in
     of_parts a b (only_year a.year b.year a_fits b_fits year) month day
 
--- ---- what `Date::new` answers
+-- ---- what `Date::new` returns
 
 pub made_date : (o : Option Date) (date : Date) {year : ℤ} {month day : ℕ} → MatchOption o (¬ (IsDate year month day)) (λ made. HasParts made year month day) → year ≡ date.year → month ≡ date.month → day ≡ date.day_of_month → o ≡ Some date
 made_date None date h year month day = absurd (h (rw (year, month, day) date.valid))

@@ -69,7 +69,7 @@ HasMoon epact golden days = ((epact < 24) × (days + epact ≡ 23)) ⊎ ((25 < e
 moon : (epact golden : ℕ) → epact < 30 → HasMoon epact golden (days_to_full_moon epact golden)
 moon epact golden below = grind (arith, nat_tests)
 
--- of one golden number, where two are in one century
+-- of one golden number, if two are in one century
 one_golden : (g h e f days : ℕ) (q : ℤ) → g < 19 → h < 19 → f < 30 → pos (11 * g + f) ≡ pos (11 * h + e) +ℤ pos 30 *ℤ q → HasMoon e g days → HasMoon f h days → g ≡ h
 one_golden g h e f days q below other_below small apart a b = grind (arith, ints)
 

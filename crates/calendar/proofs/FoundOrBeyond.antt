@@ -4,12 +4,12 @@ use Rattle.std.specs.Int.{w64}
 use Rattle.std.specs.Option.{SomeIff}
 use Rattle.std.proofs.Common.{subst, sym}
 
--- a number that is the only one, where it fits, and else no number that fits
+-- a number that is the only one, if it fits, and else no number that fits
 pub only_or_beyond : (P : ℤ → Type 0) (o : Option ℤ) {found : ℤ} → ((a b : ℤ) → P a → P b → a ≡ b) → SomeIff o (FitsSigned w64 found) found → P found → MatchOption o ((z : ℤ) → P z → ¬ (FitsSigned w64 z)) P
 only_or_beyond P None {found} only beyond h = λ z k fits. beyond (subst (λ (x : ℤ). FitsSigned w64 x) (only z found k h) fits)
 only_or_beyond P (Some x) only fits h = subst P (sym fits.1) h
 
--- a number, where it fits, and else one that does not
+-- a number, if it fits, and else one that does not
 pub found_or_beyond : (P : ℤ → Type 0) (o : Option ℤ) {found : ℤ} → SomeIff o (FitsSigned w64 found) found → P found → MatchOption o ((z : ℤ) × P z × ¬ (FitsSigned w64 z)) P
 found_or_beyond P None {found} beyond h = (found, h, beyond)
 found_or_beyond P (Some x) fits h = subst P (sym fits.1) h

@@ -138,7 +138,7 @@ no_day {year = year} own from before h =
 
 -- ---- the number of weeks of a year
 
--- 53, where the 53rd Thursday is in the year, and else 52
+-- 53, if the 53rd Thursday is in the year, and else 52
 pub has_53_weeks : {year place : ℤ} → HasWeekday (first_day year +ℤ place) Thursday → pos 364 ≤ℤ place → place <ℤ pos 371 → place <ℤ pos (days_in_year year) → HasIsoWeeks year 53
 has_53_weeks {year = year} h from before below = record {
   day = _;

@@ -4,6 +4,7 @@ pub mod MonthLengths
 pub mod MarchYears
 pub mod LaterEras
 pub mod DateOrder
+pub mod DayRanges
 pub mod Laws
 pub mod PaddedNumbers
 pub mod YearTexts

@@ -60,7 +60,7 @@ months_in_order {from} {a} {b} {m} {n} less h k = by_lt_z m n
 
 -- ---- the months from a date to another
 
--- so many, where one more is too many
+-- so many, if one more is too many
 months_of : {from to : Date} (months : ℤ) → ((date : Date) → IsMonthsAfter from months date → number_of date ≤ℤ number_of to) → ((date : Date) → IsMonthsAfter from (months +ℤ pos 1) date → number_of to <ℤ number_of date) → IsMonthsBetween from to months
 months_of {from} {to} months reached next =
     let (date, is_after) = months_after_exists from months in

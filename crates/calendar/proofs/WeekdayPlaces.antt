@@ -58,7 +58,7 @@ weekday_in_era era n weekday place is = on_weekday weekday (pos 20871 *ℤ era -
 same_place : (a b p q : ℤ) (w : ℕ) → a +ℤ pos 4 ≡ p *ℤ pos 7 +ℤ pos w → b +ℤ pos 4 ≡ q *ℤ pos 7 +ℤ pos w → a <ℤ (b +ℤ pos 7) → b <ℤ (a +ℤ pos 7) → a ≡ b
 same_place a b p q w first second after before = omega (arith, ints)
 
--- Days of one day of the week are less than a week apart only where they are the same.
+-- Days of one day of the week are less than a week apart only if they are the same.
 pub same_day : {a b : ℤ} (weekday : Weekday) → HasWeekday a weekday → HasWeekday b weekday → a <ℤ (b +ℤ pos 7) → b <ℤ (a +ℤ pos 7) → a ≡ b
 same_day {a} {b} weekday h k after before = same_place a b h.remainder.quotient k.remainder.quotient (weekday_number weekday) h.remainder.division.division.equation k.remainder.division.division.equation after before
 
@@ -78,7 +78,7 @@ only_first from weekday a b h k = least_is_only k a h
 pub only_last : LastWeekdayIsOnly
 only_last to weekday a b h k = greatest_is_only k a h
 
--- by the days between the days of the week, where it fits
+-- by the days between the days of the week, if it fits
 pub first_or_beyond : (o : Option ℤ) {day : ℤ} {a : Weekday} (b : Weekday) (n : ℕ) → HasWeekday day a → weekday_number b ≡ (weekday_number a + n) % 7 → n < 7 → SomeIff o (FitsSigned w64 (day +ℤ pos n)) (day +ℤ pos n)
     → MatchOption o ((z : ℤ) → IsFirstWeekday day b z → ¬ (FitsSigned w64 z)) (IsFirstWeekday day b)
 first_or_beyond o {day = day} b n h turned small found = only_or_beyond (IsFirstWeekday day b) o (only_first day b) found (first_within b (days_later n h turned) (omega (arith, ints)) (omega (arith, ints)))
@@ -106,7 +106,7 @@ only_weekday day a b h k = only_number (ap unsigned_abs (only_floored h.remainde
 pub only_iso_number : IsoNumberIsOnly
 only_iso_number a b same = only_number (omega (arith, below_seven a, below_seven b))
 
--- days of the week follow in turn from the Thursday of day 0
+-- days of the week follow one another from the Thursday of day 0
 pub next_weekdays : WeekdaysFollow
 next_weekdays = (
   on_weekday Thursday (pos 0) (omega (arith, ints)),

@@ -23,7 +23,7 @@ before n = refl
 
 -- ---- the forms of a year's text
 
--- the text is a year's exactly where these digits are of a number in the range, and the year is the number's value
+-- the text is a year's exactly if these digits are of a number in the range, and the year is the number's value
 pub record HasForm (value : ℕ → ℤ) (least most : ℕ) (ds text : List ℕ) : Type 0 where
   pub tells : (year : ℤ) → FitsSigned w64 year → text ≡ year_text year → (value (unsigned_abs year) ≡ year) × (least ≤ unsigned_abs year) × (unsigned_abs year ≤ most) × (ds ≡ padded 4 (unsigned_abs year))
   pub writes : (n : ℕ) → least ≤ n → n ≤ most → ds ≡ padded 4 n → text ≡ year_text (value n)

@@ -1,5 +1,6 @@
 -- Definitions about dates. A year may be any integer.
-use Rattle.std.specs.Prelude.{◌≡◌, ◌⊎◌, ◌<◌, ◌≤◌, ◌<ℤ◌, ◌≤ℤ◌, ◌+◌, ◌*◌, ◌+ℤ◌, ◌*ℤ◌, ℕ, ℤ, pos, min}
+use Rattle.std.specs.Prelude.{◌≡◌, ◌⊎◌, ◌<◌, ◌≤◌, ◌<ℤ◌, ◌≤ℤ◌, ◌+◌, ◌*◌, ◌+ℤ◌, ◌-ℤ◌, ◌*ℤ◌, ℕ, zero, suc, ℤ, pos, List, [], ◌∷◌, min, unsigned_abs}
+use Rattle.std.specs.Int.{int_max}
 use Rattle.calendar.specs.Months.{days_before_month, days_in_month, month_number}
 use Rattle.calendar.specs.Weeks.{HasWeekday}
 use Rattle.calendar.specs.Years.{day_number}
@@ -29,6 +30,19 @@ pub record HasParts (date : Date) (year : ℤ) (month day : ℕ) : Type 0 where
 -- Examples: 1999-12-31 before 2000-01-01; 2000-02-28 before 2000-02-29; no date before itself.
 abbrev pub IsEarlier : Date → Date → Type 0
 IsEarlier a b = (a.year <ℤ b.year) ⊎ ((a.year ≡ b.year) × ((a.month < b.month) ⊎ ((a.month ≡ b.month) × (a.day_of_month < b.day_of_month))))
+
+-- ---- the days from one date to another
+
+-- So many numbers, each 1 more than the one before it.
+-- Examples: 3 from -1: -1, 0, 1; 0 from 5: the empty list.
+unfoldable pub numbers_from : ℕ → ℤ → List ℤ
+numbers_from zero first = []
+numbers_from (suc count) first = first ∷ numbers_from count (first +ℤ pos 1)
+
+-- The numbers of the days from the first on, to the one before `end`.
+-- Examples: -1 and 2: -1, 0, 1; 2 and 2: the empty list; 3 and 2: the empty list.
+abbrev pub day_numbers : ℤ → ℤ → List ℤ
+day_numbers first end = numbers_from (unsigned_abs (int_max (pos 0) (end -ℤ first))) first
 
 -- ---- dates some months apart
 

@@ -90,7 +90,7 @@ IsoNumberIsOnly = (a b : Weekday) → iso_number a ≡ iso_number b → a ≡ b
 abbrev pub WeekdayIsOnly : Type 0
 WeekdayIsOnly = (day : ℤ) (a b : Weekday) → HasWeekday day a → HasWeekday day b → a ≡ b
 
--- Day 0 is a Thursday, and the days of the week follow in turn.
+-- Day 0 is a Thursday, and the days of the week follow one another.
 abbrev pub WeekdaysFollow : Type 0
 WeekdaysFollow = HasWeekday (pos 0) Thursday × ((day : ℤ) (a b : Weekday) → HasWeekday day a → HasWeekday (day +ℤ pos 1) b → weekday_number b ≡ (weekday_number a + 1) % 7)
 

@@ -2,6 +2,7 @@
 #![tactic(auto)]
 
 mod date;
+mod days;
 mod distances;
 mod eras;
 mod feasts;
@@ -13,6 +14,7 @@ mod weeks;
 mod years;
 
 pub use date::Date;
+pub use days::Days;
 pub use distances::{days_between, months_between, years_between};
 pub use feasts::easter;
 pub use iso_weeks::{IsoWeek, weeks_in_year};

@@ -14,6 +14,7 @@ use Rattle.integer_core.specs.Divisors.{Divides, IsGreatestCommonDivisor, IsLeas
 pub only_gcd : {a b g h : ℤ} → IsGreatestCommonDivisor a b g → IsGreatestCommonDivisor a b h → g ≡ h
 only_gcd x y = Divides-antisym x.from_zero y.from_zero (y.greatest _ x.divides_left x.divides_right) (x.greatest _ y.divides_left y.divides_right)
 
+-- the gcd in the other order is the same
 pub gcd-swap : {a b g : ℤ} → IsGreatestCommonDivisor a b g → IsGreatestCommonDivisor b a g
 gcd-swap x = record { from_zero = x.from_zero; divides_left = x.divides_right; divides_right = x.divides_left; greatest = λ d h k. x.greatest d k h }
 
@@ -24,7 +25,7 @@ gcd-nonzero x nonzero none = nonzero (zero_divides (rw none at x.divides_right))
 pub gcd-positive : {a b g : ℤ} → IsGreatestCommonDivisor a b g → b ≢ pos 0 → pos 0 <ℤ g
 gcd-positive x nonzero = let g_nonzero = gcd-nonzero x nonzero in omega (arith, linear)
 
--- of a number and a divisor it is the magnitude of the divisor
+-- the gcd of a number and a divisor is the magnitude of the divisor
 pub gcd-divisor : {d n : ℤ} → Divides d n → IsGreatestCommonDivisor n d (pos (unsigned_abs d))
 gcd-divisor {d} h = record {
   from_zero = omega (arith, ints);
@@ -33,7 +34,7 @@ gcd-divisor {d} h = record {
   greatest = λ c left right. Divides-trans right (divides_magnitude d);
 }
 
--- with 0 it is the magnitude
+-- the gcd with 0 is the magnitude
 pub gcd-zero : (a : ℤ) → IsGreatestCommonDivisor a (pos 0) (pos (unsigned_abs a))
 gcd-zero a = gcd-swap (gcd-divisor (Divides-zero a))
 
@@ -77,8 +78,8 @@ gcd_combined a b = below (suc (unsigned_abs b)) a b (omega arith)
 pub gcd_exists : (a b : ℤ) → (g : ℤ) × IsGreatestCommonDivisor a b g
 gcd_exists a b = let h = gcd_combined a b in (h.0, h.3)
 
--- what divides a multiple of both divides that of the gcd
-divides_multiple : {d a b g : ℤ} (k : ℤ) → IsGreatestCommonDivisor a b g → Divides d (k *ℤ a) → Divides d (k *ℤ b) → Divides d (k *ℤ g)
+-- what divides the same multiple of two numbers divides that multiple of their gcd
+pub divides_multiple : {d a b g : ℤ} (k : ℤ) → IsGreatestCommonDivisor a b g → Divides d (k *ℤ a) → Divides d (k *ℤ b) → Divides d (k *ℤ g)
 divides_multiple {a = a} {b = b} k x h m =
     let sum = gcd_combined a b in
     rw (only_gcd x sum.3, sum.4, dist-left, left_comm k sum.1 a, left_comm k sum.2 b) (Divides-sum sum.1 sum.2 h m)
@@ -101,7 +102,7 @@ only_lcm x y = Divides-antisym x.from_zero y.from_zero (x.least _ y.left_divides
 pub lcm-swap : {a b l : ℤ} → IsLeastCommonMultiple a b l → IsLeastCommonMultiple b a l
 lcm-swap x = record { from_zero = x.from_zero; left_divides = x.right_divides; right_divides = x.left_divides; least = λ m h k. x.least m k h }
 
--- with 0 it is 0
+-- the lcm with 0 is 0
 pub lcm-zero : {a b : ℤ} → (a ≡ pos 0) ⊎ (b ≡ pos 0) → IsLeastCommonMultiple a b (pos 0)
 lcm-zero with_zero = record {
   from_zero = omega (arith, ints);

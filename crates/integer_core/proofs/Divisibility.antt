@@ -33,11 +33,12 @@ Divides-minus_one v = record { factor = neg_ℤ v; product = omega (arith, produ
 pub Divides-antisym : {u v : ℤ} → pos 0 ≤ℤ u → pos 0 ≤ℤ v → Divides u v → Divides v u → u ≡ v
 Divides-antisym up up' h k = let same = dvd_antisymm (to_natural h) (to_natural k) in omega (arith, sizes)
 
--- the magnitude has the same divisors and multiples
+-- the magnitude of a number divides the number
 pub magnitude_divides : (d : ℤ) → Divides (pos (unsigned_abs d)) d
 magnitude_divides (pos d) = Divides-refl (pos d)
 magnitude_divides (negsuc d) = record { factor = negsuc 0; product = omega (arith, ints) }
 
+-- a number divides its magnitude
 pub divides_magnitude : (d : ℤ) → Divides d (pos (unsigned_abs d))
 divides_magnitude (pos d) = Divides-refl (pos d)
 divides_magnitude (negsuc d) = record { factor = negsuc 0; product = omega (arith, ints) }
@@ -52,6 +53,7 @@ from_natural {u} {v} h =
 pub Divides-sum : {d u v : ℤ} (x y : ℤ) → Divides d u → Divides d v → Divides d (x *ℤ u +ℤ y *ℤ v)
 Divides-sum x y h k = record { factor = x *ℤ h.factor +ℤ y *ℤ k.factor; product = simp (h.product, k.product, expand) }
 
+-- a remainder is the number minus the quotient times the divisor
 pub rest_is : {n d q r : ℤ} → IsDivision n d q r → r ≡ n -ℤ q *ℤ d
 rest_is h = let e = h.equation in omega (arith, linear)
 

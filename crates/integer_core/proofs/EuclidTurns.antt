@@ -39,6 +39,7 @@ not_one {n} {d} goes_on nonzero = lt_of_not-le (λ less.
     let one : unsigned_abs d ≡ 1 = omega (arith, linear, abs_is) in
     goes_on (Divides-trans (rw one at (divides_magnitude d)) (one_divides n)))
 
+-- a number other than 0 divides another or not
 pub divides_or_not : (d n : ℤ) → d ≢ pos 0 → Divides d n ⊎ (¬ (Divides d n))
 divides_or_not d n nonzero =
     let division = (truncated_is n d nonzero).division in

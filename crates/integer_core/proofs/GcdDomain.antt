@@ -10,7 +10,7 @@ use Rattle.integer_core.specs.Divisors.{GcdFits, IsGreatestCommonDivisor}
 use Rattle.integer_core.specs.Range.{IsRange, EachFits}
 
 module _ {fits : ℤ → Type 0} {low high : ℤ} (range : IsRange fits low high) where
-  -- a type without negatives has no -1
+  -- a type without negative numbers has no -1
   pub no_minus_one : low ≡ pos 0 → ¬ (fits (negsuc 0))
   no_minus_one none fits_it = omega (arith, linear, (range.between (negsuc 0)).0 fits_it)
 

@@ -25,12 +25,15 @@ only_one {n} {d} {q} {r} {p} {s} h k near =
     let zero : (q -ℤ p) *ℤ d ≡ pos 0 = rw none (omega (arith, products)) in
     omega (arith, linear)
 
+-- a number has one truncated quotient and remainder
 pub only_truncated : {n d q r p s : ℤ} → IsTruncated n d q r → IsTruncated n d p s → (q ≡ p) × (r ≡ s)
 only_truncated h k = only_one h.division k.division (omega (arith, sizes))
 
+-- a number has one floored quotient and remainder
 pub only_floored : {n d q r p s : ℤ} → IsFloored n d q r → IsFloored n d p s → (q ≡ p) × (r ≡ s)
 only_floored h k = only_one h.division k.division (omega (arith, sizes))
 
+-- a number has one ceiled quotient and remainder
 pub only_ceiled : {n d q r p s : ℤ} → IsCeiled n d q r → IsCeiled n d p s → (q ≡ p) × (r ≡ s)
 only_ceiled h k = only_one h.division k.division (omega (arith, sizes))
 
@@ -133,5 +136,9 @@ module _ {fits : ℤ → Type 0} {low high n d : ℤ} (range : IsRange fits low 
   pub floored_fits : EachFits fits (IsQuotient IsCeiled n d) → EachFits fits (IsQuotient IsFloored n d)
   floored_fits ceiled q h = exact_or_fits h.division.division (λ exact. ceiled q (record { remainder = _; division = ceiled_exact h.division exact }))
 
+-- a floored remainder lies between 0 and the divisor
+pub floored_remainder_within : {n d q r : ℤ} → IsFloored n d q r → LiesWithin d r
+floored_remainder_within h = grind (arith, sizes)
+
 pub floored_remainder_fits : {fits : ℤ → Type 0} {low high : ℤ} {n d q r : ℤ} → IsRange fits low high → fits d → IsFloored n d q r → fits r
-floored_remainder_fits range d_fits h = within_fits range d_fits (grind (arith, sizes))
+floored_remainder_fits range d_fits h = within_fits range d_fits (floored_remainder_within h)

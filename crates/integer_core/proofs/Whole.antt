@@ -40,9 +40,11 @@ dist a b c =
 pub dist-left : (a b c : ℤ) → a *ℤ (b +ℤ c) ≡ a *ℤ b +ℤ a *ℤ c
 dist-left a b c = rw (comm a (b +ℤ c), dist b c a, comm b a, comm c a)
 
+-- a negated first factor negates the product
 pub neg-mul : (a b : ℤ) → neg_ℤ a *ℤ b ≡ neg_ℤ (a *ℤ b)
 neg-mul a b = grind (arith, products)
 
+-- a negated second factor negates the product
 pub mul-neg : (a b : ℤ) → a *ℤ neg_ℤ b ≡ neg_ℤ (a *ℤ b)
 mul-neg a b = grind (arith, products)
 

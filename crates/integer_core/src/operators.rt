@@ -1,4 +1,4 @@
-//! Zero, one, the operators and four tests, specified on integers. Every integer type is `exact`, so
+//! Zero, one, the operators and six tests, specified on integers. Every integer type is `exact`, so
 //! callers never have to prove it.
 
 ghost use Rattle.std.specs.Prelude.{◌≡◌, ◌≢◌, ◌↔◌, ◌<ℤ◌, ◌+ℤ◌, ◌-ℤ◌, ◌*ℤ◌, pos, negsuc, neg_ℤ, int_rem, int_div, IsTrue};
@@ -29,6 +29,22 @@ pub fn is_zero<T: Num>(a: T) -> bool
     ensures { IsTrue result ↔ (T.value a ≡ pos 0) }
 {
     a.is_zero()
+}
+
+/// Returns `true` if `a` is 1. `is_one(7)` is `false`.
+pub fn is_one<T: Num>(a: T) -> bool
+    requires { T.exact }
+    ensures { IsTrue result ↔ (T.value a ≡ pos 1) }
+{
+    a.is_one()
+}
+
+/// Returns `true` if `a` equals `b`. `is_equal(3, 3)` is `true`, and `is_equal(2, 3)` is `false`.
+pub fn is_equal<T: Num>(a: T, b: T) -> bool
+    requires { T.exact }
+    ensures { IsTrue result ↔ (T.value a ≡ T.value b) }
+{
+    a == b
 }
 
 /// Returns `true` if `a` is below `b`. `is_below(2, 3)` is `true`, and `is_below(3, 3)` is `false`.

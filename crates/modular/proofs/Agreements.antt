@@ -23,7 +23,7 @@ use Rattle.modular.proofs.NextCongruent.{next_congruent_is}
 divides_product : {a b c d : ℤ} → Divides a b → Divides c d → Divides (a *ℤ c) (b *ℤ d)
 divides_product h k = record { factor = h.factor *ℤ k.factor; product = rw (h.product, k.product) (simp expand refl) }
 
--- what divides m·n and m·k divides m·z, where the gcd of n and k divides z
+-- what divides m·n and m·k divides m·z, if the gcd of n and k divides z
 divides_multiple : {n k d f z : ℤ} (m : ℤ) → pos 0 ≤ℤ m → IsGreatestCommonDivisor n k d → Divides d z → Divides f (m *ℤ n) → Divides f (m *ℤ k) → Divides f (m *ℤ z)
 divides_multiple m from_zero h divides at_n at_k = Divides-trans ((gcd-times m from_zero h).greatest _ at_n at_k) (Divides-times m divides)
 
@@ -160,7 +160,7 @@ module _ {X : Type 0} (value : X → ℤ) where
         },
       )
 
-  -- where some number solves each congruence, there is a least one, beyond the type where none in the type does
+  -- if some number solves each congruence, there is a least one, beyond the type if none in the type does
   pub least_beyond : {fits : ℤ → Type 0} {from : ℤ} (cs : List (X × X)) → All IsPositive cs → (x : ℤ) × SolvesEach value cs x
       → ((t : ℤ) → from ≤ℤ t → SolvesEach value cs t → ¬ (fits t)) → (t : ℤ) × IsLeastFrom from (SolvesEach value cs) t × ¬ (fits t)
   least_beyond {from = from} cs positive solution none =
@@ -192,7 +192,7 @@ module _ {Each Both : ℤ → Type 0} {from next : ℤ} (narrows : (x : ℤ) →
   pub none_after_last : {fits : ℤ → Type 0} {low high t : ℤ} → IsRange fits low high → fits t → IsLeastFrom next Both t → ¬ (Each t) → ¬ (fits (t +ℤ pos 1)) → (x : ℤ) → from ≤ℤ x → Each x → ¬ (fits x)
   none_after_last range t_fits h none last = λ x far has x_fits. last (between_fits range t_fits x_fits (omega (arith, linear)) (candidate_passed h none x far has))
 
-  -- none where the next number that solves two of them is not in the type
+  -- none if the next number that solves two of them is not in the type
   pub none_at_end : {X : Type 0} (value : X → ℤ) {fits : ℤ → Type 0} {low high : ℤ} (found : CommonSolution X) → IsRange fits low high → fits next → ((t : X) → found ≡ At t → ⊥)
       → MatchCommonSolution found ((x : ℤ) → ¬ (Both x)) ((t : ℤ) × IsLeastFrom next Both t × ¬ (fits t)) (λ t. fits (value t) × IsLeastFrom next Both (value t))
       → (x : ℤ) → from ≤ℤ x → Each x → ¬ (fits x)

@@ -32,7 +32,7 @@ one_more_step step n =
     let one : pos (suc n) ≡ pos n +ℤ pos 1 = omega (arith, ints) in
     rw one (simp expand (omega (arith, products)))
 
--- the next congruent number, where it is in the range, and those after it
+-- the next congruent number, if it is in the range, and those after it
 one_number_more : {from to first step t : ℤ} {n : ℕ} → IsNextCongruent from first step t → t ≤ℤ to → IsCountOfCongruent (t +ℤ pos 1) to first step (pos n) → IsCountOfCongruent from to first step (pos (suc n))
 one_number_more {t = t} at_start within rest = record {
   items = t ∷ rest.items;
@@ -61,7 +61,7 @@ count_of_steps {to} {first} {step} {u} (suc n) {from} {t} up at_start at_end is 
     let within : t ≤ℤ to = by_lt_z to t (λ less. absurd (omega (arith, linear, at_end.least t (omega (arith, linear)) at_start.holds))) (λ fine. fine) in
     one_number_more at_start within (count_of_steps n up next at_end onward)
 
--- the steps between those that reach both ends of a range: one number more where its last one is congruent
+-- the steps between those that reach both ends of a range: one number more if its last one is congruent
 pub record IsCountedByTimes (from to first step times : ℤ) : Type 0 where
   pub from_zero : pos 0 ≤ℤ times
   pub last : AreCongruent step to first → IsCountOfCongruent from to first step (times +ℤ pos 1)
@@ -95,7 +95,7 @@ counted_by_times {from} {to} {first} {start} {step} {j} {k} up at_start ordered 
           counted_steps up own (record { from_there = by_lt_z to (start +ℤ step *ℤ k) (λ less. omega (arith, linear)) (λ fine. absurd (apart_from (omega (arith, linear)))); holds = last.holds; least = λ x beyond near. last.least x (omega (arith, linear)) near }) (omega (arith, linear)) apart;
     }
 
--- where a number of steps does not fit, neither does one more
+-- if a number of steps does not fit, neither does one more
 pub one_more_too_large : {fits : ℤ → Type 0} {low high times : ℤ} → IsRange fits low high → pos 0 ≤ℤ times → ¬ (fits times) → ¬ (fits (times +ℤ pos 1))
 one_more_too_large range from_zero none more_fits = none (within_fits range more_fits (inl (from_zero, omega (arith, linear))))
 

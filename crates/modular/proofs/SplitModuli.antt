@@ -40,7 +40,7 @@ both_at m i w c u v z unit left right =
     let second = simp expand at (ap (λ (t : ℤ). t *ℤ (w *ℤ c)) left) in
     simp expand (omega (arith, products))
 
--- where m has an inverse modulo w, numbers congruent modulo both are congruent modulo the product
+-- if m has an inverse modulo w, numbers congruent modulo both are congruent modulo the product
 congruent-both : {m w x y : ℤ} (i : ℤ) → AreCongruent w (m *ℤ i) (pos 1) → AreCongruent m x y → AreCongruent w x y → AreCongruent (m *ℤ w) x y
 congruent-both {m} {w} {x} {y} i unit h k = congruent_by _ (both_at m i w _ _ _ (x -ℤ y) unit.divides.product h.divides.product k.divides.product)
 
@@ -63,7 +63,7 @@ quotient_low m i r y {d} {w} d_up w_up small divides unit =
     let sum = congruent-sum (congruent-refl (pos r)) (congruent-product (congruent-refl (pos m)) quotient) in
     congruent-trans (rw apart at sum) (congruent-divisor divides (joined_at_unit (pos m *ℤ pos i) (pos r) (pos y) unit))
 
--- ---- joined numbers, where i is the inverse of m
+-- ---- joined numbers; i is the inverse of m
 
 module _ (m i : ℕ) (inverse : m * i % 2 ^ 64 ≡ 1) where
   unit : AreCongruent (pos (2 ^ 64)) (pos m *ℤ pos i) (pos 1)

@@ -22,7 +22,7 @@ lcm_by_reduced_modulus {m} {n} {s} m_up n_up step =
     let same : lcm.0 ≡ m *ℤ s = cancel step.common lcm.0 (m *ℤ s) (λ e. omega (arith, linear)) (times ∙ size ∙ parts) in
     rw same at lcm.1
 
--- where m·times solves the gap, start + m·times solves both
+-- if m·times solves the gap, start + m·times solves both
 pub both_by_gap : {a m b n start gap x : ℤ} (times : ℤ) → AreCongruent m a start → AreCongruent n (b -ℤ start) gap → x ≡ start +ℤ m *ℤ times → Solves m gap n times → SolvesBothCongruences a m b n x
 both_by_gap {a} {m} {b} {n} {start} {gap} {x} times at_start at_gap is h =
     let sum = congruent-sum (congruent-trans h (congruent-sym at_gap)) (congruent-refl start) in
@@ -31,14 +31,14 @@ both_by_gap {a} {m} {b} {n} {start} {gap} {x} times at_start at_gap is h =
       second = subst (λ (t : ℤ). AreCongruent n t b) (omega (arith, linear)) (subst (AreCongruent n (m *ℤ times +ℤ start)) (omega (arith, linear)) sum);
     }
 
--- a number that solves both is start + m·k, where m·k solves the gap
+-- a number that solves both is start + m·k, and m·k solves the gap
 pub gap_solved : {a m b n start gap x : ℤ} → IsResidue m a start → IsResidue n (b -ℤ start) gap → SolvesBothCongruences a m b n x → (k : ℤ) × (x -ℤ start ≡ m *ℤ k) × Solves m gap n k
 gap_solved {n = n} {start = start} {gap = gap} at_start at_gap h =
     let times = (congruent-trans h.first at_start.congruent).divides in
     let near = congruent-trans (congruent-difference h.second (congruent-refl start)) at_gap.congruent in
     (times.factor, times.product, subst (λ (t : ℤ). AreCongruent n t gap) times.product near)
 
--- where the gap has no solution, no number solves both
+-- if the gap has no solution, no number solves both
 pub none_solves_both : {a m b n start gap : ℤ} → IsResidue m a start → IsResidue n (b -ℤ start) gap → ((k : ℤ) → ¬ (Solves m gap n k)) → (x : ℤ) → ¬ (SolvesBothCongruences a m b n x)
 none_solves_both at_start at_gap none x h = let solved = gap_solved at_start at_gap h in none solved.0 solved.2
 
@@ -57,7 +57,7 @@ first_solution_bounds {start = start} {m = m} {times = times} {step = step} up r
     let start_up = rest.below.from_zero in
     record { product_from_zero = from_zero; sum_from_zero = omega (arith, linear); below = omega (arith, linear, rest.below.below) }
 
--- it fits, and so do both products, where the least common multiple does
+-- it fits, and so do both products, if the least common multiple does
 pub both_fit : {fits : ℤ → Type 0} {low high a m gap n start times s : ℤ} → IsRange fits low high → EachFits fits (IsLeastCommonMultiple m n) → pos 0 <ℤ m → pos 0 <ℤ n → IsResidue m a start
     → IsResidueClass (Solves m gap n) times s → IsReducedModulus m n s → fits (m *ℤ times) × fits (start +ℤ m *ℤ times) × fits (m *ℤ s)
 both_fit range lcm_fits m_up n_up rest solutions step =

@@ -47,7 +47,7 @@ pub fn next_common_solution_of<T: Modular + Fits>(
     }
 }
 
-/// Returns the smallest solution from `from` on, or `None` if the type has none from there on. It combines the
+/// Returns the smallest solution from `from` on, or `None` if it does not fit. It combines the
 /// congruences one by one into a residue class, until the step of the class no longer fits.
 fn least_solution<T: Modular + Fits>(from: T, congruences: &[(T, T)]) -> Option<T>
     requires from_in_range { T.fits (T.value from) }

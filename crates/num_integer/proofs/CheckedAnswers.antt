@@ -12,8 +12,8 @@ use Rattle.num_integer.proofs.FittingAnswers.{each_fits, fits_below}
 use Rattle.num_integer.proofs.OrderedProducts.{product_from_zero}
 use Rattle.num_integer.specs.Checked.{AnswersWhere}
 
--- the same domain and result in other words
-answers_as : {D E X : Type 0} {A B : X → Type 0} (r : Option X) → D ↔ E → ((x : X) → A x → B x) → AnswersWhere D A r → AnswersWhere E B r
+-- the domain and the result of a call may be said in other words
+pub answers_as : {D E X : Type 0} {A B : X → Type 0} (r : Option X) → D ↔ E → ((x : X) → A x → B x) → AnswersWhere D A r → AnswersWhere E B r
 answers_as (Some x) same each h = (same.0 h.0, each x h.1)
 answers_as None same each none = λ e. none (same.1 e)
 
@@ -22,7 +22,7 @@ pub answers_only : (fits P : ℤ → Type 0) {X : Type 0} (value : X → ℤ) {z
     → AnswersWhere (fits z) (λ x. fits (value x) × (value x ≡ z)) r → AnswersWhere (EachFits fits P) (λ x. fits (value x) × P (value x)) r
 answers_only fits P value r own only = answers_as r (each_fits {fits = fits} {P = P} own only (λ f. f, λ f. f)) (λ x is. (is.0, subst P (sym is.1) own))
 
--- the same of a result that is that number
+-- if a relation has one number alone, which fits, each number of it fits, and that one is a result in the domain
 pub answer_only : {fits P : ℤ → Type 0} {z w : ℤ} → P z → ((y : ℤ) → P y → z ≡ y) → fits w → w ≡ z → EachFits fits P × (fits w × P w)
 answer_only {fits} {P} own only w_fits is = (λ y h. subst fits (is ∙ only y h) w_fits, (w_fits, subst P (sym is) own))
 

@@ -6,13 +6,13 @@ use Rattle.integer_core.specs.Division.{IsCeiled, IsFloored, IsQuotient}
 use Rattle.integer_core.specs.Divisors.{Divides}
 use Rattle.integer_core.proofs.Divisibility.{Divides-trans}
 use Rattle.integer_core.proofs.Whole.{linear}
-use Rattle.num_integer.proofs.FlooredByPositive.{ceiled_remainder_range, floored_remainder_range}
+use Rattle.num_integer.proofs.FlooredByPositive.{ceiled_remainder_range, floored_range}
 use Rattle.num_integer.proofs.NaturalDivision.{divides_is_natural}
 
 -- a floored quotient by inequalities
 pub floored_quotient_range : {n q : ℤ} {d : ℕ} → IsQuotient IsFloored n (pos (suc d)) q → ((q *ℤ pos (suc d)) ≤ℤ n) × (n <ℤ (q *ℤ pos (suc d) +ℤ pos (suc d)))
-floored_quotient_range {q = q} h =
-    let range = floored_remainder_range (omega (arith, ints)) (record { quotient = q; division = h.division }) in
+floored_quotient_range h =
+    let range = floored_range (omega (arith, ints)) h.division in
     let equation = h.division.division.equation in
     (omega (arith, linear), omega (arith, linear))
 

@@ -28,11 +28,11 @@ fits_up {z = z} range top = (λ h. (range.between (pos z)).1 (omega (arith, line
 pub test_up : {fits : ℤ → Type 0} {low high : ℤ} {most z : ℕ} → IsRange fits low high → pos most ≡ high → IsTrue (nat_le z most) ↔ fits (pos z)
 test_up range top = (λ t. (fits_up range top).0 (leb-true _ _ t), λ f. le-leb _ _ ((fits_up range top).1 f))
 
--- what it means that a test of order is false
+-- if the test whether a is below b is false, b is at most a
 pub from_test : {answer : Bool} {a b : ℤ} → IsTrue answer ↔ (a <ℤ b) → answer ≡ false → b ≤ℤ a
 from_test test e = from_not_less (iff_false test e)
 
--- a number that is not negative and at most one that fits
+-- a number fits if it is not negative and at most one that fits
 pub fits_below : {fits : ℤ → Type 0} {low high x y : ℤ} → IsRange fits low high → fits y → pos 0 ≤ℤ x → x ≤ℤ y → fits x
 fits_below range h up below = within_fits range h (inl (up, below))
 

@@ -11,9 +11,13 @@ use Rattle.integer_core.proofs.Whole.{comm, expand, linear, products, sizes}
 use Rattle.num_integer.proofs.FittingAnswers.{signed_is}
 use Rattle.num_integer.proofs.OrderedProducts.{multiples_apart}
 
+-- the remainder of a floored division lies from 0 to below the divisor
+pub floored_range : {n d q r : ℤ} → pos 0 <ℤ d → IsFloored n d q r → (pos 0 ≤ℤ r) × (r <ℤ d)
+floored_range up h = (omega (arith, sizes, h.sign, h.division.small), omega (arith, sizes, h.sign, h.division.small))
+
 -- a floored remainder lies from 0 to below the divisor
 pub floored_remainder_range : {n d r : ℤ} → pos 0 <ℤ d → IsRemainder IsFloored n d r → (pos 0 ≤ℤ r) × (r <ℤ d)
-floored_remainder_range up h = (omega (arith, sizes, h.division.sign, h.division.division.small), omega (arith, sizes, h.division.sign, h.division.division.small))
+floored_remainder_range up h = floored_range up h.division
 
 -- a remainder from 0 to below the divisor is that of the quotient rounded down
 pub floored_by_range : {n d q r : ℤ} → n ≡ q *ℤ d +ℤ r → pos 0 ≤ℤ r → r <ℤ d → IsFloored n d q r

@@ -8,7 +8,7 @@ use Rattle.integer_core.proofs.Ranges.{within_fits}
 use Rattle.integer_core.proofs.Whole.{linear, products, sizes}
 use Rattle.integer_core.specs.Division.{IsFloored}
 use Rattle.integer_core.specs.Range.{IsRange}
-use Rattle.num_integer.proofs.FlooredByPositive.{floored_by_range, floored_remainder_range}
+use Rattle.num_integer.proofs.FlooredByPositive.{floored_by_range, floored_range}
 use Rattle.num_integer.proofs.OrderedProducts.{multiples_apart, product_at_most, product_from_zero}
 use Rattle.num_integer.specs.Parts.{signed}
 
@@ -47,15 +47,11 @@ division_by_magnitudes s t true m n e h =
     let back : neg_ℤ (neg_ℤ (signed s m *ℤ signed t n)) ≡ signed s m *ℤ signed t n = omega (arith, linear) in
     rw back at (negated_floored (rw under at h))
 
--- the remainder by a divisor that fits does too
-pub rest_fits : {fits : ℤ → Type 0} {low high n d q r : ℤ} → IsRange fits low high → fits d → IsFloored n d q r → fits r
-rest_fits {d = d} {r = r} range d_fits h = (range.between r).1 (omega (arith, sizes, range.positive, range.low_end, (range.between d).0 d_fits, h.sign, h.division.small))
-
 -- a part of a number lies between 0 and the number, so it fits
 pub part_fits : {fits : ℤ → Type 0} {low high a b d q r : ℤ} → IsRange fits low high → fits a → pos 0 ≤ℤ a → pos 0 ≤ℤ b → b ≤ℤ d → pos 0 <ℤ d → IsFloored (a *ℤ b) d q r → fits q
 part_fits {a = a} {b = b} {d = d} {q = q} range a_fits a_up b_up within up h =
     let equation = h.division.equation in
-    let rest = floored_remainder_range up (record { quotient = q; division = h }) in
+    let rest = floored_range up h in
     let product = product_from_zero a b a_up b_up in
     let most : (a *ℤ b) ≤ℤ (a *ℤ d) = product_at_most {u = a} {v = b} {x = a} {y = d} a_up (omega (arith, linear)) b_up within in
     let none : pos 0 *ℤ d ≡ pos 0 = omega (arith, products) in

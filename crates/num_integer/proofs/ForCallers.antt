@@ -1,20 +1,24 @@
 -- Lemmas for the proofs of callers, in addition to the laws.
--- ---- lemmas from elsewhere
+-- ---- divisors and multiples
 
-pub use Rattle.integer_core.proofs.CommonDivisors.{gcd-nonzero, gcd-positive, gcd-times, only_gcd, only_lcm}
-pub use Rattle.integer_core.proofs.Divisibility.{Divides-antisym, Divides-cancel, Divides-refl, Divides-sum, Divides-times, Divides-trans, Divides-zero, cancel, exact_quotient, zero_divides}
-pub use Rattle.integer_core.proofs.EuclidTurns.{divisor_size, one_divides}
-pub use Rattle.integer_core.proofs.GcdDomain.{gcd_fits_is}
+pub use Rattle.integer_core.proofs.CommonDivisors.{divides_multiple, gcd-divisor, gcd-nonzero, gcd-positive, gcd-swap, gcd-times, gcd-zero, lcm-zero, only_gcd, only_lcm}
+pub use Rattle.integer_core.proofs.Divisibility.{Divides-antisym, Divides-cancel, Divides-refl, Divides-sum, Divides-times, Divides-trans, Divides-zero, cancel, divides_magnitude, magnitude_divides, zero_divides}
+pub use Rattle.integer_core.proofs.EuclidTurns.{divides_or_not, divisor_size, one_divides}
 pub use Rattle.integer_core.proofs.OddParts.{shift_back}
-pub use Rattle.integer_core.proofs.Quotients.{only_floored, other_quotient_fits, remainder_within, truncated_is, zero_or_not}
-pub use Rattle.integer_core.proofs.Ranges.{within_fits}
-pub use Rattle.integer_roots.proofs.OnlyAnswers.{root_is_only_one}
-pub use Rattle.integer_roots.proofs.Powers.{power_of_one, power_of_power, power_of_zero}
-pub use Rattle.integer_roots.proofs.MagnitudeRoots.{first_root, root_in_range}
-pub use Rattle.integer_core.proofs.Whole.{from_not_less, product_positive}
-pub use Rattle.num_integer.proofs.FittingAnswers.{signed_is}
-pub use Rattle.num_integer.proofs.IntegerPowers.{even_or_odd, even_power, int_pow-suc, int_pow-zero, odd_power, power_of_square, power_size}
-pub use Rattle.num_integer.proofs.Pascal.{coefficient-pos, coefficient-zero, none_above}
+-- ---- quotients and remainders
+
+pub use Rattle.integer_core.proofs.Divisibility.{exact_quotient, rest_is}
+pub use Rattle.integer_core.proofs.Quotients.{floored_remainder_within, only_ceiled, only_floored, only_truncated, other_quotient_fits, remainder_within, truncated_is, zero_or_not}
+-- ---- what fits
+
+pub use Rattle.integer_core.proofs.GcdDomain.{gcd_fits_is, no_minus_one}
+pub use Rattle.integer_core.proofs.Ranges.{LiesWithin, within_fits}
+pub use Rattle.num_integer.proofs.FittingAnswers.{fits_below}
+-- ---- what tests and checked calls say
+
+pub use Rattle.integer_core.proofs.Whole.{from_not_less}
+pub use Rattle.num_integer.proofs.CheckedAnswers.{answer_only, answers_as, answers_only}
+pub use Rattle.num_integer.proofs.FittingAnswers.{from_test, signed_is}
 -- ---- rulesets, for `omega`, `grind` and `simp`
 -- `omega (arith, linear)` proves equations and inequalities of integers that are linear. `sizes` is `linear` with magnitudes,
 -- and `products` is `linear` with products. `simp expand` multiplies out both sides of an equation. `comm` says that a · b is b · a.
@@ -26,7 +30,7 @@ pub use Rattle.num_integer.proofs.Pascal.{coefficient-pos, coefficient-zero, non
 --         let each = simp expand at (ap (λ (t : ℤ). t *ℤ d) e) in
 --         simp expand (omega (arith, linear))
 
-pub use Rattle.integer_core.proofs.Whole.{expand, linear, products, sizes, comm, dist, dist-left, mul-neg, mul-one}
+pub use Rattle.integer_core.proofs.Whole.{expand, linear, products, sizes, comm, dist, dist-left, mul-neg, mul-one, neg-mul}
 -- ---- smallest and largest numbers
 
 pub use Rattle.num_integer.proofs.Least.{greatest_is_only, least_is_only}
@@ -35,21 +39,27 @@ pub use Rattle.num_integer.proofs.Least.{greatest_is_only, least_is_only}
 pub use Rattle.num_integer.proofs.ZeroAndOne.{zero_fits, one_fits}
 -- ---- inequalities between products
 
+pub use Rattle.integer_core.proofs.Whole.{product_positive}
 pub use Rattle.num_integer.proofs.OrderedProducts.{product_from_zero, multiples_apart, product_at_most, factor_positive}
 -- ---- quotients, remainders and multiples by a positive number
 
-pub use Rattle.num_integer.proofs.FlooredByPositive.{floored_remainder_range, floored_by_range, only_pair_by_range, rest_leads_to_multiple, ceiled_remainder_range, ceiled_by_range, ceiled_quotient_least, next_multiple_least, least_multiple_beyond, positive_quotient_fits, operator_quotient_fits, sum_fits_exactly}
+pub use Rattle.num_integer.proofs.FlooredByPositive.{floored_range, floored_remainder_range, floored_by_range, only_pair_by_range, rest_leads_to_multiple, ceiled_remainder_range, ceiled_by_range, ceiled_quotient_least, next_multiple_least, least_multiple_beyond, positive_quotient_fits, operator_quotient_fits, sum_fits_exactly}
 -- ---- sizes of divisors and multiples
 
 pub use Rattle.num_integer.proofs.DivisorSizes.{divisor_at_most, gcd_with_positive_fits, gcd_at_most, small_multiple_is_zero, lcm_at_most_product, lcm-positive}
 -- ---- coprime numbers
 
 pub use Rattle.num_integer.proofs.Coprimes.{Divides-difference, coprime_exactly, divided_by_gcd, natural_gcd_positive, natural_exact_quotient, natural_quotients_coprime, coprime_divides}
--- ---- roots
+-- ---- powers and roots
 
+pub use Rattle.integer_roots.proofs.MagnitudeRoots.{first_root, root_in_range}
+pub use Rattle.integer_roots.proofs.OnlyAnswers.{root_is_only_one}
+pub use Rattle.integer_roots.proofs.Powers.{power_of_one, power_of_power, power_of_zero}
+pub use Rattle.num_integer.proofs.IntegerPowers.{even_or_odd, even_power, int_pow-suc, int_pow-zero, odd_power, power_of_square, power_size}
 pub use Rattle.num_integer.proofs.ExactRoots.{root_by_squares, exact_power_root, square_root_of_square}
 -- ---- coefficients
 
+pub use Rattle.num_integer.proofs.Pascal.{coefficient-pos, coefficient-zero, factorial-pos, none_above}
 pub use Rattle.num_integer.proofs.GrowingCoefficients.{pascal, coefficient_grows}
 -- ---- the operators of the natural numbers
 

@@ -4,7 +4,7 @@ use Rattle.std.specs.Int.{int_pow, w64}
 use Rattle.std.proofs.Common.{arith, ap, sym, ◌∙◌, zero-mul}
 use Rattle.std.proofs.Math.Nat.{one-le-pow, pow-succ', mul-le-mul_left}
 use Rattle.std.proofs.lemmas.Int.{ints}
-use Rattle.num_integer.proofs.ForCallers.{Divides-trans, coprime_divides, expand, int_pow-suc, int_pow-zero, one_divides, power_size, products, sizes}
+use Rattle.num_integer.proofs.ForCallers.{Divides-trans, coprime_divides, expand, gcd-swap, int_pow-suc, int_pow-zero, one_divides, power_size, products, sizes}
 use Rattle.num_integer.specs.Divisors.{IsGreatestCommonDivisor}
 use Rattle.ratio64.specs.Fraction.{AreEqual, IsReduced}
 use Rattle.ratio64.proofs.WideSums.{part_size}
@@ -61,13 +61,10 @@ power_coprime : (x : ℤ) (k : ℕ) {c : ℤ} → IsGreatestCommonDivisor x c (p
 power_coprime x zero {c} h = rw (int_pow-zero x) (record { from_zero = h.from_zero; divides_left = one_divides _; divides_right = one_divides c; greatest = λ e left right. left })
 power_coprime x (suc k) h = rw (int_pow-suc x k) (coprime_product h (power_coprime x k h))
 
-gcd_swapped : {a b : ℤ} → IsGreatestCommonDivisor a b (pos 1) → IsGreatestCommonDivisor b a (pos 1)
-gcd_swapped x = record { from_zero = x.from_zero; divides_left = x.divides_right; divides_right = x.divides_left; greatest = λ e left right. x.greatest e right left }
-
 pub power_reduced : {n d : ℤ} (k : ℕ) → IsReduced n d → IsReduced (int_pow n k) (int_pow d k)
 power_reduced {n} {d} k x = record {
   positive = power_positive d k x.positive;
-  lowest = gcd_swapped (power_coprime d k (gcd_swapped (power_coprime n k x.lowest)));
+  lowest = gcd-swap (power_coprime d k (gcd-swap (power_coprime n k x.lowest)));
 }
 
 pub equal_powers : {a b c d : ℤ} (k : ℕ) → AreEqual a b c d → AreEqual (int_pow a k) (int_pow b k) (int_pow c k) (int_pow d k)

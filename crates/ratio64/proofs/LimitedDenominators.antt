@@ -3,7 +3,7 @@ use Rattle.std.specs.Prelude.{◌≡◌, ◌<◌, ◌≤◌, ◌+◌, ◌*◌, �
 use Rattle.std.specs.Int.{w64}
 use Rattle.std.proofs.Common.{arith, ap, sym, ◌∙◌, inl, inr, subst}
 use Rattle.std.proofs.lemmas.Int.{by_lt_z, ints}
-use Rattle.num_integer.proofs.ForCallers.{Divides-sum, cancel, comm, coprime_divides, dist, divisor_at_most, expand, floored_remainder_range, linear, mul-neg, mul-one, one_divides, product_from_zero, products, sizes}
+use Rattle.num_integer.proofs.ForCallers.{Divides-sum, cancel, comm, coprime_divides, divisor_at_most, expand, floored_remainder_range, linear, one_divides, product_from_zero, products, sizes}
 use Rattle.num_integer.specs.Division.{IsFloored}
 use Rattle.num_integer.specs.Divisors.{Divides}
 use Rattle.ratio64.specs.declared.neighbours.Neighbour.{Neighbour}

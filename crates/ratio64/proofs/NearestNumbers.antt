@@ -69,13 +69,6 @@ module _ {n d q r : ℤ} (up : pos 0 <ℤ d) (h : IsDivision n d q r) where
 pub rounded_division : {n d r : ℤ} → pos 0 <ℤ d → IsRounded n d r → IsDivision n d r (n -ℤ r *ℤ d)
 rounded_division {n} {d} {r} up h = let near = h.nearest in record { equation = omega (arith, linear); small = omega (arith, sizes) }
 
--- if less than half is left, it is the quotient toward 0
-pub rounded_toward : {n d q r : ℤ} → IsTruncated n d q r → 2 * unsigned_abs r < unsigned_abs d → IsRounded n d q
-rounded_toward {n} {d} {q} {r} h small =
-    let equation = h.division.equation in
-    let left : n -ℤ q *ℤ d ≡ r = omega (arith, linear) in
-    record { nearest = rw left (omega arith); tie = rw left (λ e. absurd (omega arith)) }
-
 -- if half or more is left, it is the next integer away from 0
 pub rounded_above : {n d q r : ℤ} → pos 0 <ℤ d → IsTruncated n d q r → pos 0 ≤ℤ n → d ≤ℤ (r +ℤ r) → IsRounded n d (q +ℤ pos 1)
 rounded_above {n} {d} {q} {r} up h n_up large =

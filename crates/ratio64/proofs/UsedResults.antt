@@ -1,5 +1,5 @@
 -- What a caller knows of a value after `unwrap`, `?` and `.ok()?`.
-use Rattle.std.specs.Prelude.{◌≡◌, ◌≢◌, ℤ, pos, Option, Some, None, Result, Ok, Err, IfOk}
+use Rattle.std.specs.Prelude.{◌≡◌, ◌≢◌, ℤ, pos, Some, None, Result, Ok, Err, IfOk}
 use Rattle.std.specs.Result.{result_ok}
 use Rattle.std.proofs.Common.{subst}
 use Rattle.ratio64.proofs.FractionAnswers.{err_is_outside}

@@ -6,7 +6,7 @@ use Rattle.std.proofs.Math.IntN.{pos-*ℤ-pos}
 use Rattle.modular.specs.Congruences.{AreCongruent, IsResidue}
 use Rattle.modular.proofs.ForCallers.{congruent-difference, congruent-refl, congruent-sum, congruent-sym, congruent-trans, congruent_is_natural}
 
--- x is encrypted to b exactly where f·x is the residue of b - s
+-- x is encrypted to b exactly if f·x is the residue of b - s
 pub is_decrypted : (f s x : ℕ) {m b : ℕ} → b < 256 → IsResidue (pos 256) (pos b -ℤ pos s) (pos m) → AreCongruent (pos 256) (pos f *ℤ pos x) (pos m) ↔ ((f * x + s) % 256 ≡ b)
 is_decrypted f s x {b = b} below moved =
     let sum : pos f *ℤ pos x +ℤ pos s ≡ pos (f * x + s) = omega (arith, ints, pos-*ℤ-pos f x) in

@@ -1,11 +1,11 @@
 //! Calls of `calendar`: what a caller learns from their contracts and the laws, and results that a caller matches on or loops over.
 
-ghost use Rattle.std.specs.Prelude.{◌≡◌, ◌⊎◌, ◌↔◌, ◌++◌, ◌<◌, ◌≤◌, ◌<ℤ◌, ◌+ℤ◌, ◌≤ℤ◌, ◌-ℤ◌, All, FitsSigned, IfOk, IfSome, IsTrue, MatchOption, Ok, Some, if◌then◌else◌, pos, ℤ};
+ghost use Rattle.std.specs.Prelude.{◌≡◌, ◌⊎◌, ◌↔◌, ◌++◌, ◌<◌, ◌≤◌, ◌<ℤ◌, ◌+ℤ◌, ◌≤ℤ◌, ◌-ℤ◌, All, FitsSigned, IfOk, IfSome, IsTrue, MatchOption, Ok, Some, if◌then◌else◌, map, pos, ℤ};
 ghost use Rattle.std.specs.Hash as written;
 ghost use Rattle.std.specs.Int.{w64};
 ghost use Rattle.std.specs.List.{fold};
 ghost use Rattle.std.specs.Option.{SomeIff};
-ghost use Rattle.calendar.specs.Dates.{HasMonths, IsEarlier, IsLastWeekdayOfMonth, IsMonthsAfter, IsMonthsBetween, IsNextLastWeekday, IsNthWeekday, number_of};
+ghost use Rattle.calendar.specs.Dates.{HasMonths, IsEarlier, IsLastWeekdayOfMonth, IsMonthsAfter, IsMonthsBetween, IsNextLastWeekday, IsNthWeekday, day_numbers, number_of};
 ghost use Rattle.calendar.specs.Easter.{IsEaster};
 ghost use Rattle.calendar.specs.IsoWeeks.{IsDayOfIsoWeek, IsInIsoWeek};
 ghost use Rattle.calendar.specs.LeapYears.{is_leap_year};
@@ -506,4 +506,30 @@ pub fn days_left(date: &Date) -> u16
     ensures { result < 366 }
 {
     days_in_year(date.year) - date.day_of_year()
+}
+
+/// The dates from one on, to the one before another, collected.
+pub fn dates_until(alloc: Global, from: Date, end: Date) -> Result<Vec<Date>, AllocError>
+    ensures { IfOk result (λ v. map number_of v.items ≡ day_numbers (number_of from) (number_of end)) }
+{
+    from.days_until(end).collect(alloc)
+}
+
+/// Whether a range has no date.
+#[tactic(auto, using(calendar::proofs::ForCallers::range_steps))]
+pub fn is_empty_range(from: Date, end: Date) -> bool
+    ensures { IsTrue result ↔ (number_of end ≤ℤ number_of from) }
+{
+    from.days_until(end).next().is_none()
+}
+
+/// The first two dates of a range, by calls of `next`.
+#[tactic(auto, using(calendar::proofs::ForCallers::range_steps))]
+pub fn first_dates(from: Date, end: Date) -> (Option<Date>, Option<Date>)
+    ensures first { MatchOption result.0 (number_of end ≤ℤ number_of from)
+        (λ date. number_of date ≡ number_of from) }
+    ensures second { IfSome result.1 (λ date. number_of date ≡ number_of from +ℤ pos 1) }
+{
+    let mut dates = from.days_until(end);
+    (dates.next(), dates.next())
 }

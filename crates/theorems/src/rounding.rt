@@ -45,7 +45,7 @@ pub fn natural_mean(total: u64, count: u64) -> u64
     div_round_even(total, count)
 }
 
-/// The nearest quotient of numbers that are read, or `None` where there is none or it does not fit.
+/// The nearest quotient of two numbers, or `None` if the divisor is 0 or the quotient does not fit.
 pub fn nearest_of_read(total: i64, count: i64) -> Option<i64>
     ensures { IfSome result (λ q. IsQuotient IsNearest total count q) }
 {
@@ -102,7 +102,7 @@ pub fn podiums_of_eight() -> u64
     falling(8, 3)
 }
 
-/// The ways in which books stand on a shelf, or `None` where they are too many for `u64`.
+/// The ways in which books stand on a shelf, or `None` if their number does not fit a `u64`.
 pub fn orders_of(books: u64) -> Option<u64>
     ensures { MatchOption result (2 ^ 64 ≤ factorial books) (λ ways. ways ≡ factorial books) }
 {

@@ -117,7 +117,7 @@ pub fn part_by_weight(cents: u64, weight: u64, total: u64) -> u64
 }
 
 /// The sum of the amounts, or `None` if it does not fit. The sum of the first amounts is not larger, so it
-/// fits where the whole sum does.
+/// fits if the whole sum does.
 pub fn total_of(amounts: &[u64]) -> Option<u64>
     ensures { MatchOption result (¬ (sum amounts.now < 2 ^ 64)) (λ total. total ≡ sum amounts.now) }
 {

@@ -1,4 +1,4 @@
-//! The calls of this module that have a condition, without it. Each is `None` where the plain call may not be made.
+//! The calls of this module that have a condition, without it. Each is `None` if the plain call may not be made.
 
 ghost use Rattle.std.specs.Prelude.{◌≡◌, ◌<◌, ◌≤ℤ◌, ◌<ℤ◌, ◌+ℤ◌, ◌*ℤ◌, pos, IfSome};
 ghost use Rattle.num_integer.specs.Checked.{AnswersWhere};

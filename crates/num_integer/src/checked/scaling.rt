@@ -11,11 +11,16 @@ use integer_core::NativeInteger;
 use integer_core::operators::{is_negative, is_zero};
 use num_traits::cast;
 
-/// Returns the quotient of `a * b` by `d`, rounded down, and its remainder, or `None` if `d` is 0 or the
-/// quotient does not fit. The product need not fit. The type is a native one of at most 64 bits.
-/// `product_div_mod_floor(i64::MAX, 2, 3)` is `Some((6148914691236517204, 2))`, and
-/// `product_div_mod_floor(i64::MAX, 3, 2)` is `None`. A part of a number is never `None`: if `a` and `b` are at
-/// least 0, and `b` is at most `d`, which is positive, the quotient is at most `a`.
+/// Returns the quotient of `a * b` by `d`, rounded down, and its remainder, for a built-in type of at most 64
+/// bits, or `None` if `d` is 0 or the quotient does not fit. `product_div_mod_floor(i64::MAX, 2, 3)` is
+/// `Some((6148914691236517204, 2))`, and `product_div_mod_floor(i64::MAX, 3, 2)` is `None`.
+///
+/// The product need not fit: it is computed in 128 bits. No wider type has the products of `i128`, `u128` or a type
+/// of your own, so there call [`checked::product`](crate::checked::product) and then
+/// [`checked::div_mod_floor`](crate::checked::div_mod_floor), if the product fits.
+///
+/// A part of a number is never `None`: if `a` and `b` are at least 0, and `b` is at most `d`, which is positive,
+/// the quotient is at most `a`.
 pub fn product_div_mod_floor<T: NativeInteger<Magnitude = u64>>(a: T, b: T, d: T) -> Option<(T, T)>
     requires a_in_range { T.fits (T.value a) }
     requires b_in_range { T.fits (T.value b) }

@@ -42,7 +42,7 @@ pub fn next_multiple(n: u64, d: u64) -> Option<u64>
     checked::next_multiple_of(n, d)
 }
 
-/// The least common multiple, or `None` where it is beyond the type.
+/// The least common multiple, or `None` if it does not fit.
 pub fn common_multiple(a: i64, b: i64) -> Option<i64>
     ensures { MatchOption result (¬ (EachFits (FitsSigned w64) (IsLeastCommonMultiple a b)))
         (λ l. IsLeastCommonMultiple a b l) }
@@ -50,7 +50,7 @@ pub fn common_multiple(a: i64, b: i64) -> Option<i64>
     checked::lcm(a, b)
 }
 
-/// The greatest common divisor with its Bezout pair, or `None` where the divisor is beyond the type.
+/// The greatest common divisor with its Bezout pair, or `None` if the divisor does not fit.
 pub fn bezout_pair(m: i64, n: i64) -> Option<ExtendedGcd<i64>>
     ensures { MatchOption result (¬ (EachFits (FitsSigned w64) (IsGreatestCommonDivisor m n)))
         (λ e. IsBezoutAnswer m n e.gcd e.x e.y) }

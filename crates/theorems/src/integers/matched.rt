@@ -101,7 +101,7 @@ pub fn place_by_positive(n: i64, d: i64) -> i64
     checked::mod_floor(n, d).unwrap()
 }
 
-/// The greatest common divisor and the least common multiple, or `None` where one is beyond the type.
+/// The greatest common divisor and the least common multiple, or `None` if one of them does not fit.
 pub fn divisor_and_multiple(a: i64, b: i64) -> Option<(i64, i64)>
     ensures { MatchOption result
         (¬ (EachFits (FitsSigned w64) (IsGreatestCommonDivisor a b)
@@ -114,7 +114,7 @@ pub fn divisor_and_multiple(a: i64, b: i64) -> Option<(i64, i64)>
     Some((divisor, multiple))
 }
 
-/// The pair and the least common multiple, where both are in the type.
+/// The pair and the least common multiple, if both fit.
 pub fn pair_and_multiple(a: i64, b: i64) -> Option<(ExtendedGcd<i64>, i64)>
     ensures { IfSome result (λ r. IsBezoutAnswer a b r.0.gcd r.0.x r.0.y
         × IsLeastCommonMultiple a b r.1) }

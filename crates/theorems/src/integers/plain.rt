@@ -217,8 +217,8 @@ pub fn tile(width: u64, length: u64) -> u64
     width.gcd(&length)
 }
 
-/// After how many turns of each two gears are where they began, or `None` if the common multiple of their teeth
-/// does not fit.
+/// How many revolutions of each bring two gears back to where they began, or `None` if the common multiple of their
+/// teeth does not fit.
 pub fn turns(a: u32, b: u32) -> Option<(u32, u32)>
     requires a { 0 < a }
     requires b { 0 < b }

@@ -1,12 +1,12 @@
 use Rattle.std.proofs.Common.{◌∙◌, sym}
 use Rattle.num_integer.proofs.ForCallers.{only_gcd}
-use Rattle.applied.proofs.SignedDivisors.{coprime_by_one, one_by_magnitude}
+use Rattle.applied.proofs.SignedDivisors.{one_by_magnitude}
 use Rattle.applied.proofs.coprime.is_coprime.Goals as goal
 
 pub returns : goal.returns
 returns g c =
     let equal = g.met.T.Number.eq_law c.common_divisor.result c.one.result g.met.T.Integer.exact_law in
     let is = c.common_divisor.ensures.magnitude in (
-      λ h. coprime_by_one (equal.0 (sym c.eq.ensures ∙ h) ∙ c.one.ensures.value) is,
+      λ h. rw (equal.0 (sym c.eq.ensures ∙ h) ∙ c.one.ensures.value) at is,
       λ one. c.eq.ensures ∙ equal.1 (one_by_magnitude _ c.common_divisor.ensures.other (only_gcd is one) ∙ sym c.one.ensures.value),
     )

@@ -1,5 +1,4 @@
-use Rattle.std.proofs.lemmas.Bool.{iff_false}
-use Rattle.num_integer.proofs.ForCallers.{from_not_less}
+use Rattle.num_integer.proofs.ForCallers.{from_test}
 use Rattle.applied.proofs.SignedDivisors.{operator_fits, part_by_negative, part_by_negative_fits, part_by_positive}
 use Rattle.applied.proofs.coprime.part_of.Goals as goal
 
@@ -18,4 +17,4 @@ returns-then-is_negative-clause-part g c =
 
 pub returns-else-is_negative-clause-part : goal.returns-else-is_negative-clause-part
 returns-else-is_negative-clause-part g c =
-    rw c.quotient-part.ensures.value (part_by_positive c.requires.nonzero c.requires.divides (from_not_less (iff_false c.is_negative.ensures c.if-is_negative.false)))
+    rw c.quotient-part.ensures.value (part_by_positive c.requires.nonzero c.requires.divides (from_test c.is_negative.ensures c.if-is_negative.false))

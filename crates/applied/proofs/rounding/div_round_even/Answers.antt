@@ -1,21 +1,9 @@
 use Rattle.std.specs.Prelude.{IsTrue}
-use Rattle.std.proofs.Common.{refl}
-use Rattle.applied.proofs.NearestQuotients.{even_down, even_up, next_fits, rest_within}
+use Rattle.applied.proofs.NearestQuotients.{nearest_even_is}
 use Rattle.applied.proofs.rounding.div_round_even.Goals as goal
 
-pub rounds_down-requires-clause-within : goal.rounds_down-requires-clause-within
-rounds_down-requires-clause-within g c = rest_within c.div_mod_floor-below.ensures.floored
+pub nearer-requires-clause-floored : goal.nearer-requires-clause-floored
+nearer-requires-clause-floored g c = (_, c.requires.x_in_range, c.div_mod_floor-below.ensures.floored)
 
-pub successor-requires-clause-sum_fits : goal.successor-requires-clause-sum_fits
-successor-requires-clause-sum_fits g c =
-    next_fits c.div_mod_floor-below.ensures.floored (IsTrue c.is_even.result) g.met.T.Integer.range_law c.requires.x_in_range c.requires.y_in_range
-    (λ down. let wrong = c.if-rounds_down.ensures.1 down in cc)
-
-pub returns-then-rounds_down-clause-nearest : goal.returns-then-rounds_down-clause-nearest
-returns-then-rounds_down-clause-nearest g c =
-    even_down c.div_mod_floor-below.ensures.floored (IsTrue c.is_even.result) (c.if-rounds_down.ensures.0 refl) (λ half. c.is_even.ensures.0 half)
-
-pub returns-else-rounds_down-clause-nearest : goal.returns-else-rounds_down-clause-nearest
-returns-else-rounds_down-clause-nearest g c =
-    rw c.successor.ensures.value
-    (even_up c.div_mod_floor-below.ensures.floored (IsTrue c.is_even.result) (λ down. let wrong = c.if-rounds_down.ensures.1 down in cc) (λ even. c.is_even.ensures.1 even))
+pub returns-clause-nearest : goal.returns-clause-nearest
+returns-clause-nearest g c = nearest_even_is c.div_mod_floor-below.ensures.floored (IsTrue c.is_even.result) c.is_even.ensures c.nearer.ensures.nearer

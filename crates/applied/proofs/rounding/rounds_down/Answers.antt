@@ -1,5 +1,5 @@
 use Rattle.num_integer.proofs.ForCallers.{within_fits}
-use Rattle.applied.proofs.NearestQuotients.{down_with_half, down_without_half, missing_side, missing_within}
+use Rattle.applied.proofs.NearestQuotients.{missing_within}
 use Rattle.applied.proofs.rounding.rounds_down.Goals as goal
 
 pub difference-missing-requires-clause-difference_fits : goal.difference-missing-requires-clause-difference_fits

@@ -16,10 +16,10 @@ pub returns-clause-shares : goal.returns-clause-shares
 returns-clause-shares c = λ _. all_shared c.total_of-total.ensures (omega arith) c.loop-i.invariant
 
 pub returns-clause-only : goal.returns-clause-only
-returns-clause-only c = λ _. shares_are_only (all_shared c.total_of-total.ensures (omega arith) c.loop-i.invariant)
+returns-clause-only c = λ ok. shares_are_only (returns-clause-shares c ok)
 
 pub returns-clause-whole : goal.returns-clause-whole
-returns-clause-whole c = λ _. shares_are_whole (omega arith) (all_shared c.total_of-total.ensures (omega arith) c.loop-i.invariant)
+returns-clause-whole c = λ ok. shares_are_whole (omega arith) (returns-clause-shares c ok)
 
 pub returns-clause-near : goal.returns-clause-near
-returns-clause-near c = λ _. shares_are_near (all_shared c.total_of-total.ensures (omega arith) c.loop-i.invariant)
+returns-clause-near c = λ ok. shares_are_near (returns-clause-shares c ok)

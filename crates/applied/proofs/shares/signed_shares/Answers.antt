@@ -31,13 +31,7 @@ returns-clause-shares c =
     λ _. all_signed c.total_of-total.ensures (omega arith) shared
 
 pub returns-clause-only : goal.returns-clause-only
-returns-clause-only c =
-    let amount = c.ranges.amount in
-    let shared = simp to_z-of_z at c.loop-i.invariant in
-    λ _. signed_shares_are_only (all_signed c.total_of-total.ensures (omega arith) shared)
+returns-clause-only c = λ ok. signed_shares_are_only (returns-clause-shares c ok)
 
 pub returns-clause-whole : goal.returns-clause-whole
-returns-clause-whole c =
-    let amount = c.ranges.amount in
-    let shared = simp to_z-of_z at c.loop-i.invariant in
-    λ _. signed_shares_are_whole (omega arith) (all_signed c.total_of-total.ensures (omega arith) shared)
+returns-clause-whole c = λ ok. signed_shares_are_whole (omega arith) (returns-clause-shares c ok)

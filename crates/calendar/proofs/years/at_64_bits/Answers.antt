@@ -5,7 +5,7 @@ use Rattle.std.specs.Result.{OkIff, result_ok}
 use Rattle.std.proofs.lemmas.Int.{to_z-of_z}
 use Rattle.calendar.proofs.years.at_64_bits.Goals as goal
 
--- a number as an `i64`, where it fits
+-- a number as an `i64`, if it fits
 some_from_ok : {E : Type 0} (x : ℤ) (r : Result ℤ E) {o : Option ℤ} → OkIff r (FitsSigned w64 x) x → o ≡ result_ok r → SomeIff o (FitsSigned w64 x) x
 some_from_ok x (Ok n) h e = rw e h
 some_from_ok x (Err d) h e = rw e h

@@ -5,7 +5,7 @@ use Rattle.modular.proofs.common_solutions.plus_times.Goals as goal
 use Rattle.modular.proofs.common_solutions.plus_times.Given.{Over}
 use Rattle.modular.proofs.common_solutions.plus_times.Goals.{Then-is_negative}
 
--- the sum and its parts fit where the number of times is negative
+-- the sum and its parts fit if the number of times is negative
 parts : (g : Over) (c : Then-is_negative g) → PartsFit g.T.Number.fits (g.T.Number.value c.args.start) (g.T.Number.value c.args.m) (g.T.Number.value c.args.times)
 parts g c =
     let near = c.requires.not_too_low in

@@ -1,27 +1,26 @@
 use Rattle.std.specs.Prelude.{◌-ℤ◌}
 use Rattle.std.proofs.Common.{◌∙◌, arith, inl, subst, sym}
-use Rattle.std.proofs.lemmas.Bool.{iff_false}
-use Rattle.num_integer.proofs.ForCallers.{from_not_less, linear, within_fits}
-use Rattle.applied.proofs.FallingFactorials.{answers_is, falling_is, falling_of_none}
+use Rattle.num_integer.proofs.ForCallers.{answers_as, from_test, linear, within_fits}
+use Rattle.applied.proofs.FallingFactorials.{falling_is, falling_of_none}
 use Rattle.applied.proofs.counting.checked.falling.Goals as goal
 
 pub returns-then-is_below : goal.returns-then-is_below
 returns-then-is_below g c =
-    let n_up = from_not_less (iff_false c.is_negative.ensures c.if-is_negative.false) in
-    let k_up = from_not_less (iff_false c.is_negative-else-is_negative.ensures c.if-is_negative-2.false) in
+    let n_up = from_test c.is_negative.ensures c.if-is_negative.false in
+    let k_up = from_test c.is_negative-else-is_negative.ensures c.if-is_negative-2.false in
     let none = falling_of_none (g.T.Number.value c.args.n) (g.T.Number.value c.args.k) n_up (c.is_below.ensures.0 c.if-is_below.true) in
     let is = c.zero.ensures.value ∙ sym none in
     ((n_up, k_up, subst g.T.Number.fits is c.zero.ensures.in_range), (c.zero.ensures.in_range, is))
 
 pub difference-requires-clause-difference_fits : goal.difference-requires-clause-difference_fits
 difference-requires-clause-difference_fits g c =
-    let k_up = from_not_less (iff_false c.is_negative-else-is_negative.ensures c.if-is_negative-2.false) in
-    let k_below = from_not_less (iff_false c.is_below.ensures c.if-is_below.false) in
+    let k_up = from_test c.is_negative-else-is_negative.ensures c.if-is_negative-2.false in
+    let k_below = from_test c.is_below.ensures c.if-is_below.false in
     within_fits {z = g.T.Number.value c.args.n -ℤ g.T.Number.value c.args.k} g.met.T.Integer.range_law c.requires.in_range.0 (inl (omega (arith, linear), omega (arith, linear)))
 
 pub returns : goal.returns
 returns g c =
-    let n_up = from_not_less (iff_false c.is_negative.ensures c.if-is_negative.false) in
-    let k_up = from_not_less (iff_false c.is_negative-else-is_negative.ensures c.if-is_negative-2.false) in
+    let n_up = from_test c.is_negative.ensures c.if-is_negative.false in
+    let k_up = from_test c.is_negative-else-is_negative.ensures c.if-is_negative-2.false in
     let is = falling_is (g.T.Number.value c.args.n) (g.T.Number.value c.args.k) (g.T.Number.value c.difference.result) c.difference.ensures.value in
-    answers_is _ (λ f. (n_up, k_up, subst g.T.Number.fits is f), λ domain. subst g.T.Number.fits (sym is) domain.2) (λ x h. (h.0, h.1 ∙ is)) c.product_above.ensures
+    answers_as _ (λ f. (n_up, k_up, subst g.T.Number.fits is f), λ domain. subst g.T.Number.fits (sym is) domain.2) (λ x h. (h.0, h.1 ∙ is)) c.product_above.ensures

@@ -1,6 +1,5 @@
 use Rattle.std.proofs.Common.{arith}
-use Rattle.std.proofs.lemmas.Bool.{iff_false}
-use Rattle.num_integer.proofs.ForCallers.{from_not_less, sizes}
+use Rattle.num_integer.proofs.ForCallers.{from_test, sizes}
 use Rattle.applied.proofs.ListDivisors.{checked_gcd_of, gcd_of_answer}
 use Rattle.applied.proofs.lists.checked.gcd_of.Goals as goal
 
@@ -11,5 +10,5 @@ returns-then-is_negative g c =
 
 pub returns-else-is_negative : goal.returns-else-is_negative
 returns-else-is_negative g c =
-    let up = from_not_less (iff_false c.is_negative.ensures c.if-is_negative.false) in
+    let up = from_test c.is_negative.ensures c.if-is_negative.false in
     gcd_of_answer g.T.Number.fits c.signed_gcd_of-divisor.ensures.magnitude (omega (arith, sizes)) c.signed_gcd_of-divisor.ensures.in_range

@@ -1,5 +1,6 @@
 use Rattle.std.proofs.Common.{refl}
-use Rattle.applied.proofs.ListMultiples.{lcm_of_answer, lcm_of_last, lcm_of_next, lcm_of_none, lcm_of_unfit, lcm_of_with_zero}
+use Rattle.std.proofs.lemmas.List.{take_all}
+use Rattle.applied.proofs.ListMultiples.{lcm_of_answer, lcm_of_next, lcm_of_none, lcm_of_unfit, lcm_of_with_zero}
 use Rattle.applied.proofs.lists.checked.lcm_of.Goals as goal
 
 pub returns-then-has_zero : goal.returns-then-has_zero
@@ -28,4 +29,4 @@ loop-number-preserved g c = record {
 pub returns : goal.returns
 returns g c =
     lcm_of_answer g.T.Number.fits c.loop-number.invariant.in_range
-    (lcm_of_last g.T.Number.value c.args.numbers.now c.loop-number.number-index c.loop-number-test.false c.loop-number.invariant.so_far)
+    (rw (take_all c.loop-number.number-index c.args.numbers.now c.loop-number-test.false) at c.loop-number.invariant.so_far)

@@ -1,4 +1,5 @@
-use Rattle.applied.proofs.ListDivisors.{gcd_of_last, gcd_of_next, gcd_of_none}
+use Rattle.std.proofs.lemmas.List.{take_all}
+use Rattle.applied.proofs.ListDivisors.{gcd_of_next, gcd_of_none}
 use Rattle.applied.proofs.lists.checked.signed_gcd_of.Goals as goal
 
 pub loop-number-init : goal.loop-number-init
@@ -16,4 +17,4 @@ loop-number-preserved g c = record {
 }
 
 pub returns-clause-magnitude : goal.returns-clause-magnitude
-returns-clause-magnitude g c = gcd_of_last g.T.Number.value c.args.numbers.now c.loop-number.number-index c.loop-number-test.false c.loop-number.invariant.so_far
+returns-clause-magnitude g c = rw (take_all c.loop-number.number-index c.args.numbers.now c.loop-number-test.false) at c.loop-number.invariant.so_far

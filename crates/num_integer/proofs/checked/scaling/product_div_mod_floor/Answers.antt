@@ -2,10 +2,10 @@ use Rattle.std.specs.Prelude.{◌≡◌, ◌*ℤ◌}
 use Rattle.std.proofs.Common.{arith, subst}
 use Rattle.std.proofs.lemmas.Int.{ints}
 use Rattle.std.proofs.lemmas.Bool.{iff_false}
-use Rattle.integer_core.proofs.Quotients.{only_floored}
+use Rattle.integer_core.proofs.Quotients.{floored_remainder_fits, only_floored}
 use Rattle.integer_core.specs.Division.{IsFloored}
 use Rattle.num_integer.proofs.FittingAnswers.{signed_is}
-use Rattle.num_integer.proofs.FlooredProducts.{part_fits, rest_fits}
+use Rattle.num_integer.proofs.FlooredProducts.{part_fits}
 use Rattle.num_integer.specs.Parts.{signed}
 use Rattle.num_integer.proofs.checked.scaling.product_div_mod_floor.Given.{Over}
 use Rattle.num_integer.proofs.checked.scaling.product_div_mod_floor.Goals.{After-floored_product}
@@ -33,7 +33,7 @@ returns-in_err-quotient-clause-within g c = λ a_up b_up within up.
 pub returns-in_err-rest : goal.returns-in_err-rest
 returns-in_err-rest g c =
     let own = division g (goal.at.returns-in_err-rest g c).After-floored_product in
-    absurd (c.in_err-rest.ensures (rest_fits g.met.T.Integer.range_law c.requires.d_in_range own))
+    absurd (c.in_err-rest.ensures (floored_remainder_fits g.met.T.Integer.range_law c.requires.d_in_range own))
 
 pub returns-clause-answer : goal.returns-clause-answer
 returns-clause-answer g c =

@@ -1,0 +1,12 @@
+use Rattle.std.specs.Prelude.{IsTrue}
+use Rattle.std.proofs.lemmas.Bool.{iff_false}
+use Rattle.num_integer.proofs.ForCallers.{floored_remainder_within}
+use Rattle.applied.proofs.NearestQuotients.{next_fits}
+use Rattle.applied.proofs.rounding.nearer.Goals as goal
+
+pub rounds_down-requires-clause-within : goal.rounds_down-requires-clause-within
+rounds_down-requires-clause-within g c = floored_remainder_within c.requires.floored.2
+
+pub successor-requires-clause-sum_fits : goal.successor-requires-clause-sum_fits
+successor-requires-clause-sum_fits g c =
+    next_fits c.requires.floored.2 (IsTrue c.args.half_down) g.met.T.Integer.range_law c.requires.floored.1 c.requires.in_range.2 (iff_false c.rounds_down.ensures c.if-rounds_down.false)

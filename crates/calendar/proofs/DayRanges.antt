@@ -1,0 +1,50 @@
+-- The days from one date to another: the first of them and the others, and how many they are.
+use Rattle.std.specs.Prelude.{◌≡◌, ◌≤◌, ◌<ℤ◌, ◌≤ℤ◌, ◌+ℤ◌, ◌-ℤ◌, ℕ, zero, suc, ℤ, pos, List, [], ◌∷◌, length, unsigned_abs}
+use Rattle.std.specs.Int.{int_max}
+use Rattle.std.proofs.Common.{ap, arith, inl, inr, refl}
+use Rattle.std.proofs.lemmas.Int.{by_lt_z, clamps, ints}
+use Rattle.num_integer.proofs.ForCallers.{linear, sizes}
+use Rattle.calendar.specs.declared.date.Date.{Date}
+use Rattle.calendar.specs.Dates.{day_numbers, number_of, numbers_from}
+use Rattle.calendar.proofs.DateOrder.{order}
+use Rattle.calendar.proofs.MonthLengths.{month_length_range}
+
+pub none_left : (first end : ℤ) → end ≤ℤ first → day_numbers first end ≡ []
+unfolding numbers_from
+none_left first end past =
+    let none : unsigned_abs (int_max (pos 0) (end -ℤ first)) ≡ 0 = omega (arith, sizes, clamps) in
+    rw none refl
+
+pub next_left : (first end : ℤ) → first <ℤ end → day_numbers first end ≡ first ∷ day_numbers (first +ℤ pos 1) end
+unfolding numbers_from
+next_left first end before =
+    let more : unsigned_abs (int_max (pos 0) (end -ℤ first)) ≡ suc (unsigned_abs (int_max (pos 0) (end -ℤ (first +ℤ pos 1)))) = omega (arith, sizes, clamps) in
+    rw more refl
+
+-- A list of days that begins with a day begins with the first, which is before the end, and goes on with the days from the next one on. No list of days is empty before the end.
+pub first_of_days : {first end day : ℤ} {others : List ℤ} → day_numbers first end ≡ day ∷ others → (first <ℤ end) × (day ≡ first) × (others ≡ day_numbers (first +ℤ pos 1) end)
+first_of_days {first} {end} is = by_lt_z first end
+    (λ before. let own = next_left first end before in (before, cc, cc))
+    (λ past. let none = none_left first end past in absurd cc)
+
+pub no_days : {first end : ℤ} → day_numbers first end ≡ [] → end ≤ℤ first
+no_days {first} {end} is = by_lt_z first end (λ before. let own = next_left first end before in absurd cc) (λ past. past)
+
+pub ruleset range_steps = (ints, first_of_days, no_days)
+
+length-numbers : (count : ℕ) (first : ℤ) → length (numbers_from count first) ≡ count
+unfolding numbers_from
+length-numbers zero first = refl
+length-numbers (suc count) first = ap suc (length-numbers count (first +ℤ pos 1))
+
+-- The days from the first on, to the one before the end, are as many as the end is after the first.
+pub days_from_first : (first end : ℤ) → length (day_numbers first end) ≡ unsigned_abs (int_max (pos 0) (end -ℤ first))
+days_from_first first end = length-numbers (unsigned_abs (int_max (pos 0) (end -ℤ first))) first
+
+-- no date is later than 31 December of the last year
+pub none_later : (a b : Date) → b.year ≤ℤ a.year → 12 ≤ a.month → 31 ≤ a.day_of_month → ¬ (number_of a <ℤ number_of b)
+none_later a b years month day less = elim ((order a b).1 less) [
+  | inl year ↦ omega (arith, linear)
+  | inr (same, inl later) ↦ omega (arith, b.valid.month_to_twelve)
+  | inr (same, inr (at, later)) ↦ omega (arith, b.valid.day_to_last, (month_length_range b.year b.month b.valid.month_from_one b.valid.month_to_twelve).1)
+]

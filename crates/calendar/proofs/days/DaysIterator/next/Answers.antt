@@ -1,0 +1,21 @@
+use Rattle.std.proofs.Common.{ap, arith, length, sym, ◌∙◌}
+use Rattle.std.proofs.lemmas.Int.{ints}
+use Rattle.num_integer.proofs.ForCallers.{from_not_less}
+use Rattle.calendar.proofs.DayRanges.{next_left, none_later, none_left}
+use Rattle.calendar.proofs.days.DaysIterator.next.Goals as goal
+
+pub returns-then-not-is_earlier-clause-steps : goal.returns-then-not-is_earlier-clause-steps
+returns-then-not-is_earlier-clause-steps c =
+    let none = sym c.self.view_is ∙ none_left _ _ (from_not_less (λ less. let wrong = c.is_earlier.ensures.1 less in cc)) in (none, none)
+
+pub returns-in_err-self-inside-clause-steps : goal.returns-in_err-self-inside-clause-steps
+returns-in_err-self-inside-clause-steps c =
+    let last = c.in_err-self-inside.ensures in
+    let year = c.self.invariant in
+    absurd (none_later c.self.inside.next c.self.inside.end (omega (arith, ints, last.0)) (omega (arith, last.1)) (omega (arith, last.2)) (c.is_earlier.ensures.0 (cc)))
+
+pub returns-clause-steps : goal.returns-clause-steps
+returns-clause-steps c = sym c.self.view_is ∙ rw c.in_ok-self-inside.ensures (next_left _ _ (c.is_earlier.ensures.0 (cc)))
+
+pub returns-clause-goes : goal.returns-clause-goes
+returns-clause-goes c = record { on = λ _. let fewer = ap length (returns-clause-steps c) in (tt, tt, omega arith); keeps = tt; rests = λ _. tt }
