@@ -1,18 +1,12 @@
 -- A row of the loop gives the answer.
-use Rattle.std.specs.Prelude.{◌≡◌, ◌≢◌, ◌<◌, ◌*ℤ◌, ℤ, pos, negsuc, unsigned_abs}
-use Rattle.std.proofs.Common.{arith, inl, inr, sym, ◌∙◌, ap}
-use Rattle.std.proofs.Math.IntN.{zero-*ℤ, *ℤ-zero, +ℤ_idl, +ℤ_idr}
-use Rattle.std.proofs.lemmas.Int.{ints, unsigned_abs-mul}
-use borrow.Author.Differences.{abs_is}
+use Rattle.integer_core.proofs.Common.{◌≡◌, ◌≢◌, ◌<◌, ◌*ℤ◌, ℤ, pos, negsuc, unsigned_abs, arith, inl, inr, sym, ◌∙◌, ap, zero-*ℤ, *ℤ-zero, +ℤ_idl, +ℤ_idr, ints, unsigned_abs-mul, abs_is, linear, products, expand, comm, Divides, IsGreatestCommonDivisor, IsOnly}
 use Rattle.integer_core.proofs.CommonDivisors.{only_gcd, gcd-divisor, gcd-swap, gcd-nonzero, gcd-zero}
 use Rattle.integer_core.proofs.Divisibility.{Divides-zero, cancel}
 use Rattle.integer_core.proofs.EuclidTurns.{divides_or_not}
 use Rattle.integer_core.proofs.Quotients.{small_multiple}
 use Rattle.integer_core.proofs.SmallPairs.{only_small}
-use Rattle.integer_core.proofs.Whole.{linear, products, expand, comm, mul-one}
+use Rattle.integer_core.proofs.Whole.{mul-one}
 use Rattle.integer_core.specs.Bezout.{IsBezoutAnswer, IsSmallPair, NeedsBoth, SecondDividesFirst, sign}
-use Rattle.integer_core.specs.Divisors.{Divides, IsGreatestCommonDivisor}
-use Rattle.integer_core.specs.Only.{IsOnly}
 
 -- ---- a row r, x, y under the sign of r
 

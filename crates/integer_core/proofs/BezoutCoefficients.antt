@@ -1,12 +1,6 @@
 -- How large the coefficients of Euclid's rows grow.
-use Rattle.std.specs.Prelude.{◌≡◌, ◌<◌, ◌≤◌, ◌+◌, ◌*◌, ◌+ℤ◌, ◌-ℤ◌, ◌*ℤ◌, ℤ, ℕ, pos, unsigned_abs}
-use Rattle.std.proofs.Common.{arith, ap, mul-le-mul_left}
-use Rattle.std.proofs.lemmas.Int.{unsigned_abs-mul}
-use borrow.Author.Differences.{abs_is}
+use Rattle.integer_core.proofs.Common.{◌≡◌, ◌<◌, ◌≤◌, ◌+◌, ◌*◌, ◌+ℤ◌, ◌-ℤ◌, ◌*ℤ◌, ℤ, ℕ, pos, unsigned_abs, arith, ap, mul-le-mul_left, unsigned_abs-mul, abs_is, linear, products, expand, IsTruncated, Divides}
 use Rattle.integer_core.proofs.EuclidTurns.{truncated_size, twice}
-use Rattle.integer_core.proofs.Whole.{linear, products, expand}
-use Rattle.integer_core.specs.Division.{IsTruncated}
-use Rattle.integer_core.specs.Divisors.{Divides}
 
 -- x and previous_x are one operand's coefficients in the rows of these remainders, and m is the other operand: times the other row's
 -- remainder they add up to m in magnitude, and have opposite signs

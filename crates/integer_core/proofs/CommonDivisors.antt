@@ -1,12 +1,7 @@
 -- Greatest common divisors and least common multiples.
-use Rattle.std.specs.Prelude.{◌≡◌, ◌≢◌, ◌⊎◌, ◌<◌, ◌≤ℤ◌, ◌<ℤ◌, ◌+ℤ◌, ◌-ℤ◌, ◌*ℤ◌, ℤ, ℕ, pos, unsigned_abs, zero, suc, int_div, int_rem}
-use Rattle.std.proofs.Common.{arith, inl, inr, sym, ◌∙◌}
-use Rattle.std.proofs.lemmas.Int.{ints, unsigned_abs-mul}
-use Rattle.integer_core.proofs.Whole.{linear, sizes, products, expand, comm, left_comm, dist-left}
+use Rattle.integer_core.proofs.Common.{◌≡◌, ◌≢◌, ◌⊎◌, ◌<◌, ◌≤ℤ◌, ◌<ℤ◌, ◌+ℤ◌, ◌-ℤ◌, ◌*ℤ◌, ℤ, ℕ, pos, unsigned_abs, zero, suc, int_div, int_rem, arith, inl, inr, sym, ◌∙◌, ints, unsigned_abs-mul, linear, sizes, products, expand, comm, left_comm, dist-left, IsDivision, Divides, IsGreatestCommonDivisor, IsLeastCommonMultiple}
 use Rattle.integer_core.proofs.Quotients.{zero_or_not, truncated_is}
 use Rattle.integer_core.proofs.Divisibility.{Divides-trans, Divides-zero, Divides-antisym, zero_divides, magnitude_divides, divides_magnitude, Divides-sum, divides_number, divides_remainder, Divides-times, Divides-cancel, exact_quotient}
-use Rattle.integer_core.specs.Division.{IsDivision}
-use Rattle.integer_core.specs.Divisors.{Divides, IsGreatestCommonDivisor, IsLeastCommonMultiple}
 
 -- ---- greatest common divisors
 

@@ -1,14 +1,7 @@
 -- Divisors of integers.
-use Rattle.std.specs.Prelude.{◌≡◌, ◌≢◌, ◌/◌, ◌≤ℤ◌, ◌+ℤ◌, ◌-ℤ◌, ◌*ℤ◌, ℤ, pos, negsuc, neg_ℤ, unsigned_abs, int_div}
-use Rattle.std.proofs.Common.{arith, sym, ◌∙◌, ap}
-use Rattle.std.proofs.lemmas.Int.{ints, unsigned_abs-mul}
-use Rattle.std.proofs.lemmas.Nat.{div-add-mod'}
-use Rattle.std.proofs.lemmas.Nat.Gcd.{dvd_antisymm, mod-eq-zero_of_dvd}
-use Prim.Native.Nat.{◌∣◌}
-use Rattle.integer_core.proofs.Whole.{linear, sizes, products, expand, comm, assoc, mul-one}
+use Rattle.integer_core.proofs.Common.{◌≡◌, ◌≢◌, ◌/◌, ◌≤ℤ◌, ◌+ℤ◌, ◌-ℤ◌, ◌*ℤ◌, ℤ, pos, negsuc, neg_ℤ, unsigned_abs, int_div, arith, sym, ◌∙◌, ap, ints, unsigned_abs-mul, div-add-mod', dvd_antisymm, mod-eq-zero_of_dvd, ◌∣◌, linear, sizes, products, expand, comm, assoc, IsDivision, Divides}
+use Rattle.integer_core.proofs.Whole.{mul-one}
 use Rattle.integer_core.proofs.Quotients.{small_multiple, truncated_is}
-use Rattle.integer_core.specs.Division.{IsDivision}
-use Rattle.integer_core.specs.Divisors.{Divides}
 
 pub to_natural : {u v : ℤ} → Divides u v → unsigned_abs u ∣ unsigned_abs v
 to_natural {u} h = ∣ (unsigned_abs h.factor, ap unsigned_abs h.product ∙ unsigned_abs-mul u h.factor) ∣₁

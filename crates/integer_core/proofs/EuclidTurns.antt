@@ -1,18 +1,9 @@
 -- Turns of Euclid's loop: what a division says of magnitudes, and that each state has one turn at most.
-use Rattle.std.specs.Prelude.{◌≡◌, ◌≢◌, ◌⊎◌, ◌<◌, ◌≤◌, ◌+◌, ◌*◌, ◌-ℤ◌, ◌*ℤ◌, ℤ, ℕ, pos, zero, suc, unsigned_abs, int_rem}
-use Rattle.std.proofs.Common.{arith, inl, inr, sym, ◌∙◌, ap}
-use Rattle.std.proofs.Math.Nat.{lt_of_not-le}
-use Rattle.std.proofs.lemmas.Int.{unsigned_abs-mul}
-use Rattle.std.proofs.lemmas.Nat.Gcd.{le_of_dvd}
-use borrow.Author.Differences.{abs_is}
+use Rattle.integer_core.proofs.Common.{◌≡◌, ◌≢◌, ◌⊎◌, ◌<◌, ◌≤◌, ◌+◌, ◌*◌, ◌-ℤ◌, ◌*ℤ◌, ℤ, ℕ, pos, zero, suc, unsigned_abs, int_rem, arith, inl, inr, sym, ◌∙◌, ap, lt_of_not-le, unsigned_abs-mul, le_of_dvd, abs_is, linear, products, IsTruncated, Divides, IsOnly}
 use Rattle.integer_core.proofs.Divisibility.{Divides-trans, divides_magnitude, divides_from_exact, exact_from_divides, to_natural}
 use Rattle.integer_core.proofs.Quotients.{zero_or_not, only_truncated, truncated_is}
 use Rattle.integer_core.proofs.Runs.{only_turns}
-use Rattle.integer_core.proofs.Whole.{linear, products}
 use Rattle.integer_core.specs.Bezout.{AreEuclidTurns, IsEuclidTurn, Remainders}
-use Rattle.integer_core.specs.Division.{IsTruncated}
-use Rattle.integer_core.specs.Divisors.{Divides}
-use Rattle.integer_core.specs.Only.{IsOnly}
 
 -- a multiple is 0, or the number itself, or at least twice as large
 pub multiple_size : (k d : ℕ) → (k * d ≡ 0) ⊎ ((k * d ≡ d) ⊎ (2 * d ≤ k * d))

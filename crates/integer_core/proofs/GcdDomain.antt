@@ -1,13 +1,9 @@
 -- In a type without negative numbers each greatest common divisor fits.
-use Rattle.std.specs.Prelude.{◌≡◌, ◌↔◌, ℤ, pos, negsuc}
-use Rattle.std.proofs.Common.{arith, inl, inr}
+use Rattle.integer_core.proofs.Common.{◌≡◌, ◌↔◌, ℤ, pos, negsuc, arith, inl, inr, linear, sizes, GcdFits, IsGreatestCommonDivisor, IsRange, EachFits}
 use Rattle.integer_core.proofs.CommonDivisors.{only_gcd, gcd-zero}
 use Rattle.integer_core.proofs.EuclidTurns.{divisor_size}
 use Rattle.integer_core.proofs.Quotients.{zero_or_not}
 use Rattle.integer_core.proofs.Ranges.{within_fits}
-use Rattle.integer_core.proofs.Whole.{linear, sizes}
-use Rattle.integer_core.specs.Divisors.{GcdFits, IsGreatestCommonDivisor}
-use Rattle.integer_core.specs.Range.{IsRange, EachFits}
 
 module _ {fits : ℤ → Type 0} {low high : ℤ} (range : IsRange fits low high) where
   -- a type without negative numbers has no -1

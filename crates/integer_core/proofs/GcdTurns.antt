@@ -1,16 +1,8 @@
 -- That the turns of Stein's loop are the only ones, and that each number has a bit length.
-use Rattle.std.specs.Prelude.{◌≡◌, ◌⊎◌, ◌^◌, ◌<◌, ◌≤◌, ℤ, ℕ, zero, suc, unsigned_abs}
-use Rattle.std.proofs.Common.{arith, inl, inr, sym, ◌∙◌, subst, pow_mono}
-use Rattle.std.proofs.Math.Nat.{dvd-mul_right, lt_of_not-le, pow-succ'}
-use Rattle.std.proofs.lemmas.Bool.{cases_lt}
-use Rattle.std.proofs.lemmas.Nat.Gcd.{dvd_antisymm}
-use Rattle.std.specs.Int.{◌∣◌}
+use Rattle.integer_core.proofs.Common.{◌≡◌, ◌⊎◌, ◌^◌, ◌<◌, ◌≤◌, ℤ, ℕ, zero, suc, unsigned_abs, arith, inl, inr, sym, ◌∙◌, subst, pow_mono, dvd-mul_right, lt_of_not-le, pow-succ', cases_lt, dvd_antisymm, ◌∣◌, linear, IsOnly, RunHasTurns}
 use Rattle.integer_core.proofs.NaturalGcd.{odd_divides}
 use Rattle.integer_core.proofs.Runs.{only_turns}
-use Rattle.integer_core.proofs.Whole.{linear}
 use Rattle.integer_core.specs.GcdRuns.{AreGcdTurns, GcdEnds, IsBitLength, IsGcdTurn, IsOddPart, IsZeroOrLeast, MakesGcdRun, OddPair}
-use Rattle.integer_core.specs.Only.{IsOnly}
-use Rattle.integer_core.specs.Runs.{RunHasTurns}
 
 -- ---- the turns are the only ones
 

@@ -1,14 +1,9 @@
 -- Lamé's theorem: Euclid's loop makes few turns. By recursion on the run, from its last state.
-use Rattle.std.specs.Prelude.{◌≡◌, ◌≢◌, ◌<◌, ◌≤◌, ◌+◌, ◌*◌, ◌^◌, ℤ, ℕ, pos, suc, zero, List, [], ◌∷◌, length, unsigned_abs}
-use Rattle.std.proofs.Common.{arith, subst}
-use Rattle.std.proofs.Math.Nat.{lt_of_not-le, pow-succ'}
+use Rattle.integer_core.proofs.Common.{◌≡◌, ◌≢◌, ◌<◌, ◌≤◌, ◌+◌, ◌*◌, ◌^◌, ℤ, ℕ, pos, suc, zero, List, [], ◌∷◌, length, unsigned_abs, arith, subst, lt_of_not-le, pow-succ', Divides, IsRun, RunHasTurns, linear}
 use Rattle.integer_core.specs.Bezout.{Remainders, IsEuclidTurn, EuclidEnds}
-use Rattle.integer_core.specs.Divisors.{Divides}
 use Rattle.integer_core.specs.Fibonacci.{fibonacci}
-use Rattle.integer_core.specs.Runs.{IsRun, RunHasTurns}
 use Rattle.integer_core.proofs.EuclidTurns.{truncated_size, divisor_size, twice, inexact, multiple_size, one_divides}
 use Rattle.integer_core.proofs.Divisibility.{divides_remainder}
-use Rattle.integer_core.proofs.Whole.{linear}
 
 -- what n turns and a common divisor g say of the remainders that they begin with
 record IsLarge (s : Remainders) (n g : ℕ) : Type 0 where

@@ -1,4 +1,5 @@
 pub mod Whole
+pub mod Common
 pub mod Ranges
 pub mod Quotients
 pub mod Multiples

@@ -1,12 +1,7 @@
 -- Multiples next to a number.
-use Rattle.std.specs.Prelude.{◌≡◌, ◌≢◌, ◌↔◌, ◌+ℤ◌, ◌-ℤ◌, ℤ, pos, neg_ℤ}
-use Rattle.std.proofs.Common.{arith}
+use Rattle.integer_core.proofs.Common.{◌≡◌, ◌≢◌, ◌↔◌, ◌+ℤ◌, ◌-ℤ◌, ℤ, pos, neg_ℤ, arith, linear, sizes, products, expand, IsFloored, IsMultiple, IsCeiled, IsOnly, IsRange}
 use Rattle.integer_core.proofs.Quotients.{ceiled_above, ceiled_exact}
 use Rattle.integer_core.proofs.Ranges.{within_fits}
-use Rattle.integer_core.proofs.Whole.{linear, sizes, products, expand}
-use Rattle.integer_core.specs.Division.{IsFloored, IsMultiple, IsCeiled}
-use Rattle.integer_core.specs.Only.{IsOnly}
-use Rattle.integer_core.specs.Range.{IsRange}
 
 -- what is between a floored remainder and its divisor fits
 pub gap_fits : {fits : ℤ → Type 0} {low high n d q r : ℤ} → IsRange fits low high → fits d → IsFloored n d q r → fits (d -ℤ r)

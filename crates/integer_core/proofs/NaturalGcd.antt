@@ -1,14 +1,7 @@
 -- The greatest common divisor of natural numbers, and of their odd parts.
-use Rattle.std.specs.Prelude.{ℤ, pos, unsigned_abs}
-use Rattle.std.proofs.Common.{◌≡◌, ℕ, zero, suc, ◌+◌, ◌-◌, ◌*◌, ◌/◌, ◌%◌, ◌^◌, ◌≤◌, inl, inr, sym, ◌∙◌, ap, subst, arith, mul-one, mul_comm, mul_assoc, pow-suc, pow-add, min, div-add-mod'}
-use Rattle.std.proofs.Math.Nat.{dvd-mul_right_of_dvd, lt_of_not-le}
-use Rattle.std.proofs.lemmas.Bool.{cases_lt}
-use Rattle.std.proofs.lemmas.Int.{ints}
-use Rattle.std.proofs.lemmas.Nat.Gcd.{IsGcd-swap, dvd_of_mod-eq-zero, dvd_trans, mod-eq-zero_of_dvd}
-use Rattle.std.specs.Int.{IsGcd, ◌∣◌}
+use Rattle.integer_core.proofs.Common.{ℤ, pos, unsigned_abs, ◌≡◌, ℕ, zero, suc, ◌+◌, ◌-◌, ◌*◌, ◌/◌, ◌%◌, ◌^◌, ◌≤◌, inl, inr, sym, ◌∙◌, ap, subst, arith, mul-one, mul_comm, mul_assoc, pow-suc, pow-add, min, div-add-mod', dvd-mul_right_of_dvd, lt_of_not-le, cases_lt, ints, IsGcd-swap, dvd_of_mod-eq-zero, dvd_trans, mod-eq-zero_of_dvd, IsGcd, ◌∣◌, IsGreatestCommonDivisor}
 use Rattle.integer_core.proofs.CommonDivisors.{gcd-times}
 use Rattle.integer_core.proofs.Divisibility.{from_natural, to_natural}
-use Rattle.integer_core.specs.Divisors.{IsGreatestCommonDivisor}
 
 -- the gcd of integers is that of their magnitudes
 pub gcd_of_sizes : (a b : ℤ) {g : ℕ} → IsGcd (unsigned_abs a) (unsigned_abs b) g → IsGreatestCommonDivisor a b (pos g)

@@ -1,9 +1,7 @@
 -- What both loops on two odd numbers keep, at each step of them.
-use Rattle.std.specs.Prelude.{◌≡◌, ◌+◌, ◌%◌, ◌^◌, ◌<◌, ℕ}
-use Rattle.std.proofs.Common.{arith, refl, List, [], ◌∷◌, map, inl, inr, sym, ◌∙◌}
+use Rattle.integer_core.proofs.Common.{◌≡◌, ◌+◌, ◌%◌, ◌^◌, ◌<◌, ℕ, arith, refl, List, [], ◌∷◌, map, inl, inr, sym, ◌∙◌, IsRun, RunHasTurns}
 use Rattle.std.proofs.lemmas.List.{length-map}
 use Rattle.integer_core.specs.GcdRuns.{exchanged, GcdEnds, IsGcdTurn, IsOddGcd, IsOrderedTurn, OddPair}
-use Rattle.integer_core.specs.Runs.{IsRun, RunHasTurns}
 use Rattle.integer_core.proofs.OddParts.{Turning, turning_ends, turning_small, turning_turn, turns_fit}
 use Rattle.integer_core.proofs.Runs.{Reaches, reaches_first, reaches_instead, reaches_last, reaches_turn}
 use Rattle.integer_core.proofs.SteinSteps.{gcd_of_same}

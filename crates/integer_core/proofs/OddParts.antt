@@ -1,13 +1,10 @@
 -- Odd parts: what a shift by `trailing_zeros` leaves, and what the turns of Stein's loop keep.
-use Rattle.std.proofs.Common.{◌≡◌, ℕ, zero, suc, ◌+◌, ◌-◌, ◌*◌, ◌/◌, ◌%◌, ◌^◌, ◌<◌, ◌≤◌, inl, inr, refl, sym, ◌∙◌, ap, arith, mul-one, div-one, add-one, mul-le-mul_right, mul-pos, pow_mono, pow_pos, pow-add, le-mul_of_pos_right}
-use Rattle.std.proofs.Math.Nat.{pow-succ', div-div-eq-div-mul, lt_of_not-le}
+use Rattle.integer_core.proofs.Common.{◌≡◌, ℕ, zero, suc, ◌+◌, ◌-◌, ◌*◌, ◌/◌, ◌%◌, ◌^◌, ◌<◌, ◌≤◌, inl, inr, refl, sym, ◌∙◌, ap, arith, mul-one, div-one, add-one, mul-le-mul_right, mul-pos, pow_mono, pow_pos, pow-add, le-mul_of_pos_right, pow-succ', div-div-eq-div-mul, lt_of_not-le, IsGcd, Width, w64, w128, trailing_zeros, mul-lt, IsGcd-from_sub, IsGcd-swap}
 use lib.Count.{count_trailing_zeros, under}
-use Rattle.std.specs.Int.{IsGcd, Width, w8, w16, w32, w64, w128, trailing_zeros}
+use Rattle.std.specs.Int.{w8, w16, w32}
 use Rattle.std.proofs.lemmas.Nat.Bits.{bit_at-trailing_zeros}
 use mir.Val.{bits}
 use Rattle.num_traits.specs.Laws.{bit_len}
-use Rattle.std.proofs.lemmas.Nat.{mul-lt}
-use Rattle.std.proofs.lemmas.Nat.Gcd.{IsGcd-from_sub, IsGcd-swap}
 use Rattle.integer_core.proofs.NaturalGcd.{gcd_strip}
 use Rattle.integer_core.specs.GcdRuns.{IsOddPart, IsOrderedTurn}
 

@@ -1,6 +1,5 @@
 -- A pair of numbers has exactly one Bezout answer.
-use Rattle.std.specs.Prelude.{◌≡◌, ◌⊎◌, ℤ}
-use Rattle.std.proofs.Common.{inl, inr}
+use Rattle.integer_core.proofs.Common.{◌≡◌, ◌⊎◌, ℤ, inl, inr, IsOnly}
 use Rattle.integer_core.proofs.BezoutAnswers.{answer_for_zero, answer_of_loop, only_answer}
 use Rattle.integer_core.proofs.CommonDivisors.{only_gcd}
 use Rattle.integer_core.proofs.Divisibility.{Divides-zero}
@@ -8,7 +7,6 @@ use Rattle.integer_core.proofs.EuclidTurns.{divides_or_not}
 use Rattle.integer_core.proofs.Quotients.{zero_or_not}
 use Rattle.integer_core.proofs.Rows.{rows_first, last_rows, last_gcd, last_at_once, last_after_turns}
 use Rattle.integer_core.specs.Bezout.{IsBezoutAnswer, SecondDividesFirst, FirstDividesSecond, NeedsBoth}
-use Rattle.integer_core.specs.Only.{IsOnly}
 
 pub bezout_answer_exists : (a b : ℤ) → (g x y : ℤ) × IsBezoutAnswer a b g x y
 bezout_answer_exists a b = elim (zero_or_not b) [

@@ -1,13 +1,7 @@
 -- Quotients and remainders by their definition: they exist, they are the only ones, and when they fit.
-use Rattle.std.specs.Prelude.{◌≡◌, ◌≢◌, ◌⊎◌, ◌<◌, ◌≤◌, ◌+◌, ◌*◌, ◌+ℤ◌, ◌-ℤ◌, ◌*ℤ◌, ℤ, pos, negsuc, neg_ℤ, unsigned_abs, suc, int_div, int_rem}
-use Rattle.std.proofs.Common.{arith, ◌∙◌, inl, inr, subst}
-use Rattle.std.proofs.lemmas.Int.{ints, unsigned_abs-mul, quot-rem, rem_below}
-use Rattle.std.proofs.lemmas.Nat.{mul-le}
-use Rattle.std.proofs.Math.Nat.{mod-le, le-mul_of_pos_right}
+use Rattle.integer_core.proofs.Common.{◌≡◌, ◌≢◌, ◌⊎◌, ◌<◌, ◌≤◌, ◌+◌, ◌*◌, ◌+ℤ◌, ◌-ℤ◌, ◌*ℤ◌, ℤ, pos, negsuc, neg_ℤ, unsigned_abs, suc, int_div, int_rem, arith, ◌∙◌, inl, inr, subst, ints, unsigned_abs-mul, mul-le, mod-le, le-mul_of_pos_right, linear, sizes, products, expand, dist, neg-mul, IsDivision, IsTruncated, IsFloored, IsCeiled, IsQuotient, IsRemainder, EachKind, HaveSameSign, HaveOppositeSigns, IsRange, EachFits}
+use Rattle.std.proofs.lemmas.Int.{quot-rem, rem_below}
 use Rattle.integer_core.proofs.Ranges.{LiesWithin, within_fits}
-use Rattle.integer_core.proofs.Whole.{linear, sizes, products, expand, dist, neg-mul}
-use Rattle.integer_core.specs.Division.{IsDivision, IsTruncated, IsFloored, IsCeiled, IsQuotient, IsRemainder, EachKind, HaveSameSign, HaveOppositeSigns}
-use Rattle.integer_core.specs.Range.{IsRange, EachFits}
 
 pub zero_or_not : (z : ℤ) → (z ≡ pos 0) ⊎ (z ≢ pos 0)
 zero_or_not z = grind (arith, linear)

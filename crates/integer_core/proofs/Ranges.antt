@@ -1,12 +1,7 @@
 -- What fits, by the range of a type.
-use Rattle.std.specs.Prelude.{◌≡◌, ◌⊎◌, ◌≤ℤ◌, ◌<ℤ◌, ◌+ℤ◌, ◌-ℤ◌, ℕ, ℤ, pos, unsigned_abs}
-use Rattle.std.specs.Int.{Width}
-use Rattle.std.proofs.Common.{◌∙◌, arith, subst}
-use Rattle.integer_core.proofs.Whole.{linear, sizes}
+use Rattle.integer_core.proofs.Common.{◌≡◌, ◌⊎◌, ◌≤ℤ◌, ◌<ℤ◌, ◌+ℤ◌, ◌-ℤ◌, ℕ, ℤ, pos, unsigned_abs, Width, ◌∙◌, arith, subst, linear, sizes, IsLeastCommonMultiple, IsRange, EachFits}
 use Rattle.integer_core.specs.Between.{Between}
-use Rattle.integer_core.specs.Divisors.{IsLeastCommonMultiple}
 use Rattle.integer_core.specs.NativeRanges.{IsNative}
-use Rattle.integer_core.specs.Range.{IsRange, EachFits}
 
 -- z lies between 0 and n
 abbrev pub LiesWithin : ℤ → ℤ → Type 0

@@ -1,9 +1,5 @@
 -- The rows of the extended Euclidean algorithm stay in the range of their type, and are few.
-use Rattle.std.specs.Prelude.{◌≡◌, ◌≢◌, ◌⊎◌, ◌<◌, ◌≤◌, ◌+◌, ◌*◌, ◌^◌, ◌≤ℤ◌, ◌-ℤ◌, ◌*ℤ◌, ℤ, ℕ, pos, negsuc, unsigned_abs}
-use Rattle.std.proofs.Common.{arith, inl, inr, ◌∙◌}
-use Rattle.std.proofs.Math.IntN.{zero-*ℤ, +ℤ_idr}
-use Rattle.std.proofs.lemmas.Int.{unsigned_abs-mul}
-use borrow.Author.Differences.{abs_is}
+use Rattle.integer_core.proofs.Common.{◌≡◌, ◌≢◌, ◌⊎◌, ◌<◌, ◌≤◌, ◌+◌, ◌*◌, ◌^◌, ◌≤ℤ◌, ◌-ℤ◌, ◌*ℤ◌, ℤ, ℕ, pos, negsuc, unsigned_abs, arith, inl, inr, ◌∙◌, zero-*ℤ, +ℤ_idr, unsigned_abs-mul, abs_is, linear, products, IsTruncated, Divides, IsRange}
 use Rattle.integer_core.proofs.BezoutCoefficients.{IsWeighed, halves}
 use Rattle.integer_core.proofs.Divisibility.{rest_is}
 use Rattle.integer_core.proofs.EuclidTurns.{truncated_size, inexact, not_one, divisor_size}
@@ -12,11 +8,7 @@ use Rattle.integer_core.proofs.Lame.{few_turns}
 use Rattle.integer_core.proofs.Quotients.{zero_or_not, small_multiple}
 use Rattle.integer_core.proofs.Rows.{Row, Rows, of_first, of_second, next_row, rows_first, rows_turn, last_rows}
 use Rattle.integer_core.proofs.Runs.{reaches_last}
-use Rattle.integer_core.proofs.Whole.{linear, products}
 use Rattle.integer_core.specs.Bezout.{HasPair, sign}
-use Rattle.integer_core.specs.Division.{IsTruncated}
-use Rattle.integer_core.specs.Divisors.{Divides}
-use Rattle.integer_core.specs.Range.{IsRange}
 
 -- a coefficient fits, and so does its negation if the type has negative numbers
 pub record IsCoefficient (fits : ℤ → Type 0) (high z : ℤ) : Type 0 where

@@ -1,18 +1,12 @@
 -- The rows of the extended Euclidean algorithm, after some turns of its loop.
-use Rattle.std.specs.Prelude.{◌≡◌, ◌≢◌, ◌⊎◌, ◌<◌, ◌≤◌, ◌+◌, ◌+ℤ◌, ◌-ℤ◌, ◌*ℤ◌, ℤ, ℕ, pos, zero, suc, unsigned_abs}
-use Rattle.std.proofs.Common.{arith, refl, inl, inr}
-use Rattle.std.proofs.lemmas.Int.{ints}
-use borrow.Author.Differences.{abs_is}
+use Rattle.integer_core.proofs.Common.{◌≡◌, ◌≢◌, ◌⊎◌, ◌<◌, ◌≤◌, ◌+◌, ◌+ℤ◌, ◌-ℤ◌, ◌*ℤ◌, ℤ, ℕ, pos, zero, suc, unsigned_abs, arith, refl, inl, inr, ints, abs_is, linear, expand, IsTruncated, Divides, IsGreatestCommonDivisor}
 use Rattle.integer_core.proofs.BezoutCoefficients.{IsWeighed, weighed_first, weighed_second, weighed_turn, last_half}
 use Rattle.integer_core.proofs.CommonDivisors.{gcd-divisor, gcd-remainder}
 use Rattle.integer_core.proofs.Divisibility.{rest_is}
 use Rattle.integer_core.proofs.EuclidTurns.{divides_or_not, inexact}
 use Rattle.integer_core.proofs.Quotients.{truncated_is}
 use Rattle.integer_core.proofs.Runs.{Reaches, reaches_first, reaches_turn}
-use Rattle.integer_core.proofs.Whole.{linear, expand}
 use Rattle.integer_core.specs.Bezout.{EuclidEnds, IsEuclidTurn, IsSmallPair}
-use Rattle.integer_core.specs.Division.{IsTruncated}
-use Rattle.integer_core.specs.Divisors.{Divides, IsGreatestCommonDivisor}
 
 -- a row of the code, in integers
 pub record Row : Type 0 where

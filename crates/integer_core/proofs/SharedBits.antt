@@ -1,11 +1,7 @@
 -- The last bits that two numbers share: their difference has as many factors 2.
-use Rattle.std.specs.Prelude.{bit_xor}
-use Rattle.std.proofs.Common.{◌≡◌, ℕ, ◌+◌, ◌-◌, ◌*◌, ◌/◌, ◌%◌, ◌^◌, ◌<◌, refl, sym, ◌∙◌, ap, arith, pow_pos, mul-le-mul_right}
-use Rattle.std.specs.Int.{Width, trailing_zeros}
+use Rattle.integer_core.proofs.Common.{bit_xor, ◌≡◌, ℕ, ◌+◌, ◌-◌, ◌*◌, ◌/◌, ◌%◌, ◌^◌, ◌<◌, refl, sym, ◌∙◌, ap, arith, pow_pos, mul-le-mul_right, Width, trailing_zeros, xor_lt, xor_mod, and_le_l, and_le_r, div-add-mod', lt_of_not-le, mul-mod_left, mul-div_cancel}
 use Rattle.std.specs.Int.Bits.{xor_add_and}
-use Rattle.std.proofs.lemmas.Nat.{xor_lt, xor_mod, and_le_l, and_le_r, div-add-mod'}
 use Rattle.std.proofs.lemmas.Nat.Bits.{bit_at_xor}
-use Rattle.std.proofs.Math.Nat.{lt_of_not-le, mul-mod_left, mul-div_cancel}
 use Rattle.num_traits.specs.Laws.{bit_len}
 use Rattle.integer_core.specs.GcdRuns.{IsOddPart}
 use Rattle.integer_core.proofs.OddParts.{odd_part_by_shift, shift_back, twos_few}

@@ -1,13 +1,6 @@
 -- Of the pairs that meet Bezout's equation one alone is small.
-use Rattle.std.specs.Prelude.{◌≡◌, ◌≢◌, ◌<◌, ◌≤◌, ◌+◌, ◌*◌, ◌-ℤ◌, ◌*ℤ◌, ℤ, ℕ, pos, unsigned_abs}
-use Rattle.std.proofs.Common.{arith, inl, inr, refl, sym, ◌∙◌, ap, mul-le-mul_left}
-use Rattle.std.proofs.Math.Nat.{eq_of_mul-eq-mul_left, lt_of_mul-lt-mul_right}
-use Rattle.std.proofs.lemmas.Bool.{cases_lt}
-use Rattle.std.proofs.lemmas.Int.{unsigned_abs-mul}
-use borrow.Author.Differences.{abs_is}
-use Rattle.integer_core.proofs.Whole.{linear, expand}
+use Rattle.integer_core.proofs.Common.{◌≡◌, ◌≢◌, ◌<◌, ◌≤◌, ◌+◌, ◌*◌, ◌-ℤ◌, ◌*ℤ◌, ℤ, ℕ, pos, unsigned_abs, arith, inl, inr, refl, sym, ◌∙◌, ap, mul-le-mul_left, eq_of_mul-eq-mul_left, lt_of_mul-lt-mul_right, cases_lt, unsigned_abs-mul, abs_is, linear, expand, IsOnly}
 use Rattle.integer_core.specs.Bezout.{IsSmallPair}
-use Rattle.integer_core.specs.Only.{IsOnly}
 
 small_pair_swapped : {a b g x y : ℤ} → IsSmallPair a b g x y → IsSmallPair b a g y x
 small_pair_swapped h = record { equation = let e = h.equation in omega (arith, linear); x_small = h.y_small; y_small = h.x_small }

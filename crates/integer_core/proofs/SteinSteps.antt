@@ -1,15 +1,8 @@
 -- Stein's method on the values of an unsigned type.
-use Rattle.std.specs.Prelude.{◌≡◌, ◌≢◌, ◌↔◌, ◌⊎◌, ◌≤ℤ◌, ℤ, pos, unsigned_abs}
-use Rattle.std.specs.Int.{IsGcd, IsPowerOfTwo}
-use Rattle.std.proofs.Common.{ℕ, min, ◌*◌, ◌%◌, ◌^◌, ◌<◌, refl, sym, subst, arith, inl, inr}
-use Rattle.std.proofs.lemmas.Int.{ints}
-use borrow.Author.Differences.{abs_is}
+use Rattle.integer_core.proofs.Common.{◌≡◌, ◌≢◌, ◌↔◌, ◌⊎◌, ◌≤ℤ◌, ℤ, pos, unsigned_abs, IsGcd, ℕ, min, ◌*◌, ◌%◌, ◌^◌, ◌<◌, refl, sym, subst, arith, inl, inr, ints, abs_is, linear, eq-one_of_dvd-one, one-dvd, dvd_refl, le_of_dvd, IsGreatestCommonDivisor}
+use Rattle.std.specs.Int.{IsPowerOfTwo}
 use Rattle.integer_core.proofs.CommonDivisors.{gcd-magnitudes, gcd-zero}
-use Rattle.integer_core.proofs.Whole.{linear}
-use Rattle.std.proofs.Math.Nat.{eq-one_of_dvd-one, one-dvd}
-use Rattle.std.proofs.lemmas.Nat.Gcd.{dvd_refl, le_of_dvd}
 use Rattle.integer_core.proofs.NaturalGcd.{gcd_shift, odd_divisor, odd_divides}
-use Rattle.integer_core.specs.Divisors.{IsGreatestCommonDivisor}
 use Rattle.integer_core.specs.GcdRuns.{AreWithinBits, IsCountedGcd, IsOddPart, MakesGcdRun}
 
 natural : {z : ℤ} → pos 0 ≤ℤ z → z ≡ pos (unsigned_abs z)

@@ -1,9 +1,6 @@
 -- Newton's step for the root of any degree, over natural numbers: it is never below the root, and it is below
 -- each guess above the root.
-use Rattle.std.proofs.Common.{◌≡◌, ℕ, zero, suc, ◌+◌, ◌-◌, ◌*◌, ◌/◌, ◌^◌, ◌<◌, ◌≤◌, inl, inr, arith, refl, mul-le-mul_left, mul-le-mul_right, div-lt_iff_lt-mul}
-use Rattle.std.proofs.Math.Nat.{pow-zero, pow-succ', pow-le-pow_left, one-le-pow, add-mul-div_right, one-mul, lt_of_not-le}
-use Rattle.std.proofs.lemmas.Nat.{le-div}
-use Rattle.std.proofs.lemmas.Bool.{cases_lt}
+use Rattle.integer_core.proofs.Common.{◌≡◌, ℕ, zero, suc, ◌+◌, ◌-◌, ◌*◌, ◌/◌, ◌^◌, ◌<◌, ◌≤◌, inl, inr, arith, refl, mul-le-mul_left, mul-le-mul_right, div-lt_iff_lt-mul, pow-zero, pow-succ', pow-le-pow_left, one-le-pow, add-mul-div_right, one-mul, lt_of_not-le, le-div, cases_lt}
 use Rattle.integer_roots.specs.SquareRuns.{square_step}
 use Rattle.integer_roots.specs.NewtonRuns.{newton_step}
 use Rattle.integer_roots.proofs.Powers.{power_one, power_two}

@@ -1,10 +1,6 @@
 -- Each answer is the only number that meets its definition.
-use Rattle.std.specs.Prelude.{◌≡◌, ℤ, pos, negsuc}
-use Rattle.std.proofs.Common.{ℕ, ◌+◌, arith, sym, ◌∙◌}
-use Rattle.std.proofs.lemmas.Int.{ints, by_lt_z}
-use Rattle.integer_core.specs.Only.{IsOnly}
+use Rattle.integer_core.proofs.Common.{◌≡◌, ℤ, pos, negsuc, ℕ, ◌+◌, arith, sym, ◌∙◌, ints, by_lt_z, IsOnly, linear, products}
 use Rattle.integer_core.proofs.Runs.{only_turns}
-use Rattle.integer_core.proofs.Whole.{linear, products}
 use Rattle.integer_roots.specs.Averages.{IsAverageFloor, IsAverageCeil}
 use Rattle.integer_roots.specs.RootOf.{IsFloorRoot, IsRoot}
 use Rattle.integer_roots.specs.SquareRuns.{Guess, Rising, Falling, IsNewtonTurn, NewtonEnds, MakesNewtonRun, AreSquareRootTurns}

@@ -1,11 +1,8 @@
 -- The guesses of the two loops of a root of any degree by Newton's method, in integers: they stay above 1 and
 -- small, and the one at which the loops end is the root.
-use Rattle.std.specs.Prelude.{pos}
-use Rattle.std.proofs.Common.{◌≡◌, ℕ, zero, suc, ◌+◌, ◌-◌, ◌*◌, ◌/◌, ◌%◌, ◌^◌, ◌<◌, ◌≤◌, arith, mul-le-mul_left, mul-le-mul_right, div-mul-le_self, pow_mono, pow_pos}
-use Rattle.std.proofs.Math.Nat.{pow-succ', pow-le-pow_left, pow-le-pow_right}
+use Rattle.integer_core.proofs.Common.{pos, ◌≡◌, ℕ, zero, suc, ◌+◌, ◌-◌, ◌*◌, ◌/◌, ◌%◌, ◌^◌, ◌<◌, ◌≤◌, arith, mul-le-mul_left, mul-le-mul_right, div-mul-le_self, pow_mono, pow_pos, pow-succ', pow-le-pow_left, pow-le-pow_right, one_shl}
 use Rattle.std.specs.Int.{div_ceil}
 use Rattle.std.proofs.lemmas.Grind.{div_ceil_times}
-use Rattle.std.proofs.lemmas.Nat.{one_shl}
 use Rattle.integer_roots.specs.RootOf.{IsFloorRoot}
 use Rattle.integer_roots.specs.SquareRuns.{Guess, Rising, Falling}
 use Rattle.integer_roots.specs.NewtonRuns.{guess_of, IsReached, begins, rises, goes_over, falls, newton_step}

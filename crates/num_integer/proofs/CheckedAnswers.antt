@@ -1,12 +1,7 @@
 -- Calls that return a result exactly in their domain.
-use Rattle.std.specs.Prelude.{◌≡◌, ◌≢◌, ◌⊎◌, ◌↔◌, ◌≤ℤ◌, ◌<ℤ◌, ◌-ℤ◌, ◌*ℤ◌, ℤ, pos, neg_ℤ, unsigned_abs, int_div, Option, Some, None}
-use Rattle.std.proofs.Common.{arith, inl, inr, subst, sym, ap, ◌∙◌}
-use Rattle.std.proofs.lemmas.Int.{unsigned_abs-mul}
+use Rattle.integer_core.proofs.Common.{◌≡◌, ◌≢◌, ◌⊎◌, ◌↔◌, ◌≤ℤ◌, ◌<ℤ◌, ◌-ℤ◌, ◌*ℤ◌, ℤ, pos, neg_ℤ, unsigned_abs, int_div, Option, Some, None, arith, inl, inr, subst, sym, ap, ◌∙◌, unsigned_abs-mul, linear, left_comm, sizes, IsGreatestCommonDivisor, IsLeastCommonMultiple, EachFits, IsRange}
 use Rattle.integer_core.proofs.CommonDivisors.{gcd-mul-lcm, gcd-nonzero, lcm-zero, lcm_exists, only_lcm}
 use Rattle.integer_core.proofs.Divisibility.{Divides-trans, cancel, exact_quotient}
-use Rattle.integer_core.proofs.Whole.{linear, left_comm, sizes}
-use Rattle.integer_core.specs.Divisors.{IsGreatestCommonDivisor, IsLeastCommonMultiple}
-use Rattle.integer_core.specs.Range.{EachFits, IsRange}
 use Rattle.num_integer.proofs.DivisorSizes.{divisor_at_most, lcm-positive}
 use Rattle.num_integer.proofs.FittingAnswers.{each_fits, fits_below}
 use Rattle.num_integer.proofs.OrderedProducts.{product_from_zero}

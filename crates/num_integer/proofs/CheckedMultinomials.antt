@@ -1,12 +1,7 @@
 -- The loop of `checked::multinomial`: it goes on as long as each number fits.
 use Rattle.std.specs.List.{All, AllWithin}
-use Rattle.std.specs.Prelude.{◌≡◌, ◌+◌, ◌*◌, ◌<◌, ◌≤◌, ◌≤ℤ◌, ◌+ℤ◌, ◌*ℤ◌, ℕ, ℤ, pos, unsigned_abs, List, map, length, get_or}
-use Rattle.std.proofs.Common.{arith, refl, subst, sym, ◌∙◌}
-use Rattle.std.proofs.Math.Nat.{le-mul_of_pos_right}
-use Rattle.std.proofs.lemmas.Int.{ints, unsigned_abs-mul}
+use Rattle.integer_core.proofs.Common.{◌≡◌, ◌+◌, ◌*◌, ◌<◌, ◌≤◌, ◌≤ℤ◌, ◌+ℤ◌, ◌*ℤ◌, ℕ, ℤ, pos, unsigned_abs, List, map, length, get_or, arith, refl, subst, sym, ◌∙◌, le-mul_of_pos_right, ints, unsigned_abs-mul, from_not_less, IsRange}
 use Rattle.std.proofs.lemmas.List.Elements.{All-from_all_within, AllWithin-more, AllWithin-upto, at_read}
-use Rattle.integer_core.proofs.Whole.{from_not_less}
-use Rattle.integer_core.specs.Range.{IsRange}
 use Rattle.num_integer.proofs.FittingAnswers.{fits_below}
 use Rattle.num_integer.proofs.OrderedProducts.{product_from_zero}
 use Rattle.num_integer.proofs.Multinomials.{HasFittingMultinomial, IsMultinomialSoFar, is_multinomial, only_multinomial, past_top, product_of, shared_below, shared_last, shared_next}

@@ -1,11 +1,6 @@
 -- Division by literals.
-use Rattle.std.specs.Prelude.{◌≡◌, ◌↔◌, ◌<◌, ◌%◌, ◌≤ℤ◌, ◌<ℤ◌, ◌+ℤ◌, ◌*ℤ◌, ℤ, ℕ, pos, negsuc, suc, unsigned_abs}
-use Rattle.std.proofs.Common.{arith}
-use Rattle.std.proofs.lemmas.Int.{ints}
-use Rattle.integer_core.specs.Division.{IsCeiled, IsFloored, IsQuotient}
-use Rattle.integer_core.specs.Divisors.{Divides}
+use Rattle.integer_core.proofs.Common.{◌≡◌, ◌↔◌, ◌<◌, ◌%◌, ◌≤ℤ◌, ◌<ℤ◌, ◌+ℤ◌, ◌*ℤ◌, ℤ, ℕ, pos, negsuc, suc, unsigned_abs, arith, ints, IsCeiled, IsFloored, IsQuotient, Divides, linear}
 use Rattle.integer_core.proofs.Divisibility.{Divides-trans}
-use Rattle.integer_core.proofs.Whole.{linear}
 use Rattle.num_integer.proofs.FlooredByPositive.{ceiled_remainder_range, floored_range}
 use Rattle.num_integer.proofs.NaturalDivision.{divides_is_natural}
 

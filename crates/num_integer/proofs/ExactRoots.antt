@@ -1,9 +1,5 @@
 -- Roots by squares, and roots of exact powers.
-use Rattle.std.specs.Prelude.{◌≡◌, ◌≢◌, ◌<◌, ◌≤◌, ◌+◌, ◌*◌, ◌*ℤ◌, ℤ, ℕ, pos, negsuc, unsigned_abs}
-use Rattle.std.specs.Int.{int_pow}
-use Rattle.std.proofs.Common.{arith, ◌∙◌, refl, subst, sym}
-use Rattle.std.proofs.lemmas.Int.{ints}
-use Rattle.std.proofs.Math.Nat.{pow-lt-pow_left}
+use Rattle.integer_core.proofs.Common.{◌≡◌, ◌≢◌, ◌<◌, ◌≤◌, ◌+◌, ◌*◌, ◌*ℤ◌, ℤ, ℕ, pos, negsuc, unsigned_abs, int_pow, arith, ◌∙◌, refl, subst, sym, ints, pow-lt-pow_left}
 use Rattle.integer_roots.specs.RootOf.{IsRoot}
 use Rattle.integer_roots.proofs.Powers.{power_two}
 use Rattle.integer_roots.proofs.OnlyAnswers.{root_is_only_one}

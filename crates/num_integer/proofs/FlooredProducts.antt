@@ -1,13 +1,7 @@
 -- Floored quotients of products, by signs and magnitudes.
-use Rattle.std.specs.Prelude.{◌≡◌, ◌<◌, ◌≤ℤ◌, ◌<ℤ◌, ◌*◌, ◌/◌, ◌%◌, ◌*ℤ◌, ℕ, ℤ, pos, neg_ℤ, not, Bool, true, false}
-use Rattle.std.proofs.Common.{arith, inl, sym}
-use Rattle.std.proofs.lemmas.Int.{by_lt_z, ints}
+use Rattle.integer_core.proofs.Common.{◌≡◌, ◌<◌, ◌≤ℤ◌, ◌<ℤ◌, ◌*◌, ◌/◌, ◌%◌, ◌*ℤ◌, ℕ, ℤ, pos, neg_ℤ, not, Bool, true, false, arith, inl, sym, by_lt_z, ints, div-add-mod, mod-lt, linear, products, sizes, IsFloored, IsRange}
 use Rattle.std.proofs.Math.Bool.{beq}
-use Rattle.std.proofs.Math.Nat.{div-add-mod, mod-lt}
 use Rattle.integer_core.proofs.Ranges.{within_fits}
-use Rattle.integer_core.proofs.Whole.{linear, products, sizes}
-use Rattle.integer_core.specs.Division.{IsFloored}
-use Rattle.integer_core.specs.Range.{IsRange}
 use Rattle.num_integer.proofs.FlooredByPositive.{floored_by_range, floored_range}
 use Rattle.num_integer.proofs.OrderedProducts.{multiples_apart, product_at_most, product_from_zero}
 use Rattle.num_integer.specs.Parts.{signed}

@@ -1,6 +1,5 @@
 -- Pascal's rule, and coefficients out of more things.
-use Rattle.std.specs.Prelude.{◌≡◌, ◌≤◌, ◌+◌, ◌-◌, ℕ, zero, suc}
-use Rattle.std.proofs.Common.{arith, le_refl, le_trans, refl, subst, suc-add, zero-add}
+use Rattle.integer_core.proofs.Common.{◌≡◌, ◌≤◌, ◌+◌, ◌-◌, ℕ, zero, suc, arith, le_refl, le_trans, refl, subst, suc-add, zero-add}
 use Rattle.num_integer.specs.Coefficient.{coefficient}
 use Rattle.num_integer.proofs.Pascal.{coefficient-zero}
 

@@ -1,12 +1,5 @@
 -- Powers of integers: their signs, one degree more, and the double degree.
-use Rattle.std.specs.Prelude.{◌≡◌, ◌⊎◌, ◌+◌, ◌%◌, ◌^◌, ◌*ℤ◌, ℤ, ℕ, pos, negsuc, neg_ℤ, zero, suc, unsigned_abs}
-use Rattle.std.specs.Int.{int_pow}
-use Rattle.std.proofs.Common.{arith, ap, ◌∙◌, inl, inr, refl, sym}
-use Rattle.std.proofs.Math.IntN.{negsuc-*ℤ-pos}
-use Rattle.std.proofs.Math.Nat.{pow-zero, pow-succ'}
-use Rattle.std.proofs.lemmas.Bool.{cases_lt}
-use Rattle.std.proofs.lemmas.Int.{ints}
-use Rattle.integer_core.proofs.Whole.{expand, products}
+use Rattle.integer_core.proofs.Common.{◌≡◌, ◌⊎◌, ◌+◌, ◌%◌, ◌^◌, ◌*ℤ◌, ℤ, ℕ, pos, negsuc, neg_ℤ, zero, suc, unsigned_abs, int_pow, arith, ap, ◌∙◌, inl, inr, refl, sym, negsuc-*ℤ-pos, pow-zero, pow-succ', cases_lt, ints, expand, products}
 use Rattle.integer_roots.proofs.Powers.{power_of_zero}
 
 pub even_power : (k : ℤ) (n : ℕ) → n % 2 ≡ 0 → int_pow k n ≡ pos (unsigned_abs k ^ n)

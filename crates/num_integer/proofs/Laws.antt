@@ -1,6 +1,5 @@
 -- The laws of specs/Laws.antt, a lemma each.
-use Rattle.std.specs.Prelude.{ℤ, pos}
-use Rattle.std.proofs.Common.{arith, refl, sym, ◌∙◌}
+use Rattle.integer_core.proofs.Common.{ℤ, pos, arith, refl, sym, ◌∙◌, products, IsMultiple, IsQuotient, IsRemainder, IsOnly}
 use Rattle.integer_core.proofs.CommonDivisors as common
 use Rattle.integer_core.proofs.EuclidTurns as euclid
 use Rattle.integer_core.proofs.GcdDomain as domain
@@ -8,9 +7,6 @@ use Rattle.integer_core.proofs.GcdTurns as gcd_turns
 use Rattle.integer_core.proofs.OnlyBezoutAnswer as bezout
 use Rattle.integer_core.proofs.Multiples as multiples
 use Rattle.integer_core.proofs.Quotients as quotients
-use Rattle.integer_core.proofs.Whole.{products}
-use Rattle.integer_core.specs.Division.{IsMultiple, IsQuotient, IsRemainder}
-use Rattle.integer_core.specs.Only.{IsOnly}
 use Rattle.integer_roots.proofs.OnlyAnswers as roots
 use Rattle.integer_roots.proofs.MagnitudeRoots as magnitude_roots
 use Rattle.num_integer.proofs.FittingAnswers.{each_kind}

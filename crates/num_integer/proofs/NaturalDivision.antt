@@ -1,15 +1,6 @@
 -- Division of natural numbers, as `/` and `%` say it.
-use Rattle.std.specs.Prelude.{◌≡◌, ◌↔◌, ◌<◌, ◌≤◌, ◌+◌, ◌-◌, ◌*◌, ◌/◌, ◌%◌, ◌^◌, ◌≤ℤ◌, ◌<ℤ◌, ◌+ℤ◌, ◌*ℤ◌, ℤ, ℕ, pos, unsigned_abs}
-use Rattle.std.specs.Int.{FitsUnsignedBits}
-use Rattle.std.proofs.Common.{arith, ◌∙◌, ap}
-use Rattle.std.proofs.lemmas.Int.{ints}
-use Rattle.std.proofs.lemmas.Nat.{div-add-mod', div_below, le-div, mul-lt}
-use Rattle.std.proofs.Math.Nat.{div-le_self}
-use Rattle.integer_core.specs.Division.{IsFloored, IsQuotient, IsRemainder}
-use Rattle.integer_core.specs.Range.{EachFits}
-use Rattle.integer_core.specs.Divisors.{Divides, IsLeastCommonMultiple}
+use Rattle.integer_core.proofs.Common.{◌≡◌, ◌↔◌, ◌<◌, ◌≤◌, ◌+◌, ◌-◌, ◌*◌, ◌/◌, ◌%◌, ◌^◌, ◌≤ℤ◌, ◌<ℤ◌, ◌+ℤ◌, ◌*ℤ◌, ℤ, ℕ, pos, unsigned_abs, FitsUnsignedBits, arith, ◌∙◌, ap, ints, div-add-mod', div_below, le-div, mul-lt, div-le_self, IsFloored, IsQuotient, IsRemainder, EachFits, Divides, IsLeastCommonMultiple, products}
 use Rattle.integer_core.proofs.Quotients.{only_floored}
-use Rattle.integer_core.proofs.Whole.{products}
 use Rattle.num_integer.proofs.FlooredByPositive.{floored_by_range}
 use Rattle.num_integer.proofs.DivisorSizes.{divisor_at_most, lcm-positive}
 

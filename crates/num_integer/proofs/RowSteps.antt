@@ -1,19 +1,13 @@
 -- Rows: from one coefficient to the next, and the rest of a row.
 use Rattle.std.specs.List.{All}
-use Rattle.std.specs.Prelude.{◌≤ℤ◌, ◌<ℤ◌, ◌+ℤ◌, ◌-ℤ◌, ◌*ℤ◌, ℤ, pos, negsuc, unsigned_abs, ◌≢◌, int_div, int_rem, ◌≡◌, ◌+◌, ◌-◌, ◌/◌, ◌<◌, ◌≤◌, ℕ, suc, List, [], ◌∷◌, length, drop, get_or, reverse}
-use Rattle.std.proofs.Common.{refl, sym, ◌*◌, ap, ◌∙◌, arith, min}
-use Rattle.std.proofs.lemmas.Int.{ints}
+use Rattle.integer_core.proofs.Common.{◌≤ℤ◌, ◌<ℤ◌, ◌+ℤ◌, ◌-ℤ◌, ◌*ℤ◌, ℤ, pos, negsuc, unsigned_abs, ◌≢◌, int_div, int_rem, ◌≡◌, ◌+◌, ◌-◌, ◌/◌, ◌<◌, ◌≤◌, ℕ, suc, List, [], ◌∷◌, length, drop, get_or, reverse, refl, sym, ◌*◌, ap, ◌∙◌, arith, min, ints, abs_is, comm, expand, linear, products, Divides, IsGreatestCommonDivisor, IsRange}
 use Rattle.std.proofs.lemmas.List.{at_drop_more, drop_all, get_or-reverse, length-reverse}
 use Rattle.std.proofs.lemmas.List.Elements.{All-from_get_or, All-nil}
 use Rattle.std.proofs.lemmas.List.FromFn.{fill_by_all, get_or-map-range_with_len, length-map-range_with_len}
-use borrow.Author.Differences.{abs_is}
 use Rattle.integer_core.proofs.CommonDivisors.{gcd-nonzero, gcd-positive, gcd-remainder, gcd-swap, gcd-times}
 use Rattle.integer_core.proofs.Divisibility.{cancel, Divides-cancel, exact_quotient}
 use Rattle.integer_core.proofs.EuclidTurns.{divisor_size}
 use Rattle.integer_core.proofs.Quotients.{truncated_is}
-use Rattle.integer_core.proofs.Whole.{comm, expand, linear, products}
-use Rattle.integer_core.specs.Divisors.{Divides, IsGreatestCommonDivisor}
-use Rattle.integer_core.specs.Range.{IsRange}
 use Rattle.num_integer.proofs.FittingAnswers.{fits_below}
 use Rattle.num_integer.proofs.OrderedProducts.{factor_positive}
 use Rattle.num_integer.proofs.Pascal.{mirror, next_in_row, nearer_same, rises}

@@ -1,8 +1,5 @@
 -- The numbers 0 and 1, which each lawful type has.
-use Rattle.std.specs.Prelude.{ℤ, pos}
-use Rattle.std.proofs.Common.{arith}
-use Rattle.integer_core.proofs.Whole.{linear}
-use Rattle.integer_core.specs.Range.{IsRange}
+use Rattle.integer_core.proofs.Common.{ℤ, pos, arith, linear, IsRange}
 
 -- The number 0 fits.
 pub zero_fits : {fits : ℤ → Type 0} {low high : ℤ} → IsRange fits low high → fits (pos 0)

@@ -1,6 +1,5 @@
-use Rattle.std.proofs.Common.{rules}
+use Rattle.integer_core.proofs.Common.{rules, iff_false}
 use Rattle.std.proofs.Math.Numerals.{add-two}
-use Rattle.std.proofs.lemmas.Bool.{iff_false}
 use Rattle.integer_core.proofs.BezoutAnswers.{answer_for_zero, answer_of_loop, only_answer, sign_keeps, sign_size}
 use Rattle.integer_core.proofs.GcdDomain.{gcd_fits_is}
 use Rattle.integer_core.proofs.Lame.{lame}

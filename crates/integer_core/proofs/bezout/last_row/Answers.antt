@@ -1,5 +1,4 @@
-use Rattle.std.proofs.Common.{arith}
-use Rattle.std.proofs.lemmas.Bool.{iff_false}
+use Rattle.integer_core.proofs.Common.{arith, iff_false}
 use Rattle.integer_core.proofs.EuclidTurns.{inexact}
 use Rattle.integer_core.proofs.Quotients.{inexact_quotient_fits}
 use Rattle.integer_core.proofs.RowRanges.{rows_fit_first, turn_fits, rows_fit_turn, sign_fits, turns_fit}

@@ -1,5 +1,4 @@
-use Rattle.std.specs.Prelude.{unsigned_abs}
-use Rattle.std.proofs.Common.{◌+◌}
+use Rattle.integer_core.proofs.Common.{unsigned_abs, ◌+◌}
 use Rattle.integer_core.proofs.OddLoops.{OddLoop}
 use Rattle.integer_core.proofs.stein.narrowing_gcd.Given as goal
 

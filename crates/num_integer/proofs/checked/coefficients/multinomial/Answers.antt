@@ -1,5 +1,4 @@
-use Rattle.std.proofs.Common.{arith}
-use Rattle.std.proofs.lemmas.Int.{ints}
+use Rattle.integer_core.proofs.Common.{arith, ints}
 use Rattle.num_integer.proofs.CheckedMultinomials.{checked_last, checked_next, none_past_coefficient, none_past_product, none_past_sum}
 use Rattle.num_integer.proofs.FittingAnswers.{from_test}
 use Rattle.num_integer.proofs.checked.coefficients.multinomial.Goals as goal

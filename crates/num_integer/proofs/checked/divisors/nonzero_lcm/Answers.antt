@@ -1,7 +1,5 @@
-use Rattle.std.specs.Prelude.{◌*ℤ◌}
-use Rattle.std.proofs.Common.{◌∙◌}
+use Rattle.integer_core.proofs.Common.{◌*ℤ◌, ◌∙◌, IsLeastCommonMultiple}
 use Rattle.integer_core.proofs.CommonDivisors.{gcd-nonzero, gcd-positive, only_lcm}
-use Rattle.integer_core.specs.Divisors.{IsLeastCommonMultiple}
 use Rattle.num_integer.proofs.CheckedAnswers.{answer_only, answers_only, lcm_by_gcd, negated_is, product_fits_by_size, same_size}
 use Rattle.num_integer.proofs.FittingAnswers.{from_test}
 use Rattle.num_integer.proofs.FlooredByPositive.{operator_quotient_fits}
