@@ -1,12 +1,12 @@
 -- A row of the loop gives the answer.
-use Rattle.integer_core.proofs.Common.{◌≡◌, ◌≢◌, ◌<◌, ◌*ℤ◌, ℤ, pos, negsuc, unsigned_abs, arith, inl, inr, sym, ◌∙◌, ap, zero-*ℤ, *ℤ-zero, +ℤ_idl, +ℤ_idr, ints, unsigned_abs-mul, abs_is, linear, products, expand, comm, Divides, IsGreatestCommonDivisor, IsOnly}
+use Rattle.integer_core.proofs.Common.{◌≡◌, ◌≢◌, ◌<◌, ◌*ℤ◌, ℤ, pos, negsuc, unsigned_abs, arith, inl, inr, sym, ◌∙◌, ap, zero-*ℤ, *ℤ-zero, +ℤ_idl, +ℤ_idr, ints, unsigned_abs-mul, abs_is, linear, products, expand, comm, Divides, IsGreatestCommonDivisor, IsOnly, ◌⊎◌}
 use Rattle.integer_core.proofs.CommonDivisors.{only_gcd, gcd-divisor, gcd-swap, gcd-nonzero, gcd-zero}
-use Rattle.integer_core.proofs.Divisibility.{Divides-zero, cancel}
-use Rattle.integer_core.proofs.EuclidTurns.{divides_or_not}
-use Rattle.integer_core.proofs.Quotients.{small_multiple}
+use Rattle.integer_core.proofs.Divisibility.{Divides-zero, cancel, divides_or_not}
+use Rattle.integer_core.proofs.Quotients.{small_multiple, zero_or_not}
 use Rattle.integer_core.proofs.SmallPairs.{only_small}
 use Rattle.integer_core.proofs.Whole.{mul-one}
-use Rattle.integer_core.specs.Bezout.{IsBezoutAnswer, IsSmallPair, NeedsBoth, SecondDividesFirst, sign}
+use Rattle.integer_core.specs.Bezout.{IsBezoutAnswer, IsSmallPair, NeedsBoth, SecondDividesFirst, sign, FirstDividesSecond}
+use Rattle.integer_core.proofs.Rows.{rows_first, last_rows, last_gcd, last_at_once, last_after_turns}
 
 -- ---- a row r, x, y under the sign of r
 
@@ -76,3 +76,39 @@ pub only_answer : {a b g x y : ℤ} → IsBezoutAnswer a b g x y → NeedsBoth a
 only_answer {b = b} h needs =
     let nonzero : b ≢ pos 0 = λ none. needs.not_first (inl none) in
     only_small nonzero (gcd-nonzero h.greatest nonzero) (h.both needs)
+
+-- ---- a pair of numbers has exactly one Bezout answer
+
+pub bezout_answer_exists : (a b : ℤ) → (g x y : ℤ) × IsBezoutAnswer a b g x y
+bezout_answer_exists a b = elim (zero_or_not b) [
+  | inl none ↦ (_, _, _, answer_for_zero none)
+  | inr nonzero ↦
+      let last = (last_rows (rows_first a b nonzero)).0 in
+      let rows = last.rows in
+      (_, _, _, answer_of_loop nonzero (last_gcd rows last.ends) (last_at_once rows) (last_after_turns rows last.ends))
+]
+
+-- a pair is in one of the three cases of an answer
+three_cases : (a b : ℤ) → SecondDividesFirst a b ⊎ (((¬ (SecondDividesFirst a b)) × FirstDividesSecond a b) ⊎ NeedsBoth a b)
+three_cases a b = elim (zero_or_not b) [
+  | inl none ↦ inr (inl (λ second. second.nonzero none, inl none))
+  | inr nonzero ↦ elim (divides_or_not b a nonzero) [
+    | inl divides ↦ inl (record { nonzero = nonzero; divides = divides })
+    | inr not_second ↦ elim (divides_or_not a b (λ none. not_second (rw none (Divides-zero b)))) [
+      | inl divides ↦ inr (inl (λ second. not_second second.divides, inr divides))
+      | inr not_first ↦ inr (inr (record {
+        not_second = λ second. not_second second.divides;
+        not_first = elim [ inl none ↦ nonzero none | inr divides ↦ not_first divides ];
+      }))
+    ]
+  ]
+]
+
+pub bezout_answer_is_only : (a b g x y : ℤ) → IsBezoutAnswer a b g x y → IsOnly (λ (h, z, w). IsBezoutAnswer a b h z w) (g, x, y)
+bezout_answer_is_only a b g x y p (h, z, w) q =
+    let same : h ≡ g = only_gcd q.greatest p.greatest in
+    elim (three_cases a b) [
+      | inl second ↦ let left = p.second_divides second in let right = q.second_divides second in cc
+      | inr (inl first) ↦ let left = p.first_divides first.0 first.1 in let right = q.first_divides first.0 first.1 in cc
+      | inr (inr needs) ↦ let equal = only_answer p needs (z, w) (rw same at (q.both needs)) in λ i. (same i, (equal i).0, (equal i).1)
+    ]

@@ -39,8 +39,8 @@ only_gcd_run h m i =
 zero_or_least : (low x : ℤ) → IsZeroOrLeast low x ⊎ (¬ (IsZeroOrLeast low x))
 zero_or_least low x = grind (arith, linear)
 
-pub only_gcd_turns : {low a b : ℤ} {n : ℕ} → AreGcdTurns low a b n → IsOnly (AreGcdTurns low a b) n
-only_gcd_turns {low} {a} {b} h m i = elim (zero_or_least low a) [
+pub gcd_turns_are_only : (low a b : ℤ) (n : ℕ) → AreGcdTurns low a b n → IsOnly (AreGcdTurns low a b) n
+gcd_turns_are_only low a b n h m i = elim (zero_or_least low a) [
   | inl left ↦ i.at_once (inl left) ∙ sym (h.at_once (inl left))
   | inr left ↦ elim (zero_or_least low b) [
     | inl right ↦ i.at_once (inr right) ∙ sym (h.at_once (inr right))

@@ -11,6 +11,14 @@ LiesWithin n z = Between (pos 0) n z ⊎ Between n (pos 0) z
 pub within_fits : {fits : ℤ → Type 0} {low high n z : ℤ} → IsRange fits low high → fits n → LiesWithin n z → fits z
 within_fits {n = n} {z = z} range n_fits within = (range.between z).1 (omega (arith, linear, (range.between n).0 n_fits))
 
+-- the number 0 fits
+pub zero_fits : {fits : ℤ → Type 0} {low high : ℤ} → IsRange fits low high → fits (pos 0)
+zero_fits range = (range.between (pos 0)).1 (omega (arith, linear, range.low_end, range.positive))
+
+-- the number 1 fits
+pub one_fits : {fits : ℤ → Type 0} {low high : ℤ} → IsRange fits low high → fits (pos 1)
+one_fits range = (range.between (pos 1)).1 (omega (arith, linear, range.low_end, range.positive))
+
 -- the distance of a negative number from -1
 pub distance_fits : {fits : ℤ → Type 0} {low high x : ℤ} → IsRange fits low high → fits x → x <ℤ pos 0 → fits (pos 0 -ℤ (x +ℤ pos 1))
 distance_fits {x = x} range x_fits negative = (range.between _).1 (omega (arith, linear, range.low_end, (range.between x).0 x_fits))

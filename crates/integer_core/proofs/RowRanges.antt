@@ -1,12 +1,10 @@
 -- The rows of the extended Euclidean algorithm stay in the range of their type, and are few.
 use Rattle.integer_core.proofs.Common.{◌≡◌, ◌≢◌, ◌⊎◌, ◌<◌, ◌≤◌, ◌+◌, ◌*◌, ◌^◌, ◌≤ℤ◌, ◌-ℤ◌, ◌*ℤ◌, ℤ, ℕ, pos, negsuc, unsigned_abs, arith, inl, inr, ◌∙◌, zero-*ℤ, +ℤ_idr, unsigned_abs-mul, abs_is, linear, products, IsTruncated, Divides, IsRange}
-use Rattle.integer_core.proofs.BezoutCoefficients.{IsWeighed, halves}
-use Rattle.integer_core.proofs.Divisibility.{rest_is}
-use Rattle.integer_core.proofs.EuclidTurns.{truncated_size, inexact, not_one, divisor_size}
-use Rattle.integer_core.proofs.GcdDomain.{no_minus_one}
-use Rattle.integer_core.proofs.Lame.{few_turns}
+use Rattle.integer_core.proofs.Rows.{IsWeighed, halves, Row, Rows, of_first, of_second, next_row, rows_first, rows_turn, last_rows}
+use Rattle.integer_core.proofs.Divisibility.{rest_is, divisor_size}
+use Rattle.integer_core.proofs.EuclidTurns.{truncated_size, inexact, not_one, few_turns}
+use Rattle.integer_core.proofs.CommonDivisors.{no_minus_one}
 use Rattle.integer_core.proofs.Quotients.{zero_or_not, small_multiple}
-use Rattle.integer_core.proofs.Rows.{Row, Rows, of_first, of_second, next_row, rows_first, rows_turn, last_rows}
 use Rattle.integer_core.proofs.Runs.{reaches_last}
 use Rattle.integer_core.specs.Bezout.{HasPair, sign}
 

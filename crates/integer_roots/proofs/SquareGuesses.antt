@@ -3,9 +3,8 @@ use Rattle.integer_core.proofs.Common.{pos, ◌≡◌, ℕ, zero, suc, ◌+◌, 
 use Rattle.integer_core.proofs.Runs.{Reaches, reaches_first, reaches_turn, reaches_instead, reaches_last}
 use Rattle.integer_roots.specs.SquareRuns.{square_step, Guess, Rising, Falling, IsNewtonTurn, NewtonEnds, IsHighestBit, first_guess, AreSquareRootTurns}
 use Rattle.integer_roots.specs.NewtonRuns.{guess_of, IsReached, begins, rises, goes_over, falls}
-use Rattle.integer_roots.proofs.NewtonStep.{cross, square_step_is}
+use Rattle.integer_roots.proofs.RootGuesses.{cross, square_step_is, IsStart, start, in_range}
 use Rattle.integer_roots.proofs.Powers.{highest_bit, power_two}
-use Rattle.integer_roots.proofs.RootGuesses.{IsStart, start, in_range}
 
 -- the factor after a number of turns: that factor, times the excess of the guess's square over a, is at most a
 abbrev pub closeness : ℕ → ℕ

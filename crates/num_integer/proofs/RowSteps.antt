@@ -5,12 +5,11 @@ use Rattle.std.proofs.lemmas.List.{at_drop_more, drop_all, get_or-reverse, lengt
 use Rattle.std.proofs.lemmas.List.Elements.{All-from_get_or, All-nil}
 use Rattle.std.proofs.lemmas.List.FromFn.{fill_by_all, get_or-map-range_with_len, length-map-range_with_len}
 use Rattle.integer_core.proofs.CommonDivisors.{gcd-nonzero, gcd-positive, gcd-remainder, gcd-swap, gcd-times}
-use Rattle.integer_core.proofs.Divisibility.{cancel, Divides-cancel, exact_quotient}
-use Rattle.integer_core.proofs.EuclidTurns.{divisor_size}
+use Rattle.integer_core.proofs.Divisibility.{cancel, Divides-cancel, exact_quotient, divisor_size}
 use Rattle.integer_core.proofs.Quotients.{truncated_is}
 use Rattle.num_integer.proofs.FittingAnswers.{fits_below}
 use Rattle.num_integer.proofs.OrderedProducts.{factor_positive}
-use Rattle.num_integer.proofs.Pascal.{mirror, next_in_row, nearer_same, rises}
+use Rattle.num_integer.proofs.Pascal.{coefficient_mirror, next_in_row, nearer_same, rises}
 use Rattle.num_integer.specs.Coefficient.{coefficient, coefficient_of}
 use Rattle.num_integer.specs.Laws.{RowIsGreatestInMiddle, RowIsPalindrome, RowLength}
 use Rattle.num_integer.specs.Row.{IsPlaceInRow, RowFits, row_of}
@@ -142,21 +141,21 @@ each_item P n each = All-from_get_or P (row_of (pos n)) (pos 0) (λ k h.
     let within : k ≤ n = omega (arith, length-row n) in
     rw (row_at n k (pos 0) within) (each k within))
 
-pub greatest_in_middle : RowIsGreatestInMiddle
+pub row_is_greatest_in_middle : RowIsGreatestInMiddle
 unfolding row_of
-greatest_in_middle (pos n) = each_item (λ (item : ℤ). item ≤ℤ pos (coefficient n (n / 2))) n (λ k h. omega (arith, ints, below_middle n k h))
-greatest_in_middle (negsuc n) = All-nil (λ (item : ℤ). item ≤ℤ pos (coefficient (suc n) (suc n / 2)))
+row_is_greatest_in_middle (pos n) = each_item (λ (item : ℤ). item ≤ℤ pos (coefficient n (n / 2))) n (λ k h. omega (arith, ints, below_middle n k h))
+row_is_greatest_in_middle (negsuc n) = All-nil (λ (item : ℤ). item ≤ℤ pos (coefficient (suc n) (suc n / 2)))
 
 -- a row is symmetric
-pub backwards : RowIsPalindrome
+pub row_is_palindrome : RowIsPalindrome
 unfolding row_of
-backwards (pos n) =
+row_is_palindrome (pos n) =
     let long : length (reverse (row_of (pos n))) ≡ n + 1 = length-reverse (row_of (pos n)) ∙ length-row n in
     fill_by_all (λ k. pos (coefficient n k)) (reverse (row_of (pos n))) (n + 1) (pos 0) long (λ k h.
     let within : k ≤ n = omega arith in
     let at : length (row_of (pos n)) - 1 - k ≡ n - k = omega (arith, length-row n) in
-    get_or-reverse (row_of (pos n)) k (pos 0) (omega (arith, length-row n)) ∙ rw (at, row_at n (n - k) (pos 0) (omega arith)) (ap pos (sym (mirror n k within))))
-backwards (negsuc n) = refl
+    get_or-reverse (row_of (pos n)) k (pos 0) (omega (arith, length-row n)) ∙ rw (at, row_at n (n - k) (pos 0) (omega arith)) (ap pos (sym (coefficient_mirror n k within))))
+row_is_palindrome (negsuc n) = refl
 
 -- each item of a row that fits is in range
 pub row_in_range : {fits : ℤ → Type 0} {low high : ℤ} (n : ℤ) → IsRange fits low high → RowFits fits n → All fits (row_of n)
@@ -182,6 +181,6 @@ module _ {fits : ℤ → Type 0} {low high n k item : ℤ} (range : IsRange fits
   place_fits = let up = place.k_from_zero in fits_below range (place.row_fits (omega (arith, ints))).0 (omega (arith, ints)) (omega (arith, ints))
 
 -- a row has one item more than n
-pub one_item_more : RowLength
-one_item_more (pos n) up = ap pos (length-row n)
-one_item_more (negsuc n) up = absurd (omega (arith, ints))
+pub row_length : RowLength
+row_length (pos n) up = ap pos (length-row n)
+row_length (negsuc n) up = absurd (omega (arith, ints))

@@ -1,8 +1,8 @@
 use Rattle.integer_core.proofs.Common.{rules, iff_false}
 use Rattle.std.proofs.Math.Numerals.{add-two}
 use Rattle.integer_core.proofs.BezoutAnswers.{answer_for_zero, answer_of_loop, only_answer, sign_keeps, sign_size}
-use Rattle.integer_core.proofs.GcdDomain.{gcd_fits_is}
-use Rattle.integer_core.proofs.Lame.{lame}
+use Rattle.integer_core.proofs.CommonDivisors.{gcd_fits_is}
+use Rattle.integer_core.proofs.EuclidTurns.{lame}
 use Rattle.integer_core.proofs.RowRanges.{first_fits, sign_fits}
 use Rattle.integer_core.proofs.bezout.extended_gcd_counted.Goals as goal
 
