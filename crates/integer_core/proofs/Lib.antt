@@ -11,6 +11,4 @@ pub mod SteinSteps
 pub mod EuclidTurns
 pub mod GcdTurns
 pub mod Rows
-pub mod RowRanges
-pub mod SmallPairs
 pub mod BezoutAnswers

@@ -1,26 +1,16 @@
 -- Stein's method on the values of an unsigned type.
-use Rattle.integer_core.proofs.Common.{◌≡◌, ◌≢◌, ◌↔◌, ◌⊎◌, ◌≤ℤ◌, ℤ, pos, unsigned_abs, IsGcd, ℕ, min, ◌*◌, ◌%◌, ◌^◌, ◌<◌, refl, sym, subst, arith, inl, inr, ints, abs_is, linear, eq-one_of_dvd-one, one-dvd, dvd_refl, le_of_dvd, IsGreatestCommonDivisor, ◌+◌, List, [], ◌∷◌, map, ◌∙◌, IsRun, RunHasTurns}
+use Rattle.integer_core.proofs.Common.{natural, ◌≡◌, ◌≢◌, ◌↔◌, ◌⊎◌, ◌≤ℤ◌, ℤ, pos, unsigned_abs, IsGcd, ℕ, ◌*◌, ◌%◌, ◌^◌, ◌<◌, refl, sym, subst, arith, inl, inr, ints, abs_is, linear, eq-one_of_dvd-one, one-dvd, dvd_refl, le_of_dvd, IsGreatestCommonDivisor, ◌+◌, List, [], ◌∷◌, map, ◌∙◌, IsRun, RunHasTurns}
 use Rattle.std.specs.Int.{IsPowerOfTwo}
 use Rattle.integer_core.proofs.CommonDivisors.{gcd-magnitudes, gcd-zero}
-use Rattle.integer_core.proofs.NaturalGcd.{gcd_shift, odd_divisor, odd_divides}
+use Rattle.integer_core.proofs.NaturalGcd.{odd_divisor, odd_divides}
 use Rattle.integer_core.specs.GcdRuns.{AreWithinBits, IsCountedGcd, IsOddPart, MakesGcdRun, exchanged, GcdEnds, IsGcdTurn, IsOddGcd, IsOrderedTurn, OddPair}
 use Rattle.std.proofs.lemmas.List.{length-map}
 use Rattle.integer_core.proofs.OddParts.{Turning, turning_ends, turning_small, turning_turn, turns_fit}
 use Rattle.integer_core.proofs.Runs.{Reaches, reaches_first, reaches_instead, reaches_last, reaches_turn}
 
-natural : {z : ℤ} → pos 0 ≤ℤ z → z ≡ pos (unsigned_abs z)
-natural up = omega (arith, linear, abs_is)
-
 -- the gcd of a number and 0 is the number
 pub gcd_with_zero : {n : ℤ} → pos 0 ≤ℤ n → IsGreatestCommonDivisor n (pos 0) n
 gcd_with_zero {n} up = subst (λ g. IsGreatestCommonDivisor n (pos 0) g) (sym (natural up)) (gcd-zero n)
-
-pub gcd_of_same : (m n : ℕ) → m ≡ n → IsGcd m n m
-gcd_of_same m n e = subst (λ (x : ℕ). IsGcd m x m) e (dvd_refl m, dvd_refl m, λ d h k. h)
-
--- the gcd of two numbers by that of their odd parts
-pub gcd_of_odd_parts : {a b m n k g : ℕ} (i j : ℕ) → a ≡ m * 2 ^ i → b ≡ n * 2 ^ j → k ≡ min i j → m % 2 ≡ 1 → n % 2 ≡ 1 → IsGcd m n g → IsGcd a b (g * 2 ^ k)
-gcd_of_odd_parts i j a_is b_is k_is m_odd n_odd h = rw (a_is, b_is, k_is) (gcd_shift i j m_odd n_odd h)
 
 -- it is positive, and at most each positive number
 pub gcd_positive : {m n g : ℕ} → m % 2 ≡ 1 → IsGcd m n g → 0 < g
@@ -132,7 +122,7 @@ module _ {a b : ℕ} where
 
     pub loop_ends : m ≡ n → IsOddGcd a b m t
     loop_ends same = record {
-      greatest = v.kept.same _ (gcd_of_same _ _ same);
+      greatest = v.kept.same _ (subst (λ (x : ℕ). IsGcd m x m) same (dvd_refl m, dvd_refl m, λ d h k. h));
       run = reaches_last v.reached same;
       few = turning_ends v.kept;
     }

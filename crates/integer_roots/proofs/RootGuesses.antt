@@ -53,10 +53,6 @@ newton_below {a} {x = x} k s positive h =
 pub newton_above : {a n x y : ℕ} → IsNewtonStep a n x y → a < (y + 1) ^ n
 newton_above {y = y} s = lt_of_not-le (λ h. omega (arith, newton_least (y + 1) s h))
 
--- as has that after a guess that is at least its step
-pub newton_settled : {a n x y : ℕ} → IsNewtonStep a n x y → y ≤ x → a < (x + 1) ^ n
-newton_settled {n = n} {x = x} {y = y} s h = omega (arith, newton_above s, pow-le-pow_left {n = y + 1} {m = x + 1} (omega arith) n)
-
 -- a guess that is at most its step has a power of at most a
 pub newton_stays : {a n x y : ℕ} → IsNewtonStep a n x y → x ≤ y → x ^ n ≤ a
 newton_stays {a} {n} {x} s h =
@@ -147,7 +143,8 @@ module _ {step : ℕ → ℕ → Type 0} {a n limit first : ℕ} (known : IsStar
 
   -- no guess of the second loop is below the root
   above_root : {x turns : ℕ} → IsReached step first (Falling x) turns → a < (x + 1) ^ n
-  above_root (goes_over {x} {y} reached is down) = newton_settled (stepped x y is (in_range reached).above_one) down
+  above_root (goes_over {x} {y} reached is down) =
+      omega (arith, newton_above (stepped x y is (in_range reached).above_one), pow-le-pow_left {n = y + 1} {m = x + 1} (omega arith) n)
   above_root (falls {x} {y} reached is down) = newton_above (stepped x y is (in_range reached).above_one)
 
   -- so the guess at which they end is the root

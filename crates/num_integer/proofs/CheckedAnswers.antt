@@ -39,10 +39,6 @@ product_fits_by_size {low = low} a b range a_fits b_fits size_fits =
 pub negated_is : (z : ℤ) → z <ℤ pos 0 → neg_ℤ z ≡ pos (unsigned_abs z)
 negated_is z below = omega (arith, sizes)
 
--- a number that is not negative is its magnitude
-pub same_size : (z : ℤ) → pos 0 ≤ℤ z → z ≡ pos (unsigned_abs z)
-same_size z up = omega (arith, sizes)
-
 -- 0 minus a number is its negation
 pub zero_minus : (z : ℤ) → pos 0 -ℤ z ≡ neg_ℤ z
 zero_minus z = omega (arith, linear)

@@ -52,7 +52,7 @@ pub use Rattle.integer_roots.proofs.MagnitudeRoots.{first_root, root_in_range}
 pub use Rattle.integer_roots.proofs.OnlyAnswers.{root_is_only_one}
 pub use Rattle.integer_roots.proofs.Powers.{power_of_one, power_of_power, power_of_zero}
 pub use Rattle.num_integer.proofs.IntegerPowers.{even_or_odd, even_power, int_pow-suc, int_pow-zero, odd_power, power_of_square, power_size}
-pub use Rattle.num_integer.proofs.ExactRoots.{root_by_squares, exact_power_root, square_root_of_square}
+pub use Rattle.num_integer.proofs.IntegerPowers.{root_by_squares, exact_power_root, square_root_of_square}
 -- ---- coefficients
 
 pub use Rattle.num_integer.proofs.Pascal.{coefficient-pos, coefficient-zero, factorial-pos, none_above}

@@ -11,7 +11,6 @@ pub mod OrderedProducts
 pub mod FlooredByPositive
 pub mod DivisorSizes
 pub mod Coprimes
-pub mod ExactRoots
 pub mod NaturalDivision
 pub mod LiteralMultiples
 pub mod ForCallers

@@ -1,12 +1,9 @@
 -- Division of natural numbers, as `/` and `%` say it.
-use Rattle.integer_core.proofs.Common.{◌≡◌, ◌↔◌, ◌<◌, ◌≤◌, ◌+◌, ◌-◌, ◌*◌, ◌/◌, ◌%◌, ◌^◌, ◌≤ℤ◌, ◌<ℤ◌, ◌+ℤ◌, ◌*ℤ◌, ℤ, ℕ, pos, unsigned_abs, FitsUnsignedBits, arith, ◌∙◌, ap, ints, div-add-mod', div_below, le-div, mul-lt, div-le_self, IsFloored, IsQuotient, IsRemainder, EachFits, Divides, IsLeastCommonMultiple, products, suc, IsCeiled, linear}
+use Rattle.integer_core.proofs.Common.{◌≡◌, ◌↔◌, ◌<◌, ◌≤◌, ◌+◌, ◌-◌, ◌*◌, ◌/◌, ◌%◌, ◌^◌, ◌≤ℤ◌, ◌<ℤ◌, ◌+ℤ◌, ◌*ℤ◌, ℤ, ℕ, pos, unsigned_abs, FitsUnsignedBits, arith, ap, ints, div-add-mod', div_below, le-div, mul-lt, div-le_self, IsFloored, IsQuotient, IsRemainder, EachFits, Divides, IsLeastCommonMultiple, products, suc, IsCeiled, linear}
 use Rattle.integer_core.proofs.Quotients.{only_floored}
 use Rattle.num_integer.proofs.FlooredByPositive.{floored_by_range, ceiled_remainder_range, floored_range}
 use Rattle.num_integer.proofs.DivisorSizes.{divisor_at_most, lcm-positive}
 use Rattle.integer_core.proofs.Divisibility.{Divides-trans, divides_magnitude, magnitude_divides}
-
-multiple_alone : (d k : ℤ) → d *ℤ k ≡ k *ℤ d +ℤ pos 0
-multiple_alone d k = omega (arith, products)
 
 -- the quotient and the remainder of natural numbers are floored
 pub natural_division : (n d : ℕ) → 0 < d → IsFloored (pos n) (pos d) (pos (n / d)) (pos (n % d))
@@ -32,7 +29,7 @@ natural_quotient_fits bits {n} {d} small up q h = rw (only_floored h.division (n
 pub divides_is_natural : {d n : ℕ} → 0 < d → Divides (pos d) (pos n) ↔ (n % d ≡ 0)
 divides_is_natural {d} {n} up = (
   λ h.
-      let own : IsRemainder IsFloored (pos n) (pos d) (pos 0) = record { quotient = h.factor; division = floored_by_range (h.product ∙ multiple_alone (pos d) h.factor) (omega (arith, ints)) (omega (arith, ints)) } in
+      let own : IsRemainder IsFloored (pos n) (pos d) (pos 0) = record { quotient = h.factor; division = floored_by_range (omega (arith, products, h.product)) (omega (arith, ints)) (omega (arith, ints)) } in
       omega (arith, ints, remainder_is_natural up own),
   λ e. record { factor = pos (n / d); product = omega (arith, ints) },
 )

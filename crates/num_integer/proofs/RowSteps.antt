@@ -165,11 +165,6 @@ row_in_range {fits} (negsuc n) range row = All-nil fits
 
 -- ---- the steps of an iterator over the row of n
 
--- a new iterator begins at the first item
-pub place_first : {fits : ℤ → Type 0} {n k item : ℤ} → fits n → RowFits fits n → fits k → k ≡ pos 0 → fits item → IsPlaceInRow fits n k item
-place_first n_fits row k_fits none item_fits =
-    record { n_in_range = n_fits; k_in_range = k_fits; k_from_zero = omega (arith, ints); row_fits = row; item_in_range = item_fits; item_is = λ above. absurd (omega (arith, ints)) }
-
 -- neither the next item nor the next place leaves the type
 module _ {fits : ℤ → Type 0} {low high n k item : ℤ} (range : IsRange fits low high) (place : IsPlaceInRow fits n k item) (within : k ≤ℤ n) where
   pub item_fits : fits (coefficient_of n k)

@@ -3,7 +3,7 @@ use Rattle.std.proofs.Math.Numerals.{add-two}
 use Rattle.integer_core.proofs.BezoutAnswers.{answer_for_zero, answer_of_loop, only_answer, sign_keeps, sign_size}
 use Rattle.integer_core.proofs.CommonDivisors.{gcd_fits_is}
 use Rattle.integer_core.proofs.EuclidTurns.{lame}
-use Rattle.integer_core.proofs.RowRanges.{first_fits, sign_fits}
+use Rattle.integer_core.proofs.Rows.{first_fits, sign_fits}
 use Rattle.integer_core.proofs.bezout.extended_gcd_counted.Goals as goal
 
 pub normalized-requires : goal.normalized-requires
