@@ -1,4 +1,4 @@
--- Stein's method on the values of an unsigned type.
+-- Stein's method on the values of an unsigned type, and what its loops keep.
 use Rattle.integer_core.proofs.Common.{natural, ◌≡◌, ◌≢◌, ◌↔◌, ◌⊎◌, ◌≤ℤ◌, ℤ, pos, unsigned_abs, IsGcd, ℕ, ◌*◌, ◌%◌, ◌^◌, ◌<◌, refl, sym, subst, arith, inl, inr, ints, abs_is, linear, eq-one_of_dvd-one, one-dvd, dvd_refl, le_of_dvd, IsGreatestCommonDivisor, ◌+◌, List, [], ◌∷◌, map, ◌∙◌, IsRun, RunHasTurns}
 use Rattle.std.specs.Int.{IsPowerOfTwo}
 use Rattle.integer_core.proofs.CommonDivisors.{gcd-magnitudes, gcd-zero}
@@ -12,11 +12,11 @@ use Rattle.integer_core.proofs.Runs.{Reaches, reaches_first, reaches_instead, re
 pub gcd_with_zero : {n : ℤ} → pos 0 ≤ℤ n → IsGreatestCommonDivisor n (pos 0) n
 gcd_with_zero {n} up = subst (λ g. IsGreatestCommonDivisor n (pos 0) g) (sym (natural up)) (gcd-zero n)
 
--- it is positive, and at most each positive number
+-- a gcd with an odd number is positive
 pub gcd_positive : {m n g : ℕ} → m % 2 ≡ 1 → IsGcd m n g → 0 < g
 gcd_positive {m} {n} {g} odd h = let o = odd_divisor g m h.0 odd in omega arith
 
--- so it fits if one of the two does
+-- a gcd fits if one of the two numbers does
 pub gcd_fits : {fits : ℤ → Type 0} {a : ℤ} {b g : ℕ} → ((y : ℤ) → pos 0 ≤ℤ y → y ≤ℤ a → fits y) → pos 0 ≤ℤ a → 0 < unsigned_abs a
     → IsGcd (unsigned_abs a) b g → fits (pos g)
 gcd_fits within up positive h =

@@ -82,7 +82,7 @@ ceiled_quotient_range h =
     let equation = h.division.division.equation in
     (omega (arith, linear), omega (arith, linear))
 
--- the remainder of the magnitude of an integer by a divisor is 0
+-- d divides an integer exactly if the remainder of its magnitude is 0
 pub divides_by_magnitude : (z : ℤ) (d : ℕ) → 0 < d → Divides (pos d) z ↔ (unsigned_abs z % d ≡ 0)
 divides_by_magnitude z d up =
     let natural = divides_is_natural {d = d} {n = unsigned_abs z} up in
