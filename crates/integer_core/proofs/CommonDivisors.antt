@@ -107,8 +107,8 @@ lcm-zero with_zero = record {
   least = λ m h k. elim with_zero [ inl none ↦ rw none at h | inr none ↦ rw none at k ];
 }
 
--- times the gcd it is the magnitude of the product
-lcm-product : {a b g l : ℤ} → IsGreatestCommonDivisor a b g → b ≢ pos 0 → pos (unsigned_abs (a *ℤ b)) ≡ g *ℤ l → IsLeastCommonMultiple a b l
+-- a number that times the gcd is the magnitude of the product is the lcm
+pub lcm-product : {a b g l : ℤ} → IsGreatestCommonDivisor a b g → b ≢ pos 0 → pos (unsigned_abs (a *ℤ b)) ≡ g *ℤ l → IsLeastCommonMultiple a b l
 lcm-product {a} {b} {g} {l} x b_nonzero e =
     let nonzero = gcd-nonzero x b_nonzero in
     record {

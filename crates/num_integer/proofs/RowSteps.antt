@@ -43,14 +43,6 @@ module _ {n k c a b : ℤ} (up : pos 0 ≤ℤ k) (below : k <ℤ n) (is : c ≡ 
   pub next_only : (x : ℤ) → x *ℤ b ≡ c *ℤ a → x ≡ coefficient_of n (k +ℤ pos 1)
   next_only x e = cancel b x (coefficient_of n (k +ℤ pos 1)) (λ z. absurd (omega (arith, ints))) (comm b x ∙ e ∙ product_is)
 
--- the same over natural numbers
-module _ {n k c : ℕ} (below : k < n) (is : c ≡ coefficient n k) where
-  pub next_natural_divides : Divides (pos (k + 1)) (pos (c * (n - k)))
-  next_natural_divides = next_divides {n = pos n} {k = pos k} (omega (arith, ints)) (omega (arith, ints)) (ap pos is) (sym (difference_is n k (omega arith))) refl
-
-  pub next_natural : (x : ℕ) → pos (x * (k + 1)) ≡ pos (c * (n - k)) → x ≡ coefficient n (k + 1)
-  next_natural x e = ap unsigned_abs (next_only {n = pos n} {k = pos k} (omega (arith, ints)) (omega (arith, ints)) (ap pos is) (sym (difference_is n k (omega arith))) refl (pos x) e)
-
 -- ---- an exact quotient r * a / b, cancelled by the greatest common divisor g of r and b
 
 regrouped : (r a b g q s t : ℤ) → r ≡ g *ℤ q → b ≡ g *ℤ s → a ≡ s *ℤ t → q *ℤ t *ℤ b ≡ r *ℤ a
