@@ -1,7 +1,6 @@
 -- The laws of specs/Laws.antt, by their names in small letters: lemmas of this file, and lemmas from elsewhere that are passed on.
 use Rattle.integer_core.proofs.Common.{IsMultiple, IsOnly, IsQuotient, IsRemainder, arith, pos, products, refl, sym, ℤ, ◌∙◌}
 use Rattle.integer_core.proofs.CommonDivisors as common
-use Rattle.integer_core.proofs.CommonDivisors as domain
 use Rattle.integer_core.proofs.Quotients as quotients
 use Rattle.integer_roots.proofs.OnlyAnswers as roots
 use Rattle.num_integer.proofs.FittingAnswers.{each_kind}
@@ -56,7 +55,7 @@ pub gcd_of_zeros : law.GcdOfZeros
 gcd_of_zeros = common.gcd-zero (pos 0)
 
 pub gcd_fits_exactly : (fits : ℤ → Type 0) → law.GcdFitsExactly fits
-gcd_fits_exactly = λ fits low high a b range. domain.gcd_fits_is range
+gcd_fits_exactly = λ fits low high a b range. common.gcd_fits_is range
 
 pub lcm_is_only : law.LcmIsOnly
 lcm_is_only = λ a b l h other k. common.only_lcm k h
