@@ -1,18 +1,68 @@
--- A row of the loop gives the answer.
-use Rattle.std.specs.Prelude.{◌≡◌, ◌≢◌, ◌<◌, ◌*ℤ◌, ℤ, pos, negsuc, unsigned_abs}
-use Rattle.std.proofs.Common.{arith, inl, inr, sym, ◌∙◌, ap}
-use Rattle.std.proofs.Math.IntN.{zero-*ℤ, *ℤ-zero, +ℤ_idl, +ℤ_idr}
-use Rattle.std.proofs.lemmas.Int.{ints, unsigned_abs-mul}
-use borrow.Author.Differences.{abs_is}
+-- Bezout's coefficients: one pair alone is small, a row of the loop gives the answer, and each pair of numbers has one answer.
+use Rattle.integer_core.proofs.Common.{◌≡◌, ◌≢◌, ◌<◌, ◌*ℤ◌, ℤ, pos, negsuc, unsigned_abs, arith, inl, inr, sym, ◌∙◌, ap, zero-*ℤ, *ℤ-zero, +ℤ_idl, +ℤ_idr, ints, unsigned_abs-mul, abs_is, linear, products, expand, comm, Divides, IsGreatestCommonDivisor, IsOnly, ◌⊎◌, ◌≤◌, ◌+◌, ◌*◌, ◌-ℤ◌, ℕ, refl, mul-le-mul_left, eq_of_mul-eq-mul_left, lt_of_mul-lt-mul_right, cases_lt}
 use Rattle.integer_core.proofs.CommonDivisors.{only_gcd, gcd-divisor, gcd-swap, gcd-nonzero, gcd-zero}
-use Rattle.integer_core.proofs.Divisibility.{Divides-zero, cancel}
-use Rattle.integer_core.proofs.EuclidTurns.{divides_or_not}
-use Rattle.integer_core.proofs.Quotients.{small_multiple}
-use Rattle.integer_core.proofs.SmallPairs.{only_small}
-use Rattle.integer_core.proofs.Whole.{linear, products, expand, comm, mul-one}
-use Rattle.integer_core.specs.Bezout.{IsBezoutAnswer, IsSmallPair, NeedsBoth, SecondDividesFirst, sign}
-use Rattle.integer_core.specs.Divisors.{Divides, IsGreatestCommonDivisor}
-use Rattle.integer_core.specs.Only.{IsOnly}
+use Rattle.integer_core.proofs.Divisibility.{Divides-zero, cancel, divides_or_not}
+use Rattle.integer_core.proofs.Quotients.{small_multiple, zero_or_not}
+use Rattle.integer_core.proofs.Whole.{mul-one}
+use Rattle.integer_core.specs.Bezout.{IsBezoutAnswer, IsSmallPair, NeedsBoth, SecondDividesFirst, sign, FirstDividesSecond}
+use Rattle.integer_core.proofs.Rows.{rows_first, last_rows, last_gcd, last_at_once, last_after_turns}
+
+small_pair_swapped : {a b g x y : ℤ} → IsSmallPair a b g x y → IsSmallPair b a g y x
+small_pair_swapped h = record { equation = let e = h.equation in omega (arith, linear); x_small = h.y_small; y_small = h.x_small }
+
+-- by Cramer's rule the pairs' determinant times b is g times what the first coefficients differ by
+cramer : {a b g x y z w : ℤ} → IsSmallPair a b g x y → IsSmallPair a b g z w → (x *ℤ w -ℤ y *ℤ z) *ℤ b ≡ g *ℤ (x -ℤ z)
+cramer {x = x} {z = z} h i =
+    let onto_x = simp expand at (ap (λ (t : ℤ). x *ℤ t) i.equation) in
+    let onto_z = simp expand at (ap (λ (t : ℤ). z *ℤ t) h.equation) in
+    simp expand (omega (arith, linear))
+
+-- the determinant k of two small pairs is 0, 1 or -1, and says how their first coefficients x and z differ
+record IsDeterminant (b x z k : ℤ) : Type 0 where
+  at_most_one : b ≢ pos 0 → unsigned_abs k ≤ 1
+  of_zero : unsigned_abs k ≡ 0 → x ≡ z
+  of_one : unsigned_abs k ≡ 1 → unsigned_abs x ≡ unsigned_abs z
+
+determinant : {a b g x y z w : ℤ} → g ≢ pos 0 → IsSmallPair a b g x y → IsSmallPair a b g z w → IsDeterminant b x z (x *ℤ w -ℤ y *ℤ z)
+determinant {a} {b} {g} {x} {y} {z} {w} nonzero h i =
+    let k = x *ℤ w -ℤ y *ℤ z in
+    let product = sym (unsigned_abs-mul k b) ∙ ap unsigned_abs (cramer h i) ∙ unsigned_abs-mul g (x -ℤ z) in
+    let positive : 0 < unsigned_abs g = omega (arith, linear, abs_is) in
+    let gap : unsigned_abs (x -ℤ z) ≤ unsigned_abs x + unsigned_abs z = omega (arith, linear, abs_is) in
+    let most = mul-le-mul_left (unsigned_abs g) gap in
+    record {
+      at_most_one = λ b_nonzero.
+          let less : unsigned_abs k * unsigned_abs b < 2 * unsigned_abs b = omega (arith, linear, abs_is, h.x_small, i.x_small) in
+          let few = lt_of_mul-lt-mul_right (unsigned_abs b) less in
+          omega arith;
+      of_zero = λ none.
+          let no_product = ap (λ (n : ℕ). n * unsigned_abs b) none in
+          let no_gap = eq_of_mul-eq-mul_left (unsigned_abs g) positive (unsigned_abs (x -ℤ z)) 0 (omega arith) in
+          omega (arith, linear, abs_is);
+      of_one = λ one.
+          let whole = ap (λ (n : ℕ). n * unsigned_abs b) one in
+          eq_of_mul-eq-mul_left (unsigned_abs g) positive (unsigned_abs x) (unsigned_abs z) (omega (arith, h.x_small, i.x_small));
+    }
+
+-- two numbers of one magnitude differ by an even number, and not by 1
+differ_by_even : (m n : ℤ) → unsigned_abs m ≡ unsigned_abs n → unsigned_abs (m -ℤ n) ≢ 1
+differ_by_even m n e one = omega (arith, linear, abs_is)
+
+pub only_small : {a b g x y : ℤ} → b ≢ pos 0 → g ≢ pos 0 → IsSmallPair a b g x y → IsOnly (λ (z, w). IsSmallPair a b g z w) (x, y)
+only_small {a} {b} {g} {x} {y} b_nonzero g_nonzero h (z, w) i =
+    let first = determinant g_nonzero h i in
+    let second = determinant g_nonzero (small_pair_swapped h) (small_pair_swapped i) in
+    let opposite : unsigned_abs (y *ℤ z -ℤ x *ℤ w) ≡ unsigned_abs (x *ℤ w -ℤ y *ℤ z) = omega (arith, linear, abs_is) in
+    elim (cases_lt 0 (unsigned_abs (x *ℤ w -ℤ y *ℤ z))) [
+      | inl more ↦
+          let one : unsigned_abs (x *ℤ w -ℤ y *ℤ z) ≡ 1 = omega (arith, first.at_most_one b_nonzero) in
+          let same : unsigned_abs (x *ℤ w) ≡ unsigned_abs (y *ℤ z) =
+          simp (unsigned_abs-mul, first.of_one one, second.of_one (opposite ∙ one)) (omega arith) in
+          absurd (differ_by_even (x *ℤ w) (y *ℤ z) same one)
+      | inr none ↦
+          let zero : unsigned_abs (x *ℤ w -ℤ y *ℤ z) ≡ 0 = omega arith in
+          rw (first.of_zero zero, second.of_zero (opposite ∙ zero)) refl
+    ]
 
 -- ---- a row r, x, y under the sign of r
 
@@ -82,3 +132,39 @@ pub only_answer : {a b g x y : ℤ} → IsBezoutAnswer a b g x y → NeedsBoth a
 only_answer {b = b} h needs =
     let nonzero : b ≢ pos 0 = λ none. needs.not_first (inl none) in
     only_small nonzero (gcd-nonzero h.greatest nonzero) (h.both needs)
+
+-- ---- a pair of numbers has exactly one Bezout answer
+
+pub bezout_answer_exists : (a b : ℤ) → (g x y : ℤ) × IsBezoutAnswer a b g x y
+bezout_answer_exists a b = elim (zero_or_not b) [
+  | inl none ↦ (_, _, _, answer_for_zero none)
+  | inr nonzero ↦
+      let last = (last_rows (rows_first a b nonzero)).0 in
+      let rows = last.rows in
+      (_, _, _, answer_of_loop nonzero (last_gcd rows last.ends) (last_at_once rows) (last_after_turns rows last.ends))
+]
+
+-- a pair is in one of the three cases of an answer
+three_cases : (a b : ℤ) → SecondDividesFirst a b ⊎ (((¬ (SecondDividesFirst a b)) × FirstDividesSecond a b) ⊎ NeedsBoth a b)
+three_cases a b = elim (zero_or_not b) [
+  | inl none ↦ inr (inl (λ second. second.nonzero none, inl none))
+  | inr nonzero ↦ elim (divides_or_not b a nonzero) [
+    | inl divides ↦ inl (record { nonzero = nonzero; divides = divides })
+    | inr not_second ↦ elim (divides_or_not a b (λ none. not_second (rw none (Divides-zero b)))) [
+      | inl divides ↦ inr (inl (λ second. not_second second.divides, inr divides))
+      | inr not_first ↦ inr (inr (record {
+        not_second = λ second. not_second second.divides;
+        not_first = elim [ inl none ↦ nonzero none | inr divides ↦ not_first divides ];
+      }))
+    ]
+  ]
+]
+
+pub bezout_answer_is_only : (a b g x y : ℤ) → IsBezoutAnswer a b g x y → IsOnly (λ (h, z, w). IsBezoutAnswer a b h z w) (g, x, y)
+bezout_answer_is_only a b g x y p (h, z, w) q =
+    let same : h ≡ g = only_gcd q.greatest p.greatest in
+    elim (three_cases a b) [
+      | inl second ↦ let left = p.second_divides second in let right = q.second_divides second in cc
+      | inr (inl first) ↦ let left = p.first_divides first.0 first.1 in let right = q.first_divides first.0 first.1 in cc
+      | inr (inr needs) ↦ let equal = only_answer p needs (z, w) (rw same at (q.both needs)) in λ i. (same i, (equal i).0, (equal i).1)
+    ]

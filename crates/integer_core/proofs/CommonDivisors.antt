@@ -1,12 +1,8 @@
 -- Greatest common divisors and least common multiples.
-use Rattle.std.specs.Prelude.{◌≡◌, ◌≢◌, ◌⊎◌, ◌<◌, ◌≤ℤ◌, ◌<ℤ◌, ◌+ℤ◌, ◌-ℤ◌, ◌*ℤ◌, ℤ, ℕ, pos, unsigned_abs, zero, suc, int_div, int_rem}
-use Rattle.std.proofs.Common.{arith, inl, inr, sym, ◌∙◌}
-use Rattle.std.proofs.lemmas.Int.{ints, unsigned_abs-mul}
-use Rattle.integer_core.proofs.Whole.{linear, sizes, products, expand, comm, left_comm, dist-left}
+use Rattle.integer_core.proofs.Common.{◌≡◌, ◌≢◌, ◌⊎◌, ◌<◌, ◌≤ℤ◌, ◌<ℤ◌, ◌+ℤ◌, ◌-ℤ◌, ◌*ℤ◌, ℤ, ℕ, pos, unsigned_abs, zero, suc, int_div, int_rem, arith, inl, inr, sym, ◌∙◌, ints, unsigned_abs-mul, linear, sizes, products, expand, comm, left_comm, dist-left, IsDivision, Divides, IsGreatestCommonDivisor, IsLeastCommonMultiple, ◌↔◌, negsuc, GcdFits, IsRange, EachFits}
 use Rattle.integer_core.proofs.Quotients.{zero_or_not, truncated_is}
-use Rattle.integer_core.proofs.Divisibility.{Divides-trans, Divides-zero, Divides-antisym, zero_divides, magnitude_divides, divides_magnitude, Divides-sum, divides_number, divides_remainder, Divides-times, Divides-cancel, exact_quotient}
-use Rattle.integer_core.specs.Division.{IsDivision}
-use Rattle.integer_core.specs.Divisors.{Divides, IsGreatestCommonDivisor, IsLeastCommonMultiple}
+use Rattle.integer_core.proofs.Divisibility.{Divides-trans, Divides-zero, Divides-antisym, zero_divides, magnitude_divides, divides_magnitude, Divides-sum, divides_number, divides_remainder, Divides-times, Divides-cancel, exact_quotient, divisor_size}
+use Rattle.integer_core.proofs.Ranges.{within_fits}
 
 -- ---- greatest common divisors
 
@@ -99,8 +95,8 @@ gcd-times k up x = record {
 pub only_lcm : {a b l m : ℤ} → IsLeastCommonMultiple a b l → IsLeastCommonMultiple a b m → l ≡ m
 only_lcm x y = Divides-antisym x.from_zero y.from_zero (x.least _ y.left_divides y.right_divides) (y.least _ x.left_divides x.right_divides)
 
-pub lcm-swap : {a b l : ℤ} → IsLeastCommonMultiple a b l → IsLeastCommonMultiple b a l
-lcm-swap x = record { from_zero = x.from_zero; left_divides = x.right_divides; right_divides = x.left_divides; least = λ m h k. x.least m k h }
+pub lcm_is_symmetric : (a b l : ℤ) → IsLeastCommonMultiple a b l → IsLeastCommonMultiple b a l
+lcm_is_symmetric a b l x = record { from_zero = x.from_zero; left_divides = x.right_divides; right_divides = x.left_divides; least = λ m h k. x.least m k h }
 
 -- the lcm with 0 is 0
 pub lcm-zero : {a b : ℤ} → (a ≡ pos 0) ⊎ (b ≡ pos 0) → IsLeastCommonMultiple a b (pos 0)
@@ -111,8 +107,8 @@ lcm-zero with_zero = record {
   least = λ m h k. elim with_zero [ inl none ↦ rw none at h | inr none ↦ rw none at k ];
 }
 
--- times the gcd it is the magnitude of the product
-lcm-product : {a b g l : ℤ} → IsGreatestCommonDivisor a b g → b ≢ pos 0 → pos (unsigned_abs (a *ℤ b)) ≡ g *ℤ l → IsLeastCommonMultiple a b l
+-- a number that times the gcd is the magnitude of the product is the lcm
+pub lcm-product : {a b g l : ℤ} → IsGreatestCommonDivisor a b g → b ≢ pos 0 → pos (unsigned_abs (a *ℤ b)) ≡ g *ℤ l → IsLeastCommonMultiple a b l
 lcm-product {a} {b} {g} {l} x b_nonzero e =
     let nonzero = gcd-nonzero x b_nonzero in
     record {
@@ -160,3 +156,29 @@ lcm_exists a b = let h = lcm_of_gcd (gcd_exists a b).1 in (h.0, h.1)
 
 pub gcd-mul-lcm : {a b g l : ℤ} → IsGreatestCommonDivisor a b g → IsLeastCommonMultiple a b l → g *ℤ l ≡ pos (unsigned_abs (a *ℤ b))
 gcd-mul-lcm x y = let lcm = lcm_of_gcd x in rw (only_lcm y lcm.1) lcm.2
+
+-- ---- when a greatest common divisor fits
+
+module _ {fits : ℤ → Type 0} {low high : ℤ} (range : IsRange fits low high) where
+  -- a type without negative numbers has no -1
+  pub no_minus_one : low ≡ pos 0 → ¬ (fits (negsuc 0))
+  no_minus_one none fits_it = omega (arith, linear, (range.between (negsuc 0)).0 fits_it)
+
+  -- but each gcd
+  unsigned_gcd_fits : {a b : ℤ} → low ≡ pos 0 → fits a → fits b → EachFits fits (IsGreatestCommonDivisor a b)
+  unsigned_gcd_fits {a} {b} none a_fits b_fits g h =
+      let a_in = (range.between a).0 a_fits in
+      let b_in = (range.between b).0 b_fits in
+      elim (zero_or_not b) [
+        | inl b_zero ↦ let same = only_gcd (rw b_zero at h) (gcd-zero a) in within_fits range a_fits (grind (arith, sizes))
+        | inr nonzero ↦ let size = divisor_size h.divides_right nonzero in within_fits range b_fits (grind (arith, sizes))
+      ]
+
+  pub gcd_fits_is : {a b : ℤ} → fits a → fits b → GcdFits fits a b ↔ EachFits fits (IsGreatestCommonDivisor a b)
+  gcd_fits_is a_fits b_fits = (
+    λ h. elim (zero_or_not low) [
+      | inl none ↦ unsigned_gcd_fits none a_fits b_fits
+      | inr signed ↦ h ((range.between (negsuc 0)).1 (grind (arith, linear)))
+    ],
+    λ h _. h,
+  )

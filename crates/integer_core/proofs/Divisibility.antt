@@ -1,14 +1,7 @@
 -- Divisors of integers.
-use Rattle.std.specs.Prelude.{◌≡◌, ◌≢◌, ◌/◌, ◌≤ℤ◌, ◌+ℤ◌, ◌-ℤ◌, ◌*ℤ◌, ℤ, pos, negsuc, neg_ℤ, unsigned_abs, int_div}
-use Rattle.std.proofs.Common.{arith, sym, ◌∙◌, ap}
-use Rattle.std.proofs.lemmas.Int.{ints, unsigned_abs-mul}
-use Rattle.std.proofs.lemmas.Nat.{div-add-mod'}
-use Rattle.std.proofs.lemmas.Nat.Gcd.{dvd_antisymm, mod-eq-zero_of_dvd}
-use Prim.Native.Nat.{◌∣◌}
-use Rattle.integer_core.proofs.Whole.{linear, sizes, products, expand, comm, assoc, mul-one}
-use Rattle.integer_core.proofs.Quotients.{small_multiple, truncated_is}
-use Rattle.integer_core.specs.Division.{IsDivision}
-use Rattle.integer_core.specs.Divisors.{Divides}
+use Rattle.integer_core.proofs.Common.{◌≡◌, ◌≢◌, ◌/◌, ◌≤ℤ◌, ◌+ℤ◌, ◌-ℤ◌, ◌*ℤ◌, ℤ, pos, negsuc, neg_ℤ, unsigned_abs, int_div, arith, sym, ◌∙◌, ap, ints, unsigned_abs-mul, div-add-mod', dvd_antisymm, mod-eq-zero_of_dvd, ◌∣◌, linear, sizes, products, expand, comm, assoc, IsDivision, Divides, ◌⊎◌, abs_is, inl, inr, int_rem, le_of_dvd, ◌≤◌}
+use Rattle.integer_core.proofs.Whole.{mul-one}
+use Rattle.integer_core.proofs.Quotients.{small_multiple, truncated_is, zero_or_not}
 
 pub to_natural : {u v : ℤ} → Divides u v → unsigned_abs u ∣ unsigned_abs v
 to_natural {u} h = ∣ (unsigned_abs h.factor, ap unsigned_abs h.product ∙ unsigned_abs-mul u h.factor) ∣₁
@@ -97,3 +90,22 @@ exact_quotient {n} {d} nonzero h =
     let division = (truncated_is n d nonzero).division in
     let exact = exact_from_divides division h in
     omega (arith, products)
+
+-- ---- divisors or not, and how large they are
+
+-- 1 divides each number
+pub one_divides : (n : ℤ) → Divides (pos 1) n
+one_divides n = record { factor = n; product = omega (arith, products) }
+
+-- a number other than 0 divides another or not
+pub divides_or_not : (d n : ℤ) → d ≢ pos 0 → Divides d n ⊎ (¬ (Divides d n))
+divides_or_not d n nonzero =
+    let division = (truncated_is n d nonzero).division in
+    elim (zero_or_not (int_rem n d)) [
+      | inl exact ↦ inl (divides_from_exact division exact)
+      | inr rest ↦ inr (λ divides. rest (exact_from_divides division divides))
+    ]
+
+-- a divisor of a number other than 0 is at most as large
+pub divisor_size : {d n : ℤ} → Divides d n → n ≢ pos 0 → unsigned_abs d ≤ unsigned_abs n
+divisor_size h nonzero = le_of_dvd (omega (arith, linear, abs_is)) (to_natural h)

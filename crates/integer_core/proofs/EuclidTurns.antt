@@ -1,18 +1,10 @@
--- Turns of Euclid's loop: what a division says of magnitudes, and that each state has one turn at most.
-use Rattle.std.specs.Prelude.{◌≡◌, ◌≢◌, ◌⊎◌, ◌<◌, ◌≤◌, ◌+◌, ◌*◌, ◌-ℤ◌, ◌*ℤ◌, ℤ, ℕ, pos, zero, suc, unsigned_abs, int_rem}
-use Rattle.std.proofs.Common.{arith, inl, inr, sym, ◌∙◌, ap}
-use Rattle.std.proofs.Math.Nat.{lt_of_not-le}
-use Rattle.std.proofs.lemmas.Int.{unsigned_abs-mul}
-use Rattle.std.proofs.lemmas.Nat.Gcd.{le_of_dvd}
-use borrow.Author.Differences.{abs_is}
-use Rattle.integer_core.proofs.Divisibility.{Divides-trans, divides_magnitude, divides_from_exact, exact_from_divides, to_natural}
-use Rattle.integer_core.proofs.Quotients.{zero_or_not, only_truncated, truncated_is}
+-- Turns of Euclid's loop: what a division says of magnitudes, that each state has one turn at most, and that the turns are few.
+use Rattle.integer_core.proofs.Common.{◌≡◌, ◌≢◌, ◌⊎◌, ◌<◌, ◌≤◌, ◌+◌, ◌*◌, ◌-ℤ◌, ◌*ℤ◌, ℤ, ℕ, pos, zero, suc, unsigned_abs, arith, inl, inr, sym, ◌∙◌, ap, lt_of_not-le, unsigned_abs-mul, abs_is, linear, IsTruncated, Divides, IsOnly, ◌^◌, List, [], ◌∷◌, length, subst, pow-succ', IsRun, RunHasTurns}
+use Rattle.integer_core.proofs.Divisibility.{Divides-trans, divides_magnitude, divides_from_exact, divides_remainder, divisor_size, one_divides}
+use Rattle.integer_core.proofs.Quotients.{zero_or_not, only_truncated}
 use Rattle.integer_core.proofs.Runs.{only_turns}
-use Rattle.integer_core.proofs.Whole.{linear, products}
-use Rattle.integer_core.specs.Bezout.{AreEuclidTurns, IsEuclidTurn, Remainders}
-use Rattle.integer_core.specs.Division.{IsTruncated}
-use Rattle.integer_core.specs.Divisors.{Divides}
-use Rattle.integer_core.specs.Only.{IsOnly}
+use Rattle.integer_core.specs.Bezout.{AreEuclidTurns, IsEuclidTurn, Remainders, EuclidEnds}
+use Rattle.integer_core.specs.Fibonacci.{fibonacci}
 
 -- a multiple is 0, or the number itself, or at least twice as large
 pub multiple_size : (k d : ℕ) → (k * d ≡ 0) ⊎ ((k * d ≡ d) ⊎ (2 * d ≤ k * d))
@@ -30,27 +22,11 @@ truncated_size {n} {d} {q} {r} h =
 pub inexact : {n d q r : ℤ} → IsTruncated n d q r → ¬ (Divides d n) → r ≢ pos 0
 inexact h goes_on exact = goes_on (divides_from_exact h.division exact)
 
-pub one_divides : (n : ℤ) → Divides (pos 1) n
-one_divides n = record { factor = n; product = omega (arith, products) }
-
 -- if d does not divide n, it is not 1 or -1
 pub not_one : {n d : ℤ} → ¬ (Divides d n) → d ≢ pos 0 → 2 ≤ unsigned_abs d
 not_one {n} {d} goes_on nonzero = lt_of_not-le (λ less.
     let one : unsigned_abs d ≡ 1 = omega (arith, linear, abs_is) in
     goes_on (Divides-trans (rw one at (divides_magnitude d)) (one_divides n)))
-
--- a number other than 0 divides another or not
-pub divides_or_not : (d n : ℤ) → d ≢ pos 0 → Divides d n ⊎ (¬ (Divides d n))
-divides_or_not d n nonzero =
-    let division = (truncated_is n d nonzero).division in
-    elim (zero_or_not (int_rem n d)) [
-      | inl exact ↦ inl (divides_from_exact division exact)
-      | inr rest ↦ inr (λ divides. rest (exact_from_divides division divides))
-    ]
-
--- a divisor is at most as large
-pub divisor_size : {d n : ℤ} → Divides d n → n ≢ pos 0 → unsigned_abs d ≤ unsigned_abs n
-divisor_size h nonzero = le_of_dvd (omega (arith, linear, abs_is)) (to_natural h)
 
 -- a larger multiple is at least twice as large
 pub twice : {d n : ℤ} → Divides d n → unsigned_abs d < unsigned_abs n → 2 * unsigned_abs d ≤ unsigned_abs n
@@ -67,8 +43,57 @@ only_euclid_turn s t h u i =
     let current : u.current ≡ t.current = i.current ∙ ap (λ (q : ℤ). s.previous -ℤ q *ℤ s.current) same ∙ sym h.current in
     λ k. record { current = current k; previous = (i.previous ∙ sym h.previous) k }
 
-pub only_euclid_turns : {a b : ℤ} {n : ℕ} → AreEuclidTurns a b n → IsOnly (AreEuclidTurns a b) n
-only_euclid_turns {b = b} h m i = elim (zero_or_not b) [
+pub euclid_turns_are_only : (a b : ℤ) (n : ℕ) → AreEuclidTurns a b n → IsOnly (AreEuclidTurns a b) n
+euclid_turns_are_only a b n h m i = elim (zero_or_not b) [
   | inl none ↦ i.of_zero none ∙ sym (h.of_zero none)
   | inr nonzero ↦ only_turns only_euclid_turn (λ s t ends turn. turn.goes_on ends) (h.of_nonzero nonzero) m (i.of_nonzero nonzero)
 ]
+
+-- ---- Lamé's theorem: the loop makes few turns. By recursion on the run, from its last state
+
+-- what n turns and a common divisor g say of the remainders that they begin with
+record IsLarge (s : Remainders) (n g : ℕ) : Type 0 where
+  lower : fibonacci (suc (suc n)) * g ≤ unsigned_abs s.current
+  upper : unsigned_abs s.current < unsigned_abs s.previous → fibonacci (suc (suc (suc n))) * g ≤ unsigned_abs s.previous
+
+large : (rest : List Remainders) (s : Remainders) (g : ℕ) → s.current ≢ pos 0 → IsRun IsEuclidTurn EuclidEnds (s ∷ rest)
+    → Divides (pos g) s.current → Divides (pos g) s.previous → IsLarge s (length rest) g
+large [] s g nonzero ends left right =
+    let below : g ≤ unsigned_abs s.current = divisor_size left nonzero in
+    record { lower = omega arith; upper = λ less. omega (arith, twice ends less) }
+large (t ∷ rest) s g nonzero run left right =
+    let turn = run.0 in
+    let row = turn.truncated.division in
+    let is : t.current ≡ turn.truncated.remainder = let e = row.division.equation in let f = turn.current in omega (arith, linear) in
+    let small : unsigned_abs t.current < unsigned_abs s.current = rw is row.division.small in
+    let after = large rest t g (rw is (inexact row turn.goes_on)) run.1 (rw is (divides_remainder row.division right left)) (rw turn.previous left) in
+    let lower = rw turn.previous at (after.upper (rw turn.previous small)) in
+    record {
+      lower = lower;
+      upper = λ less.
+          omega (arith, lower, after.lower, rw (← is) at (truncated_size row), multiple_size (unsigned_abs turn.quotient) (unsigned_abs s.current));
+    }
+
+-- n turns from (b, a) take a b of at least F(n + 2) times the gcd
+pub lame : {a b : ℤ} {n : ℕ} (g : ℕ) → b ≢ pos 0 → RunHasTurns IsEuclidTurn EuclidEnds (record { current = b; previous = a }) n
+    → Divides (pos g) a → Divides (pos g) b → fibonacci (suc (suc n)) * g ≤ unsigned_abs b
+lame {b = b} g nonzero makes left right =
+    subst (λ (n : ℕ). fibonacci (suc (suc n)) * g ≤ unsigned_abs b) makes.turns (large makes.rest _ g nonzero makes.run right left).lower
+
+-- ---- so the turns are fewer than twice the bits of b
+
+fibonacci_positive : (n : ℕ) → 1 ≤ fibonacci (suc n)
+fibonacci_positive zero = omega arith
+fibonacci_positive (suc n) = omega (arith, fibonacci_positive n)
+
+-- a Fibonacci number is at least twice the one two before it
+fibonacci_doubled : (k n : ℕ) → k + k ≤ n → 2 ^ k ≤ fibonacci (suc (suc n))
+fibonacci_doubled zero n h = fibonacci_positive (suc n)
+fibonacci_doubled (suc k) zero h = absurd (omega arith)
+fibonacci_doubled (suc k) (suc zero) h = absurd (omega arith)
+fibonacci_doubled (suc k) (suc (suc n)) h = rw pow-succ' (omega (arith, fibonacci_doubled k n (omega arith)))
+
+pub few_turns : {a b : ℤ} {n : ℕ} (k : ℕ) → b ≢ pos 0 → RunHasTurns IsEuclidTurn EuclidEnds (record { current = b; previous = a }) n
+    → unsigned_abs b < 2 ^ k → n < k + k
+few_turns {n = n} k nonzero makes small = lt_of_not-le (λ more.
+    omega (arith, fibonacci_doubled k n more, lame 1 nonzero makes (one_divides _) (one_divides _)))

@@ -1,16 +1,8 @@
 -- That the turns of Stein's loop are the only ones, and that each number has a bit length.
-use Rattle.std.specs.Prelude.{◌≡◌, ◌⊎◌, ◌^◌, ◌<◌, ◌≤◌, ℤ, ℕ, zero, suc, unsigned_abs}
-use Rattle.std.proofs.Common.{arith, inl, inr, sym, ◌∙◌, subst, pow_mono}
-use Rattle.std.proofs.Math.Nat.{dvd-mul_right, lt_of_not-le, pow-succ'}
-use Rattle.std.proofs.lemmas.Bool.{cases_lt}
-use Rattle.std.proofs.lemmas.Nat.Gcd.{dvd_antisymm}
-use Rattle.std.specs.Int.{◌∣◌}
+use Rattle.integer_core.proofs.Common.{◌≡◌, ◌⊎◌, ◌^◌, ◌<◌, ◌≤◌, ℤ, ℕ, zero, suc, unsigned_abs, arith, inl, inr, sym, ◌∙◌, subst, pow_mono, dvd-mul_right, lt_of_not-le, pow-succ', cases_lt, dvd_antisymm, ◌∣◌, linear, IsOnly, RunHasTurns}
 use Rattle.integer_core.proofs.NaturalGcd.{odd_divides}
 use Rattle.integer_core.proofs.Runs.{only_turns}
-use Rattle.integer_core.proofs.Whole.{linear}
 use Rattle.integer_core.specs.GcdRuns.{AreGcdTurns, GcdEnds, IsBitLength, IsGcdTurn, IsOddPart, IsZeroOrLeast, MakesGcdRun, OddPair}
-use Rattle.integer_core.specs.Only.{IsOnly}
-use Rattle.integer_core.specs.Runs.{RunHasTurns}
 
 -- ---- the turns are the only ones
 
@@ -47,8 +39,8 @@ only_gcd_run h m i =
 zero_or_least : (low x : ℤ) → IsZeroOrLeast low x ⊎ (¬ (IsZeroOrLeast low x))
 zero_or_least low x = grind (arith, linear)
 
-pub only_gcd_turns : {low a b : ℤ} {n : ℕ} → AreGcdTurns low a b n → IsOnly (AreGcdTurns low a b) n
-only_gcd_turns {low} {a} {b} h m i = elim (zero_or_least low a) [
+pub gcd_turns_are_only : (low a b : ℤ) (n : ℕ) → AreGcdTurns low a b n → IsOnly (AreGcdTurns low a b) n
+gcd_turns_are_only low a b n h m i = elim (zero_or_least low a) [
   | inl left ↦ i.at_once (inl left) ∙ sym (h.at_once (inl left))
   | inr left ↦ elim (zero_or_least low b) [
     | inl right ↦ i.at_once (inr right) ∙ sym (h.at_once (inr right))

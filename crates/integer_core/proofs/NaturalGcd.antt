@@ -1,14 +1,7 @@
 -- The greatest common divisor of natural numbers, and of their odd parts.
-use Rattle.std.specs.Prelude.{ℤ, pos, unsigned_abs}
-use Rattle.std.proofs.Common.{◌≡◌, ℕ, zero, suc, ◌+◌, ◌-◌, ◌*◌, ◌/◌, ◌%◌, ◌^◌, ◌≤◌, inl, inr, sym, ◌∙◌, ap, subst, arith, mul-one, mul_comm, mul_assoc, pow-suc, pow-add, min, div-add-mod'}
-use Rattle.std.proofs.Math.Nat.{dvd-mul_right_of_dvd, lt_of_not-le}
-use Rattle.std.proofs.lemmas.Bool.{cases_lt}
-use Rattle.std.proofs.lemmas.Int.{ints}
-use Rattle.std.proofs.lemmas.Nat.Gcd.{IsGcd-swap, dvd_of_mod-eq-zero, dvd_trans, mod-eq-zero_of_dvd}
-use Rattle.std.specs.Int.{IsGcd, ◌∣◌}
+use Rattle.integer_core.proofs.Common.{ℤ, pos, unsigned_abs, ◌≡◌, ℕ, zero, suc, ◌+◌, ◌-◌, ◌*◌, ◌/◌, ◌%◌, ◌^◌, ◌≤◌, inl, inr, sym, ◌∙◌, ap, subst, arith, mul-one, mul_comm, mul_assoc, pow-suc, pow-add, min, div-add-mod', dvd-mul_right_of_dvd, lt_of_not-le, cases_lt, ints, IsGcd-swap, dvd_of_mod-eq-zero, dvd_trans, mod-eq-zero_of_dvd, IsGcd, ◌∣◌, IsGreatestCommonDivisor}
 use Rattle.integer_core.proofs.CommonDivisors.{gcd-times}
 use Rattle.integer_core.proofs.Divisibility.{from_natural, to_natural}
-use Rattle.integer_core.specs.Divisors.{IsGreatestCommonDivisor}
 
 -- the gcd of integers is that of their magnitudes
 pub gcd_of_sizes : (a b : ℤ) {g : ℕ} → IsGcd (unsigned_abs a) (unsigned_abs b) g → IsGreatestCommonDivisor a b (pos g)
@@ -62,8 +55,8 @@ gcd_shift_le {m} {n} {g} i j odd less h =
     rw (mul_comm m (2 ^ i), right, mul_comm g (2 ^ i)) (natural_gcd_times (2 ^ i) (IsGcd-swap _ _ _ (gcd_strip (j - i) odd (IsGcd-swap _ _ _ h))))
 
 -- the gcd of two numbers from that of their odd parts
-pub gcd_shift : {m n g : ℕ} (i j : ℕ) → m % 2 ≡ 1 → n % 2 ≡ 1 → IsGcd m n g → IsGcd (m * 2 ^ i) (n * 2 ^ j) (g * 2 ^ min i j)
-gcd_shift i j m_odd n_odd h = elim (cases_lt i j) [
+pub gcd_of_odd_parts : {a b m n k g : ℕ} (i j : ℕ) → a ≡ m * 2 ^ i → b ≡ n * 2 ^ j → k ≡ min i j → m % 2 ≡ 1 → n % 2 ≡ 1 → IsGcd m n g → IsGcd a b (g * 2 ^ k)
+gcd_of_odd_parts i j a_is b_is k_is m_odd n_odd h = rw (a_is, b_is, k_is) (elim (cases_lt i j) [
   | inl less ↦ let least : min i j ≡ i = omega arith in rw least (gcd_shift_le i j m_odd (omega arith) h)
   | inr more ↦ let least : min i j ≡ j = omega arith in rw least (IsGcd-swap _ _ _ (gcd_shift_le j i n_odd more (IsGcd-swap _ _ _ h)))
-]
+])

@@ -1,12 +1,7 @@
 -- What fits, by the range of a type.
-use Rattle.std.specs.Prelude.{◌≡◌, ◌⊎◌, ◌≤ℤ◌, ◌<ℤ◌, ◌+ℤ◌, ◌-ℤ◌, ℕ, ℤ, pos, unsigned_abs}
-use Rattle.std.specs.Int.{Width}
-use Rattle.std.proofs.Common.{◌∙◌, arith, subst}
-use Rattle.integer_core.proofs.Whole.{linear, sizes}
+use Rattle.integer_core.proofs.Common.{natural, sym, ◌≡◌, ◌⊎◌, ◌≤ℤ◌, ◌<ℤ◌, ◌+ℤ◌, ◌-ℤ◌, ℕ, ℤ, pos, unsigned_abs, Width, ◌∙◌, arith, subst, linear, sizes, IsLeastCommonMultiple, IsRange, EachFits}
 use Rattle.integer_core.specs.Between.{Between}
-use Rattle.integer_core.specs.Divisors.{IsLeastCommonMultiple}
 use Rattle.integer_core.specs.NativeRanges.{IsNative}
-use Rattle.integer_core.specs.Range.{IsRange, EachFits}
 
 -- z lies between 0 and n
 abbrev pub LiesWithin : ℤ → ℤ → Type 0
@@ -16,6 +11,14 @@ LiesWithin n z = Between (pos 0) n z ⊎ Between n (pos 0) z
 pub within_fits : {fits : ℤ → Type 0} {low high n z : ℤ} → IsRange fits low high → fits n → LiesWithin n z → fits z
 within_fits {n = n} {z = z} range n_fits within = (range.between z).1 (omega (arith, linear, (range.between n).0 n_fits))
 
+-- the number 0 fits
+pub zero_fits : {fits : ℤ → Type 0} {low high : ℤ} → IsRange fits low high → fits (pos 0)
+zero_fits range = (range.between (pos 0)).1 (omega (arith, linear, range.low_end, range.positive))
+
+-- the number 1 fits
+pub one_fits : {fits : ℤ → Type 0} {low high : ℤ} → IsRange fits low high → fits (pos 1)
+one_fits range = (range.between (pos 1)).1 (omega (arith, linear, range.low_end, range.positive))
+
 -- the distance of a negative number from -1
 pub distance_fits : {fits : ℤ → Type 0} {low high x : ℤ} → IsRange fits low high → fits x → x <ℤ pos 0 → fits (pos 0 -ℤ (x +ℤ pos 1))
 distance_fits {x = x} range x_fits negative = (range.between _).1 (omega (arith, linear, range.low_end, (range.between x).0 x_fits))
@@ -23,9 +26,7 @@ distance_fits {x = x} range x_fits negative = (range.between _).1 (omega (arith,
 module _ {w : Width} {number : ℕ → ℤ} {fits wide : ℤ → Type 0} {low high : ℤ} (native : IsNative w number fits low high wide) where
   -- a number of the type that is not negative is a magnitude
   natural_is_magnitude : {z : ℤ} → pos 0 ≤ℤ z → fits z → wide z
-  natural_is_magnitude {z} up z_fits =
-      let same : pos (unsigned_abs z) ≡ z = omega (arith, sizes) in
-      subst wide same (native.magnitude z z_fits)
+  natural_is_magnitude {z} up z_fits = subst wide (sym (natural up)) (native.magnitude z z_fits)
 
   -- an lcm that fits is a magnitude
   pub lcm_is_magnitude : {a b l : ℤ} → EachFits fits (IsLeastCommonMultiple a b) → IsLeastCommonMultiple a b l → wide l

@@ -1,18 +1,51 @@
--- The rows of the extended Euclidean algorithm, after some turns of its loop.
-use Rattle.std.specs.Prelude.{◌≡◌, ◌≢◌, ◌⊎◌, ◌<◌, ◌≤◌, ◌+◌, ◌+ℤ◌, ◌-ℤ◌, ◌*ℤ◌, ℤ, ℕ, pos, zero, suc, unsigned_abs}
-use Rattle.std.proofs.Common.{arith, refl, inl, inr}
-use Rattle.std.proofs.lemmas.Int.{ints}
-use borrow.Author.Differences.{abs_is}
-use Rattle.integer_core.proofs.BezoutCoefficients.{IsWeighed, weighed_first, weighed_second, weighed_turn, last_half}
-use Rattle.integer_core.proofs.CommonDivisors.{gcd-divisor, gcd-remainder}
-use Rattle.integer_core.proofs.Divisibility.{rest_is}
-use Rattle.integer_core.proofs.EuclidTurns.{divides_or_not, inexact}
-use Rattle.integer_core.proofs.Quotients.{truncated_is}
-use Rattle.integer_core.proofs.Runs.{Reaches, reaches_first, reaches_turn}
-use Rattle.integer_core.proofs.Whole.{linear, expand}
-use Rattle.integer_core.specs.Bezout.{EuclidEnds, IsEuclidTurn, IsSmallPair}
-use Rattle.integer_core.specs.Division.{IsTruncated}
-use Rattle.integer_core.specs.Divisors.{Divides, IsGreatestCommonDivisor}
+-- The rows of the extended Euclidean algorithm after some turns of its loop, how large their coefficients grow, and that they fit.
+use Rattle.integer_core.proofs.Common.{◌≡◌, ◌≢◌, ◌⊎◌, ◌<◌, ◌≤◌, ◌+◌, ◌+ℤ◌, ◌-ℤ◌, ◌*ℤ◌, ℤ, ℕ, pos, zero, suc, unsigned_abs, arith, refl, inl, inr, ints, abs_is, linear, expand, IsTruncated, Divides, IsGreatestCommonDivisor, ◌*◌, ap, mul-le-mul_left, unsigned_abs-mul, products, ◌^◌, ◌≤ℤ◌, negsuc, ◌∙◌, zero-*ℤ, +ℤ_idr, IsRange}
+use Rattle.integer_core.proofs.CommonDivisors.{gcd-divisor, gcd-remainder, no_minus_one}
+use Rattle.integer_core.proofs.Divisibility.{rest_is, divides_or_not, divisor_size}
+use Rattle.integer_core.proofs.EuclidTurns.{inexact, truncated_size, twice, not_one, few_turns}
+use Rattle.integer_core.proofs.Quotients.{truncated_is, zero_or_not, small_multiple}
+use Rattle.integer_core.proofs.Runs.{Reaches, reaches_first, reaches_turn, reaches_last}
+use Rattle.integer_core.specs.Bezout.{EuclidEnds, IsEuclidTurn, IsSmallPair, HasPair, sign}
+
+-- x and previous_x are one operand's coefficients in the rows of these remainders, and m is the other operand: times the other row's
+-- remainder they add up to m in magnitude, and have opposite signs
+pub record IsWeighed (m current previous x previous_x : ℤ) : Type 0 where
+  pub total : unsigned_abs (x *ℤ previous) + unsigned_abs (previous_x *ℤ current) ≡ unsigned_abs m
+  pub opposite : unsigned_abs (x *ℤ previous -ℤ previous_x *ℤ current) ≡ unsigned_abs m
+
+module _ {m current previous x previous_x q r : ℤ} (weighed : IsWeighed m current previous x previous_x)
+    (row : IsTruncated previous current q r) where
+  -- the coefficient times the previous remainder has two parts
+  parts : x *ℤ previous ≡ (q *ℤ x) *ℤ current +ℤ x *ℤ r
+  parts = rw row.division.equation (simp expand (omega (arith, linear)))
+
+  -- of one sign
+  sizes : unsigned_abs (x *ℤ previous) ≡ unsigned_abs ((q *ℤ x) *ℤ current) + unsigned_abs (x *ℤ r)
+  sizes = simp unsigned_abs-mul (omega (arith, ap (λ (n : ℕ). unsigned_abs x * n) (truncated_size row)))
+
+  pub weighed_turn : IsWeighed m r current (previous_x -ℤ q *ℤ x) x
+  weighed_turn =
+      let is : (previous_x -ℤ q *ℤ x) *ℤ current ≡ previous_x *ℤ current -ℤ (q *ℤ x) *ℤ current = simp expand (omega (arith, linear)) in
+      record {
+        total = rw is (omega (arith, linear, abs_is, parts, sizes, weighed.total, weighed.opposite));
+        opposite = rw is (omega (arith, linear, abs_is, parts, weighed.opposite));
+      }
+
+  -- a turn's coefficient, and the product in it, are at most half of m
+  pub halves : 2 ≤ unsigned_abs current
+      → (2 * unsigned_abs (q *ℤ x) ≤ unsigned_abs m) × (2 * unsigned_abs (previous_x -ℤ q *ℤ x) ≤ unsigned_abs m)
+  halves two = (half (q *ℤ x) (omega (arith, sizes, weighed.total)), half (previous_x -ℤ q *ℤ x) (omega (arith, weighed_turn.total)))
+    where
+      half : (z : ℤ) → unsigned_abs (z *ℤ current) ≤ unsigned_abs m → 2 * unsigned_abs z ≤ unsigned_abs m
+      half z small = omega (arith, unsigned_abs-mul z current, mul-le-mul_left (unsigned_abs z) two)
+
+-- at the end, when the current remainder divides the previous one, so is the coefficient times it
+pub last_half : {m current previous x previous_x : ℤ} → IsWeighed m current previous x previous_x → Divides current previous
+    → unsigned_abs current < unsigned_abs previous → 2 * unsigned_abs x * unsigned_abs current ≤ unsigned_abs m
+last_half {previous = previous} {x = x} h ends less =
+    omega (arith, h.total, unsigned_abs-mul x previous, mul-le-mul_left (unsigned_abs x) (twice ends less))
+
+-- ---- the rows
 
 -- a row of the code, in integers
 pub record Row : Type 0 where
@@ -48,8 +81,8 @@ rows_first a b nonzero = record {
   nonzero = nonzero;
   equation = omega (arith, ints);
   previous_equation = omega (arith, ints);
-  x_weighed = weighed_first a b;
-  y_weighed = weighed_second a b;
+  x_weighed = record { total = omega (arith, products, abs_is); opposite = omega (arith, products, abs_is) };
+  y_weighed = record { total = omega (arith, products, abs_is); opposite = omega (arith, products, abs_is) };
   greatest = λ g h. h;
   start = inl (refl, refl);
   run = reaches_first;
@@ -115,3 +148,126 @@ last_rows {a} {b} {current} h = below (unsigned_abs current.remainder) h (omega 
           let last = below size (rows_turn h goes_on row) (omega arith) in
           (last.0, omega (arith, last.1))
     ]
+
+-- ---- the rows stay in the range of their type, and are few
+
+-- a coefficient fits, and so does its negation if the type has negative numbers
+pub record IsCoefficient (fits : ℤ → Type 0) (high z : ℤ) : Type 0 where
+  pub in_range : fits z
+  pub small : unsigned_abs z ≤ unsigned_abs high
+
+pub record CoefficientsFit (fits : ℤ → Type 0) (high : ℤ) (row : Row) : Type 0 where
+  pub remainder : fits row.remainder
+  pub x : IsCoefficient fits high row.x
+  pub y : IsCoefficient fits high row.y
+
+module _ {fits : ℤ → Type 0} {low high : ℤ} (range : IsRange fits low high) where
+  coefficient : {z : ℤ} → (low ≢ pos 0) ⊎ (pos 0 ≤ℤ z) → unsigned_abs z ≤ unsigned_abs high → IsCoefficient fits high z
+  coefficient {z} signs small =
+      let ends = range.low_end in
+      let positive = range.positive in
+      record { in_range = (range.between z).1 (omega (arith, linear, abs_is), omega (arith, linear, abs_is)); small = small }
+
+  zero_fits : IsCoefficient fits high (pos 0)
+  zero_fits = coefficient (inr (omega (arith, linear))) (omega (arith, linear, abs_is, range.positive))
+
+  one_fits : IsCoefficient fits high (pos 1)
+  one_fits = coefficient (inr (omega (arith, linear))) (omega (arith, linear, abs_is, range.positive))
+
+  pub first_fits : {a : ℤ} → fits a → CoefficientsFit fits high (of_first a)
+  first_fits a_fits = record { remainder = a_fits; x = one_fits; y = zero_fits }
+
+  -- at most half of a number, if the type has negative numbers
+  half_fits : {n z : ℤ} → low ≢ pos 0 → fits n → 2 * unsigned_abs z ≤ unsigned_abs n → IsCoefficient fits high z
+  half_fits {n} signed n_fits half =
+      let n_in = (range.between n).0 n_fits in
+      coefficient (inl signed) (omega (arith, linear, abs_is, range.low_end, range.positive))
+
+  -- a coefficient under the sign of a number of the type
+  pub sign_fits : {r z : ℤ} → fits r → IsCoefficient fits high z → fits (sign r *ℤ z)
+  sign_fits {r = pos n} {z = z} r_fits h = let same : pos 1 *ℤ z ≡ z = omega (arith, products) in rw same h.in_range
+  sign_fits {r = negsuc n} r_fits h =
+      let r_in = (range.between (negsuc n)).0 r_fits in
+      (coefficient (inl (omega (arith, linear))) (omega (arith, products, abs_is, h.small))).in_range
+
+-- what the loop keeps of the rows and their range
+pub record RowsFit (fits : ℤ → Type 0) (low high a b : ℤ) (current previous : Row) (t : ℕ) : Type 0 where
+  pub range : IsRange fits low high
+  pub a_fits : fits a
+  pub b_fits : fits b
+  pub rows : Rows a b current previous t
+  pub current_fits : CoefficientsFit fits high current
+  pub previous_fits : CoefficientsFit fits high previous
+  pub pair : HasPair fits previous.remainder current.remainder
+
+pub rows_fit_first : {fits : ℤ → Type 0} {low high a b : ℤ} → IsRange fits low high → fits a → fits b → b ≢ pos 0 → HasPair fits a b
+    → RowsFit fits low high a b (of_second b) (of_first a) 0
+rows_fit_first {a = a} {b = b} range a_fits b_fits nonzero pair = record {
+  range = range;
+  a_fits = a_fits;
+  b_fits = b_fits;
+  rows = rows_first a b nonzero;
+  current_fits = record { remainder = b_fits; x = zero_fits range; y = one_fits range };
+  previous_fits = first_fits range a_fits;
+  pair = pair;
+}
+
+-- what a turn computes for the coefficient after x
+pub record StepFits (fits : ℤ → Type 0) (high q x previous_x : ℤ) : Type 0 where
+  pub product : fits (q *ℤ x)
+  pub next : IsCoefficient fits high (previous_x -ℤ q *ℤ x)
+
+pub record TurnFits (fits : ℤ → Type 0) (high q : ℤ) (current previous : Row) : Type 0 where
+  pub x : StepFits fits high q current.x previous.x
+  pub y : StepFits fits high q current.y previous.y
+
+module _ {fits : ℤ → Type 0} {low high a b q r : ℤ} {current previous : Row} {t : ℕ} (h : RowsFit fits low high a b current previous t)
+    (goes_on : ¬ (Divides current.remainder previous.remainder)) (row : IsTruncated previous.remainder current.remainder q r) where
+  -- in a type without negatives one remainder divides the other, so a turn only exchanges them
+  no_quotient : ¬ (fits (negsuc 0)) → q ≡ pos 0
+  no_quotient unsigned = elim (h.pair unsigned) [
+    | inl divides ↦
+        let left = inexact row goes_on in
+        let most = divisor_size divides h.rows.nonzero in
+        small_multiple q current.remainder (omega (arith, linear, abs_is, unsigned_abs-mul q current.remainder, truncated_size row))
+    | inr divides ↦ absurd (goes_on divides)
+  ]
+
+  row_step_fits : {m x previous_x : ℤ} → fits m → IsWeighed m current.remainder previous.remainder x previous_x
+      → IsCoefficient fits high previous_x → StepFits fits high q x previous_x
+  row_step_fits m_fits weighed previous_fits = elim (zero_or_not low) [
+    | inl unsigned ↦
+        let none = no_quotient (no_minus_one h.range unsigned) in
+        record { product = rw (none, zero-*ℤ) (zero_fits h.range).in_range; next = rw (none, zero-*ℤ, +ℤ_idr) previous_fits }
+    | inr signed ↦
+        let half = halves weighed row (not_one goes_on h.rows.nonzero) in
+        record { product = (half_fits h.range signed m_fits half.0).in_range; next = half_fits h.range signed m_fits half.1 }
+  ]
+
+  pub turn_fits : TurnFits fits high q current previous
+  turn_fits = record {
+    x = row_step_fits h.b_fits h.rows.x_weighed h.previous_fits.x;
+    y = row_step_fits h.a_fits h.rows.y_weighed h.previous_fits.y;
+  }
+
+  pub rows_fit_turn : fits r → RowsFit fits low high a b (next_row current previous q r) current (t + 1)
+  rows_fit_turn r_fits = record {
+    range = h.range;
+    a_fits = h.a_fits;
+    b_fits = h.b_fits;
+    rows = rows_turn h.rows goes_on row;
+    current_fits = record { remainder = r_fits; x = turn_fits.x.next; y = turn_fits.y.next };
+    previous_fits = h.current_fits;
+    pair = λ unsigned. rw (same unsigned) (elim (h.pair unsigned) [ inl divides ↦ inr divides | inr divides ↦ inl divides ]);
+  }
+    where
+      same : ¬ (fits (negsuc 0)) → r ≡ previous.remainder
+      same unsigned = rest_is row.division ∙ simp (no_quotient unsigned, zero-*ℤ, +ℤ_idr)
+
+-- the turns are few, and fit their counter
+pub turns_fit : {fits : ℤ → Type 0} {low high a b : ℤ} {current previous : Row} {t : ℕ} → b ≢ pos 0
+    → RowsFit fits low high a b current previous t → t < 258
+turns_fit {b = b} nonzero h =
+    let last = last_rows h.rows in
+    let small : unsigned_abs b < 2 ^ 129 = omega (arith, linear, abs_is, h.range.low_end, h.range.positive, h.range.bounded, (h.range.between b).0 h.b_fits) in
+    omega (arith, last.1, few_turns 129 nonzero (reaches_last last.0.rows.run last.0.ends) small)

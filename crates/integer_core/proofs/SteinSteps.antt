@@ -1,36 +1,22 @@
--- Stein's method on the values of an unsigned type.
-use Rattle.std.specs.Prelude.{◌≡◌, ◌≢◌, ◌↔◌, ◌⊎◌, ◌≤ℤ◌, ℤ, pos, unsigned_abs}
-use Rattle.std.specs.Int.{IsGcd, IsPowerOfTwo}
-use Rattle.std.proofs.Common.{ℕ, min, ◌*◌, ◌%◌, ◌^◌, ◌<◌, refl, sym, subst, arith, inl, inr}
-use Rattle.std.proofs.lemmas.Int.{ints}
-use borrow.Author.Differences.{abs_is}
+-- Stein's method on the values of an unsigned type, and what its loops keep.
+use Rattle.integer_core.proofs.Common.{natural, ◌≡◌, ◌≢◌, ◌↔◌, ◌⊎◌, ◌≤ℤ◌, ℤ, pos, unsigned_abs, IsGcd, ℕ, ◌*◌, ◌%◌, ◌^◌, ◌<◌, refl, sym, subst, arith, inl, inr, ints, abs_is, linear, eq-one_of_dvd-one, one-dvd, dvd_refl, le_of_dvd, IsGreatestCommonDivisor, ◌+◌, List, [], ◌∷◌, map, ◌∙◌, IsRun, RunHasTurns}
+use Rattle.std.specs.Int.{IsPowerOfTwo}
 use Rattle.integer_core.proofs.CommonDivisors.{gcd-magnitudes, gcd-zero}
-use Rattle.integer_core.proofs.Whole.{linear}
-use Rattle.std.proofs.Math.Nat.{eq-one_of_dvd-one, one-dvd}
-use Rattle.std.proofs.lemmas.Nat.Gcd.{dvd_refl, le_of_dvd}
-use Rattle.integer_core.proofs.NaturalGcd.{gcd_shift, odd_divisor, odd_divides}
-use Rattle.integer_core.specs.Divisors.{IsGreatestCommonDivisor}
-use Rattle.integer_core.specs.GcdRuns.{AreWithinBits, IsCountedGcd, IsOddPart, MakesGcdRun}
-
-natural : {z : ℤ} → pos 0 ≤ℤ z → z ≡ pos (unsigned_abs z)
-natural up = omega (arith, linear, abs_is)
+use Rattle.integer_core.proofs.NaturalGcd.{odd_divisor, odd_divides}
+use Rattle.integer_core.specs.GcdRuns.{AreWithinBits, IsCountedGcd, IsOddPart, MakesGcdRun, exchanged, GcdEnds, IsGcdTurn, IsOddGcd, IsOrderedTurn, OddPair}
+use Rattle.std.proofs.lemmas.List.{length-map}
+use Rattle.integer_core.proofs.OddParts.{Turning, turning_ends, turning_small, turning_turn, turns_fit}
+use Rattle.integer_core.proofs.Runs.{Reaches, reaches_first, reaches_instead, reaches_last, reaches_turn}
 
 -- the gcd of a number and 0 is the number
 pub gcd_with_zero : {n : ℤ} → pos 0 ≤ℤ n → IsGreatestCommonDivisor n (pos 0) n
 gcd_with_zero {n} up = subst (λ g. IsGreatestCommonDivisor n (pos 0) g) (sym (natural up)) (gcd-zero n)
 
-pub gcd_of_same : (m n : ℕ) → m ≡ n → IsGcd m n m
-gcd_of_same m n e = subst (λ (x : ℕ). IsGcd m x m) e (dvd_refl m, dvd_refl m, λ d h k. h)
-
--- the gcd of two numbers by that of their odd parts
-pub gcd_of_odd_parts : {a b m n k g : ℕ} (i j : ℕ) → a ≡ m * 2 ^ i → b ≡ n * 2 ^ j → k ≡ min i j → m % 2 ≡ 1 → n % 2 ≡ 1 → IsGcd m n g → IsGcd a b (g * 2 ^ k)
-gcd_of_odd_parts i j a_is b_is k_is m_odd n_odd h = rw (a_is, b_is, k_is) (gcd_shift i j m_odd n_odd h)
-
--- it is positive, and at most each positive number
+-- a gcd with an odd number is positive
 pub gcd_positive : {m n g : ℕ} → m % 2 ≡ 1 → IsGcd m n g → 0 < g
 gcd_positive {m} {n} {g} odd h = let o = odd_divisor g m h.0 odd in omega arith
 
--- so it fits if one of the two does
+-- a gcd fits if one of the two numbers does
 pub gcd_fits : {fits : ℤ → Type 0} {a : ℤ} {b g : ℕ} → ((y : ℤ) → pos 0 ≤ℤ y → y ≤ℤ a → fits y) → pos 0 ≤ℤ a → 0 < unsigned_abs a
     → IsGcd (unsigned_abs a) b g → fits (pos g)
 gcd_fits within up positive h =
@@ -77,3 +63,70 @@ counted_by_magnitudes {a = a} {b = b} m_is n_is smallest greatest at_once by_tur
   };
   bound = rw (m_is, n_is) at bound;
 }
+
+-- ---- what both loops on two odd numbers keep, at each step of them
+
+-- the runs from a pair are those from the pair with its places exchanged, turn by turn
+exchanged_turn : (s t : OddPair) → IsGcdTurn s t → IsGcdTurn (exchanged s) (exchanged t)
+exchanged_turn s t h = elim h [
+  | inl left ↦ inr (record { above = left.above; m = left.n; n = left.m })
+  | inr right ↦ inl (record { above = right.above; m = right.n; n = right.m })
+]
+
+exchanged_run : (s : OddPair) (rest : List OddPair) → IsRun IsGcdTurn GcdEnds (s ∷ rest) → IsRun IsGcdTurn GcdEnds (exchanged s ∷ map exchanged rest)
+exchanged_run s [] h = sym h
+exchanged_run s (t ∷ rest) h = (exchanged_turn s t h.0, exchanged_run t rest h.1)
+
+exchanged_makes : {s : OddPair} {n : ℕ} → RunHasTurns IsGcdTurn GcdEnds s n → RunHasTurns IsGcdTurn GcdEnds (exchanged s) n
+exchanged_makes {s} h = record {
+  rest = map exchanged h.rest;
+  run = exchanged_run s h.rest h.run;
+  turns = length-map h.rest exchanged ∙ h.turns;
+}
+
+reaches_ordered : {first s t : OddPair} {n : ℕ} → Reaches IsGcdTurn GcdEnds first s n → IsOrderedTurn s t → Reaches IsGcdTurn GcdEnds first t (n + 1)
+reaches_ordered {t = t} h turn = elim turn [
+  | inl left ↦ reaches_turn h (inl left)
+  | inr right ↦ reaches_instead (reaches_turn {t = exchanged t} h (inr (record { above = right.above; m = right.n; n = right.m }))) (λ m i. exchanged_makes i)
+]
+
+-- what a loop holds
+abbrev pair_of : ℕ → ℕ → OddPair
+pair_of m n = record { m = m; n = n }
+
+-- the turns so far lead from a and b to m and n, which are in range
+pub record OddLoop (InRange : Type 0) (a b m n turns : ℕ) : Type 0 where
+  pub in_range : InRange
+  pub kept : Turning a b m n turns
+  pub reached : Reaches IsGcdTurn GcdEnds (pair_of a b) (pair_of m n) turns
+
+module _ {a b : ℕ} where
+  pub loop_begins : {InRange : Type 0} → InRange → a % 2 ≡ 1 → b % 2 ≡ 1 → OddLoop InRange a b a b 0
+  loop_begins in_range a_odd b_odd = record {
+    in_range = in_range;
+    kept = record { m_odd = a_odd; n_odd = b_odd; same = λ d h. h; shrunk = omega arith };
+    reached = reaches_first;
+  }
+
+  module _ {Before : Type 0} {m n t : ℕ} (v : OddLoop Before a b m n t) where
+    pub loop_goes_on : {InRange : Type 0} {d e : ℕ} → InRange → IsOrderedTurn (pair_of m n) (pair_of d e) → OddLoop InRange a b d e (t + 1)
+    loop_goes_on in_range turn = record { in_range = in_range; kept = turning_turn v.kept turn; reached = reaches_ordered v.reached turn }
+
+    -- another count of turns begins with these
+    pub loop_handed_on : {g r : ℕ} → IsOddGcd m n g r → IsOddGcd a b g (t + r)
+    loop_handed_on rest = record {
+      greatest = v.kept.same _ rest.greatest;
+      run = v.reached.onward _ _ refl rest.run;
+      few = turning_small _ v.kept rest.few;
+    }
+
+    pub loop_ends : m ≡ n → IsOddGcd a b m t
+    loop_ends same = record {
+      greatest = v.kept.same _ (subst (λ (x : ℕ). IsGcd m x m) same (dvd_refl m, dvd_refl m, λ d h k. h));
+      run = reaches_last v.reached same;
+      few = turning_ends v.kept;
+    }
+
+    -- a turn more can be counted
+    pub loop_counts : a < 2 ^ 128 → b < 2 ^ 128 → t + 1 < 2 ^ 32
+    loop_counts a_fits b_fits = turns_fit t (turning_ends v.kept) a_fits b_fits

@@ -1,5 +1,5 @@
 -- The ring of the integers, for `omega` and `simp`.
-use Rattle.std.specs.Prelude.{◌≡◌, ◌+◌, ◌*◌, ◌<ℤ◌, ◌≤ℤ◌, ◌+ℤ◌, ◌*ℤ◌, ℤ, pos, neg_ℤ}
+use Rattle.std.specs.Prelude.{◌≡◌, ◌+◌, ◌*◌, ◌<ℤ◌, ◌≤ℤ◌, ◌+ℤ◌, ◌*ℤ◌, ℤ, pos, neg_ℤ, unsigned_abs}
 use Rattle.std.proofs.Common.{arith, ap, mul-pos}
 use Rattle.std.proofs.lemmas.Int.{ints}
 use borrow.Author.Differences.{up, down, same_in, same_out, sum_is_lem, neg_is, product_is, abs_is, lt_out, le_out, below_in, at_most_in, Apart-out}
@@ -14,6 +14,10 @@ from_not_less h = grind (arith, linear)
 
 -- that, with magnitudes
 pub ruleset sizes = (linear, abs_is)
+
+-- a number that is not negative is its magnitude
+pub natural : {z : ℤ} → pos 0 ≤ℤ z → z ≡ pos (unsigned_abs z)
+natural up = omega (arith, sizes)
 
 -- that, with products known by their factors
 pub ruleset products = (linear, product_is)

@@ -131,7 +131,7 @@ pub trait Integer: Copy + Num + PartialOrd + Ord + Eq {
     ///
     /// May be called if [`Fits::prev_multiple_fits`] is true; [`checked::prev_multiple_of`] has no
     /// condition.
-    #[tactic(auto, using(crate::proofs::Multiples::previous))]
+    #[tactic(auto, using(crate::proofs::Quotients::previous))]
     fn prev_multiple_of(&self, other: &Self) -> Self
         requires self_in_range { Self.fits (Self.value self.now) }
         requires other_in_range { Self.fits (Self.value other.now) }

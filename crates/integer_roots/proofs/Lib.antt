@@ -1,5 +1,4 @@
 pub mod Powers
-pub mod NewtonStep
 pub mod SquareGuesses
 pub mod RootGuesses
 pub mod CubeDigits

@@ -1,10 +1,5 @@
 -- Roots of integers by the roots of their magnitudes.
-use Rattle.std.specs.Prelude.{◌≡◌, ◌≢◌, ◌<ℤ◌, ◌≤ℤ◌, ℤ, pos, negsuc, neg_ℤ, unsigned_abs}
-use Rattle.std.proofs.Common.{ℕ, zero, suc, ◌+◌, ◌^◌, ◌<◌, ◌≤◌, arith, refl, mul-le-mul_right}
-use Rattle.std.proofs.lemmas.Int.{ints, by_lt_z}
-use Rattle.std.proofs.Math.Nat.{pow-le-pow_right}
-use Rattle.integer_core.specs.Range.{IsRange}
-use Rattle.integer_core.proofs.Whole.{linear, sizes}
+use Rattle.integer_core.proofs.Common.{◌≡◌, ◌≢◌, ◌<ℤ◌, ◌≤ℤ◌, ℤ, pos, negsuc, neg_ℤ, unsigned_abs, ℕ, zero, suc, ◌+◌, ◌^◌, ◌<◌, ◌≤◌, arith, refl, mul-le-mul_right, ints, by_lt_z, pow-le-pow_right, IsRange, linear, sizes}
 use Rattle.integer_roots.specs.RootOf.{IsFloorRoot, IsRoot}
 use Rattle.integer_roots.proofs.OnlyAnswers.{root_is_only_one}
 use Rattle.integer_roots.proofs.Powers.{power_one, power_two, floor_root}

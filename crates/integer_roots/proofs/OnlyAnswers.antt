@@ -1,20 +1,16 @@
 -- Each answer is the only number that meets its definition.
-use Rattle.std.specs.Prelude.{◌≡◌, ℤ, pos, negsuc}
-use Rattle.std.proofs.Common.{ℕ, ◌+◌, arith, sym, ◌∙◌}
-use Rattle.std.proofs.lemmas.Int.{ints, by_lt_z}
-use Rattle.integer_core.specs.Only.{IsOnly}
+use Rattle.integer_core.proofs.Common.{◌≡◌, ℤ, pos, negsuc, ℕ, ◌+◌, arith, sym, ◌∙◌, ints, by_lt_z, IsOnly, linear, products}
 use Rattle.integer_core.proofs.Runs.{only_turns}
-use Rattle.integer_core.proofs.Whole.{linear, products}
 use Rattle.integer_roots.specs.Averages.{IsAverageFloor, IsAverageCeil}
 use Rattle.integer_roots.specs.RootOf.{IsFloorRoot, IsRoot}
 use Rattle.integer_roots.specs.SquareRuns.{Guess, Rising, Falling, IsNewtonTurn, NewtonEnds, MakesNewtonRun, AreSquareRootTurns}
 use Rattle.integer_roots.proofs.Powers.{base_below, highest_bit}
 
-pub average_floor_is_only_one : {a b f : ℤ} → IsAverageFloor a b f → IsOnly (IsAverageFloor a b) f
-average_floor_is_only_one h g k = omega (arith, products, h.double_le, h.next_double_gt, k.double_le, k.next_double_gt)
+pub average_floor_is_only : (a b f : ℤ) → IsAverageFloor a b f → IsOnly (IsAverageFloor a b) f
+average_floor_is_only a b f h g k = omega (arith, products, h.double_le, h.next_double_gt, k.double_le, k.next_double_gt)
 
-pub average_ceil_is_only_one : {a b c : ℤ} → IsAverageCeil a b c → IsOnly (IsAverageCeil a b) c
-average_ceil_is_only_one h d k = omega (arith, products, h.previous_double_lt, h.double_ge, k.previous_double_lt, k.double_ge)
+pub average_ceil_is_only : (a b c : ℤ) → IsAverageCeil a b c → IsOnly (IsAverageCeil a b) c
+average_ceil_is_only a b c h d k = omega (arith, products, h.previous_double_lt, h.double_ge, k.previous_double_lt, k.double_ge)
 
 floor_root_is_only_one : {x r : ℤ} {n : ℕ} → IsFloorRoot x n r → IsOnly (IsFloorRoot x n) r
 floor_root_is_only_one {r = negsuc i} h s k = absurd (omega (arith, ints, h.from_zero))
@@ -50,7 +46,7 @@ one_count {a} {m} h k =
     omega (arith, highest_bit a _ _ h.highest.power_le k.highest.next_power_gt, highest_bit a _ _ k.highest.power_le h.highest.next_power_gt) in
     only_turns (one_turn a) (no_turn a) k.run m (rw same at h.run)
 
-pub square_turns_are_only_one : {x : ℤ} {n : ℕ} → AreSquareRootTurns x n → IsOnly (AreSquareRootTurns x) n
-square_turns_are_only_one {x} h m k = by_lt_z x (pos 4)
+pub square_root_turns_are_only : (x : ℤ) (n : ℕ) → AreSquareRootTurns x n → IsOnly (AreSquareRootTurns x) n
+square_root_turns_are_only x n h m k = by_lt_z x (pos 4)
     (λ below. k.below_four below ∙ sym (h.below_four below))
     (λ up. one_count (k.from_four up) (h.from_four up))

@@ -1,16 +1,10 @@
 -- The guesses of a square root's two loops: how near the root each turn brings them, and that five turns are enough.
-use Rattle.std.specs.Prelude.{pos}
-use Rattle.std.proofs.Common.{◌≡◌, ℕ, zero, suc, ◌+◌, ◌-◌, ◌*◌, ◌/◌, ◌^◌, ◌<◌, ◌≤◌, List, [], ◌∷◌, ◌∙◌, arith, refl, add-one, mul-le-mul, mul-le-mul_left, mul-le-mul_right, le_of_mul-le-mul_right, mul-pos, div-mul-le_self, div-lt_iff_lt-mul, le_trans, pow-add, pow_mono, ◌%◌}
-use Rattle.std.proofs.Math.Nat.{lt_of_not-le}
-use Rattle.std.proofs.lemmas.Int.{ints}
-use Rattle.std.proofs.lemmas.Nat.{one_shl}
-use Rattle.integer_core.specs.Runs.{IsRun}
+use Rattle.integer_core.proofs.Common.{pos, ◌≡◌, ℕ, zero, suc, ◌+◌, ◌-◌, ◌*◌, ◌/◌, ◌^◌, ◌<◌, ◌≤◌, List, [], ◌∷◌, ◌∙◌, arith, refl, add-one, mul-le-mul, mul-le-mul_left, mul-le-mul_right, le_of_mul-le-mul_right, mul-pos, div-mul-le_self, div-lt_iff_lt-mul, le_trans, pow-add, pow_mono, ◌%◌, lt_of_not-le, ints, one_shl, IsRun}
 use Rattle.integer_core.proofs.Runs.{Reaches, reaches_first, reaches_turn, reaches_instead, reaches_last}
 use Rattle.integer_roots.specs.SquareRuns.{square_step, Guess, Rising, Falling, IsNewtonTurn, NewtonEnds, IsHighestBit, first_guess, AreSquareRootTurns}
 use Rattle.integer_roots.specs.NewtonRuns.{guess_of, IsReached, begins, rises, goes_over, falls}
-use Rattle.integer_roots.proofs.NewtonStep.{cross, square_step_is}
+use Rattle.integer_roots.proofs.RootGuesses.{cross, square_step_is, IsStart, start, in_range}
 use Rattle.integer_roots.proofs.Powers.{highest_bit, power_two}
-use Rattle.integer_roots.proofs.RootGuesses.{IsStart, start, in_range}
 
 -- the factor after a number of turns: that factor, times the excess of the guess's square over a, is at most a
 abbrev pub closeness : ℕ → ℕ

@@ -32,7 +32,7 @@ fn wide_cube_root(a: u64) -> u64
 }
 
 /// Returns the cube root of `a`, by Newton's method. The first guess is a power of two near the root.
-#[tactic(auto, using(crate::proofs::NewtonStep::cube_step_is))]
+#[tactic(auto, using(crate::proofs::RootGuesses::cube_step_is))]
 fn cube_root_by_newton(a: u64) -> u64
     requires from_eight { 8 ≤ a }
     ensures root { IsFloorRoot (pos a) 3 (pos result) }

@@ -1,12 +1,7 @@
 -- Calls that return a result exactly in their domain.
-use Rattle.std.specs.Prelude.{◌≡◌, ◌≢◌, ◌⊎◌, ◌↔◌, ◌≤ℤ◌, ◌<ℤ◌, ◌-ℤ◌, ◌*ℤ◌, ℤ, pos, neg_ℤ, unsigned_abs, int_div, Option, Some, None}
-use Rattle.std.proofs.Common.{arith, inl, inr, subst, sym, ap, ◌∙◌}
-use Rattle.std.proofs.lemmas.Int.{unsigned_abs-mul}
-use Rattle.integer_core.proofs.CommonDivisors.{gcd-mul-lcm, gcd-nonzero, lcm-zero, lcm_exists, only_lcm}
-use Rattle.integer_core.proofs.Divisibility.{Divides-trans, cancel, exact_quotient}
-use Rattle.integer_core.proofs.Whole.{linear, left_comm, sizes}
-use Rattle.integer_core.specs.Divisors.{IsGreatestCommonDivisor, IsLeastCommonMultiple}
-use Rattle.integer_core.specs.Range.{EachFits, IsRange}
+use Rattle.integer_core.proofs.Common.{natural, ◌≡◌, ◌≢◌, ◌⊎◌, ◌↔◌, ◌≤ℤ◌, ◌<ℤ◌, ◌*ℤ◌, ℤ, pos, neg_ℤ, unsigned_abs, int_div, Option, Some, None, arith, inl, inr, subst, sym, ap, ◌∙◌, unsigned_abs-mul, linear, left_comm, sizes, IsGreatestCommonDivisor, IsLeastCommonMultiple, EachFits, IsRange}
+use Rattle.integer_core.proofs.CommonDivisors.{lcm-product, gcd-nonzero, lcm-zero, lcm_exists, only_lcm}
+use Rattle.integer_core.proofs.Divisibility.{Divides-trans, exact_quotient}
 use Rattle.num_integer.proofs.DivisorSizes.{divisor_at_most, lcm-positive}
 use Rattle.num_integer.proofs.FittingAnswers.{each_fits, fits_below}
 use Rattle.num_integer.proofs.OrderedProducts.{product_from_zero}
@@ -44,14 +39,6 @@ product_fits_by_size {low = low} a b range a_fits b_fits size_fits =
 pub negated_is : (z : ℤ) → z <ℤ pos 0 → neg_ℤ z ≡ pos (unsigned_abs z)
 negated_is z below = omega (arith, sizes)
 
--- a number that is not negative is its magnitude
-pub same_size : (z : ℤ) → pos 0 ≤ℤ z → z ≡ pos (unsigned_abs z)
-same_size z up = omega (arith, sizes)
-
--- 0 minus a number is its negation
-pub zero_minus : (z : ℤ) → pos 0 -ℤ z ≡ neg_ℤ z
-zero_minus z = omega (arith, linear)
-
 -- ---- least common multiples
 
 -- the least common multiple with 0 is 0
@@ -63,13 +50,9 @@ zero_lcm fits {a} {b} with_zero z_fits is =
 -- else it is the magnitude of one number times the other divided by their greatest common divisor
 pub lcm_by_gcd : {a b g q : ℤ} → b ≢ pos 0 → IsGreatestCommonDivisor a b g → q ≡ int_div b g → IsLeastCommonMultiple a b (pos (unsigned_abs (a *ℤ q)))
 lcm_by_gcd {a} {b} {g} {q} nonzero greatest is =
-    let own = lcm_exists a b in
-    let g_nonzero = gcd-nonzero greatest nonzero in
-    let exact : b ≡ g *ℤ q = rw is (exact_quotient g_nonzero greatest.divides_right) in
-    let size : pos (unsigned_abs g) ≡ g = omega (arith, sizes, greatest.from_zero) in
-    let product : pos (unsigned_abs (a *ℤ b)) ≡ g *ℤ pos (unsigned_abs (a *ℤ q)) =
-    rw (exact, left_comm a g q, unsigned_abs-mul g (a *ℤ q)) (ap (λ (n : ℤ). n *ℤ pos (unsigned_abs (a *ℤ q))) size) in
-    subst (IsLeastCommonMultiple a b) (cancel g _ _ g_nonzero (gcd-mul-lcm greatest own.1 ∙ product)) own.1
+    let exact : b ≡ g *ℤ q = rw is (exact_quotient (gcd-nonzero greatest nonzero) greatest.divides_right) in
+    let size : pos (unsigned_abs g) ≡ g = sym (natural greatest.from_zero) in
+    lcm-product greatest nonzero (rw (exact, left_comm a g q, unsigned_abs-mul g (a *ℤ q)) (ap (λ (n : ℤ). n *ℤ pos (unsigned_abs (a *ℤ q))) size))
 
 -- if it fits, the greatest common divisor does
 pub gcd_fits_with_lcm : {fits : ℤ → Type 0} {low high a b : ℤ} → IsRange fits low high → a ≢ pos 0 → b ≢ pos 0 → EachFits fits (IsLeastCommonMultiple a b) → EachFits fits (IsGreatestCommonDivisor a b)

@@ -1,15 +1,9 @@
 -- How large divisors and multiples are.
-use Rattle.std.specs.Prelude.{◌≡◌, ◌≢◌, ◌<◌, ◌≤◌, ◌≤ℤ◌, ◌<ℤ◌, ◌*ℤ◌, ℤ, ℕ, pos, unsigned_abs}
-use Rattle.std.proofs.Common.{arith, ◌∙◌, inl, inr, refl}
-use Rattle.std.proofs.lemmas.Int.{ints}
-use Rattle.integer_core.specs.Range.{IsRange}
-use Rattle.integer_core.specs.Divisors.{Divides, IsGreatestCommonDivisor, IsLeastCommonMultiple}
+use Rattle.integer_core.proofs.Common.{◌≡◌, ◌≢◌, ◌<◌, ◌≤◌, ◌≤ℤ◌, ◌<ℤ◌, ◌*ℤ◌, ℤ, ℕ, pos, unsigned_abs, arith, ◌∙◌, inl, inr, refl, ints, IsRange, Divides, IsGreatestCommonDivisor, IsLeastCommonMultiple, comm, linear, products, sizes}
 use Rattle.integer_core.proofs.CommonDivisors.{gcd-swap, gcd-zero, only_gcd}
-use Rattle.integer_core.proofs.Divisibility.{cancel, zero_divides}
-use Rattle.integer_core.proofs.EuclidTurns.{divisor_size}
+use Rattle.integer_core.proofs.Divisibility.{cancel, zero_divides, divisor_size}
 use Rattle.integer_core.proofs.Quotients.{zero_or_not}
 use Rattle.integer_core.proofs.Ranges.{within_fits}
-use Rattle.integer_core.proofs.Whole.{comm, linear, products, sizes}
 
 -- a divisor of a positive number is at most that number
 pub divisor_at_most : {u v : ℤ} → pos 0 <ℤ v → Divides u v → u ≤ℤ v

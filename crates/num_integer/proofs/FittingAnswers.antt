@@ -1,21 +1,9 @@
 -- When the results of calls fit, in the words of the tests of `Fits`.
-use Rattle.std.specs.Prelude.{◌≡◌, ◌≢◌, ◌↔◌, ◌≤◌, ◌<◌, ◌^◌, ◌≤ℤ◌, ℕ, ℤ, pos, IsTrue, nat_le, ◌⊎◌, ◌<ℤ◌, negsuc, neg_ℤ, unsigned_abs, Bool, true, false, not, ◌*◌, ◌/◌, min, max}
-use Rattle.std.proofs.Common.{arith, inl, inr, subst, refl, sym, ap, ◌∙◌}
-use Rattle.std.proofs.Math.Nat.{pow-le-pow_right}
-use Rattle.std.proofs.lemmas.Bool.{cases_lt, le-leb, leb-true, iff_false}
-use Rattle.std.proofs.lemmas.Int.{ints}
-use borrow.Author.Differences.{abs_is}
-use Rattle.integer_core.proofs.CommonDivisors.{gcd-divisor, only_gcd, gcd-zero, gcd-swap, lcm-computed, only_lcm}
-use Rattle.integer_core.proofs.Divisibility.{Divides-refl, abs_zero}
-use Rattle.integer_core.proofs.EuclidTurns.{divisor_size}
-use Rattle.integer_core.proofs.GcdDomain.{gcd_fits_is}
-use Rattle.integer_core.proofs.Multiples.{only_multiple}
-use Rattle.integer_core.proofs.Quotients.{only_ceiled, only_floored, only_truncated, floored_by_minus_one, other_quotient_fits}
+use Rattle.integer_core.proofs.Common.{◌≡◌, ◌≢◌, ◌↔◌, ◌≤◌, ◌<◌, ◌^◌, ◌≤ℤ◌, ℕ, ℤ, pos, IsTrue, nat_le, ◌⊎◌, ◌<ℤ◌, negsuc, neg_ℤ, unsigned_abs, Bool, true, false, not, ◌*◌, ◌/◌, min, max, arith, inl, inr, subst, refl, sym, ap, ◌∙◌, pow-le-pow_right, cases_lt, le-leb, leb-true, iff_false, ints, abs_is, from_not_less, linear, EachKind, IsCeiled, IsDivision, IsFloored, IsTruncated, IsQuotient, IsMultiple, GcdFits, IsGreatestCommonDivisor, IsLeastCommonMultiple, IsRange, EachFits}
+use Rattle.integer_core.proofs.CommonDivisors.{gcd-divisor, only_gcd, gcd-zero, gcd-swap, lcm-computed, only_lcm, gcd_fits_is}
+use Rattle.integer_core.proofs.Divisibility.{Divides-refl, abs_zero, divisor_size}
+use Rattle.integer_core.proofs.Quotients.{only_multiple, only_ceiled, only_floored, only_truncated, floored_by_minus_one, other_quotient_fits}
 use Rattle.integer_core.proofs.Ranges.{within_fits}
-use Rattle.integer_core.proofs.Whole.{from_not_less, linear}
-use Rattle.integer_core.specs.Division.{EachKind, IsCeiled, IsDivision, IsFloored, IsTruncated, IsQuotient, IsMultiple}
-use Rattle.integer_core.specs.Divisors.{GcdFits, IsGreatestCommonDivisor, IsLeastCommonMultiple}
-use Rattle.integer_core.specs.Range.{IsRange, EachFits}
 use Rattle.num_integer.proofs.DivisorSizes.{divisor_at_most}
 use Rattle.num_integer.specs.Parts.{IsWithin, signed}
 

@@ -1,13 +1,7 @@
 -- Quotients, remainders and multiples by a positive number.
-use Rattle.std.specs.Prelude.{◌≡◌, ◌≢◌, ◌↔◌, ◌≤ℤ◌, ◌<ℤ◌, ◌+ℤ◌, ◌-ℤ◌, ◌*ℤ◌, ℤ, ℕ, pos, unsigned_abs, int_div, Bool, IsTrue}
-use Rattle.std.proofs.Common.{arith, ◌∙◌, subst}
-use Rattle.std.proofs.lemmas.Int.{by_lt_z}
-use Rattle.integer_core.specs.Division.{IsCeiled, IsDivision, IsFloored, IsMultiple, IsQuotient, IsRemainder}
-use Rattle.integer_core.specs.Range.{EachFits, IsRange}
-use Rattle.integer_core.specs.Divisors.{Divides}
+use Rattle.integer_core.proofs.Common.{◌≡◌, ◌≢◌, ◌↔◌, ◌≤ℤ◌, ◌<ℤ◌, ◌+ℤ◌, ◌-ℤ◌, ◌*ℤ◌, ℤ, ℕ, pos, unsigned_abs, int_div, Bool, IsTrue, arith, ◌∙◌, subst, by_lt_z, IsCeiled, IsDivision, IsFloored, IsMultiple, IsQuotient, IsRemainder, EachFits, IsRange, Divides, comm, expand, linear, products, sizes}
 use Rattle.num_integer.specs.Parts.{signed}
 use Rattle.integer_core.proofs.Quotients.{only_floored, other_quotient_fits, truncated_is}
-use Rattle.integer_core.proofs.Whole.{comm, expand, linear, products, sizes}
 use Rattle.num_integer.proofs.FittingAnswers.{signed_is}
 use Rattle.num_integer.proofs.OrderedProducts.{multiples_apart}
 

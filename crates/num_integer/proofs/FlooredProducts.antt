@@ -1,25 +1,16 @@
 -- Floored quotients of products, by signs and magnitudes.
-use Rattle.std.specs.Prelude.{◌≡◌, ◌<◌, ◌≤ℤ◌, ◌<ℤ◌, ◌*◌, ◌/◌, ◌%◌, ◌*ℤ◌, ℕ, ℤ, pos, neg_ℤ, not, Bool, true, false}
-use Rattle.std.proofs.Common.{arith, inl, sym}
-use Rattle.std.proofs.lemmas.Int.{by_lt_z, ints}
+use Rattle.integer_core.proofs.Common.{◌≡◌, ◌<◌, ◌≤ℤ◌, ◌<ℤ◌, ◌*◌, ◌/◌, ◌%◌, ◌*ℤ◌, ℕ, ℤ, pos, neg_ℤ, not, Bool, true, false, arith, inl, sym, by_lt_z, ints, linear, products, sizes, IsFloored, IsRange}
 use Rattle.std.proofs.Math.Bool.{beq}
-use Rattle.std.proofs.Math.Nat.{div-add-mod, mod-lt}
 use Rattle.integer_core.proofs.Ranges.{within_fits}
-use Rattle.integer_core.proofs.Whole.{linear, products, sizes}
-use Rattle.integer_core.specs.Division.{IsFloored}
-use Rattle.integer_core.specs.Range.{IsRange}
 use Rattle.num_integer.proofs.FlooredByPositive.{floored_by_range, floored_range}
+use Rattle.num_integer.proofs.NaturalDivision.{natural_division}
 use Rattle.num_integer.proofs.OrderedProducts.{multiples_apart, product_at_most, product_from_zero}
 use Rattle.num_integer.specs.Parts.{signed}
 
--- the quotient and the remainder of natural numbers are floored
-pub natural_floored : (m d : ℕ) → 0 < d → IsFloored (pos m) (pos d) (pos (m / d)) (pos (m % d))
-natural_floored m d up = floored_by_range (omega (arith, ints, div-add-mod m d)) (omega (arith, ints)) (omega (arith, ints, mod-lt m up))
-
--- without a remainder, those of a number of either sign are floored
+-- without a remainder, the quotient and the remainder of a number of either sign are floored
 pub exact_floored : (negative : Bool) (m d : ℕ) → 0 < d → m % d ≡ 0 → IsFloored (signed negative m) (pos d) (signed negative (m / d)) (pos (m % d))
-exact_floored false m d up none = natural_floored m d up
-exact_floored true m d up none = let h = (natural_floored m d up).division.equation in floored_by_range (grind (arith, products, none, h)) (omega (arith, ints)) (omega (arith, ints, none))
+exact_floored false m d up none = natural_division m d up
+exact_floored true m d up none = let h = (natural_division m d up).division.equation in floored_by_range (grind (arith, products, none, h)) (omega (arith, ints)) (omega (arith, ints, none))
 
 -- both numbers negated have the same quotient, and the remainder negated
 negated_floored : {n d q r : ℤ} → IsFloored n d q r → IsFloored (neg_ℤ n) (neg_ℤ d) q (neg_ℤ r)

@@ -2,8 +2,7 @@
 -- ---- divisors and multiples
 
 pub use Rattle.integer_core.proofs.CommonDivisors.{divides_multiple, gcd-divisor, gcd-nonzero, gcd-positive, gcd-swap, gcd-times, gcd-zero, lcm-zero, only_gcd, only_lcm}
-pub use Rattle.integer_core.proofs.Divisibility.{Divides-antisym, Divides-cancel, Divides-refl, Divides-sum, Divides-times, Divides-trans, Divides-zero, cancel, divides_magnitude, magnitude_divides, zero_divides}
-pub use Rattle.integer_core.proofs.EuclidTurns.{divides_or_not, divisor_size, one_divides}
+pub use Rattle.integer_core.proofs.Divisibility.{Divides-antisym, Divides-cancel, Divides-refl, Divides-sum, Divides-times, Divides-trans, Divides-zero, cancel, divides_magnitude, divides_or_not, divisor_size, magnitude_divides, one_divides, zero_divides}
 pub use Rattle.integer_core.proofs.OddParts.{shift_back}
 -- ---- quotients and remainders
 
@@ -11,8 +10,8 @@ pub use Rattle.integer_core.proofs.Divisibility.{exact_quotient, rest_is}
 pub use Rattle.integer_core.proofs.Quotients.{floored_remainder_within, only_ceiled, only_floored, only_truncated, other_quotient_fits, remainder_within, truncated_is, zero_or_not}
 -- ---- what fits
 
-pub use Rattle.integer_core.proofs.GcdDomain.{gcd_fits_is, no_minus_one}
-pub use Rattle.integer_core.proofs.Ranges.{LiesWithin, within_fits}
+pub use Rattle.integer_core.proofs.CommonDivisors.{gcd_fits_is, no_minus_one}
+pub use Rattle.integer_core.proofs.Ranges.{LiesWithin, one_fits, within_fits, zero_fits}
 pub use Rattle.num_integer.proofs.FittingAnswers.{fits_below}
 -- ---- what tests and checked calls say
 
@@ -34,9 +33,6 @@ pub use Rattle.integer_core.proofs.Whole.{expand, linear, products, sizes, comm,
 -- ---- smallest and largest numbers
 
 pub use Rattle.num_integer.proofs.Least.{greatest_is_only, least_is_only}
--- ---- the numbers 0 and 1
-
-pub use Rattle.num_integer.proofs.ZeroAndOne.{zero_fits, one_fits}
 -- ---- inequalities between products
 
 pub use Rattle.integer_core.proofs.Whole.{product_positive}
@@ -56,11 +52,11 @@ pub use Rattle.integer_roots.proofs.MagnitudeRoots.{first_root, root_in_range}
 pub use Rattle.integer_roots.proofs.OnlyAnswers.{root_is_only_one}
 pub use Rattle.integer_roots.proofs.Powers.{power_of_one, power_of_power, power_of_zero}
 pub use Rattle.num_integer.proofs.IntegerPowers.{even_or_odd, even_power, int_pow-suc, int_pow-zero, odd_power, power_of_square, power_size}
-pub use Rattle.num_integer.proofs.ExactRoots.{root_by_squares, exact_power_root, square_root_of_square}
+pub use Rattle.num_integer.proofs.IntegerPowers.{root_by_squares, exact_power_root, square_root_of_square}
 -- ---- coefficients
 
 pub use Rattle.num_integer.proofs.Pascal.{coefficient-pos, coefficient-zero, factorial-pos, none_above}
-pub use Rattle.num_integer.proofs.GrowingCoefficients.{pascal, coefficient_grows}
+pub use Rattle.num_integer.proofs.Pascal.{pascal, coefficient_grows}
 -- ---- the operators of the natural numbers
 
 pub use Rattle.num_integer.proofs.NaturalDivision.{quotient_is_natural, remainder_is_natural, division_is_natural, natural_quotient_fits, divides_is_natural, least_turns, quotients_grow, near}
@@ -69,4 +65,4 @@ pub use Rattle.num_integer.proofs.NaturalDivision.{quotient_is_natural, remainde
 pub use Rattle.num_integer.proofs.LiteralMultiples.{euclid, lcm_number, literal_lcm_fits, literal_lcm_fits_signed}
 -- ---- division by literals
 
-pub use Rattle.num_integer.proofs.DivisionByLiterals.{floored_quotient_range, ceiled_quotient_range, divides_by_magnitude}
+pub use Rattle.num_integer.proofs.NaturalDivision.{floored_quotient_range, ceiled_quotient_range, divides_by_magnitude}

@@ -1,13 +1,8 @@
--- Powers of integers: their signs, one degree more, and the double degree.
-use Rattle.std.specs.Prelude.{◌≡◌, ◌⊎◌, ◌+◌, ◌%◌, ◌^◌, ◌*ℤ◌, ℤ, ℕ, pos, negsuc, neg_ℤ, zero, suc, unsigned_abs}
-use Rattle.std.specs.Int.{int_pow}
-use Rattle.std.proofs.Common.{arith, ap, ◌∙◌, inl, inr, refl, sym}
-use Rattle.std.proofs.Math.IntN.{negsuc-*ℤ-pos}
-use Rattle.std.proofs.Math.Nat.{pow-zero, pow-succ'}
-use Rattle.std.proofs.lemmas.Bool.{cases_lt}
-use Rattle.std.proofs.lemmas.Int.{ints}
-use Rattle.integer_core.proofs.Whole.{expand, products}
-use Rattle.integer_roots.proofs.Powers.{power_of_zero}
+-- Powers of integers: their signs, one degree more, and the double degree. Roots of exact powers.
+use Rattle.integer_core.proofs.Common.{◌≡◌, ◌⊎◌, ◌+◌, ◌%◌, ◌^◌, ◌*ℤ◌, ℤ, ℕ, pos, negsuc, neg_ℤ, zero, suc, unsigned_abs, int_pow, arith, ap, ◌∙◌, inl, inr, refl, sym, negsuc-*ℤ-pos, pow-zero, pow-succ', cases_lt, ints, expand, products, ◌≢◌, ◌<◌, ◌≤◌, ◌*◌, subst, pow-lt-pow_left}
+use Rattle.integer_roots.proofs.Powers.{power_of_zero, power_two}
+use Rattle.integer_roots.specs.RootOf.{IsRoot}
+use Rattle.integer_roots.proofs.OnlyAnswers.{root_is_only_one}
 
 pub even_power : (k : ℤ) (n : ℕ) → n % 2 ≡ 0 → int_pow k n ≡ pos (unsigned_abs k ^ n)
 even_power (pos a) n even = refl
@@ -56,3 +51,37 @@ power_of_square x (suc h) =
     let twice : int_pow x (suc (suc (h + h))) ≡ x *ℤ (x *ℤ int_pow x (h + h)) = int_pow-suc x (suc (h + h)) ∙ ap (λ (t : ℤ). x *ℤ t) (int_pow-suc x (h + h)) in
     let less : x *ℤ (x *ℤ int_pow x (h + h)) ≡ x *ℤ (x *ℤ int_pow (x *ℤ x) h) = ap (λ (t : ℤ). x *ℤ (x *ℤ t)) (power_of_square x h) in
     ap (λ (k : ℕ). int_pow x k) e ∙ twice ∙ less ∙ sym (int_pow-suc (x *ℤ x) h ∙ simp expand refl)
+
+-- ---- roots by squares, and roots of exact powers
+
+-- a square root of a natural number, by squares
+pub root_by_squares : {x r : ℕ} → IsRoot (pos x) 2 (pos r) → (r * r ≤ x) × (x < (r + 1) * (r + 1))
+root_by_squares {x} {r} h =
+    let root = h.from_zero (omega (arith, ints)) in
+    let low = root.power_le in
+    let high = root.next_power_gt in
+    (omega (arith, ints, power_two r), omega (arith, ints, power_two (r + 1)))
+
+-- the root of an exact power is its base
+pub exact_power_root : {k : ℕ} {n : ℕ} {r : ℤ} → n ≢ 0 → IsRoot (int_pow (pos k) n) n r → r ≡ pos k
+exact_power_root {k} {n} nonzero h =
+    let next = pow-lt-pow_left {a = k} {b = k + 1} (omega arith) nonzero in
+    let is : IsRoot (int_pow (pos k) n) n (pos k) = record {
+      from_zero = λ up. record { from_zero = omega (arith, ints); power_le = omega (arith, ints); next_power_gt = omega (arith, ints) };
+      below_zero = λ below. absurd (omega (arith, ints));
+    } in
+    root_is_only_one is _ h
+
+power_two_is : (n : ℕ) → int_pow (pos n) 2 ≡ pos n *ℤ pos n
+power_two_is n = let e = power_two n in omega (arith, ints)
+
+square_of_size : (k : ℤ) → k *ℤ k ≡ pos (unsigned_abs k) *ℤ pos (unsigned_abs k)
+square_of_size (pos k) = refl
+square_of_size (negsuc k) = omega (arith, ints)
+
+-- the square of the root of a square is the square
+pub square_root_of_square : {x r : ℤ} (k : ℤ) → k *ℤ k ≡ x → IsRoot x 2 r → r *ℤ r ≡ x
+square_root_of_square {x} {r} k e h =
+    let power : int_pow (pos (unsigned_abs k)) 2 ≡ x = power_two_is (unsigned_abs k) ∙ sym (square_of_size k) ∙ e in
+    let same = exact_power_root {k = unsigned_abs k} {n = 2} (omega arith) (subst (λ (t : ℤ). IsRoot t 2 r) (sym power) h) in
+    rw same (sym (square_of_size k) ∙ e)

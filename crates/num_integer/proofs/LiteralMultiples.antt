@@ -1,12 +1,8 @@
 -- Least common multiples of literals, which the prover computes.
-use Rattle.std.specs.Prelude.{◌≡◌, ◌<◌, ◌*◌, ◌/◌, ◌%◌, ◌^◌, ℤ, ℕ, pos, zero, suc, unsigned_abs, IsTrue, nat_lt, FitsSigned}
-use Rattle.std.specs.Int.{FitsUnsignedBits, Width}
+use Rattle.integer_core.proofs.Common.{◌≡◌, ◌<◌, ◌*◌, ◌/◌, ◌%◌, ◌^◌, ℤ, ℕ, pos, zero, suc, unsigned_abs, IsTrue, nat_lt, FitsSigned, FitsUnsignedBits, Width, arith, ◌∙◌, ap, inl, inr, refl, subst, sym, div-le_self, IsGreatestCommonDivisor, IsLeastCommonMultiple}
 use mir.Val.{hbits}
-use Rattle.std.proofs.Common.{arith, ◌∙◌, ap, inl, inr, refl, subst, sym}
 use Rattle.std.proofs.lemmas.Bool.{ltb-true}
 use Rattle.std.proofs.lemmas.Int.{fits_signed_from_abs}
-use Rattle.std.proofs.Math.Nat.{div-le_self}
-use Rattle.integer_core.specs.Divisors.{IsGreatestCommonDivisor, IsLeastCommonMultiple}
 use Rattle.integer_core.proofs.CommonDivisors.{gcd-remainder, gcd-zero, lcm-computed, only_lcm}
 use Rattle.integer_core.proofs.Divisibility.{zero_divides}
 use Rattle.integer_core.proofs.Quotients.{zero_or_not}

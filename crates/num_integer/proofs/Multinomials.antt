@@ -1,19 +1,13 @@
 -- Multinomials: the product of the coefficients of the running sums, in any order, and the loops over counts.
 use Rattle.std.specs.List.{All, AllWithin, swap}
 use Rattle.std.specs.Option.{MatchOption}
-use Rattle.std.specs.Prelude.{ℤ, pos, unsigned_abs, List, [], ◌∷◌, map, sum, length, get_or, drop, ◌≡◌, ◌+◌, ◌<◌, ◌≤◌, ◌≤ℤ◌, ◌+ℤ◌, ◌*ℤ◌, ℕ, zero, suc, ◌↔◌, ◌*◌, ◌<ℤ◌, Bool, true, false, Option, Some, None, IsTrue, is_some, set}
-use Rattle.std.proofs.Common.{◌-◌, ap, sym, ◌∙◌, arith, refl, subst, inl, inr, zero-add}
-use Rattle.std.proofs.Math.Nat.{le-mul_of_pos_right, mul-pos, eq_of_mul-eq-mul_left}
-use Rattle.std.proofs.lemmas.Bool.{cases_eq}
-use Rattle.std.proofs.lemmas.Int.{ints, unsigned_abs-mul}
+use Rattle.integer_core.proofs.Common.{ℤ, pos, unsigned_abs, List, [], ◌∷◌, map, sum, length, get_or, drop, ◌≡◌, ◌+◌, ◌<◌, ◌≤◌, ◌≤ℤ◌, ◌+ℤ◌, ◌*ℤ◌, ℕ, zero, suc, ◌↔◌, ◌*◌, ◌<ℤ◌, Bool, true, false, Option, Some, None, IsTrue, is_some, set, ◌-◌, ap, sym, ◌∙◌, arith, refl, subst, inl, inr, zero-add, le-mul_of_pos_right, mul-pos, eq_of_mul-eq-mul_left, cases_eq, ints, unsigned_abs-mul, comm, IsRange, EachFits}
 use Rattle.std.proofs.lemmas.List.{at_drop_all, at_drop_more, get_or-set_other, get_or-set_same, length-set}
 use Rattle.std.proofs.lemmas.List.Edits.{swap_is}
 use Rattle.std.proofs.lemmas.List.Elements.{All-from_all_within, AllWithin-more, AllWithin-upto, at_read}
 use Rattle.std.proofs.lemmas.List.Sorted.{IsPermutation-keeps, IsPermutation-map, sum_by-IsPermutation}
 use Rattle.std.proofs.lemmas.List.Sums.{sum_by-cons}
 use Rattle.integer_core.proofs.Divisibility.{cancel}
-use Rattle.integer_core.proofs.Whole.{comm}
-use Rattle.integer_core.specs.Range.{IsRange, EachFits}
 use Rattle.num_integer.proofs.FittingAnswers.{fits_below, fits_up}
 use Rattle.num_integer.proofs.OrderedProducts.{product_from_zero}
 use Rattle.num_integer.proofs.Pascal.{coefficient-pos, divides_factorials, factorial-pos, not_below_top}
@@ -114,17 +108,36 @@ pub record IsMultinomialSoFar {X : Type 0} (fits : ℤ → Type 0) (value : X �
 sum_at_most : (s t k most : ℕ) → s ≡ t + k → t ≤ most → k ≤ most → coefficient s k ≤ most → s ≤ most
 sum_at_most s t k most is t_below k_below below = let above = not_below_top s k in grind arith
 
-module _ {X : Type 0} {fits : ℤ → Type 0} {low high : ℤ} {value : X → ℤ} {counts : List X} (range : IsRange fits low high) (all_fits : EachFits fits (IsMultinomial (map value counts))) where
+module _ {X : Type 0} {fits : ℤ → Type 0} {value : X → ℤ} {counts : List X} where
   -- before the first turn
   pub multinomial_first : {m t : ℤ} → fits m → m ≡ pos 1 → fits t → t ≡ pos 0 → IsMultinomialSoFar fits value counts 0 m t
   multinomial_first m_fits one t_fits none =
       record { total_in_range = t_fits; total_from_zero = omega (arith, ints); in_range = m_fits; from_zero = omega (arith, ints); shared = rw (one, none) shared_first }
 
-  -- a turn
-  pub multinomial_next : {i : ℕ} {x : X} {m t : ℤ} → i < length counts → x ≡ get_or counts i x → All (λ (y : X). fits (value y)) counts → All (λ (y : X). pos 0 ≤ℤ value y) counts
-      → IsMultinomialSoFar fits value counts i m t
+  -- a turn whose numbers fit
+  so_far_next : {i : ℕ} {x : X} {m t : ℤ} → i < length counts → x ≡ get_or counts i x → pos 0 ≤ℤ value x → fits (t +ℤ value x) → fits (m *ℤ coefficient_of (t +ℤ value x) (value x))
+      → IsMultinomialSoFar fits value counts i m t → IsMultinomialSoFar fits value counts (i + 1) (m *ℤ coefficient_of (t +ℤ value x) (value x)) (t +ℤ value x)
+  so_far_next {i} {x} {m} {t} inside at up t_fits m_fits h =
+      let c : ℤ = coefficient_of (t +ℤ value x) (value x) in
+      let sum : unsigned_abs (t +ℤ value x) ≡ unsigned_abs t + unsigned_abs (value x) = omega (arith, ints, h.total_from_zero) in
+      record {
+        total_in_range = t_fits;
+        total_from_zero = omega (arith, ints, h.total_from_zero);
+        in_range = m_fits;
+        from_zero = product_from_zero m c h.from_zero (omega (arith, ints));
+        shared = rw (unsigned_abs-mul m c, sum) (shared_next h.shared inside at refl);
+      }
+
+  -- after the last turn
+  pub multinomial_last : {i : ℕ} {m t : ℤ} → IsMultinomialSoFar fits value counts i m t → length counts ≤ i → IsMultinomial (map value counts) m
+  multinomial_last h done =
+      subst (IsMultinomial (map value counts)) (omega (arith, ints, h.from_zero, shared_last h.shared done)) (is_multinomial (map value counts))
+
+  -- a turn, if the multinomial of all counts fits
+  pub multinomial_next : {low high : ℤ} {i : ℕ} {x : X} {m t : ℤ} → IsRange fits low high → EachFits fits (IsMultinomial (map value counts)) → i < length counts → x ≡ get_or counts i x
+      → All (λ (y : X). fits (value y)) counts → All (λ (y : X). pos 0 ≤ℤ value y) counts → IsMultinomialSoFar fits value counts i m t
       → fits (coefficient_of (t +ℤ value x) (value x)) × IsMultinomialSoFar fits value counts (i + 1) (m *ℤ coefficient_of (t +ℤ value x) (value x)) (t +ℤ value x)
-  multinomial_next {i} {x} {m} {t} inside at in_range from_zero h =
+  multinomial_next {high = high} {i = i} {x = x} {m = m} {t = t} range all_fits inside at in_range from_zero h =
       let x_fits = rw (← at) at (in_range i x inside) in
       let x_up = rw (← at) at (from_zero i x inside) in
       let c : ℤ = coefficient_of (t +ℤ value x) (value x) in
@@ -139,19 +152,8 @@ module _ {X : Type 0} {fits : ℤ → Type 0} {low high : ℤ} {value : X → �
       let whole_in = (range.between _).0 whole in
       let few = sum_at_most (unsigned_abs (t +ℤ value x)) (unsigned_abs t) (unsigned_abs (value x)) (unsigned_abs high) sum (omega (arith, ints)) (omega (arith, ints)) (omega (arith, ints)) in (
         fits_below range whole (omega (arith, ints)) (omega (arith, ints)),
-        record {
-          total_in_range = (range.between _).1 (omega (arith, ints));
-          total_from_zero = omega (arith, ints);
-          in_range = fits_below range whole product_up (omega (arith, ints));
-          from_zero = product_up;
-          shared = next;
-        },
+        so_far_next inside at x_up ((range.between _).1 (omega (arith, ints))) (fits_below range whole product_up (omega (arith, ints))) h,
       )
-
-  -- after the last turn
-  pub multinomial_last : {i : ℕ} {m t : ℤ} → IsMultinomialSoFar fits value counts i m t → length counts ≤ i → IsMultinomial (map value counts) m
-  multinomial_last h done =
-      subst (IsMultinomial (map value counts)) (omega (arith, ints, h.from_zero, shared_last h.shared done)) (is_multinomial (map value counts))
 
 -- ---- when a coefficient fits, and when a multinomial does
 
@@ -234,9 +236,38 @@ swap_keeps_factorials l i j p q =
     subst (λ (t : List ℕ). product (map factorial t) ≡ product (map factorial l)) (swap_is l i j 0 p q) same
 
 -- counts in another order have the same multinomial
-pub in_any_order : MultinomialIgnoresOrder
-in_any_order counts others h m is =
+pub multinomial_ignores_order : MultinomialIgnoresOrder
+multinomial_ignores_order counts others h m is =
     let magnitudes = IsPermutation-map unsigned_abs counts others h in
     let own : ℕ = product (map factorial (map unsigned_abs counts)) in
     let products = IsPermutation-keeps _ (λ (l : List ℕ). product (map factorial l) ≡ own) refl (λ l i j p q h. swap_keeps_factorials l i j p q ∙ h) _ magnitudes in
     record { factorials = rw (products, sum_by-IsPermutation (λ (x : ℕ). x) _ _ magnitudes) is.factorials }
+
+-- ---- the loop of `checked::multinomial`: it goes on as long as each number fits
+
+-- the counts before the i-th are not negative, t is their sum and m their multinomial
+pub record IsCheckedSoFar {X : Type 0} (fits : ℤ → Type 0) (value : X → ℤ) (counts : List X) (i : ℕ) (m t : ℤ) : Type 0 where
+  pub so_far : IsMultinomialSoFar fits value counts i m t
+  pub from_zero : AllWithin (λ (x : X). pos 0 ≤ℤ value x) counts 0 i
+
+module _ {X : Type 0} {fits : ℤ → Type 0} {value : X → ℤ} {counts : List X} {i : ℕ} {m t : ℤ} (before : IsCheckedSoFar fits value counts i m t) where
+  module _ {x : X} (inside : i < length counts) (at : x ≡ get_or counts i x) where
+    -- in the domain the next coefficient, sum and multinomial fit
+    pub next_fits : {low high : ℤ} → IsRange fits low high → All (λ (y : X). fits (value y)) counts → HasFittingMultinomial fits value counts
+        → fits (coefficient_of (t +ℤ value x) (value x)) × IsMultinomialSoFar fits value counts (i + 1) (m *ℤ coefficient_of (t +ℤ value x) (value x)) (t +ℤ value x)
+    next_fits range in_range h = multinomial_next range h.1 inside at in_range h.0 before.so_far
+
+    -- a turn
+    pub checked_next : {t' c m' : ℤ} → pos 0 ≤ℤ value x → fits t' → t' ≡ t +ℤ value x → c ≡ coefficient_of t' (value x) → fits m' → m' ≡ m *ℤ c → IsCheckedSoFar fits value counts (i + 1) m' t'
+    checked_next up t_fits total ways m_fits next = record {
+      so_far = rw (next, ways, total) (so_far_next inside at up (rw total at t_fits) (rw (next, ways, total) at m_fits) before.so_far);
+      from_zero = AllWithin-more (λ (y : X). pos 0 ≤ℤ value y) counts 0 i before.from_zero (at_read counts (λ (y : X). pos 0 ≤ℤ value y) i x inside at up);
+    }
+
+  -- after the last turn
+  pub checked_last : length counts ≤ i → HasFittingMultinomial fits value counts × (fits m × IsMultinomial (map value counts) m)
+  checked_last done =
+      let own = multinomial_last before.so_far done in (
+        (All-from_all_within (λ (y : X). pos 0 ≤ℤ value y) counts (AllWithin-upto (λ (y : X). pos 0 ≤ℤ value y) counts 0 i (length counts) done before.from_zero), λ z other. subst fits (only_multinomial own ∙ sym (only_multinomial other)) before.so_far.in_range),
+        (before.so_far.in_range, own),
+      )

@@ -1,21 +1,11 @@
 -- Division of natural numbers, as `/` and `%` say it.
-use Rattle.std.specs.Prelude.{◌≡◌, ◌↔◌, ◌<◌, ◌≤◌, ◌+◌, ◌-◌, ◌*◌, ◌/◌, ◌%◌, ◌^◌, ◌≤ℤ◌, ◌<ℤ◌, ◌+ℤ◌, ◌*ℤ◌, ℤ, ℕ, pos, unsigned_abs}
-use Rattle.std.specs.Int.{FitsUnsignedBits}
-use Rattle.std.proofs.Common.{arith, ◌∙◌, ap}
-use Rattle.std.proofs.lemmas.Int.{ints}
-use Rattle.std.proofs.lemmas.Nat.{div-add-mod', div_below, le-div, mul-lt}
-use Rattle.std.proofs.Math.Nat.{div-le_self}
-use Rattle.integer_core.specs.Division.{IsFloored, IsQuotient, IsRemainder}
-use Rattle.integer_core.specs.Range.{EachFits}
-use Rattle.integer_core.specs.Divisors.{Divides, IsLeastCommonMultiple}
+use Rattle.integer_core.proofs.Common.{◌≡◌, ◌↔◌, ◌<◌, ◌≤◌, ◌+◌, ◌-◌, ◌*◌, ◌/◌, ◌%◌, ◌^◌, ◌≤ℤ◌, ◌<ℤ◌, ◌+ℤ◌, ◌*ℤ◌, ℤ, ℕ, pos, unsigned_abs, FitsUnsignedBits, arith, ap, ints, div-add-mod', div_below, le-div, mul-lt, div-le_self, IsFloored, IsQuotient, IsRemainder, EachFits, Divides, IsLeastCommonMultiple, products, suc, IsCeiled, linear}
 use Rattle.integer_core.proofs.Quotients.{only_floored}
-use Rattle.integer_core.proofs.Whole.{products}
-use Rattle.num_integer.proofs.FlooredByPositive.{floored_by_range}
+use Rattle.num_integer.proofs.FlooredByPositive.{floored_by_range, ceiled_remainder_range, floored_range}
 use Rattle.num_integer.proofs.DivisorSizes.{divisor_at_most, lcm-positive}
+use Rattle.integer_core.proofs.Divisibility.{Divides-trans, divides_magnitude, magnitude_divides}
 
-multiple_alone : (d k : ℤ) → d *ℤ k ≡ k *ℤ d +ℤ pos 0
-multiple_alone d k = omega (arith, products)
-
+-- the quotient and the remainder of natural numbers are floored
 pub natural_division : (n d : ℕ) → 0 < d → IsFloored (pos n) (pos d) (pos (n / d)) (pos (n % d))
 natural_division n d up = floored_by_range (omega (arith, ints)) (omega (arith, ints)) (omega (arith, ints))
 
@@ -39,7 +29,7 @@ natural_quotient_fits bits {n} {d} small up q h = rw (only_floored h.division (n
 pub divides_is_natural : {d n : ℕ} → 0 < d → Divides (pos d) (pos n) ↔ (n % d ≡ 0)
 divides_is_natural {d} {n} up = (
   λ h.
-      let own : IsRemainder IsFloored (pos n) (pos d) (pos 0) = record { quotient = h.factor; division = floored_by_range (h.product ∙ multiple_alone (pos d) h.factor) (omega (arith, ints)) (omega (arith, ints)) } in
+      let own : IsRemainder IsFloored (pos n) (pos d) (pos 0) = record { quotient = h.factor; division = floored_by_range (omega (arith, products, h.product)) (omega (arith, ints)) (omega (arith, ints)) } in
       omega (arith, ints, remainder_is_natural up own),
   λ e. record { factor = pos (n / d); product = omega (arith, ints) },
 )
@@ -75,3 +65,25 @@ difference_near p q m n w r s d grow before after more r_small s_small =
 pub near : (m w d : ℕ) {n : ℕ} → 0 < d → m + w ≡ n → ((n / d - m / d) * d < w + d) × (w < (n / d - m / d) * d + d)
 near m w d {n} up more =
     difference_near (m / d) (n / d) m n w (m % d) (n % d) d (quotients_grow d up (omega arith)) (div-add-mod' m d) (div-add-mod' n d) more (omega arith) (omega arith)
+
+-- ---- division by literals
+
+-- a floored quotient by inequalities
+pub floored_quotient_range : {n q : ℤ} {d : ℕ} → IsQuotient IsFloored n (pos (suc d)) q → ((q *ℤ pos (suc d)) ≤ℤ n) × (n <ℤ (q *ℤ pos (suc d) +ℤ pos (suc d)))
+floored_quotient_range h =
+    let range = floored_range (omega (arith, ints)) h.division in
+    let equation = h.division.division.equation in
+    (omega (arith, linear), omega (arith, linear))
+
+-- a ceiled quotient by inequalities
+pub ceiled_quotient_range : {n q : ℤ} {d : ℕ} → IsQuotient IsCeiled n (pos (suc d)) q → (n ≤ℤ (q *ℤ pos (suc d))) × ((q *ℤ pos (suc d)) <ℤ (n +ℤ pos (suc d)))
+ceiled_quotient_range h =
+    let range = ceiled_remainder_range (omega (arith, ints)) h.division in
+    let equation = h.division.division.equation in
+    (omega (arith, linear), omega (arith, linear))
+
+-- d divides an integer exactly if the remainder of its magnitude is 0
+pub divides_by_magnitude : (z : ℤ) (d : ℕ) → 0 < d → Divides (pos d) z ↔ (unsigned_abs z % d ≡ 0)
+divides_by_magnitude z d up =
+    let natural = divides_is_natural {d = d} {n = unsigned_abs z} up in
+    (λ h. natural.0 (Divides-trans h (divides_magnitude z)), λ e. Divides-trans (natural.1 e) (magnitude_divides z))

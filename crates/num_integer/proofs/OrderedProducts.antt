@@ -1,8 +1,5 @@
 -- Inequalities between products of integers.
-use Rattle.std.specs.Prelude.{◌≡◌, ◌≤ℤ◌, ◌<ℤ◌, ◌+ℤ◌, ◌-ℤ◌, ◌*ℤ◌, ℤ, pos}
-use Rattle.std.proofs.Common.{arith}
-use Rattle.std.proofs.lemmas.Int.{by_lt_z}
-use Rattle.integer_core.proofs.Whole.{expand, linear, products}
+use Rattle.integer_core.proofs.Common.{◌≡◌, ◌≤ℤ◌, ◌<ℤ◌, ◌+ℤ◌, ◌-ℤ◌, ◌*ℤ◌, ℤ, pos, arith, by_lt_z, expand, linear, products}
 
 -- products of numbers that are not negative
 pub product_from_zero : (k d : ℤ) → pos 0 ≤ℤ k → pos 0 ≤ℤ d → pos 0 ≤ℤ (k *ℤ d)

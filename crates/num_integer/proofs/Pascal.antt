@@ -1,7 +1,5 @@
 -- Pascal's triangle.
-use Rattle.std.proofs.Common.{◌≡◌, ℕ, zero, suc, ◌+◌, ◌-◌, ◌*◌, ◌^◌, ◌<◌, ◌≤◌, min, inl, inr, ap, sym, subst, refl, arith, mul-le-mul_right, le_refl, le_trans}
-use Rattle.std.proofs.lemmas.Bool.{cases_lt}
-use Rattle.std.proofs.Math.Nat.{eq_of_mul-eq-mul_left, le_of_mul-le-mul_left, mul-pos, pow-succ'}
+use Rattle.integer_core.proofs.Common.{◌≡◌, ℕ, zero, suc, ◌+◌, ◌-◌, ◌*◌, ◌^◌, ◌<◌, ◌≤◌, min, inl, inr, ap, sym, subst, refl, arith, mul-le-mul_right, le_refl, le_trans, cases_lt, eq_of_mul-eq-mul_left, le_of_mul-le-mul_left, mul-pos, pow-succ', suc-add, zero-add}
 use Rattle.num_integer.specs.Coefficient.{coefficient, factorial}
 
 -- there is one way to choose no things
@@ -79,8 +77,8 @@ factorial-pos zero = omega arith
 factorial-pos (suc n) = omega (arith, mul-le-mul_right (suc n) (factorial-pos n))
 
 -- to choose k of n things is to leave n - k of them
-pub mirror : (n k : ℕ) → k ≤ n → coefficient n k ≡ coefficient n (n - k)
-mirror n k h =
+pub coefficient_mirror : (n k : ℕ) → k ≤ n → coefficient n k ≡ coefficient n (n - k)
+coefficient_mirror n k h =
     let e : n - (n - k) ≡ k = omega arith in
     let other = rw e at (divides_factorials n (n - k) (omega arith)) in
     eq_of_mul-eq-mul_left (factorial k * factorial (n - k)) (mul-pos (factorial-pos k) (factorial-pos (n - k))) _ _ (omega (arith, divides_factorials n k h))
@@ -88,7 +86,7 @@ mirror n k h =
 -- the smaller of k and n - k has the coefficient of k
 pub nearer_same : (n k m : ℕ) → k ≤ n → m ≡ min k (n - k) → coefficient n m ≡ coefficient n k
 nearer_same n k m h is = elim (cases_lt (n - k) k) [
-  | inl far ↦ let e : m ≡ n - k = omega arith in rw e (sym (mirror n k h))
+  | inl far ↦ let e : m ≡ n - k = omega arith in rw e (sym (coefficient_mirror n k h))
   | inr near ↦ let e : m ≡ k = omega arith in rw e refl
 ]
 
@@ -107,3 +105,24 @@ power_below_answer n k m h l = le_trans (power_below n m (omega arith)) (below_a
 
 -- what a loop along a row needs
 pub ruleset row_steps = (coefficient-zero, none_above, nearer_same, below_answer, power_below_answer)
+
+-- ---- Pascal's rule, and coefficients out of more things
+
+-- Pascal's rule
+pub pascal : (n k : ℕ) → coefficient (suc n) (suc k) ≡ coefficient n k + coefficient n (suc k)
+unfolding coefficient
+pascal n k = refl
+
+one_thing_more : (n k : ℕ) → coefficient n k ≤ coefficient (suc n) k
+one_thing_more n zero = omega (arith, coefficient-zero n, coefficient-zero (suc n))
+one_thing_more n (suc k) = omega (arith, pascal n k)
+
+more_things : (n j k : ℕ) → coefficient n k ≤ coefficient (j + n) k
+more_things n zero k = rw zero-add (le_refl _)
+more_things n (suc j) k = rw suc-add (le_trans (more_things n j k) (one_thing_more (j + n) k))
+
+-- more things have at least as many choices
+pub coefficient_grows : (n m k : ℕ) → n ≤ m → coefficient n k ≤ coefficient m k
+coefficient_grows n m k h =
+    let same : (m - n) + n ≡ m = omega arith in
+    subst (λ (t : ℕ). coefficient n k ≤ coefficient t k) same (more_things n (m - n) k)

@@ -1,22 +1,15 @@
 -- Rows: from one coefficient to the next, and the rest of a row.
 use Rattle.std.specs.List.{All}
-use Rattle.std.specs.Prelude.{◌≤ℤ◌, ◌<ℤ◌, ◌+ℤ◌, ◌-ℤ◌, ◌*ℤ◌, ℤ, pos, negsuc, unsigned_abs, ◌≢◌, int_div, int_rem, ◌≡◌, ◌+◌, ◌-◌, ◌/◌, ◌<◌, ◌≤◌, ℕ, suc, List, [], ◌∷◌, length, drop, get_or, reverse}
-use Rattle.std.proofs.Common.{refl, sym, ◌*◌, ap, ◌∙◌, arith, min}
-use Rattle.std.proofs.lemmas.Int.{ints}
+use Rattle.integer_core.proofs.Common.{◌≤ℤ◌, ◌<ℤ◌, ◌+ℤ◌, ◌-ℤ◌, ◌*ℤ◌, ℤ, pos, negsuc, unsigned_abs, ◌≢◌, int_div, int_rem, ◌≡◌, ◌+◌, ◌-◌, ◌/◌, ◌<◌, ◌≤◌, ℕ, suc, List, [], ◌∷◌, length, drop, get_or, reverse, refl, sym, ◌*◌, ap, ◌∙◌, arith, min, ints, abs_is, comm, expand, linear, products, Divides, IsGreatestCommonDivisor, IsRange}
 use Rattle.std.proofs.lemmas.List.{at_drop_more, drop_all, get_or-reverse, length-reverse}
 use Rattle.std.proofs.lemmas.List.Elements.{All-from_get_or, All-nil}
 use Rattle.std.proofs.lemmas.List.FromFn.{fill_by_all, get_or-map-range_with_len, length-map-range_with_len}
-use borrow.Author.Differences.{abs_is}
 use Rattle.integer_core.proofs.CommonDivisors.{gcd-nonzero, gcd-positive, gcd-remainder, gcd-swap, gcd-times}
-use Rattle.integer_core.proofs.Divisibility.{cancel, Divides-cancel, exact_quotient}
-use Rattle.integer_core.proofs.EuclidTurns.{divisor_size}
+use Rattle.integer_core.proofs.Divisibility.{cancel, Divides-cancel, exact_quotient, divisor_size}
 use Rattle.integer_core.proofs.Quotients.{truncated_is}
-use Rattle.integer_core.proofs.Whole.{comm, expand, linear, products}
-use Rattle.integer_core.specs.Divisors.{Divides, IsGreatestCommonDivisor}
-use Rattle.integer_core.specs.Range.{IsRange}
 use Rattle.num_integer.proofs.FittingAnswers.{fits_below}
 use Rattle.num_integer.proofs.OrderedProducts.{factor_positive}
-use Rattle.num_integer.proofs.Pascal.{mirror, next_in_row, nearer_same, rises}
+use Rattle.num_integer.proofs.Pascal.{coefficient_mirror, next_in_row, nearer_same, rises}
 use Rattle.num_integer.specs.Coefficient.{coefficient, coefficient_of}
 use Rattle.num_integer.specs.Laws.{RowIsGreatestInMiddle, RowIsPalindrome, RowLength}
 use Rattle.num_integer.specs.Row.{IsPlaceInRow, RowFits, row_of}
@@ -49,14 +42,6 @@ module _ {n k c a b : ℤ} (up : pos 0 ≤ℤ k) (below : k <ℤ n) (is : c ≡ 
 
   pub next_only : (x : ℤ) → x *ℤ b ≡ c *ℤ a → x ≡ coefficient_of n (k +ℤ pos 1)
   next_only x e = cancel b x (coefficient_of n (k +ℤ pos 1)) (λ z. absurd (omega (arith, ints))) (comm b x ∙ e ∙ product_is)
-
--- the same over natural numbers
-module _ {n k c : ℕ} (below : k < n) (is : c ≡ coefficient n k) where
-  pub next_natural_divides : Divides (pos (k + 1)) (pos (c * (n - k)))
-  next_natural_divides = next_divides {n = pos n} {k = pos k} (omega (arith, ints)) (omega (arith, ints)) (ap pos is) (sym (difference_is n k (omega arith))) refl
-
-  pub next_natural : (x : ℕ) → pos (x * (k + 1)) ≡ pos (c * (n - k)) → x ≡ coefficient n (k + 1)
-  next_natural x e = ap unsigned_abs (next_only {n = pos n} {k = pos k} (omega (arith, ints)) (omega (arith, ints)) (ap pos is) (sym (difference_is n k (omega arith))) refl (pos x) e)
 
 -- ---- an exact quotient r * a / b, cancelled by the greatest common divisor g of r and b
 
@@ -148,21 +133,21 @@ each_item P n each = All-from_get_or P (row_of (pos n)) (pos 0) (λ k h.
     let within : k ≤ n = omega (arith, length-row n) in
     rw (row_at n k (pos 0) within) (each k within))
 
-pub greatest_in_middle : RowIsGreatestInMiddle
+pub row_is_greatest_in_middle : RowIsGreatestInMiddle
 unfolding row_of
-greatest_in_middle (pos n) = each_item (λ (item : ℤ). item ≤ℤ pos (coefficient n (n / 2))) n (λ k h. omega (arith, ints, below_middle n k h))
-greatest_in_middle (negsuc n) = All-nil (λ (item : ℤ). item ≤ℤ pos (coefficient (suc n) (suc n / 2)))
+row_is_greatest_in_middle (pos n) = each_item (λ (item : ℤ). item ≤ℤ pos (coefficient n (n / 2))) n (λ k h. omega (arith, ints, below_middle n k h))
+row_is_greatest_in_middle (negsuc n) = All-nil (λ (item : ℤ). item ≤ℤ pos (coefficient (suc n) (suc n / 2)))
 
 -- a row is symmetric
-pub backwards : RowIsPalindrome
+pub row_is_palindrome : RowIsPalindrome
 unfolding row_of
-backwards (pos n) =
+row_is_palindrome (pos n) =
     let long : length (reverse (row_of (pos n))) ≡ n + 1 = length-reverse (row_of (pos n)) ∙ length-row n in
     fill_by_all (λ k. pos (coefficient n k)) (reverse (row_of (pos n))) (n + 1) (pos 0) long (λ k h.
     let within : k ≤ n = omega arith in
     let at : length (row_of (pos n)) - 1 - k ≡ n - k = omega (arith, length-row n) in
-    get_or-reverse (row_of (pos n)) k (pos 0) (omega (arith, length-row n)) ∙ rw (at, row_at n (n - k) (pos 0) (omega arith)) (ap pos (sym (mirror n k within))))
-backwards (negsuc n) = refl
+    get_or-reverse (row_of (pos n)) k (pos 0) (omega (arith, length-row n)) ∙ rw (at, row_at n (n - k) (pos 0) (omega arith)) (ap pos (sym (coefficient_mirror n k within))))
+row_is_palindrome (negsuc n) = refl
 
 -- each item of a row that fits is in range
 pub row_in_range : {fits : ℤ → Type 0} {low high : ℤ} (n : ℤ) → IsRange fits low high → RowFits fits n → All fits (row_of n)
@@ -171,11 +156,6 @@ row_in_range {fits} (pos n) range row = each_item fits n (λ k h. fits_below ran
 row_in_range {fits} (negsuc n) range row = All-nil fits
 
 -- ---- the steps of an iterator over the row of n
-
--- a new iterator begins at the first item
-pub place_first : {fits : ℤ → Type 0} {n k item : ℤ} → fits n → RowFits fits n → fits k → k ≡ pos 0 → fits item → IsPlaceInRow fits n k item
-place_first n_fits row k_fits none item_fits =
-    record { n_in_range = n_fits; k_in_range = k_fits; k_from_zero = omega (arith, ints); row_fits = row; item_in_range = item_fits; item_is = λ above. absurd (omega (arith, ints)) }
 
 -- neither the next item nor the next place leaves the type
 module _ {fits : ℤ → Type 0} {low high n k item : ℤ} (range : IsRange fits low high) (place : IsPlaceInRow fits n k item) (within : k ≤ℤ n) where
@@ -188,6 +168,6 @@ module _ {fits : ℤ → Type 0} {low high n k item : ℤ} (range : IsRange fits
   place_fits = let up = place.k_from_zero in fits_below range (place.row_fits (omega (arith, ints))).0 (omega (arith, ints)) (omega (arith, ints))
 
 -- a row has one item more than n
-pub one_item_more : RowLength
-one_item_more (pos n) up = ap pos (length-row n)
-one_item_more (negsuc n) up = absurd (omega (arith, ints))
+pub row_length : RowLength
+row_length (pos n) up = ap pos (length-row n)
+row_length (negsuc n) up = absurd (omega (arith, ints))

@@ -1,4 +1,4 @@
--- The laws of the definitions. Each is proved in proofs/Laws.antt, by a lemma of its name in small letters.
+-- The laws of the definitions. Each is proved by a lemma of its name in small letters, which proofs/Laws.antt has or passes on.
 use Rattle.std.specs.Prelude.{◌≡◌, ◌≢◌, ◌⊎◌, ◌↔◌, ◌-◌, ◌*◌, ◌<◌, ◌≤◌, ◌+ℤ◌, ◌*ℤ◌, ◌≤ℤ◌, ℕ, ℤ, pos, neg_ℤ, unsigned_abs, List, map, length, reverse}
 use Rattle.std.specs.List.{All}
 use Rattle.std.specs.List.Sorted.{IsPermutation}

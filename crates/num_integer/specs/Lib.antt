@@ -1,4 +1,4 @@
--- what the clauses of the calls of integer_core cite, and the range of a lawful type of another crate
+-- what the clauses of the calls of integer_core and integer_roots cite, and the range of a lawful type of another crate
 pub use Rattle.integer_core.specs.Between
 pub use Rattle.integer_core.specs.Bezout
 pub use Rattle.integer_core.specs.Division
@@ -8,6 +8,9 @@ pub use Rattle.integer_core.specs.GcdRuns
 pub use Rattle.integer_core.specs.Only
 pub use Rattle.integer_core.specs.Range
 pub use Rattle.integer_core.specs.Runs
+pub use Rattle.integer_roots.specs.Averages
+pub use Rattle.integer_roots.specs.RootOf
+pub use Rattle.integer_roots.specs.SquareRuns
 -- what those of this crate cite, and the laws
 pub mod Laws
 pub mod Checked
@@ -16,7 +19,3 @@ pub mod Least
 pub mod Multinomial
 pub mod Row
 pub mod Parts
--- what those of integer_roots cite
-pub use Rattle.integer_roots.specs.Averages
-pub use Rattle.integer_roots.specs.RootOf
-pub use Rattle.integer_roots.specs.SquareRuns

@@ -4,17 +4,16 @@ ghost use Rattle.std.specs.Prelude.{◌≡◌, ◌+◌, ◌*◌, ◌<◌, ◌≤
 ghost use Rattle.std.specs.Option.{MatchOption};
 ghost use Rattle.num_integer.specs.Coefficient.{coefficient};
 
-use crate::coefficients::factors;
+use crate::coefficients::next_factors;
 
 /// Returns the coefficient of `n` and `k + 1` if it is at most `most`. `c` is that of `n` and `k`.
-#[tactic(auto, using(crate::proofs::RowSteps::next_natural, crate::proofs::RowSteps::next_natural_divides))]
 fn next_within(c: u128, n: u128, k: u128, most: u128) -> Option<u128>
     requires k_below { k < n }
     requires current { c ≡ coefficient n k }
     ensures { MatchOption result (most < coefficient n (k + 1))
         (λ next. (next ≡ coefficient n (k + 1)) × (next ≤ most)) }
 {
-    let (x, y) = factors(c, n - k, k + 1);
+    let (x, y) = next_factors(c, n, k);
     let next = x.checked_mul(y)?;
     if next <= most { Some(next) } else { None }
 }

@@ -15,7 +15,7 @@ use integer_core::operators::{
 /// Splits `r * a / b`, which is an integer, into the factors `r / g` and `a / (b / g)`. `g` is the
 /// gcd of `r` and `b`, computed as that of `r % b` and `b`. If `g` is `b` or 1, one division gives
 /// both factors. After <https://blog.plover.com/math/choose-2.html>.
-pub(crate) fn factors<T: Integer>(r: T, a: T, b: T) -> (T, T)
+fn factors<T: Integer>(r: T, a: T, b: T) -> (T, T)
     requires in_range { T.fits (T.value r) × T.fits (T.value a) × T.fits (T.value b) }
     requires a_from_zero { pos 0 ≤ℤ T.value a }
     requires b_positive { pos 0 <ℤ T.value b }

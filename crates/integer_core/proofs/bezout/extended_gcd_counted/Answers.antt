@@ -1,10 +1,9 @@
-use Rattle.std.proofs.Common.{rules}
+use Rattle.integer_core.proofs.Common.{rules, iff_false}
 use Rattle.std.proofs.Math.Numerals.{add-two}
-use Rattle.std.proofs.lemmas.Bool.{iff_false}
 use Rattle.integer_core.proofs.BezoutAnswers.{answer_for_zero, answer_of_loop, only_answer, sign_keeps, sign_size}
-use Rattle.integer_core.proofs.GcdDomain.{gcd_fits_is}
-use Rattle.integer_core.proofs.Lame.{lame}
-use Rattle.integer_core.proofs.RowRanges.{first_fits, sign_fits}
+use Rattle.integer_core.proofs.CommonDivisors.{gcd_fits_is}
+use Rattle.integer_core.proofs.EuclidTurns.{lame}
+use Rattle.integer_core.proofs.Rows.{first_fits, sign_fits}
 use Rattle.integer_core.proofs.bezout.extended_gcd_counted.Goals as goal
 
 pub normalized-requires : goal.normalized-requires

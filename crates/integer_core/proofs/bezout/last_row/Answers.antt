@@ -1,9 +1,7 @@
-use Rattle.std.proofs.Common.{arith}
-use Rattle.std.proofs.lemmas.Bool.{iff_false}
+use Rattle.integer_core.proofs.Common.{arith, iff_false}
 use Rattle.integer_core.proofs.EuclidTurns.{inexact}
 use Rattle.integer_core.proofs.Quotients.{inexact_quotient_fits}
-use Rattle.integer_core.proofs.RowRanges.{rows_fit_first, turn_fits, rows_fit_turn, sign_fits, turns_fit}
-use Rattle.integer_core.proofs.Rows.{last_gcd, last_at_once, last_after_turns}
+use Rattle.integer_core.proofs.Rows.{rows_fit_first, turn_fits, rows_fit_turn, sign_fits, turns_fit, last_gcd, last_at_once, last_after_turns}
 use Rattle.integer_core.proofs.Runs.{reaches_last}
 use Rattle.integer_core.proofs.bezout.last_row.Goals as goal
 

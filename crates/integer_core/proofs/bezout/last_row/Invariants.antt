@@ -1,5 +1,5 @@
 use Rattle.std.specs.Prelude.{unsigned_abs}
-use Rattle.integer_core.proofs.RowRanges.{RowsFit}
+use Rattle.integer_core.proofs.Rows.{RowsFit}
 use Rattle.integer_core.proofs.bezout.last_row.Given as goal
 
 abbrev pub invariant-rows : goal.invariant-rows

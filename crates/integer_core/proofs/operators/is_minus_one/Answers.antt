@@ -1,5 +1,4 @@
-use Rattle.std.proofs.Common.{arith}
-use Rattle.integer_core.proofs.Whole.{linear}
+use Rattle.integer_core.proofs.Common.{arith, linear}
 use Rattle.integer_core.proofs.operators.is_minus_one.Goals as goal
 
 pub successor-requires-clause-sum_fits : goal.successor-requires-clause-sum_fits

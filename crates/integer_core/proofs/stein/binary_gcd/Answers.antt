@@ -1,5 +1,5 @@
 use Rattle.std.proofs.Common.{inl, inr}
-use Rattle.integer_core.proofs.GcdDomain.{gcd_fits_is}
+use Rattle.integer_core.proofs.CommonDivisors.{gcd_fits_is}
 use Rattle.integer_core.proofs.SteinSteps.{counted_by_magnitudes, power_of_smallest}
 use Rattle.integer_core.proofs.stein.binary_gcd.Goals as goal
 

@@ -1,7 +1,6 @@
-use Rattle.std.proofs.Common.{arith, inl, inr}
-use Rattle.std.proofs.lemmas.Bool.{cases_eq}
+use Rattle.integer_core.proofs.Common.{arith, inl, inr, cases_eq}
 use Rattle.integer_core.proofs.OddParts.{turning_falls, turns_fit}
-use Rattle.integer_core.proofs.OddLoops.{loop_begins, loop_counts, loop_ends, loop_goes_on, loop_handed_on}
+use Rattle.integer_core.proofs.SteinSteps.{loop_begins, loop_counts, loop_ends, loop_goes_on, loop_handed_on}
 use Rattle.integer_core.proofs.stein.narrowing_gcd.Goals as goal
 
 pub turns-init : goal.turns-init

@@ -1,6 +1,5 @@
-use Rattle.std.specs.Prelude.{unsigned_abs}
-use Rattle.std.proofs.Common.{◌+◌}
-use Rattle.integer_core.proofs.OddLoops.{OddLoop}
+use Rattle.integer_core.proofs.Common.{unsigned_abs, ◌+◌}
+use Rattle.integer_core.proofs.SteinSteps.{OddLoop}
 use Rattle.integer_core.proofs.stein.narrowing_gcd.Given as goal
 
 abbrev pub invariant-turns : goal.invariant-turns

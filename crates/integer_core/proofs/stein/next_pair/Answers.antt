@@ -1,5 +1,4 @@
-use Rattle.std.proofs.Common.{arith}
-use Rattle.integer_core.proofs.Whole.{sizes}
+use Rattle.integer_core.proofs.Common.{arith, sizes}
 use Rattle.integer_core.proofs.stein.next_pair.Goals as goal
 
 pub odd_difference-requires-clause-below : goal.odd_difference-requires-clause-below

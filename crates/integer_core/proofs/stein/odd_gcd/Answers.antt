@@ -1,6 +1,6 @@
 use Rattle.std.proofs.Common.{arith}
 use Rattle.integer_core.proofs.OddParts.{turning_falls}
-use Rattle.integer_core.proofs.OddLoops.{loop_begins, loop_counts, loop_ends, loop_goes_on}
+use Rattle.integer_core.proofs.SteinSteps.{loop_begins, loop_counts, loop_ends, loop_goes_on}
 use Rattle.integer_core.proofs.stein.odd_gcd.Goals as goal
 
 pub turns-init : goal.turns-init

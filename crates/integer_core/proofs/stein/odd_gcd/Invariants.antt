@@ -1,5 +1,5 @@
 use Rattle.std.proofs.Common.{◌+◌, ◌^◌, ◌<◌}
-use Rattle.integer_core.proofs.OddLoops.{OddLoop}
+use Rattle.integer_core.proofs.SteinSteps.{OddLoop}
 use Rattle.integer_core.proofs.stein.odd_gcd.Given as goal
 
 abbrev pub invariant-turns : goal.invariant-turns

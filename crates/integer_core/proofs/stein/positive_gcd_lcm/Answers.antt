@@ -1,5 +1,4 @@
-use Rattle.std.proofs.Common.{arith, refl}
-use Rattle.integer_core.proofs.Whole.{sizes}
+use Rattle.integer_core.proofs.Common.{arith, refl, sizes}
 use Rattle.integer_core.proofs.CommonDivisors.{gcd-nonzero, gcd-positive, lcm-of-sizes}
 use Rattle.integer_core.proofs.stein.positive_gcd_lcm.Goals as goal
 

@@ -1,5 +1,4 @@
-use Rattle.std.proofs.Common.{arith}
-use Rattle.integer_core.proofs.Whole.{sizes}
+use Rattle.integer_core.proofs.Common.{arith, sizes}
 use Rattle.integer_core.proofs.SteinSteps.{gcd_of_power}
 use Rattle.integer_core.proofs.stein.shared_power_of_two.Goals as goal
 

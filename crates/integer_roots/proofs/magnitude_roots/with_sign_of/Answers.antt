@@ -1,5 +1,4 @@
-use Rattle.std.proofs.Common.{arith}
-use Rattle.std.proofs.lemmas.Int.{ints}
+use Rattle.integer_core.proofs.Common.{arith, ints}
 use Rattle.integer_roots.proofs.MagnitudeRoots.{negation_fits}
 use Rattle.integer_roots.proofs.magnitude_roots.with_sign_of.Goals as goal
 

@@ -1,6 +1,4 @@
-use Rattle.std.specs.Prelude.{◌+◌, ◌+ℤ◌, pos, unsigned_abs}
-use Rattle.std.proofs.Common.{arith, ap, ◌∙◌}
-use Rattle.std.proofs.lemmas.Int.{ints}
+use Rattle.integer_core.proofs.Common.{◌+◌, ◌+ℤ◌, pos, unsigned_abs, arith, ap, ◌∙◌, ints}
 use Rattle.num_integer.specs.Coefficient.{coefficient_of}
 use Rattle.num_integer.proofs.Pascal.{below_answer, nearer_same, power_below_answer}
 use Rattle.num_integer.proofs.FittingAnswers.{fits_below, few_bits, from_test}

@@ -1,5 +1,4 @@
-use Rattle.std.proofs.Common.{arith}
-use Rattle.integer_core.proofs.Whole.{linear}
+use Rattle.integer_core.proofs.Common.{arith, linear}
 use Rattle.num_integer.proofs.RowSteps.{cancelled, cancelled_one, cancelled_whole, g_above, g_below, rest_above, through_remainder}
 use Rattle.num_integer.proofs.FittingAnswers.{fits_below, from_test}
 use Rattle.num_integer.proofs.coefficients.factors.Goals as goal

@@ -20,4 +20,4 @@ loop-count-preserved g c =
     rw (c.product-multinomial.ensures.value, c.binomial.ensures.coefficient, c.sum-total.ensures.value) next.1
 
 pub returns-clause-multinomial : goal.returns-clause-multinomial
-returns-clause-multinomial g c = multinomial_last g.met.T.Integer.range_law c.requires.multinomial_fits c.loop-count.invariant c.loop-count-test.false
+returns-clause-multinomial g c = multinomial_last c.loop-count.invariant c.loop-count-test.false

@@ -1,7 +1,4 @@
-use Rattle.std.specs.Prelude.{◌≡◌, ◌≢◌, ◌≤ℤ◌, ◌<ℤ◌, ◌+ℤ◌, ◌-ℤ◌, ℤ, pos}
-use Rattle.std.proofs.Common.{arith, ap, sym, ◌∙◌}
-use Rattle.std.proofs.lemmas.Bool.{iff_false}
-use Rattle.integer_core.proofs.Whole.{linear}
+use Rattle.integer_core.proofs.Common.{◌≡◌, ◌≢◌, ◌≤ℤ◌, ◌<ℤ◌, ◌+ℤ◌, ◌-ℤ◌, ℤ, pos, arith, ap, sym, ◌∙◌, iff_false, linear}
 use Rattle.num_integer.proofs.Pascal.{coefficient-zero}
 use Rattle.num_integer.proofs.rows.item_at.Goals as goal
 

@@ -1,8 +1,5 @@
-use Rattle.std.specs.Prelude.{◌≡◌, ◌↔◌, ◌*◌, ◌*ℤ◌, ℕ, Bool, true, false, not, IsTrue, nat_le}
+use Rattle.integer_core.proofs.Common.{◌≡◌, ◌↔◌, ◌*◌, ◌*ℤ◌, ℕ, Bool, true, false, not, IsTrue, nat_le, arith, le-leb, leb-true, linear, products}
 use Rattle.std.proofs.Math.Bool.{beq}
-use Rattle.std.proofs.Common.{arith}
-use Rattle.std.proofs.lemmas.Bool.{le-leb, leb-true}
-use Rattle.integer_core.proofs.Whole.{linear, products}
 use Rattle.num_integer.specs.Parts.{IsWithin, signed}
 use Rattle.num_integer.proofs.sign_magnitude.product_is_within.Goals as goal
 use Rattle.num_integer.proofs.sign_magnitude.product_is_within.Goals.{then-a-b, else-a-b}

@@ -1,6 +1,5 @@
-use Rattle.std.proofs.Common.{◌∙◌, arith, subst, sym}
+use Rattle.integer_core.proofs.Common.{◌∙◌, arith, subst, sym, linear}
 use Rattle.integer_core.proofs.Ranges.{distance_fits, magnitude_by_distance, within_fits}
-use Rattle.integer_core.proofs.Whole.{linear}
 use Rattle.integer_core.proofs.native.Native.magnitude.Goals as goal
 
 pub successor-requires-clause-sum_fits : goal.successor-requires-clause-sum_fits

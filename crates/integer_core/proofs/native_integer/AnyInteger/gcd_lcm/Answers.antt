@@ -1,8 +1,6 @@
-use Rattle.std.proofs.Common.{arith}
+use Rattle.integer_core.proofs.Common.{arith, linear}
 use Rattle.integer_core.proofs.Ranges.{lcm_is_magnitude}
-use Rattle.integer_core.proofs.GcdDomain.{gcd_fits_is}
-use Rattle.integer_core.proofs.Whole.{linear}
-use Rattle.integer_core.proofs.CommonDivisors.{gcd-magnitudes, lcm-magnitudes, lcm-zero}
+use Rattle.integer_core.proofs.CommonDivisors.{gcd_fits_is, gcd-magnitudes, lcm-magnitudes, lcm-zero}
 use Rattle.integer_core.proofs.native_integer.AnyInteger.gcd_lcm.Goals as goal
 
 pub returns-then-is_zero-clause-least : goal.returns-then-is_zero-clause-least

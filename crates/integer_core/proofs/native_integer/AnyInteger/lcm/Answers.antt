@@ -1,6 +1,5 @@
-use Rattle.std.proofs.Common.{arith}
+use Rattle.integer_core.proofs.Common.{arith, linear}
 use Rattle.integer_core.proofs.Ranges.{lcm_is_magnitude}
-use Rattle.integer_core.proofs.Whole.{linear}
 use Rattle.integer_core.proofs.CommonDivisors.{lcm-magnitudes, lcm-zero}
 use Rattle.integer_core.proofs.native_integer.AnyInteger.lcm.Goals as goal
 

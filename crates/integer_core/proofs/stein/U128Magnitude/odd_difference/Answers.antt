@@ -1,6 +1,5 @@
-use Rattle.std.proofs.Common.{refl}
-use Rattle.std.specs.Int.{w128}
-use Rattle.integer_core.proofs.SharedBits.{difference_by_shift}
+use Rattle.integer_core.proofs.Common.{refl, w128}
+use Rattle.integer_core.proofs.OddParts.{difference_by_shift}
 use Rattle.integer_core.proofs.stein.U128Magnitude.odd_difference.Goals as goal
 
 pub overflow_shr-result : goal.overflow_shr-result

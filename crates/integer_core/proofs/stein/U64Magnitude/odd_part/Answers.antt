@@ -1,5 +1,4 @@
-use Rattle.std.proofs.Common.{refl}
-use Rattle.std.specs.Int.{w64}
+use Rattle.integer_core.proofs.Common.{refl, w64}
 use Rattle.integer_core.proofs.OddParts.{odd_part_by_shift}
 use Rattle.integer_core.proofs.stein.U64Magnitude.odd_part.Goals as goal
 

@@ -1,5 +1,4 @@
-use Rattle.std.specs.Int.{w128}
-use Rattle.std.proofs.Common.{arith, rules, Fits}
+use Rattle.integer_core.proofs.Common.{w128, arith, rules, Fits}
 use Rattle.num_integer.proofs.Multinomials.{past_top}
 use Rattle.num_integer.proofs.bounded_coefficients.RunningMultinomial.with_count.Goals as goal
 

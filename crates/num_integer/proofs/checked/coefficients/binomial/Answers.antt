@@ -1,6 +1,4 @@
-use Rattle.std.specs.Prelude.{◌+ℤ◌, pos, unsigned_abs}
-use Rattle.std.proofs.Common.{arith, ap, ◌∙◌, subst, sym}
-use Rattle.std.proofs.lemmas.Int.{ints}
+use Rattle.integer_core.proofs.Common.{◌+ℤ◌, pos, unsigned_abs, arith, ap, ◌∙◌, subst, sym, ints}
 use Rattle.num_integer.specs.Coefficient.{coefficient_of}
 use Rattle.num_integer.proofs.FittingAnswers.{fits_below, from_test}
 use Rattle.num_integer.proofs.Pascal.{below_answer, nearer_same, none_above}

@@ -1,6 +1,4 @@
-use Rattle.std.specs.Prelude.{◌≡◌, ◌/◌, ◌≤ℤ◌, ℤ, pos, negsuc, unsigned_abs, int_div}
-use Rattle.std.proofs.Common.{arith, refl, ◌∙◌}
-use Rattle.std.proofs.lemmas.Int.{ints}
+use Rattle.integer_core.proofs.Common.{◌≡◌, ◌/◌, ◌≤ℤ◌, ℤ, pos, negsuc, unsigned_abs, int_div, arith, refl, ◌∙◌, ints}
 use Rattle.num_integer.proofs.FlooredByPositive.{operator_quotient_fits}
 use Rattle.num_integer.proofs.checked.coefficients.half.Goals as goal
 

@@ -1,32 +1,28 @@
-use Rattle.std.proofs.Common.{arith}
-use Rattle.std.proofs.lemmas.Int.{ints}
-use Rattle.num_integer.proofs.CheckedMultinomials.{checked_last, checked_next, none_past_coefficient, none_past_product, none_past_sum}
+use Rattle.integer_core.proofs.Common.{arith, ints}
+use Rattle.num_integer.proofs.Multinomials.{checked_last, checked_next, next_fits}
 use Rattle.num_integer.proofs.FittingAnswers.{from_test}
 use Rattle.num_integer.proofs.checked.coefficients.multinomial.Goals as goal
 
 pub returns-in_err-total : goal.returns-in_err-total
 returns-in_err-total g c =
-    let up = from_test c.is_negative.ensures c.if-is_negative.false in
-    rw c.from_residual.ensures (none_past_sum g.met.T.Integer.range_law c.loop-count.invariant c.loop-count-test.true c.count-item.is up c.requires.counts_in_range c.in_err-total.ensures)
+    rw c.from_residual.ensures (λ h. c.in_err-total.ensures (next_fits c.loop-count.invariant c.loop-count-test.true c.count-item.is g.met.T.Integer.range_law c.requires.counts_in_range h).1.total_in_range)
 
 pub returns-in_err-binomial : goal.returns-in_err-binomial
 returns-in_err-binomial g c =
     let up = from_test c.is_negative.ensures c.if-is_negative.false in
     let none = rw c.in_ok-total.ensures.1.1 at c.in_err-binomial.ensures in
-    rw c.from_residual-in_err-binomial.ensures (none_past_coefficient g.met.T.Integer.range_law c.loop-count.invariant c.loop-count-test.true c.count-item.is up
-    (λ h. none (omega (arith, ints, c.loop-count.invariant.so_far.total_from_zero), up, h)))
+    rw c.from_residual-in_err-binomial.ensures (λ h.
+    none (omega (arith, ints, c.loop-count.invariant.so_far.total_from_zero), up, (next_fits c.loop-count.invariant c.loop-count-test.true c.count-item.is g.met.T.Integer.range_law c.requires.counts_in_range h).0))
 
 pub returns-in_err-multinomial : goal.returns-in_err-multinomial
-returns-in_err-multinomial g c =
-    let up = from_test c.is_negative.ensures c.if-is_negative.false in
-    rw c.from_residual-in_err-multinomial.ensures (none_past_product g.met.T.Integer.range_law c.loop-count.invariant c.loop-count-test.true c.count-item.is up
-    c.in_ok-total.ensures.1.1 c.in_ok-binomial.ensures.1.1 c.in_err-multinomial.ensures)
+returns-in_err-multinomial g c = rw c.from_residual-in_err-multinomial.ensures (λ h.
+    c.in_err-multinomial.ensures (rw (c.in_ok-binomial.ensures.1.1, c.in_ok-total.ensures.1.1)
+    (next_fits c.loop-count.invariant c.loop-count-test.true c.count-item.is g.met.T.Integer.range_law c.requires.counts_in_range h).1.in_range))
 
 pub loop-count-preserved : goal.loop-count-preserved
 loop-count-preserved g c =
-    let up = from_test c.is_negative.ensures c.if-is_negative.false in
-    checked_next g.met.T.Integer.range_law c.loop-count.invariant c.loop-count-test.true c.count-item.is up
+    checked_next c.loop-count.invariant c.loop-count-test.true c.count-item.is (from_test c.is_negative.ensures c.if-is_negative.false)
     c.in_ok-total.ensures.1.0 c.in_ok-total.ensures.1.1 c.in_ok-binomial.ensures.1.1 c.in_ok-multinomial.ensures.1.0 c.in_ok-multinomial.ensures.1.1
 
 pub returns : goal.returns
-returns g c = checked_last g.met.T.Integer.range_law c.loop-count.invariant c.loop-count-test.false
+returns g c = checked_last c.loop-count.invariant c.loop-count-test.false

@@ -1,4 +1,4 @@
-use Rattle.num_integer.proofs.CheckedMultinomials.{IsCheckedSoFar}
+use Rattle.num_integer.proofs.Multinomials.{IsCheckedSoFar}
 use Rattle.num_integer.proofs.checked.coefficients.multinomial.Given as goal
 
 abbrev pub invariant-loop-count : goal.invariant-loop-count

@@ -1,8 +1,6 @@
-use Rattle.std.specs.Prelude.{◌*ℤ◌}
-use Rattle.std.proofs.Common.{◌∙◌}
+use Rattle.integer_core.proofs.Common.{◌*ℤ◌, ◌∙◌, IsLeastCommonMultiple, natural}
 use Rattle.integer_core.proofs.CommonDivisors.{gcd-nonzero, gcd-positive, only_lcm}
-use Rattle.integer_core.specs.Divisors.{IsLeastCommonMultiple}
-use Rattle.num_integer.proofs.CheckedAnswers.{answer_only, answers_only, lcm_by_gcd, negated_is, product_fits_by_size, same_size}
+use Rattle.num_integer.proofs.CheckedAnswers.{answer_only, answers_only, lcm_by_gcd, negated_is, product_fits_by_size}
 use Rattle.num_integer.proofs.FittingAnswers.{from_test}
 use Rattle.num_integer.proofs.FlooredByPositive.{operator_quotient_fits}
 use Rattle.num_integer.proofs.checked.divisors.nonzero_lcm.Goals as goal
@@ -33,5 +31,5 @@ returns-else-is_negative g c =
     let own = lcm_by_gcd c.requires.nonzero c.requires.greatest c.quotient.ensures.value in
     let is = c.in_ok-product.ensures.1.1 in
     let product = g.T.Number.value c.args.x *ℤ g.T.Number.value c.quotient.result in
-    let size = same_size product (rw is at (from_test c.is_negative.ensures c.if-is_negative.false)) in
+    let size = natural {z = product} (rw is at (from_test c.is_negative.ensures c.if-is_negative.false)) in
     answer_only {P = IsLeastCommonMultiple (g.T.Number.value c.args.x) (g.T.Number.value c.args.y)} own (λ l. only_lcm own) c.in_ok-product.ensures.1.0 (◌∙◌ {b = product} is size)

@@ -1,5 +1,7 @@
-use Rattle.num_integer.proofs.CheckedAnswers.{zero_minus}
+use Rattle.integer_core.proofs.Common.{◌≡◌, ◌-ℤ◌, arith, linear, neg_ℤ, pos}
 use Rattle.num_integer.proofs.checked.operators.negated.Goals as goal
 
 pub returns : goal.returns
-returns g c = rw (c.zero.ensures.value, zero_minus (g.T.Number.value c.args.a)) at c.difference.ensures
+returns g c =
+    let e : pos 0 -ℤ g.T.Number.value c.args.a ≡ neg_ℤ (g.T.Number.value c.args.a) = omega (arith, linear) in
+    rw (c.zero.ensures.value, e) at c.difference.ensures

@@ -1,5 +1,4 @@
-use Rattle.std.specs.Prelude.{◌≡◌}
-use Rattle.std.proofs.Common.{arith}
+use Rattle.integer_core.proofs.Common.{◌≡◌, arith}
 use Rattle.num_integer.proofs.FlooredProducts.{division_by_magnitudes}
 use Rattle.num_integer.proofs.checked.scaling.floored_product.Goals as goal
 

@@ -1,9 +1,5 @@
-use Rattle.std.specs.Prelude.{◌≡◌, ◌*ℤ◌}
-use Rattle.std.proofs.Common.{arith, subst}
-use Rattle.std.proofs.lemmas.Int.{ints}
-use Rattle.std.proofs.lemmas.Bool.{iff_false}
+use Rattle.integer_core.proofs.Common.{◌≡◌, ◌*ℤ◌, arith, subst, ints, iff_false, IsFloored}
 use Rattle.integer_core.proofs.Quotients.{floored_remainder_fits, only_floored}
-use Rattle.integer_core.specs.Division.{IsFloored}
 use Rattle.num_integer.proofs.FittingAnswers.{signed_is}
 use Rattle.num_integer.proofs.FlooredProducts.{part_fits}
 use Rattle.num_integer.specs.Parts.{signed}

@@ -1,5 +1,5 @@
 use Rattle.std.proofs.lemmas.Bool.{iff_false}
-use Rattle.integer_core.proofs.Multiples.{gap_fits, next_above, next_exact}
+use Rattle.integer_core.proofs.Quotients.{gap_fits, next_above, next_exact}
 use Rattle.num_integer.proofs.FittingAnswers.{ceiled, multiple_domain}
 use Rattle.num_integer.proofs.domains.Fits.next_multiple_fits.Goals as goal
 

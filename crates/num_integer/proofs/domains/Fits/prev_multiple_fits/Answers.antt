@@ -1,5 +1,5 @@
 use Rattle.std.proofs.lemmas.Bool.{iff_false}
-use Rattle.integer_core.proofs.Multiples.{previous}
+use Rattle.integer_core.proofs.Quotients.{previous}
 use Rattle.num_integer.proofs.FittingAnswers.{floored, multiple_domain}
 use Rattle.num_integer.proofs.domains.Fits.prev_multiple_fits.Goals as goal
 
