@@ -21,8 +21,8 @@ SAYS = {'struct': 'Of the source, in Rattle: it holds of each value of the type.
         'impl': 'Of the source, in Rattle: what the calls of the trait return.',
         'trait': 'What the proofs use of an implementation. Of those in this crate it is proved, in Rattle.'}
 # What the pages of the module `definitions` are about.
-PAGES = {'integer_core': 'ranges, division, divisors, Bezout pairs and the turns of their loops',
-         'integer_roots': 'averages, roots and the turns of their loops', 'num_integer': 'coefficients and checked calls',
+PAGES = {'integer_core': 'ranges, division, divisors, Bezout pairs and the iterations of their loops',
+         'integer_roots': 'averages, roots and the iterations of their loops', 'num_integer': 'coefficients and checked calls',
          'modular': 'residues and congruences', 'ratio64': 'fractions', 'calendar': 'dates', 'applied': 'lists, rounding, shares, factorials, paging, schedules, ranking, alignment and hashing'}
 
 
@@ -83,9 +83,9 @@ def section(eraser, item, owner):
 
 def in_words(item, words):
     """The lines before the clauses, which begin with these words."""
-    call = 'where each `requires` holds, the call returns' if 'requires' in words else 'each call returns'
+    call = 'if each `requires` holds, the call returns' if 'requires' in words else 'each call returns'
     then = ', and then each `ensures` holds' if 'ensures' in words else ''
-    return wrapped(SAYS.get(item.kind, f'Of the source, in Rattle: {call}{then}.'))
+    return wrapped(SAYS.get(item.kind, f'Proved of the source in Rattle: {call}{then}.'))
 
 
 def place_of(eraser, item, owner):
