@@ -17,8 +17,8 @@ ONLY_LIES = re.compile(rf'\w+ (?:\w+ )?\{{ {LIES}(?: × {LIES})* \}}')
 # The ghost members of an implementation that say what its calls return. The others are proofs.
 STATED = {'output', 'from_str_gives', 'from_gives', 'is_default', 'cmp', 'partial_cmp', 'next_gives'}
 # What the clauses of an item that is no function say.
-SAYS = {'struct': 'Of the source, in Rattle: it holds of each value of the type.',
-        'impl': 'Of the source, in Rattle: what the calls of the trait return.',
+SAYS = {'struct': 'Proved of the source in Rattle, for each value of the type.',
+        'impl': 'Proved of the source in Rattle: what the calls of the trait return.',
         'trait': 'What the proofs use of an implementation. Of those in this crate it is proved, in Rattle.'}
 # What the pages of the module `definitions` are about.
 PAGES = {'integer_core': 'ranges, division, divisors, Bezout pairs and the iterations of their loops',
