@@ -422,13 +422,14 @@ class Build:
         self.sources[crate] = {place_of(name): erased(crate, name, (root / name).read_text()) for name in names}
 
     def clauses_of(self, crate, functions):
-        """The names of the clauses of the functions of these names, in a crate and those below it. One without a name has ``."""
+        """The names of the clauses of the functions of these names, in a crate and those below it. An empty text is that of a clause
+        without a name."""
         found = {clause for function, clause in self.clauses[crate] if function in functions}
         return found.union(*(self.clauses_of(name, functions) for name in self.below[crate]))
 
     def has(self, bug, clause):
-        """Whether a function of the call has the clause. `sum_fits` of `sum` is a clause of another function, `zero` of `value` a part
-        of a clause."""
+        """Whether a function of the call has the clause. ``sum_fits` of `sum`` is a clause of another function, ``tie` of its clause`` a
+        part of a clause."""
         found = self.clauses_of(bug.crate, re.findall(r'(\w+)(?:::<[^>]*>)?\(', bug.parts['call']))
         part, _, whole = clause.replace('`', '').partition(' of ')
         if 'its clause' in (part, whole):
@@ -504,7 +505,7 @@ def try_edit(build, job, bug):
     """Notes how the line fails with the edit."""
     try:
         changed = {place_of(name): erased(bug.crate, name, text) for name, text in bug.texts.items()}
-        call = build.values(job, bug.crate, [bug], changed)[bug.number][0]
+        call = build.values(job, bug.crate, [bug], changed).get(bug.number, ['nothing'])[0]
     except (Failed, Unknown) as said:
         bug.told = f'with the edit: {said}'
         return
@@ -574,13 +575,16 @@ def self_test():
 
 
 def main():
-    if sys.argv[1:] == ['--self-test']:
-        sys.exit(bool(self_test()))
     if not shutil.which('rustc'):
         sys.exit('check_wrong_lines.py: there is no rustc on this machine')
-    bugs = bugs_of(sys.argv[1:] or dependencies())
-    run_lines = [bug for bug in bugs if bug.parts]
-    check(run_lines)
+    try:
+        if sys.argv[1:] == ['--self-test']:
+            sys.exit(bool(self_test()))
+        bugs = bugs_of(sys.argv[1:] or dependencies())
+        run_lines = [bug for bug in bugs if bug.parts]
+        check(run_lines)
+    except (check_edits.BadEdit, Failed, Unknown) as said:
+        sys.exit(f'check_wrong_lines.py: {said}')
     for bug in bugs:
         told = bug.told or ('' if bug.parts else f'not run: {bug.said["reason"]}')
         if told:
