@@ -1,5 +1,5 @@
 -- Floored quotients of products, by signs and magnitudes.
-use Rattle.integer_core.proofs.Common.{◌≡◌, ◌<◌, ◌≤ℤ◌, ◌<ℤ◌, ◌*◌, ◌/◌, ◌%◌, ◌*ℤ◌, ℕ, ℤ, pos, neg_ℤ, not, Bool, true, false, arith, inl, sym, by_lt_z, ints, linear, products, sizes, IsFloored, IsRange}
+use Rattle.integer_core.proofs.Common.{◌≡◌, ◌<◌, ◌≤ℤ◌, ◌<ℤ◌, ◌*◌, ◌/◌, ◌%◌, ◌*ℤ◌, ℕ, ℤ, pos, neg_ℤ, not, Bool, true, false, arith, inl, by_lt_z, ints, linear, products, sizes, IsFloored, IsRange}
 use Rattle.std.proofs.Math.Bool.{beq}
 use Rattle.integer_core.proofs.Ranges.{within_fits}
 use Rattle.num_integer.proofs.FlooredByPositive.{floored_by_range, floored_range}
@@ -16,27 +16,24 @@ exact_floored true m d up none = let h = (natural_division m d up).division.equa
 negated_floored : {n d q r : ℤ} → IsFloored n d q r → IsFloored (neg_ℤ n) (neg_ℤ d) q (neg_ℤ r)
 negated_floored h = grind (arith, products, sizes)
 
--- a product, by the signs of three numbers and the magnitudes of the first two
-product_over : (s t : Bool) (m n : ℕ) → signed s m *ℤ signed t n ≡ signed (not (beq s (not (beq t false)))) (m * n)
-product_over false false m n = omega (arith, products)
-product_over true true m n = grind (arith, products)
-product_over true false m n = grind (arith, products)
-product_over false true m n = grind (arith, products)
-
-product_under : (s t : Bool) (m n : ℕ) → neg_ℤ (signed s m *ℤ signed t n) ≡ signed (not (beq s (not (beq t true)))) (m * n)
-product_under false false m n = omega (arith, products)
-product_under true true m n = grind (arith, products)
-product_under true false m n = grind (arith, products)
-product_under false true m n = grind (arith, products)
+-- a product, by signs and magnitudes
+pub signed_product : (s t : Bool) (m n : ℕ) → signed s m *ℤ signed t n ≡ signed (not (beq s t)) (m * n)
+signed_product true true m n = grind (arith, products)
+signed_product true false m n = grind (arith, products)
+signed_product false true m n = grind (arith, products)
+signed_product false false m n = grind (arith, products)
 
 -- the floored division of a product, from that of the magnitudes, whose sign is negated if the divisor is negative
 pub division_by_magnitudes : (s t u : Bool) (m n e : ℕ) {q : ℤ} {r : ℕ} → IsFloored (signed (not (beq s (not (beq t u)))) (m * n)) (pos e) q (pos r)
     → IsFloored (signed s m *ℤ signed t n) (signed u e) q (signed u r)
-division_by_magnitudes s t false m n e h = rw (product_over s t m n) h
-division_by_magnitudes s t true m n e h =
-    let under = sym (product_under s t m n) in
-    let back : neg_ℤ (neg_ℤ (signed s m *ℤ signed t n)) ≡ signed s m *ℤ signed t n = omega (arith, linear) in
-    rw back at (negated_floored (rw under at h))
+division_by_magnitudes s false false m n e h = rw (signed_product s false m n) h
+division_by_magnitudes s true false m n e h = rw (signed_product s true m n) h
+division_by_magnitudes s false true m n e h =
+    let back : neg_ℤ (signed s m *ℤ neg_ℤ (pos n)) ≡ signed s m *ℤ pos n = grind (arith, products) in
+    rw back at (negated_floored (rw (← signed_product s true m n) at h))
+division_by_magnitudes s true true m n e h =
+    let back : neg_ℤ (signed s m *ℤ pos n) ≡ signed s m *ℤ neg_ℤ (pos n) = grind (arith, products) in
+    rw back at (negated_floored (rw (← signed_product s false m n) at h))
 
 -- a part of a number lies between 0 and the number, so it fits
 pub part_fits : {fits : ℤ → Type 0} {low high a b d q r : ℤ} → IsRange fits low high → fits a → pos 0 ≤ℤ a → pos 0 ≤ℤ b → b ≤ℤ d → pos 0 <ℤ d → IsFloored (a *ℤ b) d q r → fits q

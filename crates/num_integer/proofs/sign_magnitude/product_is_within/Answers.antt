@@ -1,15 +1,8 @@
-use Rattle.integer_core.proofs.Common.{◌≡◌, ◌↔◌, ◌*◌, ◌*ℤ◌, ℕ, Bool, true, false, not, IsTrue, nat_le, arith, le-leb, leb-true, linear, products}
-use Rattle.std.proofs.Math.Bool.{beq}
+use Rattle.integer_core.proofs.Common.{◌↔◌, ℕ, true, false, IsTrue, nat_le, arith, le-leb, leb-true, linear}
+use Rattle.num_integer.proofs.FlooredProducts.{signed_product}
 use Rattle.num_integer.specs.Parts.{IsWithin, signed}
 use Rattle.num_integer.proofs.sign_magnitude.product_is_within.Goals as goal
 use Rattle.num_integer.proofs.sign_magnitude.product_is_within.Goals.{then-a-b, else-a-b}
-
--- the sign of a product
-product_is : (s t : Bool) (m n : ℕ) → signed s m *ℤ signed t n ≡ signed (not (beq s t)) (m * n)
-product_is true true m n = grind (arith, products)
-product_is true false m n = grind (arith, products)
-product_is false true m n = grind (arith, products)
-product_is false false m n = grind (arith, products)
 
 test_up : (size low high : ℕ) → IsTrue (nat_le size high) ↔ IsWithin low high (signed false size)
 test_up size low high = (λ t. let h = leb-true _ _ t in (omega (arith, linear), omega (arith, linear)), λ w. le-leb _ _ (omega (arith, linear, w.1)))
@@ -19,6 +12,6 @@ test_down size low high = (λ t. let h = leb-true _ _ t in (omega (arith, linear
 
 pub returns-in-Some : goal.returns-in-Some
 returns-in-Some c = elim c.if-a-b.branch [
-  | then-a-b w ↦ rw (product_is c.args.a.0 c.args.b.0 c.args.a.1 c.args.b.1, w.if-a-b.true, w.end-is, c.in-Some.ensures.1) (test_up _ _ _)
-  | else-a-b w ↦ rw (product_is c.args.a.0 c.args.b.0 c.args.a.1 c.args.b.1, w.if-a-b.false, w.end-is, c.in-Some.ensures.1) (test_down _ _ _)
+  | then-a-b w ↦ rw (signed_product c.args.a.0 c.args.b.0 c.args.a.1 c.args.b.1, w.if-a-b.true, w.end-is, c.in-Some.ensures.1) (test_up _ _ _)
+  | else-a-b w ↦ rw (signed_product c.args.a.0 c.args.b.0 c.args.a.1 c.args.b.1, w.if-a-b.false, w.end-is, c.in-Some.ensures.1) (test_down _ _ _)
 ]
