@@ -10,7 +10,7 @@ div_mod_floor-size-requires-clause-quotient_fits g c = λ q h.
 pub start_of-first-requires : goal.start_of-first-requires
 start_of-first-requires g c =
     let start = start_fits g.met.T.Integer.range_law c.requires.in_range.2 (omega (arith, linear, c.requires.part_from_zero, c.requires.part_below)) c.requires.from_zero c.div_mod_floor-size.ensures.floored c.requires.part_from_zero (omega (arith, linear, c.requires.part_below)) in
-    record { in_range = (c.requires.in_range.0, c.div_mod_floor-size.ensures.in_range); product_fits = start.0; start_fits = start.1 }
+    record { in_range = (c.requires.in_range.0, c.div_mod_floor-size.ensures.in_range.0, c.div_mod_floor-size.ensures.in_range.1); product_fits = start.0; start_fits = start.1 }
 
 pub successor-requires-clause-sum_fits : goal.successor-requires-clause-sum_fits
 successor-requires-clause-sum_fits g c = fits_below g.met.T.Integer.range_law c.requires.in_range.1 (omega (arith, linear, c.requires.part_from_zero)) (omega (arith, linear, c.requires.part_below))
@@ -18,7 +18,7 @@ successor-requires-clause-sum_fits g c = fits_below g.met.T.Integer.range_law c.
 pub start_of-requires : goal.start_of-requires
 start_of-requires g c =
     let start = start_fits g.met.T.Integer.range_law c.requires.in_range.2 (omega (arith, linear, c.requires.part_from_zero, c.requires.part_below)) c.requires.from_zero c.div_mod_floor-size.ensures.floored (omega (arith, linear, c.requires.part_from_zero)) (omega (arith, linear, c.requires.part_below)) in
-    record { in_range = (c.successor.ensures.in_range, c.div_mod_floor-size.ensures.in_range); product_fits = rw c.successor.ensures.value start.0; start_fits = rw c.successor.ensures.value start.1 }
+    record { in_range = (c.successor.ensures.in_range, c.div_mod_floor-size.ensures.in_range.0, c.div_mod_floor-size.ensures.in_range.1); product_fits = rw c.successor.ensures.value start.0; start_fits = rw c.successor.ensures.value start.1 }
 
 pub returns-clause-range : goal.returns-clause-range
 returns-clause-range g c =
