@@ -36,10 +36,7 @@ falling_all (suc n) = ap (λ (t : ℕ). suc n * t) (falling_all n)
 
 -- more factors above the same number do not make the product smaller
 falling_grows : (a j d : ℕ) → falling (a + j) j ≤ falling (a + j + d) (j + d)
-falling_grows a j zero =
-    let e : a + j + 0 ≡ a + j = omega arith in
-    let f : j + 0 ≡ j = omega arith in
-    rw (e, f) (omega arith)
+falling_grows a j zero = grind arith
 falling_grows a j (suc d) =
     let e : a + j + suc d ≡ suc (a + j + d) = omega arith in
     let f : j + suc d ≡ suc (j + d) = omega arith in

@@ -17,6 +17,12 @@ use Rattle.applied.proofs.ListMultiples as multiples
 use Rattle.applied.proofs.ReducedPairs as pairs
 use Rattle.applied.proofs.Logarithms.{only_logarithm}
 use Rattle.applied.proofs.NearestQuotients.{even_exists, even_fits_is, nearest_exists, nearest_fits_is, no_nearer, only_nearest, only_nearest_even}
+-- ---- pairs, lists and factorials
+
+pub use Rattle.applied.proofs.ReducedPairs.{reduced_pair_exists}
+pub use Rattle.applied.proofs.ListDivisors.{gcd_of_exists}
+pub use Rattle.applied.proofs.ListMultiples.{lcm_of_exists}
+pub use Rattle.applied.proofs.FallingFactorials.{falling_by_coefficient, falling_formula}
 
 -- ---- pages and parts
 
@@ -102,10 +108,6 @@ lower_bound_is_only value = λ items least place other within below from other_w
 
 -- ---- pairs and lists
 
-pub use Rattle.applied.proofs.ReducedPairs.{reduced_pair_exists}
-pub use Rattle.applied.proofs.ListDivisors.{gcd_of_exists}
-pub use Rattle.applied.proofs.ListMultiples.{lcm_of_exists}
-
 pub reduced_pair_is_only : ReducedPairIsOnly
 reduced_pair_is_only = λ a b x y h. pairs.only_reduced_pair h
 
@@ -138,9 +140,7 @@ nearest_even_quotient_is_only = λ n d q h other k. only_nearest_even h.division
 pub nearest_quotient_fits_exactly : (fits : ℤ → Type 0) → NearestQuotientFitsExactly fits
 nearest_quotient_fits_exactly fits = λ low high n d range n_fits d_fits. (nearest_fits_is range n_fits d_fits, even_fits_is range n_fits d_fits)
 
--- ---- logarithms and factorials
-
-pub use Rattle.applied.proofs.FallingFactorials.{falling_by_coefficient, falling_formula}
+-- ---- logarithms
 
 pub logarithm_is_only : LogarithmIsOnly
 logarithm_is_only = λ base n k up h other l. only_logarithm up h l

@@ -107,10 +107,7 @@ not_below {base = pos b} {k = k} {j = j} up h other less =
 not_below {base = negsuc b} up h other less = omega (arith, ints)
 
 pub only_logarithm : {base n : ℤ} {k j : ℕ} → pos 1 <ℤ base → IsLogarithm base n k → IsLogarithm base n j → j ≡ k
-only_logarithm {k = k} {j = j} up h other = elim (cases_lt k j) [
-  | inl less ↦ absurd (not_below up h other less)
-  | inr most ↦ elim (cases_lt j k) [ inl less ↦ absurd (not_below up other h less) | inr least ↦ omega arith ]
-]
+only_logarithm {k = k} {j = j} up h other = let least = not_below up h other in let most = not_below up other h in grind arith
 
 -- ---- what is left of a square root
 
@@ -118,3 +115,6 @@ pub square_rest : {x r : ℤ} → pos 0 ≤ℤ x → IsRoot x 2 r → (pos 0 ≤
 square_rest {x = pos a} {r = pos b} up h = let squares = root_by_squares h in (omega (arith, ints), omega (arith, ints, squares.0), omega (arith, ints, squares.1))
 square_rest {x = pos a} {r = negsuc b} up h = absurd (omega (arith, ints, (h.from_zero up).from_zero))
 square_rest {x = negsuc a} {r = r} up h = absurd (omega (arith, ints))
+
+-- what the goals about a root and what is left need
+pub ruleset square_rests = (linear, square_rest)

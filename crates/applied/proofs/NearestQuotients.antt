@@ -48,16 +48,7 @@ not_both_even next even other = let half = even.product in let other_half = othe
 -- ---- from the quotient rounded down to the nearest
 
 down_or_not : (A : Type 0) (d r : ℤ) → A ⊎ (¬ A) → IsDown A d r ⊎ (¬ (IsDown A d r))
-down_or_not A d r choice = elim (cases_lt (2 * unsigned_abs r) (unsigned_abs d)) [
-  | inl less ↦ inl (inl less)
-  | inr most ↦ elim choice [
-    | inl a ↦ elim (cases_lt (unsigned_abs d) (2 * unsigned_abs r)) [
-      | inl more ↦ inr (λ down. elim down [ inl less ↦ omega arith | inr half ↦ omega (arith, half.0) ])
-      | inr least ↦ inl (inr (omega arith, a))
-    ]
-    | inr none ↦ inr (λ down. elim down [ inl less ↦ omega arith | inr half ↦ none half.1 ])
-  ]
-]
+down_or_not A d r choice = grind arith
 
 down_near : (A : Type 0) (d r : ℤ) → IsDown A d r → 2 * unsigned_abs r ≤ unsigned_abs d
 down_near A d r (inl less) = omega arith

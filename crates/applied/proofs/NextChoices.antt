@@ -14,10 +14,7 @@ use Rattle.applied.proofs.Choices.{rank_of_all, rank_of_first, rank_of_more, ran
 
 -- the number after a place, or n at the end, is above the one there
 pub next_above : {n : ℕ} {xs : List ℕ} → IsChoice n xs → (i : ℕ) → i < length xs → slice_index xs i + 1 ≤ slice_index_or xs (i + 1) n
-next_above {n} {xs} h i within = elim (cases_lt (i + 1) (length xs)) [
-  | inl more ↦ omega (arith, h.increasing i more, get_or_default xs (i + 1) n 0 more)
-  | inr last ↦ omega (arith, h.below i 0 within, get_or_past xs (i + 1) n last)
-]
+next_above {n} {xs} h i within = grind (arith, h.increasing i, h.below i 0 within, get_or_default xs (i + 1) n 0, get_or_past xs (i + 1) n)
 
 -- each number of a choice is below the one after it, or n at the end, and such numbers are a choice
 below_last : (n : ℕ) (xs : List ℕ) → ((j : ℕ) → j < length xs → slice_index xs j < slice_index_or xs (j + 1) n) → (more j : ℕ) → j + 1 + more ≡ length xs → slice_index xs j < n
@@ -89,36 +86,14 @@ from_place xs up (suc i) within =
     omega (arith, from_place xs up i (omega arith))
 
 raised_increases : {n i : ℕ} {xs ys : List ℕ} → IsChoice n xs → IsFirstToRise n xs i → IsRaisedAt i xs ys → IsStrictlyIncreasing ys
-raised_increases {n} {i} {xs} {ys} choice first h = λ j within. elim (cases_lt j i) [
-  | inl early ↦ elim (cases_lt (j + 1) i) [
-    | inl still ↦ omega (arith, h.before j early, h.before (j + 1) still)
-    | inr last ↦
-        let e : j + 1 ≡ i = omega arith in
-        let there : slice_index ys (j + 1) ≡ slice_index xs i + 1 = rw e h.here in
-        omega (arith, h.before j early, there, from_place xs choice.increasing i first.within)
-  ]
-  | inr from ↦ elim (cases_lt i j) [
-    | inl later ↦ omega (arith, h.after j later, h.after (j + 1) (omega arith), choice.increasing j (omega (arith, h.size)))
-    | inr here ↦
-        let e : j ≡ i = omega arith in
-        let more : i + 1 < length xs = omega (arith, h.size) in
-        rw e (omega (arith, h.here, h.after (i + 1) (omega arith), first.rises, get_or_default xs (i + 1) n 0 more))
-  ]
-]
+raised_increases {n} {i} {xs} {ys} choice first h = λ j within.
+    let least = from_place xs choice.increasing i first.within in
+    grind (arith, h.size, h.here, first.rises, h.before j, h.before (j + 1), h.after j, h.after (j + 1), choice.increasing j, get_or_default xs (i + 1) n 0)
 
 raised_below : {n i : ℕ} {xs ys : List ℕ} → IsChoice n xs → IsFirstToRise n xs i → IsRaisedAt i xs ys → (j : ℕ) → j < length ys → slice_index ys j < n
-raised_below {n} {i} {xs} {ys} choice first h j within = elim (cases_lt j i) [
-  | inl early ↦ omega (arith, h.before j early, from_place xs choice.increasing i first.within, choice.below i 0 first.within)
-  | inr from ↦ elim (cases_lt i j) [
-    | inl later ↦ omega (arith, h.after j later, choice.below j 0 (omega (arith, h.size)))
-    | inr here ↦
-        let e : j ≡ i = omega arith in
-        rw e (elim (cases_lt (i + 1) (length xs)) [
-          | inl more ↦ omega (arith, h.here, first.rises, get_or_default xs (i + 1) n 0 more, choice.below (i + 1) 0 more)
-          | inr last ↦ omega (arith, h.here, first.rises, get_or_past xs (i + 1) n last)
-        ])
-  ]
-]
+raised_below {n} {i} {xs} {ys} choice first h j within =
+    let least = from_place xs choice.increasing i first.within in
+    grind (arith, h.size, h.here, first.rises, h.before j, h.after j, choice.below i 0 first.within, choice.below j 0, choice.below (i + 1) 0, get_or_default xs (i + 1) n 0, get_or_past xs (i + 1) n)
 
 -- the number at the first place that can rise, one more, begins the choice of the next rank
 pub next_choice_is : {n i : ℕ} {xs ys : List ℕ} → IsChoice n xs → IsFirstToRise n xs i → IsRaisedAt i xs ys → IsChoiceOfRank n (length xs) (rank_of xs + 1) ys

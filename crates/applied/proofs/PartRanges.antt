@@ -4,16 +4,17 @@ use Rattle.std.proofs.Common.{◌∙◌, ap, arith, refl, sym}
 use Rattle.std.proofs.lemmas.Int.{by_lt_z, clamps}
 use Rattle.num_integer.specs.Division.{IsCeiled, IsFloored, IsQuotient}
 use Rattle.num_integer.specs.Only.{IsOnly}
-use Rattle.num_integer.proofs.ForCallers.{ceiled_by_range, ceiled_quotient_least, comm, expand, floored_range, linear, multiples_apart, product_at_most, product_from_zero, products}
+use Rattle.num_integer.specs.Range.{IsRange}
+use Rattle.num_integer.proofs.ForCallers.{ceiled_by_range, ceiled_quotient_least, comm, expand, fits_below, floored_range, linear, multiples_apart, product_at_most, product_from_zero, products}
 use Rattle.applied.specs.Paging.{IsEvenCut, IsRangeOfPart, cut_at}
 
 -- ---- where the parts begin
 
-pub cut_early : {size longer part : ℤ} → part <ℤ longer → cut_at size longer part ≡ part *ℤ size +ℤ part
-cut_early early = omega (arith, linear, clamps)
+pub cut_early : (size longer part : ℤ) → part <ℤ longer → cut_at size longer part ≡ part *ℤ size +ℤ part
+cut_early size longer part early = omega (arith, linear, clamps)
 
-pub cut_late : {size longer part : ℤ} → longer ≤ℤ part → cut_at size longer part ≡ part *ℤ size +ℤ longer
-cut_late late = omega (arith, linear, clamps)
+pub cut_late : (size longer part : ℤ) → longer ≤ℤ part → cut_at size longer part ≡ part *ℤ size +ℤ longer
+cut_late size longer part late = omega (arith, linear, clamps)
 
 part_size : (parts items size longer part : ℤ) → items ≡ size *ℤ parts +ℤ longer → pos 0 ≤ℤ longer → longer <ℤ parts → pos 0 ≤ℤ part → part <ℤ parts
     → IsQuotient IsCeiled (items -ℤ part) parts (cut_at size longer (part +ℤ pos 1) -ℤ cut_at size longer part)
@@ -44,7 +45,7 @@ size_from_zero {parts} {size = size} up from_zero equation below = by_lt_z size 
     (λ fine. fine)
 
 -- each part begins within the items
-pub cut_within : {parts items size longer part : ℤ} → pos 0 <ℤ parts → pos 0 ≤ℤ items → IsFloored items parts size longer → pos 0 ≤ℤ part → part ≤ℤ parts
+cut_within : {parts items size longer part : ℤ} → pos 0 <ℤ parts → pos 0 ≤ℤ items → IsFloored items parts size longer → pos 0 ≤ℤ part → part ≤ℤ parts
     → (pos 0 ≤ℤ (part *ℤ size)) × ((part *ℤ size) ≤ℤ cut_at size longer part) × (cut_at size longer part ≤ℤ items)
 cut_within {parts} {items} {size} {longer} {part} up from_zero division part_up within =
     let range = floored_range up division in
@@ -53,6 +54,12 @@ cut_within {parts} {items} {size} {longer} {part} up from_zero division part_up 
     let begins = product_from_zero part size part_up size_up in
     let most = product_at_most {u = part} {v = size} {x = parts} {y = size} part_up within size_up (omega (arith, linear)) in
     (begins, omega (arith, linear, clamps), omega (arith, linear, clamps, comm parts size))
+
+pub start_fits : {fits : ℤ → Type 0} {low high parts items size longer part : ℤ} → IsRange fits low high → fits items → pos 0 <ℤ parts → pos 0 ≤ℤ items → IsFloored items parts size longer → pos 0 ≤ℤ part → part ≤ℤ parts
+    → fits (part *ℤ size) × fits (cut_at size longer part)
+start_fits range items_fit up from_zero division part_up within =
+    let start = cut_within up from_zero division part_up within in
+    (fits_below range items_fit start.0 (omega (arith, linear, start.1, start.2)), fits_below range items_fit (omega (arith, linear, start.0, start.1)) start.2)
 
 pub part_range : {parts items size longer part : ℤ} → pos 0 ≤ℤ items → IsFloored items parts size longer → pos 0 ≤ℤ part → part <ℤ parts
     → IsRangeOfPart part parts items (cut_at size longer part) (cut_at size longer (part +ℤ pos 1))

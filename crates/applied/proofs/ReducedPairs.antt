@@ -33,11 +33,7 @@ sign_of_part {a} {g} {x} up is =
 
 -- only 0 has the sign of 0
 zero_of_zero : {a x : ℤ} → HasSignOf a x → a ≡ pos 0 → x ≡ pos 0
-zero_of_zero {a} {x} h none = by_lt_z (pos 0) x
-    (λ up. absurd (omega (arith, linear, h.positive.0 up)))
-    (λ not_up. by_lt_z x (pos 0)
-    (λ down. absurd (omega (arith, linear, h.negative.0 down)))
-    (λ not_down. omega (arith, linear)))
+zero_of_zero {a} {x} h none = grind (arith, linear, h.positive.0, h.negative.0)
 
 -- the parts of two numbers by their positive gcd
 pub reduced_by_gcd : {a b g x y : ℤ} → pos 0 <ℤ g → IsGreatestCommonDivisor a b g → a ≡ g *ℤ x → b ≡ g *ℤ y → IsReducedPair a b x y

@@ -54,13 +54,7 @@ all_shared is end h = record {
 
 -- a rounded quotient is only one
 same_quotient : (n d p q : ℕ) → n ≤ p * d → p * d < n + d → n ≤ q * d → q * d < n + d → q ≡ p
-same_quotient n d p q enough fewest other_enough other_fewest = elim (cases_lt q p) [
-  | inl less ↦ absurd (omega (arith, mul-le (q + 1) d p d (omega arith) (le_refl d)))
-  | inr rest ↦ elim (cases_lt p q) [
-    | inl more ↦ absurd (omega (arith, mul-le (p + 1) d q d (omega arith) (le_refl d)))
-    | inr fine ↦ omega arith
-  ]
-]
+same_quotient n d p q enough fewest other_enough other_fewest = grind (arith, mul-le (q + 1) d p d, mul-le (p + 1) d q d, le_refl d)
 
 -- Together they are the amount.
 pub shares_are_whole : {amount : ℕ} {weights shares : List ℕ} → 0 < sum weights → AreShares amount weights shares → sum shares ≡ amount

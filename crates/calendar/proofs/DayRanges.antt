@@ -2,7 +2,7 @@
 use Rattle.std.specs.Prelude.{◌≡◌, ◌≤◌, ◌<ℤ◌, ◌≤ℤ◌, ◌+ℤ◌, ◌-ℤ◌, ℕ, zero, suc, ℤ, pos, List, [], ◌∷◌, length, unsigned_abs}
 use Rattle.std.specs.Int.{int_max}
 use Rattle.std.proofs.Common.{ap, arith, inl, inr, refl}
-use Rattle.std.proofs.lemmas.Int.{by_lt_z, clamps, ints}
+use Rattle.std.proofs.lemmas.Int.{by_lt_z, clamps}
 use Rattle.num_integer.proofs.ForCallers.{linear, sizes}
 use Rattle.calendar.specs.declared.date.Date.{Date}
 use Rattle.calendar.specs.Dates.{day_numbers, number_of, numbers_from}
@@ -29,8 +29,6 @@ first_of_days {first} {end} is = by_lt_z first end
 
 pub no_days : {first end : ℤ} → day_numbers first end ≡ [] → end ≤ℤ first
 no_days {first} {end} is = by_lt_z first end (λ before. let own = next_left first end before in absurd cc) (λ past. past)
-
-pub ruleset range_steps = (ints, first_of_days, no_days)
 
 length-numbers : (count : ℕ) (first : ℤ) → length (numbers_from count first) ≡ count
 unfolding numbers_from

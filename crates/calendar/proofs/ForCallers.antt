@@ -24,5 +24,5 @@ pub use Rattle.calendar.proofs.DateOrder.{year_day_range}
 -- A year has 365 or 366 days.
 pub use Rattle.calendar.proofs.YearLengths.{length_range}
 -- The days from a first one on, to the one before an end, are as many as the end is after the first.
--- They begin with the first, and go on with the days from the next one on. `range_steps` has these steps.
-pub use Rattle.calendar.proofs.DayRanges.{days_from_first, first_of_days, no_days, range_steps}
+-- They begin with the first, and go on with the days from the next one on.
+pub use Rattle.calendar.proofs.DayRanges.{days_from_first, first_of_days, no_days}

@@ -514,22 +514,3 @@ pub fn dates_until(alloc: Global, from: Date, end: Date) -> Result<Vec<Date>, Al
 {
     from.days_until(end).collect(alloc)
 }
-
-/// Whether a range has no date.
-#[tactic(auto, using(calendar::proofs::ForCallers::range_steps))]
-pub fn is_empty_range(from: Date, end: Date) -> bool
-    ensures { IsTrue result ↔ (number_of end ≤ℤ number_of from) }
-{
-    from.days_until(end).next().is_none()
-}
-
-/// The first two dates of a range, by calls of `next`.
-#[tactic(auto, using(calendar::proofs::ForCallers::range_steps))]
-pub fn first_dates(from: Date, end: Date) -> (Option<Date>, Option<Date>)
-    ensures first { MatchOption result.0 (number_of end ≤ℤ number_of from)
-        (λ date. number_of date ≡ number_of from) }
-    ensures second { IfSome result.1 (λ date. number_of date ≡ number_of from +ℤ pos 1) }
-{
-    let mut dates = from.days_until(end);
-    (dates.next(), dates.next())
-}

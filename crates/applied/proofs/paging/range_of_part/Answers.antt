@@ -1,7 +1,6 @@
-use Rattle.std.proofs.Common.{arith, inl}
-use Rattle.std.specs.Prelude.{◌+ℤ◌, ◌*ℤ◌, pos}
+use Rattle.std.proofs.Common.{arith}
 use Rattle.num_integer.proofs.ForCallers.{fits_below, linear, positive_quotient_fits}
-use Rattle.applied.proofs.PartRanges.{cut_within, only_part_range, part_range}
+use Rattle.applied.proofs.PartRanges.{only_part_range, part_range, start_fits}
 use Rattle.applied.proofs.paging.range_of_part.Goals as goal
 
 pub div_mod_floor-size-requires-clause-quotient_fits : goal.div_mod_floor-size-requires-clause-quotient_fits
@@ -9,10 +8,22 @@ div_mod_floor-size-requires-clause-quotient_fits g c = λ q h.
     positive_quotient_fits g.met.T.Integer.range_law c.requires.in_range.2 c.requires.in_range.1 (omega (arith, linear, c.requires.part_from_zero, c.requires.part_below)) h.division.division
 
 pub start_of-first-requires : goal.start_of-first-requires
-start_of-first-requires g c = ?
+start_of-first-requires g c =
+    let start = start_fits g.met.T.Integer.range_law c.requires.in_range.2 (omega (arith, linear, c.requires.part_from_zero, c.requires.part_below)) c.requires.from_zero c.div_mod_floor-size.ensures.floored c.requires.part_from_zero (omega (arith, linear, c.requires.part_below)) in
+    record { in_range = (c.requires.in_range.0, c.div_mod_floor-size.ensures.in_range.0, c.div_mod_floor-size.ensures.in_range.1); product_fits = start.0; start_fits = start.1 }
 
 pub successor-requires-clause-sum_fits : goal.successor-requires-clause-sum_fits
 successor-requires-clause-sum_fits g c = fits_below g.met.T.Integer.range_law c.requires.in_range.1 (omega (arith, linear, c.requires.part_from_zero)) (omega (arith, linear, c.requires.part_below))
 
-pub returns : goal.returns
-returns g c = ?
+pub start_of-requires : goal.start_of-requires
+start_of-requires g c =
+    let start = start_fits g.met.T.Integer.range_law c.requires.in_range.2 (omega (arith, linear, c.requires.part_from_zero, c.requires.part_below)) c.requires.from_zero c.div_mod_floor-size.ensures.floored (omega (arith, linear, c.requires.part_from_zero)) (omega (arith, linear, c.requires.part_below)) in
+    record { in_range = (c.successor.ensures.in_range, c.div_mod_floor-size.ensures.in_range.0, c.div_mod_floor-size.ensures.in_range.1); product_fits = rw c.successor.ensures.value start.0; start_fits = rw c.successor.ensures.value start.1 }
+
+pub returns-clause-range : goal.returns-clause-range
+returns-clause-range g c =
+    rw (c.start_of-first.ensures.start, c.start_of.ensures.start, c.successor.ensures.value)
+    (part_range c.requires.from_zero c.div_mod_floor-size.ensures.floored c.requires.part_from_zero c.requires.part_below)
+
+pub returns-clause-only : goal.returns-clause-only
+returns-clause-only g c = only_part_range c.requires.part_from_zero c.requires.part_below (returns-clause-range g c)

@@ -13,16 +13,3 @@ difference-requires-clause-difference_fits g c =
     let square = square_rest c.requires.from_zero c.sqrt-root.ensures.root in
     let product = c.product.ensures.value in
     within_fits g.met.T.Integer.range_law c.requires.in_range (inl (omega (arith, linear), omega (arith, linear)))
-
-pub returns-clause-sum : goal.returns-clause-sum
-returns-clause-sum g c = omega (arith, linear, c.product.ensures.value, c.difference.ensures.value)
-
-pub returns-clause-rest_from_zero : goal.returns-clause-rest_from_zero
-returns-clause-rest_from_zero g c =
-    let square = square_rest c.requires.from_zero c.sqrt-root.ensures.root in
-    omega (arith, linear, square.1, c.product.ensures.value, c.difference.ensures.value)
-
-pub returns-clause-rest_at_most : goal.returns-clause-rest_at_most
-returns-clause-rest_at_most g c =
-    let square = square_rest c.requires.from_zero c.sqrt-root.ensures.root in
-    omega (arith, linear, square.2, c.product.ensures.value, c.difference.ensures.value)
