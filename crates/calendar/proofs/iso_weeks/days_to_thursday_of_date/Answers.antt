@@ -7,8 +7,8 @@ use Rattle.calendar.specs.Dates.{number_of}
 use Rattle.calendar.specs.Years.{first_day}
 use Rattle.calendar.proofs.IsoWeeks.{of_week}
 use Rattle.calendar.proofs.YearLengths.{length_range}
-use Rattle.calendar.proofs.iso_weeks.thursday_of_week.Goals as goal
-use Rattle.calendar.proofs.iso_weeks.thursday_of_week.Goals.{After-days_since_monday}
+use Rattle.calendar.proofs.iso_weeks.days_to_thursday_of_date.Goals as goal
+use Rattle.calendar.proofs.iso_weeks.days_to_thursday_of_date.Goals.{After-days_since_monday}
 
 -- the Thursday in days from 1 January, and its parts, fit
 fitting : {n : ℕ} {since : ℤ} → 1 ≤ n → n ≤ 366 → pos 0 ≤ℤ since → since <ℤ pos 7

@@ -3,7 +3,7 @@ use Rattle.std.proofs.Common.{arith, sym, ◌∙◌}
 use Rattle.std.proofs.lemmas.Bool.Decides.{nat_tests}
 use Rattle.std.proofs.lemmas.Slice.Eq.{text_from_reads}
 use Rattle.calendar.proofs.DateTexts.{number_boundary, number_told, number_text}
-use Rattle.calendar.proofs.text.split_number.Goals as goal
+use Rattle.calendar.proofs.text.split_last_two_digits.Goals as goal
 
 pub returns : goal.returns
 returns c =
