@@ -217,7 +217,7 @@ pub fn is_after_month(date: &Date, month: &Date) -> bool
     is_before(month, date)
 }
 
-/// Returns `true` if `plus_months(1)` returns `None`. There is such a date, and its year does not fit.
+/// Returns `true` if `plus_months(1)` returns `None`. Then the date a month later has a year that does not fit.
 pub fn has_no_date_a_month_later(date: &Date) -> bool
     ensures { IsTrue result → ((later : Date) × IsMonthsAfter date.now (pos 1) later × ¬ (FitsSigned w64 later.year)) }
 {

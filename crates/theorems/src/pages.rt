@@ -20,7 +20,8 @@ use num_integer::Fits;
 
 // ---- pages and parts
 
-/// Returns the index of the first item of the page and the index after its last one. Both are at most `items`.
+/// Returns the index of the first item of the page and the index after its last one. Exactly the
+/// items of the page are in this range.
 pub fn items_of_page(page: u64, page_size: u64, items: u64) -> (u64, u64)
     requires { 0 < page_size }
     ensures ordered { result.0 ≤ result.1 }
@@ -175,7 +176,7 @@ pub fn rank_if_count_fits(numbers: &[u64], n: u64) -> Option<u64>
     }
 }
 
-/// Returns the rank of a combination. The number of combinations of its length fits.
+/// Returns the rank of a combination. The number of combinations of its length has to fit.
 pub fn rank_of_choice(numbers: &[u64], n: u64) -> u64
     requires choice { IsChoice n numbers.now }
     requires count_fits { coefficient n (length numbers.now) < 2 ^ 64 }
@@ -197,7 +198,7 @@ pub fn ticket_number(numbers: &[u64; 6]) -> Option<u64>
     }
 }
 
-/// Returns the number of a lottery ticket, or `None` if the slice has not six numbers, they do not increase, or one
+/// Returns the number of a lottery ticket, or `None` if there are not six numbers, they do not increase, or one
 /// is not below 49.
 #[tactic(auto, unfolding(num_integer::specs::Coefficient::coefficient))]
 pub fn ticket_number_of_slice(numbers: &[u64]) -> Option<u64>
