@@ -1,8 +1,8 @@
 #!/usr/bin/env python3
-"""Reads the wrong bodies of both suites, crates/NAME/must-fail/*.edit and crates/NAME/must-fail-release/*.edit, and proves
-nothing. The first line of each says what is wrong. Each file that it names is there, each old text stands in that file
-exactly once where the pairs above have been applied, and its new text is another. Prints a line for each that is not so,
-and a count at the end.
+"""Reads the seeded bugs of both suites, crates/NAME/must-fail/*.edit and crates/NAME/must-fail-release/*.edit, and proves
+nothing. The first line of each says what is wrong, in one of three forms. Each file that it names is there, each old text
+stands in that file exactly once where the pairs above have been applied, and its new text is another. Prints a line for each
+that is not so, and a count at the end.
 """
 
 import re
@@ -12,6 +12,13 @@ from pathlib import Path
 ROOT = Path(__file__).resolve().parent.parent
 SUITES = ('must-fail', 'must-fail-release')
 PARTS = ('src/', 'specs/', 'proofs/')
+# The forms of a first line. The calls and the values are expressions of Rust: scripts/check_wrong_lines.py runs them.
+CLAUSE = r'(?:its clause|the clause of `\w+`|`\w+`(?: of (?:`\w+`|its clause))?)'
+FORMS = (
+    rf'wrong: at (?P<call>.+) it returns (?P<wrong>.+), and (?P<clause>{CLAUSE}) asks for (?P<right>.+?)\.(?: [A-Z].*\.)?',
+    rf'wrong: at (?P<call>.+) it overflows, which (?P<broken>{CLAUSE}) excludes, and (?P<clause>{CLAUSE}) asks for (?P<right>.+)\.',
+    r'wrong \(not run: (?P<reason>[^()]+)\): .+\.',
+)
 
 
 class BadEdit(Exception):
@@ -39,11 +46,20 @@ def replaced(crate, name, texts, old, new):
     return text.replace(old, new)
 
 
+def form_of(line):
+    """Returns what a first line says, as a match of its form."""
+    for form in FORMS:
+        match = re.fullmatch(form, line)
+        if match:
+            return match
+    raise BadEdit(f'the first line does not say what is wrong in a known form: {line}')
+
+
 def apply(crate, edit):
-    """Applies the pairs of the edit, one after the other, to copies of the files."""
+    """Applies the pairs of the edit, one after the other, to copies of the files. Returns what the first line says, and the
+    texts of the changed files by their names."""
     first, *lines = edit.read_text(encoding='utf-8').splitlines()
-    if not re.match(r'wrong: .', first):
-        raise BadEdit('the first line does not say what is wrong')
+    said = form_of(first)
     name, old, texts = None, None, {}
     for line in lines:
         word, _, rest = line.partition(':')
@@ -59,6 +75,7 @@ def apply(crate, edit):
             raise BadEdit(f'this line is out of place: {line}')
     if old is not None or not texts:
         raise BadEdit('it has no pair, or no new text for the last old one')
+    return said, texts
 
 
 def main():

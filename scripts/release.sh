@@ -8,8 +8,9 @@
 # that `.ci/run` has passed in this checkout, and once more of a clone in another folder: both have the same sums. The static
 # library is the one that the gate built by Rattle's compiler, or without `rt` on the machine cargo's.
 #
-# It also runs the slow checks: the second suite of seeded bugs, which takes most of an hour, each guard of plain Rust taken out, and
-# all tests of the package for cargo. With --quick it leaves these out, but for some of the tests, and the notes say so.
+# It also runs the slow checks: the second suite of seeded bugs, which takes most of an hour, the first lines of both suites, each guard
+# of plain Rust taken out, and all tests of the package for cargo. With --quick it leaves these out, but for some of the tests, and the
+# notes say so.
 set -uo pipefail
 cd "$(dirname "$0")/.."
 source scripts/lib.sh
@@ -157,6 +158,9 @@ tries_the_sources() {
 
 second_suite() { scripts/check_must_fail_release.sh; }
 
+# The first line of each seeded bug has a call, and what it returns with the bug and without it.
+first_lines_are_true() { scripts/check_wrong_lines.py --self-test && scripts/check_wrong_lines.py; }
+
 # A test misses each guard of plain Rust that is taken out. scripts/check_rust_crate.sh takes out some.
 misses_each_guard() { TMPDIR=$work python3 scripts/rust_guards.py --self-test; }
 
@@ -176,7 +180,8 @@ notes() {
     echo "| \`cellarcove-$version-source.tar.gz\` | all sources |"
     printf '\nWhat was tried of these files:\n\n'
     sed 's/^/- /' "$work/said"
-    [ "$quick" = no ] || printf -- '- the second suite of seeded bugs, each guard taken out, and most tests of the package for cargo: left out\n'
+    [ "$quick" = no ] || printf -- '- %s: left out\n' \
+        'the second suite of seeded bugs, the first lines of both suites, each guard taken out, and most tests of the package for cargo'
     printf '\n## Changes\n'
     sed -n "/^## $version\$/,/^## /p" "$work/one/clone/CHANGELOG.md" | sed '/^## /d'
 }
@@ -202,6 +207,7 @@ tried 'the source distribution is installed in a fresh environment' tries_the_so
 tried 'a program in C is built by pkg-config, with the shared library and with the archive' tries_c
 tried 'the sources are those of the commit' tries_the_sources
 [ "$quick" = yes ] || tried 'each guard of plain Rust that is taken out is missed by a test' misses_each_guard
+[ "$quick" = yes ] || tried 'the first line of each seeded bug is true' first_lines_are_true
 [ "$quick" = yes ] || tried "the second suite of $(ls crates/*/must-fail-release/*.edit | wc -l) seeded bugs is rejected" second_suite
 if finish; then
     mkdir -p "$folder" && cp "$files"/* "$work/one/SHA256SUMS" "$folder" && notes >"$folder/NOTES.md" && ls -l "$folder"

@@ -17,12 +17,12 @@ ONLY_LIES = re.compile(rf'\w+ (?:\w+ )?\{{ {LIES}(?: × {LIES})* \}}')
 # The ghost members of an implementation that say what its calls return. The others are proofs.
 STATED = {'output', 'from_str_gives', 'from_gives', 'is_default', 'cmp', 'partial_cmp', 'next_gives'}
 # What the clauses of an item that is no function say.
-SAYS = {'struct': 'Of the source, in Rattle: it holds of each value of the type.',
-        'impl': 'Of the source, in Rattle: what the calls of the trait return.',
+SAYS = {'struct': 'Proved of the source in Rattle, for each value of the type.',
+        'impl': 'Proved of the source in Rattle: what the calls of the trait return.',
         'trait': 'What the proofs use of an implementation. Of those in this crate it is proved, in Rattle.'}
 # What the pages of the module `definitions` are about.
-PAGES = {'integer_core': 'ranges, division, divisors, Bezout pairs and the turns of their loops',
-         'integer_roots': 'averages, roots and the turns of their loops', 'num_integer': 'coefficients and checked calls',
+PAGES = {'integer_core': 'ranges, division, divisors, Bezout pairs and the iterations of their loops',
+         'integer_roots': 'averages, roots and the iterations of their loops', 'num_integer': 'coefficients and checked calls',
          'modular': 'residues and congruences', 'ratio64': 'fractions', 'calendar': 'dates', 'applied': 'lists, rounding, shares, factorials, paging, schedules, ranking, alignment and hashing'}
 
 
@@ -83,9 +83,9 @@ def section(eraser, item, owner):
 
 def in_words(item, words):
     """The lines before the clauses, which begin with these words."""
-    call = 'where each `requires` holds, the call returns' if 'requires' in words else 'each call returns'
+    call = 'if each `requires` holds, the call returns' if 'requires' in words else 'each call returns'
     then = ', and then each `ensures` holds' if 'ensures' in words else ''
-    return wrapped(SAYS.get(item.kind, f'Of the source, in Rattle: {call}{then}.'))
+    return wrapped(SAYS.get(item.kind, f'Proved of the source in Rattle: {call}{then}.'))
 
 
 def place_of(eraser, item, owner):
