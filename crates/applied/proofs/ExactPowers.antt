@@ -18,8 +18,8 @@ power_of_floor_root {r = pos a} h = (omega (arith, ints), h.power_le)
 power_of_floor_root {r = negsuc a} h = absurd (omega (arith, ints, h.from_zero))
 
 -- the power of a root lies between 0 and the number
-pub power_of_root_within : {x r : ℤ} {n : ℕ} → IsRoot x n r → ((pos 0 ≤ℤ int_pow r n) × (int_pow r n ≤ℤ x)) ⊎ ((x ≤ℤ int_pow r n) × (int_pow r n ≤ℤ pos 0))
-power_of_root_within {x} {r} {n} h = by_lt_z x (pos 0)
+pub power_of_root_in_range : {x r : ℤ} {n : ℕ} → IsRoot x n r → ((pos 0 ≤ℤ int_pow r n) × (int_pow r n ≤ℤ x)) ⊎ ((x ≤ℤ int_pow r n) × (int_pow r n ≤ℤ pos 0))
+power_of_root_in_range {x} {r} {n} h = by_lt_z x (pos 0)
     (λ below.
     let odd = h.below_zero below in
     let size = power_of_floor_root odd.1 in
@@ -28,8 +28,8 @@ power_of_root_within {x} {r} {n} h = by_lt_z x (pos 0)
     (λ up. inl (power_of_floor_root (h.from_zero up)))
 
 -- the power of the root of a power is the power
-pub power_of_root_of_power : {x r : ℤ} {n : ℕ} (k : ℤ) → n ≢ 0 → int_pow k n ≡ x → IsRoot x n r → int_pow r n ≡ x
-power_of_root_of_power {x} {r} {n} k nonzero e h =
+pub root_of_power_is_exact : {x r : ℤ} {n : ℕ} (k : ℤ) → n ≢ 0 → int_pow k n ≡ x → IsRoot x n r → int_pow r n ≡ x
+root_of_power_is_exact {x} {r} {n} k nonzero e h =
     let size : unsigned_abs x ≡ unsigned_abs k ^ n = rw e at (power_size k n) in
     by_lt_z x (pos 0)
     (λ below.

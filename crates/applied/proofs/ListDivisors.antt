@@ -81,8 +81,8 @@ module _ {fits : ℤ → Type 0} {low high : ℤ} (range : IsRange fits low high
 
 -- ---- the result of `gcd_of`
 
-pub gcd_of_answer : (fits : ℤ → Type 0) {numbers : List ℤ} {m g : ℤ} → IsGreatestCommonDivisorOf numbers m → g ≡ m → fits g → GcdOfFits fits numbers × (fits g × IsGreatestCommonDivisorOf numbers g)
-gcd_of_answer fits {numbers} is same g_fits =
+pub gcd_of_result : (fits : ℤ → Type 0) {numbers : List ℤ} {m g : ℤ} → IsGreatestCommonDivisorOf numbers m → g ≡ m → fits g → GcdOfFits fits numbers × (fits g × IsGreatestCommonDivisorOf numbers g)
+gcd_of_result fits {numbers} is same g_fits =
     let own = subst (IsGreatestCommonDivisorOf numbers) (sym same) is in
     (λ _ z other. subst fits (only_gcd_of own other) g_fits, (g_fits, own))
 

@@ -88,8 +88,8 @@ first_fits range first rest nonzero each m h =
     let whole = positive_lcm_of (first ++ rest) nonzero in
     fits_below range (each whole.0 whole.1) h.from_zero (divisor_at_most whole.2 (prefix_divides rest h whole.1))
 
-pub lcm_of_answer : (fits : ℤ → Type 0) {numbers : List ℤ} {l : ℤ} → fits l → IsLeastCommonMultipleOf numbers l → EachFits fits (IsLeastCommonMultipleOf numbers) × (fits l × IsLeastCommonMultipleOf numbers l)
-lcm_of_answer fits {numbers} l_fits own = answer_only {P = IsLeastCommonMultipleOf numbers} own (λ y. only_lcm_of own) l_fits refl
+pub lcm_of_result : (fits : ℤ → Type 0) {numbers : List ℤ} {l : ℤ} → fits l → IsLeastCommonMultipleOf numbers l → EachFits fits (IsLeastCommonMultipleOf numbers) × (fits l × IsLeastCommonMultipleOf numbers l)
+lcm_of_result fits {numbers} l_fits own = answer_only {P = IsLeastCommonMultipleOf numbers} own (λ y. only_lcm_of own) l_fits refl
 
 -- ---- the loop
 
@@ -99,10 +99,10 @@ module _ {X : Type 0} (value : X → ℤ) (numbers : List X) where
   lcm_of_next i {x = x} before within at both = rw (map_more value numbers i x within, ← at) (lcm_of_more before both)
 
   -- a multiple on the way that does not fit
-  pub lcm_of_unfit : {fits : ℤ → Type 0} {low high : ℤ} (i : ℕ) {l : ℤ} {x : X} → IsRange fits low high → All (λ y. value y ≢ pos 0) numbers
+  pub lcm_of_out_of_range : {fits : ℤ → Type 0} {low high : ℤ} (i : ℕ) {l : ℤ} {x : X} → IsRange fits low high → All (λ y. value y ≢ pos 0) numbers
       → IsLeastCommonMultipleOf (map value (take i numbers)) l → i < length numbers → x ≡ get_or numbers i x
       → ¬ (EachFits fits (IsLeastCommonMultiple l (value x))) → ¬ (EachFits fits (IsLeastCommonMultipleOf (map value numbers)))
-  lcm_of_unfit {fits} i {x = x} range nonzero before within at none each =
+  lcm_of_out_of_range {fits} i {x = x} range nonzero before within at none each =
       let first : List ℤ = map value (take (i + 1) numbers) in
       let rest : List ℤ = map value (drop (i + 1) numbers) in
       let whole : first ++ rest ≡ map value numbers = sym (map-append value (take (i + 1) numbers) (drop (i + 1) numbers)) ∙ ap (map value) (take-append-drop (i + 1) numbers) in

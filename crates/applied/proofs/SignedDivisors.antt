@@ -26,7 +26,7 @@ gcd_with_magnitude {a} h = record {
   greatest = λ d left right. h.greatest d (Divides-trans left (magnitude_divides a)) right;
 }
 
--- ---- the divisor that `common_divisor` returns
+-- ---- the divisor that `signed_gcd` returns
 
 -- with 0 it is the magnitude of the other number
 pub gcd_of_zero_and : {a : ℤ} (b : ℤ) → a ≡ pos 0 → IsGreatestCommonDivisor a b (pos (unsigned_abs b))

@@ -54,13 +54,13 @@ PaddingIsOnly = (offset alignment bytes other : ℤ) → pos 0 ≤ℤ bytes → 
 abbrev pub LeastTimeIsOnly : {X : Type 0} → (X → ℤ) → (ℤ → Type 0) → (ℤ → Type 0) → Type 0
 LeastTimeIsOnly {X} value fits P = ((x y : X) → value x ≡ value y → x ≡ y) → (now : ℤ) (answer : CommonSolution X) → IsLeastTime value fits now P answer → IsOnly (IsLeastTime value fits now P) answer
 
--- ---- choices
+-- ---- combinations
 
--- At most one choice has a length and a rank.
+-- At most one combination has a given length and a given rank.
 abbrev pub ChoiceOfRankIsOnly : Type 0
 ChoiceOfRankIsOnly = (n k r : ℕ) (numbers : List ℕ) → IsChoiceOfRank n k r numbers → IsOnly (IsChoiceOfRank n k r) numbers
 
--- The rank of a choice is below the number of choices of its length.
+-- The rank of a combination is less than the number of combinations of its length.
 abbrev pub RankIsBelow : Type 0
 RankIsBelow = (n : ℕ) (numbers : List ℕ) → IsChoice n numbers → rank_of numbers < coefficient n (length numbers)
 
@@ -71,7 +71,7 @@ abbrev pub MidpointIsOnly : Type 0
 MidpointIsOnly = (a b middle other : ℤ) → (middle -ℤ a) ≤ℤ (b -ℤ middle) → (b -ℤ middle) ≤ℤ (middle -ℤ a +ℤ pos 1)
     → (other -ℤ a) ≤ℤ (b -ℤ other) → (b -ℤ other) ≤ℤ (other -ℤ a +ℤ pos 1) → other ≡ middle
 
--- Only one place separates the items that are below a number from the others.
+-- Only one place separates the items that are less than a number from the others.
 abbrev pub LowerBoundIsOnly : {X : Type 0} → (X → ℤ) → Type 0
 LowerBoundIsOnly {X} value = (items : List X) (least : ℤ) (place other : ℕ)
     → place ≤ length items → AllWithin (λ x. value x <ℤ least) items 0 place → AllWithin (λ x. least ≤ℤ value x) items place (length items)
@@ -109,7 +109,7 @@ LcmOfIsOnly = (numbers : List ℤ) (l : ℤ) → IsLeastCommonMultipleOf numbers
 
 -- ---- nearest quotients
 
--- By each divisor except 0 there is a nearest quotient of both kinds.
+-- For each divisor except 0, there is a nearest quotient of both kinds.
 abbrev pub NearestQuotientExists : Type 0
 NearestQuotientExists = (n d : ℤ) → d ≢ pos 0 → ((q : ℤ) × IsQuotient IsNearest n d q) × ((q : ℤ) × IsQuotient IsNearestEven n d q)
 
@@ -122,7 +122,7 @@ NoIntegerIsNearer = (n d q : ℤ) → (IsQuotient IsNearest n d q ⊎ IsQuotient
 abbrev pub NearestQuotientIsOnly : Type 0
 NearestQuotientIsOnly = (n d q : ℤ) → IsQuotient IsNearest n d q → IsOnly (IsQuotient IsNearest n d) q
 
--- And at most one, if a half is rounded to the even number.
+-- Two numbers have at most one nearest quotient, if a half is rounded to the even integer.
 abbrev pub NearestEvenQuotientIsOnly : Type 0
 NearestEvenQuotientIsOnly = (n d q : ℤ) → IsQuotient IsNearestEven n d q → IsOnly (IsQuotient IsNearestEven n d) q
 

@@ -2,7 +2,7 @@
 use Rattle.std.specs.Prelude.{◌≤ℤ◌, ℤ}
 use Rattle.num_integer.specs.Divisors.{Divides}
 
--- The number is the smallest multiple of the alignment that is not below the offset.
+-- The number is the smallest multiple of the alignment that is at least the offset.
 -- Examples: 13 and 8: 16; 16 and 8: 16; -13 and 8: -8.
 pub record IsAlignedUp (offset alignment aligned : ℤ) : Type 0 where
   pub from_offset : offset ≤ℤ aligned

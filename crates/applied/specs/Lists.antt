@@ -18,8 +18,8 @@ pub record IsLeastCommonMultipleOf (numbers : List ℤ) (l : ℤ) : Type 0 where
   pub each_divides : All (λ x. Divides x l) numbers
   pub least : (m : ℤ) → All (λ x. Divides x m) numbers → Divides l m
 
--- The greatest common divisor of the list fits. Only a type that has -1 has to meet this: any other type has the gcd of
--- any of its numbers.
--- Examples: u8: 255, 0, as each list; i8: -128, 0, 6; not -128, 0.
+-- The greatest common divisor of the list fits. Only a type that has -1 has to meet this. Any other type has the greatest common divisor of any of
+-- its numbers.
+-- Examples: in u8: each list, such as 255, 0; in i8: -128, 0, 6; not -128, 0.
 abbrev pub GcdOfFits : (ℤ → Type 0) → List ℤ → Type 0
 GcdOfFits fits numbers = fits (negsuc 0) → EachFits fits (IsGreatestCommonDivisorOf numbers)

@@ -3,31 +3,31 @@ use Rattle.std.specs.Prelude.{◌≡◌, ◌⊎◌, ◌<◌, ◌≤◌, ◌*◌,
 use Rattle.num_integer.specs.Division.{IsDivision}
 use Rattle.num_integer.specs.Divisors.{IsEven}
 
--- q is the integer nearest to n by d, and of two equally near the one farther from 0: what is left, r, is at most half of d.
--- Examples: 7 by 3: 2, 1; 8 by 3: 3, -1; 5 by 2: 3, -1; -5 by 2: -3, 1.
+-- q is the integer nearest to n / d. Of two that are equally near, it is the one farther from 0. The magnitude of the remainder r is at most half of that of d.
+-- Examples: 7 by 3: q 2, r 1; 8 by 3: q 3, r -1; 5 by 2: q 3, r -1; -5 by 2: q -3, r 1.
 pub record IsNearest (n d q r : ℤ) : Type 0 where
   pub division : IsDivision n d q r
   pub nearest : 2 * unsigned_abs r ≤ unsigned_abs d
   pub tie : 2 * unsigned_abs r ≡ unsigned_abs d → unsigned_abs n < unsigned_abs (q *ℤ d)
 
--- q is the integer nearest to n by d, and of two equally near the even one: what is left, r, is at most half of d.
--- Examples: 7 by 3: 2, 1; 8 by 3: 3, -1; 5 by 2: 2, 1; -5 by 2: -2, -1; 7 by 2: 4, -1.
+-- q is the integer nearest to n / d. Of two that are equally near, it is the even one. The magnitude of the remainder r is at most half of that of d.
+-- Examples: 7 by 3: q 2, r 1; 8 by 3: q 3, r -1; 5 by 2: q 2, r 1; -5 by 2: q -2, r -1; 7 by 2: q 4, r -1.
 pub record IsNearestEven (n d q r : ℤ) : Type 0 where
   pub division : IsDivision n d q r
   pub nearest : 2 * unsigned_abs r ≤ unsigned_abs d
   pub tie : 2 * unsigned_abs r ≡ unsigned_abs d → IsEven q
 
--- The second number lies between 0 and the first, which may be negative.
--- Examples: 3 and 1; 3 and 0; -3 and -1; not 3 and -1.
+-- r is between 0 and d, which may be negative. It may be 0 or d.
+-- Examples: d 3: 0; 1; 3; d -3: -1; not d 3: -1.
 abbrev pub LiesWithin : ℤ → ℤ → Type 0
 LiesWithin d r = ((pos 0 ≤ℤ r) × (r ≤ℤ d)) ⊎ ((d ≤ℤ r) × (r ≤ℤ pos 0))
 
--- The remainder r is less than half of d, or half of it and A holds.
--- Examples: 1 of 3; 1 of 2 if A holds; not 2 of 3.
+-- The magnitude of the remainder r is less than half of that of d, or it is half of it and A holds.
+-- Examples: r 1, d 3; r 1, d 2 if A holds; not r 2, d 3.
 abbrev pub IsDown : Type 0 → ℤ → ℤ → Type 0
 IsDown A d r = (2 * unsigned_abs r < unsigned_abs d) ⊎ ((2 * unsigned_abs r ≡ unsigned_abs d) × A)
 
--- The number is the quotient q, which is rounded down with the remainder r, if `IsDown` holds. Else it is q + 1.
--- Examples: of 7 by 3: 2; of 8 by 3: 3; of 5 by 2: 2 if A holds, else 3.
+-- The quotient q is rounded down with the remainder r. The number is q if `IsDown` holds. Otherwise it is q + 1.
+-- Examples: 7 by 3: 2; 8 by 3: 3; 5 by 2: 2 if A holds, otherwise 3.
 abbrev pub IsNearer : Type 0 → ℤ → ℤ → ℤ → ℤ → Type 0
 IsNearer A d q r number = (IsDown A d r × (number ≡ q)) ⊎ ((¬ (IsDown A d r)) × (number ≡ q +ℤ pos 1))

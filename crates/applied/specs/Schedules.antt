@@ -6,20 +6,20 @@ use Rattle.modular.specs.Congruences.{AreCongruent}
 use Rattle.modular.specs.declared.common_solutions.CommonSolution.{CommonSolution}
 use Rattle.num_integer.specs.Least.{IsLeastFrom}
 
--- The time t is the first time, or whole periods after it.
+-- The time t is the first time, or a whole number of periods after it.
 -- Examples: first 3, period 6: 3; 9; 15; not -3; not 4.
 pub record IsTime (first period t : ℤ) : Type 0 where
   pub from_first : first ≤ℤ t
   pub congruent : AreCongruent period t first
 
--- The time t is in both schedules: the first times are a and b, and the periods p and q.
--- Examples: 1 and 4, 3 and 6: 9; 21; 33; not 3.
+-- The time t is in the schedule (a, p) and in the schedule (b, q).
+-- Examples: (1, 4) and (3, 6): 9; 21; 33; not 3.
 pub record IsMeeting (a p b q t : ℤ) : Type 0 where
   pub of_first : IsTime a p t
   pub of_second : IsTime b q t
 
 -- The time t is in each schedule of the list. A schedule is a pair of a first time and a period.
--- Examples: (1, 4), (3, 6), (0, 7): 21; 105; not 9. The empty list: each time.
+-- Examples: (1, 4), (3, 6), (0, 7): 21; 105; not 9. The empty list: every time.
 abbrev pub IsMeetingOfEach : {X : Type 0} → (X → ℤ) → List (X × X) → ℤ → Type 0
 IsMeetingOfEach value schedules t = All (λ s. IsTime (value s.0) (value s.1) t) schedules
 
@@ -28,7 +28,8 @@ IsMeetingOfEach value schedules t = All (λ s. IsTime (value s.0) (value s.1) t)
 abbrev pub HaveBegun : {X : Type 0} → (X → ℤ) → List (X × X) → ℤ → Type 0
 HaveBegun value schedules t = All (λ s. value s.0 ≤ℤ t) schedules
 
--- The result is the first time, not before `now`, that has P: `At` that time if it fits, `Beyond` if it does not, and `Never` if no time has P.
--- Examples: now 10, P the meetings of (1, 4) and (3, 6): `At(21)`; in i8 from 126 on: `Beyond`; P the meetings of (0, 2) and (1, 2): `Never`.
+-- The result is the first time from `now` on that satisfies P: `At` that time if it fits, and `Beyond` if it does not. It is `Never` if no time
+-- satisfies P.
+-- Examples: now 10, P the meetings of (1, 4) and (3, 6): `At(21)`; the same P in i8, now 118: `Beyond`; P the meetings of (0, 2) and (1, 2): `Never`.
 abbrev pub IsLeastTime : {X : Type 0} → (X → ℤ) → (ℤ → Type 0) → ℤ → (ℤ → Type 0) → CommonSolution X → Type 0
-IsLeastTime value fits now P answer = MatchCommonSolution answer ((t : ℤ) → ¬ (P t)) ((t : ℤ) × IsLeastFrom now P t × ¬ (fits t)) (λ t. fits (value t) × IsLeastFrom now P (value t))
+IsLeastTime value fits now P result = MatchCommonSolution result ((t : ℤ) → ¬ (P t)) ((t : ℤ) × IsLeastFrom now P t × ¬ (fits t)) (λ t. fits (value t) × IsLeastFrom now P (value t))

@@ -1,7 +1,8 @@
 -- An amount divided in proportion to weights.
 use Rattle.std.specs.Prelude.{◌≡◌, ◌<◌, ◌≤◌, ◌+◌, ◌*◌, ◌≤ℤ◌, ◌+ℤ◌, ℕ, ℤ, pos, List, [], ◌∷◌, All, length, map, sum, take, unsigned_abs}
 
--- The shares of the first k weights together are their exact share, amount · (sum of these weights) / (sum of all weights), rounded up, for each k.
+-- For each k, the sum of the first k shares is the exact share of the first k weights, rounded up. That exact share is amount · (sum of these
+-- weights) / (sum of all weights).
 -- Examples: amount 100: weights 1, 1, 1: 34, 33, 33; weights 1, 2: 34, 66; weights 0, 3: 0, 100; no shares for weights 0, 0.
 pub record AreShares (amount : ℕ) (weights shares : List ℕ) : Type 0 where
   pub one_each : length shares ≡ length weights
@@ -20,7 +21,7 @@ abbrev pub signed_sum : List ℤ → ℤ
 signed_sum [] = pos 0
 signed_sum (number ∷ numbers) = number +ℤ signed_sum numbers
 
--- The magnitudes are the shares of the magnitude of the amount, and no share has the opposite sign.
+-- The magnitudes of the shares are the shares of the magnitude of the amount. No share has the opposite sign.
 -- Examples: weights 1, 1, 1: amount -100: -34, -33, -33; amount 100: 34, 33, 33; amount 0: 0, 0, 0.
 pub record AreSignedShares (amount : ℤ) (weights : List ℕ) (shares : List ℤ) : Type 0 where
   pub magnitudes : AreShares (unsigned_abs amount) weights (map unsigned_abs shares)

@@ -13,32 +13,35 @@ pub fn is_coprime<T: Fits>(a: T, b: T) -> bool
     requires in_range { T.fits (T.value a) × T.fits (T.value b) }
     ensures { IsTrue result ↔ IsGreatestCommonDivisor (T.value a) (T.value b) (pos 1) }
 {
-    common_divisor(a, b) == one()
+    signed_gcd(a, b) == one()
 }
 
-/// Returns both numbers divided by their greatest common divisor, with their signs. The pair of 0 and 0 stays.
-/// `reduced(1920, 1080)` is `(16, 9)`, `reduced(-6, 4)` is `(-3, 2)`, and `reduced(0, -5)` is `(0, -1)`.
+/// Returns both numbers divided by their greatest common divisor, with their signs. `reduced(1920, 1080)` is
+/// `(16, 9)`, `reduced(-6, 4)` is `(-3, 2)`, `reduced(0, -5)` is `(0, -1)`, and `reduced(0, 0)` is `(0, 0)`.
 pub fn reduced<T: Fits>(a: T, b: T) -> (T, T)
     requires in_range { T.fits (T.value a) × T.fits (T.value b) }
     ensures in_range { T.fits (T.value result.0) × T.fits (T.value result.1) }
     ensures reduced { IsReducedPair (T.value a) (T.value b) (T.value result.0) (T.value result.1) }
 {
-    let divisor = common_divisor(a, b);
+    let divisor = signed_gcd(a, b);
     if is_zero(divisor) {
         (a, b)
     } else {
-        (part_of(a, divisor), part_of(b, divisor))
+        (
+            divided_by_magnitude(a, divisor),
+            divided_by_magnitude(b, divisor),
+        )
     }
 }
 
-/// Returns a number whose magnitude is the greatest common divisor of `a` and `b`: the divisor itself, or the
-/// smallest number of the type if the divisor does not fit.
-pub(crate) fn common_divisor<T: Fits>(a: T, b: T) -> T
+/// `signed_gcd(i8::MIN, 0)` is `i8::MIN`. Returns the greatest common divisor, or `MIN` if it does not fit. The
+/// magnitude of `MIN` is then the divisor.
+pub(crate) fn signed_gcd<T: Fits>(a: T, b: T) -> T
     requires in_range { T.fits (T.value a) × T.fits (T.value b) }
     ensures in_range { T.fits (T.value result) }
     ensures magnitude { IsGreatestCommonDivisor (T.value a) (T.value b)
         (pos (unsigned_abs (T.value result))) }
-    ensures other { T.value result ≢ negsuc 0 }
+    ensures not_minus_one { T.value result ≢ negsuc 0 }
 {
     if a.gcd_fits(&b) {
         a.gcd(&b)
@@ -49,15 +52,19 @@ pub(crate) fn common_divisor<T: Fits>(a: T, b: T) -> T
     }
 }
 
-/// Returns `n` divided by the magnitude of its divisor `d`.
-fn part_of<T: Fits>(n: T, d: T) -> T
+/// Returns `n` divided by the magnitude of `d`, which divides it.
+fn divided_by_magnitude<T: Fits>(n: T, d: T) -> T
     requires in_range { T.fits (T.value n) × T.fits (T.value d) }
     requires nonzero { T.value d ≢ pos 0 }
-    requires other { T.value d ≢ negsuc 0 }
+    requires not_minus_one { T.value d ≢ negsuc 0 }
     requires divides { Divides (pos (unsigned_abs (T.value d))) (T.value n) }
     ensures in_range { T.fits (T.value result) }
-    ensures part { T.value n ≡ pos (unsigned_abs (T.value d)) *ℤ T.value result }
+    ensures product { T.value n ≡ pos (unsigned_abs (T.value d)) *ℤ T.value result }
 {
-    let part = quotient(n, d);
-    if is_negative(d) { negated(part) } else { part }
+    let signed_quotient = quotient(n, d);
+    if is_negative(d) {
+        negated(signed_quotient)
+    } else {
+        signed_quotient
+    }
 }

@@ -14,7 +14,7 @@ use Rattle.calendar.specs.declared.weekday.Weekday.{Weekday}
 abbrev pub number_of : Date → ℤ
 number_of date = day_number date.year date.month date.day_of_month
 
--- This is the day of the date in its year, which is 1 on 1 January.
+-- This is the day of the year: 1 on 1 January.
 -- Examples: 1970-01-01: 1; 2000-03-01: 61; 1969-12-31: 365.
 abbrev pub year_day_of : Date → ℕ
 year_day_of date = days_before_month date.year date.month + date.day_of_month
@@ -26,34 +26,34 @@ pub record HasParts (date : Date) (year : ℤ) (month day : ℕ) : Type 0 where
   pub month_is : date.month ≡ month
   pub day_is : date.day_of_month ≡ day
 
--- The first date has the smaller year; or the same year and the smaller month; or the same year and month, and the smaller day.
+-- The first date has the smaller year; or the same year and the smaller month; or the same year and month, and the smaller day of the month.
 -- Examples: 1999-12-31 before 2000-01-01; 2000-02-28 before 2000-02-29; no date before itself.
 abbrev pub IsEarlier : Date → Date → Type 0
 IsEarlier a b = (a.year <ℤ b.year) ⊎ ((a.year ≡ b.year) × ((a.month < b.month) ⊎ ((a.month ≡ b.month) × (a.day_of_month < b.day_of_month))))
 
 -- ---- the days from one date to another
 
--- So many numbers, each 1 more than the one before it.
+-- This is the list of `count` numbers from `first` on. Each is 1 more than the one before it.
 -- Examples: 3 from -1: -1, 0, 1; 0 from 5: the empty list.
 unfoldable pub numbers_from : ℕ → ℤ → List ℤ
 numbers_from zero first = []
 numbers_from (suc count) first = first ∷ numbers_from count (first +ℤ pos 1)
 
--- The numbers of the days from the first on, to the one before `end`.
+-- These are the day numbers from `first` on that are less than `end`.
 -- Examples: -1 and 2: -1, 0, 1; 2 and 2: the empty list; 3 and 2: the empty list.
 abbrev pub day_numbers : ℤ → ℤ → List ℤ
 day_numbers first end = numbers_from (unsigned_abs (int_max (pos 0) (end -ℤ first))) first
 
 -- ---- dates some months apart
 
--- The date is in the month that is `months` months after that of `from`, on the same day of the month, or on the last day if the month is shorter.
+-- The month of the date is `months` months after the month of `from`. The day of the month is the same, or the last day if the month is shorter.
 -- Examples: from 2000-01-31: 0: 2000-01-31; 1: 2000-02-29; -2: 1999-11-30; not 2000-02-28 at 1.
 pub record IsMonthsAfter (from : Date) (months : ℤ) (date : Date) : Type 0 where
   pub month_is : month_number date.year date.month ≡ month_number from.year from.month +ℤ months
   pub day_is : date.day_of_month ≡ min from.day_of_month (days_in_month date.year date.month)
 
 -- The date `months` months after `from` is not after `to`.
--- Examples: from 2000-01-31 to 2000-03-30: 1, which is 2000-02-29; -7; not 2, which is 2000-03-31.
+-- Examples: from 2000-01-31 to 2000-03-30: 1 (2000-02-29); -7; not 2 (2000-03-31).
 pub record HasMonths (from to : Date) (months : ℤ) : Type 0 where
   pub date : Date
   pub is_after : IsMonthsAfter from months date
@@ -71,9 +71,9 @@ pub record IsYearsBetween (from to : Date) (years : ℤ) : Type 0 where
   pub holds : HasMonths from to (pos 12 *ℤ years)
   pub greatest : (more : ℤ) → HasMonths from to (pos 12 *ℤ more) → more ≤ℤ years
 
--- ---- dates of a month that have a day of the week
+-- ---- the n-th and the last weekday of a month
 
--- The date has this year, this month and this day of the week, and its day of the month is greater than 7·(n - 1) and at most 7·n.
+-- The date has this year, this month and this day of the week. Its day of the month is greater than 7·(n - 1) and at most 7·n.
 -- Examples: 2026, 11, Thursday: 1: 2026-11-05; 4: 2026-11-26; none at 0 or 5.
 pub record IsNthWeekday (year : ℤ) (month : ℕ) (weekday : Weekday) (n : ℕ) (date : Date) : Type 0 where
   pub year_is : date.year ≡ year
@@ -95,7 +95,7 @@ pub record IsLastWeekdayOfMonth (year : ℤ) (month : ℕ) (weekday : Weekday) (
   pub of_month : IsWeekdayOfMonth year month weekday date
   pub last : (other : Date) → IsWeekdayOfMonth year month weekday other → number_of other ≤ℤ number_of date
 
--- The date is the first after `after` that is the last such day of the week in its month.
+-- The date is the first after `after` that is the last `weekday` of its month.
 -- Examples: Friday: after 2026-10-30: 2026-11-27; after 2026-11-26: 2026-11-27; after 2026-11-27: 2026-12-25.
 pub record IsNextLastWeekday (after : Date) (weekday : Weekday) (date : Date) : Type 0 where
   pub later : number_of after <ℤ number_of date

@@ -1,18 +1,18 @@
--- The weeks of ISO 8601, from Monday to Sunday.
+-- ISO 8601 weeks, which begin on Monday.
 use Rattle.std.specs.Prelude.{◌≤◌, ◌+ℤ◌, ◌-ℤ◌, ◌*ℤ◌, ◌≤ℤ◌, ◌<ℤ◌, ℕ, ℤ, pos}
 use Rattle.calendar.specs.Weeks.{HasWeekday}
 use Rattle.calendar.specs.Years.{HasDay, first_day}
 use Rattle.calendar.specs.declared.weekday.Weekday.{Weekday}
 use Rattle.calendar.specs.declared.weekday.Weekday.TheVariants.{Thursday}
 
--- The second day is the Thursday of the week of the first: the one at most three days away.
+-- `thursday` is the Thursday of the week of `day`: the one that is at most three days away.
 -- Examples: 0: 0; 3: 0; 4: 7; not 3: 7.
 pub record IsThursdayOfWeek (day thursday : ℤ) : Type 0 where
   pub has_weekday : HasWeekday thursday Thursday
   pub from : (day -ℤ pos 3) ≤ℤ thursday
   pub to : thursday ≤ℤ (day +ℤ pos 3)
 
--- The day is in this week of the year that has its Thursday: week 1 has the Thursday among the first 7 days of the year.
+-- The day is in this week of this year. The year of a week is the year of its Thursday, and week 1 contains the first Thursday of the year.
 -- Examples: 0: 1970, 1; 3: 1970, 1; 4: 1970, 2; -3: 1970, 1; -4: 1969, 52.
 pub record IsInIsoWeek (day year : ℤ) (week : ℕ) : Type 0 where
   pub thursday : ℤ
@@ -33,7 +33,7 @@ pub record IsDayOfIsoWeek (day year : ℤ) (week : ℕ) (weekday : Weekday) : Ty
   pub in_week : IsInIsoWeek day year week
   pub has_weekday : HasWeekday day weekday
 
--- The year has so many weeks: some day is in the last of them, and no day is in a later week of the year.
+-- The year has this number of weeks. Some day is in the last of them, and no day is in a later week of the year.
 -- Examples: 2004: 53; 2005: 52; 2020: 53.
 pub record HasIsoWeeks (year : ℤ) (weeks : ℕ) : Type 0 where
   pub day : ℤ

@@ -16,7 +16,7 @@ use Rattle.calendar.specs.declared.weekday.Weekday.TheVariants.{Thursday}
 
 -- ---- years
 
--- 4 divides the leap years, and 100 does not, or 400 does.
+-- A year is a leap year exactly if 4 divides it and 100 does not, or if 4 and 400 divide it.
 abbrev pub LeapYearsByDivisors : Type 0
 LeapYearsByDivisors = (year : ℤ) → IsTrue (is_leap_year year) ↔ (Divides (pos 4) year × ((¬ (Divides (pos 100) year)) ⊎ Divides (pos 400) year))
 
@@ -38,7 +38,7 @@ YearOfDayIsOnly = (day y z : ℤ) → HasDay y day → HasDay z day → y ≡ z
 
 -- ---- dates
 
--- Each year, month and day of the month are those of at most one date.
+-- At most one date has a given year, month and day of the month.
 abbrev pub DateOfPartsIsOnly : Type 0
 DateOfPartsIsOnly = (year : ℤ) (month day : ℕ) (a b : Date) → HasParts a year month day → HasParts b year month day → a ≡ b
 
@@ -46,7 +46,7 @@ DateOfPartsIsOnly = (year : ℤ) (month day : ℕ) (a b : Date) → HasParts a y
 abbrev pub DateIsOnly : Type 0
 DateIsOnly = (a b : Date) → number_of a ≡ number_of b → a ≡ b
 
--- Each day of a year is that of at most one date.
+-- At most one date is a given day of a given year.
 abbrev pub DateOfYearDayIsOnly : Type 0
 DateOfYearDayIsOnly = (a b : Date) → a.year ≡ b.year → year_day_of a ≡ year_day_of b → a ≡ b
 
@@ -76,13 +76,13 @@ MonthsBetweenIsOnly = (from to : Date) (a b : ℤ) → IsMonthsBetween from to a
 abbrev pub LastWeekdayOfMonthIsOnly : Type 0
 LastWeekdayOfMonthIsOnly = (year : ℤ) (month : ℕ) (weekday : Weekday) (a b : Date) → IsLastWeekdayOfMonth year month weekday a → IsLastWeekdayOfMonth year month weekday b → a ≡ b
 
--- After each date at most one date is the next that is the last of a day of the week in its month.
+-- For each date and day of the week, at most one later date is the next that is the last such weekday of its month.
 abbrev pub NextLastWeekdayIsOnly : Type 0
 NextLastWeekdayIsOnly = (after : Date) (weekday : Weekday) (a b : Date) → IsNextLastWeekday after weekday a → IsNextLastWeekday after weekday b → a ≡ b
 
 -- ---- weeks
 
--- Each number of a day of the week by ISO 8601 is that of at most one.
+-- Each ISO 8601 number is that of at most one day of the week.
 abbrev pub IsoNumberIsOnly : Type 0
 IsoNumberIsOnly = (a b : Weekday) → iso_number a ≡ iso_number b → a ≡ b
 
@@ -94,11 +94,11 @@ WeekdayIsOnly = (day : ℤ) (a b : Weekday) → HasWeekday day a → HasWeekday 
 abbrev pub WeekdaysFollow : Type 0
 WeekdaysFollow = HasWeekday (pos 0) Thursday × ((day : ℤ) (a b : Weekday) → HasWeekday day a → HasWeekday (day +ℤ pos 1) b → weekday_number b ≡ (weekday_number a + 1) % 7)
 
--- From each day on, at most one day is the first that has a day of the week.
+-- From each day on, at most one day is the first that has a given day of the week.
 abbrev pub FirstWeekdayIsOnly : Type 0
 FirstWeekdayIsOnly = (from : ℤ) (weekday : Weekday) (a b : ℤ) → IsFirstWeekday from weekday a → IsFirstWeekday from weekday b → a ≡ b
 
--- Up to each day, at most one day is the last that has a day of the week.
+-- Up to each day, at most one day is the last that has a given day of the week.
 abbrev pub LastWeekdayIsOnly : Type 0
 LastWeekdayIsOnly = (to : ℤ) (weekday : Weekday) (a b : ℤ) → IsLastWeekday to weekday a → IsLastWeekday to weekday b → a ≡ b
 

@@ -1,7 +1,7 @@
 -- The leap years of the proleptic Gregorian calendar, which applies the rules of today to every year. The year before year 1 is year 0.
 use Rattle.std.specs.Prelude.{◌%◌, ℕ, ℤ, unsigned_abs, Bool, not, ◌&&◌, ◌||◌, nat_eq}
 
--- The number divides the year, by the remainder of its magnitude.
+-- The number divides the year: the remainder of the magnitude of the year is 0.
 -- Examples: -4 and 4: true; 0 and 400: true; 1900 and 400: false.
 unfoldable pub is_multiple : ℤ → ℕ → Bool
 is_multiple year number = nat_eq (unsigned_abs year % number) 0

@@ -17,7 +17,7 @@ months_of year = month_lengths (is_leap_year year)
 abbrev pub days_in_month : ℤ → ℕ → ℕ
 days_in_month year month = slice_index (months_of year) (month - 1)
 
--- These are the lengths of all earlier months of the year, added.
+-- This is the sum of the lengths of the earlier months of the year.
 -- Examples: 2000 and 2: 31; 2000 and 3: 60; 1900 and 3: 59.
 abbrev pub days_before_month : ℤ → ℕ → ℕ
 days_before_month year month = sum (take (month - 1) (months_of year))

@@ -3,7 +3,7 @@ use Rattle.std.specs.Prelude.{◌+◌, ◌%◌, ℕ, List, codes}
 use Rattle.calendar.specs.declared.weekday.Weekday.{Weekday}
 use Rattle.calendar.specs.declared.weekday.Weekday.TheVariants.{Sunday, Monday, Tuesday, Wednesday, Thursday, Friday, Saturday}
 
--- These are the days from a Sunday to the day of the week.
+-- This is the number of days from a Sunday to the day of the week: 0 to 6.
 -- Examples: Sunday: 0; Thursday: 4; Saturday: 6.
 abbrev pub weekday_number : Weekday → ℕ
 weekday_number Sunday = 0
@@ -14,7 +14,7 @@ weekday_number Thursday = 4
 weekday_number Friday = 5
 weekday_number Saturday = 6
 
--- This is the number of the day of the week by ISO 8601: the days from a Monday, and 1 more.
+-- This is the ISO 8601 number of the day of the week: 1 for Monday to 7 for Sunday.
 -- Examples: Monday: 1; Thursday: 4; Sunday: 7.
 abbrev pub iso_number : Weekday → ℕ
 iso_number weekday = (weekday_number weekday + 6) % 7 + 1
@@ -30,7 +30,7 @@ weekday_name Thursday = codes "Thursday"
 weekday_name Friday = codes "Friday"
 weekday_name Saturday = codes "Saturday"
 
--- This is the string of the error of a string that is not the name of a day of the week.
--- Examples: the only one is `not the name of a day of the week`.
+-- This is the message of `WeekdayError`.
+-- Examples: always `not the name of a day of the week`.
 abbrev pub weekday_error_text : List ℕ
 weekday_error_text = codes "not the name of a day of the week"

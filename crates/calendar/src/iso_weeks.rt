@@ -1,4 +1,4 @@
-//! The weeks of ISO 8601, from Monday to Sunday.
+//! ISO 8601 weeks, which begin on Monday.
 
 ghost use Rattle.std.specs.Prelude.{◌≡◌, ◌↔◌, ◌+◌, ◌%◌, ◌<◌, ◌≤◌, ◌+ℤ◌, ◌-ℤ◌, ◌*ℤ◌, ◌<ℤ◌, ◌≤ℤ◌, ℕ, ℤ, pos, FitsSigned, IfSome, IsTrue, MatchOption};
 ghost use Rattle.std.specs.Int.{w64};
@@ -14,8 +14,8 @@ use crate::eras::{days_to_month, era_of_year};
 use crate::years::{is_in_year, nearby_year};
 use crate::{Date, Weekday};
 
-/// A week of ISO 8601, from Monday to Sunday. Its year is the year of its Thursday, and week 1 has the
-/// first Thursday of the year. An earlier week is less than a later one.
+/// An ISO 8601 week, from Monday to Sunday. Its year is the year of its Thursday. Week 1 contains the first
+/// Thursday of the year. An earlier week is less than a later one.
 ///
 /// `Date::from_day_number(4).iso_week()` is `Some(IsoWeek { year: 1970, week: 2 })`.
 #[derive(Debug, Clone, Copy, PartialEq, Eq, PartialOrd, Ord, Hash)]
@@ -34,15 +34,15 @@ impl IsoWeek {
         ensures { MatchOption result (¬ (HasIsoWeek year week))
             (λ found. HasIsoWeek year week × (found.year ≡ year) × (found.week ≡ week)) }
     {
-        if is_in_year(year, thursday_of_iso_week(year, week)) {
+        if is_in_year(year, days_to_thursday_of_week(year, week)) {
             Some(IsoWeek { year, week })
         } else {
             None
         }
     }
 
-    /// Returns the date of a day of the week, or `None` if the year has no such week or the year of the date
-    /// does not fit an `i64`. `IsoWeek { year: 2009, week: 53 }.date_on(Weekday::Sunday)` is
+    /// Returns the date of `weekday` in this week. Returns `None` if the year has no such week, or if the year
+    /// of the date does not fit in `i64`. `IsoWeek { year: 2009, week: 53 }.date_on(Weekday::Sunday)` is
     /// `Date::new(2010, 1, 3)`.
     #[tactic(auto, using(crate::proofs::YearLengths::year_steps))]
     pub fn date_on(&self, weekday: Weekday) -> Option<Date>
@@ -56,8 +56,8 @@ impl IsoWeek {
 }
 
 impl Date {
-    /// Returns the week of ISO 8601 that has the date, or `None` if the year of the week does not fit an
-    /// `i64`. `Date::new(2005, 1, 1).unwrap().iso_week()` is `Some(IsoWeek { year: 2004, week: 53 })`.
+    /// Returns the ISO 8601 week of the date, or `None` if the year of the week does not fit in `i64`.
+    /// `Date::new(2005, 1, 1).unwrap().iso_week()` is `Some(IsoWeek { year: 2004, week: 53 })`.
     #[tactic(auto, using(crate::proofs::YearLengths::year_steps))]
     pub fn iso_week(&self) -> Option<IsoWeek>
         ensures week { MatchOption result
@@ -66,15 +66,15 @@ impl Date {
         ensures from_one { IfSome result (λ found. 1 ≤ found.week) }
         ensures to_53 { IfSome result (λ found. found.week ≤ 53) }
     {
-        let (year, days) = nearby_year(self.year, thursday_of_week(self))?;
+        let (year, days) = nearby_year(self.year, days_to_thursday_of_date(self))?;
         Some(IsoWeek {
             year,
             week: (days / 7 + 1) as u8,
         })
     }
 
-    /// Returns the date of a day of a week of ISO 8601, or `None` if the year has no such week or the year
-    /// of the date does not fit an `i64`.
+    /// Returns the date of `weekday` in an ISO 8601 week. Returns `None` if the year has no such week, or if
+    /// the year of the date does not fit in `i64`.
     /// `Date::from_iso_week(2009, 53, Weekday::Sunday)` is `Date::new(2010, 1, 3)`.
     #[tactic(auto, using(crate::proofs::YearLengths::year_steps))]
     pub fn from_iso_week(year: i64, week: u8, weekday: Weekday) -> Option<Date>
@@ -82,32 +82,32 @@ impl Date {
             ((day y : ℤ) → IsDayOfIsoWeek day year week weekday → HasDay y day → ¬ (FitsSigned w64 y))
             (λ date. IsDayOfIsoWeek (number_of date) year week weekday) }
     {
-        let thursday = thursday_of_iso_week(year, week);
+        let thursday = days_to_thursday_of_week(year, week);
         if is_in_year(year, thursday) {
-            Date::in_nearby_year(year, day_of_week(thursday, weekday))
+            Date::in_nearby_year(year, days_to_weekday(thursday, weekday))
         } else {
             None
         }
     }
 }
 
-/// Returns how many weeks of ISO 8601 the year has: 52 or 53. `weeks_in_year(2004)` is `53`.
+/// Returns the number of ISO 8601 weeks in the year: 52 or 53. `weeks_in_year(2004)` is `53`.
 pub fn weeks_in_year(year: i64) -> u8
     ensures weeks { HasIsoWeeks year result }
     ensures from_52 { 52 ≤ result }
     ensures to_53 { result ≤ 53 }
 {
-    if is_in_year(year, thursday_of_iso_week(year, 53)) {
+    if is_in_year(year, days_to_thursday_of_week(year, 53)) {
         53
     } else {
         52
     }
 }
 
-/// Returns the number of days from 1 January of the year of the date to the Thursday of its week, which
+/// Returns the number of days from 1 January of the date's year to the Thursday of the date's week. The number
 /// is negative if that Thursday is in the year before.
 #[tactic(auto, using(crate::proofs::YearLengths::length_range))]
-fn thursday_of_week(date: &Date) -> i64
+fn days_to_thursday_of_date(date: &Date) -> i64
     ensures of_week { IsThursdayOfWeek (number_of date.now) (first_day date.now.year +ℤ result) }
     ensures from { pos 0 ≤ℤ (result +ℤ pos 6) }
     ensures below { result <ℤ pos 372 }
@@ -115,7 +115,7 @@ fn thursday_of_week(date: &Date) -> i64
     i64::from(date.day_of_year()) + 2 - days_since_monday(date)
 }
 
-/// Returns the number of days from the Monday of its week to the date.
+/// Returns the number of days from the Monday of the date's week to the date.
 fn days_since_monday(date: &Date) -> i64
     ensures value { IsRemainder IsFloored (number_of date.now +ℤ pos 3) (pos 7) result }
     ensures from { pos 0 ≤ℤ result }
@@ -125,25 +125,25 @@ fn days_since_monday(date: &Date) -> i64
     i64::from((day + 1) % 7)
 }
 
-/// Returns the number of days from 1 January to the Thursday of the week, even if the year is too short to
-/// have it.
-fn thursday_of_iso_week(year: i64, week: u8) -> i64
+/// Returns the number of days from 1 January to the Thursday of the week. The year may be too short to have
+/// that week.
+fn days_to_thursday_of_week(year: i64, week: u8) -> i64
     ensures weekday { HasWeekday (first_day year +ℤ result) Thursday }
     ensures from { (pos 7 *ℤ (pos week -ℤ pos 1)) ≤ℤ result }
     ensures before { result <ℤ (pos 7 *ℤ pos week) }
 {
-    first_thursday(year) + 7 * (i64::from(week) - 1)
+    days_to_first_thursday(year) + 7 * (i64::from(week) - 1)
 }
 
-/// Returns the number of days from 1 January to the first Thursday of the year. 1970-01-01, which is day 0,
-/// is a Thursday.
-fn first_thursday(year: i64) -> i64
+/// Returns the number of days from 1 January to the first Thursday of the year. The contract counts from
+/// 1970-01-01, day 0, which is a Thursday.
+fn days_to_first_thursday(year: i64) -> i64
     ensures { IsRemainder IsFloored (pos 0 -ℤ first_day year) (pos 7) result }
 {
     // 1 March of the first year of an era is a Wednesday.
-    let (_, place) = era_of_year(year);
-    let january = days_to_month(place, 1);
-    6 - i64::from((january + 5) % 7)
+    let (_, year_of_era) = era_of_year(year);
+    let days_to_january = days_to_month(year_of_era, 1);
+    6 - i64::from((days_to_january + 5) % 7)
 }
 
 /// Returns the number of days from a Monday to `weekday` of the same week.
@@ -153,8 +153,9 @@ fn days_after_monday(weekday: Weekday) -> i64
     i64::from((weekday.days_after_sunday() + 6) % 7)
 }
 
-/// Returns the day, counted from 1 January, of `weekday` in the week of that Thursday.
-fn day_of_week(thursday: i64, weekday: Weekday) -> i64
+/// Returns the number of days from 1 January to `weekday` in the week whose Thursday is `thursday` days after
+/// 1 January.
+fn days_to_weekday(thursday: i64, weekday: Weekday) -> i64
     requires from { pos 0 ≤ℤ thursday }
     requires below { thursday <ℤ pos 366 }
     ensures value { result ≡ thursday -ℤ pos 3 +ℤ pos ((weekday_number weekday + 6) % 7) }

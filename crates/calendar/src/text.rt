@@ -10,7 +10,7 @@ use std::error::Error;
 use std::fmt;
 use std::str::FromStr;
 
-/// The error of a string that is not a date. `"1900-02-29".parse::<Date>()` is `Err(DateError)`.
+/// The error that parsing returns for a string that is not a date. `"1900-02-29".parse::<Date>()` is `Err(DateError)`.
 #[derive(Debug, Clone, Copy, PartialEq, Eq)]
 pub struct DateError;
 
@@ -63,21 +63,22 @@ impl FromStr for Date {
     ghost from_str_gives = { λ text result. (date : Date) → FitsSigned w64 date.year → (result ≡ Ok date) ↔ (text ≡ text_of date) };
 
     fn from_str(text: &str) -> Result<Date, DateError> {
-        read_date(text).ok_or(DateError)
+        parse_date(text).ok_or(DateError)
     }
 }
 
-/// Returns the date that the string is printed of.
-fn read_date(text: &str) -> Option<Date>
+/// Returns the date that prints as the string, or `None` if there is none.
+fn parse_date(text: &str) -> Option<Date>
     ensures { (date : Date) → FitsSigned w64 date.year → (result ≡ Some date) ↔ (text.now ≡ text_of date) }
 {
-    let (front, day) = split_number(text)?;
-    let (year, month) = split_number(front)?;
-    Date::new(read_year(year)?, month, day)
+    let (front, day) = split_last_two_digits(text)?;
+    let (year, month) = split_last_two_digits(front)?;
+    Date::new(parse_year(year)?, month, day)
 }
 
-/// Splits a hyphen and two digits off the end of the string, and returns the rest and the number.
-fn split_number(text: &str) -> Option<(&str, u8)>
+/// Splits a hyphen and two digits off the end of the string. Returns the rest and the number, or `None` if the
+/// string does not end so.
+fn split_last_two_digits(text: &str) -> Option<(&str, u8)>
     ensures { MatchOption result ((front : List ℕ) (n : ℕ) → n < 100 → text.now ≢ with_number front n)
         (λ parts. (parts.1 < 100) × (text.now ≡ with_number parts.0.now parts.1)) }
 {
@@ -88,39 +89,40 @@ fn split_number(text: &str) -> Option<(&str, u8)>
     Some((front, 10 * (*tens - b'0') + (*ones - b'0')))
 }
 
-/// Returns the year that the string is printed of.
-fn read_year(text: &str) -> Option<i64>
+/// Returns the year that prints as the string, or `None` if there is none.
+fn parse_year(text: &str) -> Option<i64>
     ensures { (year : ℤ) → FitsSigned w64 year → (result ≡ Some year) ↔ (text.now ≡ year_text year) }
 {
     if let Some(digits) = text.strip_prefix('-') {
-        Some(-1 - (read_number(digits, 1, 1 << 63)? - 1) as i64)
+        Some(-1 - (parse_number(digits, 1, 1 << 63)? - 1) as i64)
     } else if let Some(digits) = text.strip_prefix('+') {
-        Some(read_number(digits, 10000, (1 << 63) - 1)? as i64)
+        Some(parse_number(digits, 10000, (1 << 63) - 1)? as i64)
     } else {
-        Some(read_number(text, 0, 9999)? as i64)
+        Some(parse_number(text, 0, 9999)? as i64)
     }
 }
 
-/// Returns the number that the digits are, if it is from `least` to `most`. Zeros in front fill up four digits.
-fn read_number(digits: &str, least: u64, most: u64) -> Option<u64>
-    ensures range { IfSome result (λ n. (least ≤ n) × (n ≤ most)) }
-    ensures number { (n : ℕ) → (result ≡ Some n) ↔ ((least ≤ n) × (n ≤ most) × (digits.now ≡ padded 4 n)) }
+/// Parses a number from `smallest` to `largest` that is padded with zeros to four digits. Returns `None` for any other
+/// string.
+fn parse_number(digits: &str, smallest: u64, largest: u64) -> Option<u64>
+    ensures range { IfSome result (λ n. (smallest ≤ n) × (n ≤ largest)) }
+    ensures number { (n : ℕ) → (result ≡ Some n) ↔ ((smallest ≤ n) × (n ≤ largest) × (digits.now ≡ padded 4 n)) }
 {
-    if !is_shortest(digits.as_bytes()) {
+    if !has_minimal_padding(digits.as_bytes()) {
         return None;
     }
     let Ok(number) = digits.parse::<u64>() else {
         return None;
     };
-    if (least..=most).contains(&number) {
+    if (smallest..=largest).contains(&number) {
         Some(number)
     } else {
         None
     }
 }
 
-/// Returns `true` if the string has four bytes, or more without a leading zero, and begins with a digit.
-fn is_shortest(digits: &[u8]) -> bool
+/// Returns `true` if the first byte is a digit and the string has four bytes. A longer string must not begin with 0.
+fn has_minimal_padding(digits: &[u8]) -> bool
     ensures { IsTrue result ↔ IsShortest digits.now }
 {
     matches!(

@@ -1,4 +1,4 @@
--- The numbers with a property from another on, and how many there are.
+-- The list of the numbers from another on that have a property, and its length.
 use Rattle.std.specs.Prelude.{◌≡◌, ◌≤ℤ◌, ◌+ℤ◌, ℤ, pos, List, [], ◌∷◌, length}
 use Rattle.num_integer.specs.Least.{IsLeastFrom}
 
@@ -8,7 +8,7 @@ abbrev pub AreAllFrom : ℤ → (ℤ → Type 0) → List ℤ → Type 0
 AreAllFrom from Has [] = (u : ℤ) → from ≤ℤ u → ¬ (Has u)
 AreAllFrom from Has (t ∷ items) = IsLeastFrom from Has t × AreAllFrom (t +ℤ pos 1) Has items
 
--- The count is how many numbers from `from` on have the property: the length of their list.
+-- The count is the number of the numbers from `from` on that have the property. It is the length of their list.
 -- Examples: being even and at most 7: from 3: 2; from 7: 0.
 pub record IsCountFrom (from : ℤ) (Has : ℤ → Type 0) (count : ℤ) : Type 0 where
   pub items : List ℤ

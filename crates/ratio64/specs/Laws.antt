@@ -49,7 +49,7 @@ OrderIsTotal K num den = ((x : K) → pos 0 <ℤ den x) → IsTotalOrder (λ x y
 abbrev pub OrderAgreesWithEquality : Type 0
 OrderAgreesWithEquality = (a b c d : ℤ) → (fraction_cmp a b c d ≡ Equal) ↔ AreEqual a b c d
 
--- Of two fractions over one positive denominator the one with the smaller numerator is the smaller.
+-- Of two fractions with the same positive denominator, the one with the smaller numerator is smaller.
 abbrev pub OrderOverOneDenominator : Type 0
 OrderOverOneDenominator = (a c d : ℤ) → pos 0 <ℤ d → a <ℤ c → fraction_cmp a d c d ≡ Less
 
@@ -61,7 +61,7 @@ RoundedIsOnly = (n d r : ℤ) → pos 0 <ℤ d → IsRounded n d r → IsOnly (I
 
 -- ---- small denominators
 
--- Each fraction has at most one nearest fraction of a small denominator.
+-- Each fraction has at most one nearest fraction with a small denominator.
 abbrev pub NearestIsOnly : Type 0
 NearestIsOnly = (n d max num den : ℤ) → IsNearestWithin n d max num den → IsOnly (λ (u, v). IsNearestWithin n d max u v) (num, den)
 
@@ -79,11 +79,11 @@ ProductsOfEqualFractions = (a b c d e f g h : ℤ) → AreEqual a b e f → AreE
 
 -- ---- strings
 
--- Each string is read as only one result.
+-- Each string is parsed as only one result.
 abbrev pub ReadingIsOnly : Type 0
 ReadingIsOnly = (text : List ℕ) (r s : Result Ratio ParseRatioError) → ReadsFraction text r → ReadsFraction text s → r ≡ s
 
--- What is printed of a fraction is read as that fraction.
+-- The string of a fraction is parsed as that fraction.
 abbrev pub TextIsReadBack : Type 0
 TextIsReadBack = (x : Ratio) (r : Result Ratio ParseRatioError) → FitsSigned w64 (num_of x) → FitsSigned w64 (den_of x)
     → ReadsFraction (text_of x) r → r ≡ Ok x

@@ -1,4 +1,4 @@
--- The nearest fraction of a small denominator.
+-- The nearest fraction with a small denominator.
 use Rattle.std.specs.Prelude.{◌≡◌, ◌≤◌, ◌*◌, ◌<ℤ◌, ◌≤ℤ◌, ◌-ℤ◌, ◌*ℤ◌, ℤ, ℕ, pos, unsigned_abs}
 
 -- The gap is the distance from n/d to a/b, times both denominators.
@@ -6,8 +6,8 @@ use Rattle.std.specs.Prelude.{◌≡◌, ◌≤◌, ◌*◌, ◌<ℤ◌, ◌≤�
 abbrev pub gap : ℤ → ℤ → ℤ → ℤ → ℕ
 gap n d a b = unsigned_abs (n *ℤ b -ℤ a *ℤ d)
 
--- Of the fractions with denominators from 1 to max num/den is the nearest to n/d, and of those that are as near the one of
--- the smallest denominator, and of those of this denominator the lowest.
+-- num/den is the nearest to n/d of the fractions with denominators from 1 to max. Of those that are equally near, it has the smallest denominator. Of
+-- those with that denominator, it is the smallest.
 -- Examples: 3/10 within 5: 1/3; 3/2 within 1: 1/1; 1/100 within 50: 0/1.
 pub record IsNearestWithin (n d max num den : ℤ) : Type 0 where
   pub positive : pos 0 <ℤ den

@@ -2,7 +2,7 @@
 use Rattle.std.specs.Prelude.{◌≡◌, ◌⊎◌, ◌+◌, ◌*◌, ◌<◌, ◌≤◌, ℕ}
 use Rattle.ratio64.specs.declared.neighbours.Neighbour.{Neighbour}
 
--- The fraction n/d lies between the two, at the gaps that they have, and their cross products differ by 1.
+-- The fraction n/d lies between the two. The field `gap` of each is its gap to n/d. The cross products of the two differ by 1.
 -- Examples: of 3/10 within 5: 1/4 and 1/3; 0/1 and 1/1; not 0/1 and 1/4.
 pub record AreNeighbours (n d max : ℕ) (below above : Neighbour) : Type 0 where
   pub from_below : n * below.den ≡ below.num * d + below.gap
@@ -13,7 +13,7 @@ pub record AreNeighbours (n d max : ℕ) (below above : Neighbour) : Type 0 wher
   pub nums : (below.num ≤ below.den) × (above.num ≤ above.den)
   pub bounded : (below.den ≤ max) × (above.den ≤ max)
 
--- The parts of the other neighbour are added to those of a side one or more times, and its gap falls and stays positive.
+-- The parts of `other` are added to those of `side` one or more times. The gap becomes smaller and stays positive.
 -- Examples: of 3/10, 1/1 toward 0/1: 1/2; 1/3; not 1/4.
 pub record IsCloser (max : ℕ) (side other result : Neighbour) : Type 0 where
   pub steps : ℕ
@@ -24,7 +24,8 @@ pub record IsCloser (max : ℕ) (side other result : Neighbour) : Type 0 where
   pub apart : 0 < result.gap
   pub bounded : result.den ≤ max
 
--- The result is the neighbour that is nearer; or, of two equally near, the one of the smaller denominator, or else the lower.
+-- The result is the nearer neighbour. Of two that are equally near, it is the one with the smaller denominator. If the denominators are equal too, it
+-- is the one below.
 -- Examples: of 3/10, 1/4 and 1/3: 1/3; of 1/2, 0/1 and 1/1: 0/1; of 1/100, 0/1 and 1/50: 0/1.
 pub record IsNearer (below above result : Neighbour) : Type 0 where
   pub is : ((result ≡ below) × (below.gap * above.den ≤ above.gap * below.den) × (below.gap * above.den ≡ above.gap * below.den → below.den ≤ above.den))

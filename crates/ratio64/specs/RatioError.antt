@@ -3,13 +3,13 @@ use Rattle.std.specs.Prelude.{ℕ, List, codes}
 use Rattle.ratio64.specs.declared.error.RatioError.{RatioError}
 use Rattle.ratio64.specs.declared.error.RatioError.TheVariants.{ZeroDenominator, NotFitting}
 
--- The number of an error, which no version changes.
+-- This is the number of an error. No version changes it.
 -- Examples: `ZeroDenominator`: 1; `NotFitting`: 2.
 abbrev pub number_of : RatioError → ℕ
 number_of ZeroDenominator = 1
 number_of NotFitting = 2
 
--- The string of an error is what `Display` prints.
+-- This is the message of an error, which `Display` prints.
 -- Examples: `ZeroDenominator`: `the denominator is 0`.
 abbrev pub error_text : RatioError → List ℕ
 error_text ZeroDenominator = codes "the denominator is 0"

@@ -1,4 +1,4 @@
--- The strings that write a fraction, and what each string is read as.
+-- The strings that spell a fraction, and the results of parsing.
 use Rattle.std.specs.Prelude.{◌≡◌, ◌⊎◌, ◌↔◌, ◌++◌, ◌≤◌, ◌^◌, ℤ, ℕ, List, codes, drop, neg_ℤ, pos, unsigned_abs, Result, Ok, Err, if◌then◌else◌}
 use Rattle.std.specs.Str.Parse.{IsNumeral, digits_value, starts_with_minus}
 use Rattle.ratio64.specs.Ratio.{AnswersFraction}
@@ -9,26 +9,26 @@ use Rattle.ratio64.specs.declared.error.RatioError.TheVariants as refused
 use Rattle.ratio64.specs.declared.parse.ParseRatioError.{ParseRatioError}
 use Rattle.ratio64.specs.declared.parse.ParseRatioError.TheVariants.{NotAFraction, TooLong, ZeroDenominator, NotFitting}
 
--- The unsigned part of a string is the string without a leading `-`.
+-- This is the string without a leading `-`.
 -- Examples: of `-007`: `007`; of `12`: `12`; of `-0`: `0`.
 abbrev pub unsigned_part : List ℕ → List ℕ
 unsigned_part text = if starts_with_minus text then drop 1 text else text
 
--- The integer of a string is the one that its digits write in decimal, negated after a `-`.
+-- This is the integer that the digits of the string write in decimal. It is negated after a `-`.
 -- Examples: of `-007`: -7; of `12`: 12; of `-0`: 0.
 abbrev pub whole_of : List ℕ → ℤ
 whole_of text =
     let size = pos (digits_value 10 (unsigned_part text)) in
     if starts_with_minus text then neg_ℤ size else size
 
--- The string is an optional `-`, then one or more digits, and nothing else, and writes the integer.
--- Examples: `-007`: -7; `-0`: 0; `+1` writes no integer.
+-- The string spells the integer. It has an optional `-`, then one or more digits, and nothing else.
+-- Examples: `-007`: -7; `-0`: 0; `+1` spells no integer.
 pub record SpellsWhole (text : List ℕ) (number : ℤ) : Type 0 where
   pub digits : IsNumeral 10 (unsigned_part text)
   pub value : number ≡ whole_of text
 
--- The string is `a/b`, or only `a` if b is 1.
--- Examples: `6/-4`: 6 and -4; `3`: 3 and 1; `1/` writes no fraction.
+-- The string spells a fraction. It is `a/b`, or only `a` if b is 1.
+-- Examples: `6/-4`: 6 and -4; `3`: 3 and 1; `1/` spells no fraction.
 pub record SpellsFraction (text : List ℕ) (a b : ℤ) : Type 0 where
   pub num : List ℕ
   pub den : List ℕ
@@ -41,14 +41,14 @@ pub record SpellsFraction (text : List ℕ) (a b : ℤ) : Type 0 where
 abbrev pub HasLongPart : ℤ → ℤ → Type 0
 HasLongPart a b = (10 ^ 38 ≤ unsigned_abs a) ⊎ (10 ^ 38 ≤ unsigned_abs b)
 
--- The result of a fraction, with the error of reading that has the same name.
+-- This is the same fraction, or the error of parsing that has the same name.
 -- Examples: of `Ok` of 1/2: `Ok` of 1/2; of `Err(NotFitting)`: `Err(NotFitting)`.
 abbrev pub answer_read : Result Ratio RatioError → Result Ratio ParseRatioError
 answer_read (Ok x) = Ok x
 answer_read (Err refused.ZeroDenominator) = Err ZeroDenominator
 answer_read (Err refused.NotFitting) = Err NotFitting
 
--- The string of an error is what `Display` prints.
+-- This is the message of an error, which `Display` prints.
 -- Examples: `NotAFraction`: `the text is not a fraction`; `ZeroDenominator`: `the denominator is 0`.
 abbrev pub parse_error_text : ParseRatioError → List ℕ
 parse_error_text NotAFraction = codes "the text is not a fraction"
@@ -56,13 +56,13 @@ parse_error_text TooLong = codes "a part has more than 38 digits, leading zeros 
 parse_error_text ZeroDenominator = error_text refused.ZeroDenominator
 parse_error_text NotFitting = error_text refused.NotFitting
 
--- The fraction a/b is read as `TooLong` if it has a long part, and otherwise as the result of the fraction.
+-- The result of parsing a/b is `TooLong` if it has a long part, and otherwise the result of the fraction.
 -- Examples: 1/10^38: `TooLong`; 2^64/2: `NotFitting`; 1/0: `ZeroDenominator`.
 pub record AnswersSpelled (a b : ℤ) (result : Result Ratio ParseRatioError) : Type 0 where
   pub too_long : (result ≡ Err TooLong) ↔ HasLongPart a b
   pub answer : ¬ (HasLongPart a b) → (r : Result Ratio RatioError) × (result ≡ answer_read r) × AnswersFraction a b r
 
--- A string is read as `NotAFraction` if it writes no fraction, and otherwise as the fraction that it writes.
+-- The result of parsing the string is `NotAFraction` if it spells no fraction. Otherwise it is the result of the fraction that it spells.
 -- Examples: `6/-4`: -3/2; `1/`: `NotAFraction`; `18446744073709551614/2`: MAX/1.
 pub record ReadsFraction (text : List ℕ) (result : Result Ratio ParseRatioError) : Type 0 where
   pub not_a_fraction : (result ≡ Err NotAFraction) ↔ ((a b : ℤ) → ¬ (SpellsFraction text a b))

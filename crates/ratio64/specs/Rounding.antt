@@ -4,7 +4,7 @@ use Rattle.ratio64.specs.Ratio.{AnswersFraction}
 use Rattle.ratio64.specs.declared.fraction.Ratio.{Ratio}
 use Rattle.ratio64.specs.declared.error.RatioError.{RatioError}
 
--- The integer nearest to n/d is r, and of two equally near the one farther from 0.
+-- r is the integer nearest to n/d. Of two that are equally near, it is the one farther from 0.
 -- Examples: 7 and 3: 2; 3 and 2: 2; -3 and 2: -2.
 pub record IsRounded (n d r : ℤ) : Type 0 where
   pub nearest : 2 * unsigned_abs (n -ℤ r *ℤ d) ≤ unsigned_abs d

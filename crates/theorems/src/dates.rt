@@ -1,4 +1,4 @@
-//! Calls of `calendar`: what a caller learns from their contracts and the laws, and results that a caller matches on or loops over.
+//! Functions that call `calendar`. Their contracts state what a caller can prove from its contracts and its laws.
 
 ghost use Rattle.std.specs.Prelude.{◌≡◌, ◌⊎◌, ◌↔◌, ◌++◌, ◌<◌, ◌≤◌, ◌<ℤ◌, ◌+ℤ◌, ◌≤ℤ◌, ◌-ℤ◌, All, FitsSigned, IfOk, IfSome, IsTrue, MatchOption, Ok, Some, if◌then◌else◌, map, pos, ℤ};
 ghost use Rattle.std.specs.Hash as written;
@@ -25,24 +25,24 @@ use calendar::{
 use std::alloc::{AllocError, Global};
 use std::hash::{Hash, Hasher};
 
-// ---- what follows from the contracts
+// ---- what a caller can prove from the contracts
 
-/// The date of the day of a date is the date.
-pub fn date_again(date: &Date) -> Option<Date>
+/// Returns `date`, which is the date of its day number, or `None` if the day number does not fit.
+pub fn date_of_its_day_number(date: &Date) -> Option<Date>
     ensures { MatchOption result (¬ (FitsSigned w64 (number_of date.now)))
         (λ again. again ≡ date.now) }
 {
     Some(Date::from_day_number(date.day_number()?))
 }
 
-/// The day of the date of a day is the day.
-pub fn day_again(day: i64) -> Option<i64>
+/// Returns `day`, which is the day number of its date.
+pub fn day_number_of_its_date(day: i64) -> Option<i64>
     ensures { result ≡ Some day }
 {
     Date::from_day_number(day).day_number()
 }
 
-/// The day of the week some days after a date, in any year of `i64`.
+/// Returns the day of the week `days` days after the date, or `None` if the year of that day does not fit.
 pub fn weekday_later(date: &Date, days: i64) -> Option<Weekday>
     ensures { MatchOption result
         ((later : Date) → number_of later ≡ number_of date.now +ℤ days → ¬ (FitsSigned w64 later.year))
@@ -51,14 +51,14 @@ pub fn weekday_later(date: &Date, days: i64) -> Option<Weekday>
     Some(date.plus_days(days)?.weekday())
 }
 
-/// Dates are in the order of their years, months and days of the month.
+/// Returns `true` if the first date is earlier. Dates are in the order of their years, months and days of the month.
 pub fn is_earlier(first: &Date, second: &Date) -> bool
     ensures { IsTrue result ↔ IsEarlier first.now second.now }
 {
     first < second
 }
 
-/// Dates are in the order of their days, by the law of that order.
+/// Returns `true` if the day number of the first date is smaller. A law says that this is the order of dates.
 #[tactic(auto, using(calendar::proofs::Laws::order_of_dates))]
 pub fn is_before(first: &Date, second: &Date) -> bool
     ensures { IsTrue result ↔ (number_of first.now <ℤ number_of second.now) }
@@ -66,14 +66,14 @@ pub fn is_before(first: &Date, second: &Date) -> bool
     is_earlier(first, second)
 }
 
-/// Dates are equal exactly if their days are.
+/// Returns `true` if the dates are equal. They are equal exactly if their day numbers are.
 pub fn are_equal(first: &Date, second: &Date) -> bool
     ensures { IsTrue result ↔ (number_of first.now ≡ number_of second.now) }
 {
     first == second
 }
 
-/// A hasher is given the year, then the month, then the day of the month.
+/// Hashes the date. The hasher is given the year, then the month, then the day of the month.
 pub fn hash_of_parts<H: Hasher>(date: &Date, state: &mut H)
     ensures { state.new ≡ fold H.write state.old
         (written.i64 date.now.year ++ written.u8 date.now.month ++ written.u8 date.now.day_of_month) }
@@ -81,7 +81,7 @@ pub fn hash_of_parts<H: Hasher>(date: &Date, state: &mut H)
     date.hash(state);
 }
 
-/// The leap rule, by divisors.
+/// Returns `true` if the year is a leap year. The contract states the leap rule by divisibility.
 pub fn has_leap_day(year: i64) -> bool
     ensures { IsTrue result
         ↔ (Divides (pos 4) year × ((¬ (Divides (pos 100) year)) ⊎ Divides (pos 400) year)) }
@@ -89,7 +89,8 @@ pub fn has_leap_day(year: i64) -> bool
     is_leap_year(year)
 }
 
-/// The days from the first of a year to the first of the next one.
+/// Returns the number of days from the first of the year to the first of the next one, or `None` for the year
+/// `i64::MAX`.
 pub fn length_of_year(year: i64) -> Option<i64>
     ensures { MatchOption result (year ≡ i64.MAX)
         (λ days. days ≡ pos (if is_leap_year year then 366 else 365)) }
@@ -107,22 +108,25 @@ pub fn length_of_year(year: i64) -> Option<i64>
     days_between(&first, &next)
 }
 
-/// The date of the week and of the day of the week of a date is the date.
-pub fn week_date_again(date: &Date) -> Option<Date>
+/// Returns `date`, which is the date of its week and its day of the week, or `None` if the year of the week does not
+/// fit.
+pub fn date_of_its_week(date: &Date) -> Option<Date>
     ensures { IfSome result (λ again. again ≡ date.now) }
 {
     let week = date.iso_week()?;
     Date::from_iso_week(week.year, week.week, date.weekday())
 }
 
-/// The week of the date of a day of a week is the week.
-pub fn week_again(week: &IsoWeek, weekday: Weekday) -> Option<IsoWeek>
+/// Returns `week`, which is the week of the date of each of its days. Returns `None` if the year has no such week or
+/// the year of the date does not fit.
+pub fn week_of_its_date(week: &IsoWeek, weekday: Weekday) -> Option<IsoWeek>
     ensures { IfSome result (λ again. again ≡ week.now) }
 {
     Date::from_iso_week(week.year, week.week, weekday)?.iso_week()
 }
 
-/// The working days of the week of a date, by a table of the 53 weeks of a year.
+/// Returns the number of working days in the week of the date. A table has that number for each of the 53 weeks of a
+/// year.
 pub fn working_days(date: &Date, table: &[u8; 53]) -> Option<u8>
     requires { All (λ days. days ≤ 5) table.now }
     ensures { IfSome result (λ days. days ≤ 5) }
@@ -131,7 +135,8 @@ pub fn working_days(date: &Date, table: &[u8; 53]) -> Option<u8>
     Some(table[usize::from(week.week) - 1])
 }
 
-/// A week that a year has is one of 53.
+/// Returns `week`, which is from 1 to 53, or `None` if the year has no such week or the year of its Thursday does not
+/// fit.
 pub fn week_of_year(year: i64, week: u8) -> Option<u8>
     ensures { IfSome result (λ week. (1 ≤ week) × (week ≤ 53)) }
 {
@@ -139,7 +144,7 @@ pub fn week_of_year(year: i64, week: u8) -> Option<u8>
     Some(week)
 }
 
-/// Weeks are in the order of their years, and of their numbers in a year.
+/// Returns `true` if the first week is earlier. Weeks are in the order of their years, then of their numbers.
 pub fn is_earlier_week(first: &IsoWeek, second: &IsoWeek) -> bool
     ensures { IsTrue result ↔ ((first.now.year <ℤ second.now.year)
         ⊎ ((first.now.year ≡ second.now.year) × (first.now.week < second.now.week))) }
@@ -147,7 +152,8 @@ pub fn is_earlier_week(first: &IsoWeek, second: &IsoWeek) -> bool
     first < second
 }
 
-/// A date of an earlier week is before a date of a later one.
+/// Returns `true` if the week of the first date is earlier. Then the first date is earlier too. Returns `None` if the
+/// year of a week does not fit.
 pub fn is_in_earlier_week(first: &Date, second: &Date) -> Option<bool>
     ensures { IfSome result (λ earlier. IsTrue earlier → number_of first.now <ℤ number_of second.now) }
 {
@@ -156,8 +162,9 @@ pub fn is_in_earlier_week(first: &Date, second: &Date) -> Option<bool>
     Some(is_earlier_week(&week, &other))
 }
 
-/// The days from 1970-01-01 to a date are the day of the date.
-pub fn days_from_first(date: &Date) -> Option<i64>
+/// Returns the number of days from 1970-01-01 to the date, which is the day number of the date, or `None` if it does
+/// not fit.
+pub fn days_from_1970(date: &Date) -> Option<i64>
     ensures { SomeIff result (FitsSigned w64 (number_of date.now)) (number_of date.now) }
 {
     let first = Date {
@@ -168,22 +175,22 @@ pub fn days_from_first(date: &Date) -> Option<i64>
     days_between(&first, date)
 }
 
-/// The date of Easter is the only one.
-pub fn only_easter(year: i64) -> Date
+/// Returns the date of Easter. No other day is Easter of that year.
+pub fn easter_is_unique(year: i64) -> Date
     ensures { IsOnly (IsEaster year) (number_of result) }
 {
     easter(year)
 }
 
-/// What is read of the text of a date is the date.
-pub fn read_back(alloc: Global, date: Date) -> Result<Result<Date, DateError>, AllocError>
+/// Returns the result of parsing the string of the date. That result is the date.
+pub fn print_and_parse(alloc: Global, date: Date) -> Result<Result<Date, DateError>, AllocError>
     ensures { IfOk result (λ read. read ≡ Ok date) }
 {
     let text = date.to_string(alloc)?;
     Ok(text.as_str().parse())
 }
 
-/// The days of the months of a year, added: the invariant of the sum is that each month has at most 31.
+/// Returns the sum of the lengths of the months. The loop invariant says that each month has at most 31 days.
 pub fn days_of_months(year: i64) -> u16
     ensures { result ≤ 372 }
 {
@@ -194,7 +201,8 @@ pub fn days_of_months(year: i64) -> u16
     days
 }
 
-/// A week later the day of the week is the same.
+/// Returns the day of the week of the date, which is that of the date a week later, or `None` if the year of that
+/// date does not fit.
 pub fn weekday_in_a_week(date: &Date) -> Option<Weekday>
     ensures { IfSome result (λ weekday. HasWeekday (number_of date.now +ℤ pos 7) weekday) }
 {
@@ -202,15 +210,15 @@ pub fn weekday_in_a_week(date: &Date) -> Option<Weekday>
     Some(date.weekday())
 }
 
-/// A date in a later month is later.
+/// Returns `true` if `date` is later than `month`. It is so if its month is later.
 pub fn is_after_month(date: &Date, month: &Date) -> bool
     ensures { month_number month.now.year month.now.month <ℤ month_number date.now.year date.now.month → IsTrue result }
 {
     is_before(month, date)
 }
 
-/// A month later there is a date, and only its year may not fit.
-pub fn has_no_date_in_a_month(date: &Date) -> bool
+/// Returns `true` if `plus_months(1)` returns `None`. Then the date a month later has a year that does not fit.
+pub fn has_no_date_a_month_later(date: &Date) -> bool
     ensures { IsTrue result → ((later : Date) × IsMonthsAfter date.now (pos 1) later × ¬ (FitsSigned w64 later.year)) }
 {
     match date.plus_months(1) {
@@ -219,9 +227,9 @@ pub fn has_no_date_in_a_month(date: &Date) -> bool
     }
 }
 
-// ---- results that a caller matches on or loops over, with no proof file
+// ---- results as a caller uses them
 
-/// Whether there is such a date.
+/// Returns `true` if there is a date with these parts.
 pub fn is_date(year: i64, month: u8, day: u8) -> bool
     ensures { ¬ (IsTrue result) → ¬ (IsDate year month day) }
 {
@@ -231,8 +239,8 @@ pub fn is_date(year: i64, month: u8, day: u8) -> bool
     }
 }
 
-/// The day of a date, or the last day.
-pub fn day_or_last(date: &Date) -> i64
+/// Returns the day number of the date, or `i64::MAX` if it does not fit.
+pub fn day_number_or_max(date: &Date) -> i64
     ensures { FitsSigned w64 (number_of date.now) → result ≡ number_of date.now }
 {
     match date.day_number() {
@@ -241,7 +249,7 @@ pub fn day_or_last(date: &Date) -> i64
     }
 }
 
-/// The k-th day of a year, or the first.
+/// Returns the date of a day of the year, or 1 January if the year has no such day.
 pub fn day_of_year_or_first(year: i64, day_of_year: u16) -> Date
     ensures { result.year ≡ year }
 {
@@ -255,7 +263,7 @@ pub fn day_of_year_or_first(year: i64, day_of_year: u16) -> Date
     }
 }
 
-/// The next date, or the same at the end.
+/// Returns the next date, or `date` itself if the year of the next one does not fit.
 pub fn tomorrow(date: &Date) -> Date
     ensures { number_of date.now ≤ℤ number_of result }
 {
@@ -265,7 +273,7 @@ pub fn tomorrow(date: &Date) -> Date
     }
 }
 
-/// The previous date, if the year is not the smallest.
+/// Returns the previous date, or `None` if its year does not fit.
 pub fn yesterday(date: &Date) -> Option<Date>
     ensures { MatchOption result (date.now.year ≡ i64.MIN)
         (λ d. number_of d ≡ number_of date.now -ℤ pos 1) }
@@ -277,7 +285,7 @@ pub fn yesterday(date: &Date) -> Option<Date>
     }
 }
 
-/// The date a week later.
+/// Returns the date a week later, or `None` if its year does not fit.
 pub fn week_later(date: &Date) -> Option<Date>
     ensures { IfSome result (λ d. number_of d ≡ number_of date.now +ℤ pos 7) }
 {
@@ -287,7 +295,7 @@ pub fn week_later(date: &Date) -> Option<Date>
     }
 }
 
-/// The date a month later.
+/// Returns the date a month later, or `None` if its year does not fit.
 pub fn month_later(date: &Date) -> Option<Date>
     ensures { IfSome result (λ d. IsMonthsAfter date.now (pos 1) d) }
 {
@@ -297,7 +305,7 @@ pub fn month_later(date: &Date) -> Option<Date>
     }
 }
 
-/// The number of days between, or 0 if it does not fit.
+/// Returns the number of days from `from` to `to`, or 0 if it does not fit.
 pub fn nights(from: &Date, to: &Date) -> i64
     ensures { FitsSigned w64 (number_of to.now -ℤ number_of from.now)
         → result ≡ number_of to.now -ℤ number_of from.now }
@@ -308,8 +316,8 @@ pub fn nights(from: &Date, to: &Date) -> i64
     }
 }
 
-/// The first Monday from a day on, or the day itself at the end.
-pub fn monday_from(day: i64) -> i64
+/// Returns the first Monday from `day` on, or `day` itself if that Monday does not fit.
+pub fn monday_on_or_after(day: i64) -> i64
     ensures { day ≤ℤ result }
 {
     match first_weekday_on_or_after(day, Weekday::Monday) {
@@ -318,7 +326,7 @@ pub fn monday_from(day: i64) -> i64
     }
 }
 
-/// The first Monday of September.
+/// Returns the first Monday of September.
 pub fn labor_day(year: i64) -> Option<Date>
     ensures { IfSome result (λ d. d.year ≡ year) }
 {
@@ -328,7 +336,7 @@ pub fn labor_day(year: i64) -> Option<Date>
     }
 }
 
-/// The week of a date and its year, if the year fits.
+/// Returns the year and the number of the week of the date, or `None` if that year does not fit.
 pub fn week_of(date: &Date) -> Option<(i64, u8)>
     ensures { IfSome result (λ r. IsInIsoWeek (number_of date.now) r.0 r.1) }
 {
@@ -336,7 +344,7 @@ pub fn week_of(date: &Date) -> Option<(i64, u8)>
     Some((year, week))
 }
 
-/// The Monday of a week.
+/// Returns the Monday of the week, or `None` if the year has no such week or the year of the Monday does not fit.
 pub fn monday_of(week: IsoWeek) -> Option<Date>
     ensures { IfSome result (λ d. IsDayOfIsoWeek (number_of d) week.year week.week Weekday.Monday) }
 {
@@ -346,7 +354,7 @@ pub fn monday_of(week: IsoWeek) -> Option<Date>
     }
 }
 
-/// Whether the day is at a weekend.
+/// Returns `true` if the day is a Saturday or a Sunday.
 pub fn is_at_weekend(day: i64) -> bool
     ensures { HasWeekday day Weekday.Sunday → IsTrue result }
 {
@@ -360,14 +368,14 @@ pub fn is_at_weekend(day: i64) -> bool
     }
 }
 
-/// Thanksgiving, the fourth Thursday of November.
+/// Returns the date of Thanksgiving, which is the fourth Thursday of November.
 pub fn thanksgiving(year: i64) -> Option<Date>
     ensures { IfSome result (λ date. HasWeekday (number_of date) Weekday.Thursday) }
 {
     nth_weekday_of_month(year, 11, Weekday::Thursday, 4)
 }
 
-/// The last day of the month after that of the date.
+/// Returns the last day of the month after that of the date, or `None` if its year does not fit.
 pub fn end_of_next_month(date: &Date) -> Option<Date>
     ensures { IfSome result (λ end. IsDate end.year end.month end.day_of_month) }
 {
@@ -375,7 +383,7 @@ pub fn end_of_next_month(date: &Date) -> Option<Date>
     Date::new(next.year, next.month, days_in_month(next.year, next.month))
 }
 
-/// The last day of a month.
+/// Returns the last day of the month.
 pub fn last_day_of_month(year: i64, month: u8) -> Date
     requires from_one { 1 ≤ month }
     requires to_twelve { month ≤ 12 }
@@ -390,7 +398,7 @@ pub fn last_day_of_month(year: i64, month: u8) -> Date
     }
 }
 
-/// The days of two years, added.
+/// Returns the number of days in a year and the next one, or `None` for the year `i64::MAX`.
 pub fn days_of_two_years(year: i64) -> Option<u16>
     ensures { IfSome result (λ days. 730 ≤ days × days ≤ 732) }
 {
@@ -398,7 +406,7 @@ pub fn days_of_two_years(year: i64) -> Option<u16>
     Some(days_in_year(year) + days_in_year(next))
 }
 
-/// The age in months, if it fits.
+/// Returns the age in months, or `None` if it does not fit.
 pub fn age_in_months(birth: &Date, today: &Date) -> Option<i64>
     ensures { IfSome result (λ months. HasMonths birth.now today.now months) }
 {
@@ -408,8 +416,8 @@ pub fn age_in_months(birth: &Date, today: &Date) -> Option<i64>
     }
 }
 
-/// The whole months from one date to another, negative if the second is earlier, or `None` if they do not
-/// fit `i64`.
+/// Returns the number of whole months from `birth` to `today`, which is negative if `today` is earlier. Returns
+/// `None` if it does not fit.
 pub fn months_old(birth: Date, today: Date) -> Option<i64>
     ensures { MatchOption result
         ((months : ℤ) × IsMonthsBetween birth today months × ¬ (FitsSigned w64 months))
@@ -418,7 +426,7 @@ pub fn months_old(birth: Date, today: Date) -> Option<i64>
     months_between(&birth, &today)
 }
 
-/// The same months: a date one month more after the birth is after today.
+/// Returns the same number of months. The date one month more after `birth` is later than `today`.
 pub fn whole_months_old(birth: &Date, today: &Date) -> Option<i64>
     ensures { IfSome result (λ months. (date : Date)
         → IsMonthsAfter birth.now (months +ℤ pos 1) date → number_of today.now <ℤ number_of date) }
@@ -426,7 +434,7 @@ pub fn whole_months_old(birth: &Date, today: &Date) -> Option<i64>
     Some(months_between(birth, today)?)
 }
 
-/// The last Friday of a month, which each month has.
+/// Returns the last Friday of a month. Each month has one.
 pub fn pay_day_of_month(year: i64, month: u8) -> Date
     requires from_one { 1 ≤ month }
     requires to_twelve { month ≤ 12 }
@@ -435,7 +443,8 @@ pub fn pay_day_of_month(year: i64, month: u8) -> Date
     last_weekday_of_month(year, month, Weekday::Friday).unwrap()
 }
 
-/// The first pay day after a date. Pay day is the last Friday of each month.
+/// Returns the first pay day after the date, or `None` if its year does not fit. Pay day is the last Friday of each
+/// month.
 pub fn next_pay_day(date: &Date) -> Option<Date>
     ensures { MatchOption result
         ((next : Date) → IsNextLastWeekday date.now Friday next → ¬ (FitsSigned w64 next.year))
@@ -444,7 +453,7 @@ pub fn next_pay_day(date: &Date) -> Option<Date>
     next_last_weekday(date, Weekday::Friday)
 }
 
-/// The first pay day after a date, or the date itself at the end. It is not earlier than the date.
+/// Returns the first pay day after the date, or the date itself if the year of that pay day does not fit.
 pub fn pay_day_or_same(date: &Date) -> Date
     ensures { number_of date.now ≤ℤ number_of result }
 {
@@ -454,8 +463,8 @@ pub fn pay_day_or_same(date: &Date) -> Date
     }
 }
 
-/// The second Friday of a month, which each month has.
-pub fn advance_day(year: i64, month: u8) -> Date
+/// Returns the second Friday of a month. Each month has one.
+pub fn second_friday_of_month(year: i64, month: u8) -> Date
     requires from_one { 1 ≤ month }
     requires to_twelve { month ≤ 12 }
     ensures { IsNthWeekday year month Friday 2 result }
@@ -463,7 +472,7 @@ pub fn advance_day(year: i64, month: u8) -> Date
     nth_weekday_of_month(year, month, Weekday::Friday, 2).unwrap()
 }
 
-/// The last Friday of a month.
+/// Returns the last Friday of a month, or `None` if there is no such month.
 pub fn last_friday(year: i64, month: u8) -> Option<Date>
     ensures { MatchOption result (¬ ((1 ≤ month) × (month ≤ 12)))
         (λ date. IsLastWeekdayOfMonth year month Weekday.Friday date) }
@@ -474,8 +483,8 @@ pub fn last_friday(year: i64, month: u8) -> Option<Date>
     }
 }
 
-/// The Sunday up to a day, or the day itself at the end.
-pub fn sunday_up_to(day: i64) -> i64
+/// Returns the last Sunday up to `day`, or `day` itself if that Sunday does not fit.
+pub fn sunday_on_or_before(day: i64) -> i64
     ensures { result ≤ℤ day }
 {
     match last_weekday_on_or_before(day, Weekday::Sunday) {
@@ -484,7 +493,7 @@ pub fn sunday_up_to(day: i64) -> i64
     }
 }
 
-/// The day of the week of a number, or Monday.
+/// Returns the day of the week with this ISO number, or Monday if there is none.
 pub fn weekday_or_monday(number: u8) -> Weekday
     ensures { 1 ≤ number → number ≤ 7 → iso_number result ≡ number }
 {
@@ -494,21 +503,21 @@ pub fn weekday_or_monday(number: u8) -> Weekday
     }
 }
 
-/// The weeks of the year after a week.
+/// Returns the number of weeks in the year after the week.
 pub fn weeks_left(week: &IsoWeek) -> u8
     ensures { result ≤ 53 }
 {
     weeks_in_year(week.year).saturating_sub(week.week)
 }
 
-/// The days of the year after a date.
+/// Returns the number of days in the year after the date.
 pub fn days_left(date: &Date) -> u16
     ensures { result < 366 }
 {
     days_in_year(date.year) - date.day_of_year()
 }
 
-/// The dates from one on, to the one before another, collected.
+/// Collects the dates from `from` on that are before `end`.
 pub fn dates_until(alloc: Global, from: Date, end: Date) -> Result<Vec<Date>, AllocError>
     ensures { IfOk result (λ v. map number_of v.items ≡ day_numbers (number_of from) (number_of end)) }
 {

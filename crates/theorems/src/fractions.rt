@@ -1,4 +1,4 @@
-//! Calls of `ratio64`: what a caller learns from their contracts and the laws, and results that a caller matches on or loops over.
+//! Functions that call `ratio64`. Their contracts state what a caller can prove from its contracts and its laws.
 
 ghost use Rattle.std.specs.Prelude.{◌≡◌, ◌≢◌, ◌↔◌, ◌++◌, ◌<◌, ◌<ℤ◌, ◌+ℤ◌, ◌*ℤ◌, ◌^◌, ◌-ℤ◌, Err, IfOk, IfSome, IsOk, IsTrue, MatchOption, Ok, neg_ℤ, pos, unsigned_abs, ℤ};
 ghost use Rattle.std.specs.Hash as written;
@@ -18,12 +18,12 @@ use std::alloc::{AllocError, Global};
 use std::cmp::Ordering;
 use std::hash::{Hash, Hasher};
 
-/// What is read of a string.
+/// The result of parsing a fraction.
 type ParseResult = Result<Ratio, ParseRatioError>;
 
-// ---- what follows from the contracts
+// ---- what a caller can prove from the contracts
 
-/// The parts of the exact result, and no others, or `None` if one of them does not fit.
+/// Returns the parts of the exact result, or `None` if one of them does not fit. The exact result is unique.
 pub fn exact_parts(num: i64, den: i64) -> Option<(i64, i64)>
     requires { IsFraction num den }
     ensures parts { MatchOption result (IsOutsideI64 num den) (λ p. IsExact num den p.0 p.1) }
@@ -35,7 +35,7 @@ pub fn exact_parts(num: i64, den: i64) -> Option<(i64, i64)>
     }
 }
 
-/// The parts of a sum, or `None` if one of them does not fit.
+/// Returns the parts of the sum, or `None` if one of them does not fit.
 pub fn parts_of_sum(x: &Ratio, y: &Ratio) -> Option<(i64, i64)>
     ensures { MatchOption result
         (IsOutsideI64 (num_of x.now *ℤ den_of y.now +ℤ num_of y.now *ℤ den_of x.now)
@@ -49,47 +49,48 @@ pub fn parts_of_sum(x: &Ratio, y: &Ratio) -> Option<(i64, i64)>
     }
 }
 
-/// Whether the fraction is an integer, also if `Ratio::new` returns an error for it: MIN / -1 is one.
-pub fn is_whole(num: i64, den: i64) -> bool
+/// `is_integer(i64::MIN, -1)` is `true`, although `Ratio::new(i64::MIN, -1)` returns an error. Returns `true` if the
+/// fraction is an integer.
+pub fn is_integer(num: i64, den: i64) -> bool
     requires { IsFraction num den }
     ensures { IsTrue result ↔ ((n d : ℤ) → IsExact num den n d → d ≡ pos 1) }
 {
     num.is_multiple_of(&den)
 }
 
-/// One of `parts` equal parts of 1. It always fits.
-pub fn one_of(parts: u32) -> Ratio
+/// Returns the fraction 1 / `parts`, which always fits.
+pub fn unit_fraction(parts: u32) -> Ratio
     requires { parts ≢ 0 }
     ensures { IsExact (pos 1) (pos parts) (num_of result) (den_of result) }
 {
     Ratio::new(1, i64::from(parts)).unwrap()
 }
 
-/// The number as a fraction. It always fits.
-pub fn whole(number: i64) -> Ratio
+/// Returns the number as a fraction, which always fits.
+pub fn integer_by_new(number: i64) -> Ratio
     ensures num { num_of result ≡ number }
     ensures den { den_of result ≡ pos 1 }
 {
     Ratio::new(number, 1).unwrap()
 }
 
-/// The number as a fraction, by the conversion.
-pub fn converted(number: i64) -> Ratio
+/// Converts the number with `Ratio::from`.
+pub fn integer_by_from(number: i64) -> Ratio
     ensures num { num_of result ≡ number }
     ensures den { den_of result ≡ pos 1 }
 {
     Ratio::from(number)
 }
 
-/// Whether the fraction is 0, which is 0 over 1.
+/// Returns `true` if the fraction is 0. Its parts are then 0 and 1.
 pub fn is_zero(x: &Ratio) -> bool
     ensures { IsTrue result ↔ ((num_of x.now ≡ pos 0) × (den_of x.now ≡ pos 1)) }
 {
     x.num() == 0
 }
 
-/// The fraction `c / d`, made of an equal one.
-pub fn of_equal(a: i64, b: i64, c: i64, d: i64) -> Result<Ratio, RatioError>
+/// Makes the fraction `c / d` from `a / b`, which is equal to it.
+pub fn new_from_equal(a: i64, b: i64, c: i64, d: i64) -> Result<Ratio, RatioError>
     requires fraction { IsFraction c d }
     requires equal { AreEqual a b c d }
     ensures { IfOk result (λ x. IsExact c d (num_of x) (den_of x)) }
@@ -97,8 +98,8 @@ pub fn of_equal(a: i64, b: i64, c: i64, d: i64) -> Result<Ratio, RatioError>
     Ratio::new(a, b)
 }
 
-/// The sum of the fractions `a / b` and `c / d`, if both fit.
-pub fn sum_of_given(a: i64, b: i64, c: i64, d: i64) -> Result<Ratio, RatioError>
+/// Returns the sum of `a / b` and `c / d`, or an error if one of them or the sum does not fit.
+pub fn sum_of_new(a: i64, b: i64, c: i64, d: i64) -> Result<Ratio, RatioError>
     requires first { IsFraction a b }
     requires second { IsFraction c d }
     ensures { IfOk result (λ x. IsExact (a *ℤ d +ℤ c *ℤ b) (b *ℤ d) (num_of x) (den_of x)) }
@@ -106,8 +107,8 @@ pub fn sum_of_given(a: i64, b: i64, c: i64, d: i64) -> Result<Ratio, RatioError>
     Ratio::new(a, b)?.checked_add(&Ratio::new(c, d)?)
 }
 
-/// The product of the fractions `a / b` and `c / d`, if both fit.
-pub fn product_of_given(a: i64, b: i64, c: i64, d: i64) -> Result<Ratio, RatioError>
+/// Returns the product of `a / b` and `c / d`, or an error if one of them or the product does not fit.
+pub fn product_of_new(a: i64, b: i64, c: i64, d: i64) -> Result<Ratio, RatioError>
     requires first { IsFraction a b }
     requires second { IsFraction c d }
     ensures { IfOk result (λ x. IsExact (a *ℤ c) (b *ℤ d) (num_of x) (den_of x)) }
@@ -115,14 +116,14 @@ pub fn product_of_given(a: i64, b: i64, c: i64, d: i64) -> Result<Ratio, RatioEr
     Ratio::new(a, b)?.checked_mul(&Ratio::new(c, d)?)
 }
 
-/// Each value is reduced.
+/// Returns the parts of the fraction, which are reduced.
 pub fn reduced_parts(x: &Ratio) -> (i64, i64)
     ensures { IsReduced result.0 result.1 }
 {
     (x.num(), x.den())
 }
 
-/// Two values are equal if their fractions are.
+/// Returns `true` if the fractions are equal.
 pub fn are_equal(x: &Ratio, y: &Ratio) -> bool
     ensures { IsTrue result
         ↔ AreEqual (num_of x.now) (den_of x.now) (num_of y.now) (den_of y.now) }
@@ -130,7 +131,7 @@ pub fn are_equal(x: &Ratio, y: &Ratio) -> bool
     x == y
 }
 
-/// Two values compare as their fractions do.
+/// Returns the order of the two fractions.
 pub fn compared(x: &Ratio, y: &Ratio) -> Ordering
     ensures { result
         ≡ fraction_cmp (num_of x.now) (den_of x.now) (num_of y.now) (den_of y.now) }
@@ -138,16 +139,16 @@ pub fn compared(x: &Ratio, y: &Ratio) -> Ordering
     x.cmp(y)
 }
 
-/// Whether three numbers ascend, if the first is below the last.
-pub fn ascend(x: &Ratio, y: &Ratio, z: &Ratio) -> bool
+/// Returns `true` if the three fractions ascend. Then the first is less than the last.
+pub fn are_ascending(x: &Ratio, y: &Ratio, z: &Ratio) -> bool
     ensures { IsTrue result → fraction_cmp (num_of x.now) (den_of x.now) (num_of z.now)
         (den_of z.now) ≡ Ordering.Less }
 {
     matches!((x.cmp(y), y.cmp(z)), (Ordering::Less, Ordering::Less))
 }
 
-/// On which side of the second the first lies: -1 below it, 0 at it, 1 above it.
-pub fn side(x: &Ratio, y: &Ratio) -> i64
+/// Returns -1 if the first is less than the second, 0 if they are equal, and 1 if it is greater.
+pub fn sign_of_difference(x: &Ratio, y: &Ratio) -> i64
     ensures below { (result <ℤ pos 0)
         ↔ ((num_of x.now *ℤ den_of y.now) <ℤ (num_of y.now *ℤ den_of x.now)) }
     ensures level { (result ≡ pos 0)
@@ -162,7 +163,7 @@ pub fn side(x: &Ratio, y: &Ratio) -> i64
     }
 }
 
-/// Whether the first is the smaller.
+/// Returns `true` if the first fraction is less than the second.
 pub fn is_less(x: &Ratio, y: &Ratio) -> bool
     ensures { IsTrue result
         ↔ ((num_of x.now *ℤ den_of y.now) <ℤ (num_of y.now *ℤ den_of x.now)) }
@@ -170,8 +171,8 @@ pub fn is_less(x: &Ratio, y: &Ratio) -> bool
     x < y
 }
 
-/// Of two fractions over one denominator the one of the lesser numerator is the lesser.
-pub fn over_one_denominator(x: &Ratio, y: &Ratio) -> Ordering
+/// Returns `Less`: of two fractions with the same denominator, the one with the smaller numerator is smaller.
+pub fn order_over_one_denominator(x: &Ratio, y: &Ratio) -> Ordering
     requires denominator { den_of x.now ≡ den_of y.now }
     requires numerators { num_of x.now <ℤ num_of y.now }
     ensures { result ≡ Ordering.Less }
@@ -179,8 +180,9 @@ pub fn over_one_denominator(x: &Ratio, y: &Ratio) -> Ordering
     x.cmp(y)
 }
 
-/// The nearest fraction that is known is the one that is found.
-pub fn nearest_again(x: &Ratio, max: i64, num: i64, den: i64) -> (i64, i64)
+/// Returns the parts of the nearest fraction that `limit_denominator` finds. They are `num` and `den`, since the
+/// nearest fraction is unique.
+pub fn nearest_is_unique(x: &Ratio, max: i64, num: i64, den: i64) -> (i64, i64)
     requires positive { pos 0 <ℤ max }
     requires nearest { IsNearestWithin (num_of x.now) (den_of x.now) max num den }
     ensures { result ≡ (num, den) }
@@ -189,7 +191,7 @@ pub fn nearest_again(x: &Ratio, max: i64, num: i64, den: i64) -> (i64, i64)
     (nearest.num(), nearest.den())
 }
 
-/// Equal values change a hasher alike.
+/// Hashes two equal fractions with two hashers in the same state. The hashers are then in the same state again.
 pub fn hash_both<H: Hasher>(x: &Ratio, y: &Ratio, first: &mut H, second: &mut H)
     requires equal { AreEqual (num_of x.now) (den_of x.now) (num_of y.now) (den_of y.now) }
     requires same { first.old ≡ second.old }
@@ -199,7 +201,7 @@ pub fn hash_both<H: Hasher>(x: &Ratio, y: &Ratio, first: &mut H, second: &mut H)
     y.hash(second);
 }
 
-/// A hasher is given the numerator, then the denominator.
+/// Hashes the fraction. The hasher is given the numerator, then the denominator.
 pub fn hash_of_parts<H: Hasher>(x: &Ratio, state: &mut H)
     ensures { state.new ≡ fold H.write state.old
         (written.i64 (num_of x.now) ++ written.i64 (den_of x.now)) }
@@ -207,8 +209,8 @@ pub fn hash_of_parts<H: Hasher>(x: &Ratio, state: &mut H)
     x.hash(state);
 }
 
-/// The parts of a fraction, and what is read of its string, which is that fraction.
-pub fn read_back(alloc: Global, x: &Ratio) -> Result<(i64, i64, ParseResult), AllocError>
+/// Returns the parts of the fraction and the result of parsing its string. That result is the fraction.
+pub fn print_and_parse(alloc: Global, x: &Ratio) -> Result<(i64, i64, ParseResult), AllocError>
     ensures { IfOk result (λ r. r.2 ≡ Ok x.now) }
 {
     let (num, den) = (x.num(), x.den());
@@ -216,10 +218,10 @@ pub fn read_back(alloc: Global, x: &Ratio) -> Result<(i64, i64, ParseResult), Al
     Ok((num, den, text.as_str().parse()))
 }
 
-// ---- results that a caller matches on or loops over, with no proof file
+// ---- results as a caller uses them, with no proof file
 
-/// A fraction, its parts, and its neighbours among the integers.
-pub fn three_halves_below() -> Result<(i64, i64, i64, i64), RatioError>
+/// Returns the parts, the floor and the ceiling of 6 / -4: `Ok((-3, 2, -2, -1))`.
+pub fn parts_floor_and_ceil_of_minus_three_halves() -> Result<(i64, i64, i64, i64), RatioError>
     ensures parts { IfOk result (λ r. IsExact (pos 6) (neg_ℤ (pos 4)) r.0 r.1) }
     ensures floor { IfOk result (λ r. IsQuotient IsFloored r.0 r.1 r.2) }
     ensures ceil { IfOk result (λ r. IsQuotient IsCeiled r.0 r.1 r.3) }
@@ -228,23 +230,23 @@ pub fn three_halves_below() -> Result<(i64, i64, i64, i64), RatioError>
     Ok((x.num(), x.den(), x.floor(), x.ceil())) // (-3, 2, -2, -1)
 }
 
-/// The whole numbers that the fraction lies between.
-pub fn neighbours(x: &Ratio) -> (i64, i64)
+/// Returns the floor and the ceiling of the fraction.
+pub fn floor_and_ceil(x: &Ratio) -> (i64, i64)
     ensures floor { IsQuotient IsFloored (num_of x.now) (den_of x.now) result.0 }
     ensures ceil { IsQuotient IsCeiled (num_of x.now) (den_of x.now) result.1 }
 {
     (x.floor(), x.ceil())
 }
 
-/// The sum of three fractions. `?` passes each refusal on.
+/// Returns the sum of three fractions. `?` passes each error on.
 pub fn sum_of_three(x: &Ratio, y: &Ratio, z: &Ratio) -> Result<Ratio, RatioError>
     ensures { result ≢ Err RatioError.ZeroDenominator }
 {
     x.checked_add(y)?.checked_add(z)
 }
 
-/// Why there is no fraction, by its number, or 0.
-pub fn refusal(num: i64, den: i64) -> u32
+/// Returns 1 if the denominator is 0, 2 if a part of the exact result does not fit, and 0 if there is no error.
+pub fn error_number(num: i64, den: i64) -> u32
     ensures zero { result ≡ 1 → den ≡ pos 0 }
     ensures outside { result ≡ 2 → IsOutsideI64 num den }
     ensures none { result ≡ 0 → IsFraction num den }
@@ -256,7 +258,7 @@ pub fn refusal(num: i64, den: i64) -> u32
     }
 }
 
-/// The parts of a difference, or `None` if one of them does not fit.
+/// Returns the parts of the difference, or `None` if one of them does not fit.
 pub fn parts_of_difference(x: &Ratio, y: &Ratio) -> Option<(i64, i64)>
     ensures { MatchOption result
         (IsOutsideI64 (num_of x.now *ℤ den_of y.now -ℤ num_of y.now *ℤ den_of x.now)
@@ -270,7 +272,7 @@ pub fn parts_of_difference(x: &Ratio, y: &Ratio) -> Option<(i64, i64)>
     }
 }
 
-/// The parts of a product.
+/// Returns the parts of the product, or `None` if one of them does not fit.
 pub fn parts_of_product(x: &Ratio, y: &Ratio) -> Option<(i64, i64)>
     ensures { MatchOption result
         (IsOutsideI64 (num_of x.now *ℤ num_of y.now) (den_of x.now *ℤ den_of y.now))
@@ -282,7 +284,7 @@ pub fn parts_of_product(x: &Ratio, y: &Ratio) -> Option<(i64, i64)>
     }
 }
 
-/// The quotient, or 0 by 0.
+/// Returns the quotient, or 0 if the divisor is 0. Returns an error if the quotient does not fit.
 pub fn quotient_or_zero(x: &Ratio, y: &Ratio) -> Result<Ratio, RatioError>
     ensures { result ≢ Err RatioError.ZeroDenominator }
 {
@@ -292,7 +294,7 @@ pub fn quotient_or_zero(x: &Ratio, y: &Ratio) -> Result<Ratio, RatioError>
     }
 }
 
-/// The negation, if it fits.
+/// Returns the negation, or `None` if it does not fit.
 pub fn negation(x: &Ratio) -> Option<Ratio>
     ensures { MatchOption result (IsOutsideI64 (neg_ℤ (num_of x.now)) (den_of x.now))
         (λ r. IsExact (neg_ℤ (num_of x.now)) (den_of x.now) (num_of r) (den_of r)) }
@@ -303,7 +305,7 @@ pub fn negation(x: &Ratio) -> Option<Ratio>
     }
 }
 
-/// The magnitude, if it fits.
+/// Returns the magnitude, or `None` if it does not fit.
 pub fn magnitude(x: &Ratio) -> Option<Ratio>
     ensures { IfSome result (λ r. IsExact (pos (unsigned_abs (num_of x.now))) (den_of x.now) (num_of r)
         (den_of r)) }
@@ -315,7 +317,7 @@ pub fn magnitude(x: &Ratio) -> Option<Ratio>
     }
 }
 
-/// The reciprocal, or its error.
+/// Returns the reciprocal, or an error if the fraction is 0 or the reciprocal does not fit.
 pub fn reciprocal(x: &Ratio) -> Result<Ratio, RatioError>
     ensures { IfOk result (λ r. IsExact (den_of x.now) (num_of x.now) (num_of r) (den_of r)) }
 {
@@ -323,7 +325,7 @@ pub fn reciprocal(x: &Ratio) -> Result<Ratio, RatioError>
     Ok(reciprocal)
 }
 
-/// The square, or `None` if a part of it does not fit.
+/// Returns the square, or `None` if a part of it does not fit.
 pub fn square(x: &Ratio) -> Option<Ratio>
     ensures { MatchOption result
         (IsOutsideI64 (int_pow (num_of x.now) 2) (int_pow (den_of x.now) 2))
@@ -335,7 +337,7 @@ pub fn square(x: &Ratio) -> Option<Ratio>
     }
 }
 
-/// The sum of the fractions, if each sum on the way fits.
+/// Returns the sum of the fractions, or an error if a partial sum does not fit.
 pub fn total(fractions: &[Ratio]) -> Result<Ratio, RatioError>
     ensures { result ≢ Err RatioError.ZeroDenominator }
 {
@@ -346,31 +348,31 @@ pub fn total(fractions: &[Ratio]) -> Result<Ratio, RatioError>
     Ok(total)
 }
 
-/// The fraction that a string spells, or 0 if it spells no fraction.
-pub fn read_or_zero(text: &str) -> Result<Ratio, ParseRatioError>
+/// Parses the string. Returns 0 in place of the error `NotAFraction`, and passes on each other error.
+pub fn parse_or_zero(text: &str) -> Result<Ratio, ParseRatioError>
     ensures { result ≢ Err ParseRatioError.NotAFraction }
 {
     match text.parse::<Ratio>() {
         Err(ParseRatioError::NotAFraction) => Ok(Ratio::zero()),
-        read => read,
+        parsed => parsed,
     }
 }
 
-// ---- calls that return no error
+// ---- calls of which some error cannot occur
 
-/// The negation of a fraction whose numerator is above MIN.
-pub fn negation_above_least(x: &Ratio) -> Ratio
+/// Returns the negation of a fraction whose numerator is greater than `i64::MIN`.
+pub fn negation_above_min(x: &Ratio) -> Ratio
     requires { neg_ℤ (pos (2 ^ 63)) <ℤ num_of x.now }
     ensures { IsExact (neg_ℤ (num_of x.now)) (den_of x.now) (num_of result) (den_of result) }
 {
     match x.checked_neg() {
         Ok(negation) => negation,
-        Err(_) => unreachable!("a numerator above MIN"),
+        Err(_) => unreachable!("the numerator is greater than MIN"),
     }
 }
 
-/// The magnitude of a fraction whose numerator is above MIN.
-pub fn magnitude_above_least(x: &Ratio) -> Result<Ratio, RatioError>
+/// Returns the magnitude of a fraction whose numerator is greater than `i64::MIN`. It is not an error.
+pub fn magnitude_above_min(x: &Ratio) -> Result<Ratio, RatioError>
     requires { neg_ℤ (pos (2 ^ 63)) <ℤ num_of x.now }
     ensures { IsOk result }
 {
@@ -378,8 +380,8 @@ pub fn magnitude_above_least(x: &Ratio) -> Result<Ratio, RatioError>
     Ok(magnitude)
 }
 
-/// The reciprocal of a positive fraction.
-pub fn reciprocal_of_positive(x: &Ratio) -> Ratio
+/// Returns the reciprocal of the fraction, or 0 if the fraction is not positive.
+pub fn reciprocal_or_zero(x: &Ratio) -> Ratio
     ensures { pos 0 <ℤ num_of x.now → IsExact (den_of x.now) (num_of x.now) (num_of result) (den_of result) }
 {
     if !x.is_positive() {
@@ -387,21 +389,22 @@ pub fn reciprocal_of_positive(x: &Ratio) -> Ratio
     }
     match x.checked_recip() {
         Ok(reciprocal) => reciprocal,
-        Err(_) => unreachable!("a numerator above 0"),
+        Err(_) => unreachable!("the numerator is positive"),
     }
 }
 
-/// So many hundredths.
+/// Returns the fraction `hundredths` / 100.
 pub fn percent(hundredths: i64) -> Ratio
     ensures { IsExact hundredths (pos 100) (num_of result) (den_of result) }
 {
     match Ratio::new(hundredths, 100) {
         Ok(percent) => percent,
-        Err(_) => unreachable!("the denominator is above 0"),
+        Err(_) => unreachable!("the denominator is positive"),
     }
 }
 
-/// The amount for so many persons of a recipe for `servings`, exact, or the error if it does not fit.
+/// Scales an amount of a recipe for `servings` persons to `persons`. Returns an error if the exact result does not
+/// fit.
 pub fn scale(amount: Ratio, persons: i64, servings: i64) -> Result<Ratio, RatioError>
     requires { pos 0 <ℤ servings }
     ensures { AnswersFraction (num_of amount *ℤ persons) (den_of amount *ℤ servings) result }
@@ -410,8 +413,8 @@ pub fn scale(amount: Ratio, persons: i64, servings: i64) -> Result<Ratio, RatioE
     amount.checked_mul(&share)
 }
 
-/// The resolution of a screen in lowest terms.
-pub fn reduced_resolution(width: u32, height: u32) -> Ratio
+/// Returns the aspect ratio of a screen in lowest terms.
+pub fn aspect_ratio(width: u32, height: u32) -> Ratio
     requires { 0 < height }
     ensures same_ratio { num_of result *ℤ pos height ≡ pos width *ℤ den_of result }
     ensures lowest { IsGreatestCommonDivisor (num_of result) (den_of result) (pos 1) }
@@ -419,21 +422,22 @@ pub fn reduced_resolution(width: u32, height: u32) -> Ratio
     Ratio::new(i64::from(width), i64::from(height)).unwrap()
 }
 
-// ---- whole numbers times a fraction
+// ---- integers times a fraction
 
-/// A share of an amount, rounded down and up, or `None` if one of the two does not fit.
-pub fn portion(share: &Ratio, amount: i64) -> Option<(i64, i64)>
+/// Returns the share of an amount, rounded down and rounded up, or `None` if one of the two does not fit.
+pub fn share_rounded_both_ways(share: &Ratio, amount: i64) -> Option<(i64, i64)>
     ensures { IfSome result
         (λ p. IsQuotient IsFloored (num_of share.now *ℤ amount) (den_of share.now) p.0
         × IsQuotient IsCeiled (num_of share.now *ℤ amount) (den_of share.now) p.1) }
 {
     match (share.floor_times(amount), share.ceil_times(amount)) {
-        (Some(least), Some(most)) => Some((least, most)),
+        (Some(rounded_down), Some(rounded_up)) => Some((rounded_down, rounded_up)),
         _ => None,
     }
 }
 
-/// A price with its tax, by the rate of the tax.
+/// Returns a price with its tax, which is rounded, or `None` if the tax or the sum does not fit. The tax is the price
+/// times the rate.
 pub fn with_tax(price: i64, rate: &Ratio) -> Option<i64>
     ensures { IfSome result (λ total. (tax : ℤ)
         × IsRounded (num_of rate.now *ℤ price) (den_of rate.now) tax × (total ≡ price +ℤ tax)) }

@@ -1,15 +1,15 @@
-//! The promises of the whole. Each function here states one: its clauses are the promise in full, and its
-//! code makes the call that keeps it. The prover has checked each for every argument.
+//! The main theorems. Each function here states one: its contract is the theorem in full, and its code makes
+//! the call. The prover has checked each function for every argument.
 //!
-//! | promise | function |
+//! | theorem | function |
 //! |---|---|
 //! | a root is exact, at every degree | [`root`], [`square_root`], [`cube_root`] |
-//! | the two loops of a square root make at most five turns | [`square_root_in_five_turns`] |
-//! | a gcd divides both numbers, and whatever divides both divides it | [`greatest_common_divisor`] |
-//! | a pair certifies the gcd, and is the only one | [`bezout_pair`] |
+//! | the two loops of a square root make at most five iterations | [`square_root_in_five_turns`] |
+//! | a gcd divides both numbers, and every number that divides both divides it | [`greatest_common_divisor`] |
+//! | a pair certifies the gcd, and no other small pair does | [`bezout_pair`] |
 //! | a binomial coefficient that fits is exact | [`binomial_coefficient`] |
 //! | a multinomial coefficient that fits is exact | [`multinomial_coefficient`] |
-//! | an iterator gives the coefficients of its row, and then `None` | [`row`], [`next_of_row`] |
+//! | an iterator returns the coefficients of its row, and then `None` | [`row`], [`next_of_row`] |
 //! | each quotient and each remainder is that of its kind | [`divisions`], [`quotients`], [`residue`] |
 //! | the next and the previous multiple are a quotient times the divisor | [`multiples`] |
 //! | divisibility and parity are those of the definitions | [`divisibility`], [`parity`] |
@@ -17,25 +17,25 @@
 //! | an lcm is a multiple of both, and divides every such number | [`least_common_multiple`], [`gcd_and_lcm`], [`bezout_pair_and_lcm`] |
 //! | an average is rounded down or up, and never overflows | [`averages`] |
 //! | each test of a domain is true exactly there | [`domains`], [`domain_of_multinomial`] |
-//! | the loop of a gcd makes at most as many turns as both numbers have bits | [`turns_for_gcd`] |
-//! | the loop of a pair makes at most as many turns as Lamé's theorem says | [`turns_for_bezout_pair`] |
-//! | 2 to the power of the turns for a coefficient is at most the coefficient | [`turns_for_binomial`] |
+//! | the loop of a gcd makes at most as many iterations as the two bit lengths added | [`turns_for_gcd`] |
+//! | the loop of a pair makes at most as many iterations as Lamé's theorem says | [`turns_for_bezout_pair`] |
+//! | 2 to the power of the number of iterations for a coefficient is at most the coefficient | [`turns_for_binomial`] |
 //! | a fraction is reduced | [`parts_of_fraction`] |
-//! | it is an error only if its reduced form does not fit, or its denominator is 0 | [`fraction`], [`sum_of_fractions`], [`difference_of_fractions`], [`product_of_fractions`], [`quotient_of_fractions`] |
-//! | its rounding and its order are those of the definitions | [`floor_and_ceil_of_fraction`], [`order_of_fractions`] |
+//! | a call returns an error only if the reduced fraction does not fit, or its denominator is 0 | [`fraction`], [`sum_of_fractions`], [`difference_of_fractions`], [`product_of_fractions`], [`quotient_of_fractions`] |
+//! | the rounding and the order of fractions are those of the definitions | [`floor_and_ceil_of_fraction`], [`order_of_fractions`] |
 //! | a call of the program has the outcome of the definition | [`outcome`] |
 //!
-//! Most functions over any lawful type are followed by the same at native types, whose names end in
-//! `_of_i64` or `_of_u64`. That the line which the program prints is the definition's is the contract of
-//! `run` in `intcalc`: no crate can stand on a program. Of a counted call it is proved that it returns the
-//! number of turns of the definition's loop; whether its own loop makes them is seen by reading.
+//! After most functions at any lawful type comes the same at native types. Its name ends in `_of_i64` or
+//! `_of_u64`. The contract of `run` in `intcalc` says that the program prints the line of the definition. It
+//! is not here, since no crate can depend on a program. It is proved that a counted call returns the number
+//! of iterations of the definition's loop. That its own loop makes them is seen by reading.
 //!
-//! **How to read a clause.** `T.value x` is the whole number that `x` means, which is `x` at `i64` and
-//! `pos x` at `u64`. `T.fits z` says that the type has the number `z`. A lawful type is one that implements
-//! `Integer`, for which its laws are proved; the twelve native types do. Clauses speak of whole numbers
-//! without limit, so nothing in them overflows. A clause `in_range` says that an argument is a number of
-//! its type; at a native type each one is. The other `requires` are the domain of the call, and there is
-//! no further condition. The words are defined in `specs/` of each crate, with examples.
+//! **How to read a clause.** `T.value x` is the integer that `x` means, which is `x` at `i64` and `pos x` at
+//! `u64`. `T.fits z` says that the type has the integer `z`. A lawful type implements `Integer`, and its laws
+//! are proved; the twelve native types are lawful. Clauses speak of integers without limit, so nothing in
+//! them overflows. A clause `in_range` says that an argument is in the range of its type; at a native type
+//! each one is. The other `requires` are the domain of the call, and there is no further condition. The
+//! `specs/` of each crate define the words, with examples.
 
 ghost use Rattle.std.specs.Prelude.{◌≡◌, ◌≢◌, ◌↔◌, ◌+◌, ◌-◌, ◌*◌, ◌^◌, ◌%◌, ◌<◌, ◌≤◌, ◌≤ℤ◌, ◌+ℤ◌, ◌-ℤ◌, ◌*ℤ◌, ℕ, pos, unsigned_abs, [], ◌∷◌, map, Err, IfNone, IfOk, IfSome, IsTrue, FitsSigned, min};
 ghost use Rattle.std.specs.Int.{FitsUnsignedBits, w64};
@@ -69,8 +69,9 @@ use ratio64::{Ratio, RatioError};
 use std::alloc::{AllocError, Global};
 use std::cmp::Ordering;
 
-/// A root is exact, at every degree. If `x` is not negative, it is the `r`, not negative, whose power of degree `n`
-/// is at most `x`, while that of `r + 1` is above `x`. For a negative `x` it is minus the root of `-x`.
+/// Returns the root of degree `n`, which is exact. If `x` is not negative, it is the `r` from 0 on whose power of
+/// degree `n` is at most `x`, and the power of `r + 1` is greater than `x`. For a negative `x` it is minus the root
+/// of `-x`.
 pub fn root<T: Roots>(x: T, n: u32) -> T
     requires in_range { T.fits (T.value x) }
     requires degree { n ≢ 0 }
@@ -80,7 +81,7 @@ pub fn root<T: Roots>(x: T, n: u32) -> T
     nth_root(x, n)
 }
 
-/// So is the square root.
+/// Returns the square root, which is exact.
 pub fn square_root<T: Roots>(x: T) -> T
     requires in_range { T.fits (T.value x) }
     requires from_zero { pos 0 ≤ℤ T.value x }
@@ -89,7 +90,7 @@ pub fn square_root<T: Roots>(x: T) -> T
     sqrt(x)
 }
 
-/// So is the cube root.
+/// Returns the cube root, which is exact.
 pub fn cube_root<T: Roots>(x: T) -> T
     requires in_range { T.fits (T.value x) }
     ensures exact { IsRoot (T.value x) 3 (T.value result) }
@@ -97,7 +98,7 @@ pub fn cube_root<T: Roots>(x: T) -> T
     cbrt(x)
 }
 
-/// A root at `i64`.
+/// Returns the root at `i64`.
 pub fn root_of_i64(x: i64, n: u32) -> i64
     requires degree { n ≢ 0 }
     requires from_zero_where_even { n % 2 ≡ 0 → pos 0 ≤ℤ x }
@@ -106,7 +107,7 @@ pub fn root_of_i64(x: i64, n: u32) -> i64
     nth_root(x, n)
 }
 
-/// A root at `u64`, where the definition is two inequalities.
+/// Returns the root at `u64`. The definition is then two inequalities.
 pub fn root_of_u64(x: u64, n: u32) -> u64
     requires degree { n ≢ 0 }
     ensures exact { IsRoot (pos x) n (pos result) }
@@ -116,14 +117,14 @@ pub fn root_of_u64(x: u64, n: u32) -> u64
     nth_root(x, n)
 }
 
-/// A cube root at `i64`.
+/// Returns the cube root at `i64`.
 pub fn cube_root_of_i64(x: i64) -> i64
     ensures exact { IsRoot x 3 result }
 {
     cbrt(x)
 }
 
-/// The loops of a square root make at most five turns, and the root is exact.
+/// Returns the exact square root and the number of iterations of its loops, which is at most five.
 pub fn square_root_in_five_turns<T: SqrtCounted>(x: T) -> (T, u32)
     requires in_range { T.fits (T.value x) }
     requires from_zero { pos 0 ≤ℤ T.value x }
@@ -134,7 +135,7 @@ pub fn square_root_in_five_turns<T: SqrtCounted>(x: T) -> (T, u32)
     x.sqrt_counted()
 }
 
-/// A square root with its turns at `i64`.
+/// Returns the square root and the number of iterations at `i64`.
 pub fn square_root_in_five_turns_of_i64(x: i64) -> (i64, u32)
     requires from_zero { pos 0 ≤ℤ x }
     ensures exact { IsRoot x 2 result.0 }
@@ -144,7 +145,7 @@ pub fn square_root_in_five_turns_of_i64(x: i64) -> (i64, u32)
     x.sqrt_counted()
 }
 
-/// A square root with its turns at `u64`.
+/// Returns the square root and the number of iterations at `u64`.
 pub fn square_root_in_five_turns_of_u64(x: u64) -> (u64, u32)
     ensures exact { IsRoot (pos x) 2 (pos result.0) }
     ensures square { result.0 ^ 2 ≤ x }
@@ -155,7 +156,7 @@ pub fn square_root_in_five_turns_of_u64(x: u64) -> (u64, u32)
     x.sqrt_counted()
 }
 
-/// A greatest common divisor is at least 0, divides both numbers, and is divided by every number that
+/// Returns the greatest common divisor. It is at least 0, divides both numbers, and is divided by every number that
 /// divides both.
 pub fn greatest_common_divisor<T: Integer>(a: T, b: T) -> T
     requires in_range { T.fits (T.value a) × T.fits (T.value b) }
@@ -165,7 +166,7 @@ pub fn greatest_common_divisor<T: Integer>(a: T, b: T) -> T
     gcd(a, b)
 }
 
-/// A greatest common divisor at `i64`. Only that of the least number with itself or with 0 does not fit.
+/// Returns the greatest common divisor at `i64`. Only that of `i64::MIN` with itself or with 0 does not fit.
 pub fn greatest_common_divisor_of_i64(a: i64, b: i64) -> i64
     requires gcd_fits { GcdFits (FitsSigned w64) a b }
     ensures greatest { IsGreatestCommonDivisor a b result }
@@ -173,16 +174,16 @@ pub fn greatest_common_divisor_of_i64(a: i64, b: i64) -> i64
     gcd(a, b)
 }
 
-/// A greatest common divisor at `u64`.
+/// Returns the greatest common divisor at `u64`.
 pub fn greatest_common_divisor_of_u64(a: u64, b: u64) -> u64
     ensures greatest { IsGreatestCommonDivisor (pos a) (pos b) (pos result) }
 {
     gcd(a, b)
 }
 
-/// The pair certifies the gcd: `x` times `a` and `y` times `b` add up to it. If one number divides the
-/// other, `IsBezoutAnswer` names the pair outright; else the pair is small, and no other small pair
-/// certifies the gcd.
+/// Returns the greatest common divisor and a pair that certifies it: `x` times `a` and `y` times `b` add up to it. If
+/// one number divides the other, `IsBezoutAnswer` names the pair outright. Otherwise the pair is small, and no other
+/// small pair certifies the greatest common divisor.
 pub fn bezout_pair<T: Integer>(a: T, b: T) -> ExtendedGcd<T>
     requires in_range { T.fits (T.value a) × T.fits (T.value b) }
     requires gcd_fits { GcdFits T.fits (T.value a) (T.value b) }
@@ -199,7 +200,7 @@ pub fn bezout_pair<T: Integer>(a: T, b: T) -> ExtendedGcd<T>
     extended_gcd_counted(a, b).0
 }
 
-/// A pair at `i64`.
+/// Returns the greatest common divisor and its pair at `i64`.
 pub fn bezout_pair_of_i64(a: i64, b: i64) -> ExtendedGcd<i64>
     requires gcd_fits { GcdFits (FitsSigned w64) a b }
     ensures greatest { IsGreatestCommonDivisor a b result.gcd }
@@ -211,7 +212,7 @@ pub fn bezout_pair_of_i64(a: i64, b: i64) -> ExtendedGcd<i64>
     extended_gcd_counted(a, b).0
 }
 
-/// A binomial coefficient that fits is exact: it is the one that Pascal's rule gives.
+/// Returns the binomial coefficient, which is the number that Pascal's rule gives. The coefficient has to fit.
 pub fn binomial_coefficient<T: Integer>(n: T, k: T) -> T
     requires in_range { T.fits (T.value n) × T.fits (T.value k) }
     requires from_zero { (pos 0 ≤ℤ T.value n) × (pos 0 ≤ℤ T.value k) }
@@ -221,7 +222,7 @@ pub fn binomial_coefficient<T: Integer>(n: T, k: T) -> T
     binomial(n, k)
 }
 
-/// A binomial coefficient at `u64`.
+/// Returns the binomial coefficient at `u64`.
 pub fn binomial_coefficient_of_u64(n: u64, k: u64) -> u64
     requires coefficient_fits { coefficient n k < 2 ^ 64 }
     ensures exact { result ≡ coefficient n k }
@@ -229,8 +230,8 @@ pub fn binomial_coefficient_of_u64(n: u64, k: u64) -> u64
     binomial(n, k)
 }
 
-/// A multinomial coefficient that fits is exact: times the product of the factorials of the counts, it
-/// is the factorial of their sum.
+/// Returns the multinomial coefficient. Times the product of the factorials of the counts, it is the factorial of
+/// their sum. The coefficient has to fit.
 pub fn multinomial_coefficient<T: Integer>(counts: &[T]) -> T
     requires in_range { All (λ count. T.fits (T.value count)) counts.now }
     requires from_zero { All (λ count. pos 0 ≤ℤ T.value count) counts.now }
@@ -240,7 +241,7 @@ pub fn multinomial_coefficient<T: Integer>(counts: &[T]) -> T
     multinomial(counts)
 }
 
-/// A multinomial coefficient at `u64`.
+/// Returns the multinomial coefficient at `u64`.
 pub fn multinomial_coefficient_of_u64(counts: &[u64]) -> u64
     requires multinomial_fits { EachFits (FitsUnsignedBits 64)
         (IsMultinomial (map (λ count. pos count) counts.now)) }
@@ -249,7 +250,7 @@ pub fn multinomial_coefficient_of_u64(counts: &[u64]) -> u64
     multinomial(counts)
 }
 
-/// An iterator over the row of `n` gives the coefficients of `n` and 0, 1 and so on to `n`, in order.
+/// Collects the row of `n`. Its items are the coefficients of `n` and 0, 1 and so on to `n`, in order.
 pub fn row<T: Integer>(alloc: Global, n: T) -> Result<Vec<T>, AllocError>
     requires in_range { T.fits (T.value n) }
     requires row_fits { RowFits T.fits (T.value n) }
@@ -258,7 +259,7 @@ pub fn row<T: Integer>(alloc: Global, n: T) -> Result<Vec<T>, AllocError>
     IterBinomial::new(n).collect(alloc)
 }
 
-/// An iterator over a row gives the items that are left one by one, and then `None` for good.
+/// Returns the next item of a row. After the last item it returns `None` at every call.
 pub fn next_of_row<T: Integer>(rest: &mut IterBinomial<T>) -> Option<T>
     ensures first { IfSome result (λ item. rest.old ≡ T.value item ∷ rest.new) }
     ensures none { IfNone result ((rest.old ≡ []) × (rest.new ≡ [])) }
@@ -266,7 +267,7 @@ pub fn next_of_row<T: Integer>(rest: &mut IterBinomial<T>) -> Option<T>
     rest.next()
 }
 
-/// A row at `u64`.
+/// Collects the row of `n` at `u64`.
 pub fn row_of_u64(alloc: Global, n: u64) -> Result<Vec<u64>, AllocError>
     requires row_fits { RowFits (FitsUnsignedBits 64) (pos n) }
     ensures items { IfOk result (λ v. map (λ item. pos item) v.items ≡ row_of (pos n)) }
@@ -274,8 +275,8 @@ pub fn row_of_u64(alloc: Global, n: u64) -> Result<Vec<u64>, AllocError>
     IterBinomial::new(n).collect(alloc)
 }
 
-/// `div_rem` has the quotient rounded toward zero and its remainder, and `div_mod_floor` has the
-/// quotient rounded down and its remainder.
+/// Returns the results of `div_rem` and of `div_mod_floor`. The first is the quotient rounded toward zero and its
+/// remainder. The second is the quotient rounded down and its remainder.
 pub fn divisions<T: Integer>(n: T, d: T) -> ((T, T), (T, T))
     requires in_range { T.fits (T.value n) × T.fits (T.value d) }
     requires nonzero { T.value d ≢ pos 0 }
@@ -289,7 +290,8 @@ pub fn divisions<T: Integer>(n: T, d: T) -> ((T, T), (T, T))
     (div_rem(n, d), div_mod_floor(n, d))
 }
 
-/// `div_floor` is the quotient rounded down, and `div_ceil` is the quotient rounded up.
+/// Returns the results of `div_floor` and of `div_ceil`. The first is the quotient rounded down, and the second is
+/// the quotient rounded up.
 pub fn quotients<T: Integer>(n: T, d: T) -> (T, T)
     requires in_range { T.fits (T.value n) × T.fits (T.value d) }
     requires nonzero { T.value d ≢ pos 0 }
@@ -301,7 +303,7 @@ pub fn quotients<T: Integer>(n: T, d: T) -> (T, T)
     (div_floor(n, d), div_ceil(n, d))
 }
 
-/// The quotients at `i64`. Only that of the smallest number by -1 does not fit.
+/// Returns the quotients at `i64`. Only that of the smallest number by -1 does not fit.
 pub fn quotients_of_i64(n: i64, d: i64) -> (i64, i64)
     requires nonzero { d ≢ pos 0 }
     requires quotients_fit { EachKind (λ Kind. EachFits (FitsSigned w64) (IsQuotient Kind n d)) }
@@ -311,7 +313,7 @@ pub fn quotients_of_i64(n: i64, d: i64) -> (i64, i64)
     (div_floor(n, d), div_ceil(n, d))
 }
 
-/// `mod_floor` is the remainder of the quotient rounded down, even if that quotient does not fit.
+/// Returns the remainder of the quotient rounded down, even if that quotient does not fit.
 pub fn residue<T: Integer>(n: T, d: T) -> T
     requires in_range { T.fits (T.value n) × T.fits (T.value d) }
     requires nonzero { T.value d ≢ pos 0 }
@@ -320,7 +322,7 @@ pub fn residue<T: Integer>(n: T, d: T) -> T
     mod_floor(n, d)
 }
 
-/// The remainder at `i64`.
+/// Returns the remainder at `i64`.
 pub fn residue_of_i64(n: i64, d: i64) -> i64
     requires nonzero { d ≢ pos 0 }
     ensures floored { IsRemainder IsFloored n d result }
@@ -328,8 +330,8 @@ pub fn residue_of_i64(n: i64, d: i64) -> i64
     mod_floor(n, d)
 }
 
-/// `prev_multiple_of` is the quotient rounded down, times the divisor, and `next_multiple_of` is the
-/// quotient rounded up, times the divisor. Only the multiples have to fit, and not the quotients.
+/// Returns the previous and the next multiple of `d`: the quotient rounded down, times the divisor, and the quotient
+/// rounded up, times the divisor. The multiples have to fit. The quotients need not.
 pub fn multiples<T: Integer>(n: T, d: T) -> (T, T)
     requires in_range { T.fits (T.value n) × T.fits (T.value d) }
     requires nonzero { T.value d ≢ pos 0 }
@@ -341,7 +343,7 @@ pub fn multiples<T: Integer>(n: T, d: T) -> (T, T)
     (n.prev_multiple_of(&d), n.next_multiple_of(&d))
 }
 
-/// Multiples at `i64`.
+/// Returns the multiples at `i64`.
 pub fn multiples_of_i64(n: i64, d: i64) -> (i64, i64)
     requires nonzero { d ≢ pos 0 }
     requires previous_fits { EachFits (FitsSigned w64) (IsMultiple IsFloored n d) }
@@ -352,7 +354,7 @@ pub fn multiples_of_i64(n: i64, d: i64) -> (i64, i64)
     (n.prev_multiple_of(&d), n.next_multiple_of(&d))
 }
 
-/// `is_multiple_of` is true exactly when the second number divides the first, and so is `divides`, its
+/// Returns `true` twice if the second number divides the first: by `is_multiple_of`, and by `divides`, which is its
 /// old name.
 pub fn divisibility<T: Integer>(n: T, d: T) -> (bool, bool)
     requires in_range { T.fits (T.value n) × T.fits (T.value d) }
@@ -362,14 +364,15 @@ pub fn divisibility<T: Integer>(n: T, d: T) -> (bool, bool)
     (n.is_multiple_of(&d), n.divides(&d))
 }
 
-/// Divisibility at `i64`.
+/// Returns `true` if the second number divides the first, at `i64`.
 pub fn divisibility_of_i64(n: i64, d: i64) -> bool
     ensures multiple { IsTrue result ↔ Divides d n }
 {
     n.is_multiple_of(&d)
 }
 
-/// `is_even` is true exactly when 2 divides the number, and `is_odd` exactly when it does not.
+/// Returns whether the number is even and whether it is odd. It is even exactly if 2 divides it, and odd exactly if 2
+/// does not.
 pub fn parity<T: Integer>(n: T) -> (bool, bool)
     requires in_range { T.fits (T.value n) }
     ensures even { IsTrue result.0 ↔ IsEven (T.value n) }
@@ -378,7 +381,7 @@ pub fn parity<T: Integer>(n: T) -> (bool, bool)
     (n.is_even(), n.is_odd())
 }
 
-/// Parity at `i64`.
+/// Returns the parity at `i64`.
 pub fn parity_of_i64(n: i64) -> (bool, bool)
     ensures even { IsTrue result.0 ↔ IsEven n }
     ensures odd { IsTrue result.1 ↔ ¬ (IsEven n) }
@@ -386,7 +389,7 @@ pub fn parity_of_i64(n: i64) -> (bool, bool)
     (n.is_even(), n.is_odd())
 }
 
-/// `inc` adds one.
+/// Adds one. The sum has to fit.
 pub fn one_more<T: Integer>(n: &mut T)
     requires in_range { T.fits (T.value n.old) }
     requires sum_fits { T.fits (T.value n.old +ℤ pos 1) }
@@ -395,7 +398,7 @@ pub fn one_more<T: Integer>(n: &mut T)
     n.inc();
 }
 
-/// One more at `u64`.
+/// Adds one at `u64`.
 pub fn one_more_of_u64(n: &mut u64)
     requires sum_fits { n.old + 1 < 2 ^ 64 }
     ensures more { n.new ≡ n.old + 1 }
@@ -403,7 +406,7 @@ pub fn one_more_of_u64(n: &mut u64)
     n.inc();
 }
 
-/// `dec` subtracts one.
+/// Subtracts one. The difference has to fit.
 pub fn one_less<T: Integer>(n: &mut T)
     requires in_range { T.fits (T.value n.old) }
     requires difference_fits { T.fits (T.value n.old -ℤ pos 1) }
@@ -412,7 +415,7 @@ pub fn one_less<T: Integer>(n: &mut T)
     n.dec();
 }
 
-/// A least common multiple is at least 0, both numbers divide it, and it divides every number that both
+/// Returns the least common multiple. It is at least 0, both numbers divide it, and it divides every number that both
 /// divide.
 pub fn least_common_multiple<T: Integer>(a: T, b: T) -> T
     requires in_range { T.fits (T.value a) × T.fits (T.value b) }
@@ -422,7 +425,7 @@ pub fn least_common_multiple<T: Integer>(a: T, b: T) -> T
     lcm(a, b)
 }
 
-/// A least common multiple at `u64`.
+/// Returns the least common multiple at `u64`.
 pub fn least_common_multiple_of_u64(a: u64, b: u64) -> u64
     requires lcm_fits { EachFits (FitsUnsignedBits 64) (IsLeastCommonMultiple (pos a) (pos b)) }
     ensures least { IsLeastCommonMultiple (pos a) (pos b) (pos result) }
@@ -430,7 +433,7 @@ pub fn least_common_multiple_of_u64(a: u64, b: u64) -> u64
     lcm(a, b)
 }
 
-/// `gcd_lcm` has the gcd and the lcm.
+/// Returns the greatest common divisor and the least common multiple.
 pub fn gcd_and_lcm<T: Integer>(a: T, b: T) -> (T, T)
     requires in_range { T.fits (T.value a) × T.fits (T.value b) }
     requires gcd_fits { GcdFits T.fits (T.value a) (T.value b) }
@@ -441,7 +444,7 @@ pub fn gcd_and_lcm<T: Integer>(a: T, b: T) -> (T, T)
     gcd_lcm(a, b)
 }
 
-/// `extended_gcd_lcm` has the gcd, its pair and the lcm.
+/// Returns the greatest common divisor with its pair, and the least common multiple.
 pub fn bezout_pair_and_lcm<T: Integer + Signed>(a: T, b: T) -> (ExtendedGcd<T>, T)
     requires in_range { T.fits (T.value a) × T.fits (T.value b) }
     requires gcd_fits { GcdFits T.fits (T.value a) (T.value b) }
@@ -454,8 +457,7 @@ pub fn bezout_pair_and_lcm<T: Integer + Signed>(a: T, b: T) -> (ExtendedGcd<T>, 
     a.extended_gcd_lcm(&b)
 }
 
-/// `average_floor` is half of the sum rounded down, and `average_ceil` is half of it rounded up, for any
-/// two numbers of the type.
+/// Returns half of the sum rounded down and half of it rounded up, for any two numbers of the type.
 pub fn averages<T: Average>(a: T, b: T) -> (T, T)
     requires in_range { T.fits (T.value a) × T.fits (T.value b) }
     ensures floor { IsAverageFloor (T.value a) (T.value b) (T.value result.0) }
@@ -464,7 +466,7 @@ pub fn averages<T: Average>(a: T, b: T) -> (T, T)
     (average_floor(a, b), average_ceil(a, b))
 }
 
-/// Averages at `i64`.
+/// Returns the averages at `i64`.
 pub fn averages_of_i64(a: i64, b: i64) -> (i64, i64)
     ensures floor { IsAverageFloor a b result.0 }
     ensures ceil { IsAverageCeil a b result.1 }
@@ -472,8 +474,8 @@ pub fn averages_of_i64(a: i64, b: i64) -> (i64, i64)
     (average_floor(a, b), average_ceil(a, b))
 }
 
-/// Each test of `Fits` is true exactly in the domain of its call: a divisor is not 0, no count is
-/// negative, and the number that the definition gives fits.
+/// Returns the results of six tests of `Fits`. Each is `true` exactly in the domain of its call: a divisor is not 0,
+/// no count is negative, and the number of the definition fits.
 pub fn domains<T: Fits>(a: T, b: T) -> (bool, bool, bool, bool, bool, bool)
     requires in_range { T.fits (T.value a) × T.fits (T.value b) }
     ensures quotient { EachKind (λ Kind. IsTrue result.0 ↔ ((T.value b ≢ pos 0)
@@ -499,7 +501,7 @@ pub fn domains<T: Fits>(a: T, b: T) -> (bool, bool, bool, bool, bool, bool)
     )
 }
 
-/// So is the test of a multinomial coefficient.
+/// Returns `true` exactly in the domain of `multinomial`: no count is negative, and the coefficient fits.
 pub fn domain_of_multinomial<T: Fits>(counts: &[T]) -> bool
     requires in_range { All (λ count. T.fits (T.value count)) counts.now }
     ensures multinomial { IsTrue result ↔ (All (λ count. pos 0 ≤ℤ T.value count) counts.now
@@ -508,7 +510,8 @@ pub fn domain_of_multinomial<T: Fits>(counts: &[T]) -> bool
     T::multinomial_fits(counts)
 }
 
-/// Stein's loop for a gcd makes at most as many turns as the two bit lengths added.
+/// Returns the greatest common divisor and the number of iterations of Stein's loop. It is at most the sum of the bit
+/// lengths of the two numbers.
 pub fn turns_for_gcd<T: GcdCounted>(a: T, b: T) -> (T, u32)
     requires in_range { T.fits (T.value a) × T.fits (T.value b) }
     requires gcd_fits { GcdFits T.fits (T.value a) (T.value b) }
@@ -520,7 +523,7 @@ pub fn turns_for_gcd<T: GcdCounted>(a: T, b: T) -> (T, u32)
     a.gcd_counted(&b)
 }
 
-/// The loop for a gcd at `u64`.
+/// Returns the greatest common divisor and the number of iterations at `u64`.
 pub fn turns_for_gcd_of_u64(a: u64, b: u64) -> (u64, u32)
     ensures greatest { IsGreatestCommonDivisor (pos a) (pos b) (pos result.0) }
     ensures bound { (k l : ℕ) → IsBitLength (pos a) k → IsBitLength (pos b) l
@@ -529,8 +532,8 @@ pub fn turns_for_gcd_of_u64(a: u64, b: u64) -> (u64, u32)
     a.gcd_counted(&b)
 }
 
-/// Euclid's loop for a pair makes so few turns `t` that the Fibonacci number of `t + 2`, times the gcd, is
-/// at most the magnitude of `b` (Lamé, 1844).
+/// Returns the greatest common divisor with its pair and the number `t` of iterations of Euclid's loop. The Fibonacci
+/// number of `t + 2`, times the greatest common divisor, is at most the magnitude of `b` (Lamé, 1844).
 pub fn turns_for_bezout_pair<T: Integer>(a: T, b: T) -> (ExtendedGcd<T>, u32)
     requires in_range { T.fits (T.value a) × T.fits (T.value b) }
     requires gcd_fits { GcdFits T.fits (T.value a) (T.value b) }
@@ -544,7 +547,7 @@ pub fn turns_for_bezout_pair<T: Integer>(a: T, b: T) -> (ExtendedGcd<T>, u32)
     extended_gcd_counted(a, b)
 }
 
-/// The loop for a pair at `i64`.
+/// Returns the pair and the number of iterations at `i64`.
 pub fn turns_for_bezout_pair_of_i64(a: i64, b: i64) -> (ExtendedGcd<i64>, u32)
     requires gcd_fits { GcdFits (FitsSigned w64) a b }
     ensures greatest { IsGreatestCommonDivisor a b result.0.gcd }
@@ -555,8 +558,8 @@ pub fn turns_for_bezout_pair_of_i64(a: i64, b: i64) -> (ExtendedGcd<i64>, u32)
     extended_gcd_counted(a, b)
 }
 
-/// The loop for a binomial coefficient makes so few turns `t` that 2 to the power of `t` is at most the
-/// coefficient.
+/// Returns the binomial coefficient and the number `t` of iterations of its loop. 2 to the power of `t` is at most
+/// the coefficient, unless `k` is greater than `n`.
 pub fn turns_for_binomial<T: Integer>(n: T, k: T) -> (T, u32)
     requires in_range { T.fits (T.value n) × T.fits (T.value k) }
     requires from_zero { (pos 0 ≤ℤ T.value n) × (pos 0 ≤ℤ T.value k) }
@@ -570,7 +573,7 @@ pub fn turns_for_binomial<T: Integer>(n: T, k: T) -> (T, u32)
     binomial_counted(n, k)
 }
 
-/// The loop for a binomial coefficient at `u64`.
+/// Returns the binomial coefficient and the number of iterations at `u64`.
 pub fn turns_for_binomial_of_u64(n: u64, k: u64) -> (u64, u32)
     requires coefficient_fits { coefficient n k < 2 ^ 64 }
     ensures exact { result.0 ≡ coefficient n k }
@@ -580,7 +583,7 @@ pub fn turns_for_binomial_of_u64(n: u64, k: u64) -> (u64, u32)
     binomial_counted(n, k)
 }
 
-/// A fraction is reduced: its denominator is positive, and the gcd of its parts is 1.
+/// Returns the parts of a fraction. The denominator is positive, and the greatest common divisor of the parts is 1.
 pub fn parts_of_fraction(x: &Ratio) -> (i64, i64)
     ensures num { result.0 ≡ num_of x.now }
     ensures den { result.1 ≡ den_of x.now }
@@ -589,8 +592,8 @@ pub fn parts_of_fraction(x: &Ratio) -> (i64, i64)
     (x.num(), x.den())
 }
 
-/// `Ratio::new` gives the reduced fraction that is equal to `num / den`. It returns an error for a
-/// denominator 0, and for a fraction that has a part outside `i64` once it is reduced.
+/// Returns the reduced fraction that is equal to `num / den`. Returns an error if the denominator is 0 or if a part
+/// of the reduced fraction does not fit in `i64`.
 pub fn fraction(num: i64, den: i64) -> Result<Ratio, RatioError>
     ensures exact { IfOk result (λ x. IsExact num den (num_of x) (den_of x)) }
     ensures zero_denominator { (result ≡ Err RatioError.ZeroDenominator) ↔ (den ≡ pos 0) }
@@ -599,7 +602,7 @@ pub fn fraction(num: i64, den: i64) -> Result<Ratio, RatioError>
     Ratio::new(num, den)
 }
 
-/// A sum is the exact result, and an error only if a part of that does not fit `i64`.
+/// Returns the exact sum, or an error if a part of it does not fit in `i64`.
 pub fn sum_of_fractions(x: &Ratio, y: &Ratio) -> Result<Ratio, RatioError>
     ensures exact { AnswersFraction
         (num_of x.now *ℤ den_of y.now +ℤ num_of y.now *ℤ den_of x.now)
@@ -609,7 +612,7 @@ pub fn sum_of_fractions(x: &Ratio, y: &Ratio) -> Result<Ratio, RatioError>
     x.checked_add(y)
 }
 
-/// So is a difference.
+/// Returns the exact difference, or an error if a part of it does not fit in `i64`.
 pub fn difference_of_fractions(x: &Ratio, y: &Ratio) -> Result<Ratio, RatioError>
     ensures exact { AnswersFraction
         (num_of x.now *ℤ den_of y.now -ℤ num_of y.now *ℤ den_of x.now)
@@ -619,7 +622,7 @@ pub fn difference_of_fractions(x: &Ratio, y: &Ratio) -> Result<Ratio, RatioError
     x.checked_sub(y)
 }
 
-/// So is a product.
+/// Returns the exact product, or an error if a part of it does not fit in `i64`.
 pub fn product_of_fractions(x: &Ratio, y: &Ratio) -> Result<Ratio, RatioError>
     ensures exact { AnswersFraction (num_of x.now *ℤ num_of y.now)
         (den_of x.now *ℤ den_of y.now) result }
@@ -628,7 +631,7 @@ pub fn product_of_fractions(x: &Ratio, y: &Ratio) -> Result<Ratio, RatioError>
     x.checked_mul(y)
 }
 
-/// So is a quotient, which is an error for a divisor 0 too.
+/// Returns the exact quotient, or an error if the divisor is 0 or if a part of the quotient does not fit in `i64`.
 pub fn quotient_of_fractions(x: &Ratio, y: &Ratio) -> Result<Ratio, RatioError>
     ensures exact { AnswersFraction (num_of x.now *ℤ den_of y.now)
         (num_of y.now *ℤ den_of x.now) result }
@@ -638,7 +641,7 @@ pub fn quotient_of_fractions(x: &Ratio, y: &Ratio) -> Result<Ratio, RatioError>
     x.checked_div(y)
 }
 
-/// `floor` and `ceil` are the quotients of the parts, rounded down and up.
+/// Returns the quotient of the parts rounded down, and the quotient rounded up.
 pub fn floor_and_ceil_of_fraction(x: &Ratio) -> (i64, i64)
     ensures floored { IsQuotient IsFloored (num_of x.now) (den_of x.now) result.0 }
     ensures ceiled { IsQuotient IsCeiled (num_of x.now) (den_of x.now) result.1 }
@@ -646,7 +649,7 @@ pub fn floor_and_ceil_of_fraction(x: &Ratio) -> (i64, i64)
     (x.floor(), x.ceil())
 }
 
-/// Fractions compare as their products across do.
+/// Returns the order of the fractions. Their cross products are in the same order.
 pub fn order_of_fractions(x: &Ratio, y: &Ratio) -> Ordering
     ensures order { result
         ≡ fraction_cmp (num_of x.now) (den_of x.now) (num_of y.now) (den_of y.now) }
@@ -654,8 +657,8 @@ pub fn order_of_fractions(x: &Ratio, y: &Ratio) -> Ordering
     x.cmp(y)
 }
 
-/// The outcome of a call at a kind is that of the definition: the first refusal whose condition holds,
-/// or else the numbers of the result.
+/// Returns the outcome of the definition: the first refusal whose condition holds, or otherwise the numbers of the
+/// result.
 pub fn outcome(kind: Kind, call: Call) -> Result<Answer, Refusal>
     ensures defined { Outcome kind call result }
 {

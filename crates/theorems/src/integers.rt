@@ -1,4 +1,4 @@
-//! Calls of `num_integer`, whose contracts say in full what the caller gets.
+//! Functions that call `num_integer`. Their contracts say what the caller then knows.
 
 pub mod checked;
 pub mod generic;

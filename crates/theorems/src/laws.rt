@@ -1,5 +1,5 @@
-//! The laws of the definitions: what follows from them alone, whatever an implementation does. Each law of a `specs/Laws.antt` is a clause here,
-//! one function a library.
+//! The laws of the definitions. They follow from the definitions alone, whatever an implementation does. Each law of
+//! a `specs/Laws.antt` is a clause here, and each library has one function.
 
 ghost use Rattle.std.specs.Prelude.{ℤ};
 ghost use Rattle.num_integer.specs.Laws as integers;
@@ -12,12 +12,12 @@ ghost use Rattle.ratio64.specs.declared.fraction.Ratio.{Ratio};
 
 use num_integer::Integer;
 
-/// A property of whole numbers. No clause can speak of every property, but one can of each `P: Property`.
+/// A property of integers. No clause can speak of every property, but a clause can speak of each `P: Property`.
 pub trait Property {
     ghost holds: { ℤ → Type 0 };
 }
 
-/// The laws of quotients, divisors, roots and coefficients.
+/// States the laws of quotients, divisors, roots and coefficients.
 pub fn laws_of_integers<T: Integer>()
     ensures division_exists { integers.DivisionExists }
     ensures division_is_only { integers.DivisionIsOnly }
@@ -58,7 +58,7 @@ pub fn laws_of_integers<T: Integer>()
     ensures row_is_greatest_in_middle { integers.RowIsGreatestInMiddle }
 {}
 
-/// The laws of numbers modulo another.
+/// States the laws of residues, inverses and congruences.
 pub fn laws_of_residues<P: Property, T: Integer>()
     ensures residue_is_only { residues.ResidueIsOnly }
     ensures inverse_is_only { residues.InverseIsOnly }
@@ -72,7 +72,7 @@ pub fn laws_of_residues<P: Property, T: Integer>()
     ensures next_solution_of_each_is_only { residues.NextSolutionOfEachIsOnly T.value }
 {}
 
-/// The laws of fractions.
+/// States the laws of fractions.
 pub fn laws_of_fractions()
     ensures exact_result_exists { fractions.ExactResultExists }
     ensures exact_result_is_only { fractions.ExactResultIsOnly }
@@ -91,7 +91,7 @@ pub fn laws_of_fractions()
     ensures text_is_read_back { fractions.TextIsReadBack }
 {}
 
-/// The laws of dates, weeks and Easter.
+/// States the laws of dates, weeks and Easter.
 pub fn laws_of_dates()
     ensures leap_years_by_divisors { dates.LeapYearsByDivisors }
     ensures lengths_of_years { dates.LengthsOfYears }
@@ -128,7 +128,8 @@ pub fn laws_of_dates()
     ensures lunar_correction_of_twenty_five_centuries { dates.LunarCorrectionOfTwentyFiveCenturies }
 {}
 
-/// The laws of pages, parts, offsets, schedules, choices, halves, nearest quotients, logarithms and factorials.
+/// States the laws of pages, parts, offsets, schedules, combinations, halves, nearest quotients, logarithms and
+/// factorials.
 pub fn laws_of_models<P: Property, T: Integer>()
     ensures pages_are_only { models.PagesAreOnly }
     ensures place_exists { models.PlaceExists }

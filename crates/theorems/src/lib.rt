@@ -1,28 +1,28 @@
-//! What is proved of the libraries: each public function states a theorem.
+//! Functions that state what is proved of the libraries. The contract of each is a theorem.
 //!
-//! The theorem is the contract. Where the clauses of `requires` hold, a call returns, and the clauses of `ensures` hold of what
-//! it returns. The gate proves each function for every argument. So its code shows how the call is written, and
-//! the clauses say what the caller then knows. A clause is about whole numbers: the number of `a` is `pos a` at `u64`, `a` at
-//! `i64`, and `T.value a` at a type parameter. `rt lemma WORD` prints the definition of each word.
+//! If the clauses of `requires` hold, a call returns, and the clauses of `ensures` hold for its result. The gate proves each
+//! function for every argument. The code shows how the call is written, and the clauses say what the caller then knows.
+//! A clause is about integers without limit: the integer of `a` is `pos a` at `u64`, `a` at `i64`, and `T.value a` at a type
+//! parameter. `rt lemma WORD` prints the definition of each word.
 //!
 //! | file | what it shows |
 //! |---|---|
-//! | `headline.rt` | the promises of the whole, each in full; its head says which function has which |
-//! | `laws.rt` | what follows from the definitions alone: one result at most, symmetry, formulas, bounds |
-//! | `integers/plain.rt` | calls of `num_integer` whose condition a plain fact on the arguments meets |
-//! | `integers/checked.rt` | calls of `num_integer::checked`, and exactly when each returns `None` |
+//! | `headline.rt` | the main theorems, each in full; its head says which function states which |
+//! | `laws.rt` | what follows from the definitions alone: at most one result, symmetry, formulas, bounds |
+//! | `integers/plain.rt` | calls of `num_integer`; a plain fact on the arguments meets the condition of most |
+//! | `integers/checked.rt` | calls of `num_integer::checked`, and when each returns `None` |
 //! | `integers/matched.rt` | results that a caller of `num_integer` matches on |
-//! | `integers/generic.rt` | calls at each type of integers, and rows of Pascal's triangle |
+//! | `integers/generic.rt` | calls at any type of integers, and rows of Pascal's triangle |
 //! | `residues.rt` | `modular`: residues, inverses, congruences |
-//! | `fractions.rt` | `ratio64`: exact results and refusals, order, rounding |
+//! | `fractions.rt` | `ratio64`: exact results and errors, order, rounding |
 //! | `dates.rt` | `calendar`: dates and their days, weeks, months, Easter |
-//! | `pages.rt` | `applied`: pages and parts, offsets, schedules, choices |
+//! | `pages.rt` | `applied`: pages and parts, shares, offsets, schedules, combinations |
 //! | `lists.rt` | `applied`: divisors and multiples of lists, coprime numbers, reduced pairs |
-//! | `rounding.rt` | `applied`: nearest quotients, roots and what is left, logarithms, factorials |
+//! | `rounding.rt` | `applied`: nearest quotients, roots with their remainder, logarithms, factorials |
 //! | `tasks.rt` | everyday tasks: pages of items, a cipher, amounts of money, a recipe |
 //!
-//! Most functions have no proof file: the search proves them from the contracts of what they call. The others have theirs in
-//! `proofs/`, under the names of the file and of the function.
+//! Most functions have no proof file: the prover's search proves them from the contracts of what they call. The proof file of
+//! another function is in `proofs/`, in a folder with the names of the file and of the function.
 //!
 //! No crate depends on this one, and it has no tests.
 #![tactic(auto)]

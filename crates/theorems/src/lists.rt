@@ -1,4 +1,4 @@
-//! Calls of `applied`: divisors and multiples of lists, coprime numbers and reduced pairs.
+//! Functions that call `applied` for divisors and multiples of lists, coprime numbers and reduced pairs.
 
 ghost use Rattle.std.specs.Prelude.{◌≡◌, ◌≢◌, ◌↔◌, ◌<◌, ◌*◌, ◌*ℤ◌, FitsSigned, IfSome, IsTrue, MatchOption, map, pos};
 ghost use Rattle.std.specs.Int.{FitsUnsignedBits, w64};
@@ -13,7 +13,7 @@ use num_integer::{Fits, Integer};
 
 // ---- lists
 
-/// The time after which all periods meet again, or `None` if it does not fit.
+/// Returns the time after which all periods begin together again, or `None` if it does not fit.
 pub fn common_period(periods: &[u64]) -> Option<u64>
     ensures { MatchOption result
         (¬ (EachFits (FitsUnsignedBits 64) (IsLeastCommonMultipleOf (map (λ x. pos x) periods.now))))
@@ -22,7 +22,7 @@ pub fn common_period(periods: &[u64]) -> Option<u64>
     checked::lcm_of(periods)
 }
 
-/// The same if it is known to fit.
+/// Returns the same time if it is known to fit.
 pub fn period_that_fits(periods: &[u64]) -> u64
     requires { EachFits (FitsUnsignedBits 64) (IsLeastCommonMultipleOf (map (λ x. pos x) periods.now)) }
     ensures { IsLeastCommonMultipleOf (map (λ x. pos x) periods.now) (pos result) }
@@ -30,7 +30,7 @@ pub fn period_that_fits(periods: &[u64]) -> u64
     lcm_of(periods)
 }
 
-/// The same by a loop, and lemmas for callers. It is `None` too if a multiple on the way does not fit and a 0 comes later.
+/// Returns the same time by a loop. It is also `None` if a multiple does not fit and a 0 comes later in the list.
 pub fn period_by_a_loop(periods: &[u64]) -> Option<u64>
     ensures { IfSome result (λ period. IsLeastCommonMultipleOf (map (λ x. pos x) periods.now) (pos period)) }
 {
@@ -41,7 +41,7 @@ pub fn period_by_a_loop(periods: &[u64]) -> Option<u64>
     Some(period)
 }
 
-/// The common denominator of signed denominators, or `None` if it does not fit.
+/// Returns the least common denominator of signed denominators, or `None` if it does not fit.
 pub fn common_denominator(denominators: &[i64]) -> Option<i64>
     requires { All (FitsSigned w64) denominators.now }
     ensures { IfSome result (λ l. IsLeastCommonMultipleOf (map (λ x. x) denominators.now) l) }
@@ -49,14 +49,15 @@ pub fn common_denominator(denominators: &[i64]) -> Option<i64>
     checked::lcm_of(denominators)
 }
 
-/// The largest tile that covers each of the lengths exactly. At an unsigned type it always fits.
+/// Returns the length of the largest tile that covers each of the lengths exactly. It always fits, since the type is
+/// unsigned.
 pub fn largest_tile(lengths: &[u32]) -> u32
     ensures { IsGreatestCommonDivisorOf (map (λ x. pos x) lengths.now) (pos result) }
 {
     gcd_of(lengths)
 }
 
-/// The common divisor of signed numbers, or `None` if it does not fit.
+/// Returns the greatest common divisor of signed numbers, or `None` if it does not fit.
 pub fn common_divisor(numbers: &[i64]) -> Option<i64>
     requires { All (FitsSigned w64) numbers.now }
     ensures { MatchOption result
@@ -66,7 +67,8 @@ pub fn common_divisor(numbers: &[i64]) -> Option<i64>
     checked::gcd_of(numbers)
 }
 
-/// The gcd and the lcm of a list, at any type.
+/// Returns the greatest common divisor and the least common multiple of a list, or `None` if one of them does not
+/// fit.
 pub fn divisor_and_multiple<T: Fits>(numbers: &[T]) -> Option<(T, T)>
     requires in_range { All (λ x. T.fits (T.value x)) numbers.now }
     ensures { IfSome result (λ r. IsGreatestCommonDivisorOf (map T.value numbers.now) (T.value r.0)
@@ -79,7 +81,7 @@ pub fn divisor_and_multiple<T: Fits>(numbers: &[T]) -> Option<(T, T)>
 
 // ---- pairs
 
-/// The width and the height in lowest terms, as 16 and 9 for 1920 and 1080.
+/// `aspect_ratio(1920, 1080)` is `(16, 9)`. Returns the width and the height in lowest terms.
 pub fn aspect_ratio(width: u32, height: u32) -> (u32, u32)
     requires { 0 < height }
     ensures coprime { IsGreatestCommonDivisor (pos result.0) (pos result.1) (pos 1) }
@@ -88,7 +90,7 @@ pub fn aspect_ratio(width: u32, height: u32) -> (u32, u32)
     reduced(width, height)
 }
 
-/// The same by two divisions, and a lemma for callers.
+/// Returns the same pair by two divisions.
 pub fn aspect_ratio_by_division(width: u32, height: u32) -> (u32, u32)
     requires { 0 < height }
     ensures coprime { IsGreatestCommonDivisor (pos result.0) (pos result.1) (pos 1) }
@@ -98,7 +100,7 @@ pub fn aspect_ratio_by_division(width: u32, height: u32) -> (u32, u32)
     (width / common, height / common)
 }
 
-/// The parts of a slope, of which one may be negative or 0.
+/// Returns the parts of a slope in lowest terms. A part may be negative or 0.
 pub fn slope(rise: i64, run: i64) -> (i64, i64)
     requires { run ≢ pos 0 }
     ensures coprime { IsGreatestCommonDivisor result.0 result.1 (pos 1) }
@@ -107,22 +109,23 @@ pub fn slope(rise: i64, run: i64) -> (i64, i64)
     reduced(rise, run)
 }
 
-/// Whether two 128-bit numbers are coprime.
+/// Returns `true` if the greatest common divisor of two 128-bit numbers is 1.
 pub fn are_coprime(a: u128, b: u128) -> bool
     ensures { IsTrue result ↔ IsGreatestCommonDivisor (pos a) (pos b) (pos 1) }
 {
     is_coprime(a, b)
 }
 
-/// Whether two signed bytes are. The gcd of -128 and 0 does not fit, and is not 1.
-pub fn small_are_coprime(a: i8, b: i8) -> bool
+/// Returns `true` if two signed bytes are coprime. The greatest common divisor of -128 and 0 does not fit, and they
+/// are not coprime.
+pub fn bytes_are_coprime(a: i8, b: i8) -> bool
     ensures { IsTrue result ↔ IsGreatestCommonDivisor a b (pos 1) }
 {
     is_coprime(a, b)
 }
 
-/// The same at any type.
-pub fn any_are_coprime<T: Fits>(a: T, b: T) -> bool
+/// Returns `true` if two numbers of any type are coprime.
+pub fn are_coprime_at_any_type<T: Fits>(a: T, b: T) -> bool
     requires a_in_range { T.fits (T.value a) }
     requires b_in_range { T.fits (T.value b) }
     ensures { IsTrue result ↔ IsGreatestCommonDivisor (T.value a) (T.value b) (pos 1) }

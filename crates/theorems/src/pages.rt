@@ -1,4 +1,4 @@
-//! Calls of `applied`: pages and parts, shares, offsets, schedules and choices.
+//! Functions that call `applied` for pages and parts, shares, offsets, schedules and combinations.
 
 ghost use Rattle.std.specs.Prelude.{◌≡◌, ◌↔◌, ◌<◌, ◌≤◌, ◌+◌, ◌*◌, ◌≤ℤ◌, ◌<ℤ◌, ◌+ℤ◌, ◌*ℤ◌, ◌^◌, EachIndex, FitsSigned, IfSome, IsFalse, IsTrue, MatchOption, length, min, pos, slice_index, sum, ℕ, ℤ};
 ghost use Rattle.std.specs.Int.{w64};
@@ -20,7 +20,8 @@ use num_integer::Fits;
 
 // ---- pages and parts
 
-/// The first index of a page and one past its last, among so many items.
+/// Returns the index of the first item of the page and the index after its last one. Exactly the
+/// items of the page are in this range.
 pub fn items_of_page(page: u64, page_size: u64, items: u64) -> (u64, u64)
     requires { 0 < page_size }
     ensures ordered { result.0 ≤ result.1 }
@@ -30,8 +31,8 @@ pub fn items_of_page(page: u64, page_size: u64, items: u64) -> (u64, u64)
     range_of_page(page, page_size, items)
 }
 
-/// The item at a place of a page of ten, or `None` if it is beyond the type.
-pub fn item_of_ten(page: i64, place: i64) -> Option<i64>
+/// Returns the item at a place of a page of ten items, or `None` if the item does not fit.
+pub fn item_on_page_of_ten(page: i64, place: i64) -> Option<i64>
     requires from_zero { pos 0 ≤ℤ place }
     requires below { place <ℤ pos 10 }
     ensures { IfSome result (λ item. item ≡ page *ℤ pos 10 +ℤ place) }
@@ -40,8 +41,8 @@ pub fn item_of_ten(page: i64, place: i64) -> Option<i64>
     Some(item)
 }
 
-/// The item at a place of a page of sixteen, or the largest number if it does not fit.
-pub fn item_up_to_the_greatest(page: u8, place: u8) -> u8
+/// Returns the item at a place of a page of sixteen items, or `u8::MAX` if the item does not fit.
+pub fn item_or_max(page: u8, place: u8) -> u8
     requires { place < 16 }
     ensures { result ≡ min (page * 16 + place) u8.MAX }
 {
@@ -51,8 +52,8 @@ pub fn item_up_to_the_greatest(page: u8, place: u8) -> u8
     }
 }
 
-/// The item at a place of a page of sixteen, if there are at most sixteen pages.
-pub fn item_of_few(page: u8, place: u8) -> u8
+/// Returns the item at a place of a page of sixteen items. It fits, since the page is one of the first sixteen.
+pub fn item_that_fits(page: u8, place: u8) -> u8
     requires page { page < 16 }
     requires place { place < 16 }
     ensures { result ≡ page * 16 + place }
@@ -62,7 +63,7 @@ pub fn item_of_few(page: u8, place: u8) -> u8
 
 // ---- shares
 
-/// A bill, split by weights: what is paid is the bill, and each part differs by less than 1 from its exact share.
+/// Splits a bill by weights. The parts add up to the bill, and each differs by less than 1 from its exact share.
 pub fn split_by_weights(cents: u64, weights: &[u64], parts: &mut [u64])
     requires some { 0 < sum weights.now }
     requires one_each { length parts.old ≡ length weights.now }
@@ -73,7 +74,7 @@ pub fn split_by_weights(cents: u64, weights: &[u64], parts: &mut [u64])
     shares(cents, weights, parts);
 }
 
-/// The budgets of three teams of five, three and two people.
+/// Returns the budgets of three teams of five, three and two people. They add up to `cents`.
 pub fn budgets(cents: u64) -> [u64; 3]
     ensures { sum result ≡ cents }
 {
@@ -82,8 +83,8 @@ pub fn budgets(cents: u64) -> [u64; 3]
     budgets
 }
 
-/// A bill, split by weights that are read, or `false` if nobody pays.
-pub fn split_by_read(cents: u64, weights: &[u64], parts: &mut [u64]) -> bool
+/// Splits a bill by weights that may all be 0. Returns `false` if they are.
+pub fn split_by_any_weights(cents: u64, weights: &[u64], parts: &mut [u64]) -> bool
     requires { length parts.old ≡ length weights.now }
     ensures whole { IsTrue result → sum parts.new ≡ cents }
     ensures nobody { IsFalse result → sum weights.now ≡ 0 }
@@ -91,7 +92,7 @@ pub fn split_by_read(cents: u64, weights: &[u64], parts: &mut [u64]) -> bool
     shares(cents, weights, parts)
 }
 
-/// A refund, split by weights, or `false` if nobody is to get it.
+/// Splits a refund by weights that may all be 0. Returns `false` if they are.
 pub fn refund_by_weights(cents: i64, weights: &[u64], parts: &mut [i64]) -> bool
     requires { length parts.old ≡ length weights.now }
     ensures whole { IsTrue result → signed_sum parts.new ≡ cents }
@@ -102,7 +103,7 @@ pub fn refund_by_weights(cents: i64, weights: &[u64], parts: &mut [i64]) -> bool
 
 // ---- offsets and schedules
 
-/// The aligned offset, or the offset itself if the aligned one does not fit.
+/// Returns the aligned offset, or the offset itself if the aligned one does not fit.
 pub fn aligned(offset: u32, alignment: u32) -> u32
     requires { 0 < alignment }
     ensures { pos offset ≤ℤ pos result }
@@ -113,8 +114,13 @@ pub fn aligned(offset: u32, alignment: u32) -> u32
     }
 }
 
-/// The time of the next meeting, and how long to wait for it.
-pub fn wait(now: u32, first: Schedule<u32>, second: Schedule<u32>) -> Option<(u32, u32)>
+/// Returns the time of the next meeting and the time until then. Returns `None` if there is no next meeting or its
+/// time does not fit.
+pub fn next_meeting_and_wait(
+    now: u32,
+    first: Schedule<u32>,
+    second: Schedule<u32>,
+) -> Option<(u32, u32)>
     requires first { 0 < first.1 }
     requires second { 0 < second.1 }
     ensures next { IfSome result (λ r. IsLeastFrom (pos now)
@@ -127,7 +133,7 @@ pub fn wait(now: u32, first: Schedule<u32>, second: Schedule<u32>) -> Option<(u3
     }
 }
 
-/// The next day from `now` on that is on each schedule, or `None` if no such day fits `i64`.
+/// Returns the next day from `now` on that is on each schedule, or `None` if there is no such day or it does not fit.
 pub fn next_shift(now: i64, schedules: &[Schedule<i64>]) -> Option<i64>
     requires in_range { All (λ s. FitsSigned w64 s.0 × FitsSigned w64 s.1) schedules.now }
     requires positive { All (λ s. pos 0 <ℤ s.1) schedules.now }
@@ -143,10 +149,10 @@ pub fn next_shift(now: i64, schedules: &[Schedule<i64>]) -> Option<i64>
     }
 }
 
-// ---- choices
+// ---- combinations
 
-/// The rank of numbers that are read, or `None` if they are no choice or the rank does not fit.
-pub fn rank_of_read(numbers: &[u64], n: u64) -> Option<u64>
+/// Returns the rank of the numbers, or `None` if they are not a combination or the rank does not fit.
+pub fn rank_if_choice(numbers: &[u64], n: u64) -> Option<u64>
     ensures { MatchOption result (¬ (IsChoice n numbers.now × (rank_of numbers.now < 2 ^ 64)))
         (λ r. r ≡ rank_of numbers.now) }
 {
@@ -157,8 +163,9 @@ pub fn rank_of_read(numbers: &[u64], n: u64) -> Option<u64>
     }
 }
 
-/// The rank of a choice, if the number of all choices of its length fits.
-pub fn rank_of_counted(numbers: &[u64], n: u64) -> Option<u64>
+/// Returns the rank of the numbers. Returns `None` if they are not a combination or the number of combinations of
+/// their length does not fit.
+pub fn rank_if_count_fits(numbers: &[u64], n: u64) -> Option<u64>
     ensures { IfSome result (λ r. r ≡ rank_of numbers.now) }
 {
     let k = numbers.len() as u64;
@@ -169,8 +176,8 @@ pub fn rank_of_counted(numbers: &[u64], n: u64) -> Option<u64>
     }
 }
 
-/// The rank of numbers that are known to be a choice, if the number of choices of their length fits.
-pub fn rank_of_known(numbers: &[u64], n: u64) -> u64
+/// Returns the rank of a combination. The number of combinations of its length has to fit.
+pub fn rank_of_choice(numbers: &[u64], n: u64) -> u64
     requires choice { IsChoice n numbers.now }
     requires count_fits { coefficient n (length numbers.now) < 2 ^ 64 }
     ensures { result ≡ rank_of numbers.now }
@@ -178,7 +185,8 @@ pub fn rank_of_known(numbers: &[u64], n: u64) -> u64
     rank(numbers, n)
 }
 
-/// The number of a lottery ticket of six numbers below 49, or `None` if they do not increase.
+/// Returns the number of a lottery ticket with six numbers below 49, or `None` if the numbers do not increase or one
+/// is not below 49.
 #[tactic(auto, unfolding(num_integer::specs::Coefficient::coefficient))]
 pub fn ticket_number(numbers: &[u64; 6]) -> Option<u64>
     ensures { MatchOption result (¬ (IsChoice 49 numbers.now)) (λ r. r < 13983816) }
@@ -190,9 +198,10 @@ pub fn ticket_number(numbers: &[u64; 6]) -> Option<u64>
     }
 }
 
-/// The number of a ticket that is read.
+/// Returns the number of a lottery ticket, or `None` if there are not six numbers, they do not increase, or one
+/// is not below 49.
 #[tactic(auto, unfolding(num_integer::specs::Coefficient::coefficient))]
-pub fn number_of_read(numbers: &[u64]) -> Option<u64>
+pub fn ticket_number_of_slice(numbers: &[u64]) -> Option<u64>
     ensures { IfSome result (λ r. r ≡ rank_of numbers.now) }
 {
     if numbers.len() == 6 && is_choice(numbers, 49) {
@@ -202,8 +211,8 @@ pub fn number_of_read(numbers: &[u64]) -> Option<u64>
     }
 }
 
-/// The choice two ranks on, if there is one.
-pub fn two_further(choice: &mut [u64], n: u64) -> bool
+/// Replaces the combination by the one whose rank is 2 larger. Returns `false` if there is none.
+pub fn advance_two_ranks(choice: &mut [u64], n: u64) -> bool
     requires { IsChoice n choice.old }
     ensures choice { IsChoice n choice.new }
     ensures rank { IsTrue result → rank_of choice.new ≡ rank_of choice.old + 2 }

@@ -1,4 +1,4 @@
-//! Calls of `modular`: what a caller learns from their contracts and the laws, and results that a caller matches on or loops over.
+//! Functions that call `modular`. Their contracts state what a caller can prove from its contracts and its laws.
 
 ghost use Rattle.std.specs.Prelude.{◌≡◌, ◌<◌, ◌<ℤ◌, ◌≤ℤ◌, ◌+ℤ◌, FitsSigned, IfSome, IsTrue, MatchOption, Some, pos, ℤ};
 ghost use Rattle.std.specs.Int.{int_pow, w64};
@@ -15,18 +15,18 @@ use modular::{
 };
 use num_integer::Fits;
 
-// ---- what follows from the contracts
+// ---- results that are known in advance
 
-/// The residue of a residue is the residue.
-pub fn residue_again(a: i64, m: i64) -> bool
+/// Returns `true`: the residue of a residue is that residue.
+pub fn residue_is_idempotent(a: i64, m: i64) -> bool
     requires { pos 0 <ℤ m }
     ensures { IsTrue result }
 {
     residue(residue(a, m), m) == residue(a, m)
 }
 
-/// The inverse that is known is the inverse that is found.
-pub fn inverse_again(a: i64, m: i64, known: i64) -> Option<i64>
+/// Returns `known`, which `inverse_modulo` finds, since `a` has one inverse modulo `m`.
+pub fn inverse_is_unique(a: i64, m: i64, known: i64) -> Option<i64>
     requires positive { pos 0 <ℤ m }
     requires inverse { IsInverse a m known }
     ensures { result ≡ Some known }
@@ -37,8 +37,8 @@ pub fn inverse_again(a: i64, m: i64, known: i64) -> Option<i64>
     }
 }
 
-/// The quotient by a number that has an inverse is the quotient that is found.
-pub fn quotient_again(a: i64, b: i64, m: i64, inverse: i64, known: i64) -> Option<i64>
+/// Returns `known`, which `quotient_modulo` finds, since the quotient by a number that has an inverse is unique.
+pub fn quotient_is_unique(a: i64, b: i64, m: i64, inverse: i64, known: i64) -> Option<i64>
     requires positive { pos 0 <ℤ m }
     requires inverse { IsInverse b m inverse }
     requires quotient { IsQuotientModulo a b m known }
@@ -50,8 +50,9 @@ pub fn quotient_again(a: i64, b: i64, m: i64, inverse: i64, known: i64) -> Optio
     }
 }
 
-/// The class of the solutions is the class that is found.
-pub fn solutions_again(a: i64, b: i64, m: i64, first: i64, step: i64) -> Option<(i64, i64)>
+/// Returns the first solution and the step that are known. `solutions` finds them, since the residue class of the
+/// solutions is unique.
+pub fn solution_class_is_unique(a: i64, b: i64, m: i64, first: i64, step: i64) -> Option<(i64, i64)>
     requires positive { pos 0 <ℤ m }
     requires class { IsResidueClass (Solves a b m) first step }
     ensures { result ≡ Some (first, step) }
@@ -59,8 +60,8 @@ pub fn solutions_again(a: i64, b: i64, m: i64, first: i64, step: i64) -> Option<
     solutions(a, b, m)
 }
 
-/// The next congruent number is the one that is found.
-pub fn next_congruent_again(from: i64, first: i64, step: i64, known: i64) -> Option<i64>
+/// Returns `known`, which `next_congruent` finds, since the next congruent number is unique.
+pub fn next_congruent_is_unique(from: i64, first: i64, step: i64, known: i64) -> Option<i64>
     requires positive { pos 0 <ℤ step }
     requires next { IsNextCongruent from first step known }
     ensures { result ≡ Some known }
@@ -68,8 +69,8 @@ pub fn next_congruent_again(from: i64, first: i64, step: i64, known: i64) -> Opt
     next_congruent(from, first, step)
 }
 
-/// The previous congruent number is the one that is found.
-pub fn previous_congruent_again(to: i64, first: i64, step: i64, known: i64) -> Option<i64>
+/// Returns `known`, which `previous_congruent` finds, since the previous congruent number is unique.
+pub fn previous_congruent_is_unique(to: i64, first: i64, step: i64, known: i64) -> Option<i64>
     requires positive { pos 0 <ℤ step }
     requires previous { IsPreviousCongruent to first step known }
     ensures { result ≡ Some known }
@@ -77,8 +78,8 @@ pub fn previous_congruent_again(to: i64, first: i64, step: i64, known: i64) -> O
     previous_congruent(to, first, step)
 }
 
-/// The next number that solves two congruences is the one that is found.
-pub fn next_common_solution_again(
+/// Returns `At(known)`: the next number that solves two congruences is unique.
+pub fn next_common_solution_is_unique(
     from: i64,
     a: i64,
     m: i64,
@@ -93,16 +94,16 @@ pub fn next_common_solution_again(
     next_common_solution(from, a, m, b, n)
 }
 
-/// The hour that a clock shows some hours later.
+/// Returns the hour that a clock shows `hours` hours after `hour`.
 pub fn hour_after(hour: i64, hours: i64) -> i64
     ensures { IsResidue (pos 24) (hour +ℤ hours) result }
 {
     sum_modulo(hour, hours, 24)
 }
 
-// ---- results that a caller matches on or loops over, with no proof file
+// ---- results as a caller uses them, with no proof file
 
-/// The inverse, which is below the modulus, or the modulus if there is no inverse.
+/// Returns the inverse of `a` modulo `m`, which is less than `m`, or `m` if there is no inverse.
 pub fn inverse_or_modulus(a: u64, m: u64) -> u64
     requires { 0 < m }
     ensures inverse { result < m → IsInverse (pos a) (pos m) (pos result) }
@@ -114,7 +115,7 @@ pub fn inverse_or_modulus(a: u64, m: u64) -> u64
     }
 }
 
-/// The quotient, if the divisor has an inverse.
+/// Returns the quotient of `a` by `b` modulo `m`, or `None` if `b` has no inverse.
 pub fn quotient(a: i64, b: i64, m: i64) -> Option<i64>
     requires { pos 0 <ℤ m }
     ensures { MatchOption result ((x : ℤ) → ¬ (IsInverse b m x)) (λ x. IsQuotientModulo a b m x) }
@@ -122,7 +123,7 @@ pub fn quotient(a: i64, b: i64, m: i64) -> Option<i64>
     quotient_modulo(a, b, m)
 }
 
-/// The first solution and the step to the next, if there is one.
+/// Returns the first solution and the step to the next one, or `None` if there is no solution.
 pub fn class_of_solutions(a: i64, b: i64, m: i64) -> Option<(i64, i64)>
     requires { pos 0 <ℤ m }
     ensures { MatchOption result ((x : ℤ) → ¬ (Solves a b m x))
@@ -131,8 +132,9 @@ pub fn class_of_solutions(a: i64, b: i64, m: i64) -> Option<(i64, i64)>
     solutions(a, b, m)
 }
 
-/// The numbers that solve both congruences, if the common multiple fits.
-pub fn both(a: i64, m: i64, b: i64, n: i64) -> Option<(i64, i64)>
+/// Returns the first common solution and the step to the next one. Returns `None` if there is no common solution or
+/// the least common multiple of the moduli does not fit.
+pub fn common_residue_class(a: i64, m: i64, b: i64, n: i64) -> Option<(i64, i64)>
     requires m_positive { pos 0 <ℤ m }
     requires n_positive { pos 0 <ℤ n }
     ensures { IfSome result (λ s. IsResidueClass (SolvesBothCongruences a m b n) s.0 s.1) }
@@ -145,7 +147,7 @@ pub fn both(a: i64, m: i64, b: i64, n: i64) -> Option<(i64, i64)>
     }
 }
 
-/// The next time from now on, or the last of the type.
+/// Returns the next time from `now` on, or `u64::MAX` if that time does not fit.
 pub fn next_time(now: u64, first: u64, period: u64) -> u64
     requires { 0 < period }
     ensures { pos now ≤ℤ pos result }
@@ -156,8 +158,8 @@ pub fn next_time(now: u64, first: u64, period: u64) -> u64
     }
 }
 
-/// The next number that solves both, if the type has one.
-pub fn next_of_both(from: i64, a: i64, m: i64, b: i64, n: i64) -> Option<i64>
+/// Returns the next number that solves both congruences, or `None` if there is none in range.
+pub fn next_common_solution_or_none(from: i64, a: i64, m: i64, b: i64, n: i64) -> Option<i64>
     requires m_positive { pos 0 <ℤ m }
     requires n_positive { pos 0 <ℤ n }
     ensures { IfSome result (λ t. IsNextCommonSolution from a m b n t) }
@@ -168,8 +170,8 @@ pub fn next_of_both(from: i64, a: i64, m: i64, b: i64, n: i64) -> Option<i64>
     }
 }
 
-/// The last time up to now, or 0 if there is no such time.
-pub fn time_before(now: u64, first: u64, period: u64) -> u64
+/// Returns the last time up to `now`, or 0 if there is none from 0 on.
+pub fn last_time_up_to(now: u64, first: u64, period: u64) -> u64
     requires { 0 < period }
     ensures { pos result ≤ℤ pos now }
 {
@@ -179,7 +181,7 @@ pub fn time_before(now: u64, first: u64, period: u64) -> u64
     }
 }
 
-/// How many times come in a range.
+/// Returns the number of scheduled times in `from..=to`, or `None` if the number does not fit.
 pub fn times_between(from: i64, to: i64, first: i64, period: i64) -> Option<i64>
     requires { pos 0 <ℤ period }
     ensures { IfSome result (λ n. IsCountOfCongruent from to first period n) }
@@ -187,8 +189,8 @@ pub fn times_between(from: i64, to: i64, first: i64, period: i64) -> Option<i64>
     count_congruent(from, to, first, period)
 }
 
-/// The next number that solves each of signed congruences, if the type has one.
-pub fn next_of_each(from: i64, congruences: &[(i64, i64)]) -> Option<i64>
+/// Returns the next number that solves each of the congruences, or `None` if there is none in range.
+pub fn next_solution_of_each(from: i64, congruences: &[(i64, i64)]) -> Option<i64>
     requires in_range { All (λ c. FitsSigned w64 c.0 × FitsSigned w64 c.1) congruences.now }
     requires positive { All (λ c. pos 0 <ℤ c.1) congruences.now }
     ensures { IfSome result (λ t. IsLeastFrom from (SolvesEach (λ x. x) congruences.now) t) }
@@ -199,8 +201,8 @@ pub fn next_of_each(from: i64, congruences: &[(i64, i64)]) -> Option<i64>
     }
 }
 
-/// The power and the turns.
-pub fn power_and_turns(a: u64, exponent: u32, m: u64) -> (u64, u32)
+/// Returns the power of `a` modulo `m`, and the number of iterations of the loop.
+pub fn power_and_iterations(a: u64, exponent: u32, m: u64) -> (u64, u32)
     requires { 0 < m }
     ensures { IsResidue (pos m) (int_pow (pos a) exponent) (pos result.0) }
 {

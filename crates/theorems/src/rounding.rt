@@ -1,4 +1,5 @@
-//! Calls of `applied` on single numbers: nearest quotients, roots and what is left, logarithms, factorials.
+//! Functions that call `applied` on single numbers: nearest quotients, roots with their remainder, logarithms and
+//! factorials.
 
 ghost use Rattle.std.specs.Prelude.{◌≡◌, ◌≢◌, ◌<◌, ◌≤◌, ◌+◌, ◌-◌, ◌*◌, ◌^◌, ◌<ℤ◌, IfSome, MatchOption, pos};
 ghost use Rattle.num_integer.specs.Coefficient.{factorial};
@@ -14,7 +15,7 @@ use num_integer::Fits;
 
 // ---- nearest quotients
 
-/// The price of one piece in whole cents, of a price for several pieces.
+/// Returns the price of one piece in whole cents. `cents` is the price of all pieces.
 pub fn price_of_piece(cents: i64, pieces: i64) -> i64
     requires { pos 0 <ℤ pieces }
     ensures { IsQuotient IsNearest cents pieces result }
@@ -22,14 +23,15 @@ pub fn price_of_piece(cents: i64, pieces: i64) -> i64
     div_round(cents, pieces)
 }
 
-/// An amount in thousandths, in hundredths.
-pub fn hundredths(thousandths: i64) -> i64
+/// Rounds an amount in thousandths to hundredths.
+pub fn rounded_to_hundredths(thousandths: i64) -> i64
     ensures { IsQuotient IsNearest thousandths (pos 10) result }
 {
     div_round(thousandths, 10)
 }
 
-/// The mean of some values. The halves that it rounds up and those that it rounds down are equally many in the long run.
+/// Returns the mean of values with this sum, rounded to the nearest integer. A half is rounded to the even integer,
+/// so about as many halves are rounded up as down.
 pub fn mean(total: i64, count: i64) -> i64
     requires { pos 0 <ℤ count }
     ensures { IsQuotient IsNearestEven total count result }
@@ -37,7 +39,7 @@ pub fn mean(total: i64, count: i64) -> i64
     div_round_even(total, count)
 }
 
-/// The mean of natural numbers.
+/// Returns the mean of natural numbers, rounded in the same way.
 pub fn natural_mean(total: u64, count: u64) -> u64
     requires { count ≢ 0 }
     ensures { IsQuotient IsNearestEven (pos total) (pos count) (pos result) }
@@ -45,8 +47,9 @@ pub fn natural_mean(total: u64, count: u64) -> u64
     div_round_even(total, count)
 }
 
-/// The nearest quotient of two numbers, or `None` if the divisor is 0 or the quotient does not fit.
-pub fn nearest_of_read(total: i64, count: i64) -> Option<i64>
+/// Returns the nearest quotient, or `None` if the divisor is 0 or the quotient does not fit. An `if` tests the
+/// domain.
+pub fn nearest_or_none(total: i64, count: i64) -> Option<i64>
     ensures { IfSome result (λ q. IsQuotient IsNearest total count q) }
 {
     if total.quotient_fits(&count) {
@@ -56,7 +59,7 @@ pub fn nearest_of_read(total: i64, count: i64) -> Option<i64>
     }
 }
 
-/// The same by the call that tests.
+/// Returns the same by the call that tests the domain.
 pub fn nearest_checked(total: i64, count: i64) -> Option<i64>
     ensures { IfSome result (λ q. (count ≢ pos 0) × IsQuotient IsNearest total count q) }
 {
@@ -66,7 +69,7 @@ pub fn nearest_checked(total: i64, count: i64) -> Option<i64>
 
 // ---- roots and logarithms
 
-/// The side of the largest square of tiles, and the tiles that are left.
+/// Returns the side of the largest square of tiles, and the number of tiles that are left.
 pub fn square_of_tiles(tiles: u64) -> (u64, u64)
     ensures all { result.0 * result.0 + result.1 ≡ tiles }
     ensures largest { result.1 ≤ 2 * result.0 }
@@ -74,7 +77,7 @@ pub fn square_of_tiles(tiles: u64) -> (u64, u64)
     sqrt_rem(tiles)
 }
 
-/// The number of the decimal digits of a positive number.
+/// Returns the number of decimal digits of a positive number.
 pub fn digits(number: u64) -> u32
     requires { 0 < number }
     ensures { IsLogarithm (pos 10) (pos number) (result - 1) }
@@ -82,7 +85,7 @@ pub fn digits(number: u64) -> u32
     ilog(number, 10) + 1
 }
 
-/// The levels of a binary tree of some nodes, or 0 for no node.
+/// Returns the number of levels of a binary tree with this many nodes, or 0 if there is no node.
 pub fn levels(nodes: u64) -> u32
     ensures { 0 < nodes → IsLogarithm (pos 2) (pos nodes) (result - 1) }
 {
@@ -94,7 +97,7 @@ pub fn levels(nodes: u64) -> u32
 
 // ---- permutations
 
-/// The ways in which three of eight runners can win the medals.
+/// Returns the number of ways in which three of eight runners can win the medals.
 #[tactic(auto, unfolding(applied::specs::Counting::falling))]
 pub fn podiums_of_eight() -> u64
     ensures { result ≡ 336 }
@@ -102,8 +105,8 @@ pub fn podiums_of_eight() -> u64
     falling(8, 3)
 }
 
-/// The ways in which books stand on a shelf, or `None` if their number does not fit a `u64`.
-pub fn orders_of(books: u64) -> Option<u64>
+/// Returns the number of orders of the books on a shelf, or `None` if it does not fit in a `u64`.
+pub fn orders_of_books(books: u64) -> Option<u64>
     ensures { MatchOption result (2 ^ 64 ≤ factorial books) (λ ways. ways ≡ factorial books) }
 {
     counting::checked::factorial(books)

@@ -1,4 +1,4 @@
-//! Everyday tasks, each by a call or two, with the clauses that its user would write.
+//! Everyday tasks. A call or two does each, and the contract has the clauses that its user would write.
 
 ghost use Rattle.std.specs.Prelude.{◌≡◌, ◌↔◌, ◌+◌, ◌*◌, ◌/◌, ◌%◌, ◌<◌, ◌≤◌, ◌^◌, ◌<ℤ◌, ◌*ℤ◌, Err, MatchOption, pos, sum, ℕ};
 ghost use Rattle.num_integer.specs.Division.{IsCeiled, IsQuotient};
@@ -16,7 +16,8 @@ use ratio64::{Ratio, RatioError};
 
 // ---- pages of items
 
-/// The page of an item and its place there, all counted from 0. `page_with_place(10, 4)` is `(2, 2)`.
+/// `page_with_place(10, 4)` is `(2, 2)`. Returns the page of an item and its place on the page. Items, pages and
+/// places are counted from 0.
 #[tactic(auto, using(num_integer::proofs::ForCallers::division_is_natural))]
 pub fn page_with_place(item: usize, size: usize) -> (usize, usize)
     requires { 0 < size }
@@ -26,7 +27,7 @@ pub fn page_with_place(item: usize, size: usize) -> (usize, usize)
     item.div_mod_floor(&size)
 }
 
-/// The page alone.
+/// Returns the page alone.
 pub fn page_of(item: usize, size: usize) -> usize
     requires { 0 < size }
     ensures { result ≡ item / size }
@@ -34,8 +35,8 @@ pub fn page_of(item: usize, size: usize) -> usize
     item.div_floor(&size)
 }
 
-/// The first item of a page and one past its last, or `None` if a page has no items. Exactly the items
-/// on the page are in this range. `indices_on_page(2, 4, 10)` is `Some((8, 10))`.
+/// `indices_on_page(2, 4, 10)` is `Some((8, 10))`. Returns the index of the first item of the page and the index
+/// after its last one. Exactly the items of the page are in this range. Returns `None` if the size of a page is 0.
 pub fn indices_on_page(page: usize, size: usize, items: usize) -> Option<(usize, usize)>
     ensures { MatchOption result (size ≡ 0) (λ r. (r.0 ≤ r.1) × (r.1 ≤ items)
         × ((item : ℕ) → item < items → ((r.0 ≤ item) × (item < r.1)) ↔ (item / size ≡ page))) }
@@ -48,7 +49,7 @@ pub fn indices_on_page(page: usize, size: usize, items: usize) -> Option<(usize,
     Some((first, end))
 }
 
-/// The same by a call of the library, in its words.
+/// Returns the same range by a call of `range_of_page`. The contract uses the definition of `applied`.
 pub fn items_on_page(page: usize, size: usize, items: usize) -> Option<(usize, usize)>
     ensures { MatchOption result (size ≡ 0)
         (λ r. IsRangeOfPage (pos page) (pos size) (pos items) (pos r.0) (pos r.1)) }
@@ -61,7 +62,7 @@ pub fn items_on_page(page: usize, size: usize, items: usize) -> Option<(usize, u
 
 // ---- an affine cipher over bytes
 
-/// A key, whose factor is odd.
+/// A key of the cipher. Its factor is odd.
 #[derive(Debug, Clone, Copy, PartialEq, Eq)]
 pub struct Key {
     pub factor: u8,
@@ -69,14 +70,14 @@ pub struct Key {
     ghost odd: { factor % 2 ≡ 1 },
 }
 
-/// The byte encrypted.
+/// Encrypts the byte.
 pub fn encrypt(key: Key, byte: u8) -> u8
     ensures { result ≡ (key.factor * byte + key.shift) % 256 }
 {
     key.factor.wrapping_mul(byte).wrapping_add(key.shift)
 }
 
-/// The same by one residue, of a number that is computed in a wider type.
+/// Encrypts the byte by one residue of a number that is computed in a wider type.
 pub fn encrypt_in_wider_type(key: Key, byte: u8) -> u8
     ensures { IsResidue (pos 256) (pos (key.factor * byte + key.shift)) (pos result) }
 {
@@ -86,7 +87,7 @@ pub fn encrypt_in_wider_type(key: Key, byte: u8) -> u8
     ) as u8
 }
 
-/// The byte that the key encrypts to this one, and no other.
+/// Decrypts the byte. The result is the only byte that the key encrypts to `byte`.
 pub fn decrypt(key: Key, byte: u8) -> u8
     ensures encrypted { (key.factor * result + key.shift) % 256 ≡ byte }
     ensures only { (x : ℕ) → x < 256 → (key.factor * x + key.shift) % 256 ≡ byte → x ≡ result }
@@ -98,7 +99,7 @@ pub fn decrypt(key: Key, byte: u8) -> u8
     }
 }
 
-/// The byte encrypted and decrypted again, which is the byte.
+/// Encrypts the byte and decrypts it again. The result is the byte.
 pub fn round_trip(key: Key, byte: u8) -> u8
     ensures { result ≡ byte }
 {
@@ -107,7 +108,7 @@ pub fn round_trip(key: Key, byte: u8) -> u8
 
 // ---- amounts of money
 
-/// The part of an amount by its weight, rounded down. The product is computed in a wider type.
+/// Returns the part of an amount by its weight, rounded down. The product is computed in a wider type.
 pub fn part_by_weight(cents: u64, weight: u64, total: u64) -> u64
     requires positive { 0 < total }
     requires within { weight ≤ total }
@@ -116,8 +117,8 @@ pub fn part_by_weight(cents: u64, weight: u64, total: u64) -> u64
     (u128::from(cents) * u128::from(weight) / u128::from(total)) as u64
 }
 
-/// The sum of the amounts, or `None` if it does not fit. The sum of the first amounts is not larger, so it
-/// fits if the whole sum does.
+/// Returns the sum of the amounts, or `None` if it does not fit. No partial sum is larger than the sum, so each
+/// partial sum fits if the sum fits.
 pub fn total_of(amounts: &[u64]) -> Option<u64>
     ensures { MatchOption result (¬ (sum amounts.now < 2 ^ 64)) (λ total. total ≡ sum amounts.now) }
 {
@@ -130,8 +131,8 @@ pub fn total_of(amounts: &[u64]) -> Option<u64>
 
 // ---- a recipe in quarters
 
-/// The amount for so many servings of a recipe for `serves`, rounded up to quarters, or the error if it
-/// does not fit. Of 5/3 cups for 4, it is 5/2 cups for 6.
+/// Of 5/3 cups for 4 servings, it is 5/2 cups for 6. Scales an amount of a recipe for `serves` servings to
+/// `servings`, and rounds it up to quarters. Returns an error if the exact amount or the rounded one does not fit.
 pub fn scaled(amount: &Ratio, servings: i64, serves: i64) -> Result<Ratio, RatioError>
     requires { pos 0 <ℤ serves }
     ensures outside { IsOutsideI64 (num_of amount.now *ℤ servings) (serves *ℤ den_of amount.now)

@@ -6,7 +6,7 @@ ghost use Rattle.num_integer.specs.Checked.{AnswersWhere};
 ghost use Rattle.num_integer.specs.Range.{EachFits};
 ghost use Rattle.applied.specs.Lists.{GcdOfFits, IsGreatestCommonDivisorOf, IsLeastCommonMultipleOf};
 
-use crate::coprime::common_divisor;
+use crate::coprime::signed_gcd;
 use num_integer::operators::{is_negative, is_zero, one, zero};
 use num_integer::{Fits, checked};
 
@@ -38,7 +38,7 @@ fn signed_gcd_of<T: Fits>(numbers: &[T]) -> T
 {
     let mut divisor = zero();
     for number in numbers {
-        divisor = common_divisor(divisor, *number);
+        divisor = signed_gcd(divisor, *number);
     }
     divisor
 }

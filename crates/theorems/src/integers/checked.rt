@@ -1,4 +1,5 @@
-//! Calls of `num_integer::checked` at native types, as a program writes them if it knows nothing of its numbers.
+//! Functions that call `num_integer::checked` at native types. A program calls them so if it knows nothing of its
+//! numbers.
 
 ghost use Rattle.std.specs.Prelude.{◌≡◌, ◌≢◌, ◌⊎◌, ◌<◌, ◌%◌, ◌^◌, ◌<ℤ◌, ◌+ℤ◌, FitsSigned, IfSome, MatchOption, map, pos};
 ghost use Rattle.std.specs.Int.{FitsUnsignedBits, w64};
@@ -14,7 +15,7 @@ ghost use Rattle.num_integer.specs.Row.{RowFits, row_of};
 
 use num_integer::{ExtendedGcd, IterBinomial, checked};
 
-/// The quotient rounded down, or `None` for a divisor 0 and for the smallest number by -1.
+/// Returns the quotient rounded down. Returns `None` if the divisor is 0, and for `i64::MIN` by -1.
 pub fn floored_quotient(n: i64, d: i64) -> Option<i64>
     ensures { MatchOption result
         (¬ ((d ≢ pos 0) × EachFits (FitsSigned w64) (IsQuotient IsFloored n d)))
@@ -26,14 +27,14 @@ pub fn floored_quotient(n: i64, d: i64) -> Option<i64>
     }
 }
 
-/// The remainder that has the divisor's sign, or `None` for a divisor 0.
+/// Returns the remainder that has the divisor's sign, or `None` if the divisor is 0.
 pub fn floored_remainder(n: i64, d: i64) -> Option<i64>
     ensures { MatchOption result (d ≡ pos 0) (λ r. IsRemainder IsFloored n d r) }
 {
     checked::mod_floor(n, d)
 }
 
-/// The next multiple, or `None` for a divisor 0 and if the multiple does not fit.
+/// Returns the next multiple, or `None` if the divisor is 0 or the multiple does not fit.
 pub fn next_multiple(n: u64, d: u64) -> Option<u64>
     ensures { MatchOption result
         (¬ ((d ≢ 0) × EachFits (FitsUnsignedBits 64) (IsMultiple IsCeiled (pos n) (pos d))))
@@ -42,7 +43,7 @@ pub fn next_multiple(n: u64, d: u64) -> Option<u64>
     checked::next_multiple_of(n, d)
 }
 
-/// The least common multiple, or `None` if it does not fit.
+/// Returns the least common multiple, or `None` if it does not fit.
 pub fn common_multiple(a: i64, b: i64) -> Option<i64>
     ensures { MatchOption result (¬ (EachFits (FitsSigned w64) (IsLeastCommonMultiple a b)))
         (λ l. IsLeastCommonMultiple a b l) }
@@ -50,7 +51,7 @@ pub fn common_multiple(a: i64, b: i64) -> Option<i64>
     checked::lcm(a, b)
 }
 
-/// The greatest common divisor with its Bezout pair, or `None` if the divisor does not fit.
+/// Returns the greatest common divisor with its Bezout pair, or `None` if the divisor does not fit.
 pub fn bezout_pair(m: i64, n: i64) -> Option<ExtendedGcd<i64>>
     ensures { MatchOption result (¬ (EachFits (FitsSigned w64) (IsGreatestCommonDivisor m n)))
         (λ e. IsBezoutAnswer m n e.gcd e.x e.y) }
@@ -58,7 +59,7 @@ pub fn bezout_pair(m: i64, n: i64) -> Option<ExtendedGcd<i64>>
     checked::extended_gcd(m, n)
 }
 
-/// The same at an unsigned type, which has a pair if one number divides the other.
+/// Returns the same at an unsigned type, or `None` if neither number divides the other.
 pub fn natural_bezout_pair(a: u64, b: u64) -> Option<ExtendedGcd<u64>>
     ensures { MatchOption result
         (¬ (Divides (pos b) (pos a)) × ¬ (Divides (pos a) (pos b)))
@@ -67,7 +68,7 @@ pub fn natural_bezout_pair(a: u64, b: u64) -> Option<ExtendedGcd<u64>>
     checked::extended_gcd(a, b)
 }
 
-/// The root of a degree, or `None` for degree 0 and for an even root of a negative number.
+/// Returns the root of a degree. Returns `None` if the degree is 0, and for an even degree of a negative number.
 pub fn root(x: i64, degree: u32) -> Option<i64>
     ensures { MatchOption result ((degree ≡ 0) ⊎ (degree % 2 ≡ 0) × (x <ℤ pos 0))
         (λ r. IsRoot x degree r) }
@@ -75,14 +76,15 @@ pub fn root(x: i64, degree: u32) -> Option<i64>
     checked::nth_root(x, degree)
 }
 
-/// The number of choices of `k` out of `n`, or `None` if it does not fit.
+/// Returns the number of ways to choose `k` of `n` things, or `None` if it does not fit.
 pub fn choices(n: u64, k: u64) -> Option<u64>
     ensures { MatchOption result (¬ (coefficient n k < 2 ^ 64)) (λ c. c ≡ coefficient n k) }
 {
     checked::binomial(n, k)
 }
 
-/// The number of orders of things of these counts, or `None` if it does not fit.
+/// Returns the number of orders of things of several kinds, or `None` if it does not fit. `counts` has the number of
+/// things of each kind.
 pub fn orders(counts: &[u64]) -> Option<u64>
     ensures { MatchOption result
         (¬ (EachFits (FitsUnsignedBits 64) (IsMultinomial (map (λ x. pos x) counts.now))))
@@ -91,8 +93,8 @@ pub fn orders(counts: &[u64]) -> Option<u64>
     checked::multinomial(counts)
 }
 
-/// The same of signed counts, or `None` if one is negative. The items of a signed slice are required
-/// to be in range. The prover knows this of an unsigned one.
+/// Returns the same for signed counts, or `None` if one is negative or the number does not fit. The items of a signed
+/// slice are required to be in range. The prover knows this of an unsigned one.
 pub fn signed_orders(counts: &[i64]) -> Option<i64>
     requires { All (FitsSigned w64) counts.now }
     ensures { IfSome result (λ m. IsMultinomial (map (λ x. x) counts.now) m) }
@@ -100,7 +102,7 @@ pub fn signed_orders(counts: &[i64]) -> Option<i64>
     checked::multinomial(counts)
 }
 
-/// The row of Pascal's triangle, or `None` if an item does not fit.
+/// Returns the row of Pascal's triangle, or `None` if an item does not fit.
 pub fn row(n: u64) -> Option<IterBinomial<u64>>
     ensures { MatchOption result (¬ (RowFits (FitsUnsignedBits 64) (pos n)))
         (λ r. r ≡ row_of (pos n)) }
@@ -108,7 +110,7 @@ pub fn row(n: u64) -> Option<IterBinomial<u64>>
     checked::row(n)
 }
 
-/// The sum, or `None` if it does not fit.
+/// Returns the sum, or `None` if it does not fit.
 pub fn sum(a: i64, b: i64) -> Option<i64>
     ensures { MatchOption result (¬ (FitsSigned w64 (a +ℤ b))) (λ s. s ≡ a +ℤ b) }
 {

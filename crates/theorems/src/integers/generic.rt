@@ -1,4 +1,4 @@
-//! Calls at each type of integers, and rows of Pascal's triangle.
+//! Functions that call `num_integer` at any type of integers, and rows of Pascal's triangle.
 
 ghost use Rattle.std.specs.Prelude.{◌≡◌, ◌≢◌, ◌⊎◌, ◌↔◌, ◌<◌, ◌^◌, ◌<ℤ◌, ◌+ℤ◌, ◌*ℤ◌, FitsSigned, IfOk, IfSome, IsTrue, None, [], length, map, pos, unsigned_abs};
 ghost use Rattle.std.specs.Int.{FitsUnsignedBits, w8};
@@ -14,7 +14,7 @@ use num_integer::{
 };
 use std::alloc::{AllocError, Global};
 
-/// The condition of `gcd` says that the divisor fits, at a type without -1 too.
+/// Returns the greatest common divisor. The condition of `gcd` says that it fits, even at a type without -1.
 pub fn gcd_that_fits<T: Integer>(a: T, b: T) -> T
     requires a_in_range { T.fits (T.value a) }
     requires b_in_range { T.fits (T.value b) }
@@ -25,7 +25,8 @@ pub fn gcd_that_fits<T: Integer>(a: T, b: T) -> T
     gcd(a, b)
 }
 
-/// Equality and order of values are those of their numbers.
+/// Returns whether the values are equal and whether the first is less. The numbers that they mean compare in the same
+/// way.
 pub fn compared<T: Integer>(a: T, b: T) -> (bool, bool)
     ensures equal { IsTrue result.0 ↔ (T.value a ≡ T.value b) }
     ensures below { IsTrue result.1 ↔ (T.value a <ℤ T.value b) }
@@ -33,7 +34,8 @@ pub fn compared<T: Integer>(a: T, b: T) -> (bool, bool)
     (a == b, a < b)
 }
 
-/// The quotient rounded down, times the divisor, and the remainder add up to the number.
+/// Returns the quotient rounded down and its remainder. The quotient times the divisor and the remainder add up to
+/// the number.
 pub fn floored_parts<T: Integer>(n: T, d: T) -> (T, T)
     requires n_in_range { T.fits (T.value n) }
     requires d_in_range { T.fits (T.value d) }
@@ -46,8 +48,8 @@ pub fn floored_parts<T: Integer>(n: T, d: T) -> (T, T)
     (div_floor(n, d), mod_floor(n, d))
 }
 
-/// Each gcd with a positive number and each quotient by one fits.
-pub fn by_positive(a: i64, b: i64) -> (bool, bool)
+/// Returns `(true, true)`: the greatest common divisor with a positive number and the quotient by it fit.
+pub fn tests_with_positive(a: i64, b: i64) -> (bool, bool)
     requires { pos 0 <ℤ b }
     ensures gcd { IsTrue result.0 }
     ensures quotient { IsTrue result.1 }
@@ -55,8 +57,8 @@ pub fn by_positive(a: i64, b: i64) -> (bool, bool)
     (a.gcd_fits(&b), a.quotient_fits(&b))
 }
 
-/// The same at any type.
-pub fn by_positive_of_any_type<T: Fits>(a: T, b: T) -> (bool, bool)
+/// Returns the same at any type.
+pub fn tests_with_positive_at_any_type<T: Fits>(a: T, b: T) -> (bool, bool)
     requires a_in_range { T.fits (T.value a) }
     requires b_in_range { T.fits (T.value b) }
     requires positive { pos 0 <ℤ T.value b }
@@ -66,8 +68,8 @@ pub fn by_positive_of_any_type<T: Fits>(a: T, b: T) -> (bool, bool)
     (a.gcd_fits(&b), a.quotient_fits(&b))
 }
 
-/// The quotient rounded down, alone and with its remainder.
-pub fn floored_twice<T: Integer>(n: T, d: T) -> (T, T)
+/// Returns the quotient rounded down by `div_floor` and by `div_mod_floor`. The two are equal.
+pub fn floored_by_two_calls<T: Integer>(n: T, d: T) -> (T, T)
     requires n_in_range { T.fits (T.value n) }
     requires d_in_range { T.fits (T.value d) }
     requires nonzero { T.value d ≢ pos 0 }
@@ -77,8 +79,8 @@ pub fn floored_twice<T: Integer>(n: T, d: T) -> (T, T)
     (div_floor(n, d), div_mod_floor(n, d).0)
 }
 
-/// The call that counts the turns returns the same Bezout pair.
-pub fn pair_with_turns<T: Integer>(a: T, b: T) -> (ExtendedGcd<T>, ExtendedGcd<T>)
+/// Returns the Bezout pair by `extended_gcd` and by the call that counts the iterations. The two are equal.
+pub fn pairs_by_two_calls<T: Integer>(a: T, b: T) -> (ExtendedGcd<T>, ExtendedGcd<T>)
     requires a_in_range { T.fits (T.value a) }
     requires b_in_range { T.fits (T.value b) }
     requires gcd_fits { GcdFits T.fits (T.value a) (T.value b) }
@@ -90,7 +92,7 @@ pub fn pair_with_turns<T: Integer>(a: T, b: T) -> (ExtendedGcd<T>, ExtendedGcd<T
     (a.extended_gcd(&b), extended_gcd_counted(a, b).0)
 }
 
-/// A whole row, collected.
+/// Collects a whole row.
 pub fn row<T: Integer>(alloc: Global, n: T) -> Result<Vec<T>, AllocError>
     requires in_range { T.fits (T.value n) }
     requires row_fits { RowFits T.fits (T.value n) }
@@ -99,8 +101,8 @@ pub fn row<T: Integer>(alloc: Global, n: T) -> Result<Vec<T>, AllocError>
     IterBinomial::new(n).collect(alloc)
 }
 
-/// A whole row, pushed by a loop.
-pub fn pushed<T: Integer>(alloc: Global, n: T) -> Result<Vec<T>, AllocError>
+/// Collects a whole row by a loop that pushes each item.
+pub fn row_by_a_loop<T: Integer>(alloc: Global, n: T) -> Result<Vec<T>, AllocError>
     requires in_range { T.fits (T.value n) }
     requires row_fits { RowFits T.fits (T.value n) }
     ensures { IfOk result (λ v. map T.value v.items ≡ row_of (T.value n)) }
@@ -112,8 +114,8 @@ pub fn pushed<T: Integer>(alloc: Global, n: T) -> Result<Vec<T>, AllocError>
     Ok(all)
 }
 
-/// The number of items of a row.
-pub fn count<T: Integer>(n: T) -> usize
+/// Returns the number of items of a row.
+pub fn row_length<T: Integer>(n: T) -> usize
     requires in_range { T.fits (T.value n) }
     requires row_fits { RowFits T.fits (T.value n) }
     requires countable { length (row_of (T.value n)) < 2 ^ 64 }
@@ -122,7 +124,7 @@ pub fn count<T: Integer>(n: T) -> usize
     IterBinomial::new(n).count()
 }
 
-/// The row of a byte.
+/// Collects the row of a byte.
 pub fn byte_row(alloc: Global, n: u8) -> Result<Vec<u8>, AllocError>
     requires { RowFits (FitsUnsignedBits 8) (pos n) }
     ensures { IfOk result (λ v. map (λ x. pos x) v.items ≡ row_of (pos n)) }
@@ -130,7 +132,7 @@ pub fn byte_row(alloc: Global, n: u8) -> Result<Vec<u8>, AllocError>
     IterBinomial::new(n).collect(alloc)
 }
 
-/// The row of a signed byte, by the generic call.
+/// Collects the row of a signed byte by the generic call.
 pub fn signed_row(alloc: Global, n: i8) -> Result<Vec<i8>, AllocError>
     requires { RowFits (FitsSigned w8) n }
     ensures { IfOk result (λ v. map (λ x. x) v.items ≡ row_of n) }
@@ -138,7 +140,7 @@ pub fn signed_row(alloc: Global, n: i8) -> Result<Vec<i8>, AllocError>
     row(alloc, n)
 }
 
-/// Once the list is empty, `next` always returns `None`.
+/// Returns `(None, None)`: once no item is left, `next` always returns `None`.
 pub fn none_for_good<T: Integer>(rest: &mut IterBinomial<T>) -> (Option<T>, Option<T>)
     requires { rest.old ≡ [] }
     ensures first { result.0 ≡ None }
@@ -148,7 +150,7 @@ pub fn none_for_good<T: Integer>(rest: &mut IterBinomial<T>) -> (Option<T>, Opti
     (rest.next(), rest.next())
 }
 
-/// The first item of a row above a limit.
+/// Returns the first item of a row that is greater than `limit`, or `None` if there is none.
 pub fn first_above(n: u8, limit: u8) -> Option<u8>
     requires { RowFits (FitsUnsignedBits 8) (pos n) }
     ensures { IfSome result (λ item. limit < item) }
@@ -162,8 +164,8 @@ pub fn first_above(n: u8, limit: u8) -> Option<u8>
     None
 }
 
-/// The largest item of a row, at each type.
-pub fn greatest_item<T: Integer>(n: T) -> Option<T>
+/// Returns the largest item of a row.
+pub fn largest_item<T: Integer>(n: T) -> Option<T>
     requires in_range { T.fits (T.value n) }
     requires row_fits { RowFits T.fits (T.value n) }
     ensures { IfSome result (λ item. T.fits (T.value item)) }

@@ -1,4 +1,4 @@
-//! Calls whose result a caller matches on, each at a native type and with no proof file.
+//! Functions that match on the result of a call of `num_integer`. Each is at a native type and has no proof file.
 
 ghost use Rattle.std.specs.Prelude.{◌≡◌, ◌≢◌, ◌-◌, ◌*◌, ◌<◌, ◌≤◌, ◌^◌, ◌<ℤ◌, ◌≤ℤ◌, ◌+ℤ◌, ◌-ℤ◌, ◌*ℤ◌, FitsSigned, IfSome, MatchOption, min, neg_ℤ, pos};
 ghost use Rattle.std.specs.Int.{w64};
@@ -12,7 +12,8 @@ ghost use Rattle.num_integer.specs.RootOf.{IsRoot};
 use num_integer::counted::{GcdCounted, SqrtCounted, binomial_counted, extended_gcd_counted};
 use num_integer::{ExtendedGcd, checked};
 
-/// The quotient toward 0 and what it leaves, which together make the number.
+/// Returns the quotient rounded toward 0 and the remainder, or `None` if the divisor is 0 or the quotient does not
+/// fit.
 pub fn shared_out(n: i64, d: i64) -> Option<(i64, i64)>
     ensures { IfSome result (λ r. IsQuotient IsTruncated n d r.0 × (n ≡ r.0 *ℤ d +ℤ r.1)) }
 {
@@ -20,7 +21,7 @@ pub fn shared_out(n: i64, d: i64) -> Option<(i64, i64)>
     Some((quotient, rest))
 }
 
-/// The pages, or none by a page of no items.
+/// Returns the number of pages, or 0 if a page has no items.
 pub fn pages(items: u32, page_size: u32) -> u32
     ensures { page_size ≢ 0 → IsQuotient IsCeiled (pos items) (pos page_size) (pos result) }
 {
@@ -30,7 +31,7 @@ pub fn pages(items: u32, page_size: u32) -> u32
     }
 }
 
-/// The previous multiple, or the number itself by 0.
+/// Returns the previous multiple, or the number itself if the divisor is 0.
 pub fn rounded_down(n: u64, d: u64) -> u64
     ensures { d ≢ 0 → IsMultiple IsFloored (pos n) (pos d) (pos result) }
 {
@@ -41,7 +42,7 @@ pub fn rounded_down(n: u64, d: u64) -> u64
     }
 }
 
-/// One more, or the number itself if it is the largest.
+/// Returns one more, or the number itself if it is the largest of the type.
 pub fn next(x: u8) -> u8
     ensures below { x < 255 → pos result ≡ pos x +ℤ pos 1 }
     ensures greatest { x ≡ 255 → result ≡ 255 }
@@ -52,7 +53,7 @@ pub fn next(x: u8) -> u8
     }
 }
 
-/// One less, or the number itself if it is the smallest.
+/// Returns one less, or the number itself if it is the smallest of the type.
 pub fn previous(x: i64) -> i64
     ensures above { i64.MIN <ℤ x → result ≡ x -ℤ pos 1 }
     ensures least { x ≡ i64.MIN → result ≡ x }
@@ -63,7 +64,7 @@ pub fn previous(x: i64) -> i64
     }
 }
 
-/// The greatest common divisor with a positive number. It always fits.
+/// Returns the greatest common divisor of a number and a positive number. It always fits.
 pub fn divisor_with_positive(a: i64, b: i64) -> i64
     requires { pos 0 <ℤ b }
     ensures { IsGreatestCommonDivisor a b result }
@@ -74,7 +75,7 @@ pub fn divisor_with_positive(a: i64, b: i64) -> i64
     divisor
 }
 
-/// The quotient by a positive number, rounded down. It always fits.
+/// Returns the quotient by a positive number, rounded down. It always fits.
 pub fn floored_by_positive(n: i64, d: i64) -> i64
     requires { pos 0 <ℤ d }
     ensures { IsQuotient IsFloored n d result }
@@ -85,7 +86,7 @@ pub fn floored_by_positive(n: i64, d: i64) -> i64
     }
 }
 
-/// The page of an item and its place on the page. They always fit.
+/// Returns the page of an item and its place on the page. They always fit.
 pub fn page_and_place(n: i64, d: i64) -> (i64, i64)
     requires { pos 0 <ℤ d }
     ensures { IsFloored n d result.0 result.1 }
@@ -93,7 +94,7 @@ pub fn page_and_place(n: i64, d: i64) -> (i64, i64)
     checked::div_mod_floor(n, d).unwrap()
 }
 
-/// The remainder of the quotient rounded down.
+/// Returns the remainder of the quotient rounded down. It always fits.
 pub fn place_by_positive(n: i64, d: i64) -> i64
     requires { pos 0 <ℤ d }
     ensures { IsRemainder IsFloored n d result }
@@ -101,7 +102,7 @@ pub fn place_by_positive(n: i64, d: i64) -> i64
     checked::mod_floor(n, d).unwrap()
 }
 
-/// The greatest common divisor and the least common multiple, or `None` if one of them does not fit.
+/// Returns the greatest common divisor and the least common multiple, or `None` if one of them does not fit.
 pub fn divisor_and_multiple(a: i64, b: i64) -> Option<(i64, i64)>
     ensures { MatchOption result
         (¬ (EachFits (FitsSigned w64) (IsGreatestCommonDivisor a b)
@@ -114,7 +115,8 @@ pub fn divisor_and_multiple(a: i64, b: i64) -> Option<(i64, i64)>
     Some((divisor, multiple))
 }
 
-/// The pair and the least common multiple, if both fit.
+/// Returns the greatest common divisor with its Bezout pair and the least common multiple, or `None` if one of them
+/// does not fit.
 pub fn pair_and_multiple(a: i64, b: i64) -> Option<(ExtendedGcd<i64>, i64)>
     ensures { IfSome result (λ r. IsBezoutAnswer a b r.0.gcd r.0.x r.0.y
         × IsLeastCommonMultiple a b r.1) }
@@ -122,8 +124,8 @@ pub fn pair_and_multiple(a: i64, b: i64) -> Option<(ExtendedGcd<i64>, i64)>
     checked::extended_gcd_lcm(a, b)
 }
 
-/// The square root, or -1 if the number is negative.
-pub fn root_or_less(x: i64) -> i64
+/// Returns the square root, or -1 if the number is negative.
+pub fn root_or_minus_one(x: i64) -> i64
     ensures root { pos 0 ≤ℤ x → IsRoot x 2 result }
     ensures less { x <ℤ pos 0 → result ≡ neg_ℤ (pos 1) }
 {
@@ -133,7 +135,7 @@ pub fn root_or_less(x: i64) -> i64
     }
 }
 
-/// The distance down to a smaller number, and 0 to any other.
+/// Returns the distance from `a` down to `b`, or 0 if `b` is larger.
 pub fn distance_down(a: u64, b: u64) -> u64
     ensures { result ≡ a - b }
 {
@@ -143,8 +145,8 @@ pub fn distance_down(a: u64, b: u64) -> u64
     }
 }
 
-/// The product, or the largest number if it does not fit.
-pub fn product_up_to_the_greatest(a: u32, b: u32) -> u32
+/// Returns the product, or `u32::MAX` if it does not fit.
+pub fn product_or_max(a: u32, b: u32) -> u32
     ensures { result ≡ min (a * b) u32.MAX }
 {
     match checked::product(a, b) {
@@ -153,8 +155,8 @@ pub fn product_up_to_the_greatest(a: u32, b: u32) -> u32
     }
 }
 
-/// The negation, or the largest number if it does not fit.
-pub fn negation_up_to_the_greatest(x: i8) -> i8
+/// Returns the negation, or `i8::MAX` if it does not fit.
+pub fn negation_or_max(x: i8) -> i8
     ensures { i8.MIN <ℤ x → result ≡ neg_ℤ x }
 {
     if let Some(negation) = checked::negated(x) {
@@ -164,31 +166,32 @@ pub fn negation_up_to_the_greatest(x: i8) -> i8
     }
 }
 
-/// The greatest common divisor and the turns.
-pub fn divisor_and_turns(a: u64, b: u64) -> (u64, u32)
+/// Returns the greatest common divisor and the number of iterations of its loop.
+pub fn divisor_and_iterations(a: u64, b: u64) -> (u64, u32)
     ensures { IsGreatestCommonDivisor (pos a) (pos b) (pos result.0) }
 {
     a.gcd_counted(&b)
 }
 
-/// The pair of a number and a positive one, and the turns.
-pub fn pair_and_turns(a: i64, b: i64) -> (ExtendedGcd<i64>, u32)
+/// Returns the greatest common divisor with its Bezout pair and the number of iterations of the loop.
+pub fn pair_and_iterations(a: i64, b: i64) -> (ExtendedGcd<i64>, u32)
     requires { pos 0 <ℤ b }
     ensures { IsBezoutAnswer a b result.0.gcd result.0.x result.0.y }
 {
     extended_gcd_counted(a, b)
 }
 
-/// The square root and the turns.
-pub fn root_and_turns(x: u64) -> (u64, u32)
+/// Returns the square root and the number of iterations of its loops, which is less than 6.
+pub fn root_and_iterations(x: u64) -> (u64, u32)
     ensures root { IsRoot (pos x) 2 (pos result.0) }
     ensures turns { result.1 < 6 }
 {
     x.sqrt_counted()
 }
 
-/// The number of choices and the turns, if the number fits.
-pub fn choices_and_turns(n: u64, k: u64) -> (u64, u32)
+/// Returns the number of ways to choose `k` of `n` things and the number of iterations of the loop. The first has to
+/// fit.
+pub fn choices_and_iterations(n: u64, k: u64) -> (u64, u32)
     requires { coefficient n k < 2 ^ 64 }
     ensures choices { result.0 ≡ coefficient n k }
     ensures turns { result.1 ≡ min k (n - k) }
@@ -196,7 +199,8 @@ pub fn choices_and_turns(n: u64, k: u64) -> (u64, u32)
     binomial_counted(n, k)
 }
 
-/// The share of an amount at a rate, rounded down, if it fits. The product need not fit.
+/// Returns the share of an amount at a rate, rounded down, or `None` if `whole` is 0 or the share does not fit. The
+/// product need not fit.
 pub fn share(amount: i64, rate: i64, whole: i64) -> Option<i64>
     ensures { IfSome result (λ q. IsQuotient IsFloored (amount *ℤ rate) whole q) }
 {
@@ -204,14 +208,14 @@ pub fn share(amount: i64, rate: i64, whole: i64) -> Option<i64>
     Some(share)
 }
 
-/// The same, and what is left.
+/// Returns the same at an unsigned type, with the remainder.
 pub fn share_and_rest(amount: u64, rate: u64, whole: u64) -> Option<(u64, u64)>
     ensures { IfSome result (λ r. pos amount *ℤ pos rate ≡ pos r.0 *ℤ pos whole +ℤ pos r.1) }
 {
     checked::product_div_mod_floor(amount, rate, whole)
 }
 
-/// A part of an amount, rounded down, which is there.
+/// Returns a part of an amount, rounded down. It always fits.
 pub fn part_of(amount: i64, part: i64, whole: i64) -> i64
     requires amount { pos 0 ≤ℤ amount }
     requires part { pos 0 ≤ℤ part }
@@ -223,7 +227,7 @@ pub fn part_of(amount: i64, part: i64, whole: i64) -> i64
     part
 }
 
-/// The same at an unsigned type, by a match.
+/// Returns the same at an unsigned type, by a match.
 pub fn natural_part_of(amount: u64, part: u64, whole: u64) -> u64
     requires within { part ≤ whole }
     requires positive { 0 < whole }

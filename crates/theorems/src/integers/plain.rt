@@ -1,5 +1,5 @@
-//! Plain calls at native types. Of most a plain fact on the arguments meets the condition. The clauses of the last ones are in
-//! words of the caller, each by a lemma for callers.
+//! Functions that call `num_integer` at native types. A plain fact on the arguments meets the condition of most
+//! calls. The clauses of the last functions are in words of the caller, and a lemma for callers proves each.
 
 ghost use Rattle.std.specs.Prelude.{◌≡◌, ◌≢◌, ◌↔◌, ◌<◌, ◌%◌, ◌≤ℤ◌, ◌<ℤ◌, ◌+◌, ◌*◌, ◌/◌, ◌≤◌, IfSome, IsTrue, MatchOption, pos, ℕ};
 ghost use Rattle.std.specs.Int.{FitsUnsignedBits};
@@ -12,7 +12,7 @@ ghost use Rattle.num_integer.specs.Row.{row_of};
 
 use num_integer::{ExtendedGcd, Fits, Integer, IterBinomial, Roots, binomial, checked, lcm};
 
-/// Each quotient by a positive number fits.
+/// Returns the quotient by a positive number, which always fits.
 pub fn quotient_by_positive(n: i64, d: i64) -> i64
     requires { pos 0 <ℤ d }
     ensures { IsQuotient IsFloored n d result }
@@ -20,14 +20,14 @@ pub fn quotient_by_positive(n: i64, d: i64) -> i64
     n.div_floor(&d)
 }
 
-/// So does one by a literal but 0 and -1.
+/// Returns the number of whole weeks. The quotient by a literal other than 0 and -1 always fits.
 pub fn weeks(days: i64) -> i64
     ensures { IsQuotient IsFloored days (pos 7) result }
 {
     days.div_floor(&7)
 }
 
-/// At an unsigned type, by any number but 0.
+/// Returns the quotient at an unsigned type. It fits for each divisor except 0.
 pub fn natural_quotient(n: u64, d: u64) -> u64
     requires { d ≢ 0 }
     ensures { IsQuotient IsFloored (pos n) (pos d) (pos result) }
@@ -35,7 +35,7 @@ pub fn natural_quotient(n: u64, d: u64) -> u64
     n.div_floor(&d)
 }
 
-/// There the previous multiple fits too.
+/// Returns the previous multiple at an unsigned type. It fits for each divisor except 0.
 pub fn previous_multiple(n: u64, d: u64) -> u64
     requires { d ≢ 0 }
     ensures { IsMultiple IsFloored (pos n) (pos d) (pos result) }
@@ -43,7 +43,7 @@ pub fn previous_multiple(n: u64, d: u64) -> u64
     n.prev_multiple_of(&d)
 }
 
-/// The greatest common divisor of a number and a positive number fits.
+/// Returns the greatest common divisor of a number and a positive number, which always fits.
 pub fn common_divisor_with_positive(m: i64, n: i64) -> i64
     requires { pos 0 <ℤ n }
     ensures { IsGreatestCommonDivisor m n result }
@@ -51,14 +51,14 @@ pub fn common_divisor_with_positive(m: i64, n: i64) -> i64
     m.gcd(&n)
 }
 
-/// At an unsigned type any two numbers have one that fits.
+/// Returns the greatest common divisor at an unsigned type, which always fits.
 pub fn natural_common_divisor(a: u64, b: u64) -> u64
     ensures { IsGreatestCommonDivisor (pos a) (pos b) (pos result) }
 {
     a.gcd(&b)
 }
 
-/// A number and a positive number have a Bezout pair.
+/// Returns a Bezout pair of a number and a positive number. It always exists.
 pub fn pair_with_positive(m: i64, n: i64) -> ExtendedGcd<i64>
     requires { pos 0 <ℤ n }
     ensures { IsBezoutAnswer m n result.gcd result.x result.y }
@@ -66,15 +66,15 @@ pub fn pair_with_positive(m: i64, n: i64) -> ExtendedGcd<i64>
     m.extended_gcd(&n)
 }
 
-/// A number from 0 up has a square root.
-pub fn side(area: i64) -> i64
+/// Returns the side of the largest square with at most this area. The area is at least 0.
+pub fn side_of_area(area: i64) -> i64
     requires { pos 0 ≤ℤ area }
     ensures { IsRoot area 2 result }
 {
     area.sqrt()
 }
 
-/// A natural number has a root of each degree but 0.
+/// Returns the root of a natural number. There is one of each degree except 0.
 pub fn natural_root(x: u64, degree: u32) -> u64
     requires { degree ≢ 0 }
     ensures { IsRoot (pos x) degree (pos result) }
@@ -82,42 +82,42 @@ pub fn natural_root(x: u64, degree: u32) -> u64
     x.nth_root(degree)
 }
 
-/// A multiple of two numbers of half the bits fits.
+/// Returns the least common multiple of two numbers in a type of twice their bits, where it always fits.
 pub fn common_multiple_in_twice_the_bits(m: u32, n: u32) -> u64
     ensures { IsLeastCommonMultiple (pos m) (pos n) (pos result) }
 {
     u64::from(m).lcm(&u64::from(n))
 }
 
-/// The least common multiple of two literals fits if the one that the prover computes fits.
+/// Returns the least common multiple of two literals. The prover computes it to see that it fits.
 pub fn common_multiple_of_literals() -> u8
     ensures { IsLeastCommonMultiple (pos 200) (pos 50) (pos result) }
 {
     lcm(200, 50)
 }
 
-/// At a signed type too.
+/// Returns the least common multiple of two literals at a signed type.
 pub fn signed_common_multiple_of_literals() -> i64
     ensures { IsLeastCommonMultiple (pos 4) (pos 6) result }
 {
     lcm(4, 6)
 }
 
-/// The next multiple of literals.
+/// Returns the next multiple of literals.
 pub fn next_multiple_of_literals() -> i64
     ensures { IsMultiple IsCeiled (pos 23) (pos 8) result }
 {
     23.next_multiple_of(&8)
 }
 
-/// At an unsigned type too, by the name of the trait.
+/// Returns the next multiple of literals at an unsigned type. The call names the trait.
 pub fn natural_next_multiple_of_literals() -> u64
     ensures { IsMultiple IsCeiled (pos 23) (pos 8) (pos result) }
 {
     Integer::next_multiple_of(&23, &8)
 }
 
-/// Whether a number is even, as `%` says it.
+/// Returns `true` if the number is even. The clause says this with `%`.
 #[tactic(auto, using(num_integer::proofs::ForCallers::divides_is_natural))]
 pub fn is_even(n: u64) -> bool
     ensures { IsTrue result ↔ (n % 2 ≡ 0) }
@@ -125,7 +125,7 @@ pub fn is_even(n: u64) -> bool
     n.is_even()
 }
 
-/// A remainder, as `%` says it.
+/// Returns the remainder. The clause says this with `%`.
 pub fn remainder(n: u64, d: u64) -> u64
     requires { 0 < d }
     ensures { result ≡ n % d }
@@ -133,7 +133,7 @@ pub fn remainder(n: u64, d: u64) -> u64
     n.mod_floor(&d)
 }
 
-/// The choices of 4 out of 9: a coefficient of literals.
+/// Returns the number of ways to choose 4 of 9 things. It is a binomial coefficient of literals.
 #[tactic(auto, unfolding(num_integer::specs::Coefficient::coefficient))]
 pub fn choices_of_4_out_of_9() -> u8
     ensures { result ≡ 126 }
@@ -141,7 +141,7 @@ pub fn choices_of_4_out_of_9() -> u8
     binomial(9, 4)
 }
 
-/// A row of a literal.
+/// Returns the row of Pascal's triangle of a literal.
 #[tactic(auto, unfolding(num_integer::specs::Coefficient::coefficient))]
 pub fn row_of_three() -> IterBinomial<u8>
     ensures { result ≡ row_of (pos 3) }
@@ -149,7 +149,8 @@ pub fn row_of_three() -> IterBinomial<u8>
     IterBinomial::new(3)
 }
 
-/// The greatest common divisor of two numbers of which five calls have an answer.
+/// Returns the greatest common divisor of two numbers, or `None` if one of five calls returns `None` or the last sum
+/// is `a`.
 pub fn divisor_after_five_calls(a: i64, b: i64) -> Option<i64>
     ensures { IfSome result (λ g. IsGreatestCommonDivisor a b g) }
 {
@@ -163,7 +164,7 @@ pub fn divisor_after_five_calls(a: i64, b: i64) -> Option<i64>
 
 // ---- in words of the caller
 
-/// What each pays of a bill, and what is left, as `/` and `%` say it.
+/// Returns what each person pays of a bill and what is left. The clauses say this with `/` and `%`.
 #[tactic(auto, using(num_integer::proofs::ForCallers::division_is_natural))]
 pub fn split_bill(total: u64, people: u64) -> (u64, u64)
     requires { 0 < people }
@@ -173,7 +174,7 @@ pub fn split_bill(total: u64, people: u64) -> (u64, u64)
     total.div_mod_floor(&people)
 }
 
-/// A quotient, as `/` says it.
+/// Returns the quotient. The clause says this with `/`.
 pub fn share(total: u64, people: u64) -> u64
     requires { 0 < people }
     ensures { result ≡ total / people }
@@ -181,7 +182,7 @@ pub fn share(total: u64, people: u64) -> u64
     total.div_floor(&people)
 }
 
-/// A remainder of which the range alone is said.
+/// Returns the remainder. The clause states only its range.
 pub fn remainder_below(n: i64, d: i64) -> i64
     requires { pos 0 <ℤ d }
     ensures { (pos 0 ≤ℤ result) × (result <ℤ d) }
@@ -189,7 +190,7 @@ pub fn remainder_below(n: i64, d: i64) -> i64
     n.mod_floor(&d)
 }
 
-/// A signed sum of remainders, which fits whatever the year is.
+/// Returns a signed sum of remainders, which fits for every year.
 pub fn moon_sum(year: i64) -> i64
     ensures { (pos 15 ≤ℤ result) × (result <ℤ pos 460) }
 {
@@ -199,7 +200,7 @@ pub fn moon_sum(year: i64) -> i64
     19 * golden + century + leap + 15
 }
 
-/// The side of the largest square of at most `tiles` tiles.
+/// Returns the side of the largest square of at most `tiles` tiles.
 #[tactic(auto, using(num_integer::proofs::ForCallers::root_by_squares))]
 pub fn side_of_square(tiles: u64) -> u64
     ensures enough { result * result ≤ tiles }
@@ -208,7 +209,7 @@ pub fn side_of_square(tiles: u64) -> u64
     tiles.sqrt()
 }
 
-/// The side of the largest tile that fills both sides of a room. Each side is at most 100.
+/// Returns the side of the largest tile that fills a room. Each side of the room is at most 100.
 pub fn tile(width: u64, length: u64) -> u64
     requires width { width ≤ 100 }
     requires length { length ≤ 100 }
@@ -217,9 +218,9 @@ pub fn tile(width: u64, length: u64) -> u64
     width.gcd(&length)
 }
 
-/// How many revolutions of each bring two gears back to where they began, or `None` if the common multiple of their
-/// teeth does not fit.
-pub fn turns(a: u32, b: u32) -> Option<(u32, u32)>
+/// Returns the smallest positive numbers of revolutions that bring two gears back to where they began. Returns `None`
+/// if the least common multiple of their numbers of teeth does not fit.
+pub fn revolutions(a: u32, b: u32) -> Option<(u32, u32)>
     requires a { 0 < a }
     requires b { 0 < b }
     ensures { MatchOption result

@@ -1,3 +1,4 @@
+-- Both numbers are divided by the magnitude of the result of `signed_gcd`.
 use Rattle.std.proofs.lemmas.Bool.{iff_false}
 use Rattle.applied.proofs.ReducedPairs.{reduced_by_gcd}
 use Rattle.applied.proofs.SignedDivisors.{magnitude_positive}
@@ -5,4 +6,4 @@ use Rattle.applied.proofs.coprime.reduced.Goals as goal
 
 pub returns-else-is_zero-clause-reduced : goal.returns-else-is_zero-clause-reduced
 returns-else-is_zero-clause-reduced g c =
-    reduced_by_gcd (magnitude_positive _ (iff_false c.is_zero.ensures c.if-is_zero.false)) c.common_divisor-divisor.ensures.magnitude c.part_of.ensures.part c.part_of-else-is_zero.ensures.part
+    reduced_by_gcd (magnitude_positive _ (iff_false c.is_zero.ensures c.if-is_zero.false)) c.signed_gcd-divisor.ensures.magnitude c.divided_by_magnitude.ensures.product c.divided_by_magnitude-else-is_zero.ensures.product

@@ -1,3 +1,4 @@
+-- Each iteration divides the rest by the base. When the rest is below the base, the number of divisions is the logarithm.
 use Rattle.std.proofs.Common.{arith}
 use Rattle.num_integer.proofs.ForCallers.{from_not_less, linear, operator_quotient_fits}
 use Rattle.applied.proofs.Logarithms.{below_bound, divided_first, divided_last, divided_next, divided_smaller, few_divisions}

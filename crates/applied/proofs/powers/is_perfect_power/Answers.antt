@@ -1,3 +1,4 @@
+-- The loop tries the degrees up to 63. Below 2^64, a power of a higher degree is a square too.
 use Rattle.std.specs.Prelude.{◌≡◌}
 use Rattle.std.proofs.Common.{arith, inl, inr, refl}
 use Rattle.std.proofs.lemmas.Bool.{cases_lt}

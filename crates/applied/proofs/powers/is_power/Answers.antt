@@ -1,15 +1,16 @@
+-- `is_power` compares n with the power of its root. The root of a power is exact.
 use Rattle.std.proofs.Common.{◌∙◌, sym}
 use Rattle.num_integer.proofs.ForCallers.{within_fits}
-use Rattle.applied.proofs.ExactPowers.{power_of_root_of_power, power_of_root_within}
+use Rattle.applied.proofs.ExactPowers.{root_of_power_is_exact, power_of_root_in_range}
 use Rattle.applied.proofs.powers.is_power.Goals as goal
 
 pub pow-requires : goal.pow-requires
-pow-requires g c = λ _. within_fits g.met.T.Integer.range_law c.requires.in_range (power_of_root_within c.nth_root.ensures.root)
+pow-requires g c = λ _. within_fits g.met.T.Integer.range_law c.requires.in_range (power_of_root_in_range c.nth_root.ensures.root)
 
 pub returns : goal.returns
 returns g c =
     let equal = g.met.T.Number.eq_law c.pow.result c.args.n g.met.T.Integer.exact_law in
     let power = c.pow.ensures.value g.met.T.Integer.exact_law in (
       λ h. (g.T.Number.value c.nth_root.result, sym power ∙ equal.0 (sym c.eq.ensures ∙ h)),
-      λ x. c.eq.ensures ∙ equal.1 (power ∙ power_of_root_of_power x.0 c.requires.degree x.1 c.nth_root.ensures.root),
+      λ x. c.eq.ensures ∙ equal.1 (power ∙ root_of_power_is_exact x.0 c.requires.degree x.1 c.nth_root.ensures.root),
     )

@@ -1,3 +1,4 @@
+-- `is_square` compares n with the square of its root.
 use Rattle.std.proofs.Common.{◌∙◌, sym}
 use Rattle.num_integer.proofs.ForCallers.{square_root_of_square}
 use Rattle.applied.proofs.powers.is_square.Goals as goal

@@ -1,3 +1,4 @@
+-- The square of the root is at most n, so the product and the difference are in range.
 use Rattle.std.proofs.Common.{arith, inl}
 use Rattle.num_integer.proofs.ForCallers.{linear, within_fits}
 use Rattle.applied.proofs.Logarithms.{square_rest}

@@ -1,6 +1,7 @@
+-- The result of `signed_gcd_of` is negated if it is negative.
 use Rattle.std.proofs.Common.{arith}
 use Rattle.num_integer.proofs.ForCallers.{from_test, sizes}
-use Rattle.applied.proofs.ListDivisors.{checked_gcd_of, gcd_of_answer}
+use Rattle.applied.proofs.ListDivisors.{checked_gcd_of, gcd_of_result}
 use Rattle.applied.proofs.lists.checked.gcd_of.Goals as goal
 
 pub returns-then-is_negative : goal.returns-then-is_negative
@@ -11,4 +12,4 @@ returns-then-is_negative g c =
 pub returns-else-is_negative : goal.returns-else-is_negative
 returns-else-is_negative g c =
     let up = from_test c.is_negative.ensures c.if-is_negative.false in
-    gcd_of_answer g.T.Number.fits c.signed_gcd_of-divisor.ensures.magnitude (omega (arith, sizes)) c.signed_gcd_of-divisor.ensures.in_range
+    gcd_of_result g.T.Number.fits c.signed_gcd_of-divisor.ensures.magnitude (omega (arith, sizes)) c.signed_gcd_of-divisor.ensures.in_range

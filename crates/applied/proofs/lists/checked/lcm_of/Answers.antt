@@ -1,12 +1,14 @@
+-- A list with a 0 has the least common multiple 0. Otherwise the loop keeps that of the numbers so far: if one of these does not fit, that of
+-- the whole list does not fit either.
 use Rattle.std.proofs.Common.{refl}
 use Rattle.std.proofs.lemmas.List.{take_all}
-use Rattle.applied.proofs.ListMultiples.{lcm_of_answer, lcm_of_next, lcm_of_none, lcm_of_unfit, lcm_of_with_zero}
+use Rattle.applied.proofs.ListMultiples.{lcm_of_result, lcm_of_next, lcm_of_none, lcm_of_out_of_range, lcm_of_with_zero}
 use Rattle.applied.proofs.lists.checked.lcm_of.Goals as goal
 
 pub returns-then-has_zero : goal.returns-then-has_zero
 returns-then-has_zero g c =
     let found = c.if-has_zero.ensures.zero refl in
-    lcm_of_answer g.T.Number.fits c.zero.ensures.in_range (rw c.zero.ensures.value (lcm_of_with_zero g.T.Number.value c.args.numbers.now found.0 found.1 found.2))
+    lcm_of_result g.T.Number.fits c.zero.ensures.in_range (rw c.zero.ensures.value (lcm_of_with_zero g.T.Number.value c.args.numbers.now found.0 found.1 found.2))
 
 pub loop-number-init : goal.loop-number-init
 loop-number-init g c = record { in_range = c.one-multiple.ensures.in_range; so_far = rw c.one-multiple.ensures.value lcm_of_none }
@@ -17,7 +19,7 @@ lcm-requires-clause-y_in_range g c = rw (← c.number-item.is) at (c.requires.in
 pub returns-in_err-multiple : goal.returns-in_err-multiple
 returns-in_err-multiple g c =
     rw c.from_residual.ensures
-    (lcm_of_unfit g.T.Number.value c.args.numbers.now c.loop-number.number-index g.met.T.Integer.range_law (c.if-has_zero.ensures.none refl)
+    (lcm_of_out_of_range g.T.Number.value c.args.numbers.now c.loop-number.number-index g.met.T.Integer.range_law (c.if-has_zero.ensures.none refl)
     c.loop-number.invariant.so_far c.loop-number-test.true c.number-item.is c.in_err-multiple.ensures)
 
 pub loop-number-preserved : goal.loop-number-preserved
@@ -28,5 +30,5 @@ loop-number-preserved g c = record {
 
 pub returns : goal.returns
 returns g c =
-    lcm_of_answer g.T.Number.fits c.loop-number.invariant.in_range
+    lcm_of_result g.T.Number.fits c.loop-number.invariant.in_range
     (rw (take_all c.loop-number.number-index c.args.numbers.now c.loop-number-test.false) at c.loop-number.invariant.so_far)

@@ -1,3 +1,4 @@
+-- The loop keeps a number whose magnitude is the greatest common divisor of the numbers so far.
 use Rattle.std.proofs.lemmas.List.{take_all}
 use Rattle.applied.proofs.ListDivisors.{gcd_of_next, gcd_of_none}
 use Rattle.applied.proofs.lists.checked.signed_gcd_of.Goals as goal
@@ -5,15 +6,15 @@ use Rattle.applied.proofs.lists.checked.signed_gcd_of.Goals as goal
 pub loop-number-init : goal.loop-number-init
 loop-number-init g c = record { in_range = c.zero-divisor.ensures.in_range; so_far = rw c.zero-divisor.ensures.value gcd_of_none }
 
-pub common_divisor-divisor-requires : goal.common_divisor-divisor-requires
-common_divisor-divisor-requires g c =
+pub signed_gcd-divisor-requires : goal.signed_gcd-divisor-requires
+signed_gcd-divisor-requires g c =
     let all = c.requires c.loop-number.number-index c.number-item.result c.loop-number-test.true in
     record { in_range = (c.loop-number.invariant.in_range, rw (← c.number-item.is) at all) }
 
 pub loop-number-preserved : goal.loop-number-preserved
 loop-number-preserved g c = record {
-  in_range = c.common_divisor-divisor.ensures.in_range;
-  so_far = gcd_of_next g.T.Number.value c.args.numbers.now c.loop-number.number-index (g.T.Number.value c.loop-number.divisor) (g.T.Number.value c.common_divisor-divisor.result) c.loop-number.invariant.so_far c.loop-number-test.true c.number-item.is c.common_divisor-divisor.ensures.magnitude;
+  in_range = c.signed_gcd-divisor.ensures.in_range;
+  so_far = gcd_of_next g.T.Number.value c.args.numbers.now c.loop-number.number-index (g.T.Number.value c.loop-number.divisor) (g.T.Number.value c.signed_gcd-divisor.result) c.loop-number.invariant.so_far c.loop-number-test.true c.number-item.is c.signed_gcd-divisor.ensures.magnitude;
 }
 
 pub returns-clause-magnitude : goal.returns-clause-magnitude

@@ -17,25 +17,25 @@ placed first place after is = omega (arith, ints)
 pub returns-then-is_in_year : goal.returns-then-is_in_year
 returns-then-is_in_year c =
     let year = c.ranges.year in
-    let thursday = simp to_z-of_z at c.thursday_of_iso_week-thursday.ensures.weekday in
-    let first = c.thursday_of_iso_week-thursday.ensures.from in
-    let last = c.thursday_of_iso_week-thursday.ensures.before in
-    let fits : FitsSigned w64 c.thursday_of_iso_week-thursday.result = omega (arith, ints) in
+    let thursday = simp to_z-of_z at c.days_to_thursday_of_week-thursday.ensures.weekday in
+    let first = c.days_to_thursday_of_week-thursday.ensures.from in
+    let last = c.days_to_thursday_of_week-thursday.ensures.before in
+    let fits : FitsSigned w64 c.days_to_thursday_of_week-thursday.result = omega (arith, ints) in
     let (inside, under) = (simp to_z-of_z at c.if-is_in_year.ensures).0 refl in
     let found = day_of_week {year = c.args.year} {week = c.args.week} c.args.weekday thursday first last inside under in
-    let day = simp to_z-of_z at c.day_of_week.ensures.value in
-    let day_fits : FitsSigned w64 c.day_of_week.result = few_days c.day_of_week.ensures.from c.day_of_week.ensures.below in
-    let same = placed (first_day c.args.year) c.thursday_of_iso_week-thursday.result ((weekday_number c.args.weekday + 6) % 7) day in
+    let day = simp to_z-of_z at c.days_to_weekday.ensures.value in
+    let day_fits : FitsSigned w64 c.days_to_weekday.result = few_days c.days_to_weekday.ensures.from c.days_to_weekday.ensures.below in
+    let same = placed (first_day c.args.year) c.days_to_thursday_of_week-thursday.result ((weekday_number c.args.weekday + 6) % 7) day in
     let near = simp to_z-of_z at c.in_nearby_year.ensures in
     day_or_none c.in_nearby_year.result c.args.weekday (subst (λ (t : ℤ). IsDayOfIsoWeek t c.args.year c.args.week c.args.weekday) same found) near
 
 pub returns-else-is_in_year : goal.returns-else-is_in_year
 returns-else-is_in_year c = λ day y k h y_fits.
     let year = c.ranges.year in
-    let first = c.thursday_of_iso_week-thursday.ensures.from in
-    let last = c.thursday_of_iso_week-thursday.ensures.before in
-    let fits : FitsSigned w64 c.thursday_of_iso_week-thursday.result = omega (arith, ints) in
-    let thursday = simp to_z-of_z at c.thursday_of_iso_week-thursday.ensures.weekday in
+    let first = c.days_to_thursday_of_week-thursday.ensures.from in
+    let last = c.days_to_thursday_of_week-thursday.ensures.before in
+    let fits : FitsSigned w64 c.days_to_thursday_of_week-thursday.result = omega (arith, ints) in
+    let thursday = simp to_z-of_z at c.days_to_thursday_of_week-thursday.ensures.weekday in
     let out = simp to_z-of_z at c.if-is_in_year.ensures in
     let clash = out.1 (no_day {year = c.args.year} {week = c.args.week} thursday first last k.in_week) in
     cc

@@ -9,14 +9,14 @@ use Rattle.calendar.proofs.date.Date.iso_week.Goals as goal
 pub returns-in_err-year-clause-week : goal.returns-in_err-year-clause-week
 returns-in_err-year-clause-week c =
     let year : FitsSigned w64 c.args.self.now.year = search rules in
-    let place : FitsSigned w64 c.thursday_of_week.result = omega (arith, ints) in
+    let place : FitsSigned w64 c.days_to_thursday_of_date.result = omega (arith, ints) in
     let none = simp to_z-of_z at c.in_err-year.ensures in
-    rw c.from_residual.ensures (λ y week k fits. none y (subst (λ (t : ℤ). HasDay y t) (same_thursday k.of_week c.thursday_of_week.ensures.of_week) k.of_year) fits)
+    rw c.from_residual.ensures (λ y week k fits. none y (subst (λ (t : ℤ). HasDay y t) (same_thursday k.of_week c.days_to_thursday_of_date.ensures.of_week) k.of_year) fits)
 
 pub returns-clause-week : goal.returns-clause-week
 returns-clause-week c =
     let year : FitsSigned w64 c.args.self.now.year = search rules in
     let own : FitsSigned w64 c.in_ok-year.year = search rules in
-    let fits : FitsSigned w64 c.thursday_of_week.result = omega (arith, ints) in
+    let fits : FitsSigned w64 c.days_to_thursday_of_date.result = omega (arith, ints) in
     let (within, place) = simp to_z-of_z at c.in_ok-year.ensures in
-    simp to_z-of_z (week_of c.thursday_of_week.ensures.of_week within place refl)
+    simp to_z-of_z (week_of c.days_to_thursday_of_date.ensures.of_week within place refl)

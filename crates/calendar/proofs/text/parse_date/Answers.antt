@@ -1,0 +1,47 @@
+use Rattle.std.specs.Prelude.{◌≡◌, ℤ, Some, FitsSigned}
+use Rattle.std.specs.Int.{w64}
+use Rattle.std.proofs.Common.{ap, refl, rules, sym, ◌∙◌}
+use Rattle.std.proofs.lemmas.Int.{to_z-of_z}
+use Rattle.calendar.proofs.DateTexts.{made_date, only_number, small_parts}
+use Rattle.calendar.proofs.text.parse_date.Goals as goal
+
+pub returns-in_err-front : goal.returns-in_err-front
+returns-in_err-front c = λ date fits. (
+  λ e. absurd (cc),
+  λ e. absurd (c.in_err-front.ensures _ _ (small_parts date).1 e),
+)
+
+pub returns-in_err-year : goal.returns-in_err-year
+returns-in_err-year c = λ date fits. (
+  λ e. absurd (cc),
+  λ e.
+      let front = only_number c.args.text.now _ _ _ _ c.in_ok-front.ensures.0 (small_parts date).1 c.in_ok-front.ensures.1 e in
+      absurd (c.in_err-year.ensures _ _ (small_parts date).0 front.0),
+)
+
+pub returns-in_err-parse_year : goal.returns-in_err-parse_year
+returns-in_err-parse_year c = λ date fits. (
+  λ e. absurd (cc),
+  λ e.
+      let front = only_number c.args.text.now _ _ _ _ c.in_ok-front.ensures.0 (small_parts date).1 c.in_ok-front.ensures.1 e in
+      let year = only_number c.in_ok-front.front.now _ _ _ _ c.in_ok-year.ensures.0 (small_parts date).0 c.in_ok-year.ensures.1 front.0 in
+      let read = (c.parse_year.ensures date.year fits).1 year.0 in
+      absurd (cc c.in_err-parse_year.was),
+)
+
+pub returns : goal.returns
+returns c =
+    let own : FitsSigned w64 c.in_ok-parse_year.field-0 = search rules in
+    let made = simp to_z-of_z at c.new.ensures in
+    λ date fits. (
+      λ e.
+          let parts = rw e at made in
+          let year = (c.parse_year.ensures date.year fits).0 (c.in_ok-parse_year.was ∙ ap (λ (y : ℤ). Some y) (sym parts.year_is)) in
+          c.in_ok-front.ensures.1 ∙ rw (c.in_ok-year.ensures.1, year, parts.month_is, parts.day_is) refl,
+      λ e.
+          let front = only_number c.args.text.now _ _ _ _ c.in_ok-front.ensures.0 (small_parts date).1 c.in_ok-front.ensures.1 e in
+          let year = only_number c.in_ok-front.front.now _ _ _ _ c.in_ok-year.ensures.0 (small_parts date).0 c.in_ok-year.ensures.1 front.0 in
+          let read = (c.parse_year.ensures date.year fits).1 year.0 in
+          let same : c.in_ok-parse_year.field-0 ≡ date.year = cc (c.in_ok-parse_year.was) in
+          made_date c.new.result date made same year.1 front.1,
+    )

@@ -1,9 +1,0 @@
-use Rattle.std.proofs.lemmas.Int.{to_z-of_z}
-use Rattle.calendar.specs.Dates.{number_of}
-use Rattle.calendar.proofs.Laws.{easter_is_only}
-use Rattle.theorems.proofs.dates.only_easter.Goals as goal
-
-pub returns : goal.returns
-returns c =
-    let year = c.ranges.year in
-    λ day h. easter_is_only c.args.year day (number_of c.easter.result) h (simp to_z-of_z at c.easter.ensures.easter)
