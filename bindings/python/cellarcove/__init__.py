@@ -133,6 +133,12 @@ class IsoWeek(NamedTuple):
     week: int
 
 
+class _Tuple(tuple):  # type: ignore[type-arg]
+    """A class of tuples, by which the calls make those of the others."""
+
+    __slots__ = ()
+
+
 class _Parts(NamedTuple):
     year: int
     month: int
@@ -197,6 +203,6 @@ def _out_of_range(number: SupportsIndex, kind: str) -> OverflowError:
 
 
 _calls._install({
-    'refusal': _refusal, 'out_of_range': _out_of_range, 'Fraction': Fraction, 'new_tuple': tuple.__new__, 'array': array.array,
-    'Date': Date, 'ExtendedGcd': ExtendedGcd, 'Solutions': Solutions, 'IsoWeek': IsoWeek,
+    'refusal': _refusal, 'out_of_range': _out_of_range, 'Fraction': Fraction, 'Tuple': _Tuple, 'array': array.array, 'Date': Date,
+    'ExtendedGcd': ExtendedGcd, 'Solutions': Solutions, 'IsoWeek': IsoWeek,
 })

@@ -63,8 +63,9 @@ typedef struct {
 } call;
 
 /* What the package installs. */
-static PyObject *refusal, *out_of_range, *new_fraction, *new_tuple, *new_array;
+static PyObject *refusal, *out_of_range, *new_fraction, *new_array;
 static PyObject *class_date, *class_gcd, *class_solutions, *class_week;
+static newfunc new_tuple;
 static PyObject *name_numerator, *name_denominator, *name_year, *name_month, *name_day, *name_out;
 
 static Py_ssize_t size_of(char kind) {
@@ -89,8 +90,14 @@ static PyObject *tuple_of(PyObject *class, Py_ssize_t count, PyObject **items) {
     if (tuple == NULL || class == NULL) {
         return tuple;
     }
-    result = PyObject_CallFunctionObjArgs(new_tuple, class, tuple, NULL);
-    Py_DECREF(tuple);
+    PyObject *args = PyTuple_New(1);
+    if (args == NULL) {
+        Py_DECREF(tuple);
+        return NULL;
+    }
+    PyTuple_SetItem(args, 0, tuple);
+    result = new_tuple((PyTypeObject *)class, args, NULL);
+    Py_DECREF(args);
     return result;
 }
 
@@ -810,11 +817,15 @@ static PyObject *install(PyObject *module, PyObject *from) {
         PyErr_SetString(PyExc_TypeError, "no dictionary");
         return NULL;
     }
+    static PyObject *class_tuple;
     if (keep(from, "refusal", &refusal) || keep(from, "out_of_range", &out_of_range) || keep(from, "Fraction", &new_fraction) ||
-        keep(from, "new_tuple", &new_tuple) || keep(from, "array", &new_array) || keep(from, "Date", &class_date) ||
+        keep(from, "Tuple", &class_tuple) || keep(from, "array", &new_array) || keep(from, "Date", &class_date) ||
         keep(from, "ExtendedGcd", &class_gcd) || keep(from, "Solutions", &class_solutions) || keep(from, "IsoWeek", &class_week)) {
         return NULL;
     }
+    /* `tuple.__new__` without its test of the class. The stable ABI of 3.9 gives the slots of classes that Python makes. */
+    void *slot = PyType_GetSlot((PyTypeObject *)class_tuple, Py_tp_new);
+    memcpy(&new_tuple, &slot, sizeof slot);
     Py_RETURN_NONE;
 }
 
