@@ -33,5 +33,5 @@ module _ {C P : Type 0} (pair : C → P) (Has : P → Type 0) (congruences : Lis
 -- what all pairs have, that of a congruence has
 pub copied_has : {C P : Type 0} (pair : C → P) (Has : P → Type 0) (congruences : List C) (i : ℕ) (c : C) → i < length congruences → All Has (map pair congruences) → Has (pair (get_or congruences i c))
 copied_has pair Has congruences i c within all =
-    let long = length-map pair congruences in
+    let long : length (map pair congruences) ≡ length congruences = length-map congruences pair in
     subst Has (get_or-map pair congruences i c (pair c) within) (All-get_or Has (map pair congruences) i (pair c) (omega (arith, long)) all)

@@ -4,6 +4,8 @@ use Rattle.std.proofs.Common.{◌∙◌, arith, inl, inr, refl, sym}
 use Rattle.num_integer.specs.Least.{IsLeastFrom}
 use Rattle.modular.specs.CommonSolutions.{MatchCommonSolution}
 use Rattle.modular.specs.Congruences.{SolvesEach}
+use Rattle.modular.specs.declared.common_solutions.CommonSolution.{CommonSolution}
+use Rattle.modular.specs.declared.common_solutions.CommonSolution.TheVariants.{Never, Beyond, At}
 use Rattle.cellarcove_c.specs.Answers.{Refuses}
 use Rattle.cellarcove_c.specs.Congruences.{HavePositiveModuli, IsBeyond, IsNever, IsNextOfSeveral}
 use Rattle.cellarcove_c.specs.Statuses.{Either, bad_modulus, common_solution_of, no_solution, not_fitting, outside}
@@ -40,3 +42,9 @@ module _ {X : Type 0} (value : X → ℤ) (fits : ℤ → Type 0) (from : ℤ) (
     modulus_is_bad = (λ same. absurd (no_third (refuses (λ zero. absurd (omega (arith, same, zero)))).1 (λ e. absurd (omega (arith, e))) (λ e. absurd (omega (arith, e))) same), λ (_, bad). absurd (bad positive));
     refusal = λ refused. let (zeros, why) = refuses refused in (zeros, inr (inr why));
   }
+
+-- what a solution has beside being in range
+pub without_range : {X : Type 0} (Without Beyond_ : Type 0) (Fits Is : X → Type 0) (found : CommonSolution X) → MatchCommonSolution found Without Beyond_ (λ t. Fits t × Is t) → MatchCommonSolution found Without Beyond_ Is
+without_range Without Beyond_ Fits Is Never h = h
+without_range Without Beyond_ Fits Is Beyond h = h
+without_range Without Beyond_ Fits Is (At t) h = h.1
