@@ -133,7 +133,7 @@ class IsoWeek(NamedTuple):
     week: int
 
 
-class _Tuple(tuple):  # type: ignore[type-arg]
+class _Tuple(tuple[int, ...]):
     """A class of tuples, by which the calls make those of the others."""
 
     __slots__ = ()
