@@ -1,5 +1,5 @@
 -- What a call for several congruences returns.
-use Rattle.std.specs.Prelude.{◌≡◌, ◌<◌, ◌≤◌, ℕ, ℤ, List, length}
+use Rattle.std.specs.Prelude.{◌≡◌, ◌≤◌, ℕ, ℤ, List, length}
 use Rattle.std.proofs.Common.{◌∙◌, arith, inl, inr, refl, sym}
 use Rattle.num_integer.specs.Least.{IsLeastFrom}
 use Rattle.modular.specs.CommonSolutions.{MatchCommonSolution}
@@ -8,7 +8,7 @@ use Rattle.modular.specs.declared.common_solutions.CommonSolution.{CommonSolutio
 use Rattle.modular.specs.declared.common_solutions.CommonSolution.TheVariants.{Never, Beyond, At}
 use Rattle.cellarcove_c.specs.Answers.{Refuses}
 use Rattle.cellarcove_c.specs.Congruences.{HavePositiveModuli, IsBeyond, IsNever, IsNextOfSeveral}
-use Rattle.cellarcove_c.specs.Statuses.{Either, bad_modulus, common_solution_of, no_solution, not_fitting, outside}
+use Rattle.cellarcove_c.specs.Statuses.{Either, bad_modulus, common_solution_of, no_solution, not_fitting}
 
 -- a status that is one of two is no third
 no_third : {status one two three : ℕ} → Either one two status → ¬ (one ≡ three) → ¬ (two ≡ three) → ¬ (status ≡ three)
@@ -16,14 +16,6 @@ no_third (inl same) first second third = first (sym same ∙ third)
 no_third (inr same) first second third = second (sym same ∙ third)
 
 module _ {X : Type 0} (value : X → ℤ) (fits : ℤ → Type 0) (from : ℤ) (pairs : List (X × X)) (zero_value : X) where
-  pub too_many_is : 64 < length pairs → IsNextOfSeveral value fits from pairs zero_value outside zero_value
-  too_many_is many = record {
-    answer = λ few _. absurd (omega (arith, many, few));
-    too_many = (λ _. many, λ _. refl);
-    modulus_is_bad = (λ same. absurd (omega (arith, same)), λ (few, _). absurd (omega (arith, many, few)));
-    refusal = λ _. (refl, inl refl);
-  }
-
   pub bad_modulus_is : length pairs ≤ 64 → ¬ (HavePositiveModuli value pairs) → IsNextOfSeveral value fits from pairs zero_value bad_modulus zero_value
   bad_modulus_is few bad = record {
     answer = λ _ positive. absurd (bad positive);

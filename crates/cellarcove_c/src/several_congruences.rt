@@ -1,6 +1,6 @@
 //! The next number that solves several congruences.
 
-ghost use Rattle.std.specs.Prelude.{◌≡◌, ◌↔◌, ◌<◌, ◌^◌, pos, length, FitsSigned, IsTrue};
+ghost use Rattle.std.specs.Prelude.{◌≡◌, ◌↔◌, ◌<◌, ◌<ℤ◌, ◌^◌, pos, length, FitsSigned, IsTrue};
 ghost use Rattle.std.specs.Int.{FitsUnsignedBits, w64};
 ghost use Rattle.std.specs.List.{All};
 ghost use Rattle.cellarcove_c.specs.Congruences.{HavePositiveModuli, IsNextOfSeveral, i64_pairs, u64_pairs};
@@ -80,6 +80,7 @@ fn copy_signed(congruences: &[I64Congruence], pairs: &mut [(i64, i64)]) -> bool
     requires { length pairs.old ≡ length congruences.now }
     ensures pairs { IsTrue result → pairs.new ≡ i64_pairs congruences.now }
     ensures in_range { IsTrue result → All (λ c. FitsSigned w64 c.0 × FitsSigned w64 c.1) pairs.new }
+    ensures each_positive { IsTrue result → All (λ c. pos 0 <ℤ c.1) pairs.new }
     ensures positive { IsTrue result ↔ HavePositiveModuli (λ x. x) (i64_pairs congruences.now) }
 {
     for i in 0..congruences.len() {
@@ -97,6 +98,7 @@ fn copy_unsigned(congruences: &[U64Congruence], pairs: &mut [(u64, u64)]) -> boo
     requires { length pairs.old ≡ length congruences.now }
     ensures pairs { IsTrue result → pairs.new ≡ u64_pairs congruences.now }
     ensures in_range { IsTrue result → All (λ c. (c.0 < 2 ^ 64) × (c.1 < 2 ^ 64)) pairs.new }
+    ensures each_positive { IsTrue result → All (λ c. pos 0 <ℤ pos c.1) pairs.new }
     ensures positive { IsTrue result ↔ HavePositiveModuli (λ x. pos x) (u64_pairs congruences.now) }
 {
     for i in 0..congruences.len() {

@@ -1,24 +1,23 @@
-use Rattle.std.specs.Prelude.{◌≤◌, pos, length, FitsSigned}
+use Rattle.std.specs.Prelude.{◌≡◌, ◌≤◌, pos, length, FitsSigned}
 use Rattle.std.specs.Int.{w64}
 use Rattle.std.proofs.Common.{arith}
 use Rattle.std.proofs.lemmas.Bool.{iff_false}
 use Rattle.std.proofs.lemmas.Int.{to_z-of_z}
 use Rattle.std.proofs.lemmas.List.{length-map}
 use Rattle.cellarcove_c.specs.Congruences.{i64_pairs}
-use Rattle.cellarcove_c.specs.declared.several_congruences.I64Congruence.{I64Congruence}
 use Rattle.cellarcove_c.proofs.SeveralCongruences.{bad_modulus_is, common_solution_is, without_range}
 use Rattle.cellarcove_c.proofs.several_congruences.cellarcove_next_common_solution_of_i64.Goals as goal
 
 pub returns-then-not-copy_signed : goal.returns-then-not-copy_signed
 returns-then-not-copy_signed c =
-    let long = length-map c.args.congruences.now (λ (x : I64Congruence). (x.residue, x.modulus)) in
+    let long : length (i64_pairs c.args.congruences.now) ≡ length c.args.congruences.now = length-map c.args.congruences.now _ in
     let few : length (i64_pairs c.args.congruences.now) ≤ 64 = omega (arith, long) in
     let bad = iff_false c.copy_signed.ensures.positive c.if-not-copy_signed.true in
     rw c.none-then-not-copy_signed.ensures (bad_modulus_is (λ x. x) (FitsSigned w64) c.args.from (i64_pairs c.args.congruences.now) (pos 0) few bad)
 
 pub returns : goal.returns
 returns c =
-    let long = length-map c.args.congruences.now (λ (x : I64Congruence). (x.residue, x.modulus)) in
+    let long : length (i64_pairs c.args.congruences.now) ≡ length c.args.congruences.now = length-map c.args.congruences.now _ in
     let few : length (i64_pairs c.args.congruences.now) ≤ 64 = omega (arith, long) in
     let positive = c.copy_signed.ensures.positive.0 c.if-not-copy_signed.false in
     let copied = c.copy_signed.ensures.pairs c.if-not-copy_signed.false in
