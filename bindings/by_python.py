@@ -12,6 +12,7 @@ I64, U64 = (-(2**63), 2**63 - 1), (0, 2**64 - 1)
 DAY_0 = datetime.date(1970, 1, 1).toordinal()
 CYCLE = 400                                     # years, after which the calendar repeats
 DAYS_OF_CYCLE = 146_097
+MOST_CONGRUENCES = 64                           # of a call with a list of them
 WIDEST_CHOICE = 34                              # of 2k things, k of them can be chosen in more than 2**64 ways from here on
 
 
@@ -130,6 +131,21 @@ def rank(bounds, choice, n):
     return fitting(bounds, sum(coefficient(number, place) for place, number in enumerate(choice, 1)))
 
 
+def choice_of_rank(_, number, n, count):
+    """The choice of this rank: its largest number is the largest of which so many choices lie below it, and so on."""
+    if coefficient(n, count) <= number:
+        return OUTSIDE
+    found, bound = [], n
+    for place in range(count, 0, -1):
+        low = 0
+        while low + 1 < bound:
+            middle = (low + bound) // 2
+            low, bound = (middle, bound) if coefficient(middle, place) <= number else (low, middle)
+        found.insert(0, low)
+        number, bound = number - coefficient(low, place), low
+    return tuple(found)
+
+
 # ---- residues and congruences
 
 def modulo(make):
@@ -181,6 +197,20 @@ def next_common_solution(bounds, start, a, m, b, n):
         return BAD_MODULUS
     found = common(a, m, b, n)
     return NO_SOLUTION if found is None else fitting(bounds, start + (found[0] - start) % found[1])
+
+
+def next_common_solution_of(bounds, start, congruences):
+    if len(congruences) > MOST_CONGRUENCES:
+        return OUTSIDE
+    if any(modulus <= 0 for _, modulus in congruences):
+        return BAD_MODULUS
+    first, step = 0, 1
+    for residue, modulus in congruences:
+        found = common(first, step, residue, modulus)
+        if found is None:
+            return NO_SOLUTION
+        first, step = found
+    return fitting(bounds, start + (first - start) % step)
 
 
 def next_congruent(bounds, start, first, step):
@@ -382,6 +412,7 @@ RESULTS = {
     'binomial': binomial,
     'multinomial': multinomial,
     'rank': rank,
+    'choice_of_rank': choice_of_rank,
     'sum_modulo': modulo(lambda a, b, m: a + b),
     'difference_modulo': modulo(lambda a, b, m: a - b),
     'product_modulo': modulo(lambda a, b, m: a * b),
@@ -394,6 +425,7 @@ RESULTS = {
     'previous_congruent': previous_congruent,
     'count_congruent': count_congruent,
     'next_common_solution': next_common_solution,
+    'next_common_solution_of': next_common_solution_of,
     'fraction_new': lambda bounds, num, den: of_fractions(parts)(bounds, (num, den)),
     'fraction_add': of_fractions(lambda a, b: parts(a + b)),
     'fraction_sub': of_fractions(lambda a, b: parts(a - b)),

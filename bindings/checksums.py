@@ -71,10 +71,37 @@ static cellarcove_date any_cellarcove_date(void) {{
 }}
 
 /* Up to COUNTS numbers, and how many there are. */
-static size_t fill(uint64_t *counts) {{
+static size_t fill_uint64_t(uint64_t *counts) {{
     size_t count = random_bits() % (COUNTS + 1);
     for (size_t i = 0; i < count; i++) {{
         counts[i] = random_bits() % 16 == 0 ? any() : random_bits() % 12;
+    }}
+    return count;
+}}
+
+static size_t fill_int64_t(int64_t *counts) {{
+    size_t count = random_bits() % (COUNTS + 1);
+    for (size_t i = 0; i < count; i++) {{
+        counts[i] = random_bits() % 16 == 0 ? any_int64_t() : (int64_t)(random_bits() % 23) - 11;
+    }}
+    return count;
+}}
+
+/* Congruences, most of which have small moduli. */
+static size_t fill_cellarcove_u64_congruence(cellarcove_u64_congruence *counts) {{
+    size_t count = random_bits() % (COUNTS + 1);
+    for (size_t i = 0; i < count; i++) {{
+        counts[i].residue = random_bits() % 4;
+        counts[i].modulus = random_bits() % 16 == 0 ? any() : random_bits() % 12 + (random_bits() % 8 > 0);
+    }}
+    return count;
+}}
+
+static size_t fill_cellarcove_i64_congruence(cellarcove_i64_congruence *counts) {{
+    size_t count = random_bits() % (COUNTS + 1);
+    for (size_t i = 0; i < count; i++) {{
+        counts[i].residue = (int64_t)(random_bits() % 7) - 3;
+        counts[i].modulus = random_bits() % 16 == 0 ? any_int64_t() : (int64_t)(random_bits() % 12 + (random_bits() % 8 > 0));
     }}
     return count;
 }}
@@ -115,12 +142,10 @@ def arguments(parameters):
     for number, parameter in enumerate(parameters):
         kind, name = parameter.rsplit(' ', 1)
         if name.startswith('*'):
-            lines.append('uint64_t counts[COUNTS];')
-            names.append('counts')
-        elif kind == 'size_t':
-            lines.append('size_t length = fill(counts);')
-            names.append('length')
-        else:
+            kind = kind.removeprefix('const ')
+            lines += [f'{kind} counts[COUNTS] = {{0}};', f'size_t length = fill_{kind}(counts);']
+            names += ['counts', 'length']
+        elif kind != 'size_t':
             lines.append(f'{kind} x{number} = any_{kind}();')
             names.append(f'x{number}')
     return lines, names
@@ -129,16 +154,18 @@ def arguments(parameters):
 def function(call):
     """The function that calls an export."""
     lines, names = arguments(list(c_parameters(call)))
-    paths = [path for path, _ in EXPORTS().leaves(call.result)]
     numbers = {status.name: status.number for status in EXPORTS().statuses}
+    allowed = {0, *(numbers[re.match('`([A-Z_]+)`', sentence).group(1)] for sentence in call.statuses)}
+    looked = f'look("{call.symbol}", %s, {sum(1 << status for status in allowed)}u, %s);'
     body = ['start_call();', *lines, f'{c_type(call.result)} result = {call.symbol}({", ".join(names)});']
-    if EXPORTS().has_status(call):
-        allowed = {0, *(numbers[re.match('`([A-Z_]+)`', sentence).group(1)] for sentence in call.statuses)}
-        zero = ' && '.join(f'result{path} == 0' for path in paths)
-        body += [f'look("{call.symbol}", result.status, {sum(1 << status for status in allowed)}u, {zero});', 'add(result.status);']
+    if call.writes:
+        body += [looked % ('result', 'true'), 'add(result);', 'for (size_t i = 0; i < length; i++) add(counts[i]);']
+    elif EXPORTS().has_status(call):
+        paths = [path for path, _ in EXPORTS().leaves(call.result)]
+        body += [looked % ('result.status', ' && '.join(f'result{path} == 0' for path in paths)), 'add(result.status);']
+        body += [f'add((uint64_t)result{path});' for path in paths]
     else:
-        body.append('results++;')
-    body += [f'add((uint64_t)result{path});' for path in paths]
+        body += ['results++;'] + [f'add((uint64_t)result{path});' for path, _ in EXPORTS().leaves(call.result)]
     return f'''
 static void sum_{call.symbol}(uint64_t seed) {{
     start(seed);

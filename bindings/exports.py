@@ -15,8 +15,8 @@ VERSION = re.search(r'^version = "(.*)"', (HERE.parent / 'rust' / 'c' / 'Cargo.t
 NUMBERS = {f'{sign}{bits}': f'{"u" if sign == "u" else ""}int{bits}_t' for sign in 'iu' for bits in (8, 16, 32, 64)}
 NUMBERS |= {'usize': 'size_t', 'bool': 'bool'}
 # The order of the modules in the header. One that is not here comes last.
-ORDER = ('operators', 'division', 'divisors', 'lists', 'roots', 'powers', 'coefficients', 'ranking', 'modulo', 'congruences', 'fractions',
-         'rounding', 'dates', 'weekdays', 'years')
+ORDER = ('operators', 'division', 'divisors', 'lists', 'roots', 'powers', 'coefficients', 'ranking', 'modulo', 'congruences',
+         'several_congruences', 'fractions', 'rounding', 'dates', 'weekdays', 'years')
 
 DOC = r'((?:^[ ]*///[^\n]*\n)*)'
 STATUS = re.compile(DOC + r'^pub const (\w+): u32 = (\d+);', re.M)
@@ -29,6 +29,15 @@ class Field(NamedTuple):
 
     name: str
     kind: str
+
+    @property
+    def item(self):
+        """The type of the items of a slice, or None."""
+        return self.kind.removeprefix('&mut ').lstrip('&')[1:-1] if self.kind.endswith(']') else None
+
+    @property
+    def is_written(self):
+        return self.kind.startswith('&mut ')
 
 
 class Status(NamedTuple):
@@ -60,7 +69,12 @@ class Call(NamedTuple):
 
     @property
     def has_slice(self):
-        return any(parameter.kind.startswith('&[') for parameter in self.parameters)
+        return any(parameter.item for parameter in self.parameters)
+
+    @property
+    def writes(self):
+        """Whether the call writes its result through a pointer, and returns the status alone."""
+        return any(parameter.is_written for parameter in self.parameters)
 
 
 class Exports(NamedTuple):
@@ -70,7 +84,7 @@ class Exports(NamedTuple):
     headings: dict  # of modules
 
     def has_status(self, call):
-        return call.result in self.structs and self.structs[call.result].fields[0].name == 'status'
+        return call.writes or (call.result in self.structs and self.structs[call.result].fields[0].name == 'status')
 
     def leaves(self, kind):
         """The numbers of a value of a type, as pairs of a path and a type, without its status."""
@@ -94,12 +108,13 @@ def c_type(kind):
 
 def c_parameters(call):
     """The parameters of a call in C. A slice is a pointer and a length."""
-    for name, kind in call.parameters:
-        if kind.startswith('&['):
-            yield f'const {c_type(kind[2:-1])} *{name}'
+    for parameter in call.parameters:
+        name = parameter.name
+        if parameter.item:
+            yield f'{"" if parameter.is_written else "const "}{c_type(parameter.item)} *{name}'
             yield f'size_t {name}_len'
         else:
-            yield f'{c_type(kind)} {name}'
+            yield f'{c_type(parameter.kind)} {name}'
 
 
 def fields(text):

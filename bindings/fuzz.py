@@ -113,38 +113,70 @@ def alone(name, forms, numbers):
     call = next(form for form in forms if not two or (form.form == 'i64') == any(value < 0 for value in follows))
     if not all(RANGES[kind][0] <= value <= RANGES[kind][1] for value, kind in zip(numbers, cells(call))):
         return 0
+    judge_one(name, call, arguments, arguments)
+    return 1
+
+
+def listed(call):
+    """Random items of the list of a call: numbers with a common divisor, or congruences, most of which have a solution."""
+    kind, width = next(parameter.item for parameter in call.parameters if parameter.item), random.randint(1, 64)
+    low, common = RANGES[call.form][0], random.choice((1, 1, 6, 2**20))
+
+    def some():
+        if random.random() < 0.2:
+            return number(call.form, width)
+        return random.randrange(-6 if low else 0, 12) * common
+    if kind in RANGES:
+        return [some() for _ in range(random.randrange(8))]
+    solution, count = some(), random.choice((0, 1, 2, 3, 3, 5, 8, 64, 65))
+    moduli = [random.choice((2, 3, 4, 5, 7, 9, 11, 13, random.randrange(1, 2**random.randint(1, 62)))) for _ in range(count)]
+    if random.random() < 0.1 and moduli:
+        moduli[-1] = some()
+    return [(solution % m if m > 0 and random.random() < 0.97 else some(), m) for m in moduli]
+
+
+def of_list(name, forms):
+    """A call with a list of numbers, or with an array of them, and of the numbers beside it."""
+    call = random.choice(forms)
+    items, width = listed(call), random.randint(1, 64)
+    others = [number(parameter.kind, width) for parameter in call.parameters if not parameter.item]
+    if call.name == 'rank' and random.random() < 0.7:
+        items = sorted(set(items))
+    place = next(k for k, parameter in enumerate(call.parameters) if parameter.item)
+    in_buffer = call.parameters[place].item in RANGES and random.random() < 0.5
+    given = array.array(LETTERS[call.form], items) if in_buffer else random.choice((items, iter(items)))
+    if not in_buffer and len(forms) == 2:
+        flat = [value for item in [*items, tuple(others)] for value in (item if isinstance(item, tuple) else (item,))]
+        call = next(form for form in forms if (form.form == 'i64') == any(value < 0 for value in flat))
+        if not all(RANGES[call.form][0] <= value <= RANGES[call.form][1] for value in flat):
+            return 0
+    judge_one(name, call, [*others[:place], given, *others[place:]], [*others[:place], items, *others[place:]])
+    return 1
+
+
+def of_written(name, call):
+    """A call that writes as many numbers as its last argument says."""
+    width = random.randint(1, 64)
+    arguments = [number('u64', random.choice((width, 64, 8))) for _ in call.parameters[:-1]] + [random.choice((0, 1, 2, 3, 5, 20))]
+    judge_one(name, call, arguments, arguments)
+    return 1
+
+
+def judge_one(name, call, given, arguments):
+    """Makes a call, and judges what it returns for the arguments."""
     try:
-        status, values = 0, plain(getattr(cellarcove, name)(*arguments))
+        status, values = 0, plain(getattr(cellarcove, name)(*given))
     except cellarcove.Refused as refused:
         status, values = int(refused.status), None
     judge(call, RANGES.get(call.form, I64), arguments, status, values)
-    return 1
-
-
-def of_slice(name, forms):
-    """A call of a list of numbers, or of an array of them, and of the numbers after it."""
-    call, width = random.choice(forms), random.randint(1, 64)
-    kind, common = call.parameters[0].kind[2:-1], random.choice((1, 1, 6, 2**20))
-    numbers = [number(kind, width) if random.random() < 0.2 else random.randrange(12) * common for _ in range(random.randrange(8))]
-    others = [number(parameter.kind, width) for parameter in call.parameters[1:]]
-    if others and random.random() < 0.7:
-        numbers = sorted(set(numbers))
-    given = array.array(LETTERS[kind], numbers)
-    if random.random() < 0.5:
-        given = random.choice((numbers, iter(numbers)))
-        call = forms[-1] if min(numbers, default=0) >= 0 else call
-    try:
-        status, values = 0, plain(getattr(cellarcove, name)(given, *others))
-    except cellarcove.Refused as refused:
-        status, values = int(refused.status), None
-    judge(call, RANGES[call.parameters[0].kind[2:-1]], [numbers, *others], status, values)
-    return 1
 
 
 def of_package(name, forms):
     """Some calls of the package, and how many."""
+    if forms[0].writes:
+        return sum(of_written(name, forms[0]) for _ in range(COUNT // 10))
     if forms[0].has_slice:
-        return sum(of_slice(name, forms) for _ in range(COUNT // 10))
+        return sum(of_list(name, forms) for _ in range(COUNT // 10))
     done = 0
     for call in forms:
         count, taken = of_arrays(name, call)

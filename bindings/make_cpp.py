@@ -12,12 +12,14 @@ RESULTS = {
     'OrderAnswer': 'int', 'DateAnswer': 'date', 'IsoWeekAnswer': 'week_of_year',
 }
 PLAIN = {'i64': 'std::int64_t', 'u64': 'std::uint64_t', 'u32': 'std::uint32_t', 'u8': 'std::uint8_t', 'bool': 'bool', 'Date': 'date',
-         'Fraction': 'fraction'}
+         'Fraction': 'fraction', 'I64Congruence': 'i64_congruence', 'U64Congruence': 'u64_congruence'}
 FROM_C = {'FractionAnswer': 'fraction::from_c(r.value)', 'DateAnswer': 'date::from_c(r.date)', 'Date': 'date::from_c(r)'}
 
 
 def of(call):
     """The result of a form: its type, and the expression that makes it of `r`."""
+    if call.writes:
+        return 'status', ''
     if not EXPORTS().has_status(call):
         plain = PLAIN[call.result]
         return plain, FROM_C.get(call.result, 'r')
@@ -57,20 +59,40 @@ def plain_function(call):
     return f'{comment(call)}[[nodiscard]] inline {of(call)[0]} {call.name}({taken}) {{\n    {body(call)}\n}}\n'
 
 
-def slice_function(call):
-    """The functions of a call with one slice, and numbers after it."""
-    (name, _), *others = call.parameters
-    taken = ''.join(f', {PLAIN[kind]} {other}' for other, kind in others)
-    passed = ''.join(f', {other}' for other, _ in others)
-    return f'''{comment(call)}[[nodiscard]] inline {of(call)[0]} {call.name}(const std::uint64_t *{name}, std::size_t length{taken}) {{
-    auto r = {call.symbol}({name}, length{passed});
-    return {of(call)[1]};
+def pointer(parameter):
+    """The parameters of a slice, and what they pass on."""
+    constant = '' if parameter.is_written else 'const '
+    return f'{constant}{PLAIN[parameter.item]} *{parameter.name}, std::size_t length', f'{parameter.name}, length'
+
+
+def slice_functions(forms):
+    """The functions of a call with a slice, one for each form, and one for a container."""
+    call = forms[0]
+    text = ''
+    for form in forms:
+        pairs = [pointer(p) if p.item else (f'{PLAIN[p.kind]} {p.name}', p.name) for p in form.parameters]
+        called = f'{form.symbol}({", ".join(passed for _, passed in pairs)})'
+        inner = f'return static_cast<status>({called});' if call.writes else f'auto r = {called};\n    return {of(form)[1]};'
+        text += f'''{comment(form)}[[nodiscard]] inline {of(form)[0]} {form.name}({", ".join(taken for taken, _ in pairs)}) {{
+    {inner}
 }}
 
-/// The same for a container of `std::uint64_t` in one piece.
-template <class Numbers>
-[[nodiscard]] auto {call.name}(const Numbers &{name}{taken}) -> decltype({call.name}({name}.data(), {name}.size(){passed})) {{
-    return {call.name}({name}.data(), {name}.size(){passed});
+'''
+    taken, passed, types = [], [], []
+    for k, (p, q) in enumerate(zip(call.parameters, forms[-1].parameters)):
+        if p.item:
+            types.append('Items')
+            taken.append(f'{"" if p.is_written else "const "}Items &{p.name}')
+            passed.append(f'{p.name}.data(), {p.name}.size()')
+        else:
+            types += [f'N{k}'] if p.kind != q.kind else []
+            taken.append(f'{f"N{k}" if p.kind != q.kind else PLAIN[p.kind]} {p.name}')
+            passed.append(p.name)
+    items = ' or '.join(f'`{PLAIN[p.item]}`' for form in forms for p in form.parameters if p.item)
+    return text + f'''/// The same for a container of {items} in one piece.
+template <{", ".join("class " + kind for kind in types)}>
+[[nodiscard]] auto {call.name}({", ".join(taken)}) -> decltype({call.name}({", ".join(passed)})) {{
+    return {call.name}({", ".join(passed)});
 }}
 '''
 
@@ -240,6 +262,10 @@ class date {
     std::uint8_t month_, day_of_month_;
 };
 
+/// The numbers that are `residue` modulo `modulus`.
+using i64_congruence = cellarcove_i64_congruence;
+using u64_congruence = cellarcove_u64_congruence;
+
 namespace detail {
 
 template <class T> constexpr bool is_number = std::is_integral_v<T> && !std::is_same_v<std::remove_cv_t<T>, bool> && sizeof(T) <= 8;
@@ -308,7 +334,7 @@ def hpp():
         signed = next((call for call in forms if call.form == 'i64'), None)
         unsigned = next((call for call in forms if call.form == 'u64'), None)
         if forms[0].has_slice:
-            text += slice_function(forms[0])
+            text += slice_functions(forms)
         else:
             text += template(signed, unsigned) if signed and unsigned else plain_function(forms[0])
         text += '\n'

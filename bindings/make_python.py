@@ -11,6 +11,14 @@ RENAMED = {'fraction_limit_denominator': 'limit_denominator'}
 ALIASES = {'comb': 'binomial', 'isqrt': 'sqrt'}
 PARAMETERS = {'from': 'start', 'to': 'end', 'max': 'max_denominator'}
 OF_MANY = ('gcd', 'lcm')  # which take any count of numbers
+WRITTEN = 'count'          # the parameter in place of an array that is written
+# What a call does that returns in Python what C writes.
+DOCS = {
+    'choice_of_rank': 'The choice of `count` numbers below `n` that has the rank, as a tuple: it is the inverse of `rank`. For 2, 5 and 3'
+                      ' it is (0, 2, 3).',
+    'next_common_solution_of': 'Returns the smallest number from `from` on that solves each of up to 64 congruences, which are pairs of a residue and'
+                               ' a modulus. No product of the moduli need fit. For 10 and [(1, 4), (3, 6), (0, 7)] it is 21.',
+}
 
 LETTERS = {'i64': 'q', 'u64': 'Q', 'u32': 'I', 'u8': 'B', 'i32': 'i', 'bool': '?'}
 TYPES = {'q': 'int64_t', 'Q': 'uint64_t', 'I': 'uint32_t', 'B': 'uint8_t', 'i': 'int32_t', '?': 'uint8_t'}
@@ -27,7 +35,7 @@ def public_calls():
 
 
 def parameter_names(call):
-    return [PARAMETERS.get(parameter.name, parameter.name) for parameter in call.parameters]
+    return [WRITTEN if parameter.is_written else PARAMETERS.get(parameter.name, parameter.name) for parameter in call.parameters]
 
 
 def cells(call):
@@ -38,6 +46,8 @@ def cells(call):
 def results(call):
     """The paths and types of the numbers that it returns. A week of ISO 8601 has its year first."""
     found = EXPORTS().leaves(call.result)
+    if call.writes:
+        return [('', parameter.item) for parameter in call.parameters if parameter.is_written]
     return sorted(found, key=lambda leaf: leaf[0] != '.year') if call.result.startswith('IsoWeek') else found
 
 
@@ -133,7 +143,7 @@ def raised(call):
 def docstring(name, forms):
     """What a call does, its errors, and its arrays."""
     call = forms[0]
-    text = re.sub('^Returns `true` if', 'Whether', call.doc)
+    text = re.sub('^Returns `true` if', 'Whether', DOCS.get(name, call.doc))
     text = re.sub('^Returns (.)', lambda found: found.group(1).upper(), text)
     for old, new in PARAMETERS.items():
         text = text.replace(f'`{old}`', f'`{new}`')
@@ -158,10 +168,10 @@ def call_text(name, forms):
     forms_text = f'NULL, {named["i64"]}, {named["u64"]}' if two else f'&form_{call.symbol.removeprefix("cellarcove_")}, NULL, NULL'
     shapes = ''.join(SHAPES.get(parameter.kind, 'n') for parameter in call.parameters)
     names = ', '.join(f'"{parameter}"' for parameter in parameter_names(call))
-    of_many = '''    if (count != 2 || names != NULL) {
-        return of_any_count(&call_NAME, args, count, names);
-    }
-'''.replace('NAME', name) if name in OF_MANY else ''
+    of_many = f'''    if (count != 2 && names == NULL) {{
+        return of_any_count(py_{name}_of, args, count);
+    }}
+''' if name in OF_MANY else ''
     return f'''static const call call_{name} = {{"{name}", {len(call.parameters)}, {{{names}}}, "{shapes}",
     {bools(divides(call))}, {bools(follows)}, {forms_text}}};
 
@@ -173,36 +183,69 @@ static PyObject *py_{name}(PyObject *module, PyObject *const *args, Py_ssize_t c
 '''
 
 
-def slice_text(name, call):
-    """The function of a call with one slice of unsigned numbers, and unsigned numbers after it."""
-    first, *others = (parameter.kind for parameter in call.parameters)
-    assert first == '&[u64]' and set(others) <= {'u64'} and call.result == 'U64Answer', call
-    count = len(others)
-    head = f'PyObject *const *args, Py_ssize_t given) {{\n    PyObject *object = given == {count + 1} ? args[0] : NULL;' if others else 'PyObject *object) {'
-    taken = f'''    cell others[{count}];
-    if (others_of("{name}", args, given, {count}, others) != 0) {{
-        return NULL;
-    }}
-''' if others else ''
-    passed = ''.join(f', others[{k}].u' for k in range(count))
-    return f'''static PyObject *py_{name}(PyObject *module, {head}
+def list_parameter(call):
+    """The place of the list of a call, and how many numbers each of its items has."""
+    place = next(k for k, parameter in enumerate(call.parameters) if parameter.item)
+    return place, len(EXPORTS().leaves(call.parameters[place].item))
+
+
+def list_text(name, forms):
+    """The function of a call with a list, whose other parameters are numbers of the form."""
+    count, (place, width) = len(forms[0].parameters), list_parameter(forms[0])
+    for form in forms:
+        assert {parameter.kind for parameter in form.parameters if not parameter.item} <= {form.form} and not form.writes, form
+    several = count > 1
+    head = 'PyObject *const *args, Py_ssize_t given' if several else 'PyObject *object'
+    taken = f'args, given, {count}' if several else '&object, 1, 1'
+
+    def case(form):
+        others = iter(range(count))
+        passed = ', '.join(f'of.items, (size_t)of.count' if parameter.item else f'others[{next(others)}].{form.form[0]}'
+                           for parameter in form.parameters)
+        return f'''        {c_type(form.result)} r;
+        Py_BEGIN_ALLOW_THREADS
+        r = {form.symbol}({passed});
+        Py_END_ALLOW_THREADS
+        return of_list(&of, r.status, {OBJECTS[form.form]}(r.value));
+'''
+    signed = f'''    if (of.is_signed) {{
+{case(forms[0])}    }}
+''' if len(forms) == 2 else ''
+    return f'''static PyObject *py_{name}(PyObject *module, {head}) {{
     (void)module;
-{taken}    Py_buffer view;
-    uint64_t *numbers;
-    Py_ssize_t count;
-    if (numbers_of(object, "{name}", &view, &numbers, &count) != 0) {{
+    list of;
+    cell others[{count}];
+    if (read_list("{name}", {taken}, {place}, {width}, {"true" if len(forms) == 2 else "false"}, &of, others) != 0) {{
         return NULL;
     }}
-    cellarcove_u64_answer r;
-    Py_BEGIN_ALLOW_THREADS
-    r = {call.symbol}(numbers != NULL ? numbers : view.buf, (size_t)count{passed});
-    Py_END_ALLOW_THREADS
-    if (numbers != NULL) {{
-        PyMem_Free(numbers);
-    }} else {{
-        PyBuffer_Release(&view);
+{signed}    {{
+{case(forms[-1])}    }}
+}}
+
+'''
+
+
+def written_text(name, call):
+    """The function of a call that writes unsigned numbers, whose other parameters are unsigned numbers before it."""
+    count = len(call.parameters)
+    assert call.parameters[-1].is_written and {parameter.item or parameter.kind for parameter in call.parameters} == {'u64'}, call
+    return f'''static PyObject *py_{name}(PyObject *module, PyObject *const *args, Py_ssize_t given) {{
+    (void)module;
+    cell numbers[{count}];
+    if (unsigned_numbers("{name}", args, given, {count}, numbers) != 0) {{
+        return NULL;
     }}
-    return r.status == CELLARCOVE_ANSWER ? PyLong_FromUnsignedLongLong(r.value) : refused(r.status, false);
+    uint64_t *written = room_for(numbers[{count - 1}].u);
+    if (written == NULL) {{
+        return NULL;
+    }}
+    uint32_t status;
+    Py_BEGIN_ALLOW_THREADS
+    status = {call.symbol}({", ".join(f"numbers[{k}].u" for k in range(count - 1))}, written, (size_t)numbers[{count - 1}].u);
+    Py_END_ALLOW_THREADS
+    PyObject *result = status == CELLARCOVE_ANSWER ? tuple_of_numbers(written, (Py_ssize_t)numbers[{count - 1}].u) : refused(status, false);
+    PyMem_Free(written);
+    return result;
 }}
 
 '''
@@ -227,12 +270,13 @@ def calls_c():
 #define TO(type, place) (((type *)(void *)out[place])[k])
 
 '''
-    for name, forms in public_calls():
-        if forms[0].has_slice:
-            text += slice_text(name, forms[0])
-        else:
-            text += ''.join(map(form_text, forms)) + call_text(name, forms)
     named = public_calls()
+    for name, forms in named:
+        if forms[0].has_slice:
+            text += written_text(name, forms[0]) if forms[0].writes else list_text(name, forms)
+    for name, forms in named:
+        if not forms[0].has_slice:
+            text += ''.join(map(form_text, forms)) + call_text(name, forms)
     methods = ''.join(method(name, forms) for name, forms in named)
     methods += ''.join(method(alias, dict(named)[name]).replace(f'py_{alias}', f'py_{name}') for alias, name in ALIASES.items())
     return text + f'''static PyMethodDef methods[] = {{
@@ -287,13 +331,21 @@ def array_types(kind, chosen):
     return ' | '.join(f'tuple[{", ".join([NUMBER] * first + [ARRAY] + [each] * (leaves - first - 1))}]' for first in range(leaves))
 
 
+def listed_type(parameter):
+    """The type of a parameter of a call with a list."""
+    if parameter.item is None or parameter.is_written:
+        return NUMBER
+    leaves = len(EXPORTS().leaves(parameter.item))
+    return f'{ARRAY} | Iterable[{NUMBER}]' if leaves == 1 else f'Iterable[tuple[{", ".join([NUMBER] * leaves)}]]'
+
+
 def stub(name, forms):
     call = forms[0]
     names = parameter_names(call)
     doc = ''
     if call.has_slice:
-        others = ''.join(f', {other}: {NUMBER}' for other in names[1:])
-        return f'def {name}({names[0]}: Array | Iterable[SupportsIndex]{others}, /) -> int: ...\n'
+        taken = ', '.join(f'{given}: {listed_type(parameter)}' for given, parameter in zip(names, call.parameters))
+        return f'def {name}({taken}, /) -> {"tuple[int, ...]" if call.writes else "int"}: ...\n'
     if name in OF_MANY:
         return f'''@overload
 def {name}(x: {ARRAY}, y: {ARRAY} | {NUMBER}, *, out: Outputs = ...) -> {array_result(call)}: ...

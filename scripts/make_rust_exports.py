@@ -67,19 +67,22 @@ class Exports(Eraser):
 
     def slice(self, item, name, first, last):
         """A slice of a call for C arrives as a pointer and a length. The pointer of no items is not looked at."""
-        if self.at(first) + self.at(first + 1) != '&[':
+        written = self.at(first + 1) == 'mut'
+        opening = first + 1 + written
+        if self.at(first) + self.at(opening) != '&[' or self.at(item.word - 2) != 'extern':
             return
-        if self.at(item.word - 2) != 'extern' or last != first + 3:
-            self.refuse(name, 'a slice that is no parameter of a call for C with numbers')
-        word = self.at(name)
-        self.write(first, f'*const {self.at(first + 2)}, {word}_len: usize')
+        if last != opening + 2:
+            self.refuse(name, 'a slice of a call for C whose items have no type of one word')
+        word, kind, mut = self.at(name), self.at(opening + 1), 'mut ' * written
+        self.write(first, f'*{mut or "const "}{kind}, {word}_len: usize')
         self.drop(first + 1, last)
+        promise = 'so many items, which nothing else reads or writes' if written else 'so many items, which do not change'
         self.write(item.open, f'''{{
             let {word} = if {word}_len == 0 {{
-                &[]
+                &{mut}[]
             }} else {{
-                // SAFETY: the caller promises that the pointer leads to so many numbers, which do not change.
-                unsafe {{ core::slice::from_raw_parts({word}, {word}_len) }}
+                // SAFETY: the caller promises that the pointer leads to {promise}.
+                unsafe {{ core::slice::from_raw_parts{"_mut" * written}({word}, {word}_len) }}
             }};''')
 
     def readers(self, item, name, first, last):
@@ -147,10 +150,10 @@ def write(out, crates):
 
 # A form that is not known, by file, what it replaces, and what the refusal says.
 PLANTED = (
-    ('a slice of a function that C does not call', 'coefficients', 'fn reason_for_counts(n: i64, k: i64)',
-     'fn reason_for_counts(n: i64, k: &[u64])', 'a slice that is no parameter of a call for C with numbers'),
     ('a slice of no numbers', 'coefficients', 'counts: &[u64]', 'counts: &[crate::answers::U64Answer]',
-     'a slice that is no parameter of a call for C with numbers'),
+     'a slice of a call for C whose items have no type of one word'),
+    ('a slice of slices', 'ranking', 'choice: &mut [u64]', 'choice: &mut [&[u64]]',
+     'a slice of a call for C whose items have no type of one word'),
     ('an attribute', 'roots', '#[unsafe(no_mangle)]', '#[unsafe(link_section)]', 'the attribute `unsafe`'),
     ('another layout', 'dates', '#[repr(C)]', '#[repr(packed)]', 'the attribute `repr`'),
     ('a macro', 'roots', '    cbrt(x)\n', '    panic!("{x}")\n', 'the macro `panic!`'),

@@ -2,7 +2,7 @@
 /** @file
  *  Cellarcove: proved integer arithmetic, fractions and dates, for C11 and C++17.
  *
- *  Each call may be made with any numbers: it never traps, allocates or reads memory that it was not given, and it keeps
+ *  Each call may be made with any numbers: it never traps, allocates or touches memory that it was not given, and it keeps
  *  nothing. A call that may have no result returns a struct whose first field is the status. If that is not
  *  CELLARCOVE_ANSWER, every other field is 0. If several reasons hold, the status is the one that the comment of the call
  *  names first. Of two fractions, both reasons of the first come before those of the second.
@@ -21,12 +21,15 @@
 #if defined(__GNUC__)
 #define CELLARCOVE_CONST __attribute__((const, warn_unused_result))
 #define CELLARCOVE_PURE __attribute__((pure, warn_unused_result))
+#define CELLARCOVE_WRITES __attribute__((warn_unused_result))
 #elif defined(__cplusplus) && __cplusplus >= 201703L
 #define CELLARCOVE_CONST [[nodiscard]]
 #define CELLARCOVE_PURE [[nodiscard]]
+#define CELLARCOVE_WRITES [[nodiscard]]
 #else
 #define CELLARCOVE_CONST
 #define CELLARCOVE_PURE
+#define CELLARCOVE_WRITES
 #endif
 
 #ifdef __cplusplus
@@ -134,6 +137,18 @@ typedef struct {
     uint64_t first;
     uint64_t step;
 } cellarcove_u64_solutions;
+
+/** A congruence: the numbers that are residue modulo modulus. */
+typedef struct {
+    int64_t residue;
+    int64_t modulus;
+} cellarcove_i64_congruence;
+
+/** A congruence: the numbers that are residue modulo modulus. */
+typedef struct {
+    uint64_t residue;
+    uint64_t modulus;
+} cellarcove_u64_congruence;
 
 /** The parts of a fraction. As an argument it need not be reduced; as a result it is, and den is positive. */
 typedef struct {
@@ -291,10 +306,21 @@ CELLARCOVE_CONST cellarcove_i64_bezout cellarcove_extended_gcd_i64(int64_t x, in
 
 /* ---- Common divisors and multiples of lists ---- */
 
+/** The greatest common divisor of the numbers, which is not negative. That of -12, 18 and 8 is 2, and that of no
+ *  numbers is 0. numbers points to numbers_len numbers, aligned, which do not change during the call; it may be
+ *  null if numbers_len is 0. CELLARCOVE_NOT_FITTING if it is 2^63, as that of -2^63 and 0. */
+CELLARCOVE_PURE cellarcove_i64_answer cellarcove_gcd_of_i64(const int64_t *numbers, size_t numbers_len);
+
 /** The greatest common divisor of the numbers, which always fits. That of 12, 18 and 8 is 2, and that of no
  *  numbers is 0. numbers points to numbers_len numbers, aligned, which do not change during the call; it may be
  *  null if numbers_len is 0. The status is always CELLARCOVE_ANSWER. */
 CELLARCOVE_PURE cellarcove_u64_answer cellarcove_gcd_of_u64(const uint64_t *numbers, size_t numbers_len);
+
+/** The least common multiple of the numbers, which is not negative. That of -4, 6 and 10 is 60, that of numbers of
+ *  which one is 0 is 0, and that of no numbers is 1. numbers points to numbers_len numbers, aligned, which do not
+ *  change during the call; it may be null if numbers_len is 0. CELLARCOVE_NOT_FITTING if the multiple does not
+ *  fit. */
+CELLARCOVE_PURE cellarcove_i64_answer cellarcove_lcm_of_i64(const int64_t *numbers, size_t numbers_len);
 
 /** The least common multiple of the numbers. That of 4, 6 and 10 is 60, that of numbers of which one is 0 is 0,
  *  and that of no numbers is 1. numbers points to numbers_len numbers, aligned, which do not change during the
@@ -376,6 +402,13 @@ CELLARCOVE_PURE cellarcove_u64_answer cellarcove_multinomial_u64(const uint64_t 
  *  CELLARCOVE_OUTSIDE if the numbers do not increase or are not all below n. CELLARCOVE_NOT_FITTING if the rank
  *  does not fit. */
 CELLARCOVE_PURE cellarcove_u64_answer cellarcove_rank_u64(const uint64_t *choice, size_t choice_len, uint64_t n);
+
+/** Writes the choice of numbers below n that has the rank, of as many numbers as choice has, and returns the
+ *  status. For 2, 5 and three numbers it is 0, 2 and 3. If the status is not 0, choice stays as it is. choice
+ *  points to choice_len numbers, aligned, which nothing else reads or writes during the call; it may be null if
+ *  choice_len is 0. CELLARCOVE_OUTSIDE if the rank is not below the number of these choices. */
+CELLARCOVE_WRITES uint32_t cellarcove_choice_of_rank_u64(uint64_t rank, uint64_t n, uint64_t *choice, size_t
+    choice_len);
 
 /* ---- Arithmetic modulo a number ---- */
 
@@ -480,6 +513,24 @@ CELLARCOVE_CONST cellarcove_i64_answer cellarcove_next_common_solution_i64(int64
  *  is no such number. CELLARCOVE_NOT_FITTING if it does not fit. */
 CELLARCOVE_CONST cellarcove_u64_answer cellarcove_next_common_solution_u64(uint64_t from, uint64_t a, uint64_t m,
     uint64_t b, uint64_t n);
+
+/* ---- The next number that solves several congruences ---- */
+
+/** The smallest number from from on that solves each of up to 64 congruences. No product of their moduli need fit.
+ *  For 10, and 1 modulo 4, 3 modulo 6 and 0 modulo 7, it is 21. congruences points to congruences_len congruences,
+ *  aligned, which do not change during the call; it may be null if congruences_len is 0. CELLARCOVE_OUTSIDE if
+ *  there are more congruences. CELLARCOVE_BAD_MODULUS if a modulus is not positive. CELLARCOVE_NO_SOLUTION if
+ *  there is no such number. CELLARCOVE_NOT_FITTING if it does not fit. */
+CELLARCOVE_PURE cellarcove_i64_answer cellarcove_next_common_solution_of_i64(int64_t from, const
+    cellarcove_i64_congruence *congruences, size_t congruences_len);
+
+/** The smallest number from from on that solves each of up to 64 congruences. No product of their moduli need fit.
+ *  For 10, and 1 modulo 4, 3 modulo 6 and 0 modulo 7, it is 21. congruences points to congruences_len congruences,
+ *  aligned, which do not change during the call; it may be null if congruences_len is 0. CELLARCOVE_OUTSIDE if
+ *  there are more congruences. CELLARCOVE_BAD_MODULUS if a modulus is 0. CELLARCOVE_NO_SOLUTION if there is no
+ *  such number. CELLARCOVE_NOT_FITTING if it does not fit. */
+CELLARCOVE_PURE cellarcove_u64_answer cellarcove_next_common_solution_of_u64(uint64_t from, const
+    cellarcove_u64_congruence *congruences, size_t congruences_len);
 
 /* ---- Exact fractions. A fraction that is passed is reduced first, and a part of it that does not fit then is
  * rejected. If both fractions are rejected, the status is that of the first ---- */

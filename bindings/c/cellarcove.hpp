@@ -149,6 +149,10 @@ class date {
     std::uint8_t month_, day_of_month_;
 };
 
+/// The numbers that are `residue` modulo `modulus`.
+using i64_congruence = cellarcove_i64_congruence;
+using u64_congruence = cellarcove_u64_congruence;
+
 namespace detail {
 
 template <class T> constexpr bool is_number = std::is_integral_v<T> && !std::is_same_v<std::remove_cv_t<T>, bool> && sizeof(T) <= 8;
@@ -345,6 +349,13 @@ template <class N0, class N1> [[nodiscard]] auto gcd_lcm(N0 x, N1 y) {
     return r.status == CELLARCOVE_ANSWER ? result<bezout>(bezout{r.gcd, r.x, r.y}) : result<bezout>(static_cast<status>(r.status));
 }
 
+/// The greatest common divisor of the numbers, which is not negative. That of -12, 18 and 8 is 2, and that of no
+/// numbers is 0. status::not_fitting if it is 2^63, as that of -2^63 and 0.
+[[nodiscard]] inline result<std::int64_t> gcd_of(const std::int64_t *numbers, std::size_t length) {
+    auto r = cellarcove_gcd_of_i64(numbers, length);
+    return r.status == CELLARCOVE_ANSWER ? result<std::int64_t>(r.value) : result<std::int64_t>(static_cast<status>(r.status));
+}
+
 /// The greatest common divisor of the numbers, which always fits. That of 12, 18 and 8 is 2, and that of no numbers
 /// is 0.
 [[nodiscard]] inline result<std::uint64_t> gcd_of(const std::uint64_t *numbers, std::size_t length) {
@@ -352,10 +363,17 @@ template <class N0, class N1> [[nodiscard]] auto gcd_lcm(N0 x, N1 y) {
     return r.status == CELLARCOVE_ANSWER ? result<std::uint64_t>(r.value) : result<std::uint64_t>(static_cast<status>(r.status));
 }
 
-/// The same for a container of `std::uint64_t` in one piece.
-template <class Numbers>
-[[nodiscard]] auto gcd_of(const Numbers &numbers) -> decltype(gcd_of(numbers.data(), numbers.size())) {
+/// The same for a container of `std::int64_t` or `std::uint64_t` in one piece.
+template <class Items>
+[[nodiscard]] auto gcd_of(const Items &numbers) -> decltype(gcd_of(numbers.data(), numbers.size())) {
     return gcd_of(numbers.data(), numbers.size());
+}
+
+/// The least common multiple of the numbers, which is not negative. That of -4, 6 and 10 is 60, that of numbers of
+/// which one is 0 is 0, and that of no numbers is 1. status::not_fitting if the multiple does not fit.
+[[nodiscard]] inline result<std::int64_t> lcm_of(const std::int64_t *numbers, std::size_t length) {
+    auto r = cellarcove_lcm_of_i64(numbers, length);
+    return r.status == CELLARCOVE_ANSWER ? result<std::int64_t>(r.value) : result<std::int64_t>(static_cast<status>(r.status));
 }
 
 /// The least common multiple of the numbers. That of 4, 6 and 10 is 60, that of numbers of which one is 0 is 0, and
@@ -365,9 +383,9 @@ template <class Numbers>
     return r.status == CELLARCOVE_ANSWER ? result<std::uint64_t>(r.value) : result<std::uint64_t>(static_cast<status>(r.status));
 }
 
-/// The same for a container of `std::uint64_t` in one piece.
-template <class Numbers>
-[[nodiscard]] auto lcm_of(const Numbers &numbers) -> decltype(lcm_of(numbers.data(), numbers.size())) {
+/// The same for a container of `std::int64_t` or `std::uint64_t` in one piece.
+template <class Items>
+[[nodiscard]] auto lcm_of(const Items &numbers) -> decltype(lcm_of(numbers.data(), numbers.size())) {
     return lcm_of(numbers.data(), numbers.size());
 }
 
@@ -476,8 +494,8 @@ template <class N0, class N1> [[nodiscard]] auto binomial(N0 n, N1 k) {
 }
 
 /// The same for a container of `std::uint64_t` in one piece.
-template <class Numbers>
-[[nodiscard]] auto multinomial(const Numbers &counts) -> decltype(multinomial(counts.data(), counts.size())) {
+template <class Items>
+[[nodiscard]] auto multinomial(const Items &counts) -> decltype(multinomial(counts.data(), counts.size())) {
     return multinomial(counts.data(), counts.size());
 }
 
@@ -490,9 +508,22 @@ template <class Numbers>
 }
 
 /// The same for a container of `std::uint64_t` in one piece.
-template <class Numbers>
-[[nodiscard]] auto rank(const Numbers &choice, std::uint64_t n) -> decltype(rank(choice.data(), choice.size(), n)) {
+template <class Items>
+[[nodiscard]] auto rank(const Items &choice, std::uint64_t n) -> decltype(rank(choice.data(), choice.size(), n)) {
     return rank(choice.data(), choice.size(), n);
+}
+
+/// Writes the choice of numbers below n that has the rank, of as many numbers as choice has, and returns the status.
+/// For 2, 5 and three numbers it is 0, 2 and 3. If the status is not 0, choice stays as it is. status::outside if the
+/// rank is not below the number of these choices.
+[[nodiscard]] inline status choice_of_rank(std::uint64_t rank, std::uint64_t n, std::uint64_t *choice, std::size_t length) {
+    return static_cast<status>(cellarcove_choice_of_rank_u64(rank, n, choice, length));
+}
+
+/// The same for a container of `std::uint64_t` in one piece.
+template <class Items>
+[[nodiscard]] auto choice_of_rank(std::uint64_t rank, std::uint64_t n, Items &choice) -> decltype(choice_of_rank(rank, n, choice.data(), choice.size())) {
+    return choice_of_rank(rank, n, choice.data(), choice.size());
 }
 
 /// a + b modulo m, from 0 to m - 1. For 5, 4 and 7 it is 2. status::bad_modulus if m is not positive.
@@ -636,6 +667,30 @@ template <class N0, class N1, class N2, class N3, class N4> [[nodiscard]] auto n
         auto r = cellarcove_next_common_solution_u64(static_cast<std::uint64_t>(from), static_cast<std::uint64_t>(a), static_cast<std::uint64_t>(m), static_cast<std::uint64_t>(b), static_cast<std::uint64_t>(n));
         return r.status == CELLARCOVE_ANSWER ? result<std::uint64_t>(r.value) : result<std::uint64_t>(static_cast<status>(r.status));
     }
+}
+
+/// The smallest number from from on that solves each of up to 64 congruences. No product of their moduli need fit.
+/// For 10, and 1 modulo 4, 3 modulo 6 and 0 modulo 7, it is 21. status::outside if there are more congruences.
+/// status::bad_modulus if a modulus is not positive. status::no_solution if there is no such number.
+/// status::not_fitting if it does not fit.
+[[nodiscard]] inline result<std::int64_t> next_common_solution_of(std::int64_t from, const i64_congruence *congruences, std::size_t length) {
+    auto r = cellarcove_next_common_solution_of_i64(from, congruences, length);
+    return r.status == CELLARCOVE_ANSWER ? result<std::int64_t>(r.value) : result<std::int64_t>(static_cast<status>(r.status));
+}
+
+/// The smallest number from from on that solves each of up to 64 congruences. No product of their moduli need fit.
+/// For 10, and 1 modulo 4, 3 modulo 6 and 0 modulo 7, it is 21. status::outside if there are more congruences.
+/// status::bad_modulus if a modulus is 0. status::no_solution if there is no such number. status::not_fitting if it
+/// does not fit.
+[[nodiscard]] inline result<std::uint64_t> next_common_solution_of(std::uint64_t from, const u64_congruence *congruences, std::size_t length) {
+    auto r = cellarcove_next_common_solution_of_u64(from, congruences, length);
+    return r.status == CELLARCOVE_ANSWER ? result<std::uint64_t>(r.value) : result<std::uint64_t>(static_cast<status>(r.status));
+}
+
+/// The same for a container of `i64_congruence` or `u64_congruence` in one piece.
+template <class N0, class Items>
+[[nodiscard]] auto next_common_solution_of(N0 from, const Items &congruences) -> decltype(next_common_solution_of(from, congruences.data(), congruences.size())) {
+    return next_common_solution_of(from, congruences.data(), congruences.size());
 }
 
 /// The sum. That of 1/2 and 1/3 is 5/6. status::zero_denominator if a denominator is 0. status::not_fitting if a part

@@ -34,6 +34,7 @@ static void layout(void) {
     CHECK(sizeof(cellarcove_order_answer) == 8);
     CHECK(sizeof(cellarcove_date) == 16 && sizeof(cellarcove_date_answer) == 24);
     CHECK(sizeof(cellarcove_iso_week_answer) == 16);
+    CHECK(sizeof(cellarcove_i64_congruence) == 16 && sizeof(cellarcove_u64_congruence) == 16);
 }
 
 static void words(void) {
@@ -144,6 +145,15 @@ static void lists(void) {
     /* the multiple of the first two does not fit */
     ANSWERS(cellarcove_lcm_of_u64(large, 3), 0);
     ANSWERS(cellarcove_lcm_of_u64(NULL, 0), 1);
+    int64_t mixed[] = {-12, 18, 8}, lowest[] = {INT64_MIN, 0, 6};
+    ANSWERS(cellarcove_gcd_of_i64(mixed, 3), 2);
+    REFUSES(cellarcove_gcd_of_i64(lowest, 2), CELLARCOVE_NOT_FITTING);
+    ANSWERS(cellarcove_gcd_of_i64(lowest, 3), 2);
+    ANSWERS(cellarcove_gcd_of_i64(NULL, 0), 0);
+    ANSWERS(cellarcove_lcm_of_i64(mixed, 3), 72);
+    ANSWERS(cellarcove_lcm_of_i64(lowest, 2), 0);
+    REFUSES(cellarcove_lcm_of_i64(lowest, 1), CELLARCOVE_NOT_FITTING);
+    ANSWERS(cellarcove_lcm_of_i64(NULL, 0), 1);
 }
 
 static void powers(void) {
@@ -190,6 +200,15 @@ static void coefficients(void) {
     REFUSES(cellarcove_rank_u64(equal, 3, 5), CELLARCOVE_OUTSIDE);
     REFUSES(cellarcove_rank_u64(wide, 2, UINT64_MAX), CELLARCOVE_NOT_FITTING);
     ANSWERS(cellarcove_rank_u64(NULL, 0, 0), 0);
+    uint64_t written[] = {7, 7, 7, 7};
+    CHECK(cellarcove_choice_of_rank_u64(2, 5, written, 3) == CELLARCOVE_ANSWER);
+    CHECK(written[0] == 0 && written[1] == 2 && written[2] == 3 && written[3] == 7);
+    CHECK(cellarcove_choice_of_rank_u64(10, 5, written, 3) == CELLARCOVE_OUTSIDE);
+    CHECK(written[0] == 0 && written[1] == 2 && written[2] == 3 && written[3] == 7);
+    CHECK(cellarcove_choice_of_rank_u64(UINT64_MAX, UINT64_MAX, written, 2) == CELLARCOVE_ANSWER);
+    ANSWERS(cellarcove_rank_u64(written, 2, UINT64_MAX), UINT64_MAX);
+    CHECK(cellarcove_choice_of_rank_u64(0, 0, NULL, 0) == CELLARCOVE_ANSWER);
+    CHECK(cellarcove_choice_of_rank_u64(1, 5, NULL, 0) == CELLARCOVE_OUTSIDE);
 }
 
 static void residues(void) {
@@ -208,6 +227,28 @@ static void residues(void) {
     REFUSES(cellarcove_inverse_modulo_i64(4, 6), CELLARCOVE_NO_SOLUTION);
     REFUSES(cellarcove_inverse_modulo_i64(4, -6), CELLARCOVE_BAD_MODULUS);
     ANSWERS(cellarcove_inverse_modulo_u64(3, 7), 5);
+}
+
+static void several_congruences(void) {
+    cellarcove_i64_congruence some[] = {{1, 4}, {3, 6}, {0, 7}, {2, 6}, {1, 0}, {1, -4}}, many[65];
+    ANSWERS(cellarcove_next_common_solution_of_i64(10, some, 3), 21);
+    ANSWERS(cellarcove_next_common_solution_of_i64(-100, some, 3), -63);
+    ANSWERS(cellarcove_next_common_solution_of_i64(-5, NULL, 0), -5);
+    REFUSES(cellarcove_next_common_solution_of_i64(10, some, 4), CELLARCOVE_NO_SOLUTION);
+    REFUSES(cellarcove_next_common_solution_of_i64(10, some, 5), CELLARCOVE_BAD_MODULUS);
+    REFUSES(cellarcove_next_common_solution_of_i64(10, some + 5, 1), CELLARCOVE_BAD_MODULUS);
+    REFUSES(cellarcove_next_common_solution_of_i64(INT64_MAX, some, 3), CELLARCOVE_NOT_FITTING);
+    for (int k = 0; k < 65; k++) {
+        many[k] = some[0];
+    }
+    ANSWERS(cellarcove_next_common_solution_of_i64(2, many, 64), 5);
+    REFUSES(cellarcove_next_common_solution_of_i64(2, many, 65), CELLARCOVE_OUTSIDE);
+    /* no product of the moduli fits */
+    cellarcove_u64_congruence wide[] = {{5, UINT64_MAX}, {5, UINT64_MAX - 1}, {5, UINT64_MAX - 2}, {0, 0}};
+    ANSWERS(cellarcove_next_common_solution_of_u64(0, wide, 3), 5);
+    REFUSES(cellarcove_next_common_solution_of_u64(6, wide, 3), CELLARCOVE_NOT_FITTING);
+    REFUSES(cellarcove_next_common_solution_of_u64(6, wide, 4), CELLARCOVE_BAD_MODULUS);
+    ANSWERS(cellarcove_next_common_solution_of_u64(UINT64_MAX, NULL, 0), UINT64_MAX);
 }
 
 static void congruences(void) {
@@ -410,6 +451,7 @@ int main(void) {
     coefficients();
     residues();
     congruences();
+    several_congruences();
     fractions();
     dates();
     days_and_years();

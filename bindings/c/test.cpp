@@ -48,6 +48,15 @@ static void numbers() {
     CHECK(*cellarcove::gcd_of(std::vector<std::uint64_t>{12, 18, 8}) == 2);
     CHECK(*cellarcove::lcm_of(std::vector<std::uint64_t>{4, 6, 10}) == 60);
     CHECK(cellarcove::lcm_of(std::vector<std::uint64_t>{UINT64_MAX, 2}) == status::not_fitting);
+    CHECK(*cellarcove::gcd_of(std::vector<std::int64_t>{-12, 18, 8}) == 2);
+    CHECK(cellarcove::gcd_of(std::vector<std::int64_t>{INT64_MIN, 0}) == status::not_fitting);
+    CHECK(*cellarcove::lcm_of(std::vector<std::int64_t>{-4, 6, 10}) == 60);
+    std::vector<std::uint64_t> choice(3);
+    CHECK(cellarcove::choice_of_rank(2, 5, choice) == status::answer && choice == std::vector<std::uint64_t>{0, 2, 3});
+    CHECK(cellarcove::choice_of_rank(10, 5, choice) == status::outside && choice == std::vector<std::uint64_t>{0, 2, 3});
+    std::vector<cellarcove::i64_congruence> congruences{{1, 4}, {3, 6}, {0, 7}};
+    CHECK(*cellarcove::next_common_solution_of(10, congruences) == 21 && *cellarcove::next_common_solution_of(-100, congruences) == -63);
+    CHECK(cellarcove::next_common_solution_of(0U, std::vector<cellarcove::u64_congruence>{{1, 4}, {2, 6}}) == status::no_solution);
     CHECK(cellarcove::is_square(144) && cellarcove::is_power(-243, 5) && !cellarcove::is_power(244U, 5));
     CHECK(cellarcove::is_perfect_power(128));
     CHECK(*cellarcove::checked_product(1 << 20, 1 << 20).and_then([](std::int64_t x) { return cellarcove::checked_sum(x, 1); })

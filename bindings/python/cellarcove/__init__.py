@@ -1,9 +1,8 @@
 """Proved integer arithmetic, fractions and dates.
 
 If all numbers of a call are at least 0, they lie below 2**64, and otherwise from -2**63 to 2**63 - 1. `extended_gcd`,
-the parts of fractions, and days, months and years are always from -2**63 to 2**63 - 1; those of `multinomial`,
-`gcd_of`, `lcm_of`, `rank` and `is_perfect_power`, and exponents, are always from 0 to 2**64 - 1, and degrees from 0 to
-2**32 - 1. A number out of its range raises `OverflowError`, and what is no integer raises `TypeError`.
+the parts of fractions, and days, months and years are always from -2**63 to 2**63 - 1; those of `multinomial`, `rank`,
+`choice_of_rank` and `is_perfect_power`, and exponents, are always from 0 to 2**64 - 1, and degrees from 0 to 2**32 - 1. A number out of its range raises `OverflowError`, and what is no integer raises `TypeError`.
 
 If a call has no result, it raises `Refused`, a `ValueError` that has the status. If the reason is that a divisor, a modulus
 or a denominator is 0, it is `DivisionByZero`, which is a `ZeroDivisionError` too. If the reason is that the result does not
@@ -18,7 +17,6 @@ import array
 import datetime
 import enum
 import operator
-from collections.abc import Iterable
 from fractions import Fraction
 from typing import NamedTuple, Protocol, SupportsIndex
 
@@ -135,6 +133,12 @@ class IsoWeek(NamedTuple):
     week: int
 
 
+class _Tuple(tuple[int, ...]):
+    """A class of tuples, by which the calls make those of the others."""
+
+    __slots__ = ()
+
+
 class _Parts(NamedTuple):
     year: int
     month: int
@@ -198,21 +202,7 @@ def _out_of_range(number: SupportsIndex, kind: str) -> OverflowError:
     return OverflowError(f'{shown} is not {_RANGES[kind]}')
 
 
-def _of_many(name: str, numbers: Iterable[SupportsIndex]) -> int:
-    # a divisor or a multiple of any count of numbers: that of their magnitudes
-    integers = [operator.index(number) for number in numbers]
-    kind = 'q' if any(number < 0 for number in integers) else 'Q'
-    low, high = (-(2**63), 2**63) if kind == 'q' else (0, 2**64)
-    for number in integers:
-        if not low <= number < high:
-            raise _out_of_range(number, kind)
-    magnitude = (gcd_of if name == 'gcd' else lcm_of)([abs(number) for number in integers])
-    if magnitude >= high:
-        raise NotFitting(Status.NOT_FITTING)
-    return magnitude
-
-
 _calls._install({
-    'refusal': _refusal, 'out_of_range': _out_of_range, 'of_many': _of_many, 'Fraction': Fraction, 'new_tuple': tuple.__new__,
-    'array': array.array, 'Date': Date, 'ExtendedGcd': ExtendedGcd, 'Solutions': Solutions, 'IsoWeek': IsoWeek,
+    'refusal': _refusal, 'out_of_range': _out_of_range, 'Fraction': Fraction, 'Tuple': _Tuple, 'array': array.array, 'Date': Date,
+    'ExtendedGcd': ExtendedGcd, 'Solutions': Solutions, 'IsoWeek': IsoWeek,
 })

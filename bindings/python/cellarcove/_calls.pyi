@@ -165,6 +165,7 @@ def binomial(n: SupportsIndex, k: Array, *, out: Outputs = ...) -> tuple[array[i
 def binomial(n: SupportsIndex, k: SupportsIndex) -> int: ...
 def multinomial(counts: Array | Iterable[SupportsIndex], /) -> int: ...
 def rank(choice: Array | Iterable[SupportsIndex], n: SupportsIndex, /) -> int: ...
+def choice_of_rank(rank: SupportsIndex, n: SupportsIndex, count: SupportsIndex, /) -> tuple[int, ...]: ...
 @overload
 def sum_modulo(a: Array, b: Array | SupportsIndex, m: Array | SupportsIndex, *, out: Outputs = ...) -> tuple[array[int], array[int]]: ...
 @overload
@@ -267,6 +268,7 @@ def next_common_solution(start: SupportsIndex, a: SupportsIndex, m: SupportsInde
 def next_common_solution(start: SupportsIndex, a: SupportsIndex, m: SupportsIndex, b: SupportsIndex, n: Array, *, out: Outputs = ...) -> tuple[array[int], array[int]]: ...
 @overload
 def next_common_solution(start: SupportsIndex, a: SupportsIndex, m: SupportsIndex, b: SupportsIndex, n: SupportsIndex) -> int: ...
+def next_common_solution_of(start: SupportsIndex, congruences: Iterable[tuple[SupportsIndex, SupportsIndex]], /) -> int: ...
 @overload
 def limit_denominator(a: tuple[Array, Array | SupportsIndex] | tuple[SupportsIndex, Array], max_denominator: Array | SupportsIndex, *, out: Outputs = ...) -> tuple[array[int], array[int], array[int]]: ...
 @overload
@@ -376,13 +378,13 @@ isqrt = sqrt
 def _install(classes: dict[str, Any], /) -> None: ...
 __all__ = [
     'average_ceil', 'average_floor', 'binomial', 'cbrt', 'checked_difference', 'checked_product', 'checked_sum',
-    'chinese_remainder', 'comb', 'count_congruent', 'date_from_day', 'date_from_iso_week', 'day_from_date',
-    'day_of_year', 'days_between', 'days_in_month', 'difference_modulo', 'div_ceil', 'div_floor', 'div_mod_floor',
-    'div_rem', 'easter', 'extended_gcd', 'fraction_round', 'fraction_round_times', 'gcd', 'gcd_lcm', 'gcd_of',
-    'inverse_modulo', 'is_leap_year', 'is_multiple_of', 'is_perfect_power', 'is_power', 'is_square', 'iso_week',
-    'isqrt', 'last_weekday_of_month', 'lcm', 'lcm_of', 'limit_denominator', 'mod_floor', 'months_between',
-    'multinomial', 'next_common_solution', 'next_congruent', 'next_multiple_of', 'nth_root',
-    'nth_weekday_of_month', 'plus_days', 'plus_months', 'power_modulo', 'prev_multiple_of', 'previous_congruent',
-    'product_div_mod_floor', 'product_modulo', 'quotient_modulo', 'rank', 'solutions', 'sqrt', 'sum_modulo',
-    'weekday', 'weeks_in_year',
+    'chinese_remainder', 'choice_of_rank', 'comb', 'count_congruent', 'date_from_day', 'date_from_iso_week',
+    'day_from_date', 'day_of_year', 'days_between', 'days_in_month', 'difference_modulo', 'div_ceil', 'div_floor',
+    'div_mod_floor', 'div_rem', 'easter', 'extended_gcd', 'fraction_round', 'fraction_round_times', 'gcd',
+    'gcd_lcm', 'gcd_of', 'inverse_modulo', 'is_leap_year', 'is_multiple_of', 'is_perfect_power', 'is_power',
+    'is_square', 'iso_week', 'isqrt', 'last_weekday_of_month', 'lcm', 'lcm_of', 'limit_denominator', 'mod_floor',
+    'months_between', 'multinomial', 'next_common_solution', 'next_common_solution_of', 'next_congruent',
+    'next_multiple_of', 'nth_root', 'nth_weekday_of_month', 'plus_days', 'plus_months', 'power_modulo',
+    'prev_multiple_of', 'previous_congruent', 'product_div_mod_floor', 'product_modulo', 'quotient_modulo',
+    'rank', 'solutions', 'sqrt', 'sum_modulo', 'weekday', 'weeks_in_year',
 ]

@@ -5,6 +5,126 @@
 #define AT(type, place) (*(const type *)(const void *)(in[place] + k * steps[place]))
 #define TO(type, place) (((type *)(void *)out[place])[k])
 
+static PyObject *py_gcd_of(PyObject *module, PyObject *object) {
+    (void)module;
+    list of;
+    cell others[1];
+    if (read_list("gcd_of", &object, 1, 1, 0, 1, true, &of, others) != 0) {
+        return NULL;
+    }
+    if (of.is_signed) {
+        cellarcove_i64_answer r;
+        Py_BEGIN_ALLOW_THREADS
+        r = cellarcove_gcd_of_i64(of.items, (size_t)of.count);
+        Py_END_ALLOW_THREADS
+        return of_list(&of, r.status, PyLong_FromLongLong(r.value));
+    }
+    {
+        cellarcove_u64_answer r;
+        Py_BEGIN_ALLOW_THREADS
+        r = cellarcove_gcd_of_u64(of.items, (size_t)of.count);
+        Py_END_ALLOW_THREADS
+        return of_list(&of, r.status, PyLong_FromUnsignedLongLong(r.value));
+    }
+}
+
+static PyObject *py_lcm_of(PyObject *module, PyObject *object) {
+    (void)module;
+    list of;
+    cell others[1];
+    if (read_list("lcm_of", &object, 1, 1, 0, 1, true, &of, others) != 0) {
+        return NULL;
+    }
+    if (of.is_signed) {
+        cellarcove_i64_answer r;
+        Py_BEGIN_ALLOW_THREADS
+        r = cellarcove_lcm_of_i64(of.items, (size_t)of.count);
+        Py_END_ALLOW_THREADS
+        return of_list(&of, r.status, PyLong_FromLongLong(r.value));
+    }
+    {
+        cellarcove_u64_answer r;
+        Py_BEGIN_ALLOW_THREADS
+        r = cellarcove_lcm_of_u64(of.items, (size_t)of.count);
+        Py_END_ALLOW_THREADS
+        return of_list(&of, r.status, PyLong_FromUnsignedLongLong(r.value));
+    }
+}
+
+static PyObject *py_multinomial(PyObject *module, PyObject *object) {
+    (void)module;
+    list of;
+    cell others[1];
+    if (read_list("multinomial", &object, 1, 1, 0, 1, false, &of, others) != 0) {
+        return NULL;
+    }
+    {
+        cellarcove_u64_answer r;
+        Py_BEGIN_ALLOW_THREADS
+        r = cellarcove_multinomial_u64(of.items, (size_t)of.count);
+        Py_END_ALLOW_THREADS
+        return of_list(&of, r.status, PyLong_FromUnsignedLongLong(r.value));
+    }
+}
+
+static PyObject *py_rank(PyObject *module, PyObject *const *args, Py_ssize_t given) {
+    (void)module;
+    list of;
+    cell others[2];
+    if (read_list("rank", args, given, 2, 0, 1, false, &of, others) != 0) {
+        return NULL;
+    }
+    {
+        cellarcove_u64_answer r;
+        Py_BEGIN_ALLOW_THREADS
+        r = cellarcove_rank_u64(of.items, (size_t)of.count, others[0].u);
+        Py_END_ALLOW_THREADS
+        return of_list(&of, r.status, PyLong_FromUnsignedLongLong(r.value));
+    }
+}
+
+static PyObject *py_choice_of_rank(PyObject *module, PyObject *const *args, Py_ssize_t given) {
+    (void)module;
+    cell numbers[3];
+    if (unsigned_numbers("choice_of_rank", args, given, 3, numbers) != 0) {
+        return NULL;
+    }
+    uint64_t *written = room_for(numbers[2].u);
+    if (written == NULL) {
+        return NULL;
+    }
+    uint32_t status;
+    Py_BEGIN_ALLOW_THREADS
+    status = cellarcove_choice_of_rank_u64(numbers[0].u, numbers[1].u, written, (size_t)numbers[2].u);
+    Py_END_ALLOW_THREADS
+    PyObject *result = status == CELLARCOVE_ANSWER ? tuple_of_numbers(written, (Py_ssize_t)numbers[2].u) : refused(status, false);
+    PyMem_Free(written);
+    return result;
+}
+
+static PyObject *py_next_common_solution_of(PyObject *module, PyObject *const *args, Py_ssize_t given) {
+    (void)module;
+    list of;
+    cell others[2];
+    if (read_list("next_common_solution_of", args, given, 2, 1, 2, true, &of, others) != 0) {
+        return NULL;
+    }
+    if (of.is_signed) {
+        cellarcove_i64_answer r;
+        Py_BEGIN_ALLOW_THREADS
+        r = cellarcove_next_common_solution_of_i64(others[0].i, of.items, (size_t)of.count);
+        Py_END_ALLOW_THREADS
+        return of_list(&of, r.status, PyLong_FromLongLong(r.value));
+    }
+    {
+        cellarcove_u64_answer r;
+        Py_BEGIN_ALLOW_THREADS
+        r = cellarcove_next_common_solution_of_u64(others[0].u, of.items, (size_t)of.count);
+        Py_END_ALLOW_THREADS
+        return of_list(&of, r.status, PyLong_FromUnsignedLongLong(r.value));
+    }
+}
+
 static PyObject *one_checked_sum_i64(const cell *a, uint32_t *status) {
     cellarcove_i64_answer r = cellarcove_checked_sum_i64((int64_t)a[0].i, (int64_t)a[1].i);
     if (r.status != CELLARCOVE_ANSWER) {
@@ -598,8 +718,8 @@ static const call call_gcd = {"gcd", 2, {"x", "y"}, "nn",
 
 static PyObject *py_gcd(PyObject *module, PyObject *const *args, Py_ssize_t count, PyObject *names) {
     (void)module;
-    if (count != 2 || names != NULL) {
-        return of_any_count(&call_gcd, args, count, names);
+    if (count != 2 && names == NULL) {
+        return of_any_count(py_gcd_of, args, count);
     }
     return run(&call_gcd, args, count, names);
 }
@@ -647,8 +767,8 @@ static const call call_lcm = {"lcm", 2, {"x", "y"}, "nn",
 
 static PyObject *py_lcm(PyObject *module, PyObject *const *args, Py_ssize_t count, PyObject *names) {
     (void)module;
-    if (count != 2 || names != NULL) {
-        return of_any_count(&call_lcm, args, count, names);
+    if (count != 2 && names == NULL) {
+        return of_any_count(py_lcm_of, args, count);
     }
     return run(&call_lcm, args, count, names);
 }
@@ -728,46 +848,6 @@ static const call call_extended_gcd = {"extended_gcd", 2, {"x", "y"}, "nn",
 static PyObject *py_extended_gcd(PyObject *module, PyObject *const *args, Py_ssize_t count, PyObject *names) {
     (void)module;
     return run(&call_extended_gcd, args, count, names);
-}
-
-static PyObject *py_gcd_of(PyObject *module, PyObject *object) {
-    (void)module;
-    Py_buffer view;
-    uint64_t *numbers;
-    Py_ssize_t count;
-    if (numbers_of(object, "gcd_of", &view, &numbers, &count) != 0) {
-        return NULL;
-    }
-    cellarcove_u64_answer r;
-    Py_BEGIN_ALLOW_THREADS
-    r = cellarcove_gcd_of_u64(numbers != NULL ? numbers : view.buf, (size_t)count);
-    Py_END_ALLOW_THREADS
-    if (numbers != NULL) {
-        PyMem_Free(numbers);
-    } else {
-        PyBuffer_Release(&view);
-    }
-    return r.status == CELLARCOVE_ANSWER ? PyLong_FromUnsignedLongLong(r.value) : refused(r.status, false);
-}
-
-static PyObject *py_lcm_of(PyObject *module, PyObject *object) {
-    (void)module;
-    Py_buffer view;
-    uint64_t *numbers;
-    Py_ssize_t count;
-    if (numbers_of(object, "lcm_of", &view, &numbers, &count) != 0) {
-        return NULL;
-    }
-    cellarcove_u64_answer r;
-    Py_BEGIN_ALLOW_THREADS
-    r = cellarcove_lcm_of_u64(numbers != NULL ? numbers : view.buf, (size_t)count);
-    Py_END_ALLOW_THREADS
-    if (numbers != NULL) {
-        PyMem_Free(numbers);
-    } else {
-        PyBuffer_Release(&view);
-    }
-    return r.status == CELLARCOVE_ANSWER ? PyLong_FromUnsignedLongLong(r.value) : refused(r.status, false);
 }
 
 static PyObject *one_average_floor_i64(const cell *a, uint32_t *status) {
@@ -1119,51 +1199,6 @@ static const call call_binomial = {"binomial", 2, {"n", "k"}, "nn",
 static PyObject *py_binomial(PyObject *module, PyObject *const *args, Py_ssize_t count, PyObject *names) {
     (void)module;
     return run(&call_binomial, args, count, names);
-}
-
-static PyObject *py_multinomial(PyObject *module, PyObject *object) {
-    (void)module;
-    Py_buffer view;
-    uint64_t *numbers;
-    Py_ssize_t count;
-    if (numbers_of(object, "multinomial", &view, &numbers, &count) != 0) {
-        return NULL;
-    }
-    cellarcove_u64_answer r;
-    Py_BEGIN_ALLOW_THREADS
-    r = cellarcove_multinomial_u64(numbers != NULL ? numbers : view.buf, (size_t)count);
-    Py_END_ALLOW_THREADS
-    if (numbers != NULL) {
-        PyMem_Free(numbers);
-    } else {
-        PyBuffer_Release(&view);
-    }
-    return r.status == CELLARCOVE_ANSWER ? PyLong_FromUnsignedLongLong(r.value) : refused(r.status, false);
-}
-
-static PyObject *py_rank(PyObject *module, PyObject *const *args, Py_ssize_t given) {
-    PyObject *object = given == 2 ? args[0] : NULL;
-    (void)module;
-    cell others[1];
-    if (others_of("rank", args, given, 1, others) != 0) {
-        return NULL;
-    }
-    Py_buffer view;
-    uint64_t *numbers;
-    Py_ssize_t count;
-    if (numbers_of(object, "rank", &view, &numbers, &count) != 0) {
-        return NULL;
-    }
-    cellarcove_u64_answer r;
-    Py_BEGIN_ALLOW_THREADS
-    r = cellarcove_rank_u64(numbers != NULL ? numbers : view.buf, (size_t)count, others[0].u);
-    Py_END_ALLOW_THREADS
-    if (numbers != NULL) {
-        PyMem_Free(numbers);
-    } else {
-        PyBuffer_Release(&view);
-    }
-    return r.status == CELLARCOVE_ANSWER ? PyLong_FromUnsignedLongLong(r.value) : refused(r.status, false);
 }
 
 static PyObject *one_sum_modulo_i64(const cell *a, uint32_t *status) {
@@ -2358,14 +2393,16 @@ static PyMethodDef methods[] = {
     "gcd_of($module, numbers, /)\n"
     "--\n"
     "\n"
-    "The greatest common divisor of the numbers, which always fits. That of 12, 18 and 8 is\n"
-    "2, and that of no numbers is 0.\n"},
+    "The greatest common divisor of the numbers, which is not negative. That of -12, 18 and 8\n"
+    "is 2, and that of no numbers is 0.\n"
+    "\n"
+    "Raises `NotFitting` if it is 2^63, as that of -2^63 and 0.\n"},
     {"lcm_of", py_lcm_of, METH_O,
     "lcm_of($module, numbers, /)\n"
     "--\n"
     "\n"
-    "The least common multiple of the numbers. That of 4, 6 and 10 is 60, that of numbers of\n"
-    "which one is 0 is 0, and that of no numbers is 1.\n"
+    "The least common multiple of the numbers, which is not negative. That of -4, 6 and 10 is\n"
+    "60, that of numbers of which one is 0 is 0, and that of no numbers is 1.\n"
     "\n"
     "Raises `NotFitting` if the multiple does not fit.\n"},
     {"average_floor", (PyCFunction)(void (*)(void))py_average_floor, METH_FASTCALL | METH_KEYWORDS,
@@ -2441,6 +2478,14 @@ static PyMethodDef methods[] = {
     "\n"
     "Raises `Refused` with `OUTSIDE` if the numbers do not increase or are not all below `n`.\n"
     "Raises `NotFitting` if the rank does not fit.\n"},
+    {"choice_of_rank", (PyCFunction)(void (*)(void))py_choice_of_rank, METH_FASTCALL,
+    "choice_of_rank($module, rank, n, count, /)\n"
+    "--\n"
+    "\n"
+    "The choice of `count` numbers below `n` that has the rank, as a tuple: it is the inverse\n"
+    "of `rank`. For 2, 5 and 3 it is (0, 2, 3).\n"
+    "\n"
+    "Raises `Refused` with `OUTSIDE` if the rank is not below the number of these choices.\n"},
     {"sum_modulo", (PyCFunction)(void (*)(void))py_sum_modulo, METH_FASTCALL | METH_KEYWORDS,
     "sum_modulo($module, /, a, b, m, *, out=None)\n"
     "--\n"
@@ -2539,6 +2584,17 @@ static PyMethodDef methods[] = {
     "\n"
     "Raises `Refused` with `BAD_MODULUS` if `m` or `n` is not positive. Raises `Refused` with\n"
     "`NO_SOLUTION` if there is no such number. Raises `NotFitting` if it does not fit.\n"},
+    {"next_common_solution_of", (PyCFunction)(void (*)(void))py_next_common_solution_of, METH_FASTCALL,
+    "next_common_solution_of($module, start, congruences, /)\n"
+    "--\n"
+    "\n"
+    "The smallest number from `start` on that solves each of up to 64 congruences, which are\n"
+    "pairs of a residue and a modulus. No product of the moduli need fit. For 10 and [(1, 4),\n"
+    "(3, 6), (0, 7)] it is 21.\n"
+    "\n"
+    "Raises `Refused` with `OUTSIDE` if there are more congruences. Raises `Refused` with\n"
+    "`BAD_MODULUS` if a modulus is not positive. Raises `Refused` with `NO_SOLUTION` if there\n"
+    "is no such number. Raises `NotFitting` if it does not fit.\n"},
     {"limit_denominator", (PyCFunction)(void (*)(void))py_limit_denominator, METH_FASTCALL | METH_KEYWORDS,
     "limit_denominator($module, /, a, max_denominator, *, out=None)\n"
     "--\n"

@@ -63,8 +63,9 @@ typedef struct {
 } call;
 
 /* What the package installs. */
-static PyObject *refusal, *out_of_range, *of_many, *new_fraction, *new_tuple, *new_array;
+static PyObject *refusal, *out_of_range, *new_fraction, *new_array;
 static PyObject *class_date, *class_gcd, *class_solutions, *class_week;
+static newfunc new_tuple;
 static PyObject *name_numerator, *name_denominator, *name_year, *name_month, *name_day, *name_out;
 
 static Py_ssize_t size_of(char kind) {
@@ -89,8 +90,14 @@ static PyObject *tuple_of(PyObject *class, Py_ssize_t count, PyObject **items) {
     if (tuple == NULL || class == NULL) {
         return tuple;
     }
-    result = PyObject_CallFunctionObjArgs(new_tuple, class, tuple, NULL);
-    Py_DECREF(tuple);
+    PyObject *args = PyTuple_New(1);
+    if (args == NULL) {
+        Py_DECREF(tuple);
+        return NULL;
+    }
+    PyTuple_SetItem(args, 0, tuple);
+    result = new_tuple((PyTypeObject *)class, args, NULL);
+    Py_DECREF(args);
     return result;
 }
 
@@ -124,28 +131,35 @@ static int beyond(PyObject *number, char kind) {
 /* Whether an object is an `int`. */
 static bool is_int(PyObject *object) { return Py_TYPE(object) == &PyLong_Type || PyLong_Check(object); }
 
-/* Reads an integer into a cell. It is 1 if the number is above 2**63 - 1, and 2 if it fits no 64 bits. */
-static int integer(PyObject *object, cell *to) {
-    int overflow, said;
-    PyObject *number = is_int(object) ? (Py_INCREF(object), object) : PyNumber_Index(object);
-    if (number == NULL) {
-        return -1;
-    }
+/* Reads an `int` into a cell. It is 1 if the number is above 2**63 - 1, and 2 if it fits no 64 bits. */
+static int read_int(PyObject *number, cell *to) {
+    int overflow;
     long long value = PyLong_AsLongLongAndOverflow(number, &overflow);
     if (overflow == 0) {
         to->i = value;
-        said = value == -1 && PyErr_Occurred() ? -1 : 0;
-    } else if (overflow < 0) {
-        said = 2;
-    } else {
-        unsigned long long large = PyLong_AsUnsignedLongLong(number);
-        said = 1;
-        if (large == (unsigned long long)-1 && PyErr_Occurred()) {
-            PyErr_Clear();
-            said = 2;
-        }
-        to->u = large;
+        return value == -1 && PyErr_Occurred() ? -1 : 0;
     }
+    if (overflow < 0) {
+        return 2;
+    }
+    to->u = PyLong_AsUnsignedLongLong(number);
+    if (to->u == UINT64_MAX && PyErr_Occurred()) {
+        PyErr_Clear();
+        return 2;
+    }
+    return 1;
+}
+
+/* Reads an integer. */
+static int integer(PyObject *object, cell *to) {
+    if (Py_TYPE(object) == &PyLong_Type) {
+        return read_int(object, to);
+    }
+    PyObject *number = PyNumber_Index(object);
+    if (number == NULL) {
+        return -1;
+    }
+    int said = read_int(number, to);
     Py_DECREF(number);
     return said;
 }
@@ -159,11 +173,15 @@ static bool fits(const cell *number, int said, char kind) {
     }
 }
 
-/* Whether an integer is negative. It is -1 if the object is no integer. */
-static int is_negative(PyObject *object) {
-    PyObject *number = PyNumber_Index(object), *zero = PyLong_FromLong(0);
-    int result = number == NULL || zero == NULL ? -1 : PyObject_RichCompareBool(number, zero, Py_LT);
-    Py_XDECREF(number);
+/* Whether an integer that was read is negative. */
+static bool is_negative(PyObject *object, const cell *number, int said) {
+    if (said != 2) {
+        return said == 0 && number->i < 0;
+    }
+    PyObject *integer = PyNumber_Index(object), *zero = PyLong_FromLong(0);
+    bool result = integer != NULL && zero != NULL && PyObject_RichCompareBool(integer, zero, Py_LT) == 1;
+    PyErr_Clear();
+    Py_XDECREF(integer);
     Py_XDECREF(zero);
     return result;
 }
@@ -254,7 +272,7 @@ static PyObject *refused(uint32_t status, bool by_zero) {
     return NULL;
 }
 
-static PyObject *run_one(const call *c, PyObject **objects, Py_ssize_t count) {
+static PyObject *run_one(const call *c, PyObject *const *objects, Py_ssize_t count) {
     cell cells[MAX_CELLS];
     int said[MAX_CELLS];
     bool negative = false;
@@ -263,9 +281,7 @@ static PyObject *run_one(const call *c, PyObject **objects, Py_ssize_t count) {
         if (said[k] < 0) {
             return NULL;
         }
-        if (c->follows[k]) {
-            negative |= said[k] == 2 ? is_negative(objects[k]) != 0 : said[k] == 0 && cells[k].i < 0;
-        }
+        negative |= c->follows[k] && is_negative(objects[k], &cells[k], said[k]);
     }
     const form *f = c->only != NULL ? c->only : negative ? c->forms_i64 : c->forms_u64;
     for (Py_ssize_t k = 0; k < count; k++) {
@@ -353,7 +369,7 @@ static const form *read_columns(const call *c, PyObject **objects, Py_ssize_t co
             if (to->said < 0) {
                 return NULL;
             }
-            negative |= c->follows[k] && (to->said == 2 ? is_negative(objects[k]) != 0 : to->said == 0 && to->number.i < 0);
+            negative |= c->follows[k] && is_negative(objects[k], &to->number, to->said);
             continue;
         }
         if (take(objects[k], &to->view, 0, c->name) != 0) {
@@ -406,16 +422,23 @@ static bool overlap(const Py_buffer *a, const Py_buffer *b) {
     return x < y + b->len && y < x + a->len && (x != y || a->itemsize != b->itemsize);
 }
 
+/* A new array of zeros: that of one zero, repeated. */
+static PyObject *new_zeros(char kind, Py_ssize_t length) {
+    static const char kinds[] = "qQIiB";
+    static PyObject *single[sizeof kinds];
+    PyObject **one = &single[strchr(kinds, kind) - kinds];
+    if (*one == NULL) {
+        *one = PyObject_CallFunction(new_array, "C(i)", (int)kind, 0);
+    }
+    return *one == NULL ? NULL : PySequence_Repeat(*one, length);
+}
+
 /* New arrays for the results. */
 static PyObject *new_outputs(const form *f, Py_ssize_t length) {
     Py_ssize_t results = (Py_ssize_t)strlen(f->results);
     PyObject *outputs = PyTuple_New(results);
     for (Py_ssize_t k = 0; outputs != NULL && k < results; k++) {
-        PyObject *array = NULL, *zeros = PyObject_CallFunction((PyObject *)&PyBytes_Type, "n", length * size_of(f->results[k]));
-        if (zeros != NULL) {
-            array = PyObject_CallFunction(new_array, "CO", (int)letter(f->results[k]), zeros);
-            Py_DECREF(zeros);
-        }
+        PyObject *array = new_zeros(letter(f->results[k]), length);
         if (array == NULL) {
             Py_CLEAR(outputs);
         } else {
@@ -508,10 +531,26 @@ static PyObject *run_many(const call *c, PyObject **objects, Py_ssize_t count, P
 
 /* ---- calls ---- */
 
+/* Whether the arguments are one `int` for each parameter, in their order. */
+static bool are_ints(const call *c, PyObject *const *args, Py_ssize_t count, PyObject *names) {
+    if (names != NULL || count != c->count) {
+        return false;
+    }
+    for (Py_ssize_t p = 0; p < count; p++) {
+        if (c->shapes[p] != 'n' || Py_TYPE(args[p]) != &PyLong_Type) {
+            return false;
+        }
+    }
+    return true;
+}
+
 static PyObject *run(const call *c, PyObject *const *args, Py_ssize_t count, PyObject *names) {
     PyObject *bound[MAX_PARAMETERS], *objects[MAX_CELLS], *out = NULL, *result = NULL;
     Py_ssize_t cells = 0;
     bool arrays = false;
+    if (are_ints(c, args, count, names)) {
+        return run_one(c, args, count);
+    }
     if (names == NULL && count == c->count) {
         memcpy(bound, args, (size_t)count * sizeof *bound);
     } else if (bind(c, args, count, names, bound, &out) != 0) {
@@ -545,74 +584,209 @@ end:
     return result;
 }
 
-/* A call of two numbers with another count of them: the package takes two by two. With an output it is one of arrays. */
-static PyObject *of_any_count(const call *c, PyObject *const *args, Py_ssize_t count, PyObject *names) {
-    if (names != NULL) {
-        return run(c, args, count, names);
+/* ---- lists ---- */
+
+/* The items of a list: those of a buffer, or a copy of those of another iterable. */
+typedef struct {
+    Py_buffer view;
+    cell *copy;         /* NULL for a buffer */
+    const void *items;
+    Py_ssize_t count;
+    Py_ssize_t width;   /* of an item: a number, or a residue and a modulus */
+    bool is_signed;
+} list;
+
+static void free_list(list *of) {
+    if (of->copy != NULL) {
+        PyMem_Free(of->copy);
+    } else {
+        PyBuffer_Release(&of->view);
     }
+}
+
+/* Takes the buffer of an array of numbers. */
+static int take_list(PyObject *object, const char *name, bool has_signed, list *to) {
+    if (take(object, &to->view, 0, name) != 0) {
+        return -1;
+    }
+    to->is_signed = has_signed && has_items(&to->view, 'q');
+    if (!to->is_signed && !has_items(&to->view, 'Q')) {
+        PyBuffer_Release(&to->view);
+        return wrong(has_signed ? "the items of the array are neither int64 nor uint64" : words_of('Q'), name);
+    }
+    to->copy = NULL;
+    to->items = to->view.buf;
+    to->count = to->view.shape[0];
+    return 0;
+}
+
+/* A new list of the objects of an iterable, or, if each of its items has several, of those. */
+static PyObject *flat_list(PyObject *object, const char *name, Py_ssize_t width) {
+    PyObject *items = PySequence_List(object), *flat = items == NULL || width == 1 ? NULL : PyList_New(0);
+    if (flat == NULL) {
+        if (width != 1) {
+            Py_CLEAR(items);
+        }
+        return items;
+    }
+    for (Py_ssize_t k = 0; flat != NULL && k < PyList_Size(items); k++) {
+        PyObject *parts = PySequence_Tuple(PyList_GetItem(items, k));
+        bool right = parts != NULL && PyTuple_Size(parts) == width;
+        if (parts != NULL && !right) {
+            PyErr_Format(PyExc_ValueError, "%s: an item has not %zd numbers", name, width);
+        }
+        for (Py_ssize_t j = 0; right && j < width; j++) {
+            right = PyList_Append(flat, PyTuple_GetItem(parts, j)) == 0;
+        }
+        if (!right) {
+            Py_CLEAR(flat);
+        }
+        Py_XDECREF(parts);
+    }
+    Py_DECREF(items);
+    return flat;
+}
+
+/* Copies the numbers of an iterable. They are signed if one of them is negative, or a number beside the list. */
+static int copy_list(PyObject *object, const char *name, bool has_signed, bool negative, list *to) {
+    PyObject *objects = flat_list(object, name, to->width);
+    if (objects == NULL) {
+        return -1;
+    }
+    Py_ssize_t numbers = PyList_Size(objects);
+    to->copy = PyMem_Malloc(((size_t)numbers + 1) * (sizeof *to->copy + 1));
+    signed char *said = (signed char *)(to->copy + numbers + 1);
+    bool right = to->copy != NULL;
+    if (!right) {
+        PyErr_NoMemory();
+    }
+    for (Py_ssize_t k = 0; right && k < numbers; k++) {
+        PyObject *number = PyList_GetItem(objects, k);
+        said[k] = (signed char)integer(number, &to->copy[k]);
+        right = said[k] >= 0;
+        negative |= right && is_negative(number, &to->copy[k], said[k]);
+    }
+    to->is_signed = has_signed && negative;
+    for (Py_ssize_t k = 0; right && k < numbers; k++) {
+        char kind = to->is_signed ? 'q' : 'Q';
+        right = fits(&to->copy[k], said[k], kind) || beyond(PyList_GetItem(objects, k), kind) == 0;
+    }
+    Py_DECREF(objects);
+    if (!right) {
+        PyMem_Free(to->copy);
+        return -1;
+    }
+    to->items = to->copy;
+    to->count = numbers / to->width;
+    return 0;
+}
+
+/* Whether a call is given as many arguments as it has parameters. */
+static int has_count(const char *name, Py_ssize_t given, Py_ssize_t count) {
+    if (given != count) {
+        PyErr_Format(PyExc_TypeError, "%s() takes %zd arguments, and %zd were given", name, count, given);
+        return -1;
+    }
+    return 0;
+}
+
+/* Reads the list of a call, which is the argument at a place, and the numbers beside it. */
+static int read_list(const char *name, PyObject *const *args, Py_ssize_t given, Py_ssize_t count, Py_ssize_t place, Py_ssize_t width,
+                     bool has_signed, list *to, cell *others) {
+    int said[MAX_PARAMETERS];
+    bool negative = false;
+    if (has_count(name, given, count) != 0) {
+        return -1;
+    }
+    for (Py_ssize_t p = 0, k = 0; p < count; p++) {
+        if (p != place) {
+            said[k] = integer(args[p], &others[k]);
+            if (said[k] < 0) {
+                return -1;
+            }
+            negative |= is_negative(args[p], &others[k], said[k]);
+            k += 1;
+        }
+    }
+    to->width = width;
+    if (width == 1 && is_array(args[place]) ? take_list(args[place], name, has_signed, to) != 0
+                                            : copy_list(args[place], name, has_signed, negative, to) != 0) {
+        return -1;
+    }
+    for (Py_ssize_t p = 0, k = 0; p < count; p++) {
+        char kind = to->is_signed ? 'q' : 'Q';
+        if (p != place && !fits(&others[k++], said[p - (p > place)], kind)) {
+            free_list(to);
+            return beyond(args[p], kind);
+        }
+    }
+    return 0;
+}
+
+/* The result of a call with a list, which is freed: the object, which is given away, or the error for a status. */
+static PyObject *of_list(list *of, uint32_t status, PyObject *result) {
+    bool by_zero = false;
+    for (Py_ssize_t k = 1; k < of->count * of->width && of->width > 1; k += of->width) {
+        by_zero |= of->copy[k].u == 0;
+    }
+    free_list(of);
+    if (status == CELLARCOVE_ANSWER) {
+        return result;
+    }
+    Py_XDECREF(result);
+    return refused(status, by_zero && status == CELLARCOVE_BAD_MODULUS);
+}
+
+/* A call of two numbers with another count of them: that of a list. */
+static PyObject *of_any_count(PyObject *(*of)(PyObject *, PyObject *), PyObject *const *args, Py_ssize_t count) {
     PyObject *numbers = PyTuple_New(count), *result = NULL;
     for (Py_ssize_t k = 0; numbers != NULL && k < count; k++) {
         Py_INCREF(args[k]);
         PyTuple_SetItem(numbers, k, args[k]);
     }
     if (numbers != NULL) {
-        result = PyObject_CallFunction(of_many, "sO", c->name, numbers);
+        result = of(NULL, numbers);
         Py_DECREF(numbers);
     }
     return result;
 }
 
-/* The numbers of a buffer, or of another iterable. Those of a buffer are not copied. */
-static int numbers_of(PyObject *object, const char *name, Py_buffer *view, uint64_t **numbers, Py_ssize_t *count) {
-    *numbers = NULL;
-    if (is_array(object)) {
-        if (take(object, view, 0, name) != 0) {
-            return -1;
-        }
-        if (!has_items(view, 'Q')) {
-            PyBuffer_Release(view);
-            return wrong(words_of('Q'), name);
-        }
-        *count = view->shape[0];
-        return 0;
-    }
-    PyObject *list = PySequence_List(object);
-    if (list == NULL) {
-        return -1;
-    }
-    *count = PyList_Size(list);
-    *numbers = PyMem_Malloc(((size_t)*count + 1) * sizeof **numbers);
-    if (*numbers == NULL) {
-        PyErr_NoMemory();
-    }
-    for (Py_ssize_t k = 0; *numbers != NULL && k < *count; k++) {
-        cell number;
-        PyObject *item = PyList_GetItem(list, k);
-        int said = item == NULL ? -1 : integer(item, &number);
-        if (said < 0 || (!fits(&number, said, 'Q') && beyond(item, 'Q') != 0)) {
-            PyMem_Free(*numbers);
-            *numbers = NULL;
-        } else {
-            (*numbers)[k] = number.u;
-        }
-    }
-    Py_DECREF(list);
-    return *numbers == NULL ? -1 : 0;
-}
+/* ---- numbers that a call writes ---- */
 
-/* The unsigned numbers after the list of a call. */
-static int others_of(const char *name, PyObject *const *args, Py_ssize_t given, Py_ssize_t count, cell *others) {
-    if (given != count + 1) {
-        PyErr_Format(PyExc_TypeError, "%s() takes %zd arguments, and %zd were given", name, count + 1, given);
+/* Reads the arguments of a call, which are unsigned numbers. */
+static int unsigned_numbers(const char *name, PyObject *const *args, Py_ssize_t given, Py_ssize_t count, cell *numbers) {
+    if (has_count(name, given, count) != 0) {
         return -1;
     }
     for (Py_ssize_t k = 0; k < count; k++) {
-        int said = integer(args[k + 1], &others[k]);
-        if (said < 0 || (!fits(&others[k], said, 'Q') && beyond(args[k + 1], 'Q') != 0)) {
+        int said = integer(args[k], &numbers[k]);
+        if (said < 0 || (!fits(&numbers[k], said, 'Q') && beyond(args[k], 'Q') != 0)) {
             return -1;
         }
     }
     return 0;
+}
+
+/* Room for so many numbers. */
+static uint64_t *room_for(uint64_t count) {
+    uint64_t *room = count < PY_SSIZE_T_MAX / sizeof *room ? PyMem_Malloc((size_t)(count + 1) * sizeof *room) : NULL;
+    if (room == NULL) {
+        PyErr_NoMemory();
+    }
+    return room;
+}
+
+static PyObject *tuple_of_numbers(const uint64_t *numbers, Py_ssize_t count) {
+    PyObject *tuple = PyTuple_New(count);
+    for (Py_ssize_t k = 0; tuple != NULL && k < count; k++) {
+        PyObject *number = PyLong_FromUnsignedLongLong(numbers[k]);
+        if (number == NULL) {
+            Py_CLEAR(tuple);
+        } else {
+            PyTuple_SetItem(tuple, k, number);
+        }
+    }
+    return tuple;
 }
 
 /* ---- the module ---- */
@@ -643,12 +817,15 @@ static PyObject *install(PyObject *module, PyObject *from) {
         PyErr_SetString(PyExc_TypeError, "no dictionary");
         return NULL;
     }
-    if (keep(from, "refusal", &refusal) || keep(from, "out_of_range", &out_of_range) || keep(from, "of_many", &of_many) ||
-        keep(from, "Fraction", &new_fraction) || keep(from, "new_tuple", &new_tuple) || keep(from, "array", &new_array) ||
-        keep(from, "Date", &class_date) || keep(from, "ExtendedGcd", &class_gcd) || keep(from, "Solutions", &class_solutions) ||
-        keep(from, "IsoWeek", &class_week)) {
+    static PyObject *class_tuple;
+    if (keep(from, "refusal", &refusal) || keep(from, "out_of_range", &out_of_range) || keep(from, "Fraction", &new_fraction) ||
+        keep(from, "Tuple", &class_tuple) || keep(from, "array", &new_array) || keep(from, "Date", &class_date) ||
+        keep(from, "ExtendedGcd", &class_gcd) || keep(from, "Solutions", &class_solutions) || keep(from, "IsoWeek", &class_week)) {
         return NULL;
     }
+    /* `tuple.__new__` without its test of the class. The stable ABI of 3.9 gives the slots of classes that Python makes. */
+    void *slot = PyType_GetSlot((PyTypeObject *)class_tuple, Py_tp_new);
+    memcpy(&new_tuple, &slot, sizeof slot);
     Py_RETURN_NONE;
 }
 

@@ -149,7 +149,7 @@ class Numbers(Refusals):
     def test_divisors_of_lists(self):
         """As those of any count of numbers, from an iterable or an array."""
         for _ in range(TURNS // 20):
-            some = [abs(x) for x in numbers(random.randrange(1, 6))]
+            some = numbers(random.randrange(1, 6))
             self.agree(lambda *given: cellarcove.gcd_of(given), some, math.gcd(*some))
             self.agree(lambda *given: cellarcove.lcm_of(given), some, math.lcm(*some))
         self.assertEqual(cellarcove.gcd_of(x for x in (12, 18, 8)), 2)
@@ -157,8 +157,15 @@ class Numbers(Refusals):
         self.assertEqual(cellarcove.lcm_of(array.array('Q', [2**64 - 1, 2, 0])), 0)
         self.assertEqual((cellarcove.gcd_of([]), cellarcove.lcm_of(array.array('Q'))), (0, 1))
         self.refuses(Status.NOT_FITTING, cellarcove.lcm_of, [2**63, 3])
-        with self.assertRaises(OverflowError):
-            cellarcove.gcd_of([1, -1])
+        self.assertEqual(cellarcove.gcd_of(array.array('q', [-12, 18, 8])), 2)
+        self.assertEqual(cellarcove.lcm_of([-4, 6, 10]), 60)
+        for lowest in ([-(2**63), 0], array.array('q', [-(2**63), 0])):
+            self.refuses(Status.NOT_FITTING, cellarcove.gcd_of, lowest)
+            self.assertEqual(cellarcove.lcm_of(lowest), 0)
+        for given, error in (([2**63, -1], OverflowError), ([2**64], OverflowError), ([-(2**63) - 1], OverflowError),
+                             ([1, 'x'], TypeError), (1, TypeError), (array.array('i', [1]), ValueError)):
+            with self.assertRaises(error):
+                cellarcove.gcd_of(given)
 
     def test_ranks(self):
         for n in range(8):
@@ -166,6 +173,8 @@ class Numbers(Refusals):
                 choices = sorted(itertools.combinations(range(n), count), key=lambda choice: choice[::-1])
                 for rank, choice in enumerate(choices):
                     self.assertEqual(cellarcove.rank(choice, n), rank)
+                    self.assertEqual(cellarcove.choice_of_rank(rank, n, count), choice)
+                self.refuses(Status.OUTSIDE, cellarcove.choice_of_rank, len(choices), n, count)
         self.assertEqual(cellarcove.rank(array.array('Q', [0, 2, 3]), 5), 2)
         self.refuses(Status.OUTSIDE, cellarcove.rank, [0, 2, 2], 5)
         self.refuses(Status.OUTSIDE, cellarcove.rank, [0, 2, 5], 5)
@@ -173,6 +182,18 @@ class Numbers(Refusals):
         for given, error in ((([1],), TypeError), (([1], -1), OverflowError), (([1], 'x'), TypeError), (([-1], 1), OverflowError)):
             with self.assertRaises(error):
                 cellarcove.rank(*given)
+
+    def test_choices(self):
+        for _ in range(TURNS // 100):
+            rank, n, count = random.getrandbits(64), random.getrandbits(random.randint(1, 64)), random.randrange(40)
+            if math.comb(n, count) <= rank:
+                self.refuses(Status.OUTSIDE, cellarcove.choice_of_rank, rank, n, count)
+            else:
+                choice = cellarcove.choice_of_rank(rank, n, count)
+                self.assertEqual((len(choice), cellarcove.rank(choice, n)), (count, rank))
+        for given, error in (((0, 1), TypeError), ((0, 1, 'x'), TypeError), ((-1, 5, 2), OverflowError), ((0, 5, 2**62), MemoryError)):
+            with self.assertRaises(error):
+                cellarcove.choice_of_rank(*given)
 
     def test_powers(self):
         exact = {degree: {k**degree for k in range(-70, 70)} for degree in range(7)}
@@ -262,6 +283,29 @@ class Residues(Refusals):
             else:
                 self.refuses(Status.NO_SOLUTION, cellarcove.chinese_remainder, a, m, b, n)
                 self.refuses(Status.NO_SOLUTION, cellarcove.next_common_solution, start, a, m, b, n)
+
+
+    def test_several_congruences(self):
+        for _ in range(TURNS // 20):
+            start, solution = random.randrange(-1000, 1000), random.randrange(-1000, 1000)
+            moduli = [random.randrange(1, 12) for _ in range(random.randrange(6))]
+            pairs = [(random.choice((solution, solution % m, random.randrange(-20, 20))), m) for m in moduli]
+            solved = [x for x in range(start, start + math.lcm(*moduli)) if all((x - a) % m == 0 for a, m in pairs)]
+            if solved:
+                self.assertEqual(cellarcove.next_common_solution_of(start, pairs), solved[0])
+            else:
+                self.refuses(Status.NO_SOLUTION, cellarcove.next_common_solution_of, start, pairs)
+        of = cellarcove.next_common_solution_of
+        self.assertEqual(of(10, ([1, 4], (3, 6), iter((0, 7)))), 21)
+        self.assertEqual(of(2**64 - 1, []), 2**64 - 1)
+        self.refuses(Status.OUTSIDE, of, 0, [(1, 4)] * 65)
+        self.refuses(Status.NOT_FITTING, of, 2**63 - 1, [(-1, 4), (2, 3)])
+        self.divides_by_zero(Status.BAD_MODULUS, of, 0, [(1, 4), (1, 0)])
+        self.assertNotIsInstance(self.refuses(Status.BAD_MODULUS, of, 0, [(1, -4)]), ZeroDivisionError)
+        for given, error in (((0, [(1, 2, 3)]), ValueError), ((0, [1]), TypeError), ((0, 1), TypeError), ((0,), TypeError),
+                             ((-1, [(2**63, 1)]), OverflowError), ((2**63, [(-1, 1)]), OverflowError), ((2**64, []), OverflowError)):
+            with self.assertRaises(error):
+                of(*given)
 
 
 class Fractions(Refusals):

@@ -2,7 +2,9 @@
 
 ghost use Rattle.std.specs.Prelude.{◌≡◌, ◌≢◌, pos};
 ghost use Rattle.cellarcove_c.specs.Answers.{Refuses};
-ghost use Rattle.cellarcove_c.specs.Statuses.{Only, answer_of};
+ghost use Rattle.cellarcove_c.specs.Statuses.{Either, Only, answer_of, common_solution_of, no_solution, not_fitting};
+
+use modular::CommonSolution;
 
 /// There is a result.
 pub const ANSWER: u32 = 0;
@@ -54,6 +56,18 @@ impl I64Answer {
         }
     }
 
+    /// Returns the result of a call of `modular` that solves several congruences.
+    pub(crate) fn of_common(found: CommonSolution<i64>) -> I64Answer
+        ensures answer { common_solution_of result.status result.value ≡ found }
+        ensures refusal { Refuses (Either not_fitting no_solution) (pos 0) result.status result.value }
+    {
+        match found {
+            CommonSolution::At(solution) => I64Answer::some(solution),
+            CommonSolution::Beyond => I64Answer::none(NOT_FITTING),
+            CommonSolution::Never => I64Answer::none(NO_SOLUTION),
+        }
+    }
+
     /// Returns a result.
     pub(crate) fn some(value: i64) -> I64Answer
         ensures { result ≡ record { status = 0; value = value } }
@@ -82,6 +96,18 @@ impl U64Answer {
         match option {
             Some(value) => U64Answer::some(value),
             None => U64Answer::none(reason),
+        }
+    }
+
+    /// Returns the result of a call of `modular` that solves several congruences.
+    pub(crate) fn of_common(found: CommonSolution<u64>) -> U64Answer
+        ensures answer { common_solution_of result.status result.value ≡ found }
+        ensures refusal { Refuses (Either not_fitting no_solution) 0 result.status result.value }
+    {
+        match found {
+            CommonSolution::At(solution) => U64Answer::some(solution),
+            CommonSolution::Beyond => U64Answer::none(NOT_FITTING),
+            CommonSolution::Never => U64Answer::none(NO_SOLUTION),
         }
     }
 

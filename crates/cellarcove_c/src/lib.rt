@@ -17,5 +17,6 @@ mod powers;
 mod ranking;
 mod roots;
 mod rounding;
+mod several_congruences;
 mod weekdays;
 mod years;

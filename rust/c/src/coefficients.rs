@@ -31,8 +31,7 @@ pub extern "C" fn cellarcove_multinomial_u64(counts: *const u64, counts_len: usi
     let counts = if counts_len == 0 {
         &[]
     } else {
-        // SAFETY: the caller promises that the pointer leads to so many numbers, which do not
-        // change.
+        // SAFETY: the caller promises that the pointer leads to so many items, which do not change.
         unsafe { core::slice::from_raw_parts(counts, counts_len) }
     };
     U64Answer::of(checked::multinomial(counts), NOT_FITTING)

@@ -1,0 +1,42 @@
+-- What a call for several congruences returns.
+use Rattle.std.specs.Prelude.{◌≡◌, ◌≤◌, ℕ, ℤ, List, length}
+use Rattle.std.proofs.Common.{◌∙◌, arith, inl, inr, refl, sym}
+use Rattle.num_integer.specs.Least.{IsLeastFrom}
+use Rattle.modular.specs.CommonSolutions.{MatchCommonSolution}
+use Rattle.modular.specs.Congruences.{SolvesEach}
+use Rattle.modular.specs.declared.common_solutions.CommonSolution.{CommonSolution}
+use Rattle.modular.specs.declared.common_solutions.CommonSolution.TheVariants.{Never, Beyond, At}
+use Rattle.cellarcove_c.specs.Answers.{Refuses}
+use Rattle.cellarcove_c.specs.Congruences.{HavePositiveModuli, IsBeyond, IsNever, IsNextOfSeveral}
+use Rattle.cellarcove_c.specs.Statuses.{Either, bad_modulus, common_solution_of, no_solution, not_fitting}
+
+-- a status that is one of two is no third
+no_third : {status one two three : ℕ} → Either one two status → ¬ (one ≡ three) → ¬ (two ≡ three) → ¬ (status ≡ three)
+no_third (inl same) first second third = first (sym same ∙ third)
+no_third (inr same) first second third = second (sym same ∙ third)
+
+module _ {X : Type 0} (value : X → ℤ) (fits : ℤ → Type 0) (from : ℤ) (pairs : List (X × X)) (zero_value : X) where
+  pub bad_modulus_is : length pairs ≤ 64 → ¬ (HavePositiveModuli value pairs) → IsNextOfSeveral value fits from pairs zero_value bad_modulus zero_value
+  bad_modulus_is few bad = record {
+    answer = λ _ positive. absurd (bad positive);
+    too_many = (λ same. absurd (omega (arith, same)), λ many. absurd (omega (arith, many, few)));
+    modulus_is_bad = (λ _. (few, bad), λ _. refl);
+    refusal = λ _. (refl, inr (inl refl));
+  }
+
+  -- the status of a common solution is no other than these
+  pub common_solution_is : (status : ℕ) (found : X) → length pairs ≤ 64 → HavePositiveModuli value pairs → Refuses (Either not_fitting no_solution) zero_value status found
+      → MatchCommonSolution (common_solution_of status found) (IsNever (SolvesEach value pairs)) (IsBeyond fits (IsLeastFrom from (SolvesEach value pairs))) (λ t. IsLeastFrom from (SolvesEach value pairs) (value t))
+      → IsNextOfSeveral value fits from pairs zero_value status found
+  common_solution_is status found few positive refuses own = record {
+    answer = λ _ _. own;
+    too_many = (λ same. absurd (no_third (refuses (λ zero. absurd (omega (arith, same, zero)))).1 (λ e. absurd (omega (arith, e))) (λ e. absurd (omega (arith, e))) same), λ many. absurd (omega (arith, many, few)));
+    modulus_is_bad = (λ same. absurd (no_third (refuses (λ zero. absurd (omega (arith, same, zero)))).1 (λ e. absurd (omega (arith, e))) (λ e. absurd (omega (arith, e))) same), λ (_, bad). absurd (bad positive));
+    refusal = λ refused. let (zeros, why) = refuses refused in (zeros, inr (inr why));
+  }
+
+-- what a solution has beside being in range
+pub without_range : {X : Type 0} (Without Beyond_ : Type 0) (Fits Is : X → Type 0) (found : CommonSolution X) → MatchCommonSolution found Without Beyond_ (λ t. Fits t × Is t) → MatchCommonSolution found Without Beyond_ Is
+without_range Without Beyond_ Fits Is Never h = h
+without_range Without Beyond_ Fits Is Beyond h = h
+without_range Without Beyond_ Fits Is (At t) h = h.1

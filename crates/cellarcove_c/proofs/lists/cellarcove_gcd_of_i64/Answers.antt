@@ -1,0 +1,13 @@
+use Rattle.std.specs.Prelude.{FitsSigned, negsuc}
+use Rattle.std.specs.Int.{w64}
+use Rattle.std.proofs.Common.{arith, refl}
+use Rattle.std.proofs.lemmas.Int.{ints}
+use Rattle.std.proofs.lemmas.List.{map-id}
+use Rattle.cellarcove_c.proofs.Weaker.{by_second, in_domain}
+use Rattle.cellarcove_c.proofs.lists.cellarcove_gcd_of_i64.Goals as goal
+
+pub returns : goal.returns
+returns c =
+    let minus_one : FitsSigned w64 (negsuc 0) = omega (arith, ints) in
+    let own = rw (map-id c.args.numbers.now) at c.gcd_of.ensures in
+    by_second _ _ c.gcd_of.result (in_domain _ _ minus_one c.gcd_of.result own) c.of.ensures.answer c.of.ensures.refusal refl

@@ -1,0 +1,9 @@
+use Rattle.std.proofs.Common.{refl}
+use Rattle.std.proofs.lemmas.List.{map-id}
+use Rattle.cellarcove_c.proofs.Weaker.{by_second}
+use Rattle.cellarcove_c.proofs.lists.cellarcove_lcm_of_i64.Goals as goal
+
+pub returns : goal.returns
+returns c =
+    let own = rw (map-id c.args.numbers.now) at c.lcm_of.ensures in
+    by_second _ _ c.lcm_of.result own c.of.ensures.answer c.of.ensures.refusal refl

@@ -1,0 +1,18 @@
+use Rattle.std.specs.Prelude.{FitsSigned, pos}
+use Rattle.std.specs.Int.{w64}
+use Rattle.std.specs.List.{All}
+use Rattle.std.proofs.Common.{get_or, rules, subst}
+use Rattle.std.proofs.lemmas.List.{take_all}
+use Rattle.std.proofs.lemmas.List.Elements.{All-more, All-nil}
+use Rattle.cellarcove_c.proofs.lists.read_each.Goals as goal
+
+pub loop-number-init : goal.loop-number-init
+loop-number-init c = All-nil (FitsSigned w64)
+
+pub loop-number-preserved : goal.loop-number-preserved
+loop-number-preserved c =
+    let fits : FitsSigned w64 (get_or c.args.numbers.now c.loop-number.number-index (pos 0)) = search rules in
+    All-more (FitsSigned w64) c.args.numbers.now c.loop-number.number-index (pos 0) c.loop-number-test.true c.loop-number.invariant fits
+
+pub returns : goal.returns
+returns c = subst (All (FitsSigned w64)) (take_all c.loop-number.number-index c.args.numbers.now c.loop-number-test.false) c.loop-number.invariant
