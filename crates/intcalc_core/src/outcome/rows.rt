@@ -8,8 +8,8 @@ ghost use Rattle.intcalc_core.specs.Outcome.{Inside};
 
 use crate::calls::{Answer, Refusal};
 use crate::outcome::operand::{Operand, is_from_zero, needs, three, two, widen};
-use num_integer::checked;
 use num_integer::operators::is_zero;
+use num_integer::{Average, Integer, Roots, checked};
 
 pub(crate) fn div_rem<T: Operand>(pair: (T, T)) -> Result<Answer, Refusal>
     requires { T.fits (T.value pair.0) × T.fits (T.value pair.1) }
@@ -80,7 +80,7 @@ pub(crate) fn prev_multiple_of<T: Operand>(pair: (T, T)) -> Result<Answer, Refus
     Ok(Answer::One(widen(n.prev_multiple_of(&d))))
 }
 
-pub(crate) fn is_multiple_of<T: Operand>(pair: (T, T)) -> Result<Answer, Refusal>
+pub(crate) fn is_multiple_of<T: Integer>(pair: (T, T)) -> Result<Answer, Refusal>
     requires { T.fits (T.value pair.0) × T.fits (T.value pair.1) }
     ensures { Inside T.fits (calls.IsMultipleOf (T.value pair.0) (T.value pair.1)) result }
 {
@@ -128,7 +128,7 @@ pub(crate) fn extended_gcd<T: Operand>(pair: (T, T)) -> Result<Answer, Refusal>
     }
 }
 
-pub(crate) fn average_floor<T: Operand>(pair: (T, T)) -> Result<Answer, Refusal>
+pub(crate) fn average_floor<T: Average + Operand>(pair: (T, T)) -> Result<Answer, Refusal>
     requires { T.fits (T.value pair.0) × T.fits (T.value pair.1) }
     ensures { Inside T.fits (calls.AverageFloor (T.value pair.0) (T.value pair.1)) result }
 {
@@ -136,7 +136,7 @@ pub(crate) fn average_floor<T: Operand>(pair: (T, T)) -> Result<Answer, Refusal>
     Ok(Answer::One(widen(a.average_floor(&b))))
 }
 
-pub(crate) fn average_ceil<T: Operand>(pair: (T, T)) -> Result<Answer, Refusal>
+pub(crate) fn average_ceil<T: Average + Operand>(pair: (T, T)) -> Result<Answer, Refusal>
     requires { T.fits (T.value pair.0) × T.fits (T.value pair.1) }
     ensures { Inside T.fits (calls.AverageCeil (T.value pair.0) (T.value pair.1)) result }
 {
@@ -144,7 +144,7 @@ pub(crate) fn average_ceil<T: Operand>(pair: (T, T)) -> Result<Answer, Refusal>
     Ok(Answer::One(widen(a.average_ceil(&b))))
 }
 
-pub(crate) fn sqrt<T: Operand>(x: T) -> Result<Answer, Refusal>
+pub(crate) fn sqrt<T: Roots + Operand>(x: T) -> Result<Answer, Refusal>
     requires in_range { T.fits (T.value x) }
     ensures { Inside T.fits (calls.Sqrt (T.value x)) result }
 {
@@ -152,14 +152,14 @@ pub(crate) fn sqrt<T: Operand>(x: T) -> Result<Answer, Refusal>
     Ok(Answer::One(widen(x.sqrt())))
 }
 
-pub(crate) fn cbrt<T: Operand>(x: T) -> Result<Answer, Refusal>
+pub(crate) fn cbrt<T: Roots + Operand>(x: T) -> Result<Answer, Refusal>
     requires in_range { T.fits (T.value x) }
     ensures { Inside T.fits (calls.Cbrt (T.value x)) result }
 {
     Ok(Answer::One(widen(x.cbrt())))
 }
 
-pub(crate) fn nth_root<T: Operand>(x: T, n: u32) -> Result<Answer, Refusal>
+pub(crate) fn nth_root<T: Roots + Operand>(x: T, n: u32) -> Result<Answer, Refusal>
     requires in_range { T.fits (T.value x) }
     ensures { Inside T.fits (calls.NthRoot (T.value x) (pos n)) result }
 {
