@@ -17,8 +17,10 @@ pub(crate) fn div_rem<T: Operand>(pair: (T, T)) -> Result<Answer, Refusal>
 {
     let (n, d) = pair;
     needs(!is_zero(d), Refusal::ZeroDivisor)?;
-    needs(n.quotient_fits(&d), Refusal::NotFitting)?;
-    Ok(two(n.div_rem(&d)))
+    match checked::div_rem(n, d) {
+        Some(parts) => Ok(two(parts)),
+        None => Err(Refusal::NotFitting),
+    }
 }
 
 pub(crate) fn div_mod_floor<T: Operand>(pair: (T, T)) -> Result<Answer, Refusal>
@@ -27,8 +29,10 @@ pub(crate) fn div_mod_floor<T: Operand>(pair: (T, T)) -> Result<Answer, Refusal>
 {
     let (n, d) = pair;
     needs(!is_zero(d), Refusal::ZeroDivisor)?;
-    needs(n.quotient_fits(&d), Refusal::NotFitting)?;
-    Ok(two(n.div_mod_floor(&d)))
+    match checked::div_mod_floor(n, d) {
+        Some(parts) => Ok(two(parts)),
+        None => Err(Refusal::NotFitting),
+    }
 }
 
 pub(crate) fn div_floor<T: Operand>(pair: (T, T)) -> Result<Answer, Refusal>
@@ -37,8 +41,10 @@ pub(crate) fn div_floor<T: Operand>(pair: (T, T)) -> Result<Answer, Refusal>
 {
     let (n, d) = pair;
     needs(!is_zero(d), Refusal::ZeroDivisor)?;
-    needs(n.quotient_fits(&d), Refusal::NotFitting)?;
-    Ok(Answer::One(widen(n.div_floor(&d))))
+    match checked::div_floor(n, d) {
+        Some(quotient) => Ok(Answer::One(widen(quotient))),
+        None => Err(Refusal::NotFitting),
+    }
 }
 
 pub(crate) fn div_ceil<T: Operand>(pair: (T, T)) -> Result<Answer, Refusal>
@@ -47,8 +53,10 @@ pub(crate) fn div_ceil<T: Operand>(pair: (T, T)) -> Result<Answer, Refusal>
 {
     let (n, d) = pair;
     needs(!is_zero(d), Refusal::ZeroDivisor)?;
-    needs(n.quotient_fits(&d), Refusal::NotFitting)?;
-    Ok(Answer::One(widen(n.div_ceil(&d))))
+    match checked::div_ceil(n, d) {
+        Some(quotient) => Ok(Answer::One(widen(quotient))),
+        None => Err(Refusal::NotFitting),
+    }
 }
 
 pub(crate) fn mod_floor<T: Operand>(pair: (T, T)) -> Result<Answer, Refusal>
@@ -66,8 +74,10 @@ pub(crate) fn next_multiple_of<T: Operand>(pair: (T, T)) -> Result<Answer, Refus
 {
     let (n, d) = pair;
     needs(!is_zero(d), Refusal::ZeroDivisor)?;
-    needs(n.next_multiple_fits(&d), Refusal::NotFitting)?;
-    Ok(Answer::One(widen(n.next_multiple_of(&d))))
+    match checked::next_multiple_of(n, d) {
+        Some(multiple) => Ok(Answer::One(widen(multiple))),
+        None => Err(Refusal::NotFitting),
+    }
 }
 
 pub(crate) fn prev_multiple_of<T: Operand>(pair: (T, T)) -> Result<Answer, Refusal>
@@ -76,8 +86,10 @@ pub(crate) fn prev_multiple_of<T: Operand>(pair: (T, T)) -> Result<Answer, Refus
 {
     let (n, d) = pair;
     needs(!is_zero(d), Refusal::ZeroDivisor)?;
-    needs(n.prev_multiple_fits(&d), Refusal::NotFitting)?;
-    Ok(Answer::One(widen(n.prev_multiple_of(&d))))
+    match checked::prev_multiple_of(n, d) {
+        Some(multiple) => Ok(Answer::One(widen(multiple))),
+        None => Err(Refusal::NotFitting),
+    }
 }
 
 pub(crate) fn is_multiple_of<T: Integer>(pair: (T, T)) -> Result<Answer, Refusal>
@@ -102,8 +114,10 @@ pub(crate) fn lcm<T: Operand>(pair: (T, T)) -> Result<Answer, Refusal>
     ensures { Inside T.fits (calls.Lcm (T.value pair.0) (T.value pair.1)) result }
 {
     let (a, b) = pair;
-    needs(a.lcm_fits(&b), Refusal::NotFitting)?;
-    Ok(Answer::One(widen(a.lcm(&b))))
+    match checked::lcm(a, b) {
+        Some(multiple) => Ok(Answer::One(widen(multiple))),
+        None => Err(Refusal::NotFitting),
+    }
 }
 
 pub(crate) fn gcd_lcm<T: Operand>(pair: (T, T)) -> Result<Answer, Refusal>
@@ -174,6 +188,8 @@ pub(crate) fn binomial<T: Operand>(pair: (T, T)) -> Result<Answer, Refusal>
 {
     let (n, k) = pair;
     needs(is_from_zero(n) && is_from_zero(k), Refusal::NegativeCount)?;
-    needs(n.binomial_fits(&k), Refusal::NotFitting)?;
-    Ok(Answer::One(widen(num_integer::binomial(n, k))))
+    match checked::binomial(n, k) {
+        Some(coefficient) => Ok(Answer::One(widen(coefficient))),
+        None => Err(Refusal::NotFitting),
+    }
 }
