@@ -1,7 +1,7 @@
-"""Prints crates/replay/src/libraries.rt: what Python's own arithmetic answers where the tests of crates/replay
+"""Prints crates/replay/src/tests/libraries.rt: what Python's own arithmetic answers where the tests of crates/replay
 ask ratio64, modular, calendar and uses. It needs Python's standard library alone:
 
-    python3 compare/libraries.py > crates/replay/src/libraries.rt
+    python3 compare/libraries.py > crates/replay/src/tests/libraries.rt
 
 Each function stands beside the one of its name in crates/replay, and goes over the same inputs in the same order.
 """
@@ -486,12 +486,14 @@ def ranked_choices():
 HEAD = """\
 //! What Python returns, as `compare/libraries.py` printed it.
 
-use crate::checksum::Checksum;
-use crate::dates::{self, Dates};
-use crate::fractions::{self, Fractions};
-use crate::models::{self, Models};
-use crate::residues::{self, Residues};
-use crate::walks::Answered;
+use super::checksum::Checksum;
+use super::dates::Dates;
+use super::fractions::Fractions;
+use super::lines::LibraryLine;
+use super::models::Models;
+use super::residues::Residues;
+use super::walks::Answered;
+use own_types::types::Type;
 use own_types::types::Type::{I16, I64, I128, U64, U128};
 """
 
@@ -505,19 +507,19 @@ def line(key, call, answered):
     return "\n".join(["    (", *(f"        {part}," for part in parts), "    ),"])
 
 
-def print_lines(name, module, calls, lines):
+def print_lines(name, key_type, calls, lines):
     texts = [line(key, f"{calls}::{call}", answered) for key, call, answered in lines]
-    print(f"\npub(crate) const {name}: [{module}::Line; {len(texts)}] = [")
+    print(f"\npub(crate) const {name}: [LibraryLine<{key_type}, {calls}>; {len(texts)}] = [")
     print("\n".join(texts))
     print("];")
 
 
 def main():
     print(HEAD, end="")
-    print_lines("RESIDUES", "residues", "Residues", residue_lines())
-    print_lines("FRACTIONS", "fractions", "Fractions", fraction_lines())
-    print_lines("DATES", "dates", "Dates", date_lines())
-    print_lines("MODELS", "models", "Models", model_lines())
+    print_lines("RESIDUES", "Type", "Residues", residue_lines())
+    print_lines("FRACTIONS", "u32", "Fractions", fraction_lines())
+    print_lines("DATES", "u32", "Dates", date_lines())
+    print_lines("MODELS", "Type", "Models", model_lines())
     choices = ranked_choices()
     print("\n/// All choices of the numbers below each number up to 14.")
     print(f"pub(crate) const CHOICES: Answered = Answered({choices.count}, Checksum({choices.checksum}));")

@@ -146,7 +146,7 @@ front_page() {
 
 checksums() {
     (cd "$work/compare" && cargo run --release --offline --features cellarcove >"$work/list") || return 1
-    [ "$(sums "$work/list" | wc -l)" -gt 0 ] && diff <(sums crates/replay/src/list.rt) <(sums "$work/list")
+    [ "$(sums "$work/list" | wc -l)" -gt 0 ] && diff <(sums crates/replay/src/tests/list.rt) <(sums "$work/list")
 }
 
 if ! has cargo || ! has rustfmt; then
@@ -197,7 +197,7 @@ if has_packages "${originals[@]}"; then
     check_tests 'those of roots' upstream_tests --test roots
     check_tests 'what num-integer returns on the front page' front_page
     check_tests 'and without overflow checks' front_page --release --config profile.release.overflow-checks=false
-    check "the checksums of compare, $(sums crates/replay/src/list.rt | wc -l) lines" checksums
+    check "the checksums of compare, $(sums crates/replay/src/tests/list.rt | wc -l) lines" checksums
     if has_packages "${dependents[@]}"; then
         check_dependents
     else

@@ -15,5 +15,5 @@ scripts/make_reference.py
 made=$(mktemp)
 trap 'rm -f "$made"' EXIT
 python3 compare/libraries.py >"$made"
-cat "$made" >crates/replay/src/libraries.rt
+cat "$made" >crates/replay/src/tests/libraries.rt
 scripts/make_numbers.py --write >"$made"

@@ -38,7 +38,7 @@ def theorems():
 
 
 def results(name):
-    rows = ROW.findall((ROOT / 'crates/replay/src' / name).read_text())
+    rows = ROW.findall((ROOT / 'crates/replay/src/tests' / name).read_text())
     return sum(int(count) for row in rows for count in row if count)
 
 

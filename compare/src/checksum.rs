@@ -1,4 +1,4 @@
-//! The checksum. `crates/replay/src/checksum.rt` computes the same one.
+//! The checksum. `crates/replay/src/tests/checksum.rt` computes the same one.
 
 use crate::inputs::Whole;
 

@@ -1,3 +1,2 @@
 pub mod OnlyOutcome
 pub mod FractionLemmas
-pub mod QuotientRefusals

@@ -8,6 +8,7 @@ mod operand;
 mod rows;
 
 use crate::calls::{Answer, Call, Kind, Refusal};
+use num_integer::{Average, Roots};
 use operand::{Operand, narrow, narrow_both, needs};
 use std::num::TryFromIntError;
 
@@ -37,7 +38,7 @@ fn is_made_at(kind: Kind, call: &Call) -> bool
 }
 
 /// Returns the answer of a call at the type of a kind. The parts of fractions are `i64` at every kind.
-fn evaluate_at<T: Operand + TryFrom<i128, Error = TryFromIntError>>(
+fn evaluate_at<T: Average + Roots + Operand + TryFrom<i128, Error = TryFromIntError>>(
     call: &Call,
 ) -> Result<Answer, Refusal>
     requires { Narrows T.value T.fits T.try_from_gives }

@@ -16,7 +16,7 @@ held {x} e small =
     let fits : FitsSigned w64 x = omega (arith, ints) in
     to_z-of_z w64 x fits ∙ e
 
--- where each answer on two numbers fits the form, so does each on what 64 bits hold of them
+-- if each result of a call on two numbers fits the form, so does each result on what 64 bits hold of them
 fits_form : (answer : ℤ → ℤ → ℤ → Type 0) {low high x y m n : ℤ} → x ≡ m → IsSmall x → y ≡ n → IsSmall y
     → EachFits (Between low high) (answer m n) → EachFits (Between low high) (answer (to_z w64 (of_z w64 x)) (to_z w64 (of_z w64 y)))
 fits_form answer e small f tiny fits = rw (held e small, held f tiny) fits
@@ -29,7 +29,7 @@ fits_64_bits answer ends e small f tiny fits = λ z is.
     let inside = fits_form answer e small f tiny fits z is in
     omega (arith, ints)
 
--- where it fits the form, so does what 64 bits hold of it
+-- if it fits the form, so does what 64 bits hold of it
 pub held_fits_form : (answer : ℤ → ℤ → ℤ → Type 0) {low high x y m n r : ℤ} → IsSmall low × IsSmall high
     → x ≡ m → IsSmall x → y ≡ n → IsSmall y
     → EachFits (Between low high) (answer m n) → answer (to_z w64 (of_z w64 x)) (to_z w64 (of_z w64 y)) r → Between low high (to_z w64 (of_z w64 r))

@@ -4,18 +4,18 @@ ghost use Rattle.std.specs.Prelude.{◌≤◌, ⊤, MatchOption, if◌then◌els
 
 use own_types::signed_magnitude::SignedMagnitude;
 
-/// How many numbers are asked for their roots.
+/// How many indices give the numbers whose roots are computed.
 pub(crate) const ROOTED: u32 = 2048;
 
-/// How many degrees are asked.
+/// How many degrees are tried.
 pub(crate) const DEGREES: u32 = 79;
 
-/// Degrees above those that are asked one after the other.
+/// The degrees above 70.
 const GREAT_DEGREES: [u32; 9] = [
     127, 128, 255, 256, 65535, 65536, 2147483647, 2147483648, 4294967295,
 ];
 
-/// The degree at an index. The degrees go from 1 up to 70, and on to the great ones.
+/// The degree at an index. The degrees go from 1 up to 70, and on to the large ones.
 pub(crate) fn degree(index: u32) -> u32 {
     match GREAT_DEGREES.get(index.wrapping_sub(70) as usize) {
         Some(great) => *great,

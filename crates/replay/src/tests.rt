@@ -1,7 +1,18 @@
 //! Each line of the lists, computed again.
 
-use crate::lines::replay;
-use crate::{dates, fractions, libraries, list, models, residues};
+mod calls;
+mod checksum;
+mod dates;
+mod fractions;
+mod libraries;
+mod lines;
+mod list;
+mod models;
+mod residues;
+mod spread;
+mod walks;
+
+use lines::{replay, replay_library};
 
 #[test]
 fn signed_types(rt: HostRuntime) {
@@ -17,22 +28,22 @@ fn unsigned_types(rt: HostRuntime) {
 
 #[test]
 fn residues_of_each(rt: HostRuntime) {
-    residues::replay(&rt, rt.alloc(), &libraries::RESIDUES);
+    replay_library(&rt, rt.alloc(), &libraries::RESIDUES);
 }
 
 #[test]
 fn fractions_of_each(rt: HostRuntime) {
-    fractions::replay(&rt, rt.alloc(), &libraries::FRACTIONS);
+    replay_library(&rt, rt.alloc(), &libraries::FRACTIONS);
 }
 
 #[test]
 fn dates_of_each(rt: HostRuntime) {
-    dates::replay(&rt, rt.alloc(), &libraries::DATES);
+    replay_library(&rt, rt.alloc(), &libraries::DATES);
 }
 
 #[test]
 fn models_of_each(rt: HostRuntime) {
-    models::replay(&rt, rt.alloc(), &libraries::MODELS);
+    replay_library(&rt, rt.alloc(), &libraries::MODELS);
     let (ranked, expected) = (models::ranked_choices(&rt), libraries::CHOICES);
     assert_eq!(rt; ranked, expected, "choices");
 }

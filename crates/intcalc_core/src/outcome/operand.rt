@@ -3,19 +3,25 @@
 ghost use Rattle.std.specs.Prelude.{◌≡◌, ◌↔◌, ◌≤ℤ◌, pos, false, IsTrue, MatchResult};
 ghost use Rattle.intcalc_core.specs.declared.calls.Answer.TheVariants as answers;
 ghost use Rattle.intcalc_core.specs.declared.calls.Refusal.TheVariants as refusals;
+ghost use Rattle.num_integer.specs.RootOf.{IsWithin64Bits};
 ghost use Rattle.intcalc_core.specs.Outcome.{Narrows};
 
 use crate::calls::{Answer, Refusal};
-use num_integer::{Average, Fits, Integer, Roots};
+use num_integer::{Fits, Roots};
+use num_traits::Number;
 use std::num::TryFromIntError;
 
-/// The type of a kind. It has the library's calls.
-pub(crate) trait Operand: Average + Fits + Roots {}
+/// The type of a kind. Its numbers have at most 64 bits, so that `i128` has each of them.
+pub(crate) trait Operand: Fits {
+    ghost within_law: { IsWithin64Bits Self.low Self.high };
+}
 
-impl<T: Average + Fits + Roots> Operand for T {}
+impl<T: Roots + Fits> Operand for T {
+    ghost within_law = { T.Roots.width_law };
+}
 
 /// Returns the value of the type that means `n`, or `OutOfType` if it has no such value.
-pub(crate) fn narrow<T: Integer + TryFrom<i128, Error = TryFromIntError>>(
+pub(crate) fn narrow<T: Number + TryFrom<i128, Error = TryFromIntError>>(
     n: i128,
 ) -> Result<T, Refusal>
     requires { Narrows T.value T.fits T.try_from_gives }
@@ -26,7 +32,7 @@ pub(crate) fn narrow<T: Integer + TryFrom<i128, Error = TryFromIntError>>(
 }
 
 /// Returns the values that mean `a` and `b`, or `OutOfType` if the type has no such value of one of them.
-pub(crate) fn narrow_both<T: Integer + TryFrom<i128, Error = TryFromIntError>>(
+pub(crate) fn narrow_both<T: Number + TryFrom<i128, Error = TryFromIntError>>(
     a: i128,
     b: i128,
 ) -> Result<(T, T), Refusal>
@@ -75,7 +81,7 @@ pub(crate) fn needs(holds: bool, refusal: Refusal) -> Result<(), Refusal>
 }
 
 /// Returns whether the number is not negative.
-pub(crate) fn is_from_zero<T: Operand>(x: T) -> bool
+pub(crate) fn is_from_zero<T: Fits>(x: T) -> bool
     requires in_range { T.fits (T.value x) }
     ensures { IsTrue result ↔ (pos 0 ≤ℤ T.value x) }
 {

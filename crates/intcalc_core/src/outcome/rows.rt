@@ -8,8 +8,8 @@ ghost use Rattle.intcalc_core.specs.Outcome.{Inside};
 
 use crate::calls::{Answer, Refusal};
 use crate::outcome::operand::{Operand, is_from_zero, needs, three, two, widen};
-use num_integer::checked;
 use num_integer::operators::is_zero;
+use num_integer::{Average, Integer, Roots, checked};
 
 pub(crate) fn div_rem<T: Operand>(pair: (T, T)) -> Result<Answer, Refusal>
     requires { T.fits (T.value pair.0) × T.fits (T.value pair.1) }
@@ -17,8 +17,10 @@ pub(crate) fn div_rem<T: Operand>(pair: (T, T)) -> Result<Answer, Refusal>
 {
     let (n, d) = pair;
     needs(!is_zero(d), Refusal::ZeroDivisor)?;
-    needs(n.quotient_fits(&d), Refusal::NotFitting)?;
-    Ok(two(n.div_rem(&d)))
+    match checked::div_rem(n, d) {
+        Some(parts) => Ok(two(parts)),
+        None => Err(Refusal::NotFitting),
+    }
 }
 
 pub(crate) fn div_mod_floor<T: Operand>(pair: (T, T)) -> Result<Answer, Refusal>
@@ -27,8 +29,10 @@ pub(crate) fn div_mod_floor<T: Operand>(pair: (T, T)) -> Result<Answer, Refusal>
 {
     let (n, d) = pair;
     needs(!is_zero(d), Refusal::ZeroDivisor)?;
-    needs(n.quotient_fits(&d), Refusal::NotFitting)?;
-    Ok(two(n.div_mod_floor(&d)))
+    match checked::div_mod_floor(n, d) {
+        Some(parts) => Ok(two(parts)),
+        None => Err(Refusal::NotFitting),
+    }
 }
 
 pub(crate) fn div_floor<T: Operand>(pair: (T, T)) -> Result<Answer, Refusal>
@@ -37,8 +41,10 @@ pub(crate) fn div_floor<T: Operand>(pair: (T, T)) -> Result<Answer, Refusal>
 {
     let (n, d) = pair;
     needs(!is_zero(d), Refusal::ZeroDivisor)?;
-    needs(n.quotient_fits(&d), Refusal::NotFitting)?;
-    Ok(Answer::One(widen(n.div_floor(&d))))
+    match checked::div_floor(n, d) {
+        Some(quotient) => Ok(Answer::One(widen(quotient))),
+        None => Err(Refusal::NotFitting),
+    }
 }
 
 pub(crate) fn div_ceil<T: Operand>(pair: (T, T)) -> Result<Answer, Refusal>
@@ -47,8 +53,10 @@ pub(crate) fn div_ceil<T: Operand>(pair: (T, T)) -> Result<Answer, Refusal>
 {
     let (n, d) = pair;
     needs(!is_zero(d), Refusal::ZeroDivisor)?;
-    needs(n.quotient_fits(&d), Refusal::NotFitting)?;
-    Ok(Answer::One(widen(n.div_ceil(&d))))
+    match checked::div_ceil(n, d) {
+        Some(quotient) => Ok(Answer::One(widen(quotient))),
+        None => Err(Refusal::NotFitting),
+    }
 }
 
 pub(crate) fn mod_floor<T: Operand>(pair: (T, T)) -> Result<Answer, Refusal>
@@ -66,8 +74,10 @@ pub(crate) fn next_multiple_of<T: Operand>(pair: (T, T)) -> Result<Answer, Refus
 {
     let (n, d) = pair;
     needs(!is_zero(d), Refusal::ZeroDivisor)?;
-    needs(n.next_multiple_fits(&d), Refusal::NotFitting)?;
-    Ok(Answer::One(widen(n.next_multiple_of(&d))))
+    match checked::next_multiple_of(n, d) {
+        Some(multiple) => Ok(Answer::One(widen(multiple))),
+        None => Err(Refusal::NotFitting),
+    }
 }
 
 pub(crate) fn prev_multiple_of<T: Operand>(pair: (T, T)) -> Result<Answer, Refusal>
@@ -76,11 +86,13 @@ pub(crate) fn prev_multiple_of<T: Operand>(pair: (T, T)) -> Result<Answer, Refus
 {
     let (n, d) = pair;
     needs(!is_zero(d), Refusal::ZeroDivisor)?;
-    needs(n.prev_multiple_fits(&d), Refusal::NotFitting)?;
-    Ok(Answer::One(widen(n.prev_multiple_of(&d))))
+    match checked::prev_multiple_of(n, d) {
+        Some(multiple) => Ok(Answer::One(widen(multiple))),
+        None => Err(Refusal::NotFitting),
+    }
 }
 
-pub(crate) fn is_multiple_of<T: Operand>(pair: (T, T)) -> Result<Answer, Refusal>
+pub(crate) fn is_multiple_of<T: Integer>(pair: (T, T)) -> Result<Answer, Refusal>
     requires { T.fits (T.value pair.0) × T.fits (T.value pair.1) }
     ensures { Inside T.fits (calls.IsMultipleOf (T.value pair.0) (T.value pair.1)) result }
 {
@@ -102,8 +114,10 @@ pub(crate) fn lcm<T: Operand>(pair: (T, T)) -> Result<Answer, Refusal>
     ensures { Inside T.fits (calls.Lcm (T.value pair.0) (T.value pair.1)) result }
 {
     let (a, b) = pair;
-    needs(a.lcm_fits(&b), Refusal::NotFitting)?;
-    Ok(Answer::One(widen(a.lcm(&b))))
+    match checked::lcm(a, b) {
+        Some(multiple) => Ok(Answer::One(widen(multiple))),
+        None => Err(Refusal::NotFitting),
+    }
 }
 
 pub(crate) fn gcd_lcm<T: Operand>(pair: (T, T)) -> Result<Answer, Refusal>
@@ -128,7 +142,7 @@ pub(crate) fn extended_gcd<T: Operand>(pair: (T, T)) -> Result<Answer, Refusal>
     }
 }
 
-pub(crate) fn average_floor<T: Operand>(pair: (T, T)) -> Result<Answer, Refusal>
+pub(crate) fn average_floor<T: Average + Operand>(pair: (T, T)) -> Result<Answer, Refusal>
     requires { T.fits (T.value pair.0) × T.fits (T.value pair.1) }
     ensures { Inside T.fits (calls.AverageFloor (T.value pair.0) (T.value pair.1)) result }
 {
@@ -136,7 +150,7 @@ pub(crate) fn average_floor<T: Operand>(pair: (T, T)) -> Result<Answer, Refusal>
     Ok(Answer::One(widen(a.average_floor(&b))))
 }
 
-pub(crate) fn average_ceil<T: Operand>(pair: (T, T)) -> Result<Answer, Refusal>
+pub(crate) fn average_ceil<T: Average + Operand>(pair: (T, T)) -> Result<Answer, Refusal>
     requires { T.fits (T.value pair.0) × T.fits (T.value pair.1) }
     ensures { Inside T.fits (calls.AverageCeil (T.value pair.0) (T.value pair.1)) result }
 {
@@ -144,7 +158,7 @@ pub(crate) fn average_ceil<T: Operand>(pair: (T, T)) -> Result<Answer, Refusal>
     Ok(Answer::One(widen(a.average_ceil(&b))))
 }
 
-pub(crate) fn sqrt<T: Operand>(x: T) -> Result<Answer, Refusal>
+pub(crate) fn sqrt<T: Roots + Operand>(x: T) -> Result<Answer, Refusal>
     requires in_range { T.fits (T.value x) }
     ensures { Inside T.fits (calls.Sqrt (T.value x)) result }
 {
@@ -152,14 +166,14 @@ pub(crate) fn sqrt<T: Operand>(x: T) -> Result<Answer, Refusal>
     Ok(Answer::One(widen(x.sqrt())))
 }
 
-pub(crate) fn cbrt<T: Operand>(x: T) -> Result<Answer, Refusal>
+pub(crate) fn cbrt<T: Roots + Operand>(x: T) -> Result<Answer, Refusal>
     requires in_range { T.fits (T.value x) }
     ensures { Inside T.fits (calls.Cbrt (T.value x)) result }
 {
     Ok(Answer::One(widen(x.cbrt())))
 }
 
-pub(crate) fn nth_root<T: Operand>(x: T, n: u32) -> Result<Answer, Refusal>
+pub(crate) fn nth_root<T: Roots + Operand>(x: T, n: u32) -> Result<Answer, Refusal>
     requires in_range { T.fits (T.value x) }
     ensures { Inside T.fits (calls.NthRoot (T.value x) (pos n)) result }
 {
@@ -174,6 +188,8 @@ pub(crate) fn binomial<T: Operand>(pair: (T, T)) -> Result<Answer, Refusal>
 {
     let (n, k) = pair;
     needs(is_from_zero(n) && is_from_zero(k), Refusal::NegativeCount)?;
-    needs(n.binomial_fits(&k), Refusal::NotFitting)?;
-    Ok(Answer::One(widen(num_integer::binomial(n, k))))
+    match checked::binomial(n, k) {
+        Some(coefficient) => Ok(Answer::One(widen(coefficient))),
+        None => Err(Refusal::NotFitting),
+    }
 }

@@ -3,7 +3,7 @@
 /// A call. Its operands are numbers: it takes the first, the first two, or all of them.
 #[derive(Clone, Copy, Debug)]
 pub(crate) enum Call {
-    /// The magnitude of the least number of the type, and its greatest number.
+    /// The magnitude of the smallest number of the type, and its largest number.
     Ends,
     /// Whether the type has the number.
     Has,
@@ -57,4 +57,20 @@ pub(crate) enum Call {
     Cbrt,
     /// The square root and the turns.
     CountedRoot,
+}
+
+impl Call {
+    /// The call that tests the domain of this one, if it is checked together with it.
+    pub(crate) fn test(self) -> Option<Call> {
+        match self {
+            Call::DivFloor | Call::DivCeil => Some(Call::QuotientFits),
+            Call::NextMultipleOf => Some(Call::NextMultipleFits),
+            Call::PrevMultipleOf => Some(Call::PrevMultipleFits),
+            Call::Gcd => Some(Call::GcdFits),
+            Call::Lcm => Some(Call::LcmFits),
+            Call::Binomial => Some(Call::BinomialFits),
+            Call::Multinomial => Some(Call::MultinomialFits),
+            _ => None,
+        }
+    }
 }

@@ -2,9 +2,9 @@
 //! the result is in the type, and else the operands are outside its domain.
 
 use super::calls::Call;
-use super::results::{Numbers, result, truth};
+use super::results::{Numbers, result};
 use super::roots::{check_root, has_no_root};
-use super::rows::returns;
+use super::rows::{returns, returns_as_tested};
 use super::types::Ends;
 use own_types::signed_magnitude::{SignedMagnitude, signed_magnitude_of};
 use own_types::types::Type;
@@ -12,8 +12,8 @@ use own_types::types::Type::{I64, Marked, OneBit, Percent, Small, TwoBits};
 use std::alloc::Global;
 use std::process::Abort;
 
-/// The calls on one number and on two that no test of a domain belongs to.
-static CALLS: [Call; 19] = [
+/// The calls on one number and on two.
+static CALLS: [Call; 27] = [
     Call::Parts,
     Call::IsEven,
     Call::IsOdd,
@@ -28,23 +28,19 @@ static CALLS: [Call; 19] = [
     Call::DivRem,
     Call::Operators,
     Call::DivModFloor,
+    Call::DivFloor,
+    Call::DivCeil,
+    Call::NextMultipleOf,
+    Call::PrevMultipleOf,
     Call::IsMultipleOf,
     Call::Divides,
+    Call::Gcd,
+    Call::Lcm,
     Call::GcdLcm,
+    Call::Binomial,
     Call::CountedBinomial,
+    Call::Multinomial,
     Call::Bezout,
-];
-
-/// A call, and the test of its domain.
-static TESTED: [(Call, Call); 8] = [
-    (Call::DivFloor, Call::QuotientFits),
-    (Call::DivCeil, Call::QuotientFits),
-    (Call::NextMultipleOf, Call::NextMultipleFits),
-    (Call::PrevMultipleOf, Call::PrevMultipleFits),
-    (Call::Gcd, Call::GcdFits),
-    (Call::Lcm, Call::LcmFits),
-    (Call::Binomial, Call::BinomialFits),
-    (Call::Multinomial, Call::MultinomialFits),
 ];
 
 impl Ends {
@@ -72,13 +68,7 @@ fn check_calls(
 ) {
     for call in &CALLS {
         let expected = ends.expected(alloc, *call, operands);
-        returns(rt, alloc, (it, *call), operands, expected);
-    }
-    for (call, test) in &TESTED {
-        let expected = ends.expected(alloc, *call, operands);
-        returns(rt, alloc, (it, *call), operands, expected);
-        let fits = Some(truth(expected.is_some()));
-        returns(rt, alloc, (it, *test), operands, fits);
+        returns_as_tested(rt, alloc, (it, *call), operands, expected);
     }
 }
 

@@ -3,7 +3,7 @@
 ghost use Rattle.std.specs.Prelude.{IsTrue};
 
 use super::calls::Call;
-use super::results::{Numbers, operand, result};
+use super::results::{Numbers, operand, result, truth};
 use own_types::signed_magnitude::{SignedMagnitude, signed_magnitude_of};
 use own_types::types::Type;
 use std::alloc::Global;
@@ -42,6 +42,21 @@ pub(crate) fn returns(
 ) {
     let same = result(alloc, it, call, operands) == expected;
     holds_at(rt, same, &(it, call, operands, expected));
+}
+
+/// Checks what the call returns, and what the test of its domain does.
+pub(crate) fn returns_as_tested(
+    rt: &impl Abort,
+    alloc: Global,
+    (it, call): (Type, Call),
+    operands: &[SignedMagnitude],
+    expected: Option<Numbers>,
+) {
+    returns(rt, alloc, (it, call), operands, expected);
+    if let Some(test) = call.test() {
+        let fits = Some(truth(expected.is_some()));
+        returns(rt, alloc, (it, test), operands, fits);
+    }
 }
 
 /// The signs and magnitudes of the numbers.

@@ -4,11 +4,11 @@
 //! half of its largest number, is at another type the number as near to the end of that type, or to half of it.
 
 use super::calls::Call;
-use super::results::Numbers;
-use super::rows::returns;
+use super::results::{Numbers, one};
+use super::rows::returns_as_tested;
 use super::types::{Ends, ends_of};
 use own_types::signed_magnitude::{SignedMagnitude, signed_magnitude};
-use own_types::types::{NATIVE, Type};
+use own_types::types::{NATIVE, SIGNED, Type};
 use std::alloc::Global;
 use std::process::Abort;
 
@@ -24,13 +24,23 @@ const TURNS: i128 = 1 << 97;
 /// Outside the domain, or out of range.
 const OUT: i128 = i128::MAX;
 
-/// A number, one more, one less, the other sign, 1 if it is even, and 1 if it is odd.
-static NUMBERS: [(i128, [i128; 5]); 5] = [
-    (MIN, [MIN + 1, OUT, OUT, 1, 0]),
-    (-1, [0, -2, 1, 0, 1]),
-    (0, [1, -1, 0, 1, 0]),
-    (1, [2, 0, -1, 0, 1]),
-    (MAX, [OUT, MAX - 1, MIN + 1, 0, 1]),
+/// A number and 0; the number, one more, one less, the other sign, 1 if it is even, and 1 if it is odd.
+static NUMBERS: [([i128; 2], [i128; 6]); 5] = [
+    ([MIN, 0], [MIN, MIN + 1, OUT, OUT, 1, 0]),
+    ([-1, 0], [-1, 0, -2, 1, 0, 1]),
+    ([0, 0], [0, 1, -1, 0, 1, 0]),
+    ([1, 0], [1, 2, 0, -1, 0, 1]),
+    ([MAX, 0], [MAX, OUT, MAX - 1, MIN + 1, 0, 1]),
+];
+
+/// The calls on a number, and the places in a row of the numbers of their results.
+static NUMBER_CALLS: [(Call, &[usize]); 6] = [
+    (Call::Parts, &[0]),
+    (Call::Inc, &[1]),
+    (Call::Dec, &[2]),
+    (Call::Negated, &[3]),
+    (Call::IsEven, &[4]),
+    (Call::IsOdd, &[5]),
 ];
 
 /// Two numbers, their sum, difference and product, and their averages.
@@ -50,6 +60,13 @@ static SUMS: [([i128; 2], [i128; 5]); 15] = [
     ([MAX, MAX], [OUT, 0, OUT, MAX, MAX]),
     ([MAX, MAX - 1], [OUT, 1, OUT, MAX - 1, MAX]),
     ([0, MAX], [MAX, MIN + 1, 0, HALF, HALF + 1]),
+];
+
+static SUM_CALLS: [(Call, &[usize]); 4] = [
+    (Call::Sum, &[0]),
+    (Call::Difference, &[1]),
+    (Call::Product, &[2]),
+    (Call::Averages, &[3, 4]),
 ];
 
 /// Two numbers, the quotient and the remainder by `/` and `%`, those rounded down, the quotient rounded up, the next and the
@@ -75,6 +92,19 @@ static DIVISIONS: [([i128; 2], [i128; 8]); 18] = [
     ([1, MAX], [0, 1, 0, 1, 1, MAX, 0, 0]),
 ];
 
+static DIVISION_CALLS: [(Call, &[usize]); 10] = [
+    (Call::DivRem, &[0, 1]),
+    (Call::Operators, &[0, 1]),
+    (Call::DivFloor, &[2]),
+    (Call::ModFloor, &[3]),
+    (Call::DivModFloor, &[2, 3]),
+    (Call::DivCeil, &[4]),
+    (Call::NextMultipleOf, &[5]),
+    (Call::PrevMultipleOf, &[6]),
+    (Call::IsMultipleOf, &[7]),
+    (Call::Divides, &[7]),
+];
+
 /// Two numbers, the gcd, the lcm, the turns of Stein's loop, the Bezout pair and its turns, the coefficient and its turns, and
 /// the multinomial.
 static DIVISORS: [([i128; 2], [i128; 9]); 18] = [
@@ -98,6 +128,20 @@ static DIVISORS: [([i128; 2], [i128; 9]); 18] = [
     ([1, MAX], [1, MAX, TURNS, 1, 0, 1, 0, 0, OUT]),
 ];
 
+static DIVISOR_CALLS: [(Call, &[usize]); 8] = [
+    (Call::Gcd, &[0]),
+    (Call::Lcm, &[1]),
+    (Call::GcdLcm, &[0, 1]),
+    (Call::CountedGcd, &[0, 2]),
+    (Call::Bezout, &[0, 3, 4, 5]),
+    (Call::Binomial, &[6]),
+    (Call::CountedBinomial, &[6, 7]),
+    (Call::Multinomial, &[8]),
+];
+
+/// The call that only types with a sign have.
+static SIGNED_CALLS: [(Call, &[usize]); 1] = [(Call::BezoutAndMultiple, &[0, 3, 4, 1])];
+
 impl Ends {
     /// The number that is `n` in the tables, if the type has it.
     fn at(self, n: i128) -> Option<SignedMagnitude> {
@@ -113,114 +157,31 @@ impl Ends {
         if self.has(number) { Some(number) } else { None }
     }
 
-    /// The numbers of a result, if the type has each of them.
-    fn all_at(self, [a, b, c, d]: [i128; 4]) -> Option<Numbers> {
-        Some([self.at(a)?, self.at(b)?, self.at(c)?, self.at(d)?])
+    /// The numbers of a result, which the row has at these places, if the type has each of them.
+    fn all_at(self, row: &[i128], places: &[usize]) -> Option<Numbers> {
+        let mut numbers = one((false, 0));
+        for part in 0..places.len().min(4) {
+            numbers[part] = self.at(*row.get(places[part])?)?;
+        }
+        Some(numbers)
     }
 }
 
-/// Whether the number fits, as the numbers of a result.
-fn fits(n: i128) -> [i128; 4] {
-    [if n == OUT { 0 } else { 1 }, 0, 0, 0]
-}
-
-/// Checks the numbers of each call on two numbers of the tables, if the type has both.
-fn check_pair(
+/// Checks the results of the calls on each two numbers of the table that the type has.
+fn check_table<const N: usize>(
     rt: &impl Abort,
     alloc: Global,
     it: Type,
-    [a, b]: [i128; 2],
-    calls: &[(Call, [i128; 4])],
+    table: &[([i128; 2], [i128; N])],
+    calls: &[(Call, &[usize])],
 ) {
     let ends = ends_of(rt, alloc, it);
-    if let (Some(a), Some(b)) = (ends.at(a), ends.at(b)) {
-        for (call, numbers) in calls {
-            returns(rt, alloc, (it, *call), &[a, b], ends.all_at(*numbers));
-        }
-    }
-}
-
-fn check_numbers(rt: &impl Abort, alloc: Global, it: Type) {
-    for (n, row) in &NUMBERS {
-        let [more, less, negated, even, odd] = *row;
-        let calls = [
-            (Call::Parts, [*n, 0, 0, 0]),
-            (Call::Inc, [more, 0, 0, 0]),
-            (Call::Dec, [less, 0, 0, 0]),
-            (Call::Negated, [negated, 0, 0, 0]),
-            (Call::IsEven, [even, 0, 0, 0]),
-            (Call::IsOdd, [odd, 0, 0, 0]),
-        ];
-        check_pair(rt, alloc, it, [*n, 0], &calls);
-    }
-}
-
-fn check_sums(rt: &impl Abort, alloc: Global, it: Type) {
-    for (operands, row) in &SUMS {
-        let [sum, difference, product, floor, ceil] = *row;
-        let calls = [
-            (Call::Sum, [sum, 0, 0, 0]),
-            (Call::Difference, [difference, 0, 0, 0]),
-            (Call::Product, [product, 0, 0, 0]),
-            (Call::Averages, [floor, ceil, 0, 0]),
-        ];
-        check_pair(rt, alloc, it, *operands, &calls);
-    }
-}
-
-fn check_divisions(rt: &impl Abort, alloc: Global, it: Type) {
-    for (operands, row) in &DIVISIONS {
-        let [q, r, floor, left, ceil, next, previous, is_multiple] = *row;
-        let calls = [
-            (Call::DivRem, [q, r, 0, 0]),
-            (Call::Operators, [q, r, 0, 0]),
-            (Call::DivFloor, [floor, 0, 0, 0]),
-            (Call::ModFloor, [left, 0, 0, 0]),
-            (Call::DivModFloor, [floor, left, 0, 0]),
-            (Call::DivCeil, [ceil, 0, 0, 0]),
-            (Call::QuotientFits, fits(floor)),
-            (Call::NextMultipleOf, [next, 0, 0, 0]),
-            (Call::NextMultipleFits, fits(next)),
-            (Call::PrevMultipleOf, [previous, 0, 0, 0]),
-            (Call::PrevMultipleFits, fits(previous)),
-            (Call::IsMultipleOf, [is_multiple, 0, 0, 0]),
-            (Call::Divides, [is_multiple, 0, 0, 0]),
-        ];
-        check_pair(rt, alloc, it, *operands, &calls);
-    }
-}
-
-fn check_divisors(rt: &impl Abort, alloc: Global, it: Type) {
-    for (operands, row) in &DIVISORS {
-        let [
-            gcd,
-            lcm,
-            halvings,
-            x,
-            y,
-            turns,
-            binomial,
-            steps,
-            multinomial,
-        ] = *row;
-        let calls = [
-            (Call::Gcd, [gcd, 0, 0, 0]),
-            (Call::GcdFits, fits(gcd)),
-            (Call::Lcm, [lcm, 0, 0, 0]),
-            (Call::LcmFits, fits(lcm)),
-            (Call::GcdLcm, [gcd, lcm, 0, 0]),
-            (Call::CountedGcd, [gcd, halvings, 0, 0]),
-            (Call::Bezout, [gcd, x, y, turns]),
-            (Call::Binomial, [binomial, 0, 0, 0]),
-            (Call::BinomialFits, fits(binomial)),
-            (Call::CountedBinomial, [binomial, steps, 0, 0]),
-            (Call::Multinomial, [multinomial, 0, 0, 0]),
-            (Call::MultinomialFits, fits(multinomial)),
-        ];
-        check_pair(rt, alloc, it, *operands, &calls);
-        if ends_of(rt, alloc, it).0 > 0 {
-            let calls = [(Call::BezoutAndMultiple, [gcd, x, y, lcm])];
-            check_pair(rt, alloc, it, *operands, &calls);
+    for ([a, b], row) in table {
+        if let (Some(a), Some(b)) = (ends.at(*a), ends.at(*b)) {
+            for &(call, places) in calls {
+                let expected = ends.all_at(row, places);
+                returns_as_tested(rt, alloc, (it, call), &[a, b], expected);
+            }
         }
     }
 }
@@ -228,9 +189,12 @@ fn check_divisors(rt: &impl Abort, alloc: Global, it: Type) {
 #[test]
 fn ends_of_each_type(rt: HostRuntime) {
     for it in NATIVE {
-        check_numbers(&rt, rt.alloc(), it);
-        check_sums(&rt, rt.alloc(), it);
-        check_divisions(&rt, rt.alloc(), it);
-        check_divisors(&rt, rt.alloc(), it);
+        check_table(&rt, rt.alloc(), it, &NUMBERS, &NUMBER_CALLS);
+        check_table(&rt, rt.alloc(), it, &SUMS, &SUM_CALLS);
+        check_table(&rt, rt.alloc(), it, &DIVISIONS, &DIVISION_CALLS);
+        check_table(&rt, rt.alloc(), it, &DIVISORS, &DIVISOR_CALLS);
+    }
+    for it in SIGNED {
+        check_table(&rt, rt.alloc(), it, &DIVISORS, &SIGNED_CALLS);
     }
 }

@@ -1,9 +1,10 @@
 //! The calls of `applied` on few numbers of a type, and all choices of few numbers.
 
-use crate::calls::{with_value, with_values};
-use crate::checksum::Checksum;
-use crate::spread::{OfThree, each_three};
-use crate::walks::Answered;
+use super::calls::{with_value, with_values};
+use super::checksum::Checksum;
+use super::lines::LibraryCall;
+use super::spread::{OfThree, each_three};
+use super::walks::Answered;
 use applied::halving::midpoint;
 use applied::layout::{align_up, padding};
 use applied::paging::{pages, place_of, range_of_page, range_of_part};
@@ -26,13 +27,10 @@ pub(crate) enum Models {
     Midpoint,
 }
 
-/// A type, a call, how many inputs have a result, and the checksum over them.
-pub(crate) type Line = (Type, Models, u32, u64);
-
 /// All choices of the numbers below this are ranked, and of those below each smaller number.
 const CHOSEN_BELOW: u64 = 14;
 
-/// A call that is not made, or whose result does not fit, has none.
+/// The result is `None` if the call may not be made, or if its result does not fit.
 impl<T: Tested> OfThree<T> for Models {
     fn with_result(&self, sum: Checksum, a: T, b: T, m: T) -> Option<Checksum> {
         match self {
@@ -53,15 +51,12 @@ impl<T: Tested> OfThree<T> for Models {
     }
 }
 
-/// Computes the lines again.
-pub(crate) fn replay(rt: &impl Abort, alloc: Global, lines: &[Line]) {
-    for (it, call, count, checksum) in lines {
-        let answered = match it {
-            Type::I64 => each_three::<i64, Models>(rt, alloc, call),
-            _ => each_three::<u64, Models>(rt, alloc, call),
-        };
-        let expected = Answered(*count, Checksum(*checksum));
-        assert_eq!(rt; answered, expected, "{it:?} {call:?}");
+impl LibraryCall<Type> for Models {
+    fn results<R: Abort>(&self, rt: &R, alloc: Global, it: Type) -> Answered {
+        match it {
+            Type::I64 => each_three::<i64, Models>(rt, alloc, self),
+            _ => each_three::<u64, Models>(rt, alloc, self),
+        }
     }
 }
 

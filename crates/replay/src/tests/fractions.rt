@@ -1,8 +1,9 @@
 //! The calls of `ratio64` on fractions of few numbers.
 
-use crate::checksum::Checksum;
-use crate::spread::spread_of_bits;
-use crate::walks::Answered;
+use super::checksum::Checksum;
+use super::lines::LibraryCall;
+use super::spread::spread_of_bits;
+use super::walks::Answered;
 use ratio64::RatioError::{NotFitting, ZeroDenominator};
 use ratio64::{Ratio, RatioError};
 use std::alloc::Global;
@@ -31,9 +32,6 @@ pub(crate) enum Fractions {
     Quotient,
     Order,
 }
-
-/// How many bits the parts have at most, a call, how many inputs have a result, and the checksum over them.
-pub(crate) type Line = (u32, Fractions, u32, u64);
 
 /// How many indices give the parts of a fraction that a call takes alone or with a number.
 const FOR_ONE: u32 = 52;
@@ -149,32 +147,26 @@ fn each_pair(call: Fractions, fractions: &[Ratio]) -> Answered {
     answered
 }
 
-fn answers(rt: &impl Abort, alloc: Global, bits: u32, call: Fractions) -> Answered {
-    let numbers = spread_of_bits(rt, alloc, bits, FOR_ONE);
-    let few = spread_of_bits(rt, alloc, bits, FOR_TWO);
-    match call {
-        Fractions::Rounded
-        | Fractions::Fract
-        | Fractions::Sign
-        | Fractions::Negation
-        | Fractions::Magnitude
-        | Fractions::Reciprocal => each(call, &fractions_of(rt, alloc, &numbers)),
-        Fractions::Power
-        | Fractions::FloorTimes
-        | Fractions::CeilTimes
-        | Fractions::RoundTimes
-        | Fractions::Limited => {
-            each_with_numbers(call, &fractions_of(rt, alloc, &few), &numbers)
+/// Each part has at most this many bits.
+impl LibraryCall<u32> for Fractions {
+    fn results<R: Abort>(&self, rt: &R, alloc: Global, bits: u32) -> Answered {
+        let numbers = spread_of_bits(rt, alloc, bits, FOR_ONE);
+        let few = spread_of_bits(rt, alloc, bits, FOR_TWO);
+        match self {
+            Fractions::Rounded
+            | Fractions::Fract
+            | Fractions::Sign
+            | Fractions::Negation
+            | Fractions::Magnitude
+            | Fractions::Reciprocal => each(*self, &fractions_of(rt, alloc, &numbers)),
+            Fractions::Power
+            | Fractions::FloorTimes
+            | Fractions::CeilTimes
+            | Fractions::RoundTimes
+            | Fractions::Limited => {
+                each_with_numbers(*self, &fractions_of(rt, alloc, &few), &numbers)
+            }
+            _ => each_pair(*self, &fractions_of(rt, alloc, &few)),
         }
-        _ => each_pair(call, &fractions_of(rt, alloc, &few)),
-    }
-}
-
-/// Computes the lines again.
-pub(crate) fn replay(rt: &impl Abort, alloc: Global, lines: &[Line]) {
-    for (bits, call, count, checksum) in lines {
-        let expected = Answered(*count, Checksum(*checksum));
-        let answered = answers(rt, alloc, *bits, *call);
-        assert_eq!(rt; answered, expected, "{bits} {call:?}");
     }
 }

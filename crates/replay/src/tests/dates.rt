@@ -1,8 +1,9 @@
 //! The calls of `calendar` on days, dates and years.
 
-use crate::checksum::Checksum;
-use crate::spread::spread_of_bits;
-use crate::walks::Answered;
+use super::checksum::Checksum;
+use super::lines::LibraryCall;
+use super::spread::spread_of_bits;
+use super::walks::Answered;
 use calendar::{
     Date, Weekday, days_between, days_in_month, days_in_year, easter, first_weekday_on_or_after,
     is_leap_year, last_weekday_of_month, last_weekday_on_or_before, months_between,
@@ -29,9 +30,6 @@ pub(crate) enum Dates {
     MonthsBetween,
 }
 
-/// How many bits the numbers have at most, a call, how many inputs have a result, and the checksum over them.
-pub(crate) type Line = (u32, Dates, u32, u64);
-
 /// How many indices give the numbers that a call takes alone.
 const FOR_ONE: u32 = 2048;
 
@@ -56,8 +54,8 @@ fn with_weekday(sum: Checksum, weekday: Weekday) -> Checksum {
     sum.with_number(i64::from(weekday.iso_number()))
 }
 
-/// The checksum with the date of a day, its place in the year and in the week, and its day, or `None` if one of them
-/// is not there.
+/// The checksum with the date of a day, its place in the year and in the week, and its day, or `None` if a call
+/// returns `None`.
 fn with_day(sum: Checksum, day: i64) -> Option<Checksum> {
     let date = Date::from_day_number(day);
     let week = date.iso_week()?;
@@ -190,21 +188,15 @@ fn each_pair(rt: &impl Abort, alloc: Global, bits: u32, call: Dates) -> Answered
     answered
 }
 
-fn answers(rt: &impl Abort, alloc: Global, bits: u32, call: Dates) -> Answered {
-    match call {
-        Dates::EleventhDays => each_eleventh_day(),
-        Dates::PlusDays | Dates::PlusMonths | Dates::DaysBetween | Dates::MonthsBetween => {
-            each_pair(rt, alloc, bits, call)
+/// Each number has at most this many bits.
+impl LibraryCall<u32> for Dates {
+    fn results<R: Abort>(&self, rt: &R, alloc: Global, bits: u32) -> Answered {
+        match self {
+            Dates::EleventhDays => each_eleventh_day(),
+            Dates::PlusDays | Dates::PlusMonths | Dates::DaysBetween | Dates::MonthsBetween => {
+                each_pair(rt, alloc, bits, *self)
+            }
+            _ => each(rt, alloc, bits, *self),
         }
-        _ => each(rt, alloc, bits, call),
-    }
-}
-
-/// Computes the lines again.
-pub(crate) fn replay(rt: &impl Abort, alloc: Global, lines: &[Line]) {
-    for (bits, call, count, checksum) in lines {
-        let expected = Answered(*count, Checksum(*checksum));
-        let answered = answers(rt, alloc, *bits, *call);
-        assert_eq!(rt; answered, expected, "{bits} {call:?}");
     }
 }

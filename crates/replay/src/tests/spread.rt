@@ -2,10 +2,10 @@
 
 ghost use Rattle.std.specs.Prelude.{◌<ℤ◌, pos};
 
-use crate::calls::{with_value, with_values};
-use crate::checksum::Checksum;
+use super::calls::{with_value, with_values};
+use super::checksum::Checksum;
+use super::walks::{Answered, shape_of, values};
 use crate::inputs::Shape;
-use crate::walks::{Answered, shape_of, values};
 use num_integer::operators::{is_below, zero};
 use own_types::signed_magnitude::{SignedMagnitude, to_i128};
 use own_types::types::Tested;
@@ -65,7 +65,7 @@ pub(crate) fn spread_of_bits(rt: &impl Abort, alloc: Global, bits: u32, count: u
 
 /// A call of two numbers and a positive one at a type.
 pub(crate) trait OfThree<T: Tested> {
-    /// The checksum with the result, or `None` if there is none.
+    /// The checksum with the result, or `None` if the call has no result.
     fn with_result(&self, sum: Checksum, a: T, b: T, m: T) -> Option<Checksum>
         requires numbers_in_range { T.fits (T.value a) × T.fits (T.value b) }
         requires m_in_range { T.fits (T.value m) }

@@ -3,10 +3,10 @@
 ghost use Rattle.std.specs.Prelude.{IfSome};
 ghost use Rattle.std.specs.List.{All};
 
-use crate::calls::{
+use super::calls::{
     BezoutAndMultiple, Call, OfPair, with_multinomial, with_root, with_row, with_value, with_values,
 };
-use crate::checksum::Checksum;
+use super::checksum::Checksum;
 use crate::inputs::{DEGREES, LISTS, ROOTED, ROWS, Shape, counts, degree};
 use num_integer::{Fits, IterBinomial, Roots, checked};
 use num_traits::Signed;
@@ -15,9 +15,9 @@ use own_types::types::Tested;
 use std::alloc::Global;
 use std::process::Abort;
 
-/// How many inputs of a line that have a result are taken: all. To find the input at which a line is red, leave
-/// that line alone in the list and lower this: as long as that input is not taken, the test says on its
-/// left what `cargo run -- inputs I64 Gcd`, in `compare/`, prints at that count.
+/// How many inputs of a line that have a result are taken: all. To find the input at which a line fails, leave
+/// only that line in the list and lower this. As long as that input is not taken, the test prints on its left
+/// what `cargo run -- inputs I64 Gcd`, in `compare/`, prints at that count.
 const TAKEN: u32 = u32::MAX;
 
 /// How many inputs have a result, and the checksum over them and their results.

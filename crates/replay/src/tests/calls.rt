@@ -2,7 +2,7 @@
 
 ghost use Rattle.std.specs.List.{All};
 
-use crate::checksum::Checksum;
+use super::checksum::Checksum;
 use num_integer::operators::is_zero;
 use num_integer::{
     ExtendedGcd, Fits, IterBinomial, Roots, average_ceil, average_floor, cbrt, checked,
@@ -119,7 +119,8 @@ impl<T: Signed + Tested> OfPair<T> for BezoutAndMultiple {
     }
 }
 
-/// The checksum with the degree, if it counts, and the root, or `None` if the number has none.
+/// The checksum with the root, and before it the degree if the call takes one. It is `None` if the number has no root
+/// of this degree.
 pub(crate) fn with_root<T: Roots + Fits>(
     call: Call,
     sum: Checksum,

@@ -1,14 +1,16 @@
 //! What Python returns, as `compare/libraries.py` printed it.
 
-use crate::checksum::Checksum;
-use crate::dates::{self, Dates};
-use crate::fractions::{self, Fractions};
-use crate::models::{self, Models};
-use crate::residues::{self, Residues};
-use crate::walks::Answered;
+use super::checksum::Checksum;
+use super::dates::Dates;
+use super::fractions::Fractions;
+use super::lines::LibraryLine;
+use super::models::Models;
+use super::residues::Residues;
+use super::walks::Answered;
+use own_types::types::Type;
 use own_types::types::Type::{I16, I64, I128, U64, U128};
 
-pub(crate) const RESIDUES: [residues::Line; 70] = [
+pub(crate) const RESIDUES: [LibraryLine<Type, Residues>; 70] = [
     (I16, Residues::Residue, 11774, 13802651078066180270),
     (I16, Residues::Negation, 11774, 10448028312433836680),
     (I16, Residues::Sum, 11774, 2044949017416357470),
@@ -81,7 +83,7 @@ pub(crate) const RESIDUES: [residues::Line; 70] = [
     (U128, Residues::NextSolution, 19086, 18195632966808108465),
 ];
 
-pub(crate) const FRACTIONS: [fractions::Line; 48] = [
+pub(crate) const FRACTIONS: [LibraryLine<u32, Fractions>; 48] = [
     (16, Fractions::Rounded, 1892, 7482830139905477039),
     (16, Fractions::Fract, 1892, 16671293480597889739),
     (16, Fractions::Sign, 1892, 3107740601438982590),
@@ -132,7 +134,7 @@ pub(crate) const FRACTIONS: [fractions::Line; 48] = [
     (64, Fractions::Order, 50625, 10604049815901054986),
 ];
 
-pub(crate) const DATES: [dates::Line; 28] = [
+pub(crate) const DATES: [LibraryLine<u32, Dates>; 28] = [
     (32, Dates::EleventhDays, 332006, 16245856109778977660),
     (16, Dates::Day, 1915, 2116605584101422238),
     (16, Dates::Year, 1915, 14533767960924789170),
@@ -163,7 +165,7 @@ pub(crate) const DATES: [dates::Line; 28] = [
     (64, Dates::MonthsBetween, 16129, 8427298505858436736),
 ];
 
-pub(crate) const MODELS: [models::Line; 14] = [
+pub(crate) const MODELS: [LibraryLine<Type, Models>; 14] = [
     (I64, Models::Pages, 19440, 4481749386761002305),
     (I64, Models::PlaceOf, 19440, 9675400402149877067),
     (I64, Models::RangeOfPage, 8640, 3541557384257873445),

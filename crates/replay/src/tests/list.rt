@@ -1,11 +1,11 @@
 //! What the Rust crate `num-integer` returned, as the program in `compare/` printed it.
 
-use crate::calls::Call::{
+use super::calls::Call::{
     AverageCeil, AverageFloor, Binomial, Cbrt, DivCeil, DivFloor, DivModFloor, DivRem, Divides,
     ExtendedGcd, ExtendedGcdLcm, Gcd, GcdLcm, IsEvenIsOdd, IsMultipleOf, IterBinomial, Lcm,
     ModFloor, Multinomial, NextMultipleOf, NthRoot, PrevMultipleOf, Sqrt,
 };
-use crate::lines::Line;
+use super::lines::Line;
 use own_types::types::Type::{I8, I16, I32, I64, I128, Isize, U8, U16, U32, U64, U128, Usize};
 
 pub(crate) const NARROW_SIGNED: [Line; 69] = [

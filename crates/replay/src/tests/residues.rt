@@ -3,10 +3,11 @@
 ghost use Rattle.std.specs.Prelude.{◌<ℤ◌, pos};
 ghost use Rattle.std.specs.List.{All};
 
-use crate::calls::{with_value, with_values};
-use crate::checksum::Checksum;
-use crate::spread::{OfThree, each_three, spread_of};
-use crate::walks::{Answered, values};
+use super::calls::{with_value, with_values};
+use super::checksum::Checksum;
+use super::lines::LibraryCall;
+use super::spread::{OfThree, each_three, spread_of};
+use super::walks::{Answered, values};
 use modular::{
     CommonSolution, Modular, chinese_remainder, count_congruent, difference_modulo, inverse_modulo,
     negation_modulo, next_common_solution, next_congruent, power_modulo, previous_congruent,
@@ -41,9 +42,6 @@ pub(crate) enum Residues {
     /// The next number from the second on that solves both congruences.
     NextSolution,
 }
-
-/// A type, a call, how many inputs have a result, and the checksum over them.
-pub(crate) type Line = (Type, Residues, u32, u64);
 
 /// How many indices give the numbers of a call with two moduli.
 const FOR_TWO_MODULI: u32 = 24;
@@ -140,17 +138,14 @@ fn answers<T: Modular + Tested>(rt: &impl Abort, alloc: Global, call: Residues) 
     }
 }
 
-/// Computes the lines again.
-pub(crate) fn replay(rt: &impl Abort, alloc: Global, lines: &[Line]) {
-    for (it, call, count, checksum) in lines {
-        let answered = match it {
-            Type::I16 => answers::<i16>(rt, alloc, *call),
-            Type::I64 => answers::<i64>(rt, alloc, *call),
-            Type::U64 => answers::<u64>(rt, alloc, *call),
-            Type::I128 => answers::<i128>(rt, alloc, *call),
-            _ => answers::<u128>(rt, alloc, *call),
-        };
-        let expected = Answered(*count, Checksum(*checksum));
-        assert_eq!(rt; answered, expected, "{it:?} {call:?}");
+impl LibraryCall<Type> for Residues {
+    fn results<R: Abort>(&self, rt: &R, alloc: Global, it: Type) -> Answered {
+        match it {
+            Type::I16 => answers::<i16>(rt, alloc, *self),
+            Type::I64 => answers::<i64>(rt, alloc, *self),
+            Type::U64 => answers::<u64>(rt, alloc, *self),
+            Type::I128 => answers::<i128>(rt, alloc, *self),
+            _ => answers::<u128>(rt, alloc, *self),
+        }
     }
 }
