@@ -10,7 +10,7 @@ use Rattle.intcalc_core.specs.RatioText.{unsigned_part, whole_of}
 abbrev pub is_number_word : List ℕ → Bool
 is_number_word word = nat_lt 0 (length (unsigned_part word)) && list_all is_ascii_digit (unsigned_part word)
 
--- A number word has the value that it writes, moved to the nearer end of `i128` if it lies outside. Other words have none.
--- Examples: `007`: 7; 1 and forty zeros: the largest `i128`; `+1`: none.
+-- A number word has the value that it writes, moved to the nearer end of `i128` if it lies outside. Other words have no value.
+-- Examples: `007`: 7; 1 and forty zeros: the largest `i128`; `+1`: `None`.
 abbrev pub spelled_number : List ℕ → Option ℤ
 spelled_number word = if is_number_word word then Some (saturate_signed w128 (whole_of word)) else None

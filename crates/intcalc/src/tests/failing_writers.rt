@@ -31,8 +31,8 @@ fn fails(alloc: Global, (words, line): Row, most: usize, fault: Fault, len: usiz
     status == 4 && has_failed && Some(tape.text.as_slice()) == line.as_bytes().get(..len)
 }
 
-/// Returns `true` if it fails at each write. An interrupted write is a fault as any other, though a further write
-/// would be well.
+/// Returns `true` if it fails at each write. An interrupted write is a fault like any other, although the next write
+/// would succeed.
 fn fails_at_writes(alloc: Global, row: Row, most: usize) -> bool {
     for len in 0..row.1.len() {
         if len.checked_rem(most) == Some(0) {

@@ -7,8 +7,7 @@ ghost use Rattle.num_integer.specs.RootOf.{IsWithin64Bits};
 ghost use Rattle.intcalc_core.specs.Outcome.{Narrows};
 
 use crate::calls::{Answer, Refusal};
-use num_integer::{Fits, Roots};
-use num_traits::Number;
+use num_integer::{Fits, Integer, Roots};
 use std::num::TryFromIntError;
 
 /// The type of a kind. Its numbers have at most 64 bits, so that `i128` has each of them.
@@ -21,7 +20,7 @@ impl<T: Roots + Fits> Operand for T {
 }
 
 /// Returns the value of the type that means `n`, or `OutOfType` if it has no such value.
-pub(crate) fn narrow<T: Number + TryFrom<i128, Error = TryFromIntError>>(
+pub(crate) fn narrow<T: Integer + TryFrom<i128, Error = TryFromIntError>>(
     n: i128,
 ) -> Result<T, Refusal>
     requires { Narrows T.value T.fits T.try_from_gives }
@@ -32,7 +31,7 @@ pub(crate) fn narrow<T: Number + TryFrom<i128, Error = TryFromIntError>>(
 }
 
 /// Returns the values that mean `a` and `b`, or `OutOfType` if the type has no such value of one of them.
-pub(crate) fn narrow_both<T: Number + TryFrom<i128, Error = TryFromIntError>>(
+pub(crate) fn narrow_both<T: Integer + TryFrom<i128, Error = TryFromIntError>>(
     a: i128,
     b: i128,
 ) -> Result<(T, T), Refusal>
