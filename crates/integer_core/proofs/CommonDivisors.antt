@@ -1,5 +1,6 @@
 -- Greatest common divisors and least common multiples.
-use Rattle.integer_core.proofs.Common.{◌≡◌, ◌≢◌, ◌⊎◌, ◌<◌, ◌≤ℤ◌, ◌<ℤ◌, ◌+ℤ◌, ◌-ℤ◌, ◌*ℤ◌, ℤ, ℕ, pos, unsigned_abs, zero, suc, int_div, int_rem, arith, inl, inr, sym, ◌∙◌, ints, unsigned_abs-mul, linear, sizes, products, expand, comm, left_comm, dist-left, IsDivision, Divides, IsGreatestCommonDivisor, IsLeastCommonMultiple, ◌↔◌, negsuc, GcdFits, IsRange, EachFits}
+use Rattle.std.specs.Prelude.{◌≡◌, ◌≢◌, ◌⊎◌, ◌<◌, ◌≤ℤ◌, ◌<ℤ◌, ◌+ℤ◌, ◌-ℤ◌, ◌*ℤ◌, ◌↔◌}
+use Rattle.integer_core.proofs.Common.{ℤ, ℕ, pos, unsigned_abs, zero, suc, int_div, int_rem, arith, inl, inr, sym, ◌∙◌, ints, unsigned_abs-mul, linear, sizes, products, expand, comm, left_comm, dist-left, IsDivision, Divides, IsGreatestCommonDivisor, IsLeastCommonMultiple, negsuc, GcdFits, IsRange, EachFits}
 use Rattle.integer_core.proofs.Quotients.{zero_or_not, truncated_is}
 use Rattle.integer_core.proofs.Divisibility.{Divides-trans, Divides-zero, Divides-antisym, zero_divides, magnitude_divides, divides_magnitude, Divides-sum, divides_number, divides_remainder, Divides-times, Divides-cancel, exact_quotient, divisor_size}
 use Rattle.integer_core.proofs.Ranges.{within_fits}

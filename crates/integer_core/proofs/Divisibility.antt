@@ -1,5 +1,6 @@
 -- Divisors of integers.
-use Rattle.integer_core.proofs.Common.{◌≡◌, ◌≢◌, ◌/◌, ◌≤ℤ◌, ◌+ℤ◌, ◌-ℤ◌, ◌*ℤ◌, ℤ, pos, negsuc, neg_ℤ, unsigned_abs, int_div, arith, sym, ◌∙◌, ap, ints, unsigned_abs-mul, div-add-mod', dvd_antisymm, mod-eq-zero_of_dvd, ◌∣◌, linear, sizes, products, expand, comm, assoc, IsDivision, Divides, ◌⊎◌, abs_is, inl, inr, int_rem, le_of_dvd, ◌≤◌}
+use Rattle.std.specs.Prelude.{◌≡◌, ◌≢◌, ◌/◌, ◌≤ℤ◌, ◌+ℤ◌, ◌-ℤ◌, ◌*ℤ◌, ◌⊎◌, ◌≤◌}
+use Rattle.integer_core.proofs.Common.{ℤ, pos, negsuc, neg_ℤ, unsigned_abs, int_div, arith, sym, ◌∙◌, ap, ints, unsigned_abs-mul, div-add-mod', dvd_antisymm, mod-eq-zero_of_dvd, ◌∣◌, linear, sizes, products, expand, comm, assoc, IsDivision, Divides, abs_is, inl, inr, int_rem, le_of_dvd}
 use Rattle.integer_core.proofs.Whole.{mul-one}
 use Rattle.integer_core.proofs.Quotients.{small_multiple, truncated_is, zero_or_not}
 

@@ -1,5 +1,6 @@
 -- Turns of Euclid's loop: what a division says of magnitudes, that each state has one turn at most, and that the turns are few.
-use Rattle.integer_core.proofs.Common.{◌≡◌, ◌≢◌, ◌⊎◌, ◌<◌, ◌≤◌, ◌+◌, ◌*◌, ◌-ℤ◌, ◌*ℤ◌, ℤ, ℕ, pos, zero, suc, unsigned_abs, arith, inl, inr, sym, ◌∙◌, ap, lt_of_not-le, unsigned_abs-mul, abs_is, linear, IsTruncated, Divides, IsOnly, ◌^◌, List, [], ◌∷◌, length, subst, pow-succ', IsRun, RunHasTurns}
+use Rattle.std.specs.Prelude.{◌≡◌, ◌≢◌, ◌⊎◌, ◌<◌, ◌≤◌, ◌+◌, ◌*◌, ◌-ℤ◌, ◌*ℤ◌, ◌^◌, ◌∷◌}
+use Rattle.integer_core.proofs.Common.{ℤ, ℕ, pos, zero, suc, unsigned_abs, arith, inl, inr, sym, ◌∙◌, ap, lt_of_not-le, unsigned_abs-mul, abs_is, linear, IsTruncated, Divides, IsOnly, List, [], length, subst, pow-succ', IsRun, RunHasTurns}
 use Rattle.integer_core.proofs.Divisibility.{Divides-trans, divides_magnitude, divides_from_exact, divides_remainder, divisor_size, one_divides}
 use Rattle.integer_core.proofs.Quotients.{zero_or_not, only_truncated}
 use Rattle.integer_core.proofs.Runs.{only_turns}

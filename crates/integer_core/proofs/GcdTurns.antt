@@ -1,5 +1,6 @@
 -- That the turns of Stein's loop are the only ones, and that each number has a bit length.
-use Rattle.integer_core.proofs.Common.{◌≡◌, ◌⊎◌, ◌^◌, ◌<◌, ◌≤◌, ℤ, ℕ, zero, suc, unsigned_abs, arith, inl, inr, sym, ◌∙◌, subst, pow_mono, dvd-mul_right, lt_of_not-le, pow-succ', cases_lt, dvd_antisymm, ◌∣◌, linear, IsOnly, RunHasTurns}
+use Rattle.std.specs.Prelude.{◌≡◌, ◌⊎◌, ◌^◌, ◌<◌, ◌≤◌}
+use Rattle.integer_core.proofs.Common.{ℤ, ℕ, zero, suc, unsigned_abs, arith, inl, inr, sym, ◌∙◌, subst, pow_mono, dvd-mul_right, lt_of_not-le, pow-succ', cases_lt, dvd_antisymm, ◌∣◌, linear, IsOnly, RunHasTurns}
 use Rattle.integer_core.proofs.NaturalGcd.{odd_divides}
 use Rattle.integer_core.proofs.Runs.{only_turns}
 use Rattle.integer_core.specs.GcdRuns.{AreGcdTurns, GcdEnds, IsBitLength, IsGcdTurn, IsOddPart, IsZeroOrLeast, MakesGcdRun, OddPair}

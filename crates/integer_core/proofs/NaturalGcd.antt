@@ -1,5 +1,6 @@
 -- The greatest common divisor of natural numbers, and of their odd parts.
-use Rattle.integer_core.proofs.Common.{ℤ, pos, unsigned_abs, ◌≡◌, ℕ, zero, suc, ◌+◌, ◌-◌, ◌*◌, ◌/◌, ◌%◌, ◌^◌, ◌≤◌, inl, inr, sym, ◌∙◌, ap, subst, arith, mul-one, mul_comm, mul_assoc, pow-suc, pow-add, min, div-add-mod', dvd-mul_right_of_dvd, lt_of_not-le, cases_lt, ints, IsGcd-swap, dvd_of_mod-eq-zero, dvd_trans, mod-eq-zero_of_dvd, IsGcd, ◌∣◌, IsGreatestCommonDivisor}
+use Rattle.std.specs.Prelude.{◌≡◌, ◌+◌, ◌-◌, ◌*◌, ◌/◌, ◌%◌, ◌^◌, ◌≤◌}
+use Rattle.integer_core.proofs.Common.{ℤ, pos, unsigned_abs, ℕ, zero, suc, inl, inr, sym, ◌∙◌, ap, subst, arith, mul-one, mul_comm, mul_assoc, pow-suc, pow-add, min, div-add-mod', dvd-mul_right_of_dvd, lt_of_not-le, cases_lt, ints, IsGcd-swap, dvd_of_mod-eq-zero, dvd_trans, mod-eq-zero_of_dvd, IsGcd, ◌∣◌, IsGreatestCommonDivisor}
 use Rattle.integer_core.proofs.CommonDivisors.{gcd-times}
 use Rattle.integer_core.proofs.Divisibility.{from_natural, to_natural}
 

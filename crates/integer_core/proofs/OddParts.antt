@@ -1,5 +1,6 @@
 -- Odd parts: what a shift by `trailing_zeros` leaves, and what the turns of Stein's loop keep.
-use Rattle.integer_core.proofs.Common.{◌≡◌, ℕ, zero, suc, ◌+◌, ◌-◌, ◌*◌, ◌/◌, ◌%◌, ◌^◌, ◌<◌, ◌≤◌, inl, inr, refl, sym, ◌∙◌, ap, arith, mul-one, div-one, add-one, mul-le-mul_right, mul-pos, pow_mono, pow_pos, pow-add, le-mul_of_pos_right, pow-succ', div-div-eq-div-mul, lt_of_not-le, IsGcd, Width, w64, w128, trailing_zeros, mul-lt, IsGcd-from_sub, IsGcd-swap, bit_xor, xor_lt, xor_mod, and_le_l, and_le_r, div-add-mod', mul-mod_left, mul-div_cancel}
+use Rattle.std.specs.Prelude.{◌≡◌, ◌+◌, ◌-◌, ◌*◌, ◌/◌, ◌%◌, ◌^◌, ◌<◌, ◌≤◌}
+use Rattle.integer_core.proofs.Common.{ℕ, zero, suc, inl, inr, refl, sym, ◌∙◌, ap, arith, mul-one, div-one, add-one, mul-le-mul_right, mul-pos, pow_mono, pow_pos, pow-add, le-mul_of_pos_right, pow-succ', div-div-eq-div-mul, lt_of_not-le, IsGcd, Width, w64, w128, trailing_zeros, mul-lt, IsGcd-from_sub, IsGcd-swap, bit_xor, xor_lt, xor_mod, and_le_l, and_le_r, div-add-mod', mul-mod_left, mul-div_cancel}
 use lib.Count.{count_trailing_zeros, under}
 use Rattle.std.specs.Int.{w8, w16, w32}
 use Rattle.std.proofs.lemmas.Nat.Bits.{bit_at-trailing_zeros, bit_at_xor}

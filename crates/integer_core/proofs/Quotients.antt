@@ -1,5 +1,6 @@
 -- Quotients, remainders and multiples by their definition: they exist, they are the only ones, and when they fit.
-use Rattle.integer_core.proofs.Common.{◌≡◌, ◌≢◌, ◌⊎◌, ◌<◌, ◌≤◌, ◌+◌, ◌*◌, ◌+ℤ◌, ◌-ℤ◌, ◌*ℤ◌, ℤ, pos, negsuc, neg_ℤ, unsigned_abs, suc, int_div, int_rem, arith, ◌∙◌, inl, inr, subst, ints, unsigned_abs-mul, mul-le, mod-le, le-mul_of_pos_right, linear, sizes, products, expand, dist, neg-mul, IsDivision, IsTruncated, IsFloored, IsCeiled, IsQuotient, IsRemainder, EachKind, HaveSameSign, HaveOppositeSigns, IsRange, EachFits, ◌↔◌, IsMultiple, IsOnly}
+use Rattle.std.specs.Prelude.{◌≡◌, ◌≢◌, ◌⊎◌, ◌<◌, ◌≤◌, ◌+◌, ◌*◌, ◌+ℤ◌, ◌-ℤ◌, ◌*ℤ◌, ◌↔◌}
+use Rattle.integer_core.proofs.Common.{ℤ, pos, negsuc, neg_ℤ, unsigned_abs, suc, int_div, int_rem, arith, ◌∙◌, inl, inr, subst, ints, unsigned_abs-mul, mul-le, mod-le, le-mul_of_pos_right, linear, sizes, products, expand, dist, neg-mul, IsDivision, IsTruncated, IsFloored, IsCeiled, IsQuotient, IsRemainder, EachKind, HaveSameSign, HaveOppositeSigns, IsRange, EachFits, IsMultiple, IsOnly}
 use Rattle.std.proofs.lemmas.Int.{quot-rem, rem_below}
 use Rattle.integer_core.proofs.Ranges.{LiesWithin, within_fits}
 

@@ -1,5 +1,6 @@
 -- What fits, by the range of a type.
-use Rattle.integer_core.proofs.Common.{natural, sym, ◌≡◌, ◌⊎◌, ◌≤ℤ◌, ◌<ℤ◌, ◌+ℤ◌, ◌-ℤ◌, ℕ, ℤ, pos, unsigned_abs, Width, ◌∙◌, arith, subst, linear, sizes, IsLeastCommonMultiple, IsRange, EachFits}
+use Rattle.std.specs.Prelude.{◌≡◌, ◌⊎◌, ◌≤ℤ◌, ◌<ℤ◌, ◌+ℤ◌, ◌-ℤ◌}
+use Rattle.integer_core.proofs.Common.{natural, sym, ℕ, ℤ, pos, unsigned_abs, Width, ◌∙◌, arith, subst, linear, sizes, IsLeastCommonMultiple, IsRange, EachFits}
 use Rattle.integer_core.specs.Between.{Between}
 use Rattle.integer_core.specs.NativeRanges.{IsNative}
 

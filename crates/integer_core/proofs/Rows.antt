@@ -1,5 +1,6 @@
 -- The rows of the extended Euclidean algorithm after some turns of its loop, how large their coefficients grow, and that they fit.
-use Rattle.integer_core.proofs.Common.{◌≡◌, ◌≢◌, ◌⊎◌, ◌<◌, ◌≤◌, ◌+◌, ◌+ℤ◌, ◌-ℤ◌, ◌*ℤ◌, ℤ, ℕ, pos, zero, suc, unsigned_abs, arith, refl, inl, inr, ints, abs_is, linear, expand, IsTruncated, Divides, IsGreatestCommonDivisor, ◌*◌, ap, mul-le-mul_left, unsigned_abs-mul, products, ◌^◌, ◌≤ℤ◌, negsuc, ◌∙◌, zero-*ℤ, +ℤ_idr, IsRange}
+use Rattle.std.specs.Prelude.{◌≡◌, ◌≢◌, ◌⊎◌, ◌<◌, ◌≤◌, ◌+◌, ◌+ℤ◌, ◌-ℤ◌, ◌*ℤ◌, ◌*◌, ◌^◌, ◌≤ℤ◌}
+use Rattle.integer_core.proofs.Common.{ℤ, ℕ, pos, zero, suc, unsigned_abs, arith, refl, inl, inr, ints, abs_is, linear, expand, IsTruncated, Divides, IsGreatestCommonDivisor, ap, mul-le-mul_left, unsigned_abs-mul, products, negsuc, ◌∙◌, zero-*ℤ, +ℤ_idr, IsRange}
 use Rattle.integer_core.proofs.CommonDivisors.{gcd-divisor, gcd-remainder, no_minus_one}
 use Rattle.integer_core.proofs.Divisibility.{rest_is, divides_or_not, divisor_size}
 use Rattle.integer_core.proofs.EuclidTurns.{inexact, truncated_size, twice, not_one, few_turns}

@@ -1,5 +1,6 @@
 -- Stein's method on the values of an unsigned type, and what its loops keep.
-use Rattle.integer_core.proofs.Common.{natural, ◌≡◌, ◌≢◌, ◌↔◌, ◌⊎◌, ◌≤ℤ◌, ℤ, pos, unsigned_abs, IsGcd, ℕ, ◌*◌, ◌%◌, ◌^◌, ◌<◌, refl, sym, subst, arith, inl, inr, ints, abs_is, linear, eq-one_of_dvd-one, one-dvd, dvd_refl, le_of_dvd, IsGreatestCommonDivisor, ◌+◌, List, [], ◌∷◌, map, ◌∙◌, IsRun, RunHasTurns}
+use Rattle.std.specs.Prelude.{◌≡◌, ◌≢◌, ◌↔◌, ◌⊎◌, ◌≤ℤ◌, ◌*◌, ◌%◌, ◌^◌, ◌<◌, ◌+◌, ◌∷◌}
+use Rattle.integer_core.proofs.Common.{natural, ℤ, pos, unsigned_abs, IsGcd, ℕ, refl, sym, subst, arith, inl, inr, ints, abs_is, linear, eq-one_of_dvd-one, one-dvd, dvd_refl, le_of_dvd, IsGreatestCommonDivisor, List, [], map, ◌∙◌, IsRun, RunHasTurns}
 use Rattle.std.specs.Int.{IsPowerOfTwo}
 use Rattle.integer_core.proofs.CommonDivisors.{gcd-magnitudes, gcd-zero}
 use Rattle.integer_core.proofs.NaturalGcd.{odd_divisor, odd_divides}

@@ -1,5 +1,6 @@
 -- Averages by bits: two numbers are twice the bits that both have, and those that one alone has.
-use Rattle.integer_core.proofs.Common.{◌≡◌, ◌*◌, ◌+◌, ◌+ℤ◌, ◌-ℤ◌, ◌*ℤ◌, ◌≤ℤ◌, ◌<ℤ◌, ℕ, ℤ, pos, negsuc, bit_and, bit_or, bit_xor, Width, FitsUnsignedBits, arith, subst, sym, ap, ◌∙◌, lt_of_le_of_lt, ints, by_lt_z, and_le_l, or_lt, xor_lt, products}
+use Rattle.std.specs.Prelude.{◌≡◌, ◌*◌, ◌+◌, ◌+ℤ◌, ◌-ℤ◌, ◌*ℤ◌, ◌≤ℤ◌, ◌<ℤ◌}
+use Rattle.integer_core.proofs.Common.{ℕ, ℤ, pos, negsuc, bit_and, bit_or, bit_xor, Width, FitsUnsignedBits, arith, subst, sym, ap, ◌∙◌, lt_of_le_of_lt, ints, by_lt_z, and_le_l, or_lt, xor_lt, products}
 use Rattle.std.specs.Int.{bit_at, int_shr}
 use Rattle.std.specs.Int.Bits.{xor_add_and, or_add_and}
 use Rattle.std.proofs.lemmas.Nat.Bits.{bit_at_and, bit_at_or, bit_at_xor, bit_at-lt}

@@ -1,5 +1,6 @@
 -- A cube root found digit by digit: what is known after some digits.
-use Rattle.integer_core.proofs.Common.{pos, ◌≡◌, ℕ, ◌+◌, ◌-◌, ◌*◌, ◌/◌, ◌%◌, ◌^◌, ◌<◌, ◌≤◌, ap, refl, arith, mul-le-mul, mul-le-mul_left, le-div_iff_mul-le, div-lt_iff_lt-mul, pow_pos, pow_mono, pow-add, mod-eq_of_lt}
+use Rattle.std.specs.Prelude.{◌≡◌, ◌+◌, ◌-◌, ◌*◌, ◌/◌, ◌%◌, ◌^◌, ◌<◌, ◌≤◌}
+use Rattle.integer_core.proofs.Common.{pos, ℕ, ap, refl, arith, mul-le-mul, mul-le-mul_left, le-div_iff_mul-le, div-lt_iff_lt-mul, pow_pos, pow_mono, pow-add, mod-eq_of_lt}
 use Rattle.integer_roots.specs.RootOf.{IsFloorRoot}
 use Rattle.integer_roots.proofs.Powers.{power_three, base_below, floor_root}
 

@@ -1,5 +1,6 @@
 -- Roots of integers by the roots of their magnitudes.
-use Rattle.integer_core.proofs.Common.{◌≡◌, ◌≢◌, ◌<ℤ◌, ◌≤ℤ◌, ℤ, pos, negsuc, neg_ℤ, unsigned_abs, ℕ, zero, suc, ◌+◌, ◌^◌, ◌<◌, ◌≤◌, arith, refl, mul-le-mul_right, ints, by_lt_z, pow-le-pow_right, IsRange, linear, sizes}
+use Rattle.std.specs.Prelude.{◌≡◌, ◌≢◌, ◌<ℤ◌, ◌≤ℤ◌, ◌+◌, ◌^◌, ◌<◌, ◌≤◌}
+use Rattle.integer_core.proofs.Common.{ℤ, pos, negsuc, neg_ℤ, unsigned_abs, ℕ, zero, suc, arith, refl, mul-le-mul_right, ints, by_lt_z, pow-le-pow_right, IsRange, linear, sizes}
 use Rattle.integer_roots.specs.RootOf.{IsFloorRoot, IsRoot}
 use Rattle.integer_roots.proofs.OnlyAnswers.{root_is_only_one}
 use Rattle.integer_roots.proofs.Powers.{power_one, power_two, floor_root}

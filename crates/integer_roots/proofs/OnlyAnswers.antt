@@ -1,5 +1,6 @@
 -- Each answer is the only number that meets its definition.
-use Rattle.integer_core.proofs.Common.{◌≡◌, ℤ, pos, negsuc, ℕ, ◌+◌, arith, sym, ◌∙◌, ints, by_lt_z, IsOnly, linear, products}
+use Rattle.std.specs.Prelude.{◌≡◌, ◌+◌}
+use Rattle.integer_core.proofs.Common.{ℤ, pos, negsuc, ℕ, arith, sym, ◌∙◌, ints, by_lt_z, IsOnly, linear, products}
 use Rattle.integer_core.proofs.Runs.{only_turns}
 use Rattle.integer_roots.specs.Averages.{IsAverageFloor, IsAverageCeil}
 use Rattle.integer_roots.specs.RootOf.{IsFloorRoot, IsRoot}

@@ -1,5 +1,6 @@
 -- Powers, multiplied out and compared.
-use Rattle.integer_core.proofs.Common.{◌≡◌, ◌≢◌, ◌/◌, ◌%◌, ℕ, suc, zero, ◌*◌, ◌^◌, ◌+◌, ◌<◌, ◌≤◌, ap, refl, ◌∙◌, arith, pos, mul-le-mul_left, mul-le-mul_right, mul-one, mul-pos, pow-add, pow_mono, ints, pow-zero, pow-succ', pow-le-pow_left, pow-le-pow_right, pow-lt-pow_left, lt_of_not-le}
+use Rattle.std.specs.Prelude.{◌≡◌, ◌≢◌, ◌/◌, ◌%◌, ◌*◌, ◌^◌, ◌+◌, ◌<◌, ◌≤◌}
+use Rattle.integer_core.proofs.Common.{ℕ, suc, zero, ap, refl, ◌∙◌, arith, pos, mul-le-mul_left, mul-le-mul_right, mul-one, mul-pos, pow-add, pow_mono, ints, pow-zero, pow-succ', pow-le-pow_left, pow-le-pow_right, pow-lt-pow_left, lt_of_not-le}
 use Rattle.integer_roots.specs.RootOf.{IsFloorRoot}
 
 -- the first three powers

@@ -1,5 +1,6 @@
 -- Newton's step for the root of any degree, over natural numbers, and the guesses of the two loops, which stay above 1 and small.
-use Rattle.integer_core.proofs.Common.{pos, ◌≡◌, ℕ, zero, suc, ◌+◌, ◌-◌, ◌*◌, ◌/◌, ◌%◌, ◌^◌, ◌<◌, ◌≤◌, arith, mul-le-mul_left, mul-le-mul_right, div-mul-le_self, pow_mono, pow_pos, pow-succ', pow-le-pow_left, pow-le-pow_right, one_shl, inl, inr, refl, div-lt_iff_lt-mul, pow-zero, one-le-pow, add-mul-div_right, one-mul, lt_of_not-le, le-div, cases_lt}
+use Rattle.std.specs.Prelude.{◌≡◌, ◌+◌, ◌-◌, ◌*◌, ◌/◌, ◌%◌, ◌^◌, ◌<◌, ◌≤◌}
+use Rattle.integer_core.proofs.Common.{pos, ℕ, zero, suc, arith, mul-le-mul_left, mul-le-mul_right, div-mul-le_self, pow_mono, pow_pos, pow-succ', pow-le-pow_left, pow-le-pow_right, one_shl, inl, inr, refl, div-lt_iff_lt-mul, pow-zero, one-le-pow, add-mul-div_right, one-mul, lt_of_not-le, le-div, cases_lt}
 use Rattle.std.specs.Int.{div_ceil}
 use Rattle.std.proofs.lemmas.Grind.{div_ceil_times}
 use Rattle.integer_roots.specs.RootOf.{IsFloorRoot}

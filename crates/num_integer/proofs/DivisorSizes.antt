@@ -1,5 +1,6 @@
 -- How large divisors and multiples are.
-use Rattle.integer_core.proofs.Common.{◌≡◌, ◌≢◌, ◌<◌, ◌≤◌, ◌≤ℤ◌, ◌<ℤ◌, ◌*ℤ◌, ℤ, ℕ, pos, unsigned_abs, arith, ◌∙◌, inl, inr, refl, ints, IsRange, Divides, IsGreatestCommonDivisor, IsLeastCommonMultiple, comm, linear, products, sizes}
+use Rattle.std.specs.Prelude.{◌≡◌, ◌≢◌, ◌<◌, ◌≤◌, ◌≤ℤ◌, ◌<ℤ◌, ◌*ℤ◌}
+use Rattle.integer_core.proofs.Common.{ℤ, ℕ, pos, unsigned_abs, arith, ◌∙◌, inl, inr, refl, ints, IsRange, Divides, IsGreatestCommonDivisor, IsLeastCommonMultiple, comm, linear, products, sizes}
 use Rattle.integer_core.proofs.CommonDivisors.{gcd-swap, gcd-zero, only_gcd}
 use Rattle.integer_core.proofs.Divisibility.{cancel, zero_divides, divisor_size}
 use Rattle.integer_core.proofs.Quotients.{zero_or_not}

@@ -1,5 +1,6 @@
 -- Quotients, remainders and multiples by a positive number.
-use Rattle.integer_core.proofs.Common.{◌≡◌, ◌≢◌, ◌↔◌, ◌≤ℤ◌, ◌<ℤ◌, ◌+ℤ◌, ◌-ℤ◌, ◌*ℤ◌, ℤ, ℕ, pos, unsigned_abs, int_div, Bool, IsTrue, arith, ◌∙◌, subst, by_lt_z, IsCeiled, IsDivision, IsFloored, IsMultiple, IsQuotient, IsRemainder, EachFits, IsRange, Divides, comm, expand, linear, products, sizes}
+use Rattle.std.specs.Prelude.{◌≡◌, ◌≢◌, ◌↔◌, ◌≤ℤ◌, ◌<ℤ◌, ◌+ℤ◌, ◌-ℤ◌, ◌*ℤ◌}
+use Rattle.integer_core.proofs.Common.{ℤ, ℕ, pos, unsigned_abs, int_div, Bool, IsTrue, arith, ◌∙◌, subst, by_lt_z, IsCeiled, IsDivision, IsFloored, IsMultiple, IsQuotient, IsRemainder, EachFits, IsRange, Divides, comm, expand, linear, products, sizes}
 use Rattle.num_integer.specs.Parts.{signed}
 use Rattle.integer_core.proofs.Quotients.{only_floored, other_quotient_fits, truncated_is}
 use Rattle.num_integer.proofs.FittingAnswers.{signed_is}

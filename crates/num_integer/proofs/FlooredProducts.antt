@@ -1,5 +1,6 @@
 -- Floored quotients of products, by signs and magnitudes.
-use Rattle.integer_core.proofs.Common.{◌≡◌, ◌<◌, ◌≤ℤ◌, ◌<ℤ◌, ◌*◌, ◌/◌, ◌%◌, ◌*ℤ◌, ℕ, ℤ, pos, neg_ℤ, not, Bool, true, false, arith, inl, by_lt_z, ints, linear, products, sizes, IsFloored, IsRange}
+use Rattle.std.specs.Prelude.{◌≡◌, ◌<◌, ◌≤ℤ◌, ◌<ℤ◌, ◌*◌, ◌/◌, ◌%◌, ◌*ℤ◌}
+use Rattle.integer_core.proofs.Common.{ℕ, ℤ, pos, neg_ℤ, not, Bool, true, false, arith, inl, by_lt_z, ints, linear, products, sizes, IsFloored, IsRange}
 use Rattle.std.proofs.Math.Bool.{beq}
 use Rattle.integer_core.proofs.Ranges.{within_fits}
 use Rattle.num_integer.proofs.FlooredByPositive.{floored_by_range, floored_range}

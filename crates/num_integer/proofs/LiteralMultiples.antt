@@ -1,5 +1,6 @@
 -- Least common multiples of literals, which the prover computes.
-use Rattle.integer_core.proofs.Common.{◌≡◌, ◌<◌, ◌*◌, ◌/◌, ◌%◌, ◌^◌, ℤ, ℕ, pos, zero, suc, unsigned_abs, IsTrue, nat_lt, FitsSigned, FitsUnsignedBits, Width, arith, ◌∙◌, ap, inl, inr, refl, subst, sym, div-le_self, IsGreatestCommonDivisor, IsLeastCommonMultiple}
+use Rattle.std.specs.Prelude.{◌≡◌, ◌<◌, ◌*◌, ◌/◌, ◌%◌, ◌^◌}
+use Rattle.integer_core.proofs.Common.{ℤ, ℕ, pos, zero, suc, unsigned_abs, IsTrue, nat_lt, FitsSigned, FitsUnsignedBits, Width, arith, ◌∙◌, ap, inl, inr, refl, subst, sym, div-le_self, IsGreatestCommonDivisor, IsLeastCommonMultiple}
 use mir.Val.{hbits}
 use Rattle.std.proofs.lemmas.Bool.{ltb-true}
 use Rattle.std.proofs.lemmas.Int.{fits_signed_from_abs}

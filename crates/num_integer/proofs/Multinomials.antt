@@ -1,7 +1,8 @@
 -- Multinomials: the product of the coefficients of the running sums, in any order, and the loops over counts.
 use Rattle.std.specs.List.{All, AllWithin, swap}
 use Rattle.std.specs.Option.{MatchOption}
-use Rattle.integer_core.proofs.Common.{ℤ, pos, unsigned_abs, List, [], ◌∷◌, map, sum, length, get_or, drop, ◌≡◌, ◌+◌, ◌<◌, ◌≤◌, ◌≤ℤ◌, ◌+ℤ◌, ◌*ℤ◌, ℕ, zero, suc, ◌↔◌, ◌*◌, ◌<ℤ◌, Bool, true, false, Option, Some, None, IsTrue, is_some, set, ◌-◌, ap, sym, ◌∙◌, arith, refl, subst, inl, inr, zero-add, le-mul_of_pos_right, mul-pos, eq_of_mul-eq-mul_left, cases_eq, ints, unsigned_abs-mul, comm, IsRange, EachFits}
+use Rattle.std.specs.Prelude.{◌∷◌, ◌≡◌, ◌+◌, ◌<◌, ◌≤◌, ◌≤ℤ◌, ◌+ℤ◌, ◌*ℤ◌, ◌↔◌, ◌*◌, ◌<ℤ◌, ◌-◌}
+use Rattle.integer_core.proofs.Common.{ℤ, pos, unsigned_abs, List, [], map, sum, length, get_or, drop, ℕ, zero, suc, Bool, true, false, Option, Some, None, IsTrue, is_some, set, ap, sym, ◌∙◌, arith, refl, subst, inl, inr, zero-add, le-mul_of_pos_right, mul-pos, eq_of_mul-eq-mul_left, cases_eq, ints, unsigned_abs-mul, comm, IsRange, EachFits}
 use Rattle.std.proofs.lemmas.List.{at_drop_all, at_drop_more, get_or-set_other, get_or-set_same, length-set}
 use Rattle.std.proofs.lemmas.List.Edits.{swap_is}
 use Rattle.std.proofs.lemmas.List.Elements.{All-from_all_within, AllWithin-more, AllWithin-upto, at_read}

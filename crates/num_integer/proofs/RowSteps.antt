@@ -1,6 +1,7 @@
 -- Rows: from one coefficient to the next, and the rest of a row.
 use Rattle.std.specs.List.{All}
-use Rattle.integer_core.proofs.Common.{◌≤ℤ◌, ◌<ℤ◌, ◌+ℤ◌, ◌-ℤ◌, ◌*ℤ◌, ℤ, pos, negsuc, unsigned_abs, ◌≢◌, int_div, int_rem, ◌≡◌, ◌+◌, ◌-◌, ◌/◌, ◌<◌, ◌≤◌, ℕ, suc, List, [], ◌∷◌, length, drop, get_or, reverse, refl, sym, ◌*◌, ap, ◌∙◌, arith, min, ints, abs_is, comm, expand, linear, products, Divides, IsGreatestCommonDivisor, IsRange}
+use Rattle.std.specs.Prelude.{◌≤ℤ◌, ◌<ℤ◌, ◌+ℤ◌, ◌-ℤ◌, ◌*ℤ◌, ◌≢◌, ◌≡◌, ◌+◌, ◌-◌, ◌/◌, ◌<◌, ◌≤◌, ◌∷◌, ◌*◌}
+use Rattle.integer_core.proofs.Common.{ℤ, pos, negsuc, unsigned_abs, int_div, int_rem, ℕ, suc, List, [], length, drop, get_or, reverse, refl, sym, ap, ◌∙◌, arith, min, ints, abs_is, comm, expand, linear, products, Divides, IsGreatestCommonDivisor, IsRange}
 use Rattle.std.proofs.lemmas.List.{at_drop_more, drop_all, get_or-reverse, length-reverse}
 use Rattle.std.proofs.lemmas.List.Elements.{All-from_get_or, All-nil}
 use Rattle.std.proofs.lemmas.List.FromFn.{fill_by_all, get_or-map-range_with_len, length-map-range_with_len}

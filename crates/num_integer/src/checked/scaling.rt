@@ -48,6 +48,7 @@ pub fn product_div_mod_floor<T: NativeInteger<Magnitude = u64>>(a: T, b: T, d: T
 
 /// Returns the quotient of `a * b` by `d`, rounded down, and its remainder. Each number is its sign and
 /// its magnitude.
+#[tactic(auto, using(crate::proofs::FlooredProducts::division_by_magnitudes))]
 fn floored_product(a: (bool, u64), b: (bool, u64), d: (bool, u64)) -> ((bool, u128), (bool, u128))
     requires { 0 < d.1 }
     ensures { IsFloored (signed a.0 a.1 *ℤ signed b.0 b.1) (signed d.0 d.1)
@@ -61,6 +62,7 @@ fn floored_product(a: (bool, u64), b: (bool, u64), d: (bool, u64)) -> ((bool, u1
 
 /// Returns the magnitudes of the quotient by `d`, rounded down, and of its remainder, of the number with
 /// this sign and this magnitude. The quotient has the same sign.
+#[tactic(auto, using(crate::proofs::FlooredProducts::exact_floored, crate::proofs::NaturalDivision::natural_division))]
 fn floored(negative: bool, magnitude: u128, d: u128) -> (u128, u128)
     requires { 0 < d }
     ensures { IsFloored (signed negative magnitude) (pos d) (signed negative result.0) (pos result.1) }

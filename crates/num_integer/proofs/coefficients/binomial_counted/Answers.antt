@@ -1,4 +1,5 @@
-use Rattle.integer_core.proofs.Common.{◌+◌, ◌+ℤ◌, pos, unsigned_abs, arith, ap, ◌∙◌, ints}
+use Rattle.std.specs.Prelude.{◌+◌, ◌+ℤ◌}
+use Rattle.integer_core.proofs.Common.{pos, unsigned_abs, arith, ap, ◌∙◌, ints}
 use Rattle.num_integer.specs.Coefficient.{coefficient_of}
 use Rattle.num_integer.proofs.Pascal.{below_answer, nearer_same, power_below_answer}
 use Rattle.num_integer.proofs.FittingAnswers.{fits_below, few_bits, from_test}

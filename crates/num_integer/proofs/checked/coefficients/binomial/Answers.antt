@@ -1,4 +1,5 @@
-use Rattle.integer_core.proofs.Common.{◌+ℤ◌, pos, unsigned_abs, arith, ap, ◌∙◌, subst, sym, ints}
+use Rattle.std.specs.Prelude.{◌+ℤ◌}
+use Rattle.integer_core.proofs.Common.{pos, unsigned_abs, arith, ap, ◌∙◌, subst, sym, ints}
 use Rattle.num_integer.specs.Coefficient.{coefficient_of}
 use Rattle.num_integer.proofs.FittingAnswers.{fits_below, from_test}
 use Rattle.num_integer.proofs.Pascal.{below_answer, nearer_same, none_above}

@@ -1,4 +1,5 @@
-use Rattle.integer_core.proofs.Common.{◌≡◌, ◌/◌, ◌≤ℤ◌, ℤ, pos, negsuc, unsigned_abs, int_div, arith, refl, ◌∙◌, ints}
+use Rattle.std.specs.Prelude.{◌≡◌, ◌/◌, ◌≤ℤ◌}
+use Rattle.integer_core.proofs.Common.{ℤ, pos, negsuc, unsigned_abs, int_div, arith, refl, ◌∙◌, ints}
 use Rattle.num_integer.proofs.FlooredByPositive.{operator_quotient_fits}
 use Rattle.num_integer.proofs.checked.coefficients.half.Goals as goal
 

@@ -1,4 +1,5 @@
-use Rattle.integer_core.proofs.Common.{◌*ℤ◌, ◌∙◌, IsLeastCommonMultiple, natural}
+use Rattle.std.specs.Prelude.{◌*ℤ◌}
+use Rattle.integer_core.proofs.Common.{◌∙◌, IsLeastCommonMultiple, natural}
 use Rattle.integer_core.proofs.CommonDivisors.{gcd-nonzero, gcd-positive, only_lcm}
 use Rattle.num_integer.proofs.CheckedAnswers.{answer_only, answers_only, lcm_by_gcd, negated_is, product_fits_by_size}
 use Rattle.num_integer.proofs.FittingAnswers.{from_test}

@@ -1,4 +1,5 @@
-use Rattle.integer_core.proofs.Common.{◌≡◌, ◌-ℤ◌, arith, linear, neg_ℤ, pos}
+use Rattle.std.specs.Prelude.{◌≡◌, ◌-ℤ◌}
+use Rattle.integer_core.proofs.Common.{arith, linear, neg_ℤ, pos}
 use Rattle.num_integer.proofs.checked.operators.negated.Goals as goal
 
 pub returns : goal.returns

@@ -1,4 +1,5 @@
-use Rattle.integer_core.proofs.Common.{◌≡◌, ◌*ℤ◌, arith, subst, ints, iff_false, IsFloored}
+use Rattle.std.specs.Prelude.{◌≡◌, ◌*ℤ◌}
+use Rattle.integer_core.proofs.Common.{arith, subst, ints, iff_false, IsFloored}
 use Rattle.integer_core.proofs.Quotients.{floored_remainder_fits, only_floored}
 use Rattle.num_integer.proofs.FittingAnswers.{signed_is}
 use Rattle.num_integer.proofs.FlooredProducts.{part_fits}
