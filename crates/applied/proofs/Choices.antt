@@ -160,10 +160,7 @@ compare (suc i) xs ys = elim (cases_lt (slice_index xs i) (slice_index ys i)) [
     | inr to ↦
         let here : slice_index xs i ≡ slice_index ys i = omega arith in
         elim (compare i xs ys) [
-          | inl same ↦ inl (λ j h. elim (cases_lt j i) [
-            | inl before ↦ same j before
-            | inr last ↦ let e : j ≡ i = omega arith in rw e here
-          ])
+          | inl same ↦ inl (λ j h. grind (arith, same j))
           | inr apart ↦ elim apart [
             | inl before ↦ inr (inl (still_before here before))
             | inr after ↦ inr (inr (still_before (sym here) after))

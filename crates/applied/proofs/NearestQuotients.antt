@@ -90,9 +90,7 @@ module _ {n d q r : ℤ} (h : IsFloored n d q r) where
       let equation = h.division.equation in
       let small = h.division.small in
       let sign = h.sign in
-      by_lt_z d (pos 0)
-      (λ down. let side = sides.1 down in omega (arith, sizes))
-      (λ up. let side = sides.0 (omega (arith, sizes)) in omega (arith, sizes))
+      grind (arith, sizes, sides.0, sides.1)
 
   half_above : pos 0 ≤ℤ q → 2 * unsigned_abs r ≡ unsigned_abs d → unsigned_abs n < unsigned_abs ((q +ℤ pos 1) *ℤ d)
   half_above above half =
@@ -101,9 +99,7 @@ module _ {n d q r : ℤ} (h : IsFloored n d q r) where
       let equation = h.division.equation in
       let small = h.division.small in
       let sign = h.sign in
-      by_lt_z d (pos 0)
-      (λ down. let side = sides.1 down in omega (arith, sizes))
-      (λ up. let side = sides.0 (omega (arith, sizes)) in omega (arith, sizes))
+      grind (arith, sizes, sides.0, sides.1)
 
   module _ (A : Type 0) where
     pub nearest_is : {z : ℤ} → A ↔ (q <ℤ pos 0) → IsNearer A d q r z → IsQuotient IsNearest n d z
@@ -193,11 +189,7 @@ only_nearest_even x y = only_by_halves x.division x.nearest y.division y.nearest
 no_nearer_up : {n d q r : ℤ} (m : ℤ) → pos 0 <ℤ d → IsDivision n d q r → 2 * unsigned_abs r ≤ unsigned_abs d → unsigned_abs (n -ℤ q *ℤ d) ≤ unsigned_abs (n -ℤ m *ℤ d)
 no_nearer_up {d = d} {q = q} m up h near =
     let equation = h.equation in
-    by_lt_z m q
-    (λ less. omega (arith, sizes, multiples_apart m q d up less))
-    (λ most. by_lt_z q m
-    (λ more. omega (arith, sizes, multiples_apart q m d up more))
-    (λ least. let same : m ≡ q = omega (arith, linear) in rw same (omega arith)))
+    grind (arith, sizes, multiples_apart m q d up, multiples_apart q m d up)
 
 pub no_nearer : {n d q r : ℤ} (m : ℤ) → IsDivision n d q r → 2 * unsigned_abs r ≤ unsigned_abs d → unsigned_abs (n -ℤ q *ℤ d) ≤ unsigned_abs (n -ℤ m *ℤ d)
 no_nearer {d = d} {q = q} m h near = by_lt_z (pos 0) d
