@@ -154,11 +154,7 @@ halves {d = d} h near k other_near less = by_lt_z (pos 0) d
 -- so two are the same, if no two such neighbours are of one kind
 only_by_halves : {n d q r p s : ℤ} → IsDivision n d q r → 2 * unsigned_abs r ≤ unsigned_abs d → IsDivision n d p s → 2 * unsigned_abs s ≤ unsigned_abs d
     → ((2 * unsigned_abs r ≡ unsigned_abs d) × (2 * unsigned_abs s ≡ unsigned_abs d) → ¬ ((p ≡ q +ℤ pos 1) ⊎ (q ≡ p +ℤ pos 1))) → p ≡ q
-only_by_halves {q = q} {p = p} h near k other_near none = by_lt_z q p
-    (λ less. let both = halves h near k other_near less in absurd (none (both.0, both.1) (inl both.2)))
-    (λ most. by_lt_z p q
-    (λ more. let both = halves k other_near h near more in absurd (none (both.1, both.0) (inr both.2)))
-    (λ least. omega (arith, linear)))
+only_by_halves h near k other_near none = grind (arith, linear, halves h near k other_near, halves k other_near h near, none)
 
 -- of two neighbours that leave half, one product is not farther from 0 than the number
 not_both_farther : {n d q r p s : ℤ} → IsDivision n d q r → IsDivision n d p s → 2 * unsigned_abs r ≡ unsigned_abs d → 2 * unsigned_abs s ≡ unsigned_abs d
