@@ -96,6 +96,9 @@ falling_is n k low e =
 pub falling_of_none : (n k : ℤ) → pos 0 ≤ℤ n → n <ℤ k → falling_of n k ≡ pos 0
 falling_of_none n k up less = ap pos (falling_none (unsigned_abs n) (unsigned_abs k) (omega (arith, sizes)))
 
+-- what goals about the two calls need
+pub ruleset falling_steps = (linear, factorial_is, falling_is, falling_of_none)
+
 -- ---- the loop
 
 -- The product of the numbers above low up to factor. The last of them is to be high.

@@ -51,12 +51,10 @@ down_or_not : (A : Type 0) (d r : ℤ) → A ⊎ (¬ A) → IsDown A d r ⊎ (¬
 down_or_not A d r choice = grind arith
 
 down_near : (A : Type 0) (d r : ℤ) → IsDown A d r → 2 * unsigned_abs r ≤ unsigned_abs d
-down_near A d r (inl less) = omega arith
-down_near A d r (inr half) = omega (arith, half.0)
+down_near A d r down = grind arith
 
 down_tie : (A : Type 0) (d r : ℤ) → IsDown A d r → 2 * unsigned_abs r ≡ unsigned_abs d → A
-down_tie A d r (inl less) half = absurd (omega arith)
-down_tie A d r (inr is) half = is.1
+down_tie A d r down half = grind arith
 
 -- what is missing to the divisor lies between 0 and the divisor, as the remainder does
 pub missing_within : (d r : ℤ) → LiesWithin d r → LiesWithin d (d -ℤ r)
@@ -164,9 +162,7 @@ not_both_farther {d = d} {q = q} {p = p} h k half other_half next farther other_
     let equation = h.equation in
     let other = k.equation in
     let small = h.small in
-    by_lt_z q (pos 0)
-    (λ below. let sides = below_sides q d below in by_lt_z d (pos 0) (λ down. let side = sides.1 down in omega (arith, sizes)) (λ up. let side = sides.0 (omega (arith, sizes)) in omega (arith, sizes)))
-    (λ above. let sides = up_sides q d above in by_lt_z d (pos 0) (λ down. let side = sides.1 down in omega (arith, sizes)) (λ up. let side = sides.0 (omega (arith, sizes)) in omega (arith, sizes)))
+    by_lt_z q (pos 0) (λ below. let sides = below_sides q d below in grind (arith, sizes, sides.0, sides.1)) (λ above. let sides = up_sides q d above in grind (arith, sizes, sides.0, sides.1))
 
 pub only_nearest : {n d q r p s : ℤ} → IsNearest n d q r → IsNearest n d p s → p ≡ q
 only_nearest x y = only_by_halves x.division x.nearest y.division y.nearest (λ half neighbours. elim neighbours [
