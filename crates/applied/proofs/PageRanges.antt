@@ -86,17 +86,9 @@ lies_within {first = first} {end = end} h k some =
     (lowest.0, omega (arith, linear, highest.1))
 
 same_range : {page size items first end f e : ℤ} → IsRangeOfPage page size items first end → IsRangeOfPage page size items f e → (f ≡ first) × (e ≡ end)
-same_range {first = first} {end = end} {f = f} {e = e} h k = by_lt_z first end
-    (λ some.
-    let out = lies_within h k some in
-    let back = lies_within k h (omega (arith, linear)) in
-    (omega (arith, linear), omega (arith, linear)))
-    (λ none. by_lt_z f e
-    (λ other. let back = lies_within k h other in absurd (omega (arith, linear)))
-    (λ neither.
-    let here = h.empty none in
-    let there = k.empty neither in
-    (omega (arith, linear), omega (arith, linear, h.ordered, k.ordered, h.to_items, k.to_items))))
+same_range {first = first} {end = end} h k = by_lt_z first end
+    (λ some. let out = lies_within h k some in grind (arith, linear, lies_within k h))
+    (λ none. let here = h.empty none in grind (arith, linear, lies_within k h, k.empty, h.ordered, k.ordered, h.to_items, k.to_items))
 
 -- a page has one range
 pub only_page_range : {page size items first end : ℤ} → IsRangeOfPage page size items first end → IsOnly (λ (f, e). IsRangeOfPage page size items f e) (first, end)
