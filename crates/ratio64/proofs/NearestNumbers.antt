@@ -31,26 +31,16 @@ module _ {n d q r : ℤ} (up : pos 0 <ℤ d) (h : IsDivision n d q r) where
   quotient_up n_up =
       let equation = h.equation in
       let small = h.small in (
-        by_lt_z q (pos 0) (λ below. absurd (omega (arith, sizes, zero_times, multiples_apart q (pos 0) d up below))) (λ fine. fine),
-        by_lt_z n q
-            (λ over.
-            let times = product_from_zero n (d -ℤ pos 1) n_up (omega (arith, linear)) in
-            let each = simp expand at times in
-            absurd (omega (arith, sizes, products, multiples_apart n q d up over)))
-            (λ fine. fine),
+        grind (arith, sizes, zero_times, multiples_apart q (pos 0) d up),
+        (let each = simp expand at (product_from_zero n (d -ℤ pos 1) n_up (omega (arith, linear))) in grind (arith, sizes, products, multiples_apart n q d up)),
       )
 
   quotient_down : n <ℤ pos 0 → (q ≤ℤ pos 0) × (n ≤ℤ q)
   quotient_down n_down =
       let equation = h.equation in
       let small = h.small in (
-        by_lt_z (pos 0) q (λ over. absurd (omega (arith, sizes, zero_times, multiples_apart (pos 0) q d up over))) (λ fine. fine),
-        by_lt_z q n
-            (λ under.
-            let times = product_from_zero (pos 0 -ℤ n) (d -ℤ pos 1) (omega (arith, linear)) (omega (arith, linear)) in
-            let each = simp expand at times in
-            absurd (omega (arith, sizes, products, multiples_apart q n d up under)))
-            (λ fine. fine),
+        grind (arith, sizes, zero_times, multiples_apart (pos 0) q d up),
+        (let each = simp expand at (product_from_zero (pos 0 -ℤ n) (d -ℤ pos 1) (omega (arith, linear)) (omega (arith, linear))) in grind (arith, sizes, products, multiples_apart q n d up)),
       )
 
   pub quotient_fits : (w : Width) → FitsSigned w n → FitsSigned w q
@@ -100,11 +90,7 @@ rounded_apart {n} {d} {r} {s} up x y less =
     (λ above. let high = product_from_zero r d above (omega (arith, linear)) in omega (arith, sizes))
 
 pub only_rounded : RoundedIsOnly
-only_rounded n d r up x s y = by_lt_z r s
-    (λ less. absurd (rounded_apart up x y less))
-    (λ above. by_lt_z s r
-    (λ less. absurd (rounded_apart up y x less))
-    (λ most. omega (arith, linear)))
+only_rounded n d r up x s y = let least = rounded_apart up x y in let most = rounded_apart up y x in grind (arith, linear)
 
 -- ---- an integer that is narrowed to 64 bits
 
