@@ -214,6 +214,10 @@ even_exists n d nonzero =
 
 -- ---- when they fit
 
+-- a test of one domain, in other words
+pub test_is : {Nonzero Floored Nearest Test : Type 0} → Test ↔ (Nonzero × Floored) → Floored ↔ Nearest → Test ↔ (Nonzero × Nearest)
+test_is test same = (λ t. ((test.0 t).0, same.0 (test.0 t).1), λ h. test.1 (h.0, same.1 h.1))
+
 exact_floored : {n d q : ℤ} → IsDivision n d q (pos 0) → IsFloored n d q (pos 0)
 exact_floored h = record { division = h; sign = inl refl }
 
