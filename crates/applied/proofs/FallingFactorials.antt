@@ -128,7 +128,6 @@ module _ {fits : ℤ → Type 0} {low high : ℤ} where
     -- the next product fits if the last one does
     pub next_product_fits : {least most : ℤ} → IsRange fits least most → fits (falling_of high (high -ℤ low)) → fits (product *ℤ (factor +ℤ pos 1))
     next_product_fits range last_fits =
-        let from_low = h.from_low in
         let most = falling_at_most low (factor +ℤ pos 1) high low_up (omega (arith, linear)) (omega (arith, linear)) in
         subst fits (sym next_is) (within_fits range last_fits (inl (omega (arith, ints), most)))
 
@@ -148,6 +147,5 @@ module _ {fits : ℤ → Type 0} {low high : ℤ} where
 
   pub product_last : {factor product : ℤ} → IsProductSoFar fits low factor high product → high ≤ℤ factor → product ≡ falling_of high (high -ℤ low)
   product_last {factor} {product} h done =
-      let to_high = h.to_high in
       let same : factor ≡ high = omega (arith, linear) in
       rw same at h.is

@@ -68,7 +68,6 @@ module _ {n d q r : ℤ} (h : IsFloored n d q r) where
       let large : unsigned_abs d ≤ 2 * unsigned_abs r = elim (cases_lt (2 * unsigned_abs r) (unsigned_abs d)) [ inl less ↦ absurd (none (inl less)) | inr most ↦ most ] in
       let equation = h.division.equation in
       let small = h.division.small in
-      let sign = h.sign in
       let product = next_product q d in
       let size : unsigned_abs (r -ℤ d) + unsigned_abs r ≡ unsigned_abs d = omega (arith, sizes) in (
         record { equation = omega (arith, linear); small = omega (arith, sizes) },
@@ -79,24 +78,17 @@ module _ {n d q r : ℤ} (h : IsFloored n d q r) where
   pub next_fits : (A : Type 0) {fits : ℤ → Type 0} {low high : ℤ} → IsRange fits low high → fits n → fits d → ¬ (IsDown A d r) → fits (q +ℤ pos 1)
   next_fits A range n_fits d_fits none =
       let next = next_near A none in
-      let small = h.division.small in
       other_quotient_fits range n_fits d_fits (λ e. omega (arith, sizes, next.1)) next.0
 
   half_below : q <ℤ pos 0 → 2 * unsigned_abs r ≡ unsigned_abs d → unsigned_abs n < unsigned_abs (q *ℤ d)
   half_below below half =
       let sides = below_sides q d below in
-      let equation = h.division.equation in
-      let small = h.division.small in
-      let sign = h.sign in
       grind (arith, sizes, sides.0, sides.1)
 
   half_above : pos 0 ≤ℤ q → 2 * unsigned_abs r ≡ unsigned_abs d → unsigned_abs n < unsigned_abs ((q +ℤ pos 1) *ℤ d)
   half_above above half =
       let sides = up_sides q d above in
       let product = next_product q d in
-      let equation = h.division.equation in
-      let small = h.division.small in
-      let sign = h.sign in
       grind (arith, sizes, sides.0, sides.1)
 
   module _ (A : Type 0) where
@@ -132,7 +124,6 @@ halves_up : {n d q r p s : ℤ} → pos 0 <ℤ d → IsDivision n d q r → 2 * 
 halves_up {d = d} {q = q} {p = p} up h near k other_near less =
     let apart = multiples_apart q p d up less in
     let next = next_product q d in
-    let equation = h.equation in
     let other = k.equation in (
       omega (arith, sizes),
       omega (arith, sizes),
@@ -144,7 +135,6 @@ halves : {n d q r p s : ℤ} → IsDivision n d q r → 2 * unsigned_abs r ≤ u
 halves {d = d} h near k other_near less = by_lt_z (pos 0) d
     (λ up. halves_up up h near k other_near less)
     (λ down.
-    let small = h.small in
     let up : pos 0 <ℤ neg_ℤ d = omega (arith, sizes) in
     let both = halves_up up (turned h) (omega (arith, sizes)) (turned k) (omega (arith, sizes)) less in
     (omega (arith, sizes, both.0), omega (arith, sizes, both.1), both.2))
@@ -159,9 +149,6 @@ not_both_farther : {n d q r p s : ℤ} → IsDivision n d q r → IsDivision n d
     → p ≡ q +ℤ pos 1 → unsigned_abs n < unsigned_abs (q *ℤ d) → ¬ (unsigned_abs n < unsigned_abs (p *ℤ d))
 not_both_farther {d = d} {q = q} {p = p} h k half other_half next farther other_farther =
     let product : p *ℤ d ≡ q *ℤ d +ℤ d = rw next (next_product q d) in
-    let equation = h.equation in
-    let other = k.equation in
-    let small = h.small in
     by_lt_z q (pos 0) (λ below. let sides = below_sides q d below in grind (arith, sizes, sides.0, sides.1)) (λ above. let sides = up_sides q d above in grind (arith, sizes, sides.0, sides.1))
 
 pub only_nearest : {n d q r p s : ℤ} → IsNearest n d q r → IsNearest n d p s → p ≡ q
@@ -180,14 +167,12 @@ only_nearest_even x y = only_by_halves x.division x.nearest y.division y.nearest
 
 no_nearer_up : {n d q r : ℤ} (m : ℤ) → pos 0 <ℤ d → IsDivision n d q r → 2 * unsigned_abs r ≤ unsigned_abs d → unsigned_abs (n -ℤ q *ℤ d) ≤ unsigned_abs (n -ℤ m *ℤ d)
 no_nearer_up {d = d} {q = q} m up h near =
-    let equation = h.equation in
     grind (arith, sizes, multiples_apart m q d up, multiples_apart q m d up)
 
 pub no_nearer : {n d q r : ℤ} (m : ℤ) → IsDivision n d q r → 2 * unsigned_abs r ≤ unsigned_abs d → unsigned_abs (n -ℤ q *ℤ d) ≤ unsigned_abs (n -ℤ m *ℤ d)
 no_nearer {d = d} {q = q} m h near = by_lt_z (pos 0) d
     (λ up. no_nearer_up m up h near)
     (λ down.
-    let small = h.small in
     let times = mul-neg q d in
     let other = mul-neg m d in
     let turn = no_nearer_up m (let up : pos 0 <ℤ neg_ℤ d = omega (arith, sizes) in up) (turned h) (omega (arith, sizes)) in
@@ -232,7 +217,6 @@ module _ {fits : ℤ → Type 0} {low high n d : ℤ} (range : IsRange fits low 
   each_quotient_fits : {Kind : ℤ → ℤ → ℤ → ℤ → Type 0} → ((q : ℤ) → IsDivision n d q (pos 0) → Kind n d q (pos 0)) → EachFits fits (IsQuotient Kind n d) → (q r : ℤ) → IsDivision n d q r → fits q
   each_quotient_fits exact each q r h = elim (zero_or_not (d +ℤ pos 1)) [
     | inl minus ↦
-        let small = h.small in
         let none : r ≡ pos 0 = omega (arith, sizes) in
         each q (record { remainder = pos 0; division = exact q (subst (IsDivision n d q) none h) })
     | inr other ↦ other_quotient_fits range n_fits d_fits (λ e. other (omega (arith, sizes))) h

@@ -37,7 +37,6 @@ none_before {page} {size} up from_zero before =
 pub none_after : {page size items full rest : ℤ} → pos 0 <ℤ size → pos 0 ≤ℤ items → IsFloored items size full rest → full <ℤ page → IsRangeOfPage page size items items items
 none_after {page} {size} {full = full} up from_zero division after =
     let below = floored_range up division in
-    let equation = division.division.equation in
     let over = multiples_apart full page size up after in
     page_range_is from_zero (omega (arith, linear)) (omega (arith, linear)) (λ item h k. absurd (omega (arith, linear))) (λ item h k l m. absurd (omega (arith, linear))) (λ _. refl)
 
@@ -51,7 +50,6 @@ pub record IsFullPage (page size items : ℤ) : Type 0 where
 pub full_page : {page size items full rest : ℤ} → pos 0 <ℤ size → IsFloored items size full rest → pos 0 ≤ℤ page → page <ℤ full → IsFullPage page size items
 full_page {page} {size} {full = full} up division from_zero less =
     let below = floored_range up division in
-    let equation = division.division.equation in
     let begins = product_from_zero page size from_zero (omega (arith, linear)) in
     let apart = multiples_apart page full size up less in
     record {
