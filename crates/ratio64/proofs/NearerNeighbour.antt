@@ -182,7 +182,6 @@ module _ {n : ℤ} {d max : ℕ} {a : ℤ} {b g : ℕ} {c : ℤ} {e h : ℕ} (be
       → LiesPast d v g b (unsigned_abs (n *ℤ pos v -ℤ u *ℤ pos d)) (a *ℤ pos v -ℤ u *ℤ pos b)
       ⊎ LiesPast d v h e (unsigned_abs (n *ℤ pos v -ℤ u *ℤ pos d)) (u *ℤ pos e -ℤ c *ℤ pos v)
   one_past u v up most =
-      let none = beside.none_between in
       let below = past_below n (pos d) a (pos b) u (pos v) (pos g) beside.from_below in
       let above = past_above n (pos d) c (pos e) u (pos v) (pos h) beside.from_above in
       by_lt_z (a *ℤ pos v -ℤ u *ℤ pos b) (pos 0)
