@@ -34,9 +34,6 @@ next_product q d = simp expand (omega (arith, products))
 even_or_next : (q : ℤ) → IsEven q ⊎ IsEven (q +ℤ pos 1)
 even_or_next q =
     let half = division_exists.1 q (pos 2) (λ e. omega (arith, linear)) in
-    let equation = half.2.division.equation in
-    let small = half.2.division.small in
-    let sign = half.2.sign in
     elim (zero_or_not half.1) [
       | inl none ↦ inl (record { factor = half.0; product = omega (arith, products) })
       | inr one ↦ inr (record { factor = half.0 +ℤ pos 1; product = omega (arith, products, sizes) })

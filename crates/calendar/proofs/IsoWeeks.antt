@@ -27,7 +27,6 @@ is_thursday q e = on_weekday Thursday q (omega (arith, ints))
 pub of_week : {day r : ℤ} → IsRemainder IsFloored (day +ℤ pos 3) (pos 7) r → IsThursdayOfWeek day (day +ℤ pos 3 -ℤ r)
 of_week h =
     let range = floored_remainder_range (omega (arith, ints)) h in
-    let equation = h.division.division.equation in
     record { has_weekday = is_thursday h.quotient (omega (arith, ints)); from = omega (arith, ints); to = omega (arith, ints) }
 
 pub same_thursday : {day a b : ℤ} → IsThursdayOfWeek day a → IsThursdayOfWeek day b → a ≡ b
