@@ -160,14 +160,9 @@ compare (suc i) xs ys = elim (cases_lt (slice_index xs i) (slice_index ys i)) [
     | inr to ↦
         let here : slice_index xs i ≡ slice_index ys i = omega arith in
         elim (compare i xs ys) [
-          | inl same ↦ inl (λ j h. elim (cases_lt j i) [
-            | inl before ↦ same j before
-            | inr last ↦ let e : j ≡ i = omega arith in rw e here
-          ])
-          | inr apart ↦ elim apart [
-            | inl before ↦ inr (inl (still_before here before))
-            | inr after ↦ inr (inr (still_before (sym here) after))
-          ]
+          | inl same ↦ inl (λ j h. grind (arith, same j))
+          | inr (inl before) ↦ inr (inl (still_before here before))
+          | inr (inr after) ↦ inr (inr (still_before (sym here) after))
         ]
   ]
 ]
@@ -203,13 +198,9 @@ pub before_exactly : {n : ℕ} {xs ys : List ℕ} → IsChoice n xs → IsChoice
 before_exactly {n} {xs} {ys} x y size = (
   before_less x.increasing size refl,
   λ less. elim (compare (length ys) xs ys) [
-    | inl same ↦
-        let equal : xs ≡ ys = ext_get_or 0 xs ys size (λ j h. same j (omega arith)) in
-        absurd (omega (arith, ap rank_of equal))
-    | inr apart ↦ elim apart [
-      | inl before ↦ before
-      | inr after ↦ absurd (omega (arith, before_less y.increasing refl size after))
-    ]
+    | inl same ↦ absurd (omega (arith, ap rank_of (ext_get_or 0 xs ys size (λ j h. same j (omega arith)))))
+    | inr (inl before) ↦ before
+    | inr (inr after) ↦ absurd (omega (arith, before_less y.increasing refl size after))
   ],
 )
 
@@ -217,8 +208,6 @@ before_exactly {n} {xs} {ys} x y size = (
 pub only_choice : {n k r : ℕ} {xs : List ℕ} → IsChoiceOfRank n k r xs → IsOnly (IsChoiceOfRank n k r) xs
 only_choice {n} {k} {r} {xs} x = λ ys y. elim (compare k ys xs) [
   | inl same ↦ ext_get_or 0 ys xs (y.size ∙ sym x.size) (λ j h. same j (omega (arith, y.size)))
-  | inr apart ↦ elim apart [
-    | inl before ↦ absurd (omega (arith, before_less y.choice.increasing y.size x.size before, x.rank, y.rank))
-    | inr after ↦ absurd (omega (arith, before_less x.choice.increasing x.size y.size after, x.rank, y.rank))
-  ]
+  | inr (inl before) ↦ absurd (omega (arith, before_less y.choice.increasing y.size x.size before, x.rank, y.rank))
+  | inr (inr after) ↦ absurd (omega (arith, before_less x.choice.increasing x.size y.size after, x.rank, y.rank))
 ]

@@ -96,6 +96,9 @@ falling_is n k low e =
 pub falling_of_none : (n k : ℤ) → pos 0 ≤ℤ n → n <ℤ k → falling_of n k ≡ pos 0
 falling_of_none n k up less = ap pos (falling_none (unsigned_abs n) (unsigned_abs k) (omega (arith, sizes)))
 
+-- what goals about the two calls need
+pub ruleset falling_steps = (linear, factorial_is, falling_is, falling_of_none)
+
 -- ---- the loop
 
 -- The product of the numbers above low up to factor. The last of them is to be high.
@@ -125,7 +128,6 @@ module _ {fits : ℤ → Type 0} {low high : ℤ} where
     -- the next product fits if the last one does
     pub next_product_fits : {least most : ℤ} → IsRange fits least most → fits (falling_of high (high -ℤ low)) → fits (product *ℤ (factor +ℤ pos 1))
     next_product_fits range last_fits =
-        let from_low = h.from_low in
         let most = falling_at_most low (factor +ℤ pos 1) high low_up (omega (arith, linear)) (omega (arith, linear)) in
         subst fits (sym next_is) (within_fits range last_fits (inl (omega (arith, ints), most)))
 
@@ -145,6 +147,5 @@ module _ {fits : ℤ → Type 0} {low high : ℤ} where
 
   pub product_last : {factor product : ℤ} → IsProductSoFar fits low factor high product → high ≤ℤ factor → product ≡ falling_of high (high -ℤ low)
   product_last {factor} {product} h done =
-      let to_high = h.to_high in
       let same : factor ≡ high = omega (arith, linear) in
       rw same at h.is

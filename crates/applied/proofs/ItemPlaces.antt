@@ -52,7 +52,3 @@ pub item_answer : {X : Type 0} (fits : ℤ → Type 0) (value : X → ℤ) {p q 
 item_answer fits value {p} {q} {s} r from_zero below h =
     let place = answers_only fits (λ item. IsPlace item s p q) value r (own_item from_zero below) (λ y k. sym k.equation) h in
     record { place = place; only = only_item fits value p q s r place }
-
--- if the item does not fit, the result is `None`
-pub no_item : {X : Type 0} (fits : ℤ → Type 0) (value : X → ℤ) {p q s : ℤ} → pos 0 ≤ℤ q → q <ℤ s → ¬ (fits (p *ℤ s +ℤ q)) → IsItemAnswer fits value p q s None
-no_item fits value from_zero below none = item_answer fits value None from_zero below none

@@ -48,16 +48,17 @@ gcd_of_cons {numbers} {x} {g} {h} after both = record {
 
 -- ---- each list has one
 
+-- each list has a number, if no numbers have one, and a list with one number more in front has one by that of the others
+pub each_list : (Is : List ℤ → ℤ → Type 0) {none : ℤ} → Is [] none → ((x g : ℤ) (numbers : List ℤ) → Is numbers g → (h : ℤ) × Is (x ∷ numbers) h) → (numbers : List ℤ) → (g : ℤ) × Is numbers g
+each_list Is {none} own more [] = (none, own)
+each_list Is own more (x ∷ numbers) = let rest = each_list Is own more numbers in more x rest.0 numbers rest.1
+
 -- two greatest common divisors of one list are equal
 pub only_gcd_of : {numbers : List ℤ} {g h : ℤ} → IsGreatestCommonDivisorOf numbers g → IsGreatestCommonDivisorOf numbers h → g ≡ h
 only_gcd_of x y = Divides-antisym x.from_zero y.from_zero (y.greatest _ x.divides_each) (x.greatest _ y.divides_each)
 
 pub gcd_of_exists : (numbers : List ℤ) → (g : ℤ) × IsGreatestCommonDivisorOf numbers g
-gcd_of_exists [] = (pos 0, gcd_of_none)
-gcd_of_exists (x ∷ numbers) =
-    let rest = gcd_of_exists numbers in
-    let both = gcd_exists x rest.0 in
-    (both.0, gcd_of_cons rest.1 both.1)
+gcd_of_exists = each_list IsGreatestCommonDivisorOf gcd_of_none (λ x g numbers own. let both = gcd_exists x g in (both.0, gcd_of_cons own both.1))
 
 -- ---- when it fits
 

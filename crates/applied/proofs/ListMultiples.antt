@@ -10,7 +10,7 @@ use Rattle.num_integer.specs.Range.{EachFits, IsRange}
 use Rattle.num_integer.proofs.ForCallers.{Divides-antisym, Divides-trans, Divides-zero, answer_only, divisor_at_most, fits_below, lcm-positive, linear, one_divides, zero_divides}
 use Rattle.num_integer.proofs.Laws.{lcm_exists}
 use Rattle.applied.specs.Lists.{IsLeastCommonMultipleOf}
-use Rattle.applied.proofs.ListDivisors.{split_last}
+use Rattle.applied.proofs.ListDivisors.{each_list, split_last}
 
 -- ---- one number more
 
@@ -52,11 +52,7 @@ pub only_lcm_of : {numbers : List ℤ} {l m : ℤ} → IsLeastCommonMultipleOf n
 only_lcm_of x y = Divides-antisym x.from_zero y.from_zero (x.least _ y.each_divides) (y.least _ x.each_divides)
 
 pub lcm_of_exists : (numbers : List ℤ) → (l : ℤ) × IsLeastCommonMultipleOf numbers l
-lcm_of_exists [] = (pos 1, lcm_of_none)
-lcm_of_exists (x ∷ numbers) =
-    let rest = lcm_of_exists numbers in
-    let both = lcm_exists x rest.0 in
-    (both.0, lcm_of_cons rest.1 both.1)
+lcm_of_exists = each_list IsLeastCommonMultipleOf lcm_of_none (λ x l numbers own. let both = lcm_exists x l in (both.0, lcm_of_cons own both.1))
 
 -- numbers that are not 0 have a positive one
 positive_lcm_of : (numbers : List ℤ) → All (λ x. x ≢ pos 0) numbers → (l : ℤ) × IsLeastCommonMultipleOf numbers l × (pos 0 <ℤ l)

@@ -44,8 +44,6 @@ next_bounds {base} {n} {rest} {q} {r} {p} enough e r_up r_below p_up at_most abo
 pub divided_next : {base n rest : ℤ} {k : ℕ} → pos 1 <ℤ base → base ≤ℤ rest → IsDivided base n rest k → IsDivided base n (int_div rest base) (k + 1)
 divided_next {base} {n} {rest} {k} base_up enough h =
     let division = truncated_is rest base (λ e. omega (arith, linear)) in
-    let sign = division.sign in
-    let small = division.division.small in
     let e : k + 1 ≡ suc k = omega arith in
     let power : int_pow base (k + 1) ≡ base *ℤ int_pow base k = rw e (int_pow-suc base k) in
     let next = next_bounds {q = int_div rest base} {r = int_rem rest base} enough division.division.equation (omega (arith, sizes)) (omega (arith, sizes)) (power_positive base k (omega (arith, linear))) h.at_most h.above in
@@ -59,7 +57,6 @@ below_bound {n = n} range n_fits = let bounded = range.bounded in omega (arith, 
 pub divided_smaller : (base rest : ℤ) → pos 1 <ℤ base → pos 0 <ℤ rest → unsigned_abs (int_div rest base) < unsigned_abs rest
 divided_smaller base rest base_up rest_up =
     let division = truncated_is rest base (λ e. omega (arith, linear)) in
-    let equation = division.division.equation in
     let within = remainder_within rest base in
     let size = unsigned_abs-mul (int_div rest base) base in
     let twice : 2 * unsigned_abs (int_div rest base) ≤ unsigned_abs base * unsigned_abs (int_div rest base) = mul-le-mul_right (unsigned_abs (int_div rest base)) (let two : 2 ≤ unsigned_abs base = omega (arith, sizes) in two) in
@@ -68,8 +65,6 @@ divided_smaller base rest base_up rest_up =
 power_at_most : {base n rest : ℤ} {k : ℕ} → pos 1 <ℤ base → IsDivided base n rest k → int_pow base k ≤ℤ n
 power_at_most {base} {n} {rest} {k} base_up h =
     let up = power_positive base k (omega (arith, linear)) in
-    let positive = h.positive in
-    let at_most = h.at_most in
     let more = product_from_zero (int_pow base k) (rest -ℤ pos 1) (omega (arith, linear)) (omega (arith, linear)) in
     let expanded : int_pow base k *ℤ (rest -ℤ pos 1) ≡ int_pow base k *ℤ rest -ℤ int_pow base k = simp expand (omega (arith, products)) in
     omega (arith, linear)
@@ -89,7 +84,6 @@ few_divisions {base} {n} {rest} {k} base_up bounded h = elim (cases_lt k 128) [
 pub divided_last : {base n rest : ℤ} {k : ℕ} → pos 1 <ℤ base → rest <ℤ base → IsDivided base n rest k → IsLogarithm base n k
 divided_last {base} {n} {rest} {k} base_up less h =
     let up = power_positive base k (omega (arith, linear)) in
-    let above = h.above in
     let e : k + 1 ≡ suc k = omega arith in
     let next : int_pow base (k + 1) ≡ base *ℤ int_pow base k = rw e (int_pow-suc base k) in
     let more = product_from_zero (int_pow base k) (base -ℤ pos 1 -ℤ rest) (omega (arith, linear)) (omega (arith, linear)) in
@@ -100,8 +94,6 @@ divided_last {base} {n} {rest} {k} base_up less h =
 
 not_below : {base n : ℤ} {k j : ℕ} → pos 1 <ℤ base → IsLogarithm base n k → IsLogarithm base n j → ¬ (k < j)
 not_below {base = pos b} {k = k} {j = j} up h other less =
-    let above = h.next_power_gt in
-    let within = other.power_le in
     let grows : b ^ (k + 1) ≤ b ^ j = pow-le-pow_right {n = b} (omega (arith, ints)) (omega arith) in
     omega (arith, ints)
 not_below {base = negsuc b} up h other less = omega (arith, ints)

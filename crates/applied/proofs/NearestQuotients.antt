@@ -34,9 +34,6 @@ next_product q d = simp expand (omega (arith, products))
 even_or_next : (q : ℤ) → IsEven q ⊎ IsEven (q +ℤ pos 1)
 even_or_next q =
     let half = division_exists.1 q (pos 2) (λ e. omega (arith, linear)) in
-    let equation = half.2.division.equation in
-    let small = half.2.division.small in
-    let sign = half.2.sign in
     elim (zero_or_not half.1) [
       | inl none ↦ inl (record { factor = half.0; product = omega (arith, products) })
       | inr one ↦ inr (record { factor = half.0 +ℤ pos 1; product = omega (arith, products, sizes) })
@@ -51,12 +48,10 @@ down_or_not : (A : Type 0) (d r : ℤ) → A ⊎ (¬ A) → IsDown A d r ⊎ (¬
 down_or_not A d r choice = grind arith
 
 down_near : (A : Type 0) (d r : ℤ) → IsDown A d r → 2 * unsigned_abs r ≤ unsigned_abs d
-down_near A d r (inl less) = omega arith
-down_near A d r (inr half) = omega (arith, half.0)
+down_near A d r down = grind arith
 
 down_tie : (A : Type 0) (d r : ℤ) → IsDown A d r → 2 * unsigned_abs r ≡ unsigned_abs d → A
-down_tie A d r (inl less) half = absurd (omega arith)
-down_tie A d r (inr is) half = is.1
+down_tie A d r down half = grind arith
 
 -- what is missing to the divisor lies between 0 and the divisor, as the remainder does
 pub missing_within : (d r : ℤ) → LiesWithin d r → LiesWithin d (d -ℤ r)
@@ -70,7 +65,6 @@ module _ {n d q r : ℤ} (h : IsFloored n d q r) where
       let large : unsigned_abs d ≤ 2 * unsigned_abs r = elim (cases_lt (2 * unsigned_abs r) (unsigned_abs d)) [ inl less ↦ absurd (none (inl less)) | inr most ↦ most ] in
       let equation = h.division.equation in
       let small = h.division.small in
-      let sign = h.sign in
       let product = next_product q d in
       let size : unsigned_abs (r -ℤ d) + unsigned_abs r ≡ unsigned_abs d = omega (arith, sizes) in (
         record { equation = omega (arith, linear); small = omega (arith, sizes) },
@@ -81,29 +75,18 @@ module _ {n d q r : ℤ} (h : IsFloored n d q r) where
   pub next_fits : (A : Type 0) {fits : ℤ → Type 0} {low high : ℤ} → IsRange fits low high → fits n → fits d → ¬ (IsDown A d r) → fits (q +ℤ pos 1)
   next_fits A range n_fits d_fits none =
       let next = next_near A none in
-      let small = h.division.small in
       other_quotient_fits range n_fits d_fits (λ e. omega (arith, sizes, next.1)) next.0
 
   half_below : q <ℤ pos 0 → 2 * unsigned_abs r ≡ unsigned_abs d → unsigned_abs n < unsigned_abs (q *ℤ d)
   half_below below half =
       let sides = below_sides q d below in
-      let equation = h.division.equation in
-      let small = h.division.small in
-      let sign = h.sign in
-      by_lt_z d (pos 0)
-      (λ down. let side = sides.1 down in omega (arith, sizes))
-      (λ up. let side = sides.0 (omega (arith, sizes)) in omega (arith, sizes))
+      grind (arith, sizes, sides.0, sides.1)
 
   half_above : pos 0 ≤ℤ q → 2 * unsigned_abs r ≡ unsigned_abs d → unsigned_abs n < unsigned_abs ((q +ℤ pos 1) *ℤ d)
   half_above above half =
       let sides = up_sides q d above in
       let product = next_product q d in
-      let equation = h.division.equation in
-      let small = h.division.small in
-      let sign = h.sign in
-      by_lt_z d (pos 0)
-      (λ down. let side = sides.1 down in omega (arith, sizes))
-      (λ up. let side = sides.0 (omega (arith, sizes)) in omega (arith, sizes))
+      grind (arith, sizes, sides.0, sides.1)
 
   module _ (A : Type 0) where
     pub nearest_is : {z : ℤ} → A ↔ (q <ℤ pos 0) → IsNearer A d q r z → IsQuotient IsNearest n d z
@@ -138,7 +121,6 @@ halves_up : {n d q r p s : ℤ} → pos 0 <ℤ d → IsDivision n d q r → 2 * 
 halves_up {d = d} {q = q} {p = p} up h near k other_near less =
     let apart = multiples_apart q p d up less in
     let next = next_product q d in
-    let equation = h.equation in
     let other = k.equation in (
       omega (arith, sizes),
       omega (arith, sizes),
@@ -150,7 +132,6 @@ halves : {n d q r p s : ℤ} → IsDivision n d q r → 2 * unsigned_abs r ≤ u
 halves {d = d} h near k other_near less = by_lt_z (pos 0) d
     (λ up. halves_up up h near k other_near less)
     (λ down.
-    let small = h.small in
     let up : pos 0 <ℤ neg_ℤ d = omega (arith, sizes) in
     let both = halves_up up (turned h) (omega (arith, sizes)) (turned k) (omega (arith, sizes)) less in
     (omega (arith, sizes, both.0), omega (arith, sizes, both.1), both.2))
@@ -158,23 +139,14 @@ halves {d = d} h near k other_near less = by_lt_z (pos 0) d
 -- so two are the same, if no two such neighbours are of one kind
 only_by_halves : {n d q r p s : ℤ} → IsDivision n d q r → 2 * unsigned_abs r ≤ unsigned_abs d → IsDivision n d p s → 2 * unsigned_abs s ≤ unsigned_abs d
     → ((2 * unsigned_abs r ≡ unsigned_abs d) × (2 * unsigned_abs s ≡ unsigned_abs d) → ¬ ((p ≡ q +ℤ pos 1) ⊎ (q ≡ p +ℤ pos 1))) → p ≡ q
-only_by_halves {q = q} {p = p} h near k other_near none = by_lt_z q p
-    (λ less. let both = halves h near k other_near less in absurd (none (both.0, both.1) (inl both.2)))
-    (λ most. by_lt_z p q
-    (λ more. let both = halves k other_near h near more in absurd (none (both.1, both.0) (inr both.2)))
-    (λ least. omega (arith, linear)))
+only_by_halves h near k other_near none = grind (arith, linear, halves h near k other_near, halves k other_near h near, none)
 
 -- of two neighbours that leave half, one product is not farther from 0 than the number
 not_both_farther : {n d q r p s : ℤ} → IsDivision n d q r → IsDivision n d p s → 2 * unsigned_abs r ≡ unsigned_abs d → 2 * unsigned_abs s ≡ unsigned_abs d
     → p ≡ q +ℤ pos 1 → unsigned_abs n < unsigned_abs (q *ℤ d) → ¬ (unsigned_abs n < unsigned_abs (p *ℤ d))
 not_both_farther {d = d} {q = q} {p = p} h k half other_half next farther other_farther =
     let product : p *ℤ d ≡ q *ℤ d +ℤ d = rw next (next_product q d) in
-    let equation = h.equation in
-    let other = k.equation in
-    let small = h.small in
-    by_lt_z q (pos 0)
-    (λ below. let sides = below_sides q d below in by_lt_z d (pos 0) (λ down. let side = sides.1 down in omega (arith, sizes)) (λ up. let side = sides.0 (omega (arith, sizes)) in omega (arith, sizes)))
-    (λ above. let sides = up_sides q d above in by_lt_z d (pos 0) (λ down. let side = sides.1 down in omega (arith, sizes)) (λ up. let side = sides.0 (omega (arith, sizes)) in omega (arith, sizes)))
+    by_lt_z q (pos 0) (λ below. let sides = below_sides q d below in grind (arith, sizes, sides.0, sides.1)) (λ above. let sides = up_sides q d above in grind (arith, sizes, sides.0, sides.1))
 
 pub only_nearest : {n d q r p s : ℤ} → IsNearest n d q r → IsNearest n d p s → p ≡ q
 only_nearest x y = only_by_halves x.division x.nearest y.division y.nearest (λ half neighbours. elim neighbours [
@@ -192,18 +164,12 @@ only_nearest_even x y = only_by_halves x.division x.nearest y.division y.nearest
 
 no_nearer_up : {n d q r : ℤ} (m : ℤ) → pos 0 <ℤ d → IsDivision n d q r → 2 * unsigned_abs r ≤ unsigned_abs d → unsigned_abs (n -ℤ q *ℤ d) ≤ unsigned_abs (n -ℤ m *ℤ d)
 no_nearer_up {d = d} {q = q} m up h near =
-    let equation = h.equation in
-    by_lt_z m q
-    (λ less. omega (arith, sizes, multiples_apart m q d up less))
-    (λ most. by_lt_z q m
-    (λ more. omega (arith, sizes, multiples_apart q m d up more))
-    (λ least. let same : m ≡ q = omega (arith, linear) in rw same (omega arith)))
+    grind (arith, sizes, multiples_apart m q d up, multiples_apart q m d up)
 
 pub no_nearer : {n d q r : ℤ} (m : ℤ) → IsDivision n d q r → 2 * unsigned_abs r ≤ unsigned_abs d → unsigned_abs (n -ℤ q *ℤ d) ≤ unsigned_abs (n -ℤ m *ℤ d)
 no_nearer {d = d} {q = q} m h near = by_lt_z (pos 0) d
     (λ up. no_nearer_up m up h near)
     (λ down.
-    let small = h.small in
     let times = mul-neg q d in
     let other = mul-neg m d in
     let turn = no_nearer_up m (let up : pos 0 <ℤ neg_ℤ d = omega (arith, sizes) in up) (turned h) (omega (arith, sizes)) in
@@ -230,6 +196,10 @@ even_exists n d nonzero =
 
 -- ---- when they fit
 
+-- a test of one domain, in other words
+pub test_is : {Nonzero Floored Nearest Test : Type 0} → Test ↔ (Nonzero × Floored) → Floored ↔ Nearest → Test ↔ (Nonzero × Nearest)
+test_is test same = (λ t. ((test.0 t).0, same.0 (test.0 t).1), λ h. test.1 (h.0, same.1 h.1))
+
 exact_floored : {n d q : ℤ} → IsDivision n d q (pos 0) → IsFloored n d q (pos 0)
 exact_floored h = record { division = h; sign = inl refl }
 
@@ -244,7 +214,6 @@ module _ {fits : ℤ → Type 0} {low high n d : ℤ} (range : IsRange fits low 
   each_quotient_fits : {Kind : ℤ → ℤ → ℤ → ℤ → Type 0} → ((q : ℤ) → IsDivision n d q (pos 0) → Kind n d q (pos 0)) → EachFits fits (IsQuotient Kind n d) → (q r : ℤ) → IsDivision n d q r → fits q
   each_quotient_fits exact each q r h = elim (zero_or_not (d +ℤ pos 1)) [
     | inl minus ↦
-        let small = h.small in
         let none : r ≡ pos 0 = omega (arith, sizes) in
         each q (record { remainder = pos 0; division = exact q (subst (IsDivision n d q) none h) })
     | inr other ↦ other_quotient_fits range n_fits d_fits (λ e. other (omega (arith, sizes))) h

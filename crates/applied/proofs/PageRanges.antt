@@ -37,7 +37,6 @@ none_before {page} {size} up from_zero before =
 pub none_after : {page size items full rest : ℤ} → pos 0 <ℤ size → pos 0 ≤ℤ items → IsFloored items size full rest → full <ℤ page → IsRangeOfPage page size items items items
 none_after {page} {size} {full = full} up from_zero division after =
     let below = floored_range up division in
-    let equation = division.division.equation in
     let over = multiples_apart full page size up after in
     page_range_is from_zero (omega (arith, linear)) (omega (arith, linear)) (λ item h k. absurd (omega (arith, linear))) (λ item h k l m. absurd (omega (arith, linear))) (λ _. refl)
 
@@ -51,7 +50,6 @@ pub record IsFullPage (page size items : ℤ) : Type 0 where
 pub full_page : {page size items full rest : ℤ} → pos 0 <ℤ size → IsFloored items size full rest → pos 0 ≤ℤ page → page <ℤ full → IsFullPage page size items
 full_page {page} {size} {full = full} up division from_zero less =
     let below = floored_range up division in
-    let equation = division.division.equation in
     let begins = product_from_zero page size from_zero (omega (arith, linear)) in
     let apart = multiples_apart page full size up less in
     record {
@@ -86,17 +84,9 @@ lies_within {first = first} {end = end} h k some =
     (lowest.0, omega (arith, linear, highest.1))
 
 same_range : {page size items first end f e : ℤ} → IsRangeOfPage page size items first end → IsRangeOfPage page size items f e → (f ≡ first) × (e ≡ end)
-same_range {first = first} {end = end} {f = f} {e = e} h k = by_lt_z first end
-    (λ some.
-    let out = lies_within h k some in
-    let back = lies_within k h (omega (arith, linear)) in
-    (omega (arith, linear), omega (arith, linear)))
-    (λ none. by_lt_z f e
-    (λ other. let back = lies_within k h other in absurd (omega (arith, linear)))
-    (λ neither.
-    let here = h.empty none in
-    let there = k.empty neither in
-    (omega (arith, linear), omega (arith, linear, h.ordered, k.ordered, h.to_items, k.to_items))))
+same_range {first = first} {end = end} h k = by_lt_z first end
+    (λ some. let out = lies_within h k some in grind (arith, linear, lies_within k h))
+    (λ none. let here = h.empty none in grind (arith, linear, lies_within k h, k.empty, h.ordered, k.ordered, h.to_items, k.to_items))
 
 -- a page has one range
 pub only_page_range : {page size items first end : ℤ} → IsRangeOfPage page size items first end → IsOnly (λ (f, e). IsRangeOfPage page size items f e) (first, end)

@@ -40,9 +40,7 @@ even_cut {parts} {items} {size} {longer} equation up below = record {
 
 -- no part has fewer items than none
 pub size_from_zero : {parts items size longer : ℤ} → pos 0 <ℤ parts → pos 0 ≤ℤ items → items ≡ size *ℤ parts +ℤ longer → longer <ℤ parts → pos 0 ≤ℤ size
-size_from_zero {parts} {size = size} up from_zero equation below = by_lt_z size (pos 0)
-    (λ under. absurd (omega (arith, products, multiples_apart size (pos 0) parts up under)))
-    (λ fine. fine)
+size_from_zero {parts} {size = size} up from_zero equation below = grind (arith, products, multiples_apart size (pos 0) parts up)
 
 -- each part begins within the items
 cut_within : {parts items size longer part : ℤ} → pos 0 <ℤ parts → pos 0 ≤ℤ items → IsFloored items parts size longer → pos 0 ≤ℤ part → part ≤ℤ parts

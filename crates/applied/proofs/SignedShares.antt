@@ -30,10 +30,7 @@ one_more_signed {amount} {total} {i} {ahead} {next} {weights} {shares} share wit
     let room : i < length shares = omega (arith, h.magnitudes.one_each, length-map shares unsigned_abs) in
     record {
       magnitudes = rw (map-set unsigned_abs shares i share) (one_more_shared (unsigned_abs share) within is below h.magnitudes);
-      signs = λ k d upto. elim (cases_lt k i) [
-        | inl earlier ↦ rw (get_or-set_other shares i k share d (omega arith)) (h.signs k d earlier)
-        | inr last ↦ let e : k ≡ i = omega arith in rw (e, get_or-set_same shares i share d room) (up, down)
-      ];
+      signs = λ k d upto. grind (arith, get_or-set_other shares i k share d, get_or-set_same shares i share d room, h.signs k d, up, down);
     }
 
 pub all_signed : {amount : ℤ} {total i ahead : ℕ} {weights : List ℕ} {shares : List ℤ} → total ≡ sum weights → length weights ≤ i → AreSignedTo amount weights total i ahead shares → AreSignedShares amount weights shares

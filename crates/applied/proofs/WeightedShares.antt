@@ -37,10 +37,7 @@ one_more_shared {amount} {total} {i} {ahead} {next} {weights} {shares} share wit
       one_each = length-set shares i share ∙ h.one_each;
       below = below;
       place = place;
-      near = λ k upto. elim (cases_lt k (i + 1)) [
-        | inl earlier ↦ rw (take-set-le k shares i share (omega arith)) (h.near k (omega arith))
-        | inr last ↦ let e : k ≡ i + 1 = omega arith in rw e (omega (arith, place), omega (arith, place))
-      ];
+      near = λ k upto. grind (arith, take-set-le k shares i share, h.near k, place);
     }
 
 pub all_shared : {amount total i ahead : ℕ} {weights shares : List ℕ} → total ≡ sum weights → length weights ≤ i → AreSharedTo amount weights total i ahead shares → AreShares amount weights shares

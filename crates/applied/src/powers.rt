@@ -76,6 +76,7 @@ pub fn sqrt_rem<T: Roots>(n: T) -> (T, T)
 /// most the number. `ilog(1000, 10)` is `3`, `ilog(999, 10)` is `2`, and `ilog(255u8, 2)` is `7`.
 ///
 /// May be called if `number` is at least 1 and `base` at least 2; [`checked::ilog`] has no condition.
+#[tactic(auto, using(num_integer::proofs::ForCallers::linear))]
 pub fn ilog<T: Integer>(number: T, base: T) -> u32
     requires in_range { T.fits (T.value number) × T.fits (T.value base) }
     requires positive { pos 0 <ℤ T.value number }

@@ -120,7 +120,6 @@ next_epact century golden epact h = another_epact (pos 0 -ℤ pos ((epact + 11) 
 
 pub next_solar : SolarCorrectionOfTheNextCentury
 next_solar century days h =
-    let own = h.leap_centuries_is.division.division.equation in
     let range = floored_quotient_range h.leap_centuries_is in
     let is = h.days_is in (
       λ leap.
@@ -133,7 +132,6 @@ next_solar century days h =
 
 pub later_lunar : LunarCorrectionOfTwentyFiveCenturies
 later_lunar century days h =
-    let own = h.division.division.equation in
     let range = floored_remainder_range {n = pos 8 *ℤ century +ℤ pos 13} {d = pos 25} {r = h.remainder} (omega (arith, ints)) (record { quotient = days; division = h.division }) in
     record { remainder = h.remainder; division = floored_by_range (omega (arith, ints)) range.0 range.1 }
 

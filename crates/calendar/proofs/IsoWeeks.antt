@@ -27,7 +27,6 @@ is_thursday q e = on_weekday Thursday q (omega (arith, ints))
 pub of_week : {day r : ℤ} → IsRemainder IsFloored (day +ℤ pos 3) (pos 7) r → IsThursdayOfWeek day (day +ℤ pos 3 -ℤ r)
 of_week h =
     let range = floored_remainder_range (omega (arith, ints)) h in
-    let equation = h.division.division.equation in
     record { has_weekday = is_thursday h.quotient (omega (arith, ints)); from = omega (arith, ints); to = omega (arith, ints) }
 
 pub same_thursday : {day a b : ℤ} → IsThursdayOfWeek day a → IsThursdayOfWeek day b → a ≡ b
@@ -44,9 +43,7 @@ to_thursday era n place = record { quotient = pos 123652 -ℤ pos 20871 *ℤ era
 -- ---- years
 
 ordered : (x y : ℤ) → x ≤ℤ y → first_day x ≤ℤ first_day y
-ordered x y up = by_lt_z x y
-    (λ less. omega (arith, linear, later_year x y less, next_first_day x))
-    (λ back. let same : x ≡ y = omega (arith, linear) in rw same (omega (arith, linear)))
+ordered x y up = grind (arith, linear, later_year x y, next_first_day x)
 
 -- a day before the first of a year is in an earlier year
 pub earlier : {x year day : ℤ} → HasDay x day → day <ℤ first_day year → x <ℤ year

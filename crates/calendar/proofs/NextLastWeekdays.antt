@@ -26,9 +26,7 @@ last_weekdays_in_order {a} {b} h k months = by_lt_z (month_number a.year a.month
 
 -- a later date is not in an earlier month
 no_earlier_month : (date other : Date) → number_of date <ℤ number_of other → month_number date.year date.month ≤ℤ month_number other.year other.month
-no_earlier_month date other later = by_lt_z (month_number other.year other.month) (month_number date.year date.month)
-    (λ less. absurd (omega (arith, linear, later_month other date less)))
-    (λ fine. fine)
+no_earlier_month date other later = grind (arith, linear, later_month other date)
 
 -- the last of its month is the last of its own month
 own_month : {year : ℤ} {month : ℕ} {weekday : Weekday} {date : Date} → IsLastWeekdayOfMonth year month weekday date → IsLastWeekdayOfMonth date.year date.month weekday date

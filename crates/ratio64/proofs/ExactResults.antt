@@ -68,7 +68,6 @@ exact_quotients {a} {b} {g} {s} fraction x h =
 pub coprime_is_exact : {a b g : ℤ} → IsFraction a b → pos 0 ≤ℤ b → IsGreatestCommonDivisor a b g → g ≤ℤ pos 1 → IsExact a b a b
 coprime_is_exact {a} {b} {g} fraction up x small =
     let nonzero = gcd-nonzero x fraction in
-    let from_zero = x.from_zero in
     let one : g ≡ pos 1 = omega (arith, linear) in
     record { fraction = fraction; reduced = record { positive = omega (arith, linear); lowest = subst (IsGreatestCommonDivisor a b) one x }; equal = record { cross = refl } }
 

@@ -32,7 +32,6 @@ level x y v d up e =
 
 pub itself_is_nearest : {n d max : ℤ} → IsReduced n d → d ≤ℤ max → IsNearestWithin n d max n d
 itself_is_nearest {n} {d} {max} x most =
-    let d_up = x.positive in
     let own : gap n d n d ≡ 0 = ap unsigned_abs (none_left n d) in
     record {
       positive = x.positive;
@@ -66,7 +65,6 @@ pub record IsSplit (m bottom w : ℤ) (n d : ℕ) : Type 0 where
 pub floor_splits : {m bottom w r : ℤ} {n d : ℕ} → IsReduced m bottom → IsFloored m bottom w r → n ≡ unsigned_abs r → d ≡ unsigned_abs bottom → IsSplit m bottom w n d
 floor_splits {m} {bottom} {w} {r} {n} {d} x h n_is d_is =
     let range = floored_remainder_range x.positive (record { quotient = w; division = h }) in
-    let bottom_up = x.positive in
     let part : pos n ≡ r = omega (arith, sizes) in
     let den : pos d ≡ bottom = omega (arith, sizes) in
     record {
@@ -171,8 +169,6 @@ module _ {n d max : ℕ} {x y z : Neighbour} {m bottom w : ℤ} (split : IsSplit
   pub nearer_is_reduced : IsReduced (w *ℤ pos z.den +ℤ pos z.num) (pos z.den)
   nearer_is_reduced =
       let one = simp expand at beside.adjacent in
-      let x_up = h.dens.0 in
-      let y_up = h.dens.1 in
       elim near.is [
         | inl k ↦ rw k.0 (reduced_by (neg_ℤ (pos y.den)) upper lower (pos x.den) (omega (arith, ints)) (simp expand (omega (arith, linear))))
         | inr k ↦ rw k.0 (reduced_by (pos x.den) (neg_ℤ lower) upper (pos y.den) (omega (arith, ints)) (simp expand (omega (arith, linear))))

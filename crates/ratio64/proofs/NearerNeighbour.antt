@@ -9,16 +9,10 @@ use Rattle.ratio64.specs.Limiting.{IsNearestWithin, gap}
 -- ---- rings
 
 past_below : (n d a b u v g : ℤ) → n *ℤ b ≡ a *ℤ d +ℤ g → (n *ℤ v -ℤ u *ℤ d) *ℤ b ≡ g *ℤ v +ℤ d *ℤ (a *ℤ v -ℤ u *ℤ b)
-past_below n d a b u v g e =
-    let times = ap (λ (t : ℤ). t *ℤ v) e in
-    let each = simp expand at times in
-    simp expand (omega (arith, linear))
+past_below n d a b u v g e = let each = simp expand at (ap (λ (t : ℤ). t *ℤ v) e) in simp expand (omega (arith, linear))
 
 past_above : (n d a b u v g : ℤ) → a *ℤ d ≡ n *ℤ b +ℤ g → (u *ℤ d -ℤ n *ℤ v) *ℤ b ≡ g *ℤ v +ℤ d *ℤ (u *ℤ b -ℤ a *ℤ v)
-past_above n d a b u v g e =
-    let times = ap (λ (t : ℤ). t *ℤ v) e in
-    let each = simp expand at times in
-    simp expand (omega (arith, linear))
+past_above n d a b u v g e = let each = simp expand at (ap (λ (t : ℤ). t *ℤ v) e) in simp expand (omega (arith, linear))
 
 -- what u/v lies beyond each of two neighbours makes -v
 both_sides : (a b c e u v : ℤ) → c *ℤ b ≡ a *ℤ e +ℤ pos 1 → (a *ℤ v -ℤ u *ℤ b) *ℤ e +ℤ (u *ℤ e -ℤ c *ℤ v) *ℤ b ≡ neg_ℤ v
@@ -48,14 +42,10 @@ record LiesPast (d v g b z : ℕ) (i : ℤ) : Type 0 where
 
 -- one of two is not below 0
 some_past : {i j b e v : ℤ} → pos 0 <ℤ b → pos 0 <ℤ e → v <ℤ (b +ℤ e) → i *ℤ e +ℤ j *ℤ b ≡ neg_ℤ v → i <ℤ pos 0 → pos 0 ≤ℤ j
-some_past {i} {j} {b} {e} {v} b_up e_up small sum left = by_lt_z j (pos 0)
-    (λ right.
-    let first = multiples_apart i (pos 0) e e_up left in
-    let second = multiples_apart j (pos 0) b b_up right in
+some_past {i} {j} {b} {e} {v} b_up e_up small sum left =
     let e_none : pos 0 *ℤ e ≡ pos 0 = omega (arith, products) in
     let b_none : pos 0 *ℤ b ≡ pos 0 = omega (arith, products) in
-    absurd (omega (arith, linear)))
-    (λ fine. fine)
+    grind (arith, linear, multiples_apart i (pos 0) e e_up left, multiples_apart j (pos 0) b b_up)
 
 natural_is : (i : ℤ) → pos 0 ≤ℤ i → i ≡ pos (unsigned_abs i)
 natural_is i up = omega (arith, sizes)
@@ -111,12 +101,9 @@ far_tie {d} {v} {h} {e} {z} g b d_up b_up v_up near p tie =
 
 -- if u/v is equal to a neighbour of the denominator b, v is at least b
 at_least : (j b v : ℤ) → pos 0 <ℤ b → pos 0 <ℤ v → j *ℤ b ≡ neg_ℤ v → b ≤ℤ v
-at_least j b v b_up up e = by_lt_z j (pos 0)
-    (λ under.
-    let apart = multiples_apart j (pos 0) b b_up under in
+at_least j b v b_up up e =
     let none : pos 0 *ℤ b ≡ pos 0 = omega (arith, products) in
-    omega (arith, linear))
-    (λ over. let product = product_from_zero j b over (omega (arith, linear)) in absurd (omega (arith, linear)))
+    grind (arith, linear, multiples_apart j (pos 0) b b_up, product_from_zero j b)
 
 -- over the same denominator the numerators are equal
 same_num : (a u b : ℤ) → pos 0 <ℤ b → a *ℤ b -ℤ u *ℤ b ≡ pos 0 → a ≡ u
@@ -126,9 +113,7 @@ same_num a u b up e =
 
 -- of neighbours with one denominator the lower has the lower numerator
 lower_num : (a c b : ℤ) → pos 0 <ℤ b → c *ℤ b ≡ a *ℤ b +ℤ pos 1 → a ≤ℤ c
-lower_num a c b up e = by_lt_z c a
-    (λ less. let apart = multiples_apart c a b up less in absurd (omega (arith, linear)))
-    (λ fine. fine)
+lower_num a c b up e = grind (arith, linear, multiples_apart c a b up)
 
 -- ---- the nearer of two neighbours, and a fraction past it or past the other one
 
@@ -197,7 +182,6 @@ module _ {n : ℤ} {d max : ℕ} {a : ℤ} {b g : ℕ} {c : ℤ} {e h : ℕ} (be
       → LiesPast d v g b (unsigned_abs (n *ℤ pos v -ℤ u *ℤ pos d)) (a *ℤ pos v -ℤ u *ℤ pos b)
       ⊎ LiesPast d v h e (unsigned_abs (n *ℤ pos v -ℤ u *ℤ pos d)) (u *ℤ pos e -ℤ c *ℤ pos v)
   one_past u v up most =
-      let none = beside.none_between in
       let below = past_below n (pos d) a (pos b) u (pos v) (pos g) beside.from_below in
       let above = past_above n (pos d) c (pos e) u (pos v) (pos h) beside.from_above in
       by_lt_z (a *ℤ pos v -ℤ u *ℤ pos b) (pos 0)

@@ -29,28 +29,16 @@ module _ {n d q r : ℤ} (up : pos 0 <ℤ d) (h : IsDivision n d q r) where
 
   quotient_up : pos 0 ≤ℤ n → (pos 0 ≤ℤ q) × (q ≤ℤ n)
   quotient_up n_up =
-      let equation = h.equation in
       let small = h.small in (
-        by_lt_z q (pos 0) (λ below. absurd (omega (arith, sizes, zero_times, multiples_apart q (pos 0) d up below))) (λ fine. fine),
-        by_lt_z n q
-            (λ over.
-            let times = product_from_zero n (d -ℤ pos 1) n_up (omega (arith, linear)) in
-            let each = simp expand at times in
-            absurd (omega (arith, sizes, products, multiples_apart n q d up over)))
-            (λ fine. fine),
+        grind (arith, sizes, zero_times, multiples_apart q (pos 0) d up),
+        (let each = simp expand at (product_from_zero n (d -ℤ pos 1) n_up (omega (arith, linear))) in grind (arith, sizes, products, multiples_apart n q d up)),
       )
 
   quotient_down : n <ℤ pos 0 → (q ≤ℤ pos 0) × (n ≤ℤ q)
   quotient_down n_down =
-      let equation = h.equation in
       let small = h.small in (
-        by_lt_z (pos 0) q (λ over. absurd (omega (arith, sizes, zero_times, multiples_apart (pos 0) q d up over))) (λ fine. fine),
-        by_lt_z q n
-            (λ under.
-            let times = product_from_zero (pos 0 -ℤ n) (d -ℤ pos 1) (omega (arith, linear)) (omega (arith, linear)) in
-            let each = simp expand at times in
-            absurd (omega (arith, sizes, products, multiples_apart q n d up under)))
-            (λ fine. fine),
+        grind (arith, sizes, zero_times, multiples_apart (pos 0) q d up),
+        (let each = simp expand at (product_from_zero (pos 0 -ℤ n) (d -ℤ pos 1) (omega (arith, linear)) (omega (arith, linear))) in grind (arith, sizes, products, multiples_apart q n d up)),
       )
 
   pub quotient_fits : (w : Width) → FitsSigned w n → FitsSigned w q
@@ -72,25 +60,17 @@ rounded_division {n} {d} {r} up h = let near = h.nearest in record { equation = 
 -- if half or more is left, it is the next integer away from 0
 pub rounded_above : {n d q r : ℤ} → pos 0 <ℤ d → IsTruncated n d q r → pos 0 ≤ℤ n → d ≤ℤ (r +ℤ r) → IsRounded n d (q +ℤ pos 1)
 rounded_above {n} {d} {q} {r} up h n_up large =
-    let equation = h.division.equation in
-    let small = h.division.small in
-    let sign = h.sign in
     let product : (q +ℤ pos 1) *ℤ d ≡ q *ℤ d +ℤ d = simp expand (omega (arith, products)) in
     record { nearest = rw product (omega (arith, sizes)); tie = rw product (λ e. omega (arith, sizes)) }
 
 pub rounded_below : {n d q r : ℤ} → pos 0 <ℤ d → IsTruncated n d q r → n <ℤ pos 0 → (r +ℤ r +ℤ d) ≤ℤ pos 0 → IsRounded n d (q -ℤ pos 1)
 rounded_below {n} {d} {q} {r} up h n_down large =
-    let equation = h.division.equation in
-    let small = h.division.small in
-    let sign = h.sign in
     let product : (q -ℤ pos 1) *ℤ d ≡ q *ℤ d -ℤ d = simp expand (omega (arith, products)) in
     record { nearest = rw product (omega (arith, sizes)); tie = rw product (λ e. omega (arith, sizes)) }
 
 -- and only one number is it
 rounded_apart : {n d r s : ℤ} → pos 0 <ℤ d → IsRounded n d r → IsRounded n d s → ¬ (r <ℤ s)
 rounded_apart {n} {d} {r} {s} up x y less =
-    let near = x.nearest in
-    let other_near = y.nearest in
     let apart = multiples_apart r s d up less in
     let halves : (2 * unsigned_abs (n -ℤ r *ℤ d) ≡ unsigned_abs d) × (2 * unsigned_abs (n -ℤ s *ℤ d) ≡ unsigned_abs d) = (omega (arith, sizes), omega (arith, sizes)) in
     let first = x.tie halves.0 in
@@ -100,11 +80,7 @@ rounded_apart {n} {d} {r} {s} up x y less =
     (λ above. let high = product_from_zero r d above (omega (arith, linear)) in omega (arith, sizes))
 
 pub only_rounded : RoundedIsOnly
-only_rounded n d r up x s y = by_lt_z r s
-    (λ less. absurd (rounded_apart up x y less))
-    (λ above. by_lt_z s r
-    (λ less. absurd (rounded_apart up y x less))
-    (λ most. omega (arith, linear)))
+only_rounded n d r up x s y = let least = rounded_apart up x y in let most = rounded_apart up y x in grind (arith, linear)
 
 -- ---- an integer that is narrowed to 64 bits
 

@@ -55,9 +55,6 @@ gap_falls {max} {x} {y} {z} s up = omega (arith, s.gap, mul-lt 0 0 s.steps x.gap
 pub gaps_differ : {n d max : ℕ} {x y : Neighbour} → AreNeighbours n d max x y → max < d → ((a b : ℕ) → 0 < b → n * b ≡ a * d → d ≤ b)
     → x.den + y.den ≤ max → y.gap ≤ x.gap → y.gap < x.gap
 gaps_differ {n} {d} {max} {x} {y} h above lowest room most =
-    let below = h.from_below in
-    let over = h.from_above in
-    let up = h.dens.0 in
     let differ : x.gap ≢ y.gap = λ e. let small = lowest (x.num + y.num) (x.den + y.den) (omega arith) (omega arith) in absurd (omega arith) in
     omega arith
 

@@ -23,8 +23,6 @@ loop-high-preserved g c =
 pub loop-high-smaller : goal.loop-high-smaller
 loop-high-smaller g c =
     let more = c.is_below.ensures.0 c.loop-high-test.true in
-    let from_zero = c.requires.from_zero in
-    let from_low = c.loop-high.invariant.from_low in
     omega (arith, sizes, c.successor-factor.ensures.value)
 
 pub returns : goal.returns

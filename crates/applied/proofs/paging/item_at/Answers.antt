@@ -1,7 +1,7 @@
+use Rattle.std.specs.Prelude.{None}
 use Rattle.std.proofs.Common.{arith, inr}
-use Rattle.std.proofs.lemmas.Bool.{iff_false}
-use Rattle.num_integer.proofs.ForCallers.{from_not_less, linear, within_fits}
-use Rattle.applied.proofs.ItemPlaces.{end_fits, item_answer, item_before, no_item, page_fits, rest_fits}
+use Rattle.num_integer.proofs.ForCallers.{from_test, linear, within_fits}
+use Rattle.applied.proofs.ItemPlaces.{end_fits, item_answer, item_before, page_fits, rest_fits}
 use Rattle.applied.proofs.paging.item_at.Goals as goal
 
 pub successor-requires-clause-sum_fits : goal.successor-requires-clause-sum_fits
@@ -18,13 +18,13 @@ returns-in_err-next_page-clause-place g c =
     let before = c.is_negative.ensures.0 c.if-is_negative.true in
     let none = rw c.successor.ensures.value at c.in_err-next_page.ensures in
     rw c.from_residual.ensures
-    (no_item g.T.Number.fits g.T.Number.value c.requires.place_from_zero c.requires.place_below (λ fits. none (end_fits g.met.T.Integer.range_law fits before c.requires.place_from_zero c.requires.place_below))).place
+    (item_answer g.T.Number.fits g.T.Number.value None c.requires.place_from_zero c.requires.place_below (λ fits. none (end_fits g.met.T.Integer.range_law fits before c.requires.place_from_zero c.requires.place_below))).place
 
 pub returns-in_err-first-clause-place : goal.returns-in_err-first-clause-place
 returns-in_err-first-clause-place g c =
-    let from_page_zero = from_not_less (iff_false c.is_negative.ensures c.if-is_negative.false) in
+    let from_page_zero = from_test c.is_negative.ensures c.if-is_negative.false in
     rw c.from_residual-in_err-first.ensures
-    (no_item g.T.Number.fits g.T.Number.value c.requires.place_from_zero c.requires.place_below (λ fits. c.in_err-first.ensures (page_fits g.met.T.Integer.range_law fits from_page_zero c.requires.place_from_zero c.requires.place_below))).place
+    (item_answer g.T.Number.fits g.T.Number.value None c.requires.place_from_zero c.requires.place_below (λ fits. c.in_err-first.ensures (page_fits g.met.T.Integer.range_law fits from_page_zero c.requires.place_from_zero c.requires.place_below))).place
 
 pub returns-in_ok-next_page-clause-place : goal.returns-in_ok-next_page-clause-place
 returns-in_ok-next_page-clause-place g c =

@@ -7,9 +7,6 @@ use Rattle.applied.proofs.powers.ilog.Goals as goal
 pub loop-base-init : goal.loop-base-init
 loop-base-init g c = record { in_range = c.requires.in_range.0; divided = divided_first _ _ c.requires.positive }
 
-pub quotient-rest-requires-clause-nonzero : goal.quotient-rest-requires-clause-nonzero
-quotient-rest-requires-clause-nonzero g c = λ e. omega (arith, linear, c.requires.base)
-
 pub quotient-rest-requires-clause-quotient_fits : goal.quotient-rest-requires-clause-quotient_fits
 quotient-rest-requires-clause-quotient_fits g c =
     operator_quotient_fits _ _ g.met.T.Integer.range_law c.loop-base.invariant.in_range c.requires.in_range.1 (omega (arith, linear, c.requires.base))

@@ -12,5 +12,4 @@ product-requires-clause-product_fits g c =
 pub difference-requires-clause-difference_fits : goal.difference-requires-clause-difference_fits
 difference-requires-clause-difference_fits g c =
     let square = square_rest c.requires.from_zero c.sqrt-root.ensures.root in
-    let product = c.product.ensures.value in
     within_fits g.met.T.Integer.range_law c.requires.in_range (inl (omega (arith, linear), omega (arith, linear)))

@@ -25,12 +25,8 @@ loop-schedule-preserved g c =
     record {
       in_range = c.maximum-latest.ensures.in_range;
       from_there = omega (arith, linear, so_far.from_there, more.from_there);
-      begun = λ i d before. elim (cases_lt i c.loop-schedule.schedule-index) [
-        | inl earlier ↦ omega (arith, linear, so_far.begun i d earlier, more.from_there)
-        | inr last ↦
-            let e : i ≡ c.loop-schedule.schedule-index = omega arith in
-            rw (e, ← get_or_read c.args.schedules.now c.loop-schedule.schedule-index c.schedule-item.result within c.schedule-item.is d) more.holds
-      ];
+      begun = λ i d before.
+          grind (arith, linear, so_far.begun i d, more.from_there, more.holds, get_or_read c.args.schedules.now c.loop-schedule.schedule-index c.schedule-item.result within c.schedule-item.is d);
       least = λ u above begun. more.least u (so_far.least u above begun) (rw (← c.schedule-item.is) at (begun c.loop-schedule.schedule-index c.schedule-item.result within));
     }
 

@@ -7,7 +7,6 @@ use Rattle.calendar.proofs.date.Date.plus_months.Goals as goal
 
 pub returns-in_err-year : goal.returns-in_err-year
 returns-in_err-year c =
-    let months = c.ranges.months in
     let wide : FitsSigned w128 c.args.months = omega (arith, ints) in
     let sum : FitsSigned w128 (c.month_number.result +ℤ c.args.months) = omega (arith, ints) in
     let none = simp (c.from.ensures, to_z-of_z) at c.in_err-year.ensures in
@@ -17,13 +16,10 @@ pub invariant_of-result : goal.invariant_of-result
 invariant_of-result c =
     let (from, to, is) = c.in_ok-year.ensures in
     let length = month_length_range (to_z w64 (of_z w64 c.in_ok-year.year)) c.in_ok-year.month from to in
-    let month = c.days_in_month.ensures.days in
-    let day = c.min.ensures in
     record { valid = record { month_from_one = from; month_to_twelve = to; day_from_one = omega (arith, c.args.self.now.valid.day_from_one); day_to_last = omega arith } }
 
 pub returns : goal.returns
 returns c =
-    let months = c.ranges.months in
     let wide : FitsSigned w128 c.args.months = omega (arith, ints) in
     let sum : FitsSigned w128 (c.month_number.result +ℤ c.args.months) = omega (arith, ints) in
     let year : FitsSigned w64 c.in_ok-year.year = search rules in

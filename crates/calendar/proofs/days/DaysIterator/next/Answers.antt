@@ -11,7 +11,6 @@ returns-then-not-is_earlier-clause-steps c =
 pub returns-in_err-self-inside-clause-steps : goal.returns-in_err-self-inside-clause-steps
 returns-in_err-self-inside-clause-steps c =
     let last = c.in_err-self-inside.ensures in
-    let year = c.self.invariant in
     absurd (none_later c.self.inside.next c.self.inside.end (omega (arith, ints, last.0)) (omega (arith, last.1)) (omega (arith, last.2)) (c.is_earlier.ensures.0 (cc)))
 
 pub returns-clause-steps : goal.returns-clause-steps

@@ -26,7 +26,6 @@ sum c = rw (to_z-of_z w64 c.div_mod_floor-whole.result.0 (search rules)) at c.nu
 
 pub returns-then-self-max : goal.returns-then-self-max
 returns-then-self-max c =
-    let test = c.if-self-max.true in
     itself_is_nearest c.args.self.now.reduced (omega (arith, ints))
 
 pub neighbours-requires-clause-lowest : goal.neighbours-requires-clause-lowest

@@ -11,8 +11,6 @@ use Rattle.ratio64.proofs.fraction.rounding.nearest.Goals.{After-is_below, After
 pub sum-requires-clause-sum_fits : goal.sum-requires-clause-sum_fits
 sum-requires-clause-sum_fits g c =
     let h = c.div_rem-whole.ensures.truncated in
-    let sign = h.sign in
-    let small = h.division.small in
     let below = c.is_negative.ensures.0 c.if-is_negative.true in
     within_fits {z = g.T.Number.value c.args.den +ℤ g.T.Number.value c.div_rem-whole.result.1} g.met.T.Integer.range_law c.requires.in_range.1 (inl (omega (arith, sizes), omega (arith, sizes)))
 
