@@ -12,7 +12,7 @@ ghost use Rattle.cellarcove_c.specs.Congruences.{AnswersModulo, I64Congruent, Is
 ghost use Rattle.cellarcove_c.specs.Statuses.{Either, answer_of, bad_modulus, common_solution_of, no_solution, not_fitting};
 
 use crate::answers::{ANSWER, BAD_MODULUS, I64Answer, NO_SOLUTION, NOT_FITTING, U64Answer};
-use crate::modulo::{reason_for_modulus, reason_for_unsigned_modulus};
+use crate::modulo::reason_for_modulus;
 use modular::{
     CommonSolution, Modular, checked, chinese_remainder, next_common_solution, solutions,
 };
@@ -166,7 +166,7 @@ pub extern "C" fn cellarcove_next_congruent_u64(from: u64, first: u64, step: u64
 {
     U64Answer::of(
         checked::next_congruent(from, first, step),
-        reason_for_unsigned_modulus(step, NOT_FITTING),
+        reason_for_modulus(step, NOT_FITTING),
     )
 }
 
@@ -192,7 +192,7 @@ pub extern "C" fn cellarcove_previous_congruent_u64(to: u64, first: u64, step: u
 {
     U64Answer::of(
         checked::previous_congruent(to, first, step),
-        reason_for_unsigned_modulus(step, NOT_FITTING),
+        reason_for_modulus(step, NOT_FITTING),
     )
 }
 
@@ -229,7 +229,7 @@ pub extern "C" fn cellarcove_count_congruent_u64(
 {
     U64Answer::of(
         checked::count_congruent(from, to, first, step),
-        reason_for_unsigned_modulus(step, NOT_FITTING),
+        reason_for_modulus(step, NOT_FITTING),
     )
 }
 

@@ -3,7 +3,7 @@
 //! between two.
 
 use crate::answers::{I64Answer, U64Answer, ANSWER, BAD_MODULUS, NOT_FITTING, NO_SOLUTION};
-use crate::modulo::{reason_for_modulus, reason_for_unsigned_modulus};
+use crate::modulo::reason_for_modulus;
 use cellarcove::modular::{
     checked, chinese_remainder, next_common_solution, solutions, CommonSolution, Modular,
 };
@@ -116,7 +116,7 @@ pub extern "C" fn cellarcove_next_congruent_i64(from: i64, first: i64, step: i64
 pub extern "C" fn cellarcove_next_congruent_u64(from: u64, first: u64, step: u64) -> U64Answer {
     U64Answer::of(
         checked::next_congruent(from, first, step),
-        reason_for_unsigned_modulus(step, NOT_FITTING),
+        reason_for_modulus(step, NOT_FITTING),
     )
 }
 
@@ -138,7 +138,7 @@ pub extern "C" fn cellarcove_previous_congruent_i64(to: i64, first: i64, step: i
 pub extern "C" fn cellarcove_previous_congruent_u64(to: u64, first: u64, step: u64) -> U64Answer {
     U64Answer::of(
         checked::previous_congruent(to, first, step),
-        reason_for_unsigned_modulus(step, NOT_FITTING),
+        reason_for_modulus(step, NOT_FITTING),
     )
 }
 
@@ -172,7 +172,7 @@ pub extern "C" fn cellarcove_count_congruent_u64(
 ) -> U64Answer {
     U64Answer::of(
         checked::count_congruent(from, to, first, step),
-        reason_for_unsigned_modulus(step, NOT_FITTING),
+        reason_for_modulus(step, NOT_FITTING),
     )
 }
 
