@@ -131,36 +131,27 @@ static int beyond(PyObject *number, char kind) {
 /* Whether an object is an `int`. */
 static bool is_int(PyObject *object) { return Py_TYPE(object) == &PyLong_Type || PyLong_Check(object); }
 
-/* Reads an `int` into a cell. It is 1 if the number is above 2**63 - 1, and 2 if it fits no 64 bits. */
-static int read_int(PyObject *number, cell *to) {
-    int overflow;
-    long long value = PyLong_AsLongLongAndOverflow(number, &overflow);
-    if (overflow == 0) {
-        to->i = value;
-        return value == -1 && PyErr_Occurred() ? -1 : 0;
-    }
-    if (overflow < 0) {
-        return 2;
-    }
-    to->u = PyLong_AsUnsignedLongLong(number);
-    if (to->u == UINT64_MAX && PyErr_Occurred()) {
-        PyErr_Clear();
-        return 2;
-    }
-    return 1;
-}
-
-/* Reads an integer. */
+/* Reads an integer into a cell. It is 1 if the number is above 2**63 - 1, and 2 if it fits no 64 bits. */
 static int integer(PyObject *object, cell *to) {
-    if (Py_TYPE(object) == &PyLong_Type) {
-        return read_int(object, to);
-    }
-    PyObject *number = PyNumber_Index(object);
-    if (number == NULL) {
+    PyObject *number = Py_TYPE(object) == &PyLong_Type ? NULL : PyNumber_Index(object);
+    if (number == NULL && Py_TYPE(object) != &PyLong_Type) {
         return -1;
     }
-    int said = read_int(number, to);
-    Py_DECREF(number);
+    int overflow, said = 0;
+    to->i = PyLong_AsLongLongAndOverflow(number == NULL ? object : number, &overflow);
+    if (overflow < 0) {
+        said = 2;
+    } else if (overflow > 0) {
+        to->u = PyLong_AsUnsignedLongLong(number == NULL ? object : number);
+        said = 1;
+        if (to->u == UINT64_MAX && PyErr_Occurred()) {
+            PyErr_Clear();
+            said = 2;
+        }
+    } else if (to->i == -1 && PyErr_Occurred()) {
+        said = -1;
+    }
+    Py_XDECREF(number);
     return said;
 }
 
