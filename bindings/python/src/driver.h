@@ -131,36 +131,27 @@ static int beyond(PyObject *number, char kind) {
 /* Whether an object is an `int`. */
 static bool is_int(PyObject *object) { return Py_TYPE(object) == &PyLong_Type || PyLong_Check(object); }
 
-/* Reads an `int` into a cell. It is 1 if the number is above 2**63 - 1, and 2 if it fits no 64 bits. */
-static int read_int(PyObject *number, cell *to) {
-    int overflow;
-    long long value = PyLong_AsLongLongAndOverflow(number, &overflow);
-    if (overflow == 0) {
-        to->i = value;
-        return value == -1 && PyErr_Occurred() ? -1 : 0;
-    }
-    if (overflow < 0) {
-        return 2;
-    }
-    to->u = PyLong_AsUnsignedLongLong(number);
-    if (to->u == UINT64_MAX && PyErr_Occurred()) {
-        PyErr_Clear();
-        return 2;
-    }
-    return 1;
-}
-
-/* Reads an integer. */
+/* Reads an integer into a cell. It is 1 if the number is above 2**63 - 1, and 2 if it fits no 64 bits. */
 static int integer(PyObject *object, cell *to) {
-    if (Py_TYPE(object) == &PyLong_Type) {
-        return read_int(object, to);
-    }
-    PyObject *number = PyNumber_Index(object);
-    if (number == NULL) {
+    PyObject *number = Py_TYPE(object) == &PyLong_Type ? NULL : PyNumber_Index(object);
+    if (number == NULL && Py_TYPE(object) != &PyLong_Type) {
         return -1;
     }
-    int said = read_int(number, to);
-    Py_DECREF(number);
+    int overflow, said = 0;
+    to->i = PyLong_AsLongLongAndOverflow(number == NULL ? object : number, &overflow);
+    if (overflow < 0) {
+        said = 2;
+    } else if (overflow > 0) {
+        to->u = PyLong_AsUnsignedLongLong(number == NULL ? object : number);
+        said = 1;
+        if (to->u == UINT64_MAX && PyErr_Occurred()) {
+            PyErr_Clear();
+            said = 2;
+        }
+    } else if (to->i == -1 && PyErr_Occurred()) {
+        said = -1;
+    }
+    Py_XDECREF(number);
     return said;
 }
 
@@ -544,9 +535,32 @@ static bool are_ints(const call *c, PyObject *const *args, Py_ssize_t count, PyO
     return true;
 }
 
+static void release(PyObject **objects, Py_ssize_t count) {
+    while (count > 0) {
+        Py_DECREF(objects[--count]);
+    }
+}
+
+/* The objects of the cells, which are owned, and how many there are. It is -1 after an error. */
+static Py_ssize_t cells_of(const call *c, PyObject *const *bound, PyObject **objects) {
+    Py_ssize_t cells = 0;
+    for (Py_ssize_t p = 0; p < c->count; p++) {
+        if (c->shapes[p] == 'n') {
+            objects[cells] = bound[p];
+            Py_INCREF(bound[p]);
+            cells += 1;
+        } else if (parts(bound[p], c->shapes[p], &objects[cells]) != 0) {
+            release(objects, cells);
+            return -1;
+        } else {
+            cells += c->shapes[p] == 'f' ? 2 : 3;
+        }
+    }
+    return cells;
+}
+
 static PyObject *run(const call *c, PyObject *const *args, Py_ssize_t count, PyObject *names) {
     PyObject *bound[MAX_PARAMETERS], *objects[MAX_CELLS], *out = NULL, *result = NULL;
-    Py_ssize_t cells = 0;
     bool arrays = false;
     if (are_ints(c, args, count, names)) {
         return run_one(c, args, count);
@@ -556,16 +570,9 @@ static PyObject *run(const call *c, PyObject *const *args, Py_ssize_t count, PyO
     } else if (bind(c, args, count, names, bound, &out) != 0) {
         return NULL;
     }
-    for (Py_ssize_t p = 0; p < c->count; p++) {
-        if (c->shapes[p] == 'n') {
-            objects[cells] = bound[p];
-            Py_INCREF(bound[p]);
-            cells += 1;
-        } else if (parts(bound[p], c->shapes[p], &objects[cells]) != 0) {
-            goto end;
-        } else {
-            cells += c->shapes[p] == 'f' ? 2 : 3;
-        }
+    Py_ssize_t cells = cells_of(c, bound, objects);
+    if (cells < 0) {
+        return NULL;
     }
     for (Py_ssize_t k = 0; k < cells; k++) {
         arrays |= !is_int(objects[k]) && is_array(objects[k]);
@@ -577,10 +584,7 @@ static PyObject *run(const call *c, PyObject *const *args, Py_ssize_t count, PyO
     } else {
         result = run_one(c, objects, cells);
     }
-end:
-    while (cells > 0) {
-        Py_DECREF(objects[--cells]);
-    }
+    release(objects, cells);
     return result;
 }
 
@@ -655,8 +659,8 @@ static int copy_list(PyObject *object, const char *name, bool has_signed, bool n
     }
     Py_ssize_t numbers = PyList_Size(objects);
     to->copy = PyMem_Malloc(((size_t)numbers + 1) * (sizeof *to->copy + 1));
-    signed char *said = (signed char *)(to->copy + numbers + 1);
     bool right = to->copy != NULL;
+    signed char *said = right ? (signed char *)(to->copy + numbers + 1) : NULL;
     if (!right) {
         PyErr_NoMemory();
     }

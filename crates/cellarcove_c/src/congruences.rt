@@ -12,9 +12,12 @@ ghost use Rattle.cellarcove_c.specs.Congruences.{AnswersModulo, I64Congruent, Is
 ghost use Rattle.cellarcove_c.specs.Statuses.{Either, answer_of, bad_modulus, common_solution_of, no_solution, not_fitting};
 
 use crate::answers::{ANSWER, BAD_MODULUS, I64Answer, NO_SOLUTION, NOT_FITTING, U64Answer};
-use crate::modulo::{reason_for_modulus, reason_for_unsigned_modulus};
-use modular::{CommonSolution, checked, chinese_remainder, next_common_solution, solutions};
+use crate::modulo::reason_for_modulus;
+use modular::{
+    CommonSolution, Modular, checked, chinese_remainder, next_common_solution, solutions,
+};
 use num_integer::Fits;
+use num_integer::operators::zero;
 
 /// A status, and solutions: the first that is not negative, and the step from each to the next.
 #[repr(C)]
@@ -137,7 +140,7 @@ pub extern "C" fn cellarcove_chinese_remainder_u64(a: u64, m: u64, b: u64, n: u6
             None => U64Solutions::none(NO_SOLUTION),
         }
     } else {
-        U64Solutions::none(reason_for_unsigned_congruences(a, m, b, n))
+        U64Solutions::none(reason_for_congruences(a, m, b, n))
     }
 }
 
@@ -163,7 +166,7 @@ pub extern "C" fn cellarcove_next_congruent_u64(from: u64, first: u64, step: u64
 {
     U64Answer::of(
         checked::next_congruent(from, first, step),
-        reason_for_unsigned_modulus(step, NOT_FITTING),
+        reason_for_modulus(step, NOT_FITTING),
     )
 }
 
@@ -189,7 +192,7 @@ pub extern "C" fn cellarcove_previous_congruent_u64(to: u64, first: u64, step: u
 {
     U64Answer::of(
         checked::previous_congruent(to, first, step),
-        reason_for_unsigned_modulus(step, NOT_FITTING),
+        reason_for_modulus(step, NOT_FITTING),
     )
 }
 
@@ -226,7 +229,7 @@ pub extern "C" fn cellarcove_count_congruent_u64(
 {
     U64Answer::of(
         checked::count_congruent(from, to, first, step),
-        reason_for_unsigned_modulus(step, NOT_FITTING),
+        reason_for_modulus(step, NOT_FITTING),
     )
 }
 
@@ -254,11 +257,7 @@ pub extern "C" fn cellarcove_next_common_solution_i64(
     if m <= 0 || n <= 0 {
         return I64Answer::none(BAD_MODULUS);
     }
-    match next_common_solution(from, a, m, b, n) {
-        CommonSolution::At(solution) => I64Answer::some(solution),
-        CommonSolution::Beyond => I64Answer::none(NOT_FITTING),
-        CommonSolution::Never => I64Answer::none(NO_SOLUTION),
-    }
+    I64Answer::of_common(next_common_solution(from, a, m, b, n))
 }
 
 /// Returns the smallest number from `from` on that is `a` modulo `m` and `b` modulo `n`. The least
@@ -286,11 +285,7 @@ pub extern "C" fn cellarcove_next_common_solution_u64(
     if m == 0 || n == 0 {
         return U64Answer::none(BAD_MODULUS);
     }
-    match next_common_solution(from, a, m, b, n) {
-        CommonSolution::At(solution) => U64Answer::some(solution),
-        CommonSolution::Beyond => U64Answer::none(NOT_FITTING),
-        CommonSolution::Never => U64Answer::none(NO_SOLUTION),
-    }
+    U64Answer::of_common(next_common_solution(from, a, m, b, n))
 }
 
 impl I64Solutions {
@@ -343,31 +338,18 @@ impl U64Solutions {
 
 /// Returns why two congruences have no class of solutions, if the least common multiple of their moduli
 /// does not fit.
-fn reason_for_congruences(a: i64, m: i64, b: i64, n: i64) -> u32
-    requires m_positive { pos 0 <ℤ m }
-    requires n_positive { pos 0 <ℤ n }
-    ensures not_fitting { (result ≡ not_fitting) ↔ ((x : ℤ) × SolvesBothCongruences a m b n x) }
-    ensures no_solution { (result ≡ no_solution) ↔ IsNever (SolvesBothCongruences a m b n) }
-    ensures refusal { Either not_fitting no_solution result }
-{
-    match next_common_solution(0, a, m, b, n) {
-        CommonSolution::Never => NO_SOLUTION,
-        _ => NOT_FITTING,
-    }
-}
-
-/// Returns why two congruences have no class of solutions, if the least common multiple of their moduli
-/// does not fit.
-fn reason_for_unsigned_congruences(a: u64, m: u64, b: u64, n: u64) -> u32
-    requires m_positive { pos 0 <ℤ pos m }
-    requires n_positive { pos 0 <ℤ pos n }
+fn reason_for_congruences<T: Modular + Fits>(a: T, m: T, b: T, n: T) -> u32
+    requires in_range { T.fits (T.value a) × T.fits (T.value m) × T.fits (T.value b)
+        × T.fits (T.value n) }
+    requires m_positive { pos 0 <ℤ T.value m }
+    requires n_positive { pos 0 <ℤ T.value n }
     ensures not_fitting { (result ≡ not_fitting)
-        ↔ ((x : ℤ) × SolvesBothCongruences (pos a) (pos m) (pos b) (pos n) x) }
+        ↔ ((x : ℤ) × SolvesBothCongruences (T.value a) (T.value m) (T.value b) (T.value n) x) }
     ensures no_solution { (result ≡ no_solution)
-        ↔ IsNever (SolvesBothCongruences (pos a) (pos m) (pos b) (pos n)) }
+        ↔ IsNever (SolvesBothCongruences (T.value a) (T.value m) (T.value b) (T.value n)) }
     ensures refusal { Either not_fitting no_solution result }
 {
-    match next_common_solution(0, a, m, b, n) {
+    match next_common_solution(zero(), a, m, b, n) {
         CommonSolution::Never => NO_SOLUTION,
         _ => NOT_FITTING,
     }

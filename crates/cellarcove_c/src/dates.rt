@@ -63,10 +63,7 @@ pub extern "C" fn cellarcove_day_from_date(date: Date) -> I64Answer
     ensures refusal { Refuses (Either no_date not_fitting) (pos 0) result.status result.value }
 {
     match date.found() {
-        Some(found) => match found.day_number() {
-            Some(day) => I64Answer::some(day),
-            None => I64Answer::none(NOT_FITTING),
-        },
+        Some(found) => I64Answer::of(found.day_number(), NOT_FITTING),
         None => I64Answer::none(NO_DATE),
     }
 }
@@ -108,10 +105,7 @@ pub extern "C" fn cellarcove_days_between(from: Date, to: Date) -> I64Answer
 {
     match from.found() {
         Some(first) => match to.found() {
-            Some(last) => match days_between(&first, &last) {
-                Some(days) => I64Answer::some(days),
-                None => I64Answer::none(NOT_FITTING),
-            },
+            Some(last) => I64Answer::of(days_between(&first, &last), NOT_FITTING),
             None => I64Answer::none(NO_DATE),
         },
         None => I64Answer::none(NO_DATE),
@@ -157,10 +151,7 @@ pub extern "C" fn cellarcove_months_between(from: Date, to: Date) -> I64Answer
 {
     match from.found() {
         Some(first) => match to.found() {
-            Some(last) => match months_between(&first, &last) {
-                Some(months) => I64Answer::some(months),
-                None => I64Answer::none(NOT_FITTING),
-            },
+            Some(last) => I64Answer::of(months_between(&first, &last), NOT_FITTING),
             None => I64Answer::none(NO_DATE),
         },
         None => I64Answer::none(NO_DATE),

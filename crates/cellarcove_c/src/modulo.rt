@@ -9,6 +9,8 @@ ghost use Rattle.cellarcove_c.specs.Statuses.{Only, bad_modulus};
 
 use crate::answers::{BAD_MODULUS, I64Answer, NO_SOLUTION, U64Answer};
 use modular::checked;
+use num_integer::Integer;
+use num_integer::operators::{is_below, zero};
 
 /// Returns `a + b` modulo `m`, from 0 to `m` - 1. For 5, 4 and 7 it is 2.
 ///
@@ -123,7 +125,7 @@ pub extern "C" fn cellarcove_inverse_modulo_u64(a: u64, m: u64) -> U64Answer
 {
     U64Answer::of(
         checked::inverse_modulo(a, m),
-        reason_for_unsigned_modulus(m, NO_SOLUTION),
+        reason_for_modulus(m, NO_SOLUTION),
     )
 }
 
@@ -150,26 +152,20 @@ pub extern "C" fn cellarcove_quotient_modulo_u64(a: u64, b: u64, m: u64) -> U64A
 {
     U64Answer::of(
         checked::quotient_modulo(a, b, m),
-        reason_for_unsigned_modulus(m, NO_SOLUTION),
+        reason_for_modulus(m, NO_SOLUTION),
     )
 }
 
 /// Returns why a call modulo a number has no result: the number is not positive, or another reason.
-pub(crate) fn reason_for_modulus(m: i64, reason: u32) -> u32
+pub(crate) fn reason_for_modulus<T: Integer>(m: T, reason: u32) -> u32
     requires { reason ≢ 0 }
-    ensures bad_modulus { m ≤ℤ pos 0 → result ≡ bad_modulus }
-    ensures other { pos 0 <ℤ m → result ≡ reason }
+    ensures bad_modulus { T.value m ≤ℤ pos 0 → result ≡ bad_modulus }
+    ensures other { pos 0 <ℤ T.value m → result ≡ reason }
     ensures refused { result ≢ 0 }
 {
-    if m <= 0 { BAD_MODULUS } else { reason }
-}
-
-/// Returns why a call modulo a number has no result: the number is 0, or another reason.
-pub(crate) fn reason_for_unsigned_modulus(m: u64, reason: u32) -> u32
-    requires { reason ≢ 0 }
-    ensures bad_modulus { pos m ≤ℤ pos 0 → result ≡ bad_modulus }
-    ensures other { pos 0 <ℤ pos m → result ≡ reason }
-    ensures refused { result ≢ 0 }
-{
-    if m > 0 { reason } else { BAD_MODULUS }
+    if is_below(zero(), m) {
+        reason
+    } else {
+        BAD_MODULUS
+    }
 }

@@ -3,10 +3,11 @@
 //! between two.
 
 use crate::answers::{I64Answer, U64Answer, ANSWER, BAD_MODULUS, NOT_FITTING, NO_SOLUTION};
-use crate::modulo::{reason_for_modulus, reason_for_unsigned_modulus};
+use crate::modulo::reason_for_modulus;
 use cellarcove::modular::{
-    checked, chinese_remainder, next_common_solution, solutions, CommonSolution,
+    checked, chinese_remainder, next_common_solution, solutions, CommonSolution, Modular,
 };
+use cellarcove::operators::zero;
 use cellarcove::Fits;
 
 /// A status, and solutions: the first that is not negative, and the step from each to the next.
@@ -91,7 +92,7 @@ pub extern "C" fn cellarcove_chinese_remainder_u64(a: u64, m: u64, b: u64, n: u6
             None => U64Solutions::none(NO_SOLUTION),
         }
     } else {
-        U64Solutions::none(reason_for_unsigned_congruences(a, m, b, n))
+        U64Solutions::none(reason_for_congruences(a, m, b, n))
     }
 }
 
@@ -115,7 +116,7 @@ pub extern "C" fn cellarcove_next_congruent_i64(from: i64, first: i64, step: i64
 pub extern "C" fn cellarcove_next_congruent_u64(from: u64, first: u64, step: u64) -> U64Answer {
     U64Answer::of(
         checked::next_congruent(from, first, step),
-        reason_for_unsigned_modulus(step, NOT_FITTING),
+        reason_for_modulus(step, NOT_FITTING),
     )
 }
 
@@ -137,7 +138,7 @@ pub extern "C" fn cellarcove_previous_congruent_i64(to: i64, first: i64, step: i
 pub extern "C" fn cellarcove_previous_congruent_u64(to: u64, first: u64, step: u64) -> U64Answer {
     U64Answer::of(
         checked::previous_congruent(to, first, step),
-        reason_for_unsigned_modulus(step, NOT_FITTING),
+        reason_for_modulus(step, NOT_FITTING),
     )
 }
 
@@ -171,7 +172,7 @@ pub extern "C" fn cellarcove_count_congruent_u64(
 ) -> U64Answer {
     U64Answer::of(
         checked::count_congruent(from, to, first, step),
-        reason_for_unsigned_modulus(step, NOT_FITTING),
+        reason_for_modulus(step, NOT_FITTING),
     )
 }
 
@@ -191,11 +192,7 @@ pub extern "C" fn cellarcove_next_common_solution_i64(
     if m <= 0 || n <= 0 {
         return I64Answer::none(BAD_MODULUS);
     }
-    match next_common_solution(from, a, m, b, n) {
-        CommonSolution::At(solution) => I64Answer::some(solution),
-        CommonSolution::Beyond => I64Answer::none(NOT_FITTING),
-        CommonSolution::Never => I64Answer::none(NO_SOLUTION),
-    }
+    I64Answer::of_common(next_common_solution(from, a, m, b, n))
 }
 
 /// Returns the smallest number from `from` on that is `a` modulo `m` and `b` modulo `n`. The least
@@ -214,11 +211,7 @@ pub extern "C" fn cellarcove_next_common_solution_u64(
     if m == 0 || n == 0 {
         return U64Answer::none(BAD_MODULUS);
     }
-    match next_common_solution(from, a, m, b, n) {
-        CommonSolution::At(solution) => U64Answer::some(solution),
-        CommonSolution::Beyond => U64Answer::none(NOT_FITTING),
-        CommonSolution::Never => U64Answer::none(NO_SOLUTION),
-    }
+    U64Answer::of_common(next_common_solution(from, a, m, b, n))
 }
 
 impl I64Solutions {
@@ -263,17 +256,8 @@ impl U64Solutions {
 
 /// Returns why two congruences have no class of solutions, if the least common multiple of their
 /// moduli does not fit.
-fn reason_for_congruences(a: i64, m: i64, b: i64, n: i64) -> u32 {
-    match next_common_solution(0, a, m, b, n) {
-        CommonSolution::Never => NO_SOLUTION,
-        _ => NOT_FITTING,
-    }
-}
-
-/// Returns why two congruences have no class of solutions, if the least common multiple of their
-/// moduli does not fit.
-fn reason_for_unsigned_congruences(a: u64, m: u64, b: u64, n: u64) -> u32 {
-    match next_common_solution(0, a, m, b, n) {
+fn reason_for_congruences<T: Modular + Fits>(a: T, m: T, b: T, n: T) -> u32 {
+    match next_common_solution(zero(), a, m, b, n) {
         CommonSolution::Never => NO_SOLUTION,
         _ => NOT_FITTING,
     }

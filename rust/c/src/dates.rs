@@ -42,10 +42,7 @@ pub extern "C" fn cellarcove_date_from_day(day: i64) -> Date {
 #[unsafe(no_mangle)]
 pub extern "C" fn cellarcove_day_from_date(date: Date) -> I64Answer {
     match date.found() {
-        Some(found) => match found.day_number() {
-            Some(day) => I64Answer::some(day),
-            None => I64Answer::none(NOT_FITTING),
-        },
+        Some(found) => I64Answer::of(found.day_number(), NOT_FITTING),
         None => I64Answer::none(NO_DATE),
     }
 }
@@ -73,10 +70,7 @@ pub extern "C" fn cellarcove_plus_days(date: Date, days: i64) -> DateAnswer {
 pub extern "C" fn cellarcove_days_between(from: Date, to: Date) -> I64Answer {
     match from.found() {
         Some(first) => match to.found() {
-            Some(last) => match days_between(&first, &last) {
-                Some(days) => I64Answer::some(days),
-                None => I64Answer::none(NOT_FITTING),
-            },
+            Some(last) => I64Answer::of(days_between(&first, &last), NOT_FITTING),
             None => I64Answer::none(NO_DATE),
         },
         None => I64Answer::none(NO_DATE),
@@ -107,10 +101,7 @@ pub extern "C" fn cellarcove_plus_months(date: Date, months: i64) -> DateAnswer 
 pub extern "C" fn cellarcove_months_between(from: Date, to: Date) -> I64Answer {
     match from.found() {
         Some(first) => match to.found() {
-            Some(last) => match months_between(&first, &last) {
-                Some(months) => I64Answer::some(months),
-                None => I64Answer::none(NOT_FITTING),
-            },
+            Some(last) => I64Answer::of(months_between(&first, &last), NOT_FITTING),
             None => I64Answer::none(NO_DATE),
         },
         None => I64Answer::none(NO_DATE),

@@ -2,6 +2,7 @@
 //! Division, rounded toward 0, down or up.
 
 use crate::answers::{I64Answer, U64Answer, ANSWER, NOT_FITTING, OUTSIDE};
+use cellarcove::operators::is_zero;
 use cellarcove::{checked, Integer};
 
 /// A status, and a quotient with its remainder.
@@ -124,7 +125,7 @@ pub extern "C" fn cellarcove_product_div_mod_floor_i64(a: i64, b: i64, d: i64) -
 pub extern "C" fn cellarcove_product_div_mod_floor_u64(a: u64, b: u64, d: u64) -> U64Division {
     U64Division::of(
         checked::product_div_mod_floor(a, b, d),
-        reason_for_unsigned_divisor(d),
+        reason_for_divisor(d),
     )
 }
 
@@ -142,10 +143,7 @@ pub extern "C" fn cellarcove_next_multiple_of_i64(x: i64, y: i64) -> I64Answer {
 /// `OUTSIDE` if `y` is 0. `NOT_FITTING` if the multiple does not fit.
 #[unsafe(no_mangle)]
 pub extern "C" fn cellarcove_next_multiple_of_u64(x: u64, y: u64) -> U64Answer {
-    U64Answer::of(
-        checked::next_multiple_of(x, y),
-        reason_for_unsigned_divisor(y),
-    )
+    U64Answer::of(checked::next_multiple_of(x, y), reason_for_divisor(y))
 }
 
 /// Returns the quotient rounded down, times `y`: if `y` is positive, the largest multiple of it
@@ -214,17 +212,8 @@ impl U64Division {
 }
 
 /// Returns why a number has no quotient or multiple by a divisor.
-fn reason_for_divisor(divisor: i64) -> u32 {
-    if divisor == 0 {
-        OUTSIDE
-    } else {
-        NOT_FITTING
-    }
-}
-
-/// Returns why a number has no quotient or multiple by a divisor.
-fn reason_for_unsigned_divisor(divisor: u64) -> u32 {
-    if divisor == 0 {
+fn reason_for_divisor<T: Integer>(divisor: T) -> u32 {
+    if is_zero(divisor) {
         OUTSIDE
     } else {
         NOT_FITTING

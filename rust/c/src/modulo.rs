@@ -3,6 +3,8 @@
 
 use crate::answers::{I64Answer, U64Answer, BAD_MODULUS, NO_SOLUTION};
 use cellarcove::modular::checked;
+use cellarcove::operators::{is_below, zero};
+use cellarcove::Integer;
 
 /// Returns `a + b` modulo `m`, from 0 to `m` - 1. For 5, 4 and 7 it is 2.
 ///
@@ -92,7 +94,7 @@ pub extern "C" fn cellarcove_inverse_modulo_i64(a: i64, m: i64) -> I64Answer {
 pub extern "C" fn cellarcove_inverse_modulo_u64(a: u64, m: u64) -> U64Answer {
     U64Answer::of(
         checked::inverse_modulo(a, m),
-        reason_for_unsigned_modulus(m, NO_SOLUTION),
+        reason_for_modulus(m, NO_SOLUTION),
     )
 }
 
@@ -114,22 +116,13 @@ pub extern "C" fn cellarcove_quotient_modulo_i64(a: i64, b: i64, m: i64) -> I64A
 pub extern "C" fn cellarcove_quotient_modulo_u64(a: u64, b: u64, m: u64) -> U64Answer {
     U64Answer::of(
         checked::quotient_modulo(a, b, m),
-        reason_for_unsigned_modulus(m, NO_SOLUTION),
+        reason_for_modulus(m, NO_SOLUTION),
     )
 }
 
 /// Returns why a call modulo a number has no result: the number is not positive, or another reason.
-pub(crate) fn reason_for_modulus(m: i64, reason: u32) -> u32 {
-    if m <= 0 {
-        BAD_MODULUS
-    } else {
-        reason
-    }
-}
-
-/// Returns why a call modulo a number has no result: the number is 0, or another reason.
-pub(crate) fn reason_for_unsigned_modulus(m: u64, reason: u32) -> u32 {
-    if m > 0 {
+pub(crate) fn reason_for_modulus<T: Integer>(m: T, reason: u32) -> u32 {
+    if is_below(zero(), m) {
         reason
     } else {
         BAD_MODULUS

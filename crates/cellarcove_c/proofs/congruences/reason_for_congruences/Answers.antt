@@ -1,13 +1,12 @@
-use Rattle.std.specs.Prelude.{ℕ, pos}
-use Rattle.std.specs.Int.{FitsUnsignedBits}
 use Rattle.std.proofs.Common.{arith, inl, refl}
 use Rattle.modular.specs.Congruences.{SolvesBothCongruences}
 use Rattle.cellarcove_c.proofs.CommonSolutions.{solved}
-use Rattle.cellarcove_c.proofs.congruences.reason_for_unsigned_congruences.Goals as goal
+use Rattle.cellarcove_c.proofs.congruences.reason_for_congruences.Goals as goal
 
 pub returns-in_default : goal.returns-in_default
-returns-in_default c =
-    let found = solved (λ (t : ℕ). pos t) (pos 0) (SolvesBothCongruences (pos c.args.a) (pos c.args.m) (pos c.args.b) (pos c.args.n)) (FitsUnsignedBits 64) _ c.next_common_solution.result
+returns-in_default g c =
+    let value = g.T.Number.value in
+    let found = solved value (value c.zero.result) (SolvesBothCongruences (value c.args.a) (value c.args.m) (value c.args.b) (value c.args.n)) g.T.Number.fits _ c.next_common_solution.result
     c.next_common_solution.ensures c.in_default.not-Never in
     record {
       not_fitting = (λ _. found, λ _. refl);
