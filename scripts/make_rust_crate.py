@@ -79,6 +79,7 @@ ADDED = {
                                            'the built-in integer types of at most 64 bits implement it',
                                            'there are no roots of `i128` and `u128`', OWN),
     ('num_integer', 'IterBinomial'): '#[derive(Clone, Debug)]',
+    ('calendar', 'Days'): '#[derive(Clone, Debug)]',
 }
 ADDED_TO = set()                                # those that are met, noted as files are made
 

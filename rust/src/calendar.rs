@@ -3,6 +3,7 @@
 //! The proleptic Gregorian calendar: dates, and days counted from 1970-01-01, which is day 0.
 
 mod date;
+mod days;
 mod distances;
 mod eras;
 mod feasts;
@@ -27,7 +28,5 @@ pub use weeks::{
     nth_weekday_of_month,
 };
 pub use years::{days_in_year, is_leap_year};
-
-mod days;
 
 mod week_strings;

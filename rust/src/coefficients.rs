@@ -6,7 +6,7 @@ use crate::integer_core::Integer;
 /// Splits `r * a / b`, which is an integer, into the factors `r / g` and `a / (b / g)`. `g` is the
 /// gcd of `r` and `b`, computed as that of `r % b` and `b`. If `g` is `b` or 1, one division gives
 /// both factors. After <https://blog.plover.com/math/choose-2.html>.
-pub(crate) fn factors<T: Integer + Copy>(r: T, a: T, b: T) -> (T, T) {
+fn factors<T: Integer + Copy>(r: T, a: T, b: T) -> (T, T) {
     let g = (r % b).gcd(&b);
     if g >= b {
         (r / b, a)
@@ -63,8 +63,8 @@ pub(crate) fn nearer_end<T: Integer + Copy>(n: T, k: T) -> T {
 ///
 /// <details><summary>Proved</summary>
 ///
-/// Of the source, in Rattle: where each `requires` holds, the call returns, and then each `ensures`
-/// holds.
+/// Proved of the source in Rattle: if each `requires` holds, the call returns, and then each
+/// `ensures` holds.
 ///
 /// ```text
 /// requires n_from_zero { pos 0 ≤ℤ T.value n }
@@ -130,8 +130,8 @@ pub fn binomial_counted<T: Integer + Copy>(n: T, k: T) -> (T, u32) {
 ///
 /// <details><summary>Proved</summary>
 ///
-/// Of the source, in Rattle: where each `requires` holds, the call returns, and then each `ensures`
-/// holds.
+/// Proved of the source in Rattle: if each `requires` holds, the call returns, and then each
+/// `ensures` holds.
 ///
 /// ```text
 /// requires n_from_zero { pos 0 ≤ℤ T.value n }
@@ -175,8 +175,8 @@ pub fn binomial<T: Integer + Copy>(n: T, k: T) -> T {
 ///
 /// <details><summary>Proved</summary>
 ///
-/// Of the source, in Rattle: where each `requires` holds, the call returns, and then each `ensures`
-/// holds.
+/// Proved of the source in Rattle: if each `requires` holds, the call returns, and then each
+/// `ensures` holds.
 ///
 /// ```text
 /// requires counts_from_zero { All (λ x. pos 0 ≤ℤ T.value x) k.now }

@@ -18,7 +18,7 @@ use crate::Fits;
 ///
 /// <details><summary>Proved</summary>
 ///
-/// Of the source, in Rattle: each call returns, and then each `ensures` holds.
+/// Proved of the source in Rattle: each call returns, and then each `ensures` holds.
 ///
 /// ```text
 /// ensures { IsTrue result ↔ IsGreatestCommonDivisor (T.value a) (T.value b) (pos 1) }
@@ -30,11 +30,10 @@ use crate::Fits;
 /// </details>
 #[must_use]
 pub fn is_coprime<T: Fits>(a: T, b: T) -> bool {
-    common_divisor(a, b) == T::one()
+    signed_gcd(a, b) == T::one()
 }
 
-/// Returns both numbers divided by their greatest common divisor, with their signs. The pair of 0
-/// and 0 stays.
+/// Returns both numbers divided by their greatest common divisor, with their signs.
 ///
 /// # Examples
 ///
@@ -44,11 +43,12 @@ pub fn is_coprime<T: Fits>(a: T, b: T) -> bool {
 /// assert_eq!(reduced(1920, 1080), (16, 9));
 /// assert_eq!(reduced(-6, 4), (-3, 2));
 /// assert_eq!(reduced(0, -5), (0, -1));
+/// assert_eq!(reduced(0, 0), (0, 0));
 /// ```
 ///
 /// <details><summary>Proved</summary>
 ///
-/// Of the source, in Rattle: each call returns, and then each `ensures` holds.
+/// Proved of the source in Rattle: each call returns, and then each `ensures` holds.
 ///
 /// ```text
 /// ensures reduced { IsReducedPair (T.value a) (T.value b) (T.value result.0) (T.value result.1) }
@@ -60,17 +60,20 @@ pub fn is_coprime<T: Fits>(a: T, b: T) -> bool {
 /// </details>
 #[must_use]
 pub fn reduced<T: Fits>(a: T, b: T) -> (T, T) {
-    let divisor = common_divisor(a, b);
+    let divisor = signed_gcd(a, b);
     if divisor.is_zero() {
         (a, b)
     } else {
-        (part_of(a, divisor), part_of(b, divisor))
+        (
+            divided_by_magnitude(a, divisor),
+            divided_by_magnitude(b, divisor),
+        )
     }
 }
 
-/// Returns a number whose magnitude is the greatest common divisor of `a` and `b`: the divisor
-/// itself, or the smallest number of the type if the divisor does not fit.
-pub(crate) fn common_divisor<T: Fits>(a: T, b: T) -> T {
+/// `signed_gcd(i8::MIN, 0)` is `i8::MIN`. Returns the greatest common divisor, or `MIN` if it does
+/// not fit. The magnitude of `MIN` is then the divisor.
+pub(crate) fn signed_gcd<T: Fits>(a: T, b: T) -> T {
     if a.gcd_fits(&b) {
         a.gcd(&b)
     } else if a.is_zero() {
@@ -80,12 +83,12 @@ pub(crate) fn common_divisor<T: Fits>(a: T, b: T) -> T {
     }
 }
 
-/// Returns `n` divided by the magnitude of its divisor `d`.
-fn part_of<T: Fits>(n: T, d: T) -> T {
-    let part = n / d;
+/// Returns `n` divided by the magnitude of `d`, which divides it.
+fn divided_by_magnitude<T: Fits>(n: T, d: T) -> T {
+    let signed_quotient = n / d;
     if d < T::zero() {
-        negated(part)
+        negated(signed_quotient)
     } else {
-        part
+        signed_quotient
     }
 }

@@ -31,7 +31,7 @@ pub trait Fits: Integer + Copy {
     ///
     /// <details><summary>Proved</summary>
     ///
-    /// Of the source, in Rattle: each call returns, and then each `ensures` holds.
+    /// Proved of the source in Rattle: each call returns, and then each `ensures` holds.
     ///
     /// ```text
     /// ensures negative { IsTrue result.0 ↔ (Self.value self.now <ℤ pos 0) }
@@ -56,7 +56,7 @@ pub trait Fits: Integer + Copy {
     ///
     /// <details><summary>Proved</summary>
     ///
-    /// Of the source, in Rattle: each call returns, and then each `ensures` holds.
+    /// Proved of the source in Rattle: each call returns, and then each `ensures` holds.
     ///
     /// ```text
     /// ensures low { result.0 ≡ unsigned_abs Self.low }
@@ -82,7 +82,7 @@ pub trait Fits: Integer + Copy {
     ///
     /// <details><summary>Proved</summary>
     ///
-    /// Of the source, in Rattle: each call returns, and then each `ensures` holds.
+    /// Proved of the source in Rattle: each call returns, and then each `ensures` holds.
     ///
     /// ```text
     /// ensures { IsTrue result ↔ Self.fits (Self.value self.now +ℤ Self.value other.now) }
@@ -110,7 +110,7 @@ pub trait Fits: Integer + Copy {
     ///
     /// <details><summary>Proved</summary>
     ///
-    /// Of the source, in Rattle: each call returns, and then each `ensures` holds.
+    /// Proved of the source in Rattle: each call returns, and then each `ensures` holds.
     ///
     /// ```text
     /// ensures { IsTrue result ↔ Self.fits (Self.value self.now -ℤ Self.value other.now) }
@@ -139,7 +139,7 @@ pub trait Fits: Integer + Copy {
     ///
     /// <details><summary>Proved</summary>
     ///
-    /// Of the source, in Rattle: each call returns, and then each `ensures` holds.
+    /// Proved of the source in Rattle: each call returns, and then each `ensures` holds.
     ///
     /// ```text
     /// ensures { IsTrue result ↔ Self.fits (Self.value self.now *ℤ Self.value other.now) }
@@ -170,7 +170,7 @@ pub trait Fits: Integer + Copy {
     ///
     /// <details><summary>Proved</summary>
     ///
-    /// Of the source, in Rattle: each call returns, and then each `ensures` holds.
+    /// Proved of the source in Rattle: each call returns, and then each `ensures` holds.
     ///
     /// ```text
     /// ensures domain { EachKind (λ Kind. IsTrue result ↔ ((Self.value other.now ≢ pos 0)
@@ -211,7 +211,7 @@ pub trait Fits: Integer + Copy {
     ///
     /// <details><summary>Proved</summary>
     ///
-    /// Of the source, in Rattle: each call returns, and then each `ensures` holds.
+    /// Proved of the source in Rattle: each call returns, and then each `ensures` holds.
     ///
     /// ```text
     /// ensures { IsTrue result ↔ ((Self.value other.now ≢ pos 0)
@@ -249,7 +249,7 @@ pub trait Fits: Integer + Copy {
     ///
     /// <details><summary>Proved</summary>
     ///
-    /// Of the source, in Rattle: each call returns, and then each `ensures` holds.
+    /// Proved of the source in Rattle: each call returns, and then each `ensures` holds.
     ///
     /// ```text
     /// ensures { IsTrue result ↔ ((Self.value other.now ≢ pos 0)
@@ -284,7 +284,7 @@ pub trait Fits: Integer + Copy {
     ///
     /// <details><summary>Proved</summary>
     ///
-    /// Of the source, in Rattle: each call returns, and then each `ensures` holds.
+    /// Proved of the source in Rattle: each call returns, and then each `ensures` holds.
     ///
     /// ```text
     /// ensures domain { IsTrue result ↔ EachFits Self.fits
@@ -323,7 +323,7 @@ pub trait Fits: Integer + Copy {
     ///
     /// <details><summary>Proved</summary>
     ///
-    /// Of the source, in Rattle: each call returns, and then each `ensures` holds.
+    /// Proved of the source in Rattle: each call returns, and then each `ensures` holds.
     ///
     /// ```text
     /// ensures { IsTrue result ↔ EachFits Self.fits
@@ -366,7 +366,7 @@ pub trait Fits: Integer + Copy {
     ///
     /// <details><summary>Proved</summary>
     ///
-    /// Of the source, in Rattle: each call returns, and then each `ensures` holds.
+    /// Proved of the source in Rattle: each call returns, and then each `ensures` holds.
     ///
     /// ```text
     /// ensures { IsTrue result ↔ HasPair Self.fits (Self.value self.now) (Self.value other.now) }
@@ -396,7 +396,7 @@ pub trait Fits: Integer + Copy {
     ///
     /// <details><summary>Proved</summary>
     ///
-    /// Of the source, in Rattle: each call returns, and then each `ensures` holds.
+    /// Proved of the source in Rattle: each call returns, and then each `ensures` holds.
     ///
     /// ```text
     /// ensures { IsTrue result ↔ ((pos 0 ≤ℤ Self.value self.now) × (pos 0 ≤ℤ Self.value k.now)
@@ -432,7 +432,7 @@ pub trait Fits: Integer + Copy {
     ///
     /// <details><summary>Proved</summary>
     ///
-    /// Of the source, in Rattle: each call returns, and then each `ensures` holds.
+    /// Proved of the source in Rattle: each call returns, and then each `ensures` holds.
     ///
     /// ```text
     /// ensures { IsTrue result ↔ (All (λ x. pos 0 ≤ℤ Self.value x) counts.now

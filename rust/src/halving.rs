@@ -16,7 +16,7 @@ use crate::{average_floor, Average, Integer};
 ///
 /// <details><summary>Proved</summary>
 ///
-/// Of the source, in Rattle: each call returns, and then each `ensures` holds.
+/// Proved of the source in Rattle: each call returns, and then each `ensures` holds.
 ///
 /// ```text
 /// ensures no_farther { (T.value result -ℤ T.value a) ≤ℤ (T.value b -ℤ T.value result) }
@@ -50,8 +50,8 @@ pub fn midpoint<T: Average>(a: T, b: T) -> T {
 ///
 /// <details><summary>Proved</summary>
 ///
-/// Of the source, in Rattle: where each `requires` holds, the call returns, and then each `ensures`
-/// holds.
+/// Proved of the source in Rattle: if each `requires` holds, the call returns, and then each
+/// `ensures` holds.
 ///
 /// ```text
 /// requires sorted { IsSortedByKey T.value int_cmp items.now }

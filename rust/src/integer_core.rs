@@ -72,7 +72,7 @@ pub trait Integer: Sized + Num + PartialOrd + Ord + Eq {
     ///
     /// <details><summary>Proved</summary>
     ///
-    /// Of the source, in Rattle: where each `requires` holds, the call returns, and then each
+    /// Proved of the source in Rattle: if each `requires` holds, the call returns, and then each
     /// `ensures` holds.
     ///
     /// ```text
@@ -112,7 +112,7 @@ pub trait Integer: Sized + Num + PartialOrd + Ord + Eq {
     ///
     /// <details><summary>Proved</summary>
     ///
-    /// Of the source, in Rattle: where each `requires` holds, the call returns, and then each
+    /// Proved of the source in Rattle: if each `requires` holds, the call returns, and then each
     /// `ensures` holds.
     ///
     /// ```text
@@ -152,7 +152,7 @@ pub trait Integer: Sized + Num + PartialOrd + Ord + Eq {
     ///
     /// <details><summary>Proved</summary>
     ///
-    /// Of the source, in Rattle: where each `requires` holds, the call returns, and then each
+    /// Proved of the source in Rattle: if each `requires` holds, the call returns, and then each
     /// `ensures` holds.
     ///
     /// ```text
@@ -189,7 +189,7 @@ pub trait Integer: Sized + Num + PartialOrd + Ord + Eq {
     ///
     /// <details><summary>Proved</summary>
     ///
-    /// Of the source, in Rattle: where each `requires` holds, the call returns, and then each
+    /// Proved of the source in Rattle: if each `requires` holds, the call returns, and then each
     /// `ensures` holds.
     ///
     /// ```text
@@ -231,7 +231,7 @@ pub trait Integer: Sized + Num + PartialOrd + Ord + Eq {
     ///
     /// <details><summary>Proved</summary>
     ///
-    /// Of the source, in Rattle: where each `requires` holds, the call returns, and then each
+    /// Proved of the source in Rattle: if each `requires` holds, the call returns, and then each
     /// `ensures` holds.
     ///
     /// ```text
@@ -279,7 +279,7 @@ pub trait Integer: Sized + Num + PartialOrd + Ord + Eq {
     ///
     /// <details><summary>Proved</summary>
     ///
-    /// Of the source, in Rattle: where each `requires` holds, the call returns, and then each
+    /// Proved of the source in Rattle: if each `requires` holds, the call returns, and then each
     /// `ensures` holds.
     ///
     /// ```text
@@ -330,7 +330,7 @@ pub trait Integer: Sized + Num + PartialOrd + Ord + Eq {
     ///
     /// <details><summary>Proved</summary>
     ///
-    /// Of the source, in Rattle: where each `requires` holds, the call returns, and then each
+    /// Proved of the source in Rattle: if each `requires` holds, the call returns, and then each
     /// `ensures` holds.
     ///
     /// ```text
@@ -368,7 +368,7 @@ pub trait Integer: Sized + Num + PartialOrd + Ord + Eq {
     ///
     /// <details><summary>Proved</summary>
     ///
-    /// Of the source, in Rattle: each call returns, and then each `ensures` holds.
+    /// Proved of the source in Rattle: each call returns, and then each `ensures` holds.
     ///
     /// ```text
     /// ensures { IsTrue result ↔ Divides (Self.value other.now) (Self.value self.now) }
@@ -393,7 +393,7 @@ pub trait Integer: Sized + Num + PartialOrd + Ord + Eq {
     ///
     /// <details><summary>Proved</summary>
     ///
-    /// Of the source, in Rattle: each call returns, and then each `ensures` holds.
+    /// Proved of the source in Rattle: each call returns, and then each `ensures` holds.
     ///
     /// ```text
     /// ensures { IsTrue result ↔ Divides (Self.value other.now) (Self.value self.now) }
@@ -420,7 +420,7 @@ pub trait Integer: Sized + Num + PartialOrd + Ord + Eq {
     ///
     /// <details><summary>Proved</summary>
     ///
-    /// Of the source, in Rattle: each call returns, and then each `ensures` holds.
+    /// Proved of the source in Rattle: each call returns, and then each `ensures` holds.
     ///
     /// ```text
     /// ensures { IsTrue result ↔ IsEven (Self.value self.now) }
@@ -445,7 +445,7 @@ pub trait Integer: Sized + Num + PartialOrd + Ord + Eq {
     ///
     /// <details><summary>Proved</summary>
     ///
-    /// Of the source, in Rattle: each call returns, and then each `ensures` holds.
+    /// Proved of the source in Rattle: each call returns, and then each `ensures` holds.
     ///
     /// ```text
     /// ensures { IsTrue result ↔ ¬ (IsEven (Self.value self.now)) }
@@ -479,7 +479,7 @@ pub trait Integer: Sized + Num + PartialOrd + Ord + Eq {
     ///
     /// <details><summary>Proved</summary>
     ///
-    /// Of the source, in Rattle: where each `requires` holds, the call returns, and then each
+    /// Proved of the source in Rattle: if each `requires` holds, the call returns, and then each
     /// `ensures` holds.
     ///
     /// ```text
@@ -519,7 +519,7 @@ pub trait Integer: Sized + Num + PartialOrd + Ord + Eq {
     ///
     /// <details><summary>Proved</summary>
     ///
-    /// Of the source, in Rattle: where each `requires` holds, the call returns, and then each
+    /// Proved of the source in Rattle: if each `requires` holds, the call returns, and then each
     /// `ensures` holds.
     ///
     /// ```text
@@ -558,7 +558,7 @@ pub trait Integer: Sized + Num + PartialOrd + Ord + Eq {
     ///
     /// <details><summary>Proved</summary>
     ///
-    /// Of the source, in Rattle: where each `requires` holds, the call returns, and then each
+    /// Proved of the source in Rattle: if each `requires` holds, the call returns, and then each
     /// `ensures` holds.
     ///
     /// ```text
@@ -596,7 +596,7 @@ pub trait Integer: Sized + Num + PartialOrd + Ord + Eq {
     ///
     /// <details><summary>Proved</summary>
     ///
-    /// Of the source, in Rattle: where each `requires` holds, the call returns, and then each
+    /// Proved of the source in Rattle: if each `requires` holds, the call returns, and then each
     /// `ensures` holds.
     ///
     /// ```text
@@ -635,7 +635,7 @@ pub trait Integer: Sized + Num + PartialOrd + Ord + Eq {
     ///
     /// <details><summary>Proved</summary>
     ///
-    /// Of the source, in Rattle: where each `requires` holds, the call returns, and then each
+    /// Proved of the source in Rattle: if each `requires` holds, the call returns, and then each
     /// `ensures` holds.
     ///
     /// ```text
@@ -684,7 +684,7 @@ pub trait Integer: Sized + Num + PartialOrd + Ord + Eq {
     ///
     /// <details><summary>Proved</summary>
     ///
-    /// Of the source, in Rattle: where each `requires` holds, the call returns, and then each
+    /// Proved of the source in Rattle: if each `requires` holds, the call returns, and then each
     /// `ensures` holds.
     ///
     /// ```text
@@ -730,7 +730,7 @@ pub trait Integer: Sized + Num + PartialOrd + Ord + Eq {
     ///
     /// <details><summary>Proved</summary>
     ///
-    /// Of the source, in Rattle: where each `requires` holds, the call returns, and then each
+    /// Proved of the source in Rattle: if each `requires` holds, the call returns, and then each
     /// `ensures` holds.
     ///
     /// ```text
@@ -815,8 +815,8 @@ pub trait Integer: Sized + Num + PartialOrd + Ord + Eq {
 ///
 /// <details><summary>Proved</summary>
 ///
-/// Of the source, in Rattle: where each `requires` holds, the call returns, and then each `ensures`
-/// holds.
+/// Proved of the source in Rattle: if each `requires` holds, the call returns, and then each
+/// `ensures` holds.
 ///
 /// ```text
 /// requires nonzero { T.value y ≢ pos 0 }
@@ -855,8 +855,8 @@ pub fn div_rem<T: Integer>(x: T, y: T) -> (T, T) {
 ///
 /// <details><summary>Proved</summary>
 ///
-/// Of the source, in Rattle: where each `requires` holds, the call returns, and then each `ensures`
-/// holds.
+/// Proved of the source in Rattle: if each `requires` holds, the call returns, and then each
+/// `ensures` holds.
 ///
 /// ```text
 /// requires nonzero { T.value y ≢ pos 0 }
@@ -894,8 +894,8 @@ pub fn div_floor<T: Integer>(x: T, y: T) -> T {
 ///
 /// <details><summary>Proved</summary>
 ///
-/// Of the source, in Rattle: where each `requires` holds, the call returns, and then each `ensures`
-/// holds.
+/// Proved of the source in Rattle: if each `requires` holds, the call returns, and then each
+/// `ensures` holds.
 ///
 /// ```text
 /// requires nonzero { T.value y ≢ pos 0 }
@@ -931,8 +931,8 @@ pub fn mod_floor<T: Integer>(x: T, y: T) -> T {
 ///
 /// <details><summary>Proved</summary>
 ///
-/// Of the source, in Rattle: where each `requires` holds, the call returns, and then each `ensures`
-/// holds.
+/// Proved of the source in Rattle: if each `requires` holds, the call returns, and then each
+/// `ensures` holds.
 ///
 /// ```text
 /// requires nonzero { T.value y ≢ pos 0 }
@@ -970,8 +970,8 @@ pub fn div_mod_floor<T: Integer>(x: T, y: T) -> (T, T) {
 ///
 /// <details><summary>Proved</summary>
 ///
-/// Of the source, in Rattle: where each `requires` holds, the call returns, and then each `ensures`
-/// holds.
+/// Proved of the source in Rattle: if each `requires` holds, the call returns, and then each
+/// `ensures` holds.
 ///
 /// ```text
 /// requires nonzero { T.value y ≢ pos 0 }
@@ -1008,8 +1008,8 @@ pub fn div_ceil<T: Integer>(x: T, y: T) -> T {
 ///
 /// <details><summary>Proved</summary>
 ///
-/// Of the source, in Rattle: where each `requires` holds, the call returns, and then each `ensures`
-/// holds.
+/// Proved of the source in Rattle: if each `requires` holds, the call returns, and then each
+/// `ensures` holds.
 ///
 /// ```text
 /// requires gcd_fits { GcdFits T.fits (T.value x) (T.value y) }
@@ -1045,8 +1045,8 @@ pub fn gcd<T: Integer>(x: T, y: T) -> T {
 ///
 /// <details><summary>Proved</summary>
 ///
-/// Of the source, in Rattle: where each `requires` holds, the call returns, and then each `ensures`
-/// holds.
+/// Proved of the source in Rattle: if each `requires` holds, the call returns, and then each
+/// `ensures` holds.
 ///
 /// ```text
 /// requires lcm_fits { EachFits T.fits (IsLeastCommonMultiple (T.value x) (T.value y)) }
@@ -1083,8 +1083,8 @@ pub fn lcm<T: Integer>(x: T, y: T) -> T {
 ///
 /// <details><summary>Proved</summary>
 ///
-/// Of the source, in Rattle: where each `requires` holds, the call returns, and then each `ensures`
-/// holds.
+/// Proved of the source in Rattle: if each `requires` holds, the call returns, and then each
+/// `ensures` holds.
 ///
 /// ```text
 /// requires gcd_fits { GcdFits T.fits (T.value x) (T.value y) }

@@ -29,8 +29,8 @@ use crate::Fits;
 ///
 /// <details><summary>Proved</summary>
 ///
-/// Of the source, in Rattle: where each `requires` holds, the call returns, and then each `ensures`
-/// holds.
+/// Proved of the source in Rattle: if each `requires` holds, the call returns, and then each
+/// `ensures` holds.
 ///
 /// ```text
 /// requires gcd_fits { GcdOfFits T.fits (map T.value numbers.now) }
@@ -73,8 +73,8 @@ pub fn gcd_of<T: Fits>(numbers: &[T]) -> T {
 ///
 /// <details><summary>Proved</summary>
 ///
-/// Of the source, in Rattle: where each `requires` holds, the call returns, and then each `ensures`
-/// holds.
+/// Proved of the source in Rattle: if each `requires` holds, the call returns, and then each
+/// `ensures` holds.
 ///
 /// ```text
 /// requires lcm_fits { EachFits T.fits (IsLeastCommonMultipleOf (map T.value numbers.now)) }

@@ -23,8 +23,8 @@ use crate::{checked, div_ceil, div_mod_floor, Fits, Integer};
 ///
 /// <details><summary>Proved</summary>
 ///
-/// Of the source, in Rattle: where each `requires` holds, the call returns, and then each `ensures`
-/// holds.
+/// Proved of the source in Rattle: if each `requires` holds, the call returns, and then each
+/// `ensures` holds.
 ///
 /// ```text
 /// requires positive { pos 0 <ℤ T.value page_size }
@@ -62,8 +62,8 @@ pub fn pages<T: Integer>(items: T, page_size: T) -> T {
 ///
 /// <details><summary>Proved</summary>
 ///
-/// Of the source, in Rattle: where each `requires` holds, the call returns, and then each `ensures`
-/// holds.
+/// Proved of the source in Rattle: if each `requires` holds, the call returns, and then each
+/// `ensures` holds.
 ///
 /// ```text
 /// requires positive { pos 0 <ℤ T.value page_size }
@@ -103,8 +103,8 @@ pub fn place_of<T: Integer>(item: T, page_size: T) -> (T, T) {
 ///
 /// <details><summary>Proved</summary>
 ///
-/// Of the source, in Rattle: where each `requires` holds, the call returns, and then each `ensures`
-/// holds.
+/// Proved of the source in Rattle: if each `requires` holds, the call returns, and then each
+/// `ensures` holds.
 ///
 /// ```text
 /// requires place_from_zero { pos 0 ≤ℤ T.value place }
@@ -160,8 +160,8 @@ pub fn item_at<T: Fits>(page: T, place: T, page_size: T) -> Option<T> {
 ///
 /// <details><summary>Proved</summary>
 ///
-/// Of the source, in Rattle: where each `requires` holds, the call returns, and then each `ensures`
-/// holds.
+/// Proved of the source in Rattle: if each `requires` holds, the call returns, and then each
+/// `ensures` holds.
 ///
 /// ```text
 /// requires positive { pos 0 <ℤ T.value page_size }
@@ -217,8 +217,8 @@ pub fn range_of_page<T: Integer + Copy>(page: T, page_size: T, items: T) -> (T, 
 ///
 /// <details><summary>Proved</summary>
 ///
-/// Of the source, in Rattle: where each `requires` holds, the call returns, and then each `ensures`
-/// holds.
+/// Proved of the source in Rattle: if each `requires` holds, the call returns, and then each
+/// `ensures` holds.
 ///
 /// ```text
 /// requires part_from_zero { pos 0 ≤ℤ T.value part }
@@ -241,12 +241,17 @@ pub fn range_of_part<T: Integer + Copy>(part: T, parts: T, items: T) -> (T, T) {
     assert!(part < parts, "the part is not below the number of parts");
     assert!(items >= T::zero(), "the number of items is negative");
     let (size, longer) = div_mod_floor(items, parts);
+    let first = start_of(part, size, longer);
+    (first, start_of(successor(part), size, longer))
+}
+
+/// Returns the item at which a part begins, if each part has `size` items, and each of the first
+/// `longer` parts one more.
+fn start_of<T: Integer + Copy>(part: T, size: T, longer: T) -> T {
+    let items = product(part, size);
     if part < longer {
-        let larger = successor(size);
-        let first = product(part, larger);
-        (first, sum(first, larger))
+        sum(items, part)
     } else {
-        let first = sum(product(part, size), longer);
-        (first, sum(first, size))
+        sum(items, longer)
     }
 }

@@ -20,7 +20,7 @@ use crate::{binomial, checked, Fits};
 ///
 /// <details><summary>Proved</summary>
 ///
-/// Of the source, in Rattle: each call returns, and then each `ensures` holds.
+/// Proved of the source in Rattle: each call returns, and then each `ensures` holds.
 ///
 /// ```text
 /// ensures choice { IsTrue result ↔ IsChoice n numbers.now }
@@ -56,7 +56,7 @@ pub fn is_choice(numbers: &[u64], n: u64) -> bool {
 ///
 /// <details><summary>Proved</summary>
 ///
-/// Of the source, in Rattle: each call returns, and then each `ensures` holds.
+/// Proved of the source in Rattle: each call returns, and then each `ensures` holds.
 ///
 /// ```text
 /// ensures { IsTrue result ↔ (rank_of choice.now < 2 ^ 64) }
@@ -100,8 +100,8 @@ fn checked_rank(choice: &[u64]) -> Option<u64> {
 ///
 /// <details><summary>Proved</summary>
 ///
-/// Of the source, in Rattle: where each `requires` holds, the call returns, and then each `ensures`
-/// holds.
+/// Proved of the source in Rattle: if each `requires` holds, the call returns, and then each
+/// `ensures` holds.
 ///
 /// ```text
 /// requires choice { IsChoice n choice.now }
@@ -157,8 +157,8 @@ pub fn rank(choice: &[u64], n: u64) -> u64 {
 ///
 /// <details><summary>Proved</summary>
 ///
-/// Of the source, in Rattle: where each `requires` holds, the call returns, and then each `ensures`
-/// holds.
+/// Proved of the source in Rattle: if each `requires` holds, the call returns, and then each
+/// `ensures` holds.
 ///
 /// ```text
 /// requires rank { rank < coefficient n (length choice.old) }
@@ -232,8 +232,8 @@ fn is_within(n: u64, k: u64, limit: u64) -> bool {
 ///
 /// <details><summary>Proved</summary>
 ///
-/// Of the source, in Rattle: where each `requires` holds, the call returns, and then each `ensures`
-/// holds.
+/// Proved of the source in Rattle: if each `requires` holds, the call returns, and then each
+/// `ensures` holds.
 ///
 /// ```text
 /// requires choice { IsChoice n choice.old }

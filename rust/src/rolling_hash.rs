@@ -15,7 +15,7 @@ use crate::modular::{difference_modulo, power_modulo, product_modulo, sum_modulo
 ///
 /// <details><summary>Proved</summary>
 ///
-/// Of the source, in Rattle: it holds of each value of the type.
+/// Proved of the source in Rattle, for each value of the type.
 ///
 /// ```text
 /// pub ghost positive: { 0 < modulus }
@@ -95,7 +95,7 @@ impl RollingHash {
     ///
     /// <details><summary>Proved</summary>
     ///
-    /// Of the source, in Rattle: where each `requires` holds, the call returns, and then each
+    /// Proved of the source in Rattle: if each `requires` holds, the call returns, and then each
     /// `ensures` holds.
     ///
     /// ```text
@@ -132,7 +132,7 @@ impl RollingHash {
     ///
     /// <details><summary>Proved</summary>
     ///
-    /// Of the source, in Rattle: each call returns, and then each `ensures` holds.
+    /// Proved of the source in Rattle: each call returns, and then each `ensures` holds.
     ///
     /// ```text
     /// ensures { IsResidue (pos self.now.modulus)
@@ -167,7 +167,7 @@ impl RollingHash {
     ///
     /// <details><summary>Proved</summary>
     ///
-    /// Of the source, in Rattle: each call returns, and then each `ensures` holds.
+    /// Proved of the source in Rattle: each call returns, and then each `ensures` holds.
     ///
     /// ```text
     /// ensures { (kept : List ℕ) → length kept ≡ self.now.kept

@@ -29,8 +29,8 @@ use crate::{div_mod_floor, Integer};
 ///
 /// <details><summary>Proved</summary>
 ///
-/// Of the source, in Rattle: where each `requires` holds, the call returns, and then each `ensures`
-/// holds.
+/// Proved of the source in Rattle: if each `requires` holds, the call returns, and then each
+/// `ensures` holds.
 ///
 /// ```text
 /// requires nonzero { T.value y ≢ pos 0 }
@@ -48,11 +48,7 @@ use crate::{div_mod_floor, Integer};
 #[must_use]
 pub fn div_round<T: Integer + Copy>(x: T, y: T) -> T {
     let (below, rest) = div_mod_floor(x, y);
-    if rounds_down(rest, y, below < T::zero()) {
-        below
-    } else {
-        successor(below)
-    }
+    nearer(below, rest, y, below < T::zero())
 }
 
 /// Returns the quotient rounded to the nearest integer, and a half to the even one.
@@ -78,8 +74,8 @@ pub fn div_round<T: Integer + Copy>(x: T, y: T) -> T {
 ///
 /// <details><summary>Proved</summary>
 ///
-/// Of the source, in Rattle: where each `requires` holds, the call returns, and then each `ensures`
-/// holds.
+/// Proved of the source in Rattle: if each `requires` holds, the call returns, and then each
+/// `ensures` holds.
 ///
 /// ```text
 /// requires nonzero { T.value y ≢ pos 0 }
@@ -98,7 +94,14 @@ pub fn div_round<T: Integer + Copy>(x: T, y: T) -> T {
 #[must_use]
 pub fn div_round_even<T: Integer + Copy>(x: T, y: T) -> T {
     let (below, rest) = div_mod_floor(x, y);
-    if rounds_down(rest, y, below.is_even()) {
+    nearer(below, rest, y, below.is_even())
+}
+
+/// Returns the quotient rounded down, or the next number if the remainder is more than half of the
+/// divisor. If it is half of the divisor, returns the quotient rounded down if `half_down` is
+/// `true`.
+fn nearer<T: Integer + Copy>(below: T, rest: T, divisor: T, half_down: bool) -> T {
+    if rounds_down(rest, divisor, half_down) {
         below
     } else {
         successor(below)

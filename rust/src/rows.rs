@@ -51,7 +51,7 @@ impl<T: Integer + Copy> IterBinomial<T> {
     ///
     /// <details><summary>Proved</summary>
     ///
-    /// Of the source, in Rattle: where each `requires` holds, the call returns, and then each
+    /// Proved of the source in Rattle: if each `requires` holds, the call returns, and then each
     /// `ensures` holds.
     ///
     /// ```text
@@ -85,7 +85,7 @@ fn item_at<T: Integer + Copy>(n: T, k: T, previous: T) -> T {
 
 /// <details><summary>Proved</summary>
 ///
-/// Of the source, in Rattle: what the calls of the trait return.
+/// Proved of the source in Rattle: what the calls of the trait return.
 ///
 /// ```text
 /// ghost next_gives = { YieldsFirstBy T.value (λ s. s) }

@@ -39,8 +39,8 @@ pub type Schedule<T> = (T, T);
 ///
 /// <details><summary>Proved</summary>
 ///
-/// Of the source, in Rattle: where each `requires` holds, the call returns, and then each `ensures`
-/// holds.
+/// Proved of the source in Rattle: if each `requires` holds, the call returns, and then each
+/// `ensures` holds.
 ///
 /// ```text
 /// requires a_positive { pos 0 <ℤ T.value a.1 }
@@ -87,8 +87,8 @@ pub fn next_meeting<T: Modular + Fits>(
 ///
 /// <details><summary>Proved</summary>
 ///
-/// Of the source, in Rattle: where each `requires` holds, the call returns, and then each `ensures`
-/// holds.
+/// Proved of the source in Rattle: if each `requires` holds, the call returns, and then each
+/// `ensures` holds.
 ///
 /// ```text
 /// requires in_range { All (λ s. T.fits (T.value s.0) × T.fits (T.value s.1)) schedules.now }

@@ -21,7 +21,7 @@ impl Date {
     ///
     /// <details><summary>Proved</summary>
     ///
-    /// Of the source, in Rattle: each call returns, and then each `ensures` holds.
+    /// Proved of the source in Rattle: each call returns, and then each `ensures` holds.
     ///
     /// ```text
     /// ensures { MatchOption result
@@ -62,7 +62,7 @@ impl Date {
 ///
 /// <details><summary>Proved</summary>
 ///
-/// Of the source, in Rattle: each call returns, and then each `ensures` holds.
+/// Proved of the source in Rattle: each call returns, and then each `ensures` holds.
 ///
 /// ```text
 /// ensures { SomeIff result (FitsSigned w64 (number_of to.now -ℤ number_of from.now))
@@ -95,7 +95,7 @@ pub fn days_between(from: &Date, to: &Date) -> Option<i64> {
 ///
 /// <details><summary>Proved</summary>
 ///
-/// Of the source, in Rattle: each call returns, and then each `ensures` holds.
+/// Proved of the source in Rattle: each call returns, and then each `ensures` holds.
 ///
 /// ```text
 /// ensures { MatchOption result
@@ -129,7 +129,7 @@ pub fn months_between(from: &Date, to: &Date) -> Option<i64> {
 ///
 /// <details><summary>Proved</summary>
 ///
-/// Of the source, in Rattle: each call returns, and then each `ensures` holds.
+/// Proved of the source in Rattle: each call returns, and then each `ensures` holds.
 ///
 /// ```text
 /// ensures { MatchOption result

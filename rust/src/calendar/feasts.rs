@@ -17,7 +17,7 @@ use crate::{div_floor, mod_floor};
 ///
 /// <details><summary>Proved</summary>
 ///
-/// Of the source, in Rattle: each call returns, and then each `ensures` holds.
+/// Proved of the source in Rattle: each call returns, and then each `ensures` holds.
 ///
 /// ```text
 /// ensures year { result.year ≡ year }

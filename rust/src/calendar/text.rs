@@ -7,7 +7,7 @@ use crate::errors::Error;
 use core::fmt;
 use core::str::FromStr;
 
-/// The error of a string that is not a date.
+/// The error that parsing returns for a string that is not a date.
 ///
 /// # Examples
 ///
@@ -21,7 +21,7 @@ pub struct DateError;
 
 /// <details><summary>Proved</summary>
 ///
-/// Of the source, in Rattle: what the calls of the trait return.
+/// Proved of the source in Rattle: what the calls of the trait return.
 ///
 /// ```text
 /// ghost output = { λ _. Some error_text }
@@ -53,7 +53,7 @@ impl Error for DateError {}
 ///
 /// <details><summary>Proved</summary>
 ///
-/// Of the source, in Rattle: what the calls of the trait return.
+/// Proved of the source in Rattle: what the calls of the trait return.
 ///
 /// ```text
 /// ghost output = { λ date. Some (text_of date) }
@@ -87,7 +87,7 @@ impl fmt::Display for Date {
 ///
 /// <details><summary>Proved</summary>
 ///
-/// Of the source, in Rattle: what the calls of the trait return.
+/// Proved of the source in Rattle: what the calls of the trait return.
 ///
 /// ```text
 /// ghost output = { λ week. Some (week_text week) }
@@ -128,7 +128,7 @@ impl fmt::Display for IsoWeek {
 ///
 /// <details><summary>Proved</summary>
 ///
-/// Of the source, in Rattle: what the calls of the trait return.
+/// Proved of the source in Rattle: what the calls of the trait return.
 ///
 /// ```text
 /// ghost from_str_gives = { λ text result. (date : Date) → FitsSigned w64 date.year → (result ≡ Ok
@@ -142,19 +142,20 @@ impl FromStr for Date {
     type Err = DateError;
 
     fn from_str(text: &str) -> Result<Self, DateError> {
-        read_date(text).ok_or(DateError)
+        parse_date(text).ok_or(DateError)
     }
 }
 
-/// Returns the date that the string is printed of.
-fn read_date(text: &str) -> Option<Date> {
-    let (front, day) = split_number(text)?;
-    let (year, month) = split_number(front)?;
-    Date::new(read_year(year)?, month, day)
+/// Returns the date that prints as the string, or `None` if there is none.
+fn parse_date(text: &str) -> Option<Date> {
+    let (front, day) = split_last_two_digits(text)?;
+    let (year, month) = split_last_two_digits(front)?;
+    Date::new(parse_year(year)?, month, day)
 }
 
-/// Splits a hyphen and two digits off the end of the string, and returns the rest and the number.
-fn split_number(text: &str) -> Option<(&str, u8)> {
+/// Splits a hyphen and two digits off the end of the string. Returns the rest and the number, or
+/// `None` if the string does not end so.
+fn split_last_two_digits(text: &str) -> Option<(&str, u8)> {
     let (front, last) = crate::strings::split_at_checked(text, text.len().checked_sub(3)?)?;
     let [b'-', tens @ b'0'..=b'9', ones @ b'0'..=b'9'] = last.as_bytes() else {
         return None;
@@ -162,36 +163,36 @@ fn split_number(text: &str) -> Option<(&str, u8)> {
     Some((front, 10 * (*tens - b'0') + (*ones - b'0')))
 }
 
-/// Returns the year that the string is printed of.
-fn read_year(text: &str) -> Option<i64> {
+/// Returns the year that prints as the string, or `None` if there is none.
+fn parse_year(text: &str) -> Option<i64> {
     if let Some(digits) = text.strip_prefix('-') {
-        Some(-1 - (read_number(digits, 1, 1 << 63)? - 1) as i64)
+        Some(-1 - (parse_number(digits, 1, 1 << 63)? - 1) as i64)
     } else if let Some(digits) = text.strip_prefix('+') {
-        Some(read_number(digits, 10000, (1 << 63) - 1)? as i64)
+        Some(parse_number(digits, 10000, (1 << 63) - 1)? as i64)
     } else {
-        Some(read_number(text, 0, 9999)? as i64)
+        Some(parse_number(text, 0, 9999)? as i64)
     }
 }
 
-/// Returns the number that the digits are, if it is from `least` to `most`. Zeros in front fill up
-/// four digits.
-fn read_number(digits: &str, least: u64, most: u64) -> Option<u64> {
-    if !is_shortest(digits.as_bytes()) {
+/// Parses a number from `smallest` to `largest` that is padded with zeros to four digits. Returns
+/// `None` for any other string.
+fn parse_number(digits: &str, smallest: u64, largest: u64) -> Option<u64> {
+    if !has_minimal_padding(digits.as_bytes()) {
         return None;
     }
     let Ok(number) = digits.parse::<u64>() else {
         return None;
     };
-    if (least..=most).contains(&number) {
+    if (smallest..=largest).contains(&number) {
         Some(number)
     } else {
         None
     }
 }
 
-/// Returns `true` if the string has four bytes, or more without a leading zero, and begins with a
-/// digit.
-fn is_shortest(digits: &[u8]) -> bool {
+/// Returns `true` if the first byte is a digit and the string has four bytes. A longer string must
+/// not begin with 0.
+fn has_minimal_padding(digits: &[u8]) -> bool {
     matches!(
         digits,
         [b'0'..=b'9', _, _, _] | [b'1'..=b'9', _, _, _, _, ..]

@@ -18,7 +18,7 @@ use crate::calendar::{weekday_of, Date, Weekday};
 ///
 /// <details><summary>Proved</summary>
 ///
-/// Of the source, in Rattle: each call returns, and then each `ensures` holds.
+/// Proved of the source in Rattle: each call returns, and then each `ensures` holds.
 ///
 /// ```text
 /// ensures { MatchOption result
@@ -49,7 +49,7 @@ pub fn first_weekday_on_or_after(day: i64, weekday: Weekday) -> Option<i64> {
 ///
 /// <details><summary>Proved</summary>
 ///
-/// Of the source, in Rattle: each call returns, and then each `ensures` holds.
+/// Proved of the source in Rattle: each call returns, and then each `ensures` holds.
 ///
 /// ```text
 /// ensures { MatchOption result
@@ -79,7 +79,7 @@ pub fn last_weekday_on_or_before(day: i64, weekday: Weekday) -> Option<i64> {
 ///
 /// <details><summary>Proved</summary>
 ///
-/// Of the source, in Rattle: each call returns, and then each `ensures` holds.
+/// Proved of the source in Rattle: each call returns, and then each `ensures` holds.
 ///
 /// ```text
 /// ensures { MatchOption result
@@ -113,7 +113,7 @@ pub fn nth_weekday_of_month(year: i64, month: u8, weekday: Weekday, n: u8) -> Op
 ///
 /// <details><summary>Proved</summary>
 ///
-/// Of the source, in Rattle: each call returns, and then each `ensures` holds.
+/// Proved of the source in Rattle: each call returns, and then each `ensures` holds.
 ///
 /// ```text
 /// ensures { MatchOption result (¬ ((1 ≤ month) × (month ≤ 12)))
@@ -149,7 +149,7 @@ pub fn last_weekday_of_month(year: i64, month: u8, weekday: Weekday) -> Option<D
 ///
 /// <details><summary>Proved</summary>
 ///
-/// Of the source, in Rattle: each call returns, and then each `ensures` holds.
+/// Proved of the source in Rattle: each call returns, and then each `ensures` holds.
 ///
 /// ```text
 /// ensures { MatchOption result

@@ -6,10 +6,15 @@ use crate::integer_core::NativeInteger;
 
 use num_traits::cast;
 
-/// Returns the quotient of `a * b` by `d`, rounded down, and its remainder, or `None` if `d` is 0
-/// or the quotient does not fit. The product need not fit. The type is a native one of at most 64
-/// bits. A part of a number is never `None`: if `a` and `b` are at least 0, and `b` is at most `d`,
-/// which is positive, the quotient is at most `a`.
+/// Returns the quotient of `a * b` by `d`, rounded down, and its remainder, for a built-in type of
+/// at most 64 bits, or `None` if `d` is 0 or the quotient does not fit.
+///
+/// The product need not fit: it is computed in 128 bits. No wider type has the products of `i128`,
+/// `u128` or a type of your own, so there call [`checked::product`](crate::checked::product) and
+/// then [`checked::div_mod_floor`](crate::checked::div_mod_floor), if the product fits.
+///
+/// A part of a number is never `None`: if `a` and `b` are at least 0, and `b` is at most `d`, which
+/// is positive, the quotient is at most `a`.
 ///
 /// # Examples
 ///
@@ -22,7 +27,7 @@ use num_traits::cast;
 ///
 /// <details><summary>Proved</summary>
 ///
-/// Of the source, in Rattle: each call returns, and then each `ensures` holds.
+/// Proved of the source in Rattle: each call returns, and then each `ensures` holds.
 ///
 /// ```text
 /// ensures answer { AnswersWhere

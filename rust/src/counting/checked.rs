@@ -23,7 +23,7 @@ use crate::Fits;
 ///
 /// <details><summary>Proved</summary>
 ///
-/// Of the source, in Rattle: each call returns, and then each `ensures` holds.
+/// Proved of the source in Rattle: each call returns, and then each `ensures` holds.
 ///
 /// ```text
 /// ensures { AnswersWhere
@@ -63,7 +63,7 @@ pub fn factorial<T: Fits>(n: T) -> Option<T> {
 ///
 /// <details><summary>Proved</summary>
 ///
-/// Of the source, in Rattle: each call returns, and then each `ensures` holds.
+/// Proved of the source in Rattle: each call returns, and then each `ensures` holds.
 ///
 /// ```text
 /// ensures { AnswersWhere

@@ -105,8 +105,8 @@ fn last_row<T: Integer + Clone>(a: T, b: T) -> (Row<T>, u32) {
 ///
 /// <details><summary>Proved</summary>
 ///
-/// Of the source, in Rattle: where each `requires` holds, the call returns, and then each `ensures`
-/// holds.
+/// Proved of the source in Rattle: if each `requires` holds, the call returns, and then each
+/// `ensures` holds.
 ///
 /// ```text
 /// requires gcd_fits { GcdFits T.fits (T.value a) (T.value b) }

@@ -27,7 +27,7 @@ pub trait Average: Integer {
     ///
     /// <details><summary>Proved</summary>
     ///
-    /// Of the source, in Rattle: each call returns, and then each `ensures` holds.
+    /// Proved of the source in Rattle: each call returns, and then each `ensures` holds.
     ///
     /// ```text
     /// ensures floor { IsAverageFloor (Self.value self.now) (Self.value other.now)
@@ -53,7 +53,7 @@ pub trait Average: Integer {
     ///
     /// <details><summary>Proved</summary>
     ///
-    /// Of the source, in Rattle: each call returns, and then each `ensures` holds.
+    /// Proved of the source in Rattle: each call returns, and then each `ensures` holds.
     ///
     /// ```text
     /// ensures ceil { IsAverageCeil (Self.value self.now) (Self.value other.now)
@@ -80,7 +80,7 @@ pub trait Average: Integer {
 ///
 /// <details><summary>Proved</summary>
 ///
-/// Of the source, in Rattle: each call returns, and then each `ensures` holds.
+/// Proved of the source in Rattle: each call returns, and then each `ensures` holds.
 ///
 /// ```text
 /// ensures floor { IsAverageFloor (T.value x) (T.value y) (T.value result) }
@@ -107,7 +107,7 @@ pub fn average_floor<T: Average>(x: T, y: T) -> T {
 ///
 /// <details><summary>Proved</summary>
 ///
-/// Of the source, in Rattle: each call returns, and then each `ensures` holds.
+/// Proved of the source in Rattle: each call returns, and then each `ensures` holds.
 ///
 /// ```text
 /// ensures ceil { IsAverageCeil (T.value x) (T.value y) (T.value result) }

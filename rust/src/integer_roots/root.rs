@@ -59,7 +59,7 @@ pub trait Roots: Integer {
     ///
     /// <details><summary>Proved</summary>
     ///
-    /// Of the source, in Rattle: where each `requires` holds, the call returns, and then each
+    /// Proved of the source in Rattle: if each `requires` holds, the call returns, and then each
     /// `ensures` holds.
     ///
     /// ```text
@@ -95,7 +95,7 @@ pub trait Roots: Integer {
     ///
     /// <details><summary>Proved</summary>
     ///
-    /// Of the source, in Rattle: where each `requires` holds, the call returns, and then each
+    /// Proved of the source in Rattle: if each `requires` holds, the call returns, and then each
     /// `ensures` holds.
     ///
     /// ```text
@@ -129,7 +129,7 @@ pub trait Roots: Integer {
     ///
     /// <details><summary>Proved</summary>
     ///
-    /// Of the source, in Rattle: each call returns, and then each `ensures` holds.
+    /// Proved of the source in Rattle: each call returns, and then each `ensures` holds.
     ///
     /// ```text
     /// ensures root { IsRoot (Self.value self.now) 3 (Self.value result) }
@@ -164,8 +164,8 @@ pub trait Roots: Integer {
 ///
 /// <details><summary>Proved</summary>
 ///
-/// Of the source, in Rattle: where each `requires` holds, the call returns, and then each `ensures`
-/// holds.
+/// Proved of the source in Rattle: if each `requires` holds, the call returns, and then each
+/// `ensures` holds.
 ///
 /// ```text
 /// requires degree { n ≢ 0 }
@@ -206,8 +206,8 @@ pub fn nth_root<T: Roots>(x: T, n: u32) -> T {
 ///
 /// <details><summary>Proved</summary>
 ///
-/// Of the source, in Rattle: where each `requires` holds, the call returns, and then each `ensures`
-/// holds.
+/// Proved of the source in Rattle: if each `requires` holds, the call returns, and then each
+/// `ensures` holds.
 ///
 /// ```text
 /// requires from_zero { pos 0 ≤ℤ T.value x }
@@ -240,7 +240,7 @@ pub fn sqrt<T: Roots>(x: T) -> T {
 ///
 /// <details><summary>Proved</summary>
 ///
-/// Of the source, in Rattle: each call returns, and then each `ensures` holds.
+/// Proved of the source in Rattle: each call returns, and then each `ensures` holds.
 ///
 /// ```text
 /// ensures root { IsRoot (T.value x) 3 (T.value result) }

@@ -2,7 +2,7 @@
 //! The greatest common divisor and the least common multiple of a list, or `None` if it does not
 //! fit.
 
-use crate::coprime::common_divisor;
+use crate::coprime::signed_gcd;
 
 use crate::{checked, Fits};
 
@@ -23,7 +23,7 @@ use crate::{checked, Fits};
 ///
 /// <details><summary>Proved</summary>
 ///
-/// Of the source, in Rattle: each call returns, and then each `ensures` holds.
+/// Proved of the source in Rattle: each call returns, and then each `ensures` holds.
 ///
 /// ```text
 /// ensures { AnswersWhere
@@ -53,7 +53,7 @@ pub fn gcd_of<T: Fits>(numbers: &[T]) -> Option<T> {
 fn signed_gcd_of<T: Fits>(numbers: &[T]) -> T {
     let mut divisor = T::zero();
     for number in numbers {
-        divisor = common_divisor(divisor, *number);
+        divisor = signed_gcd(divisor, *number);
     }
     divisor
 }
@@ -75,7 +75,7 @@ fn signed_gcd_of<T: Fits>(numbers: &[T]) -> T {
 ///
 /// <details><summary>Proved</summary>
 ///
-/// Of the source, in Rattle: each call returns, and then each `ensures` holds.
+/// Proved of the source in Rattle: each call returns, and then each `ensures` holds.
 ///
 /// ```text
 /// ensures { AnswersWhere

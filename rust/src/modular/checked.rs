@@ -23,7 +23,7 @@ use crate::{Fits, Integer};
 ///
 /// <details><summary>Proved</summary>
 ///
-/// Of the source, in Rattle: each call returns, and then each `ensures` holds.
+/// Proved of the source in Rattle: each call returns, and then each `ensures` holds.
 ///
 /// ```text
 /// ensures { AnswersWhere (pos 0 <ℤ T.value m)
@@ -60,7 +60,7 @@ pub fn residue<T: Integer + Copy>(a: T, m: T) -> Option<T> {
 ///
 /// <details><summary>Proved</summary>
 ///
-/// Of the source, in Rattle: each call returns, and then each `ensures` holds.
+/// Proved of the source in Rattle: each call returns, and then each `ensures` holds.
 ///
 /// ```text
 /// ensures { AnswersWhere (pos 0 <ℤ T.value m)
@@ -98,7 +98,7 @@ pub fn sum_modulo<T: Integer + Copy>(a: T, b: T, m: T) -> Option<T> {
 ///
 /// <details><summary>Proved</summary>
 ///
-/// Of the source, in Rattle: each call returns, and then each `ensures` holds.
+/// Proved of the source in Rattle: each call returns, and then each `ensures` holds.
 ///
 /// ```text
 /// ensures { AnswersWhere (pos 0 <ℤ T.value m)
@@ -135,7 +135,7 @@ pub fn difference_modulo<T: Integer + Copy>(a: T, b: T, m: T) -> Option<T> {
 ///
 /// <details><summary>Proved</summary>
 ///
-/// Of the source, in Rattle: each call returns, and then each `ensures` holds.
+/// Proved of the source in Rattle: each call returns, and then each `ensures` holds.
 ///
 /// ```text
 /// ensures { AnswersWhere (pos 0 <ℤ T.value m)
@@ -172,7 +172,7 @@ pub fn negation_modulo<T: Integer + Copy>(a: T, m: T) -> Option<T> {
 ///
 /// <details><summary>Proved</summary>
 ///
-/// Of the source, in Rattle: each call returns, and then each `ensures` holds.
+/// Proved of the source in Rattle: each call returns, and then each `ensures` holds.
 ///
 /// ```text
 /// ensures { AnswersWhere (pos 0 <ℤ T.value m)
@@ -209,7 +209,7 @@ pub fn product_modulo<T: Modular>(a: T, b: T, m: T) -> Option<T> {
 ///
 /// <details><summary>Proved</summary>
 ///
-/// Of the source, in Rattle: each call returns, and then each `ensures` holds.
+/// Proved of the source in Rattle: each call returns, and then each `ensures` holds.
 ///
 /// ```text
 /// ensures { AnswersWhere (pos 0 <ℤ T.value m)
@@ -247,7 +247,7 @@ pub fn power_modulo<T: Modular>(a: T, exponent: u128, m: T) -> Option<T> {
 ///
 /// <details><summary>Proved</summary>
 ///
-/// Of the source, in Rattle: each call returns, and then each `ensures` holds.
+/// Proved of the source in Rattle: each call returns, and then each `ensures` holds.
 ///
 /// ```text
 /// ensures { MatchOption result ((x : ℤ) → ¬ (IsInverse (T.value a) (T.value m) x))
@@ -284,7 +284,7 @@ pub fn inverse_modulo<T: Integer + Copy>(a: T, m: T) -> Option<T> {
 ///
 /// <details><summary>Proved</summary>
 ///
-/// Of the source, in Rattle: each call returns, and then each `ensures` holds.
+/// Proved of the source in Rattle: each call returns, and then each `ensures` holds.
 ///
 /// ```text
 /// ensures { MatchOption result ((x : ℤ) → ¬ (IsInverse (T.value b) (T.value m) x))
@@ -323,7 +323,7 @@ pub fn quotient_modulo<T: Modular>(a: T, b: T, m: T) -> Option<T> {
 ///
 /// <details><summary>Proved</summary>
 ///
-/// Of the source, in Rattle: each call returns, and then each `ensures` holds.
+/// Proved of the source in Rattle: each call returns, and then each `ensures` holds.
 ///
 /// ```text
 /// ensures { MatchWhere (pos 0 <ℤ T.value m) result
@@ -366,7 +366,7 @@ pub fn solutions<T: Modular>(a: T, b: T, m: T) -> Option<(T, T)> {
 ///
 /// <details><summary>Proved</summary>
 ///
-/// Of the source, in Rattle: each call returns, and then each `ensures` holds.
+/// Proved of the source in Rattle: each call returns, and then each `ensures` holds.
 ///
 /// ```text
 /// ensures { MatchWhere (pos 0 <ℤ T.value step) result
@@ -405,7 +405,7 @@ pub fn next_congruent<T: Fits>(from: T, first: T, step: T) -> Option<T> {
 ///
 /// <details><summary>Proved</summary>
 ///
-/// Of the source, in Rattle: each call returns, and then each `ensures` holds.
+/// Proved of the source in Rattle: each call returns, and then each `ensures` holds.
 ///
 /// ```text
 /// ensures { MatchWhere (pos 0 <ℤ T.value step) result
@@ -445,7 +445,7 @@ pub fn previous_congruent<T: Fits>(to: T, first: T, step: T) -> Option<T> {
 ///
 /// <details><summary>Proved</summary>
 ///
-/// Of the source, in Rattle: each call returns, and then each `ensures` holds.
+/// Proved of the source in Rattle: each call returns, and then each `ensures` holds.
 ///
 /// ```text
 /// ensures { MatchWhere (pos 0 <ℤ T.value step) result
@@ -487,7 +487,7 @@ pub fn count_congruent<T: Fits>(from: T, to: T, first: T, step: T) -> Option<T> 
 ///
 /// <details><summary>Proved</summary>
 ///
-/// Of the source, in Rattle: each call returns, and then each `ensures` holds.
+/// Proved of the source in Rattle: each call returns, and then each `ensures` holds.
 ///
 /// ```text
 /// ensures { AnswersWhere ((pos 0 <ℤ T.value m) × (pos 0 <ℤ T.value n))

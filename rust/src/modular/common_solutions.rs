@@ -29,8 +29,8 @@ use crate::{checked, Fits};
 ///
 /// <details><summary>Proved</summary>
 ///
-/// Of the source, in Rattle: where each `requires` holds, the call returns, and then each `ensures`
-/// holds.
+/// Proved of the source in Rattle: if each `requires` holds, the call returns, and then each
+/// `ensures` holds.
 ///
 /// ```text
 /// requires m_positive { pos 0 <ℤ T.value m }
@@ -89,7 +89,7 @@ pub enum CommonSolution<T> {
 }
 
 impl<T> CommonSolution<T> {
-    /// Returns the solution, or `None` if there is none or it is too large for the type.
+    /// Returns the solution, or `None` if there is no solution or it is too large for the type.
     ///
     /// # Examples
     ///
@@ -102,7 +102,7 @@ impl<T> CommonSolution<T> {
     ///
     /// <details><summary>Proved</summary>
     ///
-    /// Of the source, in Rattle: each call returns, and then each `ensures` holds.
+    /// Proved of the source in Rattle: each call returns, and then each `ensures` holds.
     ///
     /// ```text
     /// ensures { MatchCommonSolution self (result ≡ None) (result ≡ None) (λ t. result ≡ Some t) }
@@ -144,8 +144,8 @@ impl<T> CommonSolution<T> {
 ///
 /// <details><summary>Proved</summary>
 ///
-/// Of the source, in Rattle: where each `requires` holds, the call returns, and then each `ensures`
-/// holds.
+/// Proved of the source in Rattle: if each `requires` holds, the call returns, and then each
+/// `ensures` holds.
 ///
 /// ```text
 /// requires m_positive { pos 0 <ℤ T.value m }

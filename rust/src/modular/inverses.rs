@@ -31,8 +31,8 @@ use crate::Integer;
 ///
 /// <details><summary>Proved</summary>
 ///
-/// Of the source, in Rattle: where each `requires` holds, the call returns, and then each `ensures`
-/// holds.
+/// Proved of the source in Rattle: if each `requires` holds, the call returns, and then each
+/// `ensures` holds.
 ///
 /// ```text
 /// requires positive { pos 0 <ℤ T.value m }
@@ -83,8 +83,8 @@ pub fn inverse_modulo<T: Integer + Copy>(a: T, m: T) -> Option<T> {
 ///
 /// <details><summary>Proved</summary>
 ///
-/// Of the source, in Rattle: where each `requires` holds, the call returns, and then each `ensures`
-/// holds.
+/// Proved of the source in Rattle: if each `requires` holds, the call returns, and then each
+/// `ensures` holds.
 ///
 /// ```text
 /// requires positive { pos 0 <ℤ T.value m }

@@ -36,7 +36,7 @@ pub trait Modular: Integer + Copy {
     ///
     /// <details><summary>Proved</summary>
     ///
-    /// Of the source, in Rattle: where each `requires` holds, the call returns, and then each
+    /// Proved of the source in Rattle: if each `requires` holds, the call returns, and then each
     /// `ensures` holds.
     ///
     /// ```text
@@ -80,7 +80,7 @@ pub trait Modular: Integer + Copy {
     ///
     /// <details><summary>Proved</summary>
     ///
-    /// Of the source, in Rattle: where each `requires` holds, the call returns, and then each
+    /// Proved of the source in Rattle: if each `requires` holds, the call returns, and then each
     /// `ensures` holds.
     ///
     /// ```text
@@ -137,8 +137,8 @@ pub trait Modular: Integer + Copy {
 ///
 /// <details><summary>Proved</summary>
 ///
-/// Of the source, in Rattle: where each `requires` holds, the call returns, and then each `ensures`
-/// holds.
+/// Proved of the source in Rattle: if each `requires` holds, the call returns, and then each
+/// `ensures` holds.
 ///
 /// ```text
 /// requires positive { pos 0 <ℤ T.value m }
@@ -178,8 +178,8 @@ pub fn product_modulo<T: Modular>(a: T, b: T, m: T) -> T {
 ///
 /// <details><summary>Proved</summary>
 ///
-/// Of the source, in Rattle: where each `requires` holds, the call returns, and then each `ensures`
-/// holds.
+/// Proved of the source in Rattle: if each `requires` holds, the call returns, and then each
+/// `ensures` holds.
 ///
 /// ```text
 /// requires positive { pos 0 <ℤ T.value m }
@@ -217,8 +217,8 @@ pub fn power_modulo<T: Modular>(a: T, exponent: u128, m: T) -> T {
 ///
 /// <details><summary>Proved</summary>
 ///
-/// Of the source, in Rattle: where each `requires` holds, the call returns, and then each `ensures`
-/// holds.
+/// Proved of the source in Rattle: if each `requires` holds, the call returns, and then each
+/// `ensures` holds.
 ///
 /// ```text
 /// requires positive { pos 0 <ℤ T.value m }

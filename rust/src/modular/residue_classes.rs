@@ -32,8 +32,8 @@ use crate::{checked, Fits, Integer};
 ///
 /// <details><summary>Proved</summary>
 ///
-/// Of the source, in Rattle: where each `requires` holds, the call returns, and then each `ensures`
-/// holds.
+/// Proved of the source in Rattle: if each `requires` holds, the call returns, and then each
+/// `ensures` holds.
 ///
 /// ```text
 /// requires positive { pos 0 <ℤ T.value m }
@@ -85,8 +85,8 @@ pub fn solutions<T: Modular>(a: T, b: T, m: T) -> Option<(T, T)> {
 ///
 /// <details><summary>Proved</summary>
 ///
-/// Of the source, in Rattle: where each `requires` holds, the call returns, and then each `ensures`
-/// holds.
+/// Proved of the source in Rattle: if each `requires` holds, the call returns, and then each
+/// `ensures` holds.
 ///
 /// ```text
 /// requires positive { pos 0 <ℤ T.value step }
@@ -130,8 +130,8 @@ pub fn next_congruent<T: Fits>(from: T, first: T, step: T) -> Option<T> {
 ///
 /// <details><summary>Proved</summary>
 ///
-/// Of the source, in Rattle: where each `requires` holds, the call returns, and then each `ensures`
-/// holds.
+/// Proved of the source in Rattle: if each `requires` holds, the call returns, and then each
+/// `ensures` holds.
 ///
 /// ```text
 /// requires positive { pos 0 <ℤ T.value step }
@@ -176,8 +176,8 @@ pub fn previous_congruent<T: Fits>(to: T, first: T, step: T) -> Option<T> {
 ///
 /// <details><summary>Proved</summary>
 ///
-/// Of the source, in Rattle: where each `requires` holds, the call returns, and then each `ensures`
-/// holds.
+/// Proved of the source in Rattle: if each `requires` holds, the call returns, and then each
+/// `ensures` holds.
 ///
 /// ```text
 /// requires positive { pos 0 <ℤ T.value step }

@@ -25,8 +25,8 @@ use crate::{mod_floor, Integer};
 ///
 /// <details><summary>Proved</summary>
 ///
-/// Of the source, in Rattle: where each `requires` holds, the call returns, and then each `ensures`
-/// holds.
+/// Proved of the source in Rattle: if each `requires` holds, the call returns, and then each
+/// `ensures` holds.
 ///
 /// ```text
 /// requires positive { pos 0 <ℤ T.value m }
@@ -66,8 +66,8 @@ pub fn residue<T: Integer>(a: T, m: T) -> T {
 ///
 /// <details><summary>Proved</summary>
 ///
-/// Of the source, in Rattle: where each `requires` holds, the call returns, and then each `ensures`
-/// holds.
+/// Proved of the source in Rattle: if each `requires` holds, the call returns, and then each
+/// `ensures` holds.
 ///
 /// ```text
 /// requires positive { pos 0 <ℤ T.value m }
@@ -117,8 +117,8 @@ pub(crate) fn sum_of_residues<T: Integer + Copy>(x: T, y: T, m: T) -> T {
 ///
 /// <details><summary>Proved</summary>
 ///
-/// Of the source, in Rattle: where each `requires` holds, the call returns, and then each `ensures`
-/// holds.
+/// Proved of the source in Rattle: if each `requires` holds, the call returns, and then each
+/// `ensures` holds.
 ///
 /// ```text
 /// requires positive { pos 0 <ℤ T.value m }
@@ -158,8 +158,8 @@ pub fn difference_modulo<T: Integer + Copy>(a: T, b: T, m: T) -> T {
 ///
 /// <details><summary>Proved</summary>
 ///
-/// Of the source, in Rattle: where each `requires` holds, the call returns, and then each `ensures`
-/// holds.
+/// Proved of the source in Rattle: if each `requires` holds, the call returns, and then each
+/// `ensures` holds.
 ///
 /// ```text
 /// requires positive { pos 0 <ℤ T.value m }

@@ -28,8 +28,8 @@ use crate::{checked, Fits, Integer};
 ///
 /// <details><summary>Proved</summary>
 ///
-/// Of the source, in Rattle: where each `requires` holds, the call returns, and then each `ensures`
-/// holds.
+/// Proved of the source in Rattle: if each `requires` holds, the call returns, and then each
+/// `ensures` holds.
 ///
 /// ```text
 /// requires in_range { All (λ c. T.fits (T.value c.0) × T.fits (T.value c.1)) congruences.now }
@@ -70,9 +70,8 @@ pub fn next_common_solution_of<T: Modular + Fits>(
     }
 }
 
-/// Returns the smallest solution from `from` on, or `None` if the type has none from there on. It
-/// combines the congruences one by one into a residue class, until the step of the class no longer
-/// fits.
+/// Returns the smallest solution from `from` on, or `None` if it does not fit. It combines the
+/// congruences one by one into a residue class, until the step of the class no longer fits.
 fn least_solution<T: Modular + Fits>(from: T, congruences: &[(T, T)]) -> Option<T> {
     let mut first: T = T::zero();
     let mut step: T = T::one();

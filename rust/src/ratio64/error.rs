@@ -36,7 +36,7 @@ impl RatioError {
     ///
     /// <details><summary>Proved</summary>
     ///
-    /// Of the source, in Rattle: each call returns, and then each `ensures` holds.
+    /// Proved of the source in Rattle: each call returns, and then each `ensures` holds.
     ///
     /// ```text
     /// ensures { result ≡ number_of self.now }
@@ -67,7 +67,7 @@ impl RatioError {
 ///
 /// <details><summary>Proved</summary>
 ///
-/// Of the source, in Rattle: what the calls of the trait return.
+/// Proved of the source in Rattle: what the calls of the trait return.
 ///
 /// ```text
 /// ghost output = { λ e. Some (error_text e) }

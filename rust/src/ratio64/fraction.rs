@@ -27,7 +27,7 @@ use core::fmt;
 ///
 /// <details><summary>Proved</summary>
 ///
-/// Of the source, in Rattle: it holds of each value of the type.
+/// Proved of the source in Rattle, for each value of the type.
 ///
 /// ```text
 /// pub ghost reduced: { IsReduced num den }
@@ -64,7 +64,7 @@ impl Ratio {
     ///
     /// <details><summary>Proved</summary>
     ///
-    /// Of the source, in Rattle: each call returns, and then each `ensures` holds.
+    /// Proved of the source in Rattle: each call returns, and then each `ensures` holds.
     ///
     /// ```text
     /// ensures fraction { AnswersFraction num den result }
@@ -92,7 +92,7 @@ impl Ratio {
     ///
     /// <details><summary>Proved</summary>
     ///
-    /// Of the source, in Rattle: each call returns, and then each `ensures` holds.
+    /// Proved of the source in Rattle: each call returns, and then each `ensures` holds.
     ///
     /// ```text
     /// ensures num { num_of result ≡ pos 0 }
@@ -120,7 +120,7 @@ impl Ratio {
     ///
     /// <details><summary>Proved</summary>
     ///
-    /// Of the source, in Rattle: each call returns, and then each `ensures` holds.
+    /// Proved of the source in Rattle: each call returns, and then each `ensures` holds.
     ///
     /// ```text
     /// ensures num { num_of result ≡ pos 1 }
@@ -148,7 +148,7 @@ impl Ratio {
     ///
     /// <details><summary>Proved</summary>
     ///
-    /// Of the source, in Rattle: each call returns, and then each `ensures` holds.
+    /// Proved of the source in Rattle: each call returns, and then each `ensures` holds.
     ///
     /// ```text
     /// ensures { result ≡ num_of self.now }
@@ -174,7 +174,7 @@ impl Ratio {
     ///
     /// <details><summary>Proved</summary>
     ///
-    /// Of the source, in Rattle: each call returns, and then each `ensures` holds.
+    /// Proved of the source in Rattle: each call returns, and then each `ensures` holds.
     ///
     /// ```text
     /// ensures { result ≡ den_of self.now }
@@ -200,7 +200,7 @@ impl Ratio {
     ///
     /// <details><summary>Proved</summary>
     ///
-    /// Of the source, in Rattle: each call returns, and then each `ensures` holds.
+    /// Proved of the source in Rattle: each call returns, and then each `ensures` holds.
     ///
     /// ```text
     /// ensures { IsQuotient IsFloored (num_of self.now) (den_of self.now) result }
@@ -229,7 +229,7 @@ impl Ratio {
     ///
     /// <details><summary>Proved</summary>
     ///
-    /// Of the source, in Rattle: each call returns, and then each `ensures` holds.
+    /// Proved of the source in Rattle: each call returns, and then each `ensures` holds.
     ///
     /// ```text
     /// ensures { IsQuotient IsCeiled (num_of self.now) (den_of self.now) result }
@@ -263,7 +263,7 @@ impl Ratio {
     ///
     /// <details><summary>Proved</summary>
     ///
-    /// Of the source, in Rattle: each call returns, and then each `ensures` holds.
+    /// Proved of the source in Rattle: each call returns, and then each `ensures` holds.
     ///
     /// ```text
     /// ensures sum { AnswersFraction
@@ -299,7 +299,7 @@ impl Ratio {
     ///
     /// <details><summary>Proved</summary>
     ///
-    /// Of the source, in Rattle: each call returns, and then each `ensures` holds.
+    /// Proved of the source in Rattle: each call returns, and then each `ensures` holds.
     ///
     /// ```text
     /// ensures difference { AnswersFraction
@@ -335,7 +335,7 @@ impl Ratio {
     ///
     /// <details><summary>Proved</summary>
     ///
-    /// Of the source, in Rattle: each call returns, and then each `ensures` holds.
+    /// Proved of the source in Rattle: each call returns, and then each `ensures` holds.
     ///
     /// ```text
     /// ensures product { AnswersFraction (num_of self.now *ℤ num_of other.now)
@@ -372,7 +372,7 @@ impl Ratio {
     ///
     /// <details><summary>Proved</summary>
     ///
-    /// Of the source, in Rattle: each call returns, and then each `ensures` holds.
+    /// Proved of the source in Rattle: each call returns, and then each `ensures` holds.
     ///
     /// ```text
     /// ensures quotient { AnswersFraction (num_of self.now *ℤ den_of other.now)
@@ -410,7 +410,7 @@ impl Ratio {
     ///
     /// <details><summary>Proved</summary>
     ///
-    /// Of the source, in Rattle: each call returns, and then each `ensures` holds.
+    /// Proved of the source in Rattle: each call returns, and then each `ensures` holds.
     ///
     /// ```text
     /// ensures reciprocal { AnswersFraction (den_of self.now) (num_of self.now) result }
@@ -482,7 +482,7 @@ impl Ratio {
 ///
 /// <details><summary>Proved</summary>
 ///
-/// Of the source, in Rattle: what the calls of the trait return.
+/// Proved of the source in Rattle: what the calls of the trait return.
 ///
 /// ```text
 /// ghost from_gives = { λ number x. (num_of x ≡ number) × (den_of x ≡ pos 1) }
@@ -510,7 +510,7 @@ impl From<i64> for Ratio {
 ///
 /// <details><summary>Proved</summary>
 ///
-/// Of the source, in Rattle: what the calls of the trait return.
+/// Proved of the source in Rattle: what the calls of the trait return.
 ///
 /// ```text
 /// ghost is_default = { λ x. (num_of x ≡ pos 0) × (den_of x ≡ pos 1) }
@@ -538,7 +538,7 @@ impl Default for Ratio {
 ///
 /// <details><summary>Proved</summary>
 ///
-/// Of the source, in Rattle: what the calls of the trait return.
+/// Proved of the source in Rattle: what the calls of the trait return.
 ///
 /// ```text
 /// ghost output = { λ x. Some (text_of x) }

@@ -17,7 +17,7 @@ use core::cmp::Ordering;
 ///
 /// <details><summary>Proved</summary>
 ///
-/// Of the source, in Rattle: what the calls of the trait return.
+/// Proved of the source in Rattle: what the calls of the trait return.
 ///
 /// ```text
 /// ghost cmp = { λ x y. fraction_cmp (num_of x) (den_of x) (num_of y) (den_of y) }
@@ -36,7 +36,7 @@ impl Ord for Ratio {
 
 /// <details><summary>Proved</summary>
 ///
-/// Of the source, in Rattle: what the calls of the trait return.
+/// Proved of the source in Rattle: what the calls of the trait return.
 ///
 /// ```text
 /// ghost partial_cmp = { as_partial_cmp

@@ -44,7 +44,7 @@ pub enum ParseRatioError {
 ///
 /// <details><summary>Proved</summary>
 ///
-/// Of the source, in Rattle: what the calls of the trait return.
+/// Proved of the source in Rattle: what the calls of the trait return.
 ///
 /// ```text
 /// ghost from_gives = { λ refusal error. Err error ≡ answer_read (Err refusal) }
@@ -75,7 +75,7 @@ impl From<RatioError> for ParseRatioError {
 ///
 /// <details><summary>Proved</summary>
 ///
-/// Of the source, in Rattle: what the calls of the trait return.
+/// Proved of the source in Rattle: what the calls of the trait return.
 ///
 /// ```text
 /// ghost output = { λ e. Some (parse_error_text e) }
@@ -126,7 +126,7 @@ impl Error for ParseRatioError {}
 ///
 /// <details><summary>Proved</summary>
 ///
-/// Of the source, in Rattle: what the calls of the trait return.
+/// Proved of the source in Rattle: what the calls of the trait return.
 ///
 /// ```text
 /// ghost from_str_gives = { ReadsFraction }

@@ -21,7 +21,7 @@ use crate::Fits;
 ///
 /// <details><summary>Proved</summary>
 ///
-/// Of the source, in Rattle: each call returns, and then each `ensures` holds.
+/// Proved of the source in Rattle: each call returns, and then each `ensures` holds.
 ///
 /// ```text
 /// ensures answer { AnswersWhere
@@ -63,7 +63,7 @@ pub fn div_round<T: Fits>(x: T, y: T) -> Option<T> {
 ///
 /// <details><summary>Proved</summary>
 ///
-/// Of the source, in Rattle: each call returns, and then each `ensures` holds.
+/// Proved of the source in Rattle: each call returns, and then each `ensures` holds.
 ///
 /// ```text
 /// ensures answer { AnswersWhere

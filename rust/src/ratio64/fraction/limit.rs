@@ -27,7 +27,7 @@ impl Ratio {
     ///
     /// <details><summary>Proved</summary>
     ///
-    /// Of the source, in Rattle: where each `requires` holds, the call returns, and then each
+    /// Proved of the source in Rattle: if each `requires` holds, the call returns, and then each
     /// `ensures` holds.
     ///
     /// ```text

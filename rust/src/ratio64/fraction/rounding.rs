@@ -19,7 +19,7 @@ impl Ratio {
     ///
     /// <details><summary>Proved</summary>
     ///
-    /// Of the source, in Rattle: each call returns, and then each `ensures` holds.
+    /// Proved of the source in Rattle: each call returns, and then each `ensures` holds.
     ///
     /// ```text
     /// ensures { IsTrue result ↔ (den_of self.now ≡ pos 1) }
@@ -45,7 +45,7 @@ impl Ratio {
     ///
     /// <details><summary>Proved</summary>
     ///
-    /// Of the source, in Rattle: each call returns, and then each `ensures` holds.
+    /// Proved of the source in Rattle: each call returns, and then each `ensures` holds.
     ///
     /// ```text
     /// ensures { IsQuotient IsTruncated (num_of self.now) (den_of self.now) result }
@@ -75,7 +75,7 @@ impl Ratio {
     ///
     /// <details><summary>Proved</summary>
     ///
-    /// Of the source, in Rattle: each call returns, and then each `ensures` holds.
+    /// Proved of the source in Rattle: each call returns, and then each `ensures` holds.
     ///
     /// ```text
     /// ensures { IsRounded (num_of self.now) (den_of self.now) result }
@@ -103,7 +103,7 @@ impl Ratio {
     ///
     /// <details><summary>Proved</summary>
     ///
-    /// Of the source, in Rattle: each call returns, and then each `ensures` holds.
+    /// Proved of the source in Rattle: each call returns, and then each `ensures` holds.
     ///
     /// ```text
     /// ensures num { IsRemainder IsTruncated (num_of self.now) (den_of self.now)

@@ -16,7 +16,7 @@ impl Ratio {
     ///
     /// <details><summary>Proved</summary>
     ///
-    /// Of the source, in Rattle: each call returns, and then each `ensures` holds.
+    /// Proved of the source in Rattle: each call returns, and then each `ensures` holds.
     ///
     /// ```text
     /// ensures { IsTrue result ↔ (num_of self.now ≡ pos 0) }
@@ -43,7 +43,7 @@ impl Ratio {
     ///
     /// <details><summary>Proved</summary>
     ///
-    /// Of the source, in Rattle: each call returns, and then each `ensures` holds.
+    /// Proved of the source in Rattle: each call returns, and then each `ensures` holds.
     ///
     /// ```text
     /// ensures { IsTrue result ↔ (pos 0 <ℤ num_of self.now) }
@@ -70,7 +70,7 @@ impl Ratio {
     ///
     /// <details><summary>Proved</summary>
     ///
-    /// Of the source, in Rattle: each call returns, and then each `ensures` holds.
+    /// Proved of the source in Rattle: each call returns, and then each `ensures` holds.
     ///
     /// ```text
     /// ensures { IsTrue result ↔ (num_of self.now <ℤ pos 0) }
@@ -96,7 +96,7 @@ impl Ratio {
     ///
     /// <details><summary>Proved</summary>
     ///
-    /// Of the source, in Rattle: each call returns, and then each `ensures` holds.
+    /// Proved of the source in Rattle: each call returns, and then each `ensures` holds.
     ///
     /// ```text
     /// ensures num { num_of result ≡ int_signum (num_of self.now) }
@@ -129,7 +129,7 @@ impl Ratio {
     ///
     /// <details><summary>Proved</summary>
     ///
-    /// Of the source, in Rattle: each call returns, and then each `ensures` holds.
+    /// Proved of the source in Rattle: each call returns, and then each `ensures` holds.
     ///
     /// ```text
     /// ensures negation { AnswersFraction (neg_ℤ (num_of self.now)) (den_of self.now) result }
@@ -166,7 +166,7 @@ impl Ratio {
     ///
     /// <details><summary>Proved</summary>
     ///
-    /// Of the source, in Rattle: each call returns, and then each `ensures` holds.
+    /// Proved of the source in Rattle: each call returns, and then each `ensures` holds.
     ///
     /// ```text
     /// ensures magnitude { AnswersFraction (pos (unsigned_abs (num_of self.now)))
