@@ -13,7 +13,7 @@ import sys
 import samples
 from rattle_source import Source
 
-ANYWHERE = {'zero', 'one', 'is_zero', 'is_negative', 'is_below', 'quotient', 'remainder'}
+ANYWHERE = {'zero', 'one', 'is_zero', 'is_one', 'is_equal', 'is_negative', 'is_below', 'quotient', 'remainder'}
 IN_PLAIN = {'sum', 'difference', 'product', 'successor', 'predecessor', 'negated'}
 FOLDERS = {('crate', 'plain'), ('crate', 'operators'), ('crate', 'integer_core', 'operators')}
 OWNER = 'rust/src/integer_core.rs'              # the file that has the module `operators`
@@ -21,7 +21,7 @@ OWNER = 'rust/src/integer_core.rs'              # the file that has the module `
 EXCEPT = {('rust/src/integer_core/native.rs', 'magnitude')}
 # Of each call its operator and its strength: a product binds tighter than a sum, and a sum tighter than a comparison.
 BINARY = {'sum': ('+', 2), 'difference': ('-', 2), 'product': ('*', 3), 'quotient': ('/', 3), 'remainder': ('%', 3),
-          'is_below': ('<', 1)}
+          'is_below': ('<', 1), 'is_equal': ('==', 1)}
 WITH_NUMBER = {'successor': ('{} + {}::one()', 2), 'predecessor': ('{} - {}::one()', 2), 'is_negative': ('{} < {}::zero()', 1),
                'negated': ('{1}::zero() - {0}', 2)}
 NEGATED = {'<': '>='}                           # of types with an order
@@ -126,9 +126,9 @@ class Operators:
         arguments = self.arguments(k)
         if called in ('zero', 'one'):
             return self.replace(k, last, f'{name}::{called}()')
-        if called == 'is_zero':
+        if called in ('is_zero', 'is_one'):
             text = re.sub(r'^\*(?=[\w.]+$)', '', self.operand(arguments[0], 0))
-            return self.replace(k, last, (text if self.strength_of(text) == 9 else f'({text})') + '.is_zero()')
+            return self.replace(k, last, (text if self.strength_of(text) == 9 else f'({text})') + f'.{called}()')
         if called in BINARY:
             sign, binds = BINARY[called]
             text = f'{self.operand(arguments[0], binds - 1)} {sign} {self.operand(arguments[1], binds)}'
@@ -141,7 +141,7 @@ class Operators:
         """Writes an expression, in brackets if what stands beside it would bind more tightly."""
         if self.at(k - 1) == '!' and binds == 1:
             self.source.texts[self.source.code[k - 1]] = ''
-            return self.replace(k, last, text.replace(' < ', ' >= ', 1))
+            return self.replace(k, last, text.replace(' < ', ' >= ', 1).replace(' == ', ' != ', 1))
         before, after = self.at(k - 1), self.at(last + 1)
         is_logic = before == self.at(k - 2) and before in '&|' or self.ends_parameters(k - 1)
         is_before = self.source.is_sign(k - 1, SIGNS) and not (before == '=' and self.at(k - 2) not in '=!<>') and not is_logic \
@@ -218,13 +218,15 @@ def with_operators(path, text):
 
 # ---- a test of the rules
 
-IMPORT = 'use crate::plain::{difference, is_below, is_negative, is_zero, negated, one, predecessor, product, quotient, successor, sum, zero};\n'
+IMPORT = 'use crate::plain::{difference, is_below, is_equal, is_negative, is_one, is_zero, negated, one, predecessor, product, quotient, successor, sum, zero};\n'
 WRITTEN = [
     ('fn f<T: Num>(a: T, b: T) -> T { sum(a, product(b, a)) }', 'fn f<T: Num>(a: T, b: T) -> T { a + b * a }'),
     ('fn f<T: Num>(a: T, b: T) -> T { product(sum(a, b), difference(a, b)) }', 'fn f<T: Num>(a: T, b: T) -> T { (a + b) * (a - b) }'),
     ('fn f<T: Num>(a: T, b: T) -> T { difference(a, difference(b, a)) }', 'fn f<T: Num>(a: T, b: T) -> T { a - (b - a) }'),
     ('fn f<T: Num>(a: T, b: T) -> T { difference(difference(a, b), a) }', 'fn f<T: Num>(a: T, b: T) -> T { a - b - a }'),
     ('fn f<T: Num>(a: T) -> bool { is_zero(a) || !is_negative(a) }', 'fn f<T: Num>(a: T) -> bool { a.is_zero() || a >= T::zero() }'),
+    ('fn f<T: Num>(a: T, b: T) -> bool { is_one(a) && is_equal(a, b) || !is_equal(a, b) }',
+     'fn f<T: Num>(a: T, b: T) -> bool { a.is_one() && a == b || a != b }'),
     ('fn f<T: Num>(a: &T) -> bool { is_zero(*a) && is_zero(sum(*a, one())) }',
      'fn f<T: Num>(a: &T) -> bool { a.is_zero() && (*a + T::one()).is_zero() }'),
     ('fn f<T: Num>(a: T) -> T { successor(predecessor(a)).g() }', 'fn f<T: Num>(a: T) -> T { (a - T::one() + T::one()).g() }'),

@@ -1,11 +1,11 @@
 //! Parts of fractions in `i128`: products, and lowest terms.
 
-ghost use Rattle.std.specs.Prelude.{◌≡◌, ◌↔◌, ◌<◌, ◌≤◌, ◌^◌, ◌<ℤ◌, ◌+ℤ◌, ◌-ℤ◌, ◌*ℤ◌, ℤ, pos, unsigned_abs, FitsSigned, IsTrue, MatchOption, MatchResult};
+ghost use Rattle.std.specs.Prelude.{◌≡◌, ◌<◌, ◌≤◌, ◌^◌, ◌<ℤ◌, ◌+ℤ◌, ◌-ℤ◌, ◌*ℤ◌, ℤ, pos, unsigned_abs, FitsSigned, MatchOption, MatchResult};
 ghost use Rattle.std.specs.Int.{w64};
 ghost use Rattle.ratio64.specs.Fraction.{AreEqual, IsFraction, IsExact, IsOutsideI64};
 
 use crate::RatioError;
-use num_integer::operators::{is_below, is_negative, is_zero, negated, one, quotient};
+use num_integer::operators::{is_below, is_equal, is_negative, is_zero, negated, one, quotient};
 use num_integer::{Integer, gcd};
 
 /// Returns the product of two parts.
@@ -79,7 +79,7 @@ fn reduced_terms<T: Integer>(num: T, den: T) -> (T, T)
     if is_zero(num) {
         return (num, one());
     }
-    if is_same(num, den) {
+    if is_equal(num, den) {
         return (one(), one());
     }
     let (num, den) = with_positive_denominator(num, den);
@@ -108,10 +108,4 @@ fn with_positive_denominator<T: Integer>(num: T, den: T) -> (T, T)
     } else {
         (num, den)
     }
-}
-
-fn is_same<T: Integer>(a: T, b: T) -> bool
-    ensures { IsTrue result ↔ (T.value a ≡ T.value b) }
-{
-    a == b
 }

@@ -10,10 +10,10 @@ pub returns-then-is_zero-clause-exact : goal.returns-then-is_zero-clause-exact
 returns-then-is_zero-clause-exact g c =
     rw (c.is_zero.ensures.0 c.if-is_zero.true, c.one.ensures.value) (same_result c.requires.fraction (record { cross = omega (arith, products) }) (whole_is_exact (pos 0)))
 
-pub returns-then-is_same-clause-exact : goal.returns-then-is_same-clause-exact
-returns-then-is_same-clause-exact g c =
-    let same = c.is_same.ensures.0 c.if-is_same.true in
-    rw (c.one-then-is_same.ensures.value, c.one-then-is_same-2.ensures.value) (same_result c.requires.fraction (record { cross = omega (arith, products, same) }) (whole_is_exact (pos 1)))
+pub returns-then-is_equal-clause-exact : goal.returns-then-is_equal-clause-exact
+returns-then-is_equal-clause-exact g c =
+    let same = c.is_equal.ensures.0 c.if-is_equal.true in
+    rw (c.one-then-is_equal.ensures.value, c.one-then-is_equal-2.ensures.value) (same_result c.requires.fraction (record { cross = omega (arith, products, same) }) (whole_is_exact (pos 1)))
 
 pub gcd-common-requires-clause-gcd_fits : goal.gcd-common-requires-clause-gcd_fits
 gcd-common-requires-clause-gcd_fits g c =
