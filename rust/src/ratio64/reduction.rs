@@ -48,7 +48,7 @@ fn reduced_terms<T: Integer + Copy>(num: T, den: T) -> (T, T) {
     if num.is_zero() {
         return (num, T::one());
     }
-    if is_same(num, den) {
+    if num == den {
         return (T::one(), T::one());
     }
     let (num, den) = with_positive_denominator(num, den);
@@ -69,8 +69,4 @@ fn with_positive_denominator<T: Integer + Copy>(num: T, den: T) -> (T, T) {
     } else {
         (num, den)
     }
-}
-
-fn is_same<T: Integer>(a: T, b: T) -> bool {
-    a == b
 }
