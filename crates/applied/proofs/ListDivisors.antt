@@ -1,7 +1,7 @@
 -- Greatest common divisors of lists.
 use Rattle.std.specs.Prelude.{◌≡◌, ◌↔◌, ◌<◌, ◌+◌, ◌<ℤ◌, ℕ, ℤ, pos, negsuc, neg_ℤ, unsigned_abs, List, [], ◌∷◌, ◌++◌, length, get_or, map, take, Option, Some}
 use Rattle.std.specs.List.{All}
-use Rattle.std.proofs.Common.{◌∙◌, arith, inl, inr, refl, subst, sym}
+use Rattle.std.proofs.Common.{arith, inl, inr, refl, subst, sym}
 use Rattle.std.proofs.lemmas.Int.{ints}
 use Rattle.std.proofs.lemmas.List.{map_more}
 use Rattle.std.proofs.lemmas.List.Elements.{All-cons, All-head, All-nil, All-pop, All-push, All-tail, All-weaker}

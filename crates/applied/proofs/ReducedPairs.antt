@@ -25,10 +25,7 @@ sign_of_part {a} {g} {x} up is =
     let opposite : neg_ℤ a ≡ g *ℤ neg_ℤ x = ap neg_ℤ is ∙ sym (mul-neg g x) in
     record {
       positive = (λ x_up. rw is (product_positive g x up x_up), λ a_up. factor_positive a_up up is);
-      negative = (
-        λ x_down. let product = product_positive g (neg_ℤ x) up (omega (arith, linear)) in omega (arith, linear),
-        λ a_down. let factor = factor_positive {m = neg_ℤ a} (omega (arith, linear)) up opposite in omega (arith, linear),
-      );
+      negative = (λ x_down. omega (arith, linear, product_positive g (neg_ℤ x) up (omega (arith, linear))), λ a_down. omega (arith, linear, factor_positive {m = neg_ℤ a} (omega (arith, linear)) up opposite));
     }
 
 -- only 0 has the sign of 0
@@ -104,10 +101,7 @@ same_pair {a} {b} {x} {y} {u} {v} h k =
       | inr a_other ↦ both (inl a_other)
       | inl a_zero ↦ elim (zero_or_not b) [
         | inr b_other ↦ both (inr b_other)
-        | inl b_zero ↦ (
-          zero_of_zero k.first_sign a_zero ∙ sym (zero_of_zero h.first_sign a_zero),
-          zero_of_zero k.second_sign b_zero ∙ sym (zero_of_zero h.second_sign b_zero),
-        )
+        | inl b_zero ↦ (zero_of_zero k.first_sign a_zero ∙ sym (zero_of_zero h.first_sign a_zero), zero_of_zero k.second_sign b_zero ∙ sym (zero_of_zero h.second_sign b_zero))
       ]
     ]
 

@@ -1,7 +1,6 @@
 -- A signed amount divided in proportion to weights.
 use Rattle.std.specs.Prelude.{◌≡◌, ◌+◌, ◌*◌, ◌<◌, ◌≤◌, ◌≤ℤ◌, ◌-ℤ◌, ℕ, suc, ℤ, pos, List, [], ◌∷◌, All, length, map, slice_index, sum, unsigned_abs}
-use Rattle.std.proofs.Common.{◌∙◌, ap, arith, get_or, inl, inr, refl, set, sym}
-use Rattle.std.proofs.lemmas.Bool.{cases_lt}
+use Rattle.std.proofs.Common.{◌∙◌, ap, arith, get_or, refl, set, sym}
 use Rattle.std.proofs.lemmas.Int.{by_lt_z, ints}
 use Rattle.std.proofs.lemmas.List.{ext_get_or, get_or-map, get_or-set_other, get_or-set_same, length-map, map-set}
 use Rattle.std.proofs.lemmas.List.Sums.{sum_by-cons}

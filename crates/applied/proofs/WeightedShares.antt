@@ -1,7 +1,6 @@
 -- An amount divided in proportion to weights.
 use Rattle.std.specs.Prelude.{◌≡◌, ◌+◌, ◌*◌, ◌<◌, ◌≤◌, ℕ, List, EachIndex, length, slice_index, slice_set, sum, take}
-use Rattle.std.proofs.Common.{◌∙◌, ap, arith, inl, inr, le_refl, sym}
-use Rattle.std.proofs.lemmas.Bool.{cases_lt}
+use Rattle.std.proofs.Common.{◌∙◌, ap, arith, le_refl, sym}
 use Rattle.std.proofs.lemmas.List.{ext_get_or, length-set, take-set-le, take_all, take_more_set}
 use Rattle.std.proofs.lemmas.List.Sums.{sum_by_more, sum_by_push}
 use Rattle.std.proofs.lemmas.Nat.{mul-le}

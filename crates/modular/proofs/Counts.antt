@@ -91,7 +91,6 @@ counted_by_times {from} {to} {first} {start} {step} {j} {k} up at_start ordered 
           counted_steps up own next (omega (arith, linear)) (omega (arith, linear));
       other = λ far.
           let apart_from : ¬ (start +ℤ step *ℤ k ≡ to) = λ e. far (subst (λ (x : ℤ). AreCongruent step x first) e last.holds) in
-          let there = last.from_there in
           counted_steps up own (record { from_there = by_lt_z to (start +ℤ step *ℤ k) (λ less. omega (arith, linear)) (λ fine. absurd (apart_from (omega (arith, linear)))); holds = last.holds; least = λ x beyond near. last.least x (omega (arith, linear)) near }) (omega (arith, linear)) apart;
     }
 

@@ -52,7 +52,6 @@ first_division {m} {a} {x} {none} {one} up h none_is one_is = record {
 -- a quotient of numbers that are not negative
 quotient_from_zero : {n d q r : ℤ} → pos 0 ≤ℤ n → pos 0 ≤ℤ d → d ≢ pos 0 → IsTruncated n d q r → pos 0 ≤ℤ q
 quotient_from_zero {n} {d} {q} {r} n_up d_up nonzero h =
-    let e = h.division.equation in
     let from_zero : pos 0 ≤ℤ r = omega (arith, linear, h.sign) in
     let below : r <ℤ d = omega (arith, sizes, h.division.small) in
     by_lt_z q (pos 0)

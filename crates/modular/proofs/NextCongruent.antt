@@ -22,16 +22,12 @@ next_within_step near t_from t_below = record { from_there = t_from; holds = nea
 -- it comes after the residue of the difference
 pub next_congruent_is : {from first step w : ℤ} → IsResidue step (first -ℤ from) w → IsNextCongruent from first step (from +ℤ w)
 next_congruent_is {from} {first} {step} {w} wait =
-    let from_zero = wait.below.from_zero in
-    let below = wait.below.below in
     let near : AreCongruent step (from +ℤ w) first = congruent_by (neg_ℤ wait.congruent.divides.factor) (simp expand (omega (arith, linear, wait.congruent.divides.product))) in
     next_within_step near (omega (arith, linear)) (omega (arith, linear))
 
 -- the previous one comes before the residue of the other difference
 pub previous_congruent_is : {to first step w : ℤ} → IsResidue step (to -ℤ first) w → IsPreviousCongruent to first step (to -ℤ w)
 previous_congruent_is {to} {first} {step} {w} wait =
-    let from_zero = wait.below.from_zero in
-    let below = wait.below.below in
     let near : AreCongruent step (to -ℤ w) first = congruent_by wait.congruent.divides.factor (omega (arith, linear, wait.congruent.divides.product)) in
     record {
       to_there = omega (arith, linear);

@@ -54,7 +54,6 @@ first_solution_bounds {start = start} {m = m} {times = times} {step = step} up r
     let apart = multiples_apart times step m up solutions.below.below in
     let left = comm m times in
     let right = comm m step in
-    let start_up = rest.below.from_zero in
     record { product_from_zero = from_zero; sum_from_zero = omega (arith, linear); below = omega (arith, linear, rest.below.below) }
 
 -- it fits, and so do both products, if the least common multiple does
@@ -63,8 +62,6 @@ pub both_fit : {fits : ℤ → Type 0} {low high a m gap n start times s : ℤ} 
 both_fit range lcm_fits m_up n_up rest solutions step =
     let lcm = lcm_fits _ (lcm_by_reduced_modulus m_up n_up step) in
     let first = first_solution_bounds m_up rest solutions in
-    let below = first.below in
-    let start_up = rest.below.from_zero in
     (within_fits range lcm (inl (first.product_from_zero, omega (arith, linear))), within_fits range lcm (inl (first.sum_from_zero, omega (arith, linear))), lcm)
 
 -- the numbers that solve both congruences are those congruent modulo the least common multiple

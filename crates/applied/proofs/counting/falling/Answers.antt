@@ -1,7 +1,7 @@
 use Rattle.std.specs.Prelude.{◌-ℤ◌}
-use Rattle.std.proofs.Common.{◌∙◌, arith, inl, refl, subst, sym}
+use Rattle.std.proofs.Common.{arith, inl, subst, sym}
 use Rattle.num_integer.proofs.ForCallers.{from_not_less, linear, within_fits}
-use Rattle.applied.proofs.FallingFactorials.{falling_is, falling_of_none}
+use Rattle.applied.proofs.FallingFactorials.{falling_is}
 use Rattle.applied.proofs.counting.falling.Goals as goal
 
 pub difference-requires-clause-difference_fits : goal.difference-requires-clause-difference_fits

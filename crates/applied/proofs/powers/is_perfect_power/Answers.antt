@@ -8,10 +8,7 @@ use Rattle.applied.proofs.powers.is_perfect_power.Goals as goal
 pub loop-degree-preserved : goal.loop-degree-preserved
 loop-degree-preserved c = λ d k two below e. elim (cases_lt d c.loop-degree.degree) [
   | inl lower ↦ c.loop-degree.invariant d k two lower e
-  | inr same ↦
-      let this : d ≡ c.loop-degree.degree = omega arith in
-      let impossible = c.if-is_power.ensures.1 (k, rw this at e) in
-      absurd cc
+  | inr same ↦ let this : d ≡ c.loop-degree.degree = omega arith in let impossible = c.if-is_power.ensures.1 (k, rw this at e) in absurd cc
 ]
 
 pub returns-then-is_power : goal.returns-then-is_power

@@ -1,5 +1,4 @@
-use Rattle.std.proofs.Common.{◌≡◌, arith, inl, inr}
-use Rattle.std.proofs.lemmas.Bool.{cases_lt}
+use Rattle.std.proofs.Common.{arith}
 use Rattle.std.proofs.lemmas.List.{get_or_read}
 use Rattle.num_integer.proofs.ForCallers.{linear}
 use Rattle.applied.proofs.schedules.latest.Goals as goal
