@@ -9,6 +9,7 @@ ghost use Rattle.num_integer.specs.Range.{EachFits};
 ghost use Rattle.num_integer.specs.Row.{RowFits, row_of};
 
 use num_integer::counted::extended_gcd_counted;
+use num_integer::operators::{is_equal, is_one};
 use num_integer::{
     ExtendedGcd, Fits, Integer, IterBinomial, div_floor, div_mod_floor, gcd, mod_floor,
 };
@@ -32,6 +33,14 @@ pub fn compared<T: Integer>(a: T, b: T) -> (bool, bool)
     ensures below { IsTrue result.1 ↔ (T.value a <ℤ T.value b) }
 {
     (a == b, a < b)
+}
+
+/// Returns whether the numbers are equal and whether the first is 1, by `operators`.
+pub fn equal_and_one<T: Integer>(a: T, b: T) -> (bool, bool)
+    ensures equal { IsTrue result.0 ↔ (T.value a ≡ T.value b) }
+    ensures one { IsTrue result.1 ↔ (T.value a ≡ pos 1) }
+{
+    (is_equal(a, b), is_one(a))
 }
 
 /// Returns the quotient rounded down and its remainder. The quotient times the divisor and the remainder add up to
