@@ -44,9 +44,9 @@ hides_its_calls() {
         nm -D --defined-only "$work/mine.so" | grep -q ' mine$' && ! nm -D --defined-only "$work/mine.so" | grep cellarcove
 }
 
-# It needs nothing but the division of 128 bits, which every compiler for C brings.
-needs_division_alone() {
-    ! nm --undefined-only "$archive" | awk '$1 == "U" { print $2 }' | grep -vxE '__u?(div|mod)ti3'
+# It needs nothing but the division of 128 bits and `memset`, which every compiler for C takes for granted.
+needs_the_compiler_alone() {
+    ! nm --undefined-only "$archive" | awk '$1 == "U" { print $2 }' | grep -vxE '__u?(div|mod)ti3|memset'
 }
 
 # It has no data that is written.
@@ -227,7 +227,7 @@ builds_by_cargo() {
 # What the archive exports, needs and keeps.
 looks_at() {
     check 'the exported symbols' exports_its_calls
-    check 'the needed symbols' needs_division_alone
+    check 'the needed symbols' needs_the_compiler_alone
     check 'no state' has_no_state
     if has cc C; then
         check 'the hidden symbols' hides_its_calls
