@@ -1,11 +1,10 @@
 -- The size of an exact result, and which results are no errors.
-use Rattle.std.specs.Prelude.{◌≡◌, ◌≢◌, ◌⊎◌, ◌<◌, ◌≤◌, ◌^◌, ◌*◌, ◌<ℤ◌, ◌≤ℤ◌, ◌*ℤ◌, ℤ, pos, negsuc, neg_ℤ, unsigned_abs, Result, Ok, Err, FitsSigned, IfErr}
+use Rattle.std.specs.Prelude.{◌≡◌, ◌≢◌, ◌⊎◌, ◌<◌, ◌≤◌, ◌^◌, ◌<ℤ◌, ◌≤ℤ◌, ◌*ℤ◌, ℤ, pos, negsuc, neg_ℤ, unsigned_abs, Result, Ok, Err, FitsSigned, IfErr}
 use Rattle.std.specs.Int.{w64}
-use Rattle.std.proofs.Common.{arith, ap, inl, inr, ◌∙◌}
-use Rattle.std.proofs.Math.Nat.{mul-le-mul_left}
+use Rattle.std.proofs.Common.{arith, inl, inr, ◌∙◌}
+use Rattle.std.proofs.Math.Nat.{le-mul_of_pos_right}
 use Rattle.std.proofs.lemmas.Int.{by_lt_z, ints, fits_signed_from_abs, unsigned_abs-mul}
 use Rattle.num_integer.proofs.ForCallers.{cancel, comm, expand, factor_positive, linear, products, sizes, zero_or_not}
-use Rattle.num_integer.specs.Division.{IsDivision}
 use Rattle.ratio64.specs.Fraction.{IsExact, IsOutsideI64}
 use Rattle.ratio64.specs.Ratio.{AnswersFraction}
 use Rattle.ratio64.specs.ReducedPairs.{AreEqual-sym, denominator_divides, positive_is_nonzero}
@@ -13,21 +12,16 @@ use Rattle.ratio64.specs.declared.fraction.Ratio.{Ratio}
 use Rattle.ratio64.specs.declared.error.RatioError.{RatioError}
 use Rattle.ratio64.proofs.FractionAnswers.{err_is_outside}
 use Rattle.ratio64.proofs.NearestNumbers.{quotient_fits}
+use Rattle.ratio64.proofs.WideSums.{positive_size}
 
 -- both parts of a fraction are those of its exact result times one number
 pub common_factor : {a b n d : ℤ} → IsExact a b n d → (s : ℤ) × (a ≡ n *ℤ s) × (b ≡ d *ℤ s)
 common_factor {a} {b} {n} {d} h =
     let x = denominator_divides h.reduced (AreEqual-sym h.equal) in
-    let cross = h.equal.cross in
-    let e : b ≡ d *ℤ x.factor = x.product in
-    let left : d *ℤ a ≡ d *ℤ (n *ℤ x.factor) = comm d a ∙ cross ∙ ap (λ (t : ℤ). n *ℤ t) e ∙ simp expand in
-    (x.factor, cancel d a (n *ℤ x.factor) (positive_is_nonzero h.reduced.positive) left, e)
+    (x.factor, cancel d a (n *ℤ x.factor) (positive_is_nonzero h.reduced.positive) (comm d a ∙ rw x.product at h.equal.cross ∙ simp expand), x.product)
 
 factor_at_most : (x y s : ℤ) → s ≢ pos 0 → x ≡ y *ℤ s → unsigned_abs y ≤ unsigned_abs x
-factor_at_most x y s nonzero e =
-    let size : unsigned_abs x ≡ unsigned_abs y * unsigned_abs s = ap unsigned_abs e ∙ unsigned_abs-mul y s in
-    let some : 1 ≤ unsigned_abs s = omega (arith, sizes) in
-    omega (arith, mul-le-mul_left (unsigned_abs y) some)
+factor_at_most x y s nonzero e = rw (e, unsigned_abs-mul y s) (le-mul_of_pos_right (unsigned_abs y) (omega (arith, sizes)))
 
 -- they are no wider than those of the fraction
 pub exact_parts_at_most : {a b n d : ℤ} → IsExact a b n d → (unsigned_abs n ≤ unsigned_abs a) × (unsigned_abs d ≤ unsigned_abs b)
@@ -50,12 +44,9 @@ positive_denominator_inside {a} {b} a_fits b_fits up far =
     let s = common_factor far.exact in
     let s_up = factor_positive up far.exact.reduced.positive s.2 in
     elim far.outside [
-      | inl outside ↦ outside (quotient_fits s_up (exact_division s_up s.1) w64 a_fits)
-      | inr outside ↦ outside (quotient_fits s_up (exact_division s_up s.2) w64 b_fits)
+      | inl outside ↦ outside (quotient_fits {r = pos 0} s_up (record { equation = omega (arith, linear, s.1); small = omega (arith, sizes) }) w64 a_fits)
+      | inr outside ↦ outside (quotient_fits {r = pos 0} s_up (record { equation = omega (arith, linear, s.2); small = omega (arith, sizes) }) w64 b_fits)
     ]
-  where
-    exact_division : {n q t : ℤ} → pos 0 <ℤ t → n ≡ q *ℤ t → IsDivision n t q (pos 0)
-    exact_division t_up e = record { equation = omega (arith, linear); small = omega (arith, sizes) }
 
 pub positive_is_answered : {a b : ℤ} (r : Result Ratio RatioError) → FitsSigned w64 a → FitsSigned w64 b → AnswersFraction a b r → IfErr r (λ _. b ≤ℤ pos 0)
 positive_is_answered (Ok x) a_fits b_fits h = tt
@@ -75,7 +66,7 @@ positive_over_other (Ok x) a_fits b_fits up h = tt
 positive_over_other {a} {b} (Err e) a_fits b_fits up h = elim (zero_or_not b) [
   | inl none ↦ inl none
   | inr nonzero ↦ inr (elim (small_or_least b b_fits) [
-    | inl small ↦ absurd (small_parts_inside (elim (small_or_least a a_fits) [ inl fine ↦ fine | inr least ↦ absurd (omega (arith, ints)) ]) small (err_is_outside e nonzero h))
+    | inl small ↦ absurd (small_parts_inside (positive_size a a_fits up).1 small (err_is_outside e nonzero h))
     | inr least ↦ least
   ])
 ]

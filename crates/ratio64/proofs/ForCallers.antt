@@ -5,7 +5,7 @@ pub use Rattle.ratio64.proofs.FractionAnswers.{answer_is_ok, err_is_outside, exa
 pub use Rattle.ratio64.proofs.FittingParts.{positive_is_answered, positive_over_other}
 -- ---- a value after `unwrap`, `?` and `.ok()?`
 
-pub use Rattle.ratio64.proofs.UsedResults.{at_ok, at_some, some_is_exact, none_is_outside}
+pub use Rattle.ratio64.proofs.FractionAnswers.{at_ok, at_some, some_is_exact, none_is_outside}
 -- ---- the size of an exact result
 
 pub use Rattle.ratio64.proofs.FittingParts.{common_factor, exact_parts_at_most, positive_denominator_inside, small_parts_inside}

@@ -1,6 +1,7 @@
 -- What a call returns for a fraction: its exact result, or an error.
-use Rattle.std.specs.Prelude.{◌≡◌, ◌≢◌, ◌↔◌, ◌*ℤ◌, ℤ, pos, Result, Ok, Err, FitsSigned, IsOk}
+use Rattle.std.specs.Prelude.{◌≡◌, ◌≢◌, ◌↔◌, ◌*ℤ◌, ℤ, pos, Some, None, Result, Ok, Err, FitsSigned, IfOk, IsOk}
 use Rattle.std.specs.Int.{w64}
+use Rattle.std.specs.Result.{result_ok}
 use Rattle.std.proofs.Common.{ap, arith, inl, inr, refl, subst, sym, ◌∙◌}
 use mathlib.Core.HLevel.{is_prop→PathP}
 use Rattle.num_integer.proofs.ForCallers.{cancel, comm, products}
@@ -69,3 +70,23 @@ err_is_outside NotFitting fraction h = h.not_fitting.0 refl
 pub answer_is_ok : {a b : ℤ} {r : Result Ratio RatioError} → b ≢ pos 0 → ¬ (IsOutsideI64 a b) → AnswersFraction a b r → IsOk r
 answer_is_ok {r = Ok x} fraction inside h = refl
 answer_is_ok {r = Err e} fraction inside h = absurd (inside (err_is_outside e fraction h))
+
+-- ---- a value after `unwrap`, `?` and `.ok()?`
+
+-- What a result ensures of each `Ok` holds of the value that `unwrap` or `?` returns.
+pub at_ok : {A E : Type 0} (P : A → Type 0) {r : Result A E} {x : A} → r ≡ Ok x → IfOk r P → P x
+at_ok P e h = rw e at h
+
+-- What a result ensures of each `Ok` holds of the value that `.ok()?` returns.
+pub at_some : {A E : Type 0} (P : A → Type 0) (r : Result A E) {x : A} → Some x ≡ result_ok r → IfOk r P → P x
+at_some P (Ok y) {x} e h = let same : y ≡ x = cc in subst P same h
+at_some P (Err y) e h = absurd cc
+
+-- The fraction that `.ok()?` returns is the exact result.
+pub some_is_exact : {a b : ℤ} {x : Ratio} (r : Result Ratio RatioError) → Some x ≡ result_ok r → AnswersFraction a b r → IsExact a b (num_of x) (den_of x)
+some_is_exact {a} {b} r e h = at_some (λ x. IsExact a b (num_of x) (den_of x)) r e h.exact
+
+-- If `.ok()` is `None`, a part of the exact result does not fit, since the denominator is not 0.
+pub none_is_outside : {a b : ℤ} (r : Result Ratio RatioError) → b ≢ pos 0 → None ≡ result_ok r → AnswersFraction a b r → IsOutsideI64 a b
+none_is_outside (Ok x) nonzero e h = absurd cc
+none_is_outside (Err error) nonzero e h = err_is_outside error nonzero h

@@ -1,23 +1,21 @@
 -- Powers of reduced pairs are reduced, and those of equal fractions equal.
 use Rattle.std.specs.Prelude.{◌≡◌, ◌≢◌, ◌<◌, ◌≤◌, ◌^◌, ◌<ℤ◌, ◌*ℤ◌, ℤ, ℕ, pos, negsuc, zero, suc, unsigned_abs, FitsSigned}
 use Rattle.std.specs.Int.{int_pow, w64}
-use Rattle.std.proofs.Common.{arith, ap, sym, ◌∙◌, zero-mul}
+use Rattle.std.proofs.Common.{arith, ap, sym, ◌∙◌}
 use Rattle.std.proofs.Math.Nat.{one-le-pow, pow-succ', mul-le-mul_left}
 use Rattle.std.proofs.lemmas.Int.{ints}
-use Rattle.num_integer.proofs.ForCallers.{Divides-trans, coprime_divides, expand, gcd-swap, int_pow-suc, int_pow-zero, one_divides, power_size, products, sizes}
+use Rattle.num_integer.proofs.ForCallers.{Divides-trans, coprime_divides, expand, gcd-swap, int_pow-suc, int_pow-zero, power_of_zero, power_size, products, sizes}
 use Rattle.num_integer.specs.Divisors.{IsGreatestCommonDivisor}
 use Rattle.ratio64.specs.Fraction.{AreEqual, IsReduced}
+use Rattle.ratio64.proofs.ReducedParts.{coprime_by}
 use Rattle.ratio64.proofs.WideSums.{part_size}
 
 -- ---- powers of integers
 
-exchanged : (x y p q : ℤ) → (x *ℤ y) *ℤ (p *ℤ q) ≡ (x *ℤ p) *ℤ (y *ℤ q)
-exchanged x y p q = simp expand
-
 -- the power of a product
 pub power_of_product : (x y : ℤ) (k : ℕ) → int_pow (x *ℤ y) k ≡ int_pow x k *ℤ int_pow y k
 power_of_product x y zero = rw (int_pow-zero (x *ℤ y), int_pow-zero x, int_pow-zero y) (omega (arith, products))
-power_of_product x y (suc k) = rw (int_pow-suc (x *ℤ y) k, int_pow-suc x k, int_pow-suc y k, power_of_product x y k) (exchanged x y (int_pow x k) (int_pow y k))
+power_of_product x y (suc k) = rw (int_pow-suc (x *ℤ y) k, int_pow-suc x k, int_pow-suc y k, power_of_product x y k) (simp expand)
 
 -- it is not 0 if the number is not
 pub power_nonzero : (x : ℤ) (k : ℕ) → x ≢ pos 0 → int_pow x k ≢ pos 0
@@ -27,8 +25,7 @@ power_nonzero x k nonzero none =
     omega (arith, one-le-pow k (unsigned_abs x) some)
 
 pub power_of_zero_is : (x : ℤ) (k : ℕ) → 0 < k → x ≡ pos 0 → int_pow x k ≡ pos 0
-power_of_zero_is x zero up none = absurd (omega arith)
-power_of_zero_is x (suc k) up none = rw none (ap pos (pow-succ' 0 k ∙ zero-mul (0 ^ k)))
+power_of_zero_is x k up none = rw none (ap pos (power_of_zero k up))
 
 power_positive : (x : ℤ) (k : ℕ) → pos 0 <ℤ x → pos 0 <ℤ int_pow x k
 power_positive (pos n) k up = omega (arith, ints, one-le-pow k n (omega (arith, ints)))
@@ -48,17 +45,12 @@ base_fits (negsuc n) k up fits = record { sfits = omega (arith, at_most_power (s
 
 -- a product is coprime to what both factors are coprime to
 coprime_product : {a b c : ℤ} → IsGreatestCommonDivisor a c (pos 1) → IsGreatestCommonDivisor b c (pos 1) → IsGreatestCommonDivisor (a *ℤ b) c (pos 1)
-coprime_product {a} {b} {c} x y = record {
-  from_zero = x.from_zero;
-  divides_left = one_divides _;
-  divides_right = one_divides c;
-  greatest = λ e left right.
-      let apart : IsGreatestCommonDivisor a e (pos 1) = record { from_zero = x.from_zero; divides_left = one_divides a; divides_right = one_divides e; greatest = λ f u v. x.greatest f u (Divides-trans v right) } in
-      y.greatest e (coprime_divides apart left) right;
-}
+coprime_product {a} x y = coprime_by (λ e left right.
+    let apart : IsGreatestCommonDivisor a e (pos 1) = coprime_by (λ f u v. x.greatest f u (Divides-trans v right)) in
+    y.greatest e (coprime_divides apart left) right)
 
 power_coprime : (x : ℤ) (k : ℕ) {c : ℤ} → IsGreatestCommonDivisor x c (pos 1) → IsGreatestCommonDivisor (int_pow x k) c (pos 1)
-power_coprime x zero {c} h = rw (int_pow-zero x) (record { from_zero = h.from_zero; divides_left = one_divides _; divides_right = one_divides c; greatest = λ e left right. left })
+power_coprime x zero h = rw (int_pow-zero x) (coprime_by (λ e left right. left))
 power_coprime x (suc k) h = rw (int_pow-suc x k) (coprime_product h (power_coprime x k h))
 
 pub power_reduced : {n d : ℤ} (k : ℕ) → IsReduced n d → IsReduced (int_pow n k) (int_pow d k)

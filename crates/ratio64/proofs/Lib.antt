@@ -5,12 +5,10 @@ pub mod FittingParts
 pub mod Comparisons
 pub mod Laws
 pub mod ReadTexts
-pub mod OnlyReadings
 pub mod WideSums
 pub mod EqualFractions
 pub mod EqualQuotients
 pub mod FractionPowers
-pub mod UsedResults
 pub mod ReducedAnswers
 pub mod ReducedParts
 pub mod NearestNumbers

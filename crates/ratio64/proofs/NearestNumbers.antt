@@ -1,9 +1,9 @@
 -- Quotients by a positive number, and the nearest integer.
-use Rattle.std.specs.Prelude.{◌≡◌, ◌≤◌, ◌*◌, ◌<ℤ◌, ◌≤ℤ◌, ◌+ℤ◌, ◌-ℤ◌, ◌*ℤ◌, ℤ, pos, negsuc, unsigned_abs, FitsSigned, MatchOption, Option, Some, None}
+use Rattle.std.specs.Prelude.{◌≡◌, ◌≤◌, ◌*◌, ◌<ℤ◌, ◌≤ℤ◌, ◌+ℤ◌, ◌-ℤ◌, ◌*ℤ◌, ℤ, pos, negsuc, neg_ℤ, unsigned_abs, FitsSigned, MatchOption, Option, Some, None}
 use Rattle.std.specs.Int.{Width, w64}
-use Rattle.std.proofs.Common.{ap, arith, subst, sym}
+use Rattle.std.proofs.Common.{ap, arith, inl, inr, subst, sym}
 use Rattle.std.proofs.lemmas.Int.{by_lt_z, ints}
-use Rattle.num_integer.proofs.ForCallers.{expand, linear, multiples_apart, product_from_zero, products, sizes}
+use Rattle.num_integer.proofs.ForCallers.{LiesWithin, expand, linear, multiples_apart, product_from_zero, products, sizes}
 use Rattle.num_integer.specs.Checked.{AnswersWhere}
 use Rattle.num_integer.specs.Division.{IsDivision, IsQuotient, IsTruncated}
 use Rattle.num_integer.specs.Only.{IsOnly}
@@ -13,43 +13,31 @@ use Rattle.ratio64.specs.Rounding.{IsRounded}
 
 -- ---- a quotient by a positive number fits if the dividend does
 
-pub up_fits : (w : Width) (q n : ℤ) → FitsSigned w n → pos 0 ≤ℤ q → q ≤ℤ n → FitsSigned w q
-up_fits w (pos x) (pos n) fits up most = let low = fits.sfits in record { sfits = omega (arith, ints) }
-up_fits w (pos x) (negsuc n) fits up most = absurd (omega (arith, ints))
-up_fits w (negsuc x) n fits up most = absurd (omega (arith, ints))
-
-pub down_fits : (w : Width) (q n : ℤ) → FitsSigned w n → q ≤ℤ pos 0 → n ≤ℤ q → FitsSigned w q
-down_fits w (pos x) n fits down least = record { sfits = omega (arith, ints) }
-down_fits w (negsuc x) (pos n) fits down least = absurd (omega (arith, ints))
-down_fits w (negsuc x) (negsuc n) fits down least = let low = fits.sfits in record { sfits = omega (arith, ints) }
+-- a number between 0 and one that fits
+pub between_fits : (w : Width) (n z : ℤ) → FitsSigned w n → LiesWithin n z → FitsSigned w z
+between_fits w (pos n) (pos z) fits within = let low = fits.sfits in record { sfits = omega (arith, ints) }
+between_fits w (pos n) (negsuc z) fits within = absurd (omega (arith, ints))
+between_fits w (negsuc n) (pos z) fits within = record { sfits = omega (arith, ints) }
+between_fits w (negsuc n) (negsuc z) fits within = let low = fits.sfits in record { sfits = omega (arith, ints) }
 
 module _ {n d q r : ℤ} (up : pos 0 <ℤ d) (h : IsDivision n d q r) where
-  zero_times : pos 0 *ℤ d ≡ pos 0
-  zero_times = omega (arith, products)
-
-  quotient_up : pos 0 ≤ℤ n → (pos 0 ≤ℤ q) × (q ≤ℤ n)
-  quotient_up n_up =
-      let small = h.small in (
-        grind (arith, sizes, zero_times, multiples_apart q (pos 0) d up),
-        (let each = simp expand at (product_from_zero n (d -ℤ pos 1) n_up (omega (arith, linear))) in grind (arith, sizes, products, multiples_apart n q d up)),
-      )
-
-  quotient_down : n <ℤ pos 0 → (q ≤ℤ pos 0) × (n ≤ℤ q)
-  quotient_down n_down =
-      let small = h.small in (
-        grind (arith, sizes, zero_times, multiples_apart (pos 0) q d up),
-        (let each = simp expand at (product_from_zero (pos 0 -ℤ n) (d -ℤ pos 1) (omega (arith, linear)) (omega (arith, linear))) in grind (arith, sizes, products, multiples_apart q n d up)),
-      )
+  quotient_within : LiesWithin n q
+  quotient_within =
+      let small = h.small in
+      let zero : pos 0 *ℤ d ≡ pos 0 = omega (arith, products) in
+      by_lt_z n (pos 0)
+      (λ down.
+      let most = simp expand at (product_from_zero (neg_ℤ n) (d -ℤ pos 1) (omega (arith, linear)) (omega (arith, linear))) in
+      inr (grind (arith, sizes, products, multiples_apart q n d up), grind (arith, sizes, multiples_apart (pos 0) q d up)))
+      (λ over.
+      let most = simp expand at (product_from_zero n (d -ℤ pos 1) over (omega (arith, linear))) in
+      inl (grind (arith, sizes, multiples_apart q (pos 0) d up), grind (arith, sizes, products, multiples_apart n q d up)))
 
   pub quotient_fits : (w : Width) → FitsSigned w n → FitsSigned w q
-  quotient_fits w fits = by_lt_z n (pos 0)
-      (λ n_down. let q_down = quotient_down n_down in down_fits w q n fits q_down.0 q_down.1)
-      (λ n_up. let q_up = quotient_up n_up in up_fits w q n fits q_up.0 q_up.1)
+  quotient_fits w fits = between_fits w n q fits quotient_within
 
   pub quotient_size : unsigned_abs q ≤ unsigned_abs n
-  quotient_size = by_lt_z n (pos 0)
-      (λ n_down. let q_down = quotient_down n_down in omega (arith, sizes))
-      (λ n_up. let q_up = quotient_up n_up in omega (arith, sizes))
+  quotient_size = omega (arith, sizes, quotient_within)
 
 -- ---- the nearest number
 

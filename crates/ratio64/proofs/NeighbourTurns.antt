@@ -9,43 +9,21 @@ pub first_neighbours : {n d max : ℕ} → 0 < max → max < d → n < d → ((a
     → AreNeighbours n d max (record { num = 0; den = 1; gap = n }) (record { num = 1; den = 1; gap = d - n })
 first_neighbours {n} {d} {max} up above proper lowest =
     let nonzero : n ≢ 0 = λ e. let small = lowest 0 1 (omega arith) (omega arith) in absurd (omega arith) in
-    record {
-      from_below = omega arith;
-      from_above = omega arith;
-      adjacent = omega arith;
-      gaps = (omega arith, omega arith);
-      dens = (omega arith, omega arith);
-      nums = (omega arith, omega arith);
-      bounded = (omega arith, omega arith);
-    }
+    omega arith
 
 -- the upper one comes closer
 pub above_closer : {n d max : ℕ} {x y z : Neighbour} → AreNeighbours n d max x y → IsCloser max y x z → AreNeighbours n d max x z
 above_closer {n} {d} {max} {x} {y} {z} h s =
     let below = ap (λ (t : ℕ). s.steps * t) h.from_below in
-    record {
-      from_below = h.from_below;
-      from_above = rw (s.num, s.den) (omega arith);
-      adjacent = rw (s.num, s.den) (omega arith);
-      gaps = (h.gaps.0, s.apart);
-      dens = (h.dens.0, omega (arith, s.den, h.dens.1));
-      nums = (h.nums.0, omega (arith, s.num, s.den, h.nums.1, mul-le-mul_left s.steps h.nums.0));
-      bounded = (h.bounded.0, s.bounded);
-    }
+    let nums = mul-le-mul_left s.steps h.nums.0 in
+    omega (arith, ap (λ (t : ℕ). t * d) s.num, ap (λ (t : ℕ). n * t) s.den, ap (λ (t : ℕ). t * x.den) s.num, ap (λ (t : ℕ). x.num * t) s.den)
 
 -- the lower one does
 pub below_closer : {n d max : ℕ} {x y z : Neighbour} → AreNeighbours n d max x y → IsCloser max x y z → AreNeighbours n d max z y
 below_closer {n} {d} {max} {x} {y} {z} h s =
     let above = ap (λ (t : ℕ). s.steps * t) h.from_above in
-    record {
-      from_below = rw (s.num, s.den) (omega arith);
-      from_above = h.from_above;
-      adjacent = rw (s.num, s.den) (omega arith);
-      gaps = (s.apart, h.gaps.1);
-      dens = (omega (arith, s.den, h.dens.0), h.dens.1);
-      nums = (omega (arith, s.num, s.den, h.nums.0, mul-le-mul_left s.steps h.nums.1), h.nums.1);
-      bounded = (s.bounded, h.bounded.1);
-    }
+    let nums = mul-le-mul_left s.steps h.nums.1 in
+    omega (arith, ap (λ (t : ℕ). t * d) s.num, ap (λ (t : ℕ). n * t) s.den, ap (λ (t : ℕ). t * y.den) s.num, ap (λ (t : ℕ). y.num * t) s.den)
 
 -- its gap falls
 pub gap_falls : {max : ℕ} {x y z : Neighbour} → IsCloser max y x z → 0 < x.gap → z.gap < y.gap
@@ -58,10 +36,9 @@ gaps_differ {n} {d} {max} {x} {y} h above lowest room most =
     let differ : x.gap ≢ y.gap = λ e. let small = lowest (x.num + y.num) (x.den + y.den) (omega arith) (omega arith) in absurd (omega arith) in
     omega arith
 
--- the gaps by the denominators
-pub gaps_make_den : {n d max : ℕ} {x y : Neighbour} → AreNeighbours n d max x y → d ≡ x.gap * y.den + y.gap * x.den
-gaps_make_den {n} {d} {max} {x} {y} h =
-    let below = ap (λ (t : ℕ). t * y.den) h.from_below in
-    let above = ap (λ (t : ℕ). t * x.den) h.from_above in
-    let adjacent = ap (λ (t : ℕ). t * d) h.adjacent in
-    omega arith
+-- the gaps by the parts make those of the fraction
+pub gaps_make : {n d max : ℕ} {x y : Neighbour} → AreNeighbours n d max x y → (d ≡ x.gap * y.den + y.gap * x.den) × (n ≡ x.gap * y.num + y.gap * x.num)
+gaps_make {n} {d} {max} {x} {y} h = (
+  omega (arith, ap (λ (t : ℕ). t * y.den) h.from_below, ap (λ (t : ℕ). t * x.den) h.from_above, ap (λ (t : ℕ). t * d) h.adjacent),
+  omega (arith, ap (λ (t : ℕ). t * y.num) h.from_below, ap (λ (t : ℕ). t * x.num) h.from_above, ap (λ (t : ℕ). t * n) h.adjacent),
+)

@@ -14,17 +14,18 @@ use Rattle.std.proofs.lemmas.Grind.{common_steps}
 use Rattle.std.proofs.lemmas.Str.Parse.{IsNumeralModel, numerals_by_value, not_in_digits}
 use Rattle.std.proofs.lemmas.Str.Pattern.{IsSplitOnceResult, split_after, split_parts}
 use borrow.Author.Tests.{ne_eqb}
-use Rattle.ratio64.proofs.ExactResults.{only_exact_result, reduced_is_exact}
-use Rattle.ratio64.specs.ReducedPairs.{positive_is_nonzero}
-use Rattle.ratio64.proofs.FractionAnswers.{err_is_outside, exact_is_inside, only_of_parts}
-use Rattle.ratio64.specs.Laws.{TextIsReadBack}
+use Rattle.ratio64.proofs.ExactResults.{reduced_is_exact}
+use Rattle.num_integer.proofs.ForCallers.{linear}
+use Rattle.ratio64.proofs.FractionAnswers.{exact_answer, only_answer, only_of_parts}
+use Rattle.ratio64.proofs.WideSums.{part_size}
+use Rattle.ratio64.specs.Laws.{ReadingIsOnly, TextIsReadBack}
 use Rattle.ratio64.specs.Ratio.{AnswersFraction, den_of, num_of, text_of}
 use Rattle.ratio64.specs.RatioText.{AnswersSpelled, HasLongPart, ReadsFraction, SpellsFraction, SpellsWhole, answer_read, unsigned_part, whole_of}
 use Rattle.ratio64.specs.declared.error.RatioError.{RatioError}
-use Rattle.ratio64.specs.declared.error.RatioError.TheVariants.{ZeroDenominator, NotFitting}
+use Rattle.ratio64.specs.declared.error.RatioError.TheVariants as refused
 use Rattle.ratio64.specs.declared.fraction.Ratio.{Ratio}
 use Rattle.ratio64.specs.declared.parse.ParseRatioError.{ParseRatioError}
-use Rattle.ratio64.specs.declared.parse.ParseRatioError.TheVariants.{NotAFraction, TooLong}
+use Rattle.ratio64.specs.declared.parse.ParseRatioError.TheVariants.{NotAFraction, TooLong, ZeroDenominator, NotFitting}
 
 -- ---- digits
 
@@ -62,10 +63,6 @@ no_slash_inside text h front back e =
     let here : get_or text (length front) 0 ≡ 47 = grind (arith, common_steps) in
     no_slash text h (length front) inside here
 
--- a string with a slash, by what is on its two sides
-at_slash : {text : List ℕ} (num den : List ℕ) → text ≡ num ++ codes "/" ++ den → text ≡ num ++ (47 ∷ den)
-at_slash num den e = e ∙ append_assoc num (codes "/") den
-
 -- what `split_once` cuts at the slash, or the string and `1`
 module _ {text : List ℕ} (t one : Bor (List ℕ)) (same : t.now ≡ text) (is_one : one.now ≡ codes "1") where
   cut : (r : Option (Bor (List ℕ) × Bor (List ℕ))) → IsSplitOnceResult 47 text r → AreParts text (unwrap_or r (t, one)).0.now (unwrap_or r (t, one)).1.now
@@ -75,11 +72,11 @@ module _ {text : List ℕ} (t one : Bor (List ℕ)) (same : t.now ≡ text) (is_
   only_cut : (r : Option (Bor (List ℕ) × Bor (List ℕ))) (num den : List ℕ) → IsSplitOnceResult 47 text r → IsNumeral 10 (unsigned_part num) → AreParts text num den
       → ((unwrap_or r (t, one)).0.now ≡ num) × ((unwrap_or r (t, one)).1.now ≡ den)
   only_cut None num den h digits parts = elim parts [
-    | inl slash ↦ absurd (split_after 47 text num den None h (omega arith) (at_slash num den slash) (no_slash num digits))
+    | inl slash ↦ absurd (split_after 47 text num den None h (omega arith) (slash ∙ append_assoc num (codes "/") den) (no_slash num digits))
     | inr alone ↦ (same ∙ alone.0, is_one ∙ sym alone.1)
   ]
   only_cut (Some x) num den h digits parts = elim parts [
-    | inl slash ↦ split_after 47 text num den (Some x) h (omega arith) (at_slash num den slash) (no_slash num digits)
+    | inl slash ↦ split_after 47 text num den (Some x) h (omega arith) (slash ∙ append_assoc num (codes "/") den) (no_slash num digits)
     | inr alone ↦
         let whole : num ≡ x.0.now ++ (47 ∷ x.1.now) = sym alone.0 ∙ (split_parts 47 text (Some x) h (omega arith)).0 in
         absurd (no_slash_inside num digits x.0.now x.1.now whole)
@@ -96,12 +93,12 @@ split_cuts t one r same is_one is h = rw is (record { parts = cut t one same is_
 -- ---- what the string is read as
 
 pub short_parts : (a b : ℤ) → unsigned_abs a < 10 ^ 38 → unsigned_abs b < 10 ^ 38 → ¬ (HasLongPart a b)
-short_parts a b left right h = elim h [ inl long ↦ absurd (omega arith) | inr long ↦ absurd (omega arith) ]
+short_parts a b left right h = omega arith
 
 never_long : (r : Result Ratio RatioError) → answer_read r ≢ Err TooLong
 never_long (Ok x) e = cc
-never_long (Err ZeroDenominator) e = cc
-never_long (Err NotFitting) e = cc
+never_long (Err refused.ZeroDenominator) e = cc
+never_long (Err refused.NotFitting) e = cc
 
 -- no fraction, if a part is no integer
 pub other_text : {text num den : List ℕ} → AreCut text num den → ¬ (IsNumeral 10 (unsigned_part num) × IsNumeral 10 (unsigned_part den)) → ReadsFraction text (Err NotAFraction)
@@ -139,9 +136,6 @@ spelled_fraction {a} {b} r left right h is = record {
 
 -- ---- what is printed
 
-one_spelled : SpellsWhole (codes "1") (pos 1)
-one_spelled = record { digits = search rules; value = refl }
-
 no_minus : (n : ℕ) → n < 2 ^ 64 → starts_with_minus (decimal n) ≡ false
 no_minus n small =
     let h = decimal_is_IsNumeral n small in
@@ -169,7 +163,7 @@ text_spelled x num_fits den_fits = elim (cases_Bool (int_eq (den_of x) (pos 1)))
         den = codes "1";
         parts = inr (refl, refl);
         num_spelled = number_spelled (num_of x) num_fits;
-        den_spelled = rw is_one one_spelled;
+        den_spelled = rw is_one (record { digits = search rules; value = refl });
       })
   | inr other ↦ rw other (record {
     num = signed_decimal (num_of x);
@@ -181,19 +175,49 @@ text_spelled x num_fits den_fits = elim (cases_Bool (int_eq (den_of x) (pos 1)))
 ]
 
 -- and is read as that fraction
-
-short_part : (z : ℤ) → FitsSigned w64 z → unsigned_abs z < 10 ^ 38
-short_part (pos n) fits = let low = fits.sfits in omega arith
-short_part (negsuc n) fits = let low = fits.sfits in omega arith
-
-answers_itself : (x : Ratio) (r : Result Ratio RatioError) → FitsSigned w64 (num_of x) → FitsSigned w64 (den_of x) → AnswersFraction (num_of x) (den_of x) r → answer_read r ≡ Ok x
-answers_itself x (Ok y) num_fits den_fits h =
-    let same = only_exact_result h.exact (reduced_is_exact x.reduced) in
-    ap Ok (only_of_parts y x same.0 same.1)
-answers_itself x (Err e) num_fits den_fits h = absurd (exact_is_inside (reduced_is_exact x.reduced) num_fits den_fits (err_is_outside e (positive_is_nonzero x.reduced.positive) h))
-
 pub printed_is_read : TextIsReadBack
 printed_is_read x r num_fits den_fits h =
     let spelled = h.answer (num_of x) (den_of x) (text_spelled x num_fits den_fits) in
-    let given = spelled.answer (short_parts (num_of x) (den_of x) (short_part (num_of x) num_fits) (short_part (den_of x) den_fits)) in
-    given.1 ∙ answers_itself x given.0 num_fits den_fits given.2
+    let short = short_parts (num_of x) (den_of x) (omega (arith, part_size (num_of x) num_fits)) (omega (arith, part_size (den_of x) den_fits)) in
+    let given = spelled.answer short in
+    given.1 ∙ ap answer_read (only_answer _ _ given.0 (Ok x) given.2 (exact_answer x (reduced_is_exact x.reduced) num_fits den_fits))
+
+-- ---- results that cannot differ are the same
+
+same_number : (a b : ℤ) → ¬ (¬ (a ≡ b)) → a ≡ b
+same_number a b h = grind (arith, linear)
+
+same_error : (e f : ParseRatioError) → ¬ (¬ (e ≡ f)) → e ≡ f
+same_error NotAFraction NotAFraction h = refl
+same_error TooLong TooLong h = refl
+same_error ZeroDenominator ZeroDenominator h = refl
+same_error NotFitting NotFitting h = refl
+same_error _ _ h = absurd (h (λ e. absurd cc))
+
+same_read : (r s : Result Ratio ParseRatioError) → ¬ (¬ (r ≡ s)) → r ≡ s
+same_read (Ok x) (Ok y) h = ap Ok (only_of_parts x y
+    (same_number (num_of x) (num_of y) (λ other. h (λ e. let same : x ≡ y = cc in other (ap num_of same))))
+    (same_number (den_of x) (den_of y) (λ other. h (λ e. let same : x ≡ y = cc in other (ap den_of same)))))
+same_read (Err e) (Err f) h = ap Err (same_error e f (λ other. h (λ same. let one : e ≡ f = cc in other one)))
+same_read _ _ h = absurd (h (λ same. absurd cc))
+
+-- ---- a string has one result
+
+long_or_short : (a b : ℤ) → HasLongPart a b ⊎ ¬ (HasLongPart a b)
+long_or_short a b = grind arith
+
+-- that of the fraction that it writes
+only_spelled : {a b : ℤ} {r s : Result Ratio ParseRatioError} → AnswersSpelled a b r → AnswersSpelled a b s → r ≡ s
+only_spelled {a} {b} h k = elim (long_or_short a b) [
+  | inl long ↦ h.too_long.1 long ∙ sym (k.too_long.1 long)
+  | inr short ↦
+      let own = h.answer short in
+      let other = k.answer short in
+      own.1 ∙ ap answer_read (only_answer a b own.0 other.0 own.2 other.2) ∙ sym other.1
+]
+
+-- or `NotAFraction`, since two results can differ for no other reason
+pub only_reading : ReadingIsOnly
+only_reading text r s h k = same_read r s (λ other.
+    let none : (a b : ℤ) → ¬ (SpellsFraction text a b) = λ a b spelled. other (only_spelled (h.answer a b spelled) (k.answer a b spelled)) in
+    other (h.not_a_fraction.1 none ∙ sym (k.not_a_fraction.1 none)))

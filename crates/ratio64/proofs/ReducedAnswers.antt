@@ -1,7 +1,7 @@
 -- What calls return for fractions in lowest terms, and for powers of a negative degree.
 use Rattle.std.specs.Prelude.{◌≡◌, ◌⊎◌, ◌<◌, ℤ, ℕ, pos, Result, Ok, Err, FitsSigned}
 use Rattle.std.specs.Int.{int_pow, w64}
-use Rattle.std.proofs.Common.{inl, inr, refl, subst, sym}
+use Rattle.std.proofs.Common.{inl, inr, refl}
 use Rattle.ratio64.proofs.EqualFractions.{equal_fractions_answered_alike}
 use Rattle.ratio64.proofs.ExactResults.{reduced_is_exact}
 use Rattle.ratio64.proofs.FractionAnswers.{exact_answer}
@@ -29,11 +29,8 @@ zero_answer none = record {
 
 -- ---- parts that are reduced
 
-exact_same : {n d p q : ℤ} → IsReduced n d → p ≡ n → q ≡ d → IsExact n d p q
-exact_same reduced num den = rw (num, den) (reduced_is_exact reduced)
-
-pub reduced_answer : {n d : ℤ} (x : Ratio) → IsReduced n d → num_of x ≡ n → den_of x ≡ d → FitsSigned w64 n → FitsSigned w64 d → AnswersFraction n d (Ok x)
-reduced_answer x reduced num den num_fits den_fits = exact_answer x (exact_same reduced num den) (subst (FitsSigned w64) (sym num) num_fits) (subst (FitsSigned w64) (sym den) den_fits)
+pub reduced_answer : {n d : ℤ} (x : Ratio) → num_of x ≡ n → den_of x ≡ d → FitsSigned w64 n → FitsSigned w64 d → AnswersFraction n d (Ok x)
+reduced_answer x num den num_fits den_fits = rw (← num, ← den) (exact_answer x (reduced_is_exact x.reduced) (rw num num_fits) (rw den den_fits))
 
 pub reduced_refused : {n d : ℤ} → IsReduced n d → (¬ (FitsSigned w64 n)) ⊎ (¬ (FitsSigned w64 d)) → AnswersFraction n d (Err NotFitting)
 reduced_refused {n} {d} reduced outside = outside_answer (record { num = n; den = d; exact = reduced_is_exact reduced; outside = outside })

@@ -13,17 +13,12 @@ negated_divides {d} h =
     let product = h.product in
     record { factor = neg_ℤ h.factor; product = rw (mul-neg d h.factor) (omega (arith, linear)) }
 
--- it is coprime to what its negation is coprime to
-pub negated_coprime : {n d : ℤ} → IsGreatestCommonDivisor n d (pos 1) → IsGreatestCommonDivisor (neg_ℤ n) d (pos 1)
-negated_coprime {n} {d} x = record {
-  from_zero = x.from_zero;
-  divides_left = one_divides _;
-  divides_right = one_divides d;
-  greatest = λ e left right. x.greatest e (negated_divides left) right;
-}
+-- numbers are coprime if each common divisor divides 1
+pub coprime_by : {a b : ℤ} → ((e : ℤ) → Divides e a → Divides e b → Divides e (pos 1)) → IsGreatestCommonDivisor a b (pos 1)
+coprime_by common = record { from_zero = omega (arith, ints); divides_left = one_divides _; divides_right = one_divides _; greatest = common }
 
 pub negated_reduced : {n d : ℤ} → IsReduced n d → IsReduced (neg_ℤ n) d
-negated_reduced x = record { positive = x.positive; lowest = negated_coprime x.lowest }
+negated_reduced x = record { positive = x.positive; lowest = coprime_by (λ e left right. x.lowest.greatest e (negated_divides left) right) }
 
 pub magnitude_reduced : (n : ℤ) {d : ℤ} → IsReduced n d → IsReduced (pos (unsigned_abs n)) d
 magnitude_reduced (pos n) x = x
@@ -43,13 +38,8 @@ magnitude_outside (negsuc n) outside fits = outside fits
 pub remainder_reduced : {n d r : ℤ} (q : ℤ) → IsReduced n d → n ≡ q *ℤ d +ℤ r → IsReduced r d
 remainder_reduced {n} {d} {r} q x equation = record {
   positive = x.positive;
-  lowest = record {
-    from_zero = x.lowest.from_zero;
-    divides_left = one_divides r;
-    divides_right = one_divides d;
-    greatest = λ e left right.
-        let whole : Divides e (q *ℤ d +ℤ pos 1 *ℤ r) = Divides-sum q (pos 1) right left in
-        let same : q *ℤ d +ℤ pos 1 *ℤ r ≡ n = omega (arith, products) in
-        x.lowest.greatest e (subst (λ (t : ℤ). Divides e t) same whole) right;
-  };
+  lowest = coprime_by (λ e left right.
+      let whole : Divides e (q *ℤ d +ℤ pos 1 *ℤ r) = Divides-sum q (pos 1) right left in
+      let same : q *ℤ d +ℤ pos 1 *ℤ r ≡ n = omega (arith, products) in
+      x.lowest.greatest e (subst (λ (t : ℤ). Divides e t) same whole) right);
 }

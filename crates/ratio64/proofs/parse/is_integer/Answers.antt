@@ -1,7 +1,6 @@
 use Rattle.std.specs.Prelude.{◌<◌, length}
-use Rattle.std.proofs.Common.{rules}
+use Rattle.std.proofs.Common.{arith, rules}
 use Rattle.std.proofs.lemmas.Grind.{common_steps}
-use Rattle.std.proofs.Common.{arith}
 use Rattle.ratio64.specs.RatioText.{unsigned_part}
 use Rattle.ratio64.proofs.ReadTexts.{tells_numeral}
 use Rattle.ratio64.proofs.parse.is_integer.Goals as goal

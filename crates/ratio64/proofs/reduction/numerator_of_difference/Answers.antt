@@ -1,18 +1,18 @@
-use Rattle.std.specs.Prelude.{◌<◌, ◌^◌, ◌-ℤ◌, ◌*ℤ◌, unsigned_abs}
-use Rattle.std.specs.Int.{w128}
-use Rattle.std.proofs.Common.{refl}
-use Rattle.std.proofs.lemmas.Int.{fits_signed_from_abs}
-use Rattle.ratio64.proofs.WideSums.{difference_below, product_by_positive, read, read_value}
+use Rattle.std.specs.Int.{w64}
+use Rattle.std.proofs.Common.{arith}
+use Rattle.std.proofs.lemmas.Int.{ints, to_z-of_z}
+use Rattle.num_integer.proofs.ForCallers.{sizes}
 use Rattle.ratio64.proofs.reduction.numerator_of_difference.Goals as goal
-use Rattle.ratio64.proofs.reduction.numerator_of_difference.Goals.{After-product-2}
-
-below : (c : After-product-2) → unsigned_abs (c.args.a *ℤ c.args.d -ℤ c.args.c *ℤ c.args.b) < 2 ^ 127
-below c = difference_below (c.args.a *ℤ c.args.d) (c.args.c *ℤ c.args.b) (product_by_positive c.args.a c.args.d c.ranges.a c.ranges.d c.requires.d_positive) (product_by_positive c.args.c c.args.b c.ranges.c c.ranges.b c.requires.b_positive)
 
 pub overflow_sub-result : goal.overflow_sub-result
-overflow_sub-result c = rw (read_value c.ranges.a c.ranges.d c.product.ensures.value c.product.ensures.below, read_value c.ranges.c c.ranges.b c.product-2.ensures.value c.product-2.ensures.below) (fits_signed_from_abs w128 _ (below c))
+overflow_sub-result c =
+    let first = c.product.ensures.below_of_positive (omega (arith, ints)) in
+    let second = c.product-2.ensures.below_of_positive (omega (arith, ints)) in
+    omega (arith, ints, sizes)
 
 pub returns : goal.returns
 returns c =
-    let is = read (c.args.a *ℤ c.args.d -ℤ c.args.c *ℤ c.args.b) (below c) in
-    rw (read_value c.ranges.a c.ranges.d c.product.ensures.value c.product.ensures.below, read_value c.ranges.c c.ranges.b c.product-2.ensures.value c.product-2.ensures.below, is) (record { value = refl; below = below c })
+    let fits = c.ranges in
+    let first = rw (to_z-of_z w64 c.args.a fits.a, to_z-of_z w64 c.args.d fits.d) at c.product.ensures in
+    let second = rw (to_z-of_z w64 c.args.c fits.c, to_z-of_z w64 c.args.b fits.b) at c.product-2.ensures in
+    omega (arith, ints, sizes, first.value, second.value, first.below_of_positive c.requires.d_positive, second.below_of_positive c.requires.b_positive)

@@ -1,5 +1,5 @@
 use Rattle.std.specs.Prelude.{pos}
-use Rattle.std.proofs.Common.{arith, inr, refl}
+use Rattle.std.proofs.Common.{arith}
 use Rattle.num_integer.proofs.FittingAnswers.{from_test}
 use Rattle.num_integer.proofs.ForCallers.{divisor_size, linear, products}
 use Rattle.ratio64.proofs.ExactResults.{coprime_is_exact, exact_quotients, same_result, whole_is_exact}
@@ -23,8 +23,7 @@ gcd-common-requires-clause-gcd_fits g c =
 pub returns-then-is_below-clause-exact : goal.returns-then-is_below-clause-exact
 returns-then-is_below-clause-exact g c =
     let turned = c.with_positive_denominator-num.ensures in
-    let own = exact_quotients (positive_is_nonzero turned.positive) c.gcd-common.ensures.greatest (record { sign = inr (omega (arith, linear, turned.positive), refl) }) in
-    rw (c.quotient.ensures.value, c.quotient-then-is_below.ensures.value) (same_result c.requires.fraction turned.equal own)
+    rw (c.quotient.ensures.value, c.quotient-then-is_below.ensures.value) (same_result c.requires.fraction turned.equal (exact_quotients turned.positive c.gcd-common.ensures.greatest))
 
 pub returns-else-is_below-clause-exact : goal.returns-else-is_below-clause-exact
 returns-else-is_below-clause-exact g c =

@@ -15,7 +15,7 @@ pub returns-in-Some-clause-magnitude : goal.returns-in-Some-clause-magnitude
 returns-in-Some-clause-magnitude c =
     let x = c.args.self.now in
     let num_fits = magnitude_fits (num_of x) (search rules) (search rules) in
-    reduced_answer _ (magnitude_reduced (num_of x) x.reduced) (search rules) (search rules) num_fits (search rules)
+    reduced_answer _ (search rules) (search rules) num_fits (search rules)
 
 pub returns-in-None-clause-magnitude : goal.returns-in-None-clause-magnitude
 returns-in-None-clause-magnitude c =

@@ -12,9 +12,7 @@ invariant_of-result c =
     record { reduced = rw (num, den) (negated_reduced x.reduced) }
 
 pub returns-in-Some-clause-negation : goal.returns-in-Some-clause-negation
-returns-in-Some-clause-negation c =
-    let x = c.args.self.now in
-    reduced_answer _ (negated_reduced x.reduced) (search rules) (search rules) (search rules) (search rules)
+returns-in-Some-clause-negation c = reduced_answer _ (search rules) (search rules) (search rules) (search rules)
 
 pub returns-in-None-clause-negation : goal.returns-in-None-clause-negation
 returns-in-None-clause-negation c =

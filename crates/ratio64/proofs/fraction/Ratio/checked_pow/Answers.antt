@@ -10,9 +10,7 @@ returns-in_err-checked_recip-clause-below_zero c = λ below.
     rw is (powers_refused _ (unsigned_abs c.args.exponent) (omega (arith, sizes)) c.in_err-checked_recip.ensures.reciprocal)
 
 pub returns-in_ok-checked_recip-clause-from_zero : goal.returns-in_ok-checked_recip-clause-from_zero
-returns-in_ok-checked_recip-clause-from_zero c = λ above.
-    let test = rw (to_z-of_z w32 c.args.exponent c.ranges.exponent) at c.if-exponent-lt0.true in
-    absurd (omega (arith, ints, test))
+returns-in_ok-checked_recip-clause-from_zero c = λ above. absurd (omega (arith, ints))
 
 pub returns-in_ok-checked_recip-clause-below_zero : goal.returns-in_ok-checked_recip-clause-below_zero
 returns-in_ok-checked_recip-clause-below_zero c = λ below.

@@ -1,7 +1,7 @@
 use Rattle.std.proofs.Common.{◌≡◌, ◌<◌, ◌^◌, ◌+ℤ◌, ◌*ℤ◌, FitsSigned, arith, pos, rules, w64}
 use Rattle.std.proofs.lemmas.Int.{ints, to_z-of_z, to_z_pos}
-use Rattle.ratio64.proofs.LimitedDenominators.{IsSplit, floor_splits, itself_is_nearest, lowest_natural, nearer_bounded, nearer_fits, nearer_is_nearest, nearer_is_reduced, natural_fits}
-use Rattle.ratio64.proofs.NeighbourTurns.{gaps_make_den}
+use Rattle.ratio64.proofs.LimitedDenominators.{IsLimited, IsSplit, fits_with_whole, floor_splits, itself_is_nearest, lowest_natural, nearer_is_limited, nearest_with_whole, reduced_with_whole}
+use Rattle.ratio64.proofs.NeighbourTurns.{gaps_make}
 use Rattle.ratio64.proofs.WideSums.{positive_size}
 use Rattle.ratio64.specs.Ratio.{num_of, den_of}
 use Rattle.ratio64.proofs.fraction.Ratio.limit_denominator.Goals as goal
@@ -18,8 +18,11 @@ split c =
 limit : (c : After-nearer-nearest) → (pos c.unsigned_abs-limit.result ≡ c.args.max) × (c.unsigned_abs-limit.result < 2 ^ 63)
 limit c = rw (rw (to_z-of_z w64 c.args.max c.ranges.max) at c.unsigned_abs-limit.ensures.value) (positive_size c.args.max c.ranges.max c.requires)
 
+near : (c : After-nearer-nearest) → IsLimited c.unsigned_abs-part.result c.unsigned_abs-den.result c.unsigned_abs-limit.result c.nearer-nearest.result
+near c = nearer_is_limited c.neighbours.ensures.neighbours c.neighbours.ensures.none_between c.nearer-nearest.ensures
+
 small : (c : After-nearer-nearest) → c.nearer-nearest.result.den < 2 ^ 63
-small c = omega (arith, nearer_bounded c.neighbours.ensures.neighbours c.nearer-nearest.ensures, limit c)
+small c = omega (arith, (near c).bounded, limit c)
 
 sum : (c : After-numerator) → c.numerator.result ≡ c.div_mod_floor-whole.result.0 *ℤ pos c.nearer-nearest.result.den +ℤ pos c.nearer-nearest.result.num
 sum c = rw (to_z-of_z w64 c.div_mod_floor-whole.result.0 (search rules)) at c.numerator.ensures
@@ -32,29 +35,29 @@ pub neighbours-requires-clause-lowest : goal.neighbours-requires-clause-lowest
 neighbours-requires-clause-lowest c = lowest_natural (split (goal.at.neighbours-requires-clause-lowest c).After-unsigned_abs-limit).reduced
 
 pub nearer-nearest-requires : goal.nearer-nearest-requires
-nearer-nearest-requires c = omega (arith, gaps_make_den c.neighbours.ensures.neighbours, c.unsigned_abs-den.type_inv)
+nearer-nearest-requires c = omega (arith, (gaps_make c.neighbours.ensures.neighbours).0, c.unsigned_abs-den.type_inv)
 
 pub numerator-requires-clause-den : goal.numerator-requires-clause-den
 numerator-requires-clause-den c = small (goal.at.numerator-requires-clause-den c).After-nearer-nearest
 
 pub numerator-requires-clause-fits : goal.numerator-requires-clause-fits
 numerator-requires-clause-fits c =
-    let s = split (goal.at.numerator-requires-clause-fits c).After-unsigned_abs-limit in
-    rw (to_z-of_z w64 c.div_mod_floor-whole.result.0 (search rules)) (nearer_fits s c.neighbours.ensures.neighbours c.neighbours.ensures.none_between c.nearer-nearest.ensures (search rules))
+    let at = goal.at.numerator-requires-clause-fits c in
+    rw (to_z-of_z w64 c.div_mod_floor-whole.result.0 (search rules)) (fits_with_whole (split at.After-unsigned_abs-limit) (near at.After-nearer-nearest) (search rules))
 
 pub overflow_cast-result : goal.overflow_cast-result
-overflow_cast-result c = natural_fits (small (goal.at.overflow_cast-result c).After-nearer-nearest)
+overflow_cast-result c = record { sfits = omega (arith, small (goal.at.overflow_cast-result c).After-nearer-nearest) }
 
 pub invariant_of-result : goal.invariant_of-result
 invariant_of-result c =
     let at = goal.at.invariant_of-result c in
     let den = to_z_pos w64 c.nearer-nearest.result.den (small at.After-nearer-nearest) in
-    let reduced = nearer_is_reduced (split at.After-unsigned_abs-limit) c.neighbours.ensures.neighbours c.neighbours.ensures.none_between c.nearer-nearest.ensures in
+    let reduced = reduced_with_whole (split at.After-unsigned_abs-limit) (near at.After-nearer-nearest) in
     record { reduced = rw (to_z-of_z w64 c.numerator.result (search rules), den, sum at.After-numerator) reduced }
 
 pub returns : goal.returns
 returns c =
     let at = goal.at.returns c in
     let den = to_z_pos w64 c.nearer-nearest.result.den (small at.After-nearer-nearest) in
-    let nearest = nearer_is_nearest (split at.After-unsigned_abs-limit) c.neighbours.ensures.neighbours c.neighbours.ensures.none_between c.nearer-nearest.ensures in
+    let nearest = nearest_with_whole (split at.After-unsigned_abs-limit) (near at.After-nearer-nearest) in
     rw (to_z-of_z w64 c.numerator.result (search rules), den, sum at.After-numerator) (rw (limit at.After-nearer-nearest).0 at nearest)

@@ -1,5 +1,5 @@
 use Rattle.std.specs.Int.{int_pow}
-use Rattle.std.proofs.Common.{◌≡◌, Err, FitsSigned, inl, inr, of_z, rules, to_z, w64}
+use Rattle.std.proofs.Common.{◌≡◌, Err, inl, inr, of_z, rules, to_z, w64}
 use Rattle.ratio64.proofs.FractionPowers.{power_reduced}
 use Rattle.ratio64.proofs.ReducedAnswers.{reduced_answer, reduced_refused}
 use Rattle.ratio64.specs.declared.error.RatioError.TheVariants.{NotFitting}
@@ -8,17 +8,13 @@ use Rattle.ratio64.proofs.fraction.Ratio.power.Goals as goal
 
 pub returns-in_err-num : goal.returns-in_err-num
 returns-in_err-num c =
-    let x = c.args.self.now in
-    let outside : ¬ (FitsSigned w64 (int_pow (num_of x) c.args.degree)) = search rules in
     let is : c.from_residual.result ≡ Err NotFitting = search rules in
-    rw is (reduced_refused (power_reduced c.args.degree x.reduced) (inl outside))
+    rw is (reduced_refused (power_reduced c.args.degree c.args.self.now.reduced) (inl (search rules)))
 
 pub returns-in_err-den : goal.returns-in_err-den
 returns-in_err-den c =
-    let x = c.args.self.now in
-    let outside : ¬ (FitsSigned w64 (int_pow (den_of x) c.args.degree)) = search rules in
     let is : c.from_residual-in_err-den.result ≡ Err NotFitting = search rules in
-    rw is (reduced_refused (power_reduced c.args.degree x.reduced) (inr outside))
+    rw is (reduced_refused (power_reduced c.args.degree c.args.self.now.reduced) (inr (search rules)))
 
 pub invariant_of-result : goal.invariant_of-result
 invariant_of-result c =
@@ -28,5 +24,4 @@ invariant_of-result c =
     record { reduced = rw (num, den) (power_reduced c.args.degree x.reduced) }
 
 pub returns : goal.returns
-returns c =
-    reduced_answer _ (power_reduced c.args.degree c.args.self.now.reduced) (search rules) (search rules) (search rules) (search rules)
+returns c = reduced_answer _ (search rules) (search rules) (search rules) (search rules)
