@@ -1,6 +1,6 @@
 -- Powers, multiplied out and compared.
 use Rattle.std.specs.Prelude.{◌≡◌, ◌≢◌, ◌/◌, ◌%◌, ◌*◌, ◌^◌, ◌+◌, ◌<◌, ◌≤◌}
-use Rattle.integer_core.proofs.Common.{ℕ, suc, zero, ap, refl, ◌∙◌, arith, pos, mul-le-mul_left, mul-le-mul_right, mul-one, mul-pos, pow-add, pow_mono, ints, pow-zero, pow-succ', pow-le-pow_left, pow-le-pow_right, pow-lt-pow_left, lt_of_not-le}
+use Rattle.integer_core.proofs.Common.{ℕ, suc, zero, ap, refl, ◌∙◌, arith, pos, div-div-eq-div-mul, div-le_self, mul-one, pow-add, pow-suc, pow_mono, ints, pow-zero, pow-succ', pow-le-pow_left, pow-le-pow_right, pow-lt-pow_left, lt_of_not-le}
 use Rattle.integer_roots.specs.RootOf.{IsFloorRoot}
 
 -- the first three powers
@@ -26,46 +26,26 @@ pub power_of_power : (b i j : ℕ) → (b ^ i) ^ j ≡ b ^ (i * j)
 power_of_power b i zero = let e : i * 0 ≡ 0 = omega arith in rw (e, pow-zero (b ^ i), pow-zero b) refl
 power_of_power b i (suc j) = let e : i * suc j ≡ i + i * j = omega arith in rw (e, pow-succ' (b ^ i) j, power_of_power b i j, pow-add b i) refl
 
--- a power by squares: what is computed already, and the power of the square that is left of the whole
-pub record IsPowerLeft (power square rest whole : ℕ) : Type 0 where
-  pub power_positive : 0 < power
-  pub square_positive : 0 < square
-  pub rest_positive : 0 < rest
-  pub left : power * square ^ rest ≡ whole
+-- the power whose degree has the bits of k from the place p up, by the power whose degree has those above
+module _ (x k : ℕ) {place p power : ℕ} (next : place ≡ suc p) (known : power ≡ x ^ (k / 2 ^ place)) where
+  half : k / 2 ^ p / 2 ≡ k / 2 ^ place
+  half = rw (next, pow-suc) (div-div-eq-div-mul k (2 ^ p) 2)
 
-module _ {power square rest whole : ℕ} (v : IsPowerLeft power square rest whole) where
-  halved : (square * square) ^ (rest / 2) ≡ square ^ (2 * (rest / 2))
-  halved = rw (← power_two square) (power_of_power square 2 (rest / 2))
+  pub even_next : k / 2 ^ p % 2 ≢ 1 → power * power ≡ x ^ (k / 2 ^ p)
+  even_next even =
+      let e : k / 2 ^ p ≡ k / 2 ^ place + k / 2 ^ place = omega (arith, half) in
+      rw (e, known, pow-add) refl
 
-  pub even_left : 1 < rest → rest % 2 ≢ 1 → IsPowerLeft power (square * square) (rest / 2) whole
-  even_left more even =
-      let e : 2 * (rest / 2) ≡ rest = omega arith in
-      let squared = mul-pos v.square_positive v.square_positive in
-      record { power_positive = v.power_positive; square_positive = squared; rest_positive = omega arith; left = rw (halved, e) v.left }
+  pub odd_next : k / 2 ^ p % 2 ≡ 1 → power * power * x ≡ x ^ (k / 2 ^ p)
+  odd_next odd =
+      let e : k / 2 ^ p ≡ suc (k / 2 ^ place + k / 2 ^ place) = omega (arith, half) in
+      rw (e, known, pow-succ', pow-add) (omega arith)
 
-  pub odd_left : 1 < rest → rest % 2 ≡ 1 → IsPowerLeft (power * square) (square * square) (rest / 2) whole
-  odd_left more odd =
-      let e : rest ≡ suc (2 * (rest / 2)) = omega arith in
-      record {
-        power_positive = mul-pos v.power_positive v.square_positive;
-        square_positive = mul-pos v.square_positive v.square_positive;
-        rest_positive = omega arith;
-        left = rw halved (omega (arith, v.left, rw pow-succ' at (ap (λ (k : ℕ). power * square ^ k) e)));
-      }
-
-  -- neither factor is above the whole
-  pub product_within : power * square ≤ whole
-  product_within =
-      let up = rw (power_one square) at (pow-le-pow_right v.square_positive {i = 1} {j = rest} v.rest_positive) in
-      omega (arith, v.left, mul-le-mul_left power up)
-
-  pub square_within : 1 < rest → square * square ≤ whole
-  square_within more =
-      let up = rw (power_two square) at (pow-le-pow_right v.square_positive {i = 2} {j = rest} more) in
-      omega (arith, v.left, up, mul-le-mul_right (square ^ rest) v.power_positive)
-
-  pub last_left : rest ≡ 1 → power * square ≡ whole
-  last_left one = rw (one, power_one) at v.left
+  -- its square is not above the power of k
+  pub square_within : 0 < x → power * power ≤ x ^ k
+  square_within positive =
+      let h : ℕ = k / 2 ^ place in
+      rw known (omega (arith, pow-add x h h, pow-le-pow_right positive {i = h + h} {j = k} (omega (arith, half, div-le_self k (2 ^ p)))))
 
 -- a base is below another if its power is, and the place of a number's highest bit is at least that of each power of two up to it
 pub base_below : (x y n : ℕ) → x ^ n < y ^ n → x < y

@@ -1,12 +1,10 @@
 -- Newton's step for the root of any degree, over natural numbers, and the guesses of the two loops, which stay above 1 and small.
 use Rattle.std.specs.Prelude.{◌≡◌, ◌+◌, ◌-◌, ◌*◌, ◌/◌, ◌%◌, ◌^◌, ◌<◌, ◌≤◌}
-use Rattle.integer_core.proofs.Common.{pos, ℕ, zero, suc, arith, mul-le-mul_left, mul-le-mul_right, div-mul-le_self, pow_mono, pow_pos, pow-succ', pow-le-pow_left, pow-le-pow_right, one_shl, inl, inr, refl, div-lt_iff_lt-mul, pow-zero, one-le-pow, add-mul-div_right, one-mul, lt_of_not-le, le-div, cases_lt}
-use Rattle.std.specs.Int.{div_ceil}
-use Rattle.std.proofs.lemmas.Grind.{div_ceil_times}
+use Rattle.integer_core.proofs.Common.{pos, ℕ, zero, suc, arith, mul-le-mul_left, mul-le-mul_right, div-mul-le_self, pow-add, pow_mono, pow_pos, pow-succ', pow-le-pow_left, pow-le-pow_right, one_shl, inl, inr, refl, div-lt_iff_lt-mul, pow-zero, one-le-pow, add-mul-div_right, one-mul, lt_of_not-le, le-div, cases_lt}
 use Rattle.integer_roots.specs.RootOf.{IsFloorRoot}
 use Rattle.integer_roots.specs.SquareRuns.{Guess, Rising, Falling, square_step}
 use Rattle.integer_roots.specs.NewtonRuns.{guess_of, IsReached, begins, rises, goes_over, falls, newton_step}
-use Rattle.integer_roots.proofs.Powers.{power_one, power_of_power, base_below, floor_root, power_two}
+use Rattle.integer_roots.proofs.Powers.{power_one, power_of_power, base_below, floor_root, highest_bit, power_two}
 
 -- two differences that are not negative, q - p and t - r, have a product that is not
 pub cross : (p q r t : ℕ) → p ≤ q → r ≤ t → p * t + q * r ≤ p * r + q * t
@@ -91,28 +89,23 @@ pub record IsStart (step : ℕ → ℕ → Type 0) (a n limit first : ℕ) : Typ
   pub near : a < 2 * first ^ n
 
 -- the first guess has one bit, whose place is that of the number's highest, divided by the degree and rounded up
-pub start : {step : ℕ → ℕ → Type 0} {a n limit : ℕ} (top place : ℕ) → ((x y : ℕ) → step x y → y ≡ newton_step a n x) → 0 < n → n ≤ top → top < 64
-    → (top ≤ place * n) × (place * n < top + n) → 2 ^ top ≤ a → a < 2 * 2 ^ top → a < limit ^ n → IsStart step a n limit (1 * 2 ^ place % 2 ^ 64)
-start top zero newton degree le small place low high limited = absurd (omega arith)
-start {a = a} {n = n} {limit = limit} top (suc k) newton degree le small place low high limited =
+pub start : {step : ℕ → ℕ → Type 0} {a n limit : ℕ} (top place : ℕ) → ((x y : ℕ) → step x y → y ≡ newton_step a n x) → 0 < n → 2 ^ n ≤ a
+    → top < 64 → (top ≤ place * n) × (place * n < top + n) → 2 ^ top ≤ a → a < 2 * 2 ^ top → a < limit ^ n
+    → IsStart step a n limit (1 * 2 ^ place % 2 ^ 64)
+start {a = a} {n = n} top zero newton degree power small place low high limited =
+    absurd (omega (arith, highest_bit a n top power (omega (arith, pow-add 2 top 1))))
+start {a = a} {n = n} {limit = limit} top (suc k) newton degree power small place low high limited =
     let bit : 2 ^ suc k ≡ 2 * 2 ^ k = pow-succ' 2 k in
     let half : 2 ^ k < limit = base_below (2 ^ k) limit n (omega (arith, power_of_power 2 k n, pow_mono {i = k * n} {j = top} (omega arith))) in
     rw (one_shl (suc k) 64 (omega (arith, mul-le-mul_left k degree))) (record {
       newton = newton;
       degree = degree;
-      power_le = omega (arith, pow_mono {i = n} {j = top} le);
+      power_le = power;
       limited = limited;
       above_one = omega (arith, pow_pos k);
       small = omega arith;
       near = omega (arith, power_of_power 2 (suc k) n, pow_mono {i = top} {j = suc k * n} place.0);
     })
-
--- from degree 3 up the root has at most 22 bits
-pub start_from_three : {a n top place : ℕ} → place ≡ div_ceil top n → 3 ≤ n → n ≤ top → top < 64 → a < 2 ^ 64 → 2 ^ top ≤ a → a < 2 * 2 ^ top
-    → IsStart (λ x y. y ≡ newton_step a n x) a n (2 ^ 22) (1 * 2 ^ place % 2 ^ 64)
-start_from_three {a} {n} {top} {place} is degree le small fits low high =
-    start top place (λ x y step. step) (omega arith) le small (rw is (div_ceil_times top n (omega arith))) low high
-    (omega (arith, pow-le-pow_right {n = 2 ^ 22} (omega arith) {i = 3} {j = n} degree))
 
 -- each turn of the first loop steps up
 rises_from_first : {step : ℕ → ℕ → Type 0} {first x turns : ℕ} → IsReached step first (Rising x) turns → first + turns ≤ x

@@ -5,7 +5,7 @@ use Rattle.integer_core.proofs.Runs.{Reaches, reaches_first, reaches_turn, reach
 use Rattle.integer_roots.specs.SquareRuns.{square_step, Guess, Rising, Falling, IsNewtonTurn, NewtonEnds, IsHighestBit, first_guess, AreSquareRootTurns}
 use Rattle.integer_roots.specs.NewtonRuns.{guess_of, IsReached, begins, rises, goes_over, falls}
 use Rattle.integer_roots.proofs.RootGuesses.{cross, square_step_is, IsStart, start, in_range}
-use Rattle.integer_roots.proofs.Powers.{highest_bit, power_two}
+use Rattle.integer_roots.proofs.Powers.{power_two}
 
 -- the factor after a number of turns: that factor, times the excess of the guess's square over a, is at most a
 abbrev pub closeness : ℕ → ℕ
@@ -80,7 +80,7 @@ pub square_start : (a top : ℕ) → 4 ≤ a → a < 2 ^ 64 → top < 64 → 2 ^
 square_start a top least fits small low high =
     let highest : IsHighestBit a top = record { power_le = low; next_power_gt = omega (arith, pow-add 2 top 1) } in
     record {
-      start = start top ((top + 1) / 2) (λ x y is. is ∙ square_step_is a x) (omega arith) (highest_bit a 2 top least highest.next_power_gt) small (omega arith, omega arith) low high fits;
+      start = start top ((top + 1) / 2) (λ x y is. is ∙ square_step_is a x) (omega arith) least small (omega arith, omega arith) low high fits;
       top = top;
       highest = highest;
       is = one_shl _ 64 (omega arith);

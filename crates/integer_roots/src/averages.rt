@@ -1,10 +1,8 @@
 //! Averages. Those of the native types are computed from the bits of both numbers.
 
-ghost use Rattle.integer_core.specs.TwosComplement.{IsTwosComplement};
 ghost use Rattle.integer_roots.specs.Averages.{IsAverageCeil, IsAverageFloor};
 
 use integer_core::{Integer, NativeInteger};
-use num_traits::PrimInt;
 
 /// Averages of two integers. They never overflow: `i64::MAX.average_ceil(&i64::MAX)` is `i64::MAX`.
 pub trait Average: Integer {
@@ -57,8 +55,7 @@ impl<T: NativeInteger> Average for T {
 
 /// Returns the averages rounded down and up. The first is the sum of the bits that both numbers have and
 /// half of those that only one has; the second is the bits that either has, minus that half.
-fn both_averages<T: PrimInt>(a: T, b: T) -> (T, T)
-    requires complement { IsTwosComplement T.width (λ n. T.value (T.of_bits n)) }
+fn both_averages<T: NativeInteger>(a: T, b: T) -> (T, T)
     requires in_range { T.fits (T.value a) × T.fits (T.value b) }
     ensures in_range { T.fits (T.value result.0) × T.fits (T.value result.1) }
     ensures floor { IsAverageFloor (T.value a) (T.value b) (T.value result.0) }

@@ -4,7 +4,7 @@ ghost use Rattle.std.specs.Prelude.{◌≡◌, ◌≤◌, ◌<◌, ◌^◌, pos}
 ghost use Rattle.integer_roots.specs.RootOf.{IsFloorRoot};
 ghost use Rattle.integer_roots.specs.NewtonRuns.{newton_step};
 
-use crate::newton::newton;
+use crate::newton::root_by_newton;
 
 /// Returns the cube root of `a`, a number of a type of `bits` bits.
 pub(crate) fn cube_root(a: u64, bits: u32) -> u64
@@ -31,7 +31,7 @@ fn wide_cube_root(a: u64) -> u64
     }
 }
 
-/// Returns the cube root of `a`, by Newton's method. The first guess is a power of two near the root.
+/// Returns the cube root of `a`, by Newton's method.
 #[tactic(auto, using(crate::proofs::RootGuesses::cube_step_is))]
 fn cube_root_by_newton(a: u64) -> u64
     requires from_eight { 8 ≤ a }
@@ -42,7 +42,7 @@ fn cube_root_by_newton(a: u64) -> u64
         requires small { x ≤ 2 ^ 24 }
         ensures { result ≡ newton_step a 3 x }
     { (a / (x * x) + 2 * x) / 3 };
-    newton(1 << a.ilog2().div_ceil(3), step).0
+    root_by_newton(a, 3, step)
 }
 
 /// Returns the cube root of `a`, a number of `bits` bits. Each three bits of `a` give a digit of the root,

@@ -5,9 +5,10 @@ ghost use Rattle.integer_roots.specs.RootOf.{IsFloorRoot};
 ghost use Rattle.integer_roots.specs.NewtonRuns.{newton_step};
 ghost use Rattle.std.specs.Option.{SomeIff};
 
-use crate::newton::newton;
+use crate::newton::root_by_newton;
 
-/// Returns the root of `a` of degree `n`. The first guess is a power of two near the root.
+/// Returns the root of `a` of degree `n`.
+#[tactic(auto, using(crate::proofs::RootGuesses::root_step_fits))]
 pub(crate) fn root_of_degree(a: u64, n: u32) -> u64
     requires degree { 3 ≤ n }
     ensures root { IsFloorRoot (pos a) n (pos result) }
@@ -26,7 +27,7 @@ pub(crate) fn root_of_degree(a: u64, n: u32) -> u64
         requires small { x ≤ 2 ^ 24 }
         ensures { result ≡ newton_step a n x }
     { (quotient_by_power(a, x, n - 1) + u64::from(n - 1) * x) / u64::from(n) };
-    newton(1 << top.div_ceil(n), step).0
+    root_by_newton(a, n, step)
 }
 
 /// Returns the quotient of `a` by the power of `x` of degree `k`, or 0 if the power does not fit. If
@@ -50,21 +51,21 @@ fn quotient_by_power(a: u64, x: u64, k: u32) -> u64
     }
 }
 
-/// Returns the power of `x` of degree `k`, or `None` if it does not fit.
+/// Returns the power of `x` of degree `k`, or `None` if it does not fit. Each bit of `k` after the highest
+/// squares the power.
 fn checked_power(x: u64, k: u32) -> Option<u64>
     requires positive { 0 < x }
     requires degree { 0 < k }
     ensures { SomeIff result (x ^ k < 2 ^ 64) (x ^ k) }
 {
-    let (mut power, mut square, mut rest) = (1_u64, x, k);
-    while rest > 1 {
-        if rest % 2 == 1 {
-            power = checked_product(power, square)?;
+    let mut power = x;
+    for place in (0..k.ilog2()).rev() {
+        power = checked_product(power, power)?;
+        if (k >> place) % 2 == 1 {
+            power = checked_product(power, x)?;
         }
-        square = checked_product(square, square)?;
-        rest /= 2;
     }
-    checked_product(power, square)
+    Some(power)
 }
 
 /// Returns the product, or `None` if it does not fit.

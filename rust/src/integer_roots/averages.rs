@@ -2,7 +2,6 @@
 //! Averages. Those of the native types are computed from the bits of both numbers.
 
 use crate::integer_core::{Integer, NativeInteger};
-use num_traits::PrimInt;
 
 /// Averages of two integers. They never overflow: `i64::MAX.average_ceil(&i64::MAX)` is `i64::MAX`.
 ///
@@ -135,7 +134,7 @@ impl<T: NativeInteger> Average for T {
 /// Returns the averages rounded down and up. The first is the sum of the bits that both numbers
 /// have and half of those that only one has; the second is the bits that either has, minus that
 /// half.
-fn both_averages<T: PrimInt>(a: T, b: T) -> (T, T) {
+fn both_averages<T: NativeInteger>(a: T, b: T) -> (T, T) {
     let both = a & b;
     let either = a | b;
     let half = (a ^ b) >> 1;

@@ -17,7 +17,7 @@ are_averages g c =
     let b_fits = c.requires.in_range.1 in
     let a_is = ap g.T.Number.value (fixed.value_round_trip_law _ a_fits) in
     let b_is = ap g.T.Number.value (fixed.value_round_trip_law _ b_fits) in
-    rw (half, one, both, either) (averages (λ x y z. g.T.Number.between_law x y z g.met.T.Integral.exact_law) c.requires.complement a_fits b_fits a_is b_is (fixed.bits_of_law _ a_fits) (fixed.bits_of_law _ b_fits))
+    rw (half, one, both, either) (averages (λ x y z. g.T.Number.between_law x y z g.met.T.Integral.exact_law) g.met.T.Native.native_law.complement a_fits b_fits a_is b_is (fixed.bits_of_law _ a_fits) (fixed.bits_of_law _ b_fits))
 
 pub add-requires : goal.add-requires
 add-requires g c = g.met.T.Zero.can_add_law _ _ (λ _. (are_averages g c).floor.1)

@@ -1,9 +1,8 @@
-use Rattle.std.proofs.Common.{◌^◌}
-use Rattle.integer_roots.proofs.Powers.{IsPowerLeft}
+use Rattle.std.proofs.Common.{◌≡◌, ◌/◌, ◌^◌, ◌<◌}
 use Rattle.integer_roots.proofs.root_of_degree.checked_power.Given as goal
 
-abbrev pub invariant-loop-rest : goal.invariant-loop-rest
-invariant-loop-rest l = IsPowerLeft l.power l.square l.rest (l.fn.x ^ l.fn.k)
-
-abbrev pub decreases-loop-rest : goal.decreases-loop-rest
-decreases-loop-rest l = l.rest
+abbrev pub invariant-loop-place : goal.invariant-loop-place
+invariant-loop-place l = record {
+  is : l.power ≡ l.fn.x ^ (l.fn.k / 2 ^ l.place);
+  fits : l.power < 2 ^ 64;
+}
