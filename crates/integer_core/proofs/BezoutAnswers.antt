@@ -1,11 +1,8 @@
 -- Bezout's coefficients: one pair alone is small, a row of the loop gives the answer, and each pair of numbers has one answer.
-use Rattle.std.specs.Prelude.{◌≡◌, ◌≢◌, ◌<◌, ◌*ℤ◌, ◌⊎◌, ◌≤◌, ◌+◌, ◌*◌, ◌-ℤ◌}
-use Rattle.integer_core.proofs.Common.{ℤ, pos, negsuc, unsigned_abs, arith, inl, inr, sym, ◌∙◌, ap, zero-*ℤ, *ℤ-zero, +ℤ_idl, +ℤ_idr, ints, unsigned_abs-mul, abs_is, linear, products, expand, comm, Divides, IsGreatestCommonDivisor, IsOnly, ℕ, refl, mul-le-mul_left, eq_of_mul-eq-mul_left, lt_of_mul-lt-mul_right, cases_lt}
-use Rattle.integer_core.proofs.CommonDivisors.{only_gcd, gcd-divisor, gcd-swap, gcd-nonzero, gcd-zero}
-use Rattle.integer_core.proofs.Divisibility.{Divides-zero, cancel, divides_or_not}
+use Rattle.integer_core.proofs.Common.{◌≡◌, ◌≢◌, ◌<◌, ◌*ℤ◌, ◌⊎◌, ◌≤◌, ◌+◌, ◌*◌, ◌-ℤ◌, IsBezoutAnswer, IsSmallPair, NeedsBoth, SecondDividesFirst, sign, FirstDividesSecond, ℤ, pos, negsuc, unsigned_abs, arith, inl, inr, sym, ◌∙◌, ap, zero-*ℤ, *ℤ-zero, +ℤ_idl, +ℤ_idr, ints, unsigned_abs-mul, abs_is, linear, products, expand, comm, Divides, IsGreatestCommonDivisor, IsOnly, refl, mul-le-mul_left, eq_of_mul-eq-mul_left, lt_of_mul-lt-mul_right, cases_lt}
+use Rattle.integer_core.proofs.Divisibility.{Divides-zero, cancel, divides_decided, divides_or_not, only_gcd, gcd-divisor, gcd-swap, gcd-nonzero, gcd-zero}
 use Rattle.integer_core.proofs.Quotients.{small_multiple, zero_or_not}
 use Rattle.integer_core.proofs.Whole.{mul-one}
-use Rattle.integer_core.specs.Bezout.{IsBezoutAnswer, IsSmallPair, NeedsBoth, SecondDividesFirst, sign, FirstDividesSecond}
 use Rattle.integer_core.proofs.Rows.{rows_first, last_rows, last_gcd, last_at_once, last_after_turns}
 
 small_pair_swapped : {a b g x y : ℤ} → IsSmallPair a b g x y → IsSmallPair b a g y x
@@ -34,14 +31,12 @@ determinant {a} {b} {g} {x} {y} {z} {w} nonzero h i =
     record {
       at_most_one = λ b_nonzero.
           let less : unsigned_abs k * unsigned_abs b < 2 * unsigned_abs b = omega (arith, linear, abs_is, h.x_small, i.x_small) in
-          let few = lt_of_mul-lt-mul_right (unsigned_abs b) less in
-          omega arith;
+          omega (arith, lt_of_mul-lt-mul_right (unsigned_abs b) less);
       of_zero = λ none.
-          let no_product = ap (λ (n : ℕ). n * unsigned_abs b) none in
-          let no_gap = eq_of_mul-eq-mul_left (unsigned_abs g) positive (unsigned_abs (x -ℤ z)) 0 (omega arith) in
+          let no_gap = eq_of_mul-eq-mul_left (unsigned_abs g) positive (unsigned_abs (x -ℤ z)) 0 (omega (arith, rw none at product)) in
           omega (arith, linear, abs_is);
       of_one = λ one.
-          let whole = ap (λ (n : ℕ). n * unsigned_abs b) one in
+          let whole = rw one at product in
           eq_of_mul-eq-mul_left (unsigned_abs g) positive (unsigned_abs x) (unsigned_abs z) (omega (arith, h.x_small, i.x_small));
     }
 
@@ -60,9 +55,7 @@ only_small {a} {b} {g} {x} {y} b_nonzero g_nonzero h (z, w) i =
           let same : unsigned_abs (x *ℤ w) ≡ unsigned_abs (y *ℤ z) =
           simp (unsigned_abs-mul, first.of_one one, second.of_one (opposite ∙ one)) (omega arith) in
           absurd (differ_by_even (x *ℤ w) (y *ℤ z) same one)
-      | inr none ↦
-          let zero : unsigned_abs (x *ℤ w -ℤ y *ℤ z) ≡ 0 = omega arith in
-          rw (first.of_zero zero, second.of_zero (opposite ∙ zero)) refl
+      | inr none ↦ rw (first.of_zero (omega arith), second.of_zero (omega (arith, opposite))) refl
     ]
 
 -- ---- a row r, x, y under the sign of r
@@ -88,8 +81,7 @@ small_alone {a} {b} {g} {x} {y} greatest divides nonzero h =
     let is : g ≡ pos (unsigned_abs a) = only_gcd greatest (gcd-swap (gcd-divisor divides)) in
     let less : unsigned_abs (y *ℤ a) < unsigned_abs a = omega (arith, linear, abs_is, unsigned_abs-mul y a, rw is at h.y_small) in
     let none = small_multiple y a less in
-    let rest = ap (λ (t : ℤ). t *ℤ b) none ∙ zero-*ℤ b in
-    let size : x *ℤ a ≡ pos (unsigned_abs a) = omega (arith, linear) in
+    let size : x *ℤ a ≡ pos (unsigned_abs a) = omega (arith, products, rw (none, is) at h.equation) in
     (cancel a x (sign a) nonzero (comm a x ∙ size ∙ sym (sign_size a) ∙ comm (sign a) a), none)
 
 -- ---- the answer
@@ -147,19 +139,11 @@ bezout_answer_exists a b = elim (zero_or_not b) [
 
 -- a pair is in one of the three cases of an answer
 three_cases : (a b : ℤ) → SecondDividesFirst a b ⊎ (((¬ (SecondDividesFirst a b)) × FirstDividesSecond a b) ⊎ NeedsBoth a b)
-three_cases a b = elim (zero_or_not b) [
-  | inl none ↦ inr (inl (λ second. second.nonzero none, inl none))
-  | inr nonzero ↦ elim (divides_or_not b a nonzero) [
-    | inl divides ↦ inl (record { nonzero = nonzero; divides = divides })
-    | inr not_second ↦ elim (divides_or_not a b (λ none. not_second (rw none (Divides-zero b)))) [
-      | inl divides ↦ inr (inl (λ second. not_second second.divides, inr divides))
-      | inr not_first ↦ inr (inr (record {
-        not_second = λ second. not_second second.divides;
-        not_first = elim [ inl none ↦ nonzero none | inr divides ↦ not_first divides ];
-      }))
-    ]
-  ]
-]
+three_cases a b =
+    let zero = zero_or_not b in
+    let second = divides_decided b a in
+    let first = divides_decided a b in
+    grind arith
 
 pub bezout_answer_is_only : (a b g x y : ℤ) → IsBezoutAnswer a b g x y → IsOnly (λ (h, z, w). IsBezoutAnswer a b h z w) (g, x, y)
 bezout_answer_is_only a b g x y p (h, z, w) q =

@@ -1,48 +1,13 @@
 -- Greatest common divisors and least common multiples.
-use Rattle.std.specs.Prelude.{◌≡◌, ◌≢◌, ◌⊎◌, ◌<◌, ◌≤ℤ◌, ◌<ℤ◌, ◌+ℤ◌, ◌-ℤ◌, ◌*ℤ◌, ◌↔◌}
-use Rattle.integer_core.proofs.Common.{ℤ, ℕ, pos, unsigned_abs, zero, suc, int_div, int_rem, arith, inl, inr, sym, ◌∙◌, ints, unsigned_abs-mul, linear, sizes, products, expand, comm, left_comm, dist-left, IsDivision, Divides, IsGreatestCommonDivisor, IsLeastCommonMultiple, negsuc, GcdFits, IsRange, EachFits}
-use Rattle.integer_core.proofs.Quotients.{zero_or_not, truncated_is}
-use Rattle.integer_core.proofs.Divisibility.{Divides-trans, Divides-zero, Divides-antisym, zero_divides, magnitude_divides, divides_magnitude, Divides-sum, divides_number, divides_remainder, Divides-times, Divides-cancel, exact_quotient, divisor_size}
+use Rattle.integer_core.proofs.Common.{◌≡◌, ◌≢◌, ◌⊎◌, ◌<◌, ◌≤ℤ◌, ◌*ℤ◌, ◌↔◌, ℤ, pos, unsigned_abs, int_div, arith, inl, inr, sym, ints, unsigned_abs-mul, linear, sizes, products, comm, left_comm, dist-left, Divides, IsGreatestCommonDivisor, IsLeastCommonMultiple, negsuc, GcdFits, IsRange, EachFits}
+use Rattle.integer_core.proofs.Quotients.{zero_or_not}
+use Rattle.integer_core.proofs.Divisibility.{Divides-trans, Divides-zero, Divides-antisym, magnitude_divides, divides_magnitude, Divides-sum, Divides-times, Divides-cancel, exact_quotient, divisor_size}
 use Rattle.integer_core.proofs.Ranges.{within_fits}
+use Rattle.integer_core.proofs.BezoutAnswers.{bezout_answer_exists}
+pub use Rattle.integer_core.proofs.Divisibility.{only_gcd, gcd-swap, gcd-nonzero, gcd-positive, gcd-divisor, gcd-zero, gcd-remainder}
+pub use Rattle.integer_core.proofs.Ranges.{no_minus_one}
 
 -- ---- greatest common divisors
-
--- the only one
-pub only_gcd : {a b g h : ℤ} → IsGreatestCommonDivisor a b g → IsGreatestCommonDivisor a b h → g ≡ h
-only_gcd x y = Divides-antisym x.from_zero y.from_zero (y.greatest _ x.divides_left x.divides_right) (x.greatest _ y.divides_left y.divides_right)
-
--- the gcd in the other order is the same
-pub gcd-swap : {a b g : ℤ} → IsGreatestCommonDivisor a b g → IsGreatestCommonDivisor b a g
-gcd-swap x = record { from_zero = x.from_zero; divides_left = x.divides_right; divides_right = x.divides_left; greatest = λ d h k. x.greatest d k h }
-
--- it is 0 for 0 and 0 alone
-pub gcd-nonzero : {a b g : ℤ} → IsGreatestCommonDivisor a b g → b ≢ pos 0 → g ≢ pos 0
-gcd-nonzero x nonzero none = nonzero (zero_divides (rw none at x.divides_right))
-
-pub gcd-positive : {a b g : ℤ} → IsGreatestCommonDivisor a b g → b ≢ pos 0 → pos 0 <ℤ g
-gcd-positive x nonzero = let g_nonzero = gcd-nonzero x nonzero in omega (arith, linear)
-
--- the gcd of a number and a divisor is the magnitude of the divisor
-pub gcd-divisor : {d n : ℤ} → Divides d n → IsGreatestCommonDivisor n d (pos (unsigned_abs d))
-gcd-divisor {d} h = record {
-  from_zero = omega (arith, ints);
-  divides_left = Divides-trans (magnitude_divides d) h;
-  divides_right = magnitude_divides d;
-  greatest = λ c left right. Divides-trans right (divides_magnitude d);
-}
-
--- the gcd with 0 is the magnitude
-pub gcd-zero : (a : ℤ) → IsGreatestCommonDivisor a (pos 0) (pos (unsigned_abs a))
-gcd-zero a = gcd-swap (gcd-divisor (Divides-zero a))
-
--- a number and a divisor have that of the divisor and the remainder
-pub gcd-remainder : {g n d q r : ℤ} → IsDivision n d q r → IsGreatestCommonDivisor d r g → IsGreatestCommonDivisor n d g
-gcd-remainder x y = record {
-  from_zero = y.from_zero;
-  divides_left = divides_number x y.divides_left y.divides_right;
-  divides_right = y.divides_left;
-  greatest = λ u h k. y.greatest u k (divides_remainder x h k);
-}
 
 -- two numbers have that of their magnitudes
 pub gcd-magnitudes : {a b m n g : ℤ} → m ≡ pos (unsigned_abs a) → n ≡ pos (unsigned_abs b) → IsGreatestCommonDivisor m n g → IsGreatestCommonDivisor a b g
@@ -53,33 +18,14 @@ gcd-magnitudes {a} {b} e f x = record {
   greatest = λ d h k. x.greatest d (rw e (Divides-trans h (divides_magnitude a))) (rw f (Divides-trans k (divides_magnitude b)));
 }
 
-combined-remainder : {n d q r g : ℤ} (x y : ℤ) → IsDivision n d q r → g ≡ x *ℤ d +ℤ y *ℤ r → g ≡ y *ℤ n +ℤ (x -ℤ q *ℤ y) *ℤ d
-combined-remainder x y h e = e ∙ simp (h.equation, expand) (omega (arith, linear))
-
--- every pair has one, by multiples of the two
-gcd_combined : (a b : ℤ) → (g x y : ℤ) × IsGreatestCommonDivisor a b g × (g ≡ x *ℤ a +ℤ y *ℤ b)
-gcd_combined a b = below (suc (unsigned_abs b)) a b (omega arith)
-  where
-    below : (size : ℕ) (a b : ℤ) → unsigned_abs b < size → (g x y : ℤ) × IsGreatestCommonDivisor a b g × (g ≡ x *ℤ a +ℤ y *ℤ b)
-    below zero a b h = absurd (omega arith)
-    below (suc size) a b h = elim (zero_or_not b) [
-      | inl none ↦
-          let size = divides_magnitude a in
-          (pos (unsigned_abs a), size.factor, pos 0, rw none (gcd-zero a), omega (arith, products))
-      | inr nonzero ↦
-          let division = (truncated_is a b nonzero).division in
-          let rest = below size b (int_rem a b) (omega arith) in
-          (rest.0, rest.2, rest.1 -ℤ int_div a b *ℤ rest.2, gcd-remainder division rest.3, combined-remainder _ _ division rest.4)
-    ]
-
 pub gcd_exists : (a b : ℤ) → (g : ℤ) × IsGreatestCommonDivisor a b g
-gcd_exists a b = let h = gcd_combined a b in (h.0, h.3)
+gcd_exists a b = let h = bezout_answer_exists a b in (h.0, h.3.greatest)
 
 -- what divides the same multiple of two numbers divides that multiple of their gcd
 pub divides_multiple : {d a b g : ℤ} (k : ℤ) → IsGreatestCommonDivisor a b g → Divides d (k *ℤ a) → Divides d (k *ℤ b) → Divides d (k *ℤ g)
 divides_multiple {a = a} {b = b} k x h m =
-    let sum = gcd_combined a b in
-    rw (only_gcd x sum.3, sum.4, dist-left, left_comm k sum.1 a, left_comm k sum.2 b) (Divides-sum sum.1 sum.2 h m)
+    let sum = bezout_answer_exists a b in
+    rw (only_gcd x sum.3.greatest, ← sum.3.equation, dist-left, left_comm k sum.1 a, left_comm k sum.2 b) (Divides-sum sum.1 sum.2 h m)
 
 -- a common factor comes out
 pub gcd-times : {a b g : ℤ} (k : ℤ) → pos 0 ≤ℤ k → IsGreatestCommonDivisor a b g → IsGreatestCommonDivisor (k *ℤ a) (k *ℤ b) (k *ℤ g)
@@ -161,19 +107,12 @@ gcd-mul-lcm x y = let lcm = lcm_of_gcd x in rw (only_lcm y lcm.1) lcm.2
 -- ---- when a greatest common divisor fits
 
 module _ {fits : ℤ → Type 0} {low high : ℤ} (range : IsRange fits low high) where
-  -- a type without negative numbers has no -1
-  pub no_minus_one : low ≡ pos 0 → ¬ (fits (negsuc 0))
-  no_minus_one none fits_it = omega (arith, linear, (range.between (negsuc 0)).0 fits_it)
-
-  -- but each gcd
+  -- in a type without negative numbers each gcd fits
   unsigned_gcd_fits : {a b : ℤ} → low ≡ pos 0 → fits a → fits b → EachFits fits (IsGreatestCommonDivisor a b)
-  unsigned_gcd_fits {a} {b} none a_fits b_fits g h =
-      let a_in = (range.between a).0 a_fits in
-      let b_in = (range.between b).0 b_fits in
-      elim (zero_or_not b) [
-        | inl b_zero ↦ let same = only_gcd (rw b_zero at h) (gcd-zero a) in within_fits range a_fits (grind (arith, sizes))
-        | inr nonzero ↦ let size = divisor_size h.divides_right nonzero in within_fits range b_fits (grind (arith, sizes))
-      ]
+  unsigned_gcd_fits {a} {b} none a_fits b_fits g h = elim (zero_or_not b) [
+    | inl b_zero ↦ within_fits range a_fits (grind (arith, sizes, only_gcd (rw b_zero at h) (gcd-zero a), (range.between a).0 a_fits))
+    | inr nonzero ↦ within_fits range b_fits (grind (arith, sizes, divisor_size h.divides_right nonzero, (range.between b).0 b_fits))
+  ]
 
   pub gcd_fits_is : {a b : ℤ} → fits a → fits b → GcdFits fits a b ↔ EachFits fits (IsGreatestCommonDivisor a b)
   gcd_fits_is a_fits b_fits = (

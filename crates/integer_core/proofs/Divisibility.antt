@@ -1,8 +1,8 @@
--- Divisors of integers.
-use Rattle.std.specs.Prelude.{◌≡◌, ◌≢◌, ◌/◌, ◌≤ℤ◌, ◌+ℤ◌, ◌-ℤ◌, ◌*ℤ◌, ◌⊎◌, ◌≤◌}
-use Rattle.integer_core.proofs.Common.{ℤ, pos, negsuc, neg_ℤ, unsigned_abs, int_div, arith, sym, ◌∙◌, ap, ints, unsigned_abs-mul, div-add-mod', dvd_antisymm, mod-eq-zero_of_dvd, ◌∣◌, linear, sizes, products, expand, comm, assoc, IsDivision, Divides, abs_is, inl, inr, int_rem, le_of_dvd}
+-- Divisors of integers, and the greatest common one.
+use Rattle.integer_core.proofs.Common.{mod-eq_of_lt, mul-div_cancel', quot-rem, ◌<ℤ◌, IsGreatestCommonDivisor, ◌≡◌, ◌≢◌, ◌/◌, ◌≤ℤ◌, ◌+ℤ◌, ◌-ℤ◌, ◌*ℤ◌, ◌⊎◌, ◌≤◌, ℤ, pos, negsuc, neg_ℤ, unsigned_abs, int_div, arith, sym, ◌∙◌, ap, ints, unsigned_abs-mul, dvd_antisymm, mod-eq-zero_of_dvd, ◌∣◌, linear, sizes, products, expand, assoc, IsDivision, Divides, abs_is, inl, inr, le_of_dvd}
+use Rattle.std.proofs.Math.Decide.{dec_dvd}
 use Rattle.integer_core.proofs.Whole.{mul-one}
-use Rattle.integer_core.proofs.Quotients.{small_multiple, truncated_is, zero_or_not}
+use Rattle.integer_core.proofs.Quotients.{small_multiple, truncated_is}
 
 pub to_natural : {u v : ℤ} → Divides u v → unsigned_abs u ∣ unsigned_abs v
 to_natural {u} h = ∣ (unsigned_abs h.factor, ap unsigned_abs h.product ∙ unsigned_abs-mul u h.factor) ∣₁
@@ -39,9 +39,8 @@ divides_magnitude (negsuc d) = record { factor = negsuc 0; product = omega (arit
 
 pub from_natural : {u v : ℤ} → unsigned_abs u ∣ unsigned_abs v → Divides u v
 from_natural {u} {v} h =
-    let exact = mod-eq-zero_of_dvd (unsigned_abs u) h in
-    let split = div-add-mod' (unsigned_abs v) (unsigned_abs u) in
-    let sizes : Divides (pos (unsigned_abs u)) (pos (unsigned_abs v)) = record { factor = pos (unsigned_abs v / unsigned_abs u); product = omega (arith, ints) } in
+    let sizes : Divides (pos (unsigned_abs u)) (pos (unsigned_abs v)) =
+    record { factor = pos (unsigned_abs v / unsigned_abs u); product = sym (ap pos (mul-div_cancel' _ h)) } in
     Divides-trans (divides_magnitude u) (Divides-trans sizes (magnitude_divides v))
 
 pub Divides-sum : {d u v : ℤ} (x y : ℤ) → Divides d u → Divides d v → Divides d (x *ℤ u +ℤ y *ℤ v)
@@ -58,26 +57,23 @@ divides_number {q = q} x h k = record { factor = q *ℤ h.factor +ℤ k.factor; 
 pub divides_remainder : {g n d q r : ℤ} → IsDivision n d q r → Divides g n → Divides g d → Divides g r
 divides_remainder {q = q} x h k = record { factor = h.factor -ℤ q *ℤ k.factor; product = rest_is x ∙ simp (h.product, k.product, expand) (omega (arith, linear)) }
 
+pub abs_zero : (z : ℤ) → unsigned_abs z ≡ 0 → z ≡ pos 0
+abs_zero z h = omega (arith, ints)
+
 -- a number leaves no remainder exactly if the divisor divides it
 pub exact_from_divides : {n d q r : ℤ} → IsDivision n d q r → Divides d n → r ≡ pos 0
-exact_from_divides {n} {d} {q} {r} x h =
-    let k = divides_remainder x h (Divides-refl d) in
-    let none = small_multiple k.factor d (rw (comm k.factor d, ← k.product) x.small) in
-    k.product ∙ rw none (omega (arith, products))
+exact_from_divides {d = d} x h =
+    abs_zero _ (sym (mod-eq_of_lt x.small) ∙ mod-eq-zero_of_dvd _ (to_natural (divides_remainder x h (Divides-refl d))))
 
 pub divides_from_exact : {n d q r : ℤ} → IsDivision n d q r → r ≡ pos 0 → Divides d n
 divides_from_exact {q = q} x exact = record { factor = q; product = omega (arith, products) }
 
 -- ---- factors in common
 
-pub abs_zero : (z : ℤ) → unsigned_abs z ≡ 0 → z ≡ pos 0
-abs_zero z h = omega (arith, ints)
-
 pub cancel : (c x y : ℤ) → c ≢ pos 0 → c *ℤ x ≡ c *ℤ y → x ≡ y
 cancel c x y nonzero e =
     let gap : (x -ℤ y) *ℤ c ≡ pos 0 = simp expand (omega (arith, linear)) in
-    let none = small_multiple (x -ℤ y) c (rw gap (omega (arith, sizes))) in
-    omega (arith, linear)
+    omega (arith, linear, small_multiple (x -ℤ y) c (rw gap (omega (arith, sizes))))
 
 pub Divides-times : {u v : ℤ} (c : ℤ) → Divides u v → Divides (c *ℤ u) (c *ℤ v)
 Divides-times {u} {v} c h = record { factor = h.factor; product = ap (λ (t : ℤ). c *ℤ t) h.product ∙ sym (assoc c u h.factor) }
@@ -87,10 +83,7 @@ Divides-cancel {u} {v} c nonzero h = record { factor = h.factor; product = cance
 
 -- the quotient by a divisor is exact
 pub exact_quotient : {n d : ℤ} → d ≢ pos 0 → Divides d n → n ≡ d *ℤ int_div n d
-exact_quotient {n} {d} nonzero h =
-    let division = (truncated_is n d nonzero).division in
-    let exact = exact_from_divides division h in
-    omega (arith, products)
+exact_quotient {n} {d} nonzero h = omega (arith, products, quot-rem n d, exact_from_divides (truncated_is n d nonzero).division h)
 
 -- ---- divisors or not, and how large they are
 
@@ -98,15 +91,56 @@ exact_quotient {n} {d} nonzero h =
 pub one_divides : (n : ℤ) → Divides (pos 1) n
 one_divides n = record { factor = n; product = omega (arith, products) }
 
+-- any number divides another or not
+pub divides_decided : (d n : ℤ) → Divides d n ⊎ (¬ (Divides d n))
+divides_decided d n = elim (dec_dvd (unsigned_abs d) (unsigned_abs n)) [
+  | yes divides ↦ inl (from_natural divides)
+  | no other ↦ inr (λ divides. other (to_natural divides))
+]
+
 -- a number other than 0 divides another or not
 pub divides_or_not : (d n : ℤ) → d ≢ pos 0 → Divides d n ⊎ (¬ (Divides d n))
-divides_or_not d n nonzero =
-    let division = (truncated_is n d nonzero).division in
-    elim (zero_or_not (int_rem n d)) [
-      | inl exact ↦ inl (divides_from_exact division exact)
-      | inr rest ↦ inr (λ divides. rest (exact_from_divides division divides))
-    ]
+divides_or_not d n _ = divides_decided d n
 
 -- a divisor of a number other than 0 is at most as large
 pub divisor_size : {d n : ℤ} → Divides d n → n ≢ pos 0 → unsigned_abs d ≤ unsigned_abs n
 divisor_size h nonzero = le_of_dvd (omega (arith, linear, abs_is)) (to_natural h)
+
+-- ---- greatest common divisors
+
+-- two numbers have one greatest common divisor
+pub only_gcd : {a b g h : ℤ} → IsGreatestCommonDivisor a b g → IsGreatestCommonDivisor a b h → g ≡ h
+only_gcd x y = Divides-antisym x.from_zero y.from_zero (y.greatest _ x.divides_left x.divides_right) (x.greatest _ y.divides_left y.divides_right)
+
+-- the gcd in the other order is the same
+pub gcd-swap : {a b g : ℤ} → IsGreatestCommonDivisor a b g → IsGreatestCommonDivisor b a g
+gcd-swap x = record { from_zero = x.from_zero; divides_left = x.divides_right; divides_right = x.divides_left; greatest = λ d h k. x.greatest d k h }
+
+-- the gcd is 0 for 0 and 0 alone
+pub gcd-nonzero : {a b g : ℤ} → IsGreatestCommonDivisor a b g → b ≢ pos 0 → g ≢ pos 0
+gcd-nonzero x nonzero none = nonzero (zero_divides (rw none at x.divides_right))
+
+pub gcd-positive : {a b g : ℤ} → IsGreatestCommonDivisor a b g → b ≢ pos 0 → pos 0 <ℤ g
+gcd-positive x nonzero = let g_nonzero = gcd-nonzero x nonzero in omega (arith, linear)
+
+-- the gcd of a number and a divisor is the magnitude of the divisor
+pub gcd-divisor : {d n : ℤ} → Divides d n → IsGreatestCommonDivisor n d (pos (unsigned_abs d))
+gcd-divisor {d} h = record {
+  from_zero = omega (arith, ints);
+  divides_left = Divides-trans (magnitude_divides d) h;
+  divides_right = magnitude_divides d;
+  greatest = λ c left right. Divides-trans right (divides_magnitude d);
+}
+
+-- the gcd with 0 is the magnitude
+pub gcd-zero : (a : ℤ) → IsGreatestCommonDivisor a (pos 0) (pos (unsigned_abs a))
+gcd-zero a = gcd-swap (gcd-divisor (Divides-zero a))
+
+-- a number and a divisor have that of the divisor and the remainder
+pub gcd-remainder : {g n d q r : ℤ} → IsDivision n d q r → IsGreatestCommonDivisor d r g → IsGreatestCommonDivisor n d g
+gcd-remainder x y = record {
+  from_zero = y.from_zero;
+  divides_left = divides_number x y.divides_left y.divides_right;
+  divides_right = y.divides_left;
+  greatest = λ u h k. y.greatest u k (divides_remainder x h k);
+}

@@ -1,10 +1,8 @@
 -- Turns of Euclid's loop: what a division says of magnitudes, that each state has one turn at most, and that the turns are few.
-use Rattle.std.specs.Prelude.{◌≡◌, ◌≢◌, ◌⊎◌, ◌<◌, ◌≤◌, ◌+◌, ◌*◌, ◌-ℤ◌, ◌*ℤ◌, ◌^◌, ◌∷◌}
-use Rattle.integer_core.proofs.Common.{ℤ, ℕ, pos, zero, suc, unsigned_abs, arith, inl, inr, sym, ◌∙◌, ap, lt_of_not-le, unsigned_abs-mul, abs_is, linear, IsTruncated, Divides, IsOnly, List, [], length, subst, pow-succ', IsRun, RunHasTurns}
+use Rattle.integer_core.proofs.Common.{◌≡◌, ◌≢◌, ◌⊎◌, ◌<◌, ◌≤◌, ◌+◌, ◌*◌, ◌^◌, ◌∷◌, AreEuclidTurns, IsEuclidTurn, Remainders, EuclidEnds, ℤ, ℕ, pos, zero, suc, unsigned_abs, arith, inl, inr, sym, ◌∙◌, ap, lt_of_not-le, unsigned_abs-mul, abs_is, linear, IsTruncated, Divides, IsOnly, List, [], length, subst, pow-succ', IsRun, RunHasTurns}
 use Rattle.integer_core.proofs.Divisibility.{Divides-trans, divides_magnitude, divides_from_exact, divides_remainder, divisor_size, one_divides}
 use Rattle.integer_core.proofs.Quotients.{zero_or_not, only_truncated}
 use Rattle.integer_core.proofs.Runs.{only_turns}
-use Rattle.integer_core.specs.Bezout.{AreEuclidTurns, IsEuclidTurn, Remainders, EuclidEnds}
 use Rattle.integer_core.specs.Fibonacci.{fibonacci}
 
 -- a multiple is 0, or the number itself, or at least twice as large
@@ -15,9 +13,8 @@ multiple_size (suc (suc k)) d = inr (inr (omega arith))
 
 -- the multiple and the remainder have one sign, so magnitudes divide alike
 pub truncated_size : {n d q r : ℤ} → IsTruncated n d q r → unsigned_abs n ≡ unsigned_abs q * unsigned_abs d + unsigned_abs r
-truncated_size {n} {d} {q} {r} h =
-    let division = h.division in
-    omega (arith, linear, abs_is, h.sign, unsigned_abs-mul q d, multiple_size (unsigned_abs q) (unsigned_abs d))
+truncated_size {d = d} {q = q} h =
+    omega (arith, linear, abs_is, h.division, h.sign, unsigned_abs-mul q d, multiple_size (unsigned_abs q) (unsigned_abs d))
 
 -- if d does not divide n, the remainder is not 0
 pub inexact : {n d q r : ℤ} → IsTruncated n d q r → ¬ (Divides d n) → r ≢ pos 0
@@ -32,17 +29,15 @@ not_one {n} {d} goes_on nonzero = lt_of_not-le (λ less.
 -- a larger multiple is at least twice as large
 pub twice : {d n : ℤ} → Divides d n → unsigned_abs d < unsigned_abs n → 2 * unsigned_abs d ≤ unsigned_abs n
 twice {d} h less =
-    let k = h.factor in
-    omega (arith, ap unsigned_abs h.product, unsigned_abs-mul d k, multiple_size (unsigned_abs k) (unsigned_abs d))
+    omega (arith, ap unsigned_abs h.product, unsigned_abs-mul d h.factor, multiple_size (unsigned_abs h.factor) (unsigned_abs d))
 
 -- ---- the turns are the only ones
 
 -- a state goes on by its one truncated quotient
 only_euclid_turn : (s t : Remainders) → IsEuclidTurn s t → IsOnly (IsEuclidTurn s) t
 only_euclid_turn s t h u i =
-    let same = (only_truncated i.truncated.division h.truncated.division).0 in
-    let current : u.current ≡ t.current = i.current ∙ ap (λ (q : ℤ). s.previous -ℤ q *ℤ s.current) same ∙ sym h.current in
-    λ k. record { current = current k; previous = (i.previous ∙ sym h.previous) k }
+    let same = rw (only_truncated i.truncated.division h.truncated.division).0 at i.current in
+    λ k. record { current = (same ∙ sym h.current) k; previous = (i.previous ∙ sym h.previous) k }
 
 pub euclid_turns_are_only : (a b : ℤ) (n : ℕ) → AreEuclidTurns a b n → IsOnly (AreEuclidTurns a b) n
 euclid_turns_are_only a b n h m i = elim (zero_or_not b) [
@@ -60,8 +55,7 @@ record IsLarge (s : Remainders) (n g : ℕ) : Type 0 where
 large : (rest : List Remainders) (s : Remainders) (g : ℕ) → s.current ≢ pos 0 → IsRun IsEuclidTurn EuclidEnds (s ∷ rest)
     → Divides (pos g) s.current → Divides (pos g) s.previous → IsLarge s (length rest) g
 large [] s g nonzero ends left right =
-    let below : g ≤ unsigned_abs s.current = divisor_size left nonzero in
-    record { lower = omega arith; upper = λ less. omega (arith, twice ends less) }
+    record { lower = omega (arith, divisor_size left nonzero); upper = λ less. omega (arith, divisor_size left nonzero, twice ends less) }
 large (t ∷ rest) s g nonzero run left right =
     let turn = run.0 in
     let row = turn.truncated.division in

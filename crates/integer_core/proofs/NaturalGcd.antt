@@ -1,6 +1,5 @@
 -- The greatest common divisor of natural numbers, and of their odd parts.
-use Rattle.std.specs.Prelude.{◌≡◌, ◌+◌, ◌-◌, ◌*◌, ◌/◌, ◌%◌, ◌^◌, ◌≤◌}
-use Rattle.integer_core.proofs.Common.{ℤ, pos, unsigned_abs, ℕ, zero, suc, inl, inr, sym, ◌∙◌, ap, subst, arith, mul-one, mul_comm, mul_assoc, pow-suc, pow-add, min, div-add-mod', dvd-mul_right_of_dvd, lt_of_not-le, cases_lt, ints, IsGcd-swap, dvd_of_mod-eq-zero, dvd_trans, mod-eq-zero_of_dvd, IsGcd, ◌∣◌, IsGreatestCommonDivisor}
+use Rattle.integer_core.proofs.Common.{dvd-add_iff_right, dvd-mul_left, ◌≡◌, ◌+◌, ◌-◌, ◌*◌, ◌/◌, ◌%◌, ◌^◌, ◌≤◌, ℤ, pos, unsigned_abs, ℕ, zero, suc, inl, inr, sym, ◌∙◌, ap, subst, arith, mul-one, mul_comm, mul_assoc, pow-suc, pow-add, min, div-add-mod', dvd-mul_right_of_dvd, cases_lt, ints, IsGcd-swap, dvd_of_mod-eq-zero, dvd_trans, mod-eq-zero_of_dvd, IsGcd, ◌∣◌, IsGreatestCommonDivisor}
 use Rattle.integer_core.proofs.CommonDivisors.{gcd-times}
 use Rattle.integer_core.proofs.Divisibility.{from_natural, to_natural}
 
@@ -20,29 +19,21 @@ sizes_of_gcd h = (to_natural h.divides_left, to_natural h.divides_right, λ d p 
 natural_gcd_times : {a b g : ℕ} (k : ℕ) → IsGcd a b g → IsGcd (k * a) (k * b) (k * g)
 natural_gcd_times {a} {b} k h = sizes_of_gcd (gcd-times (pos k) (omega (arith, ints)) (gcd_of_sizes (pos a) (pos b) h))
 
-half_factor : (h q a : ℕ) → q * (h * 2 + 1) ≡ a * 2 → a ≡ (h * 2 + 1) * (q / 2)
-half_factor h q a e =
-    let even : q ≡ q / 2 * 2 = omega arith in
-    omega (arith, ap (λ (x : ℕ). x * h) even)
-
 -- an odd number that divides twice a number divides the number
 odd_half : (e a : ℕ) → e % 2 ≡ 1 → e ∣ a * 2 → e ∣ a
 odd_half e a odd h =
-    let is : e / 2 * 2 + 1 ≡ e = omega arith in
-    let whole : a * 2 / e * e ≡ a * 2 = omega (arith, mod-eq-zero_of_dvd e h, div-add-mod' (a * 2) e) in
-    ∣ (a * 2 / e / 2, rw is at (half_factor (e / 2) (a * 2 / e) a (rw is whole))) ∣₁
+    let whole : a * e ≡ a * 2 * (e / 2) + a = omega (arith, ap (λ (x : ℕ). a * x) (rw odd at (div-add-mod' e 2))) in
+    (dvd-add_iff_right e (dvd-mul_right_of_dvd e h (e / 2))).1 (rw whole at (dvd-mul_left e a))
 
 pub odd_divides : (e a k : ℕ) → e % 2 ≡ 1 → e ∣ a * 2 ^ k → e ∣ a
 odd_divides e a zero odd h = subst (λ (n : ℕ). e ∣ n) (mul-one a) h
 odd_divides e a (suc k) odd h = odd_divides e a k odd (odd_half e (a * 2 ^ k) odd (subst (λ (n : ℕ). e ∣ n) (ap (λ (n : ℕ). a * n) (pow-suc 2 k) ∙ sym (mul_assoc a (2 ^ k) 2)) h))
 
 pub odd_divisor : (d n : ℕ) → d ∣ n → n % 2 ≡ 1 → d % 2 ≡ 1
-odd_divisor d n h odd = omega (
-  arith,
-  lt_of_not-le {n = d % 2} {m = 0} (λ none.
-      let even : d % 2 ≡ 0 = omega arith in
-      omega (arith, mod-eq-zero_of_dvd 2 (dvd_trans 2 (dvd_of_mod-eq-zero 2 even) h))),
-)
+odd_divisor d n h odd = elim (cases_lt 0 (d % 2)) [
+  | inl some ↦ omega arith
+  | inr none ↦ absurd (omega (arith, mod-eq-zero_of_dvd 2 (dvd_trans 2 (dvd_of_mod-eq-zero 2 (omega arith)) h)))
+]
 
 -- factors of two on one side do not matter if the other is odd
 pub gcd_strip : {m n g : ℕ} (k : ℕ) → n % 2 ≡ 1 → IsGcd m n g → IsGcd (m * 2 ^ k) n g

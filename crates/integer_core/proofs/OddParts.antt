@@ -1,21 +1,15 @@
 -- Odd parts: what a shift by `trailing_zeros` leaves, and what the turns of Stein's loop keep.
-use Rattle.std.specs.Prelude.{◌≡◌, ◌+◌, ◌-◌, ◌*◌, ◌/◌, ◌%◌, ◌^◌, ◌<◌, ◌≤◌}
-use Rattle.integer_core.proofs.Common.{ℕ, zero, suc, inl, inr, refl, sym, ◌∙◌, ap, arith, mul-one, div-one, add-one, mul-le-mul_right, mul-pos, pow_mono, pow_pos, pow-add, le-mul_of_pos_right, pow-succ', div-div-eq-div-mul, lt_of_not-le, IsGcd, Width, w64, w128, trailing_zeros, mul-lt, IsGcd-from_sub, IsGcd-swap, bit_xor, xor_lt, xor_mod, and_le_l, and_le_r, div-add-mod', mul-mod_left, mul-div_cancel}
+use Rattle.integer_core.proofs.Common.{le-div_iff_mul-le, div-mul-le_self, cases_lt, ◌≡◌, ◌+◌, ◌-◌, ◌*◌, ◌/◌, ◌%◌, ◌^◌, ◌<◌, ◌≤◌, w8, w16, w32, IsOddPart, IsOrderedTurn, ℕ, zero, suc, inl, inr, refl, sym, ◌∙◌, ap, arith, mul-one, div-one, add-one, mul-le-mul_right, mul-pos, pow_mono, pow_pos, pow-add, le-mul_of_pos_right, pow-succ', div-div-eq-div-mul, lt_of_not-le, IsGcd, Width, w64, w128, trailing_zeros, mul-lt, IsGcd-from_sub, IsGcd-swap, bit_xor, xor_lt, xor_mod, and_le_l, and_le_r, div-add-mod', mul-mod_left, mul-div_cancel}
 use lib.Count.{count_trailing_zeros, under}
-use Rattle.std.specs.Int.{w8, w16, w32}
 use Rattle.std.proofs.lemmas.Nat.Bits.{bit_at-trailing_zeros, bit_at_xor}
 use mir.Val.{bits}
 use Rattle.num_traits.specs.Laws.{bit_len}
 use Rattle.integer_core.proofs.NaturalGcd.{gcd_strip}
-use Rattle.integer_core.specs.GcdRuns.{IsOddPart, IsOrderedTurn}
 use Rattle.std.specs.Int.Bits.{xor_add_and}
 
 back_under : (n d t : ℕ) → n % 2 ≡ d → n / 2 / 2 ^ t * 2 ^ t ≡ n / 2 → n / 2 ^ under d t * 2 ^ under d t ≡ n
 back_under n zero t e h =
-    let q : n / 2 ^ suc t ≡ n / 2 / 2 ^ t = ap (λ (x : ℕ). n / x) (pow-succ' 2 t) ∙ sym (div-div-eq-div-mul n 2 (2 ^ t)) in
-    let twice : 2 ^ suc t ≡ 2 * 2 ^ t = pow-succ' 2 t in
-    let f : n / 2 ^ suc t * 2 ^ suc t ≡ n / 2 / 2 ^ t * (2 * 2 ^ t) = ap (λ (x : ℕ). x * 2 ^ suc t) q ∙ ap (λ (x : ℕ). n / 2 / 2 ^ t * x) twice in
-    omega (arith, f)
+    rw (pow-succ' 2 t, ← div-div-eq-div-mul n 2 (2 ^ t)) (omega arith)
 back_under n (suc d) t e h = mul-one (n / 1) ∙ div-one n
 
 -- the power of two that is shifted out divides n
@@ -41,15 +35,12 @@ odd_part_by_shift w {n} positive fits twos = rw twos ((bit_at-trailing_zeros w n
 -- a shift that keeps its number in the range
 pub shift_few : (m k bits : ℕ) → 0 < m → m * 2 ^ k < 2 ^ bits → k < bits
 shift_few m k bits positive fits = lt_of_not-le (λ many.
-    let wide = pow_mono {i = bits} {j = k} many in
-    omega (arith, mul-le-mul_right {m = 1} {n = m} (2 ^ k) positive))
+    omega (arith, pow_mono {i = bits} {j = k} many, mul-le-mul_right {m = 1} {n = m} (2 ^ k) positive))
 
 -- an even number has at least one factor 2
 times_half : (n m k : ℕ) → m % 2 ≡ 1 → n ≡ m * 2 ^ k → n % 2 ≡ 0 → 2 * m ≤ n
 times_half n m zero odd product even = absurd (omega arith)
-times_half n m (suc k) odd product even =
-    let up : m ≤ m * 2 ^ k = le-mul_of_pos_right m (pow_pos k) in
-    omega (arith, pow-succ' 2 k, ap (λ (x : ℕ). m * x) (pow-succ' 2 k))
+times_half n m (suc k) odd product even = omega (arith, le-mul_of_pos_right m (pow_pos k), rw (pow-succ' 2 k) at product)
 
 -- an odd part is at most its number
 pub odd_part_le : {n m : ℕ} → IsOddPart n m → m ≤ n
@@ -65,22 +56,15 @@ pub record Turning (a b m n turns : ℕ) : Type 0 where
 turning_left : {a b m n d t : ℕ} → Turning a b m n t → n < m → IsOddPart (m - n) d → Turning a b d n (t + 1)
 turning_left {m = m} {n = n} {d = d} {t = t} v less part =
     let half = times_half (m - n) d part.twos part.odd part.product (omega (arith, v.m_odd, v.n_odd)) in
-    let most : 2 * d ≤ m = omega arith in
-    let twice : 2 ^ (t + 1) ≡ 2 * 2 ^ t = ap (λ (x : ℕ). 2 ^ x) (add-one t) ∙ pow-succ' 2 t in
     record {
       m_odd = part.odd;
       n_odd = v.n_odd;
       same = λ g h. v.same g (IsGcd-from_sub m n g (omega arith) (rw part.product (gcd_strip part.twos v.n_odd h)));
-      shrunk = omega (arith, mul-le-mul_right (n * 2 ^ t) most, ap (λ (x : ℕ). d * n * x) twice, v.shrunk);
+      shrunk = rw (add-one, pow-succ') (omega (arith, mul-le-mul_right {m = 2 * d} {n = m} (n * 2 ^ t) (omega arith), v.shrunk));
     }
 
 turning_exchanged : {a b m n t : ℕ} → Turning a b m n t → Turning a b n m t
-turning_exchanged v = record {
-  m_odd = v.n_odd;
-  n_odd = v.m_odd;
-  same = λ g h. v.same g (IsGcd-swap _ _ g h);
-  shrunk = omega (arith, v.shrunk);
-}
+turning_exchanged v = record { m_odd = v.n_odd; n_odd = v.m_odd; same = λ g h. v.same g (IsGcd-swap _ _ g h); shrunk = omega (arith, v.shrunk) }
 
 pub turning_turn : {a b m n d e t : ℕ} → Turning a b m n t → IsOrderedTurn (record { m = m; n = n }) (record { m = d; n = e }) → Turning a b d e (t + 1)
 turning_turn v h = elim h [
@@ -102,12 +86,10 @@ pub turning_ends : {a b m n t : ℕ} → Turning a b m n t → 2 ^ t ≤ a * b
 turning_ends {m = m} {n = n} {t = t} v = omega (arith, v.shrunk, mul-le-mul_right (2 ^ t) (mul-pos {m = m} {n = n} (omega (arith, v.m_odd)) (omega (arith, v.n_odd))))
 
 pub few_turns : {a b t : ℕ} (k l : ℕ) → 2 ^ t ≤ a * b → a < 2 ^ k → b < 2 ^ l → t ≤ k + l
-few_turns {a} {b} {t} k l least a_fits b_fits = omega (
-  arith,
-  lt_of_not-le {n = k + l + 1} {m = t} (λ more.
-      let wide = pow_mono {i = k + l} {j = t} (omega arith) in
-      omega (arith, least, mul-lt a b (2 ^ k) (2 ^ l) a_fits b_fits, pow-add 2 k l)),
-)
+few_turns {a} {b} {t} k l least a_fits b_fits = elim (cases_lt (k + l) t) [
+  | inl more ↦ absurd (omega (arith, pow_mono {i = k + l} {j = t} (omega arith), mul-lt a b (2 ^ k) (2 ^ l) a_fits b_fits, pow-add 2 k l))
+  | inr few ↦ few
+]
 
 -- numbers of 128 bits take so few turns that one more can be counted
 pub turns_fit : (t : ℕ) {a b : ℕ} → 2 ^ t ≤ a * b → a < 2 ^ 128 → b < 2 ^ 128 → t + 1 < 2 ^ 32
@@ -124,13 +106,10 @@ apart {m} {n} less = lt_of_not-le (λ none. omega (arith, all_shared m n (omega 
 -- by the quotients and remainders of a power of two p
 difference_by : {m n p : ℕ} → 0 < p → n < m → m % p ≡ n % p → (m / p % 2 + n / p % 2) % 2 ≡ 1 → ((m - n) / p % 2 ≡ 1) × (m - n ≡ (m - n) / p * p)
 difference_by {m} {n} {p} positive less same odd =
-    let a : ℕ = m / p in
-    let b : ℕ = n / p in
-    let below : b < a + 1 = lt_of_not-le (λ up.
-    omega (arith, same, div-add-mod' m p, div-add-mod' n p, mul-le-mul_right {m = a} {n = b} p (omega arith))) in
-    let split : a ≡ b + (a - b) = omega arith in
-    let times : m - n ≡ (a - b) * p = omega (arith, same, div-add-mod' m p, div-add-mod' n p, ap (λ (x : ℕ). x * p) split) in
-    let quotient : (m - n) / p ≡ a - b = ap (λ (x : ℕ). x / p) times ∙ mul-div_cancel (a - b) positive in
+    let below : n / p ≤ m / p = (le-div_iff_mul-le positive).1 (omega (arith, div-mul-le_self n p)) in
+    let split : m / p ≡ n / p + (m / p - n / p) = omega arith in
+    let times : m - n ≡ (m / p - n / p) * p = omega (arith, same, div-add-mod' m p, div-add-mod' n p, ap (λ (x : ℕ). x * p) split) in
+    let quotient : (m - n) / p ≡ m / p - n / p = rw times (mul-div_cancel _ positive) in
     (rw quotient (omega arith), rw quotient times)
 
 -- so a shift by the number of the last bits that m and n share leaves the odd part of their difference

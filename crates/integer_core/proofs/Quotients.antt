@@ -1,7 +1,5 @@
 -- Quotients, remainders and multiples by their definition: they exist, they are the only ones, and when they fit.
-use Rattle.std.specs.Prelude.{◌≡◌, ◌≢◌, ◌⊎◌, ◌<◌, ◌≤◌, ◌+◌, ◌*◌, ◌+ℤ◌, ◌-ℤ◌, ◌*ℤ◌, ◌↔◌}
-use Rattle.integer_core.proofs.Common.{ℤ, pos, negsuc, neg_ℤ, unsigned_abs, suc, int_div, int_rem, arith, ◌∙◌, inl, inr, subst, ints, unsigned_abs-mul, mul-le, mod-le, le-mul_of_pos_right, linear, sizes, products, expand, dist, neg-mul, IsDivision, IsTruncated, IsFloored, IsCeiled, IsQuotient, IsRemainder, EachKind, HaveSameSign, HaveOppositeSigns, IsRange, EachFits, IsMultiple, IsOnly}
-use Rattle.std.proofs.lemmas.Int.{quot-rem, rem_below}
+use Rattle.integer_core.proofs.Common.{◌≡◌, ◌≢◌, ◌⊎◌, ◌<◌, ◌≤◌, ◌+◌, ◌*◌, ◌+ℤ◌, ◌-ℤ◌, ◌*ℤ◌, ◌↔◌, quot-rem, rem_below, ℤ, pos, negsuc, neg_ℤ, unsigned_abs, suc, int_div, int_rem, arith, ◌∙◌, inl, inr, subst, ints, unsigned_abs-mul, mul-le, mod-le, le-mul_of_pos_right, linear, sizes, products, expand, dist, neg-mul, IsDivision, IsTruncated, IsFloored, IsCeiled, IsQuotient, IsRemainder, EachKind, HaveSameSign, HaveOppositeSigns, IsRange, EachFits, IsMultiple, IsOnly}
 use Rattle.integer_core.proofs.Ranges.{LiesWithin, within_fits}
 
 pub zero_or_not : (z : ℤ) → (z ≡ pos 0) ⊎ (z ≢ pos 0)
@@ -17,8 +15,7 @@ only_one : {n d q r p s : ℤ} → IsDivision n d q r → IsDivision n d p s →
 only_one {n} {d} {q} {r} {p} {s} h k near =
     let gap : (q -ℤ p) *ℤ d ≡ s -ℤ r = simp (dist, neg-mul) (omega (arith, linear)) in
     let none = small_multiple (q -ℤ p) d (rw gap near) in
-    let zero : (q -ℤ p) *ℤ d ≡ pos 0 = rw none (omega (arith, products)) in
-    omega (arith, linear)
+    omega (arith, products, rw none at gap)
 
 -- a number has one truncated quotient and remainder
 pub only_truncated : {n d q r p s : ℤ} → IsTruncated n d q r → IsTruncated n d p s → (q ≡ p) × (r ≡ s)
@@ -70,11 +67,7 @@ remainder_within (negsuc a) d = grind (arith, ints, mod-le (suc a) (unsigned_abs
 
 -- what `/` and `%` return
 pub truncated_is : (n d : ℤ) → d ≢ pos 0 → IsTruncated n d (int_div n d) (int_rem n d)
-truncated_is n d nonzero =
-    let within = remainder_within n d in
-    let equation = quot-rem n d in
-    let small = rem_below n d (omega (arith, sizes)) in
-    grind (arith, linear)
+truncated_is n d nonzero = grind (arith, linear, remainder_within n d, quot-rem n d, rem_below n d (omega (arith, sizes)))
 
 same_or_opposite : (r d : ℤ) → d ≢ pos 0 → ((r ≡ pos 0) ⊎ HaveSameSign r d) ⊎ HaveOppositeSigns r d
 same_or_opposite r d nonzero = grind (arith, linear)

@@ -1,6 +1,5 @@
 -- What fits, by the range of a type.
-use Rattle.std.specs.Prelude.{◌≡◌, ◌⊎◌, ◌≤ℤ◌, ◌<ℤ◌, ◌+ℤ◌, ◌-ℤ◌}
-use Rattle.integer_core.proofs.Common.{natural, sym, ℕ, ℤ, pos, unsigned_abs, Width, ◌∙◌, arith, subst, linear, sizes, IsLeastCommonMultiple, IsRange, EachFits}
+use Rattle.integer_core.proofs.Common.{negsuc, ◌≡◌, ◌⊎◌, ◌≤ℤ◌, ◌<ℤ◌, ◌+ℤ◌, ◌-ℤ◌, natural, sym, ℕ, ℤ, pos, unsigned_abs, Width, ◌∙◌, arith, subst, linear, sizes, IsLeastCommonMultiple, IsRange, EachFits}
 use Rattle.integer_core.specs.Between.{Between}
 use Rattle.integer_core.specs.NativeRanges.{IsNative}
 
@@ -19,6 +18,10 @@ zero_fits range = (range.between (pos 0)).1 (omega (arith, linear, range.low_end
 -- the number 1 fits
 pub one_fits : {fits : ℤ → Type 0} {low high : ℤ} → IsRange fits low high → fits (pos 1)
 one_fits range = (range.between (pos 1)).1 (omega (arith, linear, range.low_end, range.positive))
+
+-- a type without negative numbers has no -1
+pub no_minus_one : {fits : ℤ → Type 0} {low high : ℤ} → IsRange fits low high → low ≡ pos 0 → ¬ (fits (negsuc 0))
+no_minus_one range none fits_it = omega (arith, linear, (range.between (negsuc 0)).0 fits_it)
 
 -- the distance of a negative number from -1
 pub distance_fits : {fits : ℤ → Type 0} {low high x : ℤ} → IsRange fits low high → fits x → x <ℤ pos 0 → fits (pos 0 -ℤ (x +ℤ pos 1))

@@ -1,12 +1,10 @@
 -- The rows of the extended Euclidean algorithm after some turns of its loop, how large their coefficients grow, and that they fit.
-use Rattle.std.specs.Prelude.{◌≡◌, ◌≢◌, ◌⊎◌, ◌<◌, ◌≤◌, ◌+◌, ◌+ℤ◌, ◌-ℤ◌, ◌*ℤ◌, ◌*◌, ◌^◌, ◌≤ℤ◌}
-use Rattle.integer_core.proofs.Common.{ℤ, ℕ, pos, zero, suc, unsigned_abs, arith, refl, inl, inr, ints, abs_is, linear, expand, IsTruncated, Divides, IsGreatestCommonDivisor, ap, mul-le-mul_left, unsigned_abs-mul, products, negsuc, ◌∙◌, zero-*ℤ, +ℤ_idr, IsRange}
-use Rattle.integer_core.proofs.CommonDivisors.{gcd-divisor, gcd-remainder, no_minus_one}
-use Rattle.integer_core.proofs.Divisibility.{rest_is, divides_or_not, divisor_size}
+use Rattle.integer_core.proofs.Common.{◌≡◌, ◌≢◌, ◌⊎◌, ◌<◌, ◌≤◌, ◌+◌, ◌+ℤ◌, ◌-ℤ◌, ◌*ℤ◌, ◌*◌, ◌^◌, ◌≤ℤ◌, EuclidEnds, IsEuclidTurn, IsSmallPair, HasPair, sign, ℤ, ℕ, pos, zero, suc, unsigned_abs, arith, refl, inl, inr, ints, abs_is, linear, expand, IsTruncated, Divides, IsGreatestCommonDivisor, ap, mul-le-mul_left, unsigned_abs-mul, products, negsuc, ◌∙◌, zero-*ℤ, +ℤ_idr, IsRange}
+use Rattle.integer_core.proofs.Divisibility.{rest_is, divides_or_not, divisor_size, gcd-divisor, gcd-remainder}
 use Rattle.integer_core.proofs.EuclidTurns.{inexact, truncated_size, twice, not_one, few_turns}
 use Rattle.integer_core.proofs.Quotients.{truncated_is, zero_or_not, small_multiple}
+use Rattle.integer_core.proofs.Ranges.{no_minus_one}
 use Rattle.integer_core.proofs.Runs.{Reaches, reaches_first, reaches_turn, reaches_last}
-use Rattle.integer_core.specs.Bezout.{EuclidEnds, IsEuclidTurn, IsSmallPair, HasPair, sign}
 
 -- x and previous_x are one operand's coefficients in the rows of these remainders, and m is the other operand: times the other row's
 -- remainder they add up to m in magnitude, and have opposite signs
@@ -165,31 +163,24 @@ pub record CoefficientsFit (fits : ℤ → Type 0) (high : ℤ) (row : Row) : Ty
 module _ {fits : ℤ → Type 0} {low high : ℤ} (range : IsRange fits low high) where
   coefficient : {z : ℤ} → (low ≢ pos 0) ⊎ (pos 0 ≤ℤ z) → unsigned_abs z ≤ unsigned_abs high → IsCoefficient fits high z
   coefficient {z} signs small =
-      let ends = range.low_end in
-      let positive = range.positive in
-      record { in_range = (range.between z).1 (omega (arith, linear, abs_is), omega (arith, linear, abs_is)); small = small }
+      record { in_range = (range.between z).1 (omega (arith, linear, abs_is, range.low_end, range.positive)); small = small }
 
-  zero_fits : IsCoefficient fits high (pos 0)
-  zero_fits = coefficient (inr (omega (arith, linear))) (omega (arith, linear, abs_is, range.positive))
-
-  one_fits : IsCoefficient fits high (pos 1)
-  one_fits = coefficient (inr (omega (arith, linear))) (omega (arith, linear, abs_is, range.positive))
+  zero_or_one_fits : {z : ℤ} → (z ≡ pos 0) ⊎ (z ≡ pos 1) → IsCoefficient fits high z
+  zero_or_one_fits is = coefficient (inr (omega (arith, linear))) (omega (arith, linear, abs_is, range.positive))
 
   pub first_fits : {a : ℤ} → fits a → CoefficientsFit fits high (of_first a)
-  first_fits a_fits = record { remainder = a_fits; x = one_fits; y = zero_fits }
+  first_fits a_fits = record { remainder = a_fits; x = zero_or_one_fits (inr refl); y = zero_or_one_fits (inl refl) }
 
   -- at most half of a number, if the type has negative numbers
   half_fits : {n z : ℤ} → low ≢ pos 0 → fits n → 2 * unsigned_abs z ≤ unsigned_abs n → IsCoefficient fits high z
   half_fits {n} signed n_fits half =
-      let n_in = (range.between n).0 n_fits in
-      coefficient (inl signed) (omega (arith, linear, abs_is, range.low_end, range.positive))
+      coefficient (inl signed) (omega (arith, linear, abs_is, range.low_end, range.positive, (range.between n).0 n_fits))
 
   -- a coefficient under the sign of a number of the type
   pub sign_fits : {r z : ℤ} → fits r → IsCoefficient fits high z → fits (sign r *ℤ z)
   sign_fits {r = pos n} {z = z} r_fits h = let same : pos 1 *ℤ z ≡ z = omega (arith, products) in rw same h.in_range
   sign_fits {r = negsuc n} r_fits h =
-      let r_in = (range.between (negsuc n)).0 r_fits in
-      (coefficient (inl (omega (arith, linear))) (omega (arith, products, abs_is, h.small))).in_range
+      (coefficient (inl (omega (arith, linear, (range.between (negsuc n)).0 r_fits))) (omega (arith, products, abs_is, h.small))).in_range
 
 -- what the loop keeps of the rows and their range
 pub record RowsFit (fits : ℤ → Type 0) (low high a b : ℤ) (current previous : Row) (t : ℕ) : Type 0 where
@@ -208,7 +199,7 @@ rows_fit_first {a = a} {b = b} range a_fits b_fits nonzero pair = record {
   a_fits = a_fits;
   b_fits = b_fits;
   rows = rows_first a b nonzero;
-  current_fits = record { remainder = b_fits; x = zero_fits range; y = one_fits range };
+  current_fits = record { remainder = b_fits; x = zero_or_one_fits range (inl refl); y = zero_or_one_fits range (inr refl) };
   previous_fits = first_fits range a_fits;
   pair = pair;
 }
@@ -217,10 +208,6 @@ rows_fit_first {a = a} {b = b} range a_fits b_fits nonzero pair = record {
 pub record StepFits (fits : ℤ → Type 0) (high q x previous_x : ℤ) : Type 0 where
   pub product : fits (q *ℤ x)
   pub next : IsCoefficient fits high (previous_x -ℤ q *ℤ x)
-
-pub record TurnFits (fits : ℤ → Type 0) (high q : ℤ) (current previous : Row) : Type 0 where
-  pub x : StepFits fits high q current.x previous.x
-  pub y : StepFits fits high q current.y previous.y
 
 module _ {fits : ℤ → Type 0} {low high a b q r : ℤ} {current previous : Row} {t : ℕ} (h : RowsFit fits low high a b current previous t)
     (goes_on : ¬ (Divides current.remainder previous.remainder)) (row : IsTruncated previous.remainder current.remainder q r) where
@@ -239,17 +226,14 @@ module _ {fits : ℤ → Type 0} {low high a b q r : ℤ} {current previous : Ro
   row_step_fits m_fits weighed previous_fits = elim (zero_or_not low) [
     | inl unsigned ↦
         let none = no_quotient (no_minus_one h.range unsigned) in
-        record { product = rw (none, zero-*ℤ) (zero_fits h.range).in_range; next = rw (none, zero-*ℤ, +ℤ_idr) previous_fits }
+        record { product = rw (none, zero-*ℤ) (zero_or_one_fits h.range (inl refl)).in_range; next = rw (none, zero-*ℤ, +ℤ_idr) previous_fits }
     | inr signed ↦
         let half = halves weighed row (not_one goes_on h.rows.nonzero) in
         record { product = (half_fits h.range signed m_fits half.0).in_range; next = half_fits h.range signed m_fits half.1 }
   ]
 
-  pub turn_fits : TurnFits fits high q current previous
-  turn_fits = record {
-    x = row_step_fits h.b_fits h.rows.x_weighed h.previous_fits.x;
-    y = row_step_fits h.a_fits h.rows.y_weighed h.previous_fits.y;
-  }
+  pub turn_fits : StepFits fits high q current.x previous.x × StepFits fits high q current.y previous.y
+  turn_fits = (row_step_fits h.b_fits h.rows.x_weighed h.previous_fits.x, row_step_fits h.a_fits h.rows.y_weighed h.previous_fits.y)
 
   pub rows_fit_turn : fits r → RowsFit fits low high a b (next_row current previous q r) current (t + 1)
   rows_fit_turn r_fits = record {
@@ -257,7 +241,7 @@ module _ {fits : ℤ → Type 0} {low high a b q r : ℤ} {current previous : Ro
     a_fits = h.a_fits;
     b_fits = h.b_fits;
     rows = rows_turn h.rows goes_on row;
-    current_fits = record { remainder = r_fits; x = turn_fits.x.next; y = turn_fits.y.next };
+    current_fits = record { remainder = r_fits; x = turn_fits.0.next; y = turn_fits.1.next };
     previous_fits = h.current_fits;
     pair = λ unsigned. rw (same unsigned) (elim (h.pair unsigned) [ inl divides ↦ inr divides | inr divides ↦ inl divides ]);
   }

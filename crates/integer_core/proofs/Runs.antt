@@ -1,6 +1,5 @@
 -- The runs of a loop: its invariant on them, and that each is the only one from its first state.
-use Rattle.std.specs.Prelude.{◌≡◌, ◌+◌, ◌∷◌}
-use Rattle.integer_core.proofs.Common.{ℕ, List, [], length, refl, subst, arith, IsOnly, IsRun, RunHasTurns}
+use Rattle.integer_core.proofs.Common.{◌≡◌, ◌+◌, ◌∷◌, ℕ, List, [], length, refl, subst, arith, IsOnly, IsRun, RunHasTurns}
 
 -- n turns lead from the first state to s: whatever makes m turns from s makes n more from the first
 pub record Reaches {S : Type 0} (turn : S → S → Type 0) (ends : S → Type 0) (first s : S) (n : ℕ) : Type 0 where

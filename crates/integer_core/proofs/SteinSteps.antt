@@ -1,17 +1,14 @@
 -- Stein's method on the values of an unsigned type, and what its loops keep.
-use Rattle.std.specs.Prelude.{◌≡◌, ◌≢◌, ◌↔◌, ◌⊎◌, ◌≤ℤ◌, ◌*◌, ◌%◌, ◌^◌, ◌<◌, ◌+◌, ◌∷◌}
-use Rattle.integer_core.proofs.Common.{natural, ℤ, pos, unsigned_abs, IsGcd, ℕ, refl, sym, subst, arith, inl, inr, ints, abs_is, linear, eq-one_of_dvd-one, one-dvd, dvd_refl, le_of_dvd, IsGreatestCommonDivisor, List, [], map, ◌∙◌, IsRun, RunHasTurns}
-use Rattle.std.specs.Int.{IsPowerOfTwo}
+use Rattle.integer_core.proofs.Common.{◌≡◌, ◌≢◌, ◌↔◌, ◌⊎◌, ◌≤ℤ◌, ◌*◌, ◌%◌, ◌^◌, ◌<◌, ◌+◌, ◌∷◌, IsPowerOfTwo, AreWithinBits, IsCountedGcd, IsOddPart, MakesGcdRun, exchanged, GcdEnds, IsGcdTurn, IsOddGcd, IsOrderedTurn, OddPair, natural, ℤ, pos, unsigned_abs, IsGcd, ℕ, refl, sym, subst, arith, inl, inr, ints, abs_is, linear, eq-one_of_dvd-one, one-dvd, dvd_refl, le_of_dvd, IsGreatestCommonDivisor, List, [], map, ◌∙◌, IsRun, RunHasTurns}
 use Rattle.integer_core.proofs.CommonDivisors.{gcd-magnitudes, gcd-zero}
 use Rattle.integer_core.proofs.NaturalGcd.{odd_divisor, odd_divides}
-use Rattle.integer_core.specs.GcdRuns.{AreWithinBits, IsCountedGcd, IsOddPart, MakesGcdRun, exchanged, GcdEnds, IsGcdTurn, IsOddGcd, IsOrderedTurn, OddPair}
 use Rattle.std.proofs.lemmas.List.{length-map}
 use Rattle.integer_core.proofs.OddParts.{Turning, turning_ends, turning_small, turning_turn, turns_fit}
 use Rattle.integer_core.proofs.Runs.{Reaches, reaches_first, reaches_instead, reaches_last, reaches_turn}
 
 -- the gcd of a number and 0 is the number
 pub gcd_with_zero : {n : ℤ} → pos 0 ≤ℤ n → IsGreatestCommonDivisor n (pos 0) n
-gcd_with_zero {n} up = subst (λ g. IsGreatestCommonDivisor n (pos 0) g) (sym (natural up)) (gcd-zero n)
+gcd_with_zero {n} up = rw (← natural up) at (gcd-zero n)
 
 -- a gcd with an odd number is positive
 pub gcd_positive : {m n g : ℕ} → m % 2 ≡ 1 → IsGcd m n g → 0 < g
@@ -51,16 +48,8 @@ pub counted_by_magnitudes : {low a b m n g : ℤ} {t : ℕ} {Smallest : Type 0} 
 counted_by_magnitudes {a = a} {b = b} m_is n_is smallest greatest at_once by_turns bound = record {
   greatest = gcd-magnitudes m_is n_is greatest;
   turns = record {
-    at_once = λ h. at_once (elim h [
-      | inl (inl zero) ↦ inr (inl (rw (m_is, zero) refl))
-      | inl (inr low) ↦ inl (smallest.1 (inl low))
-      | inr (inl zero) ↦ inr (inr (rw (n_is, zero) refl))
-      | inr (inr low) ↦ inl (smallest.1 (inr low))
-    ]);
-    by_turns = λ p q. rw (m_is, n_is) at (by_turns
-        (λ s. elim (smallest.0 s) [ inl low ↦ p (inr low) | inr low ↦ q (inr low) ])
-        (λ none. p (inl (grind (arith, linear, abs_is))))
-        (λ none. q (inl (grind (arith, linear, abs_is)))));
+    at_once = λ h. at_once (grind (arith, linear, abs_is));
+    by_turns = λ p q. rw (m_is, n_is) at (by_turns (λ s. grind arith) (grind (arith, linear, abs_is)) (grind (arith, linear, abs_is)));
   };
   bound = rw (m_is, n_is) at bound;
 }

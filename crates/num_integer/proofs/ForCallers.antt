@@ -1,8 +1,8 @@
 -- Lemmas for the proofs of callers, in addition to the laws.
 -- ---- divisors and multiples
 
-pub use Rattle.integer_core.proofs.CommonDivisors.{divides_multiple, gcd-divisor, gcd-nonzero, gcd-positive, gcd-swap, gcd-times, gcd-zero, lcm-zero, only_gcd, only_lcm}
-pub use Rattle.integer_core.proofs.Divisibility.{Divides-antisym, Divides-cancel, Divides-refl, Divides-sum, Divides-times, Divides-trans, Divides-zero, cancel, divides_magnitude, divides_or_not, divisor_size, magnitude_divides, one_divides, zero_divides}
+pub use Rattle.integer_core.proofs.CommonDivisors.{divides_multiple, gcd-times, lcm-zero, only_lcm}
+pub use Rattle.integer_core.proofs.Divisibility.{Divides-antisym, Divides-cancel, Divides-refl, Divides-sum, Divides-times, Divides-trans, Divides-zero, cancel, divides_magnitude, divides_or_not, divisor_size, gcd-divisor, gcd-nonzero, gcd-positive, gcd-swap, gcd-zero, magnitude_divides, one_divides, only_gcd, zero_divides}
 pub use Rattle.integer_core.proofs.OddParts.{shift_back}
 -- ---- quotients and remainders
 
@@ -10,8 +10,8 @@ pub use Rattle.integer_core.proofs.Divisibility.{exact_quotient, rest_is}
 pub use Rattle.integer_core.proofs.Quotients.{floored_remainder_within, only_ceiled, only_floored, only_truncated, other_quotient_fits, remainder_within, truncated_is, zero_or_not}
 -- ---- what fits
 
-pub use Rattle.integer_core.proofs.CommonDivisors.{gcd_fits_is, no_minus_one}
-pub use Rattle.integer_core.proofs.Ranges.{LiesWithin, one_fits, within_fits, zero_fits}
+pub use Rattle.integer_core.proofs.CommonDivisors.{gcd_fits_is}
+pub use Rattle.integer_core.proofs.Ranges.{LiesWithin, no_minus_one, one_fits, within_fits, zero_fits}
 pub use Rattle.num_integer.proofs.FittingAnswers.{fits_below}
 -- ---- what tests and checked calls say
 

@@ -19,21 +19,21 @@ div_rem-requires-clause-quotient_fits g c q h =
 
 pub product-requires-clause-product_fits : goal.product-requires-clause-product_fits
 product-requires-clause-product_fits g c =
-    (turn_fits c.rows.invariant (iff_false c.is_multiple_of.ensures c.rows-test.true) c.div_rem.ensures.truncated).x.product
+    (turn_fits c.rows.invariant (iff_false c.is_multiple_of.ensures c.rows-test.true) c.div_rem.ensures.truncated).0.product
 
 pub difference-x-requires-clause-difference_fits : goal.difference-x-requires-clause-difference_fits
 difference-x-requires-clause-difference_fits g c =
     let turn = turn_fits c.rows.invariant (iff_false c.is_multiple_of.ensures c.rows-test.true) c.div_rem.ensures.truncated in
-    rw c.product.ensures.value turn.x.next.in_range
+    rw c.product.ensures.value turn.0.next.in_range
 
 pub product-requires-in-rows-clause-product_fits : goal.product-requires-in-rows-clause-product_fits
 product-requires-in-rows-clause-product_fits g c =
-    (turn_fits c.rows.invariant (iff_false c.is_multiple_of.ensures c.rows-test.true) c.div_rem.ensures.truncated).y.product
+    (turn_fits c.rows.invariant (iff_false c.is_multiple_of.ensures c.rows-test.true) c.div_rem.ensures.truncated).1.product
 
 pub difference-y-requires-clause-difference_fits : goal.difference-y-requires-clause-difference_fits
 difference-y-requires-clause-difference_fits g c =
     let turn = turn_fits c.rows.invariant (iff_false c.is_multiple_of.ensures c.rows-test.true) c.div_rem.ensures.truncated in
-    rw c.product-in-rows.ensures.value turn.y.next.in_range
+    rw c.product-in-rows.ensures.value turn.1.next.in_range
 
 pub overflow_add-turns : goal.overflow_add-turns
 overflow_add-turns g c = omega (arith, turns_fit c.requires.nonzero c.rows.invariant)

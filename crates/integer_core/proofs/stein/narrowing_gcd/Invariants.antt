@@ -1,5 +1,4 @@
-use Rattle.std.specs.Prelude.{◌+◌}
-use Rattle.integer_core.proofs.Common.{unsigned_abs}
+use Rattle.integer_core.proofs.Common.{◌+◌, unsigned_abs}
 use Rattle.integer_core.proofs.SteinSteps.{OddLoop}
 use Rattle.integer_core.proofs.stein.narrowing_gcd.Given as goal
 
