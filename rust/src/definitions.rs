@@ -721,6 +721,16 @@ pub mod num_integer {
     //! AnswersWhere domain answer result = MatchOption result (¬ domain) (λ r. domain × answer r)
     //! ```
     //!
+    //! ## `Has`
+    //!
+    //! The number that x means is in the range of its type and has the property. Examples: of 'is
+    //! 100 + 27' in i8: 127 has it; nothing has that of 'is 100 + 28'.
+    //!
+    //! ```text
+    //! abbrev pub Has : (ℤ → Type 0) → {X : Type 0} → (X → ℤ) → (ℤ → Type 0) → X → Type 0
+    //! Has fits value P x = fits (value x) × P (value x)
+    //! ```
+    //!
     //! ## `coefficient`
     //!
     //! The binomial coefficient of n and k, by Pascal's rule. Examples: that of 4 and 2 is 6; that
@@ -842,17 +852,6 @@ pub mod modular {
     //! pub record LiesBelow (m x : ℤ) : Type 0 where
     //!   pub from_zero : pos 0 ≤ℤ x
     //!   pub below : x <ℤ m
-    //! ```
-    //!
-    //! ## `Has`
-    //!
-    //! The number that t means fits the type, and has the property. Examples: at i8, with the
-    //! property of being a residue modulo 200 of 456: 56; not: a residue of 356, which is 156 and
-    //! does not fit.
-    //!
-    //! ```text
-    //! abbrev pub Has : {T : Type 0} → (ℤ → Type 0) → (T → ℤ) → (ℤ → Type 0) → T → Type 0
-    //! Has fits value P t = fits (value t) × P (value t)
     //! ```
     //!
     //! ## `MatchCommonSolution`

@@ -1,8 +1,9 @@
 -- The result of a call on two fractions, by their exact results.
-use Rattle.std.specs.Prelude.{◌≡◌, ◌≢◌, ◌+ℤ◌, ◌*ℤ◌, ℤ, pos, Result, Ok, Err, MatchResult, FitsSigned}
+use Rattle.std.specs.Prelude.{◌≡◌, ◌≢◌, ◌+ℤ◌, ◌*ℤ◌, ℤ, pos, Result, Ok, Err, IsErrAnd, MatchResult, FitsSigned}
 use Rattle.std.specs.Int.{w64, w128}
 use Rattle.std.proofs.Common.{ap, inl, inr, refl, to_z, of_z, ◌∙◌}
 use Rattle.std.proofs.lemmas.Int.{to_z-of_z}
+use Rattle.std.proofs.lemmas.Result.{err_from_is_err_and}
 use Rattle.ratio64.proofs.ForCallers.{err_is_outside, nonzero_product, ok_is_inside, product_of_exact_results, sum_of_exact_results}
 use Rattle.ratio64.specs.Fraction.{IsFraction, IsOutsideI64}
 use Rattle.ratio64.specs.Ratio.{AnswersFraction, num_of, den_of}
@@ -46,25 +47,42 @@ asked answer x y nonzero h is = inr (x.exact.fraction, inr (y.exact.fraction, in
 denominators : {a b c d : ℤ} {x y : Ratio} → IsRatioOf a b x → IsRatioOf c d y → b *ℤ d ≢ pos 0
 denominators x y = nonzero_product x.exact.fraction y.exact.fraction
 
--- the fractions that were given, and their parts
-module _ {a b c d : ℤ} {x y : Ratio} {r : Result Answer Refusal} (answer : Result Ratio RatioError) (given : PartsFit a b c d × IsRatioOf a b x × IsRatioOf c d y) (is : MatchResult answer (λ z. r ≡ Ok (Two (num_of z) (den_of z))) (λ _. r ≡ Err NotFitting)) where
-  pub sum_outcome : AnswersFraction (num_of x *ℤ den_of y +ℤ num_of y *ℤ den_of x) (den_of x *ℤ den_of y) answer → (fits : ℤ → Type 0) → OutcomeIn fits (RatioAdd a b c d) r
-  unfolding Inside
-  sum_outcome h fits = inr (given.0, asked answer given.1 given.2 (denominators given.1 given.2) (sum_of_exact_results given.1.exact given.2.exact h) is)
+-- ---- the calls, whose operands are read back from their bits
 
-  pub product_outcome : AnswersFraction (num_of x *ℤ num_of y) (den_of x *ℤ den_of y) answer → (fits : ℤ → Type 0) → OutcomeIn fits (RatioMul a b c d) r
-  unfolding Inside
-  product_outcome h fits = inr (given.0, asked answer given.1 given.2 (denominators given.1 given.2) (product_of_exact_results given.1.exact given.2.exact h) is)
+abbrev read : ℤ → ℤ
+read n = to_z w128 (of_z w128 n)
 
--- those that gave an error
-module _ {a b c d : ℤ} {r : Result Answer Refusal} (given : NeedsParts a b c d (λ _. ⊥) r) (fits : ℤ → Type 0) where
-  pub sum_refused : OutcomeIn fits (RatioAdd a b c d) r
-  unfolding Inside
-  sum_refused = refused_given given
+module _ {a b c d : ℤ} (a_fits : FitsSigned w128 a) (b_fits : FitsSigned w128 b) (c_fits : FitsSigned w128 c) (d_fits : FitsSigned w128 d) (fits : ℤ → Type 0) where
+  -- the operands gave an error, which is that of the call
+  module _ {e : Refusal} (h : NeedsParts (read a) (read b) (read c) (read d) (λ _. ⊥) (Err e)) (r : Result Answer Refusal) (is : IsErrAnd r (λ f. f ≡ e)) where
+    given_error : NeedsParts a b c d (λ _. ⊥) r
+    given_error =
+        let given = rw (to_z-of_z w128 a a_fits, to_z-of_z w128 b b_fits, to_z-of_z w128 c c_fits, to_z-of_z w128 d d_fits) at h in
+        let same = err_from_is_err_and r is in
+        rw (same.1, same.2) given
 
-  pub product_refused : OutcomeIn fits (RatioMul a b c d) r
-  unfolding Inside
-  product_refused = refused_given given
+    pub sum_refused : OutcomeIn fits (RatioAdd a b c d) r
+    unfolding Inside
+    sum_refused = refused_given given_error
+
+    pub product_refused : OutcomeIn fits (RatioMul a b c d) r
+    unfolding Inside
+    product_refused = refused_given given_error
+
+  -- the operands gave the fractions x and y
+  module _ {x y : Ratio} (h : PartsFit (read a) (read b) (read c) (read d) × IsRatioOf (read a) (read b) x × IsRatioOf (read c) (read d) y) where
+    given : PartsFit a b c d × IsRatioOf a b x × IsRatioOf c d y
+    given = rw (to_z-of_z w128 a a_fits, to_z-of_z w128 b b_fits, to_z-of_z w128 c c_fits, to_z-of_z w128 d d_fits) at h
+
+    pub sum_outcome : {r : Result Answer Refusal} (answer : Result Ratio RatioError) → MatchResult answer (λ z. r ≡ Ok (Two (num_of z) (den_of z))) (λ _. r ≡ Err NotFitting)
+        → AnswersFraction (num_of x *ℤ den_of y +ℤ num_of y *ℤ den_of x) (den_of x *ℤ den_of y) answer → OutcomeIn fits (RatioAdd a b c d) r
+    unfolding Inside
+    sum_outcome answer is k = inr (given.0, asked answer given.1 given.2 (denominators given.1 given.2) (sum_of_exact_results given.1.exact given.2.exact k) is)
+
+    pub product_outcome : {r : Result Answer Refusal} (answer : Result Ratio RatioError) → MatchResult answer (λ z. r ≡ Ok (Two (num_of z) (den_of z))) (λ _. r ≡ Err NotFitting)
+        → AnswersFraction (num_of x *ℤ num_of y) (den_of x *ℤ den_of y) answer → OutcomeIn fits (RatioMul a b c d) r
+    unfolding Inside
+    product_outcome answer is k = inr (given.0, asked answer given.1 given.2 (denominators given.1 given.2) (product_of_exact_results given.1.exact given.2.exact k) is)
 
 -- ---- operands that were narrowed to x, y, z and w
 

@@ -54,20 +54,20 @@ pub enum Answer {
 pub enum Refusal {
     /// An operand other than a degree does not fit in the kind, a degree does not fit in `u32`, or a call
     /// on fractions is made at a kind other than `i64`.
-    OutOfType,
+    OutOfType = 1,
     /// The divisor, or a denominator, is 0.
-    ZeroDivisor,
+    ZeroDivisor = 2,
     /// The degree is 0.
-    ZeroDegree,
+    ZeroDegree = 3,
     /// The number is negative, and the degree is even.
-    NegativeRoot,
+    NegativeRoot = 4,
     /// A count is negative.
-    NegativeCount,
+    NegativeCount = 5,
     /// The quotient, multiple, divisor or coefficient does not fit in the kind, or a part of a fraction
     /// in lowest terms does not fit in `i64`.
-    NotFitting,
+    NotFitting = 6,
     /// The kind is unsigned, and neither operand divides the other.
-    NoPair,
+    NoPair = 7,
 }
 
 impl Refusal {
@@ -76,15 +76,7 @@ impl Refusal {
     pub fn number(&self) -> u32
         ensures { result ≡ number_of self.now }
     {
-        match self {
-            Refusal::OutOfType => 1,
-            Refusal::ZeroDivisor => 2,
-            Refusal::ZeroDegree => 3,
-            Refusal::NegativeRoot => 4,
-            Refusal::NegativeCount => 5,
-            Refusal::NotFitting => 6,
-            Refusal::NoPair => 7,
-        }
+        *self as u32
     }
 
     /// Returns the name that `intcalc` prints. `Refusal::OutOfType.name()` is `"OutOfType"`.

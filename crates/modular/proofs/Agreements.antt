@@ -3,6 +3,7 @@ use Rattle.std.specs.Prelude.{◌≡◌, ◌<◌, ◌≤◌, ◌+◌, ◌≤ℤ�
 use Rattle.std.specs.List.{All}
 use Rattle.std.proofs.Common.{arith, ◌∙◌, ap, get_or, refl, subst, sym, take}
 use Rattle.std.proofs.lemmas.List.Elements.{All-cons, All-head, All-nil, All-tail}
+use Rattle.num_integer.specs.Checked.{Has}
 use Rattle.num_integer.specs.Range.{IsRange}
 use Rattle.num_integer.specs.Divisors.{Divides, IsGreatestCommonDivisor, IsLeastCommonMultiple}
 use Rattle.num_integer.specs.Least.{IsLeastFrom}
@@ -12,7 +13,6 @@ use Rattle.modular.specs.declared.common_solutions.CommonSolution.{CommonSolutio
 use Rattle.modular.specs.declared.common_solutions.CommonSolution.TheVariants.{Never, Beyond, At}
 use Rattle.modular.specs.CommonSolutions.{MatchCommonSolution}
 use Rattle.modular.specs.Agreement.{Agree, AgreeInPairs, AgreesWithEach}
-use Rattle.modular.specs.Below.{Has}
 use Rattle.modular.specs.Congruences.{AreCongruent, IsNextCongruent, IsResidueClass, SolvesBothCongruences, SolvesEach}
 use Rattle.modular.proofs.ListedItems.{all_items, at_item, one_item_more}
 use Rattle.modular.proofs.Congruences.{congruent-divisor, congruent-refl, congruent-sym, congruent-trans, congruent_by, remainder_is_residue}

@@ -2,9 +2,8 @@
 use Rattle.std.specs.Prelude.{◌≡◌, ◌≤ℤ◌, ◌<ℤ◌, ◌+ℤ◌, ◌-ℤ◌, ℤ, pos, neg_ℤ, Option, Some, None, MatchOption}
 use Rattle.std.proofs.Common.{arith, subst, sym}
 use Rattle.std.proofs.lemmas.Int.{by_lt_z}
-use Rattle.num_integer.specs.Checked.{AnswersWhere}
+use Rattle.num_integer.specs.Checked.{AnswersWhere, Has}
 use Rattle.num_integer.proofs.ForCallers.{expand, linear, sizes, small_multiple_is_zero}
-use Rattle.modular.specs.Below.{Has}
 use Rattle.modular.specs.CommonSolutions.{MatchWhere}
 use Rattle.modular.specs.Congruences.{AreCongruent, IsNextCongruent, IsPreviousCongruent, IsResidue}
 use Rattle.modular.proofs.Congruences.{congruent-sym, congruent-trans, congruent_by}

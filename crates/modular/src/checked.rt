@@ -3,10 +3,9 @@
 
 ghost use Rattle.std.specs.Prelude.{◌<ℤ◌, ◌+ℤ◌, ◌-ℤ◌, ◌*ℤ◌, ℤ, neg_ℤ, pos, MatchOption};
 ghost use Rattle.std.specs.Int.{int_pow};
-ghost use Rattle.modular.specs.Below.{Has};
 ghost use Rattle.modular.specs.CommonSolutions.{MatchCommonSolution, MatchWhere};
 ghost use Rattle.modular.specs.Congruences.{IsCountOfCongruent, IsInverse, IsNextCommonSolution, IsNextCongruent, IsPreviousCongruent, IsQuotientModulo, IsReducedModulus, IsResidue, IsResidueClass, Solves, SolvesBothCongruences};
-ghost use Rattle.num_integer.specs.Checked.{AnswersWhere};
+ghost use Rattle.num_integer.specs.Checked.{AnswersWhere, Has};
 
 use crate::common_solutions::CommonSolution;
 use crate::products::Modular;
@@ -20,11 +19,8 @@ pub fn residue<T: Integer>(a: T, m: T) -> Option<T>
     ensures { AnswersWhere (pos 0 <ℤ T.value m)
         (Has T.fits T.value (IsResidue (T.value m) (T.value a))) result }
 {
-    if is_below(zero(), m) {
-        Some(crate::residue(a, m))
-    } else {
-        None
-    }
+    positive(m)?;
+    Some(crate::residue(a, m))
 }
 
 /// Returns [`sum_modulo`](crate::sum_modulo), or `None` if `m` is not positive. `sum_modulo(5, 4, 7)` is `Some(2)`, and
@@ -34,11 +30,8 @@ pub fn sum_modulo<T: Integer>(a: T, b: T, m: T) -> Option<T>
     ensures { AnswersWhere (pos 0 <ℤ T.value m)
         (Has T.fits T.value (IsResidue (T.value m) (T.value a +ℤ T.value b))) result }
 {
-    if is_below(zero(), m) {
-        Some(crate::sum_modulo(a, b, m))
-    } else {
-        None
-    }
+    positive(m)?;
+    Some(crate::sum_modulo(a, b, m))
 }
 
 /// Returns [`difference_modulo`](crate::difference_modulo), or `None` if `m` is not positive.
@@ -48,11 +41,8 @@ pub fn difference_modulo<T: Integer>(a: T, b: T, m: T) -> Option<T>
     ensures { AnswersWhere (pos 0 <ℤ T.value m)
         (Has T.fits T.value (IsResidue (T.value m) (T.value a -ℤ T.value b))) result }
 {
-    if is_below(zero(), m) {
-        Some(crate::difference_modulo(a, b, m))
-    } else {
-        None
-    }
+    positive(m)?;
+    Some(crate::difference_modulo(a, b, m))
 }
 
 /// Returns [`negation_modulo`](crate::negation_modulo), or `None` if `m` is not positive. `negation_modulo(2, 7)` is
@@ -62,11 +52,8 @@ pub fn negation_modulo<T: Integer>(a: T, m: T) -> Option<T>
     ensures { AnswersWhere (pos 0 <ℤ T.value m)
         (Has T.fits T.value (IsResidue (T.value m) (neg_ℤ (T.value a)))) result }
 {
-    if is_below(zero(), m) {
-        Some(crate::negation_modulo(a, m))
-    } else {
-        None
-    }
+    positive(m)?;
+    Some(crate::negation_modulo(a, m))
 }
 
 /// Returns [`product_modulo`](crate::product_modulo), or `None` if `m` is not positive. `product_modulo(4, 5, 7)` is
@@ -76,11 +63,8 @@ pub fn product_modulo<T: Modular>(a: T, b: T, m: T) -> Option<T>
     ensures { AnswersWhere (pos 0 <ℤ T.value m)
         (Has T.fits T.value (IsResidue (T.value m) (T.value a *ℤ T.value b))) result }
 {
-    if is_below(zero(), m) {
-        Some(crate::product_modulo(a, b, m))
-    } else {
-        None
-    }
+    positive(m)?;
+    Some(crate::product_modulo(a, b, m))
 }
 
 /// Returns [`power_modulo`](crate::power_modulo), or `None` if `m` is not positive. `power_modulo(3, 4, 7)` is
@@ -90,11 +74,8 @@ pub fn power_modulo<T: Modular>(a: T, exponent: u128, m: T) -> Option<T>
     ensures { AnswersWhere (pos 0 <ℤ T.value m)
         (Has T.fits T.value (IsResidue (T.value m) (int_pow (T.value a) exponent))) result }
 {
-    if is_below(zero(), m) {
-        Some(crate::power_modulo(a, exponent, m))
-    } else {
-        None
-    }
+    positive(m)?;
+    Some(crate::power_modulo(a, exponent, m))
 }
 
 /// Returns [`inverse_modulo`](crate::inverse_modulo), or `None` if `m` is not positive or there is no inverse.
@@ -104,11 +85,8 @@ pub fn inverse_modulo<T: Integer>(a: T, m: T) -> Option<T>
     ensures { MatchOption result ((x : ℤ) → ¬ (IsInverse (T.value a) (T.value m) x))
         (Has T.fits T.value (IsInverse (T.value a) (T.value m))) }
 {
-    if is_below(zero(), m) {
-        crate::inverse_modulo(a, m)
-    } else {
-        None
-    }
+    positive(m)?;
+    crate::inverse_modulo(a, m)
 }
 
 /// Returns [`quotient_modulo`](crate::quotient_modulo), or `None` if `m` is not positive or `b` has no inverse.
@@ -118,11 +96,8 @@ pub fn quotient_modulo<T: Modular>(a: T, b: T, m: T) -> Option<T>
     ensures { MatchOption result ((x : ℤ) → ¬ (IsInverse (T.value b) (T.value m) x))
         (Has T.fits T.value (IsQuotientModulo (T.value a) (T.value b) (T.value m))) }
 {
-    if is_below(zero(), m) {
-        crate::quotient_modulo(a, b, m)
-    } else {
-        None
-    }
+    positive(m)?;
+    crate::quotient_modulo(a, b, m)
 }
 
 /// Returns [`solutions`](crate::solutions), or `None` if `m` is not positive or there is no solution.
@@ -135,11 +110,8 @@ pub fn solutions<T: Modular>(a: T, b: T, m: T) -> Option<(T, T)>
         × IsResidueClass (Solves (T.value a) (T.value b) (T.value m)) (T.value s.0) (T.value s.1)
         × IsReducedModulus (T.value a) (T.value m) (T.value s.1)) }
 {
-    if is_below(zero(), m) {
-        crate::solutions(a, b, m)
-    } else {
-        None
-    }
+    positive(m)?;
+    crate::solutions(a, b, m)
 }
 
 /// Returns [`next_congruent`](crate::next_congruent), or `None` if `step` is not positive or the number does not fit.
@@ -150,11 +122,8 @@ pub fn next_congruent<T: Fits>(from: T, first: T, step: T) -> Option<T>
         ((t : ℤ) × IsNextCongruent (T.value from) (T.value first) (T.value step) t × ¬ (T.fits t))
         (Has T.fits T.value (IsNextCongruent (T.value from) (T.value first) (T.value step))) }
 {
-    if is_below(zero(), step) {
-        crate::next_congruent(from, first, step)
-    } else {
-        None
-    }
+    positive(step)?;
+    crate::next_congruent(from, first, step)
 }
 
 /// Returns [`previous_congruent`](crate::previous_congruent), or `None` if `step` is not positive or the number does not
@@ -166,11 +135,8 @@ pub fn previous_congruent<T: Fits>(to: T, first: T, step: T) -> Option<T>
         × ¬ (T.fits t))
         (Has T.fits T.value (IsPreviousCongruent (T.value to) (T.value first) (T.value step))) }
 {
-    if is_below(zero(), step) {
-        crate::previous_congruent(to, first, step)
-    } else {
-        None
-    }
+    positive(step)?;
+    crate::previous_congruent(to, first, step)
 }
 
 /// Returns [`count_congruent`](crate::count_congruent), or `None` if `step` is not positive or the count does not fit.
@@ -184,11 +150,8 @@ pub fn count_congruent<T: Fits>(from: T, to: T, first: T, step: T) -> Option<T>
         (Has T.fits T.value (IsCountOfCongruent (T.value from) (T.value to) (T.value first)
         (T.value step))) }
 {
-    if is_below(zero(), step) {
-        crate::count_congruent(from, to, first, step)
-    } else {
-        None
-    }
+    positive(step)?;
+    crate::count_congruent(from, to, first, step)
 }
 
 /// Returns [`next_common_solution`](crate::next_common_solution), or `None` if a modulus is not positive.
@@ -212,9 +175,15 @@ pub fn next_common_solution<T: Modular + Fits>(
         (T.value b) (T.value n))))
         result }
 {
-    if is_below(zero(), m) && is_below(zero(), n) {
-        Some(crate::next_common_solution(from, a, m, b, n))
-    } else {
-        None
-    }
+    positive(m)?;
+    positive(n)?;
+    Some(crate::next_common_solution(from, a, m, b, n))
+}
+
+/// Returns `Some` if the modulus is positive.
+fn positive<T: Integer>(m: T) -> Option<()>
+    requires { T.fits (T.value m) }
+    ensures { MatchOption result (¬ (pos 0 <ℤ T.value m)) (λ _. pos 0 <ℤ T.value m) }
+{
+    is_below(zero(), m).then_some(())
 }

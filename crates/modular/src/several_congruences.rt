@@ -3,9 +3,9 @@
 ghost use Rattle.std.specs.Prelude.{◌↔◌, ◌<ℤ◌, ◌≤ℤ◌, ℤ, pos, IsTrue, MatchOption};
 ghost use Rattle.std.specs.List.{All};
 ghost use Rattle.modular.specs.Agreement.{AgreesWithEach};
-ghost use Rattle.modular.specs.Below.{Has};
 ghost use Rattle.modular.specs.CommonSolutions.{MatchCommonSolution};
 ghost use Rattle.modular.specs.Congruences.{SolvesBothCongruences, SolvesEach};
+ghost use Rattle.num_integer.specs.Checked.{Has};
 ghost use Rattle.num_integer.specs.Least.{IsLeastFrom};
 
 use crate::common_solutions::{CommonSolution, chinese_remainder, next_common_solution};

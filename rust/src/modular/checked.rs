@@ -31,17 +31,14 @@ use crate::{Fits, Integer};
 /// ```
 ///
 /// Words: [`AnswersWhere`](crate::definitions::num_integer#answerswhere),
-/// [`Has`](crate::definitions::modular#has), [`IsResidue`](crate::definitions::modular#isresidue),
-/// [how to read it](crate::definitions).
+/// [`Has`](crate::definitions::num_integer#has),
+/// [`IsResidue`](crate::definitions::modular#isresidue), [how to read it](crate::definitions).
 ///
 /// </details>
 #[must_use]
 pub fn residue<T: Integer + Copy>(a: T, m: T) -> Option<T> {
-    if T::zero() < m {
-        Some(crate::modular::residue(a, m))
-    } else {
-        None
-    }
+    positive(m)?;
+    Some(crate::modular::residue(a, m))
 }
 
 /// Returns [`sum_modulo`](crate::modular::sum_modulo), or `None` if `m` is not positive.
@@ -68,17 +65,14 @@ pub fn residue<T: Integer + Copy>(a: T, m: T) -> Option<T> {
 /// ```
 ///
 /// Words: [`AnswersWhere`](crate::definitions::num_integer#answerswhere),
-/// [`Has`](crate::definitions::modular#has), [`IsResidue`](crate::definitions::modular#isresidue),
-/// [how to read it](crate::definitions).
+/// [`Has`](crate::definitions::num_integer#has),
+/// [`IsResidue`](crate::definitions::modular#isresidue), [how to read it](crate::definitions).
 ///
 /// </details>
 #[must_use]
 pub fn sum_modulo<T: Integer + Copy>(a: T, b: T, m: T) -> Option<T> {
-    if T::zero() < m {
-        Some(crate::modular::sum_modulo(a, b, m))
-    } else {
-        None
-    }
+    positive(m)?;
+    Some(crate::modular::sum_modulo(a, b, m))
 }
 
 /// Returns [`difference_modulo`](crate::modular::difference_modulo), or `None` if `m` is not
@@ -106,17 +100,14 @@ pub fn sum_modulo<T: Integer + Copy>(a: T, b: T, m: T) -> Option<T> {
 /// ```
 ///
 /// Words: [`AnswersWhere`](crate::definitions::num_integer#answerswhere),
-/// [`Has`](crate::definitions::modular#has), [`IsResidue`](crate::definitions::modular#isresidue),
-/// [how to read it](crate::definitions).
+/// [`Has`](crate::definitions::num_integer#has),
+/// [`IsResidue`](crate::definitions::modular#isresidue), [how to read it](crate::definitions).
 ///
 /// </details>
 #[must_use]
 pub fn difference_modulo<T: Integer + Copy>(a: T, b: T, m: T) -> Option<T> {
-    if T::zero() < m {
-        Some(crate::modular::difference_modulo(a, b, m))
-    } else {
-        None
-    }
+    positive(m)?;
+    Some(crate::modular::difference_modulo(a, b, m))
 }
 
 /// Returns [`negation_modulo`](crate::modular::negation_modulo), or `None` if `m` is not positive.
@@ -143,17 +134,14 @@ pub fn difference_modulo<T: Integer + Copy>(a: T, b: T, m: T) -> Option<T> {
 /// ```
 ///
 /// Words: [`AnswersWhere`](crate::definitions::num_integer#answerswhere),
-/// [`Has`](crate::definitions::modular#has), [`IsResidue`](crate::definitions::modular#isresidue),
-/// [how to read it](crate::definitions).
+/// [`Has`](crate::definitions::num_integer#has),
+/// [`IsResidue`](crate::definitions::modular#isresidue), [how to read it](crate::definitions).
 ///
 /// </details>
 #[must_use]
 pub fn negation_modulo<T: Integer + Copy>(a: T, m: T) -> Option<T> {
-    if T::zero() < m {
-        Some(crate::modular::negation_modulo(a, m))
-    } else {
-        None
-    }
+    positive(m)?;
+    Some(crate::modular::negation_modulo(a, m))
 }
 
 /// Returns [`product_modulo`](crate::modular::product_modulo), or `None` if `m` is not positive.
@@ -180,17 +168,14 @@ pub fn negation_modulo<T: Integer + Copy>(a: T, m: T) -> Option<T> {
 /// ```
 ///
 /// Words: [`AnswersWhere`](crate::definitions::num_integer#answerswhere),
-/// [`Has`](crate::definitions::modular#has), [`IsResidue`](crate::definitions::modular#isresidue),
-/// [how to read it](crate::definitions).
+/// [`Has`](crate::definitions::num_integer#has),
+/// [`IsResidue`](crate::definitions::modular#isresidue), [how to read it](crate::definitions).
 ///
 /// </details>
 #[must_use]
 pub fn product_modulo<T: Modular>(a: T, b: T, m: T) -> Option<T> {
-    if T::zero() < m {
-        Some(crate::modular::product_modulo(a, b, m))
-    } else {
-        None
-    }
+    positive(m)?;
+    Some(crate::modular::product_modulo(a, b, m))
 }
 
 /// Returns [`power_modulo`](crate::modular::power_modulo), or `None` if `m` is not positive.
@@ -217,17 +202,14 @@ pub fn product_modulo<T: Modular>(a: T, b: T, m: T) -> Option<T> {
 /// ```
 ///
 /// Words: [`AnswersWhere`](crate::definitions::num_integer#answerswhere),
-/// [`Has`](crate::definitions::modular#has), [`IsResidue`](crate::definitions::modular#isresidue),
-/// [how to read it](crate::definitions).
+/// [`Has`](crate::definitions::num_integer#has),
+/// [`IsResidue`](crate::definitions::modular#isresidue), [how to read it](crate::definitions).
 ///
 /// </details>
 #[must_use]
 pub fn power_modulo<T: Modular>(a: T, exponent: u128, m: T) -> Option<T> {
-    if T::zero() < m {
-        Some(crate::modular::power_modulo(a, exponent, m))
-    } else {
-        None
-    }
+    positive(m)?;
+    Some(crate::modular::power_modulo(a, exponent, m))
 }
 
 /// Returns [`inverse_modulo`](crate::modular::inverse_modulo), or `None` if `m` is not positive or
@@ -255,16 +237,13 @@ pub fn power_modulo<T: Modular>(a: T, exponent: u128, m: T) -> Option<T> {
 /// ```
 ///
 /// Words: [`IsInverse`](crate::definitions::modular#isinverse),
-/// [`Has`](crate::definitions::modular#has), [how to read it](crate::definitions).
+/// [`Has`](crate::definitions::num_integer#has), [how to read it](crate::definitions).
 ///
 /// </details>
 #[must_use]
 pub fn inverse_modulo<T: Integer + Copy>(a: T, m: T) -> Option<T> {
-    if T::zero() < m {
-        crate::modular::inverse_modulo(a, m)
-    } else {
-        None
-    }
+    positive(m)?;
+    crate::modular::inverse_modulo(a, m)
 }
 
 /// Returns [`quotient_modulo`](crate::modular::quotient_modulo), or `None` if `m` is not positive
@@ -292,18 +271,15 @@ pub fn inverse_modulo<T: Integer + Copy>(a: T, m: T) -> Option<T> {
 /// ```
 ///
 /// Words: [`IsInverse`](crate::definitions::modular#isinverse),
-/// [`Has`](crate::definitions::modular#has),
+/// [`Has`](crate::definitions::num_integer#has),
 /// [`IsQuotientModulo`](crate::definitions::modular#isquotientmodulo),
 /// [how to read it](crate::definitions).
 ///
 /// </details>
 #[must_use]
 pub fn quotient_modulo<T: Modular>(a: T, b: T, m: T) -> Option<T> {
-    if T::zero() < m {
-        crate::modular::quotient_modulo(a, b, m)
-    } else {
-        None
-    }
+    positive(m)?;
+    crate::modular::quotient_modulo(a, b, m)
 }
 
 /// Returns [`solutions`](crate::modular::solutions), or `None` if `m` is not positive or there is
@@ -342,11 +318,8 @@ pub fn quotient_modulo<T: Modular>(a: T, b: T, m: T) -> Option<T> {
 /// </details>
 #[must_use]
 pub fn solutions<T: Modular>(a: T, b: T, m: T) -> Option<(T, T)> {
-    if T::zero() < m {
-        crate::modular::solutions(a, b, m)
-    } else {
-        None
-    }
+    positive(m)?;
+    crate::modular::solutions(a, b, m)
 }
 
 /// Returns [`next_congruent`](crate::modular::next_congruent), or `None` if `step` is not positive
@@ -376,16 +349,13 @@ pub fn solutions<T: Modular>(a: T, b: T, m: T) -> Option<(T, T)> {
 ///
 /// Words: [`MatchWhere`](crate::definitions::modular#matchwhere),
 /// [`IsNextCongruent`](crate::definitions::modular#isnextcongruent),
-/// [`Has`](crate::definitions::modular#has), [how to read it](crate::definitions).
+/// [`Has`](crate::definitions::num_integer#has), [how to read it](crate::definitions).
 ///
 /// </details>
 #[must_use]
 pub fn next_congruent<T: Fits>(from: T, first: T, step: T) -> Option<T> {
-    if T::zero() < step {
-        crate::modular::next_congruent(from, first, step)
-    } else {
-        None
-    }
+    positive(step)?;
+    crate::modular::next_congruent(from, first, step)
 }
 
 /// Returns [`previous_congruent`](crate::modular::previous_congruent), or `None` if `step` is not
@@ -416,16 +386,13 @@ pub fn next_congruent<T: Fits>(from: T, first: T, step: T) -> Option<T> {
 ///
 /// Words: [`MatchWhere`](crate::definitions::modular#matchwhere),
 /// [`IsPreviousCongruent`](crate::definitions::modular#ispreviouscongruent),
-/// [`Has`](crate::definitions::modular#has), [how to read it](crate::definitions).
+/// [`Has`](crate::definitions::num_integer#has), [how to read it](crate::definitions).
 ///
 /// </details>
 #[must_use]
 pub fn previous_congruent<T: Fits>(to: T, first: T, step: T) -> Option<T> {
-    if T::zero() < step {
-        crate::modular::previous_congruent(to, first, step)
-    } else {
-        None
-    }
+    positive(step)?;
+    crate::modular::previous_congruent(to, first, step)
 }
 
 /// Returns [`count_congruent`](crate::modular::count_congruent), or `None` if `step` is not
@@ -457,16 +424,13 @@ pub fn previous_congruent<T: Fits>(to: T, first: T, step: T) -> Option<T> {
 ///
 /// Words: [`MatchWhere`](crate::definitions::modular#matchwhere),
 /// [`IsCountOfCongruent`](crate::definitions::modular#iscountofcongruent),
-/// [`Has`](crate::definitions::modular#has), [how to read it](crate::definitions).
+/// [`Has`](crate::definitions::num_integer#has), [how to read it](crate::definitions).
 ///
 /// </details>
 #[must_use]
 pub fn count_congruent<T: Fits>(from: T, to: T, first: T, step: T) -> Option<T> {
-    if T::zero() < step {
-        crate::modular::count_congruent(from, to, first, step)
-    } else {
-        None
-    }
+    positive(step)?;
+    crate::modular::count_congruent(from, to, first, step)
 }
 
 /// Returns [`next_common_solution`](crate::modular::next_common_solution), or `None` if a modulus
@@ -504,7 +468,7 @@ pub fn count_congruent<T: Fits>(from: T, to: T, first: T, step: T) -> Option<T> 
 /// [`MatchCommonSolution`](crate::definitions::modular#matchcommonsolution),
 /// [`SolvesBothCongruences`](crate::definitions::modular#solvesbothcongruences),
 /// [`IsNextCommonSolution`](crate::definitions::modular#isnextcommonsolution),
-/// [`Has`](crate::definitions::modular#has), [how to read it](crate::definitions).
+/// [`Has`](crate::definitions::num_integer#has), [how to read it](crate::definitions).
 ///
 /// </details>
 #[must_use]
@@ -515,9 +479,12 @@ pub fn next_common_solution<T: Modular + Fits>(
     b: T,
     n: T,
 ) -> Option<CommonSolution<T>> {
-    if T::zero() < m && T::zero() < n {
-        Some(crate::modular::next_common_solution(from, a, m, b, n))
-    } else {
-        None
-    }
+    positive(m)?;
+    positive(n)?;
+    Some(crate::modular::next_common_solution(from, a, m, b, n))
+}
+
+/// Returns `Some` if the modulus is positive.
+fn positive<T: Integer>(m: T) -> Option<()> {
+    (T::zero() < m).then_some(())
 }

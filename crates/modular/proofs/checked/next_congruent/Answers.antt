@@ -1,5 +1,5 @@
 use Rattle.modular.proofs.NextCongruent.{match_where}
 use Rattle.modular.proofs.checked.next_congruent.Goals as goal
 
-pub returns-then-is_below : goal.returns-then-is_below
-returns-then-is_below g c = match_where _ _ c.next_congruent.result (rw c.zero.ensures.value at (c.is_below.ensures.0 c.if-is_below.true)) c.next_congruent.ensures
+pub returns : goal.returns
+returns g c = match_where _ _ c.next_congruent.result c.in_ok-positive.ensures c.next_congruent.ensures

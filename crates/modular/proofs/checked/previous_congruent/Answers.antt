@@ -1,5 +1,5 @@
 use Rattle.modular.proofs.NextCongruent.{match_where}
 use Rattle.modular.proofs.checked.previous_congruent.Goals as goal
 
-pub returns-then-is_below : goal.returns-then-is_below
-returns-then-is_below g c = match_where _ _ c.previous_congruent.result (rw c.zero.ensures.value at (c.is_below.ensures.0 c.if-is_below.true)) c.previous_congruent.ensures
+pub returns : goal.returns
+returns g c = match_where _ _ c.previous_congruent.result c.in_ok-positive.ensures c.previous_congruent.ensures
