@@ -1,6 +1,7 @@
 -- What a call for several congruences returns.
-use Rattle.std.specs.Prelude.{◌≡◌, ◌≤◌, ℕ, ℤ, List, length}
+use Rattle.std.specs.Prelude.{◌≡◌, ◌≤◌, ℕ, ℤ, List, length, map}
 use Rattle.std.proofs.Common.{◌∙◌, arith, inl, inr, refl, sym}
+use Rattle.std.proofs.lemmas.List.{length-map}
 use Rattle.num_integer.specs.Least.{IsLeastFrom}
 use Rattle.modular.specs.CommonSolutions.{MatchCommonSolution}
 use Rattle.modular.specs.Congruences.{SolvesEach}
@@ -15,9 +16,15 @@ no_third : {status one two three : ℕ} → Either one two status → ¬ (one �
 no_third (inl same) first second third = first (sym same ∙ third)
 no_third (inr same) first second third = second (sym same ∙ third)
 
-module _ {X : Type 0} (value : X → ℤ) (fits : ℤ → Type 0) (from : ℤ) (pairs : List (X × X)) (zero_value : X) where
-  pub bad_modulus_is : length pairs ≤ 64 → ¬ (HavePositiveModuli value pairs) → IsNextOfSeveral value fits from pairs zero_value bad_modulus zero_value
-  bad_modulus_is few bad = record {
+module _ {X C : Type 0} (value : X → ℤ) (fits : ℤ → Type 0) (from : ℤ) (pair : C → X × X) (congruences : List C) (zero_value : X) (within : length congruences ≤ 64) where
+  abbrev pairs : List (X × X)
+  pairs = map pair congruences
+
+  few : length pairs ≤ 64
+  few = let long : length pairs ≡ length congruences = length-map congruences pair in omega (arith, long, within)
+
+  pub bad_modulus_is : ¬ (HavePositiveModuli value pairs) → IsNextOfSeveral value fits from pairs zero_value bad_modulus zero_value
+  bad_modulus_is bad = record {
     answer = λ _ positive. absurd (bad positive);
     too_many = (λ same. absurd (omega (arith, same)), λ many. absurd (omega (arith, many, few)));
     modulus_is_bad = (λ _. (few, bad), λ _. refl);
@@ -25,10 +32,10 @@ module _ {X : Type 0} (value : X → ℤ) (fits : ℤ → Type 0) (from : ℤ) (
   }
 
   -- the status of a common solution is no other than these
-  pub common_solution_is : (status : ℕ) (found : X) → length pairs ≤ 64 → HavePositiveModuli value pairs → Refuses (Either not_fitting no_solution) zero_value status found
+  pub common_solution_is : (status : ℕ) (found : X) → HavePositiveModuli value pairs → Refuses (Either not_fitting no_solution) zero_value status found
       → MatchCommonSolution (common_solution_of status found) (IsNever (SolvesEach value pairs)) (IsBeyond fits (IsLeastFrom from (SolvesEach value pairs))) (λ t. IsLeastFrom from (SolvesEach value pairs) (value t))
       → IsNextOfSeveral value fits from pairs zero_value status found
-  common_solution_is status found few positive refuses own = record {
+  common_solution_is status found positive refuses own = record {
     answer = λ _ _. own;
     too_many = (λ same. absurd (no_third (refuses (λ zero. absurd (omega (arith, same, zero)))).1 (λ e. absurd (omega (arith, e))) (λ e. absurd (omega (arith, e))) same), λ many. absurd (omega (arith, many, few)));
     modulus_is_bad = (λ same. absurd (no_third (refuses (λ zero. absurd (omega (arith, same, zero)))).1 (λ e. absurd (omega (arith, e))) (λ e. absurd (omega (arith, e))) same), λ (_, bad). absurd (bad positive));

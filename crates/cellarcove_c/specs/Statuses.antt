@@ -3,11 +3,6 @@ use Rattle.std.specs.Prelude.{◌≡◌, ◌⊎◌, ◌↔◌, ℕ, zero, suc, O
 use Rattle.modular.specs.declared.common_solutions.CommonSolution.{CommonSolution}
 use Rattle.modular.specs.declared.common_solutions.CommonSolution.TheVariants.{Never, Beyond, At}
 
--- The denominator of a fraction is 0.
--- Examples: 1 / 0.
-abbrev pub zero_denominator : ℕ
-zero_denominator = 1
-
 -- The result does not fit its type.
 -- Examples: the sum of 2^63 - 1 and 1 in i64.
 abbrev pub not_fitting : ℕ

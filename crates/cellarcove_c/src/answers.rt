@@ -43,6 +43,18 @@ pub struct U64Answer {
     pub value: u64,
 }
 
+/// Returns the status and the value of a result: 0 and its value, or the reason and zeros if there is none.
+pub(crate) fn with_status<T: Copy>(option: Option<T>, zeros: T, reason: u32) -> (u32, T)
+    requires { reason ≢ 0 }
+    ensures answer { answer_of result.0 result.1 ≡ option }
+    ensures refusal { Refuses (Only reason) zeros result.0 result.1 }
+{
+    match option {
+        Some(value) => (ANSWER, value),
+        None => (reason, zeros),
+    }
+}
+
 impl I64Answer {
     /// Returns the result of a call of `num_integer::checked`, or a rejection for a reason.
     pub(crate) fn of(option: Option<i64>, reason: u32) -> I64Answer
@@ -50,10 +62,8 @@ impl I64Answer {
         ensures answer { answer_of result.status result.value ≡ option }
         ensures refusal { Refuses (Only reason) (pos 0) result.status result.value }
     {
-        match option {
-            Some(value) => I64Answer::some(value),
-            None => I64Answer::none(reason),
-        }
+        let (status, value) = with_status(option, 0, reason);
+        I64Answer { status, value }
     }
 
     /// Returns the result of a call of `modular` that solves several congruences.
@@ -93,10 +103,8 @@ impl U64Answer {
         ensures answer { answer_of result.status result.value ≡ option }
         ensures refusal { Refuses (Only reason) 0 result.status result.value }
     {
-        match option {
-            Some(value) => U64Answer::some(value),
-            None => U64Answer::none(reason),
-        }
+        let (status, value) = with_status(option, 0, reason);
+        U64Answer { status, value }
     }
 
     /// Returns the result of a call of `modular` that solves several congruences.

@@ -7,7 +7,7 @@ ghost use Rattle.cellarcove_c.specs.Answers.{I64Answers, Refuses, U64Answers};
 ghost use Rattle.cellarcove_c.specs.Quotients.{I64Quotient, I64Quotients, U64Quotient, U64Quotients};
 ghost use Rattle.cellarcove_c.specs.Statuses.{IsReason, Only, answer_of, outside};
 
-use crate::answers::{ANSWER, I64Answer, NOT_FITTING, OUTSIDE, U64Answer};
+use crate::answers::{I64Answer, NOT_FITTING, OUTSIDE, U64Answer, with_status};
 use num_integer::operators::is_zero;
 use num_integer::{Integer, checked};
 
@@ -227,17 +227,11 @@ impl I64Division {
         ensures refusal { Refuses {A = ℤ × ℤ} (Only reason) (pos 0, pos 0)
             result.status (result.quotient, result.remainder) }
     {
-        match option {
-            Some((quotient, remainder)) => I64Division {
-                status: ANSWER,
-                quotient,
-                remainder,
-            },
-            None => I64Division {
-                status: reason,
-                quotient: 0,
-                remainder: 0,
-            },
+        let (status, (quotient, remainder)) = with_status(option, (0, 0), reason);
+        I64Division {
+            status,
+            quotient,
+            remainder,
         }
     }
 }
@@ -250,17 +244,11 @@ impl U64Division {
         ensures refusal { Refuses {A = ℕ × ℕ} (Only reason) (0, 0) result.status
             (result.quotient, result.remainder) }
     {
-        match option {
-            Some((quotient, remainder)) => U64Division {
-                status: ANSWER,
-                quotient,
-                remainder,
-            },
-            None => U64Division {
-                status: reason,
-                quotient: 0,
-                remainder: 0,
-            },
+        let (status, (quotient, remainder)) = with_status(option, (0, 0), reason);
+        U64Division {
+            status,
+            quotient,
+            remainder,
         }
     }
 }

@@ -8,7 +8,7 @@ ghost use Rattle.num_integer.specs.Range.{EachFits};
 ghost use Rattle.cellarcove_c.specs.Answers.{Answers, I64Answers, I64Fitting, U64Answers, U64Fitting};
 ghost use Rattle.cellarcove_c.specs.Statuses.{Only, not_fitting};
 
-use crate::answers::{ANSWER, I64Answer, NOT_FITTING, U64Answer};
+use crate::answers::{ANSWER, I64Answer, NOT_FITTING, U64Answer, with_status};
 use num_integer::{ExtendedGcd, checked};
 
 /// A status, and the greatest common divisor with its coefficients.
@@ -90,18 +90,8 @@ pub extern "C" fn cellarcove_gcd_lcm_i64(x: i64, y: i64) -> I64GcdLcm
         (λ (g, l). IsGreatestCommonDivisor x y g × IsLeastCommonMultiple x y l)
         (Only not_fitting) (pos 0, pos 0) result.status (result.gcd, result.lcm) }
 {
-    match checked::gcd_lcm(x, y) {
-        Some((gcd, lcm)) => I64GcdLcm {
-            status: ANSWER,
-            gcd,
-            lcm,
-        },
-        None => I64GcdLcm {
-            status: NOT_FITTING,
-            gcd: 0,
-            lcm: 0,
-        },
-    }
+    let (status, (gcd, lcm)) = with_status(checked::gcd_lcm(x, y), (0, 0), NOT_FITTING);
+    I64GcdLcm { status, gcd, lcm }
 }
 
 /// Returns the greatest common divisor and the least common multiple. Those of 10 and 4 are 2 and 20.
@@ -116,18 +106,8 @@ pub extern "C" fn cellarcove_gcd_lcm_u64(x: u64, y: u64) -> U64GcdLcm
         × IsLeastCommonMultiple (pos x) (pos y) (pos l))
         (Only not_fitting) (0, 0) result.status (result.gcd, result.lcm) }
 {
-    match checked::gcd_lcm(x, y) {
-        Some((gcd, lcm)) => U64GcdLcm {
-            status: ANSWER,
-            gcd,
-            lcm,
-        },
-        None => U64GcdLcm {
-            status: NOT_FITTING,
-            gcd: 0,
-            lcm: 0,
-        },
-    }
+    let (status, (gcd, lcm)) = with_status(checked::gcd_lcm(x, y), (0, 0), NOT_FITTING);
+    U64GcdLcm { status, gcd, lcm }
 }
 
 /// Returns the greatest common divisor, and small coefficients `x` and `y`: `x` times the first number

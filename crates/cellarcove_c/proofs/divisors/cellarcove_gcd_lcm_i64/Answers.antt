@@ -1,12 +1,11 @@
 use Rattle.std.specs.Int.{w64}
-use Rattle.std.proofs.Common.{refl}
 use Rattle.std.proofs.lemmas.Int.{to_z-of_z}
+use Rattle.num_integer.specs.Divisors.{IsGreatestCommonDivisor, IsLeastCommonMultiple}
+use Rattle.cellarcove_c.proofs.Weaker.{by_last_two}
 use Rattle.cellarcove_c.proofs.divisors.cellarcove_gcd_lcm_i64.Goals as goal
 
-pub returns-in-Some : goal.returns-in-Some
-returns-in-Some c =
-    let own = rw (to_z-of_z w64 c.args.x c.ranges.x, to_z-of_z w64 c.args.y c.ranges.y) at c.in-Some.ensures in
-    record {
-      answer = (own.0, (rw (to_z-of_z w64 c.in-Some.gcd own.1.0) own.1.2, rw (to_z-of_z w64 c.in-Some.lcm own.1.1) own.1.3));
-      refusal = λ other. absurd (other refl);
-    }
+pub returns : goal.returns
+returns c =
+    let own = rw (to_z-of_z w64 c.args.x c.ranges.x, to_z-of_z w64 c.args.y c.ranges.y) at c.gcd_lcm.ensures in
+    let status = c.with_status-status in
+    by_last_two (IsGreatestCommonDivisor c.args.x c.args.y) (IsLeastCommonMultiple c.args.x c.args.y) status.result.0 status.result.1 c.gcd_lcm.result own status.ensures.answer status.ensures.refusal

@@ -1,25 +1,19 @@
-use Rattle.std.specs.Prelude.{◌≡◌, ◌≤◌, pos, length}
+use Rattle.std.specs.Prelude.{pos}
 use Rattle.std.specs.Int.{FitsUnsignedBits}
-use Rattle.std.proofs.Common.{arith}
+use Rattle.std.proofs.Common.{rules}
 use Rattle.std.proofs.lemmas.Bool.{iff_false}
-use Rattle.std.proofs.lemmas.List.{length-map}
-use Rattle.cellarcove_c.specs.Congruences.{u64_pairs}
 use Rattle.cellarcove_c.proofs.SeveralCongruences.{bad_modulus_is, common_solution_is, without_range}
 use Rattle.cellarcove_c.proofs.several_congruences.cellarcove_next_common_solution_of_u64.Goals as goal
 
 pub returns-then-not-copy_unsigned : goal.returns-then-not-copy_unsigned
 returns-then-not-copy_unsigned c =
-    let long : length (u64_pairs c.args.congruences.now) ≡ length c.args.congruences.now = length-map c.args.congruences.now _ in
-    let few : length (u64_pairs c.args.congruences.now) ≤ 64 = omega (arith, long) in
     let bad = iff_false c.copy_unsigned.ensures.positive c.if-not-copy_unsigned.true in
-    rw c.none-then-not-copy_unsigned.ensures (bad_modulus_is (λ x. pos x) (FitsUnsignedBits 64) (pos c.args.from) (u64_pairs c.args.congruences.now) 0 few bad)
+    rw c.none-then-not-copy_unsigned.ensures (bad_modulus_is (λ x. pos x) (FitsUnsignedBits 64) (pos c.args.from) _ c.args.congruences.now 0 (search rules) bad)
 
 pub returns : goal.returns
 returns c =
-    let long : length (u64_pairs c.args.congruences.now) ≡ length c.args.congruences.now = length-map c.args.congruences.now _ in
-    let few : length (u64_pairs c.args.congruences.now) ≤ 64 = omega (arith, long) in
     let positive = c.copy_unsigned.ensures.positive.0 c.if-not-copy_unsigned.false in
     let copied = c.copy_unsigned.ensures.pairs c.if-not-copy_unsigned.false in
     let own = rw copied at c.next_common_solution_of.ensures in
-    common_solution_is (λ x. pos x) (FitsUnsignedBits 64) (pos c.args.from) (u64_pairs c.args.congruences.now) 0 c.of_common.result.status c.of_common.result.value few positive c.of_common.ensures.refusal
+    common_solution_is (λ x. pos x) (FitsUnsignedBits 64) (pos c.args.from) _ c.args.congruences.now 0 (search rules) c.of_common.result.status c.of_common.result.value positive c.of_common.ensures.refusal
     (rw c.of_common.ensures.answer (without_range _ _ _ _ c.next_common_solution_of.result own))
