@@ -3,17 +3,25 @@
 
 use crate::integer_core::Integer;
 
+/// Returns `a / b`. The quotient by a positive number always fits.
+pub(crate) fn positive_quotient<T: Integer>(a: T, b: T) -> T {
+    a / b
+}
+
 /// Splits `r * a / b`, which is an integer, into the factors `r / g` and `a / (b / g)`. `g` is the
 /// gcd of `r` and `b`, computed as that of `r % b` and `b`. If `g` is `b` or 1, one division gives
 /// both factors. After <https://blog.plover.com/math/choose-2.html>.
 fn factors<T: Integer + Copy>(r: T, a: T, b: T) -> (T, T) {
     let g = (r % b).gcd(&b);
     if g >= b {
-        (r / b, a)
+        (positive_quotient(r, b), a)
     } else if T::one() < g {
-        (r / g, a / (b / g))
+        (
+            positive_quotient(r, g),
+            positive_quotient(a, positive_quotient(b, g)),
+        )
     } else {
-        (r, a / b)
+        (r, positive_quotient(a, b))
     }
 }
 

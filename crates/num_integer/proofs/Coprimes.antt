@@ -53,8 +53,7 @@ natural_quotients_coprime {n} {m} {d} up h =
 
 bezout_times : (x y a d b : ℤ) → x *ℤ a +ℤ y *ℤ d ≡ pos 1 → x *ℤ (a *ℤ b) +ℤ b *ℤ y *ℤ d ≡ b
 bezout_times x y a d b unit =
-    let times : b *ℤ (x *ℤ a +ℤ y *ℤ d) ≡ b = ap (λ (t : ℤ). b *ℤ t) unit ∙ mul-one b in
-    let each = simp expand at times in
+    let times = simp expand at (ap (λ (t : ℤ). b *ℤ t) unit ∙ mul-one b) in
     simp expand (omega (arith, linear))
 
 -- a divisor of a product that is coprime to one factor divides the other

@@ -1,6 +1,6 @@
 -- How large divisors and multiples are.
 use Rattle.std.specs.Prelude.{◌≡◌, ◌≢◌, ◌<◌, ◌≤◌, ◌≤ℤ◌, ◌<ℤ◌, ◌*ℤ◌}
-use Rattle.integer_core.proofs.Common.{ℤ, ℕ, pos, unsigned_abs, arith, ◌∙◌, inl, inr, refl, ints, IsRange, Divides, IsGreatestCommonDivisor, IsLeastCommonMultiple, comm, linear, products, sizes}
+use Rattle.integer_core.proofs.Common.{ℤ, ℕ, pos, unsigned_abs, arith, ◌∙◌, from_not_less, inl, inr, refl, ints, IsRange, Divides, IsGreatestCommonDivisor, IsLeastCommonMultiple, comm, linear, products, sizes}
 use Rattle.integer_core.proofs.CommonDivisors.{gcd-swap, gcd-zero, only_gcd}
 use Rattle.integer_core.proofs.Divisibility.{cancel, zero_divides, divisor_size}
 use Rattle.integer_core.proofs.Quotients.{zero_or_not}
@@ -23,23 +23,19 @@ gcd_at_most {a} {b} most left right h = elim (zero_or_not a) [
 
 -- a multiple of a number that is smaller than the number is 0
 pub small_multiple_is_zero : {u v : ℤ} → Divides u v → unsigned_abs v < unsigned_abs u → v ≡ pos 0
-small_multiple_is_zero {u} {v} h small = elim (zero_or_not v) [
-  | inl none ↦ none
-  | inr nonzero ↦ absurd (omega (arith, divisor_size h nonzero))
-]
+small_multiple_is_zero {u} {v} h small = grind (arith, sizes, divisor_size)
 
 -- the least common multiple is at most the magnitude of the product
 pub lcm_at_most_product : {a b l : ℤ} → IsLeastCommonMultiple a b l → l ≤ℤ pos (unsigned_abs (a *ℤ b))
-lcm_at_most_product {a} {b} {l} h = elim (zero_or_not a) [
-  | inl none ↦ omega (arith, sizes, zero_divides (rw none at h.left_divides))
-  | inr a_nonzero ↦ elim (zero_or_not b) [
-    | inl none ↦ omega (arith, sizes, zero_divides (rw none at h.right_divides))
-    | inr b_nonzero ↦
-        let x = h.least (a *ℤ b) (record { factor = b; product = refl }) (record { factor = a; product = comm a b }) in
-        let size = divisor_size x (λ none. b_nonzero (cancel a b (pos 0) a_nonzero (none ∙ omega (arith, products)))) in
-        omega (arith, sizes, h.from_zero)
-  ]
-]
+lcm_at_most_product {a} {b} {l} h = from_not_less (λ more.
+    let x = h.least (a *ℤ b) (record { factor = b; product = refl }) (record { factor = a; product = comm a b }) in
+    let none : a *ℤ b ≡ pos 0 = small_multiple_is_zero x (omega (arith, sizes)) in
+    elim (zero_or_not a) [
+      | inl zero ↦ omega (arith, linear, zero_divides (rw zero at h.left_divides))
+      | inr nonzero ↦
+          let zero = cancel a b (pos 0) nonzero (none ∙ omega (arith, products)) in
+          omega (arith, sizes, zero_divides (rw zero at h.right_divides))
+    ])
 
 -- the least common multiple of numbers that are not 0 is positive
 pub lcm-positive : {a b l : ℤ} → IsLeastCommonMultiple a b l → a ≢ pos 0 → b ≢ pos 0 → pos 0 <ℤ l

@@ -1,11 +1,11 @@
 -- When the results of calls fit, in the words of the tests of `Fits`.
 use Rattle.std.specs.Prelude.{◌≡◌, ◌≢◌, ◌↔◌, ◌≤◌, ◌<◌, ◌^◌, ◌≤ℤ◌, ◌⊎◌, ◌<ℤ◌, ◌*◌, ◌/◌}
-use Rattle.integer_core.proofs.Common.{ℕ, ℤ, pos, IsTrue, nat_le, negsuc, neg_ℤ, unsigned_abs, Bool, true, false, not, min, max, arith, inl, inr, subst, refl, sym, ap, ◌∙◌, pow-le-pow_right, cases_lt, le-leb, leb-true, iff_false, ints, abs_is, from_not_less, linear, EachKind, IsCeiled, IsDivision, IsFloored, IsTruncated, IsQuotient, IsMultiple, GcdFits, IsGreatestCommonDivisor, IsLeastCommonMultiple, IsRange, EachFits}
+use Rattle.integer_core.proofs.Common.{ℕ, ℤ, pos, IsTrue, nat_le, negsuc, neg_ℤ, unsigned_abs, Bool, true, false, not, min, max, arith, inl, inr, subst, refl, sym, ap, ◌∙◌, pow-le-pow_right, lt_of_not-le, le-leb, leb-true, iff_false, ints, abs_is, from_not_less, linear, EachKind, IsCeiled, IsDivision, IsFloored, IsTruncated, IsQuotient, IsMultiple, GcdFits, IsGreatestCommonDivisor, IsLeastCommonMultiple, IsRange, EachFits}
+use Rattle.std.proofs.Math.Nat.{le_of_suc-le-suc}
 use Rattle.integer_core.proofs.CommonDivisors.{gcd-divisor, only_gcd, gcd-zero, gcd-swap, lcm-computed, only_lcm, gcd_fits_is}
 use Rattle.integer_core.proofs.Divisibility.{Divides-refl, abs_zero, divisor_size}
 use Rattle.integer_core.proofs.Quotients.{only_multiple, only_ceiled, only_floored, only_truncated, floored_by_minus_one, other_quotient_fits}
 use Rattle.integer_core.proofs.Ranges.{within_fits}
-use Rattle.num_integer.proofs.DivisorSizes.{divisor_at_most}
 use Rattle.num_integer.specs.Parts.{IsWithin, signed}
 
 -- ---- what fits a lawful type
@@ -35,24 +35,10 @@ each_fits_by {fits} {P} nonzero own only test = let each = each_fits {fits = fit
 
 -- a power of two that fits has fewer than 128 twos
 pub few_bits : {fits : ℤ → Type 0} {low high : ℤ} (t c : ℕ) → IsRange fits low high → fits (pos c) → 2 ^ t ≤ c → t < 128
-few_bits t c range h power = elim (cases_lt t 128) [
-  | inl few ↦ few
-  | inr many ↦ absurd (omega (arith, ints, (range.between (pos c)).0 h, pow-le-pow_right {n = 2} (omega arith) many))
-]
+few_bits t c range h power =
+    lt_of_not-le (λ many. omega (arith, ints, (range.between (pos c)).0 h, pow-le-pow_right {n = 2} (omega arith) many))
 
--- by a positive number each quotient fits
-pub quotients_by_positive : {fits : ℤ → Type 0} {low high n d : ℤ} {answer : Bool} → IsRange fits low high → fits n → fits d
-    → EachKind (λ Kind. IsTrue answer ↔ ((d ≢ pos 0) × EachFits fits (IsQuotient Kind n d))) → pos 0 <ℤ d → IsTrue answer
-quotients_by_positive range n_fits d_fits test up =
-    test.0.1 (λ none. omega (arith, linear), λ q h. other_quotient_fits range n_fits d_fits (λ e. omega (arith, linear)) h.division.division)
-
--- and each greatest common divisor with one
-pub gcd_with_positive : {fits : ℤ → Type 0} {low high a b : ℤ} {answer : Bool} → IsRange fits low high → fits b
-    → IsTrue answer ↔ EachFits fits (IsGreatestCommonDivisor a b) → pos 0 <ℤ b → IsTrue answer
-gcd_with_positive range b_fits test up =
-    test.1 (λ g h. fits_below range b_fits h.from_zero (divisor_at_most up h.divides_right))
-
--- the same test, of the condition of the call
+-- the test whether the gcd fits is that of the condition of the call
 pub gcd_domain : {fits : ℤ → Type 0} {low high a b : ℤ} {answer : Bool} → IsRange fits low high → fits a → fits b
     → IsTrue answer ↔ EachFits fits (IsGreatestCommonDivisor a b) → IsTrue answer ↔ GcdFits fits a b
 gcd_domain range a_fits b_fits test = let same = gcd_fits_is range a_fits b_fits in (λ t. same.1 (test.0 t), λ domain. test.1 (same.0 domain))
@@ -150,13 +136,10 @@ module _ {fits : ℤ → Type 0} {low high a b : ℤ} {most m n : ℕ} (range : 
         let a_size = divisor_size greatest.divides_left (λ e. m_nonzero (left ∙ ap unsigned_abs e)) in
         let b_size = divisor_size greatest.divides_right (λ e. n_nonzero (right ∙ ap unsigned_abs e)) in
         (range.between g).1 (omega (arith, linear, abs_is, leb-true least most t)),
-    λ each. le-leb least most (elim (cases_lt most least) [
-      | inr fine ↦ fine
-      | inl above ↦
-          let same : b ≡ a = omega (arith, linear, abs_is, (range.between a).0 a_fits, (range.between b).0 b_fits) in
-          let own : IsGreatestCommonDivisor a b (pos (unsigned_abs a)) = rw same (gcd-divisor (Divides-refl a)) in
-          absurd (omega (arith, (fits_up range top).1 (each _ own)))
-    ]),
+    λ each. le-leb least most (le_of_suc-le-suc (lt_of_not-le (λ above.
+        let same : b ≡ a = omega (arith, linear, abs_is, (range.between a).0 a_fits, (range.between b).0 b_fits) in
+        let own : IsGreatestCommonDivisor a b (pos (unsigned_abs a)) = rw same (gcd-divisor (Divides-refl a)) in
+        omega (arith, (fits_up range top).1 (each _ own))))),
   )
 
   -- the least common multiple, computed on the magnitudes

@@ -1,8 +1,10 @@
 -- Quotients, remainders and multiples by a positive number.
 use Rattle.std.specs.Prelude.{◌≡◌, ◌≢◌, ◌↔◌, ◌≤ℤ◌, ◌<ℤ◌, ◌+ℤ◌, ◌-ℤ◌, ◌*ℤ◌}
-use Rattle.integer_core.proofs.Common.{ℤ, ℕ, pos, unsigned_abs, int_div, Bool, IsTrue, arith, ◌∙◌, subst, by_lt_z, IsCeiled, IsDivision, IsFloored, IsMultiple, IsQuotient, IsRemainder, EachFits, IsRange, Divides, comm, expand, linear, products, sizes}
+use Rattle.integer_core.proofs.Common.{ℤ, ℕ, pos, unsigned_abs, int_div, Bool, IsTrue, arith, ◌∙◌, subst, from_not_less, IsCeiled, IsDivision, IsFloored, IsMultiple, IsQuotient, IsRemainder, EachFits, IsRange, Divides, comm, expand, linear, products, sizes}
 use Rattle.num_integer.specs.Parts.{signed}
 use Rattle.integer_core.proofs.Quotients.{only_floored, other_quotient_fits, truncated_is}
+use Rattle.num_integer.proofs.Coprimes.{Divides-difference}
+use Rattle.num_integer.proofs.DivisorSizes.{divisor_at_most}
 use Rattle.num_integer.proofs.FittingAnswers.{signed_is}
 use Rattle.num_integer.proofs.OrderedProducts.{multiples_apart}
 
@@ -16,10 +18,8 @@ floored_remainder_range up h = floored_range up h.division
 
 -- a remainder from 0 to below the divisor is that of the quotient rounded down
 pub floored_by_range : {n d q r : ℤ} → n ≡ q *ℤ d +ℤ r → pos 0 ≤ℤ r → r <ℤ d → IsFloored n d q r
-floored_by_range equation from_zero below = record {
-  division = record { equation = equation; small = omega (arith, sizes) };
-  sign = grind (arith, linear);
-}
+floored_by_range equation from_zero below =
+    record { division = record { equation = equation; small = omega (arith, sizes) }; sign = grind (arith, linear) }
 
 -- the pair of a floored quotient and remainder is the only one whose remainder lies from 0 to below the divisor
 pub only_pair_by_range : {n d q r p s : ℤ} → IsFloored n d q r → n ≡ p *ℤ d +ℤ s → pos 0 ≤ℤ s → s <ℤ d → (p ≡ q) × (s ≡ r)
@@ -35,10 +35,8 @@ ceiled_remainder_range up h = (omega (arith, sizes, h.sign, h.division.small), o
 
 -- a remainder from above the divisor's negation to 0 is that of the quotient rounded up
 pub ceiled_by_range : {n d q r : ℤ} → n ≡ q *ℤ d +ℤ r → r ≤ℤ pos 0 → pos 0 <ℤ (r +ℤ d) → IsCeiled n d q r
-ceiled_by_range equation to_zero above = record {
-  division = record { equation = equation; small = omega (arith, sizes) };
-  sign = grind (arith, linear);
-}
+ceiled_by_range equation to_zero above =
+    record { division = record { equation = equation; small = omega (arith, sizes) }; sign = grind (arith, linear) }
 
 -- a ceiled quotient is the smallest number whose multiple is not below the dividend
 pub ceiled_quotient_least : {n d q : ℤ} → pos 0 <ℤ d → IsQuotient IsCeiled n d q → (n ≤ℤ (q *ℤ d)) × ((m : ℤ) → n ≤ℤ (m *ℤ d) → q ≤ℤ m)
@@ -46,9 +44,7 @@ ceiled_quotient_least {n} {d} {q} up h =
     let range = ceiled_remainder_range up h.division in
     let equation = h.division.division.equation in (
       omega (arith, linear),
-      λ m above. by_lt_z m q
-          (λ less. absurd (omega (arith, linear, multiples_apart m q d up less)))
-          (λ fine. fine),
+      λ m above. from_not_less (λ less. omega (arith, linear, multiples_apart m q d up less)),
     )
 
 -- the next multiple is the smallest one that is at least the number
@@ -57,20 +53,13 @@ pub next_multiple_least : {n d m : ℤ} → pos 0 <ℤ d → IsMultiple IsCeiled
 next_multiple_least {n} {d} {m} up h =
     let range = ceiled_remainder_range up h.is.division in
     let equation = h.is.division.division.equation in
-    let product = h.product in
-    let least = (ceiled_quotient_least up h.is).1 in (
+    let divides : Divides d m = record { factor = h.quotient; product = h.product ∙ comm h.quotient d } in
+    let product = h.product in (
       omega (arith, linear),
       omega (arith, linear),
-      record { factor = h.quotient; product = product ∙ comm h.quotient d },
-      λ u above x.
-          let same : u ≡ x.factor *ℤ d = x.product ∙ comm d x.factor in
-          by_lt_z u m
-          (λ less. by_lt_z x.factor h.quotient
-          (λ under. absurd (omega (arith, linear, least x.factor (omega (arith, linear)))))
-          (λ over. by_lt_z h.quotient x.factor
-          (λ far. absurd (omega (arith, linear, multiples_apart h.quotient x.factor d up far)))
-          (λ near. let one : x.factor ≡ h.quotient = omega (arith, linear) in absurd (omega (arith, linear, rw one at same)))))
-          (λ fine. fine),
+      divides,
+      λ u above x. from_not_less (λ less.
+          omega (arith, linear, divisor_at_most {v = m -ℤ u} (omega (arith, linear)) (Divides-difference divides x))),
     )
 
 -- if that multiple does not fit, no smallest multiple that is at least the number does

@@ -1,6 +1,6 @@
 -- Floored quotients of products, by signs and magnitudes.
 use Rattle.std.specs.Prelude.{◌≡◌, ◌<◌, ◌≤ℤ◌, ◌<ℤ◌, ◌*◌, ◌/◌, ◌%◌, ◌*ℤ◌}
-use Rattle.integer_core.proofs.Common.{ℕ, ℤ, pos, neg_ℤ, not, Bool, true, false, arith, inl, by_lt_z, ints, linear, products, sizes, IsFloored, IsRange}
+use Rattle.integer_core.proofs.Common.{ℕ, ℤ, pos, neg_ℤ, not, Bool, true, false, arith, inl, from_not_less, ints, linear, products, sizes, IsFloored, IsRange}
 use Rattle.std.proofs.Math.Bool.{beq}
 use Rattle.integer_core.proofs.Ranges.{within_fits}
 use Rattle.num_integer.proofs.FlooredByPositive.{floored_by_range, floored_range}
@@ -45,6 +45,6 @@ part_fits {a = a} {b = b} {d = d} {q = q} range a_fits a_up b_up within up h =
     let most : (a *ℤ b) ≤ℤ (a *ℤ d) = product_at_most {u = a} {v = b} {x = a} {y = d} a_up (omega (arith, linear)) b_up within in
     let none : pos 0 *ℤ d ≡ pos 0 = omega (arith, products) in
     within_fits range a_fits (inl (
-      by_lt_z q (pos 0) (λ below. absurd (omega (arith, linear, multiples_apart q (pos 0) d up below))) (λ fine. fine),
-      by_lt_z a q (λ over. absurd (omega (arith, linear, multiples_apart a q d up over))) (λ fine. fine),
+      from_not_less (λ below. omega (arith, linear, multiples_apart q (pos 0) d up below)),
+      from_not_less (λ over. omega (arith, linear, multiples_apart a q d up over)),
     ))

@@ -28,20 +28,11 @@ pub int_pow-zero : (x : ℤ) → int_pow x 0 ≡ pos 1
 int_pow-zero (pos a) = ap pos (pow-zero a)
 int_pow-zero (negsuc a) = ap pos (pow-zero (suc a))
 
-two_signs : (x y : ℤ) → neg_ℤ x *ℤ neg_ℤ y ≡ x *ℤ y
-two_signs x y = grind (arith, products)
-
 pub int_pow-suc : (x : ℤ) (n : ℕ) → int_pow x (suc n) ≡ x *ℤ int_pow x n
 int_pow-suc (pos a) n = ap pos (pow-succ' a n)
 int_pow-suc (negsuc a) n = elim (even_or_odd n) [
-  | inl even ↦
-      let now : int_pow (negsuc a) n ≡ pos (suc a ^ n) = even_power (negsuc a) n even in
-      let next : int_pow (negsuc a) (suc n) ≡ neg_ℤ (pos (suc a ^ suc n)) = odd_power (pos (suc a)) (suc n) (omega arith) in
-      next ∙ ap (λ (k : ℕ). neg_ℤ (pos k)) (pow-succ' (suc a) n) ∙ sym (ap (λ (t : ℤ). negsuc a *ℤ t) now ∙ negsuc-*ℤ-pos a (suc a ^ n))
-  | inr odd ↦
-      let now : int_pow (negsuc a) n ≡ neg_ℤ (pos (suc a ^ n)) = odd_power (pos (suc a)) n odd in
-      let next : int_pow (negsuc a) (suc n) ≡ pos (suc a ^ suc n) = even_power (negsuc a) (suc n) (omega arith) in
-      next ∙ ap pos (pow-succ' (suc a) n) ∙ sym (ap (λ (t : ℤ). negsuc a *ℤ t) now ∙ two_signs (pos (suc a)) (pos (suc a ^ n)))
+  | inl even ↦ let odd : suc n % 2 ≡ 1 = omega arith in rw (even, odd, pow-succ') (sym (negsuc-*ℤ-pos a (suc a ^ n)))
+  | inr odd ↦ let even : suc n % 2 ≡ 0 = omega arith in rw (odd, even, pow-succ') (grind (arith, products))
 ]
 
 -- the power of degree 2h is that of the square
@@ -49,9 +40,7 @@ pub power_of_square : (x : ℤ) (h : ℕ) → int_pow x (h + h) ≡ int_pow (x *
 power_of_square x zero = int_pow-zero x ∙ sym (int_pow-zero (x *ℤ x))
 power_of_square x (suc h) =
     let e : suc h + suc h ≡ suc (suc (h + h)) = omega arith in
-    let twice : int_pow x (suc (suc (h + h))) ≡ x *ℤ (x *ℤ int_pow x (h + h)) = int_pow-suc x (suc (h + h)) ∙ ap (λ (t : ℤ). x *ℤ t) (int_pow-suc x (h + h)) in
-    let less : x *ℤ (x *ℤ int_pow x (h + h)) ≡ x *ℤ (x *ℤ int_pow (x *ℤ x) h) = ap (λ (t : ℤ). x *ℤ (x *ℤ t)) (power_of_square x h) in
-    ap (λ (k : ℕ). int_pow x k) e ∙ twice ∙ less ∙ sym (int_pow-suc (x *ℤ x) h ∙ simp expand refl)
+    rw (e, int_pow-suc x (suc (h + h)), int_pow-suc x (h + h), power_of_square x h, int_pow-suc (x *ℤ x) h) (simp expand)
 
 -- ---- roots by squares, and roots of exact powers
 
@@ -59,9 +48,7 @@ power_of_square x (suc h) =
 pub root_by_squares : {x r : ℕ} → IsRoot (pos x) 2 (pos r) → (r * r ≤ x) × (x < (r + 1) * (r + 1))
 root_by_squares {x} {r} h =
     let root = h.from_zero (omega (arith, ints)) in
-    let low = root.power_le in
-    let high = root.next_power_gt in
-    (omega (arith, ints, power_two r), omega (arith, ints, power_two (r + 1)))
+    (omega (arith, ints, power_two r, root.power_le), omega (arith, ints, power_two (r + 1), root.next_power_gt))
 
 -- the root of an exact power is its base
 pub exact_power_root : {k : ℕ} {n : ℕ} {r : ℤ} → n ≢ 0 → IsRoot (int_pow (pos k) n) n r → r ≡ pos k

@@ -1,7 +1,8 @@
 -- Least common multiples of literals, which the prover computes.
 use Rattle.std.specs.Prelude.{◌≡◌, ◌<◌, ◌*◌, ◌/◌, ◌%◌, ◌^◌}
-use Rattle.integer_core.proofs.Common.{ℤ, ℕ, pos, zero, suc, unsigned_abs, IsTrue, nat_lt, FitsSigned, FitsUnsignedBits, Width, arith, ◌∙◌, ap, inl, inr, refl, subst, sym, div-le_self, IsGreatestCommonDivisor, IsLeastCommonMultiple}
+use Rattle.integer_core.proofs.Common.{ℤ, ℕ, pos, zero, suc, unsigned_abs, IsTrue, nat_lt, FitsSigned, FitsUnsignedBits, Width, arith, ◌∙◌, ap, inl, inr, refl, subst, sym, IsGreatestCommonDivisor, IsLeastCommonMultiple}
 use mir.Val.{hbits}
+use Rattle.std.proofs.Math.Nat.{mul-zero, zero-div}
 use Rattle.std.proofs.lemmas.Bool.{ltb-true}
 use Rattle.std.proofs.lemmas.Int.{fits_signed_from_abs}
 use Rattle.integer_core.proofs.CommonDivisors.{gcd-remainder, gcd-zero, lcm-computed, only_lcm}
@@ -26,12 +27,9 @@ euclid_is (suc turns) a (suc b) h =
 abbrev pub lcm_number : ℕ → ℕ → ℕ
 lcm_number m n = m * (n / euclid (suc n) m n)
 
-none_over : (m x : ℕ) → m * (0 / x) ≡ 0
-none_over m x = let e : 0 / x ≡ 0 = omega (arith, div-le_self 0 x) in rw e (omega arith)
-
 lcm_is : {a b l : ℤ} → IsLeastCommonMultiple a b l → l ≡ pos (lcm_number (unsigned_abs a) (unsigned_abs b))
 lcm_is {a} {b} h = elim (zero_or_not b) [
-  | inl none ↦ rw none (zero_divides (rw none at h.right_divides) ∙ ap pos (sym (none_over _ _)))
+  | inl none ↦ rw none (zero_divides (rw none at h.right_divides) ∙ ap pos (sym (ap (λ (t : ℕ). unsigned_abs a * t) (zero-div _) ∙ mul-zero _)))
   | inr nonzero ↦ only_lcm h (lcm-computed {q = pos (unsigned_abs b / euclid (suc (unsigned_abs b)) (unsigned_abs a) (unsigned_abs b))} refl refl nonzero (euclid_is (suc (unsigned_abs b)) (unsigned_abs a) (unsigned_abs b) (omega arith)) refl refl)
 ]
 

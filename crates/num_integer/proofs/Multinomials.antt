@@ -66,34 +66,41 @@ past_top t x m top t_below x_below past positive =
 
 -- ---- a loop over the counts
 
--- the counts before the i-th make up the total, and m is the product of their coefficients
+-- the counts before the i-th are not negative and make up the total, and m is the product of their coefficients
 pub record IsSharedSoFar {X : Type 0} (value : X → ℤ) (counts : List X) (i total m : ℕ) : Type 0 where
+  pub from_zero : AllWithin (λ (x : X). pos 0 ≤ℤ value x) counts 0 i
   pub positive : 0 < m
   pub rest : m * product (coefficients_from total (map unsigned_abs (map value (drop i counts)))) ≡ product_of (map value counts)
 
 module _ {X : Type 0} {value : X → ℤ} {counts : List X} where
   pub shared_first : IsSharedSoFar value counts 0 0 1
-  shared_first = record { positive = omega arith; rest = omega arith }
+  shared_first = record { from_zero = λ k d l h. absurd (omega arith); positive = omega arith; rest = omega arith }
 
   -- a turn
-  pub shared_next : {i t m k : ℕ} {x : X} → IsSharedSoFar value counts i t m → i < length counts → x ≡ get_or counts i x → k ≡ unsigned_abs (value x)
-      → IsSharedSoFar value counts (i + 1) (t + k) (m * coefficient (t + k) k)
+  pub shared_next : {i t m k : ℕ} {x : X} → IsSharedSoFar value counts i t m → i < length counts → x ≡ get_or counts i x → pos 0 ≤ℤ value x
+      → k ≡ unsigned_abs (value x) → IsSharedSoFar value counts (i + 1) (t + k) (m * coefficient (t + k) k)
   unfolding coefficients_from
-  shared_next {i} {t} {m} {k} {x} h inside at size =
+  shared_next {i} {t} {m} {k} {x} h inside at up size =
       let first = at_drop_more (λ (xs : List X). m * product (coefficients_from t (map unsigned_abs (map value xs)))) counts i x inside in
       let next = rw (← at, ← size) at first in
-      record { positive = mul-pos h.positive (coefficient-pos (t + k) k (omega arith)); rest = omega (arith, h.rest) }
+      record {
+        from_zero = AllWithin-more (λ (y : X). pos 0 ≤ℤ value y) counts 0 i h.from_zero (at_read counts (λ (y : X). pos 0 ≤ℤ value y) i x inside at up);
+        positive = mul-pos h.positive (coefficient-pos (t + k) k (omega arith));
+        rest = omega (arith, h.rest);
+      }
 
   -- on the way m does not exceed the multinomial
   pub shared_below : {i t m : ℕ} → IsSharedSoFar value counts i t m → m ≤ product_of (map value counts)
   shared_below {i} {t} {m} h = omega (arith, h.rest, le-mul_of_pos_right m (coefficients-pos t (map unsigned_abs (map value (drop i counts)))))
 
-  -- and at the end it is the multinomial
-  pub shared_last : {i t m : ℕ} → IsSharedSoFar value counts i t m → length counts ≤ i → m ≡ product_of (map value counts)
+  -- and at the end it is the multinomial, and no count is negative
+  pub shared_last : {i t m : ℕ} → IsSharedSoFar value counts i t m → length counts ≤ i
+      → (m ≡ product_of (map value counts)) × All (λ (x : X). pos 0 ≤ℤ value x) counts
   unfolding coefficients_from
   shared_last {i} {t} {m} h done =
       let none = at_drop_all (λ (xs : List X). m * product (coefficients_from t (map unsigned_abs (map value xs)))) counts i done in
-      omega (arith, h.rest)
+      let up = λ (y : X). pos 0 ≤ℤ value y in
+      (omega (arith, h.rest), All-from_all_within up counts (AllWithin-upto up counts 0 i (length counts) done h.from_zero))
 
 -- ---- the loop of `multinomial`: no number on the way leaves the type
 
@@ -126,13 +133,13 @@ module _ {X : Type 0} {fits : ℤ → Type 0} {value : X → ℤ} {counts : List
         total_from_zero = omega (arith, ints, h.total_from_zero);
         in_range = m_fits;
         from_zero = product_from_zero m c h.from_zero (omega (arith, ints));
-        shared = rw (unsigned_abs-mul m c, sum) (shared_next h.shared inside at refl);
+        shared = rw (unsigned_abs-mul m c, sum) (shared_next h.shared inside at up refl);
       }
 
   -- after the last turn
   pub multinomial_last : {i : ℕ} {m t : ℤ} → IsMultinomialSoFar fits value counts i m t → length counts ≤ i → IsMultinomial (map value counts) m
   multinomial_last h done =
-      subst (IsMultinomial (map value counts)) (omega (arith, ints, h.from_zero, shared_last h.shared done)) (is_multinomial (map value counts))
+      subst (IsMultinomial (map value counts)) (omega (arith, ints, h.from_zero, (shared_last h.shared done).0)) (is_multinomial (map value counts))
 
   -- a turn, if the multinomial of all counts fits
   pub multinomial_next : {low high : ℤ} {i : ℕ} {x : X} {m t : ℤ} → IsRange fits low high → EachFits fits (IsMultinomial (map value counts)) → i < length counts → x ≡ get_or counts i x
@@ -143,7 +150,7 @@ module _ {X : Type 0} {fits : ℤ → Type 0} {value : X → ℤ} {counts : List
       let x_up = rw (← at) at (from_zero i x inside) in
       let c : ℤ = coefficient_of (t +ℤ value x) (value x) in
       let sum : unsigned_abs (t +ℤ value x) ≡ unsigned_abs t + unsigned_abs (value x) = omega (arith, ints, h.total_from_zero) in
-      let next : IsSharedSoFar value counts (i + 1) (unsigned_abs (t +ℤ value x)) (unsigned_abs (m *ℤ c)) = rw (unsigned_abs-mul m c, sum) (shared_next h.shared inside at refl) in
+      let next : IsSharedSoFar value counts (i + 1) (unsigned_abs (t +ℤ value x)) (unsigned_abs (m *ℤ c)) = rw (unsigned_abs-mul m c, sum) (shared_next h.shared inside at x_up refl) in
       let whole = all_fits _ (is_multinomial (map value counts)) in
       let most = shared_below next in
       let below : unsigned_abs c ≤ product_of (map value counts) = omega (arith, most, unsigned_abs-mul m c, le-mul_of_pos_right (unsigned_abs c) h.shared.positive) in
@@ -170,33 +177,28 @@ test_of None c most range top is h = ((λ t. absurd (cc)), λ f. let below = (fi
 abbrev pub HasFittingMultinomial : {X : Type 0} → (ℤ → Type 0) → (X → ℤ) → List X → Type 0
 HasFittingMultinomial {X} fits value counts = All (λ (x : X). pos 0 ≤ℤ value x) counts × EachFits fits (IsMultinomial (map value counts))
 
--- the counts before the i-th are not negative, and their sum is at most the largest number
+-- that product is at most the largest number
 pub record IsWithinSoFar {X : Type 0} (value : X → ℤ) (counts : List X) (i total m most : ℕ) : Type 0 where
   pub shared : IsSharedSoFar value counts i total m
   pub within : m ≤ most
-  pub from_zero : AllWithin (λ (x : X). pos 0 ≤ℤ value x) counts 0 i
 
 module _ {X : Type 0} {fits : ℤ → Type 0} {low high : ℤ} {value : X → ℤ} {counts : List X} {most : ℕ} (range : IsRange fits low high) (top : pos most ≡ high) where
   -- before the first turn
   pub within_first : IsWithinSoFar value counts 0 0 1 most
-  within_first = record { shared = shared_first; within = let positive = range.positive in omega (arith, ints); from_zero = λ k d l h. absurd (omega arith) }
+  within_first = record { shared = shared_first; within = let positive = range.positive in omega (arith, ints) }
 
   module _ {i t m k : ℕ} {x : X} (before : IsWithinSoFar value counts i t m most) (inside : i < length counts) (at : x ≡ get_or counts i x) (size : k ≡ unsigned_abs (value x)) where
     -- a turn at a count that is not negative
     pub within_next : {t' m' : ℕ} → pos 0 ≤ℤ value x → (t' ≡ t + k) × (m' ≡ m * coefficient (t + k) k) × (m' ≤ most) → IsWithinSoFar value counts (i + 1) t' m' most
-    within_next up more = record {
-      shared = rw (more.0, more.1) (shared_next before.shared inside at size);
-      within = more.2;
-      from_zero = AllWithin-more (λ (y : X). pos 0 ≤ℤ value y) counts 0 i before.from_zero (at_read counts (λ (y : X). pos 0 ≤ℤ value y) i x inside at up);
-    }
+    within_next up more = record { shared = rw (more.0, more.1) (shared_next before.shared inside at up size); within = more.2 }
 
     -- a multinomial that exceeds the largest number does not fit
-    pub none_past : most < m * coefficient (t + k) k → IsTrue false ↔ HasFittingMultinomial fits value counts
-    none_past past = (
+    pub none_past : pos 0 ≤ℤ value x → most < m * coefficient (t + k) k → IsTrue false ↔ HasFittingMultinomial fits value counts
+    none_past up past = (
       λ t. absurd (cc),
       λ h.
           let below = (fits_up range top).1 (h.1 _ (is_multinomial (map value counts))) in
-          absurd (omega (arith, shared_below (shared_next before.shared inside at size))),
+          absurd (omega (arith, shared_below (shared_next before.shared inside at up size))),
     )
 
     -- a negative count is outside the domain
@@ -205,13 +207,9 @@ module _ {X : Type 0} {fits : ℤ → Type 0} {low high : ℤ} {value : X → �
 
   -- after the last turn
   pub within_last : {i t m : ℕ} → IsWithinSoFar value counts i t m most → length counts ≤ i → IsTrue true ↔ HasFittingMultinomial fits value counts
-  within_last {i} {t} {m} h done = (
-    λ _. (
-      All-from_all_within (λ (y : X). pos 0 ≤ℤ value y) counts (AllWithin-upto (λ (y : X). pos 0 ≤ℤ value y) counts 0 i (length counts) done h.from_zero),
-      λ z is. rw (only_multinomial is) ((fits_up range top).0 (omega (arith, shared_last h.shared done, h.within))),
-    ),
-    λ _. refl,
-  )
+  within_last h done =
+      let last = shared_last h.shared done in
+      (λ _. (last.1, λ z is. rw (only_multinomial is) ((fits_up range top).0 (omega (arith, last.0, h.within)))), λ _. refl)
 
 -- ---- counts in another order have the same multinomial
 
@@ -246,29 +244,15 @@ multinomial_ignores_order counts others h m is =
 
 -- ---- the loop of `checked::multinomial`: it goes on as long as each number fits
 
--- the counts before the i-th are not negative, t is their sum and m their multinomial
-pub record IsCheckedSoFar {X : Type 0} (fits : ℤ → Type 0) (value : X → ℤ) (counts : List X) (i : ℕ) (m t : ℤ) : Type 0 where
-  pub so_far : IsMultinomialSoFar fits value counts i m t
-  pub from_zero : AllWithin (λ (x : X). pos 0 ≤ℤ value x) counts 0 i
-
-module _ {X : Type 0} {fits : ℤ → Type 0} {value : X → ℤ} {counts : List X} {i : ℕ} {m t : ℤ} (before : IsCheckedSoFar fits value counts i m t) where
-  module _ {x : X} (inside : i < length counts) (at : x ≡ get_or counts i x) where
-    -- in the domain the next coefficient, sum and multinomial fit
-    pub next_fits : {low high : ℤ} → IsRange fits low high → All (λ (y : X). fits (value y)) counts → HasFittingMultinomial fits value counts
-        → fits (coefficient_of (t +ℤ value x) (value x)) × IsMultinomialSoFar fits value counts (i + 1) (m *ℤ coefficient_of (t +ℤ value x) (value x)) (t +ℤ value x)
-    next_fits range in_range h = multinomial_next range h.1 inside at in_range h.0 before.so_far
-
-    -- a turn
-    pub checked_next : {t' c m' : ℤ} → pos 0 ≤ℤ value x → fits t' → t' ≡ t +ℤ value x → c ≡ coefficient_of t' (value x) → fits m' → m' ≡ m *ℤ c → IsCheckedSoFar fits value counts (i + 1) m' t'
-    checked_next up t_fits total ways m_fits next = record {
-      so_far = rw (next, ways, total) (so_far_next inside at up (rw total at t_fits) (rw (next, ways, total) at m_fits) before.so_far);
-      from_zero = AllWithin-more (λ (y : X). pos 0 ≤ℤ value y) counts 0 i before.from_zero (at_read counts (λ (y : X). pos 0 ≤ℤ value y) i x inside at up);
-    }
+module _ {X : Type 0} {fits : ℤ → Type 0} {value : X → ℤ} {counts : List X} {i : ℕ} {m t : ℤ} (before : IsMultinomialSoFar fits value counts i m t) where
+  -- a turn
+  pub checked_next : {x : X} {t' c m' : ℤ} → i < length counts → x ≡ get_or counts i x → pos 0 ≤ℤ value x → fits t' → t' ≡ t +ℤ value x → c ≡ coefficient_of t' (value x)
+      → fits m' → m' ≡ m *ℤ c → IsMultinomialSoFar fits value counts (i + 1) m' t'
+  checked_next inside at up t_fits total ways m_fits next =
+      rw (next, ways, total) (so_far_next inside at up (rw total at t_fits) (rw (next, ways, total) at m_fits) before)
 
   -- after the last turn
   pub checked_last : length counts ≤ i → HasFittingMultinomial fits value counts × (fits m × IsMultinomial (map value counts) m)
   checked_last done =
-      let own = multinomial_last before.so_far done in (
-        (All-from_all_within (λ (y : X). pos 0 ≤ℤ value y) counts (AllWithin-upto (λ (y : X). pos 0 ≤ℤ value y) counts 0 i (length counts) done before.from_zero), λ z other. subst fits (only_multinomial own ∙ sym (only_multinomial other)) before.so_far.in_range),
-        (before.so_far.in_range, own),
-      )
+      let own = multinomial_last before done in
+      (((shared_last before.shared done).1, λ z other. subst fits (only_multinomial own ∙ sym (only_multinomial other)) before.in_range), (before.in_range, own))

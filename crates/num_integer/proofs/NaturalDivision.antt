@@ -73,15 +73,13 @@ near m w d {n} up more =
 pub floored_quotient_range : {n q : ℤ} {d : ℕ} → IsQuotient IsFloored n (pos (suc d)) q → ((q *ℤ pos (suc d)) ≤ℤ n) × (n <ℤ (q *ℤ pos (suc d) +ℤ pos (suc d)))
 floored_quotient_range h =
     let range = floored_range (omega (arith, ints)) h.division in
-    let equation = h.division.division.equation in
-    (omega (arith, linear), omega (arith, linear))
+    (omega (arith, linear, h.division.division.equation), omega (arith, linear, h.division.division.equation))
 
 -- a ceiled quotient by inequalities
 pub ceiled_quotient_range : {n q : ℤ} {d : ℕ} → IsQuotient IsCeiled n (pos (suc d)) q → (n ≤ℤ (q *ℤ pos (suc d))) × ((q *ℤ pos (suc d)) <ℤ (n +ℤ pos (suc d)))
 ceiled_quotient_range h =
     let range = ceiled_remainder_range (omega (arith, ints)) h.division in
-    let equation = h.division.division.equation in
-    (omega (arith, linear), omega (arith, linear))
+    (omega (arith, linear, h.division.division.equation), omega (arith, linear, h.division.division.equation))
 
 -- d divides an integer exactly if the remainder of its magnitude is 0
 pub divides_by_magnitude : (z : ℤ) (d : ℕ) → 0 < d → Divides (pos d) z ↔ (unsigned_abs z % d ≡ 0)

@@ -1,6 +1,6 @@
 -- Pascal's triangle.
 use Rattle.std.specs.Prelude.{◌≡◌, ◌+◌, ◌-◌, ◌*◌, ◌^◌, ◌<◌, ◌≤◌}
-use Rattle.integer_core.proofs.Common.{ℕ, zero, suc, min, inl, inr, ap, sym, subst, refl, arith, mul-le-mul_right, le_refl, le_trans, cases_lt, eq_of_mul-eq-mul_left, le_of_mul-le-mul_left, mul-pos, pow-succ', suc-add, zero-add}
+use Rattle.integer_core.proofs.Common.{ℕ, zero, suc, min, inl, inr, ap, refl, arith, mul-le-mul_right, le_refl, le_trans, cases_lt, eq_of_mul-eq-mul_left, le_of_mul-le-mul_left, mul-pos, pow-succ'}
 use Rattle.num_integer.specs.Coefficient.{coefficient, factorial}
 
 -- there is one way to choose no things
@@ -56,20 +56,17 @@ power_below n zero h = omega arith
 power_below zero (suc k) h = absurd (omega arith)
 power_below (suc n) (suc k) h = omega (arith, power_below n k (omega arith), grows n k (omega arith), pow-succ' 2 k)
 
-factorials_by_sum : (a b : ℕ) → factorial a * factorial b * coefficient (a + b) a ≡ factorial (a + b)
-unfolding factorial
-factorials_by_sum zero b = let e : 0 + b ≡ b = omega arith in rw (coefficient-zero (0 + b), e) (omega arith)
-factorials_by_sum (suc a) b =
-    let e : suc a + b ≡ suc (a + b) = omega arith in
-    let f = ap (λ (t : ℕ). factorial a * factorial b * t) (absorb (a + b) a) in
-    let g = ap (λ (t : ℕ). suc (a + b) * t) (factorials_by_sum a b) in
-    rw e (omega arith)
-
 -- a coefficient divides factorials, multiplied across
 pub divides_factorials : (n k : ℕ) → k ≤ n → factorial k * factorial (n - k) * coefficient n k ≡ factorial n
-divides_factorials n k h =
-    let e : k + (n - k) ≡ n = omega arith in
-    subst (λ (m : ℕ). factorial k * factorial (n - k) * coefficient m k ≡ factorial m) e (factorials_by_sum k (n - k))
+unfolding factorial
+divides_factorials n zero h = let e : n - 0 ≡ n = omega arith in rw (coefficient-zero n) (omega (arith, ap factorial e))
+divides_factorials zero (suc k) h = absurd (omega arith)
+divides_factorials (suc n) (suc k) h =
+    let e : suc n - suc k ≡ n - k = omega arith in
+    let d = ap (λ (t : ℕ). suc k * factorial k * factorial t * coefficient (suc n) (suc k)) e in
+    let f = ap (λ (t : ℕ). factorial k * factorial (n - k) * t) (absorb n k) in
+    let g = ap (λ (t : ℕ). suc n * t) (divides_factorials n k (omega arith)) in
+    omega arith
 
 -- a factorial is positive
 pub factorial-pos : (n : ℕ) → 0 < factorial n
@@ -86,10 +83,7 @@ coefficient_mirror n k h =
 
 -- the smaller of k and n - k has the coefficient of k
 pub nearer_same : (n k m : ℕ) → k ≤ n → m ≡ min k (n - k) → coefficient n m ≡ coefficient n k
-nearer_same n k m h is = elim (cases_lt (n - k) k) [
-  | inl far ↦ let e : m ≡ n - k = omega arith in rw e (sym (coefficient_mirror n k h))
-  | inr near ↦ let e : m ≡ k = omega arith in rw e refl
-]
+nearer_same n k m h is = grind (arith, coefficient_mirror)
 
 -- no coefficient on the way to it is larger
 pub below_answer : (n k m : ℕ) → k ≤ n → m ≤ min k (n - k) → coefficient n m ≤ coefficient n k
@@ -118,12 +112,10 @@ one_thing_more : (n k : ℕ) → coefficient n k ≤ coefficient (suc n) k
 one_thing_more n zero = omega (arith, coefficient-zero n, coefficient-zero (suc n))
 one_thing_more n (suc k) = omega (arith, pascal n k)
 
-more_things : (n j k : ℕ) → coefficient n k ≤ coefficient (j + n) k
-more_things n zero k = rw zero-add (le_refl _)
-more_things n (suc j) k = rw suc-add (le_trans (more_things n j k) (one_thing_more (j + n) k))
-
 -- more things have at least as many choices
 pub coefficient_grows : (n m k : ℕ) → n ≤ m → coefficient n k ≤ coefficient m k
-coefficient_grows n m k h =
-    let same : (m - n) + n ≡ m = omega arith in
-    subst (λ (t : ℕ). coefficient n k ≤ coefficient t k) same (more_things n (m - n) k)
+coefficient_grows n zero k h = let e : n ≡ 0 = omega arith in rw e (le_refl _)
+coefficient_grows n (suc m) k h = elim (cases_lt m n) [
+  | inl top ↦ let e : n ≡ suc m = omega arith in rw e (le_refl _)
+  | inr below ↦ le_trans (coefficient_grows n m k below) (one_thing_more m k)
+]

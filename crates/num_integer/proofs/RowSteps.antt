@@ -1,7 +1,7 @@
 -- Rows: from one coefficient to the next, and the rest of a row.
 use Rattle.std.specs.List.{All}
 use Rattle.std.specs.Prelude.{◌≤ℤ◌, ◌<ℤ◌, ◌+ℤ◌, ◌-ℤ◌, ◌*ℤ◌, ◌≢◌, ◌≡◌, ◌+◌, ◌-◌, ◌/◌, ◌<◌, ◌≤◌, ◌∷◌, ◌*◌}
-use Rattle.integer_core.proofs.Common.{ℤ, pos, negsuc, unsigned_abs, int_div, int_rem, ℕ, suc, List, [], length, drop, get_or, reverse, refl, sym, ap, ◌∙◌, arith, min, ints, abs_is, comm, expand, linear, products, Divides, IsGreatestCommonDivisor, IsRange}
+use Rattle.integer_core.proofs.Common.{add-one, ℤ, pos, negsuc, unsigned_abs, int_div, int_rem, ℕ, suc, List, [], length, drop, get_or, reverse, refl, sym, ap, ◌∙◌, arith, min, ints, abs_is, comm, expand, linear, products, Divides, IsGreatestCommonDivisor, IsRange}
 use Rattle.std.proofs.lemmas.List.{at_drop_more, drop_all, get_or-reverse, length-reverse}
 use Rattle.std.proofs.lemmas.List.Elements.{All-from_get_or, All-nil}
 use Rattle.std.proofs.lemmas.List.FromFn.{fill_by_all, get_or-map-range_with_len, length-map-range_with_len}
@@ -23,15 +23,12 @@ from_naturals P own (pos n) (pos k) up within = own n k (omega (arith, ints))
 from_naturals P own n (negsuc k) up within = absurd (omega (arith, ints))
 from_naturals P own (negsuc n) (pos k) up within = absurd (omega (arith, ints))
 
-difference_is : (n k : ℕ) → k ≤ n → pos n -ℤ pos k ≡ pos (n - k)
-difference_is n k within = omega (arith, ints)
-
 -- the next coefficient, multiplied across
-across : (n k : ℕ) → k ≤ n → coefficient n k * (n - k) ≡ (k + 1) * coefficient n (k + 1)
-across n k within = let e : suc k ≡ k + 1 = omega arith in rw (← e) (omega (arith, next_in_row n k within))
-
 next_across : (n k : ℤ) → pos 0 ≤ℤ k → k ≤ℤ n → coefficient_of n k *ℤ (n -ℤ k) ≡ (k +ℤ pos 1) *ℤ coefficient_of n (k +ℤ pos 1)
-next_across = from_naturals (λ n k. coefficient_of n k *ℤ (n -ℤ k) ≡ (k +ℤ pos 1) *ℤ coefficient_of n (k +ℤ pos 1)) (λ n k within. rw (difference_is n k within) (ap pos (across n k within)))
+next_across = from_naturals (λ n k. coefficient_of n k *ℤ (n -ℤ k) ≡ (k +ℤ pos 1) *ℤ coefficient_of n (k +ℤ pos 1)) (λ n k within.
+    let e : pos n -ℤ pos k ≡ pos (n - k) = omega (arith, ints) in
+    let across : coefficient n k * (n - k) ≡ (k + 1) * coefficient n (k + 1) = rw add-one (omega (arith, next_in_row n k within)) in
+    rw e (ap pos across))
 
 -- k + 1 divides the coefficient of k times n - k, and only the next coefficient is the quotient
 module _ {n k c a b : ℤ} (up : pos 0 ≤ℤ k) (below : k <ℤ n) (is : c ≡ coefficient_of n k) (rest : a ≡ n -ℤ k) (next : b ≡ k +ℤ pos 1) where

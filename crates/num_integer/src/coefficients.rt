@@ -1,6 +1,6 @@
 //! Binomial and multinomial coefficients.
 
-ghost use Rattle.std.specs.Prelude.{◌≡◌, ◌-◌, ◌^◌, ◌≤◌, ◌≤ℤ◌, ◌<ℤ◌, ◌+ℤ◌, ◌*ℤ◌, pos, unsigned_abs, min, map};
+ghost use Rattle.std.specs.Prelude.{◌≡◌, ◌-◌, ◌^◌, ◌≤◌, ◌≤ℤ◌, ◌<ℤ◌, ◌+ℤ◌, ◌*ℤ◌, pos, unsigned_abs, int_div, min, map};
 ghost use Rattle.std.specs.List.{All};
 ghost use Rattle.integer_core.specs.Divisors.{Divides};
 ghost use Rattle.integer_core.specs.Range.{EachFits};
@@ -11,6 +11,16 @@ use integer_core::Integer;
 use integer_core::operators::{
     difference, is_below, one, product, quotient, remainder, successor, sum, zero,
 };
+
+/// Returns `a / b`. The quotient by a positive number always fits.
+pub(crate) fn positive_quotient<T: Integer>(a: T, b: T) -> T
+    requires in_range { T.fits (T.value a) × T.fits (T.value b) }
+    requires positive { pos 0 <ℤ T.value b }
+    ensures in_range { T.fits (T.value result) }
+    ensures value { T.value result ≡ int_div (T.value a) (T.value b) }
+{
+    quotient(a, b)
+}
 
 /// Splits `r * a / b`, which is an integer, into the factors `r / g` and `a / (b / g)`. `g` is the
 /// gcd of `r` and `b`, computed as that of `r % b` and `b`. If `g` is `b` or 1, one division gives
@@ -26,11 +36,14 @@ fn factors<T: Integer>(r: T, a: T, b: T) -> (T, T)
 {
     let g = remainder(r, b).gcd(&b);
     if !is_below(g, b) {
-        (quotient(r, b), a)
+        (positive_quotient(r, b), a)
     } else if is_below(one(), g) {
-        (quotient(r, g), quotient(a, quotient(b, g)))
+        (
+            positive_quotient(r, g),
+            positive_quotient(a, positive_quotient(b, g)),
+        )
     } else {
-        (r, quotient(a, b))
+        (r, positive_quotient(a, b))
     }
 }
 

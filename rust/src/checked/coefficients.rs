@@ -2,7 +2,7 @@
 //! Checked coefficients.
 
 use crate::checked::operators::{inc, product, sum};
-use crate::coefficients::{nearer_end, next_factors};
+use crate::coefficients::{nearer_end, next_factors, positive_quotient};
 use crate::domains::Fits;
 use crate::integer_core::operators::successor;
 use crate::rows::IterBinomial;
@@ -146,7 +146,7 @@ fn row_fits<T: Fits>(n: T) -> bool {
 /// divides.
 fn half<T: Fits>(n: T) -> T {
     if T::one() < n {
-        n / successor(T::one())
+        positive_quotient(n, successor(T::one()))
     } else {
         T::zero()
     }

@@ -2,6 +2,7 @@
 //! Checked common divisors and multiples.
 
 use crate::checked::operators::{negated, product};
+use crate::coefficients::positive_quotient;
 use crate::domains::Fits;
 use crate::integer_core::ExtendedGcd;
 
@@ -220,7 +221,7 @@ fn lcm_with_gcd<T: Fits>(x: T, y: T, g: T) -> Option<T> {
 
 /// Returns [`lcm_with_gcd`] for a `y` that is not 0: the magnitude of `x * (y / g)`.
 fn nonzero_lcm<T: Fits>(x: T, y: T, g: T) -> Option<T> {
-    let product = product(x, y / g)?;
+    let product = product(x, positive_quotient(y, g))?;
     if product < T::zero() {
         negated(product)
     } else {

@@ -9,10 +9,10 @@ ghost use Rattle.num_integer.specs.Multinomial.{IsMultinomial};
 ghost use Rattle.num_integer.specs.Row.{RowFits, row_of};
 
 use crate::checked::operators::{inc, product, sum};
-use crate::coefficients::{nearer_end, next_factors};
+use crate::coefficients::{nearer_end, next_factors, positive_quotient};
 use crate::domains::Fits;
 use crate::rows::IterBinomial;
-use integer_core::operators::{is_below, is_negative, one, quotient, successor, zero};
+use integer_core::operators::{is_below, is_negative, one, successor, zero};
 
 /// Returns [`binomial`](crate::binomial), the binomial coefficient of `n` and `k`, or `None` if a number
 /// is negative or the coefficient does not fit. `binomial(11u8, 3)` is `Some(165)`, and
@@ -47,6 +47,7 @@ pub fn binomial<T: Fits>(n: T, k: T) -> Option<T>
 /// Returns [`multinomial`](crate::multinomial), the multinomial coefficient of the counts, or `None` if a
 /// count is negative or the multinomial does not fit. `multinomial(&[2, 1, 2])` is `Some(30)`, and
 /// `multinomial(&[255u8, 1])` is `None`.
+#[tactic(auto, using(crate::proofs::Multinomials::multinomial_first))]
 pub fn multinomial<T: Fits>(k: &[T]) -> Option<T>
     requires counts_in_range { All (λ x. T.fits (T.value x)) k.now }
     ensures { AnswersWhere
@@ -101,7 +102,7 @@ fn half<T: Fits>(n: T) -> T
     ensures value { T.value result ≡ pos (unsigned_abs (T.value n) / 2) }
 {
     if is_below(one(), n) {
-        quotient(n, successor(one()))
+        positive_quotient(n, successor(one()))
     } else {
         zero()
     }

@@ -8,9 +8,10 @@ ghost use Rattle.integer_core.specs.Range.{EachFits};
 ghost use Rattle.num_integer.specs.Checked.{AnswersWhere, Has};
 
 use crate::checked::operators::{negated, product};
+use crate::coefficients::positive_quotient;
 use crate::domains::Fits;
 use integer_core::ExtendedGcd;
-use integer_core::operators::{is_negative, is_zero, quotient, zero};
+use integer_core::operators::{is_negative, is_zero, zero};
 use num_traits::Signed;
 
 /// Returns [`Integer::gcd`], the greatest common divisor, or `None` if it does not fit. `gcd(56, 42)` is
@@ -131,7 +132,7 @@ fn nonzero_lcm<T: Fits>(x: T, y: T, g: T) -> Option<T>
         (Has T.fits T.value (IsLeastCommonMultiple (T.value x) (T.value y)))
         result }
 {
-    let product = product(x, quotient(y, g))?;
+    let product = product(x, positive_quotient(y, g))?;
     if is_negative(product) {
         negated(product)
     } else {

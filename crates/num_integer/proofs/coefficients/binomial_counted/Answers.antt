@@ -15,7 +15,6 @@ next_coefficient-coefficient-requires-clause-next_fits g c =
 
 pub successor-place-requires-clause-sum_fits : goal.successor-place-requires-clause-sum_fits
 successor-place-requires-clause-sum_fits g c =
-    let within = from_test c.is_below.ensures c.if-is_below.false in
     fits_below g.met.T.Integer.range_law c.requires.n_in_range (omega (arith, ints)) (omega (arith, ints, c.is_below-in-loop-n.ensures.0 c.loop-n-test.true))
 
 pub overflow_add-turns : goal.overflow_add-turns

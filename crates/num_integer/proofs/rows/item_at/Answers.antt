@@ -1,4 +1,4 @@
-use Rattle.std.specs.Prelude.{◌≡◌, ◌≢◌, ◌≤ℤ◌, ◌<ℤ◌, ◌+ℤ◌, ◌-ℤ◌}
+use Rattle.std.specs.Prelude.{◌≡◌, ◌+ℤ◌, ◌-ℤ◌}
 use Rattle.integer_core.proofs.Common.{ℤ, pos, arith, ap, sym, ◌∙◌, iff_false, linear}
 use Rattle.num_integer.proofs.Pascal.{coefficient-zero}
 use Rattle.num_integer.proofs.rows.item_at.Goals as goal
@@ -7,12 +7,10 @@ use Rattle.num_integer.proofs.rows.item_at.Goals as goal
 back : (k : ℤ) → k -ℤ pos 1 +ℤ pos 1 ≡ k
 back k = omega (arith, linear)
 
-positive : (k : ℤ) → pos 0 ≤ℤ k → k ≢ pos 0 → pos 0 <ℤ k
-positive k up nonzero = omega (arith, linear)
-
 pub next_coefficient-requires-clause-current : goal.next_coefficient-requires-clause-current
 next_coefficient-requires-clause-current g c =
-    rw c.predecessor.ensures.value (c.requires.previous_is (positive _ c.requires.k_from_zero (iff_false c.is_zero.ensures c.if-is_zero.false)))
+    let nonzero = iff_false c.is_zero.ensures c.if-is_zero.false in
+    rw c.predecessor.ensures.value (c.requires.previous_is (omega (arith, linear, c.requires.k_from_zero)))
 
 pub next_coefficient-requires-clause-next_fits : goal.next_coefficient-requires-clause-next_fits
 next_coefficient-requires-clause-next_fits g c = rw (c.predecessor.ensures.value, back (g.T.Number.value c.args.k)) c.requires.item_fits

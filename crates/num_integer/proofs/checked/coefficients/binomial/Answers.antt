@@ -24,9 +24,7 @@ returns-in_err-coefficient g c =
 
 pub successor-place-requires-clause-sum_fits : goal.successor-place-requires-clause-sum_fits
 successor-place-requires-clause-sum_fits g c =
-    let within = from_test c.is_below.ensures c.if-is_below.false in
     let n = from_test c.is_negative.ensures c.if-is_negative.false in
-    let k = from_test c.is_negative-else-is_negative.ensures c.if-is_negative-2.false in
     fits_below g.met.T.Integer.range_law c.requires.n_in_range (omega (arith, ints)) (omega (arith, ints, c.is_below-in-loop-n.ensures.0 c.loop-n-test.true))
 
 pub returns : goal.returns

@@ -1,36 +1,31 @@
 use Rattle.std.specs.Prelude.{◌*ℤ◌}
 use Rattle.integer_core.proofs.Common.{◌∙◌, IsLeastCommonMultiple, natural}
-use Rattle.integer_core.proofs.CommonDivisors.{gcd-nonzero, gcd-positive, only_lcm}
+use Rattle.integer_core.proofs.CommonDivisors.{gcd-positive, only_lcm}
 use Rattle.num_integer.proofs.CheckedAnswers.{answer_only, answers_only, lcm_by_gcd, negated_is, product_fits_by_size}
 use Rattle.num_integer.proofs.FittingAnswers.{from_test}
-use Rattle.num_integer.proofs.FlooredByPositive.{operator_quotient_fits}
 use Rattle.num_integer.proofs.checked.divisors.nonzero_lcm.Goals as goal
 
-pub quotient-requires-clause-nonzero : goal.quotient-requires-clause-nonzero
-quotient-requires-clause-nonzero g c = gcd-nonzero c.requires.greatest c.requires.nonzero
-
-pub quotient-requires-clause-quotient_fits : goal.quotient-requires-clause-quotient_fits
-quotient-requires-clause-quotient_fits g c =
-    operator_quotient_fits _ _ g.met.T.Integer.range_law c.requires.in_range.1 c.requires.in_range.2 (gcd-positive c.requires.greatest c.requires.nonzero)
+pub positive_quotient-requires-clause-positive : goal.positive_quotient-requires-clause-positive
+positive_quotient-requires-clause-positive g c = gcd-positive c.requires.greatest c.requires.nonzero
 
 pub returns-in_err-product : goal.returns-in_err-product
 returns-in_err-product g c =
-    let own = lcm_by_gcd c.requires.nonzero c.requires.greatest c.quotient.ensures.value in
-    rw c.from_residual.ensures (λ each. c.in_err-product.ensures (product_fits_by_size _ _ g.met.T.Integer.range_law c.requires.in_range.0 c.quotient.ensures.in_range (each _ own)))
+    let own = lcm_by_gcd c.requires.nonzero c.requires.greatest c.positive_quotient.ensures.value in
+    rw c.from_residual.ensures (λ each. c.in_err-product.ensures (product_fits_by_size _ _ g.met.T.Integer.range_law c.requires.in_range.0 c.positive_quotient.ensures.in_range (each _ own)))
 
 pub returns-then-is_negative : goal.returns-then-is_negative
 returns-then-is_negative g c =
-    let own = lcm_by_gcd c.requires.nonzero c.requires.greatest c.quotient.ensures.value in
+    let own = lcm_by_gcd c.requires.nonzero c.requires.greatest c.positive_quotient.ensures.value in
     let is = c.in_ok-product.ensures.1.1 in
-    let product = g.T.Number.value c.args.x *ℤ g.T.Number.value c.quotient.result in
+    let product = g.T.Number.value c.args.x *ℤ g.T.Number.value c.positive_quotient.result in
     let size = negated_is product (rw is at (c.is_negative.ensures.0 c.if-is_negative.true)) in
     answers_only g.T.Number.fits (IsLeastCommonMultiple (g.T.Number.value c.args.x) (g.T.Number.value c.args.y)) g.T.Number.value _ own (λ l. only_lcm own)
     (rw (is, size) at c.negated.ensures)
 
 pub returns-else-is_negative : goal.returns-else-is_negative
 returns-else-is_negative g c =
-    let own = lcm_by_gcd c.requires.nonzero c.requires.greatest c.quotient.ensures.value in
+    let own = lcm_by_gcd c.requires.nonzero c.requires.greatest c.positive_quotient.ensures.value in
     let is = c.in_ok-product.ensures.1.1 in
-    let product = g.T.Number.value c.args.x *ℤ g.T.Number.value c.quotient.result in
+    let product = g.T.Number.value c.args.x *ℤ g.T.Number.value c.positive_quotient.result in
     let size = natural {z = product} (rw is at (from_test c.is_negative.ensures c.if-is_negative.false)) in
     answer_only {P = IsLeastCommonMultiple (g.T.Number.value c.args.x) (g.T.Number.value c.args.y)} own (λ l. only_lcm own) c.in_ok-product.ensures.1.0 (◌∙◌ {b = product} is size)

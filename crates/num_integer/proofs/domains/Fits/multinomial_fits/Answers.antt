@@ -12,7 +12,8 @@ returns-then-negative g c =
 
 pub returns-in-None : goal.returns-in-None
 returns-in-None g c =
-    none_past g.met.Self.Integer.range_law c.ends-most.ensures.high c.loop-count.invariant c.loop-count-test.true c.count-item.is c.parts-negative.ensures.magnitude c.in-None.ensures
+    none_past g.met.Self.Integer.range_law c.ends-most.ensures.high c.loop-count.invariant c.loop-count-test.true c.count-item.is c.parts-negative.ensures.magnitude
+    (from_test c.parts-negative.ensures.negative c.if-negative.false) c.in-None.ensures
 
 pub loop-count-preserved : goal.loop-count-preserved
 loop-count-preserved g c =
