@@ -1,12 +1,8 @@
 -- Dates in their order, and their days.
-use Rattle.std.specs.Prelude.{◌≡◌, ◌⊎◌, ◌+◌, ◌-◌, ◌<◌, ◌≤◌, ◌<ℤ◌, ◌+ℤ◌, ℕ, ℤ, pos, List, length, take, sum, slice_index}
-use Rattle.std.proofs.Common.{◌∙◌, ap, arith, inl, inr, le_refl, sym}
+use Rattle.calendar.proofs.Common.{◌≡◌, ◌⊎◌, ◌+◌, ◌-◌, ◌<◌, ◌≤◌, ◌<ℤ◌, ◌+ℤ◌, ℕ, ℤ, pos, List, length, take, sum, slice_index, ◌∙◌, ap, arith, inl, inr, le_refl, sym, ints, to_z-of_z, take-take, linear}
 use Rattle.std.proofs.Props.{props}
-use Rattle.std.proofs.lemmas.Int.{ints, to_z-of_z}
-use Rattle.std.proofs.lemmas.List.{take-take}
 use Rattle.std.proofs.lemmas.List.Sums.{sum_by-take-le, sum_by_more}
 use mathlib.Core.HLevel.{is_prop→PathP}
-use Rattle.num_integer.proofs.ForCallers.{linear}
 use Rattle.calendar.specs.declared.date.Date.{Date}
 use Rattle.calendar.specs.Dates.{IsEarlier, number_of}
 use Rattle.calendar.specs.Laws.{DateIsOnly, DateOfPartsIsOnly, DateOfYearDayIsOnly, OrderOfDates}
@@ -19,10 +15,8 @@ use Rattle.calendar.proofs.YearLengths.{later_year, next_first_day}
 -- each month ends before the later ones begin
 month_end : (ms : List ℕ) (i j : ℕ) → i < j → j ≤ length ms → sum (take i ms) + slice_index ms i ≤ sum (take j ms)
 month_end ms i j before within =
-    let more = sum_by_more {X = ℕ} (λ x. x) ms i 0 (omega arith) in
-    let all = sum_by-take-le {X = ℕ} (λ x. x) (take j ms) (i + 1) in
-    let part = rw (take-take (i + 1) j ms (omega arith)) at all in
-    omega (arith, more, part)
+    let part = rw (take-take (i + 1) j ms (omega arith)) at (sum_by-take-le {X = ℕ} (λ x. x) (take j ms) (i + 1)) in
+    omega (arith, sum_by_more {X = ℕ} (λ x. x) ms i 0 (omega arith), part)
 
 -- The day of a date in its year is from 1 to the length of the year.
 pub year_day_range : {year : ℤ} {month day : ℕ} → IsDate year month day → (1 ≤ days_before_month year month + day) × (days_before_month year month + day ≤ days_in_year year)
@@ -34,9 +28,8 @@ year_day_range {year} {month} {day} h =
 -- the first day of the next month, and that of the next year, come after the last day of a month
 pub next_month : (year : ℤ) (month : ℕ) → 1 ≤ month → month < 12 → day_number year (month + 1) 1 ≡ day_number year month (days_in_month year month) +ℤ pos 1
 next_month year month from below =
-    let more = sum_by_more {X = ℕ} (λ x. x) (months_of year) (month - 1) 0 (omega arith) in
     let next : month - 1 + 1 ≡ month + 1 - 1 = omega arith in
-    let part = rw next at more in
+    let part = rw next at (sum_by_more {X = ℕ} (λ x. x) (months_of year) (month - 1) 0 (omega arith)) in
     omega (arith, ints)
 
 -- what a function's goals about the end of a month need
@@ -44,16 +37,13 @@ pub ruleset month_ends = (ints, to_z-of_z, next_month)
 
 pub next_year : (year : ℤ) → day_number (year +ℤ pos 1) 1 1 ≡ day_number year 12 31 +ℤ pos 1
 unfolding days_in_year
-next_year year =
-    let more = sum_by_more {X = ℕ} (λ x. x) (months_of year) 11 0 (omega arith) in
-    omega (arith, ints, next_first_day year)
+next_year year = omega (arith, ints, next_first_day year, sum_by_more {X = ℕ} (λ x. x) (months_of year) 11 0 (omega arith))
 
 -- the last day of a year is 31 December
 pub last_of_year : {year : ℤ} {month day : ℕ} → IsDate year month day → 12 ≤ month → days_in_month year month ≤ day → (month ≡ 12) × (day ≡ 31)
 last_of_year {year} {month} h from last =
     let december : month ≡ 12 = omega (arith, h.month_to_twelve) in
-    let own = h.day_to_last in
-    let part = rw december at own in
+    let part = rw december at h.day_to_last in
     let rest = rw december at last in
     (december, omega arith)
 
@@ -62,9 +52,7 @@ last_of_year {year} {month} h from last =
 -- an earlier date has a lesser number
 earlier_is_less : (a b : Date) → IsEarlier a b → number_of a <ℤ number_of b
 earlier_is_less a b (inl years) =
-    let first = year_day_range a.valid in
-    let second = year_day_range b.valid in
-    omega (arith, ints, next_first_day a.year, later_year a.year b.year years)
+    omega (arith, ints, year_day_range a.valid, year_day_range b.valid, next_first_day a.year, later_year a.year b.year years)
 earlier_is_less a b (inr (same, inl months)) =
     let end = month_end (months_of a.year) (a.month - 1) (b.month - 1) (omega (arith, a.valid.month_from_one)) (omega (arith, b.valid.month_to_twelve)) in
     rw (sym same) (omega (arith, ints, a.valid.day_to_last, b.valid.day_from_one))

@@ -1,11 +1,8 @@
 -- Dates as they are written, and as they are read.
-use Rattle.std.specs.Prelude.{cond, ◌≡◌, ◌⊎◌, ◌+◌, ◌-◌, ◌*◌, ◌/◌, ◌%◌, ◌<◌, ◌≤◌, ◌++◌, ◌≤ℤ◌, ◌<ℤ◌, ℕ, suc, ℤ, pos, negsuc, List, [], ◌∷◌, drop, take, length, get_or, Bool, true, false, Option, Some, None, MatchOption}
+use Rattle.calendar.proofs.Common.{cond, ◌≡◌, ◌⊎◌, ◌+◌, ◌-◌, ◌*◌, ◌/◌, ◌%◌, ◌<◌, ◌≤◌, ◌++◌, ◌≤ℤ◌, ◌<ℤ◌, ℕ, suc, ℤ, pos, negsuc, List, [], ◌∷◌, drop, take, length, get_or, Bool, true, false, Option, Some, None, MatchOption, arith, ap, append_assoc, inl, inr, refl, sym, ◌∙◌, ints, append-nil, get_or-drop, length-append, take-append-drop}
 use Rattle.std.specs.Fmt.{char_count, decimal, format_spec, padded_integral, styled_signed_decimal}
 use Rattle.std.specs.Str.{IsCharBoundary}
-use Rattle.std.proofs.Common.{arith, ap, append_assoc, inl, inr, refl, sym, ◌∙◌}
 use Rattle.std.proofs.Math.Seq.{drop-append_seam, take-append_seam}
-use Rattle.std.proofs.lemmas.Int.{ints}
-use Rattle.std.proofs.lemmas.List.{append-nil, get_or-drop, length-append, take-append-drop}
 use lib.Signed.{lt_z}
 use Rattle.calendar.specs.Dates.{HasParts}
 use Rattle.calendar.specs.Laws.{TextIsOnly}

@@ -1,9 +1,5 @@
 -- The days from one date to another: the first of them and the others, and how many they are.
-use Rattle.std.specs.Prelude.{◌≡◌, ◌≤◌, ◌<ℤ◌, ◌≤ℤ◌, ◌+ℤ◌, ◌-ℤ◌, ℕ, zero, suc, ℤ, pos, List, [], ◌∷◌, length, unsigned_abs}
-use Rattle.std.specs.Int.{int_max}
-use Rattle.std.proofs.Common.{ap, arith, inl, inr, refl}
-use Rattle.std.proofs.lemmas.Int.{by_lt_z, clamps}
-use Rattle.num_integer.proofs.ForCallers.{linear, sizes}
+use Rattle.calendar.proofs.Common.{◌≡◌, ◌≤◌, ◌<ℤ◌, ◌≤ℤ◌, ◌+ℤ◌, ◌-ℤ◌, ℕ, zero, suc, ℤ, pos, List, [], ◌∷◌, length, unsigned_abs, int_max, ap, arith, inl, inr, refl, by_lt_z, clamps, linear, sizes}
 use Rattle.calendar.specs.declared.date.Date.{Date}
 use Rattle.calendar.specs.Dates.{day_numbers, number_of, numbers_from}
 use Rattle.calendar.proofs.DateOrder.{order}

@@ -1,10 +1,5 @@
 -- The date of Easter.
-use Rattle.std.specs.Prelude.{◌≡◌, ◌⊎◌, ◌+◌, ◌-◌, ◌*◌, ◌/◌, ◌<◌, ◌+ℤ◌, ◌-ℤ◌, ◌*ℤ◌, ℕ, ℤ, pos, unsigned_abs}
-use Rattle.std.proofs.Common.{◌∙◌, ap, arith, inl, inr, refl, sym}
-use Rattle.std.proofs.lemmas.Bool.Decides.{nat_tests}
-use Rattle.std.proofs.lemmas.Int.{by_lt_z, ints}
-use Rattle.num_integer.proofs.ForCallers.{floored_by_range, floored_quotient_range, floored_remainder_range, linear, only_floored}
-use Rattle.num_integer.specs.Division.{IsFloored, IsQuotient, IsRemainder}
+use Rattle.calendar.proofs.Common.{◌≡◌, ◌⊎◌, ◌+◌, ◌-◌, ◌*◌, ◌/◌, ◌<◌, ◌+ℤ◌, ◌-ℤ◌, ◌*ℤ◌, ℕ, ℤ, pos, unsigned_abs, ◌∙◌, ap, arith, inl, inr, refl, sym, nat_tests, by_lt_z, ints, floored_by_range, floored_quotient_range, floored_remainder_range, linear, only_floored, IsFloored, IsQuotient, IsRemainder}
 use Rattle.calendar.specs.Easter.{IsEaster, IsEpact, IsLunarCorrection, IsPaschalFullMoon, IsSolarCorrection, days_to_full_moon}
 use Rattle.calendar.specs.Laws.{EarlierFullMoons, EasterIsOnly, EpactOfTheFirstYear, EpactOfTheNextYear, FullMoonsDiffer, LunarCorrectionOfTwentyFiveCenturies, LunarCorrectionsFrom1800, SolarCorrectionOfTheNextCentury}
 use Rattle.calendar.specs.Weekday.{weekday_number}
@@ -22,8 +17,7 @@ next_sunday {days = days} h is small place = first_within Sunday (days_later day
 pub is_epact : {century solar lunar sum rest : ℤ} (golden : ℕ) → IsSolarCorrection century solar → IsLunarCorrection century lunar → sum ≡ pos 11 *ℤ pos golden +ℤ pos 8 -ℤ solar +ℤ lunar
     → IsRemainder IsFloored sum (pos 30) rest → IsEpact century golden (unsigned_abs rest)
 is_epact {solar = solar} {lunar = lunar} {rest = rest} golden solar_is lunar_is sum_is h =
-    let range = floored_remainder_range (omega (arith, ints)) h in
-    let same : pos (unsigned_abs rest) ≡ rest = omega (arith, ints) in
+    let same : pos (unsigned_abs rest) ≡ rest = omega (arith, ints, floored_remainder_range (omega (arith, ints)) h) in
     record { solar = solar; lunar = lunar; solar_is = solar_is; lunar_is = lunar_is; epact_is = rw same (rw sum_is at h) }
 
 -- the days from 1 March on follow each other

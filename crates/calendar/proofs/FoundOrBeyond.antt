@@ -1,8 +1,5 @@
 -- Numbers that fit an `i64`, or lie beyond it.
-use Rattle.std.specs.Prelude.{◌≡◌, ℤ, FitsSigned, MatchOption, Option, Some, None}
-use Rattle.std.specs.Int.{w64}
-use Rattle.std.specs.Option.{SomeIff}
-use Rattle.std.proofs.Common.{subst, sym}
+use Rattle.calendar.proofs.Common.{◌≡◌, ℤ, FitsSigned, MatchOption, Option, Some, None, w64, SomeIff, subst, sym}
 
 -- a number that is the only one, if it fits, and else no number that fits
 pub only_or_beyond : (P : ℤ → Type 0) (o : Option ℤ) {found : ℤ} → ((a b : ℤ) → P a → P b → a ≡ b) → SomeIff o (FitsSigned w64 found) found → P found → MatchOption o ((z : ℤ) → P z → ¬ (FitsSigned w64 z)) P

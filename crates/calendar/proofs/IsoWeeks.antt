@@ -1,11 +1,5 @@
 -- The weeks of ISO 8601.
-use Rattle.std.specs.Prelude.{◌≡◌, ◌+◌, ◌/◌, ◌%◌, ◌<◌, ◌≤ℤ◌, ◌<ℤ◌, ◌+ℤ◌, ◌-ℤ◌, ◌*ℤ◌, ℕ, ℤ, pos, negsuc, FitsSigned, MatchOption, Option, Some, None}
-use Rattle.std.specs.Int.{w64}
-use Rattle.std.proofs.Common.{ap, arith, inl, inr, refl, subst, sym}
-use Rattle.std.proofs.lemmas.Bool.{cases_lt}
-use Rattle.std.proofs.lemmas.Int.{ints}
-use Rattle.num_integer.proofs.ForCallers.{floored_by_range, floored_remainder_range, linear}
-use Rattle.num_integer.specs.Division.{IsFloored, IsRemainder}
+use Rattle.calendar.proofs.Common.{◌≡◌, ◌+◌, ◌/◌, ◌%◌, ◌<◌, ◌≤ℤ◌, ◌<ℤ◌, ◌+ℤ◌, ◌-ℤ◌, ◌*ℤ◌, ℕ, ℤ, pos, negsuc, FitsSigned, MatchOption, Option, Some, None, w64, ap, arith, inl, inr, refl, subst, sym, cases_lt, ints, floored_by_range, floored_remainder_range, linear, IsFloored, IsRemainder}
 use Rattle.calendar.specs.declared.date.Date.{Date}
 use Rattle.calendar.specs.Dates.{number_of}
 use Rattle.calendar.specs.IsoWeeks.{HasIsoWeek, HasIsoWeeks, IsDayOfIsoWeek, IsInIsoWeek, IsThursdayOfWeek}

@@ -1,10 +1,5 @@
 -- Eras of 400 years, after which the calendar repeats.
-use Rattle.std.specs.Prelude.{◌≡◌, ◌+◌, ◌-◌, ◌/◌, ◌%◌, ◌<◌, ◌+ℤ◌, ◌-ℤ◌, ◌*ℤ◌, ℕ, ℤ, pos, negsuc, neg_ℤ, FitsSigned, MatchOption, Option, Some, None}
-use Rattle.std.specs.Int.{w64}
-use Rattle.std.proofs.Common.{◌∙◌, arith, subst, sym}
-use Rattle.std.proofs.lemmas.Bool.Decides.{nat_tests}
-use Rattle.std.proofs.lemmas.Int.{ints}
-use Rattle.num_integer.proofs.ForCallers.{dist-left, divides_by_magnitude, mul-neg}
+use Rattle.calendar.proofs.Common.{◌≡◌, ◌+◌, ◌-◌, ◌/◌, ◌%◌, ◌<◌, ◌+ℤ◌, ◌-ℤ◌, ◌*ℤ◌, ℕ, ℤ, pos, negsuc, neg_ℤ, FitsSigned, MatchOption, Option, Some, None, w64, ◌∙◌, arith, subst, sym, nat_tests, ints, dist-left, divides_by_magnitude, mul-neg}
 use Rattle.num_integer.specs.Divisors.{Divides}
 use Rattle.calendar.specs.Dates.{HasParts, number_of}
 use Rattle.calendar.specs.LeapYears.{is_leap_year, is_multiple}
@@ -19,8 +14,7 @@ use Rattle.calendar.proofs.YearLengths.{in_era}
 -- a number divides the years that are its multiples apart, or none of them
 divides_apart : (x y more : ℤ) (d : ℕ) → y ≡ x +ℤ pos d *ℤ more → Divides (pos d) x → Divides (pos d) y
 divides_apart x y more d apart h =
-    let product = h.product in
-    record { factor = h.factor +ℤ more; product = omega (arith, ints, dist-left (pos d) h.factor more) }
+    record { factor = h.factor +ℤ more; product = omega (arith, ints, h.product, dist-left (pos d) h.factor more) }
 
 multiple_apart : (x y more : ℤ) (d : ℕ) → 0 < d → y ≡ x +ℤ pos d *ℤ more → is_multiple y d ≡ is_multiple x d
 unfolding is_multiple

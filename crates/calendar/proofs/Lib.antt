@@ -1,3 +1,4 @@
+pub mod Common
 pub mod FoundOrBeyond
 pub mod YearLengths
 pub mod MonthLengths

@@ -1,8 +1,6 @@
 -- The months, and years that begin on 1 March.
-use Rattle.std.specs.Prelude.{◌≡◌, ◌+◌, ◌-◌, ◌*◌, ◌/◌, ◌%◌, ◌<◌, ◌≤◌, ◌+ℤ◌, ◌-ℤ◌, ◌*ℤ◌, ℕ, ℤ, pos, ◌⊎◌, Bool, true, false, sum, take}
+use Rattle.calendar.proofs.Common.{◌≡◌, ◌+◌, ◌-◌, ◌*◌, ◌/◌, ◌%◌, ◌<◌, ◌≤◌, ◌+ℤ◌, ◌-ℤ◌, ◌*ℤ◌, ℕ, ℤ, pos, ◌⊎◌, Bool, true, false, sum, take, ap, arith, inl, inr, rules, ints, to_z-of_z}
 use Rattle.std.specs.List.{All, range_with_len}
-use Rattle.std.proofs.Common.{ap, arith, inl, inr, rules}
-use Rattle.std.proofs.lemmas.Int.{ints, to_z-of_z}
 use Rattle.std.proofs.lemmas.List.Elements.{All-get_or}
 use Rattle.std.proofs.lemmas.List.FromFn.{get_or-range_with_len}
 use Rattle.calendar.specs.LeapYears.{is_leap_year}

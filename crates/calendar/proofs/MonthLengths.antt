@@ -1,7 +1,6 @@
 -- The lengths of the months.
-use Rattle.std.specs.Prelude.{◌≤◌, ◌-◌, ℕ, ℤ, Bool, true, false}
+use Rattle.calendar.proofs.Common.{◌≤◌, ◌-◌, ℕ, ℤ, Bool, true, false, arith, rules}
 use Rattle.std.specs.List.{All}
-use Rattle.std.proofs.Common.{arith, rules}
 use Rattle.std.proofs.lemmas.List.Elements.{All-get_or}
 use Rattle.calendar.specs.LeapYears.{is_leap_year}
 use Rattle.calendar.specs.Months.{days_in_month, month_lengths, months_of}

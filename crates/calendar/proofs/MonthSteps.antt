@@ -1,10 +1,5 @@
 -- Dates some months apart.
-use Rattle.std.specs.Prelude.{◌≡◌, ◌<◌, ◌≤◌, ◌+◌, ◌-◌, ◌/◌, ◌%◌, ◌≤ℤ◌, ◌<ℤ◌, ◌+ℤ◌, ◌-ℤ◌, ◌*ℤ◌, ℕ, ℤ, pos, negsuc, min}
-use Rattle.std.proofs.Common.{◌∙◌, arith, inl, inr, refl, sym}
-use Rattle.std.proofs.lemmas.Bool.{cases_lt}
-use Rattle.std.proofs.lemmas.Int.{by_lt_z, ints}
-use Rattle.num_integer.proofs.ForCallers.{floored_quotient_range, linear}
-use Rattle.num_integer.specs.Division.{IsFloored, IsQuotient}
+use Rattle.calendar.proofs.Common.{◌≡◌, ◌<◌, ◌≤◌, ◌+◌, ◌-◌, ◌/◌, ◌%◌, ◌≤ℤ◌, ◌<ℤ◌, ◌+ℤ◌, ◌-ℤ◌, ◌*ℤ◌, ℕ, ℤ, pos, negsuc, min, ◌∙◌, arith, inl, inr, refl, sym, cases_lt, by_lt_z, ints, floored_quotient_range, linear, IsFloored, IsQuotient}
 use Rattle.calendar.specs.Dates.{IsMonthsAfter, IsMonthsBetween, IsYearsBetween, number_of}
 use Rattle.calendar.specs.Laws.{MonthsAfterIsOnly, MonthsBetweenIsOnly}
 use Rattle.calendar.specs.Months.{days_in_month, month_number}
@@ -49,8 +44,7 @@ months_after_exists from months =
 pub only_months_after : MonthsAfterIsOnly
 only_months_after from months a b h k =
     let (year, month) = same_month a b (h.month_is ∙ sym k.month_is) in
-    let day = rw (year, month) at h.day_is in
-    of_parts a b year month (day ∙ sym k.day_is)
+    of_parts a b year month (rw (year, month) at h.day_is ∙ sym k.day_is)
 
 -- More months lead to no earlier date.
 pub months_in_order : {from a b : Date} {m n : ℤ} → m ≤ℤ n → IsMonthsAfter from m a → IsMonthsAfter from n b → number_of a ≤ℤ number_of b

@@ -1,9 +1,5 @@
 -- The dates that are the last of a day of the week in their months, one after the other.
-use Rattle.std.specs.Prelude.{◌≡◌, ◌<◌, ◌≤◌, ◌<ℤ◌, ◌≤ℤ◌, ◌+ℤ◌, ℕ, ℤ, pos, FitsSigned}
-use Rattle.std.specs.Int.{w64}
-use Rattle.std.proofs.Common.{arith, inr, subst, sym}
-use Rattle.std.proofs.lemmas.Int.{by_lt_z, ints}
-use Rattle.num_integer.proofs.ForCallers.{linear}
+use Rattle.calendar.proofs.Common.{◌≡◌, ◌<◌, ◌≤◌, ◌<ℤ◌, ◌≤ℤ◌, ◌+ℤ◌, ℕ, ℤ, pos, FitsSigned, w64, arith, inr, subst, sym, by_lt_z, ints, linear}
 use Rattle.calendar.specs.Dates.{IsLastWeekdayOfMonth, IsMonthsAfter, IsNextLastWeekday, number_of}
 use Rattle.calendar.specs.Laws.{NextLastWeekdayIsOnly}
 use Rattle.calendar.specs.Months.{month_number}

@@ -1,12 +1,9 @@
 -- Numbers with zeros in front.
-use Rattle.std.specs.Prelude.{◌≡◌, ◌+◌, ◌-◌, ◌*◌, ◌/◌, ◌%◌, ◌^◌, ◌<◌, ◌++◌, ℕ, zero, suc, List, [], ◌∷◌, length, replicate, get_or, Result, Ok}
+use Rattle.calendar.proofs.Common.{◌≡◌, ◌+◌, ◌-◌, ◌*◌, ◌/◌, ◌%◌, ◌^◌, ◌<◌, ◌++◌, ℕ, zero, suc, List, [], ◌∷◌, length, replicate, get_or, Result, Ok, arith, ap, inl, inr, refl, sym, ◌∙◌, cases_lt, length-append, length-replicate}
 use Rattle.std.specs.Fmt.{decimal}
 use Rattle.std.specs.Char.{digit_value}
 use Rattle.std.specs.Str.Parse.{AllDigits, ParsesUnsigned, digits_value, digits_value_after}
-use Rattle.std.proofs.Common.{arith, ap, inl, inr, refl, sym, ◌∙◌}
-use Rattle.std.proofs.lemmas.Bool.{cases_lt}
 use Rattle.std.proofs.lemmas.Fmt.{decimal-digits_value, decimal_digit, decimal_is_IsNumeral, decimal_step, first_decimal, length-decimal-le, length-decimal-le_succ}
-use Rattle.std.proofs.lemmas.List.{length-append, length-replicate}
 use Rattle.std.proofs.lemmas.Str.{digit_value_digit}
 use Rattle.std.proofs.lemmas.Str.Parse.{IsNumeralModel, digit_at, digit_from_value, digits_value_short, numerals_by_value, parse_gives, parse_plain, tells_digits}
 use Rattle.calendar.specs.Text.{IsShortest, padded}
@@ -36,14 +33,10 @@ padded_value places n small = zeros_value (places - length (decimal n)) (decimal
 pub two_places : (n : ℕ) → n < 100 → padded 2 n ≡ (48 + n / 10) ∷ (48 + n % 10) ∷ []
 two_places n small = elim (cases_lt n 10) [
   | inl one ↦
-      let digit = decimal_digit n one in
       let tens : 48 ≡ 48 + n / 10 = omega arith in
       let ones : 48 + n ≡ 48 + n % 10 = omega arith in
-      rw digit (ap (λ (a : ℕ). a ∷ (48 + n) ∷ []) tens ∙ ap (λ (b : ℕ). (48 + n / 10) ∷ b ∷ []) ones)
-  | inr two ↦
-      let step = decimal_step n two (omega arith) in
-      let digit = decimal_digit (n / 10) (omega arith) in
-      rw (step, digit) refl
+      rw (decimal_digit n one) (ap (λ (a : ℕ). a ∷ (48 + n) ∷ []) tens ∙ ap (λ (b : ℕ). (48 + n / 10) ∷ b ∷ []) ones)
+  | inr two ↦ rw (decimal_step n two (omega arith), decimal_digit (n / 10) (omega arith)) refl
 ]
 
 -- ---- four places or more

@@ -1,7 +1,4 @@
-use Rattle.std.specs.Prelude.{◌↔◌, IsTrue}
-use Rattle.std.proofs.Common.{arith}
-use Rattle.std.proofs.lemmas.Bool.Decides.{nat_tests}
-use Rattle.std.proofs.lemmas.Int.{ints}
+use Rattle.calendar.proofs.Common.{◌↔◌, IsTrue, arith, nat_tests, ints}
 use Rattle.calendar.specs.Dates.{IsEarlier}
 use Rattle.calendar.proofs.DateOrder.{order}
 use Rattle.calendar.proofs.days.is_earlier.Goals as goal

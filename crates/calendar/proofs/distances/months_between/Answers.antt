@@ -1,7 +1,4 @@
-use Rattle.std.specs.Prelude.{FitsSigned}
-use Rattle.std.specs.Int.{w128}
-use Rattle.std.proofs.Common.{rules}
-use Rattle.std.proofs.lemmas.Int.{to_z-of_z}
+use Rattle.calendar.proofs.Common.{FitsSigned, w128, rules, to_z-of_z}
 use Rattle.calendar.specs.Dates.{IsMonthsBetween}
 use Rattle.calendar.proofs.FoundOrBeyond.{found_or_beyond}
 use Rattle.calendar.proofs.distances.months_between.Goals as goal

@@ -1,7 +1,4 @@
-use Rattle.std.specs.Prelude.{◌<◌, ◌≤◌, ◌^◌, ◌-ℤ◌, ℤ, min, pos, unsigned_abs, FitsSigned}
-use Rattle.std.specs.Int.{w128}
-use Rattle.std.proofs.Common.{arith, refl}
-use Rattle.std.proofs.lemmas.Int.{ints, to_z-of_z}
+use Rattle.calendar.proofs.Common.{◌<◌, ◌≤◌, ◌^◌, ◌-ℤ◌, ℤ, min, pos, unsigned_abs, FitsSigned, w128, arith, refl, ints, to_z-of_z}
 use Rattle.calendar.specs.Months.{days_in_month}
 use Rattle.calendar.proofs.MonthSteps.{month_less, whole_months}
 use Rattle.calendar.proofs.distances.whole_months.Goals as goal

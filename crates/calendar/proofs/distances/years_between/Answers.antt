@@ -1,8 +1,4 @@
-use Rattle.std.specs.Prelude.{pos, FitsSigned}
-use Rattle.std.specs.Int.{w128}
-use Rattle.std.proofs.Common.{rules}
-use Rattle.std.proofs.lemmas.Int.{to_z-of_z}
-use Rattle.num_integer.specs.Division.{IsFloored, IsQuotient}
+use Rattle.calendar.proofs.Common.{pos, FitsSigned, w128, rules, to_z-of_z, IsFloored, IsQuotient}
 use Rattle.calendar.specs.Dates.{IsYearsBetween}
 use Rattle.calendar.proofs.FoundOrBeyond.{found_or_beyond}
 use Rattle.calendar.proofs.MonthSteps.{whole_years}

@@ -1,9 +1,4 @@
-use Rattle.std.specs.Prelude.{pos, FitsSigned}
-use Rattle.std.specs.Int.{w64}
-use Rattle.std.proofs.Common.{arith}
-use Rattle.std.proofs.lemmas.Int.{ints, to_z-of_z}
-use Rattle.num_integer.proofs.ForCallers.{floored_remainder_range}
-use Rattle.num_integer.specs.Division.{IsFloored}
+use Rattle.calendar.proofs.Common.{pos, FitsSigned, w64, arith, ints, to_z-of_z, floored_remainder_range, IsFloored}
 use Rattle.calendar.proofs.eras.groups_and_rest.Goals as goal
 
 pub returns : goal.returns

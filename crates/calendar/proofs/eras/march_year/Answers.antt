@@ -1,5 +1,4 @@
-use Rattle.std.proofs.Common.{arith}
-use Rattle.std.proofs.lemmas.Int.{ints}
+use Rattle.calendar.proofs.Common.{arith, ints}
 use Rattle.calendar.proofs.MarchYears.{days_left, march_first, part_of_year, whole_years, years_in}
 use Rattle.calendar.proofs.eras.march_year.Goals as goal
 

@@ -1,7 +1,4 @@
-use Rattle.std.specs.Prelude.{◌≡◌, ◌<◌, ◌+ℤ◌, ◌*ℤ◌, ℕ, ℤ, pos, FitsSigned}
-use Rattle.std.specs.Int.{w64}
-use Rattle.std.proofs.Common.{arith, rules}
-use Rattle.std.proofs.lemmas.Int.{ints, to_z-of_z}
+use Rattle.calendar.proofs.Common.{◌≡◌, ◌<◌, ◌+ℤ◌, ◌*ℤ◌, ℕ, ℤ, pos, FitsSigned, w64, arith, rules, ints, to_z-of_z}
 use Rattle.calendar.proofs.eras.march_year_of_day.Goals as goal
 use Rattle.calendar.proofs.eras.march_year_of_day.Goals.{After-march_year-years}
 

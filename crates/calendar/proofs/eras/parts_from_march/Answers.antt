@@ -1,6 +1,4 @@
-use Rattle.std.specs.Prelude.{◌+ℤ◌, pos}
-use Rattle.std.proofs.Common.{arith}
-use Rattle.std.proofs.lemmas.Int.{ints, to_z-of_z}
+use Rattle.calendar.proofs.Common.{◌+ℤ◌, pos, arith, ints, to_z-of_z}
 use Rattle.calendar.proofs.MarchYears.{third_month}
 use Rattle.calendar.proofs.YearLengths.{next_first_day}
 use Rattle.calendar.proofs.eras.parts_from_march.Goals as goal

@@ -1,4 +1,4 @@
-use Rattle.std.proofs.Common.{refl}
+use Rattle.calendar.proofs.Common.{refl}
 use Rattle.calendar.proofs.EasterSundays.{next_sunday}
 use Rattle.calendar.proofs.feasts.days_to_next_sunday.Goals as goal
 

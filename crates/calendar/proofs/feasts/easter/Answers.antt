@@ -1,5 +1,4 @@
-use Rattle.std.proofs.Common.{◌∙◌, arith, inl, inr, refl}
-use Rattle.std.proofs.lemmas.Int.{to_z-of_z}
+use Rattle.calendar.proofs.Common.{◌∙◌, arith, inl, inr, refl, to_z-of_z}
 use Rattle.calendar.proofs.EasterSundays.{march_days_later, is_easter}
 use Rattle.calendar.proofs.feasts.easter.Goals as goal
 

@@ -1,7 +1,4 @@
-use Rattle.std.specs.Prelude.{FitsSigned}
-use Rattle.std.specs.Int.{w64}
-use Rattle.std.proofs.Common.{arith}
-use Rattle.std.proofs.lemmas.Int.{ints, to_z-of_z}
+use Rattle.calendar.proofs.Common.{FitsSigned, w64, arith, ints, to_z-of_z}
 use Rattle.calendar.proofs.EasterSundays.{is_epact}
 use Rattle.calendar.proofs.feasts.epact_of.Goals as goal
 

@@ -1,7 +1,4 @@
-use Rattle.std.specs.Prelude.{◌+ℤ◌, ◌*ℤ◌, pos, FitsSigned}
-use Rattle.std.specs.Int.{w64}
-use Rattle.std.proofs.Common.{arith}
-use Rattle.std.proofs.lemmas.Int.{ints, to_z-of_z}
+use Rattle.calendar.proofs.Common.{◌+ℤ◌, ◌*ℤ◌, pos, FitsSigned, w64, arith, ints, to_z-of_z}
 use Rattle.calendar.proofs.feasts.lunar_correction.Goals as goal
 
 pub returns-clause-value : goal.returns-clause-value

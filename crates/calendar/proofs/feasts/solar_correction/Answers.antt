@@ -1,8 +1,4 @@
-use Rattle.std.specs.Prelude.{◌-ℤ◌, FitsSigned}
-use Rattle.std.specs.Int.{w64}
-use Rattle.std.proofs.Common.{arith, refl}
-use Rattle.std.proofs.lemmas.Int.{ints, to_z-of_z}
-use Rattle.num_integer.proofs.ForCallers.{floored_remainder_range}
+use Rattle.calendar.proofs.Common.{◌-ℤ◌, FitsSigned, w64, arith, refl, ints, to_z-of_z, floored_remainder_range}
 use Rattle.calendar.proofs.feasts.solar_correction.Goals as goal
 
 pub returns-clause-value : goal.returns-clause-value

@@ -1,7 +1,4 @@
-use Rattle.std.specs.Prelude.{◌+◌, ◌%◌, pos, FitsSigned}
-use Rattle.std.specs.Int.{w64}
-use Rattle.std.proofs.Common.{arith}
-use Rattle.std.proofs.lemmas.Int.{ints, to_z-of_z}
+use Rattle.calendar.proofs.Common.{◌+◌, ◌%◌, pos, FitsSigned, w64, arith, ints, to_z-of_z}
 use Rattle.calendar.proofs.IsoWeeks.{since_monday}
 use Rattle.calendar.proofs.iso_weeks.days_since_monday.Goals as goal
 

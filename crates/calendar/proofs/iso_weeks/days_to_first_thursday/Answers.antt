@@ -1,7 +1,4 @@
-use Rattle.std.specs.Prelude.{◌+◌, ◌%◌, ◌-ℤ◌, pos, FitsSigned}
-use Rattle.std.specs.Int.{w64}
-use Rattle.std.proofs.Common.{arith, rules, sym}
-use Rattle.std.proofs.lemmas.Int.{ints, to_z-of_z}
+use Rattle.calendar.proofs.Common.{◌+◌, ◌%◌, ◌-ℤ◌, pos, FitsSigned, w64, arith, rules, sym, ints, to_z-of_z}
 use Rattle.calendar.specs.Years.{first_day}
 use Rattle.calendar.proofs.IsoWeeks.{to_thursday}
 use Rattle.calendar.proofs.iso_weeks.days_to_first_thursday.Goals as goal

@@ -1,8 +1,4 @@
-use Rattle.std.specs.Prelude.{◌≡◌, ◌≤◌, ◌<ℤ◌, ◌≤ℤ◌, ◌+ℤ◌, ◌-ℤ◌, ℕ, ℤ, pos, FitsSigned}
-use Rattle.std.specs.Int.{w64}
-use Rattle.std.proofs.Common.{arith}
-use Rattle.std.proofs.lemmas.Int.{ints, to_z-of_z}
-use Rattle.num_integer.specs.Division.{IsFloored, IsRemainder}
+use Rattle.calendar.proofs.Common.{◌≡◌, ◌≤◌, ◌<ℤ◌, ◌≤ℤ◌, ◌+ℤ◌, ◌-ℤ◌, ℕ, ℤ, pos, FitsSigned, w64, arith, ints, to_z-of_z, IsFloored, IsRemainder}
 use Rattle.calendar.specs.Dates.{number_of}
 use Rattle.calendar.specs.Years.{first_day}
 use Rattle.calendar.proofs.IsoWeeks.{of_week}

@@ -1,9 +1,4 @@
-use Rattle.std.specs.Prelude.{◌+ℤ◌, ◌-ℤ◌, ◌*ℤ◌, pos, FitsSigned}
-use Rattle.std.specs.Int.{w64}
-use Rattle.std.proofs.Common.{arith}
-use Rattle.std.proofs.lemmas.Int.{ints, to_z-of_z}
-use Rattle.num_integer.proofs.ForCallers.{floored_remainder_range}
-use Rattle.num_integer.specs.Division.{IsFloored, IsRemainder}
+use Rattle.calendar.proofs.Common.{◌+ℤ◌, ◌-ℤ◌, ◌*ℤ◌, pos, FitsSigned, w64, arith, ints, to_z-of_z, floored_remainder_range, IsFloored, IsRemainder}
 use Rattle.calendar.specs.Years.{first_day}
 use Rattle.calendar.proofs.IsoWeeks.{is_thursday}
 use Rattle.calendar.proofs.iso_weeks.days_to_thursday_of_week.Goals as goal

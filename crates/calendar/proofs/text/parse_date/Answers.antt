@@ -1,7 +1,4 @@
-use Rattle.std.specs.Prelude.{◌≡◌, ℤ, Some, FitsSigned}
-use Rattle.std.specs.Int.{w64}
-use Rattle.std.proofs.Common.{ap, refl, rules, sym, ◌∙◌}
-use Rattle.std.proofs.lemmas.Int.{to_z-of_z}
+use Rattle.calendar.proofs.Common.{◌≡◌, ℤ, Some, FitsSigned, w64, ap, refl, rules, sym, ◌∙◌, to_z-of_z}
 use Rattle.calendar.proofs.DateTexts.{made_date, only_number, small_parts}
 use Rattle.calendar.proofs.text.parse_date.Goals as goal
 

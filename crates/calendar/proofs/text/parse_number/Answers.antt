@@ -1,5 +1,4 @@
-use Rattle.std.specs.Prelude.{◌≡◌}
-use Rattle.std.proofs.Common.{arith, ap, subst, sym, ◌∙◌}
+use Rattle.calendar.proofs.Common.{◌≡◌, arith, ap, subst, sym, ◌∙◌}
 use Rattle.calendar.specs.Text.{IsShortest, padded}
 use Rattle.calendar.proofs.PaddedNumbers.{number_read, number_text, padded_shortest}
 use Rattle.calendar.proofs.text.parse_number.Goals as goal

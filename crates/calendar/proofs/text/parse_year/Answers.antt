@@ -1,6 +1,4 @@
-use Rattle.std.specs.Prelude.{Some, None}
-use Rattle.std.proofs.Common.{arith}
-use Rattle.std.proofs.lemmas.Int.{ints}
+use Rattle.calendar.proofs.Common.{Some, None, arith, ints}
 use Rattle.std.proofs.lemmas.Str.Pattern.{strip_prefix_char}
 use Rattle.calendar.proofs.YearTexts.{minus_form, no_year_read, plain_form, plus_form, year_read}
 use Rattle.calendar.proofs.text.parse_year.Goals as goal

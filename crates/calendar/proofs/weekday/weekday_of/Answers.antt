@@ -1,8 +1,4 @@
-use Rattle.std.specs.Prelude.{◌+◌, ◌/◌, ◌+ℤ◌, pos, unsigned_abs}
-use Rattle.std.proofs.Common.{arith}
-use Rattle.std.proofs.lemmas.Int.{ints, to_z-of_z}
-use Rattle.num_integer.proofs.ForCallers.{floored_remainder_range}
-use Rattle.num_integer.specs.Division.{IsFloored, IsRemainder}
+use Rattle.calendar.proofs.Common.{◌+◌, ◌/◌, ◌+ℤ◌, pos, unsigned_abs, arith, ints, to_z-of_z, floored_remainder_range, IsFloored, IsRemainder}
 use Rattle.calendar.proofs.WeekdayPlaces.{on_weekday}
 use Rattle.calendar.proofs.weekday.weekday_of.Goals as goal
 

@@ -1,5 +1,4 @@
-use Rattle.std.proofs.Common.{refl}
-use Rattle.std.proofs.lemmas.Int.{to_z-of_z}
+use Rattle.calendar.proofs.Common.{refl, to_z-of_z}
 use Rattle.calendar.proofs.MonthWeekdays.{last_of_month}
 use Rattle.calendar.proofs.weeks.last_weekday.Goals as goal
 

@@ -1,7 +1,4 @@
-use Rattle.std.specs.Prelude.{FitsSigned}
-use Rattle.std.specs.Int.{w64}
-use Rattle.std.proofs.Common.{arith, rules}
-use Rattle.std.proofs.lemmas.Int.{to_z-of_z}
+use Rattle.calendar.proofs.Common.{FitsSigned, w64, arith, rules, to_z-of_z}
 use Rattle.calendar.proofs.NextLastWeekdays.{beyond_fits, later_day, no_later_day, of_next_month, of_this_month}
 use Rattle.calendar.proofs.weeks.next_last_weekday.Goals as goal
 

@@ -1,6 +1,4 @@
-use Rattle.std.specs.Prelude.{◌≤◌}
-use Rattle.std.proofs.Common.{refl, rules}
-use Rattle.std.proofs.lemmas.Int.{to_z-of_z}
+use Rattle.calendar.proofs.Common.{◌≤◌, refl, rules, to_z-of_z}
 use Rattle.calendar.proofs.MonthWeekdays.{nth_weekday}
 use Rattle.calendar.proofs.WeekdayPlaces.{days_later}
 use Rattle.calendar.proofs.weeks.nth_weekday_of_month.Goals as goal

@@ -1,8 +1,5 @@
-use Rattle.std.specs.Prelude.{◌≡◌, ℤ, FitsSigned, Option, Result, Ok, Err}
-use Rattle.std.specs.Int.{w64}
-use Rattle.std.specs.Option.{SomeIff}
+use Rattle.calendar.proofs.Common.{◌≡◌, ℤ, FitsSigned, Option, Result, Ok, Err, w64, SomeIff, to_z-of_z}
 use Rattle.std.specs.Result.{OkIff, result_ok}
-use Rattle.std.proofs.lemmas.Int.{to_z-of_z}
 use Rattle.calendar.proofs.years.at_64_bits.Goals as goal
 
 -- a number as an `i64`, if it fits

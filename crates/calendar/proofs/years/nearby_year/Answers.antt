@@ -1,7 +1,4 @@
-use Rattle.std.specs.Prelude.{◌≡◌, ◌+ℤ◌, ◌-ℤ◌, ◌≤ℤ◌, pos, FitsSigned}
-use Rattle.std.specs.Int.{w64}
-use Rattle.std.proofs.Common.{arith}
-use Rattle.std.proofs.lemmas.Int.{by_lt_z, ints, to_z-of_z}
+use Rattle.calendar.proofs.Common.{◌≡◌, ◌+ℤ◌, ◌-ℤ◌, ◌≤ℤ◌, pos, FitsSigned, w64, arith, by_lt_z, ints, to_z-of_z}
 use Rattle.calendar.specs.Years.{days_in_year}
 use Rattle.calendar.proofs.IsoWeeks.{earlier, later}
 use Rattle.calendar.proofs.YearLengths.{length_range, next_first_day}

@@ -1,7 +1,4 @@
-use Rattle.std.specs.Prelude.{◌+ℤ◌, ◌*ℤ◌, ℤ, pos, FitsSigned}
-use Rattle.std.specs.Int.{w64, w128}
-use Rattle.std.proofs.Common.{arith, rules}
-use Rattle.std.proofs.lemmas.Int.{ints, to_z-of_z}
+use Rattle.calendar.proofs.Common.{◌+ℤ◌, ◌*ℤ◌, ℤ, pos, FitsSigned, w64, w128, arith, rules, ints, to_z-of_z}
 use Rattle.calendar.proofs.LaterEras.{date_later}
 use Rattle.calendar.proofs.date.Date.eras_later.Goals as goal
 

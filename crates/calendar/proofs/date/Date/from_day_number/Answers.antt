@@ -1,7 +1,4 @@
-use Rattle.std.specs.Prelude.{FitsSigned}
-use Rattle.std.specs.Int.{w64}
-use Rattle.std.proofs.Common.{◌∙◌, arith, rules, sym}
-use Rattle.std.proofs.lemmas.Int.{ints, to_z-of_z}
+use Rattle.calendar.proofs.Common.{FitsSigned, w64, ◌∙◌, arith, rules, sym, ints, to_z-of_z}
 use Rattle.calendar.proofs.DateOrder.{only_date}
 use Rattle.calendar.proofs.date.Date.from_day_number.Goals as goal
 

@@ -1,7 +1,4 @@
-use Rattle.std.specs.Prelude.{◌≡◌, ◌+◌, ◌%◌, ◌≤ℤ◌, ◌<ℤ◌, ◌+ℤ◌, ◌-ℤ◌, ℕ, ℤ, pos, FitsSigned}
-use Rattle.std.specs.Int.{w64}
-use Rattle.std.proofs.Common.{arith, refl, subst}
-use Rattle.std.proofs.lemmas.Int.{ints, to_z-of_z}
+use Rattle.calendar.proofs.Common.{◌≡◌, ◌+◌, ◌%◌, ◌≤ℤ◌, ◌<ℤ◌, ◌+ℤ◌, ◌-ℤ◌, ℕ, ℤ, pos, FitsSigned, w64, arith, refl, subst, ints, to_z-of_z}
 use Rattle.calendar.specs.IsoWeeks.{IsDayOfIsoWeek}
 use Rattle.calendar.specs.Years.{first_day}
 use Rattle.calendar.specs.Weekday.{weekday_number}

@@ -1,7 +1,4 @@
-use Rattle.std.specs.Prelude.{FitsSigned}
-use Rattle.std.specs.Int.{w64}
-use Rattle.std.proofs.Common.{arith, rules}
-use Rattle.std.proofs.lemmas.Int.{ints, to_z-of_z}
+use Rattle.calendar.proofs.Common.{FitsSigned, w64, arith, rules, ints, to_z-of_z}
 use Rattle.calendar.proofs.date.Date.in_nearby_year.Goals as goal
 
 pub returns-in_err-year : goal.returns-in_err-year

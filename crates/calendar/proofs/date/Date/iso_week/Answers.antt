@@ -1,7 +1,4 @@
-use Rattle.std.specs.Prelude.{ℤ, FitsSigned}
-use Rattle.std.specs.Int.{w64}
-use Rattle.std.proofs.Common.{arith, refl, rules, subst}
-use Rattle.std.proofs.lemmas.Int.{ints, to_z-of_z}
+use Rattle.calendar.proofs.Common.{ℤ, FitsSigned, w64, arith, refl, rules, subst, ints, to_z-of_z}
 use Rattle.calendar.specs.Years.{HasDay}
 use Rattle.calendar.proofs.IsoWeeks.{same_thursday, week_of}
 use Rattle.calendar.proofs.date.Date.iso_week.Goals as goal

@@ -1,7 +1,4 @@
-use Rattle.std.specs.Prelude.{◌+ℤ◌, FitsSigned}
-use Rattle.std.specs.Int.{w64, w128}
-use Rattle.std.proofs.Common.{arith, of_z, rules, to_z}
-use Rattle.std.proofs.lemmas.Int.{ints, to_z-of_z}
+use Rattle.calendar.proofs.Common.{◌+ℤ◌, FitsSigned, w64, w128, arith, of_z, rules, to_z, ints, to_z-of_z}
 use Rattle.calendar.proofs.MonthLengths.{month_length_range}
 use Rattle.calendar.proofs.date.Date.plus_months.Goals as goal
 

@@ -1,7 +1,4 @@
-use Rattle.std.specs.Prelude.{pos, ◌+ℤ◌, ◌*ℤ◌, ◌-ℤ◌, FitsSigned}
-use Rattle.std.specs.Int.{w64, w128}
-use Rattle.std.proofs.Common.{arith, sym}
-use Rattle.std.proofs.lemmas.Int.{ints, to_z-of_z}
+use Rattle.calendar.proofs.Common.{pos, ◌+ℤ◌, ◌*ℤ◌, ◌-ℤ◌, FitsSigned, w64, w128, arith, sym, ints, to_z-of_z}
 use Rattle.calendar.proofs.date.Date.wide_day_number.Goals as goal
 
 pub returns-clause-value : goal.returns-clause-value

@@ -1,6 +1,4 @@
-use Rattle.std.proofs.Common.{ap, arith, length, sym, ◌∙◌}
-use Rattle.std.proofs.lemmas.Int.{ints}
-use Rattle.num_integer.proofs.ForCallers.{from_not_less}
+use Rattle.calendar.proofs.Common.{ap, arith, length, sym, ◌∙◌, ints, from_not_less}
 use Rattle.calendar.proofs.DayRanges.{next_left, none_later, none_left}
 use Rattle.calendar.proofs.days.DaysIterator.next.Goals as goal
 

@@ -1,7 +1,4 @@
-use Rattle.std.specs.Prelude.{FitsSigned}
-use Rattle.std.specs.Int.{w64}
-use Rattle.std.proofs.Common.{arith, refl}
-use Rattle.std.proofs.lemmas.Int.{ints, to_z-of_z}
+use Rattle.calendar.proofs.Common.{FitsSigned, w64, arith, refl, ints, to_z-of_z}
 use Rattle.calendar.proofs.IsoWeeks.{has_week, no_day}
 use Rattle.calendar.proofs.iso_weeks.IsoWeek.new.Goals as goal
 

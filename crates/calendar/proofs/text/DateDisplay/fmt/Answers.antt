@@ -1,8 +1,5 @@
-use Rattle.std.specs.Prelude.{◌≡◌, ◌⊎◌, ◌≤ℤ◌, ◌<ℤ◌, ℕ, List, pos, FitsSigned}
+use Rattle.calendar.proofs.Common.{◌≡◌, ◌⊎◌, ◌≤ℤ◌, ◌<ℤ◌, ℕ, List, pos, FitsSigned, w64, arith, rules, subst, of_z, to_z, ints, to_z-of_z}
 use Rattle.std.specs.Fmt.{HasWritten, styled_signed_decimal}
-use Rattle.std.specs.Int.{w64}
-use Rattle.std.proofs.Common.{arith, rules, subst, of_z, to_z}
-use Rattle.std.proofs.lemmas.Int.{ints, to_z-of_z}
 use Rattle.calendar.specs.Text.{year_text}
 use Rattle.calendar.proofs.DateTexts.{joined, plain_year, signed_year, zero_padded}
 use Rattle.calendar.proofs.text.DateDisplay.fmt.Goals as goal

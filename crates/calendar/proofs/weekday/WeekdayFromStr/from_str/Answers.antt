@@ -1,4 +1,4 @@
-use Rattle.std.specs.Prelude.{◌≢◌}
+use Rattle.calendar.proofs.Common.{◌≢◌}
 use Rattle.calendar.specs.Weekday.{weekday_name}
 use Rattle.calendar.specs.declared.weekday.Weekday.TheVariants.{Sunday, Monday, Tuesday, Wednesday, Thursday, Friday, Saturday}
 use Rattle.calendar.proofs.weekday.WeekdayFromStr.from_str.Goals as goal
