@@ -5,7 +5,7 @@ ghost use Rattle.std.specs.Option.{IsSome};
 ghost use Rattle.integer_core.specs.Bezout.{HasPair, IsBezoutAnswer};
 ghost use Rattle.integer_core.specs.Divisors.{GcdFits, IsGreatestCommonDivisor, IsLeastCommonMultiple};
 ghost use Rattle.integer_core.specs.Range.{EachFits};
-ghost use Rattle.num_integer.specs.Checked.{AnswersWhere, Has};
+ghost use Rattle.num_integer.specs.Checked.{AnswersWhere};
 
 use crate::checked::operators::{negated, product};
 use crate::domains::Fits;
@@ -111,7 +111,7 @@ fn lcm_with_gcd<T: Fits>(x: T, y: T, g: T) -> Option<T>
     requires greatest { IsGreatestCommonDivisor (T.value x) (T.value y) (T.value g) }
     ensures { AnswersWhere
         (EachFits T.fits (IsLeastCommonMultiple (T.value x) (T.value y)))
-        (Has T.fits T.value (IsLeastCommonMultiple (T.value x) (T.value y)))
+        (λ l. T.fits (T.value l) × IsLeastCommonMultiple (T.value x) (T.value y) (T.value l))
         result }
 {
     if is_zero(y) {
@@ -128,7 +128,7 @@ fn nonzero_lcm<T: Fits>(x: T, y: T, g: T) -> Option<T>
     requires greatest { IsGreatestCommonDivisor (T.value x) (T.value y) (T.value g) }
     ensures { AnswersWhere
         (EachFits T.fits (IsLeastCommonMultiple (T.value x) (T.value y)))
-        (Has T.fits T.value (IsLeastCommonMultiple (T.value x) (T.value y)))
+        (λ l. T.fits (T.value l) × IsLeastCommonMultiple (T.value x) (T.value y) (T.value l))
         result }
 {
     let product = product(x, quotient(y, g))?;
