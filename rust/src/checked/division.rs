@@ -38,11 +38,7 @@ use crate::domains::Fits;
 /// </details>
 #[must_use]
 pub fn div_rem<T: Fits>(x: T, y: T) -> Option<(T, T)> {
-    if x.quotient_fits(&y) {
-        Some(x.div_rem(&y))
-    } else {
-        None
-    }
+    x.quotient_fits(&y).then(|| x.div_rem(&y))
 }
 
 /// Returns [`Integer::div_floor`](crate::Integer::div_floor), the quotient rounded down, or `None`
@@ -77,11 +73,7 @@ pub fn div_rem<T: Fits>(x: T, y: T) -> Option<(T, T)> {
 /// </details>
 #[must_use]
 pub fn div_floor<T: Fits>(x: T, y: T) -> Option<T> {
-    if x.quotient_fits(&y) {
-        Some(x.div_floor(&y))
-    } else {
-        None
-    }
+    x.quotient_fits(&y).then(|| x.div_floor(&y))
 }
 
 /// Returns [`Integer::mod_floor`](crate::Integer::mod_floor), the remainder of the quotient rounded
@@ -114,11 +106,7 @@ pub fn div_floor<T: Fits>(x: T, y: T) -> Option<T> {
 /// </details>
 #[must_use]
 pub fn mod_floor<T: Fits>(x: T, y: T) -> Option<T> {
-    if !y.is_zero() {
-        Some(x.mod_floor(&y))
-    } else {
-        None
-    }
+    (!y.is_zero()).then(|| x.mod_floor(&y))
 }
 
 /// Returns [`Integer::div_mod_floor`](crate::Integer::div_mod_floor), the quotient rounded down and
@@ -154,11 +142,7 @@ pub fn mod_floor<T: Fits>(x: T, y: T) -> Option<T> {
 /// </details>
 #[must_use]
 pub fn div_mod_floor<T: Fits>(x: T, y: T) -> Option<(T, T)> {
-    if x.quotient_fits(&y) {
-        Some(x.div_mod_floor(&y))
-    } else {
-        None
-    }
+    x.quotient_fits(&y).then(|| x.div_mod_floor(&y))
 }
 
 /// Returns [`Integer::div_ceil`](crate::Integer::div_ceil), the quotient rounded up, or `None` if
@@ -193,11 +177,7 @@ pub fn div_mod_floor<T: Fits>(x: T, y: T) -> Option<(T, T)> {
 /// </details>
 #[must_use]
 pub fn div_ceil<T: Fits>(x: T, y: T) -> Option<T> {
-    if x.quotient_fits(&y) {
-        Some(x.div_ceil(&y))
-    } else {
-        None
-    }
+    x.quotient_fits(&y).then(|| x.div_ceil(&y))
 }
 
 /// Returns [`Integer::next_multiple_of`](crate::Integer::next_multiple_of), the quotient rounded
@@ -231,11 +211,7 @@ pub fn div_ceil<T: Fits>(x: T, y: T) -> Option<T> {
 /// </details>
 #[must_use]
 pub fn next_multiple_of<T: Fits>(x: T, y: T) -> Option<T> {
-    if x.next_multiple_fits(&y) {
-        Some(x.next_multiple_of(&y))
-    } else {
-        None
-    }
+    x.next_multiple_fits(&y).then(|| x.next_multiple_of(&y))
 }
 
 /// Returns [`Integer::prev_multiple_of`](crate::Integer::prev_multiple_of), the quotient rounded
@@ -269,9 +245,5 @@ pub fn next_multiple_of<T: Fits>(x: T, y: T) -> Option<T> {
 /// </details>
 #[must_use]
 pub fn prev_multiple_of<T: Fits>(x: T, y: T) -> Option<T> {
-    if x.prev_multiple_fits(&y) {
-        Some(x.prev_multiple_of(&y))
-    } else {
-        None
-    }
+    x.prev_multiple_fits(&y).then(|| x.prev_multiple_of(&y))
 }

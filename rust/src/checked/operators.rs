@@ -33,11 +33,7 @@ use crate::integer_core::operators::{self};
 /// </details>
 #[must_use]
 pub fn sum<T: Fits>(a: T, b: T) -> Option<T> {
-    if a.sum_fits(&b) {
-        Some(operators::sum(a, b))
-    } else {
-        None
-    }
+    a.sum_fits(&b).then(|| operators::sum(a, b))
 }
 
 /// Returns `a - b`, or `None` if it does not fit.
@@ -68,11 +64,7 @@ pub fn sum<T: Fits>(a: T, b: T) -> Option<T> {
 /// </details>
 #[must_use]
 pub fn difference<T: Fits>(a: T, b: T) -> Option<T> {
-    if a.difference_fits(&b) {
-        Some(operators::difference(a, b))
-    } else {
-        None
-    }
+    a.difference_fits(&b).then(|| operators::difference(a, b))
 }
 
 /// Returns `a * b`, or `None` if it does not fit.
@@ -103,11 +95,7 @@ pub fn difference<T: Fits>(a: T, b: T) -> Option<T> {
 /// </details>
 #[must_use]
 pub fn product<T: Fits>(a: T, b: T) -> Option<T> {
-    if a.product_fits(&b) {
-        Some(operators::product(a, b))
-    } else {
-        None
-    }
+    a.product_fits(&b).then(|| operators::product(a, b))
 }
 
 /// Returns `-a`, or `None` if it does not fit.

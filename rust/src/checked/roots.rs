@@ -67,9 +67,5 @@ pub fn nth_root<T: Roots + Copy>(x: T, n: u32) -> Option<T> {
 /// </details>
 #[must_use]
 pub fn sqrt<T: Roots + Copy>(x: T) -> Option<T> {
-    if x >= T::zero() {
-        Some(x.sqrt())
-    } else {
-        None
-    }
+    (x >= T::zero()).then(|| x.sqrt())
 }

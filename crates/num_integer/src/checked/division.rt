@@ -22,11 +22,7 @@ pub fn div_rem<T: Fits>(x: T, y: T) -> Option<(T, T)>
         result }
     ensures positive { pos 0 <ℤ T.value y → IsSome result }
 {
-    if x.quotient_fits(&y) {
-        Some(x.div_rem(&y))
-    } else {
-        None
-    }
+    x.quotient_fits(&y).then(|| x.div_rem(&y))
 }
 
 /// Returns [`Integer::div_floor`], the quotient rounded down, or `None` if [`div_rem`] does.
@@ -40,11 +36,7 @@ pub fn div_floor<T: Fits>(x: T, y: T) -> Option<T>
         result }
     ensures positive { pos 0 <ℤ T.value y → IsSome result }
 {
-    if x.quotient_fits(&y) {
-        Some(x.div_floor(&y))
-    } else {
-        None
-    }
+    x.quotient_fits(&y).then(|| x.div_floor(&y))
 }
 
 /// Returns [`Integer::mod_floor`], the remainder of the quotient rounded down, or `None` if `y` is 0.
@@ -57,11 +49,7 @@ pub fn mod_floor<T: Fits>(x: T, y: T) -> Option<T>
         (λ r. T.fits (T.value r) × IsRemainder IsFloored (T.value x) (T.value y) (T.value r))
         result }
 {
-    if !is_zero(y) {
-        Some(x.mod_floor(&y))
-    } else {
-        None
-    }
+    (!is_zero(y)).then(|| x.mod_floor(&y))
 }
 
 /// Returns [`Integer::div_mod_floor`], the quotient rounded down and its remainder, or `None` if
@@ -77,11 +65,7 @@ pub fn div_mod_floor<T: Fits>(x: T, y: T) -> Option<(T, T)>
         result }
     ensures positive { pos 0 <ℤ T.value y → IsSome result }
 {
-    if x.quotient_fits(&y) {
-        Some(x.div_mod_floor(&y))
-    } else {
-        None
-    }
+    x.quotient_fits(&y).then(|| x.div_mod_floor(&y))
 }
 
 /// Returns [`Integer::div_ceil`], the quotient rounded up, or `None` if [`div_rem`] does. `div_ceil(8, 3)`
@@ -95,11 +79,7 @@ pub fn div_ceil<T: Fits>(x: T, y: T) -> Option<T>
         result }
     ensures positive { pos 0 <ℤ T.value y → IsSome result }
 {
-    if x.quotient_fits(&y) {
-        Some(x.div_ceil(&y))
-    } else {
-        None
-    }
+    x.quotient_fits(&y).then(|| x.div_ceil(&y))
 }
 
 /// Returns [`Integer::next_multiple_of`], the quotient rounded up, times `y`, or `None` if `y` is 0 or the
@@ -113,11 +93,7 @@ pub fn next_multiple_of<T: Fits>(x: T, y: T) -> Option<T>
         (λ m. T.fits (T.value m) × IsMultiple IsCeiled (T.value x) (T.value y) (T.value m))
         result }
 {
-    if x.next_multiple_fits(&y) {
-        Some(x.next_multiple_of(&y))
-    } else {
-        None
-    }
+    x.next_multiple_fits(&y).then(|| x.next_multiple_of(&y))
 }
 
 /// Returns [`Integer::prev_multiple_of`], the quotient rounded down, times `y`, or `None` if `y` is 0 or
@@ -131,9 +107,5 @@ pub fn prev_multiple_of<T: Fits>(x: T, y: T) -> Option<T>
         (λ m. T.fits (T.value m) × IsMultiple IsFloored (T.value x) (T.value y) (T.value m))
         result }
 {
-    if x.prev_multiple_fits(&y) {
-        Some(x.prev_multiple_of(&y))
-    } else {
-        None
-    }
+    x.prev_multiple_fits(&y).then(|| x.prev_multiple_of(&y))
 }

@@ -5,7 +5,7 @@ ghost use Rattle.std.specs.Option.{IsSome};
 ghost use Rattle.integer_core.specs.Bezout.{HasPair, IsBezoutAnswer};
 ghost use Rattle.integer_core.specs.Divisors.{GcdFits, IsGreatestCommonDivisor, IsLeastCommonMultiple};
 ghost use Rattle.integer_core.specs.Range.{EachFits};
-ghost use Rattle.num_integer.specs.Checked.{AnswersWhere, Has};
+ghost use Rattle.num_integer.specs.Checked.{AnswersWhere};
 
 use crate::checked::operators::{negated, product};
 use crate::coefficients::positive_quotient;
@@ -112,7 +112,7 @@ fn lcm_with_gcd<T: Fits>(x: T, y: T, g: T) -> Option<T>
     requires greatest { IsGreatestCommonDivisor (T.value x) (T.value y) (T.value g) }
     ensures { AnswersWhere
         (EachFits T.fits (IsLeastCommonMultiple (T.value x) (T.value y)))
-        (Has T.fits T.value (IsLeastCommonMultiple (T.value x) (T.value y)))
+        (λ l. T.fits (T.value l) × IsLeastCommonMultiple (T.value x) (T.value y) (T.value l))
         result }
 {
     if is_zero(y) {
@@ -129,7 +129,7 @@ fn nonzero_lcm<T: Fits>(x: T, y: T, g: T) -> Option<T>
     requires greatest { IsGreatestCommonDivisor (T.value x) (T.value y) (T.value g) }
     ensures { AnswersWhere
         (EachFits T.fits (IsLeastCommonMultiple (T.value x) (T.value y)))
-        (Has T.fits T.value (IsLeastCommonMultiple (T.value x) (T.value y)))
+        (λ l. T.fits (T.value l) × IsLeastCommonMultiple (T.value x) (T.value y) (T.value l))
         result }
 {
     let product = product(x, positive_quotient(y, g))?;

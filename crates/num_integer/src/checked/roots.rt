@@ -32,9 +32,5 @@ pub fn sqrt<T: Roots>(x: T) -> Option<T>
         (λ r. T.fits (T.value r) × IsRoot (T.value x) 2 (T.value r))
         result }
 {
-    if !is_negative(x) {
-        Some(x.sqrt())
-    } else {
-        None
-    }
+    (!is_negative(x)).then(|| x.sqrt())
 }
