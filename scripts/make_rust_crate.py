@@ -133,7 +133,7 @@ class Eraser:
     def item(self, item, owner):
         if item.kind == 'ghost' or item.of_trait in GHOST_TRAITS or self.is_test(item):
             return self.drop_item(item.first, item.last)
-        if item.kind in ('macro', 'macro_rules', 'extern', 'static'):
+        if item.kind in ('macro', 'macro_rules', 'extern'):
             self.refuse(item.word, f'an item `{item.kind}`')
         if item.kind == 'attribute':
             if item.name not in DROPPED:
@@ -239,6 +239,8 @@ class Eraser:
         name = self.at(first + 2)
         if name in DROPPED:
             self.drop_line(first, last)
+        elif [self.at(k) for k in range(first + 2, last)] == ['rattlefmt', ':', ':', 'skip']:
+            self.write(first + 2, 'rustfmt')
         elif name not in KEPT:
             self.refuse(first, f'the attribute `{name}`')
         elif name == 'derive':
@@ -446,7 +448,6 @@ def write(out):
 
 # Of a crate with this text below a first line, the line and the reason of the refusal.
 REFUSED = (
-    ('static COUNT: u64 = 1;', 2, 'an item `static`'),
     ('extern crate alloc;', 2, 'an item `extern`'),
     ('macro_rules! twice { () => {} }', 2, 'an item `macro_rules`'),
     ('thread_local! { static COUNT: u64 = 1; }', 2, 'an item `macro`'),
@@ -482,6 +483,7 @@ WRITTEN = (
     ("fn half() { 'outer: while true {} }", 'fn half() {  while true {} }'),
     ("fn half() { 'outer: while true { break 'outer; } }", "fn half() { 'outer: while true { break 'outer; } }"),
     ('use num_traits::{Num, FixedWidth};', 'use num_traits::{Num};'),
+    ('#[rattlefmt::skip]\nstatic ENDS: [u8; 2] = [0, 255];', '#[rustfmt::skip]\nstatic ENDS: [u8; 2] = [0, 255];'),
 )
 
 

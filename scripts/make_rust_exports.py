@@ -157,7 +157,7 @@ PLANTED = (
     ('an attribute', 'roots', '#[unsafe(no_mangle)]', '#[unsafe(link_section)]', 'the attribute `unsafe`'),
     ('another layout', 'dates', '#[repr(C)]', '#[repr(packed)]', 'the attribute `repr`'),
     ('a macro', 'roots', '    cbrt(x)\n', '    panic!("{x}")\n', 'the macro `panic!`'),
-    ('a static', 'answers', 'pub const ANSWER', 'static ANSWER', 'an item `static`'),
+    ('a thread local', 'answers', 'pub const ANSWER: u32 = 0;', 'thread_local! { static ANSWER: u32 = 0; }', 'an item `macro`'),
 )
 
 

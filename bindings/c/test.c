@@ -182,6 +182,24 @@ static void roots(void) {
     REFUSES(cellarcove_nth_root_u64(1024, 0), CELLARCOVE_OUTSIDE);
 }
 
+/* By Pascal's rule, all binomial coefficients that a table of the library has, and those beside it. */
+static void small_coefficients(void) {
+    uint64_t row[70] = {1}; /* that of n, with zeros after it */
+    for (uint64_t n = 0; n < 68; n++) {
+        for (uint64_t k = n; k > 0; k--) {
+            row[k] += row[k - 1];
+        }
+        for (uint64_t k = 0; k < 70; k++) {
+            ANSWERS(cellarcove_binomial_u64(n, k), row[k]);
+            if (row[k] <= INT64_MAX) {
+                ANSWERS(cellarcove_binomial_i64((int64_t)n, (int64_t)k), (int64_t)row[k]);
+            } else {
+                REFUSES(cellarcove_binomial_i64((int64_t)n, (int64_t)k), CELLARCOVE_NOT_FITTING);
+            }
+        }
+    }
+}
+
 static void coefficients(void) {
     uint64_t counts[] = {2, 1, 2}, many[] = {34, 34};
     ANSWERS(cellarcove_binomial_i64(11, 3), 165);
@@ -448,6 +466,7 @@ int main(void) {
     lists();
     roots();
     powers();
+    small_coefficients();
     coefficients();
     residues();
     congruences();

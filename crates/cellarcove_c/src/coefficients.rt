@@ -8,6 +8,7 @@ ghost use Rattle.cellarcove_c.specs.Answers.{I64Answers, U64Answers, U64Fitting}
 ghost use Rattle.cellarcove_c.specs.Statuses.{IsReason, Only, not_fitting};
 
 use crate::answers::{I64Answer, NOT_FITTING, OUTSIDE, U64Answer};
+use crate::binomials::{binomial, signed_binomial};
 use num_integer::checked;
 
 /// Returns how many ways there are to choose `k` of `n`, the binomial coefficient. That of 11 and 3 is
@@ -20,7 +21,7 @@ pub extern "C" fn cellarcove_binomial_i64(n: i64, k: i64) -> I64Answer
         ((pos 0 ≤ℤ n) × (pos 0 ≤ℤ k) × FitsSigned w64 (coefficient_of n k))
         (λ c. c ≡ coefficient_of n k) (IsReason ((n <ℤ pos 0) ⊎ (k <ℤ pos 0))) result }
 {
-    I64Answer::of(checked::binomial(n, k), reason_for_counts(n, k))
+    I64Answer::of(signed_binomial(n, k), reason_for_counts(n, k))
 }
 
 /// Returns how many ways there are to choose `k` of `n`, the binomial coefficient. That of 11 and 3 is
@@ -33,7 +34,7 @@ pub extern "C" fn cellarcove_binomial_u64(n: u64, k: u64) -> U64Answer
         ((pos 0 ≤ℤ pos n) × (pos 0 ≤ℤ pos k) × FitsUnsignedBits 64 (coefficient_of (pos n) (pos k)))
         (λ c. c ≡ coefficient_of (pos n) (pos k)) (Only not_fitting) result }
 {
-    U64Answer::of(checked::binomial(n, k), NOT_FITTING)
+    U64Answer::of(binomial(n, k), NOT_FITTING)
 }
 
 /// Returns how many ways there are to order things of several kinds, the multinomial of their counts.

@@ -3,6 +3,7 @@
 #![tactic(auto)]
 
 mod answers;
+mod binomials;
 mod coefficients;
 mod congruences;
 mod dates;

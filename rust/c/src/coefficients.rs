@@ -2,6 +2,7 @@
 //! Binomial and multinomial coefficients.
 
 use crate::answers::{I64Answer, U64Answer, NOT_FITTING, OUTSIDE};
+use crate::binomials::{binomial, signed_binomial};
 use cellarcove::checked;
 
 /// Returns how many ways there are to choose `k` of `n`, the binomial coefficient. That of 11 and 3
@@ -10,7 +11,7 @@ use cellarcove::checked;
 /// `OUTSIDE` if a number is negative. `NOT_FITTING` if the coefficient does not fit.
 #[unsafe(no_mangle)]
 pub extern "C" fn cellarcove_binomial_i64(n: i64, k: i64) -> I64Answer {
-    I64Answer::of(checked::binomial(n, k), reason_for_counts(n, k))
+    I64Answer::of(signed_binomial(n, k), reason_for_counts(n, k))
 }
 
 /// Returns how many ways there are to choose `k` of `n`, the binomial coefficient. That of 11 and 3
@@ -19,7 +20,7 @@ pub extern "C" fn cellarcove_binomial_i64(n: i64, k: i64) -> I64Answer {
 /// `NOT_FITTING` if the coefficient does not fit.
 #[unsafe(no_mangle)]
 pub extern "C" fn cellarcove_binomial_u64(n: u64, k: u64) -> U64Answer {
-    U64Answer::of(checked::binomial(n, k), NOT_FITTING)
+    U64Answer::of(binomial(n, k), NOT_FITTING)
 }
 
 /// Returns how many ways there are to order things of several kinds, the multinomial of their

@@ -19,6 +19,7 @@ fn panic(_: &core::panic::PanicInfo) -> ! {
 }
 
 mod answers;
+mod binomials;
 mod coefficients;
 mod congruences;
 mod dates;
