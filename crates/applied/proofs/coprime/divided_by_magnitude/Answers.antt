@@ -1,6 +1,6 @@
 -- The quotient by a negative divisor is negated.
-use Rattle.num_integer.proofs.ForCallers.{from_test}
-use Rattle.applied.proofs.SignedDivisors.{operator_fits, part_by_negative, part_by_negative_fits, part_by_positive}
+use Rattle.applied.proofs.Common.{from_test}
+use Rattle.applied.proofs.ReducedPairs.{operator_fits, part_by_negative, part_by_negative_fits, part_by_positive}
 use Rattle.applied.proofs.coprime.divided_by_magnitude.Goals as goal
 
 pub quotient-signed_quotient-requires-clause-quotient_fits : goal.quotient-signed_quotient-requires-clause-quotient_fits

@@ -1,13 +1,5 @@
-use Rattle.std.specs.Prelude.{◌≤◌, ◌<◌, ◌≤ℤ◌, ℕ, ℤ, List, length, slice_index_or, IsSortedByKey}
-use Rattle.std.specs.Cmp.{int_cmp_is}
-use Rattle.std.specs.Ordering.{int_cmp}
-use Rattle.std.specs.declared.cmp.Ordering.TheVariants.{Less}
-use Rattle.std.proofs.Common.{arith, ap, refl}
-use Rattle.std.proofs.lemmas.Cmp.{int_cmp_total}
-use Rattle.std.proofs.lemmas.Int.{by_lt_z, ints}
-use Rattle.std.proofs.lemmas.List.{get_or_read_under}
-use Rattle.std.proofs.lemmas.List.Sorted.{ranks_by, sorted_far}
-use Rattle.num_integer.proofs.ForCallers.{linear}
+use Rattle.std.specs.Prelude.{◌≤◌, ◌<◌, ◌≤ℤ◌}
+use Rattle.applied.proofs.Common.{ℕ, ℤ, List, length, slice_index_or, IsSortedByKey, int_cmp_is, int_cmp, Less, arith, ap, refl, int_cmp_total, by_lt_z, ints, get_or_read_under, ranks_by, sorted_far, linear}
 use Rattle.applied.proofs.halving.lower_bound.Goals as goal
 
 -- in a sorted list no item is above a later one

@@ -1,5 +1,5 @@
-use Rattle.std.proofs.Common.{refl}
-use Rattle.applied.proofs.NextChoices.{last_rank, next_choice_is, raised_is}
+use Rattle.applied.proofs.Common.{refl}
+use Rattle.applied.proofs.Choices.{last_rank, next_choice_is, raised_is}
 use Rattle.applied.proofs.ranking.next_choice.Goals as goal
 
 pub returns-in-Some-clause-next : goal.returns-in-Some-clause-next

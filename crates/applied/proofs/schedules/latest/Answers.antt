@@ -1,6 +1,4 @@
-use Rattle.std.proofs.Common.{arith}
-use Rattle.std.proofs.lemmas.List.{get_or_read}
-use Rattle.num_integer.proofs.ForCallers.{linear}
+use Rattle.applied.proofs.Common.{arith, get_or_read, linear}
 use Rattle.applied.proofs.schedules.latest.Goals as goal
 
 pub loop-schedule-init : goal.loop-schedule-init
@@ -29,12 +27,7 @@ loop-schedule-preserved g c =
       least = λ u above begun. more.least u (so_far.least u above begun) (rw (← c.schedule-item.is) at (begun c.loop-schedule.schedule-index c.schedule-item.result within));
     }
 
-pub returns-clause-in_range : goal.returns-clause-in_range
-returns-clause-in_range g c = c.loop-schedule.invariant.in_range
-
-pub returns-clause-latest : goal.returns-clause-latest
-returns-clause-latest g c = record {
-  from_there = c.loop-schedule.invariant.from_there;
-  holds = λ i d within. c.loop-schedule.invariant.begun i d (omega arith);
-  least = c.loop-schedule.invariant.least;
-}
+pub returns : goal.returns
+returns g c =
+    let all = c.loop-schedule.invariant in
+    record { in_range = all.in_range; latest = record { from_there = all.from_there; holds = λ i d within. all.begun i d (omega arith); least = all.least } }

@@ -1,5 +1,4 @@
-use Rattle.std.proofs.Common.{arith, ℕ}
-use Rattle.std.proofs.lemmas.List.Sums.{get_or-le-sum_by}
+use Rattle.applied.proofs.Common.{arith, ℕ, get_or-le-sum_by}
 use Rattle.applied.proofs.WeightedShares.{all_shared, none_shared, one_more_shared, shares_are_near, shares_are_only, shares_are_whole}
 use Rattle.applied.proofs.shares.shares.Goals as goal
 

@@ -1,9 +1,5 @@
-use Rattle.std.specs.Prelude.{FitsSigned}
-use Rattle.std.specs.Int.{w64}
-use Rattle.std.proofs.Common.{arith, rules, ℕ}
-use Rattle.std.proofs.lemmas.Int.{ints, to_z-of_z}
-use Rattle.std.proofs.lemmas.List.Sums.{get_or-le-sum_by}
-use Rattle.applied.proofs.SignedShares.{all_signed, none_signed, one_more_signed, signed_shares_are_only, signed_shares_are_whole}
+use Rattle.applied.proofs.Common.{FitsSigned, w64, arith, rules, ℕ, ints, to_z-of_z, get_or-le-sum_by}
+use Rattle.applied.proofs.WeightedShares.{all_signed, none_signed, one_more_signed, signed_shares_are_only, signed_shares_are_whole}
 use Rattle.applied.proofs.shares.signed_shares.Goals as goal
 
 pub loop-i-init : goal.loop-i-init

@@ -1,5 +1,4 @@
-use Rattle.std.proofs.Common.{◌∙◌, subst, sym}
-use Rattle.num_integer.proofs.ForCallers.{answers_as, from_test}
+use Rattle.applied.proofs.Common.{◌∙◌, subst, sym, answers_as, from_test}
 use Rattle.applied.proofs.FallingFactorials.{factorial_is}
 use Rattle.applied.proofs.counting.checked.factorial.Goals as goal
 

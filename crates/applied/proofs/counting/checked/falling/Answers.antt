@@ -1,6 +1,5 @@
 use Rattle.std.specs.Prelude.{◌-ℤ◌}
-use Rattle.std.proofs.Common.{◌∙◌, arith, inl, subst, sym}
-use Rattle.num_integer.proofs.ForCallers.{answers_as, from_test, linear, within_fits}
+use Rattle.applied.proofs.Common.{◌∙◌, arith, inl, subst, sym, answers_as, from_test, linear, within_fits}
 use Rattle.applied.proofs.FallingFactorials.{falling_is, falling_of_none}
 use Rattle.applied.proofs.counting.checked.falling.Goals as goal
 
