@@ -54,7 +54,7 @@ pub next_rank : (xs : List ℕ) (i : ℕ) → i < length xs → rank_of_first (i
 next_rank xs i within = rw add-one (rank_of_more xs i within)
 
 -- the steps of the sum
-pub ruleset rank_steps = (rank_of_none, next_rank, next_rank_at_most)
+pub ruleset rank_steps = (rank_of_none, rank_of_all, next_rank, next_rank_at_most)
 
 -- ---- the choice of a rank
 

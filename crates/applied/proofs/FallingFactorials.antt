@@ -111,15 +111,15 @@ module _ {fits : ℤ → Type 0} {low high : ℤ} where
         let grows = falling_grows (unsigned_abs low) (suc h.count) rest in
         subst fits (sym next_is) (fits_below range last (omega (arith, ints)) (omega (arith, ints)))
 
-    pub product_next : {next times : ℤ} → factor <ℤ high → fits next → fits times → next ≡ factor +ℤ pos 1 → times ≡ product *ℤ next
-        → IsProductSoFar fits low next high times
-    product_next more next_fits times_fits e f = record {
+    pub product_next : factor <ℤ high → fits (factor +ℤ pos 1) → fits (product *ℤ (factor +ℤ pos 1))
+        → IsProductSoFar fits low (factor +ℤ pos 1) high (product *ℤ (factor +ℤ pos 1))
+    product_next more next_fits times_fits = record {
       factor_in_range = next_fits;
       product_in_range = times_fits;
       count = suc h.count;
       at = omega (arith, linear, h.at);
       to_high = omega (arith, linear);
-      is = rw e at f ∙ next_is;
+      is = next_is;
     }
 
     pub product_last : high ≤ℤ factor → product ≡ falling_of high (high -ℤ low)
@@ -129,4 +129,4 @@ module _ {fits : ℤ → Type 0} {low high : ℤ} where
         rw (top, all) h.is
 
 -- what goals about the loop need
-pub ruleset product_steps = (sizes, product_first)
+pub ruleset product_steps = (sizes, product_first, product_next)

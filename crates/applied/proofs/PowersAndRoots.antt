@@ -62,9 +62,6 @@ pub record IsDivided (base n rest : ℤ) (k : ℕ) : Type 0 where
 pub divided_first : (base n : ℤ) → pos 0 <ℤ n → IsDivided base n n 0
 divided_first base n up = record { positive = up; is = rw (pow-zero (unsigned_abs base)) (sym (div-one (unsigned_abs n))) }
 
--- what goals about the loop need
-pub ruleset division_steps = (linear, divided_first)
-
 -- the quotient of positive numbers is that of natural numbers
 natural_quotient : (a b : ℤ) → pos 0 <ℤ a → pos 1 <ℤ b → int_div a b ≡ pos (unsigned_abs a / unsigned_abs b)
 natural_quotient (pos a) (pos b) up base_up = refl
@@ -86,6 +83,9 @@ divided_smaller base rest base_up rest_up =
     let twice = mul-le (unsigned_abs rest) 2 (unsigned_abs rest) (unsigned_abs base) (le_refl (unsigned_abs rest)) (omega (arith, sizes)) in
     rw (natural_quotient rest base rest_up base_up)
     (div_below (unsigned_abs rest) (unsigned_abs base) (unsigned_abs rest) (omega (arith, sizes)) (omega (arith, sizes)))
+
+-- what goals about the loop need
+pub ruleset division_steps = (linear, divided_first, divided_next, divided_smaller)
 
 power_at_most : {base n rest : ℤ} {k : ℕ} → pos 1 <ℤ base → IsDivided base n rest k → unsigned_abs base ^ k ≤ unsigned_abs n
 power_at_most {base} {n} {rest} {k} base_up h =

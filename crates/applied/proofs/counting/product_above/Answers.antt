@@ -1,5 +1,5 @@
 use Rattle.applied.proofs.Common.{arith, from_not_less, fits_below, linear}
-use Rattle.applied.proofs.FallingFactorials.{next_product_fits, product_last, product_next}
+use Rattle.applied.proofs.FallingFactorials.{next_product_fits, product_last}
 use Rattle.applied.proofs.counting.product_above.Goals as goal
 
 pub successor-factor-requires-clause-sum_fits : goal.successor-factor-requires-clause-sum_fits
@@ -12,11 +12,6 @@ pub product-ways-requires-clause-product_fits : goal.product-ways-requires-claus
 product-ways-requires-clause-product_fits g c =
     rw c.successor-factor.ensures.value
     (next_product_fits c.loop-high.invariant c.requires.from_zero (c.is_below.ensures.0 c.loop-high-test.true) g.met.T.Integer.range_law c.requires.product_fits)
-
-pub loop-high-preserved : goal.loop-high-preserved
-loop-high-preserved g c =
-    product_next c.loop-high.invariant c.requires.from_zero (c.is_below.ensures.0 c.loop-high-test.true)
-    c.successor-factor.ensures.in_range c.product-ways.ensures.in_range c.successor-factor.ensures.value c.product-ways.ensures.value
 
 pub returns : goal.returns
 returns g c = record {

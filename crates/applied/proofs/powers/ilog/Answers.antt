@@ -1,6 +1,6 @@
 -- Each iteration divides the rest by the base. When the rest is below the base, the number of divisions is the logarithm.
 use Rattle.applied.proofs.Common.{arith, from_not_less, linear, operator_quotient_fits}
-use Rattle.applied.proofs.PowersAndRoots.{divided_last, divided_next, divided_smaller, few_divisions}
+use Rattle.applied.proofs.PowersAndRoots.{divided_last, divided_next, few_divisions}
 use Rattle.applied.proofs.powers.ilog.Goals as goal
 
 pub quotient-rest-requires-clause-quotient_fits : goal.quotient-rest-requires-clause-quotient_fits
@@ -17,9 +17,6 @@ loop-base-preserved g c =
       in_range = c.quotient-rest.ensures.in_range;
       divided = rw c.quotient-rest.ensures.value (divided_next c.requires.base enough c.loop-base.invariant.divided);
     }
-
-pub loop-base-smaller : goal.loop-base-smaller
-loop-base-smaller g c = rw c.quotient-rest.ensures.value (divided_smaller _ _ c.requires.base c.loop-base.invariant.divided.positive)
 
 pub returns : goal.returns
 returns g c = record {

@@ -1,14 +1,6 @@
 use Rattle.applied.proofs.Common.{arith, get_or_read, linear}
 use Rattle.applied.proofs.schedules.latest.Goals as goal
 
-pub loop-schedule-init : goal.loop-schedule-init
-loop-schedule-init g c = record {
-  in_range = c.requires.now_in_range;
-  from_there = omega (arith, linear);
-  begun = λ i d within. absurd (omega arith);
-  least = λ u above _. above;
-}
-
 pub maximum-latest-requires : goal.maximum-latest-requires
 maximum-latest-requires g c =
     let all = c.requires.in_range c.loop-schedule.schedule-index c.schedule-item.result c.loop-schedule-test.true in
@@ -26,8 +18,3 @@ loop-schedule-preserved g c =
           grind (arith, linear, so_far.begun i d, more.from_there, more.holds, get_or_read c.args.schedules.now c.loop-schedule.schedule-index c.schedule-item.result within c.schedule-item.is d);
       least = λ u above begun. more.least u (so_far.least u above begun) (rw (← c.schedule-item.is) at (begun c.loop-schedule.schedule-index c.schedule-item.result within));
     }
-
-pub returns : goal.returns
-returns g c =
-    let all = c.loop-schedule.invariant in
-    record { in_range = all.in_range; latest = record { from_there = all.from_there; holds = λ i d within. all.begun i d (omega arith); least = all.least } }

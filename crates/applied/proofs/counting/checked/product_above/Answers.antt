@@ -1,5 +1,5 @@
 use Rattle.applied.proofs.Common.{arith, subst, from_not_less, fits_below, linear}
-use Rattle.applied.proofs.FallingFactorials.{next_product_fits, product_last, product_next}
+use Rattle.applied.proofs.FallingFactorials.{next_product_fits, product_last}
 use Rattle.applied.proofs.counting.checked.product_above.Goals as goal
 
 pub successor-factor-requires-clause-sum_fits : goal.successor-factor-requires-clause-sum_fits
@@ -12,11 +12,6 @@ pub returns-in_err-ways : goal.returns-in_err-ways
 returns-in_err-ways g c =
     rw c.from_residual.ensures (λ fits.
     c.in_err-ways.ensures (rw c.successor-factor.ensures.value (next_product_fits c.loop-high.invariant c.requires.from_zero (c.is_below.ensures.0 c.loop-high-test.true) g.met.T.Integer.range_law fits)))
-
-pub loop-high-preserved : goal.loop-high-preserved
-loop-high-preserved g c =
-    product_next c.loop-high.invariant c.requires.from_zero (c.is_below.ensures.0 c.loop-high-test.true)
-    c.successor-factor.ensures.in_range c.in_ok-ways.ensures.1.0 c.successor-factor.ensures.value c.in_ok-ways.ensures.1.1
 
 pub returns : goal.returns
 returns g c =
