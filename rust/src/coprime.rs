@@ -30,7 +30,7 @@ use crate::Fits;
 /// </details>
 #[must_use]
 pub fn is_coprime<T: Fits>(a: T, b: T) -> bool {
-    signed_gcd(a, b) == T::one()
+    signed_gcd(a, b).is_one()
 }
 
 /// Returns both numbers divided by their greatest common divisor, with their signs.

@@ -2,7 +2,7 @@
 //! Items on pages of equal size, and in parts of nearly equal size.
 
 use crate::operators::{difference, product, successor, sum};
-use crate::{checked, div_ceil, div_mod_floor, Fits, Integer};
+use crate::{checked, div_ceil, div_floor, div_mod_floor, Fits, Integer};
 
 /// Returns the smallest number of pages that hold all items.
 ///
@@ -181,16 +181,17 @@ pub fn item_at<T: Fits>(page: T, place: T, page_size: T) -> Option<T> {
 pub fn range_of_page<T: Integer + Copy>(page: T, page_size: T, items: T) -> (T, T) {
     assert!(page_size > T::zero(), "the page size is not positive");
     assert!(items >= T::zero(), "the number of items is negative");
-    let (full_pages, rest) = div_mod_floor(items, page_size);
     if page < T::zero() {
-        (items, items)
-    } else if page < full_pages {
-        let first = product(page, page_size);
-        (first, sum(first, page_size))
-    } else if full_pages < page {
-        (items, items)
+        return (items, items);
+    }
+    if div_floor(items, page_size) < page {
+        return (items, items);
+    }
+    let first = product(page, page_size);
+    if difference(items, first) < page_size {
+        (first, items)
     } else {
-        (difference(items, rest), items)
+        (first, sum(first, page_size))
     }
 }
 
@@ -248,10 +249,14 @@ pub fn range_of_part<T: Integer + Copy>(part: T, parts: T, items: T) -> (T, T) {
 /// Returns the item at which a part begins, if each part has `size` items, and each of the first
 /// `longer` parts one more.
 fn start_of<T: Integer + Copy>(part: T, size: T, longer: T) -> T {
-    let items = product(part, size);
-    if part < longer {
-        sum(items, part)
+    sum(product(part, size), minimum(part, longer))
+}
+
+/// Returns the smaller of two numbers.
+fn minimum<T: Integer + Copy>(x: T, y: T) -> T {
+    if x < y {
+        x
     } else {
-        sum(items, longer)
+        y
     }
 }

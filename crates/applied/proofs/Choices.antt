@@ -1,17 +1,7 @@
--- Choices and their ranks.
-use Rattle.std.specs.Prelude.{◌≡◌, ◌≢◌, ◌⊎◌, ◌↔◌, ◌<◌, ◌≤◌, ◌+◌, ◌-◌, ℕ, zero, suc, List, length, slice_index, slice_set, take, sum_by}
-use Rattle.std.specs.List.Sorted.{IsStrictlyIncreasing}
-use Rattle.std.specs.List.{enumerate_from}
-use Rattle.std.proofs.Common.{arith, ap, inl, inr, refl, subst, sym, ◌∙◌, add-one, one-add}
-use Rattle.std.proofs.lemmas.Bool.{cases_lt}
-use Rattle.std.proofs.lemmas.List.{ext_get_or, get_or-set_other, get_or-set_same, length-set, take_all}
-use Rattle.std.proofs.lemmas.List.Elements.{All-from_get_or}
-use Rattle.std.proofs.lemmas.List.FromFn.{get_or-enumerate_from, length-enumerate_from}
-use Rattle.std.proofs.lemmas.List.Sums.{sum_by-take-le, sum_by_more}
-use Rattle.num_integer.specs.Coefficient.{coefficient}
-use Rattle.num_integer.specs.Only.{IsOnly}
-use Rattle.num_integer.proofs.ForCallers.{coefficient-zero, coefficient_grows, pascal}
-use Rattle.applied.specs.Ranking.{IsBefore, IsChoice, IsChoiceOfRank, rank_of}
+-- Choices, their ranks and order, the choice of a rank, and the choice of the next rank.
+use Rattle.std.specs.Prelude.{◌≡◌, ◌≢◌, ◌⊎◌, ◌↔◌, ◌<◌, ◌≤◌, ◌+◌, ◌-◌}
+use Rattle.applied.proofs.Common.{ℕ, zero, suc, List, length, slice_index, slice_set, take, sum_by, IsStrictlyIncreasing, enumerate_from, arith, ap, inl, inr, refl, subst, sym, ◌∙◌, add-one, one-add, cases_lt, ext_get_or, get_or-set_other, get_or-set_same, length-set, take_all, All-from_get_or, get_or-enumerate_from, length-enumerate_from, sum_by-take-le, sum_by_more, coefficient, coefficient-zero, coefficient_grows, pascal, ChoiceOfRankIsOnly, RankIsBelow, IsBefore, IsChoice, IsChoiceOfRank, slice_index_or, get_or_default, get_or_past, none_above, IsFirstToRise, IsLastChoice}
+use Rattle.applied.specs.Ranking.{rank_of}
 
 -- ---- the rank of the first i numbers
 
@@ -51,8 +41,8 @@ rank_of_first_below xs (suc i) m up within last =
 
 -- ---- the rank of a choice
 
-pub rank_of_below : {n : ℕ} (xs : List ℕ) → IsChoice n xs → rank_of xs < coefficient n (length xs)
-rank_of_below {n} xs h =
+pub rank_is_below : RankIsBelow
+rank_is_below = λ n xs h.
     let below = rank_of_first_below xs (length xs) n h.increasing (omega arith) (λ j e. h.below j 0 (omega arith)) in
     omega (arith, below, rank_of_all xs)
 
@@ -64,7 +54,7 @@ pub next_rank : (xs : List ℕ) (i : ℕ) → i < length xs → rank_of_first (i
 next_rank xs i within = rw add-one (rank_of_more xs i within)
 
 -- the steps of the sum
-pub ruleset rank_steps = (rank_of_none, next_rank, next_rank_at_most)
+pub ruleset rank_steps = (rank_of_none, rank_of_all, next_rank, next_rank_at_most)
 
 -- ---- the choice of a rank
 
@@ -150,7 +140,7 @@ still_before {xs} {ys} {i} same h = record {
   same_after = λ l after k. grind (arith, h.same_after l after);
 }
 
--- of two choices one is before the other, if they are not the same
+-- of two lists one is before the other, if they are not the same
 compare : (k : ℕ) (xs ys : List ℕ) → ((j : ℕ) → j < k → slice_index xs j ≡ slice_index ys j) ⊎ (IsBefore k xs ys ⊎ IsBefore k ys xs)
 compare zero xs ys = inl (λ j h. absurd (omega arith))
 compare (suc i) xs ys = elim (cases_lt (slice_index xs i) (slice_index ys i)) [
@@ -167,13 +157,6 @@ compare (suc i) xs ys = elim (cases_lt (slice_index xs i) (slice_index ys i)) [
   ]
 ]
 
--- whatever the numbers before it, a lesser number makes the rank less
-lesser_last : (xs ys : List ℕ) (i : ℕ) → IsStrictlyIncreasing xs → i < length xs → i < length ys → slice_index xs i < slice_index ys i → rank_of_first (suc i) xs < rank_of_first (suc i) ys
-lesser_last xs ys i up in_xs in_ys lesser =
-    let c = slice_index xs i in
-    let most = rank_of_first_below xs (suc i) (suc c) up (omega arith) (λ j e. let same : j ≡ i = omega arith in rw same (omega arith)) in
-    omega (arith, most, rank_of_more ys i in_ys, coefficient_grows (suc c) (slice_index ys i) (suc i) (omega arith))
-
 before_first : (k : ℕ) (xs ys : List ℕ) → IsStrictlyIncreasing xs → k ≤ length xs → k ≤ length ys → IsBefore k xs ys → rank_of_first k xs < rank_of_first k ys
 before_first zero xs ys up in_xs in_ys h = absurd (omega (arith, h.within))
 before_first (suc i) xs ys up in_xs in_ys h = elim (cases_lt h.place i) [
@@ -182,8 +165,17 @@ before_first (suc i) xs ys up in_xs in_ys h = elim (cases_lt h.place i) [
       let here : coefficient (slice_index xs i) (suc i) ≡ coefficient (slice_index ys i) (suc i) = ap (λ (t : ℕ). coefficient t (suc i)) (h.same_after i after (omega arith)) in
       omega (arith, before_first i xs ys up (omega arith) (omega arith) rest, rank_of_more xs i (omega arith), rank_of_more ys i (omega arith))
   | inr last ↦
+      -- whatever the numbers before it, a lesser number makes the rank less
       let e : h.place ≡ i = omega (arith, h.within) in
-      lesser_last xs ys i up (omega arith) (omega arith) (subst (λ (t : ℕ). slice_index xs t < slice_index ys t) e h.lesser)
+      let lesser = rw e at h.lesser in
+      let most = rank_of_first_below xs (suc i) (suc (slice_index xs i)) up (omega arith)
+      (λ j same. let here : j ≡ i = omega arith in rw here (omega arith)) in
+      omega (
+        arith,
+        most,
+        rank_of_more ys i (omega arith),
+        coefficient_grows (suc (slice_index xs i)) (slice_index ys i) (suc i) (omega arith),
+      )
 ]
 
 before_less : {xs ys : List ℕ} {k : ℕ} → IsStrictlyIncreasing xs → length xs ≡ k → length ys ≡ k → IsBefore k xs ys → rank_of xs < rank_of ys
@@ -205,9 +197,104 @@ before_exactly {n} {xs} {ys} x y size = (
 )
 
 -- choices of one size and rank are the same
-pub only_choice : {n k r : ℕ} {xs : List ℕ} → IsChoiceOfRank n k r xs → IsOnly (IsChoiceOfRank n k r) xs
-only_choice {n} {k} {r} {xs} x = λ ys y. elim (compare k ys xs) [
+pub choice_of_rank_is_only : ChoiceOfRankIsOnly
+choice_of_rank_is_only = λ n k r xs x ys y. elim (compare k ys xs) [
   | inl same ↦ ext_get_or 0 ys xs (y.size ∙ sym x.size) (λ j h. same j (omega (arith, y.size)))
   | inr (inl before) ↦ absurd (omega (arith, before_less y.choice.increasing y.size x.size before, x.rank, y.rank))
   | inr (inr after) ↦ absurd (omega (arith, before_less x.choice.increasing x.size y.size after, x.rank, y.rank))
 ]
+
+-- ---- numbers that follow one another
+
+-- the number after a place, or n at the end, is above the one there
+pub next_above : {n : ℕ} {xs : List ℕ} → IsChoice n xs → (i : ℕ) → i < length xs → slice_index xs i + 1 ≤ slice_index_or xs (i + 1) n
+next_above {n} {xs} h i within = grind (arith, h.increasing i, h.below i 0 within, get_or_default xs (i + 1) n 0, get_or_past xs (i + 1) n)
+
+-- each number of a choice is below the one after it, or n at the end, and such numbers are a choice
+below_last : (n : ℕ) (xs : List ℕ) → ((j : ℕ) → j < length xs → slice_index xs j < slice_index_or xs (j + 1) n) → (more j : ℕ) → j + 1 + more ≡ length xs → slice_index xs j < n
+below_last n xs above zero j size = omega (arith, above j (omega arith), get_or_past xs (j + 1) n (omega arith))
+below_last n xs above (suc more) j size = omega (arith, above j (omega arith), get_or_default xs (j + 1) n 0 (omega arith), below_last n xs above more (j + 1) (omega arith))
+
+pub choice_by_neighbours : {n : ℕ} {xs : List ℕ} → ((j : ℕ) → j < length xs → slice_index xs j < slice_index_or xs (j + 1) n) → IsChoice n xs
+choice_by_neighbours {n} {xs} above = record {
+  increasing = λ j within. omega (arith, above j (omega arith), get_or_default xs (j + 1) n 0 within);
+  below = All-from_get_or (λ (c : ℕ). c < n) xs 0 (λ j within. below_last n xs above (length xs - (j + 1)) j (omega arith));
+}
+
+-- they have the largest rank below the number after them
+rank_of_run : (n : ℕ) (xs : List ℕ) (i : ℕ) → i ≤ length xs → ((j : ℕ) → j < i → slice_index xs j + 1 ≡ slice_index_or xs (j + 1) n)
+    → rank_of_first i xs + 1 ≡ coefficient (slice_index_or xs i n) i
+rank_of_run n xs zero within run = omega (arith, rank_of_none xs, coefficient-zero (slice_index_or xs zero n))
+rank_of_run n xs (suc i) within run =
+    let before = rw (get_or_default xs i n 0 (omega arith)) at (rank_of_run n xs i (omega arith) (λ j h. run j (omega arith))) in
+    let next : suc (slice_index xs i) ≡ slice_index_or xs (suc i) n = simp add-one at (run i (omega arith)) in
+    rw (← next) (omega (arith, before, rank_of_more xs i (omega arith), pascal (slice_index xs i) i))
+
+pub last_rank : (n : ℕ) (xs : List ℕ) → IsLastChoice n xs → rank_of xs + 1 ≡ coefficient n (length xs)
+last_rank n xs run = rw (rank_of_all xs, get_or_past xs (length xs) n (omega arith)) at (rank_of_run n xs (length xs) (omega arith) run)
+
+-- ---- one number raised
+
+-- ys has one more than xs at place i, 0, 1, 2 and so on before it, and the same after it
+pub record IsRaisedAt (i : ℕ) (xs ys : List ℕ) : Type 0 where
+  pub size : length ys ≡ length xs
+  pub before : (j : ℕ) → j < i → slice_index ys j ≡ j
+  pub here : slice_index ys i ≡ slice_index xs i + 1
+  pub after : (j : ℕ) → i < j → slice_index ys j ≡ slice_index xs j
+
+pub raised_is : {i : ℕ} {xs ys : List ℕ} → i < length xs → length ys ≡ length (slice_set xs i (slice_index xs i + 1)) → ((j : ℕ) → j < i → slice_index ys j ≡ j)
+    → ((j : ℕ) → i ≤ j → slice_index ys j ≡ slice_index (slice_set xs i (slice_index xs i + 1)) j) → IsRaisedAt i xs ys
+raised_is {i} {xs} within size before after = record {
+  size = size ∙ length-set xs i (slice_index xs i + 1);
+  before = before;
+  here = after i (omega arith) ∙ get_or-set_same xs i (slice_index xs i + 1) 0 within;
+  after = λ j later.
+      let other : j ≢ i = λ e. omega arith in
+      after j (omega arith) ∙ get_or-set_other xs i j (slice_index xs i + 1) 0 other;
+}
+
+rank_from_zero : (ys : List ℕ) (i : ℕ) → i ≤ length ys → ((j : ℕ) → j < i → slice_index ys j ≡ j) → rank_of_first i ys ≡ 0
+rank_from_zero ys zero within h = rank_of_none ys
+rank_from_zero ys (suc i) within h =
+    let none : coefficient (slice_index ys i) (suc i) ≡ 0 = rw (h i (omega arith)) (none_above i (suc i) (omega arith)) in
+    omega (arith, rank_from_zero ys i (omega arith) (λ j k. h j (omega arith)), rank_of_more ys i (omega arith))
+
+raised_rank : {n i : ℕ} {xs ys : List ℕ} → IsFirstToRise n xs i → IsRaisedAt i xs ys → (k : ℕ) → i < k → k ≤ length xs → rank_of_first k ys ≡ rank_of_first k xs + 1
+raised_rank first h zero above within = absurd (omega arith)
+raised_rank {n} {i} {xs} {ys} first h (suc k) above within = elim (cases_lt i k) [
+  | inl later ↦
+      let same : coefficient (slice_index ys k) (suc k) ≡ coefficient (slice_index xs k) (suc k) = rw (h.after k later) refl in
+      omega (arith, raised_rank first h k later (omega arith), rank_of_more xs k (omega arith), rank_of_more ys k (omega (arith, h.size)), same)
+  | inr last ↦
+      let e : k ≡ i = omega arith in
+      let here : coefficient (slice_index ys i) (suc i) ≡ coefficient (suc (slice_index xs i)) (suc i) = rw (h.here, add-one) refl in
+      let run = rw (get_or_default xs i n 0 first.within) at (rank_of_run n xs i (omega (arith, first.within)) first.none_before) in
+      let none = rank_from_zero ys i (omega (arith, h.size, first.within)) h.before in
+      rw e (omega (arith, run, none, here, rank_of_more xs i first.within, rank_of_more ys i (omega (arith, h.size, first.within)), pascal (slice_index xs i) i))
+]
+
+from_place : (xs : List ℕ) → IsStrictlyIncreasing xs → (i : ℕ) → i < length xs → i ≤ slice_index xs i
+from_place xs up zero within = omega arith
+from_place xs up (suc i) within =
+    let above : slice_index xs i < slice_index xs (suc i) = simp add-one at (up i (omega arith)) in
+    omega (arith, from_place xs up i (omega arith))
+
+raised_increases : {n i : ℕ} {xs ys : List ℕ} → IsChoice n xs → IsFirstToRise n xs i → IsRaisedAt i xs ys → IsStrictlyIncreasing ys
+raised_increases {n} {i} {xs} {ys} choice first h = λ j within.
+    let least = from_place xs choice.increasing i first.within in
+    grind (arith, h.size, h.here, first.rises, h.before j, h.before (j + 1), h.after j, h.after (j + 1), choice.increasing j, get_or_default xs (i + 1) n 0)
+
+raised_below : {n i : ℕ} {xs ys : List ℕ} → IsChoice n xs → IsFirstToRise n xs i → IsRaisedAt i xs ys → (j : ℕ) → j < length ys → slice_index ys j < n
+raised_below {n} {i} {xs} {ys} choice first h j within =
+    let least = from_place xs choice.increasing i first.within in
+    grind (arith, h.size, h.here, first.rises, h.before j, h.after j, choice.below i 0 first.within, choice.below j 0, choice.below (i + 1) 0, get_or_default xs (i + 1) n 0, get_or_past xs (i + 1) n)
+
+-- the number at the first place that can rise, one more, begins the choice of the next rank
+pub next_choice_is : {n i : ℕ} {xs ys : List ℕ} → IsChoice n xs → IsFirstToRise n xs i → IsRaisedAt i xs ys → IsChoiceOfRank n (length xs) (rank_of xs + 1) ys
+next_choice_is {n} {i} {xs} {ys} choice first h = record {
+  size = h.size;
+  choice = record { increasing = raised_increases choice first h; below = All-from_get_or (λ (c : ℕ). c < n) ys 0 (raised_below choice first h) };
+  rank =
+      let all : rank_of_first (length xs) ys ≡ rank_of ys = rw h.size at (rank_of_all ys) in
+      omega (arith, raised_rank first h (length xs) first.within (omega arith), rank_of_all xs, all);
+}

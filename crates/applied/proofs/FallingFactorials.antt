@@ -1,15 +1,8 @@
 -- Falling factorials as products of the numbers above one number up to another.
-use Rattle.std.specs.Prelude.{◌≡◌, ◌<◌, ◌≤◌, ◌+◌, ◌-◌, ◌*◌, ◌≤ℤ◌, ◌<ℤ◌, ◌+ℤ◌, ◌-ℤ◌, ◌*ℤ◌, ℕ, ℤ, zero, suc, pos, unsigned_abs}
-use Rattle.std.proofs.Common.{arith, ap, inl, inr, refl, subst, sym, ◌∙◌}
-use Rattle.std.proofs.Math.Nat.{eq_of_mul-eq-mul_left}
-use Rattle.std.proofs.lemmas.Bool.{cases_lt}
-use Rattle.std.proofs.lemmas.Int.{ints}
+use Rattle.std.specs.Prelude.{◌≡◌, ◌<◌, ◌≤◌, ◌+◌, ◌-◌, ◌*◌, ◌≤ℤ◌, ◌<ℤ◌, ◌+ℤ◌, ◌-ℤ◌, ◌*ℤ◌}
+use Rattle.applied.proofs.Common.{fits_below, ℕ, ℤ, zero, suc, pos, unsigned_abs, arith, ap, inl, inr, refl, subst, sym, ◌∙◌, eq_of_mul-eq-mul_left, cases_lt, ints, IsRange, factorial-pos, linear, none_above, sizes, factorial_formula, factorial_of, falling_of, FallingByCoefficient, FallingFormula}
 use Rattle.num_integer.specs.Coefficient.{factorial}
-use Rattle.num_integer.specs.Range.{IsRange}
-use Rattle.num_integer.proofs.ForCallers.{factorial-pos, linear, none_above, sizes, within_fits}
-use Rattle.num_integer.proofs.Laws.{factorial_formula}
-use Rattle.applied.specs.Counting.{factorial_of, falling, falling_of}
-use Rattle.applied.specs.Laws.{FallingByCoefficient, FallingFormula}
+use Rattle.applied.specs.Counting.{falling}
 
 -- ---- over natural numbers
 
@@ -62,27 +55,6 @@ falling_by_coefficient n k = elim (cases_lt n k) [
 
 -- ---- over integers
 
-pub falling_at_most : (low factor high : ℤ) → pos 0 ≤ℤ low → low ≤ℤ factor → factor ≤ℤ high → falling_of factor (factor -ℤ low) ≤ℤ falling_of high (high -ℤ low)
-falling_at_most low factor high low_up from_low to_high =
-    let a = unsigned_abs low in
-    let j = unsigned_abs (factor -ℤ low) in
-    let d = unsigned_abs (high -ℤ factor) in
-    let top : unsigned_abs high ≡ a + j + d = omega (arith, sizes) in
-    let all : unsigned_abs (high -ℤ low) ≡ j + d = omega (arith, sizes) in
-    let here : unsigned_abs factor ≡ a + j = omega (arith, sizes) in
-    let grows : falling (unsigned_abs factor) j ≤ falling (unsigned_abs high) (unsigned_abs (high -ℤ low)) = rw (top, all, here) (falling_grows a j d) in
-    omega (arith, ints, grows)
-
-pub falling_next : (low factor : ℤ) → pos 0 ≤ℤ low → low ≤ℤ factor → falling_of factor (factor -ℤ low) *ℤ (factor +ℤ pos 1) ≡ falling_of (factor +ℤ pos 1) (factor +ℤ pos 1 -ℤ low)
-falling_next low factor low_up from_low =
-    let f = unsigned_abs factor in
-    let j = unsigned_abs (factor -ℤ low) in
-    let more : unsigned_abs (factor +ℤ pos 1) ≡ suc f = omega (arith, sizes) in
-    let all : unsigned_abs (factor +ℤ pos 1 -ℤ low) ≡ suc j = omega (arith, sizes) in
-    let times : factor +ℤ pos 1 ≡ pos (suc f) = omega (arith, sizes) in
-    let step : falling (unsigned_abs (factor +ℤ pos 1)) (unsigned_abs (factor +ℤ pos 1 -ℤ low)) ≡ suc f * falling f j = rw (more, all) (falling-suc f j) in
-    ap (λ (t : ℤ). falling_of factor (factor -ℤ low) *ℤ t) times ∙ (let product : pos (falling f j) *ℤ pos (suc f) ≡ pos (suc f * falling f j) = omega (arith, ints) in product) ∙ ap pos (sym step)
-
 pub factorial_is : (n z : ℤ) → pos 0 ≤ℤ n → z ≡ pos 0 → falling_of n (n -ℤ z) ≡ factorial_of n
 factorial_is n z up e =
     let all : unsigned_abs (n -ℤ z) ≡ unsigned_abs n = omega (arith, sizes) in
@@ -105,47 +77,56 @@ pub ruleset falling_steps = (linear, factorial_is, falling_is, falling_of_none)
 pub record IsProductSoFar (fits : ℤ → Type 0) (low factor high product : ℤ) : Type 0 where
   pub factor_in_range : fits factor
   pub product_in_range : fits product
-  pub from_low : low ≤ℤ factor
+  pub count : ℕ
+  pub at : factor ≡ low +ℤ pos count
   pub to_high : factor ≤ℤ high
-  pub is : product ≡ falling_of factor (factor -ℤ low)
+  pub is : product ≡ pos (falling (unsigned_abs low + count) count)
 
 module _ {fits : ℤ → Type 0} {low high : ℤ} where
   pub product_first : {one : ℤ} → fits low → fits one → one ≡ pos 1 → low ≤ℤ high → IsProductSoFar fits low low high one
-  product_first {one} low_fits one_fits e ordered =
-      let none : unsigned_abs (low -ℤ low) ≡ 0 = omega (arith, sizes) in
-      record {
-        factor_in_range = low_fits;
-        product_in_range = one_fits;
-        from_low = omega (arith, linear);
-        to_high = ordered;
-        is = e ∙ sym (ap pos (ap (λ (t : ℕ). falling (unsigned_abs low) t) none ∙ falling-zero (unsigned_abs low)));
-      }
+  product_first {one} low_fits one_fits e ordered = record {
+    factor_in_range = low_fits;
+    product_in_range = one_fits;
+    count = 0;
+    at = omega (arith, linear);
+    to_high = ordered;
+    is = e ∙ sym (ap pos (falling-zero (unsigned_abs low + 0)));
+  }
 
-  module _ {factor product : ℤ} (h : IsProductSoFar fits low factor high product) (low_up : pos 0 ≤ℤ low) (more : factor <ℤ high) where
-    next_is : product *ℤ (factor +ℤ pos 1) ≡ falling_of (factor +ℤ pos 1) (factor +ℤ pos 1 -ℤ low)
-    next_is = ap (λ (t : ℤ). t *ℤ (factor +ℤ pos 1)) h.is ∙ falling_next low factor low_up h.from_low
+  module _ {factor product : ℤ} (h : IsProductSoFar fits low factor high product) (low_up : pos 0 ≤ℤ low) where
+    next_is : product *ℤ (factor +ℤ pos 1) ≡ pos (falling (unsigned_abs low + suc h.count) (suc h.count))
+    next_is =
+        let next : factor +ℤ pos 1 ≡ pos (suc (unsigned_abs low + h.count)) = omega (arith, sizes, h.at) in
+        let e : unsigned_abs low + suc h.count ≡ suc (unsigned_abs low + h.count) = omega arith in
+        rw (h.is, next, e, falling-suc (unsigned_abs low + h.count) h.count) (omega (arith, ints))
 
     -- the next product fits if the last one does
-    pub next_product_fits : {least most : ℤ} → IsRange fits least most → fits (falling_of high (high -ℤ low)) → fits (product *ℤ (factor +ℤ pos 1))
-    next_product_fits range last_fits =
-        let most = falling_at_most low (factor +ℤ pos 1) high low_up (omega (arith, linear)) (omega (arith, linear)) in
-        subst fits (sym next_is) (within_fits range last_fits (inl (omega (arith, ints), most)))
+    pub next_product_fits : {least most : ℤ} → factor <ℤ high → IsRange fits least most → fits (falling_of high (high -ℤ low))
+        → fits (product *ℤ (factor +ℤ pos 1))
+    next_product_fits more range last_fits =
+        let rest = unsigned_abs (high -ℤ (factor +ℤ pos 1)) in
+        let top : unsigned_abs high ≡ unsigned_abs low + suc h.count + rest = omega (arith, sizes, h.at) in
+        let all : unsigned_abs (high -ℤ low) ≡ suc h.count + rest = omega (arith, sizes, h.at) in
+        let last = rw (top, all) at last_fits in
+        let grows = falling_grows (unsigned_abs low) (suc h.count) rest in
+        subst fits (sym next_is) (fits_below range last (omega (arith, ints)) (omega (arith, ints)))
 
-    pub next_factor_fits : {least most : ℤ} → IsRange fits least most → fits high → fits (factor +ℤ pos 1)
-    next_factor_fits range high_fits = let from_low = h.from_low in within_fits range high_fits (inl (omega (arith, linear), omega (arith, linear)))
+    pub product_next : factor <ℤ high → fits (factor +ℤ pos 1) → fits (product *ℤ (factor +ℤ pos 1))
+        → IsProductSoFar fits low (factor +ℤ pos 1) high (product *ℤ (factor +ℤ pos 1))
+    product_next more next_fits times_fits = record {
+      factor_in_range = next_fits;
+      product_in_range = times_fits;
+      count = suc h.count;
+      at = omega (arith, linear, h.at);
+      to_high = omega (arith, linear);
+      is = next_is;
+    }
 
-    pub product_next : {next times : ℤ} → fits next → fits times → next ≡ factor +ℤ pos 1 → times ≡ product *ℤ next → IsProductSoFar fits low next high times
-    product_next {next} {times} next_fits times_fits e f =
-        let from_low = h.from_low in
-        record {
-          factor_in_range = next_fits;
-          product_in_range = times_fits;
-          from_low = omega (arith, linear);
-          to_high = omega (arith, linear);
-          is = rw e (rw e at f ∙ next_is);
-        }
+    pub product_last : high ≤ℤ factor → product ≡ falling_of high (high -ℤ low)
+    product_last done =
+        let top : unsigned_abs high ≡ unsigned_abs low + h.count = omega (arith, sizes, h.at, h.to_high) in
+        let all : unsigned_abs (high -ℤ low) ≡ h.count = omega (arith, sizes, h.at, h.to_high) in
+        rw (top, all) h.is
 
-  pub product_last : {factor product : ℤ} → IsProductSoFar fits low factor high product → high ≤ℤ factor → product ≡ falling_of high (high -ℤ low)
-  product_last {factor} {product} h done =
-      let same : factor ≡ high = omega (arith, linear) in
-      rw same at h.is
+-- what goals about the loop need
+pub ruleset product_steps = (sizes, product_first, product_next)

@@ -3,8 +3,8 @@
 -- The gcd of no numbers is 0, that of one number more is the gcd of that of the others and this number, and a list has one alone.
 pub use Rattle.applied.proofs.ListDivisors.{gcd_of_none, gcd_of_more, only_gcd_of}
 -- The lcm of no numbers is 1, that of one number more is the lcm of that of the others and this number, and a list has one alone.
-pub use Rattle.applied.proofs.ListMultiples.{lcm_of_none, lcm_of_more, only_lcm_of}
+pub use Rattle.applied.proofs.ListDivisors.{lcm_of_none, lcm_of_more, only_lcm_of}
 -- The lcm of the first numbers of a list divides that of the list, and a list with a 0 has the lcm 0.
-pub use Rattle.applied.proofs.ListMultiples.{prefix_divides, lcm_of_zero}
+pub use Rattle.applied.proofs.ListDivisors.{prefix_divides, lcm_of_zero}
 -- Two natural numbers divided by their gcd, the second of which is not 0, are coprime and in the same ratio.
 pub use Rattle.applied.proofs.ReducedPairs.{reduced_pair}

@@ -1,28 +1,14 @@
 -- The laws of specs/Laws.antt, a lemma each.
-use Rattle.std.specs.Prelude.{◌≡◌, ◌<◌, ◌≤◌, ◌≤ℤ◌, ◌<ℤ◌, ◌+ℤ◌, ◌-ℤ◌, ◌*ℤ◌, ℕ, ℤ, pos, List, [], ◌∷◌, length}
-use Rattle.std.specs.List.{AllWithin}
-use Rattle.std.proofs.Common.{arith, ap, inl, inr, refl, subst}
-use Rattle.modular.specs.Congruences.{AreCongruent}
-use Rattle.modular.specs.declared.common_solutions.CommonSolution.{CommonSolution}
-use Rattle.modular.specs.declared.common_solutions.CommonSolution.TheVariants.{Never, Beyond, At}
-use Rattle.modular.proofs.ForCallers.{congruent-equal}
-use Rattle.num_integer.specs.Least.{IsLeastFrom}
-use Rattle.num_integer.proofs.ForCallers.{Divides-difference, ceiled_quotient_least, expand, floored_by_range, floored_range, least_is_only, linear, only_pair_by_range, products}
-use Rattle.applied.specs.Laws.{AlignedUpIsOnly, ChoiceOfRankIsOnly, GcdOfFitsExactly, GcdOfIsOnly, LcmOfIsOnly, LeastTimeIsOnly, LowerBoundIsOnly, MidpointIsOnly, PaddingIsOnly, PagesAreOnly, PartsDifferByOne, PlaceExists, PlaceIsOnly, RankIsBelow, ReducedPairIsOnly, LogarithmIsOnly, NearestEvenQuotientIsOnly, NearestQuotientExists, NearestQuotientFitsExactly, NearestQuotientIsOnly, NoIntegerIsNearer}
-use Rattle.num_integer.proofs.Laws.{division_exists}
-use Rattle.applied.specs.Schedules.{IsLeastTime}
-use Rattle.applied.proofs.Choices.{only_choice, rank_of_below}
-use Rattle.applied.proofs.ListDivisors as divisors
-use Rattle.applied.proofs.ListMultiples as multiples
-use Rattle.applied.proofs.ReducedPairs as pairs
-use Rattle.applied.proofs.Logarithms.{only_logarithm}
-use Rattle.applied.proofs.NearestQuotients.{even_exists, even_fits_is, nearest_exists, nearest_fits_is, no_nearer, only_nearest, only_nearest_even}
--- ---- pairs, lists and factorials
-
-pub use Rattle.applied.proofs.ReducedPairs.{reduced_pair_exists}
-pub use Rattle.applied.proofs.ListDivisors.{gcd_of_exists}
-pub use Rattle.applied.proofs.ListMultiples.{lcm_of_exists}
+use Rattle.std.specs.Prelude.{◌≡◌, ◌<◌, ◌≤◌, ◌≤ℤ◌, ◌<ℤ◌, ◌+ℤ◌, ◌-ℤ◌, ◌*ℤ◌, ◌∷◌}
+use Rattle.applied.proofs.Common.{ℕ, ℤ, pos, List, [], length, AllWithin, arith, ap, refl, subst, AreCongruent, CommonSolution, Never, Beyond, At, congruent-equal, IsLeastFrom, Divides-difference, ceiled_quotient_least, expand, floored_by_range, floored_range, least_is_only, linear, only_pair_by_range, products, division_exists, AlignedUpIsOnly, GcdOfIsOnly, LcmOfIsOnly, LeastTimeIsOnly, LowerBoundIsOnly, MidpointIsOnly, PaddingIsOnly, PagesAreOnly, PartsDifferByOne, PlaceExists, PlaceIsOnly, IsLeastTime}
+use Rattle.applied.proofs.ListDivisors.{only_gcd_of, only_lcm_of}
+pub use Rattle.applied.proofs.Choices.{choice_of_rank_is_only, rank_is_below}
+pub use Rattle.applied.proofs.ReducedPairs.{reduced_pair_exists, reduced_pair_is_only}
+pub use Rattle.applied.proofs.ListDivisors.{gcd_of_exists, gcd_of_fits_exactly}
+pub use Rattle.applied.proofs.ListDivisors.{lcm_of_exists}
 pub use Rattle.applied.proofs.FallingFactorials.{falling_by_coefficient, falling_formula}
+pub use Rattle.applied.proofs.PowersAndRoots.{logarithm_is_only}
+pub use Rattle.applied.proofs.NearestQuotients.{nearest_even_quotient_is_only, nearest_quotient_exists, nearest_quotient_fits_exactly, nearest_quotient_is_only, no_integer_is_nearer}
 
 -- ---- pages and parts
 
@@ -81,14 +67,6 @@ same_time value fits P one now (At t) Beyond h k = absurd (not_at fits h.1 h.0 k
 pub least_time_is_only : {X : Type 0} (value : X → ℤ) (fits P : ℤ → Type 0) → LeastTimeIsOnly value fits P
 least_time_is_only value fits P = λ one now answer h other k. same_time value fits P one now answer other h k
 
--- ---- choices
-
-pub choice_of_rank_is_only : ChoiceOfRankIsOnly
-choice_of_rank_is_only = λ n k r numbers h. only_choice h
-
-pub rank_is_below : RankIsBelow
-rank_is_below = λ n numbers h. rank_of_below numbers h
-
 -- ---- halves
 
 pub midpoint_is_only : MidpointIsOnly
@@ -108,39 +86,8 @@ lower_bound_is_only value = λ items least place other within below from other_w
 
 -- ---- pairs and lists
 
-pub reduced_pair_is_only : ReducedPairIsOnly
-reduced_pair_is_only = λ a b x y h. pairs.only_reduced_pair h
-
 pub gcd_of_is_only : GcdOfIsOnly
-gcd_of_is_only = λ numbers g h other k. divisors.only_gcd_of k h
-
-pub gcd_of_fits_exactly : (fits : ℤ → Type 0) → GcdOfFitsExactly fits
-gcd_of_fits_exactly fits = λ low high numbers range each. divisors.gcd_of_fits_is range numbers each
+gcd_of_is_only = λ numbers g h other k. only_gcd_of k h
 
 pub lcm_of_is_only : LcmOfIsOnly
-lcm_of_is_only = λ numbers l h other k. multiples.only_lcm_of k h
-
--- ---- nearest quotients
-
-pub nearest_quotient_exists : NearestQuotientExists
-nearest_quotient_exists = λ n d nonzero. (nearest_exists n d nonzero, even_exists n d nonzero)
-
-pub no_integer_is_nearer : NoIntegerIsNearer
-no_integer_is_nearer = λ n d q kinds m. elim kinds [
-  | inl h ↦ no_nearer m h.division.division h.division.nearest
-  | inr h ↦ no_nearer m h.division.division h.division.nearest
-]
-
-pub nearest_quotient_is_only : NearestQuotientIsOnly
-nearest_quotient_is_only = λ n d q h other k. only_nearest h.division k.division
-
-pub nearest_even_quotient_is_only : NearestEvenQuotientIsOnly
-nearest_even_quotient_is_only = λ n d q h other k. only_nearest_even h.division k.division
-
-pub nearest_quotient_fits_exactly : (fits : ℤ → Type 0) → NearestQuotientFitsExactly fits
-nearest_quotient_fits_exactly fits = λ low high n d range n_fits d_fits. (nearest_fits_is range n_fits d_fits, even_fits_is range n_fits d_fits)
-
--- ---- logarithms
-
-pub logarithm_is_only : LogarithmIsOnly
-logarithm_is_only = λ base n k up h other l. only_logarithm up h l
+lcm_of_is_only = λ numbers l h other k. only_lcm_of k h

@@ -1,19 +1,9 @@
--- Greatest common divisors of lists.
-use Rattle.std.specs.Prelude.{◌≡◌, ◌↔◌, ◌<◌, ◌+◌, ◌<ℤ◌, ℕ, ℤ, pos, negsuc, neg_ℤ, unsigned_abs, List, [], ◌∷◌, ◌++◌, length, get_or, map, take, Option, Some}
-use Rattle.std.specs.List.{All}
-use Rattle.std.proofs.Common.{arith, inl, inr, refl, subst, sym}
-use Rattle.std.proofs.lemmas.Int.{ints}
-use Rattle.std.proofs.lemmas.List.{map_more}
-use Rattle.std.proofs.lemmas.List.Elements.{All-cons, All-head, All-nil, All-pop, All-push, All-tail, All-weaker}
-use Rattle.num_integer.specs.Checked.{AnswersWhere}
-use Rattle.num_integer.specs.Divisors.{Divides, IsGreatestCommonDivisor}
-use Rattle.num_integer.specs.Range.{EachFits, IsRange}
-use Rattle.num_integer.proofs.ForCallers.{Divides-antisym, Divides-trans, Divides-zero, answers_as, gcd_fits_is, linear, no_minus_one, sizes, within_fits, zero_fits, zero_or_not}
-use Rattle.num_integer.proofs.Laws.{gcd_exists}
-use Rattle.applied.specs.Lists.{GcdOfFits, IsGreatestCommonDivisorOf}
-use Rattle.applied.proofs.SignedDivisors.{gcd_with_magnitude}
+-- Greatest common divisors and least common multiples of lists.
+use Rattle.std.specs.Prelude.{◌≡◌, ◌<◌, ◌+◌, ◌<ℤ◌, ◌∷◌, ◌++◌, ◌≢◌}
+use Rattle.applied.proofs.Common.{append-nil, append_assoc, GcdOfFitsExactly, ℕ, ℤ, pos, negsuc, neg_ℤ, unsigned_abs, List, [], length, get_or, map, take, Option, Some, All, arith, inl, inr, refl, subst, sym, ints, map_more, All-head, All-nil, All-pop, All-push, All-tail, All-weaker, AnswersWhere, Divides, IsGreatestCommonDivisor, IsRange, Divides-antisym, Divides-trans, Divides-zero, answers_as, gcd_fits_is, linear, no_minus_one, sizes, within_fits, zero_fits, zero_or_not, gcd_exists, GcdOfFits, IsGreatestCommonDivisorOf, take-map, HoldsAt, ◌∙◌, get_or-map, length-map, take_at, All-map, All-take, IsLeastCommonMultiple, EachFits, answer_only, divisor_at_most, fits_below, lcm-positive, one_divides, zero_divides, lcm_exists, IsLeastCommonMultipleOf}
+use Rattle.applied.proofs.ReducedPairs.{gcd_with_magnitude}
 
--- ---- one number more
+-- ---- the gcd of one number more
 
 -- the greatest common divisor of no numbers is 0
 pub gcd_of_none : IsGreatestCommonDivisorOf [] (pos 0)
@@ -37,48 +27,43 @@ gcd_of_more {numbers} {g} {x} {h} before both = record {
   greatest = λ d each. let split = split_last (λ y. Divides d y) numbers x each in both.greatest d (before.greatest d split.0) split.1;
 }
 
--- and with one more in front
-pub gcd_of_cons : {numbers : List ℤ} {x g h : ℤ} → IsGreatestCommonDivisorOf numbers g → IsGreatestCommonDivisor x g h → IsGreatestCommonDivisorOf (x ∷ numbers) h
-gcd_of_cons {numbers} {x} {g} {h} after both = record {
-  from_zero = both.from_zero;
-  divides_each = All-cons (λ y. Divides h y) x numbers both.divides_left
-      (All-weaker (λ y. Divides g y) (λ y. Divides h y) (λ y divides. Divides-trans both.divides_right divides) numbers after.divides_each);
-  greatest = λ d each. both.greatest d (All-head (λ y. Divides d y) x numbers each) (after.greatest d (All-tail (λ y. Divides d y) x numbers each));
-}
+-- ---- each list has a gcd
 
--- ---- each list has one
-
--- each list has a number, if no numbers have one, and a list with one number more in front has one by that of the others
-pub each_list : (Is : List ℤ → ℤ → Type 0) {none : ℤ} → Is [] none → ((x g : ℤ) (numbers : List ℤ) → Is numbers g → (h : ℤ) × Is (x ∷ numbers) h) → (numbers : List ℤ) → (g : ℤ) × Is numbers g
-each_list Is {none} own more [] = (none, own)
-each_list Is own more (x ∷ numbers) = let rest = each_list Is own more numbers in more x rest.0 numbers rest.1
+-- a list has a number of a kind if the first of its numbers have one, and one number more has one by that of those before it
+pub each_list : (Fit : ℤ → Type 0) (Is : List ℤ → ℤ → Type 0) → ((xs : List ℤ) (x g : ℤ) → Fit x → Is xs g → (h : ℤ) × Is (xs ++ x ∷ []) h)
+    → (first rest : List ℤ) (g : ℤ) → Is first g → All Fit rest → (h : ℤ) × Is (first ++ rest) h
+each_list Fit Is more first [] g own each = (g, rw (append-nil first) own)
+each_list Fit Is more first (x ∷ rest) g own each =
+    let next = more first x g (All-head Fit x rest each) own in
+    rw (append_assoc first (x ∷ []) rest) at (each_list Fit Is more (first ++ x ∷ []) rest next.0 next.1 (All-tail Fit x rest each))
 
 -- two greatest common divisors of one list are equal
 pub only_gcd_of : {numbers : List ℤ} {g h : ℤ} → IsGreatestCommonDivisorOf numbers g → IsGreatestCommonDivisorOf numbers h → g ≡ h
 only_gcd_of x y = Divides-antisym x.from_zero y.from_zero (y.greatest _ x.divides_each) (x.greatest _ y.divides_each)
 
 pub gcd_of_exists : (numbers : List ℤ) → (g : ℤ) × IsGreatestCommonDivisorOf numbers g
-gcd_of_exists = each_list IsGreatestCommonDivisorOf gcd_of_none (λ x g numbers own. let both = gcd_exists x g in (both.0, gcd_of_cons own both.1))
+gcd_of_exists numbers =
+    each_list (λ x. x ≡ x) IsGreatestCommonDivisorOf (λ first x g _ own. let both = gcd_exists g x in (both.0, gcd_of_more own both.1))
+    [] numbers (pos 0) gcd_of_none (λ k d within. refl)
 
--- ---- when it fits
+-- ---- when the gcd fits
 
-module _ {fits : ℤ → Type 0} {low high : ℤ} (range : IsRange fits low high) where
-  -- in a type without -1 each list has one that fits
-  fitting_gcd_of : ¬ (fits (negsuc 0)) → (numbers : List ℤ) → All fits numbers → (g : ℤ) × IsGreatestCommonDivisorOf numbers g × fits g
-  fitting_gcd_of none [] each = (pos 0, gcd_of_none, zero_fits range)
-  fitting_gcd_of none (x ∷ numbers) each =
-      let rest = fitting_gcd_of none numbers (All-tail fits x numbers each) in
-      let both = gcd_exists x rest.0 in
-      (both.0, gcd_of_cons rest.1 both.1, (gcd_fits_is range (All-head fits x numbers each) rest.2).0 (λ minus_one. absurd (none minus_one)) both.0 both.1)
+-- in a type without -1 each list has one that fits
+fitting_gcd_of : {fits : ℤ → Type 0} {low high : ℤ} → IsRange fits low high → ¬ (fits (negsuc 0)) → (numbers : List ℤ) → All fits numbers
+    → (g : ℤ) × (IsGreatestCommonDivisorOf numbers g × fits g)
+fitting_gcd_of {fits} range none numbers each = each_list fits (λ first g. IsGreatestCommonDivisorOf first g × fits g)
+    (λ first x g x_fits own. let both = gcd_exists g x in
+    (both.0, (gcd_of_more own.0 both.1, (gcd_fits_is range own.1 x_fits).0 (λ minus_one. absurd (none minus_one)) both.0 both.1)))
+    [] numbers (pos 0) (gcd_of_none, zero_fits range) each
 
-  pub gcd_of_fits_is : (numbers : List ℤ) → All fits numbers → GcdOfFits fits numbers ↔ EachFits fits (IsGreatestCommonDivisorOf numbers)
-  gcd_of_fits_is numbers each = (
-    λ h. elim (zero_or_not low) [
-      | inl none ↦ let own = fitting_gcd_of (no_minus_one range none) numbers each in λ z is. subst fits (only_gcd_of own.1 is) own.2
-      | inr signed ↦ h ((range.between (negsuc 0)).1 (omega (arith, linear, range.low_end, range.positive)))
-    ],
-    λ h _. h,
-  )
+pub gcd_of_fits_exactly : (fits : ℤ → Type 0) → GcdOfFitsExactly fits
+gcd_of_fits_exactly fits = λ low high numbers range each. (
+  λ h. elim (zero_or_not low) [
+    | inl none ↦ let g = fitting_gcd_of range (no_minus_one range none) numbers each in λ z is. subst fits (only_gcd_of g.1.0 is) g.1.1
+    | inr signed ↦ h ((range.between (negsuc 0)).1 (omega (arith, linear, range.low_end, range.positive)))
+  ],
+  λ h _. h,
+)
 
 -- ---- the result of `gcd_of`
 
@@ -101,3 +86,87 @@ checked_gcd_of value {fits} {numbers = numbers} {d = d} range d_fits below is r 
 pub gcd_of_next : {X : Type 0} (value : X → ℤ) (numbers : List X) (i : ℕ) (d r : ℤ) {x : X} → IsGreatestCommonDivisorOf (map value (take i numbers)) (pos (unsigned_abs d)) → i < length numbers → x ≡ get_or numbers i x
     → IsGreatestCommonDivisor d (value x) (pos (unsigned_abs r)) → IsGreatestCommonDivisorOf (map value (take (i + 1) numbers)) (pos (unsigned_abs r))
 gcd_of_next value numbers i d r {x = x} before within at both = rw (map_more value numbers i x within, ← at) (gcd_of_more before (gcd_with_magnitude both))
+
+-- ---- the lcm of one number more
+
+-- the least common multiple of no numbers is 1
+pub lcm_of_none : IsLeastCommonMultipleOf [] (pos 1)
+lcm_of_none = record {
+  from_zero = omega (arith, ints);
+  each_divides = All-nil (λ x. Divides x (pos 1));
+  least = λ m _. one_divides m;
+}
+
+-- the lcm of a list with one number more at its end is the lcm of that of the list and this number
+pub lcm_of_more : {numbers : List ℤ} {l x m : ℤ} → IsLeastCommonMultipleOf numbers l → IsLeastCommonMultiple l x m → IsLeastCommonMultipleOf (numbers ++ x ∷ []) m
+lcm_of_more {numbers} {l} {x} {m} before both = record {
+  from_zero = both.from_zero;
+  each_divides = All-push (λ y. Divides y m) numbers x
+      (All-weaker (λ y. Divides y l) (λ y. Divides y m) (λ y divides. Divides-trans divides both.left_divides) numbers before.each_divides)
+      both.right_divides;
+  least = λ n each. let split = split_last (λ y. Divides y n) numbers x each in both.least n (before.least n split.0) split.1;
+}
+
+-- the lcm of the first numbers of a list divides that of the list
+pub prefix_divides : {first : List ℤ} (rest : List ℤ) {m l : ℤ} → IsLeastCommonMultipleOf first m → IsLeastCommonMultipleOf (first ++ rest) l → Divides m l
+prefix_divides {first} rest {m} {l} h k = h.least l (subst (All (λ x. Divides x l)) (take_at first rest (length first) refl) (All-take (λ x. Divides x l) (length first) (first ++ rest) k.each_divides))
+
+-- ---- each list has an lcm
+
+-- two least common multiples of one list are equal
+pub only_lcm_of : {numbers : List ℤ} {l m : ℤ} → IsLeastCommonMultipleOf numbers l → IsLeastCommonMultipleOf numbers m → l ≡ m
+only_lcm_of x y = Divides-antisym x.from_zero y.from_zero (x.least _ y.each_divides) (y.least _ x.each_divides)
+
+pub lcm_of_exists : (numbers : List ℤ) → (l : ℤ) × IsLeastCommonMultipleOf numbers l
+lcm_of_exists numbers =
+    each_list (λ x. x ≡ x) IsLeastCommonMultipleOf (λ first x l _ own. let both = lcm_exists l x in (both.0, lcm_of_more own both.1))
+    [] numbers (pos 1) lcm_of_none (λ k d within. refl)
+
+-- numbers that are not 0 have a positive one
+positive_lcm_of : (numbers : List ℤ) → All (λ x. x ≢ pos 0) numbers → (l : ℤ) × (IsLeastCommonMultipleOf numbers l × (pos 0 <ℤ l))
+positive_lcm_of numbers nonzero = each_list (λ x. x ≢ pos 0) (λ first l. IsLeastCommonMultipleOf first l × (pos 0 <ℤ l))
+    (λ first x l some own.
+    let both = lcm_exists l x in
+    (both.0, (lcm_of_more own.0 both.1, lcm-positive both.1 (λ none. omega (arith, linear, own.1)) some)))
+    [] numbers (pos 1) (lcm_of_none, omega (arith, ints)) nonzero
+
+-- a list with a 0 has the least common multiple 0
+pub lcm_of_zero : {numbers : List ℤ} (k : ℕ) → k < length numbers → HoldsAt (λ x. x ≡ pos 0) numbers k → IsLeastCommonMultipleOf numbers (pos 0)
+lcm_of_zero {numbers} k within zero = record {
+  from_zero = omega (arith, ints);
+  each_divides = λ i d inside. Divides-zero _;
+  least = λ m each.
+      let none : m ≡ pos 0 = zero_divides (rw (zero (pos 0)) at (each k (pos 0) within)) in
+      rw none (Divides-zero (pos 0));
+}
+
+zero_at : {X : Type 0} (value : X → ℤ) (numbers : List X) (k : ℕ) → k < length numbers → HoldsAt (λ x. value x ≡ pos 0) numbers k → HoldsAt (λ z. z ≡ pos 0) (map value numbers) k
+zero_at value [] k within zero = absurd (omega arith)
+zero_at value (x ∷ numbers) k within zero = λ d. get_or-map value (x ∷ numbers) k x d within ∙ zero x
+
+-- ---- the result of `lcm_of`
+
+pub lcm_of_result : (fits : ℤ → Type 0) {numbers : List ℤ} {l : ℤ} → fits l → IsLeastCommonMultipleOf numbers l → EachFits fits (IsLeastCommonMultipleOf numbers) × (fits l × IsLeastCommonMultipleOf numbers l)
+lcm_of_result fits {numbers} l_fits own = answer_only {P = IsLeastCommonMultipleOf numbers} own (λ y. only_lcm_of own) l_fits refl
+
+-- ---- the loop of `lcm_of`
+
+module _ {X : Type 0} (value : X → ℤ) (numbers : List X) where
+  pub lcm_of_next : (i : ℕ) {l m : ℤ} {x : X} → IsLeastCommonMultipleOf (map value (take i numbers)) l → i < length numbers → x ≡ get_or numbers i x
+      → IsLeastCommonMultiple l (value x) m → IsLeastCommonMultipleOf (map value (take (i + 1) numbers)) m
+  lcm_of_next i {x = x} before within at both = rw (map_more value numbers i x within, ← at) (lcm_of_more before both)
+
+  -- a multiple on the way that does not fit
+  pub lcm_of_out_of_range : {fits : ℤ → Type 0} {low high : ℤ} (i : ℕ) {l : ℤ} {x : X} → IsRange fits low high → All (λ y. value y ≢ pos 0) numbers
+      → IsLeastCommonMultipleOf (map value (take i numbers)) l → i < length numbers → x ≡ get_or numbers i x
+      → ¬ (EachFits fits (IsLeastCommonMultiple l (value x))) → ¬ (EachFits fits (IsLeastCommonMultipleOf (map value numbers)))
+  lcm_of_out_of_range i range nonzero before within at none each =
+      let whole = positive_lcm_of (map value numbers) (All-map (λ y. y ≢ pos 0) value numbers nonzero) in
+      none (λ m both.
+      let next = rw (← take-map value (i + 1) numbers) at (lcm_of_next i before within at both) in
+      let multiple = next.least whole.0 (All-take (λ y. Divides y whole.0) (i + 1) (map value numbers) whole.1.0.each_divides) in
+      fits_below range (each whole.0 whole.1.0) next.from_zero (divisor_at_most whole.1.1 multiple))
+
+  -- a 0 in the list
+  pub lcm_of_with_zero : (k : ℕ) → k < length numbers → HoldsAt (λ y. value y ≡ pos 0) numbers k → IsLeastCommonMultipleOf (map value numbers) (pos 0)
+  lcm_of_with_zero k within zero = lcm_of_zero k (omega (arith, length-map numbers value)) (zero_at value numbers k within zero)

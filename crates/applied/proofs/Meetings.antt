@@ -1,12 +1,6 @@
 -- Meetings of schedules, from solutions of their congruences from a time on at which all have begun.
-use Rattle.std.specs.Prelude.{◌≤ℤ◌, ℤ, List}
-use Rattle.std.proofs.Common.{arith}
-use Rattle.num_integer.proofs.ForCallers.{linear}
-use Rattle.modular.specs.Congruences.{SolvesBothCongruences, SolvesEach}
-use Rattle.num_integer.specs.Least.{IsLeastFrom}
-use Rattle.modular.specs.declared.common_solutions.CommonSolution.{CommonSolution}
-use Rattle.modular.specs.declared.common_solutions.CommonSolution.TheVariants.{At, Beyond, Never}
-use Rattle.applied.specs.Schedules.{HaveBegun, IsLeastTime, IsMeeting, IsMeetingOfEach}
+use Rattle.std.specs.Prelude.{◌≤ℤ◌}
+use Rattle.applied.proofs.Common.{ℤ, List, arith, linear, SolvesBothCongruences, SolvesEach, IsLeastFrom, CommonSolution, At, Beyond, Never, HaveBegun, IsLeastTime, IsMeeting, IsMeetingOfEach}
 
 -- the next solution from the least time on at which all have begun is the next meeting
 module _ {now from : ℤ} {Begun Solves Meets : ℤ → Type 0} (begun : IsLeastFrom now Begun from) (meets : (t : ℤ) → from ≤ℤ t → Solves t → Meets t) (apart : (t : ℤ) → Meets t → Begun t × Solves t) where

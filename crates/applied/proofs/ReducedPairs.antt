@@ -1,23 +1,88 @@
--- Pairs of numbers, divided by their greatest common divisor.
-use Rattle.std.specs.Prelude.{◌≡◌, ◌≢◌, ◌⊎◌, ◌<◌, ◌*◌, ◌/◌, ◌<ℤ◌, ◌*ℤ◌, ℕ, ℤ, pos, neg_ℤ}
-use Rattle.std.proofs.Common.{◌∙◌, ap, arith, inl, inr, refl, sym}
-use Rattle.std.proofs.lemmas.Int.{by_lt_z}
-use Rattle.num_integer.specs.Divisors.{IsGreatestCommonDivisor}
-use Rattle.num_integer.specs.Only.{IsOnly}
-use Rattle.num_integer.proofs.ForCallers.{cancel, comm, divided_by_gcd, expand, factor_positive, gcd-swap, gcd-times, linear, mul-neg, mul-one, neg-mul, natural_exact_quotient, natural_gcd_positive, natural_quotients_coprime, only_gcd, product_positive, products, zero_divides, zero_or_not}
-use Rattle.num_integer.proofs.Laws.{gcd_exists}
-use Rattle.applied.specs.ReducedPairs.{HasSignOf, IsReducedPair}
+-- Greatest common divisors up to their sign, and pairs of numbers divided by their greatest common divisor.
+use Rattle.std.specs.Prelude.{◌≡◌, ◌≢◌, ◌⊎◌, ◌≤ℤ◌, ◌<ℤ◌, ◌-ℤ◌, ◌*ℤ◌, ◌<◌, ◌*◌, ◌/◌}
+use Rattle.applied.proofs.Common.{ℤ, pos, negsuc, neg_ℤ, unsigned_abs, int_div, ◌∙◌, arith, inl, inr, refl, subst, sym, cases_lt, by_lt_z, Divides, IsGreatestCommonDivisor, EachFits, IsRange, Divides-trans, divides_magnitude, divisor_size, exact_quotient, expand, gcd-swap, gcd-zero, linear, magnitude_divides, one_fits, only_gcd, other_quotient_fits, product_from_zero, products, sizes, truncated_is, within_fits, gcd_exists, ℕ, ap, Divides-antisym, cancel, comm, coprime_divides, divided_by_gcd, factor_positive, mul-neg, natural_exact_quotient, natural_gcd_positive, natural_quotients_coprime, product_positive, zero_divides, zero_or_not, ReducedPairIsOnly, HasSignOf, IsReducedPair}
+
+-- ---- magnitudes
+
+pub magnitude_positive : (d : ℤ) → d ≢ pos 0 → pos 0 <ℤ pos (unsigned_abs d)
+magnitude_positive d nonzero = omega (arith, sizes)
+
+-- the first number may be its magnitude
+pub gcd_with_magnitude : {a b g : ℤ} → IsGreatestCommonDivisor a b g → IsGreatestCommonDivisor (pos (unsigned_abs a)) b g
+gcd_with_magnitude {a} h = record {
+  from_zero = h.from_zero;
+  divides_left = Divides-trans h.divides_left (divides_magnitude a);
+  divides_right = h.divides_right;
+  greatest = λ d left right. h.greatest d (Divides-trans left (magnitude_divides a)) right;
+}
+
+-- ---- the divisor that `signed_gcd` returns
+
+-- with 0 it is the magnitude of the other number
+pub gcd_of_zero_and : {a : ℤ} (b : ℤ) → a ≡ pos 0 → IsGreatestCommonDivisor a b (pos (unsigned_abs b))
+gcd_of_zero_and b none = rw none (gcd-swap (gcd-zero b))
+
+module _ {fits : ℤ → Type 0} {low high a b : ℤ} (range : IsRange fits low high) (none : ¬ (EachFits fits (IsGreatestCommonDivisor a b))) where
+  -- if the divisor does not fit, it is the magnitude of each of the two numbers that is not 0
+  pub unfit_gcd : fits a → a ≢ pos 0 → IsGreatestCommonDivisor a b (pos (unsigned_abs a))
+  unfit_gcd a_fits nonzero =
+      let own = gcd_exists a b in
+      let size = divisor_size own.1.divides_left nonzero in
+      elim (cases_lt (unsigned_abs own.0) (unsigned_abs a)) [
+        | inl less ↦
+            let own_fits : fits own.0 = (range.between own.0).1 (omega (arith, sizes, range.low_end, (range.between a).0 a_fits, own.1.from_zero)) in
+            absurd (none (λ z is. subst fits (only_gcd own.1 is) own_fits))
+        | inr most ↦
+            let same : own.0 ≡ pos (unsigned_abs a) = omega (arith, sizes, own.1.from_zero) in
+            subst (IsGreatestCommonDivisor a b) same own.1
+      ]
+
+  -- so it is not 1
+  pub unfit_is_other : (d : ℤ) → IsGreatestCommonDivisor a b (pos (unsigned_abs d)) → d ≢ negsuc 0
+  unfit_is_other d is minus_one =
+      let one : pos (unsigned_abs d) ≡ pos 1 = rw minus_one refl in
+      none (λ z other. subst fits (sym one ∙ only_gcd is other) (one_fits range))
+
+-- ---- quotients by a magnitude
+
+-- each part of a number fits
+part_fits : {fits : ℤ → Type 0} {low high n g part : ℤ} → IsRange fits low high → fits n → pos 0 <ℤ g → n ≡ g *ℤ part → fits part
+part_fits {g = g} {part = part} range n_fits up is = by_lt_z part (pos 0)
+    (λ down. let more = simp expand at (product_from_zero (g -ℤ pos 1) (pos 0 -ℤ part) (omega (arith, linear)) (omega (arith, linear))) in within_fits range n_fits (inr (omega (arith, products), omega (arith, linear))))
+    (λ fine. let more = simp expand at (product_from_zero (g -ℤ pos 1) part (omega (arith, linear)) fine) in within_fits range n_fits (inl (fine, omega (arith, products))))
+
+module _ {n d : ℤ} (nonzero : d ≢ pos 0) (divides : Divides (pos (unsigned_abs d)) n) where
+  -- the quotient is exact
+  exact : n ≡ d *ℤ int_div n d
+  exact = exact_quotient nonzero (Divides-trans (divides_magnitude d) divides)
+
+  pub part_by_positive : pos 0 ≤ℤ d → n ≡ pos (unsigned_abs d) *ℤ int_div n d
+  part_by_positive up =
+      let same : pos (unsigned_abs d) ≡ d = omega (arith, sizes) in
+      rw same exact
+
+  pub part_by_negative : d <ℤ pos 0 → n ≡ pos (unsigned_abs d) *ℤ neg_ℤ (int_div n d)
+  part_by_negative below =
+      let same : pos (unsigned_abs d) ≡ neg_ℤ d = omega (arith, sizes) in
+      rw same (exact ∙ simp expand (omega (arith, products)))
+
+  pub part_by_negative_fits : {fits : ℤ → Type 0} {low high : ℤ} → IsRange fits low high → fits n → d <ℤ pos 0 → fits (neg_ℤ (int_div n d))
+  part_by_negative_fits range n_fits below = part_fits {g = pos (unsigned_abs d)} range n_fits (omega (arith, sizes)) (part_by_negative below)
+
+  pub operator_fits : {fits : ℤ → Type 0} {low high : ℤ} → IsRange fits low high → fits n → fits d → d ≢ negsuc 0 → fits (int_div n d)
+  operator_fits range n_fits d_fits other = other_quotient_fits range n_fits d_fits other (truncated_is n d nonzero).division
+
+-- what goals about the quotient need
+pub ruleset part_steps = (linear, part_by_positive, part_by_negative)
 
 -- ---- the pair that `reduced` returns
 
 -- the pair of 0 and 0 stays
 pub reduced_zeros : {a b : ℤ} → a ≡ pos 0 → b ≡ pos 0 → IsReducedPair a b a b
-reduced_zeros {a} {b} a_zero b_zero = record {
-  ratio = comm a b;
-  first_sign = record { positive = (λ h. h, λ h. h); negative = (λ h. h, λ h. h) };
-  second_sign = record { positive = (λ h. h, λ h. h); negative = (λ h. h, λ h. h) };
-  coprime = λ other. elim other [ inl a_other ↦ absurd (a_other a_zero) | inr b_other ↦ absurd (b_other b_zero) ];
-}
+reduced_zeros {a} {b} a_zero b_zero =
+    let own : (z : ℤ) → HasSignOf z z = λ z. record { positive = (λ h. h, λ h. h); negative = (λ h. h, λ h. h) } in
+    let none : ¬ ((a ≢ pos 0) ⊎ (b ≢ pos 0)) = λ other. elim other [ inl some ↦ some a_zero | inr some ↦ some b_zero ] in
+    record { ratio = comm a b; first_sign = own a; second_sign = own b; coprime = λ other. absurd (none other) }
 
 -- a positive factor keeps the sign
 sign_of_part : {a g x : ℤ} → pos 0 <ℤ g → a ≡ g *ℤ x → HasSignOf a x
@@ -27,10 +92,6 @@ sign_of_part {a} {g} {x} up is =
       positive = (λ x_up. rw is (product_positive g x up x_up), λ a_up. factor_positive a_up up is);
       negative = (λ x_down. omega (arith, linear, product_positive g (neg_ℤ x) up (omega (arith, linear))), λ a_down. omega (arith, linear, factor_positive {m = neg_ℤ a} (omega (arith, linear)) up opposite));
     }
-
--- only 0 has the sign of 0
-zero_of_zero : {a x : ℤ} → HasSignOf a x → a ≡ pos 0 → x ≡ pos 0
-zero_of_zero {a} {x} h none = grind (arith, linear, h.positive.0, h.negative.0)
 
 -- the parts of two numbers by their positive gcd
 pub reduced_by_gcd : {a b g x y : ℤ} → pos 0 <ℤ g → IsGreatestCommonDivisor a b g → a ≡ g *ℤ x → b ≡ g *ℤ y → IsReducedPair a b x y
@@ -56,25 +117,31 @@ reduced_pair_exists a b =
 
 -- ---- the only one
 
--- the first number is the gcd times its part
-factor_of_first : {a b g x y : ℤ} → (a ≢ pos 0) ⊎ (b ≢ pos 0) → IsReducedPair a b x y → IsGreatestCommonDivisor a b g → a ≡ g *ℤ x
-factor_of_first {a} {b} {g} {x} {y} other h is = by_lt_z (pos 0) a
-    (λ up.
-    let own : IsGreatestCommonDivisor (x *ℤ a) (x *ℤ b) (x *ℤ g) = gcd-times x (omega (arith, linear, h.first_sign.positive.1 up)) is in
-    let shared : IsGreatestCommonDivisor (a *ℤ x) (a *ℤ y) (a *ℤ pos 1) = gcd-times a (omega (arith, linear)) (h.coprime other) in
-    sym (mul-one a) ∙ only_gcd shared (rw (comm x a, comm x b, ← h.ratio) at own) ∙ comm x g)
-    (λ not_up. by_lt_z a (pos 0)
-    (λ down.
-    let x_down = h.first_sign.negative.1 down in
-    let own : IsGreatestCommonDivisor (neg_ℤ x *ℤ a) (neg_ℤ x *ℤ b) (neg_ℤ x *ℤ g) = gcd-times (neg_ℤ x) (omega (arith, linear)) is in
-    let shared : IsGreatestCommonDivisor (neg_ℤ a *ℤ x) (neg_ℤ a *ℤ y) (neg_ℤ a *ℤ pos 1) = gcd-times (neg_ℤ a) (omega (arith, linear)) (h.coprime other) in
-    let same : neg_ℤ a *ℤ pos 1 ≡ neg_ℤ x *ℤ g = only_gcd shared (rw (neg-mul x a, neg-mul x b, comm x a, comm x b, ← h.ratio, ← neg-mul a x, ← neg-mul a y) at own) in
-    let opposite : neg_ℤ (neg_ℤ a *ℤ pos 1) ≡ a = omega (arith, products) in
-    let spread = same ∙ neg-mul x g in omega (arith, linear, comm x g))
-    (λ not_down.
-    let none : a ≡ pos 0 = omega (arith, linear) in
-    let x_none = zero_of_zero h.first_sign none in
-    none ∙ rw x_none (omega (arith, products))))
+-- only 0 has the sign of 0
+zero_of_zero : {a x : ℤ} → HasSignOf a x → a ≡ pos 0 → x ≡ pos 0
+zero_of_zero {a} {x} h none = grind (arith, linear, h.positive.0, h.negative.0)
+
+-- numbers of one sign that divide each other are equal
+same_of_sign : {a x u : ℤ} → HasSignOf a x → HasSignOf a u → Divides x u → Divides u x → u ≡ x
+same_of_sign {a} {x} {u} h k there back =
+    let on = Divides-trans (magnitude_divides x) (Divides-trans there (divides_magnitude u)) in
+    let off = Divides-trans (magnitude_divides u) (Divides-trans back (divides_magnitude x)) in
+    let size = Divides-antisym (omega (arith, linear)) (omega (arith, linear)) on off in
+    by_lt_z (pos 0) x
+    (λ up. omega (arith, sizes, k.positive.1 (h.positive.0 up)))
+    (λ not_up. by_lt_z x (pos 0) (λ down. omega (arith, sizes, k.negative.1 (h.negative.0 down))) (λ not_down. omega (arith, sizes)))
+
+first_is_only : {a b x y u v : ℤ} → IsReducedPair a b x y → IsReducedPair a b u v → u ≡ x
+first_is_only {a} {b} {x} {y} {u} {v} h k = elim (zero_or_not a) [
+  | inl none ↦ zero_of_zero k.first_sign none ∙ sym (zero_of_zero h.first_sign none)
+  | inr some ↦
+      let first = simp expand at (ap (λ (t : ℤ). t *ℤ u) h.ratio) in
+      let second = simp expand at (ap (λ (t : ℤ). x *ℤ t) k.ratio) in
+      let cross : x *ℤ v ≡ y *ℤ u = cancel a (x *ℤ v) (y *ℤ u) some (omega (arith, linear)) in
+      same_of_sign h.first_sign k.first_sign
+      (coprime_divides (gcd-swap (h.coprime (inl some))) (record { factor = v; product = sym cross }))
+      (coprime_divides (gcd-swap (k.coprime (inl some))) (record { factor = y; product = comm v x ∙ cross ∙ comm y u }))
+]
 
 swapped : {a b x y : ℤ} → IsReducedPair a b x y → IsReducedPair b a y x
 swapped h = record {
@@ -84,29 +151,8 @@ swapped h = record {
   coprime = λ other. gcd-swap (h.coprime (elim other [ inl b_other ↦ inr b_other | inr a_other ↦ inl a_other ]));
 }
 
-same_pair : {a b x y u v : ℤ} → IsReducedPair a b x y → IsReducedPair a b u v → (u ≡ x) × (v ≡ y)
-same_pair {a} {b} {x} {y} {u} {v} h k =
-    let both : (a ≢ pos 0) ⊎ (b ≢ pos 0) → (u ≡ x) × (v ≡ y) = λ other.
-    let own = gcd_exists a b in
-    let swap = gcd-swap own.1 in
-    let back : (b ≢ pos 0) ⊎ (a ≢ pos 0) = elim other [ inl a_other ↦ inr a_other | inr b_other ↦ inl b_other ] in
-    let nonzero : own.0 ≢ pos 0 = λ none. elim other [
-      | inl a_other ↦ a_other (zero_divides (rw none at own.1.divides_left))
-      | inr b_other ↦ b_other (zero_divides (rw none at own.1.divides_right))
-    ] in (
-      cancel own.0 u x nonzero (sym (factor_of_first other k own.1) ∙ factor_of_first other h own.1),
-      cancel own.0 v y nonzero (sym (factor_of_first back (swapped k) swap) ∙ factor_of_first back (swapped h) swap),
-    ) in
-    elim (zero_or_not a) [
-      | inr a_other ↦ both (inl a_other)
-      | inl a_zero ↦ elim (zero_or_not b) [
-        | inr b_other ↦ both (inr b_other)
-        | inl b_zero ↦ (zero_of_zero k.first_sign a_zero ∙ sym (zero_of_zero h.first_sign a_zero), zero_of_zero k.second_sign b_zero ∙ sym (zero_of_zero h.second_sign b_zero))
-      ]
-    ]
-
-pub only_reduced_pair : {a b x y : ℤ} → IsReducedPair a b x y → IsOnly (λ (u, v). IsReducedPair a b u v) (x, y)
-only_reduced_pair h = λ (u, v) k. let same = same_pair h k in rw (same.0, same.1) refl
+pub reduced_pair_is_only : ReducedPairIsOnly
+reduced_pair_is_only = λ a b x y h. λ (u, v) k. rw (first_is_only h k, first_is_only (swapped h) (swapped k)) refl
 
 -- ---- for callers
 

@@ -1,13 +1,6 @@
 -- The hash of one more byte, and of the next window.
-use Rattle.std.specs.Prelude.{◌≡◌, ◌<◌, ◌+◌, ◌<ℤ◌, ◌+ℤ◌, ◌-ℤ◌, ◌*ℤ◌, ℕ, ℤ, pos, List, [], ◌∷◌, ◌++◌, length, slice_index, take}
-use Rattle.std.specs.Int.{int_pow}
-use Rattle.std.proofs.Common.{arith, ap, ◌∙◌, add-one, subst, sym}
-use Rattle.std.proofs.lemmas.List.{length_push}
-use Rattle.std.proofs.Math.Seq.{take-suc}
-use Rattle.num_integer.proofs.ForCallers.{expand, int_pow-suc, int_pow-zero, linear, products}
-use Rattle.modular.proofs.Congruences.{congruent-difference, congruent-product, congruent-refl, congruent-sum, congruent-trans}
-use Rattle.modular.specs.Congruences.{AreCongruent, IsResidue}
-use Rattle.applied.specs.Hashes.{weighted_sum}
+use Rattle.std.specs.Prelude.{◌≡◌, ◌<◌, ◌+◌, ◌+ℤ◌, ◌-ℤ◌, ◌*ℤ◌, ◌∷◌, ◌++◌}
+use Rattle.applied.proofs.Common.{ℕ, ℤ, pos, List, [], length, slice_index, take, int_pow, arith, ap, ◌∙◌, add-one, subst, sym, length_push, take-suc, expand, int_pow-suc, int_pow-zero, linear, products, congruent-difference, congruent-product, congruent-refl, congruent-sum, congruent-trans, AreCongruent, IsResidue, weighted_sum}
 
 -- one more byte at the end moves each before it up by one power
 sum_with_last : (base : ℤ) (bytes : List ℕ) (last : ℕ) → weighted_sum base (bytes ++ last ∷ []) ≡ weighted_sum base bytes *ℤ base +ℤ pos last
@@ -19,12 +12,6 @@ sum_with_last base (byte ∷ bytes) last =
     let rest = sum_with_last base bytes last in
     rw (power, rest) (simp expand (omega (arith, linear)))
 
-with_residue : {m x y r : ℤ} → IsResidue m x r → y ≡ x → IsResidue m y r
-with_residue {m} {r = r} h is = subst (λ (t : ℤ). IsResidue m t r) (sym is) h
-
-pub hash_first : {m : ℤ} (base : ℤ) → pos 0 <ℤ m → IsResidue m (weighted_sum base []) (pos 0)
-hash_first base up = record { below = record { from_zero = omega arith; below = up }; congruent = congruent-refl (pos 0) }
-
 hash_shifted : {m sum hash shifted r : ℤ} (base byte : ℤ) → AreCongruent m sum hash → IsResidue m (hash *ℤ base) shifted → IsResidue m (shifted +ℤ byte) r → IsResidue m (sum *ℤ base +ℤ byte) r
 hash_shifted base byte h shift last = record {
   below = last.below;
@@ -34,7 +21,8 @@ hash_shifted base byte h shift last = record {
 pub hash_more : {m hash shifted r : ℤ} (base : ℤ) (bytes : List ℕ) (i : ℕ) → i < length bytes → IsResidue m (weighted_sum base (take i bytes)) hash → IsResidue m (hash *ℤ base) shifted
     → IsResidue m (shifted +ℤ pos (slice_index bytes i)) r → IsResidue m (weighted_sum base (take (i + 1) bytes)) r
 hash_more base bytes i within h shift last =
-    with_residue (hash_shifted base (pos (slice_index bytes i)) h.congruent shift last) (ap (λ (k : ℕ). weighted_sum base (take k bytes)) (add-one i) ∙ ap (weighted_sum base) (take-suc bytes i 0 within) ∙ sum_with_last base (take i bytes) (slice_index bytes i))
+    rw (add-one i, take-suc bytes i 0 within, sum_with_last base (take i bytes) (slice_index bytes i))
+    (hash_shifted base (pos (slice_index bytes i)) h.congruent shift last)
 
 pub next_window : {m hash weight first rest shifted r : ℤ} {count : ℕ} (base : ℤ) (leaving entering : ℕ) (kept : List ℕ) → length kept ≡ count → IsResidue m (weighted_sum base (leaving ∷ kept)) hash
     → IsResidue m (int_pow base count) weight → IsResidue m (pos leaving *ℤ weight) first → IsResidue m (hash -ℤ first) rest
@@ -46,4 +34,4 @@ next_window {m} {weight = weight} {rest = rest} base leaving entering kept size 
     let left = congruent-trans (congruent-difference h.congruent gone) at_rest.congruent in
     let same : (top +ℤ weighted_sum base kept) -ℤ top ≡ weighted_sum base kept = omega (arith, linear) in
     let stays : AreCongruent m (weighted_sum base kept) rest = subst (λ (t : ℤ). AreCongruent m t rest) same left in
-    with_residue (hash_shifted base (pos entering) stays shift last) (sum_with_last base kept entering)
+    rw (sum_with_last base kept entering) (hash_shifted base (pos entering) stays shift last)

@@ -5,7 +5,7 @@ ghost use Rattle.num_integer.specs.Divisors.{Divides, IsGreatestCommonDivisor};
 ghost use Rattle.applied.specs.ReducedPairs.{IsReducedPair};
 
 use num_integer::Fits;
-use num_integer::operators::{is_negative, is_zero, negated, one, quotient};
+use num_integer::operators::{is_negative, is_one, is_zero, negated, quotient};
 
 /// Returns `true` if the greatest common divisor of the numbers is 1. `is_coprime(8, 15)` is `true`,
 /// `is_coprime(8, 6)` is `false`, and `is_coprime(i8::MIN, 0)` is `false`.
@@ -13,7 +13,7 @@ pub fn is_coprime<T: Fits>(a: T, b: T) -> bool
     requires in_range { T.fits (T.value a) × T.fits (T.value b) }
     ensures { IsTrue result ↔ IsGreatestCommonDivisor (T.value a) (T.value b) (pos 1) }
 {
-    signed_gcd(a, b) == one()
+    is_one(signed_gcd(a, b))
 }
 
 /// Returns both numbers divided by their greatest common divisor, with their signs. `reduced(1920, 1080)` is
@@ -53,6 +53,7 @@ pub(crate) fn signed_gcd<T: Fits>(a: T, b: T) -> T
 }
 
 /// Returns `n` divided by the magnitude of `d`, which divides it.
+#[tactic(auto, using(crate::proofs::ReducedPairs::part_steps))]
 fn divided_by_magnitude<T: Fits>(n: T, d: T) -> T
     requires in_range { T.fits (T.value n) × T.fits (T.value d) }
     requires nonzero { T.value d ≢ pos 0 }

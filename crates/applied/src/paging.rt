@@ -1,13 +1,14 @@
 //! Items on pages of equal size, and in parts of nearly equal size.
 
 ghost use Rattle.std.specs.Prelude.{◌≡◌, ◌≤ℤ◌, ◌<ℤ◌, ◌*ℤ◌, ℤ, pos, IfSome};
+ghost use Rattle.std.specs.Int.{int_min};
 ghost use Rattle.num_integer.specs.Checked.{AnswersWhere};
 ghost use Rattle.num_integer.specs.Only.{IsOnly};
 ghost use Rattle.num_integer.specs.Range.{EachFits};
 ghost use Rattle.applied.specs.Paging.{IsPlace, IsRangeOfPage, IsRangeOfPart, cut_at};
 
 use num_integer::operators::{difference, is_below, is_negative, product, successor, sum};
-use num_integer::{Fits, Integer, checked, div_ceil, div_mod_floor};
+use num_integer::{Fits, Integer, checked, div_ceil, div_floor, div_mod_floor};
 
 /// Returns the smallest number of pages that hold all items. `pages(10, 4)` is `3`, and `pages(-9, 4)` is
 /// `-2`.
@@ -45,6 +46,7 @@ pub fn place_of<T: Integer>(item: T, page_size: T) -> (T, T)
 /// `None`.
 ///
 /// May be called if `place` is at least 0 and below `page_size`.
+#[tactic(auto, using(crate::proofs::ItemRanges::item_before))]
 pub fn item_at<T: Fits>(page: T, place: T, page_size: T) -> Option<T>
     requires in_range { T.fits (T.value page) × T.fits (T.value place) × T.fits (T.value page_size) }
     requires place_from_zero { pos 0 ≤ℤ T.value place }
@@ -83,16 +85,17 @@ pub fn range_of_page<T: Integer>(page: T, page_size: T, items: T) -> (T, T)
     ensures only { IsOnly (λ (first, end). IsRangeOfPage (T.value page) (T.value page_size)
         (T.value items) first end) (T.value result.0, T.value result.1) }
 {
-    let (full_pages, rest) = div_mod_floor(items, page_size);
     if is_negative(page) {
-        (items, items)
-    } else if is_below(page, full_pages) {
-        let first = product(page, page_size);
-        (first, sum(first, page_size))
-    } else if is_below(full_pages, page) {
-        (items, items)
+        return (items, items);
+    }
+    if is_below(div_floor(items, page_size), page) {
+        return (items, items);
+    }
+    let first = product(page, page_size);
+    if is_below(difference(items, first), page_size) {
+        (first, items)
     } else {
-        (difference(items, rest), items)
+        (first, sum(first, page_size))
     }
 }
 
@@ -127,10 +130,15 @@ fn start_of<T: Integer>(part: T, size: T, longer: T) -> T
     ensures in_range { T.fits (T.value result) }
     ensures start { T.value result ≡ cut_at (T.value size) (T.value longer) (T.value part) }
 {
-    let items = product(part, size);
-    if is_below(part, longer) {
-        sum(items, part)
-    } else {
-        sum(items, longer)
-    }
+    sum(product(part, size), minimum(part, longer))
+}
+
+/// Returns the smaller of two numbers.
+#[tactic(auto, using(crate::proofs::ItemRanges::minima))]
+fn minimum<T: Integer>(x: T, y: T) -> T
+    requires in_range { T.fits (T.value x) × T.fits (T.value y) }
+    ensures in_range { T.fits (T.value result) }
+    ensures minimum { T.value result ≡ int_min (T.value x) (T.value y) }
+{
+    if is_below(x, y) { x } else { y }
 }

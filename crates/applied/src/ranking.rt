@@ -122,6 +122,7 @@ fn is_within(n: u64, k: u64, limit: u64) -> bool
 /// `next_choice(&mut [2, 3, 4], 5)` is `false`.
 ///
 /// May be called if the numbers increase and are below `n`, which [`is_choice`] tests.
+#[tactic(auto, using(crate::proofs::Choices::last_rank))]
 pub fn next_choice(choice: &mut [u64], n: u64) -> bool
     requires choice { IsChoice n choice.old }
     ensures choice { IsChoice n choice.new }

@@ -46,6 +46,7 @@ pub fn next_meeting_of<T: Modular + Fits>(now: T, schedules: &[Schedule<T>]) -> 
 }
 
 /// Returns the later of `now` and the latest first time of the schedules.
+#[tactic(auto, using(num_integer::proofs::ForCallers::linear))]
 fn latest<T: Integer>(now: T, schedules: &[Schedule<T>]) -> T
     requires now_in_range { T.fits (T.value now) }
     requires in_range { All (λ s. T.fits (T.value s.0) × T.fits (T.value s.1)) schedules.now }

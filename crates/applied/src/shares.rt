@@ -10,6 +10,7 @@ ghost use Rattle.applied.specs.Shares.{AreShares, AreSignedShares, IsNearShare, 
 /// writes nothing if the weights are all 0, or if there is not one share for each weight.
 /// `{ let mut parts = [0; 3]; (shares(100, &[1, 1, 1], &mut parts), parts) }` is `(true, [34, 33, 33])`,
 /// and `shares(100, &[0, 0], &mut [7, 7])` is `false`.
+#[tactic(auto, using(crate::proofs::WeightedShares::none_shared))]
 pub fn shares(amount: u64, weights: &[u64], shares: &mut [u64]) -> bool
     ensures possible { IsTrue result
         ↔ ((length shares.old ≡ length weights.now) × (0 < sum weights.now)) }
@@ -38,6 +39,7 @@ pub fn shares(amount: u64, weights: &[u64], shares: &mut [u64]) -> bool
 /// Returns `false` and writes nothing if the weights are all 0, or if there is not one share for each weight.
 /// `{ let mut parts = [0; 3]; (signed_shares(-100, &[1, 1, 1], &mut parts), parts) }` is
 /// `(true, [-34, -33, -33])`.
+#[tactic(auto, using(crate::proofs::WeightedShares::none_signed))]
 pub fn signed_shares(amount: i64, weights: &[u64], shares: &mut [i64]) -> bool
     ensures possible { IsTrue result
         ↔ ((length shares.old ≡ length weights.now) × (0 < sum weights.now)) }

@@ -10,6 +10,7 @@ use num_integer::operators::{difference, is_below, is_negative, one, successor, 
 
 /// Returns [`factorial`](crate::counting::factorial), the product of the numbers from 1 to `n`, or `None` if `n`
 /// is negative or the factorial does not fit. `factorial(5u8)` is `Some(120)`, and `factorial(6u8)` is `None`.
+#[tactic(auto, using(crate::proofs::FallingFactorials::falling_steps))]
 pub fn factorial<T: Fits>(n: T) -> Option<T>
     requires { T.fits (T.value n) }
     ensures { AnswersWhere
@@ -27,6 +28,7 @@ pub fn factorial<T: Fits>(n: T) -> Option<T>
 /// Returns [`falling`](crate::counting::falling), the product `n * (n - 1) * ..` of `k` factors, or `None` if a
 /// number is negative or the product does not fit. `falling(8u16, 3)` is `Some(336)`, and `falling(8u8, 3)` is
 /// `None`.
+#[tactic(auto, using(crate::proofs::FallingFactorials::falling_steps))]
 pub fn falling<T: Fits>(n: T, k: T) -> Option<T>
     requires in_range { T.fits (T.value n) × T.fits (T.value k) }
     ensures { AnswersWhere
@@ -45,6 +47,7 @@ pub fn falling<T: Fits>(n: T, k: T) -> Option<T>
 
 /// Returns the product of the numbers above `low` up to `high`, or `None` if it does not fit. The loop stops at
 /// the first product that does not.
+#[tactic(auto, using(crate::proofs::FallingFactorials::product_steps))]
 fn product_above<T: Fits>(low: T, high: T) -> Option<T>
     requires in_range { T.fits (T.value low) × T.fits (T.value high) }
     requires from_zero { pos 0 ≤ℤ T.value low }

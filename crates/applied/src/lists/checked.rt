@@ -30,6 +30,7 @@ pub fn gcd_of<T: Fits>(numbers: &[T]) -> Option<T>
 
 /// Returns a number whose magnitude is the greatest common divisor. That of the first numbers may not fit, even
 /// if that of all of them does, so the loop keeps it up to its sign.
+#[tactic(auto, using(crate::proofs::ListDivisors::gcd_of_none))]
 fn signed_gcd_of<T: Fits>(numbers: &[T]) -> T
     requires { All (λ x. T.fits (T.value x)) numbers.now }
     ensures in_range { T.fits (T.value result) }
@@ -46,6 +47,7 @@ fn signed_gcd_of<T: Fits>(numbers: &[T]) -> T
 /// Returns [`lcm_of`](crate::lists::lcm_of), the least common multiple of the numbers, or `None` if it does not
 /// fit. `lcm_of(&[4, 6, 10])` is `Some(60)`, `lcm_of(&[16u8, 17])` is `None`, and `lcm_of(&[16u8, 17, 0])` is
 /// `Some(0)`.
+#[tactic(auto, using(crate::proofs::ListDivisors::lcm_of_none))]
 pub fn lcm_of<T: Fits>(numbers: &[T]) -> Option<T>
     requires in_range { All (λ x. T.fits (T.value x)) numbers.now }
     ensures { AnswersWhere

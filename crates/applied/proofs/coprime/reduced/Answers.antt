@@ -1,7 +1,6 @@
 -- Both numbers are divided by the magnitude of the result of `signed_gcd`.
-use Rattle.std.proofs.lemmas.Bool.{iff_false}
-use Rattle.applied.proofs.ReducedPairs.{reduced_by_gcd}
-use Rattle.applied.proofs.SignedDivisors.{magnitude_positive}
+use Rattle.applied.proofs.Common.{iff_false}
+use Rattle.applied.proofs.ReducedPairs.{reduced_by_gcd, magnitude_positive}
 use Rattle.applied.proofs.coprime.reduced.Goals as goal
 
 pub returns-else-is_zero-clause-reduced : goal.returns-else-is_zero-clause-reduced

@@ -1,4 +1,4 @@
-use Rattle.std.proofs.Common.{subst, sym}
+use Rattle.applied.proofs.Common.{subst, sym}
 use Rattle.applied.proofs.FallingFactorials.{factorial_is}
 use Rattle.applied.proofs.counting.factorial.Goals as goal
 

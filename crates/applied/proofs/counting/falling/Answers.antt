@@ -1,6 +1,5 @@
 use Rattle.std.specs.Prelude.{◌-ℤ◌}
-use Rattle.std.proofs.Common.{arith, inl, subst, sym}
-use Rattle.num_integer.proofs.ForCallers.{from_not_less, linear, within_fits}
+use Rattle.applied.proofs.Common.{arith, inl, subst, sym, from_not_less, linear, within_fits}
 use Rattle.applied.proofs.FallingFactorials.{falling_is}
 use Rattle.applied.proofs.counting.falling.Goals as goal
 

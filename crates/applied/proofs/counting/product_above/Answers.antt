@@ -1,32 +1,20 @@
-use Rattle.std.proofs.Common.{arith}
-use Rattle.num_integer.proofs.ForCallers.{from_not_less, sizes}
-use Rattle.applied.proofs.FallingFactorials.{next_factor_fits, next_product_fits, product_first, product_last, product_next}
+use Rattle.applied.proofs.Common.{arith, from_not_less, fits_below, linear}
+use Rattle.applied.proofs.FallingFactorials.{next_product_fits, product_last}
 use Rattle.applied.proofs.counting.product_above.Goals as goal
-
-pub loop-high-init : goal.loop-high-init
-loop-high-init g c = product_first c.requires.in_range.0 c.one-ways.ensures.in_range c.one-ways.ensures.value c.requires.ordered
 
 pub successor-factor-requires-clause-sum_fits : goal.successor-factor-requires-clause-sum_fits
 successor-factor-requires-clause-sum_fits g c =
-    next_factor_fits c.loop-high.invariant c.requires.from_zero (c.is_below.ensures.0 c.loop-high-test.true) g.met.T.Integer.range_law c.requires.in_range.1
+    let more = c.is_below.ensures.0 c.loop-high-test.true in
+    let at = c.loop-high.invariant.at in
+    fits_below g.met.T.Integer.range_law c.requires.in_range.1 (omega (arith, linear, c.requires.from_zero)) (omega (arith, linear))
 
 pub product-ways-requires-clause-product_fits : goal.product-ways-requires-clause-product_fits
 product-ways-requires-clause-product_fits g c =
     rw c.successor-factor.ensures.value
     (next_product_fits c.loop-high.invariant c.requires.from_zero (c.is_below.ensures.0 c.loop-high-test.true) g.met.T.Integer.range_law c.requires.product_fits)
 
-pub loop-high-preserved : goal.loop-high-preserved
-loop-high-preserved g c =
-    product_next c.loop-high.invariant c.requires.from_zero (c.is_below.ensures.0 c.loop-high-test.true)
-    c.successor-factor.ensures.in_range c.product-ways.ensures.in_range c.successor-factor.ensures.value c.product-ways.ensures.value
-
-pub loop-high-smaller : goal.loop-high-smaller
-loop-high-smaller g c =
-    let more = c.is_below.ensures.0 c.loop-high-test.true in
-    omega (arith, sizes, c.successor-factor.ensures.value)
-
 pub returns : goal.returns
 returns g c = record {
   in_range = c.loop-high.invariant.product_in_range;
-  product = product_last c.loop-high.invariant (from_not_less (λ less. let wrong = c.is_below.ensures.1 less in cc));
+  product = product_last c.loop-high.invariant c.requires.from_zero (from_not_less (λ less. let wrong = c.is_below.ensures.1 less in cc));
 }

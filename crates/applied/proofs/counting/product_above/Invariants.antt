@@ -1,4 +1,5 @@
-use Rattle.std.specs.Prelude.{◌-◌, unsigned_abs}
+use Rattle.std.specs.Prelude.{◌-◌}
+use Rattle.applied.proofs.Common.{unsigned_abs}
 use Rattle.applied.proofs.FallingFactorials.{IsProductSoFar}
 use Rattle.applied.proofs.counting.product_above.Given as goal
 

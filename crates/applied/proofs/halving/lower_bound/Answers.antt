@@ -1,13 +1,5 @@
-use Rattle.std.specs.Prelude.{◌≤◌, ◌<◌, ◌≤ℤ◌, ℕ, ℤ, List, length, slice_index_or, IsSortedByKey}
-use Rattle.std.specs.Cmp.{int_cmp_is}
-use Rattle.std.specs.Ordering.{int_cmp}
-use Rattle.std.specs.declared.cmp.Ordering.TheVariants.{Less}
-use Rattle.std.proofs.Common.{arith, ap, refl}
-use Rattle.std.proofs.lemmas.Cmp.{int_cmp_total}
-use Rattle.std.proofs.lemmas.Int.{by_lt_z, ints}
-use Rattle.std.proofs.lemmas.List.{get_or_read_under}
-use Rattle.std.proofs.lemmas.List.Sorted.{ranks_by, sorted_far}
-use Rattle.num_integer.proofs.ForCallers.{linear}
+use Rattle.std.specs.Prelude.{◌≤◌, ◌<◌, ◌≤ℤ◌}
+use Rattle.applied.proofs.Common.{ℕ, ℤ, List, length, slice_index_or, IsSortedByKey, int_cmp_is, int_cmp, Less, arith, ap, refl, int_cmp_total, by_lt_z, ints, get_or_read_under, ranks_by, sorted_far, linear}
 use Rattle.applied.proofs.halving.lower_bound.Goals as goal
 
 -- in a sorted list no item is above a later one
@@ -18,9 +10,6 @@ ascending value xs up i j d le lt =
     by_lt_z (value (slice_index_or xs j d)) (value (slice_index_or xs i d))
     (λ less. let is = int_cmp_is _ _ Less less in absurd cc)
     (λ fine. fine)
-
-pub loop-low-init : goal.loop-low-init
-loop-low-init g c = record { ordered = omega arith; within = omega arith; below = λ k d from upto. absurd (omega arith); from = λ k d from upto. absurd (omega arith) }
 
 pub loop-low-preserved-then-is_below : goal.loop-low-preserved-then-is_below
 loop-low-preserved-then-is_below g c =

@@ -1,5 +1,5 @@
-use Rattle.std.specs.Prelude.{◌-◌, ◌≤◌, ◌≤ℤ◌, ◌<ℤ◌, length}
-use Rattle.std.specs.List.{AllWithin}
+use Rattle.std.specs.Prelude.{◌-◌, ◌≤◌, ◌≤ℤ◌, ◌<ℤ◌}
+use Rattle.applied.proofs.Common.{length, AllWithin}
 use Rattle.applied.proofs.halving.lower_bound.Given as goal
 
 -- the items before low are below the number, those from high on are not

@@ -1,5 +1,4 @@
-use Rattle.std.proofs.Common.{arith}
-use Rattle.num_integer.proofs.ForCallers.{products}
+use Rattle.applied.proofs.Common.{arith, products}
 use Rattle.applied.proofs.halving.midpoint.Goals as goal
 
 pub returns-clause-one_nearer_at_most : goal.returns-clause-one_nearer_at_most

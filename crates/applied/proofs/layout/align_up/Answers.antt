@@ -1,4 +1,4 @@
-use Rattle.num_integer.proofs.ForCallers.{least_multiple_beyond, next_multiple_least}
+use Rattle.applied.proofs.Common.{least_multiple_beyond, next_multiple_least}
 use Rattle.applied.proofs.layout.align_up.Goals as goal
 
 pub returns-then-next_multiple_fits : goal.returns-then-next_multiple_fits

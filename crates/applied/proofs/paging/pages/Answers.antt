@@ -1,4 +1,4 @@
-use Rattle.num_integer.proofs.ForCallers.{ceiled_quotient_least, positive_quotient_fits}
+use Rattle.applied.proofs.Common.{ceiled_quotient_least, positive_quotient_fits}
 use Rattle.applied.proofs.paging.pages.Goals as goal
 
 pub div_ceil-requires-clause-quotient_fits : goal.div_ceil-requires-clause-quotient_fits

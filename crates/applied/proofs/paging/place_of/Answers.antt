@@ -1,4 +1,4 @@
-use Rattle.num_integer.proofs.ForCallers.{only_pair_by_range, positive_quotient_fits}
+use Rattle.applied.proofs.Common.{only_pair_by_range, positive_quotient_fits}
 use Rattle.applied.proofs.paging.place_of.Goals as goal
 
 pub div_mod_floor-requires-clause-quotient_fits : goal.div_mod_floor-requires-clause-quotient_fits

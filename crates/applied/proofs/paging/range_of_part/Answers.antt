@@ -1,6 +1,5 @@
-use Rattle.std.proofs.Common.{arith}
-use Rattle.num_integer.proofs.ForCallers.{fits_below, linear, positive_quotient_fits}
-use Rattle.applied.proofs.PartRanges.{only_part_range, part_range, start_fits}
+use Rattle.applied.proofs.Common.{arith, fits_below, linear, positive_quotient_fits}
+use Rattle.applied.proofs.ItemRanges.{only_part_range, part_range, start_fits}
 use Rattle.applied.proofs.paging.range_of_part.Goals as goal
 
 pub div_mod_floor-size-requires-clause-quotient_fits : goal.div_mod_floor-size-requires-clause-quotient_fits

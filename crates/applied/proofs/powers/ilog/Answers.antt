@@ -1,18 +1,14 @@
 -- Each iteration divides the rest by the base. When the rest is below the base, the number of divisions is the logarithm.
-use Rattle.std.proofs.Common.{arith}
-use Rattle.num_integer.proofs.ForCallers.{from_not_less, linear, operator_quotient_fits}
-use Rattle.applied.proofs.Logarithms.{below_bound, divided_first, divided_last, divided_next, divided_smaller, few_divisions}
+use Rattle.applied.proofs.Common.{arith, from_not_less, linear, operator_quotient_fits}
+use Rattle.applied.proofs.PowersAndRoots.{divided_last, divided_next, few_divisions}
 use Rattle.applied.proofs.powers.ilog.Goals as goal
-
-pub loop-base-init : goal.loop-base-init
-loop-base-init g c = record { in_range = c.requires.in_range.0; divided = divided_first _ _ c.requires.positive }
 
 pub quotient-rest-requires-clause-quotient_fits : goal.quotient-rest-requires-clause-quotient_fits
 quotient-rest-requires-clause-quotient_fits g c =
     operator_quotient_fits _ _ g.met.T.Integer.range_law c.loop-base.invariant.in_range c.requires.in_range.1 (omega (arith, linear, c.requires.base))
 
 pub overflow_add-degree : goal.overflow_add-degree
-overflow_add-degree g c = omega (arith, few_divisions c.requires.base (below_bound g.met.T.Integer.range_law c.requires.in_range.0) c.loop-base.invariant.divided)
+overflow_add-degree g c = omega (arith, few_divisions g.met.T.Integer.range_law c.requires.in_range.0 c.requires.positive c.requires.base c.loop-base.invariant.divided)
 
 pub loop-base-preserved : goal.loop-base-preserved
 loop-base-preserved g c =
@@ -22,11 +18,8 @@ loop-base-preserved g c =
       divided = rw c.quotient-rest.ensures.value (divided_next c.requires.base enough c.loop-base.invariant.divided);
     }
 
-pub loop-base-smaller : goal.loop-base-smaller
-loop-base-smaller g c = rw c.quotient-rest.ensures.value (divided_smaller _ _ c.requires.base c.loop-base.invariant.divided.positive)
-
-pub returns-clause-logarithm : goal.returns-clause-logarithm
-returns-clause-logarithm g c = divided_last c.requires.base (c.is_below.ensures.0 (cc)) c.loop-base.invariant.divided
-
-pub returns-clause-few : goal.returns-clause-few
-returns-clause-few g c = few_divisions c.requires.base (below_bound g.met.T.Integer.range_law c.requires.in_range.0) c.loop-base.invariant.divided
+pub returns : goal.returns
+returns g c = record {
+  logarithm = divided_last c.requires.base c.requires.positive (c.is_below.ensures.0 (cc)) c.loop-base.invariant.divided;
+  few = few_divisions g.met.T.Integer.range_law c.requires.in_range.0 c.requires.positive c.requires.base c.loop-base.invariant.divided;
+}

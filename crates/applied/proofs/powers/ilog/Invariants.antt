@@ -1,5 +1,5 @@
-use Rattle.std.specs.Prelude.{unsigned_abs}
-use Rattle.applied.proofs.Logarithms.{IsDivided}
+use Rattle.applied.proofs.Common.{unsigned_abs}
+use Rattle.applied.proofs.PowersAndRoots.{IsDivided}
 use Rattle.applied.proofs.powers.ilog.Given as goal
 
 abbrev pub invariant-loop-base : goal.invariant-loop-base

@@ -1,8 +1,7 @@
 -- The loop tries the degrees up to 63. Below 2^64, a power of a higher degree is a square too.
 use Rattle.std.specs.Prelude.{◌≡◌}
-use Rattle.std.proofs.Common.{arith, inl, inr, refl}
-use Rattle.std.proofs.lemmas.Bool.{cases_lt}
-use Rattle.applied.proofs.ExactPowers.{high_power_is_square}
+use Rattle.applied.proofs.Common.{arith, inl, inr, refl, cases_lt}
+use Rattle.applied.proofs.PowersAndRoots.{high_power_is_square}
 use Rattle.applied.proofs.powers.is_perfect_power.Goals as goal
 
 pub loop-degree-preserved : goal.loop-degree-preserved

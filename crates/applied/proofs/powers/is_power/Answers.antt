@@ -1,7 +1,6 @@
 -- `is_power` compares n with the power of its root. The root of a power is exact.
-use Rattle.std.proofs.Common.{◌∙◌, sym}
-use Rattle.num_integer.proofs.ForCallers.{within_fits}
-use Rattle.applied.proofs.ExactPowers.{root_of_power_is_exact, power_of_root_in_range}
+use Rattle.applied.proofs.Common.{◌∙◌, sym, within_fits}
+use Rattle.applied.proofs.PowersAndRoots.{root_of_power_is_exact, power_of_root_in_range}
 use Rattle.applied.proofs.powers.is_power.Goals as goal
 
 pub pow-requires : goal.pow-requires

@@ -1,6 +1,5 @@
 -- `is_square` compares n with the square of its root.
-use Rattle.std.proofs.Common.{◌∙◌, sym}
-use Rattle.num_integer.proofs.ForCallers.{square_root_of_square}
+use Rattle.applied.proofs.Common.{◌∙◌, sym, square_root_of_square}
 use Rattle.applied.proofs.powers.is_square.Goals as goal
 
 pub returns : goal.returns

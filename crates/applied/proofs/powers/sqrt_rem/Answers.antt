@@ -1,7 +1,6 @@
 -- The square of the root is at most n, so the product and the difference are in range.
-use Rattle.std.proofs.Common.{arith, inl}
-use Rattle.num_integer.proofs.ForCallers.{linear, within_fits}
-use Rattle.applied.proofs.Logarithms.{square_rest}
+use Rattle.applied.proofs.Common.{arith, inl, linear, within_fits}
+use Rattle.applied.proofs.PowersAndRoots.{square_rest}
 use Rattle.applied.proofs.powers.sqrt_rem.Goals as goal
 
 pub product-requires-clause-product_fits : goal.product-requires-clause-product_fits

@@ -1,5 +1,5 @@
-use Rattle.std.proofs.Common.{◌≡◌, ◌∙◌, arith, length}
-use Rattle.applied.specs.Ranking.{rank_of}
+use Rattle.std.specs.Prelude.{◌≡◌}
+use Rattle.applied.proofs.Common.{◌∙◌, arith, length, rank_of}
 use Rattle.applied.proofs.Choices.{rank_of_all}
 use Rattle.applied.proofs.ranking.checked_rank.Goals as goal
 

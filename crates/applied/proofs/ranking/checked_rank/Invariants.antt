@@ -1,4 +1,4 @@
-use Rattle.std.proofs.Common.{◌≡◌, ◌<◌, ◌^◌}
+use Rattle.std.specs.Prelude.{◌≡◌, ◌<◌, ◌^◌}
 use Rattle.applied.proofs.Choices.{rank_of_first}
 use Rattle.applied.proofs.ranking.checked_rank.Given as goal
 

@@ -1,7 +1,6 @@
-use Rattle.std.proofs.Common.{◌≡◌, ◌+◌, ◌-◌, arith}
-use Rattle.std.proofs.lemmas.Int.{ints}
-use Rattle.num_integer.specs.Coefficient.{coefficient}
-use Rattle.applied.proofs.Choices.{all_written, none_written, one_more_written, only_choice}
+use Rattle.std.specs.Prelude.{◌≡◌, ◌+◌, ◌-◌}
+use Rattle.applied.proofs.Common.{arith, ints, coefficient}
+use Rattle.applied.proofs.Choices.{all_written, none_written, one_more_written, choice_of_rank_is_only}
 use Rattle.applied.proofs.ranking.choice_of_rank.Goals as goal
 
 pub loop-i-init : goal.loop-i-init
@@ -17,4 +16,4 @@ pub returns : goal.returns
 returns c =
     let none : c.loop-i.i ≡ 0 = omega arith in
     let found = all_written (rw none at c.loop-i.invariant) in
-    record { choice = found; only = only_choice found }
+    record { choice = found; only = choice_of_rank_is_only _ _ _ _ found }

@@ -1,4 +1,4 @@
-use Rattle.std.proofs.Common.{length}
+use Rattle.applied.proofs.Common.{length}
 use Rattle.applied.proofs.Choices.{IsWrittenFrom}
 use Rattle.applied.proofs.ranking.choice_of_rank.Given as goal
 

@@ -1,5 +1,5 @@
-use Rattle.std.proofs.Common.{refl}
-use Rattle.applied.proofs.NextChoices.{last_rank, next_choice_is, raised_is}
+use Rattle.applied.proofs.Common.{refl}
+use Rattle.applied.proofs.Choices.{next_choice_is, raised_is}
 use Rattle.applied.proofs.ranking.next_choice.Goals as goal
 
 pub returns-in-Some-clause-next : goal.returns-in-Some-clause-next
@@ -9,6 +9,3 @@ returns-in-Some-clause-next c =
 
 pub returns-in-Some-clause-choice : goal.returns-in-Some-clause-choice
 returns-in-Some-clause-choice c = (returns-in-Some-clause-next c refl).choice
-
-pub returns-in-None-clause-last : goal.returns-in-None-clause-last
-returns-in-None-clause-last c = λ _. (refl, last_rank _ _ c.in-None.ensures)

@@ -1,5 +1,5 @@
-use Rattle.std.proofs.Common.{◌≡◌, ◌<◌, ◌≤◌, ℕ}
-use Rattle.std.specs.Prelude.{slice_index}
+use Rattle.std.specs.Prelude.{◌≡◌, ◌<◌, ◌≤◌}
+use Rattle.applied.proofs.Common.{ℕ, slice_index}
 use Rattle.applied.proofs.ranking.number_from_zero.Given as goal
 
 abbrev pub invariant-loop-i : goal.invariant-loop-i

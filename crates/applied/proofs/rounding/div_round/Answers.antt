@@ -1,4 +1,4 @@
-use Rattle.std.specs.Prelude.{IsTrue}
+use Rattle.applied.proofs.Common.{IsTrue}
 use Rattle.applied.proofs.NearestQuotients.{nearest_is}
 use Rattle.applied.proofs.rounding.div_round.Goals as goal
 

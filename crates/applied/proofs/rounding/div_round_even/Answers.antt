@@ -1,4 +1,4 @@
-use Rattle.std.specs.Prelude.{IsTrue}
+use Rattle.applied.proofs.Common.{IsTrue}
 use Rattle.applied.proofs.NearestQuotients.{nearest_even_is}
 use Rattle.applied.proofs.rounding.div_round_even.Goals as goal
 

@@ -1,6 +1,4 @@
-use Rattle.std.specs.Prelude.{IsTrue}
-use Rattle.std.proofs.lemmas.Bool.{iff_false}
-use Rattle.num_integer.proofs.ForCallers.{floored_remainder_within}
+use Rattle.applied.proofs.Common.{IsTrue, iff_false, floored_remainder_within}
 use Rattle.applied.proofs.NearestQuotients.{next_fits}
 use Rattle.applied.proofs.rounding.nearer.Goals as goal
 

@@ -1,4 +1,4 @@
-use Rattle.num_integer.proofs.ForCallers.{within_fits}
+use Rattle.applied.proofs.Common.{within_fits}
 use Rattle.applied.proofs.NearestQuotients.{missing_within}
 use Rattle.applied.proofs.rounding.rounds_down.Goals as goal
 

@@ -1,15 +1,5 @@
-use Rattle.std.proofs.Common.{arith}
-use Rattle.std.proofs.lemmas.List.{get_or_read}
-use Rattle.num_integer.proofs.ForCallers.{linear}
+use Rattle.applied.proofs.Common.{arith, get_or_read, linear}
 use Rattle.applied.proofs.schedules.latest.Goals as goal
-
-pub loop-schedule-init : goal.loop-schedule-init
-loop-schedule-init g c = record {
-  in_range = c.requires.now_in_range;
-  from_there = omega (arith, linear);
-  begun = λ i d within. absurd (omega arith);
-  least = λ u above _. above;
-}
 
 pub maximum-latest-requires : goal.maximum-latest-requires
 maximum-latest-requires g c =
@@ -28,13 +18,3 @@ loop-schedule-preserved g c =
           grind (arith, linear, so_far.begun i d, more.from_there, more.holds, get_or_read c.args.schedules.now c.loop-schedule.schedule-index c.schedule-item.result within c.schedule-item.is d);
       least = λ u above begun. more.least u (so_far.least u above begun) (rw (← c.schedule-item.is) at (begun c.loop-schedule.schedule-index c.schedule-item.result within));
     }
-
-pub returns-clause-in_range : goal.returns-clause-in_range
-returns-clause-in_range g c = c.loop-schedule.invariant.in_range
-
-pub returns-clause-latest : goal.returns-clause-latest
-returns-clause-latest g c = record {
-  from_there = c.loop-schedule.invariant.from_there;
-  holds = λ i d within. c.loop-schedule.invariant.begun i d (omega arith);
-  least = c.loop-schedule.invariant.least;
-}

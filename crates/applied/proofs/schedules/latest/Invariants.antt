@@ -1,5 +1,5 @@
-use Rattle.std.specs.Prelude.{◌<◌, ◌≤ℤ◌, ℕ, ℤ, slice_index_or}
-use Rattle.applied.specs.Schedules.{HaveBegun}
+use Rattle.std.specs.Prelude.{◌<◌, ◌≤ℤ◌}
+use Rattle.applied.proofs.Common.{ℕ, ℤ, slice_index_or, HaveBegun}
 use Rattle.applied.proofs.schedules.latest.Given as goal
 
 -- the least time from now on that is not before the first times so far

@@ -1,10 +1,6 @@
-use Rattle.std.proofs.Common.{arith, ℕ}
-use Rattle.std.proofs.lemmas.List.Sums.{get_or-le-sum_by}
-use Rattle.applied.proofs.WeightedShares.{all_shared, none_shared, one_more_shared, shares_are_near, shares_are_only, shares_are_whole}
+use Rattle.applied.proofs.Common.{arith, ℕ, get_or-le-sum_by}
+use Rattle.applied.proofs.WeightedShares.{all_shared, one_more_shared, shares_are_near, shares_are_only, shares_are_whole}
 use Rattle.applied.proofs.shares.shares.Goals as goal
-
-pub loop-i-init : goal.loop-i-init
-loop-i-init c = none_shared (omega arith) (omega arith)
 
 pub next_share-share-requires-clause-within : goal.next_share-share-requires-clause-within
 next_share-share-requires-clause-within c = rw c.total_of-total.ensures (get_or-le-sum_by (λ (x : ℕ). x) c.args.weights.now c.loop-i.i 0 c.loop-i-test.true)

@@ -1,13 +1,6 @@
-use Rattle.std.specs.Prelude.{FitsSigned}
-use Rattle.std.specs.Int.{w64}
-use Rattle.std.proofs.Common.{arith, rules, ℕ}
-use Rattle.std.proofs.lemmas.Int.{ints, to_z-of_z}
-use Rattle.std.proofs.lemmas.List.Sums.{get_or-le-sum_by}
-use Rattle.applied.proofs.SignedShares.{all_signed, none_signed, one_more_signed, signed_shares_are_only, signed_shares_are_whole}
+use Rattle.applied.proofs.Common.{FitsSigned, w64, arith, rules, ℕ, ints, to_z-of_z, get_or-le-sum_by}
+use Rattle.applied.proofs.WeightedShares.{all_signed, one_more_signed, signed_shares_are_only, signed_shares_are_whole}
 use Rattle.applied.proofs.shares.signed_shares.Goals as goal
-
-pub loop-i-init : goal.loop-i-init
-loop-i-init c = none_signed (omega arith) (omega arith)
 
 pub next_share-share-requires-clause-within : goal.next_share-share-requires-clause-within
 next_share-share-requires-clause-within c = rw c.total_of-total.ensures (get_or-le-sum_by (λ (x : ℕ). x) c.args.weights.now c.loop-i.i 0 c.loop-i-test.true)

@@ -1,4 +1,4 @@
-use Rattle.applied.proofs.SignedShares.{AreSignedTo}
+use Rattle.applied.proofs.WeightedShares.{AreSignedTo}
 use Rattle.applied.proofs.shares.signed_shares.Given as goal
 
 abbrev pub invariant-loop-i : goal.invariant-loop-i

@@ -1,5 +1,5 @@
-use Rattle.std.proofs.Common.{◌≡◌, ◌*◌, ◌^◌, ◌≤◌}
-use Rattle.std.specs.Prelude.{sum, take}
+use Rattle.std.specs.Prelude.{◌≡◌, ◌*◌, ◌^◌, ◌≤◌}
+use Rattle.applied.proofs.Common.{sum, take}
 use Rattle.applied.proofs.shares.total_of.Given as goal
 
 abbrev pub invariant-loop-weight : goal.invariant-loop-weight

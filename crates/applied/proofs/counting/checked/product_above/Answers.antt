@@ -1,31 +1,19 @@
-use Rattle.std.proofs.Common.{arith, subst}
-use Rattle.num_integer.proofs.ForCallers.{from_not_less, sizes}
-use Rattle.applied.proofs.FallingFactorials.{next_factor_fits, next_product_fits, product_first, product_last, product_next}
+use Rattle.applied.proofs.Common.{arith, subst, from_not_less, fits_below, linear}
+use Rattle.applied.proofs.FallingFactorials.{next_product_fits, product_last}
 use Rattle.applied.proofs.counting.checked.product_above.Goals as goal
-
-pub loop-high-init : goal.loop-high-init
-loop-high-init g c = product_first c.requires.in_range.0 c.one-ways.ensures.in_range c.one-ways.ensures.value c.requires.ordered
 
 pub successor-factor-requires-clause-sum_fits : goal.successor-factor-requires-clause-sum_fits
 successor-factor-requires-clause-sum_fits g c =
-    next_factor_fits c.loop-high.invariant c.requires.from_zero (c.is_below.ensures.0 c.loop-high-test.true) g.met.T.Integer.range_law c.requires.in_range.1
+    let more = c.is_below.ensures.0 c.loop-high-test.true in
+    let at = c.loop-high.invariant.at in
+    fits_below g.met.T.Integer.range_law c.requires.in_range.1 (omega (arith, linear, c.requires.from_zero)) (omega (arith, linear))
 
 pub returns-in_err-ways : goal.returns-in_err-ways
 returns-in_err-ways g c =
     rw c.from_residual.ensures (λ fits.
     c.in_err-ways.ensures (rw c.successor-factor.ensures.value (next_product_fits c.loop-high.invariant c.requires.from_zero (c.is_below.ensures.0 c.loop-high-test.true) g.met.T.Integer.range_law fits)))
 
-pub loop-high-preserved : goal.loop-high-preserved
-loop-high-preserved g c =
-    product_next c.loop-high.invariant c.requires.from_zero (c.is_below.ensures.0 c.loop-high-test.true)
-    c.successor-factor.ensures.in_range c.in_ok-ways.ensures.1.0 c.successor-factor.ensures.value c.in_ok-ways.ensures.1.1
-
-pub loop-high-smaller : goal.loop-high-smaller
-loop-high-smaller g c =
-    let more = c.is_below.ensures.0 c.loop-high-test.true in
-    omega (arith, sizes, c.successor-factor.ensures.value)
-
 pub returns : goal.returns
 returns g c =
-    let done = product_last c.loop-high.invariant (from_not_less (λ less. let wrong = c.is_below.ensures.1 less in cc)) in
+    let done = product_last c.loop-high.invariant c.requires.from_zero (from_not_less (λ less. let wrong = c.is_below.ensures.1 less in cc)) in
     (subst g.T.Number.fits done c.loop-high.invariant.product_in_range, (c.loop-high.invariant.product_in_range, done))

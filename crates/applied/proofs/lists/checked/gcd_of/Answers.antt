@@ -1,6 +1,5 @@
 -- The result of `signed_gcd_of` is negated if it is negative.
-use Rattle.std.proofs.Common.{arith}
-use Rattle.num_integer.proofs.ForCallers.{from_test, sizes}
+use Rattle.applied.proofs.Common.{arith, from_test, sizes}
 use Rattle.applied.proofs.ListDivisors.{checked_gcd_of, gcd_of_result}
 use Rattle.applied.proofs.lists.checked.gcd_of.Goals as goal
 

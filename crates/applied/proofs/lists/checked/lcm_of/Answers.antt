@@ -1,17 +1,13 @@
 -- A list with a 0 has the least common multiple 0. Otherwise the loop keeps that of the numbers so far: if one of these does not fit, that of
 -- the whole list does not fit either.
-use Rattle.std.proofs.Common.{refl}
-use Rattle.std.proofs.lemmas.List.{take_all}
-use Rattle.applied.proofs.ListMultiples.{lcm_of_result, lcm_of_next, lcm_of_none, lcm_of_out_of_range, lcm_of_with_zero}
+use Rattle.applied.proofs.Common.{refl, take_all}
+use Rattle.applied.proofs.ListDivisors.{lcm_of_result, lcm_of_next, lcm_of_out_of_range, lcm_of_with_zero}
 use Rattle.applied.proofs.lists.checked.lcm_of.Goals as goal
 
 pub returns-then-has_zero : goal.returns-then-has_zero
 returns-then-has_zero g c =
     let found = c.if-has_zero.ensures.zero refl in
     lcm_of_result g.T.Number.fits c.zero.ensures.in_range (rw c.zero.ensures.value (lcm_of_with_zero g.T.Number.value c.args.numbers.now found.0 found.1 found.2))
-
-pub loop-number-init : goal.loop-number-init
-loop-number-init g c = record { in_range = c.one-multiple.ensures.in_range; so_far = rw c.one-multiple.ensures.value lcm_of_none }
 
 pub lcm-requires-clause-y_in_range : goal.lcm-requires-clause-y_in_range
 lcm-requires-clause-y_in_range g c = rw (← c.number-item.is) at (c.requires.in_range c.loop-number.number-index c.number-item.result c.loop-number-test.true)

@@ -1,5 +1,4 @@
-use Rattle.std.specs.Prelude.{map, take}
-use Rattle.applied.specs.Lists.{IsLeastCommonMultipleOf}
+use Rattle.applied.proofs.Common.{map, take, IsLeastCommonMultipleOf}
 use Rattle.applied.proofs.lists.checked.lcm_of.Given as goal
 
 -- the lcm of the numbers so far

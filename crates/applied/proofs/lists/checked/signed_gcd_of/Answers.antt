@@ -1,10 +1,7 @@
 -- The loop keeps a number whose magnitude is the greatest common divisor of the numbers so far.
-use Rattle.std.proofs.lemmas.List.{take_all}
-use Rattle.applied.proofs.ListDivisors.{gcd_of_next, gcd_of_none}
+use Rattle.applied.proofs.Common.{take_all}
+use Rattle.applied.proofs.ListDivisors.{gcd_of_next}
 use Rattle.applied.proofs.lists.checked.signed_gcd_of.Goals as goal
-
-pub loop-number-init : goal.loop-number-init
-loop-number-init g c = record { in_range = c.zero-divisor.ensures.in_range; so_far = rw c.zero-divisor.ensures.value gcd_of_none }
 
 pub signed_gcd-divisor-requires : goal.signed_gcd-divisor-requires
 signed_gcd-divisor-requires g c =

@@ -1,5 +1,4 @@
-use Rattle.std.specs.Prelude.{pos, map, take, unsigned_abs}
-use Rattle.applied.specs.Lists.{IsGreatestCommonDivisorOf}
+use Rattle.applied.proofs.Common.{pos, map, take, unsigned_abs, IsGreatestCommonDivisorOf}
 use Rattle.applied.proofs.lists.checked.signed_gcd_of.Given as goal
 
 -- the magnitude is the gcd of the numbers so far

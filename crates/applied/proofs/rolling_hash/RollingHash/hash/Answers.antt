@@ -1,12 +1,9 @@
-use Rattle.std.specs.Prelude.{pos}
-use Rattle.std.proofs.Common.{arith}
-use Rattle.std.proofs.lemmas.Int.{ints}
-use Rattle.std.proofs.lemmas.List.{take_all}
-use Rattle.applied.proofs.RollingHashes.{hash_first, hash_more}
+use Rattle.applied.proofs.Common.{pos, arith, ints, take_all, congruent-refl}
+use Rattle.applied.proofs.RollingHashes.{hash_more}
 use Rattle.applied.proofs.rolling_hash.RollingHash.hash.Goals as goal
 
 pub loop-byte-init : goal.loop-byte-init
-loop-byte-init c = hash_first (pos c.args.self.now.base) (omega (arith, ints, c.args.self.now.positive))
+loop-byte-init c = record { below = record { from_zero = omega arith; below = omega (arith, ints, c.args.self.now.positive) }; congruent = congruent-refl (pos 0) }
 
 pub loop-byte-preserved : goal.loop-byte-preserved
 loop-byte-preserved c =

@@ -1,6 +1,4 @@
-use Rattle.std.specs.Prelude.{pos, take}
-use Rattle.modular.specs.Congruences.{IsResidue}
-use Rattle.applied.specs.Hashes.{weighted_sum}
+use Rattle.applied.proofs.Common.{pos, take, IsResidue, weighted_sum}
 use Rattle.applied.proofs.rolling_hash.RollingHash.hash.Given as goal
 
 abbrev pub invariant-loop-byte : goal.invariant-loop-byte

@@ -1,4 +1,4 @@
-use Rattle.std.specs.Prelude.{pos}
+use Rattle.applied.proofs.Common.{pos}
 use Rattle.applied.proofs.RollingHashes.{next_window}
 use Rattle.applied.proofs.rolling_hash.RollingHash.slide.Goals as goal
 

@@ -1,0 +1,181 @@
+-- Items and their places, the items of a page, and items cut into parts whose sizes differ by at most 1.
+use Rattle.std.specs.Prelude.{◌≡◌, ◌≤ℤ◌, ◌<ℤ◌, ◌+ℤ◌, ◌-ℤ◌, ◌*ℤ◌}
+use Rattle.applied.proofs.Common.{ℤ, pos, arith, inl, inr, refl, IsOnly, IsRange, expand, linear, product_from_zero, products, within_fits, IsPlace, by_lt_z, IsFloored, floored_range, multiples_apart, IsRangeOfPage, only_ceiled, ℕ, negsuc, zero, suc, ◌∙◌, ap, sym, clamps, ceiled_by_range, comm, fits_below, product_at_most, IsEvenCut, IsRangeOfPart, cut_at}
+
+-- ---- what fits
+
+-- the end of a page, and how far the item is before it
+pub item_before : (p q s : ℤ) → (p +ℤ pos 1) *ℤ s +ℤ (q -ℤ s) ≡ p *ℤ s +ℤ q
+item_before p q s = simp expand (omega (arith, products))
+
+-- at a type that has a page before page 0, how far a place is before the end of its page fits
+pub rest_fits : {fits : ℤ → Type 0} {low high p q s : ℤ} → IsRange fits low high → fits p → fits s → p <ℤ pos 0 → pos 0 ≤ℤ q → q <ℤ s → fits (q -ℤ s)
+rest_fits {p = p} {q = q} {s = s} range page_fits size_fits before from_zero below =
+    let page = (range.between p).0 page_fits in
+    let size = (range.between s).0 size_fits in
+    (range.between (q -ℤ s)).1 (omega (arith, linear, range.low_end))
+
+-- if the item fits, so does the end of its page, before page 0
+pub end_fits : {fits : ℤ → Type 0} {low high p q s : ℤ} → IsRange fits low high → fits (p *ℤ s +ℤ q) → p <ℤ pos 0 → pos 0 ≤ℤ q → q <ℤ s → fits ((p +ℤ pos 1) *ℤ s)
+end_fits {p = p} {q = q} {s = s} range item_fits before from_zero below =
+    let pages = simp expand at (product_from_zero (pos 0 -ℤ (p +ℤ pos 1)) s (omega (arith, linear)) (omega (arith, linear))) in
+    within_fits range item_fits (inr (simp expand (omega (arith, products)), simp expand (omega (arith, products))))
+
+-- from page 0 on the items before the page do
+pub page_fits : {fits : ℤ → Type 0} {low high p q s : ℤ} → IsRange fits low high → fits (p *ℤ s +ℤ q) → pos 0 ≤ℤ p → pos 0 ≤ℤ q → q <ℤ s → fits (p *ℤ s)
+page_fits {p = p} {s = s} range item_fits from_page_zero from_zero below =
+    within_fits range item_fits (inl (product_from_zero p s from_page_zero (omega (arith, linear)), omega (arith, linear)))
+
+pub own_item : {p q s : ℤ} → pos 0 ≤ℤ q → q <ℤ s → IsPlace (p *ℤ s +ℤ q) s p q
+own_item from_zero below = record { equation = refl; from_zero = from_zero; below = below }
+
+-- ---- the range of a page
+
+-- an item lies on a page if it is from the page times its size on, and before the same of the next page
+page_range_is : {page size items first end : ℤ} → pos 0 ≤ℤ first → first ≤ℤ end → end ≤ℤ items
+    → ((item : ℤ) → first ≤ℤ item → item <ℤ end → (pos 0 ≤ℤ item) × ((page *ℤ size) ≤ℤ item) × (item <ℤ (page *ℤ size +ℤ size)))
+    → ((item : ℤ) → pos 0 ≤ℤ item → item <ℤ items → (page *ℤ size) ≤ℤ item → item <ℤ (page *ℤ size +ℤ size) → (first ≤ℤ item) × (item <ℤ end))
+    → (end ≤ℤ first → first ≡ items) → IsRangeOfPage page size items first end
+page_range_is {page} {size} from_zero ordered to_items on back empty = record {
+  from_zero = from_zero;
+  ordered = ordered;
+  to_items = to_items;
+  exactly = λ item. (
+    λ h.
+        let there = on item h.0 h.1 in
+        (there.0, omega (arith, linear), (item -ℤ page *ℤ size, record { equation = omega (arith, linear); from_zero = omega (arith, linear); below = omega (arith, linear) })),
+    λ h.
+        let is = h.2.1 in
+        back item h.0 h.1 (omega (arith, linear, is.equation, is.from_zero)) (omega (arith, linear, is.equation, is.below)),
+  );
+  empty = empty;
+}
+
+-- before page 0 there is no item
+pub none_before : {page size items : ℤ} → pos 0 <ℤ size → pos 0 ≤ℤ items → page <ℤ pos 0 → IsRangeOfPage page size items items items
+none_before {page} {size} up from_zero before =
+    let under = multiples_apart page (pos 0) size up before in
+    page_range_is from_zero (omega (arith, linear)) (omega (arith, linear)) (λ item h k. absurd (omega (arith, linear))) (λ item h k l m. absurd (omega (arith, products))) (λ _. refl)
+
+-- nor on a page after that of the last item
+pub none_after : {page size items full rest : ℤ} → pos 0 <ℤ size → pos 0 ≤ℤ items → IsFloored items size full rest → full <ℤ page → IsRangeOfPage page size items items items
+none_after {page} {size} {full = full} up from_zero division after =
+    let below = floored_range up division in
+    let over = multiples_apart full page size up after in
+    page_range_is from_zero (omega (arith, linear)) (omega (arith, linear)) (λ item h k. absurd (omega (arith, linear))) (λ item h k l m. absurd (omega (arith, linear))) (λ _. refl)
+
+-- any other page begins within the items
+pub begins_in : {page size items full rest : ℤ} → pos 0 <ℤ size → IsFloored items size full rest → pos 0 ≤ℤ page → page ≤ℤ full
+    → (pos 0 ≤ℤ (page *ℤ size)) × ((page *ℤ size) ≤ℤ items)
+begins_in {page} {size} {full = full} up division from_zero to_full =
+    let below = floored_range up division in
+    let most = product_at_most {v = size} {y = size} from_zero to_full (omega (arith, linear)) (omega (arith, linear)) in
+    (product_from_zero page size from_zero (omega (arith, linear)), omega (arith, linear, division.division.equation))
+
+-- it ends with the items, or has all its items
+pub short_page : (page size : ℤ) {items : ℤ} → (pos 0 ≤ℤ (page *ℤ size)) × ((page *ℤ size) ≤ℤ items) → items <ℤ (page *ℤ size +ℤ size)
+    → IsRangeOfPage page size items (page *ℤ size) items
+short_page page size within short = page_range_is within.0 within.1 (omega (arith, linear))
+    (λ item h k. (omega (arith, linear, within.0), h, omega (arith, linear))) (λ item h k l m. (l, k))
+    (λ none. omega (arith, linear, within.1))
+
+pub whole_page : (page size : ℤ) {items : ℤ} → pos 0 <ℤ size → (pos 0 ≤ℤ (page *ℤ size)) × ((page *ℤ size) ≤ℤ items)
+    → (page *ℤ size +ℤ size) ≤ℤ items → IsRangeOfPage page size items (page *ℤ size) (page *ℤ size +ℤ size)
+whole_page page size up within whole = page_range_is within.0 (omega (arith, linear)) whole
+    (λ item h k. (omega (arith, linear, within.0), h, k)) (λ item h k l m. (l, m)) (λ none. absurd (omega (arith, linear)))
+
+-- a range that is not empty lies within each other of the same page
+lies_within : {page size items first end f e : ℤ} → IsRangeOfPage page size items first end → IsRangeOfPage page size items f e → first <ℤ end → (f ≤ℤ first) × (end ≤ℤ e)
+lies_within {first = first} {end = end} h k some =
+    let lowest = (k.exactly first).1 ((h.exactly first).0 (omega (arith, linear), some)) in
+    let highest = (k.exactly (end -ℤ pos 1)).1 ((h.exactly (end -ℤ pos 1)).0 (omega (arith, linear), omega (arith, linear))) in
+    (lowest.0, omega (arith, linear, highest.1))
+
+-- a page has one range
+pub only_page_range : {page size items first end : ℤ} → IsRangeOfPage page size items first end → IsOnly (λ (f, e). IsRangeOfPage page size items f e) (first, end)
+only_page_range {first = first} {end = end} h = λ (f, e) k.
+    let same : (f ≡ first) × (e ≡ end) = by_lt_z first end
+    (λ some. let out = lies_within h k some in grind (arith, linear, lies_within k h))
+    (λ none. let here = h.empty none in grind (arith, linear, lies_within k h, k.empty, h.ordered, k.ordered, h.to_items, k.to_items)) in
+    rw (same.0, same.1) refl
+
+-- ---- where the parts begin
+
+-- what the goal about the smaller of two numbers needs
+pub ruleset minima = (linear, clamps)
+
+even_cut : {parts items size longer : ℤ} → items ≡ size *ℤ parts +ℤ longer → pos 0 ≤ℤ longer → longer <ℤ parts → IsEvenCut parts items (cut_at size longer)
+even_cut {parts} {items} {size} {longer} equation up below = record {
+  begins = omega (arith, products, clamps);
+  ends = omega (arith, linear, clamps, comm parts size);
+  sizes = λ part from_zero within.
+      let next : (part +ℤ pos 1) *ℤ size ≡ part *ℤ size +ℤ size = simp expand (omega (arith, products)) in
+      by_lt_z part longer
+      (λ early.
+      let one : cut_at size longer (part +ℤ pos 1) -ℤ cut_at size longer part ≡ size +ℤ pos 1 = omega (arith, linear, clamps) in
+      let more : (size +ℤ pos 1) *ℤ parts ≡ size *ℤ parts +ℤ parts = simp expand (omega (arith, products)) in
+      rw one (record { remainder = longer -ℤ part -ℤ parts; division = ceiled_by_range (omega (arith, linear)) (omega (arith, linear)) (omega (arith, linear)) }))
+      (λ late.
+      let none : cut_at size longer (part +ℤ pos 1) -ℤ cut_at size longer part ≡ size = omega (arith, linear, clamps) in
+      rw none (record { remainder = longer -ℤ part; division = ceiled_by_range (omega (arith, linear)) (omega (arith, linear)) (omega (arith, linear)) }));
+}
+
+-- ---- the range of a part
+
+-- each part begins within the items
+cut_within : {parts items size longer part : ℤ} → pos 0 <ℤ parts → pos 0 ≤ℤ items → IsFloored items parts size longer → pos 0 ≤ℤ part → part ≤ℤ parts
+    → (pos 0 ≤ℤ (part *ℤ size)) × ((part *ℤ size) ≤ℤ cut_at size longer part) × (cut_at size longer part ≤ℤ items)
+cut_within {parts} {items} {size} {longer} {part} up from_zero division part_up within =
+    let range = floored_range up division in
+    let equation = division.division.equation in
+    let size_up : pos 0 ≤ℤ size = grind (arith, products, multiples_apart size (pos 0) parts up) in
+    let begins = product_from_zero part size part_up size_up in
+    let most = product_at_most {u = part} {v = size} {x = parts} {y = size} part_up within size_up (omega (arith, linear)) in
+    (begins, omega (arith, linear, clamps), omega (arith, linear, clamps, comm parts size))
+
+pub start_fits : {fits : ℤ → Type 0} {low high parts items size longer part : ℤ} → IsRange fits low high → fits items → pos 0 <ℤ parts → pos 0 ≤ℤ items → IsFloored items parts size longer → pos 0 ≤ℤ part → part ≤ℤ parts
+    → fits (part *ℤ size) × fits (cut_at size longer part)
+start_fits range items_fit up from_zero division part_up within =
+    let start = cut_within up from_zero division part_up within in
+    (fits_below range items_fit start.0 (omega (arith, linear, start.1, start.2)), fits_below range items_fit (omega (arith, linear, start.0, start.1)) start.2)
+
+pub part_range : {parts items size longer part : ℤ} → pos 0 ≤ℤ items → IsFloored items parts size longer → pos 0 ≤ℤ part → part <ℤ parts
+    → IsRangeOfPart part parts items (cut_at size longer part) (cut_at size longer (part +ℤ pos 1))
+part_range {parts} {items} {size} {longer} {part} from_zero division part_up within =
+    let up : pos 0 <ℤ parts = omega (arith, linear) in
+    let range = floored_range up division in
+    let equation = division.division.equation in
+    let size_up : pos 0 ≤ℤ size = grind (arith, products, multiples_apart size (pos 0) parts up) in
+    let first = cut_within up from_zero division part_up (omega (arith, linear)) in
+    let end = cut_within {part = part +ℤ pos 1} up from_zero division (omega (arith, linear)) (omega (arith, linear)) in
+    let next : (part +ℤ pos 1) *ℤ size ≡ part *ℤ size +ℤ size = simp expand (omega (arith, products)) in
+    record {
+      from_zero = omega (arith, linear, first.0, first.1);
+      ordered = omega (arith, linear, clamps);
+      to_items = end.2;
+      cut = cut_at size longer;
+      even = even_cut equation range.0 range.1;
+      begins = refl;
+      ends = refl;
+    }
+
+-- ---- the only range
+
+-- each even cut cuts at the same places
+same_cut : {parts items : ℤ} {c d : ℤ → ℤ} (part : ℕ) → pos part ≤ℤ parts → IsEvenCut parts items c → IsEvenCut parts items d → d (pos part) ≡ c (pos part)
+same_cut zero within h k = k.begins ∙ sym h.begins
+same_cut {c = c} {d = d} (suc part) within h k =
+    let before = same_cut part (omega (arith, linear)) h k in
+    let own = h.sizes (pos part) (omega (arith, linear)) (omega (arith, linear)) in
+    let sizes = (only_ceiled own.division (k.sizes (pos part) (omega (arith, linear)) (omega (arith, linear))).division).0 in
+    let next : pos (suc part) ≡ pos part +ℤ pos 1 = omega (arith, linear) in
+    rw next (omega (arith, linear))
+
+-- a part has one range
+pub only_part_range : {part parts items first end : ℤ} → pos 0 ≤ℤ part → part <ℤ parts → IsRangeOfPart part parts items first end → IsOnly (λ (f, e). IsRangeOfPart part parts items f e) (first, end)
+only_part_range {part = pos j} {first = first} {end = end} from_zero within h = λ (f, e) k.
+    let next : pos j +ℤ pos 1 ≡ pos (suc j) = omega (arith, linear) in
+    let begins : f ≡ first = k.begins ∙ same_cut j (omega (arith, linear)) h.even k.even ∙ sym h.begins in
+    let ends : e ≡ end = k.ends ∙ ap k.cut next ∙ same_cut (suc j) (omega (arith, linear)) h.even k.even ∙ sym (h.ends ∙ ap h.cut next) in
+    rw (begins, ends) refl
+only_part_range {part = negsuc j} from_zero within h = absurd (omega (arith, linear))
