@@ -129,7 +129,7 @@ check_dependents() {
 }
 
 # A guard that is taken out is missed by a test: one of each kind. scripts/rust_guards.py takes out all.
-has_each_guard() { TMPDIR=$work python3 scripts/rust_guards.py --self-test positive pair positive_gcd_lcm; }
+has_each_guard() { TMPDIR=$work python3 scripts/rust_guards.py --self-test positive pair gcd_lcm_of_magnitudes; }
 
 # upstream_tests WORD..: runs the tests of num-integer that the words tell cargo.
 upstream_tests() { (cd "$work/upstream" && cargo test --offline "$@"); }

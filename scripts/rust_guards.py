@@ -171,14 +171,14 @@ CODE = {
         ('Copy + Num +', 'Copy + Num + num_traits::NumCast + num_traits::CheckedAdd + num_traits::CheckedSub '
          '+ num_traits::CheckedMul +'),),
     ('integer_core', 'native_integer', 'lcm'): (
-        ('T::from_magnitude(positive_gcd_lcm(self.magnitude(), other.magnitude()).1)',
-         f'crate::guards::number(positive_gcd_lcm(self.magnitude(), other.magnitude()).1, "{LCM}")'),),
+        ('T::from_magnitude(gcd_lcm_of_magnitudes(self.magnitude(), other.magnitude()).1)',
+         f'crate::guards::number(gcd_lcm_of_magnitudes(self.magnitude(), other.magnitude()).1, "{LCM}")'),),
     ('integer_core', 'native_integer', 'gcd_lcm'): (
         ('(T::from_magnitude(gcd), T::from_magnitude(lcm))',
          f'(crate::guards::number(gcd, "{GCD}"), crate::guards::number(lcm, "{LCM}"))'),),
     ('integer_core', 'stein', 'Magnitude'): (('Copy + Unsigned +', 'Copy + Unsigned + num_traits::CheckedMul +'),),
-    ('integer_core', 'stein', 'positive_gcd_lcm'): (
-        ('product(a, quotient(b, gcd))', f'crate::guards::product(a, quotient(b, gcd), "{LCM}")'),),
+    ('integer_core', 'stein', 'gcd_lcm_of_magnitudes'): (
+        ('product(m, quotient(n, gcd))', f'crate::guards::product(m, quotient(n, gcd), "{LCM}")'),),
     ('integer_core', 'stein', 'binary_gcd'): (
         ('T::from_magnitude(gcd)', f'crate::guards::number(gcd, "{GCD}")'),),
     ('num_integer', 'coefficients', 'next_coefficient'): (
@@ -211,7 +211,7 @@ LEFT_TO_BODY = {
 }
 # The functions without a clause that the place of the caller goes through, on the way to a panic.
 WAY = {('integer_core', 'division', 'div_rem'), ('integer_core', 'division', 'div_mod_floor'),
-       ('integer_core', 'stein', 'binary_gcd'), ('integer_core', 'stein', 'positive_gcd_lcm'),
+       ('integer_core', 'stein', 'binary_gcd'), ('integer_core', 'stein', 'gcd_lcm_of_magnitudes'),
        ('num_integer', 'coefficients', 'next_coefficient'), ('num_integer', 'rows', 'item_at'),
        ('num_integer', 'rows', 'next'), ('applied', 'counting', 'product_above')}
 

@@ -2,8 +2,8 @@
 
 use crate::counted::GcdCounted;
 use crate::native::Native;
-use crate::operators::{is_minus_one, is_zero, zero};
-use crate::stein::{binary_gcd, positive_gcd_lcm};
+use crate::operators::{is_minus_one, zero};
+use crate::stein::{binary_gcd, gcd_lcm_of_magnitudes};
 use crate::{Integer, division, divisors};
 use num_traits::PrimInt;
 
@@ -59,17 +59,11 @@ impl<T: Native> Integer for T {
     }
 
     fn lcm(&self, other: &T) -> T {
-        if is_zero(*self) || is_zero(*other) {
-            return zero();
-        }
-        T::from_magnitude(positive_gcd_lcm(self.magnitude(), other.magnitude()).1)
+        T::from_magnitude(gcd_lcm_of_magnitudes(self.magnitude(), other.magnitude()).1)
     }
 
     fn gcd_lcm(&self, other: &T) -> (T, T) {
-        if is_zero(*self) || is_zero(*other) {
-            return (self.gcd(other), zero());
-        }
-        let (gcd, lcm) = positive_gcd_lcm(self.magnitude(), other.magnitude());
+        let (gcd, lcm) = gcd_lcm_of_magnitudes(self.magnitude(), other.magnitude());
         (T::from_magnitude(gcd), T::from_magnitude(lcm))
     }
 }

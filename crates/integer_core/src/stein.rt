@@ -218,16 +218,23 @@ fn shared_power_of_two<M: Magnitude>(a: M, b: M) -> M
     M::from_64_bits(1).times_power_of_two(odd_parts(a, b).2)
 }
 
-/// Returns the greatest common divisor and the least common multiple of two positive numbers.
-pub(crate) fn positive_gcd_lcm<M: Magnitude>(a: M, b: M) -> (M, M)
-    requires operands { ArePositive M.fits (M.value a) (M.value b) }
-    requires lcm_fits { EachFits M.fits (IsLeastCommonMultiple (M.value a) (M.value b)) }
+/// Returns the greatest common divisor and the least common multiple of two magnitudes.
+/// `gcd_lcm_of_magnitudes(0u64, 6)` is `(6, 0)`.
+pub(crate) fn gcd_lcm_of_magnitudes<M: Magnitude>(m: M, n: M) -> (M, M)
+    requires in_range { M.fits (M.value m) × M.fits (M.value n) }
+    requires lcm_fits { EachFits M.fits (IsLeastCommonMultiple (M.value m) (M.value n)) }
     ensures in_range { M.fits (M.value result.0) × M.fits (M.value result.1) }
-    ensures greatest { IsGreatestCommonDivisor (M.value a) (M.value b) (M.value result.0) }
-    ensures least { IsLeastCommonMultiple (M.value a) (M.value b) (M.value result.1) }
+    ensures greatest { IsGreatestCommonDivisor (M.value m) (M.value n) (M.value result.0) }
+    ensures least { IsLeastCommonMultiple (M.value m) (M.value n) (M.value result.1) }
 {
-    let gcd = positive_gcd(a, b).0;
-    (gcd, product(a, quotient(b, gcd)))
+    if is_zero(m) {
+        (n, m)
+    } else if is_zero(n) {
+        (m, n)
+    } else {
+        let gcd = positive_gcd(m, n).0;
+        (gcd, product(m, quotient(n, gcd)))
+    }
 }
 
 /// Returns the greatest common divisor of two magnitudes, and the number of iterations. The loop is not
