@@ -534,7 +534,7 @@ def check(bugs):
 # ---- a test of what is found
 
 # First lines for a bug, and how what is told of each begins.
-BUG = 'crates/integer_core/must-fail/all_are_even.edit'
+BUG = 'crates/integer_core/must-fail-release/all_are_even.edit'
 LINES = (
     ('at is_even(3) it returns true, and its clause asks for false.', ''),
     ('at is_even(3) it returns false, and its clause asks for true.', 'on the sources it returns false, and the line asks for true'),
