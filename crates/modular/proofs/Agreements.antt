@@ -1,19 +1,5 @@
 -- Several congruences: if every two of them agree, they have a common solution, and all their solutions are congruent.
-use Rattle.std.specs.Prelude.{◌≡◌, ◌<◌, ◌≤◌, ◌+◌, ◌≤ℤ◌, ◌<ℤ◌, ◌+ℤ◌, ◌-ℤ◌, ◌*ℤ◌, ℤ, ℕ, pos, neg_ℤ, unsigned_abs, List, [], ◌∷◌, length, Option, Some, None, MatchOption}
-use Rattle.std.specs.List.{All}
-use Rattle.std.proofs.Common.{arith, ◌∙◌, ap, get_or, refl, subst, sym, take}
-use Rattle.std.proofs.lemmas.List.Elements.{All-cons, All-head, All-nil, All-tail}
-use Rattle.num_integer.specs.Checked.{Has}
-use Rattle.num_integer.specs.Range.{IsRange}
-use Rattle.num_integer.specs.Divisors.{Divides, IsGreatestCommonDivisor, IsLeastCommonMultiple}
-use Rattle.num_integer.specs.Least.{IsLeastFrom}
-use Rattle.num_integer.proofs.ForCallers.{Divides-cancel, Divides-sum, Divides-times, Divides-trans, comm, expand, gcd-nonzero, gcd-times, lcm-positive, linear, only_gcd, product_from_zero, products, sizes}
-use Rattle.num_integer.proofs.Laws.{bezout_answer_exists, division_exists, gcd_exists, gcd_times_lcm, lcm_exists}
-use Rattle.modular.specs.declared.common_solutions.CommonSolution.{CommonSolution}
-use Rattle.modular.specs.declared.common_solutions.CommonSolution.TheVariants.{Never, Beyond, At}
-use Rattle.modular.specs.CommonSolutions.{MatchCommonSolution}
-use Rattle.modular.specs.Agreement.{Agree, AgreeInPairs, AgreesWithEach}
-use Rattle.modular.specs.Congruences.{AreCongruent, IsNextCongruent, IsResidueClass, SolvesBothCongruences, SolvesEach}
+use Rattle.modular.proofs.Common.{◌≡◌, ◌<◌, ◌≤◌, ◌+◌, ◌≤ℤ◌, ◌<ℤ◌, ◌+ℤ◌, ◌-ℤ◌, ◌*ℤ◌, ◌∷◌, ◌∙◌, ℤ, ℕ, pos, neg_ℤ, unsigned_abs, List, [], length, Option, Some, None, MatchOption, All, arith, ap, get_or, refl, subst, sym, take, All-cons, All-head, All-nil, All-tail, Has, IsRange, Divides, IsGreatestCommonDivisor, IsLeastCommonMultiple, IsLeastFrom, Divides-cancel, Divides-sum, Divides-times, Divides-trans, comm, expand, gcd-nonzero, gcd-times, lcm-positive, linear, only_gcd, product_from_zero, products, sizes, bezout_answer_exists, division_exists, gcd_exists, gcd_times_lcm, lcm_exists, CommonSolution, Never, Beyond, At, MatchCommonSolution, Agree, AgreeInPairs, AgreesWithEach, AreCongruent, IsNextCongruent, IsResidueClass, IsSystem, SolvesBothCongruences, SolvesEach}
 use Rattle.modular.proofs.ListedItems.{all_items, at_item, one_item_more}
 use Rattle.modular.proofs.Congruences.{congruent-divisor, congruent-refl, congruent-sym, congruent-trans, congruent_by, remainder_is_residue}
 use Rattle.modular.proofs.NextCongruent.{next_congruent_is}
@@ -111,8 +97,14 @@ module _ {X : Type 0} (value : X → ℤ) where
   SolvesAt x c = AreCongruent (value c.1) x (value c.0)
 
   -- what is required of all pairs, of the one at an index
-  pub pair_at : (fits : ℤ → Type 0) (pairs : List (X × X)) (i : ℕ) {x : X × X} → x ≡ get_or pairs i x → i < length pairs → All (IsInRange fits) pairs → All IsPositive pairs → IsInRange fits x × IsPositive x
-  pair_at fits pairs i is within in_range positive = (at_item (IsInRange fits) pairs i is within in_range, at_item IsPositive pairs i is within positive)
+  pub pair_at : (fits : ℤ → Type 0) (pairs : List (X × X)) (i : ℕ) {x : X × X} → x ≡ get_or pairs i x → i < length pairs → IsSystem fits value pairs → IsInRange fits x × IsPositive x
+  pair_at fits pairs i is within system = (at_item (IsInRange fits) pairs i is within system.0, at_item IsPositive pairs i is within system.1)
+
+  -- what is required of the first pair, and of the others
+  pub split_system : (fits : ℤ → Type 0) {c : X × X} {cs pairs : List (X × X)} → pairs ≡ c ∷ cs → IsSystem fits value pairs → (IsInRange fits c × IsPositive c) × IsSystem fits value cs
+  split_system fits {c} {cs} split system =
+      let whole = subst (IsSystem fits value) split system in
+      ((All-head (IsInRange fits) c cs whole.0, All-head IsPositive c cs whole.1), (All-tail (IsInRange fits) c cs whole.0, All-tail IsPositive c cs whole.1))
 
   pub common_with : (cs : List (X × X)) {a m : ℤ} → pos 0 <ℤ m → All IsPositive cs → AgreesWithEach value a m cs → AgreeInPairs value cs → (x : ℤ) × AreCongruent m x a × SolvesEach value cs x
   common_with [] {a} {m} up positive agrees pairs = (a, congruent-refl a, All-nil (SolvesAt a))
@@ -194,7 +186,7 @@ module _ {Each Both : ℤ → Type 0} {from next : ℤ} (narrows : (x : ℤ) →
 
   -- none if the next number that solves two of them is not in the type
   pub none_at_end : {X : Type 0} (value : X → ℤ) {fits : ℤ → Type 0} {low high : ℤ} (found : CommonSolution X) → IsRange fits low high → fits next → ((t : X) → found ≡ At t → ⊥)
-      → MatchCommonSolution found ((x : ℤ) → ¬ (Both x)) ((t : ℤ) × IsLeastFrom next Both t × ¬ (fits t)) (λ t. fits (value t) × IsLeastFrom next Both (value t))
+      → MatchCommonSolution found ((x : ℤ) → ¬ (Both x)) ((t : ℤ) × IsLeastFrom next Both t × ¬ (fits t)) (Has fits value (IsLeastFrom next Both))
       → (x : ℤ) → from ≤ℤ x → Each x → ¬ (fits x)
   none_at_end value Never range next_fits other h = λ x far has _. h x (narrows x has)
   none_at_end value Beyond range next_fits other h = λ x far has x_fits. h.2 (between_fits range next_fits x_fits h.1.from_there (h.1.least x (passed x far has) (narrows x has)))

@@ -1,10 +1,5 @@
 -- Numbers that are coprime to a modulus.
-use Rattle.std.specs.Prelude.{◌≡◌, ◌*◌, ◌/◌, ◌%◌, ◌^◌, ◌-ℤ◌, ◌*ℤ◌, ℕ, ℤ, pos}
-use Rattle.std.proofs.Common.{arith, refl, suc, zero}
-use Rattle.std.proofs.Math.Nat.{pow-succ'}
-use Rattle.std.proofs.lemmas.Int.{ints}
-use Rattle.num_integer.specs.Divisors.{Divides, IsGreatestCommonDivisor}
-use Rattle.num_integer.proofs.ForCallers.{Divides-difference, Divides-trans, coprime_divides, linear, one_divides}
+use Rattle.modular.proofs.Common.{◌≡◌, ◌*◌, ◌/◌, ◌%◌, ◌^◌, ◌-ℤ◌, ◌*ℤ◌, ℕ, ℤ, pos, arith, refl, suc, zero, pow-succ', ints, Divides, IsGreatestCommonDivisor, Divides-difference, Divides-trans, coprime_divides, linear, one_divides}
 
 -- a number is coprime to another if each common divisor divides 1
 coprime_by : {a m : ℤ} → ((d : ℤ) → Divides d a → Divides d m → Divides d (pos 1)) → IsGreatestCommonDivisor a m (pos 1)

@@ -1,15 +1,8 @@
 -- How many congruent numbers a range has.
-use Rattle.std.specs.Prelude.{◌≡◌, ◌≤ℤ◌, ◌<ℤ◌, ◌+ℤ◌, ◌-ℤ◌, ◌*ℤ◌, ℤ, ℕ, zero, suc, pos, unsigned_abs, [], ◌∷◌, Option, Some, None, IfSome, MatchOption}
-use Rattle.std.proofs.Common.{arith, ◌∙◌, ap, inl, refl, subst, sym}
-use Rattle.std.proofs.lemmas.Int.{by_lt_z, ints}
-use Rattle.num_integer.specs.Range.{IsRange}
-use Rattle.num_integer.proofs.ForCallers.{expand, from_not_less, linear, product_from_zero, products, sizes, within_fits}
+use Rattle.modular.proofs.Common.{◌≡◌, ◌≤ℤ◌, ◌<ℤ◌, ◌+ℤ◌, ◌-ℤ◌, ◌*ℤ◌, ◌∷◌, ◌∙◌, ℤ, ℕ, zero, suc, pos, unsigned_abs, [], Option, Some, None, IfSome, MatchOption, arith, ap, inl, refl, subst, sym, by_lt_z, ints, IsRange, expand, from_not_less, linear, product_from_zero, products, sizes, within_fits, IsTimesToReach, IsCountFrom, AreCongruent, IsCountOfCongruent, IsNextCongruent, IsResidue}
 use Rattle.modular.proofs.CommonSolutions.{times_ordered}
 use Rattle.modular.proofs.Congruences.{congruent-sym, congruent-trans, congruent_by}
 use Rattle.modular.proofs.NextCongruent.{next_within_step}
-use Rattle.modular.specs.Times.{IsTimesToReach}
-use Rattle.modular.specs.Counts.{IsCountFrom}
-use Rattle.modular.specs.Congruences.{AreCongruent, IsCountOfCongruent, IsNextCongruent, IsResidue}
 
 -- a congruent number and a step
 step_further : {step t first : ℤ} → AreCongruent step t first → AreCongruent step (t +ℤ step) first

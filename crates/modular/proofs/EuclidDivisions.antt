@@ -1,15 +1,6 @@
 -- Euclid's loop with the magnitudes of the coefficients of a, and what its last division says.
-use Rattle.std.specs.Prelude.{◌≡◌, ◌≢◌, ◌≤ℤ◌, ◌<ℤ◌, ◌+ℤ◌, ◌-ℤ◌, ◌*ℤ◌, ℤ, pos, negsuc, neg_ℤ, Bool, true, false, not}
-use Rattle.std.proofs.Common.{arith, ◌∙◌, inl, refl, subst, sym}
-use Rattle.std.proofs.lemmas.Int.{by_lt_z}
-use Rattle.num_integer.specs.Division.{IsTruncated}
-use Rattle.num_integer.specs.Divisors.{IsGreatestCommonDivisor}
-use Rattle.num_integer.specs.Only.{IsOnly}
-use Rattle.num_integer.specs.Range.{IsRange}
+use Rattle.modular.proofs.Common.{◌≡◌, ◌≢◌, ◌≤ℤ◌, ◌<ℤ◌, ◌+ℤ◌, ◌-ℤ◌, ◌*ℤ◌, ◌∙◌, ℤ, pos, negsuc, neg_ℤ, Bool, true, false, not, arith, inl, refl, subst, sym, by_lt_z, IsTruncated, IsGreatestCommonDivisor, IsOnly, IsRange, Divides-refl, Divides-zero, expand, linear, mul-one, multiples_apart, product_at_most, product_from_zero, products, sizes, within_fits, AreCongruent, IsInverse, IsResidue, LiesBelow}
 use Rattle.modular.proofs.Congruences.{congruent-difference, congruent-gcd, congruent-product, congruent-refl, congruent-sym, congruent-trans, congruent_by, only_inverse}
-use Rattle.num_integer.proofs.ForCallers.{Divides-refl, Divides-zero, expand, linear, mul-one, multiples_apart, product_at_most, product_from_zero, products, sizes, within_fits}
-use Rattle.modular.specs.Congruences.{AreCongruent, IsInverse, IsResidue}
-use Rattle.modular.specs.Below.{LiesBelow}
 
 -- ---- the numbers of the loop
 

@@ -1,3 +1,4 @@
+pub mod Common
 pub mod Congruences
 pub mod CoprimeModuli
 pub mod TwoCongruences

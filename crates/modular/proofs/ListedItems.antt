@@ -1,9 +1,5 @@
 -- A property of each item of a slice, in a loop over it.
-use Rattle.std.specs.Prelude.{◌≡◌, ◌<◌, ◌≤◌, ◌+◌, ℕ, List, length}
-use Rattle.std.specs.List.{All}
-use Rattle.std.proofs.Common.{get_or, subst, sym, take}
-use Rattle.std.proofs.lemmas.List.{take_all}
-use Rattle.std.proofs.lemmas.List.Elements.{All-get_or, All-more}
+use Rattle.modular.proofs.Common.{◌≡◌, ◌<◌, ◌≤◌, ◌+◌, ℕ, List, length, All, get_or, subst, sym, take, take_all, All-get_or, All-more}
 
 module _ {X : Type 0} (Has : X → Type 0) (items : List X) (i : ℕ) where
   -- the item at an index has it

@@ -1,12 +1,5 @@
 -- Inverses modulo 2 ^ 64, by Newton's steps.
-use Rattle.std.specs.Prelude.{◌≡◌, ◌+◌, ◌-◌, ◌*◌, ◌/◌, ◌%◌, ◌^◌, ◌<◌, ◌≤◌, ◌-ℤ◌, ◌*ℤ◌, ℤ, ℕ, pos, neg_ℤ, unsigned_abs}
-use Rattle.std.proofs.Common.{arith, ap, inl, inr, refl, subst, sym, ◌∙◌}
-use Rattle.std.proofs.lemmas.Bool.{cases_lt}
-use Rattle.std.proofs.lemmas.Int.{ints}
-use Rattle.std.proofs.lemmas.Nat.{mod_below, pow-add}
-use Rattle.num_integer.specs.Divisors.{Divides}
-use Rattle.num_integer.proofs.ForCallers.{expand, linear, mul-one, products}
-use Rattle.modular.specs.Congruences.{AreCongruent}
+use Rattle.modular.proofs.Common.{◌≡◌, ◌+◌, ◌-◌, ◌*◌, ◌/◌, ◌%◌, ◌^◌, ◌<◌, ◌≤◌, ◌-ℤ◌, ◌*ℤ◌, ◌∙◌, ℤ, ℕ, pos, neg_ℤ, unsigned_abs, arith, ap, inl, inr, refl, subst, sym, cases_lt, ints, mod_below, pow-add, Divides, expand, linear, mul-one, products, AreCongruent}
 use Rattle.modular.proofs.Congruences.{congruent-difference, congruent-divisor, congruent-equal, congruent-product, congruent-refl, congruent-sym, congruent-trans, congruent_by}
 use Rattle.modular.proofs.BelowModulus.{congruent-rest, natural_residue}
 use Rattle.modular.proofs.WideProducts.{wrapped_difference}

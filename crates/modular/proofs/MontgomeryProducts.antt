@@ -1,12 +1,5 @@
 -- Montgomery products: the multiple of the modulus that is subtracted, and the numbers that Montgomery forms represent.
-use Rattle.std.specs.Prelude.{◌≡◌, ◌+◌, ◌*◌, ◌/◌, ◌%◌, ◌^◌, ◌<◌, ◌-ℤ◌, ◌*ℤ◌, ℤ, ℕ, pos, neg_ℤ}
-use Rattle.std.proofs.Common.{arith, ap, refl, subst, sym}
-use Rattle.std.proofs.Math.Nat.{mul-le-mul_left}
-use Rattle.std.proofs.lemmas.Int.{ints}
-use Rattle.std.proofs.lemmas.Nat.{div-add-mod', div_below, mod_below, same_from_place}
-use Rattle.num_integer.proofs.ForCallers.{expand, linear, mul-neg, mul-one}
-use Rattle.modular.specs.Congruences.{AreCongruent, IsResidue}
-use Rattle.modular.specs.MontgomeryForms.{represented}
+use Rattle.modular.proofs.Common.{◌≡◌, ◌+◌, ◌*◌, ◌/◌, ◌%◌, ◌^◌, ◌<◌, ◌-ℤ◌, ◌*ℤ◌, ℤ, ℕ, pos, neg_ℤ, arith, ap, refl, subst, sym, mul-le-mul_left, ints, div-add-mod', div_below, mod_below, same_from_place, expand, linear, mul-neg, mul-one, AreCongruent, IsResidue, represented}
 use Rattle.modular.proofs.Congruences.{congruent-product, congruent-refl, congruent-sym, congruent-trans, congruent_by}
 use Rattle.modular.proofs.BelowModulus.{natural_residue}
 

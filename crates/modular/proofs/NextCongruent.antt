@@ -1,11 +1,5 @@
 -- The next congruent number and the previous one, and a number that fits the type or is beyond it.
-use Rattle.std.specs.Prelude.{◌≡◌, ◌≤ℤ◌, ◌<ℤ◌, ◌+ℤ◌, ◌-ℤ◌, ℤ, pos, neg_ℤ, Option, Some, None, MatchOption}
-use Rattle.std.proofs.Common.{arith, subst, sym}
-use Rattle.std.proofs.lemmas.Int.{by_lt_z}
-use Rattle.num_integer.specs.Checked.{AnswersWhere, Has}
-use Rattle.num_integer.proofs.ForCallers.{expand, linear, sizes, small_multiple_is_zero}
-use Rattle.modular.specs.CommonSolutions.{MatchWhere}
-use Rattle.modular.specs.Congruences.{AreCongruent, IsNextCongruent, IsPreviousCongruent, IsResidue}
+use Rattle.modular.proofs.Common.{◌≡◌, ◌≤ℤ◌, ◌<ℤ◌, ◌+ℤ◌, ◌-ℤ◌, ℤ, pos, neg_ℤ, Option, Some, None, MatchOption, arith, subst, sym, by_lt_z, AnswersWhere, Has, expand, linear, sizes, small_multiple_is_zero, MatchWhere, AreCongruent, IsNextCongruent, IsPreviousCongruent, IsResidue}
 use Rattle.modular.proofs.Congruences.{congruent-sym, congruent-trans, congruent_by}
 
 -- of two congruent numbers, one that is less than a step further is not the larger

@@ -1,16 +1,5 @@
 -- Numbers modulo an odd number and modulo a power of two, joined to numbers modulo the product of the two.
-use Rattle.std.specs.Prelude.{◌≡◌, ◌+◌, ◌-◌, ◌*◌, ◌/◌, ◌%◌, ◌^◌, ◌<◌, ◌≤◌, ◌+ℤ◌, ◌-ℤ◌, ◌*ℤ◌, ℤ, ℕ, pos}
-use Rattle.std.specs.Int.{int_pow, trailing_zeros, w64}
-use Rattle.std.proofs.Common.{arith, ap, inl, inr, subst}
-use Rattle.std.proofs.Math.Nat.{mul-le-mul_left, mul-le-mul_right, pow-le-pow_right}
-use Rattle.std.proofs.lemmas.Bool.{cases_lt}
-use Rattle.std.proofs.lemmas.Int.{ints}
-use Rattle.std.proofs.lemmas.Nat.{mod_below, pow_pos}
-use Rattle.std.proofs.lemmas.Nat.Bits.{bit_at-trailing_zeros}
-use Rattle.num_integer.specs.Divisors.{Divides}
-use Rattle.num_integer.proofs.ForCallers.{Divides-times, expand, linear, products, shift_back}
-use Rattle.modular.specs.Congruences.{AreCongruent, IsResidue}
-use Rattle.modular.specs.MontgomeryForms.{joined, represented}
+use Rattle.modular.proofs.Common.{◌≡◌, ◌+◌, ◌-◌, ◌*◌, ◌/◌, ◌%◌, ◌^◌, ◌<◌, ◌≤◌, ◌+ℤ◌, ◌-ℤ◌, ◌*ℤ◌, ℤ, ℕ, pos, int_pow, trailing_zeros, w64, arith, ap, inl, inr, subst, mul-le-mul_left, mul-le-mul_right, pow-le-pow_right, cases_lt, ints, mod_below, pow_pos, bit_at-trailing_zeros, Divides, Divides-times, expand, linear, products, shift_back, AreCongruent, IsResidue, joined, represented}
 use Rattle.modular.proofs.Congruences.{congruent-divisor, congruent-product, congruent-refl, congruent-sum, congruent-sym, congruent-trans, congruent_by, residue_of_congruent}
 use Rattle.modular.proofs.PowerTurns.{congruent-power}
 use Rattle.modular.proofs.BelowModulus.{congruent-rest, natural_residue}

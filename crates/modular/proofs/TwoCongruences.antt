@@ -1,13 +1,6 @@
 -- Two congruences at once: where a class of solutions of one meets the other. The numbers are start + m·times, where start is a modulo m,
 -- and m·times solves the gap b - start modulo n.
-use Rattle.std.specs.Prelude.{◌≡◌, ◌≤ℤ◌, ◌<ℤ◌, ◌+ℤ◌, ◌-ℤ◌, ◌*ℤ◌, ℤ, pos, unsigned_abs}
-use Rattle.std.proofs.Common.{arith, ◌∙◌, ap, inl, refl, subst}
-use Rattle.num_integer.specs.Divisors.{IsLeastCommonMultiple}
-use Rattle.num_integer.specs.Least.{IsLeastFrom}
-use Rattle.num_integer.specs.Range.{EachFits, IsRange}
-use Rattle.num_integer.proofs.ForCallers.{cancel, comm, expand, linear, multiples_apart, product_from_zero, sizes, within_fits}
-use Rattle.num_integer.proofs.Laws.{gcd_times_lcm, lcm_exists}
-use Rattle.modular.specs.Congruences.{AreCongruent, IsNextCommonSolution, IsReducedModulus, IsResidue, IsResidueClass, Solves, SolvesBothCongruences}
+use Rattle.modular.proofs.Common.{◌≡◌, ◌≤ℤ◌, ◌<ℤ◌, ◌+ℤ◌, ◌-ℤ◌, ◌*ℤ◌, ◌∙◌, ℤ, pos, unsigned_abs, arith, ap, inl, refl, subst, IsLeastCommonMultiple, IsLeastFrom, EachFits, IsRange, cancel, comm, expand, linear, multiples_apart, product_from_zero, sizes, within_fits, gcd_times_lcm, lcm_exists, AreCongruent, IsNextCommonSolution, IsReducedModulus, IsResidue, IsResidueClass, Solves, SolvesBothCongruences}
 use Rattle.modular.proofs.Congruences.{congruent-difference, congruent-divisor, congruent-refl, congruent-sum, congruent-sym, congruent-trans, congruent_by, gcd_with_modulus_positive}
 
 -- A modulus times the reduced one is the least common multiple.

@@ -1,15 +1,8 @@
 -- Products of residues as magnitudes of 128 bits.
-use Rattle.std.specs.Prelude.{◌≡◌, ◌↔◌, ◌+◌, ◌-◌, ◌*◌, ◌%◌, ◌<◌, ◌≤◌, ◌<ℤ◌, ◌≤ℤ◌, ◌-ℤ◌, ◌*ℤ◌, ℤ, ℕ, pos, unsigned_abs, Bool, true, false, IsTrue, not}
-use Rattle.std.specs.Int.{int_pow}
-use Rattle.std.proofs.Common.{arith, ap, sym}
-use Rattle.std.proofs.lemmas.Int.{ints}
-use Rattle.std.proofs.Math.Bool.{beq}
+use Rattle.modular.proofs.Common.{◌≡◌, ◌↔◌, ◌+◌, ◌-◌, ◌*◌, ◌%◌, ◌<◌, ◌≤◌, ◌<ℤ◌, ◌≤ℤ◌, ◌-ℤ◌, ◌*ℤ◌, ℤ, ℕ, pos, unsigned_abs, Bool, true, false, IsTrue, not, int_pow, arith, ap, sym, ints, beq, expand, mul-neg, products, signed_is, sizes, signed, AreCongruent, IsResidue}
 use Rattle.modular.proofs.Congruences.{congruent-product, congruent_by, residue_of_congruent}
 use Rattle.modular.proofs.BelowModulus.{natural_residue}
 use Rattle.modular.proofs.PowerTurns.{congruent-power}
-use Rattle.num_integer.proofs.ForCallers.{expand, mul-neg, products, signed_is, sizes}
-use Rattle.num_integer.specs.Parts.{signed}
-use Rattle.modular.specs.Congruences.{AreCongruent, IsResidue}
 
 -- a wrapping difference
 pub wrapped_difference : (x : ℕ) {u w : ℕ} → u ≤ w → AreCongruent (pos w) (pos (x + (w - u))) (pos x -ℤ pos u)

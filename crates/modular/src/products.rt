@@ -19,9 +19,8 @@ pub trait Modular: Integer {
     ///
     /// `modulus` must be positive.
     fn product_modulo(&self, other: &Self, modulus: &Self) -> Self
-        requires self_in_range { Self.fits (Self.value self.now) }
-        requires other_in_range { Self.fits (Self.value other.now) }
-        requires modulus_in_range { Self.fits (Self.value modulus.now) }
+        requires in_range { Self.fits (Self.value self.now) × Self.fits (Self.value other.now)
+            × Self.fits (Self.value modulus.now) }
         requires positive { pos 0 <ℤ Self.value modulus.now }
         ensures in_range { Self.fits (Self.value result) }
         ensures residue { IsResidue (Self.value modulus.now)
@@ -41,8 +40,7 @@ pub trait Modular: Integer {
     /// `modulus` must be positive.
     #[tactic(auto, using(crate::proofs::PowerTurns::residue_of_power))]
     fn power_modulo_counted(&self, exponent: u128, modulus: &Self) -> (Self, u32)
-        requires self_in_range { Self.fits (Self.value self.now) }
-        requires modulus_in_range { Self.fits (Self.value modulus.now) }
+        requires in_range { Self.fits (Self.value self.now) × Self.fits (Self.value modulus.now) }
         requires positive { pos 0 <ℤ Self.value modulus.now }
         ensures in_range { Self.fits (Self.value result.0) }
         ensures residue { IsResidue (Self.value modulus.now)
@@ -71,9 +69,7 @@ pub trait Modular: Integer {
 ///
 /// `m` must be positive.
 pub fn product_modulo<T: Modular>(a: T, b: T, m: T) -> T
-    requires a_in_range { T.fits (T.value a) }
-    requires b_in_range { T.fits (T.value b) }
-    requires m_in_range { T.fits (T.value m) }
+    requires in_range { T.fits (T.value a) × T.fits (T.value b) × T.fits (T.value m) }
     requires positive { pos 0 <ℤ T.value m }
     ensures in_range { T.fits (T.value result) }
     ensures residue { IsResidue (T.value m) (T.value a *ℤ T.value b) (T.value result) }
@@ -86,8 +82,7 @@ pub fn product_modulo<T: Modular>(a: T, b: T, m: T) -> T
 ///
 /// `m` must be positive.
 pub fn power_modulo<T: Modular>(a: T, exponent: u128, m: T) -> T
-    requires a_in_range { T.fits (T.value a) }
-    requires m_in_range { T.fits (T.value m) }
+    requires in_range { T.fits (T.value a) × T.fits (T.value m) }
     requires positive { pos 0 <ℤ T.value m }
     ensures in_range { T.fits (T.value result) }
     ensures residue { IsResidue (T.value m) (int_pow (T.value a) exponent) (T.value result) }
@@ -100,8 +95,7 @@ pub fn power_modulo<T: Modular>(a: T, exponent: u128, m: T) -> T
 ///
 /// `m` must be positive.
 pub fn power_modulo_counted<T: Modular>(a: T, exponent: u128, m: T) -> (T, u32)
-    requires a_in_range { T.fits (T.value a) }
-    requires m_in_range { T.fits (T.value m) }
+    requires in_range { T.fits (T.value a) × T.fits (T.value m) }
     requires positive { pos 0 <ℤ T.value m }
     ensures in_range { T.fits (T.value result.0) }
     ensures residue { IsResidue (T.value m) (int_pow (T.value a) exponent) (T.value result.0) }

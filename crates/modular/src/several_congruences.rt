@@ -4,7 +4,7 @@ ghost use Rattle.std.specs.Prelude.{◌↔◌, ◌<ℤ◌, ◌≤ℤ◌, ℤ, po
 ghost use Rattle.std.specs.List.{All};
 ghost use Rattle.modular.specs.Agreement.{AgreesWithEach};
 ghost use Rattle.modular.specs.CommonSolutions.{MatchCommonSolution};
-ghost use Rattle.modular.specs.Congruences.{SolvesBothCongruences, SolvesEach};
+ghost use Rattle.modular.specs.Congruences.{IsSystem, SolvesBothCongruences, SolvesEach};
 ghost use Rattle.num_integer.specs.Checked.{Has};
 ghost use Rattle.num_integer.specs.Least.{IsLeastFrom};
 
@@ -32,8 +32,7 @@ pub fn next_common_solution_of<T: Modular + Fits>(
         ((x : ℤ) → ¬ (SolvesEach T.value congruences.now x))
         ((t : ℤ) × IsLeastFrom (T.value from) (SolvesEach T.value congruences.now) t
         × ¬ (T.fits t))
-        (λ t. T.fits (T.value t)
-        × IsLeastFrom (T.value from) (SolvesEach T.value congruences.now) (T.value t)) }
+        (Has T.fits T.value (IsLeastFrom (T.value from) (SolvesEach T.value congruences.now))) }
 {
     match least_solution(from, congruences) {
         Some(solution) => CommonSolution::At(solution),
@@ -50,9 +49,8 @@ pub fn next_common_solution_of<T: Modular + Fits>(
 /// Returns the smallest solution from `from` on, or `None` if it does not fit. It combines the
 /// congruences one by one into a residue class, until the step of the class no longer fits.
 fn least_solution<T: Modular + Fits>(from: T, congruences: &[(T, T)]) -> Option<T>
-    requires from_in_range { T.fits (T.value from) }
-    requires in_range { All (λ c. T.fits (T.value c.0) × T.fits (T.value c.1)) congruences.now }
-    requires positive { All (λ c. pos 0 <ℤ T.value c.1) congruences.now }
+    requires in_range { T.fits (T.value from) }
+    requires system { IsSystem T.fits T.value congruences.now }
     ensures { MatchOption result
         ((t : ℤ) → T.value from ≤ℤ t → SolvesEach T.value congruences.now t → ¬ (T.fits t))
         (Has T.fits T.value (IsLeastFrom (T.value from) (SolvesEach T.value congruences.now))) }
@@ -77,12 +75,11 @@ fn least_candidate<T: Modular + Fits>(
     second: (T, T),
     congruences: &[(T, T)],
 ) -> Option<T>
-    requires pairs_in_range { T.fits (T.value from) × T.fits (T.value first.0) × T.fits (T.value first.1)
+    requires in_range { T.fits (T.value from) × T.fits (T.value first.0) × T.fits (T.value first.1)
         × T.fits (T.value second.0) × T.fits (T.value second.1) }
     requires first_positive { pos 0 <ℤ T.value first.1 }
     requires second_positive { pos 0 <ℤ T.value second.1 }
-    requires in_range { All (λ c. T.fits (T.value c.0) × T.fits (T.value c.1)) congruences.now }
-    requires positive { All (λ c. pos 0 <ℤ T.value c.1) congruences.now }
+    requires system { IsSystem T.fits T.value congruences.now }
     requires candidates { (x : ℤ) → SolvesEach T.value congruences.now x
         → SolvesBothCongruences (T.value first.0) (T.value first.1) (T.value second.0) (T.value second.1) x }
     ensures { MatchOption result
@@ -103,9 +100,8 @@ fn least_candidate<T: Modular + Fits>(
 
 /// Returns `true` if the number solves each congruence.
 fn solves_each<T: Integer>(x: T, congruences: &[(T, T)]) -> bool
-    requires x_in_range { T.fits (T.value x) }
-    requires in_range { All (λ c. T.fits (T.value c.0) × T.fits (T.value c.1)) congruences.now }
-    requires positive { All (λ c. pos 0 <ℤ T.value c.1) congruences.now }
+    requires in_range { T.fits (T.value x) }
+    requires system { IsSystem T.fits T.value congruences.now }
     ensures { IsTrue result ↔ SolvesEach T.value congruences.now (T.value x) }
 {
     for congruence in congruences {
@@ -119,8 +115,7 @@ fn solves_each<T: Integer>(x: T, congruences: &[(T, T)]) -> bool
 
 /// Returns `true` if every two of the congruences agree. Then they have a common solution.
 fn agree_in_pairs<T: Integer>(congruences: &[(T, T)]) -> bool
-    requires in_range { All (λ c. T.fits (T.value c.0) × T.fits (T.value c.1)) congruences.now }
-    requires positive { All (λ c. pos 0 <ℤ T.value c.1) congruences.now }
+    requires system { IsSystem T.fits T.value congruences.now }
     ensures { IsTrue result ↔ ((x : ℤ) × SolvesEach T.value congruences.now x) }
 {
     let mut rest = congruences;
@@ -137,10 +132,9 @@ fn agree_in_pairs<T: Integer>(congruences: &[(T, T)]) -> bool
 /// Returns `true` if `a` is congruent to the first number of each pair, modulo the greatest common divisor of `m` and
 /// the second.
 fn agrees_with_each<T: Integer>(a: T, m: T, others: &[(T, T)]) -> bool
-    requires number_in_range { T.fits (T.value a) × T.fits (T.value m) }
-    requires m_positive { pos 0 <ℤ T.value m }
-    requires in_range { All (λ c. T.fits (T.value c.0) × T.fits (T.value c.1)) others.now }
-    requires positive { All (λ c. pos 0 <ℤ T.value c.1) others.now }
+    requires in_range { T.fits (T.value a) × T.fits (T.value m) }
+    requires positive { pos 0 <ℤ T.value m }
+    requires system { IsSystem T.fits T.value others.now }
     ensures { IsTrue result ↔ AgreesWithEach T.value (T.value a) (T.value m) others.now }
 {
     for other in others {

@@ -1,4 +1,4 @@
-use Rattle.std.proofs.lemmas.Bool.{iff_false}
+use Rattle.modular.proofs.Common.{iff_false}
 use Rattle.modular.proofs.BelowModulus.{below_fits}
 use Rattle.modular.proofs.CommonSolutions.{PartsFit, parts_fit, sum_of_parts, sum_too_large}
 use Rattle.modular.proofs.common_solutions.plus_times.Goals as goal

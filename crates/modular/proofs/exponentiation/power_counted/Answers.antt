@@ -1,4 +1,4 @@
-use Rattle.std.proofs.Common.{arith}
+use Rattle.modular.proofs.Common.{arith}
 use Rattle.modular.proofs.Congruences.{congruent-trans}
 use Rattle.modular.proofs.PowerTurns.{few_halvings, halved_first, halved_turn, powering_first, powering_turn, turns_counted}
 use Rattle.modular.proofs.exponentiation.power_counted.Goals as goal

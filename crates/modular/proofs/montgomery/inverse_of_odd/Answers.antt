@@ -1,5 +1,4 @@
-use Rattle.std.specs.Prelude.{◌^◌, pos}
-use Rattle.std.proofs.Common.{arith, refl}
+use Rattle.modular.proofs.Common.{◌^◌, pos, arith, refl}
 use Rattle.modular.proofs.Congruences.{congruent-divisor}
 use Rattle.modular.proofs.MontgomeryInverses.{inverse_remainder, odd_inverse}
 use Rattle.modular.proofs.montgomery.inverse_of_odd.Goals as goal

@@ -1,5 +1,4 @@
-use Rattle.std.proofs.lemmas.Bool.{iff_false}
-use Rattle.num_integer.proofs.ForCallers.{positive_quotient_fits}
+use Rattle.modular.proofs.Common.{iff_false, positive_quotient_fits}
 use Rattle.modular.proofs.BelowModulus.{below_fits}
 use Rattle.modular.proofs.DoublingTurns.{doubling_first, doubling_last, doubling_turn, halved, positive_two, total_at_one, total_at_zero, two_fits, two_is}
 use Rattle.modular.proofs.products.product_by_doubling.Goals as goal

@@ -1,4 +1,4 @@
-use Rattle.std.specs.Prelude.{unsigned_abs}
+use Rattle.modular.proofs.Common.{unsigned_abs}
 use Rattle.modular.proofs.DoublingTurns.{Doubling}
 use Rattle.modular.proofs.products.product_by_doubling.Given as goal
 

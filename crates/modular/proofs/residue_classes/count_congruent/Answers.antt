@@ -1,4 +1,4 @@
-use Rattle.std.proofs.lemmas.Bool.{iff_false}
+use Rattle.modular.proofs.Common.{iff_false}
 use Rattle.modular.proofs.NextCongruent.{found_or_beyond}
 use Rattle.modular.proofs.Counts.{count_from_zero, counted_by_times, one_more_too_large}
 use Rattle.modular.proofs.residue_classes.count_congruent.Goals as goal

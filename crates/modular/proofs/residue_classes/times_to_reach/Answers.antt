@@ -1,5 +1,4 @@
-use Rattle.std.proofs.lemmas.Bool.{iff_false}
-use Rattle.num_integer.proofs.ForCallers.{positive_quotient_fits}
+use Rattle.modular.proofs.Common.{iff_false, positive_quotient_fits}
 use Rattle.modular.proofs.BelowModulus.{below_positive}
 use Rattle.modular.proofs.CommonSolutions.{next_quotient_fits, reached_by_next, reached_by_quotient}
 use Rattle.modular.proofs.residue_classes.times_to_reach.Goals as goal

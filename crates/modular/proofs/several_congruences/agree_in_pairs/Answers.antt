@@ -1,25 +1,14 @@
-use Rattle.std.proofs.Common.{ap, arith, length, refl, subst, sym}
-use Rattle.std.proofs.lemmas.Bool.{iff_false}
-use Rattle.std.proofs.lemmas.List.Elements.{All-head, All-rest, All-same}
-use Rattle.modular.specs.Agreement.{AgreeInPairs}
-use Rattle.modular.proofs.Agreements.{IsInRange, IsPositive, SolvesAt, agreeing_have_solution, first_agrees, no_pairs, nothing_found}
+use Rattle.modular.proofs.Common.{ap, arith, length, refl, subst, sym, iff_false, All-rest, AgreeInPairs}
+use Rattle.modular.proofs.Agreements.{SolvesAt, agreeing_have_solution, first_agrees, no_pairs, nothing_found, split_system}
 use Rattle.modular.proofs.several_congruences.agree_in_pairs.Goals as goal
 
 pub pairs-init : goal.pairs-init
-pairs-init g c = record { in_range = c.requires.in_range; positive = c.requires.positive; solved = λ x each. each; agree = λ pairs. pairs }
+pairs-init g c = record { system = c.requires.system; solved = λ x each. each; agree = λ pairs. pairs }
 
 pub agrees_with_each-requires : goal.agrees_with_each-requires
 agrees_with_each-requires g c =
-    let value = g.T.Number.value in
-    let kept = c.pairs.invariant in
-    let split = c.in-Some.ensures.cases.0 in
-    let head = All-head (IsInRange value g.T.Number.fits) _ _ (All-same (IsInRange value g.T.Number.fits) _ _ (sym split) kept.in_range) in
-    record {
-      number_in_range = head;
-      m_positive = All-head (IsPositive value) _ _ (All-same (IsPositive value) _ _ (sym split) kept.positive);
-      in_range = All-rest (IsInRange value g.T.Number.fits) _ _ _ split kept.in_range;
-      positive = All-rest (IsPositive value) _ _ _ split kept.positive;
-    }
+    let split = split_system g.T.Number.value g.T.Number.fits c.in-Some.ensures.cases.0 c.pairs.invariant.system in
+    record { in_range = split.0.0; positive = split.0.1; system = split.1 }
 
 pub pairs-smaller : goal.pairs-smaller
 pairs-smaller g c = omega (arith, ap length c.in-Some.ensures.cases.0)
@@ -37,8 +26,7 @@ pairs-preserved g c =
     let kept = c.pairs.invariant in
     let split = c.in-Some.ensures.cases.0 in
     record {
-      in_range = All-rest (IsInRange value g.T.Number.fits) _ _ _ split kept.in_range;
-      positive = All-rest (IsPositive value) _ _ _ split kept.positive;
+      system = (split_system value g.T.Number.fits split kept.system).1;
       solved = λ x each. All-rest (SolvesAt value x) _ _ _ split (kept.solved x each);
       agree = λ pairs. kept.agree (subst (AgreeInPairs value) (sym split) (c.agrees_with_each.ensures.0 c.if-not-agrees_with_each.false, pairs));
     }
@@ -46,4 +34,4 @@ pairs-preserved g c =
 pub returns : goal.returns
 returns g c =
     let kept = c.pairs.invariant in
-    ((λ _. agreeing_have_solution g.T.Number.value c.args.congruences.now c.requires.positive (kept.agree (no_pairs g.T.Number.value _ (nothing_found _ c.split_first.result c.in_default.not-Some c.split_first.ensures.cases)))), (λ _. refl))
+    ((λ _. agreeing_have_solution g.T.Number.value c.args.congruences.now c.requires.system.1 (kept.agree (no_pairs g.T.Number.value _ (nothing_found _ c.split_first.result c.in_default.not-Some c.split_first.ensures.cases)))), (λ _. refl))

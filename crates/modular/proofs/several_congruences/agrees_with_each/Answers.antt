@@ -1,12 +1,11 @@
-use Rattle.std.proofs.Common.{refl}
-use Rattle.num_integer.proofs.ForCallers.{gcd_with_positive_fits}
+use Rattle.modular.proofs.Common.{refl, gcd_with_positive_fits}
 use Rattle.modular.proofs.Agreements.{AgreesAt, agree_at_gcd, pair_at}
 use Rattle.modular.proofs.ListedItems.{all_items, one_item_more}
 use Rattle.modular.proofs.several_congruences.agrees_with_each.Goals as goal
 
 pub gcd-requires-clause-gcd_fits : goal.gcd-requires-clause-gcd_fits
 gcd-requires-clause-gcd_fits g c = λ _ z h.
-    let pair = pair_at g.T.Number.value g.T.Number.fits _ _ c.other-item.is c.loop-other-test.true c.requires.in_range c.requires.positive in
+    let pair = pair_at g.T.Number.value g.T.Number.fits _ _ c.other-item.is c.loop-other-test.true c.requires.system in
     gcd_with_positive_fits g.met.T.Integer.range_law pair.0.1 pair.1 h
 
 pub loop-other-preserved : goal.loop-other-preserved

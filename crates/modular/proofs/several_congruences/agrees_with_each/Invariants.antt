@@ -1,5 +1,4 @@
-use Rattle.std.proofs.Common.{take}
-use Rattle.modular.specs.Agreement.{AgreesWithEach}
+use Rattle.modular.proofs.Common.{take, AgreesWithEach}
 use Rattle.modular.proofs.several_congruences.agrees_with_each.Given as goal
 
 abbrev pub invariant-loop-other : goal.invariant-loop-other

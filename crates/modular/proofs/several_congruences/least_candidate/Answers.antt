@@ -1,6 +1,4 @@
-use Rattle.std.proofs.Common.{arith}
-use Rattle.std.proofs.lemmas.Bool.{iff_false}
-use Rattle.num_integer.proofs.ForCallers.{linear}
+use Rattle.modular.proofs.Common.{arith, iff_false, linear}
 use Rattle.modular.proofs.Agreements.{candidate_is_least, candidate_passed, nearer_to_last, none_after_last, none_at_end}
 use Rattle.modular.proofs.several_congruences.least_candidate.Goals as goal
 

@@ -1,5 +1,4 @@
-use Rattle.std.proofs.Common.{◌≤ℤ◌, ◌-ℤ◌, ℤ, unsigned_abs}
-use Rattle.modular.specs.Congruences.{SolvesEach}
+use Rattle.modular.proofs.Common.{◌≤ℤ◌, ◌-ℤ◌, ℤ, unsigned_abs, SolvesEach}
 use Rattle.modular.proofs.several_congruences.least_candidate.Given as goal
 
 abbrev pub invariant-candidates : goal.invariant-candidates

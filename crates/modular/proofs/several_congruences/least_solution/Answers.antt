@@ -14,12 +14,9 @@ least_candidate-requires-clause-candidates g c = narrowed_solves c.loop-congruen
 pub chinese_remainder-requires : goal.chinese_remainder-requires
 chinese_remainder-requires g c =
     let class = c.loop-congruence.invariant in
-    let pair = pair_at g.T.Number.value g.T.Number.fits _ _ c.congruence-item.is c.loop-congruence-test.true c.requires.in_range c.requires.positive in
+    let pair = pair_at g.T.Number.value g.T.Number.fits _ _ c.congruence-item.is c.loop-congruence-test.true c.requires.system in
     record {
-      a_in_range = class.first_in_range;
-      m_in_range = class.step_in_range;
-      b_in_range = pair.0.0;
-      n_in_range = pair.0.1;
+      in_range = (class.first_in_range, class.step_in_range, pair.0.0, pair.0.1);
       m_positive = class.kept.positive;
       n_positive = pair.1;
       lcm_fits = c.lcm_fits.ensures.0 c.if-not-lcm_fits.false;
@@ -31,4 +28,4 @@ loop-congruence-preserved g c =
     record { first_in_range = class.0; step_in_range = class.1; kept = narrowed_more c.loop-congruence.invariant.kept c.congruence-item.is c.loop-congruence-test.true class.2 }
 
 pub returns : goal.returns
-returns g c = least_of_class c.loop-congruence.invariant.kept g.T.Number.value c.next_congruent.result g.met.T.Integer.range_law c.requires.from_in_range c.loop-congruence-test.false c.next_congruent.ensures
+returns g c = least_of_class c.loop-congruence.invariant.kept g.T.Number.value c.next_congruent.result g.met.T.Integer.range_law c.requires.in_range c.loop-congruence-test.false c.next_congruent.ensures

@@ -1,4 +1,4 @@
-use Rattle.std.proofs.lemmas.Bool.{iff_false}
+use Rattle.modular.proofs.Common.{iff_false}
 use Rattle.modular.proofs.Agreements.{least_beyond}
 use Rattle.modular.proofs.several_congruences.next_common_solution_of.Goals as goal
 

@@ -1,12 +1,12 @@
-use Rattle.std.proofs.Common.{refl}
+use Rattle.modular.proofs.Common.{refl}
 use Rattle.modular.proofs.Agreements.{SolvesAt, pair_at}
 use Rattle.modular.proofs.ListedItems.{all_items, one_item_more}
 use Rattle.modular.proofs.several_congruences.solves_each.Goals as goal
 
 pub are_congruent-requires : goal.are_congruent-requires
 are_congruent-requires g c =
-    let pair = pair_at g.T.Number.value g.T.Number.fits _ _ c.congruence-item.is c.loop-congruence-test.true c.requires.in_range c.requires.positive in
-    record { in_range = (c.requires.x_in_range, pair.0.0, pair.0.1); positive = pair.1 }
+    let pair = pair_at g.T.Number.value g.T.Number.fits _ _ c.congruence-item.is c.loop-congruence-test.true c.requires.system in
+    record { in_range = (c.requires.in_range, pair.0.0, pair.0.1); positive = pair.1 }
 
 pub loop-congruence-preserved : goal.loop-congruence-preserved
 loop-congruence-preserved g c =

@@ -1,5 +1,4 @@
-use Rattle.std.proofs.Common.{take}
-use Rattle.modular.specs.Congruences.{SolvesEach}
+use Rattle.modular.proofs.Common.{take, SolvesEach}
 use Rattle.modular.proofs.several_congruences.solves_each.Given as goal
 
 abbrev pub invariant-loop-congruence : goal.invariant-loop-congruence

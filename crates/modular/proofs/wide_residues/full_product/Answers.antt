@@ -1,5 +1,4 @@
-use Rattle.std.specs.Prelude.{◌/◌, ◌%◌, ◌^◌}
-use Rattle.std.proofs.Common.{arith, refl}
+use Rattle.modular.proofs.Common.{◌/◌, ◌%◌, ◌^◌, arith, refl}
 use Rattle.modular.proofs.LongDivision.{product_by_digits}
 use Rattle.modular.proofs.wide_residues.full_product.Goals as goal
 

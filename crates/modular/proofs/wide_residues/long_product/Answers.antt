@@ -1,5 +1,4 @@
-use Rattle.std.specs.Prelude.{◌^◌}
-use Rattle.std.proofs.lemmas.Nat.{pow_pos}
+use Rattle.modular.proofs.Common.{◌^◌, pow_pos}
 use Rattle.modular.proofs.LongDivision.{unscaled}
 use Rattle.modular.proofs.wide_residues.long_product.Goals as goal
 

@@ -1,6 +1,4 @@
-use Rattle.std.specs.Prelude.{◌≡◌, ◌+◌, ◌*◌, ◌/◌, ◌%◌, ◌<◌, ◌^◌, ℕ}
-use Rattle.std.proofs.Common.{arith}
-use Rattle.modular.specs.Below.{IsNaturalRemainder}
+use Rattle.modular.proofs.Common.{◌≡◌, ◌+◌, ◌*◌, ◌/◌, ◌%◌, ◌<◌, ◌^◌, ℕ, arith, IsNaturalRemainder}
 use Rattle.modular.proofs.LongDivision.{remainder_of_digit}
 use Rattle.modular.proofs.wide_residues.next_remainder.Goals as goal
 use Rattle.modular.proofs.wide_residues.next_remainder.Goals.{After-quotient_digit-quotient}

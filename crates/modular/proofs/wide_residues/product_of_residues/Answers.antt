@@ -1,5 +1,4 @@
-use Rattle.std.proofs.Common.{arith}
-use Rattle.std.proofs.lemmas.Int.{ints}
+use Rattle.modular.proofs.Common.{arith, ints}
 use Rattle.modular.proofs.BelowModulus.{natural_residue}
 use Rattle.modular.proofs.wide_residues.product_of_residues.Goals as goal
 

@@ -1,4 +1,4 @@
-use Rattle.std.specs.Prelude.{◌≡◌, ◌+◌, ◌*◌, ◌^◌, ◌<◌}
+use Rattle.modular.proofs.Common.{◌≡◌, ◌+◌, ◌*◌, ◌^◌, ◌<◌}
 use Rattle.modular.proofs.wide_residues.quotient_digit.Given as goal
 
 abbrev pub invariant-guesses : goal.invariant-guesses

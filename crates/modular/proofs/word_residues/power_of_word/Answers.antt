@@ -1,4 +1,4 @@
-use Rattle.std.proofs.Common.{arith}
+use Rattle.modular.proofs.Common.{arith}
 use Rattle.modular.proofs.SplitModuli.{few_twos, power_residue}
 use Rattle.modular.proofs.word_residues.power_of_word.Goals as goal
 

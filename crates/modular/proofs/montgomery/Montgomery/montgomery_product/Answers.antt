@@ -1,4 +1,4 @@
-use Rattle.std.proofs.Common.{◌*◌, arith}
+use Rattle.modular.proofs.Common.{◌*◌, arith}
 use Rattle.modular.proofs.MontgomeryProducts.{montgomery_product_is, subtracted_at_most}
 use Rattle.modular.proofs.montgomery.Montgomery.montgomery_product.Goals as goal
 

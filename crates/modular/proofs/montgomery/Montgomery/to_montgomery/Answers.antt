@@ -1,5 +1,4 @@
-use Rattle.std.proofs.Common.{◌*◌, ◌^◌, arith}
-use Rattle.std.proofs.lemmas.Nat.{mod_below}
+use Rattle.modular.proofs.Common.{◌*◌, ◌^◌, arith, mod_below}
 use Rattle.modular.proofs.montgomery.Montgomery.to_montgomery.Goals as goal
 
 pub overflow_cast-result : goal.overflow_cast-result

@@ -2,4 +2,4 @@ use Rattle.modular.proofs.BelowModulus.{below_fits}
 use Rattle.modular.proofs.products.Modular.power_modulo_counted.Goals as goal
 
 pub returns-clause-in_range : goal.returns-clause-in_range
-returns-clause-in_range g c = below_fits g.met.Self.Integer.range_law c.requires.modulus_in_range c.power_counted.ensures.valid.0
+returns-clause-in_range g c = below_fits g.met.Self.Integer.range_law c.requires.in_range.1 c.power_counted.ensures.valid.0

@@ -1,5 +1,4 @@
-use Rattle.std.proofs.Common.{arith}
-use Rattle.std.proofs.lemmas.Int.{ints}
+use Rattle.modular.proofs.Common.{arith, ints}
 use Rattle.modular.proofs.SplitModuli.{few_twos, residue_joined}
 use Rattle.modular.proofs.word_residues.SplitModulus.residue_of.Goals as goal
 
