@@ -20,10 +20,7 @@ pub fn floored_quotient(n: i64, d: i64) -> Option<i64>
         (¬ ((d ≢ pos 0) × EachFits (FitsSigned w64) (IsQuotient IsFloored n d)))
         (λ q. IsQuotient IsFloored n d q) }
 {
-    match checked::div_floor(n, d) {
-        Some(q) => Some(q),
-        None => None,
-    }
+    checked::div_floor(n, d)
 }
 
 /// Returns the remainder that has the divisor's sign, or `None` if the divisor is 0.
