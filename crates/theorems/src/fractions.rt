@@ -1,13 +1,13 @@
 //! Functions that call `ratio64`. Their contracts state what a caller can prove from its contracts and its laws.
 
-ghost use Rattle.std.specs.Prelude.{◌≡◌, ◌≢◌, ◌↔◌, ◌++◌, ◌<◌, ◌<ℤ◌, ◌+ℤ◌, ◌*ℤ◌, ◌^◌, ◌-ℤ◌, Err, IfOk, IfSome, IsOk, IsTrue, MatchOption, Ok, neg_ℤ, pos, unsigned_abs, ℤ};
+ghost use Rattle.std.specs.Prelude.{◌≡◌, ◌≢◌, ◌↔◌, ◌++◌, ◌<◌, ◌<ℤ◌, ◌+ℤ◌, ◌*ℤ◌, ◌^◌, Err, IfOk, IfSome, IsOk, IsTrue, MatchOption, Ok, neg_ℤ, pos, unsigned_abs, ℤ};
 ghost use Rattle.std.specs.Hash as written;
 ghost use Rattle.std.specs.Int.{int_pow};
 ghost use Rattle.std.specs.List.{fold};
 ghost use Rattle.num_integer.specs.Division.{IsCeiled, IsFloored, IsQuotient};
 ghost use Rattle.num_integer.specs.Divisors.{IsGreatestCommonDivisor};
 ghost use Rattle.num_integer.specs.Only.{IsOnly};
-ghost use Rattle.ratio64.specs.Fraction.{AreEqual, IsExact, IsFraction, IsOutsideI64, IsReduced, fraction_cmp};
+ghost use Rattle.ratio64.specs.Fraction.{AreEqual, IsExact, IsFraction, IsOutsideI64, fraction_cmp};
 ghost use Rattle.ratio64.specs.Limiting.{IsNearestWithin};
 ghost use Rattle.ratio64.specs.Ratio.{AnswersFraction, den_of, num_of};
 ghost use Rattle.ratio64.specs.Rounding.{IsRounded};
@@ -116,27 +116,12 @@ pub fn product_of_new(a: i64, b: i64, c: i64, d: i64) -> Result<Ratio, RatioErro
     Ratio::new(a, b)?.checked_mul(&Ratio::new(c, d)?)
 }
 
-/// Returns the parts of the fraction, which are reduced.
-pub fn reduced_parts(x: &Ratio) -> (i64, i64)
-    ensures { IsReduced result.0 result.1 }
-{
-    (x.num(), x.den())
-}
-
 /// Returns `true` if the fractions are equal.
 pub fn are_equal(x: &Ratio, y: &Ratio) -> bool
     ensures { IsTrue result
         ↔ AreEqual (num_of x.now) (den_of x.now) (num_of y.now) (den_of y.now) }
 {
     x == y
-}
-
-/// Returns the order of the two fractions.
-pub fn compared(x: &Ratio, y: &Ratio) -> Ordering
-    ensures { result
-        ≡ fraction_cmp (num_of x.now) (den_of x.now) (num_of y.now) (den_of y.now) }
-{
-    x.cmp(y)
 }
 
 /// Returns `true` if the three fractions ascend. Then the first is less than the last.
@@ -230,14 +215,6 @@ pub fn parts_floor_and_ceil_of_minus_three_halves() -> Result<(i64, i64, i64, i6
     Ok((x.num(), x.den(), x.floor(), x.ceil())) // (-3, 2, -2, -1)
 }
 
-/// Returns the floor and the ceiling of the fraction.
-pub fn floor_and_ceil(x: &Ratio) -> (i64, i64)
-    ensures floor { IsQuotient IsFloored (num_of x.now) (den_of x.now) result.0 }
-    ensures ceil { IsQuotient IsCeiled (num_of x.now) (den_of x.now) result.1 }
-{
-    (x.floor(), x.ceil())
-}
-
 /// Returns the sum of three fractions. `?` passes each error on.
 pub fn sum_of_three(x: &Ratio, y: &Ratio, z: &Ratio) -> Result<Ratio, RatioError>
     ensures { result ≢ Err RatioError.ZeroDenominator }
@@ -255,32 +232,6 @@ pub fn error_number(num: i64, den: i64) -> u32
         Ok(_) => 0,
         Err(RatioError::ZeroDenominator) => 1,
         Err(RatioError::NotFitting) => 2,
-    }
-}
-
-/// Returns the parts of the difference, or `None` if one of them does not fit.
-pub fn parts_of_difference(x: &Ratio, y: &Ratio) -> Option<(i64, i64)>
-    ensures { MatchOption result
-        (IsOutsideI64 (num_of x.now *ℤ den_of y.now -ℤ num_of y.now *ℤ den_of x.now)
-        (den_of x.now *ℤ den_of y.now))
-        (λ p. IsExact (num_of x.now *ℤ den_of y.now -ℤ num_of y.now *ℤ den_of x.now)
-        (den_of x.now *ℤ den_of y.now) p.0 p.1) }
-{
-    match x.checked_sub(y) {
-        Ok(difference) => Some((difference.num(), difference.den())),
-        Err(_) => None,
-    }
-}
-
-/// Returns the parts of the product, or `None` if one of them does not fit.
-pub fn parts_of_product(x: &Ratio, y: &Ratio) -> Option<(i64, i64)>
-    ensures { MatchOption result
-        (IsOutsideI64 (num_of x.now *ℤ num_of y.now) (den_of x.now *ℤ den_of y.now))
-        (λ p. IsExact (num_of x.now *ℤ num_of y.now) (den_of x.now *ℤ den_of y.now) p.0 p.1) }
-{
-    match x.checked_mul(y) {
-        Ok(product) => Some((product.num(), product.den())),
-        Err(_) => None,
     }
 }
 

@@ -37,9 +37,8 @@
 //! each one is. The other `requires` are the domain of the call, and there is no further condition. The
 //! `specs/` of each crate define the words, with examples.
 
-ghost use Rattle.std.specs.Prelude.{◌≡◌, ◌≢◌, ◌↔◌, ◌+◌, ◌-◌, ◌*◌, ◌^◌, ◌%◌, ◌<◌, ◌≤◌, ◌≤ℤ◌, ◌+ℤ◌, ◌-ℤ◌, ◌*ℤ◌, ℕ, pos, unsigned_abs, [], ◌∷◌, map, Err, IfNone, IfOk, IfSome, IsTrue, FitsSigned, min};
+ghost use Rattle.std.specs.Prelude.{◌≡◌, ◌≢◌, ◌↔◌, ◌+◌, ◌-◌, ◌*◌, ◌^◌, ◌%◌, ◌<◌, ◌≤◌, ◌≤ℤ◌, ◌+ℤ◌, ◌-ℤ◌, ◌*ℤ◌, ℕ, pos, unsigned_abs, [], ◌∷◌, map, All, Err, IfNone, IfOk, IfSome, IsTrue, FitsSigned, min};
 ghost use Rattle.std.specs.Int.{FitsUnsignedBits, w64};
-ghost use Rattle.std.specs.List.{All};
 ghost use Rattle.num_integer.specs.Averages.{IsAverageCeil, IsAverageFloor};
 ghost use Rattle.num_integer.specs.Bezout.{AreEuclidTurns, HasPair, IsBezoutAnswer, IsSmallPair, NeedsBoth};
 ghost use Rattle.num_integer.specs.Coefficient.{coefficient, coefficient_of};
@@ -170,13 +169,6 @@ pub fn greatest_common_divisor<T: Integer>(a: T, b: T) -> T
 pub fn greatest_common_divisor_of_i64(a: i64, b: i64) -> i64
     requires gcd_fits { GcdFits (FitsSigned w64) a b }
     ensures greatest { IsGreatestCommonDivisor a b result }
-{
-    gcd(a, b)
-}
-
-/// Returns the greatest common divisor at `u64`.
-pub fn greatest_common_divisor_of_u64(a: u64, b: u64) -> u64
-    ensures greatest { IsGreatestCommonDivisor (pos a) (pos b) (pos result) }
 {
     gcd(a, b)
 }

@@ -16,7 +16,8 @@
 //! | `residues.rt` | `modular`: residues, inverses, congruences |
 //! | `fractions.rt` | `ratio64`: exact results and errors, order, rounding |
 //! | `dates.rt` | `calendar`: dates and their days, weeks, months, Easter |
-//! | `pages.rt` | `applied`: pages and parts, shares, offsets, schedules, combinations |
+//! | `pages.rt` | `applied`: pages and parts, shares, offsets, schedules |
+//! | `combinations.rt` | `applied`: combinations and their ranks |
 //! | `lists.rt` | `applied`: divisors and multiples of lists, coprime numbers, reduced pairs |
 //! | `rounding.rt` | `applied`: nearest quotients, roots with their remainder, logarithms, factorials |
 //! | `tasks.rt` | everyday tasks: pages of items, a cipher, amounts of money, a recipe |
@@ -27,6 +28,7 @@
 //! No crate depends on this one, and it has no tests.
 #![tactic(auto)]
 
+pub mod combinations;
 pub mod dates;
 pub mod fractions;
 pub mod headline;

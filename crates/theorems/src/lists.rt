@@ -1,8 +1,7 @@
 //! Functions that call `applied` for divisors and multiples of lists, coprime numbers and reduced pairs.
 
-ghost use Rattle.std.specs.Prelude.{◌≡◌, ◌≢◌, ◌↔◌, ◌<◌, ◌*◌, ◌*ℤ◌, FitsSigned, IfSome, IsTrue, MatchOption, map, pos};
+ghost use Rattle.std.specs.Prelude.{◌≡◌, ◌≢◌, ◌↔◌, ◌<◌, ◌*◌, ◌*ℤ◌, All, FitsSigned, IfSome, IsTrue, MatchOption, map, pos};
 ghost use Rattle.std.specs.Int.{FitsUnsignedBits, w64};
-ghost use Rattle.std.specs.List.{All};
 ghost use Rattle.num_integer.specs.Divisors.{IsGreatestCommonDivisor};
 ghost use Rattle.num_integer.specs.Range.{EachFits};
 ghost use Rattle.applied.specs.Lists.{IsGreatestCommonDivisorOf, IsLeastCommonMultipleOf};
@@ -126,8 +125,7 @@ pub fn bytes_are_coprime(a: i8, b: i8) -> bool
 
 /// Returns `true` if two numbers of any type are coprime.
 pub fn are_coprime_at_any_type<T: Fits>(a: T, b: T) -> bool
-    requires a_in_range { T.fits (T.value a) }
-    requires b_in_range { T.fits (T.value b) }
+    requires in_range { T.fits (T.value a) × T.fits (T.value b) }
     ensures { IsTrue result ↔ IsGreatestCommonDivisor (T.value a) (T.value b) (pos 1) }
 {
     is_coprime(a, b)

@@ -1,8 +1,7 @@
 //! Functions that call `modular`. Their contracts state what a caller can prove from its contracts and its laws.
 
-ghost use Rattle.std.specs.Prelude.{◌≡◌, ◌<◌, ◌<ℤ◌, ◌≤ℤ◌, ◌+ℤ◌, FitsSigned, IfSome, IsTrue, MatchOption, Some, pos, ℤ};
+ghost use Rattle.std.specs.Prelude.{◌≡◌, ◌<◌, ◌<ℤ◌, ◌≤ℤ◌, ◌+ℤ◌, All, FitsSigned, IfSome, IsTrue, MatchOption, Some, pos, ℤ};
 ghost use Rattle.std.specs.Int.{int_pow, w64};
-ghost use Rattle.std.specs.List.{All};
 ghost use Rattle.modular.specs.Congruences.{IsCountOfCongruent, IsInverse, IsNextCommonSolution, IsNextCongruent, IsPreviousCongruent, IsQuotientModulo, IsResidue, IsResidueClass, Solves, SolvesBothCongruences, SolvesEach};
 ghost use Rattle.modular.specs.declared.common_solutions.CommonSolution.TheVariants.{At};
 ghost use Rattle.num_integer.specs.Least.{IsLeastFrom};

@@ -11,32 +11,14 @@ ghost use Rattle.ratio64.specs.declared.error.RatioError.{RatioError};
 
 use applied::paging::range_of_page;
 use modular::{difference_modulo, quotient_modulo, residue};
-use num_integer::{Integer, checked};
+use num_integer::checked;
 use ratio64::{Ratio, RatioError};
 
 // ---- pages of items
 
-/// `page_with_place(10, 4)` is `(2, 2)`. Returns the page of an item and its place on the page. Items, pages and
-/// places are counted from 0.
-#[tactic(auto, using(num_integer::proofs::ForCallers::division_is_natural))]
-pub fn page_with_place(item: usize, size: usize) -> (usize, usize)
-    requires { 0 < size }
-    ensures page { result.0 ≡ item / size }
-    ensures place { result.1 ≡ item % size }
-{
-    item.div_mod_floor(&size)
-}
-
-/// Returns the page alone.
-pub fn page_of(item: usize, size: usize) -> usize
-    requires { 0 < size }
-    ensures { result ≡ item / size }
-{
-    item.div_floor(&size)
-}
-
 /// `indices_on_page(2, 4, 10)` is `Some((8, 10))`. Returns the index of the first item of the page and the index
-/// after its last one. Exactly the items of the page are in this range. Returns `None` if the size of a page is 0.
+/// after its last one. Exactly the items of the page are in this range. Pages and items are
+/// counted from 0. Returns `None` if the size of a page is 0.
 pub fn indices_on_page(page: usize, size: usize, items: usize) -> Option<(usize, usize)>
     ensures { MatchOption result (size ≡ 0) (λ r. (r.0 ≤ r.1) × (r.1 ≤ items)
         × ((item : ℕ) → item < items → ((r.0 ≤ item) × (item < r.1)) ↔ (item / size ≡ page))) }

@@ -1,9 +1,8 @@
 //! Functions that call `num_integer::checked` at native types. A program calls them so if it knows nothing of its
 //! numbers.
 
-ghost use Rattle.std.specs.Prelude.{◌≡◌, ◌≢◌, ◌⊎◌, ◌<◌, ◌%◌, ◌^◌, ◌<ℤ◌, ◌+ℤ◌, FitsSigned, IfSome, MatchOption, map, pos};
+ghost use Rattle.std.specs.Prelude.{◌≡◌, ◌≢◌, ◌⊎◌, ◌<◌, ◌%◌, ◌^◌, ◌<ℤ◌, ◌+ℤ◌, All, FitsSigned, IfSome, MatchOption, map, pos};
 ghost use Rattle.std.specs.Int.{FitsUnsignedBits, w64};
-ghost use Rattle.std.specs.List.{All};
 ghost use Rattle.num_integer.specs.Bezout.{IsBezoutAnswer};
 ghost use Rattle.num_integer.specs.Coefficient.{coefficient};
 ghost use Rattle.num_integer.specs.Division.{IsCeiled, IsFloored, IsMultiple, IsQuotient, IsRemainder};
@@ -21,10 +20,7 @@ pub fn floored_quotient(n: i64, d: i64) -> Option<i64>
         (¬ ((d ≢ pos 0) × EachFits (FitsSigned w64) (IsQuotient IsFloored n d)))
         (λ q. IsQuotient IsFloored n d q) }
 {
-    match checked::div_floor(n, d) {
-        Some(q) => Some(q),
-        None => None,
-    }
+    checked::div_floor(n, d)
 }
 
 /// Returns the remainder that has the divisor's sign, or `None` if the divisor is 0.

@@ -8,6 +8,7 @@ ghost use Rattle.num_integer.specs.Divisors.{GcdFits, IsGreatestCommonDivisor};
 ghost use Rattle.num_integer.specs.Range.{EachFits};
 ghost use Rattle.num_integer.specs.Row.{RowFits, row_of};
 
+use crate::headline::row;
 use num_integer::counted::extended_gcd_counted;
 use num_integer::operators::{is_equal, is_one};
 use num_integer::{
@@ -17,8 +18,7 @@ use std::alloc::{AllocError, Global};
 
 /// Returns the greatest common divisor. The condition of `gcd` says that it fits, even at a type without -1.
 pub fn gcd_that_fits<T: Integer>(a: T, b: T) -> T
-    requires a_in_range { T.fits (T.value a) }
-    requires b_in_range { T.fits (T.value b) }
+    requires in_range { T.fits (T.value a) × T.fits (T.value b) }
     requires gcd_fits { GcdFits T.fits (T.value a) (T.value b) }
     ensures fits { EachFits T.fits (IsGreatestCommonDivisor (T.value a) (T.value b)) }
     ensures greatest { IsGreatestCommonDivisor (T.value a) (T.value b) (T.value result) }
@@ -46,8 +46,7 @@ pub fn equal_and_one<T: Integer>(a: T, b: T) -> (bool, bool)
 /// Returns the quotient rounded down and its remainder. The quotient times the divisor and the remainder add up to
 /// the number.
 pub fn floored_parts<T: Integer>(n: T, d: T) -> (T, T)
-    requires n_in_range { T.fits (T.value n) }
-    requires d_in_range { T.fits (T.value d) }
+    requires in_range { T.fits (T.value n) × T.fits (T.value d) }
     requires nonzero { T.value d ≢ pos 0 }
     requires quotient_fits { EachFits T.fits (IsQuotient IsFloored (T.value n) (T.value d)) }
     ensures sum { T.value result.0 *ℤ T.value d +ℤ T.value result.1 ≡ T.value n }
@@ -58,18 +57,8 @@ pub fn floored_parts<T: Integer>(n: T, d: T) -> (T, T)
 }
 
 /// Returns `(true, true)`: the greatest common divisor with a positive number and the quotient by it fit.
-pub fn tests_with_positive(a: i64, b: i64) -> (bool, bool)
-    requires { pos 0 <ℤ b }
-    ensures gcd { IsTrue result.0 }
-    ensures quotient { IsTrue result.1 }
-{
-    (a.gcd_fits(&b), a.quotient_fits(&b))
-}
-
-/// Returns the same at any type.
-pub fn tests_with_positive_at_any_type<T: Fits>(a: T, b: T) -> (bool, bool)
-    requires a_in_range { T.fits (T.value a) }
-    requires b_in_range { T.fits (T.value b) }
+pub fn tests_with_positive<T: Fits>(a: T, b: T) -> (bool, bool)
+    requires in_range { T.fits (T.value a) × T.fits (T.value b) }
     requires positive { pos 0 <ℤ T.value b }
     ensures gcd { IsTrue result.0 }
     ensures quotient { IsTrue result.1 }
@@ -79,8 +68,7 @@ pub fn tests_with_positive_at_any_type<T: Fits>(a: T, b: T) -> (bool, bool)
 
 /// Returns the quotient rounded down by `div_floor` and by `div_mod_floor`. The two are equal.
 pub fn floored_by_two_calls<T: Integer>(n: T, d: T) -> (T, T)
-    requires n_in_range { T.fits (T.value n) }
-    requires d_in_range { T.fits (T.value d) }
+    requires in_range { T.fits (T.value n) × T.fits (T.value d) }
     requires nonzero { T.value d ≢ pos 0 }
     requires quotient_fits { EachFits T.fits (IsQuotient IsFloored (T.value n) (T.value d)) }
     ensures { T.value result.0 ≡ T.value result.1 }
@@ -90,8 +78,7 @@ pub fn floored_by_two_calls<T: Integer>(n: T, d: T) -> (T, T)
 
 /// Returns the Bezout pair by `extended_gcd` and by the call that counts the iterations. The two are equal.
 pub fn pairs_by_two_calls<T: Integer>(a: T, b: T) -> (ExtendedGcd<T>, ExtendedGcd<T>)
-    requires a_in_range { T.fits (T.value a) }
-    requires b_in_range { T.fits (T.value b) }
+    requires in_range { T.fits (T.value a) × T.fits (T.value b) }
     requires gcd_fits { GcdFits T.fits (T.value a) (T.value b) }
     requires has_pair { HasPair T.fits (T.value a) (T.value b) }
     ensures gcd { T.value result.0.gcd ≡ T.value result.1.gcd }
@@ -99,15 +86,6 @@ pub fn pairs_by_two_calls<T: Integer>(a: T, b: T) -> (ExtendedGcd<T>, ExtendedGc
     ensures y { T.value result.0.y ≡ T.value result.1.y }
 {
     (a.extended_gcd(&b), extended_gcd_counted(a, b).0)
-}
-
-/// Collects a whole row.
-pub fn row<T: Integer>(alloc: Global, n: T) -> Result<Vec<T>, AllocError>
-    requires in_range { T.fits (T.value n) }
-    requires row_fits { RowFits T.fits (T.value n) }
-    ensures { IfOk result (λ v. map T.value v.items ≡ row_of (T.value n)) }
-{
-    IterBinomial::new(n).collect(alloc)
 }
 
 /// Collects a whole row by a loop that pushes each item.
@@ -133,15 +111,7 @@ pub fn row_length<T: Integer>(n: T) -> usize
     IterBinomial::new(n).count()
 }
 
-/// Collects the row of a byte.
-pub fn byte_row(alloc: Global, n: u8) -> Result<Vec<u8>, AllocError>
-    requires { RowFits (FitsUnsignedBits 8) (pos n) }
-    ensures { IfOk result (λ v. map (λ x. pos x) v.items ≡ row_of (pos n)) }
-{
-    IterBinomial::new(n).collect(alloc)
-}
-
-/// Collects the row of a signed byte by the generic call.
+/// Collects the row of a signed byte by a generic call.
 pub fn signed_row(alloc: Global, n: i8) -> Result<Vec<i8>, AllocError>
     requires { RowFits (FitsSigned w8) n }
     ensures { IfOk result (λ v. map (λ x. x) v.items ≡ row_of n) }

@@ -1,15 +1,13 @@
 //! Functions that match on the result of a call of `num_integer`. Each is at a native type and has no proof file.
 
-ghost use Rattle.std.specs.Prelude.{◌≡◌, ◌≢◌, ◌-◌, ◌*◌, ◌<◌, ◌≤◌, ◌^◌, ◌<ℤ◌, ◌≤ℤ◌, ◌+ℤ◌, ◌-ℤ◌, ◌*ℤ◌, FitsSigned, IfSome, MatchOption, min, neg_ℤ, pos};
+ghost use Rattle.std.specs.Prelude.{◌≡◌, ◌≢◌, ◌-◌, ◌*◌, ◌<◌, ◌≤◌, ◌<ℤ◌, ◌≤ℤ◌, ◌+ℤ◌, ◌-ℤ◌, ◌*ℤ◌, FitsSigned, IfSome, MatchOption, min, neg_ℤ, pos};
 ghost use Rattle.std.specs.Int.{w64};
 ghost use Rattle.num_integer.specs.Bezout.{IsBezoutAnswer};
-ghost use Rattle.num_integer.specs.Coefficient.{coefficient};
 ghost use Rattle.num_integer.specs.Division.{IsCeiled, IsFloored, IsMultiple, IsQuotient, IsRemainder, IsTruncated};
 ghost use Rattle.num_integer.specs.Divisors.{IsGreatestCommonDivisor, IsLeastCommonMultiple};
 ghost use Rattle.num_integer.specs.Range.{EachFits};
 ghost use Rattle.num_integer.specs.RootOf.{IsRoot};
 
-use num_integer::counted::{GcdCounted, SqrtCounted, binomial_counted, extended_gcd_counted};
 use num_integer::{ExtendedGcd, checked};
 
 /// Returns the quotient rounded toward 0 and the remainder, or `None` if the divisor is 0 or the quotient does not
@@ -164,39 +162,6 @@ pub fn negation_or_max(x: i8) -> i8
     } else {
         i8::MAX
     }
-}
-
-/// Returns the greatest common divisor and the number of iterations of its loop.
-pub fn divisor_and_iterations(a: u64, b: u64) -> (u64, u32)
-    ensures { IsGreatestCommonDivisor (pos a) (pos b) (pos result.0) }
-{
-    a.gcd_counted(&b)
-}
-
-/// Returns the greatest common divisor with its Bezout pair and the number of iterations of the loop.
-pub fn pair_and_iterations(a: i64, b: i64) -> (ExtendedGcd<i64>, u32)
-    requires { pos 0 <ℤ b }
-    ensures { IsBezoutAnswer a b result.0.gcd result.0.x result.0.y }
-{
-    extended_gcd_counted(a, b)
-}
-
-/// Returns the square root and the number of iterations of its loops, which is less than 6.
-pub fn root_and_iterations(x: u64) -> (u64, u32)
-    ensures root { IsRoot (pos x) 2 (pos result.0) }
-    ensures turns { result.1 < 6 }
-{
-    x.sqrt_counted()
-}
-
-/// Returns the number of ways to choose `k` of `n` things and the number of iterations of the loop. The first has to
-/// fit.
-pub fn choices_and_iterations(n: u64, k: u64) -> (u64, u32)
-    requires { coefficient n k < 2 ^ 64 }
-    ensures choices { result.0 ≡ coefficient n k }
-    ensures turns { result.1 ≡ min k (n - k) }
-{
-    binomial_counted(n, k)
 }
 
 /// Returns the share of an amount at a rate, rounded down, or `None` if `whole` is 0 or the share does not fit. The

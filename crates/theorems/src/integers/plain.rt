@@ -149,17 +149,15 @@ pub fn row_of_three() -> IterBinomial<u8>
     IterBinomial::new(3)
 }
 
-/// Returns the greatest common divisor of two numbers, or `None` if one of five calls returns `None` or the last sum
+/// Returns the greatest common divisor of two numbers, or `None` if one of three calls returns `None` or the product
 /// is `a`.
-pub fn divisor_after_five_calls(a: i64, b: i64) -> Option<i64>
+pub fn divisor_after_three_calls(a: i64, b: i64) -> Option<i64>
     ensures { IfSome result (λ g. IsGreatestCommonDivisor a b g) }
 {
-    let quotient = checked::div_floor(a, b)?;
     let divisor = checked::gcd(a, b)?;
     let common = checked::lcm(a, b)?;
     let product = checked::product(divisor, common)?;
-    let sum = checked::sum(product, quotient)?;
-    if sum == a { None } else { Some(divisor) }
+    if product == a { None } else { Some(divisor) }
 }
 
 // ---- in words of the caller
