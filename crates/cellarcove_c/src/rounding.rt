@@ -77,8 +77,9 @@ pub extern "C" fn cellarcove_fraction_round_times(a: Fraction, n: i64) -> I64Ans
     of_reduced(a, |x| x.round_times(n))
 }
 
-/// Returns the number that `round` returns of the reduced fraction, or a rejection if the fraction has no
-/// reduced form that fits or `round` returns `None`.
+/// Returns the number that `round` returns for the reduced fraction. It returns a rejection if the
+/// denominator is 0, if a part of the reduced fraction does not fit, or if `round` returns `None`. For -6/4
+/// and a `round` that rounds down it is -2.
 fn of_reduced<F: FnOnce(&Ratio) -> Option<i64>>(a: Fraction, round: F) -> I64Answer
     requires { F.IsAlwaysCallable round }
     ensures { AnswersReduced (FnOnceReturnsAt F.FnOnce round) a result }

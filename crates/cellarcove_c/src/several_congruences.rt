@@ -92,17 +92,19 @@ impl Congruence<u64> for U64Congruence {
 }
 
 /// Returns the status and the value of the smallest number from `from` on that solves each of up to 64
-/// congruences. If there is no result, the value is `zero`. It copies the congruences to `room`.
+/// congruences. If there is no result, the value is `zero`. It copies the congruences to `room`. For 10,
+/// and 1 modulo 4 and 3 modulo 6, it returns 0 and 21.
 fn next_of_several<T: Modular + Fits, C: Congruence<T>>(
     from: T,
     congruences: &[C],
     room: &mut [(T, T)],
     zero: T,
 ) -> (u32, T)
-    requires in_range { T.fits (T.value from) }
+    requires in_range { T.fits (T.value from) × T.fits (T.value zero) }
     requires room { length room.old ≡ 64 }
-    ensures { IsNextOfSeveral T.value T.fits (T.value from) (map C.pair_of congruences.now) zero
-        result.0 result.1 }
+    ensures next { IsNextOfSeveral T.value T.fits (T.value from) (map C.pair_of congruences.now)
+        zero result.0 result.1 }
+    ensures in_range { T.fits (T.value result.1) }
 {
     if congruences.len() > MOST {
         return (OUTSIDE, zero);

@@ -6,4 +6,4 @@ use Rattle.cellarcove_c.proofs.Rounded.{rounded_times}
 use Rattle.cellarcove_c.proofs.rounding.cellarcove_fraction_floor_times.Goals as goal
 
 pub returns : goal.returns
-returns c = rounded_times _ c.args.a _ (IsQuotient IsFloored) c.args.n (λ x found returns. let own = rw (to_z-of_z w64 c.args.n c.ranges.n) at returns in search rules) c.of_reduced.ensures
+returns c = rounded_times _ c.args.a _ (IsQuotient IsFloored) c.args.n (λ x found returns. rw (← to_z-of_z w64 c.args.n c.ranges.n) (search rules)) c.of_reduced.ensures
