@@ -8,7 +8,7 @@ use Rattle.modular.specs.declared.common_solutions.CommonSolution.TheVariants.{N
 use Rattle.modular.proofs.ForCallers.{congruent-refl}
 use Rattle.num_integer.specs.Least.{IsLeastFrom}
 use Rattle.cellarcove_c.specs.Answers.{Refuses}
-use Rattle.cellarcove_c.specs.Statuses.{common_solution_of}
+use Rattle.cellarcove_c.specs.Statuses.{Either, common_solution_of, no_solution, not_fitting}
 
 -- a class has its first number
 pub class_has : {Is : ℤ → Type 0} {first step : ℤ} → IsResidueClass Is first step → (x : ℤ) × Is x
@@ -23,7 +23,8 @@ solved value from Solves Fits Never_ Beyond (t, least, far) other = (t, least.ho
 solved value from Solves Fits Never_ (At t) (fits, least) other = (value t, least.holds)
 
 -- the value of a common solution is in range
-pub value_in_range : {X : Type 0} (fits : X → Type 0) (Without Beyond_ : Type 0) (Is : X → Type 0) (Reason : ℕ → Type 0) (zero_value : X) (status : ℕ) (value : X) (found : CommonSolution X)
-    → MatchCommonSolution found Without Beyond_ (λ t. fits t × Is t) → common_solution_of status value ≡ found → Refuses Reason zero_value status value → fits zero_value → fits value
-value_in_range {X} fits Without Beyond_ Is Reason zero_value zero value found own same refuses zero_fits = (subst (λ (s : CommonSolution X). MatchCommonSolution s Without Beyond_ (λ t. fits t × Is t)) (sym same) own).0
-value_in_range fits Without Beyond_ Is Reason zero_value (suc status) value found own same refuses zero_fits = subst fits (sym (refuses (λ none. absurd (omega (arith, none)))).0) zero_fits
+pub value_in_range : {X : Type 0} (fits : X → Type 0) (Without Beyond_ : Type 0) (Is : X → Type 0) (zero_value : X) (status : ℕ) (value : X) (found : CommonSolution X)
+    → MatchCommonSolution found Without Beyond_ (λ t. fits t × Is t) → common_solution_of status value ≡ found → Refuses (Either not_fitting no_solution) zero_value status value → fits zero_value
+    → fits value
+value_in_range {X} fits Without Beyond_ Is zero_value zero value found own same refuses zero_fits = (subst (λ (s : CommonSolution X). MatchCommonSolution s Without Beyond_ (λ t. fits t × Is t)) (sym same) own).0
+value_in_range fits Without Beyond_ Is zero_value (suc status) value found own same refuses zero_fits = subst fits (sym (refuses (λ none. absurd (omega (arith, none)))).0) zero_fits

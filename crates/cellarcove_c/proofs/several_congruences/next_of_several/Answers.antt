@@ -20,5 +20,5 @@ returns g c =
       next =
           common_solution_is value fits _ g.C.Congruence.pair_of c.args.congruences.now c.args.zero (search rules) status.result.0 status.result.1 positive status.ensures.refusal
           (rw status.ensures.answer (without_range _ _ _ _ c.next_common_solution_of.result own));
-      in_range = value_in_range (λ t. fits (value t)) _ _ _ _ c.args.zero status.result.0 status.result.1 c.next_common_solution_of.result own status.ensures.answer status.ensures.refusal c.requires.in_range.1;
+      in_range = value_in_range (λ t. fits (value t)) _ _ _ c.args.zero status.result.0 status.result.1 c.next_common_solution_of.result own status.ensures.answer status.ensures.refusal c.requires.in_range.1;
     }
