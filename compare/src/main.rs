@@ -172,15 +172,6 @@ fn lines_of<T: Number>(name: &str, shown: &Shown) -> Vec<String> {
     lines
 }
 
-/// Prints the lines as a constant of this name.
-fn print(name: &str, lines: &[String]) {
-    println!("\npub(crate) const {name}: [Line; {}] = [", lines.len());
-    for line in lines {
-        println!("    {line},");
-    }
-    println!("];");
-}
-
 /// The text above the lines.
 const HEAD: &str = "\
 //! What the Rust crate `num-integer` returned, as the program in `compare/` printed it.
@@ -198,28 +189,24 @@ fn main() {
     let words: Vec<String> = std::env::args().skip(1).collect();
     let shown = Shown::of_words(&words);
     println!("{HEAD}");
-    let narrow_signed = [
+    let lines = [
         lines_of::<i8>("I8", &shown),
         lines_of::<i16>("I16", &shown),
         lines_of::<i32>("I32", &shown),
-    ];
-    print("NARROW_SIGNED", &narrow_signed.concat());
-    let wide_signed = [
         lines_of::<i64>("I64", &shown),
         lines_of::<i128>("I128", &shown),
         lines_of::<isize>("Isize", &shown),
-    ];
-    print("WIDE_SIGNED", &wide_signed.concat());
-    let narrow_unsigned = [
         lines_of::<u8>("U8", &shown),
         lines_of::<u16>("U16", &shown),
         lines_of::<u32>("U32", &shown),
-    ];
-    print("NARROW_UNSIGNED", &narrow_unsigned.concat());
-    let wide_unsigned = [
         lines_of::<u64>("U64", &shown),
         lines_of::<u128>("U128", &shown),
         lines_of::<usize>("Usize", &shown),
-    ];
-    print("WIDE_UNSIGNED", &wide_unsigned.concat());
+    ]
+    .concat();
+    println!("\npub(crate) static LINES: [Line; {}] = [", lines.len());
+    for line in &lines {
+        println!("    {line},");
+    }
+    println!("];");
 }

@@ -1,12 +1,14 @@
 -- Two congruences, and whether a number solves both.
-use Rattle.std.specs.Prelude.{◌≢◌, ℤ}
-use Rattle.std.proofs.Common.{refl}
+use Rattle.std.specs.Prelude.{◌≡◌, ◌≢◌, ℕ, ℤ, zero, suc}
+use Rattle.std.proofs.Common.{arith, refl, subst, sym}
 use Rattle.modular.specs.CommonSolutions.{MatchCommonSolution}
 use Rattle.modular.specs.Congruences.{IsResidueClass}
 use Rattle.modular.specs.declared.common_solutions.CommonSolution.{CommonSolution}
 use Rattle.modular.specs.declared.common_solutions.CommonSolution.TheVariants.{Never, Beyond, At}
 use Rattle.modular.proofs.ForCallers.{congruent-refl}
 use Rattle.num_integer.specs.Least.{IsLeastFrom}
+use Rattle.cellarcove_c.specs.Answers.{Refuses}
+use Rattle.cellarcove_c.specs.Statuses.{Either, common_solution_of, no_solution, not_fitting}
 
 -- a class has its first number
 pub class_has : {Is : ℤ → Type 0} {first step : ℤ} → IsResidueClass Is first step → (x : ℤ) × Is x
@@ -19,3 +21,10 @@ pub solved : {X : Type 0} (value : X → ℤ) (from : ℤ) (Solves Fits : ℤ �
 solved value from Solves Fits Never_ Never h other = absurd (other refl)
 solved value from Solves Fits Never_ Beyond (t, least, far) other = (t, least.holds)
 solved value from Solves Fits Never_ (At t) (fits, least) other = (value t, least.holds)
+
+-- the value of a common solution is in range
+pub value_in_range : {X : Type 0} (fits : X → Type 0) (Without Beyond_ : Type 0) (Is : X → Type 0) (zero_value : X) (status : ℕ) (value : X) (found : CommonSolution X)
+    → MatchCommonSolution found Without Beyond_ (λ t. fits t × Is t) → common_solution_of status value ≡ found → Refuses (Either not_fitting no_solution) zero_value status value → fits zero_value
+    → fits value
+value_in_range {X} fits Without Beyond_ Is zero_value zero value found own same refuses zero_fits = (subst (λ (s : CommonSolution X). MatchCommonSolution s Without Beyond_ (λ t. fits t × Is t)) (sym same) own).0
+value_in_range fits Without Beyond_ Is zero_value (suc status) value found own same refuses zero_fits = subst fits (sym (refuses (λ none. absurd (omega (arith, none)))).0) zero_fits

@@ -1,8 +1,8 @@
 -- Congruences, copied one by one.
-use Rattle.std.specs.Prelude.{◌≡◌, ◌<◌, ◌≤◌, ◌+◌, ℕ, List, [], ◌∷◌, ◌++◌, length, map}
+use Rattle.std.specs.Prelude.{◌≡◌, ◌<◌, ◌<ℤ◌, ◌+◌, ℕ, ℤ, pos, List, [], ◌∷◌, ◌++◌, length, map}
 use Rattle.std.specs.List.{All}
 use Rattle.std.proofs.Common.{◌∙◌, ap, arith, get_or, refl, set, subst, sym, take}
-use Rattle.std.proofs.lemmas.List.{get_or-map, length-map, map_more, take_all, take_more_set}
+use Rattle.std.proofs.lemmas.List.{get_or-map, length-map, map_more, take_more_set}
 use Rattle.std.proofs.lemmas.List.Elements.{All-get_or, All-nil, All-push}
 
 -- the first i pairs are those of the first i congruences, and have a property
@@ -10,28 +10,27 @@ pub record AreCopied {C P : Type 0} (pair : C → P) (Has : P → Type 0) (congr
   pub copied : take i pairs ≡ map pair (take i congruences)
   pub each : All Has (take i pairs)
 
+-- both numbers of a pair are in range, and its modulus is positive
+abbrev pub IsPair : {X : Type 0} → (X → ℤ) → (ℤ → Type 0) → X × X → Type 0
+IsPair value fits p = fits (value p.0) × fits (value p.1) × (pos 0 <ℤ value p.1)
+
 module _ {C P : Type 0} (pair : C → P) (Has : P → Type 0) (congruences : List C) where
   pub none_copied : (pairs : List P) → AreCopied pair Has congruences pairs 0
   none_copied pairs = record { copied = refl; each = All-nil Has }
 
   -- with one more
-  pub one_copied : (pairs : List P) (i : ℕ) (c : C) → i < length congruences → i < length pairs → AreCopied pair Has congruences pairs i → Has (pair (get_or congruences i c))
-      → AreCopied pair Has congruences (set pairs i (pair (get_or congruences i c))) (i + 1)
-  one_copied pairs i c within room h has =
-      let more = take_more_set pairs i (pair (get_or congruences i c)) room in
+  pub one_copied : (pairs : List P) (i : ℕ) {c : C} {p : P} → c ≡ get_or congruences i c → p ≡ pair c → i < length congruences → i < length pairs
+      → AreCopied pair Has congruences pairs i → Has p → AreCopied pair Has congruences (set pairs i p) (i + 1)
+  one_copied pairs i {c} {p} is same within room h has =
+      let more = take_more_set pairs i p room in
       record {
-        copied = more ∙ ap (λ (l : List P). l ++ pair (get_or congruences i c) ∷ []) h.copied ∙ sym (map_more pair congruences i c within);
-        each = subst (All Has) (sym more) (All-push Has (take i pairs) (pair (get_or congruences i c)) h.each has);
+        copied = more ∙ ap (λ (l : List P). l ++ p ∷ []) h.copied ∙ ap (λ (q : P). map pair (take i congruences) ++ q ∷ []) (same ∙ ap pair is) ∙ sym (map_more pair congruences i c within);
+        each = subst (All Has) (sym more) (All-push Has (take i pairs) p h.each has);
       }
 
-  -- in the end all are
-  pub all_copied : (pairs : List P) (i : ℕ) → length congruences ≤ i → length pairs ≤ i → AreCopied pair Has congruences pairs i → (pairs ≡ map pair congruences) × All Has pairs
-  all_copied pairs i past full h =
-      let whole = take_all i pairs full in
-      (sym whole ∙ h.copied ∙ ap (map pair) (take_all i congruences past), subst (All Has) whole h.each)
-
 -- what all pairs have, that of a congruence has
-pub copied_has : {C P : Type 0} (pair : C → P) (Has : P → Type 0) (congruences : List C) (i : ℕ) (c : C) → i < length congruences → All Has (map pair congruences) → Has (pair (get_or congruences i c))
-copied_has pair Has congruences i c within all =
+pub copied_has : {C P : Type 0} (pair : C → P) (Has : P → Type 0) (congruences : List C) (i : ℕ) {c : C} → c ≡ get_or congruences i c → i < length congruences
+    → All Has (map pair congruences) → Has (pair c)
+copied_has pair Has congruences i {c} is within all =
     let long : length (map pair congruences) ≡ length congruences = length-map congruences pair in
-    subst Has (get_or-map pair congruences i c (pair c) within) (All-get_or Has (map pair congruences) i (pair c) (omega (arith, long)) all)
+    subst Has (get_or-map pair congruences i c (pair c) within ∙ ap pair (sym is)) (All-get_or Has (map pair congruences) i (pair c) (omega (arith, long)) all)

@@ -43,7 +43,8 @@ pub struct U64Answer {
     pub value: u64,
 }
 
-/// Returns the status and the value of a result: 0 and its value, or the reason and zeros if there is none.
+/// Returns the status and the value of a result: 0 and its value, or the reason and `zeros` if there is no
+/// result. Those of `Some(14)` are 0 and 14.
 pub(crate) fn with_status<T: Copy>(option: Option<T>, zeros: T, reason: u32) -> (u32, T)
     requires { reason ≢ 0 }
     ensures answer { answer_of result.0 result.1 ≡ option }
@@ -52,6 +53,19 @@ pub(crate) fn with_status<T: Copy>(option: Option<T>, zeros: T, reason: u32) -> 
     match option {
         Some(value) => (ANSWER, value),
         None => (reason, zeros),
+    }
+}
+
+/// Returns the status and the value of a common solution: 0 and the solution, or the reason and `zero` if
+/// no number solves the congruences or the solution does not fit. Those of `Never` are 4 and `zero`.
+pub(crate) fn common_with_status<T: Copy>(found: CommonSolution<T>, zero: T) -> (u32, T)
+    ensures answer { common_solution_of result.0 result.1 ≡ found }
+    ensures refusal { Refuses (Either not_fitting no_solution) zero result.0 result.1 }
+{
+    match found {
+        CommonSolution::At(solution) => (ANSWER, solution),
+        CommonSolution::Beyond => (NOT_FITTING, zero),
+        CommonSolution::Never => (NO_SOLUTION, zero),
     }
 }
 
@@ -71,21 +85,8 @@ impl I64Answer {
         ensures answer { common_solution_of result.status result.value ≡ found }
         ensures refusal { Refuses (Either not_fitting no_solution) (pos 0) result.status result.value }
     {
-        match found {
-            CommonSolution::At(solution) => I64Answer::some(solution),
-            CommonSolution::Beyond => I64Answer::none(NOT_FITTING),
-            CommonSolution::Never => I64Answer::none(NO_SOLUTION),
-        }
-    }
-
-    /// Returns a result.
-    pub(crate) fn some(value: i64) -> I64Answer
-        ensures { result ≡ record { status = 0; value = value } }
-    {
-        I64Answer {
-            status: ANSWER,
-            value,
-        }
+        let (status, value) = common_with_status(found, 0);
+        I64Answer { status, value }
     }
 
     /// Returns a rejection.
@@ -112,11 +113,8 @@ impl U64Answer {
         ensures answer { common_solution_of result.status result.value ≡ found }
         ensures refusal { Refuses (Either not_fitting no_solution) 0 result.status result.value }
     {
-        match found {
-            CommonSolution::At(solution) => U64Answer::some(solution),
-            CommonSolution::Beyond => U64Answer::none(NOT_FITTING),
-            CommonSolution::Never => U64Answer::none(NO_SOLUTION),
-        }
+        let (status, value) = common_with_status(found, 0);
+        U64Answer { status, value }
     }
 
     /// Returns a result.

@@ -15,29 +15,14 @@ mod walks;
 use lines::{replay, replay_library};
 
 #[test]
-fn signed_types(rt: HostRuntime) {
-    replay(&rt, rt.alloc(), &list::NARROW_SIGNED);
-    replay(&rt, rt.alloc(), &list::WIDE_SIGNED);
+fn integer_types(rt: HostRuntime) {
+    replay(&rt, rt.alloc(), &list::LINES);
 }
 
 #[test]
-fn unsigned_types(rt: HostRuntime) {
-    replay(&rt, rt.alloc(), &list::NARROW_UNSIGNED);
-    replay(&rt, rt.alloc(), &list::WIDE_UNSIGNED);
-}
-
-#[test]
-fn residues_of_each(rt: HostRuntime) {
+fn other_libraries(rt: HostRuntime) {
     replay_library(&rt, rt.alloc(), &libraries::RESIDUES);
-}
-
-#[test]
-fn fractions_of_each(rt: HostRuntime) {
     replay_library(&rt, rt.alloc(), &libraries::FRACTIONS);
-}
-
-#[test]
-fn dates_of_each(rt: HostRuntime) {
     replay_library(&rt, rt.alloc(), &libraries::DATES);
 }
 

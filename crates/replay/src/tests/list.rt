@@ -8,7 +8,7 @@ use super::calls::Call::{
 use super::lines::Line;
 use own_types::types::Type::{I8, I16, I32, I64, I128, Isize, U8, U16, U32, U64, U128, Usize};
 
-pub(crate) const NARROW_SIGNED: [Line; 69] = [
+pub(crate) static LINES: [Line; 264] = [
     Line(I8, DivRem, 65279, 0, 12532170480911359875),
     Line(I8, DivFloor, 65279, 0, 2002227956150865343),
     Line(I8, ModFloor, 65279, 1, 4760134535456629080),
@@ -78,9 +78,6 @@ pub(crate) const NARROW_SIGNED: [Line; 69] = [
     Line(I32, NthRoot, 117656, 2, 12536726218810513590),
     Line(I32, Multinomial, 4692, 0, 14172575902904819753),
     Line(I32, IterBinomial, 34, 0, 15247010602655971431),
-];
-
-pub(crate) const WIDE_SIGNED: [Line; 66] = [
     Line(I64, DivRem, 139869, 0, 1157606223695541194),
     Line(I64, DivFloor, 139869, 0, 6328962483674645662),
     Line(I64, ModFloor, 139869, 6, 16090764111078349576),
@@ -147,9 +144,6 @@ pub(crate) const WIDE_SIGNED: [Line; 66] = [
     Line(Isize, NthRoot, 119011, 2, 14597996540751488105),
     Line(Isize, Multinomial, 2519, 0, 11123001466335451111),
     Line(Isize, IterBinomial, 67, 0, 9417536469097064005),
-];
-
-pub(crate) const NARROW_UNSIGNED: [Line; 66] = [
     Line(U8, DivRem, 65280, 0, 15364186870581817383),
     Line(U8, DivFloor, 65280, 0, 16002918988201360481),
     Line(U8, ModFloor, 65280, 0, 6204174221467760190),
@@ -216,9 +210,6 @@ pub(crate) const NARROW_UNSIGNED: [Line; 66] = [
     Line(U32, NthRoot, 80817, 0, 14246136505594482130),
     Line(U32, Multinomial, 6130, 0, 7186258135572106303),
     Line(U32, IterBinomial, 35, 0, 16203227362012653832),
-];
-
-pub(crate) const WIDE_UNSIGNED: [Line; 63] = [
     Line(U64, DivRem, 31122, 0, 7063041479999463094),
     Line(U64, DivFloor, 31122, 0, 2923076266027624989),
     Line(U64, ModFloor, 31122, 0, 14561516169233218395),

@@ -1,8 +1,9 @@
 use Rattle.std.specs.Int.{w64}
+use Rattle.std.proofs.Common.{rules}
 use Rattle.std.proofs.lemmas.Int.{to_z-of_z}
+use Rattle.ratio64.specs.Rounding.{IsRounded}
+use Rattle.cellarcove_c.proofs.Rounded.{rounded_times}
 use Rattle.cellarcove_c.proofs.rounding.cellarcove_fraction_round_times.Goals as goal
 
-pub returns-in-Ok : goal.returns-in-Ok
-returns-in-Ok c =
-    let own = rw (to_z-of_z w64 c.args.n c.ranges.n) at c.round_times.ensures in
-    (c.reduced.result, c.reduced.ensures, rw c.in-Ok.is (record { answer = rw c.of.ensures.answer own; refusal = c.of.ensures.refusal }))
+pub returns : goal.returns
+returns c = rounded_times _ c.args.a _ IsRounded c.args.n (λ x found returns. rw (← to_z-of_z w64 c.args.n c.ranges.n) (search rules)) c.of_reduced.ensures
