@@ -1,12 +1,7 @@
 -- Quotients, remainders and multiples by a positive number.
-use Rattle.std.specs.Prelude.{◌≡◌, ◌≢◌, ◌↔◌, ◌≤ℤ◌, ◌<ℤ◌, ◌+ℤ◌, ◌-ℤ◌, ◌*ℤ◌}
-use Rattle.integer_core.proofs.Common.{ℤ, ℕ, pos, unsigned_abs, int_div, Bool, IsTrue, arith, ◌∙◌, subst, from_not_less, IsCeiled, IsDivision, IsFloored, IsMultiple, IsQuotient, IsRemainder, EachFits, IsRange, Divides, comm, expand, linear, products, sizes}
-use Rattle.num_integer.specs.Parts.{signed}
-use Rattle.integer_core.proofs.Quotients.{only_floored, other_quotient_fits, truncated_is}
+use Rattle.num_integer.proofs.Common.{◌≡◌, ◌≢◌, ◌↔◌, ◌≤ℤ◌, ◌<ℤ◌, ◌+ℤ◌, ◌-ℤ◌, ◌*ℤ◌, ℤ, ℕ, pos, unsigned_abs, int_div, Bool, IsTrue, arith, ◌∙◌, subst, from_not_less, IsCeiled, IsDivision, IsFloored, IsMultiple, IsQuotient, IsRemainder, EachFits, IsRange, Divides, comm, expand, linear, products, sizes, signed, only_floored, other_quotient_fits, truncated_is, signed_is, multiples_apart}
 use Rattle.num_integer.proofs.Coprimes.{Divides-difference}
 use Rattle.num_integer.proofs.DivisorSizes.{divisor_at_most}
-use Rattle.num_integer.proofs.FittingAnswers.{signed_is}
-use Rattle.num_integer.proofs.OrderedProducts.{multiples_apart}
 
 -- the remainder of a floored division lies from 0 to below the divisor
 pub floored_range : {n d q r : ℤ} → pos 0 <ℤ d → IsFloored n d q r → (pos 0 ≤ℤ r) × (r <ℤ d)

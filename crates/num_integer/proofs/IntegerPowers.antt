@@ -1,6 +1,5 @@
 -- Powers of integers: their signs, one degree more, and the double degree. Roots of exact powers.
-use Rattle.std.specs.Prelude.{◌≡◌, ◌⊎◌, ◌+◌, ◌%◌, ◌^◌, ◌*ℤ◌, ◌≢◌, ◌<◌, ◌≤◌, ◌*◌}
-use Rattle.integer_core.proofs.Common.{ℤ, ℕ, pos, negsuc, neg_ℤ, zero, suc, unsigned_abs, int_pow, arith, ap, ◌∙◌, inl, inr, refl, sym, negsuc-*ℤ-pos, pow-zero, pow-succ', cases_lt, ints, expand, products, subst, pow-lt-pow_left}
+use Rattle.num_integer.proofs.Common.{◌≡◌, ◌⊎◌, ◌+◌, ◌%◌, ◌^◌, ◌*ℤ◌, ◌≢◌, ◌<◌, ◌≤◌, ◌*◌, ℤ, ℕ, pos, negsuc, neg_ℤ, zero, suc, unsigned_abs, int_pow, arith, ap, ◌∙◌, inl, inr, refl, sym, negsuc-*ℤ-pos, pow-zero, pow-succ', cases_lt, ints, expand, products, subst, pow-lt-pow_left}
 use Rattle.integer_roots.proofs.Powers.{power_of_zero, power_two}
 use Rattle.integer_roots.specs.RootOf.{IsRoot}
 use Rattle.integer_roots.proofs.OnlyAnswers.{root_is_only_one}

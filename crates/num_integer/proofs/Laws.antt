@@ -1,9 +1,8 @@
 -- The laws of specs/Laws.antt, by their names in small letters: lemmas of this file, and lemmas from elsewhere that are passed on.
-use Rattle.integer_core.proofs.Common.{IsMultiple, IsOnly, IsQuotient, IsRemainder, arith, pos, products, refl, sym, ℤ, ◌∙◌}
+use Rattle.num_integer.proofs.Common.{IsMultiple, IsOnly, IsQuotient, IsRemainder, arith, pos, products, refl, sym, ℤ, ◌∙◌, each_kind}
 use Rattle.integer_core.proofs.CommonDivisors as common
 use Rattle.integer_core.proofs.Quotients as quotients
 use Rattle.integer_roots.proofs.OnlyAnswers as roots
-use Rattle.num_integer.proofs.FittingAnswers.{each_kind}
 use Rattle.num_integer.proofs.Multinomials.{only_multinomial}
 use Rattle.num_integer.specs.Laws as law
 pub use Rattle.integer_core.proofs.BezoutAnswers.{bezout_answer_exists, bezout_answer_is_only}

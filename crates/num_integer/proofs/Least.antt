@@ -1,5 +1,5 @@
 -- The smallest number with a property that is at least another, and the largest that is at most another, are the only ones.
-use Rattle.integer_core.proofs.Common.{ℤ, arith, linear, IsOnly}
+use Rattle.num_integer.proofs.Common.{ℤ, arith, linear, IsOnly}
 use Rattle.num_integer.specs.Least.{IsGreatestTo, IsLeastFrom}
 
 -- The smallest number with a property that is at least another is the only one.

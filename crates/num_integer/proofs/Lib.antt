@@ -1,3 +1,4 @@
+pub mod Common
 pub mod Pascal
 pub mod FittingAnswers
 pub mod IntegerPowers

@@ -1,13 +1,7 @@
 -- Least common multiples of literals, which the prover computes.
-use Rattle.std.specs.Prelude.{◌≡◌, ◌<◌, ◌*◌, ◌/◌, ◌%◌, ◌^◌}
-use Rattle.integer_core.proofs.Common.{ℤ, ℕ, pos, zero, suc, unsigned_abs, IsTrue, nat_lt, FitsSigned, FitsUnsignedBits, Width, arith, ◌∙◌, ap, inl, inr, refl, subst, sym, IsGreatestCommonDivisor, IsLeastCommonMultiple}
+use Rattle.num_integer.proofs.Common.{◌≡◌, ◌<◌, ◌*◌, ◌/◌, ◌%◌, ◌^◌, ℤ, ℕ, pos, zero, suc, unsigned_abs, IsTrue, nat_lt, FitsSigned, FitsUnsignedBits, Width, arith, ◌∙◌, ap, inl, inr, refl, subst, sym, IsGreatestCommonDivisor, IsLeastCommonMultiple, mul-zero, zero-div, ltb-true, gcd-remainder, gcd-zero, lcm-computed, only_lcm, zero_divides, zero_or_not}
 use mir.Val.{hbits}
-use Rattle.std.proofs.Math.Nat.{mul-zero, zero-div}
-use Rattle.std.proofs.lemmas.Bool.{ltb-true}
 use Rattle.std.proofs.lemmas.Int.{fits_signed_from_abs}
-use Rattle.integer_core.proofs.CommonDivisors.{gcd-remainder, gcd-zero, lcm-computed, only_lcm}
-use Rattle.integer_core.proofs.Divisibility.{zero_divides}
-use Rattle.integer_core.proofs.Quotients.{zero_or_not}
 use Rattle.num_integer.proofs.NaturalDivision.{natural_division}
 
 -- Euclid's algorithm, which the prover computes

@@ -1,16 +1,9 @@
 -- Multinomials: the product of the coefficients of the running sums, in any order, and the loops over counts.
-use Rattle.std.specs.List.{All, AllWithin, swap}
+use Rattle.num_integer.proofs.Common.{◌≡◌, ◌+◌, ◌<◌, ◌≤◌, ◌≤ℤ◌, ◌+ℤ◌, ◌*ℤ◌, ◌↔◌, ◌*◌, ◌<ℤ◌, ◌-◌, All, AllWithin, swap, ◌∷◌, ℤ, pos, unsigned_abs, List, [], map, sum, length, get_or, drop, ℕ, zero, suc, Bool, true, false, Option, Some, None, IsTrue, is_some, set, ap, sym, ◌∙◌, arith, refl, subst, inl, inr, zero-add, le-mul_of_pos_right, mul-pos, eq_of_mul-eq-mul_left, cases_eq, ints, unsigned_abs-mul, comm, IsRange, EachFits, at_drop_all, at_drop_more, get_or-set_other, get_or-set_same, length-set, All-from_all_within, AllWithin-more, AllWithin-upto, at_read, cancel, fits_below, fits_up, product_from_zero}
 use Rattle.std.specs.Option.{MatchOption}
-use Rattle.std.specs.Prelude.{◌∷◌, ◌≡◌, ◌+◌, ◌<◌, ◌≤◌, ◌≤ℤ◌, ◌+ℤ◌, ◌*ℤ◌, ◌↔◌, ◌*◌, ◌<ℤ◌, ◌-◌}
-use Rattle.integer_core.proofs.Common.{ℤ, pos, unsigned_abs, List, [], map, sum, length, get_or, drop, ℕ, zero, suc, Bool, true, false, Option, Some, None, IsTrue, is_some, set, ap, sym, ◌∙◌, arith, refl, subst, inl, inr, zero-add, le-mul_of_pos_right, mul-pos, eq_of_mul-eq-mul_left, cases_eq, ints, unsigned_abs-mul, comm, IsRange, EachFits}
-use Rattle.std.proofs.lemmas.List.{at_drop_all, at_drop_more, get_or-set_other, get_or-set_same, length-set}
 use Rattle.std.proofs.lemmas.List.Edits.{swap_is}
-use Rattle.std.proofs.lemmas.List.Elements.{All-from_all_within, AllWithin-more, AllWithin-upto, at_read}
 use Rattle.std.proofs.lemmas.List.Sorted.{IsPermutation-keeps, IsPermutation-map, sum_by-IsPermutation}
 use Rattle.std.proofs.lemmas.List.Sums.{sum_by-cons}
-use Rattle.integer_core.proofs.Divisibility.{cancel}
-use Rattle.num_integer.proofs.FittingAnswers.{fits_below, fits_up}
-use Rattle.num_integer.proofs.OrderedProducts.{product_from_zero}
 use Rattle.num_integer.proofs.Pascal.{coefficient-pos, divides_factorials, factorial-pos, not_below_top}
 use Rattle.num_integer.specs.Coefficient.{coefficient, factorial, coefficient_of}
 use Rattle.num_integer.specs.Laws.{MultinomialIgnoresOrder}

@@ -1,6 +1,5 @@
 -- Inequalities between products of integers.
-use Rattle.std.specs.Prelude.{◌≡◌, ◌≤ℤ◌, ◌<ℤ◌, ◌+ℤ◌, ◌-ℤ◌, ◌*ℤ◌}
-use Rattle.integer_core.proofs.Common.{ℤ, pos, arith, expand, linear, products}
+use Rattle.integer_core.proofs.Common.{◌≡◌, ◌≤ℤ◌, ◌<ℤ◌, ◌+ℤ◌, ◌-ℤ◌, ◌*ℤ◌, ℤ, pos, arith, expand, linear, products}
 
 -- products of numbers that are not negative
 pub product_from_zero : (k d : ℤ) → pos 0 ≤ℤ k → pos 0 ≤ℤ d → pos 0 ≤ℤ (k *ℤ d)

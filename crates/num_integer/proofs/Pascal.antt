@@ -1,6 +1,5 @@
 -- Pascal's triangle.
-use Rattle.std.specs.Prelude.{◌≡◌, ◌+◌, ◌-◌, ◌*◌, ◌^◌, ◌<◌, ◌≤◌}
-use Rattle.integer_core.proofs.Common.{ℕ, zero, suc, min, inl, inr, ap, refl, arith, mul-le-mul_right, le_refl, le_trans, cases_lt, eq_of_mul-eq-mul_left, le_of_mul-le-mul_left, mul-pos, pow-succ'}
+use Rattle.num_integer.proofs.Common.{◌≡◌, ◌+◌, ◌-◌, ◌*◌, ◌^◌, ◌<◌, ◌≤◌, ℕ, zero, suc, min, inl, inr, ap, refl, arith, mul-le-mul_right, le_refl, le_trans, cases_lt, eq_of_mul-eq-mul_left, le_of_mul-le-mul_left, mul-pos, pow-succ'}
 use Rattle.num_integer.specs.Coefficient.{coefficient, factorial}
 
 -- there is one way to choose no things

@@ -1,17 +1,7 @@
 -- Rows: from one coefficient to the next, and the rest of a row.
-use Rattle.std.specs.List.{All}
-use Rattle.std.specs.Prelude.{◌≤ℤ◌, ◌<ℤ◌, ◌+ℤ◌, ◌-ℤ◌, ◌*ℤ◌, ◌≢◌, ◌≡◌, ◌+◌, ◌-◌, ◌/◌, ◌<◌, ◌≤◌, ◌∷◌, ◌*◌}
-use Rattle.integer_core.proofs.Common.{add-one, ℤ, pos, negsuc, unsigned_abs, int_div, int_rem, ℕ, suc, List, [], length, drop, get_or, reverse, refl, sym, ap, ◌∙◌, arith, min, ints, abs_is, comm, expand, linear, products, Divides, IsGreatestCommonDivisor, IsRange}
-use Rattle.std.proofs.lemmas.List.{at_drop_more, drop_all, get_or-reverse, length-reverse}
-use Rattle.std.proofs.lemmas.List.Elements.{All-from_get_or, All-nil}
+use Rattle.num_integer.proofs.Common.{◌≤ℤ◌, ◌<ℤ◌, ◌+ℤ◌, ◌-ℤ◌, ◌*ℤ◌, ◌≢◌, ◌≡◌, ◌+◌, ◌-◌, ◌/◌, ◌<◌, ◌≤◌, ◌*◌, All, ◌∷◌, add-one, ℤ, pos, negsuc, unsigned_abs, int_div, int_rem, ℕ, suc, List, [], length, drop, get_or, reverse, refl, sym, ap, ◌∙◌, arith, min, ints, abs_is, comm, expand, linear, products, Divides, IsGreatestCommonDivisor, IsRange, at_drop_more, drop_all, get_or-reverse, length-reverse, All-from_get_or, All-nil, gcd-nonzero, gcd-positive, gcd-remainder, gcd-swap, gcd-times, cancel, Divides-cancel, exact_quotient, divisor_size, truncated_is, coefficient, coefficient_of, fits_below, factor_positive}
 use Rattle.std.proofs.lemmas.List.FromFn.{fill_by_all, get_or-map-range_with_len, length-map-range_with_len}
-use Rattle.integer_core.proofs.CommonDivisors.{gcd-nonzero, gcd-positive, gcd-remainder, gcd-swap, gcd-times}
-use Rattle.integer_core.proofs.Divisibility.{cancel, Divides-cancel, exact_quotient, divisor_size}
-use Rattle.integer_core.proofs.Quotients.{truncated_is}
-use Rattle.num_integer.proofs.FittingAnswers.{fits_below}
-use Rattle.num_integer.proofs.OrderedProducts.{factor_positive}
-use Rattle.num_integer.proofs.Pascal.{coefficient_mirror, next_in_row, nearer_same, rises}
-use Rattle.num_integer.specs.Coefficient.{coefficient, coefficient_of}
+use Rattle.num_integer.proofs.Pascal.{below_answer, coefficient_mirror, next_in_row, nearer_same, rises}
 use Rattle.num_integer.specs.Laws.{RowIsGreatestInMiddle, RowIsPalindrome, RowLength}
 use Rattle.num_integer.specs.Row.{IsPlaceInRow, RowFits, row_of}
 
@@ -40,6 +30,24 @@ module _ {n k c a b : ℤ} (up : pos 0 ≤ℤ k) (below : k <ℤ n) (is : c ≡ 
 
   pub next_only : (x : ℤ) → x *ℤ b ≡ c *ℤ a → x ≡ coefficient_of n (k +ℤ pos 1)
   next_only x e = cancel b x (coefficient_of n (k +ℤ pos 1)) (λ z. absurd (omega (arith, ints))) (comm b x ∙ e ∙ product_is)
+
+-- ---- a loop along the row of n, from place 0 to the nearer of k and n - k
+
+module _ {fits : ℤ → Type 0} {low high n k place last : ℤ} (range : IsRange fits low high) (from_zero : pos 0 ≤ℤ place) (k_from_zero : pos 0 ≤ℤ k) (k_within : k ≤ℤ n)
+    (end : last ≡ pos (min (unsigned_abs k) (unsigned_abs n - unsigned_abs k))) where
+  -- before the end the next place fits
+  pub next_place_fits : fits n → place <ℤ last → fits (place +ℤ pos 1)
+  next_place_fits n_fits before = fits_below range n_fits (omega (arith, ints)) (omega (arith, ints))
+
+  -- and so does its coefficient if that of k does
+  pub next_coefficient_fits : fits (coefficient_of n k) → place <ℤ last → fits (coefficient_of n (place +ℤ pos 1))
+  next_coefficient_fits k_fits before =
+      let below = below_answer (unsigned_abs n) (unsigned_abs k) (unsigned_abs (place +ℤ pos 1)) (omega (arith, ints)) (omega (arith, ints)) in
+      fits_below range k_fits (omega (arith, ints)) (omega (arith, ints))
+
+  -- at the end the coefficient is that of k
+  pub last_coefficient : place ≤ℤ last → last ≤ℤ place → coefficient_of n place ≡ coefficient_of n k
+  last_coefficient within done = ap pos (nearer_same _ _ _ (omega (arith, ints)) (omega (arith, ints)))
 
 -- ---- an exact quotient r * a / b, cancelled by the greatest common divisor g of r and b
 

@@ -1,7 +1,6 @@
 //! Coefficients of natural numbers up to a bound. Each call stops as soon as it exceeds the bound.
 
-ghost use Rattle.std.specs.Prelude.{◌≡◌, ◌+◌, ◌*◌, ◌<◌, ◌≤◌};
-ghost use Rattle.std.specs.Option.{MatchOption};
+ghost use Rattle.std.specs.Prelude.{◌≡◌, ◌+◌, ◌*◌, ◌<◌, ◌≤◌, MatchOption};
 ghost use Rattle.num_integer.specs.Coefficient.{coefficient};
 
 use crate::coefficients::next_factors;

@@ -1,7 +1,6 @@
 //! Binomial and multinomial coefficients.
 
-ghost use Rattle.std.specs.Prelude.{◌≡◌, ◌-◌, ◌^◌, ◌≤◌, ◌≤ℤ◌, ◌<ℤ◌, ◌+ℤ◌, ◌*ℤ◌, pos, unsigned_abs, int_div, min, map};
-ghost use Rattle.std.specs.List.{All};
+ghost use Rattle.std.specs.Prelude.{◌≡◌, ◌-◌, ◌^◌, ◌≤◌, ◌≤ℤ◌, ◌<ℤ◌, ◌+ℤ◌, ◌*ℤ◌, pos, unsigned_abs, int_div, min, map, All};
 ghost use Rattle.integer_core.specs.Divisors.{Divides};
 ghost use Rattle.integer_core.specs.Range.{EachFits};
 ghost use Rattle.num_integer.specs.Coefficient.{coefficient, coefficient_of};
@@ -13,6 +12,7 @@ use integer_core::operators::{
 };
 
 /// Returns `a / b`. The quotient by a positive number always fits.
+#[tactic(auto, using(crate::proofs::FlooredByPositive::operator_quotient_fits))]
 pub(crate) fn positive_quotient<T: Integer>(a: T, b: T) -> T
     requires in_range { T.fits (T.value a) × T.fits (T.value b) }
     requires positive { pos 0 <ℤ T.value b }
@@ -25,6 +25,7 @@ pub(crate) fn positive_quotient<T: Integer>(a: T, b: T) -> T
 /// Splits `r * a / b`, which is an integer, into the factors `r / g` and `a / (b / g)`. `g` is the
 /// gcd of `r` and `b`, computed as that of `r % b` and `b`. If `g` is `b` or 1, one division gives
 /// both factors. After <https://blog.plover.com/math/choose-2.html>.
+#[tactic(auto, using(crate::proofs::RowSteps::g_above, crate::proofs::RowSteps::rest_above))]
 fn factors<T: Integer>(r: T, a: T, b: T) -> (T, T)
     requires in_range { T.fits (T.value r) × T.fits (T.value a) × T.fits (T.value b) }
     requires a_from_zero { pos 0 ≤ℤ T.value a }
@@ -49,6 +50,7 @@ fn factors<T: Integer>(r: T, a: T, b: T) -> (T, T)
 
 /// Returns two factors of the coefficient of `n` and `k + 1`, which is `c * (n - k) / (k + 1)`. `c`
 /// is the coefficient of `n` and `k`.
+#[tactic(auto, using(crate::proofs::RowSteps::next_divides, crate::proofs::RowSteps::next_only))]
 pub(crate) fn next_factors<T: Integer>(c: T, n: T, k: T) -> (T, T)
     requires in_range { T.fits (T.value c) × T.fits (T.value n) × T.fits (T.value k) }
     requires k_from_zero { pos 0 ≤ℤ T.value k }

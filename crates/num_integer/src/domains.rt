@@ -1,7 +1,6 @@
 //! Tests whether a call may be made with its arguments.
 
-ghost use Rattle.std.specs.Prelude.{◌≡◌, ◌≢◌, ◌↔◌, ◌≤ℤ◌, ◌<ℤ◌, ◌+ℤ◌, ◌-ℤ◌, ◌*ℤ◌, pos, unsigned_abs, map, IsTrue};
-ghost use Rattle.std.specs.List.{All};
+ghost use Rattle.std.specs.Prelude.{◌≡◌, ◌≢◌, ◌↔◌, ◌≤ℤ◌, ◌<ℤ◌, ◌+ℤ◌, ◌-ℤ◌, ◌*ℤ◌, pos, unsigned_abs, map, IsTrue, All};
 ghost use Rattle.integer_core.specs.Bezout.{HasPair};
 ghost use Rattle.integer_core.specs.Division.{EachKind, IsCeiled, IsFloored, IsMultiple, IsQuotient};
 ghost use Rattle.integer_core.specs.Divisors.{IsGreatestCommonDivisor, IsLeastCommonMultiple};

@@ -1,7 +1,6 @@
 //! Checked division.
 
-ghost use Rattle.std.specs.Prelude.{◌≢◌, ◌<ℤ◌, pos};
-ghost use Rattle.std.specs.Option.{IsSome};
+ghost use Rattle.std.specs.Prelude.{◌≢◌, ◌<ℤ◌, pos, IsSome};
 ghost use Rattle.integer_core.specs.Division.{IsCeiled, IsFloored, IsMultiple, IsQuotient, IsRemainder, IsTruncated};
 ghost use Rattle.integer_core.specs.Range.{EachFits};
 ghost use Rattle.num_integer.specs.Checked.{AnswersWhere};

@@ -1,7 +1,6 @@
 //! Checked common divisors and multiples.
 
-ghost use Rattle.std.specs.Prelude.{◌≢◌, ◌<ℤ◌, pos};
-ghost use Rattle.std.specs.Option.{IsSome};
+ghost use Rattle.std.specs.Prelude.{◌≢◌, ◌<ℤ◌, pos, IsSome};
 ghost use Rattle.integer_core.specs.Bezout.{HasPair, IsBezoutAnswer};
 ghost use Rattle.integer_core.specs.Divisors.{GcdFits, IsGreatestCommonDivisor, IsLeastCommonMultiple};
 ghost use Rattle.integer_core.specs.Range.{EachFits};

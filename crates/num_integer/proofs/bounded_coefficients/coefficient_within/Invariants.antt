@@ -1,5 +1,4 @@
-use Rattle.std.specs.Prelude.{◌≡◌, ◌-◌, ◌≤◌}
-use Rattle.num_integer.specs.Coefficient.{coefficient}
+use Rattle.num_integer.proofs.Common.{◌≡◌, ◌-◌, ◌≤◌, coefficient}
 use Rattle.num_integer.proofs.bounded_coefficients.coefficient_within.Given as goal
 
 abbrev pub invariant-loop-place : goal.invariant-loop-place

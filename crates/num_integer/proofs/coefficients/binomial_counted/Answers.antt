@@ -1,21 +1,17 @@
-use Rattle.std.specs.Prelude.{◌+◌, ◌+ℤ◌}
-use Rattle.integer_core.proofs.Common.{pos, unsigned_abs, arith, ap, ◌∙◌, ints}
-use Rattle.num_integer.specs.Coefficient.{coefficient_of}
-use Rattle.num_integer.proofs.Pascal.{below_answer, nearer_same, power_below_answer}
-use Rattle.num_integer.proofs.FittingAnswers.{fits_below, few_bits, from_test}
+use Rattle.num_integer.proofs.Common.{◌+◌, unsigned_abs, arith, ◌∙◌, ints, few_bits, from_test}
+use Rattle.num_integer.proofs.Pascal.{power_below_answer}
+use Rattle.num_integer.proofs.RowSteps.{last_coefficient, next_coefficient_fits, next_place_fits}
 use Rattle.num_integer.proofs.coefficients.binomial_counted.Goals as goal
 
 pub next_coefficient-coefficient-requires-clause-next_fits : goal.next_coefficient-coefficient-requires-clause-next_fits
 next_coefficient-coefficient-requires-clause-next_fits g c =
-    let more = c.is_below-in-loop-n.ensures.0 c.loop-n-test.true in
-    let within = from_test c.is_below.ensures c.if-is_below.false in
-    let next = g.T.Number.value c.loop-n.place +ℤ pos 1 in
-    let below = below_answer (unsigned_abs (g.T.Number.value c.args.n)) (unsigned_abs (g.T.Number.value c.args.k)) (unsigned_abs next) (omega (arith, ints)) (omega (arith, ints)) in
-    fits_below {x = coefficient_of (g.T.Number.value c.args.n) next} g.met.T.Integer.range_law c.requires.coefficient_fits (omega (arith, ints)) (omega (arith, ints))
+    next_coefficient_fits g.met.T.Integer.range_law (omega (arith, ints)) c.requires.k_from_zero (from_test c.is_below.ensures c.if-is_below.false) c.nearer_end-last.ensures.lesser
+    c.requires.coefficient_fits (c.is_below-in-loop-n.ensures.0 c.loop-n-test.true)
 
 pub successor-place-requires-clause-sum_fits : goal.successor-place-requires-clause-sum_fits
 successor-place-requires-clause-sum_fits g c =
-    fits_below g.met.T.Integer.range_law c.requires.n_in_range (omega (arith, ints)) (omega (arith, ints, c.is_below-in-loop-n.ensures.0 c.loop-n-test.true))
+    next_place_fits g.met.T.Integer.range_law (omega (arith, ints)) c.requires.k_from_zero (from_test c.is_below.ensures c.if-is_below.false) c.nearer_end-last.ensures.lesser
+    c.requires.n_in_range (c.is_below-in-loop-n.ensures.0 c.loop-n-test.true)
 
 pub overflow_add-turns : goal.overflow_add-turns
 overflow_add-turns g c =
@@ -26,9 +22,8 @@ overflow_add-turns g c =
 
 pub returns-clause-coefficient : goal.returns-clause-coefficient
 returns-clause-coefficient g c =
-    let within = from_test c.is_below.ensures c.if-is_below.false in
-    let done = from_test c.is_below-in-loop-n.ensures c.loop-n-test.false in
-    c.loop-n.invariant.coefficient ∙ ap pos (nearer_same _ _ _ (omega (arith, ints)) (omega (arith, ints)))
+    c.loop-n.invariant.coefficient ∙ last_coefficient g.met.T.Integer.range_law (omega (arith, ints)) c.requires.k_from_zero (from_test c.is_below.ensures c.if-is_below.false)
+    c.nearer_end-last.ensures.lesser c.loop-n.invariant.within (from_test c.is_below-in-loop-n.ensures c.loop-n-test.false)
 
 pub returns-clause-turns : goal.returns-clause-turns
 returns-clause-turns g c =

@@ -1,4 +1,4 @@
-use Rattle.std.proofs.Common.{◌∙◌}
+use Rattle.num_integer.proofs.Common.{◌∙◌}
 use Rattle.num_integer.proofs.coefficients.next_coefficient.Goals as goal
 
 pub product-requires-clause-product_fits : goal.product-requires-clause-product_fits

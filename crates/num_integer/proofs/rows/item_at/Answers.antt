@@ -1,5 +1,4 @@
-use Rattle.std.specs.Prelude.{◌≡◌, ◌+ℤ◌, ◌-ℤ◌}
-use Rattle.integer_core.proofs.Common.{ℤ, pos, arith, ap, sym, ◌∙◌, iff_false, linear}
+use Rattle.num_integer.proofs.Common.{◌≡◌, ◌+ℤ◌, ◌-ℤ◌, ℤ, pos, arith, ap, sym, ◌∙◌, iff_false, linear}
 use Rattle.num_integer.proofs.Pascal.{coefficient-zero}
 use Rattle.num_integer.proofs.rows.item_at.Goals as goal
 

@@ -1,7 +1,5 @@
-use Rattle.std.specs.Prelude.{◌↔◌}
-use Rattle.integer_core.proofs.Common.{ℕ, true, false, IsTrue, nat_le, arith, le-leb, leb-true, linear}
+use Rattle.num_integer.proofs.Common.{◌↔◌, ℕ, true, false, IsTrue, nat_le, arith, le-leb, leb-true, linear, IsWithin, signed}
 use Rattle.num_integer.proofs.FlooredProducts.{signed_product}
-use Rattle.num_integer.specs.Parts.{IsWithin, signed}
 use Rattle.num_integer.proofs.sign_magnitude.product_is_within.Goals as goal
 use Rattle.num_integer.proofs.sign_magnitude.product_is_within.Goals.{then-a-b, else-a-b}
 

@@ -1,4 +1,4 @@
-use Rattle.integer_core.proofs.Common.{w128, arith, rules, Fits}
+use Rattle.num_integer.proofs.Common.{w128, arith, rules, Fits}
 use Rattle.num_integer.proofs.Multinomials.{past_top}
 use Rattle.num_integer.proofs.bounded_coefficients.RunningMultinomial.with_count.Goals as goal
 

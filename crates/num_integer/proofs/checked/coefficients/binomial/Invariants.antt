@@ -1,5 +1,4 @@
-use Rattle.std.specs.Prelude.{◌≡◌, ◌-◌, ◌≤ℤ◌, pos, unsigned_abs}
-use Rattle.num_integer.specs.Coefficient.{coefficient_of}
+use Rattle.num_integer.proofs.Common.{◌≡◌, ◌-◌, ◌≤ℤ◌, pos, unsigned_abs, coefficient_of}
 use Rattle.num_integer.proofs.checked.coefficients.binomial.Given as goal
 
 abbrev pub invariant-loop-n : goal.invariant-loop-n

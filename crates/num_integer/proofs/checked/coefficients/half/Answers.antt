@@ -1,5 +1,4 @@
-use Rattle.std.specs.Prelude.{◌≡◌, ◌/◌, ◌≤ℤ◌}
-use Rattle.integer_core.proofs.Common.{ℤ, pos, negsuc, unsigned_abs, int_div, arith, refl, ◌∙◌, ints}
+use Rattle.num_integer.proofs.Common.{◌≡◌, ◌/◌, ◌≤ℤ◌, ℤ, pos, negsuc, unsigned_abs, int_div, arith, refl, ◌∙◌, ints}
 use Rattle.num_integer.proofs.checked.coefficients.half.Goals as goal
 
 -- half of a number that is not negative

@@ -1,6 +1,5 @@
-use Rattle.integer_core.proofs.Common.{arith, ints}
+use Rattle.num_integer.proofs.Common.{arith, ints, from_test}
 use Rattle.num_integer.proofs.Multinomials.{checked_last, checked_next, multinomial_next}
-use Rattle.num_integer.proofs.FittingAnswers.{from_test}
 use Rattle.num_integer.proofs.checked.coefficients.multinomial.Goals as goal
 
 pub returns-in_err-total : goal.returns-in_err-total

@@ -1,5 +1,4 @@
-use Rattle.integer_core.proofs.Common.{refl, iff_false}
-use Rattle.num_integer.proofs.FittingAnswers.{gcd_domain}
+use Rattle.num_integer.proofs.Common.{refl, iff_false, gcd_domain}
 use Rattle.num_integer.proofs.checked.divisors.extended_gcd.Goals as goal
 use Rattle.num_integer.proofs.checked.divisors.extended_gcd.Goals.{else-gcd_fits-via-then-gcd_fits+else-pair_fits, else-gcd_fits-via-else-gcd_fits}
 

@@ -1,5 +1,4 @@
-use Rattle.std.proofs.lemmas.Bool.{iff_false}
-use Rattle.num_integer.proofs.FittingAnswers.{gcd_domain}
+use Rattle.num_integer.proofs.Common.{iff_false, gcd_domain}
 use Rattle.num_integer.proofs.checked.divisors.gcd.Goals as goal
 
 pub returns-else-gcd_fits-clause-answer : goal.returns-else-gcd_fits-clause-answer

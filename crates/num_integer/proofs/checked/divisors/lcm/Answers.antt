@@ -1,5 +1,4 @@
-use Rattle.std.specs.Prelude.{◌≡◌, ◌⊎◌}
-use Rattle.integer_core.proofs.Common.{pos, inl, inr, iff_false}
+use Rattle.num_integer.proofs.Common.{◌≡◌, ◌⊎◌, pos, inl, inr, iff_false}
 use Rattle.num_integer.proofs.CheckedAnswers.{gcd_fits_with_lcm, zero_lcm}
 use Rattle.num_integer.proofs.checked.divisors.lcm.Goals as goal
 use Rattle.num_integer.proofs.checked.divisors.lcm.Goals.{then-is_zero-via-then-is_zero, then-is_zero-via-else-is_zero+then-is_zero-2}

@@ -1,4 +1,4 @@
-use Rattle.std.proofs.Common.{inr}
+use Rattle.num_integer.proofs.Common.{inr}
 use Rattle.num_integer.proofs.CheckedAnswers.{zero_lcm}
 use Rattle.num_integer.proofs.checked.divisors.lcm_with_gcd.Goals as goal
 

@@ -1,8 +1,5 @@
-use Rattle.std.specs.Prelude.{◌*ℤ◌}
-use Rattle.integer_core.proofs.Common.{◌∙◌, IsLeastCommonMultiple, natural}
-use Rattle.integer_core.proofs.CommonDivisors.{gcd-positive, only_lcm}
+use Rattle.num_integer.proofs.Common.{◌*ℤ◌, ◌∙◌, IsLeastCommonMultiple, natural, gcd-positive, only_lcm, from_test}
 use Rattle.num_integer.proofs.CheckedAnswers.{answer_only, answers_only, lcm_by_gcd, negated_is, product_fits_by_size}
-use Rattle.num_integer.proofs.FittingAnswers.{from_test}
 use Rattle.num_integer.proofs.checked.divisors.nonzero_lcm.Goals as goal
 
 pub positive_quotient-requires-clause-positive : goal.positive_quotient-requires-clause-positive

@@ -1,5 +1,4 @@
-use Rattle.std.specs.Prelude.{◌≡◌, ◌-ℤ◌}
-use Rattle.integer_core.proofs.Common.{arith, linear, neg_ℤ, pos}
+use Rattle.num_integer.proofs.Common.{◌≡◌, ◌-ℤ◌, arith, linear, neg_ℤ, pos}
 use Rattle.num_integer.proofs.checked.operators.negated.Goals as goal
 
 pub returns : goal.returns

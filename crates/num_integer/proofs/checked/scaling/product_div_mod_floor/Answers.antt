@@ -1,9 +1,5 @@
-use Rattle.std.specs.Prelude.{◌≡◌, ◌*ℤ◌}
-use Rattle.integer_core.proofs.Common.{arith, subst, ints, iff_false, IsFloored}
-use Rattle.integer_core.proofs.Quotients.{floored_remainder_fits, only_floored}
-use Rattle.num_integer.proofs.FittingAnswers.{signed_is}
+use Rattle.num_integer.proofs.Common.{◌≡◌, ◌*ℤ◌, arith, subst, ints, iff_false, IsFloored, floored_remainder_fits, only_floored, signed, signed_is}
 use Rattle.num_integer.proofs.FlooredProducts.{part_fits}
-use Rattle.num_integer.specs.Parts.{signed}
 use Rattle.num_integer.proofs.checked.scaling.product_div_mod_floor.Given.{Over}
 use Rattle.num_integer.proofs.checked.scaling.product_div_mod_floor.Goals.{After-floored_product}
 use Rattle.num_integer.proofs.checked.scaling.product_div_mod_floor.Goals as goal

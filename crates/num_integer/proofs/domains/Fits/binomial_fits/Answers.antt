@@ -1,4 +1,4 @@
-use Rattle.num_integer.proofs.FittingAnswers.{from_test}
+use Rattle.num_integer.proofs.Common.{from_test}
 use Rattle.num_integer.proofs.Multinomials.{test_of}
 use Rattle.num_integer.proofs.domains.Fits.binomial_fits.Goals as goal
 

@@ -1,4 +1,4 @@
-use Rattle.num_integer.proofs.FittingAnswers.{signed_is, signed-not, test_inside}
+use Rattle.num_integer.proofs.Common.{signed_is, signed-not, test_inside}
 use Rattle.num_integer.proofs.domains.Fits.difference_fits.Goals as goal
 
 pub returns : goal.returns

@@ -1,5 +1,5 @@
 use Rattle.num_integer.proofs.DivisorSizes.{gcd_with_positive_fits}
-use Rattle.num_integer.proofs.FittingAnswers.{gcd_of_nonzero, gcd_of_zero}
+use Rattle.num_integer.proofs.Common.{gcd_of_nonzero, gcd_of_zero}
 use Rattle.num_integer.proofs.domains.Fits.gcd_fits.Goals as goal
 
 pub returns-then-b-eq0 : goal.returns-then-b-eq0

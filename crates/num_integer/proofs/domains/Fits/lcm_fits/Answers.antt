@@ -1,5 +1,4 @@
-use Rattle.integer_core.proofs.Common.{arith, refl, rules, ints}
-use Rattle.num_integer.proofs.FittingAnswers.{lcm_domain, fits_up, test_up}
+use Rattle.num_integer.proofs.Common.{arith, refl, rules, ints, lcm_domain, fits_up, test_up}
 use Rattle.num_integer.proofs.domains.Fits.lcm_fits.Goals as goal
 
 pub returns-then-m-eq0 : goal.returns-then-m-eq0

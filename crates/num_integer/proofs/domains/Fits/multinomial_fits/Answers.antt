@@ -1,4 +1,4 @@
-use Rattle.num_integer.proofs.FittingAnswers.{from_test}
+use Rattle.num_integer.proofs.Common.{from_test}
 use Rattle.num_integer.proofs.Multinomials.{none_negative, none_past, within_first, within_last, within_next}
 use Rattle.num_integer.proofs.domains.Fits.multinomial_fits.Goals as goal
 

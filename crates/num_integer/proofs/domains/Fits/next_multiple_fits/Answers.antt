@@ -1,6 +1,4 @@
-use Rattle.std.proofs.lemmas.Bool.{iff_false}
-use Rattle.integer_core.proofs.Quotients.{gap_fits, next_above, next_exact}
-use Rattle.num_integer.proofs.FittingAnswers.{ceiled, multiple_domain}
+use Rattle.num_integer.proofs.Common.{iff_false, gap_fits, next_above, next_exact, ceiled, multiple_domain}
 use Rattle.num_integer.proofs.domains.Fits.next_multiple_fits.Goals as goal
 
 pub difference-requires-clause-difference_fits : goal.difference-requires-clause-difference_fits

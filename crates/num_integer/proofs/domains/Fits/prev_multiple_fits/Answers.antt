@@ -1,6 +1,4 @@
-use Rattle.std.proofs.lemmas.Bool.{iff_false}
-use Rattle.integer_core.proofs.Quotients.{previous}
-use Rattle.num_integer.proofs.FittingAnswers.{floored, multiple_domain}
+use Rattle.num_integer.proofs.Common.{iff_false, previous, floored, multiple_domain}
 use Rattle.num_integer.proofs.domains.Fits.prev_multiple_fits.Goals as goal
 
 pub returns-then-not-is_zero : goal.returns-then-not-is_zero

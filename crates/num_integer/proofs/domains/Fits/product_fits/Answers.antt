@@ -1,5 +1,4 @@
-use Rattle.std.specs.Prelude.{◌*ℤ◌}
-use Rattle.num_integer.proofs.FittingAnswers.{test_of_both}
+use Rattle.num_integer.proofs.Common.{◌*ℤ◌, test_of_both}
 use Rattle.num_integer.proofs.domains.Fits.product_fits.Goals as goal
 
 pub returns : goal.returns

@@ -1,5 +1,4 @@
-use Rattle.integer_core.proofs.Common.{arith, iff_false, ints}
-use Rattle.num_integer.proofs.FittingAnswers.{by_minus_one, by_other, each_kind}
+use Rattle.num_integer.proofs.Common.{arith, iff_false, ints, by_minus_one, by_other, each_kind}
 use Rattle.num_integer.proofs.domains.Fits.quotient_fits.Goals as goal
 
 pub returns-then-is_minus_one : goal.returns-then-is_minus_one

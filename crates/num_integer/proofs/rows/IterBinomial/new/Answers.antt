@@ -1,5 +1,4 @@
-use Rattle.integer_core.proofs.Common.{arith, ints}
-use Rattle.std.proofs.lemmas.List.Elements.{All-drop}
+use Rattle.num_integer.proofs.Common.{arith, ints, All-drop}
 use Rattle.num_integer.proofs.RowSteps.{row_in_range}
 use Rattle.num_integer.proofs.rows.IterBinomial.new.Goals as goal
 

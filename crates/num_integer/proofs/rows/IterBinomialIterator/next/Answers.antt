@@ -1,5 +1,4 @@
-use Rattle.std.proofs.Common.{arith, ap, length, sym, ◌∙◌}
-use Rattle.num_integer.proofs.FittingAnswers.{from_test}
+use Rattle.num_integer.proofs.Common.{arith, ap, length, sym, ◌∙◌, from_test}
 use Rattle.num_integer.proofs.RowSteps.{item_fits, place_fits, rest_next, rest_none}
 use Rattle.num_integer.proofs.rows.IterBinomialIterator.next.Goals as goal
 
