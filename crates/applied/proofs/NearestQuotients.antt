@@ -1,5 +1,5 @@
 -- Quotients rounded to the nearest integer: from those rounded down, the only ones, and when they fit.
-use Rattle.std.specs.Prelude.{◌≡◌, ◌⊎◌, ◌↔◌, ◌<◌, ◌≤◌, ◌≤ℤ◌, ◌+◌, ◌*◌, ◌<ℤ◌, ◌+ℤ◌, ◌-ℤ◌, ◌*ℤ◌}
+use Rattle.std.specs.Prelude.{◌≡◌, ◌≢◌, ◌⊎◌, ◌↔◌, ◌<◌, ◌≤◌, ◌≤ℤ◌, ◌+◌, ◌*◌, ◌<ℤ◌, ◌+ℤ◌, ◌-ℤ◌, ◌*ℤ◌}
 use Rattle.applied.proofs.Common.{ℤ, pos, neg_ℤ, unsigned_abs, ap, arith, inl, inr, le_refl, refl, subst, cases_lt, by_lt_z, unsigned_abs-mul, mul-le, IsDivision, IsFloored, IsQuotient, IsEven, EachFits, IsRange, divides_or_not, expand, from_not_less, linear, other_quotient_fits, products, sizes, zero_or_not, division_exists, NearestEvenQuotientIsOnly, NearestQuotientExists, NearestQuotientFitsExactly, NearestQuotientIsOnly, NoIntegerIsNearer, IsDown, IsNearer, IsNearest, IsNearestEven, LiesWithin}
 
 next_product : (q d : ℤ) → (q +ℤ pos 1) *ℤ d ≡ q *ℤ d +ℤ d
@@ -166,10 +166,6 @@ nearest_quotient_exists = λ n d nonzero.
 
 -- ---- when they fit
 
--- a test of one domain, in other words
-pub test_is : {Nonzero Floored Nearest Test : Type 0} → Test ↔ (Nonzero × Floored) → Floored ↔ Nearest → Test ↔ (Nonzero × Nearest)
-test_is test same = (λ t. ((test.0 t).0, same.0 (test.0 t).1), λ h. test.1 (h.0, same.1 h.1))
-
 module _ {fits : ℤ → Type 0} {low high n d : ℤ} (range : IsRange fits low high) (n_fits : fits n) (d_fits : fits d) where
   -- if the exact quotients of a kind fit, each quotient does
   each_quotient_fits : (Kind : ℤ → ℤ → ℤ → ℤ → Type 0) → ((q : ℤ) → IsDivision n d q (pos 0) → Kind n d q (pos 0)) → EachFits fits (IsQuotient Kind n d) → (q r : ℤ) → IsDivision n d q r → fits q
@@ -195,3 +191,13 @@ nearest_quotient_fits_exactly fits = λ low high n d range n_fits d_fits. (
   same_fit range n_fits d_fits IsNearestEven (λ q r h. h.division)
       (λ q k. record { division = k; nearest = omega (arith, sizes); tie = λ half. absurd (omega (arith, sizes, k.small)) }),
 )
+
+-- a test of one domain, in other words
+test_is : {Nonzero Floored Nearest Test : Type 0} → Test ↔ (Nonzero × Floored) → Floored ↔ Nearest → Test ↔ (Nonzero × Nearest)
+test_is test same = (λ t. ((test.0 t).0, same.0 (test.0 t).1), λ h. test.1 (h.0, same.1 h.1))
+
+-- a test of whether the quotient rounded down fits is one of the nearest quotients
+pub nearest_domains : {fits : ℤ → Type 0} {low high n d : ℤ} {Test : Type 0} → IsRange fits low high → fits n → fits d → Test ↔ ((d ≢ pos 0) × EachFits fits (IsQuotient IsFloored n d))
+    → (Test ↔ ((d ≢ pos 0) × EachFits fits (IsQuotient IsNearest n d))) × (Test ↔ ((d ≢ pos 0) × EachFits fits (IsQuotient IsNearestEven n d)))
+nearest_domains {fits} range n_fits d_fits test =
+    let same = nearest_quotient_fits_exactly fits _ _ _ _ range n_fits d_fits in (test_is test same.0, test_is test same.1)
