@@ -7,7 +7,7 @@ pub use Rattle.applied.specs.Paging.{IsEvenCut, IsPlace, IsRangeOfPage, IsRangeO
 pub use Rattle.applied.specs.Powers.{IsLogarithm}
 pub use Rattle.applied.specs.Ranking.{IsBefore, IsChoice, IsChoiceOfRank, IsFirstToRise, IsLastChoice, rank_of}
 pub use Rattle.applied.specs.ReducedPairs.{HasSignOf, IsReducedPair}
-pub use Rattle.applied.specs.Rounding.{IsDown, IsNearer, IsNearest, IsNearestEven, LiesWithin}
+pub use Rattle.applied.specs.Rounding.{AnswersQuotient, IsDown, IsNearer, IsNearest, IsNearestEven, LiesWithin}
 pub use Rattle.applied.specs.Schedules.{HaveBegun, IsLeastTime, IsMeeting, IsMeetingOfEach}
 pub use Rattle.applied.specs.Shares.{AreShares, AreSignedShares, IsNearShare, signed_sum}
 pub use Rattle.modular.proofs.Congruences.{congruent-difference, congruent-product, congruent-refl, congruent-sum, congruent-trans}
@@ -18,7 +18,7 @@ pub use Rattle.modular.specs.declared.common_solutions.CommonSolution.TheVariant
 pub use Rattle.num_integer.proofs.FittingAnswers.{few_bits}
 pub use Rattle.num_integer.proofs.ForCallers.{Divides-antisym, Divides-difference, Divides-trans, Divides-zero, answer_only, answers_as, cancel, ceiled_by_range, ceiled_quotient_least, coefficient-zero, coefficient_grows, comm, coprime_divides, divided_by_gcd, divides_magnitude, divides_or_not, divisor_at_most, divisor_size, even_power, exact_power_root, exact_quotient, expand, factor_positive, factorial-pos, fits_below, floored_by_range, floored_range, floored_remainder_within, from_not_less, from_test, gcd-swap, gcd-zero, gcd_fits_is, int_pow-suc, int_pow-zero, lcm-positive, least_is_only, least_multiple_beyond, linear, magnitude_divides, mul-neg, multiples_apart, natural_exact_quotient, natural_gcd_positive, natural_quotients_coprime, next_multiple_least, no_minus_one, none_above, odd_power, one_divides, one_fits, only_ceiled, only_gcd, only_pair_by_range, operator_quotient_fits, other_quotient_fits, pascal, positive_quotient_fits, power_of_one, power_of_zero, power_size, product_at_most, product_from_zero, product_positive, products, root_by_squares, sizes, square_root_of_square, truncated_is, within_fits, zero_divides, zero_fits, zero_or_not}
 pub use Rattle.num_integer.proofs.Laws.{division_exists, factorial_formula, gcd_exists, lcm_exists}
-pub use Rattle.num_integer.specs.Checked.{AnswersWhere}
+pub use Rattle.num_integer.specs.Checked.{AnswersWhere, Has}
 pub use Rattle.num_integer.specs.Coefficient.{coefficient}
 pub use Rattle.num_integer.specs.Division.{IsDivision, IsFloored, IsQuotient}
 pub use Rattle.num_integer.specs.Divisors.{Divides, IsEven, IsGreatestCommonDivisor, IsLeastCommonMultiple}
@@ -43,5 +43,5 @@ pub use Rattle.std.specs.Int.{int_pow, w64}
 pub use Rattle.std.specs.List.{AllWithin, HoldsAt, enumerate_from}
 pub use Rattle.std.specs.List.Sorted.{IsStrictlyIncreasing}
 pub use Rattle.std.specs.Ordering.{int_cmp}
-pub use Rattle.std.specs.Prelude.{All, EachIndex, FitsSigned, IsSortedByKey, IsTrue, List, Option, Some, [], get_or, int_div, length, map, neg_ℤ, negsuc, pos, slice_index, slice_index_or, slice_set, suc, sum, sum_by, take, unsigned_abs, zero, ℕ, ℤ}
+pub use Rattle.std.specs.Prelude.{All, Bool, EachIndex, FitsSigned, IfSome, IsSortedByKey, IsTrue, List, None, Option, Some, [], get_or, int_div, is_some, length, map, neg_ℤ, negsuc, pos, slice_index, slice_index_or, slice_set, suc, sum, sum_by, take, unsigned_abs, zero, ℕ, ℤ}
 pub use Rattle.std.specs.declared.cmp.Ordering.TheVariants.{Less}

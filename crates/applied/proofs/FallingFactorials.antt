@@ -10,10 +10,6 @@ falling-suc : (n k : ℕ) → falling (suc n) (suc k) ≡ suc n * falling n k
 unfolding falling
 falling-suc n k = refl
 
-falling-zero : (n : ℕ) → falling n 0 ≡ 1
-unfolding falling
-falling-zero n = refl
-
 -- no more than n of n things stand in a row
 pub falling_none : (n k : ℕ) → n < k → falling n k ≡ 0
 unfolding falling
@@ -36,13 +32,13 @@ falling_grows a j (suc d) =
     rw (e, f, falling-suc (a + j + d) (j + d)) (omega (arith, falling_grows a j d))
 
 pub falling_formula : FallingFormula
-unfolding factorial
-falling_formula n zero within = let e : n - 0 ≡ n = omega arith in rw (e, falling-zero n) (omega arith)
+unfolding falling factorial
+falling_formula n zero within = let e : n - 0 ≡ n = omega arith in rw e (omega arith)
 falling_formula zero (suc k) within = absurd (omega arith)
 falling_formula (suc n) (suc k) within =
     let e : suc n - suc k ≡ n - k = omega arith in
     let times = ap (λ (t : ℕ). suc n * t) (falling_formula n k (omega arith)) in
-    rw (e, falling-suc n k) (omega arith)
+    rw e (omega arith)
 
 pub falling_by_coefficient : FallingByCoefficient
 falling_by_coefficient n k = elim (cases_lt n k) [
@@ -84,13 +80,14 @@ pub record IsProductSoFar (fits : ℤ → Type 0) (low factor high product : ℤ
 
 module _ {fits : ℤ → Type 0} {low high : ℤ} where
   pub product_first : {one : ℤ} → fits low → fits one → one ≡ pos 1 → low ≤ℤ high → IsProductSoFar fits low low high one
-  product_first {one} low_fits one_fits e ordered = record {
+  unfolding falling
+  product_first low_fits one_fits e ordered = record {
     factor_in_range = low_fits;
     product_in_range = one_fits;
     count = 0;
     at = omega (arith, linear);
     to_high = ordered;
-    is = e ∙ sym (ap pos (falling-zero (unsigned_abs low + 0)));
+    is = e;
   }
 
   module _ {factor product : ℤ} (h : IsProductSoFar fits low factor high product) (low_up : pos 0 ≤ℤ low) where

@@ -88,6 +88,9 @@ none_signed {shares = shares} size up = record {
   signs = λ k d none. absurd (omega arith);
 }
 
+-- what both loops begin with
+pub ruleset nothing_written = (none_shared, none_signed)
+
 pub one_more_signed : {amount : ℤ} {total i ahead next : ℕ} {weights : List ℕ} {shares : List ℤ} (share : ℤ) → i < length weights
     → unsigned_abs share * total + ahead ≡ unsigned_abs amount * slice_index weights i + next → next < total
     → (pos 0 ≤ℤ amount → pos 0 ≤ℤ share) → (amount ≤ℤ pos 0 → share ≤ℤ pos 0)

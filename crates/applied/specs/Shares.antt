@@ -1,6 +1,11 @@
 -- An amount divided in proportion to weights.
 use Rattle.std.specs.Prelude.{◌≡◌, ◌<◌, ◌≤◌, ◌+◌, ◌*◌, ◌≤ℤ◌, ◌+ℤ◌, ℕ, ℤ, pos, List, [], ◌∷◌, All, length, map, sum, take, unsigned_abs}
 
+-- There is one share for each weight, and the weights are not all 0.
+-- Examples: weights 1, 1, 1 and three shares; weights 0, 3 and two shares; not weights 1, 1, 1 and two shares; not weights 0, 0.
+abbrev pub CanBeShared : {A : Type 0} → List ℕ → List A → Type 0
+CanBeShared weights shares = (length shares ≡ length weights) × (0 < sum weights)
+
 -- For each k, the sum of the first k shares is the exact share of the first k weights, rounded up. That exact share is amount · (sum of these
 -- weights) / (sum of all weights).
 -- Examples: amount 100: weights 1, 1, 1: 34, 33, 33; weights 1, 2: 34, 66; weights 0, 3: 0, 100; no shares for weights 0, 0.

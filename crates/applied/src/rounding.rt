@@ -15,8 +15,7 @@ use num_integer::{Integer, div_mod_floor};
 ///
 /// May be called if `Fits::quotient_fits` is true; [`checked::div_round`] has no condition.
 pub fn div_round<T: Integer>(x: T, y: T) -> T
-    requires x_in_range { T.fits (T.value x) }
-    requires y_in_range { T.fits (T.value y) }
+    requires in_range { T.fits (T.value x) × T.fits (T.value y) }
     requires nonzero { T.value y ≢ pos 0 }
     requires quotient_fits { EachFits T.fits (IsQuotient IsFloored (T.value x) (T.value y)) }
     ensures in_range { T.fits (T.value result) }
@@ -31,8 +30,7 @@ pub fn div_round<T: Integer>(x: T, y: T) -> T
 ///
 /// May be called if `Fits::quotient_fits` is true; [`checked::div_round_even`] has no condition.
 pub fn div_round_even<T: Integer>(x: T, y: T) -> T
-    requires x_in_range { T.fits (T.value x) }
-    requires y_in_range { T.fits (T.value y) }
+    requires in_range { T.fits (T.value x) × T.fits (T.value y) }
     requires nonzero { T.value y ≢ pos 0 }
     requires quotient_fits { EachFits T.fits (IsQuotient IsFloored (T.value x) (T.value y)) }
     ensures in_range { T.fits (T.value result) }

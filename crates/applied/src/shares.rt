@@ -1,8 +1,11 @@
 //! An amount divided in proportion to weights.
 
+#![tactic(auto, using(crate::proofs::WeightedShares::nothing_written))]
+
 ghost use Rattle.std.specs.Prelude.{◌≡◌, ◌↔◌, ◌<◌, ◌≤◌, ◌+◌, ◌*◌, ◌≤ℤ◌, pos, EachIndex, IsFalse, IsTrue, length, slice_index, sum, unsigned_abs};
+ghost use Rattle.num_integer.specs.Checked.{AnswersWhere};
 ghost use Rattle.num_integer.specs.Only.{IsOnly};
-ghost use Rattle.applied.specs.Shares.{AreShares, AreSignedShares, IsNearShare, signed_sum};
+ghost use Rattle.applied.specs.Shares.{AreShares, AreSignedShares, CanBeShared, IsNearShare, signed_sum};
 
 /// Fills `shares` with the shares of the amount that are in proportion to the weights and returns `true`. Together
 /// they are the amount, and each differs by less than 1 from its exact share. The first shares together are
@@ -10,10 +13,8 @@ ghost use Rattle.applied.specs.Shares.{AreShares, AreSignedShares, IsNearShare, 
 /// writes nothing if the weights are all 0, or if there is not one share for each weight.
 /// `{ let mut parts = [0; 3]; (shares(100, &[1, 1, 1], &mut parts), parts) }` is `(true, [34, 33, 33])`,
 /// and `shares(100, &[0, 0], &mut [7, 7])` is `false`.
-#[tactic(auto, using(crate::proofs::WeightedShares::none_shared))]
 pub fn shares(amount: u64, weights: &[u64], shares: &mut [u64]) -> bool
-    ensures possible { IsTrue result
-        ↔ ((length shares.old ≡ length weights.now) × (0 < sum weights.now)) }
+    ensures possible { IsTrue result ↔ CanBeShared weights.now shares.old }
     ensures shares { IsTrue result → AreShares amount weights.now shares.new }
     ensures only { IsTrue result → IsOnly (AreShares amount weights.now) shares.new }
     ensures whole { IsTrue result → sum shares.new ≡ amount }
@@ -21,10 +22,9 @@ pub fn shares(amount: u64, weights: &[u64], shares: &mut [u64]) -> bool
         (slice_index weights.now i) (sum weights.now) (slice_index shares.new i)) }
     ensures unchanged { IsFalse result → shares.new ≡ shares.old }
 {
-    let total = total_of(weights);
-    if shares.len() != weights.len() || total == 0 {
+    let Some(total) = total_to_share(weights, shares) else {
         return false;
-    }
+    };
     let mut ahead = 0;
     for (i, weight) in weights.iter().enumerate() {
         let (share, next) = next_share(amount, *weight, total, ahead);
@@ -39,19 +39,16 @@ pub fn shares(amount: u64, weights: &[u64], shares: &mut [u64]) -> bool
 /// Returns `false` and writes nothing if the weights are all 0, or if there is not one share for each weight.
 /// `{ let mut parts = [0; 3]; (signed_shares(-100, &[1, 1, 1], &mut parts), parts) }` is
 /// `(true, [-34, -33, -33])`.
-#[tactic(auto, using(crate::proofs::WeightedShares::none_signed))]
 pub fn signed_shares(amount: i64, weights: &[u64], shares: &mut [i64]) -> bool
-    ensures possible { IsTrue result
-        ↔ ((length shares.old ≡ length weights.now) × (0 < sum weights.now)) }
+    ensures possible { IsTrue result ↔ CanBeShared weights.now shares.old }
     ensures shares { IsTrue result → AreSignedShares amount weights.now shares.new }
     ensures only { IsTrue result → IsOnly (AreSignedShares amount weights.now) shares.new }
     ensures whole { IsTrue result → signed_sum shares.new ≡ amount }
     ensures unchanged { IsFalse result → shares.new ≡ shares.old }
 {
-    let total = total_of(weights);
-    if shares.len() != weights.len() || total == 0 {
+    let Some(total) = total_to_share(weights, shares) else {
         return false;
-    }
+    };
     let mut ahead = 0;
     for (i, weight) in weights.iter().enumerate() {
         let (share, next) = next_share(amount.unsigned_abs(), *weight, total, ahead);
@@ -59,6 +56,15 @@ pub fn signed_shares(amount: i64, weights: &[u64], shares: &mut [i64]) -> bool
         ahead = next;
     }
     true
+}
+
+/// Returns the sum of the weights, or `None` if they are all 0, or if there is not one share for each weight.
+fn total_to_share<S>(weights: &[u64], shares: &[S]) -> Option<u128>
+    ensures { AnswersWhere (CanBeShared weights.now shares.now) (λ total. total ≡ sum weights.now)
+        result }
+{
+    let total = total_of(weights);
+    (shares.len() == weights.len() && total != 0).then_some(total)
 }
 
 /// Returns the sum of the weights.

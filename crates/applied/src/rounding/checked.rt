@@ -1,47 +1,29 @@
 //! The calls of this module for any two numbers. Each is `None` if the divisor is 0 or the quotient does not fit.
 
-ghost use Rattle.std.specs.Prelude.{◌≢◌, ◌<ℤ◌, pos};
+ghost use Rattle.std.specs.Prelude.{◌<ℤ◌, pos};
 ghost use Rattle.std.specs.Option.{IsSome};
-ghost use Rattle.num_integer.specs.Checked.{AnswersWhere};
-ghost use Rattle.num_integer.specs.Division.{IsQuotient};
-ghost use Rattle.num_integer.specs.Range.{EachFits};
-ghost use Rattle.applied.specs.Rounding.{IsNearest, IsNearestEven};
+ghost use Rattle.applied.specs.Rounding.{AnswersQuotient, IsNearest, IsNearestEven};
 
+use crate::rounding;
 use num_integer::Fits;
 
 /// Returns [`div_round`](crate::rounding::div_round), the nearest integer and a half away from zero, or `None`
 /// if `y` is 0 or the quotient does not fit. `div_round(5, 2)` is `Some(3)`, and `div_round(i8::MIN, -1)` is
 /// `None`.
 pub fn div_round<T: Fits>(x: T, y: T) -> Option<T>
-    requires x_in_range { T.fits (T.value x) }
-    requires y_in_range { T.fits (T.value y) }
-    ensures answer { AnswersWhere
-        ((T.value y ≢ pos 0) × EachFits T.fits (IsQuotient IsNearest (T.value x) (T.value y)))
-        (λ q. T.fits (T.value q) × IsQuotient IsNearest (T.value x) (T.value y) (T.value q))
-        result }
+    requires in_range { T.fits (T.value x) × T.fits (T.value y) }
+    ensures answer { AnswersQuotient IsNearest T.fits T.value (T.value x) (T.value y) result }
     ensures positive { pos 0 <ℤ T.value y → IsSome result }
 {
-    if x.quotient_fits(&y) {
-        Some(crate::rounding::div_round(x, y))
-    } else {
-        None
-    }
+    x.quotient_fits(&y).then(|| rounding::div_round(x, y))
 }
 
 /// Returns [`div_round_even`](crate::rounding::div_round_even), the nearest integer and a half to the even one,
 /// or `None` if [`div_round`] does. `div_round_even(5, 2)` is `Some(2)`, and `div_round_even(5, 0)` is `None`.
 pub fn div_round_even<T: Fits>(x: T, y: T) -> Option<T>
-    requires x_in_range { T.fits (T.value x) }
-    requires y_in_range { T.fits (T.value y) }
-    ensures answer { AnswersWhere
-        ((T.value y ≢ pos 0) × EachFits T.fits (IsQuotient IsNearestEven (T.value x) (T.value y)))
-        (λ q. T.fits (T.value q) × IsQuotient IsNearestEven (T.value x) (T.value y) (T.value q))
-        result }
+    requires in_range { T.fits (T.value x) × T.fits (T.value y) }
+    ensures answer { AnswersQuotient IsNearestEven T.fits T.value (T.value x) (T.value y) result }
     ensures positive { pos 0 <ℤ T.value y → IsSome result }
 {
-    if x.quotient_fits(&y) {
-        Some(crate::rounding::div_round_even(x, y))
-    } else {
-        None
-    }
+    x.quotient_fits(&y).then(|| rounding::div_round_even(x, y))
 }

@@ -18,21 +18,18 @@ returns-then-is_below g c =
 
 pub product-first-requires-clause-product_fits : goal.product-first-requires-clause-product_fits
 product-first-requires-clause-product_fits g c =
-    let up = from_test c.is_negative.ensures c.if-is_negative.false in
-    let within = begins_in c.requires.positive c.div_floor.ensures.floored.division up (from_test c.is_below.ensures c.if-is_below.false) in
+    let within = begins_in c.requires.positive c.div_floor.ensures.floored.division (from_test c.is_negative.ensures c.if-is_negative.false) (from_test c.is_below.ensures c.if-is_below.false) in
     fits_below g.met.T.Integer.range_law c.requires.in_range.2 within.0 within.1
 
 pub difference-requires-clause-difference_fits : goal.difference-requires-clause-difference_fits
 difference-requires-clause-difference_fits g c =
-    let up = from_test c.is_negative.ensures c.if-is_negative.false in
-    let within = begins_in c.requires.positive c.div_floor.ensures.floored.division up (from_test c.is_below.ensures c.if-is_below.false) in
+    let within = begins_in c.requires.positive c.div_floor.ensures.floored.division (from_test c.is_negative.ensures c.if-is_negative.false) (from_test c.is_below.ensures c.if-is_below.false) in
     fits_below g.met.T.Integer.range_law c.requires.in_range.2 (omega (arith, linear, within.1, c.product-first.ensures.value))
     (omega (arith, linear, within.0, c.product-first.ensures.value))
 
 pub sum-requires-clause-sum_fits : goal.sum-requires-clause-sum_fits
 sum-requires-clause-sum_fits g c =
-    let up = from_test c.is_negative.ensures c.if-is_negative.false in
-    let within = begins_in c.requires.positive c.div_floor.ensures.floored.division up (from_test c.is_below.ensures c.if-is_below.false) in
+    let within = begins_in c.requires.positive c.div_floor.ensures.floored.division (from_test c.is_negative.ensures c.if-is_negative.false) (from_test c.is_below.ensures c.if-is_below.false) in
     let first = c.product-first.ensures.value in
     let enough = from_test c.is_below-2.ensures c.if-is_below-2.false in
     fits_below g.met.T.Integer.range_law c.requires.in_range.2 (omega (arith, linear, within.0, c.requires.positive))
@@ -40,8 +37,7 @@ sum-requires-clause-sum_fits g c =
 
 pub returns-then-is_below-2 : goal.returns-then-is_below-2
 returns-then-is_below-2 g c =
-    let up = from_test c.is_negative.ensures c.if-is_negative.false in
-    let within = begins_in c.requires.positive c.div_floor.ensures.floored.division up (from_test c.is_below.ensures c.if-is_below.false) in
+    let within = begins_in c.requires.positive c.div_floor.ensures.floored.division (from_test c.is_negative.ensures c.if-is_negative.false) (from_test c.is_below.ensures c.if-is_below.false) in
     let short = c.is_below-2.ensures.0 c.if-is_below-2.true in
     let first = c.product-first.ensures.value in
     let own = short_page (g.T.Number.value c.args.page) (g.T.Number.value c.args.page_size) within
@@ -51,8 +47,7 @@ returns-then-is_below-2 g c =
 
 pub returns-else-is_below-2 : goal.returns-else-is_below-2
 returns-else-is_below-2 g c =
-    let up = from_test c.is_negative.ensures c.if-is_negative.false in
-    let within = begins_in c.requires.positive c.div_floor.ensures.floored.division up (from_test c.is_below.ensures c.if-is_below.false) in
+    let within = begins_in c.requires.positive c.div_floor.ensures.floored.division (from_test c.is_negative.ensures c.if-is_negative.false) (from_test c.is_below.ensures c.if-is_below.false) in
     let enough = from_test c.is_below-2.ensures c.if-is_below-2.false in
     let first = c.product-first.ensures.value in
     let own = whole_page (g.T.Number.value c.args.page) _ c.requires.positive within (omega (arith, linear, c.difference.ensures.value)) in

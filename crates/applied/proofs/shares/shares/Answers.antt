@@ -3,13 +3,13 @@ use Rattle.applied.proofs.WeightedShares.{all_shared, one_more_shared, shares_ar
 use Rattle.applied.proofs.shares.shares.Goals as goal
 
 pub next_share-share-requires-clause-within : goal.next_share-share-requires-clause-within
-next_share-share-requires-clause-within c = rw c.total_of-total.ensures (get_or-le-sum_by (λ (x : ℕ). x) c.args.weights.now c.loop-i.i 0 c.loop-i-test.true)
+next_share-share-requires-clause-within c = rw c.in-Some.ensures.1 (get_or-le-sum_by (λ (x : ℕ). x) c.args.weights.now c.loop-i.i 0 c.loop-i-test.true)
 
 pub loop-i-preserved : goal.loop-i-preserved
 loop-i-preserved c = one_more_shared c.next_share-share.result.0 c.loop-i-test.true c.next_share-share.ensures.share c.next_share-share.ensures.below c.loop-i.invariant
 
 pub returns-clause-shares : goal.returns-clause-shares
-returns-clause-shares c = λ _. all_shared c.total_of-total.ensures (omega arith) c.loop-i.invariant
+returns-clause-shares c = λ _. all_shared c.in-Some.ensures.1 (omega arith) c.loop-i.invariant
 
 pub returns-clause-only : goal.returns-clause-only
 returns-clause-only c = λ ok. shares_are_only (returns-clause-shares c ok)

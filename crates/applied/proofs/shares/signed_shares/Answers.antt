@@ -3,7 +3,7 @@ use Rattle.applied.proofs.WeightedShares.{all_signed, one_more_signed, signed_sh
 use Rattle.applied.proofs.shares.signed_shares.Goals as goal
 
 pub next_share-share-requires-clause-within : goal.next_share-share-requires-clause-within
-next_share-share-requires-clause-within c = rw c.total_of-total.ensures (get_or-le-sum_by (λ (x : ℕ). x) c.args.weights.now c.loop-i.i 0 c.loop-i-test.true)
+next_share-share-requires-clause-within c = rw c.in-Some.ensures.1 (get_or-le-sum_by (λ (x : ℕ). x) c.args.weights.now c.loop-i.i 0 c.loop-i-test.true)
 
 pub loop-i-preserved : goal.loop-i-preserved
 loop-i-preserved c =
@@ -21,7 +21,7 @@ pub returns-clause-shares : goal.returns-clause-shares
 returns-clause-shares c =
     let amount = c.ranges.amount in
     let shared = simp to_z-of_z at c.loop-i.invariant in
-    λ _. all_signed c.total_of-total.ensures (omega arith) shared
+    λ _. all_signed c.in-Some.ensures.1 (omega arith) shared
 
 pub returns-clause-only : goal.returns-clause-only
 returns-clause-only c = λ ok. signed_shares_are_only (returns-clause-shares c ok)
