@@ -2249,6 +2249,19 @@ pub mod applied {
     //!   pub tie : 2 * unsigned_abs r ≡ unsigned_abs d → IsEven q
     //! ```
     //!
+    //! ## `AnswersQuotient`
+    //!
+    //! The result is `Some` of the quotient of this kind, or `None` if the divisor is 0 or the
+    //! quotient does not fit. Examples: of the kind `IsNearest` in i8: for 5 and 2 it is `Some` of
+    //! 3; for 5 and 0 it is `None`; for -128 and -1 it is `None`.
+    //!
+    //! ```text
+    //! abbrev pub AnswersQuotient : (ℤ → ℤ → ℤ → ℤ → Type 0) → (ℤ → Type 0) → {X : Type 0} → (X →
+    //!     ℤ) → ℤ → ℤ → Option X → Type 0
+    //! AnswersQuotient Kind fits value n d result = AnswersWhere ((d ≢ pos 0) × EachFits fits
+    //!     (IsQuotient Kind n d)) (Has fits value (IsQuotient Kind n d)) result
+    //! ```
+    //!
     //! ## `IsTime`
     //!
     //! The time t is the first time, or a whole number of periods after it. Examples: first 3,
@@ -2294,6 +2307,17 @@ pub mod applied {
     //! IsLeastTime value fits now P result = MatchCommonSolution result ((t : ℤ) → ¬ (P t)) ((t :
     //!     ℤ) × IsLeastFrom now P t × ¬ (fits t)) (λ t. fits (value t) × IsLeastFrom now P (value
     //!     t))
+    //! ```
+    //!
+    //! ## `CanBeShared`
+    //!
+    //! There is one share for each weight, and the weights are not all 0. Examples: weights 1, 1, 1
+    //! and three shares; weights 0, 3 and two shares; not weights 1, 1, 1 and two shares; not
+    //! weights 0, 0.
+    //!
+    //! ```text
+    //! abbrev pub CanBeShared : {A : Type 0} → List ℕ → List A → Type 0
+    //! CanBeShared weights shares = (length shares ≡ length weights) × (0 < sum weights)
     //! ```
     //!
     //! ## `AreShares`

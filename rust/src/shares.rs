@@ -24,8 +24,7 @@
 /// Proved of the source in Rattle: each call returns, and then each `ensures` holds.
 ///
 /// ```text
-/// ensures possible { IsTrue result
-///     ↔ ((length shares.old ≡ length weights.now) × (0 < sum weights.now)) }
+/// ensures possible { IsTrue result ↔ CanBeShared weights.now shares.old }
 /// ensures shares { IsTrue result → AreShares amount weights.now shares.new }
 /// ensures only { IsTrue result → IsOnly (AreShares amount weights.now) shares.new }
 /// ensures whole { IsTrue result → sum shares.new ≡ amount }
@@ -34,16 +33,16 @@
 /// ensures unchanged { IsFalse result → shares.new ≡ shares.old }
 /// ```
 ///
-/// Words: [`AreShares`](crate::definitions::applied#areshares),
+/// Words: [`CanBeShared`](crate::definitions::applied#canbeshared),
+/// [`AreShares`](crate::definitions::applied#areshares),
 /// [`IsOnly`](crate::definitions::integer_core#isonly),
 /// [`IsNearShare`](crate::definitions::applied#isnearshare), [how to read it](crate::definitions).
 ///
 /// </details>
 pub fn shares(amount: u64, weights: &[u64], shares: &mut [u64]) -> bool {
-    let total = total_of(weights);
-    if shares.len() != weights.len() || total == 0 {
+    let Some(total) = total_to_share(weights, shares) else {
         return false;
-    }
+    };
     let mut ahead = 0;
     for (i, weight) in weights.iter().enumerate() {
         let (share, next) = next_share(amount, *weight, total, ahead);
@@ -74,24 +73,23 @@ pub fn shares(amount: u64, weights: &[u64], shares: &mut [u64]) -> bool {
 /// Proved of the source in Rattle: each call returns, and then each `ensures` holds.
 ///
 /// ```text
-/// ensures possible { IsTrue result
-///     ↔ ((length shares.old ≡ length weights.now) × (0 < sum weights.now)) }
+/// ensures possible { IsTrue result ↔ CanBeShared weights.now shares.old }
 /// ensures shares { IsTrue result → AreSignedShares amount weights.now shares.new }
 /// ensures only { IsTrue result → IsOnly (AreSignedShares amount weights.now) shares.new }
 /// ensures whole { IsTrue result → signed_sum shares.new ≡ amount }
 /// ensures unchanged { IsFalse result → shares.new ≡ shares.old }
 /// ```
 ///
-/// Words: [`AreSignedShares`](crate::definitions::applied#aresignedshares),
+/// Words: [`CanBeShared`](crate::definitions::applied#canbeshared),
+/// [`AreSignedShares`](crate::definitions::applied#aresignedshares),
 /// [`IsOnly`](crate::definitions::integer_core#isonly),
 /// [`signed_sum`](crate::definitions::applied#signed_sum), [how to read it](crate::definitions).
 ///
 /// </details>
 pub fn signed_shares(amount: i64, weights: &[u64], shares: &mut [i64]) -> bool {
-    let total = total_of(weights);
-    if shares.len() != weights.len() || total == 0 {
+    let Some(total) = total_to_share(weights, shares) else {
         return false;
-    }
+    };
     let mut ahead = 0;
     for (i, weight) in weights.iter().enumerate() {
         let (share, next) = next_share(amount.unsigned_abs(), *weight, total, ahead);
@@ -99,6 +97,13 @@ pub fn signed_shares(amount: i64, weights: &[u64], shares: &mut [i64]) -> bool {
         ahead = next;
     }
     true
+}
+
+/// Returns the sum of the weights, or `None` if they are all 0, or if there is not one share for
+/// each weight.
+fn total_to_share<S>(weights: &[u64], shares: &[S]) -> Option<u128> {
+    let total = total_of(weights);
+    (shares.len() == weights.len() && total != 0).then_some(total)
 }
 
 /// Returns the sum of the weights.

@@ -40,12 +40,23 @@ pub struct U64Answer {
     pub value: u64,
 }
 
-/// Returns the status and the value of a result: 0 and its value, or the reason and zeros if there
-/// is none.
+/// Returns the status and the value of a result: 0 and its value, or the reason and `zeros` if
+/// there is no result. Those of `Some(14)` are 0 and 14.
 pub(crate) fn with_status<T: Copy>(option: Option<T>, zeros: T, reason: u32) -> (u32, T) {
     match option {
         Some(value) => (ANSWER, value),
         None => (reason, zeros),
+    }
+}
+
+/// Returns the status and the value of a common solution: 0 and the solution, or the reason and
+/// `zero` if no number solves the congruences or the solution does not fit. Those of `Never` are 4
+/// and `zero`.
+pub(crate) fn common_with_status<T: Copy>(found: CommonSolution<T>, zero: T) -> (u32, T) {
+    match found {
+        CommonSolution::At(solution) => (ANSWER, solution),
+        CommonSolution::Beyond => (NOT_FITTING, zero),
+        CommonSolution::Never => (NO_SOLUTION, zero),
     }
 }
 
@@ -58,19 +69,8 @@ impl I64Answer {
 
     /// Returns the result of a call of `modular` that solves several congruences.
     pub(crate) fn of_common(found: CommonSolution<i64>) -> I64Answer {
-        match found {
-            CommonSolution::At(solution) => I64Answer::some(solution),
-            CommonSolution::Beyond => I64Answer::none(NOT_FITTING),
-            CommonSolution::Never => I64Answer::none(NO_SOLUTION),
-        }
-    }
-
-    /// Returns a result.
-    pub(crate) fn some(value: i64) -> I64Answer {
-        I64Answer {
-            status: ANSWER,
-            value,
-        }
+        let (status, value) = common_with_status(found, 0);
+        I64Answer { status, value }
     }
 
     /// Returns a rejection.
@@ -88,11 +88,8 @@ impl U64Answer {
 
     /// Returns the result of a call of `modular` that solves several congruences.
     pub(crate) fn of_common(found: CommonSolution<u64>) -> U64Answer {
-        match found {
-            CommonSolution::At(solution) => U64Answer::some(solution),
-            CommonSolution::Beyond => U64Answer::none(NOT_FITTING),
-            CommonSolution::Never => U64Answer::none(NO_SOLUTION),
-        }
+        let (status, value) = common_with_status(found, 0);
+        U64Answer { status, value }
     }
 
     /// Returns a result.

@@ -190,7 +190,8 @@ static HALF_ROWS: [u64; 1190] = [
     9989690752182277136, 11923179284862717872, 13413576695470557606, 14226520737620288370,
 ];
 
-/// Returns `num_integer::checked::binomial`.
+/// Returns the binomial coefficient of `n` and `k`, or `None` if it does not fit. That of 11 and 3
+/// is 165.
 pub(crate) fn binomial(n: u64, k: u64) -> Option<u64> {
     if n < 68 {
         Some(from_table(n, k))
@@ -199,7 +200,8 @@ pub(crate) fn binomial(n: u64, k: u64) -> Option<u64> {
     }
 }
 
-/// Returns `num_integer::checked::binomial`.
+/// Returns the binomial coefficient of `n` and `k`, or `None` if it does not fit or a number is
+/// negative. That of -1 and 3 is `None`.
 pub(crate) fn signed_binomial(n: i64, k: i64) -> Option<i64> {
     if n < 0 || k < 0 {
         return None;

@@ -28,13 +28,12 @@ use crate::Fits;
 /// ```text
 /// ensures { AnswersWhere
 ///     ((pos 0 ≤ℤ T.value n) × T.fits (factorial_of (T.value n)))
-///     (λ f. T.fits (T.value f) × (T.value f ≡ factorial_of (T.value n)))
-///     result }
+///     (Has T.fits T.value (λ z. z ≡ factorial_of (T.value n))) result }
 /// ```
 ///
 /// Words: [`AnswersWhere`](crate::definitions::num_integer#answerswhere),
 /// [`factorial_of`](crate::definitions::applied#factorial_of),
-/// [how to read it](crate::definitions).
+/// [`Has`](crate::definitions::num_integer#has), [how to read it](crate::definitions).
 ///
 /// </details>
 #[must_use]
@@ -68,12 +67,12 @@ pub fn factorial<T: Fits>(n: T) -> Option<T> {
 /// ```text
 /// ensures { AnswersWhere
 ///     ((pos 0 ≤ℤ T.value n) × (pos 0 ≤ℤ T.value k) × T.fits (falling_of (T.value n) (T.value k)))
-///     (λ f. T.fits (T.value f) × (T.value f ≡ falling_of (T.value n) (T.value k)))
-///     result }
+///     (Has T.fits T.value (λ z. z ≡ falling_of (T.value n) (T.value k))) result }
 /// ```
 ///
 /// Words: [`AnswersWhere`](crate::definitions::num_integer#answerswhere),
-/// [`falling_of`](crate::definitions::applied#falling_of), [how to read it](crate::definitions).
+/// [`falling_of`](crate::definitions::applied#falling_of),
+/// [`Has`](crate::definitions::num_integer#has), [how to read it](crate::definitions).
 ///
 /// </details>
 #[must_use]

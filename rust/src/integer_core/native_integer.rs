@@ -6,7 +6,7 @@ use crate::guards::Reason;
 use crate::integer_core::counted::GcdCounted;
 use crate::integer_core::native::Native;
 use crate::integer_core::operators::is_minus_one;
-use crate::integer_core::stein::{binary_gcd, positive_gcd_lcm};
+use crate::integer_core::stein::{binary_gcd, gcd_lcm_of_magnitudes};
 use crate::integer_core::Magnitudes;
 use crate::integer_core::{division, divisors, Integer};
 use num_traits::PrimInt;
@@ -74,20 +74,14 @@ impl<T: Native> Integer for T {
     }
 
     fn lcm(&self, other: &T) -> T {
-        if self.is_zero() || other.is_zero() {
-            return T::zero();
-        }
         crate::guards::number(
-            positive_gcd_lcm(self.magnitude(), other.magnitude()).1,
+            gcd_lcm_of_magnitudes(self.magnitude(), other.magnitude()).1,
             "the least common multiple does not fit",
         )
     }
 
     fn gcd_lcm(&self, other: &T) -> (T, T) {
-        if self.is_zero() || other.is_zero() {
-            return (self.gcd(other), T::zero());
-        }
-        let (gcd, lcm) = positive_gcd_lcm(self.magnitude(), other.magnitude());
+        let (gcd, lcm) = gcd_lcm_of_magnitudes(self.magnitude(), other.magnitude());
         (
             crate::guards::number(gcd, "the greatest common divisor does not fit"),
             crate::guards::number(lcm, "the least common multiple does not fit"),

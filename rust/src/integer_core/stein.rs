@@ -143,14 +143,21 @@ fn shared_power_of_two<M: Magnitude>(a: M, b: M) -> M {
     M::from_64_bits(1).times_power_of_two(odd_parts(a, b).2)
 }
 
-/// Returns the greatest common divisor and the least common multiple of two positive numbers.
+/// Returns the greatest common divisor and the least common multiple of two magnitudes.
+/// `gcd_lcm_of_magnitudes(0u64, 6)` is `(6, 0)`.
 #[track_caller]
-pub(crate) fn positive_gcd_lcm<M: Magnitude>(a: M, b: M) -> (M, M) {
-    let gcd = positive_gcd(a, b).0;
-    (
-        gcd,
-        crate::guards::product(a, b / gcd, "the least common multiple does not fit"),
-    )
+pub(crate) fn gcd_lcm_of_magnitudes<M: Magnitude>(m: M, n: M) -> (M, M) {
+    if m.is_zero() {
+        (n, m)
+    } else if n.is_zero() {
+        (m, n)
+    } else {
+        let gcd = positive_gcd(m, n).0;
+        (
+            gcd,
+            crate::guards::product(m, n / gcd, "the least common multiple does not fit"),
+        )
+    }
 }
 
 /// Returns the greatest common divisor of two magnitudes, and the number of iterations. The loop is

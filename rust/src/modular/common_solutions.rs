@@ -154,14 +154,14 @@ impl<T> CommonSolution<T> {
 ///     ((x : ℤ) → ¬ (SolvesBothCongruences (T.value a) (T.value m) (T.value b) (T.value n) x))
 ///     ((t : ℤ) × IsNextCommonSolution (T.value from) (T.value a) (T.value m) (T.value b)
 ///     (T.value n) t × ¬ (T.fits t))
-///     (λ t. T.fits (T.value t) × IsNextCommonSolution (T.value from) (T.value a) (T.value m)
-///     (T.value b) (T.value n) (T.value t)) }
+///     (Has T.fits T.value (IsNextCommonSolution (T.value from) (T.value a) (T.value m)
+///     (T.value b) (T.value n))) }
 /// ```
 ///
 /// Words: [`MatchCommonSolution`](crate::definitions::modular#matchcommonsolution),
 /// [`SolvesBothCongruences`](crate::definitions::modular#solvesbothcongruences),
 /// [`IsNextCommonSolution`](crate::definitions::modular#isnextcommonsolution),
-/// [how to read it](crate::definitions).
+/// [`Has`](crate::definitions::num_integer#has), [how to read it](crate::definitions).
 ///
 /// </details>
 #[track_caller]

@@ -92,12 +92,11 @@ pub fn solutions<T: Modular>(a: T, b: T, m: T) -> Option<(T, T)> {
 /// requires positive { pos 0 <ℤ T.value step }
 /// ensures { MatchOption result
 ///     ((t : ℤ) × IsNextCongruent (T.value from) (T.value first) (T.value step) t × ¬ (T.fits t))
-///     (λ t. T.fits (T.value t)
-///     × IsNextCongruent (T.value from) (T.value first) (T.value step) (T.value t)) }
+///     (Has T.fits T.value (IsNextCongruent (T.value from) (T.value first) (T.value step))) }
 /// ```
 ///
 /// Words: [`IsNextCongruent`](crate::definitions::modular#isnextcongruent),
-/// [how to read it](crate::definitions).
+/// [`Has`](crate::definitions::num_integer#has), [how to read it](crate::definitions).
 ///
 /// </details>
 #[track_caller]
@@ -138,12 +137,11 @@ pub fn next_congruent<T: Fits>(from: T, first: T, step: T) -> Option<T> {
 /// ensures { MatchOption result
 ///     ((t : ℤ) × IsPreviousCongruent (T.value to) (T.value first) (T.value step) t
 ///     × ¬ (T.fits t))
-///     (λ t. T.fits (T.value t)
-///     × IsPreviousCongruent (T.value to) (T.value first) (T.value step) (T.value t)) }
+///     (Has T.fits T.value (IsPreviousCongruent (T.value to) (T.value first) (T.value step))) }
 /// ```
 ///
 /// Words: [`IsPreviousCongruent`](crate::definitions::modular#ispreviouscongruent),
-/// [how to read it](crate::definitions).
+/// [`Has`](crate::definitions::num_integer#has), [how to read it](crate::definitions).
 ///
 /// </details>
 #[track_caller]
@@ -184,13 +182,13 @@ pub fn previous_congruent<T: Fits>(to: T, first: T, step: T) -> Option<T> {
 /// ensures count { MatchOption result
 ///     ((n : ℤ) × IsCountOfCongruent (T.value from) (T.value to) (T.value first) (T.value step) n
 ///     × ¬ (T.fits n))
-///     (λ n. T.fits (T.value n) × IsCountOfCongruent (T.value from) (T.value to) (T.value first)
-///     (T.value step) (T.value n)) }
+///     (Has T.fits T.value (IsCountOfCongruent (T.value from) (T.value to) (T.value first)
+///     (T.value step))) }
 /// ensures from_zero { IfSome result (λ n. pos 0 ≤ℤ T.value n) }
 /// ```
 ///
 /// Words: [`IsCountOfCongruent`](crate::definitions::modular#iscountofcongruent),
-/// [how to read it](crate::definitions).
+/// [`Has`](crate::definitions::num_integer#has), [how to read it](crate::definitions).
 ///
 /// </details>
 #[track_caller]

@@ -38,14 +38,13 @@ use crate::{checked, Fits, Integer};
 ///     ((x : ℤ) → ¬ (SolvesEach T.value congruences.now x))
 ///     ((t : ℤ) × IsLeastFrom (T.value from) (SolvesEach T.value congruences.now) t
 ///     × ¬ (T.fits t))
-///     (λ t. T.fits (T.value t)
-///     × IsLeastFrom (T.value from) (SolvesEach T.value congruences.now) (T.value t)) }
+///     (Has T.fits T.value (IsLeastFrom (T.value from) (SolvesEach T.value congruences.now))) }
 /// ```
 ///
 /// Words: [`MatchCommonSolution`](crate::definitions::modular#matchcommonsolution),
 /// [`SolvesEach`](crate::definitions::modular#solveseach),
 /// [`IsLeastFrom`](crate::definitions::num_integer#isleastfrom),
-/// [how to read it](crate::definitions).
+/// [`Has`](crate::definitions::num_integer#has), [how to read it](crate::definitions).
 ///
 /// </details>
 #[track_caller]

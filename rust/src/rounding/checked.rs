@@ -2,6 +2,7 @@
 //! The calls of this module for any two numbers. Each is `None` if the divisor is 0 or the quotient
 //! does not fit.
 
+use crate::rounding;
 use crate::Fits;
 
 /// Returns [`div_round`](crate::rounding::div_round), the nearest integer and a half away from
@@ -24,26 +25,17 @@ use crate::Fits;
 /// Proved of the source in Rattle: each call returns, and then each `ensures` holds.
 ///
 /// ```text
-/// ensures answer { AnswersWhere
-///     ((T.value y ≢ pos 0) × EachFits T.fits (IsQuotient IsNearest (T.value x) (T.value y)))
-///     (λ q. T.fits (T.value q) × IsQuotient IsNearest (T.value x) (T.value y) (T.value q))
-///     result }
+/// ensures answer { AnswersQuotient IsNearest T.fits T.value (T.value x) (T.value y) result }
 /// ensures positive { pos 0 <ℤ T.value y → IsSome result }
 /// ```
 ///
-/// Words: [`AnswersWhere`](crate::definitions::num_integer#answerswhere),
-/// [`EachFits`](crate::definitions::integer_core#eachfits),
-/// [`IsQuotient`](crate::definitions::integer_core#isquotient),
+/// Words: [`AnswersQuotient`](crate::definitions::applied#answersquotient),
 /// [`IsNearest`](crate::definitions::applied#isnearest), [how to read it](crate::definitions).
 ///
 /// </details>
 #[must_use]
 pub fn div_round<T: Fits>(x: T, y: T) -> Option<T> {
-    if x.quotient_fits(&y) {
-        Some(crate::rounding::div_round(x, y))
-    } else {
-        None
-    }
+    x.quotient_fits(&y).then(|| rounding::div_round(x, y))
 }
 
 /// Returns [`div_round_even`](crate::rounding::div_round_even), the nearest integer and a half to
@@ -66,25 +58,16 @@ pub fn div_round<T: Fits>(x: T, y: T) -> Option<T> {
 /// Proved of the source in Rattle: each call returns, and then each `ensures` holds.
 ///
 /// ```text
-/// ensures answer { AnswersWhere
-///     ((T.value y ≢ pos 0) × EachFits T.fits (IsQuotient IsNearestEven (T.value x) (T.value y)))
-///     (λ q. T.fits (T.value q) × IsQuotient IsNearestEven (T.value x) (T.value y) (T.value q))
-///     result }
+/// ensures answer { AnswersQuotient IsNearestEven T.fits T.value (T.value x) (T.value y) result }
 /// ensures positive { pos 0 <ℤ T.value y → IsSome result }
 /// ```
 ///
-/// Words: [`AnswersWhere`](crate::definitions::num_integer#answerswhere),
-/// [`EachFits`](crate::definitions::integer_core#eachfits),
-/// [`IsQuotient`](crate::definitions::integer_core#isquotient),
+/// Words: [`AnswersQuotient`](crate::definitions::applied#answersquotient),
 /// [`IsNearestEven`](crate::definitions::applied#isnearesteven),
 /// [how to read it](crate::definitions).
 ///
 /// </details>
 #[must_use]
 pub fn div_round_even<T: Fits>(x: T, y: T) -> Option<T> {
-    if x.quotient_fits(&y) {
-        Some(crate::rounding::div_round_even(x, y))
-    } else {
-        None
-    }
+    x.quotient_fits(&y).then(|| rounding::div_round_even(x, y))
 }
