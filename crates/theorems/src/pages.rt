@@ -1,6 +1,6 @@
 //! Functions that call `applied` for pages and parts, shares, offsets and schedules.
 
-ghost use Rattle.std.specs.Prelude.{◌≡◌, ◌↔◌, ◌<◌, ◌≤◌, ◌+◌, ◌*◌, ◌≤ℤ◌, ◌<ℤ◌, ◌+ℤ◌, ◌*ℤ◌, ◌^◌, All, EachIndex, FitsSigned, IfSome, IsFalse, IsTrue, MatchOption, length, min, pos, slice_index, sum, ℕ, ℤ};
+ghost use Rattle.std.specs.Prelude.{◌≡◌, ◌↔◌, ◌<◌, ◌≤◌, ◌+◌, ◌*◌, ◌≤ℤ◌, ◌<ℤ◌, ◌+ℤ◌, ◌*ℤ◌, All, EachIndex, FitsSigned, IfSome, IsFalse, IsTrue, MatchOption, length, min, pos, slice_index, sum, ℕ, ℤ};
 ghost use Rattle.std.specs.Int.{w64};
 ghost use Rattle.num_integer.specs.Least.{IsLeastFrom};
 ghost use Rattle.applied.specs.Paging.{IsPlace};

@@ -20,7 +20,10 @@ pub fn floored_quotient(n: i64, d: i64) -> Option<i64>
         (¬ ((d ≢ pos 0) × EachFits (FitsSigned w64) (IsQuotient IsFloored n d)))
         (λ q. IsQuotient IsFloored n d q) }
 {
-    checked::div_floor(n, d)
+    match checked::div_floor(n, d) {
+        Some(q) => Some(q),
+        None => None,
+    }
 }
 
 /// Returns the remainder that has the divisor's sign, or `None` if the divisor is 0.
