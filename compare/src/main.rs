@@ -189,13 +189,16 @@ fn main() {
     let words: Vec<String> = std::env::args().skip(1).collect();
     let shown = Shown::of_words(&words);
     println!("{HEAD}");
-    let lines = [
+    let signed = [
         lines_of::<i8>("I8", &shown),
         lines_of::<i16>("I16", &shown),
         lines_of::<i32>("I32", &shown),
         lines_of::<i64>("I64", &shown),
         lines_of::<i128>("I128", &shown),
         lines_of::<isize>("Isize", &shown),
+    ]
+    .concat();
+    let unsigned = [
         lines_of::<u8>("U8", &shown),
         lines_of::<u16>("U16", &shown),
         lines_of::<u32>("U32", &shown),
@@ -204,8 +207,11 @@ fn main() {
         lines_of::<usize>("Usize", &shown),
     ]
     .concat();
-    println!("\npub(crate) static LINES: [Line; {}] = [", lines.len());
-    for line in &lines {
+    let (first, all) = (signed.len(), signed.len() + unsigned.len());
+    println!("\n/// How many lines are of signed types. They come first.");
+    println!("pub(crate) const SIGNED: usize = {first};");
+    println!("\npub(crate) static LINES: [Line; {all}] = [");
+    for line in signed.iter().chain(&unsigned) {
         println!("    {line},");
     }
     println!("];");

@@ -19,8 +19,8 @@ is_found (suc status) value found Is is same = absurd (subst (λ (o : Option ℤ
 
 module _ (Returns : Ratio → Option ℤ → Type 0) (a : Fraction) (answer : I64Answer) (IsRounded : ℤ → ℤ → ℤ → Type 0) where
   -- of a call that always returns the rounded fraction
-  pub rounded : ((x : Ratio) (found : Option ℤ) → Returns x found → IsSomeAnd found (IsRounded (num_of x) (den_of x))) → AnswersReduced Returns a answer → AnswersRounded IsRounded a answer
-  rounded says (p, fraction, own) = (
+  pub rounded : AnswersReduced Returns a answer → ((x : Ratio) (found : Option ℤ) → Returns x found → IsSomeAnd found (IsRounded (num_of x) (den_of x))) → AnswersRounded IsRounded a answer
+  rounded (p, fraction, own) says = (
     p,
     fraction,
     MatchResult-weaker p own
@@ -29,9 +29,10 @@ module _ (Returns : Ratio → Option ℤ → Type 0) (a : Fraction) (answer : I6
   )
 
   -- of a call that returns the rounded multiple where it fits
-  pub rounded_times : (n : ℤ) → ((x : Ratio) (found : Option ℤ) → Returns x found → AnswersWhere (EachFits (FitsSigned w64) (IsRounded (num_of x *ℤ n) (den_of x))) (IsRounded (num_of x *ℤ n) (den_of x)) found)
-      → AnswersReduced Returns a answer → AnswersRoundedTimes IsRounded a n answer
-  rounded_times n says (p, fraction, own) = (
+  pub rounded_times : (n : ℤ) → AnswersReduced Returns a answer
+      → ((x : Ratio) (found : Option ℤ) → Returns x found → AnswersWhere (EachFits (FitsSigned w64) (IsRounded (num_of x *ℤ n) (den_of x))) (IsRounded (num_of x *ℤ n) (den_of x)) found)
+      → AnswersRoundedTimes IsRounded a n answer
+  rounded_times n (p, fraction, own) says = (
     p,
     fraction,
     MatchResult-weaker p own (λ x (found, returns, same, refuses). record { answer = rw same (says x found returns); refusal = refuses }) (λ e same. same),

@@ -15,8 +15,13 @@ mod walks;
 use lines::{replay, replay_library};
 
 #[test]
-fn integer_types(rt: HostRuntime) {
-    replay(&rt, rt.alloc(), &list::LINES);
+fn signed_types(rt: HostRuntime) {
+    replay(&rt, rt.alloc(), &list::LINES[..list::SIGNED]);
+}
+
+#[test]
+fn unsigned_types(rt: HostRuntime) {
+    replay(&rt, rt.alloc(), &list::LINES[list::SIGNED..]);
 }
 
 #[test]

@@ -8,6 +8,9 @@ use super::calls::Call::{
 use super::lines::Line;
 use own_types::types::Type::{I8, I16, I32, I64, I128, Isize, U8, U16, U32, U64, U128, Usize};
 
+/// How many lines are of signed types. They come first.
+pub(crate) const SIGNED: usize = 135;
+
 pub(crate) static LINES: [Line; 264] = [
     Line(I8, DivRem, 65279, 0, 12532170480911359875),
     Line(I8, DivFloor, 65279, 0, 2002227956150865343),

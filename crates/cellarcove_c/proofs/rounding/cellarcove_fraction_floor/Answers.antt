@@ -4,4 +4,4 @@ use Rattle.cellarcove_c.proofs.Rounded.{rounded}
 use Rattle.cellarcove_c.proofs.rounding.cellarcove_fraction_floor.Goals as goal
 
 pub returns : goal.returns
-returns c = rounded _ c.args.a _ (IsQuotient IsFloored) (λ x found returns. search rules) c.of_reduced.ensures
+returns c = rounded _ c.args.a _ (IsQuotient IsFloored) c.of_reduced.ensures (λ x found returns. search rules)
