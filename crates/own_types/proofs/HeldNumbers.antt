@@ -1,8 +1,8 @@
 -- The numbers that values of a form store, handed to a call of 64 bits.
-use Rattle.std.specs.Prelude.{◌≡◌, ◌*ℤ◌, ℤ, pos, negsuc, FitsSigned}
+use Rattle.std.specs.Prelude.{◌≡◌, ◌*ℤ◌, ℤ, pos, negsuc, int_div, FitsSigned}
 use Rattle.std.specs.Int.{w64}
 use Rattle.std.proofs.Common.{arith, of_z, refl, to_z, ◌∙◌}
-use Rattle.std.proofs.lemmas.Int.{ints, to_z-of_z}
+use Rattle.std.proofs.lemmas.Int.{ints, quot_is, to_z-of_z}
 use Rattle.num_integer.specs.Between.{Between}
 use Rattle.num_integer.specs.Range.{EachFits}
 
@@ -49,3 +49,13 @@ product_held {m = m} {n = n} ends e small f tiny inside =
 pub product_fits_form : {low high x y m n : ℤ} → IsSmall low × IsSmall high → x ≡ m → IsSmall x → y ≡ n → IsSmall y
     → Between low high (m *ℤ n) → Between low high (to_z w64 (of_z w64 (to_z w64 (of_z w64 x) *ℤ to_z w64 (of_z w64 y))))
 product_fits_form ends e small f tiny inside = rw (product_held ends e small f tiny inside) inside
+
+-- 64 bits hold a quotient that fits the form as it is
+pub quotient_held : {low high x y m n : ℤ} → IsSmall low × IsSmall high → x ≡ m → IsSmall x → y ≡ n → IsSmall y
+    → Between low high (int_div m n) → to_z w64 (of_z w64 (int_div (to_z w64 (of_z w64 x)) (to_z w64 (of_z w64 y)))) ≡ int_div m n
+quotient_held {x = x} {y = y} {m = m} {n = n} ends e small f tiny inside =
+    let dividend : FitsSigned w64 x = omega (arith, ints) in
+    let divisor : FitsSigned w64 y = omega (arith, ints) in
+    let same : int_div x y ≡ int_div m n = rw (e, f) refl in
+    let quotient : FitsSigned w64 (int_div m n) = omega (arith, ints) in
+    quot_is w64 x y dividend divisor (rw same quotient) ∙ same
