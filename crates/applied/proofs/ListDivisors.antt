@@ -38,9 +38,9 @@ each_list Fit Is more first (x ∷ rest) g own each =
     rw (append_assoc first (x ∷ []) rest) at (each_list Fit Is more (first ++ x ∷ []) rest next.0 next.1 (All-tail Fit x rest each))
 
 -- a list has a number of a kind if no number has one, and one number more has that of this number and the one of those before it
-each_has : {Is : List ℤ → ℤ → Type 0} {Both : ℤ → ℤ → ℤ → Type 0} {z : ℤ} → Is [] z → ((g x : ℤ) → (h : ℤ) × Both g x h)
+each_has : {Is : List ℤ → ℤ → Type 0} {Both : ℤ → ℤ → ℤ → Type 0} (z : ℤ) → Is [] z → ((g x : ℤ) → (h : ℤ) × Both g x h)
     → ((first : List ℤ) (g x h : ℤ) → Is first g → Both g x h → Is (first ++ x ∷ []) h) → (numbers : List ℤ) → (g : ℤ) × Is numbers g
-each_has {Is} {z = z} none pair more numbers =
+each_has {Is} z none pair more numbers =
     each_list (λ x. x ≡ x) Is (λ first x g _ own. let next = pair g x in (next.0, more first g x next.0 own next.1)) [] numbers z none (λ k d within. refl)
 
 -- two greatest common divisors of one list are equal
@@ -48,7 +48,7 @@ pub only_gcd_of : {numbers : List ℤ} {g h : ℤ} → IsGreatestCommonDivisorOf
 only_gcd_of x y = Divides-antisym x.from_zero y.from_zero (y.greatest _ x.divides_each) (x.greatest _ y.divides_each)
 
 pub gcd_of_exists : (numbers : List ℤ) → (g : ℤ) × IsGreatestCommonDivisorOf numbers g
-gcd_of_exists = each_has gcd_of_none gcd_exists (λ _ _ _ _. gcd_of_more)
+gcd_of_exists = each_has (pos 0) gcd_of_none gcd_exists (λ _ _ _ _. gcd_of_more)
 
 -- ---- when the gcd fits
 
@@ -122,7 +122,7 @@ pub only_lcm_of : {numbers : List ℤ} {l m : ℤ} → IsLeastCommonMultipleOf n
 only_lcm_of x y = Divides-antisym x.from_zero y.from_zero (x.least _ y.each_divides) (y.least _ x.each_divides)
 
 pub lcm_of_exists : (numbers : List ℤ) → (l : ℤ) × IsLeastCommonMultipleOf numbers l
-lcm_of_exists = each_has lcm_of_none lcm_exists (λ _ _ _ _. lcm_of_more)
+lcm_of_exists = each_has (pos 1) lcm_of_none lcm_exists (λ _ _ _ _. lcm_of_more)
 
 -- numbers that are not 0 have a positive one
 positive_lcm_of : (numbers : List ℤ) → All (λ x. x ≢ pos 0) numbers → (l : ℤ) × (IsLeastCommonMultipleOf numbers l × (pos 0 <ℤ l))
