@@ -31,8 +31,12 @@ impl fmt::Display for Date {
     ghost output = { λ date. Some (text_of date) };
 
     fn fmt<W: fmt::Write>(&self, f: &mut fmt::Formatter<W>) -> fmt::Result {
-        let (year, month, day) = (Year(self.year), self.month, self.day_of_month);
-        write!(f, "{year}-{month:02}-{day:02}")
+        let (year, month, day) = (self.year, self.month, self.day_of_month);
+        if (0..=9999).contains(&year) {
+            write!(f, "{year:04}-{month:02}-{day:02}")
+        } else {
+            write!(f, "{year:+05}-{month:02}-{day:02}")
+        }
     }
 }
 
@@ -42,24 +46,11 @@ impl fmt::Display for IsoWeek {
     ghost output = { λ week. Some (week_text week) };
 
     fn fmt<W: fmt::Write>(&self, f: &mut fmt::Formatter<W>) -> fmt::Result {
-        let (year, week) = (Year(self.year), self.week);
-        write!(f, "{year}-W{week:02}")
-    }
-}
-
-/// A year that prints in the format of ISO 8601: 2026 as `2026`, -1 as `-0001` and 10000 as `+10000`.
-#[derive(Clone, Copy)]
-struct Year(i64);
-
-impl fmt::Display for Year {
-    ghost output = { λ year. Some (year_text year.0) };
-
-    fn fmt<W: fmt::Write>(&self, f: &mut fmt::Formatter<W>) -> fmt::Result {
-        let year = self.0;
+        let (year, week) = (self.year, self.week);
         if (0..=9999).contains(&year) {
-            write!(f, "{year:04}")
+            write!(f, "{year:04}-W{week:02}")
         } else {
-            write!(f, "{year:+05}")
+            write!(f, "{year:+05}-W{week:02}")
         }
     }
 }
