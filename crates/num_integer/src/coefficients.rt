@@ -50,7 +50,6 @@ fn factors<T: Integer>(r: T, a: T, b: T) -> (T, T)
 
 /// Returns two factors of the coefficient of `n` and `k + 1`, which is `c * (n - k) / (k + 1)`. `c`
 /// is the coefficient of `n` and `k`.
-#[tactic(auto, using(crate::proofs::RowSteps::next_divides, crate::proofs::RowSteps::next_only))]
 pub(crate) fn next_factors<T: Integer>(c: T, n: T, k: T) -> (T, T)
     requires in_range { T.fits (T.value c) × T.fits (T.value n) × T.fits (T.value k) }
     requires k_from_zero { pos 0 ≤ℤ T.value k }
