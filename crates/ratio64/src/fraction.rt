@@ -12,7 +12,7 @@ mod sign;
 mod times;
 
 use crate::RatioError;
-use crate::reduction::{lowest_terms, product};
+use crate::reduction::{lowest_terms, numerator_of_difference, numerator_of_sum, product};
 use num_integer::{div_ceil, div_floor};
 use std::fmt;
 
@@ -86,28 +86,26 @@ impl Ratio {
 
     /// Returns the sum, or `NotFitting` if a part of it does not fit.
     /// `Ratio::from(2).checked_add(&Ratio::new(1, 3).unwrap())` is `Ratio::new(7, 3)`.
-    #[tactic(auto, using(crate::proofs::WideSums::sum_below))]
     pub fn checked_add(&self, other: &Ratio) -> Result<Ratio, RatioError>
         ensures sum { AnswersFraction
             (num_of self.now *ℤ den_of other.now +ℤ num_of other.now *ℤ den_of self.now)
             (den_of self.now *ℤ den_of other.now) result }
         ensures never_zero { result ≢ Err RatioError.ZeroDenominator }
     {
-        let (left, right) = self.cross_products(other);
-        self.over_product_of_denominators(other, left + right)
+        let num = numerator_of_sum(self.num, self.den, other.num, other.den);
+        self.over_product_of_denominators(other, num)
     }
 
     /// Returns the difference, or `NotFitting` if a part of it does not fit.
     /// `Ratio::from(2).checked_sub(&Ratio::new(1, 3).unwrap())` is `Ratio::new(5, 3)`.
-    #[tactic(auto, using(crate::proofs::WideSums::difference_below))]
     pub fn checked_sub(&self, other: &Ratio) -> Result<Ratio, RatioError>
         ensures difference { AnswersFraction
             (num_of self.now *ℤ den_of other.now -ℤ num_of other.now *ℤ den_of self.now)
             (den_of self.now *ℤ den_of other.now) result }
         ensures never_zero { result ≢ Err RatioError.ZeroDenominator }
     {
-        let (left, right) = self.cross_products(other);
-        self.over_product_of_denominators(other, left - right)
+        let num = numerator_of_difference(self.num, self.den, other.num, other.den);
+        self.over_product_of_denominators(other, num)
     }
 
     /// Returns the product, or `NotFitting` if a part of it does not fit.
@@ -129,8 +127,7 @@ impl Ratio {
         ensures zero_divisor { (result ≡ Err RatioError.ZeroDenominator)
             ↔ (num_of other.now ≡ pos 0) }
     {
-        let (num, den) = self.cross_products(other);
-        Ratio::reduced(num, den)
+        Ratio::reduced(product(self.num, other.den), product(other.num, self.den))
     }
 
     /// Returns the reciprocal `den / num`, or `ZeroDenominator` if the fraction is 0, or `NotFitting`
@@ -142,16 +139,6 @@ impl Ratio {
             (λ _. (num_of self.now ≡ pos 0) ⊎ (num_of self.now ≡ neg_ℤ (pos (2 ^ 63)))) }
     {
         Ratio::new(self.den, self.num)
-    }
-
-    /// Returns the numerators of the two fractions over the product of their denominators: for 1/2 and
-    /// 1/3 it returns 3 and 2, since they are 3/6 and 2/6.
-    pub(crate) fn cross_products(&self, other: &Ratio) -> (i128, i128)
-        ensures first { result.0 ≡ num_of self.now *ℤ den_of other.now }
-        ensures second { result.1 ≡ num_of other.now *ℤ den_of self.now }
-        ensures sizes { (unsigned_abs result.0 < 2 ^ 126) × (unsigned_abs result.1 < 2 ^ 126) }
-    {
-        (product(self.num, other.den), product(other.num, self.den))
     }
 
     /// Returns `num` over the product of the two denominators.

@@ -1,15 +1,16 @@
 //! The order of fractions.
 
-ghost use Rattle.std.specs.Prelude.{refl};
-ghost use Rattle.ratio64.specs.Fraction.{fraction_cmp};
-ghost use Rattle.ratio64.specs.FractionOrder.{order_is_total, ties_of_reduced};
-ghost use Rattle.ratio64.specs.Ratio.{num_of, den_of};
-
 use crate::Ratio;
+use crate::reduction::product;
 use std::cmp::Ordering;
 
 /// Fractions compare as numbers. `Ratio::zero().max(Ratio::one())` is `Ratio::one()`.
 impl Ord for Ratio {
+    ghost use Rattle.std.specs.Prelude.{refl};
+    ghost use Rattle.ratio64.specs.Fraction.{fraction_cmp};
+    ghost use Rattle.ratio64.specs.FractionOrder.{order_is_total, ties_of_reduced};
+    ghost use Rattle.ratio64.specs.Ratio.{num_of, den_of};
+
     ghost cmp = { λ x y. fraction_cmp (num_of x) (den_of x) (num_of y) (den_of y) };
 
     ghost total = { order_is_total _ num_of den_of (λ x. x.reduced.positive) };
@@ -19,14 +20,17 @@ impl Ord for Ratio {
     ghost matches_eq = { λ x y. ties_of_reduced x.reduced y.reduced };
 
     fn cmp(&self, other: &Ratio) -> Ordering {
-        let (left, right) = self.cross_products(other);
-        left.cmp(&right)
+        product(self.num(), other.den()).cmp(&product(other.num(), self.den()))
     }
 }
 
 impl PartialOrd for Ratio {
+    ghost use Rattle.std.specs.Prelude.{refl};
     ghost use Rattle.std.specs.Cmp.{partial_order_from_agreeing_total};
     ghost use Rattle.std.specs.Ordering.{as_partial_cmp};
+    ghost use Rattle.ratio64.specs.Fraction.{fraction_cmp};
+    ghost use Rattle.ratio64.specs.FractionOrder.{order_is_total, ties_of_reduced};
+    ghost use Rattle.ratio64.specs.Ratio.{num_of, den_of};
 
     ghost partial_cmp = { as_partial_cmp
         (λ x y. fraction_cmp (num_of x) (den_of x) (num_of y) (den_of y)) };

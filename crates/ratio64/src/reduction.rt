@@ -1,6 +1,6 @@
 //! Parts of fractions in `i128`: products, and lowest terms.
 
-ghost use Rattle.std.specs.Prelude.{◌≡◌, ◌<◌, ◌≤◌, ◌^◌, ◌<ℤ◌, ◌*ℤ◌, ℤ, pos, unsigned_abs, FitsSigned, MatchOption, MatchResult};
+ghost use Rattle.std.specs.Prelude.{◌≡◌, ◌<◌, ◌≤◌, ◌^◌, ◌<ℤ◌, ◌+ℤ◌, ◌-ℤ◌, ◌*ℤ◌, ℤ, pos, unsigned_abs, FitsSigned, MatchOption, MatchResult};
 ghost use Rattle.std.specs.Int.{w64};
 ghost use Rattle.ratio64.specs.Fraction.{AreEqual, IsFraction, IsExact, IsOutsideI64};
 
@@ -15,6 +15,27 @@ pub(crate) fn product(a: i64, b: i64) -> i128
     ensures below_of_positive { pos 0 <ℤ b → unsigned_abs result < 2 ^ 126 }
 {
     i128::from(a) * i128::from(b)
+}
+
+/// Returns the numerator of the sum of `a / b` and `c / d` over the product of their denominators.
+pub(crate) fn numerator_of_sum(a: i64, b: i64, c: i64, d: i64) -> i128
+    requires b_positive { pos 0 <ℤ b }
+    requires d_positive { pos 0 <ℤ d }
+    ensures value { result ≡ a *ℤ d +ℤ c *ℤ b }
+    ensures below { unsigned_abs result < 2 ^ 127 }
+{
+    product(a, d) + product(c, b)
+}
+
+/// Returns the numerator of the difference of `a / b` and `c / d` over the product of their
+/// denominators.
+pub(crate) fn numerator_of_difference(a: i64, b: i64, c: i64, d: i64) -> i128
+    requires b_positive { pos 0 <ℤ b }
+    requires d_positive { pos 0 <ℤ d }
+    ensures value { result ≡ a *ℤ d -ℤ c *ℤ b }
+    ensures below { unsigned_abs result < 2 ^ 127 }
+{
+    product(a, d) - product(c, b)
 }
 
 /// Returns the lowest terms of `num / den`, or `NotFitting` if they do not fit. Parts that have 64 bits
