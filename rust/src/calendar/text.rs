@@ -65,8 +65,12 @@ impl Error for DateError {}
 impl fmt::Display for Date {
     fn fmt(&self, f: &mut fmt::Formatter<'_>) -> fmt::Result {
         crate::padded::pad(f, |f| {
-            let (year, month, day) = (Year(self.year), self.month, self.day_of_month);
-            write!(f, "{year}-{month:02}-{day:02}")
+            let (year, month, day) = (self.year, self.month, self.day_of_month);
+            if (0..=9999).contains(&year) {
+                write!(f, "{year:04}-{month:02}-{day:02}")
+            } else {
+                write!(f, "{year:+05}-{month:02}-{day:02}")
+            }
         })
     }
 }
@@ -96,25 +100,11 @@ impl fmt::Display for Date {
 impl fmt::Display for IsoWeek {
     fn fmt(&self, f: &mut fmt::Formatter<'_>) -> fmt::Result {
         crate::padded::pad(f, |f| {
-            let (year, week) = (Year(self.year), self.week);
-            write!(f, "{year}-W{week:02}")
-        })
-    }
-}
-
-/// A year that prints in the format of ISO 8601: 2026 as `2026`, -1 as `-0001` and 10000 as
-/// `+10000`.
-#[derive(Clone, Copy)]
-struct Year(i64);
-
-impl fmt::Display for Year {
-    fn fmt(&self, f: &mut fmt::Formatter<'_>) -> fmt::Result {
-        crate::padded::pad(f, |f| {
-            let year = self.0;
+            let (year, week) = (self.year, self.week);
             if (0..=9999).contains(&year) {
-                write!(f, "{year:04}")
+                write!(f, "{year:04}-W{week:02}")
             } else {
-                write!(f, "{year:+05}")
+                write!(f, "{year:+05}-W{week:02}")
             }
         })
     }

@@ -8,7 +8,7 @@ mod rounding;
 mod sign;
 mod times;
 
-use crate::ratio64::reduction::{lowest_terms, product};
+use crate::ratio64::reduction::{lowest_terms, numerator_of_difference, numerator_of_sum, product};
 use crate::ratio64::RatioError;
 use crate::{div_ceil, div_floor};
 use core::fmt;
@@ -278,8 +278,8 @@ impl Ratio {
     ///
     /// </details>
     pub fn checked_add(&self, other: &Self) -> Result<Self, RatioError> {
-        let (left, right) = self.cross_products(other);
-        self.over_product_of_denominators(other, left + right)
+        let num = numerator_of_sum(self.num, self.den, other.num, other.den);
+        self.over_product_of_denominators(other, num)
     }
 
     /// Returns the difference, or `NotFitting` if a part of it does not fit.
@@ -314,8 +314,8 @@ impl Ratio {
     ///
     /// </details>
     pub fn checked_sub(&self, other: &Self) -> Result<Self, RatioError> {
-        let (left, right) = self.cross_products(other);
-        self.over_product_of_denominators(other, left - right)
+        let num = numerator_of_difference(self.num, self.den, other.num, other.den);
+        self.over_product_of_denominators(other, num)
     }
 
     /// Returns the product, or `NotFitting` if a part of it does not fit.
@@ -387,8 +387,7 @@ impl Ratio {
     ///
     /// </details>
     pub fn checked_div(&self, other: &Self) -> Result<Self, RatioError> {
-        let (num, den) = self.cross_products(other);
-        Self::reduced(num, den)
+        Self::reduced(product(self.num, other.den), product(other.num, self.den))
     }
 
     /// Returns the reciprocal `den / num`, or `ZeroDenominator` if the fraction is 0, or
@@ -426,12 +425,6 @@ impl Ratio {
     /// </details>
     pub fn checked_recip(&self) -> Result<Self, RatioError> {
         Self::new(self.den, self.num)
-    }
-
-    /// Returns the numerators of the two fractions over the product of their denominators: for 1/2
-    /// and 1/3 it returns 3 and 2, since they are 3/6 and 2/6.
-    pub(crate) fn cross_products(&self, other: &Self) -> (i128, i128) {
-        (product(self.num, other.den), product(other.num, self.den))
     }
 
     /// Returns `num` over the product of the two denominators.

@@ -10,6 +10,17 @@ pub(crate) fn product(a: i64, b: i64) -> i128 {
     i128::from(a) * i128::from(b)
 }
 
+/// Returns the numerator of the sum of `a / b` and `c / d` over the product of their denominators.
+pub(crate) fn numerator_of_sum(a: i64, b: i64, c: i64, d: i64) -> i128 {
+    product(a, d) + product(c, b)
+}
+
+/// Returns the numerator of the difference of `a / b` and `c / d` over the product of their
+/// denominators.
+pub(crate) fn numerator_of_difference(a: i64, b: i64, c: i64, d: i64) -> i128 {
+    product(a, d) - product(c, b)
+}
+
 /// Returns the lowest terms of `num / den`, or `NotFitting` if they do not fit. Parts that have 64
 /// bits are divided in 64 bits.
 pub(crate) fn lowest_terms(num: i128, den: i128) -> Result<(i64, i64), RatioError> {
