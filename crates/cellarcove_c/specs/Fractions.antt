@@ -1,13 +1,12 @@
 -- Results that are fractions, with a status.
-use Rattle.std.specs.Prelude.{◌≡◌, ◌+ℤ◌, ◌-ℤ◌, ◌*ℤ◌, ℤ, ℕ, pos, negsuc, Option, Result, Err, MatchResult}
+use Rattle.std.specs.Prelude.{◌≡◌, ◌+ℤ◌, ◌-ℤ◌, ◌*ℤ◌, ℤ, ℕ, pos, negsuc, Result, Err, MatchResult}
 use Rattle.std.specs.declared.cmp.Ordering.{Ordering}
 use Rattle.std.specs.declared.cmp.Ordering.TheVariants.{Equal, Greater, Less}
 use Rattle.ratio64.specs.Ratio.{AnswersFraction, num_of, den_of}
 use Rattle.ratio64.specs.RatioError.{number_of}
 use Rattle.ratio64.specs.declared.fraction.Ratio.{Ratio}
 use Rattle.ratio64.specs.declared.error.RatioError.{RatioError}
-use Rattle.cellarcove_c.specs.Answers.{I64Fitting, Refuses}
-use Rattle.cellarcove_c.specs.Statuses.{Only, answer_of, not_fitting}
+use Rattle.cellarcove_c.specs.Answers.{I64Fitting}
 use Rattle.cellarcove_c.specs.declared.answers.I64Answer.{I64Answer}
 use Rattle.cellarcove_c.specs.declared.fractions.Fraction.{Fraction}
 use Rattle.cellarcove_c.specs.declared.fractions.FractionAnswer.{FractionAnswer}
@@ -76,12 +75,4 @@ AnswersRounded IsRounded a answer = (p : Result Ratio RatioError) × AnswersFrac
 abbrev pub AnswersRoundedTimes : (ℤ → ℤ → ℤ → Type 0) → Fraction → ℤ → I64Answer → Type 0
 AnswersRoundedTimes IsRounded a n answer = (p : Result Ratio RatioError) × AnswersFraction a.num a.den p
     × MatchResult p (λ x. I64Fitting (IsRounded (num_of x *ℤ n) (den_of x)) answer)
-    (λ e. answer ≡ record { status = number_of e; value = pos 0 })
-
--- The result is what a call returns of a fraction, which is reduced first, or `not_fitting` if it returns `None`.
--- Examples: of rounding down: -6/4: 0 and -2; of rounding times 2^62 down: 2/1: 2 and 0; 1/0: 1 and 0.
-abbrev pub AnswersReduced : (Ratio → Option ℤ → Type 0) → Fraction → I64Answer → Type 0
-AnswersReduced Returns a answer = (p : Result Ratio RatioError) × AnswersFraction a.num a.den p
-    × MatchResult p (λ x. (found : Option ℤ) × Returns x found × (answer_of answer.status answer.value ≡ found)
-    × Refuses (Only not_fitting) (pos 0) answer.status answer.value)
     (λ e. answer ≡ record { status = number_of e; value = pos 0 })

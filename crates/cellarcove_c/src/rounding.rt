@@ -1,13 +1,11 @@
 //! Fractions rounded to integers. A fraction that is passed is reduced first.
 
-ghost use Rattle.std.specs.Fn.{FnOnceReturnsAt};
 ghost use Rattle.num_integer.specs.Division.{IsCeiled, IsFloored, IsQuotient};
 ghost use Rattle.ratio64.specs.Rounding.{IsRounded};
-ghost use Rattle.cellarcove_c.specs.Fractions.{AnswersReduced, AnswersRounded, AnswersRoundedTimes};
+ghost use Rattle.cellarcove_c.specs.Fractions.{AnswersRounded, AnswersRoundedTimes};
 
 use crate::answers::{I64Answer, NOT_FITTING};
 use crate::fractions::Fraction;
-use ratio64::Ratio;
 
 /// Returns the fraction rounded down. That of -3/2 is -2.
 ///
@@ -17,7 +15,10 @@ use ratio64::Ratio;
 pub extern "C" fn cellarcove_fraction_floor(a: Fraction) -> I64Answer
     ensures { AnswersRounded (IsQuotient IsFloored) a result }
 {
-    of_reduced(a, |x| Some(x.floor()))
+    match a.reduced() {
+        Ok(x) => I64Answer::some(x.floor()),
+        Err(error) => I64Answer::none(error.number()),
+    }
 }
 
 /// Returns the fraction rounded up. That of -3/2 is -1.
@@ -28,7 +29,10 @@ pub extern "C" fn cellarcove_fraction_floor(a: Fraction) -> I64Answer
 pub extern "C" fn cellarcove_fraction_ceil(a: Fraction) -> I64Answer
     ensures { AnswersRounded (IsQuotient IsCeiled) a result }
 {
-    of_reduced(a, |x| Some(x.ceil()))
+    match a.reduced() {
+        Ok(x) => I64Answer::some(x.ceil()),
+        Err(error) => I64Answer::none(error.number()),
+    }
 }
 
 /// Returns the nearest integer, and of two that are equally near the one farther from 0. That of -3/2
@@ -40,7 +44,10 @@ pub extern "C" fn cellarcove_fraction_ceil(a: Fraction) -> I64Answer
 pub extern "C" fn cellarcove_fraction_round(a: Fraction) -> I64Answer
     ensures { AnswersRounded IsRounded a result }
 {
-    of_reduced(a, |x| Some(x.round()))
+    match a.reduced() {
+        Ok(x) => I64Answer::some(x.round()),
+        Err(error) => I64Answer::none(error.number()),
+    }
 }
 
 /// Returns the fraction times `n`, rounded down. That of 2/3 and 100 is 66.
@@ -51,7 +58,10 @@ pub extern "C" fn cellarcove_fraction_round(a: Fraction) -> I64Answer
 pub extern "C" fn cellarcove_fraction_floor_times(a: Fraction, n: i64) -> I64Answer
     ensures { AnswersRoundedTimes (IsQuotient IsFloored) a n result }
 {
-    of_reduced(a, |x| x.floor_times(n))
+    match a.reduced() {
+        Ok(x) => I64Answer::of(x.floor_times(n), NOT_FITTING),
+        Err(error) => I64Answer::none(error.number()),
+    }
 }
 
 /// Returns the fraction times `n`, rounded up. That of 2/3 and 100 is 67.
@@ -62,7 +72,10 @@ pub extern "C" fn cellarcove_fraction_floor_times(a: Fraction, n: i64) -> I64Ans
 pub extern "C" fn cellarcove_fraction_ceil_times(a: Fraction, n: i64) -> I64Answer
     ensures { AnswersRoundedTimes (IsQuotient IsCeiled) a n result }
 {
-    of_reduced(a, |x| x.ceil_times(n))
+    match a.reduced() {
+        Ok(x) => I64Answer::of(x.ceil_times(n), NOT_FITTING),
+        Err(error) => I64Answer::none(error.number()),
+    }
 }
 
 /// Returns the integer nearest to the fraction times `n`, and of two that are equally near the one
@@ -74,18 +87,8 @@ pub extern "C" fn cellarcove_fraction_ceil_times(a: Fraction, n: i64) -> I64Answ
 pub extern "C" fn cellarcove_fraction_round_times(a: Fraction, n: i64) -> I64Answer
     ensures { AnswersRoundedTimes IsRounded a n result }
 {
-    of_reduced(a, |x| x.round_times(n))
-}
-
-/// Returns the number that `round` returns for the reduced fraction. It returns a rejection if the
-/// denominator is 0, if a part of the reduced fraction does not fit, or if `round` returns `None`. For -6/4
-/// and a `round` that rounds down it is -2.
-fn of_reduced<F: FnOnce(&Ratio) -> Option<i64>>(a: Fraction, round: F) -> I64Answer
-    requires { F.IsAlwaysCallable round }
-    ensures { AnswersReduced (FnOnceReturnsAt F.FnOnce round) a result }
-{
     match a.reduced() {
-        Ok(x) => I64Answer::of(round(&x), NOT_FITTING),
+        Ok(x) => I64Answer::of(x.round_times(n), NOT_FITTING),
         Err(error) => I64Answer::none(error.number()),
     }
 }

@@ -1,11 +1,8 @@
 use Rattle.std.specs.Int.{w64}
-use Rattle.std.proofs.Common.{of_z, rules, to_z}
 use Rattle.std.proofs.lemmas.Int.{to_z-of_z}
-use Rattle.num_integer.specs.Division.{IsFloored, IsQuotient}
-use Rattle.cellarcove_c.proofs.Rounded.{rounded_times}
 use Rattle.cellarcove_c.proofs.rounding.cellarcove_fraction_floor_times.Goals as goal
 
-pub returns : goal.returns
-returns c =
-    let own = rounded_times _ c.args.a _ (IsQuotient IsFloored) (to_z w64 (of_z w64 c.args.n)) c.of_reduced.ensures (λ x found returns. search rules) in
-    rw (to_z-of_z w64 c.args.n c.ranges.n) at own
+pub returns-in-Ok : goal.returns-in-Ok
+returns-in-Ok c =
+    let own = rw (to_z-of_z w64 c.args.n c.ranges.n) at c.floor_times.ensures in
+    (c.reduced.result, c.reduced.ensures, rw c.in-Ok.is (record { answer = rw c.of.ensures.answer own; refusal = c.of.ensures.refusal }))
