@@ -3,7 +3,6 @@
 
 use crate::answers::{I64Answer, NOT_FITTING};
 use crate::fractions::Fraction;
-use cellarcove::ratio64::Ratio;
 
 /// Returns the fraction rounded down. That of -3/2 is -2.
 ///
@@ -11,7 +10,10 @@ use cellarcove::ratio64::Ratio;
 /// not fit.
 #[unsafe(no_mangle)]
 pub extern "C" fn cellarcove_fraction_floor(a: Fraction) -> I64Answer {
-    of_reduced(a, |x| Some(x.floor()))
+    match a.reduced() {
+        Ok(x) => I64Answer::some(x.floor()),
+        Err(error) => I64Answer::none(error.number()),
+    }
 }
 
 /// Returns the fraction rounded up. That of -3/2 is -1.
@@ -20,7 +22,10 @@ pub extern "C" fn cellarcove_fraction_floor(a: Fraction) -> I64Answer {
 /// not fit.
 #[unsafe(no_mangle)]
 pub extern "C" fn cellarcove_fraction_ceil(a: Fraction) -> I64Answer {
-    of_reduced(a, |x| Some(x.ceil()))
+    match a.reduced() {
+        Ok(x) => I64Answer::some(x.ceil()),
+        Err(error) => I64Answer::none(error.number()),
+    }
 }
 
 /// Returns the nearest integer, and of two that are equally near the one farther from 0. That of
@@ -30,7 +35,10 @@ pub extern "C" fn cellarcove_fraction_ceil(a: Fraction) -> I64Answer {
 /// not fit.
 #[unsafe(no_mangle)]
 pub extern "C" fn cellarcove_fraction_round(a: Fraction) -> I64Answer {
-    of_reduced(a, |x| Some(x.round()))
+    match a.reduced() {
+        Ok(x) => I64Answer::some(x.round()),
+        Err(error) => I64Answer::none(error.number()),
+    }
 }
 
 /// Returns the fraction times `n`, rounded down. That of 2/3 and 100 is 66.
@@ -39,7 +47,10 @@ pub extern "C" fn cellarcove_fraction_round(a: Fraction) -> I64Answer {
 /// not fit, or the result.
 #[unsafe(no_mangle)]
 pub extern "C" fn cellarcove_fraction_floor_times(a: Fraction, n: i64) -> I64Answer {
-    of_reduced(a, |x| x.floor_times(n))
+    match a.reduced() {
+        Ok(x) => I64Answer::of(x.floor_times(n), NOT_FITTING),
+        Err(error) => I64Answer::none(error.number()),
+    }
 }
 
 /// Returns the fraction times `n`, rounded up. That of 2/3 and 100 is 67.
@@ -48,7 +59,10 @@ pub extern "C" fn cellarcove_fraction_floor_times(a: Fraction, n: i64) -> I64Ans
 /// not fit, or the result.
 #[unsafe(no_mangle)]
 pub extern "C" fn cellarcove_fraction_ceil_times(a: Fraction, n: i64) -> I64Answer {
-    of_reduced(a, |x| x.ceil_times(n))
+    match a.reduced() {
+        Ok(x) => I64Answer::of(x.ceil_times(n), NOT_FITTING),
+        Err(error) => I64Answer::none(error.number()),
+    }
 }
 
 /// Returns the integer nearest to the fraction times `n`, and of two that are equally near the one
@@ -58,15 +72,8 @@ pub extern "C" fn cellarcove_fraction_ceil_times(a: Fraction, n: i64) -> I64Answ
 /// not fit, or the result.
 #[unsafe(no_mangle)]
 pub extern "C" fn cellarcove_fraction_round_times(a: Fraction, n: i64) -> I64Answer {
-    of_reduced(a, |x| x.round_times(n))
-}
-
-/// Returns the number that `round` returns for the reduced fraction. It returns a rejection if the
-/// denominator is 0, if a part of the reduced fraction does not fit, or if `round` returns `None`.
-/// For -6/4 and a `round` that rounds down it is -2.
-fn of_reduced<F: FnOnce(&Ratio) -> Option<i64>>(a: Fraction, round: F) -> I64Answer {
     match a.reduced() {
-        Ok(x) => I64Answer::of(round(&x), NOT_FITTING),
+        Ok(x) => I64Answer::of(x.round_times(n), NOT_FITTING),
         Err(error) => I64Answer::none(error.number()),
     }
 }
