@@ -1,10 +1,11 @@
 //! Fractions rounded to integers. A fraction that is passed is reduced first.
 
+ghost use Rattle.std.specs.Prelude.{◌≡◌};
 ghost use Rattle.num_integer.specs.Division.{IsCeiled, IsFloored, IsQuotient};
 ghost use Rattle.ratio64.specs.Rounding.{IsRounded};
 ghost use Rattle.cellarcove_c.specs.Fractions.{AnswersRounded, AnswersRoundedTimes};
 
-use crate::answers::{I64Answer, NOT_FITTING};
+use crate::answers::{ANSWER, I64Answer, NOT_FITTING};
 use crate::fractions::Fraction;
 
 /// Returns the fraction rounded down. That of -3/2 is -2.
@@ -16,7 +17,7 @@ pub extern "C" fn cellarcove_fraction_floor(a: Fraction) -> I64Answer
     ensures { AnswersRounded (IsQuotient IsFloored) a result }
 {
     match a.reduced() {
-        Ok(x) => I64Answer::some(x.floor()),
+        Ok(x) => rounded(x.floor()),
         Err(error) => I64Answer::none(error.number()),
     }
 }
@@ -30,7 +31,7 @@ pub extern "C" fn cellarcove_fraction_ceil(a: Fraction) -> I64Answer
     ensures { AnswersRounded (IsQuotient IsCeiled) a result }
 {
     match a.reduced() {
-        Ok(x) => I64Answer::some(x.ceil()),
+        Ok(x) => rounded(x.ceil()),
         Err(error) => I64Answer::none(error.number()),
     }
 }
@@ -45,7 +46,7 @@ pub extern "C" fn cellarcove_fraction_round(a: Fraction) -> I64Answer
     ensures { AnswersRounded IsRounded a result }
 {
     match a.reduced() {
-        Ok(x) => I64Answer::some(x.round()),
+        Ok(x) => rounded(x.round()),
         Err(error) => I64Answer::none(error.number()),
     }
 }
@@ -90,5 +91,15 @@ pub extern "C" fn cellarcove_fraction_round_times(a: Fraction, n: i64) -> I64Ans
     match a.reduced() {
         Ok(x) => I64Answer::of(x.round_times(n), NOT_FITTING),
         Err(error) => I64Answer::none(error.number()),
+    }
+}
+
+/// Returns the result of a fraction that was rounded to this integer.
+fn rounded(value: i64) -> I64Answer
+    ensures { result ≡ record { status = 0; value = value } }
+{
+    I64Answer {
+        status: ANSWER,
+        value,
     }
 }

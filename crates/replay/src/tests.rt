@@ -25,9 +25,17 @@ fn unsigned_types(rt: HostRuntime) {
 }
 
 #[test]
-fn other_libraries(rt: HostRuntime) {
+fn residues_of_each(rt: HostRuntime) {
     replay_library(&rt, rt.alloc(), &libraries::RESIDUES);
+}
+
+#[test]
+fn fractions_of_each(rt: HostRuntime) {
     replay_library(&rt, rt.alloc(), &libraries::FRACTIONS);
+}
+
+#[test]
+fn dates_of_each(rt: HostRuntime) {
     replay_library(&rt, rt.alloc(), &libraries::DATES);
 }
 
