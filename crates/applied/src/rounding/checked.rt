@@ -4,7 +4,6 @@ ghost use Rattle.std.specs.Prelude.{◌<ℤ◌, pos};
 ghost use Rattle.std.specs.Option.{IsSome};
 ghost use Rattle.applied.specs.Rounding.{AnswersQuotient, IsNearest, IsNearestEven};
 
-use crate::rounding;
 use num_integer::Fits;
 
 /// Returns [`div_round`](crate::rounding::div_round), the nearest integer and a half away from zero, or `None`
@@ -15,7 +14,8 @@ pub fn div_round<T: Fits>(x: T, y: T) -> Option<T>
     ensures answer { AnswersQuotient IsNearest T.fits T.value (T.value x) (T.value y) result }
     ensures positive { pos 0 <ℤ T.value y → IsSome result }
 {
-    x.quotient_fits(&y).then(|| rounding::div_round(x, y))
+    x.quotient_fits(&y)
+        .then(|| crate::rounding::div_round(x, y))
 }
 
 /// Returns [`div_round_even`](crate::rounding::div_round_even), the nearest integer and a half to the even one,
@@ -25,5 +25,6 @@ pub fn div_round_even<T: Fits>(x: T, y: T) -> Option<T>
     ensures answer { AnswersQuotient IsNearestEven T.fits T.value (T.value x) (T.value y) result }
     ensures positive { pos 0 <ℤ T.value y → IsSome result }
 {
-    x.quotient_fits(&y).then(|| rounding::div_round_even(x, y))
+    x.quotient_fits(&y)
+        .then(|| crate::rounding::div_round_even(x, y))
 }
