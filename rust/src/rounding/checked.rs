@@ -2,7 +2,6 @@
 //! The calls of this module for any two numbers. Each is `None` if the divisor is 0 or the quotient
 //! does not fit.
 
-use crate::rounding;
 use crate::Fits;
 
 /// Returns [`div_round`](crate::rounding::div_round), the nearest integer and a half away from
@@ -35,7 +34,8 @@ use crate::Fits;
 /// </details>
 #[must_use]
 pub fn div_round<T: Fits>(x: T, y: T) -> Option<T> {
-    x.quotient_fits(&y).then(|| rounding::div_round(x, y))
+    x.quotient_fits(&y)
+        .then(|| crate::rounding::div_round(x, y))
 }
 
 /// Returns [`div_round_even`](crate::rounding::div_round_even), the nearest integer and a half to
@@ -69,5 +69,6 @@ pub fn div_round<T: Fits>(x: T, y: T) -> Option<T> {
 /// </details>
 #[must_use]
 pub fn div_round_even<T: Fits>(x: T, y: T) -> Option<T> {
-    x.quotient_fits(&y).then(|| rounding::div_round_even(x, y))
+    x.quotient_fits(&y)
+        .then(|| crate::rounding::div_round_even(x, y))
 }
