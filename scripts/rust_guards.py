@@ -195,6 +195,12 @@ CODE = {
         ('rank += binomial(*number, i as u64 + 1)',
          'rank = crate::guards::sum(rank, binomial(*number, i as u64 + 1), "the rank does not fit")'),),
 }
+# As CODE, for calls with a test of the same numbers before them: an operator of Rust, which the compiler joins with the test.
+AFTER_TEST = {
+    ('num_integer', 'checked/operators', 'sum'): (('operators::sum(a, b)', 'a + b'),),
+    ('num_integer', 'checked/operators', 'difference'): (('operators::difference(a, b)', 'a - b'),),
+    ('num_integer', 'checked/operators', 'product'): (('operators::product(a, b)', 'a * b'),),
+}
 # The modules that import plain operators: what they add, subtract and multiply fits wherever the division or the test
 # before it passed.
 PLAIN = {('integer_core', 'bezout'), ('integer_core', 'division'), ('integer_core', 'divisors'),
@@ -329,7 +335,7 @@ class Guards:
 
     def finish(self):
         """Writes what stands in place of code of the source."""
-        for (crate, path, name), changes in CODE.items():
+        for (crate, path, name), changes in (CODE | AFTER_TEST).items():
             if (crate, path) == self.place:
                 item = self.item(name)
                 for old, new in changes:
@@ -340,7 +346,7 @@ class Guards:
             raise Unknown(f'{self.source.path}: no {", ".join(sorted(missing))}, on the way to a panic')
         if self.place in PLAIN:
             self.plain()
-        if any((crate, path) == self.place for crate, path, _ in CODE):
+        if any((crate, path) == self.place for crate, path, _ in CODE | AFTER_TEST):
             self.drop_unused()
 
     def item(self, name):

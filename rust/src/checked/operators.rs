@@ -3,7 +3,6 @@
 //! type.
 
 use crate::domains::Fits;
-use crate::integer_core::operators::{self};
 
 /// Returns `a + b`, or `None` if it does not fit.
 ///
@@ -33,7 +32,7 @@ use crate::integer_core::operators::{self};
 /// </details>
 #[must_use]
 pub fn sum<T: Fits>(a: T, b: T) -> Option<T> {
-    a.sum_fits(&b).then(|| operators::sum(a, b))
+    a.sum_fits(&b).then(|| a + b)
 }
 
 /// Returns `a - b`, or `None` if it does not fit.
@@ -64,7 +63,7 @@ pub fn sum<T: Fits>(a: T, b: T) -> Option<T> {
 /// </details>
 #[must_use]
 pub fn difference<T: Fits>(a: T, b: T) -> Option<T> {
-    a.difference_fits(&b).then(|| operators::difference(a, b))
+    a.difference_fits(&b).then(|| a - b)
 }
 
 /// Returns `a * b`, or `None` if it does not fit.
@@ -95,7 +94,7 @@ pub fn difference<T: Fits>(a: T, b: T) -> Option<T> {
 /// </details>
 #[must_use]
 pub fn product<T: Fits>(a: T, b: T) -> Option<T> {
-    a.product_fits(&b).then(|| operators::product(a, b))
+    a.product_fits(&b).then(|| a * b)
 }
 
 /// Returns `-a`, or `None` if it does not fit.
