@@ -1,5 +1,12 @@
+use Rattle.num_integer.proofs.Common.{arith, fits_below, ints}
 use Rattle.num_integer.proofs.RowSteps.{next_divides, next_only}
 use Rattle.num_integer.proofs.coefficients.next_factors.Goals as goal
+
+pub difference-requires-clause-difference_fits : goal.difference-requires-clause-difference_fits
+difference-requires-clause-difference_fits g c = fits_below g.met.T.Integer.range_law c.requires.in_range.1 (omega (arith, ints)) (omega (arith, ints))
+
+pub successor-requires-clause-sum_fits : goal.successor-requires-clause-sum_fits
+successor-requires-clause-sum_fits g c = fits_below g.met.T.Integer.range_law c.requires.in_range.1 (omega (arith, ints)) (omega (arith, ints))
 
 pub factors-requires-clause-whole : goal.factors-requires-clause-whole
 factors-requires-clause-whole g c =
