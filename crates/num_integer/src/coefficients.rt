@@ -25,7 +25,6 @@ pub(crate) fn positive_quotient<T: Integer>(a: T, b: T) -> T
 /// Splits `r * a / b`, which is an integer, into the factors `r / g` and `a / (b / g)`. `g` is the
 /// gcd of `r` and `b`, computed as that of `r % b` and `b`. If `g` is `b` or 1, one division gives
 /// both factors. After <https://blog.plover.com/math/choose-2.html>.
-#[tactic(auto, using(crate::proofs::RowSteps::g_above, crate::proofs::RowSteps::rest_above))]
 fn factors<T: Integer>(r: T, a: T, b: T) -> (T, T)
     requires in_range { T.fits (T.value r) × T.fits (T.value a) × T.fits (T.value b) }
     requires a_from_zero { pos 0 ≤ℤ T.value a }
@@ -94,7 +93,6 @@ pub(crate) fn nearer_end<T: Integer>(n: T, k: T) -> T
 /// and `binomial_counted(200, 199)` is `(200, 1)`.
 ///
 /// May be called if [`binomial`] may be.
-#[tactic(auto, using(crate::proofs::Pascal::row_steps))]
 pub fn binomial_counted<T: Integer>(n: T, k: T) -> (T, u32)
     requires n_in_range { T.fits (T.value n) }
     requires k_in_range { T.fits (T.value k) }

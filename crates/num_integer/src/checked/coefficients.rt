@@ -16,7 +16,6 @@ use integer_core::operators::{is_below, is_negative, one, successor, zero};
 /// Returns [`binomial`](crate::binomial), the binomial coefficient of `n` and `k`, or `None` if a number
 /// is negative or the coefficient does not fit. `binomial(11u8, 3)` is `Some(165)`, and
 /// `binomial(11u8, 4)` is `None`.
-#[tactic(auto, using(crate::proofs::Pascal::row_steps))]
 pub fn binomial<T: Fits>(n: T, k: T) -> Option<T>
     requires n_in_range { T.fits (T.value n) }
     requires k_in_range { T.fits (T.value k) }

@@ -1,7 +1,21 @@
-use Rattle.num_integer.proofs.Common.{◌+◌, unsigned_abs, arith, ◌∙◌, ints, few_bits, from_test}
-use Rattle.num_integer.proofs.Pascal.{power_below_answer}
+use Rattle.num_integer.proofs.Common.{◌+◌, pos, unsigned_abs, arith, ap, ◌∙◌, sym, ints, few_bits, from_test}
+use Rattle.num_integer.proofs.Pascal.{coefficient-zero, none_above, power_below_answer}
 use Rattle.num_integer.proofs.RowSteps.{last_coefficient, next_coefficient_fits, next_place_fits}
 use Rattle.num_integer.proofs.coefficients.binomial_counted.Goals as goal
+
+pub returns-then-is_below-clause-coefficient : goal.returns-then-is_below-clause-coefficient
+returns-then-is_below-clause-coefficient g c =
+    let none = none_above (unsigned_abs (g.T.Number.value c.args.n)) (unsigned_abs (g.T.Number.value c.args.k)) (omega (arith, ints, c.is_below.ensures.0 c.if-is_below.true)) in
+    c.zero.ensures.value ∙ ap pos (sym none)
+
+pub loop-n-init : goal.loop-n-init
+loop-n-init g c = record {
+  place_in_range = c.zero-place.ensures.in_range;
+  in_range = c.one-coefficient.ensures.in_range;
+  place = c.zero-place.ensures.value;
+  within = omega (arith, ints, c.zero-place.ensures.value, c.nearer_end-last.ensures.lesser);
+  coefficient = rw c.zero-place.ensures.value (c.one-coefficient.ensures.value ∙ ap pos (sym (coefficient-zero _)));
+}
 
 pub next_coefficient-coefficient-requires-clause-next_fits : goal.next_coefficient-coefficient-requires-clause-next_fits
 next_coefficient-coefficient-requires-clause-next_fits g c =
