@@ -7,5 +7,9 @@ pub use Rattle.std.proofs.lemmas.Bool.{cases_lt}
 pub use Rattle.std.proofs.lemmas.Bool.Decides.{nat_tests}
 pub use Rattle.std.proofs.lemmas.Int.{by_lt_z, clamps, ints, to_z-of_z}
 pub use Rattle.std.proofs.lemmas.List.{append-nil, get_or-drop, length-append, length-replicate, take-append-drop, take-take}
-pub use Rattle.num_integer.proofs.ForCallers.{dist-left, divides_by_magnitude, floored_by_range, floored_quotient_range, floored_remainder_range, from_not_less, greatest_is_only, least_is_only, linear, mul-neg, only_floored, sizes}
-pub use Rattle.num_integer.specs.Division.{IsFloored, IsQuotient, IsRemainder}
+pub use Rattle.integer_core.proofs.FlooredByPositive.{floored_by_range, floored_remainder_range}
+pub use Rattle.integer_core.proofs.Least.{greatest_is_only, least_is_only}
+pub use Rattle.integer_core.proofs.NaturalDivision.{divides_by_magnitude, floored_quotient_range}
+pub use Rattle.integer_core.proofs.Quotients.{only_floored}
+pub use Rattle.integer_core.proofs.Whole.{dist-left, from_not_less, linear, mul-neg, sizes}
+pub use Rattle.integer_core.specs.Division.{IsFloored, IsQuotient, IsRemainder}

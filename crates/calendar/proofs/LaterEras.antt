@@ -1,6 +1,6 @@
 -- Eras of 400 years, after which the calendar repeats.
 use Rattle.calendar.proofs.Common.{◌≡◌, ◌+◌, ◌-◌, ◌/◌, ◌%◌, ◌<◌, ◌+ℤ◌, ◌-ℤ◌, ◌*ℤ◌, ℕ, ℤ, pos, negsuc, neg_ℤ, FitsSigned, MatchOption, Option, Some, None, w64, ◌∙◌, arith, subst, sym, nat_tests, ints, dist-left, divides_by_magnitude, mul-neg}
-use Rattle.num_integer.specs.Divisors.{Divides}
+use Rattle.integer_core.specs.Divisors.{Divides}
 use Rattle.calendar.specs.Dates.{HasParts, number_of}
 use Rattle.calendar.specs.LeapYears.{is_leap_year, is_multiple}
 use Rattle.calendar.specs.Months.{IsDate}

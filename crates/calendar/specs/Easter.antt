@@ -1,6 +1,6 @@
 -- The date of Easter by the tables of Clavius for the Gregorian calendar.
 use Rattle.std.specs.Prelude.{◌≡◌, ◌-◌, ◌%◌, ◌+ℤ◌, ◌-ℤ◌, ◌*ℤ◌, ℕ, ℤ, pos, Bool, ◌&&◌, ◌||◌, nat_eq, nat_lt, if◌then◌else◌}
-use Rattle.num_integer.specs.Division.{IsFloored, IsQuotient, IsRemainder}
+use Rattle.integer_core.specs.Division.{IsFloored, IsQuotient, IsRemainder}
 use Rattle.calendar.specs.Weeks.{IsFirstWeekday}
 use Rattle.calendar.specs.Years.{day_number}
 use Rattle.calendar.specs.declared.weekday.Weekday.TheVariants.{Sunday}

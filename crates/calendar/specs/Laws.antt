@@ -1,7 +1,7 @@
 -- The laws of the calendar. Each is proved in proofs/Laws.antt, by a lemma of its name in small letters.
 use Rattle.std.specs.Prelude.{◌≡◌, ◌⊎◌, ◌↔◌, ◌<◌, ◌≤◌, ◌+◌, ◌*◌, ◌%◌, ◌<ℤ◌, ◌+ℤ◌, ℕ, ℤ, pos, FitsSigned, IsTrue, if◌then◌else◌}
 use Rattle.std.specs.Int.{w64}
-use Rattle.num_integer.specs.Divisors.{Divides}
+use Rattle.integer_core.specs.Divisors.{Divides}
 use Rattle.calendar.specs.Dates.{HasParts, IsEarlier, IsLastWeekdayOfMonth, IsMonthsAfter, IsMonthsBetween, IsNextLastWeekday, IsNthWeekday, number_of, year_day_of}
 use Rattle.calendar.specs.IsoWeeks.{HasIsoWeeks, IsDayOfIsoWeek, IsInIsoWeek}
 use Rattle.calendar.specs.LeapYears.{is_leap_year}

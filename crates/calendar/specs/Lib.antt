@@ -9,7 +9,7 @@ pub mod Weeks
 pub mod IsoWeeks
 pub mod Easter
 -- what the clauses and the laws cite of the crate below
-pub use Rattle.num_integer.specs.Division
-pub use Rattle.num_integer.specs.Divisors
-pub use Rattle.num_integer.specs.Least
-pub use Rattle.num_integer.specs.Only
+pub use Rattle.integer_core.specs.Division
+pub use Rattle.integer_core.specs.Divisors
+pub use Rattle.integer_core.specs.Least
+pub use Rattle.integer_core.specs.Only

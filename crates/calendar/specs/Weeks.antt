@@ -1,7 +1,7 @@
 -- Days that have a given day of the week.
 use Rattle.std.specs.Prelude.{◌+ℤ◌, ℤ, pos}
-use Rattle.num_integer.specs.Division.{IsFloored, IsRemainder}
-use Rattle.num_integer.specs.Least.{IsGreatestTo, IsLeastFrom}
+use Rattle.integer_core.specs.Division.{IsFloored, IsRemainder}
+use Rattle.integer_core.specs.Least.{IsGreatestTo, IsLeastFrom}
 use Rattle.calendar.specs.Weekday.{weekday_number}
 use Rattle.calendar.specs.declared.weekday.Weekday.{Weekday}
 

@@ -32,7 +32,7 @@ impl Date {
     ghost use Rattle.std.specs.Prelude.{◌≡◌, ◌+◌, ◌<◌, ◌≤◌, ◌^◌, ◌≤ℤ◌, ◌<ℤ◌, ◌+ℤ◌, ◌-ℤ◌, ◌*ℤ◌, ℤ, pos, unsigned_abs, FitsSigned, MatchOption};
     ghost use Rattle.std.specs.Int.{w64};
     ghost use Rattle.std.specs.Option.{SomeIff};
-    ghost use Rattle.num_integer.specs.Only.{IsOnly};
+    ghost use Rattle.integer_core.specs.Only.{IsOnly};
     ghost use Rattle.calendar.specs.Dates.{HasParts, number_of, year_day_of};
     ghost use Rattle.calendar.specs.Years.{HasDay, days_in_year, first_day};
     ghost use Rattle.calendar.specs.declared.date.Date.{Date};

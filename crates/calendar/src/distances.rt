@@ -10,7 +10,7 @@ ghost use Rattle.calendar.specs.declared.date.Date.{Date};
 use crate::Date;
 use crate::months::days_in_month;
 use crate::years::at_64_bits;
-use num_integer::{div_floor, div_mod_floor};
+use integer_core::{div_floor, div_mod_floor};
 
 impl Date {
     /// Returns the date `months` months after this one, or before it if `months` is negative, or `None` if

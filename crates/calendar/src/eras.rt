@@ -6,7 +6,7 @@ ghost use Rattle.std.specs.Int.{w64};
 ghost use Rattle.calendar.specs.Months.{IsDate, days_before_month};
 ghost use Rattle.calendar.specs.Years.{day_number, days_in_year};
 
-use num_integer::div_mod_floor;
+use integer_core::div_mod_floor;
 
 /// The years of an era.
 pub(crate) const YEARS_PER_ERA: u32 = 400;

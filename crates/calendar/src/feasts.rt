@@ -8,7 +8,7 @@ ghost use Rattle.calendar.specs.Weeks.{IsFirstWeekday};
 ghost use Rattle.calendar.specs.declared.weekday.Weekday.TheVariants.{Sunday};
 
 use crate::Date;
-use num_integer::{div_floor, mod_floor};
+use integer_core::{div_floor, mod_floor};
 
 /// Returns the date of Easter Sunday: the first Sunday after the Paschal full moon, by the tables of Clavius
 /// for the Gregorian calendar. `Some(easter(2024))` is `Date::new(2024, 3, 31)`.

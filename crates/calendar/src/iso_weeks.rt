@@ -2,7 +2,7 @@
 
 ghost use Rattle.std.specs.Prelude.{◌≡◌, ◌↔◌, ◌+◌, ◌%◌, ◌<◌, ◌≤◌, ◌+ℤ◌, ◌-ℤ◌, ◌*ℤ◌, ◌<ℤ◌, ◌≤ℤ◌, ℕ, ℤ, pos, FitsSigned, IfSome, IsTrue, MatchOption};
 ghost use Rattle.std.specs.Int.{w64};
-ghost use Rattle.num_integer.specs.Division.{IsFloored, IsRemainder};
+ghost use Rattle.integer_core.specs.Division.{IsFloored, IsRemainder};
 ghost use Rattle.calendar.specs.Dates.{number_of};
 ghost use Rattle.calendar.specs.IsoWeeks.{HasIsoWeek, HasIsoWeeks, IsDayOfIsoWeek, IsInIsoWeek, IsThursdayOfWeek};
 ghost use Rattle.calendar.specs.Years.{HasDay, days_in_year, first_day};

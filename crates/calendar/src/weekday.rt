@@ -2,13 +2,13 @@
 
 ghost use Rattle.std.specs.Prelude.{◌≡◌, ◌≢◌, ◌+◌, ◌%◌, ◌<◌, ◌≤◌, ◌+ℤ◌, pos, IfErr, IfOk, MatchOption, Some};
 ghost use Rattle.std.specs.Fmt.{padded};
-ghost use Rattle.num_integer.specs.Division.{IsFloored, IsRemainder};
+ghost use Rattle.integer_core.specs.Division.{IsFloored, IsRemainder};
 ghost use Rattle.calendar.specs.Dates.{number_of};
 ghost use Rattle.calendar.specs.Weekday.{iso_number, weekday_error_text, weekday_name, weekday_number};
 ghost use Rattle.calendar.specs.Weeks.{HasWeekday};
 
 use crate::Date;
-use num_integer::mod_floor;
+use integer_core::mod_floor;
 use std::error::Error;
 use std::fmt;
 use std::str::FromStr;

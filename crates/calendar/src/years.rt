@@ -6,7 +6,7 @@ ghost use Rattle.std.specs.Option.{SomeIff};
 ghost use Rattle.calendar.specs.LeapYears.{is_leap_year, is_multiple};
 ghost use Rattle.calendar.specs.Years.{HasDay, days_in_year, first_day};
 
-use num_integer::Integer;
+use integer_core::Integer;
 
 /// Returns `true` if the year has a 29 February. `is_leap_year(2000)` is `true`, `is_leap_year(1900)` is
 /// `false`, and `is_leap_year(0)` is `true`.

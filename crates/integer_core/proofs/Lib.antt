@@ -12,3 +12,11 @@ pub mod EuclidTurns
 pub mod GcdTurns
 pub mod Rows
 pub mod BezoutAnswers
+pub mod OrderedProducts
+pub mod DivisorSizes
+pub mod Coprimes
+pub mod FlooredByPositive
+pub mod NaturalDivision
+pub mod Least
+pub mod DivisionKinds
+pub mod IntegerPowers

@@ -1,6 +1,7 @@
 -- The ring of the integers, for `omega` and `simp`.
-use Rattle.std.specs.Prelude.{◌≡◌, ◌+◌, ◌*◌, ◌<ℤ◌, ◌≤ℤ◌, ◌+ℤ◌, ◌*ℤ◌, ℤ, pos, neg_ℤ, unsigned_abs}
+use Rattle.std.specs.Prelude.{◌≡◌, ◌+◌, ◌*◌, ◌<ℤ◌, ◌≤ℤ◌, ◌+ℤ◌, ◌*ℤ◌, ℤ, pos, neg_ℤ, unsigned_abs, ◌↔◌, Bool, false, IsTrue}
 use Rattle.std.proofs.Common.{arith, ap, mul-pos}
+use Rattle.std.proofs.lemmas.Bool.{iff_false}
 use Rattle.std.proofs.lemmas.Int.{ints}
 use borrow.Author.Differences.{up, down, same_in, same_out, sum_is_lem, neg_is, product_is, abs_is, lt_out, le_out, below_in, at_most_in, Apart-out}
 pub use Rattle.std.proofs.Math.IntN.{*ℤ_comm as comm}
@@ -61,3 +62,7 @@ product_positive a b a_up b_up = grind (arith, ints, mul-pos)
 
 pub mul-one : (a : ℤ) → a *ℤ pos 1 ≡ a
 mul-one a = omega (arith, products)
+
+-- if the test whether a is below b is false, b is at most a
+pub from_test : {answer : Bool} {a b : ℤ} → IsTrue answer ↔ (a <ℤ b) → answer ≡ false → b ≤ℤ a
+from_test test e = from_not_less (iff_false test e)

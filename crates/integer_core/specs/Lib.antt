@@ -9,3 +9,5 @@ pub mod Runs
 pub mod Fibonacci
 pub mod Bezout
 pub mod GcdRuns
+pub mod Least
+pub mod Checked

@@ -2,6 +2,7 @@
 use Rattle.std.specs.Prelude.{◌≡◌, ◌≢◌, ◌/◌, ◌%◌, ◌*◌, ◌^◌, ◌+◌, ◌<◌, ◌≤◌}
 use Rattle.integer_core.proofs.Common.{ℕ, suc, zero, ap, refl, ◌∙◌, arith, pos, div-div-eq-div-mul, div-le_self, mul-one, pow-add, pow-suc, pow_mono, ints, pow-zero, pow-succ', pow-le-pow_left, pow-le-pow_right, pow-lt-pow_left, lt_of_not-le}
 use Rattle.integer_roots.specs.RootOf.{IsFloorRoot}
+pub use Rattle.integer_core.proofs.IntegerPowers.{power_of_one, power_of_zero}
 
 -- the first three powers
 pub power_one : (x : ℕ) → x ^ 1 ≡ x
@@ -13,15 +14,7 @@ power_two x = pow-succ' x 1 ∙ ap (λ (k : ℕ). x * k) (power_one x)
 pub power_three : (x : ℕ) → x ^ 3 ≡ x * (x * x)
 power_three x = pow-succ' x 2 ∙ ap (λ (k : ℕ). x * k) (power_two x)
 
--- the powers of 1
-pub power_of_one : (n : ℕ) → 1 ^ n ≡ 1
-power_of_one zero = pow-zero 1
-power_of_one (suc n) = rw (pow-succ' 1 n, power_of_one n) refl
-
--- the powers of 0, and of a power
-pub power_of_zero : (n : ℕ) → 0 < n → 0 ^ n ≡ 0
-power_of_zero n h = omega (arith, pow-lt-pow_left {a = 0} {b = 1} {n = n} (omega arith) (omega arith), power_of_one n)
-
+-- the power of a power
 pub power_of_power : (b i j : ℕ) → (b ^ i) ^ j ≡ b ^ (i * j)
 power_of_power b i zero = let e : i * 0 ≡ 0 = omega arith in rw (e, pow-zero (b ^ i), pow-zero b) refl
 power_of_power b i (suc j) = let e : i * suc j ≡ i + i * j = omega arith in rw (e, pow-succ' (b ^ i) j, power_of_power b i j, pow-add b i) refl

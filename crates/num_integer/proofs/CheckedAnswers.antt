@@ -1,6 +1,6 @@
 -- Calls that return a result exactly in their domain.
 use Rattle.num_integer.proofs.Common.{◌≡◌, ◌≢◌, ◌⊎◌, ◌↔◌, ◌≤ℤ◌, ◌<ℤ◌, ◌*ℤ◌, natural, ℤ, pos, neg_ℤ, unsigned_abs, int_div, Option, Some, None, arith, inl, inr, subst, sym, ap, ◌∙◌, unsigned_abs-mul, linear, left_comm, sizes, IsGreatestCommonDivisor, IsLeastCommonMultiple, EachFits, IsRange, lcm-product, gcd-nonzero, lcm-zero, lcm_exists, only_lcm, Divides-trans, exact_quotient, each_fits, fits_below, product_from_zero}
-use Rattle.num_integer.proofs.DivisorSizes.{divisor_at_most, lcm-positive}
+use Rattle.integer_core.proofs.DivisorSizes.{divisor_at_most, lcm-positive}
 use Rattle.num_integer.specs.Checked.{AnswersWhere}
 
 -- the domain and the result of a call may be said in other words

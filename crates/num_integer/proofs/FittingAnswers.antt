@@ -1,11 +1,13 @@
 -- When the results of calls fit, in the words of the tests of `Fits`.
-use Rattle.integer_core.proofs.Common.{◌≡◌, ◌≢◌, ◌↔◌, ◌≤◌, ◌<◌, ◌^◌, ◌≤ℤ◌, ◌⊎◌, ◌<ℤ◌, ◌*◌, ◌/◌, ℕ, ℤ, pos, IsTrue, nat_le, negsuc, neg_ℤ, unsigned_abs, Bool, true, false, not, min, max, arith, inl, inr, subst, refl, sym, ap, ◌∙◌, pow-le-pow_right, lt_of_not-le, le-leb, leb-true, iff_false, ints, abs_is, from_not_less, linear, EachKind, IsCeiled, IsDivision, IsFloored, IsTruncated, IsQuotient, IsMultiple, GcdFits, IsGreatestCommonDivisor, IsLeastCommonMultiple, IsRange, EachFits}
+use Rattle.integer_core.proofs.Common.{◌≡◌, ◌≢◌, ◌↔◌, ◌≤◌, ◌<◌, ◌^◌, ◌≤ℤ◌, ◌⊎◌, ◌<ℤ◌, ◌+ℤ◌, ◌*◌, ◌/◌, ℕ, ℤ, pos, IsTrue, nat_le, negsuc, neg_ℤ, unsigned_abs, Bool, true, false, not, min, max, arith, inl, inr, subst, refl, sym, ap, ◌∙◌, pow-le-pow_right, lt_of_not-le, le-leb, leb-true, iff_false, ints, abs_is, from_not_less, linear, sizes, EachKind, IsCeiled, IsDivision, IsFloored, IsTruncated, IsQuotient, IsMultiple, GcdFits, IsGreatestCommonDivisor, IsLeastCommonMultiple, IsRange, EachFits}
 use Rattle.std.proofs.Math.Nat.{le_of_suc-le-suc}
 use Rattle.integer_core.proofs.CommonDivisors.{gcd-divisor, only_gcd, gcd-zero, gcd-swap, lcm-computed, only_lcm, gcd_fits_is}
 use Rattle.integer_core.proofs.Divisibility.{Divides-refl, abs_zero, divisor_size}
 use Rattle.integer_core.proofs.Quotients.{only_multiple, only_ceiled, only_floored, only_truncated, floored_by_minus_one, other_quotient_fits}
 use Rattle.integer_core.proofs.Ranges.{within_fits}
 use Rattle.num_integer.specs.Parts.{IsWithin, signed}
+pub use Rattle.integer_core.proofs.DivisionKinds.{IsKind, truncated, floored, ceiled, each_kind}
+pub use Rattle.integer_core.proofs.Whole.{from_test}
 
 -- ---- what fits a lawful type
 
@@ -15,10 +17,6 @@ fits_up {z = z} range top = (λ h. (range.between (pos z)).1 (omega (arith, line
 
 pub test_up : {fits : ℤ → Type 0} {low high : ℤ} {most z : ℕ} → IsRange fits low high → pos most ≡ high → IsTrue (nat_le z most) ↔ fits (pos z)
 test_up range top = (λ t. (fits_up range top).0 (leb-true _ _ t), λ f. le-leb _ _ ((fits_up range top).1 f))
-
--- if the test whether a is below b is false, b is at most a
-pub from_test : {answer : Bool} {a b : ℤ} → IsTrue answer ↔ (a <ℤ b) → answer ≡ false → b ≤ℤ a
-from_test test e = from_not_less (iff_false test e)
 
 -- a number fits if it is not negative and at most one that fits
 pub fits_below : {fits : ℤ → Type 0} {low high x y : ℤ} → IsRange fits low high → fits y → pos 0 ≤ℤ x → x ≤ℤ y → fits x
@@ -41,26 +39,6 @@ few_bits t c range h power =
 pub gcd_domain : {fits : ℤ → Type 0} {low high a b : ℤ} {answer : Bool} → IsRange fits low high → fits a → fits b
     → IsTrue answer ↔ EachFits fits (IsGreatestCommonDivisor a b) → IsTrue answer ↔ GcdFits fits a b
 gcd_domain range a_fits b_fits test = let same = gcd_fits_is range a_fits b_fits in (λ t. same.1 (test.0 t), λ domain. test.1 (same.0 domain))
-
--- ---- what the three kinds of division share
-
--- a kind has one quotient and remainder at most, and each division without a remainder
-pub record IsKind (Kind : ℤ → ℤ → ℤ → ℤ → Type 0) : Type 0 where
-  pub division : {n d q r : ℤ} → Kind n d q r → IsDivision n d q r
-  pub only : {n d q r p s : ℤ} → Kind n d q r → Kind n d p s → (q ≡ p) × (r ≡ s)
-  pub exact : {n d q : ℤ} → IsDivision n d q (pos 0) → Kind n d q (pos 0)
-
-pub truncated : IsKind IsTruncated
-truncated = record { division = λ h. h.division; only = only_truncated; exact = λ h. record { division = h; sign = inl refl } }
-
-pub floored : IsKind IsFloored
-floored = record { division = λ h. h.division; only = only_floored; exact = λ h. record { division = h; sign = inl refl } }
-
-pub ceiled : IsKind IsCeiled
-ceiled = record { division = λ h. h.division; only = only_ceiled; exact = λ h. record { division = h; sign = inl refl } }
-
-pub each_kind : {P : (ℤ → ℤ → ℤ → ℤ → Type 0) → Type 0} → ((Kind : ℤ → ℤ → ℤ → ℤ → Type 0) → IsKind Kind → P Kind) → EachKind P
-each_kind each = (each IsTruncated truncated, each IsFloored floored, each IsCeiled ceiled)
 
 -- ---- when the quotient of a division fits, of any kind
 
@@ -146,3 +124,11 @@ module _ {fits : ℤ → Type 0} {low high a b : ℤ} {most m n : ℕ} (range : 
   lcm_domain {g} n_nonzero greatest test =
       let own : IsLeastCommonMultiple a b (pos (m * (n / g))) = lcm-computed {a = a} {b = b} {q = pos (n / g)} (ap pos left) (ap pos right) (λ e. n_nonzero (right ∙ ap unsigned_abs e)) greatest refl refl in
       each_fits own (λ l. only_lcm own) test
+
+-- a sum with a number that is not negative fits exactly if it is at most the largest number, by signs and magnitudes
+pub sum_fits_exactly : {fits : ℤ → Type 0} {low high a b : ℤ} {negative answer : Bool} {m n h : ℕ} → IsRange fits low high → fits a → pos 0 ≤ℤ b → IsTrue negative ↔ (a <ℤ pos 0) → m ≡ unsigned_abs a
+    → n ≡ unsigned_abs b → pos h ≡ high → IsTrue answer ↔ ((signed negative m +ℤ pos n) ≤ℤ pos h) → IsTrue answer ↔ fits (a +ℤ b)
+sum_fits_exactly {high = high} {a = a} {b = b} {answer = answer} {n = n} range a_fits up negative a_size b_size top test =
+    let b_is : pos n ≡ b = omega (arith, sizes) in
+    let sum : IsTrue answer ↔ ((a +ℤ b) ≤ℤ high) = rw (signed_is negative a_size, b_is, top) at test in
+    (λ t. (range.between _).1 (omega (arith, linear, (range.between a).0 a_fits, sum.0 t)), λ f. sum.1 ((range.between _).0 f).1)

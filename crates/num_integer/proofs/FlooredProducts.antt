@@ -1,8 +1,8 @@
 -- Floored quotients of products, by signs and magnitudes.
 use Rattle.num_integer.proofs.Common.{◌≡◌, ◌<◌, ◌≤ℤ◌, ◌<ℤ◌, ◌*◌, ◌/◌, ◌%◌, ◌*ℤ◌, ℕ, ℤ, pos, neg_ℤ, not, Bool, true, false, arith, inl, from_not_less, ints, linear, products, sizes, IsFloored, IsRange, within_fits, signed, multiples_apart, product_at_most, product_from_zero}
 use Rattle.std.proofs.Math.Bool.{beq}
-use Rattle.num_integer.proofs.FlooredByPositive.{floored_by_range, floored_range}
-use Rattle.num_integer.proofs.NaturalDivision.{natural_division}
+use Rattle.integer_core.proofs.FlooredByPositive.{floored_by_range, floored_range}
+use Rattle.integer_core.proofs.NaturalDivision.{natural_division}
 
 -- without a remainder, the quotient and the remainder of a number of either sign are floored
 pub exact_floored : (negative : Bool) (m d : ℕ) → 0 < d → m % d ≡ 0 → IsFloored (signed negative m) (pos d) (signed negative (m / d)) (pos (m % d))

@@ -12,7 +12,7 @@ pub use Rattle.integer_core.proofs.Quotients.{floored_remainder_within, only_cei
 
 pub use Rattle.integer_core.proofs.CommonDivisors.{gcd_fits_is}
 pub use Rattle.integer_core.proofs.Ranges.{LiesWithin, no_minus_one, one_fits, within_fits, zero_fits}
-pub use Rattle.num_integer.proofs.FittingAnswers.{fits_below}
+pub use Rattle.num_integer.proofs.FittingAnswers.{fits_below, sum_fits_exactly}
 -- ---- what tests and checked calls say
 
 pub use Rattle.integer_core.proofs.Whole.{from_not_less}
@@ -32,37 +32,37 @@ pub use Rattle.num_integer.proofs.FittingAnswers.{from_test, signed_is}
 pub use Rattle.integer_core.proofs.Whole.{expand, linear, products, sizes, comm, dist, dist-left, mul-neg, mul-one, neg-mul}
 -- ---- smallest and largest numbers
 
-pub use Rattle.num_integer.proofs.Least.{greatest_is_only, least_is_only}
+pub use Rattle.integer_core.proofs.Least.{greatest_is_only, least_is_only}
 -- ---- inequalities between products
 
 pub use Rattle.integer_core.proofs.Whole.{product_positive}
-pub use Rattle.num_integer.proofs.OrderedProducts.{product_from_zero, multiples_apart, product_at_most, factor_positive}
+pub use Rattle.integer_core.proofs.OrderedProducts.{product_from_zero, multiples_apart, product_at_most, factor_positive}
 -- ---- quotients, remainders and multiples by a positive number
 
-pub use Rattle.num_integer.proofs.FlooredByPositive.{floored_range, floored_remainder_range, floored_by_range, only_pair_by_range, rest_leads_to_multiple, ceiled_remainder_range, ceiled_by_range, ceiled_quotient_least, next_multiple_least, least_multiple_beyond, positive_quotient_fits, operator_quotient_fits, sum_fits_exactly}
+pub use Rattle.integer_core.proofs.FlooredByPositive.{floored_range, floored_remainder_range, floored_by_range, only_pair_by_range, rest_leads_to_multiple, ceiled_remainder_range, ceiled_by_range, ceiled_quotient_least, next_multiple_least, least_multiple_beyond, positive_quotient_fits, operator_quotient_fits}
 -- ---- sizes of divisors and multiples
 
-pub use Rattle.num_integer.proofs.DivisorSizes.{divisor_at_most, gcd_with_positive_fits, gcd_at_most, small_multiple_is_zero, lcm_at_most_product, lcm-positive}
+pub use Rattle.integer_core.proofs.DivisorSizes.{divisor_at_most, gcd_with_positive_fits, gcd_at_most, small_multiple_is_zero, lcm_at_most_product, lcm-positive}
 -- ---- coprime numbers
 
-pub use Rattle.num_integer.proofs.Coprimes.{Divides-difference, coprime_exactly, divided_by_gcd, natural_gcd_positive, natural_exact_quotient, natural_quotients_coprime, coprime_divides}
+pub use Rattle.integer_core.proofs.Coprimes.{Divides-difference, coprime_exactly, divided_by_gcd, natural_gcd_positive, natural_exact_quotient, natural_quotients_coprime, coprime_divides}
 -- ---- powers and roots
 
 pub use Rattle.integer_roots.proofs.MagnitudeRoots.{first_root, root_in_range}
 pub use Rattle.integer_roots.proofs.OnlyAnswers.{root_is_only_one}
 pub use Rattle.integer_roots.proofs.Powers.{power_of_one, power_of_power, power_of_zero}
-pub use Rattle.num_integer.proofs.IntegerPowers.{even_or_odd, even_power, int_pow-suc, int_pow-zero, odd_power, power_of_square, power_size}
-pub use Rattle.num_integer.proofs.IntegerPowers.{root_by_squares, exact_power_root, square_root_of_square}
+pub use Rattle.integer_core.proofs.IntegerPowers.{even_or_odd, even_power, int_pow-suc, int_pow-zero, odd_power, power_of_square, power_size}
+pub use Rattle.num_integer.proofs.RootsOfPowers.{root_by_squares, exact_power_root, square_root_of_square}
 -- ---- coefficients
 
 pub use Rattle.num_integer.proofs.Pascal.{coefficient-pos, coefficient-zero, factorial-pos, none_above}
 pub use Rattle.num_integer.proofs.Pascal.{pascal, coefficient_grows}
 -- ---- the operators of the natural numbers
 
-pub use Rattle.num_integer.proofs.NaturalDivision.{quotient_is_natural, remainder_is_natural, division_is_natural, natural_quotient_fits, divides_is_natural, least_turns, quotients_grow, near}
+pub use Rattle.integer_core.proofs.NaturalDivision.{quotient_is_natural, remainder_is_natural, division_is_natural, natural_quotient_fits, divides_is_natural, least_turns, quotients_grow, near}
 -- ---- literals
 
 pub use Rattle.num_integer.proofs.LiteralMultiples.{euclid, lcm_number, literal_lcm_fits, literal_lcm_fits_signed}
 -- ---- division by literals
 
-pub use Rattle.num_integer.proofs.NaturalDivision.{floored_quotient_range, ceiled_quotient_range, divides_by_magnitude}
+pub use Rattle.integer_core.proofs.NaturalDivision.{floored_quotient_range, ceiled_quotient_range, divides_by_magnitude}

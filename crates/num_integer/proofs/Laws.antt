@@ -7,6 +7,7 @@ use Rattle.num_integer.proofs.Multinomials.{only_multinomial}
 use Rattle.num_integer.specs.Laws as law
 pub use Rattle.integer_core.proofs.BezoutAnswers.{bezout_answer_exists, bezout_answer_is_only}
 pub use Rattle.integer_core.proofs.CommonDivisors.{gcd_exists, lcm_exists, lcm_is_symmetric}
+pub use Rattle.integer_core.proofs.DivisionKinds.{division_is_only}
 pub use Rattle.integer_core.proofs.EuclidTurns.{euclid_turns_are_only}
 pub use Rattle.integer_core.proofs.GcdTurns.{bit_length_exists, gcd_turns_are_only}
 pub use Rattle.integer_core.proofs.Quotients.{division_exists, negation_turns_multiples}
@@ -17,11 +18,6 @@ pub use Rattle.num_integer.proofs.Pascal.{coefficient_mirror, divides_factorials
 pub use Rattle.num_integer.proofs.RowSteps.{row_is_greatest_in_middle, row_is_palindrome, row_length}
 
 -- ---- division and multiples
-
-pub division_is_only : law.DivisionIsOnly
-division_is_only =
-    each_kind {P = λ Kind. (n d q r : ℤ) → Kind n d q r → IsOnly (λ (p, s). Kind n d p s) (q, r)}
-    (λ Kind kind n d q r h. λ (p, s) other. let same = kind.only other h in rw (same.0, same.1) refl)
 
 pub quotient_is_only : law.QuotientIsOnly
 quotient_is_only =

@@ -2,7 +2,7 @@
 use Rattle.num_integer.proofs.Common.{◌≡◌, ◌<◌, ◌*◌, ◌/◌, ◌%◌, ◌^◌, ℤ, ℕ, pos, zero, suc, unsigned_abs, IsTrue, nat_lt, FitsSigned, FitsUnsignedBits, Width, arith, ◌∙◌, ap, inl, inr, refl, subst, sym, IsGreatestCommonDivisor, IsLeastCommonMultiple, mul-zero, zero-div, ltb-true, gcd-remainder, gcd-zero, lcm-computed, only_lcm, zero_divides, zero_or_not}
 use mir.Val.{hbits}
 use Rattle.std.proofs.lemmas.Int.{fits_signed_from_abs}
-use Rattle.num_integer.proofs.NaturalDivision.{natural_division}
+use Rattle.integer_core.proofs.NaturalDivision.{natural_division}
 
 -- Euclid's algorithm, which the prover computes
 abbrev pub euclid : ℕ → ℕ → ℕ → ℕ

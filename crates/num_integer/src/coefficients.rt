@@ -12,7 +12,7 @@ use integer_core::operators::{
 };
 
 /// Returns `a / b`. The quotient by a positive number always fits.
-#[tactic(auto, using(crate::proofs::FlooredByPositive::operator_quotient_fits))]
+#[tactic(auto, using(integer_core::proofs::FlooredByPositive::operator_quotient_fits))]
 pub(crate) fn positive_quotient<T: Integer>(a: T, b: T) -> T
     requires in_range { T.fits (T.value a) × T.fits (T.value b) }
     requires positive { pos 0 <ℤ T.value b }

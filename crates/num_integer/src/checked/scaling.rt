@@ -61,7 +61,7 @@ fn floored_product(a: (bool, u64), b: (bool, u64), d: (bool, u64)) -> ((bool, u1
 
 /// Returns the magnitudes of the quotient by `d`, rounded down, and of its remainder, of the number with
 /// this sign and this magnitude. The quotient has the same sign.
-#[tactic(auto, using(crate::proofs::FlooredProducts::exact_floored, crate::proofs::NaturalDivision::natural_division))]
+#[tactic(auto, using(crate::proofs::FlooredProducts::exact_floored, integer_core::proofs::NaturalDivision::natural_division))]
 fn floored(negative: bool, magnitude: u128, d: u128) -> (u128, u128)
     requires { 0 < d }
     ensures { IsFloored (signed negative magnitude) (pos d) (signed negative result.0) (pos result.1) }

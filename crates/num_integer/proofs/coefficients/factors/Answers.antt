@@ -1,6 +1,6 @@
 use Rattle.num_integer.proofs.RowSteps.{cancelled, cancelled_one, cancelled_whole, g_above, g_below, rest_above, through_remainder}
 use Rattle.num_integer.proofs.Common.{arith, fits_below, from_test, linear}
-use Rattle.num_integer.proofs.FlooredByPositive.{operator_quotient_fits}
+use Rattle.integer_core.proofs.FlooredByPositive.{operator_quotient_fits}
 use Rattle.num_integer.proofs.coefficients.factors.Goals as goal
 
 pub remainder-requires-clause-nonzero : goal.remainder-requires-clause-nonzero

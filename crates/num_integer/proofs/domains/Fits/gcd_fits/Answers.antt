@@ -1,4 +1,4 @@
-use Rattle.num_integer.proofs.DivisorSizes.{gcd_with_positive_fits}
+use Rattle.integer_core.proofs.DivisorSizes.{gcd_with_positive_fits}
 use Rattle.num_integer.proofs.Common.{gcd_of_nonzero, gcd_of_zero}
 use Rattle.num_integer.proofs.domains.Fits.gcd_fits.Goals as goal
 

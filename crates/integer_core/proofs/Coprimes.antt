@@ -1,8 +1,11 @@
 -- Coprime numbers, and numbers divided by their greatest common divisor.
-use Rattle.num_integer.proofs.Common.{◌≡◌, ◌≢◌, ◌↔◌, ◌<◌, ◌*◌, ◌/◌, ◌≤ℤ◌, ◌+ℤ◌, ◌-ℤ◌, ◌*ℤ◌, ℤ, ℕ, pos, arith, ◌∙◌, ap, inl, inr, subst, sym, ints, Divides, IsGreatestCommonDivisor, expand, linear, gcd_exists, gcd-positive, gcd-times, only_gcd, Divides-refl, Divides-sum, Divides-zero, cancel, exact_quotient, zero_divides, zero_or_not}
+use Rattle.integer_core.proofs.Common.{◌≡◌, ◌≢◌, ◌↔◌, ◌<◌, ◌*◌, ◌/◌, ◌≤ℤ◌, ◌+ℤ◌, ◌-ℤ◌, ◌*ℤ◌, ℤ, ℕ, pos, arith, ◌∙◌, ap, inl, inr, subst, sym, ints, Divides, IsGreatestCommonDivisor, expand, linear}
+use Rattle.integer_core.proofs.CommonDivisors.{gcd_exists, gcd-positive, gcd-times, only_gcd}
+use Rattle.integer_core.proofs.Divisibility.{Divides-refl, Divides-sum, Divides-zero, cancel, exact_quotient, zero_divides}
+use Rattle.integer_core.proofs.Quotients.{zero_or_not}
 use Rattle.integer_core.proofs.Whole.{mul-one}
 use Rattle.integer_core.proofs.BezoutAnswers.{bezout_answer_exists}
-use Rattle.num_integer.proofs.DivisorSizes.{divisor_at_most}
+use Rattle.integer_core.proofs.DivisorSizes.{divisor_at_most}
 
 -- a difference of two multiples of d is a multiple of d
 pub Divides-difference : {d u v : ℤ} → Divides d u → Divides d v → Divides d (u -ℤ v)

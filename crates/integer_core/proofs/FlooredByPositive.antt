@@ -1,7 +1,9 @@
 -- Quotients, remainders and multiples by a positive number.
-use Rattle.num_integer.proofs.Common.{◌≡◌, ◌≢◌, ◌↔◌, ◌≤ℤ◌, ◌<ℤ◌, ◌+ℤ◌, ◌-ℤ◌, ◌*ℤ◌, ℤ, ℕ, pos, unsigned_abs, int_div, Bool, IsTrue, arith, ◌∙◌, subst, from_not_less, IsCeiled, IsDivision, IsFloored, IsMultiple, IsQuotient, IsRemainder, EachFits, IsRange, Divides, comm, expand, linear, products, sizes, signed, only_floored, other_quotient_fits, truncated_is, signed_is, multiples_apart}
-use Rattle.num_integer.proofs.Coprimes.{Divides-difference}
-use Rattle.num_integer.proofs.DivisorSizes.{divisor_at_most}
+use Rattle.integer_core.proofs.Common.{◌≡◌, ◌≢◌, ◌≤ℤ◌, ◌<ℤ◌, ◌+ℤ◌, ◌-ℤ◌, ◌*ℤ◌, ℤ, ℕ, pos, unsigned_abs, int_div, arith, ◌∙◌, subst, from_not_less, IsCeiled, IsDivision, IsFloored, IsMultiple, IsQuotient, IsRemainder, EachFits, IsRange, Divides, comm, expand, linear, products, sizes}
+use Rattle.integer_core.proofs.OrderedProducts.{multiples_apart}
+use Rattle.integer_core.proofs.Quotients.{only_floored, other_quotient_fits, truncated_is}
+use Rattle.integer_core.proofs.Coprimes.{Divides-difference}
+use Rattle.integer_core.proofs.DivisorSizes.{divisor_at_most}
 
 -- the remainder of a floored division lies from 0 to below the divisor
 pub floored_range : {n d q r : ℤ} → pos 0 <ℤ d → IsFloored n d q r → (pos 0 ≤ℤ r) × (r <ℤ d)
@@ -75,11 +77,3 @@ positive_quotient_fits range n_fits d_fits up division = other_quotient_fits ran
 -- the quotient of `/` by a positive number fits
 pub operator_quotient_fits : {fits : ℤ → Type 0} {low high : ℤ} (n d : ℤ) → IsRange fits low high → fits n → fits d → pos 0 <ℤ d → fits (int_div n d)
 operator_quotient_fits n d range n_fits d_fits up = positive_quotient_fits range n_fits d_fits up (truncated_is n d (λ e. omega (arith, linear))).division
-
--- a sum with a number that is not negative fits exactly if it is at most the largest number, by signs and magnitudes
-pub sum_fits_exactly : {fits : ℤ → Type 0} {low high a b : ℤ} {negative answer : Bool} {m n h : ℕ} → IsRange fits low high → fits a → pos 0 ≤ℤ b → IsTrue negative ↔ (a <ℤ pos 0) → m ≡ unsigned_abs a
-    → n ≡ unsigned_abs b → pos h ≡ high → IsTrue answer ↔ ((signed negative m +ℤ pos n) ≤ℤ pos h) → IsTrue answer ↔ fits (a +ℤ b)
-sum_fits_exactly {high = high} {a = a} {b = b} {answer = answer} {n = n} range a_fits up negative a_size b_size top test =
-    let b_is : pos n ≡ b = omega (arith, sizes) in
-    let sum : IsTrue answer ↔ ((a +ℤ b) ≤ℤ high) = rw (signed_is negative a_size, b_is, top) at test in
-    (λ t. (range.between _).1 (omega (arith, linear, (range.between a).0 a_fits, sum.0 t)), λ f. sum.1 ((range.between _).0 f).1)

@@ -1,5 +1,9 @@
 -- How large divisors and multiples are.
-use Rattle.num_integer.proofs.Common.{◌≡◌, ◌≢◌, ◌<◌, ◌≤◌, ◌≤ℤ◌, ◌<ℤ◌, ◌*ℤ◌, ℤ, ℕ, pos, unsigned_abs, arith, ◌∙◌, from_not_less, inl, inr, refl, ints, IsRange, Divides, IsGreatestCommonDivisor, IsLeastCommonMultiple, comm, linear, products, sizes, gcd-swap, gcd-zero, only_gcd, cancel, zero_divides, divisor_size, zero_or_not, within_fits}
+use Rattle.integer_core.proofs.Common.{◌≡◌, ◌≢◌, ◌<◌, ◌≤◌, ◌≤ℤ◌, ◌<ℤ◌, ◌*ℤ◌, ℤ, ℕ, pos, unsigned_abs, arith, ◌∙◌, from_not_less, inl, inr, refl, ints, IsRange, Divides, IsGreatestCommonDivisor, IsLeastCommonMultiple, comm, linear, products, sizes}
+use Rattle.integer_core.proofs.CommonDivisors.{gcd-swap, gcd-zero, only_gcd}
+use Rattle.integer_core.proofs.Divisibility.{cancel, zero_divides, divisor_size}
+use Rattle.integer_core.proofs.Quotients.{zero_or_not}
+use Rattle.integer_core.proofs.Ranges.{within_fits}
 
 -- a divisor of a positive number is at most that number
 pub divisor_at_most : {u v : ℤ} → pos 0 <ℤ v → Divides u v → u ≤ℤ v

@@ -1,6 +1,6 @@
 -- The smallest number with a property that is at least another, and the largest that is at most another, are the only ones.
-use Rattle.num_integer.proofs.Common.{ℤ, arith, linear, IsOnly}
-use Rattle.num_integer.specs.Least.{IsGreatestTo, IsLeastFrom}
+use Rattle.integer_core.proofs.Common.{ℤ, arith, linear, IsOnly}
+use Rattle.integer_core.specs.Least.{IsGreatestTo, IsLeastFrom}
 
 -- The smallest number with a property that is at least another is the only one.
 pub least_is_only : {from t : ℤ} {Has : ℤ → Type 0} → IsLeastFrom from Has t → IsOnly (IsLeastFrom from Has) t

@@ -1,7 +1,9 @@
 -- Division of natural numbers, as `/` and `%` say it.
-use Rattle.num_integer.proofs.Common.{◌≡◌, ◌↔◌, ◌<◌, ◌≤◌, ◌+◌, ◌-◌, ◌*◌, ◌/◌, ◌%◌, ◌^◌, ◌≤ℤ◌, ◌<ℤ◌, ◌+ℤ◌, ◌*ℤ◌, ℤ, ℕ, pos, unsigned_abs, FitsUnsignedBits, arith, ap, ints, div-add-mod', div_below, le-div, mul-lt, div-le_self, IsFloored, IsQuotient, IsRemainder, EachFits, Divides, IsLeastCommonMultiple, products, suc, IsCeiled, linear, only_floored, Divides-trans, divides_magnitude, magnitude_divides}
-use Rattle.num_integer.proofs.FlooredByPositive.{floored_by_range, ceiled_remainder_range, floored_range}
-use Rattle.num_integer.proofs.DivisorSizes.{divisor_at_most, lcm-positive}
+use Rattle.integer_core.proofs.Common.{◌≡◌, ◌↔◌, ◌<◌, ◌≤◌, ◌+◌, ◌-◌, ◌*◌, ◌/◌, ◌%◌, ◌^◌, ◌≤ℤ◌, ◌<ℤ◌, ◌+ℤ◌, ◌*ℤ◌, ℤ, ℕ, pos, unsigned_abs, FitsUnsignedBits, arith, ap, ints, div-add-mod', div_below, le-div, mul-lt, div-le_self, IsFloored, IsQuotient, IsRemainder, EachFits, Divides, IsLeastCommonMultiple, products, suc, IsCeiled, linear}
+use Rattle.integer_core.proofs.Divisibility.{Divides-trans, divides_magnitude, magnitude_divides}
+use Rattle.integer_core.proofs.Quotients.{only_floored}
+use Rattle.integer_core.proofs.FlooredByPositive.{floored_by_range, ceiled_remainder_range, floored_range}
+use Rattle.integer_core.proofs.DivisorSizes.{divisor_at_most, lcm-positive}
 
 -- the quotient and the remainder of natural numbers are floored
 pub natural_division : (n d : ℕ) → 0 < d → IsFloored (pos n) (pos d) (pos (n / d)) (pos (n % d))

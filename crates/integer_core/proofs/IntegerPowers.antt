@@ -1,0 +1,48 @@
+-- Powers of integers: of 0 and 1, their signs, one degree more, and the double degree.
+use Rattle.integer_core.proofs.Common.{◌≡◌, ◌⊎◌, ◌+◌, ◌%◌, ◌^◌, ◌<◌, ◌*◌, ◌*ℤ◌, ℤ, ℕ, pos, negsuc, neg_ℤ, zero, suc, unsigned_abs, int_pow, arith, ap, ◌∙◌, inl, inr, refl, sym, negsuc-*ℤ-pos, pow-zero, pow-succ', pow-lt-pow_left, cases_lt, ints, expand, products}
+
+-- the powers of 1
+pub power_of_one : (n : ℕ) → 1 ^ n ≡ 1
+power_of_one zero = pow-zero 1
+power_of_one (suc n) = rw (pow-succ' 1 n, power_of_one n) refl
+
+-- the powers of 0
+pub power_of_zero : (n : ℕ) → 0 < n → 0 ^ n ≡ 0
+power_of_zero n h = omega (arith, pow-lt-pow_left {a = 0} {b = 1} {n = n} (omega arith) (omega arith), power_of_one n)
+
+pub even_power : (k : ℤ) (n : ℕ) → n % 2 ≡ 0 → int_pow k n ≡ pos (unsigned_abs k ^ n)
+even_power (pos a) n even = refl
+even_power (negsuc a) n even = rw even refl
+
+pub odd_power : (k : ℤ) (n : ℕ) → n % 2 ≡ 1 → int_pow (neg_ℤ k) n ≡ neg_ℤ (int_pow k n)
+odd_power (pos zero) n odd = let none = power_of_zero n (omega arith) in rw none refl
+odd_power (pos (suc a)) n odd = rw odd refl
+odd_power (negsuc a) n odd = rw odd (omega (arith, ints))
+
+pub even_or_odd : (n : ℕ) → (n % 2 ≡ 0) ⊎ (n % 2 ≡ 1)
+even_or_odd n = elim (cases_lt (n % 2) 1) [ inl even ↦ inl (omega arith) | inr odd ↦ inr (omega arith) ]
+
+pub power_size : (k : ℤ) (n : ℕ) → unsigned_abs (int_pow k n) ≡ unsigned_abs k ^ n
+power_size (pos a) n = refl
+power_size (negsuc a) n = elim (even_or_odd n) [
+  | inl even ↦ rw even refl
+  | inr odd ↦ rw odd (omega (arith, ints))
+]
+
+pub int_pow-zero : (x : ℤ) → int_pow x 0 ≡ pos 1
+int_pow-zero (pos a) = ap pos (pow-zero a)
+int_pow-zero (negsuc a) = ap pos (pow-zero (suc a))
+
+pub int_pow-suc : (x : ℤ) (n : ℕ) → int_pow x (suc n) ≡ x *ℤ int_pow x n
+int_pow-suc (pos a) n = ap pos (pow-succ' a n)
+int_pow-suc (negsuc a) n = elim (even_or_odd n) [
+  | inl even ↦ let odd : suc n % 2 ≡ 1 = omega arith in rw (even, odd, pow-succ') (sym (negsuc-*ℤ-pos a (suc a ^ n)))
+  | inr odd ↦ let even : suc n % 2 ≡ 0 = omega arith in rw (odd, even, pow-succ') (grind (arith, products))
+]
+
+-- the power of degree 2h is that of the square
+pub power_of_square : (x : ℤ) (h : ℕ) → int_pow x (h + h) ≡ int_pow (x *ℤ x) h
+power_of_square x zero = int_pow-zero x ∙ sym (int_pow-zero (x *ℤ x))
+power_of_square x (suc h) =
+    let e : suc h + suc h ≡ suc (suc (h + h)) = omega arith in
+    rw (e, int_pow-suc x (suc (h + h)), int_pow-suc x (h + h), power_of_square x h, int_pow-suc (x *ℤ x) h) (simp expand)
