@@ -1,5 +1,5 @@
 -- Quotients by a positive number, and the nearest integer.
-use Rattle.std.specs.Prelude.{◌≡◌, ◌≤◌, ◌*◌, ◌<ℤ◌, ◌≤ℤ◌, ◌+ℤ◌, ◌-ℤ◌, ◌*ℤ◌, ℤ, pos, negsuc, neg_ℤ, unsigned_abs, FitsSigned, MatchOption, Option, Some, None}
+use Rattle.std.specs.Prelude.{◌≡◌, ◌<◌, ◌≤◌, ◌*◌, ◌^◌, ◌<ℤ◌, ◌≤ℤ◌, ◌+ℤ◌, ◌-ℤ◌, ◌*ℤ◌, ℤ, pos, negsuc, neg_ℤ, unsigned_abs, FitsSigned, MatchOption, Option, Some, None}
 use Rattle.std.specs.Int.{Width, w64}
 use Rattle.std.proofs.Common.{ap, arith, inl, inr, subst, sym}
 use Rattle.std.proofs.lemmas.Int.{by_lt_z, ints}
@@ -38,6 +38,9 @@ module _ {n d q r : ℤ} (up : pos 0 <ℤ d) (h : IsDivision n d q r) where
 
   pub quotient_size : unsigned_abs q ≤ unsigned_abs n
   quotient_size = omega (arith, sizes, quotient_within)
+
+  pub quotient_below : unsigned_abs n < 2 ^ 127 → unsigned_abs q < 2 ^ 127
+  quotient_below small = omega (arith, quotient_size)
 
 -- ---- the nearest number
 

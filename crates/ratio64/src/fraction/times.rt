@@ -1,9 +1,9 @@
 //! A fraction times an integer or another fraction, and a fraction rounded to a number of parts.
 
-ghost use Rattle.std.specs.Prelude.{◌≡◌, ◌≢◌, ◌↔◌, ◌<◌, ◌^◌, ◌<ℤ◌, ◌*ℤ◌, ℤ, pos, unsigned_abs, Err, FitsSigned};
-ghost use Rattle.std.specs.Int.{w64, w128};
+ghost use Rattle.std.specs.Prelude.{◌≡◌, ◌≢◌, ◌↔◌, ◌<◌, ◌^◌, ◌<ℤ◌, ◌*ℤ◌, pos, unsigned_abs, Err, FitsSigned};
+ghost use Rattle.std.specs.Int.{w64};
 ghost use Rattle.num_integer.specs.Checked.{AnswersWhere};
-ghost use Rattle.num_integer.specs.Division.{IsCeiled, IsDivision, IsFloored, IsQuotient};
+ghost use Rattle.num_integer.specs.Division.{IsCeiled, IsFloored, IsQuotient};
 ghost use Rattle.num_integer.specs.Range.{EachFits};
 ghost use Rattle.ratio64.specs.Ratio.{AnswersFraction, num_of, den_of};
 ghost use Rattle.ratio64.specs.Rounding.{AnswersInParts, IsRounded};
@@ -127,10 +127,8 @@ impl Ratio {
     fn times(&self, n: i64) -> (i128, i128)
         ensures num { result.0 ≡ num_of self.now *ℤ n }
         ensures den { result.1 ≡ den_of self.now }
-        ensures quotients_fit { (q r : ℤ) → IsDivision (num_of self.now *ℤ n) (den_of self.now) q r
-            → FitsSigned w128 q }
-        ensures quotients_below { (q r : ℤ) → IsDivision (num_of self.now *ℤ n) (den_of self.now) q r
-            → unsigned_abs q < 2 ^ 127 }
+        ensures num_below { unsigned_abs result.0 < 2 ^ 127 }
+        ensures den_below { unsigned_abs result.1 < 2 ^ 127 }
     {
         (product(self.num, n), i128::from(self.den))
     }
