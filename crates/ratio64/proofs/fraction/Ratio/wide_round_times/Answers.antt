@@ -9,10 +9,10 @@ use Rattle.ratio64.proofs.fraction.Ratio.wide_round_times.Goals as goal
 use Rattle.ratio64.proofs.fraction.Ratio.wide_round_times.Goals.{After-times-num}
 
 num : (c : After-times-num) → to_z w128 (of_z w128 c.times-num.result.0) ≡ num_of c.args.self.now *ℤ c.args.n
-num c = read _ c.times-num.ensures.num_below ∙ rw (to_z-of_z w64 c.args.n c.ranges.n) at c.times-num.ensures.num
+num c = read c.times-num.result.0 c.times-num.ensures.num_below ∙ rw (to_z-of_z w64 c.args.n c.ranges.n) at c.times-num.ensures.num
 
 den : (c : After-times-num) → to_z w128 (of_z w128 c.times-num.result.1) ≡ den_of c.args.self.now
-den c = read _ c.times-num.ensures.den_below ∙ c.times-num.ensures.den
+den c = read c.times-num.result.1 c.times-num.ensures.den_below ∙ c.times-num.ensures.den
 
 pub nearest-requires-clause-positive : goal.nearest-requires-clause-positive
 nearest-requires-clause-positive c = rw (den (goal.at.nearest-requires-clause-positive c).After-times-num) c.args.self.now.reduced.positive
@@ -20,7 +20,7 @@ nearest-requires-clause-positive c = rw (den (goal.at.nearest-requires-clause-po
 pub nearest-requires-clause-quotients_fit : goal.nearest-requires-clause-quotients_fit
 nearest-requires-clause-quotients_fit c =
     let at = (goal.at.nearest-requires-clause-quotients_fit c).After-times-num in
-    rw (read _ c.times-num.ensures.num_below, den at) (λ q r h. quotient_fits c.args.self.now.reduced.positive h w128 (fits_signed_from_abs w128 _ c.times-num.ensures.num_below))
+    rw (read c.times-num.result.0 c.times-num.ensures.num_below, den at) (λ q r h. quotient_fits c.args.self.now.reduced.positive h w128 (fits_signed_from_abs w128 _ c.times-num.ensures.num_below))
 
 pub returns-clause-rounded : goal.returns-clause-rounded
 returns-clause-rounded c =
@@ -30,5 +30,5 @@ returns-clause-rounded c =
 pub returns-clause-below : goal.returns-clause-below
 returns-clause-below c =
     let at = (goal.at.returns-clause-below c).After-times-num in
-    let own = rw (read _ c.times-num.ensures.num_below, den at) at c.nearest.ensures.rounded in
+    let own = rw (read c.times-num.result.0 c.times-num.ensures.num_below, den at) at c.nearest.ensures.rounded in
     rw (to_z-of_z w128 c.nearest.result c.nearest.ensures.in_range) (quotient_below c.args.self.now.reduced.positive (rounded_division c.args.self.now.reduced.positive own) c.times-num.ensures.num_below)
