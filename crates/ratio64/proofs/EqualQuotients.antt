@@ -3,8 +3,10 @@ use Rattle.std.specs.Prelude.{◌≡◌, ◌<◌, ◌≤◌, ◌*◌, ◌<ℤ◌
 use Rattle.std.proofs.Common.{arith, ap, inl, inr, le_of_mul-le-mul_right, mul-le-mul_left, sym, ◌∙◌}
 use Rattle.std.proofs.lemmas.Bool.{cases_lt}
 use Rattle.std.proofs.lemmas.Int.{by_lt_z, unsigned_abs-mul}
-use Rattle.num_integer.proofs.ForCallers.{ceiled_by_range, ceiled_remainder_range, comm, expand, floored_by_range, floored_remainder_range, from_not_less, linear, multiples_apart, product_from_zero, products, sizes}
-use Rattle.num_integer.specs.Division.{IsCeiled, IsFloored, IsQuotient}
+use Rattle.integer_core.proofs.FlooredByPositive.{ceiled_by_range, ceiled_remainder_range, floored_by_range, floored_remainder_range}
+use Rattle.integer_core.proofs.OrderedProducts.{multiples_apart, product_from_zero}
+use Rattle.integer_core.proofs.Whole.{comm, expand, from_not_less, linear, products, sizes}
+use Rattle.integer_core.specs.Division.{IsCeiled, IsFloored, IsQuotient}
 use Rattle.ratio64.specs.Fraction.{AreEqual, IsExact}
 use Rattle.ratio64.specs.ReducedPairs.{AreEqual-sym}
 use Rattle.ratio64.specs.Rounding.{AnswersInParts, IsRounded}
@@ -64,27 +66,39 @@ natural_order b d p q r s up first second most =
     let times = mul-le-mul_left d most in
     le_of_mul-le-mul_right {m = q} {n = s} {k = b} (omega arith) up
 
+natural_strict_order : (b d p q r s : ℕ) → 0 < d → p * d ≡ q * b → r * d ≡ s * b → p < r → q < s
+natural_strict_order b d p q r s up first second less = elim (cases_lt q s) [
+  | inl fine ↦ fine
+  | inr over ↦ let back = natural_order d b s r q p up (sym second) (sym first) over in absurd (omega arith)
+]
+
+-- if s/b and t/d are equal and one is at most a half, or a half, so is the other
+half_at_most : (b d s t : ℕ) → 0 < b → s * d ≡ t * b → 2 * s ≤ b → 2 * t ≤ d
+half_at_most b d s t up same most = natural_order b d (2 * s) (2 * t) b d up (omega arith) (omega arith) most
+
+half_at_least : (b d s t : ℕ) → 0 < b → s * d ≡ t * b → b ≤ 2 * s → d ≤ 2 * t
+half_at_least b d s t up same most = natural_order b d b d (2 * s) (2 * t) up (omega arith) (omega arith) most
+
+same_half : (b d s t : ℕ) → 0 < b → s * d ≡ t * b → 2 * s ≡ b → 2 * t ≡ d
+same_half b d s t up same half = omega (arith, half_at_most b d s t up same (omega arith), half_at_least b d s t up same (omega arith))
+
+size_positive : (z : ℤ) → pos 0 <ℤ z → 0 < unsigned_abs z
+size_positive z up = omega (arith, sizes)
+
 magnitudes : (s t u v : ℤ) → s *ℤ t ≡ u *ℤ v → unsigned_abs s * unsigned_abs t ≡ unsigned_abs u * unsigned_abs v
 magnitudes s t u v e = sym (unsigned_abs-mul s t) ∙ ap unsigned_abs e ∙ unsigned_abs-mul u v
+
+same_product : (r b d : ℤ) → (r *ℤ b) *ℤ d ≡ (r *ℤ d) *ℤ b
+same_product r b d = simp expand
 
 -- Equal fractions, rounded to the nearest integer, are the same integer.
 pub equal_rounded : {a b c d r : ℤ} → pos 0 <ℤ b → pos 0 <ℤ d → AreEqual a b c d → IsRounded a b r → IsRounded c d r
 equal_rounded {a} {b} {c} {d} {r} b_up d_up equal h =
-    let b_size : 0 < unsigned_abs b = omega (arith, sizes) in
-    let d_size : 0 < unsigned_abs d = omega (arith, sizes) in
     let left = magnitudes (a -ℤ r *ℤ b) d (c -ℤ r *ℤ d) b (rests r equal) in
-    let products : (r *ℤ b) *ℤ d ≡ (r *ℤ d) *ℤ b = simp expand in
-    let near = h.nearest in
     record {
-      nearest = natural_order (unsigned_abs b) (unsigned_abs d) (2 * unsigned_abs (a -ℤ r *ℤ b)) (2 * unsigned_abs (c -ℤ r *ℤ d)) (unsigned_abs b) (unsigned_abs d) b_size (omega arith) (omega arith) near;
-      tie = λ e.
-          let level = natural_order (unsigned_abs d) (unsigned_abs b) (unsigned_abs d) (unsigned_abs b) (2 * unsigned_abs (c -ℤ r *ℤ d)) (2 * unsigned_abs (a -ℤ r *ℤ b)) d_size (omega arith) (omega arith) (omega arith) in
-          elim (cases_lt (unsigned_abs c) (unsigned_abs (r *ℤ d))) [
-            | inl fine ↦ fine
-            | inr over ↦
-                let back = natural_order (unsigned_abs d) (unsigned_abs b) (unsigned_abs (r *ℤ d)) (unsigned_abs (r *ℤ b)) (unsigned_abs c) (unsigned_abs a) d_size in
-                absurd (omega (arith, h.tie (omega arith), back (sym (magnitudes (r *ℤ b) d (r *ℤ d) b products)) (sym (magnitudes a d c b equal.cross)) over))
-          ];
+      nearest = half_at_most _ _ _ _ (size_positive b b_up) left h.nearest;
+      tie = λ half. natural_strict_order (unsigned_abs b) (unsigned_abs d) _ _ _ _ (size_positive d d_up) (magnitudes a d c b equal.cross) (magnitudes (r *ℤ b) d (r *ℤ d) b (same_product r b d))
+          (h.tie (same_half (unsigned_abs d) (unsigned_abs b) _ _ (size_positive d d_up) (sym left) half));
     }
 
 -- ---- in parts

@@ -1,10 +1,15 @@
 -- The exact result of a fraction: its parts by their gcd, with a positive denominator.
-use Rattle.std.specs.Prelude.{◌≡◌, ◌↔◌, ◌<ℤ◌, ◌≤ℤ◌, ◌*ℤ◌, ℤ, pos, negsuc, neg_ℤ, suc, int_div}
-use Rattle.std.proofs.Common.{arith, ap, refl, subst, sym, ◌∙◌}
-use Rattle.std.proofs.lemmas.Int.{ints}
-use Rattle.num_integer.proofs.ForCallers.{Divides-refl, cancel, comm, divided_by_gcd, divisor_at_most, exact_quotient, expand, factor_positive, gcd-divisor, gcd-nonzero, gcd-positive, linear, mul-one, one_divides, products}
-use Rattle.num_integer.proofs.Laws.{gcd_exists}
-use Rattle.num_integer.specs.Divisors.{Divides, IsGreatestCommonDivisor}
+use Rattle.std.specs.Prelude.{◌≡◌, ◌≢◌, ◌↔◌, ◌≤◌, ◌<ℤ◌, ◌≤ℤ◌, ◌*ℤ◌, ℤ, pos, negsuc, neg_ℤ, suc, int_div, unsigned_abs}
+use Rattle.std.proofs.Common.{arith, ap, le-mul_of_pos_right, refl, subst, sym, ◌∙◌}
+use Rattle.std.proofs.lemmas.Int.{ints, unsigned_abs-mul}
+use Rattle.integer_core.proofs.CommonDivisors.{gcd-divisor, gcd-nonzero, gcd-positive}
+use Rattle.integer_core.proofs.Coprimes.{divided_by_gcd}
+use Rattle.integer_core.proofs.Divisibility.{Divides-refl, cancel, exact_quotient, one_divides}
+use Rattle.integer_core.proofs.DivisorSizes.{divisor_at_most}
+use Rattle.integer_core.proofs.OrderedProducts.{factor_positive}
+use Rattle.integer_core.proofs.Whole.{comm, expand, linear, mul-one, products, sizes}
+use Rattle.integer_core.proofs.CommonDivisors.{gcd_exists}
+use Rattle.integer_core.specs.Divisors.{Divides, IsGreatestCommonDivisor}
 use Rattle.ratio64.specs.Fraction.{AreEqual, IsExact, IsFraction, IsReduced}
 use Rattle.ratio64.specs.ReducedPairs.{positive_is_nonzero, same_pair}
 
@@ -29,6 +34,12 @@ same_result fraction e x = record { fraction = fraction; reduced = x.reduced; eq
 equal_parts : {a b p q : ℤ} (g : ℤ) → a ≡ g *ℤ p → b ≡ g *ℤ q → AreEqual a b p q
 equal_parts g e f = record { cross = rw (e, f) (simp expand) }
 
+-- the quotient by a divisor is at most the number
+pub quotient_at_most : {n g : ℤ} → g ≢ pos 0 → Divides g n → unsigned_abs (int_div n g) ≤ unsigned_abs n
+quotient_at_most {n} {g} nonzero h =
+    let size = ap unsigned_abs (exact_quotient nonzero h) ∙ unsigned_abs-mul g (int_div n g) in
+    omega (arith, le-mul_of_pos_right {m = unsigned_abs g} (unsigned_abs (int_div n g)) (omega (arith, sizes)))
+
 -- if the denominator is positive, the quotients of both parts by the gcd are the exact result
 pub exact_quotients : {a b g : ℤ} → pos 0 <ℤ b → IsGreatestCommonDivisor a b g → IsExact a b (int_div a g) (int_div b g)
 exact_quotients {a} {b} {g} up x =
@@ -48,13 +59,13 @@ coprime_is_exact {a} {b} {g} fraction up x small =
     let one : g ≡ pos 1 = omega (arith, linear) in
     record { fraction = fraction; reduced = record { positive = omega (arith, linear); lowest = subst (IsGreatestCommonDivisor a b) one x }; equal = record { cross = refl } }
 
-negated : (a b : ℤ) → AreEqual (neg_ℤ a) (neg_ℤ b) a b
-negated a b = record { cross = simp expand }
+pub equal_negated : (a b : ℤ) → AreEqual (neg_ℤ a) (neg_ℤ b) a b
+equal_negated a b = record { cross = simp expand }
 
 pub exact_result_exists : (a b : ℤ) → IsFraction a b → (num den : ℤ) × IsExact a b num den
 exact_result_exists a (pos b) fraction = (_, _, exact_quotients (omega (arith, linear)) (gcd_exists a (pos b)).1)
 exact_result_exists a (negsuc b) fraction =
-    (_, _, same_result fraction (negated a (negsuc b)) (exact_quotients (omega (arith, ints)) (gcd_exists (neg_ℤ a) (pos (suc b))).1))
+    (_, _, same_result fraction (equal_negated a (negsuc b)) (exact_quotients (omega (arith, ints)) (gcd_exists (neg_ℤ a) (pos (suc b))).1))
 
 -- ---- fractions that are reduced already
 

@@ -1,13 +1,15 @@
 -- Quotients by a positive number, and the nearest integer.
-use Rattle.std.specs.Prelude.{◌≡◌, ◌≤◌, ◌*◌, ◌<ℤ◌, ◌≤ℤ◌, ◌+ℤ◌, ◌-ℤ◌, ◌*ℤ◌, ℤ, pos, negsuc, neg_ℤ, unsigned_abs, FitsSigned, MatchOption, Option, Some, None}
+use Rattle.std.specs.Prelude.{◌≡◌, ◌<◌, ◌≤◌, ◌*◌, ◌^◌, ◌<ℤ◌, ◌≤ℤ◌, ◌+ℤ◌, ◌-ℤ◌, ◌*ℤ◌, ℤ, pos, negsuc, neg_ℤ, unsigned_abs, FitsSigned, MatchOption, Option, Some, None}
 use Rattle.std.specs.Int.{Width, w64}
 use Rattle.std.proofs.Common.{ap, arith, inl, inr, subst, sym}
 use Rattle.std.proofs.lemmas.Int.{by_lt_z, ints}
-use Rattle.num_integer.proofs.ForCallers.{LiesWithin, expand, linear, multiples_apart, product_from_zero, products, sizes}
-use Rattle.num_integer.specs.Checked.{AnswersWhere}
-use Rattle.num_integer.specs.Division.{IsDivision, IsQuotient, IsTruncated}
-use Rattle.num_integer.specs.Only.{IsOnly}
-use Rattle.num_integer.specs.Range.{EachFits}
+use Rattle.integer_core.proofs.Ranges.{LiesWithin}
+use Rattle.integer_core.proofs.OrderedProducts.{multiples_apart, product_from_zero}
+use Rattle.integer_core.proofs.Whole.{expand, linear, products, sizes}
+use Rattle.integer_core.specs.Checked.{AnswersWhere}
+use Rattle.integer_core.specs.Division.{IsDivision, IsQuotient, IsTruncated}
+use Rattle.integer_core.specs.Only.{IsOnly}
+use Rattle.integer_core.specs.Range.{EachFits}
 use Rattle.ratio64.specs.Laws.{RoundedIsOnly}
 use Rattle.ratio64.specs.Rounding.{IsRounded}
 
@@ -38,6 +40,9 @@ module _ {n d q r : ℤ} (up : pos 0 <ℤ d) (h : IsDivision n d q r) where
 
   pub quotient_size : unsigned_abs q ≤ unsigned_abs n
   quotient_size = omega (arith, sizes, quotient_within)
+
+  pub quotient_below : unsigned_abs n < 2 ^ 127 → unsigned_abs q < 2 ^ 127
+  quotient_below small = omega (arith, quotient_size)
 
 -- ---- the nearest number
 

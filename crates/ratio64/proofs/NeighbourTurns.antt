@@ -1,6 +1,6 @@
 -- The turns of the loop that finds the neighbours of a fraction.
-use Rattle.std.proofs.Common.{◌≡◌, ◌≢◌, ◌+◌, ◌-◌, ◌*◌, ◌<◌, ◌≤◌, ℕ, arith, ap, mul-le-mul_left}
-use Rattle.std.proofs.lemmas.Nat.{mul-lt}
+use Rattle.std.proofs.Common.{◌≡◌, ◌≢◌, ◌+◌, ◌-◌, ◌*◌, ◌/◌, ◌<◌, ◌≤◌, ℕ, min, arith, ap, mul-le-mul_left}
+use Rattle.std.proofs.lemmas.Nat.{le-div, mul-lt}
 use Rattle.ratio64.specs.declared.neighbours.Neighbour.{Neighbour}
 use Rattle.ratio64.specs.Neighbours.{AreNeighbours, IsCloser}
 
@@ -10,6 +10,23 @@ pub first_neighbours : {n d max : ℕ} → 0 < max → max < d → n < d → ((a
 first_neighbours {n} {d} {max} up above proper lowest =
     let nonzero : n ≢ 0 = λ e. let small = lowest 0 1 (omega arith) (omega arith) in absurd (omega arith) in
     omega arith
+
+-- ---- the steps of one neighbour toward the other
+
+-- as many steps as leave a gap and keep the denominator within the limit
+pub steps_within : {steps gap num den max a b g : ℕ} → (0 < g) × (g < gap) → (0 < b) × (den + b ≤ max) → (num ≤ den) × (a ≤ b) → steps ≡ min ((gap - 1) / g) ((max - den) / b)
+    → (0 < steps) × (steps * g < gap) × (num + steps * a ≤ max) × (den + steps * b ≤ max)
+steps_within {steps} {gap} {num} {den} {max} {a} {b} {g} gaps dens nums is =
+    let steps_gap : steps ≤ (gap - 1) / g = omega arith in
+    let steps_den : steps ≤ (max - den) / b = omega arith in
+    let by_gap = mul-le-mul_left g steps_gap in
+    let by_den = mul-le-mul_left b steps_den in
+    let some_gap = le-div 1 (gap - 1) g gaps.0 (omega arith) in
+    let some_den = le-div 1 (max - den) b dens.0 (omega arith) in
+    let parts = mul-le-mul_left steps nums.1 in
+    (omega arith, omega arith, omega arith, omega arith)
+
+-- ---- the turns
 
 -- the upper one comes closer
 pub above_closer : {n d max : ℕ} {x y z : Neighbour} → AreNeighbours n d max x y → IsCloser max y x z → AreNeighbours n d max x z

@@ -10,12 +10,12 @@ use Rattle.std.proofs.Common.{Bor, ap, append_assoc, arith, get_or, inl, inr, re
 use Rattle.std.proofs.lemmas.Bool.{cases_Bool}
 use Rattle.std.proofs.lemmas.Bool.Decides.{Decides-int_eq, nat_tests}
 use Rattle.std.proofs.lemmas.Fmt.{decimal_is_IsNumeral}
-use Rattle.std.proofs.lemmas.Grind.{common_steps}
+use Rattle.std.proofs.lemmas.List.{get_or_at, length-append}
 use Rattle.std.proofs.lemmas.Str.Parse.{IsNumeralModel, numerals_by_value, not_in_digits}
 use Rattle.std.proofs.lemmas.Str.Pattern.{IsSplitOnceResult, split_after, split_parts}
 use borrow.Author.Tests.{ne_eqb}
 use Rattle.ratio64.proofs.ExactResults.{reduced_is_exact}
-use Rattle.num_integer.proofs.ForCallers.{linear}
+use Rattle.integer_core.proofs.Whole.{linear}
 use Rattle.ratio64.proofs.FractionAnswers.{exact_answer, only_answer, only_of_parts}
 use Rattle.ratio64.proofs.WideSums.{part_size}
 use Rattle.ratio64.specs.Laws.{ReadingIsOnly, TextIsReadBack}
@@ -59,8 +59,8 @@ AreParts text num den = (text ≡ num ++ codes "/" ++ den) ⊎ ((text ≡ num) �
 
 no_slash_inside : (text : List ℕ) → IsNumeral 10 (unsigned_part text) → (front back : List ℕ) → text ≢ front ++ (47 ∷ back)
 no_slash_inside text h front back e =
-    let inside : length front < length text = grind (arith, common_steps) in
-    let here : get_or text (length front) 0 ≡ 47 = grind (arith, common_steps) in
+    let inside : length front < length text = rw e (simp length-append (omega arith)) in
+    let here : get_or text (length front) 0 ≡ 47 = rw e (get_or_at front 47 back 0 (length front) refl) in
     no_slash text h (length front) inside here
 
 -- what `split_once` cuts at the slash, or the string and `1`

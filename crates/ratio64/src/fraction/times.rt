@@ -1,17 +1,17 @@
 //! A fraction times an integer or another fraction, and a fraction rounded to a number of parts.
 
-ghost use Rattle.std.specs.Prelude.{◌≡◌, ◌≢◌, ◌↔◌, ◌<◌, ◌^◌, ◌<ℤ◌, ◌*ℤ◌, ℤ, pos, unsigned_abs, Err, FitsSigned};
-ghost use Rattle.std.specs.Int.{w64, w128};
-ghost use Rattle.num_integer.specs.Checked.{AnswersWhere};
-ghost use Rattle.num_integer.specs.Division.{IsCeiled, IsDivision, IsFloored, IsQuotient};
-ghost use Rattle.num_integer.specs.Range.{EachFits};
+ghost use Rattle.std.specs.Prelude.{◌≡◌, ◌≢◌, ◌↔◌, ◌<◌, ◌^◌, ◌<ℤ◌, ◌*ℤ◌, pos, unsigned_abs, Err, FitsSigned};
+ghost use Rattle.std.specs.Int.{w64};
+ghost use Rattle.integer_core.specs.Checked.{AnswersWhere};
+ghost use Rattle.integer_core.specs.Division.{IsCeiled, IsFloored, IsQuotient};
+ghost use Rattle.integer_core.specs.Range.{EachFits};
 ghost use Rattle.ratio64.specs.Ratio.{AnswersFraction, num_of, den_of};
 ghost use Rattle.ratio64.specs.Rounding.{AnswersInParts, IsRounded};
 
 use crate::fraction::rounding::nearest;
 use crate::reduction::{narrowed, product};
 use crate::{Ratio, RatioError};
-use num_integer::{div_ceil, div_floor};
+use integer_core::{div_ceil, div_floor};
 
 impl Ratio {
     /// Returns the fraction times `n`, rounded down, or `None` if that number does not fit.
@@ -22,8 +22,7 @@ impl Ratio {
             (EachFits (FitsSigned w64) (IsQuotient IsFloored (num_of self.now *ℤ n) (den_of self.now)))
             (IsQuotient IsFloored (num_of self.now *ℤ n) (den_of self.now)) result }
     {
-        let (num, den) = self.times(n);
-        narrowed(div_floor(num, den))
+        narrowed(self.wide_floor_times(n))
     }
 
     /// Returns the fraction times `n`, rounded up, or `None` if that number does not fit.
@@ -33,8 +32,7 @@ impl Ratio {
             (EachFits (FitsSigned w64) (IsQuotient IsCeiled (num_of self.now *ℤ n) (den_of self.now)))
             (IsQuotient IsCeiled (num_of self.now *ℤ n) (den_of self.now)) result }
     {
-        let (num, den) = self.times(n);
-        narrowed(div_ceil(num, den))
+        narrowed(self.wide_ceil_times(n))
     }
 
     /// Returns the fraction times `n`, rounded to the nearest integer and a half away from 0, or `None`
@@ -45,8 +43,7 @@ impl Ratio {
             (EachFits (FitsSigned w64) (IsRounded (num_of self.now *ℤ n) (den_of self.now)))
             (IsRounded (num_of self.now *ℤ n) (den_of self.now)) result }
     {
-        let (num, den) = self.times(n);
-        narrowed(nearest(num, den))
+        narrowed(self.wide_round_times(n))
     }
 
     /// Returns the fraction times `n / d`, or `ZeroDenominator` if `d` is 0, or `NotFitting` if a part of
@@ -68,8 +65,7 @@ impl Ratio {
             (IsQuotient IsFloored (num_of self.now *ℤ parts) (den_of self.now)) parts result }
         ensures never_zero { result ≢ Err RatioError.ZeroDenominator }
     {
-        let (num, den) = self.times(parts);
-        in_parts(div_floor(num, den), parts)
+        in_parts(self.wide_floor_times(parts), parts)
     }
 
     /// Returns the smallest multiple of `1 / parts` that is at least the fraction, or `NotFitting` if a
@@ -82,8 +78,7 @@ impl Ratio {
             (IsQuotient IsCeiled (num_of self.now *ℤ parts) (den_of self.now)) parts result }
         ensures never_zero { result ≢ Err RatioError.ZeroDenominator }
     {
-        let (num, den) = self.times(parts);
-        in_parts(div_ceil(num, den), parts)
+        in_parts(self.wide_ceil_times(parts), parts)
     }
 
     /// Returns the nearest multiple of `1 / parts`, and of two equally near the one farther from 0, or
@@ -97,18 +92,43 @@ impl Ratio {
             (IsRounded (num_of self.now *ℤ parts) (den_of self.now)) parts result }
         ensures never_zero { result ≢ Err RatioError.ZeroDenominator }
     {
-        let (num, den) = self.times(parts);
-        in_parts(nearest(num, den), parts)
+        in_parts(self.wide_round_times(parts), parts)
+    }
+
+    /// Returns the fraction times `n`, rounded down, which may not fit an `i64`.
+    fn wide_floor_times(&self, n: i64) -> i128
+        ensures floored { IsQuotient IsFloored (num_of self.now *ℤ n) (den_of self.now) result }
+        ensures below { unsigned_abs result < 2 ^ 127 }
+    {
+        let (num, den) = self.times(n);
+        div_floor(num, den)
+    }
+
+    /// Returns the fraction times `n`, rounded up, which may not fit an `i64`.
+    fn wide_ceil_times(&self, n: i64) -> i128
+        ensures ceiled { IsQuotient IsCeiled (num_of self.now *ℤ n) (den_of self.now) result }
+        ensures below { unsigned_abs result < 2 ^ 127 }
+    {
+        let (num, den) = self.times(n);
+        div_ceil(num, den)
+    }
+
+    /// Returns the fraction times `n`, rounded to the nearest integer and a half away from 0, which may not
+    /// fit an `i64`.
+    fn wide_round_times(&self, n: i64) -> i128
+        ensures rounded { IsRounded (num_of self.now *ℤ n) (den_of self.now) result }
+        ensures below { unsigned_abs result < 2 ^ 127 }
+    {
+        let (num, den) = self.times(n);
+        nearest(num, den)
     }
 
     /// Returns the parts of the fraction times `n`, which are not in lowest terms.
     fn times(&self, n: i64) -> (i128, i128)
         ensures num { result.0 ≡ num_of self.now *ℤ n }
         ensures den { result.1 ≡ den_of self.now }
-        ensures quotients_fit { (q r : ℤ) → IsDivision (num_of self.now *ℤ n) (den_of self.now) q r
-            → FitsSigned w128 q }
-        ensures quotients_below { (q r : ℤ) → IsDivision (num_of self.now *ℤ n) (den_of self.now) q r
-            → unsigned_abs q < 2 ^ 127 }
+        ensures num_below { unsigned_abs result.0 < 2 ^ 127 }
+        ensures den_below { unsigned_abs result.1 < 2 ^ 127 }
     {
         (product(self.num, n), i128::from(self.den))
     }

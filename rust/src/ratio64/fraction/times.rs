@@ -41,8 +41,7 @@ impl Ratio {
     /// </details>
     #[must_use]
     pub fn floor_times(&self, n: i64) -> Option<i64> {
-        let (num, den) = self.times(n);
-        narrowed(div_floor(num, den))
+        narrowed(self.wide_floor_times(n))
     }
 
     /// Returns the fraction times `n`, rounded up, or `None` if that number does not fit.
@@ -76,8 +75,7 @@ impl Ratio {
     /// </details>
     #[must_use]
     pub fn ceil_times(&self, n: i64) -> Option<i64> {
-        let (num, den) = self.times(n);
-        narrowed(div_ceil(num, den))
+        narrowed(self.wide_ceil_times(n))
     }
 
     /// Returns the fraction times `n`, rounded to the nearest integer and a half away from 0, or
@@ -111,8 +109,7 @@ impl Ratio {
     /// </details>
     #[must_use]
     pub fn round_times(&self, n: i64) -> Option<i64> {
-        let (num, den) = self.times(n);
-        narrowed(nearest(num, den))
+        narrowed(self.wide_round_times(n))
     }
 
     /// Returns the fraction times `n / d`, or `ZeroDenominator` if `d` is 0, or `NotFitting` if a
@@ -195,8 +192,7 @@ impl Ratio {
     #[track_caller]
     pub fn floor_to(&self, parts: i64) -> Result<Self, RatioError> {
         assert!(parts > 0, "the number of parts is not positive");
-        let (num, den) = self.times(parts);
-        in_parts(div_floor(num, den), parts)
+        in_parts(self.wide_floor_times(parts), parts)
     }
 
     /// Returns the smallest multiple of `1 / parts` that is at least the fraction, or `NotFitting`
@@ -244,8 +240,7 @@ impl Ratio {
     #[track_caller]
     pub fn ceil_to(&self, parts: i64) -> Result<Self, RatioError> {
         assert!(parts > 0, "the number of parts is not positive");
-        let (num, den) = self.times(parts);
-        in_parts(div_ceil(num, den), parts)
+        in_parts(self.wide_ceil_times(parts), parts)
     }
 
     /// Returns the nearest multiple of `1 / parts`, and of two equally near the one farther from 0,
@@ -292,8 +287,26 @@ impl Ratio {
     #[track_caller]
     pub fn round_to(&self, parts: i64) -> Result<Self, RatioError> {
         assert!(parts > 0, "the number of parts is not positive");
-        let (num, den) = self.times(parts);
-        in_parts(nearest(num, den), parts)
+        in_parts(self.wide_round_times(parts), parts)
+    }
+
+    /// Returns the fraction times `n`, rounded down, which may not fit an `i64`.
+    fn wide_floor_times(&self, n: i64) -> i128 {
+        let (num, den) = self.times(n);
+        div_floor(num, den)
+    }
+
+    /// Returns the fraction times `n`, rounded up, which may not fit an `i64`.
+    fn wide_ceil_times(&self, n: i64) -> i128 {
+        let (num, den) = self.times(n);
+        div_ceil(num, den)
+    }
+
+    /// Returns the fraction times `n`, rounded to the nearest integer and a half away from 0, which
+    /// may not fit an `i64`.
+    fn wide_round_times(&self, n: i64) -> i128 {
+        let (num, den) = self.times(n);
+        nearest(num, den)
     }
 
     /// Returns the parts of the fraction times `n`, which are not in lowest terms.

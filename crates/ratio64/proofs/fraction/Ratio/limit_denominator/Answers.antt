@@ -1,6 +1,7 @@
 use Rattle.std.proofs.Common.{◌≡◌, ◌<◌, ◌^◌, ◌+ℤ◌, ◌*ℤ◌, FitsSigned, arith, pos, rules, w64}
 use Rattle.std.proofs.lemmas.Int.{ints, to_z-of_z, to_z_pos}
 use Rattle.ratio64.proofs.LimitedDenominators.{IsLimited, IsSplit, fits_with_whole, floor_splits, itself_is_nearest, lowest_natural, nearer_is_limited, nearest_with_whole, reduced_with_whole}
+use Rattle.ratio64.proofs.NearestNumbers.{quotient_fits}
 use Rattle.ratio64.proofs.NeighbourTurns.{gaps_make}
 use Rattle.ratio64.proofs.WideSums.{positive_size}
 use Rattle.ratio64.specs.Ratio.{num_of, den_of}
@@ -30,6 +31,13 @@ sum c = rw (to_z-of_z w64 c.div_mod_floor-whole.result.0 (search rules)) at c.nu
 pub returns-then-self-max : goal.returns-then-self-max
 returns-then-self-max c =
     itself_is_nearest c.args.self.now.reduced (omega (arith, ints))
+
+pub div_mod_floor-whole-requires-clause-quotient_fits : goal.div_mod_floor-whole-requires-clause-quotient_fits
+div_mod_floor-whole-requires-clause-quotient_fits c =
+    let x = c.args.self.now in
+    let num : FitsSigned w64 (num_of x) = search rules in
+    let den : FitsSigned w64 (den_of x) = search rules in
+    rw (to_z-of_z w64 (num_of x) num, to_z-of_z w64 (den_of x) den) (λ q h. quotient_fits x.reduced.positive h.division.division w64 num)
 
 pub neighbours-requires-clause-lowest : goal.neighbours-requires-clause-lowest
 neighbours-requires-clause-lowest c = lowest_natural (split (goal.at.neighbours-requires-clause-lowest c).After-unsigned_abs-limit).reduced

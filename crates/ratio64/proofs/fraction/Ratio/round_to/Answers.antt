@@ -1,15 +1,13 @@
-use Rattle.std.specs.Prelude.{◌*ℤ◌}
-use Rattle.std.specs.Int.{w64, w128}
-use Rattle.std.proofs.Common.{rules}
+use Rattle.std.specs.Int.{w64}
 use Rattle.std.proofs.lemmas.Int.{to_z-of_z}
-use Rattle.ratio64.proofs.NearestNumbers.{rounded_division}
-use Rattle.ratio64.specs.Ratio.{den_of, num_of}
-use Rattle.ratio64.specs.Rounding.{IsRounded}
+use Rattle.ratio64.proofs.WideSums.{read}
 use Rattle.ratio64.proofs.fraction.Ratio.round_to.Goals as goal
 
 pub in_parts-requires-clause-below : goal.in_parts-requires-clause-below
-in_parts-requires-clause-below c =
-    let x = c.args.self.now in
-    let own : IsRounded (num_of x *ℤ c.args.parts) (den_of x) c.nearest.result = search rules in
-    let below = rw (to_z-of_z w64 c.args.parts c.ranges.parts) at c.times-num.ensures.quotients_below in
-    rw (to_z-of_z w128 c.nearest.result c.nearest.ensures.in_range) (below _ _ (rounded_division x.reduced.positive own))
+in_parts-requires-clause-below c = rw (read _ c.wide_round_times.ensures.below) c.wide_round_times.ensures.below
+
+pub returns-clause-rounded : goal.returns-clause-rounded
+returns-clause-rounded c =
+    let product = c.wide_round_times.ensures in
+    let parts = to_z-of_z w64 c.args.parts c.ranges.parts in
+    record { number = c.wide_round_times.result; is = rw parts at product.rounded; fraction = rw (read _ product.below, parts) at c.in_parts.ensures.fraction }

@@ -1,12 +1,32 @@
-use Rattle.std.specs.Prelude.{◌≡◌, ◌+ℤ◌, ◌-ℤ◌, pos, true, false}
+use Rattle.std.specs.Prelude.{◌≡◌, ◌+ℤ◌, ◌-ℤ◌, neg_ℤ, pos, true, false}
 use Rattle.std.proofs.Common.{arith, inl}
-use Rattle.num_integer.proofs.FittingAnswers.{from_test}
-use Rattle.num_integer.proofs.ForCallers.{linear, sizes, within_fits}
+use Rattle.integer_core.proofs.Whole.{from_test}
+use Rattle.integer_core.proofs.Ranges.{within_fits}
+use Rattle.integer_core.proofs.Whole.{linear, sizes}
 use Rattle.ratio64.proofs.NearestNumbers.{rounded_above, rounded_below, rounded_division}
+use Rattle.ratio64.specs.ReducedPairs.{positive_is_nonzero}
 use Rattle.ratio64.specs.Rounding.{IsRounded}
 use Rattle.ratio64.proofs.fraction.rounding.nearest.Given.{Over}
 use Rattle.ratio64.proofs.fraction.rounding.nearest.Goals as goal
 use Rattle.ratio64.proofs.fraction.rounding.nearest.Goals.{After-is_below, After-is_below-else-is_negative}
+
+pub div_rem-whole-requires-clause-nonzero : goal.div_rem-whole-requires-clause-nonzero
+div_rem-whole-requires-clause-nonzero g c = positive_is_nonzero c.requires.positive
+
+pub div_rem-whole-requires-clause-quotient_fits : goal.div_rem-whole-requires-clause-quotient_fits
+div_rem-whole-requires-clause-quotient_fits g c = λ q h. c.requires.quotients_fit q h.remainder h.division.division
+
+pub negated-requires-clause-negation_fits : goal.negated-requires-clause-negation_fits
+negated-requires-clause-negation_fits g c =
+    let h = c.div_rem-whole.ensures.truncated in
+    let below = c.is_negative.ensures.0 c.if-is_negative.true in
+    within_fits {z = neg_ℤ (g.T.Number.value c.div_rem-whole.result.1)} g.met.T.Integer.range_law c.requires.in_range.1 (inl (omega (arith, sizes), omega (arith, sizes)))
+
+pub difference-requires-clause-difference_fits : goal.difference-requires-clause-difference_fits
+difference-requires-clause-difference_fits g c =
+    let h = c.div_rem-whole.ensures.truncated in
+    let above = from_test c.is_negative.ensures c.if-is_negative.false in
+    within_fits {z = g.T.Number.value c.args.den -ℤ g.T.Number.value c.div_rem-whole.result.1} g.met.T.Integer.range_law c.requires.in_range.1 (inl (omega (arith, sizes), omega (arith, sizes)))
 
 pub sum-requires-clause-sum_fits : goal.sum-requires-clause-sum_fits
 sum-requires-clause-sum_fits g c =
