@@ -207,6 +207,27 @@ pub mod integer_core {
     //!       previous = a }) n
     //! ```
     //!
+    //! ## `AnswersWhere`
+    //!
+    //! The result is `Some` of a value with the property in the domain, and `None` outside it.
+    //! Examples: in the domain `y ≢ 0`, of the property 'is 7 / y': for y = 2 the result is `Some`
+    //! of 3, and for y = 0 it is `None`.
+    //!
+    //! ```text
+    //! abbrev pub AnswersWhere : {A : Type 0} → Type 0 → (A → Type 0) → Option A → Type 0
+    //! AnswersWhere domain answer result = MatchOption result (¬ domain) (λ r. domain × answer r)
+    //! ```
+    //!
+    //! ## `Has`
+    //!
+    //! The number that x means is in the range of its type and has the property. Examples: of 'is
+    //! 100 + 27' in i8: 127 has it; nothing has that of 'is 100 + 28'.
+    //!
+    //! ```text
+    //! abbrev pub Has : (ℤ → Type 0) → {X : Type 0} → (X → ℤ) → (ℤ → Type 0) → X → Type 0
+    //! Has fits value P x = fits (value x) × P (value x)
+    //! ```
+    //!
     //! ## `IsDivision`
     //!
     //! n is q times d plus r, and the magnitude of r is below that of d. Examples: 8 by 3: 2 and 2;
@@ -494,6 +515,30 @@ pub mod integer_core {
     //!   pub least : (k : ℕ) → unsigned_abs v < 2 ^ k → l ≤ k
     //! ```
     //!
+    //! ## `IsLeastFrom`
+    //!
+    //! t is the smallest number with the property that is at least `from`. Examples: of the even
+    //! numbers: from 7: 8; from 8: 8; of the numbers at most 5: from 6: no number.
+    //!
+    //! ```text
+    //! pub record IsLeastFrom (from : ℤ) (Has : ℤ → Type 0) (t : ℤ) : Type 0 where
+    //!   pub from_there : from ≤ℤ t
+    //!   pub holds : Has t
+    //!   pub least : (u : ℤ) → from ≤ℤ u → Has u → t ≤ℤ u
+    //! ```
+    //!
+    //! ## `IsGreatestTo`
+    //!
+    //! t is the largest number with the property that is at most `to`. Examples: of the even
+    //! numbers: to 7: 6; to 6: 6; of the numbers at least 5: to 4: no number.
+    //!
+    //! ```text
+    //! pub record IsGreatestTo (to : ℤ) (Has : ℤ → Type 0) (t : ℤ) : Type 0 where
+    //!   pub to_there : t ≤ℤ to
+    //!   pub holds : Has t
+    //!   pub greatest : (u : ℤ) → u ≤ℤ to → Has u → u ≤ℤ t
+    //! ```
+    //!
     //! ## `IsOnly`
     //!
     //! x is the only one with the property P: whatever has it is x. Examples: being twice itself:
@@ -710,27 +755,6 @@ pub mod integer_roots {
 pub mod num_integer {
     //! Words of coefficients and checked calls.
     //!
-    //! ## `AnswersWhere`
-    //!
-    //! The result is `Some` of a value with the property in the domain, and `None` outside it.
-    //! Examples: in the domain `y ≢ 0`, of the property 'is 7 / y': for y = 2 the result is `Some`
-    //! of 3, and for y = 0 it is `None`.
-    //!
-    //! ```text
-    //! abbrev pub AnswersWhere : {A : Type 0} → Type 0 → (A → Type 0) → Option A → Type 0
-    //! AnswersWhere domain answer result = MatchOption result (¬ domain) (λ r. domain × answer r)
-    //! ```
-    //!
-    //! ## `Has`
-    //!
-    //! The number that x means is in the range of its type and has the property. Examples: of 'is
-    //! 100 + 27' in i8: 127 has it; nothing has that of 'is 100 + 28'.
-    //!
-    //! ```text
-    //! abbrev pub Has : (ℤ → Type 0) → {X : Type 0} → (X → ℤ) → (ℤ → Type 0) → X → Type 0
-    //! Has fits value P x = fits (value x) × P (value x)
-    //! ```
-    //!
     //! ## `coefficient`
     //!
     //! The binomial coefficient of n and k, by Pascal's rule. Examples: that of 4 and 2 is 6; that
@@ -760,30 +784,6 @@ pub mod num_integer {
     //! unfoldable pub factorial : ℕ → ℕ
     //! factorial zero = 1
     //! factorial (suc n) = suc n * factorial n
-    //! ```
-    //!
-    //! ## `IsLeastFrom`
-    //!
-    //! t is the smallest number with the property that is at least `from`. Examples: of the even
-    //! numbers: from 7: 8; from 8: 8; of the numbers at most 5: from 6: no number.
-    //!
-    //! ```text
-    //! pub record IsLeastFrom (from : ℤ) (Has : ℤ → Type 0) (t : ℤ) : Type 0 where
-    //!   pub from_there : from ≤ℤ t
-    //!   pub holds : Has t
-    //!   pub least : (u : ℤ) → from ≤ℤ u → Has u → t ≤ℤ u
-    //! ```
-    //!
-    //! ## `IsGreatestTo`
-    //!
-    //! t is the largest number with the property that is at most `to`. Examples: of the even
-    //! numbers: to 7: 6; to 6: 6; of the numbers at least 5: to 4: no number.
-    //!
-    //! ```text
-    //! pub record IsGreatestTo (to : ℤ) (Has : ℤ → Type 0) (t : ℤ) : Type 0 where
-    //!   pub to_there : t ≤ℤ to
-    //!   pub holds : Has t
-    //!   pub greatest : (u : ℤ) → u ≤ℤ to → Has u → u ≤ℤ t
     //! ```
     //!
     //! ## `product`

@@ -119,7 +119,7 @@ pub fn place_of<T: Integer>(item: T, page_size: T) -> (T, T) {
 ///     (T.value found)) }
 /// ```
 ///
-/// Words: [`AnswersWhere`](crate::definitions::num_integer#answerswhere),
+/// Words: [`AnswersWhere`](crate::definitions::integer_core#answerswhere),
 /// [`EachFits`](crate::definitions::integer_core#eachfits),
 /// [`IsPlace`](crate::definitions::applied#isplace),
 /// [`IsOnly`](crate::definitions::integer_core#isonly), [how to read it](crate::definitions).

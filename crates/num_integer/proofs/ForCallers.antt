@@ -15,9 +15,9 @@ pub use Rattle.integer_core.proofs.Ranges.{LiesWithin, no_minus_one, one_fits, w
 pub use Rattle.num_integer.proofs.FittingAnswers.{fits_below, sum_fits_exactly}
 -- ---- what tests and checked calls say
 
-pub use Rattle.integer_core.proofs.Whole.{from_not_less}
+pub use Rattle.integer_core.proofs.Whole.{from_not_less, from_test}
 pub use Rattle.num_integer.proofs.CheckedAnswers.{answer_only, answers_as, answers_only}
-pub use Rattle.num_integer.proofs.FittingAnswers.{from_test, signed_is}
+pub use Rattle.num_integer.proofs.FittingAnswers.{signed_is}
 -- ---- rulesets, for `omega`, `grind` and `simp`
 -- `omega (arith, linear)` proves equations and inequalities of integers that are linear. `sizes` is `linear` with magnitudes,
 -- and `products` is `linear` with products. `simp expand` multiplies out both sides of an equation. `comm` says that a · b is b · a.
@@ -50,7 +50,8 @@ pub use Rattle.integer_core.proofs.Coprimes.{Divides-difference, coprime_exactly
 
 pub use Rattle.integer_roots.proofs.MagnitudeRoots.{first_root, root_in_range}
 pub use Rattle.integer_roots.proofs.OnlyAnswers.{root_is_only_one}
-pub use Rattle.integer_roots.proofs.Powers.{power_of_one, power_of_power, power_of_zero}
+pub use Rattle.integer_core.proofs.IntegerPowers.{power_of_one, power_of_zero}
+pub use Rattle.integer_roots.proofs.Powers.{power_of_power}
 pub use Rattle.integer_core.proofs.IntegerPowers.{even_or_odd, even_power, int_pow-suc, int_pow-zero, odd_power, power_of_square, power_size}
 pub use Rattle.num_integer.proofs.RootsOfPowers.{root_by_squares, exact_power_root, square_root_of_square}
 -- ---- coefficients

@@ -4,7 +4,7 @@
 use crate::calendar::months::days_in_month;
 use crate::calendar::years::at_64_bits;
 use crate::calendar::Date;
-use crate::{div_floor, div_mod_floor};
+use crate::integer_core::{div_floor, div_mod_floor};
 
 impl Date {
     /// Returns the date `months` months after this one, or before it if `months` is negative, or

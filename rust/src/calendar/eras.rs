@@ -2,7 +2,7 @@
 //! Eras of 400 years, after which the calendar repeats. An era has 146097 days. The years of this
 //! file begin on 1 March, so a leap day is the last day of its year.
 
-use crate::div_mod_floor;
+use crate::integer_core::div_mod_floor;
 
 /// The years of an era.
 pub(crate) const YEARS_PER_ERA: u32 = 400;

@@ -2,7 +2,7 @@
 //! The date of Easter.
 
 use crate::calendar::Date;
-use crate::{div_floor, mod_floor};
+use crate::integer_core::{div_floor, mod_floor};
 
 /// Returns the date of Easter Sunday: the first Sunday after the Paschal full moon, by the tables
 /// of Clavius for the Gregorian calendar.

@@ -4,7 +4,7 @@
 use crate::calendar::Date;
 #[cfg(has_error)]
 use crate::errors::Error;
-use crate::mod_floor;
+use crate::integer_core::mod_floor;
 use core::fmt;
 use core::str::FromStr;
 

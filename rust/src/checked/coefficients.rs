@@ -31,7 +31,7 @@ use crate::rows::IterBinomial;
 ///     result }
 /// ```
 ///
-/// Words: [`AnswersWhere`](crate::definitions::num_integer#answerswhere),
+/// Words: [`AnswersWhere`](crate::definitions::integer_core#answerswhere),
 /// [`coefficient_of`](crate::definitions::num_integer#coefficient_of),
 /// [how to read it](crate::definitions).
 ///
@@ -79,7 +79,7 @@ pub fn binomial<T: Fits>(n: T, k: T) -> Option<T> {
 ///     result }
 /// ```
 ///
-/// Words: [`AnswersWhere`](crate::definitions::num_integer#answerswhere),
+/// Words: [`AnswersWhere`](crate::definitions::integer_core#answerswhere),
 /// [`EachFits`](crate::definitions::integer_core#eachfits),
 /// [`IsMultinomial`](crate::definitions::num_integer#ismultinomial),
 /// [how to read it](crate::definitions).
@@ -122,7 +122,7 @@ pub fn multinomial<T: Fits>(k: &[T]) -> Option<T> {
 ///     result }
 /// ```
 ///
-/// Words: [`AnswersWhere`](crate::definitions::num_integer#answerswhere),
+/// Words: [`AnswersWhere`](crate::definitions::integer_core#answerswhere),
 /// [`RowFits`](crate::definitions::num_integer#rowfits),
 /// [`row_of`](crate::definitions::num_integer#row_of), [how to read it](crate::definitions).
 ///

@@ -29,7 +29,7 @@ use crate::domains::Fits;
 /// ensures positive { pos 0 <ℤ T.value y → IsSome result }
 /// ```
 ///
-/// Words: [`AnswersWhere`](crate::definitions::num_integer#answerswhere),
+/// Words: [`AnswersWhere`](crate::definitions::integer_core#answerswhere),
 /// [`EachFits`](crate::definitions::integer_core#eachfits),
 /// [`IsQuotient`](crate::definitions::integer_core#isquotient),
 /// [`IsTruncated`](crate::definitions::integer_core#istruncated),
@@ -65,7 +65,7 @@ pub fn div_rem<T: Fits>(x: T, y: T) -> Option<(T, T)> {
 /// ensures positive { pos 0 <ℤ T.value y → IsSome result }
 /// ```
 ///
-/// Words: [`AnswersWhere`](crate::definitions::num_integer#answerswhere),
+/// Words: [`AnswersWhere`](crate::definitions::integer_core#answerswhere),
 /// [`EachFits`](crate::definitions::integer_core#eachfits),
 /// [`IsQuotient`](crate::definitions::integer_core#isquotient),
 /// [`IsFloored`](crate::definitions::integer_core#isfloored), [how to read it](crate::definitions).
@@ -99,7 +99,7 @@ pub fn div_floor<T: Fits>(x: T, y: T) -> Option<T> {
 ///     result }
 /// ```
 ///
-/// Words: [`AnswersWhere`](crate::definitions::num_integer#answerswhere),
+/// Words: [`AnswersWhere`](crate::definitions::integer_core#answerswhere),
 /// [`IsRemainder`](crate::definitions::integer_core#isremainder),
 /// [`IsFloored`](crate::definitions::integer_core#isfloored), [how to read it](crate::definitions).
 ///
@@ -134,7 +134,7 @@ pub fn mod_floor<T: Fits>(x: T, y: T) -> Option<T> {
 /// ensures positive { pos 0 <ℤ T.value y → IsSome result }
 /// ```
 ///
-/// Words: [`AnswersWhere`](crate::definitions::num_integer#answerswhere),
+/// Words: [`AnswersWhere`](crate::definitions::integer_core#answerswhere),
 /// [`EachFits`](crate::definitions::integer_core#eachfits),
 /// [`IsQuotient`](crate::definitions::integer_core#isquotient),
 /// [`IsFloored`](crate::definitions::integer_core#isfloored), [how to read it](crate::definitions).
@@ -169,7 +169,7 @@ pub fn div_mod_floor<T: Fits>(x: T, y: T) -> Option<(T, T)> {
 /// ensures positive { pos 0 <ℤ T.value y → IsSome result }
 /// ```
 ///
-/// Words: [`AnswersWhere`](crate::definitions::num_integer#answerswhere),
+/// Words: [`AnswersWhere`](crate::definitions::integer_core#answerswhere),
 /// [`EachFits`](crate::definitions::integer_core#eachfits),
 /// [`IsQuotient`](crate::definitions::integer_core#isquotient),
 /// [`IsCeiled`](crate::definitions::integer_core#isceiled), [how to read it](crate::definitions).
@@ -203,7 +203,7 @@ pub fn div_ceil<T: Fits>(x: T, y: T) -> Option<T> {
 ///     result }
 /// ```
 ///
-/// Words: [`AnswersWhere`](crate::definitions::num_integer#answerswhere),
+/// Words: [`AnswersWhere`](crate::definitions::integer_core#answerswhere),
 /// [`EachFits`](crate::definitions::integer_core#eachfits),
 /// [`IsMultiple`](crate::definitions::integer_core#ismultiple),
 /// [`IsCeiled`](crate::definitions::integer_core#isceiled), [how to read it](crate::definitions).
@@ -237,7 +237,7 @@ pub fn next_multiple_of<T: Fits>(x: T, y: T) -> Option<T> {
 ///     result }
 /// ```
 ///
-/// Words: [`AnswersWhere`](crate::definitions::num_integer#answerswhere),
+/// Words: [`AnswersWhere`](crate::definitions::integer_core#answerswhere),
 /// [`EachFits`](crate::definitions::integer_core#eachfits),
 /// [`IsMultiple`](crate::definitions::integer_core#ismultiple),
 /// [`IsFloored`](crate::definitions::integer_core#isfloored), [how to read it](crate::definitions).

@@ -32,7 +32,7 @@ use num_traits::Signed;
 /// ensures positive { pos 0 <ℤ T.value y → IsSome result }
 /// ```
 ///
-/// Words: [`AnswersWhere`](crate::definitions::num_integer#answerswhere),
+/// Words: [`AnswersWhere`](crate::definitions::integer_core#answerswhere),
 /// [`GcdFits`](crate::definitions::integer_core#gcdfits),
 /// [`IsGreatestCommonDivisor`](crate::definitions::integer_core#isgreatestcommondivisor),
 /// [how to read it](crate::definitions).
@@ -70,7 +70,7 @@ pub fn gcd<T: Fits>(x: T, y: T) -> Option<T> {
 ///     result }
 /// ```
 ///
-/// Words: [`AnswersWhere`](crate::definitions::num_integer#answerswhere),
+/// Words: [`AnswersWhere`](crate::definitions::integer_core#answerswhere),
 /// [`EachFits`](crate::definitions::integer_core#eachfits),
 /// [`IsLeastCommonMultiple`](crate::definitions::integer_core#isleastcommonmultiple),
 /// [how to read it](crate::definitions).
@@ -110,7 +110,7 @@ pub fn lcm<T: Fits>(x: T, y: T) -> Option<T> {
 ///     result }
 /// ```
 ///
-/// Words: [`AnswersWhere`](crate::definitions::num_integer#answerswhere),
+/// Words: [`AnswersWhere`](crate::definitions::integer_core#answerswhere),
 /// [`GcdFits`](crate::definitions::integer_core#gcdfits),
 /// [`EachFits`](crate::definitions::integer_core#eachfits),
 /// [`IsLeastCommonMultiple`](crate::definitions::integer_core#isleastcommonmultiple),
@@ -150,7 +150,7 @@ pub fn gcd_lcm<T: Fits>(x: T, y: T) -> Option<(T, T)> {
 ///     result }
 /// ```
 ///
-/// Words: [`AnswersWhere`](crate::definitions::num_integer#answerswhere),
+/// Words: [`AnswersWhere`](crate::definitions::integer_core#answerswhere),
 /// [`GcdFits`](crate::definitions::integer_core#gcdfits),
 /// [`HasPair`](crate::definitions::integer_core#haspair),
 /// [`IsBezoutAnswer`](crate::definitions::integer_core#isbezoutanswer),
@@ -194,7 +194,7 @@ pub fn extended_gcd<T: Fits>(x: T, y: T) -> Option<ExtendedGcd<T>> {
 ///     result }
 /// ```
 ///
-/// Words: [`AnswersWhere`](crate::definitions::num_integer#answerswhere),
+/// Words: [`AnswersWhere`](crate::definitions::integer_core#answerswhere),
 /// [`GcdFits`](crate::definitions::integer_core#gcdfits),
 /// [`HasPair`](crate::definitions::integer_core#haspair),
 /// [`EachFits`](crate::definitions::integer_core#eachfits),

@@ -26,7 +26,7 @@ use crate::domains::Fits;
 ///     result }
 /// ```
 ///
-/// Words: [`AnswersWhere`](crate::definitions::num_integer#answerswhere),
+/// Words: [`AnswersWhere`](crate::definitions::integer_core#answerswhere),
 /// [how to read it](crate::definitions).
 ///
 /// </details>
@@ -57,7 +57,7 @@ pub fn sum<T: Fits>(a: T, b: T) -> Option<T> {
 ///     result }
 /// ```
 ///
-/// Words: [`AnswersWhere`](crate::definitions::num_integer#answerswhere),
+/// Words: [`AnswersWhere`](crate::definitions::integer_core#answerswhere),
 /// [how to read it](crate::definitions).
 ///
 /// </details>
@@ -88,7 +88,7 @@ pub fn difference<T: Fits>(a: T, b: T) -> Option<T> {
 ///     result }
 /// ```
 ///
-/// Words: [`AnswersWhere`](crate::definitions::num_integer#answerswhere),
+/// Words: [`AnswersWhere`](crate::definitions::integer_core#answerswhere),
 /// [how to read it](crate::definitions).
 ///
 /// </details>
@@ -119,7 +119,7 @@ pub fn product<T: Fits>(a: T, b: T) -> Option<T> {
 ///     result }
 /// ```
 ///
-/// Words: [`AnswersWhere`](crate::definitions::num_integer#answerswhere),
+/// Words: [`AnswersWhere`](crate::definitions::integer_core#answerswhere),
 /// [how to read it](crate::definitions).
 ///
 /// </details>
@@ -151,7 +151,7 @@ pub fn negated<T: Fits>(a: T) -> Option<T> {
 ///     result }
 /// ```
 ///
-/// Words: [`AnswersWhere`](crate::definitions::num_integer#answerswhere),
+/// Words: [`AnswersWhere`](crate::definitions::integer_core#answerswhere),
 /// [how to read it](crate::definitions).
 ///
 /// </details>
@@ -183,7 +183,7 @@ pub fn inc<T: Fits>(x: T) -> Option<T> {
 ///     result }
 /// ```
 ///
-/// Words: [`AnswersWhere`](crate::definitions::num_integer#answerswhere),
+/// Words: [`AnswersWhere`](crate::definitions::integer_core#answerswhere),
 /// [how to read it](crate::definitions).
 ///
 /// </details>

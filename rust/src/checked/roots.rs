@@ -26,7 +26,7 @@ use crate::integer_roots::Roots;
 ///     result }
 /// ```
 ///
-/// Words: [`AnswersWhere`](crate::definitions::num_integer#answerswhere),
+/// Words: [`AnswersWhere`](crate::definitions::integer_core#answerswhere),
 /// [`IsRoot`](crate::definitions::integer_roots#isroot), [how to read it](crate::definitions).
 ///
 /// </details>
@@ -61,7 +61,7 @@ pub fn nth_root<T: Roots + Copy>(x: T, n: u32) -> Option<T> {
 ///     result }
 /// ```
 ///
-/// Words: [`AnswersWhere`](crate::definitions::num_integer#answerswhere),
+/// Words: [`AnswersWhere`](crate::definitions::integer_core#answerswhere),
 /// [`IsRoot`](crate::definitions::integer_roots#isroot), [how to read it](crate::definitions).
 ///
 /// </details>

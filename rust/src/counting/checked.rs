@@ -31,9 +31,9 @@ use crate::Fits;
 ///     (Has T.fits T.value (λ z. z ≡ factorial_of (T.value n))) result }
 /// ```
 ///
-/// Words: [`AnswersWhere`](crate::definitions::num_integer#answerswhere),
+/// Words: [`AnswersWhere`](crate::definitions::integer_core#answerswhere),
 /// [`factorial_of`](crate::definitions::applied#factorial_of),
-/// [`Has`](crate::definitions::num_integer#has), [how to read it](crate::definitions).
+/// [`Has`](crate::definitions::integer_core#has), [how to read it](crate::definitions).
 ///
 /// </details>
 #[must_use]
@@ -70,9 +70,9 @@ pub fn factorial<T: Fits>(n: T) -> Option<T> {
 ///     (Has T.fits T.value (λ z. z ≡ falling_of (T.value n) (T.value k))) result }
 /// ```
 ///
-/// Words: [`AnswersWhere`](crate::definitions::num_integer#answerswhere),
+/// Words: [`AnswersWhere`](crate::definitions::integer_core#answerswhere),
 /// [`falling_of`](crate::definitions::applied#falling_of),
-/// [`Has`](crate::definitions::num_integer#has), [how to read it](crate::definitions).
+/// [`Has`](crate::definitions::integer_core#has), [how to read it](crate::definitions).
 ///
 /// </details>
 #[must_use]

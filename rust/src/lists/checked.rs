@@ -32,7 +32,7 @@ use crate::{checked, Fits};
 ///     result }
 /// ```
 ///
-/// Words: [`AnswersWhere`](crate::definitions::num_integer#answerswhere),
+/// Words: [`AnswersWhere`](crate::definitions::integer_core#answerswhere),
 /// [`GcdOfFits`](crate::definitions::applied#gcdoffits),
 /// [`IsGreatestCommonDivisorOf`](crate::definitions::applied#isgreatestcommondivisorof),
 /// [how to read it](crate::definitions).
@@ -84,7 +84,7 @@ fn signed_gcd_of<T: Fits>(numbers: &[T]) -> T {
 ///     result }
 /// ```
 ///
-/// Words: [`AnswersWhere`](crate::definitions::num_integer#answerswhere),
+/// Words: [`AnswersWhere`](crate::definitions::integer_core#answerswhere),
 /// [`EachFits`](crate::definitions::integer_core#eachfits),
 /// [`IsLeastCommonMultipleOf`](crate::definitions::applied#isleastcommonmultipleof),
 /// [how to read it](crate::definitions).

@@ -30,8 +30,8 @@ use crate::{Fits, Integer};
 ///     (Has T.fits T.value (IsResidue (T.value m) (T.value a))) result }
 /// ```
 ///
-/// Words: [`AnswersWhere`](crate::definitions::num_integer#answerswhere),
-/// [`Has`](crate::definitions::num_integer#has),
+/// Words: [`AnswersWhere`](crate::definitions::integer_core#answerswhere),
+/// [`Has`](crate::definitions::integer_core#has),
 /// [`IsResidue`](crate::definitions::modular#isresidue), [how to read it](crate::definitions).
 ///
 /// </details>
@@ -64,8 +64,8 @@ pub fn residue<T: Integer + Copy>(a: T, m: T) -> Option<T> {
 ///     (Has T.fits T.value (IsResidue (T.value m) (T.value a +ℤ T.value b))) result }
 /// ```
 ///
-/// Words: [`AnswersWhere`](crate::definitions::num_integer#answerswhere),
-/// [`Has`](crate::definitions::num_integer#has),
+/// Words: [`AnswersWhere`](crate::definitions::integer_core#answerswhere),
+/// [`Has`](crate::definitions::integer_core#has),
 /// [`IsResidue`](crate::definitions::modular#isresidue), [how to read it](crate::definitions).
 ///
 /// </details>
@@ -99,8 +99,8 @@ pub fn sum_modulo<T: Integer + Copy>(a: T, b: T, m: T) -> Option<T> {
 ///     (Has T.fits T.value (IsResidue (T.value m) (T.value a -ℤ T.value b))) result }
 /// ```
 ///
-/// Words: [`AnswersWhere`](crate::definitions::num_integer#answerswhere),
-/// [`Has`](crate::definitions::num_integer#has),
+/// Words: [`AnswersWhere`](crate::definitions::integer_core#answerswhere),
+/// [`Has`](crate::definitions::integer_core#has),
 /// [`IsResidue`](crate::definitions::modular#isresidue), [how to read it](crate::definitions).
 ///
 /// </details>
@@ -133,8 +133,8 @@ pub fn difference_modulo<T: Integer + Copy>(a: T, b: T, m: T) -> Option<T> {
 ///     (Has T.fits T.value (IsResidue (T.value m) (neg_ℤ (T.value a)))) result }
 /// ```
 ///
-/// Words: [`AnswersWhere`](crate::definitions::num_integer#answerswhere),
-/// [`Has`](crate::definitions::num_integer#has),
+/// Words: [`AnswersWhere`](crate::definitions::integer_core#answerswhere),
+/// [`Has`](crate::definitions::integer_core#has),
 /// [`IsResidue`](crate::definitions::modular#isresidue), [how to read it](crate::definitions).
 ///
 /// </details>
@@ -167,8 +167,8 @@ pub fn negation_modulo<T: Integer + Copy>(a: T, m: T) -> Option<T> {
 ///     (Has T.fits T.value (IsResidue (T.value m) (T.value a *ℤ T.value b))) result }
 /// ```
 ///
-/// Words: [`AnswersWhere`](crate::definitions::num_integer#answerswhere),
-/// [`Has`](crate::definitions::num_integer#has),
+/// Words: [`AnswersWhere`](crate::definitions::integer_core#answerswhere),
+/// [`Has`](crate::definitions::integer_core#has),
 /// [`IsResidue`](crate::definitions::modular#isresidue), [how to read it](crate::definitions).
 ///
 /// </details>
@@ -201,8 +201,8 @@ pub fn product_modulo<T: Modular>(a: T, b: T, m: T) -> Option<T> {
 ///     (Has T.fits T.value (IsResidue (T.value m) (int_pow (T.value a) exponent))) result }
 /// ```
 ///
-/// Words: [`AnswersWhere`](crate::definitions::num_integer#answerswhere),
-/// [`Has`](crate::definitions::num_integer#has),
+/// Words: [`AnswersWhere`](crate::definitions::integer_core#answerswhere),
+/// [`Has`](crate::definitions::integer_core#has),
 /// [`IsResidue`](crate::definitions::modular#isresidue), [how to read it](crate::definitions).
 ///
 /// </details>
@@ -237,7 +237,7 @@ pub fn power_modulo<T: Modular>(a: T, exponent: u128, m: T) -> Option<T> {
 /// ```
 ///
 /// Words: [`IsInverse`](crate::definitions::modular#isinverse),
-/// [`Has`](crate::definitions::num_integer#has), [how to read it](crate::definitions).
+/// [`Has`](crate::definitions::integer_core#has), [how to read it](crate::definitions).
 ///
 /// </details>
 #[must_use]
@@ -271,7 +271,7 @@ pub fn inverse_modulo<T: Integer + Copy>(a: T, m: T) -> Option<T> {
 /// ```
 ///
 /// Words: [`IsInverse`](crate::definitions::modular#isinverse),
-/// [`Has`](crate::definitions::num_integer#has),
+/// [`Has`](crate::definitions::integer_core#has),
 /// [`IsQuotientModulo`](crate::definitions::modular#isquotientmodulo),
 /// [how to read it](crate::definitions).
 ///
@@ -349,7 +349,7 @@ pub fn solutions<T: Modular>(a: T, b: T, m: T) -> Option<(T, T)> {
 ///
 /// Words: [`MatchWhere`](crate::definitions::modular#matchwhere),
 /// [`IsNextCongruent`](crate::definitions::modular#isnextcongruent),
-/// [`Has`](crate::definitions::num_integer#has), [how to read it](crate::definitions).
+/// [`Has`](crate::definitions::integer_core#has), [how to read it](crate::definitions).
 ///
 /// </details>
 #[must_use]
@@ -386,7 +386,7 @@ pub fn next_congruent<T: Fits>(from: T, first: T, step: T) -> Option<T> {
 ///
 /// Words: [`MatchWhere`](crate::definitions::modular#matchwhere),
 /// [`IsPreviousCongruent`](crate::definitions::modular#ispreviouscongruent),
-/// [`Has`](crate::definitions::num_integer#has), [how to read it](crate::definitions).
+/// [`Has`](crate::definitions::integer_core#has), [how to read it](crate::definitions).
 ///
 /// </details>
 #[must_use]
@@ -424,7 +424,7 @@ pub fn previous_congruent<T: Fits>(to: T, first: T, step: T) -> Option<T> {
 ///
 /// Words: [`MatchWhere`](crate::definitions::modular#matchwhere),
 /// [`IsCountOfCongruent`](crate::definitions::modular#iscountofcongruent),
-/// [`Has`](crate::definitions::num_integer#has), [how to read it](crate::definitions).
+/// [`Has`](crate::definitions::integer_core#has), [how to read it](crate::definitions).
 ///
 /// </details>
 #[must_use]
@@ -464,11 +464,11 @@ pub fn count_congruent<T: Fits>(from: T, to: T, first: T, step: T) -> Option<T> 
 ///     result }
 /// ```
 ///
-/// Words: [`AnswersWhere`](crate::definitions::num_integer#answerswhere),
+/// Words: [`AnswersWhere`](crate::definitions::integer_core#answerswhere),
 /// [`MatchCommonSolution`](crate::definitions::modular#matchcommonsolution),
 /// [`SolvesBothCongruences`](crate::definitions::modular#solvesbothcongruences),
 /// [`IsNextCommonSolution`](crate::definitions::modular#isnextcommonsolution),
-/// [`Has`](crate::definitions::num_integer#has), [how to read it](crate::definitions).
+/// [`Has`](crate::definitions::integer_core#has), [how to read it](crate::definitions).
 ///
 /// </details>
 #[must_use]

@@ -161,7 +161,7 @@ impl<T> CommonSolution<T> {
 /// Words: [`MatchCommonSolution`](crate::definitions::modular#matchcommonsolution),
 /// [`SolvesBothCongruences`](crate::definitions::modular#solvesbothcongruences),
 /// [`IsNextCommonSolution`](crate::definitions::modular#isnextcommonsolution),
-/// [`Has`](crate::definitions::num_integer#has), [how to read it](crate::definitions).
+/// [`Has`](crate::definitions::integer_core#has), [how to read it](crate::definitions).
 ///
 /// </details>
 #[track_caller]

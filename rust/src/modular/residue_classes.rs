@@ -96,7 +96,7 @@ pub fn solutions<T: Modular>(a: T, b: T, m: T) -> Option<(T, T)> {
 /// ```
 ///
 /// Words: [`IsNextCongruent`](crate::definitions::modular#isnextcongruent),
-/// [`Has`](crate::definitions::num_integer#has), [how to read it](crate::definitions).
+/// [`Has`](crate::definitions::integer_core#has), [how to read it](crate::definitions).
 ///
 /// </details>
 #[track_caller]
@@ -141,7 +141,7 @@ pub fn next_congruent<T: Fits>(from: T, first: T, step: T) -> Option<T> {
 /// ```
 ///
 /// Words: [`IsPreviousCongruent`](crate::definitions::modular#ispreviouscongruent),
-/// [`Has`](crate::definitions::num_integer#has), [how to read it](crate::definitions).
+/// [`Has`](crate::definitions::integer_core#has), [how to read it](crate::definitions).
 ///
 /// </details>
 #[track_caller]
@@ -188,7 +188,7 @@ pub fn previous_congruent<T: Fits>(to: T, first: T, step: T) -> Option<T> {
 /// ```
 ///
 /// Words: [`IsCountOfCongruent`](crate::definitions::modular#iscountofcongruent),
-/// [`Has`](crate::definitions::num_integer#has), [how to read it](crate::definitions).
+/// [`Has`](crate::definitions::integer_core#has), [how to read it](crate::definitions).
 ///
 /// </details>
 #[track_caller]

@@ -43,8 +43,8 @@ use crate::{checked, Fits, Integer};
 ///
 /// Words: [`MatchCommonSolution`](crate::definitions::modular#matchcommonsolution),
 /// [`SolvesEach`](crate::definitions::modular#solveseach),
-/// [`IsLeastFrom`](crate::definitions::num_integer#isleastfrom),
-/// [`Has`](crate::definitions::num_integer#has), [how to read it](crate::definitions).
+/// [`IsLeastFrom`](crate::definitions::integer_core#isleastfrom),
+/// [`Has`](crate::definitions::integer_core#has), [how to read it](crate::definitions).
 ///
 /// </details>
 #[track_caller]

@@ -32,7 +32,7 @@ use crate::{Integer, Roots};
 ///     result }
 /// ```
 ///
-/// Words: [`AnswersWhere`](crate::definitions::num_integer#answerswhere),
+/// Words: [`AnswersWhere`](crate::definitions::integer_core#answerswhere),
 /// [`IsRoot`](crate::definitions::integer_roots#isroot), [how to read it](crate::definitions).
 ///
 /// </details>
@@ -72,7 +72,7 @@ pub fn sqrt_rem<T: Roots + Copy>(n: T) -> Option<(T, T)> {
 /// ensures few { IfSome result (λ k. k < 128) }
 /// ```
 ///
-/// Words: [`AnswersWhere`](crate::definitions::num_integer#answerswhere),
+/// Words: [`AnswersWhere`](crate::definitions::integer_core#answerswhere),
 /// [`IsLogarithm`](crate::definitions::applied#islogarithm), [how to read it](crate::definitions).
 ///
 /// </details>
