@@ -1,5 +1,5 @@
 -- The words that ask for a call.
-use Rattle.std.specs.Prelude.{◌≡◌, ℕ, List, ◌∷◌, codes, map, Option, Some, MatchOption}
+use Rattle.std.specs.Prelude.{◌≡◌, ℕ, ℤ, List, ◌∷◌, codes, map, Option, Some, MatchOption}
 use Rattle.intcalc.specs.Number.{spelled_number}
 use Rattle.intcalc_core.specs.Operands.{operands_of}
 use Rattle.intcalc_core.specs.declared.calls.Kind.{Kind}
@@ -38,6 +38,12 @@ word_of_call (NthRoot x n) = codes "nth_root"
 word_of_call (Binomial n k) = codes "binomial"
 word_of_call (RatioAdd a b c d) = codes "ratio_add"
 word_of_call (RatioMul a b c d) = codes "ratio_mul"
+
+-- The word is that of the call, and the numbers are its operands.
+-- Examples: `gcd` with 4 and 6: `Gcd(4, 6)`; `sqrt` with 9: `Sqrt(9)`; `gcd` with 4: no call.
+pub record IsCall (word : List ℕ) (numbers : List ℤ) (call : Call) : Type 0 where
+  pub name : word ≡ word_of_call call
+  pub operands : numbers ≡ operands_of call
 
 -- The word is that of the call, and the others are number words of its operands.
 -- Examples: `gcd` with `4` and `6`: `Gcd(4, 6)`; `gcd` with `04` and `6` the same; `gcd` with `4`: no call.

@@ -1,7 +1,7 @@
 //! The words that ask for a call.
 
 ghost use Rattle.std.specs.Prelude.{◌≡◌, ◌≢◌, ◌∷◌, [], map, MatchOption};
-ghost use Rattle.intcalc.specs.Words.{word_of_kind, Spell, IsRequest};
+ghost use Rattle.intcalc.specs.Words.{word_of_kind, IsCall, Spell, IsRequest};
 
 use crate::number::read_number;
 use intcalc_core::{Call, Kind};
@@ -37,6 +37,14 @@ fn read_call_of_two(word: &str, a: &str, b: &str) -> Option<Call>
 {
     let a = read_number(a)?;
     let b = read_number(b)?;
+    call_of_two(word, a, b)
+}
+
+/// Returns the call of two operands that has this word.
+fn call_of_two(word: &str, a: i128, b: i128) -> Option<Call>
+    ensures { MatchOption result ((call : _) → ¬ (IsCall word.now (a ∷ b ∷ []) call))
+        (IsCall word.now (a ∷ b ∷ [])) }
+{
     match word {
         "div_rem" => Some(Call::DivRem(a, b)),
         "div_mod_floor" => Some(Call::DivModFloor(a, b)),

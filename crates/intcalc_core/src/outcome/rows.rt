@@ -7,7 +7,7 @@ ghost use Rattle.intcalc_core.specs.declared.calls.Call.TheVariants as calls;
 ghost use Rattle.intcalc_core.specs.Outcome.{Inside};
 
 use crate::calls::{Answer, Refusal};
-use crate::outcome::operand::{Operand, is_from_zero, needs, three, two, widen};
+use crate::outcome::operand::{Operand, is_from_zero, one_or_not_fitting, three, two, widen};
 use num_integer::operators::is_zero;
 use num_integer::{Average, Integer, Roots, checked};
 
@@ -16,7 +16,9 @@ pub(crate) fn div_rem<T: Operand>(pair: (T, T)) -> Result<Answer, Refusal>
     ensures { Inside T.fits (calls.DivRem (T.value pair.0) (T.value pair.1)) result }
 {
     let (n, d) = pair;
-    needs(!is_zero(d), Refusal::ZeroDivisor)?;
+    if is_zero(d) {
+        return Err(Refusal::ZeroDivisor);
+    }
     match checked::div_rem(n, d) {
         Some(parts) => Ok(two(parts)),
         None => Err(Refusal::NotFitting),
@@ -28,7 +30,9 @@ pub(crate) fn div_mod_floor<T: Operand>(pair: (T, T)) -> Result<Answer, Refusal>
     ensures { Inside T.fits (calls.DivModFloor (T.value pair.0) (T.value pair.1)) result }
 {
     let (n, d) = pair;
-    needs(!is_zero(d), Refusal::ZeroDivisor)?;
+    if is_zero(d) {
+        return Err(Refusal::ZeroDivisor);
+    }
     match checked::div_mod_floor(n, d) {
         Some(parts) => Ok(two(parts)),
         None => Err(Refusal::NotFitting),
@@ -40,11 +44,10 @@ pub(crate) fn div_floor<T: Operand>(pair: (T, T)) -> Result<Answer, Refusal>
     ensures { Inside T.fits (calls.DivFloor (T.value pair.0) (T.value pair.1)) result }
 {
     let (n, d) = pair;
-    needs(!is_zero(d), Refusal::ZeroDivisor)?;
-    match checked::div_floor(n, d) {
-        Some(quotient) => Ok(Answer::One(widen(quotient))),
-        None => Err(Refusal::NotFitting),
+    if is_zero(d) {
+        return Err(Refusal::ZeroDivisor);
     }
+    one_or_not_fitting(checked::div_floor(n, d))
 }
 
 pub(crate) fn div_ceil<T: Operand>(pair: (T, T)) -> Result<Answer, Refusal>
@@ -52,11 +55,10 @@ pub(crate) fn div_ceil<T: Operand>(pair: (T, T)) -> Result<Answer, Refusal>
     ensures { Inside T.fits (calls.DivCeil (T.value pair.0) (T.value pair.1)) result }
 {
     let (n, d) = pair;
-    needs(!is_zero(d), Refusal::ZeroDivisor)?;
-    match checked::div_ceil(n, d) {
-        Some(quotient) => Ok(Answer::One(widen(quotient))),
-        None => Err(Refusal::NotFitting),
+    if is_zero(d) {
+        return Err(Refusal::ZeroDivisor);
     }
+    one_or_not_fitting(checked::div_ceil(n, d))
 }
 
 pub(crate) fn mod_floor<T: Operand>(pair: (T, T)) -> Result<Answer, Refusal>
@@ -64,7 +66,9 @@ pub(crate) fn mod_floor<T: Operand>(pair: (T, T)) -> Result<Answer, Refusal>
     ensures { Inside T.fits (calls.ModFloor (T.value pair.0) (T.value pair.1)) result }
 {
     let (n, d) = pair;
-    needs(!is_zero(d), Refusal::ZeroDivisor)?;
+    if is_zero(d) {
+        return Err(Refusal::ZeroDivisor);
+    }
     Ok(Answer::One(widen(n.mod_floor(&d))))
 }
 
@@ -73,11 +77,10 @@ pub(crate) fn next_multiple_of<T: Operand>(pair: (T, T)) -> Result<Answer, Refus
     ensures { Inside T.fits (calls.NextMultipleOf (T.value pair.0) (T.value pair.1)) result }
 {
     let (n, d) = pair;
-    needs(!is_zero(d), Refusal::ZeroDivisor)?;
-    match checked::next_multiple_of(n, d) {
-        Some(multiple) => Ok(Answer::One(widen(multiple))),
-        None => Err(Refusal::NotFitting),
+    if is_zero(d) {
+        return Err(Refusal::ZeroDivisor);
     }
+    one_or_not_fitting(checked::next_multiple_of(n, d))
 }
 
 pub(crate) fn prev_multiple_of<T: Operand>(pair: (T, T)) -> Result<Answer, Refusal>
@@ -85,11 +88,10 @@ pub(crate) fn prev_multiple_of<T: Operand>(pair: (T, T)) -> Result<Answer, Refus
     ensures { Inside T.fits (calls.PrevMultipleOf (T.value pair.0) (T.value pair.1)) result }
 {
     let (n, d) = pair;
-    needs(!is_zero(d), Refusal::ZeroDivisor)?;
-    match checked::prev_multiple_of(n, d) {
-        Some(multiple) => Ok(Answer::One(widen(multiple))),
-        None => Err(Refusal::NotFitting),
+    if is_zero(d) {
+        return Err(Refusal::ZeroDivisor);
     }
+    one_or_not_fitting(checked::prev_multiple_of(n, d))
 }
 
 pub(crate) fn is_multiple_of<T: Integer>(pair: (T, T)) -> Result<Answer, Refusal>
@@ -105,7 +107,9 @@ pub(crate) fn gcd<T: Operand>(pair: (T, T)) -> Result<Answer, Refusal>
     ensures { Inside T.fits (calls.Gcd (T.value pair.0) (T.value pair.1)) result }
 {
     let (a, b) = pair;
-    needs(a.gcd_fits(&b), Refusal::NotFitting)?;
+    if !a.gcd_fits(&b) {
+        return Err(Refusal::NotFitting);
+    }
     Ok(Answer::One(widen(a.gcd(&b))))
 }
 
@@ -114,10 +118,7 @@ pub(crate) fn lcm<T: Operand>(pair: (T, T)) -> Result<Answer, Refusal>
     ensures { Inside T.fits (calls.Lcm (T.value pair.0) (T.value pair.1)) result }
 {
     let (a, b) = pair;
-    match checked::lcm(a, b) {
-        Some(multiple) => Ok(Answer::One(widen(multiple))),
-        None => Err(Refusal::NotFitting),
-    }
+    one_or_not_fitting(checked::lcm(a, b))
 }
 
 pub(crate) fn gcd_lcm<T: Operand>(pair: (T, T)) -> Result<Answer, Refusal>
@@ -125,8 +126,12 @@ pub(crate) fn gcd_lcm<T: Operand>(pair: (T, T)) -> Result<Answer, Refusal>
     ensures { Inside T.fits (calls.GcdLcm (T.value pair.0) (T.value pair.1)) result }
 {
     let (a, b) = pair;
-    needs(a.gcd_fits(&b), Refusal::NotFitting)?;
-    needs(a.lcm_fits(&b), Refusal::NotFitting)?;
+    if !a.gcd_fits(&b) {
+        return Err(Refusal::NotFitting);
+    }
+    if !a.lcm_fits(&b) {
+        return Err(Refusal::NotFitting);
+    }
     Ok(two(a.gcd_lcm(&b)))
 }
 
@@ -135,7 +140,9 @@ pub(crate) fn extended_gcd<T: Operand>(pair: (T, T)) -> Result<Answer, Refusal>
     ensures { Inside T.fits (calls.ExtendedGcd (T.value pair.0) (T.value pair.1)) result }
 {
     let (a, b) = pair;
-    needs(a.gcd_fits(&b), Refusal::NotFitting)?;
+    if !a.gcd_fits(&b) {
+        return Err(Refusal::NotFitting);
+    }
     match checked::extended_gcd(a, b) {
         Some(bezout) => Ok(three(bezout.gcd, bezout.x, bezout.y)),
         None => Err(Refusal::NoPair),
@@ -162,7 +169,9 @@ pub(crate) fn sqrt<T: Roots + Operand>(x: T) -> Result<Answer, Refusal>
     requires in_range { T.fits (T.value x) }
     ensures { Inside T.fits (calls.Sqrt (T.value x)) result }
 {
-    needs(is_from_zero(x), Refusal::NegativeRoot)?;
+    if !is_from_zero(x) {
+        return Err(Refusal::NegativeRoot);
+    }
     Ok(Answer::One(widen(x.sqrt())))
 }
 
@@ -177,8 +186,12 @@ pub(crate) fn nth_root<T: Roots + Operand>(x: T, n: u32) -> Result<Answer, Refus
     requires in_range { T.fits (T.value x) }
     ensures { Inside T.fits (calls.NthRoot (T.value x) (pos n)) result }
 {
-    needs(n != 0, Refusal::ZeroDegree)?;
-    needs(n % 2 != 0 || is_from_zero(x), Refusal::NegativeRoot)?;
+    if n == 0 {
+        return Err(Refusal::ZeroDegree);
+    }
+    if n % 2 == 0 && !is_from_zero(x) {
+        return Err(Refusal::NegativeRoot);
+    }
     Ok(Answer::One(widen(x.nth_root(n))))
 }
 
@@ -187,9 +200,8 @@ pub(crate) fn binomial<T: Operand>(pair: (T, T)) -> Result<Answer, Refusal>
     ensures { Inside T.fits (calls.Binomial (T.value pair.0) (T.value pair.1)) result }
 {
     let (n, k) = pair;
-    needs(is_from_zero(n) && is_from_zero(k), Refusal::NegativeCount)?;
-    match checked::binomial(n, k) {
-        Some(coefficient) => Ok(Answer::One(widen(coefficient))),
-        None => Err(Refusal::NotFitting),
+    if !is_from_zero(n) || !is_from_zero(k) {
+        return Err(Refusal::NegativeCount);
     }
+    one_or_not_fitting(checked::binomial(n, k))
 }
