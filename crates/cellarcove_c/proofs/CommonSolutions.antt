@@ -1,6 +1,6 @@
 -- Two congruences, and whether a number solves both.
 use Rattle.std.specs.Prelude.{◌≡◌, ◌≢◌, ℕ, ℤ, zero, suc}
-use Rattle.std.proofs.Common.{arith, refl, subst, sym}
+use Rattle.std.proofs.Common.{◌∙◌, arith, inl, inr, refl, subst, sym}
 use Rattle.modular.specs.CommonSolutions.{MatchCommonSolution}
 use Rattle.modular.specs.Congruences.{IsResidueClass}
 use Rattle.modular.specs.declared.common_solutions.CommonSolution.{CommonSolution}
@@ -9,6 +9,11 @@ use Rattle.modular.proofs.ForCallers.{congruent-refl}
 use Rattle.num_integer.specs.Least.{IsLeastFrom}
 use Rattle.cellarcove_c.specs.Answers.{Refuses}
 use Rattle.cellarcove_c.specs.Statuses.{Either, common_solution_of, no_solution, not_fitting}
+
+-- a status that is one of two is no third
+pub no_third : {status one two three : ℕ} → Either one two status → ¬ (one ≡ three) → ¬ (two ≡ three) → ¬ (status ≡ three)
+no_third (inl same) first second third = first (sym same ∙ third)
+no_third (inr same) first second third = second (sym same ∙ third)
 
 -- a class has its first number
 pub class_has : {Is : ℤ → Type 0} {first step : ℤ} → IsResidueClass Is first step → (x : ℤ) × Is x

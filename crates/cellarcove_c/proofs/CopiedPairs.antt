@@ -1,8 +1,8 @@
 -- Congruences, copied one by one.
-use Rattle.std.specs.Prelude.{◌≡◌, ◌<◌, ◌<ℤ◌, ◌+◌, ℕ, ℤ, pos, List, [], ◌∷◌, ◌++◌, length, map}
+use Rattle.std.specs.Prelude.{◌≡◌, ◌<◌, ◌≤◌, ◌<ℤ◌, ◌+◌, ℕ, ℤ, pos, List, [], ◌∷◌, ◌++◌, length, map}
 use Rattle.std.specs.List.{All}
 use Rattle.std.proofs.Common.{◌∙◌, ap, arith, get_or, refl, set, subst, sym, take}
-use Rattle.std.proofs.lemmas.List.{get_or-map, length-map, map_more, take_more_set}
+use Rattle.std.proofs.lemmas.List.{get_or-map, length-map, map_more, take_all, take_more_set}
 use Rattle.std.proofs.lemmas.List.Elements.{All-get_or, All-nil, All-push}
 
 -- the first i pairs are those of the first i congruences, and have a property
@@ -27,6 +27,12 @@ module _ {C P : Type 0} (pair : C → P) (Has : P → Type 0) (congruences : Lis
         copied = more ∙ ap (λ (l : List P). l ++ p ∷ []) h.copied ∙ ap (λ (q : P). map pair (take i congruences) ++ q ∷ []) (same ∙ ap pair is) ∙ sym (map_more pair congruences i c within);
         each = subst (All Has) (sym more) (All-push Has (take i pairs) p h.each has);
       }
+
+  -- with all of them
+  pub all_copied : (pairs : List P) (i : ℕ) → length congruences ≤ i → length pairs ≡ length congruences → AreCopied pair Has congruences pairs i → (pairs ≡ map pair congruences) × All Has pairs
+  all_copied pairs i done same h =
+      let whole : take i pairs ≡ pairs = take_all i pairs (omega (arith, done, same)) in
+      (sym whole ∙ h.copied ∙ ap (map pair) (take_all i congruences done), subst (All Has) whole h.each)
 
 -- what all pairs have, that of a congruence has
 pub copied_has : {C P : Type 0} (pair : C → P) (Has : P → Type 0) (congruences : List C) (i : ℕ) {c : C} → c ≡ get_or congruences i c → i < length congruences

@@ -1,6 +1,6 @@
 -- What a call for several congruences returns.
 use Rattle.std.specs.Prelude.{◌≡◌, ◌≤◌, ℕ, ℤ, List, length, map}
-use Rattle.std.proofs.Common.{◌∙◌, arith, inl, inr, refl, sym}
+use Rattle.std.proofs.Common.{arith, inl, inr, refl}
 use Rattle.std.proofs.lemmas.List.{length-map}
 use Rattle.num_integer.specs.Least.{IsLeastFrom}
 use Rattle.modular.specs.CommonSolutions.{MatchCommonSolution}
@@ -10,11 +10,7 @@ use Rattle.modular.specs.declared.common_solutions.CommonSolution.TheVariants.{N
 use Rattle.cellarcove_c.specs.Answers.{Refuses}
 use Rattle.cellarcove_c.specs.Congruences.{HavePositiveModuli, IsBeyond, IsNever, IsNextOfSeveral}
 use Rattle.cellarcove_c.specs.Statuses.{Either, bad_modulus, common_solution_of, no_solution, not_fitting}
-
--- a status that is one of two is no third
-no_third : {status one two three : ℕ} → Either one two status → ¬ (one ≡ three) → ¬ (two ≡ three) → ¬ (status ≡ three)
-no_third (inl same) first second third = first (sym same ∙ third)
-no_third (inr same) first second third = second (sym same ∙ third)
+use Rattle.cellarcove_c.proofs.CommonSolutions.{no_third}
 
 module _ {X C : Type 0} (value : X → ℤ) (fits : ℤ → Type 0) (from : ℤ) (pair : C → X × X) (congruences : List C) (zero_value : X) (within : length congruences ≤ 64) where
   abbrev pairs : List (X × X)

@@ -2,9 +2,11 @@
 use Rattle.std.specs.Prelude.{◌≡◌, ◌⊎◌, ◌↔◌, ◌<◌, ◌≤◌, ◌<ℤ◌, ◌≤ℤ◌, ℕ, ℤ, pos, List, length, map, FitsSigned, MatchOption}
 use Rattle.std.specs.Int.{FitsUnsignedBits, w64}
 use Rattle.std.specs.List.{All}
+use Rattle.num_integer.specs.Divisors.{IsLeastCommonMultiple}
 use Rattle.num_integer.specs.Least.{IsLeastFrom}
+use Rattle.num_integer.specs.Range.{EachFits}
 use Rattle.modular.specs.CommonSolutions.{MatchCommonSolution}
-use Rattle.modular.specs.Congruences.{SolvesEach}
+use Rattle.modular.specs.Congruences.{IsResidueClass, SolvesBothCongruences, SolvesEach}
 use Rattle.cellarcove_c.specs.Answers.{Refuses}
 use Rattle.cellarcove_c.specs.Statuses.{Either, answer_of, bad_modulus, common_solution_of, no_solution, not_fitting, outside}
 use Rattle.cellarcove_c.specs.declared.answers.I64Answer.{I64Answer}
@@ -56,6 +58,19 @@ U64Congruent modulus Is r = AnswersModulo modulus not_fitting (IsBeyond (FitsUns
 -- Examples: 5, 2 and 4; not 0.
 abbrev pub IsReasonOfCongruences : ℕ → Type 0
 IsReasonOfCongruences status = (status ≡ bad_modulus) ⊎ Either not_fitting no_solution status
+
+-- The status is 0 and the value is the first number that solves two congruences and the step to the next one. It is `no_solution` if
+-- no number solves both, `not_fitting` if one does and the least common multiple of the moduli does not fit, and `bad_modulus` if a
+-- modulus is not positive. The value is zeros if the status is not 0, and it fits.
+-- Examples: of 1 modulo 4 and 3 modulo 6: 0, 9 and 12; of 1 modulo 4 and 2 modulo 6: 4, 0 and 0; modulo 0: 5, 0 and 0.
+pub record IsClassOfBoth {X : Type 0} (value : X → ℤ) (fits : ℤ → Type 0) (a m b n : ℤ) (zeros : X × X) (status : ℕ) (class : X × X) : Type 0 where
+  pub answer : (pos 0 <ℤ m) → (pos 0 <ℤ n) → EachFits fits (IsLeastCommonMultiple m n) → MatchOption (answer_of status class) (IsNever (SolvesBothCongruences a m b n))
+      (λ (first, step). IsResidueClass (SolvesBothCongruences a m b n) (value first) (value step))
+  pub modulus_is_bad : (status ≡ bad_modulus) ↔ ((m ≤ℤ pos 0) ⊎ (n ≤ℤ pos 0))
+  pub step_is_beyond : (status ≡ not_fitting) ↔ ((pos 0 <ℤ m) × (pos 0 <ℤ n) × (¬ (EachFits fits (IsLeastCommonMultiple m n))) × ((x : ℤ) × SolvesBothCongruences a m b n x))
+  pub is_never : (status ≡ no_solution) ↔ ((pos 0 <ℤ m) × (pos 0 <ℤ n) × IsNever (SolvesBothCongruences a m b n))
+  pub refusal : Refuses IsReasonOfCongruences zeros status class
+  pub in_range : fits (value class.0) × fits (value class.1)
 
 -- ---- several congruences
 

@@ -1,23 +1,25 @@
 //! Numbers that solve one or two congruences, and congruent numbers from one on, up to another or
 //! between two.
 
-ghost use Rattle.std.specs.Prelude.{◌≡◌, ◌⊎◌, ◌↔◌, ◌<ℤ◌, ◌≤ℤ◌, ℕ, ℤ, pos, FitsSigned, MatchOption};
+ghost use Rattle.std.specs.Prelude.{◌≡◌, ◌⊎◌, ◌↔◌, ◌<ℤ◌, ◌≤ℤ◌, ℕ, ℤ, pos, FitsSigned, IsTrue, MatchOption};
 ghost use Rattle.std.specs.Int.{FitsUnsignedBits, w64};
 ghost use Rattle.modular.specs.CommonSolutions.{MatchCommonSolution};
 ghost use Rattle.modular.specs.Congruences.{IsCountOfCongruent, IsNextCommonSolution, IsNextCongruent, IsPreviousCongruent, IsReducedModulus, IsResidueClass, Solves, SolvesBothCongruences};
 ghost use Rattle.num_integer.specs.Divisors.{IsLeastCommonMultiple};
 ghost use Rattle.num_integer.specs.Range.{EachFits};
 ghost use Rattle.cellarcove_c.specs.Answers.{Refuses};
-ghost use Rattle.cellarcove_c.specs.Congruences.{AnswersModulo, I64Congruent, IsBeyond, IsNever, IsReasonOfCongruences, U64Congruent};
+ghost use Rattle.cellarcove_c.specs.Congruences.{AnswersModulo, I64Congruent, IsBeyond, IsClassOfBoth, IsNever, IsReasonOfCongruences, U64Congruent};
 ghost use Rattle.cellarcove_c.specs.Statuses.{Either, answer_of, bad_modulus, common_solution_of, no_solution, not_fitting};
 
-use crate::answers::{ANSWER, BAD_MODULUS, I64Answer, NO_SOLUTION, NOT_FITTING, U64Answer};
+use crate::answers::{
+    ANSWER, BAD_MODULUS, I64Answer, NO_SOLUTION, NOT_FITTING, U64Answer, with_status,
+};
 use crate::modulo::reason_for_modulus;
 use modular::{
     CommonSolution, Modular, checked, chinese_remainder, next_common_solution, solutions,
 };
-use num_integer::Fits;
-use num_integer::operators::zero;
+use num_integer::operators::{is_below, zero};
+use num_integer::{Fits, Integer};
 
 /// A status, and solutions: the first that is not negative, and the step from each to the next.
 #[repr(C)]
@@ -98,15 +100,11 @@ pub extern "C" fn cellarcove_chinese_remainder_i64(a: i64, m: i64, b: i64, n: i6
     ensures refusal { Refuses {A = ℤ × ℤ} IsReasonOfCongruences (pos 0, pos 0)
         result.status (result.first, result.step) }
 {
-    if m <= 0 || n <= 0 {
-        I64Solutions::none(BAD_MODULUS)
-    } else if m.lcm_fits(&n) {
-        match chinese_remainder(a, m, b, n) {
-            Some((first, step)) => I64Solutions::some(first, step),
-            None => I64Solutions::none(NO_SOLUTION),
-        }
-    } else {
-        I64Solutions::none(reason_for_congruences(a, m, b, n))
+    let (status, (first, step)) = class_of_both(a, m, b, n, 0);
+    I64Solutions {
+        status,
+        first,
+        step,
     }
 }
 
@@ -132,15 +130,11 @@ pub extern "C" fn cellarcove_chinese_remainder_u64(a: u64, m: u64, b: u64, n: u6
     ensures refusal { Refuses {A = ℕ × ℕ} IsReasonOfCongruences (0, 0) result.status
         (result.first, result.step) }
 {
-    if m == 0 || n == 0 {
-        U64Solutions::none(BAD_MODULUS)
-    } else if m.lcm_fits(&n) {
-        match chinese_remainder(a, m, b, n) {
-            Some((first, step)) => U64Solutions::some(first, step),
-            None => U64Solutions::none(NO_SOLUTION),
-        }
-    } else {
-        U64Solutions::none(reason_for_congruences(a, m, b, n))
+    let (status, (first, step)) = class_of_both(a, m, b, n, 0);
+    U64Solutions {
+        status,
+        first,
+        step,
     }
 }
 
@@ -334,6 +328,32 @@ impl U64Solutions {
             step: 0,
         }
     }
+}
+
+/// Returns the status of the numbers that are `a` modulo `m` and `b` modulo `n`, the first of them and
+/// the step from each to the next. If there is no result, both are `zero`. For 1, 4, 3 and 6 it returns
+/// 0, 9 and 12.
+fn class_of_both<T: Modular + Fits>(a: T, m: T, b: T, n: T, zero: T) -> (u32, (T, T))
+    requires in_range { T.fits (T.value a) × T.fits (T.value m) × T.fits (T.value b)
+        × T.fits (T.value n) × T.fits (T.value zero) }
+    ensures { IsClassOfBoth T.value T.fits (T.value a) (T.value m) (T.value b) (T.value n)
+        (zero, zero) result.0 result.1 }
+{
+    if has_bad_modulus(m, n) {
+        return (BAD_MODULUS, (zero, zero));
+    }
+    if m.lcm_fits(&n) {
+        with_status(chinese_remainder(a, m, b, n), (zero, zero), NO_SOLUTION)
+    } else {
+        (reason_for_congruences(a, m, b, n), (zero, zero))
+    }
+}
+
+/// Returns `true` if one of two moduli is not positive.
+fn has_bad_modulus<T: Integer>(m: T, n: T) -> bool
+    ensures { IsTrue result ↔ ((T.value m ≤ℤ pos 0) ⊎ (T.value n ≤ℤ pos 0)) }
+{
+    !is_below(zero(), m) || !is_below(zero(), n)
 }
 
 /// Returns why two congruences have no class of solutions, if the least common multiple of their moduli

@@ -2,13 +2,15 @@
 //! Numbers that solve one or two congruences, and congruent numbers from one on, up to another or
 //! between two.
 
-use crate::answers::{I64Answer, U64Answer, ANSWER, BAD_MODULUS, NOT_FITTING, NO_SOLUTION};
+use crate::answers::{
+    with_status, I64Answer, U64Answer, ANSWER, BAD_MODULUS, NOT_FITTING, NO_SOLUTION,
+};
 use crate::modulo::reason_for_modulus;
 use cellarcove::modular::{
     checked, chinese_remainder, next_common_solution, solutions, CommonSolution, Modular,
 };
-use cellarcove::operators::zero;
-use cellarcove::Fits;
+use cellarcove::operators::{is_below, zero};
+use cellarcove::{Fits, Integer};
 
 /// A status, and solutions: the first that is not negative, and the step from each to the next.
 #[repr(C)]
@@ -65,15 +67,11 @@ pub extern "C" fn cellarcove_solutions_u64(a: u64, b: u64, m: u64) -> U64Solutio
 /// `NOT_FITTING` if there is one, and the step does not fit.
 #[unsafe(no_mangle)]
 pub extern "C" fn cellarcove_chinese_remainder_i64(a: i64, m: i64, b: i64, n: i64) -> I64Solutions {
-    if m <= 0 || n <= 0 {
-        I64Solutions::none(BAD_MODULUS)
-    } else if m.lcm_fits(&n) {
-        match chinese_remainder(a, m, b, n) {
-            Some((first, step)) => I64Solutions::some(first, step),
-            None => I64Solutions::none(NO_SOLUTION),
-        }
-    } else {
-        I64Solutions::none(reason_for_congruences(a, m, b, n))
+    let (status, (first, step)) = class_of_both(a, m, b, n, 0);
+    I64Solutions {
+        status,
+        first,
+        step,
     }
 }
 
@@ -84,15 +82,11 @@ pub extern "C" fn cellarcove_chinese_remainder_i64(a: i64, m: i64, b: i64, n: i6
 /// there is one, and the step does not fit.
 #[unsafe(no_mangle)]
 pub extern "C" fn cellarcove_chinese_remainder_u64(a: u64, m: u64, b: u64, n: u64) -> U64Solutions {
-    if m == 0 || n == 0 {
-        U64Solutions::none(BAD_MODULUS)
-    } else if m.lcm_fits(&n) {
-        match chinese_remainder(a, m, b, n) {
-            Some((first, step)) => U64Solutions::some(first, step),
-            None => U64Solutions::none(NO_SOLUTION),
-        }
-    } else {
-        U64Solutions::none(reason_for_congruences(a, m, b, n))
+    let (status, (first, step)) = class_of_both(a, m, b, n, 0);
+    U64Solutions {
+        status,
+        first,
+        step,
     }
 }
 
@@ -252,6 +246,25 @@ impl U64Solutions {
             step: 0,
         }
     }
+}
+
+/// Returns the status of the numbers that are `a` modulo `m` and `b` modulo `n`, the first of them
+/// and the step from each to the next. If there is no result, both are `zero`. For 1, 4, 3 and 6 it
+/// returns 0, 9 and 12.
+fn class_of_both<T: Modular + Fits>(a: T, m: T, b: T, n: T, zero: T) -> (u32, (T, T)) {
+    if has_bad_modulus(m, n) {
+        return (BAD_MODULUS, (zero, zero));
+    }
+    if m.lcm_fits(&n) {
+        with_status(chinese_remainder(a, m, b, n), (zero, zero), NO_SOLUTION)
+    } else {
+        (reason_for_congruences(a, m, b, n), (zero, zero))
+    }
+}
+
+/// Returns `true` if one of two moduli is not positive.
+fn has_bad_modulus<T: Integer>(m: T, n: T) -> bool {
+    !is_below(zero(), m) || !is_below(zero(), n)
 }
 
 /// Returns why two congruences have no class of solutions, if the least common multiple of their

@@ -1,7 +1,8 @@
-use Rattle.std.specs.Prelude.{◌<◌, ◌<ℤ◌, pos}
-use Rattle.std.proofs.Common.{arith, length}
-use Rattle.std.proofs.lemmas.Bool.{iff_false}
-use Rattle.cellarcove_c.proofs.CopiedPairs.{IsPair, copied_has, none_copied, one_copied}
+use Rattle.std.specs.Prelude.{◌<◌, ◌<ℤ◌, map, pos}
+use Rattle.std.proofs.Common.{◌∙◌, arith, length, refl, sym}
+use Rattle.std.proofs.lemmas.Bool.{false≢true, iff_false}
+use Rattle.std.proofs.lemmas.List.Elements.{All-same, All-weaker}
+use Rattle.cellarcove_c.proofs.CopiedPairs.{IsPair, all_copied, copied_has, none_copied, one_copied}
 use Rattle.cellarcove_c.proofs.several_congruences.copy.Goals as goal
 
 pub loop-i-init : goal.loop-i-init
@@ -15,10 +16,28 @@ loop-i-preserved g c =
     one_copied g.C.Congruence.pair_of (IsPair g.T.Number.value g.T.Number.fits) c.args.congruences.now c.loop-i.pairs c.loop-i.i c.index-congruences-i.is pair.pair c.loop-i-test.true room
     c.loop-i.invariant (pair.in_range.0, pair.in_range.1, positive)
 
-pub returns-then-not-is_below-clause-positive : goal.returns-then-not-is_below-clause-positive
-returns-then-not-is_below-clause-positive g c = (
-  λ h. absurd (cc),
-  λ all.
-      let has = copied_has g.C.Congruence.pair_of (λ p. pos 0 <ℤ g.T.Number.value p.1) c.args.congruences.now c.loop-i.i c.index-congruences-i.is c.loop-i-test.true all in
-      absurd (iff_false c.is_below.ensures c.if-not-is_below.true (rw (c.zero.ensures.value, c.pair-pair.ensures.pair) has)),
-)
+pub returns-then-not-is_below : goal.returns-then-not-is_below
+returns-then-not-is_below g c = record {
+  pairs = λ h. absurd (false≢true h);
+  in_range = λ h. absurd (false≢true h);
+  each_positive = λ h. absurd (false≢true h);
+  positive = (
+    λ h. absurd (false≢true h),
+    λ all.
+        let has = copied_has g.C.Congruence.pair_of (λ p. pos 0 <ℤ g.T.Number.value p.1) c.args.congruences.now c.loop-i.i c.index-congruences-i.is c.loop-i-test.true all in
+        absurd (iff_false c.is_below.ensures c.if-not-is_below.true (rw (c.zero.ensures.value, c.pair-pair.ensures.pair) has)),
+  );
+}
+
+pub returns : goal.returns
+returns g c =
+    let value = g.T.Number.value in
+    let fits = g.T.Number.fits in
+    let all = all_copied g.C.Congruence.pair_of (IsPair value fits) c.args.congruences.now c.loop-i.pairs c.loop-i.i c.loop-i-test.false (c.loop-i.auto.pairs ∙ c.requires) c.loop-i.invariant in
+    let positive = All-weaker (IsPair value fits) (λ p. pos 0 <ℤ value p.1) (λ _ h. h.2) c.loop-i.pairs all.1 in
+    record {
+      pairs = λ _. all.0;
+      in_range = λ _. All-weaker (IsPair value fits) (λ p. fits (value p.0) × fits (value p.1)) (λ _ h. (h.0, h.1)) c.loop-i.pairs all.1;
+      each_positive = λ _. positive;
+      positive = (λ _. All-same (λ p. pos 0 <ℤ value p.1) (map g.C.Congruence.pair_of c.args.congruences.now) c.loop-i.pairs (sym all.0) positive, λ _. refl);
+    }
