@@ -9,7 +9,7 @@ mod rows;
 
 use crate::calls::{Answer, Call, Kind, Refusal};
 use num_integer::{Average, Roots};
-use operand::{Operand, narrow, narrow_both, needs};
+use operand::{Operand, narrow, narrow_both};
 use std::num::TryFromIntError;
 
 /// Returns the answer of the call at the kind, or the reason why it has no answer.
@@ -18,7 +18,9 @@ use std::num::TryFromIntError;
 pub fn evaluate(kind: Kind, call: Call) -> Result<Answer, Refusal>
     ensures { Outcome kind call result }
 {
-    needs(is_made_at(kind, &call), Refusal::OutOfType)?;
+    if !is_made_at(kind, &call) {
+        return Err(Refusal::OutOfType);
+    }
     match kind {
         Kind::I8 => evaluate_at::<i8>(&call),
         Kind::U8 => evaluate_at::<u8>(&call),

@@ -10,7 +10,7 @@ ghost use Rattle.intcalc_core.specs.Fractions.{IsRatioOf};
 ghost use Rattle.intcalc_core.specs.Outcome.{NeedsFractions, NeedsParts, OutcomeIn, PartsFit};
 
 use crate::calls::{Answer, Refusal};
-use crate::outcome::operand::{narrow, needs};
+use crate::outcome::operand::narrow_both;
 use num_integer::Integer;
 use ratio64::{Ratio, RatioError};
 
@@ -35,7 +35,9 @@ fn operands(a: i128, b: i128, c: i128, d: i128) -> Result<(Ratio, Ratio), Refusa
     ensures { MatchResult result (λ (x, y). PartsFit a b c d × IsRatioOf a b x × IsRatioOf c d y)
         (λ refusal. NeedsParts a b c d (λ _. ⊥) (Err refusal)) }
 {
-    fractions(narrow(a)?, narrow(b)?, narrow(c)?, narrow(d)?)
+    let (a, b) = narrow_both(a, b)?;
+    let (c, d) = narrow_both(c, d)?;
+    fractions(a, b, c, d)
 }
 
 /// Returns the fractions `a / b` and `c / d`, or `ZeroDivisor`, or `NotFitting`.
@@ -43,8 +45,9 @@ fn fractions(a: i64, b: i64, c: i64, d: i64) -> Result<(Ratio, Ratio), Refusal>
     ensures { MatchResult result (λ (x, y). IsRatioOf a b x × IsRatioOf c d y)
         (λ refusal. NeedsFractions a b c d (λ _. ⊥) (Err refusal)) }
 {
-    needs(b != 0, Refusal::ZeroDivisor)?;
-    needs(d != 0, Refusal::ZeroDivisor)?;
+    if b == 0 || d == 0 {
+        return Err(Refusal::ZeroDivisor);
+    }
     Ok((fraction(a, b)?, fraction(c, d)?))
 }
 

@@ -1,6 +1,6 @@
-//! Operands at the type of a kind, and the errors of tests.
+//! Operands at the type of a kind, and answers of their numbers.
 
-ghost use Rattle.std.specs.Prelude.{◌≡◌, ◌↔◌, ◌≤ℤ◌, pos, false, Ok, Err, IsTrue, MatchOption, MatchResult};
+ghost use Rattle.std.specs.Prelude.{◌≡◌, ◌↔◌, ◌≤ℤ◌, pos, Ok, Err, IsTrue, MatchOption, MatchResult};
 ghost use Rattle.std.specs.Option.{ForSome};
 ghost use Rattle.intcalc_core.specs.declared.calls.Answer.TheVariants as answers;
 ghost use Rattle.intcalc_core.specs.declared.calls.Refusal.TheVariants as refusals;
@@ -83,13 +83,6 @@ pub(crate) fn three<T: Operand>(x: T, y: T, z: T) -> Answer
     ensures { result ≡ answers.Three (T.value x) (T.value y) (T.value z) }
 {
     Answer::Three(widen(x), widen(y), widen(z))
-}
-
-/// Returns the refusal as an error unless the condition holds.
-pub(crate) fn needs(holds: bool, refusal: Refusal) -> Result<(), Refusal>
-    ensures { MatchResult result (λ _. IsTrue holds) (λ r. (r ≡ refusal) × (holds ≡ false)) }
-{
-    if holds { Ok(()) } else { Err(refusal) }
 }
 
 /// Returns whether the number is not negative.
