@@ -119,11 +119,12 @@ module _ {fits : ℤ → Type 0} {low high : ℤ} where
       is = next_is;
     }
 
+    -- what is left of the factors becomes less
+    pub fewer_left : {next : ℤ} → factor <ℤ high → next ≡ factor +ℤ pos 1 → unsigned_abs high - unsigned_abs next < unsigned_abs high - unsigned_abs factor
+    fewer_left more is = omega (arith, sizes, h.at)
+
     pub product_last : high ≤ℤ factor → product ≡ falling_of high (high -ℤ low)
     product_last done =
         let top : unsigned_abs high ≡ unsigned_abs low + h.count = omega (arith, sizes, h.at, h.to_high) in
         let all : unsigned_abs (high -ℤ low) ≡ h.count = omega (arith, sizes, h.at, h.to_high) in
         rw (top, all) h.is
-
--- what goals about the loop need
-pub ruleset product_steps = (sizes, product_first, product_next)

@@ -1,6 +1,7 @@
 -- Items and their places, the items of a page, and items cut into parts whose sizes differ by at most 1.
 use Rattle.std.specs.Prelude.{◌≡◌, ◌≤ℤ◌, ◌<ℤ◌, ◌+ℤ◌, ◌-ℤ◌, ◌*ℤ◌}
-use Rattle.applied.proofs.Common.{ℤ, pos, arith, inl, inr, refl, IsOnly, IsRange, expand, linear, product_from_zero, products, within_fits, IsPlace, by_lt_z, IsFloored, floored_range, multiples_apart, IsRangeOfPage, only_ceiled, ℕ, negsuc, zero, suc, ◌∙◌, ap, sym, clamps, ceiled_by_range, comm, fits_below, product_at_most, IsEvenCut, IsRangeOfPart, cut_at}
+use Rattle.num_integer.proofs.ForCallers.{answers_only}
+use Rattle.applied.proofs.Common.{AnswersWhere, EachFits, Has, IfSome, None, Option, Some, ℤ, pos, arith, inl, inr, refl, IsOnly, IsRange, expand, linear, product_from_zero, products, within_fits, IsPlace, by_lt_z, IsFloored, floored_range, multiples_apart, IsRangeOfPage, only_ceiled, ℕ, negsuc, zero, suc, ◌∙◌, ap, sym, clamps, ceiled_by_range, comm, fits_below, product_at_most, IsEvenCut, IsRangeOfPart, cut_at}
 
 -- ---- what fits
 
@@ -28,6 +29,17 @@ page_fits {p = p} {s = s} range item_fits from_page_zero from_zero below =
 
 pub own_item : {p q s : ℤ} → pos 0 ≤ℤ q → q <ℤ s → IsPlace (p *ℤ s +ℤ q) s p q
 own_item from_zero below = record { equation = refl; from_zero = from_zero; below = below }
+
+-- a checked sum that is the item's number is the item
+pub item_answer : {A : Type 0} (fits : ℤ → Type 0) (value : A → ℤ) (p q s : ℤ) {total : ℤ} (r : Option A) → pos 0 ≤ℤ q → q <ℤ s → total ≡ p *ℤ s +ℤ q → AnswersWhere (fits total) (Has fits value (λ z. z ≡ total)) r
+    → AnswersWhere (EachFits fits (λ item. IsPlace item s p q)) (λ item. fits (value item) × IsPlace (value item) s p q) r
+item_answer fits value p q s r from_zero below is h =
+    answers_only fits (λ item. IsPlace item s p q) value r (record { equation = is; from_zero = from_zero; below = below }) (λ y k. is ∙ sym k.equation) h
+
+pub item_is_only : {A : Type 0} (fits : ℤ → Type 0) (value : A → ℤ) (p q s : ℤ) (r : Option A) → AnswersWhere (EachFits fits (λ item. IsPlace item s p q)) (λ item. fits (value item) × IsPlace (value item) s p q) r
+    → IfSome r (λ found. IsOnly (λ item. IsPlace item s p q) (value found))
+item_is_only fits value p q s None h = tt
+item_is_only fits value p q s (Some x) h = λ y k. k.equation ∙ sym h.1.1.equation
 
 -- ---- the range of a page
 

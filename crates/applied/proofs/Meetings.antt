@@ -1,6 +1,6 @@
 -- Meetings of schedules, from solutions of their congruences from a time on at which all have begun.
-use Rattle.std.specs.Prelude.{◌≤ℤ◌}
-use Rattle.applied.proofs.Common.{ℤ, List, arith, linear, SolvesBothCongruences, SolvesEach, IsLeastFrom, CommonSolution, At, Beyond, Never, HaveBegun, IsLeastTime, IsMeeting, IsMeetingOfEach}
+use Rattle.std.specs.Prelude.{◌≡◌, ◌<◌, ◌+◌, ◌≤ℤ◌}
+use Rattle.applied.proofs.Common.{ℕ, ℤ, List, arith, cases_lt, get_or_read, inl, inr, length, slice_index_or, linear, SolvesBothCongruences, SolvesEach, IsLeastFrom, CommonSolution, At, Beyond, Never, HaveBegun, IsLeastTime, IsMeeting, IsMeetingOfEach}
 
 -- the next solution from the least time on at which all have begun is the next meeting
 module _ {now from : ℤ} {Begun Solves Meets : ℤ → Type 0} (begun : IsLeastFrom now Begun from) (meets : (t : ℤ) → from ≤ℤ t → Solves t → Meets t) (apart : (t : ℤ) → Meets t → Begun t × Solves t) where
@@ -32,3 +32,13 @@ meeting_of_each value fits schedules m from = result_is {Solves = SolvesEach val
     (λ t after solves i d within. record { from_first = omega (arith, linear, from.holds i d within); congruent = solves i d within })
     (λ t h. (λ i d within. (h i d within).from_first, λ i d within. (h i d within).congruent))
     value fits m
+
+-- ---- the latest first time
+
+-- with one more schedule the time is not before the first times so far
+pub begun_more : {X : Type 0} (value : X → ℤ) (schedules : List (X × X)) (k : ℕ) (schedule : X × X) {before after : ℤ} → k < length schedules → schedule ≡ slice_index_or schedules k schedule → before ≤ℤ after → value schedule.0 ≤ℤ after
+    → ((i : ℕ) (d : X × X) → i < k → value (slice_index_or schedules i d).0 ≤ℤ before) → (i : ℕ) (d : X × X) → i < k + 1 → value (slice_index_or schedules i d).0 ≤ℤ after
+begun_more value schedules k schedule within is later own begun i d upto = elim (cases_lt i k) [
+  | inl lower ↦ omega (arith, linear, begun i d lower)
+  | inr same ↦ let at : i ≡ k = omega arith in rw (at, ← get_or_read schedules k schedule within is d) own
+]

@@ -72,9 +72,6 @@ module _ {n d : ℤ} (nonzero : d ≢ pos 0) (divides : Divides (pos (unsigned_a
   pub operator_fits : {fits : ℤ → Type 0} {low high : ℤ} → IsRange fits low high → fits n → fits d → d ≢ negsuc 0 → fits (int_div n d)
   operator_fits range n_fits d_fits other = other_quotient_fits range n_fits d_fits other (truncated_is n d nonzero).division
 
--- what goals about the quotient need
-pub ruleset part_steps = (linear, part_by_positive, part_by_negative)
-
 -- ---- the pair that `reduced` returns
 
 -- the pair of 0 and 0 stays

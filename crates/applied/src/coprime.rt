@@ -53,7 +53,6 @@ pub(crate) fn signed_gcd<T: Fits>(a: T, b: T) -> T
 }
 
 /// Returns `n` divided by the magnitude of `d`, which divides it.
-#[tactic(auto, using(crate::proofs::ReducedPairs::part_steps))]
 fn divided_by_magnitude<T: Fits>(n: T, d: T) -> T
     requires in_range { T.fits (T.value n) × T.fits (T.value d) }
     requires nonzero { T.value d ≢ pos 0 }

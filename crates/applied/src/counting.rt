@@ -44,7 +44,6 @@ pub fn falling<T: Integer>(n: T, k: T) -> T
 }
 
 /// Returns the product of the numbers above `low` up to `high`.
-#[tactic(auto, using(crate::proofs::FallingFactorials::product_steps))]
 fn product_above<T: Integer>(low: T, high: T) -> T
     requires in_range { T.fits (T.value low) × T.fits (T.value high) }
     requires from_zero { pos 0 ≤ℤ T.value low }

@@ -46,7 +46,6 @@ pub fn place_of<T: Integer>(item: T, page_size: T) -> (T, T)
 /// `None`.
 ///
 /// May be called if `place` is at least 0 and below `page_size`.
-#[tactic(auto, using(crate::proofs::ItemRanges::item_before))]
 pub fn item_at<T: Fits>(page: T, place: T, page_size: T) -> Option<T>
     requires in_range { T.fits (T.value page) × T.fits (T.value place) × T.fits (T.value page_size) }
     requires place_from_zero { pos 0 ≤ℤ T.value place }

@@ -1,5 +1,5 @@
 -- Dates as they are written, and as they are read.
-use Rattle.calendar.proofs.Common.{cond, ◌≡◌, ◌⊎◌, ◌+◌, ◌-◌, ◌*◌, ◌/◌, ◌%◌, ◌<◌, ◌≤◌, ◌++◌, ◌≤ℤ◌, ◌<ℤ◌, ℕ, suc, ℤ, pos, negsuc, List, [], ◌∷◌, drop, take, length, get_or, Bool, true, false, Option, Some, None, MatchOption, arith, ap, append_assoc, inl, inr, refl, sym, ◌∙◌, ints, append-nil, get_or-drop, length-append, take-append-drop}
+use Rattle.calendar.proofs.Common.{cond, ◌≡◌, ◌≢◌, ◌↔◌, ◌⊎◌, ◌+◌, ◌-◌, ◌*◌, ◌/◌, ◌%◌, ◌<◌, ◌≤◌, ◌++◌, ◌≤ℤ◌, ◌<ℤ◌, ℕ, suc, ℤ, pos, negsuc, List, [], ◌∷◌, drop, take, length, get_or, Bool, true, false, Option, Some, None, MatchOption, arith, ap, append_assoc, inl, inr, refl, sym, ◌∙◌, ints, append-nil, get_or-drop, length-append, take-append-drop}
 use Rattle.std.specs.Fmt.{char_count, decimal, format_spec, padded_integral, styled_signed_decimal}
 use Rattle.std.specs.Str.{IsCharBoundary}
 use Rattle.std.proofs.Math.Seq.{drop-append_seam, take-append_seam}
@@ -79,6 +79,16 @@ only_text a b a_fits b_fits e =
 pub made_date : (o : Option Date) (date : Date) {year : ℤ} {month day : ℕ} → MatchOption o (¬ (IsDate year month day)) (λ made. HasParts made year month day) → year ≡ date.year → month ≡ date.month → day ≡ date.day_of_month → o ≡ Some date
 made_date None date h year month day = absurd (h (rw (year, month, day) date.valid))
 made_date (Some x) date h year month day = ap (λ (d : Date). Some d) (of_parts x date (h.year_is ∙ year) (h.month_is ∙ month) (h.day_is ∙ day))
+
+-- no date, if the text is that of none
+pub no_date : {o : Option Date} {date : Date} {text : List ℕ} → o ≡ None → text ≢ text_of date → (o ≡ Some date) ↔ (text ≡ text_of date)
+no_date none other = (λ e. absurd cc, λ e. absurd (other e))
+
+pub not_both : {A : Type 0} {o : Option A} {x : A} → o ≡ None → o ≢ Some x
+not_both none some = cc
+
+pub same_some : {A : Type 0} {o : Option A} {x y : A} → o ≡ Some x → o ≡ Some y → x ≡ y
+same_some first second = cc
 
 -- ---- printing
 

@@ -1,5 +1,5 @@
 -- Dates some months apart.
-use Rattle.calendar.proofs.Common.{◌≡◌, ◌<◌, ◌≤◌, ◌+◌, ◌-◌, ◌/◌, ◌%◌, ◌≤ℤ◌, ◌<ℤ◌, ◌+ℤ◌, ◌-ℤ◌, ◌*ℤ◌, ℕ, ℤ, pos, negsuc, min, ◌∙◌, arith, inl, inr, refl, sym, cases_lt, by_lt_z, ints, floored_quotient_range, linear, IsFloored, IsQuotient}
+use Rattle.calendar.proofs.Common.{◌≡◌, ◌<◌, ◌≤◌, ◌+◌, ◌-◌, ◌/◌, ◌%◌, ◌≤ℤ◌, ◌<ℤ◌, ◌+ℤ◌, ◌-ℤ◌, ◌*ℤ◌, ℕ, ℤ, pos, negsuc, min, unsigned_abs, ◌∙◌, arith, inl, inr, refl, sym, cases_lt, by_lt_z, ints, floored_quotient_range, floored_remainder_range, linear, IsFloored, IsQuotient}
 use Rattle.calendar.specs.Dates.{IsMonthsAfter, IsMonthsBetween, IsYearsBetween, number_of}
 use Rattle.calendar.specs.Laws.{MonthsAfterIsOnly, MonthsBetweenIsOnly}
 use Rattle.calendar.specs.Months.{days_in_month, month_number}
@@ -25,6 +25,17 @@ later_month a b less = (order a b).0 (by_lt_z a.year b.year
 month_of : (number : ℤ) → (year : ℤ) × (month : ℕ) × (1 ≤ month) × (month ≤ 12) × (month_number year month ≡ number)
 month_of (pos n) = (pos (n / 12), n % 12 + 1, omega arith, omega arith, omega (arith, ints))
 month_of (negsuc n) = (negsuc (n / 12), 12 - n % 12, omega arith, omega arith, omega (arith, ints))
+
+-- the quotient of a number by 12 is its year, and the remainder tells the month
+module _ {number year rest : ℤ} (h : IsFloored number (pos 12) year rest) where
+  rest_range : (pos 0 ≤ℤ rest) × (rest <ℤ pos 12)
+  rest_range = floored_remainder_range (omega (arith, ints)) (record { quotient = year; division = h })
+
+  pub month_found : (1 ≤ unsigned_abs rest + 1) × (unsigned_abs rest + 1 ≤ 12) × (month_number year (unsigned_abs rest + 1) ≡ number)
+  month_found = (omega arith, omega (arith, ints, rest_range), omega (arith, ints, rest_range, h.division.equation))
+
+  pub only_year : {other : ℤ} {month : ℕ} → 1 ≤ month → month ≤ 12 → month_number other month ≡ number → other ≡ year
+  only_year from to is = omega (arith, ints, rest_range, h.division.equation)
 
 -- ---- the date some months after another
 

@@ -1,5 +1,5 @@
 -- Numbers with zeros in front.
-use Rattle.calendar.proofs.Common.{◌≡◌, ◌+◌, ◌-◌, ◌*◌, ◌/◌, ◌%◌, ◌^◌, ◌<◌, ◌++◌, ℕ, zero, suc, List, [], ◌∷◌, length, replicate, get_or, Result, Ok, arith, ap, inl, inr, refl, sym, ◌∙◌, cases_lt, length-append, length-replicate}
+use Rattle.calendar.proofs.Common.{◌≡◌, ◌≢◌, ◌↔◌, ◌≤◌, ◌+◌, ◌-◌, ◌*◌, ◌/◌, ◌%◌, ◌^◌, ◌<◌, ◌++◌, ℕ, zero, suc, List, [], ◌∷◌, length, replicate, get_or, Option, Some, None, Result, Ok, arith, ap, inl, inr, refl, subst, sym, ◌∙◌, cases_lt, length-append, length-replicate}
 use Rattle.std.specs.Fmt.{decimal}
 use Rattle.std.specs.Char.{digit_value}
 use Rattle.std.specs.Str.Parse.{AllDigits, ParsesUnsigned, digits_value, digits_value_after}
@@ -87,3 +87,28 @@ pub number_text : {E : Type 0} (n : ℕ) (ds : List ℕ) (r : Result ℕ E) → 
 number_text n ds r so e h =
     let all = rw e at (parse_plain decimal_numerals 64 ds r h (λ plus. absurd (omega (arith, so.1.0)))) in
     padded_is ds all.0.0 so (omega (arith, all.0.2)) ∙ ap (padded 4) (sym all.1)
+
+-- ---- what is read of a string: no number, or the one from the least to the most that is written so
+
+abbrev pub Reads : Option ℕ → ℕ → ℕ → List ℕ → Type 0
+Reads o least most ds = (n : ℕ) → (o ≡ Some n) ↔ ((least ≤ n) × (n ≤ most) × (ds ≡ padded 4 n))
+
+pub unpadded_read : {least most : ℕ} {ds : List ℕ} → most < 2 ^ 64 → ¬ (IsShortest ds) → Reads None least most ds
+unpadded_read small unpadded n = (λ e. absurd cc, λ h. absurd (unpadded (subst IsShortest (sym h.2) (padded_shortest n (omega arith)))))
+
+pub no_number_read : {E : Type 0} {least most : ℕ} {ds : List ℕ} (r : Result ℕ E) → most < 2 ^ 64 → ParsesUnsigned 64 10 ds r → ((n : ℕ) → r ≢ Ok n) → Reads None least most ds
+no_number_read {ds = ds} r small h none n = (λ e. absurd cc, λ k. absurd (none n (number_read n ds r (omega arith) k.2 h)))
+
+pub outside_read : {E : Type 0} {least most : ℕ} {ds : List ℕ} (m : ℕ) (r : Result ℕ E) → most < 2 ^ 64 → ParsesUnsigned 64 10 ds r → r ≡ Ok m → ¬ ((least ≤ m) × (m ≤ most)) → Reads None least most ds
+outside_read {least = least} {most = most} {ds = ds} m r small h is outside n = (
+  λ e. absurd cc,
+  λ k.
+      let same : n ≡ m = cc (number_read n ds r (omega arith) k.2 h) in
+      absurd (outside (subst (λ (t : ℕ). (least ≤ t) × (t ≤ most)) same (k.0, k.1))),
+)
+
+pub number_inside_read : {E : Type 0} {least most : ℕ} {ds : List ℕ} (m : ℕ) (r : Result ℕ E) → most < 2 ^ 64 → ParsesUnsigned 64 10 ds r → r ≡ Ok m → IsShortest ds → (least ≤ m) × (m ≤ most) → Reads (Some m) least most ds
+number_inside_read {least = least} {most = most} {ds = ds} m r small h is so within n = (
+  λ e. let same : m ≡ n = cc in subst (λ (t : ℕ). (least ≤ t) × (t ≤ most) × (ds ≡ padded 4 t)) same (within.0, within.1, number_text m ds r so is h),
+  λ k. let read = number_read n ds r (omega arith) k.2 h in cc,
+)

@@ -2,7 +2,7 @@
 use Rattle.calendar.proofs.Common.{◌≡◌, ◌≢◌, ◌↔◌, ◌-◌, ◌^◌, ◌<◌, ◌≤◌, ℕ, zero, suc, ℤ, pos, negsuc, neg_ℤ, unsigned_abs, List, ◌∷◌, get_or, FitsSigned, Option, Some, None, w64, arith, ap, inl, inr, refl, sym, ◌∙◌, cases_lt, nat_tests, ints}
 use Rattle.std.specs.Str.Parse.{digits_value}
 use Rattle.calendar.specs.Text.{padded, year_text}
-use Rattle.calendar.proofs.PaddedNumbers.{padded_shortest, padded_value}
+use Rattle.calendar.proofs.PaddedNumbers.{Reads, padded_shortest, padded_value}
 
 pub below : (n : ℕ) → n < 10000 → year_text (pos n) ≡ padded 4 n
 unfolding year_text
@@ -83,9 +83,6 @@ only_year (pos n) y x_fits y_fits e = elim (cases_lt n 10000) [
 only_year (negsuc n) y x_fits y_fits e = same_years (negsuc n) y x_fits y_fits (minus_form (padded 4 (suc n)) (year_text (negsuc n)) (before n)) e
 
 -- what is read of a text of the form: no year, or the one that has the text
-abbrev Reads : Option ℕ → ℕ → ℕ → List ℕ → Type 0
-Reads o least most ds = (n : ℕ) → (o ≡ Some n) ↔ ((least ≤ n) × (n ≤ most) × (ds ≡ padded 4 n))
-
 pub no_year_read : {value : ℕ → ℤ} {least most : ℕ} {ds text : List ℕ} {o : Option ℤ} → HasForm value least most ds text → Reads None least most ds → o ≡ None → (year : ℤ) → FitsSigned w64 year → (o ≡ Some year) ↔ (text ≡ year_text year)
 no_year_read form reads none year fits = (
   λ e. absurd (cc),

@@ -1,5 +1,6 @@
-use Rattle.applied.proofs.Common.{arith, inr, from_test, linear, within_fits}
-use Rattle.applied.proofs.ItemRanges.{end_fits, own_item, page_fits, rest_fits}
+use Rattle.std.specs.Prelude.{◌+ℤ◌}
+use Rattle.applied.proofs.Common.{ℤ, ap, arith, inr, from_test, linear, within_fits}
+use Rattle.applied.proofs.ItemRanges.{end_fits, item_answer, item_before, item_is_only, own_item, page_fits, rest_fits}
 use Rattle.applied.proofs.paging.item_at.Goals as goal
 
 pub successor-requires-clause-sum_fits : goal.successor-requires-clause-sum_fits
@@ -25,3 +26,21 @@ returns-in_err-first-clause-place g c =
     rw c.from_residual-in_err-first.ensures (λ each.
     let item = each _ (own_item c.requires.place_from_zero c.requires.place_below) in
     c.in_err-first.ensures (page_fits g.met.T.Integer.range_law item up c.requires.place_from_zero c.requires.place_below))
+
+pub returns-in_ok-next_page-clause-place : goal.returns-in_ok-next_page-clause-place
+returns-in_ok-next_page-clause-place g c =
+    let value = g.T.Number.value in
+    item_answer g.T.Number.fits value (value c.args.page) (value c.args.place) (value c.args.page_size) {total = value c.in_ok-next_page.next_page +ℤ value c.difference.result} c.sum.result c.requires.place_from_zero c.requires.place_below
+    (rw (c.in_ok-next_page.ensures.1.1, c.successor.ensures.value, c.difference.ensures.value) (item_before (value c.args.page) (value c.args.place) (value c.args.page_size)))
+    c.sum.ensures
+
+pub returns-in_ok-next_page-clause-only : goal.returns-in_ok-next_page-clause-only
+returns-in_ok-next_page-clause-only g c = item_is_only g.T.Number.fits g.T.Number.value _ _ _ c.sum.result (returns-in_ok-next_page-clause-place g c)
+
+pub returns-in_ok-first-clause-place : goal.returns-in_ok-first-clause-place
+returns-in_ok-first-clause-place g c =
+    let value = g.T.Number.value in
+    item_answer g.T.Number.fits value (value c.args.page) (value c.args.place) (value c.args.page_size) {total = value c.in_ok-first.first +ℤ value c.args.place} c.sum-else-is_negative.result c.requires.place_from_zero c.requires.place_below (ap (λ (t : ℤ). t +ℤ g.T.Number.value c.args.place) c.in_ok-first.ensures.1.1) c.sum-else-is_negative.ensures
+
+pub returns-in_ok-first-clause-only : goal.returns-in_ok-first-clause-only
+returns-in_ok-first-clause-only g c = item_is_only g.T.Number.fits g.T.Number.value _ _ _ c.sum-else-is_negative.result (returns-in_ok-first-clause-place g c)

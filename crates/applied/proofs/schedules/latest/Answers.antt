@@ -1,4 +1,5 @@
-use Rattle.applied.proofs.Common.{arith, get_or_read, linear}
+use Rattle.applied.proofs.Common.{arith, linear}
+use Rattle.applied.proofs.Meetings.{begun_more}
 use Rattle.applied.proofs.schedules.latest.Goals as goal
 
 pub maximum-latest-requires : goal.maximum-latest-requires
@@ -14,7 +15,6 @@ loop-schedule-preserved g c =
     record {
       in_range = c.maximum-latest.ensures.in_range;
       from_there = omega (arith, linear, so_far.from_there, more.from_there);
-      begun = λ i d before.
-          grind (arith, linear, so_far.begun i d, more.from_there, more.holds, get_or_read c.args.schedules.now c.loop-schedule.schedule-index c.schedule-item.result within c.schedule-item.is d);
+      begun = begun_more g.T.Number.value c.args.schedules.now c.loop-schedule.schedule-index c.schedule-item.result within c.schedule-item.is more.from_there more.holds so_far.begun;
       least = λ u above begun. more.least u (so_far.least u above begun) (rw (← c.schedule-item.is) at (begun c.loop-schedule.schedule-index c.schedule-item.result within));
     }

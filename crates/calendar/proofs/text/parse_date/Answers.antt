@@ -1,30 +1,20 @@
-use Rattle.calendar.proofs.Common.{◌≡◌, ℤ, Some, FitsSigned, w64, ap, refl, rules, sym, ◌∙◌, to_z-of_z}
-use Rattle.calendar.proofs.DateTexts.{made_date, only_number, small_parts}
+use Rattle.calendar.proofs.Common.{ℤ, Some, FitsSigned, w64, ap, refl, rules, sym, ◌∙◌, to_z-of_z}
+use Rattle.calendar.proofs.DateTexts.{made_date, no_date, not_both, only_number, same_some, small_parts}
 use Rattle.calendar.proofs.text.parse_date.Goals as goal
 
 pub returns-in_err-front : goal.returns-in_err-front
-returns-in_err-front c = λ date fits. (
-  λ e. absurd (cc),
-  λ e. absurd (c.in_err-front.ensures _ _ (small_parts date).1 e),
-)
+returns-in_err-front c = λ date fits. no_date c.from_residual.ensures (λ e. c.in_err-front.ensures _ _ (small_parts date).1 e)
 
 pub returns-in_err-year : goal.returns-in_err-year
-returns-in_err-year c = λ date fits. (
-  λ e. absurd (cc),
-  λ e.
-      let front = only_number c.args.text.now _ _ _ _ c.in_ok-front.ensures.0 (small_parts date).1 c.in_ok-front.ensures.1 e in
-      absurd (c.in_err-year.ensures _ _ (small_parts date).0 front.0),
-)
+returns-in_err-year c = λ date fits. no_date c.from_residual-in_err-year.ensures (λ e.
+    let front = only_number c.args.text.now _ _ _ _ c.in_ok-front.ensures.0 (small_parts date).1 c.in_ok-front.ensures.1 e in
+    c.in_err-year.ensures _ _ (small_parts date).0 front.0)
 
 pub returns-in_err-parse_year : goal.returns-in_err-parse_year
-returns-in_err-parse_year c = λ date fits. (
-  λ e. absurd (cc),
-  λ e.
-      let front = only_number c.args.text.now _ _ _ _ c.in_ok-front.ensures.0 (small_parts date).1 c.in_ok-front.ensures.1 e in
-      let year = only_number c.in_ok-front.front.now _ _ _ _ c.in_ok-year.ensures.0 (small_parts date).0 c.in_ok-year.ensures.1 front.0 in
-      let read = (c.parse_year.ensures date.year fits).1 year.0 in
-      absurd (cc c.in_err-parse_year.was),
-)
+returns-in_err-parse_year c = λ date fits. no_date c.from_residual-in_err-parse_year.ensures (λ e.
+    let front = only_number c.args.text.now _ _ _ _ c.in_ok-front.ensures.0 (small_parts date).1 c.in_ok-front.ensures.1 e in
+    let year = only_number c.in_ok-front.front.now _ _ _ _ c.in_ok-year.ensures.0 (small_parts date).0 c.in_ok-year.ensures.1 front.0 in
+    not_both c.in_err-parse_year.was ((c.parse_year.ensures date.year fits).1 year.0))
 
 pub returns : goal.returns
 returns c =
@@ -39,6 +29,5 @@ returns c =
           let front = only_number c.args.text.now _ _ _ _ c.in_ok-front.ensures.0 (small_parts date).1 c.in_ok-front.ensures.1 e in
           let year = only_number c.in_ok-front.front.now _ _ _ _ c.in_ok-year.ensures.0 (small_parts date).0 c.in_ok-year.ensures.1 front.0 in
           let read = (c.parse_year.ensures date.year fits).1 year.0 in
-          let same : c.in_ok-parse_year.field-0 ≡ date.year = cc (c.in_ok-parse_year.was) in
-          made_date c.new.result date made same year.1 front.1,
+          made_date c.new.result date made (same_some c.in_ok-parse_year.was read) year.1 front.1,
     )

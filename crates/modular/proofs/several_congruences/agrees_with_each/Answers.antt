@@ -1,4 +1,5 @@
-use Rattle.modular.proofs.Common.{refl, gcd_with_positive_fits}
+use Rattle.modular.proofs.Common.{arith, refl, gcd_with_positive_fits, linear}
+use Rattle.num_integer.proofs.ForCallers.{gcd-positive}
 use Rattle.modular.proofs.Agreements.{AgreesAt, agree_at_gcd, pair_at}
 use Rattle.modular.proofs.ListedItems.{all_items, one_item_more}
 use Rattle.modular.proofs.several_congruences.agrees_with_each.Goals as goal
@@ -7,6 +8,16 @@ pub gcd-requires-clause-gcd_fits : goal.gcd-requires-clause-gcd_fits
 gcd-requires-clause-gcd_fits g c = λ _ z h.
     let pair = pair_at g.T.Number.value g.T.Number.fits _ _ c.other-item.is c.loop-other-test.true c.requires.system in
     gcd_with_positive_fits g.met.T.Integer.range_law pair.0.1 pair.1 h
+
+pub gcd-requires-clause-other_in_range : goal.gcd-requires-clause-other_in_range
+gcd-requires-clause-other_in_range g c =
+    let pair = pair_at g.T.Number.value g.T.Number.fits _ _ c.other-item.is c.loop-other-test.true c.requires.system in
+    pair.0.1
+
+pub are_congruent-requires : goal.are_congruent-requires
+are_congruent-requires g c =
+    let pair = pair_at g.T.Number.value g.T.Number.fits _ _ c.other-item.is c.loop-other-test.true c.requires.system in
+    record { in_range = (c.requires.in_range.0, pair.0.0, c.gcd.ensures.in_range); positive = gcd-positive c.gcd.ensures.greatest (λ none. omega (arith, linear, none, pair.1)) }
 
 pub loop-other-preserved : goal.loop-other-preserved
 loop-other-preserved g c =

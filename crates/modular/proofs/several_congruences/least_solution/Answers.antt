@@ -8,8 +8,34 @@ loop-congruence-init g c = record {
   kept = narrowed_first g.T.Number.value c.args.congruences.now c.one-step.ensures.value;
 }
 
-pub least_candidate-requires-clause-candidates : goal.least_candidate-requires-clause-candidates
-least_candidate-requires-clause-candidates g c = narrowed_solves c.loop-congruence.invariant.kept c.congruence-item.is c.loop-congruence-test.true
+pub lcm_fits-requires : goal.lcm_fits-requires
+lcm_fits-requires g c =
+    let pair = pair_at g.T.Number.value g.T.Number.fits _ _ c.congruence-item.is c.loop-congruence-test.true c.requires.system in
+    record { self_in_range = c.loop-congruence.invariant.step_in_range; other_in_range = pair.0.1 }
+
+pub least_candidate-requires : goal.least_candidate-requires
+least_candidate-requires g c =
+    let class = c.loop-congruence.invariant in
+    let pair = pair_at g.T.Number.value g.T.Number.fits _ _ c.congruence-item.is c.loop-congruence-test.true c.requires.system in
+    record {
+      in_range = (c.requires.in_range, class.first_in_range, class.step_in_range, pair.0.0, pair.0.1);
+      first_positive = class.kept.positive;
+      second_positive = pair.1;
+      system = c.requires.system;
+      candidates = narrowed_solves class.kept c.congruence-item.is c.loop-congruence-test.true;
+    }
+
+pub returns-then-not-lcm_fits : goal.returns-then-not-lcm_fits
+returns-then-not-lcm_fits g c = c.least_candidate.ensures
+
+pub returns-in_err-first : goal.returns-in_err-first
+returns-in_err-first g c =
+    rw c.from_residual.ensures (λ t from each fits. c.in_err-first.ensures t (narrowed_solves c.loop-congruence.invariant.kept c.congruence-item.is c.loop-congruence-test.true t each))
+
+pub next_congruent-requires : goal.next_congruent-requires
+next_congruent-requires g c =
+    let class = c.loop-congruence.invariant in
+    record { in_range = (c.requires.in_range, class.first_in_range, class.step_in_range); positive = class.kept.positive }
 
 pub chinese_remainder-requires : goal.chinese_remainder-requires
 chinese_remainder-requires g c =

@@ -6,6 +6,20 @@ use Rattle.calendar.proofs.date.Date.eras_later.Goals as goal
 wide : (year eras : ℤ) → FitsSigned w64 year → FitsSigned w64 eras → FitsSigned w128 year × FitsSigned w128 eras × FitsSigned w128 (pos 400 *ℤ eras) × FitsSigned w128 (year +ℤ pos 400 *ℤ eras)
 wide year eras fits eras_fit = (omega (arith, ints), omega (arith, ints), omega (arith, ints), omega (arith, ints))
 
+pub overflow_mul-from : goal.overflow_mul-from
+overflow_mul-from c =
+    let own : FitsSigned w64 c.args.self.now.year = search rules in
+    let eras = c.ranges.eras in
+    let (year, more, years, sum) = wide c.args.self.now.year c.args.eras own (search rules) in
+    simp (c.from-2.ensures, c.from-3.ensures, to_z-of_z) years
+
+pub overflow_add-from : goal.overflow_add-from
+overflow_add-from c =
+    let own : FitsSigned w64 c.args.self.now.year = search rules in
+    let eras = c.ranges.eras in
+    let (year, more, years, sum) = wide c.args.self.now.year c.args.eras own (search rules) in
+    simp (c.from.ensures, c.from-2.ensures, c.from-3.ensures, to_z-of_z) sum
+
 pub returns-in_err-at_64_bits : goal.returns-in_err-at_64_bits
 returns-in_err-at_64_bits c =
     let own : FitsSigned w64 c.args.self.now.year = search rules in
