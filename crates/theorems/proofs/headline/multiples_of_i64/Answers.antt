@@ -12,13 +12,3 @@ next_multiple_of-requires-clause-multiple_fits c =
     let n = c.ranges.n in
     let d = c.ranges.d in
     simp to_z-of_z c.requires.next_fits
-
-pub returns : goal.returns
-returns c =
-    let n = c.ranges.n in
-    let d = c.ranges.d in
-    let previous_fits = c.prev_multiple_of.ensures.in_range in
-    let next_fits = c.next_multiple_of.ensures.in_range in
-    let previous = simp to_z-of_z at c.prev_multiple_of.ensures.multiple in
-    let next = simp to_z-of_z at c.next_multiple_of.ensures.multiple in
-    simp to_z-of_z (record { previous = previous; next = next })

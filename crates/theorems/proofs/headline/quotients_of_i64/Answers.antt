@@ -12,13 +12,3 @@ div_ceil-requires-clause-quotient_fits c =
     let n = c.ranges.n in
     let d = c.ranges.d in
     simp to_z-of_z c.requires.quotients_fit.2
-
-pub returns : goal.returns
-returns c =
-    let n = c.ranges.n in
-    let d = c.ranges.d in
-    let down_fits = c.div_floor.ensures.in_range in
-    let up_fits = c.div_ceil.ensures.in_range in
-    let down = simp to_z-of_z at c.div_floor.ensures.floored in
-    let up = simp to_z-of_z at c.div_ceil.ensures.ceiled in
-    simp to_z-of_z (record { floored = down; ceiled = up })

@@ -14,6 +14,12 @@ num c = read c.times-num.result.0 c.times-num.ensures.num_below ∙ rw (to_z-of_
 den : (c : After-times-num) → to_z w128 (of_z w128 c.times-num.result.1) ≡ den_of c.args.self.now
 den c = read c.times-num.result.1 c.times-num.ensures.den_below ∙ c.times-num.ensures.den
 
+pub returns-clause-below : goal.returns-clause-below
+returns-clause-below c =
+    let at = (goal.at.returns-clause-below c).After-times-num in
+    let own = rw (read c.times-num.result.0 c.times-num.ensures.num_below, den at) at c.nearest.ensures.rounded in
+    rw (to_z-of_z w128 c.nearest.result c.nearest.ensures.in_range) (quotient_below c.args.self.now.reduced.positive (rounded_division c.args.self.now.reduced.positive own) c.times-num.ensures.num_below)
+
 pub nearest-requires-clause-positive : goal.nearest-requires-clause-positive
 nearest-requires-clause-positive c = rw (den (goal.at.nearest-requires-clause-positive c).After-times-num) c.args.self.now.reduced.positive
 
@@ -26,9 +32,3 @@ pub returns-clause-rounded : goal.returns-clause-rounded
 returns-clause-rounded c =
     let at = (goal.at.returns-clause-rounded c).After-times-num in
     rw (to_z-of_z w128 c.nearest.result c.nearest.ensures.in_range) (rw (num at, den at) at c.nearest.ensures.rounded)
-
-pub returns-clause-below : goal.returns-clause-below
-returns-clause-below c =
-    let at = (goal.at.returns-clause-below c).After-times-num in
-    let own = rw (read c.times-num.result.0 c.times-num.ensures.num_below, den at) at c.nearest.ensures.rounded in
-    rw (to_z-of_z w128 c.nearest.result c.nearest.ensures.in_range) (quotient_below c.args.self.now.reduced.positive (rounded_division c.args.self.now.reduced.positive own) c.times-num.ensures.num_below)
