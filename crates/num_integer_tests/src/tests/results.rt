@@ -13,9 +13,11 @@ use num_integer::{
     div_floor, div_mod_floor, div_rem, gcd, gcd_lcm, lcm, mod_floor, nth_root, sqrt,
 };
 use num_traits::Signed;
+use own_types::form::SignedForm;
+use own_types::forms::{MarkedForm, NegatedForm, OneBitForm, SmallForm, TwoBitsForm};
 use own_types::signed_magnitude::SignedMagnitude;
 use own_types::types::{Tested, Type};
-use own_types::{Marked, Negated, OneBit, Percent, Small, TwoBits};
+use own_types::{Form, Own, Percent};
 use std::alloc::Global;
 
 /// The numbers of a result. Those that it lacks are 0.
@@ -277,6 +279,16 @@ fn of_signed_counted<T: Signed + SqrtCounted + Tested>(ask: Ask) -> Option<Numbe
     }
 }
 
+/// The result at a type that stores its numbers in this form: one proof for all of them.
+fn of_form<F: Form>(ask: Ask) -> Option<Numbers> {
+    of_each::<Own<F>>(ask)
+}
+
+/// The same with a sign.
+fn of_signed_form<F: SignedForm>(ask: Ask) -> Option<Numbers> {
+    of_signed::<Own<F>>(ask)
+}
+
 /// The result of the call at the type, or `None` outside the domain of the call.
 pub(crate) fn result(
     alloc: Global,
@@ -299,10 +311,10 @@ pub(crate) fn result(
         Type::Usize => of_counted::<usize>(ask),
         Type::U128 => of_each::<u128>(ask),
         Type::Percent => of_rooted::<Percent>(ask),
-        Type::Small => of_signed::<Small>(ask),
-        Type::Negated => of_signed::<Negated>(ask),
-        Type::Marked => of_signed::<Marked>(ask),
-        Type::OneBit => of_each::<OneBit>(ask),
-        Type::TwoBits => of_each::<TwoBits>(ask),
+        Type::Small => of_signed_form::<SmallForm>(ask),
+        Type::Negated => of_signed_form::<NegatedForm>(ask),
+        Type::Marked => of_signed_form::<MarkedForm>(ask),
+        Type::OneBit => of_form::<OneBitForm>(ask),
+        Type::TwoBits => of_form::<TwoBitsForm>(ask),
     }
 }
