@@ -477,7 +477,10 @@ pub fn last_friday(year: i64, month: u8) -> Option<Date>
     ensures { MatchOption result (¬ ((1 ≤ month) × (month ≤ 12)))
         (λ date. IsLastWeekdayOfMonth year month Weekday.Friday date) }
 {
-    last_weekday_of_month(year, month, Weekday::Friday)
+    match last_weekday_of_month(year, month, Weekday::Friday) {
+        Some(date) => Some(date),
+        None => None,
+    }
 }
 
 /// Returns the last Sunday up to `day`, or `day` itself if that Sunday does not fit.
