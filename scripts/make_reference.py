@@ -465,7 +465,7 @@ SLIPS = (
      'IfErr result (λ _. den <ℤ pos 0)', 'ratio64.md'),
     ('a definition that differs', 'crates/integer_core/specs/Divisors.antt', 'pub divides_left : Divides g a',
      'pub divides_left : Divides a g', 'integer_core.md'),
-    ('a lemma for callers that differs', 'crates/num_integer/proofs/Coprimes.antt',
+    ('a lemma for callers that differs', 'crates/integer_core/proofs/Coprimes.antt',
      'pub natural_gcd_positive : {n m d : ℕ} → 0 < m', 'pub natural_gcd_positive : {n m d : ℕ} → 0 < n', 'num_integer.md'),
     ('a doc comment that differs', 'crates/calendar/src/feasts.rt', '/// Returns', '/// Computes', 'calendar.md'),
     ('a line of a page that differs', 'docs/reference/modular.md', 'fn inverse_modulo', 'fn modular_inverse', 'modular.md'),
