@@ -13,6 +13,8 @@ registry=/usr/share/cargo/registry
 originals=(num-integer num-traits serde serde_json)
 dependents=(num-bigint num-rational bigdecimal num num-iter chrono)
 export CARGO_TARGET_DIR=${CARGO_TARGET_DIR:-$work/target}
+# Nothing is built twice or debugged, so cargo writes less.
+export CARGO_INCREMENTAL=0 CARGO_PROFILE_DEV_DEBUG=0
 
 # check_tests NAME COMMAND..: the command succeeds and runs tests. The line has their number.
 check_tests() {
@@ -107,12 +109,8 @@ is_replaced() {
         head -n 1 "$work/list" | grep -F "($work/rust/num-integer)"
 }
 
-# dependent_tests NAME WORD..: runs the tests of a package in the tree that the words tell cargo. They are built without
-# what a debugger needs, which takes less time.
-dependent_tests() {
-    (cd "$work/tree" && CARGO_PROFILE_DEV_DEBUG=0 CARGO_INCREMENTAL=0 \
-        cargo test --offline -j "${RT_JOBS:-$(nproc)}" -p "$@")
-}
+# dependent_tests NAME WORD..: runs the tests of a package in the tree that the words tell cargo.
+dependent_tests() { (cd "$work/tree" && cargo test --offline -j "${RT_JOBS:-$(nproc)}" -p "$@"); }
 
 check_dependents() {
     local name words begin=$SECONDS

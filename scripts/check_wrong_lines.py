@@ -44,7 +44,7 @@ OF_RATTLE = {'Args', 'Global'}
 OF_TRAITS = {'cmp', 'from_gives', 'from_str_gives', 'is_default', 'output', 'partial_cmp', 'steps'}
 # By crate and file: code, and what it becomes. Rust cuts off what does not fit, where Rattle has a condition.
 CHANGED = {('integer_core', 'src/native.rt'): (
-    ('        magnitude.as_()\n', '        <Self as num_traits::NumCast>::from(magnitude).expect("attempt to narrow with overflow")\n'),
+    ('        magnitude.as_()\n', '        <Self as num_traits::NumCast>::from(magnitude.to_128_bits()).expect("attempt to narrow with overflow")\n'),
     ('pub trait Native: Copy + Num +', 'pub trait Native: Copy + Num + num_traits::NumCast +'))}
 
 # How a program prints the values of a line.

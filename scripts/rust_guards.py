@@ -176,7 +176,7 @@ CODE = {
     ('integer_core', 'native_integer', 'gcd_lcm'): (
         ('(T::from_magnitude(gcd), T::from_magnitude(lcm))',
          f'(crate::guards::number(gcd, "{GCD}"), crate::guards::number(lcm, "{LCM}"))'),),
-    ('integer_core', 'stein', 'Magnitude'): (('Copy + Unsigned +', 'Copy + Unsigned + num_traits::CheckedMul +'),),
+    ('integer_core', 'stein', 'Magnitude'): (('Copy + Unsigned +', 'Copy + Unsigned + num_traits::CheckedMul + num_traits::ToPrimitive +'),),
     ('integer_core', 'stein', 'gcd_lcm_of_magnitudes'): (
         ('product(m, quotient(n, gcd))', f'crate::guards::product(m, quotient(n, gcd), "{LCM}")'),),
     ('integer_core', 'stein', 'binary_gcd'): (

@@ -24,7 +24,7 @@ pub struct ExtendedGcd<A> {
 }
 
 /// A row of the algorithm's table: for the operands `a` and `b`, `a * x + b * y` equals `remainder`.
-#[derive(Clone, Copy)]
+#[derive(Drop)]
 struct Row<A> {
     remainder: A,
     x: A,

@@ -30,6 +30,14 @@ pub trait Native: Copy + Num + Ord + Bounded + FixedWidth + AsPrimitive<Self::Ma
         }
     }
 
+    /// Returns the absolute value in 128 bits.
+    final fn wide_magnitude(self) -> u128
+        requires { Self.fits (Self.value self) }
+        ensures { result ≡ unsigned_abs (Self.value self) }
+    {
+        self.magnitude().to_128_bits()
+    }
+
     /// Returns the non-negative number with this magnitude.
     final fn from_magnitude(magnitude: Self::Magnitude) -> Self
         requires { Self.fits (Self.Magnitude.value magnitude) }

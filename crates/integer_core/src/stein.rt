@@ -12,10 +12,10 @@ ghost use Rattle.integer_core.specs.Range.{EachFits};
 
 use crate::native::Native;
 use crate::operators::{is_below, is_zero, one, product, quotient};
-use num_traits::{Bounded, Integral, ToPrimitive, Unsigned};
+use num_traits::{Bounded, Integral, Unsigned};
 
 /// A type of magnitudes, `u64` or `u128`, with the operations on bits that Stein's method needs.
-pub trait Magnitude: Copy + Unsigned + PartialOrd + ToPrimitive {
+pub trait Magnitude: Copy + Unsigned + PartialOrd {
     /// Returns the number without its factors 2, and how many they are. `12.odd_part()` is `(3, 2)`.
     fn odd_part(self) -> (Self, u32)
         requires in_range { Self.fits (Self.value self) }
@@ -46,6 +46,10 @@ pub trait Magnitude: Copy + Unsigned + PartialOrd + ToPrimitive {
         ensures { MatchOption result (2 ^ 64 ≤ unsigned_abs (Self.value self))
             (λ x. x ≡ unsigned_abs (Self.value self)) };
 
+    /// Returns the number as a `u128`.
+    fn to_128_bits(self) -> u128
+        ensures { result ≡ unsigned_abs (Self.value self) };
+
     /// Returns a `u64` as a number of this type.
     fn from_64_bits(x: u64) -> Self
         ensures in_range { Self.fits (Self.value result) }
@@ -75,6 +79,10 @@ impl Magnitude for u64 {
         Some(self)
     }
 
+    fn to_128_bits(self) -> u128 {
+        u128::from(self)
+    }
+
     fn from_64_bits(x: u64) -> u64 {
         x
     }
@@ -98,6 +106,10 @@ impl Magnitude for u128 {
 
     fn to_64_bits(self) -> Option<u64> {
         u64::try_from(self).ok()
+    }
+
+    fn to_128_bits(self) -> u128 {
+        self
     }
 
     fn from_64_bits(x: u64) -> u128 {

@@ -12,7 +12,6 @@ use crate::bounded_coefficients::{RunningMultinomial, coefficient_within};
 use crate::sign_magnitude::{product_is_within, sum_is_within};
 use integer_core::operators::{difference, is_minus_one, is_negative, is_zero};
 use integer_core::{Integer, NativeInteger};
-use num_traits::ToPrimitive;
 
 /// Tests whether a call may be made with its arguments. `7.quotient_fits(&0)` is `false`, so `7.div_rem(&0)`
 /// may not be called. Your own type implements `parts` and `ends`.
@@ -219,11 +218,14 @@ pub trait Fits: Integer {
 
 impl<T: NativeInteger> Fits for T {
     fn parts(&self) -> (bool, u128) {
-        (is_negative(*self), wide(*self))
+        (is_negative(*self), self.wide_magnitude())
     }
 
     fn ends() -> (u128, u128) {
-        (wide(T::min_value()), wide(T::max_value()))
+        (
+            T::min_value().wide_magnitude(),
+            T::max_value().wide_magnitude(),
+        )
     }
 
     fn sum_fits(&self, other: &T) -> bool {
@@ -237,12 +239,4 @@ impl<T: NativeInteger> Fits for T {
     fn product_fits(&self, other: &T) -> bool {
         self.checked_mul(other).is_some()
     }
-}
-
-/// Returns the magnitude of `x` in 128 bits.
-fn wide<T: NativeInteger>(x: T) -> u128
-    requires { T.fits (T.value x) }
-    ensures { result ≡ unsigned_abs (T.value x) }
-{
-    x.magnitude().to_u128().unwrap()
 }

@@ -38,7 +38,11 @@ use crate::domains::Fits;
 /// </details>
 #[must_use]
 pub fn div_rem<T: Fits>(x: T, y: T) -> Option<(T, T)> {
-    x.quotient_fits(&y).then(|| x.div_rem(&y))
+    if x.quotient_fits(&y) {
+        Some(x.div_rem(&y))
+    } else {
+        None
+    }
 }
 
 /// Returns [`Integer::div_floor`](crate::Integer::div_floor), the quotient rounded down, or `None`
@@ -73,7 +77,11 @@ pub fn div_rem<T: Fits>(x: T, y: T) -> Option<(T, T)> {
 /// </details>
 #[must_use]
 pub fn div_floor<T: Fits>(x: T, y: T) -> Option<T> {
-    x.quotient_fits(&y).then(|| x.div_floor(&y))
+    if x.quotient_fits(&y) {
+        Some(x.div_floor(&y))
+    } else {
+        None
+    }
 }
 
 /// Returns [`Integer::mod_floor`](crate::Integer::mod_floor), the remainder of the quotient rounded
@@ -106,7 +114,11 @@ pub fn div_floor<T: Fits>(x: T, y: T) -> Option<T> {
 /// </details>
 #[must_use]
 pub fn mod_floor<T: Fits>(x: T, y: T) -> Option<T> {
-    (!y.is_zero()).then(|| x.mod_floor(&y))
+    if y.is_zero() {
+        None
+    } else {
+        Some(x.mod_floor(&y))
+    }
 }
 
 /// Returns [`Integer::div_mod_floor`](crate::Integer::div_mod_floor), the quotient rounded down and
@@ -142,7 +154,11 @@ pub fn mod_floor<T: Fits>(x: T, y: T) -> Option<T> {
 /// </details>
 #[must_use]
 pub fn div_mod_floor<T: Fits>(x: T, y: T) -> Option<(T, T)> {
-    x.quotient_fits(&y).then(|| x.div_mod_floor(&y))
+    if x.quotient_fits(&y) {
+        Some(x.div_mod_floor(&y))
+    } else {
+        None
+    }
 }
 
 /// Returns [`Integer::div_ceil`](crate::Integer::div_ceil), the quotient rounded up, or `None` if
@@ -177,7 +193,11 @@ pub fn div_mod_floor<T: Fits>(x: T, y: T) -> Option<(T, T)> {
 /// </details>
 #[must_use]
 pub fn div_ceil<T: Fits>(x: T, y: T) -> Option<T> {
-    x.quotient_fits(&y).then(|| x.div_ceil(&y))
+    if x.quotient_fits(&y) {
+        Some(x.div_ceil(&y))
+    } else {
+        None
+    }
 }
 
 /// Returns [`Integer::next_multiple_of`](crate::Integer::next_multiple_of), the quotient rounded
@@ -211,7 +231,11 @@ pub fn div_ceil<T: Fits>(x: T, y: T) -> Option<T> {
 /// </details>
 #[must_use]
 pub fn next_multiple_of<T: Fits>(x: T, y: T) -> Option<T> {
-    x.next_multiple_fits(&y).then(|| x.next_multiple_of(&y))
+    if x.next_multiple_fits(&y) {
+        Some(x.next_multiple_of(&y))
+    } else {
+        None
+    }
 }
 
 /// Returns [`Integer::prev_multiple_of`](crate::Integer::prev_multiple_of), the quotient rounded
@@ -245,5 +269,9 @@ pub fn next_multiple_of<T: Fits>(x: T, y: T) -> Option<T> {
 /// </details>
 #[must_use]
 pub fn prev_multiple_of<T: Fits>(x: T, y: T) -> Option<T> {
-    x.prev_multiple_fits(&y).then(|| x.prev_multiple_of(&y))
+    if x.prev_multiple_fits(&y) {
+        Some(x.prev_multiple_of(&y))
+    } else {
+        None
+    }
 }

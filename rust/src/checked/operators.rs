@@ -32,7 +32,11 @@ use crate::domains::Fits;
 /// </details>
 #[must_use]
 pub fn sum<T: Fits>(a: T, b: T) -> Option<T> {
-    a.sum_fits(&b).then(|| a + b)
+    if a.sum_fits(&b) {
+        Some(a + b)
+    } else {
+        None
+    }
 }
 
 /// Returns `a - b`, or `None` if it does not fit.
@@ -63,7 +67,11 @@ pub fn sum<T: Fits>(a: T, b: T) -> Option<T> {
 /// </details>
 #[must_use]
 pub fn difference<T: Fits>(a: T, b: T) -> Option<T> {
-    a.difference_fits(&b).then(|| a - b)
+    if a.difference_fits(&b) {
+        Some(a - b)
+    } else {
+        None
+    }
 }
 
 /// Returns `a * b`, or `None` if it does not fit.
@@ -94,7 +102,11 @@ pub fn difference<T: Fits>(a: T, b: T) -> Option<T> {
 /// </details>
 #[must_use]
 pub fn product<T: Fits>(a: T, b: T) -> Option<T> {
-    a.product_fits(&b).then(|| a * b)
+    if a.product_fits(&b) {
+        Some(a * b)
+    } else {
+        None
+    }
 }
 
 /// Returns `-a`, or `None` if it does not fit.

@@ -67,5 +67,9 @@ pub fn nth_root<T: Roots + Copy>(x: T, n: u32) -> Option<T> {
 /// </details>
 #[must_use]
 pub fn sqrt<T: Roots + Copy>(x: T) -> Option<T> {
-    (x >= T::zero()).then(|| x.sqrt())
+    if x < T::zero() {
+        None
+    } else {
+        Some(x.sqrt())
+    }
 }

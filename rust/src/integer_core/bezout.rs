@@ -27,7 +27,6 @@ pub struct ExtendedGcd<A> {
 
 /// A row of the algorithm's table: for the operands `a` and `b`, `a * x + b * y` equals
 /// `remainder`.
-#[derive(Clone, Copy)]
 struct Row<A> {
     remainder: A,
     x: A,

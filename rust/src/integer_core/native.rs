@@ -40,6 +40,11 @@ pub(crate) trait Magnitudes: Native {
         }
     }
 
+    /// Returns the absolute value in 128 bits.
+    fn wide_magnitude(self) -> u128 {
+        self.magnitude().to_128_bits()
+    }
+
     /// Returns the non-negative number with this magnitude.
     fn from_magnitude(magnitude: Self::Magnitude) -> Self {
         magnitude.as_()

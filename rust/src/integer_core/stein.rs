@@ -5,10 +5,12 @@
 use crate::integer_core::native::Native;
 use crate::integer_core::Magnitudes;
 
-use num_traits::{Bounded, ToPrimitive, Unsigned};
+use num_traits::{Bounded, Unsigned};
 
 /// A type of magnitudes, `u64` or `u128`, with the operations on bits that Stein's method needs.
-pub trait Magnitude: Copy + Unsigned + num_traits::CheckedMul + PartialOrd + ToPrimitive {
+pub trait Magnitude:
+    Copy + Unsigned + num_traits::CheckedMul + num_traits::ToPrimitive + PartialOrd
+{
     /// Returns the number without its factors 2, and how many they are. `12.odd_part()` is `(3,
     /// 2)`.
     fn odd_part(self) -> (Self, u32);
@@ -23,6 +25,9 @@ pub trait Magnitude: Copy + Unsigned + num_traits::CheckedMul + PartialOrd + ToP
 
     /// Returns the number as a `u64`, or `None` if it does not fit.
     fn to_64_bits(self) -> Option<u64>;
+
+    /// Returns the number as a `u128`.
+    fn to_128_bits(self) -> u128;
 
     /// Returns a `u64` as a number of this type.
     fn from_64_bits(x: u64) -> Self;
@@ -46,6 +51,10 @@ impl Magnitude for u64 {
         Some(self)
     }
 
+    fn to_128_bits(self) -> u128 {
+        u128::from(self)
+    }
+
     fn from_64_bits(x: Self) -> Self {
         x
     }
@@ -67,6 +76,10 @@ impl Magnitude for u128 {
 
     fn to_64_bits(self) -> Option<u64> {
         u64::try_from(self).ok()
+    }
+
+    fn to_128_bits(self) -> Self {
+        self
     }
 
     fn from_64_bits(x: u64) -> Self {

@@ -21,7 +21,11 @@ pub fn div_rem<T: Fits>(x: T, y: T) -> Option<(T, T)>
         result }
     ensures positive { pos 0 <ℤ T.value y → IsSome result }
 {
-    x.quotient_fits(&y).then(|| x.div_rem(&y))
+    if x.quotient_fits(&y) {
+        Some(x.div_rem(&y))
+    } else {
+        None
+    }
 }
 
 /// Returns [`Integer::div_floor`], the quotient rounded down, or `None` if [`div_rem`] does.
@@ -35,7 +39,11 @@ pub fn div_floor<T: Fits>(x: T, y: T) -> Option<T>
         result }
     ensures positive { pos 0 <ℤ T.value y → IsSome result }
 {
-    x.quotient_fits(&y).then(|| x.div_floor(&y))
+    if x.quotient_fits(&y) {
+        Some(x.div_floor(&y))
+    } else {
+        None
+    }
 }
 
 /// Returns [`Integer::mod_floor`], the remainder of the quotient rounded down, or `None` if `y` is 0.
@@ -48,7 +56,11 @@ pub fn mod_floor<T: Fits>(x: T, y: T) -> Option<T>
         (λ r. T.fits (T.value r) × IsRemainder IsFloored (T.value x) (T.value y) (T.value r))
         result }
 {
-    (!is_zero(y)).then(|| x.mod_floor(&y))
+    if is_zero(y) {
+        None
+    } else {
+        Some(x.mod_floor(&y))
+    }
 }
 
 /// Returns [`Integer::div_mod_floor`], the quotient rounded down and its remainder, or `None` if
@@ -64,7 +76,11 @@ pub fn div_mod_floor<T: Fits>(x: T, y: T) -> Option<(T, T)>
         result }
     ensures positive { pos 0 <ℤ T.value y → IsSome result }
 {
-    x.quotient_fits(&y).then(|| x.div_mod_floor(&y))
+    if x.quotient_fits(&y) {
+        Some(x.div_mod_floor(&y))
+    } else {
+        None
+    }
 }
 
 /// Returns [`Integer::div_ceil`], the quotient rounded up, or `None` if [`div_rem`] does. `div_ceil(8, 3)`
@@ -78,7 +94,11 @@ pub fn div_ceil<T: Fits>(x: T, y: T) -> Option<T>
         result }
     ensures positive { pos 0 <ℤ T.value y → IsSome result }
 {
-    x.quotient_fits(&y).then(|| x.div_ceil(&y))
+    if x.quotient_fits(&y) {
+        Some(x.div_ceil(&y))
+    } else {
+        None
+    }
 }
 
 /// Returns [`Integer::next_multiple_of`], the quotient rounded up, times `y`, or `None` if `y` is 0 or the
@@ -92,7 +112,11 @@ pub fn next_multiple_of<T: Fits>(x: T, y: T) -> Option<T>
         (λ m. T.fits (T.value m) × IsMultiple IsCeiled (T.value x) (T.value y) (T.value m))
         result }
 {
-    x.next_multiple_fits(&y).then(|| x.next_multiple_of(&y))
+    if x.next_multiple_fits(&y) {
+        Some(x.next_multiple_of(&y))
+    } else {
+        None
+    }
 }
 
 /// Returns [`Integer::prev_multiple_of`], the quotient rounded down, times `y`, or `None` if `y` is 0 or
@@ -106,5 +130,9 @@ pub fn prev_multiple_of<T: Fits>(x: T, y: T) -> Option<T>
         (λ m. T.fits (T.value m) × IsMultiple IsFloored (T.value x) (T.value y) (T.value m))
         result }
 {
-    x.prev_multiple_fits(&y).then(|| x.prev_multiple_of(&y))
+    if x.prev_multiple_fits(&y) {
+        Some(x.prev_multiple_of(&y))
+    } else {
+        None
+    }
 }

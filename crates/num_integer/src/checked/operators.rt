@@ -16,7 +16,11 @@ pub fn sum<T: Fits>(a: T, b: T) -> Option<T>
         (λ r. T.fits (T.value r) × (T.value r ≡ T.value a +ℤ T.value b))
         result }
 {
-    a.sum_fits(&b).then(|| operators::sum(a, b))
+    if a.sum_fits(&b) {
+        Some(operators::sum(a, b))
+    } else {
+        None
+    }
 }
 
 /// Returns `a - b`, or `None` if it does not fit. `difference(2, 3)` is `Some(-1)`, and
@@ -29,7 +33,11 @@ pub fn difference<T: Fits>(a: T, b: T) -> Option<T>
         (λ r. T.fits (T.value r) × (T.value r ≡ T.value a -ℤ T.value b))
         result }
 {
-    a.difference_fits(&b).then(|| operators::difference(a, b))
+    if a.difference_fits(&b) {
+        Some(operators::difference(a, b))
+    } else {
+        None
+    }
 }
 
 /// Returns `a * b`, or `None` if it does not fit. `product(15u8, 17)` is `Some(255)`, and
@@ -42,7 +50,11 @@ pub fn product<T: Fits>(a: T, b: T) -> Option<T>
         (λ r. T.fits (T.value r) × (T.value r ≡ T.value a *ℤ T.value b))
         result }
 {
-    a.product_fits(&b).then(|| operators::product(a, b))
+    if a.product_fits(&b) {
+        Some(operators::product(a, b))
+    } else {
+        None
+    }
 }
 
 /// Returns `-a`, or `None` if it does not fit. `negated(7)` is `Some(-7)`, and `negated(7u8)` is

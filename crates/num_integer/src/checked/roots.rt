@@ -32,5 +32,5 @@ pub fn sqrt<T: Roots>(x: T) -> Option<T>
         (λ r. T.fits (T.value r) × IsRoot (T.value x) 2 (T.value r))
         result }
 {
-    (!is_negative(x)).then(|| x.sqrt())
+    if is_negative(x) { None } else { Some(x.sqrt()) }
 }

@@ -1,10 +1,24 @@
 use Rattle.num_integer.proofs.Common.{◌≡◌, ◌+ℤ◌, ◌-ℤ◌, ℤ, pos, arith, ap, sym, ◌∙◌, iff_false, linear}
+use Rattle.num_integer.proofs.FittingAnswers.{fits_below}
 use Rattle.num_integer.proofs.Pascal.{coefficient-zero}
 use Rattle.num_integer.proofs.rows.item_at.Goals as goal
 
 -- the place after the one before is the place
 back : (k : ℤ) → k -ℤ pos 1 +ℤ pos 1 ≡ k
 back k = omega (arith, linear)
+
+pub predecessor-requires-clause-difference_fits : goal.predecessor-requires-clause-difference_fits
+predecessor-requires-clause-difference_fits g c =
+    let nonzero = iff_false c.is_zero.ensures c.if-is_zero.false in
+    fits_below g.met.T.Integer.range_law c.requires.in_range.1 (omega (arith, linear, c.requires.k_from_zero)) (omega (arith, linear))
+
+pub next_coefficient-requires-clause-k_from_zero : goal.next_coefficient-requires-clause-k_from_zero
+next_coefficient-requires-clause-k_from_zero g c =
+    let nonzero = iff_false c.is_zero.ensures c.if-is_zero.false in
+    rw c.predecessor.ensures.value (omega (arith, linear, c.requires.k_from_zero))
+
+pub next_coefficient-requires-clause-k_below : goal.next_coefficient-requires-clause-k_below
+next_coefficient-requires-clause-k_below g c = rw c.predecessor.ensures.value (omega (arith, linear, c.requires.k_within))
 
 pub next_coefficient-requires-clause-current : goal.next_coefficient-requires-clause-current
 next_coefficient-requires-clause-current g c =
