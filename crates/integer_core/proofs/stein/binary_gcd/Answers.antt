@@ -15,7 +15,10 @@ from_magnitude-requires g c =
     let all = counted_by_magnitudes c.magnitude.ensures.value c.magnitude-2.ensures.value c.has_smallest.ensures counted.greatest counted.at_once counted.by_turns counted.bound in
     (gcd_fits_is g.met.T.Native.native_law.range c.requires.in_range.0 c.requires.in_range.1).0 c.requires.gcd_fits _ all.greatest
 
-pub returns-clause-gcd : goal.returns-clause-gcd
-returns-clause-gcd g c =
+pub returns : goal.returns
+returns g c =
     let counted = c.gcd_of_magnitudes-gcd.ensures in
-    rw c.from_magnitude.ensures.value (counted_by_magnitudes c.magnitude.ensures.value c.magnitude-2.ensures.value c.has_smallest.ensures counted.greatest counted.at_once counted.by_turns counted.bound)
+    record {
+      in_range = c.from_magnitude.ensures.in_range;
+      gcd = rw c.from_magnitude.ensures.value (counted_by_magnitudes c.magnitude.ensures.value c.magnitude-2.ensures.value c.has_smallest.ensures counted.greatest counted.at_once counted.by_turns counted.bound);
+    }

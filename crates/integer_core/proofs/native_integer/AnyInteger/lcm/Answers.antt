@@ -9,5 +9,8 @@ gcd_lcm_of_magnitudes-requires-clause-lcm_fits g c l h =
 pub from_magnitude-requires : goal.from_magnitude-requires
 from_magnitude-requires g c = c.requires.lcm_fits _ (lcm-magnitudes c.magnitude.ensures.value c.magnitude-2.ensures.value c.gcd_lcm_of_magnitudes.ensures.least)
 
-pub returns-clause-least : goal.returns-clause-least
-returns-clause-least g c = rw c.from_magnitude.ensures.value (lcm-magnitudes c.magnitude.ensures.value c.magnitude-2.ensures.value c.gcd_lcm_of_magnitudes.ensures.least)
+pub returns : goal.returns
+returns g c = record {
+  in_range = c.from_magnitude.ensures.in_range;
+  least = rw c.from_magnitude.ensures.value (lcm-magnitudes c.magnitude.ensures.value c.magnitude-2.ensures.value c.gcd_lcm_of_magnitudes.ensures.least);
+}
