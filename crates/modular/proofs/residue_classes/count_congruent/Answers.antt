@@ -1,7 +1,10 @@
 use Rattle.modular.proofs.Common.{iff_false}
 use Rattle.modular.proofs.NextCongruent.{found_or_beyond}
-use Rattle.modular.proofs.Counts.{count_from_zero, counted_by_times, one_more_too_large}
+use Rattle.modular.proofs.Counts.{count_from_zero, counted_by_times, none_in_range, one_more_too_large}
 use Rattle.modular.proofs.residue_classes.count_congruent.Goals as goal
+
+pub returns-then-is_below-clause-count : goal.returns-then-is_below-clause-count
+returns-then-is_below-clause-count g c = (c.zero.ensures.in_range, none_in_range (c.is_below.ensures.0 c.if-is_below.true) c.zero.ensures.value)
 
 pub returns-in_err-before-clause-count : goal.returns-in_err-before-clause-count
 returns-in_err-before-clause-count g c =
