@@ -7,7 +7,7 @@ pub use Rattle.applied.specs.Paging.{IsEvenCut, IsPlace, IsRangeOfPage, IsRangeO
 pub use Rattle.applied.specs.Powers.{IsLogarithm}
 pub use Rattle.applied.specs.Ranking.{IsBefore, IsChoice, IsChoiceOfRank, IsFirstToRise, IsLastChoice, rank_of}
 pub use Rattle.applied.specs.ReducedPairs.{HasSignOf, IsReducedPair}
-pub use Rattle.applied.specs.Rounding.{AnswersQuotient, IsDown, IsNearer, IsNearest, IsNearestEven, LiesWithin}
+pub use Rattle.applied.specs.Rounding.{IsDown, IsNearer, IsNearest, IsNearestEven, LiesWithin}
 pub use Rattle.applied.specs.Schedules.{HaveBegun, IsLeastTime, IsMeeting, IsMeetingOfEach}
 pub use Rattle.applied.specs.Shares.{AreShares, AreSignedShares, IsNearShare, signed_sum}
 pub use Rattle.modular.proofs.Congruences.{congruent-difference, congruent-product, congruent-refl, congruent-sum, congruent-trans}
