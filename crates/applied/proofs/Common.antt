@@ -27,6 +27,7 @@ pub use Rattle.num_integer.specs.Only.{IsOnly}
 pub use Rattle.num_integer.specs.Range.{EachFits, IsRange}
 pub use Rattle.num_integer.specs.RootOf.{IsFloorRoot, IsRoot}
 pub use Rattle.std.proofs.Common.{add-one, ap, append_assoc, arith, div-lt_iff_lt-mul, div-one, inl, inr, le-div_iff_mul-le, le_refl, one-add, pow-suc, pow_mono, refl, rules, set, subst, sym, ◌∙◌}
+pub use Rattle.std.proofs.lemmas.Bool.{false≢true}
 pub use Rattle.std.proofs.Math.Nat.{div-div-eq-div-mul, eq_of_mul-eq-mul_left, one-le-pow, pow-le-pow_left, pow-le-pow_right, pow-succ', pow-zero}
 pub use Rattle.std.proofs.Math.Seq.{take-suc}
 pub use Rattle.std.proofs.lemmas.Bool.{cases_lt, iff_false}

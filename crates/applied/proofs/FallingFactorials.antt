@@ -67,9 +67,6 @@ falling_of_none n k up less = ap pos (falling_none (unsigned_abs n) (unsigned_ab
 pub others_fit : {fits : ℤ → Type 0} {low high n k : ℤ} → IsRange fits low high → fits n → pos 0 ≤ℤ k → k ≤ℤ n → fits (n -ℤ k)
 others_fit range n_fits k_up within = fits_below range n_fits (omega (arith, linear)) (omega (arith, linear))
 
--- what goals about the two calls need
-pub ruleset falling_steps = (linear, factorial_is, falling_is, falling_of_none)
-
 -- ---- the loop
 
 -- The product of the numbers above low up to factor. The last of them is to be high.

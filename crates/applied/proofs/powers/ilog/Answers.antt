@@ -1,7 +1,16 @@
 -- Each iteration divides the rest by the base. When the rest is below the base, the number of divisions is the logarithm.
 use Rattle.applied.proofs.Common.{arith, from_test, linear, operator_quotient_fits}
-use Rattle.applied.proofs.PowersAndRoots.{divided_last, divided_next, few_divisions}
+use Rattle.applied.proofs.PowersAndRoots.{base_is_other, divided_first, divided_last, divided_next, divided_smaller, few_divisions}
 use Rattle.applied.proofs.powers.ilog.Goals as goal
+
+pub loop-base-init : goal.loop-base-init
+loop-base-init g c = record { in_range = c.requires.in_range.0; divided = divided_first _ _ c.requires.positive }
+
+pub loop-base-smaller : goal.loop-base-smaller
+loop-base-smaller g c = rw c.quotient-rest.ensures.value (divided_smaller _ _ c.requires.base c.loop-base.invariant.divided.positive)
+
+pub quotient-rest-requires-clause-nonzero : goal.quotient-rest-requires-clause-nonzero
+quotient-rest-requires-clause-nonzero g c = base_is_other c.requires.base
 
 pub quotient-rest-requires-clause-quotient_fits : goal.quotient-rest-requires-clause-quotient_fits
 quotient-rest-requires-clause-quotient_fits g c =

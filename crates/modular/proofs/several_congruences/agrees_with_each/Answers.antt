@@ -1,4 +1,4 @@
-use Rattle.modular.proofs.Common.{refl, iff_false, All-nil, gcd_with_positive_fits}
+use Rattle.modular.proofs.Common.{refl, false≢true, iff_false, All-nil, gcd_with_positive_fits}
 use Rattle.modular.proofs.Congruences.{gcd_with_modulus_positive}
 use Rattle.modular.proofs.Agreements.{AgreesAt, agree_at_gcd, pair_at}
 use Rattle.modular.proofs.ListedItems.{all_items, at_item, one_item_more}
@@ -24,7 +24,7 @@ are_congruent-requires g c =
 
 pub returns-then-not-are_congruent : goal.returns-then-not-are_congruent
 returns-then-not-are_congruent g c = (
-  (λ h. absurd (cc)),
+  (λ h. absurd (false≢true h)),
   (λ each.
       let here = at_item (AgreesAt g.T.Number.value _ _) _ _ c.other-item.is c.loop-other-test.true each in
       absurd (iff_false c.are_congruent.ensures c.if-not-are_congruent.true (here.congruent _ c.gcd.ensures.greatest))),

@@ -1,4 +1,4 @@
-use Rattle.modular.proofs.Common.{refl, iff_false, All-nil}
+use Rattle.modular.proofs.Common.{refl, false≢true, iff_false, All-nil}
 use Rattle.modular.proofs.Agreements.{SolvesAt, pair_at}
 use Rattle.modular.proofs.ListedItems.{all_items, at_item, one_item_more}
 use Rattle.modular.proofs.several_congruences.solves_each.Goals as goal
@@ -13,7 +13,7 @@ are_congruent-requires g c =
 
 pub returns-then-not-are_congruent : goal.returns-then-not-are_congruent
 returns-then-not-are_congruent g c = (
-  (λ h. absurd (cc)),
+  (λ h. absurd (false≢true h)),
   (λ each. absurd (iff_false c.are_congruent.ensures c.if-not-are_congruent.true (at_item (SolvesAt g.T.Number.value _) _ _ c.congruence-item.is c.loop-congruence-test.true each))),
 )
 
