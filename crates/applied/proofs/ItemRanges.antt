@@ -1,9 +1,13 @@
 -- Items and their places, the items of a page, and items cut into parts whose sizes differ by at most 1.
-use Rattle.std.specs.Prelude.{◌≡◌, ◌≤ℤ◌, ◌<ℤ◌, ◌+ℤ◌, ◌-ℤ◌, ◌*ℤ◌}
+use Rattle.std.specs.Prelude.{◌≡◌, ◌≢◌, ◌≤ℤ◌, ◌<ℤ◌, ◌+ℤ◌, ◌-ℤ◌, ◌*ℤ◌}
 use Rattle.num_integer.proofs.ForCallers.{answers_only}
 use Rattle.applied.proofs.Common.{AnswersWhere, EachFits, Has, IfSome, None, Option, Some, ℤ, pos, arith, inl, inr, refl, IsOnly, IsRange, expand, linear, product_from_zero, products, within_fits, IsPlace, by_lt_z, IsFloored, floored_range, multiples_apart, IsRangeOfPage, only_ceiled, ℕ, negsuc, zero, suc, ◌∙◌, ap, sym, clamps, ceiled_by_range, comm, fits_below, product_at_most, IsEvenCut, IsRangeOfPart, cut_at}
 
 -- ---- what fits
+
+-- a positive divisor is not 0
+pub positive_is_other : {d : ℤ} → pos 0 <ℤ d → d ≢ pos 0
+positive_is_other up none = omega (arith, linear)
 
 -- the end of a page, and how far the item is before it
 pub item_before : (p q s : ℤ) → (p +ℤ pos 1) *ℤ s +ℤ (q -ℤ s) ≡ p *ℤ s +ℤ q
