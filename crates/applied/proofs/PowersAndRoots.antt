@@ -134,5 +134,7 @@ rest_of_square_fits range x_fits up root is =
     let square = square_rest up root in
     within_fits range x_fits (inl (omega (arith, linear), omega (arith, linear)))
 
--- what the goals about a root and what is left need
-pub ruleset square_rests = (linear, square_rest)
+pub rest_of_square : {x r p d : ℤ} → pos 0 ≤ℤ x → IsRoot x 2 r → p ≡ r *ℤ r → d ≡ x -ℤ p → (x ≡ r *ℤ r +ℤ d) × (pos 0 ≤ℤ d) × (d ≤ℤ (r +ℤ r))
+rest_of_square up root square_is is =
+    let square = square_rest up root in
+    (omega (arith, linear), omega (arith, linear), omega (arith, linear))

@@ -57,7 +57,6 @@ pub fn is_perfect_power(n: u64) -> bool
 /// `sqrt_rem(99)` is `(9, 18)`, and `sqrt_rem(81)` is `(9, 0)`.
 ///
 /// May be called if `n` is not negative; [`checked::sqrt_rem`] has no condition.
-#[tactic(auto, using(crate::proofs::PowersAndRoots::square_rests))]
 pub fn sqrt_rem<T: Roots>(n: T) -> (T, T)
     requires in_range { T.fits (T.value n) }
     requires from_zero { pos 0 ≤ℤ T.value n }
