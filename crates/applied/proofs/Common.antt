@@ -7,7 +7,7 @@ pub use Rattle.applied.specs.Paging.{IsEvenCut, IsPlace, IsRangeOfPage, IsRangeO
 pub use Rattle.applied.specs.Powers.{IsLogarithm}
 pub use Rattle.applied.specs.Ranking.{IsBefore, IsChoice, IsChoiceOfRank, IsFirstToRise, IsLastChoice, rank_of}
 pub use Rattle.applied.specs.ReducedPairs.{HasSignOf, IsReducedPair}
-pub use Rattle.applied.specs.Rounding.{AnswersQuotient, IsDown, IsNearer, IsNearest, IsNearestEven, LiesWithin}
+pub use Rattle.applied.specs.Rounding.{IsDown, IsNearer, IsNearest, IsNearestEven, LiesWithin}
 pub use Rattle.applied.specs.Schedules.{HaveBegun, IsLeastTime, IsMeeting, IsMeetingOfEach}
 pub use Rattle.applied.specs.Shares.{AreShares, AreSignedShares, IsNearShare, signed_sum}
 pub use Rattle.modular.proofs.Congruences.{congruent-difference, congruent-product, congruent-refl, congruent-sum, congruent-trans}
@@ -27,6 +27,7 @@ pub use Rattle.num_integer.specs.Only.{IsOnly}
 pub use Rattle.num_integer.specs.Range.{EachFits, IsRange}
 pub use Rattle.num_integer.specs.RootOf.{IsFloorRoot, IsRoot}
 pub use Rattle.std.proofs.Common.{add-one, ap, append_assoc, arith, div-lt_iff_lt-mul, div-one, inl, inr, le-div_iff_mul-le, le_refl, one-add, pow-suc, pow_mono, refl, rules, set, subst, sym, ◌∙◌}
+pub use Rattle.std.proofs.lemmas.Bool.{false≢true}
 pub use Rattle.std.proofs.Math.Nat.{div-div-eq-div-mul, eq_of_mul-eq-mul_left, one-le-pow, pow-le-pow_left, pow-le-pow_right, pow-succ', pow-zero}
 pub use Rattle.std.proofs.Math.Seq.{take-suc}
 pub use Rattle.std.proofs.lemmas.Bool.{cases_lt, iff_false}

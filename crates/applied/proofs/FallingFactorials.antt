@@ -64,8 +64,8 @@ falling_is n k low e =
 pub falling_of_none : (n k : ℤ) → pos 0 ≤ℤ n → n <ℤ k → falling_of n k ≡ pos 0
 falling_of_none n k up less = ap pos (falling_none (unsigned_abs n) (unsigned_abs k) (omega (arith, sizes)))
 
--- what goals about the two calls need
-pub ruleset falling_steps = (linear, factorial_is, falling_is, falling_of_none)
+pub others_fit : {fits : ℤ → Type 0} {low high n k : ℤ} → IsRange fits low high → fits n → pos 0 ≤ℤ k → k ≤ℤ n → fits (n -ℤ k)
+others_fit range n_fits k_up within = fits_below range n_fits (omega (arith, linear)) (omega (arith, linear))
 
 -- ---- the loop
 
@@ -96,6 +96,9 @@ module _ {fits : ℤ → Type 0} {low high : ℤ} where
         let next : factor +ℤ pos 1 ≡ pos (suc (unsigned_abs low + h.count)) = omega (arith, sizes, h.at) in
         let e : unsigned_abs low + suc h.count ≡ suc (unsigned_abs low + h.count) = omega arith in
         rw (h.is, next, e, falling-suc (unsigned_abs low + h.count) h.count) (omega (arith, ints))
+
+    pub next_factor_fits : {least most : ℤ} → factor <ℤ high → IsRange fits least most → fits high → fits (factor +ℤ pos 1)
+    next_factor_fits more range high_fits = fits_below range high_fits (omega (arith, linear, h.at)) (omega (arith, linear))
 
     -- the next product fits if the last one does
     pub next_product_fits : {least most : ℤ} → factor <ℤ high → IsRange fits least most → fits (falling_of high (high -ℤ low))

@@ -1,13 +1,24 @@
 -- Items and their places, the items of a page, and items cut into parts whose sizes differ by at most 1.
-use Rattle.std.specs.Prelude.{◌≡◌, ◌≤ℤ◌, ◌<ℤ◌, ◌+ℤ◌, ◌-ℤ◌, ◌*ℤ◌}
+use Rattle.std.specs.Prelude.{◌≡◌, ◌≢◌, ◌≤ℤ◌, ◌<ℤ◌, ◌+ℤ◌, ◌-ℤ◌, ◌*ℤ◌}
 use Rattle.num_integer.proofs.ForCallers.{answers_only}
 use Rattle.applied.proofs.Common.{AnswersWhere, EachFits, Has, IfSome, None, Option, Some, ℤ, pos, arith, inl, inr, refl, IsOnly, IsRange, expand, linear, product_from_zero, products, within_fits, IsPlace, by_lt_z, IsFloored, floored_range, multiples_apart, IsRangeOfPage, only_ceiled, ℕ, negsuc, zero, suc, ◌∙◌, ap, sym, clamps, ceiled_by_range, comm, fits_below, product_at_most, IsEvenCut, IsRangeOfPart, cut_at}
 
 -- ---- what fits
 
+-- a positive divisor is not 0
+pub positive_is_other : {d : ℤ} → pos 0 <ℤ d → d ≢ pos 0
+positive_is_other up none = omega (arith, linear)
+
 -- the end of a page, and how far the item is before it
 pub item_before : (p q s : ℤ) → (p +ℤ pos 1) *ℤ s +ℤ (q -ℤ s) ≡ p *ℤ s +ℤ q
 item_before p q s = simp expand (omega (arith, products))
+
+-- the first item of a page, and how far the item is from it
+pub item_after : (p q s : ℤ) {first : ℤ} → first ≡ p *ℤ s → first +ℤ q ≡ p *ℤ s +ℤ q
+item_after p q s is = ap (λ (t : ℤ). t +ℤ q) is
+
+pub next_page_fits : {fits : ℤ → Type 0} {low high p : ℤ} → IsRange fits low high → fits p → p <ℤ pos 0 → fits (p +ℤ pos 1)
+next_page_fits range page_fits before = within_fits range page_fits (inr (omega (arith, linear), omega (arith, linear)))
 
 -- at a type that has a page before page 0, how far a place is before the end of its page fits
 pub rest_fits : {fits : ℤ → Type 0} {low high p q s : ℤ} → IsRange fits low high → fits p → fits s → p <ℤ pos 0 → pos 0 ≤ℤ q → q <ℤ s → fits (q -ℤ s)
@@ -77,24 +88,40 @@ none_after {page} {size} {full = full} up from_zero division after =
     page_range_is from_zero (omega (arith, linear)) (omega (arith, linear)) (λ item h k. absurd (omega (arith, linear))) (λ item h k l m. absurd (omega (arith, linear))) (λ _. refl)
 
 -- any other page begins within the items
+pub record BeginsIn (page size items : ℤ) : Type 0 where
+  pub from_zero : pos 0 ≤ℤ (page *ℤ size)
+  pub to_items : (page *ℤ size) ≤ℤ items
+
 pub begins_in : {page size items full rest : ℤ} → pos 0 <ℤ size → IsFloored items size full rest → pos 0 ≤ℤ page → page ≤ℤ full
-    → (pos 0 ≤ℤ (page *ℤ size)) × ((page *ℤ size) ≤ℤ items)
+    → BeginsIn page size items
 begins_in {page} {size} {full = full} up division from_zero to_full =
     let below = floored_range up division in
     let most = product_at_most {v = size} {y = size} from_zero to_full (omega (arith, linear)) (omega (arith, linear)) in
-    (product_from_zero page size from_zero (omega (arith, linear)), omega (arith, linear, division.division.equation))
+    record { from_zero = product_from_zero page size from_zero (omega (arith, linear)); to_items = omega (arith, linear, division.division.equation) }
+
+-- what is left of the items from it on fits, and so does its end, if that many are left
+pub left_fits : {fits : ℤ → Type 0} {low high page size items first : ℤ} → IsRange fits low high → fits items → BeginsIn page size items → first ≡ page *ℤ size → fits (items -ℤ first)
+left_fits range items_fit within is = fits_below range items_fit (omega (arith, linear, within.to_items)) (omega (arith, linear, within.from_zero))
+
+pub page_end_fits : {fits : ℤ → Type 0} {low high page size items first left : ℤ} → IsRange fits low high → fits items → pos 0 <ℤ size → BeginsIn page size items
+    → first ≡ page *ℤ size → left ≡ items -ℤ first → size ≤ℤ left → fits (first +ℤ size)
+page_end_fits range items_fit up within is left_is enough = fits_below range items_fit (omega (arith, linear, within.from_zero)) (omega (arith, linear))
 
 -- it ends with the items, or has all its items
-pub short_page : (page size : ℤ) {items : ℤ} → (pos 0 ≤ℤ (page *ℤ size)) × ((page *ℤ size) ≤ℤ items) → items <ℤ (page *ℤ size +ℤ size)
-    → IsRangeOfPage page size items (page *ℤ size) items
-short_page page size within short = page_range_is within.0 within.1 (omega (arith, linear))
-    (λ item h k. (omega (arith, linear, within.0), h, omega (arith, linear))) (λ item h k l m. (l, k))
-    (λ none. omega (arith, linear, within.1))
+pub short_page : {page size items first left : ℤ} → BeginsIn page size items → first ≡ page *ℤ size → left ≡ items -ℤ first → left <ℤ size
+    → IsRangeOfPage page size items first items
+short_page {page} {size} {items} within is left_is less =
+    let short : items <ℤ (page *ℤ size +ℤ size) = omega (arith, linear) in
+    rw is (page_range_is within.from_zero within.to_items (omega (arith, linear))
+    (λ item h k. (omega (arith, linear, within.from_zero), h, omega (arith, linear))) (λ item h k l m. (l, k))
+    (λ none. omega (arith, linear, within.to_items)))
 
-pub whole_page : (page size : ℤ) {items : ℤ} → pos 0 <ℤ size → (pos 0 ≤ℤ (page *ℤ size)) × ((page *ℤ size) ≤ℤ items)
-    → (page *ℤ size +ℤ size) ≤ℤ items → IsRangeOfPage page size items (page *ℤ size) (page *ℤ size +ℤ size)
-whole_page page size up within whole = page_range_is within.0 (omega (arith, linear)) whole
-    (λ item h k. (omega (arith, linear, within.0), h, k)) (λ item h k l m. (l, m)) (λ none. absurd (omega (arith, linear)))
+pub whole_page : {page size items first left end : ℤ} → pos 0 <ℤ size → BeginsIn page size items → first ≡ page *ℤ size → left ≡ items -ℤ first → size ≤ℤ left
+    → end ≡ first +ℤ size → IsRangeOfPage page size items first end
+whole_page {page} {size} {items} up within is left_is enough end_is =
+    let whole : (page *ℤ size +ℤ size) ≤ℤ items = omega (arith, linear) in
+    rw (end_is, is) (page_range_is within.from_zero (omega (arith, linear)) whole
+    (λ item h k. (omega (arith, linear, within.from_zero), h, k)) (λ item h k l m. (l, m)) (λ none. absurd (omega (arith, linear))))
 
 -- a range that is not empty lies within each other of the same page
 lies_within : {page size items first end f e : ℤ} → IsRangeOfPage page size items first end → IsRangeOfPage page size items f e → first <ℤ end → (f ≤ℤ first) × (end ≤ℤ e)
@@ -145,11 +172,30 @@ cut_within {parts} {items} {size} {longer} {part} up from_zero division part_up 
     let most = product_at_most {u = part} {v = size} {x = parts} {y = size} part_up within size_up (omega (arith, linear)) in
     (begins, omega (arith, linear, clamps), omega (arith, linear, clamps, comm parts size))
 
-pub start_fits : {fits : ℤ → Type 0} {low high parts items size longer part : ℤ} → IsRange fits low high → fits items → pos 0 <ℤ parts → pos 0 ≤ℤ items → IsFloored items parts size longer → pos 0 ≤ℤ part → part ≤ℤ parts
+pub parts_positive : {part parts : ℤ} → pos 0 ≤ℤ part → part <ℤ parts → pos 0 <ℤ parts
+parts_positive part_up within = omega (arith, linear)
+
+start_fits : {fits : ℤ → Type 0} {low high parts items size longer part : ℤ} → IsRange fits low high → fits items → pos 0 <ℤ parts → pos 0 ≤ℤ items → IsFloored items parts size longer → pos 0 ≤ℤ part → part ≤ℤ parts
     → fits (part *ℤ size) × fits (cut_at size longer part)
 start_fits range items_fit up from_zero division part_up within =
     let start = cut_within up from_zero division part_up within in
     (fits_below range items_fit start.0 (omega (arith, linear, start.1, start.2)), fits_below range items_fit (omega (arith, linear, start.0, start.1)) start.2)
+
+-- both ends of a part fit, and so does the number of the next part
+pub record PartFits (fits : ℤ → Type 0) (size longer part : ℤ) : Type 0 where
+  pub first : fits (part *ℤ size) × fits (cut_at size longer part)
+  pub next_part : fits (part +ℤ pos 1)
+  pub next : fits ((part +ℤ pos 1) *ℤ size) × fits (cut_at size longer (part +ℤ pos 1))
+
+pub part_fits : {fits : ℤ → Type 0} {low high parts items size longer part : ℤ} → IsRange fits low high → fits parts → fits items → pos 0 ≤ℤ items → IsFloored items parts size longer → pos 0 ≤ℤ part → part <ℤ parts
+    → PartFits fits size longer part
+part_fits range parts_fit items_fit from_zero division part_up within =
+    let up = parts_positive part_up within in
+    record {
+      first = start_fits range items_fit up from_zero division part_up (omega (arith, linear));
+      next_part = fits_below range parts_fit (omega (arith, linear)) (omega (arith, linear));
+      next = start_fits range items_fit up from_zero division (omega (arith, linear)) (omega (arith, linear));
+    }
 
 pub part_range : {parts items size longer part : ℤ} → pos 0 ≤ℤ items → IsFloored items parts size longer → pos 0 ≤ℤ part → part <ℤ parts
     → IsRangeOfPart part parts items (cut_at size longer part) (cut_at size longer (part +ℤ pos 1))

@@ -1,6 +1,6 @@
 -- Quotients rounded to the nearest integer: from those rounded down, the only ones, and when they fit.
-use Rattle.std.specs.Prelude.{◌≡◌, ◌≢◌, ◌⊎◌, ◌↔◌, ◌<◌, ◌≤◌, ◌≤ℤ◌, ◌+◌, ◌*◌, ◌<ℤ◌, ◌+ℤ◌, ◌-ℤ◌, ◌*ℤ◌}
-use Rattle.applied.proofs.Common.{ℤ, Bool, IfSome, IsTrue, None, Option, Some, is_some, AnswersQuotient, Has, pos, neg_ℤ, unsigned_abs, ap, arith, inl, inr, le_refl, refl, subst, sym, cases_lt, by_lt_z, unsigned_abs-mul, mul-le, IsDivision, IsFloored, IsQuotient, IsEven, EachFits, IsRange, divides_or_not, expand, from_not_less, linear, other_quotient_fits, products, sizes, zero_or_not, division_exists, NearestEvenQuotientIsOnly, NearestQuotientExists, NearestQuotientFitsExactly, NearestQuotientIsOnly, NoIntegerIsNearer, IsDown, IsNearer, IsNearest, IsNearestEven, LiesWithin}
+use Rattle.std.specs.Prelude.{◌≡◌, ◌⊎◌, ◌↔◌, ◌<◌, ◌≤◌, ◌≤ℤ◌, ◌+◌, ◌*◌, ◌<ℤ◌, ◌+ℤ◌, ◌-ℤ◌, ◌*ℤ◌}
+use Rattle.applied.proofs.Common.{ℤ, pos, neg_ℤ, unsigned_abs, ap, arith, inl, inr, le_refl, refl, subst, cases_lt, by_lt_z, unsigned_abs-mul, mul-le, IsDivision, IsFloored, IsQuotient, IsEven, EachFits, IsRange, divides_or_not, expand, from_not_less, linear, other_quotient_fits, products, sizes, zero_or_not, division_exists, NearestEvenQuotientIsOnly, NearestQuotientExists, NearestQuotientFitsExactly, NearestQuotientIsOnly, NoIntegerIsNearer, IsDown, IsNearer, IsNearest, IsNearestEven, LiesWithin}
 
 next_product : (q d : ℤ) → (q +ℤ pos 1) *ℤ d ≡ q *ℤ d +ℤ d
 next_product q d = simp expand (omega (arith, products))
@@ -191,9 +191,3 @@ nearest_quotient_fits_exactly fits = λ low high n d range n_fits d_fits. (
   same_fit range n_fits d_fits IsNearestEven (λ q r h. h.division)
       (λ q k. record { division = k; nearest = omega (arith, sizes); tie = λ half. absurd (omega (arith, sizes, k.small)) }),
 )
-
--- the result of a call that tests whether the quotient rounded down fits, and then returns a quotient of a kind that fits where that one does
-pub tested_quotient : {X : Type 0} (value : X → ℤ) {fits : ℤ → Type 0} {Kind : ℤ → ℤ → ℤ → ℤ → Type 0} {n d : ℤ} {Returned : X → Type 0} {test : Bool} → EachFits fits (IsQuotient IsFloored n d) ↔ EachFits fits (IsQuotient Kind n d)
-    → IsTrue test ↔ ((d ≢ pos 0) × EachFits fits (IsQuotient IsFloored n d)) → (r : Option X) → is_some r ≡ test → IfSome r Returned → ((q : X) → Returned q → Has fits value (IsQuotient Kind n d) q) → AnswersQuotient Kind fits value n d r
-tested_quotient value same test None is some returns = λ domain. let t = test.1 (domain.0, same.1 domain.1) in absurd cc
-tested_quotient value same test (Some q) is some returns = let domain = test.0 (sym is) in ((domain.0, same.0 domain.1), returns q some)

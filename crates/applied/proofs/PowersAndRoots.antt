@@ -1,10 +1,13 @@
 -- Powers and their roots, the integer logarithm by division, and what is left of a square root.
-use Rattle.std.specs.Prelude.{◌≡◌, ◌≢◌, ◌⊎◌, ◌^◌, ◌≤◌, ◌<◌, ◌≤ℤ◌, ◌*ℤ◌, ◌+◌, ◌*◌, ◌/◌, ◌<ℤ◌, ◌+ℤ◌}
-use Rattle.applied.proofs.Common.{ℕ, ℤ, pos, negsuc, neg_ℤ, suc, zero, unsigned_abs, int_pow, arith, ap, inl, inr, refl, subst, sym, pow_mono, ◌∙◌, pow-le-pow_left, by_lt_z, ints, IsFloorRoot, IsRoot, even_power, exact_power_root, linear, odd_power, power_of_one, power_of_zero, power_size, int_div, add-one, div-one, le_refl, le-div_iff_mul-le, div-lt_iff_lt-mul, pow-suc, div-div-eq-div-mul, one-le-pow, pow-le-pow_right, pow-succ', pow-zero, div_below, le-div, mul-le, IsRange, few_bits, root_by_squares, sizes, LogarithmIsOnly, IsLogarithm}
+use Rattle.std.specs.Prelude.{◌≡◌, ◌≢◌, ◌⊎◌, ◌^◌, ◌≤◌, ◌<◌, ◌≤ℤ◌, ◌*ℤ◌, ◌+◌, ◌*◌, ◌/◌, ◌<ℤ◌, ◌+ℤ◌, ◌-ℤ◌}
+use Rattle.applied.proofs.Common.{ℕ, ℤ, pos, negsuc, neg_ℤ, suc, zero, unsigned_abs, int_pow, arith, ap, inl, inr, refl, subst, sym, pow_mono, ◌∙◌, pow-le-pow_left, by_lt_z, ints, IsFloorRoot, IsRoot, even_power, exact_power_root, linear, odd_power, power_of_one, power_of_zero, power_size, int_div, add-one, div-one, le_refl, le-div_iff_mul-le, div-lt_iff_lt-mul, pow-suc, div-div-eq-div-mul, one-le-pow, pow-le-pow_right, pow-succ', pow-zero, div_below, le-div, mul-le, IsRange, within_fits, few_bits, root_by_squares, sizes, LogarithmIsOnly, IsLogarithm}
 
-pub square_from_zero : (k : ℤ) → pos 0 ≤ℤ (k *ℤ k)
+square_from_zero : (k : ℤ) → pos 0 ≤ℤ (k *ℤ k)
 square_from_zero (pos k) = omega (arith, ints)
 square_from_zero (negsuc k) = omega (arith, ints)
+
+pub no_negative_square : {n : ℤ} (k : ℤ) → n <ℤ pos 0 → ¬ (k *ℤ k ≡ n)
+no_negative_square k below is = let up = square_from_zero k in omega (arith, linear)
 
 -- ---- roots of powers
 
@@ -84,8 +87,8 @@ divided_smaller base rest base_up rest_up =
     rw (natural_quotient rest base rest_up base_up)
     (div_below (unsigned_abs rest) (unsigned_abs base) (unsigned_abs rest) (omega (arith, sizes)) (omega (arith, sizes)))
 
--- what goals about the loop need
-pub ruleset division_steps = (linear, divided_first, divided_next, divided_smaller)
+pub base_is_other : {base : ℤ} → pos 1 <ℤ base → base ≢ pos 0
+base_is_other base_up none = omega (arith, linear)
 
 power_at_most : {base n rest : ℤ} {k : ℕ} → pos 1 <ℤ base → IsDivided base n rest k → unsigned_abs base ^ k ≤ unsigned_abs n
 power_at_most {base} {n} {rest} {k} base_up h =
@@ -126,5 +129,12 @@ square_rest {x = pos a} {r = pos b} up h = let squares = root_by_squares h in (o
 square_rest {x = pos a} {r = negsuc b} up h = absurd (omega (arith, ints, (h.from_zero up).from_zero))
 square_rest {x = negsuc a} {r = r} up h = absurd (omega (arith, ints))
 
--- what the goals about a root and what is left need
-pub ruleset square_rests = (linear, square_rest)
+pub rest_of_square_fits : {fits : ℤ → Type 0} {low high x r p : ℤ} → IsRange fits low high → fits x → pos 0 ≤ℤ x → IsRoot x 2 r → p ≡ r *ℤ r → fits (x -ℤ p)
+rest_of_square_fits range x_fits up root is =
+    let square = square_rest up root in
+    within_fits range x_fits (inl (omega (arith, linear), omega (arith, linear)))
+
+pub rest_of_square : {x r p d : ℤ} → pos 0 ≤ℤ x → IsRoot x 2 r → p ≡ r *ℤ r → d ≡ x -ℤ p → (x ≡ r *ℤ r +ℤ d) × (pos 0 ≤ℤ d) × (d ≤ℤ (r +ℤ r))
+rest_of_square up root square_is is =
+    let square = square_rest up root in
+    (omega (arith, linear), omega (arith, linear), omega (arith, linear))

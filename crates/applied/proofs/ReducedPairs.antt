@@ -90,6 +90,12 @@ sign_of_part {a} {g} {x} up is =
       negative = (λ x_down. omega (arith, linear, product_positive g (neg_ℤ x) up (omega (arith, linear))), λ a_down. omega (arith, linear, factor_positive {m = neg_ℤ a} (omega (arith, linear)) up opposite));
     }
 
+-- two numbers whose gcd is 0 are 0
+pub reduced_of_zero : {a b d : ℤ} → IsGreatestCommonDivisor a b (pos (unsigned_abs d)) → d ≡ pos 0 → IsReducedPair a b a b
+reduced_of_zero {d = d} h none =
+    let zero : pos (unsigned_abs d) ≡ pos 0 = omega (arith, sizes) in
+    reduced_zeros (zero_divides (rw zero at h.divides_left)) (zero_divides (rw zero at h.divides_right))
+
 -- the parts of two numbers by their positive gcd
 pub reduced_by_gcd : {a b g x y : ℤ} → pos 0 <ℤ g → IsGreatestCommonDivisor a b g → a ≡ g *ℤ x → b ≡ g *ℤ y → IsReducedPair a b x y
 reduced_by_gcd {a} {b} {g} {x} {y} up h first second =

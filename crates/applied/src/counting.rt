@@ -12,7 +12,7 @@ use num_integer::operators::{difference, is_below, one, product, successor, zero
 /// a row. `factorial(5)` is `120`, and `factorial(0)` is `1`.
 ///
 /// May be called if `n` is not negative and the factorial fits; [`checked::factorial`] has no condition.
-#[tactic(auto, using(crate::proofs::FallingFactorials::falling_steps))]
+#[tactic(auto, using(num_integer::proofs::ForCallers::linear))]
 pub fn factorial<T: Integer>(n: T) -> T
     requires in_range { T.fits (T.value n) }
     requires from_zero { pos 0 ≤ℤ T.value n }
@@ -27,7 +27,7 @@ pub fn factorial<T: Integer>(n: T) -> T
 /// `k` of `n` things stand in a row. `falling(8, 3)` is `336`, and `falling(2, 3)` is `0`.
 ///
 /// May be called if neither number is negative and the product fits; [`checked::falling`] has no condition.
-#[tactic(auto, using(crate::proofs::FallingFactorials::falling_steps))]
+#[tactic(auto, using(num_integer::proofs::ForCallers::linear))]
 pub fn falling<T: Integer>(n: T, k: T) -> T
     requires in_range { T.fits (T.value n) × T.fits (T.value k) }
     requires n_from_zero { pos 0 ≤ℤ T.value n }

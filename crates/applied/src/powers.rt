@@ -7,13 +7,12 @@ ghost use Rattle.applied.specs.Powers.{IsLogarithm};
 
 pub mod checked;
 
-use num_integer::operators::{difference, is_below, is_negative, product, quotient};
+use num_integer::operators::{difference, is_below, is_equal, is_negative, product, quotient};
 use num_integer::{Integer, Roots, nth_root, sqrt};
 use num_traits::Pow;
 
 /// Returns `true` if the number is the square of an integer. `is_square(144)` is `true`, `is_square(145)` is
 /// `false`, and `is_square(-144)` is `false`.
-#[tactic(auto, using(crate::proofs::PowersAndRoots::square_from_zero))]
 pub fn is_square<T: Roots>(n: T) -> bool
     requires in_range { T.fits (T.value n) }
     ensures { IsTrue result ↔ ((k : ℤ) × (k *ℤ k ≡ T.value n)) }
@@ -22,7 +21,7 @@ pub fn is_square<T: Roots>(n: T) -> bool
         return false;
     }
     let root = sqrt(n);
-    product(root, root) == n
+    is_equal(product(root, root), n)
 }
 
 /// Returns `true` if some integer to the power of `degree` is the number. `is_power(-243, 5)` is `true`, and
@@ -37,7 +36,7 @@ pub fn is_power<T: Roots + Pow<u32, Output = T>>(n: T, degree: u32) -> bool
     if degree % 2 == 0 && is_negative(n) {
         return false;
     }
-    nth_root(n, degree).pow(degree) == n
+    is_equal(nth_root(n, degree).pow(degree), n)
 }
 
 /// Returns `true` if the number is a square, a cube or a higher power of an integer.
@@ -58,7 +57,6 @@ pub fn is_perfect_power(n: u64) -> bool
 /// `sqrt_rem(99)` is `(9, 18)`, and `sqrt_rem(81)` is `(9, 0)`.
 ///
 /// May be called if `n` is not negative; [`checked::sqrt_rem`] has no condition.
-#[tactic(auto, using(crate::proofs::PowersAndRoots::square_rests))]
 pub fn sqrt_rem<T: Roots>(n: T) -> (T, T)
     requires in_range { T.fits (T.value n) }
     requires from_zero { pos 0 ≤ℤ T.value n }
@@ -76,7 +74,6 @@ pub fn sqrt_rem<T: Roots>(n: T) -> (T, T)
 /// most the number. `ilog(1000, 10)` is `3`, `ilog(999, 10)` is `2`, and `ilog(255u8, 2)` is `7`.
 ///
 /// May be called if `number` is at least 1 and `base` at least 2; [`checked::ilog`] has no condition.
-#[tactic(auto, using(crate::proofs::PowersAndRoots::division_steps))]
 pub fn ilog<T: Integer>(number: T, base: T) -> u32
     requires in_range { T.fits (T.value number) × T.fits (T.value base) }
     requires positive { pos 0 <ℤ T.value number }

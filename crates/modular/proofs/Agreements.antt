@@ -159,6 +159,9 @@ module _ {X : Type 0} (value : X → ℤ) where
       let t = least_of_period from (period_of_solutions cs positive solution.1).1 in
       (t.0, t.1, none t.0 t.1.from_there t.1.holds)
 
+pub fewer_pairs : {A : Type 0} {c : A} {cs rest : List A} → rest ≡ c ∷ cs → length cs < length rest
+fewer_pairs split = omega (arith, ap length split)
+
 -- a search that found nothing
 pub nothing_found : {A N : Type 0} (P : A → Type 0) (found : Option A) → ((x : A) → found ≡ Some x → ⊥) → MatchOption found N P → N
 nothing_found P None other none = none
@@ -191,6 +194,9 @@ module _ {Each Both : ℤ → Type 0} {from next : ℤ} (narrows : (x : ℤ) →
   none_at_end value Never range next_fits other h = λ x far has _. h x (narrows x has)
   none_at_end value Beyond range next_fits other h = λ x far has x_fits. h.2 (between_fits range next_fits x_fits h.1.from_there (h.1.least x (passed x far has) (narrows x has)))
   none_at_end value (At t) range next_fits other h = λ _ _ _ _. other t refl
+
+pub after_candidate : {from next t : ℤ} → from ≤ℤ next → next ≤ℤ t → from ≤ℤ (t +ℤ pos 1)
+after_candidate onward further = omega (arith, linear)
 
 -- each candidate is nearer to the last number of the type
 pub nearer_to_last : {fits : ℤ → Type 0} {low high next t further : ℤ} → IsRange fits low high → fits further → further ≡ t +ℤ pos 1 → next ≤ℤ t → unsigned_abs (high -ℤ further) < unsigned_abs (high -ℤ next)

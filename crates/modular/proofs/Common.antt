@@ -3,7 +3,7 @@ pub use Rattle.std.specs.Prelude.{◌%◌, ◌*ℤ◌, ◌*◌, ◌+ℤ◌, ◌+
 pub use Rattle.std.proofs.Common.{◌∙◌, ap, arith, get_or, inl, inr, refl, subst, sym, take}
 pub use Rattle.std.proofs.Math.Bool.{beq}
 pub use Rattle.std.proofs.Math.Nat.{mul-le-mul_left, mul-le-mul_right, one-le-pow, pow-le-pow_right, pow-succ', two-pow-succ}
-pub use Rattle.std.proofs.lemmas.Bool.{cases_lt, iff_false}
+pub use Rattle.std.proofs.lemmas.Bool.{cases_lt, false≢true, iff_false}
 pub use Rattle.std.proofs.lemmas.Int.{by_lt_z, ints}
 pub use Rattle.std.proofs.lemmas.List.{take_all}
 pub use Rattle.std.proofs.lemmas.List.Elements.{All-cons, All-get_or, All-head, All-more, All-nil, All-rest, All-tail}

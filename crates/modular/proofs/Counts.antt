@@ -87,11 +87,18 @@ counted_by_times {from} {to} {first} {start} {step} {j} {k} up at_start ordered 
           counted_steps up own (record { from_there = by_lt_z to (start +ℤ step *ℤ k) (λ less. omega (arith, linear)) (λ fine. absurd (apart_from (omega (arith, linear)))); holds = last.holds; least = λ x beyond near. last.least x (omega (arith, linear)) near }) (omega (arith, linear)) apart;
     }
 
+-- a range that ends before it begins has no number
+pub none_in_range : {from to first step n : ℤ} → to <ℤ from → n ≡ pos 0 → IsCountOfCongruent from to first step n
+none_in_range less none = record { items = []; all = λ u far h. absurd (omega (arith, linear, h.to_there)); counted = none }
+
 -- if a number of steps does not fit, neither does one more
 pub one_more_too_large : {fits : ℤ → Type 0} {low high times : ℤ} → IsRange fits low high → pos 0 ≤ℤ times → ¬ (fits times) → ¬ (fits (times +ℤ pos 1))
 one_more_too_large range from_zero none more_fits = none (within_fits range more_fits (inl (from_zero, omega (arith, linear))))
 
 -- no count is negative
+pub zero_from_zero : {n : ℤ} → n ≡ pos 0 → pos 0 ≤ℤ n
+zero_from_zero none = omega (arith, linear)
+
 pub count_from_zero : {X : Type 0} (fits : ℤ → Type 0) (value : X → ℤ) (N : Type 0) (from : ℤ) (Has : ℤ → Type 0) (r : Option X) → MatchOption r N (λ n. fits (value n) × IsCountFrom from Has (value n)) → IfSome r (λ n. pos 0 ≤ℤ value n)
 count_from_zero fits value N from Has (Some n) h = omega (arith, ints, h.1.counted)
 count_from_zero fits value N from Has None h = tt

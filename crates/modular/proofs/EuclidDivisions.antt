@@ -120,10 +120,16 @@ last_gcd {p = p} h none =
     h.gcd p (rw none (record { from_zero = h.previous_from_zero; divides_left = Divides-refl p; divides_right = Divides-zero p; greatest = λ d left right. left }))
 
 -- a number that is the previous coefficient with its sign
-pub last_coefficient : {m a p c u v x z s : ℤ} → EuclidDivision m a p c u v s → z ≡ neg_ℤ s *ℤ u → IsResidue m z x → AreCongruent m (a *ℤ x) p
+last_coefficient : {m a p c u v x z s : ℤ} → EuclidDivision m a p c u v s → z ≡ neg_ℤ s *ℤ u → IsResidue m z x → AreCongruent m (a *ℤ x) p
 last_coefficient {a = a} {u = u} {s = s} h is at_z =
     let order : a *ℤ (neg_ℤ s *ℤ u) ≡ neg_ℤ s *ℤ (u *ℤ a) = simp expand refl in
     congruent-trans (congruent-product (congruent-refl a) (congruent-sym at_z.congruent)) (rw (is, order) (congruent-sym h.previous_is))
+
+pub last_if_negative : {m a p c u v x : ℤ} {n : Bool} → EuclidDivision m a p c u v (sign n) → n ≡ true → IsResidue m u x → AreCongruent m (a *ℤ x) p
+last_if_negative {u = u} h is at_u = last_coefficient {z = u} h (rw is (omega (arith, products))) at_u
+
+pub last_if_positive : {m a p c u v x : ℤ} {n : Bool} → EuclidDivision m a p c u v (sign n) → n ≡ false → IsResidue m (neg_ℤ u) x → AreCongruent m (a *ℤ x) p
+last_if_positive {u = u} h is at_u = last_coefficient {z = neg_ℤ u} h (rw is (omega (arith, products))) at_u
 
 -- ---- the inverse
 

@@ -1,7 +1,7 @@
 //! The calls of this crate at every modulus: each is `None` if the modulus is not positive, and has no other condition.
 //! `checked::sum_modulo(5, 4, 7)` is `Some(2)`, and `checked::sum_modulo(5, 4, 0)` is `None`.
 
-ghost use Rattle.std.specs.Prelude.{◌<ℤ◌, ◌+ℤ◌, ◌-ℤ◌, ◌*ℤ◌, ℤ, neg_ℤ, pos, MatchOption};
+ghost use Rattle.std.specs.Prelude.{◌<ℤ◌, ◌+ℤ◌, ◌-ℤ◌, ◌*ℤ◌, ℤ, neg_ℤ, pos, MatchBool, MatchOption};
 ghost use Rattle.std.specs.Int.{int_pow};
 ghost use Rattle.modular.specs.CommonSolutions.{MatchCommonSolution, MatchWhere};
 ghost use Rattle.modular.specs.Congruences.{IsCountOfCongruent, IsInverse, IsNextCommonSolution, IsNextCongruent, IsPreviousCongruent, IsQuotientModulo, IsReducedModulus, IsResidue, IsResidueClass, Solves, SolvesBothCongruences};
@@ -19,8 +19,11 @@ pub fn residue<T: Integer>(a: T, m: T) -> Option<T>
     ensures { AnswersWhere (pos 0 <ℤ T.value m)
         (Has T.fits T.value (IsResidue (T.value m) (T.value a))) result }
 {
-    positive(m)?;
-    Some(crate::residue(a, m))
+    if is_positive(m) {
+        Some(crate::residue(a, m))
+    } else {
+        None
+    }
 }
 
 /// Returns [`sum_modulo`](crate::sum_modulo), or `None` if `m` is not positive. `sum_modulo(5, 4, 7)` is `Some(2)`, and
@@ -30,8 +33,11 @@ pub fn sum_modulo<T: Integer>(a: T, b: T, m: T) -> Option<T>
     ensures { AnswersWhere (pos 0 <ℤ T.value m)
         (Has T.fits T.value (IsResidue (T.value m) (T.value a +ℤ T.value b))) result }
 {
-    positive(m)?;
-    Some(crate::sum_modulo(a, b, m))
+    if is_positive(m) {
+        Some(crate::sum_modulo(a, b, m))
+    } else {
+        None
+    }
 }
 
 /// Returns [`difference_modulo`](crate::difference_modulo), or `None` if `m` is not positive.
@@ -41,8 +47,11 @@ pub fn difference_modulo<T: Integer>(a: T, b: T, m: T) -> Option<T>
     ensures { AnswersWhere (pos 0 <ℤ T.value m)
         (Has T.fits T.value (IsResidue (T.value m) (T.value a -ℤ T.value b))) result }
 {
-    positive(m)?;
-    Some(crate::difference_modulo(a, b, m))
+    if is_positive(m) {
+        Some(crate::difference_modulo(a, b, m))
+    } else {
+        None
+    }
 }
 
 /// Returns [`negation_modulo`](crate::negation_modulo), or `None` if `m` is not positive. `negation_modulo(2, 7)` is
@@ -52,8 +61,11 @@ pub fn negation_modulo<T: Integer>(a: T, m: T) -> Option<T>
     ensures { AnswersWhere (pos 0 <ℤ T.value m)
         (Has T.fits T.value (IsResidue (T.value m) (neg_ℤ (T.value a)))) result }
 {
-    positive(m)?;
-    Some(crate::negation_modulo(a, m))
+    if is_positive(m) {
+        Some(crate::negation_modulo(a, m))
+    } else {
+        None
+    }
 }
 
 /// Returns [`product_modulo`](crate::product_modulo), or `None` if `m` is not positive. `product_modulo(4, 5, 7)` is
@@ -63,8 +75,11 @@ pub fn product_modulo<T: Modular>(a: T, b: T, m: T) -> Option<T>
     ensures { AnswersWhere (pos 0 <ℤ T.value m)
         (Has T.fits T.value (IsResidue (T.value m) (T.value a *ℤ T.value b))) result }
 {
-    positive(m)?;
-    Some(crate::product_modulo(a, b, m))
+    if is_positive(m) {
+        Some(crate::product_modulo(a, b, m))
+    } else {
+        None
+    }
 }
 
 /// Returns [`power_modulo`](crate::power_modulo), or `None` if `m` is not positive. `power_modulo(3, 4, 7)` is
@@ -74,8 +89,11 @@ pub fn power_modulo<T: Modular>(a: T, exponent: u128, m: T) -> Option<T>
     ensures { AnswersWhere (pos 0 <ℤ T.value m)
         (Has T.fits T.value (IsResidue (T.value m) (int_pow (T.value a) exponent))) result }
 {
-    positive(m)?;
-    Some(crate::power_modulo(a, exponent, m))
+    if is_positive(m) {
+        Some(crate::power_modulo(a, exponent, m))
+    } else {
+        None
+    }
 }
 
 /// Returns [`inverse_modulo`](crate::inverse_modulo), or `None` if `m` is not positive or there is no inverse.
@@ -85,8 +103,11 @@ pub fn inverse_modulo<T: Integer>(a: T, m: T) -> Option<T>
     ensures { MatchOption result ((x : ℤ) → ¬ (IsInverse (T.value a) (T.value m) x))
         (Has T.fits T.value (IsInverse (T.value a) (T.value m))) }
 {
-    positive(m)?;
-    crate::inverse_modulo(a, m)
+    if is_positive(m) {
+        crate::inverse_modulo(a, m)
+    } else {
+        None
+    }
 }
 
 /// Returns [`quotient_modulo`](crate::quotient_modulo), or `None` if `m` is not positive or `b` has no inverse.
@@ -96,8 +117,11 @@ pub fn quotient_modulo<T: Modular>(a: T, b: T, m: T) -> Option<T>
     ensures { MatchOption result ((x : ℤ) → ¬ (IsInverse (T.value b) (T.value m) x))
         (Has T.fits T.value (IsQuotientModulo (T.value a) (T.value b) (T.value m))) }
 {
-    positive(m)?;
-    crate::quotient_modulo(a, b, m)
+    if is_positive(m) {
+        crate::quotient_modulo(a, b, m)
+    } else {
+        None
+    }
 }
 
 /// Returns [`solutions`](crate::solutions), or `None` if `m` is not positive or there is no solution.
@@ -110,8 +134,11 @@ pub fn solutions<T: Modular>(a: T, b: T, m: T) -> Option<(T, T)>
         × IsResidueClass (Solves (T.value a) (T.value b) (T.value m)) (T.value s.0) (T.value s.1)
         × IsReducedModulus (T.value a) (T.value m) (T.value s.1)) }
 {
-    positive(m)?;
-    crate::solutions(a, b, m)
+    if is_positive(m) {
+        crate::solutions(a, b, m)
+    } else {
+        None
+    }
 }
 
 /// Returns [`next_congruent`](crate::next_congruent), or `None` if `step` is not positive or the number does not fit.
@@ -122,8 +149,11 @@ pub fn next_congruent<T: Fits>(from: T, first: T, step: T) -> Option<T>
         ((t : ℤ) × IsNextCongruent (T.value from) (T.value first) (T.value step) t × ¬ (T.fits t))
         (Has T.fits T.value (IsNextCongruent (T.value from) (T.value first) (T.value step))) }
 {
-    positive(step)?;
-    crate::next_congruent(from, first, step)
+    if is_positive(step) {
+        crate::next_congruent(from, first, step)
+    } else {
+        None
+    }
 }
 
 /// Returns [`previous_congruent`](crate::previous_congruent), or `None` if `step` is not positive or the number does not
@@ -135,8 +165,11 @@ pub fn previous_congruent<T: Fits>(to: T, first: T, step: T) -> Option<T>
         × ¬ (T.fits t))
         (Has T.fits T.value (IsPreviousCongruent (T.value to) (T.value first) (T.value step))) }
 {
-    positive(step)?;
-    crate::previous_congruent(to, first, step)
+    if is_positive(step) {
+        crate::previous_congruent(to, first, step)
+    } else {
+        None
+    }
 }
 
 /// Returns [`count_congruent`](crate::count_congruent), or `None` if `step` is not positive or the count does not fit.
@@ -150,8 +183,11 @@ pub fn count_congruent<T: Fits>(from: T, to: T, first: T, step: T) -> Option<T>
         (Has T.fits T.value (IsCountOfCongruent (T.value from) (T.value to) (T.value first)
         (T.value step))) }
 {
-    positive(step)?;
-    crate::count_congruent(from, to, first, step)
+    if is_positive(step) {
+        crate::count_congruent(from, to, first, step)
+    } else {
+        None
+    }
 }
 
 /// Returns [`next_common_solution`](crate::next_common_solution), or `None` if a modulus is not positive.
@@ -175,15 +211,17 @@ pub fn next_common_solution<T: Modular + Fits>(
         (T.value b) (T.value n))))
         result }
 {
-    positive(m)?;
-    positive(n)?;
-    Some(crate::next_common_solution(from, a, m, b, n))
+    if is_positive(m) && is_positive(n) {
+        Some(crate::next_common_solution(from, a, m, b, n))
+    } else {
+        None
+    }
 }
 
-/// Returns `Some` if the modulus is positive.
-fn positive<T: Integer>(m: T) -> Option<()>
+/// Returns `true` if the modulus is positive.
+fn is_positive<T: Integer>(m: T) -> bool
     requires { T.fits (T.value m) }
-    ensures { MatchOption result (¬ (pos 0 <ℤ T.value m)) (λ _. pos 0 <ℤ T.value m) }
+    ensures { MatchBool result (pos 0 <ℤ T.value m) (¬ (pos 0 <ℤ T.value m)) }
 {
-    is_below(zero(), m).then_some(())
+    is_below(zero(), m)
 }

@@ -49,7 +49,6 @@ impl Montgomery {
     }
 
     /// Returns the residue that has the Montgomery form `x`.
-    #[tactic(auto, using(crate::proofs::MontgomeryProducts::montgomery_residue))]
     pub(crate) fn residue_of(&self, x: u64) -> u64
         requires { x < self.now.modulus }
         ensures { IsResidue (pos self.now.modulus)

@@ -38,7 +38,6 @@ pub trait Modular: Integer {
     /// `3.power_modulo_counted(4, &7)` is `(4, 2)`, and `3.power_modulo_counted(0, &7)` is `(1, 0)`.
     ///
     /// `modulus` must be positive.
-    #[tactic(auto, using(crate::proofs::PowerTurns::residue_of_power))]
     fn power_modulo_counted(&self, exponent: u128, modulus: &Self) -> (Self, u32)
         requires in_range { Self.fits (Self.value self.now) × Self.fits (Self.value modulus.now) }
         requires positive { pos 0 <ℤ Self.value modulus.now }

@@ -50,7 +50,6 @@ pub(crate) fn product_of_wide(x: u128, y: u128, m: u128) -> u128
 
 /// Returns the product of two numbers modulo `m`: it multiplies their residues.
 #[inline(never)]
-#[tactic(auto, using(crate::proofs::WideProducts::product_of_remainders))]
 fn product_by_residues(x: u128, y: u128, m: u128) -> u128
     requires { 0 < m }
     ensures { IsResidue (pos m) (pos x *ℤ pos y) (pos result) }
@@ -105,7 +104,6 @@ fn shifted_left(x: u128, places: u32) -> u128
 }
 
 /// Returns the product of two numbers modulo `m`. The first is smaller than `m`.
-#[tactic(auto, using(crate::proofs::LongDivision::remainder_of_digits))]
 fn normalized_product(x: u128, y: u128, m: u128) -> u128
     requires long { 2 ^ 64 ≤ m }
     requires below { x < m }

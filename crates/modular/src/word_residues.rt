@@ -33,7 +33,7 @@ struct SplitModulus {
 
 impl SplitModulus {
     /// Splits a modulus.
-    #[tactic(auto, using(crate::proofs::SplitModuli::odd_part, crate::proofs::SplitModuli::parts_product))]
+    #[tactic(auto, using(crate::proofs::SplitModuli::parts_product))]
     fn new(m: u64) -> SplitModulus
         requires { 0 < m }
         ensures { result.odd.modulus * 2 ^ result.twos ≡ m }

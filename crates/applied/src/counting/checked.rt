@@ -10,7 +10,7 @@ use num_integer::operators::{difference, is_below, is_negative, one, successor, 
 
 /// Returns [`factorial`](crate::counting::factorial), the product of the numbers from 1 to `n`, or `None` if `n`
 /// is negative or the factorial does not fit. `factorial(5u8)` is `Some(120)`, and `factorial(6u8)` is `None`.
-#[tactic(auto, using(crate::proofs::FallingFactorials::falling_steps))]
+#[tactic(auto, using(num_integer::proofs::ForCallers::linear))]
 pub fn factorial<T: Fits>(n: T) -> Option<T>
     requires { T.fits (T.value n) }
     ensures { AnswersWhere
@@ -27,7 +27,7 @@ pub fn factorial<T: Fits>(n: T) -> Option<T>
 /// Returns [`falling`](crate::counting::falling), the product `n * (n - 1) * ..` of `k` factors, or `None` if a
 /// number is negative or the product does not fit. `falling(8u16, 3)` is `Some(336)`, and `falling(8u8, 3)` is
 /// `None`.
-#[tactic(auto, using(crate::proofs::FallingFactorials::falling_steps))]
+#[tactic(auto, using(num_integer::proofs::ForCallers::linear))]
 pub fn falling<T: Fits>(n: T, k: T) -> Option<T>
     requires in_range { T.fits (T.value n) × T.fits (T.value k) }
     ensures { AnswersWhere

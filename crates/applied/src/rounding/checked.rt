@@ -14,8 +14,11 @@ pub fn div_round<T: Fits>(x: T, y: T) -> Option<T>
     ensures answer { AnswersQuotient IsNearest T.fits T.value (T.value x) (T.value y) result }
     ensures positive { pos 0 <ℤ T.value y → IsSome result }
 {
-    x.quotient_fits(&y)
-        .then(|| crate::rounding::div_round(x, y))
+    if x.quotient_fits(&y) {
+        Some(crate::rounding::div_round(x, y))
+    } else {
+        None
+    }
 }
 
 /// Returns [`div_round_even`](crate::rounding::div_round_even), the nearest integer and a half to the even one,
@@ -25,6 +28,9 @@ pub fn div_round_even<T: Fits>(x: T, y: T) -> Option<T>
     ensures answer { AnswersQuotient IsNearestEven T.fits T.value (T.value x) (T.value y) result }
     ensures positive { pos 0 <ℤ T.value y → IsSome result }
 {
-    x.quotient_fits(&y)
-        .then(|| crate::rounding::div_round_even(x, y))
+    if x.quotient_fits(&y) {
+        Some(crate::rounding::div_round_even(x, y))
+    } else {
+        None
+    }
 }

@@ -1,7 +1,10 @@
 -- Both numbers are divided by the magnitude of the result of `signed_gcd`.
 use Rattle.applied.proofs.Common.{iff_false}
-use Rattle.applied.proofs.ReducedPairs.{reduced_by_gcd, magnitude_positive}
+use Rattle.applied.proofs.ReducedPairs.{reduced_by_gcd, reduced_of_zero, magnitude_positive}
 use Rattle.applied.proofs.coprime.reduced.Goals as goal
+
+pub returns-then-is_zero-clause-reduced : goal.returns-then-is_zero-clause-reduced
+returns-then-is_zero-clause-reduced g c = reduced_of_zero c.signed_gcd-divisor.ensures.magnitude (c.is_zero.ensures.0 c.if-is_zero.true)
 
 pub returns-else-is_zero-clause-reduced : goal.returns-else-is_zero-clause-reduced
 returns-else-is_zero-clause-reduced g c =

@@ -1,4 +1,4 @@
-use Rattle.applied.proofs.Common.{least_multiple_beyond, next_multiple_least}
+use Rattle.applied.proofs.Common.{false≢true, least_multiple_beyond, next_multiple_least}
 use Rattle.applied.proofs.layout.align_up.Goals as goal
 
 pub returns-then-next_multiple_fits : goal.returns-then-next_multiple_fits
@@ -8,4 +8,4 @@ returns-then-next_multiple_fits g c =
 
 pub returns-else-next_multiple_fits : goal.returns-else-next_multiple_fits
 returns-else-next_multiple_fits g c = λ u h.
-    least_multiple_beyond _ c.requires.positive (λ fact. let no = c.if-next_multiple_fits.ensures.1 fact in absurd (cc)) u h.from_offset h.multiple h.least
+    least_multiple_beyond _ c.requires.positive (λ fact. false≢true (c.if-next_multiple_fits.ensures.1 fact)) u h.from_offset h.multiple h.least

@@ -2,7 +2,11 @@ use Rattle.std.specs.Prelude.{◌≡◌, ◌≢◌, ◌≤ℤ◌, ◌<ℤ◌, �
 use Rattle.num_integer.proofs.ForCallers.{comm, floored_remainder_range, rest_leads_to_multiple}
 use Rattle.num_integer.specs.Division.{IsFloored, IsRemainder}
 use Rattle.applied.proofs.Common.{Divides, arith, fits_below, iff_false, linear, pos}
+use Rattle.applied.proofs.ItemRanges.{positive_is_other}
 use Rattle.applied.proofs.layout.padding.Goals as goal
+
+pub mod_floor-over-requires-clause-nonzero : goal.mod_floor-over-requires-clause-nonzero
+mod_floor-over-requires-clause-nonzero g c = positive_is_other c.requires.positive
 
 pub difference-requires-clause-difference_fits : goal.difference-requires-clause-difference_fits
 difference-requires-clause-difference_fits g c =

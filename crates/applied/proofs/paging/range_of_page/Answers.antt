@@ -1,6 +1,9 @@
-use Rattle.applied.proofs.Common.{arith, fits_below, from_test, linear, positive_quotient_fits, refl}
-use Rattle.applied.proofs.ItemRanges.{begins_in, none_after, none_before, only_page_range, short_page, whole_page}
+use Rattle.applied.proofs.Common.{fits_below, from_test, positive_quotient_fits, refl}
+use Rattle.applied.proofs.ItemRanges.{begins_in, left_fits, none_after, none_before, only_page_range, page_end_fits, positive_is_other, short_page, whole_page}
 use Rattle.applied.proofs.paging.range_of_page.Goals as goal
+
+pub div_floor-requires-clause-nonzero : goal.div_floor-requires-clause-nonzero
+div_floor-requires-clause-nonzero g c = positive_is_other c.requires.positive
 
 pub div_floor-requires-clause-quotient_fits : goal.div_floor-requires-clause-quotient_fits
 div_floor-requires-clause-quotient_fits g c = λ q h.
@@ -19,37 +22,28 @@ returns-then-is_below g c =
 pub product-first-requires-clause-product_fits : goal.product-first-requires-clause-product_fits
 product-first-requires-clause-product_fits g c =
     let within = begins_in c.requires.positive c.div_floor.ensures.floored.division (from_test c.is_negative.ensures c.if-is_negative.false) (from_test c.is_below.ensures c.if-is_below.false) in
-    fits_below g.met.T.Integer.range_law c.requires.in_range.2 within.0 within.1
+    fits_below g.met.T.Integer.range_law c.requires.in_range.2 within.from_zero within.to_items
 
 pub difference-requires-clause-difference_fits : goal.difference-requires-clause-difference_fits
 difference-requires-clause-difference_fits g c =
     let within = begins_in c.requires.positive c.div_floor.ensures.floored.division (from_test c.is_negative.ensures c.if-is_negative.false) (from_test c.is_below.ensures c.if-is_below.false) in
-    fits_below g.met.T.Integer.range_law c.requires.in_range.2 (omega (arith, linear, within.1, c.product-first.ensures.value))
-    (omega (arith, linear, within.0, c.product-first.ensures.value))
+    left_fits g.met.T.Integer.range_law c.requires.in_range.2 within c.product-first.ensures.value
 
 pub sum-requires-clause-sum_fits : goal.sum-requires-clause-sum_fits
 sum-requires-clause-sum_fits g c =
     let within = begins_in c.requires.positive c.div_floor.ensures.floored.division (from_test c.is_negative.ensures c.if-is_negative.false) (from_test c.is_below.ensures c.if-is_below.false) in
-    let first = c.product-first.ensures.value in
     let enough = from_test c.is_below-2.ensures c.if-is_below-2.false in
-    fits_below g.met.T.Integer.range_law c.requires.in_range.2 (omega (arith, linear, within.0, c.requires.positive))
-    (omega (arith, linear, c.difference.ensures.value))
+    page_end_fits g.met.T.Integer.range_law c.requires.in_range.2 c.requires.positive within c.product-first.ensures.value c.difference.ensures.value enough
 
 pub returns-then-is_below-2 : goal.returns-then-is_below-2
 returns-then-is_below-2 g c =
     let within = begins_in c.requires.positive c.div_floor.ensures.floored.division (from_test c.is_negative.ensures c.if-is_negative.false) (from_test c.is_below.ensures c.if-is_below.false) in
-    let short = c.is_below-2.ensures.0 c.if-is_below-2.true in
-    let first = c.product-first.ensures.value in
-    let own = short_page (g.T.Number.value c.args.page) (g.T.Number.value c.args.page_size) within
-    (omega (arith, linear, c.difference.ensures.value)) in
-    let range = rw (← first) at own in
+    let range = short_page within c.product-first.ensures.value c.difference.ensures.value (c.is_below-2.ensures.0 c.if-is_below-2.true) in
     record { in_range = (c.product-first.ensures.in_range, c.requires.in_range.2); range = range; only = only_page_range range }
 
 pub returns-else-is_below-2 : goal.returns-else-is_below-2
 returns-else-is_below-2 g c =
     let within = begins_in c.requires.positive c.div_floor.ensures.floored.division (from_test c.is_negative.ensures c.if-is_negative.false) (from_test c.is_below.ensures c.if-is_below.false) in
     let enough = from_test c.is_below-2.ensures c.if-is_below-2.false in
-    let first = c.product-first.ensures.value in
-    let own = whole_page (g.T.Number.value c.args.page) _ c.requires.positive within (omega (arith, linear, c.difference.ensures.value)) in
-    let range = rw (← first, ← c.sum.ensures.value) at own in
+    let range = whole_page c.requires.positive within c.product-first.ensures.value c.difference.ensures.value enough c.sum.ensures.value in
     record { in_range = (c.product-first.ensures.in_range, c.sum.ensures.in_range); range = range; only = only_page_range range }

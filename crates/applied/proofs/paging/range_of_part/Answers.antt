@@ -1,23 +1,28 @@
-use Rattle.applied.proofs.Common.{arith, fits_below, linear, positive_quotient_fits}
-use Rattle.applied.proofs.ItemRanges.{only_part_range, part_range, start_fits}
+use Rattle.applied.proofs.Common.{positive_quotient_fits}
+use Rattle.applied.proofs.ItemRanges.{only_part_range, part_fits, part_range, parts_positive, positive_is_other}
 use Rattle.applied.proofs.paging.range_of_part.Goals as goal
+
+pub div_mod_floor-size-requires-clause-nonzero : goal.div_mod_floor-size-requires-clause-nonzero
+div_mod_floor-size-requires-clause-nonzero g c = positive_is_other (parts_positive c.requires.part_from_zero c.requires.part_below)
 
 pub div_mod_floor-size-requires-clause-quotient_fits : goal.div_mod_floor-size-requires-clause-quotient_fits
 div_mod_floor-size-requires-clause-quotient_fits g c = λ q h.
-    positive_quotient_fits g.met.T.Integer.range_law c.requires.in_range.2 c.requires.in_range.1 (omega (arith, linear, c.requires.part_from_zero, c.requires.part_below)) h.division.division
+    positive_quotient_fits g.met.T.Integer.range_law c.requires.in_range.2 c.requires.in_range.1 (parts_positive c.requires.part_from_zero c.requires.part_below) h.division.division
 
 pub start_of-first-requires : goal.start_of-first-requires
 start_of-first-requires g c =
-    let start = start_fits g.met.T.Integer.range_law c.requires.in_range.2 (omega (arith, linear, c.requires.part_from_zero, c.requires.part_below)) c.requires.from_zero c.div_mod_floor-size.ensures.floored c.requires.part_from_zero (omega (arith, linear, c.requires.part_below)) in
-    record { in_range = (c.requires.in_range.0, c.div_mod_floor-size.ensures.in_range.0, c.div_mod_floor-size.ensures.in_range.1); product_fits = start.0; start_fits = start.1 }
+    let part = part_fits g.met.T.Integer.range_law c.requires.in_range.1 c.requires.in_range.2 c.requires.from_zero c.div_mod_floor-size.ensures.floored c.requires.part_from_zero c.requires.part_below in
+    record { in_range = (c.requires.in_range.0, c.div_mod_floor-size.ensures.in_range.0, c.div_mod_floor-size.ensures.in_range.1); product_fits = part.first.0; start_fits = part.first.1 }
 
 pub successor-requires-clause-sum_fits : goal.successor-requires-clause-sum_fits
-successor-requires-clause-sum_fits g c = fits_below g.met.T.Integer.range_law c.requires.in_range.1 (omega (arith, linear, c.requires.part_from_zero)) (omega (arith, linear, c.requires.part_below))
+successor-requires-clause-sum_fits g c =
+    let part = part_fits g.met.T.Integer.range_law c.requires.in_range.1 c.requires.in_range.2 c.requires.from_zero c.div_mod_floor-size.ensures.floored c.requires.part_from_zero c.requires.part_below in
+    part.next_part
 
 pub start_of-requires : goal.start_of-requires
 start_of-requires g c =
-    let start = start_fits g.met.T.Integer.range_law c.requires.in_range.2 (omega (arith, linear, c.requires.part_from_zero, c.requires.part_below)) c.requires.from_zero c.div_mod_floor-size.ensures.floored (omega (arith, linear, c.requires.part_from_zero)) (omega (arith, linear, c.requires.part_below)) in
-    record { in_range = (c.successor.ensures.in_range, c.div_mod_floor-size.ensures.in_range.0, c.div_mod_floor-size.ensures.in_range.1); product_fits = rw c.successor.ensures.value start.0; start_fits = rw c.successor.ensures.value start.1 }
+    let part = part_fits g.met.T.Integer.range_law c.requires.in_range.1 c.requires.in_range.2 c.requires.from_zero c.div_mod_floor-size.ensures.floored c.requires.part_from_zero c.requires.part_below in
+    record { in_range = (c.successor.ensures.in_range, c.div_mod_floor-size.ensures.in_range.0, c.div_mod_floor-size.ensures.in_range.1); product_fits = rw c.successor.ensures.value part.next.0; start_fits = rw c.successor.ensures.value part.next.1 }
 
 pub returns-clause-range : goal.returns-clause-range
 returns-clause-range g c =

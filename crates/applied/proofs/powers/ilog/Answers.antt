@@ -1,7 +1,16 @@
 -- Each iteration divides the rest by the base. When the rest is below the base, the number of divisions is the logarithm.
-use Rattle.applied.proofs.Common.{arith, from_not_less, linear, operator_quotient_fits}
-use Rattle.applied.proofs.PowersAndRoots.{divided_last, divided_next, few_divisions}
+use Rattle.applied.proofs.Common.{arith, from_test, linear, operator_quotient_fits}
+use Rattle.applied.proofs.PowersAndRoots.{base_is_other, divided_first, divided_last, divided_next, divided_smaller, few_divisions}
 use Rattle.applied.proofs.powers.ilog.Goals as goal
+
+pub loop-base-init : goal.loop-base-init
+loop-base-init g c = record { in_range = c.requires.in_range.0; divided = divided_first _ _ c.requires.positive }
+
+pub loop-base-smaller : goal.loop-base-smaller
+loop-base-smaller g c = rw c.quotient-rest.ensures.value (divided_smaller _ _ c.requires.base c.loop-base.invariant.divided.positive)
+
+pub quotient-rest-requires-clause-nonzero : goal.quotient-rest-requires-clause-nonzero
+quotient-rest-requires-clause-nonzero g c = base_is_other c.requires.base
 
 pub quotient-rest-requires-clause-quotient_fits : goal.quotient-rest-requires-clause-quotient_fits
 quotient-rest-requires-clause-quotient_fits g c =
@@ -12,7 +21,7 @@ overflow_add-degree g c = omega (arith, few_divisions g.met.T.Integer.range_law 
 
 pub loop-base-preserved : goal.loop-base-preserved
 loop-base-preserved g c =
-    let enough = from_not_less (λ less. let wrong = c.is_below.ensures.1 less in cc) in
+    let enough = from_test c.is_below.ensures c.loop-base-test.true in
     record {
       in_range = c.quotient-rest.ensures.in_range;
       divided = rw c.quotient-rest.ensures.value (divided_next c.requires.base enough c.loop-base.invariant.divided);
@@ -20,6 +29,6 @@ loop-base-preserved g c =
 
 pub returns : goal.returns
 returns g c = record {
-  logarithm = divided_last c.requires.base c.requires.positive (c.is_below.ensures.0 (cc)) c.loop-base.invariant.divided;
+  logarithm = divided_last c.requires.base c.requires.positive (c.is_below.ensures.0 c.loop-base-test.false) c.loop-base.invariant.divided;
   few = few_divisions g.met.T.Integer.range_law c.requires.in_range.0 c.requires.positive c.requires.base c.loop-base.invariant.divided;
 }

@@ -8,8 +8,7 @@ pow-requires g c = λ _. within_fits g.met.T.Integer.range_law c.requires.in_ran
 
 pub returns : goal.returns
 returns g c =
-    let equal = g.met.T.Number.eq_law c.pow.result c.args.n g.met.T.Integer.exact_law in
     let power = c.pow.ensures.value g.met.T.Integer.exact_law in (
-      λ h. (g.T.Number.value c.nth_root.result, sym power ∙ equal.0 (sym c.eq.ensures ∙ h)),
-      λ x. c.eq.ensures ∙ equal.1 (power ∙ root_of_power_is_exact x.0 c.requires.degree x.1 c.nth_root.ensures.root),
+      λ h. (g.T.Number.value c.nth_root.result, sym power ∙ c.is_equal.ensures.0 h),
+      λ x. c.is_equal.ensures.1 (power ∙ root_of_power_is_exact x.0 c.requires.degree x.1 c.nth_root.ensures.root),
     )

@@ -1,10 +1,19 @@
 -- `is_square` compares n with the square of its root.
-use Rattle.applied.proofs.Common.{◌∙◌, sym, square_root_of_square}
+use Rattle.applied.proofs.Common.{◌∙◌, inl, sym, false≢true, from_test, square_root_of_square, within_fits}
+use Rattle.applied.proofs.PowersAndRoots.{no_negative_square, square_rest}
 use Rattle.applied.proofs.powers.is_square.Goals as goal
+
+pub returns-then-is_negative : goal.returns-then-is_negative
+returns-then-is_negative g c = ((λ h. absurd (false≢true h)), (λ x. absurd (no_negative_square x.0 (c.is_negative.ensures.0 c.if-is_negative.true) x.1)))
+
+pub product-requires-clause-product_fits : goal.product-requires-clause-product_fits
+product-requires-clause-product_fits g c =
+    let square = square_rest (from_test c.is_negative.ensures c.if-is_negative.false) c.sqrt-root.ensures.root in
+    within_fits g.met.T.Integer.range_law c.requires.in_range (inl (square.0, square.1))
 
 pub returns : goal.returns
 returns g c =
-    let equal = g.met.T.Number.eq_law c.product.result c.args.n g.met.T.Integer.exact_law in (
-      λ h. (g.T.Number.value c.sqrt-root.result, sym c.product.ensures.value ∙ equal.0 (sym c.eq.ensures ∙ h)),
-      λ x. c.eq.ensures ∙ equal.1 (c.product.ensures.value ∙ square_root_of_square x.0 x.1 c.sqrt-root.ensures.root),
+    let square = c.product.ensures.value in (
+      λ h. (g.T.Number.value c.sqrt-root.result, sym square ∙ c.is_equal.ensures.0 h),
+      λ x. c.is_equal.ensures.1 (square ∙ square_root_of_square x.0 x.1 c.sqrt-root.ensures.root),
     )

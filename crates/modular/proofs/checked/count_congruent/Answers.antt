@@ -1,5 +1,5 @@
 use Rattle.modular.proofs.NextCongruent.{match_where}
 use Rattle.modular.proofs.checked.count_congruent.Goals as goal
 
-pub returns : goal.returns
-returns g c = match_where _ _ c.count_congruent.result c.in_ok-positive.ensures c.count_congruent.ensures.count
+pub returns-then-is_positive : goal.returns-then-is_positive
+returns-then-is_positive g c = match_where _ _ c.count_congruent.result c.if-is_positive.ensures c.count_congruent.ensures.count

@@ -1,6 +1,6 @@
 use Rattle.modular.proofs.Common.{iff_false, positive_quotient_fits}
 use Rattle.modular.proofs.BelowModulus.{below_fits}
-use Rattle.modular.proofs.DoublingTurns.{doubling_first, doubling_last, doubling_turn, halved, positive_two, total_at_one, total_at_zero, two_fits, two_is}
+use Rattle.modular.proofs.DoublingTurns.{doubling_first, doubling_last, doubling_turn, half_is_smaller, halved_by, nonzero_two, positive_two, total_at_one, total_at_zero, two_fits}
 use Rattle.modular.proofs.products.product_by_doubling.Goals as goal
 use Rattle.modular.proofs.products.product_by_doubling.Goals.{then-not-is_zero, else-not-is_zero}
 
@@ -11,15 +11,20 @@ pub successor-requires-clause-sum_fits : goal.successor-requires-clause-sum_fits
 successor-requires-clause-sum_fits g c =
     rw c.one-in-turns.ensures.value (two_fits g.met.T.Integer.range_law c.turns.invariant.rest_fits (rw c.one.ensures.value at (c.is_below.ensures.0 c.turns-test.true)))
 
+pub div_rem-half-requires-clause-nonzero : goal.div_rem-half-requires-clause-nonzero
+div_rem-half-requires-clause-nonzero g c = nonzero_two c.one-in-turns.ensures.value c.successor.ensures.value
+
 pub div_rem-half-requires-clause-quotient_fits : goal.div_rem-half-requires-clause-quotient_fits
 div_rem-half-requires-clause-quotient_fits g c z h =
     positive_quotient_fits g.met.T.Integer.range_law c.turns.invariant.rest_fits c.successor.ensures.in_range (positive_two c.one-in-turns.ensures.value c.successor.ensures.value) h.division.division
 
+pub turns-smaller : goal.turns-smaller
+turns-smaller g c =
+    half_is_smaller (halved_by c.one.ensures.value c.one-in-turns.ensures.value c.successor.ensures.value (c.is_below.ensures.0 c.turns-test.true) c.div_rem-half.ensures.truncated)
+
 pub turns-preserved : goal.turns-preserved
 turns-preserved g c =
-    let two = two_is c.one-in-turns.ensures.value c.successor.ensures.value in
-    let above = rw c.one.ensures.value at (c.is_below.ensures.0 c.turns-test.true) in
-    let half = halved above (rw two at c.div_rem-half.ensures.truncated) in
+    let half = halved_by c.one.ensures.value c.one-in-turns.ensures.value c.successor.ensures.value (c.is_below.ensures.0 c.turns-test.true) c.div_rem-half.ensures.truncated in
     let kept = c.turns.invariant.kept in
     let double = c.sum_of_residues-addend.ensures.residue in
     elim c.if-not-is_zero.branch [

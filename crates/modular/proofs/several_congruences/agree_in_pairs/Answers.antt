@@ -1,5 +1,5 @@
-use Rattle.modular.proofs.Common.{ap, arith, length, refl, subst, sym, iff_false, All-rest, AgreeInPairs}
-use Rattle.modular.proofs.Agreements.{SolvesAt, agreeing_have_solution, first_agrees, no_pairs, nothing_found, split_system}
+use Rattle.modular.proofs.Common.{refl, subst, sym, false≢true, iff_false, All-rest, AgreeInPairs}
+use Rattle.modular.proofs.Agreements.{SolvesAt, agreeing_have_solution, fewer_pairs, first_agrees, no_pairs, nothing_found, split_system}
 use Rattle.modular.proofs.several_congruences.agree_in_pairs.Goals as goal
 
 pub pairs-init : goal.pairs-init
@@ -11,11 +11,11 @@ agrees_with_each-requires g c =
     record { in_range = split.0.0; positive = split.0.1; system = split.1 }
 
 pub pairs-smaller : goal.pairs-smaller
-pairs-smaller g c = omega (arith, ap length c.in-Some.ensures.cases.0)
+pairs-smaller g c = fewer_pairs c.in-Some.ensures.cases.0
 
 pub returns-then-not-agrees_with_each : goal.returns-then-not-agrees_with_each
 returns-then-not-agrees_with_each g c = (
-  (λ h. absurd (cc)),
+  (λ h. absurd (false≢true h)),
   (λ (x, each).
       absurd (iff_false c.agrees_with_each.ensures c.if-not-agrees_with_each.true (first_agrees g.T.Number.value c.in-Some.ensures.cases.0 (c.pairs.invariant.solved x each)))),
 )

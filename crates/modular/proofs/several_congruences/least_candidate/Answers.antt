@@ -1,5 +1,5 @@
-use Rattle.modular.proofs.Common.{arith, iff_false, linear}
-use Rattle.modular.proofs.Agreements.{candidate_is_least, candidate_passed, nearer_to_last, none_after_last, none_at_end}
+use Rattle.modular.proofs.Common.{iff_false}
+use Rattle.modular.proofs.Agreements.{after_candidate, candidate_is_least, candidate_passed, nearer_to_last, none_after_last, none_at_end}
 use Rattle.modular.proofs.several_congruences.least_candidate.Goals as goal
 
 pub returns-then-solves_each : goal.returns-then-solves_each
@@ -26,7 +26,7 @@ candidates-preserved g c =
     let more = c.in_ok-next.ensures.1 in
     record {
       next_in_range = more.0;
-      from_there = rw more.1 (omega (arith, linear, kept.from_there, next.1.from_there));
+      from_there = rw more.1 (after_candidate kept.from_there next.1.from_there);
       passed = rw more.1 (candidate_passed c.requires.candidates kept.passed next.1 (iff_false c.solves_each.ensures c.if-solves_each.false));
     }
 

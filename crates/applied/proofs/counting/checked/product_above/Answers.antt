@@ -1,12 +1,10 @@
-use Rattle.applied.proofs.Common.{arith, subst, from_not_less, fits_below, linear}
-use Rattle.applied.proofs.FallingFactorials.{fewer_left, next_product_fits, product_first, product_last, product_next}
+use Rattle.applied.proofs.Common.{subst, from_test}
+use Rattle.applied.proofs.FallingFactorials.{fewer_left, next_factor_fits, next_product_fits, product_first, product_last, product_next}
 use Rattle.applied.proofs.counting.checked.product_above.Goals as goal
 
 pub successor-factor-requires-clause-sum_fits : goal.successor-factor-requires-clause-sum_fits
 successor-factor-requires-clause-sum_fits g c =
-    let more = c.is_below.ensures.0 c.loop-high-test.true in
-    let at = c.loop-high.invariant.at in
-    fits_below g.met.T.Integer.range_law c.requires.in_range.1 (omega (arith, linear, c.requires.from_zero)) (omega (arith, linear))
+    next_factor_fits c.loop-high.invariant c.requires.from_zero (c.is_below.ensures.0 c.loop-high-test.true) g.met.T.Integer.range_law c.requires.in_range.1
 
 pub returns-in_err-ways : goal.returns-in_err-ways
 returns-in_err-ways g c =
@@ -27,5 +25,5 @@ loop-high-smaller g c = fewer_left c.loop-high.invariant c.requires.from_zero (c
 
 pub returns : goal.returns
 returns g c =
-    let done = product_last c.loop-high.invariant c.requires.from_zero (from_not_less (λ less. let wrong = c.is_below.ensures.1 less in cc)) in
+    let done = product_last c.loop-high.invariant c.requires.from_zero (from_test c.is_below.ensures c.loop-high-test.false) in
     (subst g.T.Number.fits done c.loop-high.invariant.product_in_range, (c.loop-high.invariant.product_in_range, done))

@@ -1,8 +1,14 @@
-use Rattle.applied.proofs.Common.{rules}
-use Rattle.applied.proofs.NearestQuotients.{nearest_quotient_fits_exactly, tested_quotient}
+use Rattle.applied.proofs.Common.{iff_false}
+use Rattle.applied.proofs.NearestQuotients.{nearest_quotient_fits_exactly}
 use Rattle.applied.proofs.rounding.checked.div_round_even.Goals as goal
 
-pub returns-clause-answer : goal.returns-clause-answer
-returns-clause-answer g c =
+pub returns-then-quotient_fits-clause-answer : goal.returns-then-quotient_fits-clause-answer
+returns-then-quotient_fits-clause-answer g c =
     let same = nearest_quotient_fits_exactly g.T.Number.fits _ _ _ _ g.met.T.Integer.range_law c.requires.in_range.0 c.requires.in_range.1 in
-    tested_quotient g.T.Number.value same.1 c.quotient_fits.ensures.domain.1 c.then.result c.then.ensures.variant c.then.ensures.some (λ q h. search rules)
+    let domain = c.quotient_fits.ensures.domain.1.0 c.if-quotient_fits.true in
+    ((domain.0, same.1.0 domain.1), (c.div_round_even.ensures.in_range, c.div_round_even.ensures.nearest))
+
+pub returns-else-quotient_fits-clause-answer : goal.returns-else-quotient_fits-clause-answer
+returns-else-quotient_fits-clause-answer g c =
+    let same = nearest_quotient_fits_exactly g.T.Number.fits _ _ _ _ g.met.T.Integer.range_law c.requires.in_range.0 c.requires.in_range.1 in
+    λ domain. iff_false c.quotient_fits.ensures.domain.1 c.if-quotient_fits.false (domain.0, same.1.1 domain.1)
