@@ -43,7 +43,7 @@ impl Date {
         ensures { MatchOption result (¬ (IsDate year month day_of_month))
             (λ date. HasParts date year month day_of_month) }
     {
-        if (1..=12).contains(&month) && (1..=days_in_month(year, month)).contains(&day_of_month) {
+        if matches!(month, 1..=12) && (1..=days_in_month(year, month)).contains(&day_of_month) {
             Some(Date {
                 year,
                 month,
