@@ -116,9 +116,9 @@ signed_year (pos n) (inr over) =
     rw sign (sign_padded false n ∙ sym (above n (omega (arith, ints))))
 signed_year (negsuc n) h = sign_padded true (suc n) ∙ sym (before n)
 
-pub joined : (date : Date) (year month day : List ℕ) → year ≡ year_text date.year → month ≡ padded 2 date.month → day ≡ padded 2 date.day_of_month
-    → year ++ (45 ∷ (month ++ (45 ∷ day))) ≡ text_of date
-joined date year month day y m d = rw (y, m, d) (simp append_assoc)
+pub joined : (date : Date) (month day : List ℕ) → month ≡ padded 2 date.month → day ≡ padded 2 date.day_of_month
+    → year_text date.year ++ (45 ∷ (month ++ (45 ∷ day))) ≡ text_of date
+joined date month day m d = rw (m, d) (simp append_assoc)
 
-pub joined_week : (week : IsoWeek) (year number : List ℕ) → year ≡ year_text week.year → number ≡ padded 2 week.week → year ++ (45 ∷ 87 ∷ number) ≡ week_text week
-joined_week week year number y n = rw (y, n) (simp append_assoc)
+pub joined_week : (week : IsoWeek) (number : List ℕ) → number ≡ padded 2 week.week → year_text week.year ++ (45 ∷ 87 ∷ number) ≡ week_text week
+joined_week week number n = rw n (simp append_assoc)

@@ -43,7 +43,10 @@ impl Date {
         ensures { MatchOption result (¬ (IsDate year month day_of_month))
             (λ date. HasParts date year month day_of_month) }
     {
-        if (1..=12).contains(&month) && (1..=days_in_month(year, month)).contains(&day_of_month) {
+        if matches!(month, 1..=12)
+            && 0 < day_of_month
+            && day_of_month <= days_in_month(year, month)
+        {
             Some(Date {
                 year,
                 month,
@@ -85,7 +88,8 @@ impl Date {
             ((self.now.year ≡ i64.MAX) × (self.now.month ≡ 12) × (self.now.day_of_month ≡ 31))
             (λ date. number_of date ≡ number_of self.now +ℤ pos 1) }
     {
-        let (year, month) = (self.year, self.month);
+        let year = self.year;
+        let month = self.month;
         if self.day_of_month < days_in_month(year, month) {
             Some(Date {
                 year,
@@ -114,7 +118,8 @@ impl Date {
             ((self.now.year ≡ i64.MIN) × (self.now.month ≡ 1) × (self.now.day_of_month ≡ 1))
             (λ date. number_of date ≡ number_of self.now -ℤ pos 1) }
     {
-        let (year, month) = (self.year, self.month);
+        let year = self.year;
+        let month = self.month;
         if self.day_of_month > 1 {
             Some(Date {
                 year,
@@ -153,7 +158,7 @@ impl Date {
         ensures { MatchOption result (¬ ((1 ≤ day_of_year) × (day_of_year ≤ days_in_year year)))
             (λ date. (date.year ≡ year) × (year_day_of date ≡ day_of_year)) }
     {
-        if (1..=days_in_year(year)).contains(&day_of_year) {
+        if 0 < day_of_year && day_of_year <= days_in_year(year) {
             Some(Date::in_year(year, day_of_year - 1))
         } else {
             None

@@ -35,7 +35,7 @@ impl Date {
         ensures value { result ≡ month_number self.now.year self.now.month }
         ensures small { unsigned_abs result < 2 ^ 68 }
     {
-        12 * i128::from(self.year) + i128::from(self.month) - 1
+        12 * i128::from(self.year) + i128::from(self.month - 1)
     }
 }
 

@@ -86,8 +86,8 @@ fn epact_of(century: i64, golden: u8) -> u8
     ensures value { IsEpact century golden result }
     ensures small { result < 30 }
 {
-    let (solar, lunar) = (solar_correction(century), lunar_correction(century));
-    mod_floor(epact_sum(golden, solar, lunar), 30) as u8
+    let sum = epact_sum(golden, solar_correction(century), lunar_correction(century));
+    mod_floor(sum, 30) as u8
 }
 
 /// Returns the number that leaves the epact as its remainder by 30.

@@ -1,6 +1,7 @@
 //! Prints and parses dates, and prints weeks, in the formats of ISO 8601.
 
 ghost use Rattle.std.specs.Prelude.{◌≡◌, ◌≢◌, ◌↔◌, ◌<◌, ◌≤◌, ℕ, ℤ, List, FitsSigned, IfSome, IsTrue, MatchOption, Some, Ok};
+ghost use Rattle.std.specs.Fmt.{WritesOnOk};
 ghost use Rattle.std.specs.Int.{w64};
 ghost use Rattle.calendar.specs.Text.{IsShortest, error_text, padded, text_of, week_text, with_number, year_text};
 ghost use Rattle.calendar.specs.declared.date.Date.{Date};
@@ -31,12 +32,8 @@ impl fmt::Display for Date {
     ghost output = { λ date. Some (text_of date) };
 
     fn fmt<W: fmt::Write>(&self, f: &mut fmt::Formatter<W>) -> fmt::Result {
-        let (year, month, day) = (self.year, self.month, self.day_of_month);
-        if (0..=9999).contains(&year) {
-            write!(f, "{year:04}-{month:02}-{day:02}")
-        } else {
-            write!(f, "{year:+05}-{month:02}-{day:02}")
-        }
+        write_year(self.year, f)?;
+        write!(f, "-{:02}-{:02}", self.month, self.day_of_month)
     }
 }
 
@@ -46,12 +43,18 @@ impl fmt::Display for IsoWeek {
     ghost output = { λ week. Some (week_text week) };
 
     fn fmt<W: fmt::Write>(&self, f: &mut fmt::Formatter<W>) -> fmt::Result {
-        let (year, week) = (self.year, self.week);
-        if (0..=9999).contains(&year) {
-            write!(f, "{year:04}-W{week:02}")
-        } else {
-            write!(f, "{year:+05}-W{week:02}")
-        }
+        write_year(self.year, f)?;
+        write!(f, "-W{:02}", self.week)
+    }
+}
+
+/// Prints the year with at least four digits. A year outside 0 to 9999 has a sign.
+fn write_year<W: fmt::Write>(year: i64, f: &mut fmt::Formatter<W>) -> fmt::Result
+    ensures { WritesOnOk W.write_str_gives f.old result (year_text year) f.new }
+{
+    match year {
+        0..=9999 => write!(f, "{year:04}"),
+        _ => write!(f, "{year:+05}"),
     }
 }
 
@@ -82,7 +85,7 @@ fn split_last_two_digits(text: &str) -> Option<(&str, u8)>
     ensures { MatchOption result ((front : List ℕ) (n : ℕ) → n < 100 → text.now ≢ with_number front n)
         (λ parts. (parts.1 < 100) × (text.now ≡ with_number parts.0.now parts.1)) }
 {
-    let (front, last) = text.split_at_checked(text.len().checked_sub(3)?)?;
+    let (front, last) = text.split_at_checked(text.len().saturating_sub(3))?;
     let [b'-', tens @ b'0'..=b'9', ones @ b'0'..=b'9'] = last.as_bytes() else {
         return None;
     };

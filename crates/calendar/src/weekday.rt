@@ -51,10 +51,9 @@ impl Weekday {
         ensures { MatchOption result (¬ ((1 ≤ number) × (number ≤ 7)))
             (λ weekday. iso_number weekday ≡ number) }
     {
-        if (1..=7).contains(&number) {
-            Some(weekday_after_sunday(u32::from(number)))
-        } else {
-            None
+        match number {
+            1..=7 => Some(weekday_after_sunday(u32::from(number))),
+            _ => None,
         }
     }
 

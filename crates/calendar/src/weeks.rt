@@ -39,7 +39,7 @@ pub fn nth_weekday_of_month(year: i64, month: u8, weekday: Weekday, n: u8) -> Op
         (λ date. IsNthWeekday year month weekday n date) }
 {
     let first = Date::new(year, month, 1)?;
-    if !(1..=5).contains(&n) {
+    if !matches!(n, 1..=5) {
         return None;
     }
     let days = 7 * (n - 1) + first.weekday().days_until(weekday);
@@ -52,10 +52,9 @@ pub fn last_weekday_of_month(year: i64, month: u8, weekday: Weekday) -> Option<D
     ensures { MatchOption result (¬ ((1 ≤ month) × (month ≤ 12)))
         (λ date. IsLastWeekdayOfMonth year month weekday date) }
 {
-    if (1..=12).contains(&month) {
-        Some(last_weekday(year, month, weekday))
-    } else {
-        None
+    match month {
+        1..=12 => Some(last_weekday(year, month, weekday)),
+        _ => None,
     }
 }
 

@@ -31,3 +31,13 @@ returns c =
     let march = rw same at (c.march_year-years.ensures.day (era +ℤ pos 4)) in
     let part = rw same at (c.march_year-years.ensures.within (era +ℤ pos 4)) in
     simp (c.from.ensures, c.from-2.ensures, to_z-of_z) (record { day = omega (arith, ints, march, place); within = part; next_fits = next })
+
+pub overflow_mul-result : goal.overflow_mul-result
+overflow_mul-result c =
+    let (place, (era, scaled, years, shifted, whole, next)) = placed (goal.at.overflow_mul-result c).After-march_year-years in
+    simp (c.from.ensures, to_z-of_z) scaled
+
+pub overflow_add-result : goal.overflow_add-result
+overflow_add-result c =
+    let (place, (era, scaled, years, shifted, whole, next)) = placed (goal.at.overflow_add-result c).After-march_year-years in
+    simp (c.from-2.ensures, to_z-of_z) shifted

@@ -1,16 +1,34 @@
-use Rattle.calendar.proofs.Common.{FitsSigned, w64, arith, ints, to_z-of_z}
+use Rattle.calendar.proofs.Common.{FitsSigned, w64, arith, ints, to_z-of_z, floored_remainder_range}
 use Rattle.calendar.proofs.EasterSundays.{is_epact}
 use Rattle.calendar.proofs.feasts.epact_of.Goals as goal
+
+pub epact_sum-sum-requires : goal.epact_sum-sum-requires
+epact_sum-sum-requires c =
+    let solar : FitsSigned w64 c.solar_correction.result = omega (arith, ints) in
+    let lunar : FitsSigned w64 c.lunar_correction.result = omega (arith, ints) in
+    simp to_z-of_z (record { solar = c.solar_correction.ensures.small; lunar = c.lunar_correction.ensures.small })
+
+pub overflow_cast-result : goal.overflow_cast-result
+overflow_cast-result c =
+    let fits = c.mod_floor.ensures.in_range in
+    let range = floored_remainder_range (omega (arith, ints)) c.mod_floor.ensures.floored in
+    simp to_z-of_z (omega (arith, ints))
+
+pub returns-clause-small : goal.returns-clause-small
+returns-clause-small c =
+    let fits = c.mod_floor.ensures.in_range in
+    let range = floored_remainder_range (omega (arith, ints)) c.mod_floor.ensures.floored in
+    simp to_z-of_z (omega (arith, ints))
 
 pub returns-clause-value : goal.returns-clause-value
 returns-clause-value c =
     let century = c.ranges.century in
-    let solar_fits : FitsSigned w64 c.solar_correction-solar.result = omega (arith, ints) in
-    let lunar_fits : FitsSigned w64 c.lunar_correction-lunar.result = omega (arith, ints) in
-    let sum_fits : FitsSigned w64 c.epact_sum.result = omega (arith, ints) in
+    let solar_fits : FitsSigned w64 c.solar_correction.result = omega (arith, ints) in
+    let lunar_fits : FitsSigned w64 c.lunar_correction.result = omega (arith, ints) in
+    let sum_fits : FitsSigned w64 c.epact_sum-sum.result = omega (arith, ints) in
     let rest_fits = c.mod_floor.ensures.in_range in
-    let solar = simp to_z-of_z at c.solar_correction-solar.ensures.value in
-    let lunar = simp to_z-of_z at c.lunar_correction-lunar.ensures.value in
-    let sum = simp to_z-of_z at c.epact_sum.ensures.value in
+    let solar = simp to_z-of_z at c.solar_correction.ensures.value in
+    let lunar = simp to_z-of_z at c.lunar_correction.ensures.value in
+    let sum = simp to_z-of_z at c.epact_sum-sum.ensures.value in
     let rest = simp to_z-of_z at c.mod_floor.ensures.floored in
     simp to_z-of_z (is_epact c.args.golden solar lunar sum rest)

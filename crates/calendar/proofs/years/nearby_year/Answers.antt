@@ -1,8 +1,43 @@
-use Rattle.calendar.proofs.Common.{◌≡◌, ◌+ℤ◌, ◌-ℤ◌, ◌≤ℤ◌, pos, FitsSigned, w64, arith, by_lt_z, ints, to_z-of_z}
+use Rattle.calendar.proofs.Common.{◌≡◌, ◌+ℤ◌, ◌-ℤ◌, ◌≤ℤ◌, ◌<ℤ◌, ℤ, pos, FitsSigned, IsTrue, false, w64, arith, by_lt_z, refl, ints, to_z-of_z}
 use Rattle.calendar.specs.Years.{days_in_year}
 use Rattle.calendar.proofs.IsoWeeks.{earlier, later}
 use Rattle.calendar.proofs.YearLengths.{length_range, next_first_day}
 use Rattle.calendar.proofs.years.nearby_year.Goals as goal
+
+-- a day that is neither before the end of a year nor negative comes after the year
+beyond : (year days : ℤ) → ((pos 0 ≤ℤ days) × (days <ℤ pos (days_in_year year)) → IsTrue false) → pos 0 ≤ℤ days → pos (days_in_year year) ≤ℤ days
+beyond year days out from = by_lt_z days (pos (days_in_year year)) (λ less. let clash = out (from, less) in (cc)) (λ far. far)
+
+pub overflow_cast-result : goal.overflow_cast-result
+overflow_cast-result c =
+    let year = c.ranges.year in
+    let days = c.ranges.days in
+    let (inside, under) = (simp to_z-of_z at c.if-is_in_year.ensures).0 refl in
+    simp to_z-of_z (omega (arith, ints, length_range c.args.year))
+
+pub returns-then-is_in_year : goal.returns-then-is_in_year
+returns-then-is_in_year c =
+    let year = c.ranges.year in
+    let days = c.ranges.days in
+    let (inside, under) = (simp to_z-of_z at c.if-is_in_year.ensures).0 refl in
+    simp to_z-of_z (omega (arith, ints), omega (arith, ints))
+
+pub overflow_cast-result-then-days-lt0 : goal.overflow_cast-result-then-days-lt0
+overflow_cast-result-then-days-lt0 c =
+    let days = c.ranges.days in
+    let length : FitsSigned w64 c.length_of.result = omega (arith, ints) in
+    let sum : FitsSigned w64 (c.args.days +ℤ c.length_of.result) = omega (arith, ints) in
+    simp to_z-of_z (omega (arith, ints))
+
+pub overflow_cast-result-else-days-lt0 : goal.overflow_cast-result-else-days-lt0
+overflow_cast-result-else-days-lt0 c =
+    let year = c.ranges.year in
+    let days = c.ranges.days in
+    let over = beyond c.args.year c.args.days (simp to_z-of_z at c.if-is_in_year.ensures).1 (omega (arith, ints)) in
+    let length = simp to_z-of_z at c.length_of-else-days-lt0.ensures.value in
+    let length_fits : FitsSigned w64 c.length_of-else-days-lt0.result = omega (arith, ints) in
+    let rest : FitsSigned w64 (c.args.days -ℤ c.length_of-else-days-lt0.result) = omega (arith, ints) in
+    simp to_z-of_z (omega (arith, ints, length))
 
 pub returns-in_err-before : goal.returns-in_err-before
 returns-in_err-before c =
@@ -14,8 +49,7 @@ pub returns-in_err-after : goal.returns-in_err-after
 returns-in_err-after c =
     let year = c.ranges.year in
     let days = c.ranges.days in
-    let out = simp to_z-of_z at c.if-is_in_year.ensures in
-    let over : pos (days_in_year c.args.year) ≤ℤ c.args.days = by_lt_z c.args.days (pos (days_in_year c.args.year)) (λ less. let clash = out.1 (omega (arith, ints), less) in (cc)) (λ far. far) in
+    let over = beyond c.args.year c.args.days (simp to_z-of_z at c.if-is_in_year.ensures).1 (omega (arith, ints)) in
     let beyond = simp to_z-of_z at c.in_err-after.ensures in
     rw c.from_residual-in_err-after.ensures (λ y h fits. let more = later {year = c.args.year} h (omega (arith, ints, next_first_day c.args.year)) in beyond (omega (arith, ints)))
 
@@ -37,8 +71,7 @@ returns-in_ok-after c =
     let days = c.ranges.days in
     let step = simp to_z-of_z at c.in_ok-after.ensures in
     let fits = step.0 in
-    let out = simp to_z-of_z at c.if-is_in_year.ensures in
-    let over : pos (days_in_year c.args.year) ≤ℤ c.args.days = by_lt_z c.args.days (pos (days_in_year c.args.year)) (λ less. let clash = out.1 (omega (arith, ints), less) in (cc)) (λ far. far) in
+    let over = beyond c.args.year c.args.days (simp to_z-of_z at c.if-is_in_year.ensures).1 (omega (arith, ints)) in
     let after : FitsSigned w64 c.in_ok-after.after = omega (arith, ints, step.1, step.0) in
     let length = simp to_z-of_z at c.length_of-else-days-lt0.ensures.value in
     let length_fits : FitsSigned w64 c.length_of-else-days-lt0.result = omega (arith, ints) in

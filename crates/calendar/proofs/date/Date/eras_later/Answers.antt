@@ -1,4 +1,4 @@
-use Rattle.calendar.proofs.Common.{◌+ℤ◌, ◌*ℤ◌, ℤ, pos, FitsSigned, w64, w128, arith, rules, ints, to_z-of_z}
+use Rattle.calendar.proofs.Common.{◌+ℤ◌, ◌*ℤ◌, ℤ, pos, FitsSigned, w64, w128, arith, refl, rules, ints, to_z-of_z}
 use Rattle.calendar.proofs.LaterEras.{date_later}
 use Rattle.calendar.proofs.date.Date.eras_later.Goals as goal
 
@@ -34,3 +34,11 @@ invariant_of-result c =
     let (year, more, years, sum) = wide c.args.self.now.year c.args.eras own (search rules) in
     let (fits, is) = simp (c.from.ensures, c.from-2.ensures, c.from-3.ensures, to_z-of_z) at c.in_ok-at_64_bits.ensures in
     record { valid = rw is (simp to_z-of_z (date_later c.args.eras c.args.self.now.valid)) }
+
+pub returns : goal.returns
+returns c =
+    let own : FitsSigned w64 c.args.self.now.year = search rules in
+    let eras = c.ranges.eras in
+    let (year, more, years, sum) = wide c.args.self.now.year c.args.eras own (search rules) in
+    let (fits, is) = simp (c.from.ensures, c.from-2.ensures, c.from-3.ensures, to_z-of_z) at c.in_ok-at_64_bits.ensures in
+    record { year_is = rw is (simp to_z-of_z refl); month_is = refl; day_is = refl }

@@ -3,6 +3,7 @@ use Rattle.calendar.specs.IsoWeeks.{IsDayOfIsoWeek}
 use Rattle.calendar.specs.Years.{first_day}
 use Rattle.calendar.specs.Weekday.{weekday_number}
 use Rattle.calendar.proofs.IsoWeeks.{day_of_week, day_or_none, no_day}
+use Rattle.calendar.proofs.YearLengths.{length_range}
 use Rattle.calendar.proofs.date.Date.from_iso_week.Goals as goal
 
 few_days : {days : ℤ} → pos 0 ≤ℤ (days +ℤ pos 6) → days <ℤ pos 372 → FitsSigned w64 days
@@ -36,3 +37,12 @@ returns-else-is_in_year c = λ day y k h y_fits.
     let out = simp to_z-of_z at c.if-is_in_year.ensures in
     let clash = out.1 (no_day {year = c.args.year} {week = c.args.week} thursday first last k.in_week) in
     cc
+
+pub days_to_weekday-requires : goal.days_to_weekday-requires
+days_to_weekday-requires c =
+    let year = c.ranges.year in
+    let first = c.days_to_thursday_of_week-thursday.ensures.from in
+    let last = c.days_to_thursday_of_week-thursday.ensures.before in
+    let fits : FitsSigned w64 c.days_to_thursday_of_week-thursday.result = omega (arith, ints) in
+    let (inside, under) = (simp to_z-of_z at c.if-is_in_year.ensures).0 refl in
+    simp to_z-of_z (record { from = inside; below = omega (arith, ints, length_range c.args.year) })

@@ -1,7 +1,28 @@
-use Rattle.calendar.proofs.Common.{ℤ, FitsSigned, w64, arith, refl, rules, subst, ints, to_z-of_z}
+use Rattle.calendar.proofs.Common.{◌+◌, ◌/◌, ◌<◌, ◌≤◌, ℕ, ℤ, FitsSigned, w64, arith, refl, rules, subst, ints, to_z-of_z}
+use Rattle.std.proofs.Common.{Fits}
+use Rattle.std.specs.Int.{w16, w8}
 use Rattle.calendar.specs.Years.{HasDay}
 use Rattle.calendar.proofs.IsoWeeks.{same_thursday, week_of}
+use Rattle.calendar.proofs.YearLengths.{length_range}
 use Rattle.calendar.proofs.date.Date.iso_week.Goals as goal
+
+-- the number of a week fits
+few_weeks : {days length : ℕ} → days < length → length ≤ 366 → (days / 7 + 1 ≤ 53) × Fits w8 (days / 7 + 1) × Fits w16 (days / 7 + 1)
+few_weeks within long = (omega arith, omega arith, omega arith)
+
+pub nearby_year-requires : goal.nearby_year-requires
+nearby_year-requires c =
+    let place : FitsSigned w64 c.days_to_thursday_of_date.result = omega (arith, ints) in
+    simp to_z-of_z (record { from = c.days_to_thursday_of_date.ensures.from; below = c.days_to_thursday_of_date.ensures.below })
+
+pub overflow_add-result : goal.overflow_add-result
+overflow_add-result c = (few_weeks c.in_ok-year.ensures.0 (length_range c.in_ok-year.year).1).2
+
+pub overflow_cast-result : goal.overflow_cast-result
+overflow_cast-result c = (few_weeks c.in_ok-year.ensures.0 (length_range c.in_ok-year.year).1).1
+
+pub returns-clause-to_53 : goal.returns-clause-to_53
+returns-clause-to_53 c = (few_weeks c.in_ok-year.ensures.0 (length_range c.in_ok-year.year).1).0
 
 pub returns-in_err-year-clause-week : goal.returns-in_err-year-clause-week
 returns-in_err-year-clause-week c =

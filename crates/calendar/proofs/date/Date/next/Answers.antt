@@ -1,4 +1,4 @@
-use Rattle.calendar.proofs.Common.{◌≡◌, ◌+◌, FitsSigned, w64, arith, of_z, rules, to_z, to_z-of_z}
+use Rattle.calendar.proofs.Common.{◌≡◌, ◌+◌, FitsSigned, w64, arith, of_z, rules, to_z, ints, to_z-of_z}
 use Rattle.calendar.specs.Months.{days_in_month}
 use Rattle.calendar.proofs.DateOrder.{last_of_year, next_month, next_year}
 use Rattle.calendar.proofs.MonthLengths.{month_length_range}
@@ -27,3 +27,8 @@ returns-in_ok-checked_add c =
     let step = simp to_z-of_z at c.in_ok-checked_add.ensures in
     let fits = step.0 in
     rw (step.1, last.0, last.1) (simp to_z-of_z (next_year date.year))
+
+pub returns-then-self-days_in_month : goal.returns-then-self-days_in_month
+returns-then-self-days_in_month c =
+    let year : FitsSigned w64 c.args.self.now.year = search rules in
+    simp to_z-of_z (omega (arith, ints))

@@ -1,22 +1,12 @@
-use Rattle.calendar.proofs.Common.{◌≡◌, ◌⊎◌, ◌≤ℤ◌, ◌<ℤ◌, ℕ, List, pos, FitsSigned, w64, arith, rules, subst, of_z, to_z, ints, to_z-of_z}
-use Rattle.std.specs.Fmt.{HasWritten, styled_signed_decimal}
-use Rattle.calendar.specs.Text.{year_text}
-use Rattle.calendar.proofs.DateTexts.{joined_week, plain_year, signed_year, zero_padded}
+use Rattle.calendar.proofs.Common.{FitsSigned, w64, refl, rules, to_z-of_z}
+use Rattle.std.proofs.Output.{has_written_append, has_written_of_eq}
+use Rattle.calendar.proofs.DateTexts.{joined_week, zero_padded}
 use Rattle.calendar.proofs.text.IsoWeekDisplay.fmt.Goals as goal
 
-pub returns-then-contains-clause-writes : goal.returns-then-contains-clause-writes
-returns-then-contains-clause-writes g c =
+pub returns-clause-writes : goal.returns-clause-writes
+returns-clause-writes g c = λ plain ok.
     let week = c.args.self.now in
     let fits : FitsSigned w64 week.year = search rules in
-    let low : pos 0 ≤ℤ week.year = grind (arith, ints) in
-    let high : week.year ≤ℤ pos 9999 = grind (arith, ints) in
-    let year : styled_signed_decimal c.laid_out.result (to_z w64 (of_z w64 week.year)) ≡ year_text week.year = rw c.laid_out.ensures (simp to_z-of_z (plain_year week.year low high)) in
-    λ plain ok. subst (λ (t : List ℕ). HasWritten g.W.Write.write_str_gives c.args.f.now t c.write.new.self) (joined_week week _ _ year (rw c.laid_out-then-contains.ensures (zero_padded 2 week.week))) (c.write.ensures.writes plain ok)
-
-pub returns-else-contains-clause-writes : goal.returns-else-contains-clause-writes
-returns-else-contains-clause-writes g c =
-    let week = c.args.self.now in
-    let fits : FitsSigned w64 week.year = search rules in
-    let outside : (week.year <ℤ pos 0) ⊎ (pos 9999 <ℤ week.year) = grind (arith, ints) in
-    let year : styled_signed_decimal c.laid_out-else-contains.result (to_z w64 (of_z w64 week.year)) ≡ year_text week.year = rw c.laid_out-else-contains.ensures (simp to_z-of_z (signed_year week.year outside)) in
-    λ plain ok. subst (λ (t : List ℕ). HasWritten g.W.Write.write_str_gives c.args.f.now t c.write-else-contains.new.self) (joined_week week _ _ year (rw c.laid_out-else-contains-2.ensures (zero_padded 2 week.week))) (c.write-else-contains.ensures.writes plain ok)
+    let year = (simp to_z-of_z at c.write_year.ensures) plain (rw c.in_ok-write_year.was refl) in
+    let text = joined_week week _ (rw c.laid_out.ensures (zero_padded 2 week.week)) in
+    has_written_of_eq _ _ _ _ _ text (has_written_append _ _ _ _ _ _ year (c.write.ensures.writes year.plain ok))
