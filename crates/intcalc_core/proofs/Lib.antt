@@ -1,2 +1,3 @@
 pub mod OnlyOutcome
 pub mod FractionLemmas
+mod OperandLemmas

@@ -54,7 +54,7 @@ pub(crate) fn widen<T: Operand>(x: T) -> i128
     if negative { -magnitude } else { magnitude }
 }
 
-/// Returns the answer of one number, or `NotFitting` if there is none.
+/// Returns the answer of one number, or `NotFitting` if the call returned none.
 pub(crate) fn one_or_not_fitting<T: Operand>(x: Option<T>) -> Result<Answer, Refusal>
     requires in_range { ForSome x (λ n. T.fits (T.value n)) }
     ensures { MatchOption x (result ≡ Err refusals.NotFitting)
