@@ -138,6 +138,10 @@ fn tasks_on_numbers(rt: HostRuntime) {
     assert!(rt; shares(1000, 3) == (333, 1));
     assert!(rt; budgets(1001) == [501, 300, 200]);
     assert!(rt; aligned(13) == Some(16) && aligned(u64::MAX).is_none());
+}
+
+#[test]
+fn tasks_on_residues(rt: HostRuntime) {
     assert!(rt; both_buses(10) == CommonSolution::At(21));
     assert!(rt; tax(i64::MAX) == Some(1752440687002407403));
     assert!(rt; inverse(3) == Some(333333336) && inverse(0).is_none());
@@ -161,6 +165,10 @@ fn tasks_on_fractions(rt: HostRuntime) {
         }
         _ => panic!(rt; "they are fractions"),
     }
+}
+
+#[test]
+fn tasks_on_texts_and_screens(rt: HostRuntime) {
     assert!(rt; read("1/0").is_err() && read("1.5").is_err());
     let screen = resolution(1920, 1080);
     assert!(rt; (screen.num(), screen.den()) == (16, 9));
@@ -176,6 +184,10 @@ fn tasks_on_dates(rt: HostRuntime) {
     if let Some(invoice) = Date::new(2026, 1, 31) {
         assert!(rt; due(&invoice) == Date::new(2026, 2, 28));
     }
+}
+
+#[test]
+fn tasks_on_months_and_weeks(rt: HostRuntime) {
     if let (Some(start), Some(end), Some(day)) = (
         Date::new(2000, 1, 31),
         Date::new(2000, 2, 29),

@@ -19,7 +19,7 @@ fn date(rt: &impl Abort, (year, month, day_of_month): Parts) -> Date {
 }
 
 /// The parts of a date, and its string.
-const TEXTS: [(Parts, &str); 12] = [
+static TEXTS: [(Parts, &str); 12] = [
     ((2026, 11, 23), "2026-11-23"),
     ((1970, 1, 1), "1970-01-01"),
     ((9999, 12, 31), "9999-12-31"),
@@ -35,7 +35,7 @@ const TEXTS: [(Parts, &str); 12] = [
 ];
 
 /// Strings that no date has.
-const NO_TEXTS: [&str; 24] = [
+static NO_TEXTS: [&str; 24] = [
     "",
     "-",
     "11-23",
@@ -79,6 +79,10 @@ fn texts_of_dates(rt: HostRuntime) {
         let is_text = is_text_of(&date(&rt, parts), text, rt.alloc());
         holds_at(&rt, is_text == Ok(true), &("fmt", text));
     }
+}
+
+#[test]
+fn texts_of_no_date(rt: HostRuntime) {
     for &text in &NO_TEXTS {
         holds_at(&rt, is_no_text(text), &("parse", text));
     }
@@ -97,6 +101,10 @@ fn text_of_the_error(rt: HostRuntime) {
     let printed = DateError.to_string(rt.alloc());
     let printed = printed.expect(&rt, "there is memory");
     holds_at(&rt, printed.as_str() == "not the text of a date", &"fmt");
+}
+
+#[test]
+fn years_of_texts(rt: HostRuntime) {
     for (text, year) in [("2026-11-23", Some(2026)), ("2026-11-31", None)] {
         let found = year_of_text(text).ok();
         holds_at(&rt, found == year, &("year_of_text", text));

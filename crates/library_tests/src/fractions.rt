@@ -22,7 +22,7 @@ const MAX: i64 = i64::MAX;
 type Parts = (i64, i64);
 
 /// The parts of a fraction as given, and those of the reduced one, some of them the ends, 0, 1 and -1 over each other.
-const REDUCED: [(Parts, Result<Parts, RatioError>); 37] = [
+static REDUCED: [(Parts, Result<Parts, RatioError>); 37] = [
     ((6, -4), Ok((-3, 2))),
     ((0, -9), Ok((0, 1))),
     ((2, 4), Ok((1, 2))),
@@ -63,7 +63,7 @@ const REDUCED: [(Parts, Result<Parts, RatioError>); 37] = [
 ];
 
 /// Fractions, each less than all that come after it.
-const ASCENDING: [Parts; 15] = [
+static ASCENDING: [Parts; 15] = [
     (MIN, 1),
     (-MAX, 1),
     (MIN, MAX),

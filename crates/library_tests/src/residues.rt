@@ -69,11 +69,11 @@ fn check_powers(rt: &impl Abort, a: i64, m: i64) {
 }
 
 /// Moduli: the ends and their neighbours, a prime, products of primes and a power of two.
-const MODULI: [i64; 10] = [1, 2, 10, 49, 64, 77, 97, 98, 99, 100];
+static MODULI: [i64; 10] = [1, 2, 10, 49, 64, 77, 97, 98, 99, 100];
 
 #[test]
 fn residues_of_own_numbers(rt: HostRuntime) {
-    for m in MODULI {
+    for &m in &MODULI {
         for a in -100..=100 {
             check_powers(&rt, a, m);
             for b in [-100, -99, -50, -1, 0, 1, 2, 64, 97, 100] {

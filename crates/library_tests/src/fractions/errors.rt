@@ -24,7 +24,7 @@ fn quotient_of_texts(num: &str, den: &str) -> anyhow::Result<Ratio> {
 }
 
 /// An error, the same one of a string, its number, and what both print.
-const REFUSALS: [(RatioError, ParseRatioError, u32, &str); 2] = [
+static REFUSALS: [(RatioError, ParseRatioError, u32, &str); 2] = [
     (
         RatioError::ZeroDenominator,
         ParseRatioError::ZeroDenominator,
@@ -40,7 +40,7 @@ const REFUSALS: [(RatioError, ParseRatioError, u32, &str); 2] = [
 ];
 
 /// The errors of a string alone.
-const PARSE_TEXTS: [(ParseRatioError, &str); 2] = [
+static PARSE_TEXTS: [(ParseRatioError, &str); 2] = [
     (ParseRatioError::NotAFraction, "the text is not a fraction"),
     (
         ParseRatioError::TooLong,
@@ -49,7 +49,7 @@ const PARSE_TEXTS: [(ParseRatioError, &str); 2] = [
 ];
 
 /// Two strings, and the string of the error of their quotient.
-const REFUSED: [((&str, &str), &str); 4] = [
+static REFUSED: [((&str, &str), &str); 4] = [
     (("1/2", "0"), "the denominator is 0"),
     (("1/0", "1"), "the denominator is 0"),
     (("1/2", "one"), "the text is not a fraction"),
@@ -74,6 +74,10 @@ fn texts_of_errors(rt: HostRuntime) {
         holds_at(&rt, written == Ok(true), &("fmt", error));
         holds_at(&rt, of_text_written == Ok(true), &("fmt", of_text));
     }
+}
+
+#[test]
+fn texts_of_errors_of_texts(rt: HostRuntime) {
     for &(error, text) in &PARSE_TEXTS {
         let written = is_written(&error, text, rt.alloc());
         holds_at(&rt, written == Ok(true), &("fmt", error));
@@ -92,6 +96,10 @@ fn is_refused(num: &str, den: &str, text: &str, alloc: Global) -> Result<bool, A
 fn errors_of_callers(rt: HostRuntime) {
     let are_fractions = fraction_of(6, -4).is_ok() && quotient_of_texts("6/-4", "3/2").is_ok();
     holds_at(&rt, are_fractions, &"fraction_of");
+}
+
+#[test]
+fn texts_of_refusals(rt: HostRuntime) {
     for &((num, den), text) in &REFUSED {
         let refused = is_refused(num, den, text, rt.alloc());
         holds_at(&rt, refused == Ok(true), &("quotient_of_texts", num, den));

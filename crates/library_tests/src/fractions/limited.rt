@@ -4,7 +4,7 @@ use super::{MAX, MIN, Parts, ratio};
 use crate::assertions::holds_at;
 
 /// The parts of a fraction, a limit, and the parts of the nearest fraction.
-const LIMITED: [(Parts, i64, Parts); 15] = [
+static LIMITED: [(Parts, i64, Parts); 15] = [
     ((3141592653589793, 1000000000000000), 10, (22, 7)),
     ((3141592653589793, 1000000000000000), 100, (311, 99)),
     ((3141592653589793, 1000000000000000), 1000, (355, 113)),

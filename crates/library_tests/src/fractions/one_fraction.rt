@@ -36,7 +36,7 @@ fn turned_fractions(rt: HostRuntime) {
 }
 
 /// An exponent, the parts of a fraction, and those of its power.
-const POWERS: [(i32, Parts, Result<Parts, RatioError>); 23] = [
+static POWERS: [(i32, Parts, Result<Parts, RatioError>); 23] = [
     (2, (2, 3), Ok((4, 9))),
     (-3, (-2, 3), Ok((-27, 8))),
     (0, (0, 1), Ok((1, 1))),
@@ -71,7 +71,7 @@ fn powers(rt: HostRuntime) {
 }
 
 /// The parts of a fraction, its sign, and whether it is positive, negative, 0, and an integer.
-const SIGNS: [(Parts, i64, (bool, bool, bool, bool)); 10] = [
+static SIGNS: [(Parts, i64, (bool, bool, bool, bool)); 10] = [
     ((MIN, 1), -1, (false, true, false, true)),
     ((MIN, MAX), -1, (false, true, false, false)),
     ((-3, 2), -1, (false, true, false, false)),

@@ -6,7 +6,7 @@ use ratio64::RatioError::{NotFitting, ZeroDenominator};
 use ratio64::{Ratio, RatioError};
 
 /// The sign of an operation, the parts of its operands, and those of its result.
-const ANSWERS: [(char, Parts, Parts, Result<Parts, RatioError>); 24] = [
+static ANSWERS: [(char, Parts, Parts, Result<Parts, RatioError>); 24] = [
     ('+', (1, 6), (1, 3), Ok((1, 2))),
     ('+', (1, 2), (-1, 2), Ok((0, 1))),
     ('+', (MAX, 1), (1, 1), Err(NotFitting)),
@@ -75,6 +75,10 @@ fn sums_with_one(rt: HostRuntime) {
         let is_sum = found == Ok((ratio(&rt, sum), is_less));
         holds_at(&rt, is_sum, &("plus_one", given));
     }
+}
+
+#[test]
+fn sum_with_one_that_does_not_fit(rt: HostRuntime) {
     let refused = plus_one(&ratio(&rt, (MAX, 1)));
     holds_at(&rt, refused == Err(NotFitting), &("plus_one", MAX));
 }

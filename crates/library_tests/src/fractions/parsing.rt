@@ -6,7 +6,7 @@ use ratio64::ParseRatioError::{NotAFraction, NotFitting, TooLong, ZeroDenominato
 use ratio64::{ParseRatioError, Ratio};
 
 /// A string, and the parts of the fraction that it is read as. The last rows have parts of 37, 38, 39 and 40 digits.
-const READ: [(&str, Result<Parts, ParseRatioError>); 35] = [
+static READ: [(&str, Result<Parts, ParseRatioError>); 35] = [
     ("3", Ok((3, 1))),
     ("-3/2", Ok((-3, 2))),
     ("6/-4", Ok((-3, 2))),
@@ -60,13 +60,13 @@ const READ: [(&str, Result<Parts, ParseRatioError>); 35] = [
 ];
 
 /// Strings that are no fractions.
-const OTHERS: [&str; 22] = [
+static OTHERS: [&str; 22] = [
     "", "/", "1/", "/1", "-", "-/1", "1/-", " 1", "1 ", "1 /2", "1/ 2", "+1", "1/+2", "--1",
     "1/--2", "1//2", "1/2/3", "1/2/", "1.5", "0x1", "a", "1/b",
 ];
 
 /// The parts of a fraction, and its string.
-const TEXTS: [(Parts, &str); 6] = [
+static TEXTS: [(Parts, &str); 6] = [
     ((6, -4), "-3/2"),
     ((12, 4), "3"),
     ((0, -9), "0"),

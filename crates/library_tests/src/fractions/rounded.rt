@@ -7,7 +7,7 @@ use crate::assertions::holds_at;
 const HALF: i64 = MAX / 2;
 
 /// The parts of a fraction, and what it is rounded to down and up.
-const DOWN_AND_UP: [(Parts, (i64, i64)); 10] = [
+static DOWN_AND_UP: [(Parts, (i64, i64)); 10] = [
     ((6, -4), (-2, -1)),
     ((7, 2), (3, 4)),
     ((-7, 2), (-4, -3)),
@@ -22,7 +22,7 @@ const DOWN_AND_UP: [(Parts, (i64, i64)); 10] = [
 
 /// The parts of a fraction, what it is rounded to toward 0 and to the nearest number, and the
 /// parts of what the first leaves.
-const TOWARD_0: [(Parts, (i64, i64), Parts); 17] = [
+static TOWARD_0: [(Parts, (i64, i64), Parts); 17] = [
     ((3, 2), (1, 2), (1, 2)),
     ((-3, 2), (-1, -2), (-1, 2)),
     ((5, 2), (2, 3), (1, 2)),

@@ -6,7 +6,7 @@ use crate::assertions::holds_at;
 /// The parts of a fraction and a number, and their product rounded down, up and to the nearest.
 type Row = (Parts, i64, (Option<i64>, Option<i64>, Option<i64>));
 
-const TIMES: [Row; 28] = [
+static TIMES: [Row; 28] = [
     ((2, 3), 100, (Some(66), Some(67), Some(67))),
     ((2, 3), -100, (Some(-67), Some(-66), Some(-67))),
     ((1, 3), 100, (Some(33), Some(34), Some(33))),

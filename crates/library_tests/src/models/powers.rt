@@ -4,7 +4,7 @@ use crate::assertions::holds_at;
 use applied::powers::{is_perfect_power, is_power, is_square};
 
 /// Whether a number is a square.
-const SQUARES: [(u64, bool); 6] = [
+static SQUARES: [(u64, bool); 6] = [
     (0, true),
     (1, true),
     (144, true),
@@ -15,7 +15,7 @@ const SQUARES: [(u64, bool); 6] = [
 
 #[test]
 fn squares(rt: HostRuntime) {
-    for (n, square) in SQUARES {
+    for &(n, square) in &SQUARES {
         holds_at(&rt, is_square(n) == square, &("is_square", n));
     }
     assert!(rt; is_square(121i8) && !is_square(127i8) && !is_square(-121i8));
@@ -54,7 +54,7 @@ fn powers_at_other_types(rt: HostRuntime) {
     assert!(rt; is_power(12157665459056928801u64, 40) && !is_power(12157665459056928802u64, 40));
 }
 
-const TO_144: [u64; 18] = [
+static TO_144: [u64; 18] = [
     0, 1, 4, 8, 9, 16, 25, 27, 32, 36, 49, 64, 81, 100, 121, 125, 128, 144,
 ];
 

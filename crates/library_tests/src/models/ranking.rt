@@ -9,7 +9,7 @@ use num_integer::{Fits, binomial};
 use std::process::Abort;
 
 /// The choices of three of the numbers below 5, in the order of their ranks.
-const THREE_OF_FIVE: [[u64; 3]; 10] = [
+static THREE_OF_FIVE: [[u64; 3]; 10] = [
     [0, 1, 2],
     [0, 1, 3],
     [0, 2, 3],

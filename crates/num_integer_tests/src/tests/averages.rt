@@ -55,7 +55,7 @@ fn overflow(rt: HostRuntime) {
 
 /// Checks the averages of both ends of each signed type.
 fn check_ends(rt: &impl Abort, alloc: Global) {
-    for it in SIGNED {
+    for &it in &SIGNED {
         let largest = largest(rt, alloc, it);
         let ends = [-largest - 1, largest];
         check_row(rt, alloc, (&[it], Averages), &ends, Some(&[-1, 0]));

@@ -37,7 +37,7 @@ fn check_largest_row(rt: &impl Abort, alloc: Global, it: Type, n: u128) {
 }
 
 /// The largest number whose row fits, at each of the types.
-const LARGEST_ROWS: [(Type, u128); 8] = [
+static LARGEST_ROWS: [(Type, u128); 8] = [
     (U8, 10),
     (I8, 9),
     (U16, 18),

@@ -59,14 +59,14 @@ fn check_by_euclid(rt: &impl Abort, alloc: Global, it: Type, (low, high): (i128,
 
 #[test]
 fn test_gcd_cmp_with_euclidean(rt: HostRuntime) {
-    for it in SIGNED {
+    for &it in &SIGNED {
         check_by_euclid(&rt, rt.alloc(), it, (-127, 127));
     }
 }
 
 #[test]
 fn test_gcd_cmp_with_euclidean_unsigned(rt: HostRuntime) {
-    for it in UNSIGNED {
+    for &it in &UNSIGNED {
         check_by_euclid(&rt, rt.alloc(), it, (0, 255));
     }
 }
@@ -74,7 +74,7 @@ fn test_gcd_cmp_with_euclidean_unsigned(rt: HostRuntime) {
 /// The divisor of the smallest number with the largest, with a power of 2, and with 42.
 #[test]
 fn test_gcd_min_val(rt: HostRuntime) {
-    for it in SIGNED {
+    for &it in &SIGNED {
         let largest = largest(&rt, rt.alloc(), it);
         let (smallest, power) = (-largest - 1, largest / 2 + 1);
         for (number, gcd) in [(largest, 1), (power, power), (42, 2)] {

@@ -43,7 +43,7 @@ fn multiples_on_both_sides(rt: HostRuntime) {
 /// The ends of a type are multiples of 1 and of -1.
 #[test]
 fn test_multiple_of_one_limits(rt: HostRuntime) {
-    for it in SIGNED {
+    for &it in &SIGNED {
         let largest = largest(&rt, rt.alloc(), it);
         for n in [-largest - 1, largest] {
             check_multiples(&rt, rt.alloc(), &[it], (n, 1, n, n));

@@ -82,7 +82,7 @@ fn check_pairs(rt: &impl Abort, alloc: Global, (it, low, high): (Type, u8, u8), 
 }
 
 /// The small types, the magnitude of the smallest number, and the largest number.
-const SMALL_TYPES: [(Type, u8, u8); 5] = [
+static SMALL_TYPES: [(Type, u8, u8); 5] = [
     (Percent, 0, 100),
     (Small, 7, 7),
     (Type::Negated, 7, 7),
@@ -92,7 +92,7 @@ const SMALL_TYPES: [(Type, u8, u8); 5] = [
 
 #[test]
 fn pairs_of_small_types(rt: HostRuntime) {
-    for (it, low, high) in SMALL_TYPES {
+    for &(it, low, high) in &SMALL_TYPES {
         for a in -i128::from(low)..=i128::from(high) {
             check_pairs(&rt, rt.alloc(), (it, low, high), a);
         }
@@ -100,11 +100,11 @@ fn pairs_of_small_types(rt: HostRuntime) {
 }
 
 /// Ends of the type beside a byte, their neighbours, and numbers between.
-const FIRST_NUMBERS: [i128; 15] = [-100, -99, -60, -50, -7, -2, -1, 0, 1, 2, 3, 10, 50, 99, 100];
+static FIRST_NUMBERS: [i128; 15] = [-100, -99, -60, -50, -7, -2, -1, 0, 1, 2, 3, 10, 50, 99, 100];
 
 #[test]
 fn pairs_beside_a_byte(rt: HostRuntime) {
-    for a in FIRST_NUMBERS {
+    for &a in &FIRST_NUMBERS {
         check_pairs(&rt, rt.alloc(), (Marked, 100, 100), a);
     }
 }

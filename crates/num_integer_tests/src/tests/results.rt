@@ -9,8 +9,8 @@ ghost use Rattle.std.specs.List.{All};
 use super::calls::Call;
 use num_integer::counted::{SqrtCounted, binomial_counted, extended_gcd_counted};
 use num_integer::{
-    Fits, IterBinomial, Roots, average_ceil, average_floor, binomial, cbrt, checked, div_ceil,
-    div_floor, div_mod_floor, div_rem, gcd, gcd_lcm, lcm, mod_floor, nth_root, sqrt,
+    Average, Fits, IterBinomial, Roots, average_ceil, average_floor, binomial, cbrt, checked,
+    div_ceil, div_floor, div_mod_floor, div_rem, gcd, gcd_lcm, lcm, mod_floor, nth_root, sqrt,
 };
 use num_traits::Signed;
 use own_types::form::SignedForm;
@@ -81,6 +81,16 @@ fn counted<T: Fits>(x: T, y: (T, u32)) -> Numbers
     if_same(x == y.0, two(x.parts(), (false, u128::from(y.1))))
 }
 
+/// The number, if there is one.
+fn number<T: Fits>(x: Option<T>) -> Option<Numbers>
+    requires { IfSome x (λ n. T.fits (T.value n)) }
+{
+    match x {
+        Some(n) => Some(one(n.parts())),
+        None => None,
+    }
+}
+
 /// The quotient and the remainder by `/` and `%`, if the quotient fits.
 fn operators<T: Fits>(n: T, d: T) -> Option<(T, T)>
     requires n_in_range { T.fits (T.value n) }
@@ -94,93 +104,100 @@ fn operators<T: Fits>(n: T, d: T) -> Option<(T, T)>
 }
 
 /// The greatest common divisor with its pair, and the turns.
-fn bezout<T: Fits>(a: T, b: T) -> Option<Numbers>
-    requires in_range { T.fits (T.value a) × T.fits (T.value b) }
+fn bezout<T: Fits>(a: &T, b: &T) -> Option<Numbers>
+    requires in_range { T.fits (T.value a.now) × T.fits (T.value b.now) }
 {
-    let pair = checked::extended_gcd(a, b)?;
-    let (other, turns) = extended_gcd_counted(a, b);
+    let pair = checked::extended_gcd(*a, *b)?;
+    let (other, turns) = extended_gcd_counted(*a, *b);
     let last = (false, u128::from(turns));
     let numbers = [pair.gcd.parts(), pair.x.parts(), pair.y.parts(), last];
-    Some(if_same((pair == other) & (pair == a.extended_gcd(&b)), numbers))
+    Some(if_same((pair == other) & (pair == a.extended_gcd(b)), numbers))
 }
 
 /// The greatest common divisor with its pair, and the least common multiple.
-fn bezout_and_multiple<T: Signed + Fits>(a: T, b: T) -> Option<Numbers>
-    requires in_range { T.fits (T.value a) × T.fits (T.value b) }
+fn bezout_and_multiple<T: Signed + Fits>(a: &T, b: &T) -> Option<Numbers>
+    requires in_range { T.fits (T.value a.now) × T.fits (T.value b.now) }
 {
-    let (pair, lcm) = checked::extended_gcd_lcm(a, b)?;
-    let (other, multiple) = a.extended_gcd_lcm(&b);
+    let (pair, lcm) = checked::extended_gcd_lcm(*a, *b)?;
+    let (other, multiple) = a.extended_gcd_lcm(b);
     let last = lcm.parts();
     let numbers = [pair.gcd.parts(), pair.x.parts(), pair.y.parts(), last];
     Some(if_same((pair == other) & (lcm == multiple), numbers))
 }
 
 /// The result of a call of divisors or of coefficients.
-fn of_divisors<T: Fits>(call: Call, a: T, b: T) -> Option<Numbers>
-    requires in_range { T.fits (T.value a) × T.fits (T.value b) }
+fn of_divisors<T: Fits>(call: Call, a: &T, b: &T) -> Option<Numbers>
+    requires in_range { T.fits (T.value a.now) × T.fits (T.value b.now) }
 {
     Some(match call {
-        Call::Gcd => agreed(checked::gcd(a, b)?, gcd(a, b)),
-        Call::GcdFits => truth(a.gcd_fits(&b)),
-        Call::Lcm => agreed(checked::lcm(a, b)?, lcm(a, b)),
-        Call::LcmFits => truth(a.lcm_fits(&b)),
-        Call::GcdLcm => both_agreed(checked::gcd_lcm(a, b)?, gcd_lcm(a, b)),
+        Call::Gcd => agreed(checked::gcd(*a, *b)?, gcd(*a, *b)),
+        Call::GcdFits => truth(a.gcd_fits(b)),
+        Call::Lcm => agreed(checked::lcm(*a, *b)?, lcm(*a, *b)),
+        Call::LcmFits => truth(a.lcm_fits(b)),
+        Call::GcdLcm => both_agreed(checked::gcd_lcm(*a, *b)?, gcd_lcm(*a, *b)),
         Call::Bezout => bezout(a, b)?,
-        Call::Binomial => agreed(checked::binomial(a, b)?, binomial(a, b)),
-        Call::BinomialFits => truth(a.binomial_fits(&b)),
-        Call::CountedBinomial => counted(checked::binomial(a, b)?, binomial_counted(a, b)),
+        Call::Binomial => agreed(checked::binomial(*a, *b)?, binomial(*a, *b)),
+        Call::BinomialFits => truth(a.binomial_fits(b)),
+        Call::CountedBinomial => counted(checked::binomial(*a, *b)?, binomial_counted(*a, *b)),
         _ => DIFFERENT,
     })
 }
 
 /// The result of a call of division, or of another one.
-fn of_division<T: Fits>(call: Call, n: T, d: T) -> Option<Numbers>
-    requires in_range { T.fits (T.value n) × T.fits (T.value d) }
+fn of_division<T: Fits>(call: Call, n: &T, d: &T) -> Option<Numbers>
+    requires in_range { T.fits (T.value n.now) × T.fits (T.value d.now) }
 {
     Some(match call {
-        Call::DivRem => both_agreed(checked::div_rem(n, d)?, div_rem(n, d)),
-        Call::Operators => both_agreed(checked::div_rem(n, d)?, operators(n, d)?),
-        Call::DivFloor => agreed(checked::div_floor(n, d)?, div_floor(n, d)),
-        Call::ModFloor => agreed(checked::mod_floor(n, d)?, mod_floor(n, d)),
-        Call::DivModFloor => both_agreed(checked::div_mod_floor(n, d)?, div_mod_floor(n, d)),
-        Call::DivCeil => agreed(checked::div_ceil(n, d)?, div_ceil(n, d)),
-        Call::NextMultipleOf => agreed(checked::next_multiple_of(n, d)?, n.next_multiple_of(&d)),
-        Call::PrevMultipleOf => agreed(checked::prev_multiple_of(n, d)?, n.prev_multiple_of(&d)),
-        Call::IsMultipleOf => truth(n.is_multiple_of(&d)),
-        Call::Divides => truth(n.divides(&d)),
-        Call::QuotientFits => truth(n.quotient_fits(&d)),
-        Call::NextMultipleFits => truth(n.next_multiple_fits(&d)),
-        Call::PrevMultipleFits => truth(n.prev_multiple_fits(&d)),
+        Call::DivRem => both_agreed(checked::div_rem(*n, *d)?, div_rem(*n, *d)),
+        Call::Operators => both_agreed(checked::div_rem(*n, *d)?, operators(*n, *d)?),
+        Call::DivFloor => agreed(checked::div_floor(*n, *d)?, div_floor(*n, *d)),
+        Call::ModFloor => agreed(checked::mod_floor(*n, *d)?, mod_floor(*n, *d)),
+        Call::DivModFloor => both_agreed(checked::div_mod_floor(*n, *d)?, div_mod_floor(*n, *d)),
+        Call::DivCeil => agreed(checked::div_ceil(*n, *d)?, div_ceil(*n, *d)),
+        Call::NextMultipleOf => agreed(checked::next_multiple_of(*n, *d)?, n.next_multiple_of(d)),
+        Call::PrevMultipleOf => agreed(checked::prev_multiple_of(*n, *d)?, n.prev_multiple_of(d)),
+        Call::IsMultipleOf => truth(n.is_multiple_of(d)),
+        Call::Divides => truth(n.divides(d)),
+        Call::QuotientFits => truth(n.quotient_fits(d)),
+        Call::NextMultipleFits => truth(n.next_multiple_fits(d)),
+        Call::PrevMultipleFits => truth(n.prev_multiple_fits(d)),
         _ => return of_divisors(call, n, d),
     })
 }
 
-/// The result of a call of one operand, of a sum or a product, of averages, or of another call.
-fn of_pair<T: Tested>(call: Call, mut x: T, y: T) -> Option<Numbers>
+/// Both averages.
+fn averages<T: Average + Fits>(x: T, y: T) -> Numbers
     requires in_range { T.fits (T.value x) × T.fits (T.value y) }
 {
-    Some(match call {
+    two(average_floor(x, y).parts(), average_ceil(x, y).parts())
+}
+
+/// The result of a call of one operand, of a sum or a product, of averages, or of another call.
+fn of_pair<T: Tested>(call: Call, x: &T, y: &T) -> Option<Numbers>
+    requires in_range { T.fits (T.value x.now) × T.fits (T.value y.now) }
+{
+    match call {
         Call::Inc => {
-            let more = checked::inc(x)?;
-            x.inc();
-            agreed(more, x)
+            let (more, mut next) = (checked::inc(*x)?, *x);
+            next.inc();
+            Some(agreed(more, next))
         }
         Call::Dec => {
-            let less = checked::dec(x)?;
-            x.dec();
-            agreed(less, x)
+            let (less, mut previous) = (checked::dec(*x)?, *x);
+            previous.dec();
+            Some(agreed(less, previous))
         }
-        Call::Negated => one(checked::negated(x)?.parts()),
-        Call::Parts => one(x.parts()),
-        Call::IsEven => truth(x.is_even()),
-        Call::IsOdd => truth(x.is_odd()),
-        Call::Sum => one(checked::sum(x, y)?.parts()),
-        Call::Difference => one(checked::difference(x, y)?.parts()),
-        Call::Product => one(checked::product(x, y)?.parts()),
-        Call::Averages => two(average_floor(x, y).parts(), average_ceil(x, y).parts()),
-        Call::CountedGcd => counted(checked::gcd(x, y)?, x.gcd_and_turns(&y)?),
-        _ => return of_division(call, x, y),
-    })
+        Call::Negated => number(checked::negated(*x)),
+        Call::Parts => Some(one(x.parts())),
+        Call::IsEven => Some(truth(x.is_even())),
+        Call::IsOdd => Some(truth(x.is_odd())),
+        Call::Sum => number(checked::sum(*x, *y)),
+        Call::Difference => number(checked::difference(*x, *y)),
+        Call::Product => number(checked::product(*x, *y)),
+        Call::Averages => Some(averages(*x, *y)),
+        Call::CountedGcd => Some(counted(checked::gcd(*x, *y)?, x.gcd_and_turns(y)?)),
+        _ => of_division(call, x, y),
+    }
 }
 
 /// The numbers as values of the type, if it has them and memory is left.
@@ -209,19 +226,22 @@ fn of_counts<T: Tested>((alloc, call, counts): Ask) -> Option<Numbers> {
     Some(agreed(multinomial, num_integer::multinomial(&counts)))
 }
 
+/// Whether the row has all numbers but the first as its items, and no more.
+fn has_items<T: Tested>(mut row: IterBinomial<T>, numbers: &[SignedMagnitude]) -> bool {
+    let mut same = true;
+    for place in 1..numbers.len() {
+        let item = T::from_signed_magnitude(operand(numbers, place));
+        same &= item.is_some() & (row.next() == item);
+    }
+    same & row.next().is_none() & row.next().is_none()
+}
+
 /// Whether two calls return the row of the first number, and the other numbers are its items.
-fn of_row<T: Tested>(n: T, items: &[SignedMagnitude]) -> Option<Numbers>
+fn of_row<T: Tested>(n: T, numbers: &[SignedMagnitude]) -> Option<Numbers>
     requires { T.fits (T.value n) }
 {
-    let (mut row, mut plain) = (checked::row(n)?, IterBinomial::new(n));
-    let mut same = true;
-    for item in items.iter().skip(1) {
-        let item = T::from_signed_magnitude(*item);
-        same &= item.is_some() & (row.next() == item) & (plain.next() == item);
-    }
-    for _ in 0..2u8 {
-        same &= row.next().is_none() & plain.next().is_none();
-    }
+    let row = checked::row(n)?;
+    let same = has_items(row, numbers) & has_items(IterBinomial::new(n), numbers);
     Some(truth(same))
 }
 
@@ -239,7 +259,7 @@ fn of_each<T: Tested>(ask: Ask) -> Option<Numbers> {
         (Call::Multinomial | Call::MultinomialFits, _, _) => of_counts::<T>(ask),
         (Call::Has, x, _) => Some(truth(x.is_some())),
         (Call::Row, Some(n), _) => of_row(n, ask.2),
-        (call, Some(x), Some(y)) => of_pair(call, x, y),
+        (call, Some(x), Some(y)) => of_pair(call, &x, &y),
         _ => Some(DIFFERENT),
     }
 }
@@ -266,7 +286,7 @@ fn of_counted<T: SqrtCounted + Tested>(ask: Ask) -> Option<Numbers> {
 /// The result at a type with a sign.
 fn of_signed<T: Signed + Tested>(ask: Ask) -> Option<Numbers> {
     match (ask.1, value::<T>(ask, 0), value::<T>(ask, 1)) {
-        (Call::BezoutAndMultiple, Some(x), Some(y)) => bezout_and_multiple(x, y),
+        (Call::BezoutAndMultiple, Some(x), Some(y)) => bezout_and_multiple(&x, &y),
         _ => of_each::<T>(ask),
     }
 }

@@ -12,10 +12,10 @@ use std::alloc::Global;
 use std::process::Abort;
 
 /// The signed types of at most 64 bits, and the bits beside the sign.
-const SIGNED_BITS: [(Type, u32); 5] = [(I8, 7), (I16, 15), (I32, 31), (I64, 63), (Isize, 63)];
+static SIGNED_BITS: [(Type, u32); 5] = [(I8, 7), (I16, 15), (I32, 31), (I64, 63), (Isize, 63)];
 
 /// The unsigned types of at most 64 bits, and their bits.
-const UNSIGNED_BITS: [(Type, u32); 5] = [(U8, 8), (U16, 16), (U32, 32), (U64, 64), (Usize, 64)];
+static UNSIGNED_BITS: [(Type, u32); 5] = [(U8, 8), (U16, 16), (U32, 32), (U64, 64), (Usize, 64)];
 
 /// Checks the root by each of the calls.
 fn has_root(
@@ -96,11 +96,11 @@ fn check_roots_from_zero(rt: &impl Abort, alloc: Global, (it, bits): (Type, u32)
 }
 
 /// Degrees up to the bits of a type, and far above.
-const DEGREES: [u32; 12] = [0, 1, 2, 3, 4, 5, 31, 32, 63, 64, 4294967294, 4294967295];
+static DEGREES: [u32; 12] = [0, 1, 2, 3, 4, 5, 31, 32, 63, 64, 4294967294, 4294967295];
 
 /// Checks the root of each of the degrees.
 fn check_degrees(rt: &impl Abort, alloc: Global, it: Type, x: i128) {
-    for degree in DEGREES {
+    for &degree in &DEGREES {
         if degree == 0 || x < 0 && degree % 2 == 0 {
             has_no_root(rt, alloc, it, signed_magnitude_of(x), degree);
         } else {
@@ -111,13 +111,13 @@ fn check_degrees(rt: &impl Abort, alloc: Global, it: Type, x: i128) {
 
 #[test]
 fn roots_at_the_ends(rt: HostRuntime) {
-    for (it, _) in SIGNED_BITS {
+    for &(it, _) in &SIGNED_BITS {
         let largest = largest(&rt, rt.alloc(), it);
         for x in [-largest - 1, -1, 0, 1, largest] {
             check_degrees(&rt, rt.alloc(), it, x);
         }
     }
-    for (it, _) in UNSIGNED_BITS {
+    for &(it, _) in &UNSIGNED_BITS {
         for x in [0, 1, largest(&rt, rt.alloc(), it)] {
             check_degrees(&rt, rt.alloc(), it, x);
         }
@@ -145,10 +145,10 @@ fn check_roots_below_zero(rt: &impl Abort, alloc: Global, (it, bits): (Type, u32
 
 /// Checks the roots of a degree of numbers that are not negative, at each type.
 fn check_each(rt: &impl Abort, alloc: Global, n: u32) {
-    for typed in SIGNED_BITS {
+    for &typed in &SIGNED_BITS {
         check_roots_from_zero(rt, alloc, typed, n);
     }
-    for typed in UNSIGNED_BITS {
+    for &typed in &UNSIGNED_BITS {
         check_roots_from_zero(rt, alloc, typed, n);
     }
 }
@@ -165,14 +165,14 @@ fn cbrt(rt: HostRuntime) {
 
 #[test]
 fn cbrt_neg(rt: HostRuntime) {
-    for typed in SIGNED_BITS {
+    for &typed in &SIGNED_BITS {
         check_roots_below_zero(&rt, rt.alloc(), typed, 3);
     }
 }
 
 #[test]
 fn nth_root(rt: HostRuntime) {
-    for typed in SIGNED_BITS {
+    for &typed in &SIGNED_BITS {
         for n in 4..typed.1 {
             check_roots_from_zero(&rt, rt.alloc(), typed, n);
         }
@@ -181,7 +181,7 @@ fn nth_root(rt: HostRuntime) {
 
 #[test]
 fn nth_root_neg(rt: HostRuntime) {
-    for typed in SIGNED_BITS {
+    for &typed in &SIGNED_BITS {
         for n in 5..typed.1 {
             check_roots_below_zero(&rt, rt.alloc(), typed, n);
         }
@@ -197,13 +197,13 @@ fn has_bits(rt: &impl Abort, alloc: Global, it: Type, n: u32) {
 
 #[test]
 fn bit_size(rt: HostRuntime) {
-    for (it, bits) in SIGNED_BITS {
+    for &(it, bits) in &SIGNED_BITS {
         has_bits(&rt, rt.alloc(), it, bits);
         let largest = largest(&rt, rt.alloc(), it);
         check_number(&rt, rt.alloc(), (it, -largest - 1, bits, -2));
         check_number(&rt, rt.alloc(), (it, -largest, bits, -1));
     }
-    for (it, bits) in UNSIGNED_BITS {
+    for &(it, bits) in &UNSIGNED_BITS {
         has_bits(&rt, rt.alloc(), it, bits);
     }
 }

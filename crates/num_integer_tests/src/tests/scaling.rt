@@ -6,7 +6,7 @@ use num_integer::checked::product_div_mod_floor;
 /// Two factors, a divisor, and the quotient with its remainder.
 type Row<T> = (T, T, T, Option<(T, T)>);
 
-const SIGNED: [Row<i64>; 12] = [
+static SIGNED: [Row<i64>; 12] = [
     (i64::MAX, 2, 3, Some((6148914691236517204, 2))),
     (i64::MAX, 3, 2, None),
     (i64::MIN, -1, -1, Some((i64::MIN, 0))),
@@ -26,7 +26,7 @@ const SIGNED: [Row<i64>; 12] = [
     (1, 1, 0, None),
 ];
 
-const UNSIGNED: [Row<u64>; 5] = [
+static UNSIGNED: [Row<u64>; 5] = [
     (u64::MAX, u64::MAX, u64::MAX, Some((u64::MAX, 0))),
     (u64::MAX, u64::MAX, u64::MAX - 1, None),
     (u64::MAX, 10, 11, Some((16769767339735956013, 7))),

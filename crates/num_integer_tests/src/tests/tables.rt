@@ -604,7 +604,7 @@ pub(super) static UNSIGNED_DIVISIONS: [Row; 9] = [
 ];
 
 /// Two operands and their greatest common divisor.
-pub(super) const GCDS: [([i128; 2], i128); 11] = [
+pub(super) static GCDS: [([i128; 2], i128); 11] = [
     ([10, 2], 2),
     ([10, 3], 1),
     ([0, 3], 3),
@@ -619,7 +619,7 @@ pub(super) const GCDS: [([i128; 2], i128); 11] = [
 ];
 
 /// Two operands and their least common multiple.
-pub(super) const LCMS: [([i128; 2], i128); 9] = [
+pub(super) static LCMS: [([i128; 2], i128); 9] = [
     ([1, 0], 0),
     ([1, 1], 1),
     ([8, 9], 72),

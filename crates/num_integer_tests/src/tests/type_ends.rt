@@ -188,13 +188,13 @@ fn check_table<const N: usize>(
 
 #[test]
 fn ends_of_each_type(rt: HostRuntime) {
-    for it in NATIVE {
+    for &it in &NATIVE {
         check_table(&rt, rt.alloc(), it, &NUMBERS, &NUMBER_CALLS);
         check_table(&rt, rt.alloc(), it, &SUMS, &SUM_CALLS);
         check_table(&rt, rt.alloc(), it, &DIVISIONS, &DIVISION_CALLS);
         check_table(&rt, rt.alloc(), it, &DIVISORS, &DIVISOR_CALLS);
     }
-    for it in SIGNED {
+    for &it in &SIGNED {
         check_table(&rt, rt.alloc(), it, &DIVISORS, &SIGNED_CALLS);
     }
 }
