@@ -116,7 +116,8 @@ impl Date {
     /// </details>
     #[must_use]
     pub fn new(year: i64, month: u8, day_of_month: u8) -> Option<Self> {
-        if (1..=12).contains(&month) && (1..=days_in_month(year, month)).contains(&day_of_month) {
+        if matches!(month, 1..=12) && 0 < day_of_month && day_of_month <= days_in_month(year, month)
+        {
             Some(Self {
                 year,
                 month,
@@ -215,7 +216,8 @@ impl Date {
     /// </details>
     #[must_use]
     pub fn next(&self) -> Option<Self> {
-        let (year, month) = (self.year, self.month);
+        let year = self.year;
+        let month = self.month;
         if self.day_of_month < days_in_month(year, month) {
             Some(Self {
                 year,
@@ -263,7 +265,8 @@ impl Date {
     /// </details>
     #[must_use]
     pub fn previous(&self) -> Option<Self> {
-        let (year, month) = (self.year, self.month);
+        let year = self.year;
+        let month = self.month;
         if self.day_of_month > 1 {
             Some(Self {
                 year,
@@ -343,7 +346,7 @@ impl Date {
     /// </details>
     #[must_use]
     pub fn from_year_day(year: i64, day_of_year: u16) -> Option<Self> {
-        if (1..=days_in_year(year)).contains(&day_of_year) {
+        if 0 < day_of_year && day_of_year <= days_in_year(year) {
             Some(Self::in_year(year, day_of_year - 1))
         } else {
             None

@@ -45,7 +45,7 @@ impl Date {
 
     /// Returns the number of the month, counted from January of year 0.
     fn month_number(&self) -> i128 {
-        12 * i128::from(self.year) + i128::from(self.month) - 1
+        12 * i128::from(self.year) + i128::from(self.month - 1)
     }
 }
 

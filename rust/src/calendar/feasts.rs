@@ -77,8 +77,8 @@ fn days_to_full_moon(epact: u8, golden: u8) -> u8 {
 
 /// Returns the epact, the age of the moon on 1 January, in years of this century and golden number.
 fn epact_of(century: i64, golden: u8) -> u8 {
-    let (solar, lunar) = (solar_correction(century), lunar_correction(century));
-    mod_floor(epact_sum(golden, solar, lunar), 30) as u8
+    let sum = epact_sum(golden, solar_correction(century), lunar_correction(century));
+    mod_floor(sum, 30) as u8
 }
 
 /// Returns the number that leaves the epact as its remainder by 30.

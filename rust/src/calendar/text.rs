@@ -64,14 +64,8 @@ impl Error for DateError {}
 /// </details>
 impl fmt::Display for Date {
     fn fmt(&self, f: &mut fmt::Formatter<'_>) -> fmt::Result {
-        crate::padded::pad(f, |f| {
-            let (year, month, day) = (self.year, self.month, self.day_of_month);
-            if (0..=9999).contains(&year) {
-                write!(f, "{year:04}-{month:02}-{day:02}")
-            } else {
-                write!(f, "{year:+05}-{month:02}-{day:02}")
-            }
-        })
+        write_year(self.year, f)?;
+        write!(f, "-{:02}-{:02}", self.month, self.day_of_month)
     }
 }
 
@@ -99,14 +93,16 @@ impl fmt::Display for Date {
 /// </details>
 impl fmt::Display for IsoWeek {
     fn fmt(&self, f: &mut fmt::Formatter<'_>) -> fmt::Result {
-        crate::padded::pad(f, |f| {
-            let (year, week) = (self.year, self.week);
-            if (0..=9999).contains(&year) {
-                write!(f, "{year:04}-W{week:02}")
-            } else {
-                write!(f, "{year:+05}-W{week:02}")
-            }
-        })
+        write_year(self.year, f)?;
+        write!(f, "-W{:02}", self.week)
+    }
+}
+
+/// Prints the year with at least four digits. A year outside 0 to 9999 has a sign.
+fn write_year<W: fmt::Write>(year: i64, f: &mut fmt::Formatter<'_>) -> fmt::Result {
+    match year {
+        0..=9999 => write!(f, "{year:04}"),
+        _ => write!(f, "{year:+05}"),
     }
 }
 
@@ -156,7 +152,7 @@ fn parse_date(text: &str) -> Option<Date> {
 /// Splits a hyphen and two digits off the end of the string. Returns the rest and the number, or
 /// `None` if the string does not end so.
 fn split_last_two_digits(text: &str) -> Option<(&str, u8)> {
-    let (front, last) = crate::strings::split_at_checked(text, text.len().checked_sub(3)?)?;
+    let (front, last) = crate::strings::split_at_checked(text, text.len().saturating_sub(3))?;
     let [b'-', tens @ b'0'..=b'9', ones @ b'0'..=b'9'] = last.as_bytes() else {
         return None;
     };

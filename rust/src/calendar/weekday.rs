@@ -91,10 +91,9 @@ impl Weekday {
     /// </details>
     #[must_use]
     pub fn from_iso_number(number: u8) -> Option<Self> {
-        if (1..=7).contains(&number) {
-            Some(weekday_after_sunday(u32::from(number)))
-        } else {
-            None
+        match number {
+            1..=7 => Some(weekday_after_sunday(u32::from(number))),
+            _ => None,
         }
     }
 

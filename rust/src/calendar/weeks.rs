@@ -94,7 +94,7 @@ pub fn last_weekday_on_or_before(day: i64, weekday: Weekday) -> Option<i64> {
 #[must_use]
 pub fn nth_weekday_of_month(year: i64, month: u8, weekday: Weekday, n: u8) -> Option<Date> {
     let first = Date::new(year, month, 1)?;
-    if !(1..=5).contains(&n) {
+    if !matches!(n, 1..=5) {
         return None;
     }
     let days = 7 * (n - 1) + first.weekday().days_until(weekday);
@@ -126,10 +126,9 @@ pub fn nth_weekday_of_month(year: i64, month: u8, weekday: Weekday, n: u8) -> Op
 /// </details>
 #[must_use]
 pub fn last_weekday_of_month(year: i64, month: u8, weekday: Weekday) -> Option<Date> {
-    if (1..=12).contains(&month) {
-        Some(last_weekday(year, month, weekday))
-    } else {
-        None
+    match month {
+        1..=12 => Some(last_weekday(year, month, weekday)),
+        _ => None,
     }
 }
 

@@ -37,8 +37,11 @@ use crate::{Fits, Integer};
 /// </details>
 #[must_use]
 pub fn residue<T: Integer + Copy>(a: T, m: T) -> Option<T> {
-    positive(m)?;
-    Some(crate::modular::residue(a, m))
+    if is_positive(m) {
+        Some(crate::modular::residue(a, m))
+    } else {
+        None
+    }
 }
 
 /// Returns [`sum_modulo`](crate::modular::sum_modulo), or `None` if `m` is not positive.
@@ -71,8 +74,11 @@ pub fn residue<T: Integer + Copy>(a: T, m: T) -> Option<T> {
 /// </details>
 #[must_use]
 pub fn sum_modulo<T: Integer + Copy>(a: T, b: T, m: T) -> Option<T> {
-    positive(m)?;
-    Some(crate::modular::sum_modulo(a, b, m))
+    if is_positive(m) {
+        Some(crate::modular::sum_modulo(a, b, m))
+    } else {
+        None
+    }
 }
 
 /// Returns [`difference_modulo`](crate::modular::difference_modulo), or `None` if `m` is not
@@ -106,8 +112,11 @@ pub fn sum_modulo<T: Integer + Copy>(a: T, b: T, m: T) -> Option<T> {
 /// </details>
 #[must_use]
 pub fn difference_modulo<T: Integer + Copy>(a: T, b: T, m: T) -> Option<T> {
-    positive(m)?;
-    Some(crate::modular::difference_modulo(a, b, m))
+    if is_positive(m) {
+        Some(crate::modular::difference_modulo(a, b, m))
+    } else {
+        None
+    }
 }
 
 /// Returns [`negation_modulo`](crate::modular::negation_modulo), or `None` if `m` is not positive.
@@ -140,8 +149,11 @@ pub fn difference_modulo<T: Integer + Copy>(a: T, b: T, m: T) -> Option<T> {
 /// </details>
 #[must_use]
 pub fn negation_modulo<T: Integer + Copy>(a: T, m: T) -> Option<T> {
-    positive(m)?;
-    Some(crate::modular::negation_modulo(a, m))
+    if is_positive(m) {
+        Some(crate::modular::negation_modulo(a, m))
+    } else {
+        None
+    }
 }
 
 /// Returns [`product_modulo`](crate::modular::product_modulo), or `None` if `m` is not positive.
@@ -174,8 +186,11 @@ pub fn negation_modulo<T: Integer + Copy>(a: T, m: T) -> Option<T> {
 /// </details>
 #[must_use]
 pub fn product_modulo<T: Modular>(a: T, b: T, m: T) -> Option<T> {
-    positive(m)?;
-    Some(crate::modular::product_modulo(a, b, m))
+    if is_positive(m) {
+        Some(crate::modular::product_modulo(a, b, m))
+    } else {
+        None
+    }
 }
 
 /// Returns [`power_modulo`](crate::modular::power_modulo), or `None` if `m` is not positive.
@@ -208,8 +223,11 @@ pub fn product_modulo<T: Modular>(a: T, b: T, m: T) -> Option<T> {
 /// </details>
 #[must_use]
 pub fn power_modulo<T: Modular>(a: T, exponent: u128, m: T) -> Option<T> {
-    positive(m)?;
-    Some(crate::modular::power_modulo(a, exponent, m))
+    if is_positive(m) {
+        Some(crate::modular::power_modulo(a, exponent, m))
+    } else {
+        None
+    }
 }
 
 /// Returns [`inverse_modulo`](crate::modular::inverse_modulo), or `None` if `m` is not positive or
@@ -242,8 +260,11 @@ pub fn power_modulo<T: Modular>(a: T, exponent: u128, m: T) -> Option<T> {
 /// </details>
 #[must_use]
 pub fn inverse_modulo<T: Integer + Copy>(a: T, m: T) -> Option<T> {
-    positive(m)?;
-    crate::modular::inverse_modulo(a, m)
+    if is_positive(m) {
+        crate::modular::inverse_modulo(a, m)
+    } else {
+        None
+    }
 }
 
 /// Returns [`quotient_modulo`](crate::modular::quotient_modulo), or `None` if `m` is not positive
@@ -278,8 +299,11 @@ pub fn inverse_modulo<T: Integer + Copy>(a: T, m: T) -> Option<T> {
 /// </details>
 #[must_use]
 pub fn quotient_modulo<T: Modular>(a: T, b: T, m: T) -> Option<T> {
-    positive(m)?;
-    crate::modular::quotient_modulo(a, b, m)
+    if is_positive(m) {
+        crate::modular::quotient_modulo(a, b, m)
+    } else {
+        None
+    }
 }
 
 /// Returns [`solutions`](crate::modular::solutions), or `None` if `m` is not positive or there is
@@ -318,8 +342,11 @@ pub fn quotient_modulo<T: Modular>(a: T, b: T, m: T) -> Option<T> {
 /// </details>
 #[must_use]
 pub fn solutions<T: Modular>(a: T, b: T, m: T) -> Option<(T, T)> {
-    positive(m)?;
-    crate::modular::solutions(a, b, m)
+    if is_positive(m) {
+        crate::modular::solutions(a, b, m)
+    } else {
+        None
+    }
 }
 
 /// Returns [`next_congruent`](crate::modular::next_congruent), or `None` if `step` is not positive
@@ -354,8 +381,11 @@ pub fn solutions<T: Modular>(a: T, b: T, m: T) -> Option<(T, T)> {
 /// </details>
 #[must_use]
 pub fn next_congruent<T: Fits>(from: T, first: T, step: T) -> Option<T> {
-    positive(step)?;
-    crate::modular::next_congruent(from, first, step)
+    if is_positive(step) {
+        crate::modular::next_congruent(from, first, step)
+    } else {
+        None
+    }
 }
 
 /// Returns [`previous_congruent`](crate::modular::previous_congruent), or `None` if `step` is not
@@ -391,8 +421,11 @@ pub fn next_congruent<T: Fits>(from: T, first: T, step: T) -> Option<T> {
 /// </details>
 #[must_use]
 pub fn previous_congruent<T: Fits>(to: T, first: T, step: T) -> Option<T> {
-    positive(step)?;
-    crate::modular::previous_congruent(to, first, step)
+    if is_positive(step) {
+        crate::modular::previous_congruent(to, first, step)
+    } else {
+        None
+    }
 }
 
 /// Returns [`count_congruent`](crate::modular::count_congruent), or `None` if `step` is not
@@ -429,8 +462,11 @@ pub fn previous_congruent<T: Fits>(to: T, first: T, step: T) -> Option<T> {
 /// </details>
 #[must_use]
 pub fn count_congruent<T: Fits>(from: T, to: T, first: T, step: T) -> Option<T> {
-    positive(step)?;
-    crate::modular::count_congruent(from, to, first, step)
+    if is_positive(step) {
+        crate::modular::count_congruent(from, to, first, step)
+    } else {
+        None
+    }
 }
 
 /// Returns [`next_common_solution`](crate::modular::next_common_solution), or `None` if a modulus
@@ -479,12 +515,14 @@ pub fn next_common_solution<T: Modular + Fits>(
     b: T,
     n: T,
 ) -> Option<CommonSolution<T>> {
-    positive(m)?;
-    positive(n)?;
-    Some(crate::modular::next_common_solution(from, a, m, b, n))
+    if is_positive(m) && is_positive(n) {
+        Some(crate::modular::next_common_solution(from, a, m, b, n))
+    } else {
+        None
+    }
 }
 
-/// Returns `Some` if the modulus is positive.
-fn positive<T: Integer>(m: T) -> Option<()> {
-    (T::zero() < m).then_some(())
+/// Returns `true` if the modulus is positive.
+fn is_positive<T: Integer>(m: T) -> bool {
+    T::zero() < m
 }

@@ -53,7 +53,7 @@ use crate::Integer;
 pub fn inverse_modulo<T: Integer + Copy>(a: T, m: T) -> Option<T> {
     assert!(m > T::zero(), "the modulus is not positive");
     let (gcd, x) = gcd_modulo(a, m);
-    if gcd == T::one() {
+    if gcd.is_one() {
         Some(x)
     } else {
         None

@@ -4,34 +4,42 @@
 use crate::modular::products::Modular;
 use crate::modular::residues::{negation_of_residue, residue};
 use crate::modular::wide_residues::{power_of_wide, product_of_wide};
-
 use crate::{Fits, NativeInteger};
-use num_traits::cast;
+use num_traits::{cast, NumCast};
 
 impl<T: NativeInteger> Modular for T {
     fn product_modulo(&self, other: &T, modulus: &T) -> T {
         assert!(*modulus > Self::zero(), "the modulus is not positive");
-        let (x, y, m) = (self.parts().1, other.parts().1, modulus.parts().1);
-        let rest = of_magnitude(product_of_wide(x, y, m));
-        if (*self < T::zero()) != (*other < T::zero()) {
-            negation_of_residue(rest, *modulus)
-        } else {
-            rest
-        }
+        of_magnitude(product_as_magnitude(*self, *other, *modulus))
     }
 
     fn power_modulo_counted(&self, exponent: u128, modulus: &T) -> (T, u32) {
         assert!(*modulus > Self::zero(), "the modulus is not positive");
-        let (power, turns) = power_of_wide(
-            residue(*self, *modulus).parts().1,
-            exponent,
-            modulus.parts().1,
-        );
+        let (power, turns) = power_as_magnitude(*self, exponent, *modulus);
         (of_magnitude(power), turns)
     }
 }
 
+/// Returns `a * b` modulo `m` as a magnitude.
+fn product_as_magnitude<T: Fits>(a: T, b: T, m: T) -> u128 {
+    let (a_negative, x) = a.parts();
+    let (b_negative, y) = b.parts();
+    let modulus = m.parts().1;
+    let rest = product_of_wide(x, y, modulus);
+    if a_negative != b_negative {
+        negation_of_residue(rest, modulus)
+    } else {
+        rest
+    }
+}
+
+/// Returns `a` to the power `exponent` modulo `m` as a magnitude, and the number of turns of the
+/// loop.
+fn power_as_magnitude<T: Fits>(a: T, exponent: u128, m: T) -> (u128, u32) {
+    power_of_wide(residue(a, m).parts().1, exponent, m.parts().1)
+}
+
 /// Converts a magnitude to the type.
-fn of_magnitude<T: NativeInteger>(x: u128) -> T {
+fn of_magnitude<T: NumCast>(x: u128) -> T {
     cast::<u128, T>(x).unwrap()
 }

@@ -34,8 +34,11 @@ use crate::Fits;
 /// </details>
 #[must_use]
 pub fn div_round<T: Fits>(x: T, y: T) -> Option<T> {
-    x.quotient_fits(&y)
-        .then(|| crate::rounding::div_round(x, y))
+    if x.quotient_fits(&y) {
+        Some(crate::rounding::div_round(x, y))
+    } else {
+        None
+    }
 }
 
 /// Returns [`div_round_even`](crate::rounding::div_round_even), the nearest integer and a half to
@@ -69,6 +72,9 @@ pub fn div_round<T: Fits>(x: T, y: T) -> Option<T> {
 /// </details>
 #[must_use]
 pub fn div_round_even<T: Fits>(x: T, y: T) -> Option<T> {
-    x.quotient_fits(&y)
-        .then(|| crate::rounding::div_round_even(x, y))
+    if x.quotient_fits(&y) {
+        Some(crate::rounding::div_round_even(x, y))
+    } else {
+        None
+    }
 }
