@@ -206,11 +206,20 @@ class Eraser:
         """What an implementation of `Display` writes keeps the width and the fill of the format, unless it hands the
         formatter on, as to the `fmt` of a part."""
         [function] = [inner for inner in item.items if inner.kind == 'fn']
-        if any(self.at(k) == 'f' and self.at(k - 3) != 'write' and self.at(k + 2) != 'write_str'
+        own = {'write', *(other.name for other in self.module.items if other.kind == 'fn')}
+        if any(self.at(k) == 'f' and self.at(k + 2) != 'write_str' and self.callee(k) not in own
                for k in range(function.open, function.last)):
             return
         self.write(function.open, self.texts[self.source.code[function.open]] + ' crate::padded::pad(f, |f| {')
         self.write(function.last, '}) }')
+
+    def callee(self, k):
+        """The name of the function or the macro that has an argument at `k`."""
+        depth = 1
+        while depth:
+            k -= 1
+            depth += (self.at(k) in (')', ']', '}')) - (self.at(k) in ('(', '[', '{'))
+        return self.at(k - 2 if self.at(k - 1) == '!' else k - 1)
 
     def only_returns(self, item, owner):
         """Whether a call of the item is of no use where its result is not used: a public function that changes nothing.
@@ -332,9 +341,11 @@ class Eraser:
             return self.split_at_checked(k)
         if self.is_macro(k) and word not in MACROS:
             self.refuse(k, f'the macro `{word}!`')
-        if word == 'fmt' and self.at(k - 1) == 'fn' and self.at(k + 1) == '<':
+        if self.at(k - 1) == 'fn' and self.at(k + 1) == '<' and self.is_of_writer(k + 1):
             self.drop(k + 1, source.angle(k + 1) - 1)
-        elif word == 'Formatter' and self.at(k + 1) == '<':
+            if word != 'fmt':
+                self.part_of_format(k)
+        elif self.texts[source.code[k]] == 'Formatter' and self.at(k + 1) == '<':
             self.write(k + 2, "'_")
         elif word in GHOST_TRAITS:
             self.drop_from_list(k)
@@ -350,6 +361,18 @@ class Eraser:
         self.write(k - 2, f'crate::strings::split_at_checked({self.at(k - 2)},')
         self.drop(k - 1, k + 1)
         return k + 2
+
+    def is_of_writer(self, k):
+        """Whether the only type parameter is a writer, which Rust's `Formatter` does not name."""
+        return ''.join(self.at(j) for j in range(k + 2, self.source.angle(k) - 1)) == ':fmt::Write'
+
+    def part_of_format(self, k):
+        """A function that prints a part of a value takes what `pad` hands it."""
+        while self.at(k) != 'Formatter':
+            k += 1
+        self.write(k - 3, 'dyn fmt')
+        self.write(k, 'Write')
+        self.drop(k + 1, self.source.angle(k + 1) - 1)
 
     def is_macro(self, k):
         mark = self.source.code[k] + 1

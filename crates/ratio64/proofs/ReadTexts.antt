@@ -127,10 +127,6 @@ spelled_text {num = num} {den = den} {result = result} cuts left right answer sp
       rw (s.num_spelled.value, s.den_spelled.value, ← same.0, ← same.1) answer;
 }
 
--- a long part is refused
-pub spelled_long : {a b : ℤ} {result : Result Ratio ParseRatioError} → result ≡ Err TooLong → HasLongPart a b → AnswersSpelled a b result
-spelled_long is long = record { too_long = (λ _. long, λ _. is); answer = λ short. absurd (short long) }
-
 -- integers of at most 38 digits, by the result of their fraction
 pub spelled_fraction : {a b : ℤ} {result : Result Ratio ParseRatioError} (r : Result Ratio RatioError) → unsigned_abs a < 10 ^ 38 → unsigned_abs b < 10 ^ 38 → AnswersFraction a b r → result ≡ answer_read r → AnswersSpelled a b result
 spelled_fraction {a} {b} r left right h is = record {

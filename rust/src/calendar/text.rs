@@ -64,8 +64,10 @@ impl Error for DateError {}
 /// </details>
 impl fmt::Display for Date {
     fn fmt(&self, f: &mut fmt::Formatter<'_>) -> fmt::Result {
-        write_year(self.year, f)?;
-        write!(f, "-{:02}-{:02}", self.month, self.day_of_month)
+        crate::padded::pad(f, |f| {
+            write_year(self.year, f)?;
+            write!(f, "-{:02}-{:02}", self.month, self.day_of_month)
+        })
     }
 }
 
@@ -93,13 +95,15 @@ impl fmt::Display for Date {
 /// </details>
 impl fmt::Display for IsoWeek {
     fn fmt(&self, f: &mut fmt::Formatter<'_>) -> fmt::Result {
-        write_year(self.year, f)?;
-        write!(f, "-W{:02}", self.week)
+        crate::padded::pad(f, |f| {
+            write_year(self.year, f)?;
+            write!(f, "-W{:02}", self.week)
+        })
     }
 }
 
 /// Prints the year with at least four digits. A year outside 0 to 9999 has a sign.
-fn write_year<W: fmt::Write>(year: i64, f: &mut fmt::Formatter<'_>) -> fmt::Result {
+fn write_year(year: i64, f: &mut dyn fmt::Write) -> fmt::Result {
     match year {
         0..=9999 => write!(f, "{year:04}"),
         _ => write!(f, "{year:+05}"),

@@ -1,7 +1,7 @@
-use Rattle.std.proofs.Common.{◌≡◌, Err, ap, arith, inl, inr, rules, sym, ◌∙◌}
+use Rattle.std.proofs.Common.{ap, arith, sym, ◌∙◌}
 use Rattle.std.proofs.lemmas.Result.{err_from_is_err_and}
 use Rattle.ratio64.proofs.WideSums.{read}
-use Rattle.ratio64.proofs.ReadTexts.{spelled_fraction, spelled_long}
+use Rattle.ratio64.proofs.ReadTexts.{spelled_fraction}
 use Rattle.ratio64.specs.RatioText.{answer_read}
 use Rattle.ratio64.proofs.parse.fraction_of.Goals as goal
 
@@ -13,20 +13,3 @@ returns-in_err-reduced-clause-fraction c =
     let refused = err_from_is_err_and c.from_residual-in_err-reduced.result c.from_residual-in_err-reduced.ensures.1 in
     let is = refused.1 ∙ refused.2 ∙ sym (ap answer_read c.in_err-reduced.was) in
     rw (← num.0, ← den.0) (spelled_fraction c.reduced.result num.1 den.1 answer is)
-
-pub returns-clause-fraction : goal.returns-clause-fraction
-returns-clause-fraction c =
-    let num = c.in_ok-integer.ensures in
-    let den = c.in_ok-integer-2.ensures in
-    let answer = rw (read c.in_ok-integer.field-0 (omega arith), read c.in_ok-integer-2.field-0 (omega arith)) at c.reduced.ensures in
-    rw (← num.0, ← den.0) (spelled_fraction c.reduced.result num.1 den.1 answer (sym (ap answer_read c.in_ok-reduced.was)))
-
-pub returns-in_err-integer-clause-fraction : goal.returns-in_err-integer-clause-fraction
-returns-in_err-integer-clause-fraction c =
-    let is : c.from_residual.result ≡ Err c.in_err-integer.field-0.0 = search rules in
-    spelled_long (is ∙ ap (λ e. Err e) c.in_err-integer.ensures.0) (inl c.in_err-integer.ensures.1)
-
-pub returns-in_err-integer-2-clause-fraction : goal.returns-in_err-integer-2-clause-fraction
-returns-in_err-integer-2-clause-fraction c =
-    let is : c.from_residual-in_err-integer-2.result ≡ Err c.in_err-integer-2.field-0.0 = search rules in
-    spelled_long (is ∙ ap (λ e. Err e) c.in_err-integer-2.ensures.0) (inr c.in_err-integer-2.ensures.1)

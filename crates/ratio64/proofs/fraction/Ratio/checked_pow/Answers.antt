@@ -16,14 +16,3 @@ pub returns-in_ok-checked_recip-clause-below_zero : goal.returns-in_ok-checked_r
 returns-in_ok-checked_recip-clause-below_zero c = λ below.
     let degree : c.unsigned_abs.result ≡ unsigned_abs c.args.exponent = rw (to_z-of_z w32 c.args.exponent c.ranges.exponent) at c.unsigned_abs.ensures.value in
     powers_of_exact (unsigned_abs c.args.exponent) c.in_ok-checked_recip.ensures.reciprocal.exact (rw degree at c.power.ensures)
-
-pub returns-else-exponent-lt0-clause-from_zero : goal.returns-else-exponent-lt0-clause-from_zero
-returns-else-exponent-lt0-clause-from_zero c = λ above.
-    let degree = rw (to_z-of_z w32 c.args.exponent c.ranges.exponent) at c.unsigned_abs-else-exponent-lt0.ensures.value in
-    rw degree at c.power-else-exponent-lt0.ensures
-
-pub returns-else-exponent-lt0-clause-below_zero : goal.returns-else-exponent-lt0-clause-below_zero
-returns-else-exponent-lt0-clause-below_zero c = λ below. absurd (omega (arith, ints))
-
-pub returns-in_err-checked_recip-clause-from_zero : goal.returns-in_err-checked_recip-clause-from_zero
-returns-in_err-checked_recip-clause-from_zero c = λ above. absurd (omega (arith, ints))
