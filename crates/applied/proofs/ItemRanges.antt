@@ -100,7 +100,8 @@ begins_in {page} {size} {full = full} up division from_zero to_full =
     record { from_zero = product_from_zero page size from_zero (omega (arith, linear)); to_items = omega (arith, linear, division.division.equation) }
 
 -- what is left of the items from it on fits, and so does its end, if that many are left
-pub left_fits : {fits : ℤ → Type 0} {low high page size items first : ℤ} → IsRange fits low high → fits items → BeginsIn page size items → first ≡ page *ℤ size → fits (items -ℤ first)
+pub left_fits : {fits : ℤ → Type 0} {low high page size items first : ℤ} → IsRange fits low high → fits items → BeginsIn page size items
+    → first ≡ page *ℤ size → fits (items -ℤ first)
 left_fits range items_fit within is = fits_below range items_fit (omega (arith, linear, within.to_items)) (omega (arith, linear, within.from_zero))
 
 pub page_end_fits : {fits : ℤ → Type 0} {low high page size items first left : ℤ} → IsRange fits low high → fits items → pos 0 <ℤ size → BeginsIn page size items
@@ -175,7 +176,8 @@ cut_within {parts} {items} {size} {longer} {part} up from_zero division part_up 
 pub parts_positive : {part parts : ℤ} → pos 0 ≤ℤ part → part <ℤ parts → pos 0 <ℤ parts
 parts_positive part_up within = omega (arith, linear)
 
-start_fits : {fits : ℤ → Type 0} {low high parts items size longer part : ℤ} → IsRange fits low high → fits items → pos 0 <ℤ parts → pos 0 ≤ℤ items → IsFloored items parts size longer → pos 0 ≤ℤ part → part ≤ℤ parts
+start_fits : {fits : ℤ → Type 0} {low high parts items size longer part : ℤ} → IsRange fits low high → fits items → pos 0 <ℤ parts → pos 0 ≤ℤ items
+    → IsFloored items parts size longer → pos 0 ≤ℤ part → part ≤ℤ parts
     → fits (part *ℤ size) × fits (cut_at size longer part)
 start_fits range items_fit up from_zero division part_up within =
     let start = cut_within up from_zero division part_up within in
@@ -187,7 +189,8 @@ pub record PartFits (fits : ℤ → Type 0) (size longer part : ℤ) : Type 0 wh
   pub next_part : fits (part +ℤ pos 1)
   pub next : fits ((part +ℤ pos 1) *ℤ size) × fits (cut_at size longer (part +ℤ pos 1))
 
-pub part_fits : {fits : ℤ → Type 0} {low high parts items size longer part : ℤ} → IsRange fits low high → fits parts → fits items → pos 0 ≤ℤ items → IsFloored items parts size longer → pos 0 ≤ℤ part → part <ℤ parts
+pub part_fits : {fits : ℤ → Type 0} {low high parts items size longer part : ℤ} → IsRange fits low high → fits parts → fits items → pos 0 ≤ℤ items
+    → IsFloored items parts size longer → pos 0 ≤ℤ part → part <ℤ parts
     → PartFits fits size longer part
 part_fits range parts_fit items_fit from_zero division part_up within =
     let up = parts_positive part_up within in

@@ -10,7 +10,8 @@ pub returns-then-is_below-clause-falling : goal.returns-then-is_below-clause-fal
 returns-then-is_below-clause-falling g c = c.zero.ensures.value ∙ sym (falling_of_none _ _ c.requires.n_from_zero (c.is_below.ensures.0 c.if-is_below.true))
 
 pub returns-else-is_below-clause-falling : goal.returns-else-is_below-clause-falling
-returns-else-is_below-clause-falling g c = c.product_above.ensures.product ∙ falling_is (g.T.Number.value c.args.n) (g.T.Number.value c.args.k) (g.T.Number.value c.difference.result) c.difference.ensures.value
+returns-else-is_below-clause-falling g c = c.product_above.ensures.product ∙ falling_is (g.T.Number.value c.args.n) (g.T.Number.value c.args.k)
+    (g.T.Number.value c.difference.result) c.difference.ensures.value
 
 pub product_above-requires-clause-product_fits : goal.product_above-requires-clause-product_fits
 product_above-requires-clause-product_fits g c = subst g.T.Number.fits (sym (falling_is (g.T.Number.value c.args.n) (g.T.Number.value c.args.k) (g.T.Number.value c.difference.result) c.difference.ensures.value)) c.requires.falling_fits

@@ -7,22 +7,29 @@ div_mod_floor-size-requires-clause-nonzero g c = positive_is_other (parts_positi
 
 pub div_mod_floor-size-requires-clause-quotient_fits : goal.div_mod_floor-size-requires-clause-quotient_fits
 div_mod_floor-size-requires-clause-quotient_fits g c = λ q h.
-    positive_quotient_fits g.met.T.Integer.range_law c.requires.in_range.2 c.requires.in_range.1 (parts_positive c.requires.part_from_zero c.requires.part_below) h.division.division
+    positive_quotient_fits g.met.T.Integer.range_law c.requires.in_range.2 c.requires.in_range.1
+    (parts_positive c.requires.part_from_zero c.requires.part_below) h.division.division
 
 pub start_of-first-requires : goal.start_of-first-requires
 start_of-first-requires g c =
-    let part = part_fits g.met.T.Integer.range_law c.requires.in_range.1 c.requires.in_range.2 c.requires.from_zero c.div_mod_floor-size.ensures.floored c.requires.part_from_zero c.requires.part_below in
-    record { in_range = (c.requires.in_range.0, c.div_mod_floor-size.ensures.in_range.0, c.div_mod_floor-size.ensures.in_range.1); product_fits = part.first.0; start_fits = part.first.1 }
+    let part = part_fits g.met.T.Integer.range_law c.requires.in_range.1 c.requires.in_range.2 c.requires.from_zero
+    c.div_mod_floor-size.ensures.floored c.requires.part_from_zero c.requires.part_below in
+    let sizes = c.div_mod_floor-size.ensures.in_range in
+    record { in_range = (c.requires.in_range.0, sizes.0, sizes.1); product_fits = part.first.0; start_fits = part.first.1 }
 
 pub successor-requires-clause-sum_fits : goal.successor-requires-clause-sum_fits
 successor-requires-clause-sum_fits g c =
-    let part = part_fits g.met.T.Integer.range_law c.requires.in_range.1 c.requires.in_range.2 c.requires.from_zero c.div_mod_floor-size.ensures.floored c.requires.part_from_zero c.requires.part_below in
+    let part = part_fits g.met.T.Integer.range_law c.requires.in_range.1 c.requires.in_range.2 c.requires.from_zero
+    c.div_mod_floor-size.ensures.floored c.requires.part_from_zero c.requires.part_below in
     part.next_part
 
 pub start_of-requires : goal.start_of-requires
 start_of-requires g c =
-    let part = part_fits g.met.T.Integer.range_law c.requires.in_range.1 c.requires.in_range.2 c.requires.from_zero c.div_mod_floor-size.ensures.floored c.requires.part_from_zero c.requires.part_below in
-    record { in_range = (c.successor.ensures.in_range, c.div_mod_floor-size.ensures.in_range.0, c.div_mod_floor-size.ensures.in_range.1); product_fits = rw c.successor.ensures.value part.next.0; start_fits = rw c.successor.ensures.value part.next.1 }
+    let part = part_fits g.met.T.Integer.range_law c.requires.in_range.1 c.requires.in_range.2 c.requires.from_zero
+    c.div_mod_floor-size.ensures.floored c.requires.part_from_zero c.requires.part_below in
+    let sizes = c.div_mod_floor-size.ensures.in_range in
+    let next = c.successor.ensures in
+    record { in_range = (next.in_range, sizes.0, sizes.1); product_fits = rw next.value part.next.0; start_fits = rw next.value part.next.1 }
 
 pub returns-clause-range : goal.returns-clause-range
 returns-clause-range g c =

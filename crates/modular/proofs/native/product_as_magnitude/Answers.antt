@@ -17,5 +17,6 @@ returns-else-a_negative-b_negative g c =
     let a = c.parts-a_negative in
     let b = c.parts-b_negative in
     let product = product_of_magnitudes a.result.0 b.result.0 a.result.1 b.result.1 a.ensures.negative b.ensures.negative a.ensures.magnitude b.ensures.magnitude in
-    let found = rw (rw c.if-a_negative-b_negative.false at product) at (residue_by_magnitude {z = pos a.result.1 *ℤ pos b.result.1} c.requires.positive c.parts-modulus.ensures.magnitude c.product_of_wide-rest.ensures) in
+    let found = rw (rw c.if-a_negative-b_negative.false at product) at
+    (residue_by_magnitude {z = pos a.result.1 *ℤ pos b.result.1} c.requires.positive c.parts-modulus.ensures.magnitude c.product_of_wide-rest.ensures) in
     record { in_range = residue_fits g.met.T.Integer.range_law c.requires.in_range.2 found; residue = found }

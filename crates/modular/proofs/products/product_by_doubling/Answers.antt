@@ -24,7 +24,8 @@ turns-smaller g c =
 
 pub turns-preserved : goal.turns-preserved
 turns-preserved g c =
-    let half = halved_by c.one.ensures.value c.one-in-turns.ensures.value c.successor.ensures.value (c.is_below.ensures.0 c.turns-test.true) c.div_rem-half.ensures.truncated in
+    let half = halved_by c.one.ensures.value c.one-in-turns.ensures.value c.successor.ensures.value (c.is_below.ensures.0 c.turns-test.true)
+    c.div_rem-half.ensures.truncated in
     let kept = c.turns.invariant.kept in
     let double = c.sum_of_residues-addend.ensures.residue in
     elim c.if-not-is_zero.branch [

@@ -11,7 +11,8 @@ returns-then-is_below g c =
 
 pub difference-requires-clause-difference_fits : goal.difference-requires-clause-difference_fits
 difference-requires-clause-difference_fits g c =
-    others_fit g.met.T.Integer.range_law c.requires.in_range.0 (from_test c.is_negative-else-is_negative.ensures c.if-is_negative-2.false) (from_test c.is_below.ensures c.if-is_below.false)
+    others_fit g.met.T.Integer.range_law c.requires.in_range.0 (from_test c.is_negative-else-is_negative.ensures c.if-is_negative-2.false)
+    (from_test c.is_below.ensures c.if-is_below.false)
 
 pub returns : goal.returns
 returns g c =
