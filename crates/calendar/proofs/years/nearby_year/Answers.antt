@@ -9,10 +9,12 @@ beyond : (year days : ℤ) → ((pos 0 ≤ℤ days) × (days <ℤ pos (days_in_y
 beyond year days out from = by_lt_z days (pos (days_in_year year)) (λ less. let clash = out (from, less) in (cc)) (λ far. far)
 
 -- the days and the length of a year, and the days in the year before or after, fit
-before_fits : (days length : ℤ) → pos 0 ≤ℤ (days +ℤ pos 6) → days <ℤ pos 0 → pos 365 ≤ℤ length → length ≤ℤ pos 366 → FitsSigned w64 length × FitsSigned w64 (days +ℤ length)
+before_fits : (days length : ℤ) → pos 0 ≤ℤ (days +ℤ pos 6) → days <ℤ pos 0 → pos 365 ≤ℤ length → length ≤ℤ pos 366
+    → FitsSigned w64 length × FitsSigned w64 (days +ℤ length)
 before_fits days length from negative long short = (omega (arith, ints), omega (arith, ints))
 
-after_fits : (days length : ℤ) → pos 0 ≤ℤ days → days <ℤ pos 372 → pos 365 ≤ℤ length → length ≤ℤ pos 366 → FitsSigned w64 length × FitsSigned w64 (days -ℤ length)
+after_fits : (days length : ℤ) → pos 0 ≤ℤ days → days <ℤ pos 372 → pos 365 ≤ℤ length → length ≤ℤ pos 366
+    → FitsSigned w64 length × FitsSigned w64 (days -ℤ length)
 after_fits days length from below long short = (omega (arith, ints), omega (arith, ints))
 
 pub overflow_cast-result : goal.overflow_cast-result
@@ -42,7 +44,8 @@ overflow_cast-result-else-days-lt0 c =
     let from : pos 0 ≤ℤ c.args.days = omega (arith, ints) in
     let over = beyond c.args.year c.args.days (simp to_z-of_z at c.if-is_in_year.ensures).1 from in
     let length = simp to_z-of_z at c.length_of-else-days-lt0.ensures.value in
-    let (length_fits, rest) = after_fits c.args.days c.length_of-else-days-lt0.result from c.requires.below c.length_of-else-days-lt0.ensures.from c.length_of-else-days-lt0.ensures.to in
+    let long = c.length_of-else-days-lt0.ensures in
+    let (length_fits, rest) = after_fits c.args.days c.length_of-else-days-lt0.result from c.requires.below long.from long.to in
     simp to_z-of_z (omega (arith, ints, length))
 
 pub returns-in_err-before : goal.returns-in_err-before
@@ -82,5 +85,6 @@ returns-in_ok-after c =
     let over = beyond c.args.year c.args.days (simp to_z-of_z at c.if-is_in_year.ensures).1 from in
     let after : FitsSigned w64 c.in_ok-after.after = omega (arith, ints, step.1, step.0) in
     let length = simp to_z-of_z at c.length_of-else-days-lt0.ensures.value in
-    let (length_fits, rest) = after_fits c.args.days c.length_of-else-days-lt0.result from c.requires.below c.length_of-else-days-lt0.ensures.from c.length_of-else-days-lt0.ensures.to in
+    let long = c.length_of-else-days-lt0.ensures in
+    let (length_fits, rest) = after_fits c.args.days c.length_of-else-days-lt0.result from c.requires.below long.from long.to in
     rw step.1 (simp to_z-of_z (omega (arith, ints, length_range (c.args.year +ℤ pos 1)), omega (arith, ints, next_first_day c.args.year, length)))

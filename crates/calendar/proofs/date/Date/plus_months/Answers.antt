@@ -3,7 +3,8 @@ use Rattle.calendar.proofs.MonthLengths.{month_length_range}
 use Rattle.calendar.proofs.date.Date.plus_months.Goals as goal
 
 -- the months and their sum fit
-fitting : (number months : ℤ) → unsigned_abs number < 2 ^ 68 → FitsSigned w64 months → FitsSigned w128 number × FitsSigned w128 months × FitsSigned w128 (number +ℤ months)
+fitting : (number months : ℤ) → unsigned_abs number < 2 ^ 68 → FitsSigned w64 months
+    → FitsSigned w128 number × FitsSigned w128 months × FitsSigned w128 (number +ℤ months)
 fitting number months small fits = (omega (arith, ints), omega (arith, ints), omega (arith, ints))
 
 pub returns-in_err-year : goal.returns-in_err-year
