@@ -127,6 +127,10 @@ no_day {year = year} own from before h =
     let same = same_day Thursday h.of_week.has_weekday own (omega (arith, ints, h.from, h.before)) (omega (arith, ints, h.from, h.before)) in
     (omega (arith, ints, h.of_year.from), omega (arith, ints, h.of_year.before, next_first_day year))
 
+-- the days to the Thursday of a week fit
+pub place_fits : {place : ℤ} (week : ℕ) → week < 256 → (pos 7 *ℤ (pos week -ℤ pos 1)) ≤ℤ place → place <ℤ (pos 7 *ℤ pos week) → FitsSigned w64 place
+place_fits week small from before = omega (arith, ints)
+
 -- ---- the number of weeks of a year
 
 -- 53, if the 53rd Thursday is in the year, and else 52

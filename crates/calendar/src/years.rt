@@ -23,6 +23,7 @@ pub fn is_leap_year(year: i64) -> bool
 }
 
 /// Returns `true` if the year is a multiple of `number`.
+#[tactic(auto, using(crate::proofs::YearLengths::multiples), unfolding(crate::specs::LeapYears::is_multiple))]
 fn is_multiple(year: i64, number: u16) -> bool
     requires { 0 < number }
     ensures { result ≡ is_multiple year number }

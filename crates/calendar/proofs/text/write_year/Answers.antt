@@ -7,12 +7,14 @@ use Rattle.calendar.proofs.text.write_year.Goals as goal
 pub returns-in-0-to-9999 : goal.returns-in-0-to-9999
 returns-in-0-to-9999 g c =
     let fits = c.ranges.year in
-    let year : styled_signed_decimal c.laid_out.result (to_z w64 (of_z w64 c.args.year)) ≡ year_text c.args.year = rw c.laid_out.ensures (simp to_z-of_z (plain_year c.args.year (omega (arith, ints)) (omega (arith, ints)))) in
+    let year : styled_signed_decimal c.laid_out.result (to_z w64 (of_z w64 c.args.year)) ≡ year_text c.args.year =
+    rw c.laid_out.ensures (simp to_z-of_z (plain_year c.args.year (omega (arith, ints)) (omega (arith, ints)))) in
     λ plain ok. subst (λ (t : List ℕ). HasWritten g.W.Write.write_str_gives c.args.f.now t c.write.new.self) year (c.write.ensures.writes plain ok)
 
 pub returns-in_default : goal.returns-in_default
 returns-in_default g c =
     let fits = c.ranges.year in
     let outside : (c.args.year <ℤ pos 0) ⊎ (pos 9999 <ℤ c.args.year) = grind (arith, ints) in
-    let year : styled_signed_decimal c.laid_out-in_default.result (to_z w64 (of_z w64 c.args.year)) ≡ year_text c.args.year = rw c.laid_out-in_default.ensures (simp to_z-of_z (signed_year c.args.year outside)) in
+    let year : styled_signed_decimal c.laid_out-in_default.result (to_z w64 (of_z w64 c.args.year)) ≡ year_text c.args.year =
+    rw c.laid_out-in_default.ensures (simp to_z-of_z (signed_year c.args.year outside)) in
     λ plain ok. subst (λ (t : List ℕ). HasWritten g.W.Write.write_str_gives c.args.f.now t c.write-in_default.new.self) year (c.write-in_default.ensures.writes plain ok)

@@ -2,7 +2,7 @@ use Rattle.calendar.proofs.Common.{◌≡◌, ◌+◌, ◌%◌, ◌≤ℤ◌, �
 use Rattle.calendar.specs.IsoWeeks.{IsDayOfIsoWeek}
 use Rattle.calendar.specs.Years.{first_day}
 use Rattle.calendar.specs.Weekday.{weekday_number}
-use Rattle.calendar.proofs.IsoWeeks.{day_of_week, day_or_none, no_day}
+use Rattle.calendar.proofs.IsoWeeks.{day_of_week, day_or_none, no_day, place_fits}
 use Rattle.calendar.proofs.YearLengths.{length_range}
 use Rattle.calendar.proofs.date.Date.from_iso_week.Goals as goal
 
@@ -18,7 +18,7 @@ returns-then-is_in_year c =
     let thursday = simp to_z-of_z at c.days_to_thursday_of_week-thursday.ensures.weekday in
     let first = c.days_to_thursday_of_week-thursday.ensures.from in
     let last = c.days_to_thursday_of_week-thursday.ensures.before in
-    let fits : FitsSigned w64 c.days_to_thursday_of_week-thursday.result = omega (arith, ints) in
+    let fits = place_fits c.args.week (omega arith) first last in
     let (inside, under) = (simp to_z-of_z at c.if-is_in_year.ensures).0 refl in
     let found = day_of_week {year = c.args.year} {week = c.args.week} c.args.weekday thursday first last inside under in
     let day = simp to_z-of_z at c.days_to_weekday.ensures.value in
@@ -32,7 +32,7 @@ returns-else-is_in_year c = λ day y k h y_fits.
     let year = c.ranges.year in
     let first = c.days_to_thursday_of_week-thursday.ensures.from in
     let last = c.days_to_thursday_of_week-thursday.ensures.before in
-    let fits : FitsSigned w64 c.days_to_thursday_of_week-thursday.result = omega (arith, ints) in
+    let fits = place_fits c.args.week (omega arith) first last in
     let thursday = simp to_z-of_z at c.days_to_thursday_of_week-thursday.ensures.weekday in
     let out = simp to_z-of_z at c.if-is_in_year.ensures in
     let clash = out.1 (no_day {year = c.args.year} {week = c.args.week} thursday first last k.in_week) in
@@ -43,6 +43,6 @@ days_to_weekday-requires c =
     let year = c.ranges.year in
     let first = c.days_to_thursday_of_week-thursday.ensures.from in
     let last = c.days_to_thursday_of_week-thursday.ensures.before in
-    let fits : FitsSigned w64 c.days_to_thursday_of_week-thursday.result = omega (arith, ints) in
+    let fits = place_fits c.args.week (omega arith) first last in
     let (inside, under) = (simp to_z-of_z at c.if-is_in_year.ensures).0 refl in
     simp to_z-of_z (record { from = inside; below = omega (arith, ints, length_range c.args.year) })

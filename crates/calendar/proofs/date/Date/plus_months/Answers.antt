@@ -3,12 +3,14 @@ use Rattle.calendar.proofs.MonthLengths.{month_length_range}
 use Rattle.calendar.proofs.date.Date.plus_months.Goals as goal
 
 -- the months and their sum fit
-fitting : (number months : ℤ) → unsigned_abs number < 2 ^ 68 → FitsSigned w64 months → FitsSigned w128 months × FitsSigned w128 (number +ℤ months)
-fitting number months small fits = (omega (arith, ints), omega (arith, ints))
+fitting : (number months : ℤ) → unsigned_abs number < 2 ^ 68 → FitsSigned w64 months
+    → FitsSigned w128 number × FitsSigned w128 months × FitsSigned w128 (number +ℤ months)
+fitting number months small fits = (omega (arith, ints), omega (arith, ints), omega (arith, ints))
 
 pub returns-in_err-year : goal.returns-in_err-year
 returns-in_err-year c =
-    let (wide, sum) = fitting c.month_number.result c.args.months c.month_number.ensures.small c.ranges.months in
+    let months = c.ranges.months in
+    let (number, wide, sum) = fitting c.month_number.result c.args.months c.month_number.ensures.small c.ranges.months in
     let none = simp (c.from.ensures, to_z-of_z) at c.in_err-year.ensures in
     rw c.from_residual.ensures (λ date h. none date.year date.month date.valid.month_from_one date.valid.month_to_twelve (omega (arith, ints, h.month_is)))
 
@@ -20,7 +22,8 @@ invariant_of-result c =
 
 pub returns : goal.returns
 returns c =
-    let (wide, sum) = fitting c.month_number.result c.args.months c.month_number.ensures.small c.ranges.months in
+    let months = c.ranges.months in
+    let (number, wide, sum) = fitting c.month_number.result c.args.months c.month_number.ensures.small c.ranges.months in
     let year : FitsSigned w64 c.in_ok-year.year = search rules in
     let (from, to, is) = simp (c.from.ensures, to_z-of_z) at c.in_ok-year.ensures in
     record { month_is = simp to_z-of_z (omega (arith, ints, is)); day_is = rw c.days_in_month.ensures.days at c.min.ensures }
