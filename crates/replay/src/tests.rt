@@ -12,7 +12,7 @@ mod residues;
 mod spread;
 mod walks;
 
-use lines::{replay, replay_library};
+use lines::{check, replay, replay_library};
 
 #[test]
 fn signed_types(rt: HostRuntime) {
@@ -42,6 +42,6 @@ fn dates_of_each(rt: HostRuntime) {
 #[test]
 fn models_of_each(rt: HostRuntime) {
     replay_library(&rt, rt.alloc(), &libraries::MODELS);
-    let (ranked, expected) = (models::ranked_choices(&rt), libraries::CHOICES);
-    assert_eq!(rt; ranked, expected, "choices");
+    let ranked = models::ranked_choices(&rt);
+    check(&rt, ranked, libraries::CHOICES, &"choices");
 }

@@ -18,12 +18,18 @@ pub(crate) struct Line(
     pub(crate) u64,
 );
 
+/// Asserts that the results are the expected ones, with a message that shows the line. A message in each loop would
+/// cost seconds of proof.
+pub(crate) fn check(rt: &impl Abort, answered: Answered, expected: Answered, line: &impl Debug) {
+    assert_eq!(rt; answered, expected, "at {line:?}");
+}
+
 /// Computes the lines again.
 pub(crate) fn replay(rt: &impl Abort, alloc: Global, lines: &[Line]) {
     for Line(it, call, in_type, at_128_bits, checksum) in lines {
         let expected = Answered(in_type.wrapping_add(*at_128_bits), Checksum(*checksum));
         let answered = answers_at(rt, alloc, *it, *call);
-        assert_eq!(rt; answered, expected, "{it:?} {call:?}");
+        check(rt, answered, expected, &(*it, *call));
     }
 }
 
@@ -64,6 +70,6 @@ pub(crate) fn replay_library<K: Copy + Debug, C: Copy + Debug + LibraryCall<K>>(
     for (at, call, count, checksum) in lines {
         let expected = Answered(*count, Checksum(*checksum));
         let answered = call.results(rt, alloc, *at);
-        assert_eq!(rt; answered, expected, "{at:?} {call:?}");
+        check(rt, answered, expected, &(*at, *call));
     }
 }
