@@ -1,9 +1,5 @@
 use Rattle.applied.proofs.Common.{ceiled_quotient_least, positive_quotient_fits}
-use Rattle.applied.proofs.ItemRanges.{positive_is_other}
 use Rattle.applied.proofs.paging.pages.Goals as goal
-
-pub div_ceil-requires-clause-nonzero : goal.div_ceil-requires-clause-nonzero
-div_ceil-requires-clause-nonzero g c = positive_is_other c.requires.positive
 
 pub div_ceil-requires-clause-quotient_fits : goal.div_ceil-requires-clause-quotient_fits
 div_ceil-requires-clause-quotient_fits g c = λ q h.

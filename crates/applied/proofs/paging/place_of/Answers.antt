@@ -1,9 +1,5 @@
 use Rattle.applied.proofs.Common.{only_pair_by_range, positive_quotient_fits}
-use Rattle.applied.proofs.ItemRanges.{positive_is_other}
 use Rattle.applied.proofs.paging.place_of.Goals as goal
-
-pub div_mod_floor-requires-clause-nonzero : goal.div_mod_floor-requires-clause-nonzero
-div_mod_floor-requires-clause-nonzero g c = positive_is_other c.requires.positive
 
 pub div_mod_floor-requires-clause-quotient_fits : goal.div_mod_floor-requires-clause-quotient_fits
 div_mod_floor-requires-clause-quotient_fits g c = λ q h.

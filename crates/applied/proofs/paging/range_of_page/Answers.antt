@@ -1,9 +1,6 @@
 use Rattle.applied.proofs.Common.{fits_below, from_test, positive_quotient_fits, refl}
-use Rattle.applied.proofs.ItemRanges.{begins_in, left_fits, none_after, none_before, only_page_range, page_end_fits, positive_is_other, short_page, whole_page}
+use Rattle.applied.proofs.ItemRanges.{begins_in, left_fits, none_after, none_before, only_page_range, page_end_fits, short_page, whole_page}
 use Rattle.applied.proofs.paging.range_of_page.Goals as goal
-
-pub div_floor-requires-clause-nonzero : goal.div_floor-requires-clause-nonzero
-div_floor-requires-clause-nonzero g c = positive_is_other c.requires.positive
 
 pub div_floor-requires-clause-quotient_fits : goal.div_floor-requires-clause-quotient_fits
 div_floor-requires-clause-quotient_fits g c = λ q h.
