@@ -47,11 +47,13 @@ def results_of(log):
         if not refused or counts != [(refused, 0)]:
             raise ValueError('the log is of neither run')
         return SUITE, f'{refused} seeded bugs rejected'
-    refused = re.search(r'must-fail edits: (\d+) refused', log)
+    # Some kits count them in the last line, and others print a line for each.
+    counted = re.search(r'must-fail edits: (\d+) refused', log)
+    refused = counted.group(1) if counted else len(re.findall(r'must-fail \S+\.edit: refused', log))
     tests, functions = len(re.findall(r' \.\.\. ok$', log, re.M)), sum(map(int, re.findall(r'^logic=proved functions=(\d+)', log, re.M)))
     share = re.search(r'done in this run: (\d+ of the \d+) proofs', log)
     of_kept = f', in {share.group(1)} proofs; the others were kept' if share else ', all anew'
-    said = [f'{functions:,} functions proved{of_kept}', f'{refused.group(1) if refused else 0} seeded bugs rejected',
+    said = [f'{functions:,} functions proved{of_kept}', f'{refused} seeded bugs rejected',
             f'{tests} tests in Rattle', f'{sum(passed for passed, _ in counts):,} checks in all']
     return GATE, '; '.join(said)
 
