@@ -162,8 +162,6 @@ ROOTS_OF_OWN = '''
 '''
 
 WRITER = '''
-    use crate::sink::{Console, Sink};
-
     /// A writer that takes and tells at most `taking` bytes at a time, or fails. It counts its flushes.
     #[derive(Debug)]
     struct Writer {
@@ -190,16 +188,18 @@ WRITER = '''
         }
     }
 
-    fn args(words: &[&str]) -> crate::Args {
-        words.iter().map(|word| word.to_string()).collect::<Vec<_>>().into_iter()
-    }
-
     fn has_failed(out: &Console<Writer>) -> bool {
         format!("{out:?}").contains("failed: true")
     }
 
     fn has_finished(out: &Console<Writer>) -> bool {
         format!("{out:?}").contains("finished: true")
+    }
+'''
+
+ARGS = '''
+    fn args(words: &[&str]) -> crate::Args {
+        words.iter().map(|word| word.to_string()).collect::<Vec<_>>().into_iter()
     }
 '''
 # By crate: what its root gets.
@@ -222,7 +222,8 @@ trait CollectWith: Iterator + Sized {
 impl<I: Iterator> CollectWith for I {}
 '''}
 # By crate and a name: what a line of the crate with that name gets.
-PRELUDES = {('integer_core', 'Own('): OWN, ('integer_roots', 'Own('): OWN + ROOTS_OF_OWN, ('intcalc', ''): WRITER}
+PRELUDES = {('integer_core', 'Own('): OWN, ('integer_roots', 'Own('): OWN + ROOTS_OF_OWN,
+            ('intcalc_core', 'writer('): '    use crate::sink::{Console, Sink};\n' + WRITER, ('intcalc', 'writer('): WRITER, ('intcalc', 'args('): ARGS}
 
 
 class Failed(Exception):

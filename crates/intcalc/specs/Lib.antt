@@ -1,5 +1,1 @@
-pub mod Number
-pub mod Words
-pub mod Line
-pub mod Console
 pub mod Arguments

@@ -9,19 +9,10 @@ ghost use Rattle.std.specs.Prelude.{◌≡◌, ◌≢◌, ◌<◌, ◌≤◌, �
 ghost use Rattle.std.specs.Io.KnownBytes.{Appends};
 ghost use Rattle.std.specs.Process.{exit_status};
 ghost use Rattle.intcalc.specs.Arguments.{words_of, words_read};
-ghost use Rattle.intcalc.specs.Line.{IsLine};
+ghost use Rattle.intcalc_core.specs.Line.{IsLine};
 
-mod decimal;
-mod line;
-mod number;
-mod run;
-mod sink;
-#[cfg(test)]
-mod tests;
-mod words;
-
-use run::{put_line, run};
-use sink::{Console, Sink};
+use intcalc_core::run::{put_line, run};
+use intcalc_core::sink::{Console, Sink};
 use std::alloc::{AllocError, Global};
 use std::env::Args;
 use std::io::ErrorKind;

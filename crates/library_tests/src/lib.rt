@@ -1,4 +1,5 @@
-//! The tests of `ratio64`, of an own type in `modular`, of `applied` and of the strings of dates, and the tasks of the cookbook.
+//! The tests of `ratio64`, of an own type in `modular`, of `applied`, of the strings of dates and of the lines of the program, and the
+//! tasks of the cookbook.
 //! The worked values of `modular`, `applied` and `calendar` are in `rust/tests`.
 #![tactic(auto)]
 
@@ -12,5 +13,7 @@ mod dates;
 mod fractions;
 #[cfg(test)]
 mod models;
+#[cfg(test)]
+mod program;
 #[cfg(test)]
 mod residues;

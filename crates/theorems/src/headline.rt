@@ -23,12 +23,14 @@
 //! | a fraction is reduced | [`parts_of_fraction`] |
 //! | a call returns an error only if the reduced fraction does not fit, or its denominator is 0 | [`fraction`], [`sum_of_fractions`], [`difference_of_fractions`], [`product_of_fractions`], [`quotient_of_fractions`] |
 //! | the rounding and the order of fractions are those of the definitions | [`floor_and_ceil_of_fraction`], [`order_of_fractions`] |
-//! | a call of the program has the outcome of the definition | [`outcome`] |
+//! | a call of the program has the outcome of the definition, and no other | [`outcome`] |
+//! | words ask for the line of the definition, and for no other | [`line_of_words`] |
+//! | `run` of `intcalc_core` prints that line, or returns 4 if the sink fails | [`printed_line`] |
 //!
 //! After most functions at any lawful type comes the same at native types. Its name ends in `_of_i64` or
-//! `_of_u64`. The contract of `run` in `intcalc` says that the program prints the line of the definition. It
-//! is not here, since no crate can depend on a program. It is proved that a counted call returns the number
-//! of iterations of the definition's loop. That its own loop makes them is seen by reading.
+//! `_of_u64`. The contract of `run_program` in `intcalc` says that the program prints the line that its
+//! arguments ask for. It is not here, since no crate can depend on a program. It is proved that a counted call
+//! returns the number of iterations of the definition's loop. That its own loop makes them is seen by reading.
 //!
 //! **How to read a clause.** `T.value x` is the integer that `x` means, which is `x` at `i64` and `pos x` at
 //! `u64`. `T.fits z` says that the type has the integer `z`. A lawful type implements `Integer`, and its laws
@@ -37,8 +39,9 @@
 //! each one is. The other `requires` are the domain of the call, and there is no further condition. The
 //! `specs/` of each crate define the words, with examples.
 
-ghost use Rattle.std.specs.Prelude.{◌≡◌, ◌≢◌, ◌↔◌, ◌+◌, ◌-◌, ◌*◌, ◌^◌, ◌%◌, ◌<◌, ◌≤◌, ◌≤ℤ◌, ◌+ℤ◌, ◌-ℤ◌, ◌*ℤ◌, ℕ, pos, unsigned_abs, [], ◌∷◌, map, All, Err, IfNone, IfOk, IfSome, IsTrue, FitsSigned, min};
+ghost use Rattle.std.specs.Prelude.{◌≡◌, ◌≢◌, ◌↔◌, ◌+◌, ◌-◌, ◌*◌, ◌^◌, ◌%◌, ◌<◌, ◌≤◌, ◌≤ℤ◌, ◌+ℤ◌, ◌-ℤ◌, ◌*ℤ◌, ℕ, List, pos, unsigned_abs, [], ◌∷◌, map, All, Err, IfNone, IfOk, IfSome, IsTrue, FitsSigned, min};
 ghost use Rattle.std.specs.Int.{FitsUnsignedBits, w64};
+ghost use Rattle.std.specs.Io.KnownBytes.{Appends};
 ghost use Rattle.num_integer.specs.Averages.{IsAverageCeil, IsAverageFloor};
 ghost use Rattle.num_integer.specs.Bezout.{AreEuclidTurns, HasPair, IsBezoutAnswer, IsSmallPair, NeedsBoth};
 ghost use Rattle.num_integer.specs.Coefficient.{coefficient, coefficient_of};
@@ -54,8 +57,12 @@ ghost use Rattle.num_integer.specs.Row.{RowFits, row_of};
 ghost use Rattle.num_integer.specs.SquareRuns.{AreSquareRootTurns};
 ghost use Rattle.ratio64.specs.Fraction.{IsExact, IsOutsideI64, IsReduced, fraction_cmp};
 ghost use Rattle.ratio64.specs.Ratio.{AnswersFraction, den_of, num_of};
+ghost use Rattle.intcalc_core.specs.Line.{IsLine};
 ghost use Rattle.intcalc_core.specs.Outcome.{Outcome};
 
+use intcalc_core::line::Line;
+use intcalc_core::run::{line_for, run};
+use intcalc_core::sink::Sink;
 use intcalc_core::{Answer, Call, Kind, Refusal, evaluate};
 use num_integer::counted::{GcdCounted, SqrtCounted, binomial_counted, extended_gcd_counted};
 use num_integer::{
@@ -650,9 +657,31 @@ pub fn order_of_fractions(x: &Ratio, y: &Ratio) -> Ordering
 }
 
 /// Returns the outcome of the definition: the first refusal whose condition holds, or otherwise the numbers of the
-/// result.
+/// result. A kind and a call have no other outcome.
 pub fn outcome(kind: Kind, call: Call) -> Result<Answer, Refusal>
     ensures defined { Outcome kind call result }
+    ensures only { IsOnly (Outcome kind call) result }
 {
     evaluate(kind, call)
+}
+
+/// Returns the line that the words ask for, and its status. The words ask for no other line and status.
+pub fn line_of_words(words: &[&str]) -> (Line, u8)
+    ensures defined { IsLine (map (λ w. w.now) words.now) result.0 result.1 }
+    ensures only { IsOnly (λ (line, status). IsLine (map (λ w. w.now) words.now) line status)
+        (result.0, result.1) }
+{
+    line_for(words)
+}
+
+/// Prints the line that the words ask for, and returns its status. If the sink fails, it returns 4. Otherwise it adds
+/// exactly the line, and the sink has finished.
+pub fn printed_line<S: Sink>(words: &[&str], out: &mut S) -> u8
+    ensures failed { (result ≡ 4) ↔ IsTrue (S.has_failed out.new) }
+    ensures line { result ≢ 4 → (line : List ℕ)
+        × IsLine (map (λ w. w.now) words.now) line result
+        × Appends (S.contents out.old) (S.contents out.new) line }
+    ensures finished { result ≢ 4 → IsTrue (S.is_finished out.new) }
+{
+    run(words, out)
 }

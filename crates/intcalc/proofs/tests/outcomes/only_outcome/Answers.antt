@@ -1,5 +1,0 @@
-use Rattle.intcalc_core.proofs.OnlyOutcome.{only_outcome}
-use Rattle.intcalc.proofs.tests.outcomes.only_outcome.Goals as goal
-
-pub returns-clause-only : goal.returns-clause-only
-returns-clause-only c = only_outcome c.args.kind c.args.call c.evaluate.result c.evaluate.ensures

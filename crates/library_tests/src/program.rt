@@ -1,0 +1,115 @@
+//! The lines of the program, its outcomes, and the words that are numbers.
+
+mod failing_writers;
+mod fractions;
+mod outcomes;
+mod tape;
+mod vectors;
+
+use crate::assertions::holds_at;
+use intcalc_core::number::read_number;
+use intcalc_core::run::{line_for, run};
+use intcalc_core::sink::{Console, Sink};
+use std::alloc::Global;
+use tape::Tape;
+
+/// The status of a line.
+fn status_of(line: &str) -> u8 {
+    if line == "usage" {
+        2
+    } else if line.starts_with("refused") {
+        1
+    } else {
+        0
+    }
+}
+
+/// Returns `true` if the words give this line and its status, written at once, in two parts and byte by byte, and
+/// the sink has not failed.
+fn prints(alloc: Global, words: &[&str], line: &str) -> bool {
+    for most in [usize::MAX, line.len().div_ceil(2), 1] {
+        let mut out = Console::new(Tape {
+            text: Vec::new(alloc),
+            most,
+            fault: None,
+        });
+        let status = run(words, &mut out);
+        let is_well = out.finish() && out.put(b"") == Some(0);
+        let tape = out.into_inner();
+        if status != status_of(line) || !is_well || !is_line(&tape.text, line) {
+            return false;
+        }
+    }
+    true
+}
+
+fn is_line(bytes: &[u8], line: &str) -> bool {
+    match bytes {
+        [text @ .., b'\n'] => text == line.as_bytes(),
+        _ => false,
+    }
+}
+
+const NINES: &str = "99999999999999999999999999999999999999999999999999\
+    99999999999999999999999999999999999999999999999999";
+
+const NEGATIVE_NINES: &str = "-99999999999999999999999999999999999999999999999999\
+    99999999999999999999999999999999999999999999999999";
+
+/// Words that no row of text has, and their line.
+const LINES: [(&[&str], &str); 11] = [
+    (&[], "usage"),
+    (&["i64"], "usage"),
+    (&["i64", "div_rem", "1", "2 "], "usage"),
+    (&["i8", "gcd", "1", NINES], "refused 1 OutOfType"),
+    (&["u8", "gcd", "1", NINES], "refused 1 OutOfType"),
+    (&["i64", "gcd", "1", NINES], "refused 1 OutOfType"),
+    (&["u64", "gcd", "1", NINES], "refused 1 OutOfType"),
+    (&["i8", "div_rem", NINES, "1"], "refused 1 OutOfType"),
+    (&["u8", "div_rem", NINES, "1"], "refused 1 OutOfType"),
+    (&["i64", "div_rem", NINES, "1"], "refused 1 OutOfType"),
+    (&["u64", "div_rem", NINES, "1"], "refused 1 OutOfType"),
+];
+
+#[test]
+fn lines(rt: HostRuntime) {
+    for &(words, line) in &LINES {
+        holds_at(&rt, prints(rt.alloc(), words, line), &words);
+    }
+    let (line, status) = line_for(&["i64", "div_mod_floor", "-8", "3"]);
+    let found = (line.as_bytes(), status);
+    holds_at(&rt, found == (b"-3 1\n".as_slice(), 0), &"line_for");
+}
+
+const NUMBERS: [(&str, Option<i128>); 22] = [
+    ("0", Some(0)),
+    ("-0", Some(0)),
+    ("007", Some(7)),
+    ("-007", Some(-7)),
+    ("170141183460469231731687303715884105727", Some(i128::MAX)),
+    ("170141183460469231731687303715884105728", Some(i128::MAX)),
+    ("-170141183460469231731687303715884105728", Some(i128::MIN)),
+    ("-170141183460469231731687303715884105729", Some(i128::MIN)),
+    ("", None),
+    ("-", None),
+    ("--1", None),
+    ("+1", None),
+    ("1-", None),
+    (" 1", None),
+    ("1 ", None),
+    ("1_000", None),
+    ("1.0", None),
+    ("0x10", None),
+    ("-٣", None),
+    ("３", None),
+    (NINES, Some(i128::MAX)),
+    (NEGATIVE_NINES, Some(i128::MIN)),
+];
+
+#[test]
+fn number_words(rt: HostRuntime) {
+    holds_at(&rt, NINES.len() == 100, &NINES);
+    for &(word, number) in &NUMBERS {
+        holds_at(&rt, read_number(word) == number, &word);
+    }
+}
