@@ -16,12 +16,14 @@ BEYOND = (True, 0)
 NOT_FITTING = (True, (1 << 128) - 1)
 
 
-def with_parts(total, parts):
+FACTOR = 0x517CC1B727220A95
+
+
+def with_parts(total, negative, magnitude):
     """The checksum with a sign and a magnitude, as src/checksum.rs computes it."""
-    negative, magnitude = parts
-    for word in (magnitude & MASK, magnitude >> 64, int(negative)):
-        total = (((total << 5 | total >> 59) & MASK ^ word) * 0x517CC1B727220A95) & MASK
-    return total
+    total = ((total << 5 & MASK | total >> 59) ^ magnitude & MASK) * FACTOR & MASK
+    total = ((total << 5 & MASK | total >> 59) ^ magnitude >> 64) * FACTOR & MASK
+    return ((total << 5 & MASK | total >> 59) ^ negative) * FACTOR & MASK
 
 
 class Answered:
@@ -37,8 +39,8 @@ class Answered:
             return
         self.count += 1
         for n in numbers:
-            parts = n if isinstance(n, tuple) else (n < 0, abs(n))
-            self.checksum = with_parts(self.checksum, parts)
+            negative, magnitude = n if isinstance(n, tuple) else (n < 0, abs(n))
+            self.checksum = with_parts(self.checksum, negative, magnitude)
 
 
 def mixed(index):

@@ -480,7 +480,8 @@ def make(folder):
 
 def fails(folder):
     """Whether the crate is built and its tests by name fail."""
-    test = ['cargo', 'test', '--quiet', '--offline', '--release', '--test', 'domains']
+    # In release no overflow is caught. It is built without optimization, which takes a third of the time.
+    test = ['cargo', 'test', '--quiet', '--offline', '--release', '--config', 'profile.release.opt-level=0', '--test', 'domains']
     if subprocess.run(test + ['--no-run'], cwd=folder, capture_output=True).returncode:
         raise Unknown('the crate with a guard left out is not built')
     return subprocess.run(test, cwd=folder, capture_output=True).returncode != 0
