@@ -176,9 +176,10 @@ CODE = {
     ('integer_core', 'native_integer', 'gcd_lcm'): (
         ('(T::from_magnitude(gcd), T::from_magnitude(lcm))',
          f'(crate::guards::number(gcd, "{GCD}"), crate::guards::number(lcm, "{LCM}"))'),),
-    ('integer_core', 'stein', 'Magnitude'): (('Copy + Unsigned +', 'Copy + Unsigned + num_traits::CheckedMul + num_traits::ToPrimitive +'),),
+    ('integer_core', 'stein', 'Magnitude'): (
+        ('Copy +', 'Copy + num_traits::Unsigned + num_traits::CheckedMul + num_traits::ToPrimitive +'),),
     ('integer_core', 'stein', 'gcd_lcm_of_magnitudes'): (
-        ('product(m, quotient(n, gcd))', f'crate::guards::product(m, quotient(n, gcd), "{LCM}")'),),
+        ('m.times_quotient(n, gcd)', f'crate::guards::product(m, n / gcd, "{LCM}")'),),
     ('integer_core', 'stein', 'binary_gcd'): (
         ('T::from_magnitude(gcd)', f'crate::guards::number(gcd, "{GCD}")'),),
     ('num_integer', 'coefficients', 'next_coefficient'): (
@@ -204,7 +205,7 @@ AFTER_TEST = {
 # The modules that import plain operators: what they add, subtract and multiply fits wherever the division or the test
 # before it passed.
 PLAIN = {('integer_core', 'bezout'), ('integer_core', 'division'), ('integer_core', 'divisors'),
-         ('integer_core', 'native'), ('integer_core', 'stein'), ('num_integer', 'coefficients')}
+         ('integer_core', 'native'), ('num_integer', 'coefficients')}
 # By crate, the functions that get no test for some clause: their bodies panic, or the call of their result does, or no
 # test is made. rust/tests/domains shows it of each.
 LEFT_TO_BODY = {

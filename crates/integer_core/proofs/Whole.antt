@@ -1,6 +1,8 @@
 -- The ring of the integers, for `omega` and `simp`.
-use Rattle.std.specs.Prelude.{◌≡◌, ◌+◌, ◌*◌, ◌<ℤ◌, ◌≤ℤ◌, ◌+ℤ◌, ◌*ℤ◌, ℤ, pos, neg_ℤ, unsigned_abs, ◌↔◌, Bool, false, IsTrue}
-use Rattle.std.proofs.Common.{arith, ap, mul-pos}
+use Rattle.std.specs.Prelude.{◌≡◌, ◌+◌, ◌*◌, ◌<ℤ◌, ◌≤ℤ◌, ◌+ℤ◌, ◌*ℤ◌, ℤ, pos, neg_ℤ, unsigned_abs, ◌↔◌, Bool, false, IsTrue, Option, Some}
+use Rattle.std.specs.Ordering.{int_cmp, is_lt, is_some_and}
+use Rattle.std.specs.declared.cmp.Ordering.{Ordering}
+use Rattle.std.proofs.Common.{arith, ap, mul-pos, rules}
 use Rattle.std.proofs.lemmas.Bool.{iff_false}
 use Rattle.std.proofs.lemmas.Int.{ints}
 use borrow.Author.Differences.{up, down, same_in, same_out, sum_is_lem, neg_is, product_is, abs_is, lt_out, le_out, below_in, at_most_in, Apart-out}
@@ -12,6 +14,10 @@ pub ruleset linear = (same_out, Apart-out, lt_out, le_out, below_in, at_most_in,
 -- what a test says
 pub from_not_less : {a b : ℤ} → ¬ (a <ℤ b) → b ≤ℤ a
 from_not_less h = grind (arith, linear)
+
+-- what a test says, by the law of an order
+pub is_less : {o : Option Ordering} {a b : ℤ} {t : Bool} → o ≡ Some (int_cmp a b) → t ≡ is_some_and is_lt o → IsTrue t ↔ (a <ℤ b)
+is_less law test = rw (test, law) (Prim.search rules)
 
 -- that, with magnitudes
 pub ruleset sizes = (linear, abs_is)

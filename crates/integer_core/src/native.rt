@@ -24,7 +24,7 @@ pub trait Native: Copy + Num + Ord + Bounded + FixedWidth + AsPrimitive<Self::Ma
         ensures value { Self.Magnitude.value result ≡ pos (unsigned_abs (Self.value self)) }
     {
         if is_negative(self) {
-            successor(difference(zero(), successor(self)).as_())
+            difference(zero(), successor(self)).as_().successor()
         } else {
             self.as_()
         }

@@ -1,21 +1,38 @@
 //! The greatest common divisor by Stein's binary method (Knuth, The Art of Computer Programming,
 //! volume 2, section 4.5.2, algorithm B).
 
-ghost use Rattle.std.specs.Prelude.{ℕ, ℤ, ◌≡◌, ◌≢◌, ◌↔◌, ◌⊎◌, ◌-◌, ◌*◌, ◌%◌, ◌^◌, ◌<◌, ◌≤◌, pos, unsigned_abs, IsTrue};
+ghost use Rattle.std.specs.Prelude.{ℕ, ℤ, ◌≡◌, ◌≢◌, ◌↔◌, ◌⊎◌, ◌-◌, ◌*◌, ◌%◌, ◌^◌, ◌<◌, ◌≤◌, ◌≤ℤ◌, ◌+ℤ◌, ◌*ℤ◌, int_div, pos, unsigned_abs, IsTrue};
 ghost use Rattle.std.specs.Int.{IsGcd, IsPowerOfTwo};
 ghost use Rattle.std.specs.Option.{MatchOption};
-ghost use Rattle.std.proofs.Common.{lit≤};
+ghost use Rattle.std.proofs.Common.{lit<, lit≤};
 ghost use Rattle.integer_core.specs.Divisors.{GcdFits, IsGreatestCommonDivisor, IsLeastCommonMultiple};
 ghost use Rattle.integer_core.specs.GcdRuns.{AreGcdTurns, ArePositive, AreWithinBits, IsCountedGcd, IsOddGcd, IsOddPart, IsOrderedTurn, IsPositiveGcd, MakesGcdRun};
 ghost use Rattle.integer_core.specs.NativeRanges.{within_128_bits};
 ghost use Rattle.integer_core.specs.Range.{EachFits};
+ghost use Rattle.num_traits.specs.Ints.{unsigned-low};
 
 use crate::native::Native;
-use crate::operators::{is_below, is_zero, one, product, quotient};
-use num_traits::{Bounded, Integral, Unsigned};
+use num_traits::{Bounded, Integral};
 
 /// A type of magnitudes, `u64` or `u128`, with the operations on bits that Stein's method needs.
-pub trait Magnitude: Copy + Unsigned + PartialOrd {
+pub trait Magnitude: Copy + PartialOrd + Integral {
+    /// Returns `true` if the number is 0. `7.is_zero()` is `false`.
+    fn is_zero(self) -> bool
+        ensures { IsTrue result ↔ (Self.value self ≡ pos 0) };
+
+    /// Returns the number plus 1. `41.successor()` is `42`.
+    fn successor(self) -> Self
+        requires sum_fits { Self.fits (Self.value self +ℤ pos 1) }
+        ensures in_range { Self.fits (Self.value result) }
+        ensures value { Self.value result ≡ Self.value self +ℤ pos 1 };
+
+    /// Returns the number times the quotient of two others. `4.times_quotient(6, 2)` is `12`.
+    fn times_quotient(self, dividend: Self, divisor: Self) -> Self
+        requires nonzero { Self.value divisor ≢ pos 0 }
+        requires product_fits { Self.fits (Self.value self *ℤ int_div (Self.value dividend) (Self.value divisor)) }
+        ensures in_range { Self.fits (Self.value result) }
+        ensures value { Self.value result ≡ Self.value self *ℤ int_div (Self.value dividend) (Self.value divisor) };
+
     /// Returns the number without its factors 2, and how many they are. `12.odd_part()` is `(3, 2)`.
     fn odd_part(self) -> (Self, u32)
         requires in_range { Self.fits (Self.value self) }
@@ -55,12 +72,32 @@ pub trait Magnitude: Copy + Unsigned + PartialOrd {
         ensures in_range { Self.fits (Self.value result) }
         ensures value { Self.value result ≡ pos x };
 
-    // A magnitude has at most 128 bits.
+    // A magnitude is not negative, 0 is one, and each has at most 128 bits.
+    ghost unsigned_law: { (x : Self) → pos 0 ≤ℤ Self.value x };
+
+    ghost zero_fits_law: { Self.fits (pos 0) };
+
     ghost bits_law: { (z : ℤ) → Self.fits z → unsigned_abs z < 2 ^ 128 };
 }
 
 impl Magnitude for u64 {
+    ghost unsigned_law = { unsigned-low };
+
+    ghost zero_fits_law = { lit< tt };
+
     ghost bits_law = { within_128_bits 64 (lit≤ tt) };
+
+    fn is_zero(self) -> bool {
+        self == 0
+    }
+
+    fn successor(self) -> u64 {
+        self + 1
+    }
+
+    fn times_quotient(self, dividend: u64, divisor: u64) -> u64 {
+        self * (dividend / divisor)
+    }
 
     fn odd_part(self) -> (u64, u32) {
         let twos = self.trailing_zeros();
@@ -89,7 +126,23 @@ impl Magnitude for u64 {
 }
 
 impl Magnitude for u128 {
+    ghost unsigned_law = { unsigned-low };
+
+    ghost zero_fits_law = { lit< tt };
+
     ghost bits_law = { within_128_bits 128 (lit≤ tt) };
+
+    fn is_zero(self) -> bool {
+        self == 0
+    }
+
+    fn successor(self) -> u128 {
+        self + 1
+    }
+
+    fn times_quotient(self, dividend: u128, divisor: u128) -> u128 {
+        self * (dividend / divisor)
+    }
 
     fn odd_part(self) -> (u128, u32) {
         let twos = self.trailing_zeros();
@@ -143,7 +196,7 @@ fn next_pair<M: Magnitude>(m: M, n: M) -> (M, M)
         (record { m = unsigned_abs (M.value m); n = unsigned_abs (M.value n) })
         (record { m = unsigned_abs (M.value result.0); n = unsigned_abs (M.value result.1) }) }
 {
-    if is_below(n, m) {
+    if n < m {
         (m.odd_difference(n), n)
     } else {
         (n.odd_difference(m), m)
@@ -239,13 +292,13 @@ pub(crate) fn gcd_lcm_of_magnitudes<M: Magnitude>(m: M, n: M) -> (M, M)
     ensures greatest { IsGreatestCommonDivisor (M.value m) (M.value n) (M.value result.0) }
     ensures least { IsLeastCommonMultiple (M.value m) (M.value n) (M.value result.1) }
 {
-    if is_zero(m) {
+    if m.is_zero() {
         (n, m)
-    } else if is_zero(n) {
+    } else if n.is_zero() {
         (m, n)
     } else {
         let gcd = positive_gcd(m, n).0;
-        (gcd, product(m, quotient(n, gcd)))
+        (gcd, m.times_quotient(n, gcd))
     }
 }
 
@@ -262,9 +315,9 @@ fn gcd_of_magnitudes<M: Magnitude>(m: M, n: M, has_power: bool) -> (M, u32)
         → MakesGcdRun (unsigned_abs (M.value m)) (unsigned_abs (M.value n)) result.1 }
     ensures bound { AreWithinBits (M.value m) (M.value n) result.1 }
 {
-    if is_zero(m) {
+    if m.is_zero() {
         (n, 0)
-    } else if is_zero(n) {
+    } else if n.is_zero() {
         (m, 0)
     } else if has_power {
         (shared_power_of_two(m, n), 0)

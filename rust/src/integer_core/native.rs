@@ -34,7 +34,7 @@ pub(crate) trait Magnitudes: Native {
     /// Returns the absolute value.
     fn magnitude(self) -> Self::Magnitude {
         if is_negative(self) {
-            successor(difference(zero(), successor(self)).as_())
+            difference(zero(), successor(self)).as_().successor()
         } else {
             self.as_()
         }

@@ -4,13 +4,21 @@
 
 use crate::integer_core::native::Native;
 use crate::integer_core::Magnitudes;
-
-use num_traits::{Bounded, Unsigned};
+use num_traits::Bounded;
 
 /// A type of magnitudes, `u64` or `u128`, with the operations on bits that Stein's method needs.
 pub trait Magnitude:
-    Copy + Unsigned + num_traits::CheckedMul + num_traits::ToPrimitive + PartialOrd
+    Copy + num_traits::Unsigned + num_traits::CheckedMul + num_traits::ToPrimitive + PartialOrd
 {
+    /// Returns `true` if the number is 0. `7.is_zero()` is `false`.
+    fn is_zero(self) -> bool;
+
+    /// Returns the number plus 1. `41.successor()` is `42`.
+    fn successor(self) -> Self;
+
+    /// Returns the number times the quotient of two others. `4.times_quotient(6, 2)` is `12`.
+    fn times_quotient(self, dividend: Self, divisor: Self) -> Self;
+
     /// Returns the number without its factors 2, and how many they are. `12.odd_part()` is `(3,
     /// 2)`.
     fn odd_part(self) -> (Self, u32);
@@ -34,6 +42,18 @@ pub trait Magnitude:
 }
 
 impl Magnitude for u64 {
+    fn is_zero(self) -> bool {
+        self == 0
+    }
+
+    fn successor(self) -> Self {
+        self + 1
+    }
+
+    fn times_quotient(self, dividend: Self, divisor: Self) -> Self {
+        self * (dividend / divisor)
+    }
+
     fn odd_part(self) -> (Self, u32) {
         let twos = self.trailing_zeros();
         (self >> twos, twos)
@@ -61,6 +81,18 @@ impl Magnitude for u64 {
 }
 
 impl Magnitude for u128 {
+    fn is_zero(self) -> bool {
+        self == 0
+    }
+
+    fn successor(self) -> Self {
+        self + 1
+    }
+
+    fn times_quotient(self, dividend: Self, divisor: Self) -> Self {
+        self * (dividend / divisor)
+    }
+
     fn odd_part(self) -> (Self, u32) {
         let twos = self.trailing_zeros();
         (self >> twos, twos)

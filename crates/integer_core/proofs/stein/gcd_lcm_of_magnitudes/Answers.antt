@@ -1,31 +1,27 @@
 use Rattle.integer_core.proofs.Common.{arith, inl, inr, refl, sizes}
-use Rattle.integer_core.proofs.CommonDivisors.{gcd-nonzero, gcd-positive, gcd-swap, lcm-of-sizes, lcm-zero}
+use Rattle.integer_core.proofs.CommonDivisors.{gcd-nonzero, gcd-swap, lcm-of-sizes, lcm-zero}
 use Rattle.integer_core.proofs.SteinSteps.{gcd_with_zero}
 use Rattle.integer_core.proofs.stein.gcd_lcm_of_magnitudes.Goals as goal
 
 pub returns-then-is_zero-clause-greatest : goal.returns-then-is_zero-clause-greatest
-returns-then-is_zero-clause-greatest g c = rw (c.is_zero.ensures.0 c.if-is_zero.true) (gcd-swap (gcd_with_zero (g.met.M.Unsigned.unsigned_law c.args.n)))
+returns-then-is_zero-clause-greatest g c = rw (c.is_zero.ensures.0 c.if-is_zero.true) (gcd-swap (gcd_with_zero (g.met.M.Magnitude.unsigned_law c.args.n)))
 
 pub returns-then-is_zero-clause-least : goal.returns-then-is_zero-clause-least
 returns-then-is_zero-clause-least g c = rw (c.is_zero.ensures.0 c.if-is_zero.true) (lcm-zero (inl refl))
 
 pub returns-then-is_zero-2-clause-greatest : goal.returns-then-is_zero-2-clause-greatest
-returns-then-is_zero-2-clause-greatest g c = rw (c.is_zero-else-is_zero.ensures.0 c.if-is_zero-2.true) (gcd_with_zero (g.met.M.Unsigned.unsigned_law c.args.m))
+returns-then-is_zero-2-clause-greatest g c = rw (c.is_zero-else-is_zero.ensures.0 c.if-is_zero-2.true) (gcd_with_zero (g.met.M.Magnitude.unsigned_law c.args.m))
 
 pub returns-then-is_zero-2-clause-least : goal.returns-then-is_zero-2-clause-least
 returns-then-is_zero-2-clause-least g c = rw (c.is_zero-else-is_zero.ensures.0 c.if-is_zero-2.true) (lcm-zero (inr refl))
 
-pub quotient-requires-clause-nonzero : goal.quotient-requires-clause-nonzero
-quotient-requires-clause-nonzero g c = gcd-nonzero c.positive_gcd-gcd.ensures.gcd.greatest (grind (arith, sizes))
+pub times_quotient-requires-clause-nonzero : goal.times_quotient-requires-clause-nonzero
+times_quotient-requires-clause-nonzero g c = gcd-nonzero c.positive_gcd-gcd.ensures.gcd.greatest (grind (arith, sizes))
 
-pub quotient-requires-clause-quotient_fits : goal.quotient-requires-clause-quotient_fits
-quotient-requires-clause-quotient_fits g c =
-    (g.met.M.Num.positive_divisor_law _ _ g.met.M.Integral.exact_law c.requires.in_range.1 c.positive_gcd-gcd.ensures.in_range (gcd-positive c.positive_gcd-gcd.ensures.gcd.greatest (grind (arith, sizes)))).1
-
-pub product-requires-clause-product_fits : goal.product-requires-clause-product_fits
-product-requires-clause-product_fits g c =
-    c.requires.lcm_fits _ (lcm-of-sizes (g.met.M.Unsigned.unsigned_law c.args.m) (g.met.M.Unsigned.unsigned_law c.args.n) (grind (arith, sizes)) c.positive_gcd-gcd.ensures.gcd.greatest c.quotient.ensures.value refl)
+pub times_quotient-requires-clause-product_fits : goal.times_quotient-requires-clause-product_fits
+times_quotient-requires-clause-product_fits g c =
+    c.requires.lcm_fits _ (lcm-of-sizes (g.met.M.Magnitude.unsigned_law c.args.m) (g.met.M.Magnitude.unsigned_law c.args.n) (grind (arith, sizes)) c.positive_gcd-gcd.ensures.gcd.greatest refl refl)
 
 pub returns-else-is_zero-2-clause-least : goal.returns-else-is_zero-2-clause-least
 returns-else-is_zero-2-clause-least g c =
-    lcm-of-sizes (g.met.M.Unsigned.unsigned_law c.args.m) (g.met.M.Unsigned.unsigned_law c.args.n) (grind (arith, sizes)) c.positive_gcd-gcd.ensures.gcd.greatest c.quotient.ensures.value c.product.ensures.value
+    lcm-of-sizes (g.met.M.Magnitude.unsigned_law c.args.m) (g.met.M.Magnitude.unsigned_law c.args.n) (grind (arith, sizes)) c.positive_gcd-gcd.ensures.gcd.greatest refl c.times_quotient.ensures.value
