@@ -165,8 +165,8 @@ describes_its_wheel() { with_package "$PWD/bindings/python/tests/test_wheel.py" 
 installs_editable() {
     local tree=$work/editable
     rm -rf "$tree" && mkdir -p "$tree/bindings" && cp LICENSE-* "$tree" && cp -r bindings/c bindings/python "$tree/bindings" &&
-        python3 -m venv "$tree/environment" &&
-        CELLARCOVE_ARCHIVE=$archive "$tree/environment/bin/python" -m pip install --quiet --disable-pip-version-check \
+        python3 -m venv --without-pip "$tree/environment" &&
+        CELLARCOVE_ARCHIVE=$archive python3 -m pip --python "$tree/environment/bin/python" install --quiet --disable-pip-version-check \
             --no-build-isolation --no-deps --no-index --editable "$tree/bindings/python" &&
         (cd "$work/empty_folder" && "$tree/environment/bin/python" -c "
 import importlib.metadata, pathlib, cellarcove
@@ -284,7 +284,7 @@ cpp_with g++
 cpp_with clang++
 if has python3 Python && has cc Python && [ -d "$work/site" ]; then
     counted "CPython's own tests" with_package "$PWD/bindings/python/tests/cpython_tests.py"
-    if python3 -m venv --help >/dev/null 2>&1 && python3 -c 'import ensurepip' 2>/dev/null; then
+    if python3 -m venv --help >/dev/null 2>&1 && python3 -m pip --python "$(command -v python3)" --version >/dev/null 2>&1; then
         check 'an editable install' installs_editable
     fi
 fi
