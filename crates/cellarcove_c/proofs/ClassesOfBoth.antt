@@ -15,11 +15,8 @@ pub not_bad : {m n : ℤ} → pos 0 <ℤ m → pos 0 <ℤ n → ¬ ((m ≤ℤ po
 not_bad m_up n_up (inl low) = absurd (omega (arith, ints, m_up, low))
 not_bad m_up n_up (inr low) = absurd (omega (arith, ints, n_up, low))
 
-above_zero : {n : ℤ} → ¬ (n ≤ℤ pos 0) → pos 0 <ℤ n
-above_zero h = grind (arith, ints)
-
-pub are_positive : {m n : ℤ} → ¬ ((m ≤ℤ pos 0) ⊎ (n ≤ℤ pos 0)) → (pos 0 <ℤ m) × (pos 0 <ℤ n)
-are_positive good = (above_zero (λ low. good (inl low)), above_zero (λ low. good (inr low)))
+bad : {m n : ℤ} → ¬ ((pos 0 <ℤ m) × (pos 0 <ℤ n)) → (m ≤ℤ pos 0) ⊎ (n ≤ℤ pos 0)
+bad h = grind (arith, ints)
 
 module _ {X : Type 0} (value : X → ℤ) (fits : ℤ → Type 0) (a m b n : ℤ) (zeros : X × X) (small : fits (value zeros.0) × fits (value zeros.1)) where
   abbrev Both : ℤ → Type 0
@@ -28,17 +25,17 @@ module _ {X : Type 0} (value : X → ℤ) (fits : ℤ → Type 0) (a m b n : ℤ
   abbrev IsClass : ℕ → X × X → Type 0
   IsClass status class = IsClassOfBoth value fits a m b n zeros status class
 
-  pub bad_modulus_is : (m ≤ℤ pos 0) ⊎ (n ≤ℤ pos 0) → IsClass bad_modulus zeros
-  bad_modulus_is bad = record {
-    answer = λ m_up n_up _. absurd (not_bad m_up n_up bad);
-    modulus_is_bad = (λ _. bad, λ _. refl);
-    step_is_beyond = (λ same. absurd (omega (arith, same)), λ (m_up, n_up, _, _). absurd (not_bad m_up n_up bad));
-    is_never = (λ same. absurd (omega (arith, same)), λ (m_up, n_up, _). absurd (not_bad m_up n_up bad));
+  pub bad_modulus_is : ¬ ((pos 0 <ℤ m) × (pos 0 <ℤ n)) → IsClass bad_modulus zeros
+  bad_modulus_is not_good = record {
+    answer = λ m_up n_up _. absurd (not_good (m_up, n_up));
+    modulus_is_bad = (λ _. bad not_good, λ _. refl);
+    step_is_beyond = (λ same. absurd (omega (arith, same)), λ (m_up, n_up, _, _). absurd (not_good (m_up, n_up)));
+    is_never = (λ same. absurd (omega (arith, same)), λ (m_up, n_up, _). absurd (not_good (m_up, n_up)));
     refusal = λ _. (refl, inl refl);
     in_range = small;
   }
 
-  module _ (good : ¬ ((m ≤ℤ pos 0) ⊎ (n ≤ℤ pos 0))) where
+  module _ (good : (pos 0 <ℤ m) × (pos 0 <ℤ n)) where
     -- where the least common multiple fits
     pub class_is : EachFits fits (IsLeastCommonMultiple m n) → (status : ℕ) (class : X × X) (o : Option (X × X))
         → MatchOption o (IsNever Both) (λ s. fits (value s.0) × fits (value s.1) × IsResidueClass Both (value s.0) (value s.1)) → answer_of status class ≡ o
@@ -48,7 +45,7 @@ module _ {X : Type 0} (value : X → ℤ) (fits : ℤ → Type 0) (a m b n : ℤ
         let (x, solves) = class_has found.2 in
         record {
           answer = λ _ _ _. found.2;
-          modulus_is_bad = (λ e. absurd (omega (arith, e)), λ bad. absurd (good bad));
+          modulus_is_bad = (λ e. absurd (omega (arith, e)), λ bad. absurd (not_bad good.0 good.1 bad));
           step_is_beyond = (λ e. absurd (omega (arith, e)), λ (_, _, beyond, _). absurd (beyond lcm_fits));
           is_never = (λ e. absurd (omega (arith, e)), λ (_, _, none). absurd (none x solves));
           refusal = λ other. absurd (other refl);
@@ -59,9 +56,9 @@ module _ {X : Type 0} (value : X → ℤ) (fits : ℤ → Type 0) (a m b n : ℤ
         let (is_zeros, is) = refuses (λ e. absurd (omega (arith, e))) in
         record {
           answer = λ _ _ _. none;
-          modulus_is_bad = (λ e. absurd (omega (arith, e, is)), λ bad. absurd (good bad));
+          modulus_is_bad = (λ e. absurd (omega (arith, e, is)), λ bad. absurd (not_bad good.0 good.1 bad));
           step_is_beyond = (λ e. absurd (omega (arith, e, is)), λ (_, _, beyond, _). absurd (beyond lcm_fits));
-          is_never = (λ _. ((are_positive good).0, (are_positive good).1, none), λ _. is);
+          is_never = (λ _. (good.0, good.1, none), λ _. is);
           refusal = λ _. (is_zeros, inr (inr is));
           in_range = subst (λ (s : X × X). fits (value s.0) × fits (value s.1)) (sym is_zeros) small;
         }
@@ -71,9 +68,9 @@ module _ {X : Type 0} (value : X → ℤ) (fits : ℤ → Type 0) (a m b n : ℤ
         → Either not_fitting no_solution status → IsClass status zeros
     reason_is beyond status fitting solved either = record {
       answer = λ _ _ lcm_fits. absurd (beyond lcm_fits);
-      modulus_is_bad = (λ same. absurd (no_third either (λ e. absurd (omega (arith, e))) (λ e. absurd (omega (arith, e))) same), λ bad. absurd (good bad));
-      step_is_beyond = (λ same. ((are_positive good).0, (are_positive good).1, beyond, fitting.0 same), λ (_, _, _, solution). fitting.1 solution);
-      is_never = (λ same. ((are_positive good).0, (are_positive good).1, solved.0 same), λ (_, _, none). solved.1 none);
+      modulus_is_bad = (λ same. absurd (no_third either (λ e. absurd (omega (arith, e))) (λ e. absurd (omega (arith, e))) same), λ bad. absurd (not_bad good.0 good.1 bad));
+      step_is_beyond = (λ same. (good.0, good.1, beyond, fitting.0 same), λ (_, _, _, solution). fitting.1 solution);
+      is_never = (λ same. (good.0, good.1, solved.0 same), λ (_, _, none). solved.1 none);
       refusal = λ _. (refl, inr either);
       in_range = small;
     }

@@ -8,6 +8,7 @@ use Rattle.modular.specs.declared.common_solutions.CommonSolution.TheVariants.{N
 use Rattle.modular.proofs.ForCallers.{congruent-refl}
 use Rattle.num_integer.specs.Least.{IsLeastFrom}
 use Rattle.cellarcove_c.specs.Answers.{Refuses}
+use Rattle.cellarcove_c.specs.Congruences.{IsBeyond, IsNever}
 use Rattle.cellarcove_c.specs.Statuses.{Either, common_solution_of, no_solution, not_fitting}
 
 -- a status that is one of two is no third
@@ -20,16 +21,18 @@ pub class_has : {Is : ℤ → Type 0} {first step : ℤ} → IsResidueClass Is f
 class_has {first = first} h = (first, h.no_other first (congruent-refl first))
 
 -- unless no number solves both, one does
-pub solved : {X : Type 0} (value : X → ℤ) (from : ℤ) (Solves Fits : ℤ → Type 0) (Never_ : Type 0) (found : CommonSolution X)
-    → MatchCommonSolution found Never_ ((t : ℤ) × IsLeastFrom from Solves t × ¬ (Fits t)) (λ t. Fits (value t) × IsLeastFrom from Solves (value t))
+pub solved : {X : Type 0} (value : X → ℤ) (from : ℤ) (Solves Fits : ℤ → Type 0) (found : CommonSolution X)
+    → MatchCommonSolution found (IsNever Solves) (IsBeyond Fits (IsLeastFrom from Solves)) (λ t. Fits (value t) × IsLeastFrom from Solves (value t))
     → found ≢ Never → (x : ℤ) × Solves x
-solved value from Solves Fits Never_ Never h other = absurd (other refl)
-solved value from Solves Fits Never_ Beyond (t, least, far) other = (t, least.holds)
-solved value from Solves Fits Never_ (At t) (fits, least) other = (value t, least.holds)
+solved value from Solves Fits Never h other = absurd (other refl)
+solved value from Solves Fits Beyond (t, least, far) other = (t, least.holds)
+solved value from Solves Fits (At t) (fits, least) other = (value t, least.holds)
 
 -- the value of a common solution is in range
-pub value_in_range : {X : Type 0} (fits : X → Type 0) (Without Beyond_ : Type 0) (Is : X → Type 0) (zero_value : X) (status : ℕ) (value : X) (found : CommonSolution X)
-    → MatchCommonSolution found Without Beyond_ (λ t. fits t × Is t) → common_solution_of status value ≡ found → Refuses (Either not_fitting no_solution) zero_value status value → fits zero_value
-    → fits value
-value_in_range {X} fits Without Beyond_ Is zero_value zero value found own same refuses zero_fits = (subst (λ (s : CommonSolution X). MatchCommonSolution s Without Beyond_ (λ t. fits t × Is t)) (sym same) own).0
-value_in_range fits Without Beyond_ Is zero_value (suc status) value found own same refuses zero_fits = subst fits (sym (refuses (λ none. absurd (omega (arith, none)))).0) zero_fits
+pub value_in_range : {X : Type 0} (value : X → ℤ) (fits : ℤ → Type 0) (from : ℤ) (Solves : ℤ → Type 0) (zero_value : X) (status : ℕ) (solution : X) (found : CommonSolution X)
+    → MatchCommonSolution found (IsNever Solves) (IsBeyond fits (IsLeastFrom from Solves)) (λ t. fits (value t) × IsLeastFrom from Solves (value t)) → common_solution_of status solution ≡ found
+    → Refuses (Either not_fitting no_solution) zero_value status solution → fits (value zero_value) → fits (value solution)
+value_in_range {X} value fits from Solves zero_value zero solution found own same refuses zero_fits =
+    (subst (λ (s : CommonSolution X). MatchCommonSolution s (IsNever Solves) (IsBeyond fits (IsLeastFrom from Solves)) (λ t. fits (value t) × IsLeastFrom from Solves (value t))) (sym same) own).0
+value_in_range value fits from Solves zero_value (suc status) solution found own same refuses zero_fits =
+    subst (λ t. fits (value t)) (sym (refuses (λ none. absurd (omega (arith, none)))).0) zero_fits

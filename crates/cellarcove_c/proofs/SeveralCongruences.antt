@@ -51,7 +51,9 @@ too_many_are value fits from pair congruences zero_value many =
     }
 
 -- what a solution has beside being in range
-pub without_range : {X : Type 0} (Without Beyond_ : Type 0) (Fits Is : X → Type 0) (found : CommonSolution X) → MatchCommonSolution found Without Beyond_ (λ t. Fits t × Is t) → MatchCommonSolution found Without Beyond_ Is
-without_range Without Beyond_ Fits Is Never h = h
-without_range Without Beyond_ Fits Is Beyond h = h
-without_range Without Beyond_ Fits Is (At t) h = h.1
+pub without_range : {X : Type 0} (value : X → ℤ) (fits : ℤ → Type 0) (from : ℤ) (Solves : ℤ → Type 0) (found : CommonSolution X)
+    → MatchCommonSolution found (IsNever Solves) (IsBeyond fits (IsLeastFrom from Solves)) (λ t. fits (value t) × IsLeastFrom from Solves (value t))
+    → MatchCommonSolution found (IsNever Solves) (IsBeyond fits (IsLeastFrom from Solves)) (λ t. IsLeastFrom from Solves (value t))
+without_range value fits from Solves Never h = h
+without_range value fits from Solves Beyond h = h
+without_range value fits from Solves (At t) h = h.1

@@ -147,7 +147,7 @@ pub extern "C" fn cellarcove_next_congruent_i64(from: i64, first: i64, step: i64
 {
     I64Answer::of(
         checked::next_congruent(from, first, step),
-        reason_for_modulus(step, NOT_FITTING),
+        reason_for_modulus(step > 0, NOT_FITTING),
     )
 }
 
@@ -160,7 +160,7 @@ pub extern "C" fn cellarcove_next_congruent_u64(from: u64, first: u64, step: u64
 {
     U64Answer::of(
         checked::next_congruent(from, first, step),
-        reason_for_modulus(step, NOT_FITTING),
+        reason_for_modulus(step > 0, NOT_FITTING),
     )
 }
 
@@ -173,7 +173,7 @@ pub extern "C" fn cellarcove_previous_congruent_i64(to: i64, first: i64, step: i
 {
     I64Answer::of(
         checked::previous_congruent(to, first, step),
-        reason_for_modulus(step, NOT_FITTING),
+        reason_for_modulus(step > 0, NOT_FITTING),
     )
 }
 
@@ -186,7 +186,7 @@ pub extern "C" fn cellarcove_previous_congruent_u64(to: u64, first: u64, step: u
 {
     U64Answer::of(
         checked::previous_congruent(to, first, step),
-        reason_for_modulus(step, NOT_FITTING),
+        reason_for_modulus(step > 0, NOT_FITTING),
     )
 }
 
@@ -204,7 +204,7 @@ pub extern "C" fn cellarcove_count_congruent_i64(
 {
     I64Answer::of(
         checked::count_congruent(from, to, first, step),
-        reason_for_modulus(step, NOT_FITTING),
+        reason_for_modulus(step > 0, NOT_FITTING),
     )
 }
 
@@ -223,7 +223,7 @@ pub extern "C" fn cellarcove_count_congruent_u64(
 {
     U64Answer::of(
         checked::count_congruent(from, to, first, step),
-        reason_for_modulus(step, NOT_FITTING),
+        reason_for_modulus(step > 0, NOT_FITTING),
     )
 }
 
@@ -339,7 +339,7 @@ fn class_of_both<T: Modular + Fits>(a: T, m: T, b: T, n: T, zero: T) -> (u32, (T
     ensures { IsClassOfBoth T.value T.fits (T.value a) (T.value m) (T.value b) (T.value n)
         (zero, zero) result.0 result.1 }
 {
-    if has_bad_modulus(m, n) {
+    if !are_positive(m, n) {
         return (BAD_MODULUS, (zero, zero));
     }
     if m.lcm_fits(&n) {
@@ -349,11 +349,11 @@ fn class_of_both<T: Modular + Fits>(a: T, m: T, b: T, n: T, zero: T) -> (u32, (T
     }
 }
 
-/// Returns `true` if one of two moduli is not positive.
-fn has_bad_modulus<T: Integer>(m: T, n: T) -> bool
-    ensures { IsTrue result ↔ ((T.value m ≤ℤ pos 0) ⊎ (T.value n ≤ℤ pos 0)) }
+/// Returns `true` if both moduli are positive.
+fn are_positive<T: Integer>(m: T, n: T) -> bool
+    ensures { IsTrue result ↔ ((pos 0 <ℤ T.value m) × (pos 0 <ℤ T.value n)) }
 {
-    !is_below(zero(), m) || !is_below(zero(), n)
+    is_below(zero(), m) && is_below(zero(), n)
 }
 
 /// Returns why two congruences have no class of solutions, if the least common multiple of their moduli

@@ -8,7 +8,6 @@ ghost use Rattle.cellarcove_c.specs.Quotients.{I64Quotient, I64Quotients, U64Quo
 ghost use Rattle.cellarcove_c.specs.Statuses.{IsReason, Only, answer_of, outside};
 
 use crate::answers::{I64Answer, NOT_FITTING, OUTSIDE, U64Answer, with_status};
-use num_integer::operators::is_zero;
 use num_integer::{Integer, checked};
 
 /// A status, and a quotient with its remainder.
@@ -154,10 +153,8 @@ pub extern "C" fn cellarcove_product_div_mod_floor_i64(a: i64, b: i64, d: i64) -
 pub extern "C" fn cellarcove_product_div_mod_floor_u64(a: u64, b: u64, d: u64) -> U64Division
     ensures { U64Quotients IsFloored (pos a *ℤ pos b) (pos d) (IsReason (pos d ≡ pos 0)) result }
 {
-    U64Division::of(
-        checked::product_div_mod_floor(a, b, d),
-        reason_for_divisor(d),
-    )
+    let reason = if d == 0 { OUTSIDE } else { NOT_FITTING };
+    U64Division::of(checked::product_div_mod_floor(a, b, d), reason)
 }
 
 /// Returns the quotient rounded up, times `y`: if `y` is positive, the smallest multiple of it that is
@@ -179,7 +176,8 @@ pub extern "C" fn cellarcove_next_multiple_of_u64(x: u64, y: u64) -> U64Answer
     ensures { U64Quotient (pos y) (IsMultiple IsCeiled (pos x) (pos y)) (IsReason (pos y ≡ pos 0))
         result }
 {
-    U64Answer::of(checked::next_multiple_of(x, y), reason_for_divisor(y))
+    let reason = if y == 0 { OUTSIDE } else { NOT_FITTING };
+    U64Answer::of(checked::next_multiple_of(x, y), reason)
 }
 
 /// Returns the quotient rounded down, times `y`: if `y` is positive, the largest multiple of it that is
@@ -254,13 +252,9 @@ impl U64Division {
 }
 
 /// Returns why a number has no quotient or multiple by a divisor.
-fn reason_for_divisor<T: Integer>(divisor: T) -> u32
-    ensures reason { IsReason (T.value divisor ≡ pos 0) result }
+fn reason_for_divisor(divisor: i64) -> u32
+    ensures reason { IsReason (divisor ≡ pos 0) result }
     ensures refused { result ≢ 0 }
 {
-    if is_zero(divisor) {
-        OUTSIDE
-    } else {
-        NOT_FITTING
-    }
+    if divisor == 0 { OUTSIDE } else { NOT_FITTING }
 }

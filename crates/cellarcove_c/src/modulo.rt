@@ -1,6 +1,6 @@
 //! Arithmetic modulo a number.
 
-ghost use Rattle.std.specs.Prelude.{◌≡◌, ◌≢◌, ◌<ℤ◌, ◌≤ℤ◌, ◌+ℤ◌, ◌-ℤ◌, ◌*ℤ◌, pos};
+ghost use Rattle.std.specs.Prelude.{◌≡◌, ◌≢◌, ◌<ℤ◌, ◌+ℤ◌, ◌-ℤ◌, ◌*ℤ◌, pos, MatchBool};
 ghost use Rattle.std.specs.Int.{int_pow};
 ghost use Rattle.modular.specs.Congruences.{IsInverse, IsQuotientModulo, IsResidue};
 ghost use Rattle.cellarcove_c.specs.Answers.{I64Answers, U64Answers};
@@ -9,8 +9,6 @@ ghost use Rattle.cellarcove_c.specs.Statuses.{Only, bad_modulus};
 
 use crate::answers::{BAD_MODULUS, I64Answer, NO_SOLUTION, U64Answer};
 use modular::checked;
-use num_integer::Integer;
-use num_integer::operators::{is_below, zero};
 
 /// Returns `a + b` modulo `m`, from 0 to `m` - 1. For 5, 4 and 7 it is 2.
 ///
@@ -111,7 +109,7 @@ pub extern "C" fn cellarcove_inverse_modulo_i64(a: i64, m: i64) -> I64Answer
 {
     I64Answer::of(
         checked::inverse_modulo(a, m),
-        reason_for_modulus(m, NO_SOLUTION),
+        reason_for_modulus(m > 0, NO_SOLUTION),
     )
 }
 
@@ -125,7 +123,7 @@ pub extern "C" fn cellarcove_inverse_modulo_u64(a: u64, m: u64) -> U64Answer
 {
     U64Answer::of(
         checked::inverse_modulo(a, m),
-        reason_for_modulus(m, NO_SOLUTION),
+        reason_for_modulus(m > 0, NO_SOLUTION),
     )
 }
 
@@ -138,7 +136,7 @@ pub extern "C" fn cellarcove_quotient_modulo_i64(a: i64, b: i64, m: i64) -> I64A
 {
     I64Answer::of(
         checked::quotient_modulo(a, b, m),
-        reason_for_modulus(m, NO_SOLUTION),
+        reason_for_modulus(m > 0, NO_SOLUTION),
     )
 }
 
@@ -152,20 +150,16 @@ pub extern "C" fn cellarcove_quotient_modulo_u64(a: u64, b: u64, m: u64) -> U64A
 {
     U64Answer::of(
         checked::quotient_modulo(a, b, m),
-        reason_for_modulus(m, NO_SOLUTION),
+        reason_for_modulus(m > 0, NO_SOLUTION),
     )
 }
 
-/// Returns why a call modulo a number has no result: the number is not positive, or another reason.
-pub(crate) fn reason_for_modulus<T: Integer>(m: T, reason: u32) -> u32
+/// Returns why a call modulo a number has no result: `reason` if the number is positive, and else
+/// `BAD_MODULUS`. That of `true` and 4 is 4.
+pub(crate) fn reason_for_modulus(is_positive: bool, reason: u32) -> u32
     requires { reason ≢ 0 }
-    ensures bad_modulus { T.value m ≤ℤ pos 0 → result ≡ bad_modulus }
-    ensures other { pos 0 <ℤ T.value m → result ≡ reason }
+    ensures reason { MatchBool is_positive (result ≡ reason) (result ≡ bad_modulus) }
     ensures refused { result ≢ 0 }
 {
-    if is_below(zero(), m) {
-        reason
-    } else {
-        BAD_MODULUS
-    }
+    if is_positive { reason } else { BAD_MODULUS }
 }

@@ -7,8 +7,8 @@ ghost use Rattle.cellarcove_c.specs.Answers.{Answers, U64Answers};
 ghost use Rattle.cellarcove_c.specs.Statuses.{IsReason, Only, outside};
 
 use crate::answers::{ANSWER, NOT_FITTING, OUTSIDE, U64Answer};
+use crate::binomials::binomial;
 use applied::ranking::{choice_of_rank, is_choice, rank, rank_fits};
-use num_integer::{Fits, binomial};
 
 /// Returns the rank of a choice of numbers below `n`: how many choices of as many numbers come before
 /// it. They are ordered by their last number, then by the one before it, and so on. For 0, 2 and 3, and
@@ -53,5 +53,8 @@ pub extern "C" fn cellarcove_choice_of_rank_u64(rank: u64, n: u64, choice: &mut 
 fn is_rank(rank: u64, n: u64, k: u64) -> bool
     ensures { IsTrue result ↔ (rank < coefficient n k) }
 {
-    !n.binomial_fits(&k) || rank < binomial(n, k)
+    match binomial(n, k) {
+        Some(count) => rank < count,
+        None => true,
+    }
 }

@@ -98,7 +98,7 @@ pub extern "C" fn cellarcove_chinese_remainder_u64(a: u64, m: u64, b: u64, n: u6
 pub extern "C" fn cellarcove_next_congruent_i64(from: i64, first: i64, step: i64) -> I64Answer {
     I64Answer::of(
         checked::next_congruent(from, first, step),
-        reason_for_modulus(step, NOT_FITTING),
+        reason_for_modulus(step > 0, NOT_FITTING),
     )
 }
 
@@ -110,7 +110,7 @@ pub extern "C" fn cellarcove_next_congruent_i64(from: i64, first: i64, step: i64
 pub extern "C" fn cellarcove_next_congruent_u64(from: u64, first: u64, step: u64) -> U64Answer {
     U64Answer::of(
         checked::next_congruent(from, first, step),
-        reason_for_modulus(step, NOT_FITTING),
+        reason_for_modulus(step > 0, NOT_FITTING),
     )
 }
 
@@ -121,7 +121,7 @@ pub extern "C" fn cellarcove_next_congruent_u64(from: u64, first: u64, step: u64
 pub extern "C" fn cellarcove_previous_congruent_i64(to: i64, first: i64, step: i64) -> I64Answer {
     I64Answer::of(
         checked::previous_congruent(to, first, step),
-        reason_for_modulus(step, NOT_FITTING),
+        reason_for_modulus(step > 0, NOT_FITTING),
     )
 }
 
@@ -132,7 +132,7 @@ pub extern "C" fn cellarcove_previous_congruent_i64(to: i64, first: i64, step: i
 pub extern "C" fn cellarcove_previous_congruent_u64(to: u64, first: u64, step: u64) -> U64Answer {
     U64Answer::of(
         checked::previous_congruent(to, first, step),
-        reason_for_modulus(step, NOT_FITTING),
+        reason_for_modulus(step > 0, NOT_FITTING),
     )
 }
 
@@ -149,7 +149,7 @@ pub extern "C" fn cellarcove_count_congruent_i64(
 ) -> I64Answer {
     I64Answer::of(
         checked::count_congruent(from, to, first, step),
-        reason_for_modulus(step, NOT_FITTING),
+        reason_for_modulus(step > 0, NOT_FITTING),
     )
 }
 
@@ -166,7 +166,7 @@ pub extern "C" fn cellarcove_count_congruent_u64(
 ) -> U64Answer {
     U64Answer::of(
         checked::count_congruent(from, to, first, step),
-        reason_for_modulus(step, NOT_FITTING),
+        reason_for_modulus(step > 0, NOT_FITTING),
     )
 }
 
@@ -252,7 +252,7 @@ impl U64Solutions {
 /// and the step from each to the next. If there is no result, both are `zero`. For 1, 4, 3 and 6 it
 /// returns 0, 9 and 12.
 fn class_of_both<T: Modular + Fits>(a: T, m: T, b: T, n: T, zero: T) -> (u32, (T, T)) {
-    if has_bad_modulus(m, n) {
+    if !are_positive(m, n) {
         return (BAD_MODULUS, (zero, zero));
     }
     if m.lcm_fits(&n) {
@@ -262,9 +262,9 @@ fn class_of_both<T: Modular + Fits>(a: T, m: T, b: T, n: T, zero: T) -> (u32, (T
     }
 }
 
-/// Returns `true` if one of two moduli is not positive.
-fn has_bad_modulus<T: Integer>(m: T, n: T) -> bool {
-    !is_below(zero(), m) || !is_below(zero(), n)
+/// Returns `true` if both moduli are positive.
+fn are_positive<T: Integer>(m: T, n: T) -> bool {
+    is_below(zero(), m) && is_below(zero(), n)
 }
 
 /// Returns why two congruences have no class of solutions, if the least common multiple of their

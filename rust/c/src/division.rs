@@ -2,7 +2,6 @@
 //! Division, rounded toward 0, down or up.
 
 use crate::answers::{with_status, I64Answer, U64Answer, NOT_FITTING, OUTSIDE};
-use cellarcove::operators::is_zero;
 use cellarcove::{checked, Integer};
 
 /// A status, and a quotient with its remainder.
@@ -123,10 +122,8 @@ pub extern "C" fn cellarcove_product_div_mod_floor_i64(a: i64, b: i64, d: i64) -
 /// `OUTSIDE` if `d` is 0. `NOT_FITTING` if the quotient does not fit.
 #[unsafe(no_mangle)]
 pub extern "C" fn cellarcove_product_div_mod_floor_u64(a: u64, b: u64, d: u64) -> U64Division {
-    U64Division::of(
-        checked::product_div_mod_floor(a, b, d),
-        reason_for_divisor(d),
-    )
+    let reason = if d == 0 { OUTSIDE } else { NOT_FITTING };
+    U64Division::of(checked::product_div_mod_floor(a, b, d), reason)
 }
 
 /// Returns the quotient rounded up, times `y`: if `y` is positive, the smallest multiple of it that
@@ -143,7 +140,8 @@ pub extern "C" fn cellarcove_next_multiple_of_i64(x: i64, y: i64) -> I64Answer {
 /// `OUTSIDE` if `y` is 0. `NOT_FITTING` if the multiple does not fit.
 #[unsafe(no_mangle)]
 pub extern "C" fn cellarcove_next_multiple_of_u64(x: u64, y: u64) -> U64Answer {
-    U64Answer::of(checked::next_multiple_of(x, y), reason_for_divisor(y))
+    let reason = if y == 0 { OUTSIDE } else { NOT_FITTING };
+    U64Answer::of(checked::next_multiple_of(x, y), reason)
 }
 
 /// Returns the quotient rounded down, times `y`: if `y` is positive, the largest multiple of it
@@ -200,8 +198,8 @@ impl U64Division {
 }
 
 /// Returns why a number has no quotient or multiple by a divisor.
-fn reason_for_divisor<T: Integer>(divisor: T) -> u32 {
-    if is_zero(divisor) {
+fn reason_for_divisor(divisor: i64) -> u32 {
+    if divisor == 0 {
         OUTSIDE
     } else {
         NOT_FITTING

@@ -3,8 +3,6 @@
 
 use crate::answers::{I64Answer, U64Answer, BAD_MODULUS, NO_SOLUTION};
 use cellarcove::modular::checked;
-use cellarcove::operators::{is_below, zero};
-use cellarcove::Integer;
 
 /// Returns `a + b` modulo `m`, from 0 to `m` - 1. For 5, 4 and 7 it is 2.
 ///
@@ -83,7 +81,7 @@ pub extern "C" fn cellarcove_power_modulo_u64(a: u64, exponent: u64, m: u64) -> 
 pub extern "C" fn cellarcove_inverse_modulo_i64(a: i64, m: i64) -> I64Answer {
     I64Answer::of(
         checked::inverse_modulo(a, m),
-        reason_for_modulus(m, NO_SOLUTION),
+        reason_for_modulus(m > 0, NO_SOLUTION),
     )
 }
 
@@ -94,7 +92,7 @@ pub extern "C" fn cellarcove_inverse_modulo_i64(a: i64, m: i64) -> I64Answer {
 pub extern "C" fn cellarcove_inverse_modulo_u64(a: u64, m: u64) -> U64Answer {
     U64Answer::of(
         checked::inverse_modulo(a, m),
-        reason_for_modulus(m, NO_SOLUTION),
+        reason_for_modulus(m > 0, NO_SOLUTION),
     )
 }
 
@@ -105,7 +103,7 @@ pub extern "C" fn cellarcove_inverse_modulo_u64(a: u64, m: u64) -> U64Answer {
 pub extern "C" fn cellarcove_quotient_modulo_i64(a: i64, b: i64, m: i64) -> I64Answer {
     I64Answer::of(
         checked::quotient_modulo(a, b, m),
-        reason_for_modulus(m, NO_SOLUTION),
+        reason_for_modulus(m > 0, NO_SOLUTION),
     )
 }
 
@@ -116,13 +114,14 @@ pub extern "C" fn cellarcove_quotient_modulo_i64(a: i64, b: i64, m: i64) -> I64A
 pub extern "C" fn cellarcove_quotient_modulo_u64(a: u64, b: u64, m: u64) -> U64Answer {
     U64Answer::of(
         checked::quotient_modulo(a, b, m),
-        reason_for_modulus(m, NO_SOLUTION),
+        reason_for_modulus(m > 0, NO_SOLUTION),
     )
 }
 
-/// Returns why a call modulo a number has no result: the number is not positive, or another reason.
-pub(crate) fn reason_for_modulus<T: Integer>(m: T, reason: u32) -> u32 {
-    if is_below(zero(), m) {
+/// Returns why a call modulo a number has no result: `reason` if the number is positive, and else
+/// `BAD_MODULUS`. That of `true` and 4 is 4.
+pub(crate) fn reason_for_modulus(is_positive: bool, reason: u32) -> u32 {
+    if is_positive {
         reason
     } else {
         BAD_MODULUS

@@ -2,8 +2,8 @@
 //! Choices of numbers, and their ranks.
 
 use crate::answers::{U64Answer, ANSWER, NOT_FITTING, OUTSIDE};
+use crate::binomials::binomial;
 use cellarcove::ranking::{choice_of_rank, is_choice, rank, rank_fits};
-use cellarcove::{binomial, Fits};
 
 /// Returns the rank of a choice of numbers below `n`: how many choices of as many numbers come
 /// before it. They are ordered by their last number, then by the one before it, and so on. For 0, 2
@@ -58,5 +58,8 @@ pub extern "C" fn cellarcove_choice_of_rank_u64(
 /// Returns `true` if the rank is below the number of choices of `k` numbers below `n`, which may
 /// not fit.
 fn is_rank(rank: u64, n: u64, k: u64) -> bool {
-    !n.binomial_fits(&k) || rank < binomial(n, k)
+    match binomial(n, k) {
+        Some(count) => rank < count,
+        None => true,
+    }
 }

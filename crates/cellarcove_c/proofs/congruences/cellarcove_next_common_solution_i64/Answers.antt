@@ -1,7 +1,8 @@
-use Rattle.std.specs.Prelude.{◌<ℤ◌, pos}
+use Rattle.std.specs.Prelude.{◌<ℤ◌, pos, FitsSigned}
 use Rattle.std.specs.Int.{w64}
 use Rattle.std.proofs.Common.{arith, inr, rules}
 use Rattle.std.proofs.lemmas.Int.{to_z-of_z}
+use Rattle.modular.specs.Congruences.{SolvesBothCongruences}
 use Rattle.cellarcove_c.proofs.ClassesOfBoth.{not_bad}
 use Rattle.cellarcove_c.proofs.CommonSolutions.{no_third}
 use Rattle.cellarcove_c.proofs.SeveralCongruences.{without_range}
@@ -14,7 +15,7 @@ returns c =
     let own = rw (to_z-of_z w64 c.args.from c.ranges.from, to_z-of_z w64 c.args.a c.ranges.a, to_z-of_z w64 c.args.m c.ranges.m, to_z-of_z w64 c.args.b c.ranges.b, to_z-of_z w64 c.args.n c.ranges.n) at c.next_common_solution.ensures in
     let refuses = c.of_common.ensures.refusal in
     record {
-      answer = λ _ _. rw c.of_common.ensures.answer (without_range _ _ _ _ c.next_common_solution.result own);
+      answer = λ _ _. rw c.of_common.ensures.answer (without_range (λ t. t) (FitsSigned w64) c.args.from (SolvesBothCongruences c.args.a c.args.m c.args.b c.args.n) c.next_common_solution.result own);
       bad_modulus = (
         λ same. absurd (no_third (refuses (λ zero. absurd (omega (arith, same, zero)))).1 (λ e. absurd (omega (arith, e))) (λ e. absurd (omega (arith, e))) same),
         λ bad. absurd (not_bad m_positive n_positive bad),

@@ -1,28 +1,28 @@
 use Rattle.std.proofs.lemmas.Bool.{iff_false}
-use Rattle.cellarcove_c.proofs.ClassesOfBoth.{are_positive, bad_modulus_is, class_is, reason_is}
+use Rattle.cellarcove_c.proofs.ClassesOfBoth.{bad_modulus_is, class_is, reason_is}
 use Rattle.cellarcove_c.proofs.congruences.class_of_both.Goals as goal
 
 pub chinese_remainder-requires-clause-m_positive : goal.chinese_remainder-requires-clause-m_positive
-chinese_remainder-requires-clause-m_positive g c = (are_positive (iff_false c.has_bad_modulus.ensures c.if-has_bad_modulus.false)).0
+chinese_remainder-requires-clause-m_positive g c = (c.are_positive.ensures.0 c.if-not-are_positive.false).0
 
 pub chinese_remainder-requires-clause-n_positive : goal.chinese_remainder-requires-clause-n_positive
-chinese_remainder-requires-clause-n_positive g c = (are_positive (iff_false c.has_bad_modulus.ensures c.if-has_bad_modulus.false)).1
+chinese_remainder-requires-clause-n_positive g c = (c.are_positive.ensures.0 c.if-not-are_positive.false).1
 
 pub reason_for_congruences-requires-clause-m_positive : goal.reason_for_congruences-requires-clause-m_positive
-reason_for_congruences-requires-clause-m_positive g c = (are_positive (iff_false c.has_bad_modulus.ensures c.if-has_bad_modulus.false)).0
+reason_for_congruences-requires-clause-m_positive g c = (c.are_positive.ensures.0 c.if-not-are_positive.false).0
 
 pub reason_for_congruences-requires-clause-n_positive : goal.reason_for_congruences-requires-clause-n_positive
-reason_for_congruences-requires-clause-n_positive g c = (are_positive (iff_false c.has_bad_modulus.ensures c.if-has_bad_modulus.false)).1
+reason_for_congruences-requires-clause-n_positive g c = (c.are_positive.ensures.0 c.if-not-are_positive.false).1
 
-pub returns-then-has_bad_modulus : goal.returns-then-has_bad_modulus
-returns-then-has_bad_modulus g c =
+pub returns-then-not-are_positive : goal.returns-then-not-are_positive
+returns-then-not-are_positive g c =
     let zero_fits = c.requires.in_range.4 in
-    bad_modulus_is g.T.Number.value g.T.Number.fits _ _ _ _ (c.args.zero, c.args.zero) (zero_fits, zero_fits) (c.has_bad_modulus.ensures.0 c.if-has_bad_modulus.true)
+    bad_modulus_is g.T.Number.value g.T.Number.fits _ _ _ _ (c.args.zero, c.args.zero) (zero_fits, zero_fits) (iff_false c.are_positive.ensures c.if-not-are_positive.true)
 
 pub returns-then-lcm_fits : goal.returns-then-lcm_fits
 returns-then-lcm_fits g c =
     let zero_fits = c.requires.in_range.4 in
-    let good = iff_false c.has_bad_modulus.ensures c.if-has_bad_modulus.false in
+    let good = c.are_positive.ensures.0 c.if-not-are_positive.false in
     let status = c.with_status in
     class_is g.T.Number.value g.T.Number.fits _ _ _ _ (c.args.zero, c.args.zero) (zero_fits, zero_fits) good (c.lcm_fits.ensures.0 c.if-lcm_fits.true) status.result.0 status.result.1 c.chinese_remainder.result
     c.chinese_remainder.ensures status.ensures.answer status.ensures.refusal
@@ -30,7 +30,7 @@ returns-then-lcm_fits g c =
 pub returns-else-lcm_fits : goal.returns-else-lcm_fits
 returns-else-lcm_fits g c =
     let zero_fits = c.requires.in_range.4 in
-    let good = iff_false c.has_bad_modulus.ensures c.if-has_bad_modulus.false in
+    let good = c.are_positive.ensures.0 c.if-not-are_positive.false in
     let beyond = iff_false c.lcm_fits.ensures c.if-lcm_fits.false in
     let reason = c.reason_for_congruences in
     reason_is g.T.Number.value g.T.Number.fits _ _ _ _ (c.args.zero, c.args.zero) (zero_fits, zero_fits) good beyond reason.result reason.ensures.not_fitting reason.ensures.no_solution reason.ensures.refusal

@@ -1,5 +1,7 @@
+use Rattle.std.specs.Prelude.{map}
 use Rattle.std.proofs.Common.{rules}
 use Rattle.std.proofs.lemmas.Bool.{iff_false}
+use Rattle.modular.specs.Congruences.{SolvesEach}
 use Rattle.cellarcove_c.proofs.CommonSolutions.{value_in_range}
 use Rattle.cellarcove_c.proofs.SeveralCongruences.{bad_modulus_is, common_solution_is, too_many_are, without_range}
 use Rattle.cellarcove_c.proofs.several_congruences.next_of_several.Goals as goal
@@ -25,10 +27,11 @@ returns g c =
     let fits = g.T.Number.fits in
     let status = c.common_with_status in
     let positive = c.copy.ensures.positive.0 c.if-not-copy.false in
+    let Solves = SolvesEach value (map g.C.Congruence.pair_of c.args.congruences.now) in
     let own = rw (c.copy.ensures.pairs c.if-not-copy.false) at c.next_common_solution_of.ensures in
     record {
       next =
           common_solution_is value fits _ g.C.Congruence.pair_of c.args.congruences.now c.args.zero (search rules) status.result.0 status.result.1 positive status.ensures.refusal
-          (rw status.ensures.answer (without_range _ _ _ _ c.next_common_solution_of.result own));
-      in_range = value_in_range (λ t. fits (value t)) _ _ _ c.args.zero status.result.0 status.result.1 c.next_common_solution_of.result own status.ensures.answer status.ensures.refusal c.requires.in_range.1;
+          (rw status.ensures.answer (without_range value fits (value c.args.from) Solves c.next_common_solution_of.result own));
+      in_range = value_in_range value fits (value c.args.from) Solves c.args.zero status.result.0 status.result.1 c.next_common_solution_of.result own status.ensures.answer status.ensures.refusal c.requires.in_range.1;
     }

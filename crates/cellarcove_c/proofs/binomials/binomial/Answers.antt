@@ -1,0 +1,15 @@
+use Rattle.std.specs.Prelude.{◌≡◌, pos}
+use Rattle.std.specs.Int.{FitsUnsignedBits}
+use Rattle.std.proofs.Common.{ap, arith, rules, subst}
+use Rattle.std.proofs.lemmas.Int.{ints}
+use Rattle.num_integer.specs.Coefficient.{coefficient}
+use Rattle.cellarcove_c.proofs.binomials.binomial.Goals as goal
+
+pub returns-then-n-lt68 : goal.returns-then-n-lt68
+returns-then-n-lt68 c =
+    let fits : FitsUnsignedBits 64 (pos c.from_table.result) = search rules in
+    let same : pos c.from_table.result ≡ pos (coefficient c.args.n c.args.k) = ap pos c.from_table.ensures in
+    ((omega (arith, ints), omega (arith, ints), subst (FitsUnsignedBits 64) same fits), (fits, same))
+
+pub returns-else-n-lt68 : goal.returns-else-n-lt68
+returns-else-n-lt68 c = c.binomial.ensures
