@@ -22,10 +22,10 @@ pub fn evaluate(kind: Kind, call: Call) -> Result<Answer, Refusal>
         return Err(Refusal::OutOfType);
     }
     match kind {
-        Kind::I8 => evaluate_at::<i8>(&call),
-        Kind::U8 => evaluate_at::<u8>(&call),
-        Kind::I64 => evaluate_at::<i64>(&call),
-        Kind::U64 => evaluate_at::<u64>(&call),
+        Kind::I8 => evaluate_at::<i8>(call),
+        Kind::U8 => evaluate_at::<u8>(call),
+        Kind::I64 => evaluate_at::<i64>(call),
+        Kind::U64 => evaluate_at::<u64>(call),
     }
 }
 
@@ -41,31 +41,31 @@ fn is_made_at(kind: Kind, call: &Call) -> bool
 
 /// Returns the answer of a call at the type of a kind. The parts of fractions are `i64` at every kind.
 fn evaluate_at<T: Average + Roots + Operand + TryFrom<i128, Error = TryFromIntError>>(
-    call: &Call,
+    call: Call,
 ) -> Result<Answer, Refusal>
     requires { Narrows T.value T.fits T.try_from_gives }
-    ensures { OutcomeIn T.fits call.now result }
+    ensures { OutcomeIn T.fits call result }
 {
     match call {
-        Call::DivRem(n, d) => rows::div_rem::<T>(narrow_both(*n, *d)?),
-        Call::DivModFloor(n, d) => rows::div_mod_floor::<T>(narrow_both(*n, *d)?),
-        Call::DivFloor(n, d) => rows::div_floor::<T>(narrow_both(*n, *d)?),
-        Call::DivCeil(n, d) => rows::div_ceil::<T>(narrow_both(*n, *d)?),
-        Call::ModFloor(n, d) => rows::mod_floor::<T>(narrow_both(*n, *d)?),
-        Call::NextMultipleOf(n, d) => rows::next_multiple_of::<T>(narrow_both(*n, *d)?),
-        Call::PrevMultipleOf(n, d) => rows::prev_multiple_of::<T>(narrow_both(*n, *d)?),
-        Call::IsMultipleOf(n, d) => rows::is_multiple_of::<T>(narrow_both(*n, *d)?),
-        Call::Gcd(a, b) => rows::gcd::<T>(narrow_both(*a, *b)?),
-        Call::Lcm(a, b) => rows::lcm::<T>(narrow_both(*a, *b)?),
-        Call::GcdLcm(a, b) => rows::gcd_lcm::<T>(narrow_both(*a, *b)?),
-        Call::ExtendedGcd(a, b) => rows::extended_gcd::<T>(narrow_both(*a, *b)?),
-        Call::AverageFloor(a, b) => rows::average_floor::<T>(narrow_both(*a, *b)?),
-        Call::AverageCeil(a, b) => rows::average_ceil::<T>(narrow_both(*a, *b)?),
-        Call::Sqrt(x) => rows::sqrt::<T>(narrow(*x)?),
-        Call::Cbrt(x) => rows::cbrt::<T>(narrow(*x)?),
-        Call::NthRoot(x, n) => rows::nth_root::<T>(narrow(*x)?, narrow(*n)?),
-        Call::Binomial(n, k) => rows::binomial::<T>(narrow_both(*n, *k)?),
-        Call::RatioAdd(a, b, c, d) => fractions::ratio_add::<T>(*a, *b, *c, *d),
-        Call::RatioMul(a, b, c, d) => fractions::ratio_mul::<T>(*a, *b, *c, *d),
+        Call::DivRem(n, d) => rows::div_rem::<T>(narrow_both(n, d)?),
+        Call::DivModFloor(n, d) => rows::div_mod_floor::<T>(narrow_both(n, d)?),
+        Call::DivFloor(n, d) => rows::div_floor::<T>(narrow_both(n, d)?),
+        Call::DivCeil(n, d) => rows::div_ceil::<T>(narrow_both(n, d)?),
+        Call::ModFloor(n, d) => rows::mod_floor::<T>(narrow_both(n, d)?),
+        Call::NextMultipleOf(n, d) => rows::next_multiple_of::<T>(narrow_both(n, d)?),
+        Call::PrevMultipleOf(n, d) => rows::prev_multiple_of::<T>(narrow_both(n, d)?),
+        Call::IsMultipleOf(n, d) => rows::is_multiple_of::<T>(narrow_both(n, d)?),
+        Call::Gcd(a, b) => rows::gcd::<T>(narrow_both(a, b)?),
+        Call::Lcm(a, b) => rows::lcm::<T>(narrow_both(a, b)?),
+        Call::GcdLcm(a, b) => rows::gcd_lcm::<T>(narrow_both(a, b)?),
+        Call::ExtendedGcd(a, b) => rows::extended_gcd::<T>(narrow_both(a, b)?),
+        Call::AverageFloor(a, b) => rows::average_floor::<T>(narrow_both(a, b)?),
+        Call::AverageCeil(a, b) => rows::average_ceil::<T>(narrow_both(a, b)?),
+        Call::Sqrt(x) => rows::sqrt::<T>(narrow(x)?),
+        Call::Cbrt(x) => rows::cbrt::<T>(narrow(x)?),
+        Call::NthRoot(x, n) => rows::nth_root::<T>(narrow(x)?, narrow(n)?),
+        Call::Binomial(n, k) => rows::binomial::<T>(narrow_both(n, k)?),
+        Call::RatioAdd(a, b, c, d) => fractions::ratio_add::<T>(a, b, c, d),
+        Call::RatioMul(a, b, c, d) => fractions::ratio_mul::<T>(a, b, c, d),
     }
 }
