@@ -29,7 +29,7 @@ fn run_args<S: Sink>(alloc: Global, args: Args, out: &mut S) -> Result<u8, Alloc
     ensures finished { IfOk result (λ status. status ≢ 4 → IsTrue (S.is_finished out.new)) }
 {
     let texts: Vec<String> = args.skip(1).collect(alloc)?;
-    let words: Vec<&str> = texts.iter().map(|text| text.as_str()).collect(alloc)?;
+    let words: Vec<&str> = texts.iter().map(String::as_str).collect(alloc)?;
     Ok(run(&words, out))
 }
 

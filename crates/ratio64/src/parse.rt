@@ -111,7 +111,7 @@ fn without_minus(text: &[u8]) -> &[u8]
 fn has_only_digits(text: &[u8]) -> bool
     ensures { result ≡ list_all is_ascii_digit text.now }
 {
-    text.iter().all(|byte| byte.is_ascii_digit())
+    text.iter().all(u8::is_ascii_digit)
 }
 
 /// 10^38, the smallest number of 39 digits.
