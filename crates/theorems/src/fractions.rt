@@ -1,22 +1,18 @@
-//! Functions that call `ratio64`. Their contracts state what a caller can prove from its contracts and its laws.
+//! What is proved of `ratio64` beside the main theorems.
 
-ghost use Rattle.std.specs.Prelude.{◌≡◌, ◌≢◌, ◌↔◌, ◌++◌, ◌<◌, ◌<ℤ◌, ◌+ℤ◌, ◌*ℤ◌, ◌^◌, Err, IfOk, IfSome, IsOk, IsTrue, MatchOption, Ok, neg_ℤ, pos, unsigned_abs, ℤ};
+ghost use Rattle.std.specs.Prelude.{◌≡◌, ◌↔◌, ◌++◌, ◌<◌, ◌<ℤ◌, ◌+ℤ◌, ◌*ℤ◌, Err, IfOk, IfSome, IsTrue, MatchOption, Ok, neg_ℤ, pos, unsigned_abs, ℤ};
 ghost use Rattle.std.specs.Hash as written;
 ghost use Rattle.std.specs.Int.{int_pow};
 ghost use Rattle.std.specs.List.{fold};
-ghost use Rattle.num_integer.specs.Division.{IsCeiled, IsFloored, IsQuotient};
-ghost use Rattle.num_integer.specs.Divisors.{IsGreatestCommonDivisor};
 ghost use Rattle.num_integer.specs.Only.{IsOnly};
 ghost use Rattle.ratio64.specs.Fraction.{AreEqual, IsExact, IsFraction, IsOutsideI64, fraction_cmp};
 ghost use Rattle.ratio64.specs.Limiting.{IsNearestWithin};
-ghost use Rattle.ratio64.specs.Ratio.{AnswersFraction, den_of, num_of};
-ghost use Rattle.ratio64.specs.Rounding.{IsRounded};
+ghost use Rattle.ratio64.specs.Ratio.{den_of, num_of};
 
-use num_integer::Integer;
 use ratio64::{ParseRatioError, Ratio, RatioError};
 use std::alloc::{AllocError, Global};
 use std::cmp::Ordering;
-use std::hash::{Hash, Hasher};
+use std::hash::Hasher;
 
 /// The result of parsing a fraction.
 type ParseResult = Result<Ratio, ParseRatioError>;
@@ -56,14 +52,6 @@ pub fn is_integer(num: i64, den: i64) -> bool
     ensures { IsTrue result ↔ ((n d : ℤ) → IsExact num den n d → d ≡ pos 1) }
 {
     num.is_multiple_of(&den)
-}
-
-/// Returns the fraction 1 / `parts`, which always fits.
-pub fn unit_fraction(parts: u32) -> Ratio
-    requires { parts ≢ 0 }
-    ensures { IsExact (pos 1) (pos parts) (num_of result) (den_of result) }
-{
-    Ratio::new(1, i64::from(parts)).unwrap()
 }
 
 /// Returns the number as a fraction, which always fits.
@@ -205,46 +193,6 @@ pub fn print_and_parse(alloc: Global, x: &Ratio) -> Result<(i64, i64, ParseResul
 
 // ---- results as a caller uses them, with no proof file
 
-/// Returns the parts, the floor and the ceiling of 6 / -4: `Ok((-3, 2, -2, -1))`.
-pub fn parts_floor_and_ceil_of_minus_three_halves() -> Result<(i64, i64, i64, i64), RatioError>
-    ensures parts { IfOk result (λ r. IsExact (pos 6) (neg_ℤ (pos 4)) r.0 r.1) }
-    ensures floor { IfOk result (λ r. IsQuotient IsFloored r.0 r.1 r.2) }
-    ensures ceil { IfOk result (λ r. IsQuotient IsCeiled r.0 r.1 r.3) }
-{
-    let x = Ratio::new(6, -4)?; // -3/2
-    Ok((x.num(), x.den(), x.floor(), x.ceil())) // (-3, 2, -2, -1)
-}
-
-/// Returns the sum of three fractions. `?` passes each error on.
-pub fn sum_of_three(x: &Ratio, y: &Ratio, z: &Ratio) -> Result<Ratio, RatioError>
-    ensures { result ≢ Err RatioError.ZeroDenominator }
-{
-    x.checked_add(y)?.checked_add(z)
-}
-
-/// Returns 1 if the denominator is 0, 2 if a part of the exact result does not fit, and 0 if there is no error.
-pub fn error_number(num: i64, den: i64) -> u32
-    ensures zero { result ≡ 1 → den ≡ pos 0 }
-    ensures outside { result ≡ 2 → IsOutsideI64 num den }
-    ensures none { result ≡ 0 → IsFraction num den }
-{
-    match Ratio::new(num, den) {
-        Ok(_) => 0,
-        Err(RatioError::ZeroDenominator) => 1,
-        Err(RatioError::NotFitting) => 2,
-    }
-}
-
-/// Returns the quotient, or 0 if the divisor is 0. Returns an error if the quotient does not fit.
-pub fn quotient_or_zero(x: &Ratio, y: &Ratio) -> Result<Ratio, RatioError>
-    ensures { result ≢ Err RatioError.ZeroDenominator }
-{
-    match x.checked_div(y) {
-        Err(RatioError::ZeroDenominator) => Ok(Ratio::zero()),
-        other => other,
-    }
-}
-
 /// Returns the negation, or `None` if it does not fit.
 pub fn negation(x: &Ratio) -> Option<Ratio>
     ensures { MatchOption result (IsOutsideI64 (neg_ℤ (num_of x.now)) (den_of x.now))
@@ -286,113 +234,4 @@ pub fn square(x: &Ratio) -> Option<Ratio>
         Ok(square) => Some(square),
         Err(_) => None,
     }
-}
-
-/// Returns the sum of the fractions, or an error if a partial sum does not fit.
-pub fn total(fractions: &[Ratio]) -> Result<Ratio, RatioError>
-    ensures { result ≢ Err RatioError.ZeroDenominator }
-{
-    let mut total = Ratio::zero();
-    for fraction in fractions {
-        total = total.checked_add(fraction)?;
-    }
-    Ok(total)
-}
-
-/// Parses the string. Returns 0 in place of the error `NotAFraction`, and passes on each other error.
-pub fn parse_or_zero(text: &str) -> Result<Ratio, ParseRatioError>
-    ensures { result ≢ Err ParseRatioError.NotAFraction }
-{
-    match text.parse::<Ratio>() {
-        Err(ParseRatioError::NotAFraction) => Ok(Ratio::zero()),
-        parsed => parsed,
-    }
-}
-
-// ---- calls of which some error cannot occur
-
-/// Returns the negation of a fraction whose numerator is greater than `i64::MIN`.
-pub fn negation_above_min(x: &Ratio) -> Ratio
-    requires { neg_ℤ (pos (2 ^ 63)) <ℤ num_of x.now }
-    ensures { IsExact (neg_ℤ (num_of x.now)) (den_of x.now) (num_of result) (den_of result) }
-{
-    match x.checked_neg() {
-        Ok(negation) => negation,
-        Err(_) => unreachable!("the numerator is greater than MIN"),
-    }
-}
-
-/// Returns the magnitude of a fraction whose numerator is greater than `i64::MIN`. It is not an error.
-pub fn magnitude_above_min(x: &Ratio) -> Result<Ratio, RatioError>
-    requires { neg_ℤ (pos (2 ^ 63)) <ℤ num_of x.now }
-    ensures { IsOk result }
-{
-    let magnitude = x.checked_abs()?;
-    Ok(magnitude)
-}
-
-/// Returns the reciprocal of the fraction, or 0 if the fraction is not positive.
-pub fn reciprocal_or_zero(x: &Ratio) -> Ratio
-    ensures { pos 0 <ℤ num_of x.now → IsExact (den_of x.now) (num_of x.now) (num_of result) (den_of result) }
-{
-    if !x.is_positive() {
-        return Ratio::zero();
-    }
-    match x.checked_recip() {
-        Ok(reciprocal) => reciprocal,
-        Err(_) => unreachable!("the numerator is positive"),
-    }
-}
-
-/// Returns the fraction `hundredths` / 100.
-pub fn percent(hundredths: i64) -> Ratio
-    ensures { IsExact hundredths (pos 100) (num_of result) (den_of result) }
-{
-    match Ratio::new(hundredths, 100) {
-        Ok(percent) => percent,
-        Err(_) => unreachable!("the denominator is positive"),
-    }
-}
-
-/// Scales an amount of a recipe for `servings` persons to `persons`. Returns an error if the exact result does not
-/// fit.
-pub fn scale(amount: Ratio, persons: i64, servings: i64) -> Result<Ratio, RatioError>
-    requires { pos 0 <ℤ servings }
-    ensures { AnswersFraction (num_of amount *ℤ persons) (den_of amount *ℤ servings) result }
-{
-    let share = Ratio::new(persons, servings).unwrap();
-    amount.checked_mul(&share)
-}
-
-/// Returns the aspect ratio of a screen in lowest terms.
-pub fn aspect_ratio(width: u32, height: u32) -> Ratio
-    requires { 0 < height }
-    ensures same_ratio { num_of result *ℤ pos height ≡ pos width *ℤ den_of result }
-    ensures lowest { IsGreatestCommonDivisor (num_of result) (den_of result) (pos 1) }
-{
-    Ratio::new(i64::from(width), i64::from(height)).unwrap()
-}
-
-// ---- integers times a fraction
-
-/// Returns the share of an amount, rounded down and rounded up, or `None` if one of the two does not fit.
-pub fn share_rounded_both_ways(share: &Ratio, amount: i64) -> Option<(i64, i64)>
-    ensures { IfSome result
-        (λ p. IsQuotient IsFloored (num_of share.now *ℤ amount) (den_of share.now) p.0
-        × IsQuotient IsCeiled (num_of share.now *ℤ amount) (den_of share.now) p.1) }
-{
-    match (share.floor_times(amount), share.ceil_times(amount)) {
-        (Some(rounded_down), Some(rounded_up)) => Some((rounded_down, rounded_up)),
-        _ => None,
-    }
-}
-
-/// Returns a price with its tax, which is rounded, or `None` if the tax or the sum does not fit. The tax is the price
-/// times the rate.
-pub fn with_tax(price: i64, rate: &Ratio) -> Option<i64>
-    ensures { IfSome result (λ total. (tax : ℤ)
-        × IsRounded (num_of rate.now *ℤ price) (den_of rate.now) tax × (total ≡ price +ℤ tax)) }
-{
-    let tax = rate.round_times(price)?;
-    price.checked_add(tax)
 }

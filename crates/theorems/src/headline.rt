@@ -9,7 +9,7 @@
 //! | a pair certifies the gcd, and no other small pair does | [`bezout_pair`] |
 //! | a binomial coefficient that fits is exact | [`binomial_coefficient`] |
 //! | a multinomial coefficient that fits is exact | [`multinomial_coefficient`] |
-//! | an iterator returns the coefficients of its row, and then `None` | [`row`], [`next_of_row`] |
+//! | an iterator returns the coefficients of its row, and then `None` | [`row_iterator`], [`next_of_row`] |
 //! | each quotient and each remainder is that of its kind | [`divisions`], [`quotients`], [`residue`] |
 //! | the next and the previous multiple are a quotient times the divisor | [`multiples`] |
 //! | divisibility and parity are those of the definitions | [`divisibility`], [`parity`] |
@@ -53,7 +53,6 @@ ghost use Rattle.num_integer.specs.Multinomial.{IsMultinomial};
 ghost use Rattle.num_integer.specs.Only.{IsOnly};
 ghost use Rattle.num_integer.specs.Range.{EachFits};
 ghost use Rattle.num_integer.specs.RootOf.{IsRoot};
-ghost use Rattle.num_integer.specs.Row.{RowFits, row_of};
 ghost use Rattle.num_integer.specs.SquareRuns.{AreSquareRootTurns};
 ghost use Rattle.ratio64.specs.Fraction.{IsExact, IsOutsideI64, IsReduced, fraction_cmp};
 ghost use Rattle.ratio64.specs.Ratio.{AnswersFraction, den_of, num_of};
@@ -65,14 +64,9 @@ use intcalc_core::run::{line_for, run};
 use intcalc_core::sink::Sink;
 use intcalc_core::{Answer, Call, Kind, Refusal, evaluate};
 use num_integer::counted::{GcdCounted, SqrtCounted, binomial_counted, extended_gcd_counted};
-use num_integer::{
-    Average, ExtendedGcd, Fits, Integer, IterBinomial, Roots, average_ceil, average_floor,
-    binomial, cbrt, div_ceil, div_floor, div_mod_floor, div_rem, gcd, gcd_lcm, lcm, mod_floor,
-    multinomial, nth_root, sqrt,
-};
+use num_integer::{Average, ExtendedGcd, Fits, Integer, IterBinomial, Roots, average_ceil, average_floor, binomial, cbrt, div_ceil, div_floor, div_mod_floor, div_rem, gcd, gcd_lcm, lcm, mod_floor, multinomial, nth_root, sqrt};
 use num_traits::Signed;
 use ratio64::{Ratio, RatioError};
-use std::alloc::{AllocError, Global};
 use std::cmp::Ordering;
 
 /// Returns the root of degree `n`, which is exact. If `x` is not negative, it is the `r` from 0 on whose power of
@@ -249,13 +243,22 @@ pub fn multinomial_coefficient_of_u64(counts: &[u64]) -> u64
     multinomial(counts)
 }
 
-/// Collects the row of `n`. Its items are the coefficients of `n` and 0, 1 and so on to `n`, in order.
-pub fn row<T: Integer>(alloc: Global, n: T) -> Result<Vec<T>, AllocError>
+/// Returns the row of `n` as an iterator, which allocates nothing. Its items are the coefficients of `n` and 0, 1 and so
+/// on to `n`, in order. The row of a negative `n` has no item.
+pub fn row_iterator<T: Integer>(n: T) -> IterBinomial<T>
     requires in_range { T.fits (T.value n) }
     requires row_fits { RowFits T.fits (T.value n) }
-    ensures items { IfOk result (λ v. map T.value v.items ≡ row_of (T.value n)) }
+    ensures items { result ≡ row_of (T.value n) }
 {
-    IterBinomial::new(n).collect(alloc)
+    IterBinomial::new(n)
+}
+
+/// Returns the row at `u64`.
+pub fn row_iterator_of_u64(n: u64) -> IterBinomial<u64>
+    requires row_fits { RowFits (FitsUnsignedBits 64) (pos n) }
+    ensures items { result ≡ row_of (pos n) }
+{
+    IterBinomial::new(n)
 }
 
 /// Returns the next item of a row. After the last item it returns `None` at every call.
@@ -264,14 +267,6 @@ pub fn next_of_row<T: Integer>(rest: &mut IterBinomial<T>) -> Option<T>
     ensures none { IfNone result ((rest.old ≡ []) × (rest.new ≡ [])) }
 {
     rest.next()
-}
-
-/// Collects the row of `n` at `u64`.
-pub fn row_of_u64(alloc: Global, n: u64) -> Result<Vec<u64>, AllocError>
-    requires row_fits { RowFits (FitsUnsignedBits 64) (pos n) }
-    ensures items { IfOk result (λ v. map (λ item. pos item) v.items ≡ row_of (pos n)) }
-{
-    IterBinomial::new(n).collect(alloc)
 }
 
 /// Returns the results of `div_rem` and of `div_mod_floor`. The first is the quotient rounded toward zero and its

@@ -1,6 +1,104 @@
-//! Functions that call `num_integer`. Their contracts say what the caller then knows.
+//! Calls of `num_integer` at any type of integers.
 
-pub mod checked;
-pub mod generic;
-pub mod matched;
-pub mod plain;
+ghost use Rattle.std.specs.Prelude.{◌≡◌, ◌≢◌, ◌⊎◌, ◌↔◌, ◌<◌, ◌^◌, ◌<ℤ◌, ◌+ℤ◌, ◌*ℤ◌, IsTrue, None, [], length, pos, unsigned_abs};
+ghost use Rattle.num_integer.specs.Bezout.{HasPair};
+ghost use Rattle.num_integer.specs.Division.{HaveSameSign, IsFloored, IsQuotient};
+ghost use Rattle.num_integer.specs.Divisors.{GcdFits, IsGreatestCommonDivisor};
+ghost use Rattle.num_integer.specs.Range.{EachFits};
+ghost use Rattle.num_integer.specs.Row.{RowFits, row_of};
+
+use num_integer::counted::extended_gcd_counted;
+use num_integer::operators::{is_equal, is_one};
+use num_integer::{ExtendedGcd, Fits, Integer, IterBinomial, div_floor, div_mod_floor, gcd, mod_floor};
+
+/// Returns the greatest common divisor. The condition of `gcd` says that it fits, even at a type without -1.
+pub fn gcd_that_fits<T: Integer>(a: T, b: T) -> T
+    requires in_range { T.fits (T.value a) × T.fits (T.value b) }
+    requires gcd_fits { GcdFits T.fits (T.value a) (T.value b) }
+    ensures fits { EachFits T.fits (IsGreatestCommonDivisor (T.value a) (T.value b)) }
+    ensures greatest { IsGreatestCommonDivisor (T.value a) (T.value b) (T.value result) }
+{
+    gcd(a, b)
+}
+
+/// Returns whether the values are equal and whether the first is less. The numbers that they mean compare in the same
+/// way.
+pub fn compared<T: Integer>(a: T, b: T) -> (bool, bool)
+    ensures equal { IsTrue result.0 ↔ (T.value a ≡ T.value b) }
+    ensures below { IsTrue result.1 ↔ (T.value a <ℤ T.value b) }
+{
+    (a == b, a < b)
+}
+
+/// Returns whether the numbers are equal and whether the first is 1, by `operators`.
+pub fn equal_and_one<T: Integer>(a: T, b: T) -> (bool, bool)
+    ensures equal { IsTrue result.0 ↔ (T.value a ≡ T.value b) }
+    ensures one { IsTrue result.1 ↔ (T.value a ≡ pos 1) }
+{
+    (is_equal(a, b), is_one(a))
+}
+
+/// Returns the quotient rounded down and its remainder. The quotient times the divisor and the remainder add up to
+/// the number.
+pub fn floored_parts<T: Integer>(n: T, d: T) -> (T, T)
+    requires in_range { T.fits (T.value n) × T.fits (T.value d) }
+    requires nonzero { T.value d ≢ pos 0 }
+    requires quotient_fits { EachFits T.fits (IsQuotient IsFloored (T.value n) (T.value d)) }
+    ensures sum { T.value result.0 *ℤ T.value d +ℤ T.value result.1 ≡ T.value n }
+    ensures sign { (T.value result.1 ≡ pos 0) ⊎ HaveSameSign (T.value result.1) (T.value d) }
+    ensures small { unsigned_abs (T.value result.1) < unsigned_abs (T.value d) }
+{
+    (div_floor(n, d), mod_floor(n, d))
+}
+
+/// Returns `(true, true)`: the greatest common divisor with a positive number and the quotient by it fit.
+pub fn tests_with_positive<T: Fits>(a: T, b: T) -> (bool, bool)
+    requires in_range { T.fits (T.value a) × T.fits (T.value b) }
+    requires positive { pos 0 <ℤ T.value b }
+    ensures gcd { IsTrue result.0 }
+    ensures quotient { IsTrue result.1 }
+{
+    (a.gcd_fits(&b), a.quotient_fits(&b))
+}
+
+/// Returns the quotient rounded down by `div_floor` and by `div_mod_floor`. The two are equal.
+pub fn floored_by_two_calls<T: Integer>(n: T, d: T) -> (T, T)
+    requires in_range { T.fits (T.value n) × T.fits (T.value d) }
+    requires nonzero { T.value d ≢ pos 0 }
+    requires quotient_fits { EachFits T.fits (IsQuotient IsFloored (T.value n) (T.value d)) }
+    ensures { T.value result.0 ≡ T.value result.1 }
+{
+    (div_floor(n, d), div_mod_floor(n, d).0)
+}
+
+/// Returns the Bezout pair by `extended_gcd` and by the call that counts the iterations. The two are equal.
+pub fn pairs_by_two_calls<T: Integer>(a: T, b: T) -> (ExtendedGcd<T>, ExtendedGcd<T>)
+    requires in_range { T.fits (T.value a) × T.fits (T.value b) }
+    requires gcd_fits { GcdFits T.fits (T.value a) (T.value b) }
+    requires has_pair { HasPair T.fits (T.value a) (T.value b) }
+    ensures gcd { T.value result.0.gcd ≡ T.value result.1.gcd }
+    ensures x { T.value result.0.x ≡ T.value result.1.x }
+    ensures y { T.value result.0.y ≡ T.value result.1.y }
+{
+    (a.extended_gcd(&b), extended_gcd_counted(a, b).0)
+}
+
+/// Returns the number of items of a row.
+pub fn row_length<T: Integer>(n: T) -> usize
+    requires in_range { T.fits (T.value n) }
+    requires row_fits { RowFits T.fits (T.value n) }
+    requires countable { length (row_of (T.value n)) < 2 ^ 64 }
+    ensures { result ≡ length (row_of (T.value n)) }
+{
+    IterBinomial::new(n).count()
+}
+
+/// Returns `(None, None)`: once no item is left, `next` always returns `None`.
+pub fn none_for_good<T: Integer>(rest: &mut IterBinomial<T>) -> (Option<T>, Option<T>)
+    requires { rest.old ≡ [] }
+    ensures first { result.0 ≡ None }
+    ensures second { result.1 ≡ None }
+    ensures rest { rest.new ≡ [] }
+{
+    (rest.next(), rest.next())
+}

@@ -1,18 +1,13 @@
-//! Functions that call `modular`. Their contracts state what a caller can prove from its contracts and its laws.
+//! What is proved of `modular` beside the main theorems.
 
-ghost use Rattle.std.specs.Prelude.{◌≡◌, ◌<◌, ◌<ℤ◌, ◌≤ℤ◌, ◌+ℤ◌, All, FitsSigned, IfSome, IsTrue, MatchOption, Some, pos, ℤ};
+ghost use Rattle.std.specs.Prelude.{◌≡◌, ◌<◌, ◌<ℤ◌, All, FitsSigned, IfSome, IsTrue, MatchOption, Some, pos, ℤ};
 ghost use Rattle.std.specs.Int.{int_pow, w64};
 ghost use Rattle.modular.specs.Congruences.{IsCountOfCongruent, IsInverse, IsNextCommonSolution, IsNextCongruent, IsPreviousCongruent, IsQuotientModulo, IsResidue, IsResidueClass, Solves, SolvesBothCongruences, SolvesEach};
 ghost use Rattle.modular.specs.declared.common_solutions.CommonSolution.TheVariants.{At};
 ghost use Rattle.num_integer.specs.Least.{IsLeastFrom};
 
 use modular::counted::power_modulo_counted;
-use modular::{
-    CommonSolution, chinese_remainder, count_congruent, inverse_modulo, next_common_solution,
-    next_common_solution_of, next_congruent, previous_congruent, quotient_modulo, residue,
-    solutions, sum_modulo,
-};
-use num_integer::Fits;
+use modular::{CommonSolution, chinese_remainder, count_congruent, inverse_modulo, next_common_solution, next_common_solution_of, next_congruent, previous_congruent, quotient_modulo, residue, solutions};
 
 // ---- results that are known in advance
 
@@ -93,26 +88,7 @@ pub fn next_common_solution_is_unique(
     next_common_solution(from, a, m, b, n)
 }
 
-/// Returns the hour that a clock shows `hours` hours after `hour`.
-pub fn hour_after(hour: i64, hours: i64) -> i64
-    ensures { IsResidue (pos 24) (hour +ℤ hours) result }
-{
-    sum_modulo(hour, hours, 24)
-}
-
 // ---- results as a caller uses them, with no proof file
-
-/// Returns the inverse of `a` modulo `m`, which is less than `m`, or `m` if there is no inverse.
-pub fn inverse_or_modulus(a: u64, m: u64) -> u64
-    requires { 0 < m }
-    ensures inverse { result < m → IsInverse (pos a) (pos m) (pos result) }
-    ensures none { result ≡ m → (x : ℤ) → ¬ (IsInverse (pos a) (pos m) x) }
-{
-    match inverse_modulo(a, m) {
-        Some(inverse) => inverse,
-        None => m,
-    }
-}
 
 /// Returns the quotient of `a` by `b` modulo `m`, or `None` if `b` has no inverse.
 pub fn quotient(a: i64, b: i64, m: i64) -> Option<i64>
@@ -146,17 +122,6 @@ pub fn common_residue_class(a: i64, m: i64, b: i64, n: i64) -> Option<(i64, i64)
     }
 }
 
-/// Returns the next time from `now` on, or `u64::MAX` if that time does not fit.
-pub fn next_time(now: u64, first: u64, period: u64) -> u64
-    requires { 0 < period }
-    ensures { pos now ≤ℤ pos result }
-{
-    match next_congruent(now, first, period) {
-        Some(time) => time,
-        None => u64::MAX,
-    }
-}
-
 /// Returns the next number that solves both congruences, or `None` if there is none in range.
 pub fn next_common_solution_or_none(from: i64, a: i64, m: i64, b: i64, n: i64) -> Option<i64>
     requires m_positive { pos 0 <ℤ m }
@@ -166,17 +131,6 @@ pub fn next_common_solution_or_none(from: i64, a: i64, m: i64, b: i64, n: i64) -
     match next_common_solution(from, a, m, b, n) {
         CommonSolution::At(t) => Some(t),
         CommonSolution::Beyond | CommonSolution::Never => None,
-    }
-}
-
-/// Returns the last time up to `now`, or 0 if there is none from 0 on.
-pub fn last_time_up_to(now: u64, first: u64, period: u64) -> u64
-    requires { 0 < period }
-    ensures { pos result ≤ℤ pos now }
-{
-    match previous_congruent(now, first, period) {
-        Some(time) => time,
-        None => 0,
     }
 }
 

@@ -1,0 +1,9 @@
+use Rattle.std.proofs.lemmas.Int.{to_z-of_z}
+use Rattle.calendar.proofs.Laws.{weeks_of_a_year}
+use Rattle.callers.proofs.dates.week_of_year.Goals as goal
+
+pub returns : goal.returns
+returns c =
+    let year = c.ranges.year in
+    let day = simp to_z-of_z at c.in_ok-_thursday.ensures in
+    weeks_of_a_year _ c.args.year c.args.week day.in_week

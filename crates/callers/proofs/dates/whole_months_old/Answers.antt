@@ -1,0 +1,11 @@
+use Rattle.std.specs.Prelude.{FitsSigned}
+use Rattle.std.specs.Int.{w64}
+use Rattle.std.proofs.Common.{rules}
+use Rattle.std.proofs.lemmas.Int.{to_z-of_z}
+use Rattle.calendar.proofs.ForCallers.{next_month_is_later}
+use Rattle.callers.proofs.dates.whole_months_old.Goals as goal
+
+pub returns : goal.returns
+returns c =
+    let fits : FitsSigned w64 c.in_ok-months_between.field-0 = search rules in
+    simp to_z-of_z (λ date next. next_month_is_later c.in_ok-months_between.ensures next)

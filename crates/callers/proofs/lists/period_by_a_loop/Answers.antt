@@ -1,0 +1,17 @@
+use Rattle.std.specs.Prelude.{ℕ, pos}
+use Rattle.std.proofs.Common.{arith}
+use Rattle.std.proofs.lemmas.List.{map_more, take_all}
+use Rattle.applied.proofs.ForCallers.{lcm_of_more, lcm_of_none}
+use Rattle.callers.proofs.lists.period_by_a_loop.Goals as goal
+
+pub loop-next-init : goal.loop-next-init
+loop-next-init c = record { in_range = omega arith; so_far = lcm_of_none }
+
+pub loop-next-preserved : goal.loop-next-preserved
+loop-next-preserved c = record {
+  in_range = c.in_ok-period.ensures.1.0;
+  so_far = rw (map_more (λ (x : ℕ). pos x) c.args.periods.now c.loop-next.next-index 0 (omega arith)) (lcm_of_more c.loop-next.invariant.so_far c.in_ok-period.ensures.1.1);
+}
+
+pub returns : goal.returns
+returns c = rw (take_all c.loop-next.next-index c.args.periods.now (omega arith)) at c.loop-next.invariant.so_far

@@ -1,0 +1,6 @@
+use Rattle.std.specs.Prelude.{◌≡◌, ◌++◌, map}
+use Rattle.num_integer.specs.Row.{row_of}
+use Rattle.callers.proofs.rows.row_by_a_loop.Given as goal
+
+abbrev pub invariant-loop-item : goal.invariant-loop-item
+invariant-loop-item g l = map g.T.Number.value l.all.items ++ l.item-iterator ≡ row_of (g.T.Number.value l.fn.n)

@@ -1,0 +1,37 @@
+//! Functions that show how a call of the libraries is written, and what its caller then knows. A contract here is what the
+//! caller wrote: it may say less than is true. What is proved of the libraries is in the crate `theorems`.
+//!
+//! A clause is about integers without limit: the integer of `a` is `pos a` at `u64`, `a` at `i64`, and `T.value a` at a type
+//! parameter. `rt lemma WORD` prints the definition of each word.
+//!
+//! | file | what it shows |
+//! |---|---|
+//! | `plain.rt` | calls of `num_integer`; a plain fact on the arguments meets the condition of most |
+//! | `matched.rt` | results that a caller of `num_integer` matches on |
+//! | `rows.rt` | rows of Pascal's triangle |
+//! | `residues.rt` | `modular`: residues, inverses, congruences |
+//! | `fractions.rt` | `ratio64`: exact results and errors, rounding |
+//! | `dates.rt` | `calendar`: dates, days of the week, weeks, months |
+//! | `pages.rt` | `applied`: pages and parts, shares, offsets, schedules |
+//! | `combinations.rt` | `applied`: combinations and their ranks |
+//! | `lists.rt` | `applied`: multiples of lists, reduced pairs |
+//! | `rounding.rt` | `applied`: nearest quotients, roots with their remainder, logarithms, factorials |
+//! | `tasks.rt` | everyday tasks: pages of items, a cipher, amounts of money, a recipe |
+//!
+//! Most functions have no proof file: the prover's search proves them from the contracts of what they call. The proof file of
+//! another function is in `proofs/`, in a folder with the names of the file and of the function.
+//!
+//! No crate depends on this one, and it has no tests.
+#![tactic(auto)]
+
+pub mod combinations;
+pub mod dates;
+pub mod fractions;
+pub mod lists;
+pub mod matched;
+pub mod pages;
+pub mod plain;
+pub mod residues;
+pub mod rounding;
+pub mod rows;
+pub mod tasks;

@@ -1,0 +1,112 @@
+//! Functions that call `applied` on single numbers: nearest quotients, roots with their remainder, logarithms and
+//! factorials.
+
+ghost use Rattle.std.specs.Prelude.{◌≡◌, ◌≢◌, ◌<◌, ◌≤◌, ◌+◌, ◌-◌, ◌*◌, ◌^◌, ◌<ℤ◌, IfSome, MatchOption, pos};
+ghost use Rattle.num_integer.specs.Coefficient.{factorial};
+ghost use Rattle.num_integer.specs.Division.{IsQuotient};
+ghost use Rattle.applied.specs.Counting.{falling};
+ghost use Rattle.applied.specs.Powers.{IsLogarithm};
+ghost use Rattle.applied.specs.Rounding.{IsNearest, IsNearestEven};
+
+use applied::counting::{self, falling};
+use applied::powers::{self, ilog, sqrt_rem};
+use applied::rounding::{self, div_round, div_round_even};
+
+// ---- nearest quotients
+
+/// Returns the price of one piece in whole cents. `cents` is the price of all pieces.
+pub fn price_of_piece(cents: i64, pieces: i64) -> i64
+    requires { pos 0 <ℤ pieces }
+    ensures { IsQuotient IsNearest cents pieces result }
+{
+    div_round(cents, pieces)
+}
+
+/// Rounds an amount in thousandths to hundredths.
+pub fn rounded_to_hundredths(thousandths: i64) -> i64
+    ensures { IsQuotient IsNearest thousandths (pos 10) result }
+{
+    div_round(thousandths, 10)
+}
+
+/// Returns the mean of values with this sum, rounded to the nearest integer. A half is rounded to the even integer,
+/// so about as many halves are rounded up as down.
+pub fn mean(total: i64, count: i64) -> i64
+    requires { pos 0 <ℤ count }
+    ensures { IsQuotient IsNearestEven total count result }
+{
+    div_round_even(total, count)
+}
+
+/// Returns the mean of natural numbers, rounded in the same way.
+pub fn natural_mean(total: u64, count: u64) -> u64
+    requires { count ≢ 0 }
+    ensures { IsQuotient IsNearestEven (pos total) (pos count) (pos result) }
+{
+    div_round_even(total, count)
+}
+
+/// Returns the nearest quotient, or `None` if the divisor is 0 or the quotient does not fit. An `if` tests the
+/// domain.
+pub fn nearest_or_none(total: i64, count: i64) -> Option<i64>
+    ensures { IfSome result (λ q. IsQuotient IsNearest total count q) }
+{
+    if total.quotient_fits(&count) {
+        Some(div_round(total, count))
+    } else {
+        None
+    }
+}
+
+/// Returns the same by the call that tests the domain.
+pub fn nearest_checked(total: i64, count: i64) -> Option<i64>
+    ensures { IfSome result (λ q. (count ≢ pos 0) × IsQuotient IsNearest total count q) }
+{
+    let quotient = rounding::checked::div_round(total, count)?;
+    Some(quotient)
+}
+
+// ---- roots and logarithms
+
+/// Returns the side of the largest square of tiles, and the number of tiles that are left.
+pub fn square_of_tiles(tiles: u64) -> (u64, u64)
+    ensures all { result.0 * result.0 + result.1 ≡ tiles }
+    ensures largest { result.1 ≤ 2 * result.0 }
+{
+    sqrt_rem(tiles)
+}
+
+/// Returns the number of decimal digits of a positive number.
+pub fn digits(number: u64) -> u32
+    requires { 0 < number }
+    ensures { IsLogarithm (pos 10) (pos number) (result - 1) }
+{
+    ilog(number, 10) + 1
+}
+
+/// Returns the number of levels of a binary tree with this many nodes, or 0 if there is no node.
+pub fn levels(nodes: u64) -> u32
+    ensures { 0 < nodes → IsLogarithm (pos 2) (pos nodes) (result - 1) }
+{
+    match powers::checked::ilog(nodes, 2) {
+        Some(degree) => degree + 1,
+        None => 0,
+    }
+}
+
+// ---- permutations
+
+/// Returns the number of ways in which three of eight runners can win the medals.
+#[tactic(auto, unfolding(applied::specs::Counting::falling))]
+pub fn podiums_of_eight() -> u64
+    ensures { result ≡ 336 }
+{
+    falling(8, 3)
+}
+
+/// Returns the number of orders of the books on a shelf, or `None` if it does not fit in a `u64`.
+pub fn orders_of_books(books: u64) -> Option<u64>
+    ensures { MatchOption result (2 ^ 64 ≤ factorial books) (λ ways. ways ≡ factorial books) }
+{
+    counting::checked::factorial(books)
+}

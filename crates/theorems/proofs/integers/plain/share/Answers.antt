@@ -1,5 +1,0 @@
-use Rattle.num_integer.proofs.ForCallers.{quotient_is_natural}
-use Rattle.theorems.proofs.integers.plain.share.Goals as goal
-
-pub returns : goal.returns
-returns c = quotient_is_natural c.requires c.div_floor.ensures.floored

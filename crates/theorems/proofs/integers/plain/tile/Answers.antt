@@ -1,5 +1,0 @@
-use Rattle.num_integer.proofs.ForCallers.{gcd_at_most}
-use Rattle.theorems.proofs.integers.plain.tile.Goals as goal
-
-pub returns : goal.returns
-returns c = gcd_at_most 100 c.requires.width c.requires.length c.gcd.ensures.greatest
