@@ -53,6 +53,7 @@ ghost use Rattle.num_integer.specs.Multinomial.{IsMultinomial};
 ghost use Rattle.num_integer.specs.Only.{IsOnly};
 ghost use Rattle.num_integer.specs.Range.{EachFits};
 ghost use Rattle.num_integer.specs.RootOf.{IsRoot};
+ghost use Rattle.num_integer.specs.Row.{RowFits, row_of};
 ghost use Rattle.num_integer.specs.SquareRuns.{AreSquareRootTurns};
 ghost use Rattle.ratio64.specs.Fraction.{IsExact, IsOutsideI64, IsReduced, fraction_cmp};
 ghost use Rattle.ratio64.specs.Ratio.{AnswersFraction, den_of, num_of};
