@@ -1,10 +1,10 @@
 #!/usr/bin/env python3
-"""Compares the code on the pages with the files that the gate compiles or runs, follows their links, and looks for each message of
-the Rust crate in docs/ERRORS.md.
+"""Compares the code on the pages with the files that the gate compiles or runs, follows their links, and compares docs/ERRORS.md with
+what the sources print.
 
-    scripts/check_pages.py                    a line for each block, for each page with its links, and for each message, and a count;
-                                              status 1 if a block is in no file, if a link leads to no file or to no heading, or if a
-                                              message is not on the page
+    scripts/check_pages.py                    a line for each block, for each page with its links, and for each message, status and
+                                              exception, and a count; status 1 if a block is in no file, if a link leads to no file or
+                                              to no heading, or if a message is printed and not on docs/ERRORS.md, or on it and not printed
     scripts/check_pages.py --run PROGRAM      a line for each command of a session, which the program has to print as the page shows
     scripts/check_pages.py --examples FOLDER  the same of the sessions at the heads of rust/examples/*.rs, whose programs are there
     scripts/check_pages.py --self-test        plants slips in samples; status 1 if one is not found
@@ -12,7 +12,9 @@ the Rust crate in docs/ERRORS.md.
 Each block of Rust is in a `.rt` file, or an example or a test of rust/, each block of a proof in an `.antt` file, and each line of a block of crates in
 crates.txt. Of a block of imports alone, each name is imported so in a `.rt` file. Indentation does not count, and a comment
 `// and ..` in a block replaces lines that the block leaves out. Blocks of any other kind are not read. The command of
-README.md is the stored run. A session is a block of `console`: each command in it prints the lines below it and nothing else."""
+README.md is the stored run. A session is a block of `console`: each command in it prints the lines below it and nothing else.
+What the sources print are the messages of rust/src, those of Rust's own operators that rust/tests/domains/forms.rs expects, the statuses
+of cellarcove.h, and the exceptions of the package for Python."""
 import itertools
 import os
 import pathlib
@@ -33,6 +35,14 @@ CODE = re.compile(r'^ *```.*?^ *```$|`[^`\n]*`', re.M | re.S)
 LINK = re.compile(r'\]\(([^()\s]+)\)')
 HEADING = re.compile(r'#{1,6} (.*)')
 MESSAGE = re.compile(r'[a-z`].* .*')
+OF_OPERATORS = 'attempt to '            # how a message of Rust's own operators begins
+STATUS = re.compile(r'^ +CELLARCOVE_(\w+) = (\d+)', re.M)
+SHOWN_STATUS = re.compile(r'^\| (\d+) \| `CELLARCOVE_(\w+)` \|', re.M)
+CLASS = re.compile(r'^class (\w+)\(((?:\w+Error|Refused)\b[\w, ]*)\):', re.M)
+RAISED = re.compile(r'\b(\w+Error)\(|\bPyExc_(\w+)|\b(PyErr_NoMemory|PyObject_GetAttr)\(')
+RAISED_BY = {'PyErr_NoMemory': 'MemoryError', 'PyObject_GetAttr': 'AttributeError'}
+UNSEEN = {'KeyError'}                   # it would say that the package lacks one of its own classes
+SHOWN_EXCEPTION = re.compile(r'^\| `(\w+)` \| (.*?) *\|', re.M)
 NO_CODE = re.compile(r'^ *//.*$|#!?\[(?:[^\[\]]|\[[^\[\]]*\])*\]', re.M)
 COMMAND = re.compile(r'(?:intcalc|cargo run --example \w+)(?: [^;|&]*)?|echo \$\?')
 
@@ -169,20 +179,57 @@ def follow_links():
         yield ' '.join([page.relative_to(REPOSITORY).as_posix(), *broken]), not broken
 
 
-# ---- messages
+# ---- messages, statuses and exceptions
 
 def messages_in(code):
     """The messages of the panics and the errors in the text of a file of Rust, except those that are put together: each string of
     several words that begins with a small letter."""
-    strings = re.findall(r'"((?:[^"\\]|\\.)*)"', NO_CODE.sub('', code))
+    strings = (string.replace('\\"', '"') for string in re.findall(r'"((?:[^"\\]|\\.)*)"', NO_CODE.sub('', code)))
     return {string for string in strings if MESSAGE.fullmatch(string) and not set('{\\') & set(string)}
 
 
-def messages():
-    """Each message of the Rust crate, with whether docs/ERRORS.md has it."""
-    page = ' '.join((REPOSITORY / 'docs/ERRORS.md').read_text().split())
-    found = set().union(*(messages_in(file.read_text()) for file in REPOSITORY.glob('rust/src/**/*.rs')))
-    return ((message, f'"{message}"' in page) for message in sorted(found))
+def messages_on(page):
+    """The messages that a page shows: each in quotation marks, or, if it has some itself, as code."""
+    found = re.findall(r'"([^"]*)"', page) + [code for code in re.findall('`([^`]*)`', page) if '"' in code]
+    return {message for message in found if MESSAGE.fullmatch(message)}
+
+
+def statuses_in(header):
+    return {f'{number} CELLARCOVE_{name}' for name, number in STATUS.findall(header)}
+
+
+def statuses_on(page):
+    return {f'{number} CELLARCOVE_{name}' for number, name in SHOWN_STATUS.findall(page)}
+
+
+def exceptions_in(package, driver):
+    """The exceptions of the package for Python, each with the classes that it is one of too, and those of Python that it raises."""
+    classes = dict(CLASS.findall(package))
+    raised = {RAISED_BY.get(word, word) for words in RAISED.findall(package + driver) for word in words if word}
+    return {f'{name} {bases}' for name, bases in classes.items()} | {f'{name} ' for name in raised - UNSEEN}
+
+
+def exceptions_on(page):
+    return {f"{name} {also.replace('`', '')}" for name, also in SHOWN_EXCEPTION.findall(page.partition('\n## Exceptions')[2])}
+
+
+def compared(printed, shown):
+    """What is printed and what the page of errors shows, each with whether it is both."""
+    for fact in sorted(printed | shown):
+        there = 'on docs/ERRORS.md' if fact in shown else 'not on docs/ERRORS.md'
+        yield f"{fact.strip()}: {there}{'' if fact in printed else ', and no source prints it'}", fact in printed & shown
+
+
+def errors():
+    """What docs/ERRORS.md shows, and what the sources print."""
+    def read(name):
+        return (REPOSITORY / name).read_text()
+    page, package = read('docs/ERRORS.md'), 'bindings/python/'
+    printed = set().union(*(messages_in(file.read_text()) for file in REPOSITORY.glob('rust/src/**/*.rs')))
+    printed |= {message for message in messages_in(read('rust/tests/domains/forms.rs')) if message.startswith(OF_OPERATORS)}
+    yield from compared(printed, messages_on(' '.join(page.split())))
+    yield from compared(statuses_in(read('bindings/c/cellarcove.h')), statuses_on(page))
+    yield from compared(exceptions_in(read(package + 'cellarcove/__init__.py'), read(package + 'src/driver.h')), exceptions_on(page))
 
 
 def compare():
@@ -280,15 +327,38 @@ CODE_WITH_MESSAGES = """    /// panic!("of a comment")
         "the fourth"
     );
     operator!(Add checked_add "the fifth" "Panics if it does not fit."); Reason("`n` is the sixth");
-    f.write_str("a date, as \\"2024-02-29\\""); f.pad("serde");
+    f.write_str("a date, as \\"2024-02-29\\""); f.pad("serde"); f.pad("a line\\n of more");
 """
+MESSAGES = {'the first', 'the second', 'the third', 'the fourth', 'the fifth', '`n` is the sixth', 'a date, as "2024-02-29"'}
+PAGE_OF_ERRORS = """| "the first", "the second" | see `it` |
+| `a date, as "2024-02-29"` | of "serde" |
+| 2 | `CELLARCOVE_NOT_FITTING` | it does not fit |
+
+## Exceptions, in Python
+
+| `Refused` | `ValueError` | why |
+| `NotFitting` | `Refused`, `OverflowError` | why |
+| `TypeError` | | why |
+"""
+HEADER = 'enum {\n    /* it fits */\n    CELLARCOVE_ANSWER = 0,\n    CELLARCOVE_NOT_FITTING = 2\n};\n'
+PACKAGE = 'class Refused(ValueError):\nclass NotFitting(Refused, OverflowError):\nclass Parts(NamedTuple):\n    raise OverflowError(f"{year}")\n'
+DRIVER = 'PyErr_Format(PyExc_TypeError, "no"); PyErr_SetString(PyExc_KeyError, "k"); PyErr_NoMemory(); a = PyObject_GetAttr(b, c);\n'
+CLASSES = {'Refused ValueError', 'NotFitting Refused, OverflowError'}
+# What is found in a text, and what is there.
+FOUND = (
+    (messages_in(CODE_WITH_MESSAGES), MESSAGES), (messages_on(PAGE_OF_ERRORS), {'the first', 'the second', 'a date, as "2024-02-29"'}),
+    (statuses_in(HEADER), {'0 CELLARCOVE_ANSWER', '2 CELLARCOVE_NOT_FITTING'}), (statuses_on(PAGE_OF_ERRORS), {'2 CELLARCOVE_NOT_FITTING'}),
+    (exceptions_in(PACKAGE, DRIVER), CLASSES | {'OverflowError ', 'TypeError ', 'MemoryError ', 'AttributeError '}),
+    (exceptions_on(PAGE_OF_ERRORS), CLASSES | {'TypeError '}),
+    (set(compared({'a', 'b'}, {'b', 'c'})), {('a: not on docs/ERRORS.md', False), ('b: on docs/ERRORS.md', True),
+                                             ('c: on docs/ERRORS.md, and no source prints it', False)}),
+)
 
 
 def self_test():
     """The slips that are not found, and what is found that is no slip."""
     yield from links_self_test()
-    if messages_in(CODE_WITH_MESSAGES) != {'the first', 'the second', 'the third', 'the fourth', 'the fifth', '`n` is the sixth'}:
-        yield f'messages are found: {messages_in(CODE_WITH_MESSAGES)}'
+    yield from (f'of the errors are found: {sorted(found)}' for found, wanted in FOUND if found != wanted)
     there = Files([RUST], [PROOF], 'half: std\n')
     for kind, text, wanted in QUOTED:
         found = [there.has(block) for block in blocks('sample', f'```{kind}\n{text}\n```\n')]
@@ -312,7 +382,7 @@ def said(found, passed_word, failed_word):
 def main():
     if sys.argv[1:] == ['--self-test']:
         wrong = list(self_test())
-        print('\n'.join(wrong + [f'check_pages.py: {len(QUOTED) + len(RUN) + len(LINKS) + 1} samples, {len(wrong)} failed']))
+        print('\n'.join(wrong + [f'check_pages.py: {len(QUOTED) + len(RUN) + len(LINKS) + len(FOUND)} samples, {len(wrong)} failed']))
         sys.exit(bool(wrong))
     if sys.argv[1:2] == ['--run']:
         pages = [(name, (REPOSITORY / name).read_text()) for name in SESSIONS]
@@ -321,7 +391,7 @@ def main():
         found = said(sessions(pathlib.Path(sys.argv[2]).resolve(), heads_of_examples()), 'passed', 'failed')
     else:
         found = itertools.chain(said(compare(), 'quoted', 'in no file'), said(follow_links(), 'its links lead somewhere', 'leads nowhere'),
-                                said(messages(), 'on docs/ERRORS.md', 'not on docs/ERRORS.md'))
+                                errors())
     counts = [0, 0]
     for line, passed in found:
         counts[not passed] += 1
