@@ -1,10 +1,11 @@
 //! A type of another crate: the numbers from -100 to 100. It implements the eight methods of `Integer`, `parts` and `ends`
-//! of `Fits`, and the two of `Average`.
+//! of `Fits`, the two of `Average`, and `nth_root` of `Roots`.
 
 use cellarcove::modular::{power_modulo, residue, Modular};
 use cellarcove::operators::sum;
 use cellarcove::{
-    binomial, checked, multinomial, Average, ExtendedGcd, Fits, Integer, IterBinomial,
+    binomial, checked, multinomial, nth_root, sqrt, Average, ExtendedGcd, Fits, Integer,
+    IterBinomial, Roots,
 };
 use num_traits::{Num, One, Signed, Zero};
 use std::ops::{Add, Div, Mul, Neg, Rem, Sub};
@@ -161,6 +162,18 @@ impl Average for Score {
 
 impl Modular for Score {}
 
+impl Roots for Score {
+    // It has no test of its domain.
+    fn nth_root(&self, n: u32) -> Score {
+        let is_above = |root: i32| {
+            root.checked_pow(n)
+                .map_or(true, |power| power > self.0.abs())
+        };
+        let above = (1..=100).find(|root| is_above(*root)).unwrap_or(101);
+        score((above - 1) * self.0.signum())
+    }
+}
+
 #[test]
 fn default_bodies() {
     let (a, b) = (Score(23), Score(8));
@@ -206,6 +219,19 @@ fn generic_calls() {
     assert_eq!(power_modulo(Score(7), 100, Score(100)), Score(1));
 }
 
+#[test]
+fn roots() {
+    assert_eq!((Score(99).sqrt(), sqrt(Score(100))), (Score(9), Score(10)));
+    assert_eq!((Score(-9).cbrt(), Score(64).cbrt()), (Score(-2), Score(4)));
+    assert_eq!(
+        (Score(-33).nth_root(5), nth_root(Score(-7), 1)),
+        (Score(-2), Score(-7))
+    );
+    assert_eq!(checked::nth_root(Score(-33), 5), Some(Score(-2)));
+    assert_eq!(checked::nth_root(Score(9), 0), None);
+    assert_eq!(checked::sqrt(Score(-9)), None);
+}
+
 /// The reason of the panic of a call.
 fn reason(call: fn() -> Score) -> String {
     let payload = catch_unwind(call).expect_err("the call panics");
@@ -238,5 +264,23 @@ fn outside_the_domain() {
     assert_eq!(
         reason(|| multinomial(&[Score(3), Score(-1)])),
         "a count is negative"
+    );
+}
+
+/// The functions and the method `sqrt` test the domain of a root before they call the type's own method, which has no test.
+#[test]
+fn roots_outside_the_domain() {
+    let (degree, even) = (
+        "attempt to take a root of degree 0",
+        "attempt to take an even root of a negative number",
+    );
+    let square = "attempt to take the square root of a negative number";
+    assert_eq!(reason(|| nth_root(Score(9), 0)), degree);
+    assert_eq!(reason(|| nth_root(Score(-9), 2)), even);
+    assert_eq!(reason(|| sqrt(Score(-9))), square);
+    assert_eq!(reason(|| Score(-9).sqrt()), square);
+    assert_eq!(
+        (Score(9).nth_root(0), Score(-9).nth_root(2)),
+        (Score(100), Score(-3))
     );
 }
