@@ -34,6 +34,7 @@ IMPORT = re.compile(r'(?:pub )?((?:ghost )?use .*);')
 CODE = re.compile(r'^ *```.*?^ *```$|`[^`\n]*`', re.M | re.S)
 LINK = re.compile(r'\]\(([^()\s]+)\)')
 HEADING = re.compile(r'#{1,6} (.*)')
+NAMED = re.compile(r'((?:`\w+`(?:,| and|, and)? )*(?:of )?)`(crates/[\w/]+\.(?:rt|antt))`')
 MESSAGE = re.compile(r'[a-z`].* .*')
 OF_OPERATORS = 'attempt to '            # how a message of Rust's own operators begins
 STATUS = re.compile(r'^ +CELLARCOVE_(\w+) = (\d+)', re.M)
@@ -179,6 +180,32 @@ def follow_links():
         yield ' '.join([page.relative_to(REPOSITORY).as_posix(), *broken]), not broken
 
 
+# ---- files that a page names
+
+def named_files(text):
+    """The files of crates that a page names, and each name that it says a file has."""
+    for names, file in NAMED.findall(' '.join(text.split())):
+        yield file, ''
+        yield from ((file, name) for name in re.findall(r'`(\w+)`', names))
+
+
+def absent_names(text, texts):
+    """The files that a page names and that are not there, and the names that are not in them. `texts` has the files."""
+    for file, name in named_files(text):
+        if file not in texts or name and not re.search(rf'\b{name}\b', texts[file]):
+            yield f'{file} {name}'.strip()
+
+
+def find_names():
+    """Each page that names files of crates, with whether they are there and have the names, and else those that are not."""
+    texts = {file.relative_to(REPOSITORY).as_posix(): file.read_text() for kind in ('src/**/*.rt', 'specs/**/*.antt', 'proofs/**/*.antt')
+             for file in REPOSITORY.glob(f'crates/*/{kind}')}
+    for page in sorted({page for pattern in PAGES for page in REPOSITORY.glob(pattern)}):
+        if NAMED.search(page.read_text()):
+            absent = list(absent_names(page.read_text(), texts))
+            yield ' '.join([page.relative_to(REPOSITORY).as_posix(), *absent]), not absent
+
+
 # ---- messages, statuses and exceptions
 
 def messages_in(code):
@@ -318,6 +345,9 @@ def links_self_test():
                 yield f'a link is followed wrongly: {link}'
 
 
+# What a page says of the files of crates, and what is not there.
+NAMES = (('see `half` of\n`crates/a/src/b.rt`', []), ('`half` and `third` of `crates/a/src/b.rt`', ['crates/a/src/b.rt third']),
+         ('in `crates/a/src/c.rt`', ['crates/a/src/c.rt']), ('`half`, `crates/a/src/b.rt`', []))
 CODE_WITH_MESSAGES = """    /// panic!("of a comment")
     #[cfg_attr(x, note = "of [`T`] at compile time")]
     assert!(x < 1 && y.is_some(), "the first");
@@ -341,7 +371,8 @@ PAGE_OF_ERRORS = """| "the first", "the second" | see `it` |
 | `TypeError` | | why |
 """
 HEADER = 'enum {\n    /* it fits */\n    CELLARCOVE_ANSWER = 0,\n    CELLARCOVE_NOT_FITTING = 2\n};\n'
-PACKAGE = 'class Refused(ValueError):\nclass NotFitting(Refused, OverflowError):\nclass Parts(NamedTuple):\n    raise OverflowError(f"{year}")\n'
+PACKAGE = ('class Refused(ValueError):\nclass NotFitting(Refused, OverflowError):\nclass Parts(NamedTuple):\n'
+           '    raise OverflowError(f"{year}")\n')
 DRIVER = 'PyErr_Format(PyExc_TypeError, "no"); PyErr_SetString(PyExc_KeyError, "k"); PyErr_NoMemory(); a = PyObject_GetAttr(b, c);\n'
 CLASSES = {'Refused ValueError', 'NotFitting Refused, OverflowError'}
 # What is found in a text, and what is there.
@@ -358,6 +389,9 @@ FOUND = (
 def self_test():
     """The slips that are not found, and what is found that is no slip."""
     yield from links_self_test()
+    for text, wanted in NAMES:
+        if list(absent_names(text, {'crates/a/src/b.rt': RUST})) != wanted:
+            yield f'names of crates are found wrongly: {text}'
     yield from (f'of the errors are found: {sorted(found)}' for found, wanted in FOUND if found != wanted)
     there = Files([RUST], [PROOF], 'half: std\n')
     for kind, text, wanted in QUOTED:
@@ -382,7 +416,7 @@ def said(found, passed_word, failed_word):
 def main():
     if sys.argv[1:] == ['--self-test']:
         wrong = list(self_test())
-        print('\n'.join(wrong + [f'check_pages.py: {len(QUOTED) + len(RUN) + len(LINKS) + len(FOUND)} samples, {len(wrong)} failed']))
+        print('\n'.join(wrong + [f'check_pages.py: {len(QUOTED) + len(RUN) + len(LINKS) + len(NAMES) + len(FOUND)} samples, {len(wrong)} failed']))
         sys.exit(bool(wrong))
     if sys.argv[1:2] == ['--run']:
         pages = [(name, (REPOSITORY / name).read_text()) for name in SESSIONS]
@@ -391,7 +425,7 @@ def main():
         found = said(sessions(pathlib.Path(sys.argv[2]).resolve(), heads_of_examples()), 'passed', 'failed')
     else:
         found = itertools.chain(said(compare(), 'quoted', 'in no file'), said(follow_links(), 'its links lead somewhere', 'leads nowhere'),
-                                errors())
+                                said(find_names(), 'has what it names of crates', 'is not there'), errors())
     counts = [0, 0]
     for line, passed in found:
         counts[not passed] += 1

@@ -32,9 +32,9 @@ def seeded(suite):
     return len(list(ROOT.glob(f'crates/*/{suite}/*.edit')))
 
 
-def theorems():
-    return sum(len(re.findall(r'^(?:    )?pub fn ', path.read_text(), re.M))
-               for path in (ROOT / 'crates/theorems/src').rglob('*.rt'))
+def functions(crate):
+    """The public functions of a crate."""
+    return sum(len(re.findall(r'^(?:    )?pub fn ', path.read_text(), re.M)) for path in (ROOT / 'crates' / crate / 'src').rglob('*.rt'))
 
 
 def results(name):
@@ -47,7 +47,8 @@ def table():
         ('lines of code, proved', lines('src', '.rt')),
         ('lines of definitions, which say what the contracts mean', lines('specs', '.antt')),
         ('lines of proof', lines('proofs', '.antt')),
-        ('functions of `theorems`', theorems()),
+        ('functions of `theorems`, whose contracts are the theorems', functions('theorems')),
+        ('functions of `callers`, which show how calls are written', functions('callers')),
         ('seeded bugs that the prover rejects in each run', seeded('must-fail')),
         ('more of them before a release', seeded('must-fail-release')),
         ('results compared with `num-integer`', results('list.rt')),

@@ -31,18 +31,20 @@ REPOSITORY = pathlib.Path(__file__).resolve().parent.parent
 CRATES = REPOSITORY / 'crates'
 PAGES = REPOSITORY / 'docs' / 'reference'
 TOOLCHAIN = REPOSITORY / 'rust' / 'by_hand' / 'definitions.md'
-NAMES = ('theorems', 'integer_core', 'integer_roots', 'num_integer', 'modular', 'ratio64', 'calendar', 'applied', 'cellarcove_c')
+NAMES = ('theorems', 'callers', 'integer_core', 'integer_roots', 'num_integer', 'modular', 'ratio64', 'calendar', 'applied', 'cellarcove_c')
 # All public items of these are those of num_integer, on whose page they are.
 BELOW = {'integer_core': 'num_integer', 'integer_roots': 'num_integer'}
-BY_FILE = {'cellarcove_c', 'theorems'}          # nobody imports them: their public items are those of their files
+BY_FILE = {'cellarcove_c', 'theorems', 'callers'}   # nobody imports them: their public items are those of their files
 FIRST = (('headline',), ('laws',))              # the files of `theorems` with which its page begins
-CALLERS = 'theorems'                            # what its clauses and proofs import of the toolchain is on the page of imports
+CALLERS = ('theorems', 'callers')               # what their clauses and proofs import of the toolchain is on the page of imports
 PROGRAM = ('intcalc_core', 'intcalc')           # on the page of files alone
 IN_RANGE = 'Clauses that only say that arguments and results are in the range of their types are left out.'
 IMPORTS = ('The module of each word: import it in a clause by `ghost use MODULE.{WORD};`, and in a proof by `use MODULE.{WORD}`. '
            'A module of `proofs` is for proofs alone. '
-           'The words are the definitions of the libraries, the rulesets, and what the callers of `crates/theorems` import of '
+           'The words are the definitions of the libraries, the rulesets, and what `crates/theorems` and `crates/callers` import of '
            'the toolchain. `→`, `×`, `¬`, `⊥` and the tactics need no import. `rt check --fix-imports` adds missing imports.')
+INDEX = ('By name. The exports for C are on [their page](cellarcove_c.md), the theorems on [that of `theorems`](theorems.md), and '
+         'functions that show how calls are written on [that of `callers`](callers.md).')
 SHOWN = ('fn', 'struct', 'enum', 'trait', 'const', 'type')
 LEMMA = re.compile(r'(?:abbrev |unfoldable )?pub (?:ruleset ([^\s:]+) =|([^\s:]+) :)')
 RENAMED = re.compile(r'^pub use [\w.]+\.\{(\S+) as (\S+)\}')
@@ -361,7 +363,7 @@ class Reference:
         rows |= {(name, f'Rattle.{crate}.proofs.ForCallers', f'[`{name}`]({crate}.md#{anchor})')
                  for crate, name, anchor in self.rulesets}
         toolchain = {}
-        for path in (*(CRATES / CALLERS).glob('src/**/*.rt'), *(CRATES / CALLERS).glob('proofs/**/*.antt')):
+        for path in (file for name in CALLERS for kind in ('src/**/*.rt', 'proofs/**/*.antt') for file in (CRATES / name).glob(kind)):
             for name, (crate, module) in imported(path.read_text()).items():
                 if crate == 'std' and ' as ' not in name:
                     toolchain[name] = min(toolchain.get(name, module), module, key=nearest)
@@ -378,8 +380,7 @@ class Reference:
     def index(self):
         rows = [f'| [`{title}`]({link}) | `{path}` | {said} |' for _, title, path, link, said in sorted(self.calls)
                 if link.split('.md')[0] not in BY_FILE]
-        return '\n'.join(['# All functions', '', 'By name. The exports for C are on [their page](cellarcove_c.md), and the functions that state\nwhat is proved on [that of `theorems`](theorems.md).', '',
-                          '| function | import from | what it does |', '|---|---|---|', *rows])
+        return '\n'.join(['# All functions', '', *wrapped(INDEX, 110), '', '| function | import from | what it does |', '|---|---|---|', *rows])
 
     def front(self):
         rows = '\n'.join(f'| [`{name}`]({name}.md) | {first_sentence(head_of_file(crate.modules[0]))} |'
@@ -470,6 +471,7 @@ SLIPS = (
     ('a doc comment that differs', 'crates/calendar/src/feasts.rt', '/// Returns', '/// Computes', 'calendar.md'),
     ('a line of a page that differs', 'docs/reference/modular.md', 'fn inverse_modulo', 'fn modular_inverse', 'modular.md'),
     ('a theorem that differs', 'crates/theorems/src/dates.rt', 'ensures { result ≡ Some day }', 'ensures { result ≡ None }', 'theorems.md'),
+    ('a caller that differs', 'crates/callers/src/plain.rt', 'IsQuotient IsFloored n d result', 'IsQuotient IsFloored d n result', 'callers.md'),
     ('an import that differs', 'docs/reference/num_integer.md', 'use num_integer::{Average,', 'use integer_core::{Average,',
      'num_integer.md'),
     ('a module of a word that differs', 'docs/reference/imports.md', '`Rattle.std.specs.Int`', '`Rattle.std.specs.Ints`', 'imports.md'),
