@@ -206,6 +206,7 @@ fn checked_calls() {
     assert_eq!(checked::binomial(Score(9), Score(4)), None);
     assert_eq!(checked::binomial(Score(8), Score(4)), Some(Score(70)));
     assert!(checked::row(Score(9)).is_none());
+    assert_eq!(checked::row(Score(-3)).map(|row| row.count()), Some(0));
 }
 
 #[test]
