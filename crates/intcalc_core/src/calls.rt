@@ -14,7 +14,7 @@ pub enum Kind {
 
 /// A call with its operands. The operands fit in the kind, a degree fits in `u32`, and the parts of
 /// fractions fit in `i64`; otherwise `evaluate` returns `OutOfType`.
-#[derive(Clone, Copy)]
+#[derive(Debug, Clone, Copy, PartialEq, Eq)]
 pub enum Call {
     DivRem(i128, i128),
     DivModFloor(i128, i128),

@@ -9,7 +9,7 @@ pub mod number;
 mod outcome;
 pub mod run;
 pub mod sink;
-mod words;
+pub mod words;
 
 pub use calls::{Answer, Call, Kind, Refusal};
 pub use outcome::evaluate;

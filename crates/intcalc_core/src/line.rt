@@ -9,7 +9,8 @@ use crate::calls::{Answer, Refusal};
 use crate::decimal::{WIDTH, write_digits};
 use std::marker::Model;
 
-const CAPACITY: usize = 128;
+/// The largest number of bytes of a line.
+pub const CAPACITY: usize = 128;
 
 /// The bytes of a line, up to a fixed number.
 #[derive(Drop)]

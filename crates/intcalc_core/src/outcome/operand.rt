@@ -1,7 +1,6 @@
 //! Operands at the type of a kind, and answers of their numbers.
 
-ghost use Rattle.std.specs.Prelude.{◌≡◌, ◌↔◌, ◌≤ℤ◌, pos, Ok, Err, IsTrue, MatchOption, MatchResult};
-ghost use Rattle.std.specs.Option.{ForSome};
+ghost use Rattle.std.specs.Prelude.{◌≡◌, ◌↔◌, ◌≤ℤ◌, pos, IsTrue, MatchResult};
 ghost use Rattle.intcalc_core.specs.declared.calls.Answer.TheVariants as answers;
 ghost use Rattle.intcalc_core.specs.declared.calls.Refusal.TheVariants as refusals;
 ghost use Rattle.num_integer.specs.RootOf.{IsWithin64Bits};
@@ -52,18 +51,6 @@ pub(crate) fn widen<T: Operand>(x: T) -> i128
     let (negative, magnitude) = x.parts();
     let magnitude = magnitude as i128;
     if negative { -magnitude } else { magnitude }
-}
-
-/// Returns the answer of one number, or `NotFitting` if the call returned none.
-pub(crate) fn one_or_not_fitting<T: Operand>(x: Option<T>) -> Result<Answer, Refusal>
-    requires in_range { ForSome x (λ n. T.fits (T.value n)) }
-    ensures { MatchOption x (result ≡ Err refusals.NotFitting)
-        (λ n. result ≡ Ok (answers.One (T.value n))) }
-{
-    match x {
-        Some(n) => Ok(Answer::One(widen(n))),
-        None => Err(Refusal::NotFitting),
-    }
 }
 
 /// Returns the answer of two numbers.

@@ -7,9 +7,9 @@ ghost use Rattle.intcalc_core.specs.declared.calls.Call.TheVariants as calls;
 ghost use Rattle.intcalc_core.specs.Outcome.{Inside};
 
 use crate::calls::{Answer, Refusal};
-use crate::outcome::operand::{Operand, is_from_zero, one_or_not_fitting, three, two, widen};
+use crate::outcome::operand::{Operand, is_from_zero, three, two, widen};
 use num_integer::operators::is_zero;
-use num_integer::{Average, Integer, Roots, checked};
+use num_integer::{Average, Integer, Roots};
 
 pub(crate) fn div_rem<T: Operand>(pair: (T, T)) -> Result<Answer, Refusal>
     requires { T.fits (T.value pair.0) × T.fits (T.value pair.1) }
@@ -19,10 +19,10 @@ pub(crate) fn div_rem<T: Operand>(pair: (T, T)) -> Result<Answer, Refusal>
     if is_zero(d) {
         return Err(Refusal::ZeroDivisor);
     }
-    match checked::div_rem(n, d) {
-        Some(parts) => Ok(two(parts)),
-        None => Err(Refusal::NotFitting),
+    if !n.quotient_fits(&d) {
+        return Err(Refusal::NotFitting);
     }
+    Ok(two(n.div_rem(&d)))
 }
 
 pub(crate) fn div_mod_floor<T: Operand>(pair: (T, T)) -> Result<Answer, Refusal>
@@ -33,10 +33,10 @@ pub(crate) fn div_mod_floor<T: Operand>(pair: (T, T)) -> Result<Answer, Refusal>
     if is_zero(d) {
         return Err(Refusal::ZeroDivisor);
     }
-    match checked::div_mod_floor(n, d) {
-        Some(parts) => Ok(two(parts)),
-        None => Err(Refusal::NotFitting),
+    if !n.quotient_fits(&d) {
+        return Err(Refusal::NotFitting);
     }
+    Ok(two(n.div_mod_floor(&d)))
 }
 
 pub(crate) fn div_floor<T: Operand>(pair: (T, T)) -> Result<Answer, Refusal>
@@ -47,7 +47,10 @@ pub(crate) fn div_floor<T: Operand>(pair: (T, T)) -> Result<Answer, Refusal>
     if is_zero(d) {
         return Err(Refusal::ZeroDivisor);
     }
-    one_or_not_fitting(checked::div_floor(n, d))
+    if !n.quotient_fits(&d) {
+        return Err(Refusal::NotFitting);
+    }
+    Ok(Answer::One(widen(n.div_floor(&d))))
 }
 
 pub(crate) fn div_ceil<T: Operand>(pair: (T, T)) -> Result<Answer, Refusal>
@@ -58,7 +61,10 @@ pub(crate) fn div_ceil<T: Operand>(pair: (T, T)) -> Result<Answer, Refusal>
     if is_zero(d) {
         return Err(Refusal::ZeroDivisor);
     }
-    one_or_not_fitting(checked::div_ceil(n, d))
+    if !n.quotient_fits(&d) {
+        return Err(Refusal::NotFitting);
+    }
+    Ok(Answer::One(widen(n.div_ceil(&d))))
 }
 
 pub(crate) fn mod_floor<T: Operand>(pair: (T, T)) -> Result<Answer, Refusal>
@@ -80,7 +86,10 @@ pub(crate) fn next_multiple_of<T: Operand>(pair: (T, T)) -> Result<Answer, Refus
     if is_zero(d) {
         return Err(Refusal::ZeroDivisor);
     }
-    one_or_not_fitting(checked::next_multiple_of(n, d))
+    if !n.next_multiple_fits(&d) {
+        return Err(Refusal::NotFitting);
+    }
+    Ok(Answer::One(widen(n.next_multiple_of(&d))))
 }
 
 pub(crate) fn prev_multiple_of<T: Operand>(pair: (T, T)) -> Result<Answer, Refusal>
@@ -91,7 +100,10 @@ pub(crate) fn prev_multiple_of<T: Operand>(pair: (T, T)) -> Result<Answer, Refus
     if is_zero(d) {
         return Err(Refusal::ZeroDivisor);
     }
-    one_or_not_fitting(checked::prev_multiple_of(n, d))
+    if !n.prev_multiple_fits(&d) {
+        return Err(Refusal::NotFitting);
+    }
+    Ok(Answer::One(widen(n.prev_multiple_of(&d))))
 }
 
 pub(crate) fn is_multiple_of<T: Integer>(pair: (T, T)) -> Result<Answer, Refusal>
@@ -118,7 +130,10 @@ pub(crate) fn lcm<T: Operand>(pair: (T, T)) -> Result<Answer, Refusal>
     ensures { Inside T.fits (calls.Lcm (T.value pair.0) (T.value pair.1)) result }
 {
     let (a, b) = pair;
-    one_or_not_fitting(checked::lcm(a, b))
+    if !a.lcm_fits(&b) {
+        return Err(Refusal::NotFitting);
+    }
+    Ok(Answer::One(widen(a.lcm(&b))))
 }
 
 pub(crate) fn gcd_lcm<T: Operand>(pair: (T, T)) -> Result<Answer, Refusal>
@@ -143,10 +158,11 @@ pub(crate) fn extended_gcd<T: Operand>(pair: (T, T)) -> Result<Answer, Refusal>
     if !a.gcd_fits(&b) {
         return Err(Refusal::NotFitting);
     }
-    match checked::extended_gcd(a, b) {
-        Some(bezout) => Ok(three(bezout.gcd, bezout.x, bezout.y)),
-        None => Err(Refusal::NoPair),
+    if !a.pair_fits(&b) {
+        return Err(Refusal::NoPair);
     }
+    let bezout = a.extended_gcd(&b);
+    Ok(three(bezout.gcd, bezout.x, bezout.y))
 }
 
 pub(crate) fn average_floor<T: Average + Operand>(pair: (T, T)) -> Result<Answer, Refusal>
@@ -203,5 +219,8 @@ pub(crate) fn binomial<T: Operand>(pair: (T, T)) -> Result<Answer, Refusal>
     if !is_from_zero(n) || !is_from_zero(k) {
         return Err(Refusal::NegativeCount);
     }
-    one_or_not_fitting(checked::binomial(n, k))
+    if !n.binomial_fits(&k) {
+        return Err(Refusal::NotFitting);
+    }
+    Ok(Answer::One(widen(num_integer::binomial(n, k))))
 }
