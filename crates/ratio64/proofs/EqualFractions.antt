@@ -1,7 +1,7 @@
 -- Equal fractions have one exact result, and equal sums and products.
 use Rattle.std.specs.Prelude.{◌≢◌, ◌+ℤ◌, ◌*ℤ◌, ℤ, pos, Result, Ok, Err, IfOk}
 use Rattle.std.proofs.Common.{arith, ap}
-use Rattle.integer_core.proofs.Whole.{expand, linear}
+use Rattle.num_integer.proofs.ForCallers.{expand, linear}
 use Rattle.ratio64.specs.Fraction.{AreEqual, IsExact, IsFraction, IsOutsideI64}
 use Rattle.ratio64.specs.Ratio.{AnswersFraction, num_of, den_of}
 use Rattle.ratio64.specs.ReducedPairs.{AreEqual-sym, positive_is_nonzero}

@@ -3,10 +3,8 @@ use Rattle.std.specs.Prelude.{◌≡◌, ◌<◌, ◌≤◌, ◌*◌, ◌<ℤ◌
 use Rattle.std.proofs.Common.{arith, ap, inl, inr, le_of_mul-le-mul_right, mul-le-mul_left, sym, ◌∙◌}
 use Rattle.std.proofs.lemmas.Bool.{cases_lt}
 use Rattle.std.proofs.lemmas.Int.{by_lt_z, unsigned_abs-mul}
-use Rattle.integer_core.proofs.FlooredByPositive.{ceiled_by_range, ceiled_remainder_range, floored_by_range, floored_remainder_range}
-use Rattle.integer_core.proofs.OrderedProducts.{multiples_apart, product_from_zero}
-use Rattle.integer_core.proofs.Whole.{comm, expand, from_not_less, linear, products, sizes}
-use Rattle.integer_core.specs.Division.{IsCeiled, IsFloored, IsQuotient}
+use Rattle.num_integer.proofs.ForCallers.{ceiled_by_range, ceiled_remainder_range, comm, expand, floored_by_range, floored_remainder_range, from_not_less, linear, multiples_apart, product_from_zero, products, sizes}
+use Rattle.num_integer.specs.Division.{IsCeiled, IsFloored, IsQuotient}
 use Rattle.ratio64.specs.Fraction.{AreEqual, IsExact}
 use Rattle.ratio64.specs.ReducedPairs.{AreEqual-sym}
 use Rattle.ratio64.specs.Rounding.{AnswersInParts, IsRounded}

@@ -2,14 +2,9 @@
 use Rattle.std.specs.Prelude.{◌≡◌, ◌≢◌, ◌↔◌, ◌≤◌, ◌<ℤ◌, ◌≤ℤ◌, ◌*ℤ◌, ℤ, pos, negsuc, neg_ℤ, suc, int_div, unsigned_abs}
 use Rattle.std.proofs.Common.{arith, ap, le-mul_of_pos_right, refl, subst, sym, ◌∙◌}
 use Rattle.std.proofs.lemmas.Int.{ints, unsigned_abs-mul}
-use Rattle.integer_core.proofs.CommonDivisors.{gcd-divisor, gcd-nonzero, gcd-positive}
-use Rattle.integer_core.proofs.Coprimes.{divided_by_gcd}
-use Rattle.integer_core.proofs.Divisibility.{Divides-refl, cancel, exact_quotient, one_divides}
-use Rattle.integer_core.proofs.DivisorSizes.{divisor_at_most}
-use Rattle.integer_core.proofs.OrderedProducts.{factor_positive}
-use Rattle.integer_core.proofs.Whole.{comm, expand, linear, mul-one, products, sizes}
-use Rattle.integer_core.proofs.CommonDivisors.{gcd_exists}
-use Rattle.integer_core.specs.Divisors.{Divides, IsGreatestCommonDivisor}
+use Rattle.num_integer.proofs.ForCallers.{Divides-refl, cancel, comm, divided_by_gcd, divisor_at_most, exact_quotient, expand, factor_positive, gcd-divisor, gcd-nonzero, gcd-positive, linear, mul-one, one_divides, products, sizes}
+use Rattle.num_integer.proofs.Laws.{gcd_exists}
+use Rattle.num_integer.specs.Divisors.{Divides, IsGreatestCommonDivisor}
 use Rattle.ratio64.specs.Fraction.{AreEqual, IsExact, IsFraction, IsReduced}
 use Rattle.ratio64.specs.ReducedPairs.{positive_is_nonzero, same_pair}
 

@@ -4,10 +4,7 @@ use Rattle.std.specs.Int.{w64, w128}
 use Rattle.std.proofs.Common.{arith, inl, inr, of_z, refl, to_z, ◌∙◌}
 use Rattle.std.proofs.Math.Nat.{le-mul_of_pos_right}
 use Rattle.std.proofs.lemmas.Int.{by_lt_z, ints, fits_signed_from_abs, to_z-of_z, unsigned_abs-mul}
-use Rattle.integer_core.proofs.Divisibility.{cancel}
-use Rattle.integer_core.proofs.OrderedProducts.{factor_positive}
-use Rattle.integer_core.proofs.Quotients.{zero_or_not}
-use Rattle.integer_core.proofs.Whole.{comm, expand, linear, products, sizes}
+use Rattle.num_integer.proofs.ForCallers.{cancel, comm, expand, factor_positive, linear, products, sizes, zero_or_not}
 use Rattle.ratio64.specs.Fraction.{IsExact, IsOutsideI64}
 use Rattle.ratio64.specs.Ratio.{AnswersFraction}
 use Rattle.ratio64.specs.ReducedPairs.{AreEqual-sym, denominator_divides, positive_is_nonzero}

@@ -4,8 +4,7 @@ use Rattle.std.specs.Int.{w64}
 use Rattle.std.specs.Result.{result_ok}
 use Rattle.std.proofs.Common.{ap, arith, inl, inr, refl, subst, sym, ◌∙◌}
 use mathlib.Core.HLevel.{is_prop→PathP}
-use Rattle.integer_core.proofs.Divisibility.{cancel}
-use Rattle.integer_core.proofs.Whole.{comm, products}
+use Rattle.num_integer.proofs.ForCallers.{cancel, comm, products}
 use Rattle.ratio64.proofs.ExactResults.{only_exact_result}
 use Rattle.ratio64.specs.Fraction.{IsExact, IsOutsideI64, IsReduced}
 use Rattle.ratio64.specs.Laws.{AnswerIsOnly, RatioOfPartsIsOnly}

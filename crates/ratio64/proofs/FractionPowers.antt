@@ -4,12 +4,8 @@ use Rattle.std.specs.Int.{int_pow, w64}
 use Rattle.std.proofs.Common.{arith, ap, sym, ◌∙◌}
 use Rattle.std.proofs.Math.Nat.{one-le-pow, pow-succ', mul-le-mul_left}
 use Rattle.std.proofs.lemmas.Int.{ints}
-use Rattle.integer_core.proofs.CommonDivisors.{gcd-swap}
-use Rattle.integer_core.proofs.Coprimes.{coprime_divides}
-use Rattle.integer_core.proofs.Divisibility.{Divides-trans}
-use Rattle.integer_core.proofs.IntegerPowers.{int_pow-suc, int_pow-zero, power_of_zero, power_size}
-use Rattle.integer_core.proofs.Whole.{expand, products, sizes}
-use Rattle.integer_core.specs.Divisors.{IsGreatestCommonDivisor}
+use Rattle.num_integer.proofs.ForCallers.{Divides-trans, coprime_divides, expand, gcd-swap, int_pow-suc, int_pow-zero, power_of_zero, power_size, products, sizes}
+use Rattle.num_integer.specs.Divisors.{IsGreatestCommonDivisor}
 use Rattle.ratio64.specs.Fraction.{AreEqual, IsReduced}
 use Rattle.ratio64.proofs.ReducedParts.{coprime_by}
 use Rattle.ratio64.proofs.WideSums.{part_size}

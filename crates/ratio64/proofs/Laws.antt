@@ -3,8 +3,7 @@ use Rattle.std.specs.Prelude.{◌≡◌, ◌*ℤ◌}
 use Rattle.std.specs.Cmp.{int_cmp_is}
 use Rattle.std.specs.declared.cmp.Ordering.TheVariants.{Less}
 use Rattle.std.proofs.Common.{arith, refl, sym}
-use Rattle.integer_core.proofs.OrderedProducts.{multiples_apart}
-use Rattle.integer_core.proofs.Whole.{linear}
+use Rattle.num_integer.proofs.ForCallers.{linear, multiples_apart}
 use Rattle.ratio64.proofs.ExactResults as results
 use Rattle.ratio64.specs.Laws as law
 use Rattle.ratio64.specs.ReducedPairs.{equal_where_same}

@@ -3,10 +3,8 @@ use Rattle.std.specs.Prelude.{◌≡◌, ◌<◌, ◌≤◌, ◌+◌, ◌*◌, �
 use Rattle.std.specs.Int.{w64}
 use Rattle.std.proofs.Common.{arith, ap, inl, inr, le-mul_of_pos_right, le_of_mul-le-mul_right, mul-le-mul_left, refl}
 use Rattle.std.proofs.lemmas.Int.{by_lt_z, ints}
-use Rattle.integer_core.proofs.FlooredByPositive.{floored_remainder_range}
-use Rattle.integer_core.proofs.OrderedProducts.{product_from_zero}
-use Rattle.integer_core.proofs.Whole.{expand, linear, neg-mul, products, sizes}
-use Rattle.integer_core.specs.Division.{IsFloored}
+use Rattle.num_integer.proofs.ForCallers.{expand, floored_remainder_range, linear, neg-mul, product_from_zero, products, sizes}
+use Rattle.num_integer.specs.Division.{IsFloored}
 use Rattle.ratio64.specs.declared.neighbours.Neighbour.{Neighbour}
 use Rattle.ratio64.specs.Fraction.{IsReduced}
 use Rattle.ratio64.specs.Limiting.{IsNearestWithin, gap}

@@ -3,11 +3,8 @@ use Rattle.std.specs.Prelude.{◌≡◌, ◌⊎◌, ◌<◌, ◌≤◌, ◌+◌,
 use Rattle.std.proofs.Common.{arith, ap, sym, ◌∙◌, inl, inr, le-mul_of_pos_right, mul-le-mul_left, mul-pos, subst}
 use Rattle.std.proofs.Math.Nat.{le_of_mul-le-mul_left}
 use Rattle.std.proofs.lemmas.Int.{by_lt_z, ints, unsigned_abs-mul}
-use Rattle.integer_core.proofs.Divisibility.{Divides-sum, cancel}
-use Rattle.integer_core.proofs.DivisorSizes.{divisor_at_most}
-use Rattle.integer_core.proofs.OrderedProducts.{multiples_apart}
-use Rattle.integer_core.proofs.Whole.{comm, expand, from_not_less, linear, products, sizes}
-use Rattle.integer_core.specs.Divisors.{Divides}
+use Rattle.num_integer.proofs.ForCallers.{Divides-sum, cancel, comm, divisor_at_most, expand, from_not_less, linear, multiples_apart, products, sizes}
+use Rattle.num_integer.specs.Divisors.{Divides}
 use Rattle.ratio64.specs.Fraction.{IsReduced}
 use Rattle.ratio64.specs.Limiting.{IsNearestWithin, gap}
 use Rattle.ratio64.specs.ReducedPairs.{denominator_divides, positive_is_nonzero}

@@ -3,13 +3,11 @@ use Rattle.std.specs.Prelude.{◌≡◌, ◌<◌, ◌≤◌, ◌*◌, ◌^◌, �
 use Rattle.std.specs.Int.{Width, w64}
 use Rattle.std.proofs.Common.{ap, arith, inl, inr, subst, sym}
 use Rattle.std.proofs.lemmas.Int.{by_lt_z, ints}
-use Rattle.integer_core.proofs.Ranges.{LiesWithin}
-use Rattle.integer_core.proofs.OrderedProducts.{multiples_apart, product_from_zero}
-use Rattle.integer_core.proofs.Whole.{expand, linear, products, sizes}
-use Rattle.integer_core.specs.Checked.{AnswersWhere}
-use Rattle.integer_core.specs.Division.{IsDivision, IsQuotient, IsTruncated}
-use Rattle.integer_core.specs.Only.{IsOnly}
-use Rattle.integer_core.specs.Range.{EachFits}
+use Rattle.num_integer.proofs.ForCallers.{LiesWithin, expand, linear, multiples_apart, product_from_zero, products, sizes}
+use Rattle.num_integer.specs.Checked.{AnswersWhere}
+use Rattle.num_integer.specs.Division.{IsDivision, IsQuotient, IsTruncated}
+use Rattle.num_integer.specs.Only.{IsOnly}
+use Rattle.num_integer.specs.Range.{EachFits}
 use Rattle.ratio64.specs.Laws.{RoundedIsOnly}
 use Rattle.ratio64.specs.Rounding.{IsRounded}
 

@@ -15,7 +15,7 @@ use Rattle.std.proofs.lemmas.Str.Parse.{IsNumeralModel, numerals_by_value, not_i
 use Rattle.std.proofs.lemmas.Str.Pattern.{IsSplitOnceResult, split_after, split_parts}
 use borrow.Author.Tests.{ne_eqb}
 use Rattle.ratio64.proofs.ExactResults.{reduced_is_exact}
-use Rattle.integer_core.proofs.Whole.{linear}
+use Rattle.num_integer.proofs.ForCallers.{linear}
 use Rattle.ratio64.proofs.FractionAnswers.{exact_answer, only_answer, only_of_parts}
 use Rattle.ratio64.proofs.WideSums.{part_size}
 use Rattle.ratio64.specs.Laws.{ReadingIsOnly, TextIsReadBack}

@@ -3,9 +3,8 @@ use Rattle.std.specs.Prelude.{◌≡◌, ◌+ℤ◌, ◌*ℤ◌, ℤ, pos, negsu
 use Rattle.std.specs.Int.{w64}
 use Rattle.std.proofs.Common.{arith, subst}
 use Rattle.std.proofs.lemmas.Int.{ints}
-use Rattle.integer_core.proofs.Divisibility.{Divides-sum, one_divides}
-use Rattle.integer_core.proofs.Whole.{linear, mul-neg, products}
-use Rattle.integer_core.specs.Divisors.{Divides, IsGreatestCommonDivisor}
+use Rattle.num_integer.proofs.ForCallers.{Divides-sum, linear, mul-neg, one_divides, products}
+use Rattle.num_integer.specs.Divisors.{Divides, IsGreatestCommonDivisor}
 use Rattle.ratio64.specs.Fraction.{IsReduced}
 
 -- a number has the divisors of its negation

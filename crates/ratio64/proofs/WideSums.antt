@@ -4,7 +4,7 @@ use Rattle.std.specs.Int.{w64, w128}
 use Rattle.std.proofs.Common.{arith, refl, to_z, of_z}
 use Rattle.std.proofs.Math.Nat.{mul-le-mul}
 use Rattle.std.proofs.lemmas.Int.{to_z-of_z, fits_signed_from_abs, unsigned_abs-mul}
-use Rattle.integer_core.proofs.Whole.{sizes}
+use Rattle.num_integer.proofs.ForCallers.{sizes}
 
 pub sum_below : (x y : ℤ) → unsigned_abs x < 2 ^ 126 → unsigned_abs y < 2 ^ 126 → unsigned_abs (x +ℤ y) < 2 ^ 127
 sum_below x y h k = omega (arith, sizes)

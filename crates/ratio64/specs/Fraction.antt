@@ -3,7 +3,7 @@ use Rattle.std.specs.Prelude.{◌≡◌, ◌≢◌, ◌⊎◌, ◌<ℤ◌, ◌*�
 use Rattle.std.specs.Int.{w64}
 use Rattle.std.specs.Ordering.{int_cmp}
 use Rattle.std.specs.declared.cmp.Ordering.{Ordering}
-use Rattle.integer_core.specs.Divisors.{IsGreatestCommonDivisor}
+use Rattle.num_integer.specs.Divisors.{IsGreatestCommonDivisor}
 
 -- The denominator of the fraction num/den is not 0.
 -- Examples: 6/-4; 0/5; not 1/0.

@@ -7,8 +7,7 @@ use Rattle.std.specs.declared.cmp.Ordering.{Ordering}
 use Rattle.std.specs.declared.cmp.Ordering.TheVariants.{Equal, Greater, Less}
 use Rattle.std.proofs.Common.{arith, refl, sym, ap, ◌∙◌}
 use Rattle.std.proofs.lemmas.Bool.Decides.{Decides-and, Decides-int_eq}
-use Rattle.integer_core.proofs.OrderedProducts.{multiples_apart}
-use Rattle.integer_core.proofs.Whole.{comm, expand, linear}
+use Rattle.num_integer.proofs.ForCallers.{comm, expand, linear, multiples_apart}
 use Rattle.ratio64.specs.Fraction.{IsReduced, fraction_cmp}
 use Rattle.ratio64.specs.Laws.{OrderAgreesWithEquality, OrderIsTotal}
 use Rattle.ratio64.specs.ReducedPairs.{same_pair}

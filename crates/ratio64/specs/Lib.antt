@@ -11,8 +11,8 @@ pub mod Neighbours
 pub mod ReducedPairs
 pub mod FractionOrder
 -- what the clauses cite of the crate below
-pub use Rattle.integer_core.specs.Checked
-pub use Rattle.integer_core.specs.Division
-pub use Rattle.integer_core.specs.Divisors
-pub use Rattle.integer_core.specs.Only
-pub use Rattle.integer_core.specs.Range
+pub use Rattle.num_integer.specs.Checked
+pub use Rattle.num_integer.specs.Division
+pub use Rattle.num_integer.specs.Divisors
+pub use Rattle.num_integer.specs.Only
+pub use Rattle.num_integer.specs.Range

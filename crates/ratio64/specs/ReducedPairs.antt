@@ -5,10 +5,8 @@ use Rattle.std.proofs.Common.{arith, refl, sym, ap, ◌∙◌}
 use Rattle.std.proofs.Props.{props}
 use mathlib.Core.HLevel.{is_prop→PathP}
 use lib.IntN.{ℤ_set}
-use Rattle.integer_core.proofs.Coprimes.{coprime_divides}
-use Rattle.integer_core.proofs.Divisibility.{Divides-antisym, cancel}
-use Rattle.integer_core.proofs.Whole.{comm, linear, products}
-use Rattle.integer_core.specs.Divisors.{Divides, IsGreatestCommonDivisor}
+use Rattle.num_integer.proofs.ForCallers.{Divides-antisym, cancel, comm, coprime_divides, linear, products}
+use Rattle.num_integer.specs.Divisors.{Divides, IsGreatestCommonDivisor}
 use Rattle.ratio64.specs.Fraction.{AreEqual, IsReduced}
 
 -- ---- one proof

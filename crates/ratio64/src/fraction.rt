@@ -1,7 +1,7 @@
 //! The type of fractions, its arithmetic, and its string.
 
 ghost use Rattle.std.specs.Prelude.{◌≡◌, ◌≢◌, ◌⊎◌, ◌↔◌, ◌<◌, ◌^◌, ◌<ℤ◌, ◌≤ℤ◌, ◌+ℤ◌, ◌-ℤ◌, ◌*ℤ◌, pos, neg_ℤ, unsigned_abs, Err, IfErr, IfOk};
-ghost use Rattle.integer_core.specs.Division.{IsCeiled, IsFloored, IsQuotient};
+ghost use Rattle.num_integer.specs.Division.{IsCeiled, IsFloored, IsQuotient};
 ghost use Rattle.ratio64.specs.Fraction.{IsReduced};
 ghost use Rattle.ratio64.specs.ReducedPairs.{IsReduced-prop};
 
@@ -13,7 +13,7 @@ mod times;
 
 use crate::RatioError;
 use crate::reduction::{lowest_terms, numerator_of_difference, numerator_of_sum, product};
-use integer_core::{div_ceil, div_floor};
+use num_integer::{div_ceil, div_floor};
 use std::fmt;
 
 /// A fraction in lowest terms: its denominator is positive, and the greatest common divisor of its

@@ -5,8 +5,8 @@ ghost use Rattle.std.specs.Int.{w64};
 ghost use Rattle.ratio64.specs.Fraction.{AreEqual, IsFraction, IsExact, IsOutsideI64};
 
 use crate::RatioError;
-use integer_core::operators::{is_below, is_equal, is_negative, is_zero, negated, one, quotient};
-use integer_core::{Integer, gcd};
+use num_integer::operators::{is_below, is_equal, is_negative, is_zero, negated, one, quotient};
+use num_integer::{Integer, gcd};
 
 /// Returns the product of two parts.
 pub(crate) fn product(a: i64, b: i64) -> i128

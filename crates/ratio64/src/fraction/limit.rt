@@ -8,7 +8,7 @@ ghost use Rattle.ratio64.specs.Ratio.{num_of, den_of};
 use crate::Ratio;
 use crate::neighbours::{Neighbour, nearer, neighbours};
 use crate::reduction::product;
-use integer_core::div_mod_floor;
+use num_integer::div_mod_floor;
 
 impl Ratio {
     /// Returns the nearest fraction whose denominator is at most `max`. Of those equally near it

@@ -1,15 +1,15 @@
 //! Rounding to integers.
 
 ghost use Rattle.std.specs.Prelude.{◌≡◌, ◌↔◌, ◌<ℤ◌, ℤ, pos, IsTrue};
-ghost use Rattle.integer_core.specs.Division.{IsDivision, IsQuotient, IsRemainder, IsTruncated};
+ghost use Rattle.num_integer.specs.Division.{IsDivision, IsQuotient, IsRemainder, IsTruncated};
 ghost use Rattle.ratio64.specs.Ratio.{num_of, den_of};
 ghost use Rattle.ratio64.specs.Rounding.{IsRounded};
 
 use crate::Ratio;
-use integer_core::operators::{
+use num_integer::operators::{
     difference, is_below, is_negative, negated, predecessor, successor, sum,
 };
-use integer_core::{Integer, div_rem};
+use num_integer::{Integer, div_rem};
 
 impl Ratio {
     /// Returns whether the fraction is an integer. `Ratio::new(6, 3).unwrap().is_integer()` is `true`,

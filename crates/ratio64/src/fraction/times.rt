@@ -2,16 +2,16 @@
 
 ghost use Rattle.std.specs.Prelude.{◌≡◌, ◌≢◌, ◌↔◌, ◌<◌, ◌^◌, ◌<ℤ◌, ◌*ℤ◌, pos, unsigned_abs, Err, FitsSigned};
 ghost use Rattle.std.specs.Int.{w64};
-ghost use Rattle.integer_core.specs.Checked.{AnswersWhere};
-ghost use Rattle.integer_core.specs.Division.{IsCeiled, IsFloored, IsQuotient};
-ghost use Rattle.integer_core.specs.Range.{EachFits};
+ghost use Rattle.num_integer.specs.Checked.{AnswersWhere};
+ghost use Rattle.num_integer.specs.Division.{IsCeiled, IsFloored, IsQuotient};
+ghost use Rattle.num_integer.specs.Range.{EachFits};
 ghost use Rattle.ratio64.specs.Ratio.{AnswersFraction, num_of, den_of};
 ghost use Rattle.ratio64.specs.Rounding.{AnswersInParts, IsRounded};
 
 use crate::fraction::rounding::nearest;
 use crate::reduction::{narrowed, product};
 use crate::{Ratio, RatioError};
-use integer_core::{div_ceil, div_floor};
+use num_integer::{div_ceil, div_floor};
 
 impl Ratio {
     /// Returns the fraction times `n`, rounded down, or `None` if that number does not fit.

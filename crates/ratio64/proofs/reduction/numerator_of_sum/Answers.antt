@@ -1,7 +1,7 @@
 use Rattle.std.specs.Int.{w64}
 use Rattle.std.proofs.Common.{arith}
 use Rattle.std.proofs.lemmas.Int.{ints, to_z-of_z}
-use Rattle.integer_core.proofs.Whole.{sizes}
+use Rattle.num_integer.proofs.ForCallers.{sizes}
 use Rattle.ratio64.proofs.reduction.numerator_of_sum.Goals as goal
 
 pub overflow_add-result : goal.overflow_add-result

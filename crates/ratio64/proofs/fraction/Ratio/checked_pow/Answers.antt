@@ -1,6 +1,6 @@
 use Rattle.std.proofs.Common.{◌≡◌, Err, arith, rules, unsigned_abs, w32}
 use Rattle.std.proofs.lemmas.Int.{ints, to_z-of_z}
-use Rattle.integer_core.proofs.Whole.{sizes}
+use Rattle.num_integer.proofs.ForCallers.{sizes}
 use Rattle.ratio64.proofs.ReducedAnswers.{powers_of_exact, powers_refused}
 use Rattle.ratio64.proofs.fraction.Ratio.checked_pow.Goals as goal
 

@@ -1,8 +1,6 @@
 use Rattle.std.specs.Prelude.{◌≡◌, ◌+ℤ◌, ◌-ℤ◌, neg_ℤ, pos, true, false}
 use Rattle.std.proofs.Common.{arith, inl}
-use Rattle.integer_core.proofs.Whole.{from_test}
-use Rattle.integer_core.proofs.Ranges.{within_fits}
-use Rattle.integer_core.proofs.Whole.{linear, sizes}
+use Rattle.num_integer.proofs.ForCallers.{from_test, linear, sizes, within_fits}
 use Rattle.ratio64.proofs.NearestNumbers.{rounded_above, rounded_below, rounded_division}
 use Rattle.ratio64.specs.ReducedPairs.{positive_is_nonzero}
 use Rattle.ratio64.specs.Rounding.{IsRounded}
