@@ -44,7 +44,7 @@ static NUMBER_CALLS: [(Call, &[usize]); 6] = [
 ];
 
 /// Two numbers, their sum, difference and product, and their averages.
-static SUMS: [([i128; 2], [i128; 5]); 15] = [
+static SUMS: [([i128; 2], [i128; 5]); 18] = [
     ([MIN, 0], [MIN, MIN, 0, -HALF - 1, -HALF - 1]),
     ([MIN, 1], [MIN + 1, OUT, MIN, -HALF - 1, -HALF]),
     ([MIN, -1], [OUT, MIN + 1, OUT, -HALF - 2, -HALF - 1]),
@@ -60,6 +60,9 @@ static SUMS: [([i128; 2], [i128; 5]); 15] = [
     ([MAX, MAX], [OUT, 0, OUT, MAX, MAX]),
     ([MAX, MAX - 1], [OUT, 1, OUT, MAX - 1, MAX]),
     ([0, MAX], [MAX, MIN + 1, 0, HALF, HALF + 1]),
+    ([0, 0], [0, 0, 0, 0, 0]),
+    ([0, 1], [1, -1, 0, 0, 1]),
+    ([1, 0], [1, 1, 0, 0, 1]),
 ];
 
 static SUM_CALLS: [(Call, &[usize]); 4] = [
@@ -71,7 +74,7 @@ static SUM_CALLS: [(Call, &[usize]); 4] = [
 
 /// Two numbers, the quotient and the remainder by `/` and `%`, those rounded down, the quotient rounded up, the next and the
 /// previous multiple, and 1 if the first number is a multiple of the second.
-static DIVISIONS: [([i128; 2], [i128; 8]); 18] = [
+static DIVISIONS: [([i128; 2], [i128; 8]); 21] = [
     ([MIN, 0], [OUT, OUT, OUT, OUT, OUT, OUT, OUT, 0]),
     ([MIN, 1], [MIN, 0, MIN, 0, MIN, MIN, MIN, 1]),
     ([MIN, -1], [OUT, OUT, OUT, 0, OUT, MIN, MIN, 1]),
@@ -90,6 +93,9 @@ static DIVISIONS: [([i128; 2], [i128; 8]); 18] = [
     ([MAX, MAX - 1], [1, 1, 1, 1, 2, OUT, MAX - 1, 0]),
     ([0, MAX], [0, 0, 0, 0, 0, 0, 0, 1]),
     ([1, MAX], [0, 1, 0, 1, 1, MAX, 0, 0]),
+    ([0, 0], [OUT, OUT, OUT, OUT, OUT, OUT, OUT, 1]),
+    ([0, 1], [0, 0, 0, 0, 0, 0, 0, 1]),
+    ([1, 0], [OUT, OUT, OUT, OUT, OUT, OUT, OUT, 0]),
 ];
 
 static DIVISION_CALLS: [(Call, &[usize]); 10] = [
@@ -107,7 +113,7 @@ static DIVISION_CALLS: [(Call, &[usize]); 10] = [
 
 /// Two numbers, the gcd, the lcm, the turns of Stein's loop, the Bezout pair and its turns, the coefficient and its turns, and
 /// the multinomial.
-static DIVISORS: [([i128; 2], [i128; 9]); 18] = [
+static DIVISORS: [([i128; 2], [i128; 9]); 21] = [
     ([MIN, 0], [OUT, 0, 0, OUT, OUT, OUT, OUT, OUT, OUT]),
     ([MIN, 1], [1, OUT, 0, 0, 1, 0, OUT, OUT, OUT]),
     ([MIN, -1], [1, OUT, 0, 0, -1, 0, OUT, OUT, OUT]),
@@ -126,6 +132,9 @@ static DIVISORS: [([i128; 2], [i128; 9]); 18] = [
     ([MAX, MAX - 1], [1, OUT, TURNS, 1, -1, 1, MAX, 1, OUT]),
     ([0, MAX], [MAX, 0, 0, 0, 1, 0, 0, 0, 1]),
     ([1, MAX], [1, MAX, TURNS, 1, 0, 1, 0, 0, OUT]),
+    ([0, 0], [0, 0, 0, 1, 0, 0, 1, 0, 1]),
+    ([0, 1], [1, 0, 0, 0, 1, 0, 0, 0, 1]),
+    ([1, 0], [1, 0, 0, 1, 0, 0, 1, 0, 1]),
 ];
 
 static DIVISOR_CALLS: [(Call, &[usize]); 8] = [
