@@ -61,7 +61,7 @@ only_asked {words} {k} {l} {c} {d} a b =
     let operands : map Some (operands_of c) ≡ map Some (operands_of d) = cc (spelled, a.spelled.operands, b.spelled.operands) in
     (same_kind k l kind, same_call c d call (map_Some_same (operands_of c) (operands_of d) operands))
 
-only_request : (words : List (List ℕ)) (p q : Option (Kind × Call)) → IsRequest words p → IsRequest words q → p ≡ q
+pub only_request : (words : List (List ℕ)) (p q : Option (Kind × Call)) → IsRequest words p → IsRequest words q → p ≡ q
 only_request words None None a b = refl
 only_request words None (Some q) a b = absurd (a q.0 q.1 b)
 only_request words (Some p) None a b = absurd (b p.0 p.1 a)

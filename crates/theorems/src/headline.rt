@@ -7,41 +7,73 @@
 //! | the two loops of a square root make at most five iterations | [`square_root_in_five_turns`] |
 //! | a gcd divides both numbers, and every number that divides both divides it | [`greatest_common_divisor`] |
 //! | a pair certifies the gcd, and no other small pair does | [`bezout_pair`] |
+//! | the call that counts its iterations returns the same pair | [`bezout_pair_by_two_calls`] |
 //! | a binomial coefficient that fits is exact | [`binomial_coefficient`] |
 //! | a multinomial coefficient that fits is exact | [`multinomial_coefficient`] |
 //! | an iterator returns the coefficients of its row, and then `None` | [`row_iterator`], [`next_of_row`] |
 //! | each quotient and each remainder is that of its kind | [`divisions`], [`quotients`], [`residue`] |
+//! | the quotients of all three kinds fit, or none does | [`domain_of_quotients`] |
 //! | the next and the previous multiple are a quotient times the divisor | [`multiples`] |
 //! | divisibility and parity are those of the definitions | [`divisibility`], [`parity`] |
 //! | `inc` adds one, and `dec` subtracts one | [`one_more`], [`one_less`] |
 //! | an lcm is a multiple of both, and divides every such number | [`least_common_multiple`], [`gcd_and_lcm`], [`bezout_pair_and_lcm`] |
 //! | an average is rounded down or up, and never overflows | [`averages`] |
-//! | each test of a domain is true exactly there | [`domains`], [`domain_of_multinomial`] |
+//! | each test of a domain is true exactly there | [`domain_of_quotients`], [`domains_of_multiples`], [`domains_of_divisors`], [`domain_of_bezout_pair`], [`domains_of_operators`], [`domain_of_binomial`], [`domain_of_multinomial`] |
+//! | `parts` returns the sign and the magnitude, and `ends` the ends of the type | [`parts_of_number`], [`ends_of_type`] |
 //! | the loop of a gcd makes at most as many iterations as the two bit lengths added | [`turns_for_gcd`] |
 //! | the loop of a pair makes at most as many iterations as Lamé's theorem says | [`turns_for_bezout_pair`] |
 //! | 2 to the power of the number of iterations for a coefficient is at most the coefficient | [`turns_for_binomial`] |
 //! | a fraction is reduced | [`parts_of_fraction`] |
 //! | a call returns an error only if the reduced fraction does not fit, or its denominator is 0 | [`fraction`], [`sum_of_fractions`], [`difference_of_fractions`], [`product_of_fractions`], [`quotient_of_fractions`] |
 //! | the rounding and the order of fractions are those of the definitions | [`floor_and_ceil_of_fraction`], [`order_of_fractions`] |
+//! | fractions are equal exactly if their values are, and then have the same hash | [`equality_of_fractions`], [`hashes_of_fractions`] |
+//! | each error and each refusal has the number and the name of its table | [`number_of_error`], [`number_and_name_of_refusal`] |
 //! | a call of the program has the outcome of the definition, and no other | [`outcome`] |
+//! | a word has the number of the definition, or none | [`number_of_word`] |
+//! | words ask for the call of the definition, and for no other | [`call_of_words`] |
 //! | words ask for the line of the definition, and for no other | [`line_of_words`] |
 //! | `run` of `intcalc_core` prints that line, or returns 4 if the sink fails | [`printed_line`] |
+//! | a console adds the bytes that it took to its writer, and returns its writer | [`new_console`], [`put_on_console`], [`finished_console`], [`writer_of_the_console`] |
 //!
 //! After most functions at any lawful type comes the same at native types. Its name ends in `_of_i64` or
-//! `_of_u64`. The contract of `run_program` in `intcalc` says that the program prints the line that its
-//! arguments ask for. It is not here, since no crate can depend on a program. It is proved that a counted call
-//! returns the number of iterations of the definition's loop. That its own loop makes them is seen by reading.
+//! `_of_u64`. It is proved that a counted call returns the number of iterations of the definition's loop. That
+//! its own loop makes them is seen by reading.
+//!
+//! No crate can depend on a program, so `run_program` of `intcalc` is not here. Its contract says: if the status
+//! is 0, 1 or 2, the program has added the line that its arguments ask for to the bytes of its sink. A clause
+//! about bytes says something only of a writer that shows them, such as one in memory. `Stdout` shows none. There
+//! the claim rests on the code, which is the same for every writer.
 //!
 //! **How to read a clause.** `T.value x` is the integer that `x` means, which is `x` at `i64` and `pos x` at
 //! `u64`. `T.fits z` says that the type has the integer `z`. A lawful type implements `Integer`, and its laws
-//! are proved; the twelve native types are lawful. Clauses speak of integers without limit, so nothing in
-//! them overflows. A clause `in_range` says that an argument is in the range of its type; at a native type
-//! each one is. The other `requires` are the domain of the call, and there is no further condition. The
-//! `specs/` of each crate define the words, with examples.
+//! are proved. The twelve native types are lawful, but `Roots` and `SqrtCounted` have only ten of them: `i128` and
+//! `u128` have no roots. Clauses speak of integers without limit, so nothing in them overflows. A clause
+//! `in_range` says that an argument is in the range of its type. The prover knows this of an argument that is an
+//! `i64` or a `u64`, and of the items of a `&[u64]`, but not of those of a `&[i64]`. The other `requires` are the
+//! domain of the call. [`divisions`] and [`quotients`] require that the quotients of all three kinds fit, and each
+//! call only that its own does. By [`domain_of_quotients`] this is the same. The `specs/` of each crate define the
+//! words, with examples. Some of them surprise:
+//!
+//! - `A × B` says that both hold, and `(x : A) × B` that there is such an `x`.
+//! - `IfOk result P` says that `P` holds of the value, if there is one. It does not say that there is one, so
+//!   another clause says when there is an error. `IfSome` and `IfNone` are read in the same way.
+//! - `EachFits fits P` says that each number with the property `P` fits. By a divisor 0 there is no quotient, so of
+//!   the quotients by 0 it says nothing, and a clause `nonzero` stands beside it.
+//! - `GcdFits fits a b` says that the gcd fits, if the type has -1. A type without -1 has no negative number. The
+//!   gcd of two of its numbers is one of them or less, so it always fits, and a caller has nothing to show.
+//! - `HasPair fits a b` says that one of the numbers divides the other, if the type has no -1. Otherwise one of
+//!   Bezout's coefficients is negative, so such a type has no pair.
+//! - `AreGcdTurns low a b n` says that `n` is 0 if `a` or `b` is 0 or `low`, the smallest number of the type, since
+//!   the call then returns before its loop. Otherwise `n` is the number of iterations of Stein's loop.
+//! - `Appends old new line` says that the bytes `new` are the bytes `old` and then `line`. It says nothing of a sink
+//!   that shows no bytes. `S.contents` is the bytes that a sink shows.
 
-ghost use Rattle.std.specs.Prelude.{◌≡◌, ◌≢◌, ◌↔◌, ◌+◌, ◌-◌, ◌*◌, ◌^◌, ◌%◌, ◌<◌, ◌≤◌, ◌≤ℤ◌, ◌+ℤ◌, ◌-ℤ◌, ◌*ℤ◌, ℕ, List, pos, unsigned_abs, [], ◌∷◌, map, All, Err, IfNone, IfOk, IfSome, IsTrue, FitsSigned, min};
+ghost use Rattle.std.specs.Prelude.{◌≡◌, ◌≢◌, ◌↔◌, ◌+◌, ◌-◌, ◌*◌, ◌^◌, ◌%◌, ◌<◌, ◌≤◌, ◌≤ℤ◌, ◌+ℤ◌, ◌-ℤ◌, ◌*ℤ◌, ℕ, List, pos, unsigned_abs, [], ◌∷◌, ◌++◌, ◌<ℤ◌, negsuc, neg_ℤ, false, length, take, map, All, Err, IfNone, IfOk, IfSome, IsNone, IsTrue, FitsSigned, min};
 ghost use Rattle.std.specs.Int.{FitsUnsignedBits, w64};
-ghost use Rattle.std.specs.Io.KnownBytes.{Appends};
+ghost use Rattle.std.specs.Bool.{OnTrue};
+ghost use Rattle.std.specs.Hash as written;
+ghost use Rattle.std.specs.Io.KnownBytes.{Appends, Keeps};
+ghost use Rattle.std.specs.List.{fold};
 ghost use Rattle.num_integer.specs.Averages.{IsAverageCeil, IsAverageFloor};
 ghost use Rattle.num_integer.specs.Bezout.{AreEuclidTurns, HasPair, IsBezoutAnswer, IsSmallPair, NeedsBoth};
 ghost use Rattle.num_integer.specs.Coefficient.{coefficient, coefficient_of};
@@ -55,20 +87,33 @@ ghost use Rattle.num_integer.specs.Range.{EachFits};
 ghost use Rattle.num_integer.specs.RootOf.{IsRoot};
 ghost use Rattle.num_integer.specs.Row.{RowFits, row_of};
 ghost use Rattle.num_integer.specs.SquareRuns.{AreSquareRootTurns};
-ghost use Rattle.ratio64.specs.Fraction.{IsExact, IsOutsideI64, IsReduced, fraction_cmp};
+ghost use Rattle.ratio64.specs.Fraction.{AreEqual, IsExact, IsOutsideI64, IsReduced, fraction_cmp};
 ghost use Rattle.ratio64.specs.Ratio.{AnswersFraction, den_of, num_of};
+ghost use Rattle.ratio64.specs.RatioError as errors;
+ghost use Rattle.intcalc_core.specs.Console.{has_failed, is_finished, writer_of};
 ghost use Rattle.intcalc_core.specs.Line.{IsLine};
+ghost use Rattle.intcalc_core.specs.Number.{spelled_number};
 ghost use Rattle.intcalc_core.specs.Outcome.{Outcome};
+ghost use Rattle.intcalc_core.specs.Refusal as refusals;
+ghost use Rattle.intcalc_core.specs.Words.{IsRequest};
 
 use intcalc_core::line::Line;
+use intcalc_core::number::read_number;
 use intcalc_core::run::{line_for, run};
-use intcalc_core::sink::Sink;
+use intcalc_core::sink::{Console, Sink};
+use intcalc_core::words::read_words;
 use intcalc_core::{Answer, Call, Kind, Refusal, evaluate};
 use num_integer::counted::{GcdCounted, SqrtCounted, binomial_counted, extended_gcd_counted};
-use num_integer::{Average, ExtendedGcd, Fits, Integer, IterBinomial, Roots, average_ceil, average_floor, binomial, cbrt, div_ceil, div_floor, div_mod_floor, div_rem, gcd, gcd_lcm, lcm, mod_floor, multinomial, nth_root, sqrt};
+use num_integer::{
+    Average, ExtendedGcd, Fits, Integer, IterBinomial, Roots, average_ceil, average_floor,
+    binomial, cbrt, div_ceil, div_floor, div_mod_floor, div_rem, gcd, gcd_lcm, lcm, mod_floor,
+    multinomial, nth_root, sqrt,
+};
 use num_traits::Signed;
 use ratio64::{Ratio, RatioError};
 use std::cmp::Ordering;
+use std::hash::{Hash, Hasher};
+use std::io::Write;
 
 /// Returns the root of degree `n`, which is exact. If `x` is not negative, it is the `r` from 0 on whose power of
 /// degree `n` is at most `x`, and the power of `r + 1` is greater than `x`. For a negative `x` it is minus the root
@@ -167,7 +212,7 @@ pub fn greatest_common_divisor<T: Integer>(a: T, b: T) -> T
     gcd(a, b)
 }
 
-/// Returns the greatest common divisor at `i64`. Only that of `i64::MIN` with itself or with 0 does not fit.
+/// Returns the greatest common divisor at `i64`.
 pub fn greatest_common_divisor_of_i64(a: i64, b: i64) -> i64
     requires gcd_fits { GcdFits (FitsSigned w64) a b }
     ensures greatest { IsGreatestCommonDivisor a b result }
@@ -191,7 +236,7 @@ pub fn bezout_pair<T: Integer>(a: T, b: T) -> ExtendedGcd<T>
         → IsOnly (λ (x, y). IsSmallPair (T.value a) (T.value b) (T.value result.gcd) x y)
         (T.value result.x, T.value result.y) }
 {
-    extended_gcd_counted(a, b).0
+    a.extended_gcd(&b)
 }
 
 /// Returns the greatest common divisor and its pair at `i64`.
@@ -203,7 +248,21 @@ pub fn bezout_pair_of_i64(a: i64, b: i64) -> ExtendedGcd<i64>
     ensures only { NeedsBoth a b
         → IsOnly (λ (x, y). IsSmallPair a b result.gcd x y) (result.x, result.y) }
 {
-    extended_gcd_counted(a, b).0
+    a.extended_gcd(&b)
+}
+
+/// Returns the pair of `extended_gcd`, and that of the call that counts its iterations. The two are equal.
+pub fn bezout_pair_by_two_calls<T: Integer>(a: T, b: T) -> (ExtendedGcd<T>, ExtendedGcd<T>)
+    requires in_range { T.fits (T.value a) × T.fits (T.value b) }
+    requires gcd_fits { GcdFits T.fits (T.value a) (T.value b) }
+    requires has_pair { HasPair T.fits (T.value a) (T.value b) }
+    ensures named { IsBezoutAnswer (T.value a) (T.value b)
+        (T.value result.0.gcd) (T.value result.0.x) (T.value result.0.y) }
+    ensures same_gcd { T.value result.1.gcd ≡ T.value result.0.gcd }
+    ensures same_x { T.value result.1.x ≡ T.value result.0.x }
+    ensures same_y { T.value result.1.y ≡ T.value result.0.y }
+{
+    (a.extended_gcd(&b), extended_gcd_counted(a, b).0)
 }
 
 /// Returns the binomial coefficient, which is the number that Pascal's rule gives. The coefficient has to fit.
@@ -298,7 +357,7 @@ pub fn quotients<T: Integer>(n: T, d: T) -> (T, T)
     (div_floor(n, d), div_ceil(n, d))
 }
 
-/// Returns the quotients at `i64`. Only that of the smallest number by -1 does not fit.
+/// Returns the quotients at `i64`.
 pub fn quotients_of_i64(n: i64, d: i64) -> (i64, i64)
     requires nonzero { d ≢ pos 0 }
     requires quotients_fit { EachKind (λ Kind. EachFits (FitsSigned w64) (IsQuotient Kind n d)) }
@@ -469,31 +528,68 @@ pub fn averages_of_i64(a: i64, b: i64) -> (i64, i64)
     (average_floor(a, b), average_ceil(a, b))
 }
 
-/// Returns the results of six tests of `Fits`. Each is `true` exactly in the domain of its call: a divisor is not 0,
-/// no count is negative, and the number of the definition fits.
-pub fn domains<T: Fits>(a: T, b: T) -> (bool, bool, bool, bool, bool, bool)
-    requires in_range { T.fits (T.value a) × T.fits (T.value b) }
-    ensures quotient { EachKind (λ Kind. IsTrue result.0 ↔ ((T.value b ≢ pos 0)
-        × EachFits T.fits (IsQuotient Kind (T.value a) (T.value b)))) }
-    ensures next_multiple { IsTrue result.1 ↔ ((T.value b ≢ pos 0)
-        × EachFits T.fits (IsMultiple IsCeiled (T.value a) (T.value b))) }
-    ensures previous_multiple { IsTrue result.2 ↔ ((T.value b ≢ pos 0)
-        × EachFits T.fits (IsMultiple IsFloored (T.value a) (T.value b))) }
-    ensures gcd { IsTrue result.3 ↔ EachFits T.fits
-        (IsGreatestCommonDivisor (T.value a) (T.value b)) }
-    ensures lcm { IsTrue result.4 ↔ EachFits T.fits
-        (IsLeastCommonMultiple (T.value a) (T.value b)) }
-    ensures binomial { IsTrue result.5 ↔ ((pos 0 ≤ℤ T.value a) × (pos 0 ≤ℤ T.value b)
-        × T.fits (coefficient_of (T.value a) (T.value b))) }
+/// Returns `true` exactly in the domain of a division: the divisor is not 0, and the quotient fits. The quotients of all
+/// three kinds fit, or none does: each does unless the divisor is -1 and the negation of the number does not fit.
+pub fn domain_of_quotients<T: Fits>(n: T, d: T) -> bool
+    requires in_range { T.fits (T.value n) × T.fits (T.value d) }
+    ensures quotient { EachKind (λ Kind. IsTrue result ↔ ((T.value d ≢ pos 0)
+        × EachFits T.fits (IsQuotient Kind (T.value n) (T.value d)))) }
+    ensures negation { IsTrue result ↔ ((T.value d ≢ pos 0)
+        × (T.value d ≡ negsuc 0 → T.fits (neg_ℤ (T.value n)))) }
 {
-    (
-        a.quotient_fits(&b),
-        a.next_multiple_fits(&b),
-        a.prev_multiple_fits(&b),
-        a.gcd_fits(&b),
-        a.lcm_fits(&b),
-        a.binomial_fits(&b),
-    )
+    n.quotient_fits(&d)
+}
+
+/// Returns `true` exactly in the domain of the next and in that of the previous multiple: the divisor is not 0, and the
+/// multiple fits.
+pub fn domains_of_multiples<T: Fits>(n: T, d: T) -> (bool, bool)
+    requires in_range { T.fits (T.value n) × T.fits (T.value d) }
+    ensures next { IsTrue result.0 ↔ ((T.value d ≢ pos 0)
+        × EachFits T.fits (IsMultiple IsCeiled (T.value n) (T.value d))) }
+    ensures previous { IsTrue result.1 ↔ ((T.value d ≢ pos 0)
+        × EachFits T.fits (IsMultiple IsFloored (T.value n) (T.value d))) }
+{
+    (n.next_multiple_fits(&d), n.prev_multiple_fits(&d))
+}
+
+/// Returns `true` exactly in the domain of `gcd` and in that of `lcm`: the number fits.
+pub fn domains_of_divisors<T: Fits>(a: T, b: T) -> (bool, bool)
+    requires in_range { T.fits (T.value a) × T.fits (T.value b) }
+    ensures gcd { IsTrue result.0 ↔ EachFits T.fits
+        (IsGreatestCommonDivisor (T.value a) (T.value b)) }
+    ensures lcm { IsTrue result.1 ↔ EachFits T.fits
+        (IsLeastCommonMultiple (T.value a) (T.value b)) }
+{
+    (a.gcd_fits(&b), a.lcm_fits(&b))
+}
+
+/// Returns `true` exactly if the type has a pair for the two numbers. If their greatest common divisor fits too,
+/// `extended_gcd` may be called.
+pub fn domain_of_bezout_pair<T: Fits>(a: T, b: T) -> bool
+    requires in_range { T.fits (T.value a) × T.fits (T.value b) }
+    ensures pair { IsTrue result ↔ HasPair T.fits (T.value a) (T.value b) }
+{
+    a.pair_fits(&b)
+}
+
+/// Returns the results of the tests of a sum, of a difference and of a product. Each is `true` exactly if the number
+/// fits.
+pub fn domains_of_operators<T: Fits>(a: T, b: T) -> (bool, bool, bool)
+    requires in_range { T.fits (T.value a) × T.fits (T.value b) }
+    ensures sum { IsTrue result.0 ↔ T.fits (T.value a +ℤ T.value b) }
+    ensures difference { IsTrue result.1 ↔ T.fits (T.value a -ℤ T.value b) }
+    ensures product { IsTrue result.2 ↔ T.fits (T.value a *ℤ T.value b) }
+{
+    (a.sum_fits(&b), a.difference_fits(&b), a.product_fits(&b))
+}
+
+/// Returns `true` exactly in the domain of `binomial`: neither number is negative, and the coefficient fits.
+pub fn domain_of_binomial<T: Fits>(n: T, k: T) -> bool
+    requires in_range { T.fits (T.value n) × T.fits (T.value k) }
+    ensures binomial { IsTrue result ↔ ((pos 0 ≤ℤ T.value n) × (pos 0 ≤ℤ T.value k)
+        × T.fits (coefficient_of (T.value n) (T.value k))) }
+{
+    n.binomial_fits(&k)
 }
 
 /// Returns `true` exactly in the domain of `multinomial`: no count is negative, and the coefficient fits.
@@ -503,6 +599,23 @@ pub fn domain_of_multinomial<T: Fits>(counts: &[T]) -> bool
         × EachFits T.fits (IsMultinomial (map T.value counts.now))) }
 {
     T::multinomial_fits(counts)
+}
+
+/// Returns whether the number is negative, and its magnitude.
+pub fn parts_of_number<T: Fits>(n: T) -> (bool, u128)
+    requires in_range { T.fits (T.value n) }
+    ensures negative { IsTrue result.0 ↔ (T.value n <ℤ pos 0) }
+    ensures magnitude { result.1 ≡ unsigned_abs (T.value n) }
+{
+    n.parts()
+}
+
+/// Returns the magnitude of the smallest number of the type, and its largest number.
+pub fn ends_of_type<T: Fits>() -> (u128, u128)
+    ensures low { result.0 ≡ unsigned_abs T.low }
+    ensures high { pos result.1 ≡ T.high }
+{
+    T::ends()
 }
 
 /// Returns the greatest common divisor and the number of iterations of Stein's loop. It is at most the sum of the bit
@@ -521,6 +634,7 @@ pub fn turns_for_gcd<T: GcdCounted>(a: T, b: T) -> (T, u32)
 /// Returns the greatest common divisor and the number of iterations at `u64`.
 pub fn turns_for_gcd_of_u64(a: u64, b: u64) -> (u64, u32)
     ensures greatest { IsGreatestCommonDivisor (pos a) (pos b) (pos result.0) }
+    ensures turns { AreGcdTurns (pos 0) (pos a) (pos b) result.1 }
     ensures bound { (k l : ℕ) → IsBitLength (pos a) k → IsBitLength (pos b) l
         → result.1 ≤ k + l }
 {
@@ -533,7 +647,8 @@ pub fn turns_for_bezout_pair<T: Integer>(a: T, b: T) -> (ExtendedGcd<T>, u32)
     requires in_range { T.fits (T.value a) × T.fits (T.value b) }
     requires gcd_fits { GcdFits T.fits (T.value a) (T.value b) }
     requires has_pair { HasPair T.fits (T.value a) (T.value b) }
-    ensures greatest { IsGreatestCommonDivisor (T.value a) (T.value b) (T.value result.0.gcd) }
+    ensures named { IsBezoutAnswer (T.value a) (T.value b)
+        (T.value result.0.gcd) (T.value result.0.x) (T.value result.0.y) }
     ensures turns { AreEuclidTurns (T.value a) (T.value b) result.1 }
     ensures bound { T.value b ≢ pos 0
         → fibonacci (result.1 + 2) * unsigned_abs (T.value result.0.gcd)
@@ -545,7 +660,7 @@ pub fn turns_for_bezout_pair<T: Integer>(a: T, b: T) -> (ExtendedGcd<T>, u32)
 /// Returns the pair and the number of iterations at `i64`.
 pub fn turns_for_bezout_pair_of_i64(a: i64, b: i64) -> (ExtendedGcd<i64>, u32)
     requires gcd_fits { GcdFits (FitsSigned w64) a b }
-    ensures greatest { IsGreatestCommonDivisor a b result.0.gcd }
+    ensures named { IsBezoutAnswer a b result.0.gcd result.0.x result.0.y }
     ensures turns { AreEuclidTurns a b result.1 }
     ensures bound { b ≢ pos 0
         → fibonacci (result.1 + 2) * unsigned_abs result.0.gcd ≤ unsigned_abs b }
@@ -553,8 +668,9 @@ pub fn turns_for_bezout_pair_of_i64(a: i64, b: i64) -> (ExtendedGcd<i64>, u32)
     extended_gcd_counted(a, b)
 }
 
-/// Returns the binomial coefficient and the number `t` of iterations of its loop. 2 to the power of `t` is at most
-/// the coefficient, unless `k` is greater than `n`.
+/// Returns the binomial coefficient and the number `t` of iterations of its loop, which is the smaller of `k` and
+/// `n - k`, or 0 if `k` is greater than `n`: in a clause `n - k` is then 0. 2 to the power of `t` is at most the
+/// coefficient, unless `k` is greater than `n`.
 pub fn turns_for_binomial<T: Integer>(n: T, k: T) -> (T, u32)
     requires in_range { T.fits (T.value n) × T.fits (T.value k) }
     requires from_zero { (pos 0 ≤ℤ T.value n) × (pos 0 ≤ℤ T.value k) }
@@ -652,6 +768,44 @@ pub fn order_of_fractions(x: &Ratio, y: &Ratio) -> Ordering
     x.cmp(y)
 }
 
+/// Returns `true` exactly if the fractions are equal: the numerator of each, times the denominator of the other, is the
+/// same number.
+pub fn equality_of_fractions(x: &Ratio, y: &Ratio) -> bool
+    ensures equal { IsTrue result
+        ↔ AreEqual (num_of x.now) (den_of x.now) (num_of y.now) (den_of y.now) }
+{
+    x == y
+}
+
+/// Hashes two fractions with two hashers. Each hasher is given the numerator, then the denominator. If the fractions are
+/// equal and the hashers were in the same state, they are in the same state again.
+pub fn hashes_of_fractions<H: Hasher>(x: &Ratio, y: &Ratio, first: &mut H, second: &mut H)
+    ensures first { first.new ≡ fold H.write first.old
+        (written.i64 (num_of x.now) ++ written.i64 (den_of x.now)) }
+    ensures second { second.new ≡ fold H.write second.old
+        (written.i64 (num_of y.now) ++ written.i64 (den_of y.now)) }
+    ensures same { AreEqual (num_of x.now) (den_of x.now) (num_of y.now) (den_of y.now)
+        → first.old ≡ second.old → first.new ≡ second.new }
+{
+    x.hash(first);
+    y.hash(second);
+}
+
+/// Returns the number of an error: 1 for a denominator 0, and 2 for a part that does not fit.
+pub fn number_of_error(error: &RatioError) -> u32
+    ensures number { result ≡ errors.number_of error.now }
+{
+    error.number()
+}
+
+/// Returns the number and the name of a refusal, by the table of the refusals.
+pub fn number_and_name_of_refusal(refusal: &Refusal) -> (u32, &'static str)
+    ensures number { result.0 ≡ refusals.number_of refusal.now }
+    ensures name { result.1.now ≡ refusals.name_of refusal.now }
+{
+    (refusal.number(), refusal.name())
+}
+
 /// Returns the outcome of the definition: the first refusal whose condition holds, or otherwise the numbers of the
 /// result. A kind and a call have no other outcome.
 pub fn outcome(kind: Kind, call: Call) -> Result<Answer, Refusal>
@@ -659,6 +813,22 @@ pub fn outcome(kind: Kind, call: Call) -> Result<Answer, Refusal>
     ensures only { IsOnly (Outcome kind call) result }
 {
     evaluate(kind, call)
+}
+
+/// Returns the number of a word, or `None` if the word is no number. A number outside `i128` is moved to the nearer end.
+pub fn number_of_word(word: &str) -> Option<i128>
+    ensures number { result ≡ spelled_number word.now }
+{
+    read_number(word)
+}
+
+/// Returns the kind and the call that the words ask for, or `None` if they ask for no call. The words ask for no other
+/// kind and call.
+pub fn call_of_words(words: &[&str]) -> Option<(Kind, Call)>
+    ensures defined { IsRequest (map (λ w. w.now) words.now) result }
+    ensures only { IsOnly (IsRequest (map (λ w. w.now) words.now)) result }
+{
+    read_words(words)
 }
 
 /// Returns the line that the words ask for, and its status. The words ask for no other line and status.
@@ -670,8 +840,8 @@ pub fn line_of_words(words: &[&str]) -> (Line, u8)
     line_for(words)
 }
 
-/// Prints the line that the words ask for, and returns its status. If the sink fails, it returns 4. Otherwise it adds
-/// exactly the line, and the sink has finished.
+/// Prints the line that the words ask for, and returns its status. It returns 4 exactly if the sink has failed.
+/// Otherwise the sink has finished, and if it shows its bytes, exactly the line was added to them.
 pub fn printed_line<S: Sink>(words: &[&str], out: &mut S) -> u8
     ensures failed { (result ≡ 4) ↔ IsTrue (S.has_failed out.new) }
     ensures line { result ≢ 4 → (line : List ℕ)
@@ -680,4 +850,49 @@ pub fn printed_line<S: Sink>(words: &[&str], out: &mut S) -> u8
     ensures finished { result ≢ 4 → IsTrue (S.is_finished out.new) }
 {
     run(words, out)
+}
+
+/// Returns a console over the writer. It has not failed, and it is not finished.
+pub fn new_console<W: Write>(out: W) -> Console<W>
+    ensures writer { writer_of result ≡ out }
+    ensures fresh { has_failed result ≡ false }
+    ensures unfinished { is_finished result ≡ false }
+{
+    Console::new(out)
+}
+
+/// Puts bytes on a console, and returns how many it took, or `None` if the console has failed. If the writer shows its
+/// bytes, exactly those that it took were added to them, and at `None` none was. A console that has failed stays failed. No
+/// clause says when a console fails, since a writer may fail at any time.
+pub fn put_on_console<W: Write>(console: &mut Console<W>, bytes: &[u8]) -> Option<usize>
+    ensures bound { IfSome result (λ n. n ≤ length bytes.now) }
+    ensures progress { 0 < length bytes.now → IfSome result (λ n. 0 < n) }
+    ensures added { IfSome result (λ n. Appends (W.contents (writer_of console.old))
+        (W.contents (writer_of console.new)) (take n bytes.now)) }
+    ensures failed { IsNone result ↔ IsTrue (has_failed console.new) }
+    ensures for_good { IsTrue (has_failed console.old) → IsTrue (has_failed console.new) }
+    ensures kept { IsNone result
+        → Keeps (W.contents (writer_of console.old)) (W.contents (writer_of console.new)) }
+    ensures unfinished { is_finished console.new ≡ false }
+{
+    console.put(bytes)
+}
+
+/// Flushes the writer of a console, and returns `false` exactly if the console has failed. At `true` the console is
+/// finished, and the bytes of its writer are what they were. No clause says when the flush fails.
+pub fn finished_console<W: Write>(console: &mut Console<W>) -> bool
+    ensures kept { OnTrue result
+        (Keeps (W.contents (writer_of console.old)) (W.contents (writer_of console.new))) }
+    ensures failed { (result ≡ false) ↔ IsTrue (has_failed console.new) }
+    ensures for_good { IsTrue (has_failed console.old) → IsTrue (has_failed console.new) }
+    ensures finished { is_finished console.new ≡ result }
+{
+    console.finish()
+}
+
+/// Returns the writer of a console.
+pub fn writer_of_the_console<W: Write>(console: Console<W>) -> W
+    ensures writer { result ≡ writer_of console }
+{
+    console.into_inner()
 }

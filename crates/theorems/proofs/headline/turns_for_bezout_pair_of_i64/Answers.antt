@@ -5,5 +5,8 @@ pub returns : goal.returns
 returns c =
     let a = c.ranges.a in
     let b = c.ranges.b in
-    let answer = simp to_z-of_z at c.extended_gcd_counted.ensures.answer in
-    record { greatest = answer.greatest; turns = simp to_z-of_z at c.extended_gcd_counted.ensures.turns; bound = simp to_z-of_z at c.extended_gcd_counted.ensures.bound }
+    record {
+      named = simp to_z-of_z at c.extended_gcd_counted.ensures.answer;
+      turns = simp to_z-of_z at c.extended_gcd_counted.ensures.turns;
+      bound = simp to_z-of_z at c.extended_gcd_counted.ensures.bound;
+    }
