@@ -12,7 +12,6 @@ ghost use Rattle.ratio64.specs.Ratio.{den_of, num_of};
 use ratio64::{ParseRatioError, Ratio, RatioError};
 use std::alloc::{AllocError, Global};
 use std::cmp::Ordering;
-use std::hash::Hasher;
 
 /// The result of parsing a fraction.
 type ParseResult = Result<Ratio, ParseRatioError>;
@@ -104,14 +103,6 @@ pub fn product_of_new(a: i64, b: i64, c: i64, d: i64) -> Result<Ratio, RatioErro
     Ratio::new(a, b)?.checked_mul(&Ratio::new(c, d)?)
 }
 
-/// Returns `true` if the fractions are equal.
-pub fn are_equal(x: &Ratio, y: &Ratio) -> bool
-    ensures { IsTrue result
-        ↔ AreEqual (num_of x.now) (den_of x.now) (num_of y.now) (den_of y.now) }
-{
-    x == y
-}
-
 /// Returns `true` if the three fractions ascend. Then the first is less than the last.
 pub fn are_ascending(x: &Ratio, y: &Ratio, z: &Ratio) -> bool
     ensures { IsTrue result → fraction_cmp (num_of x.now) (den_of x.now) (num_of z.now)
@@ -162,24 +153,6 @@ pub fn nearest_is_unique(x: &Ratio, max: i64, num: i64, den: i64) -> (i64, i64)
 {
     let nearest = x.limit_denominator(max);
     (nearest.num(), nearest.den())
-}
-
-/// Hashes two equal fractions with two hashers in the same state. The hashers are then in the same state again.
-pub fn hash_both<H: Hasher>(x: &Ratio, y: &Ratio, first: &mut H, second: &mut H)
-    requires equal { AreEqual (num_of x.now) (den_of x.now) (num_of y.now) (den_of y.now) }
-    requires same { first.old ≡ second.old }
-    ensures { first.new ≡ second.new }
-{
-    x.hash(first);
-    y.hash(second);
-}
-
-/// Hashes the fraction. The hasher is given the numerator, then the denominator.
-pub fn hash_of_parts<H: Hasher>(x: &Ratio, state: &mut H)
-    ensures { state.new ≡ fold H.write state.old
-        (written.i64 (num_of x.now) ++ written.i64 (den_of x.now)) }
-{
-    x.hash(state);
 }
 
 /// Returns the parts of the fraction and the result of parsing its string. That result is the fraction.

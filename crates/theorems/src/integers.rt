@@ -71,18 +71,6 @@ pub fn floored_by_two_calls<T: Integer>(n: T, d: T) -> (T, T)
     (div_floor(n, d), div_mod_floor(n, d).0)
 }
 
-/// Returns the Bezout pair by `extended_gcd` and by the call that counts the iterations. The two are equal.
-pub fn pairs_by_two_calls<T: Integer>(a: T, b: T) -> (ExtendedGcd<T>, ExtendedGcd<T>)
-    requires in_range { T.fits (T.value a) × T.fits (T.value b) }
-    requires gcd_fits { GcdFits T.fits (T.value a) (T.value b) }
-    requires has_pair { HasPair T.fits (T.value a) (T.value b) }
-    ensures gcd { T.value result.0.gcd ≡ T.value result.1.gcd }
-    ensures x { T.value result.0.x ≡ T.value result.1.x }
-    ensures y { T.value result.0.y ≡ T.value result.1.y }
-{
-    (a.extended_gcd(&b), extended_gcd_counted(a, b).0)
-}
-
 /// Returns the number of items of a row.
 pub fn row_length<T: Integer>(n: T) -> usize
     requires in_range { T.fits (T.value n) }
