@@ -444,6 +444,7 @@ def write(out):
         by_hand = f'// It also has what rust/by_hand/src/{place} adds.\n' if place in additions.files else ''
         made[place] = additions.add(place, made_from(module.source.path) + by_hand + rust)
     rust_errors.see_all_used()
+    rust_guards.see_all_used()
     rust_examples.see_all_used()
     for crate, name in ADDED.keys() - ADDED_TO:
         raise Unknown(f'scripts/make_rust_crate.py: crates/{crate} has no `{name}`, to which it adds attributes')

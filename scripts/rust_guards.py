@@ -8,9 +8,10 @@ has the few bodies that get operators which check, and `PLAIN` the modules whose
     scripts/rust_guards.py --self-test [FORM..]
     scripts/rust_guards.py --list
 
-The self-test sees that a condition of no known form is rejected. Then it takes the guards of each form, and each change
-of code, out of a copy of rust/, and the tests rust/tests/domains/forms.rs have to fail in release. FORM is a form, or
-the name of a function whose code is changed. The list has the forms, and how many clauses have each."""
+The self-test sees that a condition of no known form is rejected, and a function of `LEFT_TO_BODY` without such a clause. Then
+it takes the guards of each form, and each change of code, out of a copy of rust/, and the tests rust/tests/domains/forms.rs
+have to fail in release. FORM is a form, or the name of a function whose code is changed. The list has the forms, and how many
+clauses have each."""
 import pathlib
 import re
 import shutil
@@ -206,16 +207,28 @@ AFTER_TEST = {
 # before it passed.
 PLAIN = {('integer_core', 'bezout'), ('integer_core', 'division'), ('integer_core', 'divisors'),
          ('integer_core', 'native'), ('num_integer', 'coefficients')}
-# By crate, the functions that get no test for some clause: their bodies panic, or the call of their result does, or no
-# test is made. rust/tests/domains shows it of each.
+# By crate, module, and type or trait, the functions that get no test for some clause: their bodies panic, or the call of their result
+# does, or no test is made. rust/tests/domains shows it of each. A row that no function has is rejected.
 LEFT_TO_BODY = {
-    'integer_core': {'div_rem', 'div_floor', 'mod_floor', 'div_mod_floor', 'div_ceil', 'next_multiple_of',
-                     'prev_multiple_of', 'inc', 'dec', 'gcd', 'gcd_counted', 'lcm', 'gcd_lcm', 'extended_gcd',
-                     'extended_gcd_lcm', 'extended_gcd_counted', 'sum', 'difference', 'product', 'quotient',
-                     'remainder', 'successor', 'predecessor', 'negated'},
-    'num_integer': {'binomial', 'binomial_counted', 'multinomial', 'new'},
-    'applied': {'gcd_of', 'lcm_of', 'rank', 'lower_bound', 'div_round', 'div_round_even', 'factorial', 'falling'},
+    ('integer_core', '', ''): {'div_rem', 'div_floor', 'mod_floor', 'div_mod_floor', 'div_ceil', 'gcd', 'lcm', 'gcd_lcm'},
+    ('integer_core', '', 'Integer'): {
+        'div_rem', 'div_floor', 'mod_floor', 'div_mod_floor', 'div_ceil', 'next_multiple_of', 'prev_multiple_of', 'inc', 'dec',
+        'gcd', 'lcm', 'gcd_lcm', 'extended_gcd', 'extended_gcd_lcm'},
+    ('integer_core', 'bezout', ''): {'extended_gcd_counted'},
+    ('integer_core', 'counted', 'GcdCounted'): {'gcd_counted'},
+    ('integer_core', 'native_integer', 'Integer for T'): {
+        'div_rem', 'div_floor', 'mod_floor', 'div_mod_floor', 'gcd', 'lcm', 'gcd_lcm'},
+    ('integer_core', 'native_integer', 'GcdCounted for T'): {'gcd_counted'},
+    ('integer_core', 'operators', ''): {'sum', 'difference', 'product', 'quotient', 'remainder', 'successor', 'predecessor', 'negated'},
+    ('num_integer', 'coefficients', ''): {'binomial', 'binomial_counted', 'multinomial'},
+    ('num_integer', 'rows', 'IterBinomial'): {'new'},
+    ('applied', 'counting', ''): {'factorial', 'falling'},
+    ('applied', 'halving', ''): {'lower_bound'},
+    ('applied', 'lists', ''): {'gcd_of', 'lcm_of'},
+    ('applied', 'ranking', ''): {'rank'},
+    ('applied', 'rounding', ''): {'div_round', 'div_round_even'},
 }
+LEFT = set()                    # those that are met, noted as files are made
 # The functions without a clause that the place of the caller goes through, on the way to a panic.
 WAY = {('integer_core', 'division', 'div_rem'), ('integer_core', 'division', 'div_mod_floor'),
        ('integer_core', 'stein', 'binary_gcd'), ('integer_core', 'stein', 'gcd_lcm_of_magnitudes'),
@@ -277,16 +290,23 @@ class Guards:
         for source, clause in self.clauses(item, owner):
             text = fold(source.text(clause.first, clause.last))
             text = text[text.index('{') + 1:-1].strip()
-            found.append(self.row(source, clause, item, text))
+            found.append(self.row(source, clause, item, owner, text))
         return found
 
-    def row(self, source, clause, item, text):
+    def is_left(self, item, owner):
+        """Whether a clause of a function is left to its body."""
+        of_trait = f'{owner.of_trait} for ' if owner is not None and owner.of_trait else ''
+        place = (*self.place, of_trait + (owner.name if owner is not None else ''))
+        LEFT.add((place, item.name))
+        return item.name in LEFT_TO_BODY.get(place, ())
+
+    def row(self, source, clause, item, owner, text):
         for row in ROWS:
             match = re.fullmatch(row.form, text)
             if match and not (row.way == TESTED and row.within and item.name not in row.within):
                 MET.setdefault(row.name, set()).add((source.path, clause.first))
                 is_tested = row.test and (row.within is None or item.name in row.within)
-                if not is_tested and row.way != NONE and item.name not in LEFT_TO_BODY.get(self.module.crate, ()):
+                if not is_tested and row.way != NONE and not self.is_left(item, owner):
                     source.refuse(clause.first, f'a condition of `{item.name}` that scripts/rust_guards.py leaves to '
                                                 f'its body: `{text}`')
                 return row, Names(source, clause, row, match)
@@ -435,6 +455,13 @@ class Names:
         return re.sub(r'\{(\w+(?:\.\w+)?)\}', self.one, text)
 
 
+def see_all_used():
+    """Rejects a function that no clause leaves to its body. Call it after the files have been made."""
+    for place, names in LEFT_TO_BODY.items():
+        for name in sorted(names - {name for found, name in LEFT if found == place}):
+            raise Unknown(f'scripts/rust_guards.py: no clause is left to the body of {"::".join(filter(None, (*place, name)))}')
+
+
 # ---- a test of the guards
 
 # A function with a condition that nothing guards, and what is said of it.
@@ -445,6 +472,10 @@ REFUSED = [
      'crates/num_integer/src/lib.rt:2: `x`, which scripts/rust_guards.py has no words for'),
     ('pub fn rest<T: Integer>(x: T, y: T) -> T\n    requires { T.value y ≢ pos 0 }\n{ x }',
      'crates/num_integer/src/lib.rt:2: a condition of `rest` that scripts/rust_guards.py leaves to its body: `T.value y ≢ pos 0`'),
+    ('pub fn binomial<T: Integer>(x: T, d: T) -> T\n    requires { T.value d ≢ pos 0 }\n{ x }',
+     'crates/num_integer/src/lib.rt:2: a condition of `binomial` that scripts/rust_guards.py leaves to its body: `T.value d ≢ pos 0`'),
+    ('pub struct Row;\nimpl Row {\n    pub fn new<T: Integer>(n: T, d: T) -> Row\n        requires { T.value d ≢ pos 0 }\n    { Row }\n}',
+     'crates/num_integer/src/lib.rt:4: a condition of `new` that scripts/rust_guards.py leaves to its body: `T.value d ≢ pos 0`'),
     ('pub trait Half { fn half(&self) -> Self\n    requires { IsEven (Self.value self.now) }; }',
      'crates/num_integer/src/lib.rt:2: a condition of `half` that no row of scripts/rust_guards.py guards: `IsEven (Self.value self.now)`'),
 ]
@@ -488,6 +519,18 @@ def fails(folder):
     return subprocess.run(test, cwd=folder, capture_output=True).returncode != 0
 
 
+def see_stale_rejected():
+    """Sees that a row of `LEFT_TO_BODY` is rejected if the function has no such clause. Call it after the files have been made."""
+    place = ('num_integer', 'coefficients', '')
+    LEFT_TO_BODY[place].add('half')
+    said = samples.said(see_all_used)
+    LEFT_TO_BODY[place].remove('half')
+    wanted = 'scripts/rust_guards.py: no clause is left to the body of num_integer::coefficients::half'
+    if said != wanted:
+        raise Unknown(f'a row that no function has gives {said}')
+    print('a function that is left to its body and has no such clause is rejected', flush=True)
+
+
 def self_test(folder, names):
     """The forms whose guards nobody misses."""
     global LEFT_OUT
@@ -496,6 +539,7 @@ def self_test(folder, names):
         raise Unknown('\n'.join(wrong))
     print(f'{len(REFUSED)} conditions without a guard are rejected', flush=True)
     make(folder)
+    see_stale_rejected()
     if fails(folder):
         raise Unknown('the tests fail with every guard in its place')
     missed = []

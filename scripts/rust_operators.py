@@ -20,11 +20,10 @@ OWNER = 'rust/src/integer_core.rs'              # the file that has the module `
 # Functions that call them at another type than the one in scope.
 EXCEPT = {('rust/src/integer_core/native.rs', 'magnitude')}
 # Of each call its operator and its strength: a product binds tighter than a sum, and a sum tighter than a comparison.
-BINARY = {'sum': ('+', 2), 'difference': ('-', 2), 'product': ('*', 3), 'quotient': ('/', 3), 'remainder': ('%', 3),
-          'is_below': ('<', 1), 'is_equal': ('==', 1)}
-WITH_NUMBER = {'successor': ('{} + {}::one()', 2), 'predecessor': ('{} - {}::one()', 2), 'is_negative': ('{} < {}::zero()', 1),
-               'negated': ('{1}::zero() - {0}', 2)}
-NEGATED = {'<': '>='}                           # of types with an order
+BINARY = {'sum': ('+', 2), 'difference': ('-', 2), 'product': ('*', 3), 'quotient': ('/', 3), 'remainder': ('%', 3)}
+WITH_NUMBER = {'successor': ('{} + {}::one()', 2), 'predecessor': ('{} - {}::one()', 2), 'negated': ('{1}::zero() - {0}', 2)}
+# Of each comparison its sign, and the sign where `!` stands before the call, for types with an order. That of `is_negative` is with 0.
+COMPARISONS = {'is_below': ('<', '>='), 'is_negative': ('<', '>='), 'is_equal': ('==', '!=')}
 SIGNS = '+-*/%<>=&|^!'
 KEYWORDS = {'as', 'if', 'match', 'return', 'else', 'in'}
 
@@ -129,19 +128,24 @@ class Operators:
         if called in ('is_zero', 'is_one'):
             text = re.sub(r'^\*(?=[\w.]+$)', '', self.operand(arguments[0], 0))
             return self.replace(k, last, (text if self.strength_of(text) == 9 else f'({text})') + f'.{called}()')
+        if called in COMPARISONS:
+            right = f'{name}::zero()' if called == 'is_negative' else self.operand(arguments[1], 1)
+            return self.comparison(k, last, COMPARISONS[called], self.operand(arguments[0], 0), right)
         if called in BINARY:
             sign, binds = BINARY[called]
             text = f'{self.operand(arguments[0], binds - 1)} {sign} {self.operand(arguments[1], binds)}'
         else:
             form, binds = WITH_NUMBER[called]
             text = form.format(self.operand(arguments[0], binds if called == 'negated' else binds - 1), name)
-        return self.place(k, last, text, binds)
+        return self.place(k, last, text)
 
-    def place(self, k, last, text, binds):
+    def comparison(self, k, last, signs, left, right):
+        """Writes a comparison, or its opposite if `!` stands before the call and no method of its result behind it."""
+        is_negated = self.at(k - 1) == '!' and self.at(last + 1) not in ('.', '?')
+        return self.place(k - is_negated, last, f'{left} {signs[is_negated]} {right}')
+
+    def place(self, k, last, text):
         """Writes an expression, in brackets if what stands beside it would bind more tightly."""
-        if self.at(k - 1) == '!' and binds == 1:
-            self.source.texts[self.source.code[k - 1]] = ''
-            return self.replace(k, last, text.replace(' < ', ' >= ', 1).replace(' == ', ' != ', 1))
         before, after = self.at(k - 1), self.at(last + 1)
         is_logic = before == self.at(k - 2) and before in '&|' or self.ends_parameters(k - 1)
         is_before = self.source.is_sign(k - 1, SIGNS) and not (before == '=' and self.at(k - 2) not in '=!<>') and not is_logic \
@@ -227,6 +231,14 @@ WRITTEN = [
     ('fn f<T: Num>(a: T) -> bool { is_zero(a) || !is_negative(a) }', 'fn f<T: Num>(a: T) -> bool { a.is_zero() || a >= T::zero() }'),
     ('fn f<T: Num>(a: T, b: T) -> bool { is_one(a) && is_equal(a, b) || !is_equal(a, b) }',
      'fn f<T: Num>(a: T, b: T) -> bool { a.is_one() && a == b || a != b }'),
+    ('fn f<T: Num>(a: T, b: bool) -> bool { !is_equal(g(a == b), b) }', 'fn f<T: Num>(a: T, b: bool) -> bool { g(a == b) != b }'),
+    ('fn f<T: Num>(a: T, b: T) -> bool { !is_equal(g(is_equal(a, b)), true) }', 'fn f<T: Num>(a: T, b: T) -> bool { g(a == b) != true }'),
+    ('fn f<T: Num>(a: T, b: T) -> bool { !is_below(g(!is_below(a, b)), b) }', 'fn f<T: Num>(a: T, b: T) -> bool { g(a >= b) >= b }'),
+    ('fn f<T: Num>(a: T, b: T) -> bool { !is_negative(g(|x| x < b, a)) }', 'fn f<T: Num>(a: T, b: T) -> bool { g(|x| x < b, a) >= T::zero() }'),
+    ('fn f<T: Num>(a: T, b: T) -> bool { !is_equal(g(" < "), a) || !is_negative(b) }',
+     'fn f<T: Num>(a: T, b: T) -> bool { g(" < ") != a || b >= T::zero() }'),
+    ('fn f<T: Num>(a: T, b: bool) -> bool { !is_negative(a) == b }', 'fn f<T: Num>(a: T, b: bool) -> bool { (a >= T::zero()) == b }'),
+    ('fn f<T: Num>(a: T, b: T) -> bool { !is_below(a, b).g() }', 'fn f<T: Num>(a: T, b: T) -> bool { !(a < b).g() }'),
     ('fn f<T: Num>(a: &T) -> bool { is_zero(*a) && is_zero(sum(*a, one())) }',
      'fn f<T: Num>(a: &T) -> bool { a.is_zero() && (*a + T::one()).is_zero() }'),
     ('fn f<T: Num>(a: T) -> T { successor(predecessor(a)).g() }', 'fn f<T: Num>(a: T) -> T { (a - T::one() + T::one()).g() }'),
