@@ -1,0 +1,200 @@
+#!/usr/bin/env python3
+"""Says which functions of rust/src and rust/c/src are the proved Rattle of crates/*/src with its contracts deleted.
+
+    scripts/check_erased.py               the counts; status 1 if scripts/erased.txt or a page says otherwise
+    scripts/check_erased.py --list        also how many functions need each rule, and all items that are not the same
+    scripts/check_erased.py --self-test   small files of both kinds, and random changes of a token, which have to be found
+
+It shares no code with the scripts that make the Rust, so nobody has to trust those. From above to below: `without_contracts` deletes
+from a source what only the prover reads. `Files` finds the items: functions, types, constants, heads of traits and implementations,
+each by module, type or trait, and name. A name that a `use` imports is compared as its path, so two functions `sum` differ. `RULES` has
+the differences that are allowed. None names an item of the library, and rustc refuses what one could let through.
+
+An item that differs otherwise is `changed`; one that Rust lacks is `absent`; one that is in Rust alone is `by hand`. scripts/erased.txt
+names each of these with a reason, and no other item, so none comes or goes unseen. `use` and `mod` count by what they lead to."""
+import collections, itertools, pathlib, re, sys
+
+REPOSITORY = pathlib.Path(__file__).resolve().parent.parent
+LIBRARIES = ('integer_core', 'integer_roots', 'num_integer', 'modular', 'ratio64', 'calendar', 'applied')
+# A folder of Rust, the crates that it is made of, and the first word of its paths to the libraries.
+PARTS = (('rust/src', LIBRARIES, 'crate'), ('rust/c/src', ('cellarcove_c',), 'cellarcove'))
+TABLE, PAGES = 'scripts/erased.txt', ('rust/README.md', 'docs/TESTING.md')
+WITHOUT_CODE = ('Model', 'Integral', 'FixedWidth')      # traits of Rattle that have no function
+# Attributes that change no result: of proofs, of the form of the text, of speed, of warnings, and of the place that a panic names.
+NO_RESULT = ('tactic', 'cycle', 'rattlefmt', 'rustfmt', 'inline', 'cold', 'must_use', 'allow', 'doc', 'deprecated', 'track_caller')
+TOKEN = re.compile(r'''\s+ | //[^\n]* | (?P<token> /\* | b?r(?P<marks>\#*)".*?"(?P=marks) | [bc]?"(?:[^"\\]|\\.)*"
+    | b?'(?:[^'\\\n]|\\(?:x..|u\{[^}]*\}|.))' | '\w+ | \d\w*(?:\.\d\w*)? | \w+
+    | :: | -> | => | == | != | <= | >= | && | \|\| | \.\.=? | [-+*/%^&|]= | .)''', re.X | re.S)
+OPENING, CLOSING = ('(', '[', '{'), (')', ']', '}')
+# Before a word: it is no field, no method, and not the end of a path.
+ALONE = r'(?<= )(?<!:: )(?<! \. )'
+# The differences that are allowed: of each its pattern in tokens with spaces between them, and what is compared in its place.
+RULES = {
+    # The first word of a path. `std` is `core`; the libraries are modules of one crate. rustc finds no other item by such a path.
+    'path': (ALONE + r'(\w+)(?= :: )', lambda item, match: item.renamed.get(match[1], match[1])),
+    # A comma at the end of a list. `(x,)` is another type than `(x)`, which rustc sees.
+    'comma': (r', (?=[])}>] )', ''),
+    # The label of a loop that nothing names. rustc refuses a `break` to a label that is not there.
+    'label': (r"('\w+) : (?=(?:loop|while|for) )(?!.* \1 )", ''),
+    # `const fn` returns what `fn` returns.
+    'const fn': (r'const (?=fn )', ''),
+    # `Self` for the type of an implementation. If they were two types, rustc would see that they do not fit.
+    'Self': (ALONE + r'(?:{type}|{word}(?= [{{(] | :: [^<]))(?= )', 'Self'),
+    # Bounds say at which types an item is there, and not what it returns.
+    'bound': (r'\+ (?:Copy|Clone) |(?<=: )(?:Copy|Sized) \+ |where Self : Clone (?:, )?(?=[{;] )', ''),
+    # `Formatter<W>` of Rattle, for a writer `W`, is `Formatter<'_>` of Rust.
+    'Formatter': (r"(?<= )< \w+ : fmt :: Write > |(?<= Formatter )< (?:'_|[A-Z]) > ", ''),
+}
+# `type` has the type of an implementation, `names` the paths of imported names, `renamed` what first words of paths are in Rust.
+Item = collections.namedtuple('Item', 'key is_function text type names renamed')
+
+def tokens_of(text):
+    """The tokens of a file, without comments. In a text, spaces are other signs, so that a token has none."""
+    found = [match['token'].translate({32: 1, 10: 2}) for match in TOKEN.finditer(text) if match['token']]
+    return found if '/*' not in found else sys.exit('check_erased.py: a comment in /* */, which it does not read')
+
+def close(t, k):
+    """The place of the bracket that closes the one at `k`."""
+    depth = 0
+    for i in range(k, len(t)):
+        depth += (t[i] in OPENING) - (t[i] in CLOSING)
+        if depth == 0:
+            return i
+    return sys.exit(f'check_erased.py: `{" ".join(t[k:k + 9])}` is not closed')
+
+def without_contracts(t, is_source):
+    """The tokens without attributes that change no result. A source loses `requires {..}` and `ensures {..}`, with a name or without;
+    `ghost use ..;`, `ghost x: {..}`, `ghost x = {..}`, perhaps with `by {..}`; the word `final`; and bounds without code."""
+    out, k = [], 0
+    while k < len(t):
+        word, after = t[k], t[k + 1:k + 3]
+        if word == '#' and (after[0] == '!' or after[1] in NO_RESULT or {'diagnostic', 'Drop'} & {*t[k:close(t, k + 1)]}):
+            k = close(t, t.index('[', k)) + 1
+        elif is_source and word in ('requires', 'ensures'):
+            k = close(t, t.index('{', k)) + 1
+        elif is_source and word == 'ghost':
+            k = t.index(';', k) if after[0] == 'use' else k + 2
+            while t[k] in (':', '=', 'by'):
+                k = close(t, k + 1) + 1
+            k += t[k] in (';', ',')
+            out = out[:-1] if out[-1:] == ['pub'] else out
+        elif is_source and (word == 'final' or word == '+' and after[0] in WITHOUT_CODE):
+            k += 1 if word == 'final' else 2
+        else:
+            out.append(word)
+            k += 1
+    return out
+
+def imported(text):
+    """The names that a `use` gives, each with its path."""
+    while '{' in text:                                  # `a::{b, c}` is `a::b, a::c`
+        text = re.sub(r'([^{},]*){([^{}]*)}', lambda m: ','.join(m[1] + end for end in m[2].split(',') if end.strip()), text)
+    for path in text.split(','):
+        path, _, given = path.partition(' as ')
+        path = re.sub(r'\s|:: self\s*$', '', path)
+        yield given.strip() or path.split('::')[-1], path
+
+class Files:
+    """The items of files, by kind and key. Of items with one key the first of a source is compared with the first of Rust."""
+
+    def __init__(self):
+        self.items = collections.defaultdict(list)
+    def read(self, file, module, renamed=None):
+        """Reads a file and those of its modules. A source has `renamed`."""
+        tokens = without_contracts(tokens_of(file.read_text()), renamed is not None)
+        for name in self.block(tokens, module, Item('', False, '', '', {}, renamed or {})):
+            folder = file.parent if file.stem == 'lib' else file.with_suffix('')
+            self.read(folder / (name + file.suffix), (*module, name), renamed)
+
+    def block(self, t, place, inside):
+        """Notes the items of a file, or of a trait or an implementation, and returns the modules that have files."""
+        k, below = 0, []
+        while k < len(t):
+            first = k
+            while t[k] == '#':
+                k = close(t, k + 1) + 1
+            is_left_out = re.search(r'\[ cfg \( (?:test|doc) \)', ' '.join(t[first:k]))
+            while t[k] in ('pub', '(', 'unsafe', 'extern') or t[k][0] == '"' or t[k] == 'const' and t[k + 1] == 'fn':
+                k = close(t, k) + 1 if t[k] == '(' else k + 1
+            kind, stop = t[k] if t[k + 1] != '!' else 'macro', k
+            while t[stop] != ';' and (t[stop] != '{' or kind in ('use', 'const', 'static', 'type')):
+                stop = close(t, stop) + 1 if t[stop] in OPENING else stop + 1
+            last, is_block = close(t, stop) if t[stop] == '{' else stop, kind in ('impl', 'trait')
+            text = ' '.join(['', *t[first:stop if is_block else last + 1], ''])
+            head = re.search(r' impl (?:<(?:->|[^<>]|<(?:->|[^<>]|<[^<>]*>)*>)*> )?(.*?) (?:where .*)?$', text)
+            name = head[1] if kind == 'impl' else ' '.join(t[k:k + 4]) if kind == 'macro' else t[k + 1]
+            if is_left_out or kind == 'crate' or name.split()[0] in WITHOUT_CODE and last == stop + 1:
+                pass
+            elif kind == 'use':
+                inside.names.update(imported(rewritten(inside._replace(text=f' {" ".join(t[k + 1:last])} '), ['path'])))
+            elif kind == 'mod':
+                below.append(name)
+            else:
+                name = re.sub(r' (?=::|[<>,)!])|(?<=[<&(!]) |(?<=::) ', '', name)
+                key = '::'.join((*place, name))
+                self.items[kind, key].append(inside._replace(key=key, text=text, is_function=kind == 'fn' and t[stop] == '{'))
+                if is_block:
+                    self.block(t[stop + 1:last], (*place, f'<{name}>'), inside._replace(type=head[1].split(' for ')[-1] if head else ''))
+            k = last + 1
+        return below
+
+def rewritten(item, rules):
+    """The text of an item by some of the rules, with the path of each imported name in its place."""
+    text, type_ = item.text, item.type or ' '
+    for pattern, new in (RULES[rule] for rule in RULES if rule in rules):
+        pattern = pattern.replace('{type}', re.escape(type_)).replace('{word}', re.escape(type_.split(' ')[0]))
+        text = re.sub(pattern, (lambda match: new(item, match)) if callable(new) else new, text, flags=re.S)
+    return re.sub(ALONE + r'\w+(?= )', lambda match: item.names.get(match[0], match[0]), text)
+
+def compare(source, rust):
+    """The grade of an item, and the rules without which it would be changed."""
+    if not source or not rust:
+        return ('absent' if source else 'by hand'), []
+    same = [rules for rules in (RULES, *(RULES.keys() - {rule} for rule in RULES)) if rewritten(source, rules) == rewritten(rust, rules)]
+    if RULES not in same:
+        return 'changed', []
+    used = [rule for rule in RULES if RULES.keys() - {rule} not in same]
+    return ('by rules' if used else 'same'), used
+
+def pairs(root):
+    """Each item of the sources with that of Rust, or one of them with None; with its name before them."""
+    for folder, crates, own in PARTS:
+        source, rust = Files(), Files()
+        rust.read(root / folder / 'lib.rs', ())
+        place = {crate: (crate,) if (root / 'rust/src' / f'{crate}.rs').exists() else () for crate in (*LIBRARIES, *crates)}
+        outside = {'std': 'core'} | {crate: ' :: '.join((own, *place[crate])) for crate in LIBRARIES}
+        for crate in crates:
+            within = {'crate': ' :: '.join(('crate', *place[crate]))}
+            source.read(root / 'crates' / crate / 'src/lib.rt', place[crate], outside | within)
+        for kind, key in source.items | rust.items:
+            for items in itertools.zip_longest(source.items[kind, key], rust.items[kind, key]):
+                yield '' if kind == 'fn' else f'{kind} ', *items
+
+def table(root):
+    """The grade of each item that scripts/erased.txt names."""
+    grade, found = '', {}
+    for line in (root / TABLE).read_text().splitlines():
+        if line[:1].strip() not in ('', '#'):
+            grade = line.split(':')[0]
+        elif line.startswith(' '):
+            found[line.strip()] = grade
+    return found
+
+def main(root):
+    rows = [(f'{kind}{(source or rust).key}', source or rust, *compare(source, rust)) for kind, source, rust in pairs(root)]
+    grades = collections.Counter(grade for _, item, grade, _ in rows if item.is_function)
+    if '--list' in sys.argv:
+        by_rule = collections.Counter(rule for _, item, _, used in rows if item.is_function for rule in used)
+        print(*(f'by the rule {rule}: {count}' for rule, count in by_rule.most_common()), sep='\n')
+        print(*(f'{grade}: {name}' + f' ({", ".join(used)})' * bool(used) for name, _, grade, used in rows if grade != 'same'), sep='\n')
+    sentence = (f'Of {grades.total() - grades["absent"]} functions in Rust, {grades["same"]} are their source with its contracts deleted, {grades["by rules"]} '
+                f'are it up to {len(RULES)} rules, {grades["changed"]} are changed, and {grades["by hand"]} have no source.')
+    found, known = {name: grade for name, _, grade, _ in rows if grade not in ('same', 'by rules')}, table(root)
+    wrong = [f'{name} is {found.get(name, "the source")}; {TABLE} has it as {known.get(name, "the source")}'
+             for name in sorted(found | known) if found.get(name) != known.get(name)]
+    wrong += [f'{page} does not say: {sentence}' for page in PAGES if sentence not in ' '.join((root / page).read_text().split())]
+    print(*wrong, sentence, sep='\n')
+    return 1 if wrong else 0
+
+if __name__ == '__main__':
+    sys.exit(__import__('check_erased_tests').main() if '--self-test' in sys.argv else main(REPOSITORY))
