@@ -1,24 +1,32 @@
 //! Functions that call `calendar`.
 
-ghost use Rattle.std.specs.Prelude.{◌≡◌, ◌<◌, ◌≤◌, ◌<ℤ◌, ◌+ℤ◌, ◌≤ℤ◌, ◌-ℤ◌, All, FitsSigned, IfSome, IsTrue, MatchOption, Some, pos, ℤ};
+ghost use Rattle.std.specs.Prelude.{◌≡◌, ◌⊎◌, ◌↔◌, ◌+◌, ◌-◌, ◌<◌, ◌≤◌, ◌<ℤ◌, ◌+ℤ◌, ◌-ℤ◌, FitsSigned, IsTrue, MatchOption, pos, slice_index, ℕ, ℤ};
 ghost use Rattle.std.specs.Int.{w64};
-ghost use Rattle.calendar.specs.Dates.{HasMonths, IsLastWeekdayOfMonth, IsMonthsAfter, IsNextLastWeekday, IsNthWeekday, number_of};
-ghost use Rattle.calendar.specs.IsoWeeks.{IsDayOfIsoWeek, IsInIsoWeek};
+ghost use Rattle.calendar.specs.Dates.{HasMonths, IsEarlier, IsLastWeekdayOfMonth, IsMonthsAfter, IsMonthsBetween, IsNextLastWeekday, IsNthWeekday, IsYearsBetween, number_of, year_day_of};
+ghost use Rattle.calendar.specs.IsoWeeks.{HasIsoWeeks, IsDayOfIsoWeek, IsInIsoWeek};
 ghost use Rattle.calendar.specs.Months.{IsDate, days_in_month, month_number};
 ghost use Rattle.calendar.specs.Weekday.{iso_number};
-ghost use Rattle.calendar.specs.Weeks.{HasWeekday};
+ghost use Rattle.calendar.specs.Weeks.{HasWeekday, IsFirstWeekday, IsLastWeekday};
+ghost use Rattle.calendar.specs.Years.{HasDay, days_in_year};
 ghost use Rattle.calendar.specs.declared.date.Date.{Date};
+ghost use Rattle.calendar.specs.declared.weekday.Weekday.{Weekday};
 ghost use Rattle.calendar.specs.declared.weekday.Weekday.TheVariants.{Friday};
 
-use calendar::{Date, IsoWeek, Weekday, days_between, days_in_month, days_in_year, first_weekday_on_or_after, last_weekday_of_month, last_weekday_on_or_before, months_between, next_last_weekday, nth_weekday_of_month, weekday_of, weeks_in_year};
+use calendar::{
+    Date, IsoWeek, Weekday, days_between, days_in_month, days_in_year, first_weekday_on_or_after,
+    last_weekday_of_month, last_weekday_on_or_before, months_between, next_last_weekday,
+    nth_weekday_of_month, weekday_of, weeks_in_year, years_between,
+};
 
 // ---- what a caller can prove from the contracts
 
-/// Returns the number of working days in the week of the date. A table has that number for each of the 53 weeks of a
-/// year.
+/// Returns the number of working days in the week of the date, or `None` if the year of the week does not fit. A table
+/// has that number for each of the 53 weeks of a year.
 pub fn working_days(date: &Date, table: &[u8; 53]) -> Option<u8>
-    requires { All (λ days. days ≤ 5) table.now }
-    ensures { IfSome result (λ days. days ≤ 5) }
+    ensures { MatchOption result
+        ((year : ℤ) (week : ℕ) → IsInIsoWeek (number_of date.now) year week → ¬ (FitsSigned w64 year))
+        (λ days. (year : ℤ) × (place : ℕ) × IsInIsoWeek (number_of date.now) year (place + 1)
+        × (days ≡ slice_index table.now place)) }
 {
     let week = date.iso_week()?;
     Some(table[usize::from(week.week) - 1])
@@ -27,7 +35,10 @@ pub fn working_days(date: &Date, table: &[u8; 53]) -> Option<u8>
 /// Returns `week`, which is from 1 to 53, or `None` if the year has no such week or the year of its Thursday does not
 /// fit.
 pub fn week_of_year(year: i64, week: u8) -> Option<u8>
-    ensures { IfSome result (λ week. (1 ≤ week) × (week ≤ 53)) }
+    ensures { MatchOption result
+        ((day y : ℤ) → IsDayOfIsoWeek day year week Weekday.Thursday → HasDay y day
+        → ¬ (FitsSigned w64 y))
+        (λ found. (found ≡ week) × (1 ≤ found) × (found ≤ 53)) }
 {
     let _thursday = Date::from_iso_week(year, week, Weekday::Thursday)?;
     Some(week)
@@ -36,16 +47,24 @@ pub fn week_of_year(year: i64, week: u8) -> Option<u8>
 /// Returns `true` if the week of the first date is earlier. Then the first date is earlier too. Returns `None` if the
 /// year of a week does not fit.
 pub fn is_in_earlier_week(first: &Date, second: &Date) -> Option<bool>
-    ensures { IfSome result (λ earlier. IsTrue earlier → number_of first.now <ℤ number_of second.now) }
+    ensures { MatchOption result
+        (((year : ℤ) (week : ℕ) → IsInIsoWeek (number_of first.now) year week → ¬ (FitsSigned w64 year))
+        ⊎ ((year : ℤ) (week : ℕ) → IsInIsoWeek (number_of second.now) year week
+        → ¬ (FitsSigned w64 year)))
+        (λ earlier. (year : ℤ) × (week : ℕ) × (other : ℤ) × (number : ℕ)
+        × IsInIsoWeek (number_of first.now) year week × IsInIsoWeek (number_of second.now) other number
+        × (IsTrue earlier ↔ ((year <ℤ other) ⊎ ((year ≡ other) × (week < number))))
+        × (IsTrue earlier → number_of first.now <ℤ number_of second.now)) }
 {
     let week = first.iso_week()?;
     let other = second.iso_week()?;
     Some(is_earlier_week(&week, &other))
 }
 
-/// Returns the sum of the lengths of the months. The loop invariant says that each month has at most 31 days.
+/// Adds the lengths of the months. The loop invariant says that each has from 28 to 31 days, so the sum is from 336 to
+/// 372.
 pub fn days_of_months(year: i64) -> u16
-    ensures { result ≤ 372 }
+    ensures { (336 ≤ result) × (result ≤ 372) }
 {
     let mut days = 0;
     for month in 1..=12 {
@@ -57,22 +76,50 @@ pub fn days_of_months(year: i64) -> u16
 /// Returns the day of the week of the date, which is that of the date a week later, or `None` if the year of that
 /// date does not fit.
 pub fn weekday_in_a_week(date: &Date) -> Option<Weekday>
-    ensures { IfSome result (λ weekday. HasWeekday (number_of date.now +ℤ pos 7) weekday) }
+    ensures { MatchOption result
+        ((later : Date) → number_of later ≡ number_of date.now +ℤ pos 7 → ¬ (FitsSigned w64 later.year))
+        (λ weekday. HasWeekday (number_of date.now +ℤ pos 7) weekday) }
 {
     date.plus_days(7)?;
     Some(date.weekday())
 }
 
-/// Returns `true` if `date` is later than `month`. It is so if its month is later.
-pub fn is_after_month(date: &Date, month: &Date) -> bool
-    ensures { month_number month.now.year month.now.month <ℤ month_number date.now.year date.now.month → IsTrue result }
+/// Returns `true` if `date` is later than `first`. It is so if its month is later.
+pub fn is_after_month(date: &Date, first: &Date) -> bool
+    ensures later { IsTrue result ↔ (number_of first.now <ℤ number_of date.now) }
+    ensures month { month_number first.now.year first.now.month
+        <ℤ month_number date.now.year date.now.month → IsTrue result }
 {
-    is_before(month, date)
+    is_before(first, date)
 }
 
-/// Returns `true` if `plus_months(1)` returns `None`. Then the date a month later has a year that does not fit.
+/// Returns `true` if the first date is earlier.
+fn is_earlier(first: &Date, second: &Date) -> bool
+    ensures { IsTrue result ↔ IsEarlier first.now second.now }
+{
+    first < second
+}
+
+/// Returns `true` if the day number of the first date is smaller.
+#[tactic(auto, using(calendar::proofs::Laws::order_of_dates))]
+fn is_before(first: &Date, second: &Date) -> bool
+    ensures { IsTrue result ↔ (number_of first.now <ℤ number_of second.now) }
+{
+    is_earlier(first, second)
+}
+
+/// Returns `true` if the first week is earlier.
+fn is_earlier_week(first: &IsoWeek, second: &IsoWeek) -> bool
+    ensures { IsTrue result ↔ ((first.now.year <ℤ second.now.year)
+        ⊎ ((first.now.year ≡ second.now.year) × (first.now.week < second.now.week))) }
+{
+    first < second
+}
+
+/// Returns `true` if the date a month later has a year that does not fit.
 pub fn has_no_date_a_month_later(date: &Date) -> bool
-    ensures { IsTrue result → ((later : Date) × IsMonthsAfter date.now (pos 1) later × ¬ (FitsSigned w64 later.year)) }
+    ensures { IsTrue result
+        ↔ ((later : Date) × IsMonthsAfter date.now (pos 1) later × ¬ (FitsSigned w64 later.year)) }
 {
     match date.plus_months(1) {
         Some(_) => false,
@@ -84,7 +131,7 @@ pub fn has_no_date_a_month_later(date: &Date) -> bool
 
 /// Returns `true` if there is a date with these parts.
 pub fn is_date(year: i64, month: u8, day: u8) -> bool
-    ensures { ¬ (IsTrue result) → ¬ (IsDate year month day) }
+    ensures { IsTrue result ↔ IsDate year month day }
 {
     match Date::new(year, month, day) {
         Some(_) => true,
@@ -94,7 +141,8 @@ pub fn is_date(year: i64, month: u8, day: u8) -> bool
 
 /// Returns the day number of the date, or `i64::MAX` if it does not fit.
 pub fn day_number_or_max(date: &Date) -> i64
-    ensures { FitsSigned w64 (number_of date.now) → result ≡ number_of date.now }
+    ensures number { FitsSigned w64 (number_of date.now) → result ≡ number_of date.now }
+    ensures max { ¬ (FitsSigned w64 (number_of date.now)) → result ≡ i64.MAX }
 {
     match date.day_number() {
         Some(day) => day,
@@ -102,9 +150,10 @@ pub fn day_number_or_max(date: &Date) -> i64
     }
 }
 
-/// Returns the date of a day of the year, or 1 January if the year has no such day.
+/// Returns the date of a day of the year, or another date of that year if the year has no such day.
 pub fn day_of_year_or_first(year: i64, day_of_year: u16) -> Date
-    ensures { result.year ≡ year }
+    ensures year { result.year ≡ year }
+    ensures day { 1 ≤ day_of_year → day_of_year ≤ days_in_year year → year_day_of result ≡ day_of_year }
 {
     match Date::from_year_day(year, day_of_year) {
         Some(date) => date,
@@ -118,7 +167,9 @@ pub fn day_of_year_or_first(year: i64, day_of_year: u16) -> Date
 
 /// Returns the next date, or `date` itself if the year of the next one does not fit.
 pub fn tomorrow(date: &Date) -> Date
-    ensures { number_of date.now ≤ℤ number_of result }
+    ensures { (number_of result ≡ number_of date.now +ℤ pos 1)
+        ⊎ ((result ≡ date.now)
+        × (date.now.year ≡ i64.MAX) × (date.now.month ≡ 12) × (date.now.day_of_month ≡ 31)) }
 {
     match date.next() {
         Some(next) => next,
@@ -128,7 +179,8 @@ pub fn tomorrow(date: &Date) -> Date
 
 /// Returns the previous date, or `None` if its year does not fit.
 pub fn yesterday(date: &Date) -> Option<Date>
-    ensures { MatchOption result (date.now.year ≡ i64.MIN)
+    ensures { MatchOption result
+        ((date.now.year ≡ i64.MIN) × (date.now.month ≡ 1) × (date.now.day_of_month ≡ 1))
         (λ d. number_of d ≡ number_of date.now -ℤ pos 1) }
 {
     if let Some(previous) = date.previous() {
@@ -140,7 +192,9 @@ pub fn yesterday(date: &Date) -> Option<Date>
 
 /// Returns the date a week later, or `None` if its year does not fit.
 pub fn week_later(date: &Date) -> Option<Date>
-    ensures { IfSome result (λ d. number_of d ≡ number_of date.now +ℤ pos 7) }
+    ensures { MatchOption result
+        ((later : Date) → number_of later ≡ number_of date.now +ℤ pos 7 → ¬ (FitsSigned w64 later.year))
+        (λ later. number_of later ≡ number_of date.now +ℤ pos 7) }
 {
     match date.plus_days(7) {
         Some(later) => Some(later),
@@ -150,7 +204,9 @@ pub fn week_later(date: &Date) -> Option<Date>
 
 /// Returns the date a month later, or `None` if its year does not fit.
 pub fn month_later(date: &Date) -> Option<Date>
-    ensures { IfSome result (λ d. IsMonthsAfter date.now (pos 1) d) }
+    ensures { MatchOption result
+        ((later : Date) → IsMonthsAfter date.now (pos 1) later → ¬ (FitsSigned w64 later.year))
+        (λ later. IsMonthsAfter date.now (pos 1) later) }
 {
     match date.plus_months(1) {
         Some(later) => Some(later),
@@ -160,8 +216,9 @@ pub fn month_later(date: &Date) -> Option<Date>
 
 /// Returns the number of days from `from` to `to`, or 0 if it does not fit.
 pub fn nights(from: &Date, to: &Date) -> i64
-    ensures { FitsSigned w64 (number_of to.now -ℤ number_of from.now)
+    ensures days { FitsSigned w64 (number_of to.now -ℤ number_of from.now)
         → result ≡ number_of to.now -ℤ number_of from.now }
+    ensures none { ¬ (FitsSigned w64 (number_of to.now -ℤ number_of from.now)) → result ≡ pos 0 }
 {
     match days_between(from, to) {
         Some(days) => days,
@@ -171,7 +228,9 @@ pub fn nights(from: &Date, to: &Date) -> i64
 
 /// Returns the first Monday from `day` on, or `day` itself if that Monday does not fit.
 pub fn monday_on_or_after(day: i64) -> i64
-    ensures { day ≤ℤ result }
+    ensures { IsFirstWeekday day Weekday.Monday result
+        ⊎ ((result ≡ day)
+        × ((first : ℤ) → IsFirstWeekday day Weekday.Monday first → ¬ (FitsSigned w64 first))) }
 {
     match first_weekday_on_or_after(day, Weekday::Monday) {
         Some(monday) => monday,
@@ -179,9 +238,11 @@ pub fn monday_on_or_after(day: i64) -> i64
     }
 }
 
-/// Returns the first Monday of September.
+/// Returns the first Monday of September, or `None` if no date is the first Monday of September.
 pub fn labor_day(year: i64) -> Option<Date>
-    ensures { IfSome result (λ d. d.year ≡ year) }
+    ensures { MatchOption result
+        ((date : Date) → ¬ (IsNthWeekday year 9 Weekday.Monday 1 date))
+        (λ date. IsNthWeekday year 9 Weekday.Monday 1 date) }
 {
     match nth_weekday_of_month(year, 9, Weekday::Monday, 1) {
         Some(date) => Some(date),
@@ -191,7 +252,9 @@ pub fn labor_day(year: i64) -> Option<Date>
 
 /// Returns the year and the number of the week of the date, or `None` if that year does not fit.
 pub fn week_of(date: &Date) -> Option<(i64, u8)>
-    ensures { IfSome result (λ r. IsInIsoWeek (number_of date.now) r.0 r.1) }
+    ensures { MatchOption result
+        ((year : ℤ) (week : ℕ) → IsInIsoWeek (number_of date.now) year week → ¬ (FitsSigned w64 year))
+        (λ r. IsInIsoWeek (number_of date.now) r.0 r.1) }
 {
     let IsoWeek { year, week } = date.iso_week()?;
     Some((year, week))
@@ -199,7 +262,10 @@ pub fn week_of(date: &Date) -> Option<(i64, u8)>
 
 /// Returns the Monday of the week, or `None` if the year has no such week or the year of the Monday does not fit.
 pub fn monday_of(week: IsoWeek) -> Option<Date>
-    ensures { IfSome result (λ d. IsDayOfIsoWeek (number_of d) week.year week.week Weekday.Monday) }
+    ensures { MatchOption result
+        ((day y : ℤ) → IsDayOfIsoWeek day week.year week.week Weekday.Monday → HasDay y day
+        → ¬ (FitsSigned w64 y))
+        (λ date. IsDayOfIsoWeek (number_of date) week.year week.week Weekday.Monday) }
 {
     match Date::from_iso_week(week.year, week.week, Weekday::Monday) {
         Some(date) => Some(date),
@@ -209,7 +275,7 @@ pub fn monday_of(week: IsoWeek) -> Option<Date>
 
 /// Returns `true` if the day is a Saturday or a Sunday.
 pub fn is_at_weekend(day: i64) -> bool
-    ensures { HasWeekday day Weekday.Sunday → IsTrue result }
+    ensures { IsTrue result ↔ (HasWeekday day Weekday.Saturday ⊎ HasWeekday day Weekday.Sunday) }
 {
     match weekday_of(day) {
         Weekday::Saturday | Weekday::Sunday => true,
@@ -221,19 +287,29 @@ pub fn is_at_weekend(day: i64) -> bool
     }
 }
 
-/// Returns the date of Thanksgiving, which is the fourth Thursday of November.
+/// Returns the date of Thanksgiving, the fourth Thursday of November, or `None` if no date is that Thursday.
 pub fn thanksgiving(year: i64) -> Option<Date>
-    ensures { IfSome result (λ date. HasWeekday (number_of date) Weekday.Thursday) }
+    ensures { MatchOption result
+        ((date : Date) → ¬ (IsNthWeekday year 11 Weekday.Thursday 4 date))
+        (λ date. IsNthWeekday year 11 Weekday.Thursday 4 date) }
 {
     nth_weekday_of_month(year, 11, Weekday::Thursday, 4)
 }
 
-/// Returns the last day of the month after that of the date, or `None` if its year does not fit.
+/// Returns the last day of the month after that of the date, or `None` if the year of that month does not fit.
 pub fn end_of_next_month(date: &Date) -> Option<Date>
-    ensures { IfSome result (λ end. IsDate end.year end.month end.day_of_month) }
+    ensures { MatchOption result
+        ((later : Date) → IsMonthsAfter date.now (pos 1) later → ¬ (FitsSigned w64 later.year))
+        (λ end. (month_number end.year end.month
+        ≡ month_number date.now.year date.now.month +ℤ pos 1)
+        × (end.day_of_month ≡ days_in_month end.year end.month)) }
 {
-    let next = date.plus_months(1)?;
-    Date::new(next.year, next.month, days_in_month(next.year, next.month))
+    let Date { year, month, .. } = date.plus_months(1)?;
+    Some(Date {
+        year,
+        month,
+        day_of_month: days_in_month(year, month),
+    })
 }
 
 /// Returns the last day of the month.
@@ -253,7 +329,8 @@ pub fn last_day_of_month(year: i64, month: u8) -> Date
 
 /// Returns the number of days in a year and the next one, or `None` for the year `i64::MAX`.
 pub fn days_of_two_years(year: i64) -> Option<u16>
-    ensures { IfSome result (λ days. 730 ≤ days × days ≤ 732) }
+    ensures { MatchOption result (year ≡ i64.MAX)
+        (λ days. days ≡ days_in_year year + days_in_year (year +ℤ pos 1)) }
 {
     let next = year.checked_add(1)?;
     Some(days_in_year(year) + days_in_year(next))
@@ -261,7 +338,9 @@ pub fn days_of_two_years(year: i64) -> Option<u16>
 
 /// Returns the age in months, or `None` if it does not fit.
 pub fn age_in_months(birth: &Date, today: &Date) -> Option<i64>
-    ensures { IfSome result (λ months. HasMonths birth.now today.now months) }
+    ensures { MatchOption result
+        ((months : ℤ) × IsMonthsBetween birth.now today.now months × ¬ (FitsSigned w64 months))
+        (λ months. IsMonthsBetween birth.now today.now months) }
 {
     match months_between(birth, today) {
         Some(months) => Some(months),
@@ -271,10 +350,22 @@ pub fn age_in_months(birth: &Date, today: &Date) -> Option<i64>
 
 /// Returns the same number of months. The date one month more after `birth` is later than `today`.
 pub fn whole_months_old(birth: &Date, today: &Date) -> Option<i64>
-    ensures { IfSome result (λ months. (date : Date)
-        → IsMonthsAfter birth.now (months +ℤ pos 1) date → number_of today.now <ℤ number_of date) }
+    ensures { MatchOption result
+        ((months : ℤ) × IsMonthsBetween birth.now today.now months × ¬ (FitsSigned w64 months))
+        (λ months. HasMonths birth.now today.now months
+        × ((date : Date) → IsMonthsAfter birth.now (months +ℤ pos 1) date
+        → number_of today.now <ℤ number_of date)) }
 {
     Some(months_between(birth, today)?)
+}
+
+/// Returns the age in years, or `None` if it does not fit.
+pub fn age_in_years(birth: &Date, today: &Date) -> Option<i64>
+    ensures { MatchOption result
+        ((years : ℤ) × IsYearsBetween birth.now today.now years × ¬ (FitsSigned w64 years))
+        (λ years. IsYearsBetween birth.now today.now years) }
+{
+    years_between(birth, today)
 }
 
 /// Returns the last Friday of a month. Each month has one.
@@ -298,7 +389,9 @@ pub fn next_pay_day(date: &Date) -> Option<Date>
 
 /// Returns the first pay day after the date, or the date itself if the year of that pay day does not fit.
 pub fn pay_day_or_same(date: &Date) -> Date
-    ensures { number_of date.now ≤ℤ number_of result }
+    ensures { IsNextLastWeekday date.now Friday result
+        ⊎ ((result ≡ date.now)
+        × ((next : Date) → IsNextLastWeekday date.now Friday next → ¬ (FitsSigned w64 next.year))) }
 {
     match next_last_weekday(date, Weekday::Friday) {
         Some(next) => next,
@@ -328,7 +421,9 @@ pub fn last_friday(year: i64, month: u8) -> Option<Date>
 
 /// Returns the last Sunday up to `day`, or `day` itself if that Sunday does not fit.
 pub fn sunday_on_or_before(day: i64) -> i64
-    ensures { result ≤ℤ day }
+    ensures { IsLastWeekday day Weekday.Sunday result
+        ⊎ ((result ≡ day)
+        × ((last : ℤ) → IsLastWeekday day Weekday.Sunday last → ¬ (FitsSigned w64 last))) }
 {
     match last_weekday_on_or_before(day, Weekday::Sunday) {
         Some(sunday) => sunday,
@@ -338,7 +433,8 @@ pub fn sunday_on_or_before(day: i64) -> i64
 
 /// Returns the day of the week with this ISO number, or Monday if there is none.
 pub fn weekday_or_monday(number: u8) -> Weekday
-    ensures { 1 ≤ number → number ≤ 7 → iso_number result ≡ number }
+    ensures weekday { 1 ≤ number → number ≤ 7 → iso_number result ≡ number }
+    ensures monday { ¬ ((1 ≤ number) × (number ≤ 7)) → result ≡ Weekday.Monday }
 {
     match Weekday::from_iso_number(number) {
         Some(weekday) => weekday,
@@ -348,14 +444,35 @@ pub fn weekday_or_monday(number: u8) -> Weekday
 
 /// Returns the number of weeks in the year after the week.
 pub fn weeks_left(week: &IsoWeek) -> u8
-    ensures { result ≤ 53 }
+    ensures { (weeks : ℕ) × HasIsoWeeks week.now.year weeks × (result ≡ weeks - week.now.week) }
 {
     weeks_in_year(week.year).saturating_sub(week.week)
 }
 
 /// Returns the number of days in the year after the date.
 pub fn days_left(date: &Date) -> u16
-    ensures { result < 366 }
+    ensures { result + year_day_of date.now ≡ days_in_year date.now.year }
 {
     days_in_year(date.year) - date.day_of_year()
+}
+
+/// Returns the ISO number of the day of the week of the date, which is 1 on Monday.
+pub fn weekday_number_of(date: &Date) -> u8
+    ensures { (weekday : Weekday) × HasWeekday (number_of date.now) weekday
+        × (result ≡ iso_number weekday) }
+{
+    date.weekday().iso_number()
+}
+
+/// Returns the Friday of the week, or `None` if its year does not fit.
+pub fn friday_of(week: &IsoWeek) -> Option<Date>
+    ensures { MatchOption result
+        ((day y : ℤ) → IsDayOfIsoWeek day week.now.year week.now.week Weekday.Friday → HasDay y day
+        → ¬ (FitsSigned w64 y))
+        (λ date. IsDayOfIsoWeek (number_of date) week.now.year week.now.week Weekday.Friday) }
+{
+    match week.date_on(Weekday::Friday) {
+        Some(friday) => Some(friday),
+        None => None,
+    }
 }

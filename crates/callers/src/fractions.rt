@@ -1,11 +1,14 @@
 //! Functions that call `ratio64`.
 
-ghost use Rattle.std.specs.Prelude.{◌≡◌, ◌≢◌, ◌<◌, ◌<ℤ◌, ◌+ℤ◌, ◌*ℤ◌, ◌^◌, Err, IfOk, IfSome, IsOk, Ok, neg_ℤ, pos, ℤ};
-ghost use Rattle.num_integer.specs.Division.{IsCeiled, IsFloored, IsQuotient};
+ghost use Rattle.std.specs.Prelude.{◌≡◌, ◌≢◌, ◌↔◌, ◌⊎◌, ◌<◌, ◌≤◌, ◌<ℤ◌, ◌+ℤ◌, ◌*ℤ◌, ◌^◌, Err, FitsSigned, IfErr, IfOk, IsOk, MatchOption, Ok, neg_ℤ, pos, unsigned_abs, ℤ};
+ghost use Rattle.std.specs.Int.{int_signum, w64};
+ghost use Rattle.num_integer.specs.Division.{IsCeiled, IsFloored, IsQuotient, IsRemainder, IsTruncated};
 ghost use Rattle.num_integer.specs.Divisors.{IsGreatestCommonDivisor};
+ghost use Rattle.num_integer.specs.Range.{EachFits};
 ghost use Rattle.ratio64.specs.Fraction.{IsExact, IsFraction, IsOutsideI64};
 ghost use Rattle.ratio64.specs.Ratio.{AnswersFraction, den_of, num_of};
-ghost use Rattle.ratio64.specs.Rounding.{IsRounded};
+ghost use Rattle.ratio64.specs.Rounding.{AnswersInParts, IsRounded};
+ghost use Rattle.ratio64.specs.declared.fraction.Ratio.{Ratio};
 
 use ratio64::{ParseRatioError, Ratio, RatioError};
 
@@ -26,12 +29,13 @@ pub fn parts_floor_and_ceil_of_minus_three_halves() -> Result<(i64, i64, i64, i6
     ensures parts { IfOk result (λ r. IsExact (pos 6) (neg_ℤ (pos 4)) r.0 r.1) }
     ensures floor { IfOk result (λ r. IsQuotient IsFloored r.0 r.1 r.2) }
     ensures ceil { IfOk result (λ r. IsQuotient IsCeiled r.0 r.1 r.3) }
+    ensures outside { IfErr result (λ _. IsOutsideI64 (pos 6) (neg_ℤ (pos 4))) }
 {
     let x = Ratio::new(6, -4)?; // -3/2
     Ok((x.num(), x.den(), x.floor(), x.ceil())) // (-3, 2, -2, -1)
 }
 
-/// Returns the sum of three fractions. `?` passes each error on.
+/// Adds three fractions. `?` passes each error on, which is never `ZeroDenominator`.
 pub fn sum_of_three(x: &Ratio, y: &Ratio, z: &Ratio) -> Result<Ratio, RatioError>
     ensures { result ≢ Err RatioError.ZeroDenominator }
 {
@@ -40,9 +44,9 @@ pub fn sum_of_three(x: &Ratio, y: &Ratio, z: &Ratio) -> Result<Ratio, RatioError
 
 /// Returns 1 if the denominator is 0, 2 if a part of the exact result does not fit, and 0 if there is no error.
 pub fn error_number(num: i64, den: i64) -> u32
-    ensures zero { result ≡ 1 → den ≡ pos 0 }
-    ensures outside { result ≡ 2 → IsOutsideI64 num den }
-    ensures none { result ≡ 0 → IsFraction num den }
+    ensures zero { (result ≡ 1) ↔ (den ≡ pos 0) }
+    ensures outside { (result ≡ 2) ↔ IsOutsideI64 num den }
+    ensures at_most { result ≤ 2 }
 {
     match Ratio::new(num, den) {
         Ok(_) => 0,
@@ -53,7 +57,11 @@ pub fn error_number(num: i64, den: i64) -> u32
 
 /// Returns the quotient, or 0 if the divisor is 0. Returns an error if the quotient does not fit.
 pub fn quotient_or_zero(x: &Ratio, y: &Ratio) -> Result<Ratio, RatioError>
-    ensures { result ≢ Err RatioError.ZeroDenominator }
+    ensures quotient { num_of y.now ≢ pos 0 → AnswersFraction (num_of x.now *ℤ den_of y.now)
+        (num_of y.now *ℤ den_of x.now) result }
+    ensures zero { num_of y.now ≡ pos 0
+        → ((zero : Ratio) × (result ≡ Ok zero) × (num_of zero ≡ pos 0)) }
+    ensures error { result ≢ Err RatioError.ZeroDenominator }
 {
     match x.checked_div(y) {
         Err(RatioError::ZeroDenominator) => Ok(Ratio::zero()),
@@ -61,7 +69,7 @@ pub fn quotient_or_zero(x: &Ratio, y: &Ratio) -> Result<Ratio, RatioError>
     }
 }
 
-/// Returns the sum of the fractions, or an error if a partial sum does not fit.
+/// Adds the fractions one after the other. `?` passes each error on, which is never `ZeroDenominator`.
 pub fn total(fractions: &[Ratio]) -> Result<Ratio, RatioError>
     ensures { result ≢ Err RatioError.ZeroDenominator }
 {
@@ -98,7 +106,8 @@ pub fn negation_above_min(x: &Ratio) -> Ratio
 /// Returns the magnitude of a fraction whose numerator is greater than `i64::MIN`. It is not an error.
 pub fn magnitude_above_min(x: &Ratio) -> Result<Ratio, RatioError>
     requires { neg_ℤ (pos (2 ^ 63)) <ℤ num_of x.now }
-    ensures { IsOk result }
+    ensures ok { IsOk result }
+    ensures magnitude { AnswersFraction (pos (unsigned_abs (num_of x.now))) (den_of x.now) result }
 {
     let magnitude = x.checked_abs()?;
     Ok(magnitude)
@@ -106,7 +115,9 @@ pub fn magnitude_above_min(x: &Ratio) -> Result<Ratio, RatioError>
 
 /// Returns the reciprocal of the fraction, or 0 if the fraction is not positive.
 pub fn reciprocal_or_zero(x: &Ratio) -> Ratio
-    ensures { pos 0 <ℤ num_of x.now → IsExact (den_of x.now) (num_of x.now) (num_of result) (den_of result) }
+    ensures reciprocal { pos 0 <ℤ num_of x.now
+        → IsExact (den_of x.now) (num_of x.now) (num_of result) (den_of result) }
+    ensures zero { ¬ (pos 0 <ℤ num_of x.now) → num_of result ≡ pos 0 }
 {
     if !x.is_positive() {
         return Ratio::zero();
@@ -150,7 +161,9 @@ pub fn aspect_ratio(width: u32, height: u32) -> Ratio
 
 /// Returns the share of an amount, rounded down and rounded up, or `None` if one of the two does not fit.
 pub fn share_rounded_both_ways(share: &Ratio, amount: i64) -> Option<(i64, i64)>
-    ensures { IfSome result
+    ensures { MatchOption result
+        (¬ (EachFits (FitsSigned w64) (IsQuotient IsFloored (num_of share.now *ℤ amount) (den_of share.now))
+        × EachFits (FitsSigned w64) (IsQuotient IsCeiled (num_of share.now *ℤ amount) (den_of share.now))))
         (λ p. IsQuotient IsFloored (num_of share.now *ℤ amount) (den_of share.now) p.0
         × IsQuotient IsCeiled (num_of share.now *ℤ amount) (den_of share.now) p.1) }
 {
@@ -163,9 +176,47 @@ pub fn share_rounded_both_ways(share: &Ratio, amount: i64) -> Option<(i64, i64)>
 /// Returns a price with its tax, which is rounded, or `None` if the tax or the sum does not fit. The tax is the price
 /// times the rate.
 pub fn with_tax(price: i64, rate: &Ratio) -> Option<i64>
-    ensures { IfSome result (λ total. (tax : ℤ)
-        × IsRounded (num_of rate.now *ℤ price) (den_of rate.now) tax × (total ≡ price +ℤ tax)) }
+    ensures { MatchOption result
+        ((¬ (EachFits (FitsSigned w64) (IsRounded (num_of rate.now *ℤ price) (den_of rate.now))))
+        ⊎ ((tax : ℤ) × IsRounded (num_of rate.now *ℤ price) (den_of rate.now) tax
+        × ¬ (FitsSigned w64 (price +ℤ tax))))
+        (λ total. (tax : ℤ) × IsRounded (num_of rate.now *ℤ price) (den_of rate.now) tax
+        × (total ≡ price +ℤ tax)) }
 {
     let tax = rate.round_times(price)?;
     price.checked_add(tax)
+}
+
+// ---- fractions, rounded
+
+/// Returns the whole part of a fraction, which is rounded toward 0, and the rest.
+pub fn whole_and_rest(x: &Ratio) -> (i64, Ratio)
+    ensures whole { IsQuotient IsTruncated (num_of x.now) (den_of x.now) result.0 }
+    ensures num { IsRemainder IsTruncated (num_of x.now) (den_of x.now) (num_of result.1) }
+    ensures den { den_of result.1 ≡ den_of x.now }
+{
+    (x.trunc(), x.fract())
+}
+
+/// Returns the nearest integer and the sign of a fraction.
+pub fn nearest_and_sign(x: &Ratio) -> (i64, i64)
+    ensures nearest { IsRounded (num_of x.now) (den_of x.now) result.0 }
+    ensures sign { result.1 ≡ int_signum (num_of x.now) }
+{
+    (x.round(), x.signum().num())
+}
+
+/// Returns a price in whole cents: the fraction rounded down to hundredths. Returns an error if its parts do not fit.
+pub fn whole_cents(price: &Ratio) -> Result<Ratio, RatioError>
+    ensures { AnswersInParts (IsQuotient IsFloored (num_of price.now *ℤ pos 100) (den_of price.now))
+        (pos 100) result }
+{
+    price.floor_to(100)
+}
+
+/// Returns the nearest number of tenths. Returns an error if its parts do not fit.
+pub fn nearest_tenths(x: &Ratio) -> Result<Ratio, RatioError>
+    ensures { AnswersInParts (IsRounded (num_of x.now *ℤ pos 10) (den_of x.now)) (pos 10) result }
+{
+    x.round_to(10)
 }

@@ -14,8 +14,8 @@
 //! | `dates.rt` | `calendar`: dates, days of the week, weeks, months |
 //! | `pages.rt` | `applied`: pages and parts, shares, offsets, schedules |
 //! | `combinations.rt` | `applied`: combinations and their ranks |
-//! | `lists.rt` | `applied`: multiples of lists, reduced pairs |
-//! | `rounding.rt` | `applied`: nearest quotients, roots with their remainder, logarithms, factorials |
+//! | `lists.rt` | `applied`: multiples of lists, reduced pairs, a rolling hash |
+//! | `rounding.rt` | `applied`: nearest quotients, roots, powers, logarithms, midpoints, factorials |
 //! | `tasks.rt` | everyday tasks: pages of items, a cipher, amounts of money, a recipe |
 //!
 //! Most functions have no proof file: the prover's search proves them from the contracts of what they call. The proof file of

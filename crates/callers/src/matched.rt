@@ -1,8 +1,8 @@
 //! Functions that match on the result of a call of `num_integer`. Each is at a native type and has no proof file.
 
-ghost use Rattle.std.specs.Prelude.{◌≡◌, ◌≢◌, ◌-◌, ◌*◌, ◌<◌, ◌≤◌, ◌<ℤ◌, ◌≤ℤ◌, ◌+ℤ◌, ◌-ℤ◌, ◌*ℤ◌, FitsSigned, IfSome, MatchOption, min, neg_ℤ, pos};
-ghost use Rattle.std.specs.Int.{w64};
-ghost use Rattle.num_integer.specs.Bezout.{IsBezoutAnswer};
+ghost use Rattle.std.specs.Prelude.{◌≡◌, ◌≢◌, ◌-◌, ◌*◌, ◌<◌, ◌≤◌, ◌<ℤ◌, ◌≤ℤ◌, ◌+ℤ◌, ◌-ℤ◌, ◌*ℤ◌, FitsSigned, MatchOption, min, neg_ℤ, pos};
+ghost use Rattle.std.specs.Int.{FitsUnsignedBits, w64};
+ghost use Rattle.num_integer.specs.Bezout.{HasPair, IsBezoutAnswer};
 ghost use Rattle.num_integer.specs.Division.{IsCeiled, IsFloored, IsMultiple, IsQuotient, IsRemainder, IsTruncated};
 ghost use Rattle.num_integer.specs.Divisors.{IsGreatestCommonDivisor, IsLeastCommonMultiple};
 ghost use Rattle.num_integer.specs.Range.{EachFits};
@@ -13,15 +13,20 @@ use num_integer::{ExtendedGcd, checked};
 /// Returns the quotient rounded toward 0 and the remainder, or `None` if the divisor is 0 or the quotient does not
 /// fit.
 pub fn shared_out(n: i64, d: i64) -> Option<(i64, i64)>
-    ensures { IfSome result (λ r. IsQuotient IsTruncated n d r.0 × (n ≡ r.0 *ℤ d +ℤ r.1)) }
+    ensures { MatchOption result
+        (¬ ((d ≢ pos 0) × EachFits (FitsSigned w64) (IsQuotient IsTruncated n d)))
+        (λ r. IsQuotient IsTruncated n d r.0 × (n ≡ r.0 *ℤ d +ℤ r.1)) }
 {
-    let (quotient, rest) = checked::div_rem(n, d)?;
+    let Some((quotient, rest)) = checked::div_rem(n, d) else {
+        return None;
+    };
     Some((quotient, rest))
 }
 
 /// Returns the number of pages, or 0 if a page has no items.
 pub fn pages(items: u32, page_size: u32) -> u32
-    ensures { page_size ≢ 0 → IsQuotient IsCeiled (pos items) (pos page_size) (pos result) }
+    ensures pages { page_size ≢ 0 → IsQuotient IsCeiled (pos items) (pos page_size) (pos result) }
+    ensures none { page_size ≡ 0 → result ≡ 0 }
 {
     match checked::div_ceil(items, page_size) {
         Some(pages) => pages,
@@ -31,7 +36,8 @@ pub fn pages(items: u32, page_size: u32) -> u32
 
 /// Returns the previous multiple, or the number itself if the divisor is 0.
 pub fn rounded_down(n: u64, d: u64) -> u64
-    ensures { d ≢ 0 → IsMultiple IsFloored (pos n) (pos d) (pos result) }
+    ensures multiple { d ≢ 0 → IsMultiple IsFloored (pos n) (pos d) (pos result) }
+    ensures same { d ≡ 0 → result ≡ n }
 {
     if let Some(multiple) = checked::prev_multiple_of(n, d) {
         multiple
@@ -116,8 +122,10 @@ pub fn divisor_and_multiple(a: i64, b: i64) -> Option<(i64, i64)>
 /// Returns the greatest common divisor with its Bezout pair and the least common multiple, or `None` if one of them
 /// does not fit.
 pub fn pair_and_multiple(a: i64, b: i64) -> Option<(ExtendedGcd<i64>, i64)>
-    ensures { IfSome result (λ r. IsBezoutAnswer a b r.0.gcd r.0.x r.0.y
-        × IsLeastCommonMultiple a b r.1) }
+    ensures { MatchOption result
+        (¬ (EachFits (FitsSigned w64) (IsGreatestCommonDivisor a b) × HasPair (FitsSigned w64) a b
+        × EachFits (FitsSigned w64) (IsLeastCommonMultiple a b)))
+        (λ r. IsBezoutAnswer a b r.0.gcd r.0.x r.0.y × IsLeastCommonMultiple a b r.1) }
 {
     checked::extended_gcd_lcm(a, b)
 }
@@ -155,7 +163,8 @@ pub fn product_or_max(a: u32, b: u32) -> u32
 
 /// Returns the negation, or `i8::MAX` if it does not fit.
 pub fn negation_or_max(x: i8) -> i8
-    ensures { i8.MIN <ℤ x → result ≡ neg_ℤ x }
+    ensures negation { i8.MIN <ℤ x → result ≡ neg_ℤ x }
+    ensures max { x ≡ i8.MIN → result ≡ i8.MAX }
 {
     if let Some(negation) = checked::negated(x) {
         negation
@@ -167,15 +176,22 @@ pub fn negation_or_max(x: i8) -> i8
 /// Returns the share of an amount at a rate, rounded down, or `None` if `whole` is 0 or the share does not fit. The
 /// product need not fit.
 pub fn share(amount: i64, rate: i64, whole: i64) -> Option<i64>
-    ensures { IfSome result (λ q. IsQuotient IsFloored (amount *ℤ rate) whole q) }
+    ensures { MatchOption result
+        (¬ ((whole ≢ pos 0) × EachFits (FitsSigned w64) (IsQuotient IsFloored (amount *ℤ rate) whole)))
+        (λ q. IsQuotient IsFloored (amount *ℤ rate) whole q) }
 {
-    let (share, _) = checked::product_div_mod_floor(amount, rate, whole)?;
+    let Some((share, _)) = checked::product_div_mod_floor(amount, rate, whole) else {
+        return None;
+    };
     Some(share)
 }
 
 /// Returns the same at an unsigned type, with the remainder.
 pub fn share_and_rest(amount: u64, rate: u64, whole: u64) -> Option<(u64, u64)>
-    ensures { IfSome result (λ r. pos amount *ℤ pos rate ≡ pos r.0 *ℤ pos whole +ℤ pos r.1) }
+    ensures { MatchOption result
+        (¬ ((whole ≢ 0)
+        × EachFits (FitsUnsignedBits 64) (IsQuotient IsFloored (pos amount *ℤ pos rate) (pos whole))))
+        (λ r. IsFloored (pos amount *ℤ pos rate) (pos whole) (pos r.0) (pos r.1)) }
 {
     checked::product_div_mod_floor(amount, rate, whole)
 }

@@ -1,12 +1,17 @@
 //! Functions that call `applied` for pages and parts, shares, offsets and schedules.
 
-ghost use Rattle.std.specs.Prelude.{◌≡◌, ◌<◌, ◌≤◌, ◌+◌, ◌*◌, ◌≤ℤ◌, ◌<ℤ◌, ◌+ℤ◌, ◌*ℤ◌, EachIndex, IfSome, IsFalse, IsTrue, length, min, pos, slice_index, sum, ℤ};
+ghost use Rattle.std.specs.Prelude.{◌≡◌, ◌↔◌, ◌⊎◌, ◌<◌, ◌≤◌, ◌+◌, ◌*◌, ◌∷◌, [], ◌≤ℤ◌, ◌<ℤ◌, ◌+ℤ◌, ◌*ℤ◌, EachIndex, FitsSigned, IsFalse, IsTrue, MatchOption, length, min, pos, slice_index, sum, ℤ};
+ghost use Rattle.std.specs.Int.{FitsUnsignedBits, w64};
+ghost use Rattle.num_integer.specs.Divisors.{Divides};
 ghost use Rattle.num_integer.specs.Least.{IsLeastFrom};
+ghost use Rattle.num_integer.specs.Range.{EachFits};
+ghost use Rattle.applied.specs.Layout.{IsAlignedUp};
+ghost use Rattle.applied.specs.Paging.{IsPlace, IsRangeOfPart};
 ghost use Rattle.applied.specs.Schedules.{IsMeeting};
-ghost use Rattle.applied.specs.Shares.{IsNearShare, signed_sum};
+ghost use Rattle.applied.specs.Shares.{AreShares, AreSignedShares, IsNearShare, signed_sum};
 
-use applied::layout::align_up;
-use applied::paging::item_at;
+use applied::layout::{align_up, padding};
+use applied::paging::{item_at, place_of, range_of_part};
 use applied::schedules::{Schedule, next_meeting};
 use applied::shares::{shares, signed_shares};
 use modular::CommonSolution;
@@ -17,9 +22,13 @@ use modular::CommonSolution;
 pub fn item_on_page_of_ten(page: i64, place: i64) -> Option<i64>
     requires from_zero { pos 0 ≤ℤ place }
     requires below { place <ℤ pos 10 }
-    ensures { IfSome result (λ item. item ≡ page *ℤ pos 10 +ℤ place) }
+    ensures { MatchOption result
+        (¬ (EachFits (FitsSigned w64) (λ item. IsPlace item (pos 10) page place)))
+        (λ item. item ≡ page *ℤ pos 10 +ℤ place) }
 {
-    let item = item_at(page, place, 10)?;
+    let Some(item) = item_at(page, place, 10) else {
+        return None;
+    };
     Some(item)
 }
 
@@ -43,6 +52,23 @@ pub fn item_that_fits(page: u8, place: u8) -> u8
     item_at(page, place, 16).unwrap()
 }
 
+/// Returns the row and the place in the row of a seat. Seats, rows and places are counted from 0.
+pub fn row_and_place(seat: u32, row_size: u32) -> (u32, u32)
+    requires { 0 < row_size }
+    ensures seat { seat ≡ result.0 * row_size + result.1 }
+    ensures within { result.1 < row_size }
+{
+    place_of(seat, row_size)
+}
+
+/// Returns the first item of a part and the end of the part. Items and parts are counted from 0.
+pub fn items_of_part(part: usize, parts: usize, items: usize) -> (usize, usize)
+    requires { part < parts }
+    ensures { IsRangeOfPart (pos part) (pos parts) (pos items) (pos result.0) (pos result.1) }
+{
+    range_of_part(part, parts, items)
+}
+
 // ---- shares
 
 /// Splits a bill by weights. The parts add up to the bill, and each differs by less than 1 from its exact share.
@@ -58,27 +84,31 @@ pub fn split_by_weights(cents: u64, weights: &[u64], parts: &mut [u64])
 
 /// Returns the budgets of three teams of five, three and two people. They add up to `cents`.
 pub fn budgets(cents: u64) -> [u64; 3]
-    ensures { sum result ≡ cents }
+    ensures shares { AreShares cents (5 ∷ 3 ∷ 2 ∷ []) result }
+    ensures whole { sum result ≡ cents }
 {
     let mut budgets = [0; 3];
     shares(cents, &[5, 3, 2], &mut budgets);
     budgets
 }
 
-/// Splits a bill by weights that may all be 0. Returns `false` if they are.
+/// Splits a bill by weights that may all be 0. Returns `false` and writes nothing if they are.
 pub fn split_by_any_weights(cents: u64, weights: &[u64], parts: &mut [u64]) -> bool
     requires { length parts.old ≡ length weights.now }
-    ensures whole { IsTrue result → sum parts.new ≡ cents }
-    ensures nobody { IsFalse result → sum weights.now ≡ 0 }
+    ensures somebody { IsTrue result ↔ (0 < sum weights.now) }
+    ensures shares { IsTrue result → AreShares cents weights.now parts.new }
+    ensures unchanged { IsFalse result → parts.new ≡ parts.old }
 {
     shares(cents, weights, parts)
 }
 
-/// Splits a refund by weights that may all be 0. Returns `false` if they are.
+/// Splits a refund by weights that may all be 0. Returns `false` and writes nothing if they are.
 pub fn refund_by_weights(cents: i64, weights: &[u64], parts: &mut [i64]) -> bool
     requires { length parts.old ≡ length weights.now }
+    ensures somebody { IsTrue result ↔ (0 < sum weights.now) }
+    ensures shares { IsTrue result → AreSignedShares cents weights.now parts.new }
     ensures whole { IsTrue result → signed_sum parts.new ≡ cents }
-    ensures nobody { IsFalse result → sum weights.now ≡ 0 }
+    ensures unchanged { IsFalse result → parts.new ≡ parts.old }
 {
     signed_shares(cents, weights, parts)
 }
@@ -88,12 +118,24 @@ pub fn refund_by_weights(cents: i64, weights: &[u64], parts: &mut [i64]) -> bool
 /// Returns the aligned offset, or the offset itself if the aligned one does not fit.
 pub fn aligned(offset: u32, alignment: u32) -> u32
     requires { 0 < alignment }
-    ensures { pos offset ≤ℤ pos result }
+    ensures { IsAlignedUp (pos offset) (pos alignment) (pos result)
+        ⊎ ((result ≡ offset)
+        × ((aligned : ℤ) → IsAlignedUp (pos offset) (pos alignment) aligned
+        → ¬ (FitsUnsignedBits 32 aligned))) }
 {
     match align_up(offset, alignment) {
         Some(aligned) => aligned,
         None => offset,
     }
+}
+
+/// Returns the number of bytes between the offset and the next aligned one.
+pub fn bytes_to_add(offset: u64, alignment: u64) -> u64
+    requires { 0 < alignment }
+    ensures below { result < alignment }
+    ensures aligned { Divides (pos alignment) (pos (offset + result)) }
+{
+    padding(offset, alignment)
 }
 
 /// Returns the time of the next meeting and the time until then. Returns `None` if there is no next meeting or its
@@ -105,9 +147,14 @@ pub fn next_meeting_and_wait(
 ) -> Option<(u32, u32)>
     requires first { 0 < first.1 }
     requires second { 0 < second.1 }
-    ensures next { IfSome result (λ r. IsLeastFrom (pos now)
-        (IsMeeting (pos first.0) (pos first.1) (pos second.0) (pos second.1)) (pos r.0)) }
-    ensures wait { IfSome result (λ r. now + r.1 ≡ r.0) }
+    ensures { MatchOption result
+        (((t : ℤ) → ¬ (IsMeeting (pos first.0) (pos first.1) (pos second.0) (pos second.1) t))
+        ⊎ ((t : ℤ) × IsLeastFrom (pos now)
+        (IsMeeting (pos first.0) (pos first.1) (pos second.0) (pos second.1)) t
+        × ¬ (FitsUnsignedBits 32 t)))
+        (λ r. IsLeastFrom (pos now)
+        (IsMeeting (pos first.0) (pos first.1) (pos second.0) (pos second.1)) (pos r.0)
+        × (now + r.1 ≡ r.0)) }
 {
     match next_meeting(now, first, second) {
         CommonSolution::At(time) => Some((time, time - now)),

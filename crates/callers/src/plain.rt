@@ -1,7 +1,7 @@
 //! Functions that call `num_integer` at native types. A plain fact on the arguments meets the condition of most
 //! calls. The clauses of the last functions are in words of the caller, and a lemma for callers proves each.
 
-ghost use Rattle.std.specs.Prelude.{◌≡◌, ◌≢◌, ◌↔◌, ◌<◌, ◌%◌, ◌≤ℤ◌, ◌<ℤ◌, ◌+◌, ◌*◌, ◌/◌, ◌≤◌, IfSome, IsTrue, MatchOption, pos, ℕ};
+ghost use Rattle.std.specs.Prelude.{◌≡◌, ◌≢◌, ◌↔◌, ◌<◌, ◌%◌, ◌≤ℤ◌, ◌<ℤ◌, ◌+◌, ◌*◌, ◌/◌, ◌≤◌, IsTrue, IfSome, MatchOption, pos, ℕ};
 ghost use Rattle.std.specs.Int.{FitsUnsignedBits};
 ghost use Rattle.num_integer.specs.Bezout.{IsBezoutAnswer};
 ghost use Rattle.num_integer.specs.Division.{IsCeiled, IsFloored, IsMultiple, IsQuotient};
@@ -10,7 +10,7 @@ ghost use Rattle.num_integer.specs.Range.{EachFits};
 ghost use Rattle.num_integer.specs.RootOf.{IsRoot};
 ghost use Rattle.num_integer.specs.Row.{row_of};
 
-use num_integer::{ExtendedGcd, Integer, IterBinomial, binomial, checked, lcm};
+use num_integer::{ExtendedGcd, Fits, Integer, IterBinomial, Roots, binomial, checked, lcm};
 
 /// Returns the quotient by a positive number, which always fits.
 pub fn quotient_by_positive(n: i64, d: i64) -> i64
@@ -149,8 +149,8 @@ pub fn row_of_three() -> IterBinomial<u8>
     IterBinomial::new(3)
 }
 
-/// Returns the greatest common divisor of two numbers, or `None` if one of three calls returns `None` or the product
-/// is `a`.
+/// Returns the greatest common divisor of two numbers, or `None`. The contract does not say when: three calls pass their
+/// `None` on by `?`.
 pub fn divisor_after_three_calls(a: i64, b: i64) -> Option<i64>
     ensures { IfSome result (λ g. IsGreatestCommonDivisor a b g) }
 {
@@ -207,11 +207,12 @@ pub fn side_of_square(tiles: u64) -> u64
     tiles.sqrt()
 }
 
-/// Returns the side of the largest tile that fills a room. Each side of the room is at most 100.
+/// Returns the side of the largest tile that fills a room, which is at most 100 as each side of the room is.
 pub fn tile(width: u64, length: u64) -> u64
     requires width { width ≤ 100 }
     requires length { length ≤ 100 }
-    ensures { result ≤ 100 }
+    ensures greatest { IsGreatestCommonDivisor (pos width) (pos length) (pos result) }
+    ensures small { result ≤ 100 }
 {
     width.gcd(&length)
 }

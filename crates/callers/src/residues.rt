@@ -1,9 +1,14 @@
 //! Functions that call `modular`.
 
-ghost use Rattle.std.specs.Prelude.{◌≡◌, ◌<◌, ◌≤ℤ◌, ◌+ℤ◌, Some, pos, ℤ};
-ghost use Rattle.modular.specs.Congruences.{IsInverse, IsResidue};
+ghost use Rattle.std.specs.Prelude.{◌≡◌, ◌⊎◌, ◌<◌, ◌≤◌, ◌<ℤ◌, ◌+ℤ◌, ◌-ℤ◌, ◌*ℤ◌, FitsSigned, MatchOption, neg_ℤ, pos, ℤ};
+ghost use Rattle.std.specs.Int.{FitsUnsignedBits, int_pow, w64};
+ghost use Rattle.modular.specs.CommonSolutions.{MatchCommonSolution};
+ghost use Rattle.modular.specs.Congruences.{IsCountOfCongruent, IsInverse, IsNextCommonSolution, IsNextCongruent, IsPreviousCongruent, IsQuotientModulo, IsReducedModulus, IsResidue, IsResidueClass, Solves, SolvesBothCongruences};
 
-use modular::{inverse_modulo, next_congruent, previous_congruent, sum_modulo};
+use modular::{
+    CommonSolution, checked, inverse_modulo, negation_modulo, next_congruent, power_modulo,
+    previous_congruent, product_modulo, sum_modulo,
+};
 
 // ---- results that are known in advance
 
@@ -21,6 +26,7 @@ pub fn inverse_or_modulus(a: u64, m: u64) -> u64
     requires { 0 < m }
     ensures inverse { result < m → IsInverse (pos a) (pos m) (pos result) }
     ensures none { result ≡ m → (x : ℤ) → ¬ (IsInverse (pos a) (pos m) x) }
+    ensures at_most { result ≤ m }
 {
     match inverse_modulo(a, m) {
         Some(inverse) => inverse,
@@ -31,7 +37,10 @@ pub fn inverse_or_modulus(a: u64, m: u64) -> u64
 /// Returns the next time from `now` on, or `u64::MAX` if that time does not fit.
 pub fn next_time(now: u64, first: u64, period: u64) -> u64
     requires { 0 < period }
-    ensures { pos now ≤ℤ pos result }
+    ensures { IsNextCongruent (pos now) (pos first) (pos period) (pos result)
+        ⊎ ((result ≡ u64.MAX)
+        × ((t : ℤ) × IsNextCongruent (pos now) (pos first) (pos period) t
+        × ¬ (FitsUnsignedBits 64 t))) }
 {
     match next_congruent(now, first, period) {
         Some(time) => time,
@@ -42,10 +51,149 @@ pub fn next_time(now: u64, first: u64, period: u64) -> u64
 /// Returns the last time up to `now`, or 0 if there is none from 0 on.
 pub fn last_time_up_to(now: u64, first: u64, period: u64) -> u64
     requires { 0 < period }
-    ensures { pos result ≤ℤ pos now }
+    ensures { IsPreviousCongruent (pos now) (pos first) (pos period) (pos result)
+        ⊎ ((result ≡ 0)
+        × ((t : ℤ) × IsPreviousCongruent (pos now) (pos first) (pos period) t
+        × ¬ (FitsUnsignedBits 64 t))) }
 {
     match previous_congruent(now, first, period) {
         Some(time) => time,
         None => 0,
+    }
+}
+
+/// Returns the product and the power modulo `m`.
+pub fn product_and_power(a: u64, b: u64, m: u64) -> (u64, u64)
+    requires { 0 < m }
+    ensures product { IsResidue (pos m) (pos a *ℤ pos b) (pos result.0) }
+    ensures power { IsResidue (pos m) (int_pow (pos a) b) (pos result.1) }
+{
+    (product_modulo(a, b, m), power_modulo(a, u128::from(b), m))
+}
+
+/// Returns the angle of the opposite turn, in degrees.
+pub fn opposite_angle(degrees: u16) -> u16
+    ensures { IsResidue (pos 360) (neg_ℤ (pos degrees)) (pos result) }
+{
+    negation_modulo(degrees, 360)
+}
+
+// ---- calls of `checked`, whose modulus may be any number
+
+/// Returns the residue, or -1 if the modulus is not positive.
+pub fn residue_or_minus_one(a: i64, m: i64) -> i64
+    ensures residue { pos 0 <ℤ m → IsResidue m a result }
+    ensures less { ¬ (pos 0 <ℤ m) → result ≡ neg_ℤ (pos 1) }
+{
+    match checked::residue(a, m) {
+        Some(residue) => residue,
+        None => -1,
+    }
+}
+
+/// Returns the sum and the difference modulo `m`, or `None` if `m` is 0.
+pub fn sum_and_difference(a: u32, b: u32, m: u32) -> Option<(u32, u32)>
+    ensures { MatchOption result (m ≡ 0)
+        (λ r. IsResidue (pos m) (pos a +ℤ pos b) (pos r.0)
+        × IsResidue (pos m) (pos a -ℤ pos b) (pos r.1)) }
+{
+    let sum = checked::sum_modulo(a, b, m)?;
+    let difference = checked::difference_modulo(a, b, m)?;
+    Some((sum, difference))
+}
+
+/// Returns the negation modulo `m`, or `None` if `m` is not positive.
+pub fn negation_or_none(a: i8, m: i8) -> Option<i8>
+    ensures { MatchOption result (¬ (pos 0 <ℤ m)) (λ r. IsResidue m (neg_ℤ a) r) }
+{
+    checked::negation_modulo(a, m)
+}
+
+/// Returns the product modulo `m`, or 0 if `m` is 0.
+pub fn product_or_zero(a: u64, b: u64, m: u64) -> u64
+    ensures product { 0 < m → IsResidue (pos m) (pos a *ℤ pos b) (pos result) }
+    ensures zero { m ≡ 0 → result ≡ 0 }
+{
+    checked::product_modulo(a, b, m).unwrap_or(0)
+}
+
+/// Returns the power modulo `m`, or `None` if `m` is 0.
+pub fn power_or_none(a: u64, exponent: u128, m: u64) -> Option<u64>
+    ensures { MatchOption result (m ≡ 0) (λ r. IsResidue (pos m) (int_pow (pos a) exponent) (pos r)) }
+{
+    let power = checked::power_modulo(a, exponent, m)?;
+    Some(power)
+}
+
+/// Returns the inverse modulo `m`, or `None` if there is none or `m` is 0.
+pub fn inverse_or_none(a: u32, m: u32) -> Option<u32>
+    ensures { MatchOption result ((x : ℤ) → ¬ (IsInverse (pos a) (pos m) x))
+        (λ x. IsInverse (pos a) (pos m) (pos x)) }
+{
+    checked::inverse_modulo(a, m)
+}
+
+/// Returns a quotient modulo `m`, or `None` if the divisor has no inverse or `m` is not positive.
+pub fn quotient_or_none(a: i64, b: i64, m: i64) -> Option<i64>
+    ensures { MatchOption result ((x : ℤ) → ¬ (IsInverse b m x)) (λ x. IsQuotientModulo a b m x) }
+{
+    match checked::quotient_modulo(a, b, m) {
+        Some(quotient) => Some(quotient),
+        None => None,
+    }
+}
+
+/// Returns the smallest solution of a congruence that is not negative and the step to the next one, or `None` if there
+/// is no solution or `m` is not positive.
+pub fn solutions_or_none(a: i64, b: i64, m: i64) -> Option<(i64, i64)>
+    ensures { MatchOption result (pos 0 <ℤ m → (x : ℤ) → ¬ (Solves a b m x))
+        (λ s. (pos 0 <ℤ m) × IsResidueClass (Solves a b m) s.0 s.1) }
+{
+    checked::solutions(a, b, m)
+}
+
+/// Returns the last time before `now` or at `now`, or `None` if it does not fit or the period is not positive.
+pub fn last_time(now: i64, first: i64, period: i64) -> Option<i64>
+    ensures { MatchOption result
+        (pos 0 <ℤ period → ((t : ℤ) × IsPreviousCongruent now first period t × ¬ (FitsSigned w64 t)))
+        (λ last. IsPreviousCongruent now first period last) }
+{
+    let last = checked::previous_congruent(now, first, period)?;
+    Some(last)
+}
+
+/// Returns the next time from `now` on, or `None` if it does not fit or the period is not positive.
+pub fn next_time_or_none(now: i64, first: i64, period: i64) -> Option<i64>
+    ensures { MatchOption result
+        (pos 0 <ℤ period → ((t : ℤ) × IsNextCongruent now first period t × ¬ (FitsSigned w64 t)))
+        (λ next. IsNextCongruent now first period next) }
+{
+    checked::next_congruent(now, first, period)
+}
+
+/// Returns the number of times in `from..=to`, or 0 if the period is 0.
+pub fn count_of_times(from: u64, to: u64, first: u64, period: u64) -> u64
+    ensures count { 0 < period
+        → (IsCountOfCongruent (pos from) (pos to) (pos first) (pos period) (pos result)
+        ⊎ ((n : ℤ) × IsCountOfCongruent (pos from) (pos to) (pos first) (pos period) n
+        × ¬ (FitsUnsignedBits 64 n))) }
+    ensures zero { period ≡ 0 → result ≡ 0 }
+{
+    match checked::count_congruent(from, to, first, period) {
+        Some(count) => count,
+        None => 0,
+    }
+}
+
+/// Returns the next number that is `a` modulo `m` and `b` modulo `n`, or `Never` if a modulus is not positive.
+pub fn next_of_both(from: i64, a: i64, m: i64, b: i64, n: i64) -> CommonSolution<i64>
+    ensures { (pos 0 <ℤ m) × (pos 0 <ℤ n) → MatchCommonSolution result
+        ((x : ℤ) → ¬ (SolvesBothCongruences a m b n x))
+        ((t : ℤ) × IsNextCommonSolution from a m b n t × ¬ (FitsSigned w64 t))
+        (λ t. IsNextCommonSolution from a m b n t) }
+{
+    match checked::next_common_solution(from, a, m, b, n) {
+        Some(next) => next,
+        None => CommonSolution::Never,
     }
 }

@@ -1,16 +1,23 @@
-//! Functions that call `applied` on single numbers: nearest quotients, roots with their remainder, logarithms and
-//! factorials.
+//! Functions that call `applied` for nearest quotients, roots with their remainder, powers, logarithms, midpoints, the
+//! places of sorted items, and factorials.
 
-ghost use Rattle.std.specs.Prelude.{◌≡◌, ◌≢◌, ◌<◌, ◌≤◌, ◌+◌, ◌-◌, ◌*◌, ◌^◌, ◌<ℤ◌, IfSome, MatchOption, pos};
+ghost use Rattle.std.specs.Prelude.{◌≡◌, ◌≢◌, ◌↔◌, ◌<◌, ◌≤◌, ◌+◌, ◌*◌, ◌^◌, ◌≤ℤ◌, ◌<ℤ◌, ◌+ℤ◌, ◌-ℤ◌, ◌*ℤ◌, FitsSigned, IsTrue, MatchOption, length, pos, ℕ, ℤ};
+ghost use Rattle.std.specs.Int.{int_pow, w64};
+ghost use Rattle.std.specs.List.{AllWithin};
+ghost use Rattle.std.specs.List.Sorted.{IsSortedByKey};
+ghost use Rattle.std.specs.Ordering.{int_cmp};
 ghost use Rattle.num_integer.specs.Coefficient.{factorial};
-ghost use Rattle.num_integer.specs.Division.{IsQuotient};
+ghost use Rattle.num_integer.specs.Division.{IsFloored, IsQuotient};
+ghost use Rattle.num_integer.specs.Range.{EachFits};
 ghost use Rattle.applied.specs.Counting.{falling};
 ghost use Rattle.applied.specs.Powers.{IsLogarithm};
 ghost use Rattle.applied.specs.Rounding.{IsNearest, IsNearestEven};
 
 use applied::counting::{self, falling};
-use applied::powers::{self, ilog, sqrt_rem};
+use applied::halving::{lower_bound, midpoint};
+use applied::powers::{self, ilog, is_perfect_power, is_power, is_square, sqrt_rem};
 use applied::rounding::{self, div_round, div_round_even};
+use num_integer::Fits;
 
 // ---- nearest quotients
 
@@ -46,10 +53,10 @@ pub fn natural_mean(total: u64, count: u64) -> u64
     div_round_even(total, count)
 }
 
-/// Returns the nearest quotient, or `None` if the divisor is 0 or the quotient does not fit. An `if` tests the
-/// domain.
+/// Returns the nearest quotient, or `None`, but not if the divisor is positive. An `if` tests the domain.
 pub fn nearest_or_none(total: i64, count: i64) -> Option<i64>
-    ensures { IfSome result (λ q. IsQuotient IsNearest total count q) }
+    ensures { MatchOption result
+        (count ≤ℤ pos 0) (λ q. IsQuotient IsNearest total count q) }
 {
     if total.quotient_fits(&count) {
         Some(div_round(total, count))
@@ -58,11 +65,16 @@ pub fn nearest_or_none(total: i64, count: i64) -> Option<i64>
     }
 }
 
-/// Returns the same by the call that tests the domain.
+/// Returns the nearest quotient, or `None` if the divisor is 0 or the quotient does not fit. The call tests the
+/// domain.
 pub fn nearest_checked(total: i64, count: i64) -> Option<i64>
-    ensures { IfSome result (λ q. (count ≢ pos 0) × IsQuotient IsNearest total count q) }
+    ensures { MatchOption result
+        (¬ ((count ≢ pos 0) × EachFits (FitsSigned w64) (IsQuotient IsNearest total count)))
+        (λ q. (count ≢ pos 0) × IsQuotient IsNearest total count q) }
 {
-    let quotient = rounding::checked::div_round(total, count)?;
+    let Some(quotient) = rounding::checked::div_round(total, count) else {
+        return None;
+    };
     Some(quotient)
 }
 
@@ -79,19 +91,62 @@ pub fn square_of_tiles(tiles: u64) -> (u64, u64)
 /// Returns the number of decimal digits of a positive number.
 pub fn digits(number: u64) -> u32
     requires { 0 < number }
-    ensures { IsLogarithm (pos 10) (pos number) (result - 1) }
+    ensures { (k : ℕ) × IsLogarithm (pos 10) (pos number) k × (result ≡ k + 1) }
 {
     ilog(number, 10) + 1
 }
 
 /// Returns the number of levels of a binary tree with this many nodes, or 0 if there is no node.
 pub fn levels(nodes: u64) -> u32
-    ensures { 0 < nodes → IsLogarithm (pos 2) (pos nodes) (result - 1) }
+    ensures levels { 0 < nodes → ((k : ℕ) × IsLogarithm (pos 2) (pos nodes) k × (result ≡ k + 1)) }
+    ensures none { nodes ≡ 0 → result ≡ 0 }
 {
     match powers::checked::ilog(nodes, 2) {
         Some(degree) => degree + 1,
         None => 0,
     }
+}
+
+/// Returns `true` if the number is the square of an integer.
+pub fn is_square_number(n: u64) -> bool
+    ensures { IsTrue result ↔ ((k : ℤ) × (k *ℤ k ≡ pos n)) }
+{
+    is_square(n)
+}
+
+/// Returns `true` if the number is the cube of an integer, which may be negative.
+pub fn is_cube(n: i64) -> bool
+    ensures { IsTrue result ↔ ((k : ℤ) × (int_pow k 3 ≡ n)) }
+{
+    is_power(n, 3)
+}
+
+/// Returns `true` if the number is a square, a cube or a higher power of an integer.
+pub fn is_higher_power(n: u64) -> bool
+    ensures { IsTrue result
+        ↔ ((k : ℤ) × ((degree : ℕ) × (2 ≤ degree) × (int_pow k degree ≡ pos n))) }
+{
+    is_perfect_power(n)
+}
+
+// ---- halves
+
+/// Returns the number in the middle between two numbers, rounded down.
+pub fn middle(a: i64, b: i64) -> i64
+    ensures no_farther { (result -ℤ a) ≤ℤ (b -ℤ result) }
+    ensures one_nearer_at_most { (b -ℤ result) ≤ℤ (result -ℤ a +ℤ pos 1) }
+{
+    midpoint(a, b)
+}
+
+/// Returns the number of the sorted times that are before `now`.
+pub fn times_before(times: &[u64], now: u64) -> usize
+    requires { IsSortedByKey (λ time. pos time) int_cmp times.now }
+    ensures within { result ≤ length times.now }
+    ensures before { AllWithin (λ time. time < now) times.now 0 result }
+    ensures from { AllWithin (λ time. now ≤ time) times.now result (length times.now) }
+{
+    lower_bound(times, now)
 }
 
 // ---- permutations

@@ -7,7 +7,7 @@ ghost use Rattle.num_integer.specs.Row.{RowFits, row_of};
 use num_integer::{Integer, IterBinomial};
 use std::alloc::{AllocError, Global};
 
-/// Collects the row of `n`. Its items are the coefficients of `n` and 0, 1 and so on to `n`, in order.
+/// Collects the row of `n`. If the result is `Ok`, its items are the coefficients of `n` and 0, 1 and so on to `n`.
 pub fn row<T: Integer>(alloc: Global, n: T) -> Result<Vec<T>, AllocError>
     requires in_range { T.fits (T.value n) }
     requires row_fits { RowFits T.fits (T.value n) }
@@ -16,7 +16,7 @@ pub fn row<T: Integer>(alloc: Global, n: T) -> Result<Vec<T>, AllocError>
     IterBinomial::new(n).collect(alloc)
 }
 
-/// Collects the row of `n` at `u64`.
+/// Collects the row of `n` at `u64`. The contract is about `Ok` alone.
 pub fn row_of_u64(alloc: Global, n: u64) -> Result<Vec<u64>, AllocError>
     requires row_fits { RowFits (FitsUnsignedBits 64) (pos n) }
     ensures items { IfOk result (λ v. map (λ item. pos item) v.items ≡ row_of (pos n)) }
@@ -24,7 +24,7 @@ pub fn row_of_u64(alloc: Global, n: u64) -> Result<Vec<u64>, AllocError>
     IterBinomial::new(n).collect(alloc)
 }
 
-/// Collects a whole row by a loop that pushes each item.
+/// Collects a whole row by a loop that pushes each item. The contract is about `Ok` alone.
 pub fn row_by_a_loop<T: Integer>(alloc: Global, n: T) -> Result<Vec<T>, AllocError>
     requires in_range { T.fits (T.value n) }
     requires row_fits { RowFits T.fits (T.value n) }
@@ -37,7 +37,7 @@ pub fn row_by_a_loop<T: Integer>(alloc: Global, n: T) -> Result<Vec<T>, AllocErr
     Ok(all)
 }
 
-/// Collects the row of a signed byte by a generic call.
+/// Collects the row of a signed byte by a generic call. The contract is about `Ok` alone.
 pub fn signed_row(alloc: Global, n: i8) -> Result<Vec<i8>, AllocError>
     requires { RowFits (FitsSigned w8) n }
     ensures { IfOk result (λ v. map (λ x. x) v.items ≡ row_of n) }
@@ -45,7 +45,7 @@ pub fn signed_row(alloc: Global, n: i8) -> Result<Vec<i8>, AllocError>
     row(alloc, n)
 }
 
-/// Returns the first item of a row that is greater than `limit`, or `None` if there is none.
+/// Searches a row for an item that is greater than `limit`. The contract says only that what it finds is greater.
 pub fn first_above(n: u8, limit: u8) -> Option<u8>
     requires { RowFits (FitsUnsignedBits 8) (pos n) }
     ensures { IfSome result (λ item. limit < item) }
@@ -59,7 +59,7 @@ pub fn first_above(n: u8, limit: u8) -> Option<u8>
     None
 }
 
-/// Returns the largest item of a row.
+/// Calls `max` on a row. The contract says only that the item fits.
 pub fn largest_item<T: Integer>(n: T) -> Option<T>
     requires in_range { T.fits (T.value n) }
     requires row_fits { RowFits T.fits (T.value n) }

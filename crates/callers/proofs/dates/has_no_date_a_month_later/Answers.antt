@@ -1,6 +1,7 @@
 use Rattle.std.specs.Prelude.{pos}
+use Rattle.std.proofs.Common.{refl}
 use Rattle.calendar.proofs.ForCallers.{months_after_exists}
 use Rattle.callers.proofs.dates.has_no_date_a_month_later.Goals as goal
 
 pub returns-in-None : goal.returns-in-None
-returns-in-None c = λ none. let (later, is) = months_after_exists c.args.date.now (pos 1) in (later, is, c.in-None.ensures later is)
+returns-in-None c = (λ none. let (later, is) = months_after_exists c.args.date.now (pos 1) in (later, is, c.in-None.ensures later is), λ far. refl)
