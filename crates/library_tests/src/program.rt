@@ -1,8 +1,9 @@
-//! The lines of the program, its outcomes, and the words that are numbers.
+//! The lines of the program, its outcomes, and the words that are numbers or that ask for calls.
 
 mod failing_writers;
 mod fractions;
 mod outcomes;
+mod requests;
 mod tape;
 mod vectors;
 
