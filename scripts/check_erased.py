@@ -41,7 +41,7 @@ RULES = {
     # `Self` for the type of an implementation. If they were two types, rustc would see that they do not fit.
     'Self': (ALONE + r'(?:{type}|{word}(?= [{{(] | :: [^<]))(?= )', 'Self'),
     # Bounds say at which types an item is there, and not what it returns.
-    'bound': (r'\+ (?:Copy|Clone) |(?<=: )(?:Copy|Sized) \+ |where Self : Clone (?:, )?(?=[{;] )', ''),
+    'bound': (r'\+ (?:Copy|Clone) |(?<=: )(?:Copy|Clone|Sized) \+ |where Self : Clone (?:, )?(?=[{;] )', ''),
     # `Formatter<W>` of Rattle, for a writer `W`, is `Formatter<'_>` of Rust.
     'Formatter': (r"(?<= )< \w+ : fmt :: Write > |(?<= Formatter )< (?:'_|[A-Z]) > ", ''),
 }
