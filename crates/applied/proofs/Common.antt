@@ -1,7 +1,7 @@
 -- The names of the libraries and of the specs that the proofs cite, but for operators, passed on from one place. Declares nothing.
 pub use Rattle.applied.specs.Counting.{factorial_of, falling_of}
 pub use Rattle.applied.specs.Hashes.{weighted_sum}
-pub use Rattle.applied.specs.Laws.{AlignedUpIsOnly, ChoiceOfRankIsOnly, FallingByCoefficient, FallingFormula, GcdOfFitsExactly, GcdOfIsOnly, LcmOfIsOnly, LeastTimeIsOnly, LogarithmIsOnly, LowerBoundIsOnly, MidpointIsOnly, NearestEvenQuotientIsOnly, NearestQuotientExists, NearestQuotientFitsExactly, NearestQuotientIsOnly, NoIntegerIsNearer, PaddingIsOnly, PagesAreOnly, PartsDifferByOne, PlaceExists, PlaceIsOnly, RankIsBelow, ReducedPairIsOnly}
+pub use Rattle.applied.specs.Laws.{AlignedUpExists, AlignedUpIsOnly, ChoiceOfRankIsOnly, FallingByCoefficient, FallingFormula, GcdOfFitsExactly, GcdOfIsOnly, LcmOfIsOnly, LeastTimeIsOnly, LogarithmIsOnly, LowerBoundIsOnly, MidpointIsOnly, NearestEvenQuotientIsOnly, NearestQuotientExists, NearestQuotientFitsExactly, NearestQuotientIsOnly, NoIntegerIsNearer, PaddingIsOnly, PagesAreOnly, PartsDifferByOne, PlaceExists, PlaceIsOnly, RankIsBelow, ReducedPairIsOnly}
 pub use Rattle.applied.specs.Lists.{GcdOfFits, IsGreatestCommonDivisorOf, IsLeastCommonMultipleOf}
 pub use Rattle.applied.specs.Paging.{IsEvenCut, IsPlace, IsRangeOfPage, IsRangeOfPart, cut_at}
 pub use Rattle.applied.specs.Powers.{IsLogarithm}

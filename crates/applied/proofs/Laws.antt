@@ -1,6 +1,6 @@
 -- The laws of specs/Laws.antt, a lemma each.
 use Rattle.std.specs.Prelude.{◌≡◌, ◌<◌, ◌≤◌, ◌≤ℤ◌, ◌<ℤ◌, ◌+ℤ◌, ◌-ℤ◌, ◌*ℤ◌, ◌∷◌}
-use Rattle.applied.proofs.Common.{ℕ, ℤ, pos, List, [], length, AllWithin, arith, ap, refl, subst, AreCongruent, CommonSolution, Never, Beyond, At, congruent-equal, IsLeastFrom, Divides-difference, ceiled_quotient_least, expand, floored_by_range, floored_range, least_is_only, linear, only_pair_by_range, products, division_exists, AlignedUpIsOnly, GcdOfIsOnly, LcmOfIsOnly, LeastTimeIsOnly, LowerBoundIsOnly, MidpointIsOnly, PaddingIsOnly, PagesAreOnly, PartsDifferByOne, PlaceExists, PlaceIsOnly, IsLeastTime}
+use Rattle.applied.proofs.Common.{ℕ, ℤ, pos, List, [], length, AllWithin, arith, ap, refl, subst, AreCongruent, CommonSolution, Never, Beyond, At, congruent-equal, IsLeastFrom, Divides-difference, ceiled_quotient_least, expand, floored_by_range, floored_range, least_is_only, linear, only_pair_by_range, products, division_exists, next_multiple_least, AlignedUpExists, AlignedUpIsOnly, GcdOfIsOnly, LcmOfIsOnly, LeastTimeIsOnly, LowerBoundIsOnly, MidpointIsOnly, PaddingIsOnly, PagesAreOnly, PartsDifferByOne, PlaceExists, PlaceIsOnly, IsLeastTime}
 use Rattle.applied.proofs.ListDivisors.{only_gcd_of, only_lcm_of}
 pub use Rattle.applied.proofs.Choices.{choice_of_rank_is_only, rank_is_below}
 pub use Rattle.applied.proofs.ReducedPairs.{reduced_pair_exists, reduced_pair_is_only}
@@ -37,6 +37,12 @@ parts_differ_by_one = λ parts items cut even part later from_zero ordered withi
     )
 
 -- ---- offsets on an alignment
+
+pub aligned_up_exists : AlignedUpExists
+aligned_up_exists = λ offset alignment up.
+    let division = division_exists.2 offset alignment (λ e. omega (arith, linear)) in
+    let next = next_multiple_least up (record { quotient = division.0; is = record { remainder = division.1; division = division.2 }; product = refl }) in
+    (division.0 *ℤ alignment, record { from_offset = next.0; multiple = next.2; least = next.3 })
 
 pub aligned_up_is_only : AlignedUpIsOnly
 aligned_up_is_only = λ offset alignment aligned h other k. omega (arith, linear, h.least other k.from_offset k.multiple, k.least aligned h.from_offset h.multiple)

@@ -39,6 +39,10 @@ PartsDifferByOne = (parts items : ℤ) (cut : ℤ → ℤ) → IsEvenCut parts i
 
 -- ---- offsets on an alignment
 
+-- Each offset has a next aligned offset, if the alignment is positive.
+abbrev pub AlignedUpExists : Type 0
+AlignedUpExists = (offset alignment : ℤ) → pos 0 <ℤ alignment → (aligned : ℤ) × IsAlignedUp offset alignment aligned
+
 -- Each offset has at most one next aligned offset.
 abbrev pub AlignedUpIsOnly : Type 0
 AlignedUpIsOnly = (offset alignment aligned : ℤ) → IsAlignedUp offset alignment aligned → IsOnly (IsAlignedUp offset alignment) aligned

@@ -21,6 +21,8 @@ pub use Rattle.calendar.proofs.NextLastWeekdays.{last_weekdays_in_order}
 pub use Rattle.calendar.proofs.NextLastWeekdays.{next_last_weekday_exists}
 -- The day of a date in its year is from 1 to the length of the year.
 pub use Rattle.calendar.proofs.DateOrder.{year_day_range}
+-- A date is in its year.
+pub use Rattle.calendar.proofs.DatesOfDays.{in_its_year}
 -- A year has 365 or 366 days.
 pub use Rattle.calendar.proofs.YearLengths.{length_range}
 -- The days from a first one on, to the one before an end, are as many as the end is after the first.

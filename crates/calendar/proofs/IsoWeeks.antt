@@ -3,13 +3,13 @@ use Rattle.calendar.proofs.Common.{◌≡◌, ◌+◌, ◌/◌, ◌%◌, ◌<◌
 use Rattle.calendar.specs.declared.date.Date.{Date}
 use Rattle.calendar.specs.Dates.{number_of}
 use Rattle.calendar.specs.IsoWeeks.{HasIsoWeek, HasIsoWeeks, IsDayOfIsoWeek, IsInIsoWeek, IsThursdayOfWeek}
-use Rattle.calendar.specs.Laws.{IsoDayIsOnly, IsoWeekIsOnly, IsoWeeksAreOnly, OrderOfIsoWeeks, WeeksOfAYear, YearOfDayIsOnly}
+use Rattle.calendar.specs.Laws.{IsoDayExists, IsoDayIsOnly, IsoWeekIsOnly, IsoWeeksAreOnly, OrderOfIsoWeeks, WeeksOfAYear, YearOfDayIsOnly}
 use Rattle.calendar.specs.Years.{HasDay, days_in_year, first_day}
 use Rattle.calendar.specs.Weekday.{weekday_number}
 use Rattle.calendar.specs.Weeks.{HasWeekday}
 use Rattle.calendar.specs.declared.weekday.Weekday.{Weekday}
 use Rattle.calendar.specs.declared.weekday.Weekday.TheVariants.{Monday, Thursday}
-use Rattle.calendar.proofs.WeekdayPlaces.{below_seven, days_earlier, days_later, on_weekday, same_day, weeks_apart}
+use Rattle.calendar.proofs.WeekdayPlaces.{below_seven, days_earlier, days_later, on_weekday, same_day, weekday_within, weeks_apart}
 use Rattle.calendar.proofs.YearLengths.{later_year, length_range, next_first_day}
 
 -- ---- Thursdays
@@ -103,6 +103,24 @@ day_of_week {year} {place} weekday h from before inside below = record {
   };
   has_weekday = weekday_after weekday h;
 }
+
+-- a week has each day of the week
+pub iso_day_exists : IsoDayExists
+iso_day_exists year week weekday h =
+    let k = h.in_week in
+    let (days, small, own) = weekday_within (k.thursday -ℤ pos 3) weekday in (
+      _,
+      record {
+        in_week = record {
+          thursday = k.thursday;
+          of_week = record { has_weekday = k.of_week.has_weekday; from = omega (arith, ints); to = omega (arith, ints) };
+          of_year = k.of_year;
+          from = k.from;
+          before = k.before;
+        };
+        has_weekday = own;
+      },
+    )
 
 -- of which there is only one
 pub one_day : IsoDayIsOnly

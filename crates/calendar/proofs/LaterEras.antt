@@ -51,10 +51,10 @@ date_later {year} {month} {day} eras h = record {
   day_to_last = rw (leap_later year eras) h.day_to_last;
 }
 
-abbrev later : Date → ℤ → Date
+abbrev pub later : Date → ℤ → Date
 later date eras = record { year = date.year +ℤ pos 400 *ℤ eras; month = date.month; day_of_month = date.day_of_month; valid = date_later eras date.valid }
 
-number_later : (date : Date) (eras : ℤ) → number_of (later date eras) ≡ number_of date +ℤ pos 146097 *ℤ eras
+pub number_later : (date : Date) (eras : ℤ) → number_of (later date eras) ≡ number_of date +ℤ pos 146097 *ℤ eras
 number_later date eras = rw (leap_later date.year eras, first_day_later date.year eras) (omega (arith, ints))
 
 -- the date some eras later is the only one of its day

@@ -15,5 +15,6 @@ pub mod MonthSteps
 pub mod MonthWeekdays
 pub mod NextLastWeekdays
 pub mod IsoWeeks
+pub mod DatesOfDays
 pub mod EasterSundays
 pub mod ForCallers

@@ -1,7 +1,7 @@
 -- Dates some months apart.
 use Rattle.calendar.proofs.Common.{◌≡◌, ◌<◌, ◌≤◌, ◌+◌, ◌-◌, ◌/◌, ◌%◌, ◌≤ℤ◌, ◌<ℤ◌, ◌+ℤ◌, ◌-ℤ◌, ◌*ℤ◌, ℕ, ℤ, pos, negsuc, min, unsigned_abs, ◌∙◌, arith, inl, inr, refl, sym, cases_lt, by_lt_z, ints, floored_quotient_range, floored_remainder_range, linear, IsFloored, IsQuotient}
 use Rattle.calendar.specs.Dates.{IsMonthsAfter, IsMonthsBetween, IsYearsBetween, number_of}
-use Rattle.calendar.specs.Laws.{MonthsAfterIsOnly, MonthsBetweenIsOnly}
+use Rattle.calendar.specs.Laws.{MonthsAfterExists, MonthsAfterIsOnly, MonthsBetweenIsOnly}
 use Rattle.calendar.specs.Months.{days_in_month, month_number}
 use Rattle.calendar.specs.declared.date.Date.{Date}
 use Rattle.calendar.proofs.DateOrder.{of_parts, order}
@@ -40,7 +40,7 @@ module _ {number year rest : ℤ} (h : IsFloored number (pos 12) year rest) wher
 -- ---- the date some months after another
 
 -- Each date has a date any number of months after it.
-pub months_after_exists : (from : Date) (months : ℤ) → (date : Date) × IsMonthsAfter from months date
+pub months_after_exists : MonthsAfterExists
 months_after_exists from months =
     let (year, month, month_from, month_to, is) = month_of (month_number from.year from.month +ℤ months) in
     let (length, most) = month_length_range year month month_from month_to in

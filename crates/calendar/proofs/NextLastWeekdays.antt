@@ -1,7 +1,7 @@
 -- The dates that are the last of a day of the week in their months, one after the other.
 use Rattle.calendar.proofs.Common.{◌≡◌, ◌<◌, ◌≤◌, ◌<ℤ◌, ◌≤ℤ◌, ◌+ℤ◌, ℕ, ℤ, pos, FitsSigned, w64, arith, inr, subst, sym, by_lt_z, ints, linear}
 use Rattle.calendar.specs.Dates.{IsLastWeekdayOfMonth, IsMonthsAfter, IsNextLastWeekday, number_of}
-use Rattle.calendar.specs.Laws.{NextLastWeekdayIsOnly}
+use Rattle.calendar.specs.Laws.{NextLastWeekdayExists, NextLastWeekdayIsOnly}
 use Rattle.calendar.specs.Months.{month_number}
 use Rattle.calendar.specs.declared.date.Date.{Date}
 use Rattle.calendar.specs.declared.weekday.Weekday.{Weekday}
@@ -67,7 +67,7 @@ pub no_later_day : (after date : Date) {weekday : Weekday} → IsLastWeekdayOfMo
 no_later_day after date h early = rw (h.of_month.year_is, h.of_month.month_is) (omega (arith, ints))
 
 -- After each date comes a date that is the last of a day of the week in its month.
-pub next_last_weekday_exists : (after : Date) (weekday : Weekday) → (date : Date) × IsNextLastWeekday after weekday date
+pub next_last_weekday_exists : NextLastWeekdayExists
 next_last_weekday_exists after weekday =
     let (this, h) = last_weekday_exists after.year after.month weekday after.valid.month_from_one after.valid.month_to_twelve in
     let (later, is_after) = months_after_exists after (pos 1) in

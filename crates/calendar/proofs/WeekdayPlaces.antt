@@ -2,7 +2,7 @@
 use Rattle.calendar.proofs.Common.{◌≡◌, ◌+◌, ◌-◌, ◌/◌, ◌%◌, ◌<◌, ◌≤ℤ◌, ◌<ℤ◌, ◌+ℤ◌, ◌-ℤ◌, ◌*ℤ◌, ℕ, ℤ, pos, negsuc, unsigned_abs, List, [], ◌∷◌, get_or, FitsSigned, MatchOption, Option, w64, SomeIff, ◌∙◌, ap, arith, refl, sym, ints, floored_by_range, greatest_is_only, least_is_only, linear, only_floored}
 use Rattle.calendar.specs.declared.weekday.Weekday.{Weekday}
 use Rattle.calendar.specs.declared.weekday.Weekday.TheVariants.{Sunday, Monday, Tuesday, Wednesday, Thursday, Friday, Saturday}
-use Rattle.calendar.specs.Laws.{FirstWeekdayIsOnly, IsoNumberIsOnly, LastWeekdayIsOnly, WeekdayIsOnly, WeekdaysFollow}
+use Rattle.calendar.specs.Laws.{FirstWeekdayExists, FirstWeekdayIsOnly, IsoNumberIsOnly, LastWeekdayExists, LastWeekdayIsOnly, WeekdayIsOnly, WeekdaysFollow}
 use Rattle.calendar.specs.Weekday.{weekday_number}
 use Rattle.calendar.specs.Weeks.{HasWeekday, IsFirstWeekday, IsLastWeekday}
 use Rattle.calendar.proofs.FoundOrBeyond.{only_or_beyond}
@@ -92,6 +92,17 @@ weekday_within day weekday =
     let (weeks, rest, small, equation) = rest_of_week day in
     let place = weekday_number weekday + 7 - rest in
     (place % 7, omega arith, on_weekday weekday (weeks +ℤ pos 1 -ℤ pos (place / 7)) (omega (arith, ints)))
+
+-- so there is a first and a last
+pub first_exists : FirstWeekdayExists
+first_exists from weekday =
+    let (days, small, h) = weekday_within from weekday in
+    (_, first_within weekday h (omega (arith, ints)) (omega (arith, ints)))
+
+pub last_exists : LastWeekdayExists
+last_exists to weekday =
+    let (days, small, h) = weekday_within (to -ℤ pos 6) weekday in
+    (_, last_within weekday h (omega (arith, ints)) (omega (arith, ints)))
 
 -- ---- one day of the week
 

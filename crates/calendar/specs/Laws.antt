@@ -3,7 +3,7 @@ use Rattle.std.specs.Prelude.{◌≡◌, ◌⊎◌, ◌↔◌, ◌<◌, ◌≤�
 use Rattle.std.specs.Int.{w64}
 use Rattle.integer_core.specs.Divisors.{Divides}
 use Rattle.calendar.specs.Dates.{HasParts, IsEarlier, IsLastWeekdayOfMonth, IsMonthsAfter, IsMonthsBetween, IsNextLastWeekday, IsNthWeekday, number_of, year_day_of}
-use Rattle.calendar.specs.IsoWeeks.{HasIsoWeeks, IsDayOfIsoWeek, IsInIsoWeek}
+use Rattle.calendar.specs.IsoWeeks.{HasIsoWeek, HasIsoWeeks, IsDayOfIsoWeek, IsInIsoWeek}
 use Rattle.calendar.specs.LeapYears.{is_leap_year}
 use Rattle.calendar.specs.Years.{HasDay, day_number, days_in_year, first_day}
 use Rattle.calendar.specs.Easter.{IsEaster, IsEpact, IsLunarCorrection, IsSolarCorrection, days_to_full_moon, is_day_earlier}
@@ -32,6 +32,10 @@ YearsFollow = (year : ℤ) → first_day (year +ℤ pos 1) ≡ first_day year +�
 abbrev pub FirstDay : Type 0
 FirstDay = day_number (pos 1970) 1 1 ≡ pos 0
 
+-- Each day is in a year.
+abbrev pub YearOfDayExists : Type 0
+YearOfDayExists = (day : ℤ) → (year : ℤ) × HasDay year day
+
 -- Each day is in at most one year.
 abbrev pub YearOfDayIsOnly : Type 0
 YearOfDayIsOnly = (day y z : ℤ) → HasDay y day → HasDay z day → y ≡ z
@@ -41,6 +45,10 @@ YearOfDayIsOnly = (day y z : ℤ) → HasDay y day → HasDay z day → y ≡ z
 -- At most one date has a given year, month and day of the month.
 abbrev pub DateOfPartsIsOnly : Type 0
 DateOfPartsIsOnly = (year : ℤ) (month day : ℕ) (a b : Date) → HasParts a year month day → HasParts b year month day → a ≡ b
+
+-- Each day has a date. Its year may be any integer, and need not fit a type.
+abbrev pub DateExists : Type 0
+DateExists = (day : ℤ) → (date : Date) × (number_of date ≡ day)
 
 -- Each day has at most one date.
 abbrev pub DateIsOnly : Type 0
@@ -60,6 +68,10 @@ TextIsOnly = (a b : Date) → FitsSigned w64 a.year → FitsSigned w64 b.year �
 
 -- ---- months
 
+-- Each date has a date any number of months later.
+abbrev pub MonthsAfterExists : Type 0
+MonthsAfterExists = (from : Date) (months : ℤ) → (date : Date) × IsMonthsAfter from months date
+
 -- Each date has at most one date a number of months later.
 abbrev pub MonthsAfterIsOnly : Type 0
 MonthsAfterIsOnly = (from : Date) (months : ℤ) (a b : Date) → IsMonthsAfter from months a → IsMonthsAfter from months b → a ≡ b
@@ -75,6 +87,10 @@ MonthsBetweenIsOnly = (from to : Date) (a b : ℤ) → IsMonthsBetween from to a
 -- Each month has at most one last day of each day of the week.
 abbrev pub LastWeekdayOfMonthIsOnly : Type 0
 LastWeekdayOfMonthIsOnly = (year : ℤ) (month : ℕ) (weekday : Weekday) (a b : Date) → IsLastWeekdayOfMonth year month weekday a → IsLastWeekdayOfMonth year month weekday b → a ≡ b
+
+-- For each date and day of the week, some later date is the next that is the last such weekday of its month.
+abbrev pub NextLastWeekdayExists : Type 0
+NextLastWeekdayExists = (after : Date) (weekday : Weekday) → (date : Date) × IsNextLastWeekday after weekday date
 
 -- For each date and day of the week, at most one later date is the next that is the last such weekday of its month.
 abbrev pub NextLastWeekdayIsOnly : Type 0
@@ -94,17 +110,33 @@ WeekdayIsOnly = (day : ℤ) (a b : Weekday) → HasWeekday day a → HasWeekday 
 abbrev pub WeekdaysFollow : Type 0
 WeekdaysFollow = HasWeekday (pos 0) Thursday × ((day : ℤ) (a b : Weekday) → HasWeekday day a → HasWeekday (day +ℤ pos 1) b → weekday_number b ≡ (weekday_number a + 1) % 7)
 
+-- From each day on, some day is the first that has a given day of the week.
+abbrev pub FirstWeekdayExists : Type 0
+FirstWeekdayExists = (from : ℤ) (weekday : Weekday) → (day : ℤ) × IsFirstWeekday from weekday day
+
 -- From each day on, at most one day is the first that has a given day of the week.
 abbrev pub FirstWeekdayIsOnly : Type 0
 FirstWeekdayIsOnly = (from : ℤ) (weekday : Weekday) (a b : ℤ) → IsFirstWeekday from weekday a → IsFirstWeekday from weekday b → a ≡ b
+
+-- Up to each day, some day is the last that has a given day of the week.
+abbrev pub LastWeekdayExists : Type 0
+LastWeekdayExists = (to : ℤ) (weekday : Weekday) → (day : ℤ) × IsLastWeekday to weekday day
 
 -- Up to each day, at most one day is the last that has a given day of the week.
 abbrev pub LastWeekdayIsOnly : Type 0
 LastWeekdayIsOnly = (to : ℤ) (weekday : Weekday) (a b : ℤ) → IsLastWeekday to weekday a → IsLastWeekday to weekday b → a ≡ b
 
+-- Each day is in a week. The year of the week may be any integer.
+abbrev pub IsoWeekExists : Type 0
+IsoWeekExists = (day : ℤ) → (year : ℤ) × (week : ℕ) × IsInIsoWeek day year week
+
 -- Each day is in at most one week, of one year.
 abbrev pub IsoWeekIsOnly : Type 0
 IsoWeekIsOnly = (day y z : ℤ) (v w : ℕ) → IsInIsoWeek day y v → IsInIsoWeek day z w → (y ≡ z) × (v ≡ w)
+
+-- Each week has each day of the week.
+abbrev pub IsoDayExists : Type 0
+IsoDayExists = (year : ℤ) (week : ℕ) (weekday : Weekday) → HasIsoWeek year week → (day : ℤ) × IsDayOfIsoWeek day year week weekday
 
 -- Each week has at most one day of each day of the week.
 abbrev pub IsoDayIsOnly : Type 0

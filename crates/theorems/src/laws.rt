@@ -97,23 +97,31 @@ pub fn laws_of_dates()
     ensures lengths_of_years { dates.LengthsOfYears }
     ensures years_follow { dates.YearsFollow }
     ensures first_day { dates.FirstDay }
+    ensures year_of_day_exists { dates.YearOfDayExists }
     ensures year_of_day_is_only { dates.YearOfDayIsOnly }
     ensures date_of_parts_is_only { dates.DateOfPartsIsOnly }
+    ensures date_exists { dates.DateExists }
     ensures date_is_only { dates.DateIsOnly }
     ensures date_of_year_day_is_only { dates.DateOfYearDayIsOnly }
     ensures order_of_dates { dates.OrderOfDates }
     ensures text_is_only { dates.TextIsOnly }
+    ensures months_after_exists { dates.MonthsAfterExists }
     ensures months_after_is_only { dates.MonthsAfterIsOnly }
     ensures nth_weekday_is_only { dates.NthWeekdayIsOnly }
     ensures months_between_is_only { dates.MonthsBetweenIsOnly }
     ensures last_weekday_of_month_is_only { dates.LastWeekdayOfMonthIsOnly }
+    ensures next_last_weekday_exists { dates.NextLastWeekdayExists }
     ensures next_last_weekday_is_only { dates.NextLastWeekdayIsOnly }
     ensures iso_number_is_only { dates.IsoNumberIsOnly }
     ensures weekday_is_only { dates.WeekdayIsOnly }
     ensures weekdays_follow { dates.WeekdaysFollow }
+    ensures first_weekday_exists { dates.FirstWeekdayExists }
     ensures first_weekday_is_only { dates.FirstWeekdayIsOnly }
+    ensures last_weekday_exists { dates.LastWeekdayExists }
     ensures last_weekday_is_only { dates.LastWeekdayIsOnly }
+    ensures iso_week_exists { dates.IsoWeekExists }
     ensures iso_week_is_only { dates.IsoWeekIsOnly }
+    ensures iso_day_exists { dates.IsoDayExists }
     ensures iso_day_is_only { dates.IsoDayIsOnly }
     ensures weeks_of_a_year { dates.WeeksOfAYear }
     ensures iso_weeks_are_only { dates.IsoWeeksAreOnly }
@@ -135,6 +143,7 @@ pub fn laws_of_models<P: Property, T: Integer>()
     ensures place_exists { models.PlaceExists }
     ensures place_is_only { models.PlaceIsOnly }
     ensures parts_differ_by_one { models.PartsDifferByOne }
+    ensures aligned_up_exists { models.AlignedUpExists }
     ensures aligned_up_is_only { models.AlignedUpIsOnly }
     ensures padding_is_only { models.PaddingIsOnly }
     ensures least_time_is_only { models.LeastTimeIsOnly T.value T.fits P.holds }

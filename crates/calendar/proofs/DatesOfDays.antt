@@ -1,0 +1,113 @@
+-- Each day has a date, and is in a year and in a week.
+use Rattle.calendar.proofs.Common.{◌≡◌, ◌+◌, ◌*◌, ◌/◌, ◌<◌, ◌≤◌, ◌+ℤ◌, ◌-ℤ◌, ℕ, zero, suc, ℤ, pos, negsuc, unsigned_abs, ◌∙◌, arith, inl, inr, le_refl, refl, subst, cases_lt, ints}
+use Rattle.calendar.specs.declared.date.Date.{Date}
+use Rattle.calendar.specs.declared.weekday.Weekday.TheVariants.{Thursday}
+use Rattle.calendar.specs.Dates.{number_of}
+use Rattle.calendar.specs.Laws.{DateExists, IsoWeekExists, YearOfDayExists}
+use Rattle.calendar.specs.Months.{days_in_month}
+use Rattle.calendar.specs.Years.{HasDay, day_number, first_day}
+use Rattle.calendar.proofs.DateOrder.{last_of_year, next_month, next_year, year_day_range}
+use Rattle.calendar.proofs.LaterEras.{later, number_later}
+use Rattle.calendar.proofs.MonthLengths.{month_length_range}
+use Rattle.calendar.proofs.WeekdayPlaces.{weekday_within}
+use Rattle.calendar.proofs.YearLengths.{next_first_day}
+
+-- ---- the date of a day
+
+-- the first day of a month is a date
+month_begins : (year : ℤ) (month : ℕ) → 1 ≤ month → month ≤ 12 → (date : Date) × (number_of date ≡ day_number year month 1)
+month_begins year month from to =
+    let (least, most) = month_length_range year month from to in
+    let date : Date = record {
+      year = year;
+      month = month;
+      day_of_month = 1;
+      valid = record { month_from_one = from; month_to_twelve = to; day_from_one = le_refl 1; day_to_last = omega arith };
+    } in
+    (date, refl)
+
+-- a day later in the same month is a date
+same_month_later : (date : Date) → date.day_of_month < days_in_month date.year date.month → (next : Date) × (number_of next ≡ number_of date +ℤ pos 1)
+same_month_later date before =
+    let next : Date = record {
+      year = date.year;
+      month = date.month;
+      day_of_month = date.day_of_month + 1;
+      valid = record { month_from_one = date.valid.month_from_one; month_to_twelve = date.valid.month_to_twelve; day_from_one = omega arith; day_to_last = omega arith };
+    } in
+    (next, omega (arith, ints))
+
+-- after 31 December comes 1 January
+next_january : (date : Date) → 12 ≤ date.month → days_in_month date.year date.month ≤ date.day_of_month → day_number (date.year +ℤ pos 1) 1 1 ≡ number_of date +ℤ pos 1
+next_january date late last =
+    let (december, day) = last_of_year date.valid late last in
+    rw (december, day) (next_year date.year)
+
+-- each date has a next one
+next_date : (date : Date) → (next : Date) × (number_of next ≡ number_of date +ℤ pos 1)
+next_date date = elim (cases_lt date.day_of_month (days_in_month date.year date.month)) [
+  | inl before ↦ same_month_later date before
+  | inr last ↦ elim (cases_lt date.month 12) [
+    | inl early ↦
+        let (next, is) = month_begins date.year (date.month + 1) (omega arith) (omega arith) in
+        let end : date.day_of_month ≡ days_in_month date.year date.month = omega (arith, date.valid.day_to_last) in
+        (next, omega (arith, ints, is, end, next_month date.year date.month date.valid.month_from_one early))
+    | inr late ↦
+        let (next, is) = month_begins (date.year +ℤ pos 1) 1 (omega arith) (omega arith) in
+        (next, is ∙ next_january date late last)
+  ]
+]
+
+first_is_zero : day_number (pos 1970) 1 1 ≡ pos 0
+first_is_zero = omega (arith, ints)
+
+-- so each day from 1970-01-01 on has a date
+date_from_epoch : (n : ℕ) → (date : Date) × (number_of date ≡ pos n)
+date_from_epoch zero =
+    let (date, is) = month_begins (pos 1970) 1 (omega arith) (omega arith) in
+    (date, is ∙ first_is_zero)
+date_from_epoch (suc n) =
+    let (date, is) = date_from_epoch n in
+    let (next, after) = next_date date in
+    (next, omega (arith, ints, is, after))
+
+-- and an earlier day has that of a later one, some eras before
+pub date_exists : DateExists
+date_exists (pos n) = date_from_epoch n
+date_exists (negsuc n) =
+    let (date, is) = date_from_epoch (146096 * (n + 1)) in
+    (later date (negsuc n), omega (arith, ints, is, number_later date (negsuc n)))
+
+-- ---- its year
+
+-- A date is in its year.
+pub in_its_year : (date : Date) → HasDay date.year (number_of date)
+in_its_year date =
+    let range = year_day_range date.valid in
+    record { from = omega (arith, ints); before = omega (arith, ints, next_first_day date.year) }
+
+pub year_of_day_exists : YearOfDayExists
+year_of_day_exists day =
+    let (date, is) = date_exists day in
+    (date.year, subst (HasDay date.year) is (in_its_year date))
+
+-- ---- its week
+
+-- that of the Thursday that is at most three days away
+pub iso_week_exists : IsoWeekExists
+iso_week_exists day =
+    let (days, small, has_weekday) = weekday_within (day -ℤ pos 3) Thursday in
+    let thursday : ℤ = day -ℤ pos 3 +ℤ pos days in
+    let (year, of_year) = year_of_day_exists thursday in
+    let place : ℕ = unsigned_abs (thursday -ℤ first_day year) in
+    let from : thursday ≡ first_day year +ℤ pos place = omega (arith, ints, of_year.from) in (
+      year,
+      place / 7 + 1,
+      record {
+        thursday = thursday;
+        of_week = record { has_weekday = has_weekday; from = omega (arith, ints); to = omega (arith, ints) };
+        of_year = of_year;
+        from = omega (arith, ints);
+        before = omega (arith, ints);
+      },
+    )
