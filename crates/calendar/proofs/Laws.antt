@@ -16,7 +16,7 @@ pub use Rattle.calendar.proofs.DatesOfDays.{date_exists}
 pub use Rattle.calendar.proofs.DateTexts.{only_text as text_is_only}
 -- ---- months
 
-pub use Rattle.calendar.proofs.MonthSteps.{months_after_exists, only_months_after as months_after_is_only, only_months_between as months_between_is_only}
+pub use Rattle.calendar.proofs.MonthSteps.{months_after_exists, only_months_after as months_after_is_only, only_months_between as months_between_is_only, only_years_between as years_between_is_only}
 pub use Rattle.calendar.proofs.MonthWeekdays.{only_last_of_month as last_weekday_of_month_is_only, only_nth_weekday as nth_weekday_is_only}
 pub use Rattle.calendar.proofs.NextLastWeekdays.{next_last_weekday_exists, only_next_last as next_last_weekday_is_only}
 -- ---- weeks

@@ -1,7 +1,7 @@
 -- Dates some months apart.
 use Rattle.calendar.proofs.Common.{◌≡◌, ◌<◌, ◌≤◌, ◌+◌, ◌-◌, ◌/◌, ◌%◌, ◌≤ℤ◌, ◌<ℤ◌, ◌+ℤ◌, ◌-ℤ◌, ◌*ℤ◌, ℕ, ℤ, pos, negsuc, min, unsigned_abs, ◌∙◌, arith, inl, inr, refl, sym, cases_lt, by_lt_z, ints, floored_quotient_range, floored_remainder_range, linear, IsFloored, IsQuotient}
 use Rattle.calendar.specs.Dates.{IsMonthsAfter, IsMonthsBetween, IsYearsBetween, number_of}
-use Rattle.calendar.specs.Laws.{MonthsAfterExists, MonthsAfterIsOnly, MonthsBetweenIsOnly}
+use Rattle.calendar.specs.Laws.{MonthsAfterExists, MonthsAfterIsOnly, MonthsBetweenIsOnly, YearsBetweenIsOnly}
 use Rattle.calendar.specs.Months.{days_in_month, month_number}
 use Rattle.calendar.specs.declared.date.Date.{Date}
 use Rattle.calendar.proofs.DateOrder.{of_parts, order}
@@ -116,3 +116,7 @@ whole_years {from} {to} {months} {years} h quotient =
       holds = record { date = date; is_after = is_after; not_later = omega (arith, linear, months_in_order {m = pos 12 *ℤ years} (omega (arith, ints)) is_after h.holds.is_after, h.holds.not_later) };
       greatest = λ more k. omega (arith, ints, h.greatest (pos 12 *ℤ more) k);
     }
+
+-- of which there is only one
+pub only_years_between : YearsBetweenIsOnly
+only_years_between from to a b h k = omega (arith, linear, h.greatest b k.holds, k.greatest a h.holds)

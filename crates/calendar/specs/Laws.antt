@@ -2,7 +2,7 @@
 use Rattle.std.specs.Prelude.{◌≡◌, ◌⊎◌, ◌↔◌, ◌<◌, ◌≤◌, ◌+◌, ◌*◌, ◌%◌, ◌<ℤ◌, ◌+ℤ◌, ℕ, ℤ, pos, FitsSigned, IsTrue, if◌then◌else◌}
 use Rattle.std.specs.Int.{w64}
 use Rattle.integer_core.specs.Divisors.{Divides}
-use Rattle.calendar.specs.Dates.{HasParts, IsEarlier, IsLastWeekdayOfMonth, IsMonthsAfter, IsMonthsBetween, IsNextLastWeekday, IsNthWeekday, number_of, year_day_of}
+use Rattle.calendar.specs.Dates.{HasParts, IsEarlier, IsLastWeekdayOfMonth, IsMonthsAfter, IsMonthsBetween, IsNextLastWeekday, IsNthWeekday, IsYearsBetween, number_of, year_day_of}
 use Rattle.calendar.specs.IsoWeeks.{HasIsoWeek, HasIsoWeeks, IsDayOfIsoWeek, IsInIsoWeek}
 use Rattle.calendar.specs.LeapYears.{is_leap_year}
 use Rattle.calendar.specs.Years.{HasDay, day_number, days_in_year, first_day}
@@ -83,6 +83,10 @@ NthWeekdayIsOnly = (year : ℤ) (month : ℕ) (weekday : Weekday) (n : ℕ) (a b
 -- From each date to each other there is at most one number of whole months.
 abbrev pub MonthsBetweenIsOnly : Type 0
 MonthsBetweenIsOnly = (from to : Date) (a b : ℤ) → IsMonthsBetween from to a → IsMonthsBetween from to b → a ≡ b
+
+-- From each date to each other there is at most one number of whole years.
+abbrev pub YearsBetweenIsOnly : Type 0
+YearsBetweenIsOnly = (from to : Date) (a b : ℤ) → IsYearsBetween from to a → IsYearsBetween from to b → a ≡ b
 
 -- Each month has at most one last day of each day of the week.
 abbrev pub LastWeekdayOfMonthIsOnly : Type 0

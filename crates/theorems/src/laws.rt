@@ -109,6 +109,7 @@ pub fn laws_of_dates()
     ensures months_after_is_only { dates.MonthsAfterIsOnly }
     ensures nth_weekday_is_only { dates.NthWeekdayIsOnly }
     ensures months_between_is_only { dates.MonthsBetweenIsOnly }
+    ensures years_between_is_only { dates.YearsBetweenIsOnly }
     ensures last_weekday_of_month_is_only { dates.LastWeekdayOfMonthIsOnly }
     ensures next_last_weekday_exists { dates.NextLastWeekdayExists }
     ensures next_last_weekday_is_only { dates.NextLastWeekdayIsOnly }
