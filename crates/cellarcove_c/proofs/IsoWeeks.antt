@@ -4,14 +4,14 @@ use Rattle.std.specs.Int.{w64}
 use Rattle.std.proofs.Common.{◌∙◌, arith, subst, sym}
 use Rattle.std.proofs.lemmas.Int.{ints}
 use Rattle.calendar.specs.Dates.{HasParts, number_of}
-use Rattle.calendar.specs.IsoWeeks.{HasIsoWeeks, IsDayOfIsoWeek, IsInIsoWeek}
+use Rattle.calendar.specs.IsoWeeks.{HasIsoWeek, HasIsoWeeks, IsDayOfIsoWeek, IsInIsoWeek}
 use Rattle.calendar.specs.Weekday.{iso_number}
 use Rattle.calendar.specs.Years.{HasDay}
 use Rattle.calendar.specs.declared.date.Date.{Date}
 use Rattle.calendar.specs.declared.weekday.Weekday.{Weekday}
-use Rattle.calendar.proofs.ForCallers.{weekday_within, weeks_apart, year_day_range}
-use Rattle.calendar.proofs.Laws.{iso_day_is_only, iso_number_is_only, weeks_of_a_year, years_follow}
-use Rattle.cellarcove_c.specs.Dates.{HasIsoWeek, IsDayBeyond, IsOfIsoNumber}
+use Rattle.calendar.proofs.ForCallers.{in_its_year, weeks_apart}
+use Rattle.calendar.proofs.Laws.{iso_day_exists, iso_day_is_only, iso_number_is_only, weeks_of_a_year}
+use Rattle.cellarcove_c.specs.Dates.{IsDayBeyond, IsOfIsoNumber}
 
 -- ---- weeks
 
@@ -45,35 +45,11 @@ has_week {year} {weeks} {week} h = (
 
 -- ---- days
 
--- a week has each day of the week
-day_in_week : {year : ℤ} {week : ℕ} → HasIsoWeek year week → (weekday : Weekday) → (day : ℤ) × IsDayOfIsoWeek day year week weekday
-day_in_week h weekday =
-    let k = h.in_week in
-    let (days, small, own) = weekday_within (k.thursday -ℤ pos 3) weekday in (
-      _,
-      record {
-        in_week = record {
-          thursday = k.thursday;
-          of_week = record { has_weekday = k.of_week.has_weekday; from = omega (arith, ints); to = omega (arith, ints) };
-          of_year = k.of_year;
-          from = k.from;
-          before = k.before;
-        };
-        has_weekday = own;
-      },
-    )
-
--- a date is in its year
-in_its_year : (date : Date) → HasDay date.year (number_of date)
-in_its_year date =
-    let range = year_day_range date.valid in
-    record { from = omega (arith, ints); before = omega (arith, ints, years_follow date.year) }
-
 -- a week of the year that has no date in a year that fits has its day beyond
 pub is_beyond : {year : ℤ} {week number : ℕ} (weekday : Weekday) → iso_number weekday ≡ number
     → ((day y : ℤ) → IsDayOfIsoWeek day year week weekday → HasDay y day → ¬ (FitsSigned w64 y)) → HasIsoWeek year week → IsDayBeyond year week number
-is_beyond weekday same beyond h =
-    let (day, own) = day_in_week h weekday in
+is_beyond {year} {week} weekday same beyond h =
+    let (day, own) = iso_day_exists year week weekday h in
     record { day = day; day_of_week = weekday; number = same; of_week = own; beyond = λ y k. beyond day y own k }
 
 -- and one that has a date has not

@@ -2,7 +2,7 @@
 use Rattle.std.specs.Int.{w64}
 use Rattle.std.specs.Prelude.{◌≡◌, ◌+ℤ◌, ℕ, ℤ, pos, min, FitsSigned, MatchOption, Option}
 use Rattle.calendar.specs.Dates.{HasParts, IsLastWeekdayOfMonth, IsMonthsBetween, IsNthWeekday}
-use Rattle.calendar.specs.IsoWeeks.{IsDayOfIsoWeek, IsInIsoWeek}
+use Rattle.calendar.specs.IsoWeeks.{IsDayOfIsoWeek}
 use Rattle.calendar.specs.Months.{IsDate, days_in_month, month_number}
 use Rattle.calendar.specs.Weekday.{iso_number}
 use Rattle.calendar.specs.Years.{HasDay, day_number}
@@ -38,12 +38,6 @@ abbrev pub MatchMonthsBetween : ℤ → ℕ → ℕ → ℤ → ℕ → ℕ → 
 MatchMonthsBetween year month day to_year to_month to_day answer = (from to : Date) × HasParts from year month day
     × HasParts to to_year to_month to_day × MatchOption answer
     ((months : ℤ) × IsMonthsBetween from to months × ¬ (FitsSigned w64 months)) (IsMonthsBetween from to)
-
--- Some day is in this week of the year.
--- Examples: 2009 and 53; not 2010 and 53; not 2009 and 0.
-pub record HasIsoWeek (year : ℤ) (week : ℕ) : Type 0 where
-  pub day : ℤ
-  pub in_week : IsInIsoWeek day year week
 
 -- The week has a day of the week of this ISO number, and no year of an `i64` has that day.
 -- Examples: 9223372036854775807, 53 and 7; not 9223372036854775807, 53 and 4, which is the last day of that year.

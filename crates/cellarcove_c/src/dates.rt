@@ -4,14 +4,14 @@ ghost use Rattle.std.specs.Prelude.{◌≡◌, ◌⊎◌, ◌↔◌, ◌≤◌, 
 ghost use Rattle.std.specs.Int.{w64};
 ghost use Rattle.calendar.specs.Dates.{HasParts, number_of};
 ghost use Rattle.calendar.specs.Easter.{IsEaster};
-ghost use Rattle.calendar.specs.IsoWeeks.{IsDayOfIsoWeek, IsInIsoWeek};
+ghost use Rattle.calendar.specs.IsoWeeks.{HasIsoWeek, IsDayOfIsoWeek, IsInIsoWeek};
 ghost use Rattle.calendar.specs.Months.{IsDate};
 ghost use Rattle.calendar.specs.Weekday.{iso_number};
 ghost use Rattle.calendar.specs.Years.{day_number};
 ghost use Rattle.calendar.specs.declared.weekday.Weekday.{Weekday};
 ghost use Rattle.num_integer.specs.Checked.{AnswersWhere};
 ghost use Rattle.cellarcove_c.specs.Answers.{Refuses};
-ghost use Rattle.cellarcove_c.specs.Dates.{Exists, HasIsoWeek, IsDayBeyond, IsMonthsLater, MatchMonthsBetween, day_of, zero_date};
+ghost use Rattle.cellarcove_c.specs.Dates.{Exists, IsDayBeyond, IsMonthsLater, MatchMonthsBetween, day_of, zero_date};
 ghost use Rattle.cellarcove_c.specs.Statuses.{Either, answer_of, no_date, not_fitting, outside};
 
 use crate::answers::{ANSWER, I64Answer, NO_DATE, NOT_FITTING, OUTSIDE};
