@@ -1,11 +1,16 @@
-//! The calls of this crate at every modulus: each is `None` if the modulus is not positive, and has no other condition.
-//! `checked::sum_modulo(5, 4, 7)` is `Some(2)`, and `checked::sum_modulo(5, 4, 0)` is `None`.
+//! The calls of this crate at every modulus: each is `None` if a modulus is not positive, and has no other condition.
+//! `power_modulo` returns the power of `counted::power_modulo_counted`. `checked::sum_modulo(5, 4, 7)` is `Some(2)`, and
+//! `checked::sum_modulo(5, 4, 0)` is `None`.
 
 ghost use Rattle.std.specs.Prelude.{◌<ℤ◌, ◌+ℤ◌, ◌-ℤ◌, ◌*ℤ◌, ℤ, neg_ℤ, pos, MatchBool, MatchOption};
 ghost use Rattle.std.specs.Int.{int_pow};
+ghost use Rattle.std.specs.List.{All};
 ghost use Rattle.modular.specs.CommonSolutions.{MatchCommonSolution, MatchWhere};
-ghost use Rattle.modular.specs.Congruences.{IsCountOfCongruent, IsInverse, IsNextCommonSolution, IsNextCongruent, IsPreviousCongruent, IsQuotientModulo, IsReducedModulus, IsResidue, IsResidueClass, Solves, SolvesBothCongruences};
+ghost use Rattle.modular.specs.Congruences.{IsCountOfCongruent, IsInverse, IsNextCommonSolution, IsNextCongruent, IsPreviousCongruent, IsQuotientModulo, IsReducedModulus, IsResidue, IsResidueClass, Solves, SolvesBothCongruences, SolvesEach};
 ghost use Rattle.num_integer.specs.Checked.{AnswersWhere, Has};
+ghost use Rattle.num_integer.specs.Divisors.{IsLeastCommonMultiple};
+ghost use Rattle.num_integer.specs.Least.{IsLeastFrom};
+ghost use Rattle.num_integer.specs.Range.{EachFits};
 
 use crate::common_solutions::CommonSolution;
 use crate::products::Modular;
@@ -190,6 +195,26 @@ pub fn count_congruent<T: Fits>(from: T, to: T, first: T, step: T) -> Option<T>
     }
 }
 
+/// Returns [`chinese_remainder`](crate::chinese_remainder), or `None` if a modulus is not positive, if the least common
+/// multiple of the moduli does not fit, or if there is no such number. `chinese_remainder(1, 4, 3, 6)` is
+/// `Some((9, 12))`, and `chinese_remainder(1, 4, 3, 0)` is `None`.
+pub fn chinese_remainder<T: Modular + Fits>(a: T, m: T, b: T, n: T) -> Option<(T, T)>
+    requires in_range { T.fits (T.value a) × T.fits (T.value m) × T.fits (T.value b)
+        × T.fits (T.value n) }
+    ensures { MatchWhere ((pos 0 <ℤ T.value m) × (pos 0 <ℤ T.value n)
+        × EachFits T.fits (IsLeastCommonMultiple (T.value m) (T.value n))) result
+        ((x : ℤ) → ¬ (SolvesBothCongruences (T.value a) (T.value m) (T.value b) (T.value n) x))
+        (λ s. T.fits (T.value s.0) × T.fits (T.value s.1)
+        × IsResidueClass (SolvesBothCongruences (T.value a) (T.value m) (T.value b) (T.value n))
+        (T.value s.0) (T.value s.1)) }
+{
+    if is_positive(m) && is_positive(n) && m.lcm_fits(&n) {
+        crate::chinese_remainder(a, m, b, n)
+    } else {
+        None
+    }
+}
+
 /// Returns [`next_common_solution`](crate::next_common_solution), or `None` if a modulus is not positive.
 /// `next_common_solution(10, 1, 4, 3, 6)` is `Some(CommonSolution::At(21))`, and
 /// `next_common_solution(10, 1, 0, 3, 6)` is `None`.
@@ -216,6 +241,47 @@ pub fn next_common_solution<T: Modular + Fits>(
     } else {
         None
     }
+}
+
+/// Returns [`next_common_solution_of`](crate::next_common_solution_of), or `None` if a modulus is not positive.
+/// `next_common_solution_of(10, &[(1, 4), (3, 6), (0, 7)])` is `Some(CommonSolution::At(21))`, and
+/// `next_common_solution_of(10, &[(1, 4), (3, 0)])` is `None`.
+///
+/// In Rattle, a function that passes on a slice of its own parameters asks its callers for `in_range` too.
+pub fn next_common_solution_of<T: Modular + Fits>(
+    from: T,
+    congruences: &[(T, T)],
+) -> Option<CommonSolution<T>>
+    requires from_in_range { T.fits (T.value from) }
+    requires in_range { All (λ c. T.fits (T.value c.0) × T.fits (T.value c.1)) congruences.now }
+    ensures { AnswersWhere (All (λ c. pos 0 <ℤ T.value c.1) congruences.now)
+        (λ s. MatchCommonSolution s
+        ((x : ℤ) → ¬ (SolvesEach T.value congruences.now x))
+        ((t : ℤ) × IsLeastFrom (T.value from) (SolvesEach T.value congruences.now) t
+        × ¬ (T.fits t))
+        (Has T.fits T.value (IsLeastFrom (T.value from) (SolvesEach T.value congruences.now))))
+        result }
+{
+    if are_positive(congruences) {
+        Some(crate::next_common_solution_of(from, congruences))
+    } else {
+        None
+    }
+}
+
+/// Returns `true` if each modulus is positive.
+fn are_positive<T: Integer>(congruences: &[(T, T)]) -> bool
+    requires { All (λ c. T.fits (T.value c.0) × T.fits (T.value c.1)) congruences.now }
+    ensures { MatchBool result (All (λ c. pos 0 <ℤ T.value c.1) congruences.now)
+        (¬ (All (λ c. pos 0 <ℤ T.value c.1) congruences.now)) }
+{
+    for congruence in congruences {
+        let (_, m) = *congruence;
+        if !is_positive(m) {
+            return false;
+        }
+    }
+    true
 }
 
 /// Returns `true` if the modulus is positive.
