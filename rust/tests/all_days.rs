@@ -4,7 +4,7 @@
 use cellarcove::calendar::{
     days_between, days_in_month, days_in_year, easter, first_weekday_on_or_after, is_leap_year,
     last_weekday_of_month, last_weekday_on_or_before, months_between, next_last_weekday,
-    nth_weekday_of_month, weekday_of, weeks_in_year, Date, IsoWeek, Weekday,
+    nth_weekday_of_month, weekday_of, weeks_in_year, years_between, Date, IsoWeek, Weekday,
 };
 
 /// The days of 400 years.
@@ -256,9 +256,9 @@ fn years_later() {
     }
 }
 
-/// The most months that lead no further.
+/// The most months and the most years that lead no further.
 #[test]
-fn whole_months() {
+fn whole_months_and_years() {
     for (day, year, month, day_of_month) in days(1999, 2, 10592).step_by(3) {
         let from = date(year, month, day_of_month);
         for (other, year, month, day_of_month) in days(1999, 2, 10592).step_by(4) {
@@ -266,6 +266,9 @@ fn whole_months() {
             let reached = |count: &i64| from.plus_months(*count).is_some_and(|date| date <= to);
             let expected = (-25..=25).rev().find(reached);
             assert_eq!(months_between(&from, &to), expected, "{from} {to}");
+            let reached = |count: &i64| reached(&(12 * count));
+            let expected = (-3..=3).rev().find(reached);
+            assert_eq!(years_between(&from, &to), expected, "{from} {to}");
             assert_eq!(days_between(&from, &to), Some(other - day), "{from} {to}");
             assert_eq!(from.plus_days(other - day), Some(to), "{from} {to}");
         }

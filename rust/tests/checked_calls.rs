@@ -74,9 +74,34 @@ fn as_the_plain_calls_at_a_positive_modulus() {
                 plain,
                 "{a} {b} {m}"
             );
+            let pairs = [(b, m), (1, 3)];
+            let plain = is_positive.then(|| modular::next_common_solution_of(a, &pairs));
+            assert_eq!(
+                residues::next_common_solution_of(a, &pairs),
+                plain,
+                "{a} {b} {m}"
+            );
+            let plain = (is_positive && m.lcm_fits(&3))
+                .then(|| modular::chinese_remainder(a, m, b, 3))
+                .flatten();
+            assert_eq!(
+                residues::chinese_remainder(a, m, b, 3),
+                plain,
+                "{a} {b} {m}"
+            );
         }
     }
     assert_eq!(residues::next_common_solution(0i8, 1, 2, 1, 0), None);
+    assert_eq!(
+        residues::next_common_solution_of(0i8, &[(1, 2), (1, 0)]),
+        None
+    );
+    assert_eq!(
+        residues::next_common_solution_of(5i8, &[]),
+        Some(CommonSolution::At(5))
+    );
+    assert_eq!(residues::chinese_remainder(1i8, 2, 1, 0), None);
+    assert_eq!(residues::chinese_remainder(1i8, 4, 3, 6), Some((9, 12)));
 }
 
 #[test]
