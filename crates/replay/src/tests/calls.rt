@@ -5,7 +5,8 @@ ghost use Rattle.std.specs.List.{All};
 use super::checksum::Checksum;
 use num_integer::operators::is_zero;
 use num_integer::{
-    ExtendedGcd, Fits, IterBinomial, Roots, average_ceil, average_floor, cbrt, checked,
+    ExtendedGcd, Fits, IterBinomial, Roots, average_ceil, average_floor, binomial, cbrt, checked,
+    gcd_lcm, lcm,
 };
 use num_traits::Signed;
 use own_types::types::Tested;
@@ -47,7 +48,7 @@ pub(crate) trait OfPair<T: Tested> {
 }
 
 /// The calls of two operands that each type has. If the divisor is 0, version 0.1.44 of the Rust
-/// crate panics in `is_multiple_of` and `divides`.
+/// crate panics in `is_multiple_of` and `divides`. If `checked` does not make the plain call, both are made.
 impl<T: Tested> OfPair<T> for Call {
     fn with_answer(&self, sum: Checksum, x: T, y: T) -> Option<Checksum> {
         Some(match self {
@@ -62,14 +63,14 @@ impl<T: Tested> OfPair<T> for Call {
             Call::Divides if !is_zero(y) => with_truth(sum, x.divides(&y)),
             Call::IsEvenIsOdd => with_truth(with_truth(sum, x.is_even()), y.is_odd()),
             Call::Gcd => with_value(sum, checked::gcd(x, y)?),
-            Call::Lcm => with_value(sum, checked::lcm(x, y)?),
-            Call::GcdLcm => with_values(sum, checked::gcd_lcm(x, y)?),
+            Call::Lcm => with_agreed(sum, checked::lcm(x, y)?, lcm(x, y))?,
+            Call::GcdLcm => with_both_agreed(sum, checked::gcd_lcm(x, y)?, gcd_lcm(x, y))?,
             Call::ExtendedGcd if has_asked_pair(x.parts().1, y.parts().1) => {
                 with_bezout(sum, checked::extended_gcd(x, y)?)
             }
             Call::AverageFloor => with_value(sum, average_floor(x, y)),
             Call::AverageCeil => with_value(sum, average_ceil(x, y)),
-            Call::Binomial => with_value(sum, checked::binomial(x, y)?),
+            Call::Binomial => with_agreed(sum, checked::binomial(x, y)?, binomial(x, y))?,
             _ => return None,
         })
     }
@@ -88,6 +89,25 @@ pub(crate) fn with_values<T: Fits>(sum: Checksum, both: (T, T)) -> Checksum
     requires second_in_range { T.fits (T.value both.1) }
 {
     sum.with(both.0.parts()).with(both.1.parts())
+}
+
+/// The checksum with the number that two calls return. If they differ, it is `None`, and the line lacks a result.
+fn with_agreed<T: Fits>(sum: Checksum, x: T, y: T) -> Option<Checksum>
+    requires { T.fits (T.value x) }
+{
+    if x == y {
+        Some(with_value(sum, x))
+    } else {
+        None
+    }
+}
+
+/// The same of two numbers.
+fn with_both_agreed<T: Fits>(sum: Checksum, x: (T, T), y: (T, T)) -> Option<Checksum>
+    requires first_in_range { T.fits (T.value x.0) }
+    requires second_in_range { T.fits (T.value x.1) }
+{
+    with_agreed(with_agreed(sum, x.0, y.0)?, x.1, y.1)
 }
 
 fn with_truth(sum: Checksum, holds: bool) -> Checksum {
@@ -115,7 +135,12 @@ pub(crate) struct BezoutAndMultiple;
 impl<T: Signed + Tested> OfPair<T> for BezoutAndMultiple {
     fn with_answer(&self, sum: Checksum, a: T, b: T) -> Option<Checksum> {
         let (pair, lcm) = checked::extended_gcd_lcm(a, b)?;
-        Some(with_value(with_bezout(sum, pair), lcm))
+        let (other, multiple) = a.extended_gcd_lcm(&b);
+        if pair == other {
+            with_agreed(with_bezout(sum, pair), lcm, multiple)
+        } else {
+            None
+        }
     }
 }
 
@@ -145,11 +170,12 @@ pub(crate) fn with_multinomial<T: Fits>(sum: Checksum, counts: &[T]) -> Option<C
     requires { All (λ x. T.fits (T.value x)) counts.now }
 {
     let multinomial = checked::multinomial(counts)?;
+    let other = num_integer::multinomial(counts);
     let mut sum = sum;
     for count in counts {
         sum = with_value(sum, *count);
     }
-    Some(with_value(sum, multinomial))
+    with_agreed(sum, multinomial, other)
 }
 
 /// The checksum with the items of the row.
