@@ -1,4 +1,4 @@
-//! The strings of dates: known ones, the ends of `i64`, and strings that no date has.
+//! The strings of dates: known ones, the ends of `i64`, and strings that no date has. The years from one date to another.
 
 ghost use Rattle.std.specs.Prelude.{IfErr, Some};
 ghost use Rattle.anyhow.specs.Error.{HasMessage};
@@ -6,7 +6,7 @@ ghost use Rattle.calendar.specs.Text.{error_text};
 
 use crate::assertions::holds_at;
 use anyhow::Result;
-use calendar::{Date, DateError};
+use calendar::{Date, DateError, years_between};
 use std::alloc::{AllocError, Global};
 use std::process::Abort;
 
@@ -108,5 +108,48 @@ fn years_of_texts(rt: HostRuntime) {
     for (text, year) in [("2026-11-23", Some(2026)), ("2026-11-31", None)] {
         let found = year_of_text(text).ok();
         holds_at(&rt, found == year, &("year_of_text", text));
+    }
+}
+
+/// Two dates, and the number of whole years from the first to the second, or `None` if it does not fit.
+static YEARS_BETWEEN: [(Parts, Parts, Option<i64>); 31] = [
+    ((2000, 2, 29), (2001, 2, 28), Some(1)),
+    ((2000, 2, 29), (2001, 2, 27), Some(0)),
+    ((2000, 2, 29), (2001, 3, 1), Some(1)),
+    ((2000, 2, 29), (2004, 2, 28), Some(3)),
+    ((2000, 2, 29), (2004, 2, 29), Some(4)),
+    ((2000, 2, 29), (2000, 2, 29), Some(0)),
+    ((2000, 2, 29), (2000, 2, 28), Some(-1)),
+    ((2000, 2, 29), (1999, 3, 1), Some(-1)),
+    ((2000, 2, 29), (1999, 2, 28), Some(-1)),
+    ((2000, 2, 29), (1999, 2, 27), Some(-2)),
+    ((2000, 3, 1), (2001, 2, 28), Some(0)),
+    ((2000, 3, 1), (2001, 3, 1), Some(1)),
+    ((2000, 3, 1), (2000, 2, 29), Some(-1)),
+    ((2000, 3, 1), (1999, 3, 1), Some(-1)),
+    ((2000, 3, 1), (1999, 2, 28), Some(-2)),
+    ((1600, 2, 29), (1900, 2, 28), Some(300)),
+    ((-1, 12, 31), (0, 1, 1), Some(0)),
+    ((-1, 12, 31), (0, 12, 31), Some(1)),
+    ((0, 1, 1), (-1, 12, 31), Some(-1)),
+    ((0, 1, 1), (i64::MAX, 12, 31), Some(i64::MAX)),
+    ((-1, 12, 31), (i64::MAX, 12, 30), Some(i64::MAX)),
+    ((-1, 12, 31), (i64::MAX, 12, 31), None),
+    ((i64::MAX, 12, 31), (i64::MAX, 12, 30), Some(-1)),
+    ((0, 1, 1), (i64::MIN, 1, 1), Some(i64::MIN)),
+    ((0, 1, 2), (i64::MIN, 1, 1), None),
+    ((i64::MIN, 1, 1), (i64::MIN, 1, 1), Some(0)),
+    ((i64::MIN, 1, 1), (-1, 1, 1), Some(i64::MAX)),
+    ((i64::MIN, 1, 2), (0, 1, 1), Some(i64::MAX)),
+    ((i64::MIN, 1, 1), (0, 1, 1), None),
+    ((i64::MIN, 1, 1), (i64::MAX, 12, 31), None),
+    ((i64::MAX, 12, 31), (i64::MIN, 1, 1), None),
+];
+
+#[test]
+fn years_between_dates(rt: HostRuntime) {
+    for &(from, to, years) in &YEARS_BETWEEN {
+        let found = years_between(&date(&rt, from), &date(&rt, to));
+        holds_at(&rt, found == years, &("years_between", from, to));
     }
 }
