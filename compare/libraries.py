@@ -407,6 +407,11 @@ def months_between(start, end):
     return count if plus_months(start, count) <= end else count - 1
 
 
+def years_between(start, end):
+    count = end[0] - start[0]
+    return count if plus_months(start, 12 * count) <= end else count - 1
+
+
 OF_NUMBER = {
     "Day": day,
     "Year": year,
@@ -420,6 +425,7 @@ OF_TWO_NUMBERS = {
     "PlusMonths": lambda d, n: plus_months(date_parts(d), n),
     "DaysBetween": lambda d, n: I64.fitting(n - d),
     "MonthsBetween": lambda d, n: I64.fitting(months_between(date_parts(d), date_parts(n))),
+    "YearsBetween": lambda d, n: I64.fitting(years_between(date_parts(d), date_parts(n))),
 }
 
 

@@ -7,7 +7,7 @@ use super::walks::Answered;
 use calendar::{
     Date, Weekday, days_between, days_in_month, days_in_year, easter, first_weekday_on_or_after,
     is_leap_year, last_weekday_of_month, last_weekday_on_or_before, months_between,
-    nth_weekday_of_month, weekday_of, weeks_in_year,
+    nth_weekday_of_month, weekday_of, weeks_in_year, years_between,
 };
 use std::alloc::Global;
 use std::process::Abort;
@@ -28,6 +28,7 @@ pub(crate) enum Dates {
     PlusMonths,
     DaysBetween,
     MonthsBetween,
+    YearsBetween,
 }
 
 /// How many indices give the numbers that a call takes alone.
@@ -156,7 +157,11 @@ fn of_two_numbers(call: Dates, sum: Checksum, day: i64, n: i64) -> Option<Checks
             &date,
             &Date::from_day_number(n),
         )?)),
-        _ => Some(sum.with_number(months_between(&date, &Date::from_day_number(n))?)),
+        Dates::MonthsBetween => Some(sum.with_number(months_between(
+            &date,
+            &Date::from_day_number(n),
+        )?)),
+        _ => Some(sum.with_number(years_between(&date, &Date::from_day_number(n))?)),
     }
 }
 
@@ -193,9 +198,11 @@ impl LibraryCall<u32> for Dates {
     fn results<R: Abort>(&self, rt: &R, alloc: Global, bits: u32) -> Answered {
         match self {
             Dates::EleventhDays => each_eleventh_day(),
-            Dates::PlusDays | Dates::PlusMonths | Dates::DaysBetween | Dates::MonthsBetween => {
-                each_pair(rt, alloc, bits, *self)
-            }
+            Dates::PlusDays
+            | Dates::PlusMonths
+            | Dates::DaysBetween
+            | Dates::MonthsBetween
+            | Dates::YearsBetween => { each_pair(rt, alloc, bits, *self) }
             _ => each(rt, alloc, bits, *self),
         }
     }

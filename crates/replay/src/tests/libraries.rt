@@ -134,7 +134,7 @@ pub(crate) const FRACTIONS: [LibraryLine<u32, Fractions>; 48] = [
     (64, Fractions::Order, 50625, 10604049815901054986),
 ];
 
-pub(crate) const DATES: [LibraryLine<u32, Dates>; 28] = [
+pub(crate) const DATES: [LibraryLine<u32, Dates>; 31] = [
     (32, Dates::EleventhDays, 332006, 16245856109778977660),
     (16, Dates::Day, 1915, 2116605584101422238),
     (16, Dates::Year, 1915, 14533767960924789170),
@@ -145,6 +145,7 @@ pub(crate) const DATES: [LibraryLine<u32, Dates>; 28] = [
     (16, Dates::PlusMonths, 13225, 12925823247533526232),
     (16, Dates::DaysBetween, 13225, 4939222782514583963),
     (16, Dates::MonthsBetween, 13225, 352715043218748682),
+    (16, Dates::YearsBetween, 13225, 6652855114335392641),
     (32, Dates::Day, 1985, 11591904562011903470),
     (32, Dates::Year, 1985, 7217564907446643130),
     (32, Dates::Months, 1985, 1847809445595962831),
@@ -154,6 +155,7 @@ pub(crate) const DATES: [LibraryLine<u32, Dates>; 28] = [
     (32, Dates::PlusMonths, 15625, 9588606759753615218),
     (32, Dates::DaysBetween, 15625, 14535334856391249783),
     (32, Dates::MonthsBetween, 15625, 18233331189136599645),
+    (32, Dates::YearsBetween, 15625, 4726514611838458990),
     (64, Dates::Day, 2017, 14433241132137746406),
     (64, Dates::Year, 2017, 6657815714752984704),
     (64, Dates::Months, 2017, 1524333724741362677),
@@ -163,6 +165,7 @@ pub(crate) const DATES: [LibraryLine<u32, Dates>; 28] = [
     (64, Dates::PlusMonths, 16129, 8828165748580224333),
     (64, Dates::DaysBetween, 15640, 4637492369698694694),
     (64, Dates::MonthsBetween, 16129, 8427298505858436736),
+    (64, Dates::YearsBetween, 16129, 1534579975898684918),
 ];
 
 pub(crate) const MODELS: [LibraryLine<Type, Models>; 14] = [
