@@ -1,9 +1,10 @@
 //! Functions that call `num_integer::checked` at native types. A program calls them so if it knows nothing of its
 //! numbers.
 
-ghost use Rattle.std.specs.Prelude.{◌≡◌, ◌≢◌, ◌⊎◌, ◌<◌, ◌%◌, ◌^◌, ◌<ℤ◌, ◌+ℤ◌, All, FitsSigned, IfSome, MatchOption, map, pos};
+ghost use Rattle.std.specs.Prelude.{◌≡◌, ◌≢◌, ◌⊎◌, ◌<◌, ◌%◌, ◌^◌, ◌<ℤ◌, ◌≤ℤ◌, ◌+ℤ◌, All, FitsSigned, MatchOption, map, pos};
 ghost use Rattle.std.specs.Int.{FitsUnsignedBits, w64};
 ghost use Rattle.num_integer.specs.Bezout.{IsBezoutAnswer};
+ghost use Rattle.num_integer.specs.Checked.{AnswersWhere};
 ghost use Rattle.num_integer.specs.Coefficient.{coefficient};
 ghost use Rattle.num_integer.specs.Division.{IsCeiled, IsFloored, IsMultiple, IsQuotient, IsRemainder};
 ghost use Rattle.num_integer.specs.Divisors.{Divides, IsGreatestCommonDivisor, IsLeastCommonMultiple};
@@ -96,15 +97,18 @@ pub fn orders(counts: &[u64]) -> Option<u64>
 /// slice are required to be in range. The prover knows this of an unsigned one.
 pub fn signed_orders(counts: &[i64]) -> Option<i64>
     requires { All (FitsSigned w64) counts.now }
-    ensures { IfSome result (λ m. IsMultinomial (map (λ x. x) counts.now) m) }
+    ensures { AnswersWhere
+        (All (λ x. pos 0 ≤ℤ x) counts.now
+        × EachFits (FitsSigned w64) (IsMultinomial (map (λ x. x) counts.now)))
+        (λ m. IsMultinomial (map (λ x. x) counts.now) m)
+        result }
 {
     checked::multinomial(counts)
 }
 
 /// Returns the row of Pascal's triangle, or `None` if an item does not fit.
 pub fn row(n: u64) -> Option<IterBinomial<u64>>
-    ensures { MatchOption result (¬ (RowFits (FitsUnsignedBits 64) (pos n)))
-        (λ r. r ≡ row_of (pos n)) }
+    ensures { AnswersWhere (RowFits (FitsUnsignedBits 64) (pos n)) (λ r. r ≡ row_of (pos n)) result }
 {
     checked::row(n)
 }

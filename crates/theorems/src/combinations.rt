@@ -1,6 +1,6 @@
 //! Functions that call `applied` for combinations and their ranks.
 
-ghost use Rattle.std.specs.Prelude.{◌≡◌, ◌<◌, ◌^◌, MatchOption, length};
+ghost use Rattle.std.specs.Prelude.{◌≡◌, ◌<◌, ◌^◌, SomeIff, length};
 ghost use Rattle.num_integer.specs.Coefficient.{coefficient};
 ghost use Rattle.applied.specs.Ranking.{IsChoice, rank_of};
 
@@ -8,8 +8,7 @@ use applied::ranking::{is_choice, rank, rank_fits};
 
 /// Returns the rank of the numbers, or `None` if they are not a combination or the rank does not fit.
 pub fn rank_if_choice(numbers: &[u64], n: u64) -> Option<u64>
-    ensures { MatchOption result (¬ (IsChoice n numbers.now × (rank_of numbers.now < 2 ^ 64)))
-        (λ r. r ≡ rank_of numbers.now) }
+    ensures { SomeIff result (IsChoice n numbers.now × (rank_of numbers.now < 2 ^ 64)) (rank_of numbers.now) }
 {
     if is_choice(numbers, n) && rank_fits(numbers) {
         Some(rank(numbers, n))

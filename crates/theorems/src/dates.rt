@@ -1,28 +1,37 @@
 //! What is proved of `calendar` beside the main theorems.
 
-ghost use Rattle.std.specs.Prelude.{◌≡◌, ◌⊎◌, ◌↔◌, ◌++◌, ◌<◌, ◌<ℤ◌, ◌+ℤ◌, FitsSigned, IfOk, IfSome, IsTrue, MatchOption, Ok, Some, if◌then◌else◌, map, pos, ℤ};
+ghost use Rattle.std.specs.Prelude.{◌≡◌, ◌≢◌, ◌⊎◌, ◌↔◌, ◌++◌, ◌<◌, ◌≤◌, ◌<ℤ◌, ◌+ℤ◌, ◌-ℤ◌, FitsSigned, IsTrue, MatchOption, Ok, Some, if◌then◌else◌, pos, ℕ, ℤ};
+ghost use Rattle.std.specs.Fmt.{WritesOnOk};
 ghost use Rattle.std.specs.Hash as written;
 ghost use Rattle.std.specs.Int.{w64};
 ghost use Rattle.std.specs.List.{fold};
 ghost use Rattle.std.specs.Option.{SomeIff};
-ghost use Rattle.calendar.specs.Dates.{IsEarlier, IsMonthsBetween, day_numbers, number_of};
+ghost use Rattle.calendar.specs.Dates.{HasParts, IsEarlier, IsLastWeekdayOfMonth, IsMonthsAfter, IsMonthsBetween, IsNextLastWeekday, IsNthWeekday, IsYearsBetween, day_numbers, number_of};
 ghost use Rattle.calendar.specs.Easter.{IsEaster};
+ghost use Rattle.calendar.specs.IsoWeeks.{IsDayOfIsoWeek, IsInIsoWeek};
 ghost use Rattle.calendar.specs.LeapYears.{is_leap_year};
-ghost use Rattle.calendar.specs.Weeks.{HasWeekday};
+ghost use Rattle.calendar.specs.Months.{IsDate};
+ghost use Rattle.calendar.specs.Text.{text_of};
+ghost use Rattle.calendar.specs.Weeks.{HasWeekday, IsFirstWeekday, IsLastWeekday};
+ghost use Rattle.calendar.specs.Years.{HasDay};
 ghost use Rattle.calendar.specs.declared.date.Date.{Date};
+ghost use Rattle.num_integer.specs.Checked.{AnswersWhere};
 ghost use Rattle.num_integer.specs.Divisors.{Divides};
 ghost use Rattle.num_integer.specs.Only.{IsOnly};
 
-use calendar::{Date, DateError, IsoWeek, Weekday, days_between, easter, is_leap_year, months_between};
-use std::alloc::{AllocError, Global};
-use std::hash::Hasher;
+use calendar::{
+    Date, DateError, Days, IsoWeek, Weekday, days_between, easter, first_weekday_on_or_after,
+    is_leap_year, last_weekday_of_month, last_weekday_on_or_before, months_between,
+    next_last_weekday, nth_weekday_of_month, years_between,
+};
+use std::fmt;
+use std::hash::{Hash, Hasher};
 
 // ---- what a caller can prove from the contracts
 
 /// Returns `date`, which is the date of its day number, or `None` if the day number does not fit.
 pub fn date_of_its_day_number(date: &Date) -> Option<Date>
-    ensures { MatchOption result (¬ (FitsSigned w64 (number_of date.now)))
-        (λ again. again ≡ date.now) }
+    ensures { SomeIff result (FitsSigned w64 (number_of date.now)) date.now }
 {
     Some(Date::from_day_number(date.day_number()?))
 }
@@ -32,15 +41,6 @@ pub fn day_number_of_its_date(day: i64) -> Option<i64>
     ensures { result ≡ Some day }
 {
     Date::from_day_number(day).day_number()
-}
-
-/// Returns the day of the week `days` days after the date, or `None` if the year of that day does not fit.
-pub fn weekday_later(date: &Date, days: i64) -> Option<Weekday>
-    ensures { MatchOption result
-        ((later : Date) → number_of later ≡ number_of date.now +ℤ days → ¬ (FitsSigned w64 later.year))
-        (λ weekday. HasWeekday (number_of date.now +ℤ days) weekday) }
-{
-    Some(date.plus_days(days)?.weekday())
 }
 
 /// Returns `true` if the first date is earlier. Dates are in the order of their years, months and days of the month.
@@ -85,7 +85,7 @@ pub fn has_leap_day(year: i64) -> bool
 /// `i64::MAX`.
 pub fn length_of_year(year: i64) -> Option<i64>
     ensures { MatchOption result (year ≡ i64.MAX)
-        (λ days. days ≡ pos (if is_leap_year year then 366 else 365)) }
+        (λ days. (year ≢ i64.MAX) × (days ≡ pos (if is_leap_year year then 366 else 365))) }
 {
     let first = Date {
         year,
@@ -98,23 +98,6 @@ pub fn length_of_year(year: i64) -> Option<i64>
         day_of_month: 1,
     };
     days_between(&first, &next)
-}
-
-/// Returns `date`, which is the date of its week and its day of the week, or `None` if the year of the week does not
-/// fit.
-pub fn date_of_its_week(date: &Date) -> Option<Date>
-    ensures { IfSome result (λ again. again ≡ date.now) }
-{
-    let week = date.iso_week()?;
-    Date::from_iso_week(week.year, week.week, date.weekday())
-}
-
-/// Returns `week`, which is the week of the date of each of its days. Returns `None` if the year has no such week or
-/// the year of the date does not fit.
-pub fn week_of_its_date(week: &IsoWeek, weekday: Weekday) -> Option<IsoWeek>
-    ensures { IfSome result (λ again. again ≡ week.now) }
-{
-    Date::from_iso_week(week.year, week.week, weekday)?.iso_week()
 }
 
 /// Returns `true` if the first week is earlier. Weeks are in the order of their years, then of their numbers.
@@ -140,20 +123,28 @@ pub fn days_from_1970(date: &Date) -> Option<i64>
 
 /// Returns the date of Easter. No other day is Easter of that year.
 pub fn easter_is_unique(year: i64) -> Date
-    ensures { IsOnly (IsEaster year) (number_of result) }
+    ensures easter { IsEaster year (number_of result) }
+    ensures only { IsOnly (IsEaster year) (number_of result) }
+    ensures year { result.year ≡ year }
 {
     easter(year)
 }
 
-/// Returns the result of parsing the string of the date. That result is the date.
-pub fn print_and_parse(alloc: Global, date: Date) -> Result<Result<Date, DateError>, AllocError>
-    ensures { IfOk result (λ read. read ≡ Ok date) }
+/// Prints the date. If nothing fails, the string of the definition is written.
+pub fn printed<W: fmt::Write>(date: &Date, f: &mut fmt::Formatter<W>) -> fmt::Result
+    ensures { WritesOnOk W.write_str_gives f.old result (text_of date.now) f.new }
 {
-    let text = date.to_string(alloc)?;
-    Ok(text.as_str().parse())
+    write!(f, "{date}")
 }
 
-// ---- results as a caller uses them
+/// Parses a string. The result is a date exactly if the string is that of the date, and otherwise it is an error.
+pub fn parsed(text: &str) -> Result<Date, DateError>
+    ensures { (date : Date) → FitsSigned w64 date.year → (result ≡ Ok date) ↔ (text.now ≡ text_of date) }
+{
+    text.parse()
+}
+
+// ---- dates and distances
 
 /// Returns the number of whole months from `birth` to `today`, which is negative if `today` is earlier. Returns
 /// `None` if it does not fit.
@@ -165,9 +156,131 @@ pub fn months_old(birth: Date, today: Date) -> Option<i64>
     months_between(&birth, &today)
 }
 
-/// Collects the dates from `from` on that are before `end`.
-pub fn dates_until(alloc: Global, from: Date, end: Date) -> Result<Vec<Date>, AllocError>
-    ensures { IfOk result (λ v. map number_of v.items ≡ day_numbers (number_of from) (number_of end)) }
+/// Returns the number of whole years from `birth` to `today`, which is negative if `today` is earlier. Returns
+/// `None` if it does not fit.
+pub fn years_old(birth: &Date, today: &Date) -> Option<i64>
+    ensures { MatchOption result
+        ((years : ℤ) × IsYearsBetween birth.now today.now years × ¬ (FitsSigned w64 years))
+        (λ years. IsYearsBetween birth.now today.now years) }
 {
-    from.days_until(end).collect(alloc)
+    years_between(birth, today)
+}
+
+/// Returns the number of days from `from` to `to`, which is negative if `to` is earlier, or `None` if it does not fit.
+pub fn days_from_to(from: &Date, to: &Date) -> Option<i64>
+    ensures { SomeIff result (FitsSigned w64 (number_of to.now -ℤ number_of from.now))
+        (number_of to.now -ℤ number_of from.now) }
+{
+    days_between(from, to)
+}
+
+/// Returns an iterator over the dates from `from` on that are before `end`. It allocates nothing. The contract names its
+/// day numbers.
+pub fn dates_until(from: Date, end: Date) -> Days
+    ensures { result ≡ day_numbers (number_of from) (number_of end) }
+{
+    from.days_until(end)
+}
+
+/// Returns the date of a year, a month and a day of the month, or `None` if there is no such date.
+pub fn date_of_parts(year: i64, month: u8, day: u8) -> Option<Date>
+    ensures { AnswersWhere (IsDate year month day) (λ date. HasParts date year month day) result }
+{
+    Date::new(year, month, day)
+}
+
+/// Returns the date of a day number. No other date has that number.
+pub fn date_of_day_number(day: i64) -> Date
+    ensures number { number_of result ≡ day }
+    ensures only { IsOnly (λ date. number_of date ≡ day) result }
+{
+    Date::from_day_number(day)
+}
+
+/// Returns the date `days` days after this one, or `None` if its year does not fit.
+pub fn date_later(date: &Date, days: i64) -> Option<Date>
+    ensures { MatchOption result
+        ((later : Date) → number_of later ≡ number_of date.now +ℤ days → ¬ (FitsSigned w64 later.year))
+        (λ later. number_of later ≡ number_of date.now +ℤ days) }
+{
+    date.plus_days(days)
+}
+
+/// Returns the date `months` months after this one, or `None` if its year does not fit. If the day of the month would be
+/// after the last day of the month, it is the last day.
+pub fn date_months_later(date: &Date, months: i64) -> Option<Date>
+    ensures { MatchOption result
+        ((later : Date) → IsMonthsAfter date.now months later → ¬ (FitsSigned w64 later.year))
+        (λ later. IsMonthsAfter date.now months later) }
+{
+    date.plus_months(months)
+}
+
+// ---- days of the week, and weeks
+
+/// Returns the day of the week of the date.
+pub fn weekday_of_date(date: &Date) -> Weekday
+    ensures { HasWeekday (number_of date.now) result }
+{
+    date.weekday()
+}
+
+/// Returns the `n`-th such day of the week in the month, or `None` if there is none.
+pub fn nth_weekday(year: i64, month: u8, weekday: Weekday, n: u8) -> Option<Date>
+    ensures { MatchOption result
+        ((date : Date) → ¬ (IsNthWeekday year month weekday n date))
+        (λ date. IsNthWeekday year month weekday n date) }
+{
+    nth_weekday_of_month(year, month, weekday, n)
+}
+
+/// Returns the last such day of the week in the month, or `None` if there is no such month.
+pub fn last_weekday(year: i64, month: u8, weekday: Weekday) -> Option<Date>
+    ensures { AnswersWhere ((1 ≤ month) × (month ≤ 12))
+        (λ date. IsLastWeekdayOfMonth year month weekday date) result }
+{
+    last_weekday_of_month(year, month, weekday)
+}
+
+/// Returns the first date after another that is the last such day of the week in its month, or `None` if its year does
+/// not fit.
+pub fn next_last_weekday_after(after: &Date, weekday: Weekday) -> Option<Date>
+    ensures { MatchOption result
+        ((date : Date) → IsNextLastWeekday after.now weekday date → ¬ (FitsSigned w64 date.year))
+        (λ date. IsNextLastWeekday after.now weekday date) }
+{
+    next_last_weekday(after, weekday)
+}
+
+/// Returns the first such day of the week from `day` on, and the last one up to `day`. Each is `None` if it does not fit.
+pub fn nearest_weekdays(day: i64, weekday: Weekday) -> (Option<i64>, Option<i64>)
+    ensures first { MatchOption result.0
+        ((first : ℤ) → IsFirstWeekday day weekday first → ¬ (FitsSigned w64 first))
+        (λ first. IsFirstWeekday day weekday first) }
+    ensures last { MatchOption result.1
+        ((last : ℤ) → IsLastWeekday day weekday last → ¬ (FitsSigned w64 last))
+        (λ last. IsLastWeekday day weekday last) }
+{
+    (
+        first_weekday_on_or_after(day, weekday),
+        last_weekday_on_or_before(day, weekday),
+    )
+}
+
+/// Returns the ISO 8601 week of the date, or `None` if its year does not fit.
+pub fn week_of_date(date: &Date) -> Option<IsoWeek>
+    ensures { MatchOption result
+        ((year : ℤ) (week : ℕ) → IsInIsoWeek (number_of date.now) year week → ¬ (FitsSigned w64 year))
+        (λ week. IsInIsoWeek (number_of date.now) week.year week.week) }
+{
+    date.iso_week()
+}
+
+/// Returns the date of a day of a week. Returns `None` if the year has no such week or the year of the date does not fit.
+pub fn date_in_week(year: i64, week: u8, weekday: Weekday) -> Option<Date>
+    ensures { MatchOption result
+        ((day y : ℤ) → IsDayOfIsoWeek day year week weekday → HasDay y day → ¬ (FitsSigned w64 y))
+        (λ date. IsDayOfIsoWeek (number_of date) year week weekday) }
+{
+    Date::from_iso_week(year, week, weekday)
 }

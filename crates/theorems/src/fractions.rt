@@ -1,20 +1,22 @@
 //! What is proved of `ratio64` beside the main theorems.
 
-ghost use Rattle.std.specs.Prelude.{◌≡◌, ◌↔◌, ◌++◌, ◌<◌, ◌<ℤ◌, ◌+ℤ◌, ◌*ℤ◌, Err, IfOk, IfSome, IsTrue, MatchOption, Ok, neg_ℤ, pos, unsigned_abs, ℤ};
-ghost use Rattle.std.specs.Hash as written;
-ghost use Rattle.std.specs.Int.{int_pow};
-ghost use Rattle.std.specs.List.{fold};
+ghost use Rattle.std.specs.Prelude.{◌≡◌, ◌≢◌, ◌↔◌, ◌≤ℤ◌, ◌<ℤ◌, ◌+ℤ◌, ◌*ℤ◌, Err, FitsSigned, IfOk, IfSome, IsTrue, MatchOption, neg_ℤ, pos, unsigned_abs, ℤ};
+ghost use Rattle.std.specs.Fmt.{WritesOnOk};
+ghost use Rattle.std.specs.Int.{int_pow, w64};
+ghost use Rattle.num_integer.specs.Checked.{AnswersWhere};
+ghost use Rattle.num_integer.specs.Division.{IsCeiled, IsFloored, IsQuotient, IsRemainder, IsTruncated};
 ghost use Rattle.num_integer.specs.Only.{IsOnly};
+ghost use Rattle.num_integer.specs.Range.{EachFits};
 ghost use Rattle.ratio64.specs.Fraction.{AreEqual, IsExact, IsFraction, IsOutsideI64, fraction_cmp};
 ghost use Rattle.ratio64.specs.Limiting.{IsNearestWithin};
-ghost use Rattle.ratio64.specs.Ratio.{den_of, num_of};
+ghost use Rattle.ratio64.specs.Ratio.{AnswersFraction, den_of, num_of, text_of};
+ghost use Rattle.ratio64.specs.RatioText.{ReadsFraction};
+ghost use Rattle.ratio64.specs.Rounding.{AnswersInParts, IsRounded};
 
+use num_integer::Integer;
 use ratio64::{ParseRatioError, Ratio, RatioError};
-use std::alloc::{AllocError, Global};
 use std::cmp::Ordering;
-
-/// The result of parsing a fraction.
-type ParseResult = Result<Ratio, ParseRatioError>;
+use std::fmt;
 
 // ---- what a caller can prove from the contracts
 
@@ -76,48 +78,35 @@ pub fn is_zero(x: &Ratio) -> bool
     x.num() == 0
 }
 
-/// Makes the fraction `c / d` from `a / b`, which is equal to it.
+/// Makes the fraction `c / d` from `a / b`, which is equal to it. Returns an error only if a part of it does not fit.
 pub fn new_from_equal(a: i64, b: i64, c: i64, d: i64) -> Result<Ratio, RatioError>
+    requires given { IsFraction a b }
     requires fraction { IsFraction c d }
     requires equal { AreEqual a b c d }
-    ensures { IfOk result (λ x. IsExact c d (num_of x) (den_of x)) }
+    ensures { AnswersFraction c d result }
 {
     Ratio::new(a, b)
 }
 
-/// Returns the sum of `a / b` and `c / d`, or an error if one of them or the sum does not fit.
-pub fn sum_of_new(a: i64, b: i64, c: i64, d: i64) -> Result<Ratio, RatioError>
-    requires first { IsFraction a b }
-    requires second { IsFraction c d }
-    ensures { IfOk result (λ x. IsExact (a *ℤ d +ℤ c *ℤ b) (b *ℤ d) (num_of x) (den_of x)) }
-{
-    Ratio::new(a, b)?.checked_add(&Ratio::new(c, d)?)
-}
-
-/// Returns the product of `a / b` and `c / d`, or an error if one of them or the product does not fit.
-pub fn product_of_new(a: i64, b: i64, c: i64, d: i64) -> Result<Ratio, RatioError>
-    requires first { IsFraction a b }
-    requires second { IsFraction c d }
-    ensures { IfOk result (λ x. IsExact (a *ℤ c) (b *ℤ d) (num_of x) (den_of x)) }
-{
-    Ratio::new(a, b)?.checked_mul(&Ratio::new(c, d)?)
-}
-
-/// Returns `true` if the three fractions ascend. Then the first is less than the last.
+/// Returns `true` if the first fraction is less than the second, and the second is less than the third. Then the first
+/// is less than the third.
 pub fn are_ascending(x: &Ratio, y: &Ratio, z: &Ratio) -> bool
-    ensures { IsTrue result → fraction_cmp (num_of x.now) (den_of x.now) (num_of z.now)
-        (den_of z.now) ≡ Ordering.Less }
+    ensures ascending { IsTrue result
+        ↔ ((fraction_cmp (num_of x.now) (den_of x.now) (num_of y.now) (den_of y.now) ≡ Ordering.Less)
+        × (fraction_cmp (num_of y.now) (den_of y.now) (num_of z.now) (den_of z.now) ≡ Ordering.Less)) }
+    ensures ends { IsTrue result
+        → fraction_cmp (num_of x.now) (den_of x.now) (num_of z.now) (den_of z.now) ≡ Ordering.Less }
 {
     matches!((x.cmp(y), y.cmp(z)), (Ordering::Less, Ordering::Less))
 }
 
 /// Returns -1 if the first is less than the second, 0 if they are equal, and 1 if it is greater.
 pub fn sign_of_difference(x: &Ratio, y: &Ratio) -> i64
-    ensures below { (result <ℤ pos 0)
+    ensures below { (result ≡ neg_ℤ (pos 1))
         ↔ ((num_of x.now *ℤ den_of y.now) <ℤ (num_of y.now *ℤ den_of x.now)) }
     ensures level { (result ≡ pos 0)
         ↔ (num_of x.now *ℤ den_of y.now ≡ num_of y.now *ℤ den_of x.now) }
-    ensures above { (pos 0 <ℤ result)
+    ensures above { (result ≡ pos 1)
         ↔ ((num_of y.now *ℤ den_of x.now) <ℤ (num_of x.now *ℤ den_of y.now)) }
 {
     match x.cmp(y) {
@@ -155,13 +144,18 @@ pub fn nearest_is_unique(x: &Ratio, max: i64, num: i64, den: i64) -> (i64, i64)
     (nearest.num(), nearest.den())
 }
 
-/// Returns the parts of the fraction and the result of parsing its string. That result is the fraction.
-pub fn print_and_parse(alloc: Global, x: &Ratio) -> Result<(i64, i64, ParseResult), AllocError>
-    ensures { IfOk result (λ r. r.2 ≡ Ok x.now) }
+/// Prints the fraction. If nothing fails, the string of the definition is written.
+pub fn printed<W: fmt::Write>(x: &Ratio, f: &mut fmt::Formatter<W>) -> fmt::Result
+    ensures { WritesOnOk W.write_str_gives f.old result (text_of x.now) f.new }
 {
-    let (num, den) = (x.num(), x.den());
-    let text = x.to_string(alloc)?;
-    Ok((num, den, text.as_str().parse()))
+    write!(f, "{x}")
+}
+
+/// Parses a string. Each string has one result. A law says that the string of a fraction gives that fraction.
+pub fn parsed(text: &str) -> Result<Ratio, ParseRatioError>
+    ensures { ReadsFraction text.now result }
+{
+    text.parse()
 }
 
 // ---- results as a caller uses them, with no proof file
@@ -179,8 +173,9 @@ pub fn negation(x: &Ratio) -> Option<Ratio>
 
 /// Returns the magnitude, or `None` if it does not fit.
 pub fn magnitude(x: &Ratio) -> Option<Ratio>
-    ensures { IfSome result (λ r. IsExact (pos (unsigned_abs (num_of x.now))) (den_of x.now) (num_of r)
-        (den_of r)) }
+    ensures { MatchOption result
+        (IsOutsideI64 (pos (unsigned_abs (num_of x.now))) (den_of x.now))
+        (λ r. IsExact (pos (unsigned_abs (num_of x.now))) (den_of x.now) (num_of r) (den_of r)) }
 {
     if let Ok(magnitude) = x.checked_abs() {
         Some(magnitude)
@@ -189,9 +184,10 @@ pub fn magnitude(x: &Ratio) -> Option<Ratio>
     }
 }
 
-/// Returns the reciprocal, or an error if the fraction is 0 or the reciprocal does not fit.
+/// Returns the reciprocal, or `ZeroDenominator` if the fraction is 0, or `NotFitting` if a part of the reciprocal does
+/// not fit.
 pub fn reciprocal(x: &Ratio) -> Result<Ratio, RatioError>
-    ensures { IfOk result (λ r. IsExact (den_of x.now) (num_of x.now) (num_of r) (den_of r)) }
+    ensures { AnswersFraction (den_of x.now) (num_of x.now) result }
 {
     let reciprocal = x.checked_recip()?;
     Ok(reciprocal)
@@ -207,4 +203,117 @@ pub fn square(x: &Ratio) -> Option<Ratio>
         Ok(square) => Some(square),
         Err(_) => None,
     }
+}
+
+/// Returns the power, which for a negative exponent is that of the reciprocal. Returns `ZeroDenominator` for 0 to a
+/// negative power, and `NotFitting` if a part of the power does not fit.
+pub fn power(x: &Ratio, exponent: i32) -> Result<Ratio, RatioError>
+    ensures from_zero { pos 0 ≤ℤ exponent → AnswersFraction
+        (int_pow (num_of x.now) (unsigned_abs exponent))
+        (int_pow (den_of x.now) (unsigned_abs exponent)) result }
+    ensures below_zero { exponent <ℤ pos 0 → AnswersFraction
+        (int_pow (den_of x.now) (unsigned_abs exponent))
+        (int_pow (num_of x.now) (unsigned_abs exponent)) result }
+{
+    x.checked_pow(exponent)
+}
+
+// ---- rounding
+
+/// Returns the fraction rounded toward 0, and the nearest integer. Of two integers that are equally near it is the one
+/// farther from 0.
+pub fn nearest_integers(x: &Ratio) -> (i64, i64)
+    ensures truncated { IsQuotient IsTruncated (num_of x.now) (den_of x.now) result.0 }
+    ensures rounded { IsRounded (num_of x.now) (den_of x.now) result.1 }
+{
+    (x.trunc(), x.round())
+}
+
+/// Returns what is left of the fraction when it is rounded toward 0.
+pub fn fractional_part(x: &Ratio) -> Ratio
+    ensures num { IsRemainder IsTruncated (num_of x.now) (den_of x.now) (num_of result) }
+    ensures den { den_of result ≡ den_of x.now }
+{
+    x.fract()
+}
+
+/// Returns the fraction times `n`, rounded down, or `None` if that number does not fit.
+pub fn floor_of_product(x: &Ratio, n: i64) -> Option<i64>
+    ensures { MatchOption result
+        (¬ (EachFits (FitsSigned w64) (IsQuotient IsFloored (num_of x.now *ℤ n) (den_of x.now))))
+        (λ q. IsQuotient IsFloored (num_of x.now *ℤ n) (den_of x.now) q) }
+{
+    match x.floor_times(n) {
+        Some(q) => Some(q),
+        None => None,
+    }
+}
+
+/// Returns the fraction times `n`, rounded up, or `None` if that number does not fit.
+pub fn ceil_of_product(x: &Ratio, n: i64) -> Option<i64>
+    ensures { MatchOption result
+        (¬ (EachFits (FitsSigned w64) (IsQuotient IsCeiled (num_of x.now *ℤ n) (den_of x.now))))
+        (λ q. IsQuotient IsCeiled (num_of x.now *ℤ n) (den_of x.now) q) }
+{
+    match x.ceil_times(n) {
+        Some(q) => Some(q),
+        None => None,
+    }
+}
+
+/// Returns the integer nearest to the fraction times `n`, and of two that are equally near the one farther from 0, or
+/// `None` if that integer does not fit.
+pub fn rounded_product(x: &Ratio, n: i64) -> Option<i64>
+    ensures { AnswersWhere
+        (EachFits (FitsSigned w64) (IsRounded (num_of x.now *ℤ n) (den_of x.now)))
+        (IsRounded (num_of x.now *ℤ n) (den_of x.now)) result }
+{
+    x.round_times(n)
+}
+
+/// Returns the fraction times `n / d`, or `ZeroDenominator` if `d` is 0, or `NotFitting` if a part of the product does
+/// not fit.
+pub fn product_with_parts(x: &Ratio, n: i64, d: i64) -> Result<Ratio, RatioError>
+    ensures product { AnswersFraction (num_of x.now *ℤ n) (d *ℤ den_of x.now) result }
+    ensures zero_denominator { (result ≡ Err RatioError.ZeroDenominator) ↔ (d ≡ pos 0) }
+{
+    x.checked_times(n, d)
+}
+
+/// Returns the largest multiple of `1 / parts` that is at most the fraction, or `NotFitting` if a part of it does not
+/// fit.
+pub fn floor_in_parts(x: &Ratio, parts: i64) -> Result<Ratio, RatioError>
+    requires { pos 0 <ℤ parts }
+    ensures floored { AnswersInParts (IsQuotient IsFloored (num_of x.now *ℤ parts) (den_of x.now)) parts result }
+    ensures never_zero { result ≢ Err RatioError.ZeroDenominator }
+{
+    x.floor_to(parts)
+}
+
+/// Returns the smallest multiple of `1 / parts` that is at least the fraction, or `NotFitting` if a part of it does not
+/// fit.
+pub fn ceil_in_parts(x: &Ratio, parts: i64) -> Result<Ratio, RatioError>
+    requires { pos 0 <ℤ parts }
+    ensures ceiled { AnswersInParts (IsQuotient IsCeiled (num_of x.now *ℤ parts) (den_of x.now)) parts result }
+    ensures never_zero { result ≢ Err RatioError.ZeroDenominator }
+{
+    x.ceil_to(parts)
+}
+
+/// Returns the multiple of `1 / parts` that is nearest to the fraction, and of two that are equally near the one farther
+/// from 0, or `NotFitting` if a part of it does not fit.
+pub fn rounded_in_parts(x: &Ratio, parts: i64) -> Result<Ratio, RatioError>
+    requires { pos 0 <ℤ parts }
+    ensures rounded { AnswersInParts (IsRounded (num_of x.now *ℤ parts) (den_of x.now)) parts result }
+    ensures never_zero { result ≢ Err RatioError.ZeroDenominator }
+{
+    x.round_to(parts)
+}
+
+/// Returns the nearest fraction whose denominator is at most `max`.
+pub fn nearest_within(x: &Ratio, max: i64) -> Ratio
+    requires { pos 0 <ℤ max }
+    ensures { IsNearestWithin (num_of x.now) (den_of x.now) max (num_of result) (den_of result) }
+{
+    x.limit_denominator(max)
 }

@@ -61,12 +61,13 @@ pub fn tests_with_positive<T: Fits>(a: T, b: T) -> (bool, bool)
     (a.gcd_fits(&b), a.quotient_fits(&b))
 }
 
-/// Returns the quotient rounded down by `div_floor` and by `div_mod_floor`. The two are equal.
+/// Returns the quotient rounded down, by `div_floor` and by `div_mod_floor`. The two are equal.
 pub fn floored_by_two_calls<T: Integer>(n: T, d: T) -> (T, T)
     requires in_range { T.fits (T.value n) × T.fits (T.value d) }
     requires nonzero { T.value d ≢ pos 0 }
     requires quotient_fits { EachFits T.fits (IsQuotient IsFloored (T.value n) (T.value d)) }
-    ensures { T.value result.0 ≡ T.value result.1 }
+    ensures floored { IsQuotient IsFloored (T.value n) (T.value d) (T.value result.0) }
+    ensures same { T.value result.0 ≡ T.value result.1 }
 {
     (div_floor(n, d), div_mod_floor(n, d).0)
 }

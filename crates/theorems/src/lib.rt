@@ -11,10 +11,11 @@
 //! | `laws.rt` | what follows from the definitions alone: at most one result, existence, symmetry, formulas, bounds |
 //! | `integers.rt` | calls of `num_integer` at any type of integers |
 //! | `checked.rt` | calls of `num_integer::checked`, and when each returns `None` |
-//! | `residues.rt` | `modular`: residues, inverses, congruences |
-//! | `fractions.rt` | `ratio64`: exact results and errors, order, text, hashes |
+//! | `residues.rt` | `modular`: residues, powers, inverses, congruences |
+//! | `fractions.rt` | `ratio64`: exact results and errors, order, text, hashes, rounding |
 //! | `dates.rt` | `calendar`: dates and their days, weeks, months, Easter |
-//! | `pages.rt` | `applied`: pages and schedules |
+//! | `rounding.rt` | `applied`: nearest quotients, roots with their remainder, logarithms, factorials, offsets |
+//! | `pages.rt` | `applied`: pages, schedules, shares |
 //! | `combinations.rt` | `applied`: combinations and their ranks |
 //! | `lists.rt` | `applied`: divisors and multiples of lists, coprime numbers |
 //!
@@ -34,3 +35,4 @@ pub mod laws;
 pub mod lists;
 pub mod pages;
 pub mod residues;
+pub mod rounding;

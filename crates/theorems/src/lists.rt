@@ -1,10 +1,11 @@
 //! Functions that call `applied` for divisors and multiples of lists, coprime numbers and reduced pairs.
 
-ghost use Rattle.std.specs.Prelude.{◌↔◌, ◌<◌, All, FitsSigned, IfSome, IsTrue, MatchOption, map, pos};
+ghost use Rattle.std.specs.Prelude.{◌↔◌, ◌<◌, All, FitsSigned, IsTrue, MatchOption, map, pos};
 ghost use Rattle.std.specs.Int.{FitsUnsignedBits, w64};
+ghost use Rattle.num_integer.specs.Checked.{AnswersWhere};
 ghost use Rattle.num_integer.specs.Divisors.{IsGreatestCommonDivisor};
 ghost use Rattle.num_integer.specs.Range.{EachFits};
-ghost use Rattle.applied.specs.Lists.{IsGreatestCommonDivisorOf, IsLeastCommonMultipleOf};
+ghost use Rattle.applied.specs.Lists.{GcdOfFits, IsGreatestCommonDivisorOf, IsLeastCommonMultipleOf};
 
 use applied::coprime::is_coprime;
 use applied::lists::{checked, gcd_of, lcm_of};
@@ -32,7 +33,9 @@ pub fn period_that_fits(periods: &[u64]) -> u64
 /// Returns the least common denominator of signed denominators, or `None` if it does not fit.
 pub fn common_denominator(denominators: &[i64]) -> Option<i64>
     requires { All (FitsSigned w64) denominators.now }
-    ensures { IfSome result (λ l. IsLeastCommonMultipleOf (map (λ x. x) denominators.now) l) }
+    ensures { MatchOption result
+        (¬ (EachFits (FitsSigned w64) (IsLeastCommonMultipleOf (map (λ x. x) denominators.now))))
+        (λ l. IsLeastCommonMultipleOf (map (λ x. x) denominators.now) l) }
 {
     checked::lcm_of(denominators)
 }
@@ -59,8 +62,12 @@ pub fn common_divisor(numbers: &[i64]) -> Option<i64>
 /// fit.
 pub fn divisor_and_multiple<T: Fits>(numbers: &[T]) -> Option<(T, T)>
     requires in_range { All (λ x. T.fits (T.value x)) numbers.now }
-    ensures { IfSome result (λ r. IsGreatestCommonDivisorOf (map T.value numbers.now) (T.value r.0)
-        × IsLeastCommonMultipleOf (map T.value numbers.now) (T.value r.1)) }
+    ensures { AnswersWhere
+        (GcdOfFits T.fits (map T.value numbers.now)
+        × EachFits T.fits (IsLeastCommonMultipleOf (map T.value numbers.now)))
+        (λ r. IsGreatestCommonDivisorOf (map T.value numbers.now) (T.value r.0)
+        × IsLeastCommonMultipleOf (map T.value numbers.now) (T.value r.1))
+        result }
 {
     let divisor = checked::gcd_of(numbers)?;
     let multiple = checked::lcm_of(numbers)?;

@@ -1,22 +1,27 @@
 //! Functions that call `applied` for pages and parts, shares, offsets and schedules.
 
-ghost use Rattle.std.specs.Prelude.{◌↔◌, ◌<◌, ◌≤◌, ◌<ℤ◌, All, FitsSigned, MatchOption, pos, ℕ, ℤ};
+ghost use Rattle.std.specs.Prelude.{◌≡◌, ◌↔◌, ◌<◌, ◌≤◌, ◌<ℤ◌, All, FitsSigned, IsFalse, IsTrue, MatchOption, pos, ℕ, ℤ};
 ghost use Rattle.std.specs.Int.{w64};
 ghost use Rattle.num_integer.specs.Least.{IsLeastFrom};
-ghost use Rattle.applied.specs.Paging.{IsPlace};
-ghost use Rattle.applied.specs.Schedules.{IsMeetingOfEach};
+ghost use Rattle.num_integer.specs.Only.{IsOnly};
+ghost use Rattle.applied.specs.Paging.{IsPlace, IsRangeOfPage};
+ghost use Rattle.applied.specs.Schedules.{IsLeastTime, IsMeeting, IsMeetingOfEach};
+ghost use Rattle.applied.specs.Shares.{AreShares, AreSignedShares, CanBeShared};
 
 use applied::paging::range_of_page;
-use applied::schedules::{Schedule, next_meeting_of};
+use applied::schedules::{Schedule, next_meeting, next_meeting_of};
+use applied::shares::{shares, signed_shares};
 use modular::CommonSolution;
 
 // ---- pages and parts
 
 /// Returns the index of the first item of the page and the index after its last one. Exactly the
-/// items of the page are in this range.
+/// items of the page are in this range. If the page has no item, both results are `items`.
 pub fn items_of_page(page: u64, page_size: u64, items: u64) -> (u64, u64)
     requires { 0 < page_size }
+    ensures range { IsRangeOfPage (pos page) (pos page_size) (pos items) (pos result.0) (pos result.1) }
     ensures ordered { result.0 ≤ result.1 }
+    ensures empty { result.0 ≡ result.1 → result.0 ≡ items }
     ensures exactly { (i : ℕ) → ((result.0 ≤ i) × (i < result.1))
         ↔ ((i < items) × ((place : ℤ) × IsPlace (pos i) (pos page_size) (pos page) place)) }
 {
@@ -39,4 +44,37 @@ pub fn next_shift(now: i64, schedules: &[Schedule<i64>]) -> Option<i64>
         CommonSolution::Beyond => None,
         CommonSolution::Never => None,
     }
+}
+
+/// Returns the next day from `now` on that is on both schedules, `Beyond` if it does not fit, or `Never` if there is no
+/// such day.
+pub fn next_common_day(now: i64, a: Schedule<i64>, b: Schedule<i64>) -> CommonSolution<i64>
+    requires a_positive { pos 0 <ℤ a.1 }
+    requires b_positive { pos 0 <ℤ b.1 }
+    ensures { IsLeastTime (λ t. t) (FitsSigned w64) now (IsMeeting a.0 a.1 b.0 b.1) result }
+{
+    next_meeting(now, a, b)
+}
+
+// ---- shares
+
+/// Fills `parts` with the shares of the amount and returns `true`. Returns `false` and writes nothing if the weights are
+/// all 0, or if there is not one part for each weight.
+pub fn shares_by_weights(amount: u64, weights: &[u64], parts: &mut [u64]) -> bool
+    ensures possible { IsTrue result ↔ CanBeShared weights.now parts.old }
+    ensures shares { IsTrue result → AreShares amount weights.now parts.new }
+    ensures only { IsTrue result → IsOnly (AreShares amount weights.now) parts.new }
+    ensures unchanged { IsFalse result → parts.new ≡ parts.old }
+{
+    shares(amount, weights, parts)
+}
+
+/// Does the same for a signed amount. Each share has the sign of the amount.
+pub fn signed_shares_by_weights(amount: i64, weights: &[u64], parts: &mut [i64]) -> bool
+    ensures possible { IsTrue result ↔ CanBeShared weights.now parts.old }
+    ensures shares { IsTrue result → AreSignedShares amount weights.now parts.new }
+    ensures only { IsTrue result → IsOnly (AreSignedShares amount weights.now) parts.new }
+    ensures unchanged { IsFalse result → parts.new ≡ parts.old }
+{
+    signed_shares(amount, weights, parts)
 }

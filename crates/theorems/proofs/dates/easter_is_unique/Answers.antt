@@ -3,7 +3,12 @@ use Rattle.calendar.specs.Dates.{number_of}
 use Rattle.calendar.proofs.Laws.{easter_is_only}
 use Rattle.theorems.proofs.dates.easter_is_unique.Goals as goal
 
-pub returns : goal.returns
-returns c =
+pub returns-clause-only : goal.returns-clause-only
+returns-clause-only c =
     let year = c.ranges.year in
     λ day h. easter_is_only c.args.year day (number_of c.easter.result) h (simp to_z-of_z at c.easter.ensures.easter)
+
+pub returns-clause-easter : goal.returns-clause-easter
+returns-clause-easter c =
+    let year = c.ranges.year in
+    simp to_z-of_z at c.easter.ensures.easter

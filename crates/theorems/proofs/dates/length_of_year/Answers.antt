@@ -9,18 +9,18 @@ use Rattle.calendar.specs.Years.{day_number, days_in_year, first_day}
 use Rattle.calendar.proofs.Laws.{lengths_of_years, years_follow}
 use Rattle.theorems.proofs.dates.length_of_year.Goals as goal
 
-counted : (o : Option ℤ) (P : Type 0) (year next days : ℤ) → next ≡ year +ℤ pos 1 → days ≡ day_number next 1 1 -ℤ day_number year 1 1 → SomeIff o (FitsSigned w64 days) days → MatchOption o P (λ d. d ≡ pos (if is_leap_year year then 366 else 365))
-counted None P year next days after e h =
+counted : (o : Option ℤ) (P Q : Type 0) (year next days : ℤ) → Q → next ≡ year +ℤ pos 1 → days ≡ day_number next 1 1 -ℤ day_number year 1 1 → SomeIff o (FitsSigned w64 days) days → MatchOption o P (λ d. Q × (d ≡ pos (if is_leap_year year then 366 else 365)))
+counted None P Q year next days below after e h =
     let length = lengths_of_years year in
     let short : days_in_year year ≤ 366 = grind (arith, nat_tests) in
     absurd (h (omega (arith, ints, years_follow year, ap first_day after)))
-counted (Some d) P year next days after e h =
+counted (Some d) P Q year next days below after e h =
     let length : days ≡ pos (days_in_year year) = omega (arith, ints, years_follow year, ap first_day after) in
-    h.1 ∙ (length ∙ ap pos (lengths_of_years year))
+    (below, h.1 ∙ (length ∙ ap pos (lengths_of_years year)))
 
 pub returns : goal.returns
 returns c =
     let year = c.ranges.year in
     let next = simp to_z-of_z at c.in_ok-checked_add.ensures in
     let fits : FitsSigned w64 c.in_ok-checked_add.field-0 = omega (arith, ints, next.0, next.1) in
-    counted c.days_between.result _ c.args.year c.in_ok-checked_add.field-0 _ next.1 refl (simp to_z-of_z at c.days_between.ensures)
+    counted c.days_between.result _ _ c.args.year c.in_ok-checked_add.field-0 _ (λ last. omega (arith, ints, next.0, next.1, last)) next.1 refl (simp to_z-of_z at c.days_between.ensures)
