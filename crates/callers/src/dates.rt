@@ -1,8 +1,8 @@
 //! Functions that call `calendar`.
 
-ghost use Rattle.std.specs.Prelude.{◌≡◌, ◌⊎◌, ◌↔◌, ◌+◌, ◌-◌, ◌<◌, ◌≤◌, ◌<ℤ◌, ◌+ℤ◌, ◌-ℤ◌, FitsSigned, IsTrue, MatchOption, pos, slice_index, ℕ, ℤ};
+ghost use Rattle.std.specs.Prelude.{◌≡◌, ◌⊎◌, ◌↔◌, ◌+◌, ◌-◌, ◌<◌, ◌≤◌, ◌<ℤ◌, ◌+ℤ◌, ◌-ℤ◌, FitsSigned, IfOk, IfSome, IsTrue, MatchOption, Ok, map, pos, slice_index, ℕ, ℤ};
 ghost use Rattle.std.specs.Int.{w64};
-ghost use Rattle.calendar.specs.Dates.{HasMonths, IsEarlier, IsLastWeekdayOfMonth, IsMonthsAfter, IsMonthsBetween, IsNextLastWeekday, IsNthWeekday, IsYearsBetween, number_of, year_day_of};
+ghost use Rattle.calendar.specs.Dates.{HasMonths, IsEarlier, IsLastWeekdayOfMonth, IsMonthsAfter, IsMonthsBetween, IsNextLastWeekday, IsNthWeekday, IsYearsBetween, day_numbers, number_of, year_day_of};
 ghost use Rattle.calendar.specs.IsoWeeks.{HasIsoWeeks, IsDayOfIsoWeek, IsInIsoWeek};
 ghost use Rattle.calendar.specs.Months.{IsDate, days_in_month, month_number};
 ghost use Rattle.calendar.specs.Weekday.{iso_number};
@@ -13,10 +13,11 @@ ghost use Rattle.calendar.specs.declared.weekday.Weekday.{Weekday};
 ghost use Rattle.calendar.specs.declared.weekday.Weekday.TheVariants.{Friday};
 
 use calendar::{
-    Date, IsoWeek, Weekday, days_between, days_in_month, days_in_year, first_weekday_on_or_after,
+    Date, DateError, IsoWeek, Weekday, days_between, days_in_month, days_in_year, first_weekday_on_or_after,
     last_weekday_of_month, last_weekday_on_or_before, months_between, next_last_weekday,
     nth_weekday_of_month, weekday_of, weeks_in_year, years_between,
 };
+use std::alloc::{AllocError, Global};
 
 // ---- what a caller can prove from the contracts
 
@@ -475,4 +476,46 @@ pub fn friday_of(week: &IsoWeek) -> Option<Date>
         Some(friday) => Some(friday),
         None => None,
     }
+}
+
+/// Returns `week`, which is the week of the date of each of its days, or `None`. The contract does not say when it is
+/// `None`.
+pub fn week_of_its_date(week: &IsoWeek, weekday: Weekday) -> Option<IsoWeek>
+    ensures { IfSome result (λ again. again ≡ week.now) }
+{
+    Date::from_iso_week(week.year, week.week, weekday)?.iso_week()
+}
+
+/// Returns `date`, which is the date of its week and its day of the week, or `None`. The contract does not say when it
+/// is `None`.
+pub fn date_of_its_week(date: &Date) -> Option<Date>
+    ensures { IfSome result (λ again. again ≡ date.now) }
+{
+    let week = date.iso_week()?;
+    Date::from_iso_week(week.year, week.week, date.weekday())
+}
+
+/// Returns the day of the week `days` days after the date, or `None` if the year of that day does not fit.
+pub fn weekday_later(date: &Date, days: i64) -> Option<Weekday>
+    ensures { MatchOption result
+        ((later : Date) → number_of later ≡ number_of date.now +ℤ days → ¬ (FitsSigned w64 later.year))
+        (λ weekday. HasWeekday (number_of date.now +ℤ days) weekday) }
+{
+    Some(date.plus_days(days)?.weekday())
+}
+
+/// Returns the result of parsing the string of the date, or an error, of which the contract says nothing. The parsed
+/// date is the date.
+pub fn print_and_parse(alloc: Global, date: Date) -> Result<Result<Date, DateError>, AllocError>
+    ensures { IfOk result (λ read. read ≡ Ok date) }
+{
+    let text = date.to_string(alloc)?;
+    Ok(text.as_str().parse())
+}
+
+/// Collects the dates from `from` on that are before `end`. The contract says nothing of an error.
+pub fn dates_until(alloc: Global, from: Date, end: Date) -> Result<Vec<Date>, AllocError>
+    ensures { IfOk result (λ v. map number_of v.items ≡ day_numbers (number_of from) (number_of end)) }
+{
+    from.days_until(end).collect(alloc)
 }

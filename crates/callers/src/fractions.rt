@@ -11,6 +11,10 @@ ghost use Rattle.ratio64.specs.Rounding.{AnswersInParts, IsRounded};
 ghost use Rattle.ratio64.specs.declared.fraction.Ratio.{Ratio};
 
 use ratio64::{ParseRatioError, Ratio, RatioError};
+use std::alloc::{AllocError, Global};
+
+/// The result of parsing a fraction.
+type ParseResult = Result<Ratio, ParseRatioError>;
 
 // ---- what a caller can prove from the contracts
 
@@ -219,4 +223,32 @@ pub fn nearest_tenths(x: &Ratio) -> Result<Ratio, RatioError>
     ensures { AnswersInParts (IsRounded (num_of x.now *ℤ pos 10) (den_of x.now)) (pos 10) result }
 {
     x.round_to(10)
+}
+
+/// Returns the sum of `a / b` and `c / d`, or an error. The contract does not say when it is an error.
+pub fn sum_of_new(a: i64, b: i64, c: i64, d: i64) -> Result<Ratio, RatioError>
+    requires first { IsFraction a b }
+    requires second { IsFraction c d }
+    ensures { IfOk result (λ x. IsExact (a *ℤ d +ℤ c *ℤ b) (b *ℤ d) (num_of x) (den_of x)) }
+{
+    Ratio::new(a, b)?.checked_add(&Ratio::new(c, d)?)
+}
+
+/// Returns the product of `a / b` and `c / d`, or an error. The contract does not say when it is an error.
+pub fn product_of_new(a: i64, b: i64, c: i64, d: i64) -> Result<Ratio, RatioError>
+    requires first { IsFraction a b }
+    requires second { IsFraction c d }
+    ensures { IfOk result (λ x. IsExact (a *ℤ c) (b *ℤ d) (num_of x) (den_of x)) }
+{
+    Ratio::new(a, b)?.checked_mul(&Ratio::new(c, d)?)
+}
+
+/// Returns the parts of the fraction and the result of parsing its string. The contract says only that a parsed
+/// fraction is the fraction.
+pub fn print_and_parse(alloc: Global, x: &Ratio) -> Result<(i64, i64, ParseResult), AllocError>
+    ensures { IfOk result (λ r. r.2 ≡ Ok x.now) }
+{
+    let (num, den) = (x.num(), x.den());
+    let text = x.to_string(alloc)?;
+    Ok((num, den, text.as_str().parse()))
 }

@@ -16,7 +16,7 @@
 //! | `combinations.rt` | `applied`: combinations and their ranks |
 //! | `lists.rt` | `applied`: multiples of lists, reduced pairs, a rolling hash |
 //! | `rounding.rt` | `applied`: nearest quotients, roots, powers, logarithms, midpoints, factorials |
-//! | `tasks.rt` | everyday tasks: pages of items, a cipher, amounts of money, a recipe |
+//! | `tasks.rt` | everyday tasks: pages of items, a cipher, amounts of money, a recipe, a line of bytes |
 //!
 //! Most functions have no proof file: the prover's search proves them from the contracts of what they call. The proof file of
 //! another function is in `proofs/`, in a folder with the names of the file and of the function.

@@ -1,9 +1,12 @@
 //! Functions that call `modular`.
 
-ghost use Rattle.std.specs.Prelude.{◌≡◌, ◌⊎◌, ◌<◌, ◌≤◌, ◌<ℤ◌, ◌+ℤ◌, ◌-ℤ◌, ◌*ℤ◌, FitsSigned, MatchOption, neg_ℤ, pos, ℤ};
+ghost use Rattle.std.specs.Prelude.{◌≡◌, ◌⊎◌, ◌<◌, ◌≤◌, ◌<ℤ◌, ◌+ℤ◌, ◌-ℤ◌, ◌*ℤ◌, All, FitsSigned, IfSome, MatchOption, neg_ℤ, pos, ℤ};
 ghost use Rattle.std.specs.Int.{FitsUnsignedBits, int_pow, w64};
-ghost use Rattle.modular.specs.CommonSolutions.{MatchCommonSolution};
-ghost use Rattle.modular.specs.Congruences.{IsCountOfCongruent, IsInverse, IsNextCommonSolution, IsNextCongruent, IsPreviousCongruent, IsQuotientModulo, IsReducedModulus, IsResidue, IsResidueClass, Solves, SolvesBothCongruences};
+ghost use Rattle.modular.specs.CommonSolutions.{MatchCommonSolution, MatchWhere};
+ghost use Rattle.modular.specs.Congruences.{IsCountOfCongruent, IsInverse, IsNextCommonSolution, IsNextCongruent, IsPreviousCongruent, IsQuotientModulo, IsReducedModulus, IsResidue, IsResidueClass, Solves, SolvesBothCongruences, SolvesEach};
+ghost use Rattle.num_integer.specs.Divisors.{IsLeastCommonMultiple};
+ghost use Rattle.num_integer.specs.Least.{IsLeastFrom};
+ghost use Rattle.num_integer.specs.Range.{EachFits};
 
 use modular::{
     CommonSolution, checked, inverse_modulo, negation_modulo, next_congruent, power_modulo,
@@ -195,5 +198,30 @@ pub fn next_of_both(from: i64, a: i64, m: i64, b: i64, n: i64) -> CommonSolution
     match checked::next_common_solution(from, a, m, b, n) {
         Some(next) => next,
         None => CommonSolution::Never,
+    }
+}
+
+// ---- several congruences at every modulus
+
+/// Returns the numbers that solve two congruences, as the smallest and the step. Returns `None` if a modulus is 0, if
+/// the least common multiple does not fit, or if there is no such number.
+pub fn class_at_every_modulus(a: u64, m: u64, b: u64, n: u64) -> Option<(u64, u64)>
+    ensures { MatchWhere ((pos 0 <ℤ pos m) × (pos 0 <ℤ pos n)
+        × EachFits (FitsUnsignedBits 64) (IsLeastCommonMultiple (pos m) (pos n))) result
+        ((x : ℤ) → ¬ (SolvesBothCongruences (pos a) (pos m) (pos b) (pos n) x))
+        (λ s. IsResidueClass (SolvesBothCongruences (pos a) (pos m) (pos b) (pos n)) (pos s.0) (pos s.1)) }
+{
+    checked::chinese_remainder(a, m, b, n)
+}
+
+/// Returns the next number that solves each congruence, or `None`. The contract does not say when it is `None`.
+pub fn next_of_each_at_every_modulus(from: i64, congruences: &[(i64, i64)]) -> Option<i64>
+    requires { All (λ c. FitsSigned w64 c.0 × FitsSigned w64 c.1) congruences.now }
+    ensures { IfSome result (λ t. All (λ c. pos 0 <ℤ c.1) congruences.now
+        × IsLeastFrom from (SolvesEach (λ x. x) congruences.now) t) }
+{
+    match checked::next_common_solution_of(from, congruences) {
+        Some(CommonSolution::At(t)) => Some(t),
+        _ => None,
     }
 }

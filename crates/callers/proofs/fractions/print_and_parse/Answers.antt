@@ -1,0 +1,14 @@
+use Rattle.std.specs.Prelude.{FitsSigned}
+use Rattle.std.specs.Int.{w64}
+use Rattle.std.proofs.Common.{rules}
+use Rattle.ratio64.proofs.Laws.{text_is_read_back}
+use Rattle.ratio64.specs.Ratio.{text_of}
+use Rattle.ratio64.specs.RatioText.{ReadsFraction}
+use Rattle.callers.proofs.fractions.print_and_parse.Goals as goal
+
+pub returns : goal.returns
+returns c =
+    let num_fits : FitsSigned w64 c.num-num.result = search rules in
+    let den_fits : FitsSigned w64 c.den-den.result = search rules in
+    let read : ReadsFraction (text_of c.args.x.now) c.parse.result = search rules in
+    text_is_read_back c.args.x.now c.parse.result (rw c.num-num.ensures at num_fits) (rw c.den-den.ensures at den_fits) read
