@@ -13,9 +13,9 @@ ghost use Rattle.calendar.specs.declared.weekday.Weekday.{Weekday};
 ghost use Rattle.calendar.specs.declared.weekday.Weekday.TheVariants.{Friday};
 
 use calendar::{
-    Date, DateError, IsoWeek, Weekday, days_between, days_in_month, days_in_year, first_weekday_on_or_after,
-    last_weekday_of_month, last_weekday_on_or_before, months_between, next_last_weekday,
-    nth_weekday_of_month, weekday_of, weeks_in_year, years_between,
+    Date, DateError, IsoWeek, Weekday, days_between, days_in_month, days_in_year,
+    first_weekday_on_or_after, last_weekday_of_month, last_weekday_on_or_before, months_between,
+    next_last_weekday, nth_weekday_of_month, weekday_of, weeks_in_year, years_between,
 };
 use std::alloc::{AllocError, Global};
 

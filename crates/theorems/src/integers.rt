@@ -9,7 +9,9 @@ ghost use Rattle.num_integer.specs.Row.{RowFits, row_of};
 
 use num_integer::counted::extended_gcd_counted;
 use num_integer::operators::{is_equal, is_one};
-use num_integer::{ExtendedGcd, Fits, Integer, IterBinomial, div_floor, div_mod_floor, gcd, mod_floor};
+use num_integer::{
+    ExtendedGcd, Fits, Integer, IterBinomial, div_floor, div_mod_floor, gcd, mod_floor,
+};
 
 /// Returns the greatest common divisor. The condition of `gcd` says that it fits, even at a type without -1.
 pub fn gcd_that_fits<T: Integer>(a: T, b: T) -> T
