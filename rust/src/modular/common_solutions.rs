@@ -14,6 +14,9 @@ use crate::{checked, Fits};
 /// `m` and `n` must be positive, and their least common multiple must fit, which `Fits::lcm_fits`
 /// tests.
 ///
+/// [`modular::checked::chinese_remainder`](crate::modular::checked::chinese_remainder) is the same
+/// call, which returns `None` outside the domain.
+///
 /// # Examples
 ///
 /// ```

@@ -14,6 +14,9 @@ use crate::{checked, Fits, Integer};
 /// Each modulus must be positive. In Rattle, a function that passes on a slice of its own
 /// parameters asks its callers for `in_range` too.
 ///
+/// [`modular::checked::next_common_solution_of`](crate::modular::checked::next_common_solution_of)
+/// is the same call, which returns `None` outside the domain.
+///
 /// # Examples
 ///
 /// ```

@@ -8,9 +8,9 @@ mod rounding;
 mod sign;
 mod times;
 
-use crate::integer_core::{div_ceil, div_floor};
 use crate::ratio64::reduction::{lowest_terms, numerator_of_difference, numerator_of_sum, product};
 use crate::ratio64::RatioError;
+use crate::{div_ceil, div_floor};
 use core::fmt;
 
 /// A fraction in lowest terms: its denominator is positive, and the greatest common divisor of its
