@@ -1,17 +1,13 @@
 //! Calls of `num_integer` at any type of integers.
 
 ghost use Rattle.std.specs.Prelude.{◌≡◌, ◌≢◌, ◌⊎◌, ◌↔◌, ◌<◌, ◌^◌, ◌<ℤ◌, ◌+ℤ◌, ◌*ℤ◌, IsTrue, None, [], length, pos, unsigned_abs};
-ghost use Rattle.num_integer.specs.Bezout.{HasPair};
 ghost use Rattle.num_integer.specs.Division.{HaveSameSign, IsFloored, IsQuotient};
 ghost use Rattle.num_integer.specs.Divisors.{GcdFits, IsGreatestCommonDivisor};
 ghost use Rattle.num_integer.specs.Range.{EachFits};
 ghost use Rattle.num_integer.specs.Row.{RowFits, row_of};
 
-use num_integer::counted::extended_gcd_counted;
 use num_integer::operators::{is_equal, is_one};
-use num_integer::{
-    ExtendedGcd, Fits, Integer, IterBinomial, div_floor, div_mod_floor, gcd, mod_floor,
-};
+use num_integer::{Fits, Integer, IterBinomial, div_floor, div_mod_floor, gcd, mod_floor};
 
 /// Returns the greatest common divisor. The condition of `gcd` says that it fits, even at a type without -1.
 pub fn gcd_that_fits<T: Integer>(a: T, b: T) -> T
