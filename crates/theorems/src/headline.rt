@@ -150,7 +150,7 @@ pub fn root_of_i64(x: i64, n: u32) -> i64
     requires from_zero_where_even { n % 2 ≡ 0 → pos 0 ≤ℤ x }
     ensures exact { IsRoot x n result }
 {
-    nth_root(x, n)
+    x.nth_root(n)
 }
 
 /// Returns the root at `u64`. The definition is then two inequalities.
@@ -160,14 +160,14 @@ pub fn root_of_u64(x: u64, n: u32) -> u64
     ensures power { result ^ n ≤ x }
     ensures next_power { x < (result + 1) ^ n }
 {
-    nth_root(x, n)
+    Roots::nth_root(&x, n)
 }
 
 /// Returns the cube root at `i64`.
 pub fn cube_root_of_i64(x: i64) -> i64
     ensures exact { IsRoot x 3 result }
 {
-    cbrt(x)
+    x.cbrt()
 }
 
 /// Returns the exact square root and the number of iterations of its loops, which is at most five.
@@ -178,7 +178,7 @@ pub fn square_root_in_five_turns<T: SqrtCounted>(x: T) -> (T, u32)
     ensures turns { AreSquareRootTurns (T.value x) result.1 }
     ensures five { result.1 ≤ 5 }
 {
-    x.sqrt_counted()
+    T::sqrt_counted(&x)
 }
 
 /// Returns the square root and the number of iterations at `i64`.
@@ -199,7 +199,7 @@ pub fn square_root_in_five_turns_of_u64(x: u64) -> (u64, u32)
     ensures turns { AreSquareRootTurns (pos x) result.1 }
     ensures five { result.1 ≤ 5 }
 {
-    x.sqrt_counted()
+    SqrtCounted::sqrt_counted(&x)
 }
 
 /// Returns the greatest common divisor. It is at least 0, divides both numbers, and is divided by every number that
@@ -217,7 +217,7 @@ pub fn greatest_common_divisor_of_i64(a: i64, b: i64) -> i64
     requires gcd_fits { GcdFits (FitsSigned w64) a b }
     ensures greatest { IsGreatestCommonDivisor a b result }
 {
-    gcd(a, b)
+    a.gcd(&b)
 }
 
 /// Returns the greatest common divisor and a pair that certifies it: `x` times `a` and `y` times `b` add up to it. If
@@ -248,7 +248,7 @@ pub fn bezout_pair_of_i64(a: i64, b: i64) -> ExtendedGcd<i64>
     ensures only { NeedsBoth a b
         → IsOnly (λ (x, y). IsSmallPair a b result.gcd x y) (result.x, result.y) }
 {
-    a.extended_gcd(&b)
+    Integer::extended_gcd(&a, &b)
 }
 
 /// Returns the pair of `extended_gcd`, and that of the call that counts its iterations. The two are equal.
@@ -280,7 +280,7 @@ pub fn binomial_coefficient_of_u64(n: u64, k: u64) -> u64
     requires coefficient_fits { coefficient n k < 2 ^ 64 }
     ensures exact { result ≡ coefficient n k }
 {
-    binomial(n, k)
+    binomial::<u64>(n, k)
 }
 
 /// Returns the multinomial coefficient. Times the product of the factorials of the counts, it is the factorial of
@@ -300,7 +300,7 @@ pub fn multinomial_coefficient_of_u64(counts: &[u64]) -> u64
         (IsMultinomial (map (λ count. pos count) counts.now)) }
     ensures exact { IsMultinomial (map (λ count. pos count) counts.now) (pos result) }
 {
-    multinomial(counts)
+    multinomial::<u64>(counts)
 }
 
 /// Returns the row of `n` as an iterator, which allocates nothing. Its items are the coefficients of `n` and 0, 1 and so
@@ -318,7 +318,7 @@ pub fn row_iterator_of_u64(n: u64) -> IterBinomial<u64>
     requires row_fits { RowFits (FitsUnsignedBits 64) (pos n) }
     ensures items { result ≡ row_of (pos n) }
 {
-    IterBinomial::new(n)
+    IterBinomial::<u64>::new(n)
 }
 
 /// Returns the next item of a row. After the last item it returns `None` at every call.
@@ -364,7 +364,7 @@ pub fn quotients_of_i64(n: i64, d: i64) -> (i64, i64)
     ensures floored { IsQuotient IsFloored n d result.0 }
     ensures ceiled { IsQuotient IsCeiled n d result.1 }
 {
-    (div_floor(n, d), div_ceil(n, d))
+    (Integer::div_floor(&n, &d), Integer::div_ceil(&n, &d))
 }
 
 /// Returns the remainder of the quotient rounded down, even if that quotient does not fit.
@@ -381,7 +381,7 @@ pub fn residue_of_i64(n: i64, d: i64) -> i64
     requires nonzero { d ≢ pos 0 }
     ensures floored { IsRemainder IsFloored n d result }
 {
-    mod_floor(n, d)
+    n.mod_floor(&d)
 }
 
 /// Returns the previous and the next multiple of `d`: the quotient rounded down, times the divisor, and the quotient
@@ -405,7 +405,10 @@ pub fn multiples_of_i64(n: i64, d: i64) -> (i64, i64)
     ensures previous { IsMultiple IsFloored n d result.0 }
     ensures next { IsMultiple IsCeiled n d result.1 }
 {
-    (n.prev_multiple_of(&d), n.next_multiple_of(&d))
+    (
+        Integer::prev_multiple_of(&n, &d),
+        Integer::next_multiple_of(&n, &d),
+    )
 }
 
 /// Returns `true` twice if the second number divides the first: by `is_multiple_of`, and by `divides`, which is its
@@ -422,7 +425,7 @@ pub fn divisibility<T: Integer>(n: T, d: T) -> (bool, bool)
 pub fn divisibility_of_i64(n: i64, d: i64) -> bool
     ensures multiple { IsTrue result ↔ Divides d n }
 {
-    n.is_multiple_of(&d)
+    Integer::is_multiple_of(&n, &d)
 }
 
 /// Returns whether the number is even and whether it is odd. It is even exactly if 2 divides it, and odd exactly if 2
@@ -440,7 +443,7 @@ pub fn parity_of_i64(n: i64) -> (bool, bool)
     ensures even { IsTrue result.0 ↔ IsEven n }
     ensures odd { IsTrue result.1 ↔ ¬ (IsEven n) }
 {
-    (n.is_even(), n.is_odd())
+    (Integer::is_even(&n), Integer::is_odd(&n))
 }
 
 /// Adds one. The sum has to fit.
@@ -457,7 +460,7 @@ pub fn one_more_of_u64(n: &mut u64)
     requires sum_fits { n.old + 1 < 2 ^ 64 }
     ensures more { n.new ≡ n.old + 1 }
 {
-    n.inc();
+    Integer::inc(n);
 }
 
 /// Subtracts one. The difference has to fit.
@@ -484,7 +487,7 @@ pub fn least_common_multiple_of_u64(a: u64, b: u64) -> u64
     requires lcm_fits { EachFits (FitsUnsignedBits 64) (IsLeastCommonMultiple (pos a) (pos b)) }
     ensures least { IsLeastCommonMultiple (pos a) (pos b) (pos result) }
 {
-    lcm(a, b)
+    a.lcm(&b)
 }
 
 /// Returns the greatest common divisor and the least common multiple.
@@ -525,7 +528,7 @@ pub fn averages_of_i64(a: i64, b: i64) -> (i64, i64)
     ensures floor { IsAverageFloor a b result.0 }
     ensures ceil { IsAverageCeil a b result.1 }
 {
-    (average_floor(a, b), average_ceil(a, b))
+    (a.average_floor(&b), a.average_ceil(&b))
 }
 
 /// Returns `true` exactly in the domain of a division: the divisor is not 0, and the quotient fits. The quotients of all
@@ -638,7 +641,7 @@ pub fn turns_for_gcd_of_u64(a: u64, b: u64) -> (u64, u32)
     ensures bound { (k l : ℕ) → IsBitLength (pos a) k → IsBitLength (pos b) l
         → result.1 ≤ k + l }
 {
-    a.gcd_counted(&b)
+    GcdCounted::gcd_counted(&a, &b)
 }
 
 /// Returns the greatest common divisor with its pair and the number `t` of iterations of Euclid's loop. The Fibonacci
@@ -665,7 +668,7 @@ pub fn turns_for_bezout_pair_of_i64(a: i64, b: i64) -> (ExtendedGcd<i64>, u32)
     ensures bound { b ≢ pos 0
         → fibonacci (result.1 + 2) * unsigned_abs result.0.gcd ≤ unsigned_abs b }
 {
-    extended_gcd_counted(a, b)
+    extended_gcd_counted::<i64>(a, b)
 }
 
 /// Returns the binomial coefficient and the number `t` of iterations of its loop, which is the smaller of `k` and
@@ -691,7 +694,7 @@ pub fn turns_for_binomial_of_u64(n: u64, k: u64) -> (u64, u32)
     ensures turns { result.1 ≡ min k (n - k) }
     ensures bound { k ≤ n → 2 ^ result.1 ≤ coefficient n k }
 {
-    binomial_counted(n, k)
+    binomial_counted::<u64>(n, k)
 }
 
 /// Returns the parts of a fraction. The denominator is positive, and the greatest common divisor of the parts is 1.
