@@ -84,7 +84,8 @@ pub fn total(fractions: &[Ratio]) -> Result<Ratio, RatioError>
     Ok(total)
 }
 
-/// Parses the string. Returns 0 in place of the error `NotAFraction`, and passes on each other error.
+/// Parses the string, and returns 0 in place of the error `NotAFraction`. The contract says only that it never returns
+/// that error.
 pub fn parse_or_zero(text: &str) -> Result<Ratio, ParseRatioError>
     ensures { result ≢ Err ParseRatioError.NotAFraction }
 {

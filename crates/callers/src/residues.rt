@@ -174,7 +174,8 @@ pub fn next_time_or_none(now: i64, first: i64, period: i64) -> Option<i64>
     checked::next_congruent(now, first, period)
 }
 
-/// Returns the number of times in `from..=to`, or 0 if the period is 0.
+/// Returns the number of times in `from..=to`, or 0 if the period is 0. If the number does not fit, the contract leaves
+/// the result open.
 pub fn count_of_times(from: u64, to: u64, first: u64, period: u64) -> u64
     ensures count { 0 < period
         → (IsCountOfCongruent (pos from) (pos to) (pos first) (pos period) (pos result)
@@ -188,7 +189,8 @@ pub fn count_of_times(from: u64, to: u64, first: u64, period: u64) -> u64
     }
 }
 
-/// Returns the next number that is `a` modulo `m` and `b` modulo `n`, or `Never` if a modulus is not positive.
+/// Returns the next number that is `a` modulo `m` and `b` modulo `n`. The contract says nothing of a modulus that is not
+/// positive.
 pub fn next_of_both(from: i64, a: i64, m: i64, b: i64, n: i64) -> CommonSolution<i64>
     ensures { (pos 0 <ℤ m) × (pos 0 <ℤ n) → MatchCommonSolution result
         ((x : ℤ) → ¬ (SolvesBothCongruences a m b n x))
