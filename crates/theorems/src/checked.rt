@@ -1,5 +1,4 @@
-//! Functions that call `num_integer::checked` at native types. A program calls them so if it knows nothing of its
-//! numbers.
+//! Calls of `num_integer::checked` at native types. A program calls them if it knows nothing of its numbers.
 
 ghost use Rattle.std.specs.Prelude.{◌≡◌, ◌≢◌, ◌⊎◌, ◌<◌, ◌%◌, ◌^◌, ◌<ℤ◌, ◌≤ℤ◌, ◌+ℤ◌, All, FitsSigned, MatchOption, map, pos};
 ghost use Rattle.std.specs.Int.{FitsUnsignedBits, w64};

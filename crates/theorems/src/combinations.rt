@@ -1,4 +1,4 @@
-//! Functions that call `applied` for combinations and their ranks.
+//! Combinations and their ranks.
 
 ghost use Rattle.std.specs.Prelude.{◌≡◌, ◌<◌, ◌^◌, SomeIff, length};
 ghost use Rattle.num_integer.specs.Coefficient.{coefficient};

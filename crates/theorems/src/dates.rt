@@ -27,7 +27,7 @@ use calendar::{
 use std::fmt;
 use std::hash::{Hash, Hasher};
 
-// ---- what a caller can prove from the contracts
+// ---- dates, their day numbers and strings
 
 /// Returns `date`, which is the date of its day number, or `None` if the day number does not fit.
 pub fn date_of_its_day_number(date: &Date) -> Option<Date>

@@ -1,6 +1,6 @@
 //! What is proved of `ratio64` beside the main theorems.
 
-ghost use Rattle.std.specs.Prelude.{◌≡◌, ◌≢◌, ◌↔◌, ◌≤ℤ◌, ◌<ℤ◌, ◌+ℤ◌, ◌*ℤ◌, Err, FitsSigned, IfOk, IfSome, IsTrue, MatchOption, neg_ℤ, pos, unsigned_abs, ℤ};
+ghost use Rattle.std.specs.Prelude.{◌≡◌, ◌≢◌, ◌↔◌, ◌≤ℤ◌, ◌<ℤ◌, ◌+ℤ◌, ◌*ℤ◌, Err, FitsSigned, IfSome, IsTrue, MatchOption, neg_ℤ, pos, unsigned_abs, ℤ};
 ghost use Rattle.std.specs.Fmt.{WritesOnOk};
 ghost use Rattle.std.specs.Int.{int_pow, w64};
 ghost use Rattle.num_integer.specs.Checked.{AnswersWhere};
@@ -18,7 +18,7 @@ use ratio64::{ParseRatioError, Ratio, RatioError};
 use std::cmp::Ordering;
 use std::fmt;
 
-// ---- what a caller can prove from the contracts
+// ---- exact results, order and strings
 
 /// Returns the parts of the exact result, or `None` if one of them does not fit. The exact result is unique.
 pub fn exact_parts(num: i64, den: i64) -> Option<(i64, i64)>
@@ -158,7 +158,7 @@ pub fn parsed(text: &str) -> Result<Ratio, ParseRatioError>
     text.parse()
 }
 
-// ---- results as a caller uses them, with no proof file
+// ---- negation, magnitude, reciprocal, powers
 
 /// Returns the negation, or `None` if it does not fit.
 pub fn negation(x: &Ratio) -> Option<Ratio>

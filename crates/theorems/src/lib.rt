@@ -1,4 +1,6 @@
-//! Functions that state what is proved of the libraries. The contract of each is a theorem: it fixes the result.
+//! Functions that state what is proved of the libraries. The contract of each is a theorem: it fixes the result. Four of
+//! them write to a writer of the caller, and say nothing of when it fails: `printed` of `dates.rt` and of `fractions.rt`,
+//! `put_on_console` and `finished_console` of `headline.rt`.
 //!
 //! If the clauses of `requires` hold, a call returns, and the clauses of `ensures` hold for its result. The gate proves each
 //! function for every argument. Functions that only show how a call is written are in the crate `callers`.
@@ -12,7 +14,7 @@
 //! | `integers.rt` | calls of `num_integer` at any type of integers |
 //! | `checked.rt` | calls of `num_integer::checked`, and when each returns `None` |
 //! | `residues.rt` | `modular`: residues, powers, inverses, congruences |
-//! | `fractions.rt` | `ratio64`: exact results and errors, order, text, hashes, rounding |
+//! | `fractions.rt` | `ratio64`: exact results and errors, order, text, rounding |
 //! | `dates.rt` | `calendar`: dates and their days, weeks, months, Easter |
 //! | `rounding.rt` | `applied`: nearest quotients, roots with their remainder, logarithms, factorials, offsets |
 //! | `pages.rt` | `applied`: pages, schedules, shares |

@@ -1,4 +1,4 @@
-//! Functions that call `applied` for divisors and multiples of lists, coprime numbers and reduced pairs.
+//! Divisors and multiples of lists, and coprime numbers.
 
 ghost use Rattle.std.specs.Prelude.{◌↔◌, ◌<◌, All, FitsSigned, IsTrue, MatchOption, map, pos};
 ghost use Rattle.std.specs.Int.{FitsUnsignedBits, w64};
@@ -74,7 +74,7 @@ pub fn divisor_and_multiple<T: Fits>(numbers: &[T]) -> Option<(T, T)>
     Some((divisor, multiple))
 }
 
-// ---- pairs
+// ---- coprime numbers
 
 /// Returns `true` if the greatest common divisor of two 128-bit numbers is 1.
 pub fn are_coprime(a: u128, b: u128) -> bool

@@ -1,4 +1,4 @@
-//! Functions that call `applied` for pages and parts, shares, offsets and schedules.
+//! Pages, schedules and shares.
 
 ghost use Rattle.std.specs.Prelude.{◌≡◌, ◌↔◌, ◌<◌, ◌≤◌, ◌<ℤ◌, All, FitsSigned, IsFalse, IsTrue, MatchOption, pos, ℕ, ℤ};
 ghost use Rattle.std.specs.Int.{w64};
