@@ -11,9 +11,11 @@ mod bezout;
 pub mod counted;
 mod division;
 mod divisors;
+pub mod guards;
 mod native;
 mod native_integer;
 pub mod operators;
+pub mod plain;
 mod stein;
 
 pub use bezout::ExtendedGcd;

@@ -1,8 +1,10 @@
 //! Zero, one, the operators and six tests, specified on integers. Every integer type is `exact`, so
-//! callers never have to prove it.
+//! callers never have to prove it. In plain Rust the operators that add, subtract and multiply are written by hand: they panic if the
+//! result does not fit. Those of [`crate::plain`] do not test.
 
 ghost use Rattle.std.specs.Prelude.{◌≡◌, ◌≢◌, ◌↔◌, ◌<ℤ◌, ◌+ℤ◌, ◌-ℤ◌, ◌*ℤ◌, pos, negsuc, neg_ℤ, int_rem, int_div, IsTrue};
 
+use crate::plain;
 use num_traits::Num;
 
 /// Returns 0. `zero::<i64>()` is `0`.
@@ -70,7 +72,7 @@ pub fn is_minus_one<T: Copy + Num + PartialOrd>(a: T) -> bool
     requires in_range { T.fits (T.value a) }
     ensures { IsTrue result ↔ (T.value a ≡ negsuc 0) }
 {
-    is_negative(a) && is_zero(successor(a))
+    is_negative(a) && is_zero(plain::successor(a))
 }
 
 /// Returns `a + b`. `sum(2, 3)` is `5`.
@@ -80,7 +82,7 @@ pub fn sum<T: Num>(a: T, b: T) -> T
     ensures in_range { T.fits (T.value result) }
     ensures value { T.value result ≡ T.value a +ℤ T.value b }
 {
-    a + b
+    plain::sum(a, b)
 }
 
 /// Returns `a - b`. `difference(2, 3)` is `-1`.
@@ -90,7 +92,7 @@ pub fn difference<T: Num>(a: T, b: T) -> T
     ensures in_range { T.fits (T.value result) }
     ensures value { T.value result ≡ T.value a -ℤ T.value b }
 {
-    a - b
+    plain::difference(a, b)
 }
 
 /// Returns `a * b`. `product(2, 3)` is `6`.
@@ -100,7 +102,7 @@ pub fn product<T: Num>(a: T, b: T) -> T
     ensures in_range { T.fits (T.value result) }
     ensures value { T.value result ≡ T.value a *ℤ T.value b }
 {
-    a * b
+    plain::product(a, b)
 }
 
 /// Returns `a / b`, rounded toward zero. `quotient(-8, 3)` is `-2`.
@@ -134,7 +136,7 @@ pub fn successor<T: Num>(a: T) -> T
     ensures in_range { T.fits (T.value result) }
     ensures value { T.value result ≡ T.value a +ℤ pos 1 }
 {
-    sum(a, one())
+    plain::successor(a)
 }
 
 /// Returns `a - 1`. `predecessor(43)` is `42`.
@@ -144,7 +146,7 @@ pub fn predecessor<T: Num>(a: T) -> T
     ensures in_range { T.fits (T.value result) }
     ensures value { T.value result ≡ T.value a -ℤ pos 1 }
 {
-    difference(a, one())
+    plain::predecessor(a)
 }
 
 /// Returns `-a`. `negated(7)` is `-7`.
@@ -154,5 +156,5 @@ pub fn negated<T: Num>(a: T) -> T
     ensures in_range { T.fits (T.value result) }
     ensures value { T.value result ≡ neg_ℤ (T.value a) }
 {
-    difference(zero(), a)
+    plain::negated(a)
 }

@@ -12,6 +12,7 @@ mod sign_magnitude;
 
 pub use coefficients::{binomial, multinomial};
 pub use domains::Fits;
+pub use integer_core::guards;
 pub use integer_core::{
     ExtendedGcd, Integer, NativeInteger, div_ceil, div_floor, div_mod_floor, div_rem, gcd, gcd_lcm,
     lcm, mod_floor, operators,

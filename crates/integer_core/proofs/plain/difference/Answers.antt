@@ -1,4 +1,4 @@
-use Rattle.integer_core.proofs.operators.difference.Goals as goal
+use Rattle.integer_core.proofs.plain.difference.Goals as goal
 
 pub returns : goal.returns
 returns g c =

@@ -1,4 +1,4 @@
-use Rattle.integer_core.proofs.operators.product.Goals as goal
+use Rattle.integer_core.proofs.plain.product.Goals as goal
 
 pub returns : goal.returns
 returns g c =

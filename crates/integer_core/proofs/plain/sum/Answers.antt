@@ -1,4 +1,4 @@
-use Rattle.integer_core.proofs.operators.sum.Goals as goal
+use Rattle.integer_core.proofs.plain.sum.Goals as goal
 
 pub returns : goal.returns
 returns g c =
