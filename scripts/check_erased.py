@@ -36,17 +36,19 @@ RULES = {
     'comma': (r', (?=[])}>] )', ''),
     # The label of a loop that nothing names. rustc refuses a `break` to a label that is not there.
     'label': (r"('\w+) : (?=(?:loop|while|for) )(?!.* \1 )", ''),
-    # `const fn` returns what `fn` returns.
-    'const fn': (r'const (?=fn )', ''),
-    # `Self` for the type of an implementation. If they were two types, rustc would see that they do not fit.
-    'Self': (ALONE + r'(?:{type}|{word}(?= [{{(] | :: [^<]))(?= )', 'Self'),
     # Bounds say at which types an item is there, and not what it returns.
     'bound': (r'\+ (?:Copy|Clone) |(?<=: )(?:Copy|Clone|Sized) \+ |where Self : Clone (?:, )?(?=[{;] )', ''),
     # `Formatter<W>` of Rattle, for a writer `W`, is `Formatter<'_>` of Rust.
     'Formatter': (r"(?<= )< \w+ : fmt :: Write > |(?<= Formatter )< (?:'_|[A-Z]) > ", ''),
+    # A copy of a number that need not be `Copy` in Rust is its clone. rustc sees whether a value or a reference stands there.
+    'clone': (r'\. clone \( \) |(?<=[(,={;>] )\* (?=[a-z])', ''),
+    # A slice arrives from C as a pointer and a length, of which the body makes the slice.
+    'slice': (r'let (\w+) = if \1_len == 0 { & (?:mut )?\[ \] } else { unsafe { core :: slice :: from_raw_parts(?:_mut)? \( \1 , \1_len \) } } ; '
+              r'|(\w+) : \* (?:const|(mut)) (\w+) , \2_len : usize ',
+              lambda item, match: '' if match[1] else ' '.join([match[2], ': &', *[match[3]] * bool(match[3]), '[', match[4], '] '])),
 }
-# `type` has the type of an implementation, `names` the paths of imported names, `renamed` what first words of paths are in Rust.
-Item = collections.namedtuple('Item', 'key is_function text type names renamed')
+# `names` has the paths of imported names, and `renamed` what first words of paths are in Rust.
+Item = collections.namedtuple('Item', 'key is_function text names renamed')
 
 def tokens_of(text):
     """The tokens of a file, without comments. In a text, spaces are other signs, so that a token has none."""
@@ -102,7 +104,7 @@ class Files:
     def read(self, file, module, renamed=None):
         """Reads a file and those of its modules. A source has `renamed`."""
         tokens = without_contracts(tokens_of(file.read_text()), renamed is not None)
-        for name in self.block(tokens, module, Item('', False, '', '', {}, renamed or {})):
+        for name in self.block(tokens, module, Item('', False, '', {}, renamed or {})):
             folder = file.parent if file.stem == 'lib' else file.with_suffix('')
             self.read(folder / (name + file.suffix), (*module, name), renamed)
 
@@ -134,15 +136,14 @@ class Files:
                 key = '::'.join((*place, name))
                 self.items[kind, key].append(inside._replace(key=key, text=text, is_function=kind == 'fn' and t[stop] == '{'))
                 if is_block:
-                    self.block(t[stop + 1:last], (*place, f'<{name}>'), inside._replace(type=head[1].split(' for ')[-1] if head else ''))
+                    self.block(t[stop + 1:last], (*place, f'<{name}>'), inside)
             k = last + 1
         return below
 
 def rewritten(item, rules):
     """The text of an item by some of the rules, with the path of each imported name in its place."""
-    text, type_ = item.text, item.type or ' '
+    text = item.text
     for pattern, new in (RULES[rule] for rule in RULES if rule in rules):
-        pattern = pattern.replace('{type}', re.escape(type_)).replace('{word}', re.escape(type_.split(' ')[0]))
         text = re.sub(pattern, (lambda match: new(item, match)) if callable(new) else new, text, flags=re.S)
     return re.sub(ALONE + r'\w+(?= )', lambda match: item.names.get(match[0], match[0]), text)
 

@@ -1,55 +1,61 @@
 """Crates of Rattle: their modules, and where a caller finds each public item, in Rattle or in the crate of plain Rust."""
-from dataclasses import dataclass, field
+from __future__ import annotations
 
-from rattle_source import Source, Unknown
+import functools
+from collections.abc import Iterable, Sequence
+from dataclasses import dataclass, field
+from pathlib import Path
+
+from rattle_source import Item, Source, Unknown
 
 ROOT = 'num_integer'                            # its root becomes that of the Rust crate
 AT_ROOT = {ROOT, 'applied'}                     # the modules of these stand at the root of the Rust crate
 # The crates of the Rust crate: how the root declares the module of each, or nothing for those whose modules stand there.
 CRATES = {'integer_core': 'mod', 'integer_roots': 'mod', 'num_integer': '',
           'modular': 'pub mod', 'ratio64': 'pub mod', 'calendar': 'pub mod', 'applied': ''}
+# The public modules that are private in the Rust crate: others export what they have, or no caller there needs it.
+WITHIN = {('integer_core', 'counted'), ('integer_core', 'guards'), ('integer_core', 'padded'), ('integer_core', 'plain'),
+          ('integer_roots', 'counted'), ('applied', 'guards')}
 NOT_READ = {'tests', 'assertions'}               # modules that only tests have
 OUTSIDE = {'std', 'core', 'num_traits', 'crate', 'self', 'super'}
+Place = tuple[str, ...]                         # the names of modules from the root of a crate
 
 
 @dataclass
 class Module:
     """A file, whose path has the names of its modules below the root of its crate."""
     crate: str
-    path: tuple
+    path: Place
     source: Source
-    items: list = field(default_factory=list)
+    items: list[Item] = field(default_factory=list)
 
-    def rust_file(self):
+    @functools.cached_property
+    def imported(self) -> dict[str, Place]:
+        """The path of each name that the file imports."""
+        return {name: path for item in self.items if item.kind == 'use' for path, name in self.source.imports(item)}
+
+    def rust_file(self) -> str:
         """Its file below src/ of the Rust crate. The root of a crate whose modules stand at the root has none."""
         names = self.path if self.crate in AT_ROOT else (self.crate,) + self.path
         return '/'.join(names) + '.rs' if names else 'lib.rs' if self.crate == ROOT else ''
-
-    def is_left_out(self, item):
-        """Whether an item is there for tests or for the documentation alone, or hidden from it."""
-        words = [[self.source.at(k) for k in (first + 2, first + 4)] for first, _ in item.attributes]
-        return any(word in words for word in (['cfg', 'test'], ['cfg', 'doc'], ['doc', 'hidden']))
-
-    def below(self):
-        """The modules in it that code can name outside tests."""
-        return [item for item in self.items if item.kind == 'mod' and not self.is_left_out(item) and item.name not in NOT_READ]
 
 
 class Library:
     """All modules of some crates, by crate and path, in the order in which a reader meets them."""
     SUFFIX = '.rt'
+    LEFT_OUT = {('cfg', 'test'), ('cfg', 'doc')}    # the attributes of modules that are not read
 
-    def __init__(self, folder, crates):
-        self.folder, self.modules, self.crates = folder, {}, set(crates)
+    def __init__(self, folder: Path, crates: Iterable[str]) -> None:
+        self.folder, self.modules, self.crates = folder, dict[tuple[str, Place], Module](), set(crates)
         for crate in crates:
             roots = [(folder / crate / 'src' / name).with_suffix(self.SUFFIX) for name in ('lib', 'main')]
             self.read(crate, (), next((root for root in roots if root.is_file()), roots[0]))
 
-    def read(self, crate, path, file):
+    def read(self, crate: str, path: Place, file: Path) -> None:
         """Reads a file, and those of its modules."""
-        source = Source(file.relative_to(self.folder.parent), file.read_text())
+        source = Source(str(file.relative_to(self.folder.parent)), file.read_text())
         module = self.modules[crate, path] = Module(crate, path, source, source.items())
-        for item in module.below():
+        for item in self.below(module):
             if item.open:
                 source.refuse(item.word, f'the module `{item.name}` within a file')
             below = (self.folder / crate / 'src').joinpath(*path, item.name).with_suffix(self.SUFFIX)
@@ -57,16 +63,22 @@ class Library:
                 source.refuse(item.word, f'the module `{item.name}`, which has no file')
             self.read(crate, path + (item.name,), below)
 
-    def published(self, crate):
+    def below(self, module: Module) -> list[Item]:
+        """The modules in a module that code can name outside tests."""
+        at = module.source.at
+        return [item for item in module.items if item.kind == 'mod' and item.name not in NOT_READ
+                and not any((at(first + 2), at(first + 4)) in self.LEFT_OUT for first, _ in item.attributes)]
+
+    def published(self, crate: str) -> dict[tuple[str, Place, str], Place]:
         """The place of each public item in a crate, as a caller in Rattle finds it."""
         return self.publish({}, self.modules[crate, ()], ())
 
-    def knows(self, module, path):
+    def knows(self, module: Module, path: Sequence[str]) -> bool:
         """Whether the first word of a path is known."""
         names = {item.name for item in module.items if item.kind in ('mod', 'enum', 'struct')}
         return path[0] in OUTSIDE or path[0] in self.crates or path[0] in names
 
-    def find(self, module, path):
+    def find(self, module: Module, path: Sequence[str]) -> tuple[Module, str | None] | None:
         """The module and the name to which a path leads; the module and None where it leads to a module; or None."""
         crate, at, names = module.crate, module.path, list(path)
         if names[0] in self.crates:
@@ -80,18 +92,18 @@ class Library:
             return here, None
         return self.find_name(here, names[0]) if len(names) == 1 else None
 
-    def find_name(self, module, name):
+    def find_name(self, module: Module, name: str) -> tuple[Module, str | None] | None:
         """The module that has an item that this one has or exports, and the item's name there; or None."""
-        for item in module.items:
-            if item.kind == 'use' and item.public:
-                for path, given in module.source.imports(item):
-                    if given == name:
-                        return self.find(module, path)
-            elif item.name == name and item.kind not in ('impl', 'ghost', 'use', 'attribute'):
-                return module, name
-        return None
+        if module.imported.get(name, (name,)) != (name,):
+            return self.find(module, module.imported[name])
+        named = (item for item in module.items if item.name == name and item.kind not in ('impl', 'ghost', 'use', 'attribute'))
+        return (module, name) if next(named, None) else None
 
-    def publish(self, public, module, place):
+    def named(self, module: Module, path: Sequence[str]) -> tuple[Module, str | None] | None:
+        """As `find`, for a path in the code of a module, which begins with a name that the module has or imports."""
+        return self.find(module, [*module.imported.get(path[0], path[:1]), *path[1:]])
+
+    def publish(self, public: dict[tuple[str, Place, str], Place], module: Module, place: Place) -> dict[tuple[str, Place, str], Place]:
         """Notes the public items of a module that stands at this place: its own first, then those of the modules in it."""
         for item in module.items:
             if item.public and item.kind == 'use':
@@ -99,28 +111,33 @@ class Library:
                     self.publish_use(public, module, path, name, place)
             elif item.public and item.kind != 'mod':
                 public.setdefault((module.crate, module.path, item.name), place)
-        for item in module.below():
-            if item.public:
-                self.publish(public, self.modules[module.crate, module.path + (item.name,)], place + (item.name,))
+        for item in self.below(module):
+            below = self.modules[module.crate, module.path + (item.name,)]
+            if item.public and self.is_open(below):
+                self.publish(public, below, place + (item.name,))
         return public
 
-    def publish_use(self, public, module, path, name, place):
+    def publish_use(self, public: dict[tuple[str, Place, str], Place], module: Module, path: Place, name: str, place: Place) -> None:
         if path[0] in OUTSIDE - {'crate', 'self', 'super'}:
             return
         found = self.find(module, path)
         if not found:
             raise Unknown(f'{module.source.path}: the export of `{"::".join(path)}`')
         target, target_name = found
-        if target_name is None:
-            self.publish(public, target, place + (name,))
-        else:
+        if target_name is not None:
             public.setdefault((target.crate, target.path, target_name), place)
+        elif self.is_open(target):
+            self.publish(public, target, place + (name,))
+
+    def is_open(self, module: Module) -> bool:
+        """Whether a module may be public."""
+        return True
 
 
 class RustLibrary(Library):
     """The crates that become one crate of Rust, with the public place of each item in it."""
 
-    def __init__(self, folder):
+    def __init__(self, folder: Path) -> None:
         super().__init__(folder, CRATES)
         self.public = self.publish({}, self.modules[ROOT, ()], ())
         for crate, kind in CRATES.items():
@@ -131,7 +148,10 @@ class RustLibrary(Library):
                 if item.kind not in ('attribute', 'mod'):
                     self.modules[crate, ()].source.refuse(item.word, f'`{item.name}`, which would stand at the root of the Rust crate')
 
-    def place_of(self, module, item, owner=None):
+    def is_open(self, module: Module) -> bool:
+        return (module.crate, '/'.join(module.path)) not in WITHIN
+
+    def place_of(self, module: Module, item: Item, owner: Item | None = None) -> Place | None:
         """The public place of an item, of a member of the trait or the type `owner`, or None."""
         if owner is None or owner.kind == 'trait':
             top = owner or item
@@ -140,11 +160,11 @@ class RustLibrary(Library):
             return None
         return self.place_of_type(module, owner.name)
 
-    def place_of_type(self, module, name):
+    def place_of_type(self, module: Module, name: str) -> Place | None:
         """The public place of a type that the module's crate has."""
         places = [place for (crate, _, found), place in self.public.items() if crate == module.crate and found == name]
         return places[0] if places else None
 
-    def names_at(self, place):
+    def names_at(self, place: Place) -> list[str]:
         """The names of types and traits at a public place."""
         return sorted(name for (_, _, name), there in self.public.items() if there == place and name[0].isupper())

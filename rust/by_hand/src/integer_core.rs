@@ -1,7 +1,7 @@
 //! Hidden methods of `Integer`. At a type of one's own its operators decide if a result does not
 //! fit. No other crate can make a `Reason`, so no other crate calls them.
 
-use crate::guards::Reason;
+use guards::Reason;
 pub(crate) use native::Magnitudes;
 
 trait Integer {

@@ -1,0 +1,149 @@
+#!/usr/bin/env python3
+"""Takes each guard of the crate of plain Rust out of a copy, one at a time, and sees that a test misses it.
+
+    scripts/check_guards.py             each guard; status 1 if no test misses one
+    scripts/check_guards.py --sample    a few of each kind
+    scripts/check_guards.py --list      the guards, with their numbers
+
+A guard is a call of `check`, of `some`, or of another function that scripts/taken_out.rs has. In the copy each calls the function of
+that file, with a number, which the variable GUARD takes out: then `check` tests nothing, `some` has a value of zeros, and a sum or a
+product wraps. So the copy is built once, in release, where Rust finds no overflow. The tests are those of rust/tests/domains and, for
+numbers of one's own type, rust/tests/own_type.rs. A test that does not end is one that fails."""
+from __future__ import annotations
+
+import json
+import os
+import re
+import shutil
+import subprocess
+import sys
+import tempfile
+from collections.abc import Iterator
+from concurrent.futures import ThreadPoolExecutor
+from dataclasses import dataclass
+from pathlib import Path
+
+from library import Library, Module
+
+RUST = Path(__file__).resolve().parent.parent / 'rust'
+TAKEN_OUT = Path(__file__).resolve().parent / 'taken_out.rs'
+REGISTRY = Path('/usr/share/cargo/registry')
+TESTS = ('domains', 'own_type')
+SECONDS = 60                                    # that the tests may take
+FEW = 8                                         # of so many guards of a kind, one is in the sample
+
+
+@dataclass
+class Guard:
+    """A call of a guard."""
+    number: int
+    module: Module
+    place: int
+    name: str
+
+    def __str__(self) -> str:
+        source = self.module.source
+        reason = next((source.at(k) for k in range(self.place, source.close(self.place + 1)) if source.kind(k) == 'text'), 'a reason')
+        return f'{self.number}: `{self.name}` with {reason}, {source.path}:{source.line(self.place)}'
+
+    def take(self) -> None:
+        """Lets the call be that of taken_out.rs."""
+        source = self.module.source
+        source.texts[source.code[self.place]] = f'crate::taken_out::{self.name}'
+        source.texts[source.code[self.place + 1]] = f'({self.number}, '
+
+
+class Crate(Library):
+    """The crate of plain Rust in a folder."""
+    SUFFIX = '.rs'
+
+    def __init__(self, folder: Path) -> None:
+        super().__init__(folder.parent, [folder.name])
+        names = set(re.findall(r'pub\(crate\) fn (\w+)', TAKEN_OUT.read_text()))
+        found = ((module, place) for module in self.modules.values() for place in self.calls(module, names))
+        self.guards = [Guard(number, module, place, module.source.at(place)) for number, (module, place) in enumerate(found, 1)]
+
+    def calls(self, module: Module, names: set[str]) -> Iterator[int]:
+        """The places of the calls in a module."""
+        at = module.source.at
+        for k in range(len(module.source.code)):
+            if at(k) in names and at(k + 1) == '(' and at(k - 1) not in ('fn', '.', ':'):
+                found = self.named(module, [at(k)])
+                if found and found[0].path[-1:] == ('guards',):
+                    yield k
+
+    def write(self) -> None:
+        """Writes the calls of taken_out.rs, and that file."""
+        for guard in self.guards:
+            guard.take()
+        for module in self.modules.values():
+            text = ''.join(module.source.texts)
+            if not module.path:
+                text = text.replace('#![forbid(unsafe_code)]', '') + '\nmod taken_out;\n'
+            (self.folder.parent / module.source.path).write_text(text)
+        shutil.copy(TAKEN_OUT, self.folder / next(iter(self.crates)) / 'src')
+
+    def sample(self) -> list[Guard]:
+        """A few guards of each kind."""
+        kinds: dict[str, list[Guard]] = {}
+        for guard in self.guards:
+            kinds.setdefault(guard.name, []).append(guard)
+        return [guard for guards in kinds.values() for guard in guards[::FEW]]
+
+
+def copy(folder: Path) -> Crate:
+    """The crate in a folder, with the guards of taken_out.rs."""
+    for name in ('src', 'tests'):
+        shutil.copytree(RUST / name, folder / 'rust' / name)
+    for name in ('Cargo.toml', 'README.md', 'build.rs'):
+        shutil.copy(RUST / name, folder / 'rust')
+    (folder / '.cargo').mkdir()
+    words = f'[source.crates-io]\nreplace-with = "debian"\n[source.debian]\ndirectory = "{REGISTRY}"\n'
+    (folder / '.cargo' / 'config.toml').write_text(words if REGISTRY.is_dir() else '')
+    crate = Crate(folder / 'rust')
+    crate.write()
+    return crate
+
+
+def build(folder: Path) -> list[str]:
+    """Builds the tests, and returns the programs."""
+    tests = [word for name in TESTS for word in ('--test', name)]
+    command = ['cargo', 'test', '--offline', '--release', '--config', 'profile.release.opt-level=1', *tests, '--no-run', '--message-format=json']
+    made = subprocess.run(command, cwd=folder / 'rust', capture_output=True, text=True)
+    if made.returncode:
+        sys.exit(f'check_guards.py: the copy is not built\n{made.stderr}')
+    messages = (json.loads(line) for line in made.stdout.splitlines() if line.startswith('{'))
+    found = {message['target']['name']: message['executable'] for message in messages if message.get('executable')}
+    return [found[name] for name in TESTS]
+
+
+def fails(programs: list[str], number: int) -> bool:
+    """Whether a test fails without the guard of this number."""
+    for program in programs:
+        try:
+            run = subprocess.run([program, '--quiet'], env=os.environ | {'GUARD': str(number)}, capture_output=True, timeout=SECONDS)
+        except subprocess.TimeoutExpired:
+            return True
+        if run.returncode:
+            return True
+    return False
+
+
+def main() -> None:
+    with tempfile.TemporaryDirectory() as name:
+        crate = copy(Path(name))
+        guards = crate.sample() if '--sample' in sys.argv else crate.guards
+        if '--list' in sys.argv:
+            return print(*guards, sep='\n')
+        programs = build(Path(name))
+        if fails(programs, 0):
+            sys.exit('check_guards.py: a test fails with every guard in its place')
+        with ThreadPoolExecutor(max_workers=2) as pool:
+            found = list(pool.map(lambda guard: fails(programs, guard.number), guards))
+        missed = [f'no test misses {guard}' for guard, failed in zip(guards, found) if not failed]
+        print(*missed, f'{len(guards)} of {len(crate.guards)} guards are taken out, one at a time: {len(missed)} are not missed', sep='\n')
+        sys.exit(bool(missed))
+
+
+if __name__ == '__main__':
+    main()

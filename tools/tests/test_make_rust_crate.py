@@ -1,0 +1,73 @@
+"""What scripts/make_rust_crate.py and scripts/make_rust_exports.py make of a source, and what they reject.
+
+The pairs of tools/tests/golden are sources of Rattle and the Rust that is made of them. A file is named for its crate and for what it
+shows."""
+from __future__ import annotations
+
+from pathlib import Path
+
+import pytest
+import samples
+from rattle_source import Unknown
+
+GOLDEN = Path(__file__).resolve().parent / 'golden'
+# Below it stands what a crate other than `integer_core` needs of that one.
+INTEGER = '''pub mod guards;
+pub trait Integer: Copy + Num {}
+'''
+# Of a crate with this text below a first line, the line and the reason of the refusal.
+REFUSED = (
+    ('extern crate alloc;', 2, 'an item `extern`'),
+    ('macro_rules! twice { () => {} }', 2, 'an item `macro_rules`'),
+    ('thread_local! { static COUNT: u64 = 1; }', 2, 'an item `macro`'),
+    ('union Both { a: u8, b: i8 }', 2, 'an item that begins with `union`'),
+    ('#![feature(never_type)]', 2, 'the attribute `feature`'),
+    ('#[repr(C)]\nstruct Pair;', 2, 'the attribute `repr`'),
+    ('#[cfg(unix)]\nfn half() {}', 2, 'the attribute `cfg`'),
+    ('mod inner {}', 2, 'the module `inner` within a file'),
+    ('mod absent;', 2, 'the module `absent`, which has no file'),
+    ('use alloc::vec::Vec;', 2, 'a path that begins with `alloc`'),
+    ('fn half() {\n    use alloc::vec::Vec;\n}', 3, 'a path that begins with `alloc`'),
+    ('use crate::*;', 2, '`*` in a `use`'),
+    ('fn half() {\n    println!("half")\n}', 3, 'the macro `println!`'),
+    ('struct Row {\n    *x: u8,\n}', 3, 'a field that begins with `*`'),
+    ('fn half(x: u64) -> u64 {\n    prove { x };\n    x\n}', 3, '`prove`, which is left over'),
+    ('fn half(x: u64) -> bool {\n    x ≤ 1\n}', 3, '`≤`, which is left over'),
+    ('fn half(x: u64) -> u64\n    requires x > 1\n{ x }', 3, '`requires` that is no clause'),
+    ('fn half(x: u64) -> u64\n    ensures { result ≡ x }\n    decreases { x }\n{ x }', 4, '`decreases` after the clauses of `half`'),
+    ('fn half(x: u64 {}', 2, '`(` without its end'),
+    ('fn half(x: u64) {\n    let text = "x;\n}', 3, 'a text without an end'),
+    ('/* half', 2, 'a comment without an end'),
+)
+# The same of the exports for C.
+REFUSED_EXPORTS = (
+    ('#[unsafe(no_mangle)]\npub extern "C" fn half(x: &[Pair<u64>]) {}', 3, 'a slice of a call for C whose items have no type of one word'),
+    ('#[unsafe(no_mangle)]\npub extern "C" fn half(x: &mut [&[u64]]) {}', 3, 'a slice of a call for C whose items have no type of one word'),
+    ('#[unsafe(link_section)]\npub extern "C" fn half() {}', 2, 'the attribute `unsafe`'),
+    ('#[repr(packed)]\nstruct Pair;', 2, 'the attribute `repr`'),
+    ('fn half(x: u64) {\n    panic!("{x}")\n}', 3, 'the macro `panic!`'),
+)
+
+
+def texts_of(crate: str, text: str) -> dict[str, str]:
+    return {crate: text} if crate == 'integer_core' else {'integer_core': INTEGER.replace('pub mod guards;\n', ''), crate: text}
+
+
+@pytest.mark.parametrize('source', sorted(GOLDEN.glob('*.rt')), ids=lambda source: source.stem)
+def test_rust_of_a_source(source: Path) -> None:
+    crate = source.name.split('.')[0]
+    assert samples.formatted(samples.rust_of(crate, texts_of(crate, source.read_text()))) == source.with_suffix('.rs').read_text()
+
+
+@pytest.mark.parametrize('text, line, reason', REFUSED)
+def test_forms_that_are_not_known(text: str, line: int, reason: str) -> None:
+    with pytest.raises(Unknown) as refusal:
+        samples.rust_of('num_integer', {'num_integer': f'//! A sample.\n{text}'})
+    assert str(refusal.value) == f'crates/num_integer/src/lib.rt:{line}: {reason}'
+
+
+@pytest.mark.parametrize('text, line, reason', REFUSED_EXPORTS)
+def test_forms_that_exports_do_not_have(text: str, line: int, reason: str) -> None:
+    with pytest.raises(Unknown) as refusal:
+        samples.rust_of('cellarcove_c', {'cellarcove_c': f'//! A sample.\n{text}'})
+    assert str(refusal.value) == f'crates/cellarcove_c/src/lib.rt:{line}: {reason}'
