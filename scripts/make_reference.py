@@ -31,20 +31,20 @@ REPOSITORY = pathlib.Path(__file__).resolve().parent.parent
 CRATES = REPOSITORY / 'crates'
 PAGES = REPOSITORY / 'docs' / 'reference'
 TOOLCHAIN = REPOSITORY / 'rust' / 'by_hand' / 'definitions.md'
-NAMES = ('theorems', 'callers', 'integer_core', 'integer_roots', 'num_integer', 'modular', 'ratio64', 'calendar', 'applied', 'cellarcove_c')
+NAMES = ('theorems', 'theorems_by_subject', 'callers', 'integer_core', 'integer_roots', 'num_integer', 'modular', 'ratio64', 'calendar', 'applied', 'cellarcove_c')
 # All public items of these are those of num_integer, on whose page they are.
 BELOW = {'integer_core': 'num_integer', 'integer_roots': 'num_integer'}
-BY_FILE = {'cellarcove_c', 'theorems', 'callers'}   # nobody imports them: their public items are those of their files
+BY_FILE = {'cellarcove_c', 'theorems', 'theorems_by_subject', 'callers'}   # nobody imports them: their public items are those of their files
 FIRST = (('headline',), ('laws',))              # the files of `theorems` with which its page begins
-CALLERS = ('theorems', 'callers')               # what their clauses and proofs import of the toolchain is on the page of imports
+CALLERS = ('theorems', 'theorems_by_subject', 'callers')   # what their clauses and proofs import of the toolchain is on the page of imports
 PROGRAM = ('intcalc_core', 'intcalc')           # on the page of files alone
 IN_RANGE = 'Clauses that only say that arguments and results are in the range of their types are left out.'
 IMPORTS = ('The module of each word: import it in a clause by `ghost use MODULE.{WORD};`, and in a proof by `use MODULE.{WORD}`. '
            'A module of `proofs` is for proofs alone. '
-           'The words are the definitions of the libraries, the rulesets, and what `crates/theorems` and `crates/callers` import of '
-           'the toolchain. `→`, `×`, `¬`, `⊥` and the tactics need no import. `rt check --fix-imports` adds missing imports.')
-INDEX = ('By name. The exports for C are on [their page](cellarcove_c.md), the theorems on [that of `theorems`](theorems.md), and '
-         'functions that show how calls are written on [that of `callers`](callers.md).')
+           'The words are the definitions of the libraries, the rulesets, and what `crates/theorems`, '
+           '`crates/theorems_by_subject` and `crates/callers` import of the toolchain. `→`, `×`, `¬`, `⊥` and the tactics need no import. `rt check --fix-imports` adds missing imports.')
+INDEX = ('By name. The exports for C are on [their page](cellarcove_c.md), the theorems on those of [`theorems`](theorems.md) '
+         'and [`theorems_by_subject`](theorems_by_subject.md), and functions that show how calls are written on [that of `callers`](callers.md).')
 SHOWN = ('fn', 'struct', 'enum', 'trait', 'const', 'type')
 LEMMA = re.compile(r'(?:abbrev |unfoldable )?pub (?:ruleset ([^\s:]+) =|([^\s:]+) :)')
 RENAMED = re.compile(r'^pub use [\w.]+\.\{(\S+) as (\S+)\}')
@@ -470,7 +470,7 @@ SLIPS = (
      'pub natural_gcd_positive : {n m d : ℕ} → 0 < m', 'pub natural_gcd_positive : {n m d : ℕ} → 0 < n', 'num_integer.md'),
     ('a doc comment that differs', 'crates/calendar/src/feasts.rt', '/// Returns', '/// Computes', 'calendar.md'),
     ('a line of a page that differs', 'docs/reference/modular.md', 'fn inverse_modulo', 'fn modular_inverse', 'modular.md'),
-    ('a theorem that differs', 'crates/theorems/src/dates.rt', 'ensures { result ≡ Some day }', 'ensures { result ≡ None }', 'theorems.md'),
+    ('a theorem that differs', 'crates/theorems_by_subject/src/dates.rt', 'ensures { result ≡ Some day }', 'ensures { result ≡ None }', 'theorems_by_subject.md'),
     ('a caller that differs', 'crates/callers/src/plain.rt', 'IsQuotient IsFloored n d result', 'IsQuotient IsFloored d n result', 'callers.md'),
     ('an import that differs', 'docs/reference/num_integer.md', 'use num_integer::{Average,', 'use integer_core::{Average,',
      'num_integer.md'),
