@@ -10,7 +10,7 @@ from typing import NamedTuple
 
 HERE = pathlib.Path(__file__).resolve().parent
 SOURCES = HERE.parent / 'crates' / 'cellarcove_c' / 'src'
-VERSION = re.search(r'^version = "(.*)"', (HERE.parent / 'rust' / 'c' / 'Cargo.toml').read_text(), re.M).group(1)
+VERSION = re.search(r'^version = "(.*)"', (HERE.parent / 'rust' / 'Cargo.toml').read_text(), re.M).group(1)
 
 NUMBERS = {f'{sign}{bits}': f'{"u" if sign == "u" else ""}int{bits}_t' for sign in 'iu' for bits in (8, 16, 32, 64)}
 NUMBERS |= {'usize': 'size_t', 'bool': 'bool'}

@@ -13,6 +13,7 @@ source scripts/lib.sh
 
 proved=$PWD/crates/cellarcove_c/out/libcellarcove_c.a
 libraries=${1:-}
+version=$(sed -nE 's/^version = "(.*)"$/\1/p' rust/Cargo.toml)
 archive=$work/by_rattle/libcellarcove_c.a # the one that is looked at
 languages=0
 
@@ -120,7 +121,7 @@ found_by_pkg_config() {
 found_by_cmake() {
     command -v cmake >/dev/null || { echo 'no cmake'; return 0; }
     rm -rf "$work/project" && mkdir "$work/project" && cp bindings/c/test.c "$work/project" &&
-        printf '%s\n' 'cmake_minimum_required(VERSION 3.10)' 'project(found C)' 'find_package(cellarcove 0.3 CONFIG REQUIRED)' \
+        printf '%s\n' 'cmake_minimum_required(VERSION 3.10)' 'project(found C)' "find_package(cellarcove ${version%.*} CONFIG REQUIRED)" \
             'foreach(kind cellarcove shared)' 'add_executable(of_${kind} test.c)' \
             'target_link_libraries(of_${kind} cellarcove::${kind})' 'endforeach()' >"$work/project/CMakeLists.txt" &&
         cmake -S "$work/project" -B "$work/project/made" -Dcellarcove_DIR="$work/prefix_moved/$1/cmake/cellarcove" >/dev/null &&

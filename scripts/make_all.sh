@@ -1,7 +1,6 @@
 #!/usr/bin/env bash
 # Writes every file that is made: plain Rust, its list of public items and the exports in rust/, what C, C++ and Python know of
-# the exports, the reference, the numbers on
-# README, and what Python computes for `replay`.
+# the exports, the reference, and what Python computes for `replay`.
 # .gitattributes lists these files.
 #
 # usage: scripts/make_all.sh
@@ -16,4 +15,3 @@ made=$(mktemp)
 trap 'rm -f "$made"' EXIT
 python3 compare/libraries.py >"$made"
 cat "$made" >crates/replay/src/tests/libraries.rt
-scripts/make_numbers.py --write >"$made"

@@ -20,7 +20,7 @@ quick=no
 case ${1:-} in -*) sed -n 's/^# usage: /usage: /p' "$0" >&2 && exit 2 ;; esac
 folder=${1:-dist}
 commit=$(git rev-parse HEAD)
-version=$(sed -nE 's/^## ([0-9.]+)$/\1/p' CHANGELOG.md | head -n 1)
+version=$(sed -nE 's/^version = "(.*)"$/\1/p' rust/Cargo.toml)
 original=$(sed -nE 's/^version = "(.*)"$/\1/p' rust/num-integer/Cargo.toml)
 machine=$(uname -m)-$(uname -s | tr 'A-Z' 'a-z')
 proved=crates/cellarcove_c/out/libcellarcove_c.a
@@ -32,7 +32,7 @@ stop() { echo "release.sh: $*" >&2 && exit 1; }
 
 [ -z "$(git status --porcelain)" ] || stop 'the checkout has changes that are not committed'
 grep -q "^gate: commit $commit," out/passed 2>/dev/null || stop "\`.ci/run\` has not passed at $commit in this checkout"
-[ -n "$version" ] || stop 'CHANGELOG.md has no version'
+[ "$(grep -m 1 '^## ' CHANGELOG.md)" = "## $version" ] || stop "CHANGELOG.md does not begin with version $version, which rust/Cargo.toml has"
 
 # ---- the files
 
@@ -152,8 +152,7 @@ tries_c() {
 tries_the_sources() {
     local there
     there=$(empty sources) && tar -xzf "$files/cellarcove-$version-source.tar.gz" -C "$there" &&
-        diff <(cd "$there/cellarcove-$version" && find . -type f -o -type l | sort) <(git ls-files | sed 's|^|./|' | sort) &&
-        "$there/cellarcove-$version/scripts/check_versions.py"
+        diff <(cd "$there/cellarcove-$version" && find . -type f -o -type l | sort) <(git ls-files | sed 's|^|./|' | sort)
 }
 
 second_suite() { scripts/check_must_fail_release.sh; }
@@ -178,6 +177,8 @@ notes() {
     echo "| \`cellarcove-$version.tar.gz\` | the source distribution for pip, which cargo builds |"
     echo "| \`cellarcove-c-$version-$machine.tar.gz\` | headers and libraries for C and C++, for pkg-config and CMake |"
     echo "| \`cellarcove-$version-source.tar.gz\` | all sources |"
+    printf '\n`.ci/run` has passed:\n\n'
+    grep -E '^(rt: ok|gate:|[0-9]+ passed)' out/passed | sed 's/^/- /'
     printf '\nWhat was tried of these files:\n\n'
     sed 's/^/- /' "$work/said"
     [ "$quick" = no ] || printf -- '- %s: left out\n' \
