@@ -1,7 +1,12 @@
 """Crates of Rattle: their modules, and where a caller finds each public item, in Rattle or in the crate of plain Rust."""
+from collections.abc import Iterable
 from dataclasses import dataclass, field
+from pathlib import Path
 
-from rattle_source import Source, Unknown
+from rattle_source import Item, Source, Unknown
+
+Place = tuple[str, ...]                         # the names of public modules
+Public = dict[tuple[str, tuple[str, ...], str], Place]     # of items, by crate, module and name
 
 ROOT = 'num_integer'                            # its root becomes that of the Rust crate
 AT_ROOT = {ROOT, 'applied'}                     # the modules of these stand at the root of the Rust crate
@@ -16,21 +21,21 @@ OUTSIDE = {'std', 'core', 'num_traits', 'crate', 'self', 'super'}
 class Module:
     """A file, whose path has the names of its modules below the root of its crate."""
     crate: str
-    path: tuple
+    path: tuple[str, ...]
     source: Source
-    items: list = field(default_factory=list)
+    items: list[Item] = field(default_factory=list)
 
-    def rust_file(self):
+    def rust_file(self) -> str:
         """Its file below src/ of the Rust crate. The root of a crate whose modules stand at the root has none."""
         names = self.path if self.crate in AT_ROOT else (self.crate,) + self.path
         return '/'.join(names) + '.rs' if names else 'lib.rs' if self.crate == ROOT else ''
 
-    def is_left_out(self, item):
+    def is_left_out(self, item: Item) -> bool:
         """Whether an item is there for tests or for the documentation alone, or hidden from it."""
         words = [[self.source.at(k) for k in (first + 2, first + 4)] for first, _ in item.attributes]
         return any(word in words for word in (['cfg', 'test'], ['cfg', 'doc'], ['doc', 'hidden']))
 
-    def below(self):
+    def below(self) -> list[Item]:
         """The modules in it that code can name outside tests."""
         return [item for item in self.items if item.kind == 'mod' and not self.is_left_out(item) and item.name not in NOT_READ]
 
@@ -39,13 +44,14 @@ class Library:
     """All modules of some crates, by crate and path, in the order in which a reader meets them."""
     SUFFIX = '.rt'
 
-    def __init__(self, folder, crates):
-        self.folder, self.modules, self.crates = folder, {}, set(crates)
+    def __init__(self, folder: Path, crates: Iterable[str]) -> None:
+        self.folder, self.crates = folder, set(crates)
+        self.modules: dict[tuple[str, tuple[str, ...]], Module] = {}
         for crate in crates:
             roots = [(folder / crate / 'src' / name).with_suffix(self.SUFFIX) for name in ('lib', 'main')]
             self.read(crate, (), next((root for root in roots if root.is_file()), roots[0]))
 
-    def read(self, crate, path, file):
+    def read(self, crate: str, path: tuple[str, ...], file: Path) -> None:
         """Reads a file, and those of its modules."""
         source = Source(file.relative_to(self.folder.parent), file.read_text())
         module = self.modules[crate, path] = Module(crate, path, source, source.items())
@@ -57,16 +63,16 @@ class Library:
                 source.refuse(item.word, f'the module `{item.name}`, which has no file')
             self.read(crate, path + (item.name,), below)
 
-    def published(self, crate):
+    def published(self, crate: str) -> Public:
         """The place of each public item in a crate, as a caller in Rattle finds it."""
         return self.publish({}, self.modules[crate, ()], ())
 
-    def knows(self, module, path):
+    def knows(self, module: Module, path: tuple[str, ...]) -> bool:
         """Whether the first word of a path is known."""
         names = {item.name for item in module.items if item.kind in ('mod', 'enum', 'struct')}
         return path[0] in OUTSIDE or path[0] in self.crates or path[0] in names
 
-    def find(self, module, path):
+    def find(self, module: Module, path: tuple[str, ...]) -> tuple[Module, str | None] | None:
         """The module and the name to which a path leads; the module and None where it leads to a module; or None."""
         crate, at, names = module.crate, module.path, list(path)
         if names[0] in self.crates:
@@ -80,7 +86,7 @@ class Library:
             return here, None
         return self.find_name(here, names[0]) if len(names) == 1 else None
 
-    def find_name(self, module, name):
+    def find_name(self, module: Module, name: str) -> tuple[Module, str | None] | None:
         """The module that has an item that this one has or exports, and the item's name there; or None."""
         for item in module.items:
             if item.kind == 'use' and item.public:
@@ -91,7 +97,7 @@ class Library:
                 return module, name
         return None
 
-    def publish(self, public, module, place):
+    def publish(self, public: Public, module: Module, place: Place) -> Public:
         """Notes the public items of a module that stands at this place: its own first, then those of the modules in it."""
         for item in module.items:
             if item.public and item.kind == 'use':
@@ -104,7 +110,7 @@ class Library:
                 self.publish(public, self.modules[module.crate, module.path + (item.name,)], place + (item.name,))
         return public
 
-    def publish_use(self, public, module, path, name, place):
+    def publish_use(self, public: Public, module: Module, path: tuple[str, ...], name: str, place: Place) -> None:
         if path[0] in OUTSIDE - {'crate', 'self', 'super'}:
             return
         found = self.find(module, path)
@@ -120,7 +126,7 @@ class Library:
 class RustLibrary(Library):
     """The crates that become one crate of Rust, with the public place of each item in it."""
 
-    def __init__(self, folder):
+    def __init__(self, folder: Path) -> None:
         super().__init__(folder, CRATES)
         self.public = self.publish({}, self.modules[ROOT, ()], ())
         for crate, kind in CRATES.items():
@@ -131,7 +137,7 @@ class RustLibrary(Library):
                 if item.kind not in ('attribute', 'mod'):
                     self.modules[crate, ()].source.refuse(item.word, f'`{item.name}`, which would stand at the root of the Rust crate')
 
-    def place_of(self, module, item, owner=None):
+    def place_of(self, module: Module, item: Item, owner: Item | None = None) -> Place | None:
         """The public place of an item, of a member of the trait or the type `owner`, or None."""
         if owner is None or owner.kind == 'trait':
             top = owner or item
@@ -140,11 +146,11 @@ class RustLibrary(Library):
             return None
         return self.place_of_type(module, owner.name)
 
-    def place_of_type(self, module, name):
+    def place_of_type(self, module: Module, name: str) -> Place | None:
         """The public place of a type that the module's crate has."""
         places = [place for (crate, _, found), place in self.public.items() if crate == module.crate and found == name]
         return places[0] if places else None
 
-    def names_at(self, place):
+    def names_at(self, place: Place) -> list[str]:
         """The names of types and traits at a public place."""
         return sorted(name for (_, _, name), there in self.public.items() if there == place and name[0].isupper())

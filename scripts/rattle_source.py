@@ -3,7 +3,10 @@
 It reads Rust too, of which Rattle is a subset with contracts. A form that it does not know it rejects by file and
 line."""
 import re
+from collections.abc import Iterator
 from dataclasses import dataclass, field
+from pathlib import Path
+from typing import NoReturn
 
 COMMENTS = {'space', 'line', 'block'}           # tokens that are no code
 CLAUSES = ('ghost', 'requires', 'ensures')      # the words with which a clause of a function begins
@@ -56,26 +59,27 @@ class Item:
     word: int
     last: int
     public: bool = False
-    open: int = None
+    open: int | None = None
     of_trait: str = ''
-    attributes: list = field(default_factory=list)
-    clauses: list = field(default_factory=list)
-    items: list = field(default_factory=list)
-    fields: list = field(default_factory=list)
+    attributes: list[tuple[int, int]] = field(default_factory=list)
+    clauses: list[Clause] = field(default_factory=list)
+    items: list['Item'] = field(default_factory=list)
+    fields: list[Field] = field(default_factory=list)
 
 
 class Source:
     """A file. A place is the number of a token that is no comment; `texts` are what a writer may change."""
 
-    def __init__(self, path, text):
+    def __init__(self, path: Path, text: str) -> None:
         self.path, self.tokens = path, list(self.scan(path, text))
         self.code = [i for i, token in enumerate(self.tokens) if token.kind not in COMMENTS]
         self.texts = [token.text for token in self.tokens]
 
-    def scan(self, path, text):
+    def scan(self, path: Path, text: str) -> Iterator[Token]:
         at, line = 0, 1
         while at < len(text):
             match = LEXER.match(text, at)
+            assert match and match.lastgroup, at
             kind, end, depth = match.lastgroup, match.end(), 1
             while kind == 'block' and depth:
                 mark = re.compile(r'/\*|\*/').search(text, end)
@@ -90,22 +94,22 @@ class Source:
 
     # ---- places
 
-    def kind(self, k):
+    def kind(self, k: int) -> str:
         return self.tokens[self.code[k]].kind if 0 <= k < len(self.code) else ''
 
-    def at(self, k):
+    def at(self, k: int) -> str:
         return self.tokens[self.code[k]].text if 0 <= k < len(self.code) else ''
 
-    def line(self, k):
+    def line(self, k: int) -> int:
         return self.tokens[self.code[min(k, len(self.code) - 1)]].line if self.code else 1
 
-    def refuse(self, k, met):
+    def refuse(self, k: int, met: str) -> NoReturn:
         raise Unknown(f'{self.path}:{self.line(k)}: {met}')
 
-    def is_sign(self, k, signs):
+    def is_sign(self, k: int, signs: str) -> bool:
         return self.kind(k) == 'sign' and self.at(k) in signs
 
-    def close(self, k):
+    def close(self, k: int) -> int:
         """The place of the bracket that closes the one at `k`."""
         opened, depth = k, 0
         while k < len(self.code):
@@ -115,7 +119,7 @@ class Source:
             k += 1
         return self.refuse(opened, f'`{self.at(opened)}` without its end')
 
-    def end(self, k, signs, words=()):
+    def end(self, k: int, signs: str, words: tuple[str, ...] = ()) -> int:
         """The place of the first of these signs or words from `k` on, outside brackets; the end of the block at
         most."""
         while k < len(self.code) and not self.is_sign(k, signs) and self.at(k) not in words:
@@ -124,7 +128,7 @@ class Source:
             k = 1 + (self.close(k) if self.is_sign(k, '([{') else k)
         return k if k < len(self.code) else self.refuse(len(self.code) - 1, 'the end of the file within an item')
 
-    def angle(self, k):
+    def angle(self, k: int) -> int:
         """The place after the generics that begin at `k`, or `k` where there are none."""
         depth = 0
         while self.is_sign(k, '<') or depth:
@@ -134,32 +138,35 @@ class Source:
                 return k
         return k
 
-    def text(self, first, last):
+    def text(self, first: int, last: int) -> str:
         """The text from a place to another, as it stands."""
         return ''.join(token.text for token in self.tokens[self.code[first]:self.code[last] + 1])
 
-    def docs(self, item):
+    def docs(self, item: Item) -> list[int]:
         """The numbers of the tokens of the doc comment of an item or a field."""
         start = self.code[item.first - 1] + 1 if item.first else 0
         stop = self.code[getattr(item, 'word', item.first)]
         return [i for i in range(start, stop) if self.tokens[i].kind == 'line'
                 and re.match(r'///(?!/)', self.tokens[i].text)]
 
-    def parameters(self, item):
+    def parameters(self, item: Item) -> tuple[int, int]:
         """The places of the brackets around the parameters of a function."""
         opening = self.angle(item.word + 2)
         return opening, self.close(opening)
 
-    def returned(self, item):
+    def returned(self, item: Item) -> str:
         """The type that a function returns, or an empty text."""
         first = self.parameters(item)[1] + 1
         if self.at(first) + self.at(first + 1) != '->':
             return ''
         return self.text(first + 2, self.end(first + 2, ';{', CLAUSES + ('where',)) - 1).strip()
 
-    def imports(self, item):
+    def imports(self, item: Item) -> list[tuple[tuple[str, ...], str]]:
         """The paths that a `use` imports, each with the name that it gives."""
-        found, prefixes, path, k = [], [], [], item.word + 1
+        found: list[tuple[tuple[str, ...], str]] = []
+        prefixes: list[list[str]] = []
+        path: list[str] = []
+        k = item.word + 1
         while k <= item.last:
             word = self.at(k)
             if word == '{':
@@ -185,7 +192,7 @@ class Source:
 
     # ---- items
 
-    def items(self, k=0, last=None):
+    def items(self, k: int = 0, last: int | None = None) -> list[Item]:
         """The items from `k` on, to the place `last`."""
         found, last = [], len(self.code) if last is None else last
         while k < last:
@@ -193,7 +200,7 @@ class Source:
             k = found[-1].last + 1
         return found
 
-    def item(self, k):
+    def item(self, k: int) -> Item:
         first, attributes = k, []
         if self.at(k) == '#' and self.at(k + 1) == '!':
             return Item('attribute', self.at(k + 3), k, k, self.close(k + 2))
@@ -216,7 +223,7 @@ class Source:
         reader(item)
         return item
 
-    def macro(self, item):
+    def macro(self, item: Item) -> Item:
         """A call of a macro, or `macro_rules`."""
         if item.kind != 'macro_rules':
             item.kind, item.name = 'macro', item.kind
@@ -225,25 +232,25 @@ class Source:
             item.last += 1
         return item
 
-    def read_line(self, item):
+    def read_line(self, item: Item) -> None:
         item.last = self.end(item.word, ';')
 
     read_use = read_type = read_const = read_static = read_extern = read_ghost = read_line
 
-    def read_mod(self, item):
+    def read_mod(self, item: Item) -> None:
         item.last = self.end(item.word, ';{')
         if self.at(item.last) == '{':
             self.read_block(item, item.last)
 
-    def read_block(self, item, brace):
+    def read_block(self, item: Item, brace: int) -> None:
         item.open, item.last = brace, self.close(brace)
         item.items = self.items(brace + 1, item.last)
 
-    def read_trait(self, item):
+    def read_trait(self, item: Item) -> None:
         self.read_block(item, self.end(item.word, '{'))
         item.clauses = [self.member(inner) for inner in item.items if inner.kind == 'ghost' and inner.name != 'use']
 
-    def read_impl(self, item):
+    def read_impl(self, item: Item) -> None:
         brace = self.end(item.word, '{')
         head = self.angle(item.word + 1)
         names, depth = [], 0
@@ -259,11 +266,11 @@ class Source:
         self.read_block(item, brace)
         item.clauses = [self.member(inner) for inner in item.items if inner.kind == 'ghost' and inner.name != 'use']
 
-    def member(self, item):
+    def member(self, item: Item) -> Clause:
         """A ghost member as a clause, without its proof."""
         return Clause('ghost', item.name, item.word, self.close(self.end(item.word, '{')))
 
-    def read_fn(self, item):
+    def read_fn(self, item: Item) -> None:
         k = self.end(item.word, ';{', CLAUSES)
         while self.at(k) in CLAUSES:
             item.clauses.append(self.clause(k))
@@ -274,7 +281,7 @@ class Source:
             self.refuse(k, f'`{self.at(k)}` after the clauses of `{item.name}`')
         item.last = k
 
-    def clause(self, k):
+    def clause(self, k: int) -> Clause:
         """The clause of a function or a closure that begins at `k`."""
         brace = k + 1 + (self.kind(k + 1) == 'word')
         if self.at(k) == 'ghost':
@@ -283,7 +290,7 @@ class Source:
             self.refuse(k, f'`{self.at(k)}` that is no clause')
         return Clause(self.at(k), self.at(k + 1) if brace > k + 1 else '', k, self.close(brace))
 
-    def read_struct(self, item):
+    def read_struct(self, item: Item) -> None:
         brace = self.end(item.word, ';{')
         item.last = self.close(brace) if self.at(brace) == '{' else brace
         if self.at(brace) == '{':
@@ -291,11 +298,11 @@ class Source:
             item.clauses = [Clause('ghost', field.name, field.first, self.close(self.end(field.first, '{')))
                             for field in item.fields if field.ghost]
 
-    def read_enum(self, item):
+    def read_enum(self, item: Item) -> None:
         item.open = self.end(item.word, '{')
         item.last = self.close(item.open)
 
-    def fields(self, k, last):
+    def fields(self, k: int, last: int) -> list[Field]:
         found = []
         while k < last:
             first = k
@@ -314,7 +321,7 @@ class Source:
             k = stop + 1
         return found
 
-    def next_field(self, k, last):
+    def next_field(self, k: int, last: int) -> int:
         """The place of the comma after a field, or `last`."""
         depth = 0
         while k < last:
