@@ -1,6 +1,8 @@
 """The words of contracts: where a file imports them from, and how `specs/` define them."""
 import re
+from collections.abc import Container
 from dataclasses import dataclass
+from pathlib import Path
 
 from rattle_source import Unknown
 
@@ -19,7 +21,7 @@ class Definition:
     text: str
 
 
-def imported(text):
+def imported(text: str) -> dict[str, tuple[str, str]]:
     """The words that the imports in a text name, each with its crate and its path there."""
     found = {}
     for crate, path, names in IMPORT.findall(text):
@@ -28,7 +30,7 @@ def imported(text):
     return found
 
 
-def cited(text, imports):
+def cited(text: str, imports: Container[str]) -> list[str]:
     """The imported words and signs that a text names, in order."""
     plain = re.sub(r'--[^\n]*', '', text)
     signs = [f'◌{sign}◌' for sign in plain.split()]
@@ -38,10 +40,11 @@ def cited(text, imports):
 class Specs:
     """The files of `specs/` below a folder of crates."""
 
-    def __init__(self, folder):
-        self.folder, self.files = folder, {}
+    def __init__(self, folder: Path) -> None:
+        self.folder = folder
+        self.files: dict[tuple[str, str], tuple[dict[str, Definition], dict[str, tuple[str, str]]]] = {}
 
-    def read(self, crate, file):
+    def read(self, crate: str, file: str) -> tuple[dict[str, Definition], dict[str, tuple[str, str]]]:
         """The words that a file defines, and what it imports. A crate may have the file of a lower one."""
         if (crate, file) not in self.files:
             path = self.folder / crate / 'specs' / f'{file}.antt'
@@ -56,7 +59,7 @@ class Specs:
                 self.files[crate, file] = (self.words(crate, file, text), imported(text))
         return self.files[crate, file]
 
-    def words(self, crate, file, text):
+    def words(self, crate: str, file: str, text: str) -> dict[str, Definition]:
         found = {}
         for paragraph in re.split(r'\n\s*\n', text):
             lines = [line for line in paragraph.split('\n') if line]
@@ -67,7 +70,7 @@ class Specs:
                 found[match.group(1)] = Definition(crate, file, match.group(1), ' '.join(head), '\n'.join(body))
         return found
 
-    def find(self, crate, path, name):
+    def find(self, crate: str, path: str, name: str) -> Definition | None:
         """The definition of an imported word, or None where it is a type of the code."""
         if '.declared.' in '.' + path or not path.startswith('specs.'):
             return None
@@ -76,7 +79,7 @@ class Specs:
             raise Unknown(f'crates/{crate}/specs: no definition of `{name}`')
         return words[name]
 
-    def below(self, definition):
+    def below(self, definition: Definition) -> list[tuple[str, str, str]]:
         """The definitions that a definition cites, and the words of the toolchain that it cites."""
         words, imports = self.read(definition.crate, definition.file)
         names = {name: (definition.crate, 'specs.' + definition.file) for name in words} | imports

@@ -5,11 +5,14 @@ columns, but for the first of a file and the rows of tables.
 
     scripts/check_rust_docs.py                prints what lacks what, and the counts; status 1 if anything does
     scripts/check_rust_docs.py --self-test    takes a section out of a comment, and fails if nothing is said"""
+import pathlib
 import re
 import sys
 
-from make_api import CRATE, REPOSITORY, SHOWN, Made, is_hidden
+REPOSITORY = pathlib.Path(__file__).resolve().parent.parent
+sys.path.append(str(REPOSITORY))
 from prose import COLUMNS
+from tools.pages.api import CRATE, SHOWN, Made, is_hidden
 
 TESTS = REPOSITORY / 'rust' / 'tests'
 # Items without a call of their own: what the crate exports for them is shown at the items that use them.

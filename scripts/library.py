@@ -1,12 +1,13 @@
 """Crates of Rattle: their modules, and where a caller finds each public item, in Rattle or in the crate of plain Rust."""
-from __future__ import annotations
-
 import functools
 from collections.abc import Iterable, Sequence
 from dataclasses import dataclass, field
 from pathlib import Path
 
 from rattle_source import Item, Source, Unknown
+
+Place = tuple[str, ...]                         # the names of public modules
+Public = dict[tuple[str, tuple[str, ...], str], Place]     # of items, by crate, module and name
 
 ROOT = 'num_integer'                            # its root becomes that of the Rust crate
 AT_ROOT = {ROOT, 'applied'}                     # the modules of these stand at the root of the Rust crate
@@ -18,19 +19,18 @@ WITHIN = {('integer_core', 'counted'), ('integer_core', 'guards'), ('integer_cor
           ('integer_roots', 'counted'), ('applied', 'guards')}
 NOT_READ = {'tests', 'assertions'}               # modules that only tests have
 OUTSIDE = {'std', 'core', 'num_traits', 'crate', 'self', 'super'}
-Place = tuple[str, ...]                         # the names of modules from the root of a crate
 
 
 @dataclass
 class Module:
     """A file, whose path has the names of its modules below the root of its crate."""
     crate: str
-    path: Place
+    path: tuple[str, ...]
     source: Source
     items: list[Item] = field(default_factory=list)
 
     @functools.cached_property
-    def imported(self) -> dict[str, Place]:
+    def imported(self) -> dict[str, tuple[str, ...]]:
         """The path of each name that the file imports."""
         return {name: path for item in self.items if item.kind == 'use' for path, name in self.source.imports(item)}
 
@@ -46,14 +46,15 @@ class Library:
     LEFT_OUT = {('cfg', 'test'), ('cfg', 'doc')}    # the attributes of modules that are not read
 
     def __init__(self, folder: Path, crates: Iterable[str]) -> None:
-        self.folder, self.modules, self.crates = folder, dict[tuple[str, Place], Module](), set(crates)
+        self.folder, self.crates = folder, set(crates)
+        self.modules: dict[tuple[str, tuple[str, ...]], Module] = {}
         for crate in crates:
             roots = [(folder / crate / 'src' / name).with_suffix(self.SUFFIX) for name in ('lib', 'main')]
             self.read(crate, (), next((root for root in roots if root.is_file()), roots[0]))
 
-    def read(self, crate: str, path: Place, file: Path) -> None:
+    def read(self, crate: str, path: tuple[str, ...], file: Path) -> None:
         """Reads a file, and those of its modules."""
-        source = Source(str(file.relative_to(self.folder.parent)), file.read_text())
+        source = Source(file.relative_to(self.folder.parent), file.read_text())
         module = self.modules[crate, path] = Module(crate, path, source, source.items())
         for item in self.below(module):
             if item.open:
@@ -69,7 +70,7 @@ class Library:
         return [item for item in module.items if item.kind == 'mod' and item.name not in NOT_READ
                 and not any((at(first + 2), at(first + 4)) in self.LEFT_OUT for first, _ in item.attributes)]
 
-    def published(self, crate: str) -> dict[tuple[str, Place, str], Place]:
+    def published(self, crate: str) -> Public:
         """The place of each public item in a crate, as a caller in Rattle finds it."""
         return self.publish({}, self.modules[crate, ()], ())
 
@@ -103,7 +104,7 @@ class Library:
         """As `find`, for a path in the code of a module, which begins with a name that the module has or imports."""
         return self.find(module, [*module.imported.get(path[0], path[:1]), *path[1:]])
 
-    def publish(self, public: dict[tuple[str, Place, str], Place], module: Module, place: Place) -> dict[tuple[str, Place, str], Place]:
+    def publish(self, public: Public, module: Module, place: Place) -> Public:
         """Notes the public items of a module that stands at this place: its own first, then those of the modules in it."""
         for item in module.items:
             if item.public and item.kind == 'use':
@@ -117,7 +118,7 @@ class Library:
                 self.publish(public, below, place + (item.name,))
         return public
 
-    def publish_use(self, public: dict[tuple[str, Place, str], Place], module: Module, path: Place, name: str, place: Place) -> None:
+    def publish_use(self, public: Public, module: Module, path: tuple[str, ...], name: str, place: Place) -> None:
         if path[0] in OUTSIDE - {'crate', 'self', 'super'}:
             return
         found = self.find(module, path)

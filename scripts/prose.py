@@ -1,6 +1,7 @@
 """Lines of prose in what the scripts make."""
 import re
 import textwrap
+from collections.abc import Iterator
 
 COLUMNS = 100                                   # of a line of Rust
 WIDTH = 96                                      # of the lines of a comment in Rust, before it is indented
@@ -11,21 +12,21 @@ ALONE = re.compile(r'$|#|\||</?\w|```|@')
 ITEM = re.compile(r'(- |\d+\. )')
 
 
-def wrapped(text, width=WIDTH, indent=''):
+def wrapped(text: str, width: int = WIDTH, indent: str = '') -> list[str]:
     """The lines of a text, broken at spaces that are not within a link. `indent` is that of the lines after the first."""
     text = LINK.sub(lambda link: link.group().replace(' ', '\0'), text)
     lines = textwrap.wrap(text, width, subsequent_indent=indent, break_on_hyphens=False, break_long_words=False)
     return [line.replace('\0', ' ') for line in lines]
 
 
-def broken(line, width):
+def broken(line: str, width: int) -> list[str]:
     """The lines of a long line of a contract or a definition. Those after the first are indented by four more."""
-    indent = re.match(' *', line).group() + '    '
-    return textwrap.wrap(line, width, subsequent_indent=indent, break_on_hyphens=False, break_long_words=False,
-                         drop_whitespace=True, initial_indent=re.match(' *', line).group()) if len(line) > width else [line]
+    indent = ' ' * (len(line) - len(line.lstrip(' ')))
+    return textwrap.wrap(line, width, subsequent_indent=indent + '    ', break_on_hyphens=False, break_long_words=False,
+                         drop_whitespace=True, initial_indent=indent) if len(line) > width else [line]
 
 
-def paragraphs(lines):
+def paragraphs(lines: list[str]) -> list[tuple[list[str], list[str]]]:
     """The lines of a comment in groups: paragraphs, items of a list, and lines that stand alone, each with whether it is code."""
     found, fence = [], ''
     for line in lines:
@@ -43,7 +44,7 @@ def paragraphs(lines):
     return found
 
 
-def within(lines, width):
+def within(lines: list[str], width: int) -> Iterator[str]:
     """The lines of a comment, none wider than asked where it can be broken."""
     for [kind], group in paragraphs(lines):
         if kind == 'alone' or all(len(line) <= width for line in group):
@@ -55,18 +56,20 @@ def within(lines, width):
             yield from wrapped(' '.join(line.strip() for line in group), width, indent)
 
 
-def within_columns(text):
+def within_columns(text: str) -> str:
     """The text of a file of Rust, with its comments within the columns."""
-    found, block, head = [], [], None
+    found: list[str] = []
+    block: list[str] = []
+    head = ('', '')
     for line in [*text.split('\n'), None]:
         match = COMMENT.fullmatch(line) if line is not None else None
-        here = match.groups()[:2] if match else None
+        here = (match[1], match[2]) if match else None
         if block and here != head:
             indent, mark = head
             found += [f'{indent}{mark} {part}'.rstrip() for part in within(block, COLUMNS - len(indent) - len(mark) - 1)]
             block = []
-        if match:
-            head, block = here, block + [match.group(3)]
+        if match and here:
+            head, block = here, block + [match[3]]
         elif line is not None:
             found.append(line)
     return '\n'.join(found)

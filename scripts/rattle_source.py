@@ -2,11 +2,10 @@
 
 It reads Rust too, of which Rattle is a subset with contracts. A form that it does not know it rejects by file and
 line."""
-from __future__ import annotations
-
 import re
 from collections.abc import Container, Iterator
 from dataclasses import dataclass, field
+from pathlib import Path
 from typing import NoReturn
 
 COMMENTS = {'space', 'line', 'block'}           # tokens that are no code
@@ -16,7 +15,6 @@ MODIFIERS = ('final', 'const')                  # words before `fn`
 LEXER = re.compile(r'''(?P<space>\s+) | (?P<line>//[^\n]*) | (?P<block>/\*)
     | (?P<raw>[bc]?r(?P<hashes>\#*)".*?"(?P=hashes)) | (?P<text>[bc]?"(?:[^"\\]|\\.)*")
     | (?P<char>b?'(?:[^'\\]|\\(?:x..|u\{[^}]*\}|.))') | (?P<label>'\w+) | (?P<word>\w+) | (?P<sign>.)''', re.X | re.S)
-BLOCK = re.compile(r'/\*|\*/')                   # the marks of a comment that may have others in it
 
 
 class Unknown(Exception):
@@ -65,26 +63,26 @@ class Item:
     of_trait: str = ''
     attributes: list[tuple[int, int]] = field(default_factory=list)
     clauses: list[Clause] = field(default_factory=list)
-    items: list[Item] = field(default_factory=list)
+    items: list['Item'] = field(default_factory=list)
     fields: list[Field] = field(default_factory=list)
 
 
 class Source:
     """A file. A place is the number of a token that is no comment; `texts` are what a writer may change."""
 
-    def __init__(self, path: str, text: str) -> None:
+    def __init__(self, path: Path, text: str) -> None:
         self.path, self.tokens = path, list(self.scan(path, text))
         self.code = [i for i, token in enumerate(self.tokens) if token.kind not in COMMENTS]
         self.texts = [token.text for token in self.tokens]
 
-    def scan(self, path: str, text: str) -> Iterator[Token]:
+    def scan(self, path: Path, text: str) -> Iterator[Token]:
         at, line = 0, 1
         while at < len(text):
             match = LEXER.match(text, at)
-            assert match and match.lastgroup
+            assert match and match.lastgroup, at
             kind, end, depth = match.lastgroup, match.end(), 1
             while kind == 'block' and depth:
-                mark = BLOCK.search(text, end)
+                mark = re.compile(r'/\*|\*/').search(text, end)
                 if not mark:
                     raise Unknown(f'{path}:{line}: a comment without an end')
                 depth, end = depth + (1 if mark.group() == '/*' else -1), mark.end()
@@ -173,7 +171,10 @@ class Source:
 
     def imports(self, item: Item) -> list[tuple[tuple[str, ...], str]]:
         """The paths that a `use` imports, each with the name that it gives."""
-        found, prefixes, path, k = list[tuple[tuple[str, ...], str]](), list[list[str]](), list[str](), item.word + 1
+        found: list[tuple[tuple[str, ...], str]] = []
+        prefixes: list[list[str]] = []
+        path: list[str] = []
+        k = item.word + 1
         while k <= item.last:
             word = self.at(k)
             if word == '{':

@@ -23,7 +23,7 @@ from typing import NamedTuple, Protocol, SupportsIndex
 from . import _calls
 from ._calls import *
 
-__version__ = '0.3.0'
+__version__ = _calls.VERSION
 __all__ = [
     'BUILT_BY', 'Date', 'DivisionByZero', 'ExtendedGcd', 'IsoWeek', 'NotFitting', 'Refused', 'Solutions', 'Status',
     'SupportsDate', 'SupportsFraction',

@@ -1,7 +1,10 @@
 //! Arithmetic on the numbers of an own type, against computation in 128 bits and by trial.
 
 use crate::assertions::holds_at;
-use modular::{difference_modulo, inverse_modulo, power_modulo, product_modulo, sum_modulo};
+use modular::{
+    CommonSolution, checked, difference_modulo, inverse_modulo, power_modulo, product_modulo,
+    sum_modulo,
+};
 use num_integer::operators::{is_below, zero};
 use own_types::Marked;
 use own_types::signed_magnitude::signed_magnitude_of;
@@ -80,5 +83,29 @@ fn residues_of_own_numbers(rt: HostRuntime) {
                 check_operations(&rt, a, b, m);
             }
         }
+    }
+}
+
+/// Checks common solutions in and outside the domain: by trial, 8 is the first number that leaves 2 by 3 and 3 by 5.
+#[test]
+fn checked_congruences(rt: HostRuntime) {
+    for (found, expected) in [
+        (checked::chinese_remainder(2i8, 3, 3, 5), Some((8, 15))),
+        (checked::chinese_remainder(1, 4, 2, 6), None),
+        (checked::chinese_remainder(2, 0, 3, 5), None),
+        (checked::chinese_remainder(2, 3, 3, -5), None),
+        (checked::chinese_remainder(0, 100, 0, 101), None),
+    ] {
+        holds_at(&rt, found == expected, &expected);
+    }
+    for (from, pairs, expected) in [
+        (9i8, [(2, 3), (3, 5)], Some(CommonSolution::At(23))),
+        (120, [(2, 3), (3, 5)], Some(CommonSolution::Beyond)),
+        (9, [(1, 4), (2, 6)], Some(CommonSolution::Never)),
+        (9, [(2, 3), (3, 0)], None),
+        (9, [(2, -3), (3, 5)], None),
+    ] {
+        let found = checked::next_common_solution_of(from, &pairs);
+        holds_at(&rt, found == expected, &from);
     }
 }

@@ -1,0 +1,18 @@
+use Rattle.std.specs.Prelude.{◌≡◌, ◌↔◌, IsTrue}
+use Rattle.std.proofs.Common.{ap, arith}
+use Rattle.std.proofs.lemmas.Bool.Decides.{nat_tests}
+use Rattle.std.proofs.lemmas.Int.{ints}
+use Rattle.calendar.specs.declared.date.Date.{Date}
+use Rattle.calendar.proofs.Laws.{date_is_only}
+use Rattle.theorems_by_subject.proofs.dates.are_equal.Goals as goal
+
+pub returns : goal.returns
+returns c =
+    let a = c.args.first.now in
+    let b = c.args.second.now in
+    let of_parts : IsTrue c.eq.result ↔ ((a.year ≡ b.year) × (a.month ≡ b.month) × (a.day_of_month ≡ b.day_of_month)) = grind (arith, nat_tests, ints, c.eq.ensures) in (
+      λ h. let parts = of_parts.0 h in cc,
+      λ same.
+          let own = date_is_only a b same in
+          of_parts.1 (ap (λ (date : Date). date.year) own, ap (λ (date : Date). date.month) own, ap (λ (date : Date). date.day_of_month) own),
+    )

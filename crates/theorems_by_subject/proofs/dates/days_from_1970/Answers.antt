@@ -1,0 +1,14 @@
+use Rattle.std.specs.Prelude.{◌≡◌, ◌-ℤ◌, ℤ, pos, FitsSigned}
+use Rattle.std.specs.Int.{w64}
+use Rattle.std.specs.Option.{SomeIff}
+use Rattle.std.proofs.Common.{arith, subst}
+use Rattle.std.proofs.lemmas.Int.{ints}
+use Rattle.calendar.specs.Dates.{number_of}
+use Rattle.calendar.specs.Years.{day_number}
+use Rattle.calendar.proofs.Laws.{first_day}
+use Rattle.theorems_by_subject.proofs.dates.days_from_1970.Goals as goal
+
+pub returns : goal.returns
+returns c =
+    let same : number_of c.args.date.now -ℤ day_number (pos 1970) 1 1 ≡ number_of c.args.date.now = omega (arith, ints, first_day) in
+    subst (λ (days : ℤ). SomeIff c.days_between.result (FitsSigned w64 days) days) same c.days_between.ensures

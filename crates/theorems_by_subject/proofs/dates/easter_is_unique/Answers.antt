@@ -1,0 +1,14 @@
+use Rattle.std.proofs.lemmas.Int.{to_z-of_z}
+use Rattle.calendar.specs.Dates.{number_of}
+use Rattle.calendar.proofs.Laws.{easter_is_only}
+use Rattle.theorems_by_subject.proofs.dates.easter_is_unique.Goals as goal
+
+pub returns-clause-only : goal.returns-clause-only
+returns-clause-only c =
+    let year = c.ranges.year in
+    λ day h. easter_is_only c.args.year day (number_of c.easter.result) h (simp to_z-of_z at c.easter.ensures.easter)
+
+pub returns-clause-easter : goal.returns-clause-easter
+returns-clause-easter c =
+    let year = c.ranges.year in
+    simp to_z-of_z at c.easter.ensures.easter

@@ -1,0 +1,10 @@
+use Rattle.std.specs.Int.{w64}
+use Rattle.std.proofs.lemmas.Int.{to_z-of_z}
+use Rattle.ratio64.proofs.ForCallers.{only_exact_result, whole_is_exact}
+use Rattle.theorems_by_subject.proofs.fractions.integer_by_new.Goals as goal
+
+pub returns : goal.returns
+returns c =
+    let answer = rw (to_z-of_z w64 _ c.ranges.number) at c.new.ensures.fraction in
+    let parts = only_exact_result (rw c.unwrap.ensures at answer.exact) (whole_is_exact c.args.number) in
+    record { num = parts.0; den = parts.1 }

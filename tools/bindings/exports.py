@@ -1,0 +1,151 @@
+"""The exports of crates/cellarcove_c: statuses, structs and calls, with their comments."""
+import functools
+import re
+from collections.abc import Iterator
+from typing import NamedTuple
+
+from rattle_source import Item, Source
+from tools import ROOT
+
+SOURCES = ROOT / 'crates/cellarcove_c/src'
+VERSION = re.findall(r'^version = "(.*)"$', (ROOT / 'rust/Cargo.toml').read_text(), re.M)[0]
+NUMBERS = {f'{sign}{bits}': f'{"u" if sign == "u" else ""}int{bits}_t' for sign in 'iu' for bits in (8, 16, 32, 64)}
+NUMBERS |= {'usize': 'size_t', 'bool': 'bool'}
+# The order of the modules in the header. One that is not here comes last.
+ORDER = ('operators', 'division', 'divisors', 'lists', 'roots', 'powers', 'coefficients', 'ranking', 'modulo', 'congruences',
+         'several_congruences', 'fractions', 'rounding', 'dates', 'weekdays', 'years')
+
+
+class Field(NamedTuple):
+    """A field of a struct, or a parameter: its name, and its type in Rust without spaces."""
+    name: str
+    kind: str
+
+    @property
+    def item(self) -> str:
+        """The type of the items of a slice, or an empty text."""
+        return self.kind.removeprefix('&').removeprefix('mut')[1:-1] if self.kind.endswith(']') else ''
+
+    @property
+    def is_written(self) -> bool:
+        return self.kind.startswith('&mut')
+
+
+class Status(NamedTuple):
+    name: str
+    number: int
+    doc: str
+
+
+class Struct(NamedTuple):
+    name: str
+    fields: list[Field]
+    doc: str
+
+
+class Call(NamedTuple):
+    """An export. Its name is that of the symbol without `cellarcove_` and without the ending `_i64` or `_u64`."""
+    name: str
+    form: str
+    parameters: list[Field]
+    result: str
+    doc: str
+    statuses: list[str]  # sentences, the first of which begins with the status
+    module: str
+
+    @property
+    def symbol(self) -> str:
+        return f'cellarcove_{self.name}' + (f'_{self.form}' if self.form else '')
+
+    @property
+    def has_slice(self) -> bool:
+        return any(parameter.item for parameter in self.parameters)
+
+    @property
+    def writes(self) -> bool:
+        """Whether the call writes its result through a pointer, and returns the status alone."""
+        return any(parameter.is_written for parameter in self.parameters)
+
+
+class Exports(NamedTuple):
+    statuses: list[Status]
+    structs: dict[str, Struct]
+    calls: list[Call]
+    headings: dict[str, str]  # of modules
+
+    def has_status(self, call: Call) -> bool:
+        return call.writes or (call.result in self.structs and self.structs[call.result].fields[0].name == 'status')
+
+    def leaves(self, kind: str) -> list[tuple[str, str]]:
+        """The numbers of a value of a type, as pairs of a path and a type, without its status."""
+        if kind not in self.structs:
+            return [('', kind)]
+        return [(f'.{field.name}{path}', leaf) for field in self.structs[kind].fields if field.name != 'status'
+                for path, leaf in self.leaves(field.kind)]
+
+    def forms(self) -> dict[str, list[Call]]:
+        """The calls by name, each with one form or two, in the order of the header."""
+        names: dict[str, list[Call]] = {}
+        for call in self.calls:
+            names.setdefault(call.name, []).append(call)
+        return names
+
+
+def c_type(kind: str) -> str:
+    """The name of a type in C: that of `IsoWeekAnswer` is `cellarcove_iso_week_answer`."""
+    return NUMBERS.get(kind) or 'cellarcove_' + re.sub(r'(?<=[a-z0-9])(?=[A-Z])', '_', kind).lower()
+
+
+def c_parameters(call: Call) -> Iterator[str]:
+    """The parameters of a call in C. A slice is a pointer and a length."""
+    for parameter in call.parameters:
+        name = parameter.name
+        if parameter.item:
+            yield f'{"" if parameter.is_written else "const "}{c_type(parameter.item)} *{name}'
+            yield f'size_t {name}_len'
+        else:
+            yield f'{c_type(parameter.kind)} {name}'
+
+
+def paragraphs(source: Source, item: Item) -> list[str]:
+    """The paragraphs of the comment of an item, each on one line."""
+    text = '\n'.join(source.tokens[i].text[3:].strip() for i in source.docs(item))
+    return [' '.join(part.split()) for part in text.split('\n\n') if part.strip()]
+
+
+def call_of(module: str, source: Source, item: Item) -> Call:
+    name, form = item.name.removeprefix('cellarcove_'), re.search('_([iu]64)$', item.name)
+    first, *others = paragraphs(source, item)
+    statuses = re.findall(r'`[A-Z_]+` if .*?\.(?= `[A-Z_]+` if |$)', others[-1]) if others and others[-1].startswith('`') else []
+    if statuses:
+        others.pop()
+    opening, closing = source.parameters(item)
+    parameters = [Field(found.name, found.type) for found in source.fields(opening + 1, closing)]
+    return Call(name.removesuffix(form[0]) if form else name, form[1] if form else '', parameters, source.returned(item),
+                ' '.join([first, *others]), statuses, module)
+
+
+def read() -> Exports:
+    """The exports of the sources, in the order of the header."""
+    found = Exports([], {}, [], {})
+    for path in sorted(SOURCES.glob('*.rt'), key=lambda path: (ORDER.index(path.stem) if path.stem in ORDER else len(ORDER), path.stem)):
+        source = Source(path.relative_to(SOURCES.parent), path.read_text())
+        found.headings[path.stem] = ' '.join(re.findall('^//! ?(.*)', path.read_text(), re.M))
+        for item in source.items():
+            words = {source.at(k) for first, last in item.attributes for k in range(first, last)}
+            if item.kind == 'const' and item.public and source.at(item.word + 3) == 'u32':
+                found.statuses.append(Status(item.name, int(source.at(item.word + 5)), ' '.join(paragraphs(source, item))))
+            elif item.kind == 'struct' and 'repr' in words:
+                fields = [Field(field.name, field.type) for field in item.fields]
+                found.structs[item.name] = Struct(item.name, fields, ' '.join(paragraphs(source, item)))
+            elif item.kind == 'fn' and 'no_mangle' in words:
+                found.calls.append(call_of(path.stem, source, item))
+    return found
+
+
+EXPORTS = functools.lru_cache(maxsize=1)(read)
+
+
+def symbols(_: list[str]) -> bool:
+    print(*(call.symbol for call in EXPORTS().calls), sep='\n')
+    return True

@@ -1,0 +1,275 @@
+"""Calls all exports on random numbers, and compares what they return with the integers, the fractions and the dates of Python
+(by_python.py). The package `cellarcove` makes the calls, as it is installed: over arrays, with and without outputs, and of one
+number. Of those that it lacks the shared library makes them, if it is given.
+
+    tools/cellarcove check fuzz [--seed N] [--minutes M] [--library libcellarcove_c.so]
+
+It prints each call that is wrong, and at the end how many calls it made of how many exports. Its status is 1 if a call was
+wrong, or if by_python.py does not say what an export returns. First it wants of some calls what another returns, and each has to be
+found."""
+import argparse
+import array
+import ctypes
+import random
+import time
+from collections.abc import Callable, Iterable, Iterator, Sequence
+from fractions import Fraction
+from functools import partial
+from typing import Any
+
+import cellarcove
+
+from tools.bindings.by_python import I64, PROPERTIES, RESULTS, U64
+from tools.bindings.exports import EXPORTS, Call
+from tools.bindings.python import LETTERS, cells, public_calls, results
+
+COUNT = 200                                     # elements of an array
+ONE_BY_ONE = 8                                  # of them, which are called alone too
+RANGES = {'i64': I64, 'u64': U64, 'u32': (0, 2**32 - 1), 'u8': (0, 255)}
+MOST_SHOWN = 20
+C_TYPES = {'i64': ctypes.c_int64, 'u64': ctypes.c_uint64, 'u32': ctypes.c_uint32, 'i32': ctypes.c_int32, 'u8': ctypes.c_uint8,
+           'bool': ctypes.c_bool}
+
+
+class Wrong(Exception):
+    """A call returns something else than it should."""
+
+
+# ---- arguments
+
+def number(kind: str, width: int) -> int:
+    """A number of a type: most have as many bits as the width, and some are small, or beside an end of the type."""
+    low, high = RANGES[kind]
+    choice = random.random()
+    if choice < 0.25 or kind in ('u8', 'u32'):
+        found = random.randrange(-3 if low else 0, 70) if choice < 0.9 else random.randint(low, high)
+    elif choice < 0.4:
+        found = random.choice((low, high, 0, 2**31, 2**32, 2**63)) + random.randint(-2, 2)
+    else:
+        found = random.getrandbits(width) * random.choice((1, 1, -1))
+    return found if low <= found <= high else random.randint(low, high)
+
+
+def columns(call: Call) -> list[array.array[int]]:
+    """Arrays of random numbers, one for each cell of a call."""
+    width = random.randint(1, 64)
+    return [array.array(LETTERS[kind], [number(kind, random.choice((width, 64))) for _ in range(COUNT)]) for kind in cells(call)]
+
+
+def grouped(call: Call, numbers: Sequence[Any]) -> list[Any]:
+    """The arguments that are made of the numbers of the cells: a number, or a tuple of those of a fraction or a date."""
+    place, found = 0, []
+    for parameter in call.parameters:
+        count = len(EXPORTS().leaves(parameter.kind))
+        found.append(numbers[place] if count == 1 else tuple(numbers[place:place + count]))
+        place += count
+    return found
+
+
+# ---- results
+
+def plain(result: Any) -> tuple[int, ...]:
+    """The numbers of a result."""
+    if isinstance(result, Fraction):
+        return result.numerator, result.denominator
+    return tuple(result) if isinstance(result, tuple) else (int(result),)
+
+
+def judge(call: Call, bounds: tuple[int, int], arguments: Sequence[Any], status: int, values: Sequence[int] | None) -> None:
+    """Raises if a call of these arguments does not return what it should. `values` is None if an error has the status."""
+    if call.name in PROPERTIES:
+        right, said = PROPERTIES[call.name](bounds, *arguments, status, values), 'what it should be'
+    else:
+        wanted = RESULTS[call.name](bounds, *arguments)
+        right, said = status == wanted if isinstance(wanted, int) else status == 0 and values == wanted, str(wanted)
+    if status and values is not None and any(values):
+        right, said = False, f'status {status} and zeros'
+    if not right:
+        raise Wrong(f'{call.symbol}{tuple(arguments)} is {values} with status {status}, and not {said}')
+
+
+def of_arrays(name: str, call: Call) -> tuple[int, list[array.array[int]]]:
+    """Calls of arrays."""
+    taken, outputs = columns(call), None
+    has_status = EXPORTS().has_status(call)
+    if random.random() < 0.3:
+        letters = [LETTERS[kind].replace('?', 'B') for _, kind in results(call)] + ['B'] * has_status
+        outputs = tuple(array.array(letter, [77]) * COUNT for letter in letters)
+    returned = getattr(cellarcove, name)(*grouped(call, taken), **({'out': outputs} if outputs else {}))
+    found = returned if isinstance(returned, tuple) else (returned,)
+    statuses = found[-1] if has_status else [0] * COUNT
+    bounds = RANGES.get(call.form, I64)
+    for numbers, status, values in zip(zip(*taken), statuses, zip(*found[:len(found) - has_status])):
+        judge(call, bounds, grouped(call, numbers), status, values)
+    return COUNT, taken
+
+
+def alone(name: str, forms: list[Call], numbers: Sequence[int]) -> int:
+    """A call of numbers that are no arrays, by the form that fits them."""
+    arguments = grouped(forms[0], numbers)
+    two = len(forms) == 2
+    follows = [value for value, kinds in zip(numbers, zip(*map(cells, forms))) if two and kinds[0] != kinds[1]]
+    call = next(form for form in forms if not two or (form.form == 'i64') == any(value < 0 for value in follows))
+    if not all(RANGES[kind][0] <= value <= RANGES[kind][1] for value, kind in zip(numbers, cells(call))):
+        return 0
+    judge_one(name, call, arguments, arguments)
+    return 1
+
+
+def listed(call: Call) -> list[Any]:
+    """Random items of the list of a call: numbers with a common divisor, or congruences, most of which have a solution."""
+    kind, width = next(parameter.item for parameter in call.parameters if parameter.item), random.randint(1, 64)
+    low, common = RANGES[call.form][0], random.choice((1, 1, 6, 2**20))
+
+    def some() -> int:
+        if random.random() < 0.2:
+            return number(call.form, width)
+        return random.randrange(-6 if low else 0, 12) * common
+    if kind in RANGES:
+        return [some() for _ in range(random.randrange(8))]
+    solution, count = some(), random.choice((0, 1, 2, 3, 3, 5, 8, 64, 65))
+    moduli = [random.choice((2, 3, 4, 5, 7, 9, 11, 13, random.randrange(1, 2**random.randint(1, 62)))) for _ in range(count)]
+    if random.random() < 0.1 and moduli:
+        moduli[-1] = some()
+    return [(solution % m if m > 0 and random.random() < 0.97 else some(), m) for m in moduli]
+
+
+def of_list(name: str, forms: list[Call]) -> int:
+    """A call with a list of numbers, or with an array of them, and of the numbers beside it."""
+    call = random.choice(forms)
+    items, width = listed(call), random.randint(1, 64)
+    others = [number(parameter.kind, width) for parameter in call.parameters if not parameter.item]
+    if call.name == 'rank' and random.random() < 0.7:
+        items = sorted(set(items))
+    place = next(k for k, parameter in enumerate(call.parameters) if parameter.item)
+    in_buffer = call.parameters[place].item in RANGES and random.random() < 0.5
+    given: Any = array.array(LETTERS[call.form], items) if in_buffer else items if random.random() < 0.5 else iter(items)
+    if not in_buffer and len(forms) == 2:
+        flat = [value for item in [*items, tuple(others)] for value in (item if isinstance(item, tuple) else (item,))]
+        call = next(form for form in forms if (form.form == 'i64') == any(value < 0 for value in flat))
+        if not all(RANGES[call.form][0] <= value <= RANGES[call.form][1] for value in flat):
+            return 0
+    judge_one(name, call, [*others[:place], given, *others[place:]], [*others[:place], items, *others[place:]])
+    return 1
+
+
+def of_written(name: str, call: Call) -> int:
+    """A call that writes as many numbers as its last argument says."""
+    width = random.randint(1, 64)
+    arguments = [number('u64', random.choice((width, 64, 8))) for _ in call.parameters[:-1]] + [random.choice((0, 1, 2, 3, 5, 20))]
+    judge_one(name, call, arguments, arguments)
+    return 1
+
+
+def judge_one(name: str, call: Call, given: Sequence[Any], arguments: Sequence[Any]) -> None:
+    """Makes a call, and judges what it returns for the arguments."""
+    try:
+        status, values = 0, plain(getattr(cellarcove, name)(*given))
+    except cellarcove.Refused as refused:
+        status, values = int(refused.status), None
+    judge(call, RANGES.get(call.form, I64), arguments, status, values)
+
+
+def of_package(name: str, forms: list[Call]) -> int:
+    """Some calls of the package, and how many."""
+    if forms[0].writes:
+        return sum(of_written(name, forms[0]) for _ in range(COUNT // 10))
+    if forms[0].has_slice:
+        return sum(of_list(name, forms) for _ in range(COUNT // 10))
+    done = 0
+    for call in forms:
+        count, taken = of_arrays(name, call)
+        done += count + sum(alone(name, forms, numbers) for numbers in list(zip(*taken))[:ONE_BY_ONE])
+    return done
+
+
+# ---- the calls that the package lacks
+
+def structure(kind: str) -> Any:
+    """The type of a value in C."""
+    if kind in C_TYPES:
+        return C_TYPES[kind]
+    fields = [(field.name, structure(field.kind)) for field in EXPORTS().structs[kind].fields]
+    return type(kind, (ctypes.Structure,), {'_fields_': fields})
+
+
+def leaf(value: Any, path: str) -> int:
+    for name in path.split('.')[1:]:
+        value = getattr(value, name)
+    return int(value)
+
+
+def of_library(call: Call, kinds: list[Any], function: Any) -> int:
+    """Calls of a shared library."""
+    for _ in range(COUNT // 4):
+        width = random.randint(1, 64)
+        arguments = grouped(call, [number(kind, width) for kind in cells(call)])
+        result = function(*(kind(*value) if isinstance(value, tuple) else value for kind, value in zip(kinds, arguments)))
+        values = tuple(leaf(result, path) for path, _ in results(call))
+        judge(call, RANGES.get(call.form, I64), arguments, result.status, values)
+    return COUNT // 4
+
+
+def lacking(library: Any) -> Iterator[Callable[[], int]]:
+    """What calls the exports that the package lacks."""
+    known = {form.symbol for _, forms in public_calls() for form in forms}
+    for call in EXPORTS().calls:
+        if call.symbol not in known:
+            function, kinds = getattr(library, call.symbol), [structure(parameter.kind) for parameter in call.parameters]
+            function.argtypes, function.restype = kinds, structure(call.result)
+            yield partial(of_library, call, kinds, function)
+
+
+# ---- the run
+
+# Pairs of calls that differ at few arguments.
+EXCHANGED = (('div_floor', 'div_ceil'), ('average_floor', 'average_ceil'), ('gcd', 'lcm'), ('sum_modulo', 'difference_modulo'),
+             ('next_congruent', 'previous_congruent'), ('fraction_round', 'fraction_floor'), ('sqrt', 'cbrt'))
+
+
+def not_found() -> Iterator[str]:
+    """The exchanged calls that are not found."""
+    for name, other in EXCHANGED:
+        right, RESULTS[name] = RESULTS[name], RESULTS[other]
+        if run(1, 0, [partial(of_package, name, dict(public_calls())[name])])[1] == 0:
+            yield name
+        RESULTS[name] = right
+
+
+def run(seed: int, minutes: float, runners: Iterable[Callable[[], int]], shown: int = 0) -> tuple[int, int]:
+    """How many calls were made, and how many runs were wrong, of which the first are shown."""
+    random.seed(seed)
+    done, wrong, end = 0, 0, time.monotonic() + 60 * minutes
+    while True:
+        for runner in runners:
+            try:
+                done += runner()
+            except Wrong as error:
+                wrong += 1
+                if wrong <= shown:
+                    print(error)
+        if time.monotonic() >= end:
+            return done, wrong
+
+
+def check(words: list[str]) -> bool:
+    parser = argparse.ArgumentParser(prog='tools/cellarcove check fuzz', description=__doc__, formatter_class=argparse.RawDescriptionHelpFormatter)
+    parser.add_argument('--seed', type=int, default=1)
+    parser.add_argument('--minutes', type=float, default=1)
+    parser.add_argument('--library')
+    options = parser.parse_args(words)
+    unknown = sorted({call.name for call in EXPORTS().calls} - RESULTS.keys() - PROPERTIES.keys())
+    missed = list(not_found())
+    if unknown or missed:
+        print(f'tools/bindings/by_python.py does not say what these return: {unknown}; exchanged calls that are not found: {missed}')
+        return False
+    runners: list[Callable[[], int]] = [partial(of_package, name, forms) for name, forms in public_calls()]
+    exports = sum(len(forms) for _, forms in public_calls())
+    if options.library:
+        others = list(lacking(ctypes.CDLL(options.library)))
+        runners, exports = runners + others, exports + len(others)
+    begin = time.monotonic()
+    done, wrong = run(options.seed, options.minutes, runners, MOST_SHOWN)
+    spent = (time.monotonic() - begin) / 60
+    print(f'seed {options.seed}: {done:,} calls of {exports} exports in {spent:.1f} minutes, {done / spent:,.0f} a minute; {wrong} runs are wrong')
+    return wrong == 0

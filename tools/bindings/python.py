@@ -1,0 +1,396 @@
+"""What Python knows of the exports: the table of calls in C, and the stubs."""
+import re
+import textwrap
+from collections.abc import Callable, Sequence
+
+from tools.bindings.exports import EXPORTS, Call, Field, c_type
+
+# The operators of `fractions.Fraction` and the calls of `math` do the same.
+LEFT_OUT = {'fraction_new', 'fraction_add', 'fraction_sub', 'fraction_mul', 'fraction_div', 'fraction_cmp', 'fraction_floor',
+            'fraction_ceil', 'fraction_floor_times', 'fraction_ceil_times'}
+RENAMED = {'fraction_limit_denominator': 'limit_denominator'}
+ALIASES = {'comb': 'binomial', 'isqrt': 'sqrt'}
+PARAMETERS = {'from': 'start', 'to': 'end', 'max': 'max_denominator'}
+OF_MANY = ('gcd', 'lcm')  # which take any count of numbers
+WRITTEN = 'count'          # the parameter in place of an array that is written
+# What a call does that returns in Python what C writes.
+DOCS = {
+    'choice_of_rank': 'The choice of `count` numbers below `n` that has the rank, as a tuple: it is the inverse of `rank`. For 2, 5 and 3'
+                      ' it is (0, 2, 3).',
+    'next_common_solution_of': 'Returns the smallest number from `from` on that solves each of up to 64 congruences, which are pairs of a residue and'
+                               ' a modulus. No product of the moduli need fit. For 10 and [(1, 4), (3, 6), (0, 7)] it is 21.',
+}
+
+LETTERS = {'i64': 'q', 'u64': 'Q', 'u32': 'I', 'u8': 'B', 'i32': 'i', 'bool': '?'}
+TYPES = {'q': 'int64_t', 'Q': 'uint64_t', 'I': 'uint32_t', 'B': 'uint8_t', 'i': 'int32_t', '?': 'uint8_t'}
+OBJECTS = {'i64': 'PyLong_FromLongLong', 'u64': 'PyLong_FromUnsignedLongLong', 'u8': 'PyLong_FromLong', 'i32': 'PyLong_FromLong',
+           'bool': 'PyBool_FromLong'}
+# The class of a result, and the scalar result of the stubs.
+CLASSES = {'Bezout': ('class_gcd', 'ExtendedGcd'), 'Solutions': ('class_solutions', 'Solutions'), 'IsoWeek': ('class_week', 'IsoWeek')}
+SHAPES = {'Fraction': 'f', 'Date': 'd'}
+
+
+def public_calls() -> list[tuple[str, list[Call]]]:
+    """The calls of Python: the name, and the forms."""
+    return [(RENAMED.get(name, name), forms) for name, forms in EXPORTS().forms().items() if name not in LEFT_OUT]
+
+
+def parameter_names(call: Call) -> list[str]:
+    return [WRITTEN if parameter.is_written else PARAMETERS.get(parameter.name, parameter.name) for parameter in call.parameters]
+
+
+def cells(call: Call) -> list[str]:
+    """The types of the numbers that a call takes."""
+    return [leaf for parameter in call.parameters for _, leaf in EXPORTS().leaves(parameter.kind)]
+
+
+def results(call: Call) -> list[tuple[str, str]]:
+    """The paths and types of the numbers that it returns. A week of ISO 8601 has its year first."""
+    found = EXPORTS().leaves(call.result)
+    if call.writes:
+        return [('', parameter.item) for parameter in call.parameters if parameter.is_written]
+    return sorted(found, key=lambda leaf: leaf[0] != '.year') if call.result.startswith('IsoWeek') else found
+
+
+def divides(call: Call) -> list[bool]:
+    """Whether each number is a divisor, whose 0 is the reason of a status."""
+    reasons = ' '.join(call.statuses)
+    divisors = {'y', 'd'} if call.module == 'division' else set()
+    divisors |= {'m', 'n', 'step'} if '`BAD_MODULUS`' in reasons else set()
+    return [parameter.name in divisors for parameter in call.parameters for _ in EXPORTS().leaves(parameter.kind)]
+
+
+def arguments(call: Call, number: Callable[[int, str], str]) -> str:
+    """The arguments in C, made of the numbers of the cells."""
+    place, made = 0, []
+    for parameter in call.parameters:
+        leaves = EXPORTS().leaves(parameter.kind)
+        values = [number(place + k, leaf) for k, (_, leaf) in enumerate(leaves)]
+        place += len(leaves)
+        made.append(values[0] if len(leaves) == 1 else f'({c_type(parameter.kind)}){{{", ".join(values)}}}')
+    return ', '.join(made)
+
+
+def object_of(call: Call) -> str:
+    """The result in Python of the result `r` in C."""
+    found = results(call)
+    if found[0][0].startswith('.value.num') or call.result == 'Fraction':
+        return 'fraction_of(r.value)'
+    if call.result == 'DateAnswer':
+        return 'date_of(r.date)'
+    if call.result == 'Date':
+        return 'date_of(r)'
+    items = [f'{OBJECTS[kind]}(r{path})' for path, kind in found]
+    if len(items) == 1:
+        return items[0]
+    group = next((name for end, (name, _) in CLASSES.items() if end in call.result), 'NULL')
+    return f'tuple_of({group}, {len(items)}, (PyObject *[]){{{", ".join(items)}}})'
+
+
+def form_text(call: Call) -> str:
+    """The functions of a form, and its entry."""
+    has_status = EXPORTS().has_status(call)
+    taken = arguments(call, lambda k, kind: f'({TYPES[LETTERS[kind]]})a[{k}].{"i" if kind[0] == "i" else "u"}')
+    many = arguments(call, lambda k, kind: f'AT({TYPES[LETTERS[kind]]}, {k})')
+    name = call.symbol.removeprefix('cellarcove_')
+    found = results(call)
+    letters = ''.join(LETTERS[kind] for _, kind in found) + ('B' if has_status else '')
+    stores = [f'TO({TYPES[LETTERS[kind]]}, {k}) = r{path};' for k, (path, kind) in enumerate(found)]
+    if has_status:
+        stores.append(f'TO(uint8_t, {len(found)}) = (uint8_t)r.status;')
+    refused = '''    if (r.status != CELLARCOVE_ANSWER) {
+        *status = r.status;
+        return NULL;
+    }
+''' if has_status else '    (void)status;\n'
+    return f'''static PyObject *one_{name}(const cell *a, uint32_t *status) {{
+    {c_type(call.result)} r = {call.symbol}({taken});
+{refused}    return {object_of(call)};
+}}
+
+static void many_{name}(Py_ssize_t count, char *const *in, const Py_ssize_t *steps, char *const *out) {{
+    for (Py_ssize_t k = 0; k < count; k++) {{
+        {c_type(call.result)} r = {call.symbol}({many});
+''' + ''.join(f'        {store}\n' for store in stores) + f'''    }}
+}}
+
+static const form form_{name} = {{"{''.join(LETTERS[kind] for kind in cells(call))}", "{letters}", {'true' if has_status else 'false'}, one_{name}, many_{name}}};
+
+'''
+
+
+def bools(values: Sequence[bool]) -> str:
+    return f'(const bool[]){{{", ".join("true" if value else "false" for value in values)}}}'
+
+
+def signature(name: str, forms: list[Call]) -> str:
+    if name in OF_MANY:
+        return f'{name}($module, /, *numbers, out=None)'
+    if forms[0].has_slice:
+        return f'{name}($module, {", ".join(parameter_names(forms[0]))}, /)'
+    return f'{name}($module, /, {", ".join(parameter_names(forms[0]))}, *, out=None)'
+
+
+RAISED = {'NOT_FITTING': '`NotFitting`', 'ZERO_DENOMINATOR': '`DivisionByZero`'}
+
+
+def raised(call: Call) -> str:
+    """What a docstring says of the errors."""
+    by_zero = {'OUTSIDE': '`DivisionByZero`'} if call.module == 'division' else {}
+
+    def exception(status: re.Match[str]) -> str:
+        return 'Raises ' + (RAISED | by_zero).get(status[1], f'`Refused` with {status[0]}')
+    return ' '.join(re.sub('^`([A-Z_]+)`', exception, sentence) for sentence in call.statuses)
+
+
+def docstring(name: str, forms: list[Call]) -> str:
+    """What a call does, its errors, and its arrays."""
+    call = forms[0]
+    text = re.sub('^Returns `true` if', 'Whether', DOCS.get(name, call.doc))
+    text = re.sub('^Returns (.)', lambda found: found.group(1).upper(), text)
+    for old, new in PARAMETERS.items():
+        text = text.replace(f'`{old}`', f'`{new}`')
+    errors = raised(call)
+    for old, new in PARAMETERS.items():
+        errors = errors.replace(f'`{old}`', f'`{new}`')
+    parts = [text] + [errors] * bool(errors)
+    if name in OF_MANY:
+        parts.append('It takes any count of numbers.')
+    return '\n\n'.join('\n'.join(textwrap.wrap(part, 88)) for part in parts)
+
+
+def quoted(text: str) -> str:
+    return '\n    '.join('"' + line.replace('\\', '\\\\').replace('"', '\\"') + '\\n"' for line in text.split('\n'))
+
+
+def call_text(name: str, forms: list[Call]) -> str:
+    """The entry of a call, and its function."""
+    call, two = forms[0], len(forms) == 2
+    follows = [two and a != b for a, b in zip(cells(forms[0]), cells(forms[-1]))]
+    named = {form.form: f'&form_{form.symbol.removeprefix("cellarcove_")}' for form in forms}
+    forms_text = f'NULL, {named["i64"]}, {named["u64"]}' if two else f'&form_{call.symbol.removeprefix("cellarcove_")}, NULL, NULL'
+    shapes = ''.join(SHAPES.get(parameter.kind, 'n') for parameter in call.parameters)
+    names = ', '.join(f'"{parameter}"' for parameter in parameter_names(call))
+    of_many = f'''    if (count != 2 && names == NULL) {{
+        return of_any_count(py_{name}_of, args, count);
+    }}
+''' if name in OF_MANY else ''
+    return f'''static const call call_{name} = {{"{name}", {len(call.parameters)}, {{{names}}}, "{shapes}",
+    {bools(divides(call))}, {bools(follows)}, {forms_text}}};
+
+static PyObject *py_{name}(PyObject *module, PyObject *const *args, Py_ssize_t count, PyObject *names) {{
+    (void)module;
+{of_many}    return run(&call_{name}, args, count, names);
+}}
+
+'''
+
+
+def list_parameter(call: Call) -> tuple[int, int]:
+    """The place of the list of a call, and how many numbers each of its items has."""
+    place = next(k for k, parameter in enumerate(call.parameters) if parameter.item)
+    return place, len(EXPORTS().leaves(call.parameters[place].item))
+
+
+def list_text(name: str, forms: list[Call]) -> str:
+    """The function of a call with a list, whose other parameters are numbers of the form."""
+    count, (place, width) = len(forms[0].parameters), list_parameter(forms[0])
+    for form in forms:
+        assert {parameter.kind for parameter in form.parameters if not parameter.item} <= {form.form} and not form.writes, form
+    several = count > 1
+    head = 'PyObject *const *args, Py_ssize_t given' if several else 'PyObject *object'
+    taken = f'args, given, {count}' if several else '&object, 1, 1'
+
+    def case(form: Call) -> str:
+        others = iter(range(count))
+        passed = ', '.join(f'of.items, (size_t)of.count' if parameter.item else f'others[{next(others)}].{form.form[0]}'
+                           for parameter in form.parameters)
+        return f'''        {c_type(form.result)} r;
+        Py_BEGIN_ALLOW_THREADS
+        r = {form.symbol}({passed});
+        Py_END_ALLOW_THREADS
+        return of_list(&of, r.status, {OBJECTS[form.form]}(r.value));
+'''
+    signed = f'''    if (of.is_signed) {{
+{case(forms[0])}    }}
+''' if len(forms) == 2 else ''
+    return f'''static PyObject *py_{name}(PyObject *module, {head}) {{
+    (void)module;
+    list of;
+    cell others[{count}];
+    if (read_list("{name}", {taken}, {place}, {width}, {"true" if len(forms) == 2 else "false"}, &of, others) != 0) {{
+        return NULL;
+    }}
+{signed}    {{
+{case(forms[-1])}    }}
+}}
+
+'''
+
+
+def written_text(name: str, call: Call) -> str:
+    """The function of a call that writes unsigned numbers, whose other parameters are unsigned numbers before it."""
+    count = len(call.parameters)
+    assert call.parameters[-1].is_written and {parameter.item or parameter.kind for parameter in call.parameters} == {'u64'}, call
+    return f'''static PyObject *py_{name}(PyObject *module, PyObject *const *args, Py_ssize_t given) {{
+    (void)module;
+    cell numbers[{count}];
+    if (unsigned_numbers("{name}", args, given, {count}, numbers) != 0) {{
+        return NULL;
+    }}
+    uint64_t *written = room_for(numbers[{count - 1}].u);
+    if (written == NULL) {{
+        return NULL;
+    }}
+    uint32_t status;
+    Py_BEGIN_ALLOW_THREADS
+    status = {call.symbol}({", ".join(f"numbers[{k}].u" for k in range(count - 1))}, written, (size_t)numbers[{count - 1}].u);
+    Py_END_ALLOW_THREADS
+    PyObject *result = status == CELLARCOVE_ANSWER ? tuple_of_numbers(written, (Py_ssize_t)numbers[{count - 1}].u) : refused(status, false);
+    PyMem_Free(written);
+    return result;
+}}
+
+'''
+
+
+def method(name: str, forms: list[Call]) -> str:
+    doc = quoted(signature(name, forms) + '\n--\n\n' + docstring(name, forms))
+    if forms[0].has_slice and len(forms[0].parameters) == 1:
+        return f'    {{"{name}", py_{name}, METH_O,\n    {doc}}},\n'
+    if forms[0].has_slice:
+        return f'    {{"{name}", (PyCFunction)(void (*)(void))py_{name}, METH_FASTCALL,\n    {doc}}},\n'
+    return f'    {{"{name}", (PyCFunction)(void (*)(void))py_{name}, METH_FASTCALL | METH_KEYWORDS,\n    {doc}}},\n'
+
+
+def calls_c() -> str:
+    """The table of calls."""
+    text = '''/* @generated by tools/cellarcove make bindings from crates/cellarcove_c. */
+#include "driver.h"
+
+/* The numbers of the call of this number, and its results. */
+#define AT(type, place) (*(const type *)(const void *)(in[place] + k * steps[place]))
+#define TO(type, place) (((type *)(void *)out[place])[k])
+
+'''
+    named = public_calls()
+    for name, forms in named:
+        if forms[0].has_slice:
+            text += written_text(name, forms[0]) if forms[0].writes else list_text(name, forms)
+    for name, forms in named:
+        if not forms[0].has_slice:
+            text += ''.join(map(form_text, forms)) + call_text(name, forms)
+    methods = ''.join(method(name, forms) for name, forms in named)
+    methods += ''.join(method(alias, dict(named)[name]).replace(f'py_{alias}', f'py_{name}') for alias, name in ALIASES.items())
+    return text + f'''static PyMethodDef methods[] = {{
+{methods}    {{"_install", install, METH_O, NULL}},
+    {{NULL, NULL, 0, NULL}},
+}};
+
+static struct PyModuleDef definition = {{.m_base = PyModuleDef_HEAD_INIT, .m_name = "cellarcove._calls", .m_size = -1, .m_methods = methods}};
+
+PyMODINIT_FUNC PyInit__calls(void) {{
+    PyObject *module = PyModule_Create(&definition);
+    if (module != NULL && (intern_names() != 0 || add_words(module, methods) != 0)) {{
+        Py_CLEAR(module);
+    }}
+    return module;
+}}
+'''
+
+
+# ---- stubs
+
+PYTHON = {'Fraction': 'Fractional', 'Date': 'Dated'}
+NUMBER, ARRAY = 'SupportsIndex', 'Array'
+
+
+def scalar_result(call: Call) -> str:
+    found = results(call)
+    if call.result.startswith('Fraction'):
+        return 'Fraction'
+    if call.result.startswith('Date'):
+        return 'Date'
+    if call.result == 'bool':
+        return 'bool'
+    if len(found) == 1:
+        return 'int'
+    return next((name for end, (_, name) in CLASSES.items() if end in call.result), f'tuple[{", ".join(["int"] * len(found))}]')
+
+
+def array_result(call: Call) -> str:
+    arrays = ['array[int]'] * (len(results(call)) + EXPORTS().has_status(call))
+    return arrays[0] if len(arrays) == 1 else f'tuple[{", ".join(arrays)}]'
+
+
+def array_types(kind: str, chosen: bool) -> str:
+    """The type of a parameter of which one number is an array, or may be one."""
+    leaves = len(EXPORTS().leaves(kind))
+    each = f'{ARRAY} | {NUMBER}'
+    if leaves == 1:
+        return ARRAY if chosen else each
+    if not chosen:
+        return f'{PYTHON[kind]} | tuple[{", ".join([each] * leaves)}]'
+    return ' | '.join(f'tuple[{", ".join([NUMBER] * first + [ARRAY] + [each] * (leaves - first - 1))}]' for first in range(leaves))
+
+
+def listed_type(parameter: Field) -> str:
+    """The type of a parameter of a call with a list."""
+    if not parameter.item or parameter.is_written:
+        return NUMBER
+    leaves = len(EXPORTS().leaves(parameter.item))
+    return f'{ARRAY} | Iterable[{NUMBER}]' if leaves == 1 else f'Iterable[tuple[{", ".join([NUMBER] * leaves)}]]'
+
+
+def stub(name: str, forms: list[Call]) -> str:
+    call = forms[0]
+    names = parameter_names(call)
+    doc = ''
+    if call.has_slice:
+        taken = ', '.join(f'{given}: {listed_type(parameter)}' for given, parameter in zip(names, call.parameters))
+        return f'def {name}({taken}, /) -> {"tuple[int, ...]" if call.writes else "int"}: ...\n'
+    if name in OF_MANY:
+        return f'''@overload
+def {name}(x: {ARRAY}, y: {ARRAY} | {NUMBER}, *, out: Outputs = ...) -> {array_result(call)}: ...
+@overload
+def {name}(x: {NUMBER}, y: {ARRAY}, *, out: Outputs = ...) -> {array_result(call)}: ...
+@overload
+def {name}(*numbers: {NUMBER}) -> int: ...
+'''
+    overloads = []
+    for first in range(len(names)):
+        kinds = [PYTHON.get(parameter.kind, NUMBER) if k < first else array_types(parameter.kind, k == first)
+                 for k, parameter in enumerate(call.parameters)]
+        overloads.append((', '.join(f'{parameter}: {kind}' for parameter, kind in zip(names, kinds)) + ', *, out: Outputs = ...', array_result(call)))
+    overloads.append((', '.join(f'{parameter}: {PYTHON.get(kind.kind, NUMBER)}' for parameter, kind in zip(names, call.parameters)), scalar_result(call)))
+    return doc + ''.join(f'@overload\ndef {name}({taken}) -> {result}: ...\n' for taken, result in overloads)
+
+
+def stubs() -> str:
+    """The types of the calls for Python."""
+    named = public_calls()
+    public = sorted([name for name, _ in named] + list(ALIASES))
+    return f'''# @generated by tools/cellarcove make bindings from crates/cellarcove_c.
+from array import array
+from collections.abc import Iterable
+from fractions import Fraction
+from typing import Any, Protocol, SupportsIndex, overload
+
+from . import Date, ExtendedGcd, IsoWeek, Solutions, SupportsDate, SupportsFraction
+
+class SupportsArray(Protocol):
+    def __array__(self, *args: Any, **kwargs: Any) -> Any: ...
+
+Array = array[int] | memoryview | bytearray | bytes | SupportsArray
+Outputs = tuple[Array, ...] | None
+Fractional = SupportsFraction | tuple[SupportsIndex, SupportsIndex]
+Dated = SupportsDate | tuple[SupportsIndex, SupportsIndex, SupportsIndex]
+
+VERSION: str
+BUILT_BY: str
+
+''' + ''.join(stub(name, forms) for name, forms in named) \
+        + ''.join(f'{alias} = {name}\n' for alias, name in ALIASES.items()) \
+        + 'def _install(classes: dict[str, Any], /) -> None: ...\n' \
+        + '__all__ = [\n' + ''.join(f'    {line}\n' for line in textwrap.wrap(', '.join(map(repr, public)) + ',', 110)) + ']\n'
+

@@ -1,0 +1,97 @@
+"""Reads the seeded bugs of both suites, crates/NAME/must-fail/*.edit and crates/NAME/must-fail-release/*.edit, and proves
+nothing. The first line of each says what is wrong, in one of three forms. Each file that it names is there, each old text
+stands in that file exactly once where the pairs above have been applied, and its new text is another. Prints a line for each
+that is not so, and a count at the end.
+"""
+
+import re
+from collections.abc import Iterator
+from pathlib import Path
+
+from tools import ROOT, counted
+
+SUITES = ('must-fail', 'must-fail-release')
+PARTS = ('src/', 'specs/', 'proofs/')
+# The forms of a first line. The calls and the values are expressions of Rust: wrong_lines.py runs them.
+CLAUSE = r'(?:its clause|the clause of `\w+`|`\w+`(?: of (?:`\w+`|its clause))?)'
+FORMS = (
+    rf'wrong: at (?P<call>.+) it returns (?P<wrong>.+), and (?P<clause>{CLAUSE}) asks for (?P<right>.+?)\.(?: [A-Z].*\.)?',
+    rf'wrong: at (?P<call>.+) it overflows, which (?P<broken>{CLAUSE}) excludes, and (?P<clause>{CLAUSE}) asks for (?P<right>.+)\.',
+    r'wrong \(not run: (?P<reason>[^()]+)\): .+\.',
+)
+
+
+class BadEdit(Exception):
+    """What is wrong with the text of an edit."""
+
+
+def text_of(crate: Path, name: str, texts: dict[str, str]) -> str:
+    """Returns the file of the crate as the pairs so far have left it."""
+    if name not in texts:
+        path = crate / name
+        if '..' in path.parts or not name.startswith(PARTS) or not path.is_file():
+            raise BadEdit(f'there is no file {name}')
+        texts[name] = path.read_text(encoding='utf-8')
+    return texts[name]
+
+
+def replaced(crate: Path, name: str, texts: dict[str, str], old: str, new: str) -> str:
+    """Returns the file with the old text, which stands in it once, replaced."""
+    text = text_of(crate, name, texts)
+    found = text.count(old)
+    if found != 1:
+        raise BadEdit(f'{name} has an old text {found} times: {old}')
+    if old == new:
+        raise BadEdit(f'a new text is the old one: {old}')
+    return text.replace(old, new)
+
+
+def form_of(line: str) -> re.Match[str]:
+    """Returns what a first line says, as a match of its form."""
+    for form in FORMS:
+        match = re.fullmatch(form, line)
+        if match:
+            return match
+    raise BadEdit(f'the first line does not say what is wrong in a known form: {line}')
+
+
+def apply(crate: Path, edit: Path) -> tuple[re.Match[str], dict[str, str]]:
+    """Applies the pairs of the edit, one after the other, to copies of the files. Returns what the first line says, and the
+    texts of the changed files by their names."""
+    first, *lines = edit.read_text(encoding='utf-8').splitlines()
+    said = form_of(first)
+    name, old = '', ''
+    texts: dict[str, str] = {}
+    for line in lines:
+        word, _, rest = line.partition(':')
+        rest = rest.removeprefix(' ')
+        if word == 'file' and not old:
+            name = rest
+        elif word == 'old' and not old and name and rest:
+            old = rest
+        elif word == 'new' and old:
+            texts[name] = replaced(crate, name, texts, old, rest)
+            old = ''
+        else:
+            raise BadEdit(f'this line is out of place: {line}')
+    if old or not texts:
+        raise BadEdit('it has no pair, or no new text for the last old one')
+    return said, texts
+
+
+def judged() -> Iterator[tuple[str, bool]]:
+    """Each file of both suites, with what is wrong with it."""
+    for suite in SUITES:
+        for edit in sorted(ROOT.glob(f'crates/*/{suite}/*')):
+            wrong = ''
+            try:
+                if edit.suffix != '.edit':
+                    raise BadEdit('its name does not end in .edit')
+                apply(edit.parent.parent, edit)
+            except BadEdit as said:
+                wrong = str(said)
+            yield f'{edit.relative_to(ROOT)}: {wrong}', not wrong
+
+
+def check(_: list[str]) -> bool:
+    return counted(judged())

@@ -1,0 +1,327 @@
+"""Compares the code on the pages with the files that the gate compiles or runs, follows their links, and compares docs/ERRORS.md with
+what the sources print.
+
+Each block of Rust is in a `.rt` file, or an example or a test of rust/, each block of a proof in an `.antt` file, and each line of a block of
+crates in crates.txt. Of a block of imports alone, each name is imported so in a `.rt` file. Indentation does not count, and a comment
+`// and ..` in a block replaces lines that the block leaves out. Blocks of any other kind are not read. The command of
+README.md is the stored run. A session is a block of `console`: each command in it prints the lines below it and nothing else.
+What the sources print are the messages of rust/src, those of Rust's own operators that rust/tests/domains/forms.rs expects, the statuses
+of cellarcove.h, and the exceptions of the package for Python."""
+import itertools
+import os
+import pathlib
+import re
+import subprocess
+from collections.abc import Callable, Iterable, Iterator
+from dataclasses import dataclass
+
+from tools import ROOT, counted
+
+Found = Iterator[tuple[str, bool]]      # places, each with whether it passed
+PAGES = ('README.md', 'docs/*.md', 'crates/*/CALLING.md', 'crates/*/README.md')
+LINKED = PAGES + ('CHANGELOG.md', 'CONTRIBUTING.md', 'bindings/*.md', 'bindings/python/*.md', 'compare/*.md', 'rust/*.md',
+                  'rust/num-integer/*.md', 'docs/reference/*.md')
+SESSIONS = ('README.md', 'docs/INTCALC.md')
+KINDS = {'rust', 'antt', 'crates', 'console'}
+IMPORT = re.compile(r'(?:pub )?((?:ghost )?use .*);')
+CODE = re.compile(r'^ *```.*?^ *```$|`[^`\n]*`', re.M | re.S)
+LINK = re.compile(r'\]\(([^()\s]+)\)')
+HEADING = re.compile(r'#{1,6} (.*)')
+NAMED = re.compile(r'((?:`\w+`(?:,| and|, and)? )*(?:of )?)`(crates/[\w/]+\.(?:rt|antt))`')
+MESSAGE = re.compile(r'[a-z`].* .*')
+OF_OPERATORS = 'attempt to '            # how a message of Rust's own operators begins
+STATUS = re.compile(r'^ +CELLARCOVE_(\w+) = (\d+)', re.M)
+SHOWN_STATUS = re.compile(r'^\| (\d+) \| `CELLARCOVE_(\w+)` \|', re.M)
+CLASS = re.compile(r'^class (\w+)\(((?:\w+Error|Refused)\b[\w, ]*)\):', re.M)
+RAISED = re.compile(r'\b(\w+Error)\(|\bPyExc_(\w+)|\b(PyErr_NoMemory|PyObject_GetAttr)\(')
+RAISED_BY = {'PyErr_NoMemory': 'MemoryError', 'PyObject_GetAttr': 'AttributeError'}
+UNSEEN = {'KeyError'}                   # it would say that the package lacks one of its own classes
+SHOWN_EXCEPTION = re.compile(r'^\| `(\w+)` \| (.*?) *\|', re.M)
+NO_CODE = re.compile(r'^ *//.*$|#!?\[(?:[^\[\]]|\[[^\[\]]*\])*\]', re.M)
+COMMAND = re.compile(r'(?:intcalc|cargo run --example \w+)(?: [^;|&]*)?|echo \$\?')
+
+
+@dataclass
+class Block:
+    """A block of a page, with the number of the line that begins it."""
+    page: str
+    line: int
+    kind: str
+    lines: list[str]
+
+
+def blocks(page: str, text: str) -> Iterator[Block]:
+    """The blocks of a page of the kinds that are read."""
+    block = None
+    for number, line in enumerate(text.split('\n'), 1):
+        line = line.lstrip(' ')
+        if block is None:
+            if line.startswith('```') and line[3:] in KINDS:
+                block = Block(page, number, line[3:], [])
+        elif line == '```':
+            yield block
+            block = None
+        else:
+            block.lines.append(line)
+    if block is not None:
+        yield block
+
+
+# ---- blocks that quote a file
+
+def unindented(text: str) -> str:
+    return '\n'.join(line.lstrip(' ') for line in text.split('\n'))
+
+
+def imported_names(lines: list[str]) -> Iterator[str]:
+    """Of the imports that stand on a line, each name with its path before it."""
+    for line in lines:
+        match = IMPORT.fullmatch(line.lstrip(' '))
+        if match:
+            path, _, names = match.group(1).partition('{')
+            yield from (path + name.strip() for name in names.rstrip('}').split(',')) if names else (path,)
+
+
+def pieces(lines: list[str]) -> list[str]:
+    """The texts between the comments that replace lines."""
+    found = ['']
+    for line in lines:
+        if line.startswith('// and '):
+            found.append('')
+        else:
+            found[-1] += line + '\n'
+    return found
+
+
+def contains(text: str, wanted: list[str]) -> bool:
+    """Whether the text has the pieces, in this order, each from the beginning of a line."""
+    at = 0
+    text = '\n' + text
+    for piece in wanted:
+        found = text.find('\n' + piece, at)
+        if found < 0:
+            return False
+        at = found + len(piece)
+    return True
+
+
+class Files:
+    """What the blocks quote."""
+
+    def __init__(self, rust: list[str], proofs: list[str], crates: str) -> None:
+        self.texts = {'rust': [unindented(text) for text in rust], 'antt': [unindented(text) for text in proofs]}
+        self.imports = {name for text in self.texts['rust'] for name in imported_names(text.split('\n'))}
+        self.crates = set(crates.split('\n'))
+
+    def has(self, block: Block) -> bool:
+        if block.kind == 'crates':
+            return self.crates.issuperset(block.lines)
+        if block.kind == 'rust' and all(IMPORT.fullmatch(line) or not line for line in block.lines):
+            return self.imports.issuperset(imported_names(block.lines))
+        wanted = pieces(block.lines)
+        return any(contains(text, wanted) for text in self.texts[block.kind])
+
+
+def files() -> Files:
+    """The files of the repository that the gate compiles."""
+    def read(folders: tuple[str, ...], suffix: str) -> list[str]:
+        return [file.read_text() for folder in folders for file in sorted(ROOT.glob(f'crates/*/{folder}/**/*{suffix}'))]
+    plain = [file.read_text() for folder in ('examples', 'tests') for file in sorted(ROOT.glob(f'rust/{folder}/*.rs'))]
+    return Files(read(('src',), '.rt') + plain, read(('src', 'specs', 'proofs'), '.antt'), (ROOT / 'crates.txt').read_text())
+
+
+def has_stored_run() -> bool:
+    """Whether README.md has the command of the stored run, and what it prints."""
+    text, program = (ROOT / 'README.md').read_text(), ROOT / 'crates' / 'intcalc'
+    words, printed = (program / 'args').read_text().split(), (program / 'stdout').read_text().rstrip('\n')
+    return f"rt run -- {' '.join(words)})" in text and f'prints `{printed}`' in text
+
+
+# ---- links
+
+def anchors(text: str) -> set[str]:
+    """The anchors of a page, as the browser of the repository makes them of its headings."""
+    found: set[str] = set()
+    counts: dict[str, int] = {}
+    for line in re.sub(r'^ *```.*?^ *```$', '', text, flags=re.M | re.S).split('\n'):
+        heading = HEADING.fullmatch(line)
+        if heading:
+            slug = re.sub(r'[^\w\- ]', '', heading.group(1).lower()).replace(' ', '-')
+            counts[slug] = counts.get(slug, -1) + 1
+            found.add(f'{slug}-{counts[slug]}' if counts[slug] else slug)
+    return found
+
+
+def broken_links(page: pathlib.Path, text: str, anchors_of: Callable[[pathlib.Path], set[str]]) -> Iterator[str]:
+    """The links of a page that lead to no file of the repository, or to no heading of a page."""
+    for link in LINK.findall(CODE.sub('', text)):
+        name, _, anchor = link.partition('#')
+        target = (page.parent / name).resolve() if name else page.resolve()
+        if '://' not in link and (not target.exists() or anchor and anchor not in anchors_of(target)):
+            yield link
+
+
+def follow_links() -> Found:
+    """Each page with whether all of its links lead somewhere, and else the links that do not."""
+    known: dict[pathlib.Path, set[str]] = {}
+
+    def anchors_of(page: pathlib.Path) -> set[str]:
+        if page not in known:
+            known[page] = anchors(page.read_text()) if page.suffix == '.md' else set()
+        return known[page]
+    for page in sorted({page for pattern in LINKED for page in ROOT.glob(pattern)}):
+        broken = list(broken_links(page, page.read_text(), anchors_of))
+        yield ' '.join([page.relative_to(ROOT).as_posix(), *broken]), not broken
+
+
+# ---- files that a page names
+
+def named_files(text: str) -> Iterator[tuple[str, str]]:
+    """The files of crates that a page names, and each name that it says a file has."""
+    for names, file in NAMED.findall(' '.join(text.split())):
+        yield file, ''
+        yield from ((file, name) for name in re.findall(r'`(\w+)`', names))
+
+
+def absent_names(text: str, texts: dict[str, str]) -> Iterator[str]:
+    """The files that a page names and that are not there, and the names that are not in them. `texts` has the files."""
+    for file, name in named_files(text):
+        if file not in texts or name and not re.search(rf'\b{name}\b', texts[file]):
+            yield f'{file} {name}'.strip()
+
+
+def find_names() -> Found:
+    """Each page that names files of crates, with whether they are there and have the names, and else those that are not."""
+    texts = {file.relative_to(ROOT).as_posix(): file.read_text() for kind in ('src/**/*.rt', 'specs/**/*.antt', 'proofs/**/*.antt')
+             for file in ROOT.glob(f'crates/*/{kind}')}
+    for page in sorted({page for pattern in PAGES for page in ROOT.glob(pattern)}):
+        if NAMED.search(page.read_text()):
+            absent = list(absent_names(page.read_text(), texts))
+            yield ' '.join([page.relative_to(ROOT).as_posix(), *absent]), not absent
+
+
+# ---- messages, statuses and exceptions
+
+def messages_in(code: str) -> set[str]:
+    """The messages of the panics and the errors in the text of a file of Rust, except those that are put together: each string of
+    several words that begins with a small letter."""
+    strings = (string.replace('\\"', '"') for string in re.findall(r'"((?:[^"\\]|\\.)*)"', NO_CODE.sub('', code)))
+    return {string for string in strings if MESSAGE.fullmatch(string) and not set('{\\') & set(string)}
+
+
+def messages_on(page: str) -> set[str]:
+    """The messages that a page shows: each in quotation marks, or, if it has some itself, as code."""
+    found = re.findall(r'"([^"]*)"', page) + [code for code in re.findall('`([^`]*)`', page) if '"' in code]
+    return {message for message in found if MESSAGE.fullmatch(message)}
+
+
+def statuses_in(header: str) -> set[str]:
+    return {f'{number} CELLARCOVE_{name}' for name, number in STATUS.findall(header)}
+
+
+def statuses_on(page: str) -> set[str]:
+    return {f'{number} CELLARCOVE_{name}' for number, name in SHOWN_STATUS.findall(page)}
+
+
+def exceptions_in(package: str, driver: str) -> set[str]:
+    """The exceptions of the package for Python, each with the classes that it is one of too, and those of Python that it raises."""
+    classes = dict(CLASS.findall(package))
+    raised = {RAISED_BY.get(word, word) for words in RAISED.findall(package + driver) for word in words if word}
+    return {f'{name} {bases}' for name, bases in classes.items()} | {f'{name} ' for name in raised - UNSEEN}
+
+
+def exceptions_on(page: str) -> set[str]:
+    return {f"{name} {also.replace('`', '')}" for name, also in SHOWN_EXCEPTION.findall(page.partition('\n## Exceptions')[2])}
+
+
+def compared(printed: set[str], shown: set[str]) -> Found:
+    """What is printed and what the page of errors shows, each with whether it is both."""
+    for fact in sorted(printed | shown):
+        there = 'on docs/ERRORS.md' if fact in shown else 'not on docs/ERRORS.md'
+        yield f"{fact.strip()}: {there}{'' if fact in printed else ', and no source prints it'}", fact in printed & shown
+
+
+def errors() -> Found:
+    """What docs/ERRORS.md shows, and what the sources print."""
+    def read(name: str) -> str:
+        return (ROOT / name).read_text()
+    page, package = read('docs/ERRORS.md'), 'bindings/python/'
+    printed = set().union(*(messages_in(file.read_text()) for file in ROOT.glob('rust/src/**/*.rs')))
+    printed |= {message for message in messages_in(read('rust/tests/domains/forms.rs')) if message.startswith(OF_OPERATORS)}
+    yield from compared(printed, messages_on(' '.join(page.split())))
+    yield from compared(statuses_in(read('bindings/c/cellarcove.h')), statuses_on(page))
+    yield from compared(exceptions_in(read(package + 'cellarcove/__init__.py'), read(package + 'src/driver.h')), exceptions_on(page))
+
+
+def compare() -> Found:
+    """Each block with whether a file has it."""
+    there = files()
+    for page in (page for pattern in PAGES for page in sorted(ROOT.glob(pattern))):
+        name = page.relative_to(ROOT).as_posix()
+        for block in blocks(name, page.read_text()):
+            if block.kind != 'console':
+                yield f'{name}:{block.line}', there.has(block)
+    yield 'README.md: the stored run', has_stored_run()
+
+
+# ---- sessions with the program
+
+def steps(block: Block) -> list[tuple[int, str, list[str]]]:
+    """The commands of a session, each with the number of its line and the lines that it prints."""
+    found: list[tuple[int, str, list[str]]] = []
+    for number, line in enumerate(block.lines, block.line + 1):
+        if line.startswith('$ '):
+            found.append((number, line[2:], []))
+        elif found:
+            found[-1][2].append(line)
+        else:
+            found.append((number, '', [line]))
+    return found
+
+
+def run(program: pathlib.Path, command: str, status: int) -> tuple[str, int]:
+    """What a command prints, and its status. A page has only calls of the program, or of the examples in a folder of
+    programs, and `echo $?`."""
+    if not COMMAND.fullmatch(command):
+        return '', 1
+    calls = 'intcalc() { "$PROGRAM" "$@"; }; cargo() { "$PROGRAM/$3" "${@:4}"; }'
+    shell = f'{calls}; (exit {status}); {command}'
+    ended = subprocess.run(['bash', '-c', shell], env={**os.environ, 'PROGRAM': str(program)}, stdin=subprocess.DEVNULL,
+                           stdout=subprocess.PIPE, stderr=subprocess.STDOUT, check=False)
+    return ended.stdout.decode(errors='replace'), ended.returncode
+
+
+def sessions(program: pathlib.Path, named: Iterable[tuple[str, str]]) -> Found:
+    """Each command of the sessions of the pages, with whether it prints what the page shows."""
+    for name, text in named:
+        for block in blocks(name, text):
+            status = 0
+            for number, command, lines in steps(block) if block.kind == 'console' else ():
+                printed, status = run(program, command, status)
+                yield f'{name}:{number}: {command}', printed == ''.join(line + '\n' for line in lines)
+
+
+def heads_of_examples() -> Iterator[tuple[str, str]]:
+    """The comments at the heads of the examples in Rust, each with its place."""
+    for file in sorted((ROOT / 'rust' / 'examples').glob('*.rs')):
+        lines = (line[3:].removeprefix(' ') for line in file.read_text().split('\n') if line.startswith('//!'))
+        yield file.relative_to(ROOT).as_posix(), '\n'.join(lines)
+
+
+def said(found: Iterable[tuple[str, bool]], failed: str) -> Found:
+    """The line of each place, with what is said if it fails."""
+    return ((f'{place}: {failed}', passed) for place, passed in found)
+
+
+def check(_: list[str]) -> bool:
+    return counted(itertools.chain(said(compare(), 'in no file'), said(follow_links(), 'leads nowhere'), said(find_names(), 'is not there'),
+                                   errors()))
+
+
+def sessions_of_pages(words: list[str]) -> bool:
+    pages = [(name, (ROOT / name).read_text()) for name in SESSIONS]
+    return counted(said(sessions(pathlib.Path(words[0]).resolve(), pages), 'prints something else'))
+
+
+def sessions_of_examples(words: list[str]) -> bool:
+    return counted(said(sessions(pathlib.Path(words[0]).resolve(), heads_of_examples()), 'prints something else'))

@@ -1,0 +1,55 @@
+"""Compares what docs/TESTING.md says that the proofs rest on with what `rt ci` printed.
+
+The contracts of functions in C are assumed. Of a program and of a static library the check prints how many are declared below it, and
+how many it reaches. Of a crate that declares some itself, the line of its verdict has `foreign=`. Of a crate whose proof is kept from
+an earlier run it prints nothing, so then there is nothing to compare."""
+import re
+from collections.abc import Iterable, Iterator
+from pathlib import Path
+
+from tools import ROOT, counted
+
+LINKED = ('cellarcove_c', 'intcalc')    # the crates of which the check prints what they reach
+CRATE = re.compile(r'^== (\w+)$', re.M)
+VERDICT = re.compile(r'^logic=proved (.*)$', re.M)
+REPORT = re.compile(r'^axioms (\w+): .*?(?:\((\d+)|none reached) of the (\d+) declared\)?$', re.M)
+
+
+def proofs(log: str) -> Iterator[tuple[str, str, list[tuple[str, str, str]]]]:
+    """The crates that were proved in a run, each with the words of its verdict and the reports on the functions in C."""
+    parts = CRATE.split(log)
+    for name, text in zip(parts[1::2], parts[2::2]):
+        verdict = VERDICT.search(text)
+        if verdict:
+            yield name, verdict.group(1), REPORT.findall(text[:verdict.start()])
+
+
+def listed(names: list[str]) -> str:
+    return ' and '.join(filter(None, (', '.join(names[:-1]), names[-1])))
+
+
+def facts_of(log: str) -> Iterator[str]:
+    """What a run printed of the axioms, as the page says it."""
+    found = {name: (words, reports) for name, words, reports in proofs(log)}
+    if found and not any('foreign=' in words for words, _ in found.values()):
+        yield 'No crate has an axiom of its own'
+    for name in LINKED:
+        reports = found.get(name, ('', ()))[1]
+        if reports:
+            declared = sum(int(count) for _, _, count in reports)
+            yield f'{listed([crate for crate, _, _ in reports])} state the contracts of {declared} functions in C'
+            yield f'`{name}` reaches {sum(int(count or 0) for _, count, _ in reports) or "none"}'
+
+
+def compared(page: str, facts: Iterable[str]) -> Iterator[tuple[str, bool]]:
+    """Each fact, with whether the page has it."""
+    text = ' '.join(page.split())
+    for fact in dict.fromkeys(facts):
+        yield f'docs/TESTING.md does not say: {fact}', re.search(re.escape(fact) + r'\b', text) is not None
+
+
+def check(words: list[str]) -> bool:
+    log, page = Path(words[0]).read_text(errors='replace'), (ROOT / 'docs/TESTING.md').read_text()
+    foreign = [(f'{name} declares functions in C: it has axioms of its own', False) for name, words, _ in proofs(log) if 'foreign=' in words]
+    found = [*compared(page, facts_of(log)), *foreign]
+    return counted(found or [('all proofs were kept, so nothing is compared', True)])

@@ -1,0 +1,269 @@
+"""Runs the first line of each seeded bug, crates/NAME/must-fail/*.edit and crates/NAME/must-fail-release/*.edit, as plain Rust: those of the
+crates of the names that are given, or all.
+
+``wrong: at is_even(3) it returns true, and its clause asks for false.`` has a call and two values, which are expressions of Rust.
+On the sources the call has to return the second value, and with the edit the first one, and a function of the call has to have the
+clause. If a line says that the call overflows, it has to panic with the edit, since a number overflows. The contracts are taken out of
+each crate, and nothing stands in their place, since a guard could hide a wrong value. cargo builds with overflow checks, and with the
+package num-traits of Debian.
+
+A call stands in a module of its own within the file that the edit changes. So it may name what is private there. A text in quotes is
+a `String` if the call ends with `.to_string()`. PRELUDES has what else a line may name. Values are compared as `{:?}` prints them,
+and only the sources compute those that a line names. Two bugs are tried side by side. edits.py has the forms of the lines."""
+import concurrent.futures
+import os
+import re
+import subprocess
+import tempfile
+from collections.abc import Iterable, Iterator, Sequence
+from dataclasses import dataclass, field
+from pathlib import Path
+
+from library import Library
+from rattle_source import Item, Unknown
+from tools import ROOT
+from tools.checks import edits
+from tools.checks.plain import Plain
+
+REGISTRY = Path('/usr/share/cargo/registry')
+PRELUDE = Path(__file__).parent / 'prelude'
+JOBS = 2
+SECONDS = '300'                                 # for a build and the calls of a program
+# The clauses of its traits.
+OF_TRAITS = {'cmp', 'from_gives', 'from_str_gives', 'is_default', 'output', 'partial_cmp', 'steps'}
+# By crate and file: code, and what it becomes. Rust cuts off what does not fit, where Rattle has a condition.
+CHANGED = {('integer_core', 'src/native.rt'): (
+    ('        magnitude.as_()\n', '        <Self as num_traits::NumCast>::from(magnitude.to_128_bits()).expect("attempt to narrow with overflow")\n'),
+    ('pub trait Native: Copy + Num +', 'pub trait Native: Copy + Num + num_traits::NumCast +'))}
+# By crate and a name: the files of prelude/ that the lines of the crate with that name get.
+PRELUDES = {('integer_core', 'Own('): ('own',), ('integer_roots', 'Own('): ('own', 'roots_of_own'), ('intcalc_core', 'writer('): ('writer',),
+            ('intcalc', 'writer('): ('writer',), ('intcalc', 'args('): ('args',)}
+CONFIG = '[source.crates-io]\nreplace-with = "debian"\n[source.debian]\ndirectory = "{registry}"\n'
+PACKAGE = '[package]\nname = "{name}"\nversion = "0.0.0"\nedition = "2021"\n[dependencies]\nnum-traits = "0.2"\n'
+
+
+class Failed(Exception):
+    """What cargo or a program says."""
+
+
+def erased(crate: str, name: str, text: str) -> str:
+    """A file of a crate as Rust."""
+    for old, new in CHANGED.get((crate, name), ()):
+        if text.count(old) != 1:
+            raise Unknown(f'crates/{crate}/{name}: not one `{old.strip()}`, which tools/checks/wrong_lines.py changes')
+        text = text.replace(old, new)
+    return Plain(Path('crates', crate, name), text).rust() + (of_prelude(crate) if name == 'src/main.rt' else '')
+
+
+def of_prelude(name: str) -> str:
+    return (PRELUDE / f'{name}.rs').read_text()
+
+
+def place_of(name: str) -> str:
+    """The file of Rust that a file becomes. The root of a program becomes that of a library."""
+    return name.removesuffix('.rt').replace('src/main', 'src/lib') + '.rs'
+
+
+@dataclass
+class Bug:
+    """A seeded bug: its file, what its first line says, and the files that it changes, with their texts. `told` is what is wrong
+    with the line."""
+    number: int
+    edit: Path
+    said: re.Match[str]
+    texts: dict[str, str]
+    asked: Sequence[str] = ()
+    told: str = ''
+    crate: str = field(init=False)
+    place: str = field(init=False)
+
+    def __post_init__(self) -> None:
+        self.texts = {name: text for name, text in self.texts.items() if name.startswith('src/')}
+        self.crate, self.place = self.edit.parent.parent.name, place_of(next(iter(self.texts), 'src/lib.rt'))
+
+    def part(self, name: str) -> str:
+        """The call, a value or a clause of the line, or an empty text."""
+        return self.said.groupdict().get(name) or ''
+
+    def test(self) -> str:
+        """The code that prints the call and the values."""
+        call, right = self.part('call'), self.part('right')
+        values = [value + '.to_string()' if value.startswith('"') and call.endswith('.to_string()') else value
+                  for value in (self.part('wrong') or right, right)]
+        return (f'\n#[test]\nfn line_{self.number}() {{\n    crate::line_values::show({self.number}, '
+                f'|| {call}, || {values[0]}, || {values[1]});\n}}\n')
+
+
+def bugs_of(names: Iterable[str]) -> list[Bug]:
+    """The seeded bugs of the crates."""
+    found = [edit for suite in edits.SUITES for edit in ROOT.glob(f'crates/*/{suite}/*.edit') if edit.parent.parent.name in names]
+    return [Bug(number, edit, *edits.apply(edit.parent.parent, edit)) for number, edit in enumerate(sorted(found))]
+
+
+def dependencies() -> dict[str, list[str]]:
+    """The crates on which each crate depends."""
+    heads = (line.partition(':') for line in (ROOT / 'crates.txt').read_text().splitlines() if ':' in line)
+    return {name.split()[0]: [word for word in below.split() if (ROOT / 'crates' / word).is_dir()] for name, _, below in heads}
+
+
+def module_of(bugs: Sequence[Bug]) -> str:
+    """The module with the lines of some bugs of one file."""
+    tests = ''.join(bug.test() for bug in bugs)
+    preludes = ''.join(of_prelude(file) for (crate, name), files in PRELUDES.items() if crate == bugs[0].crate and name in tests for file in files)
+    return f'\n#[cfg(test)]\nmod wrong_lines {{\n#[allow(unused_imports)]\nuse super::*;\n{preludes}{tests}}}\n'
+
+
+def clauses_of(items: Iterable[Item]) -> Iterator[tuple[str, str]]:
+    """The clauses of functions: the name of the function, and that of the clause, which may be empty."""
+    for item in items:
+        if item.kind == 'fn':
+            yield from ((item.name, clause.name) for clause in item.clauses)
+        yield from clauses_of(item.items)
+
+
+class Crates:
+    """The sources of the crates as Rust, and the clauses of their functions."""
+
+    def __init__(self, names: Iterable[str]) -> None:
+        self.below = dependencies()
+        self.texts: dict[str, dict[str, str]] = {}
+        self.clauses: dict[str, list[tuple[str, str]]] = {}
+        for name in names:
+            self.add(name)
+
+    def add(self, crate: str) -> None:
+        """Reads a crate and those below it."""
+        for name in self.below[crate]:
+            self.add(name)
+        if crate not in self.texts:
+            modules = Library(ROOT / 'crates', [crate]).modules.values()
+            files = [module.source.path.relative_to(f'crates/{crate}').as_posix() for module in modules]
+            self.clauses[crate] = [found for module in modules for found in clauses_of(module.items)]
+            self.texts[crate] = {place_of(file): erased(crate, file, (ROOT / 'crates' / crate / file).read_text()) for file in files}
+
+    def clauses_of(self, crate: str, functions: Iterable[str]) -> set[str]:
+        """The names of the clauses of the functions of these names, in a crate and those below it."""
+        found = {clause for function, clause in self.clauses[crate] if function in functions}
+        return found.union(*(self.clauses_of(name, functions) for name in self.below[crate]))
+
+    def has(self, bug: Bug, clause: str) -> bool:
+        """Whether a function of the call has the clause. ``sum_fits` of `sum`` is a clause of another function, ``tie` of its clause`` a
+        part of a clause."""
+        found = self.clauses_of(bug.crate, re.findall(r'(\w+)(?:::<[^>]*>)?\(', bug.part('call')))
+        part, _, whole = clause.replace('`', '').partition(' of ')
+        if 'its clause' in (part, whole):
+            return '' in found
+        if not whole:
+            return part in found | OF_TRAITS
+        return whole in found or ('' if part == 'the clause' else part) in self.clauses_of(bug.crate, [whole])
+
+
+class Workspace:
+    """The crates in a folder, where cargo builds them."""
+
+    def __init__(self, folder: Path, crates: Crates) -> None:
+        self.folder, self.crates = folder, crates
+        members = ', '.join(f'"{name}"' for name in crates.texts)
+        self.write('Cargo.toml', f'[workspace]\nresolver = "2"\nmembers = [{members}]\n[profile.dev]\ndebug = false\n')
+        self.write('.cargo/config.toml', CONFIG.format(registry=REGISTRY))
+        for name, texts in crates.texts.items():
+            below = ''.join(f'{other} = {{ path = "../{other}" }}\n' for other in crates.below[name])
+            self.write(f'{name}/Cargo.toml', PACKAGE.format(name=name) + below)
+            for place, text in texts.items():
+                self.write(f'{name}/{place}', text)
+
+    def write(self, place: str, text: str) -> None:
+        """Writes a file that has another text."""
+        file = self.folder / place
+        file.parent.mkdir(parents=True, exist_ok=True)
+        if not file.is_file() or file.read_text() != text:
+            file.write_text(text)
+
+    def values(self, crate: str, bugs: Sequence[Bug], changed: dict[str, str]) -> dict[int, list[str]]:
+        """Runs the lines of some bugs of a crate, of which some files are changed. Returns what each prints, by number."""
+        texts = self.crates.texts[crate] | changed
+        for place in dict.fromkeys(bug.place for bug in bugs):
+            texts[place] += module_of([bug for bug in bugs if bug.place == place])
+        texts['src/lib.rs'] += of_prelude('show')
+        for place, text in texts.items():
+            self.write(f'{crate}/{place}', text)
+        try:
+            said = self.cargo('test', '-q', '-p', crate, '--lib', '--', '--nocapture', '--test-threads=1')
+        finally:
+            for place, text in self.crates.texts[crate].items():
+                self.write(f'{crate}/{place}', text)
+        return {int(number): values for number, *values in re.findall(r'^(\d+)\t(.*)\t(.*)\t(.*)$', said, re.M)}
+
+    def cargo(self, verb: str, *words: str) -> str:
+        """What cargo prints."""
+        flags = {'RUSTFLAGS': '--cap-lints=allow', 'CARGO_TARGET_DIR': str(self.folder / 'target')}
+        done = subprocess.run(['timeout', SECONDS, 'cargo', verb, '--offline', *words], cwd=self.folder, env=os.environ | flags,
+                              capture_output=True, text=True, check=False)
+        if done.returncode:
+            raise Failed('it does not end' if done.returncode == 124 else (done.stderr.strip() or done.stdout.strip())[-2000:])
+        return done.stdout
+
+
+def ask_sources(workspace: Workspace, bugs: Sequence[Bug]) -> None:
+    """Notes the values of the lines of a crate on the sources. If they cannot be built together, each is asked alone."""
+    try:
+        found = workspace.values(bugs[0].crate, bugs, {})
+    except Failed as said:
+        if len(bugs) == 1:
+            bugs[0].told = f'on the sources: {said}'
+        for bug in bugs if len(bugs) > 1 else ():
+            ask_sources(workspace, [bug])
+        return
+    for bug in bugs:
+        call, wrong, right = bug.asked = found.get(bug.number, ['nothing'] * 3)
+        if call != right:
+            bug.told = f'on the sources it returns {call}, and the line asks for {right}'
+        elif bug.part('wrong') and wrong == right:
+            bug.told = 'both values are the same'
+        for clause in (bug.part('clause'), bug.part('broken')):
+            if clause and not workspace.crates.has(bug, clause):
+                bug.told = f'no function of the call has {clause}'
+
+
+def try_edit(workspace: Workspace, bug: Bug) -> None:
+    """Notes how the line fails with the edit."""
+    try:
+        changed = {place_of(name): erased(bug.crate, name, text) for name, text in bug.texts.items()}
+        call = workspace.values(bug.crate, [bug], changed).get(bug.number, ['nothing'])[0]
+    except (Failed, Unknown) as said:
+        bug.told = f'with the edit: {said}'
+        return
+    if not bug.part('wrong') and not re.match('a panic: attempt to .* with overflow', call):
+        bug.told = f'with the edit it does not overflow, it returns {call}'
+    elif bug.part('wrong') and call != bug.asked[1]:
+        bug.told = f'with the edit it returns {call}, and the line says {bug.asked[1]}'
+
+
+def judge(bugs: Sequence[Bug]) -> None:
+    """Runs the lines of some bugs, and notes what is wrong with each."""
+    if not list(REGISTRY.glob('num-traits-0.2*')):
+        raise Unknown(f'{REGISTRY} has no num-traits: tools/gate/install_packages.sh installs it')
+    crates = Crates(dict.fromkeys(bug.crate for bug in bugs))
+    with tempfile.TemporaryDirectory() as folder:
+        workspaces = [Workspace(Path(folder, str(number)), crates) for number in range(JOBS)]
+        for crate in dict.fromkeys(bug.crate for bug in bugs):
+            ask_sources(workspaces[0], [bug for bug in bugs if bug.crate == crate])
+        left = [bug for bug in bugs if not bug.told]
+
+        def try_share(number: int) -> None:
+            for bug in left[number::JOBS]:
+                try_edit(workspaces[number], bug)
+        with concurrent.futures.ThreadPoolExecutor(JOBS) as pool:
+            list(pool.map(try_share, range(JOBS)))
+
+
+def check(words: list[str]) -> bool:
+    bugs = bugs_of(words or dependencies())
+    with_call = [bug for bug in bugs if bug.part('call')]
+    judge(with_call)
+    for bug in bugs:
+        if bug.told or bug.part('reason'):
+            print(f'{bug.edit.relative_to(ROOT)}: {bug.told or "not run: " + bug.part("reason")}')
+    false = sum(bool(bug.told) for bug in bugs)
+    print(f'{len(with_call) - false} lines are true, {false} are false, {len(bugs) - len(with_call)} are not run')
+    return not false and bool(with_call)

@@ -1,0 +1,89 @@
+"""Makes the files that are made, and checks the repository.
+
+    tools/cellarcove make [PART [WORD..]]
+    tools/cellarcove check [PART [WORD..]]
+
+Without a PART it runs those that need no WORD, one after the other, but for the slow ones. `--help` after a PART says more of it. The
+status is 1 if something fails, and 2 if a form is not known."""
+import importlib
+import sys
+from typing import NamedTuple
+
+from rattle_source import Unknown
+from tools import ROOT, run
+
+
+class Part(NamedTuple):
+    """A part: its function, as `module:function`, or its script; what it does; and whether it runs if no part is named."""
+    does: str
+    function: str
+    always: bool = True
+
+
+PARTS = {
+    'make': {
+        'rust': Part('rust/src, the crate of plain Rust', 'scripts/make_rust_crate.py'),
+        'exports': Part('rust/c/src, its exports for C', 'scripts/make_rust_exports.py'),
+        'bindings': Part('what C, C++ and Python know of the exports', 'bindings.files:make'),
+        'api': Part('rust/api.txt, its public items', 'pages.api:make'),
+        'reference': Part('docs/reference', 'pages.reference:make'),
+        'python': Part('crates/replay/src/tests/libraries.rt, which takes half a minute', 'checks.replayed:make'),
+        'symbols': Part('prints the symbols of the exports', 'bindings.exports:symbols', False),
+        'checksums': Part('prints a program in C that calls each export', 'bindings.checksums:make', False),
+        'upstream': Part("SOURCE CRATE OUT: a package of num-integer's own tests", 'checks.upstream:make', False),
+        'dependents': Part('REGISTRY PACKAGE OUT NAME..: a workspace of packages over num-integer', 'checks.dependents:make', False),
+    },
+    'check': {
+        'pages': Part('the pages quote files, their links lead somewhere, and docs/ERRORS.md has each message', 'checks.pages:check'),
+        'edits': Part('each seeded bug fits its file, and its first line has a form', 'checks.edits:check'),
+        'laws': Part('each law is a clause that the gate proves', 'checks.laws:check'),
+        'erased': Part('plain Rust is its source with its contracts deleted, but for a table', 'scripts/check_erased.py'),
+        'bindings': Part('the files of `make bindings` are what it makes', 'bindings.files:check'),
+        'api': Part('so is that of `make api`', 'pages.api:check'),
+        'reference': Part('so are those of `make reference`', 'pages.reference:check'),
+        'types': Part('mypy --strict on the tools', 'checks.programs:types'),
+        'shell': Part('shellcheck on the scripts of the shell', 'checks.programs:shell'),
+        'tests': Part('pytest on the tools', 'checks.programs:tests'),
+        'python': Part('so is that of `make python`, which takes half a minute', 'checks.replayed:check', False),
+        'trust': Part('LOG: docs/TESTING.md says of the axioms what `rt ci` printed', 'checks.trust:check', False),
+        'sessions': Part('PROGRAM: it prints what the sessions of the pages show', 'checks.pages:sessions_of_pages', False),
+        'examples': Part('FOLDER: its programs print what the heads of rust/examples show', 'checks.pages:sessions_of_examples', False),
+        'wrong_lines': Part('[NAME..]: the first line of each seeded bug is true, as plain Rust', 'checks.wrong_lines:check', False),
+        'fuzz': Part('[--minutes M ..]: the package for Python returns what Python computes', 'bindings.fuzz:check', False),
+    },
+}
+
+
+def run_part(part: Part, words: list[str]) -> int:
+    """The status of a part."""
+    if '/' in part.function:
+        return 0 if run(sys.executable, ROOT / part.function, *words) else 1
+    name, function = part.function.split(':')
+    module = importlib.import_module(f'tools.{name}')
+    if words == ['--help'] and module.__name__ != 'tools.bindings.fuzz':
+        print(module.__doc__)
+        return 0
+    try:
+        return 0 if getattr(module, function)(words) else 1
+    except Unknown as form:
+        print(form, file=sys.stderr)
+        return 2
+
+
+def main(words: list[str]) -> int:
+    """Runs what the words name, and returns the status."""
+    verb, name, rest = (words + ['', ''])[0], (words + ['', ''])[1], words[2:]
+    if verb not in PARTS or name and name not in PARTS[verb]:
+        print(__doc__)
+        for verb, parts in PARTS.items():
+            print('', f'    {verb}', *(f'        {name:<12}{part.does}{"" if part.always else " *"}' for name, part in parts.items()), sep='\n')
+        print('\nThose with a star run only if they are named.')
+        return 0 if words == ['--help'] else 2
+    if name:
+        return run_part(PARTS[verb][name], rest)
+    worst = 0
+    for name, part in PARTS[verb].items():
+        if part.always:
+            print(f'{verb} {name}', flush=True)
+            worst = max(worst, run_part(part, []))
+    return worst

@@ -1,0 +1,300 @@
+#!/usr/bin/env bash
+# Builds the archive for C, compares the headers and the table of Python with its sources, looks at its symbols, and calls it
+# from C, C++ and Python. Builds the same archive by cargo, compares what both return, and calls that one too. Prints a line
+# for each check, a line for each program that the machine lacks, and a count at the end.
+#
+# usage: tools/gate/check_bindings.sh [--proved | --cargo]
+#
+# With --proved it builds the archive over the libraries that `rt ci` has just proved and left, which `rt lib` proves again.
+# With --cargo it builds and calls cargo's archive alone.
+set -uo pipefail
+cd "$(dirname "$0")/../.." || exit
+source tools/gate/lib.sh
+
+proved=$PWD/crates/cellarcove_c/out/libcellarcove_c.a
+libraries=${1:-}
+version=$(sed -nE 's/^version = "(.*)"$/\1/p' rust/Cargo.toml)
+archive=$work/by_rattle/libcellarcove_c.a # the one that is looked at
+languages=0
+
+# has PROGRAM LANGUAGE: the program is on the machine, or a line says that the language is skipped.
+has() {
+    command -v "$1" >/dev/null || { echo "$2: skipped, since there is no $1"; return 1; }
+}
+
+# over_proved: builds the archive over the libraries that `rt ci` has left.
+over_proved() { mkdir -p crates/cellarcove_c/out && calls_over_proved "$proved"; }
+
+build() {
+    { [ "$libraries" = --proved ] && over_proved || (cd crates/cellarcove_c && rt lib); } && bindings/build --rattle "$work/by_rattle"
+}
+
+calls() { tools/cellarcove make symbols; }
+
+# The archive exports the calls of the sources, the name of its compiler, and nothing else.
+exports_its_calls() {
+    diff <({ calls && echo cellarcove_made_by; } | sort) \
+        <(nm --defined-only --extern-only "$archive" | awk 'NF == 3 { print $3 }' | sort)
+}
+
+# A library that links the archive exports none of them.
+hides_its_calls() {
+    echo '#include "cellarcove.h"
+    uint64_t mine(uint64_t x); uint64_t mine(uint64_t x) { return cellarcove_gcd_u64(x, 6).value; }' |
+        cc -shared -fPIC -I bindings/c -x c - -x none "$archive" -o "$work/mine.so" &&
+        nm -D --defined-only "$work/mine.so" | grep -q ' mine$' && ! nm -D --defined-only "$work/mine.so" | grep cellarcove
+}
+
+# It needs nothing but the division of 128 bits and `memset`, which every compiler for C takes for granted.
+needs_the_compiler_alone() {
+    ! nm --undefined-only "$archive" | awk '$1 == "U" { print $2 }' | grep -vxE '__u?(div|mod)ti3|memset'
+}
+
+# It has no data that is written.
+has_no_state() {
+    ! nm "$archive" | awk 'NF == 3 && $2 ~ /[BbDd]/' | grep .
+}
+
+# runs CALLER COMPILER FLAG..: the caller, built so, finds every result right.
+runs() {
+    "${@:2}" -Wall -Wextra -Wpedantic -Werror -I bindings/c "bindings/c/$1" -x none "$archive" -o "$work/caller" && "$work/caller"
+}
+
+# The compiler has the library that the sanitizers need.
+sanitizes() {
+    echo 'int main(void) { return 0; }' | "$1" -fsanitize=undefined,address -x c - -o "$work/empty" 2>/dev/null && "$work/empty"
+}
+
+# with_sanitizers LANGUAGE CALLER COMPILER FLAG..: the caller, built with the sanitizers too.
+with_sanitizers() {
+    if sanitizes "$3"; then
+        check "$1 with $3 and its sanitizers" runs "${@:2}" -g -fsanitize=undefined,address -fno-sanitize-recover -x "$(language "$2")"
+    else
+        echo "$1 with $3 and its sanitizers: skipped, since it lacks their library"
+    fi
+}
+
+language() { case $1 in *.c) echo c ;; *) echo c++ ;; esac; }
+
+# c_with COMPILER: the caller in C, once as it is and once with the sanitizers.
+c_with() {
+    has "$1" "C with $1" || return 0
+    languages=$((languages + 1))
+    check "C with $1" runs test.c "$1" -std=c11 -O2 -x c
+    with_sanitizers C test.c "$1" -std=c11
+}
+
+# cpp_with COMPILER: the caller of the header for C++, and that for C as a program in C++.
+cpp_with() {
+    has "$1" "C++ with $1" || return 0
+    languages=$((languages + 1))
+    check "C++ with $1" runs test.cpp "$1" -std=c++17 -Wconversion -O1 -x c++
+    check "the example of the page in C++ with $1" page_holds bindings/README.md cpp "$1" -std=c++17
+    check "the header for C in C++ with $1" runs test.c "$1" -std=c++17 -O0 -x c++
+}
+
+# page_holds PAGE LANGUAGE COMPILER FLAG..: the example of a page is compiled, and prints what its comments say.
+page_holds() {
+    sed -n "/^\`\`\`$2$/,/^\`\`\`$/p" "$1" | grep -v '^```' >"$work/page.$2" &&
+        "${@:3}" -Wall -Wextra -Wpedantic -Werror -I bindings/c "$work/page.$2" "$archive" -o "$work/page" &&
+        "$work/page" | diff - <(sed -n -e 's|.*/\* \(.*\) \*/|\1|p' -e 's|.*[^:]// ||p' "$work/page.$2")
+}
+
+# It is installed, below two folders of libraries, and found there, also after its folder has moved.
+installs() {
+    local libdir
+    rm -rf "$work"/prefix* && for libdir in lib lib/some-linux-gnu; do
+        CELLARCOVE_FOLDER=$(dirname "$archive") bindings/install "$work/prefix" "$libdir" && mv "$work/prefix" "$work/prefix_moved" &&
+            found_by_pkg_config "$libdir" && found_by_cmake "$libdir" && rm -rf "$work/prefix_moved" || return 1
+    done
+}
+
+found_by_pkg_config() {
+    command -v pkg-config >/dev/null || { echo 'no pkg-config'; return 0; }
+    local flags libraries=$work/prefix_moved/$1
+    flags=$(PKG_CONFIG_PATH=$libraries/pkgconfig pkg-config --cflags --libs cellarcove) && read -ra flags <<<"$flags" &&
+        cc bindings/c/test.c "${flags[@]}" -o "$work/found" && LD_LIBRARY_PATH=$libraries "$work/found" &&
+        readelf -d "$work/found" | grep -q 'NEEDED.*libcellarcove_c.so.[0-9]' &&
+        ! nm -D --undefined-only "$libraries/libcellarcove_c.so" | grep -v ' w '
+}
+
+found_by_cmake() {
+    command -v cmake >/dev/null || { echo 'no cmake'; return 0; }
+    rm -rf "$work/project" && mkdir "$work/project" && cp bindings/c/test.c "$work/project" &&
+        printf '%s\n' 'cmake_minimum_required(VERSION 3.10)' 'project(found C)' "find_package(cellarcove ${version%.*} CONFIG REQUIRED)" \
+            'foreach(kind cellarcove shared)' 'add_executable(of_${kind} test.c)' \
+            'target_link_libraries(of_${kind} cellarcove::${kind})' 'endforeach()' >"$work/project/CMakeLists.txt" &&
+        cmake -S "$work/project" -B "$work/project/made" -Dcellarcove_DIR="$work/prefix_moved/$1/cmake/cellarcove" >/dev/null &&
+        cmake --build "$work/project/made" >/dev/null && "$work/project/made/of_cellarcove" && "$work/project/made/of_shared"
+}
+
+makes_a_wheel() {
+    rm -rf "$work/wheel"
+    CELLARCOVE_ARCHIVE=$archive python3 -m pip wheel --quiet --disable-pip-version-check --no-build-isolation --no-deps --no-index \
+        --wheel-dir "$work/wheel" bindings/python
+}
+
+# The wheel, unpacked, runs in an empty folder, with a Python.
+passes_its_tests() {
+    local tests=$PWD/bindings/python/tests/test_cellarcove.py
+    rm -rf "$work/site" "$work/empty_folder"
+    python3 -m zipfile -e "$work"/wheel/*.whl "$work/site" && mkdir "$work/empty_folder" &&
+        (cd "$work/empty_folder" && PYTHONPATH=$work/site PYTHONDONTWRITEBYTECODE=1 "$@" "$tests")
+}
+
+# with_package SCRIPT WORD..: the script runs with the package of the wheel, in an empty folder.
+with_package() { (cd "$work/empty_folder" && PYTHONPATH=$work/site PYTHONDONTWRITEBYTECODE=1 python3 "$@"); }
+
+# counted NAME COMMAND..: the command succeeds. The line has the last one that it printed.
+counted() {
+    local status=0
+    "${@:2}" >"$work/log" 2>&1 || status=$?
+    judge "$1, $(tail -n 1 "$work/log")" "$status"
+}
+
+# All exports return what Python computes, for random arguments.
+fuzz() {
+    cc -shared "$(dirname "$archive")/cellarcove_c.o" -o "$work/all_calls.so" &&
+        with_package "$PWD/tools/cellarcove" check fuzz --seed "$1" --minutes "$2" --library "$work/all_calls.so"
+}
+
+# The wheel has what its name and its list say.
+describes_its_wheel() { with_package "$PWD/bindings/python/tests/test_wheel.py" "$work"/wheel/*.whl; }
+
+# An editable install leads to the sources, and has the licences.
+installs_editable() {
+    local tree=$work/editable
+    rm -rf "$tree" && mkdir -p "$tree/bindings" && cp LICENSE-* "$tree" && cp -r bindings/c bindings/python "$tree/bindings" &&
+        python3 -m venv --without-pip "$tree/environment" &&
+        CELLARCOVE_ARCHIVE=$archive python3 -m pip --python "$tree/environment/bin/python" install --quiet --disable-pip-version-check \
+            --no-build-isolation --no-deps --no-index --editable "$tree/bindings/python" &&
+        (cd "$work/empty_folder" && "$tree/environment/bin/python" -c "
+import importlib.metadata, pathlib, cellarcove
+assert pathlib.Path(cellarcove.__file__).is_relative_to('$tree/bindings/python') and cellarcove.gcd(12, 18) == 6
+assert {'LICENSE-APACHE', 'LICENSE-MIT'} <= {file.name for file in importlib.metadata.files('cellarcove')}")
+}
+
+# So does one that is built with the sanitizers.
+passes_with_sanitizers() {
+    CFLAGS='-O1 -g -fsanitize=address,undefined -fno-sanitize-recover' CC=gcc makes_a_wheel &&
+        CELLARCOVE_TURNS=500 LD_PRELOAD="$(gcc -print-file-name=libasan.so) $(gcc -print-file-name=libubsan.so)" \
+            ASAN_OPTIONS=detect_leaks=0 PYTHONMALLOC=malloc passes_its_tests python3
+}
+
+# A source distribution has all that a wheel is built of by cargo, and its names are those of the package.
+makes_a_wheel_of_the_sources() {
+    rm -rf "$work/sources" "$work/wheel_of_sources" && mkdir "$work/sources" &&
+        (cd bindings/python && PYTHONDONTWRITEBYTECODE=1 python3 -c "import cellarcove_build; cellarcove_build.build_sdist('$work/sources')") &&
+        CELLARCOVE_ARCHIVE='' python3 -m pip wheel --quiet --disable-pip-version-check --no-build-isolation --no-deps --no-index \
+            --wheel-dir "$work/wheel_of_sources" "$work"/sources/*.tar.gz && compgen -G "$work/wheel_of_sources/*.whl"
+}
+
+# The package, and a caller of numbers and of arrays, have the types of the stubs.
+has_types() {
+    printf '%s\n' 'from array import array' 'import cellarcove as c' 'x: int = c.gcd(12, 18)' \
+        "y: array[int] = c.gcd(array('q', [12]), 8)[0]" 'z: c.Date = c.plus_months(c.Date(2000, 1, 31), 1)' \
+        "d: array[int] = c.days_between((array('q', [2000]), 1, 1), z)[0]" >"$work/typed.py" &&
+        MYPYPATH=bindings/python mypy --strict --cache-dir="$work/mypy" "$work/typed.py"
+}
+
+# checksums ARCHIVE: a line of checksums for each call.
+checksums() {
+    tools/cellarcove make checksums >"$work/checksums.c" &&
+        cc -std=c11 -O2 -Wall -Wextra -Wpedantic -Werror -I bindings/c "$work/checksums.c" "$1" -o "$work/checksums" &&
+        "$work/checksums"
+}
+
+# Each call returns a status that its comment names, for all arguments that are tried.
+returns_its_statuses() { checksums "$archive" >"$work/sums" && [ "$(wc -l <"$work/sums")" -eq "$(calls | wc -l)" ]; }
+
+# Both archives return the same, each call on the same arguments.
+returns_what_the_proved_returns() { diff "$work/proved_sums" "$work/sums"; }
+
+# An archive in which one call is another one returns something else.
+other_call_is_found() {
+    objcopy --redefine-sym cellarcove_div_floor_i64=cellarcove_div_ceil_i64 \
+        --redefine-sym cellarcove_div_ceil_i64=cellarcove_div_floor_i64 "$archive" "$work/other.a" &&
+        checksums "$work/other.a" >"$work/other_sums" && [ "$(diff "$work/sums" "$work/other_sums" | grep -c '^<')" -eq 2 ]
+}
+
+# The package for cargo and the crate that it needs are there.
+builds_by_cargo() {
+    has cargo "cargo's archive" || return 1
+    compgen -G '/usr/share/cargo/registry/num-traits-0.2.*' >/dev/null ||
+        { echo "cargo's archive: skipped, since there is no num-traits of Debian"; return 1; }
+}
+
+# What the archive exports, needs and keeps.
+looks_at() {
+    check 'the exported symbols' exports_its_calls
+    check 'the needed symbols' needs_the_compiler_alone
+    check 'no state' has_no_state
+    if has cc C; then
+        check 'the hidden symbols' hides_its_calls
+        check "the statuses of $(calls | wc -l) calls" returns_its_statuses
+    fi
+}
+
+python_calls() {
+    if has python3 Python && has cc Python; then
+        if python3 -m pip --version >/dev/null 2>&1; then
+            languages=$((languages + 1))
+            check 'the wheel' makes_a_wheel
+            check 'Python' passes_its_tests python3
+            check 'the files and the tags of the wheel' describes_its_wheel
+            counted 'random calls' fuzz 1 0.05
+        else
+            echo 'Python: skipped, since there is no pip'
+        fi
+    fi
+}
+
+check 'the made files' tools/cellarcove check bindings
+if [ "$libraries" != --cargo ]; then
+    check 'the archive' build
+    looks_at
+    cp "$work/sums" "$work/proved_sums" 2>/dev/null
+    c_with gcc
+    python_calls
+    if builds_by_cargo; then
+        archive=$work/by_cargo/libcellarcove_c.a
+        echo "the same with cargo's archive:"
+        check 'the archive' bindings/build --cargo "$work/by_cargo"
+        looks_at
+        check 'the results of both' returns_what_the_proved_returns
+        c_with gcc
+        CELLARCOVE_TURNS=5000 python_calls
+    fi
+elif builds_by_cargo; then
+    archive=$work/by_cargo/libcellarcove_c.a
+    check 'the archive' bindings/build --cargo "$work/by_cargo"
+    looks_at
+    c_with gcc
+    python_calls
+fi
+if has cc C; then
+    check 'a call in the place of another' other_call_is_found
+    check 'the example of the page' page_holds bindings/README.md c cc -std=c11
+    check 'the example of the cookbook' page_holds docs/COOKBOOK.md c cc -std=c11
+    check 'the installed library' installs
+fi
+c_with clang
+cpp_with g++
+cpp_with clang++
+if has python3 Python && has cc Python && [ -d "$work/site" ]; then
+    counted "CPython's own tests" with_package "$PWD/bindings/python/tests/cpython_tests.py"
+    if python3 -m venv --help >/dev/null 2>&1 && python3 -m pip --python "$(command -v python3)" --version >/dev/null 2>&1; then
+        check 'an editable install' installs_editable
+    fi
+fi
+if has python3 Python && sanitizes gcc; then
+    check 'Python with the sanitizers of gcc' passes_with_sanitizers
+fi
+if builds_by_cargo; then
+    check 'the source distribution' makes_a_wheel_of_the_sources
+fi
+if has mypy 'the types of Python'; then
+    check 'the types of Python' has_types
+fi
+check 'a language ran' test "$languages" -gt 0
+finish

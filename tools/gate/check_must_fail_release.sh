@@ -1,0 +1,79 @@
+#!/usr/bin/env bash
+# Tries the wrong bodies that the gate does not try: crates/NAME/must-fail-release/*.edit. The prover must refuse each. Copies the
+# repository to a temporary folder, with what was kept in it, and tries them there in the place of those of must-fail, those of as
+# many crates side by side as there are processors. With names of crates, tries theirs alone. Prints a line for each, and a count at
+# the end. A library of which nothing was kept is proved first.
+#
+# usage: tools/gate/check_must_fail_release.sh [NAME..]
+set -uo pipefail
+cd "$(dirname "$0")/../.." || exit
+source tools/gate/lib.sh
+
+cp -a . "$work/repository"
+
+# take_suite NAME: has the crate's copy try its second suite.
+take_suite() {
+    local crate=$work/repository/crates/$1
+    rm -rf "$crate/must-fail"
+    mv "$crate/must-fail-release" "$crate/must-fail"
+}
+
+# build_libraries: proves the crates on which others depend, lowest first, where that is not kept.
+build_libraries() {
+    local name
+    while IFS=': ' read -r name _; do
+        grep -qE ": .*\b$name\b" crates.txt || continue
+        (cd "$work/repository/crates/$name" && rt lib) </dev/null >"$work/built" 2>&1 && continue
+        cat "$work/built"
+        return 1
+    done <crates.txt
+}
+
+names=("$@")
+if [ ${#names[@]} -eq 0 ]; then
+    for suite in crates/*/must-fail-release; do
+        suite=${suite#crates/}
+        names+=("${suite%/must-fail-release}")
+    done
+fi
+
+wanted=0
+for name in "${names[@]}"; do
+    edits=(crates/"$name"/must-fail-release/*.edit)
+    if [ ! -f "${edits[0]}" ]; then
+        echo "$name: no such crate with wrong bodies"
+        exit 2
+    fi
+    wanted=$((wanted + ${#edits[@]}))
+    take_suite "$name"
+done
+
+# try_suite NAME: tries those of the crate, one after the other. What is said and the status are in files of its name.
+try_suite() {
+    (cd "$work/repository" && RT_JOBS=1 rt must-fail "$1") >"$work/$1" 2>&1
+    echo $? >"$work/$1.status"
+}
+
+# The names, those of the crates with the most wrong bodies first.
+longest_first() {
+    local name
+    for name in "${names[@]}"; do
+        echo "$(ls "crates/$name/must-fail-release" | wc -l) $name"
+    done | sort -rn | cut -d ' ' -f 2
+}
+
+build_libraries || exit 2
+for name in $(longest_first); do
+    [ "$(jobs -rp | wc -l)" -lt "$(nproc)" ] || wait -n
+    try_suite "$name" &
+done
+wait
+
+status=0
+for name in "${names[@]}"; do
+    cat "$work/$name"
+    [ "$(cat "$work/$name.status")" -eq 0 ] || status=1
+done
+passed=$(cat "${names[@]/#/$work/}" | grep -cE '^(rt: )?must-fail [a-z0-9_]+/[^ ]+\.edit: refused, as it must be')
+failed=$((wanted - passed))
+finish && [ "$status" -eq 0 ]

@@ -1,0 +1,208 @@
+#!/usr/bin/env bash
+# Checks the crate of plain Rust in rust/ and the package of exports in rust/c: their sources are those that
+# scripts/make_rust_crate.py and scripts/make_rust_exports.py make, they build without a warning, the examples and tests of the crate
+# and num-integer's own tests pass, a guard that is taken out is missed, its package is made, and the checksums of
+# compare/ are the same. Then the package num-integer of rust/ replaces the original below packages of other authors,
+# and their tests run. Works in a temporary folder, offline, with Debian's packages of these crates, which
+# tools/gate/install_packages.sh installs. Prints a line for each check, and a count at the end. `tools/cellarcove make` writes the
+# sources.
+set -uo pipefail
+cd "$(dirname "$0")/../.." || exit
+source tools/gate/lib.sh
+registry=/usr/share/cargo/registry
+originals=(num-integer num-traits serde serde_json)
+dependents=(num-bigint num-rational bigdecimal num num-iter chrono)
+export CARGO_TARGET_DIR=${CARGO_TARGET_DIR:-$work/target}
+# Nothing is built twice or debugged, so cargo writes less.
+export CARGO_INCREMENTAL=0 CARGO_PROFILE_DEV_DEBUG=0
+
+# check_tests NAME COMMAND..: the command succeeds and runs tests. The line has their number.
+check_tests() {
+    local status=0 count
+    "${@:2}" >"$work/log" 2>&1 || status=$?
+    count=$(awk '/^test result: ok/ { count += $4 } END { print count + 0 }' "$work/log")
+    [ "$count" -gt 0 ] || status=1
+    judge "$1, $count tests" "$status"
+}
+
+# has COMMAND: the machine has the command.
+has() { command -v "$1" >/dev/null; }
+
+is_made_anew() {
+    python3 scripts/make_rust_crate.py "$work/made" && diff -r "$work/made/src" rust/src &&
+        python3 scripts/make_rust_exports.py "$work/made_exports" && diff -r "$work/made_exports/src" rust/c/src
+}
+
+# has_packages NAME..: the sources of these crates are in the registry.
+has_packages() {
+    local name
+    for name in "$@"; do
+        compgen -G "$registry/$name-[0-9]*" >/dev/null || return 1
+    done
+}
+
+# absent WORD..: says what is not checked. In the gate it is a failure.
+absent() {
+    echo "$*"
+    [ -z "${CI:-}" ] || failed=$((failed + 1))
+}
+
+# without_warnings COMMAND..: runs it in the copy of rust/. Each warning is an error.
+without_warnings() { (cd "$work/rust" && RUSTFLAGS=-Dwarnings RUSTDOCFLAGS=-Dwarnings "$@"); }
+
+# The examples of the documentation, in a copy of edition 2024, which builds them as one program.
+documented_examples() {
+    cp -r "$work/rust" "$work/documented"
+    sed -i 's/^edition = .*/edition = "2024"/; /^rust-version = /d' "$work/documented/Cargo.toml"
+    (cd "$work/documented" && cargo test --offline --all-features --doc)
+}
+
+# Those of rust/examples were built with all targets.
+example_programs() { tools/cellarcove check examples "$CARGO_TARGET_DIR/debug/examples"; }
+
+# Each link of the documentation to a word of a contract leads to that word.
+has_each_word() {
+    local pages=$CARGO_TARGET_DIR/doc/cellarcove page word
+    grep -rhoE 'definitions/\w+/index\.html#[^"]+' "$pages" | sort -u >"$work/words"
+    [ -s "$work/words" ] || return 1
+    while IFS='#' read -r page word; do
+        grep -q "id=\"$word\"" "$pages/$page" || { echo "$page has no $word" && return 1; }
+    done <"$work/words"
+}
+
+# A package that depends on this crate alone has a type of its own.
+own_type() {
+    mkdir -p "$work"/own/{src,tests}
+    printf '[package]\nname = "own"\nedition = "2021"\n[dependencies]\ncellarcove = { path = "../rust" }\n' \
+        >"$work/own/Cargo.toml"
+    touch "$work/own/src/lib.rs"
+    cp rust/tests/boxed_type.rs "$work/own/tests"
+    (cd "$work/own" && cargo test --offline --test boxed_type)
+}
+
+# The package has the texts of both licences, as the repository has them.
+has_licences() {
+    local name
+    (cd "$work/rust" && cargo package --offline --allow-dirty --list) >"$work/list" || return 1
+    for name in LICENSE-*; do
+        { cmp "$name" "rust/$name" && grep -x "$name" "$work/list"; } || { echo "the package has no $name" && return 1; }
+    done
+}
+
+# The package is made and built, and tests of it pass where it is unpacked.
+package() {
+    without_warnings cargo package --offline --allow-dirty || return 1
+    mkdir "$work/unpacked"
+    tar -xzf "$CARGO_TARGET_DIR"/package/cellarcove-*.crate -C "$work/unpacked" --strip-components 1 || return 1
+    (cd "$work/unpacked" && cargo test --offline --test own_type --test modules)
+}
+
+# num_integer WORD..: builds the package num-integer with the features that the words say.
+num_integer() { (cd "$work/rust/num-integer" && RUSTFLAGS=-Dwarnings cargo build --offline "$@"); }
+
+# exports COMMAND..: runs it in the package of exports for C. Each warning is an error. tools/gate/check_bindings.sh calls them.
+exports() { (cd "$work/rust/c" && RUSTFLAGS=-Dwarnings "$@"); }
+
+# The package num-integer of rust/ is the only one of that name in the tree.
+is_replaced() {
+    (cd "$work/tree" && cargo tree --offline --workspace -i num-integer) >"$work/list" &&
+        head -n 1 "$work/list" | grep -F "($work/rust/num-integer)"
+}
+
+# dependent_tests NAME WORD..: runs the tests of a package in the tree that the words tell cargo.
+dependent_tests() { (cd "$work/tree" && cargo test --offline -j "${RT_JOBS:-$(nproc)}" -p "$@"); }
+
+check_dependents() {
+    local name words begin=$SECONDS
+    check 'packages that depend on num-integer are taken' \
+        tools/cellarcove make dependents "$registry" "$work/rust/num-integer" "$work/tree" "${dependents[@]}"
+    cat "$work/log"
+    check 'this crate replaces num-integer in each of them' is_replaced
+    for name in "${dependents[@]}"; do
+        words=()
+        [ "$name" != chrono ] || words=(--lib --no-default-features --features 'clock std')
+        check_tests "those of $name" dependent_tests "$name" "${words[@]}"
+    done
+    echo "the packages above took $((SECONDS - begin)) seconds"
+}
+
+# A guard that is taken out is missed by a test: one of each kind. scripts/rust_guards.py takes out all.
+has_each_guard() { TMPDIR=$work python3 scripts/rust_guards.py --self-test positive pair gcd_lcm_of_magnitudes; }
+
+# upstream_tests WORD..: runs the tests of num-integer that the words tell cargo.
+upstream_tests() { (cd "$work/upstream" && cargo test --offline "$@"); }
+
+# The lines of a list: type, call, number of inputs and checksum.
+sums() {
+    sed -nE 's/^ *Line\((\w+), (\w+), ([0-9]+), ([0-9]+), ([0-9]+)\),$/\1 \2 \3 \4 \5/p' "$1" |
+        awk '{ print $1, $2, $3 + $4, $5 }'
+}
+
+front_page() {
+    (cd "$work/compare" && cargo test --offline --test front_page "$@")
+}
+
+checksums() {
+    (cd "$work/compare" && cargo run --release --offline --features cellarcove >"$work/list") || return 1
+    [ "$(sums "$work/list" | wc -l)" -gt 0 ] && diff <(sums crates/replay/src/tests/list.rt) <(sums "$work/list")
+}
+
+if ! has cargo || ! has rustfmt; then
+    echo 'no cargo or rustfmt on this machine: the crate of plain Rust is not checked'
+    [ -z "${CI:-}" ]
+    exit
+fi
+
+check 'the sources are made anew' is_made_anew
+check 'its public items are those of rust/api.txt' tools/cellarcove check api
+check 'forms that the eraser does not know are rejected' python3 scripts/make_rust_crate.py --self-test
+check 'forms that the bounds do not fit are rejected' python3 scripts/rust_bounds.py --self-test
+check 'operators are written for calls' python3 scripts/rust_operators.py --self-test
+check 'the style is written' python3 scripts/rust_style.py --self-test
+check 'each public item has an example, its errors, and a test of its domain' python3 scripts/check_rust_docs.py
+check 'sections that are taken out are missed' python3 scripts/check_rust_docs.py --self-test
+check 'forms that exports do not have are rejected' python3 scripts/make_rust_exports.py --self-test
+if has_packages "${originals[@]}"; then
+    mkdir "$work/.cargo"
+    printf '[source.crates-io]\nreplace-with = "debian"\n[source.debian]\ndirectory = "%s"\n' "$registry" \
+        >"$work/.cargo/config.toml"
+    cp -r rust compare "$work"
+    rm -rf "$work"/{rust,rust/num-integer,rust/c,compare}/{target,Cargo.lock}
+    check 'the crate is built' without_warnings cargo build --offline --all-targets --all-features
+    check_tests 'its tests' without_warnings cargo test --offline --all-features --tests
+    check_tests 'its tests in release' without_warnings cargo test --offline --all-features --release --tests
+    check_tests 'the examples of its documentation and its page' documented_examples
+    check 'the example programs print what their heads show' example_programs
+    check 'a guard that is taken out is missed' has_each_guard
+    check_tests 'a type that is not Copy, of a package that depends on this crate alone' own_type
+    check 'the package has the texts of both licences' has_licences
+    check_tests 'the package is made, and some of its tests where it is unpacked' package
+    check 'the package num-integer without features' num_integer --no-default-features
+    check 'the package num-integer with all features' num_integer --all-features
+    check 'the exports for C' exports cargo build --offline --release
+    check 'its documentation' without_warnings cargo doc --offline --no-deps --all-features
+    check 'the words of its contracts' has_each_word
+    if has cargo-clippy; then
+        check 'clippy' without_warnings cargo clippy --offline --all-targets --all-features -- -D warnings
+        check 'clippy on the exports' exports cargo clippy --offline -- -D warnings
+    fi
+    upstream=$(compgen -G "$registry/num-integer-*" | tail -n 1)
+    check "the tests of ${upstream##*/} are taken" \
+        tools/cellarcove make upstream "$upstream" "$work/rust" "$work/upstream"
+    cat "$work/log"
+    check_tests 'those of its library' upstream_tests --lib
+    check_tests 'those of averages' upstream_tests --test average
+    check_tests 'those of roots' upstream_tests --test roots
+    check_tests 'what num-integer returns on the front page' front_page
+    check_tests 'and without overflow checks' front_page --release --config profile.release.overflow-checks=false
+    check "the checksums of compare, $(sums crates/replay/src/tests/list.rt | wc -l) lines" checksums
+    if has_packages "${dependents[@]}"; then
+        check_dependents
+    else
+        absent "no packages of ${dependents[*]}: their tests are not run"
+    fi
+else
+    absent "no packages of ${originals[*]}: only the sources are compared"
+fi
+
+finish

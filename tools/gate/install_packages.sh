@@ -1,0 +1,23 @@
+#!/usr/bin/env bash
+# Installs the packages of Debian that the gate needs and that this machine lacks: for plain Rust the sources of num-integer and
+# num-traits, of the packages that depend on them and whose tests are run, and of serde; for the tools pytest, mypy and shellcheck.
+# Nothing else installs anything. Without the rights of root it says what is missing.
+#
+# usage: tools/gate/install_packages.sh
+set -uo pipefail
+
+missing=()
+for name in num-integer num-traits num-bigint num-rational bigdecimal num num-iter chrono serde serde-derive serde-json; do
+    compgen -G "/usr/share/cargo/registry/${name/serde-/serde_}-[0-9]*" >/dev/null || missing+=("librust-$name-dev")
+done
+command -v pytest-3 >/dev/null || missing+=(python3-pytest)
+for name in mypy shellcheck; do
+    command -v "$name" >/dev/null || missing+=("$name")
+done
+[ ${#missing[@]} -gt 0 ] || exit 0
+if [ "$(id -u)" -ne 0 ]; then
+    echo "missing, and only root can install them: ${missing[*]}"
+    exit 1
+fi
+echo "installs ${missing[*]} and what they depend on"
+apt-get update -qq && apt-get install -qq -y --no-install-recommends "${missing[@]}" >/dev/null

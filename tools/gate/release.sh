@@ -1,0 +1,217 @@
+#!/usr/bin/env bash
+# Makes the files of a release for cargo, pip and C, and tries each in an empty folder.
+#
+# usage: tools/gate/release.sh [--quick] [FOLDER]
+#
+# FOLDER, `dist` if none is given, gets the packages for cargo, the wheel and the source distribution for pip, an archive for C
+# and C++, an archive of the sources, the notes of the release and SHA256SUMS. They are made of a clean clone of the commit
+# that `.ci/run` has passed in this checkout, and once more of a clone in another folder: both have the same sums. The static
+# library is the one that the gate built by Rattle's compiler, or without `rt` on the machine cargo's.
+#
+# It also runs the slow checks: the second suite of seeded bugs, which takes most of an hour, the first lines of both suites, each guard
+# of plain Rust taken out, and all tests of the package for cargo. With --quick it leaves these out, but for some of the tests, and the
+# notes say so.
+set -uo pipefail
+cd "$(dirname "$0")/../.." || exit
+source tools/gate/lib.sh
+
+quick=no
+[ "${1:-}" != --quick ] || { quick=yes && shift; }
+case ${1:-} in -*) sed -n 's/^# usage: /usage: /p' "$0" >&2 && exit 2 ;; esac
+folder=${1:-dist}
+commit=$(git rev-parse HEAD)
+version=$(sed -nE 's/^version = "(.*)"$/\1/p' rust/Cargo.toml)
+original=$(sed -nE 's/^version = "(.*)"$/\1/p' rust/num-integer/Cargo.toml)
+machine=$(uname -m)-$(uname -s | tr 'A-Z' 'a-z')
+proved=crates/cellarcove_c/out/libcellarcove_c.a
+registry=/usr/share/cargo/registry
+export SOURCE_DATE_EPOCH PYTHONDONTWRITEBYTECODE=1 CARGO_TARGET_DIR=$work/target
+SOURCE_DATE_EPOCH=$(git log -1 --format=%ct)
+
+stop() { echo "release.sh: $*" >&2 && exit 1; }
+
+[ -z "$(git status --porcelain)" ] || stop 'the checkout has changes that are not committed'
+grep -q "^gate: commit $commit," out/passed 2>/dev/null || stop "\`.ci/run\` has not passed at $commit in this checkout"
+[ "$(grep -m 1 '^## ' CHANGELOG.md)" = "## $version" ] || stop "CHANGELOG.md does not begin with version $version, which rust/Cargo.toml has"
+
+# ---- the files
+
+# packed TOP FILE: the folder TOP of $work/packed as an archive, the same for the same files.
+packed() {
+    tar -C "$work/packed" --sort=name --format=gnu --mtime="@$SOURCE_DATE_EPOCH" --owner=0 --group=0 --numeric-owner \
+        --mode=u=rwX,go=rX -cf - "$1" | gzip -9n >"$2"
+}
+
+# clone FOLDER: a clean clone of the commit, with the static library that the gate has built.
+clone() {
+    git clone -q . "$1" && git -C "$1" checkout -q "$commit" || return 1
+    if command -v rt >/dev/null; then
+        is_current "$proved" cellarcove_c || { echo "$proved is older than its sources" && return 1; }
+        mkdir -p "$1/crates/cellarcove_c/out" && cp "$proved" "$1/$proved"
+    fi
+    (cd "$1" && bindings/build)
+}
+
+# The packages that cargo finds: Debian's, and the crate of this release, on which the package num-integer depends.
+with_registry() {
+    local crate=$work/registry/cellarcove-$version
+    [ -d "$registry" ] || { echo "there is no $registry: install librust-num-traits-dev" && return 1; }
+    rm -rf "$work/registry" && mkdir -p "$work/registry" "$work/.cargo" && ln -s "$registry"/* "$work/registry" &&
+        tar -xzf "$1" -C "$work/registry" || return 1
+    printf '{"files":{},"package":"%s"}' "$(sha256sum <"$1" | cut -d ' ' -f 1)" >"$crate/.cargo-checksum.json"
+    printf '[source.crates-io]\nreplace-with = "local"\n[source.local]\ndirectory = "%s"\n' "$work/registry" >"$work/.cargo/config.toml"
+}
+
+# for_cargo CLONE FOLDER: the package of the crate, then that of num-integer, which depends on it.
+for_cargo() {
+    local packages=$CARGO_TARGET_DIR/package name=cellarcove-$version.crate
+    rm -rf "$packages" && mkdir -p "$work/.cargo"
+    printf '[source.crates-io]\nreplace-with = "local"\n[source.local]\ndirectory = "%s"\n' "$registry" >"$work/.cargo/config.toml"
+    (cd "$1/rust" && cargo package --quiet --offline --no-verify) && cp "$packages/$name" "$2" && with_registry "$2/$name" &&
+        (cd "$1/rust/num-integer" && cargo package --quiet --offline --no-verify) &&
+        cp "$packages/num-integer-$original.crate" "$2"
+}
+
+# for_pip CLONE FOLDER: the wheel and the source distribution.
+for_pip() {
+    (cd "$1/bindings/python" && python3 -c "import cellarcove_build as build
+build.build_wheel('$2')
+build.build_sdist('$2')")
+}
+
+# for_c CLONE FOLDER: the headers, the libraries, what pkg-config and CMake read, and the licences.
+for_c() {
+    local top=cellarcove-c-$version
+    rm -rf "$work/packed" && mkdir -p "$work/packed/$top" && "$1/bindings/install" "$work/packed/$top" &&
+        cp "$1"/LICENSE-* "$1/bindings/out/made_by" "$work/packed/$top" && packed "$top" "$2/$top-$machine.tar.gz"
+}
+
+sources() {
+    git -C "$1" archive --format=tar --prefix="cellarcove-$version/" HEAD | gzip -9n >"$2/cellarcove-$version-source.tar.gz"
+}
+
+# make_files NAME: makes the files in a clone of that name, and their sums.
+make_files() {
+    local here=$work/$1/clone there=$work/$1/files
+    mkdir -p "$there" && clone "$here" && for_cargo "$here" "$there" && for_pip "$here" "$there" && for_c "$here" "$there" &&
+        sources "$here" "$there" && (cd "$there" && sha256sum -- *) >"$work/$1/SHA256SUMS"
+}
+
+# ---- each file, in an empty folder
+
+# empty NAME: makes an empty folder of that name, and prints it.
+empty() { rm -rf "$work/tried/$1" && mkdir -p "$work/tried/$1" && echo "$work/tried/$1"; }
+
+tries_the_crate() {
+    local there words=()
+    there=$(empty crate) && tar -xzf "$files/cellarcove-$version.crate" -C "$there" || return 1
+    [ "$quick" = no ] || words=(--test own_type --test modules --test cookbook)
+    (cd "$there/cellarcove-$version" && cargo build --offline --all-features && cargo test --offline --all-features "${words[@]}")
+}
+
+# A program that depends on num-integer 0.1, in the place of which the two packages are.
+tries_num_integer() {
+    local there
+    there=$(empty num-integer) && mkdir "$there/src" || return 1
+    tar -xzf "$files/cellarcove-$version.crate" -C "$there" && tar -xzf "$files/num-integer-$original.crate" -C "$there" || return 1
+    printf '%s\n' '[package]' 'name = "tried"' 'edition = "2021"' '[dependencies]' 'num-integer = "0.1"' '[patch.crates-io]' \
+        "num-integer = { path = \"num-integer-$original\" }" "cellarcove = { path = \"cellarcove-$version\" }" >"$there/Cargo.toml"
+    echo 'fn main() { assert_eq!((num_integer::lcm(4u64, 6), num_integer::mod_floor(i64::MIN, -1)), (12, 0)); }' >"$there/src/main.rs"
+    (cd "$there" && cargo run --offline && cargo tree --offline -i num-integer | grep -F "num-integer v$original ($there")
+}
+
+# with_python NAME FILE: a fresh environment of Python, in which a file is installed without the net. Prints its Python.
+with_python() {
+    local there
+    there=$(empty "$1") && python3 -m venv "$there/environment" >&2 &&
+        CELLARCOVE_ARCHIVE='' "$there/environment/bin/python" -m pip install --quiet --disable-pip-version-check --no-index \
+            --no-build-isolation "$2" >&2 && echo "$there/environment/bin/python"
+}
+
+tries_the_wheel() {
+    local python tests=$work/one/clone/bindings/python/tests/test_cellarcove.py turns=100000
+    [ "$quick" = no ] || turns=2000
+    python=$(with_python wheel "$files"/*.whl) && (cd "$(empty nowhere)" && CELLARCOVE_TURNS=$turns "$python" "$tests")
+}
+
+tries_the_source_distribution() {
+    local python
+    python=$(with_python source "$files/cellarcove-$version.tar.gz") || return 1
+    (cd "$(empty nowhere)" && "$python" -c 'import cellarcove; assert cellarcove.lcm(4, 6) == 12; print(cellarcove.BUILT_BY)')
+}
+
+# A program in C, built by what pkg-config says and nothing else, with the shared library and then with the archive.
+tries_c() {
+    local there flags top=cellarcove-c-$version
+    there=$(empty c) && tar -xzf "$files/$top-$machine.tar.gz" -C "$there" && cp "$work/one/clone/bindings/c/test.c" "$there" || return 1
+    flags=$(PKG_CONFIG_PATH=$there/$top/lib/pkgconfig pkg-config --cflags --libs cellarcove) && read -ra flags <<<"$flags" &&
+        (cd "$there" && cc test.c "${flags[@]}" -o shared && LD_LIBRARY_PATH=$top/lib ./shared &&
+            rm "$top"/lib/*.so* && cc test.c "${flags[@]}" -o static && ./static)
+}
+
+tries_the_sources() {
+    local there
+    there=$(empty sources) && tar -xzf "$files/cellarcove-$version-source.tar.gz" -C "$there" &&
+        diff <(cd "$there/cellarcove-$version" && find . -type f -o -type l | sort) <(git ls-files | sed 's|^|./|' | sort)
+}
+
+second_suite() { tools/gate/check_must_fail_release.sh; }
+
+# The first line of each seeded bug has a call, and what it returns with the bug and without it.
+first_lines_are_true() { tools/cellarcove check wrong_lines; }
+
+# A test misses each guard of plain Rust that is taken out. tools/gate/check_rust_crate.sh takes out some.
+misses_each_guard() { TMPDIR=$work python3 scripts/rust_guards.py --self-test; }
+
+# ---- the notes
+
+# notes: what is in the folder, what was tried, and the part of CHANGELOG.md on this version.
+notes() {
+    echo "# Cellarcove $version"
+    printf '\nOf commit %s. The static library in the archive for C and in the wheel was made by %s.\n\n' "$commit" "$(cat "$work/one/clone/bindings/out/made_by")"
+    echo '| file | what it is |'
+    echo '|---|---|'
+    echo "| \`cellarcove-$version.crate\` | the package for cargo |"
+    echo "| \`num-integer-$original.crate\` | the package of the name of the original, over it, for \`[patch.crates-io]\` |"
+    echo "| \`$(cd "$files" && echo *.whl)\` | the wheel for pip |"
+    echo "| \`cellarcove-$version.tar.gz\` | the source distribution for pip, which cargo builds |"
+    echo "| \`cellarcove-c-$version-$machine.tar.gz\` | headers and libraries for C and C++, for pkg-config and CMake |"
+    echo "| \`cellarcove-$version-source.tar.gz\` | all sources |"
+    printf '\n`.ci/run` has passed:\n\n'
+    grep -E '^(rt: ok|gate:|[0-9]+ passed)' out/passed | sed 's/^/- /'
+    printf '\nWhat was tried of these files:\n\n'
+    sed 's/^/- /' "$work/said"
+    [ "$quick" = no ] || printf -- '- %s: left out\n' \
+        'the second suite of seeded bugs, the first lines of both suites, each guard taken out, and most tests of the package for cargo'
+    printf '\n## Changes\n'
+    sed -n "/^## $version\$/,/^## /p" "$work/one/clone/CHANGELOG.md" | sed '/^## /d'
+}
+
+# tried NAME COMMAND..: a check whose line is for the notes too.
+tried() {
+    check "$@" >"$work/line"
+    cat "$work/line"
+    head -n 1 "$work/line" >>"$work/said"
+}
+
+made_again() { make_files other && diff "$work/one/SHA256SUMS" "$work/other/SHA256SUMS"; }
+
+[ -z "$(ls -A "$folder" 2>/dev/null)" ] || stop "$folder is not empty"
+files=$work/one/files
+check 'the files are made' make_files one
+[ "$failed" -eq 0 ] || exit 1
+tried 'the files are made again in another folder, with the same sums' made_again
+tried 'the package for cargo is built and tested' tries_the_crate
+tried 'the package num-integer replaces the original' tries_num_integer
+tried 'the wheel is installed in a fresh environment and tested' tries_the_wheel
+tried 'the source distribution is installed in a fresh environment' tries_the_source_distribution
+tried 'a program in C is built by pkg-config, with the shared library and with the archive' tries_c
+tried 'the sources are those of the commit' tries_the_sources
+[ "$quick" = yes ] || tried 'each guard of plain Rust that is taken out is missed by a test' misses_each_guard
+[ "$quick" = yes ] || tried 'the first line of each seeded bug is true' first_lines_are_true
+[ "$quick" = yes ] || tried "the second suite of $(ls crates/*/must-fail-release/*.edit | wc -l) seeded bugs is rejected" second_suite
+if finish; then
+    mkdir -p "$folder" && cp "$files"/* "$work/one/SHA256SUMS" "$folder" && notes >"$folder/NOTES.md" && ls -l "$folder"
+else
+    exit 1
+fi

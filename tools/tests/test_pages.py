@@ -1,0 +1,89 @@
+"""What the pages quote, link, name and show."""
+from pathlib import Path
+
+import pytest
+
+from tools.checks import pages
+
+RUST = 'pub fn half(x: u64) -> u64\n    requires { 0 < x }\n{\n    use std::cmp::{max, min};\n    x / 2\n}\n'
+PROOF = 'pub half : ℕ → ℕ\nhalf n = n / 2\n'
+CODE = """    /// panic!("of a comment")
+    #[cfg_attr(x, note = "of [`T`] at compile time")]
+    assert!(x < 1 && y.is_some(), "the first");
+    let z = x.checked_add(1).expect("the second"); f.pad("the third"); panic!("{reason}");
+    assert!(
+        x < 2,
+        "the fourth"
+    );
+    operator!(Add checked_add "the fifth" "Panics if it does not fit."); Reason("`n` is the sixth");
+    f.write_str("a date, as \\"2024-02-29\\""); f.pad("serde"); f.pad("a line\\n of more");
+"""
+ERRORS = """| "the first", "the second" | see `it` |
+| `a date, as "2024-02-29"` | of "serde" |
+| 2 | `CELLARCOVE_NOT_FITTING` | it does not fit |
+
+## Exceptions, in Python
+
+| `Refused` | `ValueError` | why |
+| `NotFitting` | `Refused`, `OverflowError` | why |
+| `TypeError` | | why |
+"""
+HEADER = 'enum {\n    /* it fits */\n    CELLARCOVE_ANSWER = 0,\n    CELLARCOVE_NOT_FITTING = 2\n};\n'
+PACKAGE = ('class Refused(ValueError):\nclass NotFitting(Refused, OverflowError):\nclass Parts(NamedTuple):\n'
+           '    raise OverflowError(f"{year}")\n')
+DRIVER = 'PyErr_Format(PyExc_TypeError, "no"); PyErr_SetString(PyExc_KeyError, "k"); PyErr_NoMemory(); a = PyObject_GetAttr(b, c);\n'
+CLASSES = {'Refused ValueError', 'NotFitting Refused, OverflowError'}
+
+
+@pytest.mark.parametrize('kind, text, quoted', [
+    ('rust', 'pub fn half(x: u64) -> u64\n{\n    x / 2\n}', [False]), ('rust', 'pub fn half(x: u64) -> u64\n// and its clause\nx / 2', [True]),
+    ('rust', 'fn half(x: u64) -> u64', [False]), ('rust', 'x / 2\n// and more\n}', [True]), ('rust', 'x / 2\n// and more\npub fn half', [False]),
+    ('rust', 'use std::cmp::min;', [True]), ('rust', 'use std::cmp::{min};', [True]), ('rust', 'use std::cmp::{min, minmax};', [False]),
+    ('antt', 'half n = n / 2', [True]), ('antt', 'half n = n / 3', [False]), ('antt', 'pub fn half(x: u64) -> u64', [False]),
+    ('crates', 'half: std', [True]), ('crates', 'half: core', [False]), ('text', 'half n = n / 3', []),
+])
+def test_blocks(kind: str, text: str, quoted: list[bool]) -> None:
+    files = pages.Files([RUST], [PROOF], 'half: std\n')
+    assert [files.has(block) for block in pages.blocks('sample', f'```{kind}\n{text}\n```\n')] == quoted
+
+
+@pytest.mark.parametrize('text, passed', [
+    ('$ intcalc\nseven', True), ('$ intcalc\neight', False), ('$ intcalc\n', False), ('$ intcalc\nseven\n$ echo $?\n3', True),
+    ('$ intcalc\nseven\n$ echo $?\n0', False), ('$ ls\n', False), ('seven', False),
+])
+def test_sessions(tmp_path: Path, text: str, passed: bool) -> None:
+    program = tmp_path / 'program'
+    program.write_text('#!/bin/sh\necho seven\nexit 3\n')
+    program.chmod(0o755)
+    found = [found for _, found in pages.sessions(program, [('sample', f'```console\n{text}\n```\n')])]
+    assert found and all(found) == passed
+
+
+@pytest.mark.parametrize('link, leads', [
+    ('[a](sample.md)', True), ('[a](sample.md#one)', True), ('[a](#a-b-1)', True), ('[a](#a-b-2)', False), ('[a](other.md)', False),
+    ('[a](sample.md#two)', False), ('`[a](other.md)`', True), ('[a](https://example.org/)', True),
+])
+def test_links(tmp_path: Path, link: str, leads: bool) -> None:
+    page = tmp_path / 'sample.md'
+    page.write_text(f'# One\n\n## A, b\n\n## A, b\n\n```sh\n# Two\n```\n\n{link}\n')
+    broken = list(pages.broken_links(page, page.read_text(), lambda there: pages.anchors(there.read_text())))
+    assert bool(broken) != leads
+
+
+@pytest.mark.parametrize('text, absent', [
+    ('see `half` of\n`crates/a/src/b.rt`', []), ('`half` and `third` of `crates/a/src/b.rt`', ['crates/a/src/b.rt third']),
+    ('in `crates/a/src/c.rt`', ['crates/a/src/c.rt']), ('`half`, `crates/a/src/b.rt`', []),
+])
+def test_names(text: str, absent: list[str]) -> None:
+    assert list(pages.absent_names(text, {'crates/a/src/b.rt': RUST})) == absent
+
+
+def test_errors() -> None:
+    assert pages.messages_in(CODE) == {'the first', 'the second', 'the third', 'the fourth', 'the fifth', '`n` is the sixth',
+                                       'a date, as "2024-02-29"'}
+    assert pages.messages_on(ERRORS) == {'the first', 'the second', 'a date, as "2024-02-29"'}
+    assert pages.statuses_in(HEADER) == {'0 CELLARCOVE_ANSWER', '2 CELLARCOVE_NOT_FITTING'}
+    assert pages.statuses_on(ERRORS) == {'2 CELLARCOVE_NOT_FITTING'}
+    assert pages.exceptions_in(PACKAGE, DRIVER) == CLASSES | {'OverflowError ', 'TypeError ', 'MemoryError ', 'AttributeError '}
+    assert pages.exceptions_on(ERRORS) == CLASSES | {'TypeError '}
+    assert [passed for _, passed in pages.compared({'a', 'b'}, {'b', 'c'})] == [False, True, False]

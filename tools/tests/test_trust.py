@@ -1,0 +1,30 @@
+"""What docs/TESTING.md says of the axioms, and what a run printed."""
+import pytest
+
+from tools.checks import trust
+
+LOG = '''== low
+logic=proved functions=2 sum=1
+rt: low proved
+== cellarcove_c
+axioms libc: none reached of the 7 declared
+axioms std: none reached of the 2 declared
+logic=proved functions=3 sum=1
+== intcalc
+axioms libc: libc::a, libc::b, libc::c, ... (5 of the 7 declared)
+axioms std: none reached of the 2 declared
+logic=proved functions=3 axioms=5 sum=1
+'''
+SAID = ('No crate has an axiom of its own. Below them libc and std\nstate the contracts of 9 functions in C: `cellarcove_c` reaches none, '
+        'and `intcalc` reaches 5.')
+
+
+@pytest.mark.parametrize('old, new, has, lacks', [
+    ('', '', 4, 0), ('(5 of', '(6 of', 3, 1),
+    ('reached of the 2 declared\nlogic=proved functions=3 axioms', 'reached of the 3 declared\nlogic=proved functions=3 axioms', 4, 1),
+    ('none reached of the 7', 'libc::a (1 of the 7', 3, 1), ('reaches 5', 'reaches 55', 3, 1), ('an axiom of its', 'axioms of its', 3, 1),
+    ('functions=2 ', 'functions=2 foreign=low::f ', 3, 0), ('== intcalc', '== other', 3, 0), ('libc and std', 'libc', 3, 1),
+])
+def test_slips(old: str, new: str, has: int, lacks: int) -> None:
+    found = [passed for _, passed in trust.compared(SAID.replace(old, new), trust.facts_of(LOG.replace(old, new)))]
+    assert (found.count(True), found.count(False)) == (has, lacks)
