@@ -33,7 +33,7 @@ def written(source: Source, items: Iterable[Item]) -> str:
     for item in items:
         before = source.tokens[source.code[item.first - 1] + 1 if item.first else 0:source.code[item.first]]
         comment = ''.join(token.text for token in before if not token.text.startswith('//!'))
-        found.append(comment.lstrip('\n') + source.text(item.first, item.last))
+        found.append(comment.lstrip() + source.text(item.first, item.last))
     return '\n\n'.join(found)
 
 
@@ -105,8 +105,8 @@ class Additions:
         if place not in self.files:
             return text, ''
         self.met.add(place)
-        file = f'rust/by_hand/src/{place}'
-        joined = Joined(Source(f'rust/src/{place}', text), Source(file, self.files[place]))
+        file = Path('rust/by_hand/src', place)
+        joined = Joined(Source(Path('rust/src', place), text), Source(file, self.files[place]))
         if joined.is_whole():
             return self.files[place], f'// It is {file}, which has each function by hand.\n'
         by_hand = f', and {", ".join(sorted(joined.replaced))} as they stand there' if joined.replaced else ''
