@@ -25,7 +25,7 @@ from antt_words import Specs, cited, imported
 from library import Library
 from prose import wrapped
 from rattle_source import Unknown
-from rust_docs import STATED, imports_of, says_more
+from rust_docs import STATED, imports_of, of_rattle, says_more
 
 REPOSITORY = pathlib.Path(__file__).resolve().parent.parent
 CRATES = REPOSITORY / 'crates'
@@ -156,7 +156,7 @@ def doc_of(source, item):
     """The doc comment of an item. Its links are those of the documentation of the Rust crate, so here they are names."""
     text = '\n'.join(source.tokens[i].text[3:].removeprefix(' ') for i in source.docs(item))
     text = re.sub(r'\[(`[^`]+`)\](?:\([^)]*\))?', r'\1', text)
-    return text.replace('`crate::', '`').split('\n')
+    return of_rattle(text.replace('`crate::', '`').split('\n'))
 
 
 class Reference:

@@ -21,8 +21,6 @@ import tempfile
 import rust_additions
 import rust_bounds
 import rust_docs
-import rust_errors
-import rust_examples
 import rust_guards
 import rust_operators
 import rust_style
@@ -298,7 +296,6 @@ class Eraser:
         self.write(field.place - 1, 'pub(crate)' if self.crate in AT_ROOT else f'pub(in crate::{self.crate})')
         docs = ''.join(self.source.tokens[i].text + '\n' for i in self.source.docs(field))
         docs = docs or f'/// Returns the `{field.name}`.\n'
-        docs += ''.join(f'/// {line}'.rstrip() + '\n' for line in rust_examples.section_of_reader(self, owner, field))
         return f'\n{docs}#[must_use]\npub fn {field.name}(&self) -> {field.type} {{ self.{field.name} }}\n'
 
     def parameters(self, item):
@@ -443,9 +440,7 @@ def write(out):
         rust = rust_operators.with_operators(f'rust/src/{place}', eraser.rust())
         by_hand = f'// It also has what rust/by_hand/src/{place} adds.\n' if place in additions.files else ''
         made[place] = additions.add(place, made_from(module.source.path) + by_hand + rust)
-    rust_errors.see_all_used()
     rust_guards.see_all_used()
-    rust_examples.see_all_used()
     for crate, name in ADDED.keys() - ADDED_TO:
         raise Unknown(f'scripts/make_rust_crate.py: crates/{crate} has no `{name}`, to which it adds attributes')
     others = dict(additions.modules())
@@ -455,8 +450,8 @@ def write(out):
     for place, text in others.items():
         made[place] = made_from(f'rust/by_hand/src/{place}') + text
     made = rust_style.with_style(made)
-    words = rust_docs.definitions(page, (BY_HAND / 'definitions.md').read_text())
-    made['definitions.rs'] = made_from('crates/*/specs and rust/by_hand/definitions.md') + words
+    for place, (sources, text) in rust_docs.pages(page, BY_HAND).items():
+        made[place] = made_from(sources) + text
     for place, text in made.items():
         (out / 'src' / place).parent.mkdir(parents=True, exist_ok=True)
         (out / 'src' / place).write_text(text)
@@ -496,7 +491,7 @@ REFUSED = (
     ('fn half(x: u64) {\n    let text = "x;\n}', 3, 'a text without an end'),
     ('/* half', 2, 'a comment without an end'),
     ('pub fn half(x: u64) -> Result<u64, E> { x }', 2,
-     '`half` returns a `Result`, and scripts/rust_errors.py does not say when which error'),
+     '`half` returns a `Result`, and its comment has no section `# Errors`'),
     ('/// `half(2)` is what is left.\npub fn half(x: u64) -> u64 { x }', 3, '`half(2)` is what no code says'),
 )
 # Of a crate with this text below a first line, what becomes of it.
