@@ -1,30 +1,25 @@
 #!/usr/bin/env python3
-"""Reads the made crate of plain Rust: each public function, type and trait has an example that runs, each function that returns a
-`Result` says below `# Errors` when, and a test of rust/tests names each that panics outside its domain. Lines have at most 100
-columns, but for the first of a file and the rows of tables.
+"""Reads the made crate of plain Rust: each public function, type and trait has an example that runs, each public function that
+panics with the place of its caller says below `# Panics` when, and no line is wider than 100 columns, but for the first of a file
+and the rows of tables. That each item has a comment, and each `Result` its `# Errors`, rustc and clippy see.
 
-    scripts/check_rust_docs.py                prints what lacks what, and the counts; status 1 if anything does
-    scripts/check_rust_docs.py --self-test    takes a section out of a comment, and fails if nothing is said"""
+    scripts/check_rust_docs.py                 prints what lacks what, and a count; status 1 if anything does
+    scripts/check_rust_docs.py --links DOC     reads the pages that rustdoc wrote: each link to a title leads to that title"""
+from __future__ import annotations
+
 import pathlib
 import re
 import sys
+from collections.abc import Iterator
 
 REPOSITORY = pathlib.Path(__file__).resolve().parent.parent
 sys.path.append(str(REPOSITORY))
 from prose import COLUMNS
+from rattle_source import Item, Source
 from tools.pages.api import CRATE, SHOWN, Made, is_hidden
 
-TESTS = REPOSITORY / 'rust' / 'tests'
-# Items without a call of their own: what the crate exports for them is shown at the items that use them.
-NO_EXAMPLE = {'RatioError', 'ParseRatioError', 'TryFromRatioError', 'DateError', 'IsoWeekError', 'WeekdayError'}
 
-
-def comment(source, item):
-    """The doc comment of an item, by lines."""
-    return [source.tokens[i].text[3:].strip() for i in source.docs(item)]
-
-
-def public_items(made):
+def public_items(made: Made) -> Iterator[tuple[Source, Item, str]]:
     """The public functions, types and traits of the crate, each with its source and its path."""
     for module in made.modules.values():
         source = module.source
@@ -33,56 +28,55 @@ def public_items(made):
             if item.kind in SHOWN and item.public and place is not None and not is_hidden(source, item):
                 path = '::'.join((*place, item.name))
                 yield source, item, path
-                if item.kind == 'trait':
-                    yield from ((source, inner, f'{path}::{inner.name}') for inner in item.items
-                                if inner.kind == 'fn' and not is_hidden(source, inner))
-            elif item.kind == 'impl' and not item.of_trait and any(name == item.name for _, _, name in made.public):
-                yield from ((source, inner, f'{item.name}::{inner.name}') for inner in item.items
-                            if inner.kind == 'fn' and inner.public and not is_hidden(source, inner))
+                for inner in item.items if item.kind == 'trait' else ():
+                    if inner.kind == 'fn' and not is_hidden(source, inner):
+                        yield source, inner, f'{path}::{inner.name}'
+            elif item.kind == 'impl' and not item.of_trait and item.name in made.types:
+                for inner in item.items:
+                    if inner.kind == 'fn' and inner.public and not is_hidden(source, inner):
+                        yield source, inner, f'{item.name}::{inner.name}'
 
 
-def lacks(source, item, lines, tests):
+def lacks(source: Source, item: Item) -> Iterator[str]:
     """What a public item lacks."""
-    if '# Examples' not in lines and item.name not in NO_EXAMPLE and item.kind != 'const':
+    lines = [source.tokens[i].text[3:].strip() for i in source.docs(item)]
+    if '# Examples' not in lines and item.kind != 'const':
         yield 'an example'
-    if item.kind == 'fn':
-        if source.returned(item).startswith('Result<') and '# Errors' not in lines:
-            yield 'the section `# Errors`'
-        if '# Panics' in lines and not re.search(rf'\b{item.name}\b', tests):
-            yield 'a test of its domain'
+    if any(source.at(first + 2) == 'track_caller' for first, _ in item.attributes) and '# Panics' not in lines:
+        yield 'the section `# Panics`'
 
 
-def wide_lines():
-    """The lines of the sources that are too wide."""
-    for path in sorted((REPOSITORY / 'rust' / 'src').rglob('*.rs')):
+def wide_lines(folder: pathlib.Path) -> Iterator[str]:
+    """The lines of the sources below a folder that are too wide."""
+    for path in sorted(folder.rglob('*.rs')):
         for number, line in enumerate(path.read_text().split('\n'), 1):
             if number > 1 and len(line) > COLUMNS and not line.startswith('//! |'):
-                yield f'{path.relative_to(REPOSITORY)}:{number} has {len(line)} columns'
+                yield f'{path.name}:{number} has {len(line)} columns'
 
 
-def read(without=''):
-    """The lines of what lacks something, and how many items there are. `without` is a section that no comment has."""
-    tests = '\n'.join(path.read_text() for path in sorted(TESTS.rglob('*.rs')))
-    wrong, count, sections = [], 0, {'# Examples': 0, '# Panics': 0, '# Errors': 0}
-    for source, item, path in public_items(Made()):
-        lines = [line for line in comment(source, item) if line != without]
-        count += 1
-        for section in sections:
-            sections[section] += section in lines
-        wrong += [f'{path} lacks {what}' for what in lacks(source, item, lines, tests)]
-    return wrong, f'{count} public items: {sections["# Examples"]} with an example, {sections["# Panics"]} that panic, {sections["# Errors"]} with errors'
+def dead_links(folder: pathlib.Path) -> Iterator[str]:
+    """The links of the pages below a folder to a title of such a page that it does not have."""
+    texts = {path.resolve(): path.read_text() for path in folder.rglob('*.html')}
+    titles = {path: set(re.findall(r' id="([^"]+)"', text)) for path, text in texts.items()}
+    for path, text in sorted(texts.items()):
+        for page, title in sorted(set(re.findall(r' href="([^":#]*)#([^"]+)"', text))):
+            target = (path.parent / page).resolve() if page else path
+            if target in titles and title not in titles[target]:
+                yield f'{path.relative_to(folder.resolve())} leads to {page}#{title}, which is not there'
 
 
-def main():
-    if sys.argv[1:] == ['--self-test']:
-        missed = [section for section in ('# Examples', '# Errors') if not read(section)[0]]
-        print(f'two sections are taken out: {len(missed)} are not missed')
-        sys.exit(bool(missed))
-    wrong, counts = read()
-    wrong += wide_lines()
-    print('\n'.join([*wrong, f'{counts}; {len(wrong)} lack something']))
-    sys.exit(bool(wrong))
+def main(words: list[str]) -> int:
+    if words[:1] == ['--links']:
+        folder = pathlib.Path(words[1])
+        wrong, read = list(dead_links(folder)), f'{len(list(folder.rglob("*.html")))} pages'
+    else:
+        items = list(public_items(Made()))
+        wrong = [f'{path} lacks {what}' for source, item, path in items for what in lacks(source, item)]
+        wrong += wide_lines(REPOSITORY / 'rust' / 'src')
+        read = f'{len(items)} public items'
+    print('\n'.join([*wrong, f'{read}: {len(wrong)} failed']))
+    return bool(wrong) or read.startswith('0 ')
 
 
 if __name__ == '__main__':
-    main()
+    sys.exit(main(sys.argv[1:]))

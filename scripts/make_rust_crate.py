@@ -23,7 +23,6 @@ import rust_additions
 import rust_bounds
 import rust_callers
 import rust_docs
-import rust_examples
 from library import AT_ROOT, CRATES, ROOT, Module, RustLibrary
 from prose import within_columns
 from rattle_source import Item, Unknown
@@ -347,12 +346,10 @@ def texts_of(library: RustLibrary) -> dict[str, str]:
         bounds.write(eraser)
         text, note = additions.add(place, eraser.rust())
         made[place] = made_from(module.source.path) + note + text
-    rust_examples.see_all_used()
     others = additions.modules()
     made['lib.rs'] = head_of_root(library, others, made['lib.rs'])
     made |= {place: made_from(f'rust/by_hand/src/{place}') + text for place, text in others.items()}
-    words = rust_docs.definitions(page, (BY_HAND / 'definitions.md').read_text())
-    return made | {'definitions.rs': made_from('crates/*/specs and rust/by_hand/definitions.md') + words}
+    return made | {place: made_from(sources) + text for place, (sources, text) in rust_docs.pages(page, BY_HAND).items()}
 
 
 def formatted(out: Path) -> None:

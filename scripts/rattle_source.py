@@ -70,12 +70,12 @@ class Item:
 class Source:
     """A file. A place is the number of a token that is no comment; `texts` are what a writer may change."""
 
-    def __init__(self, path: Path, text: str) -> None:
+    def __init__(self, path: str | Path, text: str) -> None:
         self.path, self.tokens = path, list(self.scan(path, text))
         self.code = [i for i, token in enumerate(self.tokens) if token.kind not in COMMENTS]
         self.texts = [token.text for token in self.tokens]
 
-    def scan(self, path: Path, text: str) -> Iterator[Token]:
+    def scan(self, path: str | Path, text: str) -> Iterator[Token]:
         at, line = 0, 1
         while at < len(text):
             match = LEXER.match(text, at)

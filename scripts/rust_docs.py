@@ -1,14 +1,26 @@
-"""What is proved, as the doc comments of the Rust crate say it: a folded section `Proved` of each public item with
-clauses, and the module `definitions`, which has each word that such a clause cites. Before it stand the sections
-`# Examples` of rust_examples.py, `# Panics` of rust_guards.py and `# Errors` of rust_errors.py."""
-import re
+"""The doc comments of the Rust crate. A comment of the sources is true in both languages, and the Rust crate has it with these
+changes: the words `In plain Rust, ` are left out, and so is a paragraph that begins with `In Rattle, `; the sentences of
+examples become the section `# Examples` (rust_examples.py); and a line links to what is proved of the item. The sections
+`# Panics` and `# Errors` are those of the comment. The modules `definitions` and `definitions::contracts` have the clauses and
+their words."""
+from __future__ import annotations
 
-import rust_errors
+import pathlib
+import re
+from collections.abc import Iterable
+from dataclasses import dataclass, field
+from typing import TYPE_CHECKING
+
 import rust_examples
-from antt_words import Specs, cited, imported
-from prose import wrapped
-from rattle_source import Unknown
+from antt_words import Definition, Specs, cited, imported
 from library import AT_ROOT, CRATES
+from prose import wrapped
+from rattle_source import Clause, Item, Source, Unknown
+
+if TYPE_CHECKING:
+    from make_rust_crate import Eraser
+
+Place = tuple[str, ...]
 
 # What a clause says that says only that values lie in their type.
 FITS = r'[A-Z]\w*\.fits \([A-Z]\w*\.value [\w.]+\)'
@@ -16,23 +28,172 @@ LIES = rf'(?:{FITS}|All \(λ x\. {FITS}\) [\w.]+|All \w+\.fits result)'
 ONLY_LIES = re.compile(rf'\w+ (?:\w+ )?\{{ {LIES}(?: × {LIES})* \}}')
 # The ghost members of an implementation that say what its calls return. The others are proofs.
 STATED = {'output', 'from_str_gives', 'from_gives', 'is_default', 'cmp', 'partial_cmp', 'next_gives'}
-# What the clauses of an item that is no function say.
-SAYS = {'struct': 'Proved of the source in Rattle, for each value of the type.',
-        'impl': 'Proved of the source in Rattle: what the calls of the trait return.',
-        'trait': 'What the proofs use of an implementation. Of those in this crate it is proved, in Rattle.'}
 # What the pages of the module `definitions` are about.
 PAGES = {'integer_core': 'ranges, division, divisors, Bezout pairs and the iterations of their loops',
          'integer_roots': 'averages, roots and the iterations of their loops', 'num_integer': 'coefficients and checked calls',
          'modular': 'residues and congruences', 'ratio64': 'fractions', 'calendar': 'dates', 'applied': 'lists, rounding, shares, factorials, paging, schedules, ranking, alignment and hashing'}
 
+# The sections of a comment, in the order in which the Rust crate has them.
+SECTIONS = ('Examples', 'Panics', 'Errors')
+IN_PLAIN_RUST, IN_RATTLE = 'In plain Rust, ', 'In Rattle, '
 
+
+# ---- the comments of the sources
+
+def sections_of(lines: list[str]) -> dict[str, list[str]]:
+    """The lines of a comment by the heads of its sections, without blank lines at their ends. Those before the first stand below ''."""
+    found: dict[str, list[str]] = {'': []}
+    name, is_code = '', False
+    for line in lines:
+        is_code ^= line.startswith('```')
+        if line.startswith('# ') and not is_code:
+            name = line[2:]
+            found[name] = []
+        else:
+            found[name].append(line)
+    return {name: '\n'.join(part).strip('\n').split('\n') if any(part) else [] for name, part in found.items()}
+
+
+def of_rust(eraser: Eraser, lines: list[str]) -> list[str]:
+    """The lines of a comment without what is true in Rattle alone, with links that lead somewhere in the Rust crate."""
+    found: list[str] = []
+    for paragraph in rust_examples.paragraphs(lines):
+        text = ' '.join(paragraph)
+        if text.startswith(IN_RATTLE):
+            continue
+        plain = re.sub(rf'{IN_PLAIN_RUST}(\w)', lambda first: first.group(1).upper(), text)
+        found += ['', *(paragraph if plain == text else wrapped(plain))]
+    return [linked(eraser, line) for line in found[1:]]
+
+
+def of_rattle(lines: list[str]) -> list[str]:
+    """The lines of a comment as the reference of Rattle has them. No call panics there, so what plain Rust does outside the domain is
+    said of plain Rust."""
+    found: list[str] = []
+    for name, part in sections_of(lines).items():
+        if name == 'Panics':
+            part = wrapped(' '.join(part).replace(f'{IN_PLAIN_RUST}if', 'Plain Rust panics if', 1), 110)
+        found += ['', *['Errors:', ''] * (name == 'Errors'), *part]
+    return found[1:]
+
+
+def function_of(item: Item) -> Item | None:
+    """The function that an item with a comment stands for: itself, or the one of `FromStr`."""
+    if item.kind == 'impl' and item.of_trait == 'FromStr':
+        return next(inner for inner in item.items if inner.kind == 'fn')
+    return item if item.kind == 'fn' else None
+
+
+def see_sections(eraser: Eraser, item: Item, sections: dict[str, list[str]]) -> None:
+    """Rejects sections that are not known, a call that returns a `Result` and does not say when which error, an error of which a
+    clause says that it never comes, and a panic that is not said to be one of plain Rust."""
+    source = eraser.source
+    for name in sections:
+        if name not in ('', *SECTIONS):
+            source.refuse(item.word, f'a section `# {name}`')
+    if 'Panics' in sections and not ' '.join(sections['Panics']).startswith(f'{IN_PLAIN_RUST}if '):
+        source.refuse(item.word, f'a section `# Panics` that does not begin with `{IN_PLAIN_RUST}if `')
+    function = function_of(item)
+    if function is None or not source.returned(function).startswith('Result<'):
+        return
+    if 'Errors' not in sections:
+        source.refuse(item.word, f'`{function.name}` returns a `Result`, and its comment has no section `# Errors`')
+    clauses = ' '.join(source.text(clause.first, clause.last) for clause in item.clauses)
+    for kind, name in re.findall(r'`(\w+)::(\w+)`', ' '.join(sections['Errors'])):
+        if f'result ≢ Err {kind}.{name}' in clauses:
+            source.refuse(item.word, f'`# Errors` says when `{function.name}` returns `{name}`, and a clause that it never does')
+
+
+def place_of(eraser: Eraser, item: Item, owner: Item | None) -> Place | None:
+    """The public place of an item with a comment, or None."""
+    if item.kind == 'impl':
+        return eraser.library.place_of_type(eraser.module, item.name) if item.of_trait else None
+    return eraser.library.place_of(eraser.module, item, owner)
+
+
+def add_sections(eraser: Eraser, item: Item, owner: Item | None) -> None:
+    """Writes the comment of an item as the Rust crate has it. That of a public item gets its sections and its link."""
+    source, place = eraser.source, place_of(eraser, item, owner)
+    docs = source.docs(item)
+    prose = [source.tokens[i].text[3:].removeprefix(' ') for i in docs]
+    lines = comment(eraser, item, owner, place, prose) if place is not None else of_rust(eraser, prose)
+    if lines == prose:
+        return
+    lines = [f'/// {line}'.rstrip() for line in lines]
+    for i in docs[1:]:
+        eraser.texts[i] = ''
+        if source.tokens[i - 1].kind == 'space':
+            eraser.texts[i - 1] = ''
+    if docs:
+        eraser.texts[docs[0]] = '\n'.join(lines)
+    else:
+        eraser.put_before(item.first, '\n'.join(lines) + '\n')
+
+
+def comment(eraser: Eraser, item: Item, owner: Item | None, place: Place, prose: list[str]) -> list[str]:
+    """The lines of the comment of a public item."""
+    sections = sections_of(prose)
+    see_sections(eraser, item, sections)
+    head = of_rust(eraser, rust_examples.without_examples(sections['']))
+    examples = rust_examples.section(eraser, item, place, sections.pop('Examples', []))
+    parts = [head, examples]
+    parts += [[f'# {name}', '', *of_rust(eraser, sections[name])] for name in SECTIONS if name in sections]
+    parts.append(link_to_contract(eraser, item, owner, place))
+    return [line for part in parts if part for line in ('', *part)][1:]
+
+
+def linked(eraser: Eraser, comment: str) -> str:
+    """A comment whose links to names of the root lead there where the file does not import them."""
+    if eraser.crate not in AT_ROOT:
+        comment = re.sub(r'(\[`|\]\()crate::', rf'\1crate::{eraser.crate}::', comment)
+    # rustdoc rejects a target to which the label leads by itself
+    here = '::'.join(('crate', *(() if eraser.crate in AT_ROOT else (eraser.crate,)), *eraser.module.path))
+    comment = re.sub(rf'(\[`(\w+(?:::\w+)+)`\])\({here}::\2\)', r'\1', comment)
+    roots = eraser.library.names_at(())
+    found = {(*place, name) for (_, _, name), place in eraser.library.public.items()}
+    bases: list[Place] = [()] if eraser.crate in AT_ROOT else [(eraser.crate,), ()]
+
+    def link(match: re.Match[str]) -> str:
+        words = tuple(match.group(1).split('::'))
+        name = words[0]
+        for base in bases if len(words) > 1 else ():
+            if (*base, *words) in found:
+                return f'[`{match.group(1)}`]({"::".join(("crate", *base, *words))})'
+        away = name in roots and name not in eraser.words
+        return f'[`{match.group(1)}`](crate::{match.group(1)})' if away else match.group()
+
+    return re.sub(r'\[`(\w+(?:::\w+)*)`\](?!\()', link, comment)
+
+
+# ---- contracts
+
+@dataclass
+class Contract:
+    """What is proved of a public item: the path of the item, or the trait and the type of an implementation, the clauses, and the
+    links to their words."""
+    title: str
+    clauses: list[str]
+    words: list[str]
+
+    def lines(self) -> list[str]:
+        parts = [f'`{clause}`' for clause in self.clauses] + [f'Words: {", ".join(self.words)}'] * bool(self.words)
+        return ['', f'## {self.title}', *(line for part in parts for line in wrapped(f'- {part}', indent='  '))]
+
+
+@dataclass
 class Page:
-    """What the module `definitions` has: our words, and those of the toolchain, which are explained by hand."""
+    """What the modules of definitions have: our words, those of the toolchain, which are explained by hand, and the contracts by
+    the public place of their items."""
+    folder: pathlib.Path
+    words: dict[tuple[str, str, str], Definition] = field(default_factory=dict)
+    toolchain: set[str] = field(default_factory=set)
+    contracts: dict[Place, list[Contract]] = field(default_factory=dict)
+    cited: set[str] = field(default_factory=set)    # the crates whose words the contracts link to
 
-    def __init__(self, folder):
-        self.specs, self.words, self.toolchain = Specs(folder), {}, set()
+    def __post_init__(self) -> None:
+        self.specs = Specs(self.folder)
 
-    def add(self, name, crate, path):
+    def add(self, name: str, crate: str, path: str) -> Definition | None:
         """Adds a word and the words that its definition cites. Returns its definition, or None."""
         if crate not in CRATES:
             self.toolchain.add(name)
@@ -45,155 +206,112 @@ class Page:
         return word
 
 
-def clause_text(source, clause):
-    """A clause as it stands, with the lines after the first one indented."""
-    lines = [line.strip() for line in source.text(clause.first, clause.last).rstrip(';').split('\n')]
-    return '\n    '.join(lines)
+def clause_text(source: Source, clause: Clause) -> str:
+    """A clause in one line."""
+    return re.sub(r'\s+', ' ', source.text(clause.first, clause.last).rstrip(';'))
 
 
-def says_more(text):
+def says_more(text: str) -> bool:
     """Whether a clause says more than that a value lies in its type."""
     return not ONLY_LIES.fullmatch(re.sub(r'\s+', ' ', text))
 
 
-def imports_of(source, items):
+def imports_of(source: Source, items: Iterable[Item]) -> dict[str, tuple[str, str]]:
+    """The words that items import, each with its crate and its path there."""
     return imported('\n'.join(source.text(item.first, item.last) for item in items if item.kind == 'ghost'))
 
 
-def section(eraser, item, owner):
-    """The lines of the section of an item that says what is proved of it."""
-    source, of_impl = eraser.source, item.kind == 'impl'
-    clauses = [clause for clause in item.clauses if not of_impl or clause.name in STATED]
+def clauses_of(source: Source, item: Item) -> list[str]:
+    """The clauses of an item that say something."""
+    clauses = item.clauses
+    if item.kind == 'impl':
+        clauses = [clause for clause in clauses if clause.name in STATED]
     if item.kind == 'trait':
         clauses = [clause for clause in clauses if clause.name.endswith('_law')]
-    texts = [text for text in (clause_text(source, clause) for clause in clauses) if says_more(text)]
-    if not texts:
+    return [text for text in (clause_text(source, clause) for clause in clauses) if says_more(text)]
+
+
+def anchor(title: str) -> str:
+    """The fragment that rustdoc gives to a title."""
+    return re.sub(r'[^\w\- ]', '', title).replace(' ', '-').lower()
+
+
+def title_of(item: Item, owner: Item | None, place: Place) -> str:
+    names = (*place, *([owner.name] if owner else []), item.name)
+    return f'`{item.of_trait}` for `{"::".join(names)}`' if item.kind == 'impl' else f'`{"::".join(names)}`'
+
+
+def link_to_contract(eraser: Eraser, item: Item, owner: Item | None, place: Place) -> list[str]:
+    """The line that links to the contract of an item, which the page then has."""
+    texts = clauses_of(eraser.source, item) if item.kind in ('fn', 'struct', 'trait', 'impl') else []
+    if not texts or eraser.page is None:
         return []
-    names = imports_of(source, eraser.module.items) | imports_of(source, owner.items if owner else item.items)
-    links = []
+    names = imports_of(eraser.source, eraser.module.items) | imports_of(eraser.source, owner.items if owner else item.items)
+    words = []
     for name in cited('\n'.join(texts), names):
         word = eraser.page.add(name, *names[name])
         if word:
-            links.append(f'[`{name}`](crate::definitions::{word.crate}#{name.lower()})')
-    head = 'Laws' if item.kind == 'trait' else 'Proved'
-    links = wrapped('Words: ' + ', '.join(links + ['[how to read it](crate::definitions)']) + '.')
-    return ['', f'<details><summary>{head}</summary>', '', *in_words(item, {text.split()[0] for text in texts}), '',
-            '```text', *'\n'.join(texts).split('\n'), '```', '', *links, '', '</details>']
+            words.append(f'[`{name}`]({word.crate}#{anchor(name)})')
+            eraser.page.cited.add(word.crate)
+    contract = Contract(title_of(item, owner, place), texts, words)
+    eraser.page.contracts.setdefault(place, []).append(contract)
+    label = 'Laws' if item.kind == 'trait' else 'Contract'
+    return [f'[{label}](crate::definitions::contracts#{anchor(contract.title)})']
 
 
-def in_words(item, words):
-    """The lines before the clauses, which begin with these words."""
-    call = 'if each `requires` holds, the call returns' if 'requires' in words else 'each call returns'
-    then = ', and then each `ensures` holds' if 'ensures' in words else ''
-    return wrapped(SAYS.get(item.kind, f'Proved of the source in Rattle: {call}{then}.'))
+# ---- the modules `definitions` and `definitions::contracts`
+
+def pages(page: Page, by_hand: pathlib.Path) -> dict[str, tuple[str, str]]:
+    """The files of the two modules: what each is made from, and its text. Call it after the comments have been made."""
+    words, head = ((by_hand / name).read_text().rstrip('\n').split('\n') for name in ('definitions.md', 'contracts.md'))
+    return {'definitions.rs': ('crates/*/specs and rust/by_hand/definitions.md', definitions(page, words)),
+            'definitions/contracts.rs': ('crates/*/src and rust/by_hand/contracts.md', contracts(page, head))}
 
 
-def place_of(eraser, item, owner):
-    """The public place of an item with a comment, or None."""
-    if item.kind == 'impl':
-        return eraser.library.place_of_type(eraser.module, item.name) if item.of_trait else None
-    return eraser.library.place_of(eraser.module, item, owner)
+def inner(lines: Iterable[str], margin: str = '') -> str:
+    """The lines of a comment at the head of a module."""
+    return ''.join(f'{margin}//! {line}'.rstrip() + '\n' for line in lines)
 
 
-def twin(eraser, item, owner, place):
-    """The sentence that leads from a call that panics outside its domain to the one of `checked`, or back, if there is one and
-    the comment does not name it."""
-    public, name = eraser.library.public, item.name
-    if item.kind != 'fn' or owner is not None and (owner.kind != 'trait' or place != ()):
-        return []
-    checked = place[-1:] == ('checked',)
-    other = place[:-1] if checked else (*place, 'checked')
-    path = '::'.join((*other, name))
-    if not any(there == other and found == name for (_, _, found), there in public.items()):
-        if not checked or ((), 'Integer') not in rust_examples.methods(eraser.library).get(name, ()):
-            return []
-        path = f'Integer::{name}'
-    if f'`{path}`' in rust_examples.comment_of(eraser.source, item) or f'{path}`]' in rust_examples.comment_of(eraser.source, item):
-        return []
-    does = 'panics' if checked else 'returns `None`'
-    return ['', *wrapped(f'[`{path}`](crate::{path}) is the same call, which {does} outside the domain.')]
+def see_each_once(titles: list[str], where: str) -> None:
+    """Rejects titles that rustdoc would give one anchor."""
+    anchors = [anchor(title) for title in titles]
+    twice = sorted({title for title, name in zip(titles, anchors) if anchors.count(name) > 1})
+    if twice:
+        raise Unknown(f'{where}: one anchor for {", ".join(twice)}')
 
 
-def add_sections(eraser, item, owner):
-    """Adds the sections to the doc comment of a public item."""
-    source, place = eraser.source, place_of(eraser, item, owner)
-    if place is None:
-        return
-    docs = source.docs(item)
-    prose = [source.tokens[i].text[3:].removeprefix(' ') for i in docs]
-    remarks, panics = eraser.guards.sections(item, owner)
-    sections = remarks + twin(eraser, item, owner, place) + rust_examples.section(eraser, item, owner, place) + panics
-    sections += rust_errors.section(eraser, item, owner)
-    if item.kind in ('fn', 'struct', 'trait', 'impl'):
-        sections += section(eraser, item, owner)
-    if not sections:
-        return
-    lines = rust_examples.without_examples(prose) if docs else []
-    lines = [linked(eraser, f'/// {line}'.rstrip()) for line in lines]
-    lines += [f'/// {line}'.rstrip() for line in (sections if docs else sections[1:])]
-    for i in docs[1:]:
-        eraser.texts[i] = ''
-        if source.tokens[i - 1].kind == 'space':
-            eraser.texts[i - 1] = ''
-    if docs:
-        eraser.texts[docs[0]] = '\n'.join(lines)
-    else:
-        eraser.put_before(item.first, '\n'.join(lines) + '\n')
-
-
-def linked(eraser, comment):
-    """A comment whose links to names of the root lead there where the file does not import them."""
-    if eraser.crate not in AT_ROOT:
-        comment = re.sub(r'(\[`|\]\()crate::', rf'\1crate::{eraser.crate}::', comment)
-    # rustdoc rejects a target to which the label leads by itself
-    here = '::'.join(('crate', *(() if eraser.crate in AT_ROOT else (eraser.crate,)), *eraser.module.path))
-    comment = re.sub(rf'(\[`(\w+(?:::\w+)+)`\])\({here}::\2\)', r'\1', comment)
-    roots = eraser.library.names_at(())
-    found = {(*place, name) for (_, _, name), place in eraser.library.public.items()}
-    bases = [()] if eraser.crate in AT_ROOT else [(eraser.crate,), ()]
-
-    def link(match):
-        words = tuple(match.group(1).split('::'))
-        name = words[0]
-        for base in bases if len(words) > 1 else ():
-            if (*base, *words) in found:
-                return f'[`{match.group(1)}`]({"::".join(("crate", *base, *words))})'
-        away = name in roots and name not in eraser.words
-        return f'[`{match.group(1)}`](crate::{match.group(1)})' if away else match.group()
-
-    return re.sub(r'\[`(\w+(?:::\w+)*)`\](?!\()', link, comment)
-
-
-def paragraph(definition):
+def paragraph(definition: Definition) -> list[str]:
     """The lines of a word."""
-    lines = [f'## `{definition.name}`', ''] + ([definition.comment, ''] if definition.comment else [])
-    return lines + ['```text', *definition.text.split('\n'), '```', '']
+    comment = [definition.comment] if definition.comment else []
+    return [f'## `{definition.name}`', *comment, '```text', *definition.text.split('\n'), '```']
 
 
-def definitions(page, head):
-    """The module `definitions`, below a head by hand. Call it after the sections have been made."""
-    explained = {part for code in re.findall('`([^`]*)`', head.replace('\\|', '|')) for part in code.split()}
+def definitions(page: Page, head: list[str]) -> str:
+    """The module `definitions`, below a head by hand: each word that a contract cites."""
+    explained = {part for line in head for code in re.findall('`([^`]*)`', line.replace('\\|', '|')) for part in code.split()}
     missing = sorted(name for name in page.toolchain if name.strip('◌') not in explained)
     if missing:
         raise Unknown(f'rust/by_hand/definitions.md: no {", ".join(missing)}')
-    text = ''.join(f'//! {line}'.rstrip() + '\n' for line in head.rstrip('\n').split('\n'))
+    text = inner(head) + '\npub mod contracts;\n'
     for crate in CRATES:
         words = [word for word in page.words.values() if word.crate == crate]
-        if not words:
-            continue
-        names = [word.name.lower() for word in words]
-        twice = {name for name in names if names.count(name) > 1}
-        if twice:
-            raise Unknown(f'crates/{crate}/specs: two words for {", ".join(sorted(twice))}')
-        lines = [f'Words of {PAGES[crate]}.', '']
-        for word in sorted(words, key=lambda word: (word.file, order(page, word))):
-            lines += paragraph(word)
-        docs = ''.join(f'    //! {line}'.rstrip() + '\n' for line in lines)
-        text += f'\npub mod {crate} {{\n{docs}}}\n'
+        if words:
+            see_each_once([word.name for word in words], f'crates/{crate}/specs')
+            words.sort(key=lambda word: (word.file, order(page, word)))
+            lines = [f'Words of {PAGES[crate]}.'] + [line for word in words for line in paragraph(word)]
+            text += f'\npub mod {crate} {{\n{inner(lines, "    ")}}}\n'
     return text
 
 
-def order(page, word):
+def order(page: Page, word: Definition) -> int:
     """The place of a word in its file."""
     return list(page.specs.read(word.crate, word.file)[0]).index(word.name)
 
+
+def contracts(page: Page, head: list[str]) -> str:
+    """The module `definitions::contracts`, below a head by hand: the contract of each public item."""
+    found = [contract for _, listed in sorted(page.contracts.items(), key=lambda row: row[0]) for contract in listed]
+    see_each_once([contract.title for contract in found], 'crates/*/src')
+    lines = [*head, *(line for contract in found for line in contract.lines())]
+    return f'{inner(lines)}\nuse super::{{{", ".join(sorted(page.cited))}}};\n'

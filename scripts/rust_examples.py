@@ -1,37 +1,24 @@
-"""The sections `# Examples` of the Rust crate: of each sentence `A` is `B` in the comment of a public item one
-assertion, below the `use` lines of their names. `CODE` has the examples that are no such sentence. `cargo test` runs them."""
+"""The sections `# Examples` of the Rust crate: of each sentence `A` is `B` in the comment of a public item one assertion, then the
+code of the section that the comment has, below the `use` lines of their names. `cargo test` runs them."""
+from __future__ import annotations
+
 import functools
 import re
+from typing import TYPE_CHECKING
 
+from library import RustLibrary
 from prose import WIDTH, wrapped
-from rattle_source import Unknown
+from rattle_source import Field, Item, Source
+
+if TYPE_CHECKING:
+    from make_rust_crate import Eraser
+
+Place = tuple[str, ...]
 
 INDENT = 4                                      # of the members of a trait or a type
 SENTENCE = re.compile(r'`([^`]+)` is (?:`([^`]+)`)?')
 # A sentence of examples alone.
 ALONE = re.compile(r'(?:(?<=[.] )|^)`[^`]+` is `[^`]+`(?:(?:,|, and| and) `[^`]+` is `[^`]+`)*\.(?: |$)')
-# Sentences of this form that are no examples, each with the reason.
-NO_EXAMPLE = {
-    'RollingHash::new(10, 97, 2)': 'it says for which windows the hash is',
-}
-# By crate, type or trait, and name: the lines of an example that is no sentence.
-LEAP_DAY = 'Date::new(2024, 2, 29).unwrap()'
-HASH = 'RollingHash::new(10, 97, 2)'
-CODE = {
-    ('integer_core', 'Integer', 'inc'): ('let mut x = 5;', 'x.inc();', 'assert_eq!(x, 6);'),
-    ('integer_core', 'Integer', 'dec'): ('let mut x = 5;', 'x.dec();', 'assert_eq!(x, 4);'),
-    ('integer_core', '', 'ExtendedGcd'): ('let found = 240.extended_gcd(&46);', 'assert_eq!((found.gcd, found.x, found.y), (2, -9, 47));'),
-    ('integer_core', '', 'NativeInteger'): (
-        'fn is_power_of_two<T: NativeInteger>(x: T) -> bool {', '    x > T::zero() && x.count_ones() == 1', '}', '',
-        'assert!(is_power_of_two(64u8) && !is_power_of_two(i8::MIN));'),
-    ('calendar', 'Date', 'year'): (f'assert_eq!({LEAP_DAY}.year(), 2024);',),
-    ('calendar', 'Date', 'month'): (f'assert_eq!({LEAP_DAY}.month(), 2);',),
-    ('calendar', 'Date', 'day_of_month'): (f'assert_eq!({LEAP_DAY}.day_of_month(), 29);',),
-    ('applied', 'RollingHash', 'base'): (f'assert_eq!({HASH}.base(), 10);',),
-    ('applied', 'RollingHash', 'modulus'): (f'assert_eq!({HASH}.modulus(), 97);',),
-    ('applied', 'RollingHash', 'kept'): (f'assert_eq!({HASH}.kept(), 2);',),
-}
-USED = set()                    # the rows that are met, noted as files are made
 TEXT = r'"(?:[^"\\]|\\.)*"'
 NATIVE = r'\b[iu](?:8|16|32|64|128|size)'
 # Names that stand alone or begin a path, and names of methods.
@@ -39,18 +26,16 @@ NAME = re.compile(rf'{TEXT}|(?<![\w.:])([A-Za-z_]\w*)')
 METHOD = re.compile(rf'{TEXT}|(?:\.|{NATIVE}::)(\w+)\(')
 
 
-def comment_of(source, item):
+def comment_of(source: Source, item: Item | Field) -> str:
     """The doc comment of an item, as one line."""
     return ' '.join(source.tokens[i].text[3:].strip() for i in source.docs(item))
 
 
-def sentences(source, item):
+def sentences(source: Source, item: Item) -> list[tuple[str, str]]:
     """The pairs A, B of an item's comment. A call that is said to be what is no code is rejected."""
     found = []
     for match in SENTENCE.finditer(comment_of(source, item)):
         call, answer = match.groups()
-        if call in NO_EXAMPLE:
-            continue
         if answer:
             found.append((call, answer))
         elif '(' in call:
@@ -60,20 +45,20 @@ def sentences(source, item):
 
 # ---- the lines before the block
 
-def paragraphs(lines):
+def paragraphs(lines: list[str]) -> list[list[str]]:
     """The lines of a comment by paragraph."""
-    found = [[]]
+    found: list[list[str]] = [[]]
     for line in lines:
         if line:
             found[-1].append(line)
         elif found[-1]:
             found.append([])
-    return [lines for lines in found if lines]
+    return [part for part in found if part]
 
 
-def without_examples(lines):
+def without_examples(lines: list[str]) -> list[str]:
     """The lines of a comment without its sentences of examples alone, which the section has."""
-    found = []
+    found: list[str] = []
     for paragraph in paragraphs(lines):
         text = ' '.join(paragraph)
         rest = text if any(re.match(r'\||- |```', line) for line in paragraph) else ALONE.sub('', text).strip()
@@ -85,9 +70,9 @@ def without_examples(lines):
 # ---- the block
 
 @functools.cache
-def methods(library):
+def methods(library: RustLibrary) -> dict[str, set[tuple[Place, str]]]:
     """The public traits of the library that have a method, by its name, each with its public place."""
-    found = {}
+    found: dict[str, set[tuple[Place, str]]] = {}
     for module in library.modules.values():
         for item in module.items:
             place = library.place_of(module, item) if item.kind == 'trait' else None
@@ -97,41 +82,41 @@ def methods(library):
 
 
 @functools.cache
-def places(library):
+def places(library: RustLibrary) -> dict[str, set[Place]]:
     """The public places of each name."""
-    found = {}
+    found: dict[str, set[Place]] = {}
     for (_, _, name), place in library.public.items():
         found.setdefault(name, set()).add(place)
     return found
 
 
-def place_of(library, name, place):
+def place_of(library: RustLibrary, name: str, place: Place) -> Place | None:
     """The public place of a name in an example of an item at `place`: the same, the root, or the only one."""
     found = places(library).get(name, set())
     near = [at for at in (place, ()) if at in found]
     return near[0] if near else next(iter(found)) if len(found) == 1 else None
 
 
-def imports(library, code, place):
+def imports(library: RustLibrary, code: str, place: Place) -> list[str]:
     """The lines that import the names of an example."""
-    names = {}
-    for name in {match.group(1) for match in NAME.finditer(code)} - {None}:
-        at = place_of(library, name, place)
+    names: dict[Place, set[str]] = {}
+    for match in NAME.finditer(code):
+        at = place_of(library, match.group(1), place) if match.group(1) else None
         if at is not None:
-            names.setdefault(at, set()).add(name)
-    for method in {match.group(1) for match in METHOD.finditer(code)} - {None}:
-        for at, trait in methods(library).get(method, ()):
+            names.setdefault(at, set()).add(match.group(1))
+    for match in METHOD.finditer(code):
+        for at, trait in methods(library).get(match.group(1), ()):
             names.setdefault(at, set()).add(trait)
     return [use('::'.join(('cellarcove',) + at), names[at]) for at in sorted(names)]
 
 
-def use(path, names):
+def use(path: str, names: set[str]) -> str:
     """The line that imports these names, the types last."""
     listed = sorted(names, key=lambda name: (name[0].isupper(), name))
     return f'use {path}::{listed[0]};' if len(listed) == 1 else f'use {path}::{{{", ".join(listed)}}};'
 
 
-def assertion(call, answer):
+def assertion(call: str, answer: str) -> list[str]:
     """The lines that assert that a call is what its sentence says."""
     if answer in ('true', 'false') and not re.search(r' [<>=&|]', call):
         return [f'assert!({"" if answer == "true" else "!"}{call});']
@@ -139,36 +124,22 @@ def assertion(call, answer):
     return [line] if len(line) <= WIDTH - INDENT else ['assert_eq!(', f'    {call},', f'    {answer}', ');']
 
 
-def code_of(crate, owner, name):
-    """The lines of the example that is no sentence, if there is one."""
-    if (crate, owner, name) in CODE:
-        USED.add((crate, owner, name))
-    return list(CODE.get((crate, owner, name), ()))
+def code_of(source: Source, item: Item, lines: list[str]) -> list[str]:
+    """The code of the section `# Examples` that a comment has."""
+    if lines and (lines[0] != '```' or lines.index('```', 1) != len(lines) - 1):
+        source.refuse(item.word, 'a section `# Examples` that is no block of code')
+    return lines[1:-1]
 
 
-def block(library, code, body, place):
-    """The lines of a section with this body. The code has the names to import."""
-    head = imports(library, code, place)
-    return ['', '# Examples', '', '```', *head, *([''] if head else []), *body, '```']
-
-
-def section(eraser, item, owner, place):
-    """The lines of the section of an item at a public place."""
-    pairs = sentences(eraser.source, item)
-    more = code_of(eraser.crate, owner.name if owner else '', item.name)
+def block(library: RustLibrary, pairs: list[tuple[str, str]], more: list[str], place: Place) -> list[str]:
+    """The lines of a section: an assertion of each pair, and more code."""
     if not pairs and not more:
         return []
-    code = '\n'.join([*(f'{call}\n{answer}' for call, answer in pairs), *more])
-    return block(eraser.library, code, [line for pair in pairs for line in assertion(*pair)] + more, place)
+    head = imports(library, '\n'.join([*(f'{call}\n{answer}' for call, answer in pairs), *more]), place)
+    body = [line for pair in pairs for line in assertion(*pair)] + more
+    return ['# Examples', '', '```', *head, *([''] if head else []), *body, '```']
 
 
-def section_of_reader(eraser, owner, field):
-    """The lines of the section of the reader of a field."""
-    code = code_of(eraser.crate, owner.name, field.name)
-    return block(eraser.library, '\n'.join(code), code, eraser.library.place_of_type(eraser.module, owner.name)) if code else []
-
-
-def see_all_used():
-    """Rejects a row of which no public item is met. Call it after the files have been made."""
-    for crate, owner, name in sorted(CODE.keys() - USED):
-        raise Unknown(f'scripts/rust_examples.py: crates/{crate} has no public `{owner or "item"}::{name}`, of which it has an example')
+def section(eraser: Eraser, item: Item, place: Place, lines: list[str]) -> list[str]:
+    """The lines of the section of an item at a public place, whose own section has these lines."""
+    return block(eraser.library, sentences(eraser.source, item), code_of(eraser.source, item, lines), place)

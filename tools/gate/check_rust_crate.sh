@@ -60,15 +60,8 @@ documented_examples() {
 # Those of rust/examples were built with all targets.
 example_programs() { tools/cellarcove check examples "$CARGO_TARGET_DIR/debug/examples"; }
 
-# Each link of the documentation to a word of a contract leads to that word.
-has_each_word() {
-    local pages=$CARGO_TARGET_DIR/doc/cellarcove page word
-    grep -rhoE 'definitions/\w+/index\.html#[^"]+' "$pages" | sort -u >"$work/words"
-    [ -s "$work/words" ] || return 1
-    while IFS='#' read -r page word; do
-        grep -q "id=\"$word\"" "$pages/$page" || { echo "$page has no $word" && return 1; }
-    done <"$work/words"
-}
+# Each link of the documentation to a contract or to a word of one leads there.
+has_each_title() { python3 scripts/check_rust_docs.py --links "$CARGO_TARGET_DIR/doc/cellarcove"; }
 
 # A package that depends on this crate alone has a type of its own.
 own_type() {
@@ -159,8 +152,7 @@ check 'forms that the eraser does not know are rejected' python3 scripts/make_ru
 check 'forms that the bounds do not fit are rejected' python3 scripts/rust_bounds.py --self-test
 check 'operators are written for calls' python3 scripts/rust_operators.py --self-test
 check 'the style is written' python3 scripts/rust_style.py --self-test
-check 'each public item has an example, its errors, and a test of its domain' python3 scripts/check_rust_docs.py
-check 'sections that are taken out are missed' python3 scripts/check_rust_docs.py --self-test
+check 'each public item has an example, and says when it panics' python3 scripts/check_rust_docs.py
 check 'forms that exports do not have are rejected' python3 scripts/make_rust_exports.py --self-test
 if has_packages "${originals[@]}"; then
     mkdir "$work/.cargo"
@@ -181,7 +173,7 @@ if has_packages "${originals[@]}"; then
     check 'the package num-integer with all features' num_integer --all-features
     check 'the exports for C' exports cargo build --offline --release
     check 'its documentation' without_warnings cargo doc --offline --no-deps --all-features
-    check 'the words of its contracts' has_each_word
+    check 'the contracts, and their words' has_each_title
     if has cargo-clippy; then
         check 'clippy' without_warnings cargo clippy --offline --all-targets --all-features -- -D warnings
         check 'clippy on the exports' exports cargo clippy --offline -- -D warnings

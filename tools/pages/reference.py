@@ -15,7 +15,7 @@ from antt_words import Definition, Specs, cited, imported
 from library import Library, Module, Place
 from prose import wrapped
 from rattle_source import Item, Source, Unknown
-from rust_docs import STATED, imports_of, says_more
+from rust_docs import STATED, imports_of, of_rattle, says_more
 from tools import ROOT, as_made, write
 
 CRATES = ROOT / 'crates'
@@ -153,7 +153,7 @@ def doc_of(source: Source, item: Item) -> list[str]:
     """The doc comment of an item. Its links are those of the documentation of the Rust crate, so here they are names."""
     text = '\n'.join(source.tokens[i].text[3:].removeprefix(' ') for i in source.docs(item))
     text = re.sub(r'\[(`[^`]+`)\](?:\([^)]*\))?', r'\1', text)
-    return text.replace('`crate::', '`').split('\n')
+    return of_rattle(text.replace('`crate::', '`').split('\n'))
 
 
 class Reference:

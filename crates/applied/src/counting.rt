@@ -11,7 +11,11 @@ use num_integer::operators::{difference, is_below, one, product, successor, zero
 /// Returns the factorial of `n`, the product of the numbers from 1 to `n`: in how many ways `n` things stand in
 /// a row. `factorial(5)` is `120`, and `factorial(0)` is `1`.
 ///
-/// May be called if `n` is not negative and the factorial fits; [`checked::factorial`] has no condition.
+/// [`checked::factorial`] returns `None` outside the domain.
+///
+/// # Panics
+///
+/// In plain Rust, if `n` is negative, or if the factorial does not fit.
 #[tactic(auto, using(num_integer::proofs::ForCallers::linear))]
 pub fn factorial<T: Integer>(n: T) -> T
     requires in_range { T.fits (T.value n) }
@@ -26,7 +30,11 @@ pub fn factorial<T: Integer>(n: T) -> T
 /// Returns the falling factorial of `n` and `k`, the product `n * (n - 1) * ..` of `k` factors: in how many ways
 /// `k` of `n` things stand in a row. `falling(8, 3)` is `336`, and `falling(2, 3)` is `0`.
 ///
-/// May be called if neither number is negative and the product fits; [`checked::falling`] has no condition.
+/// [`checked::falling`] returns `None` outside the domain.
+///
+/// # Panics
+///
+/// In plain Rust, if `n` or `k` is negative, or if the factorial does not fit.
 #[tactic(auto, using(num_integer::proofs::ForCallers::linear))]
 pub fn falling<T: Integer>(n: T, k: T) -> T
     requires in_range { T.fits (T.value n) × T.fits (T.value k) }

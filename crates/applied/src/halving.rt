@@ -22,7 +22,8 @@ pub fn midpoint<T: Average>(a: T, b: T) -> T
 /// Returns the index of the first item of a sorted slice that is not less than `least`, or the length of the
 /// slice if there is no such item. `lower_bound(&[1, 3, 3, 5], 3)` is `1`, and `lower_bound(&[1, 3], 4)` is `2`.
 ///
-/// May be called if `items` is sorted.
+/// The items have to be sorted. In plain Rust, if they are not, the result is some place, as that of
+/// `binary_search` of a slice is.
 pub fn lower_bound<T: Integer>(items: &[T], least: T) -> usize
     requires sorted { IsSortedByKey T.value int_cmp items.now }
     ensures to_length { result ≤ length items.now }

@@ -10,7 +10,9 @@ use num_integer::{Fits, Integer, mod_floor};
 /// Returns the offset rounded up to a multiple of the alignment, or `None` if that does not fit.
 /// `align_up(13, 8)` is `Some(16)`, `align_up(-13, 8)` is `Some(-8)`, and `align_up(250u8, 8)` is `None`.
 ///
-/// May be called if `alignment` is positive.
+/// # Panics
+///
+/// In plain Rust, if the alignment is not positive.
 pub fn align_up<T: Fits>(offset: T, alignment: T) -> Option<T>
     requires in_range { T.fits (T.value offset) × T.fits (T.value alignment) }
     requires positive { pos 0 <ℤ T.value alignment }
@@ -30,7 +32,9 @@ pub fn align_up<T: Fits>(offset: T, alignment: T) -> Option<T>
 /// Returns how many bytes to add to the offset to align it. `padding(13, 8)` is `3`, and `padding(-13, 8)` is
 /// `5`.
 ///
-/// May be called if `alignment` is positive.
+/// # Panics
+///
+/// In plain Rust, if the alignment is not positive.
 pub fn padding<T: Integer>(offset: T, alignment: T) -> T
     requires in_range { T.fits (T.value offset) × T.fits (T.value alignment) }
     requires positive { pos 0 <ℤ T.value alignment }

@@ -12,8 +12,12 @@ use num_integer::Fits;
 /// Returns the greatest common divisor of the numbers, the largest that divides each of them.
 /// `gcd_of(&[12, 18, 8])` is `2`, `gcd_of(&[-4, 0])` is `4`, and `gcd_of::<i64>(&[])` is `0`.
 ///
-/// May be called if the result fits. Else use [`checked::gcd_of`](crate::lists::checked::gcd_of), which returns
-/// `None` if it does not fit. In an unsigned type it always fits.
+/// [`checked::gcd_of`](crate::lists::checked::gcd_of) returns `None` if the result does not fit. In an unsigned
+/// type it always fits.
+///
+/// # Panics
+///
+/// In plain Rust, if the greatest common divisor does not fit.
 pub fn gcd_of<T: Fits>(numbers: &[T]) -> T
     requires in_range { All (λ x. T.fits (T.value x)) numbers.now }
     requires gcd_fits { GcdOfFits T.fits (map T.value numbers.now) }
@@ -27,8 +31,11 @@ pub fn gcd_of<T: Fits>(numbers: &[T]) -> T
 /// 0 if one of them is 0. `lcm_of(&[4, 6, 10])` is `60`, `lcm_of(&[-4, 0])` is `0`, and `lcm_of::<i64>(&[])` is
 /// `1`.
 ///
-/// May be called if the result fits. Else use [`checked::lcm_of`](crate::lists::checked::lcm_of), which returns
-/// `None` if it does not fit.
+/// [`checked::lcm_of`](crate::lists::checked::lcm_of) returns `None` if the result does not fit.
+///
+/// # Panics
+///
+/// In plain Rust, if the least common multiple does not fit.
 pub fn lcm_of<T: Fits>(numbers: &[T]) -> T
     requires in_range { All (λ x. T.fits (T.value x)) numbers.now }
     requires lcm_fits { EachFits T.fits (IsLeastCommonMultipleOf (map T.value numbers.now)) }

@@ -13,7 +13,9 @@ use num_integer::{Fits, Integer, checked, div_ceil, div_floor, div_mod_floor};
 /// Returns the smallest number of pages that hold all items. `pages(10, 4)` is `3`, and `pages(-9, 4)` is
 /// `-2`.
 ///
-/// May be called if `page_size` is positive.
+/// # Panics
+///
+/// In plain Rust, if the page size is not positive.
 pub fn pages<T: Integer>(items: T, page_size: T) -> T
     requires in_range { T.fits (T.value items) × T.fits (T.value page_size) }
     requires positive { pos 0 <ℤ T.value page_size }
@@ -28,7 +30,9 @@ pub fn pages<T: Integer>(items: T, page_size: T) -> T
 /// Returns the page of an item and the place of the item on that page, all counted from 0.
 /// `place_of(10, 4)` is `(2, 2)`, and `place_of(-1, 4)` is `(-1, 3)`.
 ///
-/// May be called if `page_size` is positive.
+/// # Panics
+///
+/// In plain Rust, if the page size is not positive.
 pub fn place_of<T: Integer>(item: T, page_size: T) -> (T, T)
     requires in_range { T.fits (T.value item) × T.fits (T.value page_size) }
     requires positive { pos 0 <ℤ T.value page_size }
@@ -45,7 +49,9 @@ pub fn place_of<T: Integer>(item: T, page_size: T) -> (T, T)
 /// `item_at(2, 2, 4)` is `Some(10)`, `item_at(-1, 3, 4)` is `Some(-1)`, and `item_at(64u8, 0, 4)` is
 /// `None`.
 ///
-/// May be called if `place` is at least 0 and below `page_size`.
+/// # Panics
+///
+/// In plain Rust, if the place is negative or not below the page size.
 pub fn item_at<T: Fits>(page: T, place: T, page_size: T) -> Option<T>
     requires in_range { T.fits (T.value page) × T.fits (T.value place) × T.fits (T.value page_size) }
     requires place_from_zero { pos 0 ≤ℤ T.value place }
@@ -73,7 +79,9 @@ pub fn item_at<T: Fits>(page: T, place: T, page_size: T) -> Option<T>
 /// from 0. Both results are `items` if no item is on the page. `range_of_page(2, 4, 10)` is `(8, 10)`, and
 /// `range_of_page(3, 4, 10)` is `(10, 10)`.
 ///
-/// May be called if `page_size` is positive and `items` is at least 0.
+/// # Panics
+///
+/// In plain Rust, if the page size is not positive, or if the number of items is negative.
 pub fn range_of_page<T: Integer>(page: T, page_size: T, items: T) -> (T, T)
     requires in_range { T.fits (T.value page) × T.fits (T.value page_size) × T.fits (T.value items) }
     requires positive { pos 0 <ℤ T.value page_size }
@@ -103,7 +111,10 @@ pub fn range_of_page<T: Integer>(page: T, page_size: T, items: T) -> (T, T)
 /// smaller by 1. `range_of_part(0, 3, 10)` is `(0, 4)`, `range_of_part(1, 3, 10)` is `(4, 7)`, and
 /// `range_of_part(2, 3, 10)` is `(7, 10)`.
 ///
-/// May be called if `part` is at least 0 and below `parts`, and `items` is at least 0.
+/// # Panics
+///
+/// In plain Rust, if the part is negative or not below the number of parts, or if the number of items is
+/// negative.
 pub fn range_of_part<T: Integer>(part: T, parts: T, items: T) -> (T, T)
     requires in_range { T.fits (T.value part) × T.fits (T.value parts) × T.fits (T.value items) }
     requires part_from_zero { pos 0 ≤ℤ T.value part }

@@ -27,7 +27,9 @@ pub fn is_square<T: Roots>(n: T) -> bool
 /// Returns `true` if some integer to the power of `degree` is the number. `is_power(-243, 5)` is `true`, and
 /// `is_power(244, 5)` is `false`.
 ///
-/// May be called if `degree` is not 0.
+/// # Panics
+///
+/// In plain Rust, if `degree` is 0.
 pub fn is_power<T: Roots + Pow<u32, Output = T>>(n: T, degree: u32) -> bool
     requires in_range { T.fits (T.value n) }
     requires degree { degree ≢ 0 }
@@ -56,7 +58,11 @@ pub fn is_perfect_power(n: u64) -> bool
 /// Returns the square root, rounded down, and what is left: the number minus the square of the root.
 /// `sqrt_rem(99)` is `(9, 18)`, and `sqrt_rem(81)` is `(9, 0)`.
 ///
-/// May be called if `n` is not negative; [`checked::sqrt_rem`] has no condition.
+/// [`checked::sqrt_rem`] returns `None` outside the domain.
+///
+/// # Panics
+///
+/// In plain Rust, if `n` is negative.
 pub fn sqrt_rem<T: Roots>(n: T) -> (T, T)
     requires in_range { T.fits (T.value n) }
     requires from_zero { pos 0 ≤ℤ T.value n }
@@ -73,7 +79,11 @@ pub fn sqrt_rem<T: Roots>(n: T) -> (T, T)
 /// Returns the integer logarithm of `number` to the base: the largest degree of a power of the base that is at
 /// most the number. `ilog(1000, 10)` is `3`, `ilog(999, 10)` is `2`, and `ilog(255u8, 2)` is `7`.
 ///
-/// May be called if `number` is at least 1 and `base` at least 2; [`checked::ilog`] has no condition.
+/// [`checked::ilog`] returns `None` outside the domain.
+///
+/// # Panics
+///
+/// In plain Rust, if the number is not positive, or if `base` is below 2.
 pub fn ilog<T: Integer>(number: T, base: T) -> u32
     requires in_range { T.fits (T.value number) × T.fits (T.value base) }
     requires positive { pos 0 <ℤ T.value number }

@@ -49,8 +49,12 @@ fn checked_rank(choice: &[u64]) -> Option<u64>
 /// Returns the rank of a choice of numbers below `n`: how many choices of the same length come before it. They
 /// are ordered by their last number, then by the one before it, and so on. `rank(&[0, 2, 3], 5)` is `2`.
 ///
-/// May be called if the numbers increase and are below `n`, which [`is_choice`] tests, and the rank fits a
-/// `u64`, which [`rank_fits`] tests. It fits if the number of all these choices does.
+/// [`is_choice`] and [`rank_fits`] test the domain. The rank fits a `u64` if the number of all these choices
+/// does.
+///
+/// # Panics
+///
+/// In plain Rust, if the numbers do not increase, or one is not below `n`, or if the rank does not fit.
 #[tactic(auto, using(crate::proofs::Choices::rank_steps))]
 pub fn rank(choice: &[u64], n: u64) -> u64
     requires choice { IsChoice n choice.now }
@@ -70,7 +74,9 @@ pub fn rank(choice: &[u64], n: u64) -> u64
 /// Fills the slice with the choice of numbers below `n` that has the rank.
 /// `{ let mut choice = [0; 3]; choice_of_rank(2, 5, &mut choice); choice }` is `[0, 2, 3]`.
 ///
-/// May be called if `rank` is below the number of these choices.
+/// # Panics
+///
+/// In plain Rust, if there are no more than `rank` choices.
 pub fn choice_of_rank(rank: u64, n: u64, choice: &mut [u64])
     requires rank { rank < coefficient n (length choice.old) }
     ensures choice { IsChoiceOfRank n (length choice.old) rank choice.new }
@@ -121,7 +127,11 @@ fn is_within(n: u64, k: u64, limit: u64) -> bool
 /// `{ let mut choice = [0, 1, 4]; (next_choice(&mut choice, 5), choice) }` is `(true, [0, 2, 4])`, and
 /// `next_choice(&mut [2, 3, 4], 5)` is `false`.
 ///
-/// May be called if the numbers increase and are below `n`, which [`is_choice`] tests.
+/// [`is_choice`] tests the domain.
+///
+/// # Panics
+///
+/// In plain Rust, if the numbers do not increase, or one is not below `n`.
 #[tactic(auto, using(crate::proofs::Choices::last_rank))]
 pub fn next_choice(choice: &mut [u64], n: u64) -> bool
     requires choice { IsChoice n choice.old }

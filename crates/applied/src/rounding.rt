@@ -13,7 +13,11 @@ use num_integer::{Integer, div_mod_floor};
 /// Returns the quotient rounded to the nearest integer, and a half away from zero. `div_round(8, 3)` is `3`,
 /// `div_round(5, 2)` is `3`, and `div_round(-5, 2)` is `-3`.
 ///
-/// May be called if `Fits::quotient_fits` is true; [`checked::div_round`] has no condition.
+/// [`Fits::quotient_fits`] tests the domain, and [`checked::div_round`] returns `None` outside it.
+///
+/// # Panics
+///
+/// In plain Rust, if `y` is 0, or if the quotient does not fit.
 pub fn div_round<T: Integer>(x: T, y: T) -> T
     requires in_range { T.fits (T.value x) × T.fits (T.value y) }
     requires nonzero { T.value y ≢ pos 0 }
@@ -28,7 +32,11 @@ pub fn div_round<T: Integer>(x: T, y: T) -> T
 /// Returns the quotient rounded to the nearest integer, and a half to the even one. `div_round_even(8, 3)` is
 /// `3`, `div_round_even(5, 2)` is `2`, and `div_round_even(7, 2)` is `4`.
 ///
-/// May be called if `Fits::quotient_fits` is true; [`checked::div_round_even`] has no condition.
+/// [`Fits::quotient_fits`] tests the domain, and [`checked::div_round_even`] returns `None` outside it.
+///
+/// # Panics
+///
+/// In plain Rust, if `y` is 0, or if the quotient does not fit.
 pub fn div_round_even<T: Integer>(x: T, y: T) -> T
     requires in_range { T.fits (T.value x) × T.fits (T.value y) }
     requires nonzero { T.value y ≢ pos 0 }

@@ -17,7 +17,9 @@ pub type Schedule<T> = (T, T);
 /// Returns the first time, not before `now`, that is in both schedules. `next_meeting(10, (1, 4), (3, 6))` is
 /// `CommonSolution::At(21)`, and `next_meeting(0, (0, 2), (1, 2))` is `CommonSolution::Never`.
 ///
-/// May be called if both periods are positive.
+/// # Panics
+///
+/// In plain Rust, if a period is not positive.
 pub fn next_meeting<T: Modular + Fits>(now: T, a: Schedule<T>, b: Schedule<T>) -> CommonSolution<T>
     requires now_in_range { T.fits (T.value now) }
     requires a_in_range { T.fits (T.value a.0) × T.fits (T.value a.1) }
@@ -34,8 +36,11 @@ pub fn next_meeting<T: Modular + Fits>(now: T, a: Schedule<T>, b: Schedule<T>) -
 /// Returns the first time, not before `now`, that is in all schedules. The product of the periods may not fit.
 /// `next_meeting_of(10, &[(1, 4), (3, 6), (0, 7)])` is `CommonSolution::At(21)`.
 ///
-/// May be called if each period is positive. In Rattle, a function that passes on a slice of its own
-/// parameters asks its callers for `in_range` too.
+/// In Rattle, a function that passes on a slice of its own parameters asks its callers for `in_range` too.
+///
+/// # Panics
+///
+/// In plain Rust, if a period is not positive.
 pub fn next_meeting_of<T: Modular + Fits>(now: T, schedules: &[Schedule<T>]) -> CommonSolution<T>
     requires now_in_range { T.fits (T.value now) }
     requires in_range { All (λ s. T.fits (T.value s.0) × T.fits (T.value s.1)) schedules.now }

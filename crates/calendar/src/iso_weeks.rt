@@ -135,8 +135,9 @@ fn days_to_thursday_of_week(year: i64, week: u8) -> i64
     days_to_first_thursday(year) + 7 * (i64::from(week) - 1)
 }
 
-/// Returns the number of days from 1 January to the first Thursday of the year. The contract counts from
-/// 1970-01-01, day 0, which is a Thursday.
+/// Returns the number of days from 1 January to the first Thursday of the year.
+///
+/// In Rattle, the contract counts from 1970-01-01, day 0, which is a Thursday.
 fn days_to_first_thursday(year: i64) -> i64
     ensures { IsRemainder IsFloored (pos 0 -ℤ first_day year) (pos 7) result }
 {

@@ -9,7 +9,11 @@ use crate::{days_in_year, is_leap_year};
 
 /// Returns how many days the month has. `days_in_month(1900, 2)` is `28`.
 ///
-/// May be called if `month` is from 1 (January) to 12.
+/// Month 1 is January.
+///
+/// # Panics
+///
+/// In plain Rust, if `month` is 0 or above 12.
 pub fn days_in_month(year: i64, month: u8) -> u8
     requires from_one { 1 ≤ month }
     requires to_twelve { month ≤ 12 }

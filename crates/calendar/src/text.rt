@@ -60,6 +60,10 @@ fn write_year<W: fmt::Write>(year: i64, f: &mut fmt::Formatter<W>) -> fmt::Resul
 
 /// Parses exactly what `Display` prints. `"2026-11-23".parse::<Date>().ok()` is `Date::new(2026, 11, 23)`, and
 /// `"2026-1-1".parse::<Date>()` is `Err(DateError)`.
+///
+/// # Errors
+///
+/// - [`DateError`] if the string is not the one that `Display` writes of a date.
 impl FromStr for Date {
     type Err = DateError;
 

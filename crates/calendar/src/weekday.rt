@@ -118,6 +118,10 @@ impl fmt::Display for Weekday {
 
 /// Parses exactly the names that `Display` prints. `"Monday".parse::<Weekday>()` is
 /// `Ok(Weekday::Monday)`.
+///
+/// # Errors
+///
+/// - [`WeekdayError`] if the string is not the English name of a day of the week.
 impl FromStr for Weekday {
     type Err = WeekdayError;
 

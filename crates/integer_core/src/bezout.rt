@@ -12,7 +12,7 @@ use crate::Integer;
 use crate::operators::{difference, is_negative, is_zero, negated, one, product, zero};
 
 /// A greatest common divisor with Bezout's coefficients: for the operands `a` and `b`, `a * x + b * y`
-/// equals `gcd`. For 240 and 46, `gcd` is 2, `x` is -9 and `y` is 47.
+/// equals `gcd`. `240.extended_gcd(&46)` is `ExtendedGcd { gcd: 2, x: -9, y: 47 }`.
 #[derive(Debug, Clone, Copy, PartialEq, Eq)]
 pub struct ExtendedGcd<A> {
     /// The greatest common divisor. For 240 and 46 it is 2.
@@ -114,7 +114,10 @@ fn last_row<T: Integer>(a: T, b: T) -> (Row<T>, u32)
 /// `(ExtendedGcd { gcd: 1, x: 5, y: -3 }, 5)`. The bound on the iterations is Lamé's (1844); 8 and 13 reach
 /// it.
 ///
-/// May be called if [`Integer::extended_gcd`] may.
+/// # Panics
+///
+/// In plain Rust, if the greatest common divisor does not fit, or if the type is unsigned and neither number
+/// divides the other.
 pub fn extended_gcd_counted<T: Integer>(a: T, b: T) -> (ExtendedGcd<T>, u32)
     requires a_in_range { T.fits (T.value a) }
     requires b_in_range { T.fits (T.value b) }

@@ -14,7 +14,11 @@ pub trait GcdCounted: Integer {
     /// number is at most the sum of both bit lengths, and 0 if an operand is 0 or the smallest number of
     /// its type.
     ///
-    /// May be called if [`Fits::gcd_fits`] is true.
+    /// [`Fits::gcd_fits`] tests the domain.
+    ///
+    /// # Panics
+    ///
+    /// In plain Rust, if the greatest common divisor does not fit.
     fn gcd_counted(&self, other: &Self) -> (Self, u32)
         requires self_in_range { Self.fits (Self.value self.now) }
         requires other_in_range { Self.fits (Self.value other.now) }

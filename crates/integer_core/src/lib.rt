@@ -36,7 +36,11 @@ pub trait Integer: Copy + Num + PartialOrd + Ord + Eq {
     /// Returns the quotient rounded toward zero, and its remainder. `(-8).div_rem(&3)` is
     /// `(-2, -2)`.
     ///
-    /// May be called if [`Fits::quotient_fits`] is true; [`checked::div_rem`] has no condition.
+    /// [`Fits::quotient_fits`] tests the domain, and [`checked::div_rem`] returns `None` outside it.
+    ///
+    /// # Panics
+    ///
+    /// In plain Rust, if `other` is 0, or if the quotient does not fit.
     fn div_rem(&self, other: &Self) -> (Self, Self)
         requires self_in_range { Self.fits (Self.value self.now) }
         requires other_in_range { Self.fits (Self.value other.now) }
@@ -49,7 +53,11 @@ pub trait Integer: Copy + Num + PartialOrd + Ord + Eq {
 
     /// Returns the quotient rounded down. `(-8).div_floor(&3)` is `-3`.
     ///
-    /// May be called if [`Fits::quotient_fits`] is true; [`checked::div_floor`] has no condition.
+    /// [`Fits::quotient_fits`] tests the domain, and [`checked::div_floor`] returns `None` outside it.
+    ///
+    /// # Panics
+    ///
+    /// In plain Rust, if `other` is 0, or if the quotient does not fit.
     fn div_floor(&self, other: &Self) -> Self
         requires self_in_range { Self.fits (Self.value self.now) }
         requires other_in_range { Self.fits (Self.value other.now) }
@@ -63,7 +71,11 @@ pub trait Integer: Copy + Num + PartialOrd + Ord + Eq {
     /// Returns the remainder of the quotient rounded down, which is 0 or has the sign of `other`.
     /// `(-8).mod_floor(&3)` is `1`.
     ///
-    /// May be called if `other` is not 0; [`checked::mod_floor`] has no condition.
+    /// [`checked::mod_floor`] returns `None` outside the domain.
+    ///
+    /// # Panics
+    ///
+    /// In plain Rust, if `other` is 0.
     fn mod_floor(&self, other: &Self) -> Self
         requires self_in_range { Self.fits (Self.value self.now) }
         requires other_in_range { Self.fits (Self.value other.now) }
@@ -74,7 +86,12 @@ pub trait Integer: Copy + Num + PartialOrd + Ord + Eq {
 
     /// Returns the quotient rounded down, and its remainder. `(-8).div_mod_floor(&3)` is `(-3, 1)`.
     ///
-    /// May be called if [`Fits::quotient_fits`] is true; [`checked::div_mod_floor`] has no condition.
+    /// [`Fits::quotient_fits`] tests the domain, and [`checked::div_mod_floor`] returns `None` outside
+    /// it.
+    ///
+    /// # Panics
+    ///
+    /// In plain Rust, if `other` is 0, or if the quotient does not fit.
     fn div_mod_floor(&self, other: &Self) -> (Self, Self)
         requires self_in_range { Self.fits (Self.value self.now) }
         requires other_in_range { Self.fits (Self.value other.now) }
@@ -90,7 +107,11 @@ pub trait Integer: Copy + Num + PartialOrd + Ord + Eq {
 
     /// Returns the quotient rounded up. `8.div_ceil(&3)` is `3`.
     ///
-    /// May be called if [`Fits::quotient_fits`] is true; [`checked::div_ceil`] has no condition.
+    /// [`Fits::quotient_fits`] tests the domain, and [`checked::div_ceil`] returns `None` outside it.
+    ///
+    /// # Panics
+    ///
+    /// In plain Rust, if `other` is 0, or if the quotient does not fit.
     fn div_ceil(&self, other: &Self) -> Self
         requires self_in_range { Self.fits (Self.value self.now) }
         requires other_in_range { Self.fits (Self.value other.now) }
@@ -108,8 +129,12 @@ pub trait Integer: Copy + Num + PartialOrd + Ord + Eq {
     /// Returns the quotient rounded up, times `other`. `23.next_multiple_of(&8)` is `24`, and
     /// `23.next_multiple_of(&-8)` is `16`.
     ///
-    /// May be called if [`Fits::next_multiple_fits`] is true; [`checked::next_multiple_of`] has no
-    /// condition.
+    /// [`Fits::next_multiple_fits`] tests the domain, and [`checked::next_multiple_of`] returns `None`
+    /// outside it.
+    ///
+    /// # Panics
+    ///
+    /// In plain Rust, if `other` is 0, or if the multiple does not fit.
     fn next_multiple_of(&self, other: &Self) -> Self
         requires self_in_range { Self.fits (Self.value self.now) }
         requires other_in_range { Self.fits (Self.value other.now) }
@@ -131,8 +156,12 @@ pub trait Integer: Copy + Num + PartialOrd + Ord + Eq {
     /// Returns the quotient rounded down, times `other`. `23.prev_multiple_of(&8)` is `16`, and
     /// `23.prev_multiple_of(&-8)` is `24`.
     ///
-    /// May be called if [`Fits::prev_multiple_fits`] is true; [`checked::prev_multiple_of`] has no
-    /// condition.
+    /// [`Fits::prev_multiple_fits`] tests the domain, and [`checked::prev_multiple_of`] returns `None`
+    /// outside it.
+    ///
+    /// # Panics
+    ///
+    /// In plain Rust, if `other` is 0, or if the multiple does not fit.
     #[tactic(auto, using(crate::proofs::Quotients::previous))]
     fn prev_multiple_of(&self, other: &Self) -> Self
         requires self_in_range { Self.fits (Self.value self.now) }
@@ -174,10 +203,21 @@ pub trait Integer: Copy + Num + PartialOrd + Ord + Eq {
         requires { Self.fits (Self.value self.now) }
         ensures { IsTrue result ↔ ¬ (IsEven (Self.value self.now)) };
 
-    /// Adds one. `x.inc()` turns an `x` of `41` into `42`.
+    /// Adds one.
     ///
-    /// May be called if `self` is below the largest number of the type; [`checked::inc`] has no
-    /// condition.
+    /// [`checked::inc`] returns `None` outside the domain.
+    ///
+    /// # Examples
+    ///
+    /// ```
+    /// let mut x = 41;
+    /// x.inc();
+    /// assert_eq!(x, 42);
+    /// ```
+    ///
+    /// # Panics
+    ///
+    /// In plain Rust, if the result does not fit.
     fn inc(&mut self)
         requires in_range { Self.fits (Self.value self.old) }
         requires sum_fits { Self.fits (Self.value self.old +ℤ pos 1) }
@@ -187,10 +227,21 @@ pub trait Integer: Copy + Num + PartialOrd + Ord + Eq {
         *self = successor(*self);
     }
 
-    /// Subtracts one. `x.dec()` turns an `x` of `43` into `42`.
+    /// Subtracts one.
     ///
-    /// May be called if `self` is above the smallest number of the type; [`checked::dec`] has no
-    /// condition.
+    /// [`checked::dec`] returns `None` outside the domain.
+    ///
+    /// # Examples
+    ///
+    /// ```
+    /// let mut x = 43;
+    /// x.dec();
+    /// assert_eq!(x, 42);
+    /// ```
+    ///
+    /// # Panics
+    ///
+    /// In plain Rust, if the result does not fit.
     fn dec(&mut self)
         requires in_range { Self.fits (Self.value self.old) }
         requires difference_fits { Self.fits (Self.value self.old -ℤ pos 1) }
@@ -203,7 +254,11 @@ pub trait Integer: Copy + Num + PartialOrd + Ord + Eq {
     /// Returns the greatest common divisor, which is never negative. `56.gcd(&42)` is `14`, and
     /// `0.gcd(&0)` is `0`.
     ///
-    /// May be called if [`Fits::gcd_fits`] is true; [`checked::gcd`] has no condition.
+    /// [`Fits::gcd_fits`] tests the domain, and [`checked::gcd`] returns `None` outside it.
+    ///
+    /// # Panics
+    ///
+    /// In plain Rust, if the greatest common divisor does not fit.
     fn gcd(&self, other: &Self) -> Self
         requires self_in_range { Self.fits (Self.value self.now) }
         requires other_in_range { Self.fits (Self.value other.now) }
@@ -215,7 +270,11 @@ pub trait Integer: Copy + Num + PartialOrd + Ord + Eq {
     /// Returns the least common multiple, which is never negative. `7.lcm(&3)` is `21`, and
     /// `7.lcm(&0)` is `0`.
     ///
-    /// May be called if [`Fits::lcm_fits`] is true; [`checked::lcm`] has no condition.
+    /// [`Fits::lcm_fits`] tests the domain, and [`checked::lcm`] returns `None` outside it.
+    ///
+    /// # Panics
+    ///
+    /// In plain Rust, if the least common multiple does not fit.
     fn lcm(&self, other: &Self) -> Self
         requires self_in_range { Self.fits (Self.value self.now) }
         requires other_in_range { Self.fits (Self.value other.now) }
@@ -228,8 +287,12 @@ pub trait Integer: Copy + Num + PartialOrd + Ord + Eq {
     /// Returns the greatest common divisor and the least common multiple. `10.gcd_lcm(&4)` is
     /// `(2, 20)`.
     ///
-    /// May be called if [`Fits::gcd_fits`] and [`Fits::lcm_fits`] are true; [`checked::gcd_lcm`] has no
-    /// condition.
+    /// [`Fits::gcd_fits`] and [`Fits::lcm_fits`] test the domain, and [`checked::gcd_lcm`] returns
+    /// `None` outside it.
+    ///
+    /// # Panics
+    ///
+    /// In plain Rust, if the greatest common divisor or the least common multiple does not fit.
     fn gcd_lcm(&self, other: &Self) -> (Self, Self)
         requires self_in_range { Self.fits (Self.value self.now) }
         requires other_in_range { Self.fits (Self.value other.now) }
@@ -250,8 +313,13 @@ pub trait Integer: Copy + Num + PartialOrd + Ord + Eq {
     /// is `ExtendedGcd { gcd: 2, x: -9, y: 47 }`, and `5.extended_gcd(&0)` is
     /// `ExtendedGcd { gcd: 5, x: 1, y: 0 }`.
     ///
-    /// May be called if [`Fits::gcd_fits`] is true; at an unsigned type one operand must also divide
-    /// the other. [`checked::extended_gcd`] has no condition.
+    /// At a signed type [`Fits::gcd_fits`] tests the domain; [`checked::extended_gcd`] returns `None`
+    /// outside it.
+    ///
+    /// # Panics
+    ///
+    /// In plain Rust, if the greatest common divisor does not fit, or if the type is unsigned and
+    /// neither number divides the other.
     final fn extended_gcd(&self, other: &Self) -> ExtendedGcd<Self>
         requires self_in_range { Self.fits (Self.value self.now) }
         requires other_in_range { Self.fits (Self.value other.now) }
@@ -268,8 +336,12 @@ pub trait Integer: Copy + Num + PartialOrd + Ord + Eq {
     /// Returns [`Integer::extended_gcd`] and [`Integer::lcm`]. `10.extended_gcd_lcm(&4)` is
     /// `(ExtendedGcd { gcd: 2, x: 1, y: -2 }, 20)`.
     ///
-    /// May be called if [`Fits::gcd_fits`] and [`Fits::lcm_fits`] are true;
-    /// [`checked::extended_gcd_lcm`] has no condition.
+    /// [`Fits::gcd_fits`] and [`Fits::lcm_fits`] test the domain, and [`checked::extended_gcd_lcm`]
+    /// returns `None` outside it.
+    ///
+    /// # Panics
+    ///
+    /// In plain Rust, if the greatest common divisor or the least common multiple does not fit.
     final fn extended_gcd_lcm(&self, other: &Self) -> (ExtendedGcd<Self>, Self)
     where
         Self: Signed,
@@ -298,7 +370,11 @@ pub trait Integer: Copy + Num + PartialOrd + Ord + Eq {
 
 /// Returns the quotient rounded toward zero, and its remainder. `div_rem(-8, 3)` is `(-2, -2)`.
 ///
-/// May be called if [`Integer::div_rem`] may; [`checked::div_rem`] has no condition.
+/// [`checked::div_rem`] returns `None` outside the domain.
+///
+/// # Panics
+///
+/// In plain Rust, if `y` is 0, or if the quotient does not fit.
 pub fn div_rem<T: Integer>(x: T, y: T) -> (T, T)
     requires x_in_range { T.fits (T.value x) }
     requires y_in_range { T.fits (T.value y) }
@@ -312,7 +388,11 @@ pub fn div_rem<T: Integer>(x: T, y: T) -> (T, T)
 
 /// Returns the quotient rounded down. `div_floor(-8, 3)` is `-3`.
 ///
-/// May be called if [`Integer::div_floor`] may; [`checked::div_floor`] has no condition.
+/// [`checked::div_floor`] returns `None` outside the domain.
+///
+/// # Panics
+///
+/// In plain Rust, if `y` is 0, or if the quotient does not fit.
 pub fn div_floor<T: Integer>(x: T, y: T) -> T
     requires x_in_range { T.fits (T.value x) }
     requires y_in_range { T.fits (T.value y) }
@@ -326,7 +406,11 @@ pub fn div_floor<T: Integer>(x: T, y: T) -> T
 
 /// Returns the remainder of the quotient rounded down. `mod_floor(-8, 3)` is `1`.
 ///
-/// May be called if [`Integer::mod_floor`] may; [`checked::mod_floor`] has no condition.
+/// [`checked::mod_floor`] returns `None` outside the domain.
+///
+/// # Panics
+///
+/// In plain Rust, if `y` is 0.
 pub fn mod_floor<T: Integer>(x: T, y: T) -> T
     requires x_in_range { T.fits (T.value x) }
     requires y_in_range { T.fits (T.value y) }
@@ -339,7 +423,11 @@ pub fn mod_floor<T: Integer>(x: T, y: T) -> T
 
 /// Returns the quotient rounded down, and its remainder. `div_mod_floor(-8, 3)` is `(-3, 1)`.
 ///
-/// May be called if [`Integer::div_mod_floor`] may; [`checked::div_mod_floor`] has no condition.
+/// [`checked::div_mod_floor`] returns `None` outside the domain.
+///
+/// # Panics
+///
+/// In plain Rust, if `y` is 0, or if the quotient does not fit.
 pub fn div_mod_floor<T: Integer>(x: T, y: T) -> (T, T)
     requires x_in_range { T.fits (T.value x) }
     requires y_in_range { T.fits (T.value y) }
@@ -353,7 +441,11 @@ pub fn div_mod_floor<T: Integer>(x: T, y: T) -> (T, T)
 
 /// Returns the quotient rounded up. `div_ceil(8, 3)` is `3`.
 ///
-/// May be called if [`Integer::div_ceil`] may; [`checked::div_ceil`] has no condition.
+/// [`checked::div_ceil`] returns `None` outside the domain.
+///
+/// # Panics
+///
+/// In plain Rust, if `y` is 0, or if the quotient does not fit.
 pub fn div_ceil<T: Integer>(x: T, y: T) -> T
     requires x_in_range { T.fits (T.value x) }
     requires y_in_range { T.fits (T.value y) }
@@ -367,7 +459,11 @@ pub fn div_ceil<T: Integer>(x: T, y: T) -> T
 
 /// Returns the greatest common divisor. `gcd(56, 42)` is `14`.
 ///
-/// May be called if [`Integer::gcd`] may; [`checked::gcd`] has no condition.
+/// [`checked::gcd`] returns `None` outside the domain.
+///
+/// # Panics
+///
+/// In plain Rust, if the greatest common divisor does not fit.
 pub fn gcd<T: Integer>(x: T, y: T) -> T
     requires x_in_range { T.fits (T.value x) }
     requires y_in_range { T.fits (T.value y) }
@@ -380,7 +476,11 @@ pub fn gcd<T: Integer>(x: T, y: T) -> T
 
 /// Returns the least common multiple. `lcm(7, 3)` is `21`.
 ///
-/// May be called if [`Integer::lcm`] may; [`checked::lcm`] has no condition.
+/// [`checked::lcm`] returns `None` outside the domain.
+///
+/// # Panics
+///
+/// In plain Rust, if the least common multiple does not fit.
 pub fn lcm<T: Integer>(x: T, y: T) -> T
     requires x_in_range { T.fits (T.value x) }
     requires y_in_range { T.fits (T.value y) }
@@ -394,7 +494,11 @@ pub fn lcm<T: Integer>(x: T, y: T) -> T
 /// Returns the greatest common divisor and the least common multiple. `gcd_lcm(10, 4)` is
 /// `(2, 20)`.
 ///
-/// May be called if [`Integer::gcd_lcm`] may; [`checked::gcd_lcm`] has no condition.
+/// [`checked::gcd_lcm`] returns `None` outside the domain.
+///
+/// # Panics
+///
+/// In plain Rust, if the greatest common divisor or the least common multiple does not fit.
 pub fn gcd_lcm<T: Integer>(x: T, y: T) -> (T, T)
     requires x_in_range { T.fits (T.value x) }
     requires y_in_range { T.fits (T.value y) }

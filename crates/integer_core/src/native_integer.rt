@@ -9,6 +9,16 @@ use num_traits::PrimInt;
 
 /// A native integer type: `i8` to `i128`, `u8` to `u128`, `isize` or `usize`. The trait is sealed: no other
 /// crate can implement it.
+///
+/// # Examples
+///
+/// ```
+/// fn is_power_of_two<T: NativeInteger>(x: T) -> bool {
+///     x > T::zero() && x.count_ones() == 1
+/// }
+///
+/// assert!(is_power_of_two(64u8) && !is_power_of_two(i8::MIN));
+/// ```
 pub trait NativeInteger: Integer + Native + PrimInt {}
 
 impl<T: Native + PrimInt> NativeInteger for T {}

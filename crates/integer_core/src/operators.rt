@@ -76,6 +76,10 @@ pub fn is_minus_one<T: Copy + Num + PartialOrd>(a: T) -> bool
 }
 
 /// Returns `a + b`. `sum(2, 3)` is `5`.
+///
+/// # Panics
+///
+/// In plain Rust, if the result does not fit.
 pub fn sum<T: Num>(a: T, b: T) -> T
     requires exact { T.exact }
     requires sum_fits { T.fits (T.value a +ℤ T.value b) }
@@ -86,6 +90,10 @@ pub fn sum<T: Num>(a: T, b: T) -> T
 }
 
 /// Returns `a - b`. `difference(2, 3)` is `-1`.
+///
+/// # Panics
+///
+/// In plain Rust, if the result does not fit.
 pub fn difference<T: Num>(a: T, b: T) -> T
     requires exact { T.exact }
     requires difference_fits { T.fits (T.value a -ℤ T.value b) }
@@ -96,6 +104,10 @@ pub fn difference<T: Num>(a: T, b: T) -> T
 }
 
 /// Returns `a * b`. `product(2, 3)` is `6`.
+///
+/// # Panics
+///
+/// In plain Rust, if the result does not fit.
 pub fn product<T: Num>(a: T, b: T) -> T
     requires exact { T.exact }
     requires product_fits { T.fits (T.value a *ℤ T.value b) }
@@ -106,6 +118,10 @@ pub fn product<T: Num>(a: T, b: T) -> T
 }
 
 /// Returns `a / b`, rounded toward zero. `quotient(-8, 3)` is `-2`.
+///
+/// # Panics
+///
+/// In plain Rust, if `b` is 0, or if the quotient does not fit.
 pub fn quotient<T: Num>(a: T, b: T) -> T
     requires exact { T.exact }
     requires nonzero { T.value b ≢ pos 0 }
@@ -118,6 +134,10 @@ pub fn quotient<T: Num>(a: T, b: T) -> T
 }
 
 /// Returns `a % b`, the remainder of [`quotient`]. `remainder(-8, 3)` is `-2`.
+///
+/// # Panics
+///
+/// In plain Rust, if `b` is 0, or if the quotient does not fit.
 pub fn remainder<T: Num>(a: T, b: T) -> T
     requires exact { T.exact }
     requires nonzero { T.value b ≢ pos 0 }
@@ -130,6 +150,10 @@ pub fn remainder<T: Num>(a: T, b: T) -> T
 }
 
 /// Returns `a + 1`. `successor(41)` is `42`.
+///
+/// # Panics
+///
+/// In plain Rust, if the result does not fit.
 pub fn successor<T: Num>(a: T) -> T
     requires exact { T.exact }
     requires sum_fits { T.fits (T.value a +ℤ pos 1) }
@@ -140,6 +164,10 @@ pub fn successor<T: Num>(a: T) -> T
 }
 
 /// Returns `a - 1`. `predecessor(43)` is `42`.
+///
+/// # Panics
+///
+/// In plain Rust, if the result does not fit.
 pub fn predecessor<T: Num>(a: T) -> T
     requires exact { T.exact }
     requires difference_fits { T.fits (T.value a -ℤ pos 1) }
@@ -150,6 +178,10 @@ pub fn predecessor<T: Num>(a: T) -> T
 }
 
 /// Returns `-a`. `negated(7)` is `-7`.
+///
+/// # Panics
+///
+/// In plain Rust, if the result does not fit.
 pub fn negated<T: Num>(a: T) -> T
     requires exact { T.exact }
     requires negation_fits { T.fits (neg_ℤ (T.value a)) }

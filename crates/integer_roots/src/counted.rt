@@ -12,7 +12,9 @@ pub trait SqrtCounted: Roots {
     /// Returns the square root and the number of iterations, which is at most five. `99.sqrt_counted()` is
     /// `(9, 2)`: the guesses are 8, 10 and 9.
     ///
-    /// May be called if `self` is not negative.
+    /// # Panics
+    ///
+    /// In plain Rust, if the number is negative.
     fn sqrt_counted(&self) -> (Self, u32)
         requires in_range { Self.fits (Self.value self.now) }
         requires from_zero { pos 0 ≤ℤ Self.value self.now }

@@ -12,7 +12,11 @@ use integer_core::{Integer, NativeInteger};
 pub trait Roots: Integer {
     /// Returns the root of degree `n`, rounded toward zero. `12345.nth_root(4)` is `10`.
     ///
-    /// May be called if `n` is not 0, and `n` is odd or `self` is not negative; [`checked::nth_root`] has no condition.
+    /// [`checked::nth_root`] returns `None` outside the domain.
+    ///
+    /// # Panics
+    ///
+    /// In plain Rust, if `n` is 0, or if `n` is even and the number is negative.
     fn nth_root(&self, n: u32) -> Self
         requires in_range { Self.fits (Self.value self.now) }
         requires degree { n ≢ 0 }
@@ -22,7 +26,11 @@ pub trait Roots: Integer {
 
     /// Returns the square root, rounded down. `99.sqrt()` is `9`.
     ///
-    /// May be called if `self` is not negative; [`checked::sqrt`] has no condition.
+    /// [`checked::sqrt`] returns `None` outside the domain.
+    ///
+    /// # Panics
+    ///
+    /// In plain Rust, if the number is negative.
     fn sqrt(&self) -> Self
         requires in_range { Self.fits (Self.value self.now) }
         requires from_zero { pos 0 ≤ℤ Self.value self.now }
@@ -47,7 +55,11 @@ pub trait Roots: Integer {
 
 /// Returns the root of degree `n`, rounded toward zero. `nth_root(12345, 4)` is `10`.
 ///
-/// May be called if [`Roots::nth_root`] may; [`checked::nth_root`] has no condition.
+/// [`checked::nth_root`] returns `None` outside the domain.
+///
+/// # Panics
+///
+/// In plain Rust, if `n` is 0, or if `n` is even and the number is negative.
 pub fn nth_root<T: Roots>(x: T, n: u32) -> T
     requires x_in_range { T.fits (T.value x) }
     requires degree { n ≢ 0 }
@@ -60,7 +72,11 @@ pub fn nth_root<T: Roots>(x: T, n: u32) -> T
 
 /// Returns the square root, rounded down. `sqrt(99)` is `9`.
 ///
-/// May be called if [`Roots::sqrt`] may; [`checked::sqrt`] has no condition.
+/// [`checked::sqrt`] returns `None` outside the domain.
+///
+/// # Panics
+///
+/// In plain Rust, if the number is negative.
 pub fn sqrt<T: Roots>(x: T) -> T
     requires x_in_range { T.fits (T.value x) }
     requires from_zero { pos 0 ≤ℤ T.value x }

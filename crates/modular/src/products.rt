@@ -17,7 +17,9 @@ pub trait Modular: Integer {
     /// Returns `self * other` modulo `modulus`. The product need not fit the type.
     /// `4.product_modulo(&5, &7)` is `6`.
     ///
-    /// `modulus` must be positive.
+    /// # Panics
+    ///
+    /// In plain Rust, if the modulus is not positive.
     fn product_modulo(&self, other: &Self, modulus: &Self) -> Self
         requires in_range { Self.fits (Self.value self.now) × Self.fits (Self.value other.now)
             × Self.fits (Self.value modulus.now) }
@@ -37,7 +39,9 @@ pub trait Modular: Integer {
     /// positive, the turns are its binary logarithm, rounded down.
     /// `3.power_modulo_counted(4, &7)` is `(4, 2)`, and `3.power_modulo_counted(0, &7)` is `(1, 0)`.
     ///
-    /// `modulus` must be positive.
+    /// # Panics
+    ///
+    /// In plain Rust, if the modulus is not positive.
     fn power_modulo_counted(&self, exponent: u128, modulus: &Self) -> (Self, u32)
         requires in_range { Self.fits (Self.value self.now) × Self.fits (Self.value modulus.now) }
         requires positive { pos 0 <ℤ Self.value modulus.now }
@@ -66,7 +70,11 @@ pub trait Modular: Integer {
 /// Returns `a * b` modulo `m`, by [`Modular::product_modulo`]. The product need not fit the type.
 /// `product_modulo(4, 5, 7)` is `6`, and `product_modulo(200u8, 200, 201)` is `1`.
 ///
-/// `m` must be positive.
+/// [`checked::product_modulo`] returns `None` outside the domain.
+///
+/// # Panics
+///
+/// In plain Rust, if the modulus is not positive.
 pub fn product_modulo<T: Modular>(a: T, b: T, m: T) -> T
     requires in_range { T.fits (T.value a) × T.fits (T.value b) × T.fits (T.value m) }
     requires positive { pos 0 <ℤ T.value m }
@@ -79,7 +87,11 @@ pub fn product_modulo<T: Modular>(a: T, b: T, m: T) -> T
 /// Returns `a` to the power `exponent` modulo `m`, by squaring. `power_modulo(3, 4, 7)` is `4`, and
 /// `power_modulo(3, 0, 7)` is `1`.
 ///
-/// `m` must be positive.
+/// [`checked::power_modulo`] returns `None` outside the domain.
+///
+/// # Panics
+///
+/// In plain Rust, if the modulus is not positive.
 pub fn power_modulo<T: Modular>(a: T, exponent: u128, m: T) -> T
     requires in_range { T.fits (T.value a) × T.fits (T.value m) }
     requires positive { pos 0 <ℤ T.value m }
@@ -92,7 +104,9 @@ pub fn power_modulo<T: Modular>(a: T, exponent: u128, m: T) -> T
 /// Returns [`power_modulo`] and the number of turns of its loop, by [`Modular::power_modulo_counted`].
 /// `power_modulo_counted(3, 4, 7)` is `(4, 2)`, and `power_modulo_counted(3, 0, 7)` is `(1, 0)`.
 ///
-/// `m` must be positive.
+/// # Panics
+///
+/// In plain Rust, if the modulus is not positive.
 pub fn power_modulo_counted<T: Modular>(a: T, exponent: u128, m: T) -> (T, u32)
     requires in_range { T.fits (T.value a) × T.fits (T.value m) }
     requires positive { pos 0 <ℤ T.value m }

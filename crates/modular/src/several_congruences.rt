@@ -19,8 +19,13 @@ use num_integer::{Fits, Integer, checked};
 /// No product of the moduli has to fit. `next_common_solution_of(10, &[(1, 4), (3, 6), (0, 7)])` is
 /// `CommonSolution::At(21)`.
 ///
-/// Each modulus must be positive. In Rattle, a function that passes on a slice of its own parameters asks its callers
-/// for `in_range` too.
+/// [`checked::next_common_solution_of`] returns `None` outside the domain.
+///
+/// In Rattle, a function that passes on a slice of its own parameters asks its callers for `in_range` too.
+///
+/// # Panics
+///
+/// In plain Rust, if a modulus is not positive.
 pub fn next_common_solution_of<T: Modular + Fits>(
     from: T,
     congruences: &[(T, T)],

@@ -92,7 +92,9 @@ pub(crate) fn nearer_end<T: Integer>(n: T, k: T) -> T
 /// Returns [`binomial`] and the number of turns of its loop. `binomial_counted(9, 4)` is `(126, 4)`,
 /// and `binomial_counted(200, 199)` is `(200, 1)`.
 ///
-/// May be called if [`binomial`] may be.
+/// # Panics
+///
+/// In plain Rust, if `n` or `k` is negative, or if the binomial coefficient does not fit.
 pub fn binomial_counted<T: Integer>(n: T, k: T) -> (T, u32)
     requires n_in_range { T.fits (T.value n) }
     requires k_in_range { T.fits (T.value k) }
@@ -124,9 +126,8 @@ pub fn binomial_counted<T: Integer>(n: T, k: T) -> (T, u32)
 /// Returns the binomial coefficient of `n` and `k`, the number of ways to choose `k` of `n` things.
 /// `binomial(9, 4)` is `126`, and `binomial(2, 3)` is `0`.
 ///
-/// May be called if `Fits::binomial_fits` returns true. Else use
-/// [`checked::binomial`](crate::checked::binomial), which returns `None` if the coefficient does not
-/// fit.
+/// [`Fits::binomial_fits`] tests the domain, and [`checked::binomial`](crate::checked::binomial)
+/// returns `None` outside it.
 ///
 /// This is the largest `n` of which every coefficient fits. For a larger `n`, those near the middle
 /// overflow:
@@ -134,6 +135,10 @@ pub fn binomial_counted<T: Integer>(n: T, k: T) -> (T, u32)
 /// | `u8` | `i8` | `u16` | `i16` | `u32` | `i32` | `u64` | `i64` |
 /// |---|---|---|---|---|---|---|---|
 /// | 10 | 9 | 18 | 17 | 34 | 33 | 67 | 66 |
+///
+/// # Panics
+///
+/// In plain Rust, if `n` or `k` is negative, or if the binomial coefficient does not fit.
 pub fn binomial<T: Integer>(n: T, k: T) -> T
     requires n_in_range { T.fits (T.value n) }
     requires k_in_range { T.fits (T.value k) }
@@ -149,9 +154,12 @@ pub fn binomial<T: Integer>(n: T, k: T) -> T
 /// Returns the multinomial coefficient of the counts `k`, the number of ways to divide their sum into
 /// parts of these sizes. `multinomial(&[2, 1, 2])` is `30`, and `multinomial::<u8>(&[])` is `1`.
 ///
-/// May be called if `Fits::multinomial_fits` returns true. Else use
-/// [`checked::multinomial`](crate::checked::multinomial), which returns `None` if the multinomial
-/// does not fit.
+/// [`Fits::multinomial_fits`] tests the domain, and
+/// [`checked::multinomial`](crate::checked::multinomial) returns `None` outside it.
+///
+/// # Panics
+///
+/// In plain Rust, if a count is negative, or if the multinomial coefficient does not fit.
 #[tactic(auto, using(crate::proofs::Multinomials::multinomial_first))]
 pub fn multinomial<T: Integer>(k: &[T]) -> T
     requires counts_in_range { All (λ x. T.fits (T.value x)) k.now }

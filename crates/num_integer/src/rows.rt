@@ -37,7 +37,11 @@ impl<T: Integer> IterBinomial<T> {
     /// Returns the row of `n`. `IterBinomial::new(3u8)` gives `1`, `3`, `3`, `1`, and then `None`, so
     /// `IterBinomial::new(3u8).last()` is `Some(1)`.
     ///
-    /// May be called if [`checked::row`](crate::checked::row) returns `Some`.
+    /// [`checked::row`](crate::checked::row) returns `None` if an item does not fit.
+    ///
+    /// # Panics
+    ///
+    /// In plain Rust, if an item does not fit: not this call, but the one that asks for the item.
     pub fn new(n: T) -> IterBinomial<T>
         requires in_range { T.fits (T.value n) }
         requires row_fits { RowFits T.fits (T.value n) }

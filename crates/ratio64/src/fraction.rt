@@ -32,6 +32,11 @@ impl Ratio {
     /// Returns `num / den` in lowest terms. `Ratio::new(6, -4)` is `Ratio::new(-3, 2)`, and
     /// `Ratio::new(1, 0)` is `Err(RatioError::ZeroDenominator)`. A positive denominator never gives an
     /// error.
+    ///
+    /// # Errors
+    ///
+    /// - [`RatioError::ZeroDenominator`] if `den` is 0;
+    /// - [`RatioError::NotFitting`] if a part of the reduced fraction does not fit an `i64`.
     pub fn new(num: i64, den: i64) -> Result<Ratio, RatioError>
         ensures fraction { AnswersFraction num den result }
         ensures refused { IfErr result (λ _. den ≤ℤ pos 0) }
@@ -84,8 +89,12 @@ impl Ratio {
         div_ceil(self.num, self.den)
     }
 
-    /// Returns the sum, or `NotFitting` if a part of it does not fit.
-    /// `Ratio::from(2).checked_add(&Ratio::new(1, 3).unwrap())` is `Ratio::new(7, 3)`.
+    /// Returns the sum. `Ratio::from(2).checked_add(&Ratio::new(1, 3).unwrap())` is
+    /// `Ratio::new(7, 3)`.
+    ///
+    /// # Errors
+    ///
+    /// - [`RatioError::NotFitting`] if a part of the sum does not fit an `i64`.
     pub fn checked_add(&self, other: &Ratio) -> Result<Ratio, RatioError>
         ensures sum { AnswersFraction
             (num_of self.now *ℤ den_of other.now +ℤ num_of other.now *ℤ den_of self.now)
@@ -96,8 +105,12 @@ impl Ratio {
         self.over_product_of_denominators(other, num)
     }
 
-    /// Returns the difference, or `NotFitting` if a part of it does not fit.
-    /// `Ratio::from(2).checked_sub(&Ratio::new(1, 3).unwrap())` is `Ratio::new(5, 3)`.
+    /// Returns the difference. `Ratio::from(2).checked_sub(&Ratio::new(1, 3).unwrap())` is
+    /// `Ratio::new(5, 3)`.
+    ///
+    /// # Errors
+    ///
+    /// - [`RatioError::NotFitting`] if a part of the difference does not fit an `i64`.
     pub fn checked_sub(&self, other: &Ratio) -> Result<Ratio, RatioError>
         ensures difference { AnswersFraction
             (num_of self.now *ℤ den_of other.now -ℤ num_of other.now *ℤ den_of self.now)
@@ -108,8 +121,12 @@ impl Ratio {
         self.over_product_of_denominators(other, num)
     }
 
-    /// Returns the product, or `NotFitting` if a part of it does not fit.
-    /// `Ratio::from(2).checked_mul(&Ratio::new(3, 4).unwrap())` is `Ratio::new(3, 2)`.
+    /// Returns the product. `Ratio::from(2).checked_mul(&Ratio::new(3, 4).unwrap())` is
+    /// `Ratio::new(3, 2)`.
+    ///
+    /// # Errors
+    ///
+    /// - [`RatioError::NotFitting`] if a part of the product does not fit an `i64`.
     pub fn checked_mul(&self, other: &Ratio) -> Result<Ratio, RatioError>
         ensures product { AnswersFraction (num_of self.now *ℤ num_of other.now)
             (den_of self.now *ℤ den_of other.now) result }
@@ -118,9 +135,13 @@ impl Ratio {
         self.over_product_of_denominators(other, product(self.num, other.num))
     }
 
-    /// Returns the quotient, or `ZeroDenominator` if `other` is 0, or `NotFitting` if a part of the
-    /// quotient does not fit. `Ratio::from(2).checked_div(&Ratio::new(-3, 4).unwrap())` is
+    /// Returns the quotient. `Ratio::from(2).checked_div(&Ratio::new(-3, 4).unwrap())` is
     /// `Ratio::new(-8, 3)`.
+    ///
+    /// # Errors
+    ///
+    /// - [`RatioError::ZeroDenominator`] if `other` is 0;
+    /// - [`RatioError::NotFitting`] if a part of the quotient does not fit an `i64`.
     pub fn checked_div(&self, other: &Ratio) -> Result<Ratio, RatioError>
         ensures quotient { AnswersFraction (num_of self.now *ℤ den_of other.now)
             (num_of other.now *ℤ den_of self.now) result }
@@ -130,9 +151,13 @@ impl Ratio {
         Ratio::reduced(product(self.num, other.den), product(other.num, self.den))
     }
 
-    /// Returns the reciprocal `den / num`, or `ZeroDenominator` if the fraction is 0, or `NotFitting`
-    /// if the numerator is `i64::MIN`. `Ratio::new(-2, 3).unwrap().checked_recip()` is
+    /// Returns the reciprocal `den / num`. `Ratio::new(-2, 3).unwrap().checked_recip()` is
     /// `Ratio::new(-3, 2)`.
+    ///
+    /// # Errors
+    ///
+    /// - [`RatioError::ZeroDenominator`] if the fraction is 0;
+    /// - [`RatioError::NotFitting`] if the numerator is `i64::MIN`.
     pub fn checked_recip(&self) -> Result<Ratio, RatioError>
         ensures reciprocal { AnswersFraction (den_of self.now) (num_of self.now) result }
         ensures refused { IfErr result

@@ -16,7 +16,9 @@ impl Ratio {
     /// `Ok(Ratio::new(3, 10).unwrap().limit_denominator(5))` is `Ratio::new(1, 3)`, and
     /// `Ratio::new(3, 2).unwrap().limit_denominator(1)` is `Ratio::from(1)`.
     ///
-    /// May be called if `max` is positive.
+    /// # Panics
+    ///
+    /// In plain Rust, if the limit is not positive.
     pub fn limit_denominator(&self, max: i64) -> Ratio
         requires { pos 0 <ℤ max }
         ensures { IsNearestWithin (num_of self.now) (den_of self.now) max (num_of result)

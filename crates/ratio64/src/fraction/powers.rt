@@ -7,11 +7,15 @@ ghost use Rattle.ratio64.specs.Ratio.{AnswersFraction, num_of, den_of};
 use crate::{Ratio, RatioError};
 
 impl Ratio {
-    /// Returns the power, which for a negative exponent is that of the reciprocal. Returns
-    /// `ZeroDenominator` for 0 to a negative power, and `NotFitting` if a part of the power does not
-    /// fit. `Ratio::new(2, 3).unwrap().checked_pow(2)` is `Ratio::new(4, 9)`,
+    /// Returns the power, which for a negative exponent is that of the reciprocal.
+    /// `Ratio::new(2, 3).unwrap().checked_pow(2)` is `Ratio::new(4, 9)`,
     /// `Ratio::new(2, 3).unwrap().checked_pow(-1)` is `Ratio::new(3, 2)`, and
     /// `Ratio::zero().checked_pow(0)` is `Ok(Ratio::one())`.
+    ///
+    /// # Errors
+    ///
+    /// - [`RatioError::ZeroDenominator`] if the fraction is 0 and the exponent is negative;
+    /// - [`RatioError::NotFitting`] if a part of the power does not fit an `i64`.
     pub fn checked_pow(&self, exponent: i32) -> Result<Ratio, RatioError>
         ensures from_zero { pos 0 ≤ℤ exponent → AnswersFraction
             (int_pow (num_of self.now) (unsigned_abs exponent))

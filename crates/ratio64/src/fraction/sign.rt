@@ -38,8 +38,11 @@ impl Ratio {
         Ratio::from(self.num.signum())
     }
 
-    /// Returns the negation, or `NotFitting` if the numerator is `i64::MIN`.
-    /// `Ratio::new(-3, 2).unwrap().checked_neg()` is `Ratio::new(3, 2)`.
+    /// Returns the negation. `Ratio::new(-3, 2).unwrap().checked_neg()` is `Ratio::new(3, 2)`.
+    ///
+    /// # Errors
+    ///
+    /// - [`RatioError::NotFitting`] if the numerator is `i64::MIN`.
     pub fn checked_neg(&self) -> Result<Ratio, RatioError>
         ensures negation { AnswersFraction (neg_ℤ (num_of self.now)) (den_of self.now) result }
         ensures never_zero { result ≢ Err RatioError.ZeroDenominator }
@@ -51,8 +54,11 @@ impl Ratio {
         }
     }
 
-    /// Returns the magnitude, or `NotFitting` if the numerator is `i64::MIN`.
-    /// `Ratio::new(-3, 2).unwrap().checked_abs()` is `Ratio::new(3, 2)`.
+    /// Returns the magnitude. `Ratio::new(-3, 2).unwrap().checked_abs()` is `Ratio::new(3, 2)`.
+    ///
+    /// # Errors
+    ///
+    /// - [`RatioError::NotFitting`] if the numerator is `i64::MIN`.
     pub fn checked_abs(&self) -> Result<Ratio, RatioError>
         ensures magnitude { AnswersFraction (pos (unsigned_abs (num_of self.now)))
             (den_of self.now) result }

@@ -46,8 +46,13 @@ impl Ratio {
         narrowed(self.wide_round_times(n))
     }
 
-    /// Returns the fraction times `n / d`, or `ZeroDenominator` if `d` is 0, or `NotFitting` if a part of
-    /// the product does not fit. `Ratio::new(2, 3).unwrap().checked_times(9, 4)` is `Ratio::new(3, 2)`.
+    /// Returns the fraction times `n / d`. `Ratio::new(2, 3).unwrap().checked_times(9, 4)` is
+    /// `Ratio::new(3, 2)`.
+    ///
+    /// # Errors
+    ///
+    /// - [`RatioError::ZeroDenominator`] if `d` is 0;
+    /// - [`RatioError::NotFitting`] if a part of the product does not fit an `i64`.
     pub fn checked_times(&self, n: i64, d: i64) -> Result<Ratio, RatioError>
         ensures product { AnswersFraction (num_of self.now *ℤ n) (d *ℤ den_of self.now) result }
         ensures zero_denominator { (result ≡ Err RatioError.ZeroDenominator) ↔ (d ≡ pos 0) }
@@ -55,10 +60,16 @@ impl Ratio {
         Ratio::reduced(product(self.num, n), product(d, self.den))
     }
 
-    /// Returns the largest multiple of `1 / parts` that is at most the fraction, or `NotFitting` if a part
-    /// of it does not fit. In quarters, `Ratio::new(5, 3).unwrap().floor_to(4)` is `Ratio::new(3, 2)`.
+    /// Returns the largest multiple of `1 / parts` that is at most the fraction. In quarters,
+    /// `Ratio::new(5, 3).unwrap().floor_to(4)` is `Ratio::new(3, 2)`.
     ///
-    /// May be called if `parts` is positive.
+    /// # Panics
+    ///
+    /// In plain Rust, if the number of parts is not positive.
+    ///
+    /// # Errors
+    ///
+    /// - [`RatioError::NotFitting`] if a part of the result does not fit an `i64`.
     pub fn floor_to(&self, parts: i64) -> Result<Ratio, RatioError>
         requires { pos 0 <ℤ parts }
         ensures floored { AnswersInParts
@@ -68,10 +79,16 @@ impl Ratio {
         in_parts(self.wide_floor_times(parts), parts)
     }
 
-    /// Returns the smallest multiple of `1 / parts` that is at least the fraction, or `NotFitting` if a
-    /// part of it does not fit. In quarters, `Ratio::new(5, 3).unwrap().ceil_to(4)` is `Ratio::new(7, 4)`.
+    /// Returns the smallest multiple of `1 / parts` that is at least the fraction. In quarters,
+    /// `Ratio::new(5, 3).unwrap().ceil_to(4)` is `Ratio::new(7, 4)`.
     ///
-    /// May be called if `parts` is positive.
+    /// # Panics
+    ///
+    /// In plain Rust, if the number of parts is not positive.
+    ///
+    /// # Errors
+    ///
+    /// - [`RatioError::NotFitting`] if a part of the result does not fit an `i64`.
     pub fn ceil_to(&self, parts: i64) -> Result<Ratio, RatioError>
         requires { pos 0 <ℤ parts }
         ensures ceiled { AnswersInParts
@@ -81,11 +98,16 @@ impl Ratio {
         in_parts(self.wide_ceil_times(parts), parts)
     }
 
-    /// Returns the nearest multiple of `1 / parts`, and of two equally near the one farther from 0, or
-    /// `NotFitting` if a part of it does not fit. In hundredths, `Ratio::new(5, 3).unwrap().round_to(100)`
-    /// is `Ratio::new(167, 100)`.
+    /// Returns the nearest multiple of `1 / parts`, and of two equally near the one farther from 0. In
+    /// hundredths, `Ratio::new(5, 3).unwrap().round_to(100)` is `Ratio::new(167, 100)`.
     ///
-    /// May be called if `parts` is positive.
+    /// # Panics
+    ///
+    /// In plain Rust, if the number of parts is not positive.
+    ///
+    /// # Errors
+    ///
+    /// - [`RatioError::NotFitting`] if a part of the result does not fit an `i64`.
     pub fn round_to(&self, parts: i64) -> Result<Ratio, RatioError>
         requires { pos 0 <ℤ parts }
         ensures rounded { AnswersInParts

@@ -1,0 +1,40 @@
+"""The check of the made comments and pages."""
+from __future__ import annotations
+
+import pathlib
+
+import pytest
+
+import check_rust_docs
+from rattle_source import Source
+
+COMMENT = '/// Returns the half.\n///\n/// # Examples\n///\n/// # Panics\n'
+# An item, and what it lacks.
+LACKS = [
+    (f'{COMMENT}#[track_caller]\npub fn half() {{}}', []),
+    (COMMENT.replace('# Examples', '# Other') + '#[track_caller]\npub fn half() {}', ['an example']),
+    (COMMENT.replace('# Panics', '# Other') + '#[must_use]\n#[track_caller]\npub fn half() {}', ['the section `# Panics`']),
+    (COMMENT.replace('# Panics', '# Other') + '#[must_use]\npub fn half() {}', []),
+    ('pub struct Half;', ['an example']),
+    ('pub const HALF: u64 = 2;', []),
+]
+
+
+@pytest.mark.parametrize('text, wanted', LACKS)
+def test_lacks(text: str, wanted: list[str]) -> None:
+    source = Source('lib.rs', text)
+    assert list(check_rust_docs.lacks(source, source.items()[0])) == wanted
+
+
+def test_wide_lines(tmp_path: pathlib.Path) -> None:
+    lines = ['// ' + 'x' * 98, '/// ' + 'x' * 96, '//! | ' + 'x' * 98, '    /// ' + 'x' * 93]
+    (tmp_path / 'lib.rs').write_text('\n'.join(lines))
+    assert list(check_rust_docs.wide_lines(tmp_path)) == ['lib.rs:4 has 101 columns']
+
+
+def test_dead_links(tmp_path: pathlib.Path) -> None:
+    (tmp_path / 'words').mkdir()
+    (tmp_path / 'words' / 'index.html').write_text('<h2 id="even">Even</h2> <a href="#even"> <a href="../index.html#half"> <a href="https://example.org/#half">')
+    (tmp_path / 'index.html').write_text('<a href="words/index.html#even"> <a href="words/index.html#odd"> <a href="other.html#odd"> <a href="words/index.html">')
+    assert list(check_rust_docs.dead_links(tmp_path)) == [
+        'index.html leads to words/index.html#odd, which is not there', 'words/index.html leads to ../index.html#half, which is not there']
