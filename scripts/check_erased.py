@@ -3,16 +3,17 @@
 
     scripts/check_erased.py               the counts; status 1 if scripts/erased.txt or a page says otherwise
     scripts/check_erased.py --list        also how many functions need each rule, and all items that are not the same
-    scripts/check_erased.py --self-test   small files of both kinds, and random changes of a token, which have to be found
 
-It shares no code with the scripts that make the Rust, so nobody has to trust those. From above to below: `without_contracts` deletes
-from a source what only the prover reads. `Files` finds the items: functions, types, constants, heads of traits and implementations,
-each by module, type or trait, and name. A name that a `use` imports is compared as its path, so two functions `sum` differ. `RULES` has
-the differences that are allowed. None names an item of the library, and rustc refuses what one could let through.
+It shares no code with the scripts that make the Rust, so nobody has to trust those. `without_contracts` deletes from a source what only
+the prover reads. `Files` finds the items: functions, types, constants, heads of traits and implementations, each by module, type or
+trait, and name. A name that a `use` imports is compared as its path, so two functions `sum` differ. `RULES` has the differences that
+are allowed. None names an item of the library, and rustc refuses what one could let through.
 
 An item that differs otherwise is `changed`; one that Rust lacks is `absent`; one that is in Rust alone is `by hand`. scripts/erased.txt
-names each of these with a reason, and no other item, so none comes or goes unseen. `use` and `mod` count by what they lead to."""
+names each of these with a reason, and no other item, so none comes or goes unseen. `use` and `mod` count by what they lead to.
+tools/tests/test_check_erased.py tries it on small files, and on random changes of a token, which it has to find."""
 import collections, itertools, pathlib, re, sys
+from typing import Callable, Collection, Iterator, NamedTuple
 
 REPOSITORY = pathlib.Path(__file__).resolve().parent.parent
 LIBRARIES = ('integer_core', 'integer_roots', 'num_integer', 'modular', 'ratio64', 'calendar', 'applied')
@@ -28,8 +29,10 @@ TOKEN = re.compile(r'''\s+ | //[^\n]* | (?P<token> /\* | b?r(?P<marks>\#*)".*?"(
 OPENING, CLOSING = ('(', '[', '{'), (')', ']', '}')
 # Before a word: it is no field, no method, and not the end of a path.
 ALONE = r'(?<= )(?<!:: )(?<! \. )'
+# `names` has the paths of imported names, and `renamed` what first words of paths are in Rust.
+Item = NamedTuple('Item', [('key', str), ('is_function', bool), ('text', str), ('names', dict[str, str]), ('renamed', dict[str, str])])
 # The differences that are allowed: of each its pattern in tokens with spaces between them, and what is compared in its place.
-RULES = {
+RULES: dict[str, tuple[str, str | Callable[[Item, re.Match[str]], str]]] = {
     # The first word of a path. `std` is `core`; the libraries are modules of one crate. rustc finds no other item by such a path.
     'path': (ALONE + r'(\w+)(?= :: )', lambda item, match: item.renamed.get(match[1], match[1])),
     # A comma at the end of a list. `(x,)` is another type than `(x)`, which rustc sees.
@@ -43,19 +46,17 @@ RULES = {
     # A copy of a number that need not be `Copy` in Rust is its clone. rustc sees whether a value or a reference stands there.
     'clone': (r'\. clone \( \) |(?<=[(,={;>] )\* (?=[a-z])', ''),
     # A slice arrives from C as a pointer and a length, of which the body makes the slice.
-    'slice': (r'let (\w+) = if \1_len == 0 { & (?:mut )?\[ \] } else { unsafe { core :: slice :: from_raw_parts(?:_mut)? \( \1 , \1_len \) } } ; '
-              r'|(\w+) : \* (?:const|(mut)) (\w+) , \2_len : usize ',
-              lambda item, match: '' if match[1] else ' '.join([match[2], ': &', *[match[3]] * bool(match[3]), '[', match[4], '] '])),
+    'slice': (r'let (\w+) = if \1_len == 0 { & (mut )?\[ \] } else { unsafe { core :: slice :: from_raw_parts(?(2)_mut) \( \1 , \1_len \) } } ; '
+              r'|(\w+) : \* (?:const |(mut ))(\w+) , \3_len : usize ',
+              lambda item, match: '' if match[1] else f'{match[3]} : & {match[4] or ""}[ {match[5]} ] '),
 }
-# `names` has the paths of imported names, and `renamed` what first words of paths are in Rust.
-Item = collections.namedtuple('Item', 'key is_function text names renamed')
 
-def tokens_of(text):
+def tokens_of(text: str) -> list[str]:
     """The tokens of a file, without comments. In a text, spaces are other signs, so that a token has none."""
     found = [match['token'].translate({32: 1, 10: 2}) for match in TOKEN.finditer(text) if match['token']]
     return found if '/*' not in found else sys.exit('check_erased.py: a comment in /* */, which it does not read')
 
-def close(t, k):
+def close(t: list[str], k: int) -> int:
     """The place of the bracket that closes the one at `k`."""
     depth = 0
     for i in range(k, len(t)):
@@ -64,10 +65,10 @@ def close(t, k):
             return i
     return sys.exit(f'check_erased.py: `{" ".join(t[k:k + 9])}` is not closed')
 
-def without_contracts(t, is_source):
+def without_contracts(t: list[str], is_source: bool) -> list[str]:
     """The tokens without attributes that change no result. A source loses `requires {..}` and `ensures {..}`, with a name or without;
     `ghost use ..;`, `ghost x: {..}`, `ghost x = {..}`, perhaps with `by {..}`; the word `final`; and bounds without code."""
-    out, k = [], 0
+    out, k = list[str](), 0
     while k < len(t):
         word, after = t[k], t[k + 1:k + 3]
         if word == '#' and (after[0] == '!' or after[1] in NO_RESULT or {'diagnostic', 'Drop'} & {*t[k:close(t, k + 1)]}):
@@ -87,7 +88,7 @@ def without_contracts(t, is_source):
             k += 1
     return out
 
-def imported(text):
+def imported(text: str) -> Iterator[tuple[str, str]]:
     """The names that a `use` gives, each with its path."""
     while '{' in text:                                  # `a::{b, c}` is `a::b, a::c`
         text = re.sub(r'([^{},]*){([^{}]*)}', lambda m: ','.join(m[1] + end for end in m[2].split(',') if end.strip()), text)
@@ -98,19 +99,18 @@ def imported(text):
 
 class Files:
     """The items of files, by kind and key. Of items with one key the first of a source is compared with the first of Rust."""
-
-    def __init__(self):
-        self.items = collections.defaultdict(list)
-    def read(self, file, module, renamed=None):
+    def __init__(self) -> None:
+        self.items = collections.defaultdict[tuple[str, str], list[Item]](list)
+    def read(self, file: pathlib.Path, module: tuple[str, ...], renamed: dict[str, str] | None = None) -> None:
         """Reads a file and those of its modules. A source has `renamed`."""
         tokens = without_contracts(tokens_of(file.read_text()), renamed is not None)
         for name in self.block(tokens, module, Item('', False, '', {}, renamed or {})):
             folder = file.parent if file.stem == 'lib' else file.with_suffix('')
             self.read(folder / (name + file.suffix), (*module, name), renamed)
 
-    def block(self, t, place, inside):
+    def block(self, t: list[str], place: tuple[str, ...], inside: Item) -> list[str]:
         """Notes the items of a file, or of a trait or an implementation, and returns the modules that have files."""
-        k, below = 0, []
+        k, below = 0, list[str]()
         while k < len(t):
             first = k
             while t[k] == '#':
@@ -124,7 +124,7 @@ class Files:
             last, is_block = close(t, stop) if t[stop] == '{' else stop, kind in ('impl', 'trait')
             text = ' '.join(['', *t[first:stop if is_block else last + 1], ''])
             head = re.search(r' impl (?:<(?:->|[^<>]|<(?:->|[^<>]|<[^<>]*>)*>)*> )?(.*?) (?:where .*)?$', text)
-            name = head[1] if kind == 'impl' else ' '.join(t[k:k + 4]) if kind == 'macro' else t[k + 1]
+            name = head[1] if head and kind == 'impl' else ' '.join(t[k:k + 4]) if kind == 'macro' else t[k + 1]
             if is_left_out or kind == 'crate' or name.split()[0] in WITHOUT_CODE and last == stop + 1:
                 pass
             elif kind == 'use':
@@ -140,14 +140,14 @@ class Files:
             k = last + 1
         return below
 
-def rewritten(item, rules):
+def rewritten(item: Item, rules: Collection[str]) -> str:
     """The text of an item by some of the rules, with the path of each imported name in its place."""
     text = item.text
     for pattern, new in (RULES[rule] for rule in RULES if rule in rules):
-        text = re.sub(pattern, (lambda match: new(item, match)) if callable(new) else new, text, flags=re.S)
+        text = re.sub(pattern, lambda match: new if isinstance(new, str) else new(item, match), text, flags=re.S)
     return re.sub(ALONE + r'\w+(?= )', lambda match: item.names.get(match[0], match[0]), text)
 
-def compare(source, rust):
+def compare(source: Item | None, rust: Item | None) -> tuple[str, list[str]]:
     """The grade of an item, and the rules without which it would be changed."""
     if not source or not rust:
         return ('absent' if source else 'by hand'), []
@@ -157,8 +157,8 @@ def compare(source, rust):
     used = [rule for rule in RULES if RULES.keys() - {rule} not in same]
     return ('by rules' if used else 'same'), used
 
-def pairs(root):
-    """Each item of the sources with that of Rust, or one of them with None; with its name before them."""
+def pairs(root: pathlib.Path) -> Iterator[tuple[str, Item | None, Item | None]]:
+    """The name of each item, with the item of the sources and that of Rust, or None in the place of one of them."""
     for folder, crates, own in PARTS:
         source, rust = Files(), Files()
         rust.read(root / folder / 'lib.rs', ())
@@ -169,23 +169,22 @@ def pairs(root):
             source.read(root / 'crates' / crate / 'src/lib.rt', place[crate], outside | within)
         for kind, key in source.items | rust.items:
             for items in itertools.zip_longest(source.items[kind, key], rust.items[kind, key]):
-                yield '' if kind == 'fn' else f'{kind} ', *items
+                yield key if kind == 'fn' else f'{kind} {key}', *items
 
-def table(root):
+def table(root: pathlib.Path) -> dict[str, str]:
     """The grade of each item that scripts/erased.txt names."""
     grade, found = '', {}
     for line in (root / TABLE).read_text().splitlines():
-        if line[:1].strip() not in ('', '#'):
-            grade = line.split(':')[0]
-        elif line.startswith(' '):
+        grade = grade if line[:1] in ('', ' ', '#') else line.split(':')[0]
+        if line.startswith(' '):
             found[line.strip()] = grade
     return found
 
-def main(root):
-    rows = [(f'{kind}{(source or rust).key}', source or rust, *compare(source, rust)) for kind, source, rust in pairs(root)]
-    grades = collections.Counter(grade for _, item, grade, _ in rows if item.is_function)
+def main(root: pathlib.Path) -> int:
+    rows = [(name, any(item and item.is_function for item in (source, rust)), *compare(source, rust)) for name, source, rust in pairs(root)]
+    grades = collections.Counter(grade for _, is_function, grade, _ in rows if is_function)
     if '--list' in sys.argv:
-        by_rule = collections.Counter(rule for _, item, _, used in rows if item.is_function for rule in used)
+        by_rule = collections.Counter(rule for _, is_function, _, used in rows if is_function for rule in used)
         print(*(f'by the rule {rule}: {count}' for rule, count in by_rule.most_common()), sep='\n')
         print(*(f'{grade}: {name}' + f' ({", ".join(used)})' * bool(used) for name, _, grade, used in rows if grade != 'same'), sep='\n')
     sentence = (f'Of {grades.total() - grades["absent"]} functions in Rust, {grades["same"]} are their source with its contracts deleted, {grades["by rules"]} '
@@ -198,4 +197,4 @@ def main(root):
     return 1 if wrong else 0
 
 if __name__ == '__main__':
-    sys.exit(__import__('check_erased_tests').main() if '--self-test' in sys.argv else main(REPOSITORY))
+    sys.exit(main(REPOSITORY))

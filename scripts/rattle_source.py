@@ -71,7 +71,7 @@ class Source:
     """A file. A place is the number of a token that is no comment; `texts` are what a writer may change."""
 
     def __init__(self, path: str | Path, text: str) -> None:
-        self.path, self.tokens = path, list(self.scan(path, text))
+        self.path, self.tokens = Path(path), list(self.scan(path, text))
         self.code = [i for i, token in enumerate(self.tokens) if token.kind not in COMMENTS]
         self.texts = [token.text for token in self.tokens]
 

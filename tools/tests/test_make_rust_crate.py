@@ -7,14 +7,12 @@ from __future__ import annotations
 from pathlib import Path
 
 import pytest
-import samples
 from rattle_source import Unknown
+from tools.tests import samples
 
 GOLDEN = Path(__file__).resolve().parent / 'golden'
-# Below it stands what a crate other than `integer_core` needs of that one.
-INTEGER = '''pub mod guards;
-pub trait Integer: Copy + Num {}
-'''
+# What a crate other than `integer_core` needs of that one.
+INTEGER = 'pub trait Integer: Copy + Num {}\n'
 # Of a crate with this text below a first line, the line and the reason of the refusal.
 REFUSED = (
     ('extern crate alloc;', 2, 'an item `extern`'),
@@ -50,12 +48,12 @@ REFUSED_EXPORTS = (
 
 
 def texts_of(crate: str, text: str) -> dict[str, str]:
-    return {crate: text} if crate == 'integer_core' else {'integer_core': INTEGER.replace('pub mod guards;\n', ''), crate: text}
+    return {crate: text} if crate == 'integer_core' else {'integer_core': INTEGER, crate: text}
 
 
-@pytest.mark.parametrize('source', sorted(GOLDEN.glob('*.rt')), ids=lambda source: source.stem)
-def test_rust_of_a_source(source: Path) -> None:
-    crate = source.name.split('.')[0]
+@pytest.mark.parametrize('name', sorted(source.stem for source in GOLDEN.glob('*.rt')))
+def test_rust_of_a_source(name: str) -> None:
+    source, crate = GOLDEN / f'{name}.rt', name.split('.')[0]
     assert samples.formatted(samples.rust_of(crate, texts_of(crate, source.read_text()))) == source.with_suffix('.rs').read_text()
 
 

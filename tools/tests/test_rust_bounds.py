@@ -2,8 +2,8 @@
 from __future__ import annotations
 
 import pytest
-import samples
 from rattle_source import Unknown
+from tools.tests import samples
 
 TRAIT = 'pub trait Integer: Copy + Num {}'
 # Of a crate with this line below `TRAIT`, what is rejected at that line.
