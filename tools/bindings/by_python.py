@@ -367,7 +367,7 @@ def date_from_iso_week(_: Pair, year: int, week: int, weekday: int) -> Result:
     return within(dated(year, datetime.date.fromisocalendar(near(year), week, weekday)))
 
 
-def easter(_: Pair, year: int) -> Result:
+def easter(_: Pair, year: int) -> Triple:
     """By the rule of Meeus, Jones and Butcher, which repeats after 5,700,000 years."""
     y = year % 5_700_000
     golden, (century, rest) = y % 19, divmod(y, 100)
