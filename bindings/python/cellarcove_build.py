@@ -29,7 +29,7 @@ NAME, TAG = 'cellarcove', 'cp39-abi3'
 EXTENSION = '_calls.abi3.so'
 VENDOR = HERE / 'vendor'
 ROOT = VENDOR if VENDOR.is_dir() else HERE.parents[1]
-VERSION = re.findall(r'^version = "(.*)"$', (ROOT / 'rust' / 'Cargo.toml').read_text(), re.M)[0]
+VERSION = re.findall(r'^#define CELLARCOVE_VERSION "(.*)"', (ROOT / 'bindings' / 'c' / 'cellarcove.h').read_text(), re.M)[0]
 INFO = f'{NAME}-{VERSION}.dist-info'
 LICENCES = ('LICENSE-APACHE', 'LICENSE-MIT')
 VENDORED = ('bindings/build', 'bindings/c/cellarcove.h', *sorted(f'rust/{path.name}' for path in (ROOT / 'rust').glob('*.*') if path.is_file()),

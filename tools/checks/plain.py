@@ -50,7 +50,8 @@ class Plain:
             if item.of_trait in GHOST or ['cfg', '(', 'test'] in [words[2:5] for words in attributes] or is_main:
                 self.drop(item.first, item.last)
             elif item.kind in ('struct', 'enum') and not any('Debug' in words for words in attributes):
-                self.texts[self.source.code[item.first]] = '#[derive(Debug)]\n' + self.at(item.first)
+                first = item.attributes[-1][1] + 1 if item.attributes else item.first
+                self.texts[self.source.code[first]] = '#[derive(Debug)]\n' + self.at(first)
             self.items(item.items)
 
     def step(self, k: int) -> int:
