@@ -1,25 +1,29 @@
-"""Prints crates/replay/src/tests/libraries.rt: what Python's own arithmetic answers where the tests of crates/replay
-ask ratio64, modular, calendar and uses. It needs Python's standard library alone:
+"""What Python's own arithmetic answers where the tests of crates/replay ask ratio64, modular, calendar and applied, for
+crates/replay/src/tests/libraries.rt. `tools/cellarcove make python` writes it.
 
-    python3 compare/libraries.py > crates/replay/src/tests/libraries.rt
-
-Each function stands beside the one of its name in crates/replay, and goes over the same inputs in the same order.
+Each function stands beside the one of its name in crates/replay, and goes over the same inputs in the same order. Most results are
+those of tools/bindings/by_python.py, with which the exports are compared too.
 """
-
-import datetime
+import math
+from collections.abc import Callable, Iterable, Iterator, Sequence
 from fractions import Fraction
 from itertools import combinations
-from math import gcd, lcm
+
+from tools.bindings import by_python as model
+from tools.bindings.by_python import Pair, Result, Triple
 
 MASK = (1 << 64) - 1
+FACTOR = 0x517CC1B727220A95
+# What is counted if a number does not fit, or if there is no fraction: a sign and a magnitude.
 BEYOND = (True, 0)
 NOT_FITTING = (True, (1 << 128) - 1)
 
+Number = int | tuple[bool, int]
+Numbers = tuple[Number, ...] | int | None       # those of a result. It has none if it is a status, or None
+Line = tuple[str | int, str, "Answered"]
 
-FACTOR = 0x517CC1B727220A95
 
-
-def with_parts(total, negative, magnitude):
+def with_parts(total: int, negative: bool, magnitude: int) -> int:
     """The checksum with a sign and a magnitude, as src/checksum.rs computes it."""
     total = ((total << 5 & MASK | total >> 59) ^ magnitude & MASK) * FACTOR & MASK
     total = ((total << 5 & MASK | total >> 59) ^ magnitude >> 64) * FACTOR & MASK
@@ -27,23 +31,19 @@ def with_parts(total, negative, magnitude):
 
 
 class Answered:
-    """How many inputs have a result, and the checksum over them."""
+    """How many inputs have a result, and the checksum over both."""
 
-    def __init__(self):
-        self.count = 0
-        self.checksum = 0
-
-    def add(self, numbers):
-        """One more, if the numbers are there. A number may be given by its sign and its magnitude."""
-        if numbers is None:
-            return
-        self.count += 1
-        for n in numbers:
-            negative, magnitude = n if isinstance(n, tuple) else (n < 0, abs(n))
-            self.checksum = with_parts(self.checksum, negative, magnitude)
+    def __init__(self, found: Iterable[tuple[Sequence[int], Numbers]]) -> None:
+        self.count = self.checksum = 0
+        for arguments, result in found:
+            if isinstance(result, tuple):
+                self.count += 1
+                for n in (*arguments, *result):
+                    negative, magnitude = n if isinstance(n, tuple) else (n < 0, abs(n))
+                    self.checksum = with_parts(self.checksum, negative, magnitude)
 
 
-def mixed(index):
+def mixed(index: int) -> int:
     """A number of the generator SplitMix64."""
     z = index * 0x9E3779B97F4A7C15 & MASK
     z = (z ^ z >> 30) * 0xBF58476D1CE4E5B9 & MASK
@@ -55,27 +55,27 @@ class Shape:
     """A type's number of bits and its ends, and its inputs, as src/inputs.rs computes them. No input is below the
     least one, which i128 has one above its end."""
 
-    def __init__(self, width, least, greatest, end=None):
+    def __init__(self, width: int, least: int, greatest: int, end: int) -> None:
         self.width, self.least, self.greatest = width, least, greatest
-        self.end = least if end is None else end
+        self.bounds = end, greatest
 
-    def edge(self, negative, place, kind):
+    def edge(self, negative: bool, place: int, kind: int) -> int:
         bit = min(place * self.width // 8, self.width - 1)
         end = -self.least if negative else self.greatest
         return [(1 << bit) - 1, 1 << bit, (1 << bit) + 1, max(end - place, 0)][kind]
 
-    def fibonacci(self, k):
+    def fibonacci(self, k: int) -> int:
         number, following = 0, 1
         for _ in range({128: 139, 64: 46}.get(self.width, 0) + k):
             number, following = following, number + following
         return number
 
-    def random(self, index):
+    def random(self, index: int) -> tuple[bool, int]:
         length = index % self.width + 1
         bits = mixed(2 * index) << 64 | mixed(2 * index + 1) | 1 << 127
         return index // self.width % 2 == 1, bits >> 128 - length
 
-    def number(self, index):
+    def number(self, index: int) -> int | None:
         """The number at an index, or None if the type does not have it."""
         half, odd = divmod(index, 2)
         if half < 36:
@@ -87,187 +87,111 @@ class Shape:
         n = -magnitude if negative else magnitude
         return n if self.least <= n <= self.greatest else None
 
-    def spread(self, count):
+    def spread(self, count: int) -> list[int]:
         found = (self.number(7 * place) for place in range(count))
         return [n for n in found if n is not None]
 
-    def fitting(self, *numbers):
-        """The numbers, or None if one of them does not fit."""
-        return numbers if all(self.end <= n <= self.greatest for n in numbers) else None
 
-
-def signed(width):
-    return Shape(width, -(1 << width - 1), (1 << width - 1) - 1)
-
-
-I64 = signed(64)
+def signed(width: int) -> Shape:
+    return Shape(width, -(1 << width - 1), (1 << width - 1) - 1, -(1 << width - 1))
 
 
 TYPES = {
     "I16": signed(16),
-    "I64": I64,
-    "U64": Shape(64, 0, (1 << 64) - 1),
+    "I64": signed(64),
+    "U64": Shape(64, 0, (1 << 64) - 1, 0),
     "I128": Shape(128, 1 - (1 << 127), (1 << 127) - 1, -(1 << 127)),
-    "U128": Shape(128, 0, (1 << 128) - 1),
+    "U128": Shape(128, 0, (1 << 128) - 1, 0),
 }
 
 
-# The calls of modular.
+# The calls of modular. Each takes the ends of the type first.
 
-def inverse(a, m):
-    return pow(a, -1, m) if gcd(a, m) == 1 else None
-
-
-def solutions(a, b, m):
-    """The solutions x of a * x = b modulo m: the first and the step."""
-    common = gcd(a, m)
-    if b % common:
-        return None
-    step = m // common
-    return (b // common * pow(a // common, -1, step) % step, step)
-
-
-def count_congruent(low, high, first, m):
-    if high < low:
-        return 0
-    return (high - first) // m - (low - 1 - first) // m
-
-
-def quotient(a, b, m):
-    reciprocal = inverse(b, m)
-    return None if reciprocal is None else (a * reciprocal % m,)
-
-
-ONE_MODULUS = {
-    "Residue": lambda a, b, m, shape: (a % m,),
-    "Negation": lambda a, b, m, shape: (-a % m,),
-    "Sum": lambda a, b, m, shape: ((a + b) % m,),
-    "Difference": lambda a, b, m, shape: ((a - b) % m,),
-    "Product": lambda a, b, m, shape: (a * b % m,),
-    "Power": lambda a, b, m, shape: (pow(a, abs(b), m),),
-    "Inverse": lambda a, b, m, shape: quotient(1, a, m),
-    "Quotient": lambda a, b, m, shape: quotient(a, b, m),
-    "Solutions": lambda a, b, m, shape: solutions(a, b, m),
-    "Next": lambda a, b, m, shape: shape.fitting(a + (b - a) % m),
-    "Previous": lambda a, b, m, shape: shape.fitting(a - (a - b) % m),
-    "CountCongruent": lambda a, b, m, shape: shape.fitting(count_congruent(a, b, a, m)),
+OF_ONE_MODULUS: dict[str, model.Model] = {
+    "Residue": lambda _, a, b, m: (a % m,),
+    "Negation": lambda _, a, b, m: (-a % m,),
+    "Sum": model.RESULTS["sum_modulo"],
+    "Difference": model.RESULTS["difference_modulo"],
+    "Product": model.RESULTS["product_modulo"],
+    "Power": lambda ends, a, b, m: model.power_modulo(ends, a, abs(b), m),
+    "Inverse": lambda ends, a, b, m: model.quotient_modulo(ends, 1, a, m),
+    "Quotient": model.quotient_modulo,
+    "Solutions": model.solutions,
+    "Next": model.next_congruent,
+    "Previous": model.previous_congruent,
+    "CountCongruent": lambda ends, a, b, m: model.count_congruent(ends, a, b, a, m),
 }
 
 
-def residue_class(a, m, b, n):
-    """The numbers that are a modulo m and b modulo n: the least from 0 on, and the step."""
-    turns = solutions(m, b - a, n)
-    if turns is None:
-        return None
-    step = lcm(m, n)
-    return ((a + m * turns[0]) % step, step)
+def next_common_solution(ends: Pair, a: int, m: int, b: int, n: int) -> Numbers:
+    found = model.next_common_solution(ends, b, a, m, b, n)
+    return (BEYOND,) if found == model.NOT_FITTING else found
 
 
-def chinese_remainder(a, m, b, n, shape):
-    return residue_class(a, m, b, n) if lcm(m, n) <= shape.greatest else None
-
-
-def next_common_solution(a, m, b, n, shape):
-    found = residue_class(a, m, b, n)
-    if found is None:
-        return None
-    first, step = found
-    return shape.fitting(b + (first - b) % step) or (BEYOND,)
-
-
-def of_one_modulus(shape, call):
-    answered = Answered()
+def of_one_modulus(shape: Shape, call: model.Model) -> Answered:
     numbers = shape.spread(36)
-    for a in numbers:
-        for b in numbers:
-            for m in numbers:
-                if m > 0:
-                    result = call(a, b, m, shape)
-                    answered.add(result and (a, b, m, *result))
-    return answered
+    return Answered(((a, b, m), call(shape.bounds, a, b, m)) for a in numbers for b in numbers for m in numbers if m > 0)
 
 
-def of_two_moduli(shape, call):
-    answered = Answered()
+def of_two_moduli(shape: Shape, call: Callable[..., Numbers]) -> Answered:
     numbers = shape.spread(24)
-    for a in numbers:
-        for m in numbers:
-            if m > 0:
-                for b in numbers:
-                    for n in numbers:
-                        if n > 0:
-                            result = call(a, m, b, n, shape)
-                            answered.add(result and (a, m, b, n, *result))
-    return answered
+    moduli = [m for m in numbers if m > 0]
+    return Answered(((a, m, b, n), call(shape.bounds, a, m, b, n)) for a in numbers for m in moduli for b in numbers for n in moduli)
 
 
-def residue_lines():
+def residue_lines() -> Iterator[Line]:
     for name, shape in TYPES.items():
-        for call, function in ONE_MODULUS.items():
+        for call, function in OF_ONE_MODULUS.items():
             yield name, call, of_one_modulus(shape, function)
-        yield name, "ChineseRemainder", of_two_moduli(shape, chinese_remainder)
+        yield name, "ChineseRemainder", of_two_moduli(shape, model.chinese_remainder)
         yield name, "NextSolution", of_two_moduli(shape, next_common_solution)
 
 
 # The calls of ratio64.
 
-def parts(x):
-    return (x.numerator, x.denominator)
+def parts(x: Fraction) -> Pair:
+    return x.numerator, x.denominator
 
 
-def answer(x):
+def answer(x: Fraction | None) -> Numbers:
     """The parts of a fraction, or what is counted if they do not fit or there is none."""
     if x is None:
         return (BEYOND,)
-    return I64.fitting(*parts(x)) or (NOT_FITTING,)
+    found = model.parts(x)
+    return found if isinstance(found, tuple) else (NOT_FITTING,)
 
 
-def rounded(x):
-    """The nearest number. Of two the one farther from 0."""
-    magnitude = (2 * abs(x.numerator) + x.denominator) // (2 * x.denominator)
-    return -magnitude if x < 0 else magnitude
-
-
-def ceiled(x):
-    return -(-x.numerator // x.denominator)
-
-
-def truncated(x):
-    whole = abs(x.numerator) // x.denominator
-    return -whole if x < 0 else whole
-
-
-def sign(x):
+def sign(x: Fraction) -> int:
     return (x > 0) - (x < 0)
 
 
-def power(x, n):
+def power(x: Fraction, n: int) -> Fraction | None:
     """The power, or None if there is none. One that is sure not to fit is not computed."""
     if x == 0:
         return None if n < 0 else Fraction(int(n == 0))
     if abs(x) == 1:
-        return x ** (n % 2)
-    return x**n if abs(n) <= 64 else Fraction(1 << 64)
+        return Fraction(x ** (n % 2))
+    return Fraction(x**n) if abs(n) <= 64 else Fraction(1 << 64)
 
 
-ONE_FRACTION = {
-    "Rounded": lambda x: (x.numerator // x.denominator, ceiled(x), truncated(x), rounded(x)),
-    "Fract": lambda x: parts(x - truncated(x)),
+ONE_FRACTION: dict[str, Callable[[Fraction], Numbers]] = {
+    "Rounded": lambda x: (math.floor(x), math.ceil(x), math.trunc(x), model.away_from_zero(x)),
+    "Fract": lambda x: parts(x - math.trunc(x)),
     "Sign": lambda x: (sign(x), 1),
     "Negation": lambda x: answer(-x),
     "Magnitude": lambda x: answer(abs(x)),
     "Reciprocal": lambda x: answer(1 / x if x else None),
 }
 
-FRACTION_AND_NUMBER = {
+FRACTION_AND_NUMBER: dict[str, Callable[[Fraction, int], Numbers]] = {
     "Power": lambda x, n: answer(power(x, n)) if -(1 << 31) <= n < 1 << 31 else None,
-    "FloorTimes": lambda x, n: I64.fitting(x.numerator * n // x.denominator),
-    "CeilTimes": lambda x, n: I64.fitting(ceiled(x * n)),
-    "RoundTimes": lambda x, n: I64.fitting(rounded(x * n)),
+    "FloorTimes": lambda x, n: model.fitting(model.I64, math.floor(x * n)),
+    "CeilTimes": lambda x, n: model.fitting(model.I64, math.ceil(x * n)),
+    "RoundTimes": lambda x, n: model.fitting(model.I64, model.away_from_zero(x * n)),
     "Limited": lambda x, n: parts(x.limit_denominator(n)) if n > 0 else None,
 }
 
-TWO_FRACTIONS = {
+TWO_FRACTIONS: dict[str, Callable[[Fraction, Fraction], Numbers]] = {
     "Sum": lambda x, y: answer(x + y),
     "Difference": lambda x, y: answer(x - y),
     "Product": lambda x, y: answer(x * y),
@@ -276,219 +200,121 @@ TWO_FRACTIONS = {
 }
 
 
-def fractions_of(numbers):
+def fractions_of(numbers: Sequence[int]) -> list[Fraction]:
     """The fractions of each two of the numbers, where there is one whose parts fit."""
     found = (Fraction(num, den) for num in numbers for den in numbers if den)
-    return [x for x in found if I64.fitting(*parts(x))]
+    return [x for x in found if isinstance(model.parts(x), tuple)]
 
 
-def each(call, fractions):
-    answered = Answered()
-    for x in fractions:
-        answered.add((*parts(x), *call(x)))
-    return answered
-
-
-def each_with_numbers(call, fractions, numbers):
-    answered = Answered()
-    for x in fractions:
-        for n in numbers:
-            result = call(x, n)
-            answered.add(result and (*parts(x), n, *result))
-    return answered
-
-
-def each_pair(call, fractions):
-    answered = Answered()
-    for x in fractions:
-        for y in fractions:
-            answered.add((*parts(x), *parts(y), *call(x, y)))
-    return answered
-
-
-def fraction_lines():
+def fraction_lines() -> Iterator[Line]:
     for bits in (16, 32, 64):
         numbers = signed(bits).spread(52)
         all_fractions, few = fractions_of(numbers), fractions_of(signed(bits).spread(16))
-        for call, function in ONE_FRACTION.items():
-            yield bits, call, each(function, all_fractions)
-        for call, function in FRACTION_AND_NUMBER.items():
-            yield bits, call, each_with_numbers(function, few, numbers)
-        for call, function in TWO_FRACTIONS.items():
-            yield bits, call, each_pair(function, few)
+        for call, of_one in ONE_FRACTION.items():
+            yield bits, call, Answered((parts(x), of_one(x)) for x in all_fractions)
+        for call, with_number in FRACTION_AND_NUMBER.items():
+            yield bits, call, Answered(((*parts(x), n), with_number(x, n)) for x in few for n in numbers)
+        for call, of_two in TWO_FRACTIONS.items():
+            yield bits, call, Answered(((*parts(x), *parts(y)), of_two(x, y)) for x in few for y in few)
 
 
-# The calls of calendar. datetime has the years from 1 to 9999, and any other date has the parts of the one some
-# times 400 years before or after it: 400 years have 146097 days.
+# The calls of calendar.
 
-def day_of(year, month, day):
-    turns, rest = divmod(year - 1, 400)
-    return datetime.date(rest + 1, month, day).toordinal() - 719163 + 146097 * turns
+def weekday_of(n: int) -> int:
+    return (n + 3) % 7 + 1
 
 
-def date_of(day):
-    """The date of a day by datetime, and the years to add to it."""
-    turns, rest = divmod(day + 719162, 146097)
-    return datetime.date.fromordinal(rest + 1), 400 * turns
-
-
-def date_parts(day):
-    date, years = date_of(day)
-    return (date.year + years, date.month, date.day)
-
-
-def days_in_month(year, month):
-    following = (year, month + 1, 1) if month < 12 else (year + 1, 1, 1)
-    return day_of(*following) - day_of(year, month, 1)
-
-
-def weekday_of(day):
-    """The number of the day of the week by ISO 8601."""
-    return date_of(day)[0].isoweekday()
-
-
-def day(n):
-    date, years = date_of(n)
+def day(n: int) -> Numbers:
+    own = model.of_day(n)
+    date = model.valid(*own)
     year, week, weekday = date.isocalendar()
-    own = date_parts(n)
-    of_year = n - day_of(own[0], 1, 1) + 1
-    return (n, *own, of_year, year + years, week, n, weekday, *own, *own)
+    return *own, date.timetuple().tm_yday, year + own[0] - date.year, week, n, weekday, *own, *own
 
 
-def easter(year):
-    """Easter by the rule that Jean Meeus gives."""
-    a, (b, c) = year % 19, divmod(year, 100)
-    (d, e), f = divmod(b, 4), (b + 8) // 25
-    h = (19 * a + b - d - (b - f + 1) // 3 + 15) % 30
-    i, k = divmod(c, 4)
-    x = (32 + 2 * e + 2 * i - h - k) % 7
-    m = (a + 11 * h + 22 * x) // 451
-    month, day_before = divmod(h + x - 7 * m + 114, 31)
-    return (year, month, day_before + 1)
+def year(n: int) -> Numbers:
+    leaps = model.days_in(n, 2) == 29
+    return int(leaps), 365 + leaps, model.weeks_in(n), *model.easter(model.I64, n)
 
 
-def year(n):
-    days = day_of(n + 1, 1, 1) - day_of(n, 1, 1)
-    weeks = date_of(day_of(n, 12, 28))[0].isocalendar()[1]
-    return (n, int(days == 366), days, weeks, *easter(n))
-
-
-def months(n):
-    return (n, *(days_in_month(n, month) for month in range(1, 13)))
-
-
-def places(n, month, weekday):
+def places(n: int, month: int, weekday: int) -> tuple[int, ...]:
     """The days of the month that have the day of the week, the last one first, and 0 for the fifth if there is
     none."""
-    first = day_of(n, month, 1)
-    days = [d for d in range(1, days_in_month(n, month) + 1) if weekday_of(first + d - 1) == weekday]
+    days = model.weekdays(n, month, weekday)
     return (days[-1], *days, *[0] * (5 - len(days)))
 
 
-def weekdays_of_month(n):
-    return (n, *(d for month in range(1, 13) for d in places(n, month, month % 7 + 1)))
+def nearest_weekdays(n: int) -> Numbers:
+    return model.fitting(model.I64, *(
+        next(d for d in range(n, n + 7 * step, step) if weekday_of(d) == weekday) for weekday in range(1, 8) for step in (1, -1)))
 
 
-def nearest_weekdays(n):
-    near = []
-    for weekday in range(1, 8):
-        near.append(next(d for d in range(n, n + 7) if weekday_of(d) == weekday))
-        near.append(next(d for d in range(n, n - 7, -1) if weekday_of(d) == weekday))
-    return I64.fitting(*near) and (n, *near)
-
-
-def plus_months(own, count):
-    turns, place = divmod(12 * own[0] + own[1] - 1 + count, 12)
-    return (turns, place + 1, min(own[2], days_in_month(turns, place + 1)))
-
-
-def months_between(start, end):
-    count = 12 * (end[0] - start[0]) + end[1] - start[1]
-    return count if plus_months(start, count) <= end else count - 1
-
-
-def years_between(start, end):
+def years_between(start: Triple, end: Triple) -> int:
     count = end[0] - start[0]
-    return count if plus_months(start, 12 * count) <= end else count - 1
+    return count - (model.months_later(start, 12 * count) > end)
 
 
-OF_NUMBER = {
+OF_NUMBER: dict[str, Callable[[int], Numbers]] = {
     "Day": day,
     "Year": year,
-    "Months": months,
-    "WeekdaysOfMonth": weekdays_of_month,
+    "Months": lambda n: tuple(model.days_in(n, month) for month in range(1, 13)),
+    "WeekdaysOfMonth": lambda n: tuple(d for month in range(1, 13) for d in places(n, month, month % 7 + 1)),
     "NearestWeekdays": nearest_weekdays,
 }
 
-OF_TWO_NUMBERS = {
-    "PlusDays": lambda d, n: date_parts(d + n),
-    "PlusMonths": lambda d, n: plus_months(date_parts(d), n),
-    "DaysBetween": lambda d, n: I64.fitting(n - d),
-    "MonthsBetween": lambda d, n: I64.fitting(months_between(date_parts(d), date_parts(n))),
-    "YearsBetween": lambda d, n: I64.fitting(years_between(date_parts(d), date_parts(n))),
+OF_TWO_NUMBERS: dict[str, Callable[[int, int], Result]] = {
+    "PlusDays": lambda d, n: model.within(model.of_day(d + n)),
+    "PlusMonths": lambda d, n: model.within(model.months_later(model.of_day(d), n)),
+    "DaysBetween": lambda d, n: model.fitting(model.I64, n - d),
+    "MonthsBetween": lambda d, n: model.months_between(model.I64, model.of_day(d), model.of_day(n)),
+    "YearsBetween": lambda d, n: model.fitting(model.I64, years_between(model.of_day(d), model.of_day(n))),
 }
 
 
-def date_lines():
-    answered = Answered()
-    for n in range(-719162, 2932897, 11):
-        answered.add(day(n))
-    yield 32, "EleventhDays", answered
+def date_lines() -> Iterator[Line]:
+    yield 32, "EleventhDays", Answered(((n,), day(n)) for n in range(-719162, 2932897, 11))
     for bits in (16, 32, 64):
-        for call, function in OF_NUMBER.items():
-            answered = Answered()
-            for n in signed(bits).spread(2048):
-                answered.add(function(n))
-            yield bits, call, answered
-        for call, function in OF_TWO_NUMBERS.items():
-            answered = Answered()
-            numbers = signed(bits).spread(128)
-            for d in numbers:
-                for n in numbers:
-                    result = function(d, n)
-                    fits = result is not None and I64.fitting(result[0])
-                    answered.add((d, n, *result) if fits else None)
-            yield bits, call, answered
+        for call, of_one in OF_NUMBER.items():
+            yield bits, call, Answered(((n,), of_one(n)) for n in signed(bits).spread(2048))
+        numbers = signed(bits).spread(128)
+        for call, of_two in OF_TWO_NUMBERS.items():
+            yield bits, call, Answered(((d, n), of_two(d, n)) for d in numbers for n in numbers)
 
 
-# The calls of uses.
+# The calls of applied.
 
-def range_of_page(page, size, items):
+def range_of_page(page: int, size: int, items: int) -> Result:
     first = min(page * size, items) if page >= 0 else items
-    return (first, min(first + size, items))
+    return first, min(first + size, items)
 
 
-def range_of_part(part, parts_wanted, items):
+def range_of_part(part: int, parts_wanted: int, items: int) -> Result:
     size, longer = divmod(items, parts_wanted)
     return tuple(size * k + min(k, longer) for k in (part, part + 1))
 
 
-MODELS = {
-    "Pages": lambda a, b, m, shape: (-(-a // m),),
-    "PlaceOf": lambda a, b, m, shape: divmod(a, m),
-    "RangeOfPage": lambda a, b, m, shape: range_of_page(a, m, b) if b >= 0 else None,
-    "RangeOfPart": lambda a, b, m, shape: range_of_part(a, m, b) if 0 <= a < m and b >= 0 else None,
-    "AlignUp": lambda a, b, m, shape: shape.fitting(-(-a // m) * m),
-    "Padding": lambda a, b, m, shape: (-a % m,),
-    "Midpoint": lambda a, b, m, shape: ((a + b) // 2,),
+MODELS: dict[str, model.Model] = {
+    "Pages": lambda _, a, b, m: (-(-a // m),),
+    "PlaceOf": lambda _, a, b, m: (a // m, a % m),
+    "RangeOfPage": lambda _, a, b, m: range_of_page(a, m, b) if b >= 0 else model.OUTSIDE,
+    "RangeOfPart": lambda _, a, b, m: range_of_part(a, m, b) if 0 <= a < m and b >= 0 else model.OUTSIDE,
+    "AlignUp": lambda ends, a, b, m: model.fitting(ends, -(-a // m) * m),
+    "Padding": lambda _, a, b, m: (-a % m,),
+    "Midpoint": lambda _, a, b, m: ((a + b) // 2,),
 }
 
 
-def model_lines():
+def model_lines() -> Iterator[Line]:
     for name in ("I64", "U64"):
         for call, function in MODELS.items():
             yield name, call, of_one_modulus(TYPES[name], function)
 
 
-def ranked_choices():
+def ranked_choices() -> Iterator[tuple[Sequence[int], Numbers]]:
     """The choices of the numbers below n, those with the smaller last number first."""
-    answered = Answered()
     for n in range(15):
         for k in range(n + 1):
             choices = sorted(combinations(range(n), k), key=lambda choice: choice[::-1])
-            for rank, choice in enumerate(choices):
-                answered.add((rank, *choice))
-    return answered
+            yield from (((rank,), choice) for rank, choice in enumerate(choices))
 
 
 HEAD = """\
@@ -506,32 +332,22 @@ use own_types::types::Type::{I16, I64, I128, U64, U128};
 """
 
 
-def line(key, call, answered):
+def line(key: str | int, call: str, answered: Answered) -> str:
     """A line, laid out as rt fmt does it."""
-    parts = [str(key), call, str(answered.count), str(answered.checksum)]
-    text = ", ".join(parts)
-    if len(text) <= 60:
-        return f"    ({text}),"
-    return "\n".join(["    (", *(f"        {part}," for part in parts), "    ),"])
+    columns = [str(key), call, str(answered.count), str(answered.checksum)]
+    text = ", ".join(columns)
+    return f"    ({text}),\n" if len(text) <= 60 else "".join(["    (\n", *(f"        {part},\n" for part in columns), "    ),\n"])
 
 
-def print_lines(name, key_type, calls, lines):
+def table(name: str, key_type: str, calls: str, lines: Iterable[Line]) -> str:
     texts = [line(key, f"{calls}::{call}", answered) for key, call, answered in lines]
-    print(f"\npub(crate) const {name}: [LibraryLine<{key_type}, {calls}>; {len(texts)}] = [")
-    print("\n".join(texts))
-    print("];")
+    return f"\npub(crate) const {name}: [LibraryLine<{key_type}, {calls}>; {len(texts)}] = [\n{''.join(texts)}];\n"
 
 
-def main():
-    print(HEAD, end="")
-    print_lines("RESIDUES", "Type", "Residues", residue_lines())
-    print_lines("FRACTIONS", "u32", "Fractions", fraction_lines())
-    print_lines("DATES", "u32", "Dates", date_lines())
-    print_lines("MODELS", "Type", "Models", model_lines())
-    choices = ranked_choices()
-    print("\n/// All choices of the numbers below each number up to 14.")
-    print(f"pub(crate) const CHOICES: Answered = Answered({choices.count}, Checksum({choices.checksum}));")
-
-
-if __name__ == "__main__":
-    main()
+def made() -> str:
+    """The file."""
+    choices = Answered(ranked_choices())
+    return (HEAD + table("RESIDUES", "Type", "Residues", residue_lines()) + table("FRACTIONS", "u32", "Fractions", fraction_lines())
+            + table("DATES", "u32", "Dates", date_lines()) + table("MODELS", "Type", "Models", model_lines())
+            + "\n/// All choices of the numbers below each number up to 14.\n"
+            + f"pub(crate) const CHOICES: Answered = Answered({choices.count}, Checksum({choices.checksum}));\n")

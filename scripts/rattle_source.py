@@ -150,6 +150,12 @@ class Source:
         """The text from a place to another, as it stands."""
         return ''.join(token.text for token in self.tokens[self.code[first]:self.code[last] + 1])
 
+    def drop(self, first: int, last: int) -> int:
+        """Drops what stands from a place to another, and returns the place after it."""
+        for i in range(self.code[first], self.code[last] + 1):
+            self.texts[i] = ''
+        return last + 1
+
     def docs(self, item: Item | Field) -> list[int]:
         """The numbers of the tokens of the doc comment of an item or a field."""
         start = self.code[item.first - 1] + 1 if item.first else 0

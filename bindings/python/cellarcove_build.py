@@ -5,6 +5,8 @@ It needs no other package, so that `pip install` works offline. The archive is t
 one that the variable CELLARCOVE_ARCHIVE names. A source distribution has a copy of what it needs in `vendor`.
 """
 
+from __future__ import annotations
+
 import base64
 import gzip
 import hashlib
@@ -19,20 +21,24 @@ import sysconfig
 import tarfile
 import tempfile
 import zipfile
+from collections.abc import Iterable, Iterator
+from typing import IO, Any, Dict, Optional, cast
 
 HERE = pathlib.Path(__file__).resolve().parent
 NAME, TAG = 'cellarcove', 'cp39-abi3'
 EXTENSION = '_calls.abi3.so'
 VENDOR = HERE / 'vendor'
 ROOT = VENDOR if VENDOR.is_dir() else HERE.parents[1]
-VERSION = re.findall(r'^version = "(.*)"$', (ROOT / 'rust' / 'Cargo.toml').read_text(), re.M)[0]
+VERSION = re.findall(r'^#define CELLARCOVE_VERSION "(.*)"', (ROOT / 'bindings' / 'c' / 'cellarcove.h').read_text(), re.M)[0]
 INFO = f'{NAME}-{VERSION}.dist-info'
 LICENCES = ('LICENSE-APACHE', 'LICENSE-MIT')
 VENDORED = ('bindings/build', 'bindings/c/cellarcove.h', *sorted(f'rust/{path.name}' for path in (ROOT / 'rust').glob('*.*') if path.is_file()),
             'rust/src', 'rust/c/Cargo.toml', 'rust/c/src', *LICENCES)
 
+Settings = Optional[Dict[str, Any]]
 
-def archive_of_calls():
+
+def archive_of_calls() -> pathlib.Path:
     """The archive of the calls."""
     named = os.environ.get('CELLARCOVE_ARCHIVE')
     if named:
@@ -41,7 +47,7 @@ def archive_of_calls():
     return ROOT / 'bindings' / 'out' / 'libcellarcove_c.a'
 
 
-def link(to):
+def link(to: pathlib.Path) -> None:
     """Makes the extension."""
     compiler = shlex.split(os.environ.get('CC', 'cc'))
     flags = shlex.split(os.environ.get('CFLAGS', '-O2'))
@@ -49,7 +55,7 @@ def link(to):
                     f'-I{ROOT / "bindings" / "c"}', HERE / 'src' / 'calls.c', archive_of_calls(), '-Wl,--as-needed', '-o', to], check=True)
 
 
-def platforms(extension):
+def platforms(extension: pathlib.Path) -> str:
     """The platforms that the extension runs on, by the versions of the symbols of the C library that it needs."""
     platform = re.sub('[-.]', '_', sysconfig.get_platform())
     found = re.fullmatch('linux_(x86_64|aarch64)', platform)
@@ -66,7 +72,7 @@ def platforms(extension):
     return '.'.join(tags + [f'musllinux_1_1_{machine}'] * (not needed))
 
 
-def metadata():
+def metadata() -> str:
     """The description of the package, from pyproject.toml and README.md."""
     project = (HERE / 'pyproject.toml').read_text()
     lines = ['Metadata-Version: 2.1', f'Name: {NAME}', f'Version: {VERSION}', 'Summary: Proved integer arithmetic, fractions and dates',
@@ -75,13 +81,13 @@ def metadata():
     return '\n'.join([*lines, 'Description-Content-Type: text/markdown', '', (HERE / 'README.md').read_text()])
 
 
-def package_files():
+def package_files() -> Iterator[tuple[str, bytes]]:
     for path in sorted((HERE / NAME).iterdir()):
         if path.suffix in ('.py', '.pyi', '.typed'):
             yield f'{NAME}/{path.name}', path.read_bytes()
 
 
-def info_files(tag):
+def info_files(tag: str) -> Iterator[tuple[str, bytes]]:
     yield f'{INFO}/METADATA', metadata().encode()
     for name in LICENCES:
         yield f'{INFO}/licenses/{name}', (ROOT / name).read_bytes()
@@ -89,13 +95,13 @@ def info_files(tag):
     yield f'{INFO}/WHEEL', f'Wheel-Version: 1.0\nGenerator: {NAME}_build\nRoot-Is-Purelib: false\n{tags}'.encode()
 
 
-def write_wheel(folder, files, tag):
+def write_wheel(folder: str, files: Iterable[tuple[str, bytes]], tag: str) -> str:
     """Writes a wheel of the files, and their list."""
     wheel = f'{NAME}-{VERSION}-{TAG}-{tag}.whl'
     with zipfile.ZipFile(pathlib.Path(folder) / wheel, 'w', zipfile.ZIP_DEFLATED) as archive:
         record = ''
 
-        def add(name, data):
+        def add(name: str, data: bytes) -> None:
             entry = zipfile.ZipInfo(name)
             entry.external_attr = (0o755 if name.endswith('.so') else 0o644) << 16
             archive.writestr(entry, data)
@@ -103,11 +109,11 @@ def write_wheel(folder, files, tag):
             add(name, data)
             digest = base64.urlsafe_b64encode(hashlib.sha256(data).digest()).rstrip(b'=').decode()
             record += f'{name},sha256={digest},{len(data)}\n'
-        add(f'{INFO}/RECORD', f'{record}{INFO}/RECORD,,\n')
+        add(f'{INFO}/RECORD', f'{record}{INFO}/RECORD,,\n'.encode())
     return wheel
 
 
-def build_wheel(wheel_directory, config_settings=None, metadata_directory=None):
+def build_wheel(wheel_directory: str, config_settings: Settings = None, metadata_directory: str | None = None) -> str:
     """The hook of PEP 517 for wheels."""
     with tempfile.TemporaryDirectory() as folder:
         made = pathlib.Path(folder) / EXTENSION
@@ -117,7 +123,7 @@ def build_wheel(wheel_directory, config_settings=None, metadata_directory=None):
         return write_wheel(wheel_directory, files, tag)
 
 
-def build_editable(wheel_directory, config_settings=None, metadata_directory=None):
+def build_editable(wheel_directory: str, config_settings: Settings = None, metadata_directory: str | None = None) -> str:
     """The hook of PEP 660: a wheel that leads to this folder, in which the extension is made."""
     made = HERE / NAME / EXTENSION
     link(made)
@@ -125,25 +131,25 @@ def build_editable(wheel_directory, config_settings=None, metadata_directory=Non
     return write_wheel(wheel_directory, [(f'{NAME}.pth', f'{HERE}\n'.encode()), *info_files(tag)], tag)
 
 
-def get_requires_for_build_wheel(config_settings=None):
+def get_requires_for_build_wheel(config_settings: Settings = None) -> list[str]:
     return []
 
 
 get_requires_for_build_editable = get_requires_for_build_sdist = get_requires_for_build_wheel
 
 
-def build_sdist(sdist_directory, config_settings=None):
+def build_sdist(sdist_directory: str, config_settings: Settings = None) -> str:
     """The hook of PEP 517 for source distributions."""
     top = f'{NAME}-{VERSION}'
 
-    def plain(entry):
+    def plain(entry: tarfile.TarInfo) -> tarfile.TarInfo | None:
         entry.uid = entry.gid = entry.mtime = 0
         entry.uname = entry.gname = ''
         entry.mode = 0o755 if entry.mode & 0o100 else 0o644
         wanted = '__pycache__' not in entry.name and not entry.name.endswith('.so')
         return entry if wanted else None
     with gzip.GzipFile(pathlib.Path(sdist_directory) / f'{top}.tar.gz', 'wb', mtime=0) as packed, \
-            tarfile.open(fileobj=packed, mode='w', format=tarfile.PAX_FORMAT) as archive:
+            tarfile.open(fileobj=cast(IO[bytes], packed), mode='w', format=tarfile.PAX_FORMAT) as archive:
         for name in (NAME, 'src', 'tests', 'README.md', 'cellarcove_build.py', 'pyproject.toml'):
             archive.add(HERE / name, f'{top}/{name}', filter=plain)
         for name in VENDORED:

@@ -42,27 +42,11 @@ def divided(*makers: Callable[[int, int], int]) -> Model:
     return lambda bounds, x, y: fitting(bounds, *(make(x, y) for make in makers)) if y else OUTSIDE
 
 
-def floor(x: int, y: int) -> int:
-    return x // y
-
-
 def ceil(x: int, y: int) -> int:
     return -(-x // y)
 
 
-def product_div_mod_floor(bounds: Pair, a: int, b: int, d: int) -> Result:
-    return fitting(bounds, *divmod(a * b, d)) if d else OUTSIDE
-
-
-def is_multiple_of(_: Pair, x: int, y: int) -> Result:
-    return (int(x % y == 0 if y else x == 0),)
-
-
 # ---- divisors, averages, roots and coefficients
-
-def gcd_lcm(bounds: Pair, x: int, y: int) -> Result:
-    return fitting(bounds, math.gcd(x, y), math.lcm(x, y))
-
 
 def is_bezout(bounds: Pair, x: int, y: int, status: int, values: Sequence[int] | None) -> bool:
     """Whether the result of extended_gcd is one: the equation holds, and the coefficients are small. Of 0 and 0 they are 1 and 0."""
@@ -97,14 +81,6 @@ def signed_root(x: int, degree: int) -> int:
     return root(x, degree) if x >= 0 else -root(-x, degree)
 
 
-def sqrt(_: Pair, x: int) -> Result:
-    return OUTSIDE if x < 0 else (math.isqrt(x),)
-
-
-def nth_root(_: Pair, x: int, degree: int) -> Result:
-    return OUTSIDE if degree == 0 or (x < 0 and degree % 2 == 0) else (signed_root(x, degree),)
-
-
 def is_power(x: int, degree: int) -> bool:
     """Whether the number is a power of this degree of an integer."""
     if degree == 0 or x in (0, 1):
@@ -118,10 +94,6 @@ def coefficient(n: int, k: int) -> int:
         return 0
     k = min(k, n - k)
     return 2**64 if k >= WIDEST_CHOICE else math.comb(n, k)
-
-
-def binomial(bounds: Pair, n: int, k: int) -> Result:
-    return OUTSIDE if n < 0 or k < 0 else fitting(bounds, coefficient(n, k))
 
 
 def multinomial(bounds: Pair, counts: Sequence[int]) -> Result:
@@ -367,7 +339,7 @@ def date_from_iso_week(_: Pair, year: int, week: int, weekday: int) -> Result:
     return within(dated(year, datetime.date.fromisocalendar(near(year), week, weekday)))
 
 
-def easter(_: Pair, year: int) -> Result:
+def easter(_: Pair, year: int) -> Triple:
     """By the rule of Meeus, Jones and Butcher, which repeats after 5,700,000 years."""
     y = year % 5_700_000
     golden, (century, rest) = y % 19, divmod(y, 100)
@@ -401,28 +373,28 @@ RESULTS: dict[str, Model] = {
     'checked_difference': lambda bounds, a, b: fitting(bounds, a - b),
     'checked_product': lambda bounds, a, b: fitting(bounds, a * b),
     'div_rem': divided(toward_zero, lambda x, y: x - toward_zero(x, y) * y),
-    'div_floor': divided(floor),
+    'div_floor': divided(operator.floordiv),
     'div_ceil': divided(ceil),
-    'mod_floor': divided(lambda x, y: x % y),
-    'div_mod_floor': divided(floor, lambda x, y: x % y),
-    'product_div_mod_floor': product_div_mod_floor,
+    'mod_floor': divided(operator.mod),
+    'div_mod_floor': divided(operator.floordiv, operator.mod),
+    'product_div_mod_floor': lambda bounds, a, b, d: fitting(bounds, *divmod(a * b, d)) if d else OUTSIDE,
     'next_multiple_of': divided(lambda x, y: ceil(x, y) * y),
-    'prev_multiple_of': divided(lambda x, y: floor(x, y) * y),
-    'is_multiple_of': is_multiple_of,
+    'prev_multiple_of': divided(lambda x, y: x // y * y),
+    'is_multiple_of': lambda _, x, y: (int(x % y == 0 if y else x == 0),),
     'gcd': lambda bounds, x, y: fitting(bounds, math.gcd(x, y)),
     'lcm': lambda bounds, x, y: fitting(bounds, math.lcm(x, y)),
-    'gcd_lcm': gcd_lcm,
+    'gcd_lcm': lambda bounds, x, y: fitting(bounds, math.gcd(x, y), math.lcm(x, y)),
     'average_floor': lambda _, x, y: ((x + y) // 2,),
     'average_ceil': lambda _, x, y: ((x + y + 1) // 2,),
     'gcd_of': lambda bounds, numbers: fitting(bounds, math.gcd(*numbers)),
     'lcm_of': lambda bounds, numbers: fitting(bounds, math.lcm(*numbers)),
-    'sqrt': sqrt,
+    'sqrt': lambda _, x: OUTSIDE if x < 0 else (math.isqrt(x),),
     'cbrt': lambda _, x: (signed_root(x, 3),),
-    'nth_root': nth_root,
+    'nth_root': lambda _, x, n: OUTSIDE if n == 0 or (x < 0 and n % 2 == 0) else (signed_root(x, n),),
     'is_square': lambda _, x: (int(is_power(x, 2)),),
     'is_power': lambda _, x, degree: (int(is_power(x, degree)),),
     'is_perfect_power': lambda _, x: (int(any(is_power(x, degree) for degree in range(2, 65))),),
-    'binomial': binomial,
+    'binomial': lambda bounds, n, k: OUTSIDE if n < 0 or k < 0 else fitting(bounds, coefficient(n, k)),
     'multinomial': multinomial,
     'rank': rank,
     'choice_of_rank': choice_of_rank,

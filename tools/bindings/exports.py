@@ -2,6 +2,7 @@
 import functools
 import re
 from collections.abc import Iterator
+from pathlib import Path
 from typing import NamedTuple
 
 from rattle_source import Item, Source
@@ -141,6 +142,14 @@ def read() -> Exports:
             elif item.kind == 'fn' and 'no_mangle' in words:
                 found.calls.append(call_of(path.stem, source, item))
     return found
+
+
+def filled(template: str, **parts: str) -> str:
+    """A template with its parts in the place of their names in braces."""
+    text = (Path(__file__).parent / 'templates' / template).read_text()
+    for name, part in parts.items():
+        text = text.replace(f'{{{name}}}', part.rstrip('\n'))
+    return text
 
 
 EXPORTS = functools.lru_cache(maxsize=1)(read)

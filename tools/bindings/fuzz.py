@@ -7,6 +7,8 @@ number. Of those that it lacks the shared library makes them, if it is given.
 It prints each call that is wrong, and at the end how many calls it made of how many exports. Its status is 1 if a call was
 wrong, or if by_python.py does not say what an export returns. First it wants of some calls what another returns, and each has to be
 found."""
+from __future__ import annotations
+
 import argparse
 import array
 import ctypes

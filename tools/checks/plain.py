@@ -16,7 +16,7 @@ class Plain:
 
     def __init__(self, path: Path, text: str) -> None:
         self.source = Source(path, text)
-        self.at, self.texts = self.source.at, self.source.texts
+        self.at, self.drop, self.texts = self.source.at, self.source.drop, self.source.texts
         for i, token in enumerate(self.source.tokens):
             if token.kind in ('line', 'block'):
                 self.texts[i] = ''
@@ -31,12 +31,6 @@ class Plain:
     def words(self, first: int, last: int) -> list[str]:
         return [self.at(k) for k in range(first, last + 1)]
 
-    def drop(self, first: int, last: int) -> int:
-        """Drops what stands from a place to another, and returns the place after it."""
-        for k in range(first, last + 1):
-            self.texts[self.source.code[k]] = ''
-        return last + 1
-
     def drop_from_list(self, k: int) -> int:
         """Drops a name of a list, as of a `use` or of bounds, with a sign beside it."""
         before = self.at(k - 1) == '+' or self.at(k - 1) == ',' and self.at(k + 1) not in ('+', ',')
@@ -50,7 +44,8 @@ class Plain:
             if item.of_trait in GHOST or ['cfg', '(', 'test'] in [words[2:5] for words in attributes] or is_main:
                 self.drop(item.first, item.last)
             elif item.kind in ('struct', 'enum') and not any('Debug' in words for words in attributes):
-                self.texts[self.source.code[item.first]] = '#[derive(Debug)]\n' + self.at(item.first)
+                first = item.attributes[-1][1] + 1 if item.attributes else item.first
+                self.texts[self.source.code[first]] = '#[derive(Debug)]\n' + self.at(first)
             self.items(item.items)
 
     def step(self, k: int) -> int:

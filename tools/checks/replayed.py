@@ -1,19 +1,13 @@
-"""Makes crates/replay/src/tests/libraries.rt, by compare/libraries.py."""
-import subprocess
-import sys
-
+"""crates/replay/src/tests/libraries.rt, by compare/libraries.py."""
+from compare import libraries
 from tools import ROOT, as_made, write
 
 NAME = 'crates/replay/src/tests/libraries.rt'
 
 
-def made() -> dict[str, str]:
-    return {NAME: subprocess.run([sys.executable, ROOT / 'compare/libraries.py'], capture_output=True, text=True, check=True).stdout}
-
-
 def make(_: list[str]) -> bool:
-    return write(ROOT, made())
+    return write(ROOT, {NAME: libraries.made()})
 
 
 def check(_: list[str]) -> bool:
-    return as_made(ROOT, made())
+    return as_made(ROOT, {NAME: libraries.made()})

@@ -36,7 +36,7 @@ CHANGED = {('integer_core', 'src/native.rt'): (
     ('        magnitude.as_()\n', '        <Self as num_traits::NumCast>::from(magnitude.to_128_bits()).expect("attempt to narrow with overflow")\n'),
     ('pub trait Native: Copy + Num +', 'pub trait Native: Copy + Num + num_traits::NumCast +'))}
 # By crate and a name: the files of prelude/ that the lines of the crate with that name get.
-PRELUDES = {('integer_core', 'Own('): ('own',), ('integer_roots', 'Own('): ('own', 'roots_of_own'), ('intcalc_core', 'writer('): ('writer',),
+PRELUDES = {('integer_core', 'Own('): ('own',), ('integer_roots', 'Own('): ('own', 'roots_of_own'), ('intcalc_core', 'writer('): ('sink', 'writer'),
             ('intcalc', 'writer('): ('writer',), ('intcalc', 'args('): ('args',)}
 CONFIG = '[source.crates-io]\nreplace-with = "debian"\n[source.debian]\ndirectory = "{registry}"\n'
 PACKAGE = '[package]\nname = "{name}"\nversion = "0.0.0"\nedition = "2021"\n[dependencies]\nnum-traits = "0.2"\n'
