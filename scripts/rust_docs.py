@@ -177,7 +177,7 @@ class Contract:
 
     def lines(self) -> list[str]:
         parts = [f'`{clause}`' for clause in self.clauses] + [f'Words: {", ".join(self.words)}'] * bool(self.words)
-        return ['', f'## {self.title}', *(line for part in parts for line in wrapped(f'- {part}', indent='  '))]
+        return [f'## {self.title}', *(line for part in parts for line in wrapped(f'- {part}', indent='  '))]
 
 
 @dataclass
@@ -313,5 +313,5 @@ def contracts(page: Page, head: list[str]) -> str:
     """The module `definitions::contracts`, below a head by hand: the contract of each public item."""
     found = [contract for _, listed in sorted(page.contracts.items(), key=lambda row: row[0]) for contract in listed]
     see_each_once([contract.title for contract in found], 'crates/*/src')
-    lines = [*head, *(line for contract in found for line in contract.lines())]
+    lines = [*head, '', *(line for contract in found for line in contract.lines())]
     return f'{inner(lines)}\nuse super::{{{", ".join(sorted(page.cited))}}};\n'

@@ -76,8 +76,9 @@ def methods(library: RustLibrary) -> dict[str, set[tuple[Place, str]]]:
     for module in library.modules.values():
         for item in module.items:
             place = library.place_of(module, item) if item.kind == 'trait' else None
-            for inner in item.items if place is not None else ():
-                found.setdefault(inner.name, set()).add((place, item.name))
+            if place is not None:
+                for inner in item.items:
+                    found.setdefault(inner.name, set()).add((place, item.name))
     return found
 
 

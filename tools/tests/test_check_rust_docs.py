@@ -22,7 +22,7 @@ LACKS = [
 
 @pytest.mark.parametrize('text, wanted', LACKS)
 def test_lacks(text: str, wanted: list[str]) -> None:
-    source = Source('lib.rs', text)
+    source = Source(pathlib.Path('lib.rs'), text)
     assert list(check_rust_docs.lacks(source, source.items()[0])) == wanted
 
 

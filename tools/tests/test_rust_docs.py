@@ -219,10 +219,8 @@ def test_contracts(tmp_path: pathlib.Path) -> None:
 //! - `ensures even { IsEven result }`
 //! - `ensures { result + result ≡ x }`
 //! - Words: [`IsEven`](num_integer#iseven)
-//!
 //! ## `Halved`
 //! - `ghost low_law: { low ≡ 0 }`
-//!
 //! ## `Default` for `Twice`
 //! - `ghost is_default = { λ x. x ≡ 2 }`
 
