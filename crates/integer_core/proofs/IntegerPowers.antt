@@ -1,5 +1,5 @@
 -- Powers of integers: of 0 and 1, their signs, one degree more, and the double degree.
-use Rattle.integer_core.proofs.Common.{◌≡◌, ◌⊎◌, ◌+◌, ◌%◌, ◌^◌, ◌<◌, ◌*◌, ◌*ℤ◌, ℤ, ℕ, pos, negsuc, neg_ℤ, zero, suc, unsigned_abs, int_pow, arith, ap, ◌∙◌, inl, inr, refl, sym, negsuc-*ℤ-pos, pow-zero, pow-succ', pow-lt-pow_left, cases_lt, ints, expand, products}
+use Rattle.integer_core.proofs.Common.{◌≡◌, ◌⊎◌, ◌+◌, ◌%◌, ◌^◌, ◌<◌, ◌*ℤ◌, ℤ, ℕ, pos, negsuc, neg_ℤ, zero, suc, unsigned_abs, int_pow, arith, ap, ◌∙◌, inl, inr, refl, sym, negsuc-*ℤ-pos, pow-zero, pow-succ', pow-lt-pow_left, cases_lt, ints, expand, products}
 
 -- the powers of 1
 pub power_of_one : (n : ℕ) → 1 ^ n ≡ 1

@@ -9,7 +9,9 @@ ghost use Rattle.integer_core.specs.Only.{IsOnly};
 ghost use Rattle.integer_core.specs.Runs.{RunHasTurns};
 
 use crate::Integer;
-use crate::operators::{difference, is_negative, is_zero, negated, one, product, zero};
+use crate::guards::check_pair;
+use crate::operators::{is_negative, is_zero, one, zero};
+use crate::plain::{difference, negated, product};
 
 /// A greatest common divisor with Bezout's coefficients: for the operands `a` and `b`, `a * x + b * y`
 /// equals `gcd`. `240.extended_gcd(&46)` is `ExtendedGcd { gcd: 2, x: -9, y: 47 }`.
@@ -33,12 +35,12 @@ struct Row<A> {
 
 impl<T: Integer> Row<T> {
     /// Returns the first operand as a row.
-    fn of_first(a: T) -> Row<T>
+    fn of_first(a: T) -> Self
         ensures remainder { T.value result.remainder ≡ T.value a }
         ensures x { T.value result.x ≡ pos 1 }
         ensures y { T.value result.y ≡ pos 0 }
     {
-        Row {
+        Self {
             remainder: a,
             x: one(),
             y: zero(),
@@ -135,6 +137,7 @@ pub fn extended_gcd_counted<T: Integer>(a: T, b: T) -> (ExtendedGcd<T>, u32)
         → fibonacci (result.1 + 2) * unsigned_abs (T.value result.0.gcd)
         ≤ unsigned_abs (T.value b) }
 {
+    check_pair(&a, &b, "no pair of coefficients fits the unsigned type");
     if is_zero(b) {
         (Row::of_first(a).normalized(), 0)
     } else {

@@ -5,7 +5,8 @@ ghost use Rattle.integer_core.specs.Division.{IsFloored, IsQuotient, IsTruncated
 ghost use Rattle.integer_core.specs.Range.{EachFits};
 
 use crate::native::Native;
-use crate::operators::{is_negative, is_zero, predecessor, quotient, remainder, sum};
+use crate::operators::{is_negative, is_zero, quotient, remainder};
+use crate::plain::{predecessor, sum};
 use num_traits::Num;
 
 /// Returns the quotient rounded toward zero, and its remainder.

@@ -1,8 +1,7 @@
 //! Conditions that plain Rust tests, each with the reason that it panics with. In Rattle a caller has proved them, so none of these
 //! functions tests anything. Those of plain Rust are written by hand, in `rust/by_hand/src/integer_core/guards.rs`.
 
-ghost use Rattle.std.specs.Prelude.{◌≡◌, ◌+ℤ◌, ◌*ℤ◌, ◌≤ℤ◌, ◌<ℤ◌, pos, IsTrue, IsSome, IfSome};
-ghost use Rattle.std.specs.List.{All};
+ghost use Rattle.std.specs.Prelude.{◌≡◌, ◌+ℤ◌, ◌*ℤ◌, ◌≤ℤ◌, ◌<ℤ◌, pos, All, IsTrue, IsSome, IfSome};
 ghost use Rattle.integer_core.specs.Bezout.{HasPair};
 ghost use Rattle.integer_core.specs.Divisors.{GcdFits, IsLeastCommonMultiple};
 ghost use Rattle.integer_core.specs.Range.{EachFits};
@@ -13,8 +12,7 @@ use num_traits::Num;
 /// Says that the condition holds. In plain Rust it panics with the reason if it does not.
 pub fn check(condition: bool, reason: &str)
     requires { IsTrue condition }
-{
-}
+{}
 
 /// Returns the value. In plain Rust it panics with the reason if there is none.
 pub fn some<A>(value: Option<A>, reason: &str) -> A
@@ -46,25 +44,21 @@ pub fn product_or<T: Num>(a: T, b: T, reason: &str) -> T
 
 /// Says that the greatest common divisor and a pair of coefficients fit. In plain Rust it panics at a built-in type if they do not.
 pub fn check_pair<T: Integer>(a: &T, b: &T, reason: &str)
-    requires gcd_fits { GcdFits T.fits (T.value a) (T.value b) }
-    requires has_pair { HasPair T.fits (T.value a) (T.value b) }
-{
-}
+    requires gcd_fits { GcdFits T.fits (T.value a.now) (T.value b.now) }
+    requires has_pair { HasPair T.fits (T.value a.now) (T.value b.now) }
+{}
 
 /// Says that the least common multiple fits. In plain Rust it panics at a built-in type if it does not.
 pub fn check_lcm<T: Integer>(m: &T, n: &T, reason: &str)
-    requires { EachFits T.fits (IsLeastCommonMultiple (T.value m) (T.value n)) }
-{
-}
+    requires { EachFits T.fits (IsLeastCommonMultiple (T.value m.now) (T.value n.now)) }
+{}
 
 /// Says that no number is negative. In plain Rust it panics with the reason if one is.
 pub fn check_none_negative<T: Integer>(numbers: &[T], reason: &str)
-    requires { All (λ x. pos 0 ≤ℤ T.value x) numbers }
-{
-}
+    requires { All (λ x. pos 0 ≤ℤ T.value x) numbers.now }
+{}
 
 /// Says that the second number of each pair is positive. In plain Rust it panics with the reason if one is not.
 pub fn check_second_positive<T: Integer>(pairs: &[(T, T)], reason: &str)
-    requires { All (λ p. pos 0 <ℤ T.value p.1) pairs }
-{
-}
+    requires { All (λ p. pos 0 <ℤ T.value p.1) pairs.now }
+{}

@@ -5,12 +5,24 @@ ghost use Rattle.std.specs.Int.{w8, w16, w32, w64, w128};
 ghost use Rattle.std.proofs.Common.{lit≤};
 ghost use Rattle.integer_core.specs.NativeRanges.{IsNative, signed_native, unsigned_native};
 
-use crate::operators::{difference, is_negative, successor, zero};
+use crate::operators::{is_negative, zero};
+use crate::plain::{difference, successor};
 use crate::stein::Magnitude;
-use num_traits::{AsPrimitive, Bounded, FixedWidth, Num};
+use num_traits::{
+    AsPrimitive, Bounded, CheckedAdd, CheckedMul, CheckedSub, FixedWidth, Num, NumCast,
+};
 
 /// A native integer type. No other crate can name this trait.
-pub trait Native: Copy + Num + Ord + Bounded + FixedWidth + AsPrimitive<Self::Magnitude> {
+pub trait Native: Copy
+    + Num
+    + NumCast
+    + CheckedAdd
+    + CheckedSub
+    + CheckedMul
+    + Ord
+    + Bounded
+    + FixedWidth
+    + AsPrimitive<Self::Magnitude> {
     /// The type of the magnitudes.
     type Magnitude: Magnitude + AsPrimitive<Self>;
 
@@ -103,13 +115,13 @@ impl Native for u32 {
 }
 
 impl Native for u64 {
-    type Magnitude = u64;
+    type Magnitude = Self;
 
     ghost native_law = { unsigned_native w64 64 (lit≤ tt) };
 }
 
 impl Native for u128 {
-    type Magnitude = u128;
+    type Magnitude = Self;
 
     ghost native_law = { unsigned_native w128 128 (lit≤ tt) };
 }

@@ -11,11 +11,12 @@ ghost use Rattle.integer_core.specs.NativeRanges.{within_128_bits};
 ghost use Rattle.integer_core.specs.Range.{EachFits};
 ghost use Rattle.num_traits.specs.Ints.{unsigned-low};
 
+use crate::guards::{product_or, some};
 use crate::native::Native;
-use num_traits::{Bounded, Integral};
+use num_traits::{Bounded, Integral, cast};
 
 /// A type of magnitudes, `u64` or `u128`, with the operations on bits that Stein's method needs.
-pub trait Magnitude: Copy + PartialOrd + Integral {
+pub trait Magnitude: Copy + num_traits::NumCast + PartialOrd + Integral {
     /// Returns `true` if the number is 0. `7.is_zero()` is `false`.
     fn is_zero(self) -> bool
         ensures { IsTrue result ↔ (Self.value self ≡ pos 0) };
@@ -91,28 +92,32 @@ impl Magnitude for u64 {
         self == 0
     }
 
-    fn successor(self) -> u64 {
+    fn successor(self) -> Self {
         self + 1
     }
 
-    fn times_quotient(self, dividend: u64, divisor: u64) -> u64 {
-        self * (dividend / divisor)
+    fn times_quotient(self, dividend: Self, divisor: Self) -> Self {
+        product_or(
+            self,
+            dividend / divisor,
+            "the least common multiple does not fit",
+        )
     }
 
-    fn odd_part(self) -> (u64, u32) {
+    fn odd_part(self) -> (Self, u32) {
         let twos = self.trailing_zeros();
         (self >> twos, twos)
     }
 
-    fn times_power_of_two(self, twos: u32) -> u64 {
+    fn times_power_of_two(self, twos: u32) -> Self {
         self << twos
     }
 
-    fn odd_difference(self, smaller: u64) -> u64 {
+    fn odd_difference(self, smaller: Self) -> Self {
         (self - smaller) >> (self ^ smaller).trailing_zeros()
     }
 
-    fn to_64_bits(self) -> Option<u64> {
+    fn to_64_bits(self) -> Option<Self> {
         Some(self)
     }
 
@@ -120,7 +125,7 @@ impl Magnitude for u64 {
         u128::from(self)
     }
 
-    fn from_64_bits(x: u64) -> u64 {
+    fn from_64_bits(x: Self) -> Self {
         x
     }
 }
@@ -136,24 +141,28 @@ impl Magnitude for u128 {
         self == 0
     }
 
-    fn successor(self) -> u128 {
+    fn successor(self) -> Self {
         self + 1
     }
 
-    fn times_quotient(self, dividend: u128, divisor: u128) -> u128 {
-        self * (dividend / divisor)
+    fn times_quotient(self, dividend: Self, divisor: Self) -> Self {
+        product_or(
+            self,
+            dividend / divisor,
+            "the least common multiple does not fit",
+        )
     }
 
-    fn odd_part(self) -> (u128, u32) {
+    fn odd_part(self) -> (Self, u32) {
         let twos = self.trailing_zeros();
         (self >> twos, twos)
     }
 
-    fn times_power_of_two(self, twos: u32) -> u128 {
+    fn times_power_of_two(self, twos: u32) -> Self {
         self << twos
     }
 
-    fn odd_difference(self, smaller: u128) -> u128 {
+    fn odd_difference(self, smaller: Self) -> Self {
         (self - smaller) >> (self ^ smaller).trailing_zeros()
     }
 
@@ -161,12 +170,12 @@ impl Magnitude for u128 {
         u64::try_from(self).ok()
     }
 
-    fn to_128_bits(self) -> u128 {
+    fn to_128_bits(self) -> Self {
         self
     }
 
-    fn from_64_bits(x: u64) -> u128 {
-        u128::from(x)
+    fn from_64_bits(x: u64) -> Self {
+        Self::from(x)
     }
 }
 
@@ -335,7 +344,8 @@ pub(crate) fn binary_gcd<T: Native>(a: T, b: T) -> (T, u32)
     ensures gcd { IsCountedGcd T.Bounded.low (T.value a) (T.value b) (T.value result.0) result.1 }
 {
     let (gcd, turns) = gcd_of_magnitudes(a.magnitude(), b.magnitude(), has_smallest(a, b));
-    (T::from_magnitude(gcd), turns)
+    let gcd = some(cast(gcd), "the greatest common divisor does not fit");
+    (gcd, turns)
 }
 
 /// Returns `true` if one of the numbers is the smallest of its type.
