@@ -37,9 +37,30 @@ impl Date {
     ghost use Rattle.calendar.specs.Years.{HasDay, days_in_year, first_day};
     ghost use Rattle.calendar.specs.declared.date.Date.{Date};
 
+    /// Returns the year. `Date::new(2024, 2, 29).unwrap().year()` is `2024`.
+    pub const fn year(&self) -> i64
+        ensures { result ≡ self.now.year }
+    {
+        self.year
+    }
+
+    /// Returns the month, from 1 for January to 12. `Date::new(2024, 2, 29).unwrap().month()` is `2`.
+    pub const fn month(&self) -> u8
+        ensures { result ≡ self.now.month }
+    {
+        self.month
+    }
+
+    /// Returns the day of the month. `Date::new(2024, 2, 29).unwrap().day_of_month()` is `29`.
+    pub const fn day_of_month(&self) -> u8
+        ensures { result ≡ self.now.day_of_month }
+    {
+        self.day_of_month
+    }
+
     /// Returns the date of a year, a month and a day of the month, or `None` if there is no such date.
     /// `Date::new(1900, 2, 29)` is `None`.
-    pub fn new(year: i64, month: u8, day_of_month: u8) -> Option<Date>
+    pub fn new(year: i64, month: u8, day_of_month: u8) -> Option<Self>
         ensures { MatchOption result (¬ (IsDate year month day_of_month))
             (λ date. HasParts date year month day_of_month) }
     {
@@ -47,7 +68,7 @@ impl Date {
             && 0 < day_of_month
             && day_of_month <= days_in_month(year, month)
         {
-            Some(Date {
+            Some(Self {
                 year,
                 month,
                 day_of_month,
@@ -59,13 +80,13 @@ impl Date {
 
     /// Returns the date of a day, counted from 1970-01-01, which is day 0.
     /// `Some(Date::from_day_number(-1))` is `Date::new(1969, 12, 31)`.
-    pub fn from_day_number(day: i64) -> Date
+    pub fn from_day_number(day: i64) -> Self
         ensures number { number_of result ≡ day }
         ensures only { IsOnly (λ date. number_of date ≡ day) result }
     {
         let (march_year, days) = march_year_of_day(day);
         let (year, month, day_of_month) = parts_from_march(march_year, days);
-        Date {
+        Self {
             year,
             month,
             day_of_month,
@@ -83,7 +104,7 @@ impl Date {
     /// Returns the next date, or `None` if it is in the year after `i64::MAX`.
     /// `Date::new(2000, 2, 28).unwrap().next()` is `Date::new(2000, 2, 29)`.
     #[tactic(auto, using(crate::proofs::DateOrder::month_ends))]
-    pub fn next(&self) -> Option<Date>
+    pub fn next(&self) -> Option<Self>
         ensures { MatchOption result
             ((self.now.year ≡ i64.MAX) × (self.now.month ≡ 12) × (self.now.day_of_month ≡ 31))
             (λ date. number_of date ≡ number_of self.now +ℤ pos 1) }
@@ -91,19 +112,19 @@ impl Date {
         let year = self.year;
         let month = self.month;
         if self.day_of_month < days_in_month(year, month) {
-            Some(Date {
+            Some(Self {
                 year,
                 month,
                 day_of_month: self.day_of_month + 1,
             })
         } else if month < 12 {
-            Some(Date {
+            Some(Self {
                 year,
                 month: month + 1,
                 day_of_month: 1,
             })
         } else {
-            Some(Date {
+            Some(Self {
                 year: year.checked_add(1)?,
                 month: 1,
                 day_of_month: 1,
@@ -113,7 +134,7 @@ impl Date {
 
     /// Returns the previous date, or `None` if it is in the year before `i64::MIN`.
     /// `Date::new(1900, 3, 1).unwrap().previous()` is `Date::new(1900, 2, 28)`.
-    pub fn previous(&self) -> Option<Date>
+    pub fn previous(&self) -> Option<Self>
         ensures { MatchOption result
             ((self.now.year ≡ i64.MIN) × (self.now.month ≡ 1) × (self.now.day_of_month ≡ 1))
             (λ date. number_of date ≡ number_of self.now -ℤ pos 1) }
@@ -121,19 +142,19 @@ impl Date {
         let year = self.year;
         let month = self.month;
         if self.day_of_month > 1 {
-            Some(Date {
+            Some(Self {
                 year,
                 month,
                 day_of_month: self.day_of_month - 1,
             })
         } else if month > 1 {
-            Some(Date {
+            Some(Self {
                 year,
                 month: month - 1,
                 day_of_month: days_in_month(year, month - 1),
             })
         } else {
-            Some(Date {
+            Some(Self {
                 year: year.checked_sub(1)?,
                 month: 12,
                 day_of_month: 31,
@@ -154,12 +175,12 @@ impl Date {
     /// Returns the date of a day of a year, counted from 1 January, which is day 1, or `None` if the year has
     /// no such day. `Date::from_year_day(2000, 60)` is `Date::new(2000, 2, 29)`, and
     /// `Date::from_year_day(1900, 366)` is `None`.
-    pub fn from_year_day(year: i64, day_of_year: u16) -> Option<Date>
+    pub fn from_year_day(year: i64, day_of_year: u16) -> Option<Self>
         ensures { MatchOption result (¬ ((1 ≤ day_of_year) × (day_of_year ≤ days_in_year year)))
             (λ date. (date.year ≡ year) × (year_day_of date ≡ day_of_year)) }
     {
         if 0 < day_of_year && day_of_year <= days_in_year(year) {
-            Some(Date::in_year(year, day_of_year - 1))
+            Some(Self::in_year(year, day_of_year - 1))
         } else {
             None
         }
@@ -168,22 +189,22 @@ impl Date {
     /// Returns the date `days` days after this one, or before it if `days` is negative, or `None` if its
     /// year does not fit an `i64`. `Date::new(2000, 3, 1).unwrap().plus_days(-1)` is
     /// `Date::new(2000, 2, 29)`.
-    pub fn plus_days(&self, days: i64) -> Option<Date>
+    pub fn plus_days(&self, days: i64) -> Option<Self>
         ensures { MatchOption result
             ((date : Date) → number_of date ≡ number_of self.now +ℤ days → ¬ (FitsSigned w64 date.year))
             (λ date. number_of date ≡ number_of self.now +ℤ days) }
     {
         let (era, day) = self.day_of_era();
         let (eras, rest) = eras_in_days(days);
-        Date::from_day_number(i64::from(day + rest) - EPOCH_IN_ERA_0).eras_later(era + eras)
+        Self::from_day_number(i64::from(day + rest) - EPOCH_IN_ERA_0).eras_later(era + eras)
     }
 
     /// Returns the date `eras` times 400 years after this one, or `None` if its year does not fit.
-    fn eras_later(&self, eras: i64) -> Option<Date>
+    fn eras_later(&self, eras: i64) -> Option<Self>
         ensures { MatchOption result (¬ (FitsSigned w64 (self.now.year +ℤ pos 400 *ℤ eras)))
             (λ date. HasParts date (self.now.year +ℤ pos 400 *ℤ eras) self.now.month self.now.day_of_month) }
     {
-        Some(Date {
+        Some(Self {
             year: at_64_bits(i128::from(self.year) + i128::from(YEARS_PER_ERA) * i128::from(eras))?,
             month: self.month,
             day_of_month: self.day_of_month,
@@ -212,13 +233,13 @@ impl Date {
     }
 
     /// Returns the date `days` days after 1 January of the same year.
-    pub(crate) fn in_year(year: i64, days: u16) -> Date
+    pub(crate) fn in_year(year: i64, days: u16) -> Self
         requires { days < days_in_year year }
         ensures year { result.year ≡ year }
         ensures day { year_day_of result ≡ days + 1 }
     {
         let (month, day_of_month) = month_and_day_in_year(year, days);
-        Date {
+        Self {
             year,
             month,
             day_of_month,
@@ -227,7 +248,7 @@ impl Date {
 
     /// Returns the date `days` days after 1 January of a year, or `None` if its year does not fit an `i64`.
     /// The date is in that year, the year before or the year after.
-    pub(crate) fn in_nearby_year(year: i64, days: i64) -> Option<Date>
+    pub(crate) fn in_nearby_year(year: i64, days: i64) -> Option<Self>
         requires from { pos 0 ≤ℤ (days +ℤ pos 6) }
         requires below { days <ℤ pos 372 }
         ensures { MatchOption result
@@ -235,6 +256,6 @@ impl Date {
             (λ date. number_of date ≡ first_day year +ℤ days) }
     {
         let (year, days) = nearby_year(year, days)?;
-        Some(Date::in_year(year, days))
+        Some(Self::in_year(year, days))
     }
 }

@@ -28,7 +28,7 @@ impl Date {
     /// Returns an iterator over the dates from this one on, to the one before `end`. It is empty if `end` is
     /// not later than this date. `Date::from_day_number(-1).days_until(Date::from_day_number(2)).last()` is
     /// `Some(Date::from_day_number(1))`.
-    pub fn days_until(self, end: Date) -> Days
+    pub fn days_until(self, end: Self) -> Days
         ensures { result ≡ day_numbers (number_of self) (number_of end) }
     {
         Days { next: self, end }

@@ -17,13 +17,13 @@ impl Date {
     /// its year does not fit an `i64`. The day of the month stays, or becomes the last day if the month is
     /// shorter. `Date::new(2000, 1, 31).unwrap().plus_months(1)` is `Date::new(2000, 2, 29)`.
     #[tactic(auto, using(crate::proofs::YearLengths::year_steps))]
-    pub fn plus_months(&self, months: i64) -> Option<Date>
+    pub fn plus_months(&self, months: i64) -> Option<Self>
         ensures { MatchOption result
             ((date : Date) → IsMonthsAfter self.now months date → ¬ (FitsSigned w64 date.year))
             (λ date. IsMonthsAfter self.now months date) }
     {
         let (year, month) = month_of(self.month_number() + i128::from(months))?;
-        Some(Date {
+        Some(Self {
             year,
             month,
             day_of_month: self.day_of_month.min(days_in_month(year, month)),

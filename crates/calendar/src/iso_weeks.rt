@@ -30,12 +30,12 @@ impl IsoWeek {
     /// Returns a week of a year, or `None` if the year has no such week. `IsoWeek::new(2004, 53)` is
     /// `Some(IsoWeek { year: 2004, week: 53 })`, and `IsoWeek::new(2005, 53)` is `None`.
     #[tactic(auto, using(crate::proofs::YearLengths::year_steps))]
-    pub fn new(year: i64, week: u8) -> Option<IsoWeek>
+    pub fn new(year: i64, week: u8) -> Option<Self>
         ensures { MatchOption result (¬ (HasIsoWeek year week))
             (λ found. HasIsoWeek year week × (found.year ≡ year) × (found.week ≡ week)) }
     {
         if is_in_year(year, days_to_thursday_of_week(year, week)) {
-            Some(IsoWeek { year, week })
+            Some(Self { year, week })
         } else {
             None
         }
@@ -77,14 +77,14 @@ impl Date {
     /// the year of the date does not fit in `i64`.
     /// `Date::from_iso_week(2009, 53, Weekday::Sunday)` is `Date::new(2010, 1, 3)`.
     #[tactic(auto, using(crate::proofs::YearLengths::year_steps))]
-    pub fn from_iso_week(year: i64, week: u8, weekday: Weekday) -> Option<Date>
+    pub fn from_iso_week(year: i64, week: u8, weekday: Weekday) -> Option<Self>
         ensures { MatchOption result
             ((day y : ℤ) → IsDayOfIsoWeek day year week weekday → HasDay y day → ¬ (FitsSigned w64 y))
             (λ date. IsDayOfIsoWeek (number_of date) year week weekday) }
     {
         let thursday = days_to_thursday_of_week(year, week);
         if is_in_year(year, thursday) {
-            Date::in_nearby_year(year, days_to_weekday(thursday, weekday))
+            Self::in_nearby_year(year, days_to_weekday(thursday, weekday))
         } else {
             None
         }

@@ -6,6 +6,7 @@ ghost use Rattle.calendar.specs.Years.{days_in_year};
 
 use crate::eras::{DAYS_FROM_MARCH, days_of_months, month_and_day};
 use crate::{days_in_year, is_leap_year};
+use integer_core::guards::check;
 
 /// Returns how many days the month has. `days_in_month(1900, 2)` is `28`.
 ///
@@ -21,6 +22,8 @@ pub fn days_in_month(year: i64, month: u8) -> u8
     ensures from_28 { 28 ≤ result }
     ensures to_31 { result ≤ 31 }
 {
+    check(month >= 1, "no month has the number 0");
+    check(month <= 12, "no month has a number above 12");
     if month == 2 {
         if is_leap_year(year) { 29 } else { 28 }
     } else {

@@ -1,12 +1,13 @@
 //! Prints and parses dates, and prints weeks, in the formats of ISO 8601.
 
-ghost use Rattle.std.specs.Prelude.{◌≡◌, ◌≢◌, ◌↔◌, ◌<◌, ◌≤◌, ℕ, ℤ, List, FitsSigned, IfSome, IsTrue, MatchOption, Some, Ok};
-ghost use Rattle.std.specs.Fmt.{WritesOnOk};
+ghost use Rattle.std.specs.Prelude.{◌≡◌, ◌≢◌, ◌↔◌, ◌<◌, ◌≤◌, ℕ, ℤ, List, FitsSigned, IfSome, IsTrue, MatchOption, OnOk, Some, Ok};
+ghost use Rattle.std.specs.Fmt.{WritesInCalls};
 ghost use Rattle.std.specs.Int.{w64};
 ghost use Rattle.calendar.specs.Text.{IsShortest, error_text, padded, text_of, week_text, with_number, year_text};
 ghost use Rattle.calendar.specs.declared.date.Date.{Date};
 
 use crate::{Date, IsoWeek};
+use integer_core::padded::Text;
 use std::error::Error;
 use std::fmt;
 use std::str::FromStr;
@@ -19,7 +20,7 @@ impl fmt::Display for DateError {
     ghost output = { λ _. Some error_text };
 
     fn fmt<W: fmt::Write>(&self, f: &mut fmt::Formatter<W>) -> fmt::Result {
-        f.write_str("not the text of a date")
+        f.pad("not the text of a date")
     }
 }
 
@@ -32,6 +33,14 @@ impl fmt::Display for Date {
     ghost output = { λ date. Some (text_of date) };
 
     fn fmt<W: fmt::Write>(&self, f: &mut fmt::Formatter<W>) -> fmt::Result {
+        self.pad(f)
+    }
+}
+
+impl Text for Date {
+    ghost text = { text_of };
+
+    fn write_to<W: fmt::Write>(&self, f: &mut W) -> fmt::Result {
         write_year(self.year, f)?;
         write!(f, "-{:02}-{:02}", self.month, self.day_of_month)
     }
@@ -43,14 +52,22 @@ impl fmt::Display for IsoWeek {
     ghost output = { λ week. Some (week_text week) };
 
     fn fmt<W: fmt::Write>(&self, f: &mut fmt::Formatter<W>) -> fmt::Result {
+        self.pad(f)
+    }
+}
+
+impl Text for IsoWeek {
+    ghost text = { week_text };
+
+    fn write_to<W: fmt::Write>(&self, f: &mut W) -> fmt::Result {
         write_year(self.year, f)?;
         write!(f, "-W{:02}", self.week)
     }
 }
 
 /// Prints the year with at least four digits. A year outside 0 to 9999 has a sign.
-fn write_year<W: fmt::Write>(year: i64, f: &mut fmt::Formatter<W>) -> fmt::Result
-    ensures { WritesOnOk W.write_str_gives f.old result (year_text year) f.new }
+fn write_year<W: fmt::Write>(year: i64, f: &mut W) -> fmt::Result
+    ensures { OnOk result (WritesInCalls W.write_str_gives f.old (year_text year) f.new) }
 {
     match year {
         0..=9999 => write!(f, "{year:04}"),
@@ -69,7 +86,7 @@ impl FromStr for Date {
 
     ghost from_str_gives = { λ text result. (date : Date) → FitsSigned w64 date.year → (result ≡ Ok date) ↔ (text ≡ text_of date) };
 
-    fn from_str(text: &str) -> Result<Date, DateError> {
+    fn from_str(text: &str) -> Result<Self, DateError> {
         parse_date(text).ok_or(DateError)
     }
 }
@@ -89,7 +106,11 @@ fn split_last_two_digits(text: &str) -> Option<(&str, u8)>
     ensures { MatchOption result ((front : List ℕ) (n : ℕ) → n < 100 → text.now ≢ with_number front n)
         (λ parts. (parts.1 < 100) × (text.now ≡ with_number parts.0.now parts.1)) }
 {
-    let (front, last) = text.split_at_checked(text.len().saturating_sub(3))?;
+    let place = text.len().saturating_sub(3);
+    if !text.is_char_boundary(place) {
+        return None;
+    }
+    let (front, last) = text.split_at(place);
     let [b'-', tens @ b'0'..=b'9', ones @ b'0'..=b'9'] = last.as_bytes() else {
         return None;
     };

@@ -47,7 +47,7 @@ impl Weekday {
 
     /// Returns the day of the week by its number in ISO 8601, or `None` if the number is not from 1 to 7.
     /// `Weekday::from_iso_number(7)` is `Some(Weekday::Sunday)`.
-    pub fn from_iso_number(number: u8) -> Option<Weekday>
+    pub fn from_iso_number(number: u8) -> Option<Self>
         ensures { MatchOption result (¬ ((1 ≤ number) × (number ≤ 7)))
             (λ weekday. iso_number weekday ≡ number) }
     {
@@ -62,13 +62,13 @@ impl Weekday {
         ensures { result.now ≡ weekday_name self }
     {
         match self {
-            Weekday::Sunday => "Sunday",
-            Weekday::Monday => "Monday",
-            Weekday::Tuesday => "Tuesday",
-            Weekday::Wednesday => "Wednesday",
-            Weekday::Thursday => "Thursday",
-            Weekday::Friday => "Friday",
-            Weekday::Saturday => "Saturday",
+            Self::Sunday => "Sunday",
+            Self::Monday => "Monday",
+            Self::Tuesday => "Tuesday",
+            Self::Wednesday => "Wednesday",
+            Self::Thursday => "Thursday",
+            Self::Friday => "Friday",
+            Self::Saturday => "Saturday",
         }
     }
 
@@ -82,7 +82,7 @@ impl Weekday {
 
     /// Returns the number of days from this day of the week to the next `other`, which is 0 if they are the
     /// same.
-    pub(crate) fn days_until(self, other: Weekday) -> u8
+    pub(crate) fn days_until(self, other: Self) -> u8
         ensures value { weekday_number other ≡ (weekday_number self + result) % 7 }
         ensures small { result < 7 }
     {
@@ -99,7 +99,7 @@ impl fmt::Display for WeekdayError {
     ghost output = { λ _. Some weekday_error_text };
 
     fn fmt<W: fmt::Write>(&self, f: &mut fmt::Formatter<W>) -> fmt::Result {
-        f.write_str("not the name of a day of the week")
+        f.pad("not the name of a day of the week")
     }
 }
 
@@ -127,15 +127,15 @@ impl FromStr for Weekday {
 
     ghost from_str_gives = { λ text result. IfOk result (λ weekday. text ≡ weekday_name weekday) × IfErr result (λ _. (weekday : _) → text ≢ weekday_name weekday) };
 
-    fn from_str(text: &str) -> Result<Weekday, WeekdayError> {
+    fn from_str(text: &str) -> Result<Self, WeekdayError> {
         match text {
-            "Sunday" => Ok(Weekday::Sunday),
-            "Monday" => Ok(Weekday::Monday),
-            "Tuesday" => Ok(Weekday::Tuesday),
-            "Wednesday" => Ok(Weekday::Wednesday),
-            "Thursday" => Ok(Weekday::Thursday),
-            "Friday" => Ok(Weekday::Friday),
-            "Saturday" => Ok(Weekday::Saturday),
+            "Sunday" => Ok(Self::Sunday),
+            "Monday" => Ok(Self::Monday),
+            "Tuesday" => Ok(Self::Tuesday),
+            "Wednesday" => Ok(Self::Wednesday),
+            "Thursday" => Ok(Self::Thursday),
+            "Friday" => Ok(Self::Friday),
+            "Saturday" => Ok(Self::Saturday),
             _ => Err(WeekdayError),
         }
     }

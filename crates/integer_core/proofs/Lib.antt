@@ -20,3 +20,4 @@ pub mod NaturalDivision
 pub mod Least
 pub mod DivisionKinds
 pub mod IntegerPowers
+pub mod WrittenTexts

@@ -15,6 +15,7 @@ pub mod guards;
 mod native;
 mod native_integer;
 pub mod operators;
+pub mod padded;
 pub mod plain;
 mod stein;
 

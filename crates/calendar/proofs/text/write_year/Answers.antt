@@ -1,5 +1,6 @@
-use Rattle.calendar.proofs.Common.{◌≡◌, ◌⊎◌, ◌<ℤ◌, ℕ, List, pos, w64, arith, of_z, subst, to_z, ints, to_z-of_z}
-use Rattle.std.specs.Fmt.{HasWritten, styled_signed_decimal}
+use Rattle.calendar.proofs.Common.{◌≡◌, ◌⊎◌, ◌<ℤ◌, pos, w64, arith, of_z, to_z, ints, to_z-of_z}
+use Rattle.std.specs.Fmt.{styled_signed_decimal}
+use Rattle.integer_core.proofs.WrittenTexts.{same_written}
 use Rattle.calendar.specs.Text.{year_text}
 use Rattle.calendar.proofs.DateTexts.{plain_year, signed_year}
 use Rattle.calendar.proofs.text.write_year.Goals as goal
@@ -9,7 +10,7 @@ returns-in-0-to-9999 g c =
     let fits = c.ranges.year in
     let year : styled_signed_decimal c.laid_out.result (to_z w64 (of_z w64 c.args.year)) ≡ year_text c.args.year =
     rw c.laid_out.ensures (simp to_z-of_z (plain_year c.args.year (omega (arith, ints)) (omega (arith, ints)))) in
-    λ plain ok. subst (λ (t : List ℕ). HasWritten g.W.Write.write_str_gives c.args.f.now t c.write.new.self) year (c.write.ensures.writes plain ok)
+    same_written _ c.write.result _ _ _ _ year c.write.ensures.writes
 
 pub returns-in_default : goal.returns-in_default
 returns-in_default g c =
@@ -17,4 +18,4 @@ returns-in_default g c =
     let outside : (c.args.year <ℤ pos 0) ⊎ (pos 9999 <ℤ c.args.year) = grind (arith, ints) in
     let year : styled_signed_decimal c.laid_out-in_default.result (to_z w64 (of_z w64 c.args.year)) ≡ year_text c.args.year =
     rw c.laid_out-in_default.ensures (simp to_z-of_z (signed_year c.args.year outside)) in
-    λ plain ok. subst (λ (t : List ℕ). HasWritten g.W.Write.write_str_gives c.args.f.now t c.write-in_default.new.self) year (c.write-in_default.ensures.writes plain ok)
+    same_written _ c.write-in_default.result _ _ _ _ year c.write-in_default.ensures.writes

@@ -1,0 +1,12 @@
+use Rattle.calendar.proofs.Common.{FitsSigned, w64, rules, to_z-of_z}
+use Rattle.integer_core.proofs.WrittenTexts.{same_written, then_written}
+use Rattle.calendar.proofs.DateTexts.{joined, zero_padded}
+use Rattle.calendar.proofs.text.DateText.write_to.Goals as goal
+
+pub returns : goal.returns
+returns g c =
+    let date = c.args.self.now in
+    let fits : FitsSigned w64 date.year = search rules in
+    let year = rw c.in_ok-write_year.was at (simp to_z-of_z at c.write_year.ensures) in
+    let text = joined date _ _ (rw c.laid_out.ensures (zero_padded 2 date.month)) (rw c.laid_out-2.ensures (zero_padded 2 date.day_of_month)) in
+    same_written _ c.write.result _ _ _ _ text (then_written _ c.write.result _ _ _ _ _ year c.write.ensures.writes)
