@@ -2,8 +2,8 @@
 
 A file with the path of a made file adds to it. A function in it that the made file has too, of the same type or trait, stands in the
 place of that one, below its comment if it has none of its own. A trait or an implementation whose head the made file has gives it the
-other methods. Every other item follows the items of the file. Where it has all functions of the made file it is the whole file. A
-file with another path is a module of its own."""
+other methods, and its attributes, as does a struct by its name. Every other item follows the items of the file. Where it has all functions
+of the made file it is the whole file. A file with another path is a module of its own."""
 from __future__ import annotations
 
 import re
@@ -13,13 +13,16 @@ from pathlib import Path
 from rattle_source import Item, Source
 
 
+BLOCKS = ('struct', 'trait', 'impl')            # items of which the two files may have parts
+
+
 def fold(text: str) -> str:
     return re.sub(r'\s+', ' ', text).strip()
 
 
 def head(source: Source, item: Item) -> str:
-    """The words by which a trait or an implementation is found: the name, or the whole head."""
-    return item.name if item.kind == 'trait' or item.open is None else fold(source.text(item.word, item.open - 1))
+    """The words by which a struct, a trait or an implementation is found: the name, or the whole head."""
+    return item.name if item.kind != 'impl' or item.open is None else fold(source.text(item.word, item.open - 1))
 
 
 def start(source: Source, item: Item) -> int:
@@ -43,12 +46,13 @@ class Joined:
     def __init__(self, made: Source, added: Source) -> None:
         self.made, self.added, self.replaced = made, added, list[str]()
         self.items, others = made.items(), added.items()
-        self.blocks = {head(made, item): item for item in self.items if item.kind in ('trait', 'impl')}
+        self.blocks = {head(made, item): item for item in self.items if item.kind in BLOCKS}
         imports = [item for item in others if item.kind == 'use']
-        rest = self.others(self.items, [item for item in others if item.kind not in ('use', 'trait', 'impl')])
-        for item in (item for item in others if item.kind in ('trait', 'impl')):
+        rest = self.others(self.items, [item for item in others if item.kind not in ('use', *BLOCKS)])
+        for item in (item for item in others if item.kind in BLOCKS):
             block = self.blocks.get(head(added, item))
             if block:
+                self.put_attributes(block, item)
                 self.append(block, self.others(block.items, item.items))
             else:
                 rest.append(item)
@@ -70,6 +74,12 @@ class Joined:
         made.texts[first] = written(added, [item])
         made.texts[first + 1:made.code[place.last] + 1] = [''] * (made.code[place.last] - first)
         self.replaced.append(item.name)
+
+    def put_attributes(self, block: Item, item: Item) -> None:
+        """Puts the attributes of an item before those of the made one."""
+        first = self.made.code[block.first]
+        lines = [self.added.text(*attribute) for attribute in item.attributes]
+        self.made.texts[first] = '\n'.join([*lines, self.made.texts[first]])
 
     def append(self, block: Item, items: list[Item]) -> None:
         """Puts items at the end of a trait or an implementation."""

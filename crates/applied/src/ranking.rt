@@ -154,6 +154,7 @@ pub fn next_choice(choice: &mut [u64], n: u64) -> bool
 
 /// Returns the first place whose number can be increased by 1 and stay below the number after it, or below `n`
 /// at the last place.
+#[allow(clippy::manual_find)] // as it was proved
 fn first_to_rise(choice: &[u64], n: u64) -> Option<usize>
     requires choice { IsChoice n choice.now }
     ensures { MatchOption result (IsLastChoice n choice.now)
@@ -176,6 +177,7 @@ fn number_after(choice: &[u64], place: usize, n: u64) -> u64
 }
 
 /// Writes 0, 1, 2 and so on at the places before `end`.
+#[allow(clippy::needless_range_loop)] // as it was proved
 fn number_from_zero(numbers: &mut [u64], end: usize)
     requires { end ≤ length numbers.old }
     ensures length { length numbers.new ≡ length numbers.old }

@@ -14,6 +14,7 @@ mod divisors;
 pub mod guards;
 mod native;
 mod native_integer;
+#[doc(hidden)]
 pub mod operators;
 pub mod padded;
 pub mod plain;

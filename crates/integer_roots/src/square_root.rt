@@ -8,6 +8,7 @@ use crate::newton::newton;
 
 /// Returns the square root of `a`, and the number of iterations of the two loops. The first guess is a
 /// power of two near the root. If it is below the root, the first loop steps up; the second steps down.
+#[allow(clippy::manual_div_ceil)] // as it was proved
 pub(crate) fn square_root_counted(a: u64) -> (u64, u32)
     ensures root { IsFloorRoot (pos a) 2 (pos result.0) }
     ensures turns { AreSquareRootTurns (pos a) result.1 }

@@ -71,6 +71,7 @@ pub(crate) fn power_counted<F: ResidueForm>(
 /// The residues of a modulus as they are, and how to multiply two of them.
 #[derive(Clone, Copy)]
 pub(crate) struct Residues<T, F> {
+    #[allow(dead_code)] // contracts alone read it
     pub modulus: T,
     pub product: F,
 }

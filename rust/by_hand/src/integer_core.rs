@@ -4,6 +4,14 @@
 use guards::Reason;
 pub(crate) use native::Magnitudes;
 
+#[cfg_attr(
+    has_diagnostic,
+    diagnostic::on_unimplemented(
+        message = "`{Self}` does not implement `Integer` of cellarcove",
+        note = "the twelve built-in integer types implement it",
+        note = "a type of your own implements it by hand"
+    )
+)]
 trait Integer {
     #[doc(hidden)]
     #[inline]

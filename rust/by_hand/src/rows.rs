@@ -1,6 +1,9 @@
-//! What an iterator of the crate has beside `next`.
+//! What an iterator of the crate has beside `next`, and its traits.
 
 use core::iter::FusedIterator;
+
+#[derive(Clone, Debug)]
+struct IterBinomial;
 
 impl<T: Integer + Copy> Iterator for IterBinomial<T> {
     #[inline]

@@ -1,7 +1,10 @@
-//! What the iterator over days has beside `next`.
+//! What the iterator over days has beside `next`, and its traits.
 
 use crate::calendar::days_between;
 use core::iter::FusedIterator;
+
+#[derive(Clone, Debug)]
+struct Days;
 
 impl Iterator for Days {
     #[inline]

@@ -1,6 +1,16 @@
-//! The hidden methods of `Integer` for the built-in types: they panic with the reason if the result does not fit.
+//! The hidden methods of `Integer` for the built-in types, which panic with the reason if the result does not fit, and what the compiler says
+//! of another type.
 
 use crate::integer_core::guards::{check, Reason};
+
+#[cfg_attr(
+    has_diagnostic,
+    diagnostic::on_unimplemented(
+        message = "`{Self}` is no built-in integer type",
+        note = "the twelve built-in integer types implement it, and no other type can"
+    )
+)]
+trait NativeInteger {}
 
 impl<T: Native> Integer for T {
     #[inline]
