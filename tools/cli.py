@@ -49,6 +49,7 @@ PARTS = {
         'sessions': Part('PROGRAM: it prints what the sessions of the pages show', 'checks.pages:sessions_of_pages', False),
         'examples': Part('FOLDER: its programs print what the heads of rust/examples show', 'checks.pages:sessions_of_examples', False),
         'wrong_lines': Part('[NAME..]: the first line of each seeded bug is true, as plain Rust', 'checks.wrong_lines:check', False),
+        'guards': Part('[--sample]: a test misses each guard of plain Rust that is taken out', 'scripts/check_guards.py', False),
         'fuzz': Part('[--minutes M ..]: the package for Python returns what Python computes', 'bindings.fuzz:check', False),
     },
 }

@@ -119,8 +119,8 @@ check_dependents() {
     echo "the packages above took $((SECONDS - begin)) seconds"
 }
 
-# A guard that is taken out is missed by a test: one of each kind. scripts/rust_guards.py takes out all.
-has_each_guard() { TMPDIR=$work python3 scripts/rust_guards.py --self-test positive pair gcd_lcm_of_magnitudes; }
+# A guard that is taken out is missed by a test: a few of each kind. tools/gate/release.sh takes out all.
+has_each_guard() { python3 scripts/check_guards.py --sample; }
 
 # upstream_tests WORD..: runs the tests of num-integer that the words tell cargo.
 upstream_tests() { (cd "$work/upstream" && cargo test --offline "$@"); }
@@ -148,12 +148,7 @@ fi
 
 check 'the sources are made anew' is_made_anew
 check 'its public items are those of rust/api.txt' tools/cellarcove check api
-check 'forms that the eraser does not know are rejected' python3 scripts/make_rust_crate.py --self-test
-check 'forms that the bounds do not fit are rejected' python3 scripts/rust_bounds.py --self-test
-check 'operators are written for calls' python3 scripts/rust_operators.py --self-test
-check 'the style is written' python3 scripts/rust_style.py --self-test
 check 'each public item has an example, and says when it panics' python3 scripts/check_rust_docs.py
-check 'forms that exports do not have are rejected' python3 scripts/make_rust_exports.py --self-test
 if has_packages "${originals[@]}"; then
     mkdir "$work/.cargo"
     printf '[source.crates-io]\nreplace-with = "debian"\n[source.debian]\ndirectory = "%s"\n' "$registry" \

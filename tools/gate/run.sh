@@ -5,7 +5,6 @@ cd "$(dirname "$0")/../.."
 # Debian's packages. Where they cannot be installed, what needs them fails and says what it lacks.
 tools/gate/install_packages.sh || true
 CI=true tools/cellarcove check
-scripts/check_erased.py --self-test
 
 # A check with a second job takes less clock and over a fifth more processor time. So each has one, and as many checks run side by side
 # as there are processors and 4 GB of memory for each.
