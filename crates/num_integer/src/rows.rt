@@ -81,6 +81,9 @@ impl<T: Integer> Iterator for IterBinomial<T> {
 
     ghost remaining = { item_count (λ s. s) };
 
+    /// # Panics
+    ///
+    /// In plain Rust, if the item does not fit.
     #[tactic(auto, using(crate::proofs::RowSteps::rest_none))]
     fn next(&mut self) -> Option<T> {
         if is_below(self.n, self.k) {
