@@ -38,13 +38,13 @@ impl<T: Integer> IterBinomial<T> {
     /// `IterBinomial::new(3u8).last()` is `Some(1)`.
     ///
     /// May be called if [`checked::row`](crate::checked::row) returns `Some`.
-    pub fn new(n: T) -> IterBinomial<T>
+    pub fn new(n: T) -> Self
         requires in_range { T.fits (T.value n) }
         requires row_fits { RowFits T.fits (T.value n) }
         ensures row { result ≡ row_of (T.value n) }
         ensures items_in_range { All T.fits result }
     {
-        IterBinomial {
+        Self {
             n,
             k: zero(),
             item: one(),
