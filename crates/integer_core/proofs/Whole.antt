@@ -1,6 +1,6 @@
 -- The ring of the integers, for `omega` and `simp`.
 use Rattle.std.specs.Prelude.{◌≡◌, ◌+◌, ◌*◌, ◌<ℤ◌, ◌≤ℤ◌, ◌+ℤ◌, ◌*ℤ◌, ℤ, pos, neg_ℤ, unsigned_abs, ◌↔◌, Bool, false, IsTrue, Option, Some}
-use Rattle.std.specs.Ordering.{int_cmp, is_lt, is_some_and}
+use Rattle.std.specs.Ordering.{int_cmp, is_ge, is_lt, is_some_and}
 use Rattle.std.specs.declared.cmp.Ordering.{Ordering}
 use Rattle.std.proofs.Common.{arith, ap, mul-pos, rules}
 use Rattle.std.proofs.lemmas.Bool.{iff_false}
@@ -18,6 +18,9 @@ from_not_less h = grind (arith, linear)
 -- what a test says, by the law of an order
 pub is_less : {o : Option Ordering} {a b : ℤ} {t : Bool} → o ≡ Some (int_cmp a b) → t ≡ is_some_and is_lt o → IsTrue t ↔ (a <ℤ b)
 is_less law test = rw (test, law) (Prim.search rules)
+
+pub is_not_less : {o : Option Ordering} {a b : ℤ} {t : Bool} → o ≡ Some (int_cmp a b) → t ≡ is_some_and is_ge o → IsTrue t ↔ (b ≤ℤ a)
+is_not_less law test = rw (test, law) (Prim.search rules)
 
 -- that, with magnitudes
 pub ruleset sizes = (linear, abs_is)

@@ -6,6 +6,8 @@ ghost use Rattle.integer_roots.specs.NativeWidth.{within_64_bits};
 
 use crate::counted::SqrtCounted;
 use crate::magnitude_roots::{cube_root_by_magnitude, root_by_magnitude, square_root_by_magnitude};
+use integer_core::guards::check;
+use integer_core::operators::zero;
 use integer_core::{Integer, NativeInteger};
 
 /// Roots of an integer of at most 64 bits, rounded toward zero. `27.cbrt()` is `3`.
@@ -37,6 +39,10 @@ pub trait Roots: Integer {
         ensures in_range { Self.fits (Self.value result) }
         ensures root { IsRoot (Self.value self.now) 2 (Self.value result) }
     {
+        check(
+            *self >= zero(),
+            "attempt to take the square root of a negative number",
+        );
         self.nth_root(2)
     }
 
@@ -67,6 +73,11 @@ pub fn nth_root<T: Roots>(x: T, n: u32) -> T
     ensures in_range { T.fits (T.value result) }
     ensures root { IsRoot (T.value x) n (T.value result) }
 {
+    check(n != 0, "attempt to take a root of degree 0");
+    check(
+        n % 2 != 0 || x >= zero(),
+        "attempt to take an even root of a negative number",
+    );
     x.nth_root(n)
 }
 
@@ -83,6 +94,10 @@ pub fn sqrt<T: Roots>(x: T) -> T
     ensures in_range { T.fits (T.value result) }
     ensures root { IsRoot (T.value x) 2 (T.value result) }
 {
+    check(
+        x >= zero(),
+        "attempt to take the square root of a negative number",
+    );
     x.sqrt()
 }
 
@@ -99,10 +114,19 @@ impl<T: Integer + NativeInteger<Magnitude = u64>> Roots for T {
     ghost width_law = { within_64_bits T.range_law T.native_law };
 
     fn nth_root(&self, n: u32) -> T {
+        check(n != 0, "attempt to take a root of degree 0");
+        check(
+            n % 2 != 0 || *self >= zero(),
+            "attempt to take an even root of a negative number",
+        );
         root_by_magnitude(*self, n)
     }
 
     fn sqrt(&self) -> T {
+        check(
+            *self >= zero(),
+            "attempt to take the square root of a negative number",
+        );
         square_root_by_magnitude(*self).0
     }
 
@@ -113,6 +137,10 @@ impl<T: Integer + NativeInteger<Magnitude = u64>> Roots for T {
 
 impl<T: NativeInteger<Magnitude = u64>> SqrtCounted for T {
     fn sqrt_counted(&self) -> (T, u32) {
+        check(
+            *self >= zero(),
+            "attempt to take the square root of a negative number",
+        );
         square_root_by_magnitude(*self)
     }
 }

@@ -1,9 +1,9 @@
 -- When the results of calls fit, in the words of the tests of `Fits`.
-use Rattle.integer_core.proofs.Common.{◌≡◌, ◌≢◌, ◌↔◌, ◌≤◌, ◌<◌, ◌^◌, ◌≤ℤ◌, ◌⊎◌, ◌<ℤ◌, ◌+ℤ◌, ◌*◌, ◌/◌, ℕ, ℤ, pos, IsTrue, nat_le, negsuc, neg_ℤ, unsigned_abs, Bool, true, false, not, min, max, arith, inl, inr, subst, refl, sym, ap, ◌∙◌, pow-le-pow_right, lt_of_not-le, le-leb, leb-true, iff_false, ints, abs_is, from_not_less, linear, sizes, EachKind, IsCeiled, IsDivision, IsFloored, IsTruncated, IsQuotient, IsMultiple, GcdFits, IsGreatestCommonDivisor, IsLeastCommonMultiple, IsRange, EachFits}
+use Rattle.integer_core.proofs.Common.{◌≡◌, ◌≢◌, ◌↔◌, ◌≤◌, ◌<◌, ◌^◌, ◌≤ℤ◌, ◌⊎◌, ◌<ℤ◌, ◌+ℤ◌, ◌*◌, ◌/◌, ℕ, ℤ, pos, IsTrue, nat_le, negsuc, neg_ℤ, unsigned_abs, Bool, true, false, not, min, max, arith, inl, inr, subst, refl, sym, ap, ◌∙◌, pow-le-pow_right, lt_of_not-le, le-leb, leb-true, ints, abs_is, linear, sizes, IsQuotient, IsMultiple, GcdFits, IsGreatestCommonDivisor, IsLeastCommonMultiple, IsRange, EachFits}
 use Rattle.std.proofs.Math.Nat.{le_of_suc-le-suc}
 use Rattle.integer_core.proofs.CommonDivisors.{gcd-divisor, only_gcd, gcd-zero, gcd-swap, lcm-computed, only_lcm, gcd_fits_is}
 use Rattle.integer_core.proofs.Divisibility.{Divides-refl, abs_zero, divisor_size}
-use Rattle.integer_core.proofs.Quotients.{only_multiple, only_ceiled, only_floored, only_truncated, floored_by_minus_one, other_quotient_fits}
+use Rattle.integer_core.proofs.Quotients.{only_multiple, floored_by_minus_one, other_quotient_fits}
 use Rattle.integer_core.proofs.Ranges.{within_fits}
 use Rattle.num_integer.specs.Parts.{IsWithin, signed}
 pub use Rattle.integer_core.proofs.DivisionKinds.{IsKind, truncated, floored, ceiled, each_kind}

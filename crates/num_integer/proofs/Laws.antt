@@ -1,5 +1,5 @@
 -- The laws of specs/Laws.antt, by their names in small letters: lemmas of this file, and lemmas from elsewhere that are passed on.
-use Rattle.num_integer.proofs.Common.{IsMultiple, IsOnly, IsQuotient, IsRemainder, arith, pos, products, refl, sym, ℤ, ◌∙◌, each_kind}
+use Rattle.num_integer.proofs.Common.{IsMultiple, IsOnly, IsQuotient, IsRemainder, arith, pos, products, sym, ℤ, ◌∙◌, each_kind}
 use Rattle.integer_core.proofs.CommonDivisors as common
 use Rattle.integer_core.proofs.Quotients as quotients
 use Rattle.integer_roots.proofs.OnlyAnswers as roots

@@ -1,5 +1,5 @@
 -- Roots by squares, and roots of exact powers.
-use Rattle.num_integer.proofs.Common.{◌≡◌, ◌+◌, ◌^◌, ◌*ℤ◌, ◌≢◌, ◌<◌, ◌≤◌, ◌*◌, ℤ, ℕ, pos, negsuc, unsigned_abs, int_pow, arith, ◌∙◌, refl, sym, ints, subst, pow-lt-pow_left}
+use Rattle.num_integer.proofs.Common.{◌≡◌, ◌+◌, ◌*ℤ◌, ◌≢◌, ◌<◌, ◌≤◌, ◌*◌, ℤ, ℕ, pos, negsuc, unsigned_abs, int_pow, arith, ◌∙◌, refl, sym, ints, subst, pow-lt-pow_left}
 use Rattle.integer_roots.proofs.Powers.{power_two}
 use Rattle.integer_roots.specs.RootOf.{IsRoot}
 use Rattle.integer_roots.proofs.OnlyAnswers.{root_is_only_one}

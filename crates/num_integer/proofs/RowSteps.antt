@@ -1,5 +1,5 @@
 -- Rows: from one coefficient to the next, and the rest of a row.
-use Rattle.num_integer.proofs.Common.{◌≤ℤ◌, ◌<ℤ◌, ◌+ℤ◌, ◌-ℤ◌, ◌*ℤ◌, ◌≢◌, ◌≡◌, ◌+◌, ◌-◌, ◌/◌, ◌<◌, ◌≤◌, ◌*◌, All, ◌∷◌, add-one, ℤ, pos, negsuc, unsigned_abs, int_div, int_rem, ℕ, suc, List, [], length, drop, get_or, reverse, refl, sym, ap, ◌∙◌, arith, min, ints, abs_is, comm, expand, linear, products, Divides, IsGreatestCommonDivisor, IsRange, at_drop_more, drop_all, get_or-reverse, length-reverse, All-from_get_or, All-nil, gcd-nonzero, gcd-positive, gcd-remainder, gcd-swap, gcd-times, cancel, Divides-cancel, exact_quotient, divisor_size, truncated_is, coefficient, coefficient_of, fits_below, factor_positive}
+use Rattle.num_integer.proofs.Common.{◌≤ℤ◌, ◌<ℤ◌, ◌+ℤ◌, ◌-ℤ◌, ◌*ℤ◌, ◌≢◌, ◌≡◌, ◌+◌, ◌-◌, ◌/◌, ◌≤◌, ◌*◌, All, ◌∷◌, add-one, ℤ, pos, negsuc, unsigned_abs, int_div, int_rem, ℕ, suc, List, [], length, drop, get_or, reverse, refl, sym, ap, ◌∙◌, arith, min, ints, abs_is, comm, expand, linear, products, Divides, IsGreatestCommonDivisor, IsRange, at_drop_more, drop_all, get_or-reverse, length-reverse, All-from_get_or, All-nil, gcd-nonzero, gcd-positive, gcd-remainder, gcd-swap, gcd-times, cancel, Divides-cancel, exact_quotient, divisor_size, truncated_is, coefficient, coefficient_of, fits_below, factor_positive}
 use Rattle.std.proofs.lemmas.List.FromFn.{fill_by_all, get_or-map-range_with_len, length-map-range_with_len}
 use Rattle.num_integer.proofs.Pascal.{below_answer, coefficient_mirror, next_in_row, nearer_same, rises}
 use Rattle.num_integer.specs.Laws.{RowIsGreatestInMiddle, RowIsPalindrome, RowLength}

@@ -47,7 +47,7 @@ pub(crate) struct RunningMultinomial {
 
 impl RunningMultinomial {
     /// Adds a count. Returns `None` if the multinomial then exceeds `most`.
-    pub(crate) fn with_count(self, count: u128, most: u128) -> Option<RunningMultinomial>
+    pub(crate) fn with_count(self, count: u128, most: u128) -> Option<Self>
         requires positive { 0 < self.multinomial }
         requires within { self.multinomial ≤ most }
         ensures { MatchOption result
@@ -58,7 +58,7 @@ impl RunningMultinomial {
     {
         let total = self.total.checked_add(count)?;
         let ways = coefficient_within(total, count, most / self.multinomial)?;
-        Some(RunningMultinomial {
+        Some(Self {
             total,
             multinomial: self.multinomial * ways,
         })

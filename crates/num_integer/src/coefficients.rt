@@ -7,9 +7,9 @@ ghost use Rattle.num_integer.specs.Coefficient.{coefficient, coefficient_of};
 ghost use Rattle.num_integer.specs.Multinomial.{IsMultinomial};
 
 use integer_core::Integer;
-use integer_core::operators::{
-    difference, is_below, one, product, quotient, remainder, successor, sum, zero,
-};
+use integer_core::guards::{check, check_none_negative, product_or, sum_or};
+use integer_core::operators::{is_below, is_negative, one, quotient, remainder, zero};
+use integer_core::plain::{difference, successor};
 
 /// Returns `a / b`. The quotient by a positive number always fits.
 #[tactic(auto, using(integer_core::proofs::FlooredByPositive::operator_quotient_fits))]
@@ -73,7 +73,7 @@ pub(crate) fn next_coefficient<T: Integer>(c: T, n: T, k: T) -> T
     ensures next { T.value result ≡ coefficient_of (T.value n) (T.value k +ℤ pos 1) }
 {
     let (x, y) = next_factors(c, n, k);
-    product(x, y)
+    product_or(x, y, "the binomial coefficient does not fit")
 }
 
 /// Returns the smaller of `k` and `n - k`.
@@ -108,6 +108,8 @@ pub fn binomial_counted<T: Integer>(n: T, k: T) -> (T, u32)
     ensures bound { T.value k ≤ℤ T.value n
         → 2 ^ result.1 ≤ coefficient (unsigned_abs (T.value n)) (unsigned_abs (T.value k)) }
 {
+    check(!is_negative(n), "`n` is negative");
+    check(!is_negative(k), "`k` is negative");
     if is_below(n, k) {
         return (zero(), 0);
     }
@@ -168,11 +170,16 @@ pub fn multinomial<T: Integer>(k: &[T]) -> T
     ensures in_range { T.fits (T.value result) }
     ensures multinomial { IsMultinomial (map T.value k.now) (T.value result) }
 {
+    check_none_negative(k, "a count is negative");
     let mut multinomial = one();
     let mut total = zero();
     for count in k {
-        total = sum(total, *count);
-        multinomial = product(multinomial, binomial(total, *count));
+        total = sum_or(total, *count, "the multinomial coefficient does not fit");
+        multinomial = product_or(
+            multinomial,
+            binomial(total, *count),
+            "the multinomial coefficient does not fit",
+        );
     }
     multinomial
 }

@@ -42,13 +42,13 @@ impl<T: Integer> IterBinomial<T> {
     /// # Panics
     ///
     /// In plain Rust, if an item does not fit: not this call, but the one that asks for the item.
-    pub fn new(n: T) -> IterBinomial<T>
+    pub fn new(n: T) -> Self
         requires in_range { T.fits (T.value n) }
         requires row_fits { RowFits T.fits (T.value n) }
         ensures row { result ≡ row_of (T.value n) }
         ensures items_in_range { All T.fits result }
     {
-        IterBinomial {
+        Self {
             n,
             k: zero(),
             item: one(),

@@ -4,7 +4,8 @@ ghost use Rattle.std.specs.Prelude.{◌≡◌, ◌+ℤ◌, ◌-ℤ◌, ◌*ℤ�
 ghost use Rattle.num_integer.specs.Checked.{AnswersWhere};
 
 use crate::domains::Fits;
-use integer_core::operators::{self, one, zero};
+use integer_core::operators::{one, zero};
+use integer_core::plain;
 
 /// Returns `a + b`, or `None` if it does not fit. `sum(200u8, 55)` is `Some(255)`, and
 /// `sum(200u8, 56)` is `None`.
@@ -17,7 +18,7 @@ pub fn sum<T: Fits>(a: T, b: T) -> Option<T>
         result }
 {
     if a.sum_fits(&b) {
-        Some(operators::sum(a, b))
+        Some(plain::sum(a, b))
     } else {
         None
     }
@@ -34,7 +35,7 @@ pub fn difference<T: Fits>(a: T, b: T) -> Option<T>
         result }
 {
     if a.difference_fits(&b) {
-        Some(operators::difference(a, b))
+        Some(plain::difference(a, b))
     } else {
         None
     }
@@ -51,7 +52,7 @@ pub fn product<T: Fits>(a: T, b: T) -> Option<T>
         result }
 {
     if a.product_fits(&b) {
-        Some(operators::product(a, b))
+        Some(plain::product(a, b))
     } else {
         None
     }
