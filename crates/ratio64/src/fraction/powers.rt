@@ -12,7 +12,7 @@ impl Ratio {
     /// fit. `Ratio::new(2, 3).unwrap().checked_pow(2)` is `Ratio::new(4, 9)`,
     /// `Ratio::new(2, 3).unwrap().checked_pow(-1)` is `Ratio::new(3, 2)`, and
     /// `Ratio::zero().checked_pow(0)` is `Ok(Ratio::one())`.
-    pub fn checked_pow(&self, exponent: i32) -> Result<Ratio, RatioError>
+    pub fn checked_pow(&self, exponent: i32) -> Result<Self, RatioError>
         ensures from_zero { pos 0 ≤ℤ exponent → AnswersFraction
             (int_pow (num_of self.now) (unsigned_abs exponent))
             (int_pow (den_of self.now) (unsigned_abs exponent)) result }
@@ -28,12 +28,12 @@ impl Ratio {
     }
 
     /// Returns the power of a degree that is not negative. The powers of two coprime parts are coprime.
-    fn power(&self, degree: u32) -> Result<Ratio, RatioError>
+    fn power(&self, degree: u32) -> Result<Self, RatioError>
         ensures { AnswersFraction (int_pow (num_of self.now) degree)
             (int_pow (den_of self.now) degree) result }
     {
         let num = self.num.checked_pow(degree).ok_or(RatioError::NotFitting)?;
         let den = self.den.checked_pow(degree).ok_or(RatioError::NotFitting)?;
-        Ok(Ratio { num, den })
+        Ok(Self { num, den })
     }
 }

@@ -11,6 +11,7 @@ ghost use Rattle.ratio64.specs.Rounding.{AnswersInParts, IsRounded};
 use crate::fraction::rounding::nearest;
 use crate::reduction::{narrowed, product};
 use crate::{Ratio, RatioError};
+use num_integer::guards::check;
 use num_integer::{div_ceil, div_floor};
 
 impl Ratio {
@@ -48,23 +49,24 @@ impl Ratio {
 
     /// Returns the fraction times `n / d`, or `ZeroDenominator` if `d` is 0, or `NotFitting` if a part of
     /// the product does not fit. `Ratio::new(2, 3).unwrap().checked_times(9, 4)` is `Ratio::new(3, 2)`.
-    pub fn checked_times(&self, n: i64, d: i64) -> Result<Ratio, RatioError>
+    pub fn checked_times(&self, n: i64, d: i64) -> Result<Self, RatioError>
         ensures product { AnswersFraction (num_of self.now *ℤ n) (d *ℤ den_of self.now) result }
         ensures zero_denominator { (result ≡ Err RatioError.ZeroDenominator) ↔ (d ≡ pos 0) }
     {
-        Ratio::reduced(product(self.num, n), product(d, self.den))
+        Self::reduced(product(self.num, n), product(d, self.den))
     }
 
     /// Returns the largest multiple of `1 / parts` that is at most the fraction, or `NotFitting` if a part
     /// of it does not fit. In quarters, `Ratio::new(5, 3).unwrap().floor_to(4)` is `Ratio::new(3, 2)`.
     ///
     /// May be called if `parts` is positive.
-    pub fn floor_to(&self, parts: i64) -> Result<Ratio, RatioError>
+    pub fn floor_to(&self, parts: i64) -> Result<Self, RatioError>
         requires { pos 0 <ℤ parts }
         ensures floored { AnswersInParts
             (IsQuotient IsFloored (num_of self.now *ℤ parts) (den_of self.now)) parts result }
         ensures never_zero { result ≢ Err RatioError.ZeroDenominator }
     {
+        check(parts > 0, "the number of parts is not positive");
         in_parts(self.wide_floor_times(parts), parts)
     }
 
@@ -72,12 +74,13 @@ impl Ratio {
     /// part of it does not fit. In quarters, `Ratio::new(5, 3).unwrap().ceil_to(4)` is `Ratio::new(7, 4)`.
     ///
     /// May be called if `parts` is positive.
-    pub fn ceil_to(&self, parts: i64) -> Result<Ratio, RatioError>
+    pub fn ceil_to(&self, parts: i64) -> Result<Self, RatioError>
         requires { pos 0 <ℤ parts }
         ensures ceiled { AnswersInParts
             (IsQuotient IsCeiled (num_of self.now *ℤ parts) (den_of self.now)) parts result }
         ensures never_zero { result ≢ Err RatioError.ZeroDenominator }
     {
+        check(parts > 0, "the number of parts is not positive");
         in_parts(self.wide_ceil_times(parts), parts)
     }
 
@@ -86,12 +89,13 @@ impl Ratio {
     /// is `Ratio::new(167, 100)`.
     ///
     /// May be called if `parts` is positive.
-    pub fn round_to(&self, parts: i64) -> Result<Ratio, RatioError>
+    pub fn round_to(&self, parts: i64) -> Result<Self, RatioError>
         requires { pos 0 <ℤ parts }
         ensures rounded { AnswersInParts
             (IsRounded (num_of self.now *ℤ parts) (den_of self.now)) parts result }
         ensures never_zero { result ≢ Err RatioError.ZeroDenominator }
     {
+        check(parts > 0, "the number of parts is not positive");
         in_parts(self.wide_round_times(parts), parts)
     }
 
