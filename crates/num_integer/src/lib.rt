@@ -14,7 +14,7 @@ pub use coefficients::{binomial, multinomial};
 pub use domains::Fits;
 pub use integer_core::{
     ExtendedGcd, Integer, NativeInteger, div_ceil, div_floor, div_mod_floor, div_rem, gcd, gcd_lcm,
-    guards, lcm, mod_floor, operators,
+    guards, lcm, mod_floor, operators, padded,
 };
 pub use integer_roots::{Average, Roots, average_ceil, average_floor, cbrt, nth_root, sqrt};
 pub use rows::IterBinomial;

@@ -18,12 +18,12 @@ pub enum RatioError {
 impl RatioError {
     /// Returns the number of the error, which no version changes.
     /// `RatioError::ZeroDenominator.number()` is `1`, and `RatioError::NotFitting.number()` is `2`.
-    pub fn number(&self) -> u32
+    pub const fn number(&self) -> u32
         ensures { result ≡ number_of self.now }
     {
         match self {
-            RatioError::ZeroDenominator => 1,
-            RatioError::NotFitting => 2,
+            Self::ZeroDenominator => 1,
+            Self::NotFitting => 2,
         }
     }
 }
@@ -34,10 +34,8 @@ impl fmt::Display for RatioError {
 
     fn fmt<W: fmt::Write>(&self, f: &mut fmt::Formatter<W>) -> fmt::Result {
         match self {
-            RatioError::ZeroDenominator => write!(f, "the denominator is 0"),
-            RatioError::NotFitting => {
-                write!(f, "a part of the reduced fraction does not fit in 64 bits")
-            }
+            Self::ZeroDenominator => f.pad("the denominator is 0"),
+            Self::NotFitting => f.pad("a part of the reduced fraction does not fit in 64 bits"),
         }
     }
 }

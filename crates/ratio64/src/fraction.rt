@@ -13,6 +13,7 @@ mod times;
 
 use crate::RatioError;
 use crate::reduction::{lowest_terms, numerator_of_difference, numerator_of_sum, product};
+use num_integer::padded::Text;
 use num_integer::{div_ceil, div_floor};
 use std::fmt;
 
@@ -37,39 +38,39 @@ impl Ratio {
     ///
     /// - [`RatioError::ZeroDenominator`] if `den` is 0;
     /// - [`RatioError::NotFitting`] if a part of the reduced fraction does not fit an `i64`.
-    pub fn new(num: i64, den: i64) -> Result<Ratio, RatioError>
+    pub fn new(num: i64, den: i64) -> Result<Self, RatioError>
         ensures fraction { AnswersFraction num den result }
         ensures refused { IfErr result (λ _. den ≤ℤ pos 0) }
         ensures positive { IfOk result (λ x. pos 0 <ℤ den_of x) }
     {
-        Ratio::reduced(i128::from(num), i128::from(den))
+        Self::reduced(i128::from(num), i128::from(den))
     }
 
     /// Returns 0. `Ok(Ratio::zero())` is `Ratio::new(0, 1)`.
-    pub fn zero() -> Ratio
+    pub fn zero() -> Self
         ensures num { num_of result ≡ pos 0 }
         ensures den { den_of result ≡ pos 1 }
     {
-        Ratio::from(0)
+        Self::from(0)
     }
 
     /// Returns 1. `Ok(Ratio::one())` is `Ratio::new(1, 1)`.
-    pub fn one() -> Ratio
+    pub fn one() -> Self
         ensures num { num_of result ≡ pos 1 }
         ensures den { den_of result ≡ pos 1 }
     {
-        Ratio::from(1)
+        Self::from(1)
     }
 
     /// Returns the numerator. `Ratio::new(6, -4).unwrap().num()` is `-3`.
-    pub fn num(&self) -> i64
+    pub const fn num(&self) -> i64
         ensures { result ≡ num_of self.now }
     {
         self.num
     }
 
     /// Returns the denominator, which is positive. `Ratio::new(6, -4).unwrap().den()` is `2`.
-    pub fn den(&self) -> i64
+    pub const fn den(&self) -> i64
         ensures { result ≡ den_of self.now }
     {
         self.den
@@ -95,7 +96,7 @@ impl Ratio {
     /// # Errors
     ///
     /// - [`RatioError::NotFitting`] if a part of the sum does not fit an `i64`.
-    pub fn checked_add(&self, other: &Ratio) -> Result<Ratio, RatioError>
+    pub fn checked_add(&self, other: &Self) -> Result<Self, RatioError>
         ensures sum { AnswersFraction
             (num_of self.now *ℤ den_of other.now +ℤ num_of other.now *ℤ den_of self.now)
             (den_of self.now *ℤ den_of other.now) result }
@@ -111,7 +112,7 @@ impl Ratio {
     /// # Errors
     ///
     /// - [`RatioError::NotFitting`] if a part of the difference does not fit an `i64`.
-    pub fn checked_sub(&self, other: &Ratio) -> Result<Ratio, RatioError>
+    pub fn checked_sub(&self, other: &Self) -> Result<Self, RatioError>
         ensures difference { AnswersFraction
             (num_of self.now *ℤ den_of other.now -ℤ num_of other.now *ℤ den_of self.now)
             (den_of self.now *ℤ den_of other.now) result }
@@ -127,7 +128,7 @@ impl Ratio {
     /// # Errors
     ///
     /// - [`RatioError::NotFitting`] if a part of the product does not fit an `i64`.
-    pub fn checked_mul(&self, other: &Ratio) -> Result<Ratio, RatioError>
+    pub fn checked_mul(&self, other: &Self) -> Result<Self, RatioError>
         ensures product { AnswersFraction (num_of self.now *ℤ num_of other.now)
             (den_of self.now *ℤ den_of other.now) result }
         ensures never_zero { result ≢ Err RatioError.ZeroDenominator }
@@ -142,13 +143,13 @@ impl Ratio {
     ///
     /// - [`RatioError::ZeroDenominator`] if `other` is 0;
     /// - [`RatioError::NotFitting`] if a part of the quotient does not fit an `i64`.
-    pub fn checked_div(&self, other: &Ratio) -> Result<Ratio, RatioError>
+    pub fn checked_div(&self, other: &Self) -> Result<Self, RatioError>
         ensures quotient { AnswersFraction (num_of self.now *ℤ den_of other.now)
             (num_of other.now *ℤ den_of self.now) result }
         ensures zero_divisor { (result ≡ Err RatioError.ZeroDenominator)
             ↔ (num_of other.now ≡ pos 0) }
     {
-        Ratio::reduced(product(self.num, other.den), product(other.num, self.den))
+        Self::reduced(product(self.num, other.den), product(other.num, self.den))
     }
 
     /// Returns the reciprocal `den / num`. `Ratio::new(-2, 3).unwrap().checked_recip()` is
@@ -158,25 +159,25 @@ impl Ratio {
     ///
     /// - [`RatioError::ZeroDenominator`] if the fraction is 0;
     /// - [`RatioError::NotFitting`] if the numerator is `i64::MIN`.
-    pub fn checked_recip(&self) -> Result<Ratio, RatioError>
+    pub fn checked_recip(&self) -> Result<Self, RatioError>
         ensures reciprocal { AnswersFraction (den_of self.now) (num_of self.now) result }
         ensures refused { IfErr result
             (λ _. (num_of self.now ≡ pos 0) ⊎ (num_of self.now ≡ neg_ℤ (pos (2 ^ 63)))) }
     {
-        Ratio::new(self.den, self.num)
+        Self::new(self.den, self.num)
     }
 
     /// Returns `num` over the product of the two denominators.
-    fn over_product_of_denominators(&self, other: &Ratio, num: i128) -> Result<Ratio, RatioError>
+    fn over_product_of_denominators(&self, other: &Self, num: i128) -> Result<Self, RatioError>
         requires { unsigned_abs num < 2 ^ 127 }
         ensures fraction { AnswersFraction num (den_of self.now *ℤ den_of other.now) result }
         ensures never_zero { result ≢ Err RatioError.ZeroDenominator }
     {
-        Ratio::reduced(num, product(self.den, other.den))
+        Self::reduced(num, product(self.den, other.den))
     }
 
     /// Returns `num / den` in lowest terms.
-    pub(crate) fn reduced(num: i128, den: i128) -> Result<Ratio, RatioError>
+    pub(crate) fn reduced(num: i128, den: i128) -> Result<Self, RatioError>
         requires num_below { unsigned_abs num < 2 ^ 127 }
         requires den_below { unsigned_abs den < 2 ^ 127 }
         ensures { AnswersFraction num den result }
@@ -185,7 +186,7 @@ impl Ratio {
             return Err(RatioError::ZeroDenominator);
         }
         let (num, den) = lowest_terms(num, den)?;
-        Ok(Ratio { num, den })
+        Ok(Self { num, den })
     }
 }
 
@@ -196,8 +197,8 @@ impl From<i64> for Ratio {
 
     ghost from_gives = { λ number x. (num_of x ≡ number) × (den_of x ≡ pos 1) };
 
-    fn from(num: i64) -> Ratio {
-        Ratio { num, den: 1 }
+    fn from(num: i64) -> Self {
+        Self { num, den: 1 }
     }
 }
 
@@ -207,8 +208,8 @@ impl Default for Ratio {
 
     ghost is_default = { λ x. (num_of x ≡ pos 0) × (den_of x ≡ pos 1) };
 
-    fn default() -> Ratio {
-        Ratio::zero()
+    fn default() -> Self {
+        Self::zero()
     }
 }
 
@@ -221,6 +222,16 @@ impl fmt::Display for Ratio {
     ghost output = { λ x. Some (text_of x) };
 
     fn fmt<W: fmt::Write>(&self, f: &mut fmt::Formatter<W>) -> fmt::Result {
+        self.pad(f)
+    }
+}
+
+impl Text for Ratio {
+    ghost use Rattle.ratio64.specs.Ratio.{text_of};
+
+    ghost text = { text_of };
+
+    fn write_to<W: fmt::Write>(&self, f: &mut W) -> fmt::Result {
         let (num, den) = (self.num(), self.den());
         if den == 1 {
             write!(f, "{num}")

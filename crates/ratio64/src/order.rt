@@ -19,7 +19,7 @@ impl Ord for Ratio {
 
     ghost matches_eq = { λ x y. ties_of_reduced x.reduced y.reduced };
 
-    fn cmp(&self, other: &Ratio) -> Ordering {
+    fn cmp(&self, other: &Self) -> Ordering {
         product(self.num(), other.den()).cmp(&product(other.num(), self.den()))
     }
 }
@@ -41,7 +41,7 @@ impl PartialOrd for Ratio {
         (λ x y. refl)
         (λ x y. ties_of_reduced x.reduced y.reduced) };
 
-    fn partial_cmp(&self, other: &Ratio) -> Option<Ordering> {
+    fn partial_cmp(&self, other: &Self) -> Option<Ordering> {
         Some(self.cmp(other))
     }
 }

@@ -31,10 +31,10 @@ impl From<RatioError> for ParseRatioError {
 
     ghost from_gives = { λ refusal error. Err error ≡ answer_read (Err refusal) };
 
-    fn from(error: RatioError) -> ParseRatioError {
+    fn from(error: RatioError) -> Self {
         match error {
-            RatioError::ZeroDenominator => ParseRatioError::ZeroDenominator,
-            RatioError::NotFitting => ParseRatioError::NotFitting,
+            RatioError::ZeroDenominator => Self::ZeroDenominator,
+            RatioError::NotFitting => Self::NotFitting,
         }
     }
 }
@@ -48,13 +48,10 @@ impl fmt::Display for ParseRatioError {
 
     fn fmt<W: fmt::Write>(&self, f: &mut fmt::Formatter<W>) -> fmt::Result {
         match self {
-            ParseRatioError::NotAFraction => write!(f, "the text is not a fraction"),
-            ParseRatioError::TooLong => write!(
-                f,
-                "a part has more than 38 digits, leading zeros aside"
-            ),
-            ParseRatioError::ZeroDenominator => RatioError::ZeroDenominator.fmt(f),
-            ParseRatioError::NotFitting => RatioError::NotFitting.fmt(f),
+            Self::NotAFraction => f.pad("the text is not a fraction"),
+            Self::TooLong => f.pad("a part has more than 38 digits, leading zeros aside"),
+            Self::ZeroDenominator => RatioError::ZeroDenominator.fmt(f),
+            Self::NotFitting => RatioError::NotFitting.fmt(f),
         }
     }
 }
@@ -80,7 +77,7 @@ impl FromStr for Ratio {
 
     ghost from_str_gives = { ReadsFraction };
 
-    fn from_str(text: &str) -> Result<Ratio, ParseRatioError> {
+    fn from_str(text: &str) -> Result<Self, ParseRatioError> {
         let (num, den) = text.split_once('/').unwrap_or((text, "1"));
         if !is_integer(num) || !is_integer(den) {
             return Err(ParseRatioError::NotAFraction);

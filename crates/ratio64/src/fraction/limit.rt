@@ -9,6 +9,7 @@ use crate::Ratio;
 use crate::neighbours::{Neighbour, nearer, neighbours};
 use crate::reduction::product;
 use num_integer::div_mod_floor;
+use num_integer::guards::check;
 
 impl Ratio {
     /// Returns the nearest fraction whose denominator is at most `max`. Of those equally near it
@@ -19,11 +20,12 @@ impl Ratio {
     /// # Panics
     ///
     /// In plain Rust, if the limit is not positive.
-    pub fn limit_denominator(&self, max: i64) -> Ratio
+    pub fn limit_denominator(&self, max: i64) -> Self
         requires { pos 0 <ℤ max }
         ensures { IsNearestWithin (num_of self.now) (den_of self.now) max (num_of result)
             (den_of result) }
     {
+        check(max > 0, "the limit is not positive");
         if self.den <= max {
             return *self;
         }
@@ -35,7 +37,7 @@ impl Ratio {
         );
         let (below, above) = neighbours(part, den, limit);
         let nearest = nearer(below, above);
-        Ratio {
+        Self {
             num: numerator(whole, nearest),
             den: nearest.den as i64,
         }

@@ -16,7 +16,7 @@ impl Ratio {
     ///
     /// - [`RatioError::ZeroDenominator`] if the fraction is 0 and the exponent is negative;
     /// - [`RatioError::NotFitting`] if a part of the power does not fit an `i64`.
-    pub fn checked_pow(&self, exponent: i32) -> Result<Ratio, RatioError>
+    pub fn checked_pow(&self, exponent: i32) -> Result<Self, RatioError>
         ensures from_zero { pos 0 ≤ℤ exponent → AnswersFraction
             (int_pow (num_of self.now) (unsigned_abs exponent))
             (int_pow (den_of self.now) (unsigned_abs exponent)) result }
@@ -32,12 +32,12 @@ impl Ratio {
     }
 
     /// Returns the power of a degree that is not negative. The powers of two coprime parts are coprime.
-    fn power(&self, degree: u32) -> Result<Ratio, RatioError>
+    fn power(&self, degree: u32) -> Result<Self, RatioError>
         ensures { AnswersFraction (int_pow (num_of self.now) degree)
             (int_pow (den_of self.now) degree) result }
     {
         let num = self.num.checked_pow(degree).ok_or(RatioError::NotFitting)?;
         let den = self.den.checked_pow(degree).ok_or(RatioError::NotFitting)?;
-        Ok(Ratio { num, den })
+        Ok(Self { num, den })
     }
 }

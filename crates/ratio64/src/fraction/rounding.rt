@@ -14,7 +14,7 @@ use num_integer::{Integer, div_rem};
 impl Ratio {
     /// Returns whether the fraction is an integer. `Ratio::new(6, 3).unwrap().is_integer()` is `true`,
     /// and `Ratio::new(1, 2).unwrap().is_integer()` is `false`.
-    pub fn is_integer(&self) -> bool
+    pub const fn is_integer(&self) -> bool
         ensures { IsTrue result ↔ (den_of self.now ≡ pos 1) }
     {
         self.den == 1
@@ -38,13 +38,13 @@ impl Ratio {
 
     /// Returns the fraction minus [`Ratio::trunc`]. `Ok(Ratio::new(-3, 2).unwrap().fract())` is
     /// `Ratio::new(-1, 2)`.
-    pub fn fract(&self) -> Ratio
+    pub fn fract(&self) -> Self
         ensures num { IsRemainder IsTruncated (num_of self.now) (den_of self.now)
             (num_of result) }
         ensures den { den_of result ≡ den_of self.now }
     {
         let (_, rest) = div_rem(self.num, self.den);
-        Ratio {
+        Self {
             num: rest,
             den: self.den,
         }

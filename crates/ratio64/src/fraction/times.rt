@@ -11,6 +11,7 @@ ghost use Rattle.ratio64.specs.Rounding.{AnswersInParts, IsRounded};
 use crate::fraction::rounding::nearest;
 use crate::reduction::{narrowed, product};
 use crate::{Ratio, RatioError};
+use num_integer::guards::check;
 use num_integer::{div_ceil, div_floor};
 
 impl Ratio {
@@ -53,11 +54,11 @@ impl Ratio {
     ///
     /// - [`RatioError::ZeroDenominator`] if `d` is 0;
     /// - [`RatioError::NotFitting`] if a part of the product does not fit an `i64`.
-    pub fn checked_times(&self, n: i64, d: i64) -> Result<Ratio, RatioError>
+    pub fn checked_times(&self, n: i64, d: i64) -> Result<Self, RatioError>
         ensures product { AnswersFraction (num_of self.now *ℤ n) (d *ℤ den_of self.now) result }
         ensures zero_denominator { (result ≡ Err RatioError.ZeroDenominator) ↔ (d ≡ pos 0) }
     {
-        Ratio::reduced(product(self.num, n), product(d, self.den))
+        Self::reduced(product(self.num, n), product(d, self.den))
     }
 
     /// Returns the largest multiple of `1 / parts` that is at most the fraction. In quarters,
@@ -70,12 +71,13 @@ impl Ratio {
     /// # Errors
     ///
     /// - [`RatioError::NotFitting`] if a part of the result does not fit an `i64`.
-    pub fn floor_to(&self, parts: i64) -> Result<Ratio, RatioError>
+    pub fn floor_to(&self, parts: i64) -> Result<Self, RatioError>
         requires { pos 0 <ℤ parts }
         ensures floored { AnswersInParts
             (IsQuotient IsFloored (num_of self.now *ℤ parts) (den_of self.now)) parts result }
         ensures never_zero { result ≢ Err RatioError.ZeroDenominator }
     {
+        check(parts > 0, "the number of parts is not positive");
         in_parts(self.wide_floor_times(parts), parts)
     }
 
@@ -89,12 +91,13 @@ impl Ratio {
     /// # Errors
     ///
     /// - [`RatioError::NotFitting`] if a part of the result does not fit an `i64`.
-    pub fn ceil_to(&self, parts: i64) -> Result<Ratio, RatioError>
+    pub fn ceil_to(&self, parts: i64) -> Result<Self, RatioError>
         requires { pos 0 <ℤ parts }
         ensures ceiled { AnswersInParts
             (IsQuotient IsCeiled (num_of self.now *ℤ parts) (den_of self.now)) parts result }
         ensures never_zero { result ≢ Err RatioError.ZeroDenominator }
     {
+        check(parts > 0, "the number of parts is not positive");
         in_parts(self.wide_ceil_times(parts), parts)
     }
 
@@ -108,12 +111,13 @@ impl Ratio {
     /// # Errors
     ///
     /// - [`RatioError::NotFitting`] if a part of the result does not fit an `i64`.
-    pub fn round_to(&self, parts: i64) -> Result<Ratio, RatioError>
+    pub fn round_to(&self, parts: i64) -> Result<Self, RatioError>
         requires { pos 0 <ℤ parts }
         ensures rounded { AnswersInParts
             (IsRounded (num_of self.now *ℤ parts) (den_of self.now)) parts result }
         ensures never_zero { result ≢ Err RatioError.ZeroDenominator }
     {
+        check(parts > 0, "the number of parts is not positive");
         in_parts(self.wide_round_times(parts), parts)
     }
 
