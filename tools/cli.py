@@ -80,11 +80,10 @@ def main(words: list[str]) -> int:
             print('', f'    {verb}', *(f'        {name:<12}{part.does}{"" if part.always else " *"}' for name, part in parts.items()), sep='\n')
         print('\nThose with a star run only if they are named.')
         return 0 if words == ['--help'] else 2
-    if name:
-        return run_part(PARTS[verb][name], rest)
     worst = 0
-    for name, part in PARTS[verb].items():
-        if part.always:
-            print(f'{verb} {name}', flush=True)
-            worst = max(worst, run_part(part, []))
+    for each, part in PARTS[verb].items():
+        if each == name or part.always and not name:
+            if verb == 'check' or not name:
+                print(verb, each, flush=True)
+            worst = max(worst, run_part(part, rest))
     return worst

@@ -2,7 +2,7 @@
 import re
 import textwrap
 
-from tools.bindings.exports import EXPORTS, VERSION, Call, Struct, c_parameters, c_type, filled
+from tools.bindings.exports import EXPORTS, VERSION, Call, Struct, c_parameters, c_type, filled, without_returns
 
 WIDTH = 118
 
@@ -17,10 +17,7 @@ def comment(text: str, indent: str = '') -> str:
 
 def in_c(text: str) -> str:
     """A comment of the sources for readers of C."""
-    text = re.sub(r'`([A-Z_]+)`', r'CELLARCOVE_\1', text)
-    text = re.sub(r'^Returns `true` if', 'Whether', text)
-    text = re.sub(r'^Returns (.)', lambda found: found.group(1).upper(), text)
-    return text.replace('`', '')
+    return re.sub(r'`([A-Z_]+)`', r'CELLARCOVE_\1', without_returns(text)).replace('`', '')
 
 
 def status_of(call: Call) -> str:

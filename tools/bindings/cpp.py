@@ -1,8 +1,7 @@
 """What C++ knows of the exports: a header of templates over that for C."""
-import re
 import textwrap
 
-from tools.bindings.exports import EXPORTS, Call, Field, filled
+from tools.bindings.exports import EXPORTS, Call, Field, filled, without_returns
 
 WIDTH = 118
 RESULTS = {
@@ -31,10 +30,8 @@ def of(call: Call) -> tuple[str, str]:
 
 
 def comment(call: Call) -> str:
-    text = re.sub('^Returns `true` if', 'Whether', call.doc)
-    text = re.sub('^Returns (.)', lambda found: found.group(1).upper(), text)
     statuses = (sentence.split('`', 2) for sentence in call.statuses)
-    text = ' '.join([text, *(f'status::{name.lower()}{rest}' for _, name, rest in statuses)])
+    text = ' '.join([without_returns(call.doc), *(f'status::{name.lower()}{rest}' for _, name, rest in statuses)])
     lines = textwrap.wrap(text.replace('`', ''), WIDTH - 4, break_long_words=False, break_on_hyphens=False)
     return ''.join(f'/// {line}\n' for line in lines)
 

@@ -144,6 +144,11 @@ def read() -> Exports:
     return found
 
 
+def without_returns(doc: str) -> str:
+    """The comment of a call without its first word, for readers of other languages."""
+    return re.sub('^Returns (.)', lambda found: found[1].upper(), re.sub('^Returns `true` if', 'Whether', doc))
+
+
 def filled(template: str, **parts: str) -> str:
     """A template with its parts in the place of their names in braces."""
     text = (Path(__file__).parent / 'templates' / template).read_text()

@@ -3,7 +3,7 @@ import re
 import textwrap
 from collections.abc import Callable, Sequence
 
-from tools.bindings.exports import EXPORTS, Call, Field, c_type
+from tools.bindings.exports import EXPORTS, Call, Field, c_type, without_returns
 
 # The operators of `fractions.Fraction` and the calls of `math` do the same.
 LEFT_OUT = {'fraction_new', 'fraction_add', 'fraction_sub', 'fraction_mul', 'fraction_div', 'fraction_cmp', 'fraction_floor',
@@ -73,16 +73,10 @@ def arguments(call: Call, number: Callable[[int, str], str]) -> str:
 
 def object_of(call: Call) -> str:
     """The result in Python of the result `r` in C."""
-    found = results(call)
-    if found[0][0].startswith('.value.num') or call.result == 'Fraction':
-        return 'fraction_of(r.value)'
-    if call.result == 'DateAnswer':
-        return 'date_of(r.date)'
-    if call.result == 'Date':
-        return 'date_of(r)'
-    items = [f'{OBJECTS[kind]}(r{path})' for path, kind in found]
-    if len(items) == 1:
-        return items[0]
+    whole = {'FractionAnswer': 'fraction_of(r.value)', 'DateAnswer': 'date_of(r.date)', 'Date': 'date_of(r)'}
+    items = [f'{OBJECTS[kind]}(r{path})' for path, kind in results(call)]
+    if call.result in whole or len(items) == 1:
+        return whole.get(call.result, items[0])
     group = next((name for end, (name, _) in CLASSES.items() if end in call.result), 'NULL')
     return f'tuple_of({group}, {len(items)}, (PyObject *[]){{{", ".join(items)}}})'
 
@@ -146,17 +140,13 @@ def raised(call: Call) -> str:
 def docstring(name: str, forms: list[Call]) -> str:
     """What a call does, its errors, and its arrays."""
     call = forms[0]
-    text = re.sub('^Returns `true` if', 'Whether', DOCS.get(name, call.doc))
-    text = re.sub('^Returns (.)', lambda found: found.group(1).upper(), text)
-    for old, new in PARAMETERS.items():
-        text = text.replace(f'`{old}`', f'`{new}`')
-    errors = raised(call)
-    for old, new in PARAMETERS.items():
-        errors = errors.replace(f'`{old}`', f'`{new}`')
-    parts = [text] + [errors] * bool(errors)
-    if name in OF_MANY:
-        parts.append('It takes any count of numbers.')
-    return '\n\n'.join('\n'.join(textwrap.wrap(part, 88)) for part in parts)
+    parts = [without_returns(DOCS.get(name, call.doc)), raised(call), 'It takes any count of numbers.' if name in OF_MANY else '']
+    return '\n\n'.join('\n'.join(textwrap.wrap(in_python(part), 88)) for part in parts if part)
+
+
+def in_python(text: str) -> str:
+    """A text with the names that the parameters have in Python."""
+    return re.sub('`(\\w+)`', lambda name: f'`{PARAMETERS.get(name[1], name[1])}`', text)
 
 
 def quoted(text: str) -> str:
@@ -345,7 +335,6 @@ def listed_type(parameter: Field) -> str:
 def stub(name: str, forms: list[Call]) -> str:
     call = forms[0]
     names = parameter_names(call)
-    doc = ''
     if call.has_slice:
         taken = ', '.join(f'{given}: {listed_type(parameter)}' for given, parameter in zip(names, call.parameters))
         return f'def {name}({taken}, /) -> {"tuple[int, ...]" if call.writes else "int"}: ...\n'
@@ -363,7 +352,7 @@ def {name}(*numbers: {NUMBER}) -> int: ...
                  for k, parameter in enumerate(call.parameters)]
         overloads.append((', '.join(f'{parameter}: {kind}' for parameter, kind in zip(names, kinds)) + ', *, out: Outputs = ...', array_result(call)))
     overloads.append((', '.join(f'{parameter}: {PYTHON.get(kind.kind, NUMBER)}' for parameter, kind in zip(names, call.parameters)), scalar_result(call)))
-    return doc + ''.join(f'@overload\ndef {name}({taken}) -> {result}: ...\n' for taken, result in overloads)
+    return ''.join(f'@overload\ndef {name}({taken}) -> {result}: ...\n' for taken, result in overloads)
 
 
 def stubs() -> str:

@@ -38,6 +38,7 @@ if [ ${#names[@]} -eq 0 ]; then
 fi
 
 wanted=0
+sizes=()
 for name in "${names[@]}"; do
     edits=(crates/"$name"/must-fail-release/*.edit)
     if [ ! -f "${edits[0]}" ]; then
@@ -45,35 +46,19 @@ for name in "${names[@]}"; do
         exit 2
     fi
     wanted=$((wanted + ${#edits[@]}))
+    sizes+=("${#edits[@]} $name")
     take_suite "$name"
 done
 
-# try_suite NAME: tries those of the crate, one after the other. What is said and the status are in files of its name.
-try_suite() {
-    (cd "$work/repository" && RT_JOBS=1 rt must-fail "$1") >"$work/$1" 2>&1
-    echo $? >"$work/$1.status"
-}
-
-# The names, those of the crates with the most wrong bodies first.
-longest_first() {
-    local name
-    for name in "${names[@]}"; do
-        echo "$(ls "crates/$name/must-fail-release" | wc -l) $name"
-    done | sort -rn | cut -d ' ' -f 2
-}
-
 build_libraries || exit 2
-for name in $(longest_first); do
+# Those of the crates with the most wrong bodies first.
+for name in $(printf '%s\n' "${sizes[@]}" | sort -rn | cut -d ' ' -f 2); do
     [ "$(jobs -rp | wc -l)" -lt "$(nproc)" ] || wait -n
-    try_suite "$name" &
+    { (cd "$work/repository" && RT_JOBS=1 rt must-fail "$name") || touch "$work/failed"; } >"$work/$name" 2>&1 &
 done
 wait
 
-status=0
-for name in "${names[@]}"; do
-    cat "$work/$name"
-    [ "$(cat "$work/$name.status")" -eq 0 ] || status=1
-done
+cat "${names[@]/#/$work/}"
 passed=$(cat "${names[@]/#/$work/}" | grep -cE '^(rt: )?must-fail [a-z0-9_]+/[^ ]+\.edit: refused, as it must be')
 failed=$((wanted - passed))
-finish && [ "$status" -eq 0 ]
+finish && [ ! -e "$work/failed" ]

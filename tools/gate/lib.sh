@@ -26,9 +26,9 @@ check() {
     judge "$1" "$status"
 }
 
-# finish: prints the count. Its status is 0 if there were checks and none failed.
+# finish: prints the count, after the name of the script. Its status is 0 if there were checks and none failed.
 finish() {
-    echo "$passed passed, $failed failed"
+    echo "${0##*/}: $passed passed, $failed failed"
     [ "$failed" -eq 0 ] && [ "$passed" -gt 0 ]
 }
 

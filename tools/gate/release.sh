@@ -178,7 +178,7 @@ notes() {
     echo "| \`cellarcove-c-$version-$machine.tar.gz\` | headers and libraries for C and C++, for pkg-config and CMake |"
     echo "| \`cellarcove-$version-source.tar.gz\` | all sources |"
     printf '\n`.ci/run` has passed:\n\n'
-    grep -E '^(rt: ok|gate:|[0-9]+ passed)' out/passed | sed 's/^/- /'
+    grep -E '^(rt: ok|gate: |check_[a-z_]+\.sh: )' out/passed | sed 's/^/- /'
     printf '\nWhat was tried of these files:\n\n'
     sed 's/^/- /' "$work/said"
     [ "$quick" = no ] || printf -- '- %s: left out\n' \
