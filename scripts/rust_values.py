@@ -1,10 +1,12 @@
 """What the body of a function does with the values that it names: which uses copy a value, and where it is borrowed."""
+import re
 from collections.abc import Iterator, Sequence
 from typing import NamedTuple
 
 from rattle_source import Item, Source
 
 LOOPS = ('while', 'for', 'loop')
+NATIVE = re.compile(r'[iu](8|16|32|64|128|size)|bool')
 KEYWORDS = {'as', 'break', 'continue', 'else', 'false', 'fn', 'if', 'in', 'let', 'match', 'move', 'mut', 'ref',
             'return', 'true', *LOOPS}
 
@@ -25,6 +27,7 @@ class Body:
         self.opened = {source.close(k): k for k in range(self.first, self.last) if source.is_sign(k, '([{')}
         self.patterns = set(self.places_of_patterns())
         self.references = set(self.names_of_references(item))
+        self.natives = {self.at(k - 1) for k in range(item.word, self.first) if self.at(k) == ':' and NATIVE.fullmatch(self.at(k + 1))}
 
     # ---- names
 
@@ -102,7 +105,7 @@ class Body:
     def copies(self) -> Iterator[Use]:
         """The uses that copy a value."""
         for use in self.uses():
-            if not self.is_replaced(use) and not self.is_borrowed(use):
+            if self.at(use.first) not in self.natives and not self.is_replaced(use) and not self.is_borrowed(use):
                 is_field = self.at(use.first) in self.references and use.last > use.first
                 is_kept = self.at(use.first) not in self.references and self.is_named_again(use)
                 if self.is_behind(use) or self.is_item(use) or is_field or is_kept:

@@ -37,3 +37,8 @@ fn is_above<T: Integer>(x: T, y: &T) -> bool {
 fn native<T: Integer + PrimInt>(x: T) -> T {
     sum(x, x)
 }
+
+fn root<T: Integer>(x: T, n: u32) -> T {
+    check(n % 2 != 0 || x >= zero(), "attempt to take an even root of a negative number");
+    x.nth_root(n)
+}

@@ -11,7 +11,7 @@ impl Ratio {
     /// assert_eq!(Ratio::new(6, -4).map(|ratio| ratio.numer()), Ok(-3));
     /// ```
     #[must_use]
-    pub fn numer(&self) -> i64 {
+    pub const fn numer(&self) -> i64 {
         self.num
     }
 
@@ -25,7 +25,7 @@ impl Ratio {
     /// assert_eq!(Ratio::new(6, -4).map(|ratio| ratio.denom()), Ok(2));
     /// ```
     #[must_use]
-    pub fn denom(&self) -> i64 {
+    pub const fn denom(&self) -> i64 {
         self.den
     }
 }
