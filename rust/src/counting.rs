@@ -3,17 +3,14 @@
 
 pub mod checked;
 
-use crate::operators::{difference, successor};
+use crate::guards::{check, product_or};
+use crate::operators::{difference, is_below, is_negative, one, successor, zero};
 use crate::Integer;
 
 /// Returns the factorial of `n`, the product of the numbers from 1 to `n`: in how many ways `n`
 /// things stand in a row.
 ///
-/// May be called if `n` is not negative and the factorial fits; [`checked::factorial`] has no
-/// condition.
-///
-/// [`counting::checked::factorial`](crate::counting::checked::factorial) is the same call, which
-/// returns `None` outside the domain.
+/// [`checked::factorial`] returns `None` outside the domain.
 ///
 /// # Examples
 ///
@@ -28,36 +25,18 @@ use crate::Integer;
 ///
 /// If `n` is negative, or if the factorial does not fit.
 ///
-/// <details><summary>Proved</summary>
-///
-/// Proved of the source in Rattle: if each `requires` holds, the call returns, and then each
-/// `ensures` holds.
-///
-/// ```text
-/// requires from_zero { pos 0 ≤ℤ T.value n }
-/// requires factorial_fits { T.fits (factorial_of (T.value n)) }
-/// ensures factorial { T.value result ≡ factorial_of (T.value n) }
-/// ```
-///
-/// Words: [`factorial_of`](crate::definitions::applied#factorial_of),
-/// [how to read it](crate::definitions).
-///
-/// </details>
+/// [Contract](crate::definitions::contracts#countingfactorial)
 #[track_caller]
 #[must_use]
 pub fn factorial<T: Integer + Copy>(n: T) -> T {
-    assert!(n >= T::zero(), "`n` is negative");
-    product_above(T::zero(), n)
+    check(!is_negative(n), "`n` is negative");
+    product_above(zero(), n)
 }
 
 /// Returns the falling factorial of `n` and `k`, the product `n * (n - 1) * ..` of `k` factors: in
 /// how many ways `k` of `n` things stand in a row.
 ///
-/// May be called if neither number is negative and the product fits; [`checked::falling`] has no
-/// condition.
-///
-/// [`counting::checked::falling`](crate::counting::checked::falling) is the same call, which
-/// returns `None` outside the domain.
+/// [`checked::falling`] returns `None` outside the domain.
 ///
 /// # Examples
 ///
@@ -70,31 +49,16 @@ pub fn factorial<T: Integer + Copy>(n: T) -> T {
 ///
 /// # Panics
 ///
-/// If `n` is negative, or if `k` is negative, or if the factorial does not fit.
+/// If `n` or `k` is negative, or if the factorial does not fit.
 ///
-/// <details><summary>Proved</summary>
-///
-/// Proved of the source in Rattle: if each `requires` holds, the call returns, and then each
-/// `ensures` holds.
-///
-/// ```text
-/// requires n_from_zero { pos 0 ≤ℤ T.value n }
-/// requires k_from_zero { pos 0 ≤ℤ T.value k }
-/// requires falling_fits { T.fits (falling_of (T.value n) (T.value k)) }
-/// ensures falling { T.value result ≡ falling_of (T.value n) (T.value k) }
-/// ```
-///
-/// Words: [`falling_of`](crate::definitions::applied#falling_of),
-/// [how to read it](crate::definitions).
-///
-/// </details>
+/// [Contract](crate::definitions::contracts#countingfalling)
 #[track_caller]
 #[must_use]
 pub fn falling<T: Integer + Copy>(n: T, k: T) -> T {
-    assert!(n >= T::zero(), "`n` is negative");
-    assert!(k >= T::zero(), "`k` is negative");
-    if n < k {
-        T::zero()
+    check(!is_negative(n), "`n` is negative");
+    check(!is_negative(k), "`k` is negative");
+    if is_below(n, k) {
+        zero()
     } else {
         product_above(difference(n, k), n)
     }
@@ -103,11 +67,11 @@ pub fn falling<T: Integer + Copy>(n: T, k: T) -> T {
 /// Returns the product of the numbers above `low` up to `high`.
 #[track_caller]
 fn product_above<T: Integer + Copy>(low: T, high: T) -> T {
-    let mut ways = T::one();
+    let mut ways = one();
     let mut factor = low;
-    while factor < high {
+    while is_below(factor, high) {
         factor = successor(factor);
-        ways = ways.exact_product(factor, crate::guards::Reason("the factorial does not fit"));
+        ways = product_or(ways, factor, "the factorial does not fit");
     }
     ways
 }

@@ -2,7 +2,7 @@
 //! Tests whether a call may be made with its arguments.
 
 use crate::bounded_coefficients::{coefficient_within, RunningMultinomial};
-use crate::integer_core::operators::{difference, is_minus_one};
+use crate::integer_core::operators::{difference, is_minus_one, is_negative, is_zero};
 use crate::integer_core::Magnitudes;
 use crate::integer_core::{Integer, NativeInteger};
 use crate::sign_magnitude::{product_is_within, sum_is_within};
@@ -28,18 +28,7 @@ pub trait Fits: Integer + Copy {
     /// assert_eq!((-5).parts(), (true, 5));
     /// ```
     ///
-    /// <details><summary>Proved</summary>
-    ///
-    /// Proved of the source in Rattle: each call returns, and then each `ensures` holds.
-    ///
-    /// ```text
-    /// ensures negative { IsTrue result.0 ↔ (Self.value self.now <ℤ pos 0) }
-    /// ensures magnitude { result.1 ≡ unsigned_abs (Self.value self.now) }
-    /// ```
-    ///
-    /// Words: [how to read it](crate::definitions).
-    ///
-    /// </details>
+    /// [Contract](crate::definitions::contracts#fitsparts)
     #[must_use]
     fn parts(&self) -> (bool, u128);
 
@@ -53,18 +42,7 @@ pub trait Fits: Integer + Copy {
     /// assert_eq!(i8::ends(), (128, 127));
     /// ```
     ///
-    /// <details><summary>Proved</summary>
-    ///
-    /// Proved of the source in Rattle: each call returns, and then each `ensures` holds.
-    ///
-    /// ```text
-    /// ensures low { result.0 ≡ unsigned_abs Self.low }
-    /// ensures high { pos result.1 ≡ Self.high }
-    /// ```
-    ///
-    /// Words: [how to read it](crate::definitions).
-    ///
-    /// </details>
+    /// [Contract](crate::definitions::contracts#fitsends)
     #[must_use]
     fn ends() -> (u128, u128);
 
@@ -79,17 +57,7 @@ pub trait Fits: Integer + Copy {
     /// assert!(!200u8.sum_fits(&56));
     /// ```
     ///
-    /// <details><summary>Proved</summary>
-    ///
-    /// Proved of the source in Rattle: each call returns, and then each `ensures` holds.
-    ///
-    /// ```text
-    /// ensures { IsTrue result ↔ Self.fits (Self.value self.now +ℤ Self.value other.now) }
-    /// ```
-    ///
-    /// Words: [how to read it](crate::definitions).
-    ///
-    /// </details>
+    /// [Contract](crate::definitions::contracts#fitssum_fits)
     #[must_use]
     fn sum_fits(&self, other: &Self) -> bool {
         sum_is_within(self.parts(), other.parts(), Self::ends())
@@ -107,17 +75,7 @@ pub trait Fits: Integer + Copy {
     /// assert!(!2u8.difference_fits(&3));
     /// ```
     ///
-    /// <details><summary>Proved</summary>
-    ///
-    /// Proved of the source in Rattle: each call returns, and then each `ensures` holds.
-    ///
-    /// ```text
-    /// ensures { IsTrue result ↔ Self.fits (Self.value self.now -ℤ Self.value other.now) }
-    /// ```
-    ///
-    /// Words: [how to read it](crate::definitions).
-    ///
-    /// </details>
+    /// [Contract](crate::definitions::contracts#fitsdifference_fits)
     #[must_use]
     fn difference_fits(&self, other: &Self) -> bool {
         let (negative, magnitude) = other.parts();
@@ -136,17 +94,7 @@ pub trait Fits: Integer + Copy {
     /// assert!(!16u8.product_fits(&16));
     /// ```
     ///
-    /// <details><summary>Proved</summary>
-    ///
-    /// Proved of the source in Rattle: each call returns, and then each `ensures` holds.
-    ///
-    /// ```text
-    /// ensures { IsTrue result ↔ Self.fits (Self.value self.now *ℤ Self.value other.now) }
-    /// ```
-    ///
-    /// Words: [how to read it](crate::definitions).
-    ///
-    /// </details>
+    /// [Contract](crate::definitions::contracts#fitsproduct_fits)
     #[must_use]
     fn product_fits(&self, other: &Self) -> bool {
         product_is_within(self.parts(), other.parts(), Self::ends())
@@ -167,26 +115,10 @@ pub trait Fits: Integer + Copy {
     /// assert!(!i8::MIN.quotient_fits(&-1));
     /// ```
     ///
-    /// <details><summary>Proved</summary>
-    ///
-    /// Proved of the source in Rattle: each call returns, and then each `ensures` holds.
-    ///
-    /// ```text
-    /// ensures domain { EachKind (λ Kind. IsTrue result ↔ ((Self.value other.now ≢ pos 0)
-    ///     × EachFits Self.fits
-    ///     (IsQuotient Kind (Self.value self.now) (Self.value other.now)))) }
-    /// ensures positive { pos 0 <ℤ Self.value other.now → IsTrue result }
-    /// ```
-    ///
-    /// Words: [`EachKind`](crate::definitions::integer_core#eachkind),
-    /// [`EachFits`](crate::definitions::integer_core#eachfits),
-    /// [`IsQuotient`](crate::definitions::integer_core#isquotient),
-    /// [how to read it](crate::definitions).
-    ///
-    /// </details>
+    /// [Contract](crate::definitions::contracts#fitsquotient_fits)
     #[must_use]
     fn quotient_fits(&self, other: &Self) -> bool {
-        if other.is_zero() {
+        if is_zero(*other) {
             false
         } else if is_minus_one(*other) {
             self.parts().1 <= Self::ends().1
@@ -208,29 +140,14 @@ pub trait Fits: Integer + Copy {
     /// assert!(!251u8.next_multiple_fits(&8));
     /// ```
     ///
-    /// <details><summary>Proved</summary>
-    ///
-    /// Proved of the source in Rattle: each call returns, and then each `ensures` holds.
-    ///
-    /// ```text
-    /// ensures { IsTrue result ↔ ((Self.value other.now ≢ pos 0)
-    ///         × EachFits Self.fits (IsMultiple IsCeiled (Self.value self.now) (Self.value
-    ///         other.now))) }
-    /// ```
-    ///
-    /// Words: [`EachFits`](crate::definitions::integer_core#eachfits),
-    /// [`IsMultiple`](crate::definitions::integer_core#ismultiple),
-    /// [`IsCeiled`](crate::definitions::integer_core#isceiled),
-    /// [how to read it](crate::definitions).
-    ///
-    /// </details>
+    /// [Contract](crate::definitions::contracts#fitsnext_multiple_fits)
     #[must_use]
     fn next_multiple_fits(&self, other: &Self) -> bool {
-        if other.is_zero() {
+        if is_zero(*other) {
             return false;
         }
         let remainder = self.mod_floor(other);
-        remainder.is_zero() || self.sum_fits(&difference(*other, remainder))
+        is_zero(remainder) || self.sum_fits(&difference(*other, remainder))
     }
 
     /// Returns `true` if `prev_multiple_of` may be called: `other` is not 0, and the multiple fits.
@@ -246,25 +163,10 @@ pub trait Fits: Integer + Copy {
     /// assert!(!(-125i8).prev_multiple_fits(&10));
     /// ```
     ///
-    /// <details><summary>Proved</summary>
-    ///
-    /// Proved of the source in Rattle: each call returns, and then each `ensures` holds.
-    ///
-    /// ```text
-    /// ensures { IsTrue result ↔ ((Self.value other.now ≢ pos 0)
-    ///         × EachFits Self.fits (IsMultiple IsFloored (Self.value self.now) (Self.value
-    ///         other.now))) }
-    /// ```
-    ///
-    /// Words: [`EachFits`](crate::definitions::integer_core#eachfits),
-    /// [`IsMultiple`](crate::definitions::integer_core#ismultiple),
-    /// [`IsFloored`](crate::definitions::integer_core#isfloored),
-    /// [how to read it](crate::definitions).
-    ///
-    /// </details>
+    /// [Contract](crate::definitions::contracts#fitsprev_multiple_fits)
     #[must_use]
     fn prev_multiple_fits(&self, other: &Self) -> bool {
-        !other.is_zero() && self.difference_fits(&self.mod_floor(other))
+        !is_zero(*other) && self.difference_fits(&self.mod_floor(other))
     }
 
     /// Returns `true` if `gcd` may be called: the result fits. The only gcd that may not fit is
@@ -281,21 +183,7 @@ pub trait Fits: Integer + Copy {
     /// assert!(!i8::MIN.gcd_fits(&0));
     /// ```
     ///
-    /// <details><summary>Proved</summary>
-    ///
-    /// Proved of the source in Rattle: each call returns, and then each `ensures` holds.
-    ///
-    /// ```text
-    /// ensures domain { IsTrue result ↔ EachFits Self.fits
-    ///     (IsGreatestCommonDivisor (Self.value self.now) (Self.value other.now)) }
-    /// ensures positive { pos 0 <ℤ Self.value other.now → IsTrue result }
-    /// ```
-    ///
-    /// Words: [`EachFits`](crate::definitions::integer_core#eachfits),
-    /// [`IsGreatestCommonDivisor`](crate::definitions::integer_core#isgreatestcommondivisor),
-    /// [how to read it](crate::definitions).
-    ///
-    /// </details>
+    /// [Contract](crate::definitions::contracts#fitsgcd_fits)
     #[must_use]
     fn gcd_fits(&self, other: &Self) -> bool {
         let (_, high) = Self::ends();
@@ -320,20 +208,7 @@ pub trait Fits: Integer + Copy {
     /// assert!(!16u8.lcm_fits(&17));
     /// ```
     ///
-    /// <details><summary>Proved</summary>
-    ///
-    /// Proved of the source in Rattle: each call returns, and then each `ensures` holds.
-    ///
-    /// ```text
-    /// ensures { IsTrue result ↔ EachFits Self.fits
-    ///     (IsLeastCommonMultiple (Self.value self.now) (Self.value other.now)) }
-    /// ```
-    ///
-    /// Words: [`EachFits`](crate::definitions::integer_core#eachfits),
-    /// [`IsLeastCommonMultiple`](crate::definitions::integer_core#isleastcommonmultiple),
-    /// [how to read it](crate::definitions).
-    ///
-    /// </details>
+    /// [Contract](crate::definitions::contracts#fitslcm_fits)
     #[must_use]
     fn lcm_fits(&self, other: &Self) -> bool {
         let (_, high) = Self::ends();
@@ -363,18 +238,7 @@ pub trait Fits: Integer + Copy {
     /// assert!(!10u8.pair_fits(&4));
     /// ```
     ///
-    /// <details><summary>Proved</summary>
-    ///
-    /// Proved of the source in Rattle: each call returns, and then each `ensures` holds.
-    ///
-    /// ```text
-    /// ensures { IsTrue result ↔ HasPair Self.fits (Self.value self.now) (Self.value other.now) }
-    /// ```
-    ///
-    /// Words: [`HasPair`](crate::definitions::integer_core#haspair),
-    /// [how to read it](crate::definitions).
-    ///
-    /// </details>
+    /// [Contract](crate::definitions::contracts#fitspair_fits)
     #[must_use]
     fn pair_fits(&self, other: &Self) -> bool {
         Self::ends().0 != 0 || self.is_multiple_of(other) || other.is_multiple_of(self)
@@ -393,19 +257,7 @@ pub trait Fits: Integer + Copy {
     /// assert!(!11u8.binomial_fits(&4));
     /// ```
     ///
-    /// <details><summary>Proved</summary>
-    ///
-    /// Proved of the source in Rattle: each call returns, and then each `ensures` holds.
-    ///
-    /// ```text
-    /// ensures { IsTrue result ↔ ((pos 0 ≤ℤ Self.value self.now) × (pos 0 ≤ℤ Self.value k.now)
-    ///     × Self.fits (coefficient_of (Self.value self.now) (Self.value k.now))) }
-    /// ```
-    ///
-    /// Words: [`coefficient_of`](crate::definitions::num_integer#coefficient_of),
-    /// [how to read it](crate::definitions).
-    ///
-    /// </details>
+    /// [Contract](crate::definitions::contracts#fitsbinomial_fits)
     #[must_use]
     fn binomial_fits(&self, k: &Self) -> bool {
         let (n_negative, n) = self.parts();
@@ -429,20 +281,7 @@ pub trait Fits: Integer + Copy {
     /// assert!(!u8::multinomial_fits(&[255, 1]));
     /// ```
     ///
-    /// <details><summary>Proved</summary>
-    ///
-    /// Proved of the source in Rattle: each call returns, and then each `ensures` holds.
-    ///
-    /// ```text
-    /// ensures { IsTrue result ↔ (All (λ x. pos 0 ≤ℤ Self.value x) counts.now
-    ///     × EachFits Self.fits (IsMultinomial (map Self.value counts.now))) }
-    /// ```
-    ///
-    /// Words: [`EachFits`](crate::definitions::integer_core#eachfits),
-    /// [`IsMultinomial`](crate::definitions::num_integer#ismultinomial),
-    /// [how to read it](crate::definitions).
-    ///
-    /// </details>
+    /// [Contract](crate::definitions::contracts#fitsmultinomial_fits)
     #[must_use]
     fn multinomial_fits(counts: &[Self]) -> bool {
         let most = Self::ends().1;
@@ -466,7 +305,7 @@ pub trait Fits: Integer + Copy {
 
 impl<T: NativeInteger> Fits for T {
     fn parts(&self) -> (bool, u128) {
-        (*self < T::zero(), self.wide_magnitude())
+        (is_negative(*self), self.wide_magnitude())
     }
 
     fn ends() -> (u128, u128) {

@@ -6,19 +6,22 @@ mod bezout;
 pub(crate) mod counted;
 mod division;
 mod divisors;
+pub(crate) mod guards;
 mod native;
 mod native_integer;
 #[doc(hidden)]
 pub mod operators;
+pub(crate) mod padded;
+pub(crate) mod plain;
 mod stein;
 
-use crate::guards::Reason;
 use bezout::extended_gcd_counted;
 pub use bezout::ExtendedGcd;
+use guards::Reason;
 pub(crate) use native::Magnitudes;
 pub use native_integer::NativeInteger;
 use num_traits::{Num, Signed};
-use operators::{difference, predecessor, successor, sum};
+use operators::{difference, is_zero, predecessor, successor, sum};
 
 /// A type of integers, with division, divisors and multiples specified on the integers that its
 /// values mean.
@@ -31,19 +34,7 @@ use operators::{difference, predecessor, successor, sum};
 /// assert_eq!(12.gcd(&18), 6);
 /// ```
 ///
-/// <details><summary>Laws</summary>
-///
-/// What the proofs use of an implementation. Of those in this crate it is proved, in Rattle.
-///
-/// ```text
-/// ghost exact_law: { Self.exact }
-/// ghost range_law: { IsRange Self.fits low high }
-/// ```
-///
-/// Words: [`IsRange`](crate::definitions::integer_core#isrange),
-/// [how to read it](crate::definitions).
-///
-/// </details>
+/// [Laws](crate::definitions::contracts#integer)
 #[cfg_attr(
     has_diagnostic,
     diagnostic::on_unimplemented(
@@ -55,8 +46,8 @@ use operators::{difference, predecessor, successor, sum};
 pub trait Integer: Sized + Num + PartialOrd + Ord + Eq {
     /// Returns the quotient rounded toward zero, and its remainder.
     ///
-    /// May be called if [`Fits::quotient_fits`](crate::Fits::quotient_fits) is true;
-    /// [`checked::div_rem`](crate::checked::div_rem) has no condition.
+    /// [`Fits::quotient_fits`](crate::Fits::quotient_fits) tests the domain, and
+    /// [`checked::div_rem`](crate::checked::div_rem) returns `None` outside it.
     ///
     /// # Examples
     ///
@@ -70,33 +61,15 @@ pub trait Integer: Sized + Num + PartialOrd + Ord + Eq {
     ///
     /// If `other` is 0, or if the quotient does not fit.
     ///
-    /// <details><summary>Proved</summary>
-    ///
-    /// Proved of the source in Rattle: if each `requires` holds, the call returns, and then each
-    /// `ensures` holds.
-    ///
-    /// ```text
-    /// requires nonzero { Self.value other.now ≢ pos 0 }
-    /// requires quotient_fits { EachFits Self.fits
-    ///     (IsQuotient IsTruncated (Self.value self.now) (Self.value other.now)) }
-    /// ensures truncated { IsTruncated (Self.value self.now) (Self.value other.now)
-    ///     (Self.value result.0) (Self.value result.1) }
-    /// ```
-    ///
-    /// Words: [`EachFits`](crate::definitions::integer_core#eachfits),
-    /// [`IsQuotient`](crate::definitions::integer_core#isquotient),
-    /// [`IsTruncated`](crate::definitions::integer_core#istruncated),
-    /// [how to read it](crate::definitions).
-    ///
-    /// </details>
+    /// [Contract](crate::definitions::contracts#integerdiv_rem)
     #[track_caller]
     #[must_use]
     fn div_rem(&self, other: &Self) -> (Self, Self);
 
     /// Returns the quotient rounded down.
     ///
-    /// May be called if [`Fits::quotient_fits`](crate::Fits::quotient_fits) is true;
-    /// [`checked::div_floor`](crate::checked::div_floor) has no condition.
+    /// [`Fits::quotient_fits`](crate::Fits::quotient_fits) tests the domain, and
+    /// [`checked::div_floor`](crate::checked::div_floor) returns `None` outside it.
     ///
     /// # Examples
     ///
@@ -110,33 +83,14 @@ pub trait Integer: Sized + Num + PartialOrd + Ord + Eq {
     ///
     /// If `other` is 0, or if the quotient does not fit.
     ///
-    /// <details><summary>Proved</summary>
-    ///
-    /// Proved of the source in Rattle: if each `requires` holds, the call returns, and then each
-    /// `ensures` holds.
-    ///
-    /// ```text
-    /// requires nonzero { Self.value other.now ≢ pos 0 }
-    /// requires quotient_fits { EachFits Self.fits
-    ///     (IsQuotient IsFloored (Self.value self.now) (Self.value other.now)) }
-    /// ensures floored { IsQuotient IsFloored (Self.value self.now) (Self.value other.now)
-    ///     (Self.value result) }
-    /// ```
-    ///
-    /// Words: [`EachFits`](crate::definitions::integer_core#eachfits),
-    /// [`IsQuotient`](crate::definitions::integer_core#isquotient),
-    /// [`IsFloored`](crate::definitions::integer_core#isfloored),
-    /// [how to read it](crate::definitions).
-    ///
-    /// </details>
+    /// [Contract](crate::definitions::contracts#integerdiv_floor)
     #[track_caller]
     #[must_use]
     fn div_floor(&self, other: &Self) -> Self;
 
     /// Returns the remainder of the quotient rounded down, which is 0 or has the sign of `other`.
     ///
-    /// May be called if `other` is not 0; [`checked::mod_floor`](crate::checked::mod_floor) has no
-    /// condition.
+    /// [`checked::mod_floor`](crate::checked::mod_floor) returns `None` outside the domain.
     ///
     /// # Examples
     ///
@@ -150,30 +104,15 @@ pub trait Integer: Sized + Num + PartialOrd + Ord + Eq {
     ///
     /// If `other` is 0.
     ///
-    /// <details><summary>Proved</summary>
-    ///
-    /// Proved of the source in Rattle: if each `requires` holds, the call returns, and then each
-    /// `ensures` holds.
-    ///
-    /// ```text
-    /// requires nonzero { Self.value other.now ≢ pos 0 }
-    /// ensures floored { IsRemainder IsFloored (Self.value self.now) (Self.value other.now)
-    ///     (Self.value result) }
-    /// ```
-    ///
-    /// Words: [`IsRemainder`](crate::definitions::integer_core#isremainder),
-    /// [`IsFloored`](crate::definitions::integer_core#isfloored),
-    /// [how to read it](crate::definitions).
-    ///
-    /// </details>
+    /// [Contract](crate::definitions::contracts#integermod_floor)
     #[track_caller]
     #[must_use]
     fn mod_floor(&self, other: &Self) -> Self;
 
     /// Returns the quotient rounded down, and its remainder.
     ///
-    /// May be called if [`Fits::quotient_fits`](crate::Fits::quotient_fits) is true;
-    /// [`checked::div_mod_floor`](crate::checked::div_mod_floor) has no condition.
+    /// [`Fits::quotient_fits`](crate::Fits::quotient_fits) tests the domain, and
+    /// [`checked::div_mod_floor`](crate::checked::div_mod_floor) returns `None` outside it.
     ///
     /// # Examples
     ///
@@ -187,25 +126,7 @@ pub trait Integer: Sized + Num + PartialOrd + Ord + Eq {
     ///
     /// If `other` is 0, or if the quotient does not fit.
     ///
-    /// <details><summary>Proved</summary>
-    ///
-    /// Proved of the source in Rattle: if each `requires` holds, the call returns, and then each
-    /// `ensures` holds.
-    ///
-    /// ```text
-    /// requires nonzero { Self.value other.now ≢ pos 0 }
-    /// requires quotient_fits { EachFits Self.fits
-    ///     (IsQuotient IsFloored (Self.value self.now) (Self.value other.now)) }
-    /// ensures floored { IsFloored (Self.value self.now) (Self.value other.now)
-    ///     (Self.value result.0) (Self.value result.1) }
-    /// ```
-    ///
-    /// Words: [`EachFits`](crate::definitions::integer_core#eachfits),
-    /// [`IsQuotient`](crate::definitions::integer_core#isquotient),
-    /// [`IsFloored`](crate::definitions::integer_core#isfloored),
-    /// [how to read it](crate::definitions).
-    ///
-    /// </details>
+    /// [Contract](crate::definitions::contracts#integerdiv_mod_floor)
     #[track_caller]
     #[must_use]
     fn div_mod_floor(&self, other: &Self) -> (Self, Self) {
@@ -214,8 +135,8 @@ pub trait Integer: Sized + Num + PartialOrd + Ord + Eq {
 
     /// Returns the quotient rounded up.
     ///
-    /// May be called if [`Fits::quotient_fits`](crate::Fits::quotient_fits) is true;
-    /// [`checked::div_ceil`](crate::checked::div_ceil) has no condition.
+    /// [`Fits::quotient_fits`](crate::Fits::quotient_fits) tests the domain, and
+    /// [`checked::div_ceil`](crate::checked::div_ceil) returns `None` outside it.
     ///
     /// # Examples
     ///
@@ -229,30 +150,12 @@ pub trait Integer: Sized + Num + PartialOrd + Ord + Eq {
     ///
     /// If `other` is 0, or if the quotient does not fit.
     ///
-    /// <details><summary>Proved</summary>
-    ///
-    /// Proved of the source in Rattle: if each `requires` holds, the call returns, and then each
-    /// `ensures` holds.
-    ///
-    /// ```text
-    /// requires nonzero { Self.value other.now ≢ pos 0 }
-    /// requires quotient_fits { EachFits Self.fits
-    ///     (IsQuotient IsCeiled (Self.value self.now) (Self.value other.now)) }
-    /// ensures ceiled { IsQuotient IsCeiled (Self.value self.now) (Self.value other.now)
-    ///     (Self.value result) }
-    /// ```
-    ///
-    /// Words: [`EachFits`](crate::definitions::integer_core#eachfits),
-    /// [`IsQuotient`](crate::definitions::integer_core#isquotient),
-    /// [`IsCeiled`](crate::definitions::integer_core#isceiled),
-    /// [how to read it](crate::definitions).
-    ///
-    /// </details>
+    /// [Contract](crate::definitions::contracts#integerdiv_ceil)
     #[track_caller]
     #[must_use]
     fn div_ceil(&self, other: &Self) -> Self {
         let (q, r) = self.div_mod_floor(other);
-        if r.is_zero() {
+        if is_zero(r) {
             q
         } else {
             successor(q)
@@ -261,8 +164,8 @@ pub trait Integer: Sized + Num + PartialOrd + Ord + Eq {
 
     /// Returns the quotient rounded up, times `other`.
     ///
-    /// May be called if [`Fits::next_multiple_fits`](crate::Fits::next_multiple_fits) is true;
-    /// [`checked::next_multiple_of`](crate::checked::next_multiple_of) has no condition.
+    /// [`Fits::next_multiple_fits`](crate::Fits::next_multiple_fits) tests the domain, and
+    /// [`checked::next_multiple_of`](crate::checked::next_multiple_of) returns `None` outside it.
     ///
     /// # Examples
     ///
@@ -277,25 +180,7 @@ pub trait Integer: Sized + Num + PartialOrd + Ord + Eq {
     ///
     /// If `other` is 0, or if the multiple does not fit.
     ///
-    /// <details><summary>Proved</summary>
-    ///
-    /// Proved of the source in Rattle: if each `requires` holds, the call returns, and then each
-    /// `ensures` holds.
-    ///
-    /// ```text
-    /// requires nonzero { Self.value other.now ≢ pos 0 }
-    /// requires multiple_fits { EachFits Self.fits
-    ///     (IsMultiple IsCeiled (Self.value self.now) (Self.value other.now)) }
-    /// ensures multiple { IsMultiple IsCeiled (Self.value self.now) (Self.value other.now)
-    ///     (Self.value result) }
-    /// ```
-    ///
-    /// Words: [`EachFits`](crate::definitions::integer_core#eachfits),
-    /// [`IsMultiple`](crate::definitions::integer_core#ismultiple),
-    /// [`IsCeiled`](crate::definitions::integer_core#isceiled),
-    /// [how to read it](crate::definitions).
-    ///
-    /// </details>
+    /// [Contract](crate::definitions::contracts#integernext_multiple_of)
     #[track_caller]
     #[must_use]
     fn next_multiple_of(&self, other: &Self) -> Self
@@ -303,7 +188,7 @@ pub trait Integer: Sized + Num + PartialOrd + Ord + Eq {
         Self: Clone,
     {
         let m = self.mod_floor(other);
-        if m.is_zero() {
+        if is_zero(m.clone()) {
             self.clone()
         } else {
             sum(self.clone(), difference(other.clone(), m))
@@ -312,8 +197,8 @@ pub trait Integer: Sized + Num + PartialOrd + Ord + Eq {
 
     /// Returns the quotient rounded down, times `other`.
     ///
-    /// May be called if [`Fits::prev_multiple_fits`](crate::Fits::prev_multiple_fits) is true;
-    /// [`checked::prev_multiple_of`](crate::checked::prev_multiple_of) has no condition.
+    /// [`Fits::prev_multiple_fits`](crate::Fits::prev_multiple_fits) tests the domain, and
+    /// [`checked::prev_multiple_of`](crate::checked::prev_multiple_of) returns `None` outside it.
     ///
     /// # Examples
     ///
@@ -328,25 +213,7 @@ pub trait Integer: Sized + Num + PartialOrd + Ord + Eq {
     ///
     /// If `other` is 0, or if the multiple does not fit.
     ///
-    /// <details><summary>Proved</summary>
-    ///
-    /// Proved of the source in Rattle: if each `requires` holds, the call returns, and then each
-    /// `ensures` holds.
-    ///
-    /// ```text
-    /// requires nonzero { Self.value other.now ≢ pos 0 }
-    /// requires multiple_fits { EachFits Self.fits
-    ///     (IsMultiple IsFloored (Self.value self.now) (Self.value other.now)) }
-    /// ensures multiple { IsMultiple IsFloored (Self.value self.now) (Self.value other.now)
-    ///     (Self.value result) }
-    /// ```
-    ///
-    /// Words: [`EachFits`](crate::definitions::integer_core#eachfits),
-    /// [`IsMultiple`](crate::definitions::integer_core#ismultiple),
-    /// [`IsFloored`](crate::definitions::integer_core#isfloored),
-    /// [how to read it](crate::definitions).
-    ///
-    /// </details>
+    /// [Contract](crate::definitions::contracts#integerprev_multiple_of)
     #[track_caller]
     #[must_use]
     fn prev_multiple_of(&self, other: &Self) -> Self
@@ -366,18 +233,7 @@ pub trait Integer: Sized + Num + PartialOrd + Ord + Eq {
     /// assert!(9.is_multiple_of(&3));
     /// ```
     ///
-    /// <details><summary>Proved</summary>
-    ///
-    /// Proved of the source in Rattle: each call returns, and then each `ensures` holds.
-    ///
-    /// ```text
-    /// ensures { IsTrue result ↔ Divides (Self.value other.now) (Self.value self.now) }
-    /// ```
-    ///
-    /// Words: [`Divides`](crate::definitions::integer_core#divides),
-    /// [how to read it](crate::definitions).
-    ///
-    /// </details>
+    /// [Contract](crate::definitions::contracts#integeris_multiple_of)
     #[must_use]
     fn is_multiple_of(&self, other: &Self) -> bool;
 
@@ -391,18 +247,7 @@ pub trait Integer: Sized + Num + PartialOrd + Ord + Eq {
     /// assert!(9.divides(&3));
     /// ```
     ///
-    /// <details><summary>Proved</summary>
-    ///
-    /// Proved of the source in Rattle: each call returns, and then each `ensures` holds.
-    ///
-    /// ```text
-    /// ensures { IsTrue result ↔ Divides (Self.value other.now) (Self.value self.now) }
-    /// ```
-    ///
-    /// Words: [`Divides`](crate::definitions::integer_core#divides),
-    /// [how to read it](crate::definitions).
-    ///
-    /// </details>
+    /// [Contract](crate::definitions::contracts#integerdivides)
     #[must_use]
     fn divides(&self, other: &Self) -> bool {
         self.is_multiple_of(other)
@@ -418,18 +263,7 @@ pub trait Integer: Sized + Num + PartialOrd + Ord + Eq {
     /// assert!(4.is_even());
     /// ```
     ///
-    /// <details><summary>Proved</summary>
-    ///
-    /// Proved of the source in Rattle: each call returns, and then each `ensures` holds.
-    ///
-    /// ```text
-    /// ensures { IsTrue result ↔ IsEven (Self.value self.now) }
-    /// ```
-    ///
-    /// Words: [`IsEven`](crate::definitions::integer_core#iseven),
-    /// [how to read it](crate::definitions).
-    ///
-    /// </details>
+    /// [Contract](crate::definitions::contracts#integeris_even)
     #[must_use]
     fn is_even(&self) -> bool;
 
@@ -443,53 +277,29 @@ pub trait Integer: Sized + Num + PartialOrd + Ord + Eq {
     /// assert!(3.is_odd());
     /// ```
     ///
-    /// <details><summary>Proved</summary>
-    ///
-    /// Proved of the source in Rattle: each call returns, and then each `ensures` holds.
-    ///
-    /// ```text
-    /// ensures { IsTrue result ↔ ¬ (IsEven (Self.value self.now)) }
-    /// ```
-    ///
-    /// Words: [`IsEven`](crate::definitions::integer_core#iseven),
-    /// [how to read it](crate::definitions).
-    ///
-    /// </details>
+    /// [Contract](crate::definitions::contracts#integeris_odd)
     #[must_use]
     fn is_odd(&self) -> bool;
 
-    /// Adds one. `x.inc()` turns an `x` of `41` into `42`.
+    /// Adds one.
     ///
-    /// May be called if `self` is below the largest number of the type;
-    /// [`checked::inc`](crate::checked::inc) has no condition.
+    /// [`checked::inc`](crate::checked::inc) returns `None` outside the domain.
     ///
     /// # Examples
     ///
     /// ```
     /// use cellarcove::Integer;
     ///
-    /// let mut x = 5;
+    /// let mut x = 41;
     /// x.inc();
-    /// assert_eq!(x, 6);
+    /// assert_eq!(x, 42);
     /// ```
     ///
     /// # Panics
     ///
     /// If the result does not fit.
     ///
-    /// <details><summary>Proved</summary>
-    ///
-    /// Proved of the source in Rattle: if each `requires` holds, the call returns, and then each
-    /// `ensures` holds.
-    ///
-    /// ```text
-    /// requires sum_fits { Self.fits (Self.value self.old +ℤ pos 1) }
-    /// ensures one_more { Self.value self.new ≡ Self.value self.old +ℤ pos 1 }
-    /// ```
-    ///
-    /// Words: [how to read it](crate::definitions).
-    ///
-    /// </details>
+    /// [Contract](crate::definitions::contracts#integerinc)
     #[track_caller]
     fn inc(&mut self)
     where
@@ -498,38 +308,25 @@ pub trait Integer: Sized + Num + PartialOrd + Ord + Eq {
         *self = successor(self.clone());
     }
 
-    /// Subtracts one. `x.dec()` turns an `x` of `43` into `42`.
+    /// Subtracts one.
     ///
-    /// May be called if `self` is above the smallest number of the type;
-    /// [`checked::dec`](crate::checked::dec) has no condition.
+    /// [`checked::dec`](crate::checked::dec) returns `None` outside the domain.
     ///
     /// # Examples
     ///
     /// ```
     /// use cellarcove::Integer;
     ///
-    /// let mut x = 5;
+    /// let mut x = 43;
     /// x.dec();
-    /// assert_eq!(x, 4);
+    /// assert_eq!(x, 42);
     /// ```
     ///
     /// # Panics
     ///
     /// If the result does not fit.
     ///
-    /// <details><summary>Proved</summary>
-    ///
-    /// Proved of the source in Rattle: if each `requires` holds, the call returns, and then each
-    /// `ensures` holds.
-    ///
-    /// ```text
-    /// requires difference_fits { Self.fits (Self.value self.old -ℤ pos 1) }
-    /// ensures one_less { Self.value self.new ≡ Self.value self.old -ℤ pos 1 }
-    /// ```
-    ///
-    /// Words: [how to read it](crate::definitions).
-    ///
-    /// </details>
+    /// [Contract](crate::definitions::contracts#integerdec)
     #[track_caller]
     fn dec(&mut self)
     where
@@ -540,8 +337,8 @@ pub trait Integer: Sized + Num + PartialOrd + Ord + Eq {
 
     /// Returns the greatest common divisor, which is never negative.
     ///
-    /// May be called if [`Fits::gcd_fits`](crate::Fits::gcd_fits) is true;
-    /// [`checked::gcd`](crate::checked::gcd) has no condition.
+    /// [`Fits::gcd_fits`](crate::Fits::gcd_fits) tests the domain, and
+    /// [`checked::gcd`](crate::checked::gcd) returns `None` outside it.
     ///
     /// # Examples
     ///
@@ -556,30 +353,15 @@ pub trait Integer: Sized + Num + PartialOrd + Ord + Eq {
     ///
     /// If the greatest common divisor does not fit.
     ///
-    /// <details><summary>Proved</summary>
-    ///
-    /// Proved of the source in Rattle: if each `requires` holds, the call returns, and then each
-    /// `ensures` holds.
-    ///
-    /// ```text
-    /// requires gcd_fits { GcdFits Self.fits (Self.value self.now) (Self.value other.now) }
-    /// ensures greatest { IsGreatestCommonDivisor (Self.value self.now) (Self.value other.now)
-    ///     (Self.value result) }
-    /// ```
-    ///
-    /// Words: [`GcdFits`](crate::definitions::integer_core#gcdfits),
-    /// [`IsGreatestCommonDivisor`](crate::definitions::integer_core#isgreatestcommondivisor),
-    /// [how to read it](crate::definitions).
-    ///
-    /// </details>
+    /// [Contract](crate::definitions::contracts#integergcd)
     #[track_caller]
     #[must_use]
     fn gcd(&self, other: &Self) -> Self;
 
     /// Returns the least common multiple, which is never negative.
     ///
-    /// May be called if [`Fits::lcm_fits`](crate::Fits::lcm_fits) is true;
-    /// [`checked::lcm`](crate::checked::lcm) has no condition.
+    /// [`Fits::lcm_fits`](crate::Fits::lcm_fits) tests the domain, and
+    /// [`checked::lcm`](crate::checked::lcm) returns `None` outside it.
     ///
     /// # Examples
     ///
@@ -594,32 +376,15 @@ pub trait Integer: Sized + Num + PartialOrd + Ord + Eq {
     ///
     /// If the least common multiple does not fit.
     ///
-    /// <details><summary>Proved</summary>
-    ///
-    /// Proved of the source in Rattle: if each `requires` holds, the call returns, and then each
-    /// `ensures` holds.
-    ///
-    /// ```text
-    /// requires lcm_fits { EachFits Self.fits
-    ///     (IsLeastCommonMultiple (Self.value self.now) (Self.value other.now)) }
-    /// ensures least { IsLeastCommonMultiple (Self.value self.now) (Self.value other.now)
-    ///     (Self.value result) }
-    /// ```
-    ///
-    /// Words: [`EachFits`](crate::definitions::integer_core#eachfits),
-    /// [`IsLeastCommonMultiple`](crate::definitions::integer_core#isleastcommonmultiple),
-    /// [how to read it](crate::definitions).
-    ///
-    /// </details>
+    /// [Contract](crate::definitions::contracts#integerlcm)
     #[track_caller]
     #[must_use]
     fn lcm(&self, other: &Self) -> Self;
 
     /// Returns the greatest common divisor and the least common multiple.
     ///
-    /// May be called if [`Fits::gcd_fits`](crate::Fits::gcd_fits) and
-    /// [`Fits::lcm_fits`](crate::Fits::lcm_fits) are true;
-    /// [`checked::gcd_lcm`](crate::checked::gcd_lcm) has no condition.
+    /// [`Fits::gcd_fits`](crate::Fits::gcd_fits) and [`Fits::lcm_fits`](crate::Fits::lcm_fits) test
+    /// the domain, and [`checked::gcd_lcm`](crate::checked::gcd_lcm) returns `None` outside it.
     ///
     /// # Examples
     ///
@@ -631,30 +396,9 @@ pub trait Integer: Sized + Num + PartialOrd + Ord + Eq {
     ///
     /// # Panics
     ///
-    /// If the greatest common divisor does not fit, or if the least common multiple does not fit.
+    /// If the greatest common divisor or the least common multiple does not fit.
     ///
-    /// <details><summary>Proved</summary>
-    ///
-    /// Proved of the source in Rattle: if each `requires` holds, the call returns, and then each
-    /// `ensures` holds.
-    ///
-    /// ```text
-    /// requires gcd_fits { GcdFits Self.fits (Self.value self.now) (Self.value other.now) }
-    /// requires lcm_fits { EachFits Self.fits
-    ///     (IsLeastCommonMultiple (Self.value self.now) (Self.value other.now)) }
-    /// ensures greatest { IsGreatestCommonDivisor (Self.value self.now) (Self.value other.now)
-    ///     (Self.value result.0) }
-    /// ensures least { IsLeastCommonMultiple (Self.value self.now) (Self.value other.now)
-    ///     (Self.value result.1) }
-    /// ```
-    ///
-    /// Words: [`GcdFits`](crate::definitions::integer_core#gcdfits),
-    /// [`EachFits`](crate::definitions::integer_core#eachfits),
-    /// [`IsLeastCommonMultiple`](crate::definitions::integer_core#isleastcommonmultiple),
-    /// [`IsGreatestCommonDivisor`](crate::definitions::integer_core#isgreatestcommondivisor),
-    /// [how to read it](crate::definitions).
-    ///
-    /// </details>
+    /// [Contract](crate::definitions::contracts#integergcd_lcm)
     #[track_caller]
     #[must_use]
     fn gcd_lcm(&self, other: &Self) -> (Self, Self) {
@@ -664,9 +408,8 @@ pub trait Integer: Sized + Num + PartialOrd + Ord + Eq {
     /// Returns the greatest common divisor `gcd` and Bezout's coefficients `x` and `y`: computed
     /// without overflow, `self * x + other * y` equals `gcd`.
     ///
-    /// May be called if [`Fits::gcd_fits`](crate::Fits::gcd_fits) is true; at an unsigned type one
-    /// operand must also divide the other. [`checked::extended_gcd`](crate::checked::extended_gcd)
-    /// has no condition.
+    /// At a signed type [`Fits::gcd_fits`](crate::Fits::gcd_fits) tests the domain;
+    /// [`checked::extended_gcd`](crate::checked::extended_gcd) returns `None` outside it.
     ///
     /// # Examples
     ///
@@ -682,24 +425,7 @@ pub trait Integer: Sized + Num + PartialOrd + Ord + Eq {
     /// If the greatest common divisor does not fit, or if the type is unsigned and neither number
     /// divides the other.
     ///
-    /// <details><summary>Proved</summary>
-    ///
-    /// Proved of the source in Rattle: if each `requires` holds, the call returns, and then each
-    /// `ensures` holds.
-    ///
-    /// ```text
-    /// requires gcd_fits { GcdFits Self.fits (Self.value self.now) (Self.value other.now) }
-    /// requires has_pair { HasPair Self.fits (Self.value self.now) (Self.value other.now) }
-    /// ensures answer { IsBezoutAnswer (Self.value self.now) (Self.value other.now)
-    ///     (Self.value result.gcd) (Self.value result.x) (Self.value result.y) }
-    /// ```
-    ///
-    /// Words: [`GcdFits`](crate::definitions::integer_core#gcdfits),
-    /// [`HasPair`](crate::definitions::integer_core#haspair),
-    /// [`IsBezoutAnswer`](crate::definitions::integer_core#isbezoutanswer),
-    /// [how to read it](crate::definitions).
-    ///
-    /// </details>
+    /// [Contract](crate::definitions::contracts#integerextended_gcd)
     #[track_caller]
     #[must_use]
     fn extended_gcd(&self, other: &Self) -> ExtendedGcd<Self>
@@ -711,9 +437,9 @@ pub trait Integer: Sized + Num + PartialOrd + Ord + Eq {
 
     /// Returns [`Integer::extended_gcd`] and [`Integer::lcm`].
     ///
-    /// May be called if [`Fits::gcd_fits`](crate::Fits::gcd_fits) and
-    /// [`Fits::lcm_fits`](crate::Fits::lcm_fits) are true;
-    /// [`checked::extended_gcd_lcm`](crate::checked::extended_gcd_lcm) has no condition.
+    /// [`Fits::gcd_fits`](crate::Fits::gcd_fits) and [`Fits::lcm_fits`](crate::Fits::lcm_fits) test
+    /// the domain, and [`checked::extended_gcd_lcm`](crate::checked::extended_gcd_lcm) returns
+    /// `None` outside it.
     ///
     /// # Examples
     ///
@@ -725,33 +451,9 @@ pub trait Integer: Sized + Num + PartialOrd + Ord + Eq {
     ///
     /// # Panics
     ///
-    /// If the greatest common divisor does not fit, or if the type is unsigned and neither number
-    /// divides the other, or if the least common multiple does not fit.
+    /// If the greatest common divisor or the least common multiple does not fit.
     ///
-    /// <details><summary>Proved</summary>
-    ///
-    /// Proved of the source in Rattle: if each `requires` holds, the call returns, and then each
-    /// `ensures` holds.
-    ///
-    /// ```text
-    /// requires gcd_fits { GcdFits Self.fits (Self.value self.now) (Self.value other.now) }
-    /// requires has_pair { HasPair Self.fits (Self.value self.now) (Self.value other.now) }
-    /// requires lcm_fits { EachFits Self.fits
-    ///     (IsLeastCommonMultiple (Self.value self.now) (Self.value other.now)) }
-    /// ensures answer { IsBezoutAnswer (Self.value self.now) (Self.value other.now)
-    ///     (Self.value result.0.gcd) (Self.value result.0.x) (Self.value result.0.y) }
-    /// ensures least { IsLeastCommonMultiple (Self.value self.now) (Self.value other.now)
-    ///     (Self.value result.1) }
-    /// ```
-    ///
-    /// Words: [`GcdFits`](crate::definitions::integer_core#gcdfits),
-    /// [`HasPair`](crate::definitions::integer_core#haspair),
-    /// [`EachFits`](crate::definitions::integer_core#eachfits),
-    /// [`IsLeastCommonMultiple`](crate::definitions::integer_core#isleastcommonmultiple),
-    /// [`IsBezoutAnswer`](crate::definitions::integer_core#isbezoutanswer),
-    /// [how to read it](crate::definitions).
-    ///
-    /// </details>
+    /// [Contract](crate::definitions::contracts#integerextended_gcd_lcm)
     #[track_caller]
     #[must_use]
     fn extended_gcd_lcm(&self, other: &Self) -> (ExtendedGcd<Self>, Self)
@@ -798,8 +500,7 @@ pub trait Integer: Sized + Num + PartialOrd + Ord + Eq {
 
 /// Returns the quotient rounded toward zero, and its remainder.
 ///
-/// May be called if [`Integer::div_rem`] may; [`checked::div_rem`](crate::checked::div_rem) has no
-/// condition.
+/// [`checked::div_rem`](crate::checked::div_rem) returns `None` outside the domain.
 ///
 /// # Examples
 ///
@@ -813,23 +514,7 @@ pub trait Integer: Sized + Num + PartialOrd + Ord + Eq {
 ///
 /// If `y` is 0, or if the quotient does not fit.
 ///
-/// <details><summary>Proved</summary>
-///
-/// Proved of the source in Rattle: if each `requires` holds, the call returns, and then each
-/// `ensures` holds.
-///
-/// ```text
-/// requires nonzero { T.value y ≢ pos 0 }
-/// requires quotient_fits { EachFits T.fits (IsQuotient IsTruncated (T.value x) (T.value y)) }
-/// ensures truncated { IsTruncated (T.value x) (T.value y) (T.value result.0) (T.value result.1) }
-/// ```
-///
-/// Words: [`EachFits`](crate::definitions::integer_core#eachfits),
-/// [`IsQuotient`](crate::definitions::integer_core#isquotient),
-/// [`IsTruncated`](crate::definitions::integer_core#istruncated),
-/// [how to read it](crate::definitions).
-///
-/// </details>
+/// [Contract](crate::definitions::contracts#div_rem)
 #[track_caller]
 #[must_use]
 pub fn div_rem<T: Integer>(x: T, y: T) -> (T, T) {
@@ -838,8 +523,7 @@ pub fn div_rem<T: Integer>(x: T, y: T) -> (T, T) {
 
 /// Returns the quotient rounded down.
 ///
-/// May be called if [`Integer::div_floor`] may; [`checked::div_floor`](crate::checked::div_floor)
-/// has no condition.
+/// [`checked::div_floor`](crate::checked::div_floor) returns `None` outside the domain.
 ///
 /// # Examples
 ///
@@ -853,22 +537,7 @@ pub fn div_rem<T: Integer>(x: T, y: T) -> (T, T) {
 ///
 /// If `y` is 0, or if the quotient does not fit.
 ///
-/// <details><summary>Proved</summary>
-///
-/// Proved of the source in Rattle: if each `requires` holds, the call returns, and then each
-/// `ensures` holds.
-///
-/// ```text
-/// requires nonzero { T.value y ≢ pos 0 }
-/// requires quotient_fits { EachFits T.fits (IsQuotient IsFloored (T.value x) (T.value y)) }
-/// ensures floored { IsQuotient IsFloored (T.value x) (T.value y) (T.value result) }
-/// ```
-///
-/// Words: [`EachFits`](crate::definitions::integer_core#eachfits),
-/// [`IsQuotient`](crate::definitions::integer_core#isquotient),
-/// [`IsFloored`](crate::definitions::integer_core#isfloored), [how to read it](crate::definitions).
-///
-/// </details>
+/// [Contract](crate::definitions::contracts#div_floor)
 #[track_caller]
 #[must_use]
 pub fn div_floor<T: Integer>(x: T, y: T) -> T {
@@ -877,8 +546,7 @@ pub fn div_floor<T: Integer>(x: T, y: T) -> T {
 
 /// Returns the remainder of the quotient rounded down.
 ///
-/// May be called if [`Integer::mod_floor`] may; [`checked::mod_floor`](crate::checked::mod_floor)
-/// has no condition.
+/// [`checked::mod_floor`](crate::checked::mod_floor) returns `None` outside the domain.
 ///
 /// # Examples
 ///
@@ -892,20 +560,7 @@ pub fn div_floor<T: Integer>(x: T, y: T) -> T {
 ///
 /// If `y` is 0.
 ///
-/// <details><summary>Proved</summary>
-///
-/// Proved of the source in Rattle: if each `requires` holds, the call returns, and then each
-/// `ensures` holds.
-///
-/// ```text
-/// requires nonzero { T.value y ≢ pos 0 }
-/// ensures floored { IsRemainder IsFloored (T.value x) (T.value y) (T.value result) }
-/// ```
-///
-/// Words: [`IsRemainder`](crate::definitions::integer_core#isremainder),
-/// [`IsFloored`](crate::definitions::integer_core#isfloored), [how to read it](crate::definitions).
-///
-/// </details>
+/// [Contract](crate::definitions::contracts#mod_floor)
 #[track_caller]
 #[must_use]
 pub fn mod_floor<T: Integer>(x: T, y: T) -> T {
@@ -914,8 +569,7 @@ pub fn mod_floor<T: Integer>(x: T, y: T) -> T {
 
 /// Returns the quotient rounded down, and its remainder.
 ///
-/// May be called if [`Integer::div_mod_floor`] may;
-/// [`checked::div_mod_floor`](crate::checked::div_mod_floor) has no condition.
+/// [`checked::div_mod_floor`](crate::checked::div_mod_floor) returns `None` outside the domain.
 ///
 /// # Examples
 ///
@@ -929,22 +583,7 @@ pub fn mod_floor<T: Integer>(x: T, y: T) -> T {
 ///
 /// If `y` is 0, or if the quotient does not fit.
 ///
-/// <details><summary>Proved</summary>
-///
-/// Proved of the source in Rattle: if each `requires` holds, the call returns, and then each
-/// `ensures` holds.
-///
-/// ```text
-/// requires nonzero { T.value y ≢ pos 0 }
-/// requires quotient_fits { EachFits T.fits (IsQuotient IsFloored (T.value x) (T.value y)) }
-/// ensures floored { IsFloored (T.value x) (T.value y) (T.value result.0) (T.value result.1) }
-/// ```
-///
-/// Words: [`EachFits`](crate::definitions::integer_core#eachfits),
-/// [`IsQuotient`](crate::definitions::integer_core#isquotient),
-/// [`IsFloored`](crate::definitions::integer_core#isfloored), [how to read it](crate::definitions).
-///
-/// </details>
+/// [Contract](crate::definitions::contracts#div_mod_floor)
 #[track_caller]
 #[must_use]
 pub fn div_mod_floor<T: Integer>(x: T, y: T) -> (T, T) {
@@ -953,8 +592,7 @@ pub fn div_mod_floor<T: Integer>(x: T, y: T) -> (T, T) {
 
 /// Returns the quotient rounded up.
 ///
-/// May be called if [`Integer::div_ceil`] may; [`checked::div_ceil`](crate::checked::div_ceil) has
-/// no condition.
+/// [`checked::div_ceil`](crate::checked::div_ceil) returns `None` outside the domain.
 ///
 /// # Examples
 ///
@@ -968,22 +606,7 @@ pub fn div_mod_floor<T: Integer>(x: T, y: T) -> (T, T) {
 ///
 /// If `y` is 0, or if the quotient does not fit.
 ///
-/// <details><summary>Proved</summary>
-///
-/// Proved of the source in Rattle: if each `requires` holds, the call returns, and then each
-/// `ensures` holds.
-///
-/// ```text
-/// requires nonzero { T.value y ≢ pos 0 }
-/// requires quotient_fits { EachFits T.fits (IsQuotient IsCeiled (T.value x) (T.value y)) }
-/// ensures ceiled { IsQuotient IsCeiled (T.value x) (T.value y) (T.value result) }
-/// ```
-///
-/// Words: [`EachFits`](crate::definitions::integer_core#eachfits),
-/// [`IsQuotient`](crate::definitions::integer_core#isquotient),
-/// [`IsCeiled`](crate::definitions::integer_core#isceiled), [how to read it](crate::definitions).
-///
-/// </details>
+/// [Contract](crate::definitions::contracts#div_ceil)
 #[track_caller]
 #[must_use]
 pub fn div_ceil<T: Integer>(x: T, y: T) -> T {
@@ -992,7 +615,7 @@ pub fn div_ceil<T: Integer>(x: T, y: T) -> T {
 
 /// Returns the greatest common divisor.
 ///
-/// May be called if [`Integer::gcd`] may; [`checked::gcd`](crate::checked::gcd) has no condition.
+/// [`checked::gcd`](crate::checked::gcd) returns `None` outside the domain.
 ///
 /// # Examples
 ///
@@ -1006,21 +629,7 @@ pub fn div_ceil<T: Integer>(x: T, y: T) -> T {
 ///
 /// If the greatest common divisor does not fit.
 ///
-/// <details><summary>Proved</summary>
-///
-/// Proved of the source in Rattle: if each `requires` holds, the call returns, and then each
-/// `ensures` holds.
-///
-/// ```text
-/// requires gcd_fits { GcdFits T.fits (T.value x) (T.value y) }
-/// ensures greatest { IsGreatestCommonDivisor (T.value x) (T.value y) (T.value result) }
-/// ```
-///
-/// Words: [`GcdFits`](crate::definitions::integer_core#gcdfits),
-/// [`IsGreatestCommonDivisor`](crate::definitions::integer_core#isgreatestcommondivisor),
-/// [how to read it](crate::definitions).
-///
-/// </details>
+/// [Contract](crate::definitions::contracts#gcd)
 #[track_caller]
 #[must_use]
 pub fn gcd<T: Integer>(x: T, y: T) -> T {
@@ -1029,7 +638,7 @@ pub fn gcd<T: Integer>(x: T, y: T) -> T {
 
 /// Returns the least common multiple.
 ///
-/// May be called if [`Integer::lcm`] may; [`checked::lcm`](crate::checked::lcm) has no condition.
+/// [`checked::lcm`](crate::checked::lcm) returns `None` outside the domain.
 ///
 /// # Examples
 ///
@@ -1043,21 +652,7 @@ pub fn gcd<T: Integer>(x: T, y: T) -> T {
 ///
 /// If the least common multiple does not fit.
 ///
-/// <details><summary>Proved</summary>
-///
-/// Proved of the source in Rattle: if each `requires` holds, the call returns, and then each
-/// `ensures` holds.
-///
-/// ```text
-/// requires lcm_fits { EachFits T.fits (IsLeastCommonMultiple (T.value x) (T.value y)) }
-/// ensures least { IsLeastCommonMultiple (T.value x) (T.value y) (T.value result) }
-/// ```
-///
-/// Words: [`EachFits`](crate::definitions::integer_core#eachfits),
-/// [`IsLeastCommonMultiple`](crate::definitions::integer_core#isleastcommonmultiple),
-/// [how to read it](crate::definitions).
-///
-/// </details>
+/// [Contract](crate::definitions::contracts#lcm)
 #[track_caller]
 #[must_use]
 pub fn lcm<T: Integer>(x: T, y: T) -> T {
@@ -1066,8 +661,7 @@ pub fn lcm<T: Integer>(x: T, y: T) -> T {
 
 /// Returns the greatest common divisor and the least common multiple.
 ///
-/// May be called if [`Integer::gcd_lcm`] may; [`checked::gcd_lcm`](crate::checked::gcd_lcm) has no
-/// condition.
+/// [`checked::gcd_lcm`](crate::checked::gcd_lcm) returns `None` outside the domain.
 ///
 /// # Examples
 ///
@@ -1079,27 +673,9 @@ pub fn lcm<T: Integer>(x: T, y: T) -> T {
 ///
 /// # Panics
 ///
-/// If the greatest common divisor does not fit, or if the least common multiple does not fit.
+/// If the greatest common divisor or the least common multiple does not fit.
 ///
-/// <details><summary>Proved</summary>
-///
-/// Proved of the source in Rattle: if each `requires` holds, the call returns, and then each
-/// `ensures` holds.
-///
-/// ```text
-/// requires gcd_fits { GcdFits T.fits (T.value x) (T.value y) }
-/// requires lcm_fits { EachFits T.fits (IsLeastCommonMultiple (T.value x) (T.value y)) }
-/// ensures greatest { IsGreatestCommonDivisor (T.value x) (T.value y) (T.value result.0) }
-/// ensures least { IsLeastCommonMultiple (T.value x) (T.value y) (T.value result.1) }
-/// ```
-///
-/// Words: [`GcdFits`](crate::definitions::integer_core#gcdfits),
-/// [`EachFits`](crate::definitions::integer_core#eachfits),
-/// [`IsLeastCommonMultiple`](crate::definitions::integer_core#isleastcommonmultiple),
-/// [`IsGreatestCommonDivisor`](crate::definitions::integer_core#isgreatestcommondivisor),
-/// [how to read it](crate::definitions).
-///
-/// </details>
+/// [Contract](crate::definitions::contracts#gcd_lcm)
 #[track_caller]
 #[must_use]
 pub fn gcd_lcm<T: Integer>(x: T, y: T) -> (T, T) {

@@ -3,6 +3,7 @@
 #![doc = include_str!("../README.md")]
 #![no_std]
 #![forbid(unsafe_code)]
+#![warn(missing_docs, clippy::missing_errors_doc, clippy::missing_panics_doc)]
 
 #[cfg(all(has_error, not(has_core_error)))]
 extern crate std;
@@ -27,9 +28,7 @@ mod integer_roots;
 pub mod layout;
 pub mod lists;
 pub mod modular;
-mod padded;
 pub mod paging;
-mod plain;
 pub mod powers;
 pub mod ranking;
 pub mod ratio64;
@@ -40,8 +39,8 @@ pub mod schedules;
 mod serde_strings;
 pub mod shares;
 mod sign_magnitude;
-mod strings;
 
+pub(crate) use crate::integer_core::padded;
 pub use crate::integer_core::{
     div_ceil, div_floor, div_mod_floor, div_rem, gcd, gcd_lcm, lcm, mod_floor, operators,
     ExtendedGcd, Integer, NativeInteger,

@@ -3,15 +3,13 @@
 
 pub mod checked;
 
+use crate::guards::some;
 use crate::Fits;
 
 /// Returns the greatest common divisor of the numbers, the largest that divides each of them.
 ///
-/// May be called if the result fits. Else use [`checked::gcd_of`], which returns
-/// `None` if it does not fit. In an unsigned type it always fits.
-///
-/// [`lists::checked::gcd_of`](crate::lists::checked::gcd_of) is the same call, which returns `None`
-/// outside the domain.
+/// [`checked::gcd_of`] returns `None` if the result does not fit. In an unsigned
+/// type it always fits.
 ///
 /// # Examples
 ///
@@ -27,35 +25,20 @@ use crate::Fits;
 ///
 /// If the greatest common divisor does not fit.
 ///
-/// <details><summary>Proved</summary>
-///
-/// Proved of the source in Rattle: if each `requires` holds, the call returns, and then each
-/// `ensures` holds.
-///
-/// ```text
-/// requires gcd_fits { GcdOfFits T.fits (map T.value numbers.now) }
-/// ensures greatest { IsGreatestCommonDivisorOf (map T.value numbers.now) (T.value result) }
-/// ```
-///
-/// Words: [`GcdOfFits`](crate::definitions::applied#gcdoffits),
-/// [`IsGreatestCommonDivisorOf`](crate::definitions::applied#isgreatestcommondivisorof),
-/// [how to read it](crate::definitions).
-///
-/// </details>
+/// [Contract](crate::definitions::contracts#listsgcd_of)
 #[track_caller]
 #[must_use]
 pub fn gcd_of<T: Fits>(numbers: &[T]) -> T {
-    checked::gcd_of(numbers).expect("the greatest common divisor does not fit")
+    some(
+        checked::gcd_of(numbers),
+        "the greatest common divisor does not fit",
+    )
 }
 
 /// Returns the least common multiple of the numbers, the smallest positive number that each of them
 /// divides, or 0 if one of them is 0.
 ///
-/// May be called if the result fits. Else use [`checked::lcm_of`], which returns
-/// `None` if it does not fit.
-///
-/// [`lists::checked::lcm_of`](crate::lists::checked::lcm_of) is the same call, which returns `None`
-/// outside the domain.
+/// [`checked::lcm_of`] returns `None` if the result does not fit.
 ///
 /// # Examples
 ///
@@ -71,23 +54,12 @@ pub fn gcd_of<T: Fits>(numbers: &[T]) -> T {
 ///
 /// If the least common multiple does not fit.
 ///
-/// <details><summary>Proved</summary>
-///
-/// Proved of the source in Rattle: if each `requires` holds, the call returns, and then each
-/// `ensures` holds.
-///
-/// ```text
-/// requires lcm_fits { EachFits T.fits (IsLeastCommonMultipleOf (map T.value numbers.now)) }
-/// ensures least { IsLeastCommonMultipleOf (map T.value numbers.now) (T.value result) }
-/// ```
-///
-/// Words: [`EachFits`](crate::definitions::integer_core#eachfits),
-/// [`IsLeastCommonMultipleOf`](crate::definitions::applied#isleastcommonmultipleof),
-/// [how to read it](crate::definitions).
-///
-/// </details>
+/// [Contract](crate::definitions::contracts#listslcm_of)
 #[track_caller]
 #[must_use]
 pub fn lcm_of<T: Fits>(numbers: &[T]) -> T {
-    checked::lcm_of(numbers).expect("the least common multiple does not fit")
+    some(
+        checked::lcm_of(numbers),
+        "the least common multiple does not fit",
+    )
 }

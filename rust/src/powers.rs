@@ -4,7 +4,8 @@
 
 pub mod checked;
 
-use crate::operators::{difference, product};
+use crate::guards::check;
+use crate::operators::{difference, is_below, is_equal, is_negative, one, product, quotient, zero};
 use crate::{nth_root, sqrt, Integer, Roots};
 use num_traits::Pow;
 
@@ -20,29 +21,17 @@ use num_traits::Pow;
 /// assert!(!is_square(-144));
 /// ```
 ///
-/// <details><summary>Proved</summary>
-///
-/// Proved of the source in Rattle: each call returns, and then each `ensures` holds.
-///
-/// ```text
-/// ensures { IsTrue result ↔ ((k : ℤ) × (k *ℤ k ≡ T.value n)) }
-/// ```
-///
-/// Words: [how to read it](crate::definitions).
-///
-/// </details>
+/// [Contract](crate::definitions::contracts#powersis_square)
 #[must_use]
 pub fn is_square<T: Roots + Copy>(n: T) -> bool {
-    if n < T::zero() {
+    if is_negative(n) {
         return false;
     }
     let root = sqrt(n);
-    product(root, root) == n
+    is_equal(product(root, root), n)
 }
 
 /// Returns `true` if some integer to the power of `degree` is the number.
-///
-/// May be called if `degree` is not 0.
 ///
 /// # Examples
 ///
@@ -57,27 +46,15 @@ pub fn is_square<T: Roots + Copy>(n: T) -> bool {
 ///
 /// If `degree` is 0.
 ///
-/// <details><summary>Proved</summary>
-///
-/// Proved of the source in Rattle: if each `requires` holds, the call returns, and then each
-/// `ensures` holds.
-///
-/// ```text
-/// requires degree { degree ≢ 0 }
-/// ensures { IsTrue result ↔ ((k : ℤ) × (int_pow k degree ≡ T.value n)) }
-/// ```
-///
-/// Words: [how to read it](crate::definitions).
-///
-/// </details>
+/// [Contract](crate::definitions::contracts#powersis_power)
 #[track_caller]
 #[must_use]
 pub fn is_power<T: Roots + Copy + Pow<u32, Output = T>>(n: T, degree: u32) -> bool {
-    assert!(degree != 0, "attempt to take a root of degree 0");
-    if degree % 2 == 0 && n < T::zero() {
+    check(degree != 0, "attempt to take a root of degree 0");
+    if degree % 2 == 0 && is_negative(n) {
         return false;
     }
-    nth_root(n, degree).pow(degree) == n
+    is_equal(nth_root(n, degree).pow(degree), n)
 }
 
 /// Returns `true` if the number is a square, a cube or a higher power of an integer.
@@ -91,18 +68,7 @@ pub fn is_power<T: Roots + Copy + Pow<u32, Output = T>>(n: T, degree: u32) -> bo
 /// assert!(!is_perfect_power(72));
 /// ```
 ///
-/// <details><summary>Proved</summary>
-///
-/// Proved of the source in Rattle: each call returns, and then each `ensures` holds.
-///
-/// ```text
-/// ensures { IsTrue result
-///     ↔ ((k : ℤ) × ((degree : ℕ) × (2 ≤ degree) × (int_pow k degree ≡ pos n))) }
-/// ```
-///
-/// Words: [how to read it](crate::definitions).
-///
-/// </details>
+/// [Contract](crate::definitions::contracts#powersis_perfect_power)
 #[must_use]
 pub fn is_perfect_power(n: u64) -> bool {
     for degree in 2..64 {
@@ -116,10 +82,7 @@ pub fn is_perfect_power(n: u64) -> bool {
 /// Returns the square root, rounded down, and what is left: the number minus the square of the
 /// root.
 ///
-/// May be called if `n` is not negative; [`checked::sqrt_rem`] has no condition.
-///
-/// [`powers::checked::sqrt_rem`](crate::powers::checked::sqrt_rem) is the same call, which returns
-/// `None` outside the domain.
+/// [`checked::sqrt_rem`] returns `None` outside the domain.
 ///
 /// # Examples
 ///
@@ -134,27 +97,11 @@ pub fn is_perfect_power(n: u64) -> bool {
 ///
 /// If `n` is negative.
 ///
-/// <details><summary>Proved</summary>
-///
-/// Proved of the source in Rattle: if each `requires` holds, the call returns, and then each
-/// `ensures` holds.
-///
-/// ```text
-/// requires from_zero { pos 0 ≤ℤ T.value n }
-/// ensures root { IsRoot (T.value n) 2 (T.value result.0) }
-/// ensures sum { T.value n ≡ T.value result.0 *ℤ T.value result.0 +ℤ T.value result.1 }
-/// ensures rest_from_zero { pos 0 ≤ℤ T.value result.1 }
-/// ensures rest_at_most { T.value result.1 ≤ℤ (T.value result.0 +ℤ T.value result.0) }
-/// ```
-///
-/// Words: [`IsRoot`](crate::definitions::integer_roots#isroot),
-/// [how to read it](crate::definitions).
-///
-/// </details>
+/// [Contract](crate::definitions::contracts#powerssqrt_rem)
 #[track_caller]
 #[must_use]
 pub fn sqrt_rem<T: Roots + Copy>(n: T) -> (T, T) {
-    assert!(n >= T::zero(), "`n` is negative");
+    check(!is_negative(n), "`n` is negative");
     let root = sqrt(n);
     (root, difference(n, product(root, root)))
 }
@@ -162,11 +109,7 @@ pub fn sqrt_rem<T: Roots + Copy>(n: T) -> (T, T) {
 /// Returns the integer logarithm of `number` to the base: the largest degree of a power of the base
 /// that is at most the number.
 ///
-/// May be called if `number` is at least 1 and `base` at least 2; [`checked::ilog`] has no
-/// condition.
-///
-/// [`powers::checked::ilog`](crate::powers::checked::ilog) is the same call, which returns `None`
-/// outside the domain.
+/// [`checked::ilog`] returns `None` outside the domain.
 ///
 /// # Examples
 ///
@@ -182,31 +125,16 @@ pub fn sqrt_rem<T: Roots + Copy>(n: T) -> (T, T) {
 ///
 /// If the number is not positive, or if `base` is below 2.
 ///
-/// <details><summary>Proved</summary>
-///
-/// Proved of the source in Rattle: if each `requires` holds, the call returns, and then each
-/// `ensures` holds.
-///
-/// ```text
-/// requires positive { pos 0 <ℤ T.value number }
-/// requires base { pos 1 <ℤ T.value base }
-/// ensures logarithm { IsLogarithm (T.value base) (T.value number) result }
-/// ensures few { result < 128 }
-/// ```
-///
-/// Words: [`IsLogarithm`](crate::definitions::applied#islogarithm),
-/// [how to read it](crate::definitions).
-///
-/// </details>
+/// [Contract](crate::definitions::contracts#powersilog)
 #[track_caller]
 #[must_use]
 pub fn ilog<T: Integer + Copy>(number: T, base: T) -> u32 {
-    assert!(number > T::zero(), "the number is not positive");
-    assert!(base > T::one(), "the base is below 2");
+    check(is_below(zero(), number), "the number is not positive");
+    check(is_below(one(), base), "the base is below 2");
     let mut rest = number;
     let mut degree = 0;
-    while rest >= base {
-        rest = rest / base;
+    while !is_below(rest, base) {
+        rest = quotient(rest, base);
         degree += 1;
     }
     degree

@@ -2,6 +2,8 @@
 //! The combinatorial number system: a choice is a list of increasing numbers below `n`, and its
 //! rank is how many choices of the same length come before it.
 
+use crate::guards::sum_or;
+use crate::guards::{check_choice, check_rank};
 use crate::halving::midpoint;
 use crate::{binomial, checked, Fits};
 
@@ -18,21 +20,7 @@ use crate::{binomial, checked, Fits};
 /// assert!(!is_choice(&[0, 2, 5], 5));
 /// ```
 ///
-/// <details><summary>Proved</summary>
-///
-/// Proved of the source in Rattle: each call returns, and then each `ensures` holds.
-///
-/// ```text
-/// ensures choice { IsTrue result ↔ IsChoice n numbers.now }
-/// ensures rank_below { IsTrue result → rank_of numbers.now < coefficient n (length numbers.now) }
-/// ```
-///
-/// Words: [`IsChoice`](crate::definitions::applied#ischoice),
-/// [`rank_of`](crate::definitions::applied#rank_of),
-/// [`coefficient`](crate::definitions::num_integer#coefficient),
-/// [how to read it](crate::definitions).
-///
-/// </details>
+/// [Contract](crate::definitions::contracts#rankingis_choice)
 #[must_use]
 pub fn is_choice(numbers: &[u64], n: u64) -> bool {
     for place in 0..numbers.len() {
@@ -54,17 +42,7 @@ pub fn is_choice(numbers: &[u64], n: u64) -> bool {
 /// assert!(!rank_fits(&[0, 10000000000]));
 /// ```
 ///
-/// <details><summary>Proved</summary>
-///
-/// Proved of the source in Rattle: each call returns, and then each `ensures` holds.
-///
-/// ```text
-/// ensures { IsTrue result ↔ (rank_of choice.now < 2 ^ 64) }
-/// ```
-///
-/// Words: [`rank_of`](crate::definitions::applied#rank_of), [how to read it](crate::definitions).
-///
-/// </details>
+/// [Contract](crate::definitions::contracts#rankingrank_fits)
 #[must_use]
 pub fn rank_fits(choice: &[u64]) -> bool {
     checked_rank(choice).is_some()
@@ -83,8 +61,8 @@ fn checked_rank(choice: &[u64]) -> Option<u64> {
 /// Returns the rank of a choice of numbers below `n`: how many choices of the same length come
 /// before it. They are ordered by their last number, then by the one before it, and so on.
 ///
-/// May be called if the numbers increase and are below `n`, which [`is_choice`] tests, and the rank
-/// fits a `u64`, which [`rank_fits`] tests. It fits if the number of all these choices does.
+/// [`is_choice`] and [`rank_fits`] test the domain. The rank fits a `u64` if the number of all
+/// these choices does.
 ///
 /// # Examples
 ///
@@ -98,47 +76,24 @@ fn checked_rank(choice: &[u64]) -> Option<u64> {
 ///
 /// If the numbers do not increase, or one is not below `n`, or if the rank does not fit.
 ///
-/// <details><summary>Proved</summary>
-///
-/// Proved of the source in Rattle: if each `requires` holds, the call returns, and then each
-/// `ensures` holds.
-///
-/// ```text
-/// requires choice { IsChoice n choice.now }
-/// requires rank_fits { rank_of choice.now < 2 ^ 64 }
-/// ensures rank { result ≡ rank_of choice.now }
-/// ensures below { result < coefficient n (length choice.now) }
-/// ensures order { (other : List ℕ) → IsChoice n other → length other ≡ length choice.now
-///     → IsBefore (length choice.now) other choice.now ↔ (rank_of other < result) }
-/// ```
-///
-/// Words: [`IsChoice`](crate::definitions::applied#ischoice),
-/// [`rank_of`](crate::definitions::applied#rank_of),
-/// [`coefficient`](crate::definitions::num_integer#coefficient),
-/// [`IsBefore`](crate::definitions::applied#isbefore), [how to read it](crate::definitions).
-///
-/// </details>
+/// [Contract](crate::definitions::contracts#rankingrank)
 #[track_caller]
 #[must_use]
 pub fn rank(choice: &[u64], n: u64) -> u64 {
-    assert!(
-        crate::guards::increase_below(choice, n),
-        "the numbers of the choice do not increase below `n`"
+    check_choice(
+        choice,
+        n,
+        "the numbers of the choice do not increase below `n`",
     );
     let mut rank = 0;
     for (i, number) in choice.iter().enumerate() {
-        rank = crate::guards::sum(
-            rank,
-            binomial(*number, i as u64 + 1),
-            "the rank does not fit",
-        );
+        let count = binomial(*number, i as u64 + 1);
+        rank = sum_or(rank, count, "the rank does not fit");
     }
     rank
 }
 
 /// Fills the slice with the choice of numbers below `n` that has the rank.
-///
-/// May be called if `rank` is below the number of these choices.
 ///
 /// # Examples
 ///
@@ -155,28 +110,10 @@ pub fn rank(choice: &[u64], n: u64) -> u64 {
 ///
 /// If there are no more than `rank` choices.
 ///
-/// <details><summary>Proved</summary>
-///
-/// Proved of the source in Rattle: if each `requires` holds, the call returns, and then each
-/// `ensures` holds.
-///
-/// ```text
-/// requires rank { rank < coefficient n (length choice.old) }
-/// ensures choice { IsChoiceOfRank n (length choice.old) rank choice.new }
-/// ensures only { IsOnly (IsChoiceOfRank n (length choice.old) rank) choice.new }
-/// ```
-///
-/// Words: [`coefficient`](crate::definitions::num_integer#coefficient),
-/// [`IsChoiceOfRank`](crate::definitions::applied#ischoiceofrank),
-/// [`IsOnly`](crate::definitions::integer_core#isonly), [how to read it](crate::definitions).
-///
-/// </details>
+/// [Contract](crate::definitions::contracts#rankingchoice_of_rank)
 #[track_caller]
 pub fn choice_of_rank(rank: u64, n: u64, choice: &mut [u64]) {
-    assert!(
-        crate::guards::is_rank(rank, n, choice.len()),
-        "no choice has the rank"
-    );
+    check_rank(rank, n, choice.len(), "no choice has the rank");
     let mut rest = rank;
     let mut bound = n;
     for i in (0..choice.len()).rev() {
@@ -189,6 +126,7 @@ pub fn choice_of_rank(rank: u64, n: u64, choice: &mut [u64]) {
 
 /// Returns the largest number whose binomial coefficient over `place` is at most `limit`, by binary
 /// search below `bound`.
+#[track_caller]
 fn greatest_within(limit: u64, place: u64, bound: u64) -> u64 {
     let mut low = 0;
     let mut high = bound;
@@ -205,6 +143,7 @@ fn greatest_within(limit: u64, place: u64, bound: u64) -> u64 {
 
 /// Returns `true` if the binomial coefficient of `n` and `k` is at most `limit`. It may not fit a
 /// `u64`.
+#[track_caller]
 fn is_within(n: u64, k: u64, limit: u64) -> bool {
     n.binomial_fits(&k) && binomial(n, k) <= limit
 }
@@ -212,7 +151,7 @@ fn is_within(n: u64, k: u64, limit: u64) -> bool {
 /// Replaces a choice of numbers below `n` by the choice of the next rank and returns `true`, or
 /// returns `false` if the choice is the last.
 ///
-/// May be called if the numbers increase and are below `n`, which [`is_choice`] tests.
+/// [`is_choice`] tests the domain.
 ///
 /// # Examples
 ///
@@ -230,33 +169,13 @@ fn is_within(n: u64, k: u64, limit: u64) -> bool {
 ///
 /// If the numbers do not increase, or one is not below `n`.
 ///
-/// <details><summary>Proved</summary>
-///
-/// Proved of the source in Rattle: if each `requires` holds, the call returns, and then each
-/// `ensures` holds.
-///
-/// ```text
-/// requires choice { IsChoice n choice.old }
-/// ensures choice { IsChoice n choice.new }
-/// ensures next { IsTrue result
-///     → IsChoiceOfRank n (length choice.old) (rank_of choice.old + 1) choice.new }
-/// ensures last { IsFalse result
-///     → (choice.new ≡ choice.old)
-///     × (rank_of choice.old + 1 ≡ coefficient n (length choice.old)) }
-/// ```
-///
-/// Words: [`IsChoice`](crate::definitions::applied#ischoice),
-/// [`IsChoiceOfRank`](crate::definitions::applied#ischoiceofrank),
-/// [`rank_of`](crate::definitions::applied#rank_of),
-/// [`coefficient`](crate::definitions::num_integer#coefficient),
-/// [how to read it](crate::definitions).
-///
-/// </details>
+/// [Contract](crate::definitions::contracts#rankingnext_choice)
 #[track_caller]
 pub fn next_choice(choice: &mut [u64], n: u64) -> bool {
-    assert!(
-        crate::guards::increase_below(choice, n),
-        "the numbers of the choice do not increase below `n`"
+    check_choice(
+        choice,
+        n,
+        "the numbers of the choice do not increase below `n`",
     );
     match first_to_rise(choice, n) {
         Some(place) => {

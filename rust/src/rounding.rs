@@ -3,15 +3,13 @@
 
 pub mod checked;
 
-use crate::operators::{difference, successor};
+use crate::operators::{difference, is_below, is_negative, successor};
 use crate::{div_mod_floor, Integer};
 
 /// Returns the quotient rounded to the nearest integer, and a half away from zero.
 ///
-/// May be called if `Fits::quotient_fits` is true; [`checked::div_round`] has no condition.
-///
-/// [`rounding::checked::div_round`](crate::rounding::checked::div_round) is the same call, which
-/// returns `None` outside the domain.
+/// [`Fits::quotient_fits`](crate::Fits::quotient_fits) tests the domain, and [`checked::div_round`]
+/// returns `None` outside it.
 ///
 /// # Examples
 ///
@@ -27,36 +25,18 @@ use crate::{div_mod_floor, Integer};
 ///
 /// If `y` is 0, or if the quotient does not fit.
 ///
-/// <details><summary>Proved</summary>
-///
-/// Proved of the source in Rattle: if each `requires` holds, the call returns, and then each
-/// `ensures` holds.
-///
-/// ```text
-/// requires nonzero { T.value y ≢ pos 0 }
-/// requires quotient_fits { EachFits T.fits (IsQuotient IsFloored (T.value x) (T.value y)) }
-/// ensures nearest { IsQuotient IsNearest (T.value x) (T.value y) (T.value result) }
-/// ```
-///
-/// Words: [`EachFits`](crate::definitions::integer_core#eachfits),
-/// [`IsQuotient`](crate::definitions::integer_core#isquotient),
-/// [`IsFloored`](crate::definitions::integer_core#isfloored),
-/// [`IsNearest`](crate::definitions::applied#isnearest), [how to read it](crate::definitions).
-///
-/// </details>
+/// [Contract](crate::definitions::contracts#roundingdiv_round)
 #[track_caller]
 #[must_use]
 pub fn div_round<T: Integer + Copy>(x: T, y: T) -> T {
     let (below, rest) = div_mod_floor(x, y);
-    nearer(below, rest, y, below < T::zero())
+    nearer(below, rest, y, is_negative(below))
 }
 
 /// Returns the quotient rounded to the nearest integer, and a half to the even one.
 ///
-/// May be called if `Fits::quotient_fits` is true; [`checked::div_round_even`] has no condition.
-///
-/// [`rounding::checked::div_round_even`](crate::rounding::checked::div_round_even) is the same
-/// call, which returns `None` outside the domain.
+/// [`Fits::quotient_fits`](crate::Fits::quotient_fits) tests the domain, and
+/// [`checked::div_round_even`] returns `None` outside it.
 ///
 /// # Examples
 ///
@@ -72,24 +52,7 @@ pub fn div_round<T: Integer + Copy>(x: T, y: T) -> T {
 ///
 /// If `y` is 0, or if the quotient does not fit.
 ///
-/// <details><summary>Proved</summary>
-///
-/// Proved of the source in Rattle: if each `requires` holds, the call returns, and then each
-/// `ensures` holds.
-///
-/// ```text
-/// requires nonzero { T.value y ≢ pos 0 }
-/// requires quotient_fits { EachFits T.fits (IsQuotient IsFloored (T.value x) (T.value y)) }
-/// ensures nearest { IsQuotient IsNearestEven (T.value x) (T.value y) (T.value result) }
-/// ```
-///
-/// Words: [`EachFits`](crate::definitions::integer_core#eachfits),
-/// [`IsQuotient`](crate::definitions::integer_core#isquotient),
-/// [`IsFloored`](crate::definitions::integer_core#isfloored),
-/// [`IsNearestEven`](crate::definitions::applied#isnearesteven),
-/// [how to read it](crate::definitions).
-///
-/// </details>
+/// [Contract](crate::definitions::contracts#roundingdiv_round_even)
 #[track_caller]
 #[must_use]
 pub fn div_round_even<T: Integer + Copy>(x: T, y: T) -> T {
@@ -123,9 +86,9 @@ fn rounds_down<T: Integer + Copy>(rest: T, divisor: T, half_down: bool) -> bool 
 /// Returns `true` if the magnitude of `a` is below that of `b`. Neither is negative, or neither is
 /// positive.
 fn is_smaller<T: Integer + Copy>(a: T, b: T) -> bool {
-    if a < T::zero() || b < T::zero() {
-        b < a
+    if is_negative(a) || is_negative(b) {
+        is_below(b, a)
     } else {
-        a < b
+        is_below(a, b)
     }
 }

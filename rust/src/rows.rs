@@ -3,7 +3,7 @@
 //! Rows of Pascal's triangle.
 
 use crate::coefficients::next_coefficient;
-use crate::integer_core::operators::{predecessor, successor};
+use crate::integer_core::operators::{is_below, is_zero, one, predecessor, successor, zero};
 use crate::integer_core::Integer;
 use core::iter::FusedIterator;
 
@@ -35,7 +35,7 @@ impl<T: Integer + Copy> IterBinomial<T> {
     /// Returns the row of `n`. `IterBinomial::new(3u8)` gives `1`, `3`, `3`, `1`, and then `None`,
     /// so `IterBinomial::new(3u8).last()` is `Some(1)`.
     ///
-    /// May be called if [`checked::row`](crate::checked::row) returns `Some`.
+    /// [`checked::row`](crate::checked::row) returns `None` if an item does not fit.
     ///
     /// # Examples
     ///
@@ -47,28 +47,16 @@ impl<T: Integer + Copy> IterBinomial<T> {
     ///
     /// # Panics
     ///
-    /// Not this call. The one that asks for an item does, if the item does not fit.
+    /// If an item does not fit: not this call, but the one that asks for the item.
     ///
-    /// <details><summary>Proved</summary>
-    ///
-    /// Proved of the source in Rattle: if each `requires` holds, the call returns, and then each
-    /// `ensures` holds.
-    ///
-    /// ```text
-    /// requires row_fits { RowFits T.fits (T.value n) }
-    /// ensures row { result ≡ row_of (T.value n) }
-    /// ```
-    ///
-    /// Words: [`RowFits`](crate::definitions::num_integer#rowfits),
-    /// [`row_of`](crate::definitions::num_integer#row_of), [how to read it](crate::definitions).
-    ///
-    /// </details>
+    /// [Contract](crate::definitions::contracts#iterbinomialnew)
+    #[track_caller]
     #[must_use]
     pub fn new(n: T) -> Self {
         Self {
             n,
-            k: T::zero(),
-            item: T::one(),
+            k: zero(),
+            item: one(),
         }
     }
 }
@@ -76,30 +64,23 @@ impl<T: Integer + Copy> IterBinomial<T> {
 /// Returns the `k`-th item of the row of `n`, counted from 0. `previous` is the item before it.
 #[track_caller]
 fn item_at<T: Integer + Copy>(n: T, k: T, previous: T) -> T {
-    if k.is_zero() {
-        T::one()
+    if is_zero(k) {
+        one()
     } else {
         next_coefficient(previous, n, predecessor(k))
     }
 }
 
-/// <details><summary>Proved</summary>
-///
-/// Proved of the source in Rattle: what the calls of the trait return.
-///
-/// ```text
-/// ghost next_gives = { YieldsFirstBy T.value (λ s. s) }
-/// ```
-///
-/// Words: [how to read it](crate::definitions).
-///
-/// </details>
+/// [Contract](crate::definitions::contracts#iterator-for-iterbinomial)
 impl<T: Integer + Copy> Iterator for IterBinomial<T> {
     type Item = T;
 
+    /// # Panics
+    ///
+    /// If the item does not fit.
     #[track_caller]
     fn next(&mut self) -> Option<T> {
-        if self.n < self.k {
+        if is_below(self.n, self.k) {
             return None;
         }
         self.item = item_at(self.n, self.k, self.item);
@@ -118,8 +99,6 @@ impl<T: Integer + Copy> Iterator for IterBinomial<T> {
         }
     }
 }
-
-impl<T: Integer + Copy> FusedIterator for IterBinomial<T> {}
 
 macro_rules! exact_size {
     ($($Type:ty)*) => {$(
@@ -142,3 +121,5 @@ fn at_usize<T: Integer + Copy>(mut x: T) -> Option<usize> {
     }
     Some(value)
 }
+
+impl<T: Integer + Copy> FusedIterator for IterBinomial<T> {}

@@ -19,26 +19,7 @@
 /// assert_eq!(shares(100, &[0, 0], &mut [7, 7]), false);
 /// ```
 ///
-/// <details><summary>Proved</summary>
-///
-/// Proved of the source in Rattle: each call returns, and then each `ensures` holds.
-///
-/// ```text
-/// ensures possible { IsTrue result ↔ CanBeShared weights.now shares.old }
-/// ensures shares { IsTrue result → AreShares amount weights.now shares.new }
-/// ensures only { IsTrue result → IsOnly (AreShares amount weights.now) shares.new }
-/// ensures whole { IsTrue result → sum shares.new ≡ amount }
-/// ensures near { IsTrue result → EachIndex weights.now (λ i. IsNearShare amount
-///     (slice_index weights.now i) (sum weights.now) (slice_index shares.new i)) }
-/// ensures unchanged { IsFalse result → shares.new ≡ shares.old }
-/// ```
-///
-/// Words: [`CanBeShared`](crate::definitions::applied#canbeshared),
-/// [`AreShares`](crate::definitions::applied#areshares),
-/// [`IsOnly`](crate::definitions::integer_core#isonly),
-/// [`IsNearShare`](crate::definitions::applied#isnearshare), [how to read it](crate::definitions).
-///
-/// </details>
+/// [Contract](crate::definitions::contracts#sharesshares)
 pub fn shares(amount: u64, weights: &[u64], shares: &mut [u64]) -> bool {
     let Some(total) = total_to_share(weights, shares) else {
         return false;
@@ -68,24 +49,7 @@ pub fn shares(amount: u64, weights: &[u64], shares: &mut [u64]) -> bool {
 /// );
 /// ```
 ///
-/// <details><summary>Proved</summary>
-///
-/// Proved of the source in Rattle: each call returns, and then each `ensures` holds.
-///
-/// ```text
-/// ensures possible { IsTrue result ↔ CanBeShared weights.now shares.old }
-/// ensures shares { IsTrue result → AreSignedShares amount weights.now shares.new }
-/// ensures only { IsTrue result → IsOnly (AreSignedShares amount weights.now) shares.new }
-/// ensures whole { IsTrue result → signed_sum shares.new ≡ amount }
-/// ensures unchanged { IsFalse result → shares.new ≡ shares.old }
-/// ```
-///
-/// Words: [`CanBeShared`](crate::definitions::applied#canbeshared),
-/// [`AreSignedShares`](crate::definitions::applied#aresignedshares),
-/// [`IsOnly`](crate::definitions::integer_core#isonly),
-/// [`signed_sum`](crate::definitions::applied#signed_sum), [how to read it](crate::definitions).
-///
-/// </details>
+/// [Contract](crate::definitions::contracts#sharessigned_shares)
 pub fn signed_shares(amount: i64, weights: &[u64], shares: &mut [i64]) -> bool {
     let Some(total) = total_to_share(weights, shares) else {
         return false;

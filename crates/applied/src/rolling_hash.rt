@@ -23,7 +23,9 @@ impl RollingHash {
     /// Returns the hash function of windows of `kept + 1` bytes. `RollingHash::new(10, 97, 1).hash(&[4, 2])` is
     /// `42`.
     ///
-    /// May be called if `modulus` is positive.
+    /// # Panics
+    ///
+    /// In plain Rust, if the modulus is not positive.
     pub fn new(base: u64, modulus: u64, kept: u64) -> Self
         requires positive { 0 < modulus }
         ensures base { result.base ≡ base }

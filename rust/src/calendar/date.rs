@@ -27,17 +27,7 @@ const EPOCH_IN_ERA_0: i64 = 865566;
 /// assert_eq!(Date::new(2000, 2, 29) < Date::new(2000, 3, 1), true);
 /// ```
 ///
-/// <details><summary>Proved</summary>
-///
-/// Proved of the source in Rattle, for each value of the type.
-///
-/// ```text
-/// pub ghost valid: { IsDate year month day_of_month }
-/// ```
-///
-/// Words: [`IsDate`](crate::definitions::calendar#isdate), [how to read it](crate::definitions).
-///
-/// </details>
+/// [Contract](crate::definitions::contracts#calendardate)
 #[derive(Debug, Clone, Copy, PartialEq, Eq, PartialOrd, Ord, Hash)]
 pub struct Date {
     pub(in crate::calendar) year: i64,
@@ -46,7 +36,7 @@ pub struct Date {
 }
 
 impl Date {
-    /// Returns the `year`.
+    /// Returns the year.
     ///
     /// # Examples
     ///
@@ -55,12 +45,14 @@ impl Date {
     ///
     /// assert_eq!(Date::new(2024, 2, 29).unwrap().year(), 2024);
     /// ```
+    ///
+    /// [Contract](crate::definitions::contracts#calendardateyear)
     #[must_use]
     pub const fn year(&self) -> i64 {
         self.year
     }
 
-    /// Returns the `month`.
+    /// Returns the month, from 1 for January to 12.
     ///
     /// # Examples
     ///
@@ -69,12 +61,14 @@ impl Date {
     ///
     /// assert_eq!(Date::new(2024, 2, 29).unwrap().month(), 2);
     /// ```
+    ///
+    /// [Contract](crate::definitions::contracts#calendardatemonth)
     #[must_use]
     pub const fn month(&self) -> u8 {
         self.month
     }
 
-    /// Returns the `day_of_month`.
+    /// Returns the day of the month.
     ///
     /// # Examples
     ///
@@ -83,13 +77,13 @@ impl Date {
     ///
     /// assert_eq!(Date::new(2024, 2, 29).unwrap().day_of_month(), 29);
     /// ```
+    ///
+    /// [Contract](crate::definitions::contracts#calendardateday_of_month)
     #[must_use]
     pub const fn day_of_month(&self) -> u8 {
         self.day_of_month
     }
-}
 
-impl Date {
     /// Returns the date of a year, a month and a day of the month, or `None` if there is no such
     /// date.
     ///
@@ -101,19 +95,7 @@ impl Date {
     /// assert_eq!(Date::new(1900, 2, 29), None);
     /// ```
     ///
-    /// <details><summary>Proved</summary>
-    ///
-    /// Proved of the source in Rattle: each call returns, and then each `ensures` holds.
-    ///
-    /// ```text
-    /// ensures { MatchOption result (¬ (IsDate year month day_of_month))
-    ///     (λ date. HasParts date year month day_of_month) }
-    /// ```
-    ///
-    /// Words: [`IsDate`](crate::definitions::calendar#isdate),
-    /// [`HasParts`](crate::definitions::calendar#hasparts), [how to read it](crate::definitions).
-    ///
-    /// </details>
+    /// [Contract](crate::definitions::contracts#calendardatenew)
     #[must_use]
     pub fn new(year: i64, month: u8, day_of_month: u8) -> Option<Self> {
         if matches!(month, 1..=12) && 0 < day_of_month && day_of_month <= days_in_month(year, month)
@@ -138,19 +120,7 @@ impl Date {
     /// assert_eq!(Some(Date::from_day_number(-1)), Date::new(1969, 12, 31));
     /// ```
     ///
-    /// <details><summary>Proved</summary>
-    ///
-    /// Proved of the source in Rattle: each call returns, and then each `ensures` holds.
-    ///
-    /// ```text
-    /// ensures number { number_of result ≡ day }
-    /// ensures only { IsOnly (λ date. number_of date ≡ day) result }
-    /// ```
-    ///
-    /// Words: [`number_of`](crate::definitions::calendar#number_of),
-    /// [`IsOnly`](crate::definitions::integer_core#isonly), [how to read it](crate::definitions).
-    ///
-    /// </details>
+    /// [Contract](crate::definitions::contracts#calendardatefrom_day_number)
     #[must_use]
     pub fn from_day_number(day: i64) -> Self {
         let (march_year, days) = march_year_of_day(day);
@@ -173,18 +143,7 @@ impl Date {
     /// assert_eq!(Date::new(1969, 12, 31).unwrap().day_number(), Some(-1));
     /// ```
     ///
-    /// <details><summary>Proved</summary>
-    ///
-    /// Proved of the source in Rattle: each call returns, and then each `ensures` holds.
-    ///
-    /// ```text
-    /// ensures { SomeIff result (FitsSigned w64 (number_of self.now)) (number_of self.now) }
-    /// ```
-    ///
-    /// Words: [`number_of`](crate::definitions::calendar#number_of),
-    /// [how to read it](crate::definitions).
-    ///
-    /// </details>
+    /// [Contract](crate::definitions::contracts#calendardateday_number)
     #[must_use]
     pub fn day_number(&self) -> Option<i64> {
         at_64_bits(self.wide_day_number())
@@ -200,20 +159,7 @@ impl Date {
     /// assert_eq!(Date::new(2000, 2, 28).unwrap().next(), Date::new(2000, 2, 29));
     /// ```
     ///
-    /// <details><summary>Proved</summary>
-    ///
-    /// Proved of the source in Rattle: each call returns, and then each `ensures` holds.
-    ///
-    /// ```text
-    /// ensures { MatchOption result
-    ///     ((self.now.year ≡ i64.MAX) × (self.now.month ≡ 12) × (self.now.day_of_month ≡ 31))
-    ///     (λ date. number_of date ≡ number_of self.now +ℤ pos 1) }
-    /// ```
-    ///
-    /// Words: [`number_of`](crate::definitions::calendar#number_of),
-    /// [how to read it](crate::definitions).
-    ///
-    /// </details>
+    /// [Contract](crate::definitions::contracts#calendardatenext)
     #[must_use]
     pub fn next(&self) -> Option<Self> {
         let year = self.year;
@@ -249,20 +195,7 @@ impl Date {
     /// assert_eq!(Date::new(1900, 3, 1).unwrap().previous(), Date::new(1900, 2, 28));
     /// ```
     ///
-    /// <details><summary>Proved</summary>
-    ///
-    /// Proved of the source in Rattle: each call returns, and then each `ensures` holds.
-    ///
-    /// ```text
-    /// ensures { MatchOption result
-    ///     ((self.now.year ≡ i64.MIN) × (self.now.month ≡ 1) × (self.now.day_of_month ≡ 1))
-    ///     (λ date. number_of date ≡ number_of self.now -ℤ pos 1) }
-    /// ```
-    ///
-    /// Words: [`number_of`](crate::definitions::calendar#number_of),
-    /// [how to read it](crate::definitions).
-    ///
-    /// </details>
+    /// [Contract](crate::definitions::contracts#calendardateprevious)
     #[must_use]
     pub fn previous(&self) -> Option<Self> {
         let year = self.year;
@@ -298,21 +231,7 @@ impl Date {
     /// assert_eq!(Date::new(2000, 12, 31).unwrap().day_of_year(), 366);
     /// ```
     ///
-    /// <details><summary>Proved</summary>
-    ///
-    /// Proved of the source in Rattle: each call returns, and then each `ensures` holds.
-    ///
-    /// ```text
-    /// ensures day { result ≡ year_day_of self.now }
-    /// ensures from_one { 1 ≤ result }
-    /// ensures to_last { result ≤ days_in_year self.now.year }
-    /// ```
-    ///
-    /// Words: [`year_day_of`](crate::definitions::calendar#year_day_of),
-    /// [`days_in_year`](crate::definitions::calendar#days_in_year),
-    /// [how to read it](crate::definitions).
-    ///
-    /// </details>
+    /// [Contract](crate::definitions::contracts#calendardateday_of_year)
     #[must_use]
     pub fn day_of_year(&self) -> u16 {
         days_before_month(self.year, self.month) + u16::from(self.day_of_month)
@@ -330,20 +249,7 @@ impl Date {
     /// assert_eq!(Date::from_year_day(1900, 366), None);
     /// ```
     ///
-    /// <details><summary>Proved</summary>
-    ///
-    /// Proved of the source in Rattle: each call returns, and then each `ensures` holds.
-    ///
-    /// ```text
-    /// ensures { MatchOption result (¬ ((1 ≤ day_of_year) × (day_of_year ≤ days_in_year year)))
-    ///     (λ date. (date.year ≡ year) × (year_day_of date ≡ day_of_year)) }
-    /// ```
-    ///
-    /// Words: [`days_in_year`](crate::definitions::calendar#days_in_year),
-    /// [`year_day_of`](crate::definitions::calendar#year_day_of),
-    /// [how to read it](crate::definitions).
-    ///
-    /// </details>
+    /// [Contract](crate::definitions::contracts#calendardatefrom_year_day)
     #[must_use]
     pub fn from_year_day(year: i64, day_of_year: u16) -> Option<Self> {
         if 0 < day_of_year && day_of_year <= days_in_year(year) {
@@ -364,21 +270,7 @@ impl Date {
     /// assert_eq!(Date::new(2000, 3, 1).unwrap().plus_days(-1), Date::new(2000, 2, 29));
     /// ```
     ///
-    /// <details><summary>Proved</summary>
-    ///
-    /// Proved of the source in Rattle: each call returns, and then each `ensures` holds.
-    ///
-    /// ```text
-    /// ensures { MatchOption result
-    ///         ((date : Date) → number_of date ≡ number_of self.now +ℤ days → ¬ (FitsSigned w64
-    ///         date.year))
-    ///     (λ date. number_of date ≡ number_of self.now +ℤ days) }
-    /// ```
-    ///
-    /// Words: [`number_of`](crate::definitions::calendar#number_of),
-    /// [how to read it](crate::definitions).
-    ///
-    /// </details>
+    /// [Contract](crate::definitions::contracts#calendardateplus_days)
     #[must_use]
     pub fn plus_days(&self, days: i64) -> Option<Self> {
         let (era, day) = self.day_of_era();

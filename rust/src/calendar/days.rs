@@ -37,36 +37,14 @@ impl Date {
     /// );
     /// ```
     ///
-    /// <details><summary>Proved</summary>
-    ///
-    /// Proved of the source in Rattle: each call returns, and then each `ensures` holds.
-    ///
-    /// ```text
-    /// ensures { result ≡ day_numbers (number_of self) (number_of end) }
-    /// ```
-    ///
-    /// Words: [`day_numbers`](crate::definitions::calendar#day_numbers),
-    /// [`number_of`](crate::definitions::calendar#number_of), [how to read it](crate::definitions).
-    ///
-    /// </details>
+    /// [Contract](crate::definitions::contracts#calendardatedays_until)
     #[must_use]
     pub fn days_until(self, end: Self) -> Days {
         Days { next: self, end }
     }
 }
 
-/// <details><summary>Proved</summary>
-///
-/// Proved of the source in Rattle: what the calls of the trait return.
-///
-/// ```text
-/// ghost next_gives = { YieldsFirstBy number_of (λ s. s) }
-/// ```
-///
-/// Words: [`number_of`](crate::definitions::calendar#number_of),
-/// [how to read it](crate::definitions).
-///
-/// </details>
+/// [Contract](crate::definitions::contracts#iterator-for-calendardays)
 impl Iterator for Days {
     type Item = Date;
 

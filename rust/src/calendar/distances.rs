@@ -19,20 +19,7 @@ impl Date {
     /// assert_eq!(Date::new(2000, 1, 31).unwrap().plus_months(1), Date::new(2000, 2, 29));
     /// ```
     ///
-    /// <details><summary>Proved</summary>
-    ///
-    /// Proved of the source in Rattle: each call returns, and then each `ensures` holds.
-    ///
-    /// ```text
-    /// ensures { MatchOption result
-    ///     ((date : Date) → IsMonthsAfter self.now months date → ¬ (FitsSigned w64 date.year))
-    ///     (λ date. IsMonthsAfter self.now months date) }
-    /// ```
-    ///
-    /// Words: [`IsMonthsAfter`](crate::definitions::calendar#ismonthsafter),
-    /// [how to read it](crate::definitions).
-    ///
-    /// </details>
+    /// [Contract](crate::definitions::contracts#calendardateplus_months)
     #[must_use]
     pub fn plus_months(&self, months: i64) -> Option<Self> {
         let (year, month) = month_of(self.month_number() + i128::from(months))?;
@@ -60,19 +47,7 @@ impl Date {
 /// assert_eq!(days_between(&Date::from_day_number(5), &Date::from_day_number(3)), Some(-2));
 /// ```
 ///
-/// <details><summary>Proved</summary>
-///
-/// Proved of the source in Rattle: each call returns, and then each `ensures` holds.
-///
-/// ```text
-/// ensures { SomeIff result (FitsSigned w64 (number_of to.now -ℤ number_of from.now))
-///     (number_of to.now -ℤ number_of from.now) }
-/// ```
-///
-/// Words: [`number_of`](crate::definitions::calendar#number_of),
-/// [how to read it](crate::definitions).
-///
-/// </details>
+/// [Contract](crate::definitions::contracts#calendardays_between)
 #[must_use]
 pub fn days_between(from: &Date, to: &Date) -> Option<i64> {
     at_64_bits(to.wide_day_number() - from.wide_day_number())
@@ -93,20 +68,7 @@ pub fn days_between(from: &Date, to: &Date) -> Option<i64> {
 /// );
 /// ```
 ///
-/// <details><summary>Proved</summary>
-///
-/// Proved of the source in Rattle: each call returns, and then each `ensures` holds.
-///
-/// ```text
-/// ensures { MatchOption result
-///     ((months : ℤ) × IsMonthsBetween from.now to.now months × ¬ (FitsSigned w64 months))
-///     (λ months. IsMonthsBetween from.now to.now months) }
-/// ```
-///
-/// Words: [`IsMonthsBetween`](crate::definitions::calendar#ismonthsbetween),
-/// [how to read it](crate::definitions).
-///
-/// </details>
+/// [Contract](crate::definitions::contracts#calendarmonths_between)
 #[must_use]
 pub fn months_between(from: &Date, to: &Date) -> Option<i64> {
     at_64_bits(whole_months(from, to))
@@ -127,20 +89,7 @@ pub fn months_between(from: &Date, to: &Date) -> Option<i64> {
 /// );
 /// ```
 ///
-/// <details><summary>Proved</summary>
-///
-/// Proved of the source in Rattle: each call returns, and then each `ensures` holds.
-///
-/// ```text
-/// ensures { MatchOption result
-///     ((years : ℤ) × IsYearsBetween from.now to.now years × ¬ (FitsSigned w64 years))
-///     (λ years. IsYearsBetween from.now to.now years) }
-/// ```
-///
-/// Words: [`IsYearsBetween`](crate::definitions::calendar#isyearsbetween),
-/// [how to read it](crate::definitions).
-///
-/// </details>
+/// [Contract](crate::definitions::contracts#calendaryears_between)
 #[must_use]
 pub fn years_between(from: &Date, to: &Date) -> Option<i64> {
     at_64_bits(div_floor(whole_months(from, to), 12))

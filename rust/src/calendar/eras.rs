@@ -27,6 +27,7 @@ const MARCH_YEAR_BEFORE_EPOCH: i64 = 1600;
 const DAYS_TO_EPOCH: u32 = 135080;
 
 /// Returns the era of a year, and how many years of the era come before the year.
+#[track_caller]
 pub(crate) fn era_of_year(year: i64) -> (i64, u32) {
     groups_and_rest(year, YEARS_PER_ERA)
 }
@@ -37,6 +38,7 @@ pub(crate) fn eras_in_days(days: i64) -> (i64, u32) {
 }
 
 /// Returns the quotient of `n` by `size`, rounded down, and the remainder.
+#[track_caller]
 fn groups_and_rest(n: i64, size: u32) -> (i64, u32) {
     let (groups, rest) = div_mod_floor(n, i64::from(size));
     (groups, rest as u32)

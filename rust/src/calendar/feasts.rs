@@ -15,21 +15,7 @@ use crate::integer_core::{div_floor, mod_floor};
 /// assert_eq!(Some(easter(2024)), Date::new(2024, 3, 31));
 /// ```
 ///
-/// <details><summary>Proved</summary>
-///
-/// Proved of the source in Rattle: each call returns, and then each `ensures` holds.
-///
-/// ```text
-/// ensures year { result.year ≡ year }
-/// ensures easter { IsEaster year (number_of result) }
-/// ensures season { ((result.month ≡ 3) × (22 ≤ result.day_of_month))
-///     ⊎ ((result.month ≡ 4) × (result.day_of_month ≤ 25)) }
-/// ```
-///
-/// Words: [`IsEaster`](crate::definitions::calendar#iseaster),
-/// [`number_of`](crate::definitions::calendar#number_of), [how to read it](crate::definitions).
-///
-/// </details>
+/// [Contract](crate::definitions::contracts#calendareaster)
 #[must_use]
 pub fn easter(year: i64) -> Date {
     let full_moon = paschal_full_moon(year);

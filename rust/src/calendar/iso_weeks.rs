@@ -35,19 +35,7 @@ impl IsoWeek {
     /// assert_eq!(IsoWeek::new(2005, 53), None);
     /// ```
     ///
-    /// <details><summary>Proved</summary>
-    ///
-    /// Proved of the source in Rattle: each call returns, and then each `ensures` holds.
-    ///
-    /// ```text
-    /// ensures { MatchOption result (¬ (HasIsoWeek year week))
-    ///     (λ found. HasIsoWeek year week × (found.year ≡ year) × (found.week ≡ week)) }
-    /// ```
-    ///
-    /// Words: [`HasIsoWeek`](crate::definitions::calendar#hasisoweek),
-    /// [how to read it](crate::definitions).
-    ///
-    /// </details>
+    /// [Contract](crate::definitions::contracts#calendarisoweeknew)
     #[must_use]
     pub fn new(year: i64, week: u8) -> Option<Self> {
         if is_in_year(year, days_to_thursday_of_week(year, week)) {
@@ -71,22 +59,7 @@ impl IsoWeek {
     /// );
     /// ```
     ///
-    /// <details><summary>Proved</summary>
-    ///
-    /// Proved of the source in Rattle: each call returns, and then each `ensures` holds.
-    ///
-    /// ```text
-    /// ensures { MatchOption result
-    ///     ((day y : ℤ) → IsDayOfIsoWeek day self.now.year self.now.week weekday → HasDay y day
-    ///     → ¬ (FitsSigned w64 y))
-    ///     (λ date. IsDayOfIsoWeek (number_of date) self.now.year self.now.week weekday) }
-    /// ```
-    ///
-    /// Words: [`IsDayOfIsoWeek`](crate::definitions::calendar#isdayofisoweek),
-    /// [`HasDay`](crate::definitions::calendar#hasday),
-    /// [`number_of`](crate::definitions::calendar#number_of), [how to read it](crate::definitions).
-    ///
-    /// </details>
+    /// [Contract](crate::definitions::contracts#calendarisoweekdate_on)
     #[must_use]
     pub fn date_on(&self, weekday: Weekday) -> Option<Date> {
         Date::from_iso_week(self.year, self.week, weekday)
@@ -108,23 +81,7 @@ impl Date {
     /// );
     /// ```
     ///
-    /// <details><summary>Proved</summary>
-    ///
-    /// Proved of the source in Rattle: each call returns, and then each `ensures` holds.
-    ///
-    /// ```text
-    /// ensures week { MatchOption result
-    ///         ((year : ℤ) (week : ℕ) → IsInIsoWeek (number_of self.now) year week → ¬ (FitsSigned
-    ///         w64 year))
-    ///     (λ found. IsInIsoWeek (number_of self.now) found.year found.week) }
-    /// ensures from_one { IfSome result (λ found. 1 ≤ found.week) }
-    /// ensures to_53 { IfSome result (λ found. found.week ≤ 53) }
-    /// ```
-    ///
-    /// Words: [`IsInIsoWeek`](crate::definitions::calendar#isinisoweek),
-    /// [`number_of`](crate::definitions::calendar#number_of), [how to read it](crate::definitions).
-    ///
-    /// </details>
+    /// [Contract](crate::definitions::contracts#calendardateiso_week)
     #[must_use]
     pub fn iso_week(&self) -> Option<IsoWeek> {
         let (year, days) = nearby_year(self.year, days_to_thursday_of_date(self))?;
@@ -145,22 +102,7 @@ impl Date {
     /// assert_eq!(Date::from_iso_week(2009, 53, Weekday::Sunday), Date::new(2010, 1, 3));
     /// ```
     ///
-    /// <details><summary>Proved</summary>
-    ///
-    /// Proved of the source in Rattle: each call returns, and then each `ensures` holds.
-    ///
-    /// ```text
-    /// ensures { MatchOption result
-    ///         ((day y : ℤ) → IsDayOfIsoWeek day year week weekday → HasDay y day → ¬ (FitsSigned
-    ///         w64 y))
-    ///     (λ date. IsDayOfIsoWeek (number_of date) year week weekday) }
-    /// ```
-    ///
-    /// Words: [`IsDayOfIsoWeek`](crate::definitions::calendar#isdayofisoweek),
-    /// [`HasDay`](crate::definitions::calendar#hasday),
-    /// [`number_of`](crate::definitions::calendar#number_of), [how to read it](crate::definitions).
-    ///
-    /// </details>
+    /// [Contract](crate::definitions::contracts#calendardatefrom_iso_week)
     #[must_use]
     pub fn from_iso_week(year: i64, week: u8, weekday: Weekday) -> Option<Self> {
         let thursday = days_to_thursday_of_week(year, week);
@@ -182,20 +124,7 @@ impl Date {
 /// assert_eq!(weeks_in_year(2004), 53);
 /// ```
 ///
-/// <details><summary>Proved</summary>
-///
-/// Proved of the source in Rattle: each call returns, and then each `ensures` holds.
-///
-/// ```text
-/// ensures weeks { HasIsoWeeks year result }
-/// ensures from_52 { 52 ≤ result }
-/// ensures to_53 { result ≤ 53 }
-/// ```
-///
-/// Words: [`HasIsoWeeks`](crate::definitions::calendar#hasisoweeks),
-/// [how to read it](crate::definitions).
-///
-/// </details>
+/// [Contract](crate::definitions::contracts#calendarweeks_in_year)
 #[must_use]
 pub fn weeks_in_year(year: i64) -> u8 {
     if is_in_year(year, days_to_thursday_of_week(year, 53)) {
@@ -219,12 +148,13 @@ fn days_since_monday(date: &Date) -> i64 {
 
 /// Returns the number of days from 1 January to the Thursday of the week. The year may be too short
 /// to have that week.
+#[track_caller]
 fn days_to_thursday_of_week(year: i64, week: u8) -> i64 {
     days_to_first_thursday(year) + 7 * (i64::from(week) - 1)
 }
 
-/// Returns the number of days from 1 January to the first Thursday of the year. The contract counts
-/// from 1970-01-01, day 0, which is a Thursday.
+/// Returns the number of days from 1 January to the first Thursday of the year.
+#[track_caller]
 fn days_to_first_thursday(year: i64) -> i64 {
     // 1 March of the first year of an era is a Wednesday.
     let (_, year_of_era) = era_of_year(year);

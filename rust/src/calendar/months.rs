@@ -3,10 +3,11 @@
 
 use crate::calendar::eras::{days_of_months, month_and_day, DAYS_FROM_MARCH};
 use crate::calendar::{days_in_year, is_leap_year};
+use crate::integer_core::guards::check;
 
 /// Returns how many days the month has.
 ///
-/// May be called if `month` is from 1 (January) to 12.
+/// Month 1 is January.
 ///
 /// # Examples
 ///
@@ -18,30 +19,14 @@ use crate::calendar::{days_in_year, is_leap_year};
 ///
 /// # Panics
 ///
-/// If `month` is 0, or if `month` is above 12.
+/// If `month` is 0 or above 12.
 ///
-/// <details><summary>Proved</summary>
-///
-/// Proved of the source in Rattle: if each `requires` holds, the call returns, and then each
-/// `ensures` holds.
-///
-/// ```text
-/// requires from_one { 1 ≤ month }
-/// requires to_twelve { month ≤ 12 }
-/// ensures days { result ≡ days_in_month year month }
-/// ensures from_28 { 28 ≤ result }
-/// ensures to_31 { result ≤ 31 }
-/// ```
-///
-/// Words: [`days_in_month`](crate::definitions::calendar#days_in_month),
-/// [how to read it](crate::definitions).
-///
-/// </details>
+/// [Contract](crate::definitions::contracts#calendardays_in_month)
 #[track_caller]
 #[must_use]
 pub fn days_in_month(year: i64, month: u8) -> u8 {
-    assert!(month >= 1, "no month has the number 0");
-    assert!(month <= 12, "no month has a number above 12");
+    check(month >= 1, "no month has the number 0");
+    check(month <= 12, "no month has a number above 12");
     if month == 2 {
         if is_leap_year(year) {
             29

@@ -4,6 +4,7 @@
 use crate::calendar::{Date, IsoWeek};
 #[cfg(has_error)]
 use crate::errors::Error;
+use crate::integer_core::padded::Text;
 use core::fmt;
 use core::str::FromStr;
 
@@ -19,21 +20,10 @@ use core::str::FromStr;
 #[derive(Debug, Clone, Copy, PartialEq, Eq)]
 pub struct DateError;
 
-/// <details><summary>Proved</summary>
-///
-/// Proved of the source in Rattle: what the calls of the trait return.
-///
-/// ```text
-/// ghost output = { λ _. Some error_text }
-/// ```
-///
-/// Words: [`error_text`](crate::definitions::calendar#error_text),
-/// [how to read it](crate::definitions).
-///
-/// </details>
+/// [Contract](crate::definitions::contracts#display-for-calendardateerror)
 impl fmt::Display for DateError {
     fn fmt(&self, f: &mut fmt::Formatter<'_>) -> fmt::Result {
-        crate::padded::pad(f, |f| f.write_str("not the text of a date"))
+        f.pad("not the text of a date")
     }
 }
 
@@ -51,23 +41,17 @@ impl Error for DateError {}
 /// assert_eq!(Date::new(10000, 1, 1).unwrap().to_string(), "+10000-01-01");
 /// ```
 ///
-/// <details><summary>Proved</summary>
-///
-/// Proved of the source in Rattle: what the calls of the trait return.
-///
-/// ```text
-/// ghost output = { λ date. Some (text_of date) }
-/// ```
-///
-/// Words: [`text_of`](crate::definitions::calendar#text_of), [how to read it](crate::definitions).
-///
-/// </details>
+/// [Contract](crate::definitions::contracts#display-for-calendardate)
 impl fmt::Display for Date {
     fn fmt(&self, f: &mut fmt::Formatter<'_>) -> fmt::Result {
-        crate::padded::pad(f, |f| {
-            write_year(self.year, f)?;
-            write!(f, "-{:02}-{:02}", self.month, self.day_of_month)
-        })
+        self.pad(f)
+    }
+}
+
+impl Text for Date {
+    fn write_to<W: fmt::Write>(&self, f: &mut W) -> fmt::Result {
+        write_year(self.year, f)?;
+        write!(f, "-{:02}-{:02}", self.month, self.day_of_month)
     }
 }
 
@@ -81,29 +65,22 @@ impl fmt::Display for Date {
 /// assert_eq!(IsoWeek { year: 2004, week: 53 }.to_string(), "2004-W53");
 /// ```
 ///
-/// <details><summary>Proved</summary>
-///
-/// Proved of the source in Rattle: what the calls of the trait return.
-///
-/// ```text
-/// ghost output = { λ week. Some (week_text week) }
-/// ```
-///
-/// Words: [`week_text`](crate::definitions::calendar#week_text),
-/// [how to read it](crate::definitions).
-///
-/// </details>
+/// [Contract](crate::definitions::contracts#display-for-calendarisoweek)
 impl fmt::Display for IsoWeek {
     fn fmt(&self, f: &mut fmt::Formatter<'_>) -> fmt::Result {
-        crate::padded::pad(f, |f| {
-            write_year(self.year, f)?;
-            write!(f, "-W{:02}", self.week)
-        })
+        self.pad(f)
+    }
+}
+
+impl Text for IsoWeek {
+    fn write_to<W: fmt::Write>(&self, f: &mut W) -> fmt::Result {
+        write_year(self.year, f)?;
+        write!(f, "-W{:02}", self.week)
     }
 }
 
 /// Prints the year with at least four digits. A year outside 0 to 9999 has a sign.
-fn write_year(year: i64, f: &mut dyn fmt::Write) -> fmt::Result {
+fn write_year<W: fmt::Write>(year: i64, f: &mut W) -> fmt::Result {
     match year {
         0..=9999 => write!(f, "{year:04}"),
         _ => write!(f, "{year:+05}"),
@@ -123,21 +100,9 @@ fn write_year(year: i64, f: &mut dyn fmt::Write) -> fmt::Result {
 ///
 /// # Errors
 ///
-/// - [`DateError`](crate::calendar::DateError) if the string is not the one that `Display` writes
-///   of a date.
+/// - [`DateError`] if the string is not the one that `Display` writes of a date.
 ///
-/// <details><summary>Proved</summary>
-///
-/// Proved of the source in Rattle: what the calls of the trait return.
-///
-/// ```text
-/// ghost from_str_gives = { λ text result. (date : Date) → FitsSigned w64 date.year → (result ≡ Ok
-///     date) ↔ (text ≡ text_of date) }
-/// ```
-///
-/// Words: [`text_of`](crate::definitions::calendar#text_of), [how to read it](crate::definitions).
-///
-/// </details>
+/// [Contract](crate::definitions::contracts#fromstr-for-calendardate)
 impl FromStr for Date {
     type Err = DateError;
 
@@ -156,7 +121,11 @@ fn parse_date(text: &str) -> Option<Date> {
 /// Splits a hyphen and two digits off the end of the string. Returns the rest and the number, or
 /// `None` if the string does not end so.
 fn split_last_two_digits(text: &str) -> Option<(&str, u8)> {
-    let (front, last) = crate::strings::split_at_checked(text, text.len().saturating_sub(3))?;
+    let place = text.len().saturating_sub(3);
+    if !text.is_char_boundary(place) {
+        return None;
+    }
+    let (front, last) = text.split_at(place);
     let [b'-', tens @ b'0'..=b'9', ones @ b'0'..=b'9'] = last.as_bytes() else {
         return None;
     };

@@ -8,6 +8,14 @@ use core::fmt::{self, Write};
 use core::str::FromStr;
 
 /// A string that is not the one that `Display` writes of a week.
+///
+/// # Examples
+///
+/// ```
+/// use cellarcove::calendar::{IsoWeek, IsoWeekError};
+///
+/// assert_eq!("2005-W53".parse::<IsoWeek>(), Err(IsoWeekError));
+/// ```
 #[derive(Debug, Clone, Copy, PartialEq, Eq)]
 pub struct IsoWeekError;
 
@@ -20,22 +28,21 @@ impl fmt::Display for IsoWeekError {
 #[cfg(has_error)]
 impl Error for IsoWeekError {}
 
-/// # Errors
-///
-/// [`IsoWeekError`] if the string is not the one that `Display` writes of a week of its year.
-///
 /// # Examples
 ///
 /// ```
-/// use cellarcove::calendar::{IsoWeek, IsoWeekError};
+/// use cellarcove::calendar::IsoWeek;
 ///
 /// assert_eq!("2004-W53".parse::<IsoWeek>().ok(), IsoWeek::new(2004, 53));
-/// assert_eq!("2005-W53".parse::<IsoWeek>(), Err(IsoWeekError));
 /// ```
+///
+/// # Errors
+///
+/// [`IsoWeekError`] if the string is not the one that `Display` writes of a week of its year.
 impl FromStr for IsoWeek {
     type Err = IsoWeekError;
 
-    fn from_str(string: &str) -> Result<Self, IsoWeekError> {
+    fn from_str(string: &str) -> Result<IsoWeek, IsoWeekError> {
         read_week(string).ok_or(IsoWeekError)
     }
 }

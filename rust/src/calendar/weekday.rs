@@ -46,20 +46,7 @@ impl Weekday {
     /// assert_eq!(Weekday::Sunday.iso_number(), 7);
     /// ```
     ///
-    /// <details><summary>Proved</summary>
-    ///
-    /// Proved of the source in Rattle: each call returns, and then each `ensures` holds.
-    ///
-    /// ```text
-    /// ensures number { result ≡ iso_number self }
-    /// ensures from_one { 1 ≤ result }
-    /// ensures to_seven { result ≤ 7 }
-    /// ```
-    ///
-    /// Words: [`iso_number`](crate::definitions::calendar#iso_number),
-    /// [how to read it](crate::definitions).
-    ///
-    /// </details>
+    /// [Contract](crate::definitions::contracts#calendarweekdayiso_number)
     #[must_use]
     pub fn iso_number(self) -> u8 {
         (self.days_after_sunday() + 6) % 7 + 1
@@ -76,19 +63,7 @@ impl Weekday {
     /// assert_eq!(Weekday::from_iso_number(7), Some(Weekday::Sunday));
     /// ```
     ///
-    /// <details><summary>Proved</summary>
-    ///
-    /// Proved of the source in Rattle: each call returns, and then each `ensures` holds.
-    ///
-    /// ```text
-    /// ensures { MatchOption result (¬ ((1 ≤ number) × (number ≤ 7)))
-    ///     (λ weekday. iso_number weekday ≡ number) }
-    /// ```
-    ///
-    /// Words: [`iso_number`](crate::definitions::calendar#iso_number),
-    /// [how to read it](crate::definitions).
-    ///
-    /// </details>
+    /// [Contract](crate::definitions::contracts#calendarweekdayfrom_iso_number)
     #[must_use]
     pub fn from_iso_number(number: u8) -> Option<Self> {
         match number {
@@ -134,21 +109,10 @@ impl Weekday {
 #[derive(Debug, Clone, Copy, PartialEq, Eq)]
 pub struct WeekdayError;
 
-/// <details><summary>Proved</summary>
-///
-/// Proved of the source in Rattle: what the calls of the trait return.
-///
-/// ```text
-/// ghost output = { λ _. Some weekday_error_text }
-/// ```
-///
-/// Words: [`weekday_error_text`](crate::definitions::calendar#weekday_error_text),
-/// [how to read it](crate::definitions).
-///
-/// </details>
+/// [Contract](crate::definitions::contracts#display-for-calendarweekdayerror)
 impl fmt::Display for WeekdayError {
     fn fmt(&self, f: &mut fmt::Formatter<'_>) -> fmt::Result {
-        crate::padded::pad(f, |f| f.write_str("not the name of a day of the week"))
+        f.pad("not the name of a day of the week")
     }
 }
 
@@ -165,18 +129,7 @@ impl Error for WeekdayError {}
 /// assert_eq!(Weekday::Monday.to_string(), "Monday");
 /// ```
 ///
-/// <details><summary>Proved</summary>
-///
-/// Proved of the source in Rattle: what the calls of the trait return.
-///
-/// ```text
-/// ghost output = { λ weekday. Some (weekday_name weekday) }
-/// ```
-///
-/// Words: [`weekday_name`](crate::definitions::calendar#weekday_name),
-/// [how to read it](crate::definitions).
-///
-/// </details>
+/// [Contract](crate::definitions::contracts#display-for-calendarweekday)
 impl fmt::Display for Weekday {
     fn fmt(&self, f: &mut fmt::Formatter<'_>) -> fmt::Result {
         f.pad(self.name())
@@ -195,22 +148,9 @@ impl fmt::Display for Weekday {
 ///
 /// # Errors
 ///
-/// - [`WeekdayError`](crate::calendar::WeekdayError) if the string is not the English name of a day
-///   of the week.
+/// - [`WeekdayError`] if the string is not the English name of a day of the week.
 ///
-/// <details><summary>Proved</summary>
-///
-/// Proved of the source in Rattle: what the calls of the trait return.
-///
-/// ```text
-/// ghost from_str_gives = { λ text result. IfOk result (λ weekday. text ≡ weekday_name weekday) ×
-///     IfErr result (λ _. (weekday : _) → text ≢ weekday_name weekday) }
-/// ```
-///
-/// Words: [`weekday_name`](crate::definitions::calendar#weekday_name),
-/// [how to read it](crate::definitions).
-///
-/// </details>
+/// [Contract](crate::definitions::contracts#fromstr-for-calendarweekday)
 impl FromStr for Weekday {
     type Err = WeekdayError;
 
@@ -239,18 +179,7 @@ impl Date {
     /// assert_eq!(Date::new(2000, 2, 29).unwrap().weekday(), Weekday::Tuesday);
     /// ```
     ///
-    /// <details><summary>Proved</summary>
-    ///
-    /// Proved of the source in Rattle: each call returns, and then each `ensures` holds.
-    ///
-    /// ```text
-    /// ensures { HasWeekday (number_of self.now) result }
-    /// ```
-    ///
-    /// Words: [`HasWeekday`](crate::definitions::calendar#hasweekday),
-    /// [`number_of`](crate::definitions::calendar#number_of), [how to read it](crate::definitions).
-    ///
-    /// </details>
+    /// [Contract](crate::definitions::contracts#calendardateweekday)
     #[must_use]
     pub fn weekday(&self) -> Weekday {
         // An era is a whole number of weeks, and its day 0 is a Tuesday.
@@ -269,20 +198,7 @@ impl Date {
 /// assert_eq!(weekday_of(-1), Weekday::Wednesday);
 /// ```
 ///
-/// <details><summary>Proved</summary>
-///
-/// Proved of the source in Rattle: each call returns, and then each `ensures` holds.
-///
-/// ```text
-/// ensures { IsRemainder IsFloored (day +ℤ pos 4) (pos 7) (pos (weekday_number result)) }
-/// ```
-///
-/// Words: [`IsRemainder`](crate::definitions::integer_core#isremainder),
-/// [`IsFloored`](crate::definitions::integer_core#isfloored),
-/// [`weekday_number`](crate::definitions::calendar#weekday_number),
-/// [how to read it](crate::definitions).
-///
-/// </details>
+/// [Contract](crate::definitions::contracts#calendarweekday_of)
 #[must_use]
 pub fn weekday_of(day: i64) -> Weekday {
     weekday_after_sunday(mod_floor(day, 7) as u32 + 4)

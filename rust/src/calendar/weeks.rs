@@ -16,20 +16,7 @@ use crate::calendar::{weekday_of, Date, Weekday};
 /// assert_eq!(first_weekday_on_or_after(3, Weekday::Sunday), Some(3));
 /// ```
 ///
-/// <details><summary>Proved</summary>
-///
-/// Proved of the source in Rattle: each call returns, and then each `ensures` holds.
-///
-/// ```text
-/// ensures { MatchOption result
-///     ((first : ℤ) → IsFirstWeekday day weekday first → ¬ (FitsSigned w64 first))
-///     (λ first. IsFirstWeekday day weekday first) }
-/// ```
-///
-/// Words: [`IsFirstWeekday`](crate::definitions::calendar#isfirstweekday),
-/// [how to read it](crate::definitions).
-///
-/// </details>
+/// [Contract](crate::definitions::contracts#calendarfirst_weekday_on_or_after)
 #[must_use]
 pub fn first_weekday_on_or_after(day: i64, weekday: Weekday) -> Option<i64> {
     day.checked_add(i64::from(weekday_of(day).days_until(weekday)))
@@ -47,20 +34,7 @@ pub fn first_weekday_on_or_after(day: i64, weekday: Weekday) -> Option<i64> {
 /// assert_eq!(last_weekday_on_or_before(3, Weekday::Sunday), Some(3));
 /// ```
 ///
-/// <details><summary>Proved</summary>
-///
-/// Proved of the source in Rattle: each call returns, and then each `ensures` holds.
-///
-/// ```text
-/// ensures { MatchOption result
-///     ((last : ℤ) → IsLastWeekday day weekday last → ¬ (FitsSigned w64 last))
-///     (λ last. IsLastWeekday day weekday last) }
-/// ```
-///
-/// Words: [`IsLastWeekday`](crate::definitions::calendar#islastweekday),
-/// [how to read it](crate::definitions).
-///
-/// </details>
+/// [Contract](crate::definitions::contracts#calendarlast_weekday_on_or_before)
 #[must_use]
 pub fn last_weekday_on_or_before(day: i64, weekday: Weekday) -> Option<i64> {
     day.checked_sub(i64::from(weekday.days_until(weekday_of(day))))
@@ -77,20 +51,7 @@ pub fn last_weekday_on_or_before(day: i64, weekday: Weekday) -> Option<i64> {
 /// assert_eq!(nth_weekday_of_month(2026, 11, Weekday::Thursday, 4), Date::new(2026, 11, 26));
 /// ```
 ///
-/// <details><summary>Proved</summary>
-///
-/// Proved of the source in Rattle: each call returns, and then each `ensures` holds.
-///
-/// ```text
-/// ensures { MatchOption result
-///     ((date : Date) → ¬ (IsNthWeekday year month weekday n date))
-///     (λ date. IsNthWeekday year month weekday n date) }
-/// ```
-///
-/// Words: [`IsNthWeekday`](crate::definitions::calendar#isnthweekday),
-/// [how to read it](crate::definitions).
-///
-/// </details>
+/// [Contract](crate::definitions::contracts#calendarnth_weekday_of_month)
 #[must_use]
 pub fn nth_weekday_of_month(year: i64, month: u8, weekday: Weekday, n: u8) -> Option<Date> {
     let first = Date::new(year, month, 1)?;
@@ -111,19 +72,7 @@ pub fn nth_weekday_of_month(year: i64, month: u8, weekday: Weekday, n: u8) -> Op
 /// assert_eq!(last_weekday_of_month(2026, 10, Weekday::Friday), Date::new(2026, 10, 30));
 /// ```
 ///
-/// <details><summary>Proved</summary>
-///
-/// Proved of the source in Rattle: each call returns, and then each `ensures` holds.
-///
-/// ```text
-/// ensures { MatchOption result (¬ ((1 ≤ month) × (month ≤ 12)))
-///     (λ date. IsLastWeekdayOfMonth year month weekday date) }
-/// ```
-///
-/// Words: [`IsLastWeekdayOfMonth`](crate::definitions::calendar#islastweekdayofmonth),
-/// [how to read it](crate::definitions).
-///
-/// </details>
+/// [Contract](crate::definitions::contracts#calendarlast_weekday_of_month)
 #[must_use]
 pub fn last_weekday_of_month(year: i64, month: u8, weekday: Weekday) -> Option<Date> {
     match month {
@@ -146,20 +95,7 @@ pub fn last_weekday_of_month(year: i64, month: u8, weekday: Weekday) -> Option<D
 /// );
 /// ```
 ///
-/// <details><summary>Proved</summary>
-///
-/// Proved of the source in Rattle: each call returns, and then each `ensures` holds.
-///
-/// ```text
-/// ensures { MatchOption result
-///     ((date : Date) → IsNextLastWeekday after.now weekday date → ¬ (FitsSigned w64 date.year))
-///     (λ date. IsNextLastWeekday after.now weekday date) }
-/// ```
-///
-/// Words: [`IsNextLastWeekday`](crate::definitions::calendar#isnextlastweekday),
-/// [how to read it](crate::definitions).
-///
-/// </details>
+/// [Contract](crate::definitions::contracts#calendarnext_last_weekday)
 #[must_use]
 pub fn next_last_weekday(after: &Date, weekday: Weekday) -> Option<Date> {
     let of_this_month = last_weekday(after.year, after.month, weekday);

@@ -15,18 +15,7 @@ use crate::integer_core::Integer;
 /// assert!(is_leap_year(0));
 /// ```
 ///
-/// <details><summary>Proved</summary>
-///
-/// Proved of the source in Rattle: each call returns, and then each `ensures` holds.
-///
-/// ```text
-/// ensures { result ≡ is_leap_year year }
-/// ```
-///
-/// Words: [`is_leap_year`](crate::definitions::calendar#is_leap_year),
-/// [how to read it](crate::definitions).
-///
-/// </details>
+/// [Contract](crate::definitions::contracts#calendaris_leap_year)
 #[must_use]
 pub fn is_leap_year(year: i64) -> bool {
     // A multiple of 4 is a multiple of 100 if 25 divides it, and a multiple of 100 one of 400 if 16
@@ -53,20 +42,7 @@ fn is_multiple(year: i64, number: u16) -> bool {
 /// assert_eq!(days_in_year(1900), 365);
 /// ```
 ///
-/// <details><summary>Proved</summary>
-///
-/// Proved of the source in Rattle: each call returns, and then each `ensures` holds.
-///
-/// ```text
-/// ensures days { result ≡ days_in_year year }
-/// ensures from_365 { 365 ≤ result }
-/// ensures to_366 { result ≤ 366 }
-/// ```
-///
-/// Words: [`days_in_year`](crate::definitions::calendar#days_in_year),
-/// [how to read it](crate::definitions).
-///
-/// </details>
+/// [Contract](crate::definitions::contracts#calendardays_in_year)
 #[must_use]
 pub fn days_in_year(year: i64) -> u16 {
     if is_leap_year(year) {
@@ -77,11 +53,13 @@ pub fn days_in_year(year: i64) -> u16 {
 }
 
 /// Returns how many days the year has, as an `i64`.
+#[track_caller]
 fn length_of(year: i64) -> i64 {
     i64::from(days_in_year(year))
 }
 
 /// Returns `true` if the day `days` days after 1 January of the year is in the same year.
+#[track_caller]
 pub(crate) fn is_in_year(year: i64, days: i64) -> bool {
     0 <= days && (days < 365 || days < length_of(year))
 }

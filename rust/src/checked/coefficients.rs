@@ -4,7 +4,7 @@
 use crate::checked::operators::{inc, product, sum};
 use crate::coefficients::{nearer_end, next_factors, positive_quotient};
 use crate::domains::Fits;
-use crate::integer_core::operators::successor;
+use crate::integer_core::operators::{is_below, is_negative, one, successor, zero};
 use crate::rows::IterBinomial;
 
 /// Returns [`binomial`](crate::binomial), the binomial coefficient of `n` and `k`, or `None` if a
@@ -19,35 +19,19 @@ use crate::rows::IterBinomial;
 /// assert_eq!(binomial(11u8, 4), None);
 /// ```
 ///
-/// <details><summary>Proved</summary>
-///
-/// Proved of the source in Rattle: each call returns, and then each `ensures` holds.
-///
-/// ```text
-/// ensures { AnswersWhere
-///     ((pos 0 ≤ℤ T.value n) × (pos 0 ≤ℤ T.value k)
-///     × T.fits (coefficient_of (T.value n) (T.value k)))
-///     (λ c. T.fits (T.value c) × (T.value c ≡ coefficient_of (T.value n) (T.value k)))
-///     result }
-/// ```
-///
-/// Words: [`AnswersWhere`](crate::definitions::integer_core#answerswhere),
-/// [`coefficient_of`](crate::definitions::num_integer#coefficient_of),
-/// [how to read it](crate::definitions).
-///
-/// </details>
+/// [Contract](crate::definitions::contracts#checkedbinomial)
 #[must_use]
 pub fn binomial<T: Fits>(n: T, k: T) -> Option<T> {
-    if n < T::zero() || k < T::zero() {
+    if is_negative(n) || is_negative(k) {
         return None;
     }
-    if n < k {
-        return Some(T::zero());
+    if is_below(n, k) {
+        return Some(zero());
     }
     let last = nearer_end(n, k);
-    let mut coefficient = T::one();
-    let mut place = T::zero();
-    while place < last {
+    let mut coefficient = one();
+    let mut place = zero();
+    while is_below(place, last) {
         let (x, y) = next_factors(coefficient, n, place);
         coefficient = product(x, y)?;
         place = successor(place);
@@ -67,30 +51,13 @@ pub fn binomial<T: Fits>(n: T, k: T) -> Option<T> {
 /// assert_eq!(multinomial(&[255u8, 1]), None);
 /// ```
 ///
-/// <details><summary>Proved</summary>
-///
-/// Proved of the source in Rattle: each call returns, and then each `ensures` holds.
-///
-/// ```text
-/// ensures { AnswersWhere
-///     (All (λ x. pos 0 ≤ℤ T.value x) k.now
-///     × EachFits T.fits (IsMultinomial (map T.value k.now)))
-///     (λ m. T.fits (T.value m) × IsMultinomial (map T.value k.now) (T.value m))
-///     result }
-/// ```
-///
-/// Words: [`AnswersWhere`](crate::definitions::integer_core#answerswhere),
-/// [`EachFits`](crate::definitions::integer_core#eachfits),
-/// [`IsMultinomial`](crate::definitions::num_integer#ismultinomial),
-/// [how to read it](crate::definitions).
-///
-/// </details>
+/// [Contract](crate::definitions::contracts#checkedmultinomial)
 #[must_use]
 pub fn multinomial<T: Fits>(k: &[T]) -> Option<T> {
-    let mut multinomial = T::one();
-    let mut total = T::zero();
+    let mut multinomial = one();
+    let mut total = zero();
     for count in k {
-        if *count < T::zero() {
+        if is_negative(*count) {
             return None;
         }
         total = sum(total, *count)?;
@@ -111,22 +78,7 @@ pub fn multinomial<T: Fits>(k: &[T]) -> Option<T> {
 /// assert!(!row(11u8).is_some());
 /// ```
 ///
-/// <details><summary>Proved</summary>
-///
-/// Proved of the source in Rattle: each call returns, and then each `ensures` holds.
-///
-/// ```text
-/// ensures { AnswersWhere
-///     (RowFits T.fits (T.value n))
-///     (λ items. (items ≡ row_of (T.value n)) × All T.fits items)
-///     result }
-/// ```
-///
-/// Words: [`AnswersWhere`](crate::definitions::integer_core#answerswhere),
-/// [`RowFits`](crate::definitions::num_integer#rowfits),
-/// [`row_of`](crate::definitions::num_integer#row_of), [how to read it](crate::definitions).
-///
-/// </details>
+/// [Contract](crate::definitions::contracts#checkedrow)
 #[must_use]
 pub fn row<T: Fits>(n: T) -> Option<IterBinomial<T>> {
     if row_fits(n) {
@@ -139,15 +91,15 @@ pub fn row<T: Fits>(n: T) -> Option<IterBinomial<T>> {
 /// Returns `true` if the number of the items of the row of `n` fits, and its largest item, the one
 /// in the middle.
 fn row_fits<T: Fits>(n: T) -> bool {
-    n < T::zero() || inc(n).is_some() && binomial(n, half(n)).is_some()
+    is_negative(n) || inc(n).is_some() && binomial(n, half(n)).is_some()
 }
 
 /// Returns `n / 2`. A type that does not have the number 2 has no number above 1, so it never
 /// divides.
 fn half<T: Fits>(n: T) -> T {
-    if T::one() < n {
-        positive_quotient(n, successor(T::one()))
+    if is_below(one(), n) {
+        positive_quotient(n, successor(one()))
     } else {
-        T::zero()
+        zero()
     }
 }

@@ -2,6 +2,7 @@
 //! Checked division.
 
 use crate::domains::Fits;
+use crate::integer_core::operators::is_zero;
 
 /// Returns [`Integer::div_rem`](crate::Integer::div_rem), the quotient rounded toward zero and its
 /// remainder, or `None` if `y` is 0 or the quotient does not fit. The only quotient that may not
@@ -16,26 +17,7 @@ use crate::domains::Fits;
 /// assert_eq!(div_rem(i8::MIN, -1), None);
 /// ```
 ///
-/// <details><summary>Proved</summary>
-///
-/// Proved of the source in Rattle: each call returns, and then each `ensures` holds.
-///
-/// ```text
-/// ensures answer { AnswersWhere
-///     ((T.value y ≢ pos 0) × EachFits T.fits (IsQuotient IsTruncated (T.value x) (T.value y)))
-///     (λ r. T.fits (T.value r.0) × T.fits (T.value r.1)
-///     × IsTruncated (T.value x) (T.value y) (T.value r.0) (T.value r.1))
-///     result }
-/// ensures positive { pos 0 <ℤ T.value y → IsSome result }
-/// ```
-///
-/// Words: [`AnswersWhere`](crate::definitions::integer_core#answerswhere),
-/// [`EachFits`](crate::definitions::integer_core#eachfits),
-/// [`IsQuotient`](crate::definitions::integer_core#isquotient),
-/// [`IsTruncated`](crate::definitions::integer_core#istruncated),
-/// [how to read it](crate::definitions).
-///
-/// </details>
+/// [Contract](crate::definitions::contracts#checkeddiv_rem)
 #[must_use]
 pub fn div_rem<T: Fits>(x: T, y: T) -> Option<(T, T)> {
     if x.quotient_fits(&y) {
@@ -57,24 +39,7 @@ pub fn div_rem<T: Fits>(x: T, y: T) -> Option<(T, T)> {
 /// assert_eq!(div_floor(i8::MIN, -1), None);
 /// ```
 ///
-/// <details><summary>Proved</summary>
-///
-/// Proved of the source in Rattle: each call returns, and then each `ensures` holds.
-///
-/// ```text
-/// ensures answer { AnswersWhere
-///     ((T.value y ≢ pos 0) × EachFits T.fits (IsQuotient IsFloored (T.value x) (T.value y)))
-///     (λ q. T.fits (T.value q) × IsQuotient IsFloored (T.value x) (T.value y) (T.value q))
-///     result }
-/// ensures positive { pos 0 <ℤ T.value y → IsSome result }
-/// ```
-///
-/// Words: [`AnswersWhere`](crate::definitions::integer_core#answerswhere),
-/// [`EachFits`](crate::definitions::integer_core#eachfits),
-/// [`IsQuotient`](crate::definitions::integer_core#isquotient),
-/// [`IsFloored`](crate::definitions::integer_core#isfloored), [how to read it](crate::definitions).
-///
-/// </details>
+/// [Contract](crate::definitions::contracts#checkeddiv_floor)
 #[must_use]
 pub fn div_floor<T: Fits>(x: T, y: T) -> Option<T> {
     if x.quotient_fits(&y) {
@@ -96,25 +61,10 @@ pub fn div_floor<T: Fits>(x: T, y: T) -> Option<T> {
 /// assert_eq!(mod_floor(8, 0), None);
 /// ```
 ///
-/// <details><summary>Proved</summary>
-///
-/// Proved of the source in Rattle: each call returns, and then each `ensures` holds.
-///
-/// ```text
-/// ensures { AnswersWhere
-///     (T.value y ≢ pos 0)
-///     (λ r. T.fits (T.value r) × IsRemainder IsFloored (T.value x) (T.value y) (T.value r))
-///     result }
-/// ```
-///
-/// Words: [`AnswersWhere`](crate::definitions::integer_core#answerswhere),
-/// [`IsRemainder`](crate::definitions::integer_core#isremainder),
-/// [`IsFloored`](crate::definitions::integer_core#isfloored), [how to read it](crate::definitions).
-///
-/// </details>
+/// [Contract](crate::definitions::contracts#checkedmod_floor)
 #[must_use]
 pub fn mod_floor<T: Fits>(x: T, y: T) -> Option<T> {
-    if y.is_zero() {
+    if is_zero(y) {
         None
     } else {
         Some(x.mod_floor(&y))
@@ -133,25 +83,7 @@ pub fn mod_floor<T: Fits>(x: T, y: T) -> Option<T> {
 /// assert_eq!(div_mod_floor(i8::MIN, -1), None);
 /// ```
 ///
-/// <details><summary>Proved</summary>
-///
-/// Proved of the source in Rattle: each call returns, and then each `ensures` holds.
-///
-/// ```text
-/// ensures answer { AnswersWhere
-///     ((T.value y ≢ pos 0) × EachFits T.fits (IsQuotient IsFloored (T.value x) (T.value y)))
-///     (λ r. T.fits (T.value r.0) × T.fits (T.value r.1)
-///     × IsFloored (T.value x) (T.value y) (T.value r.0) (T.value r.1))
-///     result }
-/// ensures positive { pos 0 <ℤ T.value y → IsSome result }
-/// ```
-///
-/// Words: [`AnswersWhere`](crate::definitions::integer_core#answerswhere),
-/// [`EachFits`](crate::definitions::integer_core#eachfits),
-/// [`IsQuotient`](crate::definitions::integer_core#isquotient),
-/// [`IsFloored`](crate::definitions::integer_core#isfloored), [how to read it](crate::definitions).
-///
-/// </details>
+/// [Contract](crate::definitions::contracts#checkeddiv_mod_floor)
 #[must_use]
 pub fn div_mod_floor<T: Fits>(x: T, y: T) -> Option<(T, T)> {
     if x.quotient_fits(&y) {
@@ -173,24 +105,7 @@ pub fn div_mod_floor<T: Fits>(x: T, y: T) -> Option<(T, T)> {
 /// assert_eq!(div_ceil(8, 0), None);
 /// ```
 ///
-/// <details><summary>Proved</summary>
-///
-/// Proved of the source in Rattle: each call returns, and then each `ensures` holds.
-///
-/// ```text
-/// ensures answer { AnswersWhere
-///     ((T.value y ≢ pos 0) × EachFits T.fits (IsQuotient IsCeiled (T.value x) (T.value y)))
-///     (λ q. T.fits (T.value q) × IsQuotient IsCeiled (T.value x) (T.value y) (T.value q))
-///     result }
-/// ensures positive { pos 0 <ℤ T.value y → IsSome result }
-/// ```
-///
-/// Words: [`AnswersWhere`](crate::definitions::integer_core#answerswhere),
-/// [`EachFits`](crate::definitions::integer_core#eachfits),
-/// [`IsQuotient`](crate::definitions::integer_core#isquotient),
-/// [`IsCeiled`](crate::definitions::integer_core#isceiled), [how to read it](crate::definitions).
-///
-/// </details>
+/// [Contract](crate::definitions::contracts#checkeddiv_ceil)
 #[must_use]
 pub fn div_ceil<T: Fits>(x: T, y: T) -> Option<T> {
     if x.quotient_fits(&y) {
@@ -212,23 +127,7 @@ pub fn div_ceil<T: Fits>(x: T, y: T) -> Option<T> {
 /// assert_eq!(next_multiple_of(251u8, 8), None);
 /// ```
 ///
-/// <details><summary>Proved</summary>
-///
-/// Proved of the source in Rattle: each call returns, and then each `ensures` holds.
-///
-/// ```text
-/// ensures { AnswersWhere
-///     ((T.value y ≢ pos 0) × EachFits T.fits (IsMultiple IsCeiled (T.value x) (T.value y)))
-///     (λ m. T.fits (T.value m) × IsMultiple IsCeiled (T.value x) (T.value y) (T.value m))
-///     result }
-/// ```
-///
-/// Words: [`AnswersWhere`](crate::definitions::integer_core#answerswhere),
-/// [`EachFits`](crate::definitions::integer_core#eachfits),
-/// [`IsMultiple`](crate::definitions::integer_core#ismultiple),
-/// [`IsCeiled`](crate::definitions::integer_core#isceiled), [how to read it](crate::definitions).
-///
-/// </details>
+/// [Contract](crate::definitions::contracts#checkednext_multiple_of)
 #[must_use]
 pub fn next_multiple_of<T: Fits>(x: T, y: T) -> Option<T> {
     if x.next_multiple_fits(&y) {
@@ -250,23 +149,7 @@ pub fn next_multiple_of<T: Fits>(x: T, y: T) -> Option<T> {
 /// assert_eq!(prev_multiple_of(-125i8, 10), None);
 /// ```
 ///
-/// <details><summary>Proved</summary>
-///
-/// Proved of the source in Rattle: each call returns, and then each `ensures` holds.
-///
-/// ```text
-/// ensures { AnswersWhere
-///     ((T.value y ≢ pos 0) × EachFits T.fits (IsMultiple IsFloored (T.value x) (T.value y)))
-///     (λ m. T.fits (T.value m) × IsMultiple IsFloored (T.value x) (T.value y) (T.value m))
-///     result }
-/// ```
-///
-/// Words: [`AnswersWhere`](crate::definitions::integer_core#answerswhere),
-/// [`EachFits`](crate::definitions::integer_core#eachfits),
-/// [`IsMultiple`](crate::definitions::integer_core#ismultiple),
-/// [`IsFloored`](crate::definitions::integer_core#isfloored), [how to read it](crate::definitions).
-///
-/// </details>
+/// [Contract](crate::definitions::contracts#checkedprev_multiple_of)
 #[must_use]
 pub fn prev_multiple_of<T: Fits>(x: T, y: T) -> Option<T> {
     if x.prev_multiple_fits(&y) {

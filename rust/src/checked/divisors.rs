@@ -4,8 +4,8 @@
 use crate::checked::operators::{negated, product};
 use crate::coefficients::positive_quotient;
 use crate::domains::Fits;
+use crate::integer_core::operators::{is_negative, is_zero, zero};
 use crate::integer_core::ExtendedGcd;
-
 use num_traits::Signed;
 
 /// Returns [`Integer::gcd`](crate::Integer::gcd), the greatest common divisor, or `None` if it does
@@ -20,24 +20,7 @@ use num_traits::Signed;
 /// assert_eq!(gcd(i8::MIN, 0), None);
 /// ```
 ///
-/// <details><summary>Proved</summary>
-///
-/// Proved of the source in Rattle: each call returns, and then each `ensures` holds.
-///
-/// ```text
-/// ensures answer { AnswersWhere
-///     (GcdFits T.fits (T.value x) (T.value y))
-///     (λ g. T.fits (T.value g) × IsGreatestCommonDivisor (T.value x) (T.value y) (T.value g))
-///     result }
-/// ensures positive { pos 0 <ℤ T.value y → IsSome result }
-/// ```
-///
-/// Words: [`AnswersWhere`](crate::definitions::integer_core#answerswhere),
-/// [`GcdFits`](crate::definitions::integer_core#gcdfits),
-/// [`IsGreatestCommonDivisor`](crate::definitions::integer_core#isgreatestcommondivisor),
-/// [how to read it](crate::definitions).
-///
-/// </details>
+/// [Contract](crate::definitions::contracts#checkedgcd)
 #[must_use]
 pub fn gcd<T: Fits>(x: T, y: T) -> Option<T> {
     if x.gcd_fits(&y) {
@@ -59,27 +42,11 @@ pub fn gcd<T: Fits>(x: T, y: T) -> Option<T> {
 /// assert_eq!(lcm(16u8, 17), None);
 /// ```
 ///
-/// <details><summary>Proved</summary>
-///
-/// Proved of the source in Rattle: each call returns, and then each `ensures` holds.
-///
-/// ```text
-/// ensures { AnswersWhere
-///     (EachFits T.fits (IsLeastCommonMultiple (T.value x) (T.value y)))
-///     (λ l. T.fits (T.value l) × IsLeastCommonMultiple (T.value x) (T.value y) (T.value l))
-///     result }
-/// ```
-///
-/// Words: [`AnswersWhere`](crate::definitions::integer_core#answerswhere),
-/// [`EachFits`](crate::definitions::integer_core#eachfits),
-/// [`IsLeastCommonMultiple`](crate::definitions::integer_core#isleastcommonmultiple),
-/// [how to read it](crate::definitions).
-///
-/// </details>
+/// [Contract](crate::definitions::contracts#checkedlcm)
 #[must_use]
 pub fn lcm<T: Fits>(x: T, y: T) -> Option<T> {
-    if x.is_zero() || y.is_zero() {
-        return Some(T::zero());
+    if is_zero(x) || is_zero(y) {
+        return Some(zero());
     }
     nonzero_lcm(x, y, gcd(x, y)?)
 }
@@ -96,28 +63,7 @@ pub fn lcm<T: Fits>(x: T, y: T) -> Option<T> {
 /// assert_eq!(gcd_lcm(16u8, 17), None);
 /// ```
 ///
-/// <details><summary>Proved</summary>
-///
-/// Proved of the source in Rattle: each call returns, and then each `ensures` holds.
-///
-/// ```text
-/// ensures { AnswersWhere
-///     (GcdFits T.fits (T.value x) (T.value y)
-///     × EachFits T.fits (IsLeastCommonMultiple (T.value x) (T.value y)))
-///     (λ r. T.fits (T.value r.0) × T.fits (T.value r.1)
-///     × IsGreatestCommonDivisor (T.value x) (T.value y) (T.value r.0)
-///     × IsLeastCommonMultiple (T.value x) (T.value y) (T.value r.1))
-///     result }
-/// ```
-///
-/// Words: [`AnswersWhere`](crate::definitions::integer_core#answerswhere),
-/// [`GcdFits`](crate::definitions::integer_core#gcdfits),
-/// [`EachFits`](crate::definitions::integer_core#eachfits),
-/// [`IsLeastCommonMultiple`](crate::definitions::integer_core#isleastcommonmultiple),
-/// [`IsGreatestCommonDivisor`](crate::definitions::integer_core#isgreatestcommondivisor),
-/// [how to read it](crate::definitions).
-///
-/// </details>
+/// [Contract](crate::definitions::contracts#checkedgcd_lcm)
 #[must_use]
 pub fn gcd_lcm<T: Fits>(x: T, y: T) -> Option<(T, T)> {
     let g = gcd(x, y)?;
@@ -138,25 +84,7 @@ pub fn gcd_lcm<T: Fits>(x: T, y: T) -> Option<(T, T)> {
 /// assert_eq!(extended_gcd(10u8, 4), None);
 /// ```
 ///
-/// <details><summary>Proved</summary>
-///
-/// Proved of the source in Rattle: each call returns, and then each `ensures` holds.
-///
-/// ```text
-/// ensures { AnswersWhere
-///     (GcdFits T.fits (T.value x) (T.value y) × HasPair T.fits (T.value x) (T.value y))
-///     (λ e. T.fits (T.value e.gcd) × T.fits (T.value e.x) × T.fits (T.value e.y)
-///     × IsBezoutAnswer (T.value x) (T.value y) (T.value e.gcd) (T.value e.x) (T.value e.y))
-///     result }
-/// ```
-///
-/// Words: [`AnswersWhere`](crate::definitions::integer_core#answerswhere),
-/// [`GcdFits`](crate::definitions::integer_core#gcdfits),
-/// [`HasPair`](crate::definitions::integer_core#haspair),
-/// [`IsBezoutAnswer`](crate::definitions::integer_core#isbezoutanswer),
-/// [how to read it](crate::definitions).
-///
-/// </details>
+/// [Contract](crate::definitions::contracts#checkedextended_gcd)
 #[must_use]
 pub fn extended_gcd<T: Fits>(x: T, y: T) -> Option<ExtendedGcd<T>> {
     if x.gcd_fits(&y) && x.pair_fits(&y) {
@@ -179,30 +107,7 @@ pub fn extended_gcd<T: Fits>(x: T, y: T) -> Option<ExtendedGcd<T>> {
 /// assert_eq!(extended_gcd_lcm(99i8, 100), None);
 /// ```
 ///
-/// <details><summary>Proved</summary>
-///
-/// Proved of the source in Rattle: each call returns, and then each `ensures` holds.
-///
-/// ```text
-/// ensures { AnswersWhere
-///     (GcdFits T.fits (T.value x) (T.value y) × HasPair T.fits (T.value x) (T.value y)
-///     × EachFits T.fits (IsLeastCommonMultiple (T.value x) (T.value y)))
-///     (λ r. T.fits (T.value r.0.gcd) × T.fits (T.value r.0.x) × T.fits (T.value r.0.y)
-///     × T.fits (T.value r.1)
-///     × IsBezoutAnswer (T.value x) (T.value y) (T.value r.0.gcd) (T.value r.0.x) (T.value r.0.y)
-///     × IsLeastCommonMultiple (T.value x) (T.value y) (T.value r.1))
-///     result }
-/// ```
-///
-/// Words: [`AnswersWhere`](crate::definitions::integer_core#answerswhere),
-/// [`GcdFits`](crate::definitions::integer_core#gcdfits),
-/// [`HasPair`](crate::definitions::integer_core#haspair),
-/// [`EachFits`](crate::definitions::integer_core#eachfits),
-/// [`IsLeastCommonMultiple`](crate::definitions::integer_core#isleastcommonmultiple),
-/// [`IsBezoutAnswer`](crate::definitions::integer_core#isbezoutanswer),
-/// [how to read it](crate::definitions).
-///
-/// </details>
+/// [Contract](crate::definitions::contracts#checkedextended_gcd_lcm)
 #[must_use]
 pub fn extended_gcd_lcm<T: Fits + Signed>(x: T, y: T) -> Option<(ExtendedGcd<T>, T)> {
     let e = extended_gcd(x, y)?;
@@ -212,8 +117,8 @@ pub fn extended_gcd_lcm<T: Fits + Signed>(x: T, y: T) -> Option<(ExtendedGcd<T>,
 /// Returns the least common multiple of `x` and `y`, or `None` if it does not fit. `g` is their
 /// greatest common divisor.
 fn lcm_with_gcd<T: Fits>(x: T, y: T, g: T) -> Option<T> {
-    if y.is_zero() {
-        Some(T::zero())
+    if is_zero(y) {
+        Some(zero())
     } else {
         nonzero_lcm(x, y, g)
     }
@@ -222,7 +127,7 @@ fn lcm_with_gcd<T: Fits>(x: T, y: T, g: T) -> Option<T> {
 /// Returns [`lcm_with_gcd`] for a `y` that is not 0: the magnitude of `x * (y / g)`.
 fn nonzero_lcm<T: Fits>(x: T, y: T, g: T) -> Option<T> {
     let product = product(x, positive_quotient(y, g))?;
-    if product < T::zero() {
+    if is_negative(product) {
         negated(product)
     } else {
         Some(product)

@@ -3,6 +3,8 @@
 //! type.
 
 use crate::domains::Fits;
+use crate::integer_core::operators::{one, zero};
+use crate::integer_core::plain;
 
 /// Returns `a + b`, or `None` if it does not fit.
 ///
@@ -15,25 +17,11 @@ use crate::domains::Fits;
 /// assert_eq!(sum(200u8, 56), None);
 /// ```
 ///
-/// <details><summary>Proved</summary>
-///
-/// Proved of the source in Rattle: each call returns, and then each `ensures` holds.
-///
-/// ```text
-/// ensures { AnswersWhere
-///     (T.fits (T.value a +ℤ T.value b))
-///     (λ r. T.fits (T.value r) × (T.value r ≡ T.value a +ℤ T.value b))
-///     result }
-/// ```
-///
-/// Words: [`AnswersWhere`](crate::definitions::integer_core#answerswhere),
-/// [how to read it](crate::definitions).
-///
-/// </details>
+/// [Contract](crate::definitions::contracts#checkedsum)
 #[must_use]
 pub fn sum<T: Fits>(a: T, b: T) -> Option<T> {
     if a.sum_fits(&b) {
-        Some(a + b)
+        Some(plain::sum(a, b))
     } else {
         None
     }
@@ -50,25 +38,11 @@ pub fn sum<T: Fits>(a: T, b: T) -> Option<T> {
 /// assert_eq!(difference(2u8, 3), None);
 /// ```
 ///
-/// <details><summary>Proved</summary>
-///
-/// Proved of the source in Rattle: each call returns, and then each `ensures` holds.
-///
-/// ```text
-/// ensures { AnswersWhere
-///     (T.fits (T.value a -ℤ T.value b))
-///     (λ r. T.fits (T.value r) × (T.value r ≡ T.value a -ℤ T.value b))
-///     result }
-/// ```
-///
-/// Words: [`AnswersWhere`](crate::definitions::integer_core#answerswhere),
-/// [how to read it](crate::definitions).
-///
-/// </details>
+/// [Contract](crate::definitions::contracts#checkeddifference)
 #[must_use]
 pub fn difference<T: Fits>(a: T, b: T) -> Option<T> {
     if a.difference_fits(&b) {
-        Some(a - b)
+        Some(plain::difference(a, b))
     } else {
         None
     }
@@ -85,25 +59,11 @@ pub fn difference<T: Fits>(a: T, b: T) -> Option<T> {
 /// assert_eq!(product(16u8, 16), None);
 /// ```
 ///
-/// <details><summary>Proved</summary>
-///
-/// Proved of the source in Rattle: each call returns, and then each `ensures` holds.
-///
-/// ```text
-/// ensures { AnswersWhere
-///     (T.fits (T.value a *ℤ T.value b))
-///     (λ r. T.fits (T.value r) × (T.value r ≡ T.value a *ℤ T.value b))
-///     result }
-/// ```
-///
-/// Words: [`AnswersWhere`](crate::definitions::integer_core#answerswhere),
-/// [how to read it](crate::definitions).
-///
-/// </details>
+/// [Contract](crate::definitions::contracts#checkedproduct)
 #[must_use]
 pub fn product<T: Fits>(a: T, b: T) -> Option<T> {
     if a.product_fits(&b) {
-        Some(a * b)
+        Some(plain::product(a, b))
     } else {
         None
     }
@@ -120,24 +80,10 @@ pub fn product<T: Fits>(a: T, b: T) -> Option<T> {
 /// assert_eq!(negated(7u8), None);
 /// ```
 ///
-/// <details><summary>Proved</summary>
-///
-/// Proved of the source in Rattle: each call returns, and then each `ensures` holds.
-///
-/// ```text
-/// ensures { AnswersWhere
-///     (T.fits (neg_ℤ (T.value a)))
-///     (λ r. T.fits (T.value r) × (T.value r ≡ neg_ℤ (T.value a)))
-///     result }
-/// ```
-///
-/// Words: [`AnswersWhere`](crate::definitions::integer_core#answerswhere),
-/// [how to read it](crate::definitions).
-///
-/// </details>
+/// [Contract](crate::definitions::contracts#checkednegated)
 #[must_use]
 pub fn negated<T: Fits>(a: T) -> Option<T> {
-    difference(T::zero(), a)
+    difference(zero(), a)
 }
 
 /// Returns `x + 1`, which [`Integer::inc`](crate::Integer::inc) stores, or `None` for the largest
@@ -152,24 +98,10 @@ pub fn negated<T: Fits>(a: T) -> Option<T> {
 /// assert_eq!(inc(u8::MAX), None);
 /// ```
 ///
-/// <details><summary>Proved</summary>
-///
-/// Proved of the source in Rattle: each call returns, and then each `ensures` holds.
-///
-/// ```text
-/// ensures { AnswersWhere
-///     (T.fits (T.value x +ℤ pos 1))
-///     (λ r. T.fits (T.value r) × (T.value r ≡ T.value x +ℤ pos 1))
-///     result }
-/// ```
-///
-/// Words: [`AnswersWhere`](crate::definitions::integer_core#answerswhere),
-/// [how to read it](crate::definitions).
-///
-/// </details>
+/// [Contract](crate::definitions::contracts#checkedinc)
 #[must_use]
 pub fn inc<T: Fits>(x: T) -> Option<T> {
-    sum(x, T::one())
+    sum(x, one())
 }
 
 /// Returns `x - 1`, which [`Integer::dec`](crate::Integer::dec) stores, or `None` for the smallest
@@ -184,22 +116,8 @@ pub fn inc<T: Fits>(x: T) -> Option<T> {
 /// assert_eq!(dec(0u8), None);
 /// ```
 ///
-/// <details><summary>Proved</summary>
-///
-/// Proved of the source in Rattle: each call returns, and then each `ensures` holds.
-///
-/// ```text
-/// ensures { AnswersWhere
-///     (T.fits (T.value x -ℤ pos 1))
-///     (λ r. T.fits (T.value r) × (T.value r ≡ T.value x -ℤ pos 1))
-///     result }
-/// ```
-///
-/// Words: [`AnswersWhere`](crate::definitions::integer_core#answerswhere),
-/// [how to read it](crate::definitions).
-///
-/// </details>
+/// [Contract](crate::definitions::contracts#checkeddec)
 #[must_use]
 pub fn dec<T: Fits>(x: T) -> Option<T> {
-    difference(x, T::one())
+    difference(x, one())
 }

@@ -3,14 +3,11 @@
 //! does not fit.
 
 use crate::checked::product;
-use crate::operators::{difference, successor};
+use crate::operators::{difference, is_below, is_negative, one, successor, zero};
 use crate::Fits;
 
 /// Returns [`factorial`](crate::counting::factorial), the product of the numbers from 1 to `n`, or
 /// `None` if `n` is negative or the factorial does not fit.
-///
-/// [`counting::factorial`](crate::counting::factorial) is the same call, which panics outside the
-/// domain.
 ///
 /// # Examples
 ///
@@ -21,35 +18,18 @@ use crate::Fits;
 /// assert_eq!(factorial(6u8), None);
 /// ```
 ///
-/// <details><summary>Proved</summary>
-///
-/// Proved of the source in Rattle: each call returns, and then each `ensures` holds.
-///
-/// ```text
-/// ensures { AnswersWhere
-///     ((pos 0 ≤ℤ T.value n) × T.fits (factorial_of (T.value n)))
-///     (Has T.fits T.value (λ z. z ≡ factorial_of (T.value n))) result }
-/// ```
-///
-/// Words: [`AnswersWhere`](crate::definitions::integer_core#answerswhere),
-/// [`factorial_of`](crate::definitions::applied#factorial_of),
-/// [`Has`](crate::definitions::integer_core#has), [how to read it](crate::definitions).
-///
-/// </details>
+/// [Contract](crate::definitions::contracts#countingcheckedfactorial)
 #[must_use]
 pub fn factorial<T: Fits>(n: T) -> Option<T> {
-    if n < T::zero() {
+    if is_negative(n) {
         None
     } else {
-        product_above(T::zero(), n)
+        product_above(zero(), n)
     }
 }
 
 /// Returns [`falling`](crate::counting::falling), the product `n * (n - 1) * ..` of `k` factors, or
 /// `None` if a number is negative or the product does not fit.
-///
-/// [`counting::falling`](crate::counting::falling) is the same call, which panics outside the
-/// domain.
 ///
 /// # Examples
 ///
@@ -60,28 +40,14 @@ pub fn factorial<T: Fits>(n: T) -> Option<T> {
 /// assert_eq!(falling(8u8, 3), None);
 /// ```
 ///
-/// <details><summary>Proved</summary>
-///
-/// Proved of the source in Rattle: each call returns, and then each `ensures` holds.
-///
-/// ```text
-/// ensures { AnswersWhere
-///     ((pos 0 ≤ℤ T.value n) × (pos 0 ≤ℤ T.value k) × T.fits (falling_of (T.value n) (T.value k)))
-///     (Has T.fits T.value (λ z. z ≡ falling_of (T.value n) (T.value k))) result }
-/// ```
-///
-/// Words: [`AnswersWhere`](crate::definitions::integer_core#answerswhere),
-/// [`falling_of`](crate::definitions::applied#falling_of),
-/// [`Has`](crate::definitions::integer_core#has), [how to read it](crate::definitions).
-///
-/// </details>
+/// [Contract](crate::definitions::contracts#countingcheckedfalling)
 #[must_use]
 pub fn falling<T: Fits>(n: T, k: T) -> Option<T> {
-    if n < T::zero() || k < T::zero() {
+    if is_negative(n) || is_negative(k) {
         return None;
     }
-    if n < k {
-        return Some(T::zero());
+    if is_below(n, k) {
+        return Some(zero());
     }
     product_above(difference(n, k), n)
 }
@@ -89,9 +55,9 @@ pub fn falling<T: Fits>(n: T, k: T) -> Option<T> {
 /// Returns the product of the numbers above `low` up to `high`, or `None` if it does not fit. The
 /// loop stops at the first product that does not.
 fn product_above<T: Fits>(low: T, high: T) -> Option<T> {
-    let mut ways = T::one();
+    let mut ways = one();
     let mut factor = low;
-    while factor < high {
+    while is_below(factor, high) {
         factor = successor(factor);
         ways = product(ways, factor)?;
     }

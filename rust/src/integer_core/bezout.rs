@@ -2,18 +2,20 @@
 //! The extended Euclidean algorithm (Knuth, The Art of Computer Programming, volume 2, section
 //! 4.5.2, algorithm X). The loop here stops one iteration earlier.
 
+use crate::integer_core::guards::check_pair;
+use crate::integer_core::operators::{is_negative, is_zero, one, zero};
+use crate::integer_core::plain::{difference, negated, product};
 use crate::integer_core::Integer;
 
 /// A greatest common divisor with Bezout's coefficients: for the operands `a` and `b`, `a * x + b *
-/// y` equals `gcd`. For 240 and 46, `gcd` is 2, `x` is -9 and `y` is 47.
+/// y` equals `gcd`.
 ///
 /// # Examples
 ///
 /// ```
-/// use cellarcove::Integer;
+/// use cellarcove::{gcd, ExtendedGcd, Integer};
 ///
-/// let found = 240.extended_gcd(&46);
-/// assert_eq!((found.gcd, found.x, found.y), (2, -9, 47));
+/// assert_eq!(240.extended_gcd(&46), ExtendedGcd { gcd: 2, x: -9, y: 47 });
 /// ```
 #[derive(Debug, Clone, Copy, PartialEq, Eq)]
 pub struct ExtendedGcd<A> {
@@ -33,23 +35,23 @@ struct Row<A> {
     y: A,
 }
 
-impl<T: Integer> Row<T> {
+impl<T: Integer + Clone> Row<T> {
     /// Returns the first operand as a row.
     fn of_first(a: T) -> Self {
         Self {
             remainder: a,
-            x: T::one(),
-            y: T::zero(),
+            x: one(),
+            y: zero(),
         }
     }
 
     /// Returns the row as a result, and negates all three numbers if the remainder is negative.
     fn normalized(self) -> ExtendedGcd<T> {
-        if self.remainder < T::zero() {
+        if is_negative(self.remainder.clone()) {
             ExtendedGcd {
-                gcd: T::zero() - self.remainder,
-                x: T::zero() - self.x,
-                y: T::zero() - self.y,
+                gcd: negated(self.remainder),
+                x: negated(self.x),
+                y: negated(self.y),
             }
         } else {
             ExtendedGcd {
@@ -64,18 +66,19 @@ impl<T: Integer> Row<T> {
 /// Returns the row whose remainder is the greatest common divisor up to its sign, and the number of
 /// iterations. The loop never computes the row with the remainder 0, whose coefficients need not
 /// fit.
+#[track_caller]
 fn last_row<T: Integer + Clone>(a: T, b: T) -> (Row<T>, u32) {
     let mut previous = Row::of_first(a);
     let mut current = Row {
         remainder: b,
-        x: T::zero(),
-        y: T::one(),
+        x: zero(),
+        y: one(),
     };
     let mut turns = 0;
     while !previous.remainder.is_multiple_of(&current.remainder) {
         let (quotient, remainder) = previous.remainder.div_rem(&current.remainder);
-        let x = previous.x - quotient.clone() * current.x.clone();
-        let y = previous.y - quotient * current.y.clone();
+        let x = difference(previous.x, product(quotient.clone(), current.x.clone()));
+        let y = difference(previous.y, product(quotient, current.y.clone()));
         previous = current;
         current = Row { remainder, x, y };
         turns += 1;
@@ -85,8 +88,6 @@ fn last_row<T: Integer + Clone>(a: T, b: T) -> (Row<T>, u32) {
 
 /// Returns [`Integer::extended_gcd`] and the number of iterations of its loop. The bound on the
 /// iterations is Lamé's (1844); 8 and 13 reach it.
-///
-/// May be called if [`Integer::extended_gcd`] may.
 ///
 /// # Examples
 ///
@@ -102,43 +103,12 @@ fn last_row<T: Integer + Clone>(a: T, b: T) -> (Row<T>, u32) {
 /// If the greatest common divisor does not fit, or if the type is unsigned and neither number
 /// divides the other.
 ///
-/// <details><summary>Proved</summary>
-///
-/// Proved of the source in Rattle: if each `requires` holds, the call returns, and then each
-/// `ensures` holds.
-///
-/// ```text
-/// requires gcd_fits { GcdFits T.fits (T.value a) (T.value b) }
-/// requires has_pair { HasPair T.fits (T.value a) (T.value b) }
-/// ensures answer { IsBezoutAnswer (T.value a) (T.value b)
-///     (T.value result.0.gcd) (T.value result.0.x) (T.value result.0.y) }
-/// ensures only { NeedsBoth (T.value a) (T.value b)
-///     → IsOnly (λ (x, y). IsSmallPair (T.value a) (T.value b) (T.value result.0.gcd) x y)
-///     (T.value result.0.x, T.value result.0.y) }
-/// ensures turns { AreEuclidTurns (T.value a) (T.value b) result.1 }
-/// ensures bound { T.value b ≢ pos 0
-///     → fibonacci (result.1 + 2) * unsigned_abs (T.value result.0.gcd)
-///     ≤ unsigned_abs (T.value b) }
-/// ```
-///
-/// Words: [`GcdFits`](crate::definitions::integer_core#gcdfits),
-/// [`HasPair`](crate::definitions::integer_core#haspair),
-/// [`IsBezoutAnswer`](crate::definitions::integer_core#isbezoutanswer),
-/// [`NeedsBoth`](crate::definitions::integer_core#needsboth),
-/// [`IsOnly`](crate::definitions::integer_core#isonly),
-/// [`IsSmallPair`](crate::definitions::integer_core#issmallpair),
-/// [`AreEuclidTurns`](crate::definitions::integer_core#areeuclidturns),
-/// [`fibonacci`](crate::definitions::integer_core#fibonacci), [how to read it](crate::definitions).
-///
-/// </details>
+/// [Contract](crate::definitions::contracts#countedextended_gcd_counted)
 #[track_caller]
 #[must_use]
 pub fn extended_gcd_counted<T: Integer + Clone>(a: T, b: T) -> (ExtendedGcd<T>, u32) {
-    a.expect_pair(
-        &b,
-        crate::guards::Reason("no pair of coefficients fits the unsigned type"),
-    );
-    if b.is_zero() {
+    check_pair(&a, &b, "no pair of coefficients fits the unsigned type");
+    if is_zero(b.clone()) {
         (Row::of_first(a).normalized(), 0)
     } else {
         let (row, turns) = last_row(a, b);

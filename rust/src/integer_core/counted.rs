@@ -17,7 +17,7 @@ pub trait GcdCounted: Integer {
     /// Returns [`Integer::gcd`] and the number of iterations. The number is at most the sum of both
     /// bit lengths, and 0 if an operand is 0 or the smallest number of its type.
     ///
-    /// May be called if [`Fits::gcd_fits`](crate::Fits::gcd_fits) is true.
+    /// [`Fits::gcd_fits`](crate::Fits::gcd_fits) tests the domain.
     ///
     /// # Examples
     ///
@@ -31,28 +31,7 @@ pub trait GcdCounted: Integer {
     ///
     /// If the greatest common divisor does not fit.
     ///
-    /// <details><summary>Proved</summary>
-    ///
-    /// Proved of the source in Rattle: if each `requires` holds, the call returns, and then each
-    /// `ensures` holds.
-    ///
-    /// ```text
-    /// requires gcd_fits { GcdFits Self.fits (Self.value self.now) (Self.value other.now) }
-    /// ensures greatest { IsGreatestCommonDivisor (Self.value self.now) (Self.value other.now)
-    ///     (Self.value result.0) }
-    /// ensures turns { AreGcdTurns Self.low (Self.value self.now) (Self.value other.now)
-    ///     result.1 }
-    /// ensures bound { (k l : ℕ) → IsBitLength (Self.value self.now) k
-    ///     → IsBitLength (Self.value other.now) l → result.1 ≤ k + l }
-    /// ```
-    ///
-    /// Words: [`GcdFits`](crate::definitions::integer_core#gcdfits),
-    /// [`IsGreatestCommonDivisor`](crate::definitions::integer_core#isgreatestcommondivisor),
-    /// [`AreGcdTurns`](crate::definitions::integer_core#aregcdturns),
-    /// [`IsBitLength`](crate::definitions::integer_core#isbitlength),
-    /// [how to read it](crate::definitions).
-    ///
-    /// </details>
+    /// [Contract](crate::definitions::contracts#countedgcdcountedgcd_counted)
     #[track_caller]
     #[must_use]
     fn gcd_counted(&self, other: &Self) -> (Self, u32);

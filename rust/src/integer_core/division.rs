@@ -2,13 +2,14 @@
 //! Division of the native types.
 
 use crate::integer_core::native::Native;
-
+use crate::integer_core::operators::{is_negative, is_zero, quotient, remainder};
+use crate::integer_core::plain::{predecessor, sum};
 use num_traits::Num;
 
 /// Returns the quotient rounded toward zero, and its remainder.
 #[track_caller]
 pub(crate) fn div_rem<T: Copy + Num>(n: T, d: T) -> (T, T) {
-    (n / d, n % d)
+    (quotient(n, d), remainder(n, d))
 }
 
 /// Returns the quotient rounded down, and its remainder.
@@ -16,7 +17,7 @@ pub(crate) fn div_rem<T: Copy + Num>(n: T, d: T) -> (T, T) {
 pub(crate) fn div_mod_floor<T: Native>(n: T, d: T) -> (T, T) {
     let (q, r) = div_rem(n, d);
     if is_rounded_up(r, d) {
-        (q - T::one(), r + d)
+        (predecessor(q), sum(r, d))
     } else {
         (q, r)
     }
@@ -25,5 +26,5 @@ pub(crate) fn div_mod_floor<T: Native>(n: T, d: T) -> (T, T) {
 /// Returns `true` if rounding toward zero, which leaves the remainder `r` by `d`, rounds the
 /// quotient up. `&` evaluates both tests, so there is no branch.
 fn is_rounded_up<T: Copy + Num + PartialOrd>(r: T, d: T) -> bool {
-    !r.is_zero() & ((r < T::zero()) != (d < T::zero()))
+    !is_zero(r) & (is_negative(r) != is_negative(d))
 }

@@ -2,20 +2,21 @@
 //! Divisors and multiples of the native types.
 
 use crate::integer_core::native::Native;
-use crate::plain::is_minus_one;
+use crate::integer_core::operators::{is_minus_one, is_zero, one, remainder};
+use crate::integer_core::plain::sum;
 
 /// Returns `true` if `d` divides `n`.
 pub(crate) fn is_multiple_of<T: Native>(n: T, d: T) -> bool {
-    if d.is_zero() {
-        n.is_zero()
+    if is_zero(d) {
+        is_zero(n)
     } else if is_minus_one(d) {
         true
     } else {
-        (n % d).is_zero()
+        is_zero(remainder(n, d))
     }
 }
 
 /// Returns `true` if `n` is even.
 pub(crate) fn is_even<T: Native>(n: T) -> bool {
-    is_multiple_of(n, T::one() + T::one())
+    is_multiple_of(n, sum(one(), one()))
 }

@@ -2,14 +2,15 @@
 // It also has what rust/by_hand/src/integer_core/native_integer.rs adds.
 //! `Integer` and `GcdCounted` for the native types.
 
-use crate::guards::Reason;
 use crate::integer_core::counted::GcdCounted;
+use crate::integer_core::guards::some;
+use crate::integer_core::guards::{check, Reason};
 use crate::integer_core::native::Native;
-use crate::integer_core::operators::is_minus_one;
+use crate::integer_core::operators::{is_minus_one, zero};
 use crate::integer_core::stein::{binary_gcd, gcd_lcm_of_magnitudes};
 use crate::integer_core::Magnitudes;
 use crate::integer_core::{division, divisors, Integer};
-use num_traits::PrimInt;
+use num_traits::{cast, PrimInt};
 
 /// A native integer type: `i8` to `i128`, `u8` to `u128`, `isize` or `usize`. The trait is sealed:
 /// no other crate can implement it.
@@ -47,7 +48,7 @@ impl<T: Native> Integer for T {
 
     fn mod_floor(&self, other: &T) -> T {
         if is_minus_one(*other) {
-            T::zero()
+            zero()
         } else {
             division::div_mod_floor(*self, *other).1
         }
@@ -74,43 +75,50 @@ impl<T: Native> Integer for T {
     }
 
     fn lcm(&self, other: &T) -> T {
-        crate::guards::number(
-            gcd_lcm_of_magnitudes(self.magnitude(), other.magnitude()).1,
-            "the least common multiple does not fit",
-        )
+        let lcm = gcd_lcm_of_magnitudes(self.magnitude(), other.magnitude()).1;
+        some(cast(lcm), "the least common multiple does not fit")
     }
 
     fn gcd_lcm(&self, other: &T) -> (T, T) {
         let (gcd, lcm) = gcd_lcm_of_magnitudes(self.magnitude(), other.magnitude());
-        (
-            crate::guards::number(gcd, "the greatest common divisor does not fit"),
-            crate::guards::number(lcm, "the least common multiple does not fit"),
-        )
+        let gcd = some(cast(gcd), "the greatest common divisor does not fit");
+        let lcm = some(cast(lcm), "the least common multiple does not fit");
+        (gcd, lcm)
     }
 
     #[inline]
     fn exact_sum(self, other: T, reason: Reason) -> T {
-        crate::guards::sum(self, other, reason.0)
+        some(self.checked_add(&other), reason.0)
     }
 
     #[inline]
     fn exact_difference(self, other: T, reason: Reason) -> T {
-        crate::guards::difference(self, other, reason.0)
+        some(self.checked_sub(&other), reason.0)
     }
 
     #[inline]
     fn exact_product(self, other: T, reason: Reason) -> T {
-        crate::guards::product(self, other, reason.0)
+        some(self.checked_mul(&other), reason.0)
     }
 
     #[inline]
     fn expect_pair(&self, other: &T, reason: Reason) {
-        crate::guards::expect_pair(*self, *other, reason);
+        let (a, b, zero, least) = (*self, *other, T::zero(), T::min_value());
+        if least < zero {
+            let is_end = |x: T| x == zero || x == least;
+            let fits = !is_end(a) || !is_end(b) || a.min(b) != least;
+            check(fits, "the greatest common divisor does not fit");
+        } else {
+            check(a.is_multiple_of(&b) || b.is_multiple_of(&a), reason.0);
+        }
     }
 
+    /// Where the product of the numbers fits, so does their multiple.
     #[inline]
-    fn expect_lcm(&self, other: &T, _reason: Reason) {
-        crate::guards::expect_lcm(*self, *other);
+    fn expect_lcm(&self, other: &T, reason: Reason) {
+        if self.checked_mul(other).is_none() {
+            some((*self / self.gcd(other)).checked_mul(other), reason.0);
+        }
     }
 }
 

@@ -2,14 +2,13 @@
 //! The greatest common divisor by Stein's binary method (Knuth, The Art of Computer Programming,
 //! volume 2, section 4.5.2, algorithm B).
 
+use crate::integer_core::guards::{product_or, some};
 use crate::integer_core::native::Native;
 use crate::integer_core::Magnitudes;
-use num_traits::Bounded;
+use num_traits::{cast, Bounded};
 
 /// A type of magnitudes, `u64` or `u128`, with the operations on bits that Stein's method needs.
-pub trait Magnitude:
-    Copy + num_traits::Unsigned + num_traits::CheckedMul + num_traits::ToPrimitive + PartialOrd
-{
+pub trait Magnitude: Copy + num_traits::NumCast + PartialOrd {
     /// Returns `true` if the number is 0. `7.is_zero()` is `false`.
     fn is_zero(self) -> bool;
 
@@ -17,6 +16,7 @@ pub trait Magnitude:
     fn successor(self) -> Self;
 
     /// Returns the number times the quotient of two others. `4.times_quotient(6, 2)` is `12`.
+    #[track_caller]
     fn times_quotient(self, dividend: Self, divisor: Self) -> Self;
 
     /// Returns the number without its factors 2, and how many they are. `12.odd_part()` is `(3,
@@ -51,7 +51,11 @@ impl Magnitude for u64 {
     }
 
     fn times_quotient(self, dividend: Self, divisor: Self) -> Self {
-        self * (dividend / divisor)
+        product_or(
+            self,
+            dividend / divisor,
+            "the least common multiple does not fit",
+        )
     }
 
     fn odd_part(self) -> (Self, u32) {
@@ -90,7 +94,11 @@ impl Magnitude for u128 {
     }
 
     fn times_quotient(self, dividend: Self, divisor: Self) -> Self {
-        self * (dividend / divisor)
+        product_or(
+            self,
+            dividend / divisor,
+            "the least common multiple does not fit",
+        )
     }
 
     fn odd_part(self) -> (Self, u32) {
@@ -198,10 +206,7 @@ pub(crate) fn gcd_lcm_of_magnitudes<M: Magnitude>(m: M, n: M) -> (M, M) {
         (m, n)
     } else {
         let gcd = positive_gcd(m, n).0;
-        (
-            gcd,
-            crate::guards::product(m, n / gcd, "the least common multiple does not fit"),
-        )
+        (gcd, m.times_quotient(n, gcd))
     }
 }
 
@@ -225,10 +230,8 @@ fn gcd_of_magnitudes<M: Magnitude>(m: M, n: M, has_power: bool) -> (M, u32) {
 #[track_caller]
 pub(crate) fn binary_gcd<T: Native>(a: T, b: T) -> (T, u32) {
     let (gcd, turns) = gcd_of_magnitudes(a.magnitude(), b.magnitude(), has_smallest(a, b));
-    (
-        crate::guards::number(gcd, "the greatest common divisor does not fit"),
-        turns,
-    )
+    let gcd = some(cast(gcd), "the greatest common divisor does not fit");
+    (gcd, turns)
 }
 
 /// Returns `true` if one of the numbers is the smallest of its type.

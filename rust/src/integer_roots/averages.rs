@@ -24,19 +24,7 @@ pub trait Average: Integer {
     /// assert_eq!(3.average_floor(&10), 6);
     /// ```
     ///
-    /// <details><summary>Proved</summary>
-    ///
-    /// Proved of the source in Rattle: each call returns, and then each `ensures` holds.
-    ///
-    /// ```text
-    /// ensures floor { IsAverageFloor (Self.value self.now) (Self.value other.now)
-    ///     (Self.value result) }
-    /// ```
-    ///
-    /// Words: [`IsAverageFloor`](crate::definitions::integer_roots#isaveragefloor),
-    /// [how to read it](crate::definitions).
-    ///
-    /// </details>
+    /// [Contract](crate::definitions::contracts#averageaverage_floor)
     #[must_use]
     fn average_floor(&self, other: &Self) -> Self;
 
@@ -50,19 +38,7 @@ pub trait Average: Integer {
     /// assert_eq!((-2).average_ceil(&-5), -3);
     /// ```
     ///
-    /// <details><summary>Proved</summary>
-    ///
-    /// Proved of the source in Rattle: each call returns, and then each `ensures` holds.
-    ///
-    /// ```text
-    /// ensures ceil { IsAverageCeil (Self.value self.now) (Self.value other.now)
-    ///     (Self.value result) }
-    /// ```
-    ///
-    /// Words: [`IsAverageCeil`](crate::definitions::integer_roots#isaverageceil),
-    /// [how to read it](crate::definitions).
-    ///
-    /// </details>
+    /// [Contract](crate::definitions::contracts#averageaverage_ceil)
     #[must_use]
     fn average_ceil(&self, other: &Self) -> Self;
 }
@@ -77,18 +53,7 @@ pub trait Average: Integer {
 /// assert_eq!(average_floor(3, 10), 6);
 /// ```
 ///
-/// <details><summary>Proved</summary>
-///
-/// Proved of the source in Rattle: each call returns, and then each `ensures` holds.
-///
-/// ```text
-/// ensures floor { IsAverageFloor (T.value x) (T.value y) (T.value result) }
-/// ```
-///
-/// Words: [`IsAverageFloor`](crate::definitions::integer_roots#isaveragefloor),
-/// [how to read it](crate::definitions).
-///
-/// </details>
+/// [Contract](crate::definitions::contracts#average_floor)
 #[must_use]
 pub fn average_floor<T: Average>(x: T, y: T) -> T {
     x.average_floor(&y)
@@ -104,18 +69,7 @@ pub fn average_floor<T: Average>(x: T, y: T) -> T {
 /// assert_eq!(average_ceil(3, 10), 7);
 /// ```
 ///
-/// <details><summary>Proved</summary>
-///
-/// Proved of the source in Rattle: each call returns, and then each `ensures` holds.
-///
-/// ```text
-/// ensures ceil { IsAverageCeil (T.value x) (T.value y) (T.value result) }
-/// ```
-///
-/// Words: [`IsAverageCeil`](crate::definitions::integer_roots#isaverageceil),
-/// [how to read it](crate::definitions).
-///
-/// </details>
+/// [Contract](crate::definitions::contracts#average_ceil)
 #[must_use]
 pub fn average_ceil<T: Average>(x: T, y: T) -> T {
     x.average_ceil(&y)

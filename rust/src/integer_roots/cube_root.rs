@@ -4,6 +4,7 @@
 use crate::integer_roots::newton::root_by_newton;
 
 /// Returns the cube root of `a`, a number of a type of `bits` bits.
+#[track_caller]
 pub(crate) fn cube_root(a: u64, bits: u32) -> u64 {
     if bits > 32 {
         wide_cube_root(a)
@@ -13,6 +14,7 @@ pub(crate) fn cube_root(a: u64, bits: u32) -> u64 {
 }
 
 /// Returns the cube root of a number of 64 bits.
+#[track_caller]
 fn wide_cube_root(a: u64) -> u64 {
     if a < 8 {
         return u64::from(a > 0);
@@ -24,6 +26,7 @@ fn wide_cube_root(a: u64) -> u64 {
 }
 
 /// Returns the cube root of `a`, by Newton's method.
+#[track_caller]
 fn cube_root_by_newton(a: u64) -> u64 {
     let step = move |x: u64| -> u64 { (a / (x * x) + 2 * x) / 3 };
     root_by_newton(a, 3, step)

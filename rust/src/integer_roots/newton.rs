@@ -3,6 +3,7 @@
 
 /// Returns the root of `a` of degree `n` by this step. The first guess is a power of two near the
 /// root.
+#[track_caller]
 pub(crate) fn root_by_newton<F: Fn(u64) -> u64>(a: u64, n: u32, step: F) -> u64 {
     newton(1 << a.ilog2().div_ceil(n), step).0
 }

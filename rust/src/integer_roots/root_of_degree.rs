@@ -4,6 +4,7 @@
 use crate::integer_roots::newton::root_by_newton;
 
 /// Returns the root of `a` of degree `n`.
+#[track_caller]
 pub(crate) fn root_of_degree(a: u64, n: u32) -> u64 {
     if a == 0 {
         return 0;

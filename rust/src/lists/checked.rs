@@ -3,14 +3,12 @@
 //! fit.
 
 use crate::coprime::signed_gcd;
-
+use crate::operators::{is_negative, is_zero, one, zero};
 use crate::{checked, Fits};
 
 /// Returns [`gcd_of`](crate::lists::gcd_of), the greatest common divisor of the numbers, or `None`
 /// if it does not fit. The only one that may not fit is that of a list in which each number is 0 or
 /// the smallest of the type.
-///
-/// [`lists::gcd_of`](crate::lists::gcd_of) is the same call, which panics outside the domain.
 ///
 /// # Examples
 ///
@@ -21,27 +19,11 @@ use crate::{checked, Fits};
 /// assert_eq!(gcd_of(&[i8::MIN, 0]), None);
 /// ```
 ///
-/// <details><summary>Proved</summary>
-///
-/// Proved of the source in Rattle: each call returns, and then each `ensures` holds.
-///
-/// ```text
-/// ensures { AnswersWhere
-///     (GcdOfFits T.fits (map T.value numbers.now))
-///     (λ g. T.fits (T.value g) × IsGreatestCommonDivisorOf (map T.value numbers.now) (T.value g))
-///     result }
-/// ```
-///
-/// Words: [`AnswersWhere`](crate::definitions::integer_core#answerswhere),
-/// [`GcdOfFits`](crate::definitions::applied#gcdoffits),
-/// [`IsGreatestCommonDivisorOf`](crate::definitions::applied#isgreatestcommondivisorof),
-/// [how to read it](crate::definitions).
-///
-/// </details>
+/// [Contract](crate::definitions::contracts#listscheckedgcd_of)
 #[must_use]
 pub fn gcd_of<T: Fits>(numbers: &[T]) -> Option<T> {
     let divisor = signed_gcd_of(numbers);
-    if divisor < T::zero() {
+    if is_negative(divisor) {
         checked::negated(divisor)
     } else {
         Some(divisor)
@@ -51,7 +33,7 @@ pub fn gcd_of<T: Fits>(numbers: &[T]) -> Option<T> {
 /// Returns a number whose magnitude is the greatest common divisor. That of the first numbers may
 /// not fit, even if that of all of them does, so the loop keeps it up to its sign.
 fn signed_gcd_of<T: Fits>(numbers: &[T]) -> T {
-    let mut divisor = T::zero();
+    let mut divisor = zero();
     for number in numbers {
         divisor = signed_gcd(divisor, *number);
     }
@@ -60,8 +42,6 @@ fn signed_gcd_of<T: Fits>(numbers: &[T]) -> T {
 
 /// Returns [`lcm_of`](crate::lists::lcm_of), the least common multiple of the numbers, or `None` if
 /// it does not fit.
-///
-/// [`lists::lcm_of`](crate::lists::lcm_of) is the same call, which panics outside the domain.
 ///
 /// # Examples
 ///
@@ -73,31 +53,15 @@ fn signed_gcd_of<T: Fits>(numbers: &[T]) -> T {
 /// assert_eq!(lcm_of(&[16u8, 17, 0]), Some(0));
 /// ```
 ///
-/// <details><summary>Proved</summary>
-///
-/// Proved of the source in Rattle: each call returns, and then each `ensures` holds.
-///
-/// ```text
-/// ensures { AnswersWhere
-///     (EachFits T.fits (IsLeastCommonMultipleOf (map T.value numbers.now)))
-///     (λ l. T.fits (T.value l) × IsLeastCommonMultipleOf (map T.value numbers.now) (T.value l))
-///     result }
-/// ```
-///
-/// Words: [`AnswersWhere`](crate::definitions::integer_core#answerswhere),
-/// [`EachFits`](crate::definitions::integer_core#eachfits),
-/// [`IsLeastCommonMultipleOf`](crate::definitions::applied#isleastcommonmultipleof),
-/// [how to read it](crate::definitions).
-///
-/// </details>
+/// [Contract](crate::definitions::contracts#listscheckedlcm_of)
 #[must_use]
 pub fn lcm_of<T: Fits>(numbers: &[T]) -> Option<T> {
     if has_zero(numbers) {
-        return Some(T::zero());
+        return Some(zero());
     }
     // Each multiple on the way divides the last one, which is not 0. So it fits if the last one
     // does.
-    let mut multiple = T::one();
+    let mut multiple = one();
     for number in numbers {
         multiple = checked::lcm(multiple, *number)?;
     }
@@ -107,7 +71,7 @@ pub fn lcm_of<T: Fits>(numbers: &[T]) -> Option<T> {
 /// Returns `true` if one of the numbers is 0.
 fn has_zero<T: Fits>(numbers: &[T]) -> bool {
     for number in numbers {
-        if number.is_zero() {
+        if is_zero(*number) {
             return true;
         }
     }

@@ -5,12 +5,10 @@
 
 use crate::modular::common_solutions::CommonSolution;
 use crate::modular::products::Modular;
-
+use crate::operators::{is_below, zero};
 use crate::{Fits, Integer};
 
 /// Returns [`residue`](crate::modular::residue), or `None` if `m` is not positive.
-///
-/// [`modular::residue`](crate::modular::residue) is the same call, which panics outside the domain.
 ///
 /// # Examples
 ///
@@ -21,20 +19,7 @@ use crate::{Fits, Integer};
 /// assert_eq!(residue(-3, 0), None);
 /// ```
 ///
-/// <details><summary>Proved</summary>
-///
-/// Proved of the source in Rattle: each call returns, and then each `ensures` holds.
-///
-/// ```text
-/// ensures { AnswersWhere (pos 0 <ℤ T.value m)
-///     (Has T.fits T.value (IsResidue (T.value m) (T.value a))) result }
-/// ```
-///
-/// Words: [`AnswersWhere`](crate::definitions::integer_core#answerswhere),
-/// [`Has`](crate::definitions::integer_core#has),
-/// [`IsResidue`](crate::definitions::modular#isresidue), [how to read it](crate::definitions).
-///
-/// </details>
+/// [Contract](crate::definitions::contracts#modularcheckedresidue)
 #[must_use]
 pub fn residue<T: Integer + Copy>(a: T, m: T) -> Option<T> {
     if is_positive(m) {
@@ -46,9 +31,6 @@ pub fn residue<T: Integer + Copy>(a: T, m: T) -> Option<T> {
 
 /// Returns [`sum_modulo`](crate::modular::sum_modulo), or `None` if `m` is not positive.
 ///
-/// [`modular::sum_modulo`](crate::modular::sum_modulo) is the same call, which panics outside the
-/// domain.
-///
 /// # Examples
 ///
 /// ```
@@ -58,20 +40,7 @@ pub fn residue<T: Integer + Copy>(a: T, m: T) -> Option<T> {
 /// assert_eq!(sum_modulo(5, 4, -7), None);
 /// ```
 ///
-/// <details><summary>Proved</summary>
-///
-/// Proved of the source in Rattle: each call returns, and then each `ensures` holds.
-///
-/// ```text
-/// ensures { AnswersWhere (pos 0 <ℤ T.value m)
-///     (Has T.fits T.value (IsResidue (T.value m) (T.value a +ℤ T.value b))) result }
-/// ```
-///
-/// Words: [`AnswersWhere`](crate::definitions::integer_core#answerswhere),
-/// [`Has`](crate::definitions::integer_core#has),
-/// [`IsResidue`](crate::definitions::modular#isresidue), [how to read it](crate::definitions).
-///
-/// </details>
+/// [Contract](crate::definitions::contracts#modularcheckedsum_modulo)
 #[must_use]
 pub fn sum_modulo<T: Integer + Copy>(a: T, b: T, m: T) -> Option<T> {
     if is_positive(m) {
@@ -84,9 +53,6 @@ pub fn sum_modulo<T: Integer + Copy>(a: T, b: T, m: T) -> Option<T> {
 /// Returns [`difference_modulo`](crate::modular::difference_modulo), or `None` if `m` is not
 /// positive.
 ///
-/// [`modular::difference_modulo`](crate::modular::difference_modulo) is the same call, which panics
-/// outside the domain.
-///
 /// # Examples
 ///
 /// ```
@@ -96,20 +62,7 @@ pub fn sum_modulo<T: Integer + Copy>(a: T, b: T, m: T) -> Option<T> {
 /// assert_eq!(difference_modulo(2, 5, 0), None);
 /// ```
 ///
-/// <details><summary>Proved</summary>
-///
-/// Proved of the source in Rattle: each call returns, and then each `ensures` holds.
-///
-/// ```text
-/// ensures { AnswersWhere (pos 0 <ℤ T.value m)
-///     (Has T.fits T.value (IsResidue (T.value m) (T.value a -ℤ T.value b))) result }
-/// ```
-///
-/// Words: [`AnswersWhere`](crate::definitions::integer_core#answerswhere),
-/// [`Has`](crate::definitions::integer_core#has),
-/// [`IsResidue`](crate::definitions::modular#isresidue), [how to read it](crate::definitions).
-///
-/// </details>
+/// [Contract](crate::definitions::contracts#modularcheckeddifference_modulo)
 #[must_use]
 pub fn difference_modulo<T: Integer + Copy>(a: T, b: T, m: T) -> Option<T> {
     if is_positive(m) {
@@ -121,9 +74,6 @@ pub fn difference_modulo<T: Integer + Copy>(a: T, b: T, m: T) -> Option<T> {
 
 /// Returns [`negation_modulo`](crate::modular::negation_modulo), or `None` if `m` is not positive.
 ///
-/// [`modular::negation_modulo`](crate::modular::negation_modulo) is the same call, which panics
-/// outside the domain.
-///
 /// # Examples
 ///
 /// ```
@@ -133,20 +83,7 @@ pub fn difference_modulo<T: Integer + Copy>(a: T, b: T, m: T) -> Option<T> {
 /// assert_eq!(negation_modulo(2, 0), None);
 /// ```
 ///
-/// <details><summary>Proved</summary>
-///
-/// Proved of the source in Rattle: each call returns, and then each `ensures` holds.
-///
-/// ```text
-/// ensures { AnswersWhere (pos 0 <ℤ T.value m)
-///     (Has T.fits T.value (IsResidue (T.value m) (neg_ℤ (T.value a)))) result }
-/// ```
-///
-/// Words: [`AnswersWhere`](crate::definitions::integer_core#answerswhere),
-/// [`Has`](crate::definitions::integer_core#has),
-/// [`IsResidue`](crate::definitions::modular#isresidue), [how to read it](crate::definitions).
-///
-/// </details>
+/// [Contract](crate::definitions::contracts#modularcheckednegation_modulo)
 #[must_use]
 pub fn negation_modulo<T: Integer + Copy>(a: T, m: T) -> Option<T> {
     if is_positive(m) {
@@ -158,9 +95,6 @@ pub fn negation_modulo<T: Integer + Copy>(a: T, m: T) -> Option<T> {
 
 /// Returns [`product_modulo`](crate::modular::product_modulo), or `None` if `m` is not positive.
 ///
-/// [`modular::product_modulo`](crate::modular::product_modulo) is the same call, which panics
-/// outside the domain.
-///
 /// # Examples
 ///
 /// ```
@@ -170,20 +104,7 @@ pub fn negation_modulo<T: Integer + Copy>(a: T, m: T) -> Option<T> {
 /// assert_eq!(product_modulo(4, 5, 0), None);
 /// ```
 ///
-/// <details><summary>Proved</summary>
-///
-/// Proved of the source in Rattle: each call returns, and then each `ensures` holds.
-///
-/// ```text
-/// ensures { AnswersWhere (pos 0 <ℤ T.value m)
-///     (Has T.fits T.value (IsResidue (T.value m) (T.value a *ℤ T.value b))) result }
-/// ```
-///
-/// Words: [`AnswersWhere`](crate::definitions::integer_core#answerswhere),
-/// [`Has`](crate::definitions::integer_core#has),
-/// [`IsResidue`](crate::definitions::modular#isresidue), [how to read it](crate::definitions).
-///
-/// </details>
+/// [Contract](crate::definitions::contracts#modularcheckedproduct_modulo)
 #[must_use]
 pub fn product_modulo<T: Modular>(a: T, b: T, m: T) -> Option<T> {
     if is_positive(m) {
@@ -195,9 +116,6 @@ pub fn product_modulo<T: Modular>(a: T, b: T, m: T) -> Option<T> {
 
 /// Returns [`power_modulo`](crate::modular::power_modulo), or `None` if `m` is not positive.
 ///
-/// [`modular::power_modulo`](crate::modular::power_modulo) is the same call, which panics outside
-/// the domain.
-///
 /// # Examples
 ///
 /// ```
@@ -207,20 +125,7 @@ pub fn product_modulo<T: Modular>(a: T, b: T, m: T) -> Option<T> {
 /// assert_eq!(power_modulo(3, 4, 0), None);
 /// ```
 ///
-/// <details><summary>Proved</summary>
-///
-/// Proved of the source in Rattle: each call returns, and then each `ensures` holds.
-///
-/// ```text
-/// ensures { AnswersWhere (pos 0 <ℤ T.value m)
-///     (Has T.fits T.value (IsResidue (T.value m) (int_pow (T.value a) exponent))) result }
-/// ```
-///
-/// Words: [`AnswersWhere`](crate::definitions::integer_core#answerswhere),
-/// [`Has`](crate::definitions::integer_core#has),
-/// [`IsResidue`](crate::definitions::modular#isresidue), [how to read it](crate::definitions).
-///
-/// </details>
+/// [Contract](crate::definitions::contracts#modularcheckedpower_modulo)
 #[must_use]
 pub fn power_modulo<T: Modular>(a: T, exponent: u128, m: T) -> Option<T> {
     if is_positive(m) {
@@ -233,9 +138,6 @@ pub fn power_modulo<T: Modular>(a: T, exponent: u128, m: T) -> Option<T> {
 /// Returns [`inverse_modulo`](crate::modular::inverse_modulo), or `None` if `m` is not positive or
 /// there is no inverse.
 ///
-/// [`modular::inverse_modulo`](crate::modular::inverse_modulo) is the same call, which panics
-/// outside the domain.
-///
 /// # Examples
 ///
 /// ```
@@ -245,19 +147,7 @@ pub fn power_modulo<T: Modular>(a: T, exponent: u128, m: T) -> Option<T> {
 /// assert_eq!(inverse_modulo(3, 0), None);
 /// ```
 ///
-/// <details><summary>Proved</summary>
-///
-/// Proved of the source in Rattle: each call returns, and then each `ensures` holds.
-///
-/// ```text
-/// ensures { MatchOption result ((x : ℤ) → ¬ (IsInverse (T.value a) (T.value m) x))
-///     (Has T.fits T.value (IsInverse (T.value a) (T.value m))) }
-/// ```
-///
-/// Words: [`IsInverse`](crate::definitions::modular#isinverse),
-/// [`Has`](crate::definitions::integer_core#has), [how to read it](crate::definitions).
-///
-/// </details>
+/// [Contract](crate::definitions::contracts#modularcheckedinverse_modulo)
 #[must_use]
 pub fn inverse_modulo<T: Integer + Copy>(a: T, m: T) -> Option<T> {
     if is_positive(m) {
@@ -270,9 +160,6 @@ pub fn inverse_modulo<T: Integer + Copy>(a: T, m: T) -> Option<T> {
 /// Returns [`quotient_modulo`](crate::modular::quotient_modulo), or `None` if `m` is not positive
 /// or `b` has no inverse.
 ///
-/// [`modular::quotient_modulo`](crate::modular::quotient_modulo) is the same call, which panics
-/// outside the domain.
-///
 /// # Examples
 ///
 /// ```
@@ -282,21 +169,7 @@ pub fn inverse_modulo<T: Integer + Copy>(a: T, m: T) -> Option<T> {
 /// assert_eq!(quotient_modulo(2, 3, 0), None);
 /// ```
 ///
-/// <details><summary>Proved</summary>
-///
-/// Proved of the source in Rattle: each call returns, and then each `ensures` holds.
-///
-/// ```text
-/// ensures { MatchOption result ((x : ℤ) → ¬ (IsInverse (T.value b) (T.value m) x))
-///     (Has T.fits T.value (IsQuotientModulo (T.value a) (T.value b) (T.value m))) }
-/// ```
-///
-/// Words: [`IsInverse`](crate::definitions::modular#isinverse),
-/// [`Has`](crate::definitions::integer_core#has),
-/// [`IsQuotientModulo`](crate::definitions::modular#isquotientmodulo),
-/// [how to read it](crate::definitions).
-///
-/// </details>
+/// [Contract](crate::definitions::contracts#modularcheckedquotient_modulo)
 #[must_use]
 pub fn quotient_modulo<T: Modular>(a: T, b: T, m: T) -> Option<T> {
     if is_positive(m) {
@@ -309,9 +182,6 @@ pub fn quotient_modulo<T: Modular>(a: T, b: T, m: T) -> Option<T> {
 /// Returns [`solutions`](crate::modular::solutions), or `None` if `m` is not positive or there is
 /// no solution.
 ///
-/// [`modular::solutions`](crate::modular::solutions) is the same call, which panics outside the
-/// domain.
-///
 /// # Examples
 ///
 /// ```
@@ -321,25 +191,7 @@ pub fn quotient_modulo<T: Modular>(a: T, b: T, m: T) -> Option<T> {
 /// assert_eq!(solutions(6, 4, 0), None);
 /// ```
 ///
-/// <details><summary>Proved</summary>
-///
-/// Proved of the source in Rattle: each call returns, and then each `ensures` holds.
-///
-/// ```text
-/// ensures { MatchWhere (pos 0 <ℤ T.value m) result
-///     ((x : ℤ) → ¬ (Solves (T.value a) (T.value b) (T.value m) x))
-///     (λ s. T.fits (T.value s.0) × T.fits (T.value s.1)
-///     × IsResidueClass (Solves (T.value a) (T.value b) (T.value m)) (T.value s.0) (T.value s.1)
-///     × IsReducedModulus (T.value a) (T.value m) (T.value s.1)) }
-/// ```
-///
-/// Words: [`MatchWhere`](crate::definitions::modular#matchwhere),
-/// [`Solves`](crate::definitions::modular#solves),
-/// [`IsResidueClass`](crate::definitions::modular#isresidueclass),
-/// [`IsReducedModulus`](crate::definitions::modular#isreducedmodulus),
-/// [how to read it](crate::definitions).
-///
-/// </details>
+/// [Contract](crate::definitions::contracts#modularcheckedsolutions)
 #[must_use]
 pub fn solutions<T: Modular>(a: T, b: T, m: T) -> Option<(T, T)> {
     if is_positive(m) {
@@ -352,9 +204,6 @@ pub fn solutions<T: Modular>(a: T, b: T, m: T) -> Option<(T, T)> {
 /// Returns [`next_congruent`](crate::modular::next_congruent), or `None` if `step` is not positive
 /// or the number does not fit.
 ///
-/// [`modular::next_congruent`](crate::modular::next_congruent) is the same call, which panics
-/// outside the domain.
-///
 /// # Examples
 ///
 /// ```
@@ -364,21 +213,7 @@ pub fn solutions<T: Modular>(a: T, b: T, m: T) -> Option<(T, T)> {
 /// assert_eq!(next_congruent(10, 1, 0), None);
 /// ```
 ///
-/// <details><summary>Proved</summary>
-///
-/// Proved of the source in Rattle: each call returns, and then each `ensures` holds.
-///
-/// ```text
-/// ensures { MatchWhere (pos 0 <ℤ T.value step) result
-///     ((t : ℤ) × IsNextCongruent (T.value from) (T.value first) (T.value step) t × ¬ (T.fits t))
-///     (Has T.fits T.value (IsNextCongruent (T.value from) (T.value first) (T.value step))) }
-/// ```
-///
-/// Words: [`MatchWhere`](crate::definitions::modular#matchwhere),
-/// [`IsNextCongruent`](crate::definitions::modular#isnextcongruent),
-/// [`Has`](crate::definitions::integer_core#has), [how to read it](crate::definitions).
-///
-/// </details>
+/// [Contract](crate::definitions::contracts#modularcheckednext_congruent)
 #[must_use]
 pub fn next_congruent<T: Fits>(from: T, first: T, step: T) -> Option<T> {
     if is_positive(step) {
@@ -391,9 +226,6 @@ pub fn next_congruent<T: Fits>(from: T, first: T, step: T) -> Option<T> {
 /// Returns [`previous_congruent`](crate::modular::previous_congruent), or `None` if `step` is not
 /// positive or the number does not fit.
 ///
-/// [`modular::previous_congruent`](crate::modular::previous_congruent) is the same call, which
-/// panics outside the domain.
-///
 /// # Examples
 ///
 /// ```
@@ -403,22 +235,7 @@ pub fn next_congruent<T: Fits>(from: T, first: T, step: T) -> Option<T> {
 /// assert_eq!(previous_congruent(10, 1, 0), None);
 /// ```
 ///
-/// <details><summary>Proved</summary>
-///
-/// Proved of the source in Rattle: each call returns, and then each `ensures` holds.
-///
-/// ```text
-/// ensures { MatchWhere (pos 0 <ℤ T.value step) result
-///     ((t : ℤ) × IsPreviousCongruent (T.value to) (T.value first) (T.value step) t
-///     × ¬ (T.fits t))
-///     (Has T.fits T.value (IsPreviousCongruent (T.value to) (T.value first) (T.value step))) }
-/// ```
-///
-/// Words: [`MatchWhere`](crate::definitions::modular#matchwhere),
-/// [`IsPreviousCongruent`](crate::definitions::modular#ispreviouscongruent),
-/// [`Has`](crate::definitions::integer_core#has), [how to read it](crate::definitions).
-///
-/// </details>
+/// [Contract](crate::definitions::contracts#modularcheckedprevious_congruent)
 #[must_use]
 pub fn previous_congruent<T: Fits>(to: T, first: T, step: T) -> Option<T> {
     if is_positive(step) {
@@ -431,9 +248,6 @@ pub fn previous_congruent<T: Fits>(to: T, first: T, step: T) -> Option<T> {
 /// Returns [`count_congruent`](crate::modular::count_congruent), or `None` if `step` is not
 /// positive or the count does not fit.
 ///
-/// [`modular::count_congruent`](crate::modular::count_congruent) is the same call, which panics
-/// outside the domain.
-///
 /// # Examples
 ///
 /// ```
@@ -443,23 +257,7 @@ pub fn previous_congruent<T: Fits>(to: T, first: T, step: T) -> Option<T> {
 /// assert_eq!(count_congruent(1, 10, 1, 0), None);
 /// ```
 ///
-/// <details><summary>Proved</summary>
-///
-/// Proved of the source in Rattle: each call returns, and then each `ensures` holds.
-///
-/// ```text
-/// ensures { MatchWhere (pos 0 <ℤ T.value step) result
-///     ((n : ℤ) × IsCountOfCongruent (T.value from) (T.value to) (T.value first) (T.value step) n
-///     × ¬ (T.fits n))
-///     (Has T.fits T.value (IsCountOfCongruent (T.value from) (T.value to) (T.value first)
-///     (T.value step))) }
-/// ```
-///
-/// Words: [`MatchWhere`](crate::definitions::modular#matchwhere),
-/// [`IsCountOfCongruent`](crate::definitions::modular#iscountofcongruent),
-/// [`Has`](crate::definitions::integer_core#has), [how to read it](crate::definitions).
-///
-/// </details>
+/// [Contract](crate::definitions::contracts#modularcheckedcount_congruent)
 #[must_use]
 pub fn count_congruent<T: Fits>(from: T, to: T, first: T, step: T) -> Option<T> {
     if is_positive(step) {
@@ -473,9 +271,6 @@ pub fn count_congruent<T: Fits>(from: T, to: T, first: T, step: T) -> Option<T> 
 /// positive, if the least common multiple of the moduli does not fit, or if there is no such
 /// number.
 ///
-/// [`modular::chinese_remainder`](crate::modular::chinese_remainder) is the same call, which panics
-/// outside the domain.
-///
 /// # Examples
 ///
 /// ```
@@ -485,27 +280,7 @@ pub fn count_congruent<T: Fits>(from: T, to: T, first: T, step: T) -> Option<T> 
 /// assert_eq!(chinese_remainder(1, 4, 3, 0), None);
 /// ```
 ///
-/// <details><summary>Proved</summary>
-///
-/// Proved of the source in Rattle: each call returns, and then each `ensures` holds.
-///
-/// ```text
-/// ensures { MatchWhere ((pos 0 <ℤ T.value m) × (pos 0 <ℤ T.value n)
-///     × EachFits T.fits (IsLeastCommonMultiple (T.value m) (T.value n))) result
-///     ((x : ℤ) → ¬ (SolvesBothCongruences (T.value a) (T.value m) (T.value b) (T.value n) x))
-///     (λ s. T.fits (T.value s.0) × T.fits (T.value s.1)
-///     × IsResidueClass (SolvesBothCongruences (T.value a) (T.value m) (T.value b) (T.value n))
-///     (T.value s.0) (T.value s.1)) }
-/// ```
-///
-/// Words: [`MatchWhere`](crate::definitions::modular#matchwhere),
-/// [`EachFits`](crate::definitions::integer_core#eachfits),
-/// [`IsLeastCommonMultiple`](crate::definitions::integer_core#isleastcommonmultiple),
-/// [`SolvesBothCongruences`](crate::definitions::modular#solvesbothcongruences),
-/// [`IsResidueClass`](crate::definitions::modular#isresidueclass),
-/// [how to read it](crate::definitions).
-///
-/// </details>
+/// [Contract](crate::definitions::contracts#modularcheckedchinese_remainder)
 #[must_use]
 pub fn chinese_remainder<T: Modular + Fits>(a: T, m: T, b: T, n: T) -> Option<(T, T)> {
     if is_positive(m) && is_positive(n) && m.lcm_fits(&n) {
@@ -518,9 +293,6 @@ pub fn chinese_remainder<T: Modular + Fits>(a: T, m: T, b: T, n: T) -> Option<(T
 /// Returns [`next_common_solution`](crate::modular::next_common_solution), or `None` if a modulus
 /// is not positive.
 ///
-/// [`modular::next_common_solution`](crate::modular::next_common_solution) is the same call, which
-/// panics outside the domain.
-///
 /// # Examples
 ///
 /// ```
@@ -531,28 +303,7 @@ pub fn chinese_remainder<T: Modular + Fits>(a: T, m: T, b: T, n: T) -> Option<(T
 /// assert_eq!(next_common_solution(10, 1, 0, 3, 6), None);
 /// ```
 ///
-/// <details><summary>Proved</summary>
-///
-/// Proved of the source in Rattle: each call returns, and then each `ensures` holds.
-///
-/// ```text
-/// ensures { AnswersWhere ((pos 0 <ℤ T.value m) × (pos 0 <ℤ T.value n))
-///     (λ s. MatchCommonSolution s
-///     ((x : ℤ) → ¬ (SolvesBothCongruences (T.value a) (T.value m) (T.value b) (T.value n) x))
-///     ((t : ℤ) × IsNextCommonSolution (T.value from) (T.value a) (T.value m) (T.value b)
-///     (T.value n) t × ¬ (T.fits t))
-///     (Has T.fits T.value (IsNextCommonSolution (T.value from) (T.value a) (T.value m)
-///     (T.value b) (T.value n))))
-///     result }
-/// ```
-///
-/// Words: [`AnswersWhere`](crate::definitions::integer_core#answerswhere),
-/// [`MatchCommonSolution`](crate::definitions::modular#matchcommonsolution),
-/// [`SolvesBothCongruences`](crate::definitions::modular#solvesbothcongruences),
-/// [`IsNextCommonSolution`](crate::definitions::modular#isnextcommonsolution),
-/// [`Has`](crate::definitions::integer_core#has), [how to read it](crate::definitions).
-///
-/// </details>
+/// [Contract](crate::definitions::contracts#modularcheckednext_common_solution)
 #[must_use]
 pub fn next_common_solution<T: Modular + Fits>(
     from: T,
@@ -571,12 +322,6 @@ pub fn next_common_solution<T: Modular + Fits>(
 /// Returns [`next_common_solution_of`](crate::modular::next_common_solution_of), or `None` if a
 /// modulus is not positive.
 ///
-/// In Rattle, a function that passes on a slice of its own parameters asks its callers for
-/// `in_range` too.
-///
-/// [`modular::next_common_solution_of`](crate::modular::next_common_solution_of) is the same call,
-/// which panics outside the domain.
-///
 /// # Examples
 ///
 /// ```
@@ -590,29 +335,7 @@ pub fn next_common_solution<T: Modular + Fits>(
 /// assert_eq!(next_common_solution_of(10, &[(1, 4), (3, 0)]), None);
 /// ```
 ///
-/// <details><summary>Proved</summary>
-///
-/// Proved of the source in Rattle: if each `requires` holds, the call returns, and then each
-/// `ensures` holds.
-///
-/// ```text
-/// requires in_range { All (λ c. T.fits (T.value c.0) × T.fits (T.value c.1)) congruences.now }
-/// ensures { AnswersWhere (All (λ c. pos 0 <ℤ T.value c.1) congruences.now)
-///     (λ s. MatchCommonSolution s
-///     ((x : ℤ) → ¬ (SolvesEach T.value congruences.now x))
-///     ((t : ℤ) × IsLeastFrom (T.value from) (SolvesEach T.value congruences.now) t
-///     × ¬ (T.fits t))
-///     (Has T.fits T.value (IsLeastFrom (T.value from) (SolvesEach T.value congruences.now))))
-///     result }
-/// ```
-///
-/// Words: [`AnswersWhere`](crate::definitions::integer_core#answerswhere),
-/// [`MatchCommonSolution`](crate::definitions::modular#matchcommonsolution),
-/// [`SolvesEach`](crate::definitions::modular#solveseach),
-/// [`IsLeastFrom`](crate::definitions::integer_core#isleastfrom),
-/// [`Has`](crate::definitions::integer_core#has), [how to read it](crate::definitions).
-///
-/// </details>
+/// [Contract](crate::definitions::contracts#modularcheckednext_common_solution_of)
 #[must_use]
 pub fn next_common_solution_of<T: Modular + Fits>(
     from: T,
@@ -638,5 +361,5 @@ fn are_positive<T: Integer + Copy>(congruences: &[(T, T)]) -> bool {
 
 /// Returns `true` if the modulus is positive.
 fn is_positive<T: Integer>(m: T) -> bool {
-    T::zero() < m
+    is_below(zero(), m)
 }

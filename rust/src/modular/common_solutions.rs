@@ -2,20 +2,19 @@
 //! Two congruences at once: the numbers that solve both, and the next one, even if the least common
 //! multiple of the moduli does not fit.
 
+use crate::guards::{check, check_lcm};
 use crate::modular::products::Modular;
 use crate::modular::residue_classes::{next_congruent, solutions, times_to_reach};
 use crate::modular::residues::{difference_modulo, residue};
-use crate::operators::{difference, product, successor, sum};
+use crate::operators::{difference, is_below, is_negative, product, successor, sum, zero};
 use crate::{checked, Fits};
 
 /// Returns the numbers that are `a` modulo `m` and `b` modulo `n`, as the smallest that is not
 /// negative and the step from each to the next. It is `None` if there is no such number.
 ///
-/// `m` and `n` must be positive, and their least common multiple must fit, which `Fits::lcm_fits`
-/// tests.
-///
-/// [`modular::checked::chinese_remainder`](crate::modular::checked::chinese_remainder) is the same
-/// call, which returns `None` outside the domain.
+/// [`Fits::lcm_fits`] tests whether the least common multiple fits, and
+/// [`checked::chinese_remainder`](crate::modular::checked::chinese_remainder) returns `None`
+/// outside the domain.
 ///
 /// # Examples
 ///
@@ -28,41 +27,15 @@ use crate::{checked, Fits};
 ///
 /// # Panics
 ///
-/// If the modulus is not positive, or if the least common multiple does not fit.
+/// If a modulus is not positive, or if the least common multiple does not fit.
 ///
-/// <details><summary>Proved</summary>
-///
-/// Proved of the source in Rattle: if each `requires` holds, the call returns, and then each
-/// `ensures` holds.
-///
-/// ```text
-/// requires m_positive { pos 0 <ℤ T.value m }
-/// requires n_positive { pos 0 <ℤ T.value n }
-/// requires lcm_fits { EachFits T.fits (IsLeastCommonMultiple (T.value m) (T.value n)) }
-/// ensures { MatchOption result
-///     ((x : ℤ) → ¬ (SolvesBothCongruences (T.value a) (T.value m) (T.value b) (T.value n) x))
-///     (λ s. T.fits (T.value s.0) × T.fits (T.value s.1)
-///         × IsResidueClass (SolvesBothCongruences (T.value a) (T.value m) (T.value b) (T.value n))
-///         (T.value s.0)
-///     (T.value s.1)) }
-/// ```
-///
-/// Words: [`EachFits`](crate::definitions::integer_core#eachfits),
-/// [`IsLeastCommonMultiple`](crate::definitions::integer_core#isleastcommonmultiple),
-/// [`SolvesBothCongruences`](crate::definitions::modular#solvesbothcongruences),
-/// [`IsResidueClass`](crate::definitions::modular#isresidueclass),
-/// [how to read it](crate::definitions).
-///
-/// </details>
+/// [Contract](crate::definitions::contracts#modularchinese_remainder)
 #[track_caller]
 #[must_use]
 pub fn chinese_remainder<T: Modular>(a: T, m: T, b: T, n: T) -> Option<(T, T)> {
-    assert!(m > T::zero(), "the modulus is not positive");
-    assert!(n > T::zero(), "the modulus is not positive");
-    m.expect_lcm(
-        &n,
-        crate::guards::Reason("the least common multiple does not fit"),
-    );
+    check(is_below(zero(), m), "the modulus is not positive");
+    check(is_below(zero(), n), "the modulus is not positive");
+    check_lcm(&m, &n, "the least common multiple does not fit");
     let start = residue(a, m);
     let gap = difference_modulo(b, start, n);
     let (times, step) = solutions(m, gap, n)?;
@@ -103,18 +76,7 @@ impl<T> CommonSolution<T> {
     /// assert_eq!(CommonSolution::<i64>::Never.value(), None);
     /// ```
     ///
-    /// <details><summary>Proved</summary>
-    ///
-    /// Proved of the source in Rattle: each call returns, and then each `ensures` holds.
-    ///
-    /// ```text
-    /// ensures { MatchCommonSolution self (result ≡ None) (result ≡ None) (λ t. result ≡ Some t) }
-    /// ```
-    ///
-    /// Words: [`MatchCommonSolution`](crate::definitions::modular#matchcommonsolution),
-    /// [how to read it](crate::definitions).
-    ///
-    /// </details>
+    /// [Contract](crate::definitions::contracts#modularcommonsolutionvalue)
     #[must_use]
     pub fn value(self) -> Option<T> {
         match self {
@@ -128,10 +90,8 @@ impl<T> CommonSolution<T> {
 /// Returns the smallest number from `from` on that is `a` modulo `m` and `b` modulo `n`. The least
 /// common multiple of `m` and `n` need not fit.
 ///
-/// `m` and `n` must be positive.
-///
-/// [`modular::checked::next_common_solution`](crate::modular::checked::next_common_solution) is the
-/// same call, which returns `None` outside the domain.
+/// [`checked::next_common_solution`](crate::modular::checked::next_common_solution) returns `None`
+/// outside the domain.
 ///
 /// # Examples
 ///
@@ -143,30 +103,9 @@ impl<T> CommonSolution<T> {
 ///
 /// # Panics
 ///
-/// If the modulus is not positive.
+/// If a modulus is not positive.
 ///
-/// <details><summary>Proved</summary>
-///
-/// Proved of the source in Rattle: if each `requires` holds, the call returns, and then each
-/// `ensures` holds.
-///
-/// ```text
-/// requires m_positive { pos 0 <ℤ T.value m }
-/// requires n_positive { pos 0 <ℤ T.value n }
-/// ensures { MatchCommonSolution result
-///     ((x : ℤ) → ¬ (SolvesBothCongruences (T.value a) (T.value m) (T.value b) (T.value n) x))
-///     ((t : ℤ) × IsNextCommonSolution (T.value from) (T.value a) (T.value m) (T.value b)
-///     (T.value n) t × ¬ (T.fits t))
-///     (Has T.fits T.value (IsNextCommonSolution (T.value from) (T.value a) (T.value m)
-///     (T.value b) (T.value n))) }
-/// ```
-///
-/// Words: [`MatchCommonSolution`](crate::definitions::modular#matchcommonsolution),
-/// [`SolvesBothCongruences`](crate::definitions::modular#solvesbothcongruences),
-/// [`IsNextCommonSolution`](crate::definitions::modular#isnextcommonsolution),
-/// [`Has`](crate::definitions::integer_core#has), [how to read it](crate::definitions).
-///
-/// </details>
+/// [Contract](crate::definitions::contracts#modularnext_common_solution)
 #[track_caller]
 #[must_use]
 pub fn next_common_solution<T: Modular + Fits>(
@@ -176,8 +115,8 @@ pub fn next_common_solution<T: Modular + Fits>(
     b: T,
     n: T,
 ) -> CommonSolution<T> {
-    assert!(m > T::zero(), "the modulus is not positive");
-    assert!(n > T::zero(), "the modulus is not positive");
+    check(is_below(zero(), m), "the modulus is not positive");
+    check(is_below(zero(), n), "the modulus is not positive");
     let start = residue(a, m);
     let gap = difference_modulo(b, start, n);
     match solutions(m, gap, n) {
@@ -191,14 +130,16 @@ pub fn next_common_solution<T: Modular + Fits>(
 
 /// Returns the smallest number from `from` on that is `start` plus k times `m` for a k that is
 /// `first` modulo `step`, or `None` if it is too large for the type.
+#[track_caller]
 fn next_in_class<T: Fits>(from: T, start: T, m: T, first: T, step: T) -> Option<T> {
     let times = next_congruent(times_to_reach(from, start, m), first, step)?;
     plus_times(start, times, m)
 }
 
 /// Returns `start` plus `times` times `m`, or `None` if that does not fit.
+#[track_caller]
 fn plus_times<T: Fits>(start: T, times: T, m: T) -> Option<T> {
-    if times < T::zero() {
+    if is_negative(times) {
         let size = product(m, successor(times));
         Some(sum(size, difference(start, m)))
     } else {

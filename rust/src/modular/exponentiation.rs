@@ -22,6 +22,7 @@ pub(crate) trait ResidueForm {
 
 /// Returns the power of a residue, and the number of turns: one for each binary digit of the
 /// exponent after the first. `one`, `base` and the power are residues in the form `form`.
+#[track_caller]
 pub(crate) fn power_counted<F: ResidueForm>(
     form: &F,
     one: F::Number,

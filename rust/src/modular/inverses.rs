@@ -3,18 +3,17 @@
 //! own Euclidean loop: `extended_gcd` needs signed coefficients and computes both, and an inverse
 //! needs only one.
 
+use crate::guards::check;
 use crate::modular::products::Modular;
 use crate::modular::residues::{negation_modulo, residue};
-use crate::operators::{product, sum};
+use crate::operators::{is_below, is_one, is_zero, one, product, sum, zero};
 use crate::Integer;
 
 /// Returns the inverse of `a` modulo `m`: the number x of 0..m for which `a` times x is 1 modulo
 /// `m`. It is `None` if `a` and `m` have a common divisor above 1.
 ///
-/// `m` must be positive.
-///
-/// [`modular::checked::inverse_modulo`](crate::modular::checked::inverse_modulo) is the same call,
-/// which returns `None` outside the domain.
+/// [`checked::inverse_modulo`](crate::modular::checked::inverse_modulo) returns `None` outside the
+/// domain.
 ///
 /// # Examples
 ///
@@ -29,31 +28,13 @@ use crate::Integer;
 ///
 /// If the modulus is not positive.
 ///
-/// <details><summary>Proved</summary>
-///
-/// Proved of the source in Rattle: if each `requires` holds, the call returns, and then each
-/// `ensures` holds.
-///
-/// ```text
-/// requires positive { pos 0 <ℤ T.value m }
-/// ensures answer { MatchOption result ((x : ℤ) → ¬ (IsInverse (T.value a) (T.value m) x))
-///     (λ x. T.fits (T.value x) × IsInverse (T.value a) (T.value m) (T.value x)
-///     × IsOnly (IsInverse (T.value a) (T.value m)) (T.value x)) }
-/// ensures coprime { IsGreatestCommonDivisor (T.value a) (T.value m) (pos 1) → IsSome result }
-/// ```
-///
-/// Words: [`IsInverse`](crate::definitions::modular#isinverse),
-/// [`IsOnly`](crate::definitions::integer_core#isonly),
-/// [`IsGreatestCommonDivisor`](crate::definitions::integer_core#isgreatestcommondivisor),
-/// [how to read it](crate::definitions).
-///
-/// </details>
+/// [Contract](crate::definitions::contracts#modularinverse_modulo)
 #[track_caller]
 #[must_use]
 pub fn inverse_modulo<T: Integer + Copy>(a: T, m: T) -> Option<T> {
-    assert!(m > T::zero(), "the modulus is not positive");
+    check(is_below(zero(), m), "the modulus is not positive");
     let (gcd, x) = gcd_modulo(a, m);
-    if gcd.is_one() {
+    if is_one(gcd) {
         Some(x)
     } else {
         None
@@ -63,10 +44,8 @@ pub fn inverse_modulo<T: Integer + Copy>(a: T, m: T) -> Option<T> {
 /// Returns the number x of 0..m for which `b` times x is `a` modulo `m`, or `None` if `b` has no
 /// inverse.
 ///
-/// `m` must be positive.
-///
-/// [`modular::checked::quotient_modulo`](crate::modular::checked::quotient_modulo) is the same
-/// call, which returns `None` outside the domain.
+/// [`checked::quotient_modulo`](crate::modular::checked::quotient_modulo) returns `None` outside
+/// the domain.
 ///
 /// # Examples
 ///
@@ -81,30 +60,11 @@ pub fn inverse_modulo<T: Integer + Copy>(a: T, m: T) -> Option<T> {
 ///
 /// If the modulus is not positive.
 ///
-/// <details><summary>Proved</summary>
-///
-/// Proved of the source in Rattle: if each `requires` holds, the call returns, and then each
-/// `ensures` holds.
-///
-/// ```text
-/// requires positive { pos 0 <ℤ T.value m }
-/// ensures answer { MatchOption result ((x : ℤ) → ¬ (IsInverse (T.value b) (T.value m) x))
-///     (λ x. T.fits (T.value x) × IsQuotientModulo (T.value a) (T.value b) (T.value m) (T.value x)
-///     × IsOnly (IsQuotientModulo (T.value a) (T.value b) (T.value m)) (T.value x)) }
-/// ensures coprime { IsGreatestCommonDivisor (T.value b) (T.value m) (pos 1) → IsSome result }
-/// ```
-///
-/// Words: [`IsInverse`](crate::definitions::modular#isinverse),
-/// [`IsQuotientModulo`](crate::definitions::modular#isquotientmodulo),
-/// [`IsOnly`](crate::definitions::integer_core#isonly),
-/// [`IsGreatestCommonDivisor`](crate::definitions::integer_core#isgreatestcommondivisor),
-/// [how to read it](crate::definitions).
-///
-/// </details>
+/// [Contract](crate::definitions::contracts#modularquotient_modulo)
 #[track_caller]
 #[must_use]
 pub fn quotient_modulo<T: Modular>(a: T, b: T, m: T) -> Option<T> {
-    assert!(m > T::zero(), "the modulus is not positive");
+    check(is_below(zero(), m), "the modulus is not positive");
     match inverse_modulo(b, m) {
         Some(inverse) => Some(a.product_modulo(&inverse, &m)),
         None => None,
@@ -114,13 +74,14 @@ pub fn quotient_modulo<T: Modular>(a: T, b: T, m: T) -> Option<T> {
 /// Returns the greatest common divisor of `a` and `m`, and a number that times `a` is this divisor
 /// modulo `m`. The loop keeps the magnitudes of the coefficients of `a`, which are at most `m`;
 /// their signs alternate.
+#[track_caller]
 pub(crate) fn gcd_modulo<T: Integer + Copy>(a: T, m: T) -> (T, T) {
     let mut previous = m;
     let mut current = residue(a, m);
-    let mut previous_size = T::zero();
-    let mut size = T::one();
+    let mut previous_size = zero();
+    let mut size = one();
     let mut negative = false;
-    while !current.is_zero() {
+    while !is_zero(current) {
         let (quotient, remainder) = previous.div_rem(&current);
         let next = sum(previous_size, product(quotient, size));
         previous = current;

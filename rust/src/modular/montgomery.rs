@@ -13,6 +13,7 @@ pub(crate) struct Montgomery {
 
 impl Montgomery {
     /// Returns the modulus with its inverse.
+    #[track_caller]
     pub(crate) fn new(m: u64) -> Self {
         Self {
             modulus: m,

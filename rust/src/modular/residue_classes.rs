@@ -2,20 +2,18 @@
 //! The solutions of a linear congruence, and the numbers of a residue class: the next, the
 //! previous, and how many a range has.
 
+use crate::guards::check;
 use crate::modular::inverses::gcd_modulo;
 use crate::modular::products::Modular;
 use crate::modular::residues::{are_congruent, difference_modulo, residue};
-use crate::operators::successor;
+use crate::operators::{is_below, quotient, successor, zero};
 use crate::{checked, Fits, Integer};
 
 /// Solves a linear congruence: returns the numbers x for which `a` times x is `b` modulo `m`, as
 /// the smallest that is not negative and the step from each to the next. It is `None` if there is
 /// no such number.
 ///
-/// `m` must be positive.
-///
-/// [`modular::checked::solutions`](crate::modular::checked::solutions) is the same call, which
-/// returns `None` outside the domain.
+/// [`checked::solutions`](crate::modular::checked::solutions) returns `None` outside the domain.
 ///
 /// # Examples
 ///
@@ -30,45 +28,25 @@ use crate::{checked, Fits, Integer};
 ///
 /// If the modulus is not positive.
 ///
-/// <details><summary>Proved</summary>
-///
-/// Proved of the source in Rattle: if each `requires` holds, the call returns, and then each
-/// `ensures` holds.
-///
-/// ```text
-/// requires positive { pos 0 <ℤ T.value m }
-/// ensures { MatchOption result ((x : ℤ) → ¬ (Solves (T.value a) (T.value b) (T.value m) x))
-///     (λ s. T.fits (T.value s.0) × T.fits (T.value s.1)
-///     × IsResidueClass (Solves (T.value a) (T.value b) (T.value m)) (T.value s.0) (T.value s.1)
-///     × IsReducedModulus (T.value a) (T.value m) (T.value s.1)) }
-/// ```
-///
-/// Words: [`Solves`](crate::definitions::modular#solves),
-/// [`IsResidueClass`](crate::definitions::modular#isresidueclass),
-/// [`IsReducedModulus`](crate::definitions::modular#isreducedmodulus),
-/// [how to read it](crate::definitions).
-///
-/// </details>
+/// [Contract](crate::definitions::contracts#modularsolutions)
 #[track_caller]
 #[must_use]
 pub fn solutions<T: Modular>(a: T, b: T, m: T) -> Option<(T, T)> {
-    assert!(m > T::zero(), "the modulus is not positive");
+    check(is_below(zero(), m), "the modulus is not positive");
     let (gcd, x) = gcd_modulo(a, m);
     if !b.is_multiple_of(&gcd) {
         return None;
     }
-    let step = m / gcd;
-    let first = (b / gcd).product_modulo(&x, &step);
+    let step = quotient(m, gcd);
+    let first = quotient(b, gcd).product_modulo(&x, &step);
     Some((first, step))
 }
 
 /// Returns the smallest number from `from` on that is congruent to `first` modulo `step`, or `None`
 /// if it is too large for the type.
 ///
-/// `step` must be positive.
-///
-/// [`modular::checked::next_congruent`](crate::modular::checked::next_congruent) is the same call,
-/// which returns `None` outside the domain.
+/// [`checked::next_congruent`](crate::modular::checked::next_congruent) returns `None` outside the
+/// domain.
 ///
 /// # Examples
 ///
@@ -83,36 +61,19 @@ pub fn solutions<T: Modular>(a: T, b: T, m: T) -> Option<(T, T)> {
 ///
 /// If the step is not positive.
 ///
-/// <details><summary>Proved</summary>
-///
-/// Proved of the source in Rattle: if each `requires` holds, the call returns, and then each
-/// `ensures` holds.
-///
-/// ```text
-/// requires positive { pos 0 <ℤ T.value step }
-/// ensures { MatchOption result
-///     ((t : ℤ) × IsNextCongruent (T.value from) (T.value first) (T.value step) t × ¬ (T.fits t))
-///     (Has T.fits T.value (IsNextCongruent (T.value from) (T.value first) (T.value step))) }
-/// ```
-///
-/// Words: [`IsNextCongruent`](crate::definitions::modular#isnextcongruent),
-/// [`Has`](crate::definitions::integer_core#has), [how to read it](crate::definitions).
-///
-/// </details>
+/// [Contract](crate::definitions::contracts#modularnext_congruent)
 #[track_caller]
 #[must_use]
 pub fn next_congruent<T: Fits>(from: T, first: T, step: T) -> Option<T> {
-    assert!(step > T::zero(), "the step is not positive");
+    check(is_below(zero(), step), "the step is not positive");
     checked::sum(from, difference_modulo(first, from, step))
 }
 
 /// Returns the largest number up to `to` that is congruent to `first` modulo `step`, or `None` if
 /// it is too small for the type.
 ///
-/// `step` must be positive.
-///
-/// [`modular::checked::previous_congruent`](crate::modular::checked::previous_congruent) is the
-/// same call, which returns `None` outside the domain.
+/// [`checked::previous_congruent`](crate::modular::checked::previous_congruent) returns `None`
+/// outside the domain.
 ///
 /// # Examples
 ///
@@ -127,37 +88,19 @@ pub fn next_congruent<T: Fits>(from: T, first: T, step: T) -> Option<T> {
 ///
 /// If the step is not positive.
 ///
-/// <details><summary>Proved</summary>
-///
-/// Proved of the source in Rattle: if each `requires` holds, the call returns, and then each
-/// `ensures` holds.
-///
-/// ```text
-/// requires positive { pos 0 <ℤ T.value step }
-/// ensures { MatchOption result
-///     ((t : ℤ) × IsPreviousCongruent (T.value to) (T.value first) (T.value step) t
-///     × ¬ (T.fits t))
-///     (Has T.fits T.value (IsPreviousCongruent (T.value to) (T.value first) (T.value step))) }
-/// ```
-///
-/// Words: [`IsPreviousCongruent`](crate::definitions::modular#ispreviouscongruent),
-/// [`Has`](crate::definitions::integer_core#has), [how to read it](crate::definitions).
-///
-/// </details>
+/// [Contract](crate::definitions::contracts#modularprevious_congruent)
 #[track_caller]
 #[must_use]
 pub fn previous_congruent<T: Fits>(to: T, first: T, step: T) -> Option<T> {
-    assert!(step > T::zero(), "the step is not positive");
+    check(is_below(zero(), step), "the step is not positive");
     checked::difference(to, difference_modulo(to, first, step))
 }
 
 /// Returns how many numbers of `from..=to` are congruent to `first` modulo `step`, or `None` if the
 /// type cannot hold that count.
 ///
-/// `step` must be positive.
-///
-/// [`modular::checked::count_congruent`](crate::modular::checked::count_congruent) is the same
-/// call, which returns `None` outside the domain.
+/// [`checked::count_congruent`](crate::modular::checked::count_congruent) returns `None` outside
+/// the domain.
 ///
 /// # Examples
 ///
@@ -172,31 +115,13 @@ pub fn previous_congruent<T: Fits>(to: T, first: T, step: T) -> Option<T> {
 ///
 /// If the step is not positive.
 ///
-/// <details><summary>Proved</summary>
-///
-/// Proved of the source in Rattle: if each `requires` holds, the call returns, and then each
-/// `ensures` holds.
-///
-/// ```text
-/// requires positive { pos 0 <ℤ T.value step }
-/// ensures count { MatchOption result
-///     ((n : ℤ) × IsCountOfCongruent (T.value from) (T.value to) (T.value first) (T.value step) n
-///     × ¬ (T.fits n))
-///     (Has T.fits T.value (IsCountOfCongruent (T.value from) (T.value to) (T.value first)
-///     (T.value step))) }
-/// ensures from_zero { IfSome result (λ n. pos 0 ≤ℤ T.value n) }
-/// ```
-///
-/// Words: [`IsCountOfCongruent`](crate::definitions::modular#iscountofcongruent),
-/// [`Has`](crate::definitions::integer_core#has), [how to read it](crate::definitions).
-///
-/// </details>
+/// [Contract](crate::definitions::contracts#modularcount_congruent)
 #[track_caller]
 #[must_use]
 pub fn count_congruent<T: Fits>(from: T, to: T, first: T, step: T) -> Option<T> {
-    assert!(step > T::zero(), "the step is not positive");
-    if to < from {
-        return Some(T::zero());
+    check(is_below(zero(), step), "the step is not positive");
+    if is_below(to, from) {
+        return Some(zero());
     }
     let start = residue(first, step);
     let before = checked::difference(
@@ -212,9 +137,10 @@ pub fn count_congruent<T: Fits>(from: T, to: T, first: T, step: T) -> Option<T> 
 
 /// Returns how many times `m` has to be added to `start` to reach `from`: the smallest such number,
 /// which is negative if `from` is below 0.
+#[track_caller]
 pub(crate) fn times_to_reach<T: Integer>(from: T, start: T, m: T) -> T {
     let (times, rest) = from.div_mod_floor(&m);
-    if start < rest {
+    if is_below(start, rest) {
         successor(times)
     } else {
         times

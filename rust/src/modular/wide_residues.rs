@@ -10,6 +10,7 @@ pub(crate) const U64_VALUES: u128 = 18446744073709551616;
 
 /// Returns the power of a residue, and the number of turns of its loop. An exponent up to 3 needs
 /// too few products to make up for the conversions of [`power_of_word`].
+#[track_caller]
 pub(crate) fn power_of_wide(x: u128, exponent: u128, m: u128) -> (u128, u32) {
     if m < U64_VALUES && exponent > 3 {
         let (power, turns) = power_of_word(x as u64, exponent, m as u64);

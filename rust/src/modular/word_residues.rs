@@ -6,6 +6,7 @@ use crate::modular::exponentiation::{power_counted, ResidueForm};
 use crate::modular::montgomery::Montgomery;
 
 /// Returns the power of a number modulo `m`, and the number of turns of its loop.
+#[track_caller]
 pub(crate) fn power_of_word(x: u64, exponent: u128, m: u64) -> (u64, u32) {
     let modulus = SplitModulus::new(m);
     let base = modulus.form_of(x);
@@ -23,6 +24,7 @@ struct SplitModulus {
 
 impl SplitModulus {
     /// Splits a modulus.
+    #[track_caller]
     fn new(m: u64) -> Self {
         let twos = m.trailing_zeros();
         Self {

@@ -2,12 +2,11 @@
 //! The calls of this module that have a condition, without it. Each is `None` if the plain call may
 //! not be made.
 
+use crate::operators::{is_below, is_negative, one, zero};
 use crate::{Integer, Roots};
 
 /// Returns [`sqrt_rem`](crate::powers::sqrt_rem), the square root and what is left, or `None` if
 /// `n` is negative.
-///
-/// [`powers::sqrt_rem`](crate::powers::sqrt_rem) is the same call, which panics outside the domain.
 ///
 /// # Examples
 ///
@@ -18,27 +17,10 @@ use crate::{Integer, Roots};
 /// assert_eq!(sqrt_rem(-99), None);
 /// ```
 ///
-/// <details><summary>Proved</summary>
-///
-/// Proved of the source in Rattle: each call returns, and then each `ensures` holds.
-///
-/// ```text
-/// ensures { AnswersWhere
-///     (pos 0 ≤ℤ T.value n)
-///     (λ r. T.fits (T.value r.0) × T.fits (T.value r.1)
-///     × IsRoot (T.value n) 2 (T.value r.0)
-///     × (T.value n ≡ T.value r.0 *ℤ T.value r.0 +ℤ T.value r.1)
-///     × (pos 0 ≤ℤ T.value r.1) × (T.value r.1 ≤ℤ (T.value r.0 +ℤ T.value r.0)))
-///     result }
-/// ```
-///
-/// Words: [`AnswersWhere`](crate::definitions::integer_core#answerswhere),
-/// [`IsRoot`](crate::definitions::integer_roots#isroot), [how to read it](crate::definitions).
-///
-/// </details>
+/// [Contract](crate::definitions::contracts#powerscheckedsqrt_rem)
 #[must_use]
 pub fn sqrt_rem<T: Roots + Copy>(n: T) -> Option<(T, T)> {
-    if n < T::zero() {
+    if is_negative(n) {
         None
     } else {
         Some(crate::powers::sqrt_rem(n))
@@ -47,8 +29,6 @@ pub fn sqrt_rem<T: Roots + Copy>(n: T) -> Option<(T, T)> {
 
 /// Returns [`ilog`](crate::powers::ilog), the integer logarithm, or `None` if `number` is below 1
 /// or `base` below 2.
-///
-/// [`powers::ilog`](crate::powers::ilog) is the same call, which panics outside the domain.
 ///
 /// # Examples
 ///
@@ -60,25 +40,10 @@ pub fn sqrt_rem<T: Roots + Copy>(n: T) -> Option<(T, T)> {
 /// assert_eq!(ilog(1000, 1), None);
 /// ```
 ///
-/// <details><summary>Proved</summary>
-///
-/// Proved of the source in Rattle: each call returns, and then each `ensures` holds.
-///
-/// ```text
-/// ensures answer { AnswersWhere
-///     ((pos 0 <ℤ T.value number) × (pos 1 <ℤ T.value base))
-///     (λ k. IsLogarithm (T.value base) (T.value number) k)
-///     result }
-/// ensures few { IfSome result (λ k. k < 128) }
-/// ```
-///
-/// Words: [`AnswersWhere`](crate::definitions::integer_core#answerswhere),
-/// [`IsLogarithm`](crate::definitions::applied#islogarithm), [how to read it](crate::definitions).
-///
-/// </details>
+/// [Contract](crate::definitions::contracts#powerscheckedilog)
 #[must_use]
 pub fn ilog<T: Integer + Copy>(number: T, base: T) -> Option<u32> {
-    if T::zero() < number && T::one() < base {
+    if is_below(zero(), number) && is_below(one(), base) {
         Some(crate::powers::ilog(number, base))
     } else {
         None

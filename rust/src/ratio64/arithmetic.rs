@@ -65,10 +65,10 @@ operator!(Div div DivAssign div_assign checked_div "the quotient of the fraction
 
 /// Panics if [`Ratio::checked_neg`] returns an error: the numerator is `i64::MIN`.
 impl Neg for Ratio {
-    type Output = Self;
+    type Output = Ratio;
 
     #[track_caller]
-    fn neg(self) -> Self {
+    fn neg(self) -> Ratio {
         expect(self.checked_neg(), "the negated fraction does not fit")
     }
 }
@@ -85,28 +85,28 @@ impl Neg for &Ratio {
 
 /// Panics if a sum on the way does not fit. The sum of no fractions is 0.
 impl Sum for Ratio {
-    fn sum<I: Iterator<Item = Self>>(fractions: I) -> Self {
-        fractions.fold(Self::zero(), Add::add)
+    fn sum<I: Iterator<Item = Self>>(fractions: I) -> Ratio {
+        fractions.fold(Ratio::zero(), Add::add)
     }
 }
 
 /// Panics if a sum on the way does not fit. The sum of no fractions is 0.
 impl<'a> Sum<&'a Ratio> for Ratio {
-    fn sum<I: Iterator<Item = &'a Self>>(fractions: I) -> Self {
-        fractions.fold(Self::zero(), Add::add)
+    fn sum<I: Iterator<Item = &'a Self>>(fractions: I) -> Ratio {
+        fractions.fold(Ratio::zero(), Add::add)
     }
 }
 
 /// Panics if a product on the way does not fit. The product of no fractions is 1.
 impl Product for Ratio {
-    fn product<I: Iterator<Item = Self>>(fractions: I) -> Self {
-        fractions.fold(Self::one(), Mul::mul)
+    fn product<I: Iterator<Item = Self>>(fractions: I) -> Ratio {
+        fractions.fold(Ratio::one(), Mul::mul)
     }
 }
 
 /// Panics if a product on the way does not fit. The product of no fractions is 1.
 impl<'a> Product<&'a Ratio> for Ratio {
-    fn product<I: Iterator<Item = &'a Self>>(fractions: I) -> Self {
-        fractions.fold(Self::one(), Mul::mul)
+    fn product<I: Iterator<Item = &'a Self>>(fractions: I) -> Ratio {
+        fractions.fold(Ratio::one(), Mul::mul)
     }
 }

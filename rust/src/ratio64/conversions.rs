@@ -8,6 +8,15 @@ use core::fmt;
 
 /// A fraction that is no integer of the wanted type: its denominator is not 1, or its numerator
 /// does not fit.
+///
+/// # Examples
+///
+/// ```
+/// use cellarcove::ratio64::Ratio;
+///
+/// assert_eq!(u8::try_from(Ratio::from(255i64)), Ok(255));
+/// assert!(u8::try_from(Ratio::new(255, 2).unwrap()).is_err());
+/// ```
 #[derive(Debug, Clone, Copy, PartialEq, Eq)]
 pub struct TryFromRatioError(());
 

@@ -34,18 +34,7 @@ impl RatioError {
     /// assert_eq!(RatioError::NotFitting.number(), 2);
     /// ```
     ///
-    /// <details><summary>Proved</summary>
-    ///
-    /// Proved of the source in Rattle: each call returns, and then each `ensures` holds.
-    ///
-    /// ```text
-    /// ensures { result ≡ number_of self.now }
-    /// ```
-    ///
-    /// Words: [`number_of`](crate::definitions::ratio64#number_of),
-    /// [how to read it](crate::definitions).
-    ///
-    /// </details>
+    /// [Contract](crate::definitions::contracts#ratio64ratioerrornumber)
     #[must_use]
     pub const fn number(&self) -> u32 {
         match self {
@@ -65,26 +54,13 @@ impl RatioError {
 /// assert_eq!(RatioError::ZeroDenominator.to_string(), "the denominator is 0");
 /// ```
 ///
-/// <details><summary>Proved</summary>
-///
-/// Proved of the source in Rattle: what the calls of the trait return.
-///
-/// ```text
-/// ghost output = { λ e. Some (error_text e) }
-/// ```
-///
-/// Words: [`error_text`](crate::definitions::ratio64#error_text),
-/// [how to read it](crate::definitions).
-///
-/// </details>
+/// [Contract](crate::definitions::contracts#display-for-ratio64ratioerror)
 impl fmt::Display for RatioError {
     fn fmt(&self, f: &mut fmt::Formatter<'_>) -> fmt::Result {
-        crate::padded::pad(f, |f| match self {
-            Self::ZeroDenominator => write!(f, "the denominator is 0"),
-            Self::NotFitting => {
-                write!(f, "a part of the reduced fraction does not fit in 64 bits")
-            }
-        })
+        match self {
+            Self::ZeroDenominator => f.pad("the denominator is 0"),
+            Self::NotFitting => f.pad("a part of the reduced fraction does not fit in 64 bits"),
+        }
     }
 }
 

@@ -8,6 +8,7 @@ mod rounding;
 mod sign;
 mod times;
 
+use crate::padded::Text;
 use crate::ratio64::reduction::{lowest_terms, numerator_of_difference, numerator_of_sum, product};
 use crate::ratio64::RatioError;
 use crate::{div_ceil, div_floor};
@@ -25,18 +26,7 @@ use core::fmt;
 /// assert_eq!(Ratio::new(2, 4), Ratio::new(1, 2));
 /// ```
 ///
-/// <details><summary>Proved</summary>
-///
-/// Proved of the source in Rattle, for each value of the type.
-///
-/// ```text
-/// pub ghost reduced: { IsReduced num den }
-/// ```
-///
-/// Words: [`IsReduced`](crate::definitions::ratio64#isreduced),
-/// [how to read it](crate::definitions).
-///
-/// </details>
+/// [Contract](crate::definitions::contracts#ratio64ratio)
 #[derive(Debug, Clone, Copy, PartialEq, Eq, Hash)]
 pub struct Ratio {
     num: i64,
@@ -57,25 +47,10 @@ impl Ratio {
     ///
     /// # Errors
     ///
-    /// - [`RatioError::ZeroDenominator`](crate::ratio64::RatioError::ZeroDenominator) if `den` is
-    ///   0;
-    /// - [`RatioError::NotFitting`](crate::ratio64::RatioError::NotFitting) if a part of the
-    ///   reduced fraction does not fit an `i64`.
+    /// - [`RatioError::ZeroDenominator`] if `den` is 0;
+    /// - [`RatioError::NotFitting`] if a part of the reduced fraction does not fit an `i64`.
     ///
-    /// <details><summary>Proved</summary>
-    ///
-    /// Proved of the source in Rattle: each call returns, and then each `ensures` holds.
-    ///
-    /// ```text
-    /// ensures fraction { AnswersFraction num den result }
-    /// ensures refused { IfErr result (λ _. den ≤ℤ pos 0) }
-    /// ensures positive { IfOk result (λ x. pos 0 <ℤ den_of x) }
-    /// ```
-    ///
-    /// Words: [`AnswersFraction`](crate::definitions::ratio64#answersfraction),
-    /// [`den_of`](crate::definitions::ratio64#den_of), [how to read it](crate::definitions).
-    ///
-    /// </details>
+    /// [Contract](crate::definitions::contracts#ratio64rationew)
     pub fn new(num: i64, den: i64) -> Result<Self, RatioError> {
         Self::reduced(i128::from(num), i128::from(den))
     }
@@ -90,19 +65,7 @@ impl Ratio {
     /// assert_eq!(Ok(Ratio::zero()), Ratio::new(0, 1));
     /// ```
     ///
-    /// <details><summary>Proved</summary>
-    ///
-    /// Proved of the source in Rattle: each call returns, and then each `ensures` holds.
-    ///
-    /// ```text
-    /// ensures num { num_of result ≡ pos 0 }
-    /// ensures den { den_of result ≡ pos 1 }
-    /// ```
-    ///
-    /// Words: [`num_of`](crate::definitions::ratio64#num_of),
-    /// [`den_of`](crate::definitions::ratio64#den_of), [how to read it](crate::definitions).
-    ///
-    /// </details>
+    /// [Contract](crate::definitions::contracts#ratio64ratiozero)
     #[must_use]
     pub fn zero() -> Self {
         Self::from(0)
@@ -118,19 +81,7 @@ impl Ratio {
     /// assert_eq!(Ok(Ratio::one()), Ratio::new(1, 1));
     /// ```
     ///
-    /// <details><summary>Proved</summary>
-    ///
-    /// Proved of the source in Rattle: each call returns, and then each `ensures` holds.
-    ///
-    /// ```text
-    /// ensures num { num_of result ≡ pos 1 }
-    /// ensures den { den_of result ≡ pos 1 }
-    /// ```
-    ///
-    /// Words: [`num_of`](crate::definitions::ratio64#num_of),
-    /// [`den_of`](crate::definitions::ratio64#den_of), [how to read it](crate::definitions).
-    ///
-    /// </details>
+    /// [Contract](crate::definitions::contracts#ratio64ratioone)
     #[must_use]
     pub fn one() -> Self {
         Self::from(1)
@@ -146,17 +97,7 @@ impl Ratio {
     /// assert_eq!(Ratio::new(6, -4).unwrap().num(), -3);
     /// ```
     ///
-    /// <details><summary>Proved</summary>
-    ///
-    /// Proved of the source in Rattle: each call returns, and then each `ensures` holds.
-    ///
-    /// ```text
-    /// ensures { result ≡ num_of self.now }
-    /// ```
-    ///
-    /// Words: [`num_of`](crate::definitions::ratio64#num_of), [how to read it](crate::definitions).
-    ///
-    /// </details>
+    /// [Contract](crate::definitions::contracts#ratio64rationum)
     #[must_use]
     pub const fn num(&self) -> i64 {
         self.num
@@ -172,17 +113,7 @@ impl Ratio {
     /// assert_eq!(Ratio::new(6, -4).unwrap().den(), 2);
     /// ```
     ///
-    /// <details><summary>Proved</summary>
-    ///
-    /// Proved of the source in Rattle: each call returns, and then each `ensures` holds.
-    ///
-    /// ```text
-    /// ensures { result ≡ den_of self.now }
-    /// ```
-    ///
-    /// Words: [`den_of`](crate::definitions::ratio64#den_of), [how to read it](crate::definitions).
-    ///
-    /// </details>
+    /// [Contract](crate::definitions::contracts#ratio64ratioden)
     #[must_use]
     pub const fn den(&self) -> i64 {
         self.den
@@ -198,20 +129,7 @@ impl Ratio {
     /// assert_eq!(Ratio::new(-3, 2).unwrap().floor(), -2);
     /// ```
     ///
-    /// <details><summary>Proved</summary>
-    ///
-    /// Proved of the source in Rattle: each call returns, and then each `ensures` holds.
-    ///
-    /// ```text
-    /// ensures { IsQuotient IsFloored (num_of self.now) (den_of self.now) result }
-    /// ```
-    ///
-    /// Words: [`IsQuotient`](crate::definitions::integer_core#isquotient),
-    /// [`IsFloored`](crate::definitions::integer_core#isfloored),
-    /// [`num_of`](crate::definitions::ratio64#num_of),
-    /// [`den_of`](crate::definitions::ratio64#den_of), [how to read it](crate::definitions).
-    ///
-    /// </details>
+    /// [Contract](crate::definitions::contracts#ratio64ratiofloor)
     #[must_use]
     pub fn floor(&self) -> i64 {
         div_floor(self.num, self.den)
@@ -227,26 +145,13 @@ impl Ratio {
     /// assert_eq!(Ratio::new(-3, 2).unwrap().ceil(), -1);
     /// ```
     ///
-    /// <details><summary>Proved</summary>
-    ///
-    /// Proved of the source in Rattle: each call returns, and then each `ensures` holds.
-    ///
-    /// ```text
-    /// ensures { IsQuotient IsCeiled (num_of self.now) (den_of self.now) result }
-    /// ```
-    ///
-    /// Words: [`IsQuotient`](crate::definitions::integer_core#isquotient),
-    /// [`IsCeiled`](crate::definitions::integer_core#isceiled),
-    /// [`num_of`](crate::definitions::ratio64#num_of),
-    /// [`den_of`](crate::definitions::ratio64#den_of), [how to read it](crate::definitions).
-    ///
-    /// </details>
+    /// [Contract](crate::definitions::contracts#ratio64ratioceil)
     #[must_use]
     pub fn ceil(&self) -> i64 {
         div_ceil(self.num, self.den)
     }
 
-    /// Returns the sum, or `NotFitting` if a part of it does not fit.
+    /// Returns the sum.
     ///
     /// # Examples
     ///
@@ -258,31 +163,15 @@ impl Ratio {
     ///
     /// # Errors
     ///
-    /// - [`RatioError::NotFitting`](crate::ratio64::RatioError::NotFitting) if a part of the sum
-    ///   does not fit an `i64`.
+    /// - [`RatioError::NotFitting`] if a part of the sum does not fit an `i64`.
     ///
-    /// <details><summary>Proved</summary>
-    ///
-    /// Proved of the source in Rattle: each call returns, and then each `ensures` holds.
-    ///
-    /// ```text
-    /// ensures sum { AnswersFraction
-    ///     (num_of self.now *ℤ den_of other.now +ℤ num_of other.now *ℤ den_of self.now)
-    ///     (den_of self.now *ℤ den_of other.now) result }
-    /// ensures never_zero { result ≢ Err RatioError.ZeroDenominator }
-    /// ```
-    ///
-    /// Words: [`AnswersFraction`](crate::definitions::ratio64#answersfraction),
-    /// [`num_of`](crate::definitions::ratio64#num_of),
-    /// [`den_of`](crate::definitions::ratio64#den_of), [how to read it](crate::definitions).
-    ///
-    /// </details>
+    /// [Contract](crate::definitions::contracts#ratio64ratiochecked_add)
     pub fn checked_add(&self, other: &Self) -> Result<Self, RatioError> {
         let num = numerator_of_sum(self.num, self.den, other.num, other.den);
         self.over_product_of_denominators(other, num)
     }
 
-    /// Returns the difference, or `NotFitting` if a part of it does not fit.
+    /// Returns the difference.
     ///
     /// # Examples
     ///
@@ -294,31 +183,15 @@ impl Ratio {
     ///
     /// # Errors
     ///
-    /// - [`RatioError::NotFitting`](crate::ratio64::RatioError::NotFitting) if a part of the
-    ///   difference does not fit an `i64`.
+    /// - [`RatioError::NotFitting`] if a part of the difference does not fit an `i64`.
     ///
-    /// <details><summary>Proved</summary>
-    ///
-    /// Proved of the source in Rattle: each call returns, and then each `ensures` holds.
-    ///
-    /// ```text
-    /// ensures difference { AnswersFraction
-    ///     (num_of self.now *ℤ den_of other.now -ℤ num_of other.now *ℤ den_of self.now)
-    ///     (den_of self.now *ℤ den_of other.now) result }
-    /// ensures never_zero { result ≢ Err RatioError.ZeroDenominator }
-    /// ```
-    ///
-    /// Words: [`AnswersFraction`](crate::definitions::ratio64#answersfraction),
-    /// [`num_of`](crate::definitions::ratio64#num_of),
-    /// [`den_of`](crate::definitions::ratio64#den_of), [how to read it](crate::definitions).
-    ///
-    /// </details>
+    /// [Contract](crate::definitions::contracts#ratio64ratiochecked_sub)
     pub fn checked_sub(&self, other: &Self) -> Result<Self, RatioError> {
         let num = numerator_of_difference(self.num, self.den, other.num, other.den);
         self.over_product_of_denominators(other, num)
     }
 
-    /// Returns the product, or `NotFitting` if a part of it does not fit.
+    /// Returns the product.
     ///
     /// # Examples
     ///
@@ -330,30 +203,14 @@ impl Ratio {
     ///
     /// # Errors
     ///
-    /// - [`RatioError::NotFitting`](crate::ratio64::RatioError::NotFitting) if a part of the
-    ///   product does not fit an `i64`.
+    /// - [`RatioError::NotFitting`] if a part of the product does not fit an `i64`.
     ///
-    /// <details><summary>Proved</summary>
-    ///
-    /// Proved of the source in Rattle: each call returns, and then each `ensures` holds.
-    ///
-    /// ```text
-    /// ensures product { AnswersFraction (num_of self.now *ℤ num_of other.now)
-    ///     (den_of self.now *ℤ den_of other.now) result }
-    /// ensures never_zero { result ≢ Err RatioError.ZeroDenominator }
-    /// ```
-    ///
-    /// Words: [`AnswersFraction`](crate::definitions::ratio64#answersfraction),
-    /// [`num_of`](crate::definitions::ratio64#num_of),
-    /// [`den_of`](crate::definitions::ratio64#den_of), [how to read it](crate::definitions).
-    ///
-    /// </details>
+    /// [Contract](crate::definitions::contracts#ratio64ratiochecked_mul)
     pub fn checked_mul(&self, other: &Self) -> Result<Self, RatioError> {
         self.over_product_of_denominators(other, product(self.num, other.num))
     }
 
-    /// Returns the quotient, or `ZeroDenominator` if `other` is 0, or `NotFitting` if a part of the
-    /// quotient does not fit.
+    /// Returns the quotient.
     ///
     /// # Examples
     ///
@@ -365,33 +222,15 @@ impl Ratio {
     ///
     /// # Errors
     ///
-    /// - [`RatioError::ZeroDenominator`](crate::ratio64::RatioError::ZeroDenominator) if `other` is
-    ///   0;
-    /// - [`RatioError::NotFitting`](crate::ratio64::RatioError::NotFitting) if a part of the
-    ///   quotient does not fit an `i64`.
+    /// - [`RatioError::ZeroDenominator`] if `other` is 0;
+    /// - [`RatioError::NotFitting`] if a part of the quotient does not fit an `i64`.
     ///
-    /// <details><summary>Proved</summary>
-    ///
-    /// Proved of the source in Rattle: each call returns, and then each `ensures` holds.
-    ///
-    /// ```text
-    /// ensures quotient { AnswersFraction (num_of self.now *ℤ den_of other.now)
-    ///     (num_of other.now *ℤ den_of self.now) result }
-    /// ensures zero_divisor { (result ≡ Err RatioError.ZeroDenominator)
-    ///     ↔ (num_of other.now ≡ pos 0) }
-    /// ```
-    ///
-    /// Words: [`AnswersFraction`](crate::definitions::ratio64#answersfraction),
-    /// [`num_of`](crate::definitions::ratio64#num_of),
-    /// [`den_of`](crate::definitions::ratio64#den_of), [how to read it](crate::definitions).
-    ///
-    /// </details>
+    /// [Contract](crate::definitions::contracts#ratio64ratiochecked_div)
     pub fn checked_div(&self, other: &Self) -> Result<Self, RatioError> {
         Self::reduced(product(self.num, other.den), product(other.num, self.den))
     }
 
-    /// Returns the reciprocal `den / num`, or `ZeroDenominator` if the fraction is 0, or
-    /// `NotFitting` if the numerator is `i64::MIN`.
+    /// Returns the reciprocal `den / num`.
     ///
     /// # Examples
     ///
@@ -403,26 +242,10 @@ impl Ratio {
     ///
     /// # Errors
     ///
-    /// - [`RatioError::ZeroDenominator`](crate::ratio64::RatioError::ZeroDenominator) if the
-    ///   fraction is 0;
-    /// - [`RatioError::NotFitting`](crate::ratio64::RatioError::NotFitting) if the numerator is
-    ///   `i64::MIN`.
+    /// - [`RatioError::ZeroDenominator`] if the fraction is 0;
+    /// - [`RatioError::NotFitting`] if the numerator is `i64::MIN`.
     ///
-    /// <details><summary>Proved</summary>
-    ///
-    /// Proved of the source in Rattle: each call returns, and then each `ensures` holds.
-    ///
-    /// ```text
-    /// ensures reciprocal { AnswersFraction (den_of self.now) (num_of self.now) result }
-    /// ensures refused { IfErr result
-    ///     (λ _. (num_of self.now ≡ pos 0) ⊎ (num_of self.now ≡ neg_ℤ (pos (2 ^ 63)))) }
-    /// ```
-    ///
-    /// Words: [`AnswersFraction`](crate::definitions::ratio64#answersfraction),
-    /// [`den_of`](crate::definitions::ratio64#den_of),
-    /// [`num_of`](crate::definitions::ratio64#num_of), [how to read it](crate::definitions).
-    ///
-    /// </details>
+    /// [Contract](crate::definitions::contracts#ratio64ratiochecked_recip)
     pub fn checked_recip(&self) -> Result<Self, RatioError> {
         Self::new(self.den, self.num)
     }
@@ -433,6 +256,7 @@ impl Ratio {
     }
 
     /// Returns `num / den` in lowest terms.
+    #[track_caller]
     pub(crate) fn reduced(num: i128, den: i128) -> Result<Self, RatioError> {
         if den == 0 {
             return Err(RatioError::ZeroDenominator);
@@ -480,18 +304,7 @@ impl Ratio {
 /// assert_eq!(Ok(Ratio::from(5)), Ratio::new(5, 1));
 /// ```
 ///
-/// <details><summary>Proved</summary>
-///
-/// Proved of the source in Rattle: what the calls of the trait return.
-///
-/// ```text
-/// ghost from_gives = { λ number x. (num_of x ≡ number) × (den_of x ≡ pos 1) }
-/// ```
-///
-/// Words: [`num_of`](crate::definitions::ratio64#num_of),
-/// [`den_of`](crate::definitions::ratio64#den_of), [how to read it](crate::definitions).
-///
-/// </details>
+/// [Contract](crate::definitions::contracts#from-for-ratio64ratio)
 impl From<i64> for Ratio {
     fn from(num: i64) -> Self {
         Self { num, den: 1 }
@@ -508,18 +321,7 @@ impl From<i64> for Ratio {
 /// assert_eq!(Ratio::default(), Ratio::zero());
 /// ```
 ///
-/// <details><summary>Proved</summary>
-///
-/// Proved of the source in Rattle: what the calls of the trait return.
-///
-/// ```text
-/// ghost is_default = { λ x. (num_of x ≡ pos 0) × (den_of x ≡ pos 1) }
-/// ```
-///
-/// Words: [`num_of`](crate::definitions::ratio64#num_of),
-/// [`den_of`](crate::definitions::ratio64#den_of), [how to read it](crate::definitions).
-///
-/// </details>
+/// [Contract](crate::definitions::contracts#default-for-ratio64ratio)
 impl Default for Ratio {
     fn default() -> Self {
         Self::zero()
@@ -536,26 +338,20 @@ impl Default for Ratio {
 /// assert_eq!(Ratio::new(6, -4).unwrap().to_string(), "-3/2");
 /// ```
 ///
-/// <details><summary>Proved</summary>
-///
-/// Proved of the source in Rattle: what the calls of the trait return.
-///
-/// ```text
-/// ghost output = { λ x. Some (text_of x) }
-/// ```
-///
-/// Words: [`text_of`](crate::definitions::ratio64#text_of), [how to read it](crate::definitions).
-///
-/// </details>
+/// [Contract](crate::definitions::contracts#display-for-ratio64ratio)
 impl fmt::Display for Ratio {
     fn fmt(&self, f: &mut fmt::Formatter<'_>) -> fmt::Result {
-        crate::padded::pad(f, |f| {
-            let (num, den) = (self.num(), self.den());
-            if den == 1 {
-                write!(f, "{num}")
-            } else {
-                write!(f, "{num}/{den}")
-            }
-        })
+        self.pad(f)
+    }
+}
+
+impl Text for Ratio {
+    fn write_to<W: fmt::Write>(&self, f: &mut W) -> fmt::Result {
+        let (num, den) = (self.num(), self.den());
+        if den == 1 {
+            write!(f, "{num}")
+        } else {
+            write!(f, "{num}/{den}")
+        }
     }
 }

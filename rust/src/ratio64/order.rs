@@ -15,39 +15,14 @@ use core::cmp::Ordering;
 /// assert_eq!(Ratio::zero().max(Ratio::one()), Ratio::one());
 /// ```
 ///
-/// <details><summary>Proved</summary>
-///
-/// Proved of the source in Rattle: what the calls of the trait return.
-///
-/// ```text
-/// ghost cmp = { λ x y. fraction_cmp (num_of x) (den_of x) (num_of y) (den_of y) }
-/// ```
-///
-/// Words: [`fraction_cmp`](crate::definitions::ratio64#fraction_cmp),
-/// [`num_of`](crate::definitions::ratio64#num_of), [`den_of`](crate::definitions::ratio64#den_of),
-/// [how to read it](crate::definitions).
-///
-/// </details>
+/// [Contract](crate::definitions::contracts#ord-for-ratio64ratio)
 impl Ord for Ratio {
     fn cmp(&self, other: &Self) -> Ordering {
         product(self.num(), other.den()).cmp(&product(other.num(), self.den()))
     }
 }
 
-/// <details><summary>Proved</summary>
-///
-/// Proved of the source in Rattle: what the calls of the trait return.
-///
-/// ```text
-/// ghost partial_cmp = { as_partial_cmp
-///     (λ x y. fraction_cmp (num_of x) (den_of x) (num_of y) (den_of y)) }
-/// ```
-///
-/// Words: [`fraction_cmp`](crate::definitions::ratio64#fraction_cmp),
-/// [`num_of`](crate::definitions::ratio64#num_of), [`den_of`](crate::definitions::ratio64#den_of),
-/// [how to read it](crate::definitions).
-///
-/// </details>
+/// [Contract](crate::definitions::contracts#partialord-for-ratio64ratio)
 impl PartialOrd for Ratio {
     fn partial_cmp(&self, other: &Self) -> Option<Ordering> {
         Some(self.cmp(other))

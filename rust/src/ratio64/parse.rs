@@ -42,18 +42,7 @@ pub enum ParseRatioError {
 /// );
 /// ```
 ///
-/// <details><summary>Proved</summary>
-///
-/// Proved of the source in Rattle: what the calls of the trait return.
-///
-/// ```text
-/// ghost from_gives = { λ refusal error. Err error ≡ answer_read (Err refusal) }
-/// ```
-///
-/// Words: [`answer_read`](crate::definitions::ratio64#answer_read),
-/// [how to read it](crate::definitions).
-///
-/// </details>
+/// [Contract](crate::definitions::contracts#from-for-ratio64parseratioerror)
 impl From<RatioError> for ParseRatioError {
     fn from(error: RatioError) -> Self {
         match error {
@@ -73,23 +62,12 @@ impl From<RatioError> for ParseRatioError {
 /// assert_eq!(ParseRatioError::NotAFraction.to_string(), "the text is not a fraction");
 /// ```
 ///
-/// <details><summary>Proved</summary>
-///
-/// Proved of the source in Rattle: what the calls of the trait return.
-///
-/// ```text
-/// ghost output = { λ e. Some (parse_error_text e) }
-/// ```
-///
-/// Words: [`parse_error_text`](crate::definitions::ratio64#parse_error_text),
-/// [how to read it](crate::definitions).
-///
-/// </details>
+/// [Contract](crate::definitions::contracts#display-for-ratio64parseratioerror)
 impl fmt::Display for ParseRatioError {
     fn fmt(&self, f: &mut fmt::Formatter<'_>) -> fmt::Result {
         match self {
-            Self::NotAFraction => write!(f, "the text is not a fraction"),
-            Self::TooLong => write!(f, "a part has more than 38 digits, leading zeros aside"),
+            Self::NotAFraction => f.pad("the text is not a fraction"),
+            Self::TooLong => f.pad("a part has more than 38 digits, leading zeros aside"),
             Self::ZeroDenominator => RatioError::ZeroDenominator.fmt(f),
             Self::NotFitting => RatioError::NotFitting.fmt(f),
         }
@@ -115,27 +93,13 @@ impl Error for ParseRatioError {}
 ///
 /// # Errors
 ///
-/// - [`ParseRatioError::NotAFraction`](crate::ratio64::ParseRatioError::NotAFraction) if the string
-///   is neither a whole number nor two of them with a slash between;
-/// - [`ParseRatioError::TooLong`](crate::ratio64::ParseRatioError::TooLong) if a part has more than
-///   38 digits, without its leading zeros;
-/// - [`ParseRatioError::ZeroDenominator`](crate::ratio64::ParseRatioError::ZeroDenominator) if the
-///   denominator is 0;
-/// - [`ParseRatioError::NotFitting`](crate::ratio64::ParseRatioError::NotFitting) if a part of the
-///   reduced fraction does not fit an `i64`.
+/// - [`ParseRatioError::NotAFraction`] if the string is neither a whole number nor two of them with
+///   a slash between;
+/// - [`ParseRatioError::TooLong`] if a part has more than 38 digits, without its leading zeros;
+/// - [`ParseRatioError::ZeroDenominator`] if the denominator is 0;
+/// - [`ParseRatioError::NotFitting`] if a part of the reduced fraction does not fit an `i64`.
 ///
-/// <details><summary>Proved</summary>
-///
-/// Proved of the source in Rattle: what the calls of the trait return.
-///
-/// ```text
-/// ghost from_str_gives = { ReadsFraction }
-/// ```
-///
-/// Words: [`ReadsFraction`](crate::definitions::ratio64#readsfraction),
-/// [how to read it](crate::definitions).
-///
-/// </details>
+/// [Contract](crate::definitions::contracts#fromstr-for-ratio64ratio)
 impl FromStr for Ratio {
     type Err = ParseRatioError;
 

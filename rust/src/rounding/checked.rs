@@ -7,9 +7,6 @@ use crate::Fits;
 /// Returns [`div_round`](crate::rounding::div_round), the nearest integer and a half away from
 /// zero, or `None` if `y` is 0 or the quotient does not fit.
 ///
-/// [`rounding::div_round`](crate::rounding::div_round) is the same call, which panics outside the
-/// domain.
-///
 /// # Examples
 ///
 /// ```
@@ -19,19 +16,7 @@ use crate::Fits;
 /// assert_eq!(div_round(i8::MIN, -1), None);
 /// ```
 ///
-/// <details><summary>Proved</summary>
-///
-/// Proved of the source in Rattle: each call returns, and then each `ensures` holds.
-///
-/// ```text
-/// ensures answer { AnswersQuotient IsNearest T.fits T.value (T.value x) (T.value y) result }
-/// ensures positive { pos 0 <ℤ T.value y → IsSome result }
-/// ```
-///
-/// Words: [`AnswersQuotient`](crate::definitions::applied#answersquotient),
-/// [`IsNearest`](crate::definitions::applied#isnearest), [how to read it](crate::definitions).
-///
-/// </details>
+/// [Contract](crate::definitions::contracts#roundingcheckeddiv_round)
 #[must_use]
 pub fn div_round<T: Fits>(x: T, y: T) -> Option<T> {
     if x.quotient_fits(&y) {
@@ -44,9 +29,6 @@ pub fn div_round<T: Fits>(x: T, y: T) -> Option<T> {
 /// Returns [`div_round_even`](crate::rounding::div_round_even), the nearest integer and a half to
 /// the even one, or `None` if [`div_round`] does.
 ///
-/// [`rounding::div_round_even`](crate::rounding::div_round_even) is the same call, which panics
-/// outside the domain.
-///
 /// # Examples
 ///
 /// ```
@@ -56,20 +38,7 @@ pub fn div_round<T: Fits>(x: T, y: T) -> Option<T> {
 /// assert_eq!(div_round_even(5, 0), None);
 /// ```
 ///
-/// <details><summary>Proved</summary>
-///
-/// Proved of the source in Rattle: each call returns, and then each `ensures` holds.
-///
-/// ```text
-/// ensures answer { AnswersQuotient IsNearestEven T.fits T.value (T.value x) (T.value y) result }
-/// ensures positive { pos 0 <ℤ T.value y → IsSome result }
-/// ```
-///
-/// Words: [`AnswersQuotient`](crate::definitions::applied#answersquotient),
-/// [`IsNearestEven`](crate::definitions::applied#isnearesteven),
-/// [how to read it](crate::definitions).
-///
-/// </details>
+/// [Contract](crate::definitions::contracts#roundingcheckeddiv_round_even)
 #[must_use]
 pub fn div_round_even<T: Fits>(x: T, y: T) -> Option<T> {
     if x.quotient_fits(&y) {

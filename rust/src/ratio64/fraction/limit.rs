@@ -2,6 +2,7 @@
 //! The nearest fraction with a small denominator.
 
 use crate::div_mod_floor;
+use crate::guards::check;
 use crate::ratio64::neighbours::{nearer, neighbours, Neighbour};
 use crate::ratio64::reduction::product;
 use crate::ratio64::Ratio;
@@ -9,8 +10,6 @@ use crate::ratio64::Ratio;
 impl Ratio {
     /// Returns the nearest fraction whose denominator is at most `max`. Of those equally near it
     /// returns the one with the smallest denominator, and of two integers the smaller.
-    ///
-    /// May be called if `max` is positive.
     ///
     /// # Examples
     ///
@@ -25,26 +24,11 @@ impl Ratio {
     ///
     /// If the limit is not positive.
     ///
-    /// <details><summary>Proved</summary>
-    ///
-    /// Proved of the source in Rattle: if each `requires` holds, the call returns, and then each
-    /// `ensures` holds.
-    ///
-    /// ```text
-    /// requires { pos 0 <ℤ max }
-    /// ensures { IsNearestWithin (num_of self.now) (den_of self.now) max (num_of result)
-    ///     (den_of result) }
-    /// ```
-    ///
-    /// Words: [`IsNearestWithin`](crate::definitions::ratio64#isnearestwithin),
-    /// [`num_of`](crate::definitions::ratio64#num_of),
-    /// [`den_of`](crate::definitions::ratio64#den_of), [how to read it](crate::definitions).
-    ///
-    /// </details>
+    /// [Contract](crate::definitions::contracts#ratio64ratiolimit_denominator)
     #[track_caller]
     #[must_use]
     pub fn limit_denominator(&self, max: i64) -> Self {
-        assert!(max > 0, "the limit is not positive");
+        check(max > 0, "the limit is not positive");
         if self.den <= max {
             return *self;
         }

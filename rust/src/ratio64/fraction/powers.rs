@@ -4,9 +4,7 @@
 use crate::ratio64::{Ratio, RatioError};
 
 impl Ratio {
-    /// Returns the power, which for a negative exponent is that of the reciprocal. Returns
-    /// `ZeroDenominator` for 0 to a negative power, and `NotFitting` if a part of the power does
-    /// not fit.
+    /// Returns the power, which for a negative exponent is that of the reciprocal.
     ///
     /// # Examples
     ///
@@ -20,29 +18,10 @@ impl Ratio {
     ///
     /// # Errors
     ///
-    /// - [`RatioError::ZeroDenominator`](crate::ratio64::RatioError::ZeroDenominator) if the
-    ///   fraction is 0 and the exponent is negative;
-    /// - [`RatioError::NotFitting`](crate::ratio64::RatioError::NotFitting) if a part of the power
-    ///   does not fit an `i64`.
+    /// - [`RatioError::ZeroDenominator`] if the fraction is 0 and the exponent is negative;
+    /// - [`RatioError::NotFitting`] if a part of the power does not fit an `i64`.
     ///
-    /// <details><summary>Proved</summary>
-    ///
-    /// Proved of the source in Rattle: each call returns, and then each `ensures` holds.
-    ///
-    /// ```text
-    /// ensures from_zero { pos 0 ≤ℤ exponent → AnswersFraction
-    ///     (int_pow (num_of self.now) (unsigned_abs exponent))
-    ///     (int_pow (den_of self.now) (unsigned_abs exponent)) result }
-    /// ensures below_zero { exponent <ℤ pos 0 → AnswersFraction
-    ///     (int_pow (den_of self.now) (unsigned_abs exponent))
-    ///     (int_pow (num_of self.now) (unsigned_abs exponent)) result }
-    /// ```
-    ///
-    /// Words: [`AnswersFraction`](crate::definitions::ratio64#answersfraction),
-    /// [`num_of`](crate::definitions::ratio64#num_of),
-    /// [`den_of`](crate::definitions::ratio64#den_of), [how to read it](crate::definitions).
-    ///
-    /// </details>
+    /// [Contract](crate::definitions::contracts#ratio64ratiochecked_pow)
     pub fn checked_pow(&self, exponent: i32) -> Result<Self, RatioError> {
         if exponent < 0 {
             self.checked_recip()?.power(exponent.unsigned_abs())

@@ -14,17 +14,7 @@ impl Ratio {
     /// assert!(Ratio::zero().is_zero());
     /// ```
     ///
-    /// <details><summary>Proved</summary>
-    ///
-    /// Proved of the source in Rattle: each call returns, and then each `ensures` holds.
-    ///
-    /// ```text
-    /// ensures { IsTrue result ↔ (num_of self.now ≡ pos 0) }
-    /// ```
-    ///
-    /// Words: [`num_of`](crate::definitions::ratio64#num_of), [how to read it](crate::definitions).
-    ///
-    /// </details>
+    /// [Contract](crate::definitions::contracts#ratio64ratiois_zero)
     #[must_use]
     pub const fn is_zero(&self) -> bool {
         self.num == 0
@@ -41,17 +31,7 @@ impl Ratio {
     /// assert!(!Ratio::zero().is_positive());
     /// ```
     ///
-    /// <details><summary>Proved</summary>
-    ///
-    /// Proved of the source in Rattle: each call returns, and then each `ensures` holds.
-    ///
-    /// ```text
-    /// ensures { IsTrue result ↔ (pos 0 <ℤ num_of self.now) }
-    /// ```
-    ///
-    /// Words: [`num_of`](crate::definitions::ratio64#num_of), [how to read it](crate::definitions).
-    ///
-    /// </details>
+    /// [Contract](crate::definitions::contracts#ratio64ratiois_positive)
     #[must_use]
     pub const fn is_positive(&self) -> bool {
         self.num > 0
@@ -68,17 +48,7 @@ impl Ratio {
     /// assert!(!Ratio::zero().is_negative());
     /// ```
     ///
-    /// <details><summary>Proved</summary>
-    ///
-    /// Proved of the source in Rattle: each call returns, and then each `ensures` holds.
-    ///
-    /// ```text
-    /// ensures { IsTrue result ↔ (num_of self.now <ℤ pos 0) }
-    /// ```
-    ///
-    /// Words: [`num_of`](crate::definitions::ratio64#num_of), [how to read it](crate::definitions).
-    ///
-    /// </details>
+    /// [Contract](crate::definitions::contracts#ratio64ratiois_negative)
     #[must_use]
     pub const fn is_negative(&self) -> bool {
         self.num < 0
@@ -94,25 +64,13 @@ impl Ratio {
     /// assert_eq!(Ratio::new(-3, 2).unwrap().signum(), Ratio::from(-1));
     /// ```
     ///
-    /// <details><summary>Proved</summary>
-    ///
-    /// Proved of the source in Rattle: each call returns, and then each `ensures` holds.
-    ///
-    /// ```text
-    /// ensures num { num_of result ≡ int_signum (num_of self.now) }
-    /// ensures den { den_of result ≡ pos 1 }
-    /// ```
-    ///
-    /// Words: [`num_of`](crate::definitions::ratio64#num_of),
-    /// [`den_of`](crate::definitions::ratio64#den_of), [how to read it](crate::definitions).
-    ///
-    /// </details>
+    /// [Contract](crate::definitions::contracts#ratio64ratiosignum)
     #[must_use]
     pub fn signum(&self) -> Self {
         Self::from(self.num.signum())
     }
 
-    /// Returns the negation, or `NotFitting` if the numerator is `i64::MIN`.
+    /// Returns the negation.
     ///
     /// # Examples
     ///
@@ -124,24 +82,9 @@ impl Ratio {
     ///
     /// # Errors
     ///
-    /// - [`RatioError::NotFitting`](crate::ratio64::RatioError::NotFitting) if the numerator is
-    ///   `i64::MIN`.
+    /// - [`RatioError::NotFitting`] if the numerator is `i64::MIN`.
     ///
-    /// <details><summary>Proved</summary>
-    ///
-    /// Proved of the source in Rattle: each call returns, and then each `ensures` holds.
-    ///
-    /// ```text
-    /// ensures negation { AnswersFraction (neg_ℤ (num_of self.now)) (den_of self.now) result }
-    /// ensures never_zero { result ≢ Err RatioError.ZeroDenominator }
-    /// ensures least { IfErr result (λ _. num_of self.now ≡ neg_ℤ (pos (2 ^ 63))) }
-    /// ```
-    ///
-    /// Words: [`AnswersFraction`](crate::definitions::ratio64#answersfraction),
-    /// [`num_of`](crate::definitions::ratio64#num_of),
-    /// [`den_of`](crate::definitions::ratio64#den_of), [how to read it](crate::definitions).
-    ///
-    /// </details>
+    /// [Contract](crate::definitions::contracts#ratio64ratiochecked_neg)
     pub fn checked_neg(&self) -> Result<Self, RatioError> {
         match self.num.checked_neg() {
             Some(num) => Ok(Self { num, den: self.den }),
@@ -149,7 +92,7 @@ impl Ratio {
         }
     }
 
-    /// Returns the magnitude, or `NotFitting` if the numerator is `i64::MIN`.
+    /// Returns the magnitude.
     ///
     /// # Examples
     ///
@@ -161,25 +104,9 @@ impl Ratio {
     ///
     /// # Errors
     ///
-    /// - [`RatioError::NotFitting`](crate::ratio64::RatioError::NotFitting) if the numerator is
-    ///   `i64::MIN`.
+    /// - [`RatioError::NotFitting`] if the numerator is `i64::MIN`.
     ///
-    /// <details><summary>Proved</summary>
-    ///
-    /// Proved of the source in Rattle: each call returns, and then each `ensures` holds.
-    ///
-    /// ```text
-    /// ensures magnitude { AnswersFraction (pos (unsigned_abs (num_of self.now)))
-    ///     (den_of self.now) result }
-    /// ensures never_zero { result ≢ Err RatioError.ZeroDenominator }
-    /// ensures least { IfErr result (λ _. num_of self.now ≡ neg_ℤ (pos (2 ^ 63))) }
-    /// ```
-    ///
-    /// Words: [`AnswersFraction`](crate::definitions::ratio64#answersfraction),
-    /// [`num_of`](crate::definitions::ratio64#num_of),
-    /// [`den_of`](crate::definitions::ratio64#den_of), [how to read it](crate::definitions).
-    ///
-    /// </details>
+    /// [Contract](crate::definitions::contracts#ratio64ratiochecked_abs)
     pub fn checked_abs(&self) -> Result<Self, RatioError> {
         match self.num.checked_abs() {
             Some(num) => Ok(Self { num, den: self.den }),
