@@ -8,10 +8,10 @@ const LENGTH: usize = 128;
 
 /// A value that has a text of more than one part.
 pub trait Text {
-    /// Writes the text, whatever its width.
+    /// Writes the text as it is, without the options of a format.
     fn write_to<W: fmt::Write>(&self, f: &mut W) -> fmt::Result;
 
-    /// Writes the text as `Formatter::pad` does.
+    /// Writes the text as `Formatter::pad` does, with the options of the format.
     fn pad(&self, f: &mut fmt::Formatter<'_>) -> fmt::Result {
         if f.width().is_none() && f.precision().is_none() {
             return self.write_to(f);
