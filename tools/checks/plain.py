@@ -2,7 +2,7 @@
 from collections.abc import Iterable
 from pathlib import Path
 
-from rattle_source import Item, Source
+from tools.erase.source import Item, Source
 
 WITHOUT_CODE = {'Integral', 'FixedWidth', 'Model'}      # traits of contracts alone
 GHOST = WITHOUT_CODE | {'Number'}               # imports of these, and implementations, go

@@ -19,8 +19,8 @@ from collections.abc import Iterable, Iterator, Sequence
 from dataclasses import dataclass, field
 from pathlib import Path
 
-from library import Library
-from rattle_source import Item, Unknown
+from tools.erase.library import Library
+from tools.erase.source import Item, Unknown
 from tools import ROOT
 from tools.checks import edits
 from tools.checks.plain import Plain

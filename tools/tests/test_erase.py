@@ -1,4 +1,4 @@
-"""What scripts/make_rust_crate.py and scripts/make_rust_exports.py make of a source, and what they reject.
+"""What tools/erase/crate.py and tools/erase/exports.py make of a source, and what they reject.
 
 The pairs of tools/tests/golden are sources of Rattle, in files that the prover does not take for its own, and the Rust that is made
 of them. A file is named for its crate and for what it shows."""
@@ -7,7 +7,7 @@ from __future__ import annotations
 from pathlib import Path
 
 import pytest
-from rattle_source import Unknown
+from tools.erase.source import Unknown
 from tools.tests import samples
 
 GOLDEN = Path(__file__).resolve().parent / 'golden'
