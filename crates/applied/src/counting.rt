@@ -6,7 +6,8 @@ ghost use Rattle.applied.specs.Counting.{factorial_of, falling_of};
 pub mod checked;
 
 use num_integer::Integer;
-use num_integer::operators::{difference, is_below, one, product, successor, zero};
+use num_integer::guards::{check, product_or};
+use num_integer::operators::{difference, is_below, is_negative, one, successor, zero};
 
 /// Returns the factorial of `n`, the product of the numbers from 1 to `n`: in how many ways `n` things stand in
 /// a row. `factorial(5)` is `120`, and `factorial(0)` is `1`.
@@ -24,6 +25,7 @@ pub fn factorial<T: Integer>(n: T) -> T
     ensures in_range { T.fits (T.value result) }
     ensures factorial { T.value result ≡ factorial_of (T.value n) }
 {
+    check(!is_negative(n), "`n` is negative");
     product_above(zero(), n)
 }
 
@@ -44,6 +46,8 @@ pub fn falling<T: Integer>(n: T, k: T) -> T
     ensures in_range { T.fits (T.value result) }
     ensures falling { T.value result ≡ falling_of (T.value n) (T.value k) }
 {
+    check(!is_negative(n), "`n` is negative");
+    check(!is_negative(k), "`k` is negative");
     if is_below(n, k) {
         zero()
     } else {
@@ -64,7 +68,7 @@ fn product_above<T: Integer>(low: T, high: T) -> T
     let mut factor = low;
     while is_below(factor, high) {
         factor = successor(factor);
-        ways = product(ways, factor);
+        ways = product_or(ways, factor, "the factorial does not fit");
     }
     ways
 }

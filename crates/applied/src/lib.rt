@@ -4,6 +4,7 @@
 
 pub mod coprime;
 pub mod counting;
+pub mod guards;
 pub mod halving;
 pub mod layout;
 pub mod lists;

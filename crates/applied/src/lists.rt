@@ -8,6 +8,7 @@ ghost use Rattle.applied.specs.Lists.{GcdOfFits, IsGreatestCommonDivisorOf, IsLe
 pub mod checked;
 
 use num_integer::Fits;
+use num_integer::guards::some;
 
 /// Returns the greatest common divisor of the numbers, the largest that divides each of them.
 /// `gcd_of(&[12, 18, 8])` is `2`, `gcd_of(&[-4, 0])` is `4`, and `gcd_of::<i64>(&[])` is `0`.
@@ -24,7 +25,10 @@ pub fn gcd_of<T: Fits>(numbers: &[T]) -> T
     ensures in_range { T.fits (T.value result) }
     ensures greatest { IsGreatestCommonDivisorOf (map T.value numbers.now) (T.value result) }
 {
-    checked::gcd_of(numbers).unwrap()
+    some(
+        checked::gcd_of(numbers),
+        "the greatest common divisor does not fit",
+    )
 }
 
 /// Returns the least common multiple of the numbers, the smallest positive number that each of them divides, or
@@ -42,5 +46,8 @@ pub fn lcm_of<T: Fits>(numbers: &[T]) -> T
     ensures in_range { T.fits (T.value result) }
     ensures least { IsLeastCommonMultipleOf (map T.value numbers.now) (T.value result) }
 {
-    checked::lcm_of(numbers).unwrap()
+    some(
+        checked::lcm_of(numbers),
+        "the least common multiple does not fit",
+    )
 }

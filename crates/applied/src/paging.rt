@@ -7,7 +7,8 @@ ghost use Rattle.num_integer.specs.Only.{IsOnly};
 ghost use Rattle.num_integer.specs.Range.{EachFits};
 ghost use Rattle.applied.specs.Paging.{IsPlace, IsRangeOfPage, IsRangeOfPart, cut_at};
 
-use num_integer::operators::{difference, is_below, is_negative, product, successor, sum};
+use num_integer::guards::check;
+use num_integer::operators::{difference, is_below, is_negative, product, successor, sum, zero};
 use num_integer::{Fits, Integer, checked, div_ceil, div_floor, div_mod_floor};
 
 /// Returns the smallest number of pages that hold all items. `pages(10, 4)` is `3`, and `pages(-9, 4)` is
@@ -24,6 +25,7 @@ pub fn pages<T: Integer>(items: T, page_size: T) -> T
     ensures fewest { (count : ℤ) → T.value items ≤ℤ (count *ℤ T.value page_size)
         → T.value result ≤ℤ count }
 {
+    check(is_below(zero(), page_size), "the page size is not positive");
     div_ceil(items, page_size)
 }
 
@@ -42,6 +44,7 @@ pub fn place_of<T: Integer>(item: T, page_size: T) -> (T, T)
     ensures only { (page place : ℤ) → IsPlace (T.value item) (T.value page_size) page place
         → (page ≡ T.value result.0) × (place ≡ T.value result.1) }
 {
+    check(is_below(zero(), page_size), "the page size is not positive");
     div_mod_floor(item, page_size)
 }
 
@@ -65,6 +68,11 @@ pub fn item_at<T: Fits>(page: T, place: T, page_size: T) -> Option<T>
         (λ item. IsPlace item (T.value page_size) (T.value page) (T.value place))
         (T.value found)) }
 {
+    check(!is_negative(place), "the place is negative");
+    check(
+        is_below(place, page_size),
+        "the place is not below the page size",
+    );
     if is_negative(page) {
         // The first item of the page may not fit, even if this one does.
         let next_page = checked::product(successor(page), page_size)?;
@@ -92,6 +100,8 @@ pub fn range_of_page<T: Integer>(page: T, page_size: T, items: T) -> (T, T)
     ensures only { IsOnly (λ (first, end). IsRangeOfPage (T.value page) (T.value page_size)
         (T.value items) first end) (T.value result.0, T.value result.1) }
 {
+    check(is_below(zero(), page_size), "the page size is not positive");
+    check(!is_negative(items), "the number of items is negative");
     if is_negative(page) {
         return (items, items);
     }
@@ -126,6 +136,12 @@ pub fn range_of_part<T: Integer>(part: T, parts: T, items: T) -> (T, T)
     ensures only { IsOnly (λ (first, end). IsRangeOfPart (T.value part) (T.value parts)
         (T.value items) first end) (T.value result.0, T.value result.1) }
 {
+    check(!is_negative(part), "the part is negative");
+    check(
+        is_below(part, parts),
+        "the part is not below the number of parts",
+    );
+    check(!is_negative(items), "the number of items is negative");
     let (size, longer) = div_mod_floor(items, parts);
     let first = start_of(part, size, longer);
     (first, start_of(successor(part), size, longer))

@@ -7,7 +7,10 @@ ghost use Rattle.applied.specs.Powers.{IsLogarithm};
 
 pub mod checked;
 
-use num_integer::operators::{difference, is_below, is_equal, is_negative, product, quotient};
+use num_integer::guards::check;
+use num_integer::operators::{
+    difference, is_below, is_equal, is_negative, one, product, quotient, zero,
+};
 use num_integer::{Integer, Roots, nth_root, sqrt};
 use num_traits::Pow;
 
@@ -35,6 +38,7 @@ pub fn is_power<T: Roots + Pow<u32, Output = T>>(n: T, degree: u32) -> bool
     requires degree { degree ≢ 0 }
     ensures { IsTrue result ↔ ((k : ℤ) × (int_pow k degree ≡ T.value n)) }
 {
+    check(degree != 0, "attempt to take a root of degree 0");
     if degree % 2 == 0 && is_negative(n) {
         return false;
     }
@@ -72,6 +76,7 @@ pub fn sqrt_rem<T: Roots>(n: T) -> (T, T)
     ensures rest_from_zero { pos 0 ≤ℤ T.value result.1 }
     ensures rest_at_most { T.value result.1 ≤ℤ (T.value result.0 +ℤ T.value result.0) }
 {
+    check(!is_negative(n), "`n` is negative");
     let root = sqrt(n);
     (root, difference(n, product(root, root)))
 }
@@ -91,6 +96,8 @@ pub fn ilog<T: Integer>(number: T, base: T) -> u32
     ensures logarithm { IsLogarithm (T.value base) (T.value number) result }
     ensures few { result < 128 }
 {
+    check(is_below(zero(), number), "the number is not positive");
+    check(is_below(one(), base), "the base is below 2");
     let mut rest = number;
     let mut degree = 0;
     while !is_below(rest, base) {

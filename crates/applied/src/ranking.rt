@@ -7,7 +7,9 @@ ghost use Rattle.num_integer.specs.Coefficient.{coefficient};
 ghost use Rattle.num_integer.specs.Only.{IsOnly};
 ghost use Rattle.applied.specs.Ranking.{IsBefore, IsChoice, IsChoiceOfRank, IsFirstToRise, IsLastChoice, rank_of};
 
+use crate::guards::{check_choice, check_rank};
 use crate::halving::midpoint;
+use num_integer::guards::sum_or;
 use num_integer::{Fits, binomial, checked};
 
 /// Returns `true` if the numbers increase and are below `n`, which [`rank`] and [`next_choice`] require.
@@ -64,9 +66,15 @@ pub fn rank(choice: &[u64], n: u64) -> u64
     ensures order { (other : List ℕ) → IsChoice n other → length other ≡ length choice.now
         → IsBefore (length choice.now) other choice.now ↔ (rank_of other < result) }
 {
+    check_choice(
+        choice,
+        n,
+        "the numbers of the choice do not increase below `n`",
+    );
     let mut rank = 0;
     for (i, number) in choice.iter().enumerate() {
-        rank += binomial(*number, i as u64 + 1);
+        let count = binomial(*number, i as u64 + 1);
+        rank = sum_or(rank, count, "the rank does not fit");
     }
     rank
 }
@@ -82,6 +90,7 @@ pub fn choice_of_rank(rank: u64, n: u64, choice: &mut [u64])
     ensures choice { IsChoiceOfRank n (length choice.old) rank choice.new }
     ensures only { IsOnly (IsChoiceOfRank n (length choice.old) rank) choice.new }
 {
+    check_rank(rank, n, choice.len(), "no choice has the rank");
     let mut rest = rank;
     let mut bound = n;
     for i in (0..choice.len()).rev() {
@@ -142,6 +151,11 @@ pub fn next_choice(choice: &mut [u64], n: u64) -> bool
         → (choice.new ≡ choice.old)
         × (rank_of choice.old + 1 ≡ coefficient n (length choice.old)) }
 {
+    check_choice(
+        choice,
+        n,
+        "the numbers of the choice do not increase below `n`",
+    );
     match first_to_rise(choice, n) {
         Some(place) => {
             choice[place] += 1;

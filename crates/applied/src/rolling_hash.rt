@@ -5,6 +5,7 @@ ghost use Rattle.modular.specs.Congruences.{IsResidue};
 ghost use Rattle.applied.specs.Hashes.{weighted_sum};
 
 use modular::{difference_modulo, power_modulo, product_modulo, sum_modulo};
+use num_integer::guards::check;
 
 /// A polynomial hash of windows of one length, modulo `modulus`.
 ///
@@ -25,17 +26,40 @@ impl RollingHash {
     /// # Panics
     ///
     /// In plain Rust, if the modulus is not positive.
-    pub fn new(base: u64, modulus: u64, kept: u64) -> RollingHash
+    pub fn new(base: u64, modulus: u64, kept: u64) -> Self
         requires positive { 0 < modulus }
         ensures base { result.base ≡ base }
         ensures modulus { result.modulus ≡ modulus }
         ensures kept { result.kept ≡ kept }
     {
-        RollingHash {
+        check(modulus > 0, "the modulus is not positive");
+        Self {
             base,
             modulus,
             kept,
         }
+    }
+
+    /// Returns the `base`. `RollingHash::new(10, 97, 2).base()` is `10`.
+    pub const fn base(&self) -> u64
+        ensures { result ≡ self.now.base }
+    {
+        self.base
+    }
+
+    /// Returns the `modulus`. `RollingHash::new(10, 97, 2).modulus()` is `97`.
+    pub const fn modulus(&self) -> u64
+        ensures { result ≡ self.now.modulus }
+    {
+        self.modulus
+    }
+
+    /// How many bytes stay in the window when it slides: its length minus 1. `RollingHash::new(10, 97, 2).kept()` is
+    /// `2`.
+    pub const fn kept(&self) -> u64
+        ensures { result ≡ self.now.kept }
+    {
+        self.kept
     }
 
     /// Returns the hash of the window: the sum of its bytes, each times `base` to the power of the number of

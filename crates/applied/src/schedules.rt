@@ -7,7 +7,8 @@ ghost use Rattle.applied.specs.Schedules.{HaveBegun, IsLeastTime, IsMeeting, IsM
 
 pub use modular::CommonSolution;
 use modular::{Modular, next_common_solution, next_common_solution_of};
-use num_integer::operators::is_below;
+use num_integer::guards::{check, check_second_positive};
+use num_integer::operators::{is_below, zero};
 use num_integer::{Fits, Integer};
 
 /// A first time, and the period after which it recurs. The times of the schedule `(3, 6)` are 3, 9, 15 and so
@@ -29,6 +30,8 @@ pub fn next_meeting<T: Modular + Fits>(now: T, a: Schedule<T>, b: Schedule<T>) -
     ensures { IsLeastTime T.value T.fits (T.value now)
         (IsMeeting (T.value a.0) (T.value a.1) (T.value b.0) (T.value b.1)) result }
 {
+    check(is_below(zero(), a.1), "the period is not positive");
+    check(is_below(zero(), b.1), "the period is not positive");
     let from = maximum(now, maximum(a.0, b.0));
     next_common_solution(from, a.0, a.1, b.0, b.1)
 }
@@ -47,6 +50,7 @@ pub fn next_meeting_of<T: Modular + Fits>(now: T, schedules: &[Schedule<T>]) -> 
     requires positive { All (λ s. pos 0 <ℤ T.value s.1) schedules.now }
     ensures { IsLeastTime T.value T.fits (T.value now) (IsMeetingOfEach T.value schedules.now) result }
 {
+    check_second_positive(schedules, "a period is not positive");
     next_common_solution_of(latest(now, schedules), schedules)
 }
 

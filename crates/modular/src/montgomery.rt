@@ -18,11 +18,11 @@ pub(crate) struct Montgomery {
 
 impl Montgomery {
     /// Returns the modulus with its inverse.
-    pub(crate) fn new(m: u64) -> Montgomery
+    pub(crate) fn new(m: u64) -> Self
         requires odd { m % 2 ≡ 1 }
         ensures { result.modulus ≡ m }
     {
-        Montgomery {
+        Self {
             modulus: m,
             inverse: inverse_of_odd(m),
         }

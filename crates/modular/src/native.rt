@@ -8,15 +8,19 @@ ghost use Rattle.modular.specs.Powers.{IsTurnCount};
 use crate::products::Modular;
 use crate::residues::{negation_of_residue, residue};
 use crate::wide_residues::{power_of_wide, product_of_wide};
+use num_integer::guards::check;
+use num_integer::operators::{is_below, zero};
 use num_integer::{Fits, NativeInteger};
 use num_traits::{NumCast, cast};
 
 impl<T: NativeInteger> Modular for T {
     fn product_modulo(&self, other: &T, modulus: &T) -> T {
+        check(is_below(zero(), *modulus), "the modulus is not positive");
         of_magnitude(product_as_magnitude(*self, *other, *modulus))
     }
 
     fn power_modulo_counted(&self, exponent: u128, modulus: &T) -> (T, u32) {
+        check(is_below(zero(), *modulus), "the modulus is not positive");
         let (power, turns) = power_as_magnitude(*self, exponent, *modulus);
         (of_magnitude(power), turns)
     }

@@ -8,6 +8,7 @@ ghost use Rattle.modular.specs.Below.{LiesBelow};
 use crate::exponentiation::{Residues, power_counted};
 use crate::residues::{residue, sum_of_residues};
 use num_integer::Integer;
+use num_integer::guards::check;
 use num_integer::operators::{is_below, is_zero, one, successor, zero};
 
 /// Products and powers modulo a positive number. The native types have it. Your own type gets it by
@@ -28,6 +29,7 @@ pub trait Modular: Integer {
         ensures residue { IsResidue (Self.value modulus.now)
             (Self.value self.now *ℤ Self.value other.now) (Self.value result) }
     {
+        check(is_below(zero(), *modulus), "the modulus is not positive");
         product_by_doubling(
             residue(*self, *modulus),
             residue(*other, *modulus),
@@ -52,6 +54,7 @@ pub trait Modular: Integer {
         ensures turns { exponent ≢ 0
             → (2 ^ result.1 ≤ exponent) × (exponent < 2 ^ (result.1 + 1)) }
     {
+        check(is_below(zero(), *modulus), "the modulus is not positive");
         let m = *modulus;
         let product = move |x: Self, y: Self| -> Self
             requires in_range { Self.fits (Self.value m) }
@@ -81,6 +84,7 @@ pub fn product_modulo<T: Modular>(a: T, b: T, m: T) -> T
     ensures in_range { T.fits (T.value result) }
     ensures residue { IsResidue (T.value m) (T.value a *ℤ T.value b) (T.value result) }
 {
+    check(is_below(zero(), m), "the modulus is not positive");
     a.product_modulo(&b, &m)
 }
 
@@ -98,6 +102,7 @@ pub fn power_modulo<T: Modular>(a: T, exponent: u128, m: T) -> T
     ensures in_range { T.fits (T.value result) }
     ensures residue { IsResidue (T.value m) (int_pow (T.value a) exponent) (T.value result) }
 {
+    check(is_below(zero(), m), "the modulus is not positive");
     power_modulo_counted(a, exponent, m).0
 }
 
@@ -115,6 +120,7 @@ pub fn power_modulo_counted<T: Modular>(a: T, exponent: u128, m: T) -> (T, u32)
     ensures no_turn { exponent ≡ 0 → result.1 ≡ 0 }
     ensures turns { exponent ≢ 0 → (2 ^ result.1 ≤ exponent) × (exponent < 2 ^ (result.1 + 1)) }
 {
+    check(is_below(zero(), m), "the modulus is not positive");
     a.power_modulo_counted(exponent, &m)
 }
 

@@ -12,6 +12,7 @@ use crate::common_solutions::{CommonSolution, chinese_remainder, next_common_sol
 use crate::products::Modular;
 use crate::residue_classes::next_congruent;
 use crate::residues::are_congruent;
+use num_integer::guards::check_second_positive;
 use num_integer::operators::{one, zero};
 use num_integer::{Fits, Integer, checked};
 
@@ -39,6 +40,7 @@ pub fn next_common_solution_of<T: Modular + Fits>(
         × ¬ (T.fits t))
         (Has T.fits T.value (IsLeastFrom (T.value from) (SolvesEach T.value congruences.now))) }
 {
+    check_second_positive(congruences, "a modulus is not positive");
     match least_solution(from, congruences) {
         Some(solution) => CommonSolution::At(solution),
         None => {

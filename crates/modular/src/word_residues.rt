@@ -34,12 +34,12 @@ struct SplitModulus {
 impl SplitModulus {
     /// Splits a modulus.
     #[tactic(auto, using(crate::proofs::SplitModuli::parts_product))]
-    fn new(m: u64) -> SplitModulus
+    fn new(m: u64) -> Self
         requires { 0 < m }
         ensures { result.odd.modulus * 2 ^ result.twos ≡ m }
     {
         let twos = m.trailing_zeros();
-        SplitModulus {
+        Self {
             odd: Montgomery::new(m >> twos),
             twos,
         }

@@ -21,7 +21,7 @@ overflow_add-degree g c = omega (arith, few_divisions g.met.T.Integer.range_law 
 
 pub loop-base-preserved : goal.loop-base-preserved
 loop-base-preserved g c =
-    let enough = from_test c.is_below.ensures c.loop-base-test.true in
+    let enough = from_test c.is_below-in-loop-base.ensures c.loop-base-test.true in
     record {
       in_range = c.quotient-rest.ensures.in_range;
       divided = rw c.quotient-rest.ensures.value (divided_next c.requires.base enough c.loop-base.invariant.divided);
@@ -29,6 +29,6 @@ loop-base-preserved g c =
 
 pub returns : goal.returns
 returns g c = record {
-  logarithm = divided_last c.requires.base c.requires.positive (c.is_below.ensures.0 c.loop-base-test.false) c.loop-base.invariant.divided;
+  logarithm = divided_last c.requires.base c.requires.positive (c.is_below-in-loop-base.ensures.0 c.loop-base-test.false) c.loop-base.invariant.divided;
   few = few_divisions g.met.T.Integer.range_law c.requires.in_range.0 c.requires.positive c.requires.base c.loop-base.invariant.divided;
 }

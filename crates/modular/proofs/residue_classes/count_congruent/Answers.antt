@@ -4,25 +4,25 @@ use Rattle.modular.proofs.Counts.{count_from_zero, counted_by_times, none_in_ran
 use Rattle.modular.proofs.residue_classes.count_congruent.Goals as goal
 
 pub returns-then-is_below-clause-count : goal.returns-then-is_below-clause-count
-returns-then-is_below-clause-count g c = (c.zero.ensures.in_range, none_in_range (c.is_below.ensures.0 c.if-is_below.true) c.zero.ensures.value)
+returns-then-is_below-clause-count g c = (c.zero-then-is_below.ensures.in_range, none_in_range (c.is_below-2.ensures.0 c.if-is_below.true) c.zero-then-is_below.ensures.value)
 
 pub returns-in_err-before-clause-count : goal.returns-in_err-before-clause-count
 returns-in_err-before-clause-count g c =
-    let counted = counted_by_times c.requires.positive c.residue-start.ensures.residue (iff_false c.is_below.ensures c.if-is_below.false) c.times_to_reach.ensures.times c.times_to_reach-2.ensures.times in
+    let counted = counted_by_times c.requires.positive c.residue-start.ensures.residue (iff_false c.is_below-2.ensures c.if-is_below.false) c.times_to_reach.ensures.times c.times_to_reach-2.ensures.times in
     rw c.from_residual.ensures (_, counted.last (c.are_congruent.ensures.0 c.if-are_congruent.true), one_more_too_large g.met.T.Integer.range_law counted.from_zero c.in_err-before.ensures)
 
 pub returns-in_ok-before-clause-count : goal.returns-in_ok-before-clause-count
 returns-in_ok-before-clause-count g c =
-    let counted = counted_by_times c.requires.positive c.residue-start.ensures.residue (iff_false c.is_below.ensures c.if-is_below.false) c.times_to_reach.ensures.times c.times_to_reach-2.ensures.times in
+    let counted = counted_by_times c.requires.positive c.residue-start.ensures.residue (iff_false c.is_below-2.ensures c.if-is_below.false) c.times_to_reach.ensures.times c.times_to_reach-2.ensures.times in
     found_or_beyond _ _ _ _ (counted.last (c.are_congruent.ensures.0 c.if-are_congruent.true)) (rw c.in_ok-before.ensures.1.1 at c.inc.ensures)
 
 pub returns-else-are_congruent-clause-count : goal.returns-else-are_congruent-clause-count
 returns-else-are_congruent-clause-count g c =
-    let counted = counted_by_times c.requires.positive c.residue-start.ensures.residue (iff_false c.is_below.ensures c.if-is_below.false) c.times_to_reach.ensures.times c.times_to_reach-2.ensures.times in
+    let counted = counted_by_times c.requires.positive c.residue-start.ensures.residue (iff_false c.is_below-2.ensures c.if-is_below.false) c.times_to_reach.ensures.times c.times_to_reach-2.ensures.times in
     found_or_beyond _ _ _ _ (counted.other (iff_false c.are_congruent.ensures c.if-are_congruent.false)) c.difference-before.ensures
 
 pub returns-then-is_below-clause-from_zero : goal.returns-then-is_below-clause-from_zero
-returns-then-is_below-clause-from_zero g c = zero_from_zero c.zero.ensures.value
+returns-then-is_below-clause-from_zero g c = zero_from_zero c.zero-then-is_below.ensures.value
 
 pub returns-in_ok-before-clause-from_zero : goal.returns-in_ok-before-clause-from_zero
 returns-in_ok-before-clause-from_zero g c = count_from_zero g.T.Number.fits g.T.Number.value _ _ _ _ (returns-in_ok-before-clause-count g c)
