@@ -30,7 +30,7 @@ TAKEN_OUT = Path(__file__).resolve().parent / 'taken_out.rs'
 REGISTRY = Path('/usr/share/cargo/registry')
 # The tests that are tried, one after the other, until one fails: of each a program, and a word of the names of its tests. The first takes
 # a tenth of a second, and finds most.
-TESTS = (('domains', 'forms'), ('own_type', ''), ('boxed_type', ''), ('domains', ''))
+TESTS = (('domains', 'forms'), ('guards', ''), ('own_type', ''), ('domains', ''))
 SECONDS = 120                                   # that a program may take
 FEW = 8                                         # of so many guards of a kind, one is in the sample
 
