@@ -7,7 +7,7 @@
 A guard is a call of `check`, of `some`, or of another function that tools/checks/taken_out.rs has. In the copy each calls the function of
 that file, with a number, which the variable GUARD takes out: then `check` tests nothing, `some` has a value of zeros, and a sum or a
 product wraps. So the copy is built once, in release, where Rust finds no overflow. The tests are those of rust/tests/domains and, for
-numbers of one's own type, rust/tests/own_type.rs. A test that does not end is one that fails."""
+numbers of one's own type, those of rust/tests. A test that does not end is one that fails."""
 from __future__ import annotations
 
 import json
@@ -28,8 +28,10 @@ from tools.erase.source import Unknown
 RUST = ROOT / 'rust'
 TAKEN_OUT = Path(__file__).resolve().parent / 'taken_out.rs'
 REGISTRY = Path('/usr/share/cargo/registry')
-TESTS = ('domains', 'own_type')
-SECONDS = 60                                    # that the tests may take
+# The tests that are tried, one after the other, until one fails: of each a program, and a word of the names of its tests. The first takes
+# a tenth of a second, and finds most.
+TESTS = (('domains', 'forms'), ('guards', ''), ('own_type', ''), ('domains', ''))
+SECONDS = 120                                   # that a program may take
 FEW = 8                                         # of so many guards of a kind, one is in the sample
 
 
@@ -105,23 +107,23 @@ def copy(folder: Path) -> Crate:
     return crate
 
 
-def build(folder: Path) -> list[str]:
-    """Builds the tests, and returns the programs."""
-    tests = [word for name in TESTS for word in ('--test', name)]
+def build(folder: Path) -> dict[str, str]:
+    """Builds the tests, and returns the programs by name."""
+    tests = [word for name in dict(TESTS) for word in ('--test', name)]
     command = ['cargo', 'test', '--offline', '--release', '--config', 'profile.release.opt-level=1', *tests, '--no-run', '--message-format=json']
     made = subprocess.run(command, cwd=folder / 'rust', capture_output=True, text=True)
     if made.returncode:
         raise Unknown(f'the copy without guards is not built\n{made.stderr}')
     messages = (json.loads(line) for line in made.stdout.splitlines() if line.startswith('{'))
-    found = {message['target']['name']: message['executable'] for message in messages if message.get('executable')}
-    return [found[name] for name in TESTS]
+    return {message['target']['name']: message['executable'] for message in messages if message.get('executable')}
 
 
-def fails(programs: list[str], number: int) -> bool:
+def fails(programs: dict[str, str], number: int) -> bool:
     """Whether a test fails without the guard of this number."""
-    for program in programs:
+    variables = os.environ | {'GUARD': str(number), 'RUST_BACKTRACE': '0'}
+    for name, word in TESTS:
         try:
-            run = subprocess.run([program, '--quiet'], env=os.environ | {'GUARD': str(number)}, capture_output=True, timeout=SECONDS)
+            run = subprocess.run([programs[name], '--quiet', word], env=variables, capture_output=True, timeout=SECONDS)
         except subprocess.TimeoutExpired:
             return True
         if run.returncode:

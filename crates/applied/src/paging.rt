@@ -25,7 +25,7 @@ pub fn pages<T: Integer>(items: T, page_size: T) -> T
     ensures fewest { (count : ℤ) → T.value items ≤ℤ (count *ℤ T.value page_size)
         → T.value result ≤ℤ count }
 {
-    check(is_below(zero(), page_size), "the page size is not positive");
+    check(page_size > zero(), "the page size is not positive");
     div_ceil(items, page_size)
 }
 
@@ -44,7 +44,7 @@ pub fn place_of<T: Integer>(item: T, page_size: T) -> (T, T)
     ensures only { (page place : ℤ) → IsPlace (T.value item) (T.value page_size) page place
         → (page ≡ T.value result.0) × (place ≡ T.value result.1) }
 {
-    check(is_below(zero(), page_size), "the page size is not positive");
+    check(page_size > zero(), "the page size is not positive");
     div_mod_floor(item, page_size)
 }
 

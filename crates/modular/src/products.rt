@@ -29,7 +29,6 @@ pub trait Modular: Integer {
         ensures residue { IsResidue (Self.value modulus.now)
             (Self.value self.now *ℤ Self.value other.now) (Self.value result) }
     {
-        check(is_below(zero(), *modulus), "the modulus is not positive");
         product_by_doubling(
             residue(*self, *modulus),
             residue(*other, *modulus),
@@ -54,7 +53,6 @@ pub trait Modular: Integer {
         ensures turns { exponent ≢ 0
             → (2 ^ result.1 ≤ exponent) × (exponent < 2 ^ (result.1 + 1)) }
     {
-        check(is_below(zero(), *modulus), "the modulus is not positive");
         let m = *modulus;
         let product = move |x: Self, y: Self| -> Self
             requires in_range { Self.fits (Self.value m) }
@@ -102,7 +100,6 @@ pub fn power_modulo<T: Modular>(a: T, exponent: u128, m: T) -> T
     ensures in_range { T.fits (T.value result) }
     ensures residue { IsResidue (T.value m) (int_pow (T.value a) exponent) (T.value result) }
 {
-    check(is_below(zero(), m), "the modulus is not positive");
     power_modulo_counted(a, exponent, m).0
 }
 

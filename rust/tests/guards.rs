@@ -1,0 +1,130 @@
+//! Guards that no test of `domains` misses, since at a built-in type a later one has the same reason: the methods of one's own type need
+//! not test their domains, and two moduli are tested before their multiple.
+
+use cellarcove::modular::counted::power_modulo_counted;
+use cellarcove::modular::{chinese_remainder, product_modulo, Modular};
+use cellarcove::{sqrt, Integer, Roots};
+use num_traits::{Num, One, Zero};
+use std::fmt::Debug;
+use std::ops::{Add, Div, Mul, Rem, Sub};
+use std::panic::{catch_unwind, UnwindSafe};
+
+const MODULUS: &str = "the modulus is not positive";
+const SQUARE_ROOT: &str = "attempt to take the square root of a negative number";
+
+/// A type whose methods do not test their domains.
+#[derive(Debug, Clone, Copy, PartialEq, Eq, PartialOrd, Ord)]
+struct Bold(i64);
+
+macro_rules! operators {
+    ($($name:ident $call:ident)*) => {$(
+        impl $name for Bold {
+            type Output = Bold;
+
+            fn $call(self, other: Bold) -> Bold {
+                Bold(self.0.$call(other.0))
+            }
+        }
+    )*};
+}
+
+operators! { Add add Sub sub Mul mul Div div Rem rem }
+
+impl Zero for Bold {
+    fn zero() -> Bold {
+        Bold(0)
+    }
+
+    fn is_zero(&self) -> bool {
+        self.0 == 0
+    }
+}
+
+impl One for Bold {
+    fn one() -> Bold {
+        Bold(1)
+    }
+}
+
+impl Num for Bold {
+    type FromStrRadixErr = std::num::ParseIntError;
+
+    fn from_str_radix(text: &str, radix: u32) -> Result<Bold, Self::FromStrRadixErr> {
+        i64::from_str_radix(text, radix).map(Bold)
+    }
+}
+
+impl Integer for Bold {
+    fn div_rem(&self, other: &Bold) -> (Bold, Bold) {
+        (*self / *other, *self % *other)
+    }
+
+    fn div_floor(&self, other: &Bold) -> Bold {
+        Bold(Integer::div_floor(&self.0, &other.0))
+    }
+
+    fn mod_floor(&self, other: &Bold) -> Bold {
+        Bold(self.0.mod_floor(&other.0))
+    }
+
+    fn is_multiple_of(&self, other: &Bold) -> bool {
+        Integer::is_multiple_of(&self.0, &other.0)
+    }
+
+    fn is_even(&self) -> bool {
+        self.0.is_even()
+    }
+
+    fn is_odd(&self) -> bool {
+        self.0.is_odd()
+    }
+
+    fn gcd(&self, other: &Bold) -> Bold {
+        Bold(self.0.gcd(&other.0))
+    }
+
+    fn lcm(&self, other: &Bold) -> Bold {
+        Bold(self.0.lcm(&other.0))
+    }
+}
+
+impl Modular for Bold {
+    fn product_modulo(&self, other: &Bold, _modulus: &Bold) -> Bold {
+        *self * *other
+    }
+
+    fn power_modulo_counted(&self, _exponent: u128, _modulus: &Bold) -> (Bold, u32) {
+        (*self, 0)
+    }
+}
+
+impl Roots for Bold {
+    fn nth_root(&self, _n: u32) -> Bold {
+        *self
+    }
+
+    fn sqrt(&self) -> Bold {
+        *self
+    }
+}
+
+/// The reason of the panic of a call.
+fn reason<R: Debug>(call: impl FnOnce() -> R + UnwindSafe) -> String {
+    let payload = catch_unwind(call).expect_err("the call panics");
+    *payload.downcast::<String>().expect("a reason")
+}
+
+#[test]
+fn functions_test_before_the_methods_of_a_type() {
+    let (x, m) = (Bold(-9), Bold(-7));
+    assert_eq!(reason(|| sqrt(x)), SQUARE_ROOT);
+    assert_eq!(reason(|| product_modulo(x, x, m)), MODULUS);
+    assert_eq!(reason(|| power_modulo_counted(x, 3, m)), MODULUS);
+    assert_eq!((x.sqrt(), x.product_modulo(&x, &m)), (x, Bold(81)));
+}
+
+#[test]
+fn moduli_are_tested_before_their_multiple() {
+    assert_eq!(reason(|| chinese_remainder(1, i64::MIN, 3, 5)), MODULUS);
+    assert_eq!(reason(|| chinese_remainder(1, 5, 3, i64::MIN)), MODULUS);
+}
