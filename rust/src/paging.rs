@@ -23,8 +23,8 @@ use crate::{checked, div_ceil, div_floor, div_mod_floor, Fits, Integer};
 /// [Contract](crate::definitions::contracts#pagingpages)
 #[track_caller]
 #[must_use]
-pub fn pages<T: Integer + Copy>(items: T, page_size: T) -> T {
-    check(is_below(zero(), page_size), "the page size is not positive");
+pub fn pages<T: Integer>(items: T, page_size: T) -> T {
+    check(page_size > zero(), "the page size is not positive");
     div_ceil(items, page_size)
 }
 
@@ -46,8 +46,8 @@ pub fn pages<T: Integer + Copy>(items: T, page_size: T) -> T {
 /// [Contract](crate::definitions::contracts#pagingplace_of)
 #[track_caller]
 #[must_use]
-pub fn place_of<T: Integer + Copy>(item: T, page_size: T) -> (T, T) {
-    check(is_below(zero(), page_size), "the page size is not positive");
+pub fn place_of<T: Integer>(item: T, page_size: T) -> (T, T) {
+    check(page_size > zero(), "the page size is not positive");
     div_mod_floor(item, page_size)
 }
 

@@ -115,8 +115,6 @@ pub fn next_common_solution<T: Modular + Fits>(
     b: T,
     n: T,
 ) -> CommonSolution<T> {
-    check(is_below(zero(), m), "the modulus is not positive");
-    check(is_below(zero(), n), "the modulus is not positive");
     let start = residue(a, m);
     let gap = difference_modulo(b, start, n);
     match solutions(m, gap, n) {

@@ -3,10 +3,9 @@
 //! own Euclidean loop: `extended_gcd` needs signed coefficients and computes both, and an inverse
 //! needs only one.
 
-use crate::guards::check;
 use crate::modular::products::Modular;
 use crate::modular::residues::{negation_modulo, residue};
-use crate::operators::{is_below, is_one, is_zero, one, product, sum, zero};
+use crate::operators::{is_one, is_zero, one, product, sum, zero};
 use crate::Integer;
 
 /// Returns the inverse of `a` modulo `m`: the number x of 0..m for which `a` times x is 1 modulo
@@ -32,7 +31,6 @@ use crate::Integer;
 #[track_caller]
 #[must_use]
 pub fn inverse_modulo<T: Integer + Copy>(a: T, m: T) -> Option<T> {
-    check(is_below(zero(), m), "the modulus is not positive");
     let (gcd, x) = gcd_modulo(a, m);
     if is_one(gcd) {
         Some(x)
@@ -64,7 +62,6 @@ pub fn inverse_modulo<T: Integer + Copy>(a: T, m: T) -> Option<T> {
 #[track_caller]
 #[must_use]
 pub fn quotient_modulo<T: Modular>(a: T, b: T, m: T) -> Option<T> {
-    check(is_below(zero(), m), "the modulus is not positive");
     match inverse_modulo(b, m) {
         Some(inverse) => Some(a.product_modulo(&inverse, &m)),
         None => None,

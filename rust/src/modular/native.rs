@@ -16,7 +16,6 @@ impl<T: NativeInteger> Modular for T {
     }
 
     fn power_modulo_counted(&self, exponent: u128, modulus: &T) -> (T, u32) {
-        check(is_below(zero(), *modulus), "the modulus is not positive");
         let (power, turns) = power_as_magnitude(*self, exponent, *modulus);
         (of_magnitude(power), turns)
     }

@@ -37,7 +37,6 @@ pub trait Modular: Integer + Copy {
     #[track_caller]
     #[must_use]
     fn product_modulo(&self, other: &Self, modulus: &Self) -> Self {
-        check(is_below(zero(), *modulus), "the modulus is not positive");
         product_by_doubling(
             residue(*self, *modulus),
             residue(*other, *modulus),
@@ -65,7 +64,6 @@ pub trait Modular: Integer + Copy {
     #[track_caller]
     #[must_use]
     fn power_modulo_counted(&self, exponent: u128, modulus: &Self) -> (Self, u32) {
-        check(is_below(zero(), *modulus), "the modulus is not positive");
         let m = *modulus;
         let product = move |x: Self, y: Self| -> Self { x.product_modulo(&y, &m) };
         let residues = Residues {
@@ -124,7 +122,6 @@ pub fn product_modulo<T: Modular>(a: T, b: T, m: T) -> T {
 #[track_caller]
 #[must_use]
 pub fn power_modulo<T: Modular>(a: T, exponent: u128, m: T) -> T {
-    check(is_below(zero(), m), "the modulus is not positive");
     power_modulo_counted(a, exponent, m).0
 }
 

@@ -32,7 +32,6 @@ use crate::{checked, Fits, Integer};
 #[track_caller]
 #[must_use]
 pub fn solutions<T: Modular>(a: T, b: T, m: T) -> Option<(T, T)> {
-    check(is_below(zero(), m), "the modulus is not positive");
     let (gcd, x) = gcd_modulo(a, m);
     if !b.is_multiple_of(&gcd) {
         return None;

@@ -24,8 +24,8 @@ use crate::{mod_floor, Integer};
 /// [Contract](crate::definitions::contracts#modularresidue)
 #[track_caller]
 #[must_use]
-pub fn residue<T: Integer + Copy>(a: T, m: T) -> T {
-    check(is_below(zero(), m), "the modulus is not positive");
+pub fn residue<T: Integer>(a: T, m: T) -> T {
+    check(m > zero(), "the modulus is not positive");
     mod_floor(a, m)
 }
 
@@ -50,7 +50,6 @@ pub fn residue<T: Integer + Copy>(a: T, m: T) -> T {
 #[track_caller]
 #[must_use]
 pub fn sum_modulo<T: Integer + Copy>(a: T, b: T, m: T) -> T {
-    check(is_below(zero(), m), "the modulus is not positive");
     sum_of_residues(residue(a, m), residue(b, m), m)
 }
 
@@ -86,7 +85,6 @@ pub(crate) fn sum_of_residues<T: Integer + Copy>(x: T, y: T, m: T) -> T {
 #[track_caller]
 #[must_use]
 pub fn difference_modulo<T: Integer + Copy>(a: T, b: T, m: T) -> T {
-    check(is_below(zero(), m), "the modulus is not positive");
     sum_of_residues(residue(a, m), negation_modulo(b, m), m)
 }
 
@@ -112,7 +110,6 @@ pub fn difference_modulo<T: Integer + Copy>(a: T, b: T, m: T) -> T {
 #[track_caller]
 #[must_use]
 pub fn negation_modulo<T: Integer + Copy>(a: T, m: T) -> T {
-    check(is_below(zero(), m), "the modulus is not positive");
     negation_of_residue(residue(a, m), m)
 }
 
