@@ -6,7 +6,7 @@ cd "$(dirname "$0")/../.." || exit
 source tools/gate/lib.sh
 
 program=$PWD/crates/intcalc/out/intcalc
-read -ra words <crates/intcalc/args # the stored run
+mapfile -t words <crates/intcalc/args # the stored run, a word a line
 result=$(<crates/intcalc/stdout)
 requests=8                      # for memory, which the stored run makes
 
