@@ -16,6 +16,7 @@ from collections.abc import Callable, Iterable, Iterator
 from dataclasses import dataclass
 
 from tools import ROOT, counted
+from tools.erase.source import Source
 
 Found = Iterator[tuple[str, bool]]      # places, each with whether it passed
 PAGES = ('README.md', 'docs/*.md', 'crates/*/CALLING.md', 'crates/*/README.md')
@@ -304,8 +305,7 @@ def sessions(program: pathlib.Path, named: Iterable[tuple[str, str]]) -> Found:
 def heads_of_examples() -> Iterator[tuple[str, str]]:
     """The comments at the heads of the examples in Rust, each with its place."""
     for file in sorted((ROOT / 'rust' / 'examples').glob('*.rs')):
-        lines = (line[3:].removeprefix(' ') for line in file.read_text().split('\n') if line.startswith('//!'))
-        yield file.relative_to(ROOT).as_posix(), '\n'.join(lines)
+        yield file.relative_to(ROOT).as_posix(), '\n'.join(Source(file, file.read_text()).head())
 
 
 def said(found: Iterable[tuple[str, bool]], failed: str) -> Found:

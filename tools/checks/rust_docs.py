@@ -36,7 +36,7 @@ def public_items(made: Made) -> Iterator[tuple[Source, Item, str]]:
 
 def lacks(source: Source, item: Item) -> Iterator[str]:
     """What a public item lacks."""
-    lines = [source.tokens[i].text[3:].strip() for i in source.docs(item)]
+    lines = source.doc(item)
     if '# Examples' not in lines and item.kind != 'const':
         yield 'an example'
     if any(source.at(first + 2) == 'track_caller' for first, _ in item.attributes) and '# Panics' not in lines:

@@ -115,7 +115,7 @@ def add_sections(eraser: Eraser, item: Item, owner: Item | None) -> None:
     """Writes the comment of an item as the Rust crate has it. That of a public item gets its sections and its link."""
     source, place = eraser.source, place_of(eraser, item, owner)
     docs = source.docs(item)
-    prose = [source.tokens[i].text[3:].removeprefix(' ') for i in docs]
+    prose = source.doc(item)
     lines = comment(eraser, item, owner, place, prose) if place is not None else of_rust(eraser, prose)
     if lines == prose:
         return

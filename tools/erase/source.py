@@ -66,6 +66,12 @@ class Item:
     items: list['Item'] = field(default_factory=list)
     fields: list[Field] = field(default_factory=list)
 
+    def all(self) -> Iterator['Item']:
+        """The item, and those in it."""
+        yield self
+        for item in self.items:
+            yield from item.all()
+
 
 class Source:
     """A file. A place is the number of a token that is no comment; `texts` are what a writer may change."""
@@ -162,6 +168,14 @@ class Source:
         stop = self.code[getattr(item, 'word', item.first)]
         return [i for i in range(start, stop) if self.tokens[i].kind == 'line'
                 and re.match(r'///(?!/)', self.tokens[i].text)]
+
+    def doc(self, item: Item | Field) -> list[str]:
+        """The lines of the doc comment of an item or a field."""
+        return [self.tokens[i].text[3:].removeprefix(' ') for i in self.docs(item)]
+
+    def head(self) -> list[str]:
+        """The lines of the comment at the head of the file."""
+        return [token.text[3:].removeprefix(' ') for token in self.tokens if token.kind == 'line' and token.text.startswith('//!')]
 
     def parameters(self, item: Item) -> tuple[int, int]:
         """The places of the brackets around the parameters of a function."""

@@ -47,12 +47,6 @@ Shown = list[tuple[Module, Item]]
 Block = tuple[str, list[str], str, list[Item], str, str]
 
 
-def head_of_file(module: Module) -> list[str]:
-    """The lines of the comment at the head of a file."""
-    lines = (token.text for token in module.source.tokens if token.kind == 'line' and token.text.startswith('//!'))
-    return [line[3:].removeprefix(' ') for line in lines]
-
-
 class Crate:
     """What the page of a crate shows: its public items by the module from which a caller imports them."""
 
@@ -97,7 +91,7 @@ class Crate:
             return []
         files = [module for module in self.library.modules.values() if module.path == place]
         own = [module for module in files if module.crate == self.name] or [module for module, _ in shown if module.path == place]
-        return head_of_file(own[0]) if own else []
+        return own[0].source.head() if own else []
 
 
 class Page:
@@ -151,8 +145,7 @@ def head_of(source: Source, item: Item) -> str:
 
 def doc_of(source: Source, item: Item) -> list[str]:
     """The doc comment of an item. Its links are those of the documentation of the Rust crate, so here they are names."""
-    text = '\n'.join(source.tokens[i].text[3:].removeprefix(' ') for i in source.docs(item))
-    text = re.sub(r'\[(`[^`]+`)\](?:\([^)]*\))?', r'\1', text)
+    text = re.sub(r'\[(`[^`]+`)\](?:\([^)]*\))?', r'\1', '\n'.join(source.doc(item)))
     return of_rattle(text.replace('`crate::', '`').split('\n'))
 
 
@@ -204,7 +197,7 @@ class Reference:
 
     def items_of(self, crate: Crate) -> None:
         page = self.pages[crate.name]
-        page.add(*head_of_file(crate.modules[0]), '', IN_RANGE, '')
+        page.add(*crate.modules[0].source.head(), '', IN_RANGE, '')
         if crate.name in BELOW:
             upper = BELOW[crate.name]
             page.add(f'Its public items are those of [`{upper}`]({upper}.md). This page has its definitions and lemmas.', '')
@@ -353,7 +346,7 @@ class Reference:
         shown = list(self.crates.values()) + [Crate(self.program, name) for name in self.program.crates]
         for crate in sorted(shown, key=lambda crate: (NAMES + PROGRAM).index(crate.name)):
             lines += [f'## `{crate.name}`', '', '| file | what it has |', '|---|---|']
-            lines += [f"| `{'/'.join(module.path) or module.source.path.stem}.rt` | {first_sentence(head_of_file(module))} |"
+            lines += [f"| `{'/'.join(module.path) or module.source.path.stem}.rt` | {first_sentence(module.source.head())} |"
                       for module in crate.modules]
             lines.append('')
         return '\n'.join(lines)
@@ -385,7 +378,7 @@ class Reference:
         return '\n'.join(['# All functions', '', *wrapped(INDEX, 110), '', '| function | import from | what it does |', '|---|---|---|', *rows])
 
     def front(self) -> str:
-        rows = '\n'.join(f'| [`{name}`]({name}.md) | {first_sentence(head_of_file(crate.modules[0]))} |'
+        rows = '\n'.join(f'| [`{name}`]({name}.md) | {first_sentence(crate.modules[0].source.head())} |'
                          for name, crate in self.crates.items())
         return '\n'.join(['# Reference', '', 'Made of the sources by `tools/cellarcove make reference`. Nobody edits these pages.', '',
                           '[All functions](index.md), by name. [How to read a contract](../CONTRACTS.md), in five minutes.', '',
