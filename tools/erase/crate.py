@@ -17,7 +17,7 @@ import tempfile
 from collections.abc import Callable, Iterable
 from pathlib import Path
 
-from tools import ROOT as REPOSITORY
+from tools import ROOT as REPOSITORY, write as write_files
 from tools.erase import callers, documentation
 from tools.erase.additions import Additions
 from tools.erase.bounds import Bounds
@@ -360,9 +360,7 @@ def formatted(out: Path) -> None:
 
 def write(out: Path) -> None:
     """Writes the sources below a folder."""
-    for place, text in texts_of(RustLibrary(REPOSITORY / 'crates')).items():
-        (out / 'src' / place).parent.mkdir(parents=True, exist_ok=True)
-        (out / 'src' / place).write_text(text)
+    write_files(out / 'src', texts_of(RustLibrary(REPOSITORY / 'crates')))
     callers.write(out)
     formatted(out)
 

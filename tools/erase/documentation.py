@@ -297,15 +297,10 @@ def definitions(page: Page, head: list[str]) -> str:
         words = [word for word in page.words.values() if word.crate == crate]
         if words:
             see_each_once([word.name for word in words], f'crates/{crate}/specs')
-            words.sort(key=lambda word: (word.file, order(page, word)))
+            words.sort(key=lambda word: (word.file, [*page.specs.read(word.crate, word.file)[0]].index(word.name)))
             lines = [f'Words of {PAGES[crate]}.'] + [line for word in words for line in paragraph(word)]
             text += f'\npub mod {crate} {{\n{inner(lines, "    ")}}}\n'
     return text
-
-
-def order(page: Page, word: Definition) -> int:
-    """The place of a word in its file."""
-    return list(page.specs.read(word.crate, word.file)[0]).index(word.name)
 
 
 def contracts(page: Page, head: list[str]) -> str:

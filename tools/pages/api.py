@@ -7,7 +7,7 @@ import difflib
 import re
 from collections.abc import Iterator
 
-from tools.erase.library import Library, Module
+from tools.erase.library import Library, Module, Place
 from tools.erase.source import Item, Source
 from tools import ROOT, write
 
@@ -24,6 +24,12 @@ class Made(Library):
         super().__init__(ROOT, [CRATE])
         self.public = self.published(CRATE)
         self.types = {name for _, _, name in self.public}
+
+    def place(self, module: Module, item: Item) -> Place | None:
+        """The public place of an item, or of the type of an implementation that is of no trait, or None."""
+        if item.kind == 'impl' and not item.of_trait:
+            return next((place for (_, _, name), place in self.public.items() if name == item.name), None)
+        return self.public.get((CRATE, module.path, item.name)) if item.public and item.kind in SHOWN else None
 
 
 def folded(text: str) -> str:
@@ -59,42 +65,33 @@ def with_path(text: str, name: str, path: str) -> str:
     return re.sub(rf'\b{name}\b', path, text, count=1)
 
 
-def lines_of(made: Made) -> Iterator[str]:
+def shown(made: Made) -> Iterator[tuple[Source, Item, str, Item | None]]:
+    """The public items that the documentation shows, each with its source, its path, and the trait or the implementation that has it."""
     for module in made.modules.values():
         for item in module.items:
-            place = made.public.get((CRATE, module.path, item.name))
-            if item.kind in SHOWN and item.public and place is not None and not is_hidden(module.source, item):
-                yield from lines_of_item(module.source, item, '::'.join((*place, item.name)))
-            elif item.kind == 'impl':
-                yield from lines_of_impl(made, module, item)
-            elif item.kind == 'macro':
-                words = module.source.text(item.word, item.last).rstrip(';')
-                yield 'impl by ' + folded(re.sub(r',?\s*"(?:[^"\\]|\\.)*"', '', words))
+            place = made.place(module, item)
+            if place is None or is_hidden(module.source, item):
+                continue
+            path = '::'.join((*place, item.name))
+            if item.kind != 'impl':
+                yield module.source, item, path, None
+            for inner in item.items if item.kind in ('trait', 'impl') else ():
+                if inner.kind in SHOWN and (inner.public or item.kind == 'trait') and not is_hidden(module.source, inner):
+                    yield module.source, inner, f'{path}::{inner.name}', item
 
 
-def lines_of_item(source: Source, item: Item, path: str) -> Iterator[str]:
-    yield with_path(declaration(source, item), item.name, path)
-    for name in derived(source, item):
-        yield f'impl {name} for {path}'
-    if item.kind == 'trait':
-        for inner in item.items:
-            if inner.kind in SHOWN and not is_hidden(source, inner):
-                provided = ' { .. }' if inner.open is not None else ''
-                yield with_path(declaration(source, inner), inner.name, f'{path}::{inner.name}') + provided
-
-
-def lines_of_impl(made: Made, module: Module, item: Item) -> Iterator[str]:
-    """The head of an implementation of a trait, and the public functions of a type."""
-    source = module.source
-    if item.of_trait:
-        own = {name for other in made.modules.values() for name in [i.name for i in other.items if i.kind in ('struct', 'enum', 'trait')]}
-        if all(name in made.types or name not in own for name in (item.of_trait, item.name)):
+def lines_of(made: Made) -> Iterator[str]:
+    for source, item, path, owner in shown(made):
+        provided = ' { .. }' if owner and owner.kind == 'trait' and item.open is not None else ''
+        yield with_path(declaration(source, item), item.name, path) + provided
+        yield from (f'impl {name} for {path}' for name in derived(source, item))
+    own = {item.name for module in made.modules.values() for item in module.items if item.kind in ('struct', 'enum', 'trait')}
+    for source, item in ((module.source, item) for module in made.modules.values() for item in module.items):
+        if item.kind == 'macro':
+            words = source.text(item.word, item.last).rstrip(';')
+            yield 'impl by ' + folded(re.sub(r',?\s*"(?:[^"\\]|\\.)*"', '', words))
+        elif item.of_trait and all(name in made.types or name not in own for name in (item.of_trait, item.name)):
             yield declaration(source, item)
-        return
-    places = [place for (_, _, name), place in made.public.items() if name == item.name]
-    for place, inner in ((place, inner) for place in places[:1] for inner in item.items):
-        if inner.public and inner.kind in SHOWN and not is_hidden(source, inner):
-            yield with_path(declaration(source, inner), inner.name, '::'.join((*place, item.name, inner.name)))
 
 
 def made() -> dict[str, str]:

@@ -6,6 +6,7 @@ import tempfile
 from collections.abc import Mapping
 from pathlib import Path
 
+from tools import write
 from tools.erase.library import CRATES, RustLibrary
 from tools.erase.crate import Eraser
 from tools.erase.exports import CRATE, Exports
@@ -17,10 +18,7 @@ def erased(crate: str, texts: Mapping[str, str]) -> tuple[str, Page]:
     """What is made of a crate of a library, and the pages that it fills. The texts are those of files, or by the name of a crate that of its root."""
     with tempfile.TemporaryDirectory() as folder:
         crates = Path(folder) / 'crates'
-        for name in {*CRATES, *texts}:
-            file = crates / (name if '/' in name else f'{name}/src/lib.rt')
-            file.parent.mkdir(parents=True, exist_ok=True)
-            file.write_text(texts.get(name, ''))
+        write(crates, {name if '/' in name else f'{name}/src/lib.rt': texts.get(name, '') for name in {*CRATES, *texts}})
         library = RustLibrary(crates)
         if CRATE in texts:
             library.read(CRATE, (), crates / CRATE / 'src' / 'lib.rt')

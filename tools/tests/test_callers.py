@@ -4,6 +4,7 @@ from __future__ import annotations
 import re
 from pathlib import Path
 
+from tools import write
 from tools.erase import callers
 
 CRATE = {
@@ -75,9 +76,7 @@ TRACKED = re.compile(r'#\[track_caller\]\n[^#]*?fn (\w+)')
 
 
 def test_functions_on_the_way_to_a_panic(tmp_path: Path) -> None:
-    for name, text in CRATE.items():
-        (tmp_path / 'made' / 'src').mkdir(parents=True, exist_ok=True)
-        (tmp_path / 'made' / 'src' / name).write_text(text)
+    write(tmp_path / 'made' / 'src', CRATE)
     callers.write(tmp_path / 'made')
     found = {name: TRACKED.findall((tmp_path / 'made' / 'src' / name).read_text()) for name in CRATE}
     assert found == {'lib.rs': [], 'guards.rs': ['check'], 'division.rs': ['quotient', 'divided'],
