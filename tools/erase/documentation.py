@@ -15,7 +15,7 @@ from tools.erase import examples
 from tools.erase.library import AT_ROOT, CRATES
 from tools.erase.prose import wrapped
 from tools.erase.source import Clause, Item, Source, Unknown
-from tools.erase.words import Definition, Specs, cited, imported
+from tools.erase.words import Definition, Specs, imported
 
 if TYPE_CHECKING:
     from tools.erase.crate import Eraser
@@ -181,28 +181,14 @@ class Contract:
 
 @dataclass
 class Page:
-    """What the modules of definitions have: our words, those of the toolchain, which are explained by hand, and the contracts by
-    the public place of their items."""
+    """What the modules of definitions have: the words that are cited, of which those of the toolchain are explained by hand, and the
+    contracts by the public place of their items."""
     folder: pathlib.Path
-    words: dict[tuple[str, str, str], Definition] = field(default_factory=dict)
-    toolchain: set[str] = field(default_factory=set)
     contracts: dict[Place, list[Contract]] = field(default_factory=dict)
     cited: set[str] = field(default_factory=set)    # the crates whose words the contracts link to
 
     def __post_init__(self) -> None:
-        self.specs = Specs(self.folder)
-
-    def add(self, name: str, crate: str, path: str) -> Definition | None:
-        """Adds a word and the words that its definition cites. Returns its definition, or None."""
-        if crate not in CRATES:
-            self.toolchain.add(name)
-            return None
-        word = self.specs.find(crate, path, name)
-        if word and (word.crate, word.file, word.name) not in self.words:
-            self.words[word.crate, word.file, word.name] = word
-            for below in self.specs.below(word):
-                self.add(*below)
-        return word
+        self.specs = Specs(self.folder, CRATES)
 
 
 def clause_text(source: Source, clause: Clause) -> str:
@@ -246,13 +232,9 @@ def link_to_contract(eraser: Eraser, item: Item, owner: Item | None, place: Plac
     if not texts or eraser.page is None:
         return []
     names = imports_of(eraser.source, eraser.module.items) | imports_of(eraser.source, owner.items if owner else item.items)
-    words = []
-    for name in cited('\n'.join(texts), names):
-        word = eraser.page.add(name, *names[name])
-        if word:
-            words.append(f'[`{name}`]({word.crate}#{anchor(name)})')
-            eraser.page.cited.add(word.crate)
-    contract = Contract(title_of(item, owner, place), texts, words)
+    words = eraser.page.specs.cite('\n'.join(texts), names)
+    eraser.page.cited |= {word.crate for word in words}
+    contract = Contract(title_of(item, owner, place), texts, [f'[`{word.name}`]({word.crate}#{anchor(word.name)})' for word in words])
     eraser.page.contracts.setdefault(place, []).append(contract)
     label = 'Laws' if item.kind == 'trait' else 'Contract'
     return [f'[{label}](crate::definitions::contracts#{anchor(contract.title)})']
@@ -289,12 +271,12 @@ def paragraph(definition: Definition) -> list[str]:
 def definitions(page: Page, head: list[str]) -> str:
     """The module `definitions`, below a head by hand: each word that a contract cites."""
     explained = {part for line in head for code in re.findall('`([^`]*)`', line.replace('\\|', '|')) for part in code.split()}
-    missing = sorted(name for name in page.toolchain if name.strip('◌') not in explained)
+    missing = sorted(name for name in page.specs.outside if name.strip('◌') not in explained)
     if missing:
         raise Unknown(f'rust/by_hand/definitions.md: no {", ".join(missing)}')
     text = inner(head) + '\npub mod contracts;\n'
     for crate in CRATES:
-        words = [word for word in page.words.values() if word.crate == crate]
+        words = [word for word in page.specs.cited.values() if word.crate == crate]
         if words:
             see_each_once([word.name for word in words], f'crates/{crate}/specs')
             words.sort(key=lambda word: (word.file, [*page.specs.read(word.crate, word.file)[0]].index(word.name)))

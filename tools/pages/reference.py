@@ -153,44 +153,28 @@ class Reference:
     """All pages: the items first, which name the words that the definitions are then made of."""
 
     def __init__(self) -> None:
-        self.specs = Specs(CRATES)
         names = [name for name in NAMES if (CRATES / name / 'src').is_dir()]
-        library = Library(CRATES, names)
+        self.specs, library = Specs(CRATES, names), Library(CRATES, names)
         self.program = Library(CRATES, [name for name in PROGRAM if (CRATES / name / 'src').is_dir()])
         self.crates = {name: Crate(library, name) for name in names}
         self.pages = {name: Page(f'`{name}`') for name in self.crates}
-        self.words: dict[Key, Definition] = {}
         self.anchors: dict[Key, str] = {}
-        self.waiting: list[tuple[str, int, list[Key]]] = []
+        self.waiting: list[tuple[str, int, list[Definition]]] = []
         self.calls: list[tuple[str, str, str, str, str]] = []
         self.rulesets: list[tuple[str, str, str]] = []
 
     # ---- words
 
-    def need(self, name: str, crate: str, path: str) -> Key | None:
-        """Notes a word, and the words of its definition. Returns its key, or None for one of the toolchain."""
-        if crate not in self.crates:
-            return None
-        word = self.specs.find(crate, path, name)
-        if word is None:
-            return None
-        key = (word.crate, word.file, word.name)
-        if key not in self.words:
-            self.words[key] = word
-            for below in self.specs.below(word):
-                self.need(*below)
-        return key
-
     def links(self, page: str, text: str, imports: Imports) -> None:
         """Adds the line of links to the words of a text, which is filled in when the anchors are known."""
-        keys = [key for key in (self.need(name, *imports[name]) for name in cited(text, imports)) if key]
-        if keys:
-            self.waiting.append((page, len(self.pages[page].lines), keys))
+        words = self.specs.cite(text, imports)
+        if words:
+            self.waiting.append((page, len(self.pages[page].lines), words))
             self.pages[page].add('', '')
 
     def fill_in(self) -> None:
-        for page, at, keys in self.waiting:
-            links = [f'[`{key[2]}`]({"" if key[0] == page else key[0] + ".md"}#{self.anchors[key]})' for key in keys]
+        for page, at, words in self.waiting:
+            links = [f'[`{word.name}`]({"" if word.crate == page else word.crate + ".md"}#{self.anchors[word.key]})' for word in words]
             self.pages[page].lines[at] = '\n'.join(wrapped('Words: ' + ', '.join(links) + '.', 110))
 
     # ---- items
@@ -259,7 +243,7 @@ class Reference:
 
     def definitions_of(self, crate: str) -> None:
         page = self.pages[crate]
-        files = list(dict.fromkeys(key[1] for key in self.words if key[0] == crate))
+        files = {file for other, file, _ in self.specs.cited if other == crate}
         for file in sorted(files, key=lambda file: (file == 'Laws', file)):
             words = self.specs.read(crate, file)[0]
             if file == 'Laws':
@@ -269,8 +253,8 @@ class Reference:
                 page.heading(2, f'Definitions: `Rattle.{crate}.specs.{file}`')
             page.add(*self.comment_of(crate, file), '')
             for name, word in words.items():
-                if (crate, file, name) in self.words:
-                    self.anchors[crate, file, name] = page.heading(3, f'`{name}`')
+                if word.key in self.specs.cited:
+                    self.anchors[word.key] = page.heading(3, f'`{name}`')
                     page.add(sentence(word.comment), '') if word.comment else None
                     page.block('text', word.text)
                     names = {other: (crate, 'specs.' + file) for other in words} | self.specs.read(crate, file)[1]
@@ -290,7 +274,7 @@ class Reference:
         file = CRATES / crate / 'specs' / 'Laws.antt'
         if file.is_file():
             for name in self.specs.read(crate, 'Laws')[0]:
-                self.need(name, crate, 'specs.Laws')
+                self.specs.cite_word(name, crate, 'specs.Laws')
 
     def lemmas_of(self, crate: str) -> None:
         file = CRATES / crate / 'proofs' / 'ForCallers.antt'
@@ -354,7 +338,7 @@ class Reference:
     def imports(self) -> str:
         """The page that has the module of each definition, and of each word of the toolchain that a caller imports."""
         rows = {(name, f'Rattle.{self.upper(crate, file)}.specs.{file}', f'[`{name}`]({crate}.md#{self.anchors[crate, file, name]})')
-                for crate, file, name in self.words if file != 'Laws' and crate not in BY_FILE}
+                for crate, file, name in self.specs.cited if file != 'Laws' and crate not in BY_FILE}
         rows |= {(name, f'Rattle.{crate}.proofs.ForCallers', f'[`{name}`]({crate}.md#{anchor})')
                  for crate, name, anchor in self.rulesets}
         toolchain: dict[str, str] = {}
