@@ -177,18 +177,12 @@ def follow_links() -> Found:
 
 # ---- files that a page names
 
-def named_files(text: str) -> Iterator[tuple[str, str]]:
-    """The files of crates that a page names, and each name that it says a file has."""
-    for names, file in NAMED.findall(' '.join(text.split())):
-        yield file, ''
-        yield from ((file, name) for name in re.findall(r'`(\w+)`', names))
-
-
 def absent_names(text: str, texts: dict[str, str]) -> Iterator[str]:
     """The files that a page names and that are not there, and the names that are not in them. `texts` has the files."""
-    for file, name in named_files(text):
-        if file not in texts or name and not re.search(rf'\b{name}\b', texts[file]):
-            yield f'{file} {name}'.strip()
+    for names, file in NAMED.findall(' '.join(text.split())):
+        for name in ('', *re.findall(r'`(\w+)`', names)):
+            if not re.search(rf'\b{name}\b', texts.get(file, '')):
+                yield f'{file} {name}'.strip()
 
 
 def find_names() -> Found:
@@ -302,12 +296,6 @@ def sessions(program: pathlib.Path, named: Iterable[tuple[str, str]]) -> Found:
                 yield f'{name}:{number}: {command}', printed == ''.join(line + '\n' for line in lines)
 
 
-def heads_of_examples() -> Iterator[tuple[str, str]]:
-    """The comments at the heads of the examples in Rust, each with its place."""
-    for file in sorted((ROOT / 'rust' / 'examples').glob('*.rs')):
-        yield file.relative_to(ROOT).as_posix(), '\n'.join(Source(file, file.read_text()).head())
-
-
 def said(found: Iterable[tuple[str, bool]], failed: str) -> Found:
     """The line of each place, with what is said if it fails."""
     return ((f'{place}: {failed}', passed) for place, passed in found)
@@ -324,4 +312,6 @@ def sessions_of_pages(words: list[str]) -> bool:
 
 
 def sessions_of_examples(words: list[str]) -> bool:
-    return counted(said(sessions(pathlib.Path(words[0]).resolve(), heads_of_examples()), 'prints something else'))
+    files = sorted((ROOT / 'rust' / 'examples').glob('*.rs'))
+    heads = [(file.relative_to(ROOT).as_posix(), '\n'.join(Source(file, file.read_text()).head())) for file in files]
+    return counted(said(sessions(pathlib.Path(words[0]).resolve(), heads), 'prints something else'))

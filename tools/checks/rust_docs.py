@@ -13,7 +13,7 @@ from collections.abc import Iterator
 from tools import ROOT
 from tools.erase.prose import COLUMNS
 from tools.erase.source import Item, Source
-from tools.pages.api import Made, shown
+from tools.pages.api import Shown, shown
 
 
 def lacks(source: Source, item: Item) -> Iterator[str]:
@@ -50,7 +50,7 @@ def check(words: list[str]) -> bool:
         folder = pathlib.Path(words[1])
         wrong, read = list(dead_links(folder)), f'{len(list(folder.rglob("*.html")))} pages'
     else:
-        items = [(source, item, path) for source, item, path, owner in shown(Made()) if item.kind == 'fn' or not owner]
+        items = [(source, item, path) for source, item, path, owner in shown(Shown()) if item.kind == 'fn' or not owner]
         wrong = [f'{path} lacks {what}' for source, item, path in items for what in lacks(source, item)]
         wrong += wide_lines(ROOT / 'rust' / 'src')
         read = f'{len(items)} public items'

@@ -14,29 +14,20 @@ from tools import ROOT, write as write_files
 from tools.erase.bounds import Bounds
 from tools.erase.crate import BY_HAND, Eraser, formatted, made_from, replace
 from tools.erase.documentation import Page
-from tools.erase.library import AT_ROOT, CRATES, Module, RustLibrary
+from tools.erase.library import Module, RustLibrary
 from tools.erase.source import Item, Unknown
 
-CRATE, PACKAGE = 'cellarcove_c', 'cellarcove'
+CRATE = 'cellarcove_c'
 ATTRIBUTES = (['unsafe', '(', 'no_mangle', ')'], ['repr', '(', 'C', ')'])
 
 
 class Exports(Eraser):
     """A file of the exports."""
+    root = 'cellarcove'
 
     def attribute(self, first: int, last: int) -> None:
         if [self.at(k) for k in range(first + 2, last)] not in ATTRIBUTES:
             super().attribute(first, last)
-
-    def path(self, k: int) -> None:
-        """The first word of a path."""
-        if self.at(k + 1) + self.at(k + 2) != '::' or self.at(k - 1) == ':':
-            return
-        word = self.at(k)
-        if word == 'std':
-            self.write(k, 'core')
-        elif word in CRATES:
-            self.write(k, PACKAGE if word in AT_ROOT else f'{PACKAGE}::{word}')
 
     def item(self, item: Item, owner: Item | None) -> None:
         if states_laws(item):

@@ -162,6 +162,16 @@ class Source:
             self.texts[i] = ''
         return last + 1
 
+    def drop_from_list(self, k: int) -> int:
+        """Drops a name of a list, as of a `use` or of bounds, with a sign beside it."""
+        before = self.at(k - 1) == '+' or self.at(k - 1) == ',' and self.at(k + 1) not in ('+', ',')
+        return self.drop(k - before, k + (not before and self.at(k + 1) in ('+', ',')))
+
+    def put_before(self, k: int, text: str) -> None:
+        """Writes a text before what is left from the place on."""
+        first = next(i for i in self.code[k:] if self.texts[i])
+        self.texts[first] = text + self.texts[first]
+
     def docs(self, item: Item | Field) -> list[int]:
         """The numbers of the tokens of the doc comment of an item or a field."""
         start = self.code[item.first - 1] + 1 if item.first else 0
