@@ -47,8 +47,6 @@ def cells(call: Call) -> list[str]:
 def results(call: Call) -> list[tuple[str, str]]:
     """The paths and types of the numbers that it returns. A week of ISO 8601 has its year first."""
     found = EXPORTS().leaves(call.result)
-    if call.writes:
-        return [('', parameter.item) for parameter in call.parameters if parameter.is_written]
     return sorted(found, key=lambda leaf: leaf[0] != '.year') if call.result.startswith('IsoWeek') else found
 
 

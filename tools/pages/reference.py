@@ -6,6 +6,7 @@ each definition of `specs/` that a public clause or such a definition cites, the
 `proofs/ForCallers.antt`, in the groups of that file. A word that a clause cites has a link. The index has each function, and
 `imports.md` the module of each word. A form that is not known is
 rejected by file and line."""
+import itertools
 import re
 import textwrap
 from collections.abc import Iterator, Sequence
@@ -112,6 +113,14 @@ class Page:
 
     def block(self, kind: str, text: str) -> None:
         self.add(f'```{kind}', *text.split('\n'), '```', '')
+
+    def word(self, level: int, name: str, comment: str, text: str) -> str:
+        """Adds a definition or a lemma, and returns its anchor."""
+        anchor = self.heading(level, f'`{name}`')
+        if comment:
+            self.add(sentence(comment), '')
+        self.block('text', text)
+        return anchor
 
 
 def dedented(source: Source, first: int, last: int) -> str:
@@ -251,28 +260,17 @@ class Reference:
                 page.add('Each law has a proof of its name in small letters in `proofs/Laws.antt`, which a proof may cite.', '')
             else:
                 page.heading(2, f'Definitions: `Rattle.{crate}.specs.{file}`')
-            page.add(*self.comment_of(crate, file), '')
+            text = (CRATES / crate / 'specs' / f'{file}.antt').read_text()
+            page.add(*(line[3:] for line in itertools.takewhile(lambda line: line.startswith('-- '), text.split('\n'))), '')
             for name, word in words.items():
                 if word.key in self.specs.cited:
-                    self.anchors[word.key] = page.heading(3, f'`{name}`')
-                    page.add(sentence(word.comment), '') if word.comment else None
-                    page.block('text', word.text)
+                    self.anchors[word.key] = page.word(3, name, word.comment, word.text)
                     names = {other: (crate, 'specs.' + file) for other in words} | self.specs.read(crate, file)[1]
                     names.pop(name, None)
                     self.links(crate, word.text, names)
 
-    def comment_of(self, crate: str, file: str) -> list[str]:
-        first = (CRATES / crate / 'specs' / f'{file}.antt').read_text().split('\n\n')[0].split('\n')
-        lines = []
-        for line in first:
-            if not line.startswith('-- '):
-                break
-            lines.append(line[3:])
-        return lines
-
     def laws_of(self, crate: str) -> None:
-        file = CRATES / crate / 'specs' / 'Laws.antt'
-        if file.is_file():
+        if (CRATES / crate / 'specs' / 'Laws.antt').is_file():
             for name in self.specs.read(crate, 'Laws')[0]:
                 self.specs.cite_word(name, crate, 'specs.Laws')
 
@@ -288,41 +286,27 @@ class Reference:
                 page.heading(3, title[0].upper() + title[1:])
                 page.add(*said, '')
             for other, path, names in EXPORT.findall(text):
-                found = lemmas((CRATES / other).joinpath(*path.split('.')).with_suffix('.antt'))
+                found = lemmas((CRATES / other).joinpath(*path.split('.')).with_suffix('.antt').read_text())
                 for name in (name.strip() for name in names.split(',')):
                     if name not in found:
                         raise Unknown(f'{file}: {path} has no `{name}` that is known')
-                    anchor = self.lemma(page, name, found[name])
+                    anchor = page.word(4, name, *found[name])
                     if found[name][1].startswith('ruleset '):
                         self.rulesets.append((crate, name, anchor))
-            for name, lemma in lemmas_in(text).items():
-                self.lemma(page, name, lemma)
-
-    def lemma(self, page: Page, name: str, lemma: tuple[str, str]) -> str:
-        comment, text = lemma
-        anchor = page.heading(4, f'`{name}`')
-        if comment:
-            page.add(sentence(comment), '')
-        page.block('text', text)
-        return anchor
+            for name, lemma in lemmas(text).items():
+                page.word(4, name, *lemma)
 
     # ---- the pages
 
     def made(self) -> dict[str, str]:
         for crate in self.crates.values():
             self.items_of(crate)
-        for name in self.crates:
-            self.laws_of(name)
-        for name in self.crates:
-            self.definitions_of(name)
+        for add in (self.laws_of, self.definitions_of, self.lemmas_of):
+            for name in self.crates:
+                add(name)
         self.fill_in()
-        for name in self.crates:
-            self.lemmas_of(name)
         pages = {f'{name}.md': '\n'.join(page.lines) for name, page in self.pages.items()}
-        pages['README.md'] = self.front()
-        pages['index.md'] = self.index()
-        pages['modules.md'] = self.modules()
-        pages['imports.md'] = self.imports()
+        pages |= {'README.md': self.front(), 'index.md': self.index(), 'modules.md': self.modules(), 'imports.md': self.imports()}
         return {name: re.sub(r'\n{3,}', '\n\n', text).rstrip('\n') + '\n' for name, text in pages.items()}
 
     def modules(self) -> str:
@@ -404,13 +388,9 @@ def groups(text: str) -> Iterator[tuple[str, list[str], str]]:
         yield title, said + ['```'] * code, exports
 
 
-def lemmas(file: Path) -> dict[str, tuple[str, str]]:
+def lemmas(text: str) -> dict[str, tuple[str, str]]:
     """The lemmas and rulesets of a file, each with its comment and its statement. A statement within modules has their
     heads before it, which say what it takes first."""
-    return lemmas_in(file.read_text())
-
-
-def lemmas_in(text: str) -> dict[str, tuple[str, str]]:
     found: dict[str, tuple[str, str]] = {}
     comment: list[str] = []
     modules: list[tuple[int, str]] = []
