@@ -174,15 +174,10 @@ static PyObject *py_{name}(PyObject *module, PyObject *const *args, Py_ssize_t c
 '''
 
 
-def list_parameter(call: Call) -> tuple[int, int]:
-    """The place of the list of a call, and how many numbers each of its items has."""
-    place = next(k for k, parameter in enumerate(call.parameters) if parameter.item)
-    return place, len(EXPORTS().leaves(call.parameters[place].item))
-
-
 def list_text(name: str, forms: list[Call]) -> str:
     """The function of a call with a list, whose other parameters are numbers of the form."""
-    count, (place, width) = len(forms[0].parameters), list_parameter(forms[0])
+    count, items = len(forms[0].parameters), [parameter.item for parameter in forms[0].parameters]
+    place, width = next((k, len(EXPORTS().leaves(item))) for k, item in enumerate(items) if item)
     for form in forms:
         assert {parameter.kind for parameter in form.parameters if not parameter.item} <= {form.form} and not form.writes, form
     several = count > 1

@@ -14,7 +14,7 @@ from typing import TYPE_CHECKING
 from tools.erase import examples
 from tools.erase.library import AT_ROOT, CRATES
 from tools.erase.prose import wrapped
-from tools.erase.source import Clause, Item, Source, Unknown
+from tools.erase.source import Item, Source, Unknown
 from tools.erase.words import Definition, Specs, imported
 
 if TYPE_CHECKING:
@@ -148,7 +148,7 @@ def linked(eraser: Eraser, comment: str) -> str:
     # rustdoc rejects a target to which the label leads by itself
     here = '::'.join(('crate', *(() if eraser.crate in AT_ROOT else (eraser.crate,)), *eraser.module.path))
     comment = re.sub(rf'(\[`(\w+(?:::\w+)+)`\])\({here}::\2\)', r'\1', comment)
-    roots = eraser.library.names_at(())
+    roots = {name for (_, _, name), place in eraser.library.public.items() if place == () and name[0].isupper()}
     found = {(*place, name) for (_, _, name), place in eraser.library.public.items()}
     bases: list[Place] = [()] if eraser.crate in AT_ROOT else [(eraser.crate,), ()]
 
@@ -191,11 +191,6 @@ class Page:
         self.specs = Specs(self.folder, CRATES)
 
 
-def clause_text(source: Source, clause: Clause) -> str:
-    """A clause in one line."""
-    return re.sub(r'\s+', ' ', source.text(clause.first, clause.last).rstrip(';'))
-
-
 def says_more(text: str) -> bool:
     """Whether a clause says more than that a value lies in its type."""
     return not ONLY_LIES.fullmatch(re.sub(r'\s+', ' ', text))
@@ -213,7 +208,8 @@ def clauses_of(source: Source, item: Item) -> list[str]:
         clauses = [clause for clause in clauses if clause.name in STATED]
     if item.kind == 'trait':
         clauses = [clause for clause in clauses if clause.name.endswith('_law')]
-    return [text for text in (clause_text(source, clause) for clause in clauses) if says_more(text)]
+    texts = (' '.join(source.text(clause.first, clause.last).rstrip(';').split()) for clause in clauses)
+    return [text for text in texts if says_more(text)]
 
 
 def anchor(title: str) -> str:

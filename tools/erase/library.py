@@ -180,7 +180,3 @@ class RustLibrary(Library):
         """The public place of a type that the module's crate has."""
         places = [place for (crate, _, found), place in self.public.items() if crate == module.crate and found == name]
         return places[0] if places else None
-
-    def names_at(self, place: Place) -> list[str]:
-        """The names of types and traits at a public place."""
-        return sorted(name for (_, _, name), there in self.public.items() if there == place and name[0].isupper())

@@ -58,11 +58,6 @@ def derived(source: Source, item: Item) -> list[str]:
             for k in range(first + 4, last) if source.kind(k) == 'word']
 
 
-def with_path(text: str, name: str, path: str) -> str:
-    """A declaration with the path of its item in place of the name."""
-    return re.sub(rf'\b{name}\b', path, text, count=1)
-
-
 def shown(made: Shown) -> Iterator[tuple[Source, Item, str, Item | None]]:
     """The public items that the documentation shows, each with its source, its path, and the trait or the implementation that has it."""
     for module in made.modules.values():
@@ -81,7 +76,7 @@ def shown(made: Shown) -> Iterator[tuple[Source, Item, str, Item | None]]:
 def lines_of(made: Shown) -> Iterator[str]:
     for source, item, path, owner in shown(made):
         provided = ' { .. }' if owner and owner.kind == 'trait' and item.open is not None else ''
-        yield with_path(declaration(source, item), item.name, path) + provided
+        yield re.sub(rf'\b{item.name}\b', path, declaration(source, item), count=1) + provided
         yield from (f'impl {name} for {path}' for name in derived(source, item))
     own = {item.name for module in made.modules.values() for item in module.items if item.kind in ('struct', 'enum', 'trait')}
     for source, item in ((module.source, item) for module in made.modules.values() for item in module.items):
