@@ -1,7 +1,6 @@
 #!/usr/bin/env bash
-# Builds the archive for C, compares the headers and the table of Python with its sources, looks at its symbols, and calls it
-# from C, C++ and Python. Builds the same archive by cargo, compares what both return, and calls that one too. Prints a line
-# for each check, a line for each program that the machine lacks, and a count at the end.
+# Builds the archive for C, looks at its symbols, and calls it from C, C++ and Python. Builds the same archive by cargo, compares what
+# both return, and calls that one too. Prints a line for each check, a line for each program that the machine lacks, and a count at the end.
 #
 # usage: tools/gate/check_bindings.sh [--proved | --cargo]
 #
@@ -158,9 +157,6 @@ fuzz() {
         with_package "$PWD/tools/cellarcove" check fuzz --seed "$1" --minutes "$2" --library "$work/all_calls.so"
 }
 
-# The wheel has what its name and its list say.
-describes_its_wheel() { with_package "$PWD/bindings/python/tests/test_wheel.py" "$work"/wheel/*.whl; }
-
 # An editable install leads to the sources, and has the licences.
 installs_editable() {
     local tree=$work/editable
@@ -238,7 +234,7 @@ python_calls() {
             languages=$((languages + 1))
             check 'the wheel' makes_a_wheel
             check 'Python' passes_its_tests python3
-            check 'the files and the tags of the wheel' describes_its_wheel
+            check 'the files and the tags of the wheel' with_package "$PWD/bindings/python/tests/test_wheel.py" "$work"/wheel/*.whl
             counted 'random calls' fuzz 1 0.05
         else
             echo 'Python: skipped, since there is no pip'
@@ -246,7 +242,6 @@ python_calls() {
     fi
 }
 
-check 'the made files' tools/cellarcove check bindings
 if [ "$libraries" != --cargo ]; then
     check 'the archive' build
     looks_at
