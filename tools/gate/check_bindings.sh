@@ -64,23 +64,16 @@ sanitizes() {
     echo 'int main(void) { return 0; }' | "$1" -fsanitize=undefined,address -x c - -o "$work/empty" 2>/dev/null && "$work/empty"
 }
 
-# with_sanitizers LANGUAGE CALLER COMPILER FLAG..: the caller, built with the sanitizers too.
-with_sanitizers() {
-    if sanitizes "$3"; then
-        check "$1 with $3 and its sanitizers" runs "${@:2}" -g -fsanitize=undefined,address -fno-sanitize-recover -x "$(language "$2")"
-    else
-        echo "$1 with $3 and its sanitizers: skipped, since it lacks their library"
-    fi
-}
-
-language() { case $1 in *.c) echo c ;; *) echo c++ ;; esac; }
-
 # c_with COMPILER: the caller in C, once as it is and once with the sanitizers.
 c_with() {
     has "$1" "C with $1" || return 0
     languages=$((languages + 1))
     check "C with $1" runs test.c "$1" -std=c11 -O2 -x c
-    with_sanitizers C test.c "$1" -std=c11
+    if sanitizes "$1"; then
+        check "C with $1 and its sanitizers" runs test.c "$1" -std=c11 -g -fsanitize=undefined,address -fno-sanitize-recover -x c
+    else
+        echo "C with $1 and its sanitizers: skipped, since it lacks their library"
+    fi
 }
 
 # cpp_with COMPILER: the caller of the header for C++, and that for C as a program in C++.

@@ -15,7 +15,7 @@ from tools.erase.documentation import Page
 
 
 def erased(crate: str, texts: Mapping[str, str]) -> tuple[str, Page]:
-    """What is made of a crate of a library, and the pages that it fills. The texts are those of files, or by the name of a crate that of its root."""
+    """What is made of a crate of a library, and the pages that it fills. The texts are those of files, or of the roots of crates."""
     with tempfile.TemporaryDirectory() as folder:
         crates = Path(folder) / 'crates'
         write(crates, {name if '/' in name else f'{name}/src/lib.rt': texts.get(name, '') for name in {*CRATES, *texts}})
