@@ -16,6 +16,7 @@ from collections.abc import Callable, Iterable, Iterator
 from dataclasses import dataclass
 
 from tools import ROOT, counted
+from tools.erase.prose import anchor
 from tools.erase.source import Source
 
 Found = Iterator[tuple[str, bool]]      # places, each with whether it passed
@@ -147,7 +148,7 @@ def anchors(text: str) -> set[str]:
     for line in re.sub(r'^ *```.*?^ *```$', '', text, flags=re.M | re.S).split('\n'):
         heading = HEADING.fullmatch(line)
         if heading:
-            slug = re.sub(r'[^\w\- ]', '', heading.group(1).lower()).replace(' ', '-')
+            slug = anchor(heading.group(1))
             counts[slug] = counts.get(slug, -1) + 1
             found.add(f'{slug}-{counts[slug]}' if counts[slug] else slug)
     return found

@@ -13,7 +13,7 @@ from typing import TYPE_CHECKING
 
 from tools.erase import examples
 from tools.erase.library import AT_ROOT, CRATES
-from tools.erase.prose import wrapped
+from tools.erase.prose import anchor, wrapped
 from tools.erase.source import Item, Source, Unknown
 from tools.erase.words import Definition, Specs, imported
 
@@ -210,11 +210,6 @@ def clauses_of(source: Source, item: Item) -> list[str]:
         clauses = [clause for clause in clauses if clause.name.endswith('_law')]
     texts = (' '.join(source.text(clause.first, clause.last).rstrip(';').split()) for clause in clauses)
     return [text for text in texts if says_more(text)]
-
-
-def anchor(title: str) -> str:
-    """The fragment that rustdoc gives to a title."""
-    return re.sub(r'[^\w\- ]', '', title).replace(' ', '-').lower()
 
 
 def title_of(item: Item, owner: Item | None, place: Place) -> str:

@@ -14,7 +14,7 @@ from pathlib import Path
 
 from tools.erase.words import Definition, Specs, cited, imported
 from tools.erase.library import Library, Module, Place
-from tools.erase.prose import wrapped
+from tools.erase.prose import anchor, wrapped
 from tools.erase.source import Item, Source, Unknown
 from tools.erase.documentation import STATED, imports_of, of_rattle, says_more
 from tools import ROOT, as_made, write
@@ -103,7 +103,7 @@ class Page:
         self.slugs: dict[str, int] = {}
 
     def heading(self, level: int, text: str) -> str:
-        slug = re.sub(r'[^\w\- ]', '', text.lower()).replace(' ', '-')
+        slug = anchor(text)
         count = self.slugs[slug] = self.slugs.get(slug, -1) + 1
         self.lines += ['#' * level + ' ' + text, '']
         return f'{slug}-{count}' if count else slug
