@@ -15,7 +15,7 @@ from tools.erase.bounds import Bounds
 from tools.erase.crate import BY_HAND, Eraser, formatted, made_from, replace
 from tools.erase.documentation import Page
 from tools.erase.library import Module, RustLibrary
-from tools.erase.source import Item, Unknown
+from tools.erase.source import Item
 
 CRATE = 'cellarcove_c'
 ATTRIBUTES = (['unsafe', '(', 'no_mangle', ')'], ['repr', '(', 'C', ')'])

@@ -9,15 +9,14 @@ rejected by file and line."""
 import itertools
 import re
 import textwrap
-from collections.abc import Iterator, Sequence
-from pathlib import Path
+from collections.abc import Iterator
 
 from tools.erase.words import Definition, Specs, cited, imported
 from tools.erase.library import Library, Module, Place
 from tools.erase.prose import anchor, wrapped
 from tools.erase.source import Item, Source, Unknown
 from tools.erase.documentation import STATED, imports_of, of_rattle, says_more
-from tools import ROOT, as_made, write
+from tools import ROOT
 
 CRATES = ROOT / 'crates'
 PAGES = ROOT / 'docs' / 'reference'
@@ -422,12 +421,7 @@ def lemmas(text: str) -> dict[str, tuple[str, str]]:
     return found
 
 
-def make(_: list[str]) -> bool:
-    made = Reference().made()
-    for page in PAGES.glob('*.md'):
-        page.unlink()
-    return write(PAGES, made)
-
-
-def check(_: list[str]) -> bool:
-    return as_made(PAGES, Reference().made(), [page.name for page in PAGES.glob('*.md')])
+def made() -> dict[str, str | None]:
+    """The pages, and no text for what else is there."""
+    there = dict.fromkeys(page.relative_to(ROOT).as_posix() for page in PAGES.glob('*.md'))
+    return there | {f'docs/reference/{name}': text for name, text in Reference().made().items()}
