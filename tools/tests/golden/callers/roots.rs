@@ -37,3 +37,9 @@ impl Iterator for Steps {
 
     fn nth(&mut self, n: usize) -> Option<u8> { check(true); None }
 }
+
+/// # Panics
+#[track_caller]
+pub fn calls_one_that_says_nothing(x: bool) { says_nothing(x) }
+
+pub fn says_nothing(x: bool) { check(x) }
