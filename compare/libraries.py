@@ -220,10 +220,6 @@ def fraction_lines() -> Iterator[Line]:
 
 # The calls of calendar.
 
-def weekday_of(n: int) -> int:
-    return (n + 3) % 7 + 1
-
-
 def day(n: int) -> Numbers:
     own = model.of_day(n)
     date = model.valid(*own)
@@ -245,7 +241,7 @@ def places(n: int, month: int, weekday: int) -> tuple[int, ...]:
 
 def nearest_weekdays(n: int) -> Numbers:
     return model.fitting(model.I64, *(
-        next(d for d in range(n, n + 7 * step, step) if weekday_of(d) == weekday) for weekday in range(1, 8) for step in (1, -1)))
+        next(d for d in range(n, n + 7 * step, step) if (d + 3) % 7 + 1 == weekday) for weekday in range(1, 8) for step in (1, -1)))
 
 
 def years_between(start: Triple, end: Triple) -> int:

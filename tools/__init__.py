@@ -1,9 +1,11 @@
 """The tools of the repository. The command is tools/cellarcove, which says what each part does."""
+import difflib
+import itertools
 import os
 import pathlib
 import shutil
 import subprocess
-from collections.abc import Iterable, Sequence
+from collections.abc import Iterable, Iterator, Mapping
 
 ROOT = pathlib.Path(__file__).resolve().parent.parent
 
@@ -27,17 +29,22 @@ def run(*words: str | pathlib.Path) -> bool:
     return subprocess.run(words, cwd=ROOT, check=False).returncode == 0
 
 
-def write(root: pathlib.Path, made: dict[str, str]) -> bool:
-    """Writes the made files, by their names below a folder."""
+def write(root: pathlib.Path, made: Mapping[str, str | None]) -> bool:
+    """Writes the made files, by their names below a folder. Where there is to be no text, a file goes."""
     for name, text in made.items():
         (root / name).parent.mkdir(parents=True, exist_ok=True)
-        (root / name).write_text(text)
+        if text is None:
+            (root / name).unlink()
+        else:
+            (root / name).write_text(text)
     return True
 
 
-def as_made(root: pathlib.Path, made: dict[str, str], there: Sequence[str] = ()) -> bool:
-    """Whether the made files, and no others of those that are there, are what is made."""
-    def passed(name: str) -> bool:
-        return name in made and (root / name).is_file() and (root / name).read_text() == made[name]
-    names = sorted({*made, *there})
-    return counted((f'{name} differs from what is made: run tools/cellarcove make', passed(name)) for name in names)
+def as_made(root: pathlib.Path, made: Mapping[str, str | None]) -> bool:
+    """Whether the made files are what is made. Of each that is not, the first lines that differ are printed."""
+    def judged() -> Iterator[tuple[str, bool]]:
+        for name, text in made.items():
+            there = (root / name).read_text() if (root / name).is_file() else None
+            lines = difflib.unified_diff((there or '').split('\n'), (text or '').split('\n'), name, 'what is made', n=0, lineterm='')
+            yield '\n'.join([f'{name} differs from what is made: run tools/cellarcove make', *itertools.islice(lines, 20)]), there == text
+    return counted(judged())

@@ -9,7 +9,7 @@ import importlib
 import sys
 from typing import NamedTuple
 
-from tools import ROOT, run
+from tools import ROOT, as_made, run, write
 from tools.erase.source import Unknown
 
 
@@ -24,10 +24,10 @@ PARTS = {
     'make': {
         'rust': Part('rust/src, the crate of plain Rust', 'erase.crate:make'),
         'exports': Part('rust/c/src, its exports for C', 'erase.exports:make'),
-        'bindings': Part('what C, C++ and Python know of the exports', 'bindings.files:make'),
-        'api': Part('rust/api.txt, its public items', 'pages.api:make'),
-        'reference': Part('docs/reference', 'pages.reference:make'),
-        'python': Part('crates/replay/src/tests/libraries.rt, which takes half a minute', 'checks.replayed:make'),
+        'bindings': Part('what C, C++ and Python know of the exports', 'bindings.files:made'),
+        'api': Part('rust/api.txt, its public items', 'pages.api:made'),
+        'reference': Part('docs/reference', 'pages.reference:made'),
+        'python': Part('crates/replay/src/tests/libraries.rt, which takes half a minute', 'checks.replayed:made'),
         'symbols': Part('prints the symbols of the exports', 'bindings.exports:symbols', False),
         'checksums': Part('prints a program in C that calls each export', 'bindings.checksums:make', False),
         'upstream': Part("SOURCE CRATE OUT: a package of num-integer's own tests", 'checks.upstream:make', False),
@@ -39,13 +39,13 @@ PARTS = {
         'laws': Part('each law is a clause that the gate proves', 'checks.laws:check'),
         'erased': Part('plain Rust is its source with its contracts deleted, but for a table', 'tools/checks/erased.py'),
         'rust_docs': Part('[--links DOC]: each public item of plain Rust has an example, and says when it panics', 'checks.rust_docs:check'),
-        'bindings': Part('the files of `make bindings` are what it makes', 'bindings.files:check'),
-        'api': Part('so is that of `make api`', 'pages.api:check'),
-        'reference': Part('so are those of `make reference`', 'pages.reference:check'),
+        'bindings': Part('the files of `make bindings` are what it makes', 'bindings.files:made'),
+        'api': Part('so is that of `make api`', 'pages.api:made'),
+        'reference': Part('so are those of `make reference`', 'pages.reference:made'),
         'types': Part('mypy --strict on the tools', 'checks.programs:types'),
         'shell': Part('shellcheck on the scripts of the shell', 'checks.programs:shell'),
         'tests': Part('pytest on the tools', 'checks.programs:tests'),
-        'python': Part('so is that of `make python`, which takes half a minute', 'checks.replayed:check', False),
+        'python': Part('so is that of `make python`, which takes half a minute', 'checks.replayed:made', False),
         'trust': Part('LOG: docs/TESTING.md says of the axioms what `rt ci` printed', 'checks.trust:check', False),
         'sessions': Part('PROGRAM: it prints what the sessions of the pages show', 'checks.pages:sessions_of_pages', False),
         'examples': Part('FOLDER: its programs print what the heads of rust/examples show', 'checks.pages:sessions_of_examples', False),
@@ -56,8 +56,8 @@ PARTS = {
 }
 
 
-def run_part(part: Part, words: list[str]) -> int:
-    """The status of a part."""
+def run_part(verb: str, part: Part, words: list[str]) -> int:
+    """The status of a part. One whose function is `made` has the files that are to be made, or that are compared with what is made."""
     if '/' in part.function:
         return 0 if run(sys.executable, ROOT / part.function, *words) else 1
     name, function = part.function.split(':')
@@ -66,6 +66,8 @@ def run_part(part: Part, words: list[str]) -> int:
         print(module.__doc__)
         return 0
     try:
+        if function == 'made':
+            return 0 if (write if verb == 'make' else as_made)(ROOT, module.made()) else 1
         return 0 if getattr(module, function)(words) else 1
     except Unknown as form:
         print(form, file=sys.stderr)
@@ -86,5 +88,5 @@ def main(words: list[str]) -> int:
         if each == name or part.always and not name:
             if verb == 'check' or not name:
                 print(verb, each, flush=True)
-            worst = max(worst, run_part(part, rest))
+            worst = max(worst, run_part(verb, part, rest))
     return worst

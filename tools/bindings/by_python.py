@@ -174,10 +174,7 @@ def chinese_remainder(bounds: Pair, a: int, m: int, b: int, n: int) -> Result:
 
 
 def next_common_solution(bounds: Pair, start: int, a: int, m: int, b: int, n: int) -> Result:
-    if m <= 0 or n <= 0:
-        return BAD_MODULUS
-    found = common(a, m, b, n)
-    return NO_SOLUTION if found is None else fitting(bounds, start + (found[0] - start) % found[1])
+    return next_common_solution_of(bounds, start, [(a, m), (b, n)])
 
 
 def next_common_solution_of(bounds: Pair, start: int, congruences: Sequence[Pair]) -> Result:

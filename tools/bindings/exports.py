@@ -110,8 +110,7 @@ def c_parameters(call: Call) -> Iterator[str]:
 
 def paragraphs(source: Source, item: Item) -> list[str]:
     """The paragraphs of the comment of an item, each on one line."""
-    text = '\n'.join(source.tokens[i].text[3:].strip() for i in source.docs(item))
-    return [' '.join(part.split()) for part in text.split('\n\n') if part.strip()]
+    return [' '.join(part.split()) for part in '\n'.join(source.doc(item)).split('\n\n') if part.strip()]
 
 
 def call_of(module: str, source: Source, item: Item) -> Call:
@@ -131,7 +130,7 @@ def read() -> Exports:
     found = Exports([], {}, [], {})
     for path in sorted(SOURCES.glob('*.rt'), key=lambda path: (ORDER.index(path.stem) if path.stem in ORDER else len(ORDER), path.stem)):
         source = Source(path.relative_to(SOURCES.parent), path.read_text())
-        found.headings[path.stem] = ' '.join(re.findall('^//! ?(.*)', path.read_text(), re.M))
+        found.headings[path.stem] = ' '.join(source.head())
         for item in source.items():
             words = {source.at(k) for first, last in item.attributes for k in range(first, last)}
             if item.kind == 'const' and item.public and source.at(item.word + 3) == 'u32':

@@ -22,7 +22,7 @@ from dataclasses import dataclass
 from pathlib import Path
 
 from tools import ROOT
-from tools.erase.library import Library, Module
+from tools.erase.library import Made, Module
 from tools.erase.source import Unknown
 
 RUST = ROOT / 'rust'
@@ -55,12 +55,11 @@ class Guard:
         source.texts[source.code[self.place + 1]] = f'({self.number}, '
 
 
-class Crate(Library):
-    """The crate of plain Rust in a folder."""
-    SUFFIX = '.rs'
+class Crate(Made):
+    """The crate of plain Rust in a folder, with its guards."""
 
     def __init__(self, folder: Path) -> None:
-        super().__init__(folder.parent, [folder.name])
+        super().__init__(folder)
         names = set(re.findall(r'pub\(crate\) fn (\w+)', TAKEN_OUT.read_text()))
         found = ((module, place) for module in self.modules.values() for place in self.calls(module, names))
         self.guards = [Guard(number, module, place, module.source.at(place)) for number, (module, place) in enumerate(found, 1)]
@@ -78,12 +77,10 @@ class Crate(Library):
         """Writes the calls of taken_out.rs, and that file."""
         for guard in self.guards:
             guard.take()
-        for module in self.modules.values():
-            text = ''.join(module.source.texts)
-            if not module.path:
-                text = text.replace('#![forbid(unsafe_code)]', '') + '\nmod taken_out;\n'
-            (self.folder.parent / module.source.path).write_text(text)
-        shutil.copy(TAKEN_OUT, self.folder / next(iter(self.crates)) / 'src')
+        super().write()
+        root = self.folder / self.name / 'src' / 'lib.rs'
+        root.write_text(root.read_text().replace('#![forbid(unsafe_code)]', '') + '\nmod taken_out;\n')
+        shutil.copy(TAKEN_OUT, root.parent)
 
     def sample(self) -> list[Guard]:
         """A few guards of each kind."""

@@ -6,11 +6,11 @@ A law is a definition that is `Type N` itself. One with arguments is a word: it 
 name counts where the file imports it from that `Laws`, or writes it after the word by which it imports the whole file, as
 `dates.FirstDay`. A form that is not known is rejected by file and line."""
 import re
-from collections.abc import Iterable, Iterator
+from collections.abc import Iterator
 from pathlib import Path
 
 from tools.erase.words import Specs, cited, imported
-from tools.erase.source import Item, Source, Unknown
+from tools.erase.source import Source, Unknown
 from tools import ROOT
 
 IS_LAW = re.compile(r'\S+ : Type \d+$')
@@ -24,22 +24,6 @@ def crates(root: Path) -> list[str]:
     """The names of the crates that the gate proves."""
     lines = (root / 'crates.txt').read_text().splitlines()
     return [re.split(r'\W', line)[0] for line in lines if re.match(r'\w', line)]
-
-
-def functions(items: Iterable[Item]) -> Iterator[Item]:
-    """The functions among the items, and in their traits, implementations and modules."""
-    for item in items:
-        if item.kind == 'fn':
-            yield item
-        yield from functions(item.items)
-
-
-def ghosts(source: Source, items: Iterable[Item]) -> Iterator[str]:
-    """The text of each ghost import among the items, those within traits, implementations and modules too."""
-    for item in items:
-        if item.kind == 'ghost':
-            yield source.text(item.first, item.last)
-        yield from ghosts(source, item.items)
 
 
 def named(text: str, imports: dict[str, tuple[str, str]], files: dict[str, str]) -> Iterator[tuple[str, str]]:
@@ -59,15 +43,11 @@ def ensured(root: Path, specs: Specs, crate: str, file: str, public: bool) -> se
     if crate not in crates(root) or not path.is_file():
         return found
     source = Source(path.relative_to(root), path.read_text())
-    items = source.items()
-    texts = list(ghosts(source, items))
-    imports: dict[str, tuple[str, str]] = {}
-    files: dict[str, str] = {}
-    for text in texts:
-        imports |= imported(text)
-        files |= {word: of for of, word in WHOLE_FILE.findall(text)}
-    for function in functions(items):
-        for clause in function.clauses if function.public or not public else ():
+    items = [item for top in source.items() for item in top.all()]
+    ghosts = '\n'.join(source.text(item.first, item.last) for item in items if item.kind == 'ghost')
+    imports, files = imported(ghosts), {word: of for of, word in WHOLE_FILE.findall(ghosts)}
+    for item in items:
+        for clause in item.clauses if item.kind == 'fn' and (item.public or not public) else ():
             if clause.word == 'ensures':
                 for of, name in named(source.text(clause.first, clause.last), imports, files):
                     word = specs.find(of, 'specs.Laws', name)

@@ -16,6 +16,8 @@ from collections.abc import Callable, Iterable, Iterator
 from dataclasses import dataclass
 
 from tools import ROOT, counted
+from tools.erase.prose import anchor
+from tools.erase.source import Source
 
 Found = Iterator[tuple[str, bool]]      # places, each with whether it passed
 PAGES = ('README.md', 'docs/*.md', 'crates/*/CALLING.md', 'crates/*/README.md')
@@ -146,7 +148,7 @@ def anchors(text: str) -> set[str]:
     for line in re.sub(r'^ *```.*?^ *```$', '', text, flags=re.M | re.S).split('\n'):
         heading = HEADING.fullmatch(line)
         if heading:
-            slug = re.sub(r'[^\w\- ]', '', heading.group(1).lower()).replace(' ', '-')
+            slug = anchor(heading.group(1))
             counts[slug] = counts.get(slug, -1) + 1
             found.add(f'{slug}-{counts[slug]}' if counts[slug] else slug)
     return found
@@ -176,18 +178,12 @@ def follow_links() -> Found:
 
 # ---- files that a page names
 
-def named_files(text: str) -> Iterator[tuple[str, str]]:
-    """The files of crates that a page names, and each name that it says a file has."""
-    for names, file in NAMED.findall(' '.join(text.split())):
-        yield file, ''
-        yield from ((file, name) for name in re.findall(r'`(\w+)`', names))
-
-
 def absent_names(text: str, texts: dict[str, str]) -> Iterator[str]:
     """The files that a page names and that are not there, and the names that are not in them. `texts` has the files."""
-    for file, name in named_files(text):
-        if file not in texts or name and not re.search(rf'\b{name}\b', texts[file]):
-            yield f'{file} {name}'.strip()
+    for names, file in NAMED.findall(' '.join(text.split())):
+        for name in ('', *re.findall(r'`(\w+)`', names)):
+            if not re.search(rf'\b{name}\b', texts.get(file, '')):
+                yield f'{file} {name}'.strip()
 
 
 def find_names() -> Found:
@@ -301,13 +297,6 @@ def sessions(program: pathlib.Path, named: Iterable[tuple[str, str]]) -> Found:
                 yield f'{name}:{number}: {command}', printed == ''.join(line + '\n' for line in lines)
 
 
-def heads_of_examples() -> Iterator[tuple[str, str]]:
-    """The comments at the heads of the examples in Rust, each with its place."""
-    for file in sorted((ROOT / 'rust' / 'examples').glob('*.rs')):
-        lines = (line[3:].removeprefix(' ') for line in file.read_text().split('\n') if line.startswith('//!'))
-        yield file.relative_to(ROOT).as_posix(), '\n'.join(lines)
-
-
 def said(found: Iterable[tuple[str, bool]], failed: str) -> Found:
     """The line of each place, with what is said if it fails."""
     return ((f'{place}: {failed}', passed) for place, passed in found)
@@ -324,4 +313,6 @@ def sessions_of_pages(words: list[str]) -> bool:
 
 
 def sessions_of_examples(words: list[str]) -> bool:
-    return counted(said(sessions(pathlib.Path(words[0]).resolve(), heads_of_examples()), 'prints something else'))
+    files = sorted((ROOT / 'rust' / 'examples').glob('*.rs'))
+    heads = [(file.relative_to(ROOT).as_posix(), '\n'.join(Source(file, file.read_text()).head())) for file in files]
+    return counted(said(sessions(pathlib.Path(words[0]).resolve(), heads), 'prints something else'))

@@ -1,4 +1,4 @@
-"""A file of Rattle as plain Rust, for the first lines of seeded bugs. It shares no code with what makes rust/src."""
+"""A file of Rattle as plain Rust, for the first lines of seeded bugs. It shares the reader of tokens alone with what makes rust/src."""
 from collections.abc import Iterable
 from pathlib import Path
 
@@ -16,7 +16,8 @@ class Plain:
 
     def __init__(self, path: Path, text: str) -> None:
         self.source = Source(path, text)
-        self.at, self.drop, self.texts = self.source.at, self.source.drop, self.source.texts
+        self.at, self.texts = self.source.at, self.source.texts
+        self.drop, self.drop_from_list = self.source.drop, self.source.drop_from_list
         for i, token in enumerate(self.source.tokens):
             if token.kind in ('line', 'block'):
                 self.texts[i] = ''
@@ -31,11 +32,6 @@ class Plain:
     def words(self, first: int, last: int) -> list[str]:
         return [self.at(k) for k in range(first, last + 1)]
 
-    def drop_from_list(self, k: int) -> int:
-        """Drops a name of a list, as of a `use` or of bounds, with a sign beside it."""
-        before = self.at(k - 1) == '+' or self.at(k - 1) == ',' and self.at(k + 1) not in ('+', ',')
-        return self.drop(k - before, k + (not before and self.at(k + 1) in ('+', ',')))
-
     def items(self, items: Iterable[Item]) -> None:
         """Drops the items that are there for contracts or tests alone, and the `main` of a program; each type prints its values."""
         for item in items:
@@ -45,7 +41,7 @@ class Plain:
                 self.drop(item.first, item.last)
             elif item.kind in ('struct', 'enum') and not any('Debug' in words for words in attributes):
                 first = item.attributes[-1][1] + 1 if item.attributes else item.first
-                self.texts[self.source.code[first]] = '#[derive(Debug)]\n' + self.at(first)
+                self.source.put_before(first, '#[derive(Debug)]\n')
             self.items(item.items)
 
     def step(self, k: int) -> int:

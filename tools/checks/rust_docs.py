@@ -13,30 +13,12 @@ from collections.abc import Iterator
 from tools import ROOT
 from tools.erase.prose import COLUMNS
 from tools.erase.source import Item, Source
-from tools.pages.api import CRATE, SHOWN, Made, is_hidden
-
-
-def public_items(made: Made) -> Iterator[tuple[Source, Item, str]]:
-    """The public functions, types and traits of the crate, each with its source and its path."""
-    for module in made.modules.values():
-        source = module.source
-        for item in module.items:
-            place = made.public.get((CRATE, module.path, item.name))
-            if item.kind in SHOWN and item.public and place is not None and not is_hidden(source, item):
-                path = '::'.join((*place, item.name))
-                yield source, item, path
-                for inner in item.items if item.kind == 'trait' else ():
-                    if inner.kind == 'fn' and not is_hidden(source, inner):
-                        yield source, inner, f'{path}::{inner.name}'
-            elif item.kind == 'impl' and not item.of_trait and item.name in made.types:
-                for inner in item.items:
-                    if inner.kind == 'fn' and inner.public and not is_hidden(source, inner):
-                        yield source, inner, f'{item.name}::{inner.name}'
+from tools.pages.api import Shown, shown
 
 
 def lacks(source: Source, item: Item) -> Iterator[str]:
     """What a public item lacks."""
-    lines = [source.tokens[i].text[3:].strip() for i in source.docs(item)]
+    lines = source.doc(item)
     if '# Examples' not in lines and item.kind != 'const':
         yield 'an example'
     if any(source.at(first + 2) == 'track_caller' for first, _ in item.attributes) and '# Panics' not in lines:
@@ -68,7 +50,7 @@ def check(words: list[str]) -> bool:
         folder = pathlib.Path(words[1])
         wrong, read = list(dead_links(folder)), f'{len(list(folder.rglob("*.html")))} pages'
     else:
-        items = list(public_items(Made()))
+        items = [(source, item, path) for source, item, path, owner in shown(Shown()) if item.kind == 'fn' or not owner]
         wrong = [f'{path} lacks {what}' for source, item, path in items for what in lacks(source, item)]
         wrong += wide_lines(ROOT / 'rust' / 'src')
         read = f'{len(items)} public items'

@@ -15,12 +15,12 @@ import os
 import re
 import subprocess
 import tempfile
-from collections.abc import Iterable, Iterator, Sequence
+from collections.abc import Iterable, Sequence
 from dataclasses import dataclass, field
 from pathlib import Path
 
 from tools.erase.library import Library
-from tools.erase.source import Item, Unknown
+from tools.erase.source import Unknown
 from tools import ROOT
 from tools.checks import edits
 from tools.checks.plain import Plain
@@ -112,21 +112,13 @@ def module_of(bugs: Sequence[Bug]) -> str:
     return f'\n#[cfg(test)]\nmod wrong_lines {{\n#[allow(unused_imports)]\nuse super::*;\n{preludes}{tests}}}\n'
 
 
-def clauses_of(items: Iterable[Item]) -> Iterator[tuple[str, str]]:
-    """The clauses of functions: the name of the function, and that of the clause, which may be empty."""
-    for item in items:
-        if item.kind == 'fn':
-            yield from ((item.name, clause.name) for clause in item.clauses)
-        yield from clauses_of(item.items)
-
-
 class Crates:
     """The sources of the crates as Rust, and the clauses of their functions."""
 
     def __init__(self, names: Iterable[str]) -> None:
         self.below = dependencies()
         self.texts: dict[str, dict[str, str]] = {}
-        self.clauses: dict[str, list[tuple[str, str]]] = {}
+        self.clauses: dict[str, list[tuple[str, str]]] = {}     # of functions by their names, with the names of the clauses, or ''
         for name in names:
             self.add(name)
 
@@ -137,7 +129,8 @@ class Crates:
         if crate not in self.texts:
             modules = Library(ROOT / 'crates', [crate]).modules.values()
             files = [module.source.path.relative_to(f'crates/{crate}').as_posix() for module in modules]
-            self.clauses[crate] = [found for module in modules for found in clauses_of(module.items)]
+            items = (item for module in modules for top in module.items for item in top.all() if item.kind == 'fn')
+            self.clauses[crate] = [(item.name, clause.name) for item in items for clause in item.clauses]
             self.texts[crate] = {place_of(file): erased(crate, file, (ROOT / 'crates' / crate / file).read_text()) for file in files}
 
     def clauses_of(self, crate: str, functions: Iterable[str]) -> set[str]:

@@ -6,7 +6,6 @@ other methods, and its attributes, as does a struct by its name. Every other ite
 of the made file it is the whole file. A file with another path is a module of its own."""
 from __future__ import annotations
 
-import re
 from collections.abc import Iterable
 from pathlib import Path
 
@@ -16,13 +15,9 @@ from tools.erase.source import Item, Source
 BLOCKS = ('struct', 'trait', 'impl')            # items of which the two files may have parts
 
 
-def fold(text: str) -> str:
-    return re.sub(r'\s+', ' ', text).strip()
-
-
 def head(source: Source, item: Item) -> str:
     """The words by which a struct, a trait or an implementation is found: the name, or the whole head."""
-    return item.name if item.kind != 'impl' or item.open is None else fold(source.text(item.word, item.open - 1))
+    return item.name if item.kind != 'impl' or item.open is None else ' '.join(source.text(item.word, item.open - 1).split())
 
 
 def start(source: Source, item: Item) -> int:

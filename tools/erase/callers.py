@@ -10,7 +10,7 @@ from collections.abc import Iterator
 from dataclasses import dataclass
 from pathlib import Path
 
-from tools.erase.library import Library, Module
+from tools.erase.library import Made, Module
 from tools.erase.source import Item
 
 Name = tuple[str, ...]                          # the path of a function, or the name of a method alone
@@ -43,19 +43,12 @@ class Function:
         source = self.module.source
         return any(source.tokens[i].text == '/// # Panics' for i in source.docs(self.item))
 
-    def put(self) -> None:
-        source = self.module.source
-        first = source.code[self.item.first]
-        source.texts[first] = f'#[{ATTRIBUTE}]\n{source.texts[first]}'
 
-
-class Callers(Library):
-    """The made crate, whose sources are below a folder."""
-    SUFFIX = '.rs'
+class Callers(Made):
+    """The made crate, with what its functions call."""
 
     def __init__(self, folder: Path) -> None:
-        super().__init__(folder.parent, [folder.name])
-        self.public, self.name = self.published(folder.name), folder.name
+        super().__init__(folder)
         self.functions = [function for module in self.modules.values() for function in functions(module)]
         self.called = collections.defaultdict[Name, set[Name]](set)
         for function in self.functions:
@@ -99,8 +92,7 @@ class Callers(Library):
         if top is not None:
             return (self.name, module.path, top.name) not in self.public
         assert owner is not None
-        types = {name for _, _, name in self.public}
-        return not owner.of_trait and not (item.public and owner.name in types)
+        return not owner.of_trait and not (item.public and owner.name in self.types)
 
     def put(self) -> None:
         """Puts the attribute at each function that is to have it. An implementation has it of its trait, if that is of the crate."""
@@ -108,7 +100,7 @@ class Callers(Library):
         for function in self.functions:
             of_own = function.owner is not None and function.owner.of_trait in self.traits
             if function.name in names and not function.has() and not of_own and (self.is_closed(function) or function.says_so()):
-                function.put()
+                function.module.source.put_before(function.item.first, f'#[{ATTRIBUTE}]\n')
 
 
 def functions(module: Module) -> Iterator[Function]:
@@ -122,5 +114,4 @@ def write(folder: Path) -> None:
     """Writes the attributes of a crate whose sources are below a folder."""
     callers = Callers(folder)
     callers.put()
-    for module in callers.modules.values():
-        (folder.parent.parent / module.source.path).write_text(''.join(module.source.texts))
+    callers.write()

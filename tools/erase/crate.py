@@ -17,7 +17,7 @@ import tempfile
 from collections.abc import Callable, Iterable
 from pathlib import Path
 
-from tools import ROOT as REPOSITORY
+from tools import ROOT as REPOSITORY, write as write_files
 from tools.erase import callers, documentation
 from tools.erase.additions import Additions
 from tools.erase.bounds import Bounds
@@ -40,27 +40,20 @@ APART = {('integer_core', 'native', 'Native'): 'Magnitudes'}
 
 class Eraser:
     """A file of a crate of the library."""
+    root = 'crate'                              # how its code names the root of the Rust crate
 
     def __init__(self, module: Module, library: RustLibrary, page: documentation.Page) -> None:
         self.module, self.library, self.page = module, library, page
         self.source, self.crate, self.texts = module.source, module.crate, module.source.texts
-        self.kind, self.at, self.refuse = module.source.kind, module.source.at, module.source.refuse
+        self.kind, self.at, self.refuse = self.source.kind, self.source.at, self.source.refuse
+        self.drop, self.drop_from_list, self.put_before = self.source.drop, self.source.drop_from_list, self.source.put_before
         self.words = {module.source.at(k) for k in range(len(module.source.code))}
         self.fn_clauses = set[int]()
 
     def write(self, k: int, text: str) -> None:
         self.texts[self.source.code[k]] = text
 
-    def put_before(self, k: int, text: str) -> None:
-        """Writes a text before what is left from the place on."""
-        first = next(i for i in self.source.code[k:] if self.texts[i])
-        self.texts[first] = text + self.texts[first]
-
     # ---- what goes
-
-    def drop(self, first: int, last: int) -> None:
-        for i in range(self.source.code[first], self.source.code[last] + 1):
-            self.texts[i] = ''
 
     def drop_item(self, first: int, last: int) -> None:
         """Drops an item, and the lines of comments right above it."""
@@ -75,12 +68,6 @@ class Eraser:
         self.drop(first, last)
         after = self.source.code[last] + 1
         self.texts[after] = self.texts[after].replace('\n', '', 1)
-
-    def drop_from_list(self, k: int) -> None:
-        """Drops a name of a list, as of a `use` or of bounds, with a sign beside it."""
-        before = self.at(k - 1) == '+' or self.at(k - 1) == ',' and self.at(k + 1) not in ('+', ',')
-        after = not before and self.at(k + 1) in ('+', ',')
-        self.drop(k - before, k + after)
 
     # ---- items
 
@@ -192,8 +179,8 @@ class Eraser:
         private = {name: path for path, name in imports if item.public and self.is_private(path)}
         gone = GHOST_TRAITS | private.keys()
         if [self.at(j) for j in names] == ['std', 'error', 'Error']:
-            self.write(k, '#[cfg(has_error)]\nuse crate::errors::Error;')
-            return self.drop(k + 1, last)
+            self.drop(k, last)
+            return self.write(k, '#[cfg(has_error)]\nuse crate::errors::Error;')
         exports = ''.join(f'\npub(crate) use crate::{"::".join(path)};' for name, path in private.items() if not self.is_at_root(name))
         if all(name in gone for _, name in imports):
             self.drop_item(item.first, last)
@@ -296,10 +283,10 @@ class Eraser:
         word = self.at(k)
         if word == 'std':
             self.write(k, 'core')
-        elif word == 'crate' and self.crate not in AT_ROOT:
-            self.write(k, 'crate::' + self.crate)
+        elif word == 'crate' and self.crate in CRATES.keys() - AT_ROOT:
+            self.write(k, f'{self.root}::{self.crate}')
         elif word in CRATES:
-            self.write(k, 'crate' if word in AT_ROOT else 'crate::' + word)
+            self.write(k, self.root if word in AT_ROOT else f'{self.root}::{word}')
 
     def rust(self) -> str:
         """The file as Rust."""
@@ -360,9 +347,7 @@ def formatted(out: Path) -> None:
 
 def write(out: Path) -> None:
     """Writes the sources below a folder."""
-    for place, text in texts_of(RustLibrary(REPOSITORY / 'crates')).items():
-        (out / 'src' / place).parent.mkdir(parents=True, exist_ok=True)
-        (out / 'src' / place).write_text(text)
+    write_files(out / 'src', texts_of(RustLibrary(REPOSITORY / 'crates')))
     callers.write(out)
     formatted(out)
 

@@ -13,9 +13,9 @@ from typing import TYPE_CHECKING
 
 from tools.erase import examples
 from tools.erase.library import AT_ROOT, CRATES
-from tools.erase.prose import wrapped
-from tools.erase.source import Clause, Item, Source, Unknown
-from tools.erase.words import Definition, Specs, cited, imported
+from tools.erase.prose import anchor, wrapped
+from tools.erase.source import Item, Source, Unknown
+from tools.erase.words import Definition, Specs, imported
 
 if TYPE_CHECKING:
     from tools.erase.crate import Eraser
@@ -115,7 +115,7 @@ def add_sections(eraser: Eraser, item: Item, owner: Item | None) -> None:
     """Writes the comment of an item as the Rust crate has it. That of a public item gets its sections and its link."""
     source, place = eraser.source, place_of(eraser, item, owner)
     docs = source.docs(item)
-    prose = [source.tokens[i].text[3:].removeprefix(' ') for i in docs]
+    prose = source.doc(item)
     lines = comment(eraser, item, owner, place, prose) if place is not None else of_rust(eraser, prose)
     if lines == prose:
         return
@@ -148,7 +148,7 @@ def linked(eraser: Eraser, comment: str) -> str:
     # rustdoc rejects a target to which the label leads by itself
     here = '::'.join(('crate', *(() if eraser.crate in AT_ROOT else (eraser.crate,)), *eraser.module.path))
     comment = re.sub(rf'(\[`(\w+(?:::\w+)+)`\])\({here}::\2\)', r'\1', comment)
-    roots = eraser.library.names_at(())
+    roots = {name for (_, _, name), place in eraser.library.public.items() if place == () and name[0].isupper()}
     found = {(*place, name) for (_, _, name), place in eraser.library.public.items()}
     bases: list[Place] = [()] if eraser.crate in AT_ROOT else [(eraser.crate,), ()]
 
@@ -181,33 +181,14 @@ class Contract:
 
 @dataclass
 class Page:
-    """What the modules of definitions have: our words, those of the toolchain, which are explained by hand, and the contracts by
-    the public place of their items."""
+    """What the modules of definitions have: the words that are cited, of which those of the toolchain are explained by hand, and the
+    contracts by the public place of their items."""
     folder: pathlib.Path
-    words: dict[tuple[str, str, str], Definition] = field(default_factory=dict)
-    toolchain: set[str] = field(default_factory=set)
     contracts: dict[Place, list[Contract]] = field(default_factory=dict)
     cited: set[str] = field(default_factory=set)    # the crates whose words the contracts link to
 
     def __post_init__(self) -> None:
-        self.specs = Specs(self.folder)
-
-    def add(self, name: str, crate: str, path: str) -> Definition | None:
-        """Adds a word and the words that its definition cites. Returns its definition, or None."""
-        if crate not in CRATES:
-            self.toolchain.add(name)
-            return None
-        word = self.specs.find(crate, path, name)
-        if word and (word.crate, word.file, word.name) not in self.words:
-            self.words[word.crate, word.file, word.name] = word
-            for below in self.specs.below(word):
-                self.add(*below)
-        return word
-
-
-def clause_text(source: Source, clause: Clause) -> str:
-    """A clause in one line."""
-    return re.sub(r'\s+', ' ', source.text(clause.first, clause.last).rstrip(';'))
+        self.specs = Specs(self.folder, CRATES)
 
 
 def says_more(text: str) -> bool:
@@ -227,12 +208,8 @@ def clauses_of(source: Source, item: Item) -> list[str]:
         clauses = [clause for clause in clauses if clause.name in STATED]
     if item.kind == 'trait':
         clauses = [clause for clause in clauses if clause.name.endswith('_law')]
-    return [text for text in (clause_text(source, clause) for clause in clauses) if says_more(text)]
-
-
-def anchor(title: str) -> str:
-    """The fragment that rustdoc gives to a title."""
-    return re.sub(r'[^\w\- ]', '', title).replace(' ', '-').lower()
+    texts = (' '.join(source.text(clause.first, clause.last).rstrip(';').split()) for clause in clauses)
+    return [text for text in texts if says_more(text)]
 
 
 def title_of(item: Item, owner: Item | None, place: Place) -> str:
@@ -246,13 +223,9 @@ def link_to_contract(eraser: Eraser, item: Item, owner: Item | None, place: Plac
     if not texts or eraser.page is None:
         return []
     names = imports_of(eraser.source, eraser.module.items) | imports_of(eraser.source, owner.items if owner else item.items)
-    words = []
-    for name in cited('\n'.join(texts), names):
-        word = eraser.page.add(name, *names[name])
-        if word:
-            words.append(f'[`{name}`]({word.crate}#{anchor(name)})')
-            eraser.page.cited.add(word.crate)
-    contract = Contract(title_of(item, owner, place), texts, words)
+    words = eraser.page.specs.cite('\n'.join(texts), names)
+    eraser.page.cited |= {word.crate for word in words}
+    contract = Contract(title_of(item, owner, place), texts, [f'[`{word.name}`]({word.crate}#{anchor(word.name)})' for word in words])
     eraser.page.contracts.setdefault(place, []).append(contract)
     label = 'Laws' if item.kind == 'trait' else 'Contract'
     return [f'[{label}](crate::definitions::contracts#{anchor(contract.title)})']
@@ -289,23 +262,18 @@ def paragraph(definition: Definition) -> list[str]:
 def definitions(page: Page, head: list[str]) -> str:
     """The module `definitions`, below a head by hand: each word that a contract cites."""
     explained = {part for line in head for code in re.findall('`([^`]*)`', line.replace('\\|', '|')) for part in code.split()}
-    missing = sorted(name for name in page.toolchain if name.strip('◌') not in explained)
+    missing = sorted(name for name in page.specs.outside if name.strip('◌') not in explained)
     if missing:
         raise Unknown(f'rust/by_hand/definitions.md: no {", ".join(missing)}')
     text = inner(head) + '\npub mod contracts;\n'
     for crate in CRATES:
-        words = [word for word in page.words.values() if word.crate == crate]
+        words = [word for word in page.specs.cited.values() if word.crate == crate]
         if words:
             see_each_once([word.name for word in words], f'crates/{crate}/specs')
-            words.sort(key=lambda word: (word.file, order(page, word)))
+            words.sort(key=lambda word: (word.file, [*page.specs.read(word.crate, word.file)[0]].index(word.name)))
             lines = [f'Words of {PAGES[crate]}.'] + [line for word in words for line in paragraph(word)]
             text += f'\npub mod {crate} {{\n{inner(lines, "    ")}}}\n'
     return text
-
-
-def order(page: Page, word: Definition) -> int:
-    """The place of a word in its file."""
-    return list(page.specs.read(word.crate, word.file)[0]).index(word.name)
 
 
 def contracts(page: Page, head: list[str]) -> str:

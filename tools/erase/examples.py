@@ -8,7 +8,7 @@ from typing import TYPE_CHECKING
 
 from tools.erase.library import RustLibrary
 from tools.erase.prose import WIDTH, wrapped
-from tools.erase.source import Field, Item, Source
+from tools.erase.source import Item, Source
 
 if TYPE_CHECKING:
     from tools.erase.crate import Eraser
@@ -26,15 +26,10 @@ NAME = re.compile(rf'{TEXT}|(?<![\w.:])([A-Za-z_]\w*)')
 METHOD = re.compile(rf'{TEXT}|(?:\.|{NATIVE}::)(\w+)\(')
 
 
-def comment_of(source: Source, item: Item | Field) -> str:
-    """The doc comment of an item, as one line."""
-    return ' '.join(source.tokens[i].text[3:].strip() for i in source.docs(item))
-
-
 def sentences(source: Source, item: Item) -> list[tuple[str, str]]:
     """The pairs A, B of an item's comment. A call that is said to be what is no code is rejected."""
     found = []
-    for match in SENTENCE.finditer(comment_of(source, item)):
+    for match in SENTENCE.finditer(' '.join(source.doc(item))):
         call, answer = match.groups()
         if answer:
             found.append((call, answer))

@@ -10,33 +10,24 @@ from __future__ import annotations
 from collections.abc import Iterator
 from pathlib import Path
 
-from tools import ROOT
+from tools import ROOT, write as write_files
 from tools.erase.bounds import Bounds
 from tools.erase.crate import BY_HAND, Eraser, formatted, made_from, replace
 from tools.erase.documentation import Page
-from tools.erase.library import AT_ROOT, CRATES, Module, RustLibrary
-from tools.erase.source import Item, Unknown
+from tools.erase.library import Module, RustLibrary
+from tools.erase.source import Item
 
-CRATE, PACKAGE = 'cellarcove_c', 'cellarcove'
+CRATE = 'cellarcove_c'
 ATTRIBUTES = (['unsafe', '(', 'no_mangle', ')'], ['repr', '(', 'C', ')'])
 
 
 class Exports(Eraser):
     """A file of the exports."""
+    root = 'cellarcove'
 
     def attribute(self, first: int, last: int) -> None:
         if [self.at(k) for k in range(first + 2, last)] not in ATTRIBUTES:
             super().attribute(first, last)
-
-    def path(self, k: int) -> None:
-        """The first word of a path."""
-        if self.at(k + 1) + self.at(k + 2) != '::' or self.at(k - 1) == ':':
-            return
-        word = self.at(k)
-        if word == 'std':
-            self.write(k, 'core')
-        elif word in CRATES:
-            self.write(k, PACKAGE if word in AT_ROOT else f'{PACKAGE}::{word}')
 
     def item(self, item: Item, owner: Item | None) -> None:
         if states_laws(item):
@@ -95,24 +86,19 @@ def head_of_package(rust: str) -> str:
     return (BY_HAND / 'exports_head.rs').read_text() + '\n' + modules
 
 
-def made_of(module: Module) -> str:
-    """The first line of a file."""
-    by_hand = '' if module.path else ' and rust/by_hand/exports_head.rs'
-    return made_from(f'{module.source.path}{by_hand}', 'exports')
-
-
 def write(out: Path, crates: Path) -> None:
     """Writes the sources below a folder."""
     library, page = RustLibrary(crates), Page(crates)
     library.read(CRATE, (), crates / CRATE / 'src' / 'lib.rt')
-    bounds = Bounds(library)
+    bounds, made = Bounds(library), dict[str, str]()
     for module in [module for module in library.modules.values() if module.crate == CRATE and not only_laws(module)]:
         eraser = Exports(module, library, page)
         bounds.write(eraser)
-        rust, name = eraser.rust(), '/'.join(module.path) or 'lib'
-        target = out / 'src' / f'{name}.rs'
-        target.parent.mkdir(parents=True, exist_ok=True)
-        target.write_text(made_of(module) + (rust if module.path else head_of_package(rust)))
+        rust, sources = eraser.rust(), str(module.source.path)
+        if not module.path:
+            rust, sources = head_of_package(rust), f'{sources} and rust/by_hand/exports_head.rs'
+        made[f'{"/".join(module.path) or "lib"}.rs'] = made_from(sources, 'exports') + rust
+    write_files(out / 'src', made)
     formatted(out)
 
 

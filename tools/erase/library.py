@@ -135,6 +135,21 @@ class Library:
         return True
 
 
+class Made(Library):
+    """The crate that is made, whose sources are below a folder, with the public place of each item."""
+    SUFFIX = '.rs'
+
+    def __init__(self, folder: Path) -> None:
+        super().__init__(folder.parent, [folder.name])
+        self.name, self.public = folder.name, self.published(folder.name)
+        self.types = {name for _, _, name in self.public}
+
+    def write(self) -> None:
+        """Writes the sources again, with what has changed in their texts."""
+        for module in self.modules.values():
+            (self.folder.parent / module.source.path).write_text(''.join(module.source.texts))
+
+
 class RustLibrary(Library):
     """The crates that become one crate of Rust, with the public place of each item in it."""
 
@@ -165,7 +180,3 @@ class RustLibrary(Library):
         """The public place of a type that the module's crate has."""
         places = [place for (crate, _, found), place in self.public.items() if crate == module.crate and found == name]
         return places[0] if places else None
-
-    def names_at(self, place: Place) -> list[str]:
-        """The names of types and traits at a public place."""
-        return sorted(name for (_, _, name), there in self.public.items() if there == place and name[0].isupper())

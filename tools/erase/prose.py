@@ -1,4 +1,5 @@
 """Lines of prose in what the scripts make."""
+import itertools
 import re
 import textwrap
 from collections.abc import Iterator
@@ -6,7 +7,7 @@ from collections.abc import Iterator
 COLUMNS = 100                                   # of a line of Rust
 WIDTH = 96                                      # of the lines of a comment in Rust, before it is indented
 LINK = re.compile(r'\[[^\]]*\]\(')
-COMMENT = re.compile(r'( *)(///|//!|//) ?(.*)')
+COMMENT = re.compile(r' *(///|//!|//)')
 # What begins a line that is no part of a paragraph, or the first of one.
 ALONE = re.compile(r'$|#|\||</?\w|```|@')
 ITEM = re.compile(r'(- |\d+\. )')
@@ -22,31 +23,28 @@ def wrapped(text: str, width: int = WIDTH, indent: str = '') -> list[str]:
 def broken(line: str, width: int) -> list[str]:
     """The lines of a long line of a contract or a definition. Those after the first are indented by four more."""
     indent = ' ' * (len(line) - len(line.lstrip(' ')))
-    return textwrap.wrap(line, width, subsequent_indent=indent + '    ', break_on_hyphens=False, break_long_words=False,
-                         drop_whitespace=True, initial_indent=indent) if len(line) > width else [line]
+    return textwrap.wrap(line, width, initial_indent=indent, subsequent_indent=indent + '    ', break_on_hyphens=False,
+                         break_long_words=False) if len(line) > width else [line]
 
 
-def paragraphs(lines: list[str]) -> list[tuple[list[str], list[str]]]:
-    """The lines of a comment in groups: paragraphs, items of a list, and lines that stand alone, each with whether it is code."""
-    found, fence = [], ''
+def paragraphs(lines: list[str]) -> list[tuple[str, list[str]]]:
+    """The lines of a comment in groups: paragraphs and items of a list, lines that stand alone, and lines of a block of text."""
+    found: list[tuple[str, list[str]]] = []
+    fence = ''
     for line in lines:
+        kind = 'text' if fence == '```text' else 'alone' if fence or ALONE.match(line) else 'prose'
         if line.startswith('```'):
-            fence = '' if fence else line
-            found.append((['alone'], [line]))
-        elif fence:
-            found.append((['text'] if fence == '```text' else ['alone'], [line]))
-        elif ALONE.match(line):
-            found.append((['alone'], [line]))
-        elif found and found[-1][0] == ['prose'] and not ITEM.match(line):
+            kind, fence = 'alone', '' if fence else line
+        if kind == 'prose' and found and found[-1][0] == kind and not ITEM.match(line):
             found[-1][1].append(line)
         else:
-            found.append((['prose'], [line]))
+            found.append((kind, [line]))
     return found
 
 
 def within(lines: list[str], width: int) -> Iterator[str]:
     """The lines of a comment, none wider than asked where it can be broken."""
-    for [kind], group in paragraphs(lines):
+    for kind, group in paragraphs(lines):
         if kind == 'alone' or all(len(line) <= width for line in group):
             yield from group
         elif kind == 'text':
@@ -56,20 +54,24 @@ def within(lines: list[str], width: int) -> Iterator[str]:
             yield from wrapped(' '.join(line.strip() for line in group), width, indent)
 
 
+def head_of(line: str) -> str:
+    """The margin and the sign of a line of a comment, or an empty text."""
+    match = COMMENT.match(line)
+    return match.group() if match else ''
+
+
 def within_columns(text: str) -> str:
     """The text of a file of Rust, with its comments within the columns."""
     found: list[str] = []
-    block: list[str] = []
-    head = ('', '')
-    for line in [*text.split('\n'), None]:
-        match = COMMENT.fullmatch(line) if line is not None else None
-        here = (match[1], match[2]) if match else None
-        if block and here != head:
-            indent, mark = head
-            found += [f'{indent}{mark} {part}'.rstrip() for part in within(block, COLUMNS - len(indent) - len(mark) - 1)]
-            block = []
-        if match and here:
-            head, block = here, block + [match[3]]
-        elif line is not None:
-            found.append(line)
+    for head, lines in itertools.groupby(text.split('\n'), head_of):
+        if head:
+            block = [line.removeprefix(head).removeprefix(' ') for line in lines]
+            found += [f'{head} {line}'.rstrip() for line in within(block, COLUMNS - len(head) - 1)]
+        else:
+            found += lines
     return '\n'.join(found)
+
+
+def anchor(title: str) -> str:
+    """The fragment that a title has, in the documentation of Rust and in the browser of a repository."""
+    return re.sub(r'[^\w\- ]', '', title).replace(' ', '-').lower()

@@ -66,6 +66,12 @@ class Item:
     items: list['Item'] = field(default_factory=list)
     fields: list[Field] = field(default_factory=list)
 
+    def all(self) -> Iterator['Item']:
+        """The item, and those in it."""
+        yield self
+        for item in self.items:
+            yield from item.all()
+
 
 class Source:
     """A file. A place is the number of a token that is no comment; `texts` are what a writer may change."""
@@ -156,12 +162,30 @@ class Source:
             self.texts[i] = ''
         return last + 1
 
+    def drop_from_list(self, k: int) -> int:
+        """Drops a name of a list, as of a `use` or of bounds, with a sign beside it."""
+        before = self.at(k - 1) == '+' or self.at(k - 1) == ',' and self.at(k + 1) not in ('+', ',')
+        return self.drop(k - before, k + (not before and self.at(k + 1) in ('+', ',')))
+
+    def put_before(self, k: int, text: str) -> None:
+        """Writes a text before what is left from the place on."""
+        first = next(i for i in self.code[k:] if self.texts[i])
+        self.texts[first] = text + self.texts[first]
+
     def docs(self, item: Item | Field) -> list[int]:
         """The numbers of the tokens of the doc comment of an item or a field."""
         start = self.code[item.first - 1] + 1 if item.first else 0
         stop = self.code[getattr(item, 'word', item.first)]
         return [i for i in range(start, stop) if self.tokens[i].kind == 'line'
                 and re.match(r'///(?!/)', self.tokens[i].text)]
+
+    def doc(self, item: Item | Field) -> list[str]:
+        """The lines of the doc comment of an item or a field."""
+        return [self.tokens[i].text[3:].removeprefix(' ') for i in self.docs(item)]
+
+    def head(self) -> list[str]:
+        """The lines of the comment at the head of the file."""
+        return [token.text[3:].removeprefix(' ') for token in self.tokens if token.kind == 'line' and token.text.startswith('//!')]
 
     def parameters(self, item: Item) -> tuple[int, int]:
         """The places of the brackets around the parameters of a function."""

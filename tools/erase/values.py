@@ -107,17 +107,14 @@ class Body:
         for use in self.uses():
             if self.at(use.first) not in self.natives and not self.is_replaced(use) and not self.is_borrowed(use):
                 is_field = self.at(use.first) in self.references and use.last > use.first
-                is_kept = self.at(use.first) not in self.references and self.is_named_again(use)
+                is_kept = self.at(use.first) not in self.references and any(self.is_used_on(path, use) for path in self.paths(use))
                 if self.is_behind(use) or self.is_item(use) or is_field or is_kept:
                     yield use
 
     # ---- what runs later
 
-    def is_named_again(self, use: Use) -> bool:
-        """Whether the value, or one that has it as a field, is used before the name has a new one."""
-        return any(self.is_used_on(path, use) for path in self.paths(use))
-
     def is_used_on(self, path: Sequence[int], use: Use) -> bool:
+        """Whether the value, or one that has it as a field, is used before the name has a new one."""
         name, fields = self.at(use.first), self.source.text(*use)
         for k in path:
             if self.at(k) == name and (k in self.patterns or self.is_name(k) and self.is_replaced(Use(k, k))):

@@ -20,6 +20,10 @@ class Definition:
     comment: str
     text: str
 
+    @property
+    def key(self) -> tuple[str, str, str]:
+        return self.crate, self.file, self.name
+
 
 def imported(text: str) -> dict[str, tuple[str, str]]:
     """The words that the imports in a text name, each with its crate and its path there."""
@@ -38,11 +42,13 @@ def cited(text: str, imports: Container[str]) -> list[str]:
 
 
 class Specs:
-    """The files of `specs/` below a folder of crates."""
+    """The files of `specs/` below a folder of crates. `cited` has the words of these crates that were cited, and `outside` the others."""
 
-    def __init__(self, folder: Path) -> None:
-        self.folder = folder
+    def __init__(self, folder: Path, crates: Container[str] = ()) -> None:
+        self.folder, self.crates = folder, crates
         self.files: dict[tuple[str, str], tuple[dict[str, Definition], dict[str, tuple[str, str]]]] = {}
+        self.cited: dict[tuple[str, str, str], Definition] = {}
+        self.outside = set[str]()
 
     def read(self, crate: str, file: str) -> tuple[dict[str, Definition], dict[str, tuple[str, str]]]:
         """The words that a file defines, and what it imports. A crate may have the file of a lower one."""
@@ -78,6 +84,22 @@ class Specs:
         if name not in words:
             raise Unknown(f'crates/{crate}/specs: no definition of `{name}`')
         return words[name]
+
+    def cite(self, text: str, imports: dict[str, tuple[str, str]]) -> list[Definition]:
+        """The definitions of the imported words that a text names. Notes them, and the words that they cite."""
+        found = (self.cite_word(name, *imports[name]) for name in cited(text, imports))
+        return [word for word in found if word]
+
+    def cite_word(self, name: str, crate: str, path: str) -> Definition | None:
+        if crate not in self.crates:
+            self.outside.add(name)
+            return None
+        word = self.find(crate, path, name)
+        if word and word.key not in self.cited:
+            self.cited[word.key] = word
+            for below in self.below(word):
+                self.cite_word(*below)
+        return word
 
     def below(self, definition: Definition) -> list[tuple[str, str, str]]:
         """The definitions that a definition cites, and the words of the toolchain that it cites."""

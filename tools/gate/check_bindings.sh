@@ -1,7 +1,6 @@
 #!/usr/bin/env bash
-# Builds the archive for C, compares the headers and the table of Python with its sources, looks at its symbols, and calls it
-# from C, C++ and Python. Builds the same archive by cargo, compares what both return, and calls that one too. Prints a line
-# for each check, a line for each program that the machine lacks, and a count at the end.
+# Builds the archive for C, looks at its symbols, and calls it from C, C++ and Python. Builds the same archive by cargo, compares what
+# both return, and calls that one too. Prints a line for each check, a line for each program that the machine lacks, and a count at the end.
 #
 # usage: tools/gate/check_bindings.sh [--proved | --cargo]
 #
@@ -65,23 +64,16 @@ sanitizes() {
     echo 'int main(void) { return 0; }' | "$1" -fsanitize=undefined,address -x c - -o "$work/empty" 2>/dev/null && "$work/empty"
 }
 
-# with_sanitizers LANGUAGE CALLER COMPILER FLAG..: the caller, built with the sanitizers too.
-with_sanitizers() {
-    if sanitizes "$3"; then
-        check "$1 with $3 and its sanitizers" runs "${@:2}" -g -fsanitize=undefined,address -fno-sanitize-recover -x "$(language "$2")"
-    else
-        echo "$1 with $3 and its sanitizers: skipped, since it lacks their library"
-    fi
-}
-
-language() { case $1 in *.c) echo c ;; *) echo c++ ;; esac; }
-
 # c_with COMPILER: the caller in C, once as it is and once with the sanitizers.
 c_with() {
     has "$1" "C with $1" || return 0
     languages=$((languages + 1))
     check "C with $1" runs test.c "$1" -std=c11 -O2 -x c
-    with_sanitizers C test.c "$1" -std=c11
+    if sanitizes "$1"; then
+        check "C with $1 and its sanitizers" runs test.c "$1" -std=c11 -g -fsanitize=undefined,address -fno-sanitize-recover -x c
+    else
+        echo "C with $1 and its sanitizers: skipped, since it lacks their library"
+    fi
 }
 
 # cpp_with COMPILER: the caller of the header for C++, and that for C as a program in C++.
@@ -157,9 +149,6 @@ fuzz() {
     cc -shared "$(dirname "$archive")/cellarcove_c.o" -o "$work/all_calls.so" &&
         with_package "$PWD/tools/cellarcove" check fuzz --seed "$1" --minutes "$2" --library "$work/all_calls.so"
 }
-
-# The wheel has what its name and its list say.
-describes_its_wheel() { with_package "$PWD/bindings/python/tests/test_wheel.py" "$work"/wheel/*.whl; }
 
 # An editable install leads to the sources, and has the licences.
 installs_editable() {
@@ -238,7 +227,7 @@ python_calls() {
             languages=$((languages + 1))
             check 'the wheel' makes_a_wheel
             check 'Python' passes_its_tests python3
-            check 'the files and the tags of the wheel' describes_its_wheel
+            check 'the files and the tags of the wheel' with_package "$PWD/bindings/python/tests/test_wheel.py" "$work"/wheel/*.whl
             counted 'random calls' fuzz 1 0.05
         else
             echo 'Python: skipped, since there is no pip'
@@ -246,7 +235,6 @@ python_calls() {
     fi
 }
 
-check 'the made files' tools/cellarcove check bindings
 if [ "$libraries" != --cargo ]; then
     check 'the archive' build
     looks_at

@@ -11,13 +11,6 @@ source tools/gate/lib.sh
 
 cp -a . "$work/repository"
 
-# take_suite NAME: has the crate's copy try its second suite.
-take_suite() {
-    local crate=$work/repository/crates/$1
-    rm -rf "$crate/must-fail"
-    mv "$crate/must-fail-release" "$crate/must-fail"
-}
-
 # build_libraries: proves the crates on which others depend, lowest first, where that is not kept.
 build_libraries() {
     local name
@@ -47,7 +40,9 @@ for name in "${names[@]}"; do
     fi
     wanted=$((wanted + ${#edits[@]}))
     sizes+=("${#edits[@]} $name")
-    take_suite "$name"
+    # in the copy it is the first one, which the prover tries
+    rm -rf "$work/repository/crates/$name/must-fail"
+    mv "$work/repository/crates/$name/"must-fail{-release,}
 done
 
 build_libraries || exit 2

@@ -57,12 +57,6 @@ documented_examples() {
     (cd "$work/documented" && cargo test --offline --all-features --doc)
 }
 
-# Those of rust/examples were built with all targets.
-example_programs() { tools/cellarcove check examples "$CARGO_TARGET_DIR/debug/examples"; }
-
-# Each link of the documentation to a contract or to a word of one leads there.
-has_each_title() { tools/cellarcove check rust_docs --links "$CARGO_TARGET_DIR/doc/cellarcove"; }
-
 # A package that depends on this crate alone has a type of its own.
 own_type() {
     mkdir -p "$work"/own/{src,tests}
@@ -119,9 +113,6 @@ check_dependents() {
     echo "the packages above took $((SECONDS - begin)) seconds"
 }
 
-# A guard that is taken out is missed by a test: a few of each kind. tools/gate/release.sh takes out all.
-has_each_guard() { tools/cellarcove check guards --sample; }
-
 # upstream_tests WORD..: runs the tests of num-integer that the words tell cargo.
 upstream_tests() { (cd "$work/upstream" && cargo test --offline "$@"); }
 
@@ -147,8 +138,6 @@ if ! has cargo || ! has rustfmt; then
 fi
 
 check 'the sources are made anew' is_made_anew
-check 'its public items are those of rust/api.txt' tools/cellarcove check api
-check 'each public item has an example, and says when it panics' tools/cellarcove check rust_docs
 if has_packages "${originals[@]}"; then
     mkdir "$work/.cargo"
     printf '[source.crates-io]\nreplace-with = "debian"\n[source.debian]\ndirectory = "%s"\n' "$registry" \
@@ -159,8 +148,9 @@ if has_packages "${originals[@]}"; then
     check_tests 'its tests' without_warnings cargo test --offline --all-features --tests
     check_tests 'its tests in release' without_warnings cargo test --offline --all-features --release --tests
     check_tests 'the examples of its documentation and its page' documented_examples
-    check 'the example programs print what their heads show' example_programs
-    check 'a guard that is taken out is missed' has_each_guard
+    check 'the example programs print what their heads show' tools/cellarcove check examples "$CARGO_TARGET_DIR/debug/examples"
+    # a few of each kind; tools/gate/release.sh takes out all
+    check 'a guard that is taken out is missed' tools/cellarcove check guards --sample
     check_tests 'a type that is not Copy, of a package that depends on this crate alone' own_type
     check 'the package has the texts of both licences' has_licences
     check_tests 'the package is made, and some of its tests where it is unpacked' package
@@ -168,7 +158,7 @@ if has_packages "${originals[@]}"; then
     check 'the package num-integer with all features' num_integer --all-features
     check 'the exports for C' exports cargo build --offline --release
     check 'its documentation' without_warnings cargo doc --offline --no-deps --all-features
-    check 'the contracts, and their words' has_each_title
+    check 'its links to contracts and to their words' tools/cellarcove check rust_docs --links "$CARGO_TARGET_DIR/doc/cellarcove"
     if has cargo-clippy; then
         check 'clippy' without_warnings cargo clippy --offline --all-targets --all-features -- -D warnings
         check 'clippy on the exports' exports cargo clippy --offline -- -D warnings

@@ -9,11 +9,7 @@ cd "$(dirname "$0")/../.." || exit
 source tools/gate/lib.sh
 
 names=("$@")
-if [ ${#names[@]} -eq 0 ]; then
-    for crate in crates/*; do
-        [ "$crate" != crates/replay ] && grep -rqF '#[test]' "$crate/src" && names+=("${crate#crates/}")
-    done
-fi
+[ $# -gt 0 ] || mapfile -t names < <(grep -rlF '#[test]' crates/*/src | cut -d / -f 2 | sort -u | grep -vx replay)
 
 for name in "${names[@]}"; do
     { (cd "crates/$name" && rt try --test --seconds 600) || touch "$work/$name.failed"; } >"$work/$name" 2>&1 &
@@ -21,15 +17,9 @@ done
 wait
 
 for name in "${names[@]}"; do
-    count=$(grep -c ' \.\.\. ok$' "$work/$name")
-    passed=$((passed + count))
-    echo "$name: $count tests passed"
-    if [ -e "$work/$name.failed" ]; then
-        failed=$((failed + 1))
-        grep -v ' \.\.\. ok$' "$work/$name"
-        echo "$name: failed"
-    fi
+    mv "$work/$name" "$work/log"
+    [ ! -e "$work/$name.failed" ]
+    status=$?
+    judge "$name, $(grep -c ' \.\.\. ok$' "$work/log") tests" "$status"
 done
-
-echo "$passed tests passed in $((${#names[@]} - failed)) crates, $failed failed; nothing was proved"
-[ "$failed" -eq 0 ] && [ "$passed" -gt 0 ]
+finish

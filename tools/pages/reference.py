@@ -6,17 +6,17 @@ each definition of `specs/` that a public clause or such a definition cites, the
 `proofs/ForCallers.antt`, in the groups of that file. A word that a clause cites has a link. The index has each function, and
 `imports.md` the module of each word. A form that is not known is
 rejected by file and line."""
+import itertools
 import re
 import textwrap
-from collections.abc import Iterator, Sequence
-from pathlib import Path
+from collections.abc import Iterator
 
 from tools.erase.words import Definition, Specs, cited, imported
 from tools.erase.library import Library, Module, Place
-from tools.erase.prose import wrapped
+from tools.erase.prose import anchor, wrapped
 from tools.erase.source import Item, Source, Unknown
 from tools.erase.documentation import STATED, imports_of, of_rattle, says_more
-from tools import ROOT, as_made, write
+from tools import ROOT
 
 CRATES = ROOT / 'crates'
 PAGES = ROOT / 'docs' / 'reference'
@@ -45,12 +45,6 @@ Imports = dict[str, tuple[str, str]]            # of words, each with its crate 
 Key = tuple[str, str, str]                      # of a word: its crate, its file and its name
 Shown = list[tuple[Module, Item]]
 Block = tuple[str, list[str], str, list[Item], str, str]
-
-
-def head_of_file(module: Module) -> list[str]:
-    """The lines of the comment at the head of a file."""
-    lines = (token.text for token in module.source.tokens if token.kind == 'line' and token.text.startswith('//!'))
-    return [line[3:].removeprefix(' ') for line in lines]
 
 
 class Crate:
@@ -97,7 +91,7 @@ class Crate:
             return []
         files = [module for module in self.library.modules.values() if module.path == place]
         own = [module for module in files if module.crate == self.name] or [module for module, _ in shown if module.path == place]
-        return head_of_file(own[0]) if own else []
+        return own[0].source.head() if own else []
 
 
 class Page:
@@ -108,7 +102,7 @@ class Page:
         self.slugs: dict[str, int] = {}
 
     def heading(self, level: int, text: str) -> str:
-        slug = re.sub(r'[^\w\- ]', '', text.lower()).replace(' ', '-')
+        slug = anchor(text)
         count = self.slugs[slug] = self.slugs.get(slug, -1) + 1
         self.lines += ['#' * level + ' ' + text, '']
         return f'{slug}-{count}' if count else slug
@@ -118,6 +112,14 @@ class Page:
 
     def block(self, kind: str, text: str) -> None:
         self.add(f'```{kind}', *text.split('\n'), '```', '')
+
+    def word(self, level: int, name: str, comment: str, text: str) -> str:
+        """Adds a definition or a lemma, and returns its anchor."""
+        anchor = self.heading(level, f'`{name}`')
+        if comment:
+            self.add(sentence(comment), '')
+        self.block('text', text)
+        return anchor
 
 
 def dedented(source: Source, first: int, last: int) -> str:
@@ -151,8 +153,7 @@ def head_of(source: Source, item: Item) -> str:
 
 def doc_of(source: Source, item: Item) -> list[str]:
     """The doc comment of an item. Its links are those of the documentation of the Rust crate, so here they are names."""
-    text = '\n'.join(source.tokens[i].text[3:].removeprefix(' ') for i in source.docs(item))
-    text = re.sub(r'\[(`[^`]+`)\](?:\([^)]*\))?', r'\1', text)
+    text = re.sub(r'\[(`[^`]+`)\](?:\([^)]*\))?', r'\1', '\n'.join(source.doc(item)))
     return of_rattle(text.replace('`crate::', '`').split('\n'))
 
 
@@ -160,51 +161,35 @@ class Reference:
     """All pages: the items first, which name the words that the definitions are then made of."""
 
     def __init__(self) -> None:
-        self.specs = Specs(CRATES)
         names = [name for name in NAMES if (CRATES / name / 'src').is_dir()]
-        library = Library(CRATES, names)
+        self.specs, library = Specs(CRATES, names), Library(CRATES, names)
         self.program = Library(CRATES, [name for name in PROGRAM if (CRATES / name / 'src').is_dir()])
         self.crates = {name: Crate(library, name) for name in names}
         self.pages = {name: Page(f'`{name}`') for name in self.crates}
-        self.words: dict[Key, Definition] = {}
         self.anchors: dict[Key, str] = {}
-        self.waiting: list[tuple[str, int, list[Key]]] = []
+        self.waiting: list[tuple[str, int, list[Definition]]] = []
         self.calls: list[tuple[str, str, str, str, str]] = []
         self.rulesets: list[tuple[str, str, str]] = []
 
     # ---- words
 
-    def need(self, name: str, crate: str, path: str) -> Key | None:
-        """Notes a word, and the words of its definition. Returns its key, or None for one of the toolchain."""
-        if crate not in self.crates:
-            return None
-        word = self.specs.find(crate, path, name)
-        if word is None:
-            return None
-        key = (word.crate, word.file, word.name)
-        if key not in self.words:
-            self.words[key] = word
-            for below in self.specs.below(word):
-                self.need(*below)
-        return key
-
     def links(self, page: str, text: str, imports: Imports) -> None:
         """Adds the line of links to the words of a text, which is filled in when the anchors are known."""
-        keys = [key for key in (self.need(name, *imports[name]) for name in cited(text, imports)) if key]
-        if keys:
-            self.waiting.append((page, len(self.pages[page].lines), keys))
+        words = self.specs.cite(text, imports)
+        if words:
+            self.waiting.append((page, len(self.pages[page].lines), words))
             self.pages[page].add('', '')
 
     def fill_in(self) -> None:
-        for page, at, keys in self.waiting:
-            links = [f'[`{key[2]}`]({"" if key[0] == page else key[0] + ".md"}#{self.anchors[key]})' for key in keys]
+        for page, at, words in self.waiting:
+            links = [f'[`{word.name}`]({"" if word.crate == page else word.crate + ".md"}#{self.anchors[word.key]})' for word in words]
             self.pages[page].lines[at] = '\n'.join(wrapped('Words: ' + ', '.join(links) + '.', 110))
 
     # ---- items
 
     def items_of(self, crate: Crate) -> None:
         page = self.pages[crate.name]
-        page.add(*head_of_file(crate.modules[0]), '', IN_RANGE, '')
+        page.add(*crate.modules[0].source.head(), '', IN_RANGE, '')
         if crate.name in BELOW:
             upper = BELOW[crate.name]
             page.add(f'Its public items are those of [`{upper}`]({upper}.md). This page has its definitions and lemmas.', '')
@@ -266,7 +251,7 @@ class Reference:
 
     def definitions_of(self, crate: str) -> None:
         page = self.pages[crate]
-        files = list(dict.fromkeys(key[1] for key in self.words if key[0] == crate))
+        files = {file for other, file, _ in self.specs.cited if other == crate}
         for file in sorted(files, key=lambda file: (file == 'Laws', file)):
             words = self.specs.read(crate, file)[0]
             if file == 'Laws':
@@ -274,30 +259,19 @@ class Reference:
                 page.add('Each law has a proof of its name in small letters in `proofs/Laws.antt`, which a proof may cite.', '')
             else:
                 page.heading(2, f'Definitions: `Rattle.{crate}.specs.{file}`')
-            page.add(*self.comment_of(crate, file), '')
+            text = (CRATES / crate / 'specs' / f'{file}.antt').read_text()
+            page.add(*(line[3:] for line in itertools.takewhile(lambda line: line.startswith('-- '), text.split('\n'))), '')
             for name, word in words.items():
-                if (crate, file, name) in self.words:
-                    self.anchors[crate, file, name] = page.heading(3, f'`{name}`')
-                    page.add(sentence(word.comment), '') if word.comment else None
-                    page.block('text', word.text)
+                if word.key in self.specs.cited:
+                    self.anchors[word.key] = page.word(3, name, word.comment, word.text)
                     names = {other: (crate, 'specs.' + file) for other in words} | self.specs.read(crate, file)[1]
                     names.pop(name, None)
                     self.links(crate, word.text, names)
 
-    def comment_of(self, crate: str, file: str) -> list[str]:
-        first = (CRATES / crate / 'specs' / f'{file}.antt').read_text().split('\n\n')[0].split('\n')
-        lines = []
-        for line in first:
-            if not line.startswith('-- '):
-                break
-            lines.append(line[3:])
-        return lines
-
     def laws_of(self, crate: str) -> None:
-        file = CRATES / crate / 'specs' / 'Laws.antt'
-        if file.is_file():
+        if (CRATES / crate / 'specs' / 'Laws.antt').is_file():
             for name in self.specs.read(crate, 'Laws')[0]:
-                self.need(name, crate, 'specs.Laws')
+                self.specs.cite_word(name, crate, 'specs.Laws')
 
     def lemmas_of(self, crate: str) -> None:
         file = CRATES / crate / 'proofs' / 'ForCallers.antt'
@@ -311,41 +285,27 @@ class Reference:
                 page.heading(3, title[0].upper() + title[1:])
                 page.add(*said, '')
             for other, path, names in EXPORT.findall(text):
-                found = lemmas((CRATES / other).joinpath(*path.split('.')).with_suffix('.antt'))
+                found = lemmas((CRATES / other).joinpath(*path.split('.')).with_suffix('.antt').read_text())
                 for name in (name.strip() for name in names.split(',')):
                     if name not in found:
                         raise Unknown(f'{file}: {path} has no `{name}` that is known')
-                    anchor = self.lemma(page, name, found[name])
+                    anchor = page.word(4, name, *found[name])
                     if found[name][1].startswith('ruleset '):
                         self.rulesets.append((crate, name, anchor))
-            for name, lemma in lemmas_in(text).items():
-                self.lemma(page, name, lemma)
-
-    def lemma(self, page: Page, name: str, lemma: tuple[str, str]) -> str:
-        comment, text = lemma
-        anchor = page.heading(4, f'`{name}`')
-        if comment:
-            page.add(sentence(comment), '')
-        page.block('text', text)
-        return anchor
+            for name, lemma in lemmas(text).items():
+                page.word(4, name, *lemma)
 
     # ---- the pages
 
     def made(self) -> dict[str, str]:
         for crate in self.crates.values():
             self.items_of(crate)
-        for name in self.crates:
-            self.laws_of(name)
-        for name in self.crates:
-            self.definitions_of(name)
+        for add in (self.laws_of, self.definitions_of, self.lemmas_of):
+            for name in self.crates:
+                add(name)
         self.fill_in()
-        for name in self.crates:
-            self.lemmas_of(name)
         pages = {f'{name}.md': '\n'.join(page.lines) for name, page in self.pages.items()}
-        pages['README.md'] = self.front()
-        pages['index.md'] = self.index()
-        pages['modules.md'] = self.modules()
-        pages['imports.md'] = self.imports()
+        pages |= {'README.md': self.front(), 'index.md': self.index(), 'modules.md': self.modules(), 'imports.md': self.imports()}
         return {name: re.sub(r'\n{3,}', '\n\n', text).rstrip('\n') + '\n' for name, text in pages.items()}
 
     def modules(self) -> str:
@@ -353,7 +313,7 @@ class Reference:
         shown = list(self.crates.values()) + [Crate(self.program, name) for name in self.program.crates]
         for crate in sorted(shown, key=lambda crate: (NAMES + PROGRAM).index(crate.name)):
             lines += [f'## `{crate.name}`', '', '| file | what it has |', '|---|---|']
-            lines += [f"| `{'/'.join(module.path) or module.source.path.stem}.rt` | {first_sentence(head_of_file(module))} |"
+            lines += [f"| `{'/'.join(module.path) or module.source.path.stem}.rt` | {first_sentence(module.source.head())} |"
                       for module in crate.modules]
             lines.append('')
         return '\n'.join(lines)
@@ -361,7 +321,7 @@ class Reference:
     def imports(self) -> str:
         """The page that has the module of each definition, and of each word of the toolchain that a caller imports."""
         rows = {(name, f'Rattle.{self.upper(crate, file)}.specs.{file}', f'[`{name}`]({crate}.md#{self.anchors[crate, file, name]})')
-                for crate, file, name in self.words if file != 'Laws' and crate not in BY_FILE}
+                for crate, file, name in self.specs.cited if file != 'Laws' and crate not in BY_FILE}
         rows |= {(name, f'Rattle.{crate}.proofs.ForCallers', f'[`{name}`]({crate}.md#{anchor})')
                  for crate, name, anchor in self.rulesets}
         toolchain: dict[str, str] = {}
@@ -385,7 +345,7 @@ class Reference:
         return '\n'.join(['# All functions', '', *wrapped(INDEX, 110), '', '| function | import from | what it does |', '|---|---|---|', *rows])
 
     def front(self) -> str:
-        rows = '\n'.join(f'| [`{name}`]({name}.md) | {first_sentence(head_of_file(crate.modules[0]))} |'
+        rows = '\n'.join(f'| [`{name}`]({name}.md) | {first_sentence(crate.modules[0].source.head())} |'
                          for name, crate in self.crates.items())
         return '\n'.join(['# Reference', '', 'Made of the sources by `tools/cellarcove make reference`. Nobody edits these pages.', '',
                           '[All functions](index.md), by name. [How to read a contract](../CONTRACTS.md), in five minutes.', '',
@@ -427,13 +387,9 @@ def groups(text: str) -> Iterator[tuple[str, list[str], str]]:
         yield title, said + ['```'] * code, exports
 
 
-def lemmas(file: Path) -> dict[str, tuple[str, str]]:
+def lemmas(text: str) -> dict[str, tuple[str, str]]:
     """The lemmas and rulesets of a file, each with its comment and its statement. A statement within modules has their
     heads before it, which say what it takes first."""
-    return lemmas_in(file.read_text())
-
-
-def lemmas_in(text: str) -> dict[str, tuple[str, str]]:
     found: dict[str, tuple[str, str]] = {}
     comment: list[str] = []
     modules: list[tuple[int, str]] = []
@@ -465,12 +421,7 @@ def lemmas_in(text: str) -> dict[str, tuple[str, str]]:
     return found
 
 
-def make(_: list[str]) -> bool:
-    made = Reference().made()
-    for page in PAGES.glob('*.md'):
-        page.unlink()
-    return write(PAGES, made)
-
-
-def check(_: list[str]) -> bool:
-    return as_made(PAGES, Reference().made(), [page.name for page in PAGES.glob('*.md')])
+def made() -> dict[str, str | None]:
+    """The pages, and no text for what else is there."""
+    there = dict.fromkeys(page.relative_to(ROOT).as_posix() for page in PAGES.glob('*.md'))
+    return there | {f'docs/reference/{name}': text for name, text in Reference().made().items()}

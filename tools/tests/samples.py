@@ -1,12 +1,12 @@
-"""Samples: libraries of which one crate has a text, and what the scripts make of it."""
+"""Samples: libraries of which some files have a text, and what the scripts make of them."""
 from __future__ import annotations
 
 import subprocess
 import tempfile
-from collections.abc import Iterator, Mapping
-from contextlib import contextmanager
+from collections.abc import Mapping
 from pathlib import Path
 
+from tools import write
 from tools.erase.library import CRATES, RustLibrary
 from tools.erase.crate import Eraser
 from tools.erase.exports import CRATE, Exports
@@ -14,27 +14,18 @@ from tools.erase.bounds import Bounds
 from tools.erase.documentation import Page
 
 
-@contextmanager
-def library_of(texts: Mapping[str, str]) -> Iterator[RustLibrary]:
-    """A library in a folder for a while: of each crate that the dictionary names, `src/lib.rt` has the text."""
+def erased(crate: str, texts: Mapping[str, str]) -> tuple[str, Page]:
+    """What is made of a crate of a library, and the pages that it fills. The texts are those of files, or of the roots of crates."""
     with tempfile.TemporaryDirectory() as folder:
         crates = Path(folder) / 'crates'
-        for name in {*CRATES, *texts}:
-            (crates / name / 'src').mkdir(parents=True)
-            (crates / name / 'src' / 'lib.rt').write_text(texts.get(name, ''))
+        write(crates, {name if '/' in name else f'{name}/src/lib.rt': texts.get(name, '') for name in {*CRATES, *texts}})
         library = RustLibrary(crates)
         if CRATE in texts:
             library.read(CRATE, (), crates / CRATE / 'src' / 'lib.rt')
-        yield library
-
-
-def rust_of(crate: str, texts: Mapping[str, str]) -> str:
-    """What is made of a crate of a library of these texts."""
-    with library_of(texts) as library:
-        module, page = library.modules[crate, ()], Page(library.folder)
+        module, page = library.modules[crate, ()], Page(crates)
         eraser = Exports(module, library, page) if crate == CRATE else Eraser(module, library, page)
         Bounds(library).write(eraser)
-        return eraser.rust()
+        return eraser.rust(), page
 
 
 def formatted(text: str) -> str:

@@ -6,79 +6,8 @@ from pathlib import Path
 import pytest
 from tools.erase.additions import Additions
 
-MADE = '''//! Made.
-
-use crate::one;
-
-/// Returns the sum.
-#[must_use]
-pub fn sum(a: u8) -> u8 {
-    a + one()
-}
-
-pub fn low() {}
-
-impl Row {
-    fn next(&self) {}
-
-    fn last(&self) {}
-}
-'''
-BY_HAND = '''//! By hand.
-
-use crate::two;
-
-#[track_caller]
-pub fn sum(a: u8) -> u8 {
-    a + two()
-}
-
-/// Returns nothing.
-pub fn high() {}
-
-impl Row {
-    /// Panics.
-    fn next(&self) {
-        panic!()
-    }
-
-    // The first one.
-    fn first(&self) {}
-}
-
-impl Clone for Row {}
-'''
-JOINED = '''//! Made.
-
-use crate::one;
-use crate::two;
-
-/// Returns the sum.
-#[track_caller]
-pub fn sum(a: u8) -> u8 {
-    a + two()
-}
-
-pub fn low() {}
-
-impl Row {
-    /// Panics.
-    fn next(&self) {
-        panic!()
-    }
-
-    fn last(&self) {}
-
-// The first one.
-    fn first(&self) {}
-}
-
-
-/// Returns nothing.
-pub fn high() {}
-
-impl Clone for Row {}
-'''
+GOLDEN = Path(__file__).resolve().parent / 'golden' / 'additions'
+MADE, BY_HAND, JOINED = ((GOLDEN / f'{name}.rs').read_text() for name in ('made', 'by_hand', 'joined'))
 
 
 def additions(folder: Path, text: str) -> Additions:

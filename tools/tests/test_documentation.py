@@ -1,121 +1,14 @@
-"""The comments of the Rust crate, and its pages of contracts and of their words."""
+"""The examples of the Rust crate, and its pages of contracts and of their words."""
 from __future__ import annotations
 
 import pathlib
 
 import pytest
 
-from tools.erase import documentation
-from tools.erase import examples
-from tools.erase.library import CRATES, ROOT, RustLibrary
-from tools.erase.crate import Eraser
+from tools.erase import documentation, examples
+from tools.erase.library import ROOT
 from tools.erase.source import Unknown
-
-# The lines before a function, and those that the Rust crate has before it.
-COMMENTS = {
-    'sentences of examples become a section before the others': (
-        """
-/// Returns the half. `half(4)` is `2`, and `half(6)` is `3`.
-///
-/// # Panics
-///
-/// In plain Rust, if `x` is odd.
-pub fn half(x: u64) -> u64 { x }
-""", """
-/// Returns the half.
-///
-/// # Examples
-///
-/// ```
-/// use cellarcove::half;
-///
-/// assert_eq!(half(4), 2);
-/// assert_eq!(half(6), 3);
-/// ```
-///
-/// # Panics
-///
-/// If `x` is odd.
-#[must_use]
-pub fn half(x: u64) -> u64 { x }
-"""),
-    'a section of examples gets its imports': (
-        """
-/// Halves the number.
-///
-/// # Examples
-///
-/// ```
-/// let mut x = 4;
-///
-/// half(&mut x);
-/// ```
-pub fn half(x: &mut u64) {}
-""", """
-/// Halves the number.
-///
-/// # Examples
-///
-/// ```
-/// use cellarcove::half;
-///
-/// let mut x = 4;
-///
-/// half(&mut x);
-/// ```
-pub fn half(x: &mut u64) {}
-"""),
-    'a paragraph of Rattle goes, and the words for plain Rust': (
-        """
-/// Returns the half. The number has to be even. In plain Rust, if it is odd, the half is
-/// rounded down.
-///
-/// In Rattle, a clause asks for an even number.
-fn half(x: u64) -> u64 { x }
-""", """
-/// Returns the half. The number has to be even. If it is odd, the half is rounded down.
-fn half(x: u64) -> u64 { x }
-"""),
-    'errors stand last': (
-        """
-/// Returns the half.
-///
-/// # Errors
-///
-/// - [`Odd`] if the number
-///   is odd.
-///
-/// # Panics
-///
-/// In plain Rust, if the number is 0.
-pub fn half(x: u64) -> Result<u64, Odd> { x }
-""", """
-/// Returns the half.
-///
-/// # Panics
-///
-/// If the number is 0.
-///
-/// # Errors
-///
-/// - [`Odd`] if the number
-///   is odd.
-pub fn half(x: u64) -> Result<u64, Odd> { x }
-"""),
-}
-
-# What is no comment, and what is said of it.
-REFUSED = [
-    ('/// # Safety\npub fn half() {}', '3: a section `# Safety`'),
-    ('/// # Panics\n///\n/// If the number is odd.\npub fn half() {}', '5: a section `# Panics` that does not begin with `In plain Rust, if `'),
-    ('pub fn half() -> Result<u64, Odd> { 1 }', '2: `half` returns a `Result`, and its comment has no section `# Errors`'),
-    ('pub struct Half;\nimpl FromStr for Half {\n    fn from_str(text: &str) -> Result<Half, Odd> { Half }\n}',
-     '3: `from_str` returns a `Result`, and its comment has no section `# Errors`'),
-    ('/// # Errors\n///\n/// [`Odd::Number`] always.\npub fn half() -> Result<u64, Odd>\n    ensures { result ≢ Err Odd.Number }\n{ 1 }',
-     '5: `# Errors` says when `half` returns `Number`, and a clause that it never does'),
-    ('/// # Examples\n///\n/// Some text.\npub fn half() {}', '5: a section `# Examples` that is no block of code'),
-    ('/// `half(2)` is what is left.\npub fn half(x: u64) -> u64 { x }', '3: `half(2)` is what no code says'),
-]
+from tools.tests import samples
 
 # A call, what its sentence says that it is, and the lines of the assertion.
 ASSERTIONS = [
@@ -164,33 +57,6 @@ impl Default for Twice {
 """
 
 
-def library(folder: pathlib.Path, text: str) -> RustLibrary:
-    """A library of which the root has this text."""
-    for name in CRATES:
-        (folder / 'crates' / name / 'src').mkdir(parents=True)
-        (folder / 'crates' / name / 'src' / 'lib.rt').write_text(text if name == ROOT else '')
-    return RustLibrary(folder / 'crates')
-
-
-def erased(folder: pathlib.Path, text: str) -> tuple[str, documentation.Page]:
-    """What is made of a root with this text, and the pages that it fills."""
-    found, page = library(folder, text), documentation.Page(folder / 'crates')
-    return Eraser(found.modules[ROOT, ()], found, page).rust(), page
-
-
-@pytest.mark.parametrize('name', COMMENTS)
-def test_comment(tmp_path: pathlib.Path, name: str) -> None:
-    source, rust = COMMENTS[name]
-    assert erased(tmp_path, '//! A sample.' + source)[0] == '//! A sample.' + rust
-
-
-@pytest.mark.parametrize('text, said', REFUSED)
-def test_refused(tmp_path: pathlib.Path, text: str, said: str) -> None:
-    with pytest.raises(Unknown) as refusal:
-        erased(tmp_path, '//! A sample.\n' + text)
-    assert str(refusal.value) == f'crates/{ROOT}/src/lib.rt:{said}'
-
-
 @pytest.mark.parametrize('call, answer, wanted', ASSERTIONS)
 def test_assertion(call: str, answer: str, wanted: list[str]) -> None:
     assert examples.assertion(call, answer) == wanted
@@ -202,9 +68,7 @@ def test_reference() -> None:
 
 
 def test_contracts(tmp_path: pathlib.Path) -> None:
-    (tmp_path / 'crates' / ROOT / 'specs').mkdir(parents=True)
-    (tmp_path / 'crates' / ROOT / 'specs' / 'Words.antt').write_text(WORDS)
-    rust, page = erased(tmp_path, PROVED)
+    rust, page = samples.erased(ROOT, {ROOT: PROVED, f'{ROOT}/specs/Words.antt': WORDS})
     assert '/// Returns the half.\n///\n/// [Contract](crate::definitions::contracts#half)\n' in rust
     assert '/// A number with a half.\n///\n/// [Laws](crate::definitions::contracts#half)\n' in rust
     for name, head in (('contracts', 'Contracts.'), ('definitions', 'Words: `ℕ`.')):

@@ -1,4 +1,4 @@
-"""What tools/erase/crate.py and tools/erase/exports.py make of a source, and what they reject.
+"""What tools/erase makes of a source, and what it rejects.
 
 The pairs of tools/tests/golden are sources of Rattle, in files that the prover does not take for its own, and the Rust that is made
 of them. A file is named for its crate and for what it shows."""
@@ -36,6 +36,16 @@ REFUSED = (
     ('fn half(x: u64 {}', 2, '`(` without its end'),
     ('fn half(x: u64) {\n    let text = "x;\n}', 3, 'a text without an end'),
     ('/* half', 2, 'a comment without an end'),
+    # comments
+    ('/// # Safety\npub fn half() {}', 3, 'a section `# Safety`'),
+    ('/// # Panics\n///\n/// If the number is odd.\npub fn half() {}', 5, 'a section `# Panics` that does not begin with `In plain Rust, if `'),
+    ('pub fn half() -> Result<u64, Odd> { 1 }', 2, '`half` returns a `Result`, and its comment has no section `# Errors`'),
+    ('pub struct Half;\nimpl FromStr for Half {\n    fn from_str(text: &str) -> Result<Half, Odd> { Half }\n}',
+     3, '`from_str` returns a `Result`, and its comment has no section `# Errors`'),
+    ('/// # Errors\n///\n/// [`Odd::Number`] always.\npub fn half() -> Result<u64, Odd>\n    ensures { result ≢ Err Odd.Number }\n{ 1 }',
+     5, '`# Errors` says when `half` returns `Number`, and a clause that it never does'),
+    ('/// # Examples\n///\n/// Some text.\npub fn half() {}', 5, 'a section `# Examples` that is no block of code'),
+    ('/// `half(2)` is what is left.\npub fn half(x: u64) -> u64 { x }', 3, '`half(2)` is what no code says'),
 )
 # The same of the exports for C.
 REFUSED_EXPORTS = (
@@ -44,6 +54,22 @@ REFUSED_EXPORTS = (
     ('#[unsafe(link_section)]\npub extern "C" fn half() {}', 2, 'the attribute `unsafe`'),
     ('#[repr(packed)]\nstruct Pair;', 2, 'the attribute `repr`'),
     ('fn half(x: u64) {\n    panic!("{x}")\n}', 3, 'the macro `panic!`'),
+)
+# Of a crate in whose second line this stands, below the trait, the reason of the refusal.
+REFUSED_BOUNDS = (
+    ('integer_core', 'fn first<T: Integer>(items: &[T]) -> T { items[0] }', 'a copy of an item of `items`'),
+    ('integer_core', 'trait Doubled: Integer { fn twice(&self) -> Self { sum(*self, *self) } }', 'the trait `Doubled`, whose methods copy'),
+    ('integer_roots', 'pub trait Roots: Integer { fn sqrt(&self) -> Self { root(*self) } }', 'the trait `Roots`, whose methods copy'),
+    ('modular', 'fn twice<T>(x: T) -> T where T: Integer { sum(x, x) }', 'the bound `Integer`, which does not stand in `<>` after `twice`'),
+    ('modular', 'fn is_odd(x: impl Integer) -> bool { x.is_odd() }', 'the bound `Integer`, which does not stand in `<>` after `is_odd`'),
+)
+# What is rejected of the trait itself.
+REFUSED_TRAITS = (
+    ('pub trait Integer: Num {}', '`Integer` whose first supertrait is not `Copy`'),
+    ('pub trait Integer: Copy + Num { fn div_ceil(&self, other: &Self) -> Self { sum(*self, *other) } }',
+     '`div_ceil` of `Integer`, which copies; that of num-integer does not'),
+    ('pub trait Integer: Copy + Num { fn inc(&mut self) { *self = one(); } }',
+     '`inc` of `Integer`, which does not copy; that of num-integer does'),
 )
 
 
@@ -54,18 +80,17 @@ def texts_of(crate: str, text: str) -> dict[str, str]:
 @pytest.mark.parametrize('name', sorted(source.stem for source in GOLDEN.glob('*.rattle')))
 def test_rust_of_a_source(name: str) -> None:
     source, crate = GOLDEN / f'{name}.rattle', name.split('.')[0]
-    assert samples.formatted(samples.rust_of(crate, texts_of(crate, source.read_text()))) == source.with_suffix('.rs').read_text()
+    made, _ = samples.erased(crate, texts_of(crate, source.read_text()))
+    assert samples.formatted(made) == source.with_suffix('.rs').read_text()
 
 
-@pytest.mark.parametrize('text, line, reason', REFUSED)
-def test_forms_that_are_not_known(text: str, line: int, reason: str) -> None:
+@pytest.mark.parametrize('crate, text, line, reason', [
+    *(('num_integer', f'//! A sample.\n{text}', line, reason) for text, line, reason in REFUSED),
+    *(('cellarcove_c', f'//! A sample.\n{text}', line, reason) for text, line, reason in REFUSED_EXPORTS),
+    *((crate, (INTEGER if crate == 'integer_core' else '\n') + text, 2, reason) for crate, text, reason in REFUSED_BOUNDS),
+    *(('integer_core', text, 1, reason) for text, reason in REFUSED_TRAITS),
+])
+def test_forms_that_are_not_known(crate: str, text: str, line: int, reason: str) -> None:
     with pytest.raises(Unknown) as refusal:
-        samples.rust_of('num_integer', {'num_integer': f'//! A sample.\n{text}'})
-    assert str(refusal.value) == f'crates/num_integer/src/lib.rt:{line}: {reason}'
-
-
-@pytest.mark.parametrize('text, line, reason', REFUSED_EXPORTS)
-def test_forms_that_exports_do_not_have(text: str, line: int, reason: str) -> None:
-    with pytest.raises(Unknown) as refusal:
-        samples.rust_of('cellarcove_c', {'cellarcove_c': f'//! A sample.\n{text}'})
-    assert str(refusal.value) == f'crates/cellarcove_c/src/lib.rt:{line}: {reason}'
+        samples.erased(crate, texts_of(crate, text))
+    assert str(refusal.value) == f'crates/{crate}/src/lib.rt:{line}: {reason}'

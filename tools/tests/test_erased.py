@@ -4,6 +4,7 @@ from __future__ import annotations
 import random
 from pathlib import Path
 
+from tools import write
 from tools.checks import erased
 import pytest
 
@@ -52,12 +53,8 @@ HARMLESS = {',', 'Copy', 'Clone', 'Sized', '+', '*', 'core', 'std'}
 
 @pytest.mark.parametrize('source, rust, wanted', PAIRS)
 def test_grades(tmp_path: Path, source: str, rust: str, wanted: str) -> None:
-    for crate in (*erased.LIBRARIES, 'cellarcove_c'):
-        (tmp_path / 'crates' / crate / 'src').mkdir(parents=True)
-        (tmp_path / 'crates' / crate / 'src/lib.rt').write_text(source if crate == 'num_integer' else '')
-    for part, text in (('rust/src', rust), ('rust/c/src', '')):
-        (tmp_path / part).mkdir(parents=True)
-        (tmp_path / part / 'lib.rs').write_text(text)
+    write(tmp_path, {f'crates/{crate}/src/lib.rt': source if crate == 'num_integer' else '' for crate in (*erased.LIBRARIES, 'cellarcove_c')})
+    write(tmp_path, {'rust/src/lib.rs': rust, 'rust/c/src/lib.rs': ''})
     items = [(one or other, *erased.compare(one, other)) for _, one, other in erased.pairs(tmp_path)]
     assert ', '.join(sorted(' '.join((item.key, grade, *used)) for item, grade, used in items if item)) == wanted
 

@@ -3,6 +3,7 @@ from pathlib import Path
 
 import pytest
 
+from tools import write
 from tools.checks import laws
 
 # A repository in which each law stands in a clause.
@@ -96,9 +97,7 @@ SLIPS = [
 
 @pytest.fixture(name='root')
 def repository(tmp_path: Path) -> Path:
-    for name, text in SAMPLE.items():
-        (tmp_path / name).parent.mkdir(parents=True, exist_ok=True)
-        (tmp_path / name).write_text(text)
+    write(tmp_path, SAMPLE)
     return tmp_path
 
 

@@ -63,5 +63,6 @@ def test_as_made(tmp_path: Path) -> None:
     made = {'a/b': 'text\n'}
     assert not as_made(tmp_path, made)
     assert write(tmp_path, made) and as_made(tmp_path, made)
-    assert not as_made(tmp_path, made, ['c'])
     assert not as_made(tmp_path, {'a/b': 'other\n'})
+    assert not as_made(tmp_path, {'a/b': None})
+    assert write(tmp_path, {'a/b': None}) and as_made(tmp_path, {'a/b': None})
