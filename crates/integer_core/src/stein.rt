@@ -96,6 +96,7 @@ impl Magnitude for u64 {
         self + 1
     }
 
+    #[inline]
     fn times_quotient(self, dividend: Self, divisor: Self) -> Self {
         product_or(
             self,
@@ -145,6 +146,7 @@ impl Magnitude for u128 {
         self + 1
     }
 
+    #[inline]
     fn times_quotient(self, dividend: Self, divisor: Self) -> Self {
         product_or(
             self,

@@ -50,6 +50,7 @@ impl Magnitude for u64 {
         self + 1
     }
 
+    #[inline]
     fn times_quotient(self, dividend: Self, divisor: Self) -> Self {
         product_or(
             self,
@@ -93,6 +94,7 @@ impl Magnitude for u128 {
         self + 1
     }
 
+    #[inline]
     fn times_quotient(self, dividend: Self, divisor: Self) -> Self {
         product_or(
             self,
